@@ -1,0 +1,23 @@
+//! The plain data that the component machine's definitions and the code both speak of.
+#![tactic(auto)]
+
+mod component;
+mod label;
+mod op;
+mod outcome;
+mod seq;
+mod trap;
+mod words;
+
+pub use component::{Callee, Component, ExportDef, ExportKind, HostDef, InstanceDef, Slot};
+pub use label::{
+    CallLabel, DataLabel, Label, LoopLabel, MainLabel, SetLabel, TakeLabel, TaskLabel, ThreadLabel,
+};
+pub use op::{CallOp, DataOp, Op, Operand, SetOp, TaskOp, ThreadOp};
+pub use outcome::Outcome;
+pub use seq::Seq;
+pub use trap::Trap;
+pub use words::{Given, Mark, OwnEvent, Phase, Status};
+
+#[cfg(test)]
+mod tests;
