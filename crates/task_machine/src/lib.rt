@@ -17,7 +17,7 @@ pub use op::{CallOp, DataOp, Op, Operand, SetOp, TaskOp, ThreadOp};
 pub use outcome::Outcome;
 pub use seq::Seq;
 pub use trap::Trap;
-pub use words::{Given, Mark, OwnEvent, Phase, Status};
+pub use words::{Given, IdleLine, Mark, OwnEvent, Phase, Status};
 
 #[cfg(test)]
 mod tests;
