@@ -12,6 +12,7 @@ mod words;
 
 pub use print::{append_label, append_outcome};
 pub use read::{TextError, read_text};
+pub use words::bounded;
 pub use tree::{ExportText, InstanceText, MainLine, Name, ScenarioText};
 
 #[cfg(test)]

@@ -1,5 +1,5 @@
 //! A text, line by line.
-ghost use Rattle.std.specs.Prelude.{◌<◌, ◌≤◌, length, IfSome};
+ghost use Rattle.std.specs.Prelude.{◌<◌, length, IfSome};
 
 use crate::line::{LineError, read_line};
 use crate::state::State;
@@ -50,7 +50,7 @@ fn after_line(alloc: Global, state: State, words: &[&[u8]]) -> Result<State, Lin
 
 /// The tree of a scenario text. A text that is none is refused at its first bad line.
 pub fn read_text(alloc: Global, text: &[u8]) -> Result<ScenarioText, TextError>
-    requires { length text.now ≤ 1048576 }
+    requires { length text.now < 4294967295 }
 {
     let mut state = State::Empty;
     let mut words = Vec::new(alloc);
