@@ -5,6 +5,8 @@ mod component;
 mod label;
 mod op;
 mod outcome;
+mod records;
+mod scenario;
 mod seq;
 mod trap;
 mod words;
@@ -15,6 +17,11 @@ pub use label::{
 };
 pub use op::{CallOp, DataOp, Op, Operand, SetOp, TaskOp, ThreadOp};
 pub use outcome::Outcome;
+pub use records::{
+    Call, CallEnd, Caller, Course, Delivery, Entry, Goal, HowFar, Instance, Join, Made, Named, Place,
+    Script, Set, Stage, Subtask, Thread, Turn, Why, Work, WorkCaller,
+};
+pub use scenario::{IdleLine, InstanceNames, MainOp, Scenario};
 pub use seq::Seq;
 pub use trap::Trap;
 pub use words::{Given, Mark, OwnEvent, Phase, Status};
