@@ -1,7 +1,7 @@
 //! The machine's records, as plain data. Calls are named by their first threads; threads, works,
 //! sets and groups by numbers that are never given twice.
 
-use crate::component::{Callee, HostDef};
+use crate::component::{Callee, ExportKind, HostDef};
 use crate::words::{Mark, OwnEvent, Phase, Status};
 
 /// What a thread may wait for, and what a handle of a subtask names.
@@ -131,6 +131,8 @@ pub enum Caller {
 /// Where the result of a call goes.
 #[derive(Clone, Copy, Debug, PartialEq, Eq)]
 pub enum Goal {
+    /// Nowhere yet.
+    Nowhere,
     /// To main, for a `finish`.
     Main,
     /// To a register of the calling thread.
@@ -164,6 +166,8 @@ pub enum Join {
 pub struct Call {
     pub caller: Caller,
     pub callee: Callee,
+    /// The kind of that export.
+    pub kind: ExportKind,
     pub goal: Goal,
     pub started: bool,
     pub starting_published: bool,
