@@ -62,8 +62,8 @@ pub record MainPlace : Type 0 where
 
 -- Main is a script, or some other program, of which nothing is told.
 pub data Main : Type 0 where
-  Script : (place : MainPlace) → Main
-  Open : Main
+  Scripted : (place : MainPlace) → Main
+  Unscripted : Main
 
 -- Which rules a run is under.
 pub data Version : Type 0 where

@@ -43,6 +43,10 @@ use Rattle.task_machine.specs.declared.records.WorkCaller.TheVariants as work_ca
 use Rattle.task_machine.specs.Maps.{Records, get, size, numbers}
 use Rattle.task_machine.specs.Core.{Core, Table}
 
+abbrev pub is_nil : {X : Type 0} → List X → Bool
+is_nil [] = true
+is_nil (x ∷ xs) = false
+
 -- ---- Threads
 
 abbrev pub registers_of : ℕ → Core → List ℕ
@@ -412,6 +416,9 @@ unfoldable pub is_last_thread : ℕ → Core → Bool
 is_last_thread n s = not (list_any (λ e. (e.1.call == task_of n s) && not (e.0 == n)) s.threads.list)
 
 -- ---- Sets
+
+abbrev pub set_instance : ℕ → Core → ℕ
+set_instance x s = option_map_or (λ r. r.instance) (get s.sets x) 0
 
 -- some thread waits on the set
 unfoldable pub has_waiter : ℕ → Core → Bool

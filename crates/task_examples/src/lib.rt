@@ -1,0 +1,2 @@
+//! Worked examples of the component machine, computed by the checker from the machine's own rules.
+#![tactic(auto)]

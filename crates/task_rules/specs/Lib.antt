@@ -1,0 +1,17 @@
+pub mod Scripts
+pub mod Progress
+pub mod Data
+pub mod Ends
+pub mod Task
+pub mod Sets
+pub mod Calls
+pub mod Cancels
+pub mod Threads
+pub mod Takes
+pub mod Works
+pub mod MainOps
+pub mod Turns
+pub mod Stalled
+pub mod Step
+pub mod Run
+pub mod Outcome
