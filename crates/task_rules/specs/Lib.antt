@@ -15,3 +15,4 @@ pub mod Stalled
 pub mod Step
 pub mod Run
 pub mod Outcome
+pub mod Texts
