@@ -19,7 +19,7 @@ pub use op::{CallOp, DataOp, Op, Operand, SetOp, TaskOp, ThreadOp};
 pub use outcome::Outcome;
 pub use records::{
     Call, CallEnd, Caller, Course, Delivery, Entry, Goal, HowFar, Instance, Join, Made, Named,
-    Place, Script, Set, Stage, Subtask, Thread, Turn, Why, Work, WorkCaller,
+    Notice, NoticeKind, Place, Script, Set, Stage, Subtask, Thread, Turn, Why, Work, WorkCaller,
 };
 pub use scenario::{IdleLine, InstanceNames, MainOp, Scenario};
 pub use seq::Seq;

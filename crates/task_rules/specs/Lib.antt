@@ -16,3 +16,6 @@ pub mod Step
 pub mod Run
 pub mod Outcome
 pub mod Texts
+pub mod History
+pub mod Once
+pub mod Notices
