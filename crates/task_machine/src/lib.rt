@@ -6,6 +6,7 @@ mod label;
 mod op;
 mod outcome;
 mod records;
+mod scenario;
 mod seq;
 mod trap;
 mod words;
@@ -17,12 +18,13 @@ pub use label::{
 pub use op::{CallOp, DataOp, Op, Operand, SetOp, TaskOp, ThreadOp};
 pub use outcome::Outcome;
 pub use records::{
-    Call, CallEnd, Caller, Course, Delivery, Entry, Goal, HowFar, Instance, Join, Made, Named, Place, Script, Set,
-    Stage, Subtask, Thread, Turn, Why, Work, WorkCaller,
+    Call, CallEnd, Caller, Course, Delivery, Entry, Goal, HowFar, Instance, Join, Made, Named,
+    Notice, NoticeKind, Place, Script, Set, Stage, Subtask, Thread, Turn, Why, Work, WorkCaller,
 };
+pub use scenario::{IdleLine, InstanceNames, MainOp, Scenario};
 pub use seq::Seq;
 pub use trap::Trap;
-pub use words::{Given, IdleLine, Mark, OwnEvent, Phase, Status};
+pub use words::{Given, Mark, OwnEvent, Phase, Status};
 
 #[cfg(test)]
 mod tests;

@@ -275,3 +275,19 @@ pub enum Turn {
     Run { thread: u64 },
     Over,
 }
+
+/// What a group is told.
+#[derive(Clone, Copy, Debug, PartialEq, Eq)]
+pub enum NoticeKind {
+    Start,
+    Enter,
+    Exit,
+    Finish,
+}
+
+/// A notice of a group: of a call by main or the host, and of all that came of it.
+#[derive(Clone, Copy, Debug, PartialEq, Eq)]
+pub struct Notice {
+    pub kind: NoticeKind,
+    pub group: u64,
+}

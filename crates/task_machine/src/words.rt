@@ -44,12 +44,3 @@ pub enum Given {
     /// 6 0 0
     Cancelled,
 }
-
-/// What happens where nothing can go on and no host work is live: `idle trap` or `idle wait`.
-#[derive(Clone, Copy, Debug, PartialEq, Eq)]
-pub enum IdleLine {
-    /// The run ends as a deadlock.
-    Trap,
-    /// The run ends as idle.
-    Wait,
-}

@@ -1,0 +1,25 @@
+-- The runs of these scenarios, computed.
+use Rattle.std.proofs.Common.{refl}
+use Rattle.std.specs.Prelude.{[]}
+use Rattle.task_machine.specs.declared.outcome.Outcome.TheVariants as outcome
+use Rattle.task_machine.specs.declared.trap.Trap.TheVariants as trap
+use Rattle.task_examples.proofs.PlayLemmas.{example}
+use Rattle.task_examples.specs.Calls.{callback_returns_its_parameter, callback_returns_its_parameter_labels, exit_without_return_traps, exit_without_return_traps_labels, run_stops_when_steps_are_used_up, run_stops_when_steps_are_used_up_labels, second_return_traps, second_return_traps_labels}
+use Rattle.task_examples.specs.Play.{Example}
+use Rattle.task_examples.specs.Words.{the_words}
+
+pub callback_returns_its_parameter_shown : Example callback_returns_its_parameter 7 callback_returns_its_parameter_labels (outcome.Done 7)
+unfolding the_words
+callback_returns_its_parameter_shown = example callback_returns_its_parameter [] 7 callback_returns_its_parameter_labels (outcome.Done 7) refl refl
+
+pub exit_without_return_traps_shown : Example exit_without_return_traps 1000 exit_without_return_traps_labels (outcome.Trap trap.NoAsyncResult)
+unfolding the_words
+exit_without_return_traps_shown = example exit_without_return_traps [] 1000 exit_without_return_traps_labels (outcome.Trap trap.NoAsyncResult) refl refl
+
+pub run_stops_when_steps_are_used_up_shown : Example run_stops_when_steps_are_used_up 6 run_stops_when_steps_are_used_up_labels outcome.OutOfSteps
+unfolding the_words
+run_stops_when_steps_are_used_up_shown = example run_stops_when_steps_are_used_up [] 6 run_stops_when_steps_are_used_up_labels outcome.OutOfSteps refl refl
+
+pub second_return_traps_shown : Example second_return_traps 1000 second_return_traps_labels (outcome.Trap trap.TaskCancelOrReturnTwice)
+unfolding the_words
+second_return_traps_shown = example second_return_traps [] 1000 second_return_traps_labels (outcome.Trap trap.TaskCancelOrReturnTwice) refl refl

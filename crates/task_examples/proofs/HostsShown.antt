@@ -1,0 +1,37 @@
+-- The runs of these scenarios, computed.
+use Rattle.std.proofs.Common.{refl}
+use Rattle.std.specs.Prelude.{[]}
+use Rattle.task_machine.specs.declared.outcome.Outcome.TheVariants as outcome
+use Rattle.task_machine.specs.declared.trap.Trap.TheVariants as trap
+use Rattle.task_examples.proofs.PlayLemmas.{example}
+use Rattle.task_examples.specs.Hosts.{async_host_calls_ready_at_once_and_later, async_host_calls_ready_at_once_and_later_labels, awaited_never_ending_spawn_is_idle, awaited_never_ending_spawn_is_idle_labels, failing_spawn_fails_the_run, failing_spawn_fails_the_run_labels, live_never_ending_spawn_is_idle_under_idle_trap, live_never_ending_spawn_is_idle_under_idle_trap_labels, live_never_ending_spawn_is_idle_under_idle_wait, live_never_ending_spawn_is_idle_under_idle_wait_labels, main_aborts_a_never_ending_spawn, main_aborts_a_never_ending_spawn_labels, set_drop_with_a_member_and_no_waiter_traps, set_drop_with_a_member_and_no_waiter_traps_labels}
+use Rattle.task_examples.specs.Play.{Example}
+use Rattle.task_examples.specs.Words.{the_words}
+
+pub async_host_calls_ready_at_once_and_later_shown : Example async_host_calls_ready_at_once_and_later 1000 async_host_calls_ready_at_once_and_later_labels (outcome.Done 9)
+unfolding the_words
+async_host_calls_ready_at_once_and_later_shown = example async_host_calls_ready_at_once_and_later [] 1000 async_host_calls_ready_at_once_and_later_labels (outcome.Done 9) refl refl
+
+pub awaited_never_ending_spawn_is_idle_shown : Example awaited_never_ending_spawn_is_idle 1000 awaited_never_ending_spawn_is_idle_labels outcome.Idle
+unfolding the_words
+awaited_never_ending_spawn_is_idle_shown = example awaited_never_ending_spawn_is_idle [] 1000 awaited_never_ending_spawn_is_idle_labels outcome.Idle refl refl
+
+pub failing_spawn_fails_the_run_shown : Example failing_spawn_fails_the_run 1000 failing_spawn_fails_the_run_labels (outcome.HostFailed 1)
+unfolding the_words
+failing_spawn_fails_the_run_shown = example failing_spawn_fails_the_run [] 1000 failing_spawn_fails_the_run_labels (outcome.HostFailed 1) refl refl
+
+pub live_never_ending_spawn_is_idle_under_idle_trap_shown : Example live_never_ending_spawn_is_idle_under_idle_trap 1000 live_never_ending_spawn_is_idle_under_idle_trap_labels outcome.Idle
+unfolding the_words
+live_never_ending_spawn_is_idle_under_idle_trap_shown = example live_never_ending_spawn_is_idle_under_idle_trap [] 1000 live_never_ending_spawn_is_idle_under_idle_trap_labels outcome.Idle refl refl
+
+pub live_never_ending_spawn_is_idle_under_idle_wait_shown : Example live_never_ending_spawn_is_idle_under_idle_wait 1000 live_never_ending_spawn_is_idle_under_idle_wait_labels outcome.Idle
+unfolding the_words
+live_never_ending_spawn_is_idle_under_idle_wait_shown = example live_never_ending_spawn_is_idle_under_idle_wait [] 1000 live_never_ending_spawn_is_idle_under_idle_wait_labels outcome.Idle refl refl
+
+pub main_aborts_a_never_ending_spawn_shown : Example main_aborts_a_never_ending_spawn 1000 main_aborts_a_never_ending_spawn_labels (outcome.Done 4)
+unfolding the_words
+main_aborts_a_never_ending_spawn_shown = example main_aborts_a_never_ending_spawn [] 1000 main_aborts_a_never_ending_spawn_labels (outcome.Done 4) refl refl
+
+pub set_drop_with_a_member_and_no_waiter_traps_shown : Example set_drop_with_a_member_and_no_waiter_traps 1000 set_drop_with_a_member_and_no_waiter_traps_labels (outcome.Trap trap.TableHasChildren)
+unfolding the_words
+set_drop_with_a_member_and_no_waiter_traps_shown = example set_drop_with_a_member_and_no_waiter_traps [] 1000 set_drop_with_a_member_and_no_waiter_traps_labels (outcome.Trap trap.TableHasChildren) refl refl

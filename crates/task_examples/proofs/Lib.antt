@@ -1,0 +1,16 @@
+pub mod PlayLemmas
+pub mod HostsShown
+pub mod GuestsShown
+pub mod CallsShown
+pub mod SetsShown
+pub mod CancelsShown
+pub mod WakesShown
+pub mod LimitsShown
+pub mod RequestsShown
+pub mod ThreadsShown
+pub mod StrandsShown
+pub mod Generated1Shown
+pub mod Generated2Shown
+pub mod Generated3Shown
+pub mod Generated4Shown
+pub mod Generated5Shown

@@ -1,0 +1,29 @@
+-- The runs of these scenarios, computed.
+use Rattle.std.proofs.Common.{refl}
+use Rattle.std.specs.Prelude.{[]}
+use Rattle.task_machine.specs.declared.outcome.Outcome.TheVariants as outcome
+use Rattle.task_machine.specs.declared.trap.Trap.TheVariants as trap
+use Rattle.task_examples.proofs.PlayLemmas.{example}
+use Rattle.task_examples.specs.Play.{Example}
+use Rattle.task_examples.specs.Wakes.{cancel_leaves_a_stackful_wait_waiting, cancel_leaves_a_stackful_wait_waiting_labels, cancelled_delivery_hands_its_wake_to_the_next_waiter, cancelled_delivery_hands_its_wake_to_the_next_waiter_labels, held_yield_stays_held_under_a_cancel, held_yield_stays_held_under_a_cancel_labels, least_waiter_is_woken, least_waiter_is_woken_labels, woken_thread_takes_its_event_and_the_other_waits_on, woken_thread_takes_its_event_and_the_other_waits_on_labels}
+use Rattle.task_examples.specs.Words.{the_words}
+
+pub cancelled_delivery_hands_its_wake_to_the_next_waiter_shown : Example cancelled_delivery_hands_its_wake_to_the_next_waiter 1000 cancelled_delivery_hands_its_wake_to_the_next_waiter_labels (outcome.Done 4294967295)
+unfolding the_words
+cancelled_delivery_hands_its_wake_to_the_next_waiter_shown = example cancelled_delivery_hands_its_wake_to_the_next_waiter [] 1000 cancelled_delivery_hands_its_wake_to_the_next_waiter_labels (outcome.Done 4294967295) refl refl
+
+pub held_yield_stays_held_under_a_cancel_shown : Example held_yield_stays_held_under_a_cancel 1000 held_yield_stays_held_under_a_cancel_labels (outcome.Done 4294967295)
+unfolding the_words
+held_yield_stays_held_under_a_cancel_shown = example held_yield_stays_held_under_a_cancel [] 1000 held_yield_stays_held_under_a_cancel_labels (outcome.Done 4294967295) refl refl
+
+pub cancel_leaves_a_stackful_wait_waiting_shown : Example cancel_leaves_a_stackful_wait_waiting 1000 cancel_leaves_a_stackful_wait_waiting_labels (outcome.Deadlock trap.AsyncDeadlock)
+unfolding the_words
+cancel_leaves_a_stackful_wait_waiting_shown = example cancel_leaves_a_stackful_wait_waiting [] 1000 cancel_leaves_a_stackful_wait_waiting_labels (outcome.Deadlock trap.AsyncDeadlock) refl refl
+
+pub least_waiter_is_woken_shown : Example least_waiter_is_woken 1000 least_waiter_is_woken_labels (outcome.Deadlock trap.AsyncDeadlock)
+unfolding the_words
+least_waiter_is_woken_shown = example least_waiter_is_woken [] 1000 least_waiter_is_woken_labels (outcome.Deadlock trap.AsyncDeadlock) refl refl
+
+pub woken_thread_takes_its_event_and_the_other_waits_on_shown : Example woken_thread_takes_its_event_and_the_other_waits_on 1000 woken_thread_takes_its_event_and_the_other_waits_on_labels (outcome.Deadlock trap.AsyncDeadlock)
+unfolding the_words
+woken_thread_takes_its_event_and_the_other_waits_on_shown = example woken_thread_takes_its_event_and_the_other_waits_on [] 1000 woken_thread_takes_its_event_and_the_other_waits_on_labels (outcome.Deadlock trap.AsyncDeadlock) refl refl

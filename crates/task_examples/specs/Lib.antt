@@ -1,0 +1,17 @@
+pub mod Play
+pub mod Words
+pub mod Hosts
+pub mod Guests
+pub mod Calls
+pub mod Sets
+pub mod Cancels
+pub mod Wakes
+pub mod Limits
+pub mod Requests
+pub mod Threads
+pub mod Strands
+pub mod Generated1
+pub mod Generated2
+pub mod Generated3
+pub mod Generated4
+pub mod Generated5

@@ -1,0 +1,30 @@
+//! Each function is the statement that its scenario makes just these labels, and comes to this outcome.
+
+ghost use Rattle.task_examples.specs.Play.{Example};
+ghost use Rattle.task_examples.specs.Calls as the;
+
+use task_machine::{Outcome, Trap};
+
+#[tactic(auto, using(crate::proofs::CallsShown::callback_returns_its_parameter_shown))]
+pub fn callback_returns_its_parameter()
+    ensures { Example the.callback_returns_its_parameter 7 the.callback_returns_its_parameter_labels (Outcome.Done 7) }
+{
+}
+
+#[tactic(auto, using(crate::proofs::CallsShown::exit_without_return_traps_shown))]
+pub fn exit_without_return_traps()
+    ensures { Example the.exit_without_return_traps 1000 the.exit_without_return_traps_labels (Outcome.Trap Trap.NoAsyncResult) }
+{
+}
+
+#[tactic(auto, using(crate::proofs::CallsShown::run_stops_when_steps_are_used_up_shown))]
+pub fn run_stops_when_steps_are_used_up()
+    ensures { Example the.run_stops_when_steps_are_used_up 6 the.run_stops_when_steps_are_used_up_labels (Outcome.OutOfSteps) }
+{
+}
+
+#[tactic(auto, using(crate::proofs::CallsShown::second_return_traps_shown))]
+pub fn second_return_traps()
+    ensures { Example the.second_return_traps 1000 the.second_return_traps_labels (Outcome.Trap Trap.TaskCancelOrReturnTwice) }
+{
+}

@@ -1,0 +1,18 @@
+//! Worked examples of the component machine, computed by the checker from the machine's own rules.
+#![tactic(auto)]
+
+pub mod calls;
+pub mod cancels;
+pub mod generated1;
+pub mod generated2;
+pub mod generated3;
+pub mod generated4;
+pub mod generated5;
+pub mod guests;
+pub mod hosts;
+pub mod limits;
+pub mod requests;
+pub mod sets;
+pub mod strands;
+pub mod threads;
+pub mod wakes;

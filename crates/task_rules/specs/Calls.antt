@@ -1,0 +1,282 @@
+-- The calls of exports and of hosts.
+use Rattle.std.specs.Prelude.{Bool, List, None, Option, Some, [], false, not, option_and_then, suc, true, unwrap_or, zero, ℕ, ◌*◌, ◌+◌, ◌∷◌}
+use Rattle.task_machine.specs.declared.records.Call.{Call}
+use Rattle.task_machine.specs.declared.component.Callee.{Callee}
+use Rattle.task_machine.specs.declared.records.Caller.{Caller}
+use Rattle.task_machine.specs.declared.component.Component.{Component}
+use Rattle.task_machine.specs.declared.component.ExportKind.{ExportKind}
+use Rattle.task_machine.specs.declared.records.Goal.{Goal}
+use Rattle.task_machine.specs.declared.component.HostDef.{HostDef}
+use Rattle.task_machine.specs.declared.records.HowFar.{HowFar}
+use Rattle.task_machine.specs.declared.records.Script.{Script}
+use Rattle.task_machine.specs.declared.words.Status.{Status}
+use Rattle.task_machine.specs.declared.records.Subtask.{Subtask}
+use Rattle.task_machine.specs.declared.records.Thread.{Thread}
+use Rattle.task_machine.specs.declared.records.Work.{Work}
+use Rattle.task_machine.specs.declared.records.WorkCaller.{WorkCaller}
+use Rattle.task_machine.specs.declared.label.CallLabel.TheVariants as call_label
+use Rattle.task_machine.specs.declared.records.Caller.TheVariants as caller
+use Rattle.task_machine.specs.declared.records.Course.TheVariants as course
+use Rattle.task_machine.specs.declared.records.Entry.TheVariants as entry
+use Rattle.task_machine.specs.declared.records.Goal.TheVariants as goal
+use Rattle.task_machine.specs.declared.records.HowFar.TheVariants as how_far
+use Rattle.task_machine.specs.declared.records.Join.TheVariants as join
+use Rattle.task_machine.specs.declared.component.ExportKind.TheVariants as kind
+use Rattle.task_machine.specs.declared.label.Label.TheVariants as label
+use Rattle.task_machine.specs.declared.records.Named.TheVariants as named
+use Rattle.task_machine.specs.declared.words.Phase.TheVariants as phase
+use Rattle.task_machine.specs.declared.records.Place.TheVariants as place
+use Rattle.task_machine.specs.declared.records.Script.TheVariants as script
+use Rattle.task_machine.specs.declared.records.Stage.TheVariants as stage
+use Rattle.task_machine.specs.declared.words.Status.TheVariants as status
+use Rattle.task_machine.specs.declared.records.Subtask.TheVariants as subtask
+use Rattle.task_machine.specs.declared.label.ThreadLabel.TheVariants as thread_label
+use Rattle.task_machine.specs.declared.trap.Trap.TheVariants as trap
+use Rattle.task_machine.specs.declared.records.Why.TheVariants as why
+use Rattle.task_machine.specs.declared.records.WorkCaller.TheVariants as work_caller
+use Rattle.task_machine.specs.Core.{Core}
+use Rattle.task_machine.specs.Maps.{get}
+use Rattle.task_machine.specs.Moves.{behind, call_settled, checked, group_settled, passes_check, put_switch, stopped_at}
+use Rattle.task_machine.specs.Read.{at_handle_limit, call_instance, course_of, course_value, event_of, fits, instance_of, is_async_lifted, may_not_suspend, new_handle, new_thread_handle, result_of, saved_callee_of, thread_group}
+use Rattle.task_machine.specs.Write.{add_call, add_thread, add_work, count_work, give_handle, give_thread_handle, push_high, remove_work, set_do_not_suspend, set_event, set_how_far, set_place, set_register, set_result, set_saved_callee, set_saved_own, set_started, set_subtask_handle, set_thread_handle}
+use Rattle.task_rules.specs.Data.{assigned}
+use Rattle.task_rules.specs.Progress.{Fails, Goes, Progress, Stops, trap_if}
+use Rattle.task_rules.specs.Scripts.{export_kind, host_at, registers_for}
+use Rattle.task_rules.specs.Sets.{status_code}
+
+-- ---- Making a call
+
+abbrev pub new_call : Caller → Callee → ExportKind → Goal → ℕ → Call
+new_call f e x g group = record {
+  caller = f;
+  callee = e;
+  kind = x;
+  goal = g;
+  started = false;
+  starting_published = false;
+  «end» = None;
+  event = None;
+  own_event = None;
+  cancel_delivered = false;
+  exited = false;
+  interesting = true;
+  result = None;
+  join = join.Nowhere;
+  handle = None;
+  group = group;
+  borrows = 0;
+}
+
+abbrev pub new_thread : ℕ → Bool → Script → List ℕ → Option ℕ → Thread
+new_thread k explicit x registers h = record {
+  call = k;
+  explicit = explicit;
+  script = x;
+  position = 0;
+  how_far = how_far.Fresh;
+  registers = registers;
+  handle = h;
+  saved_own = None;
+  saved_callee = None;
+  place = place.New;
+}
+
+-- the number of the next thread, and so of the next call
+abbrev pub next_thread : Core → ℕ
+next_thread s = s.made.threads + 1
+
+-- a call and its thread are made, with these words
+unfoldable pub call_made : Caller → Callee → ExportKind → Goal → ℕ → List ℕ → Core → Core
+call_made f e x g group words s = add_thread (new_thread (next_thread s) false script.Start (registers_for words) None) (add_call (next_thread s) (new_call f e x g group) s)
+
+-- ---- A call that queues its start
+
+-- the flag of the callee's instance is saved and cleared
+abbrev pub suspending : ℕ → ℕ → ExportKind → Core → Core
+suspending n j kind.Sync s = s
+suspending n j x s = set_do_not_suspend j false (set_saved_callee n (Some (may_not_suspend j s)) s)
+
+-- the call is made, its start becomes the switch entry, and the calling thread goes behind it
+unfoldable pub called : ℕ → Callee → ExportKind → Goal → List ℕ → Core → Core
+called n e x g words s =
+    let m = next_thread s in
+    set_how_far n (how_far.Calls (subtask.Guest m)) (behind m (n ∷ []) (suspending n e.instance x (put_switch m why.Start (call_made (caller.Thread n) e x g (thread_group n s) words s))))
+
+abbrev pub call_begins : Component → ℕ → Callee → Goal → List ℕ → Core → Progress
+call_begins c n e g words s = trap_if (not (fits 3 s)) trap.TableFull (Stops (label.Call (call_label.Calls n (next_thread s))) (called n e (export_kind c e) g words s))
+
+abbrev pub put_back : Option Bool → ℕ → Core → Core
+put_back None j s = s
+put_back (Some b) j s = set_do_not_suspend j b s
+
+-- the calling thread is resumed: the saved flag is written back, and the callee's event is taken
+unfoldable pub called_back : ℕ → ℕ → Core → Core
+called_back n k s = set_event (subtask.Guest k) None (put_back (saved_callee_of n s) (call_instance k s) s)
+
+-- the call's status that the calling thread finds
+abbrev pub status_found : ℕ → Core → Status
+status_found k s = unwrap_or (event_of (subtask.Guest k) s) status.Starting
+
+-- the op is done, and nothing is saved any more
+unfoldable pub answered : ℕ → ℕ → ℕ → Core → Core
+answered n r v s = assigned n r v (set_saved_callee n None s)
+
+unfoldable pub call_returned : ℕ → ℕ → ℕ → Core → Core
+call_returned n r k s = answered n r 2 (call_settled k (called_back n k s))
+
+-- the subtask has a handle from now on
+unfoldable pub with_handle : ℕ → Subtask → Core → Core
+with_handle i sub s = set_subtask_handle sub (Some (new_handle i s)) (give_handle i (named.Subtask sub) s)
+
+unfoldable pub call_pending : ℕ → ℕ → ℕ → ℕ → Core → Core
+call_pending n r k v s = answered n r v (with_handle (instance_of n s) (subtask.Guest k) (called_back n k s))
+
+-- a packed status
+abbrev pub packed : ℕ → Status → ℕ
+packed h e = 16 * h + status_code e
+
+abbrev pub call_status : ℕ → ℕ → ℕ → Core → Status → Progress
+call_status n r k s status.Returned = Goes (label.Call (call_label.Call 2 n)) (call_returned n r k s) n
+call_status n r k s e = let v = packed (new_handle (instance_of n s) s) e in trap_if (at_handle_limit s) trap.HandleLimit (Goes (label.Call (call_label.Call v n)) (call_pending n r k v s) n)
+
+-- `call R Q F X*`, by how far it has come
+abbrev pub call_row : Component → ℕ → ℕ → ℕ → Callee → List ℕ → Core → HowFar → Progress
+call_row c n r q e words s (how_far.Calls (subtask.Guest k)) = call_status n r k s (status_found k s)
+call_row c n r q e words s _ = call_begins c n e (goal.Register q) words s
+
+-- the result is taken, too
+unfoldable pub call_answered : ℕ → ℕ → ℕ → Core → Core
+call_answered n r k s = answered n r (result_of k s) (call_settled k (set_result k None (called_back n k s)))
+
+-- the strand stops, and its top is blocked on the subtask of its call
+unfoldable pub blocked : ℕ → Subtask → Core → Core
+blocked n sub s = set_how_far n (how_far.Calls sub) (stopped_at n (place.Blocked sub) s)
+
+unfoldable pub call_blocked : ℕ → ℕ → Core → Core
+call_blocked n k s = blocked n (subtask.Guest k) (checked (instance_of n s) (called_back n k s))
+
+abbrev pub call_sync_status : ℕ → ℕ → ℕ → Core → Status → Progress
+call_sync_status n r k s status.Returned = Goes (label.Call (call_label.CallSync n (result_of k s))) (call_answered n r k s) n
+call_sync_status n r k s e = trap_if (not (passes_check (instance_of n s) (called_back n k s))) trap.CannotBlockSyncTask (Stops (label.Thread (thread_label.Pauses n)) (call_blocked n k s))
+
+-- ---- A direct call
+
+-- the flag of the callee's instance is saved and set
+abbrev pub forbidding : ℕ → ℕ → ExportKind → Core → Core
+forbidding m j kind.Sync s = set_do_not_suspend j true (set_saved_own m (Some (may_not_suspend j s)) s)
+forbidding m j x s = s
+
+-- the thread has a thread handle from now on
+unfoldable pub with_thread_handle : ℕ → ℕ → Core → Core
+with_thread_handle i m s = set_thread_handle m (Some (new_thread_handle i s)) (give_thread_handle i m s)
+
+-- the call is made, and its thread runs on top of the calling one
+unfoldable pub entered : ℕ → Callee → ExportKind → List ℕ → Core → Core
+entered n e x words s =
+    let m = next_thread s in
+    set_how_far n (how_far.Calls (subtask.Guest m)) (set_place n (place.Under m) (set_place m place.Running (forbidding m e.instance x (set_started m (with_thread_handle e.instance m (call_made (caller.Thread n) e x goal.Direct (thread_group n s) words s))))))
+
+abbrev pub enter_row : ℕ → Callee → ExportKind → List ℕ → Core → Progress
+enter_row n e x words s = trap_if (not (fits 3 s)) trap.TableFull (trap_if (at_handle_limit s) trap.HandleLimit (Goes (label.Call (call_label.Enters n (next_thread s))) (entered n e x words s) (next_thread s)))
+
+abbrev pub call_sync_begins : Component → ℕ → Callee → List ℕ → Core → Bool → Progress
+call_sync_begins c n e words s true = call_begins c n e goal.Answer words s
+call_sync_begins c n e words s false = enter_row n e (export_kind c e) words s
+
+-- `call_sync R F X*`, by how far it has come
+abbrev pub call_sync_row : Component → ℕ → ℕ → Callee → List ℕ → Core → HowFar → Progress
+call_sync_row c n r e words s (how_far.Answered v) = Goes (label.Call (call_label.CallSync n v)) (assigned n r v s) n
+call_sync_row c n r e words s (how_far.Calls (subtask.Guest k)) = call_sync_status n r k s (status_found k s)
+call_sync_row c n r e words s _ = call_sync_begins c n e words s (is_async_lifted (export_kind c e))
+
+-- ---- Calls of a host
+
+-- the number of the next host work
+abbrev pub next_work : Core → ℕ
+next_work s = s.made.works + 1
+
+abbrev pub new_work : WorkCaller → HostDef → Option ℕ → Work
+new_work f host group = record {
+  caller = f;
+  course = course.Goes host;
+  phase = phase.Running;
+  stage = stage.Queued;
+  cancelled = false;
+  group = group;
+  event = None;
+  join = join.Nowhere;
+  handle = None;
+  borrows = 0;
+}
+
+-- What a first poll finds.
+pub data FirstPoll : Type 0 where
+  AtOnce : (value : ℕ) → FirstPoll
+  Failing : FirstPoll
+  Later : (left : HostDef) → FirstPoll
+
+abbrev pub at_end : Option ℕ → FirstPoll
+at_end None = Failing
+at_end (Some v) = AtOnce v
+
+abbrev pub polled_first : HostDef → Option ℕ → FirstPoll
+polled_first host None = Later host
+polled_first host (Some zero) = at_end host.value
+polled_first host (Some (suc polls)) = Later (record { polls = Some polls; value = host.value })
+
+abbrev pub first_poll : HostDef → FirstPoll
+first_poll host = polled_first host host.polls
+
+-- the work is made, and its push goes to high
+unfoldable pub work_queued : WorkCaller → HostDef → Option ℕ → Core → Core
+work_queued f host group s = push_high (entry.Push (next_work s)) (add_work (next_work s) (new_work f host group) (count_work s))
+
+unfoldable pub host_ready : ℕ → ℕ → ℕ → ℕ → Core → Core
+host_ready n r q v s = assigned n r 2 (set_register n q v (count_work s))
+
+unfoldable pub host_pending : ℕ → ℕ → ℕ → ℕ → HostDef → Core → Core
+host_pending n r q v host s = assigned n r v (with_handle (instance_of n s) (subtask.Host (next_work s)) (work_queued (work_caller.Async n q) host (Some (thread_group n s)) s))
+
+abbrev pub call_host_polled : ℕ → ℕ → ℕ → Core → FirstPoll → Progress
+call_host_polled n r q s (AtOnce v) = Goes (label.Call (call_label.CallPolls 2 n (next_work s))) (host_ready n r q v s) n
+call_host_polled n r q s Failing = Fails (next_work s)
+call_host_polled n r q s (Later host) =
+    let v = packed (new_handle (instance_of n s) s) status.Started in
+    trap_if (not (fits 1 s)) trap.TableFull (trap_if (at_handle_limit s) trap.HandleLimit (Goes (label.Call (call_label.CallPolls v n (next_work s))) (host_pending n r q v host s) n))
+
+-- `call R Q H`
+abbrev pub call_host_row : Component → ℕ → ℕ → ℕ → ℕ → Core → Progress
+call_host_row c n r q h s = call_host_polled n r q s (first_poll (host_at c h))
+
+unfoldable pub host_answered : ℕ → ℕ → ℕ → Core → Core
+host_answered n r v s = assigned n r v (count_work s)
+
+unfoldable pub host_blocked : ℕ → HostDef → Core → Core
+host_blocked n host s = blocked n (subtask.Host (next_work s)) (work_queued (work_caller.Sync n) host (Some (thread_group n s)) (checked (instance_of n s) s))
+
+abbrev pub call_sync_host_polled : ℕ → ℕ → Core → FirstPoll → Progress
+call_sync_host_polled n r s (AtOnce v) = Goes (label.CallSyncPolls n v (next_work s)) (host_answered n r v s) n
+call_sync_host_polled n r s Failing = Fails (next_work s)
+call_sync_host_polled n r s (Later host) = trap_if (not (fits 1 s)) trap.TableFull (trap_if (not (passes_check (instance_of n s) s)) trap.CannotBlockSyncTask (Stops (label.Call (call_label.PausesPolls n (next_work s))) (host_blocked n host s)))
+
+abbrev pub settle_group_of : Option ℕ → Core → Core
+settle_group_of None s = s
+settle_group_of (Some g) s = group_settled g s
+
+abbrev pub work_group : ℕ → Core → Option ℕ
+work_group i s = option_and_then (λ w. w.group) (get s.works i)
+
+-- the work is deleted
+unfoldable pub work_deleted : ℕ → Core → Core
+work_deleted i s = settle_group_of (work_group i s) (remove_work i s)
+
+abbrev pub work_value : ℕ → Core → ℕ
+work_value i s = unwrap_or (course_value (course_of i s)) 0
+
+unfoldable pub work_answered : ℕ → ℕ → ℕ → Core → Core
+work_answered n r i s = assigned n r (work_value i s) (work_deleted i s)
+
+-- `call_sync R H`, by how far it has come
+abbrev pub call_sync_host_row : Component → ℕ → ℕ → ℕ → Core → HowFar → Progress
+call_sync_host_row c n r h s (how_far.Calls (subtask.Host i)) = Goes (label.Call (call_label.CallSync n (work_value i s))) (work_answered n r i s) n
+call_sync_host_row c n r h s _ = call_sync_host_polled n r s (first_poll (host_at c h))

@@ -1,0 +1,193 @@
+-- Cancelling and dropping a subtask.
+use Rattle.std.specs.Option.{option_map_or}
+use Rattle.std.specs.Prelude.{Bool, None, Option, Some, [], false, is_some, not, true, ℕ, ◌∷◌}
+use Rattle.task_machine.specs.declared.op.CallOp.{CallOp}
+use Rattle.task_machine.specs.declared.component.Component.{Component}
+use Rattle.task_machine.specs.declared.records.HowFar.{HowFar}
+use Rattle.task_machine.specs.declared.label.Label.{Label}
+use Rattle.task_machine.specs.declared.words.Phase.{Phase}
+use Rattle.task_machine.specs.declared.records.Place.{Place}
+use Rattle.task_machine.specs.declared.words.Status.{Status}
+use Rattle.task_machine.specs.declared.records.Subtask.{Subtask}
+use Rattle.task_machine.specs.declared.label.CallLabel.TheVariants as call_label
+use Rattle.task_machine.specs.declared.op.CallOp.TheVariants as call_op
+use Rattle.task_machine.specs.declared.records.Delivery.TheVariants as delivery
+use Rattle.task_machine.specs.declared.records.HowFar.TheVariants as how_far
+use Rattle.task_machine.specs.declared.records.Join.TheVariants as join
+use Rattle.task_machine.specs.declared.label.Label.TheVariants as label
+use Rattle.task_machine.specs.declared.words.OwnEvent.TheVariants as own
+use Rattle.task_machine.specs.declared.words.Phase.TheVariants as phase
+use Rattle.task_machine.specs.declared.records.Place.TheVariants as place
+use Rattle.task_machine.specs.declared.records.Subtask.TheVariants as subtask
+use Rattle.task_machine.specs.declared.label.ThreadLabel.TheVariants as thread_label
+use Rattle.task_machine.specs.declared.trap.Trap.TheVariants as trap
+use Rattle.task_machine.specs.declared.records.Why.TheVariants as why
+use Rattle.task_machine.specs.Core.{Core}
+use Rattle.task_machine.specs.Moves.{behind, call_settled, checked, passes_check, promoted_unless, put_switch, stopped_at, withdrawn}
+use Rattle.task_machine.specs.Read.{call_instance, event_of, foot_of, has_ended, how_far_of, instance_of, is_callback_yield, is_joined, is_watched, join_of, may_not_suspend, phase_of, place_of, registers_of, saved_callee_of, subtask_at, subtask_ended, undelivered_end, was_cancelled, was_started}
+use Rattle.task_machine.specs.Write.{free_handle, set_cancelled, set_do_not_suspend, set_event, set_how_far, set_join, set_own_event, set_phase, set_saved_callee, set_subtask_handle}
+use Rattle.task_rules.specs.Calls.{answered, call_host_row, call_row, call_sync_host_row, call_sync_row, put_back, work_deleted}
+use Rattle.task_rules.specs.Data.{advanced}
+use Rattle.task_rules.specs.Progress.{Goes, Progress, Stops, Traps, or_trap, trap_if}
+use Rattle.task_rules.specs.Scripts.{value_of, values_in}
+use Rattle.task_rules.specs.Sets.{status_code}
+
+-- Which of the two ops it is.
+pub data Mode : Type 0 where
+  Async : Mode
+  Sync : Mode
+
+abbrev pub cancel_label : Mode → ℕ → ℕ → Label
+cancel_label Async n v = label.Call (call_label.Cancel v n)
+cancel_label Sync n v = label.Call (call_label.CancelSync v n)
+
+abbrev pub pauses : ℕ → Label
+pauses n = label.Thread (thread_label.Pauses n)
+
+-- ---- An ended subtask
+
+-- the undelivered end is taken and answered
+unfoldable pub end_taken : ℕ → ℕ → Subtask → Status → Core → Core
+end_taken n r sub e s = answered n r (status_code e) (set_event sub None s)
+
+abbrev pub ended_row : Mode → ℕ → ℕ → Subtask → Core → Option Status → Progress
+ended_row mode n r sub s None = Traps trap.SubtaskCancelAfterTerminal
+ended_row mode n r sub s (Some e) = Goes (cancel_label mode n (status_code e)) (end_taken n r sub e s) n
+
+-- ---- A subtask that hasn't ended
+
+-- what a cancel answers that finds no end
+abbrev pub blocked_code : ℕ
+blocked_code = 4294967295
+
+-- the subtask joins the thread's own set, and the thread waits for its end
+unfoldable pub awaiting : ℕ → Subtask → Core → Core
+awaiting n sub s = set_how_far n (how_far.AwaitsEnd sub) (stopped_at n (place.Blocked sub) (checked (instance_of n s) (set_join sub (join.Watched n) (set_saved_callee n None s))))
+
+abbrev pub not_ended_row : Mode → ℕ → ℕ → Subtask → Core → Progress
+not_ended_row Async n r sub s = Goes (cancel_label Async n blocked_code) (answered n r blocked_code s) n
+not_ended_row Sync n r sub s = trap_if (not (passes_check (instance_of n s) s)) trap.CannotBlockSyncTask (Stops (pauses n) (awaiting n sub s))
+
+abbrev pub by_end : Mode → ℕ → ℕ → Subtask → Core → Bool → Progress
+by_end mode n r sub s true = ended_row mode n r sub s (undelivered_end (event_of sub s))
+by_end mode n r sub s false = not_ended_row mode n r sub s
+
+-- it has ended or not
+abbrev pub after_cancel : Mode → ℕ → ℕ → Subtask → Core → Progress
+after_cancel mode n r sub s = by_end mode n r sub s (subtask_ended sub s)
+
+-- ---- The cancel of a host call
+
+-- an abort is asked for; a work that is aborted or complete stays as it is
+abbrev pub aborted_phase : Phase → Phase
+aborted_phase phase.Running = phase.AbortRequested
+aborted_phase p = p
+
+-- the work is marked cancelled; one that runs is aborted
+unfoldable pub host_cancelled : ℕ → Core → Core
+host_cancelled i s = set_cancelled i (set_phase i (aborted_phase (phase_of i s)) s)
+
+abbrev pub cancel_host : Mode → ℕ → ℕ → ℕ → Core → Progress
+cancel_host mode n r i s = trap_if (was_cancelled i s) trap.SubtaskCancelAfterTerminal (after_cancel mode n r (subtask.Host i) (host_cancelled i s))
+
+-- ---- The cancel of a guest call
+
+-- its start is withdrawn
+unfoldable pub start_withdrawn : ℕ → ℕ → ℕ → Core → Core
+start_withdrawn n r k s = answered n r 3 (withdrawn k s)
+
+-- the task finds Cancelled as its own event
+unfoldable pub asked : ℕ → Core → Core
+asked k s = set_own_event k (Some own.Cancelled) s
+
+-- the canceller goes behind the entry at switch
+abbrev pub behind_switch : ℕ → Option ℕ → Core → Core
+behind_switch n None s = s
+behind_switch n (Some m) s = behind (foot_of m s) (n ∷ []) s
+
+-- the callee's flag is saved and cleared, the subtask joins the canceller's set, and the canceller goes behind the entry at switch
+unfoldable pub lets_go_on : ℕ → ℕ → Core → Core
+lets_go_on n k s =
+    let j = call_instance k s in
+    set_how_far n (how_far.Cancels (subtask.Guest k)) (behind_switch n s.queues.switch (set_join (subtask.Guest k) (join.Watched n) (set_do_not_suspend j false (set_saved_callee n (Some (may_not_suspend j s)) s))))
+
+-- the waiting callback becomes the switch entry
+unfoldable pub cancel_delivered_to : ℕ → ℕ → Core → Core
+cancel_delivered_to n k s = lets_go_on n k (put_switch k (why.Delivery delivery.Cancel) (asked k s))
+
+-- the callback's yield moves to switch, unless an entry stands there
+unfoldable pub yield_cancelled : ℕ → ℕ → Core → Core
+yield_cancelled n k s = lets_go_on n k (promoted_unless k (asked k s))
+
+abbrev pub is_callback_wait : Place → Bool
+is_callback_wait (place.Waiting x by_callback) = by_callback
+is_callback_wait _ = false
+
+abbrev pub cancel_yield : Mode → ℕ → ℕ → ℕ → Core → Bool → Progress
+cancel_yield mode n r k s true = Stops (pauses n) (yield_cancelled n k s)
+cancel_yield mode n r k s false = after_cancel mode n r (subtask.Guest k) (asked k s)
+
+abbrev pub cancel_running : Mode → ℕ → ℕ → ℕ → Core → Bool → Bool → Progress
+cancel_running mode n r k s true yields = Stops (pauses n) (cancel_delivered_to n k s)
+cancel_running mode n r k s false yields = cancel_yield mode n r k s yields
+
+-- of a call's first thread
+abbrev pub is_at : ℕ → Core → (Place → Bool) → Bool
+is_at k s test = option_map_or test (place_of k s) false
+
+-- by whether the call has ended, and whether its start has run
+abbrev pub cancel_guest : Mode → ℕ → ℕ → ℕ → Core → Bool → Bool → Progress
+cancel_guest mode n r k s true started = ended_row mode n r (subtask.Guest k) s (undelivered_end (event_of (subtask.Guest k) s))
+cancel_guest mode n r k s false true = cancel_running mode n r k s (is_at k s is_callback_wait) (is_at k s is_callback_yield)
+cancel_guest mode n r k s false false = Goes (cancel_label mode n 3) (start_withdrawn n r k s) n
+
+-- ---- The ops
+
+abbrev pub cancel_subtask : Mode → ℕ → ℕ → Core → Subtask → Progress
+cancel_subtask mode n r s (subtask.Guest k) = cancel_guest mode n r k s (has_ended k s) (was_started k s)
+cancel_subtask mode n r s (subtask.Host i) = cancel_host mode n r i s
+
+abbrev pub cancel_found : Mode → ℕ → ℕ → Core → Subtask → Progress
+cancel_found mode n r s sub = trap_if (is_joined (join_of sub s)) trap.WaitableSyncAndAsync (cancel_subtask mode n r s sub)
+
+abbrev pub subtask_instance : Subtask → Core → ℕ
+subtask_instance (subtask.Guest k) s = call_instance k s
+subtask_instance (subtask.Host i) s = 0
+
+-- the canceller is resumed: the saved flag is written back, and the subtask leaves its set
+unfoldable pub cancel_resumed : ℕ → Subtask → Core → Core
+cancel_resumed n sub s = set_join sub join.Nowhere (set_saved_callee n None (put_back (saved_callee_of n s) (subtask_instance sub s) s))
+
+-- `cancel R X` and `cancel_sync R X`, by how far it has come
+abbrev pub cancel_row : Mode → ℕ → ℕ → ℕ → Core → HowFar → Progress
+cancel_row mode n r h s (how_far.Cancels sub) = after_cancel mode n r sub (cancel_resumed n sub s)
+cancel_row mode n r h s (how_far.AwaitsEnd sub) = let t = set_join sub join.Nowhere s in ended_row mode n r sub t (undelivered_end (event_of sub t))
+cancel_row mode n r h s _ = or_trap (subtask_at (instance_of n s) h s) trap.BadHandle (cancel_found mode n r s)
+
+-- ---- Dropping
+
+abbrev pub subtask_settled : Subtask → Core → Core
+subtask_settled (subtask.Guest k) s = call_settled k s
+subtask_settled (subtask.Host i) s = work_deleted i s
+
+-- the subtask leaves its set, and the handle is gone
+unfoldable pub dropped : ℕ → ℕ → Subtask → Core → Core
+dropped n h sub s = advanced n (subtask_settled sub (free_handle (instance_of n s) h (set_subtask_handle sub None (set_join sub join.Nowhere s))))
+
+abbrev pub drop_found : ℕ → ℕ → Core → Subtask → Progress
+drop_found n h s sub = trap_if (is_watched (join_of sub s)) trap.WaitableSyncAndAsync (trap_if (not (subtask_ended sub s)) trap.SubtaskDropNotResolved (trap_if (is_some (event_of sub s)) trap.SubtaskDropNotResolved (Goes (label.Call (call_label.Drop n)) (dropped n h sub s) n)))
+
+-- `drop X`
+abbrev pub drop_row : ℕ → ℕ → Core → Progress
+drop_row n h s = or_trap (subtask_at (instance_of n s) h s) trap.BadHandle (drop_found n h s)
+
+-- ---- All ops on subtasks
+
+abbrev pub subtask_row : Component → ℕ → Core → CallOp → Progress
+subtask_row c n s (call_op.Call r q e xs) = call_row c n r q e (values_in (registers_of n s) xs) s (how_far_of n s)
+subtask_row c n s (call_op.CallSync r e xs) = call_sync_row c n r e (values_in (registers_of n s) xs) s (how_far_of n s)
+subtask_row c n s (call_op.CallHost r q h) = call_host_row c n r q h s
+subtask_row c n s (call_op.CallSyncHost r h) = call_sync_host_row c n r h s (how_far_of n s)
+subtask_row c n s (call_op.Cancel r x) = cancel_row Async n r (value_of n s x) s (how_far_of n s)
+subtask_row c n s (call_op.CancelSync r x) = cancel_row Sync n r (value_of n s x) s (how_far_of n s)
+subtask_row c n s (call_op.Drop x) = drop_row n (value_of n s x) s

@@ -1,0 +1,201 @@
+-- The end of a task, and the ends of threads and activations.
+use Rattle.std.specs.Prelude.{Bool, List, None, Option, Some, false, if◌then◌else◌, is_none, is_some, nat_lt, not, suc, true, unwrap_or, zero, ℕ, ◌%◌, ◌&&◌, ◌/◌, ◌==◌, ◌||◌}
+use Rattle.task_machine.specs.declared.records.Caller.{Caller}
+use Rattle.task_machine.specs.declared.component.ExportKind.{ExportKind}
+use Rattle.task_machine.specs.declared.records.Goal.{Goal}
+use Rattle.task_machine.specs.declared.records.Join.{Join}
+use Rattle.task_machine.specs.declared.label.Label.{Label}
+use Rattle.task_machine.specs.declared.words.OwnEvent.{OwnEvent}
+use Rattle.task_machine.specs.declared.words.Status.{Status}
+use Rattle.task_machine.specs.declared.records.CallEnd.TheVariants as call_end
+use Rattle.task_machine.specs.declared.records.Caller.TheVariants as caller
+use Rattle.task_machine.specs.declared.records.Delivery.TheVariants as delivery
+use Rattle.task_machine.specs.declared.records.Goal.TheVariants as goal
+use Rattle.task_machine.specs.declared.records.HowFar.TheVariants as how_far
+use Rattle.task_machine.specs.declared.records.Join.TheVariants as join
+use Rattle.task_machine.specs.declared.component.ExportKind.TheVariants as kind
+use Rattle.task_machine.specs.declared.words.OwnEvent.TheVariants as own
+use Rattle.task_machine.specs.declared.records.Place.TheVariants as place
+use Rattle.task_machine.specs.declared.words.Status.TheVariants as status
+use Rattle.task_machine.specs.declared.records.Subtask.TheVariants as subtask
+use Rattle.task_machine.specs.declared.trap.Trap.TheVariants as trap
+use Rattle.task_machine.specs.declared.records.Why.TheVariants as why
+use Rattle.task_machine.specs.Core.{Core}
+use Rattle.task_machine.specs.Labels.{exit_label}
+use Rattle.task_machine.specs.Moves.{checked, ended, may_publish, passes_check, published, put_high, put_low, released, stopped}
+use Rattle.task_machine.specs.Read.{admitted_held, blocked_on, caller_of, callers_of, foot_of, goal_of, has_ended, has_ready_member, has_waiter, instance_of, is_direct, is_explicit, is_guest_call, is_last_thread, is_nil, join_of, kind_of, own_event_of, register_of, saved_own_of, set_at, set_instance, task_of}
+use Rattle.task_machine.specs.Write.{give_result, set_do_not_enter, set_do_not_suspend, set_end, set_how_far, set_own_event, set_place, set_register, set_result}
+use Rattle.task_rules.specs.Progress.{Goes, Never, Ordered, Progress, Stops, Traps, may, or_trap, trap_if}
+
+-- ---- The end of a task
+
+-- the result goes where the call says; to a thread that is gone it goes nowhere
+abbrev pub result_given : Goal → Caller → ℕ → ℕ → Core → Core
+result_given goal.Main f k v s = give_result k v s
+result_given (goal.Register r) (caller.Thread n) k v s = set_register n r v s
+result_given goal.Answer f k v s = set_result k (Some v) s
+result_given _ f k v s = s
+
+-- a status of the call is told to its caller, unless main or a thread under it made the call
+abbrev pub is_told : ℕ → Core → Bool
+is_told k s = is_guest_call (caller_of k s) && not (is_direct (goal_of k s))
+
+unfoldable pub told : ℕ → Status → Option ℕ → Core → Core
+told k e w s = if is_told k s then published (subtask.Guest k) e w s else s
+
+unfoldable pub may_tell : ℕ → Option ℕ → Core → Bool
+may_tell k w s = if is_told k s then may_publish (subtask.Guest k) w s else is_none w
+
+-- the task ends as Returned with v
+unfoldable pub returned : ℕ → ℕ → Option ℕ → Core → Core
+returned k v w s = told k status.Returned w (result_given (goal_of k s) (caller_of k s) k v (set_end k call_end.Returned s))
+
+-- the task ends as ReturnCancelled
+unfoldable pub cancelled : ℕ → Option ℕ → Core → Core
+cancelled k w s = told k status.ReturnCancelled w (set_end k call_end.ReturnCancelled s)
+
+-- ---- Trap 4
+
+-- the thread is the last of a task that hasn't ended
+unfoldable pub leaves_no_result : ℕ → Core → Bool
+leaves_no_result n s = is_last_thread n s && not (has_ended (task_of n s) s)
+
+-- ---- Checks after other moves, on the state before
+
+-- a check of the instance passes once the strand with foot f has stopped and these held threads of the instance are released
+unfoldable pub passes_after_stop : ℕ → ℕ → List ℕ → Core → Bool
+passes_after_stop i f held s = passes_check i s || (not (is_nil (callers_of f s)) || not (is_nil held))
+
+-- the thread, if there is one, is of the instance
+abbrev pub is_in_instance : ℕ → Core → Option ℕ → Bool
+is_in_instance i s None = false
+is_in_instance i s (Some n) = instance_of n s == i
+
+-- the subtask is in a set of the instance on which some thread waits
+abbrev pub wakes_in : ℕ → Core → Join → Bool
+wakes_in i s (join.Set x) = has_waiter x s && (set_instance x s == i)
+wakes_in i s _ = false
+
+-- telling an end of the call gives an entry to a thread of the instance
+abbrev pub tells_in : ℕ → ℕ → Core → Bool
+tells_in i k s = is_told k s && (is_in_instance i s (blocked_on (subtask.Guest k) s) || wakes_in i s (join_of (subtask.Guest k) s))
+
+-- a check of the instance passes once these held threads of it are released and the call's end is told
+unfoldable pub passes_after_return : ℕ → ℕ → List ℕ → Core → Bool
+passes_after_return i k held s = passes_check i s || (not (is_nil held) || tells_in i k s)
+
+-- ---- The ends of threads
+
+-- the instance lets entries in again, and these held threads of it are released
+unfoldable pub let_in : ℕ → List ℕ → Core → Core
+let_in i order s = released order (set_do_not_enter i false s)
+
+-- the held threads that are admitted once the instance lets entries in
+unfoldable pub held_out : ℕ → Core → List ℕ
+held_out i s = admitted_held i (set_do_not_enter i false s)
+
+-- the flag of the instance that the thread's start saved is written back
+unfoldable pub restored : ℕ → Core → Core
+restored n s = set_do_not_suspend (instance_of n s) (unwrap_or (saved_own_of n s) false) s
+
+-- after a check the strand stops, and the thread ends
+unfoldable pub left : ℕ → Core → Core
+left n s = ended n (stopped (foot_of n s) (checked (instance_of n s) s))
+
+-- a stackful export's exit, and an explicit thread's
+abbrev pub leave_row : ℕ → Core → Progress
+leave_row n s = trap_if (not (passes_check (instance_of n s) s)) trap.CannotBlockSyncTask (trap_if (leaves_no_result n s) trap.NoAsyncResult (Stops (exit_label n None) (left n s)))
+
+-- a sync export's task returns r0
+unfoldable pub sync_left : ℕ → Option ℕ → Core → Core
+sync_left n w s = ended n (stopped (foot_of n s) (returned (task_of n s) (register_of n 0 s) w (restored n s)))
+
+abbrev pub sync_exit_row : ℕ → Option ℕ → Core → Progress
+sync_exit_row n w s = may (may_tell (task_of n s) w s) (Stops (exit_label n w) (sync_left n w s))
+
+-- a blocking export's task returns r0
+unfoldable pub blocking_left : ℕ → Option ℕ → List ℕ → Core → Core
+blocking_left n w order s = left n (returned (task_of n s) (register_of n 0 s) w (let_in (instance_of n s) order s))
+
+abbrev pub blocking_exit_row : ℕ → Option ℕ → Core → Progress
+blocking_exit_row n w s =
+    let held = held_out (instance_of n s) s in
+    trap_if (not (passes_after_return (instance_of n s) (task_of n s) held s)) trap.CannotBlockSyncTask (may (may_tell (task_of n s) w s) (Ordered held (λ order. Stops (exit_label n w) (blocking_left n w order s))))
+
+-- a direct call's task returns v; the thread under it goes on
+unfoldable pub direct_left : ℕ → ℕ → ℕ → Core → Core
+direct_left n m v s = set_how_far m (how_far.Answered v) (set_place m place.Running (ended n (set_end (task_of n s) call_end.Returned s)))
+
+abbrev pub direct_exit_to : ℕ → ExportKind → Core → Caller → Progress
+direct_exit_to n x s caller.Main = Never
+direct_exit_to n kind.Sync s (caller.Thread m) = Goes (exit_label n None) (direct_left n m (register_of n 0 s) (restored n s)) m
+direct_exit_to n x s (caller.Thread m) = trap_if (not (passes_check (instance_of n s) s)) trap.CannotBlockSyncTask (Goes (exit_label n None) (direct_left n m (register_of n 0 s) (checked (instance_of n s) s)) m)
+
+abbrev pub direct_exit_row : ℕ → Core → Progress
+direct_exit_row n s = direct_exit_to n (kind_of (task_of n s) s) s (caller_of (task_of n s) s)
+
+-- ---- The ends of activations
+
+-- the instance lets entries in, and the strand stops
+unfoldable pub deactivated : ℕ → List ℕ → Core → Core
+deactivated n order s = stopped (foot_of n s) (let_in (instance_of n s) order s)
+
+-- code 0: the thread ends
+unfoldable pub finished : ℕ → List ℕ → Core → Core
+finished n order s = ended n (checked (instance_of n s) (deactivated n order s))
+
+abbrev pub own_or_none : Option OwnEvent → Option OwnEvent
+own_or_none None = Some own.None
+own_or_none (Some e) = Some e
+
+-- code 1: the thread's turn comes again
+unfoldable pub yielded : ℕ → List ℕ → Core → Core
+yielded n order s =
+    let k = task_of n s in
+    put_low n (why.Delivery delivery.Yield) (set_own_event k (own_or_none (own_event_of k s)) (deactivated n order s))
+
+-- code 2: an event is there
+unfoldable pub found : ℕ → ℕ → List ℕ → Core → Core
+found n x order s = put_high n (why.Delivery (delivery.Set x)) (deactivated n order s)
+
+-- code 2: no event is there
+unfoldable pub awaited : ℕ → ℕ → List ℕ → Core → Core
+awaited n x order s = set_place n (place.Waiting x true) (deactivated n order s)
+
+-- the task's own event, or a ready member of the set, is there
+unfoldable pub has_event_for : ℕ → ℕ → Core → Bool
+has_event_for k x s = is_some (own_event_of k s) || has_ready_member x s
+
+abbrev pub wait_end : Label → ℕ → ℕ → List ℕ → Core → Bool → Progress
+wait_end l n x held s true = Ordered held (λ order. Stops l (found n x order s))
+wait_end l n x held s false = Ordered held (λ order. Stops l (awaited n x order s))
+
+-- by the low four bits of the code, and the rest of it
+abbrev pub kind_end : Label → ℕ → List ℕ → Core → ℕ → ℕ → Progress
+kind_end l n held s zero rest = trap_if (not (passes_after_stop (instance_of n s) (foot_of n s) held s)) trap.CannotBlockSyncTask (trap_if (leaves_no_result n s) trap.NoAsyncResult (Ordered held (λ order. Stops l (finished n order s))))
+kind_end l n held s (suc zero) rest = Ordered held (λ order. Stops l (yielded n order s))
+kind_end l n held s (suc (suc zero)) rest = or_trap (set_at (instance_of n s) rest s) trap.BadHandle (λ x. wait_end l n x held s (has_event_for (task_of n s) x s))
+kind_end l n held s _ rest = Traps trap.UnsupportedCallbackCode
+
+-- a callback activation ends with the code
+abbrev pub code_row : Label → ℕ → Core → ℕ → Progress
+code_row l n s code = trap_if (nat_lt 4294967295 code) trap.UnsupportedCallbackCode (kind_end l n (held_out (instance_of n s) s) s (code % 16) (code / 16))
+
+-- ---- Exit
+
+abbrev pub kind_exit_row : ℕ → Option ℕ → Core → ExportKind → Progress
+kind_exit_row n w s kind.Sync = sync_exit_row n w s
+kind_exit_row n w s kind.Blocking = blocking_exit_row n w s
+kind_exit_row n w s kind.Stackful = leave_row n s
+kind_exit_row n w s kind.Callback = code_row (exit_label n None) n s 0
+
+abbrev pub implicit_exit_row : ℕ → Option ℕ → Core → Bool → Progress
+implicit_exit_row n w s true = direct_exit_row n s
+implicit_exit_row n w s false = kind_exit_row n w s (kind_of (task_of n s) s)
+
+abbrev pub exit_row_for : ℕ → Option ℕ → Core → Bool → Progress
+exit_row_for n w s true = leave_row n s
+exit_row_for n w s false = implicit_exit_row n w s (is_direct (goal_of (task_of n s) s))
+
+abbrev pub exit_row : ℕ → Option ℕ → Core → Progress
+exit_row n w s = exit_row_for n w s (is_explicit n s)

@@ -1,0 +1,166 @@
+-- The ops on waitable sets.
+use Rattle.std.specs.Prelude.{Bool, None, Option, Some, false, is_none, not, option_and_then, suc, true, unwrap_or, zero, ℕ, ◌&&◌, ◌+◌}
+use Rattle.task_machine.specs.declared.words.Given.{Given}
+use Rattle.task_machine.specs.declared.records.HowFar.{HowFar}
+use Rattle.task_machine.specs.declared.records.Join.{Join}
+use Rattle.task_machine.specs.declared.op.SetOp.{SetOp}
+use Rattle.task_machine.specs.declared.words.Status.{Status}
+use Rattle.task_machine.specs.declared.records.Subtask.{Subtask}
+use Rattle.task_machine.specs.declared.words.Given.TheVariants as given
+use Rattle.task_machine.specs.declared.records.HowFar.TheVariants as how_far
+use Rattle.task_machine.specs.declared.records.Join.TheVariants as join
+use Rattle.task_machine.specs.declared.label.Label.TheVariants as label
+use Rattle.task_machine.specs.declared.records.Named.TheVariants as named
+use Rattle.task_machine.specs.declared.records.Place.TheVariants as place
+use Rattle.task_machine.specs.declared.label.SetLabel.TheVariants as set_label
+use Rattle.task_machine.specs.declared.op.SetOp.TheVariants as set_op
+use Rattle.task_machine.specs.declared.words.Status.TheVariants as status
+use Rattle.task_machine.specs.declared.label.ThreadLabel.TheVariants as thread_label
+use Rattle.task_machine.specs.declared.trap.Trap.TheVariants as trap
+use Rattle.task_machine.specs.Core.{Core}
+use Rattle.task_machine.specs.Labels.{Choice, join_label, wait_label}
+use Rattle.task_machine.specs.Moves.{Gift, NoGift, checked, gift, given_for, handed_on, may_hand_on, may_wake, own_gift_of, passes_check, stopped_at, taken, wake}
+use Rattle.task_machine.specs.Read.{at_handle_limit, event_of, fits, has_member, has_ready_member, has_waiters, how_far_of, instance_of, is_watched, join_of, new_handle, set_at, subtask_at, task_of}
+use Rattle.task_machine.specs.Write.{add_set, free_handle, give_handle, remove_set, set_how_far, set_join, set_register}
+use Rattle.task_rules.specs.Data.{advanced, assigned}
+use Rattle.task_rules.specs.Progress.{Goes, Progress, Stops, may, or_never, or_trap, trap_if}
+use Rattle.task_rules.specs.Scripts.{value_of}
+
+-- ---- Making and dropping a set
+
+-- a set of the thread's instance is made, and its handle goes to r
+unfoldable pub set_made : ℕ → ℕ → Core → Core
+set_made n r s =
+    let i = instance_of n s in
+    let h = new_handle i s in
+    assigned n r h (give_handle i (named.Set (s.made.sets + 1)) (add_set (record { instance = i }) s))
+
+-- `set_new R`
+abbrev pub set_new_row : ℕ → ℕ → Core → Progress
+set_new_row n r s = trap_if (not (fits 1 s)) trap.TableFull (trap_if (at_handle_limit s) trap.HandleLimit (Goes (label.Set (set_label.New (new_handle (instance_of n s) s) n)) (set_made n r s) n))
+
+-- the set x and its handle h are gone
+unfoldable pub set_dropped : ℕ → ℕ → ℕ → Core → Core
+set_dropped n h x s = advanced n (remove_set x (free_handle (instance_of n s) h s))
+
+abbrev pub set_drop_found : ℕ → ℕ → Core → ℕ → Progress
+set_drop_found n h s x = trap_if (has_waiters x s) trap.WaitableSetDropHasWaiters (trap_if (has_member x s) trap.TableHasChildren (Goes (label.Set (set_label.Drop n)) (set_dropped n h x s) n))
+
+-- `set_drop X`
+abbrev pub set_drop_row : ℕ → ℕ → Core → Progress
+set_drop_row n h s = or_trap (set_at (instance_of n s) h s) trap.BadHandle (set_drop_found n h s)
+
+-- ---- Waiting and polling
+
+-- the subtask that the thread's instance names by the chosen handle
+abbrev pub chosen : ℕ → Choice → Core → Option Subtask
+chosen n ch s = option_and_then (λ h. subtask_at (instance_of n s) h s) ch.member
+
+-- what the gift hands out
+abbrev pub handed_out : Choice → Core → Gift → Given
+handed_out ch s g = given_for g (unwrap_or ch.member 0) s
+
+abbrev pub given_code : Given → ℕ
+given_code given.Nothing = 0
+given_code (given.Subtask e h) = 1
+given_code given.Cancelled = 6
+
+abbrev pub given_handle : Given → ℕ
+given_handle (given.Subtask e h) = h
+given_handle _ = 0
+
+-- the number of a status
+abbrev pub status_code : Status → ℕ
+status_code status.Starting = 0
+status_code status.Started = 1
+status_code status.Returned = 2
+status_code status.StartCancelled = 3
+status_code status.ReturnCancelled = 4
+
+abbrev pub given_result : Given → ℕ
+given_result (given.Subtask e h) = status_code e
+given_result _ = 0
+
+-- code, handle and result are in r and the two registers after it
+unfoldable pub set_given : ℕ → ℕ → Given → Core → Core
+set_given n r v s = set_register n (r + 2) (given_result v) (set_register n (r + 1) (given_handle v) (set_register n r (given_code v) s))
+
+-- the gift is taken, and what it hands out is in r and the two registers after it
+unfoldable pub received : ℕ → ℕ → Gift → Given → Core → Core
+received n r g v s = advanced n (set_given n r v (taken g (task_of n s) s))
+
+-- the strand stops, and its top waits on x
+unfoldable pub waiting : ℕ → ℕ → Core → Core
+waiting n x s = set_how_far n (how_far.Waits x) (stopped_at n (place.Waiting x false) s)
+
+unfoldable pub begun_waiting : ℕ → ℕ → Core → Core
+begun_waiting n x s = waiting n x (checked (instance_of n s) s)
+
+-- neither the own event, as far as the thread may take it, nor a ready member is there
+unfoldable pub finds_nothing : ℕ → ℕ → Core → Bool
+finds_nothing n x s = is_none (own_gift_of false (task_of n s) s) && not (has_ready_member x s)
+
+abbrev pub wait_takes : ℕ → ℕ → Choice → Core → Gift → Progress
+wait_takes n r ch s g = let v = handed_out ch s g in Goes (label.Set (set_label.Wait v n)) (received n r g v s) n
+
+abbrev pub wait_begins : ℕ → ℕ → Choice → Core → ℕ → Bool → Progress
+wait_begins n r ch s x true = trap_if (not (passes_check (instance_of n s) s)) trap.CannotBlockSyncTask (Stops (label.Thread (thread_label.Pauses n)) (begun_waiting n x s))
+wait_begins n r ch s x false = or_never (gift false (task_of n s) x (chosen n ch s) s) (wait_takes n r ch s)
+
+-- the wake is handed on where the gift is the own event
+unfoldable pub received_woken : ℕ → ℕ → ℕ → Option ℕ → Gift → Given → Core → Core
+received_woken n x r w g v s = received n r g v (handed_on x g w s)
+
+abbrev pub wait_goes_on : ℕ → ℕ → ℕ → Choice → Core → Gift → Progress
+wait_goes_on n x r ch s NoGift = Stops (label.Thread (thread_label.Pauses n)) (waiting n x s)
+wait_goes_on n x r ch s g = let v = handed_out ch s g in may (may_hand_on x g ch.woken s) (Goes (wait_label n v ch.woken) (received_woken n x r ch.woken g v s) n)
+
+-- `wait R X`, by how far it has come
+abbrev pub wait_row : ℕ → ℕ → ℕ → Choice → Core → HowFar → Progress
+wait_row n r h ch s (how_far.Waits x) = or_never (gift false (task_of n s) x (chosen n ch s) s) (wait_goes_on n x r ch s)
+wait_row n r h ch s _ = or_trap (set_at (instance_of n s) h s) trap.BadHandle (λ x. wait_begins n r ch s x (finds_nothing n x s))
+
+abbrev pub poll_takes : ℕ → ℕ → Choice → Core → Gift → Progress
+poll_takes n r ch s g = let v = handed_out ch s g in Goes (label.Set (set_label.Poll v n)) (received n r g v s) n
+
+-- `poll R X`
+abbrev pub poll_row : ℕ → ℕ → ℕ → Choice → Core → Progress
+poll_row n r h ch s = or_trap (set_at (instance_of n s) h s) trap.BadHandle (λ x. or_never (gift false (task_of n s) x (chosen n ch s) s) (poll_takes n r ch s))
+
+-- ---- Joining
+
+abbrev pub joins : Option ℕ → Join
+joins None = join.Nowhere
+joins (Some x) = join.Set x
+
+-- a waiter of the new set is woken, where the subtask has an event
+abbrev pub wakes_joined : Option Status → Option ℕ → Option ℕ → Core → Core
+wakes_joined (Some e) (Some x) w s = wake x w s
+wakes_joined _ _ w s = s
+
+abbrev pub may_wake_new : Option Status → Option ℕ → Option ℕ → Core → Bool
+may_wake_new (Some e) (Some x) w s = may_wake x w s
+may_wake_new _ _ w s = is_none w
+
+-- the subtask leaves its set and joins the other one, if there is one
+unfoldable pub joined : ℕ → Subtask → Option ℕ → Option ℕ → Core → Core
+joined n sub x w s = advanced n (wakes_joined (event_of sub s) x w (set_join sub (joins x) s))
+
+abbrev pub join_done : ℕ → Subtask → Option ℕ → Core → Option ℕ → Progress
+join_done n sub w s x = trap_if (is_watched (join_of sub s)) trap.WaitableSyncAndAsync (may (may_wake_new (event_of sub s) x w s) (Goes (join_label n w) (joined n sub x w s) n))
+
+-- the set that the handle names; 0 is for none
+abbrev pub join_to : ℕ → ℕ → Option ℕ → Core → Subtask → Progress
+join_to n zero w s sub = join_done n sub w s None
+join_to n (suc h) w s sub = or_trap (set_at (instance_of n s) (suc h) s) trap.BadHandle (λ x. join_done n sub w s (Some x))
+
+-- `join X Y`
+abbrev pub join_row : ℕ → ℕ → ℕ → Option ℕ → Core → Progress
+join_row n h y w s = or_trap (subtask_at (instance_of n s) h s) trap.BadHandle (join_to n y w s)
+
+abbrev pub set_row : ℕ → Core → Choice → SetOp → Progress
+set_row n s ch (set_op.New r) = set_new_row n r s
+set_row n s ch (set_op.Drop x) = set_drop_row n (value_of n s x) s
+set_row n s ch (set_op.Wait r x) = wait_row n r (value_of n s x) ch s (how_far_of n s)
+set_row n s ch (set_op.Poll r x) = poll_row n r (value_of n s x) ch s
+set_row n s ch (set_op.Join x y) = join_row n (value_of n s x) (value_of n s y) ch.woken s

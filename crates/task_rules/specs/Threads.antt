@@ -1,0 +1,142 @@
+-- The ops on threads.
+use Rattle.std.specs.Option.{option_map_or}
+use Rattle.std.specs.Prelude.{Bool, None, Option, Some, [], false, not, option_and_then, true, unwrap_or, ℕ, ◌&&◌, ◌==◌, ◌∷◌}
+use Rattle.task_machine.specs.declared.component.Component.{Component}
+use Rattle.task_machine.specs.declared.records.HowFar.{HowFar}
+use Rattle.task_machine.specs.declared.label.Label.{Label}
+use Rattle.task_machine.specs.declared.records.Place.{Place}
+use Rattle.task_machine.specs.declared.component.Slot.{Slot}
+use Rattle.task_machine.specs.declared.label.ThreadLabel.{ThreadLabel}
+use Rattle.task_machine.specs.declared.op.ThreadOp.{ThreadOp}
+use Rattle.task_machine.specs.declared.records.Why.{Why}
+use Rattle.task_machine.specs.declared.records.HowFar.TheVariants as how_far
+use Rattle.task_machine.specs.declared.label.Label.TheVariants as label
+use Rattle.task_machine.specs.declared.records.Place.TheVariants as place
+use Rattle.task_machine.specs.declared.records.Script.TheVariants as script
+use Rattle.task_machine.specs.declared.component.Slot.TheVariants as slot
+use Rattle.task_machine.specs.declared.label.ThreadLabel.TheVariants as thread_label
+use Rattle.task_machine.specs.declared.op.ThreadOp.TheVariants as thread_op
+use Rattle.task_machine.specs.declared.trap.Trap.TheVariants as trap
+use Rattle.task_machine.specs.declared.records.Why.TheVariants as why
+use Rattle.task_machine.specs.Core.{Core}
+use Rattle.task_machine.specs.Moves.{checked, passes_check, promoted_unless, put_low, put_switch, stopped, stopped_at}
+use Rattle.task_machine.specs.Read.{at_handle_limit, fits, foot_of, how_far_of, instance_of, is_explicit, is_ready_to_resume, is_yielded, new_thread_handle, place_of, task_of, thread_at, thread_handle_of}
+use Rattle.task_machine.specs.Write.{add_thread, set_how_far}
+use Rattle.task_rules.specs.Calls.{new_thread, next_thread, with_thread_handle}
+use Rattle.task_rules.specs.Cancels.{pauses}
+use Rattle.task_rules.specs.Data.{advanced, assigned}
+use Rattle.task_rules.specs.Progress.{Goes, Progress, Stops, Traps, or_trap, trap_if}
+use Rattle.task_rules.specs.Scripts.{registers_for, slot_at, value_of}
+
+-- ---- Making a thread
+
+-- a thread of the task is made with v in r0, not started, and its handle goes to r
+unfoldable pub thread_made : ℕ → ℕ → ℕ → ℕ → Core → Core
+thread_made n r x v s =
+    let i = instance_of n s in
+    let h = new_thread_handle i s in
+    assigned n r h (with_thread_handle i (next_thread s) (add_thread (new_thread (task_of n s) true (script.Slot x) (registers_for (v ∷ [])) None) s))
+
+abbrev pub thread_new_label : ℕ → Core → Label
+thread_new_label n s = label.Thread (thread_label.New (new_thread_handle (instance_of n s) s) n (next_thread s))
+
+-- `thread_new R S X`
+abbrev pub thread_new_row : ℕ → ℕ → ℕ → ℕ → Core → Slot → Progress
+thread_new_row n r x v s slot.Empty = Traps trap.ThreadNewIndirectUninitialized
+thread_new_row n r x v s slot.Bad = Traps trap.ThreadNewIndirectInvalidType
+thread_new_row n r x v s (slot.Script ops) = trap_if (not (fits 2 s)) trap.TableFull (trap_if (at_handle_limit s) trap.HandleLimit (Goes (thread_new_label n s) (thread_made n r x v s) n))
+
+-- `thread_index R`
+abbrev pub thread_index_row : ℕ → ℕ → Core → Progress
+thread_index_row n r s = let h = unwrap_or (thread_handle_of n s) 0 in Goes (label.Thread (thread_label.Index h n)) (assigned n r h s) n
+
+-- ---- Resuming a thread
+
+-- the entry that a resume gives to a thread at this place: one that wasn't started, or a suspended one
+abbrev pub resume_at : Bool → Place → Option Why
+resume_at true place.New = Some why.Start
+resume_at explicit place.Suspended = Some why.Resumption
+resume_at explicit _ = None
+
+abbrev pub resume_why : ℕ → Core → Option Why
+resume_why m s = option_and_then (resume_at (is_explicit m s)) (place_of m s)
+
+unfoldable pub resumed_later : ℕ → ℕ → Why → Core → Core
+resumed_later n m w s = advanced n (put_low m w s)
+
+abbrev pub resume_later_found : ℕ → Core → ℕ → Progress
+resume_later_found n s m = trap_if (m == n) trap.CannotResumeThread (or_trap (resume_why m s) trap.CannotResumeThread (λ w. Goes (label.Thread (thread_label.ResumeLater n)) (resumed_later n m w s) n))
+
+-- `resume_later X`
+abbrev pub resume_later_row : ℕ → ℕ → Core → Progress
+resume_later_row n h s = or_trap (thread_at (instance_of n s) h s) trap.BadHandle (resume_later_found n s)
+
+-- ---- Suspending and yielding
+
+-- Whether the thread suspends or yields.
+pub data Halt : Type 0 where
+  Suspension : Halt
+  Yielding : Halt
+
+-- the strand stops; its top is suspended, or gets a low entry
+unfoldable pub halted : Halt → ℕ → Core → Core
+halted Suspension n s = set_how_far n how_far.Suspends (stopped_at n place.Suspended s)
+halted Yielding n s = set_how_far n how_far.Yields (put_low n why.Resumption (stopped (foot_of n s) s))
+
+unfoldable pub halted_checked : Halt → ℕ → Core → Core
+halted_checked x n s = halted x n (checked (instance_of n s) s)
+
+abbrev pub halts : Halt → ℕ → Label → Core → Bool → Progress
+halts x n l s true = Stops (pauses n) (halted_checked x n s)
+halts Suspension n l s false = Traps trap.CannotBlockSyncTask
+halts Yielding n l s false = Goes l (advanced n s) n
+
+-- the plain op: it checks; where that fails a suspension traps and a yield is done at once
+abbrev pub halt_row : Halt → ℕ → Label → Core → Progress
+halt_row x n l s = halts x n l s (passes_check (instance_of n s) s)
+
+unfoldable pub halted_resuming : Halt → ℕ → ℕ → Why → Core → Core
+halted_resuming x n m w s = halted x n (put_switch m w s)
+
+abbrev pub then_resume_found : Halt → ℕ → Core → ℕ → Progress
+then_resume_found x n s m = trap_if (m == n) trap.CannotResumeThread (or_trap (resume_why m s) trap.CannotResumeThread (λ w. Stops (pauses n) (halted_resuming x n m w s)))
+
+abbrev pub then_resume_row : Halt → ℕ → ℕ → Core → Progress
+then_resume_row x n h s = or_trap (thread_at (instance_of n s) h s) trap.BadHandle (then_resume_found x n s)
+
+-- the thread has yielded, and its entry stands at a mark
+unfoldable pub has_yielded : ℕ → Core → Bool
+has_yielded m s = option_map_or is_ready_to_resume (place_of m s) false && is_yielded (how_far_of m s)
+
+unfoldable pub halted_promoting : Halt → ℕ → ℕ → Core → Core
+halted_promoting x n m s = halted x n (promoted_unless m s)
+
+abbrev pub then_promote : Halt → ℕ → Label → Core → ℕ → Bool → Progress
+then_promote x n l s m true = Stops (pauses n) (halted_promoting x n m s)
+then_promote x n l s m false = halt_row x n l s
+
+abbrev pub then_promote_found : Halt → ℕ → Label → Core → ℕ → Progress
+then_promote_found x n l s m = trap_if (m == n) trap.CannotResumeThread (then_promote x n l s m (has_yielded m s))
+
+abbrev pub then_promote_row : Halt → ℕ → ℕ → Label → Core → Progress
+then_promote_row x n h l s = or_trap (thread_at (instance_of n s) h s) trap.BadHandle (then_promote_found x n l s)
+
+-- the op as it begins, or done once the thread was resumed inside it
+abbrev pub by_how_far : HowFar → ℕ → Label → Core → Progress → Progress
+by_how_far how_far.Suspends n l s p = Goes l (advanced n s) n
+by_how_far how_far.Yields n l s p = Goes l (advanced n s) n
+by_how_far _ n l s p = p
+
+abbrev pub halting : ℕ → Core → ThreadLabel → (Label → Progress) → Progress
+halting n s l row = by_how_far (how_far_of n s) n (label.Thread l) s (row (label.Thread l))
+
+abbrev pub thread_row : Component → ℕ → Core → ThreadOp → Progress
+thread_row c n s (thread_op.New r x v) = thread_new_row n r x (value_of n s v) s (slot_at c (instance_of n s) x)
+thread_row c n s (thread_op.Index r) = thread_index_row n r s
+thread_row c n s (thread_op.ResumeLater x) = resume_later_row n (value_of n s x) s
+thread_row c n s thread_op.Suspend = halting n s (thread_label.Suspend n) (λ l. halt_row Suspension n l s)
+thread_row c n s thread_op.Yield = halting n s (thread_label.Yield n) (λ l. halt_row Yielding n l s)
+thread_row c n s (thread_op.SuspendThenResume x) = halting n s (thread_label.SuspendThenResume n) (λ l. then_resume_row Suspension n (value_of n s x) s)
+thread_row c n s (thread_op.YieldThenResume x) = halting n s (thread_label.YieldThenResume n) (λ l. then_resume_row Yielding n (value_of n s x) s)
+thread_row c n s (thread_op.SuspendThenPromote x) = halting n s (thread_label.SuspendThenPromote n) (λ l. then_promote_row Suspension n (value_of n s x) l s)
+thread_row c n s (thread_op.YieldThenPromote x) = halting n s (thread_label.YieldThenPromote n) (λ l. then_promote_row Yielding n (value_of n s x) l s)

@@ -1,0 +1,88 @@
+-- The polls of live host works by the loop.
+use Rattle.std.specs.List.{list_any}
+use Rattle.std.specs.Prelude.{Bool, List, None, Option, Some, [], if◌then◌else◌, nat_lt, not, suc, zero, ℕ, ◌&&◌, ◌||◌, ◌∷◌}
+use Rattle.task_machine.specs.declared.records.Course.{Course}
+use Rattle.task_machine.specs.declared.component.HostDef.{HostDef}
+use Rattle.task_machine.specs.declared.words.Phase.{Phase}
+use Rattle.task_machine.specs.declared.records.Work.{Work}
+use Rattle.task_machine.specs.declared.records.WorkCaller.{WorkCaller}
+use Rattle.task_machine.specs.declared.records.Course.TheVariants as course
+use Rattle.task_machine.specs.declared.records.Entry.TheVariants as entry
+use Rattle.task_machine.specs.declared.words.Phase.TheVariants as phase
+use Rattle.task_machine.specs.declared.records.Stage.TheVariants as stage
+use Rattle.task_machine.specs.declared.records.Subtask.TheVariants as subtask
+use Rattle.task_machine.specs.declared.records.WorkCaller.TheVariants as work_caller
+use Rattle.task_machine.specs.Core.{Core}
+use Rattle.task_machine.specs.Moves.{unblocked}
+use Rattle.task_machine.specs.Read.{blocked_on, course_of, is_aborted, is_live, is_never, phase_of, work_caller_of}
+use Rattle.task_machine.specs.Write.{push_high, set_course, set_phase, set_stage}
+
+-- the live works with numbers above n, in order of number
+abbrev pub live_after : ℕ → List (ℕ × Work) → List ℕ
+live_after n [] = []
+live_after n (e ∷ es) = if is_live e.1 && nat_lt n e.0 then e.0 ∷ live_after n es else live_after n es
+
+abbrev pub first_number : List ℕ → Option ℕ
+first_number [] = None
+first_number (n ∷ ns) = Some n
+
+-- the work that is polled next, where those up to n were
+unfoldable pub next_polled : ℕ → Core → Option ℕ
+next_polled n s = first_number (live_after n s.works.list)
+
+-- What a poll by the loop finds.
+pub data Poll : Type 0 where
+  StillPends : (left : HostDef) → Poll
+  -- with a value, or without one where it was aborted
+  Ends : (value : Option ℕ) → Poll
+  FailsNow : Poll
+
+abbrev pub ends_with : Option ℕ → Poll
+ends_with None = FailsNow
+ends_with (Some v) = Ends (Some v)
+
+abbrev pub polled_again : HostDef → Option ℕ → Poll
+polled_again host None = StillPends host
+polled_again host (Some zero) = ends_with host.value
+polled_again host (Some (suc polls)) = StillPends (record { polls = Some polls; value = host.value })
+
+abbrev pub polled_course : Course → Poll
+polled_course (course.Goes host) = polled_again host host.polls
+polled_course (course.Value v) = Ends (Some v)
+polled_course course.NoValue = Ends None
+
+-- an aborted work ends at its next poll, without a value
+abbrev pub polled_in : Phase → Course → Poll
+polled_in phase.AbortRequested c = Ends None
+polled_in p c = polled_course c
+
+unfoldable pub poll_of : ℕ → Core → Poll
+poll_of i s = polled_in (phase_of i s) (course_of i s)
+
+-- one poll fewer is left
+unfoldable pub pended : ℕ → HostDef → Core → Core
+pended i host s = set_course i (course.Goes host) s
+
+abbrev pub course_for : Option ℕ → Course
+course_for None = course.NoValue
+course_for (Some v) = course.Value v
+
+-- an async host call becomes a high entry, who is blocked on a sync one goes to high, and a spawn is done
+abbrev pub followed : WorkCaller → ℕ → Core → Core
+followed work_caller.Spawn i s = set_stage i stage.Ended s
+followed (work_caller.Async n q) i s = push_high (entry.Host i) (set_stage i stage.Finishing s)
+followed (work_caller.Sync n) i s = unblocked (blocked_on (subtask.Host i) s) (set_stage i stage.Ended s)
+
+-- the work ends with this value, or without one
+unfoldable pub work_ended : ℕ → Option ℕ → Core → Core
+work_ended i v s = followed (work_caller_of i s) i (set_phase i phase.Complete (set_course i (course_for v) s))
+
+-- some live work is polled to no end: it isn't never, or it is aborted
+abbrev pub is_moving : Work → Bool
+is_moving w = is_live w && (not (is_never w.course) || is_aborted w.phase)
+
+unfoldable pub has_moving_work : Core → Bool
+has_moving_work s = list_any (λ e. is_moving e.1) s.works.list
+
+unfoldable pub has_live_work : Core → Bool
+has_live_work s = list_any (λ e. is_live e.1) s.works.list

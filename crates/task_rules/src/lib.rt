@@ -1,0 +1,2 @@
+//! The rules of the component machine: what each step does, and what runs are.
+#![tactic(auto)]
