@@ -1,15 +1,13 @@
 -- The chain of freed slots, and what an insert and a removal make of it.
-use Rattle.std.proofs.Common.{◌≡◌, ◌≢◌, ℕ, zero, suc, ◌+◌, ◌-◌, ◌<◌, ◌≤◌, List, [], ◌∷◌, ◌++◌, length, set, refl, sym, ap, subst, ◌∙◌, arith, Bool, true, false, cond, length-append, length-set, add-one, sub-one}
-use Rattle.std.specs.Prelude.{Option, Some, None, drop, is_some}
+use Rattle.std.proofs.Common.{◌≡◌, ◌≢◌, ℕ, zero, suc, ◌+◌, ◌-◌, ◌<◌, ◌≤◌, List, [], ◌∷◌, ◌++◌, length, set, refl, sym, ap, subst, ◌∙◌, arith, length-append, length-set, add-one, sub-one}
+use Rattle.std.specs.Prelude.{Option, Some, None}
 use Rattle.std.specs.Option.{option_and_then}
-use Rattle.std.specs.Ordering.{nat_cmp}
-use Rattle.std.specs.Cmp.{nat_cmp_total}
 use Rattle.std.specs.FinMap as map
-use Rattle.task_handles.specs.Handles.{Handles, no_handles, next_handle, live_count, held_by, with_held, without}
+use Rattle.task_handles.specs.Handles.{next_handle, live_count, IsWhole, held_by, with_held, without}
 use Rattle.task_handles.specs.declared.TheConstants.{MAX_HANDLES}
 use Rattle.task_handles.specs.declared.slots.Slot.{Slot}
 use Rattle.task_handles.specs.declared.slots.Slot.TheVariants.{Live, Freed}
-use Rattle.task_handles.specs.Slots.{value_of, link_of, link, slot_at, value_at, entries_from, live_in, freed_from, IsChain, IsSound, shown}
+use Rattle.task_handles.specs.Slots.{value_of, link_of, link, slot_at, live_in, freed_from, IsChain, IsSound, shown}
 use Rattle.task_handles.proofs.HandleLaws.{live_count-with_held, live_count-without, live_count_positive}
 use Rattle.std.proofs.lemmas.Option.{slice_get_past}
 use Rattle.task_handles.proofs.SlotLemmas.{slot_at-set_same, slot_at-set_other, slot_at-push_same, slot_at-push_other, slot_at_within, get-live_in, live_in-insert, live_in-remove}
@@ -34,6 +32,13 @@ module _ {X : Type 0} where
         (same ∙ chain.0 ∙ ap (λ l. Some (Freed l)) after, subst P after rest.0),
         ap (λ l. next ∷ freed_from slots' count l) (sym after) ∙ ap (λ l. next ∷ l) rest.1,
       )
+
+  length-freed_from : (slots : List (Slot X)) (count l : ℕ) → length (freed_from slots count l) ≡ count
+  length-freed_from slots zero l = refl
+  length-freed_from slots (suc count) l = ap suc (length-freed_from slots count (link slots l))
+
+  pub shown_whole : (slots : List (Slot X)) (f l : ℕ) → IsSound slots f l → IsWhole (shown slots f l)
+  shown_whole slots f l sound = omega (arith, sound.counted, length-freed_from slots f l)
 
   -- the next handle isn't live
   pub next_free : (slots : List (Slot X)) (f l : ℕ) → IsSound slots f l → held_by (shown slots f l) (next_handle (shown slots f l)) ≡ None

@@ -1,12 +1,12 @@
 -- A table and its counter change together.
-use Rattle.std.proofs.Common.{◌≡◌, ℕ, ◌+◌, ◌-◌, ◌<◌, ◌≤◌, List, ◌∷◌, sum, refl, sym, ap, ◌∙◌, arith}
-use Rattle.std.specs.Prelude.{Option, Some, None, IsSome}
+use Rattle.std.proofs.Common.{◌≡◌, ℕ, ◌+◌, ◌-◌, ◌<◌, ◌≤◌, List, ◌∷◌, sum, sym, ap, ◌∙◌, arith}
+use Rattle.std.specs.Prelude.{None, IsSome}
 use Rattle.std.specs.Ordering.{nat_cmp}
 use Rattle.std.specs.FinMap as map
 use Rattle.std.proofs.lemmas.List.Sums.{sum_by-cons}
-use Rattle.task_handles.specs.Counter.{Counter, raised, lowered, IsSumOf}
+use Rattle.task_handles.specs.Counter.{Counter, raised, lowered}
 use Rattle.task_handles.specs.Counted.{Counts, CountsHandle, KeepsSum, Inserts, Removes}
-use Rattle.task_handles.specs.Handles.{Handles, no_handles, held_by, live_count, next_handle, with_held, without}
+use Rattle.task_handles.specs.Handles.{Handles, no_handles, held_by, live_count, IsWhole, next_handle, with_held, without}
 use Rattle.task_handles.specs.declared.TheConstants.{MAX_HANDLES}
 use Rattle.task_handles.proofs.HandleLaws.{live_count-with_held, live_count-without, live_count_positive}
 use Rattle.task_handles.proofs.StepLemmas.{value_in}
@@ -21,12 +21,13 @@ module _ {X : Type 0} where
   lowers_sum : (old new : Handles X) (before after : Counter) → live_count new ≡ live_count old - 1 → 0 < live_count old → after ≡ lowered before → KeepsSum old new before after
   lowers_sum old new before after fewer some e others was = rw e (omega (arith, was, fewer, some, added (live_count old) others, added (live_count new) others))
 
-  pub inserts : (x : X) (old new : Handles X) (before after : Counter) (handle : ℕ) → handle ≡ next_handle old → held_by old handle ≡ None → 0 < handle → handle ≤ MAX_HANDLES → new ≡ with_held x old → after ≡ raised before → Counts before old
+  pub inserts : (x : X) (old new : Handles X) (before after : Counter) (handle : ℕ) → handle ≡ next_handle old → IsWhole old → held_by old handle ≡ None → 0 < handle → handle ≤ MAX_HANDLES → new ≡ with_held x old → after ≡ raised before → Counts before old
       → Inserts x old new before after handle
-  inserts x old new before after handle next free positive small table counter counts =
+  inserts x old new before after handle next whole free positive small table counter counts =
       let more : live_count new ≡ live_count old + 1 = ap live_count table ∙ live_count-with_held x old (ap (held_by old) (sym next) ∙ free) in
       record {
         handle_is = next;
+        whole = whole;
         free = free;
         positive = positive;
         small = small;

@@ -1,7 +1,7 @@
 -- The three steps of a table in the words of the code: an append, a freed slot that is filled, and a live slot that is freed.
-use Rattle.std.proofs.Common.{◌≡◌, ◌≢◌, ℕ, zero, suc, ◌+◌, ◌-◌, ◌<◌, ◌≤◌, List, [], ◌∷◌, ◌++◌, length, set, refl, sym, ap, ◌∙◌, arith, length-append}
+use Rattle.std.proofs.Common.{subst, ◌≡◌, ◌≢◌, ℕ, zero, suc, ◌+◌, ◌-◌, ◌<◌, ◌≤◌, List, [], ◌∷◌, ◌++◌, length, set, refl, sym, ap, ◌∙◌, arith}
 use Rattle.std.specs.Prelude.{Option, Some, None, IsSome}
-use Rattle.task_handles.specs.Handles.{Handles, no_handles, next_handle, live_count, held_by, with_held, without}
+use Rattle.task_handles.specs.Handles.{Handles, no_handles, live_count, IsWhole, held_by, with_held, without}
 use Rattle.task_handles.specs.declared.TheConstants.{MAX_HANDLES}
 use Rattle.task_handles.specs.declared.slots.Slot.{Slot}
 use Rattle.task_handles.specs.declared.slots.Slot.TheVariants.{Live, Freed}
@@ -11,7 +11,7 @@ use Rattle.std.specs.Option.{option_and_then}
 use Rattle.task_handles.proofs.HandleLaws.{live_count_positive}
 use Rattle.task_handles.specs.Slots.{value_of, live_in, link, slot_at, value_at, IsSound, shown}
 use Rattle.task_handles.proofs.SlotLemmas.{slot_at_within, get-live_in}
-use Rattle.task_handles.proofs.ChainLemmas.{next_free, shown-push, sound-push, shown-take, sound-take, shown-free, sound-free, held_slot}
+use Rattle.task_handles.proofs.ChainLemmas.{shown_whole, next_free, shown-push, sound-push, shown-take, sound-take, shown-free, sound-free, held_slot}
 
 pub value_in : {X : Type 0} (o : Option X) → IsSome o → (x : X) × (o ≡ Some x)
 value_in None h = absurd (cc)
@@ -31,6 +31,9 @@ module _ {X : Type 0} where
       rw none (record { chained = refl; counted = omega (arith, rw none at count); small = omega arith })
 
   module _ (slots : List (Slot X)) (f l : ℕ) (t : Handles X) (is : shown slots f l ≡ t) (sound : IsSound slots f l) where
+    pub whole : IsWhole t
+    whole = let P : Handles X → Type 0 = IsWhole in subst P is (shown_whole slots f l sound)
+
     chain_of : (f : ℕ) → f ≢ 0 → IsSound slots f l → slot_at slots l ≡ Some (Freed (link slots l))
     chain_of zero some sound = absurd (some refl)
     chain_of (suc n) some sound = sound.chained.0

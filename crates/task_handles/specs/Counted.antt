@@ -1,7 +1,7 @@
 -- How a table and the counter of its handles change together.
 use Rattle.std.specs.Prelude.{◌≡◌, ℕ, ◌<◌, ◌≤◌, List, ◌∷◌, None, IsSome}
 use Rattle.task_handles.specs.Counter.{Counter, raised, lowered, IsSumOf}
-use Rattle.task_handles.specs.Handles.{Handles, held_by, live_count, next_handle, with_held, without}
+use Rattle.task_handles.specs.Handles.{Handles, held_by, live_count, IsWhole, next_handle, with_held, without}
 use Rattle.task_handles.specs.declared.TheConstants.{MAX_HANDLES}
 
 module _ {X : Type 0} where
@@ -21,6 +21,7 @@ module _ {X : Type 0} where
   -- an insert of x gave a handle that wasn't live, and the counter counts it
   pub record Inserts (x : X) (old new : Handles X) (before after : Counter) (handle : ℕ) : Type 0 where
     pub handle_is : handle ≡ next_handle old
+    pub whole : IsWhole old
     pub free : held_by old handle ≡ None
     pub positive : 0 < handle
     pub small : handle ≤ MAX_HANDLES

@@ -1,5 +1,5 @@
 -- What a contract sees of a table of handles, and how it changes.
-use Rattle.std.specs.Prelude.{◌≡◌, ℕ, ◌+◌, ◌<◌, ◌≤◌, List, [], ◌∷◌, drop, sum, Option, Some, None, IsSome, refl}
+use Rattle.std.specs.Prelude.{ℕ, ◌+◌, List, [], ◌∷◌, drop, Option, refl, length, ◌≡◌}
 use Rattle.std.specs.Coded.{Coded, code_by, coded×, coded_ℕ, coded_list}
 use Rattle.std.specs.Ordering.{nat_cmp}
 use Rattle.std.specs.FinMap as map
@@ -41,6 +41,10 @@ module _ {X : Type 0} where
   -- how many handles are live
   abbrev pub live_count : Handles X → ℕ
   live_count t = map.len t.live
+
+  -- each handle that was made is live or freed
+  abbrev pub IsWhole : Handles X → Type 0
+  IsWhole t = live_count t + length t.freed ≡ t.made
 
   -- the handle that the next insert gives
   abbrev pub next_handle : Handles X → ℕ

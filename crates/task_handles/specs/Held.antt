@@ -1,5 +1,5 @@
 -- What the handles of a `HandleTable` stand for.
-use Rattle.std.specs.Prelude.{◌≡◌, ℕ, Bool, true, false, Option, Some, None, Result, Ok, Err}
+use Rattle.std.specs.Prelude.{Bool, true, false, Option, Some, None, Result, Ok, Err}
 use Rattle.task_handles.specs.declared.kinds.Rep.{Rep}
 use Rattle.task_handles.specs.declared.kinds.Held.{Held}
 use Rattle.task_handles.specs.declared.kinds.HandleKind.{HandleKind}

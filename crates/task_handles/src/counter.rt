@@ -4,7 +4,9 @@ ghost use Rattle.task_handles.specs.Counter.{raised, lowered};
 use crate::MAX_HANDLES;
 use std::marker::Model;
 
-/// How many handles of one or more tables are live, and how many may be.
+/// How many handles are live over all tables that share this counter, and how many may be.
+///
+/// The live count is the sum of the live handles of those tables: each call of a table that makes or removes a handle keeps it so.
 #[derive(Drop)]
 pub struct HandleCounter {
     limit: u32,
@@ -24,7 +26,7 @@ impl Model for HandleCounter {
 }
 
 impl HandleCounter {
-    /// A counter with no live handle. The limit is at most `MAX_HANDLES`.
+    /// A counter of tables that have no live handle. The limit is at most `MAX_HANDLES`.
     pub fn new(limit: u32) -> Self
         requires { limit ≤ MAX_HANDLES }
         ensures { result ≡ record { limit = limit; live = 0 } }
@@ -48,7 +50,7 @@ impl HandleCounter {
         self.live
     }
 
-    /// Sets the limit, which is at most `MAX_HANDLES`. A lowered limit blocks new handles only: those that are live stay so, also where they are more.
+    /// Sets the limit, which is at most `MAX_HANDLES`. A lowered limit blocks new handles only: those that are live stay so, also where they are more than it allows.
     pub fn set_limit(&mut self, limit: u32)
         requires { limit ≤ MAX_HANDLES }
         ensures { self.new ≡ record self.old { limit = limit } }

@@ -9,9 +9,11 @@ use crate::slots::Slots;
 use std::alloc::Global;
 use std::marker::Model;
 
-/// The handles that an instance's guest has for subtasks and waitable sets.
+/// The handles by which the guest of one instance names subtasks and waitable sets.
 ///
-/// Each call that makes or removes a handle is given the counter that counts the live handles of this table.
+/// Handles run from 1 to `MAX_HANDLES`. A handle that was removed is given again, the one freed last first; only where none is free is a new one made. Each call takes constant time, but for the growth of the list.
+///
+/// The table doesn't know its counter: each call that makes or removes a handle is given the one that counts the table's live handles, as the handle tables of a store's instances share one limit.
 #[derive(Drop)]
 pub struct HandleTable {
     slots: Slots<Held>,
@@ -40,7 +42,9 @@ impl HandleTable {
         }
     }
 
-    /// A handle for a guest subtask.
+    /// Gives a handle to a guest subtask, which `rep` names in the table of entries, and counts it.
+    ///
+    /// `Limit` exactly where as many handles are live as the counter's limit, or more; this is tested before memory is asked for. `NoMemory` where the list can't grow. After an error table and counter are as before.
     pub fn subtask_insert_guest(
         &mut self,
         counter: &mut HandleCounter,
@@ -56,7 +60,9 @@ impl HandleTable {
         self.slots.insert_counted(counter, Held { kind, rep })
     }
 
-    /// A handle for a host subtask.
+    /// Gives a handle to a host subtask, which `rep` names in the table of entries, and counts it.
+    ///
+    /// `Limit` exactly where as many handles are live as the counter's limit, or more; this is tested before memory is asked for. `NoMemory` where the list can't grow. After an error table and counter are as before.
     pub fn subtask_insert_host(
         &mut self,
         counter: &mut HandleCounter,
@@ -72,7 +78,9 @@ impl HandleTable {
         self.slots.insert_counted(counter, Held { kind, rep })
     }
 
-    /// A handle for a waitable set.
+    /// Gives a handle to a waitable set, which `rep` names in the table of entries, and counts it.
+    ///
+    /// `Limit` exactly where as many handles are live as the counter's limit, or more; this is tested before memory is asked for. `NoMemory` where the list can't grow. After an error table and counter are as before.
     pub fn waitable_set_insert(
         &mut self,
         counter: &mut HandleCounter,
@@ -88,7 +96,9 @@ impl HandleTable {
         self.slots.insert_counted(counter, Held { kind, rep })
     }
 
-    /// The subtask of a handle, and whether it is a host's.
+    /// The subtask that a handle names, and whether it is a host's.
+    ///
+    /// `BadHandle` exactly where no live handle of a subtask has this number: it was never given, was removed, or is that of a set.
     pub fn subtask_rep(&self, handle: u32) -> Result<(Rep, bool), HandleError>
         ensures { result ≡ subtask_of (held_by self.now handle) }
     {
@@ -109,7 +119,9 @@ impl HandleTable {
         }
     }
 
-    /// The waitable set of a handle.
+    /// The waitable set that a handle names.
+    ///
+    /// `BadHandle` exactly where no live handle of a set has this number.
     pub fn waitable_set_rep(&self, handle: u32) -> Result<Rep, HandleError>
         ensures { result ≡ set_of (held_by self.now handle) }
     {
@@ -124,7 +136,9 @@ impl HandleTable {
         }
     }
 
-    /// The waitable of a handle, and its kind.
+    /// The waitable that a handle names, and its kind. A set is none.
+    ///
+    /// `BadHandle` exactly where no live handle of a waitable has this number.
     pub fn waitable_rep(&self, handle: u32) -> Result<(Rep, WaitableKind), HandleError>
         ensures { result ≡ waitable_of (held_by self.now handle) }
     {
@@ -139,7 +153,9 @@ impl HandleTable {
         }
     }
 
-    /// Removes the handle of a subtask, and says which it was, and whether a host's.
+    /// Takes back the handle of a subtask, so that the number may be given again, and no longer counts it. Answers which subtask it named, and whether a host's.
+    ///
+    /// `BadHandle` exactly where no live handle of a subtask has this number; then table and counter are as before.
     pub fn subtask_remove(
         &mut self,
         counter: &mut HandleCounter,
@@ -155,7 +171,9 @@ impl HandleTable {
         Ok(subtask)
     }
 
-    /// Removes the handle of a waitable set, and says which it was.
+    /// Takes back the handle of a waitable set, so that the number may be given again, and no longer counts it. Answers which set it named.
+    ///
+    /// `BadHandle` exactly where no live handle of a set has this number; then table and counter are as before.
     pub fn waitable_set_remove(
         &mut self,
         counter: &mut HandleCounter,
@@ -171,7 +189,7 @@ impl HandleTable {
         Ok(rep)
     }
 
-    /// Whether no handle is live.
+    /// Whether no handle is live, of those that this table gave.
     pub fn is_empty(&self) -> bool
         ensures { IsTrue result ↔ (live_count self.now ≡ 0) }
     {

@@ -1,5 +1,5 @@
 ghost use Rattle.std.specs.Prelude.{◌≡◌, ◌≤◌, ◌<◌, ◌↔◌, ◌-◌, ◌^◌, IsTrue, slice_set, IsSome, Err, ◌≢◌, IfOk, OnErr, OnOk, None};
-ghost use Rattle.task_handles.specs.Handles.{held_by, live_count, next_handle, no_handles, with_held, without};
+ghost use Rattle.task_handles.specs.Handles.{held_by, live_count, IsWhole, next_handle, no_handles, with_held, without};
 ghost use Rattle.task_handles.specs.Counted.{Counts, Inserts, Removes, Unchanged};
 ghost use Rattle.task_handles.specs.Slots.{value_at as value_at_handle, slot_at, link};
 
@@ -9,7 +9,7 @@ use crate::kinds::HandleError;
 use std::alloc::{AllocError, Global};
 use std::marker::Model;
 
-/// What a table of handles stands on: handle n is the slot before place n, and each freed slot names the handle freed before it.
+/// A table of handles to values of one type. The slot of handle n stands at place n - 1, and each freed slot names the handle that was freed before it, so no call needs more memory than the list.
 #[derive(Drop)]
 pub struct Slots<T> {
     slots: Vec<Slot<T>>,
@@ -66,6 +66,7 @@ impl<T: Copy> Slots<T> {
     pub fn insert(&mut self, value: T) -> Result<u32, AllocError>
         requires { live_count self.old < MAX_HANDLES }
         ensures handle { IfOk result (λ handle. handle ≡ next_handle self.old) }
+        ensures whole { IsWhole self.old }
         ensures free { IfOk result (λ handle. held_by self.old handle ≡ None) }
         ensures positive { IfOk result (λ handle. 0 < handle) }
         ensures small { IfOk result (λ handle. handle ≤ MAX_HANDLES) }

@@ -9,9 +9,9 @@ use crate::slots::Slots;
 use std::alloc::Global;
 use std::marker::Model;
 
-/// The handles that an instance's guest has for threads, in numbers of their own.
+/// The handles by which the guest of one instance names threads, in numbers of their own.
 ///
-/// Each call that makes or removes a handle is given the counter that counts the live handles of this table.
+/// The rules are those of `HandleTable`: handles run from 1 to `MAX_HANDLES`, the one freed last is given first, and a shared counter counts those that are live.
 #[derive(Drop)]
 pub struct ThreadHandleTable {
     slots: Slots<Rep>,
@@ -40,7 +40,9 @@ impl ThreadHandleTable {
         }
     }
 
-    /// A handle for a thread.
+    /// Gives a handle to a thread, which `rep` names in the table of entries, and counts it.
+    ///
+    /// `Limit` exactly where as many handles are live as the counter's limit, or more; this is tested before memory is asked for. `NoMemory` where the list can't grow. After an error table and counter are as before.
     pub fn guest_thread_insert(
         &mut self,
         counter: &mut HandleCounter,
@@ -55,14 +57,18 @@ impl ThreadHandleTable {
         self.slots.insert_counted(counter, rep)
     }
 
-    /// The thread of a handle.
+    /// The thread that a handle names.
+    ///
+    /// `BadHandle` exactly where no live handle has this number.
     pub fn guest_thread_rep(&self, handle: u32) -> Result<Rep, HandleError>
         ensures { result ≡ thread_of (held_by self.now handle) }
     {
         self.slots.get(handle).ok_or(HandleError::BadHandle)
     }
 
-    /// Removes the handle of a thread, and says which it was.
+    /// Takes back the handle of a thread, so that the number may be given again, and no longer counts it. Answers which thread it named.
+    ///
+    /// `BadHandle` exactly where no live handle has this number; then table and counter are as before.
     pub fn guest_thread_remove(
         &mut self,
         counter: &mut HandleCounter,

@@ -1,5 +1,5 @@
 use Rattle.std.proofs.Common.{rules}
-use Rattle.task_handles.proofs.StepLemmas.{append_sound, append_shown, append_free, fill_sound, fill_shown, fill_free, fill_small}
+use Rattle.task_handles.proofs.StepLemmas.{append_sound, append_shown, append_free, fill_sound, fill_shown, fill_free, fill_small, whole}
 use Rattle.task_handles.proofs.slots.Slots.insert.Goals as goal
 
 pub invariant_of-self-then-self-eq0 : goal.invariant_of-self-then-self-eq0
@@ -22,3 +22,6 @@ returns-clause-small g c = fill_small _ _ _ _ c.self.view_is c.self.invariant c.
 
 pub returns-clause-ok : goal.returns-clause-ok
 returns-clause-ok g c = rw c.fill-self-inside.ensures.link (fill_shown _ _ _ _ c.args.value _ c.self.view_is c.self.invariant c.if-self-eq0.false c.fill-self-inside.ensures.filled)
+
+pub returns-clause-whole : goal.returns-clause-whole
+returns-clause-whole g c = whole _ _ _ _ c.self.view_is c.self.invariant

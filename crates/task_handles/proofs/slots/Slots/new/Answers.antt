@@ -1,4 +1,3 @@
-use Rattle.std.proofs.Common.{refl}
 use Rattle.task_handles.proofs.StepLemmas.{empty_sound, empty_shown}
 use Rattle.task_handles.proofs.slots.Slots.new.Goals as goal
 

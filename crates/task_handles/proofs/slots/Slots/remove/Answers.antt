@@ -1,4 +1,4 @@
-use Rattle.std.proofs.Common.{arith, refl}
+use Rattle.std.proofs.Common.{arith}
 use Rattle.task_handles.proofs.StepLemmas.{free_place, free_sound, free_shown}
 use Rattle.task_handles.proofs.slots.Slots.remove.Goals as goal
 
