@@ -1,0 +1,14 @@
+//! Join handles: the phase of a spawned work, which any thread may ask for and abort.
+//!
+//! The phase is one atomic word. What each caller has seen and done is kept by a pass, which has no bytes, and the
+//! rule over the word and all passes (`specs/Rule.antt`) gives every call one place in one legal log.
+#![tactic(auto)]
+
+mod cell;
+mod handle;
+mod log;
+mod rule;
+mod work;
+
+pub use cell::{Abortable, JoinHandle, JoinPass, NoMemory};
+pub use log::{CallMade, Caller, LogEntry, Phase, PhaseCall, View};
