@@ -8,6 +8,7 @@ mod cell;
 mod handle;
 mod log;
 mod rule;
+mod wake;
 mod work;
 
 pub use cell::{Abortable, JoinHandle, JoinPass, NoMemory};
