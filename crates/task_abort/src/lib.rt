@@ -8,6 +8,8 @@ mod cell;
 mod handle;
 mod log;
 mod rule;
+#[cfg(test)]
+mod tests;
 mod wake;
 mod work;
 
