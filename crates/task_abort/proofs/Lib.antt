@@ -4,3 +4,6 @@ pub mod CallLemmas
 pub mod SplitLemmas
 pub mod MeetLemmas
 pub mod FirstLemmas
+pub mod TallyLemmas
+pub mod StageLemmas
+pub mod StagedLemmas
