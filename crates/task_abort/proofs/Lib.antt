@@ -7,3 +7,4 @@ pub mod FirstLemmas
 pub mod TallyLemmas
 pub mod StageLemmas
 pub mod StagedLemmas
+pub mod KnownLemmas

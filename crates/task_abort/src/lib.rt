@@ -6,6 +6,7 @@
 
 mod cell;
 mod handle;
+mod laws;
 mod log;
 mod rule;
 #[cfg(test)]
@@ -14,4 +15,5 @@ mod wake;
 mod work;
 
 pub use cell::{Abortable, JoinHandle, JoinPass, NoMemory};
+pub use laws::{known_callers, staged_log_is_legal};
 pub use log::{CallMade, Caller, LogEntry, Phase, PhaseCall, View};
