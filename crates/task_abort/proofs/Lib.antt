@@ -8,3 +8,4 @@ pub mod TallyLemmas
 pub mod StageLemmas
 pub mod StagedLemmas
 pub mod KnownLemmas
+pub mod OrderLemmas

@@ -19,11 +19,11 @@ use Rattle.task_abort.proofs.CallerLemmas.{at_nothing, named-has, has_own}
 use Rattle.task_abort.proofs.TallyLemmas.{Test, at_stage, bit, tally, tally-append, tally_bounded, tally_caused, tally-callers, sum_by-same}
 use Rattle.task_abort.proofs.StageLemmas.{first_abort, first_finish, stages_legal}
 
-either_true : (a b : Bool) → (a || b) ≡ true → (a ≡ true) ⊎ (b ≡ true)
+pub either_true : (a b : Bool) → (a || b) ≡ true → (a ≡ true) ⊎ (b ≡ true)
 either_true true b h = inl refl
 either_true false b h = inr h
 
-both_true_parts : (a b : Bool) → (a && b) ≡ true → (a ≡ true) × (b ≡ true)
+pub both_true_parts : (a b : Bool) → (a && b) ≡ true → (a ≡ true) × (b ≡ true)
 both_true_parts true b h = (refl, h)
 both_true_parts false b h = absurd (grind (arith, h))
 
@@ -76,7 +76,7 @@ tally-all_aborts t (d ∷ ds) (a ∷ rest) h =
     let l = tally-all_aborts t ds rest h.1 in omega (arith, tally-append t (aborts_of a) (all_aborts rest), sum_by-cons (λ (c : Caller). tally t c.calls) d ds)
 
 -- each answer is no earlier phase than what the call before left
-abbrev Rises : ℕ → Log → Type 0
+abbrev pub Rises : ℕ → Log → Type 0
 Rises b [] = Unit {0}
 Rises b (x ∷ xs) = (b ≤ code x.answer) × Rises (code (after x.call x.answer)) xs
 
@@ -88,7 +88,7 @@ rises_if : (p : Phase) (e : LogEntry Name) (xs : Log) (b : Bool) → e.answer �
 rises_if p e xs true is h = (subst (λ (z : Phase). code p ≤ code z) (sym is) (le_refl _), subst (λ (z : Phase). Rises (code (after e.call z)) xs) (sym is) h)
 rises_if p e xs false is h = rises_less (code p) (code (after e.call p)) xs (after_rises e.call p) h
 
-rises_calls : (n : Name) (p : Phase) (log : Log) → is_legal_from p log ≡ true → Rises (code p) (calls_by n log)
+pub rises_calls : (n : Name) (p : Phase) (log : Log) → is_legal_from p log ≡ true → Rises (code p) (calls_by n log)
 rises_calls n p [] h = tt
 rises_calls n p (e ∷ es) h = let l = legal_parts p e es h in rises_if p e (calls_by n es) (same_name e.caller n) l.0 (rises_calls n (after e.call p) es l.1)
 
@@ -98,7 +98,7 @@ rises_at b (y ∷ ys) zero x h at = subst (λ (z : LogEntry Name). b ≤ code z.
 rises_at b (y ∷ ys) (suc k) x h at = le_trans h.0 (le_trans (after_rises y.call y.answer) (rises_at (code (after y.call y.answer)) ys k x h.1 at))
 
 -- the calls after the first n found a later phase than Running
-abbrev Late : ℕ → Log → Type 0
+abbrev pub Late : ℕ → Log → Type 0
 Late n xs = (k : ℕ) (x : LogEntry Name) → n ≤ k → get_elem? xs k ≡ some x → 1 ≤ code x.answer
 
 -- what is known of a call by what it found, where `b` says that an abort is known to have come before it, or that it is late
@@ -333,7 +333,7 @@ module _ (w : View) (knows : Knows w) (known : AllKnown w) (own : List CallMade)
       let e = tally-entered t d n (any_abort aborters) false w.own.calls in
       omega (arith, tally-append t (all_aborts aborters) (entered n (any_abort aborters) false own), tally-run t, tally-lists t)
 
-  late : any_abort aborters ≡ true → Late n w.own.calls
+  pub late : any_abort aborters ≡ true → Late n w.own.calls
   late any k x le at =
       let who = who_aborted w.met aborters lists.aborts any in let rest = round.begins.0 in
       let asked : 0 < tally is_abort (calls_by who.1.name round.early) = subst (λ (z : Log). 0 < tally is_abort z) (sym (round.others who.0 who.1 who.2)) who.3 in

@@ -1,5 +1,5 @@
 -- A log put together from what each caller can list, by stages.
-use Rattle.std.specs.Prelude.{◌≡◌, ℕ, ◌+◌, ◌-◌, ◌≤◌, Bool, true, false, if◌then◌else◌, List, [], ◌∷◌, ◌++◌, ◌==◌, ◌&&◌, ◌||◌, filter, map, length, Option, Some, None}
+use Rattle.std.specs.Prelude.{◌≡◌, ℕ, ◌+◌, ◌-◌, ◌≤◌, ◌<◌, Bool, true, false, if◌then◌else◌, List, [], ◌∷◌, ◌++◌, ◌==◌, ◌&&◌, ◌||◌, filter, map, length, Option, Some, None}
 use mathlib.Core.Option.{some}
 use lib.ListN.{get_elem?}
 use Rattle.task_abort.specs.declared.log.Phase.{Phase}
@@ -86,6 +86,15 @@ all_entries own aborters n = all_aborts aborters ++ entered n (any_abort aborter
 -- In each stage the aborters' entries stand first, in the order of the list, then those of caller 0
 abbrev pub staged : List CallMade → List Aborter → ℕ → List (LogEntry ℕ)
 staged own aborters n = by_stages (all_entries own aborters n)
+
+-- the entries of one caller
+abbrev pub by_number : ℕ → List (LogEntry ℕ) → List (LogEntry ℕ)
+by_number k es = filter (λ e. e.caller == k) es
+
+-- the aborters stand in the order of their numbers, each of which is above k
+abbrev pub Numbered : ℕ → List Aborter → Type 0
+Numbered k [] = Unit {0}
+Numbered k (a ∷ rest) = (k < a.0) × Numbered a.0 rest
 
 -- each of these callers made aborts alone, and these are what they found
 abbrev pub OnlyAborted : List Caller → List Aborter → Type 0
