@@ -9,3 +9,5 @@ pub mod StageLemmas
 pub mod StagedLemmas
 pub mod KnownLemmas
 pub mod OrderLemmas
+pub mod RoundLemmas
+pub mod UseLemmas

@@ -35,11 +35,11 @@ module _ {C : Type 0} where
   Sorted s [] = Unit {0}
   Sorted s (x ∷ xs) = (s ≤ stage x.answer x.call) × Sorted (stage x.answer x.call) xs
 
-  sorted_less : (s t : ℕ) (xs : List (LogEntry C)) → s ≤ t → Sorted t xs → Sorted s xs
+  pub sorted_less : (s t : ℕ) (xs : List (LogEntry C)) → s ≤ t → Sorted t xs → Sorted s xs
   sorted_less s t [] l h = tt
   sorted_less s t (x ∷ xs) l h = (le_trans l h.0, h.1)
 
-  none_below : (u t : ℕ) (xs : List (LogEntry C)) → u < t → Sorted t xs → in_stage u xs ≡ []
+  pub none_below : (u t : ℕ) (xs : List (LogEntry C)) → u < t → Sorted t xs → in_stage u xs ≡ []
   none_below u t [] l h = refl
   none_below u t (x ∷ xs) l h = let low = h.0 in
       ap (λ (b : Bool). cond b (x ∷ in_stage u xs) (in_stage u xs)) (ne_eqb (stage x.answer x.call) u (λ e. omega arith)) ∙ none_below u (stage x.answer x.call) xs (omega arith) h.1
@@ -142,7 +142,7 @@ aborts_other k j (p ∷ ps) ne = let rest = by_number k (map (λ p. entry j Abor
 by_number-append : (k : ℕ) (xs ys : List (LogEntry ℕ)) → by_number k (xs ++ ys) ≡ by_number k xs ++ by_number k ys
 by_number-append k xs ys = filter-append (λ (e : LogEntry ℕ). e.caller == k) xs ys
 
-joined_nil : {A : Type 0} (xs ys : List A) → xs ≡ [] → ys ≡ [] → xs ++ ys ≡ []
+pub joined_nil : {A : Type 0} (xs ys : List A) → xs ≡ [] → ys ≡ [] → xs ++ ys ≡ []
 joined_nil xs ys e f = ap (λ z. z ++ ys) e ∙ f
 
 none_numbered : (j k : ℕ) (rest : List Aborter) → Numbered k rest → j ≤ k → by_number j (all_aborts rest) ≡ []
@@ -168,7 +168,7 @@ either_left : (a b : Bool) → a ≡ true → (a || b) ≡ true
 either_left true b h = refl
 either_left false b h = absurd (grind (arith, h))
 
-either_right : (a b : Bool) → b ≡ true → (a || b) ≡ true
+pub either_right : (a b : Bool) → b ≡ true → (a || b) ≡ true
 either_right true b h = refl
 either_right false b h = h
 
@@ -273,7 +273,7 @@ module _ (w : View) (knows : Knows w) (known : AllKnown w) (own : List CallMade)
   rises_of : (c : Caller) → Has w c → Rises 0 c.calls
   rises_of c h = subst (Rises 0) (knows.whole c h) (rises_calls c.name Running w.seen knows.legal)
 
-  run_sorted : Sorted 1 (entered n (any_abort aborters) false own)
+  pub run_sorted : Sorted 1 (entered n (any_abort aborters) false own)
   run_sorted = subst (λ (z : List CallMade). Sorted 1 (entered n (any_abort aborters) false z)) (sym lists.own_calls)
       (entered_sorted w.own.calls n (any_abort aborters) false 0 1 (rises_of w.own (has_own w)) (late w knows known own aborters n lists round) (λ never. absurd (grind (arith, never))) (inl (omega arith)))
 

@@ -333,16 +333,25 @@ module _ (w : View) (knows : Knows w) (known : AllKnown w) (own : List CallMade)
       let e = tally-entered t d n (any_abort aborters) false w.own.calls in
       omega (arith, tally-append t (all_aborts aborters) (entered n (any_abort aborters) false own), tally-run t, tally-lists t)
 
-  pub late : any_abort aborters ≡ true → Late n w.own.calls
-  late any k x le at =
-      let who = who_aborted w.met aborters lists.aborts any in let rest = round.begins.0 in
+  -- once an aborter has an entry the phase was not Running before the last round
+  pub past : any_abort aborters ≡ true → 1 ≤ code (phase round.early)
+  past any =
+      let who = who_aborted w.met aborters lists.aborts any in
       let asked : 0 < tally is_abort (calls_by who.1.name round.early) = subst (λ (z : Log). 0 < tally is_abort z) (sym (round.others who.0 who.1 who.2)) who.3 in
-      let past : 1 ≤ code (phase round.early) = aborted Running round.early (omega (arith, tally-calls_by is_abort who.1.name round.early)) in
+      aborted Running round.early (omega (arith, tally-calls_by is_abort who.1.name round.early))
+
+  -- and a call after that found no earlier one
+  pub later : (k : ℕ) (x : LogEntry Name) → n ≤ k → get_elem? w.own.calls k ≡ some x → code (phase round.early) ≤ code x.answer
+  later k x le at =
+      let rest = round.begins.0 in
       let calls : w.own.calls ≡ calls_by w.own.name round.early ++ calls_by w.own.name rest = sym (knows.whole w.own (has_own w)) ∙ ap (calls_by w.own.name) round.begins.1 ∙ calls_by-append w.own.name round.early rest in
       let legal = (legal_cut Running round.early rest (subst IsLegal round.begins.1 knows.legal)).1 in
       let count = round.count in
       let there = at_past (calls_by w.own.name round.early) (calls_by w.own.name rest) k x (omega arith) (subst (λ (z : Log). get_elem? z k ≡ some x) calls at) in
-      le_trans past (rises_at (code (phase round.early)) (calls_by w.own.name rest) there.0 x (rises_calls w.own.name (phase round.early) rest legal) there.1)
+      rises_at (code (phase round.early)) (calls_by w.own.name rest) there.0 x (rises_calls w.own.name (phase round.early) rest legal) there.1
+
+  pub late : any_abort aborters ≡ true → Late n w.own.calls
+  late any k x le at = le_trans (past any) (later k x le at)
 
   caused : (t : Test) → ((p : Phase) (c : PhaseCall) → bit (t p c) ≤ had_request p) → 0 < tally t w.seen → W
   caused t now any = let k = tally_caused t first_abort had_request now request_step Running w.seen knows.legal any in omega arith

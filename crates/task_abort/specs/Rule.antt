@@ -102,9 +102,13 @@ pub record Meets (v o w : View) : Type 0 where
   pub met : w.met ≡ v.met ++ callers o
   pub knows : Knows w
 
--- the pass is the first, and has met each pass that was split off from it, none of which was ever split
+-- the pass is the first, and has met the first j passes that were split off from it, none of which was ever split
+abbrev pub HasMet : ℕ → View → Type 0
+HasMet j v = (v.own.name ≡ []) × ((k : ℕ) → k < j → (c : Caller) × Has v c × (c.name ≡ k ∷ []) × (c.splits ≡ 0))
+
+-- and so all of them
 abbrev pub HasMetAll : View → Type 0
-HasMetAll v = (v.own.name ≡ []) × ((k : ℕ) → k < v.own.splits → (c : Caller) × Has v c × (c.name ≡ k ∷ []) × (c.splits ≡ 0))
+HasMetAll v = HasMet v.own.splits v
 
 -- each call that was seen is by one of the pass's callers
 abbrev pub AllKnown : View → Type 0

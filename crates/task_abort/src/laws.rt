@@ -1,9 +1,11 @@
 //! Laws of passes that users of join handles rest on. The functions do nothing.
-ghost use Rattle.std.specs.Prelude.{◌≡◌, ℕ, ◌∷◌, List};
+ghost use Rattle.std.specs.Prelude.{◌≡◌, ◌++◌, ℕ, false, List, take, drop};
+ghost use mathlib.Core.Option.{some};
+ghost use lib.ListN.{get_elem?};
 ghost use Rattle.task_abort.specs.Cells.{view_of};
 ghost use Rattle.task_abort.specs.PhaseLog.{IsLegal};
 ghost use Rattle.task_abort.specs.Rule.{HasMetAll, AllKnown};
-ghost use Rattle.task_abort.specs.Staged.{Aborter, Lists, LastRound, staged};
+ghost use Rattle.task_abort.specs.Staged.{Aborter, Lists, LastRound, Numbered, all_aborts, aborts_of, any_abort, by_number, by_stages, entered, staged};
 ghost use Rattle.task_abort.specs.declared.log.CallMade.{CallMade};
 
 use crate::cell::JoinPass;
@@ -22,6 +24,25 @@ pub fn known_callers(pass: &JoinPass)
 pub fn staged_log_is_legal(pass: &JoinPass)
     requires { AllKnown (view_of pass.now) }
     ensures { (own : List CallMade) (aborters : List Aborter) (n : ℕ) → Lists (view_of pass.now) own aborters → LastRound (view_of pass.now) n → IsLegal (staged own aborters n) }
+{
+    let _pass = pass;
+}
+
+/// The law that such a log has just the entries of each list, in the list's order, where the aborters stand in the order
+/// of their numbers. (What one caller's calls find never falls.)
+pub fn staged_log_keeps_lists(pass: &JoinPass)
+    requires { AllKnown (view_of pass.now) }
+    ensures run { (own : List CallMade) (aborters : List Aborter) (n : ℕ) → Lists (view_of pass.now) own aborters → LastRound (view_of pass.now) n → Numbered 0 aborters → by_number 0 (staged own aborters n) ≡ entered n (any_abort aborters) false own }
+    ensures aborters { (own : List CallMade) (aborters : List Aborter) (n i : ℕ) (a : Aborter) → Lists (view_of pass.now) own aborters → LastRound (view_of pass.now) n → Numbered 0 aborters → get_elem? aborters i ≡ some a → by_number a.0 (staged own aborters n) ≡ aborts_of a }
+{
+    let _pass = pass;
+}
+
+/// The law that such a log has the calls of caller 0 after its first n last, behind every entry of an aborter. (All
+/// aborts were made before them.)
+pub fn late_calls_stand_last(pass: &JoinPass)
+    requires { AllKnown (view_of pass.now) }
+    ensures { (own : List CallMade) (aborters : List Aborter) (n : ℕ) → Lists (view_of pass.now) own aborters → LastRound (view_of pass.now) n → staged own aborters n ≡ by_stages (all_aborts aborters ++ take n (entered n (any_abort aborters) false own)) ++ drop n (entered n (any_abort aborters) false own) }
 {
     let _pass = pass;
 }
