@@ -11,3 +11,4 @@ pub mod KnownLemmas
 pub mod OrderLemmas
 pub mod RoundLemmas
 pub mod UseLemmas
+pub mod UnfinishedLemmas

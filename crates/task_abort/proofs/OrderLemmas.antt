@@ -128,7 +128,7 @@ run_own n others requested (c ∷ cs) = ap (λ (z : List (LogEntry ℕ)). entry 
 run_other : (k n : ℕ) (others requested : Bool) (cs : List CallMade) → 0 < k → by_number k (entered n others requested cs) ≡ []
 run_other k n others requested [] l = refl
 run_other k n others requested (c ∷ cs) l =
-    let e = entry 0 c.call (entered_answer (requested || (others && (n == 0))) c.answer) in let rest = by_number k (entered (n - 1) others (requested || tells_request c.call c.answer) cs) in
+    let e : LogEntry ℕ = entry 0 c.call (entered_answer (requested || (others && (n == 0))) c.answer) in let rest : List (LogEntry ℕ) = by_number k (entered (n - 1) others (requested || tells_request c.call c.answer) cs) in
     ap (λ (b : Bool). cond b (e ∷ rest) rest) (ne_eqb 0 k (λ z. omega arith)) ∙ run_other k (n - 1) others (requested || tells_request c.call c.answer) cs l
 
 aborts_own : (k : ℕ) (ps : List Phase) → by_number k (map (λ p. entry k Abort p) ps) ≡ map (λ p. entry k Abort p) ps

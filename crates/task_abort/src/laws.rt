@@ -1,12 +1,15 @@
 //! Laws of passes that users of join handles rest on. The functions do nothing.
-ghost use Rattle.std.specs.Prelude.{◌≡◌, ◌++◌, ℕ, false, List, take, drop};
+ghost use Rattle.std.specs.Prelude.{◌≡◌, ◌≢◌, ◌++◌, ◌∷◌, ℕ, false, List, take, drop};
 ghost use mathlib.Core.Option.{some};
 ghost use lib.ListN.{get_elem?};
 ghost use Rattle.task_abort.specs.Cells.{view_of};
-ghost use Rattle.task_abort.specs.PhaseLog.{IsLegal};
+ghost use Rattle.task_abort.specs.PhaseLog.{IsLegal, Name, Log};
 ghost use Rattle.task_abort.specs.Rule.{HasMetAll, AllKnown};
-ghost use Rattle.task_abort.specs.Staged.{Aborter, Lists, LastRound, Numbered, all_aborts, aborts_of, any_abort, by_number, by_stages, entered, staged};
+ghost use Rattle.task_abort.specs.Staged.{Aborter, Lists, OnlyAborted, LastRound, Numbered, all_aborts, aborts_of, any_abort, by_number, by_stages, entered, staged};
 ghost use Rattle.task_abort.specs.declared.log.CallMade.{CallMade};
+ghost use Rattle.task_abort.specs.declared.log.LogEntry.{LogEntry};
+ghost use Rattle.task_abort.specs.declared.log.Phase.TheVariants.{Complete};
+ghost use Rattle.task_abort.specs.declared.log.PhaseCall.TheVariants.{Finish};
 
 use crate::cell::JoinPass;
 
@@ -43,6 +46,16 @@ pub fn staged_log_keeps_lists(pass: &JoinPass)
 pub fn late_calls_stand_last(pass: &JoinPass)
     requires { AllKnown (view_of pass.now) }
     ensures { (own : List CallMade) (aborters : List Aborter) (n : ℕ) → Lists (view_of pass.now) own aborters → LastRound (view_of pass.now) n → staged own aborters n ≡ by_stages (all_aborts aborters ++ take n (entered n (any_abort aborters) false own)) ++ drop n (entered n (any_abort aborters) false own) }
+{
+    let _pass = pass;
+}
+
+/// The law that before its own finish no call of such a pass finds `Complete`, where the passes that it met made aborts
+/// alone. So a poll of the future that found another phase than `Running` found `AbortRequested`. (Only a finish makes a
+/// phase `Complete`.)
+pub fn unfinished_calls(pass: &JoinPass)
+    requires { AllKnown (view_of pass.now) }
+    ensures { (aborters : List Aborter) (before rest : Log) (e : LogEntry Name) → OnlyAborted (view_of pass.now).met aborters → (view_of pass.now).own.calls ≡ before ++ e ∷ rest → ((m : ℕ) (x : LogEntry Name) → get_elem? before m ≡ some x → x.call ≢ Finish) → e.answer ≢ Complete }
 {
     let _pass = pass;
 }
