@@ -83,6 +83,7 @@ module _ (words : List ℕ) (views : List View) (kept : Kept words views) (i : �
     finds = finds;
     leaves = phase_from-append Running kept.log (made ∷ []);
     rises = subst (λ (p : Phase). code (phase v.seen) ≤ code p) (sym (finds ∙ phase_from-append Running v.seen f.0)) (phase_from_rises (phase v.seen) f.0);
+    stays = subst (λ (p : Phase). code (phase kept.log) ≤ code p) (sym (phase_from-append Running kept.log (made ∷ []))) (phase_from_rises (phase kept.log) (made ∷ []));
     own = refl;
     same = (refl, refl, refl);
     knows = record {

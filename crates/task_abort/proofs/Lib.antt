@@ -12,3 +12,4 @@ pub mod OrderLemmas
 pub mod RoundLemmas
 pub mod UseLemmas
 pub mod UnfinishedLemmas
+pub mod SeenLemmas

@@ -5,13 +5,14 @@ use mathlib.Core.Option.{some}
 use lib.ListN.{get_elem?}
 use Rattle.atomic_table.specs.Table.{Me, keeps, Allows}
 use Rattle.atomic_table.proofs.Lists.{at_set, at_longer, set_else}
+use Rattle.task_abort.specs.declared.log.Phase.{Phase}
 use Rattle.task_abort.specs.declared.log.Phase.TheVariants.{Running}
 use Rattle.task_abort.specs.declared.log.LogEntry.{LogEntry}
 use Rattle.task_abort.specs.declared.log.Caller.{Caller}
 use Rattle.task_abort.specs.declared.log.View.{View}
-use Rattle.task_abort.specs.PhaseLog.{IsLegal, Name, Log, calls_by, Begins, callers, IsFirst, joined, spent_view}
+use Rattle.task_abort.specs.PhaseLog.{code, phase, IsLegal, Name, Log, calls_by, Begins, callers, IsFirst, joined, spent_view}
 use Rattle.task_abort.specs.Rule.{named, named_at, At, Has, Stands, GoesOn, Fits, Kept, Knows, Longer, Settles, Settled, Meets}
-use Rattle.task_abort.proofs.LogLemmas.{legal_cut, begins_refl, begins_both, begins_same, calls_by-between}
+use Rattle.task_abort.proofs.LogLemmas.{phase_from_rises, phase_from-append, legal_cut, begins_refl, begins_both, begins_same, calls_by-between}
 use Rattle.task_abort.proofs.CallerLemmas.{Stems, at_either, counts, sum_by-written, named_at-alive, stands_before, among_after, old_log_after, by_place, apart_after, named-here}
 
 module _ (words : List ℕ) (views : List View) (kept : Kept words views) (i o : ℕ) (v w : View) (at : At views i v) (there : At views o w) (other : o ≢ i) (kv : Knows v) (kw : Knows w) where
@@ -139,10 +140,14 @@ at_length (x ∷ xs) ys y = at_length xs ys y
 pub meets : (v o w : View) → Settles (joined v o) w → Meets v o w
 meets v o w h = record {
   longer = h.longer;
-  first = ⊎_elim (λ (t : (w.seen ≡ v.seen) × Begins o.seen w.seen). subst (Begins v.seen) (sym t.0) (begins_refl v.seen)) (λ (t : (w.seen ≡ o.seen) × Begins v.seen w.seen). t.1) h.longer;
+  first = first;
   second = ⊎_elim (λ (t : (w.seen ≡ v.seen) × Begins o.seen w.seen). t.1) (λ (t : (w.seen ≡ o.seen) × Begins v.seen w.seen). subst (Begins o.seen) (sym t.0) (begins_refl o.seen)) h.longer;
+  rises = subst (λ (p : Phase). code (phase v.seen) ≤ code p) (sym (ap phase first.1 ∙ phase_from-append Running v.seen first.0)) (phase_from_rises (phase v.seen) first.0);
   theirs = h.knows.whole o.own (suc (length v.met), subst (λ (z : List Caller). get_elem? z (length v.met) ≡ some o.own) (sym h.same.1) (at_length v.met o.met o.own));
   own = h.same.0;
   met = h.same.1;
   knows = h.knows;
 }
+  where
+    first : Begins v.seen w.seen
+    first = ⊎_elim (λ (t : (w.seen ≡ v.seen) × Begins o.seen w.seen). subst (Begins v.seen) (sym t.0) (begins_refl v.seen)) (λ (t : (w.seen ≡ o.seen) × Begins v.seen w.seen). t.1) h.longer

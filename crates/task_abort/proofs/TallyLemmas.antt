@@ -1,5 +1,5 @@
 -- How many entries of a log pass a test on answer and call, and what a legal log says of that.
-use Rattle.std.proofs.Common.{◌≡◌, ℕ, zero, suc, ◌+◌, ◌≤◌, ◌<◌, ◌⊎◌, ◌&&◌, ◌==◌, Bool, true, false, cond, filter, List, [], ◌∷◌, ◌++◌, length, sum_by, refl, sym, ap, subst, ◌∙◌, le_refl, le_trans, arith}
+use Rattle.std.proofs.Common.{◌≡◌, ℕ, zero, suc, ◌+◌, ◌≤◌, ◌<◌, ◌≢◌, ◌⊎◌, ◌&&◌, ◌==◌, Bool, true, false, cond, filter, List, [], ◌∷◌, ◌++◌, length, sum_by, refl, sym, ap, subst, ◌∙◌, ⊎_elim, le_refl, le_trans, arith}
 use Rattle.std.proofs.lemmas.List.Sums.{sum_by-cons}
 use mathlib.Core.Option.{some}
 use lib.ListN.{get_elem?}
@@ -74,9 +74,9 @@ module _ {C : Type 0} where
       grind arith
 
 same_name-sym : (m n : Name) → same_name m n ≡ same_name n m
-same_name-sym m n = Rattle.std.proofs.Common.⊎_elim
+same_name-sym m n = ⊎_elim
     (λ (t : (m ≡ n) × (same_name m n ≡ true)). t.1 ∙ sym (same_name-refl n m (sym t.0)))
-    (λ (t : (Rattle.std.proofs.Common.◌≢◌ m n) × (same_name m n ≡ false)). t.1 ∙ sym (same_name-other n m (λ e. t.0 (sym e)))) (names m n)
+    (λ (t : (m ≢ n) × (same_name m n ≡ false)). t.1 ∙ sym (same_name-other n m (λ e. t.0 (sym e)))) (names m n)
 
 module _ {A : Type 0} where
   pub sum_by-plus : (f g h : A → ℕ) → ((x : A) → h x ≡ f x + g x) → (xs : List A) → sum_by h xs ≡ sum_by f xs + sum_by g xs

@@ -1,7 +1,7 @@
 -- Before its own finish no call of a pass finds Complete, where all others only aborted.
 use Rattle.std.proofs.Common.{◌≡◌, ◌≢◌, ℕ, zero, suc, ◌+◌, ◌≤◌, ◌<◌, ◌⊎◌, Bool, true, false, cond, List, [], ◌∷◌, ◌++◌, map, sum_by, refl, sym, ap, ap₂, subst, ◌∙◌, inl, inr, ⊎_elim, le_refl, arith}
 use Rattle.std.proofs.lemmas.List.Sums.{sum_by-cons}
-use mathlib.Core.Option.{some}
+use mathlib.Core.Option.{some, some-injective}
 use lib.ListN.{get_elem?}
 use Rattle.atomic_table.proofs.Lists.{at_longer}
 use Rattle.task_abort.specs.declared.log.Phase.{Phase}
@@ -14,8 +14,8 @@ use Rattle.task_abort.specs.declared.log.View.{View}
 use Rattle.task_abort.specs.PhaseLog.{after, entry, phase_from, phase, IsLegal, Name, Log, same_name, calls_by, callers}
 use Rattle.task_abort.specs.Rule.{named, Has, Knows, AllKnown}
 use Rattle.task_abort.specs.Staged.{Aborter, OnlyAborted}
-use Rattle.task_abort.proofs.LogLemmas.{names, legal_cut, legal_parts, calls_by-append, same_head, same_tail}
-use Rattle.task_abort.proofs.CallerLemmas.{named-has, has_own, sum_by-none}
+use Rattle.task_abort.proofs.LogLemmas.{not_nil, names, legal_cut, legal_parts, calls_by-append, same_head, same_tail}
+use Rattle.task_abort.proofs.CallerLemmas.{at_nothing, named-has, has_own, sum_by-none}
 use Rattle.task_abort.proofs.TallyLemmas.{Test, bit, tally, tally-append, tally-callers}
 
 abbrev is_finish : Test
@@ -57,10 +57,10 @@ aborts_finish_nothing n [] = refl
 aborts_finish_nothing n (p ∷ ps) = let l = aborts_finish_nothing n ps in omega arith
 
 aborters_finish_nothing : (ds : List Caller) (rest : List Aborter) → OnlyAborted ds rest → (i : ℕ) (d : Caller) → get_elem? ds i ≡ some d → tally is_finish d.calls ≡ 0
-aborters_finish_nothing [] rest h i d at = absurd (Rattle.task_abort.proofs.CallerLemmas.at_nothing d i at)
+aborters_finish_nothing [] rest h i d at = absurd (at_nothing d i at)
 aborters_finish_nothing (c ∷ ds) [] h i d at = absurd h
 aborters_finish_nothing (c ∷ ds) (a ∷ rest) h zero d at =
-    subst (λ (z : Caller). tally is_finish z.calls ≡ 0) (mathlib.Core.Option.some-injective c d at) (ap (tally is_finish) h.0 ∙ aborts_finish_nothing c.name a.1)
+    subst (λ (z : Caller). tally is_finish z.calls ≡ 0) (some-injective c d at) (ap (tally is_finish) h.0 ∙ aborts_finish_nothing c.name a.1)
 aborters_finish_nothing (c ∷ ds) (a ∷ rest) h (suc i) d at = aborters_finish_nothing ds rest h.1 i d at
 
 -- where a call stands among those under a name, the log before it has those before it
@@ -68,8 +68,8 @@ abbrev Stands_at : Name → Log → Log → LogEntry Name → Type 0
 Stands_at n log xs e = (before rest : Log) × (log ≡ before ++ e ∷ rest) × (calls_by n before ≡ xs)
 
 place_of : (n : Name) (log xs ys : Log) (e : LogEntry Name) → calls_by n log ≡ xs ++ e ∷ ys → Stands_at n log xs e
-place_of n [] [] ys e h = absurd (Rattle.task_abort.proofs.LogLemmas.not_nil [] e ys (sym h))
-place_of n [] (x ∷ xs) ys e h = absurd (Rattle.task_abort.proofs.LogLemmas.not_nil [] x (xs ++ e ∷ ys) (sym h))
+place_of n [] [] ys e h = absurd (not_nil [] e ys (sym h))
+place_of n [] (x ∷ xs) ys e h = absurd (not_nil [] x (xs ++ e ∷ ys) (sym h))
 place_of n (z ∷ log) xs ys e h = ⊎_elim
     (λ (t : (z.caller ≡ n) × (same_name z.caller n ≡ true)). mine xs (sym (ap (λ (b : Bool). cond b (z ∷ calls_by n log) (calls_by n log)) t.1) ∙ h) t.1 (λ ws k. place_of n log ws ys e k))
     (λ (t : (z.caller ≢ n) × (same_name z.caller n ≡ false)).

@@ -1,5 +1,5 @@
 -- Which cell a handle, a work and a pass belong to, what a pass knows, and what a poll answers.
-use Rattle.std.specs.Prelude.{◌≡◌, ◌≢◌, Option, Some, None}
+use Rattle.std.specs.Prelude.{◌≡◌, ◌≢◌, ℕ, Option, Some, None}
 use Rattle.std.specs.Arc.{arc_value}
 use Rattle.atomic_table.specs.Seated.{TableId}
 use Rattle.futures.specs.declared.task.Poll.{Poll}
@@ -23,6 +23,13 @@ work_cell a = (arc_value a.cell).phase.shared.table_id
 
 abbrev pub pass_cell : JoinPass → CellId
 pass_cell p = p.seat.table_id
+
+-- the sources that a registered poll of the future waits for, and a registered poll of the handle
+abbrev pub abort_source : {F : Type 0} → Abortable F → ℕ
+abort_source a = (arc_value a.cell).aborts.id
+
+abbrev pub end_source : JoinHandle → ℕ
+end_source h = (arc_value h.cell).ends.id
 
 -- the work itself
 abbrev pub work_of : {F : Type 0} → Abortable F → F

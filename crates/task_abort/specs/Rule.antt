@@ -68,6 +68,7 @@ pub record Calls (call : PhaseCall) (v : View) (found : Phase) (w : View) : Type
   pub finds : found ≡ phase (v.seen ++ between)
   pub leaves : phase w.seen ≡ after call found
   pub rises : code (phase v.seen) ≤ code found
+  pub stays : code found ≤ code (phase w.seen)
   pub own : w.own ≡ record v.own { calls = v.own.calls ++ entry v.own.name call found ∷ [] }
   pub same : (w.met ≡ v.met) × (w.spent ≡ v.spent) × (w.heard ≡ v.heard)
   pub knows : Knows w
@@ -97,6 +98,7 @@ pub record Meets (v o w : View) : Type 0 where
   pub longer : Longer v.seen o.seen w.seen
   pub first : Begins v.seen w.seen
   pub second : Begins o.seen w.seen
+  pub rises : code (phase v.seen) ≤ code (phase w.seen)
   pub theirs : calls_by o.own.name w.seen ≡ o.own.calls
   pub own : w.own ≡ v.own
   pub met : w.met ≡ v.met ++ callers o

@@ -3,13 +3,13 @@ ghost use Rattle.std.specs.Prelude.{◌≡◌, ◌≢◌, ◌++◌, ◌∷◌, �
 ghost use mathlib.Core.Option.{some};
 ghost use lib.ListN.{get_elem?};
 ghost use Rattle.task_abort.specs.Cells.{view_of};
-ghost use Rattle.task_abort.specs.PhaseLog.{IsLegal, Name, Log};
+ghost use Rattle.task_abort.specs.PhaseLog.{IsLegal, Name, Log, phase};
 ghost use Rattle.task_abort.specs.Rule.{HasMetAll, AllKnown};
 ghost use Rattle.task_abort.specs.Staged.{Aborter, Lists, OnlyAborted, LastRound, Numbered, all_aborts, aborts_of, any_abort, by_number, by_stages, entered, staged};
 ghost use Rattle.task_abort.specs.declared.log.CallMade.{CallMade};
 ghost use Rattle.task_abort.specs.declared.log.LogEntry.{LogEntry};
-ghost use Rattle.task_abort.specs.declared.log.Phase.TheVariants.{Complete};
-ghost use Rattle.task_abort.specs.declared.log.PhaseCall.TheVariants.{Finish};
+ghost use Rattle.task_abort.specs.declared.log.Phase.TheVariants.{Running, Complete};
+ghost use Rattle.task_abort.specs.declared.log.PhaseCall.TheVariants.{Abort, Finish};
 
 use crate::cell::JoinPass;
 
@@ -56,6 +56,15 @@ pub fn late_calls_stand_last(pass: &JoinPass)
 pub fn unfinished_calls(pass: &JoinPass)
     requires { AllKnown (view_of pass.now) }
     ensures { (aborters : List Aborter) (before rest : Log) (e : LogEntry Name) → OnlyAborted (view_of pass.now).met aborters → (view_of pass.now).own.calls ≡ before ++ e ∷ rest → ((m : ℕ) (x : LogEntry Name) → get_elem? before m ≡ some x → x.call ≢ Finish) → e.answer ≢ Complete }
+{
+    let _pass = pass;
+}
+
+/// The law that a pass that has seen an abort has seen a phase other than `Running`, and one that has seen a finish has
+/// seen `Complete`. (No call lowers the phase.)
+pub fn phases_of_seen_calls(pass: &JoinPass)
+    ensures aborted { (m : ℕ) (e : LogEntry Name) → get_elem? (view_of pass.now).seen m ≡ some e → e.call ≡ Abort → phase (view_of pass.now).seen ≢ Running }
+    ensures finished { (m : ℕ) (e : LogEntry Name) → get_elem? (view_of pass.now).seen m ≡ some e → e.call ≡ Finish → phase (view_of pass.now).seen ≡ Complete }
 {
     let _pass = pass;
 }

@@ -16,7 +16,7 @@ mod work;
 
 pub use cell::{Abortable, JoinHandle, JoinPass, NoMemory};
 pub use laws::{
-    known_callers, late_calls_stand_last, staged_log_is_legal, staged_log_keeps_lists,
-    unfinished_calls,
+    known_callers, late_calls_stand_last, phases_of_seen_calls, staged_log_is_legal,
+    staged_log_keeps_lists, unfinished_calls,
 };
 pub use log::{CallMade, Caller, LogEntry, Phase, PhaseCall, View};

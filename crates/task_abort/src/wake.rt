@@ -1,9 +1,8 @@
 //! The calls that wake, or that can be woken.
-ghost use Rattle.std.specs.Arc.{arc_value};
 ghost use Rattle.std.specs.Prelude.{◌≡◌, ◌≢◌, ◌⊎◌, None};
 ghost use Rattle.futures.specs.Poll.{OnPending};
 ghost use Rattle.futures.specs.Task.{Covers, Keeps};
-ghost use Rattle.task_abort.specs.Cells.{handle_cell, work_cell, pass_cell, work_of, view_of, TellsComplete, TellsRunning};
+ghost use Rattle.task_abort.specs.Cells.{handle_cell, work_cell, pass_cell, abort_source, end_source, work_of, view_of, TellsComplete, TellsRunning};
 ghost use Rattle.task_abort.specs.PhaseLog.{phase};
 ghost use Rattle.task_abort.specs.Rule.{Calls};
 ghost use Rattle.task_abort.specs.declared.log.Phase.{Phase};
@@ -74,7 +73,7 @@ impl JoinHandle {
         ensures seen { phase (view_of pass.old).seen ≡ Complete → result ≡ Poll.Ready tt }
 
         // What a future owes of its poll, where this is part of one.
-        ensures registered { Covers cx.new (λ s. s ≡ (arc_value self.now.cell).ends.id) }
+        ensures registered { Covers cx.new (λ s. s ≡ end_source self.now) }
         ensures kept { Keeps cx.old cx.new }
     {
         self.cell.register_handle(rt, cx);
@@ -111,13 +110,13 @@ impl<F: Future> Abortable<F> {
     ) -> Poll<Option<F::Output>>
         requires cell { pass_cell pass.old ≡ work_cell self.old }
         requires ready { F.can_poll (work_of self.old) }
-        ensures same { (pass_cell pass.new ≡ pass_cell pass.old) × (self.new.cell ≡ self.old.cell) }
+        ensures same { (pass_cell pass.new ≡ pass_cell pass.old) × (work_cell self.new ≡ work_cell self.old) × (abort_source self.new ≡ abort_source self.old) }
         ensures call { (found : Phase) × Calls PollFuture (view_of pass.old) found (view_of pass.new) × TellsRunning (F.gives (work_of self.old)) (F.can_poll (work_of self.new)) found result }
         ensures seen { phase (view_of pass.old).seen ≢ Running → result ≡ Poll.Ready None }
 
         // What a future owes of its poll, where this is part of one.
         ensures gives { OnPending result ((x : F.Output) → F.gives (work_of self.new) x → F.gives (work_of self.old) x) }
-        ensures registered { OnPending result (Covers cx.new (λ s. F.needs (work_of self.new) s ⊎ (s ≡ (arc_value self.old.cell).aborts.id))) }
+        ensures registered { OnPending result (Covers cx.new (λ s. F.needs (work_of self.new) s ⊎ (s ≡ abort_source self.old))) }
         ensures kept { Keeps cx.old cx.new }
     {
         self.cell.register_work(rt, cx);

@@ -3,7 +3,7 @@ ghost use Rattle.std.specs.Arc.{arc_value};
 ghost use Rattle.std.specs.Prelude.{◌≡◌, ◌≢◌, IfErr, IfOk, IfSome, IsNone, MatchOption, None};
 ghost use Rattle.futures.specs.Poll.{OnPending};
 ghost use Rattle.futures.specs.Task.{Covers, Keeps};
-ghost use Rattle.task_abort.specs.Cells.{handle_cell, work_cell, pass_cell, work_of, view_of, TellsRunning};
+ghost use Rattle.task_abort.specs.Cells.{handle_cell, work_cell, pass_cell, abort_source, work_of, view_of, TellsRunning};
 ghost use Rattle.task_abort.specs.PhaseLog.{first_view, phase};
 ghost use Rattle.task_abort.specs.Rule.{Calls};
 ghost use Rattle.task_abort.specs.declared.log.Phase.{Phase};
@@ -108,7 +108,7 @@ impl<F: Future> Abortable<F> {
     pub fn poll(&mut self, pass: &mut JoinPass, cx: &mut Context<'_>) -> Poll<Option<F::Output>>
         requires cell { pass_cell pass.old ≡ work_cell self.old }
         requires ready { F.can_poll (work_of self.old) }
-        ensures same { (pass_cell pass.new ≡ pass_cell pass.old) × (self.new.cell ≡ self.old.cell) }
+        ensures same { (pass_cell pass.new ≡ pass_cell pass.old) × (work_cell self.new ≡ work_cell self.old) × (abort_source self.new ≡ abort_source self.old) }
         ensures call { (found : Phase) × Calls PollFuture (view_of pass.old) found (view_of pass.new) × TellsRunning (F.gives (work_of self.old)) (F.can_poll (work_of self.new)) found result }
         ensures seen { phase (view_of pass.old).seen ≢ Running → result ≡ Poll.Ready None }
 
