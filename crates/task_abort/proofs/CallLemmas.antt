@@ -11,8 +11,8 @@ use Rattle.task_abort.specs.declared.log.PhaseCall.TheVariants.{Abort, Finish}
 use Rattle.task_abort.specs.declared.log.LogEntry.{LogEntry}
 use Rattle.task_abort.specs.declared.log.Caller.{Caller}
 use Rattle.task_abort.specs.declared.log.View.{View}
-use Rattle.task_abort.specs.PhaseLog.{code, phase_of_code, after, entry, phase, Name, Log, calls_by, callers, IsFirst}
-use Rattle.task_abort.specs.Rule.{At, Has, Stands, GoesOn, Fits, Kept, Knows, Calls, Called}
+use Rattle.task_abort.specs.PhaseLog.{code, phase_of_code, after, entry, phase, Name, Log, calls_by, IsFirst}
+use Rattle.task_abort.specs.Rule.{At, Has, Stands, GoesOn, Fits, Kept, Calls, Called}
 use Rattle.task_abort.proofs.LogLemmas.{phase_of_code-code, phase_from-append, phase_from_rises, legal_push, begins_refl, begins_more, calls_by-own, calls_by-other}
 use Rattle.task_abort.proofs.CallerLemmas.{Stems, at_written, goes_on_stem, has_own, met_apart, others_apart, sole, stands_before, among_after, old_log_after, by_place, apart_after, named-here}
 

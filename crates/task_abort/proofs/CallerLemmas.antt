@@ -1,13 +1,13 @@
 -- Places in lists, sums over views, and the callers of passes by their names.
-use Rattle.std.proofs.Common.{◌≡◌, ℕ, zero, suc, ◌+◌, ◌≤◌, ◌<◌, ◌≢◌, ◌⊎◌, Bool, true, false, cond, if◌then◌else◌, List, [], ◌∷◌, ◌++◌, length, set, sum_by, count_by, refl, sym, ap, subst, ◌∙◌, inl, inr, ⊎_elim, le_refl, le_trans, arith}
-use Rattle.std.proofs.lemmas.List.Sums.{sum_by-cons, sum_by-append}
+use Rattle.std.proofs.Common.{◌≡◌, ℕ, zero, suc, ◌+◌, ◌≤◌, ◌<◌, ◌≢◌, ◌⊎◌, Bool, true, false, cond, if◌then◌else◌, List, [], ◌∷◌, ◌++◌, length, set, sum_by, refl, sym, ap, subst, ◌∙◌, inl, inr, ⊎_elim, le_refl, arith}
+use Rattle.std.proofs.lemmas.List.Sums.{sum_by-cons}
 use mathlib.Core.Option.{some, some-injective, some-ne-none}
 use lib.ListN.{get_elem?}
 use Rattle.atomic_table.proofs.Lists.{at_set}
 use Rattle.task_abort.specs.declared.log.LogEntry.{LogEntry}
 use Rattle.task_abort.specs.declared.log.Caller.{Caller}
 use Rattle.task_abort.specs.declared.log.View.{View}
-use Rattle.task_abort.specs.PhaseLog.{Name, Log, same_name, callers, IsFirst}
+use Rattle.task_abort.specs.PhaseLog.{Name, same_name, callers, IsFirst}
 use Rattle.task_abort.specs.Rule.{named, named_at, At, Has, Stands, GoesOn, Kept}
 use Rattle.task_abort.proofs.LogLemmas.{same_name-refl, same_name-other, names}
 

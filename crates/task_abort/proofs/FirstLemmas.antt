@@ -1,12 +1,10 @@
 -- The rule holds of a new cell.
-use Rattle.std.proofs.Common.{◌≡◌, ℕ, zero, suc, ◌≤◌, [], ◌∷◌, length, refl, sym, ap, subst, inl, arith}
+use Rattle.std.proofs.Common.{◌≡◌, [], ◌∷◌, refl, sym, ap, subst, inl, arith}
 use Rattle.std.proofs.lemmas.List.Sums.{sum_by-cons}
-use mathlib.Core.Option.{some, some-injective}
-use lib.ListN.{get_elem?}
 use Rattle.task_abort.specs.declared.log.Caller.{Caller}
 use Rattle.task_abort.specs.declared.log.View.{View}
-use Rattle.task_abort.specs.PhaseLog.{Name, callers, first_view}
-use Rattle.task_abort.specs.Rule.{At, Has, Stands, GoesOn, Fits, Kept, named_at}
+use Rattle.task_abort.specs.PhaseLog.{first_view}
+use Rattle.task_abort.specs.Rule.{Has, Stands, GoesOn, Fits, Kept, named_at}
 use Rattle.task_abort.proofs.LogLemmas.{not_nil}
 use Rattle.task_abort.proofs.CallerLemmas.{at_nothing, at_only, named-one}
 

@@ -1,5 +1,5 @@
 -- The two steps of a meet keep the rule.
-use Rattle.std.proofs.Common.{◌≡◌, ℕ, zero, suc, ◌+◌, ◌≤◌, ◌≢◌, ◌⊎◌, true, false, List, [], ◌∷◌, ◌++◌, length, set, slice_index, sum_by, refl, sym, ap, subst, ◌∙◌, inl, inr, ⊎_elim, le_refl, true≢false, arith}
+use Rattle.std.proofs.Common.{◌≡◌, ℕ, suc, ◌+◌, ◌≤◌, ◌≢◌, ◌⊎◌, false, List, [], ◌∷◌, ◌++◌, length, set, slice_index, sum_by, refl, sym, ap, subst, ◌∙◌, inl, inr, ⊎_elim, le_refl, true≢false, arith}
 use Rattle.std.proofs.lemmas.List.Sums.{sum_by-append}
 use mathlib.Core.Option.{some}
 use lib.ListN.{get_elem?}
@@ -7,13 +7,12 @@ use Rattle.atomic_table.specs.Table.{Me, keeps, Allows}
 use Rattle.atomic_table.proofs.Lists.{at_set, at_longer, set_else}
 use Rattle.task_abort.specs.declared.log.Phase.{Phase}
 use Rattle.task_abort.specs.declared.log.Phase.TheVariants.{Running}
-use Rattle.task_abort.specs.declared.log.LogEntry.{LogEntry}
 use Rattle.task_abort.specs.declared.log.Caller.{Caller}
 use Rattle.task_abort.specs.declared.log.View.{View}
 use Rattle.task_abort.specs.PhaseLog.{code, phase, IsLegal, Name, Log, calls_by, Begins, callers, IsFirst, joined, spent_view}
-use Rattle.task_abort.specs.Rule.{named, named_at, At, Has, Stands, GoesOn, Fits, Kept, Knows, Longer, Settles, Settled, Meets}
+use Rattle.task_abort.specs.Rule.{named, named_at, At, Has, Stands, Fits, Kept, Knows, Longer, Settles, Settled, Meets}
 use Rattle.task_abort.proofs.LogLemmas.{phase_from_rises, phase_from-append, legal_cut, begins_refl, begins_both, begins_same, calls_by-between}
-use Rattle.task_abort.proofs.CallerLemmas.{Stems, at_either, counts, sum_by-written, named_at-alive, stands_before, among_after, old_log_after, by_place, apart_after, named-here}
+use Rattle.task_abort.proofs.CallerLemmas.{Stems, at_either, counts, sum_by-written, named_at-alive, among_after, old_log_after, by_place, apart_after, named-here}
 
 module _ (words : List ℕ) (views : List View) (kept : Kept words views) (i o : ℕ) (v w : View) (at : At views i v) (there : At views o w) (other : o ≢ i) (kv : Knows v) (kw : Knows w) where
   abbrev both : View

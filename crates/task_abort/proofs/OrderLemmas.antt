@@ -1,5 +1,5 @@
 -- A log put together by stages keeps the list of each caller, and has the calls after the last round last.
-use Rattle.std.proofs.Common.{◌≡◌, ◌≢◌, ℕ, zero, suc, ◌+◌, ◌-◌, ◌≤◌, ◌<◌, ◌⊎◌, ◌&&◌, ◌||◌, ◌==◌, Bool, true, false, cond, filter, List, [], ◌∷◌, ◌++◌, map, length, refl, sym, ap, subst, ◌∙◌, inl, inr, ⊎_elim, le_refl, le_trans, append-nil, append_assoc, eq-eqb, ne_eqb, eqb-true, arith}
+use Rattle.std.proofs.Common.{◌≡◌, ◌≢◌, ℕ, zero, suc, ◌-◌, ◌≤◌, ◌<◌, ◌⊎◌, ◌&&◌, ◌||◌, ◌==◌, Bool, true, false, cond, filter, List, [], ◌∷◌, ◌++◌, map, refl, sym, ap, subst, ◌∙◌, inl, inr, ⊎_elim, le_refl, le_trans, append-nil, eq-eqb, ne_eqb, eqb-true, arith}
 use Rattle.std.proofs.lemmas.List.Elements.{filter-append}
 use mathlib.Core.Option.{some, some-injective}
 use lib.ListN.{get_elem?}
@@ -11,7 +11,7 @@ use Rattle.task_abort.specs.declared.log.LogEntry.{LogEntry}
 use Rattle.task_abort.specs.declared.log.CallMade.{CallMade}
 use Rattle.task_abort.specs.declared.log.Caller.{Caller}
 use Rattle.task_abort.specs.declared.log.View.{View}
-use Rattle.task_abort.specs.PhaseLog.{code, after, entry, phase, Name, Log, calls_by, callers}
+use Rattle.task_abort.specs.PhaseLog.{code, after, entry, Name, Log}
 use Rattle.task_abort.specs.Rule.{Has, Knows, AllKnown}
 use Rattle.task_abort.specs.Staged.{told_answer, told, Aborter, aborts_of, all_aborts, any_abort, entered_answer, tells_request, entered, stage, in_stage, by_stages, by_number, Numbered, all_entries, staged, OnlyAborted, Lists, LastRound}
 use Rattle.task_abort.proofs.LogLemmas.{after_rises}

@@ -1,5 +1,5 @@
 -- A log put together by stages has the calls of caller 0 after the last round last.
-use Rattle.std.proofs.Common.{◌≡◌, ℕ, zero, suc, ◌-◌, ◌≤◌, ◌<◌, ◌⊎◌, ◌&&◌, ◌||◌, ◌==◌, Bool, true, false, cond, List, [], ◌∷◌, ◌++◌, map, length, take, drop, refl, sym, ap, subst, ◌∙◌, inl, inr, ⊎_elim, le_refl, le_trans, append-nil, append_assoc, ne_eqb, arith}
+use Rattle.std.proofs.Common.{◌≡◌, ℕ, zero, suc, ◌-◌, ◌≤◌, ◌<◌, ◌⊎◌, ◌||◌, ◌==◌, Bool, true, false, cond, List, [], ◌∷◌, ◌++◌, map, take, drop, refl, sym, ap, subst, ◌∙◌, inl, inr, ⊎_elim, le_refl, le_trans, append-nil, append_assoc, ne_eqb, arith}
 use Rattle.std.proofs.lemmas.List.{take-append-drop}
 use Rattle.std.proofs.lemmas.List.Elements.{filter-append}
 use mathlib.Core.Option.{some}
@@ -14,9 +14,9 @@ use Rattle.task_abort.specs.declared.log.Caller.{Caller}
 use Rattle.task_abort.specs.declared.log.View.{View}
 use Rattle.task_abort.specs.PhaseLog.{code, after, entry, phase_from, phase, is_legal_from, IsLegal, Name, Log, same_name, calls_by}
 use Rattle.task_abort.specs.Rule.{Knows, AllKnown}
-use Rattle.task_abort.specs.Staged.{told_answer, told, Aborter, aborts_of, all_aborts, is_any, any_abort, entered_answer, tells_request, entered, stage, in_stage, by_stages, all_entries, staged, OnlyAborted, Lists, LastRound}
+use Rattle.task_abort.specs.Staged.{told_answer, told, Aborter, aborts_of, all_aborts, is_any, any_abort, entered_answer, tells_request, entered, stage, in_stage, by_stages, staged, OnlyAborted, Lists, LastRound}
 use Rattle.task_abort.proofs.LogLemmas.{after_rises, phase_from_rises, legal_parts, legal_cut}
-use Rattle.task_abort.proofs.StagedLemmas.{either_true, past, later}
+use Rattle.task_abort.proofs.StagedLemmas.{past, later}
 use Rattle.task_abort.proofs.OrderLemmas.{Sorted, sorted_less, none_below, joined_nil, either_right, by_stages-sorted, run_sorted}
 
 below_or : (u t : ℕ) → (u < t) ⊎ (t ≤ u)

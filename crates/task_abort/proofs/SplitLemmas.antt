@@ -4,14 +4,13 @@ use Rattle.std.proofs.lemmas.List.{append_cancel_left}
 use Rattle.std.proofs.lemmas.List.Sums.{sum_by-cons, sum_by-append}
 use mathlib.Core.Option.{some, some-injective}
 use lib.ListN.{get_elem?}
-use Rattle.atomic_table.proofs.Lists.{at_set}
 use Rattle.task_abort.specs.declared.log.LogEntry.{LogEntry}
 use Rattle.task_abort.specs.declared.log.Caller.{Caller}
 use Rattle.task_abort.specs.declared.log.View.{View}
-use Rattle.task_abort.specs.PhaseLog.{Name, Log, same_name, calls_by, callers, IsFirst, split_left, split_right}
-use Rattle.task_abort.specs.Rule.{named, named_at, At, Has, Stands, GoesOn, Fits, Kept, Knows}
-use Rattle.task_abort.proofs.LogLemmas.{names, same_name-other, calls_by-append, nothing_left, both_nil, not_nil, same_head, same_tail}
-use Rattle.task_abort.proofs.CallerLemmas.{Stems, at_nothing, at_only, at_last_or, sum_by-none, counts, counts-other, named_at-alive, named_at-none, named-one, has_own, met_apart, others_apart, sole, stands_before, among_after, old_log_after, by_place, apart_after}
+use Rattle.task_abort.specs.PhaseLog.{Name, Log, same_name, calls_by, IsFirst, split_left, split_right}
+use Rattle.task_abort.specs.Rule.{named_at, At, Has, Stands, GoesOn, Fits, Kept, Knows}
+use Rattle.task_abort.proofs.LogLemmas.{names, same_name-other, nothing_left, not_nil, same_head, same_tail}
+use Rattle.task_abort.proofs.CallerLemmas.{Stems, at_only, at_last_or, sum_by-none, counts, counts-other, named_at-none, named-one, has_own, met_apart, others_apart, sole, stands_before, among_after, old_log_after, by_place, apart_after}
 
 -- a name that ends in x goes on from ys: it ends there, or what stands before x goes on too
 cut_last : (xs ys rest : Name) (x k : ℕ) → xs ++ x ∷ [] ≡ ys ++ k ∷ rest → ((xs ≡ ys) × (x ≡ k)) ⊎ ((r : Name) × (xs ≡ ys ++ k ∷ r))

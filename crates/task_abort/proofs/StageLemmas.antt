@@ -1,14 +1,14 @@
 -- Entries put into stages are a legal log, where at most one call ended the phase Running, at most one finish found AbortRequested, and
 -- what found a later phase has its cause among them.
-use Rattle.std.proofs.Common.{◌≡◌, ℕ, zero, suc, ◌+◌, ◌≤◌, ◌<◌, ◌⊎◌, ◌&&◌, ◌==◌, Bool, true, false, cond, List, [], ◌∷◌, ◌++◌, length, refl, sym, ap, subst, ◌∙◌, inl, inr, ⊎_elim, le_refl, append-nil, eqb-true, arith}
+use Rattle.std.proofs.Common.{◌≡◌, ℕ, ◌+◌, ◌≤◌, ◌<◌, ◌⊎◌, ◌&&◌, ◌==◌, Bool, true, false, cond, List, [], ◌∷◌, ◌++◌, length, refl, sym, ap, subst, ◌∙◌, inl, inr, ⊎_elim, eqb-true, arith}
 use Rattle.task_abort.specs.declared.log.Phase.{Phase}
 use Rattle.task_abort.specs.declared.log.Phase.TheVariants.{Running, AbortRequested, Complete}
 use Rattle.task_abort.specs.declared.log.PhaseCall.{PhaseCall}
 use Rattle.task_abort.specs.declared.log.PhaseCall.TheVariants.{Abort, PollFuture, PollHandle, Finish}
 use Rattle.task_abort.specs.declared.log.LogEntry.{LogEntry}
-use Rattle.task_abort.specs.PhaseLog.{code, after, phase_from, is_legal_from, IsLegal}
+use Rattle.task_abort.specs.PhaseLog.{after, phase_from, is_legal_from, IsLegal}
 use Rattle.task_abort.specs.Staged.{stage, in_stage, by_stages}
-use Rattle.task_abort.proofs.LogLemmas.{legal_one_more, legal_joined, legal_parts}
+use Rattle.task_abort.proofs.LogLemmas.{legal_one_more, legal_joined}
 use Rattle.task_abort.proofs.TallyLemmas.{Test, at_stage, bit, tally, tally_split, tally_same, tally-in_stage, length-in_stage}
 
 -- an abort that found Running

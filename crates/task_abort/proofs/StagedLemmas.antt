@@ -1,5 +1,5 @@
 -- The lists of a pass that knows the callers of all calls give a legal log.
-use Rattle.std.proofs.Common.{◌≡◌, ◌≢◌, ℕ, zero, suc, ◌+◌, ◌-◌, ◌≤◌, ◌<◌, ◌⊎◌, ◌&&◌, ◌||◌, ◌==◌, Bool, true, false, cond, List, [], ◌∷◌, ◌++◌, map, length, sum_by, refl, sym, ap, subst, ◌∙◌, inl, inr, ⊎_elim, le_refl, le_trans, eqb-true, arith}
+use Rattle.std.proofs.Common.{◌≡◌, ℕ, zero, suc, ◌+◌, ◌-◌, ◌≤◌, ◌<◌, ◌⊎◌, ◌&&◌, ◌||◌, ◌==◌, Bool, true, false, cond, List, [], ◌∷◌, ◌++◌, map, length, sum_by, refl, sym, ap, subst, ◌∙◌, inl, inr, ⊎_elim, le_refl, le_trans, eqb-true, arith}
 use Rattle.std.proofs.lemmas.List.Sums.{sum_by-cons}
 use mathlib.Core.Option.{some, some-injective}
 use lib.ListN.{get_elem?}
@@ -12,8 +12,8 @@ use Rattle.task_abort.specs.declared.log.CallMade.{CallMade}
 use Rattle.task_abort.specs.declared.log.Caller.{Caller}
 use Rattle.task_abort.specs.declared.log.View.{View}
 use Rattle.task_abort.specs.PhaseLog.{code, after, entry, phase_from, phase, is_legal_from, IsLegal, Name, Log, same_name, calls_by, callers}
-use Rattle.task_abort.specs.Rule.{named, Has, Knows, AllKnown}
-use Rattle.task_abort.specs.Staged.{told_answer, told, Aborter, aborts_of, all_aborts, is_any, any_abort, entered_answer, tells_request, entered, stage, all_entries, staged, OnlyAborted, Lists, LastRound}
+use Rattle.task_abort.specs.Rule.{named, Knows, AllKnown}
+use Rattle.task_abort.specs.Staged.{told_answer, told, Aborter, aborts_of, all_aborts, is_any, any_abort, entered_answer, tells_request, entered, all_entries, staged, OnlyAborted, Lists, LastRound}
 use Rattle.task_abort.proofs.LogLemmas.{after_rises, phase_from_rises, legal_parts, legal_cut, calls_by-append}
 use Rattle.task_abort.proofs.CallerLemmas.{at_nothing, named-has, has_own}
 use Rattle.task_abort.proofs.TallyLemmas.{Test, at_stage, bit, tally, tally-append, tally_bounded, tally_caused, tally-callers, sum_by-same}

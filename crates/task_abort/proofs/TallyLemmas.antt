@@ -1,5 +1,5 @@
 -- How many entries of a log pass a test on answer and call, and what a legal log says of that.
-use Rattle.std.proofs.Common.{◌≡◌, ℕ, zero, suc, ◌+◌, ◌≤◌, ◌<◌, ◌≢◌, ◌⊎◌, ◌&&◌, ◌==◌, Bool, true, false, cond, filter, List, [], ◌∷◌, ◌++◌, length, sum_by, refl, sym, ap, subst, ◌∙◌, ⊎_elim, le_refl, le_trans, arith}
+use Rattle.std.proofs.Common.{◌≡◌, ℕ, suc, ◌+◌, ◌≤◌, ◌<◌, ◌≢◌, ◌&&◌, ◌==◌, Bool, true, false, cond, List, [], ◌∷◌, ◌++◌, length, sum_by, refl, sym, ap, subst, ◌∙◌, ⊎_elim, arith}
 use Rattle.std.proofs.lemmas.List.Sums.{sum_by-cons}
 use mathlib.Core.Option.{some}
 use lib.ListN.{get_elem?}
@@ -7,7 +7,7 @@ use Rattle.task_abort.specs.declared.log.Phase.{Phase}
 use Rattle.task_abort.specs.declared.log.PhaseCall.{PhaseCall}
 use Rattle.task_abort.specs.declared.log.LogEntry.{LogEntry}
 use Rattle.task_abort.specs.declared.log.Caller.{Caller}
-use Rattle.task_abort.specs.PhaseLog.{code, after, phase_from, is_legal_from, Name, Log, same_name, calls_by}
+use Rattle.task_abort.specs.PhaseLog.{after, is_legal_from, Name, Log, same_name, calls_by}
 use Rattle.task_abort.specs.Rule.{named}
 use Rattle.task_abort.specs.Staged.{stage, in_stage}
 use Rattle.task_abort.proofs.LogLemmas.{legal_parts, same_name-refl, same_name-other, names}

@@ -1,5 +1,5 @@
 -- Before its own finish no call of a pass finds Complete, where all others only aborted.
-use Rattle.std.proofs.Common.{◌≡◌, ◌≢◌, ℕ, zero, suc, ◌+◌, ◌≤◌, ◌<◌, ◌⊎◌, Bool, true, false, cond, List, [], ◌∷◌, ◌++◌, map, sum_by, refl, sym, ap, ap₂, subst, ◌∙◌, inl, inr, ⊎_elim, le_refl, arith}
+use Rattle.std.proofs.Common.{◌≡◌, ◌≢◌, ℕ, zero, suc, ◌+◌, ◌≤◌, Bool, true, false, cond, List, [], ◌∷◌, ◌++◌, map, sum_by, refl, sym, ap, ap₂, subst, ◌∙◌, ⊎_elim, arith}
 use Rattle.std.proofs.lemmas.List.Sums.{sum_by-cons}
 use mathlib.Core.Option.{some, some-injective}
 use lib.ListN.{get_elem?}
@@ -12,7 +12,7 @@ use Rattle.task_abort.specs.declared.log.LogEntry.{LogEntry}
 use Rattle.task_abort.specs.declared.log.Caller.{Caller}
 use Rattle.task_abort.specs.declared.log.View.{View}
 use Rattle.task_abort.specs.PhaseLog.{after, entry, phase_from, phase, IsLegal, Name, Log, same_name, calls_by, callers}
-use Rattle.task_abort.specs.Rule.{named, Has, Knows, AllKnown}
+use Rattle.task_abort.specs.Rule.{named, Knows, AllKnown}
 use Rattle.task_abort.specs.Staged.{Aborter, OnlyAborted}
 use Rattle.task_abort.proofs.LogLemmas.{not_nil, names, legal_cut, legal_parts, calls_by-append, same_head, same_tail}
 use Rattle.task_abort.proofs.CallerLemmas.{at_nothing, named-has, has_own, sum_by-none}

@@ -1,5 +1,5 @@
 -- For crates above: what a pass, its list of calls and the lists of the aborters are after one more call or meet.
-use Rattle.std.proofs.Common.{◌≡◌, ◌≢◌, ℕ, zero, suc, ◌+◌, ◌≤◌, ◌<◌, ◌⊎◌, List, [], ◌∷◌, ◌++◌, map, length, refl, sym, ap, subst, ◌∙◌, inl, inr, ⊎_elim, arith}
+use Rattle.std.proofs.Common.{◌≡◌, ℕ, zero, suc, ◌≤◌, ◌<◌, ◌⊎◌, List, [], ◌∷◌, ◌++◌, map, length, refl, sym, ap, subst, ◌∙◌, inl, inr, ⊎_elim, arith}
 use Rattle.std.proofs.lemmas.List.{map-append}
 use mathlib.Core.Option.{some}
 use lib.ListN.{get_elem?}
@@ -13,7 +13,7 @@ use Rattle.task_abort.specs.declared.log.Caller.{Caller}
 use Rattle.task_abort.specs.declared.log.View.{View}
 use Rattle.task_abort.specs.PhaseLog.{entry, Name, Log, calls_by, Begins, callers}
 use Rattle.task_abort.specs.Rule.{Has, Knows, Calls, Meets, HasMet}
-use Rattle.task_abort.specs.Staged.{told_answer, told, Aborter, OnlyAborted, Lists, LastRound}
+use Rattle.task_abort.specs.Staged.{told_answer, made, told, Aborter, OnlyAborted, Lists, LastRound}
 use Rattle.task_abort.proofs.LogLemmas.{begins_refl, begins_more}
 use Rattle.task_abort.proofs.CallerLemmas.{has_own}
 
@@ -36,7 +36,7 @@ round_called call v found w n r c = record {
 }
 
 pub lists_called : (call : PhaseCall) (v : View) (found : Phase) (w : View) (own : List CallMade) (aborters : List Aborter) → Lists v own aborters → Calls call v found w
-    → Lists w (own ++ record { call = call; answer = told_answer call found } ∷ []) aborters
+    → Lists w (own ++ made call (told_answer call found) ∷ []) aborters
 lists_called call v found w own aborters l c = let made : LogEntry Name = entry v.own.name call found in record {
   own_calls = ap (λ (z : List CallMade). z ++ told (entry v.own.name call found) ∷ []) l.own_calls ∙ sym (map-append told v.own.calls (entry v.own.name call found ∷ [])) ∙ ap (λ (z : Caller). map told z.calls) (sym c.own);
   aborts = subst (λ (z : List Caller). OnlyAborted z aborters) (sym c.same.0) l.aborts;

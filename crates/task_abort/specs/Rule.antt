@@ -1,5 +1,5 @@
 -- The rule over the word and all passes, and what a pass and a call know by it.
-use Rattle.std.specs.Prelude.{◌≡◌, ℕ, ◌≤◌, ◌<◌, ◌⊎◌, Bool, true, false, if◌then◌else◌, List, [], ◌∷◌, ◌++◌, sum_by, count_by}
+use Rattle.std.specs.Prelude.{◌≡◌, ℕ, ◌≤◌, ◌<◌, ◌⊎◌, false, if◌then◌else◌, List, [], ◌∷◌, ◌++◌, sum_by, count_by}
 use mathlib.Core.Option.{some}
 use lib.ListN.{get_elem?}
 use Rattle.atomic_table.specs.Table.{Me}
@@ -8,7 +8,7 @@ use Rattle.task_abort.specs.declared.log.PhaseCall.{PhaseCall}
 use Rattle.task_abort.specs.declared.log.LogEntry.{LogEntry}
 use Rattle.task_abort.specs.declared.log.Caller.{Caller}
 use Rattle.task_abort.specs.declared.log.View.{View}
-use Rattle.task_abort.specs.PhaseLog.{code, phase_of_code, after, entry, phase, IsLegal, Name, Log, same_name, calls_by, Begins, callers, IsFirst, joined}
+use Rattle.task_abort.specs.PhaseLog.{code, phase_of_code, after, entry, phase, IsLegal, Name, Log, same_name, calls_by, Begins, callers, IsFirst}
 
 -- how many of the callers have the name
 abbrev pub named : Name → List Caller → ℕ

@@ -1,5 +1,5 @@
 -- A log put together from what each caller can list, by stages.
-use Rattle.std.specs.Prelude.{◌≡◌, ℕ, ◌+◌, ◌-◌, ◌≤◌, ◌<◌, Bool, true, false, if◌then◌else◌, List, [], ◌∷◌, ◌++◌, ◌==◌, ◌&&◌, ◌||◌, filter, map, length, Option, Some, None}
+use Rattle.std.specs.Prelude.{◌≡◌, ℕ, ◌-◌, ◌≤◌, ◌<◌, Bool, true, false, if◌then◌else◌, List, [], ◌∷◌, ◌++◌, ◌==◌, ◌&&◌, ◌||◌, filter, map, length, Option, Some, None}
 use mathlib.Core.Option.{some}
 use lib.ListN.{get_elem?}
 use Rattle.task_abort.specs.declared.log.Phase.{Phase}
@@ -10,7 +10,7 @@ use Rattle.task_abort.specs.declared.log.LogEntry.{LogEntry}
 use Rattle.task_abort.specs.declared.log.CallMade.{CallMade}
 use Rattle.task_abort.specs.declared.log.Caller.{Caller}
 use Rattle.task_abort.specs.declared.log.View.{View}
-use Rattle.task_abort.specs.PhaseLog.{entry, Name, Log, calls_by, Begins}
+use Rattle.task_abort.specs.PhaseLog.{entry, Log, calls_by, Begins}
 
 -- what its caller is told of a call
 abbrev pub told_answer : PhaseCall → Phase → Option Phase
@@ -21,8 +21,11 @@ told_answer PollHandle AbortRequested = None
 told_answer PollHandle Complete = Some Complete
 told_answer Finish p = Some p
 
+abbrev pub made : PhaseCall → Option Phase → CallMade
+made c answer = record { call = c; answer = answer }
+
 abbrev pub told : {C : Type 0} → LogEntry C → CallMade
-told e = record { call = e.call; answer = told_answer e.call e.answer }
+told e = made e.call (told_answer e.call e.answer)
 
 -- an aborter's number, and what its aborts found
 abbrev pub Aborter : Type 0

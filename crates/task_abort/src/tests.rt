@@ -1,8 +1,16 @@
-ghost use Rattle.std.specs.Prelude.{◌≡◌};
+ghost use Rattle.std.specs.Prelude.{◌≡◌, [], ◌∷◌, Some, None};
 ghost use Rattle.std.specs.Option.{ForSome};
 ghost use Rattle.task_abort.specs.Cells.{handle_cell, pass_cell, work_cell};
+ghost use Rattle.task_abort.specs.PhaseLog.{entry};
+ghost use Rattle.task_abort.specs.Staged.{made, staged};
+ghost use Rattle.task_abort.specs.declared.log.Phase.TheVariants.{Running, AbortRequested};
+ghost use Rattle.task_abort.specs.declared.log.PhaseCall.TheVariants.{Abort, PollFuture, PollHandle, Finish};
 
-use crate::{Abortable, CallMade, JoinHandle, JoinPass, LogEntry, Phase, PhaseCall};
+use crate::{
+    Abortable, CallMade, JoinHandle, JoinPass, LogEntry, Phase, PhaseCall, known_callers,
+    late_calls_stand_last, phases_of_seen_calls, staged_log_is_legal, staged_log_keeps_lists,
+    unfinished_calls,
+};
 use futures::Future;
 use futures::executor::block_on;
 use futures::task::{Context, Poll};
@@ -309,8 +317,41 @@ fn a_handle_aborts_from_another_thread(rt: HostRuntime) -> Result<(), Fail> {
     Ok(())
 }
 
+/// The laws' conditions are met by a pass that has met all others.
+#[test]
+fn a_pass_that_met_all_knows_all_callers(rt: HostRuntime) -> Result<(), Fail> {
+    let Ok((handle, work, mut pass)) = JoinHandle::run(rt.alloc(), 7u8) else {
+        panic!(rt; "no memory")
+    };
+    let Ok(mut other) = handle.split_pass(&mut pass) else {
+        panic!(rt; "no memory")
+    };
+    let aborted = handle.abort(&mut other);
+    let finished = work.finish(&mut pass);
+    handle.meet(&mut pass, other);
+    known_callers(&pass);
+    staged_log_is_legal(&pass);
+    staged_log_keeps_lists(&pass);
+    late_calls_stand_last(&pass);
+    unfinished_calls(&pass);
+    phases_of_seen_calls(&pass);
+    assert_eq!(rt; aborted, Phase::Running);
+    assert_eq!(rt; finished, Phase::AbortRequested);
+    Ok(())
+}
+
+/// A log put together by stages: the pending poll before the last round is entered as one of a running work.
+fn staged_example()
+    ensures { staged
+        (made PollFuture (Some Running) ∷ made PollHandle None ∷ made PollFuture (Some AbortRequested) ∷ made PollHandle None ∷ made Finish (Some AbortRequested) ∷ [])
+        ((1, Running ∷ []) ∷ (3, AbortRequested ∷ []) ∷ []) 2
+        ≡ entry 0 PollFuture Running ∷ entry 0 PollHandle Running ∷ entry 1 Abort Running ∷ entry 3 Abort AbortRequested
+        ∷ entry 0 PollFuture AbortRequested ∷ entry 0 PollHandle AbortRequested ∷ entry 0 Finish AbortRequested ∷ [] }
+{}
+
 #[test]
 fn entries_are_compared_by_their_fields(rt: HostRuntime) -> Result<(), Fail> {
+    staged_example();
     let made = LogEntry {
         caller: 1u32,
         call: PhaseCall::Abort,

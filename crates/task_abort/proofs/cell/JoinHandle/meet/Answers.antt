@@ -1,4 +1,4 @@
-use Rattle.std.proofs.Common.{◌≡◌, rules, ap, subst, ◌∙◌}
+use Rattle.std.proofs.Common.{rules, ap, subst, ◌∙◌}
 use Rattle.task_abort.specs.declared.log.View.{View}
 use Rattle.task_abort.specs.Rule.{Settles}
 use Rattle.task_abort.proofs.MeetLemmas.{join_keeps, settle_keeps, meets}
