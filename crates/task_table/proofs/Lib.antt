@@ -1,0 +1,4 @@
+pub mod ReadLemmas
+pub mod CountLemmas
+pub mod TableLemmas
+pub mod SoundLemmas

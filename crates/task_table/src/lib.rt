@@ -1,0 +1,15 @@
+//! The resource table: entries of several kinds in one table, each named by an id whose place is given again and whose serial is not.
+#![tactic(auto)]
+
+mod error;
+mod id;
+mod iter;
+mod kind;
+mod place;
+mod table;
+
+pub use error::{PushError, ResourceTableError};
+pub use id::TableId;
+pub use iter::TableIter;
+pub use kind::Kind;
+pub use table::ResourceTable;

@@ -1,0 +1,190 @@
+ghost use Rattle.std.specs.Prelude.{◌≡◌, ◌<◌, ◌≤◌, ◌+◌, ◌-◌, ◌==◌, if◌then◌else◌, false, Some, None, IsSome, is_some, length, IfSome, IfOk, IfErr, OnOk, OnErr};
+ghost use Rattle.std.specs.Option.{option_map, option_copied};
+ghost use Rattle.std.specs.Result.{result_err};
+ghost use Rattle.std.specs.Borrow.{sem};
+ghost use Rattle.task_table.specs.Answers.{item_at, deletion, pair_refusal, parent_of, or_not_child, result_copied, result_copied_mut};
+ghost use Rattle.task_table.specs.Changes.{next_place, pushed, deleted, with_parent, with_capacity};
+ghost use Rattle.task_table.specs.Places.{placed};
+ghost use Rattle.task_table.specs.Entries.{entries};
+ghost use Rattle.task_table.specs.Table.{IsTable, new_table, place_at, found, table_len, free_count, is_full, is_number, children_of};
+
+use crate::error::{PushError, ResourceTableError};
+use crate::id::TableId;
+use crate::iter::TableIter;
+use crate::kind::Kind;
+use crate::place::{Place, Slot, link, unlink, vacate};
+use std::alloc::{AllocError, Global};
+use std::marker::Model;
+
+/// Entries of several kinds, each at a place under an id.
+#[derive(Drop)]
+pub struct ResourceTable<E> {
+    places: Vec<Place<E>>,
+    // The free places, the one freed last at the end. It has room for each place.
+    free: Vec<u32>,
+    // How many serials were given.
+    given: u64,
+    max_capacity: usize,
+}
+
+impl<E> Model for ResourceTable<E> {
+    ghost use Rattle.std.specs.Prelude.{vec_capacity};
+    ghost use Rattle.task_table.specs.Table.{Table, table_code};
+
+    ghost Value = { Table E };
+
+    ghost coded = { table_code E.code };
+
+    ghost use Rattle.task_table.specs.Places.{shown, IsSound};
+
+    ghost view = { λ t. shown t.places.items t.free.items t.given t.max_capacity };
+
+    ghost invariant = { λ t. IsSound t.places.items t.free.items (vec_capacity t.free) t.given t.max_capacity };
+}
+
+impl<E> ResourceTable<E> {
+    ghost use Rattle.task_table.specs.Lends.{lends_entry, lends_item};
+
+    /// An empty table with a capacity of 1,000,000 entries.
+    pub fn new(alloc: Global) -> ResourceTable<E>
+        ensures { result ≡ new_table }
+    {
+        ResourceTable {
+            places: Vec::new(alloc),
+            free: Vec::new(alloc),
+            given: 0,
+            max_capacity: 1_000_000,
+        }
+    }
+
+    /// How many entries there are.
+    pub fn len(&self) -> usize
+        ensures len { result ≡ table_len self.now }
+        ensures sound { IsTable self.now }
+    {
+        self.places.len() - self.free.len()
+    }
+
+    /// Whether there is no entry.
+    pub fn is_empty(&self) -> bool
+        ensures { result ≡ (table_len self.now == 0) }
+    {
+        self.len() == 0
+    }
+
+    /// How many pushes the capacity still allows.
+    pub fn free(&self) -> usize
+        ensures { result ≡ free_count self.now }
+    {
+        self.free.len() + self.max_capacity.saturating_sub(self.places.len())
+    }
+
+    /// The most places that pushes make.
+    pub fn max_capacity(&self) -> usize
+        ensures { result ≡ self.now.capacity }
+    {
+        self.max_capacity
+    }
+
+    /// Sets the most places that pushes make, at most 4,294,967,295. A lower one removes nothing, and free places are given again.
+    #[tactic(auto, unfolding(crate::specs::Changes::with_capacity))]
+    pub fn set_max_capacity(&mut self, n: usize)
+        requires { n ≤ 4294967295 }
+        ensures { self.new ≡ with_capacity n self.old }
+    {
+        self.max_capacity = n;
+    }
+
+    // The slot at a place.
+    fn slot_at(&self, rep: u32) -> Option<&Slot<E>>
+        ensures place { option_map placed (option_copied result) ≡ place_at self.now rep }
+        ensures children { IfSome result (λ slot. slot.now.children ≡ children_of self.now rep) }
+        ensures sound { IsTable self.now }
+    {
+        match self.places.get(rep as usize) {
+            Some(Place::Taken(slot)) => Some(slot),
+            _ => None,
+        }
+    }
+
+    // The slot of the entry with this place and serial.
+    #[tactic(auto, unfolding(crate::specs::Table::found))]
+    fn slot(&self, rep: u32, serial: u64) -> Option<&Slot<E>>
+        ensures found { option_map placed (option_copied result) ≡ found self.now rep serial }
+    {
+        match self.slot_at(rep) {
+            Some(slot) if slot.serial == serial => Some(slot),
+            _ => None,
+        }
+    }
+
+    // Whether there is an entry with this place and serial.
+    fn contains(&self, rep: u32, serial: u64) -> bool
+        ensures { result ≡ is_some (found self.now rep serial) }
+    {
+        self.slot(rep, serial).is_some()
+    }
+
+    // How many entries have their parent at this place.
+    fn count_children(&self, rep: u32) -> u32
+        ensures { result ≡ children_of self.now rep }
+    {
+        match self.slot_at(rep) {
+            Some(slot) => slot.children,
+            None => 0,
+        }
+    }
+
+    // Whether no push is allowed.
+    fn is_full(&self) -> bool
+        ensures { result ≡ is_full self.now }
+    {
+        self.free.is_empty() && self.places.len() >= self.max_capacity || self.given == u64::MAX
+    }
+
+    /// The item of the entry with this id. `NotPresent` where no entry has its place and serial, `WrongType` where that entry is of another kind.
+    pub fn get<K: Kind<E>>(&self, id: TableId<K>) -> Result<&K::Item, ResourceTableError>
+        ensures { result_copied result ≡ item_at K.item_of self.now id.rep id.serial }
+    {
+        match self.slot(id.rep, id.serial) {
+            Some(slot) => K::view(&slot.entry).ok_or(ResourceTableError::WrongType),
+            None => Err(ResourceTableError::NotPresent),
+        }
+    }
+
+    // The entry at a taken place, for writing.
+    fn entry_mut(&mut self, rep: u32) -> &mut E
+        requires { IsSome (place_at self.old rep) }
+        ensures* lends { sem 𝓛 (lends_entry E.row self.entry rep result) }
+        ensures value { option_map (λ p. p.entry) (place_at self.old rep) ≡ Some result.now }
+    {
+        self.places[rep as usize].entry_mut()
+    }
+
+    /// The item of the entry with this id, for writing. It is refused as `get` is.
+    pub fn get_mut<K: Kind<E>>(
+        &mut self,
+        id: TableId<K>,
+    ) -> Result<&mut K::Item, ResourceTableError>
+        ensures* writes_back { sem 𝓛 (lends_item E.row self.entry id.rep K.Item.row K.entry_of result) }
+        ensures value { result_copied_mut result ≡ item_at K.item_of self.old id.rep id.serial }
+    {
+        if !self.contains(id.rep, id.serial) {
+            return Err(ResourceTableError::NotPresent);
+        }
+        match K::view_mut(self.entry_mut(id.rep)) {
+            Some(item) => Ok(item),
+            None => Err(ResourceTableError::WrongType),
+        }
+    }
+
+    /// The entries with their places, in order of the place.
+    pub fn iter(&self) -> TableIter<'_, E>
+        ensures { result ≡ entries self.now }
+    {
+        TableIter {
+            places: self.places.as_slice(),
+            rep: 0,
+        }
+    }
+}
