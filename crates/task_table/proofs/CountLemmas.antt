@@ -1,7 +1,7 @@
 -- How each change of a place keeps the counts of children.
-use Rattle.std.proofs.Common.{◌≡◌, ◌≢◌, ℕ, zero, suc, ◌+◌, ◌-◌, ◌<◌, ◌≤◌, ◌^◌, ◌⊎◌, inl, inr, Bool, true, false, cond, List, [], ◌∷◌, ◌++◌, map, length, set, slice_get, count_by, Option, Some, None, IsSome, option_map, option_and_then, ◌==◌, length-set, get_or, refl, sym, ap, subst, ◌∙◌, arith}
+use Rattle.std.proofs.Common.{◌≡◌, ◌≢◌, ℕ, zero, suc, ◌+◌, ◌-◌, ◌<◌, ◌≤◌, ◌^◌, ◌⊎◌, inl, inr, Bool, true, false, cond, List, [], ◌∷◌, ◌++◌, map, reverse, length, set, slice_get, count_by, Option, Some, None, IsSome, option_map, option_and_then, ◌==◌, length-set, get_or, refl, sym, ap, subst, ◌∙◌, arith}
 use Rattle.std.proofs.lemmas.Bool.{cases_eq, eq-eqb, ne_eqb}
-use Rattle.std.proofs.lemmas.List.{map-set, map_push, length-map}
+use Rattle.std.proofs.lemmas.List.{map-set, map_push, length-map, reverse-append}
 use Rattle.std.proofs.lemmas.List.Sums.{count_by-le-length}
 use Rattle.std.proofs.lemmas.Option.{slice_get_within, slice_get-map, slice_get_past, slice_get_read, same_Some, get_or_from_slice_get}
 use Rattle.task_table.specs.declared.place.Place.{Place}
@@ -9,7 +9,7 @@ use Rattle.task_table.specs.declared.place.Place.TheVariants.{Free, Taken}
 use Rattle.task_table.specs.declared.place.Slot.{Slot}
 use Rattle.task_table.specs.Table.{Placed, is_child_of, is_number, standing}
 use Rattle.task_table.specs.Changes.{parent_put, with_parent_at}
-use Rattle.task_table.specs.Places.{placed, placed_in, slot_of, slot_at, slot_children, children_at, place_with_parent, IsCounted, IsCountedBut}
+use Rattle.task_table.specs.Places.{placed, placed_in, slot_of, slot_at, slot_children, children_at, place_with_parent, NextIsFree, IsCounted, IsCountedBut}
 use Rattle.task_table.proofs.ReadLemmas.{slice_get-set_same, slice_get-set_other, slice_get-push_same, slice_get-push_other, set-slice_get, count_by-set, count_by-push}
 
 abbrev pub one_if : Bool → ℕ
@@ -254,3 +254,13 @@ module _ {E : Type 0} where
   counted-vacated ps i s new found childless is counted =
       let none : Some s.children ≡ Some 0 = sym (ap (λ o. option_map (λ r. r.children) o) (slot_at_taken ps i s found)) ∙ childless in
       subst (λ p. IsCountedBut (set ps i p) s.parent) (sym is) (counted-vacate ps i s found (same_Some s.children 0 none) counted)
+
+  -- the place that is popped off the free ones has no entry
+  pub popped_free : (ps : List (Place E)) (free rest : List ℕ) (rep : ℕ) → free ≡ rest ++ rep ∷ [] → NextIsFree (reverse free) ps → slice_get ps rep ≡ Some Free
+  popped_free ps free rest rep is next = subst (λ ns. NextIsFree ns ps) (ap reverse is ∙ reverse-append rest (rep ∷ [])) next
+
+  pub popped_not_taken : (ps : List (Place E)) (free rest : List ℕ) (rep : ℕ) (read : Place E) (s : Slot E) → free ≡ rest ++ rep ∷ [] → NextIsFree (reverse free) ps → read ≡ get_or ps rep read → read ≡ Taken s → ⊥
+  popped_not_taken ps free rest rep read s is next value taken =
+      let found = popped_free ps free rest rep is next in
+      let there = get_or_from_slice_get ps rep Free read found in
+      cc

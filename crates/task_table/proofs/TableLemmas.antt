@@ -1,12 +1,14 @@
 -- Laws of a table and its changes, for this crate and its callers.
-use Rattle.std.proofs.Common.{◌≡◌, ◌≢◌, ℕ, zero, suc, ◌+◌, ◌-◌, ◌<◌, ◌≤◌, ◌^◌, ◌==◌, ◌&&◌, ◌||◌, ◌⊎◌, inl, inr, Bool, true, false, cond, nat_le, List, [], ◌∷◌, ◌++◌, drop, length, set, slice_get, count_by, Option, Some, None, is_some, IsSome, refl, sym, ap, subst, ◌∙◌, arith, length-set, option_map, Ok, Err, ok_or}
+use Rattle.std.proofs.Common.{◌≡◌, ◌≢◌, ℕ, zero, suc, ◌+◌, ◌-◌, ◌<◌, ◌≤◌, ◌^◌, ◌==◌, ◌&&◌, ◌||◌, ◌⊎◌, inl, inr, Bool, true, false, cond, nat_le, List, [], ◌∷◌, ◌++◌, drop, length, set, slice_get, count_by, Option, Some, None, is_some, IsSome, refl, sym, ap, subst, ◌∙◌, arith, length-set, option_map, Result, Ok, Err, ok_or}
+use Rattle.std.specs.Result.{result_ok}
 use Rattle.std.proofs.lemmas.Bool.{cases_eq, eq-eqb, ne_eqb, and_parts, or_parts, and_cases, leb-false, cases_Bool, eqb-true}
 use Rattle.std.proofs.lemmas.List.{length_push}
 use Rattle.std.proofs.lemmas.List.Sums.{sum_by-cons}
 use Rattle.std.proofs.lemmas.Option.{slice_get_within, slice_get_past, same_Some}
 use Rattle.task_table.specs.Table.{Table, Placed, IsTable, place_at, standing, found, of_serial, is_child_of, is_number, children_of, is_free, is_nil, is_full, table_len, free_count}
 use Rattle.task_table.specs.declared.error.ResourceTableError.TheVariants.{WrongType}
-use Rattle.task_table.specs.Answers.{item_in, item_at}
+use Rattle.task_table.specs.Answers.{item_in, item_at, pair_refusal, deletion, unless_children}
+use Rattle.task_table.specs.Kind.{unwrapped, or_entry}
 use Rattle.task_table.specs.Changes.{pushed, put_at_next, next_place, next_of, deleted, with_entry, with_entry_at, entry_put, with_parent, with_parent_at, parent_put, with_capacity}
 use Rattle.task_table.proofs.ReadLemmas.{slice_get-set_same, slice_get-set_other, slice_get-push_same, slice_get-push_other, set-slice_get, count_by-set, count_by-push, count_by-found}
 
@@ -122,7 +124,7 @@ module _ {E : Type 0} where
   IsTable-with_capacity t n fits table =
       record { places_fit = table.places_fit; capacity_fits = fits; free_once = table.free_once; free_or_taken = table.free_or_taken; serials = table.serials; parents = table.parents }
 
-  some_of : (o : Option (Placed E)) → IsSome o → (p : Placed E) × (o ≡ Some p)
+  pub some_of : (o : Option (Placed E)) → IsSome o → (p : Placed E) × (o ≡ Some p)
   some_of None is = absurd (cc)
   some_of (Some p) is = (p, refl)
 
@@ -160,3 +162,238 @@ module _ {E : Type 0} where
     item_at-wrong t rep serial entry is read kind =
         let one = found_entry t rep serial entry is read in
         sym (ap (item_in item_of) one.1 ∙ ap (λ e. ok_or (item_of e) WrongType) one.2 ∙ ap (λ o. ok_or o WrongType) kind)
+
+  -- a place on the free list has no entry
+  pub free_head : (t : Table E) (rep : ℕ) (rest : List ℕ) → t.free ≡ rep ∷ rest → IsTable t → slice_get t.places rep ≡ Some None
+  free_head t rep rest is table = by_read (slice_get t.places rep) refl counted
+    where
+      counted : one_if (is_free (slice_get t.places rep)) ≡ 1 + count_by (λ r. r == rep) rest
+      counted =
+          let one : one_if (rep == rep) ≡ 1 = ap one_if (eq-eqb rep rep refl) in
+          let head = sum_by-cons (λ r. one_if (r == rep)) rep rest in
+          sym (table.free_once rep) ∙ ap (count_by (λ r. r == rep)) is ∙ head ∙ ap (λ n. n + count_by (λ r. r == rep) rest) one
+
+      by_read : (o : Option (Option (Placed E))) → slice_get t.places rep ≡ o → one_if (is_free o) ≡ 1 + count_by (λ r. r == rep) rest → slice_get t.places rep ≡ Some None
+      by_read None at free = absurd (omega arith)
+      by_read (Some None) at free = at
+      by_read (Some (Some p)) at free = absurd (omega arith)
+
+  -- a table that is not full has serials left, and a free place or fewer places than its capacity
+  pub room_left : (t : Table E) → is_full t ≡ false → (t.given < 2 ^ 64 - 1) × ((is_nil t.free ≡ false) ⊎ (length t.places < t.capacity))
+  room_left t full =
+      let parts = or_parts (is_nil t.free && nat_le t.capacity (length t.places)) (nat_le (2 ^ 64 - 1) t.given) full in (
+        leb-false (2 ^ 64 - 1) t.given parts.1,
+        elim (and_cases (is_nil t.free) (nat_le t.capacity (length t.places)) parts.0) [
+          | inl some ↦ inl some
+          | inr fewer ↦ inr (leb-false t.capacity (length t.places) fewer)
+        ],
+      )
+
+  module _ (t : Table E) (table : IsTable t) (entry : E) where
+    -- at a place that was freed
+    IsTable-filled : (rep : ℕ) (rest : List ℕ) → t.free ≡ rep ∷ rest → IsTable (record { places = set t.places rep (Some (record { serial = t.given; parent = None; entry = entry })); free = rest; given = t.given + 1; capacity = t.capacity })
+    IsTable-filled rep rest is =
+        record {
+          places_fit = let same = length-set t.places rep (Some new) in let fit = table.places_fit in omega arith;
+          capacity_fits = table.capacity_fits;
+          free_once = free_once;
+          free_or_taken =
+              let same = length-set t.places rep (Some new) in
+              let total = table.free_or_taken in
+              let count = count_by-set is_some t.places rep None (Some new) there in
+              let longer : length t.free ≡ suc (length rest) = ap length is in
+              omega arith;
+          serials = λ r s at. elim (cases_eq r rep) [
+            | inl here ↦ let same = ap (λ x. x.serial) (same_Some new s (sym (at_same r here) ∙ at)) in omega arith
+            | inr other ↦ let before = table.serials r s (sym (at_other r other) ∙ at) in omega arith
+          ];
+          parents = λ r none. elim (cases_eq r rep) [
+            | inl here ↦ absurd (let e = sym (at_same r here) ∙ none in cc)
+            | inr other ↦
+                let count = count_by-set (is_child_of r) t.places rep None (Some new) there in
+                let before = table.parents r (sym (at_other r other) ∙ none) in
+                omega arith
+          ];
+        }
+      where
+        new : Placed E
+        new = record { serial = t.given; parent = None; entry = entry }
+
+        there : slice_get t.places rep ≡ Some None
+        there = free_head t rep rest is table
+
+        written : slice_get (set t.places rep (Some new)) rep ≡ Some (Some new)
+        written = slice_get-set_same t.places rep (Some new) (slice_get_within t.places rep None there)
+
+        at_same : (r : ℕ) → r ≡ rep → standing (slice_get (set t.places rep (Some new)) r) ≡ Some new
+        at_same r here = ap (λ x. standing (slice_get (set t.places rep (Some new)) x)) here ∙ ap standing written
+
+        at_other : (r : ℕ) → (r ≡ rep → ⊥) → standing (slice_get (set t.places rep (Some new)) r) ≡ place_at t r
+        at_other r other = ap standing (slice_get-set_other t.places rep r (Some new) other)
+
+        free_once : (r : ℕ) → count_by (λ x. x == r) rest ≡ one_if (is_free (slice_get (set t.places rep (Some new)) r))
+        free_once r =
+            let before = table.free_once r in
+            let head : count_by (λ x. x == r) t.free ≡ one_if (rep == r) + count_by (λ x. x == r) rest = ap (count_by (λ x. x == r)) is ∙ sum_by-cons (λ x. one_if (x == r)) rep rest in
+            elim (cases_eq r rep) [
+              | inl here ↦
+                  let one : one_if (rep == r) ≡ 1 = ap one_if (eq-eqb rep r (sym here)) in
+                  let was : one_if (is_free (slice_get t.places r)) ≡ 1 = ap (λ x. one_if (is_free (slice_get t.places x))) here ∙ ap (λ o. one_if (is_free o)) there in
+                  let now : one_if (is_free (slice_get (set t.places rep (Some new)) r)) ≡ 0 = ap (λ x. one_if (is_free (slice_get (set t.places rep (Some new)) x))) here ∙ ap (λ o. one_if (is_free o)) written in
+                  omega arith
+              | inr other ↦
+                  let none : one_if (rep == r) ≡ 0 = ap one_if (ne_eqb rep r (λ e. other (sym e))) in
+                  let now : one_if (is_free (slice_get (set t.places rep (Some new)) r)) ≡ one_if (is_free (slice_get t.places r)) = ap (λ o. one_if (is_free o)) (slice_get-set_other t.places rep r (Some new) other) in
+                  omega arith
+            ]
+
+    -- at a new place
+    IsTable-appended : t.free ≡ [] → length t.places < t.capacity → IsTable (record { places = t.places ++ Some (record { serial = t.given; parent = None; entry = entry }) ∷ []; free = []; given = t.given + 1; capacity = t.capacity })
+    IsTable-appended is fewer =
+        record {
+          places_fit = let longer = length_push t.places (Some new) in let fit = table.capacity_fits in omega arith;
+          capacity_fits = table.capacity_fits;
+          free_once = free_once;
+          free_or_taken =
+              let longer = length_push t.places (Some new) in
+              let total = table.free_or_taken in
+              let count = count_by-push is_some t.places (Some new) in
+              let none : length t.free ≡ 0 = ap length is in
+              omega arith;
+          serials = λ r s at. elim (cases_eq r (length t.places)) [
+            | inl here ↦ let same = ap (λ x. x.serial) (same_Some new s (sym (at_same r here) ∙ at)) in omega arith
+            | inr other ↦ let before = table.serials r s (sym (at_other r other) ∙ at) in omega arith
+          ];
+          parents = λ r none. elim (cases_eq r (length t.places)) [
+            | inl here ↦ absurd (let e = sym (at_same r here) ∙ none in cc)
+            | inr other ↦
+                let count = count_by-push (is_child_of r) t.places (Some new) in
+                let before = table.parents r (sym (at_other r other) ∙ none) in
+                omega arith
+          ];
+        }
+      where
+        new : Placed E
+        new = record { serial = t.given; parent = None; entry = entry }
+
+        at_same : (r : ℕ) → r ≡ length t.places → standing (slice_get (t.places ++ Some new ∷ []) r) ≡ Some new
+        at_same r here = ap standing (slice_get-push_same t.places r (Some new) here)
+
+        at_other : (r : ℕ) → (r ≡ length t.places → ⊥) → standing (slice_get (t.places ++ Some new ∷ []) r) ≡ place_at t r
+        at_other r other = ap standing (slice_get-push_other t.places r (Some new) other)
+
+        free_once : (r : ℕ) → count_by (λ x. x == r) [] ≡ one_if (is_free (slice_get (t.places ++ Some new ∷ []) r))
+        free_once r =
+            let before : 0 ≡ one_if (is_free (slice_get t.places r)) = sym (ap (count_by (λ x. x == r)) is) ∙ table.free_once r in
+            elim (cases_eq r (length t.places)) [
+              | inl here ↦ sym (ap (λ o. one_if (is_free o)) (slice_get-push_same t.places r (Some new) here))
+              | inr other ↦ before ∙ sym (ap (λ o. one_if (is_free o)) (slice_get-push_other t.places r (Some new) other))
+            ]
+
+    -- a push keeps the table in order
+    pub IsTable-pushed : is_full t ≡ false → IsTable (pushed entry t)
+    unfolding pushed
+    IsTable-pushed full = by_free t.free refl (room_left t full).1
+      where
+        by_free : (free : List ℕ) → t.free ≡ free → (is_nil free ≡ false) ⊎ (length t.places < t.capacity) → IsTable (pushed entry t)
+        by_free [] is (inl some) = absurd (cc)
+        by_free [] is (inr fewer) = subst (λ fs. IsTable (record { places = put_at_next fs (Some (record { serial = t.given; parent = None; entry = entry })) t.places; free = drop 1 fs; given = t.given + 1; capacity = t.capacity })) (sym is) (IsTable-appended is fewer)
+        by_free (rep ∷ rest) is room = subst (λ fs. IsTable (record { places = put_at_next fs (Some (record { serial = t.given; parent = None; entry = entry })) t.places; free = drop 1 fs; given = t.given + 1; capacity = t.capacity })) (sym is) (IsTable-filled rep rest is)
+
+  -- a deletion of an entry without children keeps the table in order
+  pub IsTable-deleted : (t : Table E) (rep : ℕ) (p : Placed E) → place_at t rep ≡ Some p → children_of t rep ≡ 0 → IsTable t → IsTable (deleted rep t)
+  unfolding deleted
+  IsTable-deleted t rep p at childless table =
+      record {
+        places_fit = let same = length-set t.places rep None in let fit = table.places_fit in omega arith;
+        capacity_fits = table.capacity_fits;
+        free_once = free_once;
+        free_or_taken =
+            let same = length-set t.places rep None in
+            let total = table.free_or_taken in
+            let count = count_by-set is_some t.places rep (Some p) None there in
+            omega arith;
+        serials = λ r s here_is. elim (cases_eq r rep) [
+          | inl here ↦ absurd (let e = sym (at_same r here) ∙ here_is in cc)
+          | inr other ↦ table.serials r s (sym (at_other r other) ∙ here_is)
+        ];
+        parents = λ r none. let count = count_by-set (is_child_of r) t.places rep (Some p) None there in elim (cases_eq r rep) [
+          | inl here ↦ let before : children_of t r ≡ 0 = ap (children_of t) here ∙ childless in omega arith
+          | inr other ↦ let before = table.parents r (sym (at_other r other) ∙ none) in omega arith
+        ];
+      }
+    where
+      there : slice_get t.places rep ≡ Some (Some p)
+      there = place_at_there t rep p at
+
+      written : slice_get (set t.places rep None) rep ≡ Some None
+      written = slice_get-set_same t.places rep None (slice_get_within t.places rep (Some p) there)
+
+      at_same : (r : ℕ) → r ≡ rep → standing (slice_get (set t.places rep None) r) ≡ None
+      at_same r here = ap (λ x. standing (slice_get (set t.places rep None) x)) here ∙ ap standing written
+
+      at_other : (r : ℕ) → (r ≡ rep → ⊥) → standing (slice_get (set t.places rep None) r) ≡ place_at t r
+      at_other r other = ap standing (slice_get-set_other t.places rep r None other)
+
+      free_once : (r : ℕ) → count_by (λ x. x == r) (rep ∷ t.free) ≡ one_if (is_free (slice_get (set t.places rep None) r))
+      free_once r =
+          let before = table.free_once r in
+          let head = sum_by-cons (λ x. one_if (x == r)) rep t.free in
+          elim (cases_eq r rep) [
+            | inl here ↦
+                let one : one_if (rep == r) ≡ 1 = ap one_if (eq-eqb rep r (sym here)) in
+                let was : one_if (is_free (slice_get t.places r)) ≡ 0 = ap (λ x. one_if (is_free (slice_get t.places x))) here ∙ ap (λ o. one_if (is_free o)) there in
+                let now : one_if (is_free (slice_get (set t.places rep None) r)) ≡ 1 = ap (λ x. one_if (is_free (slice_get (set t.places rep None) x))) here ∙ ap (λ o. one_if (is_free o)) written in
+                omega arith
+            | inr other ↦
+                let none : one_if (rep == r) ≡ 0 = ap one_if (ne_eqb rep r (λ e. other (sym e))) in
+                let now : one_if (is_free (slice_get (set t.places rep None) r)) ≡ one_if (is_free (slice_get t.places r)) = ap (λ o. one_if (is_free o)) (slice_get-set_other t.places rep r None other) in
+                omega arith
+          ]
+
+  -- an id with an item finds an entry that holds it
+  pub item_found : {Item : Type 0} (item_of : E → Option Item) (t : Table E) (rep serial : ℕ) (item : Item) → item_at item_of t rep serial ≡ Ok item → (p : Placed E) × (found t rep serial ≡ Some p) × (item_of p.entry ≡ Some item)
+  item_found {Item} item_of t rep serial item is = by_found (found t rep serial) refl is
+    where
+      by_item : (p : Placed E) (o : Option Item) → item_of p.entry ≡ o → ok_or o WrongType ≡ Ok item → item_of p.entry ≡ Some item
+      by_item p None at some = absurd (cc)
+      by_item p (Some x) at some = at ∙ ap (λ r. result_ok r) some
+
+      by_found : (o : Option (Placed E)) → found t rep serial ≡ o → item_in item_of o ≡ Ok item → (p : Placed E) × (found t rep serial ≡ Some p) × (item_of p.entry ≡ Some item)
+      by_found None at some = absurd (cc)
+      by_found (Some p) at some = (p, at, by_item p (item_of p.entry) refl some)
+
+  -- where a pair is not refused, both entries are there
+  pub pair_there : {C P : Type 0} (child_in : E → Option C) (parent_in : E → Option P) (c p : Option (Placed E)) → pair_refusal child_in parent_in c p ≡ None → IsSome c × IsSome p
+  pair_there child_in parent_in None p is = absurd (cc)
+  pair_there child_in parent_in (Some c) None is = absurd (cc)
+  pair_there child_in parent_in (Some c) (Some p) is = (refl, refl)
+
+  -- fewer places are free than were made, where one is taken
+  pub free_fewer : (t : Table E) (rep : ℕ) (p : Placed E) → place_at t rep ≡ Some p → IsTable t → length t.free + 1 ≤ length t.places
+  free_fewer t rep p at table =
+      let one = count_by-found is_some t.places rep (Some p) (place_at_there t rep p at) in
+      let total = table.free_or_taken in
+      omega arith
+
+  -- the entry of an id with an item stands at its place
+  pub item_place : {Item : Type 0} (item_of : E → Option Item) (t : Table E) (rep serial : ℕ) (item : Item) → item_at item_of t rep serial ≡ Ok item → (p : Placed E) × (place_at t rep ≡ Some p) × (item_of p.entry ≡ Some item)
+  item_place item_of t rep serial item is =
+      let one = item_found item_of t rep serial item is in
+      (one.0, (found_at t rep serial one.0 one.1).0, one.2)
+
+  -- an entry of the kind is unwrapped as its item
+  pub unwrapped-item : {Item : Type 0} (item_of : E → Option Item) (entry held : E) (item : Item) → entry ≡ held → item_of held ≡ Some item → unwrapped item_of entry ≡ Ok item
+  unwrapped-item item_of entry held item same is = ap (or_entry entry) (ap item_of same ∙ is)
+
+  -- an item without children is deleted
+  pub deletion-ok : {Item : Type 0} (item_of : E → Option Item) (t : Table E) (rep serial : ℕ) (item given : Item) → ◌≡◌ {A = Result Item E} (Ok given) (Ok item) → item_at item_of t rep serial ≡ Ok item → children_of t rep ≡ 0 → Ok given ≡ deletion item_of t rep serial
+  deletion-ok item_of t rep serial item given same is childless =
+      ap Ok (same_Some given item (ap (λ r. result_ok r) same))
+      ∙ sym (ap (λ n. unless_children n (item_at item_of t rep serial)) childless ∙ ap (unless_children 0) is)
+
+  pub parent_at : (t : Table E) (parent r : ℕ) → Some parent ≡ Some r → IsSome (place_at t parent) → IsSome (place_at t r)
+  parent_at t parent r is there = subst (λ n. IsSome (place_at t n)) (same_Some parent r is) there
+
+  pub no_parent_at : (t : Table E) (r : ℕ) → ◌≡◌ {A = Option ℕ} None (Some r) → IsSome (place_at t r)
+  no_parent_at t r is = absurd (cc)

@@ -1,5 +1,6 @@
 -- How a table lays out its places. No public clause cites this module.
-use Rattle.std.specs.Prelude.{◌≡◌, ℕ, ◌+◌, ◌≤◌, if◌then◌else◌, List, map, reverse, length, slice_get, count_by, Option, Some, None}
+use Rattle.std.specs.Prelude.{◌≡◌, ℕ, ◌+◌, ◌<◌, ◌≤◌, if◌then◌else◌, List, [], ◌∷◌, ◌++◌, map, slice_set, Vec, vec_capacity, reverse, length, slice_get, count_by, Option, Some, None}
+use Rattle.std.specs.Global.{Global}
 use Rattle.std.specs.Option.{option_map, option_and_then}
 use Rattle.task_table.specs.Table.{Table, Placed, is_child_of, is_number, IsTable}
 use Rattle.task_table.specs.declared.place.Place.{Place}
@@ -52,6 +53,20 @@ module _ {E : Type 0} where
   -- each slot counts the entries whose parent it is
   abbrev pub IsCounted : List (Place E) → Type 0
   IsCounted ps = IsCountedBut ps None
+
+  -- where no place is free, there is room for one more, and for freeing it
+  abbrev pub HasRoom : Vec (Place E) Global → Vec ℕ Global → Type 0
+  HasRoom ps free = free.items ≡ [] → (length ps.items < vec_capacity ps) × (length ps.items < vec_capacity free)
+
+  -- the first free place, if there is one, has no entry
+  abbrev pub NextIsFree : List ℕ → List (Place E) → Type 0
+  NextIsFree [] ps = Unit {0}
+  NextIsFree (rep ∷ rest) ps = slice_get ps rep ≡ Some Free
+
+  -- the places with this one at the first free place, else at the end
+  abbrev pub filled : List ℕ → Place E → List (Place E) → List (Place E)
+  filled [] p ps = ps ++ p ∷ []
+  filled (rep ∷ rest) p ps = slice_set ps rep p
 
   -- what contracts see of a table
   abbrev pub shown : List (Place E) → List ℕ → ℕ → ℕ → Table E

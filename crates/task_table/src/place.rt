@@ -1,10 +1,11 @@
 //! What stands at the places of a table, and the changes of one place.
-ghost use Rattle.std.specs.Prelude.{◌≡◌, ◌<◌, ◌+◌, ◌^◌, map, Some, None, IsSome, slice_set, slice_index_or, length};
+ghost use Rattle.std.specs.Prelude.{◌≡◌, ◌<◌, ◌≤◌, ◌+◌, ◌^◌, [], map, reverse, drop, Some, None, IsSome, OnOk, slice_set, slice_index_or, length, vec_capacity};
 ghost use Rattle.std.specs.Option.{option_map};
 ghost use Rattle.std.specs.Borrow.{Lends, sem};
-ghost use Rattle.task_table.specs.Places.{placed_in, slot_of, slot_at, entry_in, place_with, place_with_parent, children_at, IsCounted, IsCountedBut};
-ghost use Rattle.task_table.specs.Changes.{with_parent_at};
+ghost use Rattle.task_table.specs.Places.{placed_in, slot_of, slot_at, entry_in, place_with, place_with_parent, children_at, IsCounted, IsCountedBut, HasRoom, NextIsFree, filled};
+ghost use Rattle.task_table.specs.Changes.{next_of, with_parent_at};
 
+use std::alloc::AllocError;
 use std::mem;
 
 /// A place of the table.
@@ -121,5 +122,45 @@ pub(crate) fn vacate<E>(places: &mut Vec<Place<E>>, rep: u32) -> Slot<E>
             slot
         }
         Place::Free => unreachable!(),
+    }
+}
+
+/// Makes room for one place more, and for freeing it, where no place is free.
+pub(crate) fn reserve<E>(places: &mut Vec<Place<E>>, free: &mut Vec<u32>) -> Result<(), AllocError>
+    requires { length places.old.items < 2 ^ 32 }
+    ensures places { places.new.items ≡ places.old.items }
+    ensures free { free.new.items ≡ free.old.items }
+    ensures kept { vec_capacity free.old ≤ vec_capacity free.new }
+    ensures room { OnOk result (HasRoom places.new free.new) }
+{
+    if free.is_empty() {
+        free.reserve(places.len() + 1)?;
+        places.reserve(1)?;
+    }
+    Ok(())
+}
+
+/// Puts a slot at the place freed last, else at a new one.
+pub(crate) fn fill<E>(places: &mut Vec<Place<E>>, free: &mut Vec<u32>, slot: Slot<E>) -> u32
+    requires room { HasRoom places.old free.old }
+    requires free { NextIsFree (reverse free.old.items) places.old.items }
+    requires few { free.old.items ≡ [] → length places.old.items + 1 < 2 ^ 32 }
+    ensures rep { result ≡ next_of (reverse free.old.items) (length places.old.items) }
+    ensures places { places.new.items ≡ filled (reverse free.old.items) (Place.Taken slot) places.old.items }
+    ensures free { reverse free.new.items ≡ drop 1 (reverse free.old.items) }
+    ensures capacity { vec_capacity free.new ≡ vec_capacity free.old }
+{
+    match free.pop() {
+        Some(rep) => {
+            match mem::replace(&mut places[rep as usize], Place::Taken(slot)) {
+                Place::Free => rep,
+                Place::Taken(_) => unreachable!(),
+            }
+        }
+        None => {
+            let rep = places.len() as u32;
+            places.push_reserved(Place::Taken(slot));
+            rep
+        }
     }
 }

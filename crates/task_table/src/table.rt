@@ -12,7 +12,7 @@ use crate::error::{PushError, ResourceTableError};
 use crate::id::TableId;
 use crate::iter::TableIter;
 use crate::kind::Kind;
-use crate::place::{Place, Slot, link, unlink, vacate};
+use crate::place::{Place, Slot, fill, link, reserve, unlink, vacate};
 use std::alloc::{AllocError, Global};
 use std::marker::Model;
 
@@ -176,6 +176,137 @@ impl<E> ResourceTable<E> {
             Some(item) => Ok(item),
             None => Err(ResourceTableError::WrongType),
         }
+    }
+
+    /// Puts an item into the table, at the place freed last, else at a new one, and under a serial that was never given.
+    ///
+    /// It is `Full` exactly where no place is free and the places made are at least the capacity, or where 2^64 - 1 serials were given. A refused item comes back.
+    pub fn push<K: Kind<E>>(&mut self, item: K::Item) -> Result<TableId<K>, PushError<K::Item>>
+        ensures rep { IfOk result (λ id. id.rep ≡ next_place self.old) }
+        ensures serial { IfOk result (λ id. id.serial ≡ self.old.given) }
+        ensures pushed { OnOk result (self.new ≡ pushed (K.entry_of item) self.old) }
+        ensures room { OnOk result (is_full self.old ≡ false) }
+
+        ensures why { IfErr result (λ refused. refused.why ≡ (if is_full self.old then ResourceTableError.Full else ResourceTableError.NoMemory)) }
+        ensures item { IfErr result (λ refused. refused.item ≡ item) }
+        ensures err { OnErr result (self.new ≡ self.old) }
+        ensures sound { IsTable self.new }
+    {
+        if self.is_full() {
+            return Err(PushError {
+                item,
+                why: ResourceTableError::Full,
+            });
+        }
+        if reserve(&mut self.places, &mut self.free).is_err() {
+            return Err(PushError {
+                item,
+                why: ResourceTableError::NoMemory,
+            });
+        }
+        let serial = self.given;
+        let slot = Slot {
+            serial,
+            parent: None,
+            children: 0,
+            entry: K::wrap(item),
+        };
+        let rep = fill(&mut self.places, &mut self.free, slot);
+        self.given = serial + 1;
+        Ok(TableId::new(rep, serial))
+    }
+
+    /// Takes the entry with this id out of the table, and gives its item. Its place is the next to be given, and its parent no longer counts it.
+    ///
+    /// It is refused as `get` is, and then with `HasChildren` where an entry still has this one as its parent.
+    pub fn delete<K: Kind<E>>(&mut self, id: TableId<K>) -> Result<K::Item, ResourceTableError>
+        ensures answer { result ≡ deletion K.item_of self.old id.rep id.serial }
+        ensures ok { OnOk result (self.new ≡ deleted id.rep self.old) }
+        ensures err { OnErr result (self.new ≡ self.old) }
+        ensures sound { IsTable self.new }
+    {
+        if let Err(why) = self.get(id) {
+            return Err(why);
+        }
+        if self.count_children(id.rep) > 0 {
+            return Err(ResourceTableError::HasChildren);
+        }
+        let slot = vacate(&mut self.places, id.rep);
+        self.free.push_reserved(id.rep);
+        match K::unwrap(slot.entry) {
+            Ok(item) => Ok(item),
+            Err(_) => unreachable!(),
+        }
+    }
+
+    // Whether both ids name entries of their kinds.
+    fn check_pair<C: Kind<E>, P: Kind<E>>(
+        &self,
+        child: TableId<C>,
+        parent: TableId<P>,
+    ) -> Result<(), ResourceTableError>
+        ensures { result_err result ≡ pair_refusal C.item_of P.item_of (found self.now child.rep child.serial) (found self.now parent.rep parent.serial) }
+    {
+        if !self.contains(child.rep, child.serial) || !self.contains(parent.rep, parent.serial) {
+            return Err(ResourceTableError::NotPresent);
+        }
+        if self.get(child).is_err() || self.get(parent).is_err() {
+            return Err(ResourceTableError::WrongType);
+        }
+        Ok(())
+    }
+
+    // Whether the parent of the entry with this place and serial is at that place.
+    fn is_child(&self, rep: u32, serial: u64, parent: u32) -> bool
+        ensures { result ≡ is_number parent (parent_of (found self.now rep serial)) }
+    {
+        match self.slot(rep, serial) {
+            Some(slot) => match slot.parent {
+                Some(place) => place == parent,
+                None => false,
+            },
+            None => false,
+        }
+    }
+
+    /// Makes one entry a child of another. The child must have no parent, which `remove_child` brings about.
+    ///
+    /// `NotPresent` where either is absent, else `WrongType` where either is of another kind. It takes no memory.
+    pub fn add_child<C: Kind<E>, P: Kind<E>>(
+        &mut self,
+        child: TableId<C>,
+        parent: TableId<P>,
+    ) -> Result<(), ResourceTableError>
+        requires { parent_of (found self.old child.rep child.serial) ≡ None }
+        ensures refusal { result_err result ≡ pair_refusal C.item_of P.item_of (found self.old child.rep child.serial) (found self.old parent.rep parent.serial) }
+        ensures ok { OnOk result (self.new ≡ with_parent child.rep (Some parent.rep) self.old) }
+        ensures err { OnErr result (self.new ≡ self.old) }
+        ensures sound { IsTable self.new }
+    {
+        self.check_pair(child, parent)?;
+        link(&mut self.places, child.rep, parent.rep);
+        Ok(())
+    }
+
+    /// Takes an entry from its parent.
+    ///
+    /// `NotPresent` where either is absent, else `WrongType` where either is of another kind, else `NotPresent` where the child is not that parent's.
+    pub fn remove_child<C: Kind<E>, P: Kind<E>>(
+        &mut self,
+        child: TableId<C>,
+        parent: TableId<P>,
+    ) -> Result<(), ResourceTableError>
+        ensures refusal { result_err result ≡ or_not_child (pair_refusal C.item_of P.item_of (found self.old child.rep child.serial) (found self.old parent.rep parent.serial)) (is_number parent.rep (parent_of (found self.old child.rep child.serial))) }
+        ensures ok { OnOk result (self.new ≡ with_parent child.rep None self.old) }
+        ensures err { OnErr result (self.new ≡ self.old) }
+        ensures sound { IsTable self.new }
+    {
+        self.check_pair(child, parent)?;
+        if !self.is_child(child.rep, child.serial, parent.rep) {
+            return Err(ResourceTableError::NotPresent);
+        }
+        unlink(&mut self.places, child.rep);
+        Ok(())
     }
 
     /// The entries with their places, in order of the place.
