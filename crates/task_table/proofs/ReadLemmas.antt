@@ -47,3 +47,9 @@ module _ {X : Type 0} where
     count_by-found xs i x found =
         let counted = get_or-le-sum_by (λ z. cond (p z) 1 0) xs i x (slice_get_within xs i x found) in
         rw (get_or_from_slice_get xs i x x found) at counted
+
+  -- a write past the end
+  pub set-none : (xs : List X) (i : ℕ) (y : X) → slice_get xs i ≡ None → set xs i y ≡ xs
+  set-none [] i y none = refl
+  set-none (x ∷ xs) zero y none = absurd (cc)
+  set-none (x ∷ xs) (suc i) y none = ap (λ zs. x ∷ zs) (set-none xs i y none)
