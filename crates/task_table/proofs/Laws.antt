@@ -2,13 +2,27 @@
 use Rattle.std.proofs.Common.{◌≡◌, ◌≢◌, ℕ, zero, suc, ◌+◌, ◌-◌, ◌<◌, ◌≤◌, ◌^◌, ◌==◌, ◌&&◌, ◌⊎◌, inl, inr, Bool, true, false, cond, nat_le, List, [], ◌∷◌, ◌++◌, drop, length, set, slice_get, count_by, Option, Some, None, is_some, IsSome, refl, sym, ap, subst, ◌∙◌, arith, length-set}
 use Rattle.std.proofs.lemmas.Bool.{cases_eq, eq-eqb, ne_eqb, eqb-true, eqb-false, lt-leb, or_from, or_left, and_left, and_right}
 use Rattle.std.proofs.lemmas.List.{length_push, set_past}
+use Rattle.std.proofs.lemmas.List.Sums.{sum_by-cons, count_by-le-length}
 use Rattle.std.proofs.lemmas.Option.{slice_get_within, slice_get_past, same_Some}
 use Rattle.task_table.specs.Table.{Table, Placed, IsTable, place_at, standing, found, of_serial, is_child_of, is_number, children_of, is_nil, is_full, table_len, free_count}
+use Rattle.task_table.specs.Entries.{entries, entries_from}
 use Rattle.task_table.specs.Changes.{pushed, put_at_next, next_place, next_of, deleted, with_entry, with_entry_at, entry_put, with_parent, with_parent_at, parent_put, with_capacity}
 use Rattle.task_table.proofs.ReadLemmas.{slice_get-set_same, slice_get-set_other, slice_get-push_same, slice_get-push_other, set-slice_get, set-none, count_by-set, count_by-push}
 use Rattle.task_table.proofs.TableLemmas.{one_if, place_at_there, there_place_at, found_at, free_head, room_left}
 
 module _ {E : Type 0} where
+  -- an iterator gives each entry once
+  pub length-entries_from : (rep : ℕ) (places : List (Option (Placed E))) → length (entries_from rep places) ≡ count_by is_some places
+  length-entries_from rep [] = refl
+  length-entries_from rep (None ∷ rest) = omega (arith, length-entries_from (rep + 1) rest, sum_by-cons (λ o. one_if (is_some o)) None rest)
+  length-entries_from rep (Some p ∷ rest) = omega (arith, length-entries_from (rep + 1) rest, sum_by-cons (λ o. one_if (is_some o)) (Some p) rest)
+
+  pub length-entries : (t : Table E) → length (entries t) ≡ table_len t
+  length-entries t = length-entries_from 0 t.places
+
+  pub entries_few : (t : Table E) → IsTable t → length (entries t) ≤ 4294967295
+  entries_few t table = omega (arith, length-entries t, table.places_fit, count_by-le-length is_some t.places)
+
   -- the fields of a table after a push
   pub places-pushed : (t : Table E) (entry : E) → (pushed entry t).places ≡ put_at_next t.free (Some (record { serial = t.given; parent = None; entry = entry })) t.places
   unfolding pushed

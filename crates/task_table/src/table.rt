@@ -47,7 +47,8 @@ impl<E> ResourceTable<E> {
 
     /// An empty table with a capacity of 1,000,000 entries.
     pub fn new(alloc: Global) -> ResourceTable<E>
-        ensures { result ≡ new_table }
+        ensures empty { result ≡ new_table }
+        ensures sound { IsTable result }
     {
         ResourceTable {
             places: Vec::new(alloc),
@@ -90,7 +91,8 @@ impl<E> ResourceTable<E> {
     #[tactic(auto, unfolding(crate::specs::Changes::with_capacity))]
     pub fn set_max_capacity(&mut self, n: usize)
         requires { n ≤ 4294967295 }
-        ensures { self.new ≡ with_capacity n self.old }
+        ensures capacity { self.new ≡ with_capacity n self.old }
+        ensures sound { IsTable self.new }
     {
         self.max_capacity = n;
     }
@@ -269,7 +271,17 @@ impl<E> ResourceTable<E> {
         }
     }
 
-    /// Makes one entry a child of another. The child must have no parent, which `remove_child` brings about.
+    /// Whether the entry with this id has a parent: the test for the condition of `add_child`. False where there is no such entry.
+    pub fn has_parent<C>(&self, child: TableId<C>) -> bool
+        ensures { result ≡ is_some (parent_of (found self.now child.rep child.serial)) }
+    {
+        match self.slot(child.rep, child.serial) {
+            Some(slot) => slot.parent.is_some(),
+            None => false,
+        }
+    }
+
+    /// Makes one entry a child of another. The child must have no parent, which `has_parent` tests.
     ///
     /// `NotPresent` where either is absent, else `WrongType` where either is of another kind. It takes no memory.
     pub fn add_child<C: Kind<E>, P: Kind<E>>(
@@ -311,7 +323,9 @@ impl<E> ResourceTable<E> {
 
     /// The entries with their places, in order of the place.
     pub fn iter(&self) -> TableIter<'_, E>
-        ensures { result ≡ entries self.now }
+        ensures entries { result ≡ entries self.now }
+        ensures len { length result ≡ table_len self.now }
+        ensures few { length result ≤ 4294967295 }
     {
         TableIter {
             places: self.places.as_slice(),

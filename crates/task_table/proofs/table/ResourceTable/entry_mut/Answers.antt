@@ -9,9 +9,9 @@ invariant_of-self-lent g c w =
 
 pub returns : goal.returns
 returns g c = (
-    (refl, λ w. shown-entry_put c.self.inside.places.items c.self.inside.free.items c.self.inside.given c.self.inside.max_capacity c.args.self.now c.args.rep c.index_mut.result.now c.self.view_is c.requires c.index_mut.ensures.value w),
-    record {
-      lends = tt;
-      value = entry_read c.self.inside.places.items c.self.inside.free.items c.self.inside.given c.self.inside.max_capacity c.args.self.now c.args.rep c.index_mut.result.now c.self.view_is c.requires c.index_mut.ensures.value ∙ c.entry_mut.ensures.value;
-    },
-  )
+  (refl, λ w. shown-entry_put c.self.inside.places.items c.self.inside.free.items c.self.inside.given c.self.inside.max_capacity c.args.self.now c.args.rep c.index_mut.result.now c.self.view_is c.requires c.index_mut.ensures.value w),
+  record {
+    lends = tt;
+    value = entry_read c.self.inside.places.items c.self.inside.free.items c.self.inside.given c.self.inside.max_capacity c.args.self.now c.args.rep c.index_mut.result.now c.self.view_is c.requires c.index_mut.ensures.value ∙ c.entry_mut.ensures.value;
+  },
+)
