@@ -1,12 +1,12 @@
 -- What an id finds after each change of a table, and how the counts change.
 use Rattle.std.proofs.Common.{◌≡◌, ◌≢◌, ℕ, zero, suc, ◌+◌, ◌-◌, ◌<◌, ◌≤◌, ◌^◌, ◌==◌, ◌&&◌, ◌⊎◌, inl, inr, Bool, true, false, cond, nat_le, List, [], ◌∷◌, ◌++◌, drop, length, set, slice_get, count_by, Option, Some, None, is_some, IsSome, refl, sym, ap, subst, ◌∙◌, arith, length-set}
-use Rattle.std.proofs.lemmas.Bool.{cases_eq, eq-eqb, ne_eqb, eqb-true, eqb-false, lt-leb, or_from, or_left, and_left, and_right}
+use Rattle.std.proofs.lemmas.Bool.{cases_eq, eq-eqb, ne_eqb, eqb-true, eqb-false, lt-leb, or_from, or_left, and_left, and_right, and_from, and_parts, false_from_ne_true}
 use Rattle.std.proofs.lemmas.List.{length_push, set_past}
 use Rattle.std.proofs.lemmas.List.Sums.{sum_by-cons, count_by-le-length}
 use Rattle.std.proofs.lemmas.Option.{slice_get_within, slice_get_past, same_Some}
 use Rattle.task_table.specs.Table.{Table, Placed, IsTable, place_at, standing, found, of_serial, is_child_of, is_number, children_of, is_nil, is_full, table_len, free_count}
 use Rattle.task_table.specs.Entries.{entries, entries_from}
-use Rattle.task_table.specs.Changes.{pushed, put_at_next, next_place, next_of, deleted, with_entry, with_entry_at, entry_put, with_parent, with_parent_at, parent_put, with_capacity}
+use Rattle.task_table.specs.Changes.{pushed, put_at_next, next_place, next_of, deleted, with_entry, with_entry_at, entry_put, with_parent, with_parent_at, parent_put, with_capacity, Adds, Removes}
 use Rattle.task_table.proofs.ReadLemmas.{slice_get-set_same, slice_get-set_other, slice_get-push_same, slice_get-push_other, set-slice_get, set-none, count_by-set, count_by-push}
 use Rattle.task_table.proofs.TableLemmas.{one_if, place_at_there, there_place_at, found_at, free_head, room_left}
 
@@ -307,3 +307,24 @@ module _ {E : Type 0} where
 
   pub children_of-with_parent : (t : Table E) (rep r : ℕ) (parent : Option ℕ) (p : Placed E) → place_at t rep ≡ Some p → children_of (with_parent rep parent t) r + one_if (is_number r p.parent) ≡ children_of t r + one_if (is_number r parent)
   children_of-with_parent t rep r parent p at = count_by-with_parent (is_child_of r) refl t rep parent p at
+
+  -- a push is an addition to the finite map from ids to entries
+  pub Adds-pushed : (t new : Table E) (rep serial : ℕ) (entry : E) → IsTable t → new ≡ pushed entry t → rep ≡ next_place t → serial ≡ t.given → Adds t new rep serial entry
+  Adds-pushed t new rep serial entry table is place given =
+      record {
+        fresh = nothing (found t rep serial) refl;
+        added = ap (λ x. found x rep serial) is ∙ found-pushed t entry rep serial table ∙ ap (λ b. cond b (Some (record { serial = t.given; parent = None; entry = entry })) (found t rep serial)) (and_from _ _ (eq-eqb rep (next_place t) place) (eq-eqb serial t.given given)) ∙ ap (λ n. Some (record { serial = n; parent = None; entry = entry })) (sym given);
+        others = λ r s differs. ap (λ x. found x r s) is ∙ found-pushed t entry r s table ∙ ap (λ b. cond b (Some (record { serial = t.given; parent = None; entry = entry })) (found t r s)) (false_from_ne_true _ (λ both. let parts = and_parts _ _ both in differs (eqb-true r (next_place t) parts.0 ∙ sym place, eqb-true s t.given parts.1 ∙ sym given)));
+      }
+    where
+      nothing : (o : Option (Placed E)) → found t rep serial ≡ o → found t rep serial ≡ None
+      nothing None at = at
+      nothing (Some p) at = absurd (let before = found_given t rep serial p table at in omega arith)
+
+  -- a deletion is a removal from it
+  pub Removes-deleted : (t new : Table E) (rep : ℕ) → new ≡ deleted rep t → Removes t new rep
+  Removes-deleted t new rep is =
+      record {
+        gone = λ s. ap (λ x. found x rep s) is ∙ found-deleted t rep rep s ∙ ap (λ b. cond b None (found t rep s)) (eq-eqb rep rep refl);
+        others = λ r s differs. ap (λ x. found x r s) is ∙ found-deleted t rep r s ∙ ap (λ b. cond b None (found t r s)) (ne_eqb r rep differs);
+      }

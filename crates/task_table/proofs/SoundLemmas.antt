@@ -6,7 +6,7 @@ use Rattle.task_table.specs.declared.place.Place.{Place}
 use Rattle.task_table.specs.declared.place.Place.TheVariants.{Free, Taken}
 use Rattle.task_table.specs.declared.place.Slot.{Slot}
 use Rattle.task_table.specs.Table.{Table, Placed, IsTable, place_at, standing, is_full, is_child_of, children_of}
-use Rattle.task_table.specs.Changes.{with_entry, entry_put, with_parent, with_parent_at, pushed, put_at_next, deleted}
+use Rattle.task_table.specs.Changes.{with_entry, entry_put, with_parent, with_parent_at, pushed, put_at_next, next_of, next_place, deleted}
 use Rattle.task_table.specs.Places.{placed, placed_in, slot_of, slot_at, slot_children, entry_in, place_with, shown, NextIsFree, filled, IsSound, IsCounted}
 use Rattle.task_table.proofs.CountLemmas.{slot_there, slot_at_taken, taken_at_slot, place_shown, parent_shown, counted-set, counted-push, counted-fill}
 use Rattle.task_table.proofs.TableLemmas.{IsTable-with_entry, IsTable-pushed, IsTable-with_parent, IsTable-deleted, free_head, free_fewer, some_of}
@@ -176,3 +176,7 @@ module _ {E : Type 0} where
       let made : length t.places ≡ length ps = sym (ap (λ x. length x.places) is) ∙ length-map ps placed_in in
       let fits = sound.room_to_free in
       omega arith
+
+  -- the place that is filled next is the table's next place
+  pub next_shown : (ps : List (Place E)) (free : List ℕ) (given capacity : ℕ) (t : Table E) → shown ps free given capacity ≡ t → next_of (reverse free) (length ps) ≡ next_place t
+  next_shown ps free given capacity t is = ap (λ n. next_of (reverse free) n) (sym (length-map ps placed_in)) ∙ ap next_place is
