@@ -1,9 +1,9 @@
 -- What an id finds after each change of a table, and how the counts change.
-use Rattle.std.proofs.Common.{◌≡◌, ◌≢◌, ℕ, zero, suc, ◌+◌, ◌-◌, ◌<◌, ◌≤◌, ◌^◌, ◌==◌, ◌&&◌, ◌⊎◌, inl, inr, Bool, true, false, cond, nat_le, List, [], ◌∷◌, ◌++◌, drop, length, set, slice_get, count_by, Option, Some, None, is_some, IsSome, refl, sym, ap, subst, ◌∙◌, arith, length-set}
-use Rattle.std.proofs.lemmas.Bool.{cases_eq, eq-eqb, ne_eqb, eqb-true, eqb-false, lt-leb, or_from, or_left, and_left, and_right, and_from, and_parts, false_from_ne_true}
-use Rattle.std.proofs.lemmas.List.{length_push, set_past}
+use Rattle.std.proofs.Common.{◌≡◌, ℕ, suc, ◌+◌, ◌-◌, ◌<◌, ◌≤◌, ◌^◌, ◌==◌, ◌&&◌, ◌⊎◌, inl, inr, Bool, true, false, cond, nat_le, List, [], ◌∷◌, drop, length, map, set, slice_get, count_by, option_map, Option, Some, None, is_some, refl, sym, ap, subst, ◌∙◌, arith, length-set}
+use Rattle.std.proofs.lemmas.Bool.{cases_eq, eq-eqb, ne_eqb, eqb-true, eqb-false, lt-leb, or_from, and_left, and_right, and_from, and_parts, false_from_ne_true}
+use Rattle.std.proofs.lemmas.List.{length_push, map-set, map_push}
 use Rattle.std.proofs.lemmas.List.Sums.{sum_by-cons, count_by-le-length}
-use Rattle.std.proofs.lemmas.Option.{slice_get_within, slice_get_past, same_Some}
+use Rattle.std.proofs.lemmas.Option.{slice_get_within, slice_get_past, slice_get-map}
 use Rattle.task_table.specs.Table.{Table, Placed, IsTable, place_at, standing, found, of_serial, is_child_of, is_number, children_of, is_nil, is_full, table_len, free_count}
 use Rattle.task_table.specs.Entries.{entries, entries_from}
 use Rattle.task_table.specs.Changes.{pushed, put_at_next, next_place, next_of, deleted, with_entry, with_entry_at, entry_put, with_parent, with_parent_at, parent_put, with_capacity, Adds, Removes}
@@ -328,3 +328,46 @@ module _ {E : Type 0} where
         gone = λ s. ap (λ x. found x rep s) is ∙ found-deleted t rep rep s ∙ ap (λ b. cond b None (found t rep s)) (eq-eqb rep rep refl);
         others = λ r s differs. ap (λ x. found x r s) is ∙ found-deleted t rep r s ∙ ap (λ b. cond b None (found t r s)) (ne_eqb r rep differs);
       }
+
+  -- what a list made of the places becomes, as the records of a kind that stand there
+  module _ {X : Type 0} (f : Option (Placed E) → X) where
+    pub map-pushed : (t : Table E) (entry : E) → map f (pushed entry t).places ≡ put_at_next t.free (f (Some (record { serial = t.given; parent = None; entry = entry }))) (map f t.places)
+    unfolding pushed
+    map-pushed t entry = by_free t.free
+      where
+        by_free : (free : List ℕ) → map f (put_at_next free (Some (record { serial = t.given; parent = None; entry = entry })) t.places) ≡ put_at_next free (f (Some (record { serial = t.given; parent = None; entry = entry }))) (map f t.places)
+        by_free [] = map_push f t.places (Some (record { serial = t.given; parent = None; entry = entry }))
+        by_free (rep ∷ rest) = map-set f t.places rep (Some (record { serial = t.given; parent = None; entry = entry }))
+
+    pub map-deleted : (t : Table E) (rep : ℕ) → map f (deleted rep t).places ≡ set (map f t.places) rep (f None)
+    unfolding deleted
+    map-deleted t rep = map-set f t.places rep None
+
+    pub map-with_entry : (t : Table E) (rep : ℕ) (entry : E) → map f (with_entry rep entry t).places ≡ set (map f t.places) rep (f (entry_put entry (place_at t rep)))
+    unfolding with_entry
+    map-with_entry t rep entry = map-set f t.places rep (entry_put entry (place_at t rep))
+
+    -- a parent is not seen by what does not look at it
+    pub map-with_parent : (t : Table E) (rep : ℕ) (parent : Option ℕ) → ((p : Placed E) → f (Some (record p { parent = parent })) ≡ f (Some p)) → map f (with_parent rep parent t).places ≡ map f t.places
+    unfolding with_parent
+    map-with_parent t rep parent blind = map-set f t.places rep (parent_put parent (place_at t rep)) ∙ by_read (slice_get t.places rep) refl
+      where
+        by_read : (o : Option (Option (Placed E))) → slice_get t.places rep ≡ o → set (map f t.places) rep (f (parent_put parent (place_at t rep))) ≡ map f t.places
+        by_read None is = set-none (map f t.places) rep _ (slice_get-map f t.places rep ∙ ap (λ o. option_map f o) is)
+        by_read (Some None) is = ap (λ o. set (map f t.places) rep (f (parent_put parent (standing o)))) is ∙ set-slice_get (map f t.places) rep (f None) (slice_get-map f t.places rep ∙ ap (λ o. option_map f o) is)
+        by_read (Some (Some p)) is =
+            ap (λ o. set (map f t.places) rep (f (parent_put parent (standing o)))) is ∙ ap (set (map f t.places) rep) (blind p)
+            ∙ set-slice_get (map f t.places) rep (f (Some p)) (slice_get-map f t.places rep ∙ ap (λ o. option_map f o) is)
+
+  -- the entry that an id finds does not depend on parents
+  pub entry-with_parent : (t : Table E) (rep r serial : ℕ) (parent : Option ℕ) → option_map (λ p. p.entry) (found (with_parent rep parent t) r serial) ≡ option_map (λ p. p.entry) (found t r serial)
+  entry-with_parent t rep r serial parent = ap (λ o. option_map (λ p. p.entry) o) (found-with_parent t rep r serial parent) ∙ by_place (r == rep) (found t r serial)
+    where
+      by_place : (b : Bool) (o : Option (Placed E)) → option_map (λ p. p.entry) (cond b (parent_put parent o) o) ≡ option_map (λ p. p.entry) o
+      by_place true None = refl
+      by_place true (Some p) = refl
+      by_place false o = refl
+
+pub ruleset found_after = (found-pushed, found-deleted, found-with_entry, found-with_parent, found-with_capacity)
+
+pub ruleset counts_after = (table_len-pushed, table_len-deleted, table_len-with_entry, free_count-pushed, free_count-deleted, free_count-with_entry, free_count-with_parent, not_full)

@@ -6,14 +6,15 @@ abbrev pub next_of : List ℕ → ℕ → ℕ
 next_of [] made = made
 next_of (rep ∷ rest) made = rep
 
+-- the places with this one at the first free place, else at the end
+abbrev pub put_at_next : {X : Type 0} → List ℕ → X → List X → List X
+put_at_next [] p places = places ++ p ∷ []
+put_at_next (rep ∷ rest) p places = slice_set places rep p
+
 module _ {E : Type 0} where
   -- the place that the next push gives: the one freed last, else a new one
   abbrev pub next_place : Table E → ℕ
   next_place t = next_of t.free (length t.places)
-
-  abbrev pub put_at_next : List ℕ → Option (Placed E) → List (Option (Placed E)) → List (Option (Placed E))
-  put_at_next [] p places = places ++ p ∷ []
-  put_at_next (rep ∷ rest) p places = slice_set places rep p
 
   -- an entry without a parent at the next place, with the next serial
   unfoldable pub pushed : E → Table E → Table E

@@ -1,7 +1,7 @@
 use Rattle.std.proofs.Common.{◌≡◌, Some, ap, sym, ◌∙◌, arith, is_some}
 use Rattle.task_table.specs.Answers.{result_copied}
 use Rattle.task_table.specs.Table.{children_of}
-use Rattle.task_table.proofs.TableLemmas.{item_place, free_fewer, unwrapped-item, deletion-ok}
+use Rattle.task_table.proofs.TableLemmas.{item_place, unwrapped-item, deletion-ok}
 use Rattle.task_table.proofs.Laws.{Removes-deleted}
 use Rattle.task_table.proofs.SoundLemmas.{children_of_slot, entry_of_slot, shown-deleted, IsSound-deleted, room_for_freed}
 use Rattle.task_table.proofs.table.ResourceTable.delete.Goals as goal

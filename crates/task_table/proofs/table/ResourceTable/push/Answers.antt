@@ -1,7 +1,7 @@
-use Rattle.std.proofs.Common.{◌≡◌, false, subst, ap, sym, ◌∙◌, arith, length, [], ◌<◌, vec_capacity}
+use Rattle.std.proofs.Common.{◌≡◌, false, subst, ap, sym, ◌∙◌, arith, vec_capacity}
 use Rattle.task_table.specs.Table.{is_full, IsTable}
 use Rattle.task_table.specs.Changes.{pushed}
-use Rattle.task_table.specs.Places.{shown, IsSound}
+use Rattle.task_table.specs.Places.{shown}
 use Rattle.task_table.proofs.Laws.{Adds-pushed}
 use Rattle.task_table.proofs.SoundLemmas.{next_is_free, next_shown, shown-pushed, IsSound-pushed, unless_err}
 use Rattle.task_table.proofs.table.ResourceTable.push.Goals as goal
