@@ -1,4 +1,5 @@
 use super::*;
+use Call::{AddChild, Capacity, Delete, Push, RemoveChild};
 use plain::{Name, Plain};
 use std::process::Abort;
 use std::test::Fail;
@@ -150,74 +151,81 @@ const ABSENT: Result<u32, ResourceTableError> = Err(ResourceTableError::NotPrese
 
 const CHILDREN: Result<u32, ResourceTableError> = Err(ResourceTableError::HasChildren);
 
+// What a case shows, the capacity, and the calls with their answers.
+type Case = (
+    &'static str,
+    u32,
+    &'static [(Call, Result<u32, ResourceTableError>)],
+);
+
+const CASES: [Case; 5] = [
+    (
+        "the place freed last is the next one given",
+        10,
+        &[
+            (Push, Ok(0)),
+            (Push, Ok(1)),
+            (Delete(0), Ok(0)),
+            (Push, Ok(0)),
+            (Delete(2), Ok(0)),
+            (Delete(1), Ok(0)),
+            (Push, Ok(1)),
+            (Push, Ok(0)),
+            (Push, Ok(2)),
+            (Delete(0), ABSENT),
+        ],
+    ),
+    ("capacity 0", 0, &[(Push, FULL)]),
+    (
+        "a lowered capacity gives free places again",
+        1,
+        &[
+            (Push, Ok(0)),
+            (Push, FULL),
+            (Capacity(0), Ok(0)),
+            (Push, FULL),
+            (Delete(0), Ok(0)),
+            (Push, Ok(0)),
+            (Push, FULL),
+        ],
+    ),
+    (
+        "ten pushes fill ten places",
+        10,
+        &[
+            (Push, Ok(0)),
+            (Push, Ok(1)),
+            (Push, Ok(2)),
+            (Push, Ok(3)),
+            (Push, Ok(4)),
+            (Push, Ok(5)),
+            (Push, Ok(6)),
+            (Push, Ok(7)),
+            (Push, Ok(8)),
+            (Push, Ok(9)),
+            (Push, FULL),
+        ],
+    ),
+    (
+        "a parent is deleted after its children",
+        10,
+        &[
+            (Push, Ok(0)),
+            (Push, Ok(1)),
+            (AddChild(1, 0), Ok(0)),
+            (Delete(0), CHILDREN),
+            (RemoveChild(0, 1), ABSENT),
+            (RemoveChild(1, 0), Ok(0)),
+            (RemoveChild(1, 0), ABSENT),
+            (Delete(0), Ok(0)),
+            (AddChild(1, 0), ABSENT),
+        ],
+    ),
+];
+
 #[test]
 fn table_entries(rt: HostRuntime) -> Result<(), Fail> {
-    use Call::{AddChild, Capacity, Delete, Push, RemoveChild};
-    let cases: [(&str, u32, &[(Call, Result<u32, ResourceTableError>)]); 5] = [
-        (
-            "the place freed last is the next one given",
-            10,
-            &[
-                (Push, Ok(0)),
-                (Push, Ok(1)),
-                (Delete(0), Ok(0)),
-                (Push, Ok(0)),
-                (Delete(2), Ok(0)),
-                (Delete(1), Ok(0)),
-                (Push, Ok(1)),
-                (Push, Ok(0)),
-                (Push, Ok(2)),
-                (Delete(0), ABSENT),
-            ],
-        ),
-        ("capacity 0", 0, &[(Push, FULL)]),
-        (
-            "a lowered capacity gives free places again",
-            1,
-            &[
-                (Push, Ok(0)),
-                (Push, FULL),
-                (Capacity(0), Ok(0)),
-                (Push, FULL),
-                (Delete(0), Ok(0)),
-                (Push, Ok(0)),
-                (Push, FULL),
-            ],
-        ),
-        (
-            "ten pushes fill ten places",
-            10,
-            &[
-                (Push, Ok(0)),
-                (Push, Ok(1)),
-                (Push, Ok(2)),
-                (Push, Ok(3)),
-                (Push, Ok(4)),
-                (Push, Ok(5)),
-                (Push, Ok(6)),
-                (Push, Ok(7)),
-                (Push, Ok(8)),
-                (Push, Ok(9)),
-                (Push, FULL),
-            ],
-        ),
-        (
-            "a parent is deleted after its children",
-            10,
-            &[
-                (Push, Ok(0)),
-                (Push, Ok(1)),
-                (AddChild(1, 0), Ok(0)),
-                (Delete(0), CHILDREN),
-                (RemoveChild(0, 1), ABSENT),
-                (RemoveChild(1, 0), Ok(0)),
-                (RemoveChild(1, 0), ABSENT),
-                (Delete(0), Ok(0)),
-                (AddChild(1, 0), ABSENT),
-            ],
-        ),
-    ];
-    for (shows, capacity, calls) in cases {
+    for (shows, capacity, calls) in CASES {
         let mut table = ResourceTable::new(rt.alloc());
         table.set_max_capacity(capacity as usize);
         let mut ids = Vec::new(rt.alloc());
