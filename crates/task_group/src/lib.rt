@@ -1,0 +1,12 @@
+//! Groups of tasks, and a hook that is told when a group starts, is entered, is left and finishes.
+#![tactic(auto)]
+
+mod groups;
+mod counts;
+mod hook;
+mod listeners;
+mod notice;
+
+pub use groups::Groups;
+pub use hook::{NoHook, TaskGroupHook};
+pub use notice::{GroupError, HookError, NoMemory, Notice, NoticeKind, TaskGroupId};
