@@ -1,7 +1,7 @@
 -- The numbers of live groups, and notices that are told one after another.
-use Rattle.std.proofs.Common.{◌≡◌, ◌≢◌, ℕ, zero, suc, ◌+◌, ◌-◌, ◌<◌, ◌≤◌, List, [], ◌∷◌, ◌++◌, length, map, take, refl, sym, ap, subst, ◌∙◌, arith, Bool, true, false, cond, append_assoc, append-nil, length-append}
-use Rattle.std.specs.Prelude.{Option, Some, None, IsSome, is_some, IfNone, ◌==◌}
-use Rattle.std.specs.Option.{option_map, option_to_list}
+use Rattle.std.proofs.Common.{◌≡◌, ◌≢◌, ℕ, zero, suc, ◌+◌, ◌-◌, ◌≤◌, List, [], ◌∷◌, ◌++◌, length, map, take, refl, sym, ap, subst, ◌∙◌, arith, Bool, true, false, cond, append_assoc, append-nil, length-append}
+use Rattle.std.specs.Prelude.{Option, Some, None, IsSome, is_some, ◌==◌}
+use Rattle.std.specs.Option.{option_map}
 use Rattle.std.specs.Ordering.{nat_cmp, eq_by_cmp}
 use Rattle.std.specs.Cmp.{nat_cmp_total, unsigned_tied}
 use Rattle.std.specs.FinMap as finite
@@ -9,10 +9,9 @@ use Rattle.std.proofs.lemmas.Bool.Decides.{nat_tests}
 use Rattle.std.proofs.lemmas.Grind.{common_steps}
 use Rattle.std.proofs.lemmas.List.{length-take, map-append}
 use Rattle.task_group.specs.declared.notice.Notice.{Notice}
-use Rattle.task_group.specs.Heard.{Heard}
-use Rattle.task_group.specs.Listeners.{Listeners, told_of, errors_of, Told}
+use Rattle.task_group.specs.Listeners.{Listeners, told_of, Told}
 use Rattle.task_group.specs.Counts.{Counts}
-use Rattle.task_group.specs.Groups.{IsKnown, finish_number, finish_all}
+use Rattle.task_group.specs.Groups.{IsKnown, finish_number}
 
 pub some_of : {X : Type 0} (o : Option X) (n : ℕ) → n ≢ 0 → (o ≡ None → n ≡ 0) → IsSome o
 some_of None n ne h = absurd (ne (h refl))
@@ -41,8 +40,8 @@ module _ (m : Counts) (made : ℕ) where
   known_at k v top le grow known n live =
       let live' : IsSome (cond (eq_by_cmp nat_cmp n k) (Some v) (finite.get m n)) = let P : Option ℕ → Type 0 = IsSome in subst P (finite.get-insert nat_cmp_total m k v n) live in
       at_most (eq_by_cmp nat_cmp n k) (Some v) (finite.get m n) n top live'
-        (λ e. let same : n ≡ k = equal n k (sym (unsigned_tied n k) ∙ e) in omega arith)
-        (λ old. omega (arith, known n old))
+      (λ e. let same : n ≡ k = equal n k (sym (unsigned_tied n k) ∙ e) in omega arith)
+      (λ old. omega (arith, known n old))
 
   pub known-insert : (k v : ℕ) → IsKnown m made → IsSome (finite.get m k) → IsKnown (finite.insert m k v) made
   known-insert k v known live = known_at k v made (known k live) (omega arith) known
@@ -118,10 +117,11 @@ module _ (keys₀ keys₁ done : List ℕ) (a b : Listeners) (split : keys₀ �
   -- one more group is finished
   pub finish_more : (number : ℕ) (keys₂ : List ℕ) (c : Listeners) → keys₁ ≡ number ∷ keys₂ → Told (finish_number number ∷ []) b c → (x : List ℕ) × (keys₀ ≡ x ++ keys₂) × Told (map finish_number x) a c
   finish_more number keys₂ c next more =
-      let P : List Notice → Type 0 = λ ns. Told ns a c in
-      (done ++ number ∷ [],
-       split ∙ ap (λ ks. done ++ ks) next ∙ sym (append_assoc done (number ∷ []) keys₂),
-       subst P (sym (map-append finish_number done (number ∷ []))) (told-append (map finish_number done) (finish_number number ∷ []) a b c told more))
+      let P : List Notice → Type 0 = λ ns. Told ns a c in (
+        done ++ number ∷ [],
+        split ∙ ap (λ ks. done ++ ks) next ∙ sym (append_assoc done (number ∷ []) keys₂),
+        subst P (sym (map-append finish_number done (number ∷ []))) (told-append (map finish_number done) (finish_number number ∷ []) a b c told more),
+      )
 
   -- all are finished
   pub finish_done : keys₁ ≡ [] → Told (map finish_number keys₀) a b

@@ -14,7 +14,9 @@ use std::marker::Model;
 
 /// The live groups of a store, with the number of tasks in each, and who is told of them.
 ///
-/// A group is live from `make` until its count comes to 0. Then it is finished, and each later call passes it over.
+/// A group is live from `make` until its count comes to 0. Then it is finished, and each later call passes it over. The calls take time that grows with the logarithm of the number of live groups, `clean_up` with that number.
+///
+/// `H` is the hook's type. Groups without a hook are `Groups`, and those with a boxed one `Groups<Box<MyHook>>`.
 #[derive(Drop)]
 pub struct Groups<H: TaskGroupHook = NoHook> {
     counts: Counts,
@@ -145,7 +147,11 @@ impl<H: TaskGroupHook> Groups<H> {
     }
 
     // A notice of a group, but of a finished one or of none.
-    fn tell_if_live(&mut self, kind: NoticeKind, group: Option<TaskGroupId>) -> Result<(), GroupError>
+    fn tell_if_live(
+        &mut self,
+        kind: NoticeKind,
+        group: Option<TaskGroupId>,
+    ) -> Result<(), GroupError>
         ensures groups { (self.new.live ≡ self.old.live) × (self.new.made ≡ self.old.made) }
         ensures told { Told (notice_at self.old.live kind group) self.old.listeners self.new.listeners }
         ensures failed { (result ≡ Err GroupError.HookFailed) ↔ AnsweredErr self.old.listeners self.new.listeners }

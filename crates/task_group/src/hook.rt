@@ -3,7 +3,7 @@ ghost use Rattle.task_group.specs.Heard.{Heard, Tells, notice_of, start_of, ente
 
 use crate::notice::{HookError, NoticeKind, TaskGroupId};
 
-/// What a store's owner hands in to be told of groups.
+/// What a store's owner hands in to be told of groups. An error that it answers refuses the call that told it.
 ///
 /// Its meaning is the list of the notices that it was told, where it tells that, and the number of errors that it answered. A hook that has answered 18446744073709551615 errors answers no more.
 pub trait TaskGroupHook: Drop {
@@ -72,7 +72,11 @@ impl<H: TaskGroupHook> TaskGroupHook for Box<H> {
 }
 
 /// One notice to a hook.
-pub fn tell<H: TaskGroupHook>(hook: &mut H, kind: NoticeKind, id: TaskGroupId) -> Result<(), HookError>
+pub fn tell<H: TaskGroupHook>(
+    hook: &mut H,
+    kind: NoticeKind,
+    id: TaskGroupId,
+) -> Result<(), HookError>
     ensures { Tells (notice_of kind id) (H.heard hook.old) (H.heard hook.new) (is_ok result) }
 {
     match kind {

@@ -1,4 +1,4 @@
-use Rattle.std.proofs.Common.{sym, ap, ◌∙◌}
+use Rattle.std.proofs.Common.{ap, ◌∙◌}
 use Rattle.std.specs.Prelude.{unwrap_or}
 use Rattle.task_group.proofs.CountLemmas.{read, read_finished}
 use Rattle.task_group.proofs.counts.Counts.get.Goals as goal

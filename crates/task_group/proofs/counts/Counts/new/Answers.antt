@@ -1,4 +1,3 @@
-use Rattle.std.proofs.Common.{refl}
 use Rattle.task_group.proofs.CountLemmas.{sound-empty, live_in-empty}
 use Rattle.task_group.proofs.counts.Counts.new.Goals as goal
 

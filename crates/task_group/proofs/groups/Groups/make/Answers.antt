@@ -1,4 +1,4 @@
-use Rattle.std.proofs.Common.{◌≡◌, ◌+◌, ap, ◌∙◌, sym}
+use Rattle.std.proofs.Common.{◌+◌, ap, ◌∙◌}
 use Rattle.std.specs.FinMap as finite
 use Rattle.task_group.specs.Groups.{Groups}
 use Rattle.task_group.proofs.GroupLemmas.{known-add, remove-insert}

@@ -1,4 +1,3 @@
-use Rattle.task_group.specs.Groups.{IsKnown}
 use Rattle.task_group.proofs.GroupLemmas.{known-empty}
 use Rattle.task_group.proofs.groups.Groups.new.Goals as goal
 
