@@ -26,27 +26,27 @@ pub trait TaskGroupHook: Drop {
         ensures { Tells (finish_of id) (heard self.old) (heard self.new) (is_ok result) };
 }
 
-/// The hook of groups that have none: there is no value of this type.
+/// The hook's type where groups have no hook. As a hook it forgets what it is told, and answers `Ok`.
 #[derive(Drop)]
-pub enum NoHook {}
+pub struct NoHook;
 
 impl TaskGroupHook for NoHook {
     ghost heard = { λ _. record { told = None; errors = 0 } };
 
     fn handle_start(&mut self, _id: TaskGroupId) -> Result<(), HookError> {
-        match *self {}
+        Ok(())
     }
 
     fn handle_enter(&mut self, _id: TaskGroupId) -> Result<(), HookError> {
-        match *self {}
+        Ok(())
     }
 
     fn handle_exit(&mut self, _id: TaskGroupId) -> Result<(), HookError> {
-        match *self {}
+        Ok(())
     }
 
     fn handle_finish(&mut self, _id: TaskGroupId) -> Result<(), HookError> {
-        match *self {}
+        Ok(())
     }
 }
 
