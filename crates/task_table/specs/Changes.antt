@@ -1,36 +1,21 @@
 -- What the calls of a `ResourceTable` change.
-<<<<<<< HEAD
-use Rattle.std.specs.Prelude.{ℕ, ◌+◌, List, [], ◌∷◌, ◌++◌, length, drop, slice_set, slice_get, Option, Some, None}
-use Rattle.task_table.specs.Table.{Table, Placed, standing}
-=======
 use Rattle.std.specs.Prelude.{◌≡◌, ◌≢◌, ℕ, ◌+◌, List, [], ◌∷◌, ◌++◌, length, drop, slice_set, slice_get, Option, Some, None}
 use Rattle.task_table.specs.Table.{Table, Placed, standing, found}
->>>>>>> 3a769d6d698a4f4f857ff911bdf0305876a3dbac
 
 abbrev pub next_of : List ℕ → ℕ → ℕ
 next_of [] made = made
 next_of (rep ∷ rest) made = rep
 
-<<<<<<< HEAD
-=======
 -- the places with this one at the first free place, else at the end
 abbrev pub put_at_next : {X : Type 0} → List ℕ → X → List X → List X
 put_at_next [] p places = places ++ p ∷ []
 put_at_next (rep ∷ rest) p places = slice_set places rep p
 
->>>>>>> 3a769d6d698a4f4f857ff911bdf0305876a3dbac
 module _ {E : Type 0} where
   -- the place that the next push gives: the one freed last, else a new one
   abbrev pub next_place : Table E → ℕ
   next_place t = next_of t.free (length t.places)
 
-<<<<<<< HEAD
-  abbrev pub put_at_next : List ℕ → Option (Placed E) → List (Option (Placed E)) → List (Option (Placed E))
-  put_at_next [] p places = places ++ p ∷ []
-  put_at_next (rep ∷ rest) p places = slice_set places rep p
-
-=======
->>>>>>> 3a769d6d698a4f4f857ff911bdf0305876a3dbac
   -- an entry without a parent at the next place, with the next serial
   unfoldable pub pushed : E → Table E → Table E
   pushed entry t = record {
@@ -68,8 +53,6 @@ module _ {E : Type 0} where
 
   unfoldable pub with_capacity : ℕ → Table E → Table E
   with_capacity n t = record t { capacity = n }
-<<<<<<< HEAD
-=======
 
   -- a new id finds the entry, and every other id finds what it found
   pub record Adds (old new : Table E) (rep serial : ℕ) (entry : E) : Type 0 where
@@ -81,4 +64,3 @@ module _ {E : Type 0} where
   pub record Removes (old new : Table E) (rep : ℕ) : Type 0 where
     pub gone : (s : ℕ) → found new rep s ≡ None
     pub others : (r s : ℕ) → r ≢ rep → found new r s ≡ found old r s
->>>>>>> 3a769d6d698a4f4f857ff911bdf0305876a3dbac

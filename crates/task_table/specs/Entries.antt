@@ -1,9 +1,5 @@
 -- What contracts see of a `TableIter`.
-<<<<<<< HEAD
-use Rattle.std.specs.Prelude.{ℕ, ◌+◌, ◌≤◌, List, [], ◌∷◌, length, Option, Some, None}
-=======
 use Rattle.std.specs.Prelude.{ℕ, ◌+◌, List, [], ◌∷◌, Option, Some, None}
->>>>>>> 3a769d6d698a4f4f857ff911bdf0305876a3dbac
 use Rattle.task_table.specs.Table.{Table, Placed}
 
 module _ {E : Type 0} where

@@ -1,9 +1,4 @@
-<<<<<<< HEAD
-use Rattle.std.proofs.Common.{Some, None, ap, sym, ◌∙◌}
-use Rattle.std.proofs.lemmas.Option.{same_Some}
-=======
 use Rattle.std.proofs.Common.{Some, ap, sym, ◌∙◌}
->>>>>>> 3a769d6d698a4f4f857ff911bdf0305876a3dbac
 use Rattle.std.specs.Result.{result_err}
 use Rattle.task_table.specs.Answers.{parent_of}
 use Rattle.task_table.proofs.TableLemmas.{pair_there, found_place, found_at, some_of, parent_at}

@@ -1,8 +1,4 @@
-<<<<<<< HEAD
-use Rattle.std.proofs.Common.{Some, None, ap, sym, ◌∙◌}
-=======
 use Rattle.std.proofs.Common.{None, ap, sym, ◌∙◌}
->>>>>>> 3a769d6d698a4f4f857ff911bdf0305876a3dbac
 use Rattle.std.specs.Result.{result_err}
 use Rattle.task_table.proofs.TableLemmas.{pair_there, found_place, no_parent_at}
 use Rattle.task_table.proofs.SoundLemmas.{taken_shown, shown-with_parent, IsSound-with_parent}
