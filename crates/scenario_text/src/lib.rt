@@ -11,9 +11,9 @@ mod tree;
 mod words;
 
 pub use print::{append_label, append_outcome};
-pub use read::{TextError, read_text};
+pub use read::{TextError, one_tree, read_text};
+pub use tree::{ExportText, InstanceText, MainOpText, Name, ScenarioText};
 pub use words::bounded;
-pub use tree::{ExportText, InstanceText, MainLine, Name, ScenarioText};
 
 #[cfg(test)]
 mod tests;

@@ -15,7 +15,7 @@ fn reads_one_call(rt: HostRuntime) -> Result<(), Fail> {
         let tree = read_text(rt.alloc(), text).ok().ok_or("a scenario")?;
         assert_eq!(rt; tree.handles, 100_000);
         assert_eq!(rt; tree.instances.len(), 1);
-        assert_eq!(rt; tree.main.len(), 3);
+        assert_eq!(rt; tree.main.len(), 2);
     }
     Ok(())
 }
