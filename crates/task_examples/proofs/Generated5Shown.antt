@@ -10,7 +10,7 @@ use Rattle.task_examples.specs.Words.{the_words}
 
 pub generated_21_shown : Example generated_21 300 generated_21_labels (outcome.Done 1)
 unfolding the_words
-generated_21_shown = example generated_21 ((106, (0, 1) ∷ []) ∷ []) 300 generated_21_labels (outcome.Done 1) refl refl
+generated_21_shown = example generated_21 ((106, (2, 3) ∷ (1, 2) ∷ (0, 1) ∷ []) ∷ []) 300 generated_21_labels (outcome.Done 1) refl refl
 
 pub generated_22_shown : Example generated_22 300 generated_22_labels (outcome.Trap trap.TaskCancelNotCancelled)
 unfolding the_words
