@@ -19,3 +19,4 @@ pub mod Texts
 pub mod History
 pub mod Once
 pub mod Notices
+pub mod Keeps
