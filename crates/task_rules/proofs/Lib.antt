@@ -1,1 +1,3 @@
 pub mod KeepLemmas
+pub mod EndLemmas
+pub mod LawLemmas

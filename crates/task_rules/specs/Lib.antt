@@ -20,3 +20,4 @@ pub mod History
 pub mod Once
 pub mod Notices
 pub mod Keeps
+pub mod Laws
