@@ -1,5 +1,5 @@
 -- The moves that steps are made of: Put, Check, Stop, Publish, Wake, Give, Release, and the end of a thread. What a step chooses is an argument.
-use Rattle.std.specs.Prelude.{ℕ, Bool, true, false, not, ◌&&◌, ◌||◌, List, [], ◌∷◌, ◌++◌, Option, Some, None, is_some, is_none, unwrap_or, option_and_then, filter, ◌==◌, if◌then◌else◌}
+use Rattle.std.specs.Prelude.{ℕ, Bool, true, false, not, ◌&&◌, ◌||◌, List, [], ◌∷◌, ◌++◌, Option, Some, None, is_some, is_none, unwrap_or, option_and_then, ◌==◌, if◌then◌else◌}
 use Rattle.std.specs.List.{list_any}
 use Rattle.std.specs.Option.{option_map_or}
 use Rattle.task_machine.specs.declared.words.Given.{Given}
@@ -57,13 +57,17 @@ put_low n w s = push_low (entry.Thread n) (stand n mark.Low w s)
 
 -- ---- Check, and the other promotions
 
--- the list without the entry of the thread
+-- the list without the first entry of the thread
 abbrev pub less : ℕ → List Entry → List Entry
-less n es = filter (λ e. not (is_entry_of n e)) es
+less n [] = []
+less n (e ∷ es) = if is_entry_of n e then es else e ∷ less n es
 
--- the thread's entry leaves its mark
+abbrev pub has_entry : ℕ → List Entry → Bool
+has_entry n es = list_any (is_entry_of n) es
+
+-- the thread's entry leaves high, or else low
 unfoldable pub unqueued : ℕ → Core → Core
-unqueued n s = set_low (less n s.queues.low) (set_high (less n s.queues.high) s)
+unqueued n s = if has_entry n s.queues.high then set_high (less n s.queues.high) s else set_low (less n s.queues.low) s
 
 -- the thread's entry moves to switch, where none stands; all others keep their order
 unfoldable pub promoted : ℕ → Core → Core

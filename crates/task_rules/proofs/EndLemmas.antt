@@ -490,7 +490,6 @@ did_opens : (a0 : Component) (a1 : ℕ) (a2 : Core) (a3 : Choice) → Opens (did
 unfolding did
 did_opens c n s ch = op_row_opens c n s ch (op_of c n s)
 
-
 -- ---- The turn after such a label
 
 abbrev IsLast : Label → State → Type 0

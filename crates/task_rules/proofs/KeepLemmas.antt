@@ -82,7 +82,7 @@ use Rattle.task_machine.specs.declared.records.WorkCaller.TheVariants as work_ca
 use Rattle.task_machine.specs.Core.{Began, Core, Main, MainPlace, Refused, Scripted, Started, State, Unscripted}
 use Rattle.task_machine.specs.Labels.{Choice, choice_of, event_label, exit_label, held_label, host_label, join_label, ret_label, take_label, task_cancel_label, wait_label}
 use Rattle.task_machine.specs.Maps.{get}
-use Rattle.task_machine.specs.Moves.{Gift, MemberGift, NoGift, OwnGift, add_callers, behind, call_settled, checked, departed, displaced, ended, exited_if, first_entry, freed_thread_handle, gift, given_for, group_settled, handed_on, hands_on, held_why_of, interest_settled, is_callback_waiter, is_deletable, is_finished, is_group_done, less, less_switch, may_hand_on, may_publish, newest, older, own_gift_only, passes_check, promoted, promoted_first, promoted_unless, published, put_high, put_low, put_switch, released, released_callers, resumed_all, stand, stopped, stopped_at, taken, taken_own, unblocked, unqueued, wake, wake_joined, waken_by, why_of, withdrawn}
+use Rattle.task_machine.specs.Moves.{Gift, MemberGift, NoGift, OwnGift, add_callers, behind, call_settled, checked, departed, displaced, ended, exited_if, first_entry, freed_thread_handle, gift, given_for, group_settled, handed_on, hands_on, has_entry, held_why_of, interest_settled, is_callback_waiter, is_deletable, is_finished, is_group_done, less, less_switch, may_hand_on, may_publish, newest, older, own_gift_only, passes_check, promoted, promoted_first, promoted_unless, published, put_high, put_low, put_switch, released, released_callers, resumed_all, stand, stopped, stopped_at, taken, taken_own, unblocked, unqueued, wake, wake_joined, waken_by, why_of, withdrawn}
 use Rattle.task_machine.specs.Read.{admits, at_handle_limit, backpressure_of, blocked_on, call_group, call_instance, caller_of, callers_of, cancel_was_delivered, course_of, course_value, event_of, fits, foot_of, goal_of, has_ended, has_member, has_waiters, how_far_of, instance_of, is_async_lifted, is_callback_yield, is_direct, is_explicit, is_joined, is_watched, join_of, kind_of, may_not_suspend, new_handle, new_thread_handle, own_event_of, phase_of, place_of, position_of, register_of, registers_of, result_of, saved_callee_of, saved_own_of, set_at, strand_of, subtask_at, subtask_ended, task_of, thread_at, thread_group, thread_handle_of, undelivered_end, was_cancelled, was_started, word_of, work_caller_of}
 use Rattle.task_machine.specs.Write.{add_call, add_group, add_set, add_thread, add_work, count_work, free_handle, free_thread_handle, give_handle, give_result, give_thread_handle, on_call, on_instance, on_thread, on_work, push_high, push_high_first, push_low, remove_call, remove_group, remove_set, remove_thread, remove_threads, remove_work, set_backpressure, set_callers, set_cancel_delivered, set_cancelled, set_course, set_do_not_enter, set_do_not_suspend, set_end, set_event, set_exited, set_high, set_how_far, set_join, set_low, set_own_event, set_phase, set_place, set_places, set_position, set_register, set_result, set_saved_callee, set_saved_own, set_script, set_stage, set_started, set_starting_published, set_subtask_handle, set_switch, set_thread_handle, set_trapped, set_uninteresting, set_word, take_result}
 use Rattle.task_rules.specs.Calls.{AtOnce, Failing, FirstPoll, Later, answered, blocked, call_answered, call_begins, call_blocked, call_host_polled, call_host_row, call_made, call_pending, call_returned, call_row, call_status, call_sync_begins, call_sync_host_polled, call_sync_host_row, call_sync_row, call_sync_status, called, called_back, enter_row, entered, first_poll, forbidding, host_answered, host_blocked, host_pending, host_ready, new_call, new_thread, new_work, next_thread, next_work, packed, put_back, settle_group_of, status_found, suspending, with_handle, with_thread_handle, work_answered, work_deleted, work_group, work_queued, work_value}
@@ -364,7 +364,7 @@ module _ {R : Core → Core → Type 0} (E : Elementary R) where
 
   unqueued_keeps : (a0 : ℕ) (s : Core) → R s (unqueued a0 s)
   unfolding unqueued
-  unqueued_keeps n s = after (set_high_keeps (less n s.queues.high) s) (set_low_keeps (less n s.queues.low) (set_high (less n s.queues.high) s))
+  unqueued_keeps n s = if_keeps s (has_entry n s.queues.high) (set_high (less n s.queues.high) s) (set_low (less n s.queues.low) s) (set_high_keeps (less n s.queues.high) s) (set_low_keeps (less n s.queues.low) s)
 
   promoted_keeps : (a0 : ℕ) (s : Core) → R s (promoted a0 s)
   unfolding promoted
@@ -1321,4 +1321,3 @@ module _ {R : Core → Core → Type 0} (E : Elementary R) where
   pub step_keeps : EachStep R
   unfolding Step
   step_keeps x s l t is = turn_step_keeps x s s.turn l t is
-

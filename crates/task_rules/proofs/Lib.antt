@@ -1,3 +1,5 @@
 pub mod KeepLemmas
 pub mod EndLemmas
 pub mod LawLemmas
+pub mod PromotionLemmas
+pub mod CheckLemmas

@@ -5,6 +5,7 @@
 mod laws;
 
 pub use laws::{
-    counts_never_fall, limits_stay, none_after_over, outcome_is_last, outcomes_end, run_goes_on,
-    runs_join, runs_keep_counts, runs_keep_limits,
+    callback_check_is_after, check_moves_one, counts_never_fall, limits_stay, none_after_over,
+    outcome_is_last, outcomes_end, promotion_moves_one, run_goes_on, runs_join, runs_keep_counts,
+    runs_keep_limits,
 };
