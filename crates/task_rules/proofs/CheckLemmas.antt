@@ -17,9 +17,9 @@ use Rattle.task_machine.specs.declared.records.Why.TheVariants as why
 use Rattle.task_machine.proofs.MapLemmas.{change-field}
 use Rattle.task_machine.specs.Core.{Core}
 use Rattle.task_machine.specs.Maps.{Records, change, get, numbers}
-use Rattle.task_machine.specs.Moves.{displaced, first_entry, first_low, held_why_of, newest, older, passes_check, put_high, put_switch, released, released_callers, resumed_all, stand, stopped, why_of}
+use Rattle.task_machine.specs.Moves.{behind, behind_one, displaced, first_entry, first_low, held_why_of, newest, older, passed_on, passes_check, put_high, put_switch, released, resumed_all, resumed_callers, stand, stopped, why_of}
 use Rattle.task_machine.specs.Read.{admits, admitted_held, callers_of, entry_thread, first_in, foot_of, held_why, instance_of, is_entry_in, is_held_admitted, is_nil, may_not_suspend, no_callee, place_of, task_of}
-use Rattle.task_machine.specs.Write.{on_instance, on_thread, push_high, push_high_first, set_callers, set_do_not_enter, set_place, set_places, set_switch}
+use Rattle.task_machine.specs.Write.{on_instance, on_thread, push_high, push_high_first, set_callers, set_do_not_enter, set_place, set_switch}
 use Rattle.task_rules.specs.Ends.{deactivated, held_out, let_in, passes_after_stop}
 use Rattle.task_rules.specs.Laws.{CallbackCheckIsAfter}
 
@@ -40,10 +40,6 @@ module _ {X : Type 0} (p : Core → X) (at_place : (n : ℕ) (q : Place) (s : Co
   resumed_all_leaves [] s = refl
   resumed_all_leaves (n ∷ ns) s = resumed_all_leaves ns (put_high n why.Resumption s) ∙ put_high_leaves n why.Resumption s
 
-  set_places_leaves : (ns : List ℕ) (q : Place) (s : Core) → p (set_places ns q s) ≡ p s
-  set_places_leaves [] q s = refl
-  set_places_leaves (n ∷ ns) q s = set_places_leaves ns q (set_place n q s) ∙ at_place n q s
-
   module _ (at_first : (e : Entry) (s : Core) → p (push_high_first e s) ≡ p s) (at_switch : (o : Option ℕ) (s : Core) → p (set_switch o s) ≡ p s) (at_callers : (n : ℕ) (ns : List ℕ) (s : Core) → p (set_callers n ns s) ≡ p s) where
     displaced_leaves : (o : Option ℕ) (s : Core) → p (displaced o s) ≡ p s
     displaced_leaves None s = refl
@@ -53,14 +49,22 @@ module _ {X : Type 0} (p : Core → X) (at_place : (n : ℕ) (q : Place) (s : Co
     unfolding put_switch
     put_switch_leaves n w s = at_switch (Some n) _ ∙ (at_place n (place.Ready mark.Switch w) (displaced s.queues.switch s) ∙ displaced_leaves s.queues.switch s)
 
-    released_callers_leaves : (f : ℕ) (o : Option ℕ) (ns : List ℕ) (s : Core) → p (released_callers f o ns s) ≡ p s
-    released_callers_leaves f o [] s = refl
-    released_callers_leaves f (Some m) (n ∷ ns) s = at_callers f [] _ ∙ (at_callers (foot_of m s) _ _ ∙ set_places_leaves (n ∷ ns) (place.Behind (foot_of m s)) s)
-    released_callers_leaves f None (n ∷ ns) s = at_callers f [] _ ∙ (resumed_all_leaves (older n ns) _ ∙ put_switch_leaves (newest n ns) why.Resumption s)
+    behind_leaves : (f : ℕ) (ns : List ℕ) (s : Core) → p (behind f ns s) ≡ p s
+    unfolding behind_one
+    behind_leaves f [] s = refl
+    behind_leaves f (n ∷ ns) s = behind_leaves f ns (behind_one f n s) ∙ (at_callers f _ _ ∙ at_place n (place.Behind f) s)
+
+    resumed_callers_leaves : (ns : List ℕ) (s : Core) → p (resumed_callers ns s) ≡ p s
+    resumed_callers_leaves [] s = refl
+    resumed_callers_leaves (n ∷ ns) s = resumed_all_leaves (older n ns) _ ∙ put_switch_leaves (newest n ns) why.Resumption s
+
+    passed_on_leaves : (o : Option ℕ) (ns : List ℕ) (s : Core) → p (passed_on o ns s) ≡ p s
+    passed_on_leaves (Some m) ns s = behind_leaves (foot_of m s) ns s
+    passed_on_leaves None ns s = resumed_callers_leaves ns s
 
     stopped_leaves : (f : ℕ) (s : Core) → p (stopped f s) ≡ p s
     unfolding stopped
-    stopped_leaves f s = released_callers_leaves f s.queues.switch (callers_of f s) s
+    stopped_leaves f s = passed_on_leaves s.queues.switch (callers_of f s) (set_callers f [] s) ∙ at_callers f [] s
 
 place_instances : (n : ℕ) (q : Place) (s : Core) → (set_place n q s).instances ≡ s.instances
 unfolding set_place on_thread
@@ -124,13 +128,22 @@ or_false_right : (a : Bool) → (a || false) ≡ a
 or_false_right true = refl
 or_false_right false = refl
 
-callers_pass : (i f : ℕ) (s : Core) (o : Option ℕ) (ns : List ℕ) → s.queues.switch ≡ o → passes_check i (released_callers f o ns s) ≡ (passes_check i s || not (is_nil ns))
-callers_pass i f s o [] is = sym (or_false_right (passes_check i s))
+same_passes : (i f : ℕ) (ns : List ℕ) (s : Core) → passes_check i (set_callers f ns s) ≡ passes_check i s
+unfolding passes_check set_callers first_entry
+same_passes i f ns s = refl
+
+behind_switch_stays : (f : ℕ) (ns : List ℕ) (s : Core) → (behind f ns s).queues.switch ≡ s.queues.switch
+unfolding behind_one
+behind_switch_stays f [] s = refl
+behind_switch_stays f (n ∷ ns) s = behind_switch_stays f ns (behind_one f n s) ∙ (callers_switch f _ _ ∙ place_switch n (place.Behind f) s)
+
+callers_pass : (i f : ℕ) (s : Core) (o : Option ℕ) (ns : List ℕ) → s.queues.switch ≡ o → passes_check i (passed_on o ns (set_callers f [] s)) ≡ (passes_check i s || not (is_nil ns))
+callers_pass i f s (Some m) [] is = same_passes i f [] s ∙ sym (or_false_right (passes_check i s))
+callers_pass i f s None [] is = same_passes i f [] s ∙ sym (or_false_right (passes_check i s))
 callers_pass i f s (Some m) (n ∷ ns) is =
-    with_switch_passes i _ m (callers_switch f [] _ ∙ (callers_switch (foot_of m s) _ _ ∙ (set_places_leaves (λ c. c.queues.switch) place_switch high_switch (n ∷ ns) (place.Behind (foot_of m s)) s ∙ is)))
-    ∙ sym (or_true_right (passes_check i s))
+    with_switch_passes i _ m (behind_switch_stays (foot_of m (set_callers f [] s)) (n ∷ ns) (set_callers f [] s) ∙ (callers_switch f [] s ∙ is)) ∙ sym (or_true_right (passes_check i s))
 callers_pass i f s None (n ∷ ns) is =
-    with_switch_passes i _ (newest n ns) (callers_switch f [] _ ∙ (resumed_all_leaves (λ c. c.queues.switch) place_switch high_switch (older n ns) _ ∙ put_switch_stands (newest n ns) why.Resumption s))
+    with_switch_passes i _ (newest n ns) (resumed_all_leaves (λ c. c.queues.switch) place_switch high_switch (older n ns) _ ∙ put_switch_stands (newest n ns) why.Resumption (set_callers f [] s))
     ∙ sym (or_true_right (passes_check i s))
 
 stop_passes : (i f : ℕ) (s : Core) → passes_check i (stopped f s) ≡ (passes_check i s || not (is_nil (callers_of f s)))
@@ -215,7 +228,7 @@ stays_high i [] s h = h
 stays_high i (n ∷ ns) s h =
     stays_high i ns (put_high n (held_why_of n s) s)
     (any_in_is i (put_high n (held_why_of n s) s) s (put_high_instance n (held_why_of n s) s) (put_high n (held_why_of n s) s).queues.high
-    ∙ (ap (any_in i s) (put_high_high n (held_why_of n s) s) ∙ (any_in-append i s s.queues.high (entry.Thread n) ∙ ap (λ b. b || is_entry_in i s (entry.Thread n)) h)))
+      ∙ (ap (any_in i s) (put_high_high n (held_why_of n s) s) ∙ (any_in-append i s s.queues.high (entry.Thread n) ∙ ap (λ b. b || is_entry_in i s (entry.Thread n)) h)))
 
 -- the released thread's entry is of its instance
 comes_high : (i n : ℕ) (s : Core) → (instance_of n s == i) ≡ true → any_in i (put_high n (held_why_of n s) s) (put_high n (held_why_of n s) s).queues.high ≡ true
@@ -237,7 +250,7 @@ unfolding passes_check first_entry set_do_not_enter on_instance
 enter_passes i b s =
     ap (λ c. not c || (is_some s.queues.switch || is_some (first_entry i s)))
     (map_or (λ r. r.do_not_suspend) (get (change i (λ r. record r { do_not_enter = b }) s.instances) i) false
-    ∙ (ap (λ o. unwrap_or o false) (change-field (λ (r : Instance). r.do_not_suspend) i (λ r. record r { do_not_enter = b }) (λ r. refl) s.instances i) ∙ sym (map_or (λ r. r.do_not_suspend) (get s.instances i) false)))
+      ∙ (ap (λ o. unwrap_or o false) (change-field (λ (r : Instance). r.do_not_suspend) i (λ r. record r { do_not_enter = b }) (λ r. refl) s.instances i) ∙ sym (map_or (λ r. r.do_not_suspend) (get s.instances i) false)))
 
 enter_callers : (i : ℕ) (b : Bool) (s : Core) → (set_do_not_enter i b s).callers ≡ s.callers
 unfolding set_do_not_enter on_instance
@@ -310,9 +323,9 @@ callback_check n s order perm =
     let v = set_do_not_enter i false s in
     stop_passes i (foot_of n s) (released order v)
     ∙ (ap₂ (λ (a : Bool) (cs : Records (List ℕ)). a || not (is_nil (unwrap_or (get cs (foot_of n s)) [])))
-    (release_passes i order v (ordered_first i v order perm) ∙ ap₂ (λ (a b : Bool). a || not b) (enter_passes i false s) (same_nil (admitted_held i v) order (length_permutation (admitted_held i v) order perm)))
-    (released_leaves (λ c. c.callers) place_callers high_callers order v ∙ enter_callers i false s)
-    ∙ or_swap (passes_check i s) (not (is_nil (admitted_held i v))) (not (is_nil (callers_of (foot_of n s) s))))
+        (release_passes i order v (ordered_first i v order perm) ∙ ap₂ (λ (a b : Bool). a || not b) (enter_passes i false s) (same_nil (admitted_held i v) order (length_permutation (admitted_held i v) order perm)))
+        (released_leaves (λ c. c.callers) place_callers high_callers order v ∙ enter_callers i false s)
+      ∙ or_swap (passes_check i s) (not (is_nil (admitted_held i v))) (not (is_nil (callers_of (foot_of n s) s))))
   where
     or_swap : (a b c : Bool) → ((a || b) || c) ≡ (a || (c || b))
     or_swap true b c = refl

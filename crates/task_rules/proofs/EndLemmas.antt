@@ -3,7 +3,6 @@ use Rattle.std.proofs.Common.{ap, refl, subst, sym, ◌∙◌}
 use Rattle.std.specs.Prelude.{Bool, List, None, Option, Some, false, is_some, nat_le, nat_lt, not, suc, true, unwrap_or, zero, ℕ, ◌%◌, ◌*◌, ◌+◌, ◌/◌, ◌==◌, ◌^◌, ◌≡◌}
 use Rattle.task_machine.specs.declared.op.CallOp.{CallOp}
 use Rattle.task_machine.specs.declared.component.Callee.{Callee}
-use Rattle.task_machine.specs.declared.records.Caller.{Caller}
 use Rattle.task_machine.specs.declared.component.Component.{Component}
 use Rattle.task_machine.specs.declared.op.DataOp.{DataOp}
 use Rattle.task_machine.specs.declared.records.Delivery.{Delivery}
@@ -31,7 +30,6 @@ use Rattle.task_machine.specs.declared.records.Turn.{Turn}
 use Rattle.task_machine.specs.declared.records.Why.{Why}
 use Rattle.task_machine.specs.declared.label.CallLabel.TheVariants as call_label
 use Rattle.task_machine.specs.declared.op.CallOp.TheVariants as call_op
-use Rattle.task_machine.specs.declared.records.Caller.TheVariants as caller
 use Rattle.task_machine.specs.declared.op.DataOp.TheVariants as data_op
 use Rattle.task_machine.specs.declared.records.Delivery.TheVariants as delivery
 use Rattle.task_machine.specs.declared.records.Entry.TheVariants as entry
@@ -59,7 +57,7 @@ use Rattle.task_machine.specs.Core.{Began, Core, Main, MainPlace, Refused, Scrip
 use Rattle.task_machine.specs.Labels.{Choice, choice_of, event_label, exit_label, held_label, host_label, join_label, ret_label, take_label, task_cancel_label, wait_label}
 use Rattle.task_machine.specs.Maps.{get}
 use Rattle.task_machine.specs.Moves.{Gift, NoGift, checked, ended, gift, given_for, may_hand_on, may_publish, own_gift_only, passes_check}
-use Rattle.task_machine.specs.Read.{admits, at_handle_limit, backpressure_of, caller_of, cancel_was_delivered, event_of, fits, foot_of, goal_of, has_ended, has_member, has_waiters, how_far_of, instance_of, is_async_lifted, is_callback_yield, is_direct, is_explicit, is_joined, is_watched, join_of, kind_of, new_handle, place_of, register_of, registers_of, set_at, subtask_at, subtask_ended, task_of, thread_at, thread_handle_of, undelivered_end, was_cancelled, was_started, word_of}
+use Rattle.task_machine.specs.Read.{admits, at_handle_limit, backpressure_of, cancel_was_delivered, event_of, fits, foot_of, goal_of, has_ended, has_member, has_waiters, how_far_of, instance_of, is_async_lifted, is_callback_yield, is_direct, is_explicit, is_joined, is_watched, join_of, kind_of, new_handle, place_of, register_of, registers_of, set_at, subtask_at, subtask_ended, task_of, thread_at, thread_handle_of, undelivered_end, under_of, was_cancelled, was_started, word_of}
 use Rattle.task_machine.specs.Write.{set_join}
 use Rattle.task_rules.specs.Calls.{AtOnce, Failing, FirstPoll, Later, call_begins, call_blocked, call_host_polled, call_host_row, call_pending, call_row, call_status, call_sync_begins, call_sync_host_polled, call_sync_host_row, call_sync_row, call_sync_status, called, called_back, enter_row, entered, first_poll, host_blocked, host_pending, next_thread, next_work, packed, status_found}
 use Rattle.task_rules.specs.Cancels.{Async, Mode, Sync, after_cancel, asked, awaiting, blocked_code, by_end, cancel_found, cancel_guest, cancel_host, cancel_label, cancel_resumed, cancel_row, cancel_running, cancel_subtask, cancel_yield, drop_found, drop_row, dropped, ended_row, host_cancelled, is_at, is_callback_wait, not_ended_row, pauses, subtask_row}
@@ -164,13 +162,13 @@ sync_exit_row_opens n w s = may_opens (may_tell (task_of n s) w s) (Stops (exit_
 blocking_exit_row_opens : (a0 : ℕ) (a1 : Option ℕ) (a2 : Core) → Opens (blocking_exit_row a0 a1 a2)
 blocking_exit_row_opens n w s = let held = held_out (instance_of n s) s in trap_if_opens (not (passes_after_return (instance_of n s) (task_of n s) held s)) trap.CannotBlockSyncTask (may (may_tell (task_of n s) w s) (Ordered held (λ order. Stops (exit_label n w) (blocking_left n w order s)))) (may_opens (may_tell (task_of n s) w s) (Ordered held (λ order. Stops (exit_label n w) (blocking_left n w order s))) (λ order. exit_label-open n w))
 
-direct_exit_to_opens : (a0 : ℕ) (a1 : ExportKind) (a2 : Core) (a3 : Caller) → Opens (direct_exit_to a0 a1 a2 a3)
-direct_exit_to_opens n x s caller.Main = tt
-direct_exit_to_opens n kind.Sync s (caller.Thread m) = exit_label-open n None
-direct_exit_to_opens n x s (caller.Thread m) = trap_if_opens (not (passes_check (instance_of n s) s)) trap.CannotBlockSyncTask (Goes (exit_label n None) (direct_left n m (register_of n 0 s) (checked (instance_of n s) s)) m) (exit_label-open n None)
+direct_exit_to_opens : (a0 : ℕ) (a1 : ExportKind) (a2 : Core) (a3 : Option ℕ) → Opens (direct_exit_to a0 a1 a2 a3)
+direct_exit_to_opens n x s None = tt
+direct_exit_to_opens n kind.Sync s (Some m) = exit_label-open n None
+direct_exit_to_opens n x s (Some m) = trap_if_opens (not (passes_check (instance_of n s) s)) trap.CannotBlockSyncTask (Goes (exit_label n None) (direct_left n m (register_of n 0 s) (checked (instance_of n s) s)) m) (exit_label-open n None)
 
 direct_exit_row_opens : (a0 : ℕ) (a1 : Core) → Opens (direct_exit_row a0 a1)
-direct_exit_row_opens n s = direct_exit_to_opens n (kind_of (task_of n s) s) s (caller_of (task_of n s) s)
+direct_exit_row_opens n s = direct_exit_to_opens n (kind_of (task_of n s) s) s (under_of n s)
 
 wait_end_opens : (a0 : Label) (a1 : ℕ) (a2 : ℕ) (a3 : List ℕ) (a4 : Core) (a5 : Bool) → outcome_of_label a0 ≡ None → Opens (wait_end a0 a1 a2 a3 a4 a5)
 wait_end_opens l n x held s true quiet = λ order. quiet
@@ -489,6 +487,7 @@ op_row_opens c n s ch (op.Thread o) = thread_row_opens c n s o
 did_opens : (a0 : Component) (a1 : ℕ) (a2 : Core) (a3 : Choice) → Opens (did a0 a1 a2 a3)
 unfolding did
 did_opens c n s ch = op_row_opens c n s ch (op_of c n s)
+
 
 -- ---- The turn after such a label
 

@@ -1,3 +1,5 @@
+pub mod KeepWords
+pub mod KeepRows
 pub mod KeepLemmas
 pub mod EndLemmas
 pub mod LawLemmas
