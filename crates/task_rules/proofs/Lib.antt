@@ -5,3 +5,5 @@ pub mod EndLemmas
 pub mod LawLemmas
 pub mod PromotionLemmas
 pub mod CheckLemmas
+pub mod StandLemmas
+pub mod StopLemmas

@@ -21,3 +21,4 @@ pub mod Once
 pub mod Notices
 pub mod Keeps
 pub mod Laws
+pub mod Places
