@@ -31,42 +31,106 @@ use Rattle.task_rules.specs.Texts.{polls}
 
 -- req; q: da, api, py_aa, react; work: db, thread, h, q; b
 abbrev pub generated_15 : Scenario
-generated_15 = record { handles = 100000; table = 20; idle = idle_line.Trap; component = record { instances = (record { exports = []; slots =
-    (replicate 16 slot.Empty) } ∷ record { exports = (record { kind = kind.Callback; params = 0; start = (op.Set (set_op.New 3) ∷ op.Data (data_op.Store 0 (operand.Register 3)) ∷
-    op.Task (task_op.CbWait (operand.Register 3)) ∷ []); react = (op.Data (data_op.SkipEq (operand.Register 0) (operand.Number 6) 1) ∷ op.Task (task_op.Ret (operand.Register 1)) ∷
-    op.Task task_op.TaskCancel ∷ []) } ∷ record { kind = kind.Stackful; params = 0; start = (op.Data (data_op.Load 3 0) ∷ op.Set (set_op.Wait 10 (operand.Register 3)) ∷
-    op.Task (task_op.Ret (operand.Register 10)) ∷ []); react = [] } ∷ record { kind = kind.Stackful; params = 0; start = (op.Call (call_op.CallHost 4 8 0) ∷
-    op.Data (data_op.Handle 5 (operand.Register 4)) ∷ op.Data (data_op.Store 1 (operand.Register 5)) ∷ op.Task (task_op.Ret (operand.Register 5)) ∷
-    []); react = [] } ∷ record { kind = kind.Stackful; params = 0; start = (op.Data (data_op.Load 3 0) ∷ op.Data (data_op.Load 4 1) ∷ op.Set (set_op.Join (operand.Register 4) (operand.Register 3)) ∷
-    op.Task (task_op.Ret (operand.Register 10)) ∷ []); react = [] } ∷ []); slots = (replicate 16 slot.Empty) } ∷ record { exports = (record { kind =
-    kind.Stackful; params = 0; start = (op.Call (call_op.Call 10 11 (record { instance = 1; export = 0 }) []) ∷ op.Data (data_op.SkipEq (operand.Register 10) (operand.Number 2) 1) ∷
-    op.Data (data_op.Handle 5 (operand.Register 10)) ∷ op.Call (call_op.Call 10 11 (record { instance = 1; export = 1 }) []) ∷ op.Data (data_op.Handle 4 (operand.Register 10)) ∷
-    op.Call (call_op.Call 10 11 (record { instance = 1; export = 1 }) []) ∷ op.Data (data_op.SkipEq (operand.Register 10) (operand.Number 2) 1) ∷
-    op.Data (data_op.Handle 9 (operand.Register 10)) ∷ op.Call (call_op.Call 10 11 (record { instance = 1; export = 2 }) []) ∷ op.Thread thread_op.Yield ∷
-    op.Thread thread_op.Yield ∷ op.Call (call_op.Call 10 11 (record { instance = 1; export = 3 }) []) ∷ op.Call (call_op.Cancel 3 (operand.Register 5)) ∷
-    op.Set (set_op.New 2) ∷ op.Set (set_op.Join (operand.Register 5) (operand.Register 2)) ∷ op.Set (set_op.Join (operand.Register 4) (operand.Register 2)) ∷
-    op.Set (set_op.Join (operand.Register 9) (operand.Register 2)) ∷ op.Set (set_op.Poll 10 (operand.Register 2)) ∷ op.Data (data_op.SkipEq (operand.Register 10) (operand.Number 0) 1) ∷
-    op.Call (call_op.Drop (operand.Register 11)) ∷ op.Thread thread_op.Yield ∷ op.Set (set_op.Poll 10 (operand.Register 2)) ∷ op.Data (data_op.SkipEq (operand.Register 10) (operand.Number 0) 1) ∷
-    op.Call (call_op.Drop (operand.Register 11)) ∷ op.Thread thread_op.Yield ∷ op.Task (task_op.Ret (operand.Register 3)) ∷ []); react = [] } ∷ record {
-    kind = kind.Blocking; params = 2; start = (op.Call (call_op.CallHost 8 4 2) ∷ op.Data (data_op.Handle 3 (operand.Register 8)) ∷ op.Set (set_op.New 5) ∷
-    op.Set (set_op.Join (operand.Register 3) (operand.Register 5)) ∷ op.Set (set_op.Wait 13 (operand.Register 5)) ∷ op.Data (data_op.SkipEq (operand.Register 15) (operand.Number 2) 2) ∷
-    op.Data (data_op.SkipEq (operand.Register 15) (operand.Number 4) 1) ∷ op.Set (set_op.Wait 13 (operand.Register 5)) ∷ op.Call (call_op.Drop (operand.Register 14)) ∷
-    op.Set (set_op.Drop (operand.Register 5)) ∷ op.Call (call_op.CallSync 7 (record { instance = 1; export = 1 }) []) ∷ op.Data (data_op.Set 0 (operand.Register 4)) ∷
-    []); react = [] } ∷ record { kind = kind.Callback; params = 0; start = (op.Data (data_op.Handle 11 (operand.Number 77)) ∷ op.Task task_op.CbYield ∷
-    []); react = (op.Data (data_op.SkipEq (operand.Register 0) (operand.Number 6) 5) ∷ op.Data (data_op.Add 8 (operand.Number 1)) ∷ op.Data (data_op.SkipEq (operand.Register 8) (operand.Number 2) 1) ∷
-    op.Task task_op.CbYield ∷ op.Task (task_op.Ret (operand.Register 6)) ∷ op.Task task_op.Exit ∷ op.Task (task_op.Ret (operand.Number 193)) ∷ op.Task task_op.Exit ∷
-    []) } ∷ record { kind = kind.Callback; params = 16; start = (op.Data (data_op.Set 9 (operand.Register 0)) ∷ op.Task task_op.CbYield ∷ []); react =
-    (op.Thread thread_op.Yield ∷ op.Thread thread_op.Yield ∷ op.Data (data_op.Add 5 (operand.Number 1)) ∷ op.Data (data_op.SkipEq (operand.Register 5) (operand.Number 3) 1) ∷
-    op.Task task_op.CbYield ∷ op.Task (task_op.Ret (operand.Number 3)) ∷ op.Task task_op.Exit ∷ []) } ∷ []); slots = (replicate 16 slot.Empty) } ∷
-    record { exports = []; slots = (replicate 16 slot.Empty) } ∷ []); hosts = (record { polls = (Some 1); value = (Some 181) } ∷ record { polls =
-    (Some 2); value = (Some 255) } ∷ record { polls = (Some 9); value = (Some 4294967296) } ∷ record { polls = None; value = None } ∷ []) }; names =
-    []; main = (main_op.Ready (record { instance = 2; export = 0 }) ∷ main_op.Start (record { instance = 2; export = 0 }) [] ∷ main_op.Finish 1 10 ∷
-    main_op.Start (record { instance = 2; export = 1 }) ((operand.Register 1) ∷ (operand.Number 18) ∷ []) ∷ main_op.Start (record { instance = 2;
-    export = 2 }) [] ∷ main_op.Start (record { instance = 2; export = 3 }) ((operand.Number 12) ∷ (operand.Number 15) ∷ (operand.Number 3) ∷
-    (operand.Number 12) ∷ (operand.Number 10) ∷ (operand.Register 2) ∷ (operand.Number 4294967297) ∷ (operand.Register 0) ∷ (operand.Number 17) ∷
-    (operand.Register 6) ∷ (operand.Number 30) ∷ (operand.Number 13) ∷ (operand.Number 8) ∷ (operand.Number 255) ∷ (operand.Number 6) ∷
-    (operand.Number 9) ∷ []) ∷ main_op.Finish 2 0 ∷ main_op.Finish 3 11 ∷ main_op.Finish 4 0 ∷ main_op.Quiet ∷ main_op.Answer (operand.Number 85) ∷
-    []); aborters = [] }
+generated_15 = record {
+  handles = 100000;
+  table = 20;
+  idle = idle_line.Trap;
+  component = record {
+    instances = (record {
+      exports = [];
+      slots =
+          (replicate 16 slot.Empty);
+    } ∷ record {
+      exports = (record {
+        kind = kind.Callback;
+        params = 0;
+        start = (op.Set (set_op.New 3) ∷ op.Data (data_op.Store 0 (operand.Register 3)) ∷
+            op.Task (task_op.CbWait (operand.Register 3)) ∷ []);
+        react = (op.Data (data_op.SkipEq (operand.Register 0) (operand.Number 6) 1) ∷ op.Task (task_op.Ret (operand.Register 1)) ∷
+            op.Task task_op.TaskCancel ∷ []);
+      } ∷ record {
+        kind = kind.Stackful;
+        params = 0;
+        start = (op.Data (data_op.Load 3 0) ∷ op.Set (set_op.Wait 10 (operand.Register 3)) ∷
+            op.Task (task_op.Ret (operand.Register 10)) ∷ []);
+        react = [];
+      } ∷ record {
+        kind = kind.Stackful;
+        params = 0;
+        start = (op.Call (call_op.CallHost 4 8 0) ∷
+            op.Data (data_op.Handle 5 (operand.Register 4)) ∷ op.Data (data_op.Store 1 (operand.Register 5)) ∷ op.Task (task_op.Ret (operand.Register 5)) ∷
+            []);
+        react = [];
+      } ∷ record {
+        kind = kind.Stackful;
+        params = 0;
+        start = (op.Data (data_op.Load 3 0) ∷ op.Data (data_op.Load 4 1) ∷ op.Set (set_op.Join (operand.Register 4) (operand.Register 3)) ∷
+            op.Task (task_op.Ret (operand.Register 10)) ∷ []);
+        react = [];
+      } ∷ []);
+      slots = (replicate 16 slot.Empty);
+    } ∷ record {
+      exports = (record {
+        kind =
+            kind.Stackful;
+        params = 0;
+        start = (op.Call (call_op.Call 10 11 (record { instance = 1; export = 0 }) []) ∷ op.Data (data_op.SkipEq (operand.Register 10) (operand.Number 2) 1) ∷
+            op.Data (data_op.Handle 5 (operand.Register 10)) ∷ op.Call (call_op.Call 10 11 (record { instance = 1; export = 1 }) []) ∷ op.Data (data_op.Handle 4 (operand.Register 10)) ∷
+            op.Call (call_op.Call 10 11 (record { instance = 1; export = 1 }) []) ∷ op.Data (data_op.SkipEq (operand.Register 10) (operand.Number 2) 1) ∷
+            op.Data (data_op.Handle 9 (operand.Register 10)) ∷ op.Call (call_op.Call 10 11 (record { instance = 1; export = 2 }) []) ∷ op.Thread thread_op.Yield ∷
+            op.Thread thread_op.Yield ∷ op.Call (call_op.Call 10 11 (record { instance = 1; export = 3 }) []) ∷ op.Call (call_op.Cancel 3 (operand.Register 5)) ∷
+            op.Set (set_op.New 2) ∷ op.Set (set_op.Join (operand.Register 5) (operand.Register 2)) ∷ op.Set (set_op.Join (operand.Register 4) (operand.Register 2)) ∷
+            op.Set (set_op.Join (operand.Register 9) (operand.Register 2)) ∷ op.Set (set_op.Poll 10 (operand.Register 2)) ∷ op.Data (data_op.SkipEq (operand.Register 10) (operand.Number 0) 1) ∷
+            op.Call (call_op.Drop (operand.Register 11)) ∷ op.Thread thread_op.Yield ∷ op.Set (set_op.Poll 10 (operand.Register 2)) ∷ op.Data (data_op.SkipEq (operand.Register 10) (operand.Number 0) 1) ∷
+            op.Call (call_op.Drop (operand.Register 11)) ∷ op.Thread thread_op.Yield ∷ op.Task (task_op.Ret (operand.Register 3)) ∷ []);
+        react = [];
+      } ∷ record {
+        kind = kind.Blocking;
+        params = 2;
+        start = (op.Call (call_op.CallHost 8 4 2) ∷ op.Data (data_op.Handle 3 (operand.Register 8)) ∷ op.Set (set_op.New 5) ∷
+            op.Set (set_op.Join (operand.Register 3) (operand.Register 5)) ∷ op.Set (set_op.Wait 13 (operand.Register 5)) ∷ op.Data (data_op.SkipEq (operand.Register 15) (operand.Number 2) 2) ∷
+            op.Data (data_op.SkipEq (operand.Register 15) (operand.Number 4) 1) ∷ op.Set (set_op.Wait 13 (operand.Register 5)) ∷ op.Call (call_op.Drop (operand.Register 14)) ∷
+            op.Set (set_op.Drop (operand.Register 5)) ∷ op.Call (call_op.CallSync 7 (record { instance = 1; export = 1 }) []) ∷ op.Data (data_op.Set 0 (operand.Register 4)) ∷
+            []);
+        react = [];
+      } ∷ record {
+        kind = kind.Callback;
+        params = 0;
+        start = (op.Data (data_op.Handle 11 (operand.Number 77)) ∷ op.Task task_op.CbYield ∷
+            []);
+        react = (op.Data (data_op.SkipEq (operand.Register 0) (operand.Number 6) 5) ∷ op.Data (data_op.Add 8 (operand.Number 1)) ∷ op.Data (data_op.SkipEq (operand.Register 8) (operand.Number 2) 1) ∷
+            op.Task task_op.CbYield ∷ op.Task (task_op.Ret (operand.Register 6)) ∷ op.Task task_op.Exit ∷ op.Task (task_op.Ret (operand.Number 193)) ∷ op.Task task_op.Exit ∷
+            []);
+      } ∷ record {
+        kind = kind.Callback;
+        params = 16;
+        start = (op.Data (data_op.Set 9 (operand.Register 0)) ∷ op.Task task_op.CbYield ∷ []);
+        react =
+            (op.Thread thread_op.Yield ∷ op.Thread thread_op.Yield ∷ op.Data (data_op.Add 5 (operand.Number 1)) ∷ op.Data (data_op.SkipEq (operand.Register 5) (operand.Number 3) 1) ∷
+            op.Task task_op.CbYield ∷ op.Task (task_op.Ret (operand.Number 3)) ∷ op.Task task_op.Exit ∷ []);
+      } ∷ []);
+      slots = (replicate 16 slot.Empty);
+    } ∷
+        record { exports = []; slots = (replicate 16 slot.Empty) } ∷ []);
+    hosts = (record { polls = (Some 1); value = (Some 181) } ∷ record {
+      polls =
+          (Some 2);
+      value = (Some 255);
+    } ∷ record { polls = (Some 9); value = (Some 4294967296) } ∷ record { polls = None; value = None } ∷ []);
+  };
+  names =
+      [];
+  main = (main_op.Ready (record { instance = 2; export = 0 }) ∷ main_op.Start (record { instance = 2; export = 0 }) [] ∷ main_op.Finish 1 10 ∷
+      main_op.Start (record { instance = 2; export = 1 }) ((operand.Register 1) ∷ (operand.Number 18) ∷ []) ∷ main_op.Start (record {
+        instance = 2;
+        export = 2;
+      }) [] ∷ main_op.Start (record { instance = 2; export = 3 }) ((operand.Number 12) ∷ (operand.Number 15) ∷ (operand.Number 3) ∷
+      (operand.Number 12) ∷ (operand.Number 10) ∷ (operand.Register 2) ∷ (operand.Number 4294967297) ∷ (operand.Register 0) ∷ (operand.Number 17) ∷
+      (operand.Register 6) ∷ (operand.Number 30) ∷ (operand.Number 13) ∷ (operand.Number 8) ∷ (operand.Number 255) ∷ (operand.Number 6) ∷
+      (operand.Number 9) ∷ []) ∷ main_op.Finish 2 0 ∷ main_op.Finish 3 11 ∷ main_op.Finish 4 0 ∷ main_op.Quiet ∷ main_op.Answer (operand.Number 85) ∷
+      []);
+  aborters = [];
+}
 
 abbrev pub generated_15_labels : List Label
 generated_15_labels = label.Main main_label.Ready ∷ label.Main (main_label.Start 1 1) ∷ label.Loop loop_label.MainPends ∷ label.Take (take.Thread mark.High 1) ∷
@@ -99,30 +163,86 @@ generated_15_labels = label.Main main_label.Ready ∷ label.Main (main_label.Sta
 
 -- wait: y_2, load_it, call, net, s, put; q: y_2
 abbrev pub generated_16 : Scenario
-generated_16 = record { handles = 100000; table = 1000000; idle = idle_line.Trap; component = record { instances = (record { exports = (record { kind =
-    kind.Callback; params = 0; start = (op.Task task_op.CbYield ∷ []); react = (op.Data (data_op.SkipEq (operand.Register 0) (operand.Number 6) 5) ∷
-    op.Data (data_op.Add 5 (operand.Number 1)) ∷ op.Data (data_op.SkipEq (operand.Register 5) (operand.Number 5) 1) ∷ op.Task task_op.CbYield ∷
-    op.Task (task_op.Ret (operand.Number 3)) ∷ op.Task task_op.Exit ∷ op.Task task_op.TaskCancel ∷ op.Task task_op.Exit ∷ []) } ∷ record { kind =
-    kind.Sync; params = 0; start = (op.Call (call_op.CallSyncHost 4 2) ∷ op.Call (call_op.CallSyncHost 0 2) ∷ []); react = [] } ∷ record { kind =
-    kind.Blocking; params = 0; start = (op.Data (data_op.Add 0 (operand.Number 1)) ∷ []); react = [] } ∷ record { kind = kind.Callback; params = 0;
-    start = (op.Task task_op.CbYield ∷ []); react = (op.Data (data_op.Store 12 (operand.Number 4)) ∷ op.Data (data_op.Add 3 (operand.Number 1)) ∷
-    op.Data (data_op.Set 0 (operand.Number 5)) ∷ op.Data (data_op.Add 7 (operand.Number 1)) ∷ op.Data (data_op.SkipEq (operand.Register 7) (operand.Number 2) 1) ∷
-    op.Task task_op.CbYield ∷ op.Task (task_op.Ret (operand.Register 15)) ∷ op.Task task_op.Exit ∷ []) } ∷ record { kind = kind.Sync; params = 0;
-    start = (op.Task task_op.BpInc ∷ []); react = [] } ∷ record { kind = kind.Sync; params = 0; start = (op.Task task_op.BpDec ∷ []); react = [] } ∷
-    []); slots = (replicate 16 slot.Empty) } ∷ record { exports = (record { kind = kind.Blocking; params = 0; start = (op.Call (call_op.Call 0 6 (record {
-    instance = 0; export = 3 }) []) ∷ op.Data (data_op.SkipEq (operand.Register 0) (operand.Number 2) 4) ∷ op.Data (data_op.Handle 7 (operand.Register 0)) ∷
-    op.Thread (thread_op.New 3 3 (operand.Number 1)) ∷ op.Thread (thread_op.ResumeLater (operand.Register 3)) ∷ op.Thread thread_op.Yield ∷ op.Call (call_op.CallSync 11 (record {
-    instance = 0; export = 4 }) []) ∷ op.Call (call_op.Call 4 9 (record { instance = 0; export = 3 }) []) ∷ op.Data (data_op.SkipEq (operand.Register 4) (operand.Number 2) 7) ∷
-    op.Data (data_op.Handle 2 (operand.Register 4)) ∷ op.Call (call_op.CallSync 11 (record { instance = 0; export = 5 }) []) ∷ op.Call (call_op.CallSync 8 (record {
-    instance = 0; export = 2 }) []) ∷ op.Call (call_op.Call 1 5 (record { instance = 0; export = 1 }) []) ∷ op.Data (data_op.SkipEq (operand.Register 1) (operand.Number 2) 1) ∷
-    op.Data (data_op.Handle 10 (operand.Register 1)) ∷ op.Call (call_op.CancelSync 14 (operand.Register 2)) ∷ op.Call (call_op.Call 12 11 (record {
-    instance = 0; export = 5 }) []) ∷ op.Data (data_op.SkipEq (operand.Register 12) (operand.Number 2) 1) ∷ op.Data (data_op.Handle 15 (operand.Register 12)) ∷
-    op.Data (data_op.Set 0 (operand.Register 5)) ∷ []); react = [] } ∷ []); slots = (slot.Empty ∷ slot.Empty ∷ slot.Empty ∷ slot.Script [] ∷
-    slot.Empty ∷ slot.Empty ∷ slot.Empty ∷ slot.Empty ∷ slot.Empty ∷ slot.Empty ∷ slot.Empty ∷ slot.Empty ∷ slot.Empty ∷ slot.Empty ∷ slot.Empty ∷
-    slot.Empty ∷ []) } ∷ []); hosts = (record { polls = (Some 2); value = (Some 81) } ∷ record { polls = None; value = None } ∷ record { polls = (Some 3);
-    value = (Some 41) } ∷ []) }; names = []; main = (main_op.Start (record { instance = 0; export = 0 }) [] ∷ main_op.Start (record { instance = 0;
-    export = 1 }) [] ∷ main_op.Start (record { instance = 1; export = 0 }) [] ∷ main_op.Finish 3 3 ∷ main_op.Answer (operand.Number 83) ∷ []);
-    aborters = [] }
+generated_16 = record {
+  handles = 100000;
+  table = 1000000;
+  idle = idle_line.Trap;
+  component = record {
+    instances = (record {
+      exports = (record {
+        kind =
+            kind.Callback;
+        params = 0;
+        start = (op.Task task_op.CbYield ∷ []);
+        react = (op.Data (data_op.SkipEq (operand.Register 0) (operand.Number 6) 5) ∷
+            op.Data (data_op.Add 5 (operand.Number 1)) ∷ op.Data (data_op.SkipEq (operand.Register 5) (operand.Number 5) 1) ∷ op.Task task_op.CbYield ∷
+            op.Task (task_op.Ret (operand.Number 3)) ∷ op.Task task_op.Exit ∷ op.Task task_op.TaskCancel ∷ op.Task task_op.Exit ∷ []);
+      } ∷ record {
+        kind =
+            kind.Sync;
+        params = 0;
+        start = (op.Call (call_op.CallSyncHost 4 2) ∷ op.Call (call_op.CallSyncHost 0 2) ∷ []);
+        react = [];
+      } ∷ record {
+        kind =
+            kind.Blocking;
+        params = 0;
+        start = (op.Data (data_op.Add 0 (operand.Number 1)) ∷ []);
+        react = [];
+      } ∷ record {
+        kind = kind.Callback;
+        params = 0;
+        start = (op.Task task_op.CbYield ∷ []);
+        react = (op.Data (data_op.Store 12 (operand.Number 4)) ∷ op.Data (data_op.Add 3 (operand.Number 1)) ∷
+            op.Data (data_op.Set 0 (operand.Number 5)) ∷ op.Data (data_op.Add 7 (operand.Number 1)) ∷ op.Data (data_op.SkipEq (operand.Register 7) (operand.Number 2) 1) ∷
+            op.Task task_op.CbYield ∷ op.Task (task_op.Ret (operand.Register 15)) ∷ op.Task task_op.Exit ∷ []);
+      } ∷ record {
+        kind = kind.Sync;
+        params = 0;
+        start = (op.Task task_op.BpInc ∷ []);
+        react = [];
+      } ∷ record { kind = kind.Sync; params = 0; start = (op.Task task_op.BpDec ∷ []); react = [] } ∷
+          []);
+      slots = (replicate 16 slot.Empty);
+    } ∷ record {
+      exports = (record {
+        kind = kind.Blocking;
+        params = 0;
+        start = (op.Call (call_op.Call 0 6 (record {
+          instance = 0;
+          export = 3;
+        }) []) ∷ op.Data (data_op.SkipEq (operand.Register 0) (operand.Number 2) 4) ∷ op.Data (data_op.Handle 7 (operand.Register 0)) ∷
+            op.Thread (thread_op.New 3 3 (operand.Number 1)) ∷ op.Thread (thread_op.ResumeLater (operand.Register 3)) ∷ op.Thread thread_op.Yield ∷ op.Call (call_op.CallSync 11 (record {
+              instance = 0;
+              export = 4;
+            }) []) ∷ op.Call (call_op.Call 4 9 (record { instance = 0; export = 3 }) []) ∷ op.Data (data_op.SkipEq (operand.Register 4) (operand.Number 2) 7) ∷
+            op.Data (data_op.Handle 2 (operand.Register 4)) ∷ op.Call (call_op.CallSync 11 (record { instance = 0; export = 5 }) []) ∷ op.Call (call_op.CallSync 8 (record {
+              instance = 0;
+              export = 2;
+            }) []) ∷ op.Call (call_op.Call 1 5 (record { instance = 0; export = 1 }) []) ∷ op.Data (data_op.SkipEq (operand.Register 1) (operand.Number 2) 1) ∷
+            op.Data (data_op.Handle 10 (operand.Register 1)) ∷ op.Call (call_op.CancelSync 14 (operand.Register 2)) ∷ op.Call (call_op.Call 12 11 (record {
+              instance = 0;
+              export = 5;
+            }) []) ∷ op.Data (data_op.SkipEq (operand.Register 12) (operand.Number 2) 1) ∷ op.Data (data_op.Handle 15 (operand.Register 12)) ∷
+            op.Data (data_op.Set 0 (operand.Register 5)) ∷ []);
+        react = [];
+      } ∷ []);
+      slots = (slot.Empty ∷ slot.Empty ∷ slot.Empty ∷ slot.Script [] ∷
+          slot.Empty ∷ slot.Empty ∷ slot.Empty ∷ slot.Empty ∷ slot.Empty ∷ slot.Empty ∷ slot.Empty ∷ slot.Empty ∷ slot.Empty ∷ slot.Empty ∷ slot.Empty ∷
+          slot.Empty ∷ []);
+    } ∷ []);
+    hosts = (record { polls = (Some 2); value = (Some 81) } ∷ record { polls = None; value = None } ∷ record {
+      polls = (Some 3);
+      value = (Some 41);
+    } ∷ []);
+  };
+  names = [];
+  main = (main_op.Start (record { instance = 0; export = 0 }) [] ∷ main_op.Start (record {
+    instance = 0;
+    export = 1;
+  }) [] ∷ main_op.Start (record { instance = 1; export = 0 }) [] ∷ main_op.Finish 3 3 ∷ main_op.Answer (operand.Number 83) ∷ []);
+  aborters = [];
+}
 
 abbrev pub generated_16_labels : List Label
 generated_16_labels = label.Main (main_label.Start 1 1) ∷ label.Main (main_label.Start 2 2) ∷ label.Main (main_label.Start 3 3) ∷ label.Loop loop_label.MainPends ∷
@@ -155,39 +275,93 @@ generated_16_labels = label.Main (main_label.Start 1 1) ∷ label.Main (main_lab
 
 -- d: api, host, bad; work: wait, get, db
 abbrev pub generated_17 : Scenario
-generated_17 = record { handles = 100000; table = 1000000; idle = idle_line.Trap; component = record { instances = (record { exports = (record { kind =
-    kind.Stackful; params = 0; start = (op.Task task_op.BpInc ∷ op.Task (task_op.Ret (operand.Number 0)) ∷ []); react = [] } ∷ record { kind =
-    kind.Sync; params = 0; start = (op.Task task_op.BpDec ∷ []); react = [] } ∷ record { kind = kind.Callback; params = 0; start = (op.Task task_op.CbYield ∷
-    []); react = (op.Data (data_op.SkipEq (operand.Register 0) (operand.Number 6) 5) ∷ op.Data (data_op.Add 4 (operand.Number 1)) ∷ op.Data (data_op.SkipEq (operand.Register 4) (operand.Number 3) 1) ∷
-    op.Task task_op.CbYield ∷ op.Task (task_op.Ret (operand.Register 4)) ∷ op.Task task_op.Exit ∷ op.Task task_op.TaskCancel ∷ op.Task task_op.Exit ∷
-    []) } ∷ []); slots = (replicate 16 slot.Empty) } ∷ record { exports = (record { kind = kind.Blocking; params = 0; start = (op.Call (call_op.Call 0 5 (record {
-    instance = 0; export = 2 }) []) ∷ op.Data (data_op.SkipEq (operand.Register 0) (operand.Number 2) 3) ∷ op.Data (data_op.Handle 3 (operand.Register 0)) ∷
-    op.Call (call_op.CancelSync 7 (operand.Register 3)) ∷ op.Call (call_op.Drop (operand.Register 3)) ∷ op.Set (set_op.New 8) ∷ op.Call (call_op.CallHost 10 11 0) ∷
-    op.Data (data_op.SkipEq (operand.Register 10) (operand.Number 2) 2) ∷ op.Data (data_op.Handle 12 (operand.Register 10)) ∷ op.Set (set_op.Join (operand.Register 12) (operand.Register 8)) ∷
-    op.Call (call_op.Call 10 11 (record { instance = 0; export = 2 }) []) ∷ op.Data (data_op.SkipEq (operand.Register 10) (operand.Number 2) 2) ∷
-    op.Data (data_op.Handle 12 (operand.Register 10)) ∷ op.Set (set_op.Join (operand.Register 12) (operand.Register 8)) ∷ op.Call (call_op.CallSyncHost 12 0) ∷
-    op.Call (call_op.CallSyncHost 12 0) ∷ op.Set (set_op.Poll 10 (operand.Register 8)) ∷ op.Data (data_op.SkipEq (operand.Register 10) (operand.Number 0) 2) ∷
-    op.Data (data_op.SkipEq (operand.Register 12) (operand.Number 1) 1) ∷ op.Call (call_op.Drop (operand.Register 11)) ∷ op.Set (set_op.Poll 10 (operand.Register 8)) ∷
-    op.Data (data_op.SkipEq (operand.Register 10) (operand.Number 0) 2) ∷ op.Data (data_op.SkipEq (operand.Register 12) (operand.Number 1) 1) ∷
-    op.Call (call_op.Drop (operand.Register 11)) ∷ op.Data (data_op.Set 0 (operand.Register 5)) ∷ []); react = [] } ∷ record { kind = kind.Blocking;
-    params = 0; start = (op.Call (call_op.Call 2 4 (record { instance = 0; export = 2 }) []) ∷ op.Data (data_op.SkipEq (operand.Register 2) (operand.Number 2) 15) ∷
-    op.Data (data_op.Handle 9 (operand.Register 2)) ∷ op.Data (data_op.Store 9 (operand.Register 14)) ∷ op.Data (data_op.Add 7 (operand.Register 0)) ∷
-    op.Call (call_op.Cancel 5 (operand.Register 9)) ∷ op.Data (data_op.SkipEq (operand.Register 5) (operand.Number 4294967295) 2) ∷ op.Call (call_op.Drop (operand.Register 9)) ∷
-    op.Data (data_op.SkipEq (operand.Number 0) (operand.Number 0) 8) ∷ op.Set (set_op.New 7) ∷ op.Set (set_op.Join (operand.Register 9) (operand.Register 7)) ∷
-    op.Set (set_op.Wait 13 (operand.Register 7)) ∷ op.Data (data_op.SkipEq (operand.Register 15) (operand.Number 2) 2) ∷ op.Data (data_op.SkipEq (operand.Register 15) (operand.Number 4) 1) ∷
-    op.Set (set_op.Wait 13 (operand.Register 7)) ∷ op.Call (call_op.Drop (operand.Register 14)) ∷ op.Set (set_op.Drop (operand.Register 7)) ∷ op.Call (call_op.CallHost 6 1 0) ∷
-    op.Data (data_op.Handle 8 (operand.Register 6)) ∷ op.Set (set_op.New 3) ∷ op.Set (set_op.Join (operand.Register 8) (operand.Register 3)) ∷ op.Call (call_op.CancelSync 0 (operand.Register 8)) ∷
-    op.Data (data_op.Set 0 (operand.Register 15)) ∷ []); react = [] } ∷ record { kind = kind.Callback; params = 0; start = (op.Call (call_op.Call 8 7 (record {
-    instance = 0; export = 0 }) []) ∷ op.Data (data_op.SkipEq (operand.Register 8) (operand.Number 2) 4) ∷ op.Data (data_op.Handle 5 (operand.Register 8)) ∷
-    op.Set (set_op.New 4) ∷ op.Set (set_op.Join (operand.Register 5) (operand.Register 4)) ∷ op.Task (task_op.CbWait (operand.Register 4)) ∷ op.Task (task_op.Ret (operand.Register 8)) ∷
-    op.Task task_op.Exit ∷ []); react = (op.Data (data_op.SkipEq (operand.Register 0) (operand.Number 6) 6) ∷ op.Data (data_op.SkipEq (operand.Register 2) (operand.Number 1) 4) ∷
-    op.Data (data_op.SkipEq (operand.Register 2) (operand.Number 0) 3) ∷ op.Call (call_op.Drop (operand.Register 1)) ∷ op.Task (task_op.Ret (operand.Register 2)) ∷
-    op.Task task_op.Exit ∷ op.Task (task_op.CbWait (operand.Register 4)) ∷ op.Task (task_op.Ret (operand.Number 2)) ∷ op.Task task_op.Exit ∷ []) } ∷
-    []); slots = (replicate 16 slot.Empty) } ∷ []); hosts = (record { polls = (Some 1); value = (Some 25) } ∷ record { polls = None; value = None } ∷
-    []) }; names = []; main = (main_op.Start (record { instance = 0; export = 0 }) [] ∷ main_op.Finish 1 6 ∷ main_op.Start (record { instance = 1;
-    export = 0 }) [] ∷ main_op.Start (record { instance = 1; export = 1 }) [] ∷ main_op.Start (record { instance = 1; export = 2 }) [] ∷ main_op.Start (record {
-    instance = 0; export = 1 }) [] ∷ main_op.Finish 5 1 ∷ main_op.Finish 2 1 ∷ main_op.Finish 3 1 ∷ main_op.Finish 4 12 ∷ main_op.Answer (operand.Register 0) ∷
-    []); aborters = [] }
+generated_17 = record {
+  handles = 100000;
+  table = 1000000;
+  idle = idle_line.Trap;
+  component = record {
+    instances = (record {
+      exports = (record {
+        kind =
+            kind.Stackful;
+        params = 0;
+        start = (op.Task task_op.BpInc ∷ op.Task (task_op.Ret (operand.Number 0)) ∷ []);
+        react = [];
+      } ∷ record {
+        kind =
+            kind.Sync;
+        params = 0;
+        start = (op.Task task_op.BpDec ∷ []);
+        react = [];
+      } ∷ record {
+        kind = kind.Callback;
+        params = 0;
+        start = (op.Task task_op.CbYield ∷
+            []);
+        react = (op.Data (data_op.SkipEq (operand.Register 0) (operand.Number 6) 5) ∷ op.Data (data_op.Add 4 (operand.Number 1)) ∷ op.Data (data_op.SkipEq (operand.Register 4) (operand.Number 3) 1) ∷
+            op.Task task_op.CbYield ∷ op.Task (task_op.Ret (operand.Register 4)) ∷ op.Task task_op.Exit ∷ op.Task task_op.TaskCancel ∷ op.Task task_op.Exit ∷
+            []);
+      } ∷ []);
+      slots = (replicate 16 slot.Empty);
+    } ∷ record {
+      exports = (record {
+        kind = kind.Blocking;
+        params = 0;
+        start = (op.Call (call_op.Call 0 5 (record {
+          instance = 0;
+          export = 2;
+        }) []) ∷ op.Data (data_op.SkipEq (operand.Register 0) (operand.Number 2) 3) ∷ op.Data (data_op.Handle 3 (operand.Register 0)) ∷
+            op.Call (call_op.CancelSync 7 (operand.Register 3)) ∷ op.Call (call_op.Drop (operand.Register 3)) ∷ op.Set (set_op.New 8) ∷ op.Call (call_op.CallHost 10 11 0) ∷
+            op.Data (data_op.SkipEq (operand.Register 10) (operand.Number 2) 2) ∷ op.Data (data_op.Handle 12 (operand.Register 10)) ∷ op.Set (set_op.Join (operand.Register 12) (operand.Register 8)) ∷
+            op.Call (call_op.Call 10 11 (record { instance = 0; export = 2 }) []) ∷ op.Data (data_op.SkipEq (operand.Register 10) (operand.Number 2) 2) ∷
+            op.Data (data_op.Handle 12 (operand.Register 10)) ∷ op.Set (set_op.Join (operand.Register 12) (operand.Register 8)) ∷ op.Call (call_op.CallSyncHost 12 0) ∷
+            op.Call (call_op.CallSyncHost 12 0) ∷ op.Set (set_op.Poll 10 (operand.Register 8)) ∷ op.Data (data_op.SkipEq (operand.Register 10) (operand.Number 0) 2) ∷
+            op.Data (data_op.SkipEq (operand.Register 12) (operand.Number 1) 1) ∷ op.Call (call_op.Drop (operand.Register 11)) ∷ op.Set (set_op.Poll 10 (operand.Register 8)) ∷
+            op.Data (data_op.SkipEq (operand.Register 10) (operand.Number 0) 2) ∷ op.Data (data_op.SkipEq (operand.Register 12) (operand.Number 1) 1) ∷
+            op.Call (call_op.Drop (operand.Register 11)) ∷ op.Data (data_op.Set 0 (operand.Register 5)) ∷ []);
+        react = [];
+      } ∷ record {
+        kind = kind.Blocking;
+        params = 0;
+        start = (op.Call (call_op.Call 2 4 (record { instance = 0; export = 2 }) []) ∷ op.Data (data_op.SkipEq (operand.Register 2) (operand.Number 2) 15) ∷
+            op.Data (data_op.Handle 9 (operand.Register 2)) ∷ op.Data (data_op.Store 9 (operand.Register 14)) ∷ op.Data (data_op.Add 7 (operand.Register 0)) ∷
+            op.Call (call_op.Cancel 5 (operand.Register 9)) ∷ op.Data (data_op.SkipEq (operand.Register 5) (operand.Number 4294967295) 2) ∷ op.Call (call_op.Drop (operand.Register 9)) ∷
+            op.Data (data_op.SkipEq (operand.Number 0) (operand.Number 0) 8) ∷ op.Set (set_op.New 7) ∷ op.Set (set_op.Join (operand.Register 9) (operand.Register 7)) ∷
+            op.Set (set_op.Wait 13 (operand.Register 7)) ∷ op.Data (data_op.SkipEq (operand.Register 15) (operand.Number 2) 2) ∷ op.Data (data_op.SkipEq (operand.Register 15) (operand.Number 4) 1) ∷
+            op.Set (set_op.Wait 13 (operand.Register 7)) ∷ op.Call (call_op.Drop (operand.Register 14)) ∷ op.Set (set_op.Drop (operand.Register 7)) ∷ op.Call (call_op.CallHost 6 1 0) ∷
+            op.Data (data_op.Handle 8 (operand.Register 6)) ∷ op.Set (set_op.New 3) ∷ op.Set (set_op.Join (operand.Register 8) (operand.Register 3)) ∷ op.Call (call_op.CancelSync 0 (operand.Register 8)) ∷
+            op.Data (data_op.Set 0 (operand.Register 15)) ∷ []);
+        react = [];
+      } ∷ record {
+        kind = kind.Callback;
+        params = 0;
+        start = (op.Call (call_op.Call 8 7 (record {
+          instance = 0;
+          export = 0;
+        }) []) ∷ op.Data (data_op.SkipEq (operand.Register 8) (operand.Number 2) 4) ∷ op.Data (data_op.Handle 5 (operand.Register 8)) ∷
+            op.Set (set_op.New 4) ∷ op.Set (set_op.Join (operand.Register 5) (operand.Register 4)) ∷ op.Task (task_op.CbWait (operand.Register 4)) ∷ op.Task (task_op.Ret (operand.Register 8)) ∷
+            op.Task task_op.Exit ∷ []);
+        react = (op.Data (data_op.SkipEq (operand.Register 0) (operand.Number 6) 6) ∷ op.Data (data_op.SkipEq (operand.Register 2) (operand.Number 1) 4) ∷
+            op.Data (data_op.SkipEq (operand.Register 2) (operand.Number 0) 3) ∷ op.Call (call_op.Drop (operand.Register 1)) ∷ op.Task (task_op.Ret (operand.Register 2)) ∷
+            op.Task task_op.Exit ∷ op.Task (task_op.CbWait (operand.Register 4)) ∷ op.Task (task_op.Ret (operand.Number 2)) ∷ op.Task task_op.Exit ∷ []);
+      } ∷
+          []);
+      slots = (replicate 16 slot.Empty);
+    } ∷ []);
+    hosts = (record { polls = (Some 1); value = (Some 25) } ∷ record { polls = None; value = None } ∷
+        []);
+  };
+  names = [];
+  main = (main_op.Start (record { instance = 0; export = 0 }) [] ∷ main_op.Finish 1 6 ∷ main_op.Start (record {
+    instance = 1;
+    export = 0;
+  }) [] ∷ main_op.Start (record { instance = 1; export = 1 }) [] ∷ main_op.Start (record { instance = 1; export = 2 }) [] ∷ main_op.Start (record {
+    instance = 0;
+    export = 1;
+  }) [] ∷ main_op.Finish 5 1 ∷ main_op.Finish 2 1 ∷ main_op.Finish 3 1 ∷ main_op.Finish 4 12 ∷ main_op.Answer (operand.Register 0) ∷
+      []);
+  aborters = [];
+}
 
 abbrev pub generated_17_labels : List Label
 generated_17_labels = label.Main (main_label.Start 1 1) ∷ label.Loop loop_label.MainPends ∷ label.Take (take.Thread mark.High 1) ∷ label.Task (task_label.BpInc 1) ∷
@@ -221,45 +395,118 @@ generated_17_labels = label.Main (main_label.Start 1 1) ∷ label.Loop loop_labe
 
 -- r0: e, y10y9cb, bad, mk, export, host, put, do; t: m; h: edge
 abbrev pub generated_18 : Scenario
-generated_18 = record { handles = 100000; table = 1000000; idle = idle_line.Wait; component = record { instances = (record { exports = (record { kind =
-    kind.Stackful; params = 0; start = (op.Thread (thread_op.Index 7) ∷ op.Thread (thread_op.New 4 3 (operand.Register 7)) ∷ op.Thread (thread_op.ResumeLater (operand.Register 4)) ∷
-    op.Thread thread_op.Yield ∷ op.Thread (thread_op.SuspendThenPromote (operand.Register 4)) ∷ op.Call (call_op.CallHost 0 8 3) ∷ op.Data (data_op.Handle 2 (operand.Register 0)) ∷
-    op.Thread (thread_op.New 9 4 (operand.Register 2)) ∷ op.Thread (thread_op.ResumeLater (operand.Register 9)) ∷ op.Call (call_op.CancelSync 3 (operand.Register 2)) ∷
-    op.Call (call_op.Drop (operand.Register 2)) ∷ op.Thread thread_op.Yield ∷ op.Thread thread_op.Yield ∷ op.Thread thread_op.Yield ∷ op.Thread thread_op.Yield ∷
-    op.Task (task_op.Ret (operand.Number 2)) ∷ []); react = [] } ∷ record { kind = kind.Callback; params = 2; start = (op.Data (data_op.Set 9 (operand.Register 0)) ∷
-    op.Task task_op.CbYield ∷ []); react = (op.Data (data_op.SkipEq (operand.Register 0) (operand.Number 6) 5) ∷ op.Data (data_op.Add 7 (operand.Number 1)) ∷
-    op.Data (data_op.SkipEq (operand.Register 7) (operand.Number 9) 1) ∷ op.Task task_op.CbYield ∷ op.Task (task_op.Ret (operand.Number 157)) ∷
-    op.Task task_op.Exit ∷ op.Task task_op.TaskCancel ∷ op.Task task_op.Exit ∷ []) } ∷ record { kind = kind.Callback; params = 1; start = (op.Data (data_op.Set 9 (operand.Register 0)) ∷
-    op.Task task_op.CbYield ∷ []); react = (op.Data (data_op.SkipEq (operand.Register 0) (operand.Number 6) 5) ∷ op.Data (data_op.Add 5 (operand.Number 1)) ∷
-    op.Data (data_op.SkipEq (operand.Register 5) (operand.Number 3) 1) ∷ op.Task task_op.CbYield ∷ op.Task (task_op.Ret (operand.Number 2)) ∷ op.Task task_op.Exit ∷
-    op.Task task_op.TaskCancel ∷ op.Task task_op.Exit ∷ []) } ∷ record { kind = kind.Sync; params = 0; start = (op.Call (call_op.CallSyncHost 9 3) ∷
-    op.Data (data_op.Set 0 (operand.Register 9)) ∷ []); react = [] } ∷ record { kind = kind.Blocking; params = 0; start = (op.Data (data_op.Set 0 (operand.Number 5)) ∷
-    []); react = [] } ∷ record { kind = kind.Callback; params = 3; start = (op.Data (data_op.Set 9 (operand.Register 2)) ∷ op.Task task_op.CbYield ∷
-    []); react = (op.Data (data_op.SkipEq (operand.Register 0) (operand.Number 6) 5) ∷ op.Data (data_op.Add 7 (operand.Number 1)) ∷ op.Data (data_op.SkipEq (operand.Register 7) (operand.Number 5) 1) ∷
-    op.Task task_op.CbYield ∷ op.Task (task_op.Ret (operand.Register 11)) ∷ op.Task task_op.Exit ∷ op.Task task_op.TaskCancel ∷ op.Task task_op.Exit ∷
-    []) } ∷ record { kind = kind.Sync; params = 0; start = (op.Task task_op.BpInc ∷ op.Task task_op.BpInc ∷ []); react = [] } ∷ record { kind =
-    kind.Sync; params = 0; start = (op.Task task_op.BpDec ∷ []); react = [] } ∷ []); slots = (slot.Empty ∷ slot.Empty ∷ slot.Empty ∷ slot.Script (op.Thread thread_op.Yield ∷
-    op.Thread (thread_op.ResumeLater (operand.Register 0)) ∷ op.Task (task_op.Ret (operand.Number 3)) ∷ []) ∷ slot.Script (op.Thread thread_op.Yield ∷
-    op.Call (call_op.CancelSync 3 (operand.Register 0)) ∷ op.Call (call_op.Drop (operand.Register 0)) ∷ op.Task (task_op.Ret (operand.Register 9)) ∷
-    []) ∷ slot.Empty ∷ slot.Empty ∷ slot.Empty ∷ slot.Empty ∷ slot.Empty ∷ slot.Empty ∷ slot.Empty ∷ slot.Empty ∷ slot.Empty ∷ slot.Empty ∷ slot.Empty ∷
-    []) } ∷ record { exports = (record { kind = kind.Stackful; params = 0; start = (op.Call (call_op.Call 6 8 (record { instance = 0; export = 5 }) ((operand.Number 50) ∷
-    (operand.Register 5) ∷ (operand.Register 2) ∷ [])) ∷ op.Thread (thread_op.New 3 3 (operand.Register 7)) ∷ op.Thread (thread_op.ResumeLater (operand.Register 3)) ∷
-    op.Data (data_op.SkipEq (operand.Register 6) (operand.Number 2) 1) ∷ op.Data (data_op.Handle 4 (operand.Register 6)) ∷ op.Call (call_op.CallSync 11 (record {
-    instance = 0; export = 6 }) []) ∷ op.Call (call_op.Call 0 5 (record { instance = 0; export = 5 }) ((operand.Number 6) ∷ (operand.Number 268435456) ∷
-    (operand.Register 8) ∷ [])) ∷ op.Data (data_op.SkipEq (operand.Register 0) (operand.Number 2) 5) ∷ op.Data (data_op.Handle 3 (operand.Register 0)) ∷
-    op.Call (call_op.CallSync 11 (record { instance = 0; export = 7 }) []) ∷ op.Call (call_op.CallSync 1 (record { instance = 0; export = 4 }) []) ∷
-    op.Call (call_op.CallSyncHost 2 3) ∷ op.Call (call_op.Cancel 7 (operand.Register 3)) ∷ op.Task (task_op.Ret (operand.Register 8)) ∷ []); react =
-    [] } ∷ []); slots = (replicate 16 slot.Empty) } ∷ record { exports = (record { kind = kind.Callback; params = 16; start = (op.Data (data_op.Set 9 (operand.Register 1)) ∷
-    op.Call (call_op.Call 5 8 (record { instance = 1; export = 0 }) []) ∷ op.Data (data_op.SkipEq (operand.Register 5) (operand.Number 2) 1) ∷ op.Data (data_op.Handle 6 (operand.Register 5)) ∷
-    op.Task (task_op.Ret (operand.Number 5)) ∷ []); react = [] } ∷ []); slots = (replicate 16 slot.Empty) } ∷ []); hosts = (record { polls = (Some 1);
-    value = (Some 13) } ∷ record { polls = (Some 2); value = (Some 74) } ∷ record { polls = (Some 0); value = None } ∷ record { polls = (Some 3);
-    value = (Some 64) } ∷ []) }; names = []; main = (main_op.Start (record { instance = 0; export = 0 }) [] ∷ main_op.Finish 1 1 ∷ main_op.Start (record {
-    instance = 0; export = 0 }) [] ∷ main_op.Finish 2 7 ∷ main_op.Start (record { instance = 0; export = 1 }) ((operand.Number 16) ∷ (operand.Register 10) ∷
-    []) ∷ main_op.Start (record { instance = 0; export = 2 }) ((operand.Number 25) ∷ []) ∷ main_op.Start (record { instance = 0; export = 3 }) [] ∷
-    main_op.Start (record { instance = 2; export = 0 }) ((operand.Number 18) ∷ (operand.Number 5) ∷ (operand.Number 16) ∷ (operand.Number 4) ∷
-    (operand.Number 4) ∷ (operand.Number 2) ∷ (operand.Number 12) ∷ (operand.Number 20) ∷ (operand.Number 4096) ∷ (operand.Register 13) ∷
-    (operand.Number 5) ∷ (operand.Number 13) ∷ (operand.Number 0) ∷ (operand.Number 18) ∷ (operand.Number 6) ∷ (operand.Number 7) ∷ []) ∷
-    main_op.Finish 6 2 ∷ main_op.Finish 5 5 ∷ main_op.Answer (operand.Register 1) ∷ []); aborters = [] }
+generated_18 = record {
+  handles = 100000;
+  table = 1000000;
+  idle = idle_line.Wait;
+  component = record {
+    instances = (record {
+      exports = (record {
+        kind =
+            kind.Stackful;
+        params = 0;
+        start = (op.Thread (thread_op.Index 7) ∷ op.Thread (thread_op.New 4 3 (operand.Register 7)) ∷ op.Thread (thread_op.ResumeLater (operand.Register 4)) ∷
+            op.Thread thread_op.Yield ∷ op.Thread (thread_op.SuspendThenPromote (operand.Register 4)) ∷ op.Call (call_op.CallHost 0 8 3) ∷ op.Data (data_op.Handle 2 (operand.Register 0)) ∷
+            op.Thread (thread_op.New 9 4 (operand.Register 2)) ∷ op.Thread (thread_op.ResumeLater (operand.Register 9)) ∷ op.Call (call_op.CancelSync 3 (operand.Register 2)) ∷
+            op.Call (call_op.Drop (operand.Register 2)) ∷ op.Thread thread_op.Yield ∷ op.Thread thread_op.Yield ∷ op.Thread thread_op.Yield ∷ op.Thread thread_op.Yield ∷
+            op.Task (task_op.Ret (operand.Number 2)) ∷ []);
+        react = [];
+      } ∷ record {
+        kind = kind.Callback;
+        params = 2;
+        start = (op.Data (data_op.Set 9 (operand.Register 0)) ∷
+            op.Task task_op.CbYield ∷ []);
+        react = (op.Data (data_op.SkipEq (operand.Register 0) (operand.Number 6) 5) ∷ op.Data (data_op.Add 7 (operand.Number 1)) ∷
+            op.Data (data_op.SkipEq (operand.Register 7) (operand.Number 9) 1) ∷ op.Task task_op.CbYield ∷ op.Task (task_op.Ret (operand.Number 157)) ∷
+            op.Task task_op.Exit ∷ op.Task task_op.TaskCancel ∷ op.Task task_op.Exit ∷ []);
+      } ∷ record {
+        kind = kind.Callback;
+        params = 1;
+        start = (op.Data (data_op.Set 9 (operand.Register 0)) ∷
+            op.Task task_op.CbYield ∷ []);
+        react = (op.Data (data_op.SkipEq (operand.Register 0) (operand.Number 6) 5) ∷ op.Data (data_op.Add 5 (operand.Number 1)) ∷
+            op.Data (data_op.SkipEq (operand.Register 5) (operand.Number 3) 1) ∷ op.Task task_op.CbYield ∷ op.Task (task_op.Ret (operand.Number 2)) ∷ op.Task task_op.Exit ∷
+            op.Task task_op.TaskCancel ∷ op.Task task_op.Exit ∷ []);
+      } ∷ record {
+        kind = kind.Sync;
+        params = 0;
+        start = (op.Call (call_op.CallSyncHost 9 3) ∷
+            op.Data (data_op.Set 0 (operand.Register 9)) ∷ []);
+        react = [];
+      } ∷ record {
+        kind = kind.Blocking;
+        params = 0;
+        start = (op.Data (data_op.Set 0 (operand.Number 5)) ∷
+            []);
+        react = [];
+      } ∷ record {
+        kind = kind.Callback;
+        params = 3;
+        start = (op.Data (data_op.Set 9 (operand.Register 2)) ∷ op.Task task_op.CbYield ∷
+            []);
+        react = (op.Data (data_op.SkipEq (operand.Register 0) (operand.Number 6) 5) ∷ op.Data (data_op.Add 7 (operand.Number 1)) ∷ op.Data (data_op.SkipEq (operand.Register 7) (operand.Number 5) 1) ∷
+            op.Task task_op.CbYield ∷ op.Task (task_op.Ret (operand.Register 11)) ∷ op.Task task_op.Exit ∷ op.Task task_op.TaskCancel ∷ op.Task task_op.Exit ∷
+            []);
+      } ∷ record { kind = kind.Sync; params = 0; start = (op.Task task_op.BpInc ∷ op.Task task_op.BpInc ∷ []); react = [] } ∷ record {
+        kind =
+            kind.Sync;
+        params = 0;
+        start = (op.Task task_op.BpDec ∷ []);
+        react = [];
+      } ∷ []);
+      slots = (slot.Empty ∷ slot.Empty ∷ slot.Empty ∷ slot.Script (op.Thread thread_op.Yield ∷
+          op.Thread (thread_op.ResumeLater (operand.Register 0)) ∷ op.Task (task_op.Ret (operand.Number 3)) ∷ []) ∷ slot.Script (op.Thread thread_op.Yield ∷
+          op.Call (call_op.CancelSync 3 (operand.Register 0)) ∷ op.Call (call_op.Drop (operand.Register 0)) ∷ op.Task (task_op.Ret (operand.Register 9)) ∷
+          []) ∷ slot.Empty ∷ slot.Empty ∷ slot.Empty ∷ slot.Empty ∷ slot.Empty ∷ slot.Empty ∷ slot.Empty ∷ slot.Empty ∷ slot.Empty ∷ slot.Empty ∷ slot.Empty ∷
+          []);
+    } ∷ record {
+      exports = (record {
+        kind = kind.Stackful;
+        params = 0;
+        start = (op.Call (call_op.Call 6 8 (record { instance = 0; export = 5 }) ((operand.Number 50) ∷
+            (operand.Register 5) ∷ (operand.Register 2) ∷ [])) ∷ op.Thread (thread_op.New 3 3 (operand.Register 7)) ∷ op.Thread (thread_op.ResumeLater (operand.Register 3)) ∷
+            op.Data (data_op.SkipEq (operand.Register 6) (operand.Number 2) 1) ∷ op.Data (data_op.Handle 4 (operand.Register 6)) ∷ op.Call (call_op.CallSync 11 (record {
+              instance = 0;
+              export = 6;
+            }) []) ∷ op.Call (call_op.Call 0 5 (record { instance = 0; export = 5 }) ((operand.Number 6) ∷ (operand.Number 268435456) ∷
+            (operand.Register 8) ∷ [])) ∷ op.Data (data_op.SkipEq (operand.Register 0) (operand.Number 2) 5) ∷ op.Data (data_op.Handle 3 (operand.Register 0)) ∷
+            op.Call (call_op.CallSync 11 (record { instance = 0; export = 7 }) []) ∷ op.Call (call_op.CallSync 1 (record { instance = 0; export = 4 }) []) ∷
+            op.Call (call_op.CallSyncHost 2 3) ∷ op.Call (call_op.Cancel 7 (operand.Register 3)) ∷ op.Task (task_op.Ret (operand.Register 8)) ∷ []);
+        react =
+            [];
+      } ∷ []);
+      slots = (replicate 16 slot.Empty);
+    } ∷ record {
+      exports = (record {
+        kind = kind.Callback;
+        params = 16;
+        start = (op.Data (data_op.Set 9 (operand.Register 1)) ∷
+            op.Call (call_op.Call 5 8 (record { instance = 1; export = 0 }) []) ∷ op.Data (data_op.SkipEq (operand.Register 5) (operand.Number 2) 1) ∷ op.Data (data_op.Handle 6 (operand.Register 5)) ∷
+            op.Task (task_op.Ret (operand.Number 5)) ∷ []);
+        react = [];
+      } ∷ []);
+      slots = (replicate 16 slot.Empty);
+    } ∷ []);
+    hosts = (record {
+      polls = (Some 1);
+      value = (Some 13);
+    } ∷ record { polls = (Some 2); value = (Some 74) } ∷ record { polls = (Some 0); value = None } ∷ record {
+      polls = (Some 3);
+      value = (Some 64);
+    } ∷ []);
+  };
+  names = [];
+  main = (main_op.Start (record { instance = 0; export = 0 }) [] ∷ main_op.Finish 1 1 ∷ main_op.Start (record {
+    instance = 0;
+    export = 0;
+  }) [] ∷ main_op.Finish 2 7 ∷ main_op.Start (record { instance = 0; export = 1 }) ((operand.Number 16) ∷ (operand.Register 10) ∷
+      []) ∷ main_op.Start (record { instance = 0; export = 2 }) ((operand.Number 25) ∷ []) ∷ main_op.Start (record { instance = 0; export = 3 }) [] ∷
+      main_op.Start (record { instance = 2; export = 0 }) ((operand.Number 18) ∷ (operand.Number 5) ∷ (operand.Number 16) ∷ (operand.Number 4) ∷
+      (operand.Number 4) ∷ (operand.Number 2) ∷ (operand.Number 12) ∷ (operand.Number 20) ∷ (operand.Number 4096) ∷ (operand.Register 13) ∷
+      (operand.Number 5) ∷ (operand.Number 13) ∷ (operand.Number 0) ∷ (operand.Number 18) ∷ (operand.Number 6) ∷ (operand.Number 7) ∷ []) ∷
+      main_op.Finish 6 2 ∷ main_op.Finish 5 5 ∷ main_op.Answer (operand.Register 1) ∷ []);
+  aborters = [];
+}
 
 abbrev pub generated_18_labels : List Label
 generated_18_labels = label.Main (main_label.Start 1 1) ∷ label.Loop loop_label.MainPends ∷ label.Take (take.Thread mark.High 1) ∷ label.Thread (thread_label.Index 1 1) ∷

@@ -30,23 +30,48 @@ use Rattle.task_rules.specs.Texts.{polls}
 
 -- kay1a_; req: x1
 abbrev pub generated_19 : Scenario
-generated_19 = record { handles = 100000; table = 1000000; idle = idle_line.Trap; component = record { instances = (record { exports = []; slots =
-    (replicate 16 slot.Empty) } ∷ record { exports = (record { kind = kind.Callback; params = 11; start = (op.Data (data_op.Set 9 (operand.Register 0)) ∷
-    op.Set (set_op.New 5) ∷ op.Call (call_op.CallHost 8 3 0) ∷ op.Data (data_op.Handle 7 (operand.Register 8)) ∷ op.Call (call_op.CallHost 8 3 0) ∷
-    op.Data (data_op.Handle 4 (operand.Register 8)) ∷ op.Call (call_op.CallHost 8 3 0) ∷ op.Data (data_op.Handle 6 (operand.Register 8)) ∷ op.Thread (thread_op.New 8 3 (operand.Register 5)) ∷
-    op.Thread (thread_op.ResumeLater (operand.Register 8)) ∷ op.Thread (thread_op.New 8 3 (operand.Register 5)) ∷ op.Thread (thread_op.ResumeLater (operand.Register 8)) ∷
-    op.Thread (thread_op.New 8 3 (operand.Register 5)) ∷ op.Thread (thread_op.ResumeLater (operand.Register 8)) ∷ op.Thread thread_op.Yield ∷
-    op.Thread thread_op.Yield ∷ op.Set (set_op.Join (operand.Register 7) (operand.Register 5)) ∷ op.Set (set_op.Join (operand.Register 4) (operand.Register 5)) ∷
-    op.Set (set_op.Join (operand.Register 6) (operand.Register 5)) ∷ op.Thread thread_op.Yield ∷ op.Thread (thread_op.Index 11) ∷ op.Thread (thread_op.New 15 2 (operand.Register 11)) ∷
-    op.Thread (thread_op.ResumeLater (operand.Register 15)) ∷ op.Thread thread_op.Suspend ∷ op.Thread (thread_op.Index 14) ∷ op.Thread (thread_op.New 10 2 (operand.Register 14)) ∷
-    op.Thread (thread_op.SuspendThenResume (operand.Register 10)) ∷ op.Call (call_op.CallSyncHost 13 0) ∷ op.Thread (thread_op.New 12 1 (operand.Register 9)) ∷
-    op.Task (task_op.Ret (operand.Register 3)) ∷ []); react = [] } ∷ []); slots = (slot.Empty ∷ slot.Bad ∷ slot.Script (op.Thread (thread_op.ResumeLater (operand.Register 0)) ∷
-    []) ∷ slot.Script (op.Set (set_op.Wait 11 (operand.Register 0)) ∷ []) ∷ slot.Empty ∷ slot.Empty ∷ slot.Empty ∷ slot.Empty ∷ slot.Empty ∷
-    slot.Empty ∷ slot.Empty ∷ slot.Empty ∷ slot.Empty ∷ slot.Empty ∷ slot.Empty ∷ slot.Empty ∷ []) } ∷ []); hosts = (record { polls = (Some 5); value =
-    (Some 33) } ∷ record { polls = (Some 0); value = (Some 32) } ∷ []) }; names = []; main = (main_op.Start (record { instance = 1; export = 0 }) ((operand.Number 2) ∷
-    (operand.Number 17) ∷ (operand.Number 13) ∷ (operand.Register 15) ∷ (operand.Number 1) ∷ (operand.Number 3) ∷ (operand.Number 18) ∷
-    (operand.Number 4294967314) ∷ (operand.Number 18) ∷ (operand.Number 0) ∷ (operand.Register 14) ∷ []) ∷ main_op.Finish 1 1 ∷ main_op.Answer (operand.Register 1) ∷
-    []); aborters = [] }
+generated_19 = record {
+  handles = 100000;
+  table = 1000000;
+  idle = idle_line.Trap;
+  component = record {
+    instances = (record {
+      exports = [];
+      slots =
+          (replicate 16 slot.Empty);
+    } ∷ record {
+      exports = (record {
+        kind = kind.Callback;
+        params = 11;
+        start = (op.Data (data_op.Set 9 (operand.Register 0)) ∷
+            op.Set (set_op.New 5) ∷ op.Call (call_op.CallHost 8 3 0) ∷ op.Data (data_op.Handle 7 (operand.Register 8)) ∷ op.Call (call_op.CallHost 8 3 0) ∷
+            op.Data (data_op.Handle 4 (operand.Register 8)) ∷ op.Call (call_op.CallHost 8 3 0) ∷ op.Data (data_op.Handle 6 (operand.Register 8)) ∷ op.Thread (thread_op.New 8 3 (operand.Register 5)) ∷
+            op.Thread (thread_op.ResumeLater (operand.Register 8)) ∷ op.Thread (thread_op.New 8 3 (operand.Register 5)) ∷ op.Thread (thread_op.ResumeLater (operand.Register 8)) ∷
+            op.Thread (thread_op.New 8 3 (operand.Register 5)) ∷ op.Thread (thread_op.ResumeLater (operand.Register 8)) ∷ op.Thread thread_op.Yield ∷
+            op.Thread thread_op.Yield ∷ op.Set (set_op.Join (operand.Register 7) (operand.Register 5)) ∷ op.Set (set_op.Join (operand.Register 4) (operand.Register 5)) ∷
+            op.Set (set_op.Join (operand.Register 6) (operand.Register 5)) ∷ op.Thread thread_op.Yield ∷ op.Thread (thread_op.Index 11) ∷ op.Thread (thread_op.New 15 2 (operand.Register 11)) ∷
+            op.Thread (thread_op.ResumeLater (operand.Register 15)) ∷ op.Thread thread_op.Suspend ∷ op.Thread (thread_op.Index 14) ∷ op.Thread (thread_op.New 10 2 (operand.Register 14)) ∷
+            op.Thread (thread_op.SuspendThenResume (operand.Register 10)) ∷ op.Call (call_op.CallSyncHost 13 0) ∷ op.Thread (thread_op.New 12 1 (operand.Register 9)) ∷
+            op.Task (task_op.Ret (operand.Register 3)) ∷ []);
+        react = [];
+      } ∷ []);
+      slots = (slot.Empty ∷ slot.Bad ∷ slot.Script (op.Thread (thread_op.ResumeLater (operand.Register 0)) ∷
+          []) ∷ slot.Script (op.Set (set_op.Wait 11 (operand.Register 0)) ∷ []) ∷ slot.Empty ∷ slot.Empty ∷ slot.Empty ∷ slot.Empty ∷ slot.Empty ∷
+          slot.Empty ∷ slot.Empty ∷ slot.Empty ∷ slot.Empty ∷ slot.Empty ∷ slot.Empty ∷ slot.Empty ∷ []);
+    } ∷ []);
+    hosts = (record {
+      polls = (Some 5);
+      value =
+          (Some 33);
+    } ∷ record { polls = (Some 0); value = (Some 32) } ∷ []);
+  };
+  names = [];
+  main = (main_op.Start (record { instance = 1; export = 0 }) ((operand.Number 2) ∷
+      (operand.Number 17) ∷ (operand.Number 13) ∷ (operand.Register 15) ∷ (operand.Number 1) ∷ (operand.Number 3) ∷ (operand.Number 18) ∷
+      (operand.Number 4294967314) ∷ (operand.Number 18) ∷ (operand.Number 0) ∷ (operand.Register 14) ∷ []) ∷ main_op.Finish 1 1 ∷ main_op.Answer (operand.Register 1) ∷
+      []);
+  aborters = [];
+}
 
 abbrev pub generated_19_labels : List Label
 generated_19_labels = label.Main (main_label.Start 1 1) ∷ label.Loop loop_label.MainPends ∷ label.Take (take.Thread mark.High 1) ∷ label.Data (data_label.Set 1 2) ∷
@@ -83,49 +108,127 @@ generated_19_labels = label.Main (main_label.Start 1 1) ∷ label.Loop loop_labe
 
 -- ozzx_: b, u1_1xybc_, h, go, liujkdreeetmuqrj, a, q, get, host, f; ty_09: b; a
 abbrev pub generated_20 : Scenario
-generated_20 = record { handles = 100000; table = 26; idle = idle_line.Trap; component = record { instances = (record { exports = (record { kind =
-    kind.Stackful; params = 0; start = (op.Task task_op.BpInc ∷ op.Task (task_op.Ret (operand.Number 0)) ∷ []); react = [] } ∷ record { kind =
-    kind.Sync; params = 0; start = (op.Task task_op.BpDec ∷ []); react = [] } ∷ record { kind = kind.Callback; params = 2; start = (op.Data (data_op.Set 9 (operand.Register 0)) ∷
-    op.Set (set_op.New 8) ∷ op.Data (data_op.Store 0 (operand.Register 8)) ∷ op.Call (call_op.CallHost 3 7 0) ∷ op.Data (data_op.Handle 6 (operand.Register 3)) ∷
-    op.Set (set_op.Join (operand.Register 6) (operand.Register 8)) ∷ op.Data (data_op.Add 4 (operand.Number 1)) ∷ op.Data (data_op.SkipEq (operand.Register 4) (operand.Number 0) 1) ∷
-    op.Task (task_op.CbWait (operand.Register 8)) ∷ op.Set (set_op.Drop (operand.Register 8)) ∷ op.Task (task_op.Ret (operand.Register 7)) ∷ op.Task task_op.Exit ∷
-    []); react = (op.Data (data_op.SkipEq (operand.Register 0) (operand.Number 6) 10) ∷ op.Data (data_op.SkipEq (operand.Register 2) (operand.Number 2) 2) ∷
-    op.Data (data_op.SkipEq (operand.Register 2) (operand.Number 4) 1) ∷ op.Task (task_op.CbWait (operand.Register 8)) ∷ op.Call (call_op.Drop (operand.Register 1)) ∷
-    op.Data (data_op.Add 4 (operand.Number 18446744073709551615)) ∷ op.Data (data_op.SkipEq (operand.Register 4) (operand.Number 0) 1) ∷ op.Task (task_op.CbWait (operand.Register 8)) ∷
-    op.Set (set_op.Drop (operand.Register 8)) ∷ op.Task (task_op.Ret (operand.Register 9)) ∷ op.Task task_op.Exit ∷ op.Task task_op.TaskCancel ∷
-    op.Task task_op.Exit ∷ []) } ∷ record { kind = kind.Callback; params = 0; start = (op.Set (set_op.New 3) ∷ op.Data (data_op.Store 4 (operand.Register 3)) ∷
-    op.Task (task_op.CbWait (operand.Register 3)) ∷ []); react = (op.Data (data_op.SkipEq (operand.Register 0) (operand.Number 6) 1) ∷ op.Data (data_op.SkipEq (operand.Number 0) (operand.Number 0) 2) ∷
-    op.Task task_op.TaskCancel ∷ op.Task task_op.Exit ∷ op.Task (task_op.Ret (operand.Register 2)) ∷ []) } ∷ record { kind = kind.Stackful; params =
-    0; start = (op.Data (data_op.Load 3 4) ∷ op.Set (set_op.Wait 4 (operand.Register 3)) ∷ op.Task (task_op.Ret (operand.Register 6)) ∷ []); react =
-    [] } ∷ record { kind = kind.Callback; params = 0; start = (op.Data (data_op.Load 3 4) ∷ op.Task (task_op.CbWait (operand.Register 3)) ∷ []); react =
-    (op.Task (task_op.Ret (operand.Register 2)) ∷ []) } ∷ record { kind = kind.Stackful; params = 0; start = (op.Call (call_op.CallHost 5 4 0) ∷
-    op.Data (data_op.SkipEq (operand.Register 5) (operand.Number 2) 5) ∷ op.Data (data_op.Handle 3 (operand.Register 5)) ∷ op.Data (data_op.Store 5 (operand.Register 3)) ∷
-    op.Data (data_op.Load 7 4) ∷ op.Data (data_op.SkipEq (operand.Register 7) (operand.Number 0) 1) ∷ op.Set (set_op.Join (operand.Register 3) (operand.Register 7)) ∷
-    op.Task (task_op.Ret (operand.Register 5)) ∷ []); react = [] } ∷ record { kind = kind.Callback; params = 0; start = (op.Call (call_op.CallHost 9 6 0) ∷
-    op.Data (data_op.Handle 5 (operand.Register 9)) ∷ op.Data (data_op.Store 5 (operand.Register 5)) ∷ op.Task (task_op.Ret (operand.Register 9)) ∷
-    []); react = [] } ∷ record { kind = kind.Callback; params = 0; start = (op.Task task_op.CbYield ∷ []); react = (op.Data (data_op.Add 8 (operand.Number 1)) ∷
-    op.Data (data_op.SkipEq (operand.Register 8) (operand.Number 6) 1) ∷ op.Task task_op.CbYield ∷ op.Data (data_op.Load 3 4) ∷ op.Data (data_op.Load 4 5) ∷
-    op.Set (set_op.Join (operand.Register 4) (operand.Register 3)) ∷ op.Set (set_op.Join (operand.Register 4) (operand.Number 0)) ∷ op.Set (set_op.Drop (operand.Register 3)) ∷
-    op.Task (task_op.Ret (operand.Register 7)) ∷ []) } ∷ record { kind = kind.Callback; params = 0; start = (op.Task task_op.CbYield ∷ []); react =
-    (op.Data (data_op.Add 8 (operand.Number 1)) ∷ op.Data (data_op.SkipEq (operand.Register 8) (operand.Number 1) 1) ∷ op.Task task_op.CbYield ∷
-    op.Data (data_op.Load 3 4) ∷ op.Data (data_op.Load 4 5) ∷ op.Data (data_op.SkipEq (operand.Register 4) (operand.Number 0) 2) ∷ op.Data (data_op.SkipEq (operand.Register 3) (operand.Number 0) 1) ∷
-    op.Set (set_op.Join (operand.Register 4) (operand.Number 0)) ∷ op.Task (task_op.Ret (operand.Register 7)) ∷ []) } ∷ []); slots = (replicate 16 slot.Empty) } ∷
-    record { exports = (record { kind = kind.Callback; params = 1; start = (op.Data (data_op.Set 9 (operand.Register 0)) ∷ op.Call (call_op.Call 3 4 (record {
-    instance = 0; export = 2 }) ((operand.Number 15) ∷ (operand.Register 0) ∷ [])) ∷ op.Data (data_op.SkipEq (operand.Register 3) (operand.Number 2) 5) ∷
-    op.Data (data_op.Handle 5 (operand.Register 3)) ∷ op.Set (set_op.New 6) ∷ op.Set (set_op.Join (operand.Register 5) (operand.Register 6)) ∷ op.Set (set_op.Poll 10 (operand.Register 6)) ∷
-    op.Task (task_op.CbWait (operand.Register 6)) ∷ op.Task (task_op.Ret (operand.Register 3)) ∷ op.Task task_op.Exit ∷ []); react = (op.Data (data_op.SkipEq (operand.Register 0) (operand.Number 6) 9) ∷
-    op.Data (data_op.SkipEq (operand.Register 2) (operand.Number 1) 4) ∷ op.Data (data_op.SkipEq (operand.Register 2) (operand.Number 0) 3) ∷ op.Call (call_op.Drop (operand.Register 1)) ∷
-    op.Task (task_op.Ret (operand.Register 2)) ∷ op.Task task_op.Exit ∷ op.Set (set_op.Join (operand.Register 5) (operand.Number 0)) ∷ op.Call (call_op.Cancel 8 (operand.Register 5)) ∷
-    op.Task (task_op.Ret (operand.Register 8)) ∷ op.Task task_op.Exit ∷ op.Task task_op.TaskCancel ∷ op.Task task_op.Exit ∷ []) } ∷ []); slots =
-    (replicate 16 slot.Empty) } ∷ record { exports = []; slots = (replicate 16 slot.Empty) } ∷ []); hosts = (record { polls = (Some 1); value = (Some 12) } ∷
-    record { polls = None; value = None } ∷ []) }; names = []; main = (main_op.Start (record { instance = 0; export = 0 }) [] ∷ main_op.Finish 1 1 ∷
-    main_op.Start (record { instance = 1; export = 0 }) ((operand.Number 7) ∷ []) ∷ main_op.Start (record { instance = 0; export = 1 }) [] ∷
-    main_op.Finish 3 3 ∷ main_op.Finish 2 3 ∷ main_op.Start (record { instance = 0; export = 3 }) [] ∷ main_op.Start (record { instance = 0; export =
-    4 }) [] ∷ main_op.Start (record { instance = 0; export = 5 }) [] ∷ main_op.Ready (record { instance = 0; export = 6 }) ∷ main_op.Start (record {
-    instance = 0; export = 6 }) [] ∷ main_op.Ready (record { instance = 0; export = 7 }) ∷ main_op.Start (record { instance = 0; export = 7 }) [] ∷
-    main_op.Start (record { instance = 0; export = 8 }) [] ∷ main_op.Start (record { instance = 0; export = 9 }) [] ∷ main_op.Finish 7 2 ∷
-    main_op.Finish 8 4 ∷ main_op.Finish 9 2 ∷ main_op.Finish 10 2 ∷ main_op.Finish 4 2 ∷ main_op.Quiet ∷ main_op.Answer (operand.Register 2) ∷ []);
-    aborters = [] }
+generated_20 = record {
+  handles = 100000;
+  table = 26;
+  idle = idle_line.Trap;
+  component = record {
+    instances = (record {
+      exports = (record {
+        kind =
+            kind.Stackful;
+        params = 0;
+        start = (op.Task task_op.BpInc ∷ op.Task (task_op.Ret (operand.Number 0)) ∷ []);
+        react = [];
+      } ∷ record {
+        kind =
+            kind.Sync;
+        params = 0;
+        start = (op.Task task_op.BpDec ∷ []);
+        react = [];
+      } ∷ record {
+        kind = kind.Callback;
+        params = 2;
+        start = (op.Data (data_op.Set 9 (operand.Register 0)) ∷
+            op.Set (set_op.New 8) ∷ op.Data (data_op.Store 0 (operand.Register 8)) ∷ op.Call (call_op.CallHost 3 7 0) ∷ op.Data (data_op.Handle 6 (operand.Register 3)) ∷
+            op.Set (set_op.Join (operand.Register 6) (operand.Register 8)) ∷ op.Data (data_op.Add 4 (operand.Number 1)) ∷ op.Data (data_op.SkipEq (operand.Register 4) (operand.Number 0) 1) ∷
+            op.Task (task_op.CbWait (operand.Register 8)) ∷ op.Set (set_op.Drop (operand.Register 8)) ∷ op.Task (task_op.Ret (operand.Register 7)) ∷ op.Task task_op.Exit ∷
+            []);
+        react = (op.Data (data_op.SkipEq (operand.Register 0) (operand.Number 6) 10) ∷ op.Data (data_op.SkipEq (operand.Register 2) (operand.Number 2) 2) ∷
+            op.Data (data_op.SkipEq (operand.Register 2) (operand.Number 4) 1) ∷ op.Task (task_op.CbWait (operand.Register 8)) ∷ op.Call (call_op.Drop (operand.Register 1)) ∷
+            op.Data (data_op.Add 4 (operand.Number 18446744073709551615)) ∷ op.Data (data_op.SkipEq (operand.Register 4) (operand.Number 0) 1) ∷ op.Task (task_op.CbWait (operand.Register 8)) ∷
+            op.Set (set_op.Drop (operand.Register 8)) ∷ op.Task (task_op.Ret (operand.Register 9)) ∷ op.Task task_op.Exit ∷ op.Task task_op.TaskCancel ∷
+            op.Task task_op.Exit ∷ []);
+      } ∷ record {
+        kind = kind.Callback;
+        params = 0;
+        start = (op.Set (set_op.New 3) ∷ op.Data (data_op.Store 4 (operand.Register 3)) ∷
+            op.Task (task_op.CbWait (operand.Register 3)) ∷ []);
+        react = (op.Data (data_op.SkipEq (operand.Register 0) (operand.Number 6) 1) ∷ op.Data (data_op.SkipEq (operand.Number 0) (operand.Number 0) 2) ∷
+            op.Task task_op.TaskCancel ∷ op.Task task_op.Exit ∷ op.Task (task_op.Ret (operand.Register 2)) ∷ []);
+      } ∷ record {
+        kind = kind.Stackful;
+        params =
+            0;
+        start = (op.Data (data_op.Load 3 4) ∷ op.Set (set_op.Wait 4 (operand.Register 3)) ∷ op.Task (task_op.Ret (operand.Register 6)) ∷ []);
+        react =
+            [];
+      } ∷ record {
+        kind = kind.Callback;
+        params = 0;
+        start = (op.Data (data_op.Load 3 4) ∷ op.Task (task_op.CbWait (operand.Register 3)) ∷ []);
+        react =
+            (op.Task (task_op.Ret (operand.Register 2)) ∷ []);
+      } ∷ record {
+        kind = kind.Stackful;
+        params = 0;
+        start = (op.Call (call_op.CallHost 5 4 0) ∷
+            op.Data (data_op.SkipEq (operand.Register 5) (operand.Number 2) 5) ∷ op.Data (data_op.Handle 3 (operand.Register 5)) ∷ op.Data (data_op.Store 5 (operand.Register 3)) ∷
+            op.Data (data_op.Load 7 4) ∷ op.Data (data_op.SkipEq (operand.Register 7) (operand.Number 0) 1) ∷ op.Set (set_op.Join (operand.Register 3) (operand.Register 7)) ∷
+            op.Task (task_op.Ret (operand.Register 5)) ∷ []);
+        react = [];
+      } ∷ record {
+        kind = kind.Callback;
+        params = 0;
+        start = (op.Call (call_op.CallHost 9 6 0) ∷
+            op.Data (data_op.Handle 5 (operand.Register 9)) ∷ op.Data (data_op.Store 5 (operand.Register 5)) ∷ op.Task (task_op.Ret (operand.Register 9)) ∷
+            []);
+        react = [];
+      } ∷ record {
+        kind = kind.Callback;
+        params = 0;
+        start = (op.Task task_op.CbYield ∷ []);
+        react = (op.Data (data_op.Add 8 (operand.Number 1)) ∷
+            op.Data (data_op.SkipEq (operand.Register 8) (operand.Number 6) 1) ∷ op.Task task_op.CbYield ∷ op.Data (data_op.Load 3 4) ∷ op.Data (data_op.Load 4 5) ∷
+            op.Set (set_op.Join (operand.Register 4) (operand.Register 3)) ∷ op.Set (set_op.Join (operand.Register 4) (operand.Number 0)) ∷ op.Set (set_op.Drop (operand.Register 3)) ∷
+            op.Task (task_op.Ret (operand.Register 7)) ∷ []);
+      } ∷ record {
+        kind = kind.Callback;
+        params = 0;
+        start = (op.Task task_op.CbYield ∷ []);
+        react =
+            (op.Data (data_op.Add 8 (operand.Number 1)) ∷ op.Data (data_op.SkipEq (operand.Register 8) (operand.Number 1) 1) ∷ op.Task task_op.CbYield ∷
+            op.Data (data_op.Load 3 4) ∷ op.Data (data_op.Load 4 5) ∷ op.Data (data_op.SkipEq (operand.Register 4) (operand.Number 0) 2) ∷ op.Data (data_op.SkipEq (operand.Register 3) (operand.Number 0) 1) ∷
+            op.Set (set_op.Join (operand.Register 4) (operand.Number 0)) ∷ op.Task (task_op.Ret (operand.Register 7)) ∷ []);
+      } ∷ []);
+      slots = (replicate 16 slot.Empty);
+    } ∷
+        record {
+          exports = (record {
+            kind = kind.Callback;
+            params = 1;
+            start = (op.Data (data_op.Set 9 (operand.Register 0)) ∷ op.Call (call_op.Call 3 4 (record {
+              instance = 0;
+              export = 2;
+            }) ((operand.Number 15) ∷ (operand.Register 0) ∷ [])) ∷ op.Data (data_op.SkipEq (operand.Register 3) (operand.Number 2) 5) ∷
+                op.Data (data_op.Handle 5 (operand.Register 3)) ∷ op.Set (set_op.New 6) ∷ op.Set (set_op.Join (operand.Register 5) (operand.Register 6)) ∷ op.Set (set_op.Poll 10 (operand.Register 6)) ∷
+                op.Task (task_op.CbWait (operand.Register 6)) ∷ op.Task (task_op.Ret (operand.Register 3)) ∷ op.Task task_op.Exit ∷ []);
+            react = (op.Data (data_op.SkipEq (operand.Register 0) (operand.Number 6) 9) ∷
+                op.Data (data_op.SkipEq (operand.Register 2) (operand.Number 1) 4) ∷ op.Data (data_op.SkipEq (operand.Register 2) (operand.Number 0) 3) ∷ op.Call (call_op.Drop (operand.Register 1)) ∷
+                op.Task (task_op.Ret (operand.Register 2)) ∷ op.Task task_op.Exit ∷ op.Set (set_op.Join (operand.Register 5) (operand.Number 0)) ∷ op.Call (call_op.Cancel 8 (operand.Register 5)) ∷
+                op.Task (task_op.Ret (operand.Register 8)) ∷ op.Task task_op.Exit ∷ op.Task task_op.TaskCancel ∷ op.Task task_op.Exit ∷ []);
+          } ∷ []);
+          slots =
+              (replicate 16 slot.Empty);
+        } ∷ record { exports = []; slots = (replicate 16 slot.Empty) } ∷ []);
+    hosts = (record { polls = (Some 1); value = (Some 12) } ∷
+        record { polls = None; value = None } ∷ []);
+  };
+  names = [];
+  main = (main_op.Start (record { instance = 0; export = 0 }) [] ∷ main_op.Finish 1 1 ∷
+      main_op.Start (record { instance = 1; export = 0 }) ((operand.Number 7) ∷ []) ∷ main_op.Start (record { instance = 0; export = 1 }) [] ∷
+      main_op.Finish 3 3 ∷ main_op.Finish 2 3 ∷ main_op.Start (record { instance = 0; export = 3 }) [] ∷ main_op.Start (record {
+        instance = 0;
+        export =
+            4;
+      }) [] ∷ main_op.Start (record { instance = 0; export = 5 }) [] ∷ main_op.Ready (record { instance = 0; export = 6 }) ∷ main_op.Start (record {
+        instance = 0;
+        export = 6;
+      }) [] ∷ main_op.Ready (record { instance = 0; export = 7 }) ∷ main_op.Start (record { instance = 0; export = 7 }) [] ∷
+      main_op.Start (record { instance = 0; export = 8 }) [] ∷ main_op.Start (record { instance = 0; export = 9 }) [] ∷ main_op.Finish 7 2 ∷
+      main_op.Finish 8 4 ∷ main_op.Finish 9 2 ∷ main_op.Finish 10 2 ∷ main_op.Finish 4 2 ∷ main_op.Quiet ∷ main_op.Answer (operand.Register 2) ∷ []);
+  aborters = [];
+}
 
 abbrev pub generated_20_labels : List Label
 generated_20_labels = label.Main (main_label.Start 1 1) ∷ label.Loop loop_label.MainPends ∷ label.Take (take.Thread mark.High 1) ∷ label.Task (task_label.BpInc 1) ∷
@@ -163,32 +266,114 @@ generated_20_labels = label.Main (main_label.Start 1 1) ∷ label.Loop loop_labe
 
 -- z_: thread; f: get, work, disk, down, join; r0: zbwdnsoqglruhwmr, end; d: get, drop
 abbrev pub generated_21 : Scenario
-generated_21 = record { handles = 100000; table = 1000000; idle = idle_line.Wait; component = record { instances = (record { exports = (record { kind =
-    kind.Blocking; params = 0; start = (op.Set (set_op.New 3) ∷ op.Thread (thread_op.Index 4) ∷ []); react = [] } ∷ []); slots = (replicate 16 slot.Empty) } ∷
-    record { exports = (record { kind = kind.Sync; params = 0; start = (op.Set (set_op.New 3) ∷ op.Thread (thread_op.Index 4) ∷ op.Set (set_op.Drop (operand.Register 3)) ∷
-    []); react = [] } ∷ record { kind = kind.Callback; params = 0; start = (op.Task task_op.BpInc ∷ op.Task (task_op.Ret (operand.Number 0)) ∷ []);
-    react = [] } ∷ record { kind = kind.Sync; params = 0; start = (op.Task task_op.BpDec ∷ []); react = [] } ∷ record { kind = kind.Callback; params =
-    0; start = (op.Task (task_op.Ret (operand.Number 0)) ∷ []); react = [] } ∷ record { kind = kind.Stackful; params = 0; start = (op.Task (task_op.Ret (operand.Number 1)) ∷
-    []); react = [] } ∷ []); slots = (replicate 16 slot.Empty) } ∷ record { exports = (record { kind = kind.Stackful; params = 0; start = (op.Call (call_op.CallSync 3 (record {
-    instance = 0; export = 0 }) []) ∷ op.Call (call_op.CallSync 3 (record { instance = 0; export = 0 }) []) ∷ op.Task (task_op.Ret (operand.Register 3)) ∷
-    []); react = [] } ∷ record { kind = kind.Stackful; params = 0; start = (op.Call (call_op.Call 10 11 (record { instance = 1; export = 3 }) []) ∷
-    op.Data (data_op.SkipEq (operand.Register 10) (operand.Number 2) 1) ∷ op.Data (data_op.Handle 9 (operand.Register 10)) ∷ op.Call (call_op.Call 10 11 (record {
-    instance = 1; export = 4 }) []) ∷ op.Data (data_op.SkipEq (operand.Register 10) (operand.Number 2) 1) ∷ op.Data (data_op.Handle 4 (operand.Register 10)) ∷
-    op.Task (task_op.Ret (operand.Number 1)) ∷ []); react = [] } ∷ []); slots = (replicate 16 slot.Empty) } ∷ record { exports = (record { kind =
-    kind.Callback; params = 0; start = (op.Call (call_op.CallSync 3 (record { instance = 1; export = 0 }) []) ∷ op.Task (task_op.Ret (operand.Register 3)) ∷
-    []); react = [] } ∷ record { kind = kind.Callback; params = 1; start = (op.Data (data_op.Set 9 (operand.Register 0)) ∷ op.Data (data_op.Store 8 (operand.Number 44)) ∷
-    op.Data (data_op.Add 6 (operand.Number 6)) ∷ op.Data (data_op.Set 0 (operand.Register 8)) ∷ op.Data (data_op.Load 3 0) ∷ op.Data (data_op.SkipEq (operand.Register 3) (operand.Number 0) 1) ∷
-    op.Set (set_op.Poll 10 (operand.Register 3)) ∷ op.Task task_op.CbYield ∷ []); react = (op.Data (data_op.SkipEq (operand.Register 0) (operand.Number 6) 5) ∷
-    op.Data (data_op.Add 5 (operand.Number 1)) ∷ op.Data (data_op.SkipEq (operand.Register 5) (operand.Number 3) 1) ∷ op.Task task_op.CbYield ∷
-    op.Task (task_op.Ret (operand.Number 9)) ∷ op.Task task_op.Exit ∷ op.Task task_op.TaskCancel ∷ op.Task task_op.Exit ∷ []) } ∷ []); slots =
-    (replicate 16 slot.Empty) } ∷ []); hosts = (record { polls = (Some 2); value = (Some 248) } ∷ record { polls = (Some 0); value = (Some 26) } ∷
-    record { polls = (Some 1); value = (Some 15) } ∷ record { polls = (Some 1); value = (Some 63) } ∷ record { polls = None; value = None } ∷ record {
-    polls = (Some 100); value = (Some 52) } ∷ []) }; names = []; main = (main_op.Start (record { instance = 3; export = 0 }) [] ∷ main_op.Start (record {
-    instance = 3; export = 0 }) [] ∷ main_op.Start (record { instance = 3; export = 1 }) ((operand.Number 16) ∷ []) ∷ main_op.Start (record { instance =
-    2; export = 0 }) [] ∷ main_op.Finish 2 0 ∷ main_op.Finish 3 0 ∷ main_op.Finish 1 0 ∷ main_op.Finish 4 10 ∷ main_op.Start (record { instance = 1;
-    export = 1 }) [] ∷ main_op.Start (record { instance = 1; export = 4 }) [] ∷ main_op.Start (record { instance = 1; export = 3 }) [] ∷ main_op.Start (record {
-    instance = 2; export = 1 }) [] ∷ main_op.Start (record { instance = 1; export = 2 }) [] ∷ main_op.Finish 7 1 ∷ main_op.Finish 8 1 ∷ main_op.Finish 6 13 ∷
-    main_op.Answer (operand.Register 1) ∷ []); aborters = [] }
+generated_21 = record {
+  handles = 100000;
+  table = 1000000;
+  idle = idle_line.Wait;
+  component = record {
+    instances = (record {
+      exports = (record {
+        kind =
+            kind.Blocking;
+        params = 0;
+        start = (op.Set (set_op.New 3) ∷ op.Thread (thread_op.Index 4) ∷ []);
+        react = [];
+      } ∷ []);
+      slots = (replicate 16 slot.Empty);
+    } ∷
+        record {
+          exports = (record {
+            kind = kind.Sync;
+            params = 0;
+            start = (op.Set (set_op.New 3) ∷ op.Thread (thread_op.Index 4) ∷ op.Set (set_op.Drop (operand.Register 3)) ∷
+                []);
+            react = [];
+          } ∷ record {
+            kind = kind.Callback;
+            params = 0;
+            start = (op.Task task_op.BpInc ∷ op.Task (task_op.Ret (operand.Number 0)) ∷ []);
+            react = [];
+          } ∷ record { kind = kind.Sync; params = 0; start = (op.Task task_op.BpDec ∷ []); react = [] } ∷ record {
+            kind = kind.Callback;
+            params =
+                0;
+            start = (op.Task (task_op.Ret (operand.Number 0)) ∷ []);
+            react = [];
+          } ∷ record {
+            kind = kind.Stackful;
+            params = 0;
+            start = (op.Task (task_op.Ret (operand.Number 1)) ∷
+                []);
+            react = [];
+          } ∷ []);
+          slots = (replicate 16 slot.Empty);
+        } ∷ record {
+          exports = (record {
+            kind = kind.Stackful;
+            params = 0;
+            start = (op.Call (call_op.CallSync 3 (record {
+              instance = 0;
+              export = 0;
+            }) []) ∷ op.Call (call_op.CallSync 3 (record { instance = 0; export = 0 }) []) ∷ op.Task (task_op.Ret (operand.Register 3)) ∷
+                []);
+            react = [];
+          } ∷ record {
+            kind = kind.Stackful;
+            params = 0;
+            start = (op.Call (call_op.Call 10 11 (record { instance = 1; export = 3 }) []) ∷
+                op.Data (data_op.SkipEq (operand.Register 10) (operand.Number 2) 1) ∷ op.Data (data_op.Handle 9 (operand.Register 10)) ∷ op.Call (call_op.Call 10 11 (record {
+                  instance = 1;
+                  export = 4;
+                }) []) ∷ op.Data (data_op.SkipEq (operand.Register 10) (operand.Number 2) 1) ∷ op.Data (data_op.Handle 4 (operand.Register 10)) ∷
+                op.Task (task_op.Ret (operand.Number 1)) ∷ []);
+            react = [];
+          } ∷ []);
+          slots = (replicate 16 slot.Empty);
+        } ∷ record {
+          exports = (record {
+            kind =
+                kind.Callback;
+            params = 0;
+            start = (op.Call (call_op.CallSync 3 (record { instance = 1; export = 0 }) []) ∷ op.Task (task_op.Ret (operand.Register 3)) ∷
+                []);
+            react = [];
+          } ∷ record {
+            kind = kind.Callback;
+            params = 1;
+            start = (op.Data (data_op.Set 9 (operand.Register 0)) ∷ op.Data (data_op.Store 8 (operand.Number 44)) ∷
+                op.Data (data_op.Add 6 (operand.Number 6)) ∷ op.Data (data_op.Set 0 (operand.Register 8)) ∷ op.Data (data_op.Load 3 0) ∷ op.Data (data_op.SkipEq (operand.Register 3) (operand.Number 0) 1) ∷
+                op.Set (set_op.Poll 10 (operand.Register 3)) ∷ op.Task task_op.CbYield ∷ []);
+            react = (op.Data (data_op.SkipEq (operand.Register 0) (operand.Number 6) 5) ∷
+                op.Data (data_op.Add 5 (operand.Number 1)) ∷ op.Data (data_op.SkipEq (operand.Register 5) (operand.Number 3) 1) ∷ op.Task task_op.CbYield ∷
+                op.Task (task_op.Ret (operand.Number 9)) ∷ op.Task task_op.Exit ∷ op.Task task_op.TaskCancel ∷ op.Task task_op.Exit ∷ []);
+          } ∷ []);
+          slots =
+              (replicate 16 slot.Empty);
+        } ∷ []);
+    hosts = (record { polls = (Some 2); value = (Some 248) } ∷ record { polls = (Some 0); value = (Some 26) } ∷
+        record { polls = (Some 1); value = (Some 15) } ∷ record { polls = (Some 1); value = (Some 63) } ∷ record { polls = None; value = None } ∷ record {
+          polls = (Some 100);
+          value = (Some 52);
+        } ∷ []);
+  };
+  names = [];
+  main = (main_op.Start (record { instance = 3; export = 0 }) [] ∷ main_op.Start (record {
+    instance = 3;
+    export = 0;
+  }) [] ∷ main_op.Start (record { instance = 3; export = 1 }) ((operand.Number 16) ∷ []) ∷ main_op.Start (record {
+    instance =
+        2;
+    export = 0;
+  }) [] ∷ main_op.Finish 2 0 ∷ main_op.Finish 3 0 ∷ main_op.Finish 1 0 ∷ main_op.Finish 4 10 ∷ main_op.Start (record {
+    instance = 1;
+    export = 1;
+  }) [] ∷ main_op.Start (record { instance = 1; export = 4 }) [] ∷ main_op.Start (record { instance = 1; export = 3 }) [] ∷ main_op.Start (record {
+    instance = 2;
+    export = 1;
+  }) [] ∷ main_op.Start (record { instance = 1; export = 2 }) [] ∷ main_op.Finish 7 1 ∷ main_op.Finish 8 1 ∷ main_op.Finish 6 13 ∷
+      main_op.Answer (operand.Register 1) ∷ []);
+  aborters = [];
+}
 
 abbrev pub generated_21_labels : List Label
 generated_21_labels = label.Main (main_label.Start 1 1) ∷ label.Main (main_label.Start 2 2) ∷ label.Main (main_label.Start 3 3) ∷ label.Main (main_label.Start 4 4) ∷

@@ -30,45 +30,116 @@ use Rattle.task_rules.specs.Texts.{polls}
 
 -- h: drop, c, d; x1; load_it: take, z_, net, join; take: d; q
 abbrev pub generated_22 : Scenario
-generated_22 = record { handles = 100000; table = 1000000; idle = idle_line.Trap; component = record { instances = (record { exports = (record { kind =
-    kind.Callback; params = 0; start = (op.Call (call_op.CallHost 7 4 0) ∷ op.Data (data_op.Handle 6 (operand.Register 7)) ∷ op.Set (set_op.New 3) ∷
-    op.Set (set_op.Join (operand.Register 6) (operand.Register 3)) ∷ op.Set (set_op.Wait 11 (operand.Register 3)) ∷ op.Data (data_op.SkipEq (operand.Register 13) (operand.Number 2) 2) ∷
-    op.Data (data_op.SkipEq (operand.Register 13) (operand.Number 4) 1) ∷ op.Set (set_op.Wait 11 (operand.Register 3)) ∷ op.Call (call_op.Drop (operand.Register 12)) ∷
-    op.Set (set_op.Drop (operand.Register 3)) ∷ op.Task (task_op.Ret (operand.Register 4)) ∷ []); react = [] } ∷ record { kind = kind.Callback; params =
-    0; start = (op.Set (set_op.New 8) ∷ op.Call (call_op.CallHost 3 5 1) ∷ op.Data (data_op.SkipEq (operand.Register 3) (operand.Number 2) 3) ∷
-    op.Data (data_op.Handle 9 (operand.Register 3)) ∷ op.Set (set_op.Join (operand.Register 9) (operand.Register 8)) ∷ op.Data (data_op.Add 7 (operand.Number 1)) ∷
-    op.Data (data_op.SkipEq (operand.Register 7) (operand.Number 0) 1) ∷ op.Task (task_op.CbWait (operand.Register 8)) ∷ op.Set (set_op.Drop (operand.Register 8)) ∷
-    op.Task (task_op.Ret (operand.Register 5)) ∷ op.Task task_op.Exit ∷ []); react = (op.Data (data_op.SkipEq (operand.Register 0) (operand.Number 6) 9) ∷
-    op.Data (data_op.SkipEq (operand.Register 2) (operand.Number 2) 2) ∷ op.Data (data_op.SkipEq (operand.Register 2) (operand.Number 4) 1) ∷ op.Task (task_op.CbWait (operand.Register 8)) ∷
-    op.Call (call_op.Drop (operand.Register 1)) ∷ op.Data (data_op.Add 7 (operand.Number 18446744073709551615)) ∷ op.Data (data_op.SkipEq (operand.Register 7) (operand.Number 0) 1) ∷
-    op.Task (task_op.CbWait (operand.Register 8)) ∷ op.Task (task_op.Ret (operand.Register 5)) ∷ op.Task task_op.Exit ∷ op.Task task_op.TaskCancel ∷
-    op.Task task_op.Exit ∷ []) } ∷ record { kind = kind.Callback; params = 1; start = (op.Data (data_op.Set 9 (operand.Register 0)) ∷ op.Thread thread_op.Yield ∷
-    op.Task (task_op.Ret (operand.Register 12)) ∷ op.Task task_op.CbYield ∷ []); react = (op.Data (data_op.SkipEq (operand.Register 0) (operand.Number 6) 6) ∷
-    op.Data (data_op.Set 3 (operand.Number 3)) ∷ op.Data (data_op.Handle 6 (operand.Number 7)) ∷ op.Data (data_op.Add 5 (operand.Number 1)) ∷ op.Data (data_op.SkipEq (operand.Register 5) (operand.Number 2) 1) ∷
-    op.Task task_op.CbYield ∷ op.Task task_op.Exit ∷ op.Task task_op.CbYield ∷ []) } ∷ []); slots = (replicate 16 slot.Empty) } ∷ record { exports =
-    []; slots = (replicate 16 slot.Empty) } ∷ record { exports = (record { kind = kind.Callback; params = 2; start = (op.Data (data_op.Set 9 (operand.Register 1)) ∷
-    op.Data (data_op.Add 14 (operand.Number 2)) ∷ op.Data (data_op.Set 5 (operand.Register 2)) ∷ op.Task task_op.CbYield ∷ []); react = (op.Data (data_op.SkipEq (operand.Register 0) (operand.Number 6) 7) ∷
-    op.Set (set_op.New 8) ∷ op.Set (set_op.Drop (operand.Register 8)) ∷ op.Data (data_op.Add 6 (operand.Number 1)) ∷ op.Data (data_op.SkipEq (operand.Register 6) (operand.Number 5) 1) ∷
-    op.Task task_op.CbYield ∷ op.Task (task_op.Ret (operand.Number 7)) ∷ op.Task task_op.Exit ∷ op.Task (task_op.Ret (operand.Number 268435457)) ∷
-    op.Task task_op.Exit ∷ []) } ∷ record { kind = kind.Callback; params = 0; start = (op.Set (set_op.New 3) ∷ op.Task task_op.CbYield ∷ []); react =
-    (op.Data (data_op.Add 4 (operand.Number 1)) ∷ op.Data (data_op.SkipEq (operand.Register 4) (operand.Number 3) 1) ∷ op.Task task_op.CbYield ∷
-    op.Task (task_op.CbWait (operand.Register 3)) ∷ []) } ∷ record { kind = kind.Callback; params = 0; start = (op.Data (data_op.Store 11 (operand.Number 6)) ∷
-    op.Set (set_op.New 5) ∷ op.Set (set_op.Poll 10 (operand.Register 5)) ∷ op.Task task_op.CbYield ∷ []); react = (op.Data (data_op.SkipEq (operand.Register 0) (operand.Number 6) 6) ∷
-    op.Data (data_op.Load 8 1) ∷ op.Data (data_op.Add 3 (operand.Number 1)) ∷ op.Data (data_op.SkipEq (operand.Register 3) (operand.Number 2) 1) ∷
-    op.Task task_op.CbYield ∷ op.Task (task_op.Ret (operand.Number 1)) ∷ op.Task task_op.TaskCancel ∷ op.Task task_op.Exit ∷ []) } ∷ record { kind =
-    kind.Sync; params = 2; start = (op.Thread (thread_op.New 7 2 (operand.Register 5)) ∷ op.Thread (thread_op.YieldThenResume (operand.Register 7)) ∷
-    op.Thread (thread_op.New 9 4 (operand.Number 8)) ∷ op.Thread (thread_op.ResumeLater (operand.Register 9)) ∷ op.Call (call_op.CallSyncHost 3 1) ∷
-    op.Data (data_op.Set 0 (operand.Register 3)) ∷ op.Task task_op.BpInc ∷ []); react = [] } ∷ []); slots = (slot.Empty ∷ slot.Empty ∷ slot.Script (op.Thread thread_op.Yield ∷
-    []) ∷ slot.Empty ∷ slot.Script (op.Thread thread_op.Yield ∷ op.Task (task_op.Ret (operand.Register 0)) ∷ []) ∷ slot.Empty ∷ slot.Empty ∷
-    slot.Empty ∷ slot.Empty ∷ slot.Empty ∷ slot.Empty ∷ slot.Empty ∷ slot.Empty ∷ slot.Empty ∷ slot.Empty ∷ slot.Empty ∷ []) } ∷ record { exports =
-    (record { kind = kind.Stackful; params = 0; start = (op.Call (call_op.CallSync 3 (record { instance = 2; export = 3 }) ((operand.Register 3) ∷
-    (operand.Number 0) ∷ [])) ∷ op.Task (task_op.Ret (operand.Number 1)) ∷ []); react = [] } ∷ []); slots = (replicate 16 slot.Empty) } ∷ record {
-    exports = []; slots = (replicate 16 slot.Empty) } ∷ []); hosts = (record { polls = (Some 1); value = (Some 57) } ∷ record { polls = (Some 1);
-    value = (Some 18) } ∷ []) }; names = []; main = (main_op.Start (record { instance = 2; export = 0 }) ((operand.Register 10) ∷ (operand.Number 22) ∷
-    []) ∷ main_op.Start (record { instance = 2; export = 1 }) [] ∷ main_op.Start (record { instance = 2; export = 2 }) [] ∷ main_op.Start (record {
-    instance = 0; export = 2 }) ((operand.Number 255) ∷ []) ∷ main_op.Start (record { instance = 0; export = 0 }) [] ∷ main_op.Start (record {
-    instance = 0; export = 1 }) [] ∷ main_op.Finish 4 2 ∷ main_op.Finish 5 2 ∷ main_op.Finish 6 2 ∷ main_op.Start (record { instance = 3; export = 0 }) [] ∷
-    main_op.Finish 7 3 ∷ main_op.Finish 1 3 ∷ main_op.Answer (operand.Register 1) ∷ []); aborters = [] }
+generated_22 = record {
+  handles = 100000;
+  table = 1000000;
+  idle = idle_line.Trap;
+  component = record {
+    instances = (record {
+      exports = (record {
+        kind =
+            kind.Callback;
+        params = 0;
+        start = (op.Call (call_op.CallHost 7 4 0) ∷ op.Data (data_op.Handle 6 (operand.Register 7)) ∷ op.Set (set_op.New 3) ∷
+            op.Set (set_op.Join (operand.Register 6) (operand.Register 3)) ∷ op.Set (set_op.Wait 11 (operand.Register 3)) ∷ op.Data (data_op.SkipEq (operand.Register 13) (operand.Number 2) 2) ∷
+            op.Data (data_op.SkipEq (operand.Register 13) (operand.Number 4) 1) ∷ op.Set (set_op.Wait 11 (operand.Register 3)) ∷ op.Call (call_op.Drop (operand.Register 12)) ∷
+            op.Set (set_op.Drop (operand.Register 3)) ∷ op.Task (task_op.Ret (operand.Register 4)) ∷ []);
+        react = [];
+      } ∷ record {
+        kind = kind.Callback;
+        params =
+            0;
+        start = (op.Set (set_op.New 8) ∷ op.Call (call_op.CallHost 3 5 1) ∷ op.Data (data_op.SkipEq (operand.Register 3) (operand.Number 2) 3) ∷
+            op.Data (data_op.Handle 9 (operand.Register 3)) ∷ op.Set (set_op.Join (operand.Register 9) (operand.Register 8)) ∷ op.Data (data_op.Add 7 (operand.Number 1)) ∷
+            op.Data (data_op.SkipEq (operand.Register 7) (operand.Number 0) 1) ∷ op.Task (task_op.CbWait (operand.Register 8)) ∷ op.Set (set_op.Drop (operand.Register 8)) ∷
+            op.Task (task_op.Ret (operand.Register 5)) ∷ op.Task task_op.Exit ∷ []);
+        react = (op.Data (data_op.SkipEq (operand.Register 0) (operand.Number 6) 9) ∷
+            op.Data (data_op.SkipEq (operand.Register 2) (operand.Number 2) 2) ∷ op.Data (data_op.SkipEq (operand.Register 2) (operand.Number 4) 1) ∷ op.Task (task_op.CbWait (operand.Register 8)) ∷
+            op.Call (call_op.Drop (operand.Register 1)) ∷ op.Data (data_op.Add 7 (operand.Number 18446744073709551615)) ∷ op.Data (data_op.SkipEq (operand.Register 7) (operand.Number 0) 1) ∷
+            op.Task (task_op.CbWait (operand.Register 8)) ∷ op.Task (task_op.Ret (operand.Register 5)) ∷ op.Task task_op.Exit ∷ op.Task task_op.TaskCancel ∷
+            op.Task task_op.Exit ∷ []);
+      } ∷ record {
+        kind = kind.Callback;
+        params = 1;
+        start = (op.Data (data_op.Set 9 (operand.Register 0)) ∷ op.Thread thread_op.Yield ∷
+            op.Task (task_op.Ret (operand.Register 12)) ∷ op.Task task_op.CbYield ∷ []);
+        react = (op.Data (data_op.SkipEq (operand.Register 0) (operand.Number 6) 6) ∷
+            op.Data (data_op.Set 3 (operand.Number 3)) ∷ op.Data (data_op.Handle 6 (operand.Number 7)) ∷ op.Data (data_op.Add 5 (operand.Number 1)) ∷ op.Data (data_op.SkipEq (operand.Register 5) (operand.Number 2) 1) ∷
+            op.Task task_op.CbYield ∷ op.Task task_op.Exit ∷ op.Task task_op.CbYield ∷ []);
+      } ∷ []);
+      slots = (replicate 16 slot.Empty);
+    } ∷ record {
+      exports =
+          [];
+      slots = (replicate 16 slot.Empty);
+    } ∷ record {
+      exports = (record {
+        kind = kind.Callback;
+        params = 2;
+        start = (op.Data (data_op.Set 9 (operand.Register 1)) ∷
+            op.Data (data_op.Add 14 (operand.Number 2)) ∷ op.Data (data_op.Set 5 (operand.Register 2)) ∷ op.Task task_op.CbYield ∷ []);
+        react = (op.Data (data_op.SkipEq (operand.Register 0) (operand.Number 6) 7) ∷
+            op.Set (set_op.New 8) ∷ op.Set (set_op.Drop (operand.Register 8)) ∷ op.Data (data_op.Add 6 (operand.Number 1)) ∷ op.Data (data_op.SkipEq (operand.Register 6) (operand.Number 5) 1) ∷
+            op.Task task_op.CbYield ∷ op.Task (task_op.Ret (operand.Number 7)) ∷ op.Task task_op.Exit ∷ op.Task (task_op.Ret (operand.Number 268435457)) ∷
+            op.Task task_op.Exit ∷ []);
+      } ∷ record {
+        kind = kind.Callback;
+        params = 0;
+        start = (op.Set (set_op.New 3) ∷ op.Task task_op.CbYield ∷ []);
+        react =
+            (op.Data (data_op.Add 4 (operand.Number 1)) ∷ op.Data (data_op.SkipEq (operand.Register 4) (operand.Number 3) 1) ∷ op.Task task_op.CbYield ∷
+            op.Task (task_op.CbWait (operand.Register 3)) ∷ []);
+      } ∷ record {
+        kind = kind.Callback;
+        params = 0;
+        start = (op.Data (data_op.Store 11 (operand.Number 6)) ∷
+            op.Set (set_op.New 5) ∷ op.Set (set_op.Poll 10 (operand.Register 5)) ∷ op.Task task_op.CbYield ∷ []);
+        react = (op.Data (data_op.SkipEq (operand.Register 0) (operand.Number 6) 6) ∷
+            op.Data (data_op.Load 8 1) ∷ op.Data (data_op.Add 3 (operand.Number 1)) ∷ op.Data (data_op.SkipEq (operand.Register 3) (operand.Number 2) 1) ∷
+            op.Task task_op.CbYield ∷ op.Task (task_op.Ret (operand.Number 1)) ∷ op.Task task_op.TaskCancel ∷ op.Task task_op.Exit ∷ []);
+      } ∷ record {
+        kind =
+            kind.Sync;
+        params = 2;
+        start = (op.Thread (thread_op.New 7 2 (operand.Register 5)) ∷ op.Thread (thread_op.YieldThenResume (operand.Register 7)) ∷
+            op.Thread (thread_op.New 9 4 (operand.Number 8)) ∷ op.Thread (thread_op.ResumeLater (operand.Register 9)) ∷ op.Call (call_op.CallSyncHost 3 1) ∷
+            op.Data (data_op.Set 0 (operand.Register 3)) ∷ op.Task task_op.BpInc ∷ []);
+        react = [];
+      } ∷ []);
+      slots = (slot.Empty ∷ slot.Empty ∷ slot.Script (op.Thread thread_op.Yield ∷
+          []) ∷ slot.Empty ∷ slot.Script (op.Thread thread_op.Yield ∷ op.Task (task_op.Ret (operand.Register 0)) ∷ []) ∷ slot.Empty ∷ slot.Empty ∷
+          slot.Empty ∷ slot.Empty ∷ slot.Empty ∷ slot.Empty ∷ slot.Empty ∷ slot.Empty ∷ slot.Empty ∷ slot.Empty ∷ slot.Empty ∷ []);
+    } ∷ record {
+      exports =
+          (record {
+            kind = kind.Stackful;
+            params = 0;
+            start = (op.Call (call_op.CallSync 3 (record { instance = 2; export = 3 }) ((operand.Register 3) ∷
+                (operand.Number 0) ∷ [])) ∷ op.Task (task_op.Ret (operand.Number 1)) ∷ []);
+            react = [];
+          } ∷ []);
+      slots = (replicate 16 slot.Empty);
+    } ∷ record {
+      exports = [];
+      slots = (replicate 16 slot.Empty);
+    } ∷ []);
+    hosts = (record { polls = (Some 1); value = (Some 57) } ∷ record {
+      polls = (Some 1);
+      value = (Some 18);
+    } ∷ []);
+  };
+  names = [];
+  main = (main_op.Start (record { instance = 2; export = 0 }) ((operand.Register 10) ∷ (operand.Number 22) ∷
+      []) ∷ main_op.Start (record { instance = 2; export = 1 }) [] ∷ main_op.Start (record { instance = 2; export = 2 }) [] ∷ main_op.Start (record {
+        instance = 0;
+        export = 2;
+      }) ((operand.Number 255) ∷ []) ∷ main_op.Start (record { instance = 0; export = 0 }) [] ∷ main_op.Start (record {
+        instance = 0;
+        export = 1;
+      }) [] ∷ main_op.Finish 4 2 ∷ main_op.Finish 5 2 ∷ main_op.Finish 6 2 ∷ main_op.Start (record { instance = 3; export = 0 }) [] ∷
+      main_op.Finish 7 3 ∷ main_op.Finish 1 3 ∷ main_op.Answer (operand.Register 1) ∷ []);
+  aborters = [];
+}
 
 abbrev pub generated_22_labels : List Label
 generated_22_labels = label.Main (main_label.Start 1 1) ∷ label.Main (main_label.Start 2 2) ∷ label.Main (main_label.Start 3 3) ∷ label.Main (main_label.Start 4 4) ∷
@@ -108,46 +179,101 @@ generated_22_labels = label.Main (main_label.Start 1 1) ∷ label.Main (main_lab
 
 -- wait: api, m, react, r1; mk: log; k: n0
 abbrev pub generated_23 : Scenario
-generated_23 = record { handles = 100000; table = 1000000; idle = idle_line.Trap; component = record { instances = (record { exports = (record { kind =
-    kind.Callback; params = 0; start = (op.Call (call_op.CallHost 9 7 0) ∷ op.Data (data_op.Handle 6 (operand.Register 9)) ∷ op.Set (set_op.New 4) ∷
-    op.Set (set_op.Join (operand.Register 6) (operand.Register 4)) ∷ op.Set (set_op.Wait 10 (operand.Register 4)) ∷ op.Set (set_op.Join (operand.Register 11) (operand.Number 0)) ∷
-    op.Set (set_op.Drop (operand.Register 4)) ∷ op.Set (set_op.New 5) ∷ op.Call (call_op.CallHost 10 11 0) ∷ op.Data (data_op.SkipEq (operand.Register 10) (operand.Number 2) 2) ∷
-    op.Data (data_op.Handle 12 (operand.Register 10)) ∷ op.Set (set_op.Join (operand.Register 12) (operand.Register 5)) ∷ op.Call (call_op.CallHost 10 11 2) ∷
-    op.Data (data_op.SkipEq (operand.Register 10) (operand.Number 2) 2) ∷ op.Data (data_op.Handle 12 (operand.Register 10)) ∷ op.Set (set_op.Join (operand.Register 12) (operand.Register 5)) ∷
-    op.Call (call_op.CallHost 10 11 0) ∷ op.Data (data_op.SkipEq (operand.Register 10) (operand.Number 2) 2) ∷ op.Data (data_op.Handle 12 (operand.Register 10)) ∷
-    op.Set (set_op.Join (operand.Register 12) (operand.Register 5)) ∷ op.Call (call_op.CallHost 10 11 2) ∷ op.Data (data_op.SkipEq (operand.Register 10) (operand.Number 2) 2) ∷
-    op.Data (data_op.Handle 12 (operand.Register 10)) ∷ op.Set (set_op.Join (operand.Register 12) (operand.Register 5)) ∷ op.Thread thread_op.Yield ∷
-    op.Set (set_op.Poll 10 (operand.Register 5)) ∷ op.Data (data_op.SkipEq (operand.Register 10) (operand.Number 0) 2) ∷ op.Data (data_op.SkipEq (operand.Register 12) (operand.Number 1) 1) ∷
-    op.Call (call_op.Drop (operand.Register 11)) ∷ op.Call (call_op.CallHost 10 11 2) ∷ op.Data (data_op.SkipEq (operand.Register 10) (operand.Number 2) 2) ∷
-    op.Data (data_op.Handle 12 (operand.Register 10)) ∷ op.Set (set_op.Join (operand.Register 12) (operand.Register 5)) ∷ op.Call (call_op.CallHost 10 11 2) ∷
-    op.Data (data_op.SkipEq (operand.Register 10) (operand.Number 2) 2) ∷ op.Data (data_op.Handle 12 (operand.Register 10)) ∷ op.Set (set_op.Join (operand.Register 12) (operand.Register 5)) ∷
-    op.Call (call_op.CallHost 10 11 0) ∷ op.Data (data_op.SkipEq (operand.Register 10) (operand.Number 2) 2) ∷ op.Data (data_op.Handle 12 (operand.Register 10)) ∷
-    op.Set (set_op.Join (operand.Register 12) (operand.Register 5)) ∷ op.Set (set_op.Poll 10 (operand.Register 5)) ∷ op.Data (data_op.SkipEq (operand.Register 10) (operand.Number 0) 2) ∷
-    op.Data (data_op.SkipEq (operand.Register 12) (operand.Number 1) 1) ∷ op.Call (call_op.Drop (operand.Register 11)) ∷ op.Task (task_op.Ret (operand.Number 18)) ∷
-    []); react = [] } ∷ record { kind = kind.Stackful; params = 1; start = (op.Call (call_op.CallHost 8 9 0) ∷ op.Data (data_op.Handle 4 (operand.Register 8)) ∷
-    op.Task (task_op.Ret (operand.Register 0)) ∷ []); react = [] } ∷ record { kind = kind.Callback; params = 2; start = (op.Data (data_op.Set 9 (operand.Register 1)) ∷
-    op.Thread thread_op.Yield ∷ op.Thread thread_op.Yield ∷ op.Thread thread_op.Yield ∷ op.Task task_op.CbYield ∷ []); react = (op.Data (data_op.SkipEq (operand.Register 0) (operand.Number 6) 5) ∷
-    op.Data (data_op.Add 6 (operand.Number 1)) ∷ op.Data (data_op.SkipEq (operand.Register 6) (operand.Number 2) 1) ∷ op.Task task_op.CbYield ∷
-    op.Task (task_op.Ret (operand.Number 8)) ∷ op.Task task_op.Exit ∷ op.Task task_op.TaskCancel ∷ op.Task task_op.Exit ∷ []) } ∷ record { kind =
-    kind.Callback; params = 0; start = (op.Call (call_op.CallSyncHost 4 2) ∷ op.Task (task_op.Ret (operand.Register 4)) ∷ op.Task task_op.Exit ∷ []);
-    react = [] } ∷ []); slots = (replicate 16 slot.Empty) } ∷ record { exports = (record { kind = kind.Callback; params = 0; start = (op.Data (data_op.Handle 14 (operand.Register 11)) ∷
-    op.Data (data_op.Load 0 15) ∷ op.Data (data_op.Set 4 (operand.Number 4)) ∷ op.Call (call_op.Call 5 6 (record { instance = 0; export = 3 }) []) ∷
-    op.Data (data_op.SkipEq (operand.Register 5) (operand.Number 2) 9) ∷ op.Data (data_op.Handle 9 (operand.Register 5)) ∷ op.Set (set_op.New 3) ∷
-    op.Set (set_op.Join (operand.Register 9) (operand.Register 3)) ∷ op.Set (set_op.Wait 12 (operand.Register 3)) ∷ op.Data (data_op.SkipEq (operand.Register 14) (operand.Number 2) 2) ∷
-    op.Data (data_op.SkipEq (operand.Register 14) (operand.Number 4) 1) ∷ op.Set (set_op.Wait 12 (operand.Register 3)) ∷ op.Set (set_op.Join (operand.Register 13) (operand.Number 0)) ∷
-    op.Set (set_op.Drop (operand.Register 3)) ∷ op.Task (task_op.Ret (operand.Register 14)) ∷ []); react = [] } ∷ []); slots = (replicate 16 slot.Empty) } ∷
-    record { exports = (record { kind = kind.Callback; params = 0; start = (op.Data (data_op.Load 4 0) ∷ op.Call (call_op.Call 7 6 (record { instance =
-    1; export = 0 }) []) ∷ op.Data (data_op.SkipEq (operand.Register 7) (operand.Number 2) 12) ∷ op.Data (data_op.Handle 9 (operand.Register 7)) ∷
-    op.Call (call_op.Cancel 8 (operand.Register 9)) ∷ op.Data (data_op.SkipEq (operand.Register 8) (operand.Number 4294967295) 2) ∷ op.Call (call_op.Drop (operand.Register 9)) ∷
-    op.Data (data_op.SkipEq (operand.Number 0) (operand.Number 0) 7) ∷ op.Set (set_op.New 3) ∷ op.Set (set_op.Join (operand.Register 9) (operand.Register 3)) ∷
-    op.Set (set_op.Wait 13 (operand.Register 3)) ∷ op.Data (data_op.SkipEq (operand.Register 15) (operand.Number 2) 2) ∷ op.Data (data_op.SkipEq (operand.Register 15) (operand.Number 4) 1) ∷
-    op.Set (set_op.Wait 13 (operand.Register 3)) ∷ op.Call (call_op.Drop (operand.Register 14)) ∷ op.Task (task_op.Ret (operand.Register 15)) ∷ []);
-    react = [] } ∷ []); slots = (replicate 16 slot.Empty) } ∷ []); hosts = (record { polls = (Some 2); value = (Some 211) } ∷ record { polls = None;
-    value = None } ∷ record { polls = (Some 0); value = (Some 29) } ∷ record { polls = None; value = None } ∷ []) }; names = []; main = (main_op.Start (record {
-    instance = 2; export = 0 }) [] ∷ main_op.Start (record { instance = 2; export = 0 }) [] ∷ main_op.Start (record { instance = 0; export = 2 }) ((operand.Register 11) ∷
-    (operand.Number 29) ∷ []) ∷ main_op.Start (record { instance = 0; export = 0 }) [] ∷ main_op.Start (record { instance = 0; export = 1 }) ((operand.Register 10) ∷
-    []) ∷ main_op.Finish 3 1 ∷ main_op.Finish 4 1 ∷ main_op.Finish 5 1 ∷ main_op.Finish 1 12 ∷ main_op.Finish 2 1 ∷ main_op.Answer (operand.Register 1) ∷
-    []); aborters = [] }
+generated_23 = record {
+  handles = 100000;
+  table = 1000000;
+  idle = idle_line.Trap;
+  component = record {
+    instances = (record {
+      exports = (record {
+        kind =
+            kind.Callback;
+        params = 0;
+        start = (op.Call (call_op.CallHost 9 7 0) ∷ op.Data (data_op.Handle 6 (operand.Register 9)) ∷ op.Set (set_op.New 4) ∷
+            op.Set (set_op.Join (operand.Register 6) (operand.Register 4)) ∷ op.Set (set_op.Wait 10 (operand.Register 4)) ∷ op.Set (set_op.Join (operand.Register 11) (operand.Number 0)) ∷
+            op.Set (set_op.Drop (operand.Register 4)) ∷ op.Set (set_op.New 5) ∷ op.Call (call_op.CallHost 10 11 0) ∷ op.Data (data_op.SkipEq (operand.Register 10) (operand.Number 2) 2) ∷
+            op.Data (data_op.Handle 12 (operand.Register 10)) ∷ op.Set (set_op.Join (operand.Register 12) (operand.Register 5)) ∷ op.Call (call_op.CallHost 10 11 2) ∷
+            op.Data (data_op.SkipEq (operand.Register 10) (operand.Number 2) 2) ∷ op.Data (data_op.Handle 12 (operand.Register 10)) ∷ op.Set (set_op.Join (operand.Register 12) (operand.Register 5)) ∷
+            op.Call (call_op.CallHost 10 11 0) ∷ op.Data (data_op.SkipEq (operand.Register 10) (operand.Number 2) 2) ∷ op.Data (data_op.Handle 12 (operand.Register 10)) ∷
+            op.Set (set_op.Join (operand.Register 12) (operand.Register 5)) ∷ op.Call (call_op.CallHost 10 11 2) ∷ op.Data (data_op.SkipEq (operand.Register 10) (operand.Number 2) 2) ∷
+            op.Data (data_op.Handle 12 (operand.Register 10)) ∷ op.Set (set_op.Join (operand.Register 12) (operand.Register 5)) ∷ op.Thread thread_op.Yield ∷
+            op.Set (set_op.Poll 10 (operand.Register 5)) ∷ op.Data (data_op.SkipEq (operand.Register 10) (operand.Number 0) 2) ∷ op.Data (data_op.SkipEq (operand.Register 12) (operand.Number 1) 1) ∷
+            op.Call (call_op.Drop (operand.Register 11)) ∷ op.Call (call_op.CallHost 10 11 2) ∷ op.Data (data_op.SkipEq (operand.Register 10) (operand.Number 2) 2) ∷
+            op.Data (data_op.Handle 12 (operand.Register 10)) ∷ op.Set (set_op.Join (operand.Register 12) (operand.Register 5)) ∷ op.Call (call_op.CallHost 10 11 2) ∷
+            op.Data (data_op.SkipEq (operand.Register 10) (operand.Number 2) 2) ∷ op.Data (data_op.Handle 12 (operand.Register 10)) ∷ op.Set (set_op.Join (operand.Register 12) (operand.Register 5)) ∷
+            op.Call (call_op.CallHost 10 11 0) ∷ op.Data (data_op.SkipEq (operand.Register 10) (operand.Number 2) 2) ∷ op.Data (data_op.Handle 12 (operand.Register 10)) ∷
+            op.Set (set_op.Join (operand.Register 12) (operand.Register 5)) ∷ op.Set (set_op.Poll 10 (operand.Register 5)) ∷ op.Data (data_op.SkipEq (operand.Register 10) (operand.Number 0) 2) ∷
+            op.Data (data_op.SkipEq (operand.Register 12) (operand.Number 1) 1) ∷ op.Call (call_op.Drop (operand.Register 11)) ∷ op.Task (task_op.Ret (operand.Number 18)) ∷
+            []);
+        react = [];
+      } ∷ record {
+        kind = kind.Stackful;
+        params = 1;
+        start = (op.Call (call_op.CallHost 8 9 0) ∷ op.Data (data_op.Handle 4 (operand.Register 8)) ∷
+            op.Task (task_op.Ret (operand.Register 0)) ∷ []);
+        react = [];
+      } ∷ record {
+        kind = kind.Callback;
+        params = 2;
+        start = (op.Data (data_op.Set 9 (operand.Register 1)) ∷
+            op.Thread thread_op.Yield ∷ op.Thread thread_op.Yield ∷ op.Thread thread_op.Yield ∷ op.Task task_op.CbYield ∷ []);
+        react = (op.Data (data_op.SkipEq (operand.Register 0) (operand.Number 6) 5) ∷
+            op.Data (data_op.Add 6 (operand.Number 1)) ∷ op.Data (data_op.SkipEq (operand.Register 6) (operand.Number 2) 1) ∷ op.Task task_op.CbYield ∷
+            op.Task (task_op.Ret (operand.Number 8)) ∷ op.Task task_op.Exit ∷ op.Task task_op.TaskCancel ∷ op.Task task_op.Exit ∷ []);
+      } ∷ record {
+        kind =
+            kind.Callback;
+        params = 0;
+        start = (op.Call (call_op.CallSyncHost 4 2) ∷ op.Task (task_op.Ret (operand.Register 4)) ∷ op.Task task_op.Exit ∷ []);
+        react = [];
+      } ∷ []);
+      slots = (replicate 16 slot.Empty);
+    } ∷ record {
+      exports = (record {
+        kind = kind.Callback;
+        params = 0;
+        start = (op.Data (data_op.Handle 14 (operand.Register 11)) ∷
+            op.Data (data_op.Load 0 15) ∷ op.Data (data_op.Set 4 (operand.Number 4)) ∷ op.Call (call_op.Call 5 6 (record { instance = 0; export = 3 }) []) ∷
+            op.Data (data_op.SkipEq (operand.Register 5) (operand.Number 2) 9) ∷ op.Data (data_op.Handle 9 (operand.Register 5)) ∷ op.Set (set_op.New 3) ∷
+            op.Set (set_op.Join (operand.Register 9) (operand.Register 3)) ∷ op.Set (set_op.Wait 12 (operand.Register 3)) ∷ op.Data (data_op.SkipEq (operand.Register 14) (operand.Number 2) 2) ∷
+            op.Data (data_op.SkipEq (operand.Register 14) (operand.Number 4) 1) ∷ op.Set (set_op.Wait 12 (operand.Register 3)) ∷ op.Set (set_op.Join (operand.Register 13) (operand.Number 0)) ∷
+            op.Set (set_op.Drop (operand.Register 3)) ∷ op.Task (task_op.Ret (operand.Register 14)) ∷ []);
+        react = [];
+      } ∷ []);
+      slots = (replicate 16 slot.Empty);
+    } ∷
+        record {
+          exports = (record {
+            kind = kind.Callback;
+            params = 0;
+            start = (op.Data (data_op.Load 4 0) ∷ op.Call (call_op.Call 7 6 (record {
+              instance =
+                  1;
+              export = 0;
+            }) []) ∷ op.Data (data_op.SkipEq (operand.Register 7) (operand.Number 2) 12) ∷ op.Data (data_op.Handle 9 (operand.Register 7)) ∷
+                op.Call (call_op.Cancel 8 (operand.Register 9)) ∷ op.Data (data_op.SkipEq (operand.Register 8) (operand.Number 4294967295) 2) ∷ op.Call (call_op.Drop (operand.Register 9)) ∷
+                op.Data (data_op.SkipEq (operand.Number 0) (operand.Number 0) 7) ∷ op.Set (set_op.New 3) ∷ op.Set (set_op.Join (operand.Register 9) (operand.Register 3)) ∷
+                op.Set (set_op.Wait 13 (operand.Register 3)) ∷ op.Data (data_op.SkipEq (operand.Register 15) (operand.Number 2) 2) ∷ op.Data (data_op.SkipEq (operand.Register 15) (operand.Number 4) 1) ∷
+                op.Set (set_op.Wait 13 (operand.Register 3)) ∷ op.Call (call_op.Drop (operand.Register 14)) ∷ op.Task (task_op.Ret (operand.Register 15)) ∷ []);
+            react = [];
+          } ∷ []);
+          slots = (replicate 16 slot.Empty);
+        } ∷ []);
+    hosts = (record { polls = (Some 2); value = (Some 211) } ∷ record {
+      polls = None;
+      value = None;
+    } ∷ record { polls = (Some 0); value = (Some 29) } ∷ record { polls = None; value = None } ∷ []);
+  };
+  names = [];
+  main = (main_op.Start (record {
+    instance = 2;
+    export = 0;
+  }) [] ∷ main_op.Start (record { instance = 2; export = 0 }) [] ∷ main_op.Start (record { instance = 0; export = 2 }) ((operand.Register 11) ∷
+      (operand.Number 29) ∷ []) ∷ main_op.Start (record { instance = 0; export = 0 }) [] ∷ main_op.Start (record { instance = 0; export = 1 }) ((operand.Register 10) ∷
+      []) ∷ main_op.Finish 3 1 ∷ main_op.Finish 4 1 ∷ main_op.Finish 5 1 ∷ main_op.Finish 1 12 ∷ main_op.Finish 2 1 ∷ main_op.Answer (operand.Register 1) ∷
+      []);
+  aborters = [];
+}
 
 abbrev pub generated_23_labels : List Label
 generated_23_labels = label.Main (main_label.Start 1 1) ∷ label.Main (main_label.Start 2 2) ∷ label.Main (main_label.Start 3 3) ∷ label.Main (main_label.Start 4 4) ∷

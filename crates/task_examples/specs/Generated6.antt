@@ -31,60 +31,149 @@ use Rattle.task_rules.specs.Texts.{polls}
 
 -- r1; req: m, host; c; net: m, z_, drop, g, g1, zbc0xb1x, set; x1: e; f: bad
 abbrev pub generated_24 : Scenario
-generated_24 = record { handles = 100000; table = 1000000; idle = idle_line.Trap; component = record { instances = (record { exports = []; slots =
-    (replicate 16 slot.Empty) } ∷ record { exports = (record { kind = kind.Callback; params = 0; start = (op.Set (set_op.New 3) ∷ op.Task task_op.CbYield ∷
-    []); react = (op.Data (data_op.SkipEq (operand.Register 0) (operand.Number 6) 4) ∷ op.Set (set_op.New 9) ∷ op.Set (set_op.Drop (operand.Register 9)) ∷
-    op.Task (task_op.Ret (operand.Number 194)) ∷ op.Task task_op.Exit ∷ op.Task (task_op.Ret (operand.Number 1)) ∷ op.Task task_op.Exit ∷ []) } ∷
-    record { kind = kind.Callback; params = 0; start = (op.Call (call_op.CallHost 8 9 2) ∷ op.Data (data_op.Handle 4 (operand.Register 8)) ∷ op.Set (set_op.New 3) ∷
-    op.Set (set_op.Join (operand.Register 4) (operand.Register 3)) ∷ op.Set (set_op.Wait 10 (operand.Register 3)) ∷ op.Data (data_op.SkipEq (operand.Register 12) (operand.Number 2) 2) ∷
-    op.Data (data_op.SkipEq (operand.Register 12) (operand.Number 4) 1) ∷ op.Set (set_op.Wait 10 (operand.Register 3)) ∷ op.Call (call_op.Drop (operand.Register 4)) ∷
-    op.Set (set_op.Drop (operand.Register 3)) ∷ op.Task (task_op.Ret (operand.Register 9)) ∷ op.Task task_op.Exit ∷ []); react = [] } ∷ []); slots =
-    (replicate 16 slot.Empty) } ∷ record { exports = []; slots = (replicate 16 slot.Empty) } ∷ record { exports = (record { kind = kind.Callback;
-    params = 1; start = (op.Data (data_op.Set 9 (operand.Register 0)) ∷ op.Call (call_op.Call 6 3 (record { instance = 1; export = 0 }) []) ∷ op.Data (data_op.SkipEq (operand.Register 6) (operand.Number 2) 15) ∷
-    op.Data (data_op.Handle 5 (operand.Register 6)) ∷ op.Call (call_op.Call 8 4 (record { instance = 1; export = 1 }) []) ∷ op.Data (data_op.SkipEq (operand.Register 8) (operand.Number 2) 1) ∷
-    op.Data (data_op.Handle 7 (operand.Register 8)) ∷ op.Call (call_op.Cancel 14 (operand.Register 5)) ∷ op.Data (data_op.SkipEq (operand.Register 14) (operand.Number 4294967295) 2) ∷
-    op.Call (call_op.Drop (operand.Register 5)) ∷ op.Data (data_op.SkipEq (operand.Number 0) (operand.Number 0) 7) ∷ op.Set (set_op.New 13) ∷ op.Set (set_op.Join (operand.Register 5) (operand.Register 13)) ∷
-    op.Set (set_op.Wait 10 (operand.Register 13)) ∷ op.Data (data_op.SkipEq (operand.Register 12) (operand.Number 2) 1) ∷ op.Set (set_op.Wait 10 (operand.Register 13)) ∷
-    op.Call (call_op.Drop (operand.Register 11)) ∷ op.Set (set_op.Drop (operand.Register 13)) ∷ op.Task (task_op.Ret (operand.Register 14)) ∷ []);
-    react = [] } ∷ record { kind = kind.Callback; params = 1; start = (op.Data (data_op.Set 9 (operand.Register 0)) ∷ op.Call (call_op.Call 8 4 (record {
-    instance = 1; export = 0 }) []) ∷ op.Data (data_op.SkipEq (operand.Register 8) (operand.Number 2) 7) ∷ op.Data (data_op.Handle 5 (operand.Register 8)) ∷
-    op.Call (call_op.Call 6 7 (record { instance = 1; export = 1 }) []) ∷ op.Data (data_op.SkipEq (operand.Register 6) (operand.Number 2) 1) ∷ op.Data (data_op.Handle 3 (operand.Register 6)) ∷
-    op.Call (call_op.CancelSync 10 (operand.Register 5)) ∷ op.Call (call_op.Drop (operand.Register 5)) ∷ op.Data (data_op.SkipEq (operand.Number 0) (operand.Number 0) 0) ∷
-    op.Task (task_op.Ret (operand.Register 10)) ∷ []); react = [] } ∷ record { kind = kind.Blocking; params = 0; start = (op.Set (set_op.New 3) ∷
-    op.Data (data_op.Store 4 (operand.Register 3)) ∷ op.Set (set_op.Wait 4 (operand.Register 3)) ∷ op.Data (data_op.Set 0 (operand.Register 6)) ∷ []);
-    react = [] } ∷ record { kind = kind.Callback; params = 1; start = (op.Data (data_op.Set 9 (operand.Register 0)) ∷ op.Call (call_op.CallHost 8 3 0) ∷
-    op.Data (data_op.Handle 4 (operand.Register 8)) ∷ op.Data (data_op.Store 5 (operand.Register 4)) ∷ op.Data (data_op.Load 5 4) ∷ op.Data (data_op.SkipEq (operand.Register 5) (operand.Number 0) 1) ∷
-    op.Set (set_op.Join (operand.Register 4) (operand.Register 5)) ∷ op.Task (task_op.Ret (operand.Register 8)) ∷ op.Task task_op.CbYield ∷ []); react =
-    [] } ∷ record { kind = kind.Callback; params = 0; start = (op.Call (call_op.Call 9 6 (record { instance = 1; export = 1 }) []) ∷ op.Data (data_op.SkipEq (operand.Register 9) (operand.Number 2) 2) ∷
-    op.Data (data_op.Handle 7 (operand.Register 9)) ∷ op.Data (data_op.Store 5 (operand.Register 7)) ∷ op.Task (task_op.Ret (operand.Register 9)) ∷
-    []); react = [] } ∷ record { kind = kind.Sync; params = 0; start = (op.Data (data_op.Load 3 4) ∷ op.Data (data_op.Load 4 5) ∷ op.Data (data_op.SkipEq (operand.Register 4) (operand.Number 0) 2) ∷
-    op.Data (data_op.SkipEq (operand.Register 3) (operand.Number 0) 1) ∷ op.Set (set_op.Drop (operand.Register 3)) ∷ []); react = [] } ∷ record { kind =
-    kind.Callback; params = 0; start = (op.Task task_op.CbYield ∷ []); react = (op.Data (data_op.Add 8 (operand.Number 1)) ∷ op.Data (data_op.SkipEq (operand.Register 8) (operand.Number 3) 1) ∷
-    op.Task task_op.CbYield ∷ op.Data (data_op.Load 3 4) ∷ op.Data (data_op.Load 4 5) ∷ op.Data (data_op.SkipEq (operand.Register 4) (operand.Number 0) 2) ∷
-    op.Data (data_op.SkipEq (operand.Register 3) (operand.Number 0) 1) ∷ op.Set (set_op.Poll 5 (operand.Register 3)) ∷ op.Task (task_op.Ret (operand.Register 7)) ∷
-    []) } ∷ []); slots = (replicate 16 slot.Empty) } ∷ record { exports = (record { kind = kind.Callback; params = 0; start = (op.Set (set_op.New 3) ∷
-    op.Call (call_op.CallHost 4 8 2) ∷ op.Data (data_op.Handle 5 (operand.Register 4)) ∷ op.Set (set_op.Join (operand.Register 5) (operand.Register 3)) ∷
-    op.Thread (thread_op.New 6 3 (operand.Register 3)) ∷ op.Thread (thread_op.ResumeLater (operand.Register 6)) ∷ op.Thread (thread_op.New 6 3 (operand.Register 3)) ∷
-    op.Thread (thread_op.ResumeLater (operand.Register 6)) ∷ op.Thread (thread_op.New 6 3 (operand.Register 3)) ∷ op.Thread (thread_op.ResumeLater (operand.Register 6)) ∷
-    op.Thread (thread_op.New 6 3 (operand.Register 3)) ∷ op.Thread (thread_op.ResumeLater (operand.Register 6)) ∷ op.Task task_op.CbYield ∷ []); react =
-    (op.Data (data_op.Add 9 (operand.Number 1)) ∷ op.Data (data_op.SkipEq (operand.Register 9) (operand.Number 6) 1) ∷ op.Task task_op.CbYield ∷
-    op.Task (task_op.Ret (operand.Register 9)) ∷ op.Task task_op.CbYield ∷ []) } ∷ []); slots = (slot.Empty ∷ slot.Empty ∷ slot.Empty ∷ slot.Script (op.Set (set_op.Wait 11 (operand.Register 0)) ∷
-    op.Set (set_op.Wait 11 (operand.Register 0)) ∷ []) ∷ slot.Empty ∷ slot.Empty ∷ slot.Empty ∷ slot.Empty ∷ slot.Empty ∷ slot.Empty ∷ slot.Empty ∷
-    slot.Empty ∷ slot.Empty ∷ slot.Empty ∷ slot.Empty ∷ slot.Empty ∷ []) } ∷ record { exports = (record { kind = kind.Callback; params = 1; start =
-    (op.Data (data_op.Set 9 (operand.Register 0)) ∷ op.Call (call_op.Call 3 8 (record { instance = 4; export = 0 }) []) ∷ op.Data (data_op.SkipEq (operand.Register 3) (operand.Number 2) 8) ∷
-    op.Data (data_op.Handle 7 (operand.Register 3)) ∷ op.Thread thread_op.Yield ∷ op.Thread thread_op.Yield ∷ op.Call (call_op.Cancel 4 (operand.Register 7)) ∷
-    op.Data (data_op.SkipEq (operand.Register 4) (operand.Number 4294967295) 2) ∷ op.Call (call_op.Drop (operand.Register 7)) ∷ op.Data (data_op.SkipEq (operand.Number 0) (operand.Number 0) 1) ∷
-    op.Call (call_op.Cancel 4 (operand.Register 7)) ∷ op.Call (call_op.CallHost 6 5 2) ∷ op.Data (data_op.Handle 10 (operand.Register 6)) ∷ op.Set (set_op.New 13) ∷
-    op.Set (set_op.Join (operand.Register 10) (operand.Register 13)) ∷ op.Set (set_op.Drop (operand.Register 13)) ∷ op.Task (task_op.Ret (operand.Register 4)) ∷
-    op.Task task_op.Exit ∷ []); react = [] } ∷ []); slots = (replicate 16 slot.Empty) } ∷ []); hosts = (record { polls = (Some 5); value = (Some 255) } ∷
-    record { polls = None; value = None } ∷ record { polls = (Some 9); value = (Some 4294967297) } ∷ []) }; names = []; main = (main_op.Ready (record {
-    instance = 3; export = 1 }) ∷ main_op.Start (record { instance = 3; export = 1 }) ((operand.Number 13) ∷ []) ∷ main_op.Finish 1 1 ∷ main_op.Start (record {
-    instance = 3; export = 0 }) ((operand.Number 15) ∷ []) ∷ main_op.Start (record { instance = 5; export = 0 }) ((operand.Register 15) ∷ []) ∷
-    main_op.Finish 3 3 ∷ main_op.Start (record { instance = 3; export = 2 }) [] ∷ main_op.Finish 2 4 ∷ main_op.Start (record { instance = 3; export =
-    4 }) [] ∷ main_op.Finish 5 1 ∷ main_op.Ready (record { instance = 3; export = 5 }) ∷ main_op.Start (record { instance = 3; export = 5 }) [] ∷
-    main_op.Finish 4 2 ∷ main_op.Finish 6 14 ∷ main_op.Start (record { instance = 3; export = 3 }) ((operand.Register 3) ∷ []) ∷ main_op.Start (record {
-    instance = 3; export = 6 }) [] ∷ main_op.Finish 8 0 ∷ main_op.Finish 7 0 ∷ main_op.Quiet ∷ main_op.Answer (operand.Register 2) ∷ []); aborters =
-    [] }
+generated_24 = record {
+  handles = 100000;
+  table = 1000000;
+  idle = idle_line.Trap;
+  component = record {
+    instances = (record {
+      exports = [];
+      slots =
+          (replicate 16 slot.Empty);
+    } ∷ record {
+      exports = (record {
+        kind = kind.Callback;
+        params = 0;
+        start = (op.Set (set_op.New 3) ∷ op.Task task_op.CbYield ∷
+            []);
+        react = (op.Data (data_op.SkipEq (operand.Register 0) (operand.Number 6) 4) ∷ op.Set (set_op.New 9) ∷ op.Set (set_op.Drop (operand.Register 9)) ∷
+            op.Task (task_op.Ret (operand.Number 194)) ∷ op.Task task_op.Exit ∷ op.Task (task_op.Ret (operand.Number 1)) ∷ op.Task task_op.Exit ∷ []);
+      } ∷
+          record {
+            kind = kind.Callback;
+            params = 0;
+            start = (op.Call (call_op.CallHost 8 9 2) ∷ op.Data (data_op.Handle 4 (operand.Register 8)) ∷ op.Set (set_op.New 3) ∷
+                op.Set (set_op.Join (operand.Register 4) (operand.Register 3)) ∷ op.Set (set_op.Wait 10 (operand.Register 3)) ∷ op.Data (data_op.SkipEq (operand.Register 12) (operand.Number 2) 2) ∷
+                op.Data (data_op.SkipEq (operand.Register 12) (operand.Number 4) 1) ∷ op.Set (set_op.Wait 10 (operand.Register 3)) ∷ op.Call (call_op.Drop (operand.Register 4)) ∷
+                op.Set (set_op.Drop (operand.Register 3)) ∷ op.Task (task_op.Ret (operand.Register 9)) ∷ op.Task task_op.Exit ∷ []);
+            react = [];
+          } ∷ []);
+      slots =
+          (replicate 16 slot.Empty);
+    } ∷ record { exports = []; slots = (replicate 16 slot.Empty) } ∷ record {
+      exports = (record {
+        kind = kind.Callback;
+        params = 1;
+        start = (op.Data (data_op.Set 9 (operand.Register 0)) ∷ op.Call (call_op.Call 6 3 (record { instance = 1; export = 0 }) []) ∷ op.Data (data_op.SkipEq (operand.Register 6) (operand.Number 2) 15) ∷
+            op.Data (data_op.Handle 5 (operand.Register 6)) ∷ op.Call (call_op.Call 8 4 (record { instance = 1; export = 1 }) []) ∷ op.Data (data_op.SkipEq (operand.Register 8) (operand.Number 2) 1) ∷
+            op.Data (data_op.Handle 7 (operand.Register 8)) ∷ op.Call (call_op.Cancel 14 (operand.Register 5)) ∷ op.Data (data_op.SkipEq (operand.Register 14) (operand.Number 4294967295) 2) ∷
+            op.Call (call_op.Drop (operand.Register 5)) ∷ op.Data (data_op.SkipEq (operand.Number 0) (operand.Number 0) 7) ∷ op.Set (set_op.New 13) ∷ op.Set (set_op.Join (operand.Register 5) (operand.Register 13)) ∷
+            op.Set (set_op.Wait 10 (operand.Register 13)) ∷ op.Data (data_op.SkipEq (operand.Register 12) (operand.Number 2) 1) ∷ op.Set (set_op.Wait 10 (operand.Register 13)) ∷
+            op.Call (call_op.Drop (operand.Register 11)) ∷ op.Set (set_op.Drop (operand.Register 13)) ∷ op.Task (task_op.Ret (operand.Register 14)) ∷ []);
+        react = [];
+      } ∷ record {
+        kind = kind.Callback;
+        params = 1;
+        start = (op.Data (data_op.Set 9 (operand.Register 0)) ∷ op.Call (call_op.Call 8 4 (record {
+          instance = 1;
+          export = 0;
+        }) []) ∷ op.Data (data_op.SkipEq (operand.Register 8) (operand.Number 2) 7) ∷ op.Data (data_op.Handle 5 (operand.Register 8)) ∷
+            op.Call (call_op.Call 6 7 (record { instance = 1; export = 1 }) []) ∷ op.Data (data_op.SkipEq (operand.Register 6) (operand.Number 2) 1) ∷ op.Data (data_op.Handle 3 (operand.Register 6)) ∷
+            op.Call (call_op.CancelSync 10 (operand.Register 5)) ∷ op.Call (call_op.Drop (operand.Register 5)) ∷ op.Data (data_op.SkipEq (operand.Number 0) (operand.Number 0) 0) ∷
+            op.Task (task_op.Ret (operand.Register 10)) ∷ []);
+        react = [];
+      } ∷ record {
+        kind = kind.Blocking;
+        params = 0;
+        start = (op.Set (set_op.New 3) ∷
+            op.Data (data_op.Store 4 (operand.Register 3)) ∷ op.Set (set_op.Wait 4 (operand.Register 3)) ∷ op.Data (data_op.Set 0 (operand.Register 6)) ∷ []);
+        react = [];
+      } ∷ record {
+        kind = kind.Callback;
+        params = 1;
+        start = (op.Data (data_op.Set 9 (operand.Register 0)) ∷ op.Call (call_op.CallHost 8 3 0) ∷
+            op.Data (data_op.Handle 4 (operand.Register 8)) ∷ op.Data (data_op.Store 5 (operand.Register 4)) ∷ op.Data (data_op.Load 5 4) ∷ op.Data (data_op.SkipEq (operand.Register 5) (operand.Number 0) 1) ∷
+            op.Set (set_op.Join (operand.Register 4) (operand.Register 5)) ∷ op.Task (task_op.Ret (operand.Register 8)) ∷ op.Task task_op.CbYield ∷ []);
+        react =
+            [];
+      } ∷ record {
+        kind = kind.Callback;
+        params = 0;
+        start = (op.Call (call_op.Call 9 6 (record { instance = 1; export = 1 }) []) ∷ op.Data (data_op.SkipEq (operand.Register 9) (operand.Number 2) 2) ∷
+            op.Data (data_op.Handle 7 (operand.Register 9)) ∷ op.Data (data_op.Store 5 (operand.Register 7)) ∷ op.Task (task_op.Ret (operand.Register 9)) ∷
+            []);
+        react = [];
+      } ∷ record {
+        kind = kind.Sync;
+        params = 0;
+        start = (op.Data (data_op.Load 3 4) ∷ op.Data (data_op.Load 4 5) ∷ op.Data (data_op.SkipEq (operand.Register 4) (operand.Number 0) 2) ∷
+            op.Data (data_op.SkipEq (operand.Register 3) (operand.Number 0) 1) ∷ op.Set (set_op.Drop (operand.Register 3)) ∷ []);
+        react = [];
+      } ∷ record {
+        kind =
+            kind.Callback;
+        params = 0;
+        start = (op.Task task_op.CbYield ∷ []);
+        react = (op.Data (data_op.Add 8 (operand.Number 1)) ∷ op.Data (data_op.SkipEq (operand.Register 8) (operand.Number 3) 1) ∷
+            op.Task task_op.CbYield ∷ op.Data (data_op.Load 3 4) ∷ op.Data (data_op.Load 4 5) ∷ op.Data (data_op.SkipEq (operand.Register 4) (operand.Number 0) 2) ∷
+            op.Data (data_op.SkipEq (operand.Register 3) (operand.Number 0) 1) ∷ op.Set (set_op.Poll 5 (operand.Register 3)) ∷ op.Task (task_op.Ret (operand.Register 7)) ∷
+            []);
+      } ∷ []);
+      slots = (replicate 16 slot.Empty);
+    } ∷ record {
+      exports = (record {
+        kind = kind.Callback;
+        params = 0;
+        start = (op.Set (set_op.New 3) ∷
+            op.Call (call_op.CallHost 4 8 2) ∷ op.Data (data_op.Handle 5 (operand.Register 4)) ∷ op.Set (set_op.Join (operand.Register 5) (operand.Register 3)) ∷
+            op.Thread (thread_op.New 6 3 (operand.Register 3)) ∷ op.Thread (thread_op.ResumeLater (operand.Register 6)) ∷ op.Thread (thread_op.New 6 3 (operand.Register 3)) ∷
+            op.Thread (thread_op.ResumeLater (operand.Register 6)) ∷ op.Thread (thread_op.New 6 3 (operand.Register 3)) ∷ op.Thread (thread_op.ResumeLater (operand.Register 6)) ∷
+            op.Thread (thread_op.New 6 3 (operand.Register 3)) ∷ op.Thread (thread_op.ResumeLater (operand.Register 6)) ∷ op.Task task_op.CbYield ∷ []);
+        react =
+            (op.Data (data_op.Add 9 (operand.Number 1)) ∷ op.Data (data_op.SkipEq (operand.Register 9) (operand.Number 6) 1) ∷ op.Task task_op.CbYield ∷
+            op.Task (task_op.Ret (operand.Register 9)) ∷ op.Task task_op.CbYield ∷ []);
+      } ∷ []);
+      slots = (slot.Empty ∷ slot.Empty ∷ slot.Empty ∷ slot.Script (op.Set (set_op.Wait 11 (operand.Register 0)) ∷
+          op.Set (set_op.Wait 11 (operand.Register 0)) ∷ []) ∷ slot.Empty ∷ slot.Empty ∷ slot.Empty ∷ slot.Empty ∷ slot.Empty ∷ slot.Empty ∷ slot.Empty ∷
+          slot.Empty ∷ slot.Empty ∷ slot.Empty ∷ slot.Empty ∷ slot.Empty ∷ []);
+    } ∷ record {
+      exports = (record {
+        kind = kind.Callback;
+        params = 1;
+        start =
+            (op.Data (data_op.Set 9 (operand.Register 0)) ∷ op.Call (call_op.Call 3 8 (record { instance = 4; export = 0 }) []) ∷ op.Data (data_op.SkipEq (operand.Register 3) (operand.Number 2) 8) ∷
+            op.Data (data_op.Handle 7 (operand.Register 3)) ∷ op.Thread thread_op.Yield ∷ op.Thread thread_op.Yield ∷ op.Call (call_op.Cancel 4 (operand.Register 7)) ∷
+            op.Data (data_op.SkipEq (operand.Register 4) (operand.Number 4294967295) 2) ∷ op.Call (call_op.Drop (operand.Register 7)) ∷ op.Data (data_op.SkipEq (operand.Number 0) (operand.Number 0) 1) ∷
+            op.Call (call_op.Cancel 4 (operand.Register 7)) ∷ op.Call (call_op.CallHost 6 5 2) ∷ op.Data (data_op.Handle 10 (operand.Register 6)) ∷ op.Set (set_op.New 13) ∷
+            op.Set (set_op.Join (operand.Register 10) (operand.Register 13)) ∷ op.Set (set_op.Drop (operand.Register 13)) ∷ op.Task (task_op.Ret (operand.Register 4)) ∷
+            op.Task task_op.Exit ∷ []);
+        react = [];
+      } ∷ []);
+      slots = (replicate 16 slot.Empty);
+    } ∷ []);
+    hosts = (record { polls = (Some 5); value = (Some 255) } ∷
+        record { polls = None; value = None } ∷ record { polls = (Some 9); value = (Some 4294967297) } ∷ []);
+  };
+  names = [];
+  main = (main_op.Ready (record {
+    instance = 3;
+    export = 1;
+  }) ∷ main_op.Start (record { instance = 3; export = 1 }) ((operand.Number 13) ∷ []) ∷ main_op.Finish 1 1 ∷ main_op.Start (record {
+    instance = 3;
+    export = 0;
+  }) ((operand.Number 15) ∷ []) ∷ main_op.Start (record { instance = 5; export = 0 }) ((operand.Register 15) ∷ []) ∷
+      main_op.Finish 3 3 ∷ main_op.Start (record { instance = 3; export = 2 }) [] ∷ main_op.Finish 2 4 ∷ main_op.Start (record {
+        instance = 3;
+        export =
+            4;
+      }) [] ∷ main_op.Finish 5 1 ∷ main_op.Ready (record { instance = 3; export = 5 }) ∷ main_op.Start (record { instance = 3; export = 5 }) [] ∷
+      main_op.Finish 4 2 ∷ main_op.Finish 6 14 ∷ main_op.Start (record { instance = 3; export = 3 }) ((operand.Register 3) ∷ []) ∷ main_op.Start (record {
+        instance = 3;
+        export = 6;
+      }) [] ∷ main_op.Finish 8 0 ∷ main_op.Finish 7 0 ∷ main_op.Quiet ∷ main_op.Answer (operand.Register 2) ∷ []);
+  aborters =
+      [];
+}
 
 abbrev pub generated_24_labels : List Label
 generated_24_labels = label.Main main_label.Ready ∷ label.Main (main_label.Start 1 1) ∷ label.Loop loop_label.MainPends ∷ label.Take (take.Thread mark.High 1) ∷

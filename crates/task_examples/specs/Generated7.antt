@@ -31,102 +31,239 @@ use Rattle.task_rules.specs.Texts.{polls}
 
 -- b: call, end, db, host, ey00; get: bqupghdifzfzvmdo, up, edge, log, go, bad, export; load_it; f: down, h, b, r1, thread, down58, run, d, log, s
 abbrev pub generated_25 : Scenario
-generated_25 = record { handles = 100000; table = 1000000; idle = idle_line.Trap; component = record { instances = (record { exports = (record { kind =
-    kind.Sync; params = 0; start = (op.Set (set_op.New 3) ∷ op.Thread (thread_op.Index 4) ∷ op.Set (set_op.Drop (operand.Register 3)) ∷ []); react =
-    [] } ∷ record { kind = kind.Callback; params = 0; start = (op.Set (set_op.New 3) ∷ op.Data (data_op.Store 0 (operand.Register 3)) ∷ op.Task (task_op.CbWait (operand.Register 3)) ∷
-    []); react = (op.Data (data_op.SkipEq (operand.Register 0) (operand.Number 6) 1) ∷ op.Task (task_op.Ret (operand.Register 1)) ∷ op.Task (task_op.CbWait (operand.Register 3)) ∷
-    []) } ∷ record { kind = kind.Stackful; params = 0; start = (op.Data (data_op.Load 3 0) ∷ op.Set (set_op.Wait 10 (operand.Register 3)) ∷ op.Task (task_op.Ret (operand.Register 10)) ∷
-    []); react = [] } ∷ record { kind = kind.Stackful; params = 0; start = (op.Call (call_op.CallHost 4 8 0) ∷ op.Data (data_op.Handle 5 (operand.Register 4)) ∷
-    op.Data (data_op.Store 1 (operand.Register 5)) ∷ op.Task (task_op.Ret (operand.Register 5)) ∷ []); react = [] } ∷ record { kind = kind.Sync;
-    params = 0; start = (op.Data (data_op.Load 3 0) ∷ op.Data (data_op.Load 4 1) ∷ op.Set (set_op.Join (operand.Register 4) (operand.Register 3)) ∷
-    []); react = [] } ∷ []); slots = (replicate 16 slot.Empty) } ∷ record { exports = (record { kind = kind.Stackful; params = 3; start = (op.Call (call_op.CallHost 3 5 0) ∷
-    op.Data (data_op.SkipEq (operand.Register 3) (operand.Number 2) 9) ∷ op.Data (data_op.Handle 7 (operand.Register 3)) ∷ op.Set (set_op.New 6) ∷
-    op.Set (set_op.Join (operand.Register 7) (operand.Register 6)) ∷ op.Set (set_op.Wait 11 (operand.Register 6)) ∷ op.Data (data_op.SkipEq (operand.Register 13) (operand.Number 2) 2) ∷
-    op.Data (data_op.SkipEq (operand.Register 13) (operand.Number 4) 1) ∷ op.Set (set_op.Wait 11 (operand.Register 6)) ∷ op.Call (call_op.Drop (operand.Register 12)) ∷
-    op.Set (set_op.Drop (operand.Register 6)) ∷ op.Task (task_op.Ret (operand.Register 2)) ∷ []); react = [] } ∷ record { kind = kind.Sync; params =
-    0; start = (op.Set (set_op.New 3) ∷ []); react = [] } ∷ record { kind = kind.Stackful; params = 0; start = (op.Call (call_op.CallSync 3 (record {
-    instance = 0; export = 0 }) []) ∷ op.Call (call_op.CallSync 3 (record { instance = 0; export = 0 }) []) ∷ op.Task (task_op.Ret (operand.Register 3)) ∷
-    []); react = [] } ∷ record { kind = kind.Callback; params = 0; start = (op.Set (set_op.New 3) ∷ op.Data (data_op.Store 3 (operand.Register 3)) ∷
-    op.Task (task_op.CbWait (operand.Register 3)) ∷ []); react = (op.Task (task_op.Ret (operand.Register 1)) ∷ []) } ∷ record { kind = kind.Callback;
-    params = 0; start = (op.Data (data_op.Load 3 3) ∷ op.Task (task_op.CbWait (operand.Register 3)) ∷ []); react = (op.Task (task_op.Ret (operand.Register 1)) ∷
-    []) } ∷ record { kind = kind.Stackful; params = 0; start = (op.Data (data_op.Load 3 3) ∷ op.Set (set_op.Wait 4 (operand.Register 3)) ∷ op.Task (task_op.Ret (operand.Register 5)) ∷
-    []); react = [] } ∷ record { kind = kind.Stackful; params = 0; start = (op.Data (data_op.Load 3 3) ∷ op.Call (call_op.CallHost 4 8 0) ∷ op.Data (data_op.Handle 5 (operand.Register 4)) ∷
-    op.Set (set_op.Join (operand.Register 5) (operand.Register 3)) ∷ op.Call (call_op.CallHost 4 8 2) ∷ op.Data (data_op.Handle 5 (operand.Register 4)) ∷
-    op.Set (set_op.Join (operand.Register 5) (operand.Register 3)) ∷ op.Task (task_op.Ret (operand.Register 5)) ∷ []); react = [] } ∷ []); slots =
-    (replicate 16 slot.Empty) } ∷ record { exports = []; slots = (replicate 16 slot.Empty) } ∷ record { exports = (record { kind = kind.Blocking;
-    params = 0; start = (op.Set (set_op.New 0) ∷ op.Call (call_op.CallHost 10 11 0) ∷ op.Data (data_op.SkipEq (operand.Register 10) (operand.Number 2) 2) ∷
-    op.Data (data_op.Handle 12 (operand.Register 10)) ∷ op.Set (set_op.Join (operand.Register 12) (operand.Register 0)) ∷ op.Call (call_op.CallHost 10 11 0) ∷
-    op.Data (data_op.SkipEq (operand.Register 10) (operand.Number 2) 2) ∷ op.Data (data_op.Handle 12 (operand.Register 10)) ∷ op.Set (set_op.Join (operand.Register 12) (operand.Register 0)) ∷
-    op.Call (call_op.CallHost 10 11 0) ∷ op.Data (data_op.SkipEq (operand.Register 10) (operand.Number 2) 2) ∷ op.Data (data_op.Handle 12 (operand.Register 10)) ∷
-    op.Set (set_op.Join (operand.Register 12) (operand.Register 0)) ∷ op.Call (call_op.CallHost 10 11 1) ∷ op.Data (data_op.SkipEq (operand.Register 10) (operand.Number 2) 2) ∷
-    op.Data (data_op.Handle 12 (operand.Register 10)) ∷ op.Set (set_op.Join (operand.Register 12) (operand.Register 0)) ∷ op.Thread thread_op.Yield ∷
-    op.Call (call_op.CallSyncHost 12 0) ∷ op.Set (set_op.Poll 10 (operand.Register 0)) ∷ op.Data (data_op.SkipEq (operand.Register 10) (operand.Number 0) 0) ∷
-    op.Set (set_op.Poll 10 (operand.Register 0)) ∷ op.Data (data_op.SkipEq (operand.Register 10) (operand.Number 0) 2) ∷ op.Data (data_op.SkipEq (operand.Register 12) (operand.Number 1) 1) ∷
-    op.Call (call_op.Drop (operand.Register 11)) ∷ op.Set (set_op.Poll 10 (operand.Register 0)) ∷ op.Data (data_op.SkipEq (operand.Register 10) (operand.Number 0) 0) ∷
-    op.Set (set_op.Poll 10 (operand.Register 0)) ∷ op.Data (data_op.SkipEq (operand.Register 10) (operand.Number 0) 0) ∷ op.Set (set_op.Poll 10 (operand.Register 0)) ∷
-    op.Data (data_op.SkipEq (operand.Register 10) (operand.Number 0) 2) ∷ op.Data (data_op.SkipEq (operand.Register 12) (operand.Number 1) 1) ∷
-    op.Call (call_op.Drop (operand.Register 11)) ∷ op.Call (call_op.CallHost 10 11 1) ∷ op.Data (data_op.SkipEq (operand.Register 10) (operand.Number 2) 2) ∷
-    op.Data (data_op.Handle 12 (operand.Register 10)) ∷ op.Set (set_op.Join (operand.Register 12) (operand.Register 0)) ∷ op.Call (call_op.CallHost 10 11 1) ∷
-    op.Data (data_op.SkipEq (operand.Register 10) (operand.Number 2) 2) ∷ op.Data (data_op.Handle 12 (operand.Register 10)) ∷ op.Set (set_op.Join (operand.Register 12) (operand.Register 0)) ∷
-    op.Call (call_op.CallHost 10 11 3) ∷ op.Data (data_op.SkipEq (operand.Register 10) (operand.Number 2) 2) ∷ op.Data (data_op.Handle 12 (operand.Register 10)) ∷
-    op.Set (set_op.Join (operand.Register 12) (operand.Register 0)) ∷ op.Call (call_op.CallHost 10 11 0) ∷ op.Data (data_op.SkipEq (operand.Register 10) (operand.Number 2) 2) ∷
-    op.Data (data_op.Handle 12 (operand.Register 10)) ∷ op.Set (set_op.Join (operand.Register 12) (operand.Register 0)) ∷ op.Set (set_op.Poll 10 (operand.Register 0)) ∷
-    op.Data (data_op.SkipEq (operand.Register 10) (operand.Number 0) 2) ∷ op.Data (data_op.SkipEq (operand.Register 12) (operand.Number 1) 1) ∷
-    op.Call (call_op.Drop (operand.Register 11)) ∷ op.Set (set_op.Poll 10 (operand.Register 0)) ∷ op.Data (data_op.SkipEq (operand.Register 10) (operand.Number 0) 2) ∷
-    op.Data (data_op.SkipEq (operand.Register 12) (operand.Number 1) 1) ∷ op.Call (call_op.Drop (operand.Register 11)) ∷ []); react = [] } ∷ record {
-    kind = kind.Callback; params = 1; start = (op.Data (data_op.Set 9 (operand.Register 0)) ∷ op.Set (set_op.New 4) ∷ op.Data (data_op.Store 0 (operand.Register 4)) ∷
-    op.Call (call_op.CallHost 6 8 0) ∷ op.Data (data_op.Handle 5 (operand.Register 6)) ∷ op.Set (set_op.Join (operand.Register 5) (operand.Register 4)) ∷
-    op.Data (data_op.Add 7 (operand.Number 1)) ∷ op.Data (data_op.SkipEq (operand.Register 7) (operand.Number 0) 1) ∷ op.Task (task_op.CbWait (operand.Register 4)) ∷
-    op.Task (task_op.Ret (operand.Register 0)) ∷ op.Task task_op.Exit ∷ []); react = (op.Data (data_op.SkipEq (operand.Register 0) (operand.Number 6) 9) ∷
-    op.Data (data_op.SkipEq (operand.Register 2) (operand.Number 2) 1) ∷ op.Task (task_op.CbWait (operand.Register 4)) ∷ op.Set (set_op.Join (operand.Register 1) (operand.Number 0)) ∷
-    op.Data (data_op.Add 7 (operand.Number 18446744073709551615)) ∷ op.Data (data_op.SkipEq (operand.Register 7) (operand.Number 0) 1) ∷ op.Task (task_op.CbWait (operand.Register 4)) ∷
-    op.Set (set_op.Drop (operand.Register 4)) ∷ op.Task (task_op.Ret (operand.Register 8)) ∷ op.Task task_op.Exit ∷ op.Task (task_op.Ret (operand.Number 1)) ∷
-    op.Task task_op.TaskCancel ∷ op.Task task_op.Exit ∷ []) } ∷ record { kind = kind.Sync; params = 0; start = (op.Data (data_op.Load 9 1) ∷ op.Data (data_op.SkipEq (operand.Register 9) (operand.Number 0) 1) ∷
-    op.Call (call_op.Drop (operand.Register 9)) ∷ op.Call (call_op.CallHost 7 4 0) ∷ op.Data (data_op.Handle 0 (operand.Register 7)) ∷ op.Set (set_op.New 2) ∷
-    op.Set (set_op.Join (operand.Register 0) (operand.Register 2)) ∷ op.Set (set_op.Wait 11 (operand.Register 2)) ∷ op.Data (data_op.SkipEq (operand.Register 13) (operand.Number 2) 2) ∷
-    op.Data (data_op.SkipEq (operand.Register 13) (operand.Number 4) 1) ∷ op.Set (set_op.Wait 11 (operand.Register 2)) ∷ op.Call (call_op.Drop (operand.Register 12)) ∷
-    op.Set (set_op.Drop (operand.Register 2)) ∷ op.Data (data_op.Set 0 (operand.Register 13)) ∷ []); react = [] } ∷ record { kind = kind.Sync; params =
-    0; start = (op.Data (data_op.Add 4 (operand.Register 13)) ∷ op.Data (data_op.Set 0 (operand.Number 85)) ∷ []); react = [] } ∷ record { kind =
-    kind.Callback; params = 0; start = (op.Call (call_op.CallHost 6 5 2) ∷ op.Data (data_op.Handle 3 (operand.Register 6)) ∷ op.Task (task_op.Code (operand.Number 1)) ∷
-    op.Task (task_op.Ret (operand.Register 6)) ∷ []); react = (op.Data (data_op.SkipEq (operand.Register 0) (operand.Number 6) 18) ∷ op.Data (data_op.SkipEq (operand.Register 7) (operand.Number 1) 12) ∷
-    op.Data (data_op.Add 4 (operand.Number 1)) ∷ op.Data (data_op.SkipEq (operand.Register 4) (operand.Number 2) 1) ∷ op.Task task_op.CbYield ∷
-    op.Call (call_op.Cancel 8 (operand.Register 3)) ∷ op.Data (data_op.SkipEq (operand.Register 8) (operand.Number 4294967295) 3) ∷ op.Call (call_op.Drop (operand.Register 3)) ∷
-    op.Task (task_op.Ret (operand.Register 8)) ∷ op.Task task_op.Exit ∷ op.Data (data_op.Set 7 (operand.Number 1)) ∷ op.Set (set_op.New 15) ∷ op.Set (set_op.Join (operand.Register 3) (operand.Register 15)) ∷
-    op.Task (task_op.CbWait (operand.Register 15)) ∷ op.Data (data_op.SkipEq (operand.Register 2) (operand.Number 2) 1) ∷ op.Data (data_op.SkipEq (operand.Register 2) (operand.Number 4) 0) ∷
-    op.Call (call_op.Drop (operand.Register 1)) ∷ op.Task (task_op.Ret (operand.Register 2)) ∷ op.Task task_op.Exit ∷ op.Task task_op.TaskCancel ∷
-    op.Task task_op.Exit ∷ []) } ∷ record { kind = kind.Blocking; params = 0; start = (op.Call (call_op.CallSyncHost 6 3) ∷ op.Call (call_op.CallSyncHost 4 3) ∷
-    op.Data (data_op.Set 0 (operand.Register 6)) ∷ []); react = [] } ∷ record { kind = kind.Callback; params = 0; start = (op.Task task_op.CbYield ∷
-    []); react = (op.Data (data_op.SkipEq (operand.Register 0) (operand.Number 6) 2) ∷ op.Task (task_op.Ret (operand.Register 7)) ∷ op.Task task_op.Exit ∷
-    op.Task (task_op.Ret (operand.Register 4)) ∷ op.Task task_op.Exit ∷ []) } ∷ record { kind = kind.Callback; params = 0; start = (op.Set (set_op.New 9) ∷
-    op.Call (call_op.CallHost 4 6 0) ∷ op.Data (data_op.Handle 3 (operand.Register 4)) ∷ op.Set (set_op.Join (operand.Register 3) (operand.Register 9)) ∷
-    op.Data (data_op.Add 8 (operand.Number 1)) ∷ op.Data (data_op.SkipEq (operand.Register 8) (operand.Number 0) 1) ∷ op.Task (task_op.CbWait (operand.Register 9)) ∷
-    op.Set (set_op.Drop (operand.Register 9)) ∷ op.Task (task_op.Ret (operand.Number 6)) ∷ op.Task task_op.Exit ∷ []); react = (op.Data (data_op.SkipEq (operand.Register 0) (operand.Number 6) 10) ∷
-    op.Data (data_op.SkipEq (operand.Register 2) (operand.Number 2) 2) ∷ op.Data (data_op.SkipEq (operand.Register 2) (operand.Number 4) 1) ∷ op.Task (task_op.CbWait (operand.Register 9)) ∷
-    op.Call (call_op.Drop (operand.Register 1)) ∷ op.Data (data_op.Add 8 (operand.Number 18446744073709551615)) ∷ op.Data (data_op.SkipEq (operand.Register 8) (operand.Number 0) 1) ∷
-    op.Task (task_op.CbWait (operand.Register 9)) ∷ op.Set (set_op.Drop (operand.Register 9)) ∷ op.Task (task_op.Ret (operand.Register 6)) ∷ op.Task task_op.Exit ∷
-    op.Set (set_op.Join (operand.Register 3) (operand.Number 0)) ∷ op.Call (call_op.CancelSync 7 (operand.Register 3)) ∷ op.Set (set_op.Join (operand.Register 3) (operand.Register 9)) ∷
-    op.Task (task_op.CbWait (operand.Register 9)) ∷ []) } ∷ record { kind = kind.Stackful; params = 0; start = (op.Call (call_op.CallSync 3 (record {
-    instance = 1; export = 1 }) []) ∷ op.Task (task_op.Ret (operand.Register 3)) ∷ []); react = [] } ∷ record { kind = kind.Stackful; params = 0;
-    start = (op.Call (call_op.Call 10 11 (record { instance = 0; export = 1 }) []) ∷ op.Data (data_op.SkipEq (operand.Register 10) (operand.Number 2) 1) ∷
-    op.Data (data_op.Handle 9 (operand.Register 10)) ∷ op.Call (call_op.Call 10 11 (record { instance = 0; export = 2 }) []) ∷ op.Data (data_op.Handle 1 (operand.Register 10)) ∷
-    op.Call (call_op.Call 10 11 (record { instance = 0; export = 3 }) []) ∷ op.Thread thread_op.Yield ∷ op.Thread thread_op.Yield ∷ op.Call (call_op.Call 10 11 (record {
-    instance = 0; export = 4 }) []) ∷ op.Call (call_op.Cancel 4 (operand.Register 9)) ∷ op.Set (set_op.New 6) ∷ op.Set (set_op.Join (operand.Register 9) (operand.Register 6)) ∷
-    op.Set (set_op.Join (operand.Register 1) (operand.Register 6)) ∷ op.Set (set_op.Poll 10 (operand.Register 6)) ∷ op.Data (data_op.SkipEq (operand.Register 10) (operand.Number 0) 1) ∷
-    op.Call (call_op.Drop (operand.Register 11)) ∷ op.Thread thread_op.Yield ∷ op.Set (set_op.Poll 10 (operand.Register 6)) ∷ op.Data (data_op.SkipEq (operand.Register 10) (operand.Number 0) 1) ∷
-    op.Call (call_op.Drop (operand.Register 11)) ∷ op.Task (task_op.Ret (operand.Register 4)) ∷ []); react = [] } ∷ []); slots = (replicate 16 slot.Empty) } ∷
-    []); hosts = (record { polls = (Some 1); value = (Some 134) } ∷ record { polls = (Some 0); value = (Some 75) } ∷ record { polls = None; value =
-    None } ∷ record { polls = (Some 0); value = (Some 78) } ∷ []) }; names = []; main = (main_op.Quiet ∷ main_op.Spawn 0 ∷ main_op.Spawn 0 ∷
-    main_op.Abort 2 ∷ main_op.Start (record { instance = 3; export = 7 }) [] ∷ main_op.Finish 1 1 ∷ main_op.Start (record { instance = 3; export = 3 }) [] ∷
-    main_op.Spawn 1 ∷ main_op.Abort 3 ∷ main_op.Abort 3 ∷ main_op.Start (record { instance = 3; export = 4 }) [] ∷ main_op.Finish 3 3 ∷ main_op.Finish 2 3 ∷
-    main_op.Start (record { instance = 3; export = 7 }) [] ∷ main_op.Start (record { instance = 3; export = 9 }) [] ∷ main_op.Finish 5 2 ∷
-    main_op.Start (record { instance = 1; export = 0 }) ((operand.Number 15) ∷ (operand.Number 14) ∷ (operand.Number 1) ∷ []) ∷ main_op.Finish 4 2 ∷
-    main_op.Start (record { instance = 3; export = 4 }) [] ∷ main_op.Finish 7 3 ∷ main_op.Await 3 ∷ main_op.Abort 3 ∷ main_op.Await 1 ∷ main_op.Abort 1 ∷
-    main_op.Await 1 ∷ main_op.Start (record { instance = 3; export = 8 }) [] ∷ main_op.Start (record { instance = 3; export = 8 }) [] ∷ main_op.Start (record {
-    instance = 1; export = 2 }) [] ∷ main_op.Start (record { instance = 1; export = 2 }) [] ∷ main_op.Finish 10 9 ∷ main_op.Finish 11 12 ∷
-    main_op.Finish 6 3 ∷ main_op.Finish 8 3 ∷ main_op.Start (record { instance = 1; export = 3 }) [] ∷ main_op.Finish 9 0 ∷ main_op.Start (record {
-    instance = 1; export = 4 }) [] ∷ main_op.Start (record { instance = 1; export = 4 }) [] ∷ main_op.Start (record { instance = 1; export = 4 }) [] ∷
-    main_op.Start (record { instance = 1; export = 6 }) [] ∷ main_op.Finish 12 0 ∷ main_op.Finish 13 0 ∷ main_op.Answer (operand.Register 2) ∷ []);
-    aborters = [] }
+generated_25 = record {
+  handles = 100000;
+  table = 1000000;
+  idle = idle_line.Trap;
+  component = record {
+    instances = (record {
+      exports = (record {
+        kind =
+            kind.Sync;
+        params = 0;
+        start = (op.Set (set_op.New 3) ∷ op.Thread (thread_op.Index 4) ∷ op.Set (set_op.Drop (operand.Register 3)) ∷ []);
+        react =
+            [];
+      } ∷ record {
+        kind = kind.Callback;
+        params = 0;
+        start = (op.Set (set_op.New 3) ∷ op.Data (data_op.Store 0 (operand.Register 3)) ∷ op.Task (task_op.CbWait (operand.Register 3)) ∷
+            []);
+        react = (op.Data (data_op.SkipEq (operand.Register 0) (operand.Number 6) 1) ∷ op.Task (task_op.Ret (operand.Register 1)) ∷ op.Task (task_op.CbWait (operand.Register 3)) ∷
+            []);
+      } ∷ record {
+        kind = kind.Stackful;
+        params = 0;
+        start = (op.Data (data_op.Load 3 0) ∷ op.Set (set_op.Wait 10 (operand.Register 3)) ∷ op.Task (task_op.Ret (operand.Register 10)) ∷
+            []);
+        react = [];
+      } ∷ record {
+        kind = kind.Stackful;
+        params = 0;
+        start = (op.Call (call_op.CallHost 4 8 0) ∷ op.Data (data_op.Handle 5 (operand.Register 4)) ∷
+            op.Data (data_op.Store 1 (operand.Register 5)) ∷ op.Task (task_op.Ret (operand.Register 5)) ∷ []);
+        react = [];
+      } ∷ record {
+        kind = kind.Sync;
+        params = 0;
+        start = (op.Data (data_op.Load 3 0) ∷ op.Data (data_op.Load 4 1) ∷ op.Set (set_op.Join (operand.Register 4) (operand.Register 3)) ∷
+            []);
+        react = [];
+      } ∷ []);
+      slots = (replicate 16 slot.Empty);
+    } ∷ record {
+      exports = (record {
+        kind = kind.Stackful;
+        params = 3;
+        start = (op.Call (call_op.CallHost 3 5 0) ∷
+            op.Data (data_op.SkipEq (operand.Register 3) (operand.Number 2) 9) ∷ op.Data (data_op.Handle 7 (operand.Register 3)) ∷ op.Set (set_op.New 6) ∷
+            op.Set (set_op.Join (operand.Register 7) (operand.Register 6)) ∷ op.Set (set_op.Wait 11 (operand.Register 6)) ∷ op.Data (data_op.SkipEq (operand.Register 13) (operand.Number 2) 2) ∷
+            op.Data (data_op.SkipEq (operand.Register 13) (operand.Number 4) 1) ∷ op.Set (set_op.Wait 11 (operand.Register 6)) ∷ op.Call (call_op.Drop (operand.Register 12)) ∷
+            op.Set (set_op.Drop (operand.Register 6)) ∷ op.Task (task_op.Ret (operand.Register 2)) ∷ []);
+        react = [];
+      } ∷ record {
+        kind = kind.Sync;
+        params =
+            0;
+        start = (op.Set (set_op.New 3) ∷ []);
+        react = [];
+      } ∷ record {
+        kind = kind.Stackful;
+        params = 0;
+        start = (op.Call (call_op.CallSync 3 (record {
+          instance = 0;
+          export = 0;
+        }) []) ∷ op.Call (call_op.CallSync 3 (record { instance = 0; export = 0 }) []) ∷ op.Task (task_op.Ret (operand.Register 3)) ∷
+            []);
+        react = [];
+      } ∷ record {
+        kind = kind.Callback;
+        params = 0;
+        start = (op.Set (set_op.New 3) ∷ op.Data (data_op.Store 3 (operand.Register 3)) ∷
+            op.Task (task_op.CbWait (operand.Register 3)) ∷ []);
+        react = (op.Task (task_op.Ret (operand.Register 1)) ∷ []);
+      } ∷ record {
+        kind = kind.Callback;
+        params = 0;
+        start = (op.Data (data_op.Load 3 3) ∷ op.Task (task_op.CbWait (operand.Register 3)) ∷ []);
+        react = (op.Task (task_op.Ret (operand.Register 1)) ∷
+            []);
+      } ∷ record {
+        kind = kind.Stackful;
+        params = 0;
+        start = (op.Data (data_op.Load 3 3) ∷ op.Set (set_op.Wait 4 (operand.Register 3)) ∷ op.Task (task_op.Ret (operand.Register 5)) ∷
+            []);
+        react = [];
+      } ∷ record {
+        kind = kind.Stackful;
+        params = 0;
+        start = (op.Data (data_op.Load 3 3) ∷ op.Call (call_op.CallHost 4 8 0) ∷ op.Data (data_op.Handle 5 (operand.Register 4)) ∷
+            op.Set (set_op.Join (operand.Register 5) (operand.Register 3)) ∷ op.Call (call_op.CallHost 4 8 2) ∷ op.Data (data_op.Handle 5 (operand.Register 4)) ∷
+            op.Set (set_op.Join (operand.Register 5) (operand.Register 3)) ∷ op.Task (task_op.Ret (operand.Register 5)) ∷ []);
+        react = [];
+      } ∷ []);
+      slots =
+          (replicate 16 slot.Empty);
+    } ∷ record { exports = []; slots = (replicate 16 slot.Empty) } ∷ record {
+      exports = (record {
+        kind = kind.Blocking;
+        params = 0;
+        start = (op.Set (set_op.New 0) ∷ op.Call (call_op.CallHost 10 11 0) ∷ op.Data (data_op.SkipEq (operand.Register 10) (operand.Number 2) 2) ∷
+            op.Data (data_op.Handle 12 (operand.Register 10)) ∷ op.Set (set_op.Join (operand.Register 12) (operand.Register 0)) ∷ op.Call (call_op.CallHost 10 11 0) ∷
+            op.Data (data_op.SkipEq (operand.Register 10) (operand.Number 2) 2) ∷ op.Data (data_op.Handle 12 (operand.Register 10)) ∷ op.Set (set_op.Join (operand.Register 12) (operand.Register 0)) ∷
+            op.Call (call_op.CallHost 10 11 0) ∷ op.Data (data_op.SkipEq (operand.Register 10) (operand.Number 2) 2) ∷ op.Data (data_op.Handle 12 (operand.Register 10)) ∷
+            op.Set (set_op.Join (operand.Register 12) (operand.Register 0)) ∷ op.Call (call_op.CallHost 10 11 1) ∷ op.Data (data_op.SkipEq (operand.Register 10) (operand.Number 2) 2) ∷
+            op.Data (data_op.Handle 12 (operand.Register 10)) ∷ op.Set (set_op.Join (operand.Register 12) (operand.Register 0)) ∷ op.Thread thread_op.Yield ∷
+            op.Call (call_op.CallSyncHost 12 0) ∷ op.Set (set_op.Poll 10 (operand.Register 0)) ∷ op.Data (data_op.SkipEq (operand.Register 10) (operand.Number 0) 0) ∷
+            op.Set (set_op.Poll 10 (operand.Register 0)) ∷ op.Data (data_op.SkipEq (operand.Register 10) (operand.Number 0) 2) ∷ op.Data (data_op.SkipEq (operand.Register 12) (operand.Number 1) 1) ∷
+            op.Call (call_op.Drop (operand.Register 11)) ∷ op.Set (set_op.Poll 10 (operand.Register 0)) ∷ op.Data (data_op.SkipEq (operand.Register 10) (operand.Number 0) 0) ∷
+            op.Set (set_op.Poll 10 (operand.Register 0)) ∷ op.Data (data_op.SkipEq (operand.Register 10) (operand.Number 0) 0) ∷ op.Set (set_op.Poll 10 (operand.Register 0)) ∷
+            op.Data (data_op.SkipEq (operand.Register 10) (operand.Number 0) 2) ∷ op.Data (data_op.SkipEq (operand.Register 12) (operand.Number 1) 1) ∷
+            op.Call (call_op.Drop (operand.Register 11)) ∷ op.Call (call_op.CallHost 10 11 1) ∷ op.Data (data_op.SkipEq (operand.Register 10) (operand.Number 2) 2) ∷
+            op.Data (data_op.Handle 12 (operand.Register 10)) ∷ op.Set (set_op.Join (operand.Register 12) (operand.Register 0)) ∷ op.Call (call_op.CallHost 10 11 1) ∷
+            op.Data (data_op.SkipEq (operand.Register 10) (operand.Number 2) 2) ∷ op.Data (data_op.Handle 12 (operand.Register 10)) ∷ op.Set (set_op.Join (operand.Register 12) (operand.Register 0)) ∷
+            op.Call (call_op.CallHost 10 11 3) ∷ op.Data (data_op.SkipEq (operand.Register 10) (operand.Number 2) 2) ∷ op.Data (data_op.Handle 12 (operand.Register 10)) ∷
+            op.Set (set_op.Join (operand.Register 12) (operand.Register 0)) ∷ op.Call (call_op.CallHost 10 11 0) ∷ op.Data (data_op.SkipEq (operand.Register 10) (operand.Number 2) 2) ∷
+            op.Data (data_op.Handle 12 (operand.Register 10)) ∷ op.Set (set_op.Join (operand.Register 12) (operand.Register 0)) ∷ op.Set (set_op.Poll 10 (operand.Register 0)) ∷
+            op.Data (data_op.SkipEq (operand.Register 10) (operand.Number 0) 2) ∷ op.Data (data_op.SkipEq (operand.Register 12) (operand.Number 1) 1) ∷
+            op.Call (call_op.Drop (operand.Register 11)) ∷ op.Set (set_op.Poll 10 (operand.Register 0)) ∷ op.Data (data_op.SkipEq (operand.Register 10) (operand.Number 0) 2) ∷
+            op.Data (data_op.SkipEq (operand.Register 12) (operand.Number 1) 1) ∷ op.Call (call_op.Drop (operand.Register 11)) ∷ []);
+        react = [];
+      } ∷ record {
+        kind = kind.Callback;
+        params = 1;
+        start = (op.Data (data_op.Set 9 (operand.Register 0)) ∷ op.Set (set_op.New 4) ∷ op.Data (data_op.Store 0 (operand.Register 4)) ∷
+            op.Call (call_op.CallHost 6 8 0) ∷ op.Data (data_op.Handle 5 (operand.Register 6)) ∷ op.Set (set_op.Join (operand.Register 5) (operand.Register 4)) ∷
+            op.Data (data_op.Add 7 (operand.Number 1)) ∷ op.Data (data_op.SkipEq (operand.Register 7) (operand.Number 0) 1) ∷ op.Task (task_op.CbWait (operand.Register 4)) ∷
+            op.Task (task_op.Ret (operand.Register 0)) ∷ op.Task task_op.Exit ∷ []);
+        react = (op.Data (data_op.SkipEq (operand.Register 0) (operand.Number 6) 9) ∷
+            op.Data (data_op.SkipEq (operand.Register 2) (operand.Number 2) 1) ∷ op.Task (task_op.CbWait (operand.Register 4)) ∷ op.Set (set_op.Join (operand.Register 1) (operand.Number 0)) ∷
+            op.Data (data_op.Add 7 (operand.Number 18446744073709551615)) ∷ op.Data (data_op.SkipEq (operand.Register 7) (operand.Number 0) 1) ∷ op.Task (task_op.CbWait (operand.Register 4)) ∷
+            op.Set (set_op.Drop (operand.Register 4)) ∷ op.Task (task_op.Ret (operand.Register 8)) ∷ op.Task task_op.Exit ∷ op.Task (task_op.Ret (operand.Number 1)) ∷
+            op.Task task_op.TaskCancel ∷ op.Task task_op.Exit ∷ []);
+      } ∷ record {
+        kind = kind.Sync;
+        params = 0;
+        start = (op.Data (data_op.Load 9 1) ∷ op.Data (data_op.SkipEq (operand.Register 9) (operand.Number 0) 1) ∷
+            op.Call (call_op.Drop (operand.Register 9)) ∷ op.Call (call_op.CallHost 7 4 0) ∷ op.Data (data_op.Handle 0 (operand.Register 7)) ∷ op.Set (set_op.New 2) ∷
+            op.Set (set_op.Join (operand.Register 0) (operand.Register 2)) ∷ op.Set (set_op.Wait 11 (operand.Register 2)) ∷ op.Data (data_op.SkipEq (operand.Register 13) (operand.Number 2) 2) ∷
+            op.Data (data_op.SkipEq (operand.Register 13) (operand.Number 4) 1) ∷ op.Set (set_op.Wait 11 (operand.Register 2)) ∷ op.Call (call_op.Drop (operand.Register 12)) ∷
+            op.Set (set_op.Drop (operand.Register 2)) ∷ op.Data (data_op.Set 0 (operand.Register 13)) ∷ []);
+        react = [];
+      } ∷ record {
+        kind = kind.Sync;
+        params =
+            0;
+        start = (op.Data (data_op.Add 4 (operand.Register 13)) ∷ op.Data (data_op.Set 0 (operand.Number 85)) ∷ []);
+        react = [];
+      } ∷ record {
+        kind =
+            kind.Callback;
+        params = 0;
+        start = (op.Call (call_op.CallHost 6 5 2) ∷ op.Data (data_op.Handle 3 (operand.Register 6)) ∷ op.Task (task_op.Code (operand.Number 1)) ∷
+            op.Task (task_op.Ret (operand.Register 6)) ∷ []);
+        react = (op.Data (data_op.SkipEq (operand.Register 0) (operand.Number 6) 18) ∷ op.Data (data_op.SkipEq (operand.Register 7) (operand.Number 1) 12) ∷
+            op.Data (data_op.Add 4 (operand.Number 1)) ∷ op.Data (data_op.SkipEq (operand.Register 4) (operand.Number 2) 1) ∷ op.Task task_op.CbYield ∷
+            op.Call (call_op.Cancel 8 (operand.Register 3)) ∷ op.Data (data_op.SkipEq (operand.Register 8) (operand.Number 4294967295) 3) ∷ op.Call (call_op.Drop (operand.Register 3)) ∷
+            op.Task (task_op.Ret (operand.Register 8)) ∷ op.Task task_op.Exit ∷ op.Data (data_op.Set 7 (operand.Number 1)) ∷ op.Set (set_op.New 15) ∷ op.Set (set_op.Join (operand.Register 3) (operand.Register 15)) ∷
+            op.Task (task_op.CbWait (operand.Register 15)) ∷ op.Data (data_op.SkipEq (operand.Register 2) (operand.Number 2) 1) ∷ op.Data (data_op.SkipEq (operand.Register 2) (operand.Number 4) 0) ∷
+            op.Call (call_op.Drop (operand.Register 1)) ∷ op.Task (task_op.Ret (operand.Register 2)) ∷ op.Task task_op.Exit ∷ op.Task task_op.TaskCancel ∷
+            op.Task task_op.Exit ∷ []);
+      } ∷ record {
+        kind = kind.Blocking;
+        params = 0;
+        start = (op.Call (call_op.CallSyncHost 6 3) ∷ op.Call (call_op.CallSyncHost 4 3) ∷
+            op.Data (data_op.Set 0 (operand.Register 6)) ∷ []);
+        react = [];
+      } ∷ record {
+        kind = kind.Callback;
+        params = 0;
+        start = (op.Task task_op.CbYield ∷
+            []);
+        react = (op.Data (data_op.SkipEq (operand.Register 0) (operand.Number 6) 2) ∷ op.Task (task_op.Ret (operand.Register 7)) ∷ op.Task task_op.Exit ∷
+            op.Task (task_op.Ret (operand.Register 4)) ∷ op.Task task_op.Exit ∷ []);
+      } ∷ record {
+        kind = kind.Callback;
+        params = 0;
+        start = (op.Set (set_op.New 9) ∷
+            op.Call (call_op.CallHost 4 6 0) ∷ op.Data (data_op.Handle 3 (operand.Register 4)) ∷ op.Set (set_op.Join (operand.Register 3) (operand.Register 9)) ∷
+            op.Data (data_op.Add 8 (operand.Number 1)) ∷ op.Data (data_op.SkipEq (operand.Register 8) (operand.Number 0) 1) ∷ op.Task (task_op.CbWait (operand.Register 9)) ∷
+            op.Set (set_op.Drop (operand.Register 9)) ∷ op.Task (task_op.Ret (operand.Number 6)) ∷ op.Task task_op.Exit ∷ []);
+        react = (op.Data (data_op.SkipEq (operand.Register 0) (operand.Number 6) 10) ∷
+            op.Data (data_op.SkipEq (operand.Register 2) (operand.Number 2) 2) ∷ op.Data (data_op.SkipEq (operand.Register 2) (operand.Number 4) 1) ∷ op.Task (task_op.CbWait (operand.Register 9)) ∷
+            op.Call (call_op.Drop (operand.Register 1)) ∷ op.Data (data_op.Add 8 (operand.Number 18446744073709551615)) ∷ op.Data (data_op.SkipEq (operand.Register 8) (operand.Number 0) 1) ∷
+            op.Task (task_op.CbWait (operand.Register 9)) ∷ op.Set (set_op.Drop (operand.Register 9)) ∷ op.Task (task_op.Ret (operand.Register 6)) ∷ op.Task task_op.Exit ∷
+            op.Set (set_op.Join (operand.Register 3) (operand.Number 0)) ∷ op.Call (call_op.CancelSync 7 (operand.Register 3)) ∷ op.Set (set_op.Join (operand.Register 3) (operand.Register 9)) ∷
+            op.Task (task_op.CbWait (operand.Register 9)) ∷ []);
+      } ∷ record {
+        kind = kind.Stackful;
+        params = 0;
+        start = (op.Call (call_op.CallSync 3 (record {
+          instance = 1;
+          export = 1;
+        }) []) ∷ op.Task (task_op.Ret (operand.Register 3)) ∷ []);
+        react = [];
+      } ∷ record {
+        kind = kind.Stackful;
+        params = 0;
+        start = (op.Call (call_op.Call 10 11 (record { instance = 0; export = 1 }) []) ∷ op.Data (data_op.SkipEq (operand.Register 10) (operand.Number 2) 1) ∷
+            op.Data (data_op.Handle 9 (operand.Register 10)) ∷ op.Call (call_op.Call 10 11 (record { instance = 0; export = 2 }) []) ∷ op.Data (data_op.Handle 1 (operand.Register 10)) ∷
+            op.Call (call_op.Call 10 11 (record { instance = 0; export = 3 }) []) ∷ op.Thread thread_op.Yield ∷ op.Thread thread_op.Yield ∷ op.Call (call_op.Call 10 11 (record {
+              instance = 0;
+              export = 4;
+            }) []) ∷ op.Call (call_op.Cancel 4 (operand.Register 9)) ∷ op.Set (set_op.New 6) ∷ op.Set (set_op.Join (operand.Register 9) (operand.Register 6)) ∷
+            op.Set (set_op.Join (operand.Register 1) (operand.Register 6)) ∷ op.Set (set_op.Poll 10 (operand.Register 6)) ∷ op.Data (data_op.SkipEq (operand.Register 10) (operand.Number 0) 1) ∷
+            op.Call (call_op.Drop (operand.Register 11)) ∷ op.Thread thread_op.Yield ∷ op.Set (set_op.Poll 10 (operand.Register 6)) ∷ op.Data (data_op.SkipEq (operand.Register 10) (operand.Number 0) 1) ∷
+            op.Call (call_op.Drop (operand.Register 11)) ∷ op.Task (task_op.Ret (operand.Register 4)) ∷ []);
+        react = [];
+      } ∷ []);
+      slots = (replicate 16 slot.Empty);
+    } ∷
+        []);
+    hosts = (record { polls = (Some 1); value = (Some 134) } ∷ record { polls = (Some 0); value = (Some 75) } ∷ record {
+      polls = None;
+      value =
+          None;
+    } ∷ record { polls = (Some 0); value = (Some 78) } ∷ []);
+  };
+  names = [];
+  main = (main_op.Quiet ∷ main_op.Spawn 0 ∷ main_op.Spawn 0 ∷
+      main_op.Abort 2 ∷ main_op.Start (record { instance = 3; export = 7 }) [] ∷ main_op.Finish 1 1 ∷ main_op.Start (record { instance = 3; export = 3 }) [] ∷
+      main_op.Spawn 1 ∷ main_op.Abort 3 ∷ main_op.Abort 3 ∷ main_op.Start (record { instance = 3; export = 4 }) [] ∷ main_op.Finish 3 3 ∷ main_op.Finish 2 3 ∷
+      main_op.Start (record { instance = 3; export = 7 }) [] ∷ main_op.Start (record { instance = 3; export = 9 }) [] ∷ main_op.Finish 5 2 ∷
+      main_op.Start (record { instance = 1; export = 0 }) ((operand.Number 15) ∷ (operand.Number 14) ∷ (operand.Number 1) ∷ []) ∷ main_op.Finish 4 2 ∷
+      main_op.Start (record { instance = 3; export = 4 }) [] ∷ main_op.Finish 7 3 ∷ main_op.Await 3 ∷ main_op.Abort 3 ∷ main_op.Await 1 ∷ main_op.Abort 1 ∷
+      main_op.Await 1 ∷ main_op.Start (record { instance = 3; export = 8 }) [] ∷ main_op.Start (record { instance = 3; export = 8 }) [] ∷ main_op.Start (record {
+        instance = 1;
+        export = 2;
+      }) [] ∷ main_op.Start (record { instance = 1; export = 2 }) [] ∷ main_op.Finish 10 9 ∷ main_op.Finish 11 12 ∷
+      main_op.Finish 6 3 ∷ main_op.Finish 8 3 ∷ main_op.Start (record { instance = 1; export = 3 }) [] ∷ main_op.Finish 9 0 ∷ main_op.Start (record {
+        instance = 1;
+        export = 4;
+      }) [] ∷ main_op.Start (record { instance = 1; export = 4 }) [] ∷ main_op.Start (record { instance = 1; export = 4 }) [] ∷
+      main_op.Start (record { instance = 1; export = 6 }) [] ∷ main_op.Finish 12 0 ∷ main_op.Finish 13 0 ∷ main_op.Answer (operand.Register 2) ∷ []);
+  aborters = [];
+}
 
 abbrev pub generated_25_labels : List Label
 generated_25_labels = label.Main main_label.Quiet ∷ label.Main (main_label.Spawn 1 1) ∷ label.Main (main_label.Spawn 2 2) ∷ label.Main (main_label.Abort phase.Running 2) ∷

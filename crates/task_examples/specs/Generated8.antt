@@ -29,55 +29,149 @@ use Rattle.task_rules.specs.Texts.{polls}
 
 -- b: edge, h, thread; feed: p, react, work, export, feed, give, z_, wb_bx_b, g, log
 abbrev pub generated_26 : Scenario
-generated_26 = record { handles = 100000; table = 1000000; idle = idle_line.Wait; component = record { instances = (record { exports = (record { kind =
-    kind.Stackful; params = 0; start = (op.Task task_op.BpInc ∷ op.Task (task_op.Ret (operand.Number 0)) ∷ []); react = [] } ∷ record { kind =
-    kind.Sync; params = 0; start = (op.Task task_op.BpDec ∷ []); react = [] } ∷ record { kind = kind.Callback; params = 1; start = (op.Data (data_op.Set 9 (operand.Register 0)) ∷
-    op.Thread thread_op.Yield ∷ op.Thread thread_op.Yield ∷ op.Data (data_op.Add 0 (operand.Number 7)) ∷ op.Data (data_op.Add 2 (operand.Register 0)) ∷
-    op.Task task_op.CbYield ∷ []); react = (op.Data (data_op.SkipEq (operand.Register 0) (operand.Number 6) 3) ∷ op.Data (data_op.Load 7 0) ∷ op.Task (task_op.Ret (operand.Number 194)) ∷
-    op.Task task_op.Exit ∷ op.Task task_op.TaskCancel ∷ op.Task task_op.Exit ∷ []) } ∷ []); slots = (replicate 16 slot.Empty) } ∷ record { exports =
-    (record { kind = kind.Blocking; params = 0; start = (op.Call (call_op.Call 8 3 (record { instance = 0; export = 2 }) ((operand.Number 14) ∷ [])) ∷
-    op.Data (data_op.SkipEq (operand.Register 8) (operand.Number 2) 14) ∷ op.Data (data_op.Handle 7 (operand.Register 8)) ∷ op.Thread thread_op.Yield ∷
-    op.Call (call_op.Cancel 1 (operand.Register 7)) ∷ op.Data (data_op.SkipEq (operand.Register 1) (operand.Number 4294967295) 2) ∷ op.Call (call_op.Drop (operand.Register 7)) ∷
-    op.Data (data_op.SkipEq (operand.Number 0) (operand.Number 0) 8) ∷ op.Set (set_op.New 5) ∷ op.Set (set_op.Join (operand.Register 7) (operand.Register 5)) ∷
-    op.Set (set_op.Wait 10 (operand.Register 5)) ∷ op.Data (data_op.SkipEq (operand.Register 12) (operand.Number 2) 2) ∷ op.Data (data_op.SkipEq (operand.Register 12) (operand.Number 4) 1) ∷
-    op.Set (set_op.Wait 10 (operand.Register 5)) ∷ op.Set (set_op.Join (operand.Register 11) (operand.Number 0)) ∷ op.Set (set_op.Drop (operand.Register 5)) ∷
-    op.Call (call_op.CallHost 6 0 1) ∷ op.Data (data_op.Handle 2 (operand.Register 6)) ∷ op.Set (set_op.New 4) ∷ op.Set (set_op.Join (operand.Register 2) (operand.Register 4)) ∷
-    op.Set (set_op.Wait 10 (operand.Register 4)) ∷ op.Data (data_op.SkipEq (operand.Register 12) (operand.Number 2) 1) ∷ op.Set (set_op.Wait 10 (operand.Register 4)) ∷
-    op.Call (call_op.Drop (operand.Register 11)) ∷ op.Set (set_op.Drop (operand.Register 4)) ∷ op.Data (data_op.Set 0 (operand.Number 65536)) ∷ []);
-    react = [] } ∷ record { kind = kind.Stackful; params = 0; start = (op.Call (call_op.Call 8 2 (record { instance = 0; export = 2 }) ((operand.Number 38) ∷
-    [])) ∷ op.Data (data_op.SkipEq (operand.Register 8) (operand.Number 2) 14) ∷ op.Data (data_op.Handle 4 (operand.Register 8)) ∷ op.Call (call_op.CallSyncHost 7 1) ∷
-    op.Call (call_op.Cancel 3 (operand.Register 4)) ∷ op.Data (data_op.SkipEq (operand.Register 3) (operand.Number 4294967295) 2) ∷ op.Call (call_op.Drop (operand.Register 4)) ∷
-    op.Data (data_op.SkipEq (operand.Number 0) (operand.Number 0) 8) ∷ op.Set (set_op.New 0) ∷ op.Set (set_op.Join (operand.Register 4) (operand.Register 0)) ∷
-    op.Set (set_op.Wait 13 (operand.Register 0)) ∷ op.Data (data_op.SkipEq (operand.Register 15) (operand.Number 2) 2) ∷ op.Data (data_op.SkipEq (operand.Register 15) (operand.Number 4) 1) ∷
-    op.Set (set_op.Wait 13 (operand.Register 0)) ∷ op.Call (call_op.Drop (operand.Register 4)) ∷ op.Set (set_op.Drop (operand.Register 0)) ∷ op.Task (task_op.Ret (operand.Register 7)) ∷
-    op.Data (data_op.Set 6 (operand.Register 14)) ∷ []); react = [] } ∷ record { kind = kind.Callback; params = 0; start = (op.Call (call_op.Call 8 5 (record {
-    instance = 0; export = 2 }) ((operand.Number 1) ∷ [])) ∷ op.Data (data_op.SkipEq (operand.Register 8) (operand.Number 2) 13) ∷ op.Data (data_op.Handle 7 (operand.Register 8)) ∷
-    op.Call (call_op.Cancel 3 (operand.Register 7)) ∷ op.Data (data_op.SkipEq (operand.Register 3) (operand.Number 4294967295) 2) ∷ op.Call (call_op.Drop (operand.Register 7)) ∷
-    op.Data (data_op.SkipEq (operand.Number 0) (operand.Number 0) 8) ∷ op.Set (set_op.New 9) ∷ op.Set (set_op.Join (operand.Register 7) (operand.Register 9)) ∷
-    op.Set (set_op.Wait 13 (operand.Register 9)) ∷ op.Data (data_op.SkipEq (operand.Register 15) (operand.Number 2) 2) ∷ op.Data (data_op.SkipEq (operand.Register 15) (operand.Number 4) 1) ∷
-    op.Set (set_op.Wait 13 (operand.Register 9)) ∷ op.Call (call_op.Drop (operand.Register 7)) ∷ op.Set (set_op.Drop (operand.Register 9)) ∷ op.Task (task_op.Ret (operand.Number 9)) ∷
-    []); react = [] } ∷ record { kind = kind.Callback; params = 0; start = (op.Set (set_op.New 3) ∷ op.Data (data_op.Store 14 (operand.Register 3)) ∷
-    op.Task (task_op.CbWait (operand.Register 3)) ∷ []); react = (op.Task (task_op.Ret (operand.Register 2)) ∷ []) } ∷ record { kind = kind.Callback;
-    params = 0; start = (op.Call (call_op.CallHost 4 8 1) ∷ op.Data (data_op.Handle 5 (operand.Register 4)) ∷ op.Data (data_op.Store 15 (operand.Register 5)) ∷
-    op.Task (task_op.Ret (operand.Register 5)) ∷ []); react = [] } ∷ record { kind = kind.Stackful; params = 0; start = (op.Call (call_op.CallSyncHost 3 1) ∷
-    op.Call (call_op.CallSyncHost 3 1) ∷ op.Task (task_op.Ret (operand.Register 3)) ∷ []); react = [] } ∷ record { kind = kind.Stackful; params = 0;
-    start = (op.Call (call_op.CallHost 4 8 1) ∷ op.Data (data_op.Handle 5 (operand.Register 4)) ∷ op.Data (data_op.Store 7 (operand.Register 5)) ∷
-    op.Task (task_op.Ret (operand.Register 5)) ∷ []); react = [] } ∷ record { kind = kind.Blocking; params = 0; start = (op.Data (data_op.Load 3 14) ∷
-    op.Data (data_op.Load 4 15) ∷ op.Set (set_op.Join (operand.Register 4) (operand.Register 3)) ∷ op.Data (data_op.Load 6 7) ∷ op.Set (set_op.Join (operand.Register 6) (operand.Register 3)) ∷
-    op.Thread thread_op.Yield ∷ op.Data (data_op.Set 0 (operand.Register 12)) ∷ []); react = [] } ∷ record { kind = kind.Callback; params = 0; start =
-    (op.Data (data_op.Load 3 14) ∷ op.Task (task_op.CbWait (operand.Register 3)) ∷ []); react = (op.Task (task_op.Ret (operand.Register 2)) ∷ []) } ∷
-    record { kind = kind.Stackful; params = 0; start = (op.Call (call_op.CallHost 4 8 1) ∷ op.Data (data_op.Handle 5 (operand.Register 4)) ∷ op.Data (data_op.Load 3 14) ∷
-    op.Set (set_op.Join (operand.Register 5) (operand.Register 3)) ∷ op.Task (task_op.Ret (operand.Register 5)) ∷ []); react = [] } ∷ []); slots =
-    (replicate 16 slot.Empty) } ∷ []); hosts = (record { polls = (Some 2); value = (Some 207) } ∷ record { polls = (Some 5); value = (Some 15) } ∷
-    record { polls = (Some 1); value = (Some 34) } ∷ []) }; names = []; main = (main_op.Start (record { instance = 0; export = 0 }) [] ∷
-    main_op.Finish 1 1 ∷ main_op.Start (record { instance = 1; export = 0 }) [] ∷ main_op.Start (record { instance = 1; export = 1 }) [] ∷
-    main_op.Start (record { instance = 1; export = 1 }) [] ∷ main_op.Start (record { instance = 1; export = 2 }) [] ∷ main_op.Start (record { instance =
-    0; export = 1 }) [] ∷ main_op.Finish 6 2 ∷ main_op.Ready (record { instance = 0; export = 2 }) ∷ main_op.Finish 2 15 ∷ main_op.Finish 3 2 ∷
-    main_op.Finish 4 2 ∷ main_op.Finish 5 2 ∷ main_op.Start (record { instance = 1; export = 3 }) [] ∷ main_op.Start (record { instance = 1; export =
-    8 }) [] ∷ main_op.Start (record { instance = 1; export = 8 }) [] ∷ main_op.Start (record { instance = 1; export = 8 }) [] ∷ main_op.Start (record {
-    instance = 1; export = 6 }) [] ∷ main_op.Start (record { instance = 1; export = 4 }) [] ∷ main_op.Finish 12 0 ∷ main_op.Start (record { instance =
-    1; export = 5 }) [] ∷ main_op.Finish 13 1 ∷ main_op.Start (record { instance = 1; export = 7 }) [] ∷ main_op.Finish 14 2 ∷ main_op.Start (record {
-    instance = 1; export = 9 }) [] ∷ main_op.Finish 15 3 ∷ main_op.Finish 7 3 ∷ main_op.Answer (operand.Register 0) ∷ []); aborters = [] }
+generated_26 = record {
+  handles = 100000;
+  table = 1000000;
+  idle = idle_line.Wait;
+  component = record {
+    instances = (record {
+      exports = (record {
+        kind =
+            kind.Stackful;
+        params = 0;
+        start = (op.Task task_op.BpInc ∷ op.Task (task_op.Ret (operand.Number 0)) ∷ []);
+        react = [];
+      } ∷ record {
+        kind =
+            kind.Sync;
+        params = 0;
+        start = (op.Task task_op.BpDec ∷ []);
+        react = [];
+      } ∷ record {
+        kind = kind.Callback;
+        params = 1;
+        start = (op.Data (data_op.Set 9 (operand.Register 0)) ∷
+            op.Thread thread_op.Yield ∷ op.Thread thread_op.Yield ∷ op.Data (data_op.Add 0 (operand.Number 7)) ∷ op.Data (data_op.Add 2 (operand.Register 0)) ∷
+            op.Task task_op.CbYield ∷ []);
+        react = (op.Data (data_op.SkipEq (operand.Register 0) (operand.Number 6) 3) ∷ op.Data (data_op.Load 7 0) ∷ op.Task (task_op.Ret (operand.Number 194)) ∷
+            op.Task task_op.Exit ∷ op.Task task_op.TaskCancel ∷ op.Task task_op.Exit ∷ []);
+      } ∷ []);
+      slots = (replicate 16 slot.Empty);
+    } ∷ record {
+      exports =
+          (record {
+            kind = kind.Blocking;
+            params = 0;
+            start = (op.Call (call_op.Call 8 3 (record { instance = 0; export = 2 }) ((operand.Number 14) ∷ [])) ∷
+                op.Data (data_op.SkipEq (operand.Register 8) (operand.Number 2) 14) ∷ op.Data (data_op.Handle 7 (operand.Register 8)) ∷ op.Thread thread_op.Yield ∷
+                op.Call (call_op.Cancel 1 (operand.Register 7)) ∷ op.Data (data_op.SkipEq (operand.Register 1) (operand.Number 4294967295) 2) ∷ op.Call (call_op.Drop (operand.Register 7)) ∷
+                op.Data (data_op.SkipEq (operand.Number 0) (operand.Number 0) 8) ∷ op.Set (set_op.New 5) ∷ op.Set (set_op.Join (operand.Register 7) (operand.Register 5)) ∷
+                op.Set (set_op.Wait 10 (operand.Register 5)) ∷ op.Data (data_op.SkipEq (operand.Register 12) (operand.Number 2) 2) ∷ op.Data (data_op.SkipEq (operand.Register 12) (operand.Number 4) 1) ∷
+                op.Set (set_op.Wait 10 (operand.Register 5)) ∷ op.Set (set_op.Join (operand.Register 11) (operand.Number 0)) ∷ op.Set (set_op.Drop (operand.Register 5)) ∷
+                op.Call (call_op.CallHost 6 0 1) ∷ op.Data (data_op.Handle 2 (operand.Register 6)) ∷ op.Set (set_op.New 4) ∷ op.Set (set_op.Join (operand.Register 2) (operand.Register 4)) ∷
+                op.Set (set_op.Wait 10 (operand.Register 4)) ∷ op.Data (data_op.SkipEq (operand.Register 12) (operand.Number 2) 1) ∷ op.Set (set_op.Wait 10 (operand.Register 4)) ∷
+                op.Call (call_op.Drop (operand.Register 11)) ∷ op.Set (set_op.Drop (operand.Register 4)) ∷ op.Data (data_op.Set 0 (operand.Number 65536)) ∷ []);
+            react = [];
+          } ∷ record {
+            kind = kind.Stackful;
+            params = 0;
+            start = (op.Call (call_op.Call 8 2 (record { instance = 0; export = 2 }) ((operand.Number 38) ∷
+                [])) ∷ op.Data (data_op.SkipEq (operand.Register 8) (operand.Number 2) 14) ∷ op.Data (data_op.Handle 4 (operand.Register 8)) ∷ op.Call (call_op.CallSyncHost 7 1) ∷
+                op.Call (call_op.Cancel 3 (operand.Register 4)) ∷ op.Data (data_op.SkipEq (operand.Register 3) (operand.Number 4294967295) 2) ∷ op.Call (call_op.Drop (operand.Register 4)) ∷
+                op.Data (data_op.SkipEq (operand.Number 0) (operand.Number 0) 8) ∷ op.Set (set_op.New 0) ∷ op.Set (set_op.Join (operand.Register 4) (operand.Register 0)) ∷
+                op.Set (set_op.Wait 13 (operand.Register 0)) ∷ op.Data (data_op.SkipEq (operand.Register 15) (operand.Number 2) 2) ∷ op.Data (data_op.SkipEq (operand.Register 15) (operand.Number 4) 1) ∷
+                op.Set (set_op.Wait 13 (operand.Register 0)) ∷ op.Call (call_op.Drop (operand.Register 4)) ∷ op.Set (set_op.Drop (operand.Register 0)) ∷ op.Task (task_op.Ret (operand.Register 7)) ∷
+                op.Data (data_op.Set 6 (operand.Register 14)) ∷ []);
+            react = [];
+          } ∷ record {
+            kind = kind.Callback;
+            params = 0;
+            start = (op.Call (call_op.Call 8 5 (record {
+              instance = 0;
+              export = 2;
+            }) ((operand.Number 1) ∷ [])) ∷ op.Data (data_op.SkipEq (operand.Register 8) (operand.Number 2) 13) ∷ op.Data (data_op.Handle 7 (operand.Register 8)) ∷
+                op.Call (call_op.Cancel 3 (operand.Register 7)) ∷ op.Data (data_op.SkipEq (operand.Register 3) (operand.Number 4294967295) 2) ∷ op.Call (call_op.Drop (operand.Register 7)) ∷
+                op.Data (data_op.SkipEq (operand.Number 0) (operand.Number 0) 8) ∷ op.Set (set_op.New 9) ∷ op.Set (set_op.Join (operand.Register 7) (operand.Register 9)) ∷
+                op.Set (set_op.Wait 13 (operand.Register 9)) ∷ op.Data (data_op.SkipEq (operand.Register 15) (operand.Number 2) 2) ∷ op.Data (data_op.SkipEq (operand.Register 15) (operand.Number 4) 1) ∷
+                op.Set (set_op.Wait 13 (operand.Register 9)) ∷ op.Call (call_op.Drop (operand.Register 7)) ∷ op.Set (set_op.Drop (operand.Register 9)) ∷ op.Task (task_op.Ret (operand.Number 9)) ∷
+                []);
+            react = [];
+          } ∷ record {
+            kind = kind.Callback;
+            params = 0;
+            start = (op.Set (set_op.New 3) ∷ op.Data (data_op.Store 14 (operand.Register 3)) ∷
+                op.Task (task_op.CbWait (operand.Register 3)) ∷ []);
+            react = (op.Task (task_op.Ret (operand.Register 2)) ∷ []);
+          } ∷ record {
+            kind = kind.Callback;
+            params = 0;
+            start = (op.Call (call_op.CallHost 4 8 1) ∷ op.Data (data_op.Handle 5 (operand.Register 4)) ∷ op.Data (data_op.Store 15 (operand.Register 5)) ∷
+                op.Task (task_op.Ret (operand.Register 5)) ∷ []);
+            react = [];
+          } ∷ record {
+            kind = kind.Stackful;
+            params = 0;
+            start = (op.Call (call_op.CallSyncHost 3 1) ∷
+                op.Call (call_op.CallSyncHost 3 1) ∷ op.Task (task_op.Ret (operand.Register 3)) ∷ []);
+            react = [];
+          } ∷ record {
+            kind = kind.Stackful;
+            params = 0;
+            start = (op.Call (call_op.CallHost 4 8 1) ∷ op.Data (data_op.Handle 5 (operand.Register 4)) ∷ op.Data (data_op.Store 7 (operand.Register 5)) ∷
+                op.Task (task_op.Ret (operand.Register 5)) ∷ []);
+            react = [];
+          } ∷ record {
+            kind = kind.Blocking;
+            params = 0;
+            start = (op.Data (data_op.Load 3 14) ∷
+                op.Data (data_op.Load 4 15) ∷ op.Set (set_op.Join (operand.Register 4) (operand.Register 3)) ∷ op.Data (data_op.Load 6 7) ∷ op.Set (set_op.Join (operand.Register 6) (operand.Register 3)) ∷
+                op.Thread thread_op.Yield ∷ op.Data (data_op.Set 0 (operand.Register 12)) ∷ []);
+            react = [];
+          } ∷ record {
+            kind = kind.Callback;
+            params = 0;
+            start =
+                (op.Data (data_op.Load 3 14) ∷ op.Task (task_op.CbWait (operand.Register 3)) ∷ []);
+            react = (op.Task (task_op.Ret (operand.Register 2)) ∷ []);
+          } ∷
+          record {
+            kind = kind.Stackful;
+            params = 0;
+            start = (op.Call (call_op.CallHost 4 8 1) ∷ op.Data (data_op.Handle 5 (operand.Register 4)) ∷ op.Data (data_op.Load 3 14) ∷
+                op.Set (set_op.Join (operand.Register 5) (operand.Register 3)) ∷ op.Task (task_op.Ret (operand.Register 5)) ∷ []);
+            react = [];
+          } ∷ []);
+      slots =
+          (replicate 16 slot.Empty);
+    } ∷ []);
+    hosts = (record { polls = (Some 2); value = (Some 207) } ∷ record { polls = (Some 5); value = (Some 15) } ∷
+        record { polls = (Some 1); value = (Some 34) } ∷ []);
+  };
+  names = [];
+  main = (main_op.Start (record { instance = 0; export = 0 }) [] ∷
+      main_op.Finish 1 1 ∷ main_op.Start (record { instance = 1; export = 0 }) [] ∷ main_op.Start (record { instance = 1; export = 1 }) [] ∷
+      main_op.Start (record { instance = 1; export = 1 }) [] ∷ main_op.Start (record { instance = 1; export = 2 }) [] ∷ main_op.Start (record {
+        instance =
+            0;
+        export = 1;
+      }) [] ∷ main_op.Finish 6 2 ∷ main_op.Ready (record { instance = 0; export = 2 }) ∷ main_op.Finish 2 15 ∷ main_op.Finish 3 2 ∷
+      main_op.Finish 4 2 ∷ main_op.Finish 5 2 ∷ main_op.Start (record { instance = 1; export = 3 }) [] ∷ main_op.Start (record {
+        instance = 1;
+        export =
+            8;
+      }) [] ∷ main_op.Start (record { instance = 1; export = 8 }) [] ∷ main_op.Start (record { instance = 1; export = 8 }) [] ∷ main_op.Start (record {
+        instance = 1;
+        export = 6;
+      }) [] ∷ main_op.Start (record { instance = 1; export = 4 }) [] ∷ main_op.Finish 12 0 ∷ main_op.Start (record {
+        instance =
+            1;
+        export = 5;
+      }) [] ∷ main_op.Finish 13 1 ∷ main_op.Start (record { instance = 1; export = 7 }) [] ∷ main_op.Finish 14 2 ∷ main_op.Start (record {
+        instance = 1;
+        export = 9;
+      }) [] ∷ main_op.Finish 15 3 ∷ main_op.Finish 7 3 ∷ main_op.Answer (operand.Register 0) ∷ []);
+  aborters = [];
+}
 
 abbrev pub generated_26_labels : List Label
 generated_26_labels = label.Main (main_label.Start 1 1) ∷ label.Loop loop_label.MainPends ∷ label.Take (take.Thread mark.High 1) ∷ label.Task (task_label.BpInc 1) ∷

@@ -8,5 +8,4 @@ use task_machine::{Outcome, Trap};
 #[tactic(auto, using(crate::proofs::Generated6Shown::generated_24_shown))]
 pub fn generated_24()
     ensures { Example the.generated_24 300 the.generated_24_labels (Outcome.Trap Trap.TableHasChildren) }
-{
-}
+{}

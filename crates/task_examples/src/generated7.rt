@@ -8,5 +8,4 @@ use task_machine::Outcome;
 #[tactic(auto, using(crate::proofs::Generated7Shown::generated_25_shown))]
 pub fn generated_25()
     ensures { Example the.generated_25 300 the.generated_25_labels (Outcome.OutOfSteps) }
-{
-}
+{}

@@ -8,5 +8,4 @@ use task_machine::Outcome;
 #[tactic(auto, using(crate::proofs::Generated8Shown::generated_26_shown))]
 pub fn generated_26()
     ensures { Example the.generated_26 300 the.generated_26_labels (Outcome.OutOfSteps) }
-{
-}
+{}

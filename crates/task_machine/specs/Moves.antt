@@ -250,13 +250,18 @@ may_hand_on x g w s = if hands_on x g s then may_wake x w s else is_none w
 
 -- ---- Release
 
-abbrev pub held_why_of : ℕ → Core → Why
-held_why_of n s = unwrap_or (option_and_then held_why (place_of n s)) why.Start
+-- a held thread is put at high
+abbrev pub released_one : ℕ → Option Why → Core → Core
+released_one n None s = s
+released_one n (Some w) s = put_high n w s
+
+abbrev pub held_why_of : ℕ → Core → Option Why
+held_why_of n s = option_and_then held_why (place_of n s)
 
 -- these held threads are put at high in this order
 unfoldable pub released : List ℕ → Core → Core
 released [] s = s
-released (n ∷ ns) s = released ns (put_high n (held_why_of n s) s)
+released (n ∷ ns) s = released ns (released_one n (held_why_of n s) s)
 
 -- ---- The end of a thread
 

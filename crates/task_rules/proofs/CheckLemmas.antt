@@ -17,8 +17,8 @@ use Rattle.task_machine.specs.declared.records.Why.TheVariants as why
 use Rattle.task_machine.proofs.MapLemmas.{change-field}
 use Rattle.task_machine.specs.Core.{Core}
 use Rattle.task_machine.specs.Maps.{Records, change, get, numbers}
-use Rattle.task_machine.specs.Moves.{behind, behind_one, displaced, first_entry, first_low, held_why_of, newest, older, passed_on, passes_check, put_high, put_switch, released, resumed_all, resumed_callers, stand, stopped, why_of}
-use Rattle.task_machine.specs.Read.{admits, admitted_held, callers_of, entry_thread, first_in, foot_of, held_why, instance_of, is_entry_in, is_held_admitted, is_nil, may_not_suspend, no_callee, place_of, task_of}
+use Rattle.task_machine.specs.Moves.{behind, behind_one, displaced, first_entry, first_low, held_why_of, newest, older, passed_on, passes_check, put_high, put_switch, released, released_one, resumed_all, resumed_callers, stand, stopped, why_of}
+use Rattle.task_machine.specs.Read.{admits, admitted_held, callers_of, entry_thread, first_in, foot_of, instance_of, is_entry_in, is_held_admitted, is_nil, may_not_suspend, no_callee, task_of}
 use Rattle.task_machine.specs.Write.{on_instance, on_thread, push_high, push_high_first, set_callers, set_do_not_enter, set_place, set_switch}
 use Rattle.task_rules.specs.Ends.{deactivated, held_out, let_in, passes_after_stop}
 use Rattle.task_rules.specs.Laws.{CallbackCheckIsAfter}
@@ -31,10 +31,14 @@ module _ {X : Type 0} (p : Core → X) (at_place : (n : ℕ) (q : Place) (s : Co
   unfolding put_high
   put_high_leaves n w s = at_high (entry.Thread n) (stand n mark.High w s) ∙ at_place n (place.Ready mark.High w) s
 
+  released_one_leaves : (n : ℕ) (o : Option Why) (s : Core) → p (released_one n o s) ≡ p s
+  released_one_leaves n None s = refl
+  released_one_leaves n (Some w) s = put_high_leaves n w s
+
   released_leaves : (ns : List ℕ) (s : Core) → p (released ns s) ≡ p s
   unfolding released
   released_leaves [] s = refl
-  released_leaves (n ∷ ns) s = released_leaves ns (put_high n (held_why_of n s) s) ∙ put_high_leaves n (held_why_of n s) s
+  released_leaves (n ∷ ns) s = released_leaves ns (released_one n (held_why_of n s) s) ∙ released_one_leaves n (held_why_of n s) s
 
   resumed_all_leaves : (ns : List ℕ) (s : Core) → p (resumed_all ns s) ≡ p s
   resumed_all_leaves [] s = refl
@@ -221,26 +225,40 @@ put_high_high n w s = refl
 put_high_instance : (n : ℕ) (w : Why) (s : Core) (m : ℕ) → instance_of m (put_high n w s) ≡ instance_of m s
 put_high_instance n w s m = put_high_leaves (instance_of m) (place_instance m) (high_instance m) n w s
 
--- an entry of the instance at high stays there, as others are released
+both_left : (a b : Bool) → (a && b) ≡ true → a ≡ true
+both_left true b h = refl
+both_left false b h = h
+
+-- an entry of the instance at high stays there, as another is put there
+put_stays_high : (i n : ℕ) (w : Why) (s : Core) → any_in i s s.queues.high ≡ true → any_in i (put_high n w s) (put_high n w s).queues.high ≡ true
+put_stays_high i n w s h =
+    any_in_is i (put_high n w s) s (put_high_instance n w s) (put_high n w s).queues.high
+    ∙ (ap (any_in i s) (put_high_high n w s) ∙ (any_in-append i s s.queues.high (entry.Thread n) ∙ ap (λ b. b || is_entry_in i s (entry.Thread n)) h))
+
+one_stays_high : (i n : ℕ) (o : Option Why) (s : Core) → any_in i s s.queues.high ≡ true → any_in i (released_one n o s) (released_one n o s).queues.high ≡ true
+one_stays_high i n None s h = h
+one_stays_high i n (Some w) s h = put_stays_high i n w s h
+
 stays_high : (i : ℕ) (ns : List ℕ) (s : Core) → any_in i s s.queues.high ≡ true → any_in i (released ns s) (released ns s).queues.high ≡ true
 unfolding released
 stays_high i [] s h = h
-stays_high i (n ∷ ns) s h =
-    stays_high i ns (put_high n (held_why_of n s) s)
-    (any_in_is i (put_high n (held_why_of n s) s) s (put_high_instance n (held_why_of n s) s) (put_high n (held_why_of n s) s).queues.high
-      ∙ (ap (any_in i s) (put_high_high n (held_why_of n s) s) ∙ (any_in-append i s s.queues.high (entry.Thread n) ∙ ap (λ b. b || is_entry_in i s (entry.Thread n)) h)))
+stays_high i (n ∷ ns) s h = stays_high i ns (released_one n (held_why_of n s) s) (one_stays_high i n (held_why_of n s) s h)
 
 -- the released thread's entry is of its instance
-comes_high : (i n : ℕ) (s : Core) → (instance_of n s == i) ≡ true → any_in i (put_high n (held_why_of n s) s) (put_high n (held_why_of n s) s).queues.high ≡ true
-comes_high i n s h =
-    any_in_is i (put_high n (held_why_of n s) s) s (put_high_instance n (held_why_of n s) s) (put_high n (held_why_of n s) s).queues.high
-    ∙ (ap (any_in i s) (put_high_high n (held_why_of n s) s) ∙ (any_in-append i s s.queues.high (entry.Thread n) ∙ (ap (λ b. any_in i s s.queues.high || b) h ∙ or_true_right (any_in i s s.queues.high))))
+comes_high : (i n : ℕ) (w : Why) (s : Core) → (instance_of n s == i) ≡ true → any_in i (put_high n w s) (put_high n w s).queues.high ≡ true
+comes_high i n w s h =
+    any_in_is i (put_high n w s) s (put_high_instance n w s) (put_high n w s).queues.high
+    ∙ (ap (any_in i s) (put_high_high n w s) ∙ (any_in-append i s s.queues.high (entry.Thread n) ∙ (ap (λ b. any_in i s s.queues.high || b) h ∙ or_true_right (any_in i s s.queues.high))))
 
-release_passes : (i : ℕ) (ns : List ℕ) (s : Core) → ((n : ℕ) (ms : List ℕ) → ns ≡ n ∷ ms → (instance_of n s == i) ≡ true) → passes_check i (released ns s) ≡ (passes_check i s || not (is_nil ns))
+one_comes_high : (i n : ℕ) (o : Option Why) (s : Core) → is_held_admitted i s n o ≡ true → any_in i (released_one n o s) (released_one n o s).queues.high ≡ true
+one_comes_high i n None s h = absurd (subst T (sym h) tt)
+one_comes_high i n (Some w) s h = comes_high i n w s (both_left (instance_of n s == i) (admits n s w) h)
+
+release_passes : (i : ℕ) (ns : List ℕ) (s : Core) → ((n : ℕ) (ms : List ℕ) → ns ≡ n ∷ ms → is_held_admitted i s n (held_why_of n s) ≡ true) → passes_check i (released ns s) ≡ (passes_check i s || not (is_nil ns))
 unfolding released
 release_passes i [] s h = sym (or_false_right (passes_check i s))
 release_passes i (n ∷ ns) s h =
-    high_first_passes i (released ns (put_high n (held_why_of n s) s)) (stays_high i ns (put_high n (held_why_of n s) s) (comes_high i n s (h n ns refl)))
+    high_first_passes i (released ns (released_one n (held_why_of n s) s)) (stays_high i ns (released_one n (held_why_of n s) s) (one_comes_high i n (held_why_of n s) s (h n ns refl)))
     ∙ sym (or_true_right (passes_check i s))
 
 -- ---- A callback's end
@@ -250,7 +268,7 @@ unfolding passes_check first_entry set_do_not_enter on_instance
 enter_passes i b s =
     ap (λ c. not c || (is_some s.queues.switch || is_some (first_entry i s)))
     (map_or (λ r. r.do_not_suspend) (get (change i (λ r. record r { do_not_enter = b }) s.instances) i) false
-      ∙ (ap (λ o. unwrap_or o false) (change-field (λ (r : Instance). r.do_not_suspend) i (λ r. record r { do_not_enter = b }) (λ r. refl) s.instances i) ∙ sym (map_or (λ r. r.do_not_suspend) (get s.instances i) false)))
+    ∙ (ap (λ o. unwrap_or o false) (change-field (λ (r : Instance). r.do_not_suspend) i (λ r. record r { do_not_enter = b }) (λ r. refl) s.instances i) ∙ sym (map_or (λ r. r.do_not_suspend) (get s.instances i) false)))
 
 enter_callers : (i : ℕ) (b : Bool) (s : Core) → (set_do_not_enter i b s).callers ≡ s.callers
 unfolding set_do_not_enter on_instance
@@ -285,21 +303,13 @@ passed p [] k d h = absurd (not_below k h)
     not_below j e = omega (arith, e)
 passed p (n ∷ ns) k d h = passed_one p n ns (p n) refl (passed p ns) k d h
 
-both_left : (a b : Bool) → (a && b) ≡ true → a ≡ true
-both_left true b h = refl
-both_left false b h = h
-
-held_instance : (i : ℕ) (s : Core) (n : ℕ) (o : Option Why) → is_held_admitted i s n o ≡ true → (instance_of n s == i) ≡ true
-held_instance i s n None h = absurd (subst T (sym h) tt)
-held_instance i s n (Some w) h = both_left (instance_of n s == i) (admits n s w) h
-
-all_held : (i : ℕ) (s : Core) → All (λ n. (instance_of n s == i) ≡ true) (admitted_held i s)
+all_held : (i : ℕ) (s : Core) → All (λ n. is_held_admitted i s n (held_why_of n s) ≡ true) (admitted_held i s)
 unfolding admitted_held
-all_held i s k d h = held_instance i s _ _ (passed (λ n. is_held_admitted i s n (option_and_then held_why (place_of n s))) (numbers s.threads) k d h)
+all_held i s k d h = passed (λ n. is_held_admitted i s n (held_why_of n s)) (numbers s.threads) k d h
 
-ordered_first : (i : ℕ) (s : Core) (order : List ℕ) → IsPermutation (admitted_held i s) order → (n : ℕ) (ms : List ℕ) → order ≡ n ∷ ms → (instance_of n s == i) ≡ true
+ordered_first : (i : ℕ) (s : Core) (order : List ℕ) → IsPermutation (admitted_held i s) order → (n : ℕ) (ms : List ℕ) → order ≡ n ∷ ms → is_held_admitted i s n (held_why_of n s) ≡ true
 ordered_first i s order perm n ms is =
-    subst (λ (ns : List ℕ). All (λ m. (instance_of m s == i) ≡ true) ns) is (All-permutation (λ m. (instance_of m s == i) ≡ true) (admitted_held i s) order perm (all_held i s)) 0 0 (zero_below (length ms))
+    subst (λ (ns : List ℕ). All (λ m. is_held_admitted i s m (held_why_of m s) ≡ true) ns) is (All-permutation (λ m. is_held_admitted i s m (held_why_of m s) ≡ true) (admitted_held i s) order perm (all_held i s)) 0 0 (zero_below (length ms))
   where
     zero_below : (j : ℕ) → 0 < suc j
     zero_below j = omega arith
@@ -323,9 +333,9 @@ callback_check n s order perm =
     let v = set_do_not_enter i false s in
     stop_passes i (foot_of n s) (released order v)
     ∙ (ap₂ (λ (a : Bool) (cs : Records (List ℕ)). a || not (is_nil (unwrap_or (get cs (foot_of n s)) [])))
-        (release_passes i order v (ordered_first i v order perm) ∙ ap₂ (λ (a b : Bool). a || not b) (enter_passes i false s) (same_nil (admitted_held i v) order (length_permutation (admitted_held i v) order perm)))
-        (released_leaves (λ c. c.callers) place_callers high_callers order v ∙ enter_callers i false s)
-      ∙ or_swap (passes_check i s) (not (is_nil (admitted_held i v))) (not (is_nil (callers_of (foot_of n s) s))))
+    (release_passes i order v (ordered_first i v order perm) ∙ ap₂ (λ (a b : Bool). a || not b) (enter_passes i false s) (same_nil (admitted_held i v) order (length_permutation (admitted_held i v) order perm)))
+    (released_leaves (λ c. c.callers) place_callers high_callers order v ∙ enter_callers i false s)
+    ∙ or_swap (passes_check i s) (not (is_nil (admitted_held i v))) (not (is_nil (callers_of (foot_of n s) s))))
   where
     or_swap : (a b c : Bool) → ((a || b) || c) ≡ (a || (c || b))
     or_swap true b c = refl

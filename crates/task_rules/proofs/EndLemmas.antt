@@ -57,10 +57,10 @@ use Rattle.task_machine.specs.Core.{Began, Core, Main, MainPlace, Refused, Scrip
 use Rattle.task_machine.specs.Labels.{Choice, choice_of, event_label, exit_label, held_label, host_label, join_label, ret_label, take_label, task_cancel_label, wait_label}
 use Rattle.task_machine.specs.Maps.{get}
 use Rattle.task_machine.specs.Moves.{Gift, NoGift, checked, ended, gift, given_for, may_hand_on, may_publish, own_gift_only, passes_check}
-use Rattle.task_machine.specs.Read.{admits, at_handle_limit, backpressure_of, cancel_was_delivered, event_of, fits, foot_of, goal_of, has_ended, has_member, has_waiters, how_far_of, instance_of, is_async_lifted, is_callback_yield, is_direct, is_explicit, is_joined, is_watched, join_of, kind_of, new_handle, place_of, register_of, registers_of, set_at, subtask_at, subtask_ended, task_of, thread_at, thread_handle_of, undelivered_end, under_of, was_cancelled, was_started, word_of}
+use Rattle.task_machine.specs.Read.{admits, at_handle_limit, backpressure_of, cancel_was_delivered, event_of, fits, foot_of, goal_of, has_ended, has_member, has_waiters, how_far_of, instance_of, is_async_lifted, is_at, is_callback_yield, is_direct, is_explicit, is_joined, is_watched, join_of, kind_of, new_handle, place_of, register_of, registers_of, set_at, subtask_at, subtask_ended, task_of, thread_at, thread_handle_of, undelivered_end, under_of, was_cancelled, was_started, word_of}
 use Rattle.task_machine.specs.Write.{set_join}
 use Rattle.task_rules.specs.Calls.{AtOnce, Failing, FirstPoll, Later, call_begins, call_blocked, call_host_polled, call_host_row, call_pending, call_row, call_status, call_sync_begins, call_sync_host_polled, call_sync_host_row, call_sync_row, call_sync_status, called, called_back, enter_row, entered, first_poll, host_blocked, host_pending, next_thread, next_work, packed, status_found}
-use Rattle.task_rules.specs.Cancels.{Async, Mode, Sync, after_cancel, asked, awaiting, blocked_code, by_end, cancel_found, cancel_guest, cancel_host, cancel_label, cancel_resumed, cancel_row, cancel_running, cancel_subtask, cancel_yield, drop_found, drop_row, dropped, ended_row, host_cancelled, is_at, is_callback_wait, not_ended_row, pauses, subtask_row}
+use Rattle.task_rules.specs.Cancels.{Async, Mode, Sync, after_cancel, asked, awaiting, blocked_code, by_end, cancel_found, cancel_guest, cancel_host, cancel_label, cancel_resumed, cancel_row, cancel_running, cancel_subtask, cancel_yield, drop_found, drop_row, dropped, ended_row, host_cancelled, is_callback_wait, not_ended_row, pauses, subtask_row}
 use Rattle.task_rules.specs.Data.{data_row, skip_row}
 use Rattle.task_rules.specs.Ends.{blocking_exit_row, blocking_left, code_row, direct_exit_row, direct_exit_to, direct_left, exit_row, exit_row_for, finished, has_event_for, held_out, implicit_exit_row, kind_end, kind_exit_row, leave_row, leaves_no_result, left, may_tell, passes_after_return, passes_after_stop, sync_exit_row, sync_left, wait_end}
 use Rattle.task_rules.specs.MainOps.{Abort, Answer, Answers, Await, Does, Finish, MainAct, MainProgress, Pends, Quiet, Ready, Spawn, Start, act_of, finish_act, finish_result, line_of, main_row, op_at, start_act, start_refusal, unless_pending}
@@ -487,7 +487,6 @@ op_row_opens c n s ch (op.Thread o) = thread_row_opens c n s o
 did_opens : (a0 : Component) (a1 : ℕ) (a2 : Core) (a3 : Choice) → Opens (did a0 a1 a2 a3)
 unfolding did
 did_opens c n s ch = op_row_opens c n s ch (op_of c n s)
-
 
 -- ---- The turn after such a label
 

@@ -310,4 +310,3 @@ module _ {R : Core → Core → Type 0} (E : Elementary R) where
   pub step_keeps : EachStep R
   unfolding Step
   step_keeps x s l t is = turn_step_keeps x s s.turn l t is
-

@@ -33,7 +33,7 @@ use Rattle.task_machine.specs.declared.records.Subtask.TheVariants as subtask
 use Rattle.task_machine.specs.declared.records.Why.TheVariants as why
 use Rattle.task_machine.specs.Core.{Core}
 use Rattle.task_machine.specs.Maps.{get}
-use Rattle.task_machine.specs.Moves.{Gift, MemberGift, NoGift, OwnGift, behind, behind_one, call_settled, checked, departed, displaced, ended, exited_if, first_entry, freed_thread_handle, group_settled, handed_on, hands_on, has_entry, held_why_of, interest_settled, is_callback_waiter, is_deletable, is_finished, is_group_done, less, less_switch, newest, older, passed_on, promoted, promoted_first, promoted_unless, published, put_high, put_low, put_switch, released, resumed_all, resumed_callers, stand, stopped, stopped_at, taken, taken_own, unblocked, unqueued, wake, wake_joined, waken_by, why_of, withdrawn}
+use Rattle.task_machine.specs.Moves.{Gift, MemberGift, NoGift, OwnGift, behind, behind_one, call_settled, checked, departed, displaced, ended, exited_if, first_entry, freed_thread_handle, group_settled, handed_on, hands_on, has_entry, held_why_of, interest_settled, is_callback_waiter, is_deletable, is_finished, is_group_done, less, less_switch, newest, older, passed_on, promoted, promoted_first, promoted_unless, published, put_high, put_low, put_switch, released, released_one, resumed_all, resumed_callers, stand, stopped, stopped_at, taken, taken_own, unblocked, unqueued, wake, wake_joined, waken_by, why_of, withdrawn}
 use Rattle.task_machine.specs.Read.{blocked_on, call_group, callers_of, foot_of, instance_of, is_explicit, join_of, may_not_suspend, task_of, thread_handle_of}
 use Rattle.task_machine.specs.Write.{add_call, add_group, add_set, add_thread, add_work, count_work, free_handle, free_thread_handle, give_handle, give_result, give_thread_handle, on_call, on_instance, on_thread, on_work, push_high, push_high_first, push_low, remove_call, remove_group, remove_set, remove_thread, remove_threads, remove_work, set_backpressure, set_callers, set_cancel_delivered, set_cancelled, set_course, set_do_not_enter, set_do_not_suspend, set_end, set_event, set_exited, set_high, set_how_far, set_join, set_low, set_own_event, set_phase, set_place, set_places, set_position, set_register, set_result, set_saved_callee, set_saved_own, set_script, set_stage, set_started, set_starting_published, set_subtask_handle, set_switch, set_thread_handle, set_trapped, set_uninteresting, set_word, take_result}
 use Rattle.task_rules.specs.Keeps.{Elementary, Keeps}
@@ -381,10 +381,14 @@ module _ {R : Core → Core → Type 0} (E : Elementary R) where
   unfolding handed_on
   handed_on_keeps x g w s = if_keeps s (hands_on x g s) (wake x w s) s (wake_keeps x w s) (same s)
 
+  pub released_one_keeps : (a0 : ℕ) (a1 : Option Why) (s : Core) → R s (released_one a0 a1 s)
+  released_one_keeps n None s = same s
+  released_one_keeps n (Some w) s = put_high_keeps n w s
+
   pub released_keeps : (a0 : List ℕ) (s : Core) → R s (released a0 s)
   unfolding released
   released_keeps [] s = same s
-  released_keeps (n ∷ ns) s = after (put_high_keeps n (held_why_of n s) s) (released_keeps ns (put_high n (held_why_of n s) s))
+  released_keeps (n ∷ ns) s = after (released_one_keeps n (held_why_of n s) s) (released_keeps ns (released_one n (held_why_of n s) s))
 
   pub group_settled_keeps : (a0 : ℕ) (s : Core) → R s (group_settled a0 s)
   unfolding group_settled

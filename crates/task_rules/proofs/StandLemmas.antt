@@ -56,6 +56,7 @@ entries-less k n (e ∷ es) h = go (is_entry_of n e) refl (entries-less k n es) 
     same_entry (entry.Thread m) i = ap (λ j. k == j) (sym (is_eq_of n m i))
     same_entry (entry.Push j) i = absurd (subst T (sym i) tt)
     same_entry (entry.Host j) i = absurd (subst T (sym i) tt)
+
     go : (b : Bool) → is_entry_of n e ≡ b → (has_entry n es ≡ true → entries k (less n es) + one_if (k == n) ≡ entries k es) → (b || has_entry n es) ≡ true → entries k (cond b es (e ∷ less n es)) + one_if (k == n) ≡ one_if (is_entry_of k e) + entries k es
     go true i rest g = let q = ap one_if (same_entry e i) in omega (arith, q)
     go false i rest g = let ih = rest g in omega (arith, ih)
@@ -210,25 +211,34 @@ adds_stand n q m xs p s t a st = record {
   where
     one_of : (k : ℕ) → k ≡ m → one_if (k == m) ≡ 1
     one_of k e = ap one_if (ap (λ (j : ℕ). j == m) e ∙ eq_refl m)
+
     none_of : (k : ℕ) → (k == m) ≡ false → one_if (k == m) ≡ 0
     none_of k e = ap one_if e
+
     n_other : (n == m) ≡ false
     n_other = by_number n m ((n == m) ≡ false) (λ e. absurd (both (one_of n e) (ap one_if (eq_refl n)) (st.once n))) (λ e. e)
       where
         both : one_if (n == m) ≡ 1 → one_if (n == n) ≡ 1 → times n (n ∷ m ∷ xs) ≤ 1 → ⊥
         both x y z = omega (arith, x, y, z)
+
     fewer : (k : ℕ) → times k (n ∷ m ∷ xs) ≤ 1 → times k (n ∷ xs) ≤ 1
     fewer k h = omega (arith, h)
+
     not_loose : (k : ℕ) → k ≡ m → times k (n ∷ xs) ≡ 1 → times k (n ∷ m ∷ xs) ≤ 1 → ⊥
     not_loose k e h g = let x = one_of k e in omega (arith, x, h, g)
+
     not_there : (k : ℕ) → k ≡ m → times k xs ≡ 1 → times k (n ∷ m ∷ xs) ≤ 1 → ⊥
     not_there k e h g = let x = one_of k e in omega (arith, x, h, g)
+
     same_times : (k : ℕ) → (k == m) ≡ false → (c : ℕ) → times k (n ∷ xs) ≡ c → times k (n ∷ m ∷ xs) ≡ c
     same_times k e c h = let x = none_of k e in omega (arith, x, h)
+
     same_rest : (k : ℕ) → (k == m) ≡ false → (c : ℕ) → times k xs ≡ c → times k (m ∷ xs) ≡ c
     same_rest k e c h = let x = none_of k e in omega (arith, x, h)
+
     there_still : (k : ℕ) → (k == m) ≡ false → (r : Place) × (place_of k s ≡ Some r) → (r : Place) × (place_of k t ≡ Some r)
     there_still k e r = (r.0, (a.other k e ∙ r.1))
+
     own_times : (k : ℕ) → k ≡ m → times k (n ∷ xs) ≡ 0 → times m (n ∷ m ∷ xs) ≤ 1 → times m (n ∷ m ∷ xs) ≡ 1
     own_times k e h g = let x = one_of m refl in let y = ap (λ (j : ℕ). times j (n ∷ xs)) (sym e) ∙ h in omega (arith, x, y, g)
 
@@ -241,6 +251,7 @@ adds_all n q p s t a st k =
   where
     own_times : (n == n) ≡ true → times n (n ∷ []) ≡ 1
     own_times e = ap (λ b. one_if b + 0) e
+
     no_times : (k == n) ≡ false → times k (n ∷ []) ≡ 0
     no_times e = ap (λ b. one_if b + 0) e
 
@@ -256,12 +267,16 @@ loosened n q m r xs s is free none st = record {
   where
     one_more : (k : ℕ) → k ≡ m → times m (n ∷ xs) ≡ 0 → times k (n ∷ m ∷ xs) ≤ 1
     one_more k e z = subst (λ (j : ℕ). times j (n ∷ m ∷ xs) ≤ 1) (sym e) (let x = ap one_if (eq_refl m) in omega (arith, x, z))
+
     no_other : (k : ℕ) → (k == m) ≡ false → times k (n ∷ xs) ≤ 1 → times k (n ∷ m ∷ xs) ≤ 1
     no_other k e z = let x = ap one_if e in omega (arith, x, z)
+
     less_one : (k : ℕ) → (k == m) ≡ false → (c : ℕ) → times k (n ∷ m ∷ xs) ≡ c → times k (n ∷ xs) ≡ c
     less_one k e c z = let x = ap one_if e in omega (arith, x, z)
+
     less_rest : (k : ℕ) → (k == m) ≡ false → times k (m ∷ xs) ≡ 1 → times k xs ≡ 1
     less_rest k e z = let x = ap one_if e in omega (arith, x, z)
+
     none_left : (k : ℕ) → times k (n ∷ m ∷ xs) ≡ 0 → times k (n ∷ xs) ≡ 0
     none_left k z = omega (arith, z)
 

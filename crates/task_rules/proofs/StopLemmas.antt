@@ -69,6 +69,7 @@ behind_adds g m r s is = record {
     gains : (k : ℕ) (b : Bool) (x : ℕ) → x + one_if b ≡ x + cond b 1 0
     gains k true x = refl
     gains k false x = refl
+
     by_caller : (k f : ℕ) → times k (cond (f == g) (callers_of g s ++ m ∷ []) (callers_of f s)) ≡ times k (callers_of f s) + gain k m (one_if (f == g))
     by_caller k f = go (f == g) refl
       where
@@ -122,10 +123,13 @@ displaced_stand n q xs s (Some j) is st = record {
   where
     t : Core
     t = set_switch None (displaced (Some j) s)
+
     n_one : times n (n ∷ xs) ≡ 1
     n_one = let x = ap one_if (eq_refl n) in let y = st.once n in omega (arith, x, y)
+
     one_more : (k : ℕ) → times k xs ≡ 1 → times k (n ∷ xs) ≤ 1 → times k (n ∷ xs) ≡ 1
     one_more k h g = omega (arith, h, g)
+
     -- a loose thread isn't at switch
     apart : (k : ℕ) → times k (n ∷ xs) ≤ 1 → times k (n ∷ xs) ≡ 1 → (k == j) ≡ false
     apart k g h = not_one (k == j) refl (ap (switch_entries k) (sym is) ∙ (st.loose k h).switch)
@@ -136,6 +140,7 @@ displaced_stand n q xs s (Some j) is st = record {
             one_zero : ◌≡◌ {A = ℕ} 1 0 → ⊥
             one_zero y = omega (arith, y)
         not_one false e z = e
+
     j_none : times j (n ∷ xs) ≡ 0
     j_none = none_of (times j (n ∷ xs)) refl (st.once j)
       where
@@ -149,8 +154,10 @@ displaced_stand n q xs s (Some j) is st = record {
           where
             too_many : suc (suc c) ≤ 1 → ⊥
             too_many y = omega (arith, y)
+
     kept : (k : ℕ) → (k == j) ≡ false → place_of k t ≡ place_of k s
     kept k e = place_kept k j _ s e
+
     stays : (k : ℕ) → (k == j) ≡ false → HasPlace k s → HasPlace k t
     stays k e h = record {
       switch = sym (ap one_if e) ∙ (ap (switch_entries k) (sym is) ∙ (h.switch ∙ ap (says is_at_switch) (sym (kept k e))));
@@ -158,14 +165,17 @@ displaced_stand n q xs s (Some j) is st = record {
       low = h.low ∙ ap (says is_at_low) (sym (kept k e));
       callers = λ f. subst (λ (o : Option Place). times k (callers_of f s) ≤ says (is_behind_of f) o) (sym (kept k e)) (h.callers f);
     }
+
     stays_loose : (k : ℕ) → (k == j) ≡ false → Loose k s → Loose k t
     stays_loose k e l = record { switch = refl; high = front_none (k == j) _ _ e l.high; low = l.low; callers = l.callers }
+
     -- what stood at switch is ready there
     ready : HasPlace j s → (w : Why) × (place_of j s ≡ Some (place.Ready mark.Switch w))
     ready h = of_place (place_of j s) refl (sym (ap one_if (eq_refl j)) ∙ (ap (switch_entries j) (sym is) ∙ h.switch))
       where
         one_zero : ◌≡◌ {A = ℕ} 1 0 → ⊥
         one_zero y = omega (arith, y)
+
         of_place : (o : Option Place) → place_of j s ≡ o → 1 ≡ says is_at_switch o → (w : Why) × (place_of j s ≡ Some (place.Ready mark.Switch w))
         of_place (Some (place.Ready mark.Switch w)) e z = (w, e)
         of_place (Some (place.Ready mark.High w)) e z = absurd (one_zero z)
@@ -179,6 +189,7 @@ displaced_stand n q xs s (Some j) is st = record {
         of_place (Some (place.Blocked x)) e z = absurd (one_zero z)
         of_place (Some (place.Held x)) e z = absurd (one_zero z)
         of_place (Some place.Suspended) e z = absurd (one_zero z)
+
     at_front : HasPlace j s → HasPlace j t
     at_front h =
         let w = ready h in
@@ -202,6 +213,7 @@ put_switch_stand n q m xs w s none st =
   where
     once_there : times m xs ≡ 0 → times m (m ∷ xs) ≡ 1
     once_there z = let x = ap one_if (eq_refl m) in omega (arith, x, z)
+
     no_switch : (c : Core) → (unswitched c).queues.switch ≡ None
     no_switch c = refl
 
@@ -278,14 +290,19 @@ detached n q f s st = record {
   where
     t : Core
     t = record s { callers = insert s.callers f [] }
+
     n_one : times n (n ∷ []) ≡ 1
     n_one = ap (λ b. one_if b + 0) (eq_refl n)
+
     no_one : (k : ℕ) → (k == n) ≡ false → times k (n ∷ []) ≡ 0
     no_one k e = ap (λ b. one_if b + 0) e
+
     none_left : (k : ℕ) → times k (n ∷ callers_of f s) ≡ 0 → times k (n ∷ []) ≡ 0
     none_left k h = omega (arith, h)
+
     listed : (k : ℕ) → (k == n) ≡ false → times k (n ∷ callers_of f s) ≡ 1 → times k (callers_of f s) ≡ 1
     listed k e h = let x = ap one_if e in omega (arith, x, h)
+
     says_one : (test : Place → Bool) (o : Option Place) → says test o ≤ 1
     says_one test None = omega arith
     says_one test (Some p) = one_below (test p)
@@ -293,35 +310,43 @@ detached n q f s st = record {
         one_below : (b : Bool) → one_if b ≤ 1
         one_below true = omega arith
         one_below false = omega arith
+
     own_once : (k : ℕ) → k ≡ n → Loose n s → times k (n ∷ callers_of f s) ≤ 1
     own_once k e l = subst (λ (j : ℕ). times j (n ∷ callers_of f s) ≤ 1) (sym e) (let x = ap one_if (eq_refl n) in let y = l.callers f in omega (arith, x, y))
+
     other_once : (k : ℕ) → (k == n) ≡ false → HasPlace k s → times k (n ∷ callers_of f s) ≤ 1
     other_once k e h = let x = ap one_if e in let y = h.callers f in let z = says_one (is_behind_of f) (place_of k s) in omega (arith, x, y, z)
+
     less_callers : (k g : ℕ) → times k (callers_of g t) ≤ times k (callers_of g s)
     less_callers k g = subst (λ (c : ℕ). c ≤ times k (callers_of g s)) (sym (ap (times k) (insert_get g f [] s.callers))) (fewer (g == f))
       where
         fewer : (b : Bool) → times k (cond b [] (callers_of g s)) ≤ times k (callers_of g s)
         fewer true = omega arith
         fewer false = omega arith
+
     still : (k : ℕ) → HasPlace k s → HasPlace k t
     still k h = record { switch = h.switch; high = h.high; low = h.low; callers = λ g. both (less_callers k g) (h.callers g) }
       where
         both : {a b c : ℕ} → a ≤ b → b ≤ c → a ≤ c
         both x y = omega (arith, x, y)
+
     still_loose : (k : ℕ) → Loose k s → Loose k t
     still_loose k l = record { switch = l.switch; high = l.high; low = l.low; callers = λ g. zero_of (less_callers k g) (l.callers g) }
       where
         zero_of : {a b : ℕ} → a ≤ b → b ≡ 0 → a ≡ 0
         zero_of x y = omega (arith, x, y)
+
     -- a listed caller is behind f
     behind_f : (k : ℕ) → times k (callers_of f s) ≡ 1 → HasPlace k s → (g : ℕ) × ((f == g) ≡ true) × (place_of k s ≡ Some (place.Behind g))
     behind_f k h p = of_place (place_of k s) refl (subst (λ (c : ℕ). c ≤ says (is_behind_of f) (place_of k s)) h (p.callers f))
       where
         not_one : 1 ≤ 0 → ⊥
         not_one y = omega (arith, y)
+
         is_one : (b : Bool) → 1 ≤ one_if b → b ≡ true
         is_one true y = refl
         is_one false y = absurd (not_one y)
+
         of_place : (o : Option Place) → place_of k s ≡ o → 1 ≤ says (is_behind_of f) o → (g : ℕ) × ((f == g) ≡ true) × (place_of k s ≡ Some (place.Behind g))
         of_place (Some (place.Behind g)) e y = (g, is_one (f == g) y, e)
         of_place None e y = absurd (not_one y)
@@ -333,8 +358,10 @@ detached n q f s st = record {
         of_place (Some (place.Blocked x)) e y = absurd (not_one y)
         of_place (Some (place.Held x)) e y = absurd (not_one y)
         of_place (Some place.Suspended) e y = absurd (not_one y)
+
     behind_there : (k : ℕ) → times k (callers_of f s) ≡ 1 → HasPlace k s → (p : Place) × (place_of k s ≡ Some p)
     behind_there k h p = let b = behind_f k h p in (place.Behind b.0, b.2)
+
     now_loose : (k : ℕ) → times k (callers_of f s) ≡ 1 → HasPlace k s → Loose k t
     now_loose k h p =
         let b = behind_f k h p in
