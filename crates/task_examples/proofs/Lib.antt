@@ -14,3 +14,6 @@ pub mod Generated2Shown
 pub mod Generated3Shown
 pub mod Generated4Shown
 pub mod Generated5Shown
+pub mod Generated6Shown
+pub mod Generated7Shown
+pub mod Generated8Shown

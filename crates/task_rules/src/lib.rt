@@ -1,2 +1,11 @@
-//! The rules of the component machine: what each step does, and what runs are.
+//! The rules of the component machine: what each step does, and what runs are. The rules are
+//! definitions, under `specs`; each function here is the statement of a law of theirs.
 #![tactic(auto)]
+
+mod laws;
+
+pub use laws::{
+    callback_check_is_after, check_moves_one, counts_never_fall, limits_stay, none_after_over,
+    outcome_is_last, outcomes_end, promotion_moves_one, run_goes_on, runs_join, runs_keep_counts,
+    runs_keep_limits,
+};
