@@ -7,3 +7,5 @@ pub mod PromotionLemmas
 pub mod CheckLemmas
 pub mod StandLemmas
 pub mod StopLemmas
+pub mod MoveLemmas
+pub mod UntouchedLemmas

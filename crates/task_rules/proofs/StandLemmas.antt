@@ -14,6 +14,7 @@ use Rattle.task_machine.specs.Maps.{get}
 use Rattle.task_machine.specs.Moves.{has_entry, less, newest, older, put_high, put_low}
 use Rattle.task_machine.specs.Read.{callers_of, is_entry_of, place_of}
 use Rattle.task_machine.specs.Write.{on_thread, push_high, push_low, set_place}
+use Rattle.task_rules.specs.Laws.{is_free}
 use Rattle.task_rules.specs.Places.{HasPlace, entries, is_at_high, is_at_low, is_at_switch, is_behind_of, one_if, says, switch_entries, times}
 
 -- ---- Numbers and lists
@@ -87,12 +88,6 @@ pub record Loose (n : ℕ) (s : Core) : Type 0 where
   pub high : entries n s.queues.high ≡ 0
   pub low : entries n s.queues.low ≡ 0
   pub callers : (f : ℕ) → times n (callers_of f s) ≡ 0
-
--- a place that says nothing of entries and callers
-abbrev pub is_free : Place → Bool
-is_free (place.Ready m w) = false
-is_free (place.Behind f) = false
-is_free _ = true
 
 free_says : (p : Place) → is_free p ≡ true → (one_if (is_at_switch p) ≡ 0) × (one_if (is_at_high p) ≡ 0) × (one_if (is_at_low p) ≡ 0) × ((f : ℕ) → one_if (is_behind_of f p) ≡ 0)
 free_says (place.Ready m w) h = absurd (subst T (sym h) tt)

@@ -1,15 +1,19 @@
 -- What holds of every step, and of runs.
-use Rattle.std.specs.Prelude.{IsPermutation, IsTrue, List, None, Some, [], true, ℕ, ◌++◌, ◌||◌, ◌∷◌, ◌≡◌, ◌≤◌, ◌⊎◌}
+use Rattle.std.specs.Prelude.{Bool, IsPermutation, IsTrue, List, None, Option, Some, [], false, true, ℕ, ◌++◌, ◌||◌, ◌∷◌, ◌≡◌, ◌≤◌, ◌⊎◌}
 use Rattle.task_machine.specs.declared.records.Entry.{Entry}
 use Rattle.task_machine.specs.declared.label.Label.{Label}
 use Rattle.task_machine.specs.declared.outcome.Outcome.{Outcome}
+use Rattle.task_machine.specs.declared.records.Place.{Place}
 use Rattle.task_machine.specs.declared.records.Entry.TheVariants as entry
+use Rattle.task_machine.specs.declared.records.Place.TheVariants as place
 use Rattle.task_machine.specs.declared.records.Turn.TheVariants as turn
 use Rattle.task_machine.specs.Core.{Core, State}
-use Rattle.task_machine.specs.Moves.{checked, has_entry, passes_check, promoted_unless}
-use Rattle.task_machine.specs.Read.{foot_of, instance_of}
+use Rattle.task_machine.specs.Moves.{checked, has_entry, may_wake, passes_check, promoted_unless, released, stopped, wake}
+use Rattle.task_machine.specs.Read.{foot_of, instance_of, place_of}
+use Rattle.task_machine.specs.Write.{remove_thread, set_place}
 use Rattle.task_rules.specs.Ends.{deactivated, held_out, passes_after_stop}
 use Rattle.task_rules.specs.Outcome.{outcome_of_label}
+use Rattle.task_rules.specs.Places.{HasPlace}
 use Rattle.task_rules.specs.Run.{Run}
 use Rattle.task_rules.specs.Stalled.{Setting}
 use Rattle.task_rules.specs.Step.{Step}
@@ -85,3 +89,29 @@ abbrev pub CallbackCheckIsAfter : Type 0
 CallbackCheckIsAfter =
     (n : ℕ) (s : Core) (order : List ℕ) → IsPermutation (held_out (instance_of n s) s) order →
     passes_check (instance_of n s) (deactivated n order s) ≡ passes_after_stop (instance_of n s) (foot_of n s) (held_out (instance_of n s) s) s
+
+-- ---- The moves of a running thread, in a state in which each thread has its place
+
+-- a place that says nothing of entries and callers
+abbrev pub is_free : Place → Bool
+is_free (place.Ready m w) = false
+is_free (place.Behind f) = false
+is_free _ = true
+
+-- n stops at such a place: each thread has its place
+abbrev pub StopKeepsPlaces : Type 0
+StopKeepsPlaces =
+    (n f : ℕ) (p : Place) (s : Core) → is_free p ≡ true → place_of n s ≡ Some place.Running → ((k : ℕ) → HasPlace k s) → (k : ℕ) → HasPlace k (set_place n p (stopped f s))
+
+-- held threads are released, in whatever order
+abbrev pub ReleaseKeepsPlaces : Type 0
+ReleaseKeepsPlaces = (n : ℕ) (ns : List ℕ) (s : Core) → place_of n s ≡ Some place.Running → ((k : ℕ) → HasPlace k s) → (k : ℕ) → HasPlace k (released ns s)
+
+-- a waiter is woken, whichever is chosen
+abbrev pub WakeKeepsPlaces : Type 0
+WakeKeepsPlaces =
+    (n x : ℕ) (w : Option ℕ) (s : Core) → may_wake x w s ≡ true → place_of n s ≡ Some place.Running → ((k : ℕ) → HasPlace k s) → (k : ℕ) → HasPlace k (wake x w s)
+
+-- the running thread is gone
+abbrev pub RemovalKeepsPlaces : Type 0
+RemovalKeepsPlaces = (n : ℕ) (s : Core) → place_of n s ≡ Some place.Running → ((k : ℕ) → HasPlace k s) → (k : ℕ) → HasPlace k (remove_thread n s)

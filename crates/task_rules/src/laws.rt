@@ -1,5 +1,5 @@
 ghost use Rattle.task_rules.specs.Keeps.{EachStep};
-ghost use Rattle.task_rules.specs.Laws.{NeverFewer, SameLimits, OutcomeEnds, OverIsLast, RunGoesOn, RunsJoin, KeptByRuns, OutcomeIsLast, CheckMovesOne, PromotionMovesOne, CallbackCheckIsAfter};
+ghost use Rattle.task_rules.specs.Laws.{NeverFewer, SameLimits, OutcomeEnds, OverIsLast, RunGoesOn, RunsJoin, KeptByRuns, OutcomeIsLast, CheckMovesOne, PromotionMovesOne, CallbackCheckIsAfter, StopKeepsPlaces, ReleaseKeepsPlaces, WakeKeepsPlaces, RemovalKeepsPlaces};
 
 /// No number is given twice: no step lowers a count of what was made.
 #[tactic(auto, using(crate::proofs::LawLemmas::never_fewer))]
@@ -72,4 +72,25 @@ pub fn promotion_moves_one()
 #[tactic(auto, using(crate::proofs::CheckLemmas::callback_check))]
 pub fn callback_check_is_after()
     ensures { CallbackCheckIsAfter }
+{}
+
+/// Where each thread has its place, a running thread that stops comes to its next place, and each
+/// other one has its own: its callers, too, who go behind another thread or get entries.
+pub fn stop_keeps_places()
+    ensures { StopKeepsPlaces }
+{}
+
+/// So it is where held threads are released.
+pub fn release_keeps_places()
+    ensures { ReleaseKeepsPlaces }
+{}
+
+/// So it is where a waiter is woken.
+pub fn wake_keeps_places()
+    ensures { WakeKeepsPlaces }
+{}
+
+/// So it is where the running thread is gone.
+pub fn removal_keeps_places()
+    ensures { RemovalKeepsPlaces }
 {}
