@@ -12,7 +12,15 @@ fn reads_one_call(rt: HostRuntime) -> Result<(), Fail> {
         assert_eq!(rt; tree.instances.len(), 1);
         assert_eq!(rt; tree.main.len(), 2);
     }
+    one_tree();
     Ok(())
+}
+
+#[test]
+fn numbers_have_limits(rt: HostRuntime) {
+    assert_eq!(rt; bounded(b"40", 40), Some(40));
+    assert_eq!(rt; bounded(b"41", 40), None);
+    assert_eq!(rt; bounded(b"007", 40), None);
 }
 
 #[test]

@@ -54,6 +54,8 @@ fn a_held_start_is_released(rt: HostRuntime) -> Result<(), Fail> {
     state.set_do_not_enter(0);
     assert!(rt; state.do_not_enter(0));
     state.hold(0, id)?;
+    let held = state.instances.iter().any(|i| !i.pending_is_empty());
+    assert!(rt; held);
     state.clear_do_not_enter(0)?;
     assert!(rt; !state.do_not_enter(0));
     assert_eq!(rt; state.take_high(), Some(id));

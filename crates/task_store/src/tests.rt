@@ -7,6 +7,8 @@ fn a_store_numbers_its_instances(rt: HostRuntime) -> Result<(), Fail> {
     assert_eq!(rt; store.add_instance(), Ok(ComponentInstanceId(0)));
     assert_eq!(rt; store.add_instance(), Ok(ComponentInstanceId(1)));
     assert_eq!(rt; store.given(), 0);
+    assert!(rt; store.state_mut().take_high().is_none());
+    assert_eq!(rt; store.state().given(), 0);
     Ok(())
 }
 
