@@ -27,7 +27,6 @@ use Rattle.task_machine.specs.declared.op.TaskOp.TheVariants as task_op
 use Rattle.task_machine.specs.declared.label.ThreadLabel.TheVariants as thread_label
 use Rattle.task_machine.specs.declared.op.ThreadOp.TheVariants as thread_op
 use Rattle.task_machine.specs.declared.trap.Trap.TheVariants as trap
-use Rattle.task_rules.specs.Texts.{polls}
 
 -- req; q: da, api, py_aa, react; work: db, thread, h, q; b
 abbrev pub generated_15 : Scenario

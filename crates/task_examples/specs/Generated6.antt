@@ -27,7 +27,6 @@ use Rattle.task_machine.specs.declared.op.TaskOp.TheVariants as task_op
 use Rattle.task_machine.specs.declared.label.ThreadLabel.TheVariants as thread_label
 use Rattle.task_machine.specs.declared.op.ThreadOp.TheVariants as thread_op
 use Rattle.task_machine.specs.declared.trap.Trap.TheVariants as trap
-use Rattle.task_rules.specs.Texts.{polls}
 
 -- r1; req: m, host; c; net: m, z_, drop, g, g1, zbc0xb1x, set; x1: e; f: bad
 abbrev pub generated_24 : Scenario

@@ -27,7 +27,6 @@ use Rattle.task_machine.specs.declared.label.TaskLabel.TheVariants as task_label
 use Rattle.task_machine.specs.declared.op.TaskOp.TheVariants as task_op
 use Rattle.task_machine.specs.declared.label.ThreadLabel.TheVariants as thread_label
 use Rattle.task_machine.specs.declared.op.ThreadOp.TheVariants as thread_op
-use Rattle.task_rules.specs.Texts.{polls}
 
 -- b: call, end, db, host, ey00; get: bqupghdifzfzvmdo, up, edge, log, go, bad, export; load_it; f: down, h, b, r1, thread, down58, run, d, log, s
 abbrev pub generated_25 : Scenario

@@ -25,7 +25,6 @@ use Rattle.task_machine.specs.declared.label.TaskLabel.TheVariants as task_label
 use Rattle.task_machine.specs.declared.op.TaskOp.TheVariants as task_op
 use Rattle.task_machine.specs.declared.label.ThreadLabel.TheVariants as thread_label
 use Rattle.task_machine.specs.declared.op.ThreadOp.TheVariants as thread_op
-use Rattle.task_rules.specs.Texts.{polls}
 
 -- b: edge, h, thread; feed: p, react, work, export, feed, give, z_, wb_bx_b, g, log
 abbrev pub generated_26 : Scenario

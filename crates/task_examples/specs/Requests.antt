@@ -24,7 +24,6 @@ use Rattle.task_machine.specs.declared.label.TakeLabel.TheVariants as take
 use Rattle.task_machine.specs.declared.label.TaskLabel.TheVariants as task_label
 use Rattle.task_machine.specs.declared.op.TaskOp.TheVariants as task_op
 use Rattle.task_machine.specs.declared.label.ThreadLabel.TheVariants as thread_label
-use Rattle.task_rules.specs.Texts.{polls}
 
 -- db: get; api: do; edge: req
 abbrev pub generated_scenario_of_one_request_runs_to_done : Scenario

@@ -44,8 +44,8 @@ use Rattle.task_machine.specs.Maps.{get}
 use Rattle.task_machine.specs.Moves.{Gift, NoGift, ended, gift, given_for, handed_on, may_hand_on, may_publish, own_gift_only, published, taken}
 use Rattle.task_machine.specs.Read.{admits, at_handle_limit, blocked_on, course_of, course_value, instance_of, is_explicit, kind_of, phase_of, place_of, strand_of, task_of, work_caller_of}
 use Rattle.task_machine.specs.Write.{add_group, remove_threads, set_course, set_do_not_enter, set_phase, set_script, set_stage, set_started, set_starting_published}
-use Rattle.task_rules.proofs.KeepRows.{call_made_keeps, data_row_keeps, forbidding_keeps, moved_to_keeps, set_given_keeps, set_row_keeps, subtask_row_keeps, task_row_keeps, thread_row_keeps, told_keeps, with_thread_handle_keeps, work_queued_keeps}
-use Rattle.task_rules.proofs.KeepWords.{add_group_keeps, after, handed_on_keeps, if_keeps, may_keeps, or_never_keeps, published_keeps, push_high_keeps, put_high_keeps, remove_threads_keeps, same, set_course_keeps, set_do_not_enter_keeps, set_high_keeps, set_low_keeps, set_phase_keeps, set_place_keeps, set_register_keeps, set_script_keeps, set_stage_keeps, set_started_keeps, set_starting_published_keeps, set_switch_keeps, set_trapped_keeps, stopped_at_keeps, take_result_keeps, taken_keeps, trap_if_keeps, unblocked_keeps}
+use Rattle.task_rules.proofs.KeepRows.{data_row_keeps, forbidding_keeps, moved_to_keeps, set_given_keeps, set_row_keeps, subtask_row_keeps, task_row_keeps, thread_row_keeps, told_keeps, with_thread_handle_keeps}
+use Rattle.task_rules.proofs.KeepWords.{add_group_keeps, after, call_made_keeps, handed_on_keeps, if_keeps, may_keeps, or_never_keeps, published_keeps, push_high_keeps, put_high_keeps, remove_threads_keeps, same, set_course_keeps, set_do_not_enter_keeps, set_high_keeps, set_low_keeps, set_phase_keeps, set_place_keeps, set_register_keeps, set_script_keeps, set_stage_keeps, set_started_keeps, set_starting_published_keeps, set_switch_keeps, set_trapped_keeps, stopped_at_keeps, take_result_keeps, taken_keeps, trap_if_keeps, unblocked_keeps, work_queued_keeps}
 use Rattle.task_rules.specs.Calls.{call_made, next_thread, with_thread_handle}
 use Rattle.task_rules.specs.Cancels.{aborted_phase}
 use Rattle.task_rules.specs.Data.{moved_to}

@@ -19,14 +19,12 @@ use Rattle.task_machine.specs.declared.op.TaskOp.{TaskOp}
 use Rattle.task_machine.specs.declared.label.ThreadLabel.{ThreadLabel}
 use Rattle.task_machine.specs.declared.op.ThreadOp.{ThreadOp}
 use Rattle.task_machine.specs.declared.records.Why.{Why}
-use Rattle.task_machine.specs.declared.records.WorkCaller.{WorkCaller}
 use Rattle.task_machine.specs.declared.records.CallEnd.TheVariants as call_end
 use Rattle.task_machine.specs.declared.label.CallLabel.TheVariants as call_label
 use Rattle.task_machine.specs.declared.op.CallOp.TheVariants as call_op
 use Rattle.task_machine.specs.declared.records.Caller.TheVariants as caller
 use Rattle.task_machine.specs.declared.op.DataOp.TheVariants as data_op
 use Rattle.task_machine.specs.declared.records.Delivery.TheVariants as delivery
-use Rattle.task_machine.specs.declared.records.Entry.TheVariants as entry
 use Rattle.task_machine.specs.declared.records.Goal.TheVariants as goal
 use Rattle.task_machine.specs.declared.records.HowFar.TheVariants as how_far
 use Rattle.task_machine.specs.declared.records.Join.TheVariants as join
@@ -52,9 +50,9 @@ use Rattle.task_machine.specs.Core.{Core}
 use Rattle.task_machine.specs.Labels.{Choice, exit_label, join_label, ret_label, task_cancel_label, wait_label}
 use Rattle.task_machine.specs.Moves.{Gift, NoGift, behind, call_settled, checked, ended, gift, handed_on, may_hand_on, passes_check, promoted_unless, published, put_low, put_switch, released, stopped, stopped_at, taken, withdrawn}
 use Rattle.task_machine.specs.Read.{at_handle_limit, backpressure_of, call_instance, caller_of, cancel_was_delivered, event_of, fits, foot_of, goal_of, has_ended, has_member, has_waiters, how_far_of, instance_of, is_async_lifted, is_at, is_callback_yield, is_direct, is_explicit, is_joined, is_watched, join_of, kind_of, may_not_suspend, new_handle, new_thread_handle, own_event_of, phase_of, position_of, register_of, registers_of, result_of, saved_callee_of, saved_own_of, set_at, subtask_at, subtask_ended, task_of, thread_at, thread_group, thread_handle_of, undelivered_end, under_of, was_cancelled, was_started, word_of}
-use Rattle.task_machine.specs.Write.{add_call, add_set, add_thread, add_work, count_work, free_handle, give_handle, give_thread_handle, remove_set, remove_work, set_backpressure, set_do_not_enter, set_do_not_suspend, set_end, set_event, set_join, set_own_event, set_phase, set_place, set_position, set_register, set_result, set_saved_callee, set_saved_own, set_started, set_subtask_handle, set_word}
-use Rattle.task_rules.proofs.KeepWords.{add_call_keeps, add_set_keeps, add_thread_keeps, add_work_keeps, after, behind_keeps, call_settled_keeps, checked_keeps, count_work_keeps, ended_keeps, free_handle_keeps, give_handle_keeps, give_result_keeps, give_thread_handle_keeps, group_settled_keeps, handed_on_keeps, if_keeps, later, may_keeps, or_never_keeps, or_trap_keeps, promoted_unless_keeps, published_keeps, push_high_keeps, put_high_keeps, put_low_keeps, put_switch_keeps, released_keeps, remove_set_keeps, remove_work_keeps, same, set_backpressure_keeps, set_cancelled_keeps, set_do_not_enter_keeps, set_do_not_suspend_keeps, set_end_keeps, set_event_keeps, set_how_far_keeps, set_join_keeps, set_own_event_keeps, set_phase_keeps, set_place_keeps, set_position_keeps, set_register_keeps, set_result_keeps, set_saved_callee_keeps, set_saved_own_keeps, set_started_keeps, set_subtask_handle_keeps, set_thread_handle_keeps, set_word_keeps, stopped_at_keeps, stopped_keeps, taken_keeps, trap_if_keeps, wake_keeps, withdrawn_keeps}
-use Rattle.task_rules.specs.Calls.{AtOnce, Failing, FirstPoll, Later, answered, blocked, call_answered, call_begins, call_blocked, call_host_polled, call_host_row, call_made, call_pending, call_returned, call_row, call_status, call_sync_begins, call_sync_host_polled, call_sync_host_row, call_sync_row, call_sync_status, called, called_back, enter_row, entered, first_poll, forbidding, host_answered, host_blocked, host_pending, host_ready, new_call, new_thread, new_work, next_thread, next_work, packed, put_back, settle_group_of, status_found, suspending, with_handle, with_thread_handle, work_answered, work_deleted, work_group, work_queued, work_value}
+use Rattle.task_machine.specs.Write.{add_set, add_thread, count_work, free_handle, give_handle, give_thread_handle, remove_set, remove_work, set_backpressure, set_do_not_enter, set_do_not_suspend, set_end, set_event, set_join, set_own_event, set_phase, set_place, set_position, set_register, set_result, set_saved_callee, set_saved_own, set_started, set_subtask_handle, set_word}
+use Rattle.task_rules.proofs.KeepWords.{add_set_keeps, add_thread_keeps, after, behind_keeps, call_made_keeps, call_settled_keeps, checked_keeps, count_work_keeps, ended_keeps, free_handle_keeps, give_handle_keeps, give_result_keeps, give_thread_handle_keeps, group_settled_keeps, handed_on_keeps, if_keeps, later, may_keeps, or_never_keeps, or_trap_keeps, promoted_unless_keeps, published_keeps, put_high_keeps, put_low_keeps, put_switch_keeps, released_keeps, remove_set_keeps, remove_work_keeps, same, set_backpressure_keeps, set_cancelled_keeps, set_do_not_enter_keeps, set_do_not_suspend_keeps, set_end_keeps, set_event_keeps, set_how_far_keeps, set_join_keeps, set_own_event_keeps, set_phase_keeps, set_place_keeps, set_position_keeps, set_register_keeps, set_result_keeps, set_saved_callee_keeps, set_saved_own_keeps, set_started_keeps, set_subtask_handle_keeps, set_thread_handle_keeps, set_word_keeps, stopped_at_keeps, stopped_keeps, taken_keeps, trap_if_keeps, wake_keeps, withdrawn_keeps, work_queued_keeps}
+use Rattle.task_rules.specs.Calls.{AtOnce, Failing, FirstPoll, Later, answered, blocked, call_answered, call_begins, call_blocked, call_host_polled, call_host_row, call_made, call_pending, call_returned, call_row, call_status, call_sync_begins, call_sync_host_polled, call_sync_host_row, call_sync_row, call_sync_status, called, called_back, enter_row, entered, first_poll, forbidding, host_answered, host_blocked, host_pending, host_ready, new_thread, next_thread, next_work, packed, put_back, settle_group_of, status_found, suspending, with_handle, with_thread_handle, work_answered, work_deleted, work_group, work_queued, work_value}
 use Rattle.task_rules.specs.Cancels.{Async, Mode, Sync, aborted_phase, after_cancel, asked, awaiting, behind_switch, blocked_code, by_end, cancel_delivered_to, cancel_found, cancel_guest, cancel_host, cancel_resumed, cancel_row, cancel_running, cancel_subtask, cancel_yield, drop_found, drop_row, dropped, end_taken, ended_row, host_cancelled, is_callback_wait, lets_go_on, not_ended_row, pauses, start_withdrawn, subtask_instance, subtask_row, subtask_settled, yield_cancelled}
 use Rattle.task_rules.specs.Data.{advanced, assigned, data_row, moved_to, skip_row, skipped, stored}
 use Rattle.task_rules.specs.Ends.{awaited, blocking_exit_row, blocking_left, cancelled, code_row, deactivated, direct_exit_row, direct_exit_to, direct_left, exit_row, exit_row_for, finished, found, has_event_for, held_out, implicit_exit_row, is_told, kind_end, kind_exit_row, leave_row, leaves_no_result, left, let_in, may_tell, own_or_none, passes_after_return, passes_after_stop, restored, result_given, returned, sync_exit_row, sync_left, told, wait_end, yielded}
@@ -342,17 +340,13 @@ module _ {R : Core → Core → Type 0} (E : Elementary R) where
   set_row_keeps n s ch (set_op.Poll r x) = poll_row_keeps n r (value_of n s x) ch s
   set_row_keeps n s ch (set_op.Join x y) = join_row_keeps n (value_of n s x) (value_of n s y) ch.woken s
 
-  pub call_made_keeps : (a0 : Caller) (a1 : Callee) (a2 : ExportKind) (a3 : Goal) (a4 : ℕ) (a5 : List ℕ) (s : Core) → R s (call_made a0 a1 a2 a3 a4 a5 s)
-  unfolding call_made
-  call_made_keeps f e x g group words s = after E (add_call_keeps E (next_thread s) (new_call f e x g group) s) (add_thread_keeps E (new_thread (next_thread s) false script.Start (registers_for words) None) (add_call (next_thread s) (new_call f e x g group) s))
-
   pub suspending_keeps : (a0 : ℕ) (a1 : ℕ) (a2 : ExportKind) (s : Core) → R s (suspending a0 a1 a2 s)
   suspending_keeps n j kind.Sync s = same E s
   suspending_keeps n j x s = after E (set_saved_callee_keeps E n (Some (may_not_suspend j s)) s) (set_do_not_suspend_keeps E j false (set_saved_callee n (Some (may_not_suspend j s)) s))
 
   pub called_keeps : (a0 : ℕ) (a1 : Callee) (a2 : ExportKind) (a3 : Goal) (a4 : List ℕ) (s : Core) → R s (called a0 a1 a2 a3 a4 s)
   unfolding called
-  called_keeps n e x g words s = let m = next_thread s in after E (after E (after E (after E (call_made_keeps (caller.Thread n) e x g (thread_group n s) words s) (put_switch_keeps E m why.Start (call_made (caller.Thread n) e x g (thread_group n s) words s))) (suspending_keeps n e.instance x (put_switch m why.Start (call_made (caller.Thread n) e x g (thread_group n s) words s)))) (behind_keeps E m (n ∷ []) (suspending n e.instance x (put_switch m why.Start (call_made (caller.Thread n) e x g (thread_group n s) words s))))) (set_how_far_keeps E n (how_far.Calls (subtask.Guest m)) (behind m (n ∷ []) (suspending n e.instance x (put_switch m why.Start (call_made (caller.Thread n) e x g (thread_group n s) words s)))))
+  called_keeps n e x g words s = let m = next_thread s in after E (after E (after E (after E (call_made_keeps E (caller.Thread n) e x g (thread_group n s) words s) (put_switch_keeps E m why.Start (call_made (caller.Thread n) e x g (thread_group n s) words s))) (suspending_keeps n e.instance x (put_switch m why.Start (call_made (caller.Thread n) e x g (thread_group n s) words s)))) (behind_keeps E m (n ∷ []) (suspending n e.instance x (put_switch m why.Start (call_made (caller.Thread n) e x g (thread_group n s) words s))))) (set_how_far_keeps E n (how_far.Calls (subtask.Guest m)) (behind m (n ∷ []) (suspending n e.instance x (put_switch m why.Start (call_made (caller.Thread n) e x g (thread_group n s) words s)))))
 
   pub call_begins_keeps : (a0 : Component) (a1 : ℕ) (a2 : Callee) (a3 : Goal) (a4 : List ℕ) (s : Core) → Keeps R s (call_begins a0 a1 a2 a3 a4 s)
   call_begins_keeps c n e g words s = trap_if_keeps E s (not (fits 3 s)) trap.TableFull (Stops (label.Call (call_label.Calls n (next_thread s))) (called n e (export_kind c e) g words s)) (called_keeps n e (export_kind c e) g words s)
@@ -415,7 +409,7 @@ module _ {R : Core → Core → Type 0} (E : Elementary R) where
 
   pub entered_keeps : (a0 : ℕ) (a1 : Callee) (a2 : ExportKind) (a3 : List ℕ) (s : Core) → R s (entered a0 a1 a2 a3 s)
   unfolding entered
-  entered_keeps n e x words s = let m = next_thread s in after E (after E (after E (after E (after E (after E (call_made_keeps (caller.Thread n) e x goal.Direct (thread_group n s) words s) (with_thread_handle_keeps e.instance m (call_made (caller.Thread n) e x goal.Direct (thread_group n s) words s))) (set_started_keeps E m (with_thread_handle e.instance m (call_made (caller.Thread n) e x goal.Direct (thread_group n s) words s)))) (forbidding_keeps m e.instance x (set_started m (with_thread_handle e.instance m (call_made (caller.Thread n) e x goal.Direct (thread_group n s) words s))))) (set_place_keeps E m place.Running (forbidding m e.instance x (set_started m (with_thread_handle e.instance m (call_made (caller.Thread n) e x goal.Direct (thread_group n s) words s)))))) (set_place_keeps E n (place.Under m) (set_place m place.Running (forbidding m e.instance x (set_started m (with_thread_handle e.instance m (call_made (caller.Thread n) e x goal.Direct (thread_group n s) words s))))))) (set_how_far_keeps E n (how_far.Calls (subtask.Guest m)) (set_place n (place.Under m) (set_place m place.Running (forbidding m e.instance x (set_started m (with_thread_handle e.instance m (call_made (caller.Thread n) e x goal.Direct (thread_group n s) words s)))))))
+  entered_keeps n e x words s = let m = next_thread s in after E (after E (after E (after E (after E (after E (call_made_keeps E (caller.Thread n) e x goal.Direct (thread_group n s) words s) (with_thread_handle_keeps e.instance m (call_made (caller.Thread n) e x goal.Direct (thread_group n s) words s))) (set_started_keeps E m (with_thread_handle e.instance m (call_made (caller.Thread n) e x goal.Direct (thread_group n s) words s)))) (forbidding_keeps m e.instance x (set_started m (with_thread_handle e.instance m (call_made (caller.Thread n) e x goal.Direct (thread_group n s) words s))))) (set_place_keeps E m place.Running (forbidding m e.instance x (set_started m (with_thread_handle e.instance m (call_made (caller.Thread n) e x goal.Direct (thread_group n s) words s)))))) (set_place_keeps E n (place.Under m) (set_place m place.Running (forbidding m e.instance x (set_started m (with_thread_handle e.instance m (call_made (caller.Thread n) e x goal.Direct (thread_group n s) words s))))))) (set_how_far_keeps E n (how_far.Calls (subtask.Guest m)) (set_place n (place.Under m) (set_place m place.Running (forbidding m e.instance x (set_started m (with_thread_handle e.instance m (call_made (caller.Thread n) e x goal.Direct (thread_group n s) words s)))))))
 
   pub enter_row_keeps : (a0 : ℕ) (a1 : Callee) (a2 : ExportKind) (a3 : List ℕ) (s : Core) → Keeps R s (enter_row a0 a1 a2 a3 s)
   enter_row_keeps n e x words s = trap_if_keeps E s (not (fits 3 s)) trap.TableFull (trap_if (at_handle_limit s) trap.HandleLimit (Goes (label.Call (call_label.Enters n (next_thread s))) (entered n e x words s) (next_thread s))) (trap_if_keeps E s (at_handle_limit s) trap.HandleLimit (Goes (label.Call (call_label.Enters n (next_thread s))) (entered n e x words s) (next_thread s)) (entered_keeps n e x words s))
@@ -429,17 +423,13 @@ module _ {R : Core → Core → Type 0} (E : Elementary R) where
   call_sync_row_keeps c n r e words s (how_far.Calls (subtask.Guest k)) = call_sync_status_keeps n r k s (status_found k s)
   call_sync_row_keeps c n r e words s u1 = call_sync_begins_keeps c n e words s (is_async_lifted (export_kind c e))
 
-  pub work_queued_keeps : (a0 : WorkCaller) (a1 : HostDef) (a2 : Option ℕ) (s : Core) → R s (work_queued a0 a1 a2 s)
-  unfolding work_queued
-  work_queued_keeps f host group s = after E (after E (count_work_keeps E s) (add_work_keeps E (next_work s) (new_work f host group) (count_work s))) (push_high_keeps E (entry.Push (next_work s)) (add_work (next_work s) (new_work f host group) (count_work s)))
-
   pub host_ready_keeps : (a0 : ℕ) (a1 : ℕ) (a2 : ℕ) (a3 : ℕ) (s : Core) → R s (host_ready a0 a1 a2 a3 s)
   unfolding host_ready
   host_ready_keeps n r q v s = after E (after E (count_work_keeps E s) (set_register_keeps E n q v (count_work s))) (assigned_keeps n r 2 (set_register n q v (count_work s)))
 
   pub host_pending_keeps : (a0 : ℕ) (a1 : ℕ) (a2 : ℕ) (a3 : ℕ) (a4 : HostDef) (s : Core) → R s (host_pending a0 a1 a2 a3 a4 s)
   unfolding host_pending
-  host_pending_keeps n r q v host s = after E (after E (work_queued_keeps (work_caller.Async n q) host (Some (thread_group n s)) s) (with_handle_keeps (instance_of n s) (subtask.Host (next_work s)) (work_queued (work_caller.Async n q) host (Some (thread_group n s)) s))) (assigned_keeps n r v (with_handle (instance_of n s) (subtask.Host (next_work s)) (work_queued (work_caller.Async n q) host (Some (thread_group n s)) s)))
+  host_pending_keeps n r q v host s = after E (after E (work_queued_keeps E (work_caller.Async n q) host (Some (thread_group n s)) s) (with_handle_keeps (instance_of n s) (subtask.Host (next_work s)) (work_queued (work_caller.Async n q) host (Some (thread_group n s)) s))) (assigned_keeps n r v (with_handle (instance_of n s) (subtask.Host (next_work s)) (work_queued (work_caller.Async n q) host (Some (thread_group n s)) s)))
 
   pub call_host_polled_keeps : (a0 : ℕ) (a1 : ℕ) (a2 : ℕ) (s : Core) (a4 : FirstPoll) → Keeps R s (call_host_polled a0 a1 a2 s a4)
   call_host_polled_keeps n r q s (AtOnce v) = host_ready_keeps n r q v s
@@ -455,7 +445,7 @@ module _ {R : Core → Core → Type 0} (E : Elementary R) where
 
   pub host_blocked_keeps : (a0 : ℕ) (a1 : HostDef) (s : Core) → R s (host_blocked a0 a1 s)
   unfolding host_blocked
-  host_blocked_keeps n host s = after E (after E (checked_keeps E (instance_of n s) s) (work_queued_keeps (work_caller.Sync n) host (Some (thread_group n s)) (checked (instance_of n s) s))) (blocked_keeps n (subtask.Host (next_work s)) (work_queued (work_caller.Sync n) host (Some (thread_group n s)) (checked (instance_of n s) s)))
+  host_blocked_keeps n host s = after E (after E (checked_keeps E (instance_of n s) s) (work_queued_keeps E (work_caller.Sync n) host (Some (thread_group n s)) (checked (instance_of n s) s))) (blocked_keeps n (subtask.Host (next_work s)) (work_queued (work_caller.Sync n) host (Some (thread_group n s)) (checked (instance_of n s) s)))
 
   pub call_sync_host_polled_keeps : (a0 : ℕ) (a1 : ℕ) (s : Core) (a3 : FirstPoll) → Keeps R s (call_sync_host_polled a0 a1 s a3)
   call_sync_host_polled_keeps n r s (AtOnce v) = host_answered_keeps n r v s

@@ -1,12 +1,15 @@
 -- Each step keeps a relation of cores that every elementary change keeps: the words of the machine.
 use Rattle.std.specs.Option.{option_map_or}
-use Rattle.std.specs.Prelude.{Bool, List, None, Option, Some, [], false, if◌then◌else◌, is_some, not, slice_set, true, ℕ, ◌++◌, ◌||◌, ◌∷◌}
-use Rattle.task_machine.specs.declared.records.Call.{Call}
+use Rattle.std.specs.Prelude.{Bool, List, None, Option, Some, [], false, if◌then◌else◌, is_some, not, true, ℕ, ◌++◌, ◌||◌, ◌∷◌}
 use Rattle.task_machine.specs.declared.records.CallEnd.{CallEnd}
+use Rattle.task_machine.specs.declared.component.Callee.{Callee}
+use Rattle.task_machine.specs.declared.records.Caller.{Caller}
 use Rattle.task_machine.specs.declared.records.Course.{Course}
 use Rattle.task_machine.specs.declared.records.Entry.{Entry}
+use Rattle.task_machine.specs.declared.component.ExportKind.{ExportKind}
+use Rattle.task_machine.specs.declared.records.Goal.{Goal}
+use Rattle.task_machine.specs.declared.component.HostDef.{HostDef}
 use Rattle.task_machine.specs.declared.records.HowFar.{HowFar}
-use Rattle.task_machine.specs.declared.records.Instance.{Instance}
 use Rattle.task_machine.specs.declared.records.Join.{Join}
 use Rattle.task_machine.specs.declared.words.Mark.{Mark}
 use Rattle.task_machine.specs.declared.records.Named.{Named}
@@ -21,7 +24,7 @@ use Rattle.task_machine.specs.declared.records.Subtask.{Subtask}
 use Rattle.task_machine.specs.declared.records.Thread.{Thread}
 use Rattle.task_machine.specs.declared.trap.Trap.{Trap}
 use Rattle.task_machine.specs.declared.records.Why.{Why}
-use Rattle.task_machine.specs.declared.records.Work.{Work}
+use Rattle.task_machine.specs.declared.records.WorkCaller.{WorkCaller}
 use Rattle.task_machine.specs.declared.records.CallEnd.TheVariants as call_end
 use Rattle.task_machine.specs.declared.records.Delivery.TheVariants as delivery
 use Rattle.task_machine.specs.declared.records.Entry.TheVariants as entry
@@ -29,13 +32,13 @@ use Rattle.task_machine.specs.declared.records.Join.TheVariants as join
 use Rattle.task_machine.specs.declared.words.Mark.TheVariants as mark
 use Rattle.task_machine.specs.declared.words.OwnEvent.TheVariants as own
 use Rattle.task_machine.specs.declared.records.Place.TheVariants as place
-use Rattle.task_machine.specs.declared.records.Subtask.TheVariants as subtask
 use Rattle.task_machine.specs.declared.records.Why.TheVariants as why
 use Rattle.task_machine.specs.Core.{Core}
 use Rattle.task_machine.specs.Maps.{get}
 use Rattle.task_machine.specs.Moves.{Gift, MemberGift, NoGift, OwnGift, behind, behind_one, call_settled, checked, departed, displaced, ended, exited_if, first_entry, freed_thread_handle, group_settled, handed_on, hands_on, has_entry, held_why_of, interest_settled, is_callback_waiter, is_deletable, is_finished, is_group_done, less, less_switch, newest, older, passed_on, promoted, promoted_first, promoted_unless, published, put_high, put_low, put_switch, released, released_one, resumed_all, resumed_callers, stand, stopped, stopped_at, taken, taken_own, unblocked, unqueued, wake, wake_joined, waken_by, why_of, withdrawn}
 use Rattle.task_machine.specs.Read.{blocked_on, call_group, callers_of, foot_of, instance_of, is_explicit, join_of, may_not_suspend, task_of, thread_handle_of}
-use Rattle.task_machine.specs.Write.{add_call, add_group, add_set, add_thread, add_work, count_work, free_handle, free_thread_handle, give_handle, give_result, give_thread_handle, on_call, on_instance, on_thread, on_work, push_high, push_high_first, push_low, remove_call, remove_group, remove_set, remove_thread, remove_threads, remove_work, set_backpressure, set_callers, set_cancel_delivered, set_cancelled, set_course, set_do_not_enter, set_do_not_suspend, set_end, set_event, set_exited, set_high, set_how_far, set_join, set_low, set_own_event, set_phase, set_place, set_places, set_position, set_register, set_result, set_saved_callee, set_saved_own, set_script, set_stage, set_started, set_starting_published, set_subtask_handle, set_switch, set_thread_handle, set_trapped, set_uninteresting, set_word, take_result}
+use Rattle.task_machine.specs.Write.{add_group, add_set, add_thread, count_work, free_handle, free_thread_handle, give_handle, give_result, give_thread_handle, push_high, push_high_first, push_low, remove_call, remove_group, remove_set, remove_thread, remove_threads, remove_work, set_backpressure, set_callers, set_cancel_delivered, set_cancelled, set_course, set_do_not_enter, set_do_not_suspend, set_end, set_event, set_exited, set_high, set_how_far, set_join, set_low, set_own_event, set_phase, set_place, set_places, set_position, set_register, set_result, set_saved_callee, set_saved_own, set_script, set_stage, set_started, set_starting_published, set_subtask_handle, set_switch, set_thread_handle, set_trapped, set_uninteresting, set_word, take_result}
+use Rattle.task_rules.specs.Calls.{call_made, work_queued}
 use Rattle.task_rules.specs.Keeps.{Elementary, Keeps}
 use Rattle.task_rules.specs.Progress.{Fails, Goes, Never, Ordered, Progress, Stops, Traps, may, or_never, or_trap, trap_if}
 
@@ -74,8 +77,29 @@ module _ {R : Core → Core → Type 0} (E : Elementary R) where
   later h Never k = tt
   later h (Ordered ns next) k = λ order. later h (next order) (k order)
 
-  pub on_thread_keeps : (a0 : ℕ) (a1 : (Thread → Thread)) (s : Core) → R s (on_thread a0 a1 s)
-  on_thread_keeps a0 a1 s = E.on_thread_kept a0 a1 s
+  pub set_register_keeps : (a0 : ℕ) (a1 : ℕ) (a2 : ℕ) (s : Core) → R s (set_register a0 a1 a2 s)
+  set_register_keeps a0 a1 a2 s = E.set_register_kept a0 a1 a2 s
+
+  pub set_position_keeps : (a0 : ℕ) (a1 : ℕ) (s : Core) → R s (set_position a0 a1 s)
+  set_position_keeps a0 a1 s = E.set_position_kept a0 a1 s
+
+  pub set_how_far_keeps : (a0 : ℕ) (a1 : HowFar) (s : Core) → R s (set_how_far a0 a1 s)
+  set_how_far_keeps a0 a1 s = E.set_how_far_kept a0 a1 s
+
+  pub set_script_keeps : (a0 : ℕ) (a1 : Script) (s : Core) → R s (set_script a0 a1 s)
+  set_script_keeps a0 a1 s = E.set_script_kept a0 a1 s
+
+  pub set_thread_handle_keeps : (a0 : ℕ) (a1 : Option ℕ) (s : Core) → R s (set_thread_handle a0 a1 s)
+  set_thread_handle_keeps a0 a1 s = E.set_thread_handle_kept a0 a1 s
+
+  pub set_saved_own_keeps : (a0 : ℕ) (a1 : Option Bool) (s : Core) → R s (set_saved_own a0 a1 s)
+  set_saved_own_keeps a0 a1 s = E.set_saved_own_kept a0 a1 s
+
+  pub set_saved_callee_keeps : (a0 : ℕ) (a1 : Option Bool) (s : Core) → R s (set_saved_callee a0 a1 s)
+  set_saved_callee_keeps a0 a1 s = E.set_saved_callee_kept a0 a1 s
+
+  pub set_place_keeps : (a0 : ℕ) (a1 : Place) (s : Core) → R s (set_place a0 a1 s)
+  set_place_keeps a0 a1 s = E.set_place_kept a0 a1 s
 
   pub set_callers_keeps : (a0 : ℕ) (a1 : List ℕ) (s : Core) → R s (set_callers a0 a1 s)
   set_callers_keeps a0 a1 s = E.set_callers_kept a0 a1 s
@@ -86,26 +110,59 @@ module _ {R : Core → Core → Type 0} (E : Elementary R) where
   pub remove_thread_keeps : (a0 : ℕ) (s : Core) → R s (remove_thread a0 s)
   remove_thread_keeps a0 s = E.remove_thread_kept a0 s
 
-  pub on_call_keeps : (a0 : ℕ) (a1 : (Call → Call)) (s : Core) → R s (on_call a0 a1 s)
-  on_call_keeps a0 a1 s = E.on_call_kept a0 a1 s
+  pub set_started_keeps : (a0 : ℕ) (s : Core) → R s (set_started a0 s)
+  set_started_keeps a0 s = E.set_started_kept a0 s
 
-  pub add_call_keeps : (a0 : ℕ) (a1 : Call) (s : Core) → R s (add_call a0 a1 s)
-  add_call_keeps a0 a1 s = E.add_call_kept a0 a1 s
+  pub set_starting_published_keeps : (a0 : ℕ) (s : Core) → R s (set_starting_published a0 s)
+  set_starting_published_keeps a0 s = E.set_starting_published_kept a0 s
+
+  pub set_end_keeps : (a0 : ℕ) (a1 : CallEnd) (s : Core) → R s (set_end a0 a1 s)
+  set_end_keeps a0 a1 s = E.set_end_kept a0 a1 s
+
+  pub set_own_event_keeps : (a0 : ℕ) (a1 : Option OwnEvent) (s : Core) → R s (set_own_event a0 a1 s)
+  set_own_event_keeps a0 a1 s = E.set_own_event_kept a0 a1 s
+
+  pub set_cancel_delivered_keeps : (a0 : ℕ) (s : Core) → R s (set_cancel_delivered a0 s)
+  set_cancel_delivered_keeps a0 s = E.set_cancel_delivered_kept a0 s
+
+  pub set_exited_keeps : (a0 : ℕ) (s : Core) → R s (set_exited a0 s)
+  set_exited_keeps a0 s = E.set_exited_kept a0 s
+
+  pub set_uninteresting_keeps : (a0 : ℕ) (s : Core) → R s (set_uninteresting a0 s)
+  set_uninteresting_keeps a0 s = E.set_uninteresting_kept a0 s
+
+  pub set_result_keeps : (a0 : ℕ) (a1 : Option ℕ) (s : Core) → R s (set_result a0 a1 s)
+  set_result_keeps a0 a1 s = E.set_result_kept a0 a1 s
 
   pub remove_call_keeps : (a0 : ℕ) (s : Core) → R s (remove_call a0 s)
   remove_call_keeps a0 s = E.remove_call_kept a0 s
 
-  pub on_work_keeps : (a0 : ℕ) (a1 : (Work → Work)) (s : Core) → R s (on_work a0 a1 s)
-  on_work_keeps a0 a1 s = E.on_work_kept a0 a1 s
+  pub set_event_keeps : (a0 : Subtask) (a1 : Option Status) (s : Core) → R s (set_event a0 a1 s)
+  set_event_keeps a0 a1 s = E.set_event_kept a0 a1 s
+
+  pub set_join_keeps : (a0 : Subtask) (a1 : Join) (s : Core) → R s (set_join a0 a1 s)
+  set_join_keeps a0 a1 s = E.set_join_kept a0 a1 s
+
+  pub set_subtask_handle_keeps : (a0 : Subtask) (a1 : Option ℕ) (s : Core) → R s (set_subtask_handle a0 a1 s)
+  set_subtask_handle_keeps a0 a1 s = E.set_subtask_handle_kept a0 a1 s
 
   pub count_work_keeps : (s : Core) → R s (count_work s)
   count_work_keeps s = E.count_work_kept s
 
-  pub add_work_keeps : (a0 : ℕ) (a1 : Work) (s : Core) → R s (add_work a0 a1 s)
-  add_work_keeps a0 a1 s = E.add_work_kept a0 a1 s
-
   pub remove_work_keeps : (a0 : ℕ) (s : Core) → R s (remove_work a0 s)
   remove_work_keeps a0 s = E.remove_work_kept a0 s
+
+  pub set_course_keeps : (a0 : ℕ) (a1 : Course) (s : Core) → R s (set_course a0 a1 s)
+  set_course_keeps a0 a1 s = E.set_course_kept a0 a1 s
+
+  pub set_phase_keeps : (a0 : ℕ) (a1 : Phase) (s : Core) → R s (set_phase a0 a1 s)
+  set_phase_keeps a0 a1 s = E.set_phase_kept a0 a1 s
+
+  pub set_stage_keeps : (a0 : ℕ) (a1 : Stage) (s : Core) → R s (set_stage a0 a1 s)
+  set_stage_keeps a0 a1 s = E.set_stage_kept a0 a1 s
+
+  pub set_cancelled_keeps : (a0 : ℕ) (s : Core) → R s (set_cancelled a0 s)
+  set_cancelled_keeps a0 s = E.set_cancelled_kept a0 s
 
   pub add_set_keeps : (a0 : Set) (s : Core) → R s (add_set a0 s)
   add_set_keeps a0 s = E.add_set_kept a0 s
@@ -113,8 +170,17 @@ module _ {R : Core → Core → Type 0} (E : Elementary R) where
   pub remove_set_keeps : (a0 : ℕ) (s : Core) → R s (remove_set a0 s)
   remove_set_keeps a0 s = E.remove_set_kept a0 s
 
-  pub on_instance_keeps : (a0 : ℕ) (a1 : (Instance → Instance)) (s : Core) → R s (on_instance a0 a1 s)
-  on_instance_keeps a0 a1 s = E.on_instance_kept a0 a1 s
+  pub set_backpressure_keeps : (a0 : ℕ) (a1 : ℕ) (s : Core) → R s (set_backpressure a0 a1 s)
+  set_backpressure_keeps a0 a1 s = E.set_backpressure_kept a0 a1 s
+
+  pub set_do_not_enter_keeps : (a0 : ℕ) (a1 : Bool) (s : Core) → R s (set_do_not_enter a0 a1 s)
+  set_do_not_enter_keeps a0 a1 s = E.set_do_not_enter_kept a0 a1 s
+
+  pub set_do_not_suspend_keeps : (a0 : ℕ) (a1 : Bool) (s : Core) → R s (set_do_not_suspend a0 a1 s)
+  set_do_not_suspend_keeps a0 a1 s = E.set_do_not_suspend_kept a0 a1 s
+
+  pub set_word_keeps : (a0 : ℕ) (a1 : ℕ) (a2 : ℕ) (s : Core) → R s (set_word a0 a1 a2 s)
+  set_word_keeps a0 a1 a2 s = E.set_word_kept a0 a1 a2 s
 
   pub give_handle_keeps : (a0 : ℕ) (a1 : Named) (s : Core) → R s (give_handle a0 a1 s)
   give_handle_keeps a0 a1 s = E.give_handle_kept a0 a1 s
@@ -161,37 +227,11 @@ module _ {R : Core → Core → Type 0} (E : Elementary R) where
   pub set_trapped_keeps : (s : Core) → R s (set_trapped s)
   set_trapped_keeps s = E.set_trapped_kept s
 
-  pub set_register_keeps : (a0 : ℕ) (a1 : ℕ) (a2 : ℕ) (s : Core) → R s (set_register a0 a1 a2 s)
-  unfolding set_register
-  set_register_keeps n r v s = on_thread_keeps n (λ t. record t { registers = slice_set t.registers r v }) s
+  pub call_made_keeps : (a0 : Caller) (a1 : Callee) (a2 : ExportKind) (a3 : Goal) (a4 : ℕ) (a5 : List ℕ) (s : Core) → R s (call_made a0 a1 a2 a3 a4 a5 s)
+  call_made_keeps a0 a1 a2 a3 a4 a5 s = E.call_made_kept a0 a1 a2 a3 a4 a5 s
 
-  pub set_position_keeps : (a0 : ℕ) (a1 : ℕ) (s : Core) → R s (set_position a0 a1 s)
-  unfolding set_position
-  set_position_keeps n p s = on_thread_keeps n (λ t. record t { position = p }) s
-
-  pub set_how_far_keeps : (a0 : ℕ) (a1 : HowFar) (s : Core) → R s (set_how_far a0 a1 s)
-  unfolding set_how_far
-  set_how_far_keeps n h s = on_thread_keeps n (λ t. record t { how_far = h }) s
-
-  pub set_script_keeps : (a0 : ℕ) (a1 : Script) (s : Core) → R s (set_script a0 a1 s)
-  unfolding set_script
-  set_script_keeps n x s = on_thread_keeps n (λ t. record t { script = x }) s
-
-  pub set_thread_handle_keeps : (a0 : ℕ) (a1 : Option ℕ) (s : Core) → R s (set_thread_handle a0 a1 s)
-  unfolding set_thread_handle
-  set_thread_handle_keeps n h s = on_thread_keeps n (λ t. record t { handle = h }) s
-
-  pub set_saved_own_keeps : (a0 : ℕ) (a1 : Option Bool) (s : Core) → R s (set_saved_own a0 a1 s)
-  unfolding set_saved_own
-  set_saved_own_keeps n b s = on_thread_keeps n (λ t. record t { saved_own = b }) s
-
-  pub set_saved_callee_keeps : (a0 : ℕ) (a1 : Option Bool) (s : Core) → R s (set_saved_callee a0 a1 s)
-  unfolding set_saved_callee
-  set_saved_callee_keeps n b s = on_thread_keeps n (λ t. record t { saved_callee = b }) s
-
-  pub set_place_keeps : (a0 : ℕ) (a1 : Place) (s : Core) → R s (set_place a0 a1 s)
-  unfolding set_place
-  set_place_keeps n p s = on_thread_keeps n (λ t. record t { place = p }) s
+  pub work_queued_keeps : (a0 : WorkCaller) (a1 : HostDef) (a2 : Option ℕ) (s : Core) → R s (work_queued a0 a1 a2 s)
+  work_queued_keeps a0 a1 a2 s = E.work_queued_kept a0 a1 a2 s
 
   pub set_places_keeps : (a0 : List ℕ) (a1 : Place) (s : Core) → R s (set_places a0 a1 s)
   set_places_keeps [] p s = same s
@@ -200,85 +240,6 @@ module _ {R : Core → Core → Type 0} (E : Elementary R) where
   pub remove_threads_keeps : (a0 : List ℕ) (s : Core) → R s (remove_threads a0 s)
   remove_threads_keeps [] s = same s
   remove_threads_keeps (n ∷ ns) s = after (remove_thread_keeps n s) (remove_threads_keeps ns (remove_thread n s))
-
-  pub set_started_keeps : (a0 : ℕ) (s : Core) → R s (set_started a0 s)
-  unfolding set_started
-  set_started_keeps k s = on_call_keeps k (λ c. record c { started = true }) s
-
-  pub set_starting_published_keeps : (a0 : ℕ) (s : Core) → R s (set_starting_published a0 s)
-  unfolding set_starting_published
-  set_starting_published_keeps k s = on_call_keeps k (λ c. record c { starting_published = true }) s
-
-  pub set_end_keeps : (a0 : ℕ) (a1 : CallEnd) (s : Core) → R s (set_end a0 a1 s)
-  unfolding set_end
-  set_end_keeps k e s = on_call_keeps k (λ c. record c { «end» = Some e }) s
-
-  pub set_own_event_keeps : (a0 : ℕ) (a1 : Option OwnEvent) (s : Core) → R s (set_own_event a0 a1 s)
-  unfolding set_own_event
-  set_own_event_keeps k e s = on_call_keeps k (λ c. record c { own_event = e }) s
-
-  pub set_cancel_delivered_keeps : (a0 : ℕ) (s : Core) → R s (set_cancel_delivered a0 s)
-  unfolding set_cancel_delivered
-  set_cancel_delivered_keeps k s = on_call_keeps k (λ c. record c { cancel_delivered = true }) s
-
-  pub set_exited_keeps : (a0 : ℕ) (s : Core) → R s (set_exited a0 s)
-  unfolding set_exited
-  set_exited_keeps k s = on_call_keeps k (λ c. record c { exited = true }) s
-
-  pub set_uninteresting_keeps : (a0 : ℕ) (s : Core) → R s (set_uninteresting a0 s)
-  unfolding set_uninteresting
-  set_uninteresting_keeps k s = on_call_keeps k (λ c. record c { interesting = false }) s
-
-  pub set_result_keeps : (a0 : ℕ) (a1 : Option ℕ) (s : Core) → R s (set_result a0 a1 s)
-  unfolding set_result
-  set_result_keeps k v s = on_call_keeps k (λ c. record c { result = v }) s
-
-  pub set_course_keeps : (a0 : ℕ) (a1 : Course) (s : Core) → R s (set_course a0 a1 s)
-  unfolding set_course
-  set_course_keeps i c s = on_work_keeps i (λ w. record w { course = c }) s
-
-  pub set_phase_keeps : (a0 : ℕ) (a1 : Phase) (s : Core) → R s (set_phase a0 a1 s)
-  unfolding set_phase
-  set_phase_keeps i p s = on_work_keeps i (λ w. record w { phase = p }) s
-
-  pub set_stage_keeps : (a0 : ℕ) (a1 : Stage) (s : Core) → R s (set_stage a0 a1 s)
-  unfolding set_stage
-  set_stage_keeps i x s = on_work_keeps i (λ w. record w { stage = x }) s
-
-  pub set_cancelled_keeps : (a0 : ℕ) (s : Core) → R s (set_cancelled a0 s)
-  unfolding set_cancelled
-  set_cancelled_keeps i s = on_work_keeps i (λ w. record w { cancelled = true }) s
-
-  pub set_event_keeps : (a0 : Subtask) (a1 : Option Status) (s : Core) → R s (set_event a0 a1 s)
-  unfolding set_event
-  set_event_keeps (subtask.Guest k) e s = on_call_keeps k (λ c. record c { event = e }) s
-  set_event_keeps (subtask.Host i) e s = on_work_keeps i (λ w. record w { event = e }) s
-
-  pub set_join_keeps : (a0 : Subtask) (a1 : Join) (s : Core) → R s (set_join a0 a1 s)
-  unfolding set_join
-  set_join_keeps (subtask.Guest k) j s = on_call_keeps k (λ c. record c { join = j }) s
-  set_join_keeps (subtask.Host i) j s = on_work_keeps i (λ w. record w { join = j }) s
-
-  pub set_subtask_handle_keeps : (a0 : Subtask) (a1 : Option ℕ) (s : Core) → R s (set_subtask_handle a0 a1 s)
-  unfolding set_subtask_handle
-  set_subtask_handle_keeps (subtask.Guest k) h s = on_call_keeps k (λ c. record c { handle = h }) s
-  set_subtask_handle_keeps (subtask.Host i) h s = on_work_keeps i (λ w. record w { handle = h }) s
-
-  pub set_backpressure_keeps : (a0 : ℕ) (a1 : ℕ) (s : Core) → R s (set_backpressure a0 a1 s)
-  unfolding set_backpressure
-  set_backpressure_keeps i n s = on_instance_keeps i (λ r. record r { backpressure = n }) s
-
-  pub set_do_not_enter_keeps : (a0 : ℕ) (a1 : Bool) (s : Core) → R s (set_do_not_enter a0 a1 s)
-  unfolding set_do_not_enter
-  set_do_not_enter_keeps i b s = on_instance_keeps i (λ r. record r { do_not_enter = b }) s
-
-  pub set_do_not_suspend_keeps : (a0 : ℕ) (a1 : Bool) (s : Core) → R s (set_do_not_suspend a0 a1 s)
-  unfolding set_do_not_suspend
-  set_do_not_suspend_keeps i b s = on_instance_keeps i (λ r. record r { do_not_suspend = b }) s
-
-  pub set_word_keeps : (a0 : ℕ) (a1 : ℕ) (a2 : ℕ) (s : Core) → R s (set_word a0 a1 a2 s)
-  unfolding set_word
-  set_word_keeps i w v s = on_instance_keeps i (λ r. record r { words = slice_set r.words w v }) s
 
   pub stand_keeps : (a0 : ℕ) (a1 : Mark) (a2 : Why) (s : Core) → R s (stand a0 a1 a2 s)
   stand_keeps n m w s = set_place_keeps n (place.Ready m w) s

@@ -1,13 +1,17 @@
 -- What holds of every step, and of runs.
 use Rattle.std.specs.Prelude.{Bool, IsPermutation, IsTrue, List, None, Option, Some, [], false, true, ℕ, ◌++◌, ◌||◌, ◌∷◌, ◌≡◌, ◌≤◌, ◌⊎◌}
+use Rattle.task_machine.specs.declared.records.Call.{Call}
 use Rattle.task_machine.specs.declared.records.Entry.{Entry}
 use Rattle.task_machine.specs.declared.label.Label.{Label}
 use Rattle.task_machine.specs.declared.outcome.Outcome.{Outcome}
 use Rattle.task_machine.specs.declared.records.Place.{Place}
+use Rattle.task_machine.specs.declared.records.Thread.{Thread}
+use Rattle.task_machine.specs.declared.records.Work.{Work}
 use Rattle.task_machine.specs.declared.records.Entry.TheVariants as entry
 use Rattle.task_machine.specs.declared.records.Place.TheVariants as place
 use Rattle.task_machine.specs.declared.records.Turn.TheVariants as turn
 use Rattle.task_machine.specs.Core.{Core, State}
+use Rattle.task_machine.specs.Maps.{get}
 use Rattle.task_machine.specs.Moves.{checked, has_entry, may_wake, passes_check, promoted_unless, released, stopped, wake}
 use Rattle.task_machine.specs.Read.{foot_of, instance_of, place_of}
 use Rattle.task_machine.specs.Write.{remove_thread, set_place}
@@ -32,6 +36,43 @@ pub record SameLimits (s t : Core) : Type 0 where
   pub handle_limit : s.handle_limit ≡ t.handle_limit
   pub capacity : s.capacity ≡ t.capacity
   pub trapped : IsTrue s.trapped → IsTrue t.trapped
+
+-- What was there is gone, or later by P; what was not there is not there.
+abbrev pub LaterBy : {X : Type 0} → (X → X → Type 0) → Option X → Option X → Type 0
+LaterBy P None None = Unit {0}
+LaterBy P None (Some y) = ⊥
+LaterBy P (Some x) None = Unit {0}
+LaterBy P (Some x) (Some y) = P x y
+
+-- the thread is of the same call, and made by itself or not
+pub record SameThread (t u : Thread) : Type 0 where
+  pub call : t.call ≡ u.call
+  pub explicit : t.explicit ≡ u.explicit
+
+-- the call is of the same export for the same caller, and what has happened to it stays so: its start has run, Starting was published, a cancel was delivered, it has exited
+pub record LaterCall (c d : Call) : Type 0 where
+  pub caller : c.caller ≡ d.caller
+  pub callee : c.callee ≡ d.callee
+  pub kind : c.kind ≡ d.kind
+  pub goal : c.goal ≡ d.goal
+  pub group : c.group ≡ d.group
+  pub started : IsTrue c.started → IsTrue d.started
+  pub starting_published : IsTrue c.starting_published → IsTrue d.starting_published
+  pub cancel_delivered : IsTrue c.cancel_delivered → IsTrue d.cancel_delivered
+  pub exited : IsTrue c.exited → IsTrue d.exited
+
+pub record LaterWork (v w : Work) : Type 0 where
+  pub caller : v.caller ≡ w.caller
+  pub group : v.group ≡ w.group
+  pub cancelled : IsTrue v.cancelled → IsTrue w.cancelled
+
+-- Of the numbers that were given, none comes back once it is gone, and each record stays that of the same thread, call or work.
+pub record Steady (s t : Core) : Type 0 where
+  pub threads_made : s.made.threads ≤ t.made.threads
+  pub works_made : s.made.works ≤ t.made.works
+  pub threads : (n : ℕ) → n ≤ s.made.threads → LaterBy SameThread (get s.threads n) (get t.threads n)
+  pub calls : (k : ℕ) → k ≤ s.made.threads → LaterBy LaterCall (get s.calls k) (get t.calls k)
+  pub works : (i : ℕ) → i ≤ s.made.works → LaterBy LaterWork (get s.works i) (get t.works i)
 
 -- a label that gives an outcome ends the turns
 abbrev pub OutcomeEnds : Type 0

@@ -1,5 +1,5 @@
 ghost use Rattle.task_rules.specs.Keeps.{EachStep};
-ghost use Rattle.task_rules.specs.Laws.{NeverFewer, SameLimits, OutcomeEnds, OverIsLast, RunGoesOn, RunsJoin, KeptByRuns, OutcomeIsLast, CheckMovesOne, PromotionMovesOne, CallbackCheckIsAfter, StopKeepsPlaces, ReleaseKeepsPlaces, WakeKeepsPlaces, RemovalKeepsPlaces};
+ghost use Rattle.task_rules.specs.Laws.{NeverFewer, SameLimits, OutcomeEnds, OverIsLast, RunGoesOn, RunsJoin, KeptByRuns, OutcomeIsLast, CheckMovesOne, PromotionMovesOne, CallbackCheckIsAfter, StopKeepsPlaces, ReleaseKeepsPlaces, WakeKeepsPlaces, RemovalKeepsPlaces, Steady};
 
 /// No number is given twice: no step lowers a count of what was made.
 #[tactic(auto, using(crate::proofs::LawLemmas::never_fewer))]
@@ -93,4 +93,18 @@ pub fn wake_keeps_places()
 /// So it is where the running thread is gone.
 pub fn removal_keeps_places()
     ensures { RemovalKeepsPlaces }
+{}
+
+/// Of the numbers that were given, none comes back once it is gone, and each record stays that of
+/// the same thread, call or work: a start that has run has run, an exit stays, a cancel that was
+/// delivered stays so.
+#[tactic(auto, using(crate::proofs::LawLemmas::steady))]
+pub fn records_are_steady()
+    ensures { EachStep Steady }
+{}
+
+/// A run keeps that.
+#[tactic(auto, using(crate::proofs::LawLemmas::runs_steady))]
+pub fn runs_are_steady()
+    ensures { KeptByRuns Steady }
 {}
