@@ -18,9 +18,9 @@ fn reads_one_call(rt: HostRuntime) -> Result<(), Fail> {
 
 #[test]
 fn numbers_have_limits(rt: HostRuntime) {
-    assert_eq!(rt; bounded(b"40", 40), Some(40));
-    assert_eq!(rt; bounded(b"41", 40), None);
-    assert_eq!(rt; bounded(b"007", 40), None);
+    assert_eq!(rt; number_up_to(b"40", 40), Some(40));
+    assert_eq!(rt; number_up_to(b"41", 40), None);
+    assert_eq!(rt; number_up_to(b"007", 40), None);
 }
 
 #[test]

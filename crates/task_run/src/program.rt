@@ -5,7 +5,7 @@ use crate::outside::{Sink, Source};
 use crate::pump::{ReadFault, read_all, write_all};
 use crate::report::{Report, append_label_line, append_outcome_line, run_scenario};
 use crate::scenario::RunError;
-use scenario_text::bounded;
+use scenario_text::number_up_to;
 use std::alloc::{AllocError, Global};
 
 /// What the program says of wrong words.
@@ -70,7 +70,7 @@ fn steps_of(words: &[String]) -> Option<u32>
     if words.len() != 2 || words[0].as_str() != "run" {
         return None;
     }
-    let steps = bounded(words[1].as_bytes(), 1_000_000)? as u32;
+    let steps = number_up_to(words[1].as_bytes(), 1_000_000)? as u32;
     (steps > 0).then_some(steps)
 }
 
