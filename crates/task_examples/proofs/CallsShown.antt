@@ -4,7 +4,7 @@ use Rattle.std.specs.Prelude.{[]}
 use Rattle.task_machine.specs.declared.outcome.Outcome.TheVariants as outcome
 use Rattle.task_machine.specs.declared.trap.Trap.TheVariants as trap
 use Rattle.task_examples.proofs.PlayLemmas.{example}
-use Rattle.task_examples.specs.Calls.{callback_returns_its_parameter, callback_returns_its_parameter_labels, exit_without_return_traps, exit_without_return_traps_labels, run_stops_when_steps_are_used_up, run_stops_when_steps_are_used_up_labels, second_return_traps, second_return_traps_labels}
+use Rattle.task_examples.specs.Calls.{callback_returns_its_parameter, callback_returns_its_parameter_labels, exit_without_return_traps, exit_without_return_traps_labels, return_of_the_wrong_type_after_an_end_traps, return_of_the_wrong_type_after_an_end_traps_labels, return_of_the_wrong_type_traps, return_of_the_wrong_type_traps_labels, run_stops_when_steps_are_used_up, run_stops_when_steps_are_used_up_labels, second_return_traps, second_return_traps_labels}
 use Rattle.task_examples.specs.Play.{Example}
 use Rattle.task_examples.specs.Words.{the_words}
 
@@ -23,3 +23,11 @@ run_stops_when_steps_are_used_up_shown = example run_stops_when_steps_are_used_u
 pub second_return_traps_shown : Example second_return_traps 1000 second_return_traps_labels (outcome.Trap trap.TaskCancelOrReturnTwice)
 unfolding the_words
 second_return_traps_shown = example second_return_traps [] 1000 second_return_traps_labels (outcome.Trap trap.TaskCancelOrReturnTwice) refl refl
+
+pub return_of_the_wrong_type_traps_shown : Example return_of_the_wrong_type_traps 1000 return_of_the_wrong_type_traps_labels (outcome.Trap trap.TaskReturnInvalid)
+unfolding the_words
+return_of_the_wrong_type_traps_shown = example return_of_the_wrong_type_traps [] 1000 return_of_the_wrong_type_traps_labels (outcome.Trap trap.TaskReturnInvalid) refl refl
+
+pub return_of_the_wrong_type_after_an_end_traps_shown : Example return_of_the_wrong_type_after_an_end_traps 1000 return_of_the_wrong_type_after_an_end_traps_labels (outcome.Trap trap.TaskCancelOrReturnTwice)
+unfolding the_words
+return_of_the_wrong_type_after_an_end_traps_shown = example return_of_the_wrong_type_after_an_end_traps [] 1000 return_of_the_wrong_type_after_an_end_traps_labels (outcome.Trap trap.TaskCancelOrReturnTwice) refl refl

@@ -10,19 +10,19 @@ use Rattle.task_examples.specs.Words.{the_words}
 
 pub generated_21_shown : Example generated_21 300 generated_21_labels (outcome.Done 1)
 unfolding the_words
-generated_21_shown = example generated_21 ((106, (0, 1) ∷ []) ∷ []) 300 generated_21_labels (outcome.Done 1) refl refl
+generated_21_shown = example generated_21 ((106, (2, 3) ∷ (1, 2) ∷ (0, 1) ∷ []) ∷ []) 300 generated_21_labels (outcome.Done 1) refl refl
 
 pub generated_22_shown : Example generated_22 300 generated_22_labels (outcome.Trap trap.TaskCancelNotCancelled)
 unfolding the_words
 generated_22_shown = example generated_22 [] 300 generated_22_labels (outcome.Trap trap.TaskCancelNotCancelled) refl refl
 
-pub generated_23_shown : Example generated_23 300 generated_23_labels (outcome.Trap trap.TableHasChildren)
+pub generated_23_shown : Example generated_23 300 generated_23_labels (outcome.Done 0)
 unfolding the_words
-generated_23_shown = example generated_23 [] 300 generated_23_labels (outcome.Trap trap.TableHasChildren) refl refl
+generated_23_shown = example generated_23 [] 300 generated_23_labels (outcome.Done 0) refl refl
 
-pub generated_24_shown : Example generated_24 300 generated_24_labels outcome.OutOfSteps
+pub generated_24_shown : Example generated_24 300 generated_24_labels (outcome.Trap trap.TableHasChildren)
 unfolding the_words
-generated_24_shown = example generated_24 [] 300 generated_24_labels outcome.OutOfSteps refl refl
+generated_24_shown = example generated_24 [] 300 generated_24_labels (outcome.Trap trap.TableHasChildren) refl refl
 
 pub generated_25_shown : Example generated_25 300 generated_25_labels outcome.OutOfSteps
 unfolding the_words

@@ -14,3 +14,4 @@ pub mod Generated2Shown
 pub mod Generated3Shown
 pub mod Generated4Shown
 pub mod Generated5Shown
+pub mod Generated6Shown

@@ -60,3 +60,25 @@ second_return_traps = record { handles = 100000; table = 1000000; idle = idle_li
 abbrev pub second_return_traps_labels : List Label
 second_return_traps_labels = label.Main (main_label.Start 1 1) ∷ label.Loop loop_label.MainPends ∷ label.Take (take.Thread mark.High 1) ∷ label.Task (task_label.Ret 1 7) ∷
     label.Loop (loop_label.Trap trap.TaskCancelOrReturnTwice 1) ∷ []
+
+-- a: f
+abbrev pub return_of_the_wrong_type_traps : Scenario
+return_of_the_wrong_type_traps = record { handles = 100000; table = 1000000; idle = idle_line.Trap; component = record { instances = (record { exports =
+    (record { kind = kind.Callback; params = 0; start = (op.Task (task_op.RetBad (operand.Number 1)) ∷ []); react = [] } ∷ []); slots = (replicate 16 slot.Empty) } ∷
+    []); hosts = [] }; names = []; main = (main_op.Start (record { instance = 0; export = 0 }) [] ∷ main_op.Finish 1 0 ∷ main_op.Answer (operand.Register 0) ∷
+    []); aborters = [] }
+
+abbrev pub return_of_the_wrong_type_traps_labels : List Label
+return_of_the_wrong_type_traps_labels = label.Main (main_label.Start 1 1) ∷ label.Loop loop_label.MainPends ∷ label.Take (take.Thread mark.High 1) ∷
+    label.Loop (loop_label.Trap trap.TaskReturnInvalid 1) ∷ []
+
+-- a: f
+abbrev pub return_of_the_wrong_type_after_an_end_traps : Scenario
+return_of_the_wrong_type_after_an_end_traps = record { handles = 100000; table = 1000000; idle = idle_line.Trap; component = record { instances =
+    (record { exports = (record { kind = kind.Callback; params = 0; start = (op.Task (task_op.Ret (operand.Number 1)) ∷ op.Task (task_op.RetBad (operand.Number 1)) ∷
+    []); react = [] } ∷ []); slots = (replicate 16 slot.Empty) } ∷ []); hosts = [] }; names = []; main = (main_op.Start (record { instance = 0; export =
+    0 }) [] ∷ main_op.Finish 1 0 ∷ main_op.Answer (operand.Register 0) ∷ []); aborters = [] }
+
+abbrev pub return_of_the_wrong_type_after_an_end_traps_labels : List Label
+return_of_the_wrong_type_after_an_end_traps_labels = label.Main (main_label.Start 1 1) ∷ label.Loop loop_label.MainPends ∷ label.Take (take.Thread mark.High 1) ∷
+    label.Task (task_label.Ret 1 1) ∷ label.Loop (loop_label.Trap trap.TaskCancelOrReturnTwice 1) ∷ []

@@ -15,3 +15,4 @@ pub mod Generated2
 pub mod Generated3
 pub mod Generated4
 pub mod Generated5
+pub mod Generated6

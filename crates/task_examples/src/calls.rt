@@ -28,3 +28,15 @@ pub fn second_return_traps()
     ensures { Example the.second_return_traps 1000 the.second_return_traps_labels (Outcome.Trap Trap.TaskCancelOrReturnTwice) }
 {
 }
+
+#[tactic(auto, using(crate::proofs::CallsShown::return_of_the_wrong_type_traps_shown))]
+pub fn return_of_the_wrong_type_traps()
+    ensures { Example the.return_of_the_wrong_type_traps 1000 the.return_of_the_wrong_type_traps_labels (Outcome.Trap Trap.TaskReturnInvalid) }
+{
+}
+
+#[tactic(auto, using(crate::proofs::CallsShown::return_of_the_wrong_type_after_an_end_traps_shown))]
+pub fn return_of_the_wrong_type_after_an_end_traps()
+    ensures { Example the.return_of_the_wrong_type_after_an_end_traps 1000 the.return_of_the_wrong_type_after_an_end_traps_labels (Outcome.Trap Trap.TaskCancelOrReturnTwice) }
+{
+}

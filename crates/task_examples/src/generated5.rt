@@ -19,13 +19,13 @@ pub fn generated_22()
 
 #[tactic(auto, using(crate::proofs::Generated5Shown::generated_23_shown))]
 pub fn generated_23()
-    ensures { Example the.generated_23 300 the.generated_23_labels (Outcome.Trap Trap.TableHasChildren) }
+    ensures { Example the.generated_23 300 the.generated_23_labels (Outcome.Done 0) }
 {
 }
 
 #[tactic(auto, using(crate::proofs::Generated5Shown::generated_24_shown))]
 pub fn generated_24()
-    ensures { Example the.generated_24 300 the.generated_24_labels (Outcome.OutOfSteps) }
+    ensures { Example the.generated_24 300 the.generated_24_labels (Outcome.Trap Trap.TableHasChildren) }
 {
 }
 

@@ -8,6 +8,7 @@ pub mod generated2;
 pub mod generated3;
 pub mod generated4;
 pub mod generated5;
+pub mod generated6;
 pub mod guests;
 pub mod hosts;
 pub mod limits;
