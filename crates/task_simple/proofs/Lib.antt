@@ -1,2 +1,3 @@
 pub mod RecordLemmas
 pub mod ReadLemmas
+pub mod RowLemmas
