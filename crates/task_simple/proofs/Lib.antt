@@ -1,3 +1,5 @@
 pub mod RecordLemmas
 pub mod ReadLemmas
 pub mod RowLemmas
+pub mod CountLemmas
+pub mod TableLemmas
