@@ -3,3 +3,5 @@ pub mod ReadLemmas
 pub mod RowLemmas
 pub mod CountLemmas
 pub mod TableLemmas
+pub mod CaseLemmas
+pub mod MoveLemmas

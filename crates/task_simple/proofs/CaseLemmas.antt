@@ -1,0 +1,48 @@
+-- What is found in a map after one change: the record that was changed, or another that was found there before.
+use Rattle.std.proofs.Common.{ap, false, refl, sym, true, ◌∙◌}
+use Rattle.std.proofs.lemmas.Bool.{eqb-false, eqb-true}
+use Rattle.std.specs.Prelude.{Bool, None, Option, Some, is_some, option_map, ℕ, ◌==◌, ◌≡◌, ◌≢◌}
+use Rattle.task_machine.specs.Maps.{Records, change, get, insert, remove}
+use Rattle.task_machine.proofs.MapLemmas.{get-change_other, get-change_same, get-insert_other, get-insert_same, get-remove_other, get-remove_same}
+
+pub either : {P : Type 0} (q n : ℕ) → (q ≡ n → P) → (q ≢ n → P) → P
+either {P = P} q n same other = elim (q == n) as (λ b. (q == n) ≡ b → P) [ true ↦ λ e. same (eqb-true q n e) | false ↦ λ e. other (eqb-false q n e) ] refl
+
+mapped : {X : Type 0} {P : Type 0} (f : X → X) (y : X) (o : Option X) → option_map f o ≡ Some y → ((x : X) → o ≡ Some x → y ≡ f x → P) → P
+mapped f y None e p = absurd cc
+mapped f y (Some x) e p = p x refl cc
+
+module _ {X : Type 0} (m : Records X) (n : ℕ) where
+  pub change_cases : {P : Type 0} (f : X → X) (q : ℕ) (y : X) → get (change n f m) q ≡ Some y → ((x : X) → q ≡ n → get m n ≡ Some x → y ≡ f x → P) → (q ≢ n → get m q ≡ Some y → P) → P
+  change_cases f q y is now else =
+      either q n
+      (λ e. mapped f y (get m n) (sym (get-change_same m n f) ∙ sym (ap (get (change n f m)) e) ∙ is) (λ x found same. now x e found same))
+      (λ ne. else ne (sym (get-change_other m n f q ne) ∙ is))
+
+  pub insert_cases : {P : Type 0} (x : X) (q : ℕ) (y : X) → get (insert m n x) q ≡ Some y → (q ≡ n → y ≡ x → P) → (q ≢ n → get m q ≡ Some y → P) → P
+  insert_cases x q y is now else =
+      either q n
+      (λ e. now e (let there = get-insert_same m n x in let here = ap (get (insert m n x)) e in cc))
+      (λ ne. else ne (sym (get-insert_other m n x q ne) ∙ is))
+
+  pub remove_cases : {P : Type 0} (q : ℕ) (y : X) → get (remove m n) q ≡ Some y → (q ≢ n → get m q ≡ Some y → P) → P
+  remove_cases q y is else =
+      either q n
+      (λ e. absurd (let there = get-remove_same m n in let here = ap (get (remove m n)) e in cc))
+      (λ ne. else ne (sym (get-remove_other m n q ne) ∙ is))
+
+  -- a change leaves no number out
+  pub is_some-change : (f : X → X) (q : ℕ) → is_some (get m q) ≡ true → is_some (get (change n f m) q) ≡ true
+  is_some-change f q there =
+      either q n
+      (λ e. ap (λ k. is_some (get (change n f m) k)) e ∙ ap is_some (get-change_same m n f) ∙ kept (get m n) ∙ sym (ap (λ k. is_some (get m k)) e) ∙ there)
+      (λ ne. ap is_some (get-change_other m n f q ne) ∙ there)
+    where
+      kept : (o : Option X) → is_some (option_map f o) ≡ is_some o
+      kept None = refl
+      kept (Some x) = refl
+
+-- nothing is found where it would be absurd
+pub none_found : {X : Type 0} (o : Option X) → ((x : X) → o ≡ Some x → ⊥) → o ≡ None
+none_found None never = refl
+none_found (Some x) never = absurd (never x refl)
