@@ -5,3 +5,5 @@ pub mod CountLemmas
 pub mod TableLemmas
 pub mod CaseLemmas
 pub mod MoveLemmas
+pub mod QueueLemmas
+pub mod StartLemmas
