@@ -7,3 +7,5 @@ pub mod CaseLemmas
 pub mod MoveLemmas
 pub mod QueueLemmas
 pub mod StartLemmas
+pub mod EndLemmas
+pub mod BeginLemmas

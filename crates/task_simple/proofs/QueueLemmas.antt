@@ -121,3 +121,13 @@ module _ (s : Core) (simple : IsSimple s) (n : ℕ) (es : List Entry) (first : s
   pub popped_rest : (popped mark.High s).queues.high ≡ es
   unfolding popped set_high
   popped_rest = ap rest_of first
+
+-- a state in which no thread has come to or left high
+pub simple_still : (s x : Core) (n : ℕ) → IsSimple s → IsPlain x → x.queues.high ≡ s.queues.high → ((q : ℕ) → q ≢ n → place_of q x ≡ place_of q s) → stands (place_of n x) ≡ stands (place_of n s) → IsSimple x
+simple_still s x n simple plain high others same = record {
+  plain = plain;
+  of_threads = ap (list_all is_of_thread) high ∙ simple.of_threads;
+  queued = λ q. ap (entries_of q) high ∙ simple.queued q ∙ either q n
+      (λ e. ap (λ k. stands (place_of k s)) e ∙ sym same ∙ ap (λ k. stands (place_of k x)) (sym e))
+      (λ ne. ap stands (sym (others q ne)));
+}
