@@ -9,3 +9,5 @@ pub mod QueueLemmas
 pub mod StartLemmas
 pub mod EndLemmas
 pub mod BeginLemmas
+pub mod SimpleLemmas
+pub mod OpenLemmas

@@ -47,13 +47,13 @@ module _ (s : Core) (plain : IsPlain s) (n : ℕ) (t : Thread) (found : get s.th
 
   -- ---- A start that is put off
 
-  abbrev held_thread : Thread
+  abbrev pub held_thread : Thread
   held_thread = record t { place = held_start }
 
   held_simple : t.place ≡ ready_start → IsSimpleThread n held_thread
   held_simple at = record { of_itself = r.of_itself; implicit = r.implicit; starting = r.starting; fresh = r.fresh; own_unsaved = r.own_unsaved; callee_unsaved = r.callee_unsaved; placed = inr (inr refl); handled = r.handled ∙ ap runs at }
 
-  put_off_moves : t.place ≡ ready_start → NoneRuns s → may_not_enter (call_instance n s) s ≡ true → Moves s (start_put_off n s) n held_thread (record c { starting_published = true })
+  pub put_off_moves : t.place ≡ ready_start → NoneRuns s → may_not_enter (call_instance n s) s ≡ true → Moves s (start_put_off n s) n held_thread (record c { starting_published = true })
   unfolding start_put_off set_place on_thread set_starting_published on_call
   put_off_moves at none shut = record {
     thread_now = get_changed s.threads n (λ t. record t { place = held_start }) t found;
@@ -159,22 +159,22 @@ module _ (s : Core) (plain : IsPlain s) (n : ℕ) (t : Thread) (found : get s.th
         ∙ ap (option_and_then (λ t. get t.live next)) table_then
         ∙ get-insert_same tb.live next n
 
-    abbrev with_own_handle : Thread → Thread
+    abbrev pub with_own_handle : Thread → Thread
     with_own_handle t = record t { handle = Some (new_thread_handle i s) }
 
-    abbrev now_running : Thread → Thread
+    abbrev pub now_running : Thread → Thread
     now_running t = record t { place = place.Running }
 
-    abbrev running_thread : Thread
+    abbrev pub running_thread : Thread
     running_thread = now_running (with_own_handle t)
 
-    abbrev begun_call : Call
+    abbrev pub begun_call : Call
     begun_call = record c { started = true }
 
     running_simple : IsSimpleThread n running_thread
     running_simple = record { of_itself = r.of_itself; implicit = r.implicit; starting = r.starting; fresh = r.fresh; own_unsaved = r.own_unsaved; callee_unsaved = r.callee_unsaved; placed = inr (inl refl); handled = refl }
 
-    start_moves : NoneRuns s → may_not_enter (call_instance n s) s ≡ false → Moves s (start_done n s) n running_thread begun_call
+    pub start_moves : NoneRuns s → may_not_enter (call_instance n s) s ≡ false → Moves s (start_done n s) n running_thread begun_call
     unfolding start_done set_place set_thread_handle on_thread set_do_not_enter on_instance set_started on_call give_thread_handle
     start_moves none enters = record {
       thread_now = get_changed (change n with_own_handle s.threads) n now_running (with_own_handle t) (get_changed s.threads n with_own_handle t found);
@@ -222,13 +222,13 @@ module _ (s : Core) (plain : IsPlain s) (n : ℕ) (t : Thread) (found : get s.th
 
   -- ---- A return
 
-  abbrev passed : Thread → Thread
+  abbrev pub passed : Thread → Thread
   passed t = record t { position = position_of n s + 1 }
 
-  abbrev freshened : Thread → Thread
+  abbrev pub freshened : Thread → Thread
   freshened t = record t { how_far = how_far.Fresh }
 
-  abbrev ended_call : Call
+  abbrev pub ended_call : Call
   ended_call = record c { «end» = Some call_end.Returned }
 
   returned_simple : IsSimpleThread n (freshened (passed t))
@@ -237,7 +237,7 @@ module _ (s : Core) (plain : IsPlain s) (n : ℕ) (t : Thread) (found : get s.th
   results_then : (v k w : ℕ) → get (insert s.results n v) k ≡ Some w → k ≤ s.made.threads
   results_then v k w is = insert_cases s.results n v k w is (λ e same. let a = (plain.calls n c there).made in omega arith) (λ ne at. plain.results k w at)
 
-  return_moves : (v : ℕ) → t.place ≡ place.Running → Moves s (return_done n v s) n (freshened (passed t)) ended_call
+  pub return_moves : (v : ℕ) → t.place ≡ place.Running → Moves s (return_done n v s) n (freshened (passed t)) ended_call
   unfolding return_done moved_to set_how_far set_position on_thread give_result set_end on_call
   return_moves v at = record {
     thread_now = get_changed (change n passed s.threads) n freshened (passed t) (get_changed s.threads n passed t found);
