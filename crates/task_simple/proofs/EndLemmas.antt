@@ -138,7 +138,7 @@ module _ (s : Core) (plain : IsPlain s) (n : ℕ) (t : Thread) (found : get s.th
   shut_left : (j : ℕ) → i ≢ j → may_not_enter j s ≡ true → option_map_or (λ x. x.do_not_enter) (get (change i let_in s.instances) j) false ≡ true
   shut_left j ne shut = ap (λ o. option_map_or (λ x. x.do_not_enter) o false) (get-change_other s.instances i let_in j (λ e. ne (sym e))) ∙ shut
 
-  live_here : (tb : Table ℕ) → get s.thread_handles i ≡ Some tb → get tb.live h ≡ Some n
+  pub live_here : (tb : Table ℕ) → get s.thread_handles i ≡ Some tb → get tb.live h ≡ Some n
   live_here tb at = sym (ap (option_and_then (λ t. get t.live h)) at) ∙ ap (λ j. thread_at j h s) here ∙ plain.named n h t found has
 
   tables_left : (j : ℕ) (u : Table ℕ) → get (change i (taking h) s.thread_handles) j ≡ Some u → IsTable u

@@ -11,3 +11,4 @@ pub mod EndLemmas
 pub mod BeginLemmas
 pub mod SimpleLemmas
 pub mod OpenLemmas
+pub mod UseLemmas
