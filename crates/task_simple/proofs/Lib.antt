@@ -12,3 +12,4 @@ pub mod BeginLemmas
 pub mod SimpleLemmas
 pub mod OpenLemmas
 pub mod UseLemmas
+pub mod StepLemmas
