@@ -238,3 +238,5 @@ pub may_deadlock_is : (x : Setting) (s : State) → IsPlain s.core → s.turn �
 unfolding may_deadlock
 may_deadlock_is x s plain at unscripted none =
     rw (is_idle_is x s plain at unscripted none, has_live_work_not s.core plain) (and_true _)
+
+pub ruleset reads = (foot_of_is, strand_of_is, stopped_is, stopped_at_is, passes_check_is, checked_is, told_is, may_tell_is, task_of_is, instance_of_is, is_last_thread_is, leaves_no_result_is, admits_start, is_ready_for_call_is, has_moving_work_not, has_live_work_not, next_polled_none, settled_futures_is, next_entry_is, nothing_stands_is, deadlock_trap_is, is_idle_is, may_deadlock_is)

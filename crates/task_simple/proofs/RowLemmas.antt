@@ -394,3 +394,7 @@ finish_act_given k n v s h = rw h refl
 
 pub finish_act_pends : (k n : ℕ) (s : Core) → get s.results n ≡ None → finish_act k s (Began n) ≡ Pends
 finish_act_pends k n s h = rw h refl
+
+pub ruleset rows = (ret_twice, ret_once, exit_early, exit_after_return, finished_is, thread_taken_is, start_held_row, start_refused_row, start_done_row, struck_is)
+
+pub ruleset main_rows = (start_act_trapped, start_act_full, start_act_begun, main_started_is, finish_act_given, finish_act_pends)

@@ -218,3 +218,4 @@ pub handle_limit-popped : (s : Core) → (popped mark.High s).handle_limit ≡ s
 unfolding popped set_high
 handle_limit-popped s = refl
 
+pub ruleset uses = (table_use-popped, live_count-popped, table_use-start_put_off, live_count-start_put_off, table_use-return_done, live_count-return_done, table_use-call_started, live_count-call_started, table_use-start_done, live_count-start_done, table_use-exit_done, table_use-exit_done_trapped, live_count-exit_done, table_use-trap_done, live_count-trap_done, groups_as_calls)

@@ -1,0 +1,68 @@
+//! What the moves of simple states take of the resource table and of the handles. Each function is
+//! the statement of its clauses.
+
+ghost use Rattle.std.specs.Prelude.{Bool, List, None, Option, Some, [], false, is_none, is_some, length, nat_le, not, true, ℕ, ◌+◌, ◌∷◌, ◌≡◌, ◌≢◌};
+ghost use Rattle.task_machine.specs.Core.{Began, Core, State, Unscripted, fresh};
+ghost use Rattle.task_machine.specs.Labels.{Choice, exit_label, held_label, ret_label, take_label};
+ghost use Rattle.task_machine.specs.Maps.{get, size};
+ghost use Rattle.task_machine.specs.Moves.{checked, passes_check, stopped, stopped_at};
+ghost use Rattle.task_machine.specs.Read.{admits, at_handle_limit, call_instance, callers_of, first_of, fits, foot_of, has_ended, instance_of, is_last_thread, is_nil, live_count, may_not_enter, next_entry, place_of, strand_of, table_use, task_of, thread_handle_of};
+ghost use Rattle.task_machine.specs.Write.{set_place, set_trapped, take_result};
+ghost use Rattle.task_rules.specs.Ends.{exit_row, finished, held_out, leaves_no_result, may_tell, told};
+ghost use Rattle.task_rules.specs.MainOps.{Does, Pends, finish_act, is_ready_for_call, main_started, start_act, start_refusal};
+ghost use Rattle.task_rules.specs.Progress.{Goes, Ordered, Stops, Traps};
+ghost use Rattle.task_rules.specs.Scripts.{export_kind, op_of, value_of};
+ghost use Rattle.task_rules.specs.Stalled.{Setting, deadlock_trap, is_idle, is_idle_trap, may_deadlock, works_rest};
+ghost use Rattle.task_rules.specs.Step.{Step, struck, trap_label};
+ghost use Rattle.task_rules.specs.Takes.{popped, start_row, thread_taken};
+ghost use Rattle.task_rules.specs.Task.{ret_row};
+ghost use Rattle.task_rules.specs.Turns.{goes_to, nothing_stands, settled_turn};
+ghost use Rattle.task_rules.specs.Works.{has_live_work, has_moving_work, next_polled};
+ghost use Rattle.task_simple.specs.Forms.{call_started, exit_done, return_done, start_done, start_put_off, trap_done};
+ghost use Rattle.task_simple.specs.Simple.{IsPlain, IsSimple, NoneRuns, held_start, ready_start};
+
+use task_machine::{Call, Callee, ExportKind, Mark, Place, Thread};
+
+/// A call by main takes four entries and no handle.
+#[tactic(auto, using(crate::proofs::UseLemmas::uses))]
+pub fn call_takes()
+    ensures entries { (e : Callee) (x : ExportKind) (words : List ℕ) (s : Core) → IsPlain s → table_use (call_started e x words s) ≡ table_use s + 4 }
+    ensures handles { (e : Callee) (x : ExportKind) (words : List ℕ) (s : Core) → live_count (call_started e x words s) ≡ live_count s }
+{
+}
+
+/// A start takes a handle and no entry.
+#[tactic(auto, using(crate::proofs::UseLemmas::uses))]
+pub fn start_takes()
+    ensures entries { (n : ℕ) (s : Core) → table_use (start_done n s) ≡ table_use s }
+    ensures handles { (s : Core) → IsPlain s → (n : ℕ) (t : Thread) → get s.threads n ≡ Some t → (c : Call) → get s.calls n ≡ Some c → live_count (start_done n s) ≡ live_count s + 1 }
+{
+}
+
+/// Nothing is taken by a start that is put off, and by a return.
+#[tactic(auto, using(crate::proofs::UseLemmas::uses))]
+pub fn nothing_is_taken()
+    ensures entries_put_off { (n : ℕ) (s : Core) → table_use (start_put_off n s) ≡ table_use s }
+    ensures handles_put_off { (n : ℕ) (s : Core) → live_count (start_put_off n s) ≡ live_count s }
+    ensures entries_return { (n v : ℕ) (s : Core) → table_use (return_done n v s) ≡ table_use s }
+    ensures handles_return { (n v : ℕ) (s : Core) → live_count (return_done n v s) ≡ live_count s }
+{
+}
+
+/// An exit gives back the handle and the four entries, of which the group's was given back by a trap.
+#[tactic(auto, using(crate::proofs::UseLemmas::uses))]
+pub fn exit_gives_back()
+    ensures entries { (s : Core) → IsPlain s → (n : ℕ) (t : Thread) → get s.threads n ≡ Some t → (c : Call) → get s.calls n ≡ Some c → (h : ℕ) → s.trapped ≡ false → table_use (exit_done n h s) + 4 ≡ table_use s }
+    ensures entries_trapped { (s : Core) → IsPlain s → (n : ℕ) (t : Thread) → get s.threads n ≡ Some t → (c : Call) → get s.calls n ≡ Some c → (h : ℕ) → s.trapped ≡ true → table_use (exit_done n h s) + 3 ≡ table_use s }
+    ensures handles { (s : Core) → IsPlain s → (n : ℕ) (t : Thread) → get s.threads n ≡ Some t → (c : Call) → get s.calls n ≡ Some c → (h : ℕ) → t.place ≡ Place.Running → t.handle ≡ Some h → live_count (exit_done n h s) + 1 ≡ live_count s }
+{
+}
+
+/// A trap gives back the thread's two entries and those of all groups, and no handle.
+#[tactic(auto, using(crate::proofs::UseLemmas::uses))]
+pub fn trap_gives_back()
+    ensures entries { (n : ℕ) (t : Thread) (s : Core) → get s.threads n ≡ Some t → table_use (trap_done n s) + (length s.groups + 2) ≡ table_use s }
+    ensures handles { (n : ℕ) (s : Core) → live_count (trap_done n s) ≡ live_count s }
+    ensures groups { (s : Core) → IsPlain s → s.trapped ≡ false → length s.groups ≡ size s.calls }
+{
+}
