@@ -2,11 +2,9 @@
 use Rattle.std.proofs.Common.{ap, ap₂, arith, inl, refl, subst, sym, ◌∙◌}
 use Rattle.std.proofs.lemmas.Bool.{false≢true}
 use Rattle.std.proofs.lemmas.List.Folds.{list_all-append}
-use Rattle.std.specs.List.{list_all}
 use Rattle.std.specs.Option.{option_map_or}
-use Rattle.std.specs.Prelude.{Bool, List, None, Option, Some, [], false, is_some, option_map, true, unwrap_or, ℕ, ◌&&◌, ◌++◌, ◌+◌, ◌<◌, ◌∷◌, ◌≡◌, ◌≢◌, ◌≤◌}
+use Rattle.std.specs.Prelude.{List, None, Some, [], false, is_some, option_map, true, unwrap_or, ℕ, ◌&&◌, ◌++◌, ◌+◌, ◌∷◌, ◌≡◌, ◌≢◌}
 use Rattle.task_machine.specs.declared.component.Callee.{Callee}
-use Rattle.task_machine.specs.declared.component.ExportKind.{ExportKind}
 use Rattle.task_machine.specs.declared.component.ExportKind.TheVariants as kind
 use Rattle.task_machine.specs.declared.records.Call.{Call}
 use Rattle.task_machine.specs.declared.records.Caller.TheVariants as caller
@@ -16,18 +14,18 @@ use Rattle.task_machine.specs.declared.records.Place.TheVariants as place
 use Rattle.task_machine.specs.declared.records.Script.TheVariants as script
 use Rattle.task_machine.specs.declared.records.Thread.{Thread}
 use Rattle.task_machine.specs.Core.{Core}
-use Rattle.task_machine.specs.Maps.{Records, change, get, insert, numbers}
-use Rattle.task_machine.specs.Read.{call_instance, callers_of, may_not_enter, no_callee, place_of, thread_at}
+use Rattle.task_machine.specs.Maps.{Records, change, get, insert}
+use Rattle.task_machine.specs.Read.{call_instance, may_not_enter, no_callee, place_of, thread_at}
 use Rattle.task_machine.specs.Write.{add_call, add_group, add_thread, on_thread, push_high, set_place}
 use Rattle.task_machine.proofs.MapLemmas.{get-change_other, get-insert_other, get-insert_same}
 use Rattle.task_rules.specs.Calls.{new_call, new_thread}
 use Rattle.task_rules.specs.Scripts.{registers_for}
 use Rattle.task_simple.specs.Forms.{call_started}
 use Rattle.task_simple.specs.Simple.{IsPlain, IsSimple, IsSimpleCall, IsSimpleThread, held_start, is_of_thread, ready_start, stands}
-use Rattle.task_simple.proofs.CaseLemmas.{change_cases, either, insert_cases, none_found}
+use Rattle.task_simple.proofs.CaseLemmas.{either, insert_cases, none_found}
 use Rattle.task_simple.proofs.QueueLemmas.{entries-push_other, entries-push_same, entries_of}
 use Rattle.task_simple.proofs.RecordLemmas.{numbers-insert_last}
-use Rattle.task_simple.proofs.RowLemmas.{get_changed, some_there}
+use Rattle.task_simple.proofs.RowLemmas.{get_changed}
 
 call_later : (last k : ℕ) (c : Call) → IsSimpleCall last k c → IsSimpleCall (last + 1) k c
 call_later last k c r = record {
@@ -132,10 +130,10 @@ module _ (s : Core) (plain : IsPlain s) where
       no_low = plain.no_low;
       alone = λ a b u v fa ra fb rb.
           thread_cases a u fa (λ ea ia. absurd (not_running u ia ra)) (λ na oa.
-              thread_cases b v fb (λ eb ib. absurd (not_running v ib rb)) (λ nb ob. plain.alone a b u v oa ra ob rb));
+          thread_cases b v fb (λ eb ib. absurd (not_running v ib rb)) (λ nb ob. plain.alone a b u v oa ra ob rb));
       apart = λ a b u v fa ra fb hb same.
           thread_cases a u fa (λ ea ia. not_running u ia ra) (λ na oa.
-              thread_cases b v fb (λ eb ib. not_held v ib hb) (λ nb ob. plain.apart a b u v oa ra ob hb (sym (instance_still a na) ∙ same ∙ instance_still b nb)));
+          thread_cases b v fb (λ eb ib. not_held v ib hb) (λ nb ob. plain.apart a b u v oa ra ob hb (sym (instance_still a na) ∙ same ∙ instance_still b nb)));
       held_out = λ q u is held.
           thread_cases q u is (λ same it. absurd (not_held u it held)) (λ ne at. ap (λ i. may_not_enter i s) (instance_still q ne) ∙ plain.held_out q u at held);
       instances = plain.instances;
@@ -170,12 +168,12 @@ call_started_simple s e words simple untrapped there tabled =
       of_threads = list_all-append is_of_thread s.queues.high (entry.Thread k ∷ []) ∙ ap (λ b. b && true) simple.of_threads;
       queued = λ q. either q k
           (λ same.
-              ap (λ n. entries_of n (s.queues.high ++ entry.Thread k ∷ [])) same
-              ∙ entries-push_same k s.queues.high
-              ∙ ap (λ m. m + 1) (simple.queued k ∙ ap (λ o. stands (option_map (λ t. t.place) o)) (no_thread_yet s plain))
-              ∙ sym (ap stands (place_there s plain e words untrapped there tabled))
-              ∙ ap (λ n. stands (option_map (λ t. t.place) (get (threads_now s plain e words untrapped there tabled) n))) (sym same))
+          ap (λ n. entries_of n (s.queues.high ++ entry.Thread k ∷ [])) same
+          ∙ entries-push_same k s.queues.high
+          ∙ ap (λ m. m + 1) (simple.queued k ∙ ap (λ o. stands (option_map (λ t. t.place) o)) (no_thread_yet s plain))
+          ∙ sym (ap stands (place_there s plain e words untrapped there tabled))
+          ∙ ap (λ n. stands (option_map (λ t. t.place) (get (threads_now s plain e words untrapped there tabled) n))) (sym same))
           (λ ne.
-              entries-push_other q k s.queues.high ne ∙ simple.queued q
-              ∙ ap stands (sym (place_other s plain e words untrapped there tabled q ne)));
+          entries-push_other q k s.queues.high ne ∙ simple.queued q
+          ∙ ap stands (sym (place_other s plain e words untrapped there tabled q ne)));
     }

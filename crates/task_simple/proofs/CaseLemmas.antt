@@ -1,7 +1,8 @@
 -- What is found in a map after one change: the record that was changed, or another that was found there before.
-use Rattle.std.proofs.Common.{ap, false, refl, sym, true, ◌∙◌}
+use Rattle.std.proofs.Common.{ap, arith, false, refl, sym, true, ◌∙◌}
+use Rattle.std.specs.List.Sorted.{SwapsInRange, apply_swaps}
 use Rattle.std.proofs.lemmas.Bool.{eqb-false, eqb-true}
-use Rattle.std.specs.Prelude.{Bool, None, Option, Some, is_some, option_map, ℕ, ◌==◌, ◌≡◌, ◌≢◌}
+use Rattle.std.specs.Prelude.{IsPermutation, List, None, Option, Some, [], is_some, option_map, ℕ, ◌<◌, ◌==◌, ◌∷◌, ◌≡◌, ◌≢◌}
 use Rattle.task_machine.specs.Maps.{Records, change, get, insert, remove}
 use Rattle.task_machine.proofs.MapLemmas.{get-change_other, get-change_same, get-insert_other, get-insert_same, get-remove_other, get-remove_same}
 
@@ -46,3 +47,11 @@ module _ {X : Type 0} (m : Records X) (n : ℕ) where
 pub none_found : {X : Type 0} (o : Option X) → ((x : X) → o ≡ Some x → ⊥) → o ≡ None
 none_found None never = refl
 none_found (Some x) never = absurd (never x refl)
+
+swaps_none : {X : Type 0} (ps : List (ℕ × ℕ)) → SwapsInRange 0 ps → apply_swaps {X = X} [] ps ≡ []
+swaps_none [] h = refl
+swaps_none (p ∷ ps) h = let a : p.0 < 0 = h.0 in absurd (omega arith)
+
+-- nothing can be put in one order only
+pub none_permuted : {X : Type 0} (xs : List X) → IsPermutation [] xs → xs ≡ []
+none_permuted xs p = p.is ∙ swaps_none p.moves p.below

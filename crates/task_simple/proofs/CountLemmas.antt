@@ -1,16 +1,16 @@
 -- How the entries of the resource table and the live handles change with each word, in any state.
-use Rattle.std.proofs.Common.{ap, ap₂, arith, cond, refl, sym, ◌∙◌}
+use Rattle.std.proofs.Common.{ap, arith, cond, refl, ◌∙◌}
 use Rattle.std.proofs.lemmas.List.{length-append}
 use Rattle.std.proofs.lemmas.List.Sums.{sum_by-cons}
-use Rattle.std.specs.Prelude.{Bool, List, None, Option, Some, [], count_by, filter, length, false, nat_le, not, suc, sum_by, true, ℕ, ◌*◌, ◌++◌, ◌+◌, ◌==◌, ◌∷◌, ◌≡◌}
+use Rattle.std.specs.Prelude.{List, None, Some, [], count_by, filter, length, false, nat_le, not, suc, true, ℕ, ◌+◌, ◌==◌, ◌∷◌, ◌≡◌}
 use Rattle.task_machine.specs.declared.records.Call.{Call}
 use Rattle.task_machine.specs.declared.records.Entry.{Entry}
 use Rattle.task_machine.specs.declared.records.Instance.{Instance}
 use Rattle.task_machine.specs.declared.records.Named.{Named}
 use Rattle.task_machine.specs.declared.records.Thread.{Thread}
 use Rattle.task_machine.specs.Core.{Core, Table}
-use Rattle.task_machine.specs.Maps.{Records, change, get, insert, remove, size}
-use Rattle.task_machine.specs.Read.{at_handle_limit, fits, is_host_call, live_count, live_in, next_handle, table_use}
+use Rattle.task_machine.specs.Maps.{Records, change, get, size}
+use Rattle.task_machine.specs.Read.{at_handle_limit, fits, live_count, live_in, next_handle, table_use}
 use Rattle.task_machine.specs.Write.{add_call, add_group, add_thread, free_handle, free_thread_handle, give_handle, give_result, give_thread_handle, giving, on_call, on_instance, on_thread, push_high, remove_call, remove_group, remove_thread, set_high, set_trapped, take_result, taking}
 use Rattle.task_simple.proofs.RecordLemmas.{size-change, size-insert_new, size-remove, sum-change}
 
@@ -191,3 +191,5 @@ live_count-remove_group g s = refl
 pub live_count-set_trapped : (s : Core) → live_count (set_trapped s) ≡ live_count s
 unfolding live_count set_trapped
 live_count-set_trapped s = refl
+
+pub ruleset asked = (fits_is, at_handle_limit_is)

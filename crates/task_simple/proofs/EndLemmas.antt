@@ -1,23 +1,21 @@
 -- The exit and the trap of a thread, a trap of the store, and a result that is taken: each leads from a plain state to a plain one.
-use Rattle.std.proofs.Common.{ap, ap₂, arith, refl, subst, sym, ◌∙◌}
+use Rattle.std.proofs.Common.{ap, refl, subst, sym, ◌∙◌}
 use Rattle.std.proofs.lemmas.Bool.{false≢true}
 use Rattle.std.specs.Option.{option_map_or}
-use Rattle.std.specs.Prelude.{Bool, List, None, Option, Some, [], false, filter, is_some, not, option_and_then, option_map, true, unwrap_or, ℕ, ◌==◌, ◌≡◌, ◌≢◌, ◌≤◌}
-use Rattle.task_machine.specs.declared.records.Call.{Call}
+use Rattle.std.specs.Prelude.{None, Option, Some, [], false, filter, is_some, not, option_and_then, option_map, true, unwrap_or, ℕ, ◌==◌, ◌≡◌, ◌≢◌}
 use Rattle.task_machine.specs.declared.records.Instance.{Instance}
 use Rattle.task_machine.specs.declared.records.Place.TheVariants as place
 use Rattle.task_machine.specs.declared.records.Thread.{Thread}
 use Rattle.task_machine.specs.Core.{Core, Table}
-use Rattle.task_machine.specs.Maps.{Records, change, get, numbers, remove}
-use Rattle.task_machine.specs.Read.{call_instance, callers_of, instance_of, may_not_enter, named_by, no_callee, place_of, thread_at}
+use Rattle.task_machine.specs.Maps.{change, get, remove}
+use Rattle.task_machine.specs.Read.{call_instance, callers_of, instance_of, may_not_enter, named_by, no_callee, thread_at}
 use Rattle.task_machine.specs.Write.{free_thread_handle, on_instance, remove_call, remove_group, remove_thread, set_do_not_enter, set_trapped, take_result, taking}
 use Rattle.task_machine.proofs.MapLemmas.{get-change_other, get-change_same, get-remove_other, get-remove_same}
 use Rattle.task_simple.specs.Forms.{exit_done, trap_done}
-use Rattle.task_simple.specs.Simple.{IsPlain, IsSimple, IsSimpleCall, IsSimpleInstance, IsSimpleThread, IsTable, held_start}
+use Rattle.task_simple.specs.Simple.{IsPlain, IsSimple, IsSimpleInstance, IsTable}
 use Rattle.task_simple.proofs.CaseLemmas.{change_cases, either, is_some-change, remove_cases}
 use Rattle.task_simple.proofs.ReadLemmas.{instance_of_is}
 use Rattle.task_simple.proofs.RecordLemmas.{numbers-remove}
-use Rattle.task_simple.proofs.RowLemmas.{get_changed}
 use Rattle.task_simple.proofs.TableLemmas.{taking_is}
 
 -- ---- The store
@@ -159,9 +157,9 @@ module _ (s : Core) (plain : IsPlain s) (n : ℕ) (t : Thread) (found : get s.th
   named_left j g q ne named =
       either j i
       (λ e.
-          ap (λ k. named_by (change i (taking h) s.thread_handles) k g) e
-          ∙ ap (option_and_then (λ t. get t.live g)) (get-change_same s.thread_handles i (taking h))
-          ∙ named_when g q (get s.thread_handles i) ne refl (sym (ap (λ k. thread_at k g s) e) ∙ named))
+      ap (λ k. named_by (change i (taking h) s.thread_handles) k g) e
+      ∙ ap (option_and_then (λ t. get t.live g)) (get-change_same s.thread_handles i (taking h))
+      ∙ named_when g q (get s.thread_handles i) ne refl (sym (ap (λ k. thread_at k g s) e) ∙ named))
       (λ other. ap (option_and_then (λ t. get t.live g)) (get-change_other s.thread_handles i (taking h) j other) ∙ named)
 
   pub exit_plain : IsPlain (exit_done n h s)

@@ -13,3 +13,5 @@ pub mod SimpleLemmas
 pub mod OpenLemmas
 pub mod UseLemmas
 pub mod StepLemmas
+pub mod FrameLemmas
+pub mod FoundLemmas

@@ -1,15 +1,14 @@
 -- A move that changes the records of one thread and of its call, and what goes with them, leads from a plain state to a plain one.
-use Rattle.std.proofs.Common.{ap, ap₂, arith, refl, subst, sym, ◌∙◌}
+use Rattle.std.proofs.Common.{ap, subst, sym, ◌∙◌}
 use Rattle.std.specs.Option.{option_map_or}
-use Rattle.std.specs.Prelude.{List, None, Option, Some, [], false, is_some, true, unwrap_or, ℕ, ◌≡◌, ◌≢◌, ◌≤◌}
+use Rattle.std.specs.Prelude.{Some, [], is_some, true, unwrap_or, ℕ, ◌≡◌, ◌≢◌, ◌≤◌}
 use Rattle.task_machine.specs.declared.records.Call.{Call}
 use Rattle.task_machine.specs.declared.records.Instance.{Instance}
-use Rattle.task_machine.specs.declared.records.Named.{Named}
 use Rattle.task_machine.specs.declared.records.Place.TheVariants as place
 use Rattle.task_machine.specs.declared.records.Thread.{Thread}
 use Rattle.task_machine.specs.Core.{Core, Table}
-use Rattle.task_machine.specs.Maps.{Records, empty, get, numbers}
-use Rattle.task_machine.specs.Read.{call_instance, callee_of, callers_of, may_not_enter, no_callee, thread_at}
+use Rattle.task_machine.specs.Maps.{get, numbers}
+use Rattle.task_machine.specs.Read.{call_instance, callee_of, may_not_enter, no_callee, thread_at}
 use Rattle.task_simple.specs.Simple.{IsPlain, IsSimpleCall, IsSimpleInstance, IsSimpleThread, IsTable, held_start}
 use Rattle.task_simple.proofs.CaseLemmas.{either}
 
@@ -88,16 +87,16 @@ module _ (s x : Core) (n : ℕ) (t : Thread) (c : Call) (plain : IsPlain s) (m :
         let old : call_instance a s ≡ call_instance b s = sym (instance_kept a) ∙ same ∙ instance_kept b in
         thread_cases a u fa
         (λ ea sa. thread_cases b v fb
-            (λ eb sb. let p : place.Running ≡ held_start = sym ra ∙ ap (λ (y : Thread). y.place) (sa ∙ sym sb) ∙ hb in cc)
-            (λ nb ob. m.runs_apart (sym (ap (λ (y : Thread). y.place) sa) ∙ ra) b v nb ob hb (sym (ap (λ k. call_instance k s) ea) ∙ old)))
+        (λ eb sb. let p : place.Running ≡ held_start = sym ra ∙ ap (λ (y : Thread). y.place) (sa ∙ sym sb) ∙ hb in cc)
+        (λ nb ob. m.runs_apart (sym (ap (λ (y : Thread). y.place) sa) ∙ ra) b v nb ob hb (sym (ap (λ k. call_instance k s) ea) ∙ old)))
         (λ na oa. thread_cases b v fb
-            (λ eb sb. m.held_apart (sym (ap (λ (y : Thread). y.place) sb) ∙ hb) a u na oa ra (old ∙ ap (λ k. call_instance k s) eb))
-            (λ nb ob. plain.apart a b u v oa ra ob hb old));
+        (λ eb sb. m.held_apart (sym (ap (λ (y : Thread). y.place) sb) ∙ hb) a u na oa ra (old ∙ ap (λ k. call_instance k s) eb))
+        (λ nb ob. plain.apart a b u v oa ra ob hb old));
     held_out = λ q u is held.
         ap (λ i. may_not_enter i x) (instance_kept q)
         ∙ thread_cases q u is
-          (λ e same. ap (λ k. may_not_enter (call_instance k s) x) e ∙ m.held_shut (sym (ap (λ (y : Thread). y.place) same) ∙ held))
-          (λ ne found. m.shut_kept _ (plain.held_out q u found held));
+        (λ e same. ap (λ k. may_not_enter (call_instance k s) x) e ∙ m.held_shut (sym (ap (λ (y : Thread). y.place) same) ∙ held))
+        (λ ne found. m.shut_kept _ (plain.held_out q u found held));
     instances = m.instances;
     instance_there = λ q d is. call_cases q d is (λ e same. ap (λ (y : Call). is_some (get x.instances y.callee.instance)) same ∙ m.instance_there) (λ ne found. m.instance_kept _ (plain.instance_there q d found));
     table_there = λ q d is. call_cases q d is (λ e same. ap (λ (y : Call). is_some (get x.thread_handles y.callee.instance)) same ∙ m.table_there) (λ ne found. m.table_kept _ (plain.table_there q d found));
@@ -106,8 +105,8 @@ module _ (s x : Core) (n : ℕ) (t : Thread) (c : Call) (plain : IsPlain s) (m :
     named = λ q h u is has.
         ap (λ i. thread_at i h x) (instance_kept q)
         ∙ thread_cases q u is
-          (λ e same. ap (λ k. thread_at (call_instance k s) h x) e ∙ m.named_now h (sym (ap (λ (y : Thread). y.handle) same) ∙ has) ∙ ap (λ k. Some k) (sym e))
-          (λ ne found. m.names_kept _ h q (plain.named q h u found has));
+        (λ e same. ap (λ k. thread_at (call_instance k s) h x) e ∙ m.named_now h (sym (ap (λ (y : Thread). y.handle) same) ∙ has) ∙ ap (λ k. Some k) (sym e))
+        (λ ne found. m.names_kept _ h q (plain.named q h u found has));
     groups_open = λ untrapped. m.groups_same ∙ plain.groups_open (sym m.trapped_same ∙ untrapped) ∙ sym m.numbers_same;
     groups_trapped = λ shut. m.groups_same ∙ plain.groups_trapped (sym m.trapped_same ∙ shut);
     as_many = ap (λ a. a.threads) m.made_same ∙ plain.as_many ∙ sym (ap (λ a. a.groups) m.made_same);

@@ -1,9 +1,8 @@
 -- The first state is simple.
-use Rattle.std.proofs.Common.{ap, arith, refl, subst, sym, ◌∙◌}
-use Rattle.std.specs.Prelude.{List, None, Option, Some, [], option_map, suc, unwrap_or, zero, ℕ, ◌≡◌}
-use Rattle.task_machine.specs.declared.records.Named.{Named}
-use Rattle.task_machine.specs.Core.{Core, Table, filled, fresh, no_handles, untouched}
-use Rattle.task_machine.specs.Maps.{Records, empty, get, get-empty, insert, numbers, size}
+use Rattle.std.proofs.Common.{ap, arith, refl, subst, sym}
+use Rattle.std.specs.Prelude.{None, Some, [], option_map, suc, unwrap_or, zero, ℕ, ◌≡◌}
+use Rattle.task_machine.specs.Core.{filled, fresh, no_handles, untouched}
+use Rattle.task_machine.specs.Maps.{empty, get, get-empty, numbers}
 use Rattle.task_simple.specs.Simple.{IsPlain, IsSimple, IsSimpleInstance, IsTable, NoneRuns, stands}
 use Rattle.task_simple.proofs.CaseLemmas.{insert_cases}
 

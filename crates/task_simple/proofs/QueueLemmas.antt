@@ -1,13 +1,11 @@
 -- What stands at high, before and after its first entry is taken.
-use Rattle.std.proofs.Common.{ap, ap₂, arith, cond, inl, inr, refl, subst, sym, ◌∙◌}
+use Rattle.std.proofs.Common.{ap, arith, cond, inl, inr, refl, sym, ◌∙◌}
 use Rattle.std.proofs.lemmas.Bool.{eq-eqb, false≢true, ne_eqb}
 use Rattle.std.proofs.lemmas.List.Sums.{sum_by-append, sum_by-cons}
-use Rattle.std.proofs.lemmas.List.Folds.{list_all-append}
 use Rattle.std.specs.List.{list_all}
-use Rattle.std.specs.Prelude.{Bool, List, None, Option, Some, [], count_by, false, option_map, true, ℕ, ◌&&◌, ◌++◌, ◌+◌, ◌==◌, ◌∷◌, ◌≡◌, ◌≢◌}
+use Rattle.std.specs.Prelude.{List, None, Option, Some, [], count_by, option_map, true, unwrap_or, ℕ, ◌++◌, ◌+◌, ◌==◌, ◌∷◌, ◌≡◌, ◌≢◌}
 use Rattle.task_machine.specs.declared.records.Entry.{Entry}
 use Rattle.task_machine.specs.declared.records.Entry.TheVariants as entry
-use Rattle.task_machine.specs.declared.records.Place.{Place}
 use Rattle.task_machine.specs.declared.records.Thread.{Thread}
 use Rattle.task_machine.specs.declared.words.Mark.TheVariants as mark
 use Rattle.task_machine.specs.Core.{Core}
@@ -18,6 +16,9 @@ use Rattle.task_rules.specs.Takes.{popped, rest_of}
 use Rattle.task_simple.specs.Simple.{IsPlain, IsSimple, IsSimplePlace, is_of_thread, ready_start, stands}
 use Rattle.task_simple.proofs.CaseLemmas.{either}
 use Rattle.task_simple.proofs.ReadLemmas.{next_entry_is}
+
+same_Some : {X : Type 0} {x y : X} → Some x ≡ Some y → x ≡ y
+same_Some {x = x} e = ap (λ o. unwrap_or o x) e
 
 -- how many entries of the thread are in the list
 abbrev pub entries_of : ℕ → List Entry → ℕ
@@ -37,6 +38,21 @@ entries-push_same n es = let a = sum_by-append (λ e. cond (is_entry_of n e) 1 0
 
 pub entries-push_other : (n m : ℕ) (es : List Entry) → n ≢ m → entries_of n (es ++ entry.Thread m ∷ []) ≡ entries_of n es
 entries-push_other n m es ne = let a = sum_by-append (λ e. cond (is_entry_of n e) 1 0) es (entry.Thread m ∷ []) in let b = entries-other n m [] ne in omega arith
+
+high_when : (e : Entry) (es : List Entry) → first_of mark.High es ≡ Some (mark.High, e) → es ≡ e ∷ rest_of es
+high_when e [] is = absurd (let a : None ≡ Some (mark.High, e) = is in cc)
+high_when e (f ∷ es) is = let a : Some (mark.High, f) ≡ Some (mark.High, e) = is in ap (λ g. g ∷ es) (ap (λ p. p.1) (same_Some a))
+
+-- what is taken next stands first at high
+pub high_is : (s : Core) → IsPlain s → (e : Entry) → next_entry s ≡ Some (mark.High, e) → s.queues.high ≡ e ∷ rest_of s.queues.high
+high_is s plain e next = high_when e s.queues.high (sym (next_entry_is s plain) ∙ next)
+
+-- what stands first at high is taken next
+pub next_entry_first : (s : Core) → IsPlain s → (e : Entry) (es : List Entry) → s.queues.high ≡ e ∷ es → next_entry s ≡ Some (mark.High, e)
+next_entry_first s plain e es first = next_entry_is s plain ∙ ap (first_of mark.High) first
+
+pub next_entry_none : (s : Core) → IsPlain s → s.queues.high ≡ [] → next_entry s ≡ None
+next_entry_none s plain none = next_entry_is s plain ∙ ap (first_of mark.High) none
 
 -- a state from which the first entry is gone is plain
 pub plain_popped : (s : Core) → IsPlain s → IsPlain (popped mark.High s)
@@ -90,9 +106,6 @@ module _ (s : Core) (simple : IsSimple s) (n : ℕ) (es : List Entry) (first : s
   -- the first entry is of a thread whose start stands at high
   pub first_ready : (t : Thread) × (get s.threads n ≡ Some t) × (t.place ≡ ready_start)
   first_ready = first_when (get s.threads n) refl
-
-  pub next_is_first : next_entry s ≡ Some (mark.High, entry.Thread n)
-  next_is_first = next_entry_is s simple.plain ∙ ap (first_of mark.High) first
 
   left_other : (q : ℕ) → q ≢ n → entries_of q es ≡ stands (place_of q s)
   left_other q ne = sym (entries-other q n es ne) ∙ counted q

@@ -1,9 +1,9 @@
 -- What is read off plain states.
-use Rattle.std.proofs.Common.{T, ap, ap₂, arith, cond, inl, inr, refl, subst, sym, ◌∙◌, ◌⊎◌, ⊎_elim}
-use Rattle.std.proofs.lemmas.Bool.{ne_eqb, eq-eqb}
+use Rattle.std.proofs.Common.{ap, ap₂, inl, inr, refl, subst, sym, ◌∙◌}
+use Rattle.std.proofs.lemmas.Bool.{ne_eqb}
 use Rattle.std.specs.List.{list_any}
 use Rattle.std.specs.Option.{option_map_or}
-use Rattle.std.specs.Prelude.{Bool, List, None, Option, Some, [], false, filter, find, if◌then◌else◌, is_none, is_some, not, option_and_then, option_map, suc, true, unwrap_or, zero, ℕ, ◌&&◌, ◌==◌, ◌||◌, ◌∷◌, ◌≡◌, ◌≢◌}
+use Rattle.std.specs.Prelude.{Bool, List, None, Option, Some, [], false, if◌then◌else◌, is_none, not, option_and_then, option_map, suc, true, zero, ℕ, ◌&&◌, ◌==◌, ◌∷◌, ◌≡◌, ◌≢◌}
 use Rattle.task_machine.specs.declared.component.ExportKind.TheVariants as kind
 use Rattle.task_machine.specs.declared.records.Call.{Call}
 use Rattle.task_machine.specs.declared.records.Caller.TheVariants as caller
@@ -19,16 +19,16 @@ use Rattle.task_machine.specs.declared.trap.Trap.TheVariants as trap
 use Rattle.task_machine.specs.declared.words.Mark.TheVariants as mark
 use Rattle.task_machine.specs.declared.words.Status.{Status}
 use Rattle.task_machine.specs.Core.{Core, State, Unscripted}
-use Rattle.task_machine.specs.Maps.{Records, empty, get, numbers}
+use Rattle.task_machine.specs.Maps.{empty, get}
 use Rattle.task_machine.specs.Moves.{checked, passes_check, released_callers, stopped, stopped_at}
-use Rattle.task_machine.specs.Read.{admits, admitted_held, backpressure_of, call_instance, caller_of, callers_of, first_of, foot_from, foot_of, goal_of, has_ended, held_why, instance_of, is_direct, is_explicit, is_held_admitted, is_last_thread, is_nil, is_under, kind_of, may_not_enter, may_not_suspend, next_entry, or_first, or_high, place_of, strand_from, strand_of, task_of, thread_handle_of, under_of}
+use Rattle.task_machine.specs.Read.{admits, admitted_held, backpressure_of, call_instance, caller_of, first_of, foot_from, foot_of, goal_of, has_ended, held_why, instance_of, is_direct, is_explicit, is_held_admitted, is_last_thread, is_nil, is_under, kind_of, may_not_enter, may_not_suspend, next_entry, or_first, place_of, strand_from, strand_of, task_of, under_of}
 use Rattle.task_machine.specs.Write.{on_instance, set_do_not_enter, set_place}
 use Rattle.task_rules.specs.Ends.{held_out, is_told, leaves_no_result, may_tell, passes_after_stop, told}
 use Rattle.task_rules.specs.MainOps.{is_ready_for_call}
-use Rattle.task_rules.specs.Stalled.{Setting, deadlock_trap, is_idle, is_idle_trap, is_queued_or_finishing, may_deadlock, some_may_not_suspend, works_rest}
-use Rattle.task_rules.specs.Turns.{nothing_stands, settled_futures, settled_take, settled_turn}
+use Rattle.task_rules.specs.Stalled.{Setting, deadlock_trap, is_idle, is_idle_trap, may_deadlock, works_rest}
+use Rattle.task_rules.specs.Turns.{nothing_stands, settled_futures, settled_turn}
 use Rattle.task_rules.specs.Works.{first_number, has_live_work, has_moving_work, is_moving, live_after, next_polled}
-use Rattle.task_simple.specs.Simple.{IsPlain, IsSimplePlace, NoneRuns, held_start, ready_start}
+use Rattle.task_simple.specs.Simple.{IsPlain, IsSimplePlace, held_start, ready_start}
 use Rattle.task_simple.proofs.RecordLemmas.{any_none, filter_none, find_none}
 
 -- what holds of the three places holds of each simple one
@@ -181,8 +181,8 @@ module _ (s : Core) (plain : IsPlain s) where
   held_out_none i h =
       let m = set_do_not_enter i false s in
       filter_none s.threads (λ n. is_held_admitted i m n (option_and_then held_why (place_of n m))) (λ q x is.
-          ap (λ (o : Option Thread). is_held_admitted i m q (option_and_then held_why (option_map (λ t. t.place) o))) is
-          ∙ held_admitted_not i q x.place m (plain.threads q x is).placed (λ held same. h q x is held (sym (instance_of_is q x is) ∙ same)))
+      ap (λ (o : Option Thread). is_held_admitted i m q (option_and_then held_why (option_map (λ t. t.place) o))) is
+      ∙ held_admitted_not i q x.place m (plain.threads q x is).placed (λ held same. h q x is held (sym (instance_of_is q x is) ∙ same)))
 
   -- ---- The turn
 

@@ -1,16 +1,15 @@
 -- What is found at the numbers of a map, and what its list is: tests, sums and counts over it, its numbers, and how many records it has.
-use Rattle.std.proofs.Common.{arith, ℕ, suc, ◌≡◌, ◌≢◌, ◌+◌, ◌<◌, ◌≤◌, refl, sym, ap, ap₂, ◌∙◌, Bool, true, false, cond, T, subst, List, [], ◌∷◌, ◌++◌, length}
-use Rattle.std.proofs.lemmas.Bool.{ltb-true, eqb-true, ne_eqb, eq-eqb, both_ways}
+use Rattle.std.proofs.Common.{arith, ℕ, ◌≡◌, ◌≢◌, ◌+◌, ◌<◌, ◌≤◌, refl, sym, ap, ap₂, ◌∙◌, Bool, true, false, cond, T, subst, List, [], ◌∷◌, ◌++◌, length}
+use Rattle.std.proofs.lemmas.Bool.{ltb-true, eqb-true, ne_eqb, eq-eqb}
 use Rattle.std.proofs.lemmas.List.Sums.{sum_by-cons}
-use Rattle.std.specs.Prelude.{Option, Some, None, is_some, not, ◌&&◌, ◌||◌, ◌==◌, filter, find, map, sum_by, count_by, nat_lt, option_map, unwrap_or}
+use Rattle.std.specs.Prelude.{Option, Some, None, is_some, not, ◌&&◌, ◌||◌, ◌==◌, filter, find, map, sum_by, nat_lt}
 use Rattle.std.specs.List.{list_any}
-use Rattle.std.specs.declared.cmp.Ordering.{Ordering}
 use Rattle.std.specs.declared.cmp.Ordering.TheVariants.{Less, Equal, Greater}
 use Rattle.std.specs.Ordering.{nat_cmp, eq_by_cmp, is_eq, is_lt}
 use Rattle.std.specs.Cmp.{nat_cmp_total, unsigned_tied}
 use Rattle.std.specs.FinMap.Entries.{put, where_key, is_sorted, below_all, by_order, length-put, length_without}
 use Rattle.std.specs.FinMap.Entries as entries
-use Rattle.task_machine.specs.Maps.{Records, get, insert, remove, change, changed, size, numbers, empty}
+use Rattle.task_machine.specs.Maps.{Records, get, insert, remove, change, changed, size, numbers}
 
 -- ---- Lists in order
 
@@ -180,7 +179,7 @@ module _ {X : Type 0} where
             omega arith
         | Greater ↦ λ p.
             let later : at n es ≡ Some y = sym (at_cons n e es ∙ ap (λ b. cond b (Some e.1) (at n es)) (greater_is n e.0 p)) ∙ is in
-            let ih = sum-put f n x y es (both_second _ _ h) later in
+            let ih : sum_by f (put nat_cmp n x es) + f (n, y) ≡ sum_by f es + f (n, x) = sum-put f n x y es (both_second (below_all nat_cmp e.0 es) (is_sorted nat_cmp es) h) later in
             let a = sum_by-cons f e (put nat_cmp n x es) in let b = sum_by-cons f e es in
             omega arith
       ] refl

@@ -1,52 +1,45 @@
 -- The rows of simple states, in simple words.
-use Rattle.std.proofs.Common.{ap, ap₂, arith, cond, refl, subst, sym, ◌∙◌}
-use Rattle.std.proofs.lemmas.Bool.{eq-eqb, eqb-false, eqb-true, false≢true, ne_eqb}
+use Rattle.std.proofs.Common.{ap, ap₂, refl, subst, sym, ◌∙◌}
+use Rattle.std.proofs.lemmas.Bool.{eqb-false, eqb-true, false≢true}
 use Rattle.std.specs.List.{list_any}
 use Rattle.std.specs.Option.{option_map_or}
-use Rattle.std.specs.Prelude.{Bool, List, None, Option, Some, [], false, if◌then◌else◌, is_none, is_some, not, option_and_then, option_map, suc, true, zero, ℕ, ◌&&◌, ◌+◌, ◌==◌, ◌||◌, ◌∷◌, ◌≡◌, ◌≢◌}
+use Rattle.std.specs.Prelude.{Bool, List, None, Option, Some, [], false, if◌then◌else◌, is_none, is_some, not, option_and_then, option_map, suc, true, zero, ℕ, ◌&&◌, ◌+◌, ◌==◌, ◌||◌, ◌≡◌}
 use Rattle.task_machine.specs.declared.component.Callee.{Callee}
 use Rattle.task_machine.specs.declared.component.Component.{Component}
-use Rattle.task_machine.specs.declared.component.ExportKind.{ExportKind}
-use Rattle.task_machine.specs.declared.component.ExportKind.TheVariants as kind
 use Rattle.task_machine.specs.declared.label.MainLabel.TheVariants as main_label
 use Rattle.task_machine.specs.declared.records.Call.{Call}
 use Rattle.task_machine.specs.declared.records.CallEnd.TheVariants as call_end
-use Rattle.task_machine.specs.declared.records.Caller.{Caller}
 use Rattle.task_machine.specs.declared.records.Caller.TheVariants as caller
 use Rattle.task_machine.specs.declared.records.Entry.TheVariants as entry
-use Rattle.task_machine.specs.declared.records.Goal.{Goal}
 use Rattle.task_machine.specs.declared.records.Goal.TheVariants as goal
 use Rattle.task_machine.specs.declared.records.Instance.{Instance}
-use Rattle.task_machine.specs.declared.records.Place.{Place}
 use Rattle.task_machine.specs.declared.records.Place.TheVariants as place
 use Rattle.task_machine.specs.declared.records.Script.TheVariants as script
 use Rattle.task_machine.specs.declared.records.Thread.{Thread}
-use Rattle.task_machine.specs.declared.records.Why.TheVariants as why
 use Rattle.task_machine.specs.declared.records.Work.{Work}
-use Rattle.task_machine.specs.declared.trap.Trap.{Trap}
 use Rattle.task_machine.specs.declared.trap.Trap.TheVariants as trap
 use Rattle.task_machine.specs.declared.words.Mark.{Mark}
 use Rattle.task_machine.specs.declared.words.Status.{Status}
 use Rattle.task_machine.specs.declared.words.Status.TheVariants as status
-use Rattle.task_machine.specs.Core.{Began, Core, Refused}
+use Rattle.task_machine.specs.Core.{Began, Core}
 use Rattle.task_machine.specs.Labels.{Choice, exit_label, held_label, ret_label, take_label}
-use Rattle.task_machine.specs.Maps.{Records, change, changed, empty, get, remove}
-use Rattle.task_machine.specs.Moves.{call_settled, checked, departed, ended, exited_if, freed_thread_handle, group_settled, interest_settled, is_deletable, is_deletable_call, is_finished, is_group_done, passes_check, put_high, released, released_callers, stand, stopped, stopped_at}
-use Rattle.task_machine.specs.Read.{admits, any_thread, at_handle_limit, call_group, call_instance, caller_of, callers_of, first_thread, fits, foot_from, foot_of, goal_of, has_ended, has_thread, instance_of, is_explicit, is_under, kind_of, may_not_enter, may_not_suspend, new_thread_handle, no_callee, place_of, position_of, strand_of, task_of, thread_handle_of, under_of, undelivered_end}
-use Rattle.task_machine.specs.Write.{add_call, add_group, add_thread, free_thread_handle, give_result, give_thread_handle, on_call, on_instance, on_thread, push_high, remove_call, remove_group, remove_thread, remove_threads, set_do_not_enter, set_end, set_exited, set_place, set_started, set_starting_published, set_thread_handle, set_trapped, set_uninteresting, take_result}
-use Rattle.task_machine.proofs.MapLemmas.{get-change_other, get-change_same, get-insert_other, get-insert_same, get-remove_other, get-remove_same, same_records}
-use Rattle.task_rules.specs.Calls.{call_made, new_call, new_thread, next_thread, with_thread_handle}
+use Rattle.task_machine.specs.Maps.{Records, change, empty, get, remove}
+use Rattle.task_machine.specs.Moves.{call_settled, checked, departed, ended, exited_if, freed_thread_handle, group_settled, interest_settled, is_deletable, is_deletable_call, is_finished, is_group_done, put_high, released, released_callers, stopped, stopped_at}
+use Rattle.task_machine.specs.Read.{at_handle_limit, call_group, call_instance, caller_of, callers_of, first_thread, fits, foot_from, foot_of, has_ended, has_thread, instance_of, is_under, kind_of, may_not_enter, may_not_suspend, new_thread_handle, no_callee, place_of, position_of, task_of, thread_handle_of, under_of, undelivered_end}
+use Rattle.task_machine.specs.Write.{add_call, add_group, add_thread, free_thread_handle, give_result, give_thread_handle, on_call, on_instance, on_thread, push_high, remove_call, remove_thread, remove_threads, set_do_not_enter, set_end, set_exited, set_place, set_started, set_starting_published, set_thread_handle, set_trapped, set_uninteresting, take_result}
+use Rattle.task_machine.proofs.MapLemmas.{get-change_other, get-change_same, get-remove_other, get-remove_same, same_records}
+use Rattle.task_rules.specs.Calls.{call_made, new_call, new_thread, with_thread_handle}
 use Rattle.task_rules.specs.Data.{advanced, moved_to}
-use Rattle.task_rules.specs.Ends.{code_row, deactivated, exit_row, exit_row_for, finished, held_out, implicit_exit_row, kind_end, kind_exit_row, leaves_no_result, let_in, may_tell, passes_after_stop, result_given, returned, told}
+use Rattle.task_rules.specs.Ends.{deactivated, exit_row, finished, held_out, let_in, result_given, returned, told}
 use Rattle.task_rules.specs.MainOps.{Does, Pends, finish_act, main_started, refusal, start_act, start_refusal}
-use Rattle.task_rules.specs.Progress.{Goes, Ordered, Progress, Stops, Traps, may, trap_if}
+use Rattle.task_rules.specs.Progress.{Goes, Ordered, Stops, Traps}
 use Rattle.task_rules.specs.Scripts.{export_kind, registers_for}
 use Rattle.task_rules.specs.Step.{struck}
-use Rattle.task_rules.specs.Takes.{enters, held, may_tell_starting, start_admitted, start_held, start_row, started, starting_is_published, starting_told, thread_taken}
+use Rattle.task_rules.specs.Takes.{enters, held, may_tell_starting, start_held, start_row, started, starting_is_published, starting_told, thread_taken}
 use Rattle.task_rules.specs.Task.{ret_done, ret_row}
 use Rattle.task_simple.specs.Forms.{call_started, exit_done, return_done, start_done, start_put_off, trap_done}
 use Rattle.task_simple.specs.Simple.{IsPlain, held_start, ready_start}
-use Rattle.task_simple.proofs.ReadLemmas.{admits_start, caller_of_is, foot_of_is, goal_of_is, held_out_none, instance_of_is, is_direct_not, is_explicit_not, kind_of_is, leaves_no_result_is, may_suspend, may_tell_is, passes_after_stop_is, strand_of_is, task_of_is, under_of_none}
+use Rattle.task_simple.proofs.ReadLemmas.{admits_start, caller_of_is, foot_of_is, goal_of_is, held_out_none, instance_of_is, is_direct_not, is_explicit_not, kind_of_is, leaves_no_result_is, may_tell_is, passes_after_stop_is, strand_of_is, task_of_is, under_of_none}
 use Rattle.task_simple.proofs.RecordLemmas.{any_none}
 
 -- ---- Maps
@@ -233,10 +226,10 @@ module _ (s : Core) (plain : IsPlain s) (n : ℕ) (t : Thread) (found : get s.th
     group_done =
         ap₂ (λ a (m : Records Work). not (a || list_any (λ e. option_map_or (λ h. h == n) e.1.group false) m.list))
         (any_none (remove s.calls n) (λ e. e.1.group == n) (λ q x is.
-            elim (q == n) as (λ b. (q == n) ≡ b → (x.group == n) ≡ false) [
-              | true ↦ λ same. absurd (none_here q x is (eqb-true q n same))
-              | false ↦ λ other. ap (λ k. k == n) (plain.calls q x (sym (get-remove_other s.calls n q (eqb-false q n other)) ∙ is)).of_its_group ∙ other
-            ] refl))
+        elim (q == n) as (λ b. (q == n) ≡ b → (x.group == n) ≡ false) [
+          | true ↦ λ same. absurd (none_here q x is (eqb-true q n same))
+          | false ↦ λ other. ap (λ k. k == n) (plain.calls q x (sym (get-remove_other s.calls n q (eqb-false q n other)) ∙ is)).of_its_group ∙ other
+        ] refl))
         plain.no_works
       where
         none_here : (q : ℕ) (x : Call) → get (remove s.calls n) q ≡ Some x → q ≡ n → ⊥

@@ -1,6 +1,6 @@
 -- The moves of simple states lead to simple states, and which thread runs there.
-use Rattle.std.proofs.Common.{ap, refl, subst, sym, ◌∙◌}
-use Rattle.std.specs.Prelude.{Bool, List, None, Option, Some, [], false, is_some, option_and_then, option_map, true, ℕ, ◌+◌, ◌∷◌, ◌≡◌, ◌≢◌}
+use Rattle.std.proofs.Common.{ap, refl, sym, ◌∙◌}
+use Rattle.std.specs.Prelude.{Bool, List, None, Option, Some, false, option_and_then, option_map, true, ℕ, ◌+◌, ◌∷◌, ◌≡◌, ◌≢◌}
 use Rattle.task_machine.specs.declared.component.Callee.{Callee}
 use Rattle.task_machine.specs.declared.component.ExportKind.TheVariants as kind
 use Rattle.task_machine.specs.declared.records.Call.{Call}
@@ -12,23 +12,23 @@ use Rattle.task_machine.specs.declared.records.Script.TheVariants as script
 use Rattle.task_machine.specs.declared.records.Thread.{Thread}
 use Rattle.task_machine.specs.declared.words.Mark.TheVariants as mark
 use Rattle.task_machine.specs.Core.{Core}
-use Rattle.task_machine.specs.Maps.{get, insert, remove}
-use Rattle.task_machine.specs.Read.{call_instance, instance_of, may_not_enter, place_of, thread_handle_of}
+use Rattle.task_machine.specs.Maps.{get, insert}
+use Rattle.task_machine.specs.Read.{call_instance, instance_of, may_not_enter, next_entry, place_of, thread_handle_of}
 use Rattle.task_machine.specs.Write.{add_call, add_group, add_thread, free_thread_handle, give_result, give_thread_handle, on_call, on_instance, on_thread, push_high, remove_call, remove_group, remove_thread, set_do_not_enter, set_end, set_high, set_how_far, set_place, set_position, set_started, set_starting_published, set_thread_handle, set_trapped, take_result}
 use Rattle.task_machine.proofs.MapLemmas.{get-remove_other, get-remove_same}
 use Rattle.task_rules.specs.Calls.{new_thread}
 use Rattle.task_rules.specs.Data.{moved_to}
 use Rattle.task_rules.specs.Scripts.{registers_for}
-use Rattle.task_rules.specs.Takes.{popped}
+use Rattle.task_rules.specs.Takes.{popped, rest_of}
 use Rattle.task_simple.specs.Forms.{call_started, exit_done, return_done, start_done, start_put_off, trap_done}
 use Rattle.task_simple.specs.Simple.{IsPlain, IsSimple, NoneRuns, held_start, ready_start, runs, stands}
 use Rattle.task_simple.proofs.CaseLemmas.{change_cases, either, insert_cases, remove_cases}
 use Rattle.task_simple.proofs.EndLemmas.{exit_plain, trap_plain}
 use Rattle.task_simple.proofs.MoveLemmas.{Moves}
-use Rattle.task_simple.proofs.QueueLemmas.{first_ready, plain_popped, popped_rest, simple_left, simple_still}
+use Rattle.task_simple.proofs.QueueLemmas.{first_ready, high_is, plain_popped, popped_rest, simple_left, simple_still}
 use Rattle.task_simple.proofs.ReadLemmas.{instance_of_is}
 use Rattle.task_simple.proofs.RowLemmas.{some_there}
-use Rattle.task_simple.proofs.StartLemmas.{ended_call, freshened, held_thread, passed, put_off_moves, put_off_plain, return_moves, return_plain, running_thread, start_moves, start_plain, table_here}
+use Rattle.task_simple.proofs.StartLemmas.{put_off_moves, put_off_plain, return_moves, return_plain, start_moves, start_plain, table_here}
 
 -- ---- What is there
 
@@ -69,7 +69,13 @@ place_else s x n t c m q ne = ap (option_map (λ t. t.place)) (m.thread_else q n
 
 -- ---- An entry is taken
 
-module _ (s : Core) (simple : IsSimple s) (n : ℕ) (es : List Entry) (first : s.queues.high ≡ entry.Thread n ∷ es) where
+module _ (s : Core) (simple : IsSimple s) (n : ℕ) (next : next_entry s ≡ Some (mark.High, entry.Thread n)) where
+  abbrev es : List Entry
+  es = rest_of s.queues.high
+
+  first : s.queues.high ≡ entry.Thread n ∷ es
+  first = high_is s simple.plain (entry.Thread n) next
+
   abbrev b : Core
   b = popped mark.High s
 

@@ -2,18 +2,16 @@
 use Rattle.std.proofs.Common.{ap, ap₂, arith, inl, inr, refl, subst, sym, ◌∙◌}
 use Rattle.std.proofs.lemmas.Bool.{false≢true}
 use Rattle.std.specs.Option.{option_map_or}
-use Rattle.std.specs.Prelude.{Bool, List, None, Option, Some, [], false, is_some, not, option_and_then, option_map, true, ℕ, ◌+◌, ◌≡◌, ◌≢◌, ◌≤◌}
+use Rattle.std.specs.Prelude.{None, Option, Some, false, is_some, option_and_then, option_map, true, ℕ, ◌+◌, ◌≡◌, ◌≢◌, ◌≤◌}
 use Rattle.task_machine.specs.declared.records.Call.{Call}
-use Rattle.task_machine.specs.declared.records.CallEnd.{CallEnd}
 use Rattle.task_machine.specs.declared.records.CallEnd.TheVariants as call_end
 use Rattle.task_machine.specs.declared.records.HowFar.TheVariants as how_far
 use Rattle.task_machine.specs.declared.records.Instance.{Instance}
-use Rattle.task_machine.specs.declared.records.Place.{Place}
 use Rattle.task_machine.specs.declared.records.Place.TheVariants as place
 use Rattle.task_machine.specs.declared.records.Thread.{Thread}
 use Rattle.task_machine.specs.Core.{Core, Table}
-use Rattle.task_machine.specs.Maps.{Records, change, get, insert, numbers}
-use Rattle.task_machine.specs.Read.{call_instance, callee_of, handle_of_table, instance_of, may_not_enter, named_by, new_thread_handle, next_handle, no_callee, position_of, task_of, thread_at}
+use Rattle.task_machine.specs.Maps.{change, get, insert}
+use Rattle.task_machine.specs.Read.{call_instance, callee_of, instance_of, may_not_enter, named_by, new_thread_handle, next_handle, no_callee, position_of, thread_at}
 use Rattle.task_machine.specs.Write.{give_result, give_thread_handle, giving, on_call, on_instance, on_thread, set_do_not_enter, set_end, set_how_far, set_place, set_position, set_started, set_starting_published, set_thread_handle}
 use Rattle.task_machine.proofs.MapLemmas.{get-change_other, get-change_same, get-insert_other, get-insert_same}
 use Rattle.task_rules.specs.Data.{moved_to}
@@ -117,8 +115,8 @@ module _ (s : Core) (plain : IsPlain s) (n : ℕ) (t : Thread) (found : get s.th
   shut_then j h =
       either j i
       (λ e. ap (λ k. option_map_or (λ x. x.do_not_enter) (get (change i shut s.instances) k) false) e
-          ∙ ap (λ o. option_map_or (λ x. x.do_not_enter) o false) (get-change_same s.instances i shut)
-          ∙ shut_option (get s.instances i) (sym (ap (λ k. may_not_enter k s) e) ∙ h))
+      ∙ ap (λ o. option_map_or (λ x. x.do_not_enter) o false) (get-change_same s.instances i shut)
+      ∙ shut_option (get s.instances i) (sym (ap (λ k. may_not_enter k s) e) ∙ h))
       (λ ne. ap (λ o. option_map_or (λ x. x.do_not_enter) o false) (get-change_other s.instances i shut j ne) ∙ h)
 
   module _ (tb : Table ℕ) (tabled : get s.thread_handles i ≡ Some tb) where
@@ -145,11 +143,11 @@ module _ (s : Core) (plain : IsPlain s) (n : ℕ) (t : Thread) (found : get s.th
     names_then j h q named =
         either j i
         (λ e.
-            let live : get tb.live h ≡ Some q = sym (ap (option_and_then (λ t. get t.live h)) tabled) ∙ sym (ap (λ k. thread_at k h s) e) ∙ named in
-            let ne : h ≢ next = λ same. let a = ap (get tb.live) same in let b = next_new in cc in
-            ap (λ k. named_by (change i (giving n) s.thread_handles) k h) e
-            ∙ ap (option_and_then (λ t. get t.live h)) table_then
-            ∙ get-insert_other tb.live next n h ne ∙ live)
+        let live : get tb.live h ≡ Some q = sym (ap (option_and_then (λ t. get t.live h)) tabled) ∙ sym (ap (λ k. thread_at k h s) e) ∙ named in
+        let ne : h ≢ next = λ same. let a = ap (get tb.live) same in let b = next_new in cc in
+        ap (λ k. named_by (change i (giving n) s.thread_handles) k h) e
+        ∙ ap (option_and_then (λ t. get t.live h)) table_then
+        ∙ get-insert_other tb.live next n h ne ∙ live)
         (λ ne. ap (option_and_then (λ t. get t.live h)) (get-change_other s.thread_handles i (giving n) j ne) ∙ named)
 
     named_then : (h : ℕ) → Some (new_thread_handle i s) ≡ Some h → named_by (change i (giving n) s.thread_handles) (call_instance n s) h ≡ Some n

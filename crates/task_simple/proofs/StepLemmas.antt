@@ -1,6 +1,6 @@
 -- The steps of the machine from simple states.
 use Rattle.std.proofs.Common.{ap, refl, subst, sym, ◌∙◌}
-use Rattle.std.specs.Prelude.{Bool, IsPermutation, List, None, Option, Some, [], false, not, option_and_then, true, ℕ, ◌+◌, ◌∷◌, ◌≡◌}
+use Rattle.std.specs.Prelude.{Bool, List, None, Some, [], false, option_and_then, true, ℕ, ◌+◌, ◌≡◌}
 use Rattle.task_machine.specs.declared.component.Callee.{Callee}
 use Rattle.task_machine.specs.declared.label.Label.{Label}
 use Rattle.task_machine.specs.declared.label.Label.TheVariants as label
@@ -9,7 +9,6 @@ use Rattle.task_machine.specs.declared.label.MainLabel.TheVariants as main_label
 use Rattle.task_machine.specs.declared.op.Op.TheVariants as op
 use Rattle.task_machine.specs.declared.op.Operand.{Operand}
 use Rattle.task_machine.specs.declared.op.TaskOp.TheVariants as task_op
-use Rattle.task_machine.specs.declared.records.Entry.{Entry}
 use Rattle.task_machine.specs.declared.records.Entry.TheVariants as entry
 use Rattle.task_machine.specs.declared.records.Place.TheVariants as place
 use Rattle.task_machine.specs.declared.records.Turn.TheVariants as turn
@@ -17,41 +16,40 @@ use Rattle.task_machine.specs.declared.scenario.IdleLine.TheVariants as idle_lin
 use Rattle.task_machine.specs.declared.trap.Trap.{Trap}
 use Rattle.task_machine.specs.declared.trap.Trap.TheVariants as trap
 use Rattle.task_machine.specs.declared.words.Mark.TheVariants as mark
-use Rattle.task_machine.specs.Core.{Began, Core, Main, State, Unscripted}
+use Rattle.task_machine.specs.Core.{Began, Core, State, Unscripted}
 use Rattle.task_machine.specs.Labels.{choice_of, exit_label, held_label, ret_label, take_label}
 use Rattle.task_machine.specs.Maps.{get}
-use Rattle.task_machine.specs.Read.{at_handle_limit, first_of, fits, has_ended, instance_of, may_not_enter, next_entry, place_of, thread_handle_of}
+use Rattle.task_machine.specs.Read.{at_handle_limit, fits, has_ended, instance_of, may_not_enter, next_entry, place_of, thread_handle_of}
 use Rattle.task_machine.specs.Write.{set_trapped, take_result}
-use Rattle.task_rules.specs.Ends.{finished}
-use Rattle.task_rules.specs.MainOps.{Answer, Finish, MainAct, Start, main_row}
-use Rattle.task_rules.specs.Progress.{Goes, Ordered, Progress, Stops, Traps}
+use Rattle.task_rules.specs.MainOps.{Answer, Finish, Start}
+use Rattle.task_rules.specs.Progress.{Traps}
 use Rattle.task_rules.specs.Scripts.{export_kind, op_of, value_of}
 use Rattle.task_rules.specs.Stalled.{Setting, is_idle_trap}
-use Rattle.task_rules.specs.Step.{DeadlockStep, EmptyFor, MainStep, OpenProgresses, Progresses, Step, TakeStep, TurnStep, did, op_row, struck, trap_label}
+use Rattle.task_rules.specs.Step.{DeadlockStep, EmptyFor, MainStep, OpenProgresses, Progresses, Step, TakeStep, TurnStep, did, op_row, trap_label}
 use Rattle.task_rules.specs.Takes.{popped, take_row}
 use Rattle.task_rules.specs.Turns.{goes_to}
 use Rattle.task_simple.specs.Forms.{call_started, exit_done, return_done, start_done, start_put_off, trap_done}
-use Rattle.task_simple.specs.Simple.{IsPlain, IsSimple, ready_start}
-use Rattle.task_simple.proofs.QueueLemmas.{next_is_first, plain_popped}
-use Rattle.task_simple.proofs.ReadLemmas.{deadlock_trap_is, has_moving_work_not, may_deadlock_is, next_entry_is}
+use Rattle.task_simple.specs.Simple.{IsPlain, IsSimple}
+use Rattle.task_simple.proofs.QueueLemmas.{next_entry_none, plain_popped}
+use Rattle.task_simple.proofs.ReadLemmas.{deadlock_trap_is, has_moving_work_not, may_deadlock_is}
 use Rattle.task_simple.proofs.RowLemmas.{exit_after_return, exit_early, finish_act_given, finished_is, ret_once, ret_twice, start_act_begun, start_act_full, start_act_trapped, start_done_row, start_held_row, start_refused_row, struck_is, thread_taken_is}
 use Rattle.task_simple.proofs.SimpleLemmas.{call_there, popped_ready, thread_there}
 
 -- ---- An entry is taken
 
-module _ (x : Setting) (s : State) (simple : IsSimple s.core) (was : Bool) (turn_is : s.turn ≡ turn.Take was) (n : ℕ) (es : List Entry) (first : s.core.queues.high ≡ entry.Thread n ∷ es) where
+module _ (x : Setting) (s : State) (simple : IsSimple s.core) (was : Bool) (turn_is : s.turn ≡ turn.Take was) (n : ℕ) (next : next_entry s.core ≡ Some (mark.High, entry.Thread n)) where
   abbrev b : Core
   b = popped mark.High s.core
 
   taking : (l : Label) (t : State) → Progresses s b n (take_row mark.High (choice_of l) b (entry.Thread n)) l t → Step x s l t
   unfolding Step
-  taking l t h = subst (λ u. TurnStep x s u l t) (sym turn_is) (subst (λ o. TakeStep x s o l t) (sym (next_is_first s.core simple n es first)) h)
+  taking l t h = subst (λ u. TurnStep x s u l t) (sym turn_is) (subst (λ o. TakeStep x s o l t) (sym next) h)
 
   -- the start of a call whose instance lets in no other is held
   pub take_put_off : may_not_enter (instance_of n b) b ≡ true → Step x s (held_label mark.High n None) (goes_to s (start_put_off n b) turn.Main)
   take_put_off shut =
       let plain = plain_popped s.core simple.plain in
-      let r = popped_ready s.core simple n es first in
+      let r = popped_ready s.core simple n next in
       let c = call_there b plain n r.0 r.1 in
       let l = held_label mark.High n None in
       let t = goes_to s (start_put_off n b) turn.Main in
@@ -61,7 +59,7 @@ module _ (x : Setting) (s : State) (simple : IsSimple s.core) (was : Bool) (turn
   pub take_full : may_not_enter (instance_of n b) b ≡ false → at_handle_limit b ≡ true → Step x s (trap_label n trap.HandleLimit) (goes_to s (trap_done n b) turn.Over)
   take_full enters full =
       let plain = plain_popped s.core simple.plain in
-      let r = popped_ready s.core simple n es first in
+      let r = popped_ready s.core simple n next in
       let c = call_there b plain n r.0 r.1 in
       let l = trap_label n trap.HandleLimit in
       let t = goes_to s (trap_done n b) turn.Over in
@@ -71,7 +69,7 @@ module _ (x : Setting) (s : State) (simple : IsSimple s.core) (was : Bool) (turn
   pub take_start : may_not_enter (instance_of n b) b ≡ false → at_handle_limit b ≡ false → Step x s (take_label mark.High n None) (goes_to s (start_done n b) (turn.Run n))
   take_start enters room =
       let plain = plain_popped s.core simple.plain in
-      let r = popped_ready s.core simple n es first in
+      let r = popped_ready s.core simple n next in
       let c = call_there b plain n r.0 r.1 in
       let l = take_label mark.High n None in
       let t = goes_to s (start_done n b) (turn.Run n) in
@@ -83,7 +81,7 @@ unfolding Step
 take_deadlock x s plain turn_is unscripted none traps =
     let l = label.Loop (loop_label.Deadlock trap.AsyncDeadlock) in
     let t = goes_to s (set_trapped s.core) turn.Over in
-    let nothing : next_entry s.core ≡ None = next_entry_is s.core plain ∙ ap (first_of mark.High) none in
+    let nothing : next_entry s.core ≡ None = next_entry_none s.core plain none in
     let may = may_deadlock_is x s plain turn_is unscripted none ∙ ap is_idle_trap traps in
     subst (λ u. TurnStep x s u l t) (sym turn_is)
     (subst (λ o. TakeStep x s o l t) (sym nothing)
@@ -136,7 +134,7 @@ module _ (x : Setting) (s : State) (simple : IsSimple s.core) (n : ℕ) (turn_is
       let t = goes_to s (exit_done n h s.core) turn.Main in
       let core = finished_is s.core simple.plain n r.0 r.1 c.0 c.1 h own ended in
       running l t (subst (λ p. Progresses s s.core n p l t) (sym (ap (op_row x.component n s.core (choice_of l)) op_is ∙ exit_after_return s.core simple.plain n r.0 r.1 c.0 c.1 None ended r.2))
-          ([], (record { moves = []; below = tt; is = refl }, (refl, ap (λ y. goes_to s y turn.Main) (sym core)))))
+      ([], (record { moves = []; below = tt; is = refl }, (refl, ap (λ y. goes_to s y turn.Main) (sym core)))))
 
 -- ---- Main, which is no script
 

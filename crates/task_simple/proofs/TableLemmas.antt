@@ -1,13 +1,13 @@
 -- Tables of handles: the next handle is never live, and a handle that is given or taken back leaves a table.
-use Rattle.std.proofs.Common.{ap, ap₂, arith, cond, refl, subst, sym, ◌∙◌}
+use Rattle.std.proofs.Common.{ap, arith, cond, refl, subst, sym, ◌∙◌}
 use Rattle.std.proofs.lemmas.Bool.{eq-eqb, eqb-false, eqb-true, ne_eqb}
 use Rattle.std.proofs.lemmas.List.Sums.{sum_by-cons}
-use Rattle.std.specs.Prelude.{Bool, List, None, Option, Some, [], count_by, false, length, suc, true, ℕ, ◌+◌, ◌<◌, ◌==◌, ◌∷◌, ◌≡◌, ◌≢◌, ◌≤◌}
+use Rattle.std.specs.Prelude.{List, None, Option, Some, [], count_by, false, length, suc, true, ℕ, ◌+◌, ◌<◌, ◌==◌, ◌∷◌, ◌≡◌, ◌≢◌, ◌≤◌}
 use Rattle.task_machine.specs.Core.{Table}
-use Rattle.task_machine.specs.Maps.{Records, get, insert, remove, size}
+use Rattle.task_machine.specs.Maps.{get, insert, remove, size}
 use Rattle.task_machine.specs.Read.{next_handle}
 use Rattle.task_machine.specs.Write.{giving, less_one, taking}
-use Rattle.task_machine.proofs.MapLemmas.{get-insert_other, get-insert_same, get-remove_other, get-remove_same}
+use Rattle.task_machine.proofs.MapLemmas.{get-insert_other, get-remove_other, get-remove_same}
 use Rattle.task_simple.specs.Simple.{IsTable}
 use Rattle.task_simple.proofs.RecordLemmas.{size-insert_new, size-remove}
 

@@ -1,7 +1,7 @@
 -- How the entries of the resource table and the live handles change with each move of simple states.
 use Rattle.std.proofs.Common.{ap, arith, refl, sym, ◌∙◌}
 use Rattle.std.proofs.lemmas.List.{length-map}
-use Rattle.std.specs.Prelude.{List, None, Option, Some, [], false, filter, length, map, not, option_and_then, true, ℕ, ◌*◌, ◌+◌, ◌==◌, ◌≡◌}
+use Rattle.std.specs.Prelude.{List, None, Some, false, filter, length, not, true, ℕ, ◌+◌, ◌==◌, ◌≡◌}
 use Rattle.task_machine.specs.declared.component.Callee.{Callee}
 use Rattle.task_machine.specs.declared.component.ExportKind.{ExportKind}
 use Rattle.task_machine.specs.declared.records.Call.{Call}
@@ -14,18 +14,18 @@ use Rattle.task_machine.specs.declared.records.Place.TheVariants as place
 use Rattle.task_machine.specs.declared.records.Script.TheVariants as script
 use Rattle.task_machine.specs.declared.records.Thread.{Thread}
 use Rattle.task_machine.specs.declared.words.Mark.TheVariants as mark
-use Rattle.task_machine.specs.Core.{Core, Table}
+use Rattle.task_machine.specs.Core.{Core}
 use Rattle.task_machine.specs.Maps.{Records, get, numbers, remove, size}
-use Rattle.task_machine.specs.Read.{call_instance, instance_of, live_count, new_thread_handle, position_of, table_use, thread_at}
+use Rattle.task_machine.specs.Read.{instance_of, live_count, new_thread_handle, position_of, table_use}
 use Rattle.task_machine.specs.Write.{add_call, add_group, add_thread, free_thread_handle, give_result, give_thread_handle, on_call, on_instance, on_thread, push_high, remove_call, remove_group, remove_thread, set_do_not_enter, set_end, set_high, set_how_far, set_place, set_position, set_started, set_starting_published, set_thread_handle, set_trapped}
 use Rattle.task_rules.specs.Calls.{new_call, new_thread}
 use Rattle.task_rules.specs.Data.{moved_to}
 use Rattle.task_rules.specs.Scripts.{registers_for}
-use Rattle.task_rules.specs.Takes.{popped, rest_of}
+use Rattle.task_rules.specs.Takes.{popped}
 use Rattle.task_simple.specs.Forms.{call_started, exit_done, return_done, start_done, start_put_off, trap_done}
 use Rattle.task_simple.specs.Simple.{IsPlain, held_start, ready_start}
 use Rattle.task_simple.proofs.BeginLemmas.{no_call_yet, no_thread_yet}
-use Rattle.task_simple.proofs.CountLemmas.{live_count-free_thread_handle, live_count-give_thread_handle, live_count-on_instance, live_count-on_thread, table_use-add_call, table_use-add_group, table_use-add_thread, table_use-give_result, table_use-give_thread_handle, table_use-on_call, table_use-on_instance, table_use-on_thread, table_use-push_high, table_use-remove_thread, table_use-set_trapped}
+use Rattle.task_simple.proofs.CountLemmas.{live_count-free_thread_handle, live_count-give_thread_handle, table_use-add_call, table_use-add_group, table_use-add_thread, table_use-give_result, table_use-give_thread_handle, table_use-on_call, table_use-on_instance, table_use-on_thread, table_use-push_high, table_use-remove_thread, table_use-set_trapped}
 use Rattle.task_simple.proofs.EndLemmas.{live_here}
 use Rattle.task_simple.proofs.RecordLemmas.{numbers-remove, size-remove}
 use Rattle.task_simple.proofs.StartLemmas.{table_here}
@@ -219,3 +219,5 @@ unfolding popped set_high
 handle_limit-popped s = refl
 
 pub ruleset uses = (table_use-popped, live_count-popped, table_use-start_put_off, live_count-start_put_off, table_use-return_done, live_count-return_done, table_use-call_started, live_count-call_started, table_use-start_done, live_count-start_done, table_use-exit_done, table_use-exit_done_trapped, live_count-exit_done, table_use-trap_done, live_count-trap_done, groups_as_calls)
+
+pub ruleset limits = (capacity-call_started, handle_limit-call_started, capacity-start_put_off, handle_limit-start_put_off, capacity-start_done, handle_limit-start_done, capacity-return_done, handle_limit-return_done, capacity-exit_done, handle_limit-exit_done, capacity-trap_done, handle_limit-trap_done, capacity-popped, handle_limit-popped)

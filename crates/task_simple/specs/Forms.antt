@@ -1,5 +1,5 @@
 -- What the moves of such states are, in the words of parts: each the writes that the code makes, in their order.
-use Rattle.std.specs.Prelude.{List, None, Option, Some, false, true, ℕ, ◌+◌}
+use Rattle.std.specs.Prelude.{List, None, Some, false, true, ℕ, ◌+◌}
 use Rattle.task_machine.specs.declared.component.Callee.{Callee}
 use Rattle.task_machine.specs.declared.component.ExportKind.{ExportKind}
 use Rattle.task_machine.specs.declared.records.CallEnd.TheVariants as call_end

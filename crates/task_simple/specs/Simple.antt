@@ -1,5 +1,5 @@
 -- The states that calls by main of callback exports lead to, where scripts have no other ops than `ret` and `exit`.
-use Rattle.std.specs.Prelude.{Bool, List, None, Option, Some, [], count_by, false, is_some, length, true, ℕ, ◌+◌, ◌<◌, ◌==◌, ◌≡◌, ◌≢◌, ◌≤◌}
+use Rattle.std.specs.Prelude.{Bool, None, Option, Some, [], count_by, false, is_some, length, true, ℕ, ◌+◌, ◌<◌, ◌==◌, ◌≡◌, ◌≢◌, ◌≤◌}
 use Rattle.std.specs.List.{list_all}
 use Rattle.std.proofs.Common.{◌⊎◌}
 use Rattle.task_machine.specs.declared.component.ExportKind.TheVariants as kind
