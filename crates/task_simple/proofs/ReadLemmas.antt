@@ -1,9 +1,9 @@
 -- What is read off plain states.
-use Rattle.std.proofs.Common.{ap, ap₂, inl, inr, refl, subst, sym, ◌∙◌}
+use Rattle.std.proofs.Common.{arith, ap, ap₂, inl, inr, refl, subst, sym, ◌∙◌}
 use Rattle.std.proofs.lemmas.Bool.{ne_eqb}
 use Rattle.std.specs.List.{list_any}
 use Rattle.std.specs.Option.{option_map_or}
-use Rattle.std.specs.Prelude.{Bool, List, None, Option, Some, [], false, if◌then◌else◌, is_none, not, option_and_then, option_map, suc, true, zero, ℕ, ◌&&◌, ◌==◌, ◌∷◌, ◌≡◌, ◌≢◌}
+use Rattle.std.specs.Prelude.{Bool, List, None, Option, Some, [], false, if◌then◌else◌, is_none, length, not, option_and_then, option_map, suc, true, zero, ℕ, ◌&&◌, ◌==◌, ◌∷◌, ◌≡◌, ◌≢◌}
 use Rattle.task_machine.specs.declared.component.ExportKind.TheVariants as kind
 use Rattle.task_machine.specs.declared.records.Call.{Call}
 use Rattle.task_machine.specs.declared.records.Caller.TheVariants as caller
@@ -19,17 +19,17 @@ use Rattle.task_machine.specs.declared.trap.Trap.TheVariants as trap
 use Rattle.task_machine.specs.declared.words.Mark.TheVariants as mark
 use Rattle.task_machine.specs.declared.words.Status.{Status}
 use Rattle.task_machine.specs.Core.{Core, State, Unscripted}
-use Rattle.task_machine.specs.Maps.{empty, get}
+use Rattle.task_machine.specs.Maps.{empty, get, size}
 use Rattle.task_machine.specs.Moves.{checked, passes_check, released_callers, stopped, stopped_at}
 use Rattle.task_machine.specs.Read.{admits, admitted_held, backpressure_of, call_instance, caller_of, first_of, foot_from, foot_of, goal_of, has_ended, held_why, instance_of, is_direct, is_explicit, is_held_admitted, is_last_thread, is_nil, is_under, kind_of, may_not_enter, may_not_suspend, next_entry, or_first, place_of, strand_from, strand_of, task_of, under_of}
 use Rattle.task_machine.specs.Write.{on_instance, set_do_not_enter, set_place}
 use Rattle.task_rules.specs.Ends.{held_out, is_told, leaves_no_result, may_tell, passes_after_stop, told}
-use Rattle.task_rules.specs.MainOps.{is_ready_for_call}
-use Rattle.task_rules.specs.Stalled.{Setting, deadlock_trap, is_idle, is_idle_trap, may_deadlock, works_rest}
+use Rattle.task_rules.specs.MainOps.{has_interesting, is_ready_for_call}
+use Rattle.task_rules.specs.Stalled.{Setting, deadlock_trap, is_idle, is_idle_trap, may_deadlock, works_rest, is_unended_take, main_pends}
 use Rattle.task_rules.specs.Turns.{nothing_stands, settled_futures, settled_turn}
 use Rattle.task_rules.specs.Works.{first_number, has_live_work, has_moving_work, is_moving, live_after, next_polled}
 use Rattle.task_simple.specs.Simple.{IsPlain, IsSimplePlace, held_start, ready_start}
-use Rattle.task_simple.proofs.RecordLemmas.{any_none, filter_none, find_none}
+use Rattle.task_simple.proofs.RecordLemmas.{any_none, any_one, filter_none, find_none}
 
 -- what holds of the three places holds of each simple one
 pub at_each_place : (P : Place → Type 0) → P ready_start → P place.Running → P held_start → (p : Place) → IsSimplePlace p → P p
@@ -227,16 +227,38 @@ module _ (s : Core) (plain : IsPlain s) where
   unfolding is_ready_for_call
   is_ready_for_call_is i = rw (no_backpressure i) (and_true _)
 
--- an unended take with nothing at high is idle, beside a main that is no script
-pub is_idle_is : (x : Setting) (s : State) → IsPlain s.core → s.turn ≡ turn.Take false → s.main ≡ Unscripted → s.core.queues.high ≡ [] → is_idle x s ≡ true
+-- while a call is there main isn't quiet
+pub has_interesting_none : (s : Core) → size s.calls ≡ 0 → has_interesting s ≡ false
+unfolding has_interesting size
+has_interesting_none s none = go s.calls.list none
+  where
+    go : (es : List (ℕ × Call)) → length es ≡ 0 → list_any (λ e. e.1.interesting) es ≡ false
+    go [] is = refl
+    go (e ∷ es) is = absurd (omega arith)
+
+pub has_interesting_some : (s : Core) → IsPlain s → (k : ℕ) (c : Call) → get s.calls k ≡ Some c → has_interesting s ≡ true
+unfolding has_interesting
+has_interesting_some s plain k c there = any_one s.calls (λ e. e.1.interesting) k c there (plain.calls k c there).interesting
+
+-- an unended take with nothing at high, while main pends, is idle
+pub is_idle_while : (x : Setting) (s : State) → IsPlain s.core → s.turn ≡ turn.Take false → main_pends x s.core s.main ≡ true → s.core.queues.high ≡ [] → is_idle x s ≡ true
 unfolding is_idle
-is_idle_is x s plain at unscripted none =
+is_idle_while x s plain at pends none =
     let nothing = nothing_stands_is s.core plain ∙ ap is_nil none in
-    rw (at, unscripted, nothing, works_rest_is s.core plain) refl
+    ap (λ u. (is_unended_take u && main_pends x s.core s.main) && (nothing_stands s.core && works_rest s.core)) at
+    ∙ ap (λ b. b && (nothing_stands s.core && works_rest s.core)) pends
+    ∙ ap₂ (λ a b. a && b) nothing (works_rest_is s.core plain)
+
+pub may_deadlock_while : (x : Setting) (s : State) → IsPlain s.core → s.turn ≡ turn.Take false → main_pends x s.core s.main ≡ true → s.core.queues.high ≡ [] → may_deadlock x s ≡ is_idle_trap x.idle
+unfolding may_deadlock
+may_deadlock_while x s plain at pends none =
+    ap₂ (λ a b. a && (is_idle_trap x.idle && not b)) (is_idle_while x s plain at pends none) (has_live_work_not s.core plain) ∙ and_true _
+
+-- beside a main that is no script
+pub is_idle_is : (x : Setting) (s : State) → IsPlain s.core → s.turn ≡ turn.Take false → s.main ≡ Unscripted → s.core.queues.high ≡ [] → is_idle x s ≡ true
+is_idle_is x s plain at unscripted none = is_idle_while x s plain at (ap (main_pends x s.core) unscripted) none
 
 pub may_deadlock_is : (x : Setting) (s : State) → IsPlain s.core → s.turn ≡ turn.Take false → s.main ≡ Unscripted → s.core.queues.high ≡ [] → may_deadlock x s ≡ is_idle_trap x.idle
-unfolding may_deadlock
-may_deadlock_is x s plain at unscripted none =
-    rw (is_idle_is x s plain at unscripted none, has_live_work_not s.core plain) (and_true _)
+may_deadlock_is x s plain at unscripted none = may_deadlock_while x s plain at (ap (main_pends x s.core) unscripted) none
 
-pub ruleset reads = (foot_of_is, strand_of_is, stopped_is, stopped_at_is, passes_check_is, checked_is, told_is, may_tell_is, task_of_is, instance_of_is, is_last_thread_is, leaves_no_result_is, admits_start, is_ready_for_call_is, has_moving_work_not, has_live_work_not, next_polled_none, settled_futures_is, next_entry_is, nothing_stands_is, deadlock_trap_is, is_idle_is, may_deadlock_is)
+pub ruleset reads = (foot_of_is, strand_of_is, stopped_is, stopped_at_is, passes_check_is, checked_is, told_is, may_tell_is, task_of_is, instance_of_is, is_last_thread_is, leaves_no_result_is, admits_start, is_ready_for_call_is, has_moving_work_not, has_live_work_not, next_polled_none, settled_futures_is, next_entry_is, nothing_stands_is, deadlock_trap_is, is_idle_is, may_deadlock_is, is_idle_while, may_deadlock_while, has_interesting_none, has_interesting_some)

@@ -1,11 +1,13 @@
 -- The steps of the machine from simple states.
 use Rattle.std.proofs.Common.{ap, refl, subst, sym, ◌∙◌}
-use Rattle.std.specs.Prelude.{Bool, List, None, Some, [], false, option_and_then, true, ℕ, ◌+◌, ◌≡◌}
+use Rattle.std.specs.Prelude.{Bool, List, None, Option, Some, [], false, option_and_then, true, ℕ, ◌+◌, ◌≡◌}
 use Rattle.task_machine.specs.declared.component.Callee.{Callee}
 use Rattle.task_machine.specs.declared.label.Label.{Label}
 use Rattle.task_machine.specs.declared.label.Label.TheVariants as label
 use Rattle.task_machine.specs.declared.label.LoopLabel.TheVariants as loop_label
+use Rattle.task_machine.specs.declared.label.MainLabel.{MainLabel}
 use Rattle.task_machine.specs.declared.label.MainLabel.TheVariants as main_label
+use Rattle.task_machine.specs.declared.scenario.MainOp.{MainOp}
 use Rattle.task_machine.specs.declared.op.Op.TheVariants as op
 use Rattle.task_machine.specs.declared.op.Operand.{Operand}
 use Rattle.task_machine.specs.declared.op.TaskOp.TheVariants as task_op
@@ -16,22 +18,23 @@ use Rattle.task_machine.specs.declared.scenario.IdleLine.TheVariants as idle_lin
 use Rattle.task_machine.specs.declared.trap.Trap.{Trap}
 use Rattle.task_machine.specs.declared.trap.Trap.TheVariants as trap
 use Rattle.task_machine.specs.declared.words.Mark.TheVariants as mark
-use Rattle.task_machine.specs.Core.{Began, Core, State, Unscripted}
+use Rattle.task_machine.specs.Core.{Began, Core, MainPlace, Scripted, State, Unscripted}
 use Rattle.task_machine.specs.Labels.{choice_of, exit_label, held_label, ret_label, take_label}
 use Rattle.task_machine.specs.Maps.{get}
 use Rattle.task_machine.specs.Read.{at_handle_limit, fits, has_ended, instance_of, may_not_enter, next_entry, place_of, thread_handle_of}
 use Rattle.task_machine.specs.Write.{set_trapped, take_result}
-use Rattle.task_rules.specs.MainOps.{Answer, Finish, Start}
+use Rattle.task_rules.specs.MainOps.{Answer, Answers, Does, Finish, Pends, act_of, advanced_main, line_of, op_at, Start, main_row}
 use Rattle.task_rules.specs.Progress.{Traps}
 use Rattle.task_rules.specs.Scripts.{export_kind, op_of, value_of}
 use Rattle.task_rules.specs.Stalled.{Setting, is_idle_trap}
-use Rattle.task_rules.specs.Step.{DeadlockStep, EmptyFor, MainStep, OpenProgresses, Progresses, Step, TakeStep, TurnStep, did, op_row, trap_label}
+use Rattle.task_rules.specs.Stalled as stalled
+use Rattle.task_rules.specs.Step.{MainProgresses, ScriptStep, DeadlockStep, EmptyFor, MainStep, OpenProgresses, Progresses, Step, TakeStep, TurnStep, did, op_row, trap_label}
 use Rattle.task_rules.specs.Takes.{popped, take_row}
-use Rattle.task_rules.specs.Turns.{goes_to}
+use Rattle.task_rules.specs.Turns.{at_turn, goes_to}
 use Rattle.task_simple.specs.Forms.{call_started, exit_done, return_done, start_done, start_put_off, trap_done}
 use Rattle.task_simple.specs.Simple.{IsPlain, IsSimple}
 use Rattle.task_simple.proofs.QueueLemmas.{next_entry_none, plain_popped}
-use Rattle.task_simple.proofs.ReadLemmas.{deadlock_trap_is, has_moving_work_not, may_deadlock_is}
+use Rattle.task_simple.proofs.ReadLemmas.{deadlock_trap_is, has_moving_work_not, may_deadlock_while}
 use Rattle.task_simple.proofs.RowLemmas.{exit_after_return, exit_early, finish_act_given, finished_is, ret_once, ret_twice, start_act_begun, start_act_full, start_act_trapped, start_done_row, start_held_row, start_refused_row, struck_is, thread_taken_is}
 use Rattle.task_simple.proofs.SimpleLemmas.{call_there, popped_ready, thread_there}
 
@@ -75,18 +78,21 @@ module _ (x : Setting) (s : State) (simple : IsSimple s.core) (was : Bool) (turn
       let t = goes_to s (start_done n b) (turn.Run n) in
       taking l t (subst (λ p. Progresses s b n p l t) (sym (thread_taken_is b plain n r.0 r.1 c.0 c.1 mark.High (choice_of l) r.2 ∙ start_done_row b plain n r.0 r.1 c.0 c.1 mark.High enters room)) (refl, refl))
 
--- nothing stands, main is no script, and it is to trap
-pub take_deadlock : (x : Setting) (s : State) → IsPlain s.core → s.turn ≡ turn.Take false → s.main ≡ Unscripted → s.core.queues.high ≡ [] → x.idle ≡ idle_line.Trap → Step x s (label.Loop (loop_label.Deadlock trap.AsyncDeadlock)) (goes_to s (set_trapped s.core) turn.Over)
+-- nothing stands, main pends, and it is to trap
+pub take_deadlock_while : (x : Setting) (s : State) → IsPlain s.core → s.turn ≡ turn.Take false → stalled.main_pends x s.core s.main ≡ true → s.core.queues.high ≡ [] → x.idle ≡ idle_line.Trap → Step x s (label.Loop (loop_label.Deadlock trap.AsyncDeadlock)) (goes_to s (set_trapped s.core) turn.Over)
 unfolding Step
-take_deadlock x s plain turn_is unscripted none traps =
+take_deadlock_while x s plain turn_is pends none traps =
     let l = label.Loop (loop_label.Deadlock trap.AsyncDeadlock) in
     let t = goes_to s (set_trapped s.core) turn.Over in
     let nothing : next_entry s.core ≡ None = next_entry_none s.core plain none in
-    let may = may_deadlock_is x s plain turn_is unscripted none ∙ ap is_idle_trap traps in
+    let may = may_deadlock_while x s plain turn_is pends none ∙ ap is_idle_trap traps in
     subst (λ u. TurnStep x s u l t) (sym turn_is)
     (subst (λ o. TakeStep x s o l t) (sym nothing)
     (subst (λ b. EmptyFor x s b l t) (sym (has_moving_work_not s.core plain))
     (subst (λ b. DeadlockStep s b l t) (sym may) (ap (λ q. label.Loop (loop_label.Deadlock q)) (sym (deadlock_trap_is s.core plain)), refl))))
+
+pub take_deadlock : (x : Setting) (s : State) → IsPlain s.core → s.turn ≡ turn.Take false → s.main ≡ Unscripted → s.core.queues.high ≡ [] → x.idle ≡ idle_line.Trap → Step x s (label.Loop (loop_label.Deadlock trap.AsyncDeadlock)) (goes_to s (set_trapped s.core) turn.Over)
+take_deadlock x s plain turn_is unscripted none traps = take_deadlock_while x s plain turn_is (ap (stalled.main_pends x s.core) unscripted) none traps
 
 -- ---- A thread runs
 
@@ -172,3 +178,32 @@ module _ (x : Setting) (s : State) (turn_is : s.turn ≡ turn.Main) (unscripted 
 
   pub main_answers : (v : ℕ) → Step x s (label.Main (main_label.Answer v)) (goes_to s s.core turn.Over)
   main_answers v = mains _ _ (0, (Answer v, (refl, refl)))
+
+-- ---- Main, which is a script
+
+module _ (x : Setting) (s : State) (turn_is : s.turn ≡ turn.Main) (p : MainPlace) (scripted : s.main ≡ Scripted p) where
+  at_op : (o : Option MainOp) → op_at x.script p ≡ o → (l : Label) (t : State) → ScriptStep x s p o l t → Step x s l t
+  unfolding Step
+  at_op o is l t h = subst (λ u. TurnStep x s u l t) (sym turn_is) (subst (λ m. MainStep x s m l t) (sym scripted) (subst (λ q. ScriptStep x s p q l t) (sym is) h))
+
+  -- past its end it pends for ever
+  pub script_ends : op_at x.script p ≡ None → Step x s (label.Loop loop_label.MainPends) (goes_to s s.core (turn.Futures 0))
+  script_ends is = at_op None is _ _ (refl, refl)
+
+  -- its op does what its row says
+  pub script_does : (o : MainOp) (l : MainLabel) (new : Core) → op_at x.script p ≡ Some o → main_row x.component (line_of p o) s.core (act_of p o) ≡ Does l new → Step x s (label.Main l) (at_turn s new (Scripted (advanced_main o l p)) turn.Main)
+  script_does o l new is row =
+      let t = at_turn s new (Scripted (advanced_main o l p)) turn.Main in
+      at_op (Some o) is (label.Main l) t (subst (λ q. MainProgresses s p o q (label.Main l) t) (sym row) (refl, refl))
+
+  pub script_pends : (o : MainOp) → op_at x.script p ≡ Some o → main_row x.component (line_of p o) s.core (act_of p o) ≡ Pends → Step x s (label.Loop loop_label.MainPends) (goes_to s s.core (turn.Futures 0))
+  script_pends o is row =
+      let l = label.Loop loop_label.MainPends in
+      let t = goes_to s s.core (turn.Futures 0) in
+      at_op (Some o) is l t (subst (λ q. MainProgresses s p o q l t) (sym row) (refl, refl))
+
+  pub script_answers : (o : MainOp) (v : ℕ) → op_at x.script p ≡ Some o → main_row x.component (line_of p o) s.core (act_of p o) ≡ Answers v → Step x s (label.Main (main_label.Answer v)) (goes_to s s.core turn.Over)
+  script_answers o v is row =
+      let l = label.Main (main_label.Answer v) in
+      let t = goes_to s s.core turn.Over in
+      at_op (Some o) is l t (subst (λ q. MainProgresses s p o q l t) (sym row) (refl, refl))

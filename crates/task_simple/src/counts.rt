@@ -1,25 +1,12 @@
 //! What the moves of simple states take of the resource table and of the handles. Each function is
 //! the statement of its clauses.
 
-ghost use Rattle.std.specs.Prelude.{Bool, List, None, Option, Some, [], false, is_none, is_some, length, nat_le, not, true, ℕ, ◌+◌, ◌∷◌, ◌≡◌, ◌≢◌};
-ghost use Rattle.task_machine.specs.Core.{Began, Core, State, Unscripted, fresh};
-ghost use Rattle.task_machine.specs.Labels.{Choice, exit_label, held_label, ret_label, take_label};
+ghost use Rattle.std.specs.Prelude.{List, Some, false, length, nat_le, true, ℕ, ◌+◌, ◌≡◌};
+ghost use Rattle.task_machine.specs.Core.{Core};
 ghost use Rattle.task_machine.specs.Maps.{get, size};
-ghost use Rattle.task_machine.specs.Moves.{checked, passes_check, stopped, stopped_at};
-ghost use Rattle.task_machine.specs.Read.{admits, at_handle_limit, call_instance, callers_of, first_of, fits, foot_of, has_ended, instance_of, is_last_thread, is_nil, live_count, may_not_enter, next_entry, place_of, strand_of, table_use, task_of, thread_handle_of};
-ghost use Rattle.task_machine.specs.Write.{set_place, set_trapped, take_result};
-ghost use Rattle.task_rules.specs.Ends.{exit_row, finished, held_out, leaves_no_result, may_tell, told};
-ghost use Rattle.task_rules.specs.MainOps.{Does, Pends, finish_act, is_ready_for_call, main_started, start_act, start_refusal};
-ghost use Rattle.task_rules.specs.Progress.{Goes, Ordered, Stops, Traps};
-ghost use Rattle.task_rules.specs.Scripts.{export_kind, op_of, value_of};
-ghost use Rattle.task_rules.specs.Stalled.{Setting, deadlock_trap, is_idle, is_idle_trap, may_deadlock, works_rest};
-ghost use Rattle.task_rules.specs.Step.{Step, struck, trap_label};
-ghost use Rattle.task_rules.specs.Takes.{popped, start_row, thread_taken};
-ghost use Rattle.task_rules.specs.Task.{ret_row};
-ghost use Rattle.task_rules.specs.Turns.{goes_to, nothing_stands, settled_turn};
-ghost use Rattle.task_rules.specs.Works.{has_live_work, has_moving_work, next_polled};
+ghost use Rattle.task_machine.specs.Read.{at_handle_limit, fits, live_count, table_use};
 ghost use Rattle.task_simple.specs.Forms.{call_started, exit_done, return_done, start_done, start_put_off, trap_done};
-ghost use Rattle.task_simple.specs.Simple.{IsPlain, IsSimple, NoneRuns, held_start, ready_start};
+ghost use Rattle.task_simple.specs.Simple.{IsPlain};
 
 use task_machine::{Call, Callee, ExportKind, Mark, Place, Thread};
 

@@ -1,24 +1,18 @@
 //! What the machine reads off plain states. Each function is the statement of its clauses.
 
-ghost use Rattle.std.specs.Prelude.{Bool, List, None, Option, Some, [], false, is_none, is_some, length, nat_le, not, slice_get, true, unwrap_or, ℕ, ◌+◌, ◌∷◌, ◌≡◌, ◌≢◌};
-ghost use Rattle.task_machine.specs.Core.{Began, Core, State, Unscripted, fresh};
-ghost use Rattle.task_machine.specs.Labels.{Choice, exit_label, held_label, ret_label, take_label};
+ghost use Rattle.std.specs.Prelude.{List, None, Option, Some, [], false, is_none, is_some, not, slice_get, true, unwrap_or, ℕ, ◌∷◌, ◌≡◌};
+ghost use Rattle.task_machine.specs.Core.{Core, State, Unscripted};
 ghost use Rattle.task_machine.specs.Maps.{get, size};
 ghost use Rattle.task_machine.specs.Moves.{checked, passes_check, stopped, stopped_at};
-ghost use Rattle.task_machine.specs.Read.{admits, at_handle_limit, call_instance, callers_of, first_of, fits, foot_of, has_ended, instance_of, is_last_thread, is_nil, live_count, may_not_enter, next_entry, place_of, strand_of, table_use, task_of, thread_handle_of};
-ghost use Rattle.task_machine.specs.Write.{set_place, set_trapped, take_result};
-ghost use Rattle.task_rules.specs.Ends.{exit_row, finished, held_out, leaves_no_result, may_tell, told};
-ghost use Rattle.task_rules.specs.MainOps.{Does, Pends, finish_act, is_ready_for_call, main_started, start_act, start_refusal};
-ghost use Rattle.task_rules.specs.Progress.{Goes, Ordered, Stops, Traps};
-ghost use Rattle.task_rules.specs.Scripts.{export_kind, op_of, script_in, value_in, value_of};
-ghost use Rattle.task_rules.specs.Stalled.{Setting, deadlock_trap, is_idle, is_idle_trap, may_deadlock, works_rest};
-ghost use Rattle.task_rules.specs.Step.{Step, struck, trap_label};
-ghost use Rattle.task_rules.specs.Takes.{popped, start_row, thread_taken};
-ghost use Rattle.task_rules.specs.Task.{ret_row};
-ghost use Rattle.task_rules.specs.Turns.{goes_to, nothing_stands, settled_turn};
+ghost use Rattle.task_machine.specs.Read.{admits, call_instance, first_of, foot_of, has_ended, instance_of, is_last_thread, is_nil, may_not_enter, next_entry, strand_of, task_of, thread_handle_of};
+ghost use Rattle.task_machine.specs.Write.{set_place};
+ghost use Rattle.task_rules.specs.Ends.{leaves_no_result, may_tell, told};
+ghost use Rattle.task_rules.specs.MainOps.{has_interesting, is_ready_for_call};
+ghost use Rattle.task_rules.specs.Scripts.{op_of, script_in, value_in, value_of};
+ghost use Rattle.task_rules.specs.Stalled.{Setting, deadlock_trap, is_idle, is_idle_trap, main_pends, may_deadlock};
+ghost use Rattle.task_rules.specs.Turns.{nothing_stands, settled_turn};
 ghost use Rattle.task_rules.specs.Works.{has_live_work, has_moving_work, next_polled};
-ghost use Rattle.task_simple.specs.Forms.{call_started, exit_done, return_done, start_done, start_put_off, trap_done};
-ghost use Rattle.task_simple.specs.Simple.{IsPlain, IsSimple, NoneRuns, held_start, ready_start};
+ghost use Rattle.task_simple.specs.Simple.{IsPlain};
 
 use task_machine::{
     Call, Component, Entry, Mark, Op, Operand, Place, Script, Status, TaskOp, Thread, Trap, Turn,
@@ -86,7 +80,15 @@ pub fn entries_stand_at_high()
 pub fn nothing_goes_on()
     ensures trap { (s : Core) → IsPlain s → deadlock_trap s ≡ Trap.AsyncDeadlock }
     ensures idle { (x : Setting) (s : State) → IsPlain s.core → s.turn ≡ Turn.Take false → s.main ≡ Unscripted → s.core.queues.high ≡ [] → is_idle x s ≡ true }
+    ensures idle_while { (x : Setting) (s : State) → IsPlain s.core → s.turn ≡ Turn.Take false → main_pends x s.core s.main ≡ true → s.core.queues.high ≡ [] → is_idle x s ≡ true }
     ensures deadlock { (x : Setting) (s : State) → IsPlain s.core → s.turn ≡ Turn.Take false → s.main ≡ Unscripted → s.core.queues.high ≡ [] → may_deadlock x s ≡ is_idle_trap x.idle }
+{}
+
+/// Main is quiet exactly where no call is there.
+#[tactic(auto, using(crate::proofs::ReadLemmas::reads))]
+pub fn calls_are_interesting()
+    ensures none { (s : Core) → size s.calls ≡ 0 → has_interesting s ≡ false }
+    ensures some { (s : Core) → IsPlain s → (k : ℕ) (c : Call) → get s.calls k ≡ Some c → has_interesting s ≡ true }
 {}
 
 /// The record of a running thread and that of its call tell what it does next.

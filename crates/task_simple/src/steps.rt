@@ -1,28 +1,23 @@
 //! The steps of the machine from simple states. Each function is the statement of its clauses.
 
-ghost use Rattle.std.specs.Prelude.{Bool, List, None, Option, Some, [], false, is_none, is_some, length, nat_le, not, true, ℕ, ◌+◌, ◌∷◌, ◌≡◌, ◌≢◌};
-ghost use Rattle.task_machine.specs.Core.{Began, Core, State, Unscripted, fresh};
-ghost use Rattle.task_machine.specs.Labels.{Choice, exit_label, held_label, ret_label, take_label};
-ghost use Rattle.task_machine.specs.Maps.{get, size};
-ghost use Rattle.task_machine.specs.Moves.{checked, passes_check, stopped, stopped_at};
-ghost use Rattle.task_machine.specs.Read.{admits, at_handle_limit, call_instance, callers_of, first_of, fits, foot_of, has_ended, instance_of, is_last_thread, is_nil, live_count, may_not_enter, next_entry, place_of, strand_of, table_use, task_of, thread_handle_of};
-ghost use Rattle.task_machine.specs.Write.{set_place, set_trapped, take_result};
-ghost use Rattle.task_rules.specs.Ends.{exit_row, finished, held_out, leaves_no_result, may_tell, told};
-ghost use Rattle.task_rules.specs.MainOps.{Does, Pends, finish_act, is_ready_for_call, main_started, start_act, start_refusal};
-ghost use Rattle.task_rules.specs.Progress.{Goes, Ordered, Stops, Traps};
+ghost use Rattle.std.specs.Prelude.{Bool, List, None, Some, [], false, true, ℕ, ◌+◌, ◌≡◌};
+ghost use Rattle.task_machine.specs.Core.{Core, MainPlace, Scripted, State, Unscripted};
+ghost use Rattle.task_machine.specs.Labels.{exit_label, held_label, ret_label, take_label};
+ghost use Rattle.task_machine.specs.Maps.{get};
+ghost use Rattle.task_machine.specs.Read.{at_handle_limit, fits, has_ended, instance_of, may_not_enter, next_entry, place_of, thread_handle_of};
+ghost use Rattle.task_machine.specs.Write.{set_trapped, take_result};
+ghost use Rattle.task_rules.specs.MainOps.{Answers, Does, Pends, act_of, advanced_main, line_of, main_row, op_at};
 ghost use Rattle.task_rules.specs.Scripts.{export_kind, op_of, value_of};
-ghost use Rattle.task_rules.specs.Stalled.{Setting, deadlock_trap, is_idle, is_idle_trap, may_deadlock, works_rest};
-ghost use Rattle.task_rules.specs.Step.{Step, struck, trap_label};
-ghost use Rattle.task_rules.specs.Takes.{popped, start_row, thread_taken};
-ghost use Rattle.task_rules.specs.Task.{ret_row};
-ghost use Rattle.task_rules.specs.Turns.{goes_to, nothing_stands, settled_turn};
-ghost use Rattle.task_rules.specs.Works.{has_live_work, has_moving_work, next_polled};
+ghost use Rattle.task_rules.specs.Stalled.{Setting, main_pends};
+ghost use Rattle.task_rules.specs.Step.{Step, trap_label};
+ghost use Rattle.task_rules.specs.Takes.{popped};
+ghost use Rattle.task_rules.specs.Turns.{at_turn, goes_to};
 ghost use Rattle.task_simple.specs.Forms.{call_started, exit_done, return_done, start_done, start_put_off, trap_done};
-ghost use Rattle.task_simple.specs.Simple.{IsPlain, IsSimple, NoneRuns, held_start, ready_start};
+ghost use Rattle.task_simple.specs.Simple.{IsPlain, IsSimple};
 
 use task_machine::{
-    Callee, Entry, IdleLine, Label, LoopLabel, MainLabel, Mark, Op, Operand, Place, TaskOp, Trap,
-    Turn,
+    Callee, Entry, IdleLine, Label, LoopLabel, MainLabel, MainOp, Mark, Op, Operand, Place, TaskOp,
+    Trap, Turn,
 };
 
 /// The first entry is taken: its start is held while its instance lets in no other, traps where no handle is left, or runs.
@@ -33,9 +28,11 @@ pub fn entry_is_taken()
     ensures admitted { (x : Setting) (s : State) → IsSimple s.core → (was : Bool) → s.turn ≡ Turn.Take was → (n : ℕ) → next_entry s.core ≡ Some (Mark.High, Entry.Thread n) → may_not_enter (instance_of n (popped Mark.High s.core)) (popped Mark.High s.core) ≡ false → at_handle_limit (popped Mark.High s.core) ≡ false → Step x s (take_label Mark.High n None) (goes_to s (start_done n (popped Mark.High s.core)) (Turn.Run n)) }
 {}
 
-/// Where nothing stands, main is no script and it is to trap, the run ends in a deadlock.
-#[tactic(auto, using(crate::proofs::StepLemmas::take_deadlock))]
+/// Where nothing stands, main pends, as one that is no script may, and it is to trap, the run ends
+/// in a deadlock.
+#[tactic(auto, using(crate::proofs::StepLemmas::take_deadlock, crate::proofs::StepLemmas::take_deadlock_while))]
 pub fn deadlock_comes()
+    ensures pends { (x : Setting) (s : State) → IsPlain s.core → s.turn ≡ Turn.Take false → main_pends x s.core s.main ≡ true → s.core.queues.high ≡ [] → x.idle ≡ IdleLine.Trap → Step x s (Label.Loop (LoopLabel.Deadlock Trap.AsyncDeadlock)) (goes_to s (set_trapped s.core) Turn.Over) }
     ensures trap { (x : Setting) (s : State) → IsPlain s.core → s.turn ≡ Turn.Take false → s.main ≡ Unscripted → s.core.queues.high ≡ [] → x.idle ≡ IdleLine.Trap → Step x s (Label.Loop (LoopLabel.Deadlock Trap.AsyncDeadlock)) (goes_to s (set_trapped s.core) Turn.Over) }
 {}
 
@@ -62,4 +59,13 @@ pub fn main_acts()
     ensures finishes { (x : Setting) (s : State) → s.turn ≡ Turn.Main → s.main ≡ Unscripted → (k n v : ℕ) → get s.core.results n ≡ Some v → Step x s (Label.Main (MainLabel.Finish k v)) (goes_to s (take_result n s.core) Turn.Main) }
     ensures pends { (x : Setting) (s : State) → s.turn ≡ Turn.Main → s.main ≡ Unscripted → Step x s (Label.Loop LoopLabel.MainPends) (goes_to s s.core (Turn.Futures 0)) }
     ensures answers { (x : Setting) (s : State) → s.turn ≡ Turn.Main → s.main ≡ Unscripted → (v : ℕ) → Step x s (Label.Main (MainLabel.Answer v)) (goes_to s s.core Turn.Over) }
+{}
+
+/// A main that is a script does what the row of its op says, and past its end pends for ever.
+#[tactic(auto, using(crate::proofs::StepLemmas::script_does, crate::proofs::StepLemmas::script_pends, crate::proofs::StepLemmas::script_answers, crate::proofs::StepLemmas::script_ends))]
+pub fn script_acts()
+    ensures does { (x : Setting) (s : State) → s.turn ≡ Turn.Main → (p : MainPlace) → s.main ≡ Scripted p → (o : MainOp) (l : MainLabel) (new : Core) → op_at x.script p ≡ Some o → main_row x.component (line_of p o) s.core (act_of p o) ≡ Does l new → Step x s (Label.Main l) (at_turn s new (Scripted (advanced_main o l p)) Turn.Main) }
+    ensures pends { (x : Setting) (s : State) → s.turn ≡ Turn.Main → (p : MainPlace) → s.main ≡ Scripted p → (o : MainOp) → op_at x.script p ≡ Some o → main_row x.component (line_of p o) s.core (act_of p o) ≡ Pends → Step x s (Label.Loop LoopLabel.MainPends) (goes_to s s.core (Turn.Futures 0)) }
+    ensures answers { (x : Setting) (s : State) → s.turn ≡ Turn.Main → (p : MainPlace) → s.main ≡ Scripted p → (o : MainOp) (v : ℕ) → op_at x.script p ≡ Some o → main_row x.component (line_of p o) s.core (act_of p o) ≡ Answers v → Step x s (Label.Main (MainLabel.Answer v)) (goes_to s s.core Turn.Over) }
+    ensures ends { (x : Setting) (s : State) → s.turn ≡ Turn.Main → (p : MainPlace) → s.main ≡ Scripted p → op_at x.script p ≡ None → Step x s (Label.Loop LoopLabel.MainPends) (goes_to s s.core (Turn.Futures 0)) }
 {}
