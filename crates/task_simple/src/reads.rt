@@ -1,22 +1,23 @@
 //! What the machine reads off plain states. Each function is the statement of its clauses.
 
-ghost use Rattle.std.specs.Prelude.{List, None, Option, Some, [], false, is_none, is_some, not, slice_get, true, unwrap_or, ℕ, ◌∷◌, ◌≡◌};
+ghost use Rattle.std.specs.Prelude.{List, None, Option, Some, [], false, is_none, is_some, not, slice_get, true, unwrap_or, ℕ, ◌+◌, ◌∷◌, ◌≡◌};
 ghost use Rattle.task_machine.specs.Core.{Core, State, Unscripted};
 ghost use Rattle.task_machine.specs.Maps.{get, size};
 ghost use Rattle.task_machine.specs.Moves.{checked, passes_check, stopped, stopped_at};
-ghost use Rattle.task_machine.specs.Read.{admits, call_instance, first_of, foot_of, has_ended, instance_of, is_last_thread, is_nil, may_not_enter, next_entry, strand_of, task_of, thread_handle_of};
-ghost use Rattle.task_machine.specs.Write.{set_place};
+ghost use Rattle.task_machine.specs.Read.{admits, call_instance, first_of, foot_of, has_ended, instance_of, is_last_thread, is_nil, may_not_enter, next_entry, position_of, strand_of, task_of, thread_handle_of};
+ghost use Rattle.task_machine.specs.Write.{give_result, set_end, set_place, set_position};
 ghost use Rattle.task_rules.specs.Ends.{leaves_no_result, may_tell, told};
 ghost use Rattle.task_rules.specs.MainOps.{has_interesting, is_ready_for_call};
 ghost use Rattle.task_rules.specs.Scripts.{op_of, script_in, value_in, value_of};
 ghost use Rattle.task_rules.specs.Stalled.{Setting, deadlock_trap, is_idle, is_idle_trap, main_pends, may_deadlock};
 ghost use Rattle.task_rules.specs.Turns.{nothing_stands, settled_turn};
 ghost use Rattle.task_rules.specs.Works.{has_live_work, has_moving_work, next_polled};
+ghost use Rattle.task_simple.specs.Forms.{return_done};
 ghost use Rattle.task_simple.specs.Simple.{IsPlain};
 
 use task_machine::{
-    Call, Component, Entry, Mark, Op, Operand, Place, Script, Status, TaskOp, Thread, Trap, Turn,
-    Why,
+    Call, CallEnd, Component, Entry, Mark, Op, Operand, Place, Script, Status, TaskOp, Thread,
+    Trap, Turn, Why,
 };
 
 /// No thread is under or behind another, so a strand is its thread.
@@ -98,5 +99,6 @@ pub fn records_tell()
     ensures value { (s : Core) (n : ℕ) (t : Thread) (x : Operand) → get s.threads n ≡ Some t → value_of n s x ≡ value_in t.registers x }
     ensures instance { (s : Core) → IsPlain s → (n : ℕ) (t : Thread) (c : Call) → get s.threads n ≡ Some t → get s.calls n ≡ Some c → instance_of n s ≡ c.callee.instance }
     ensures handle { (s : Core) (n : ℕ) (t : Thread) → get s.threads n ≡ Some t → thread_handle_of n s ≡ t.handle }
+    ensures returns { (v : ℕ) (s : Core) → IsPlain s → (n : ℕ) (t : Thread) → get s.threads n ≡ Some t → return_done n v s ≡ set_position n (position_of n s + 1) (give_result n v (set_end n CallEnd.Returned s)) }
     ensures ended { (s : Core) (k : ℕ) (c : Call) → get s.calls k ≡ Some c → has_ended k s ≡ is_some c.«end» }
 {}
