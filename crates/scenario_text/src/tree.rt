@@ -5,7 +5,7 @@ use task_machine::{Callee, ExportKind, IdleLine, Op, Operand, Seq};
 /// A name: 1 to 16 of `a` to `z`, `0` to `9` and `_`, a letter first.
 pub type Name = Seq<u8>;
 
-/// An `export` line and its script.
+/// An `export` line, with its number of parameters, 0 to 16, and the script after it.
 #[derive(Debug, Drop)]
 pub struct ExportText {
     pub name: Name,
@@ -14,22 +14,20 @@ pub struct ExportText {
     pub start: Seq<Op>,
 }
 
-/// An `instance` line and its exports.
+/// An `instance` line, and the exports after it.
 #[derive(Debug, Drop)]
 pub struct InstanceText {
     pub name: Name,
     pub exports: Seq<ExportText>,
 }
 
-/// A line of main. Starts are counted from 1.
+/// A line between `main` and `answer`. Starts are counted from 1.
 #[derive(Debug, Drop)]
-pub enum MainLine {
-    /// `start F X*`
+pub enum MainOpText {
+    /// `start F X*`, F by the places of its instance and its export.
     Start(Callee, Seq<Operand>),
     /// `finish K R`
     Finish(u32, u8),
-    /// `answer X`
-    Answer(Operand),
 }
 
 /// A scenario text.
@@ -39,5 +37,7 @@ pub struct ScenarioText {
     pub table: u32,
     pub idle: IdleLine,
     pub instances: Seq<InstanceText>,
-    pub main: Seq<MainLine>,
+    pub main: Seq<MainOpText>,
+    /// What the line `answer X` says.
+    pub answer: Operand,
 }

@@ -33,22 +33,29 @@ Stands views c = (i : ℕ) × (v : View) × At views i v × Has v c
 abbrev pub GoesOn : Caller → Name → Type 0
 GoesOn c n = (k : ℕ) (rest : Name) → n ≡ c.name ++ k ∷ rest → k < c.splits
 
--- what was seen begins the log, which has the calls of each caller of the pass, and the pass has seen these
+-- how a pass that isn't spent fits the one log
 pub record Fits (log : Log) (v : View) : Type 0 where
+  -- what it has seen begins the log, and so does what it heard between the two steps of a meet
   pub seen : Begins v.seen log
   pub heard : Begins v.heard log
+  -- the log's entries under its own name, and under each that was met into it, are the calls kept with the name
   pub calls : (c : Caller) → Has v c → calls_by c.name log ≡ c.calls
+  -- and it has seen these, or heard them
   pub held : (c : Caller) → Has v c → (calls_by c.name v.seen ≡ c.calls) ⊎ (calls_by c.name v.heard ≡ c.calls)
 
 -- the rule
 pub record Kept (words : List ℕ) (views : List View) : Type 0 where
+  -- there is one legal log whose phase is the word
   pub log : Log
   pub legal : IsLegal log
   pub word : words ≡ code (phase log) ∷ []
   pub fits : (i : ℕ) (v : View) → At views i v → Fits log v
+  -- the names of all callers differ
   pub apart : (n : Name) → sum_by (named_at n) views ≤ 1
+  -- a name of a caller or in the log that goes on from a caller's goes on below that caller's count of splits
   pub among : (c d : Caller) → Stands views c → Stands views d → GoesOn c d.name
   pub in_log : (c : Caller) (m : ℕ) (e : LogEntry Name) → Stands views c → get_elem? log m ≡ some e → GoesOn c e.caller
+  -- the first pass, as long as it was never split, has seen the whole log
   pub first : (i : ℕ) (v : View) → At views i v → IsFirst v → v.seen ≡ log
 
 -- what a pass knows between two calls
@@ -64,11 +71,14 @@ pub record Knows (v : View) : Type 0 where
 pub record Calls (call : PhaseCall) (v : View) (found : Phase) (w : View) : Type 0 where
   -- what other passes did since
   pub between : Log
+  -- its one entry stands last
   pub seen : w.seen ≡ (v.seen ++ between) ++ entry v.own.name call found ∷ []
+  -- it answers the phase found, and leaves the phase of this call
   pub finds : found ≡ phase (v.seen ++ between)
   pub leaves : phase w.seen ≡ after call found
   pub rises : code (phase v.seen) ≤ code found
   pub stays : code found ≤ code (phase w.seen)
+  -- its own calls are one more, and nothing else of it changed
   pub own : w.own ≡ record v.own { calls = v.own.calls ++ entry v.own.name call found ∷ [] }
   pub same : (w.met ≡ v.met) × (w.spent ≡ v.spent) × (w.heard ≡ v.heard)
   pub knows : Knows w
@@ -99,6 +109,7 @@ pub record Meets (v o w : View) : Type 0 where
   pub first : Begins v.seen w.seen
   pub second : Begins o.seen w.seen
   pub rises : code (phase v.seen) ≤ code (phase w.seen)
+  -- of the other pass's name it has seen just the calls made with that pass
   pub theirs : calls_by o.own.name w.seen ≡ o.own.calls
   pub own : w.own ≡ v.own
   pub met : w.met ≡ v.met ++ callers o

@@ -26,7 +26,7 @@ pub(crate) fn phase_of_word(word: u64) -> Phase
 
 impl JoinHandle {
     /// Asks that the work end, and answers the phase that it found: `Running` becomes `AbortRequested`, and the others
-    /// stay. It takes no lock and no memory.
+    /// stay. It is one atomic step, by which the word becomes the greater of itself and 1, and takes no lock and no memory.
     pub fn abort(&self, pass: &mut JoinPass) -> Phase
         requires { pass_cell pass.old ≡ handle_cell self.now }
         ensures same { pass_cell pass.new ≡ pass_cell pass.old }
@@ -40,7 +40,8 @@ impl JoinHandle {
         phase_of_word(word)
     }
 
-    /// Is ready exactly where it found `Complete`. It registers no waker, and takes no lock and no memory.
+    /// Is ready exactly where it found `Complete`. It is one atomic step, which reads the word, registers no waker, and
+    /// takes no lock and no memory.
     pub fn poll_handle(&self, pass: &mut JoinPass) -> Poll<()>
         requires { pass_cell pass.old ≡ handle_cell self.now }
         ensures same { pass_cell pass.new ≡ pass_cell pass.old }
@@ -59,8 +60,9 @@ impl JoinHandle {
         }
     }
 
-    /// Splits a pass off, which has seen what the first had and made no call of its own. Today no split takes memory, so
-    /// the answer is always a pass.
+    /// Splits a pass off, which has seen what the first had and made no call of its own. Its name is the first's followed
+    /// by the number of passes that were split off before. It is one atomic step. Today no split takes memory, so the
+    /// answer is always a pass.
     pub fn split_pass(&self, pass: &mut JoinPass) -> Result<JoinPass, NoMemory>
         requires { pass_cell pass.old ≡ handle_cell self.now }
         ensures same { pass_cell pass.new ≡ pass_cell pass.old }
@@ -75,8 +77,9 @@ impl JoinHandle {
         Ok(JoinPass { seat })
     }
 
-    /// Takes a pass in: afterwards the first has seen what both had, and knows the calls that the other made. It takes no
-    /// lock and no memory.
+    /// Takes a pass in: afterwards the first has seen what both had, and knows the calls that the other made. It is two
+    /// atomic steps: the first pass keeps both logs, and then learns which of them begins the other. It takes no lock and
+    /// no memory.
     pub fn meet(&self, pass: &mut JoinPass, other: JoinPass)
         requires first { pass_cell pass.old ≡ handle_cell self.now }
         requires second { pass_cell other ≡ handle_cell self.now }

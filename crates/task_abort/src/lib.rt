@@ -2,6 +2,9 @@
 //!
 //! The phase is one atomic word. What each caller has seen and done is kept by a pass, which has no bytes, and the
 //! rule over the word and all passes (`specs/Rule.antt`) gives every call one place in one legal log.
+//!
+//! The names and what the calls are for are those of the join handles of wasmtime's component tasks. That each call takes
+//! a pass, is one atomic step and tries no step again, and that only the calls with a runtime wake, is this project's own.
 #![tactic(auto)]
 
 mod cell;

@@ -64,7 +64,7 @@ impl<F> Abortable<F> {
     ghost use Rattle.task_abort.specs.Lends.{LendsWork};
 
     /// The poll of a work that isn't a `Future`: none exactly where it found another phase than `Running`, else the work,
-    /// which the caller polls. It takes no lock and no memory.
+    /// which the caller polls. It is the step of `poll`, which reads the word, and takes no lock and no memory.
     pub fn running(&mut self, pass: &mut JoinPass) -> Option<&mut F>
         requires { pass_cell pass.old ≡ work_cell self.old }
         ensures* lends { sem 𝓛 (LendsWork F.row self.entry result) }
@@ -86,8 +86,8 @@ impl<F> Abortable<F> {
 }
 
 impl<F: Drop> Abortable<F> {
-    /// Drops the work and answers the phase that it found, which is `Complete` from then on. It takes no lock and no
-    /// memory.
+    /// Drops the work and answers the phase that it found, which is `Complete` from then on. It is one atomic step, by
+    /// which the word becomes the greater of itself and 2, and takes no lock and no memory.
     pub fn finish(self, pass: &mut JoinPass) -> Phase
         requires { pass_cell pass.old ≡ work_cell self }
         ensures same { pass_cell pass.new ≡ pass_cell pass.old }
@@ -104,7 +104,8 @@ impl<F: Drop> Abortable<F> {
 
 impl<F: Future> Abortable<F> {
     /// Polls the future, which may be polled: `Ready(None)` exactly where it found another phase than `Running`, else the
-    /// future's own poll, whose output is handed on. It returns where that returns, and takes the memory that that takes.
+    /// future's own poll, whose output is handed on. It is one atomic step, which reads the word, and then that poll: it
+    /// returns where that returns, and takes the memory that that takes.
     pub fn poll(&mut self, pass: &mut JoinPass, cx: &mut Context<'_>) -> Poll<Option<F::Output>>
         requires cell { pass_cell pass.old ≡ work_cell self.old }
         requires ready { F.can_poll (work_of self.old) }

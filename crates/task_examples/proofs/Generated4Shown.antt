@@ -1,24 +1,12 @@
 -- The runs of these scenarios, computed.
 use Rattle.std.proofs.Common.{refl}
-use Rattle.std.specs.Prelude.{[]}
+use Rattle.std.specs.Prelude.{[], ◌∷◌}
 use Rattle.task_machine.specs.declared.outcome.Outcome.TheVariants as outcome
 use Rattle.task_machine.specs.declared.trap.Trap.TheVariants as trap
 use Rattle.task_examples.proofs.PlayLemmas.{example}
-use Rattle.task_examples.specs.Generated4.{generated_16, generated_16_labels, generated_17, generated_17_labels, generated_18, generated_18_labels, generated_19, generated_19_labels, generated_20, generated_20_labels}
+use Rattle.task_examples.specs.Generated4.{generated_19, generated_19_labels, generated_20, generated_20_labels, generated_21, generated_21_labels}
 use Rattle.task_examples.specs.Play.{Example}
 use Rattle.task_examples.specs.Words.{the_words}
-
-pub generated_16_shown : Example generated_16 300 generated_16_labels (outcome.Trap trap.BackpressureOverflow)
-unfolding the_words
-generated_16_shown = example generated_16 [] 300 generated_16_labels (outcome.Trap trap.BackpressureOverflow) refl refl
-
-pub generated_17_shown : Example generated_17 300 generated_17_labels (outcome.Trap trap.WaitableSyncAndAsync)
-unfolding the_words
-generated_17_shown = example generated_17 [] 300 generated_17_labels (outcome.Trap trap.WaitableSyncAndAsync) refl refl
-
-pub generated_18_shown : Example generated_18 300 generated_18_labels (outcome.Trap trap.ThreadNewIndirectUninitialized)
-unfolding the_words
-generated_18_shown = example generated_18 [] 300 generated_18_labels (outcome.Trap trap.ThreadNewIndirectUninitialized) refl refl
 
 pub generated_19_shown : Example generated_19 300 generated_19_labels (outcome.Trap trap.ThreadNewIndirectInvalidType)
 unfolding the_words
@@ -27,3 +15,7 @@ generated_19_shown = example generated_19 [] 300 generated_19_labels (outcome.Tr
 pub generated_20_shown : Example generated_20 300 generated_20_labels (outcome.Deadlock trap.AsyncDeadlock)
 unfolding the_words
 generated_20_shown = example generated_20 [] 300 generated_20_labels (outcome.Deadlock trap.AsyncDeadlock) refl refl
+
+pub generated_21_shown : Example generated_21 300 generated_21_labels (outcome.Done 1)
+unfolding the_words
+generated_21_shown = example generated_21 ((106, (2, 3) ∷ (1, 2) ∷ (0, 1) ∷ []) ∷ []) 300 generated_21_labels (outcome.Done 1) refl refl

@@ -15,3 +15,5 @@ pub mod Generated3Shown
 pub mod Generated4Shown
 pub mod Generated5Shown
 pub mod Generated6Shown
+pub mod Generated7Shown
+pub mod Generated8Shown

@@ -19,10 +19,23 @@ use Rattle.task_machine.specs.declared.trap.Trap.TheVariants as trap
 
 -- a: f
 abbrev pub callback_returns_its_parameter : Scenario
-callback_returns_its_parameter = record { handles = 100000; table = 1000000; idle = idle_line.Trap; component = record { instances = (record { exports =
-    (record { kind = kind.Callback; params = 1; start = (op.Task (task_op.Ret (operand.Register 0)) ∷ op.Task task_op.Exit ∷ []); react = [] } ∷ []);
-    slots = (replicate 16 slot.Empty) } ∷ []); hosts = [] }; names = []; main = (main_op.Start (record { instance = 0; export = 0 }) ((operand.Number 7) ∷
-    []) ∷ main_op.Finish 1 0 ∷ main_op.Answer (operand.Register 0) ∷ []); aborters = [] }
+callback_returns_its_parameter = record {
+  handles = 100000;
+  table = 1000000;
+  idle = idle_line.Trap;
+  component = record {
+    instances = (record {
+      exports =
+          (record { kind = kind.Callback; params = 1; start = (op.Task (task_op.Ret (operand.Register 0)) ∷ op.Task task_op.Exit ∷ []); react = [] } ∷ []);
+      slots = (replicate 16 slot.Empty);
+    } ∷ []);
+    hosts = [];
+  };
+  names = [];
+  main = (main_op.Start (record { instance = 0; export = 0 }) ((operand.Number 7) ∷
+      []) ∷ main_op.Finish 1 0 ∷ main_op.Answer (operand.Register 0) ∷ []);
+  aborters = [];
+}
 
 abbrev pub callback_returns_its_parameter_labels : List Label
 callback_returns_its_parameter_labels = label.Main (main_label.Start 1 1) ∷ label.Loop loop_label.MainPends ∷ label.Take (take.Thread mark.High 1) ∷
@@ -30,10 +43,23 @@ callback_returns_its_parameter_labels = label.Main (main_label.Start 1 1) ∷ la
 
 -- a: f
 abbrev pub exit_without_return_traps : Scenario
-exit_without_return_traps = record { handles = 100000; table = 1000000; idle = idle_line.Trap; component = record { instances = (record { exports =
-    (record { kind = kind.Callback; params = 1; start = (op.Task task_op.Exit ∷ []); react = [] } ∷ []); slots = (replicate 16 slot.Empty) } ∷ []);
-    hosts = [] }; names = []; main = (main_op.Start (record { instance = 0; export = 0 }) ((operand.Number 7) ∷ []) ∷ main_op.Finish 1 0 ∷
-    main_op.Answer (operand.Register 0) ∷ []); aborters = [] }
+exit_without_return_traps = record {
+  handles = 100000;
+  table = 1000000;
+  idle = idle_line.Trap;
+  component = record {
+    instances = (record {
+      exports =
+          (record { kind = kind.Callback; params = 1; start = (op.Task task_op.Exit ∷ []); react = [] } ∷ []);
+      slots = (replicate 16 slot.Empty);
+    } ∷ []);
+    hosts = [];
+  };
+  names = [];
+  main = (main_op.Start (record { instance = 0; export = 0 }) ((operand.Number 7) ∷ []) ∷ main_op.Finish 1 0 ∷
+      main_op.Answer (operand.Register 0) ∷ []);
+  aborters = [];
+}
 
 abbrev pub exit_without_return_traps_labels : List Label
 exit_without_return_traps_labels = label.Main (main_label.Start 1 1) ∷ label.Loop loop_label.MainPends ∷ label.Take (take.Thread mark.High 1) ∷
@@ -41,10 +67,23 @@ exit_without_return_traps_labels = label.Main (main_label.Start 1 1) ∷ label.L
 
 -- a: f
 abbrev pub run_stops_when_steps_are_used_up : Scenario
-run_stops_when_steps_are_used_up = record { handles = 100000; table = 1000000; idle = idle_line.Trap; component = record { instances = (record {
-    exports = (record { kind = kind.Callback; params = 1; start = (op.Task (task_op.Ret (operand.Register 0)) ∷ op.Task task_op.Exit ∷ []); react = [] } ∷
-    []); slots = (replicate 16 slot.Empty) } ∷ []); hosts = [] }; names = []; main = (main_op.Start (record { instance = 0; export = 0 }) ((operand.Number 7) ∷
-    []) ∷ main_op.Finish 1 0 ∷ main_op.Answer (operand.Register 0) ∷ []); aborters = [] }
+run_stops_when_steps_are_used_up = record {
+  handles = 100000;
+  table = 1000000;
+  idle = idle_line.Trap;
+  component = record {
+    instances = (record {
+      exports = (record { kind = kind.Callback; params = 1; start = (op.Task (task_op.Ret (operand.Register 0)) ∷ op.Task task_op.Exit ∷ []); react = [] } ∷
+          []);
+      slots = (replicate 16 slot.Empty);
+    } ∷ []);
+    hosts = [];
+  };
+  names = [];
+  main = (main_op.Start (record { instance = 0; export = 0 }) ((operand.Number 7) ∷
+      []) ∷ main_op.Finish 1 0 ∷ main_op.Answer (operand.Register 0) ∷ []);
+  aborters = [];
+}
 
 abbrev pub run_stops_when_steps_are_used_up_labels : List Label
 run_stops_when_steps_are_used_up_labels = label.Main (main_label.Start 1 1) ∷ label.Loop loop_label.MainPends ∷ label.Take (take.Thread mark.High 1) ∷
@@ -52,10 +91,31 @@ run_stops_when_steps_are_used_up_labels = label.Main (main_label.Start 1 1) ∷ 
 
 -- a: f
 abbrev pub second_return_traps : Scenario
-second_return_traps = record { handles = 100000; table = 1000000; idle = idle_line.Trap; component = record { instances = (record { exports = (record {
-    kind = kind.Callback; params = 1; start = (op.Task (task_op.Ret (operand.Register 0)) ∷ op.Task (task_op.Ret (operand.Register 0)) ∷ op.Task task_op.Exit ∷
-    []); react = [] } ∷ []); slots = (replicate 16 slot.Empty) } ∷ []); hosts = [] }; names = []; main = (main_op.Start (record { instance = 0; export =
-    0 }) ((operand.Number 7) ∷ []) ∷ main_op.Finish 1 0 ∷ main_op.Answer (operand.Register 0) ∷ []); aborters = [] }
+second_return_traps = record {
+  handles = 100000;
+  table = 1000000;
+  idle = idle_line.Trap;
+  component = record {
+    instances = (record {
+      exports = (record {
+        kind = kind.Callback;
+        params = 1;
+        start = (op.Task (task_op.Ret (operand.Register 0)) ∷ op.Task (task_op.Ret (operand.Register 0)) ∷ op.Task task_op.Exit ∷
+            []);
+        react = [];
+      } ∷ []);
+      slots = (replicate 16 slot.Empty);
+    } ∷ []);
+    hosts = [];
+  };
+  names = [];
+  main = (main_op.Start (record {
+    instance = 0;
+    export =
+        0;
+  }) ((operand.Number 7) ∷ []) ∷ main_op.Finish 1 0 ∷ main_op.Answer (operand.Register 0) ∷ []);
+  aborters = [];
+}
 
 abbrev pub second_return_traps_labels : List Label
 second_return_traps_labels = label.Main (main_label.Start 1 1) ∷ label.Loop loop_label.MainPends ∷ label.Take (take.Thread mark.High 1) ∷ label.Task (task_label.Ret 1 7) ∷
@@ -63,10 +123,24 @@ second_return_traps_labels = label.Main (main_label.Start 1 1) ∷ label.Loop lo
 
 -- a: f
 abbrev pub return_of_the_wrong_type_traps : Scenario
-return_of_the_wrong_type_traps = record { handles = 100000; table = 1000000; idle = idle_line.Trap; component = record { instances = (record { exports =
-    (record { kind = kind.Callback; params = 0; start = (op.Task (task_op.RetBad (operand.Number 1)) ∷ []); react = [] } ∷ []); slots = (replicate 16 slot.Empty) } ∷
-    []); hosts = [] }; names = []; main = (main_op.Start (record { instance = 0; export = 0 }) [] ∷ main_op.Finish 1 0 ∷ main_op.Answer (operand.Register 0) ∷
-    []); aborters = [] }
+return_of_the_wrong_type_traps = record {
+  handles = 100000;
+  table = 1000000;
+  idle = idle_line.Trap;
+  component = record {
+    instances = (record {
+      exports =
+          (record { kind = kind.Callback; params = 0; start = (op.Task (task_op.RetBad (operand.Number 1)) ∷ []); react = [] } ∷ []);
+      slots = (replicate 16 slot.Empty);
+    } ∷
+        []);
+    hosts = [];
+  };
+  names = [];
+  main = (main_op.Start (record { instance = 0; export = 0 }) [] ∷ main_op.Finish 1 0 ∷ main_op.Answer (operand.Register 0) ∷
+      []);
+  aborters = [];
+}
 
 abbrev pub return_of_the_wrong_type_traps_labels : List Label
 return_of_the_wrong_type_traps_labels = label.Main (main_label.Start 1 1) ∷ label.Loop loop_label.MainPends ∷ label.Take (take.Thread mark.High 1) ∷
@@ -74,10 +148,32 @@ return_of_the_wrong_type_traps_labels = label.Main (main_label.Start 1 1) ∷ la
 
 -- a: f
 abbrev pub return_of_the_wrong_type_after_an_end_traps : Scenario
-return_of_the_wrong_type_after_an_end_traps = record { handles = 100000; table = 1000000; idle = idle_line.Trap; component = record { instances =
-    (record { exports = (record { kind = kind.Callback; params = 0; start = (op.Task (task_op.Ret (operand.Number 1)) ∷ op.Task (task_op.RetBad (operand.Number 1)) ∷
-    []); react = [] } ∷ []); slots = (replicate 16 slot.Empty) } ∷ []); hosts = [] }; names = []; main = (main_op.Start (record { instance = 0; export =
-    0 }) [] ∷ main_op.Finish 1 0 ∷ main_op.Answer (operand.Register 0) ∷ []); aborters = [] }
+return_of_the_wrong_type_after_an_end_traps = record {
+  handles = 100000;
+  table = 1000000;
+  idle = idle_line.Trap;
+  component = record {
+    instances =
+        (record {
+          exports = (record {
+            kind = kind.Callback;
+            params = 0;
+            start = (op.Task (task_op.Ret (operand.Number 1)) ∷ op.Task (task_op.RetBad (operand.Number 1)) ∷
+                []);
+            react = [];
+          } ∷ []);
+          slots = (replicate 16 slot.Empty);
+        } ∷ []);
+    hosts = [];
+  };
+  names = [];
+  main = (main_op.Start (record {
+    instance = 0;
+    export =
+        0;
+  }) [] ∷ main_op.Finish 1 0 ∷ main_op.Answer (operand.Register 0) ∷ []);
+  aborters = [];
+}
 
 abbrev pub return_of_the_wrong_type_after_an_end_traps_labels : List Label
 return_of_the_wrong_type_after_an_end_traps_labels = label.Main (main_label.Start 1 1) ∷ label.Loop loop_label.MainPends ∷ label.Take (take.Thread mark.High 1) ∷

@@ -25,13 +25,38 @@ use Rattle.task_machine.specs.declared.trap.Trap.TheVariants as trap
 
 -- a: f; b: g
 abbrev pub cancel_of_a_subtask_joined_to_a_set_traps : Scenario
-cancel_of_a_subtask_joined_to_a_set_traps = record { handles = 100000; table = 1000000; idle = idle_line.Trap; component = record { instances =
-    (record { exports = (record { kind = kind.Callback; params = 0; start = (op.Set (set_op.New 3) ∷ op.Task (task_op.CbWait (operand.Register 3)) ∷
-    []); react = (op.Task task_op.TaskCancel ∷ []) } ∷ []); slots = (replicate 16 slot.Empty) } ∷ record { exports = (record { kind = kind.Callback;
-    params = 0; start = (op.Call (call_op.Call 3 8 (record { instance = 0; export = 0 }) []) ∷ op.Set (set_op.New 5) ∷ op.Set (set_op.Join (operand.Number 1) (operand.Register 5)) ∷
-    op.Call (call_op.CancelSync 4 (operand.Number 1)) ∷ op.Call (call_op.Drop (operand.Number 1)) ∷ op.Task (task_op.Ret (operand.Register 4)) ∷ []);
-    react = [] } ∷ []); slots = (replicate 16 slot.Empty) } ∷ []); hosts = [] }; names = []; main = (main_op.Start (record { instance = 1; export = 0 }) [] ∷
-    main_op.Finish 1 0 ∷ main_op.Answer (operand.Register 0) ∷ []); aborters = [] }
+cancel_of_a_subtask_joined_to_a_set_traps = record {
+  handles = 100000;
+  table = 1000000;
+  idle = idle_line.Trap;
+  component = record {
+    instances =
+        (record {
+          exports = (record {
+            kind = kind.Callback;
+            params = 0;
+            start = (op.Set (set_op.New 3) ∷ op.Task (task_op.CbWait (operand.Register 3)) ∷
+                []);
+            react = (op.Task task_op.TaskCancel ∷ []);
+          } ∷ []);
+          slots = (replicate 16 slot.Empty);
+        } ∷ record {
+          exports = (record {
+            kind = kind.Callback;
+            params = 0;
+            start = (op.Call (call_op.Call 3 8 (record { instance = 0; export = 0 }) []) ∷ op.Set (set_op.New 5) ∷ op.Set (set_op.Join (operand.Number 1) (operand.Register 5)) ∷
+                op.Call (call_op.CancelSync 4 (operand.Number 1)) ∷ op.Call (call_op.Drop (operand.Number 1)) ∷ op.Task (task_op.Ret (operand.Register 4)) ∷ []);
+            react = [];
+          } ∷ []);
+          slots = (replicate 16 slot.Empty);
+        } ∷ []);
+    hosts = [];
+  };
+  names = [];
+  main = (main_op.Start (record { instance = 1; export = 0 }) [] ∷
+      main_op.Finish 1 0 ∷ main_op.Answer (operand.Register 0) ∷ []);
+  aborters = [];
+}
 
 abbrev pub cancel_of_a_subtask_joined_to_a_set_traps_labels : List Label
 cancel_of_a_subtask_joined_to_a_set_traps_labels = label.Main (main_label.Start 1 1) ∷ label.Loop loop_label.MainPends ∷ label.Take (take.Thread mark.High 1) ∷
@@ -41,14 +66,52 @@ cancel_of_a_subtask_joined_to_a_set_traps_labels = label.Main (main_label.Start 
 
 -- a: up, down, f; b: g
 abbrev pub cancel_withdraws_a_held_start : Scenario
-cancel_withdraws_a_held_start = record { handles = 100000; table = 1000000; idle = idle_line.Trap; component = record { instances = (record { exports =
-    (record { kind = kind.Callback; params = 0; start = (op.Task task_op.BpInc ∷ op.Task (task_op.Ret (operand.Number 0)) ∷ []); react = [] } ∷ record {
-    kind = kind.Sync; params = 0; start = (op.Task task_op.BpDec ∷ []); react = [] } ∷ record { kind = kind.Callback; params = 0; start = (op.Task (task_op.Ret (operand.Number 1)) ∷
-    []); react = [] } ∷ []); slots = (replicate 16 slot.Empty) } ∷ record { exports = (record { kind = kind.Callback; params = 0; start = (op.Call (call_op.Call 3 8 (record {
-    instance = 0; export = 2 }) []) ∷ op.Call (call_op.Cancel 4 (operand.Number 1)) ∷ op.Call (call_op.Drop (operand.Number 1)) ∷ op.Task (task_op.Ret (operand.Register 4)) ∷
-    []); react = [] } ∷ []); slots = (replicate 16 slot.Empty) } ∷ []); hosts = [] }; names = []; main = (main_op.Start (record { instance = 0; export =
-    0 }) [] ∷ main_op.Finish 1 0 ∷ main_op.Start (record { instance = 1; export = 0 }) [] ∷ main_op.Finish 2 1 ∷ main_op.Start (record { instance = 0;
-    export = 1 }) [] ∷ main_op.Finish 3 0 ∷ main_op.Answer (operand.Register 1) ∷ []); aborters = [] }
+cancel_withdraws_a_held_start = record {
+  handles = 100000;
+  table = 1000000;
+  idle = idle_line.Trap;
+  component = record {
+    instances = (record {
+      exports =
+          (record { kind = kind.Callback; params = 0; start = (op.Task task_op.BpInc ∷ op.Task (task_op.Ret (operand.Number 0)) ∷ []); react = [] } ∷ record {
+            kind = kind.Sync;
+            params = 0;
+            start = (op.Task task_op.BpDec ∷ []);
+            react = [];
+          } ∷ record {
+            kind = kind.Callback;
+            params = 0;
+            start = (op.Task (task_op.Ret (operand.Number 1)) ∷
+                []);
+            react = [];
+          } ∷ []);
+      slots = (replicate 16 slot.Empty);
+    } ∷ record {
+      exports = (record {
+        kind = kind.Callback;
+        params = 0;
+        start = (op.Call (call_op.Call 3 8 (record {
+          instance = 0;
+          export = 2;
+        }) []) ∷ op.Call (call_op.Cancel 4 (operand.Number 1)) ∷ op.Call (call_op.Drop (operand.Number 1)) ∷ op.Task (task_op.Ret (operand.Register 4)) ∷
+            []);
+        react = [];
+      } ∷ []);
+      slots = (replicate 16 slot.Empty);
+    } ∷ []);
+    hosts = [];
+  };
+  names = [];
+  main = (main_op.Start (record {
+    instance = 0;
+    export =
+        0;
+  }) [] ∷ main_op.Finish 1 0 ∷ main_op.Start (record { instance = 1; export = 0 }) [] ∷ main_op.Finish 2 1 ∷ main_op.Start (record {
+    instance = 0;
+    export = 1;
+  }) [] ∷ main_op.Finish 3 0 ∷ main_op.Answer (operand.Register 1) ∷ []);
+  aborters = [];
+}
 
 abbrev pub cancel_withdraws_a_held_start_labels : List Label
 cancel_withdraws_a_held_start_labels = label.Main (main_label.Start 1 1) ∷ label.Loop loop_label.MainPends ∷ label.Take (take.Thread mark.High 1) ∷
@@ -62,12 +125,37 @@ cancel_withdraws_a_held_start_labels = label.Main (main_label.Start 1 1) ∷ lab
 
 -- a: f; b: g
 abbrev pub sync_cancel_of_a_waiting_callback : Scenario
-sync_cancel_of_a_waiting_callback = record { handles = 100000; table = 1000000; idle = idle_line.Trap; component = record { instances = (record {
-    exports = (record { kind = kind.Callback; params = 0; start = (op.Set (set_op.New 3) ∷ op.Task (task_op.CbWait (operand.Register 3)) ∷ []); react =
-    (op.Task task_op.TaskCancel ∷ []) } ∷ []); slots = (replicate 16 slot.Empty) } ∷ record { exports = (record { kind = kind.Callback; params = 0;
-    start = (op.Call (call_op.Call 3 8 (record { instance = 0; export = 0 }) []) ∷ op.Call (call_op.CancelSync 4 (operand.Number 1)) ∷ op.Call (call_op.Drop (operand.Number 1)) ∷
-    op.Task (task_op.Ret (operand.Register 4)) ∷ []); react = [] } ∷ []); slots = (replicate 16 slot.Empty) } ∷ []); hosts = [] }; names = []; main =
-    (main_op.Start (record { instance = 1; export = 0 }) [] ∷ main_op.Finish 1 0 ∷ main_op.Answer (operand.Register 0) ∷ []); aborters = [] }
+sync_cancel_of_a_waiting_callback = record {
+  handles = 100000;
+  table = 1000000;
+  idle = idle_line.Trap;
+  component = record {
+    instances = (record {
+      exports = (record {
+        kind = kind.Callback;
+        params = 0;
+        start = (op.Set (set_op.New 3) ∷ op.Task (task_op.CbWait (operand.Register 3)) ∷ []);
+        react =
+            (op.Task task_op.TaskCancel ∷ []);
+      } ∷ []);
+      slots = (replicate 16 slot.Empty);
+    } ∷ record {
+      exports = (record {
+        kind = kind.Callback;
+        params = 0;
+        start = (op.Call (call_op.Call 3 8 (record { instance = 0; export = 0 }) []) ∷ op.Call (call_op.CancelSync 4 (operand.Number 1)) ∷ op.Call (call_op.Drop (operand.Number 1)) ∷
+            op.Task (task_op.Ret (operand.Register 4)) ∷ []);
+        react = [];
+      } ∷ []);
+      slots = (replicate 16 slot.Empty);
+    } ∷ []);
+    hosts = [];
+  };
+  names = [];
+  main =
+      (main_op.Start (record { instance = 1; export = 0 }) [] ∷ main_op.Finish 1 0 ∷ main_op.Answer (operand.Register 0) ∷ []);
+  aborters = [];
+}
 
 abbrev pub sync_cancel_of_a_waiting_callback_labels : List Label
 sync_cancel_of_a_waiting_callback_labels = label.Main (main_label.Start 1 1) ∷ label.Loop loop_label.MainPends ∷ label.Take (take.Thread mark.High 1) ∷
@@ -80,10 +168,23 @@ sync_cancel_of_a_waiting_callback_labels = label.Main (main_label.Start 1 1) ∷
 
 -- a: f
 abbrev pub task_cancel_without_a_request_traps : Scenario
-task_cancel_without_a_request_traps = record { handles = 100000; table = 1000000; idle = idle_line.Trap; component = record { instances = (record {
-    exports = (record { kind = kind.Callback; params = 0; start = (op.Task task_op.TaskCancel ∷ []); react = [] } ∷ []); slots = (replicate 16 slot.Empty) } ∷
-    []); hosts = [] }; names = []; main = (main_op.Start (record { instance = 0; export = 0 }) [] ∷ main_op.Finish 1 0 ∷ main_op.Answer (operand.Register 0) ∷
-    []); aborters = [] }
+task_cancel_without_a_request_traps = record {
+  handles = 100000;
+  table = 1000000;
+  idle = idle_line.Trap;
+  component = record {
+    instances = (record {
+      exports = (record { kind = kind.Callback; params = 0; start = (op.Task task_op.TaskCancel ∷ []); react = [] } ∷ []);
+      slots = (replicate 16 slot.Empty);
+    } ∷
+        []);
+    hosts = [];
+  };
+  names = [];
+  main = (main_op.Start (record { instance = 0; export = 0 }) [] ∷ main_op.Finish 1 0 ∷ main_op.Answer (operand.Register 0) ∷
+      []);
+  aborters = [];
+}
 
 abbrev pub task_cancel_without_a_request_traps_labels : List Label
 task_cancel_without_a_request_traps_labels = label.Main (main_label.Start 1 1) ∷ label.Loop loop_label.MainPends ∷ label.Take (take.Thread mark.High 1) ∷

@@ -16,8 +16,6 @@ use Rattle.task_machine.specs.declared.scenario.MainOp.TheVariants as main_op
 use Rattle.task_machine.specs.declared.words.Mark.TheVariants as mark
 use Rattle.task_machine.specs.declared.op.Op.TheVariants as op
 use Rattle.task_machine.specs.declared.op.Operand.TheVariants as operand
-use Rattle.task_machine.specs.declared.words.OwnEvent.TheVariants as own
-use Rattle.task_machine.specs.declared.words.Phase.TheVariants as phase
 use Rattle.task_machine.specs.declared.label.SetLabel.TheVariants as set_label
 use Rattle.task_machine.specs.declared.op.SetOp.TheVariants as set_op
 use Rattle.task_machine.specs.declared.component.Slot.TheVariants as slot
@@ -30,110 +28,118 @@ use Rattle.task_machine.specs.declared.op.ThreadOp.TheVariants as thread_op
 use Rattle.task_machine.specs.declared.trap.Trap.TheVariants as trap
 use Rattle.task_rules.specs.Texts.{polls}
 
--- z_: thread; f: get, work, disk, down, join; r0: zbwdnsoqglruhwmr, end; d: get, drop
-abbrev pub generated_21 : Scenario
-generated_21 = record { handles = 100000; table = 1000000; idle = idle_line.Wait; component = record { instances = (record { exports = (record { kind =
-    kind.Blocking; params = 0; start = (op.Set (set_op.New 3) ∷ op.Thread (thread_op.Index 4) ∷ []); react = [] } ∷ []); slots = (replicate 16 slot.Empty) } ∷
-    record { exports = (record { kind = kind.Sync; params = 0; start = (op.Set (set_op.New 3) ∷ op.Thread (thread_op.Index 4) ∷ op.Set (set_op.Drop (operand.Register 3)) ∷
-    []); react = [] } ∷ record { kind = kind.Callback; params = 0; start = (op.Task task_op.BpInc ∷ op.Task (task_op.Ret (operand.Number 0)) ∷ []);
-    react = [] } ∷ record { kind = kind.Sync; params = 0; start = (op.Task task_op.BpDec ∷ []); react = [] } ∷ record { kind = kind.Callback; params =
-    0; start = (op.Task (task_op.Ret (operand.Number 0)) ∷ []); react = [] } ∷ record { kind = kind.Stackful; params = 0; start = (op.Task (task_op.Ret (operand.Number 1)) ∷
-    []); react = [] } ∷ []); slots = (replicate 16 slot.Empty) } ∷ record { exports = (record { kind = kind.Stackful; params = 0; start = (op.Call (call_op.CallSync 3 (record {
-    instance = 0; export = 0 }) []) ∷ op.Call (call_op.CallSync 3 (record { instance = 0; export = 0 }) []) ∷ op.Task (task_op.Ret (operand.Register 3)) ∷
-    []); react = [] } ∷ record { kind = kind.Stackful; params = 0; start = (op.Call (call_op.Call 10 11 (record { instance = 1; export = 3 }) []) ∷
-    op.Data (data_op.SkipEq (operand.Register 10) (operand.Number 2) 1) ∷ op.Data (data_op.Handle 9 (operand.Register 10)) ∷ op.Call (call_op.Call 10 11 (record {
-    instance = 1; export = 4 }) []) ∷ op.Data (data_op.SkipEq (operand.Register 10) (operand.Number 2) 1) ∷ op.Data (data_op.Handle 4 (operand.Register 10)) ∷
-    op.Task (task_op.Ret (operand.Number 1)) ∷ []); react = [] } ∷ []); slots = (replicate 16 slot.Empty) } ∷ record { exports = (record { kind =
-    kind.Callback; params = 0; start = (op.Call (call_op.CallSync 3 (record { instance = 1; export = 0 }) []) ∷ op.Task (task_op.Ret (operand.Register 3)) ∷
-    []); react = [] } ∷ record { kind = kind.Callback; params = 1; start = (op.Data (data_op.Set 9 (operand.Register 0)) ∷ op.Data (data_op.Store 8 (operand.Number 44)) ∷
-    op.Data (data_op.Add 6 (operand.Number 6)) ∷ op.Data (data_op.Set 0 (operand.Register 8)) ∷ op.Data (data_op.Load 3 0) ∷ op.Data (data_op.SkipEq (operand.Register 3) (operand.Number 0) 1) ∷
-    op.Set (set_op.Poll 10 (operand.Register 3)) ∷ op.Task task_op.CbYield ∷ []); react = (op.Data (data_op.SkipEq (operand.Register 0) (operand.Number 6) 5) ∷
-    op.Data (data_op.Add 5 (operand.Number 1)) ∷ op.Data (data_op.SkipEq (operand.Register 5) (operand.Number 3) 1) ∷ op.Task task_op.CbYield ∷
-    op.Task (task_op.Ret (operand.Number 9)) ∷ op.Task task_op.Exit ∷ op.Task task_op.TaskCancel ∷ op.Task task_op.Exit ∷ []) } ∷ []); slots =
-    (replicate 16 slot.Empty) } ∷ []); hosts = (record { polls = (Some 2); value = (Some 248) } ∷ record { polls = (Some 0); value = (Some 26) } ∷
-    record { polls = (Some 1); value = (Some 15) } ∷ record { polls = (Some 1); value = (Some 63) } ∷ record { polls = None; value = None } ∷ record {
-    polls = (Some 100); value = (Some 52) } ∷ []) }; names = []; main = (main_op.Start (record { instance = 3; export = 0 }) [] ∷ main_op.Start (record {
-    instance = 3; export = 0 }) [] ∷ main_op.Start (record { instance = 3; export = 1 }) ((operand.Number 16) ∷ []) ∷ main_op.Start (record { instance =
-    2; export = 0 }) [] ∷ main_op.Finish 2 0 ∷ main_op.Finish 3 0 ∷ main_op.Finish 1 0 ∷ main_op.Finish 4 10 ∷ main_op.Start (record { instance = 1;
-    export = 1 }) [] ∷ main_op.Start (record { instance = 1; export = 4 }) [] ∷ main_op.Start (record { instance = 1; export = 3 }) [] ∷ main_op.Start (record {
-    instance = 2; export = 1 }) [] ∷ main_op.Start (record { instance = 1; export = 2 }) [] ∷ main_op.Finish 7 1 ∷ main_op.Finish 8 1 ∷ main_op.Finish 6 13 ∷
-    main_op.Answer (operand.Register 1) ∷ []); aborters = [] }
-
-abbrev pub generated_21_labels : List Label
-generated_21_labels = label.Main (main_label.Start 1 1) ∷ label.Main (main_label.Start 2 2) ∷ label.Main (main_label.Start 3 3) ∷ label.Main (main_label.Start 4 4) ∷
-    label.Loop loop_label.MainPends ∷ label.Take (take.Thread mark.High 1) ∷ label.Call (call_label.Enters 1 5) ∷ label.Set (set_label.New 1 5) ∷
-    label.Thread (thread_label.Index 1 5) ∷ label.Set (set_label.Drop 5) ∷ label.Task (task_label.Exit 5) ∷ label.Call (call_label.CallSync 1 0) ∷
-    label.Task (task_label.Ret 1 0) ∷ label.Task (task_label.Exit 1) ∷ label.Loop loop_label.MainPends ∷ label.Take (take.Thread mark.High 2) ∷
-    label.Call (call_label.Enters 2 6) ∷ label.Set (set_label.New 1 6) ∷ label.Thread (thread_label.Index 1 6) ∷ label.Set (set_label.Drop 6) ∷
-    label.Task (task_label.Exit 6) ∷ label.Call (call_label.CallSync 2 0) ∷ label.Task (task_label.Ret 2 0) ∷ label.Task (task_label.Exit 2) ∷
-    label.Main (main_label.Finish 2 0) ∷ label.Loop loop_label.MainPends ∷ label.Take (take.Thread mark.High 3) ∷ label.Data (data_label.Set 3 16) ∷
-    label.Data (data_label.Store 3 44) ∷ label.Data (data_label.Add 3 6) ∷ label.Data (data_label.Set 3 0) ∷ label.Data (data_label.Load 3 0) ∷
-    label.Data (data_label.SkipEq 3) ∷ label.Task (task_label.CbYield 3) ∷ label.Loop loop_label.MainPends ∷ label.Take (take.Thread mark.High 4) ∷
-    label.Call (call_label.Enters 4 7) ∷ label.Set (set_label.New 1 7) ∷ label.Thread (thread_label.Index 1 7) ∷ label.Task (task_label.Exit 7) ∷
-    label.Call (call_label.CallSync 4 0) ∷ label.Call (call_label.Enters 4 8) ∷ label.Set (set_label.New 2 8) ∷ label.Thread (thread_label.Index 1 8) ∷
-    label.Task (task_label.Exit 8) ∷ label.Call (call_label.CallSync 4 0) ∷ label.Task (task_label.Ret 4 0) ∷ label.Task (task_label.Exit 4) ∷
-    label.Loop loop_label.MainPends ∷ label.Take (take.Event mark.Low given.Nothing 3) ∷ label.Data (data_label.SkipEq 3) ∷ label.Data (data_label.Add 3 1) ∷
-    label.Data (data_label.SkipEq 3) ∷ label.Task (task_label.CbYield 3) ∷ label.Loop loop_label.MainPends ∷ label.Take (take.Event mark.Low given.Nothing 3) ∷
-    label.Data (data_label.SkipEq 3) ∷ label.Data (data_label.Add 3 2) ∷ label.Data (data_label.SkipEq 3) ∷ label.Task (task_label.CbYield 3) ∷
-    label.Loop loop_label.MainPends ∷ label.Take (take.Event mark.Low given.Nothing 3) ∷ label.Data (data_label.SkipEq 3) ∷ label.Data (data_label.Add 3 3) ∷
-    label.Data (data_label.SkipEq 3) ∷ label.Task (task_label.Ret 3 9) ∷ label.Task (task_label.Exit 3) ∷ label.Main (main_label.Finish 3 9) ∷
-    label.Main (main_label.Finish 1 0) ∷ label.Main (main_label.Finish 4 0) ∷ label.Main (main_label.Start 5 9) ∷ label.Main (main_label.Start 6 10) ∷
-    label.Main (main_label.Start 7 11) ∷ label.Main (main_label.Start 8 12) ∷ label.Main (main_label.Start 9 13) ∷ label.Loop loop_label.MainPends ∷
-    label.Take (take.Thread mark.High 9) ∷ label.Task (task_label.BpInc 9) ∷ label.Task (task_label.Ret 9 0) ∷ label.Task (task_label.Exit 9) ∷
-    label.Loop loop_label.MainPends ∷ label.Take (take.Held mark.High 10) ∷ label.Loop loop_label.MainPends ∷ label.Take (take.Held mark.High 11) ∷
-    label.Loop loop_label.MainPends ∷ label.Take (take.Thread mark.High 12) ∷ label.Call (call_label.Calls 12 14) ∷ label.Loop loop_label.MainPends ∷
-    label.Take (take.Held mark.Switch 14) ∷ label.Loop loop_label.MainPends ∷ label.Take (take.Thread mark.Switch 12) ∷ label.Call (call_label.Call 16 12) ∷
-    label.Data (data_label.SkipEq 12) ∷ label.Data (data_label.Handle 12 1) ∷ label.Call (call_label.Calls 12 15) ∷ label.Loop loop_label.MainPends ∷
-    label.Take (take.Held mark.Switch 15) ∷ label.Loop loop_label.MainPends ∷ label.Take (take.Thread mark.Switch 12) ∷ label.Call (call_label.Call 32 12) ∷
-    label.Data (data_label.SkipEq 12) ∷ label.Data (data_label.Handle 12 2) ∷ label.Task (task_label.Ret 12 1) ∷ label.Task (task_label.Exit 12) ∷
-    label.Loop loop_label.MainPends ∷ label.Take (take.Thread mark.High 13) ∷ label.Task (task_label.BpDec 13) ∷ label.Task (task_label.Exit 13) ∷
-    label.Loop loop_label.MainPends ∷ label.Take (take.Thread mark.High 11) ∷ label.Task (task_label.Ret 11 0) ∷ label.Task (task_label.Exit 11) ∷
-    label.Main (main_label.Finish 7 0) ∷ label.Main (main_label.Finish 8 1) ∷ label.Loop loop_label.MainPends ∷ label.Take (take.Thread mark.High 14) ∷
-    label.Task (task_label.Ret 14 0) ∷ label.Task (task_label.Exit 14) ∷ label.Loop loop_label.MainPends ∷ label.Take (take.Thread mark.High 15) ∷
-    label.Task (task_label.Ret 15 1) ∷ label.Task (task_label.Exit 15) ∷ label.Loop loop_label.MainPends ∷ label.Take (take.Thread mark.High 10) ∷
-    label.Task (task_label.Ret 10 1) ∷ label.Task (task_label.Exit 10) ∷ label.Main (main_label.Finish 6 1) ∷ label.Main (main_label.Answer 1) ∷ []
-
 -- h: drop, c, d; x1; load_it: take, z_, net, join; take: d; q
 abbrev pub generated_22 : Scenario
-generated_22 = record { handles = 100000; table = 1000000; idle = idle_line.Trap; component = record { instances = (record { exports = (record { kind =
-    kind.Callback; params = 0; start = (op.Call (call_op.CallHost 7 4 0) ∷ op.Data (data_op.Handle 6 (operand.Register 7)) ∷ op.Set (set_op.New 3) ∷
-    op.Set (set_op.Join (operand.Register 6) (operand.Register 3)) ∷ op.Set (set_op.Wait 11 (operand.Register 3)) ∷ op.Data (data_op.SkipEq (operand.Register 13) (operand.Number 2) 2) ∷
-    op.Data (data_op.SkipEq (operand.Register 13) (operand.Number 4) 1) ∷ op.Set (set_op.Wait 11 (operand.Register 3)) ∷ op.Call (call_op.Drop (operand.Register 12)) ∷
-    op.Set (set_op.Drop (operand.Register 3)) ∷ op.Task (task_op.Ret (operand.Register 4)) ∷ []); react = [] } ∷ record { kind = kind.Callback; params =
-    0; start = (op.Set (set_op.New 8) ∷ op.Call (call_op.CallHost 3 5 1) ∷ op.Data (data_op.SkipEq (operand.Register 3) (operand.Number 2) 3) ∷
-    op.Data (data_op.Handle 9 (operand.Register 3)) ∷ op.Set (set_op.Join (operand.Register 9) (operand.Register 8)) ∷ op.Data (data_op.Add 7 (operand.Number 1)) ∷
-    op.Data (data_op.SkipEq (operand.Register 7) (operand.Number 0) 1) ∷ op.Task (task_op.CbWait (operand.Register 8)) ∷ op.Set (set_op.Drop (operand.Register 8)) ∷
-    op.Task (task_op.Ret (operand.Register 5)) ∷ op.Task task_op.Exit ∷ []); react = (op.Data (data_op.SkipEq (operand.Register 0) (operand.Number 6) 9) ∷
-    op.Data (data_op.SkipEq (operand.Register 2) (operand.Number 2) 2) ∷ op.Data (data_op.SkipEq (operand.Register 2) (operand.Number 4) 1) ∷ op.Task (task_op.CbWait (operand.Register 8)) ∷
-    op.Call (call_op.Drop (operand.Register 1)) ∷ op.Data (data_op.Add 7 (operand.Number 18446744073709551615)) ∷ op.Data (data_op.SkipEq (operand.Register 7) (operand.Number 0) 1) ∷
-    op.Task (task_op.CbWait (operand.Register 8)) ∷ op.Task (task_op.Ret (operand.Register 5)) ∷ op.Task task_op.Exit ∷ op.Task task_op.TaskCancel ∷
-    op.Task task_op.Exit ∷ []) } ∷ record { kind = kind.Callback; params = 1; start = (op.Data (data_op.Set 9 (operand.Register 0)) ∷ op.Thread thread_op.Yield ∷
-    op.Task (task_op.Ret (operand.Register 12)) ∷ op.Task task_op.CbYield ∷ []); react = (op.Data (data_op.SkipEq (operand.Register 0) (operand.Number 6) 6) ∷
-    op.Data (data_op.Set 3 (operand.Number 3)) ∷ op.Data (data_op.Handle 6 (operand.Number 7)) ∷ op.Data (data_op.Add 5 (operand.Number 1)) ∷ op.Data (data_op.SkipEq (operand.Register 5) (operand.Number 2) 1) ∷
-    op.Task task_op.CbYield ∷ op.Task task_op.Exit ∷ op.Task task_op.CbYield ∷ []) } ∷ []); slots = (replicate 16 slot.Empty) } ∷ record { exports =
-    []; slots = (replicate 16 slot.Empty) } ∷ record { exports = (record { kind = kind.Callback; params = 2; start = (op.Data (data_op.Set 9 (operand.Register 1)) ∷
-    op.Data (data_op.Add 14 (operand.Number 2)) ∷ op.Data (data_op.Set 5 (operand.Register 2)) ∷ op.Task task_op.CbYield ∷ []); react = (op.Data (data_op.SkipEq (operand.Register 0) (operand.Number 6) 7) ∷
-    op.Set (set_op.New 8) ∷ op.Set (set_op.Drop (operand.Register 8)) ∷ op.Data (data_op.Add 6 (operand.Number 1)) ∷ op.Data (data_op.SkipEq (operand.Register 6) (operand.Number 5) 1) ∷
-    op.Task task_op.CbYield ∷ op.Task (task_op.Ret (operand.Number 7)) ∷ op.Task task_op.Exit ∷ op.Task (task_op.Ret (operand.Number 268435457)) ∷
-    op.Task task_op.Exit ∷ []) } ∷ record { kind = kind.Callback; params = 0; start = (op.Set (set_op.New 3) ∷ op.Task task_op.CbYield ∷ []); react =
-    (op.Data (data_op.Add 4 (operand.Number 1)) ∷ op.Data (data_op.SkipEq (operand.Register 4) (operand.Number 3) 1) ∷ op.Task task_op.CbYield ∷
-    op.Task (task_op.CbWait (operand.Register 3)) ∷ []) } ∷ record { kind = kind.Callback; params = 0; start = (op.Data (data_op.Store 11 (operand.Number 6)) ∷
-    op.Set (set_op.New 5) ∷ op.Set (set_op.Poll 10 (operand.Register 5)) ∷ op.Task task_op.CbYield ∷ []); react = (op.Data (data_op.SkipEq (operand.Register 0) (operand.Number 6) 6) ∷
-    op.Data (data_op.Load 8 1) ∷ op.Data (data_op.Add 3 (operand.Number 1)) ∷ op.Data (data_op.SkipEq (operand.Register 3) (operand.Number 2) 1) ∷
-    op.Task task_op.CbYield ∷ op.Task (task_op.Ret (operand.Number 1)) ∷ op.Task task_op.TaskCancel ∷ op.Task task_op.Exit ∷ []) } ∷ record { kind =
-    kind.Sync; params = 2; start = (op.Thread (thread_op.New 7 2 (operand.Register 5)) ∷ op.Thread (thread_op.YieldThenResume (operand.Register 7)) ∷
-    op.Thread (thread_op.New 9 4 (operand.Number 8)) ∷ op.Thread (thread_op.ResumeLater (operand.Register 9)) ∷ op.Call (call_op.CallSyncHost 3 1) ∷
-    op.Data (data_op.Set 0 (operand.Register 3)) ∷ op.Task task_op.BpInc ∷ []); react = [] } ∷ []); slots = (slot.Empty ∷ slot.Empty ∷ slot.Script (op.Thread thread_op.Yield ∷
-    []) ∷ slot.Empty ∷ slot.Script (op.Thread thread_op.Yield ∷ op.Task (task_op.Ret (operand.Register 0)) ∷ []) ∷ slot.Empty ∷ slot.Empty ∷
-    slot.Empty ∷ slot.Empty ∷ slot.Empty ∷ slot.Empty ∷ slot.Empty ∷ slot.Empty ∷ slot.Empty ∷ slot.Empty ∷ slot.Empty ∷ []) } ∷ record { exports =
-    (record { kind = kind.Stackful; params = 0; start = (op.Call (call_op.CallSync 3 (record { instance = 2; export = 3 }) ((operand.Register 3) ∷
-    (operand.Number 0) ∷ [])) ∷ op.Task (task_op.Ret (operand.Number 1)) ∷ []); react = [] } ∷ []); slots = (replicate 16 slot.Empty) } ∷ record {
-    exports = []; slots = (replicate 16 slot.Empty) } ∷ []); hosts = (record { polls = (Some 1); value = (Some 57) } ∷ record { polls = (Some 1);
-    value = (Some 18) } ∷ []) }; names = []; main = (main_op.Start (record { instance = 2; export = 0 }) ((operand.Register 10) ∷ (operand.Number 22) ∷
-    []) ∷ main_op.Start (record { instance = 2; export = 1 }) [] ∷ main_op.Start (record { instance = 2; export = 2 }) [] ∷ main_op.Start (record {
-    instance = 0; export = 2 }) ((operand.Number 255) ∷ []) ∷ main_op.Start (record { instance = 0; export = 0 }) [] ∷ main_op.Start (record {
-    instance = 0; export = 1 }) [] ∷ main_op.Finish 4 2 ∷ main_op.Finish 5 2 ∷ main_op.Finish 6 2 ∷ main_op.Start (record { instance = 3; export = 0 }) [] ∷
-    main_op.Finish 7 3 ∷ main_op.Finish 1 3 ∷ main_op.Answer (operand.Register 1) ∷ []); aborters = [] }
+generated_22 = record {
+  handles = 100000;
+  table = 1000000;
+  idle = idle_line.Trap;
+  component = record {
+    instances = (record {
+      exports = (record {
+        kind =
+            kind.Callback;
+        params = 0;
+        start = (op.Call (call_op.CallHost 7 4 0) ∷ op.Data (data_op.Handle 6 (operand.Register 7)) ∷ op.Set (set_op.New 3) ∷
+            op.Set (set_op.Join (operand.Register 6) (operand.Register 3)) ∷ op.Set (set_op.Wait 11 (operand.Register 3)) ∷ op.Data (data_op.SkipEq (operand.Register 13) (operand.Number 2) 2) ∷
+            op.Data (data_op.SkipEq (operand.Register 13) (operand.Number 4) 1) ∷ op.Set (set_op.Wait 11 (operand.Register 3)) ∷ op.Call (call_op.Drop (operand.Register 12)) ∷
+            op.Set (set_op.Drop (operand.Register 3)) ∷ op.Task (task_op.Ret (operand.Register 4)) ∷ []);
+        react = [];
+      } ∷ record {
+        kind = kind.Callback;
+        params =
+            0;
+        start = (op.Set (set_op.New 8) ∷ op.Call (call_op.CallHost 3 5 1) ∷ op.Data (data_op.SkipEq (operand.Register 3) (operand.Number 2) 3) ∷
+            op.Data (data_op.Handle 9 (operand.Register 3)) ∷ op.Set (set_op.Join (operand.Register 9) (operand.Register 8)) ∷ op.Data (data_op.Add 7 (operand.Number 1)) ∷
+            op.Data (data_op.SkipEq (operand.Register 7) (operand.Number 0) 1) ∷ op.Task (task_op.CbWait (operand.Register 8)) ∷ op.Set (set_op.Drop (operand.Register 8)) ∷
+            op.Task (task_op.Ret (operand.Register 5)) ∷ op.Task task_op.Exit ∷ []);
+        react = (op.Data (data_op.SkipEq (operand.Register 0) (operand.Number 6) 9) ∷
+            op.Data (data_op.SkipEq (operand.Register 2) (operand.Number 2) 2) ∷ op.Data (data_op.SkipEq (operand.Register 2) (operand.Number 4) 1) ∷ op.Task (task_op.CbWait (operand.Register 8)) ∷
+            op.Call (call_op.Drop (operand.Register 1)) ∷ op.Data (data_op.Add 7 (operand.Number 18446744073709551615)) ∷ op.Data (data_op.SkipEq (operand.Register 7) (operand.Number 0) 1) ∷
+            op.Task (task_op.CbWait (operand.Register 8)) ∷ op.Task (task_op.Ret (operand.Register 5)) ∷ op.Task task_op.Exit ∷ op.Task task_op.TaskCancel ∷
+            op.Task task_op.Exit ∷ []);
+      } ∷ record {
+        kind = kind.Callback;
+        params = 1;
+        start = (op.Data (data_op.Set 9 (operand.Register 0)) ∷ op.Thread thread_op.Yield ∷
+            op.Task (task_op.Ret (operand.Register 12)) ∷ op.Task task_op.CbYield ∷ []);
+        react = (op.Data (data_op.SkipEq (operand.Register 0) (operand.Number 6) 6) ∷
+            op.Data (data_op.Set 3 (operand.Number 3)) ∷ op.Data (data_op.Handle 6 (operand.Number 7)) ∷ op.Data (data_op.Add 5 (operand.Number 1)) ∷ op.Data (data_op.SkipEq (operand.Register 5) (operand.Number 2) 1) ∷
+            op.Task task_op.CbYield ∷ op.Task task_op.Exit ∷ op.Task task_op.CbYield ∷ []);
+      } ∷ []);
+      slots = (replicate 16 slot.Empty);
+    } ∷ record {
+      exports =
+          [];
+      slots = (replicate 16 slot.Empty);
+    } ∷ record {
+      exports = (record {
+        kind = kind.Callback;
+        params = 2;
+        start = (op.Data (data_op.Set 9 (operand.Register 1)) ∷
+            op.Data (data_op.Add 14 (operand.Number 2)) ∷ op.Data (data_op.Set 5 (operand.Register 2)) ∷ op.Task task_op.CbYield ∷ []);
+        react = (op.Data (data_op.SkipEq (operand.Register 0) (operand.Number 6) 7) ∷
+            op.Set (set_op.New 8) ∷ op.Set (set_op.Drop (operand.Register 8)) ∷ op.Data (data_op.Add 6 (operand.Number 1)) ∷ op.Data (data_op.SkipEq (operand.Register 6) (operand.Number 5) 1) ∷
+            op.Task task_op.CbYield ∷ op.Task (task_op.Ret (operand.Number 7)) ∷ op.Task task_op.Exit ∷ op.Task (task_op.Ret (operand.Number 268435457)) ∷
+            op.Task task_op.Exit ∷ []);
+      } ∷ record {
+        kind = kind.Callback;
+        params = 0;
+        start = (op.Set (set_op.New 3) ∷ op.Task task_op.CbYield ∷ []);
+        react =
+            (op.Data (data_op.Add 4 (operand.Number 1)) ∷ op.Data (data_op.SkipEq (operand.Register 4) (operand.Number 3) 1) ∷ op.Task task_op.CbYield ∷
+            op.Task (task_op.CbWait (operand.Register 3)) ∷ []);
+      } ∷ record {
+        kind = kind.Callback;
+        params = 0;
+        start = (op.Data (data_op.Store 11 (operand.Number 6)) ∷
+            op.Set (set_op.New 5) ∷ op.Set (set_op.Poll 10 (operand.Register 5)) ∷ op.Task task_op.CbYield ∷ []);
+        react = (op.Data (data_op.SkipEq (operand.Register 0) (operand.Number 6) 6) ∷
+            op.Data (data_op.Load 8 1) ∷ op.Data (data_op.Add 3 (operand.Number 1)) ∷ op.Data (data_op.SkipEq (operand.Register 3) (operand.Number 2) 1) ∷
+            op.Task task_op.CbYield ∷ op.Task (task_op.Ret (operand.Number 1)) ∷ op.Task task_op.TaskCancel ∷ op.Task task_op.Exit ∷ []);
+      } ∷ record {
+        kind =
+            kind.Sync;
+        params = 2;
+        start = (op.Thread (thread_op.New 7 2 (operand.Register 5)) ∷ op.Thread (thread_op.YieldThenResume (operand.Register 7)) ∷
+            op.Thread (thread_op.New 9 4 (operand.Number 8)) ∷ op.Thread (thread_op.ResumeLater (operand.Register 9)) ∷ op.Call (call_op.CallSyncHost 3 1) ∷
+            op.Data (data_op.Set 0 (operand.Register 3)) ∷ op.Task task_op.BpInc ∷ []);
+        react = [];
+      } ∷ []);
+      slots = (slot.Empty ∷ slot.Empty ∷ slot.Script (op.Thread thread_op.Yield ∷
+          []) ∷ slot.Empty ∷ slot.Script (op.Thread thread_op.Yield ∷ op.Task (task_op.Ret (operand.Register 0)) ∷ []) ∷ slot.Empty ∷ slot.Empty ∷
+          slot.Empty ∷ slot.Empty ∷ slot.Empty ∷ slot.Empty ∷ slot.Empty ∷ slot.Empty ∷ slot.Empty ∷ slot.Empty ∷ slot.Empty ∷ []);
+    } ∷ record {
+      exports =
+          (record {
+            kind = kind.Stackful;
+            params = 0;
+            start = (op.Call (call_op.CallSync 3 (record { instance = 2; export = 3 }) ((operand.Register 3) ∷
+                (operand.Number 0) ∷ [])) ∷ op.Task (task_op.Ret (operand.Number 1)) ∷ []);
+            react = [];
+          } ∷ []);
+      slots = (replicate 16 slot.Empty);
+    } ∷ record {
+      exports = [];
+      slots = (replicate 16 slot.Empty);
+    } ∷ []);
+    hosts = (record { polls = (Some 1); value = (Some 57) } ∷ record {
+      polls = (Some 1);
+      value = (Some 18);
+    } ∷ []);
+  };
+  names = [];
+  main = (main_op.Start (record { instance = 2; export = 0 }) ((operand.Register 10) ∷ (operand.Number 22) ∷
+      []) ∷ main_op.Start (record { instance = 2; export = 1 }) [] ∷ main_op.Start (record { instance = 2; export = 2 }) [] ∷ main_op.Start (record {
+        instance = 0;
+        export = 2;
+      }) ((operand.Number 255) ∷ []) ∷ main_op.Start (record { instance = 0; export = 0 }) [] ∷ main_op.Start (record {
+        instance = 0;
+        export = 1;
+      }) [] ∷ main_op.Finish 4 2 ∷ main_op.Finish 5 2 ∷ main_op.Finish 6 2 ∷ main_op.Start (record { instance = 3; export = 0 }) [] ∷
+      main_op.Finish 7 3 ∷ main_op.Finish 1 3 ∷ main_op.Answer (operand.Register 1) ∷ []);
+  aborters = [];
+}
 
 abbrev pub generated_22_labels : List Label
 generated_22_labels = label.Main (main_label.Start 1 1) ∷ label.Main (main_label.Start 2 2) ∷ label.Main (main_label.Start 3 3) ∷ label.Main (main_label.Start 4 4) ∷
@@ -173,46 +179,101 @@ generated_22_labels = label.Main (main_label.Start 1 1) ∷ label.Main (main_lab
 
 -- wait: api, m, react, r1; mk: log; k: n0
 abbrev pub generated_23 : Scenario
-generated_23 = record { handles = 100000; table = 1000000; idle = idle_line.Trap; component = record { instances = (record { exports = (record { kind =
-    kind.Callback; params = 0; start = (op.Call (call_op.CallHost 9 7 0) ∷ op.Data (data_op.Handle 6 (operand.Register 9)) ∷ op.Set (set_op.New 4) ∷
-    op.Set (set_op.Join (operand.Register 6) (operand.Register 4)) ∷ op.Set (set_op.Wait 10 (operand.Register 4)) ∷ op.Set (set_op.Join (operand.Register 11) (operand.Number 0)) ∷
-    op.Set (set_op.Drop (operand.Register 4)) ∷ op.Set (set_op.New 5) ∷ op.Call (call_op.CallHost 10 11 0) ∷ op.Data (data_op.SkipEq (operand.Register 10) (operand.Number 2) 2) ∷
-    op.Data (data_op.Handle 12 (operand.Register 10)) ∷ op.Set (set_op.Join (operand.Register 12) (operand.Register 5)) ∷ op.Call (call_op.CallHost 10 11 2) ∷
-    op.Data (data_op.SkipEq (operand.Register 10) (operand.Number 2) 2) ∷ op.Data (data_op.Handle 12 (operand.Register 10)) ∷ op.Set (set_op.Join (operand.Register 12) (operand.Register 5)) ∷
-    op.Call (call_op.CallHost 10 11 0) ∷ op.Data (data_op.SkipEq (operand.Register 10) (operand.Number 2) 2) ∷ op.Data (data_op.Handle 12 (operand.Register 10)) ∷
-    op.Set (set_op.Join (operand.Register 12) (operand.Register 5)) ∷ op.Call (call_op.CallHost 10 11 2) ∷ op.Data (data_op.SkipEq (operand.Register 10) (operand.Number 2) 2) ∷
-    op.Data (data_op.Handle 12 (operand.Register 10)) ∷ op.Set (set_op.Join (operand.Register 12) (operand.Register 5)) ∷ op.Thread thread_op.Yield ∷
-    op.Set (set_op.Poll 10 (operand.Register 5)) ∷ op.Data (data_op.SkipEq (operand.Register 10) (operand.Number 0) 2) ∷ op.Data (data_op.SkipEq (operand.Register 12) (operand.Number 1) 1) ∷
-    op.Call (call_op.Drop (operand.Register 11)) ∷ op.Call (call_op.CallHost 10 11 2) ∷ op.Data (data_op.SkipEq (operand.Register 10) (operand.Number 2) 2) ∷
-    op.Data (data_op.Handle 12 (operand.Register 10)) ∷ op.Set (set_op.Join (operand.Register 12) (operand.Register 5)) ∷ op.Call (call_op.CallHost 10 11 2) ∷
-    op.Data (data_op.SkipEq (operand.Register 10) (operand.Number 2) 2) ∷ op.Data (data_op.Handle 12 (operand.Register 10)) ∷ op.Set (set_op.Join (operand.Register 12) (operand.Register 5)) ∷
-    op.Call (call_op.CallHost 10 11 0) ∷ op.Data (data_op.SkipEq (operand.Register 10) (operand.Number 2) 2) ∷ op.Data (data_op.Handle 12 (operand.Register 10)) ∷
-    op.Set (set_op.Join (operand.Register 12) (operand.Register 5)) ∷ op.Set (set_op.Poll 10 (operand.Register 5)) ∷ op.Data (data_op.SkipEq (operand.Register 10) (operand.Number 0) 2) ∷
-    op.Data (data_op.SkipEq (operand.Register 12) (operand.Number 1) 1) ∷ op.Call (call_op.Drop (operand.Register 11)) ∷ op.Task (task_op.Ret (operand.Number 18)) ∷
-    []); react = [] } ∷ record { kind = kind.Stackful; params = 1; start = (op.Call (call_op.CallHost 8 9 0) ∷ op.Data (data_op.Handle 4 (operand.Register 8)) ∷
-    op.Task (task_op.Ret (operand.Register 0)) ∷ []); react = [] } ∷ record { kind = kind.Callback; params = 2; start = (op.Data (data_op.Set 9 (operand.Register 1)) ∷
-    op.Thread thread_op.Yield ∷ op.Thread thread_op.Yield ∷ op.Thread thread_op.Yield ∷ op.Task task_op.CbYield ∷ []); react = (op.Data (data_op.SkipEq (operand.Register 0) (operand.Number 6) 5) ∷
-    op.Data (data_op.Add 6 (operand.Number 1)) ∷ op.Data (data_op.SkipEq (operand.Register 6) (operand.Number 2) 1) ∷ op.Task task_op.CbYield ∷
-    op.Task (task_op.Ret (operand.Number 8)) ∷ op.Task task_op.Exit ∷ op.Task task_op.TaskCancel ∷ op.Task task_op.Exit ∷ []) } ∷ record { kind =
-    kind.Callback; params = 0; start = (op.Call (call_op.CallSyncHost 4 2) ∷ op.Task (task_op.Ret (operand.Register 4)) ∷ op.Task task_op.Exit ∷ []);
-    react = [] } ∷ []); slots = (replicate 16 slot.Empty) } ∷ record { exports = (record { kind = kind.Callback; params = 0; start = (op.Data (data_op.Handle 14 (operand.Register 11)) ∷
-    op.Data (data_op.Load 0 15) ∷ op.Data (data_op.Set 4 (operand.Number 4)) ∷ op.Call (call_op.Call 5 6 (record { instance = 0; export = 3 }) []) ∷
-    op.Data (data_op.SkipEq (operand.Register 5) (operand.Number 2) 9) ∷ op.Data (data_op.Handle 9 (operand.Register 5)) ∷ op.Set (set_op.New 3) ∷
-    op.Set (set_op.Join (operand.Register 9) (operand.Register 3)) ∷ op.Set (set_op.Wait 12 (operand.Register 3)) ∷ op.Data (data_op.SkipEq (operand.Register 14) (operand.Number 2) 2) ∷
-    op.Data (data_op.SkipEq (operand.Register 14) (operand.Number 4) 1) ∷ op.Set (set_op.Wait 12 (operand.Register 3)) ∷ op.Set (set_op.Join (operand.Register 13) (operand.Number 0)) ∷
-    op.Set (set_op.Drop (operand.Register 3)) ∷ op.Task (task_op.Ret (operand.Register 14)) ∷ []); react = [] } ∷ []); slots = (replicate 16 slot.Empty) } ∷
-    record { exports = (record { kind = kind.Callback; params = 0; start = (op.Data (data_op.Load 4 0) ∷ op.Call (call_op.Call 7 6 (record { instance =
-    1; export = 0 }) []) ∷ op.Data (data_op.SkipEq (operand.Register 7) (operand.Number 2) 12) ∷ op.Data (data_op.Handle 9 (operand.Register 7)) ∷
-    op.Call (call_op.Cancel 8 (operand.Register 9)) ∷ op.Data (data_op.SkipEq (operand.Register 8) (operand.Number 4294967295) 2) ∷ op.Call (call_op.Drop (operand.Register 9)) ∷
-    op.Data (data_op.SkipEq (operand.Number 0) (operand.Number 0) 7) ∷ op.Set (set_op.New 3) ∷ op.Set (set_op.Join (operand.Register 9) (operand.Register 3)) ∷
-    op.Set (set_op.Wait 13 (operand.Register 3)) ∷ op.Data (data_op.SkipEq (operand.Register 15) (operand.Number 2) 2) ∷ op.Data (data_op.SkipEq (operand.Register 15) (operand.Number 4) 1) ∷
-    op.Set (set_op.Wait 13 (operand.Register 3)) ∷ op.Call (call_op.Drop (operand.Register 14)) ∷ op.Task (task_op.Ret (operand.Register 15)) ∷ []);
-    react = [] } ∷ []); slots = (replicate 16 slot.Empty) } ∷ []); hosts = (record { polls = (Some 2); value = (Some 211) } ∷ record { polls = None;
-    value = None } ∷ record { polls = (Some 0); value = (Some 29) } ∷ record { polls = None; value = None } ∷ []) }; names = []; main = (main_op.Start (record {
-    instance = 2; export = 0 }) [] ∷ main_op.Start (record { instance = 2; export = 0 }) [] ∷ main_op.Start (record { instance = 0; export = 2 }) ((operand.Register 11) ∷
-    (operand.Number 29) ∷ []) ∷ main_op.Start (record { instance = 0; export = 0 }) [] ∷ main_op.Start (record { instance = 0; export = 1 }) ((operand.Register 10) ∷
-    []) ∷ main_op.Finish 3 1 ∷ main_op.Finish 4 1 ∷ main_op.Finish 5 1 ∷ main_op.Finish 1 12 ∷ main_op.Finish 2 1 ∷ main_op.Answer (operand.Register 1) ∷
-    []); aborters = [] }
+generated_23 = record {
+  handles = 100000;
+  table = 1000000;
+  idle = idle_line.Trap;
+  component = record {
+    instances = (record {
+      exports = (record {
+        kind =
+            kind.Callback;
+        params = 0;
+        start = (op.Call (call_op.CallHost 9 7 0) ∷ op.Data (data_op.Handle 6 (operand.Register 9)) ∷ op.Set (set_op.New 4) ∷
+            op.Set (set_op.Join (operand.Register 6) (operand.Register 4)) ∷ op.Set (set_op.Wait 10 (operand.Register 4)) ∷ op.Set (set_op.Join (operand.Register 11) (operand.Number 0)) ∷
+            op.Set (set_op.Drop (operand.Register 4)) ∷ op.Set (set_op.New 5) ∷ op.Call (call_op.CallHost 10 11 0) ∷ op.Data (data_op.SkipEq (operand.Register 10) (operand.Number 2) 2) ∷
+            op.Data (data_op.Handle 12 (operand.Register 10)) ∷ op.Set (set_op.Join (operand.Register 12) (operand.Register 5)) ∷ op.Call (call_op.CallHost 10 11 2) ∷
+            op.Data (data_op.SkipEq (operand.Register 10) (operand.Number 2) 2) ∷ op.Data (data_op.Handle 12 (operand.Register 10)) ∷ op.Set (set_op.Join (operand.Register 12) (operand.Register 5)) ∷
+            op.Call (call_op.CallHost 10 11 0) ∷ op.Data (data_op.SkipEq (operand.Register 10) (operand.Number 2) 2) ∷ op.Data (data_op.Handle 12 (operand.Register 10)) ∷
+            op.Set (set_op.Join (operand.Register 12) (operand.Register 5)) ∷ op.Call (call_op.CallHost 10 11 2) ∷ op.Data (data_op.SkipEq (operand.Register 10) (operand.Number 2) 2) ∷
+            op.Data (data_op.Handle 12 (operand.Register 10)) ∷ op.Set (set_op.Join (operand.Register 12) (operand.Register 5)) ∷ op.Thread thread_op.Yield ∷
+            op.Set (set_op.Poll 10 (operand.Register 5)) ∷ op.Data (data_op.SkipEq (operand.Register 10) (operand.Number 0) 2) ∷ op.Data (data_op.SkipEq (operand.Register 12) (operand.Number 1) 1) ∷
+            op.Call (call_op.Drop (operand.Register 11)) ∷ op.Call (call_op.CallHost 10 11 2) ∷ op.Data (data_op.SkipEq (operand.Register 10) (operand.Number 2) 2) ∷
+            op.Data (data_op.Handle 12 (operand.Register 10)) ∷ op.Set (set_op.Join (operand.Register 12) (operand.Register 5)) ∷ op.Call (call_op.CallHost 10 11 2) ∷
+            op.Data (data_op.SkipEq (operand.Register 10) (operand.Number 2) 2) ∷ op.Data (data_op.Handle 12 (operand.Register 10)) ∷ op.Set (set_op.Join (operand.Register 12) (operand.Register 5)) ∷
+            op.Call (call_op.CallHost 10 11 0) ∷ op.Data (data_op.SkipEq (operand.Register 10) (operand.Number 2) 2) ∷ op.Data (data_op.Handle 12 (operand.Register 10)) ∷
+            op.Set (set_op.Join (operand.Register 12) (operand.Register 5)) ∷ op.Set (set_op.Poll 10 (operand.Register 5)) ∷ op.Data (data_op.SkipEq (operand.Register 10) (operand.Number 0) 2) ∷
+            op.Data (data_op.SkipEq (operand.Register 12) (operand.Number 1) 1) ∷ op.Call (call_op.Drop (operand.Register 11)) ∷ op.Task (task_op.Ret (operand.Number 18)) ∷
+            []);
+        react = [];
+      } ∷ record {
+        kind = kind.Stackful;
+        params = 1;
+        start = (op.Call (call_op.CallHost 8 9 0) ∷ op.Data (data_op.Handle 4 (operand.Register 8)) ∷
+            op.Task (task_op.Ret (operand.Register 0)) ∷ []);
+        react = [];
+      } ∷ record {
+        kind = kind.Callback;
+        params = 2;
+        start = (op.Data (data_op.Set 9 (operand.Register 1)) ∷
+            op.Thread thread_op.Yield ∷ op.Thread thread_op.Yield ∷ op.Thread thread_op.Yield ∷ op.Task task_op.CbYield ∷ []);
+        react = (op.Data (data_op.SkipEq (operand.Register 0) (operand.Number 6) 5) ∷
+            op.Data (data_op.Add 6 (operand.Number 1)) ∷ op.Data (data_op.SkipEq (operand.Register 6) (operand.Number 2) 1) ∷ op.Task task_op.CbYield ∷
+            op.Task (task_op.Ret (operand.Number 8)) ∷ op.Task task_op.Exit ∷ op.Task task_op.TaskCancel ∷ op.Task task_op.Exit ∷ []);
+      } ∷ record {
+        kind =
+            kind.Callback;
+        params = 0;
+        start = (op.Call (call_op.CallSyncHost 4 2) ∷ op.Task (task_op.Ret (operand.Register 4)) ∷ op.Task task_op.Exit ∷ []);
+        react = [];
+      } ∷ []);
+      slots = (replicate 16 slot.Empty);
+    } ∷ record {
+      exports = (record {
+        kind = kind.Callback;
+        params = 0;
+        start = (op.Data (data_op.Handle 14 (operand.Register 11)) ∷
+            op.Data (data_op.Load 0 15) ∷ op.Data (data_op.Set 4 (operand.Number 4)) ∷ op.Call (call_op.Call 5 6 (record { instance = 0; export = 3 }) []) ∷
+            op.Data (data_op.SkipEq (operand.Register 5) (operand.Number 2) 9) ∷ op.Data (data_op.Handle 9 (operand.Register 5)) ∷ op.Set (set_op.New 3) ∷
+            op.Set (set_op.Join (operand.Register 9) (operand.Register 3)) ∷ op.Set (set_op.Wait 12 (operand.Register 3)) ∷ op.Data (data_op.SkipEq (operand.Register 14) (operand.Number 2) 2) ∷
+            op.Data (data_op.SkipEq (operand.Register 14) (operand.Number 4) 1) ∷ op.Set (set_op.Wait 12 (operand.Register 3)) ∷ op.Set (set_op.Join (operand.Register 13) (operand.Number 0)) ∷
+            op.Set (set_op.Drop (operand.Register 3)) ∷ op.Task (task_op.Ret (operand.Register 14)) ∷ []);
+        react = [];
+      } ∷ []);
+      slots = (replicate 16 slot.Empty);
+    } ∷
+        record {
+          exports = (record {
+            kind = kind.Callback;
+            params = 0;
+            start = (op.Data (data_op.Load 4 0) ∷ op.Call (call_op.Call 7 6 (record {
+              instance =
+                  1;
+              export = 0;
+            }) []) ∷ op.Data (data_op.SkipEq (operand.Register 7) (operand.Number 2) 12) ∷ op.Data (data_op.Handle 9 (operand.Register 7)) ∷
+                op.Call (call_op.Cancel 8 (operand.Register 9)) ∷ op.Data (data_op.SkipEq (operand.Register 8) (operand.Number 4294967295) 2) ∷ op.Call (call_op.Drop (operand.Register 9)) ∷
+                op.Data (data_op.SkipEq (operand.Number 0) (operand.Number 0) 7) ∷ op.Set (set_op.New 3) ∷ op.Set (set_op.Join (operand.Register 9) (operand.Register 3)) ∷
+                op.Set (set_op.Wait 13 (operand.Register 3)) ∷ op.Data (data_op.SkipEq (operand.Register 15) (operand.Number 2) 2) ∷ op.Data (data_op.SkipEq (operand.Register 15) (operand.Number 4) 1) ∷
+                op.Set (set_op.Wait 13 (operand.Register 3)) ∷ op.Call (call_op.Drop (operand.Register 14)) ∷ op.Task (task_op.Ret (operand.Register 15)) ∷ []);
+            react = [];
+          } ∷ []);
+          slots = (replicate 16 slot.Empty);
+        } ∷ []);
+    hosts = (record { polls = (Some 2); value = (Some 211) } ∷ record {
+      polls = None;
+      value = None;
+    } ∷ record { polls = (Some 0); value = (Some 29) } ∷ record { polls = None; value = None } ∷ []);
+  };
+  names = [];
+  main = (main_op.Start (record {
+    instance = 2;
+    export = 0;
+  }) [] ∷ main_op.Start (record { instance = 2; export = 0 }) [] ∷ main_op.Start (record { instance = 0; export = 2 }) ((operand.Register 11) ∷
+      (operand.Number 29) ∷ []) ∷ main_op.Start (record { instance = 0; export = 0 }) [] ∷ main_op.Start (record { instance = 0; export = 1 }) ((operand.Register 10) ∷
+      []) ∷ main_op.Finish 3 1 ∷ main_op.Finish 4 1 ∷ main_op.Finish 5 1 ∷ main_op.Finish 1 12 ∷ main_op.Finish 2 1 ∷ main_op.Answer (operand.Register 1) ∷
+      []);
+  aborters = [];
+}
 
 abbrev pub generated_23_labels : List Label
 generated_23_labels = label.Main (main_label.Start 1 1) ∷ label.Main (main_label.Start 2 2) ∷ label.Main (main_label.Start 3 3) ∷ label.Main (main_label.Start 4 4) ∷
@@ -261,303 +322,3 @@ generated_23_labels = label.Main (main_label.Start 1 1) ∷ label.Main (main_lab
     label.Task (task_label.Ret 3 8) ∷ label.Task (task_label.Exit 3) ∷ label.Main (main_label.Finish 3 8) ∷ label.Main (main_label.Finish 4 18) ∷
     label.Main (main_label.Finish 5 0) ∷ label.Main (main_label.Finish 1 0) ∷ label.Main (main_label.Finish 2 0) ∷ label.Main (main_label.Answer 0) ∷
     []
-
--- r1; req: m, host; c; net: m, z_, drop, g, g1, zbc0xb1x, set; x1: e; f: bad
-abbrev pub generated_24 : Scenario
-generated_24 = record { handles = 100000; table = 1000000; idle = idle_line.Trap; component = record { instances = (record { exports = []; slots =
-    (replicate 16 slot.Empty) } ∷ record { exports = (record { kind = kind.Callback; params = 0; start = (op.Set (set_op.New 3) ∷ op.Task task_op.CbYield ∷
-    []); react = (op.Data (data_op.SkipEq (operand.Register 0) (operand.Number 6) 4) ∷ op.Set (set_op.New 9) ∷ op.Set (set_op.Drop (operand.Register 9)) ∷
-    op.Task (task_op.Ret (operand.Number 194)) ∷ op.Task task_op.Exit ∷ op.Task (task_op.Ret (operand.Number 1)) ∷ op.Task task_op.Exit ∷ []) } ∷
-    record { kind = kind.Callback; params = 0; start = (op.Call (call_op.CallHost 8 9 2) ∷ op.Data (data_op.Handle 4 (operand.Register 8)) ∷ op.Set (set_op.New 3) ∷
-    op.Set (set_op.Join (operand.Register 4) (operand.Register 3)) ∷ op.Set (set_op.Wait 10 (operand.Register 3)) ∷ op.Data (data_op.SkipEq (operand.Register 12) (operand.Number 2) 2) ∷
-    op.Data (data_op.SkipEq (operand.Register 12) (operand.Number 4) 1) ∷ op.Set (set_op.Wait 10 (operand.Register 3)) ∷ op.Call (call_op.Drop (operand.Register 4)) ∷
-    op.Set (set_op.Drop (operand.Register 3)) ∷ op.Task (task_op.Ret (operand.Register 9)) ∷ op.Task task_op.Exit ∷ []); react = [] } ∷ []); slots =
-    (replicate 16 slot.Empty) } ∷ record { exports = []; slots = (replicate 16 slot.Empty) } ∷ record { exports = (record { kind = kind.Callback;
-    params = 1; start = (op.Data (data_op.Set 9 (operand.Register 0)) ∷ op.Call (call_op.Call 6 3 (record { instance = 1; export = 0 }) []) ∷ op.Data (data_op.SkipEq (operand.Register 6) (operand.Number 2) 15) ∷
-    op.Data (data_op.Handle 5 (operand.Register 6)) ∷ op.Call (call_op.Call 8 4 (record { instance = 1; export = 1 }) []) ∷ op.Data (data_op.SkipEq (operand.Register 8) (operand.Number 2) 1) ∷
-    op.Data (data_op.Handle 7 (operand.Register 8)) ∷ op.Call (call_op.Cancel 14 (operand.Register 5)) ∷ op.Data (data_op.SkipEq (operand.Register 14) (operand.Number 4294967295) 2) ∷
-    op.Call (call_op.Drop (operand.Register 5)) ∷ op.Data (data_op.SkipEq (operand.Number 0) (operand.Number 0) 7) ∷ op.Set (set_op.New 13) ∷ op.Set (set_op.Join (operand.Register 5) (operand.Register 13)) ∷
-    op.Set (set_op.Wait 10 (operand.Register 13)) ∷ op.Data (data_op.SkipEq (operand.Register 12) (operand.Number 2) 1) ∷ op.Set (set_op.Wait 10 (operand.Register 13)) ∷
-    op.Call (call_op.Drop (operand.Register 11)) ∷ op.Set (set_op.Drop (operand.Register 13)) ∷ op.Task (task_op.Ret (operand.Register 14)) ∷ []);
-    react = [] } ∷ record { kind = kind.Callback; params = 1; start = (op.Data (data_op.Set 9 (operand.Register 0)) ∷ op.Call (call_op.Call 8 4 (record {
-    instance = 1; export = 0 }) []) ∷ op.Data (data_op.SkipEq (operand.Register 8) (operand.Number 2) 7) ∷ op.Data (data_op.Handle 5 (operand.Register 8)) ∷
-    op.Call (call_op.Call 6 7 (record { instance = 1; export = 1 }) []) ∷ op.Data (data_op.SkipEq (operand.Register 6) (operand.Number 2) 1) ∷ op.Data (data_op.Handle 3 (operand.Register 6)) ∷
-    op.Call (call_op.CancelSync 10 (operand.Register 5)) ∷ op.Call (call_op.Drop (operand.Register 5)) ∷ op.Data (data_op.SkipEq (operand.Number 0) (operand.Number 0) 0) ∷
-    op.Task (task_op.Ret (operand.Register 10)) ∷ []); react = [] } ∷ record { kind = kind.Blocking; params = 0; start = (op.Set (set_op.New 3) ∷
-    op.Data (data_op.Store 4 (operand.Register 3)) ∷ op.Set (set_op.Wait 4 (operand.Register 3)) ∷ op.Data (data_op.Set 0 (operand.Register 6)) ∷ []);
-    react = [] } ∷ record { kind = kind.Callback; params = 1; start = (op.Data (data_op.Set 9 (operand.Register 0)) ∷ op.Call (call_op.CallHost 8 3 0) ∷
-    op.Data (data_op.Handle 4 (operand.Register 8)) ∷ op.Data (data_op.Store 5 (operand.Register 4)) ∷ op.Data (data_op.Load 5 4) ∷ op.Data (data_op.SkipEq (operand.Register 5) (operand.Number 0) 1) ∷
-    op.Set (set_op.Join (operand.Register 4) (operand.Register 5)) ∷ op.Task (task_op.Ret (operand.Register 8)) ∷ op.Task task_op.CbYield ∷ []); react =
-    [] } ∷ record { kind = kind.Callback; params = 0; start = (op.Call (call_op.Call 9 6 (record { instance = 1; export = 1 }) []) ∷ op.Data (data_op.SkipEq (operand.Register 9) (operand.Number 2) 2) ∷
-    op.Data (data_op.Handle 7 (operand.Register 9)) ∷ op.Data (data_op.Store 5 (operand.Register 7)) ∷ op.Task (task_op.Ret (operand.Register 9)) ∷
-    []); react = [] } ∷ record { kind = kind.Sync; params = 0; start = (op.Data (data_op.Load 3 4) ∷ op.Data (data_op.Load 4 5) ∷ op.Data (data_op.SkipEq (operand.Register 4) (operand.Number 0) 2) ∷
-    op.Data (data_op.SkipEq (operand.Register 3) (operand.Number 0) 1) ∷ op.Set (set_op.Drop (operand.Register 3)) ∷ []); react = [] } ∷ record { kind =
-    kind.Callback; params = 0; start = (op.Task task_op.CbYield ∷ []); react = (op.Data (data_op.Add 8 (operand.Number 1)) ∷ op.Data (data_op.SkipEq (operand.Register 8) (operand.Number 3) 1) ∷
-    op.Task task_op.CbYield ∷ op.Data (data_op.Load 3 4) ∷ op.Data (data_op.Load 4 5) ∷ op.Data (data_op.SkipEq (operand.Register 4) (operand.Number 0) 2) ∷
-    op.Data (data_op.SkipEq (operand.Register 3) (operand.Number 0) 1) ∷ op.Set (set_op.Poll 5 (operand.Register 3)) ∷ op.Task (task_op.Ret (operand.Register 7)) ∷
-    []) } ∷ []); slots = (replicate 16 slot.Empty) } ∷ record { exports = (record { kind = kind.Callback; params = 0; start = (op.Set (set_op.New 3) ∷
-    op.Call (call_op.CallHost 4 8 2) ∷ op.Data (data_op.Handle 5 (operand.Register 4)) ∷ op.Set (set_op.Join (operand.Register 5) (operand.Register 3)) ∷
-    op.Thread (thread_op.New 6 3 (operand.Register 3)) ∷ op.Thread (thread_op.ResumeLater (operand.Register 6)) ∷ op.Thread (thread_op.New 6 3 (operand.Register 3)) ∷
-    op.Thread (thread_op.ResumeLater (operand.Register 6)) ∷ op.Thread (thread_op.New 6 3 (operand.Register 3)) ∷ op.Thread (thread_op.ResumeLater (operand.Register 6)) ∷
-    op.Thread (thread_op.New 6 3 (operand.Register 3)) ∷ op.Thread (thread_op.ResumeLater (operand.Register 6)) ∷ op.Task task_op.CbYield ∷ []); react =
-    (op.Data (data_op.Add 9 (operand.Number 1)) ∷ op.Data (data_op.SkipEq (operand.Register 9) (operand.Number 6) 1) ∷ op.Task task_op.CbYield ∷
-    op.Task (task_op.Ret (operand.Register 9)) ∷ op.Task task_op.CbYield ∷ []) } ∷ []); slots = (slot.Empty ∷ slot.Empty ∷ slot.Empty ∷ slot.Script (op.Set (set_op.Wait 11 (operand.Register 0)) ∷
-    op.Set (set_op.Wait 11 (operand.Register 0)) ∷ []) ∷ slot.Empty ∷ slot.Empty ∷ slot.Empty ∷ slot.Empty ∷ slot.Empty ∷ slot.Empty ∷ slot.Empty ∷
-    slot.Empty ∷ slot.Empty ∷ slot.Empty ∷ slot.Empty ∷ slot.Empty ∷ []) } ∷ record { exports = (record { kind = kind.Callback; params = 1; start =
-    (op.Data (data_op.Set 9 (operand.Register 0)) ∷ op.Call (call_op.Call 3 8 (record { instance = 4; export = 0 }) []) ∷ op.Data (data_op.SkipEq (operand.Register 3) (operand.Number 2) 8) ∷
-    op.Data (data_op.Handle 7 (operand.Register 3)) ∷ op.Thread thread_op.Yield ∷ op.Thread thread_op.Yield ∷ op.Call (call_op.Cancel 4 (operand.Register 7)) ∷
-    op.Data (data_op.SkipEq (operand.Register 4) (operand.Number 4294967295) 2) ∷ op.Call (call_op.Drop (operand.Register 7)) ∷ op.Data (data_op.SkipEq (operand.Number 0) (operand.Number 0) 1) ∷
-    op.Call (call_op.Cancel 4 (operand.Register 7)) ∷ op.Call (call_op.CallHost 6 5 2) ∷ op.Data (data_op.Handle 10 (operand.Register 6)) ∷ op.Set (set_op.New 13) ∷
-    op.Set (set_op.Join (operand.Register 10) (operand.Register 13)) ∷ op.Set (set_op.Drop (operand.Register 13)) ∷ op.Task (task_op.Ret (operand.Register 4)) ∷
-    op.Task task_op.Exit ∷ []); react = [] } ∷ []); slots = (replicate 16 slot.Empty) } ∷ []); hosts = (record { polls = (Some 5); value = (Some 255) } ∷
-    record { polls = None; value = None } ∷ record { polls = (Some 9); value = (Some 4294967297) } ∷ []) }; names = []; main = (main_op.Ready (record {
-    instance = 3; export = 1 }) ∷ main_op.Start (record { instance = 3; export = 1 }) ((operand.Number 13) ∷ []) ∷ main_op.Finish 1 1 ∷ main_op.Start (record {
-    instance = 3; export = 0 }) ((operand.Number 15) ∷ []) ∷ main_op.Start (record { instance = 5; export = 0 }) ((operand.Register 15) ∷ []) ∷
-    main_op.Finish 3 3 ∷ main_op.Start (record { instance = 3; export = 2 }) [] ∷ main_op.Finish 2 4 ∷ main_op.Start (record { instance = 3; export =
-    4 }) [] ∷ main_op.Finish 5 1 ∷ main_op.Ready (record { instance = 3; export = 5 }) ∷ main_op.Start (record { instance = 3; export = 5 }) [] ∷
-    main_op.Finish 4 2 ∷ main_op.Finish 6 14 ∷ main_op.Start (record { instance = 3; export = 3 }) ((operand.Register 3) ∷ []) ∷ main_op.Start (record {
-    instance = 3; export = 6 }) [] ∷ main_op.Finish 8 0 ∷ main_op.Finish 7 0 ∷ main_op.Quiet ∷ main_op.Answer (operand.Register 2) ∷ []); aborters =
-    [] }
-
-abbrev pub generated_24_labels : List Label
-generated_24_labels = label.Main main_label.Ready ∷ label.Main (main_label.Start 1 1) ∷ label.Loop loop_label.MainPends ∷ label.Take (take.Thread mark.High 1) ∷
-    label.Data (data_label.Set 1 13) ∷ label.Call (call_label.Calls 1 2) ∷ label.Loop loop_label.MainPends ∷ label.Take (take.Thread mark.Switch 2) ∷
-    label.Set (set_label.New 1 2) ∷ label.Task (task_label.CbYield 2) ∷ label.Loop loop_label.MainPends ∷ label.Take (take.Thread mark.Switch 1) ∷
-    label.Call (call_label.Call 17 1) ∷ label.Data (data_label.SkipEq 1) ∷ label.Data (data_label.Handle 1 1) ∷ label.Call (call_label.Calls 1 3) ∷
-    label.Loop loop_label.MainPends ∷ label.Take (take.Thread mark.Switch 3) ∷ label.Call (call_label.CallPolls 33 3 1) ∷ label.Data (data_label.Handle 3 2) ∷
-    label.Set (set_label.New 3 3) ∷ label.Set (set_label.Join 3) ∷ label.Thread (thread_label.Pauses 3) ∷ label.Loop loop_label.MainPends ∷ label.Take (take.Thread mark.Switch 1) ∷
-    label.Call (call_label.Call 33 1) ∷ label.Data (data_label.SkipEq 1) ∷ label.Data (data_label.Handle 1 2) ∷ label.Thread (thread_label.Pauses 1) ∷
-    label.Loop loop_label.MainPends ∷ label.Take (take.Held mark.Switch 2) ∷ label.Loop loop_label.MainPends ∷ label.Take (take.Thread mark.Switch 1) ∷
-    label.Thread (thread_label.Pauses 1) ∷ label.Loop loop_label.MainPends ∷ label.Take (take.Push mark.High 1) ∷ label.Loop loop_label.MainPends ∷
-    label.Loop (loop_label.FuturePends 1) ∷ label.Loop loop_label.Rest ∷ label.Loop loop_label.MainPends ∷ label.Loop (loop_label.FuturePends 1) ∷
-    label.Loop loop_label.Rest ∷ label.Loop loop_label.MainPends ∷ label.Loop (loop_label.FuturePends 1) ∷ label.Loop loop_label.Rest ∷ label.Loop loop_label.MainPends ∷
-    label.Loop (loop_label.FuturePends 1) ∷ label.Loop loop_label.Rest ∷ label.Loop loop_label.MainPends ∷ label.Loop (loop_label.FuturePends 1) ∷
-    label.Loop loop_label.Rest ∷ label.Loop loop_label.MainPends ∷ label.Loop (loop_label.FuturePends 1) ∷ label.Loop loop_label.Rest ∷ label.Loop loop_label.MainPends ∷
-    label.Loop (loop_label.FuturePends 1) ∷ label.Loop loop_label.Rest ∷ label.Loop loop_label.MainPends ∷ label.Loop (loop_label.FuturePends 1) ∷
-    label.Loop loop_label.Rest ∷ label.Loop loop_label.MainPends ∷ label.Loop (loop_label.FutureEnds 1) ∷ label.Take (take.HostWakes mark.High 1 3) ∷
-    label.Loop loop_label.MainPends ∷ label.Take (take.Thread mark.High 3) ∷ label.Set (set_label.Wait (given.Subtask status.Returned 2) 3) ∷
-    label.Data (data_label.SkipEq 3) ∷ label.Call (call_label.Drop 3) ∷ label.Set (set_label.Drop 3) ∷ label.Task (task_label.Ret 3 4294967297) ∷
-    label.Task (task_label.Exit 3) ∷ label.Loop loop_label.MainPends ∷ label.Take (take.Event mark.High given.Cancelled 2) ∷ label.Data (data_label.SkipEq 2) ∷
-    label.Task (task_label.Ret 2 1) ∷ label.Task (task_label.Exit 2) ∷ label.Loop loop_label.MainPends ∷ label.Take (take.Thread mark.High 1) ∷
-    label.Call (call_label.CancelSync 2 1) ∷ label.Call (call_label.Drop 1) ∷ label.Data (data_label.SkipEq 1) ∷ label.Task (task_label.Ret 1 2) ∷
-    label.Task (task_label.Exit 1) ∷ label.Main (main_label.Finish 1 2) ∷ label.Main (main_label.Start 2 4) ∷ label.Main (main_label.Start 3 5) ∷
-    label.Loop loop_label.MainPends ∷ label.Take (take.Thread mark.High 4) ∷ label.Data (data_label.Set 4 15) ∷ label.Call (call_label.Calls 4 6) ∷
-    label.Loop loop_label.MainPends ∷ label.Take (take.Thread mark.Switch 6) ∷ label.Set (set_label.New 3 6) ∷ label.Task (task_label.CbYield 6) ∷
-    label.Loop loop_label.MainPends ∷ label.Take (take.Thread mark.Switch 4) ∷ label.Call (call_label.Call 17 4) ∷ label.Data (data_label.SkipEq 4) ∷
-    label.Data (data_label.Handle 4 1) ∷ label.Call (call_label.Calls 4 7) ∷ label.Loop loop_label.MainPends ∷ label.Take (take.Thread mark.Switch 7) ∷
-    label.Call (call_label.CallPolls 33 7 2) ∷ label.Data (data_label.Handle 7 2) ∷ label.Set (set_label.New 4 7) ∷ label.Set (set_label.Join 7) ∷
-    label.Thread (thread_label.Pauses 7) ∷ label.Loop loop_label.MainPends ∷ label.Take (take.Thread mark.Switch 4) ∷ label.Call (call_label.Call 49 4) ∷
-    label.Data (data_label.SkipEq 4) ∷ label.Data (data_label.Handle 4 3) ∷ label.Thread (thread_label.Pauses 4) ∷ label.Loop loop_label.MainPends ∷
-    label.Take (take.Held mark.Switch 6) ∷ label.Loop loop_label.MainPends ∷ label.Take (take.Thread mark.Switch 4) ∷ label.Call (call_label.Cancel 4294967295 4) ∷
-    label.Data (data_label.SkipEq 4) ∷ label.Set (set_label.New 4 4) ∷ label.Set (set_label.Join 4) ∷ label.Thread (thread_label.Pauses 4) ∷
-    label.Loop loop_label.MainPends ∷ label.Take (take.Thread mark.High 5) ∷ label.Data (data_label.Set 5 0) ∷ label.Call (call_label.Calls 5 8) ∷
-    label.Loop loop_label.MainPends ∷ label.Take (take.Thread mark.Switch 8) ∷ label.Set (set_label.New 1 8) ∷ label.Call (call_label.CallPolls 33 8 3) ∷
-    label.Data (data_label.Handle 8 2) ∷ label.Set (set_label.Join 8) ∷ label.Thread (thread_label.New 2 8 9) ∷ label.Thread (thread_label.ResumeLater 8) ∷
-    label.Thread (thread_label.New 3 8 10) ∷ label.Thread (thread_label.ResumeLater 8) ∷ label.Thread (thread_label.New 4 8 11) ∷ label.Thread (thread_label.ResumeLater 8) ∷
-    label.Thread (thread_label.New 5 8 12) ∷ label.Thread (thread_label.ResumeLater 8) ∷ label.Task (task_label.CbYield 8) ∷ label.Loop loop_label.MainPends ∷
-    label.Take (take.Thread mark.Switch 5) ∷ label.Call (call_label.Call 17 5) ∷ label.Data (data_label.SkipEq 5) ∷ label.Data (data_label.Handle 5 1) ∷
-    label.Thread (thread_label.Pauses 5) ∷ label.Loop loop_label.MainPends ∷ label.Take (take.Push mark.High 2) ∷ label.Loop loop_label.MainPends ∷
-    label.Loop (loop_label.FuturePends 2) ∷ label.Take (take.Push mark.High 3) ∷ label.Loop loop_label.MainPends ∷ label.Loop (loop_label.FuturePends 2) ∷
-    label.Loop (loop_label.FuturePends 3) ∷ label.Take (take.Thread mark.Low 9) ∷ label.Set (set_label.Wait given.Nothing 9) ∷ label.Thread (thread_label.Pauses 9) ∷
-    label.Loop loop_label.MainPends ∷ label.Loop (loop_label.FuturePends 2) ∷ label.Loop (loop_label.FuturePends 3) ∷ label.Take (take.Thread mark.Low 10) ∷
-    label.Thread (thread_label.Pauses 10) ∷ label.Loop loop_label.MainPends ∷ label.Loop (loop_label.FuturePends 2) ∷ label.Loop (loop_label.FuturePends 3) ∷
-    label.Take (take.Thread mark.Low 11) ∷ label.Thread (thread_label.Pauses 11) ∷ label.Loop loop_label.MainPends ∷ label.Loop (loop_label.FuturePends 2) ∷
-    label.Loop (loop_label.FuturePends 3) ∷ label.Take (take.Thread mark.Low 12) ∷ label.Thread (thread_label.Pauses 12) ∷ label.Loop loop_label.MainPends ∷
-    label.Loop (loop_label.FuturePends 2) ∷ label.Loop (loop_label.FuturePends 3) ∷ label.Take (take.Event mark.Low given.Nothing 8) ∷ label.Data (data_label.Add 8 1) ∷
-    label.Data (data_label.SkipEq 8) ∷ label.Task (task_label.CbYield 8) ∷ label.Loop loop_label.MainPends ∷ label.Loop (loop_label.FuturePends 2) ∷
-    label.Loop (loop_label.FuturePends 3) ∷ label.Take (take.Thread mark.Low 5) ∷ label.Thread (thread_label.Yield 5) ∷ label.Thread (thread_label.Pauses 5) ∷
-    label.Loop loop_label.MainPends ∷ label.Loop (loop_label.FuturePends 2) ∷ label.Loop (loop_label.FuturePends 3) ∷ label.Take (take.Event mark.Low given.Nothing 8) ∷
-    label.Data (data_label.Add 8 2) ∷ label.Data (data_label.SkipEq 8) ∷ label.Task (task_label.CbYield 8) ∷ label.Loop loop_label.MainPends ∷
-    label.Loop (loop_label.FutureEnds 2) ∷ label.Take (take.HostWakes mark.High 2 7) ∷ label.Loop loop_label.MainPends ∷ label.Loop (loop_label.FuturePends 3) ∷
-    label.Take (take.Thread mark.High 7) ∷ label.Set (set_label.Wait (given.Subtask status.Returned 2) 7) ∷ label.Data (data_label.SkipEq 7) ∷
-    label.Call (call_label.Drop 7) ∷ label.Set (set_label.Drop 7) ∷ label.Task (task_label.Ret 7 4294967297) ∷ label.Task (task_label.Exit 7) ∷
-    label.Loop loop_label.MainPends ∷ label.Loop (loop_label.FutureEnds 3) ∷ label.Take (take.Event mark.High given.Cancelled 6) ∷ label.Data (data_label.SkipEq 6) ∷
-    label.RetWakes 6 1 4 ∷ label.Task (task_label.Exit 6) ∷ label.Loop loop_label.MainPends ∷ label.Take (take.HostWakes mark.High 3 9) ∷ label.Loop loop_label.MainPends ∷
-    label.Take (take.Thread mark.High 4) ∷ label.Set (set_label.Wait (given.Subtask status.Returned 1) 4) ∷ label.Data (data_label.SkipEq 4) ∷
-    label.Call (call_label.Drop 4) ∷ label.Set (set_label.Drop 4) ∷ label.Task (task_label.Ret 4 4294967295) ∷ label.Task (task_label.Exit 4) ∷
-    label.Loop loop_label.MainPends ∷ label.Take (take.Thread mark.High 9) ∷ label.Set (set_label.WaitWakes own.None 9 10) ∷ label.Task (task_label.Exit 9) ∷
-    label.Loop loop_label.MainPends ∷ label.Take (take.Thread mark.High 10) ∷ label.Set (set_label.Wait (given.Subtask status.Returned 2) 10) ∷
-    label.Thread (thread_label.Pauses 10) ∷ label.Loop loop_label.MainPends ∷ label.Take (take.Thread mark.Low 5) ∷ label.Thread (thread_label.Yield 5) ∷
-    label.Thread (thread_label.Pauses 5) ∷ label.Loop loop_label.MainPends ∷ label.Take (take.Event mark.Switch given.Cancelled 8) ∷ label.Data (data_label.Add 8 3) ∷
-    label.Data (data_label.SkipEq 8) ∷ label.Task (task_label.CbYield 8) ∷ label.Loop loop_label.MainPends ∷ label.Take (take.Thread mark.Switch 5) ∷
-    label.Call (call_label.Cancel 4294967295 5) ∷ label.Data (data_label.SkipEq 5) ∷ label.Thread (thread_label.Pauses 5) ∷ label.Loop loop_label.MainPends ∷
-    label.Take (take.Event mark.Switch given.Cancelled 8) ∷ label.Data (data_label.Add 8 4) ∷ label.Data (data_label.SkipEq 8) ∷ label.Task (task_label.CbYield 8) ∷
-    label.Loop loop_label.MainPends ∷ label.Take (take.Thread mark.Switch 5) ∷ label.Call (call_label.Cancel 4294967295 5) ∷ label.Call (call_label.CallPolls 33 5 4) ∷
-    label.Data (data_label.Handle 5 2) ∷ label.Set (set_label.New 3 5) ∷ label.Set (set_label.Join 5) ∷ label.Loop (loop_label.Trap trap.TableHasChildren 5) ∷
-    []
-
--- b: call, end, db, host, ey00; get: bqupghdifzfzvmdo, up, edge, log, go, bad, export; load_it; f: down, h, b, r1, thread, down58, run, d, log, s
-abbrev pub generated_25 : Scenario
-generated_25 = record { handles = 100000; table = 1000000; idle = idle_line.Trap; component = record { instances = (record { exports = (record { kind =
-    kind.Sync; params = 0; start = (op.Set (set_op.New 3) ∷ op.Thread (thread_op.Index 4) ∷ op.Set (set_op.Drop (operand.Register 3)) ∷ []); react =
-    [] } ∷ record { kind = kind.Callback; params = 0; start = (op.Set (set_op.New 3) ∷ op.Data (data_op.Store 0 (operand.Register 3)) ∷ op.Task (task_op.CbWait (operand.Register 3)) ∷
-    []); react = (op.Data (data_op.SkipEq (operand.Register 0) (operand.Number 6) 1) ∷ op.Task (task_op.Ret (operand.Register 1)) ∷ op.Task (task_op.CbWait (operand.Register 3)) ∷
-    []) } ∷ record { kind = kind.Stackful; params = 0; start = (op.Data (data_op.Load 3 0) ∷ op.Set (set_op.Wait 10 (operand.Register 3)) ∷ op.Task (task_op.Ret (operand.Register 10)) ∷
-    []); react = [] } ∷ record { kind = kind.Stackful; params = 0; start = (op.Call (call_op.CallHost 4 8 0) ∷ op.Data (data_op.Handle 5 (operand.Register 4)) ∷
-    op.Data (data_op.Store 1 (operand.Register 5)) ∷ op.Task (task_op.Ret (operand.Register 5)) ∷ []); react = [] } ∷ record { kind = kind.Sync;
-    params = 0; start = (op.Data (data_op.Load 3 0) ∷ op.Data (data_op.Load 4 1) ∷ op.Set (set_op.Join (operand.Register 4) (operand.Register 3)) ∷
-    []); react = [] } ∷ []); slots = (replicate 16 slot.Empty) } ∷ record { exports = (record { kind = kind.Stackful; params = 3; start = (op.Call (call_op.CallHost 3 5 0) ∷
-    op.Data (data_op.SkipEq (operand.Register 3) (operand.Number 2) 9) ∷ op.Data (data_op.Handle 7 (operand.Register 3)) ∷ op.Set (set_op.New 6) ∷
-    op.Set (set_op.Join (operand.Register 7) (operand.Register 6)) ∷ op.Set (set_op.Wait 11 (operand.Register 6)) ∷ op.Data (data_op.SkipEq (operand.Register 13) (operand.Number 2) 2) ∷
-    op.Data (data_op.SkipEq (operand.Register 13) (operand.Number 4) 1) ∷ op.Set (set_op.Wait 11 (operand.Register 6)) ∷ op.Call (call_op.Drop (operand.Register 12)) ∷
-    op.Set (set_op.Drop (operand.Register 6)) ∷ op.Task (task_op.Ret (operand.Register 2)) ∷ []); react = [] } ∷ record { kind = kind.Sync; params =
-    0; start = (op.Set (set_op.New 3) ∷ []); react = [] } ∷ record { kind = kind.Stackful; params = 0; start = (op.Call (call_op.CallSync 3 (record {
-    instance = 0; export = 0 }) []) ∷ op.Call (call_op.CallSync 3 (record { instance = 0; export = 0 }) []) ∷ op.Task (task_op.Ret (operand.Register 3)) ∷
-    []); react = [] } ∷ record { kind = kind.Callback; params = 0; start = (op.Set (set_op.New 3) ∷ op.Data (data_op.Store 3 (operand.Register 3)) ∷
-    op.Task (task_op.CbWait (operand.Register 3)) ∷ []); react = (op.Task (task_op.Ret (operand.Register 1)) ∷ []) } ∷ record { kind = kind.Callback;
-    params = 0; start = (op.Data (data_op.Load 3 3) ∷ op.Task (task_op.CbWait (operand.Register 3)) ∷ []); react = (op.Task (task_op.Ret (operand.Register 1)) ∷
-    []) } ∷ record { kind = kind.Stackful; params = 0; start = (op.Data (data_op.Load 3 3) ∷ op.Set (set_op.Wait 4 (operand.Register 3)) ∷ op.Task (task_op.Ret (operand.Register 5)) ∷
-    []); react = [] } ∷ record { kind = kind.Stackful; params = 0; start = (op.Data (data_op.Load 3 3) ∷ op.Call (call_op.CallHost 4 8 0) ∷ op.Data (data_op.Handle 5 (operand.Register 4)) ∷
-    op.Set (set_op.Join (operand.Register 5) (operand.Register 3)) ∷ op.Call (call_op.CallHost 4 8 2) ∷ op.Data (data_op.Handle 5 (operand.Register 4)) ∷
-    op.Set (set_op.Join (operand.Register 5) (operand.Register 3)) ∷ op.Task (task_op.Ret (operand.Register 5)) ∷ []); react = [] } ∷ []); slots =
-    (replicate 16 slot.Empty) } ∷ record { exports = []; slots = (replicate 16 slot.Empty) } ∷ record { exports = (record { kind = kind.Blocking;
-    params = 0; start = (op.Set (set_op.New 0) ∷ op.Call (call_op.CallHost 10 11 0) ∷ op.Data (data_op.SkipEq (operand.Register 10) (operand.Number 2) 2) ∷
-    op.Data (data_op.Handle 12 (operand.Register 10)) ∷ op.Set (set_op.Join (operand.Register 12) (operand.Register 0)) ∷ op.Call (call_op.CallHost 10 11 0) ∷
-    op.Data (data_op.SkipEq (operand.Register 10) (operand.Number 2) 2) ∷ op.Data (data_op.Handle 12 (operand.Register 10)) ∷ op.Set (set_op.Join (operand.Register 12) (operand.Register 0)) ∷
-    op.Call (call_op.CallHost 10 11 0) ∷ op.Data (data_op.SkipEq (operand.Register 10) (operand.Number 2) 2) ∷ op.Data (data_op.Handle 12 (operand.Register 10)) ∷
-    op.Set (set_op.Join (operand.Register 12) (operand.Register 0)) ∷ op.Call (call_op.CallHost 10 11 1) ∷ op.Data (data_op.SkipEq (operand.Register 10) (operand.Number 2) 2) ∷
-    op.Data (data_op.Handle 12 (operand.Register 10)) ∷ op.Set (set_op.Join (operand.Register 12) (operand.Register 0)) ∷ op.Thread thread_op.Yield ∷
-    op.Call (call_op.CallSyncHost 12 0) ∷ op.Set (set_op.Poll 10 (operand.Register 0)) ∷ op.Data (data_op.SkipEq (operand.Register 10) (operand.Number 0) 0) ∷
-    op.Set (set_op.Poll 10 (operand.Register 0)) ∷ op.Data (data_op.SkipEq (operand.Register 10) (operand.Number 0) 2) ∷ op.Data (data_op.SkipEq (operand.Register 12) (operand.Number 1) 1) ∷
-    op.Call (call_op.Drop (operand.Register 11)) ∷ op.Set (set_op.Poll 10 (operand.Register 0)) ∷ op.Data (data_op.SkipEq (operand.Register 10) (operand.Number 0) 0) ∷
-    op.Set (set_op.Poll 10 (operand.Register 0)) ∷ op.Data (data_op.SkipEq (operand.Register 10) (operand.Number 0) 0) ∷ op.Set (set_op.Poll 10 (operand.Register 0)) ∷
-    op.Data (data_op.SkipEq (operand.Register 10) (operand.Number 0) 2) ∷ op.Data (data_op.SkipEq (operand.Register 12) (operand.Number 1) 1) ∷
-    op.Call (call_op.Drop (operand.Register 11)) ∷ op.Call (call_op.CallHost 10 11 1) ∷ op.Data (data_op.SkipEq (operand.Register 10) (operand.Number 2) 2) ∷
-    op.Data (data_op.Handle 12 (operand.Register 10)) ∷ op.Set (set_op.Join (operand.Register 12) (operand.Register 0)) ∷ op.Call (call_op.CallHost 10 11 1) ∷
-    op.Data (data_op.SkipEq (operand.Register 10) (operand.Number 2) 2) ∷ op.Data (data_op.Handle 12 (operand.Register 10)) ∷ op.Set (set_op.Join (operand.Register 12) (operand.Register 0)) ∷
-    op.Call (call_op.CallHost 10 11 3) ∷ op.Data (data_op.SkipEq (operand.Register 10) (operand.Number 2) 2) ∷ op.Data (data_op.Handle 12 (operand.Register 10)) ∷
-    op.Set (set_op.Join (operand.Register 12) (operand.Register 0)) ∷ op.Call (call_op.CallHost 10 11 0) ∷ op.Data (data_op.SkipEq (operand.Register 10) (operand.Number 2) 2) ∷
-    op.Data (data_op.Handle 12 (operand.Register 10)) ∷ op.Set (set_op.Join (operand.Register 12) (operand.Register 0)) ∷ op.Set (set_op.Poll 10 (operand.Register 0)) ∷
-    op.Data (data_op.SkipEq (operand.Register 10) (operand.Number 0) 2) ∷ op.Data (data_op.SkipEq (operand.Register 12) (operand.Number 1) 1) ∷
-    op.Call (call_op.Drop (operand.Register 11)) ∷ op.Set (set_op.Poll 10 (operand.Register 0)) ∷ op.Data (data_op.SkipEq (operand.Register 10) (operand.Number 0) 2) ∷
-    op.Data (data_op.SkipEq (operand.Register 12) (operand.Number 1) 1) ∷ op.Call (call_op.Drop (operand.Register 11)) ∷ []); react = [] } ∷ record {
-    kind = kind.Callback; params = 1; start = (op.Data (data_op.Set 9 (operand.Register 0)) ∷ op.Set (set_op.New 4) ∷ op.Data (data_op.Store 0 (operand.Register 4)) ∷
-    op.Call (call_op.CallHost 6 8 0) ∷ op.Data (data_op.Handle 5 (operand.Register 6)) ∷ op.Set (set_op.Join (operand.Register 5) (operand.Register 4)) ∷
-    op.Data (data_op.Add 7 (operand.Number 1)) ∷ op.Data (data_op.SkipEq (operand.Register 7) (operand.Number 0) 1) ∷ op.Task (task_op.CbWait (operand.Register 4)) ∷
-    op.Task (task_op.Ret (operand.Register 0)) ∷ op.Task task_op.Exit ∷ []); react = (op.Data (data_op.SkipEq (operand.Register 0) (operand.Number 6) 9) ∷
-    op.Data (data_op.SkipEq (operand.Register 2) (operand.Number 2) 1) ∷ op.Task (task_op.CbWait (operand.Register 4)) ∷ op.Set (set_op.Join (operand.Register 1) (operand.Number 0)) ∷
-    op.Data (data_op.Add 7 (operand.Number 18446744073709551615)) ∷ op.Data (data_op.SkipEq (operand.Register 7) (operand.Number 0) 1) ∷ op.Task (task_op.CbWait (operand.Register 4)) ∷
-    op.Set (set_op.Drop (operand.Register 4)) ∷ op.Task (task_op.Ret (operand.Register 8)) ∷ op.Task task_op.Exit ∷ op.Task (task_op.Ret (operand.Number 1)) ∷
-    op.Task task_op.TaskCancel ∷ op.Task task_op.Exit ∷ []) } ∷ record { kind = kind.Sync; params = 0; start = (op.Data (data_op.Load 9 1) ∷ op.Data (data_op.SkipEq (operand.Register 9) (operand.Number 0) 1) ∷
-    op.Call (call_op.Drop (operand.Register 9)) ∷ op.Call (call_op.CallHost 7 4 0) ∷ op.Data (data_op.Handle 0 (operand.Register 7)) ∷ op.Set (set_op.New 2) ∷
-    op.Set (set_op.Join (operand.Register 0) (operand.Register 2)) ∷ op.Set (set_op.Wait 11 (operand.Register 2)) ∷ op.Data (data_op.SkipEq (operand.Register 13) (operand.Number 2) 2) ∷
-    op.Data (data_op.SkipEq (operand.Register 13) (operand.Number 4) 1) ∷ op.Set (set_op.Wait 11 (operand.Register 2)) ∷ op.Call (call_op.Drop (operand.Register 12)) ∷
-    op.Set (set_op.Drop (operand.Register 2)) ∷ op.Data (data_op.Set 0 (operand.Register 13)) ∷ []); react = [] } ∷ record { kind = kind.Sync; params =
-    0; start = (op.Data (data_op.Add 4 (operand.Register 13)) ∷ op.Data (data_op.Set 0 (operand.Number 85)) ∷ []); react = [] } ∷ record { kind =
-    kind.Callback; params = 0; start = (op.Call (call_op.CallHost 6 5 2) ∷ op.Data (data_op.Handle 3 (operand.Register 6)) ∷ op.Task (task_op.Code (operand.Number 1)) ∷
-    op.Task (task_op.Ret (operand.Register 6)) ∷ []); react = (op.Data (data_op.SkipEq (operand.Register 0) (operand.Number 6) 18) ∷ op.Data (data_op.SkipEq (operand.Register 7) (operand.Number 1) 12) ∷
-    op.Data (data_op.Add 4 (operand.Number 1)) ∷ op.Data (data_op.SkipEq (operand.Register 4) (operand.Number 2) 1) ∷ op.Task task_op.CbYield ∷
-    op.Call (call_op.Cancel 8 (operand.Register 3)) ∷ op.Data (data_op.SkipEq (operand.Register 8) (operand.Number 4294967295) 3) ∷ op.Call (call_op.Drop (operand.Register 3)) ∷
-    op.Task (task_op.Ret (operand.Register 8)) ∷ op.Task task_op.Exit ∷ op.Data (data_op.Set 7 (operand.Number 1)) ∷ op.Set (set_op.New 15) ∷ op.Set (set_op.Join (operand.Register 3) (operand.Register 15)) ∷
-    op.Task (task_op.CbWait (operand.Register 15)) ∷ op.Data (data_op.SkipEq (operand.Register 2) (operand.Number 2) 1) ∷ op.Data (data_op.SkipEq (operand.Register 2) (operand.Number 4) 0) ∷
-    op.Call (call_op.Drop (operand.Register 1)) ∷ op.Task (task_op.Ret (operand.Register 2)) ∷ op.Task task_op.Exit ∷ op.Task task_op.TaskCancel ∷
-    op.Task task_op.Exit ∷ []) } ∷ record { kind = kind.Blocking; params = 0; start = (op.Call (call_op.CallSyncHost 6 3) ∷ op.Call (call_op.CallSyncHost 4 3) ∷
-    op.Data (data_op.Set 0 (operand.Register 6)) ∷ []); react = [] } ∷ record { kind = kind.Callback; params = 0; start = (op.Task task_op.CbYield ∷
-    []); react = (op.Data (data_op.SkipEq (operand.Register 0) (operand.Number 6) 2) ∷ op.Task (task_op.Ret (operand.Register 7)) ∷ op.Task task_op.Exit ∷
-    op.Task (task_op.Ret (operand.Register 4)) ∷ op.Task task_op.Exit ∷ []) } ∷ record { kind = kind.Callback; params = 0; start = (op.Set (set_op.New 9) ∷
-    op.Call (call_op.CallHost 4 6 0) ∷ op.Data (data_op.Handle 3 (operand.Register 4)) ∷ op.Set (set_op.Join (operand.Register 3) (operand.Register 9)) ∷
-    op.Data (data_op.Add 8 (operand.Number 1)) ∷ op.Data (data_op.SkipEq (operand.Register 8) (operand.Number 0) 1) ∷ op.Task (task_op.CbWait (operand.Register 9)) ∷
-    op.Set (set_op.Drop (operand.Register 9)) ∷ op.Task (task_op.Ret (operand.Number 6)) ∷ op.Task task_op.Exit ∷ []); react = (op.Data (data_op.SkipEq (operand.Register 0) (operand.Number 6) 10) ∷
-    op.Data (data_op.SkipEq (operand.Register 2) (operand.Number 2) 2) ∷ op.Data (data_op.SkipEq (operand.Register 2) (operand.Number 4) 1) ∷ op.Task (task_op.CbWait (operand.Register 9)) ∷
-    op.Call (call_op.Drop (operand.Register 1)) ∷ op.Data (data_op.Add 8 (operand.Number 18446744073709551615)) ∷ op.Data (data_op.SkipEq (operand.Register 8) (operand.Number 0) 1) ∷
-    op.Task (task_op.CbWait (operand.Register 9)) ∷ op.Set (set_op.Drop (operand.Register 9)) ∷ op.Task (task_op.Ret (operand.Register 6)) ∷ op.Task task_op.Exit ∷
-    op.Set (set_op.Join (operand.Register 3) (operand.Number 0)) ∷ op.Call (call_op.CancelSync 7 (operand.Register 3)) ∷ op.Set (set_op.Join (operand.Register 3) (operand.Register 9)) ∷
-    op.Task (task_op.CbWait (operand.Register 9)) ∷ []) } ∷ record { kind = kind.Stackful; params = 0; start = (op.Call (call_op.CallSync 3 (record {
-    instance = 1; export = 1 }) []) ∷ op.Task (task_op.Ret (operand.Register 3)) ∷ []); react = [] } ∷ record { kind = kind.Stackful; params = 0;
-    start = (op.Call (call_op.Call 10 11 (record { instance = 0; export = 1 }) []) ∷ op.Data (data_op.SkipEq (operand.Register 10) (operand.Number 2) 1) ∷
-    op.Data (data_op.Handle 9 (operand.Register 10)) ∷ op.Call (call_op.Call 10 11 (record { instance = 0; export = 2 }) []) ∷ op.Data (data_op.Handle 1 (operand.Register 10)) ∷
-    op.Call (call_op.Call 10 11 (record { instance = 0; export = 3 }) []) ∷ op.Thread thread_op.Yield ∷ op.Thread thread_op.Yield ∷ op.Call (call_op.Call 10 11 (record {
-    instance = 0; export = 4 }) []) ∷ op.Call (call_op.Cancel 4 (operand.Register 9)) ∷ op.Set (set_op.New 6) ∷ op.Set (set_op.Join (operand.Register 9) (operand.Register 6)) ∷
-    op.Set (set_op.Join (operand.Register 1) (operand.Register 6)) ∷ op.Set (set_op.Poll 10 (operand.Register 6)) ∷ op.Data (data_op.SkipEq (operand.Register 10) (operand.Number 0) 1) ∷
-    op.Call (call_op.Drop (operand.Register 11)) ∷ op.Thread thread_op.Yield ∷ op.Set (set_op.Poll 10 (operand.Register 6)) ∷ op.Data (data_op.SkipEq (operand.Register 10) (operand.Number 0) 1) ∷
-    op.Call (call_op.Drop (operand.Register 11)) ∷ op.Task (task_op.Ret (operand.Register 4)) ∷ []); react = [] } ∷ []); slots = (replicate 16 slot.Empty) } ∷
-    []); hosts = (record { polls = (Some 1); value = (Some 134) } ∷ record { polls = (Some 0); value = (Some 75) } ∷ record { polls = None; value =
-    None } ∷ record { polls = (Some 0); value = (Some 78) } ∷ []) }; names = []; main = (main_op.Quiet ∷ main_op.Spawn 0 ∷ main_op.Spawn 0 ∷
-    main_op.Abort 2 ∷ main_op.Start (record { instance = 3; export = 7 }) [] ∷ main_op.Finish 1 1 ∷ main_op.Start (record { instance = 3; export = 3 }) [] ∷
-    main_op.Spawn 1 ∷ main_op.Abort 3 ∷ main_op.Abort 3 ∷ main_op.Start (record { instance = 3; export = 4 }) [] ∷ main_op.Finish 3 3 ∷ main_op.Finish 2 3 ∷
-    main_op.Start (record { instance = 3; export = 7 }) [] ∷ main_op.Start (record { instance = 3; export = 9 }) [] ∷ main_op.Finish 5 2 ∷
-    main_op.Start (record { instance = 1; export = 0 }) ((operand.Number 15) ∷ (operand.Number 14) ∷ (operand.Number 1) ∷ []) ∷ main_op.Finish 4 2 ∷
-    main_op.Start (record { instance = 3; export = 4 }) [] ∷ main_op.Finish 7 3 ∷ main_op.Await 3 ∷ main_op.Abort 3 ∷ main_op.Await 1 ∷ main_op.Abort 1 ∷
-    main_op.Await 1 ∷ main_op.Start (record { instance = 3; export = 8 }) [] ∷ main_op.Start (record { instance = 3; export = 8 }) [] ∷ main_op.Start (record {
-    instance = 1; export = 2 }) [] ∷ main_op.Start (record { instance = 1; export = 2 }) [] ∷ main_op.Finish 10 9 ∷ main_op.Finish 11 12 ∷
-    main_op.Finish 6 3 ∷ main_op.Finish 8 3 ∷ main_op.Start (record { instance = 1; export = 3 }) [] ∷ main_op.Finish 9 0 ∷ main_op.Start (record {
-    instance = 1; export = 4 }) [] ∷ main_op.Start (record { instance = 1; export = 4 }) [] ∷ main_op.Start (record { instance = 1; export = 4 }) [] ∷
-    main_op.Start (record { instance = 1; export = 6 }) [] ∷ main_op.Finish 12 0 ∷ main_op.Finish 13 0 ∷ main_op.Answer (operand.Register 2) ∷ []);
-    aborters = [] }
-
-abbrev pub generated_25_labels : List Label
-generated_25_labels = label.Main main_label.Quiet ∷ label.Main (main_label.Spawn 1 1) ∷ label.Main (main_label.Spawn 2 2) ∷ label.Main (main_label.Abort phase.Running 2) ∷
-    label.Main (main_label.Start 1 1) ∷ label.Loop loop_label.MainPends ∷ label.Take (take.Push mark.High 1) ∷ label.Loop loop_label.MainPends ∷
-    label.Loop (loop_label.FuturePends 1) ∷ label.Take (take.Push mark.High 2) ∷ label.Loop loop_label.MainPends ∷ label.Loop (loop_label.FutureEnds 1) ∷
-    label.Take (take.Thread mark.High 1) ∷ label.Set (set_label.New 1 1) ∷ label.Call (call_label.CallPolls 33 1 3) ∷ label.Data (data_label.Handle 1 2) ∷
-    label.Set (set_label.Join 1) ∷ label.Data (data_label.Add 1 1) ∷ label.Data (data_label.SkipEq 1) ∷ label.Task (task_label.CbWait 1) ∷ label.Loop loop_label.MainPends ∷
-    label.Loop (loop_label.FutureEnds 2) ∷ label.Take (take.Push mark.High 3) ∷ label.Loop loop_label.MainPends ∷ label.Loop (loop_label.FutureEnds 3) ∷
-    label.Take (take.HostWakes mark.High 3 1) ∷ label.Loop loop_label.MainPends ∷ label.Take (take.Event mark.High (given.Subtask status.Returned 2) 1) ∷
-    label.Data (data_label.SkipEq 1) ∷ label.Data (data_label.SkipEq 1) ∷ label.Call (call_label.Drop 1) ∷ label.Data (data_label.Add 1 0) ∷
-    label.Data (data_label.SkipEq 1) ∷ label.Set (set_label.Drop 1) ∷ label.Task (task_label.Ret 1 134) ∷ label.Task (task_label.Exit 1) ∷ label.Main (main_label.Finish 1 134) ∷
-    label.Main (main_label.Start 2 2) ∷ label.Main (main_label.Spawn 3 4) ∷ label.Main (main_label.Abort phase.Running 3) ∷ label.Main (main_label.Abort phase.AbortRequested 3) ∷
-    label.Main (main_label.Start 3 3) ∷ label.Loop loop_label.MainPends ∷ label.Take (take.Thread mark.High 2) ∷ label.Data (data_label.Add 2 0) ∷
-    label.Data (data_label.Set 2 85) ∷ label.Task (task_label.Exit 2) ∷ label.Loop loop_label.MainPends ∷ label.Take (take.Push mark.High 4) ∷
-    label.Loop loop_label.MainPends ∷ label.Loop (loop_label.FutureEnds 4) ∷ label.Take (take.Thread mark.High 3) ∷ label.Call (call_label.CallPolls 17 3 5) ∷
-    label.Data (data_label.Handle 3 1) ∷ label.Task (task_label.Code 3) ∷ label.Loop loop_label.MainPends ∷ label.Take (take.Push mark.High 5) ∷
-    label.Loop loop_label.MainPends ∷ label.Loop (loop_label.FuturePends 5) ∷ label.Take (take.Event mark.Low given.Nothing 3) ∷ label.Data (data_label.SkipEq 3) ∷
-    label.Data (data_label.SkipEq 3) ∷ label.Data (data_label.Add 3 1) ∷ label.Data (data_label.SkipEq 3) ∷ label.Task (task_label.CbYield 3) ∷
-    label.Loop loop_label.MainPends ∷ label.Loop (loop_label.FuturePends 5) ∷ label.Take (take.Event mark.Low given.Nothing 3) ∷ label.Data (data_label.SkipEq 3) ∷
-    label.Data (data_label.SkipEq 3) ∷ label.Data (data_label.Add 3 2) ∷ label.Data (data_label.SkipEq 3) ∷ label.Call (call_label.Cancel 4294967295 3) ∷
-    label.Data (data_label.SkipEq 3) ∷ label.Data (data_label.Set 3 1) ∷ label.Set (set_label.New 2 3) ∷ label.Set (set_label.Join 3) ∷ label.Task (task_label.CbWait 3) ∷
-    label.Loop loop_label.MainPends ∷ label.Loop (loop_label.FutureEnds 5) ∷ label.Take (take.HostWakes mark.High 5 3) ∷ label.Loop loop_label.MainPends ∷
-    label.Take (take.Event mark.High (given.Subtask status.ReturnCancelled 1) 3) ∷ label.Data (data_label.SkipEq 3) ∷ label.Data (data_label.SkipEq 3) ∷
-    label.Data (data_label.SkipEq 3) ∷ label.Data (data_label.SkipEq 3) ∷ label.Call (call_label.Drop 3) ∷ label.Task (task_label.Ret 3 4) ∷
-    label.Task (task_label.Exit 3) ∷ label.Main (main_label.Finish 3 4) ∷ label.Main (main_label.Finish 2 85) ∷ label.Main (main_label.Start 4 4) ∷
-    label.Main (main_label.Start 5 5) ∷ label.Loop loop_label.MainPends ∷ label.Take (take.Thread mark.High 4) ∷ label.Set (set_label.New 1 4) ∷
-    label.Call (call_label.CallPolls 49 4 6) ∷ label.Data (data_label.Handle 4 3) ∷ label.Set (set_label.Join 4) ∷ label.Data (data_label.Add 4 1) ∷
-    label.Data (data_label.SkipEq 4) ∷ label.Task (task_label.CbWait 4) ∷ label.Loop loop_label.MainPends ∷ label.Take (take.Thread mark.High 5) ∷
-    label.Call (call_label.Calls 5 6) ∷ label.Loop loop_label.MainPends ∷ label.Take (take.Thread mark.Switch 6) ∷ label.Set (set_label.New 1 6) ∷
-    label.Data (data_label.Store 6 1) ∷ label.Task (task_label.CbWait 6) ∷ label.Loop loop_label.MainPends ∷ label.Take (take.Thread mark.Switch 5) ∷
-    label.Call (call_label.Call 65 5) ∷ label.Data (data_label.SkipEq 5) ∷ label.Data (data_label.Handle 5 4) ∷ label.Call (call_label.Calls 5 7) ∷
-    label.Loop loop_label.MainPends ∷ label.Take (take.Thread mark.Switch 7) ∷ label.Data (data_label.Load 7 1) ∷ label.Thread (thread_label.Pauses 7) ∷
-    label.Loop loop_label.MainPends ∷ label.Take (take.Thread mark.Switch 5) ∷ label.Call (call_label.Call 81 5) ∷ label.Data (data_label.Handle 5 5) ∷
-    label.Call (call_label.Calls 5 8) ∷ label.Loop loop_label.MainPends ∷ label.Take (take.Thread mark.Switch 8) ∷ label.Call (call_label.CallPolls 33 8 7) ∷
-    label.Data (data_label.Handle 8 2) ∷ label.Data (data_label.Store 8 2) ∷ label.Task (task_label.Ret 8 2) ∷ label.Task (task_label.Exit 8) ∷
-    label.Loop loop_label.MainPends ∷ label.Take (take.Thread mark.Switch 5) ∷ label.Call (call_label.Call 2 5) ∷ label.Thread (thread_label.Pauses 5) ∷
-    label.Loop loop_label.MainPends ∷ label.Take (take.Push mark.High 6) ∷ label.Loop loop_label.MainPends ∷ label.Loop (loop_label.FutureEnds 6) ∷
-    label.Take (take.Push mark.High 7) ∷ label.Loop loop_label.MainPends ∷ label.Loop (loop_label.FutureEnds 7) ∷ label.Take (take.HostWakes mark.High 6 4) ∷
-    label.Loop loop_label.MainPends ∷ label.Take (take.Host mark.High 7) ∷ label.Loop loop_label.MainPends ∷ label.Take (take.Event mark.High (given.Subtask status.Returned 3) 4) ∷
-    label.Data (data_label.SkipEq 4) ∷ label.Data (data_label.SkipEq 4) ∷ label.Call (call_label.Drop 4) ∷ label.Data (data_label.Add 4 0) ∷
-    label.Data (data_label.SkipEq 4) ∷ label.Set (set_label.Drop 4) ∷ label.Task (task_label.Ret 4 134) ∷ label.Task (task_label.Exit 4) ∷ label.Loop loop_label.MainPends ∷
-    label.Take (take.Thread mark.Low 5) ∷ label.Thread (thread_label.Yield 5) ∷ label.Thread (thread_label.Pauses 5) ∷ label.Loop loop_label.MainPends ∷
-    label.Take (take.Thread mark.Low 5) ∷ label.Thread (thread_label.Yield 5) ∷ label.Call (call_label.Calls 5 9) ∷ label.Loop loop_label.MainPends ∷
-    label.Take (take.Thread mark.Switch 9) ∷ label.Data (data_label.Load 9 1) ∷ label.Data (data_label.Load 9 2) ∷ label.Set (set_label.JoinWakes 9 6) ∷
-    label.Task (task_label.Exit 9) ∷ label.Loop loop_label.MainPends ∷ label.Take (take.Thread mark.Switch 5) ∷ label.Call (call_label.Call 2 5) ∷
-    label.Call (call_label.Cancel 4294967295 5) ∷ label.Set (set_label.New 1 5) ∷ label.Set (set_label.Join 5) ∷ label.Set (set_label.Join 5) ∷
-    label.Set (set_label.Poll given.Nothing 5) ∷ label.Data (data_label.SkipEq 5) ∷ label.Thread (thread_label.Pauses 5) ∷ label.Loop loop_label.MainPends ∷
-    label.Take (take.EventWakes mark.High own.Cancelled 6 7) ∷ label.Data (data_label.SkipEq 6) ∷ label.Task (task_label.CbWait 6) ∷ label.Loop loop_label.MainPends ∷
-    label.Take (take.Thread mark.High 7) ∷ label.Set (set_label.Wait (given.Subtask status.Returned 2) 7) ∷ label.Task (task_label.Ret 7 1) ∷
-    label.Task (task_label.Exit 7) ∷ label.Loop loop_label.MainPends ∷ label.Take (take.Again mark.High 6) ∷ label.Loop loop_label.MainPends ∷
-    label.Take (take.Thread mark.Low 5) ∷ label.Thread (thread_label.Yield 5) ∷ label.Set (set_label.Poll (given.Subtask status.Returned 5) 5) ∷
-    label.Data (data_label.SkipEq 5) ∷ label.Call (call_label.Drop 5) ∷ label.Task (task_label.Ret 5 4294967295) ∷ label.Task (task_label.Exit 5) ∷
-    label.Main (main_label.Finish 5 4294967295) ∷ label.Main (main_label.Start 6 10) ∷ label.Main (main_label.Finish 4 134) ∷ label.Main (main_label.Start 7 11) ∷
-    label.Loop loop_label.MainPends ∷ label.Take (take.Thread mark.High 10) ∷ label.Call (call_label.CallPolls 17 10 8) ∷ label.Data (data_label.SkipEq 10) ∷
-    label.Data (data_label.Handle 10 1) ∷ label.Set (set_label.New 2 10) ∷ label.Set (set_label.Join 10) ∷ label.Thread (thread_label.Pauses 10) ∷
-    label.Loop loop_label.MainPends ∷ label.Take (take.Thread mark.High 11) ∷ label.Call (call_label.CallPolls 81 11 9) ∷ label.Data (data_label.Handle 11 5) ∷
-    label.Task (task_label.Code 11) ∷ label.Loop loop_label.MainPends ∷ label.Take (take.Push mark.High 8) ∷ label.Loop loop_label.MainPends ∷
-    label.Loop (loop_label.FutureEnds 8) ∷ label.Take (take.Push mark.High 9) ∷ label.Loop loop_label.MainPends ∷ label.Loop (loop_label.FuturePends 9) ∷
-    label.Take (take.HostWakes mark.High 8 10) ∷ label.Loop loop_label.MainPends ∷ label.Loop (loop_label.FuturePends 9) ∷ label.Take (take.Thread mark.High 10) ∷
-    label.Set (set_label.Wait (given.Subtask status.Returned 1) 10) ∷ label.Data (data_label.SkipEq 10) ∷ label.Call (call_label.Drop 10) ∷ label.Set (set_label.Drop 10) ∷
-    label.Task (task_label.Ret 10 1) ∷ label.Task (task_label.Exit 10) ∷ label.Loop loop_label.MainPends ∷ label.Loop (loop_label.FuturePends 9) ∷
-    label.Take (take.Event mark.Low given.Nothing 11) ∷ label.Data (data_label.SkipEq 11) ∷ label.Data (data_label.SkipEq 11) ∷ label.Data (data_label.Add 11 1) ∷
-    label.Data (data_label.SkipEq 11) ∷ label.Task (task_label.CbYield 11) ∷ label.Loop loop_label.MainPends ∷ label.Loop (loop_label.FuturePends 9) ∷
-    label.Take (take.Event mark.Low given.Nothing 11) ∷ label.Data (data_label.SkipEq 11) ∷ label.Data (data_label.SkipEq 11) ∷ label.Data (data_label.Add 11 2) ∷
-    label.Data (data_label.SkipEq 11) ∷ label.Call (call_label.Cancel 4294967295 11) ∷ label.Data (data_label.SkipEq 11) ∷ label.Data (data_label.Set 11 1) ∷
-    label.Set (set_label.New 3 11) ∷ label.Set (set_label.Join 11) ∷ label.Task (task_label.CbWait 11) ∷ label.Loop loop_label.MainPends ∷ label.Loop (loop_label.FutureEnds 9) ∷
-    label.Take (take.HostWakes mark.High 9 11) ∷ label.Loop loop_label.MainPends ∷ label.Take (take.Event mark.High (given.Subtask status.ReturnCancelled 5) 11) ∷
-    label.Data (data_label.SkipEq 11) ∷ label.Data (data_label.SkipEq 11) ∷ label.Data (data_label.SkipEq 11) ∷ label.Data (data_label.SkipEq 11) ∷
-    label.Call (call_label.Drop 11) ∷ label.Task (task_label.Ret 11 4) ∷ label.Task (task_label.Exit 11) ∷ label.Main (main_label.Finish 7 4) ∷
-    label.Main (main_label.Await 3) ∷ label.Main (main_label.Abort phase.Complete 3) ∷ label.Main (main_label.Await 1) ∷ label.Main (main_label.Abort phase.Complete 1) ∷
-    label.Main (main_label.Await 1) ∷ label.Main (main_label.Start 8 12) ∷ label.Main (main_label.Start 9 13) ∷ label.Main (main_label.Start 10 14) ∷
-    label.Main (main_label.Start 11 15) ∷ label.Loop loop_label.MainPends ∷ label.Take (take.Thread mark.High 12) ∷ label.Call (call_label.Enters 12 16) ∷
-    label.Set (set_label.New 2 16) ∷ label.Task (task_label.Exit 16) ∷ label.Call (call_label.CallSync 12 0) ∷ label.Task (task_label.Ret 12 0) ∷
-    label.Task (task_label.Exit 12) ∷ label.Loop loop_label.MainPends ∷ label.Take (take.Thread mark.High 13) ∷ label.Call (call_label.Enters 13 17) ∷
-    label.Set (set_label.New 1 17) ∷ label.Task (task_label.Exit 17) ∷ label.Call (call_label.CallSync 13 0) ∷ label.Task (task_label.Ret 13 0) ∷
-    label.Task (task_label.Exit 13) ∷ label.Loop loop_label.MainPends ∷ label.Take (take.Thread mark.High 14) ∷ label.Call (call_label.Enters 14 18) ∷
-    label.Set (set_label.New 3 18) ∷ label.Thread (thread_label.Index 2 18) ∷ label.Set (set_label.Drop 18) ∷ label.Task (task_label.Exit 18) ∷ []

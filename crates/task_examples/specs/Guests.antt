@@ -26,10 +26,23 @@ use Rattle.task_machine.specs.declared.trap.Trap.TheVariants as trap
 
 -- a: f
 abbrev pub backpressure_lowered_below_zero_traps : Scenario
-backpressure_lowered_below_zero_traps = record { handles = 100000; table = 1000000; idle = idle_line.Trap; component = record { instances = (record {
-    exports = (record { kind = kind.Callback; params = 0; start = (op.Task task_op.BpDec ∷ []); react = [] } ∷ []); slots = (replicate 16 slot.Empty) } ∷
-    []); hosts = [] }; names = []; main = (main_op.Start (record { instance = 0; export = 0 }) [] ∷ main_op.Finish 1 0 ∷ main_op.Answer (operand.Register 0) ∷
-    []); aborters = [] }
+backpressure_lowered_below_zero_traps = record {
+  handles = 100000;
+  table = 1000000;
+  idle = idle_line.Trap;
+  component = record {
+    instances = (record {
+      exports = (record { kind = kind.Callback; params = 0; start = (op.Task task_op.BpDec ∷ []); react = [] } ∷ []);
+      slots = (replicate 16 slot.Empty);
+    } ∷
+        []);
+    hosts = [];
+  };
+  names = [];
+  main = (main_op.Start (record { instance = 0; export = 0 }) [] ∷ main_op.Finish 1 0 ∷ main_op.Answer (operand.Register 0) ∷
+      []);
+  aborters = [];
+}
 
 abbrev pub backpressure_lowered_below_zero_traps_labels : List Label
 backpressure_lowered_below_zero_traps_labels = label.Main (main_label.Start 1 1) ∷ label.Loop loop_label.MainPends ∷ label.Take (take.Thread mark.High 1) ∷
@@ -37,12 +50,35 @@ backpressure_lowered_below_zero_traps_labels = label.Main (main_label.Start 1 1)
 
 -- a: s; b: g
 abbrev pub direct_sync_call_answers_its_result : Scenario
-direct_sync_call_answers_its_result = record { handles = 100000; table = 1000000; idle = idle_line.Trap; component = record { instances = (record {
-    exports = (record { kind = kind.Sync; params = 1; start = (op.Data (data_op.Add 0 (operand.Number 1)) ∷ []); react = [] } ∷ []); slots =
-    (replicate 16 slot.Empty) } ∷ record { exports = (record { kind = kind.Callback; params = 1; start = (op.Call (call_op.CallSync 3 (record {
-    instance = 0; export = 0 }) ((operand.Register 0) ∷ [])) ∷ op.Task (task_op.Ret (operand.Register 3)) ∷ []); react = [] } ∷ []); slots =
-    (replicate 16 slot.Empty) } ∷ []); hosts = [] }; names = []; main = (main_op.Start (record { instance = 1; export = 0 }) ((operand.Number 7) ∷ []) ∷
-    main_op.Finish 1 0 ∷ main_op.Answer (operand.Register 0) ∷ []); aborters = [] }
+direct_sync_call_answers_its_result = record {
+  handles = 100000;
+  table = 1000000;
+  idle = idle_line.Trap;
+  component = record {
+    instances = (record {
+      exports = (record { kind = kind.Sync; params = 1; start = (op.Data (data_op.Add 0 (operand.Number 1)) ∷ []); react = [] } ∷ []);
+      slots =
+          (replicate 16 slot.Empty);
+    } ∷ record {
+      exports = (record {
+        kind = kind.Callback;
+        params = 1;
+        start = (op.Call (call_op.CallSync 3 (record {
+          instance = 0;
+          export = 0;
+        }) ((operand.Register 0) ∷ [])) ∷ op.Task (task_op.Ret (operand.Register 3)) ∷ []);
+        react = [];
+      } ∷ []);
+      slots =
+          (replicate 16 slot.Empty);
+    } ∷ []);
+    hosts = [];
+  };
+  names = [];
+  main = (main_op.Start (record { instance = 1; export = 0 }) ((operand.Number 7) ∷ []) ∷
+      main_op.Finish 1 0 ∷ main_op.Answer (operand.Register 0) ∷ []);
+  aborters = [];
+}
 
 abbrev pub direct_sync_call_answers_its_result_labels : List Label
 direct_sync_call_answers_its_result_labels = label.Main (main_label.Start 1 1) ∷ label.Loop loop_label.MainPends ∷ label.Take (take.Thread mark.High 1) ∷
@@ -51,15 +87,50 @@ direct_sync_call_answers_its_result_labels = label.Main (main_label.Start 1 1) �
 
 -- a: up, down, f; b: g
 abbrev pub held_start_runs_when_backpressure_falls_to_zero : Scenario
-held_start_runs_when_backpressure_falls_to_zero = record { handles = 100000; table = 1000000; idle = idle_line.Trap; component = record { instances =
-    (record { exports = (record { kind = kind.Callback; params = 0; start = (op.Task task_op.BpInc ∷ op.Task (task_op.Ret (operand.Number 0)) ∷ []);
-    react = [] } ∷ record { kind = kind.Sync; params = 0; start = (op.Task task_op.BpDec ∷ []); react = [] } ∷ record { kind = kind.Callback; params =
-    0; start = (op.Task (task_op.Ret (operand.Number 1)) ∷ []); react = [] } ∷ []); slots = (replicate 16 slot.Empty) } ∷ record { exports = (record {
-    kind = kind.Callback; params = 0; start = (op.Call (call_op.Call 3 8 (record { instance = 0; export = 2 }) []) ∷ op.Task (task_op.Ret (operand.Register 3)) ∷
-    []); react = [] } ∷ []); slots = (replicate 16 slot.Empty) } ∷ []); hosts = [] }; names = []; main = (main_op.Start (record { instance = 0; export =
-    0 }) [] ∷ main_op.Finish 1 0 ∷ main_op.Start (record { instance = 1; export = 0 }) [] ∷ main_op.Finish 2 1 ∷ main_op.Start (record { instance = 0;
-    export = 1 }) [] ∷ main_op.Finish 3 0 ∷ main_op.Start (record { instance = 0; export = 2 }) [] ∷ main_op.Finish 4 0 ∷ main_op.Answer (operand.Register 1) ∷
-    []); aborters = [] }
+held_start_runs_when_backpressure_falls_to_zero = record {
+  handles = 100000;
+  table = 1000000;
+  idle = idle_line.Trap;
+  component = record {
+    instances =
+        (record {
+          exports = (record {
+            kind = kind.Callback;
+            params = 0;
+            start = (op.Task task_op.BpInc ∷ op.Task (task_op.Ret (operand.Number 0)) ∷ []);
+            react = [];
+          } ∷ record { kind = kind.Sync; params = 0; start = (op.Task task_op.BpDec ∷ []); react = [] } ∷ record {
+            kind = kind.Callback;
+            params =
+                0;
+            start = (op.Task (task_op.Ret (operand.Number 1)) ∷ []);
+            react = [];
+          } ∷ []);
+          slots = (replicate 16 slot.Empty);
+        } ∷ record {
+          exports = (record {
+            kind = kind.Callback;
+            params = 0;
+            start = (op.Call (call_op.Call 3 8 (record { instance = 0; export = 2 }) []) ∷ op.Task (task_op.Ret (operand.Register 3)) ∷
+                []);
+            react = [];
+          } ∷ []);
+          slots = (replicate 16 slot.Empty);
+        } ∷ []);
+    hosts = [];
+  };
+  names = [];
+  main = (main_op.Start (record {
+    instance = 0;
+    export =
+        0;
+  }) [] ∷ main_op.Finish 1 0 ∷ main_op.Start (record { instance = 1; export = 0 }) [] ∷ main_op.Finish 2 1 ∷ main_op.Start (record {
+    instance = 0;
+    export = 1;
+  }) [] ∷ main_op.Finish 3 0 ∷ main_op.Start (record { instance = 0; export = 2 }) [] ∷ main_op.Finish 4 0 ∷ main_op.Answer (operand.Register 1) ∷
+      []);
+  aborters = [];
+}
 
 abbrev pub held_start_runs_when_backpressure_falls_to_zero_labels : List Label
 held_start_runs_when_backpressure_falls_to_zero_labels = label.Main (main_label.Start 1 1) ∷ label.Loop loop_label.MainPends ∷ label.Take (take.Thread mark.High 1) ∷
@@ -75,13 +146,49 @@ held_start_runs_when_backpressure_falls_to_zero_labels = label.Main (main_label.
 
 -- a: s; b: g; c: m
 abbrev pub outer_caller_is_resumed_while_a_direct_callee_blocks : Scenario
-outer_caller_is_resumed_while_a_direct_callee_blocks = record { handles = 100000; table = 1000000; idle = idle_line.Trap; component = record {
-    instances = (record { exports = (record { kind = kind.Blocking; params = 0; start = (op.Set (set_op.New 3) ∷ op.Set (set_op.Wait 4 (operand.Register 3)) ∷
-    []); react = [] } ∷ []); slots = (replicate 16 slot.Empty) } ∷ record { exports = (record { kind = kind.Callback; params = 0; start = (op.Call (call_op.CallSync 3 (record {
-    instance = 0; export = 0 }) []) ∷ op.Task (task_op.Ret (operand.Register 3)) ∷ []); react = [] } ∷ []); slots = (replicate 16 slot.Empty) } ∷
-    record { exports = (record { kind = kind.Callback; params = 0; start = (op.Call (call_op.Call 3 8 (record { instance = 1; export = 0 }) []) ∷
-    op.Task (task_op.Ret (operand.Register 3)) ∷ []); react = [] } ∷ []); slots = (replicate 16 slot.Empty) } ∷ []); hosts = [] }; names = []; main =
-    (main_op.Start (record { instance = 2; export = 0 }) [] ∷ main_op.Finish 1 0 ∷ main_op.Answer (operand.Register 0) ∷ []); aborters = [] }
+outer_caller_is_resumed_while_a_direct_callee_blocks = record {
+  handles = 100000;
+  table = 1000000;
+  idle = idle_line.Trap;
+  component = record {
+    instances = (record {
+      exports = (record {
+        kind = kind.Blocking;
+        params = 0;
+        start = (op.Set (set_op.New 3) ∷ op.Set (set_op.Wait 4 (operand.Register 3)) ∷
+            []);
+        react = [];
+      } ∷ []);
+      slots = (replicate 16 slot.Empty);
+    } ∷ record {
+      exports = (record {
+        kind = kind.Callback;
+        params = 0;
+        start = (op.Call (call_op.CallSync 3 (record {
+          instance = 0;
+          export = 0;
+        }) []) ∷ op.Task (task_op.Ret (operand.Register 3)) ∷ []);
+        react = [];
+      } ∷ []);
+      slots = (replicate 16 slot.Empty);
+    } ∷
+        record {
+          exports = (record {
+            kind = kind.Callback;
+            params = 0;
+            start = (op.Call (call_op.Call 3 8 (record { instance = 1; export = 0 }) []) ∷
+                op.Task (task_op.Ret (operand.Register 3)) ∷ []);
+            react = [];
+          } ∷ []);
+          slots = (replicate 16 slot.Empty);
+        } ∷ []);
+    hosts = [];
+  };
+  names = [];
+  main =
+      (main_op.Start (record { instance = 2; export = 0 }) [] ∷ main_op.Finish 1 0 ∷ main_op.Answer (operand.Register 0) ∷ []);
+  aborters = [];
+}
 
 abbrev pub outer_caller_is_resumed_while_a_direct_callee_blocks_labels : List Label
 outer_caller_is_resumed_while_a_direct_callee_blocks_labels = label.Main (main_label.Start 1 1) ∷ label.Loop loop_label.MainPends ∷ label.Take (take.Thread mark.High 1) ∷

@@ -28,12 +28,33 @@ use Rattle.task_rules.specs.Texts.{polls}
 
 -- a: f
 abbrev pub async_host_calls_ready_at_once_and_later : Scenario
-async_host_calls_ready_at_once_and_later = record { handles = 100000; table = 1000000; idle = idle_line.Trap; component = record { instances = (record {
-    exports = (record { kind = kind.Callback; params = 0; start = (op.Call (call_op.CallHost 3 8 0) ∷ op.Set (set_op.New 4) ∷ op.Call (call_op.CallHost 5 9 1) ∷
-    op.Set (set_op.Join (operand.Number 2) (operand.Register 4)) ∷ op.Task (task_op.CbWait (operand.Register 4)) ∷ []); react = (op.Task (task_op.Ret (operand.Register 9)) ∷
-    []) } ∷ []); slots = (replicate 16 slot.Empty) } ∷ []); hosts = (record { polls = (Some 0); value = (Some 5) } ∷ record { polls = (Some 2); value =
-    (Some 9) } ∷ []) }; names = []; main = (main_op.Start (record { instance = 0; export = 0 }) [] ∷ main_op.Finish 1 0 ∷ main_op.Answer (operand.Register 0) ∷
-    []); aborters = [] }
+async_host_calls_ready_at_once_and_later = record {
+  handles = 100000;
+  table = 1000000;
+  idle = idle_line.Trap;
+  component = record {
+    instances = (record {
+      exports = (record {
+        kind = kind.Callback;
+        params = 0;
+        start = (op.Call (call_op.CallHost 3 8 0) ∷ op.Set (set_op.New 4) ∷ op.Call (call_op.CallHost 5 9 1) ∷
+            op.Set (set_op.Join (operand.Number 2) (operand.Register 4)) ∷ op.Task (task_op.CbWait (operand.Register 4)) ∷ []);
+        react = (op.Task (task_op.Ret (operand.Register 9)) ∷
+            []);
+      } ∷ []);
+      slots = (replicate 16 slot.Empty);
+    } ∷ []);
+    hosts = (record { polls = (Some 0); value = (Some 5) } ∷ record {
+      polls = (Some 2);
+      value =
+          (Some 9);
+    } ∷ []);
+  };
+  names = [];
+  main = (main_op.Start (record { instance = 0; export = 0 }) [] ∷ main_op.Finish 1 0 ∷ main_op.Answer (operand.Register 0) ∷
+      []);
+  aborters = [];
+}
 
 abbrev pub async_host_calls_ready_at_once_and_later_labels : List Label
 async_host_calls_ready_at_once_and_later_labels = label.Main (main_label.Start 1 1) ∷ label.Loop loop_label.MainPends ∷ label.Take (take.Thread mark.High 1) ∷
@@ -45,9 +66,19 @@ async_host_calls_ready_at_once_and_later_labels = label.Main (main_label.Start 1
 
 -- no instance
 abbrev pub awaited_never_ending_spawn_is_idle : Scenario
-awaited_never_ending_spawn_is_idle = record { handles = 100000; table = 1000000; idle = idle_line.Trap; component = record { instances = []; hosts =
-    (record { polls = None; value = None } ∷ []) }; names = []; main = (main_op.Spawn 0 ∷ main_op.Await 1 ∷ main_op.Answer (operand.Number 3) ∷ []);
-    aborters = [] }
+awaited_never_ending_spawn_is_idle = record {
+  handles = 100000;
+  table = 1000000;
+  idle = idle_line.Trap;
+  component = record {
+    instances = [];
+    hosts =
+        (record { polls = None; value = None } ∷ []);
+  };
+  names = [];
+  main = (main_op.Spawn 0 ∷ main_op.Await 1 ∷ main_op.Answer (operand.Number 3) ∷ []);
+  aborters = [];
+}
 
 abbrev pub awaited_never_ending_spawn_is_idle_labels : List Label
 awaited_never_ending_spawn_is_idle_labels = label.Main (main_label.Spawn 1 1) ∷ label.Loop loop_label.MainPends ∷ label.Take (take.Push mark.High 1) ∷
@@ -55,9 +86,21 @@ awaited_never_ending_spawn_is_idle_labels = label.Main (main_label.Spawn 1 1) �
 
 -- no instance
 abbrev pub failing_spawn_fails_the_run : Scenario
-failing_spawn_fails_the_run = record { handles = 100000; table = 1000000; idle = idle_line.Trap; component = record { instances = []; hosts = (record {
-    polls = (Some 0); value = None } ∷ []) }; names = []; main = (main_op.Spawn 0 ∷ main_op.Await 1 ∷ main_op.Answer (operand.Number 0) ∷ []);
-    aborters = [] }
+failing_spawn_fails_the_run = record {
+  handles = 100000;
+  table = 1000000;
+  idle = idle_line.Trap;
+  component = record {
+    instances = [];
+    hosts = (record {
+      polls = (Some 0);
+      value = None;
+    } ∷ []);
+  };
+  names = [];
+  main = (main_op.Spawn 0 ∷ main_op.Await 1 ∷ main_op.Answer (operand.Number 0) ∷ []);
+  aborters = [];
+}
 
 abbrev pub failing_spawn_fails_the_run_labels : List Label
 failing_spawn_fails_the_run_labels = label.Main (main_label.Spawn 1 1) ∷ label.Loop loop_label.MainPends ∷ label.Take (take.Push mark.High 1) ∷
@@ -65,11 +108,32 @@ failing_spawn_fails_the_run_labels = label.Main (main_label.Spawn 1 1) ∷ label
 
 -- a: f
 abbrev pub live_never_ending_spawn_is_idle_under_idle_trap : Scenario
-live_never_ending_spawn_is_idle_under_idle_trap = record { handles = 100000; table = 1000000; idle = idle_line.Trap; component = record { instances =
-    (record { exports = (record { kind = kind.Callback; params = 0; start = (op.Set (set_op.New 3) ∷ op.Set (set_op.Wait 4 (operand.Register 3)) ∷
-    op.Task (task_op.Ret (operand.Number 0)) ∷ []); react = [] } ∷ []); slots = (replicate 16 slot.Empty) } ∷ []); hosts = (record { polls = None;
-    value = None } ∷ []) }; names = []; main = (main_op.Spawn 0 ∷ main_op.Start (record { instance = 0; export = 0 }) [] ∷ main_op.Finish 1 0 ∷
-    main_op.Answer (operand.Register 0) ∷ []); aborters = [] }
+live_never_ending_spawn_is_idle_under_idle_trap = record {
+  handles = 100000;
+  table = 1000000;
+  idle = idle_line.Trap;
+  component = record {
+    instances =
+        (record {
+          exports = (record {
+            kind = kind.Callback;
+            params = 0;
+            start = (op.Set (set_op.New 3) ∷ op.Set (set_op.Wait 4 (operand.Register 3)) ∷
+                op.Task (task_op.Ret (operand.Number 0)) ∷ []);
+            react = [];
+          } ∷ []);
+          slots = (replicate 16 slot.Empty);
+        } ∷ []);
+    hosts = (record {
+      polls = None;
+      value = None;
+    } ∷ []);
+  };
+  names = [];
+  main = (main_op.Spawn 0 ∷ main_op.Start (record { instance = 0; export = 0 }) [] ∷ main_op.Finish 1 0 ∷
+      main_op.Answer (operand.Register 0) ∷ []);
+  aborters = [];
+}
 
 abbrev pub live_never_ending_spawn_is_idle_under_idle_trap_labels : List Label
 live_never_ending_spawn_is_idle_under_idle_trap_labels = label.Main (main_label.Spawn 1 1) ∷ label.Main (main_label.Start 1 1) ∷ label.Loop loop_label.MainPends ∷
@@ -79,11 +143,32 @@ live_never_ending_spawn_is_idle_under_idle_trap_labels = label.Main (main_label.
 
 -- a: f
 abbrev pub live_never_ending_spawn_is_idle_under_idle_wait : Scenario
-live_never_ending_spawn_is_idle_under_idle_wait = record { handles = 100000; table = 1000000; idle = idle_line.Wait; component = record { instances =
-    (record { exports = (record { kind = kind.Callback; params = 0; start = (op.Set (set_op.New 3) ∷ op.Set (set_op.Wait 4 (operand.Register 3)) ∷
-    op.Task (task_op.Ret (operand.Number 0)) ∷ []); react = [] } ∷ []); slots = (replicate 16 slot.Empty) } ∷ []); hosts = (record { polls = None;
-    value = None } ∷ []) }; names = []; main = (main_op.Spawn 0 ∷ main_op.Start (record { instance = 0; export = 0 }) [] ∷ main_op.Finish 1 0 ∷
-    main_op.Answer (operand.Register 0) ∷ []); aborters = [] }
+live_never_ending_spawn_is_idle_under_idle_wait = record {
+  handles = 100000;
+  table = 1000000;
+  idle = idle_line.Wait;
+  component = record {
+    instances =
+        (record {
+          exports = (record {
+            kind = kind.Callback;
+            params = 0;
+            start = (op.Set (set_op.New 3) ∷ op.Set (set_op.Wait 4 (operand.Register 3)) ∷
+                op.Task (task_op.Ret (operand.Number 0)) ∷ []);
+            react = [];
+          } ∷ []);
+          slots = (replicate 16 slot.Empty);
+        } ∷ []);
+    hosts = (record {
+      polls = None;
+      value = None;
+    } ∷ []);
+  };
+  names = [];
+  main = (main_op.Spawn 0 ∷ main_op.Start (record { instance = 0; export = 0 }) [] ∷ main_op.Finish 1 0 ∷
+      main_op.Answer (operand.Register 0) ∷ []);
+  aborters = [];
+}
 
 abbrev pub live_never_ending_spawn_is_idle_under_idle_wait_labels : List Label
 live_never_ending_spawn_is_idle_under_idle_wait_labels = label.Main (main_label.Spawn 1 1) ∷ label.Main (main_label.Start 1 1) ∷ label.Loop loop_label.MainPends ∷
@@ -93,9 +178,20 @@ live_never_ending_spawn_is_idle_under_idle_wait_labels = label.Main (main_label.
 
 -- no instance
 abbrev pub main_aborts_a_never_ending_spawn : Scenario
-main_aborts_a_never_ending_spawn = record { handles = 100000; table = 1000000; idle = idle_line.Trap; component = record { instances = []; hosts =
-    (record { polls = None; value = None } ∷ []) }; names = []; main = (main_op.Spawn 0 ∷ main_op.Abort 1 ∷ main_op.Await 1 ∷ main_op.Answer (operand.Number 4) ∷
-    []); aborters = [] }
+main_aborts_a_never_ending_spawn = record {
+  handles = 100000;
+  table = 1000000;
+  idle = idle_line.Trap;
+  component = record {
+    instances = [];
+    hosts =
+        (record { polls = None; value = None } ∷ []);
+  };
+  names = [];
+  main = (main_op.Spawn 0 ∷ main_op.Abort 1 ∷ main_op.Await 1 ∷ main_op.Answer (operand.Number 4) ∷
+      []);
+  aborters = [];
+}
 
 abbrev pub main_aborts_a_never_ending_spawn_labels : List Label
 main_aborts_a_never_ending_spawn_labels = label.Main (main_label.Spawn 1 1) ∷ label.Main (main_label.Abort phase.Running 1) ∷ label.Loop loop_label.MainPends ∷
@@ -104,11 +200,32 @@ main_aborts_a_never_ending_spawn_labels = label.Main (main_label.Spawn 1 1) ∷ 
 
 -- a: f
 abbrev pub set_drop_with_a_member_and_no_waiter_traps : Scenario
-set_drop_with_a_member_and_no_waiter_traps = record { handles = 100000; table = 1000000; idle = idle_line.Trap; component = record { instances =
-    (record { exports = (record { kind = kind.Callback; params = 0; start = (op.Set (set_op.New 3) ∷ op.Call (call_op.CallHost 4 8 0) ∷ op.Set (set_op.Join (operand.Number 2) (operand.Register 3)) ∷
-    op.Set (set_op.Drop (operand.Register 3)) ∷ []); react = [] } ∷ []); slots = (replicate 16 slot.Empty) } ∷ []); hosts = (record { polls = (Some 1);
-    value = (Some 5) } ∷ []) }; names = []; main = (main_op.Start (record { instance = 0; export = 0 }) [] ∷ main_op.Finish 1 0 ∷ main_op.Answer (operand.Register 0) ∷
-    []); aborters = [] }
+set_drop_with_a_member_and_no_waiter_traps = record {
+  handles = 100000;
+  table = 1000000;
+  idle = idle_line.Trap;
+  component = record {
+    instances =
+        (record {
+          exports = (record {
+            kind = kind.Callback;
+            params = 0;
+            start = (op.Set (set_op.New 3) ∷ op.Call (call_op.CallHost 4 8 0) ∷ op.Set (set_op.Join (operand.Number 2) (operand.Register 3)) ∷
+                op.Set (set_op.Drop (operand.Register 3)) ∷ []);
+            react = [];
+          } ∷ []);
+          slots = (replicate 16 slot.Empty);
+        } ∷ []);
+    hosts = (record {
+      polls = (Some 1);
+      value = (Some 5);
+    } ∷ []);
+  };
+  names = [];
+  main = (main_op.Start (record { instance = 0; export = 0 }) [] ∷ main_op.Finish 1 0 ∷ main_op.Answer (operand.Register 0) ∷
+      []);
+  aborters = [];
+}
 
 abbrev pub set_drop_with_a_member_and_no_waiter_traps_labels : List Label
 set_drop_with_a_member_and_no_waiter_traps_labels = label.Main (main_label.Start 1 1) ∷ label.Loop loop_label.MainPends ∷ label.Take (take.Thread mark.High 1) ∷

@@ -16,3 +16,5 @@ pub mod Generated3
 pub mod Generated4
 pub mod Generated5
 pub mod Generated6
+pub mod Generated7
+pub mod Generated8

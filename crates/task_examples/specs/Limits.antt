@@ -19,11 +19,26 @@ use Rattle.task_machine.specs.declared.trap.Trap.TheVariants as trap
 
 -- a: f
 abbrev pub full_table_refuses_a_start_and_the_run_goes_on : Scenario
-full_table_refuses_a_start_and_the_run_goes_on = record { handles = 100000; table = 7; idle = idle_line.Trap; component = record { instances = (record {
-    exports = (record { kind = kind.Callback; params = 0; start = (op.Task (task_op.Ret (operand.Number 1)) ∷ []); react = [] } ∷ []); slots =
-    (replicate 16 slot.Empty) } ∷ []); hosts = [] }; names = []; main = (main_op.Start (record { instance = 0; export = 0 }) [] ∷ main_op.Start (record {
-    instance = 0; export = 0 }) [] ∷ main_op.Start (record { instance = 0; export = 0 }) [] ∷ main_op.Finish 1 0 ∷ main_op.Answer (operand.Register 0) ∷
-    []); aborters = [] }
+full_table_refuses_a_start_and_the_run_goes_on = record {
+  handles = 100000;
+  table = 7;
+  idle = idle_line.Trap;
+  component = record {
+    instances = (record {
+      exports = (record { kind = kind.Callback; params = 0; start = (op.Task (task_op.Ret (operand.Number 1)) ∷ []); react = [] } ∷ []);
+      slots =
+          (replicate 16 slot.Empty);
+    } ∷ []);
+    hosts = [];
+  };
+  names = [];
+  main = (main_op.Start (record { instance = 0; export = 0 }) [] ∷ main_op.Start (record {
+    instance = 0;
+    export = 0;
+  }) [] ∷ main_op.Start (record { instance = 0; export = 0 }) [] ∷ main_op.Finish 1 0 ∷ main_op.Answer (operand.Register 0) ∷
+      []);
+  aborters = [];
+}
 
 abbrev pub full_table_refuses_a_start_and_the_run_goes_on_labels : List Label
 full_table_refuses_a_start_and_the_run_goes_on_labels = label.Main (main_label.Start 1 1) ∷ label.Main (main_label.StartRefused trap.TableFull 2) ∷
@@ -32,10 +47,23 @@ full_table_refuses_a_start_and_the_run_goes_on_labels = label.Main (main_label.S
 
 -- a: f
 abbrev pub handle_limit_one_suffices_for_one_thread : Scenario
-handle_limit_one_suffices_for_one_thread = record { handles = 1; table = 1000000; idle = idle_line.Trap; component = record { instances = (record {
-    exports = (record { kind = kind.Callback; params = 1; start = (op.Task (task_op.Ret (operand.Register 0)) ∷ op.Task task_op.Exit ∷ []); react = [] } ∷
-    []); slots = (replicate 16 slot.Empty) } ∷ []); hosts = [] }; names = []; main = (main_op.Start (record { instance = 0; export = 0 }) ((operand.Number 7) ∷
-    []) ∷ main_op.Finish 1 0 ∷ main_op.Answer (operand.Register 0) ∷ []); aborters = [] }
+handle_limit_one_suffices_for_one_thread = record {
+  handles = 1;
+  table = 1000000;
+  idle = idle_line.Trap;
+  component = record {
+    instances = (record {
+      exports = (record { kind = kind.Callback; params = 1; start = (op.Task (task_op.Ret (operand.Register 0)) ∷ op.Task task_op.Exit ∷ []); react = [] } ∷
+          []);
+      slots = (replicate 16 slot.Empty);
+    } ∷ []);
+    hosts = [];
+  };
+  names = [];
+  main = (main_op.Start (record { instance = 0; export = 0 }) ((operand.Number 7) ∷
+      []) ∷ main_op.Finish 1 0 ∷ main_op.Answer (operand.Register 0) ∷ []);
+  aborters = [];
+}
 
 abbrev pub handle_limit_one_suffices_for_one_thread_labels : List Label
 handle_limit_one_suffices_for_one_thread_labels = label.Main (main_label.Start 1 1) ∷ label.Loop loop_label.MainPends ∷ label.Take (take.Thread mark.High 1) ∷
@@ -43,10 +71,23 @@ handle_limit_one_suffices_for_one_thread_labels = label.Main (main_label.Start 1
 
 -- a: f
 abbrev pub handle_limit_zero_traps_the_first_start : Scenario
-handle_limit_zero_traps_the_first_start = record { handles = 0; table = 1000000; idle = idle_line.Trap; component = record { instances = (record {
-    exports = (record { kind = kind.Callback; params = 1; start = (op.Task (task_op.Ret (operand.Register 0)) ∷ op.Task task_op.Exit ∷ []); react = [] } ∷
-    []); slots = (replicate 16 slot.Empty) } ∷ []); hosts = [] }; names = []; main = (main_op.Start (record { instance = 0; export = 0 }) ((operand.Number 7) ∷
-    []) ∷ main_op.Finish 1 0 ∷ main_op.Answer (operand.Register 0) ∷ []); aborters = [] }
+handle_limit_zero_traps_the_first_start = record {
+  handles = 0;
+  table = 1000000;
+  idle = idle_line.Trap;
+  component = record {
+    instances = (record {
+      exports = (record { kind = kind.Callback; params = 1; start = (op.Task (task_op.Ret (operand.Register 0)) ∷ op.Task task_op.Exit ∷ []); react = [] } ∷
+          []);
+      slots = (replicate 16 slot.Empty);
+    } ∷ []);
+    hosts = [];
+  };
+  names = [];
+  main = (main_op.Start (record { instance = 0; export = 0 }) ((operand.Number 7) ∷
+      []) ∷ main_op.Finish 1 0 ∷ main_op.Answer (operand.Register 0) ∷ []);
+  aborters = [];
+}
 
 abbrev pub handle_limit_zero_traps_the_first_start_labels : List Label
 handle_limit_zero_traps_the_first_start_labels = label.Main (main_label.Start 1 1) ∷ label.Loop loop_label.MainPends ∷ label.Loop (loop_label.Trap trap.HandleLimit 1) ∷
@@ -54,10 +95,23 @@ handle_limit_zero_traps_the_first_start_labels = label.Main (main_label.Start 1 
 
 -- a: f
 abbrev pub small_table_refuses_the_only_start : Scenario
-small_table_refuses_the_only_start = record { handles = 100000; table = 3; idle = idle_line.Trap; component = record { instances = (record { exports =
-    (record { kind = kind.Callback; params = 1; start = (op.Task (task_op.Ret (operand.Register 0)) ∷ op.Task task_op.Exit ∷ []); react = [] } ∷ []);
-    slots = (replicate 16 slot.Empty) } ∷ []); hosts = [] }; names = []; main = (main_op.Start (record { instance = 0; export = 0 }) ((operand.Number 7) ∷
-    []) ∷ main_op.Finish 1 0 ∷ main_op.Answer (operand.Register 0) ∷ []); aborters = [] }
+small_table_refuses_the_only_start = record {
+  handles = 100000;
+  table = 3;
+  idle = idle_line.Trap;
+  component = record {
+    instances = (record {
+      exports =
+          (record { kind = kind.Callback; params = 1; start = (op.Task (task_op.Ret (operand.Register 0)) ∷ op.Task task_op.Exit ∷ []); react = [] } ∷ []);
+      slots = (replicate 16 slot.Empty);
+    } ∷ []);
+    hosts = [];
+  };
+  names = [];
+  main = (main_op.Start (record { instance = 0; export = 0 }) ((operand.Number 7) ∷
+      []) ∷ main_op.Finish 1 0 ∷ main_op.Answer (operand.Register 0) ∷ []);
+  aborters = [];
+}
 
 abbrev pub small_table_refuses_the_only_start_labels : List Label
 small_table_refuses_the_only_start_labels = label.Main (main_label.StartRefused trap.TableFull 1) ∷ label.Main (main_label.FinishRefused trap.TableFull 1) ∷

@@ -28,21 +28,56 @@ use Rattle.task_rules.specs.Texts.{polls}
 
 -- db: get; api: do; edge: req
 abbrev pub generated_scenario_of_one_request_runs_to_done : Scenario
-generated_scenario_of_one_request_runs_to_done = record { handles = 100000; table = 1000000; idle = idle_line.Trap; component = record { instances =
-    (record { exports = (record { kind = kind.Callback; params = 1; start = (op.Task task_op.BpInc ∷ op.Data (data_op.Set 9 (operand.Register 0)) ∷
-    op.Call (call_op.CallHost 3 8 0) ∷ op.Set (set_op.New 4) ∷ op.Data (data_op.Handle 5 (operand.Register 3)) ∷ op.Set (set_op.Join (operand.Register 5) (operand.Register 4)) ∷
-    op.Task (task_op.CbWait (operand.Register 4)) ∷ []); react = (op.Data (data_op.Add 8 (operand.Register 9)) ∷ op.Call (call_op.Drop (operand.Register 1)) ∷
-    op.Set (set_op.Drop (operand.Register 4)) ∷ op.Task task_op.BpDec ∷ op.Task (task_op.Ret (operand.Register 8)) ∷ op.Task task_op.Exit ∷ []) } ∷
-    []); slots = (replicate 16 slot.Empty) } ∷ record { exports = (record { kind = kind.Callback; params = 1; start = (op.Data (data_op.Set 9 (operand.Register 0)) ∷
-    op.Call (call_op.Call 3 8 (record { instance = 0; export = 0 }) ((operand.Register 9) ∷ [])) ∷ op.Data (data_op.Handle 5 (operand.Register 3)) ∷
-    op.Set (set_op.New 4) ∷ op.Set (set_op.Join (operand.Register 5) (operand.Register 4)) ∷ op.Task (task_op.CbWait (operand.Register 4)) ∷ []);
-    react = (op.Data (data_op.SkipEq (operand.Register 2) (operand.Number 2) 1) ∷ op.Task (task_op.CbWait (operand.Register 4)) ∷ op.Call (call_op.Drop (operand.Register 1)) ∷
-    op.Set (set_op.Drop (operand.Register 4)) ∷ op.Data (data_op.Add 8 (operand.Number 1)) ∷ op.Task (task_op.Ret (operand.Register 8)) ∷ op.Task task_op.Exit ∷
-    []) } ∷ []); slots = (replicate 16 slot.Empty) } ∷ record { exports = (record { kind = kind.Stackful; params = 1; start = (op.Call (call_op.CallSync 3 (record {
-    instance = 1; export = 0 }) ((operand.Register 0) ∷ [])) ∷ op.Task (task_op.Ret (operand.Register 3)) ∷ op.Task task_op.Exit ∷ []); react = [] } ∷
-    []); slots = (replicate 16 slot.Empty) } ∷ []); hosts = (record { polls = (Some 9); value = (Some 100) } ∷ []) }; names = []; main =
-    (main_op.Start (record { instance = 2; export = 0 }) ((operand.Number 1) ∷ []) ∷ main_op.Finish 1 0 ∷ main_op.Answer (operand.Register 0) ∷ []);
-    aborters = [] }
+generated_scenario_of_one_request_runs_to_done = record {
+  handles = 100000;
+  table = 1000000;
+  idle = idle_line.Trap;
+  component = record {
+    instances =
+        (record {
+          exports = (record {
+            kind = kind.Callback;
+            params = 1;
+            start = (op.Task task_op.BpInc ∷ op.Data (data_op.Set 9 (operand.Register 0)) ∷
+                op.Call (call_op.CallHost 3 8 0) ∷ op.Set (set_op.New 4) ∷ op.Data (data_op.Handle 5 (operand.Register 3)) ∷ op.Set (set_op.Join (operand.Register 5) (operand.Register 4)) ∷
+                op.Task (task_op.CbWait (operand.Register 4)) ∷ []);
+            react = (op.Data (data_op.Add 8 (operand.Register 9)) ∷ op.Call (call_op.Drop (operand.Register 1)) ∷
+                op.Set (set_op.Drop (operand.Register 4)) ∷ op.Task task_op.BpDec ∷ op.Task (task_op.Ret (operand.Register 8)) ∷ op.Task task_op.Exit ∷ []);
+          } ∷
+              []);
+          slots = (replicate 16 slot.Empty);
+        } ∷ record {
+          exports = (record {
+            kind = kind.Callback;
+            params = 1;
+            start = (op.Data (data_op.Set 9 (operand.Register 0)) ∷
+                op.Call (call_op.Call 3 8 (record { instance = 0; export = 0 }) ((operand.Register 9) ∷ [])) ∷ op.Data (data_op.Handle 5 (operand.Register 3)) ∷
+                op.Set (set_op.New 4) ∷ op.Set (set_op.Join (operand.Register 5) (operand.Register 4)) ∷ op.Task (task_op.CbWait (operand.Register 4)) ∷ []);
+            react = (op.Data (data_op.SkipEq (operand.Register 2) (operand.Number 2) 1) ∷ op.Task (task_op.CbWait (operand.Register 4)) ∷ op.Call (call_op.Drop (operand.Register 1)) ∷
+                op.Set (set_op.Drop (operand.Register 4)) ∷ op.Data (data_op.Add 8 (operand.Number 1)) ∷ op.Task (task_op.Ret (operand.Register 8)) ∷ op.Task task_op.Exit ∷
+                []);
+          } ∷ []);
+          slots = (replicate 16 slot.Empty);
+        } ∷ record {
+          exports = (record {
+            kind = kind.Stackful;
+            params = 1;
+            start = (op.Call (call_op.CallSync 3 (record {
+              instance = 1;
+              export = 0;
+            }) ((operand.Register 0) ∷ [])) ∷ op.Task (task_op.Ret (operand.Register 3)) ∷ op.Task task_op.Exit ∷ []);
+            react = [];
+          } ∷
+              []);
+          slots = (replicate 16 slot.Empty);
+        } ∷ []);
+    hosts = (record { polls = (Some 9); value = (Some 100) } ∷ []);
+  };
+  names = [];
+  main =
+      (main_op.Start (record { instance = 2; export = 0 }) ((operand.Number 1) ∷ []) ∷ main_op.Finish 1 0 ∷ main_op.Answer (operand.Register 0) ∷ []);
+  aborters = [];
+}
 
 abbrev pub generated_scenario_of_one_request_runs_to_done_labels : List Label
 generated_scenario_of_one_request_runs_to_done_labels = label.Main (main_label.Start 1 1) ∷ label.Loop loop_label.MainPends ∷ label.Take (take.Thread mark.High 1) ∷

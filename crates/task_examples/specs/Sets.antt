@@ -21,10 +21,28 @@ use Rattle.task_machine.specs.declared.trap.Trap.TheVariants as trap
 
 -- a: f
 abbrev pub callback_wait_on_empty_set_deadlocks : Scenario
-callback_wait_on_empty_set_deadlocks = record { handles = 100000; table = 1000000; idle = idle_line.Trap; component = record { instances = (record {
-    exports = (record { kind = kind.Callback; params = 0; start = (op.Set (set_op.New 3) ∷ op.Task (task_op.CbWait (operand.Register 3)) ∷ []); react =
-    [] } ∷ []); slots = (replicate 16 slot.Empty) } ∷ []); hosts = [] }; names = []; main = (main_op.Start (record { instance = 0; export = 0 }) [] ∷
-    main_op.Finish 1 0 ∷ main_op.Answer (operand.Register 0) ∷ []); aborters = [] }
+callback_wait_on_empty_set_deadlocks = record {
+  handles = 100000;
+  table = 1000000;
+  idle = idle_line.Trap;
+  component = record {
+    instances = (record {
+      exports = (record {
+        kind = kind.Callback;
+        params = 0;
+        start = (op.Set (set_op.New 3) ∷ op.Task (task_op.CbWait (operand.Register 3)) ∷ []);
+        react =
+            [];
+      } ∷ []);
+      slots = (replicate 16 slot.Empty);
+    } ∷ []);
+    hosts = [];
+  };
+  names = [];
+  main = (main_op.Start (record { instance = 0; export = 0 }) [] ∷
+      main_op.Finish 1 0 ∷ main_op.Answer (operand.Register 0) ∷ []);
+  aborters = [];
+}
 
 abbrev pub callback_wait_on_empty_set_deadlocks_labels : List Label
 callback_wait_on_empty_set_deadlocks_labels = label.Main (main_label.Start 1 1) ∷ label.Loop loop_label.MainPends ∷ label.Take (take.Thread mark.High 1) ∷
@@ -33,10 +51,32 @@ callback_wait_on_empty_set_deadlocks_labels = label.Main (main_label.Start 1 1) 
 
 -- a: f
 abbrev pub callback_wait_on_empty_set_is_idle_under_idle_wait : Scenario
-callback_wait_on_empty_set_is_idle_under_idle_wait = record { handles = 100000; table = 1000000; idle = idle_line.Wait; component = record { instances =
-    (record { exports = (record { kind = kind.Callback; params = 0; start = (op.Set (set_op.New 3) ∷ op.Task (task_op.CbWait (operand.Register 3)) ∷
-    []); react = [] } ∷ []); slots = (replicate 16 slot.Empty) } ∷ []); hosts = [] }; names = []; main = (main_op.Start (record { instance = 0; export =
-    0 }) [] ∷ main_op.Finish 1 0 ∷ main_op.Answer (operand.Register 0) ∷ []); aborters = [] }
+callback_wait_on_empty_set_is_idle_under_idle_wait = record {
+  handles = 100000;
+  table = 1000000;
+  idle = idle_line.Wait;
+  component = record {
+    instances =
+        (record {
+          exports = (record {
+            kind = kind.Callback;
+            params = 0;
+            start = (op.Set (set_op.New 3) ∷ op.Task (task_op.CbWait (operand.Register 3)) ∷
+                []);
+            react = [];
+          } ∷ []);
+          slots = (replicate 16 slot.Empty);
+        } ∷ []);
+    hosts = [];
+  };
+  names = [];
+  main = (main_op.Start (record {
+    instance = 0;
+    export =
+        0;
+  }) [] ∷ main_op.Finish 1 0 ∷ main_op.Answer (operand.Register 0) ∷ []);
+  aborters = [];
+}
 
 abbrev pub callback_wait_on_empty_set_is_idle_under_idle_wait_labels : List Label
 callback_wait_on_empty_set_is_idle_under_idle_wait_labels = label.Main (main_label.Start 1 1) ∷ label.Loop loop_label.MainPends ∷ label.Take (take.Thread mark.High 1) ∷
@@ -44,10 +84,29 @@ callback_wait_on_empty_set_is_idle_under_idle_wait_labels = label.Main (main_lab
 
 -- a: f
 abbrev pub freed_set_handle_is_given_again_up_to_the_limit : Scenario
-freed_set_handle_is_given_again_up_to_the_limit = record { handles = 2; table = 1000000; idle = idle_line.Trap; component = record { instances =
-    (record { exports = (record { kind = kind.Callback; params = 0; start = (op.Set (set_op.New 3) ∷ op.Set (set_op.Drop (operand.Register 3)) ∷
-    op.Set (set_op.New 3) ∷ op.Set (set_op.New 4) ∷ []); react = [] } ∷ []); slots = (replicate 16 slot.Empty) } ∷ []); hosts = [] }; names = []; main =
-    (main_op.Start (record { instance = 0; export = 0 }) [] ∷ main_op.Finish 1 0 ∷ main_op.Answer (operand.Register 0) ∷ []); aborters = [] }
+freed_set_handle_is_given_again_up_to_the_limit = record {
+  handles = 2;
+  table = 1000000;
+  idle = idle_line.Trap;
+  component = record {
+    instances =
+        (record {
+          exports = (record {
+            kind = kind.Callback;
+            params = 0;
+            start = (op.Set (set_op.New 3) ∷ op.Set (set_op.Drop (operand.Register 3)) ∷
+                op.Set (set_op.New 3) ∷ op.Set (set_op.New 4) ∷ []);
+            react = [];
+          } ∷ []);
+          slots = (replicate 16 slot.Empty);
+        } ∷ []);
+    hosts = [];
+  };
+  names = [];
+  main =
+      (main_op.Start (record { instance = 0; export = 0 }) [] ∷ main_op.Finish 1 0 ∷ main_op.Answer (operand.Register 0) ∷ []);
+  aborters = [];
+}
 
 abbrev pub freed_set_handle_is_given_again_up_to_the_limit_labels : List Label
 freed_set_handle_is_given_again_up_to_the_limit_labels = label.Main (main_label.Start 1 1) ∷ label.Loop loop_label.MainPends ∷ label.Take (take.Thread mark.High 1) ∷
@@ -56,10 +115,30 @@ freed_set_handle_is_given_again_up_to_the_limit_labels = label.Main (main_label.
 
 -- a: f
 abbrev pub handle_limit_one_stops_the_first_set : Scenario
-handle_limit_one_stops_the_first_set = record { handles = 1; table = 1000000; idle = idle_line.Trap; component = record { instances = (record {
-    exports = (record { kind = kind.Callback; params = 0; start = (op.Set (set_op.New 3) ∷ op.Set (set_op.Drop (operand.Register 3)) ∷ op.Set (set_op.New 3) ∷
-    op.Set (set_op.New 4) ∷ []); react = [] } ∷ []); slots = (replicate 16 slot.Empty) } ∷ []); hosts = [] }; names = []; main = (main_op.Start (record {
-    instance = 0; export = 0 }) [] ∷ main_op.Finish 1 0 ∷ main_op.Answer (operand.Register 0) ∷ []); aborters = [] }
+handle_limit_one_stops_the_first_set = record {
+  handles = 1;
+  table = 1000000;
+  idle = idle_line.Trap;
+  component = record {
+    instances = (record {
+      exports = (record {
+        kind = kind.Callback;
+        params = 0;
+        start = (op.Set (set_op.New 3) ∷ op.Set (set_op.Drop (operand.Register 3)) ∷ op.Set (set_op.New 3) ∷
+            op.Set (set_op.New 4) ∷ []);
+        react = [];
+      } ∷ []);
+      slots = (replicate 16 slot.Empty);
+    } ∷ []);
+    hosts = [];
+  };
+  names = [];
+  main = (main_op.Start (record {
+    instance = 0;
+    export = 0;
+  }) [] ∷ main_op.Finish 1 0 ∷ main_op.Answer (operand.Register 0) ∷ []);
+  aborters = [];
+}
 
 abbrev pub handle_limit_one_stops_the_first_set_labels : List Label
 handle_limit_one_stops_the_first_set_labels = label.Main (main_label.Start 1 1) ∷ label.Loop loop_label.MainPends ∷ label.Take (take.Thread mark.High 1) ∷
@@ -67,10 +146,31 @@ handle_limit_one_stops_the_first_set_labels = label.Main (main_label.Start 1 1) 
 
 -- a: f
 abbrev pub handle_limit_zero_stops_the_start : Scenario
-handle_limit_zero_stops_the_start = record { handles = 0; table = 1000000; idle = idle_line.Trap; component = record { instances = (record { exports =
-    (record { kind = kind.Callback; params = 0; start = (op.Set (set_op.New 3) ∷ op.Set (set_op.Drop (operand.Register 3)) ∷ op.Set (set_op.New 3) ∷
-    op.Set (set_op.New 4) ∷ []); react = [] } ∷ []); slots = (replicate 16 slot.Empty) } ∷ []); hosts = [] }; names = []; main = (main_op.Start (record {
-    instance = 0; export = 0 }) [] ∷ main_op.Finish 1 0 ∷ main_op.Answer (operand.Register 0) ∷ []); aborters = [] }
+handle_limit_zero_stops_the_start = record {
+  handles = 0;
+  table = 1000000;
+  idle = idle_line.Trap;
+  component = record {
+    instances = (record {
+      exports =
+          (record {
+            kind = kind.Callback;
+            params = 0;
+            start = (op.Set (set_op.New 3) ∷ op.Set (set_op.Drop (operand.Register 3)) ∷ op.Set (set_op.New 3) ∷
+                op.Set (set_op.New 4) ∷ []);
+            react = [];
+          } ∷ []);
+      slots = (replicate 16 slot.Empty);
+    } ∷ []);
+    hosts = [];
+  };
+  names = [];
+  main = (main_op.Start (record {
+    instance = 0;
+    export = 0;
+  }) [] ∷ main_op.Finish 1 0 ∷ main_op.Answer (operand.Register 0) ∷ []);
+  aborters = [];
+}
 
 abbrev pub handle_limit_zero_stops_the_start_labels : List Label
 handle_limit_zero_stops_the_start_labels = label.Main (main_label.Start 1 1) ∷ label.Loop loop_label.MainPends ∷ label.Loop (loop_label.Trap trap.HandleLimit 1) ∷
@@ -78,10 +178,24 @@ handle_limit_zero_stops_the_start_labels = label.Main (main_label.Start 1 1) ∷
 
 -- a: f
 abbrev pub unknown_callback_code_traps : Scenario
-unknown_callback_code_traps = record { handles = 100000; table = 1000000; idle = idle_line.Trap; component = record { instances = (record { exports =
-    (record { kind = kind.Callback; params = 0; start = (op.Task (task_op.Code (operand.Number 3)) ∷ []); react = [] } ∷ []); slots = (replicate 16 slot.Empty) } ∷
-    []); hosts = [] }; names = []; main = (main_op.Start (record { instance = 0; export = 0 }) [] ∷ main_op.Finish 1 0 ∷ main_op.Answer (operand.Register 0) ∷
-    []); aborters = [] }
+unknown_callback_code_traps = record {
+  handles = 100000;
+  table = 1000000;
+  idle = idle_line.Trap;
+  component = record {
+    instances = (record {
+      exports =
+          (record { kind = kind.Callback; params = 0; start = (op.Task (task_op.Code (operand.Number 3)) ∷ []); react = [] } ∷ []);
+      slots = (replicate 16 slot.Empty);
+    } ∷
+        []);
+    hosts = [];
+  };
+  names = [];
+  main = (main_op.Start (record { instance = 0; export = 0 }) [] ∷ main_op.Finish 1 0 ∷ main_op.Answer (operand.Register 0) ∷
+      []);
+  aborters = [];
+}
 
 abbrev pub unknown_callback_code_traps_labels : List Label
 unknown_callback_code_traps_labels = label.Main (main_label.Start 1 1) ∷ label.Loop loop_label.MainPends ∷ label.Take (take.Thread mark.High 1) ∷

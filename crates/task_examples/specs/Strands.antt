@@ -25,10 +25,24 @@ use Rattle.task_machine.specs.declared.trap.Trap.TheVariants as trap
 
 -- a: f
 abbrev pub return_in_a_sync_export_traps : Scenario
-return_in_a_sync_export_traps = record { handles = 100000; table = 1000000; idle = idle_line.Trap; component = record { instances = (record { exports =
-    (record { kind = kind.Sync; params = 1; start = (op.Task (task_op.Ret (operand.Number 1)) ∷ []); react = [] } ∷ []); slots = (replicate 16 slot.Empty) } ∷
-    []); hosts = [] }; names = []; main = (main_op.Start (record { instance = 0; export = 0 }) ((operand.Number 7) ∷ []) ∷ main_op.Finish 1 0 ∷
-    main_op.Answer (operand.Register 0) ∷ []); aborters = [] }
+return_in_a_sync_export_traps = record {
+  handles = 100000;
+  table = 1000000;
+  idle = idle_line.Trap;
+  component = record {
+    instances = (record {
+      exports =
+          (record { kind = kind.Sync; params = 1; start = (op.Task (task_op.Ret (operand.Number 1)) ∷ []); react = [] } ∷ []);
+      slots = (replicate 16 slot.Empty);
+    } ∷
+        []);
+    hosts = [];
+  };
+  names = [];
+  main = (main_op.Start (record { instance = 0; export = 0 }) ((operand.Number 7) ∷ []) ∷ main_op.Finish 1 0 ∷
+      main_op.Answer (operand.Register 0) ∷ []);
+  aborters = [];
+}
 
 abbrev pub return_in_a_sync_export_traps_labels : List Label
 return_in_a_sync_export_traps_labels = label.Main (main_label.Start 1 1) ∷ label.Loop loop_label.MainPends ∷ label.Take (take.Thread mark.High 1) ∷
@@ -36,10 +50,23 @@ return_in_a_sync_export_traps_labels = label.Main (main_label.Start 1 1) ∷ lab
 
 -- a: f
 abbrev pub sync_export_answers_its_first_register : Scenario
-sync_export_answers_its_first_register = record { handles = 100000; table = 1000000; idle = idle_line.Trap; component = record { instances = (record {
-    exports = (record { kind = kind.Sync; params = 1; start = (op.Data (data_op.Add 0 (operand.Number 1)) ∷ []); react = [] } ∷ []); slots =
-    (replicate 16 slot.Empty) } ∷ []); hosts = [] }; names = []; main = (main_op.Start (record { instance = 0; export = 0 }) ((operand.Number 7) ∷ []) ∷
-    main_op.Finish 1 0 ∷ main_op.Answer (operand.Register 0) ∷ []); aborters = [] }
+sync_export_answers_its_first_register = record {
+  handles = 100000;
+  table = 1000000;
+  idle = idle_line.Trap;
+  component = record {
+    instances = (record {
+      exports = (record { kind = kind.Sync; params = 1; start = (op.Data (data_op.Add 0 (operand.Number 1)) ∷ []); react = [] } ∷ []);
+      slots =
+          (replicate 16 slot.Empty);
+    } ∷ []);
+    hosts = [];
+  };
+  names = [];
+  main = (main_op.Start (record { instance = 0; export = 0 }) ((operand.Number 7) ∷ []) ∷
+      main_op.Finish 1 0 ∷ main_op.Answer (operand.Register 0) ∷ []);
+  aborters = [];
+}
 
 abbrev pub sync_export_answers_its_first_register_labels : List Label
 sync_export_answers_its_first_register_labels = label.Main (main_label.Start 1 1) ∷ label.Loop loop_label.MainPends ∷ label.Take (take.Thread mark.High 1) ∷
@@ -47,11 +74,30 @@ sync_export_answers_its_first_register_labels = label.Main (main_label.Start 1 1
 
 -- a: g, f
 abbrev pub sync_wait_promotes_a_yield_then_deadlock_nine : Scenario
-sync_wait_promotes_a_yield_then_deadlock_nine = record { handles = 100000; table = 1000000; idle = idle_line.Trap; component = record { instances =
-    (record { exports = (record { kind = kind.Callback; params = 0; start = (op.Set (set_op.New 3) ∷ op.Task task_op.CbYield ∷ []); react = (op.Task (task_op.CbWait (operand.Register 3)) ∷
-    []) } ∷ record { kind = kind.Sync; params = 0; start = (op.Set (set_op.New 3) ∷ op.Set (set_op.Wait 4 (operand.Register 3)) ∷ []); react = [] } ∷
-    []); slots = (replicate 16 slot.Empty) } ∷ []); hosts = [] }; names = []; main = (main_op.Start (record { instance = 0; export = 0 }) [] ∷
-    main_op.Start (record { instance = 0; export = 1 }) [] ∷ main_op.Finish 1 0 ∷ main_op.Answer (operand.Register 0) ∷ []); aborters = [] }
+sync_wait_promotes_a_yield_then_deadlock_nine = record {
+  handles = 100000;
+  table = 1000000;
+  idle = idle_line.Trap;
+  component = record {
+    instances =
+        (record {
+          exports = (record {
+            kind = kind.Callback;
+            params = 0;
+            start = (op.Set (set_op.New 3) ∷ op.Task task_op.CbYield ∷ []);
+            react = (op.Task (task_op.CbWait (operand.Register 3)) ∷
+                []);
+          } ∷ record { kind = kind.Sync; params = 0; start = (op.Set (set_op.New 3) ∷ op.Set (set_op.Wait 4 (operand.Register 3)) ∷ []); react = [] } ∷
+              []);
+          slots = (replicate 16 slot.Empty);
+        } ∷ []);
+    hosts = [];
+  };
+  names = [];
+  main = (main_op.Start (record { instance = 0; export = 0 }) [] ∷
+      main_op.Start (record { instance = 0; export = 1 }) [] ∷ main_op.Finish 1 0 ∷ main_op.Answer (operand.Register 0) ∷ []);
+  aborters = [];
+}
 
 abbrev pub sync_wait_promotes_a_yield_then_deadlock_nine_labels : List Label
 sync_wait_promotes_a_yield_then_deadlock_nine_labels = label.Main (main_label.Start 1 1) ∷ label.Main (main_label.Start 2 2) ∷ label.Loop loop_label.MainPends ∷
@@ -62,11 +108,30 @@ sync_wait_promotes_a_yield_then_deadlock_nine_labels = label.Main (main_label.St
 
 -- a: g, f
 abbrev pub sync_wait_promotes_a_yield_whose_exit_then_traps : Scenario
-sync_wait_promotes_a_yield_whose_exit_then_traps = record { handles = 100000; table = 1000000; idle = idle_line.Trap; component = record { instances =
-    (record { exports = (record { kind = kind.Callback; params = 0; start = (op.Task task_op.CbYield ∷ []); react = (op.Task (task_op.Ret (operand.Number 0)) ∷
-    []) } ∷ record { kind = kind.Sync; params = 0; start = (op.Set (set_op.New 3) ∷ op.Set (set_op.Wait 4 (operand.Register 3)) ∷ []); react = [] } ∷
-    []); slots = (replicate 16 slot.Empty) } ∷ []); hosts = [] }; names = []; main = (main_op.Start (record { instance = 0; export = 0 }) [] ∷
-    main_op.Start (record { instance = 0; export = 1 }) [] ∷ main_op.Finish 1 0 ∷ main_op.Answer (operand.Register 0) ∷ []); aborters = [] }
+sync_wait_promotes_a_yield_whose_exit_then_traps = record {
+  handles = 100000;
+  table = 1000000;
+  idle = idle_line.Trap;
+  component = record {
+    instances =
+        (record {
+          exports = (record {
+            kind = kind.Callback;
+            params = 0;
+            start = (op.Task task_op.CbYield ∷ []);
+            react = (op.Task (task_op.Ret (operand.Number 0)) ∷
+                []);
+          } ∷ record { kind = kind.Sync; params = 0; start = (op.Set (set_op.New 3) ∷ op.Set (set_op.Wait 4 (operand.Register 3)) ∷ []); react = [] } ∷
+              []);
+          slots = (replicate 16 slot.Empty);
+        } ∷ []);
+    hosts = [];
+  };
+  names = [];
+  main = (main_op.Start (record { instance = 0; export = 0 }) [] ∷
+      main_op.Start (record { instance = 0; export = 1 }) [] ∷ main_op.Finish 1 0 ∷ main_op.Answer (operand.Register 0) ∷ []);
+  aborters = [];
+}
 
 abbrev pub sync_wait_promotes_a_yield_whose_exit_then_traps_labels : List Label
 sync_wait_promotes_a_yield_whose_exit_then_traps_labels = label.Main (main_label.Start 1 1) ∷ label.Main (main_label.Start 2 2) ∷ label.Loop loop_label.MainPends ∷
@@ -76,11 +141,30 @@ sync_wait_promotes_a_yield_whose_exit_then_traps_labels = label.Main (main_label
 
 -- a: g, f
 abbrev pub wait_in_sync_export_with_nothing_to_promote_traps : Scenario
-wait_in_sync_export_with_nothing_to_promote_traps = record { handles = 100000; table = 1000000; idle = idle_line.Trap; component = record { instances =
-    (record { exports = (record { kind = kind.Callback; params = 0; start = (op.Task task_op.CbYield ∷ []); react = (op.Task (task_op.Ret (operand.Number 0)) ∷
-    []) } ∷ record { kind = kind.Sync; params = 0; start = (op.Set (set_op.New 3) ∷ op.Set (set_op.Wait 4 (operand.Register 3)) ∷ []); react = [] } ∷
-    []); slots = (replicate 16 slot.Empty) } ∷ []); hosts = [] }; names = []; main = (main_op.Start (record { instance = 0; export = 1 }) [] ∷
-    main_op.Finish 1 0 ∷ main_op.Answer (operand.Register 0) ∷ []); aborters = [] }
+wait_in_sync_export_with_nothing_to_promote_traps = record {
+  handles = 100000;
+  table = 1000000;
+  idle = idle_line.Trap;
+  component = record {
+    instances =
+        (record {
+          exports = (record {
+            kind = kind.Callback;
+            params = 0;
+            start = (op.Task task_op.CbYield ∷ []);
+            react = (op.Task (task_op.Ret (operand.Number 0)) ∷
+                []);
+          } ∷ record { kind = kind.Sync; params = 0; start = (op.Set (set_op.New 3) ∷ op.Set (set_op.Wait 4 (operand.Register 3)) ∷ []); react = [] } ∷
+              []);
+          slots = (replicate 16 slot.Empty);
+        } ∷ []);
+    hosts = [];
+  };
+  names = [];
+  main = (main_op.Start (record { instance = 0; export = 1 }) [] ∷
+      main_op.Finish 1 0 ∷ main_op.Answer (operand.Register 0) ∷ []);
+  aborters = [];
+}
 
 abbrev pub wait_in_sync_export_with_nothing_to_promote_traps_labels : List Label
 wait_in_sync_export_with_nothing_to_promote_traps_labels = label.Main (main_label.Start 1 1) ∷ label.Loop loop_label.MainPends ∷ label.Take (take.Thread mark.High 1) ∷
@@ -88,10 +172,32 @@ wait_in_sync_export_with_nothing_to_promote_traps_labels = label.Main (main_labe
 
 -- a: f
 abbrev pub wait_on_empty_set_deadlocks : Scenario
-wait_on_empty_set_deadlocks = record { handles = 100000; table = 1000000; idle = idle_line.Trap; component = record { instances = (record { exports =
-    (record { kind = kind.Callback; params = 0; start = (op.Set (set_op.New 3) ∷ op.Set (set_op.Wait 4 (operand.Register 3)) ∷ op.Task (task_op.Ret (operand.Number 0)) ∷
-    []); react = [] } ∷ []); slots = (replicate 16 slot.Empty) } ∷ []); hosts = [] }; names = []; main = (main_op.Start (record { instance = 0; export =
-    0 }) [] ∷ main_op.Finish 1 0 ∷ main_op.Answer (operand.Register 0) ∷ []); aborters = [] }
+wait_on_empty_set_deadlocks = record {
+  handles = 100000;
+  table = 1000000;
+  idle = idle_line.Trap;
+  component = record {
+    instances = (record {
+      exports =
+          (record {
+            kind = kind.Callback;
+            params = 0;
+            start = (op.Set (set_op.New 3) ∷ op.Set (set_op.Wait 4 (operand.Register 3)) ∷ op.Task (task_op.Ret (operand.Number 0)) ∷
+                []);
+            react = [];
+          } ∷ []);
+      slots = (replicate 16 slot.Empty);
+    } ∷ []);
+    hosts = [];
+  };
+  names = [];
+  main = (main_op.Start (record {
+    instance = 0;
+    export =
+        0;
+  }) [] ∷ main_op.Finish 1 0 ∷ main_op.Answer (operand.Register 0) ∷ []);
+  aborters = [];
+}
 
 abbrev pub wait_on_empty_set_deadlocks_labels : List Label
 wait_on_empty_set_deadlocks_labels = label.Main (main_label.Start 1 1) ∷ label.Loop loop_label.MainPends ∷ label.Take (take.Thread mark.High 1) ∷
@@ -100,10 +206,29 @@ wait_on_empty_set_deadlocks_labels = label.Main (main_label.Start 1 1) ∷ label
 
 -- a: f
 abbrev pub wait_on_empty_set_is_idle_under_idle_wait : Scenario
-wait_on_empty_set_is_idle_under_idle_wait = record { handles = 100000; table = 1000000; idle = idle_line.Wait; component = record { instances =
-    (record { exports = (record { kind = kind.Callback; params = 0; start = (op.Set (set_op.New 3) ∷ op.Set (set_op.Wait 4 (operand.Register 3)) ∷
-    op.Task (task_op.Ret (operand.Number 0)) ∷ []); react = [] } ∷ []); slots = (replicate 16 slot.Empty) } ∷ []); hosts = [] }; names = []; main =
-    (main_op.Start (record { instance = 0; export = 0 }) [] ∷ main_op.Finish 1 0 ∷ main_op.Answer (operand.Register 0) ∷ []); aborters = [] }
+wait_on_empty_set_is_idle_under_idle_wait = record {
+  handles = 100000;
+  table = 1000000;
+  idle = idle_line.Wait;
+  component = record {
+    instances =
+        (record {
+          exports = (record {
+            kind = kind.Callback;
+            params = 0;
+            start = (op.Set (set_op.New 3) ∷ op.Set (set_op.Wait 4 (operand.Register 3)) ∷
+                op.Task (task_op.Ret (operand.Number 0)) ∷ []);
+            react = [];
+          } ∷ []);
+          slots = (replicate 16 slot.Empty);
+        } ∷ []);
+    hosts = [];
+  };
+  names = [];
+  main =
+      (main_op.Start (record { instance = 0; export = 0 }) [] ∷ main_op.Finish 1 0 ∷ main_op.Answer (operand.Register 0) ∷ []);
+  aborters = [];
+}
 
 abbrev pub wait_on_empty_set_is_idle_under_idle_wait_labels : List Label
 wait_on_empty_set_is_idle_under_idle_wait_labels = label.Main (main_label.Start 1 1) ∷ label.Loop loop_label.MainPends ∷ label.Take (take.Thread mark.High 1) ∷

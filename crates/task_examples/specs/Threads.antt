@@ -27,15 +27,42 @@ use Rattle.task_machine.specs.declared.trap.Trap.TheVariants as trap
 
 -- a: f; b: g
 abbrev pub join_of_a_subtask_under_sync_cancel_traps : Scenario
-join_of_a_subtask_under_sync_cancel_traps = record { handles = 100000; table = 1000000; idle = idle_line.Trap; component = record { instances =
-    (record { exports = (record { kind = kind.Callback; params = 0; start = (op.Set (set_op.New 3) ∷ op.Task (task_op.CbWait (operand.Register 3)) ∷
-    []); react = (op.Task (task_op.CbWait (operand.Register 3)) ∷ []) } ∷ []); slots = (replicate 16 slot.Empty) } ∷ record { exports = (record { kind =
-    kind.Callback; params = 0; start = (op.Call (call_op.Call 3 8 (record { instance = 0; export = 0 }) []) ∷ op.Thread (thread_op.New 4 0 (operand.Number 0)) ∷
-    op.Thread (thread_op.ResumeLater (operand.Register 4)) ∷ op.Call (call_op.CancelSync 5 (operand.Number 1)) ∷ op.Task (task_op.Ret (operand.Number 0)) ∷
-    []); react = [] } ∷ []); slots = (slot.Script (op.Set (set_op.Join (operand.Number 1) (operand.Number 0)) ∷ []) ∷ slot.Empty ∷ slot.Empty ∷
-    slot.Empty ∷ slot.Empty ∷ slot.Empty ∷ slot.Empty ∷ slot.Empty ∷ slot.Empty ∷ slot.Empty ∷ slot.Empty ∷ slot.Empty ∷ slot.Empty ∷ slot.Empty ∷
-    slot.Empty ∷ slot.Empty ∷ []) } ∷ []); hosts = [] }; names = []; main = (main_op.Start (record { instance = 1; export = 0 }) [] ∷ main_op.Finish 1 0 ∷
-    main_op.Answer (operand.Register 0) ∷ []); aborters = [] }
+join_of_a_subtask_under_sync_cancel_traps = record {
+  handles = 100000;
+  table = 1000000;
+  idle = idle_line.Trap;
+  component = record {
+    instances =
+        (record {
+          exports = (record {
+            kind = kind.Callback;
+            params = 0;
+            start = (op.Set (set_op.New 3) ∷ op.Task (task_op.CbWait (operand.Register 3)) ∷
+                []);
+            react = (op.Task (task_op.CbWait (operand.Register 3)) ∷ []);
+          } ∷ []);
+          slots = (replicate 16 slot.Empty);
+        } ∷ record {
+          exports = (record {
+            kind =
+                kind.Callback;
+            params = 0;
+            start = (op.Call (call_op.Call 3 8 (record { instance = 0; export = 0 }) []) ∷ op.Thread (thread_op.New 4 0 (operand.Number 0)) ∷
+                op.Thread (thread_op.ResumeLater (operand.Register 4)) ∷ op.Call (call_op.CancelSync 5 (operand.Number 1)) ∷ op.Task (task_op.Ret (operand.Number 0)) ∷
+                []);
+            react = [];
+          } ∷ []);
+          slots = (slot.Script (op.Set (set_op.Join (operand.Number 1) (operand.Number 0)) ∷ []) ∷ slot.Empty ∷ slot.Empty ∷
+              slot.Empty ∷ slot.Empty ∷ slot.Empty ∷ slot.Empty ∷ slot.Empty ∷ slot.Empty ∷ slot.Empty ∷ slot.Empty ∷ slot.Empty ∷ slot.Empty ∷ slot.Empty ∷
+              slot.Empty ∷ slot.Empty ∷ []);
+        } ∷ []);
+    hosts = [];
+  };
+  names = [];
+  main = (main_op.Start (record { instance = 1; export = 0 }) [] ∷ main_op.Finish 1 0 ∷
+      main_op.Answer (operand.Register 0) ∷ []);
+  aborters = [];
+}
 
 abbrev pub join_of_a_subtask_under_sync_cancel_traps_labels : List Label
 join_of_a_subtask_under_sync_cancel_traps_labels = label.Main (main_label.Start 1 1) ∷ label.Loop loop_label.MainPends ∷ label.Take (take.Thread mark.High 1) ∷
@@ -48,14 +75,34 @@ join_of_a_subtask_under_sync_cancel_traps_labels = label.Main (main_label.Start 
 
 -- a: g
 abbrev pub set_drop_with_a_woken_waiter_that_has_not_run_traps : Scenario
-set_drop_with_a_woken_waiter_that_has_not_run_traps = record { handles = 100000; table = 1000000; idle = idle_line.Trap; component = record {
-    instances = (record { exports = (record { kind = kind.Stackful; params = 0; start = (op.Set (set_op.New 3) ∷ op.Call (call_op.CallHost 4 8 0) ∷
-    op.Thread (thread_op.New 5 0 (operand.Number 0)) ∷ op.Thread (thread_op.ResumeLater (operand.Register 5)) ∷ op.Thread thread_op.Yield ∷ op.Set (set_op.Join (operand.Number 2) (operand.Number 1)) ∷
-    op.Set (set_op.Join (operand.Number 2) (operand.Number 0)) ∷ op.Set (set_op.Drop (operand.Number 1)) ∷ []); react = [] } ∷ []); slots =
-    (slot.Script (op.Set (set_op.Wait 3 (operand.Number 1)) ∷ []) ∷ slot.Empty ∷ slot.Empty ∷ slot.Empty ∷ slot.Empty ∷ slot.Empty ∷ slot.Empty ∷
-    slot.Empty ∷ slot.Empty ∷ slot.Empty ∷ slot.Empty ∷ slot.Empty ∷ slot.Empty ∷ slot.Empty ∷ slot.Empty ∷ slot.Empty ∷ []) } ∷ []); hosts = (record {
-    polls = (Some 1); value = (Some 5) } ∷ []) }; names = []; main = (main_op.Start (record { instance = 0; export = 0 }) [] ∷ main_op.Finish 1 0 ∷
-    main_op.Answer (operand.Register 0) ∷ []); aborters = [] }
+set_drop_with_a_woken_waiter_that_has_not_run_traps = record {
+  handles = 100000;
+  table = 1000000;
+  idle = idle_line.Trap;
+  component = record {
+    instances = (record {
+      exports = (record {
+        kind = kind.Stackful;
+        params = 0;
+        start = (op.Set (set_op.New 3) ∷ op.Call (call_op.CallHost 4 8 0) ∷
+            op.Thread (thread_op.New 5 0 (operand.Number 0)) ∷ op.Thread (thread_op.ResumeLater (operand.Register 5)) ∷ op.Thread thread_op.Yield ∷ op.Set (set_op.Join (operand.Number 2) (operand.Number 1)) ∷
+            op.Set (set_op.Join (operand.Number 2) (operand.Number 0)) ∷ op.Set (set_op.Drop (operand.Number 1)) ∷ []);
+        react = [];
+      } ∷ []);
+      slots =
+          (slot.Script (op.Set (set_op.Wait 3 (operand.Number 1)) ∷ []) ∷ slot.Empty ∷ slot.Empty ∷ slot.Empty ∷ slot.Empty ∷ slot.Empty ∷ slot.Empty ∷
+          slot.Empty ∷ slot.Empty ∷ slot.Empty ∷ slot.Empty ∷ slot.Empty ∷ slot.Empty ∷ slot.Empty ∷ slot.Empty ∷ slot.Empty ∷ []);
+    } ∷ []);
+    hosts = (record {
+      polls = (Some 1);
+      value = (Some 5);
+    } ∷ []);
+  };
+  names = [];
+  main = (main_op.Start (record { instance = 0; export = 0 }) [] ∷ main_op.Finish 1 0 ∷
+      main_op.Answer (operand.Register 0) ∷ []);
+  aborters = [];
+}
 
 abbrev pub set_drop_with_a_woken_waiter_that_has_not_run_traps_labels : List Label
 set_drop_with_a_woken_waiter_that_has_not_run_traps_labels = label.Main (main_label.Start 1 1) ∷ label.Loop loop_label.MainPends ∷ label.Take (take.Thread mark.High 1) ∷
@@ -67,12 +114,30 @@ set_drop_with_a_woken_waiter_that_has_not_run_traps_labels = label.Main (main_la
 
 -- a: f
 abbrev pub thread_new_from_a_bad_slot_traps : Scenario
-thread_new_from_a_bad_slot_traps = record { handles = 100000; table = 1000000; idle = idle_line.Trap; component = record { instances = (record {
-    exports = (record { kind = kind.Stackful; params = 0; start = (op.Thread (thread_op.New 3 0 (operand.Number 0)) ∷ op.Thread (thread_op.YieldThenPromote (operand.Register 3)) ∷
-    op.Task (task_op.Ret (operand.Number 0)) ∷ []); react = [] } ∷ []); slots = (slot.Bad ∷ slot.Empty ∷ slot.Empty ∷ slot.Empty ∷ slot.Empty ∷
-    slot.Empty ∷ slot.Empty ∷ slot.Empty ∷ slot.Empty ∷ slot.Empty ∷ slot.Empty ∷ slot.Empty ∷ slot.Empty ∷ slot.Empty ∷ slot.Empty ∷ slot.Empty ∷ []) } ∷
-    []); hosts = [] }; names = []; main = (main_op.Start (record { instance = 0; export = 0 }) [] ∷ main_op.Finish 1 0 ∷ main_op.Answer (operand.Register 0) ∷
-    []); aborters = [] }
+thread_new_from_a_bad_slot_traps = record {
+  handles = 100000;
+  table = 1000000;
+  idle = idle_line.Trap;
+  component = record {
+    instances = (record {
+      exports = (record {
+        kind = kind.Stackful;
+        params = 0;
+        start = (op.Thread (thread_op.New 3 0 (operand.Number 0)) ∷ op.Thread (thread_op.YieldThenPromote (operand.Register 3)) ∷
+            op.Task (task_op.Ret (operand.Number 0)) ∷ []);
+        react = [];
+      } ∷ []);
+      slots = (slot.Bad ∷ slot.Empty ∷ slot.Empty ∷ slot.Empty ∷ slot.Empty ∷
+          slot.Empty ∷ slot.Empty ∷ slot.Empty ∷ slot.Empty ∷ slot.Empty ∷ slot.Empty ∷ slot.Empty ∷ slot.Empty ∷ slot.Empty ∷ slot.Empty ∷ slot.Empty ∷ []);
+    } ∷
+        []);
+    hosts = [];
+  };
+  names = [];
+  main = (main_op.Start (record { instance = 0; export = 0 }) [] ∷ main_op.Finish 1 0 ∷ main_op.Answer (operand.Register 0) ∷
+      []);
+  aborters = [];
+}
 
 abbrev pub thread_new_from_a_bad_slot_traps_labels : List Label
 thread_new_from_a_bad_slot_traps_labels = label.Main (main_label.Start 1 1) ∷ label.Loop loop_label.MainPends ∷ label.Take (take.Thread mark.High 1) ∷
@@ -80,10 +145,29 @@ thread_new_from_a_bad_slot_traps_labels = label.Main (main_label.Start 1 1) ∷ 
 
 -- a: f
 abbrev pub thread_new_from_a_slot_without_a_line_traps : Scenario
-thread_new_from_a_slot_without_a_line_traps = record { handles = 100000; table = 1000000; idle = idle_line.Trap; component = record { instances =
-    (record { exports = (record { kind = kind.Stackful; params = 0; start = (op.Thread (thread_op.New 3 0 (operand.Number 0)) ∷ op.Thread (thread_op.YieldThenPromote (operand.Register 3)) ∷
-    op.Task (task_op.Ret (operand.Number 0)) ∷ []); react = [] } ∷ []); slots = (replicate 16 slot.Empty) } ∷ []); hosts = [] }; names = []; main =
-    (main_op.Start (record { instance = 0; export = 0 }) [] ∷ main_op.Finish 1 0 ∷ main_op.Answer (operand.Register 0) ∷ []); aborters = [] }
+thread_new_from_a_slot_without_a_line_traps = record {
+  handles = 100000;
+  table = 1000000;
+  idle = idle_line.Trap;
+  component = record {
+    instances =
+        (record {
+          exports = (record {
+            kind = kind.Stackful;
+            params = 0;
+            start = (op.Thread (thread_op.New 3 0 (operand.Number 0)) ∷ op.Thread (thread_op.YieldThenPromote (operand.Register 3)) ∷
+                op.Task (task_op.Ret (operand.Number 0)) ∷ []);
+            react = [];
+          } ∷ []);
+          slots = (replicate 16 slot.Empty);
+        } ∷ []);
+    hosts = [];
+  };
+  names = [];
+  main =
+      (main_op.Start (record { instance = 0; export = 0 }) [] ∷ main_op.Finish 1 0 ∷ main_op.Answer (operand.Register 0) ∷ []);
+  aborters = [];
+}
 
 abbrev pub thread_new_from_a_slot_without_a_line_traps_labels : List Label
 thread_new_from_a_slot_without_a_line_traps_labels = label.Main (main_label.Start 1 1) ∷ label.Loop loop_label.MainPends ∷ label.Take (take.Thread mark.High 1) ∷
@@ -91,10 +175,31 @@ thread_new_from_a_slot_without_a_line_traps_labels = label.Main (main_label.Star
 
 -- a: f
 abbrev pub thread_that_resumes_itself_traps : Scenario
-thread_that_resumes_itself_traps = record { handles = 100000; table = 1000000; idle = idle_line.Trap; component = record { instances = (record {
-    exports = (record { kind = kind.Callback; params = 0; start = (op.Thread (thread_op.Index 3) ∷ op.Thread (thread_op.ResumeLater (operand.Register 3)) ∷
-    []); react = [] } ∷ []); slots = (replicate 16 slot.Empty) } ∷ []); hosts = [] }; names = []; main = (main_op.Start (record { instance = 0; export =
-    0 }) [] ∷ main_op.Finish 1 0 ∷ main_op.Answer (operand.Register 0) ∷ []); aborters = [] }
+thread_that_resumes_itself_traps = record {
+  handles = 100000;
+  table = 1000000;
+  idle = idle_line.Trap;
+  component = record {
+    instances = (record {
+      exports = (record {
+        kind = kind.Callback;
+        params = 0;
+        start = (op.Thread (thread_op.Index 3) ∷ op.Thread (thread_op.ResumeLater (operand.Register 3)) ∷
+            []);
+        react = [];
+      } ∷ []);
+      slots = (replicate 16 slot.Empty);
+    } ∷ []);
+    hosts = [];
+  };
+  names = [];
+  main = (main_op.Start (record {
+    instance = 0;
+    export =
+        0;
+  }) [] ∷ main_op.Finish 1 0 ∷ main_op.Answer (operand.Register 0) ∷ []);
+  aborters = [];
+}
 
 abbrev pub thread_that_resumes_itself_traps_labels : List Label
 thread_that_resumes_itself_traps_labels = label.Main (main_label.Start 1 1) ∷ label.Loop loop_label.MainPends ∷ label.Take (take.Thread mark.High 1) ∷
@@ -102,14 +207,32 @@ thread_that_resumes_itself_traps_labels = label.Main (main_label.Start 1 1) ∷ 
 
 -- a: g
 abbrev pub woken_thread_whose_event_was_taken_waits_again : Scenario
-woken_thread_whose_event_was_taken_waits_again = record { handles = 100000; table = 1000000; idle = idle_line.Trap; component = record { instances =
-    (record { exports = (record { kind = kind.Stackful; params = 0; start = (op.Set (set_op.New 3) ∷ op.Call (call_op.CallHost 4 8 0) ∷ op.Thread (thread_op.New 5 0 (operand.Number 0)) ∷
-    op.Thread (thread_op.ResumeLater (operand.Register 5)) ∷ op.Thread (thread_op.New 6 0 (operand.Number 0)) ∷ op.Thread (thread_op.ResumeLater (operand.Register 6)) ∷
-    op.Thread thread_op.Yield ∷ op.Set (set_op.Join (operand.Number 2) (operand.Number 1)) ∷ op.Set (set_op.Poll 9 (operand.Number 1)) ∷ []); react =
-    [] } ∷ []); slots = (slot.Script (op.Set (set_op.Wait 3 (operand.Number 1)) ∷ []) ∷ slot.Empty ∷ slot.Empty ∷ slot.Empty ∷ slot.Empty ∷ slot.Empty ∷
-    slot.Empty ∷ slot.Empty ∷ slot.Empty ∷ slot.Empty ∷ slot.Empty ∷ slot.Empty ∷ slot.Empty ∷ slot.Empty ∷ slot.Empty ∷ slot.Empty ∷ []) } ∷ []);
-    hosts = (record { polls = (Some 1); value = (Some 5) } ∷ []) }; names = []; main = (main_op.Start (record { instance = 0; export = 0 }) [] ∷
-    main_op.Finish 1 0 ∷ main_op.Answer (operand.Register 0) ∷ []); aborters = [] }
+woken_thread_whose_event_was_taken_waits_again = record {
+  handles = 100000;
+  table = 1000000;
+  idle = idle_line.Trap;
+  component = record {
+    instances =
+        (record {
+          exports = (record {
+            kind = kind.Stackful;
+            params = 0;
+            start = (op.Set (set_op.New 3) ∷ op.Call (call_op.CallHost 4 8 0) ∷ op.Thread (thread_op.New 5 0 (operand.Number 0)) ∷
+                op.Thread (thread_op.ResumeLater (operand.Register 5)) ∷ op.Thread (thread_op.New 6 0 (operand.Number 0)) ∷ op.Thread (thread_op.ResumeLater (operand.Register 6)) ∷
+                op.Thread thread_op.Yield ∷ op.Set (set_op.Join (operand.Number 2) (operand.Number 1)) ∷ op.Set (set_op.Poll 9 (operand.Number 1)) ∷ []);
+            react =
+                [];
+          } ∷ []);
+          slots = (slot.Script (op.Set (set_op.Wait 3 (operand.Number 1)) ∷ []) ∷ slot.Empty ∷ slot.Empty ∷ slot.Empty ∷ slot.Empty ∷ slot.Empty ∷
+              slot.Empty ∷ slot.Empty ∷ slot.Empty ∷ slot.Empty ∷ slot.Empty ∷ slot.Empty ∷ slot.Empty ∷ slot.Empty ∷ slot.Empty ∷ slot.Empty ∷ []);
+        } ∷ []);
+    hosts = (record { polls = (Some 1); value = (Some 5) } ∷ []);
+  };
+  names = [];
+  main = (main_op.Start (record { instance = 0; export = 0 }) [] ∷
+      main_op.Finish 1 0 ∷ main_op.Answer (operand.Register 0) ∷ []);
+  aborters = [];
+}
 
 abbrev pub woken_thread_whose_event_was_taken_waits_again_labels : List Label
 woken_thread_whose_event_was_taken_waits_again_labels = label.Main (main_label.Start 1 1) ∷ label.Loop loop_label.MainPends ∷ label.Take (take.Thread mark.High 1) ∷
@@ -124,12 +247,30 @@ woken_thread_whose_event_was_taken_waits_again_labels = label.Main (main_label.S
 
 -- a: f
 abbrev pub yield_then_promote_of_an_unstarted_thread_is_a_plain_yield : Scenario
-yield_then_promote_of_an_unstarted_thread_is_a_plain_yield = record { handles = 100000; table = 1000000; idle = idle_line.Trap; component = record {
-    instances = (record { exports = (record { kind = kind.Stackful; params = 0; start = (op.Thread (thread_op.New 3 0 (operand.Number 0)) ∷ op.Thread (thread_op.YieldThenPromote (operand.Register 3)) ∷
-    op.Task (task_op.Ret (operand.Number 0)) ∷ []); react = [] } ∷ []); slots = (slot.Script [] ∷ slot.Empty ∷ slot.Empty ∷ slot.Empty ∷ slot.Empty ∷
-    slot.Empty ∷ slot.Empty ∷ slot.Empty ∷ slot.Empty ∷ slot.Empty ∷ slot.Empty ∷ slot.Empty ∷ slot.Empty ∷ slot.Empty ∷ slot.Empty ∷ slot.Empty ∷ []) } ∷
-    []); hosts = [] }; names = []; main = (main_op.Start (record { instance = 0; export = 0 }) [] ∷ main_op.Finish 1 0 ∷ main_op.Answer (operand.Register 0) ∷
-    []); aborters = [] }
+yield_then_promote_of_an_unstarted_thread_is_a_plain_yield = record {
+  handles = 100000;
+  table = 1000000;
+  idle = idle_line.Trap;
+  component = record {
+    instances = (record {
+      exports = (record {
+        kind = kind.Stackful;
+        params = 0;
+        start = (op.Thread (thread_op.New 3 0 (operand.Number 0)) ∷ op.Thread (thread_op.YieldThenPromote (operand.Register 3)) ∷
+            op.Task (task_op.Ret (operand.Number 0)) ∷ []);
+        react = [];
+      } ∷ []);
+      slots = (slot.Script [] ∷ slot.Empty ∷ slot.Empty ∷ slot.Empty ∷ slot.Empty ∷
+          slot.Empty ∷ slot.Empty ∷ slot.Empty ∷ slot.Empty ∷ slot.Empty ∷ slot.Empty ∷ slot.Empty ∷ slot.Empty ∷ slot.Empty ∷ slot.Empty ∷ slot.Empty ∷ []);
+    } ∷
+        []);
+    hosts = [];
+  };
+  names = [];
+  main = (main_op.Start (record { instance = 0; export = 0 }) [] ∷ main_op.Finish 1 0 ∷ main_op.Answer (operand.Register 0) ∷
+      []);
+  aborters = [];
+}
 
 abbrev pub yield_then_promote_of_an_unstarted_thread_is_a_plain_yield_labels : List Label
 yield_then_promote_of_an_unstarted_thread_is_a_plain_yield_labels = label.Main (main_label.Start 1 1) ∷ label.Loop loop_label.MainPends ∷ label.Take (take.Thread mark.High 1) ∷

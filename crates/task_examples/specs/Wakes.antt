@@ -29,17 +29,52 @@ use Rattle.task_rules.specs.Texts.{polls}
 
 -- a: f, k; b: g
 abbrev pub cancelled_delivery_hands_its_wake_to_the_next_waiter : Scenario
-cancelled_delivery_hands_its_wake_to_the_next_waiter = record { handles = 100000; table = 1000000; idle = idle_line.Trap; component = record {
-    instances = (record { exports = (record { kind = kind.Callback; params = 0; start = (op.Set (set_op.New 3) ∷ op.Call (call_op.CallHost 4 8 0) ∷
-    op.Thread (thread_op.New 5 0 (operand.Number 0)) ∷ op.Thread (thread_op.ResumeLater (operand.Register 5)) ∷ op.Task (task_op.CbWait (operand.Register 3)) ∷
-    []); react = (op.Task task_op.Exit ∷ []) } ∷ record { kind = kind.Callback; params = 0; start = (op.Set (set_op.Join (operand.Number 2) (operand.Number 1)) ∷
-    op.Task (task_op.Ret (operand.Number 0)) ∷ []); react = [] } ∷ []); slots = (slot.Script (op.Set (set_op.Wait 3 (operand.Number 1)) ∷ op.Task (task_op.Ret (operand.Number 1)) ∷
-    []) ∷ slot.Empty ∷ slot.Empty ∷ slot.Empty ∷ slot.Empty ∷ slot.Empty ∷ slot.Empty ∷ slot.Empty ∷ slot.Empty ∷ slot.Empty ∷ slot.Empty ∷ slot.Empty ∷
-    slot.Empty ∷ slot.Empty ∷ slot.Empty ∷ slot.Empty ∷ []) } ∷ record { exports = (record { kind = kind.Callback; params = 0; start = (op.Call (call_op.Call 3 8 (record {
-    instance = 0; export = 0 }) []) ∷ op.Thread thread_op.Yield ∷ op.Call (call_op.Call 4 9 (record { instance = 0; export = 1 }) []) ∷ op.Call (call_op.Cancel 5 (operand.Number 1)) ∷
-    op.Task (task_op.Ret (operand.Register 5)) ∷ []); react = [] } ∷ []); slots = (replicate 16 slot.Empty) } ∷ []); hosts = (record { polls = (Some 1);
-    value = (Some 5) } ∷ []) }; names = []; main = (main_op.Start (record { instance = 1; export = 0 }) [] ∷ main_op.Finish 1 0 ∷ main_op.Quiet ∷
-    main_op.Answer (operand.Register 0) ∷ []); aborters = [] }
+cancelled_delivery_hands_its_wake_to_the_next_waiter = record {
+  handles = 100000;
+  table = 1000000;
+  idle = idle_line.Trap;
+  component = record {
+    instances = (record {
+      exports = (record {
+        kind = kind.Callback;
+        params = 0;
+        start = (op.Set (set_op.New 3) ∷ op.Call (call_op.CallHost 4 8 0) ∷
+            op.Thread (thread_op.New 5 0 (operand.Number 0)) ∷ op.Thread (thread_op.ResumeLater (operand.Register 5)) ∷ op.Task (task_op.CbWait (operand.Register 3)) ∷
+            []);
+        react = (op.Task task_op.Exit ∷ []);
+      } ∷ record {
+        kind = kind.Callback;
+        params = 0;
+        start = (op.Set (set_op.Join (operand.Number 2) (operand.Number 1)) ∷
+            op.Task (task_op.Ret (operand.Number 0)) ∷ []);
+        react = [];
+      } ∷ []);
+      slots = (slot.Script (op.Set (set_op.Wait 3 (operand.Number 1)) ∷ op.Task (task_op.Ret (operand.Number 1)) ∷
+          []) ∷ slot.Empty ∷ slot.Empty ∷ slot.Empty ∷ slot.Empty ∷ slot.Empty ∷ slot.Empty ∷ slot.Empty ∷ slot.Empty ∷ slot.Empty ∷ slot.Empty ∷ slot.Empty ∷
+          slot.Empty ∷ slot.Empty ∷ slot.Empty ∷ slot.Empty ∷ []);
+    } ∷ record {
+      exports = (record {
+        kind = kind.Callback;
+        params = 0;
+        start = (op.Call (call_op.Call 3 8 (record {
+          instance = 0;
+          export = 0;
+        }) []) ∷ op.Thread thread_op.Yield ∷ op.Call (call_op.Call 4 9 (record { instance = 0; export = 1 }) []) ∷ op.Call (call_op.Cancel 5 (operand.Number 1)) ∷
+            op.Task (task_op.Ret (operand.Register 5)) ∷ []);
+        react = [];
+      } ∷ []);
+      slots = (replicate 16 slot.Empty);
+    } ∷ []);
+    hosts = (record {
+      polls = (Some 1);
+      value = (Some 5);
+    } ∷ []);
+  };
+  names = [];
+  main = (main_op.Start (record { instance = 1; export = 0 }) [] ∷ main_op.Finish 1 0 ∷ main_op.Quiet ∷
+      main_op.Answer (operand.Register 0) ∷ []);
+  aborters = [];
+}
 
 abbrev pub cancelled_delivery_hands_its_wake_to_the_next_waiter_labels : List Label
 cancelled_delivery_hands_its_wake_to_the_next_waiter_labels = label.Main (main_label.Start 1 1) ∷ label.Loop loop_label.MainPends ∷ label.Take (take.Thread mark.High 1) ∷
@@ -58,13 +93,41 @@ cancelled_delivery_hands_its_wake_to_the_next_waiter_labels = label.Main (main_l
 
 -- a: f, h; b: g
 abbrev pub held_yield_stays_held_under_a_cancel : Scenario
-held_yield_stays_held_under_a_cancel = record { handles = 100000; table = 1000000; idle = idle_line.Trap; component = record { instances = (record {
-    exports = (record { kind = kind.Callback; params = 0; start = (op.Task task_op.CbYield ∷ []); react = (op.Task task_op.TaskCancel ∷ []) } ∷ record {
-    kind = kind.Blocking; params = 0; start = (op.Set (set_op.New 3) ∷ op.Set (set_op.Wait 4 (operand.Register 3)) ∷ []); react = [] } ∷ []); slots =
-    (replicate 16 slot.Empty) } ∷ record { exports = (record { kind = kind.Callback; params = 0; start = (op.Call (call_op.Call 3 8 (record { instance =
-    0; export = 0 }) []) ∷ op.Call (call_op.Call 4 9 (record { instance = 0; export = 1 }) []) ∷ op.Thread thread_op.Yield ∷ op.Call (call_op.Cancel 5 (operand.Number 1)) ∷
-    op.Task (task_op.Ret (operand.Register 5)) ∷ []); react = [] } ∷ []); slots = (replicate 16 slot.Empty) } ∷ []); hosts = [] }; names = []; main =
-    (main_op.Start (record { instance = 1; export = 0 }) [] ∷ main_op.Finish 1 0 ∷ main_op.Answer (operand.Register 0) ∷ []); aborters = [] }
+held_yield_stays_held_under_a_cancel = record {
+  handles = 100000;
+  table = 1000000;
+  idle = idle_line.Trap;
+  component = record {
+    instances = (record {
+      exports = (record { kind = kind.Callback; params = 0; start = (op.Task task_op.CbYield ∷ []); react = (op.Task task_op.TaskCancel ∷ []) } ∷ record {
+        kind = kind.Blocking;
+        params = 0;
+        start = (op.Set (set_op.New 3) ∷ op.Set (set_op.Wait 4 (operand.Register 3)) ∷ []);
+        react = [];
+      } ∷ []);
+      slots =
+          (replicate 16 slot.Empty);
+    } ∷ record {
+      exports = (record {
+        kind = kind.Callback;
+        params = 0;
+        start = (op.Call (call_op.Call 3 8 (record {
+          instance =
+              0;
+          export = 0;
+        }) []) ∷ op.Call (call_op.Call 4 9 (record { instance = 0; export = 1 }) []) ∷ op.Thread thread_op.Yield ∷ op.Call (call_op.Cancel 5 (operand.Number 1)) ∷
+            op.Task (task_op.Ret (operand.Register 5)) ∷ []);
+        react = [];
+      } ∷ []);
+      slots = (replicate 16 slot.Empty);
+    } ∷ []);
+    hosts = [];
+  };
+  names = [];
+  main =
+      (main_op.Start (record { instance = 1; export = 0 }) [] ∷ main_op.Finish 1 0 ∷ main_op.Answer (operand.Register 0) ∷ []);
+  aborters = [];
+}
 
 abbrev pub held_yield_stays_held_under_a_cancel_labels : List Label
 held_yield_stays_held_under_a_cancel_labels = label.Main (main_label.Start 1 1) ∷ label.Loop loop_label.MainPends ∷ label.Take (take.Thread mark.High 1) ∷
@@ -78,12 +141,43 @@ held_yield_stays_held_under_a_cancel_labels = label.Main (main_label.Start 1 1) 
 
 -- a: f; b: g
 abbrev pub cancel_leaves_a_stackful_wait_waiting : Scenario
-cancel_leaves_a_stackful_wait_waiting = record { handles = 100000; table = 1000000; idle = idle_line.Trap; component = record { instances = (record {
-    exports = (record { kind = kind.Stackful; params = 0; start = (op.Set (set_op.New 3) ∷ op.Set (set_op.Wait 4 (operand.Register 3)) ∷ op.Task task_op.TaskCancel ∷
-    []); react = [] } ∷ []); slots = (replicate 16 slot.Empty) } ∷ record { exports = (record { kind = kind.Callback; params = 0; start = (op.Call (call_op.Call 3 8 (record {
-    instance = 0; export = 0 }) []) ∷ op.Call (call_op.CancelSync 4 (operand.Number 1)) ∷ op.Call (call_op.Drop (operand.Number 1)) ∷ op.Task (task_op.Ret (operand.Register 4)) ∷
-    []); react = [] } ∷ []); slots = (replicate 16 slot.Empty) } ∷ []); hosts = [] }; names = []; main = (main_op.Start (record { instance = 1; export =
-    0 }) [] ∷ main_op.Finish 1 0 ∷ main_op.Answer (operand.Register 0) ∷ []); aborters = [] }
+cancel_leaves_a_stackful_wait_waiting = record {
+  handles = 100000;
+  table = 1000000;
+  idle = idle_line.Trap;
+  component = record {
+    instances = (record {
+      exports = (record {
+        kind = kind.Stackful;
+        params = 0;
+        start = (op.Set (set_op.New 3) ∷ op.Set (set_op.Wait 4 (operand.Register 3)) ∷ op.Task task_op.TaskCancel ∷
+            []);
+        react = [];
+      } ∷ []);
+      slots = (replicate 16 slot.Empty);
+    } ∷ record {
+      exports = (record {
+        kind = kind.Callback;
+        params = 0;
+        start = (op.Call (call_op.Call 3 8 (record {
+          instance = 0;
+          export = 0;
+        }) []) ∷ op.Call (call_op.CancelSync 4 (operand.Number 1)) ∷ op.Call (call_op.Drop (operand.Number 1)) ∷ op.Task (task_op.Ret (operand.Register 4)) ∷
+            []);
+        react = [];
+      } ∷ []);
+      slots = (replicate 16 slot.Empty);
+    } ∷ []);
+    hosts = [];
+  };
+  names = [];
+  main = (main_op.Start (record {
+    instance = 1;
+    export =
+        0;
+  }) [] ∷ main_op.Finish 1 0 ∷ main_op.Answer (operand.Register 0) ∷ []);
+  aborters = [];
+}
 
 abbrev pub cancel_leaves_a_stackful_wait_waiting_labels : List Label
 cancel_leaves_a_stackful_wait_waiting_labels = label.Main (main_label.Start 1 1) ∷ label.Loop loop_label.MainPends ∷ label.Take (take.Thread mark.High 1) ∷
@@ -93,13 +187,32 @@ cancel_leaves_a_stackful_wait_waiting_labels = label.Main (main_label.Start 1 1)
 
 -- a: g
 abbrev pub least_waiter_is_woken : Scenario
-least_waiter_is_woken = record { handles = 100000; table = 1000000; idle = idle_line.Trap; component = record { instances = (record { exports =
-    (record { kind = kind.Stackful; params = 0; start = (op.Set (set_op.New 3) ∷ op.Call (call_op.CallHost 4 8 0) ∷ op.Thread (thread_op.New 5 0 (operand.Number 0)) ∷
-    op.Thread (thread_op.New 6 0 (operand.Number 0)) ∷ op.Thread (thread_op.ResumeLater (operand.Register 6)) ∷ op.Thread (thread_op.ResumeLater (operand.Register 5)) ∷
-    op.Thread thread_op.Yield ∷ op.Set (set_op.Join (operand.Number 2) (operand.Number 1)) ∷ []); react = [] } ∷ []); slots = (slot.Script (op.Set (set_op.Wait 3 (operand.Number 1)) ∷
-    []) ∷ slot.Empty ∷ slot.Empty ∷ slot.Empty ∷ slot.Empty ∷ slot.Empty ∷ slot.Empty ∷ slot.Empty ∷ slot.Empty ∷ slot.Empty ∷ slot.Empty ∷ slot.Empty ∷
-    slot.Empty ∷ slot.Empty ∷ slot.Empty ∷ slot.Empty ∷ []) } ∷ []); hosts = (record { polls = (Some 1); value = (Some 5) } ∷ []) }; names = []; main =
-    (main_op.Start (record { instance = 0; export = 0 }) [] ∷ main_op.Finish 1 0 ∷ main_op.Answer (operand.Register 0) ∷ []); aborters = [] }
+least_waiter_is_woken = record {
+  handles = 100000;
+  table = 1000000;
+  idle = idle_line.Trap;
+  component = record {
+    instances = (record {
+      exports =
+          (record {
+            kind = kind.Stackful;
+            params = 0;
+            start = (op.Set (set_op.New 3) ∷ op.Call (call_op.CallHost 4 8 0) ∷ op.Thread (thread_op.New 5 0 (operand.Number 0)) ∷
+                op.Thread (thread_op.New 6 0 (operand.Number 0)) ∷ op.Thread (thread_op.ResumeLater (operand.Register 6)) ∷ op.Thread (thread_op.ResumeLater (operand.Register 5)) ∷
+                op.Thread thread_op.Yield ∷ op.Set (set_op.Join (operand.Number 2) (operand.Number 1)) ∷ []);
+            react = [];
+          } ∷ []);
+      slots = (slot.Script (op.Set (set_op.Wait 3 (operand.Number 1)) ∷
+          []) ∷ slot.Empty ∷ slot.Empty ∷ slot.Empty ∷ slot.Empty ∷ slot.Empty ∷ slot.Empty ∷ slot.Empty ∷ slot.Empty ∷ slot.Empty ∷ slot.Empty ∷ slot.Empty ∷
+          slot.Empty ∷ slot.Empty ∷ slot.Empty ∷ slot.Empty ∷ []);
+    } ∷ []);
+    hosts = (record { polls = (Some 1); value = (Some 5) } ∷ []);
+  };
+  names = [];
+  main =
+      (main_op.Start (record { instance = 0; export = 0 }) [] ∷ main_op.Finish 1 0 ∷ main_op.Answer (operand.Register 0) ∷ []);
+  aborters = [];
+}
 
 abbrev pub least_waiter_is_woken_labels : List Label
 least_waiter_is_woken_labels = label.Main (main_label.Start 1 1) ∷ label.Loop loop_label.MainPends ∷ label.Take (take.Thread mark.High 1) ∷ label.Set (set_label.New 1 1) ∷
@@ -114,14 +227,32 @@ least_waiter_is_woken_labels = label.Main (main_label.Start 1 1) ∷ label.Loop 
 
 -- a: g
 abbrev pub woken_thread_takes_its_event_and_the_other_waits_on : Scenario
-woken_thread_takes_its_event_and_the_other_waits_on = record { handles = 100000; table = 1000000; idle = idle_line.Trap; component = record {
-    instances = (record { exports = (record { kind = kind.Stackful; params = 0; start = (op.Set (set_op.New 3) ∷ op.Call (call_op.CallHost 4 8 0) ∷
-    op.Thread (thread_op.New 5 0 (operand.Number 0)) ∷ op.Thread (thread_op.ResumeLater (operand.Register 5)) ∷ op.Thread (thread_op.New 6 0 (operand.Number 0)) ∷
-    op.Thread (thread_op.ResumeLater (operand.Register 6)) ∷ op.Thread thread_op.Yield ∷ op.Set (set_op.Join (operand.Number 2) (operand.Number 1)) ∷
-    []); react = [] } ∷ []); slots = (slot.Script (op.Set (set_op.Wait 3 (operand.Number 1)) ∷ []) ∷ slot.Empty ∷ slot.Empty ∷ slot.Empty ∷ slot.Empty ∷
-    slot.Empty ∷ slot.Empty ∷ slot.Empty ∷ slot.Empty ∷ slot.Empty ∷ slot.Empty ∷ slot.Empty ∷ slot.Empty ∷ slot.Empty ∷ slot.Empty ∷ slot.Empty ∷ []) } ∷
-    []); hosts = (record { polls = (Some 1); value = (Some 5) } ∷ []) }; names = []; main = (main_op.Start (record { instance = 0; export = 0 }) [] ∷
-    main_op.Finish 1 0 ∷ main_op.Answer (operand.Register 0) ∷ []); aborters = [] }
+woken_thread_takes_its_event_and_the_other_waits_on = record {
+  handles = 100000;
+  table = 1000000;
+  idle = idle_line.Trap;
+  component = record {
+    instances = (record {
+      exports = (record {
+        kind = kind.Stackful;
+        params = 0;
+        start = (op.Set (set_op.New 3) ∷ op.Call (call_op.CallHost 4 8 0) ∷
+            op.Thread (thread_op.New 5 0 (operand.Number 0)) ∷ op.Thread (thread_op.ResumeLater (operand.Register 5)) ∷ op.Thread (thread_op.New 6 0 (operand.Number 0)) ∷
+            op.Thread (thread_op.ResumeLater (operand.Register 6)) ∷ op.Thread thread_op.Yield ∷ op.Set (set_op.Join (operand.Number 2) (operand.Number 1)) ∷
+            []);
+        react = [];
+      } ∷ []);
+      slots = (slot.Script (op.Set (set_op.Wait 3 (operand.Number 1)) ∷ []) ∷ slot.Empty ∷ slot.Empty ∷ slot.Empty ∷ slot.Empty ∷
+          slot.Empty ∷ slot.Empty ∷ slot.Empty ∷ slot.Empty ∷ slot.Empty ∷ slot.Empty ∷ slot.Empty ∷ slot.Empty ∷ slot.Empty ∷ slot.Empty ∷ slot.Empty ∷ []);
+    } ∷
+        []);
+    hosts = (record { polls = (Some 1); value = (Some 5) } ∷ []);
+  };
+  names = [];
+  main = (main_op.Start (record { instance = 0; export = 0 }) [] ∷
+      main_op.Finish 1 0 ∷ main_op.Answer (operand.Register 0) ∷ []);
+  aborters = [];
+}
 
 abbrev pub woken_thread_takes_its_event_and_the_other_waits_on_labels : List Label
 woken_thread_takes_its_event_and_the_other_waits_on_labels = label.Main (main_label.Start 1 1) ∷ label.Loop loop_label.MainPends ∷ label.Take (take.Thread mark.High 1) ∷

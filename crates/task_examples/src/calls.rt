@@ -8,35 +8,29 @@ use task_machine::{Outcome, Trap};
 #[tactic(auto, using(crate::proofs::CallsShown::callback_returns_its_parameter_shown))]
 pub fn callback_returns_its_parameter()
     ensures { Example the.callback_returns_its_parameter 7 the.callback_returns_its_parameter_labels (Outcome.Done 7) }
-{
-}
+{}
 
 #[tactic(auto, using(crate::proofs::CallsShown::exit_without_return_traps_shown))]
 pub fn exit_without_return_traps()
     ensures { Example the.exit_without_return_traps 1000 the.exit_without_return_traps_labels (Outcome.Trap Trap.NoAsyncResult) }
-{
-}
+{}
 
 #[tactic(auto, using(crate::proofs::CallsShown::run_stops_when_steps_are_used_up_shown))]
 pub fn run_stops_when_steps_are_used_up()
     ensures { Example the.run_stops_when_steps_are_used_up 6 the.run_stops_when_steps_are_used_up_labels (Outcome.OutOfSteps) }
-{
-}
+{}
 
 #[tactic(auto, using(crate::proofs::CallsShown::second_return_traps_shown))]
 pub fn second_return_traps()
     ensures { Example the.second_return_traps 1000 the.second_return_traps_labels (Outcome.Trap Trap.TaskCancelOrReturnTwice) }
-{
-}
+{}
 
 #[tactic(auto, using(crate::proofs::CallsShown::return_of_the_wrong_type_traps_shown))]
 pub fn return_of_the_wrong_type_traps()
     ensures { Example the.return_of_the_wrong_type_traps 1000 the.return_of_the_wrong_type_traps_labels (Outcome.Trap Trap.TaskReturnInvalid) }
-{
-}
+{}
 
 #[tactic(auto, using(crate::proofs::CallsShown::return_of_the_wrong_type_after_an_end_traps_shown))]
 pub fn return_of_the_wrong_type_after_an_end_traps()
     ensures { Example the.return_of_the_wrong_type_after_an_end_traps 1000 the.return_of_the_wrong_type_after_an_end_traps_labels (Outcome.Trap Trap.TaskCancelOrReturnTwice) }
-{
-}
+{}

@@ -5,32 +5,22 @@ ghost use Rattle.task_examples.specs.Generated3 as the;
 
 use task_machine::{Outcome, Trap};
 
-#[tactic(auto, using(crate::proofs::Generated3Shown::generated_11_shown))]
-pub fn generated_11()
-    ensures { Example the.generated_11 300 the.generated_11_labels (Outcome.Trap Trap.TaskReturnInvalid) }
-{
-}
-
-#[tactic(auto, using(crate::proofs::Generated3Shown::generated_12_shown))]
-pub fn generated_12()
-    ensures { Example the.generated_12 300 the.generated_12_labels (Outcome.Trap Trap.BadHandle) }
-{
-}
-
-#[tactic(auto, using(crate::proofs::Generated3Shown::generated_13_shown))]
-pub fn generated_13()
-    ensures { Example the.generated_13 300 the.generated_13_labels (Outcome.Trap Trap.SubtaskDropNotResolved) }
-{
-}
-
-#[tactic(auto, using(crate::proofs::Generated3Shown::generated_14_shown))]
-pub fn generated_14()
-    ensures { Example the.generated_14 300 the.generated_14_labels (Outcome.Trap Trap.HandleLimit) }
-{
-}
-
 #[tactic(auto, using(crate::proofs::Generated3Shown::generated_15_shown))]
 pub fn generated_15()
     ensures { Example the.generated_15 300 the.generated_15_labels (Outcome.Trap Trap.TableFull) }
-{
-}
+{}
+
+#[tactic(auto, using(crate::proofs::Generated3Shown::generated_16_shown))]
+pub fn generated_16()
+    ensures { Example the.generated_16 300 the.generated_16_labels (Outcome.Trap Trap.BackpressureOverflow) }
+{}
+
+#[tactic(auto, using(crate::proofs::Generated3Shown::generated_17_shown))]
+pub fn generated_17()
+    ensures { Example the.generated_17 300 the.generated_17_labels (Outcome.Trap Trap.WaitableSyncAndAsync) }
+{}
+
+#[tactic(auto, using(crate::proofs::Generated3Shown::generated_18_shown))]
+pub fn generated_18()
+    ensures { Example the.generated_18 300 the.generated_18_labels (Outcome.Trap Trap.ThreadNewIndirectUninitialized) }
+{}

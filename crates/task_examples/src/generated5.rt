@@ -5,32 +5,12 @@ ghost use Rattle.task_examples.specs.Generated5 as the;
 
 use task_machine::{Outcome, Trap};
 
-#[tactic(auto, using(crate::proofs::Generated5Shown::generated_21_shown))]
-pub fn generated_21()
-    ensures { Example the.generated_21 300 the.generated_21_labels (Outcome.Done 1) }
-{
-}
-
 #[tactic(auto, using(crate::proofs::Generated5Shown::generated_22_shown))]
 pub fn generated_22()
     ensures { Example the.generated_22 300 the.generated_22_labels (Outcome.Trap Trap.TaskCancelNotCancelled) }
-{
-}
+{}
 
 #[tactic(auto, using(crate::proofs::Generated5Shown::generated_23_shown))]
 pub fn generated_23()
     ensures { Example the.generated_23 300 the.generated_23_labels (Outcome.Done 0) }
-{
-}
-
-#[tactic(auto, using(crate::proofs::Generated5Shown::generated_24_shown))]
-pub fn generated_24()
-    ensures { Example the.generated_24 300 the.generated_24_labels (Outcome.Trap Trap.TableHasChildren) }
-{
-}
-
-#[tactic(auto, using(crate::proofs::Generated5Shown::generated_25_shown))]
-pub fn generated_25()
-    ensures { Example the.generated_25 300 the.generated_25_labels (Outcome.OutOfSteps) }
-{
-}
+{}

@@ -9,6 +9,8 @@ pub mod generated3;
 pub mod generated4;
 pub mod generated5;
 pub mod generated6;
+pub mod generated7;
+pub mod generated8;
 pub mod guests;
 pub mod hosts;
 pub mod limits;

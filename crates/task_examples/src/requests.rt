@@ -8,5 +8,4 @@ use task_machine::Outcome;
 #[tactic(auto, using(crate::proofs::RequestsShown::generated_scenario_of_one_request_runs_to_done_shown))]
 pub fn generated_scenario_of_one_request_runs_to_done()
     ensures { Example the.generated_scenario_of_one_request_runs_to_done 100 the.generated_scenario_of_one_request_runs_to_done_labels (Outcome.Done 102) }
-{
-}
+{}

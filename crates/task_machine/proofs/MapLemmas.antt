@@ -55,3 +55,16 @@ module _ {X : Type 0} (m : Records X) (n : ℕ) where
 
 pub same_records : {X : Type 0} (m k : Records X) → ((q : ℕ) → get m q ≡ get k q) → m ≡ k
 same_records m k h = same_map m k h
+
+module _ {X Y : Type 0} (g : X → Y) (n : ℕ) (f : X → X) (keeps : (x : X) → g (f x) ≡ g x) where
+  changed-field : (m : Records X) (q : ℕ) (o : Option X) → get m n ≡ o → (b : Bool) → (q == n) ≡ b → option_map g (get (changed m n f o) q) ≡ option_map g (get m q)
+  changed-field m q None is b e = refl
+  changed-field m q (Some x) is true e =
+      let same : q ≡ n = eqb→eq q n (subst T (sym e) tt) in
+      ap (option_map g) (get-insert m n (f x) q ∙ ap (λ c. cond c (Some (f x)) (get m q)) e) ∙ (ap (λ (y : Y). Some y) (keeps x) ∙ (ap (option_map g) (sym is) ∙ ap (λ k. option_map g (get m k)) (sym same)))
+  changed-field m q (Some x) is false e = ap (option_map g) (get-insert m n (f x) q ∙ ap (λ c. cond c (Some (f x)) (get m q)) e)
+
+  -- a field that the change leaves alone is the same at each number
+  pub change-field : (m : Records X) (q : ℕ) → option_map g (get (change n f m) q) ≡ option_map g (get m q)
+  unfolding change
+  change-field m q = changed-field m q (get m n) refl (q == n) refl

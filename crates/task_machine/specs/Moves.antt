@@ -1,5 +1,5 @@
 -- The moves that steps are made of: Put, Check, Stop, Publish, Wake, Give, Release, and the end of a thread. What a step chooses is an argument.
-use Rattle.std.specs.Prelude.{ℕ, Bool, true, false, not, ◌&&◌, ◌||◌, List, [], ◌∷◌, ◌++◌, Option, Some, None, is_some, is_none, unwrap_or, option_and_then, filter, ◌==◌, if◌then◌else◌}
+use Rattle.std.specs.Prelude.{ℕ, Bool, true, false, not, ◌&&◌, ◌||◌, List, [], ◌∷◌, ◌++◌, Option, Some, None, is_some, is_none, unwrap_or, option_and_then, ◌==◌, if◌then◌else◌}
 use Rattle.std.specs.List.{list_any}
 use Rattle.std.specs.Option.{option_map_or}
 use Rattle.task_machine.specs.declared.words.Given.{Given}
@@ -25,7 +25,7 @@ use Rattle.task_machine.specs.declared.records.Why.TheVariants as why
 use Rattle.task_machine.specs.Maps.{get}
 use Rattle.task_machine.specs.Core.{Core}
 use Rattle.task_machine.specs.Read.{place_of, task_of, instance_of, is_explicit, thread_handle_of, callers_of, foot_of, own_event_of, may_not_suspend, event_of, join_of, blocked_on, waits_by_callback, is_waiter, has_waiter, is_ready_member, has_ready_member, has_thread, undelivered_end, call_group, held_why, is_entry_of, first_in}
-use Rattle.task_machine.specs.Write.{set_place, set_places, set_callers, set_switch, push_high, push_high_first, push_low, set_high, set_low, set_event, set_own_event, set_cancel_delivered, set_exited, set_uninteresting, set_end, remove_thread, remove_call, remove_group, free_thread_handle}
+use Rattle.task_machine.specs.Write.{set_place, set_callers, set_switch, push_high, push_high_first, push_low, set_high, set_low, set_event, set_own_event, set_cancel_delivered, set_exited, set_uninteresting, set_end, remove_thread, remove_call, remove_group, free_thread_handle}
 
 -- ---- Put
 
@@ -57,13 +57,17 @@ put_low n w s = push_low (entry.Thread n) (stand n mark.Low w s)
 
 -- ---- Check, and the other promotions
 
--- the list without the entry of the thread
+-- the list without the first entry of the thread
 abbrev pub less : ℕ → List Entry → List Entry
-less n es = filter (λ e. not (is_entry_of n e)) es
+less n [] = []
+less n (e ∷ es) = if is_entry_of n e then es else e ∷ less n es
 
--- the thread's entry leaves its mark
+abbrev pub has_entry : ℕ → List Entry → Bool
+has_entry n es = list_any (is_entry_of n) es
+
+-- the thread's entry leaves high, or else low
 unfoldable pub unqueued : ℕ → Core → Core
-unqueued n s = set_low (less n s.queues.low) (set_high (less n s.queues.high) s)
+unqueued n s = if has_entry n s.queues.high then set_high (less n s.queues.high) s else set_low (less n s.queues.low) s
 
 -- the thread's entry moves to switch, where none stands; all others keep their order
 unfoldable pub promoted : ℕ → Core → Core
@@ -108,22 +112,28 @@ abbrev pub older : ℕ → List ℕ → List ℕ
 older n [] = []
 older n (m ∷ ns) = n ∷ older m ns
 
-abbrev pub add_callers : ℕ → List ℕ → Core → Core
-add_callers f ns s = set_callers f (callers_of f s ++ ns) s
+-- the thread goes behind f
+unfoldable pub behind_one : ℕ → ℕ → Core → Core
+behind_one f n s = set_callers f (callers_of f s ++ n ∷ []) (set_place n (place.Behind f) s)
 
--- these threads go behind f
+-- these threads go behind f, in this order
 abbrev pub behind : ℕ → List ℕ → Core → Core
-behind f ns s = add_callers f ns (set_places ns (place.Behind f) s)
+behind f [] s = s
+behind f (n ∷ ns) s = behind f ns (behind_one f n s)
 
--- callers of f: where an entry stands at switch they go behind its foot; else the newest is put at switch and the others at high
-abbrev pub released_callers : ℕ → Option ℕ → List ℕ → Core → Core
-released_callers f _ [] s = s
-released_callers f (Some m) (n ∷ ns) s = set_callers f [] (behind (foot_of m s) (n ∷ ns) s)
-released_callers f None (n ∷ ns) s = set_callers f [] (resumed_all (older n ns) (put_switch (newest n ns) why.Resumption s))
+-- the newest is put at switch, and the others at high, oldest first
+abbrev pub resumed_callers : List ℕ → Core → Core
+resumed_callers [] s = s
+resumed_callers (n ∷ ns) s = resumed_all (older n ns) (put_switch (newest n ns) why.Resumption s)
+
+-- these callers go behind the foot of the entry at switch, if one stands there; else they are resumed
+abbrev pub passed_on : Option ℕ → List ℕ → Core → Core
+passed_on (Some m) ns s = behind (foot_of m s) ns s
+passed_on None ns s = resumed_callers ns s
 
 -- the strand with foot f stops
 unfoldable pub stopped : ℕ → Core → Core
-stopped f s = released_callers f s.queues.switch (callers_of f s) s
+stopped f s = passed_on s.queues.switch (callers_of f s) (set_callers f [] s)
 
 -- the strand of the running thread n stops, and n is at the place
 abbrev pub stopped_at : ℕ → Place → Core → Core
@@ -240,13 +250,18 @@ may_hand_on x g w s = if hands_on x g s then may_wake x w s else is_none w
 
 -- ---- Release
 
-abbrev pub held_why_of : ℕ → Core → Why
-held_why_of n s = unwrap_or (option_and_then held_why (place_of n s)) why.Start
+-- a held thread is put at high
+abbrev pub released_one : ℕ → Option Why → Core → Core
+released_one n None s = s
+released_one n (Some w) s = put_high n w s
+
+abbrev pub held_why_of : ℕ → Core → Option Why
+held_why_of n s = option_and_then held_why (place_of n s)
 
 -- these held threads are put at high in this order
 unfoldable pub released : List ℕ → Core → Core
 released [] s = s
-released (n ∷ ns) s = released ns (put_high n (held_why_of n s) s)
+released (n ∷ ns) s = released ns (released_one n (held_why_of n s) s)
 
 -- ---- The end of a thread
 

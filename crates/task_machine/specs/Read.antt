@@ -375,16 +375,20 @@ abbrev pub held_why : Place → Option Why
 held_why (place.Held w) = Some w
 held_why _ = None
 
--- the first thread of the list, in order of number, that passes
-abbrev pub first_thread : (Thread → Bool) → List (ℕ × Thread) → Option ℕ
-first_thread test es = option_map (λ e. e.0) (find (λ e. test e.1) es)
+-- the thread is at a place that passes
+abbrev pub is_at : ℕ → Core → (Place → Bool) → Bool
+is_at n s test = option_map_or test (place_of n s) false
+
+-- the first thread, in order of number, that is at such a place
+abbrev pub first_at : (Place → Bool) → Core → Option ℕ
+first_at test s = find (λ n. is_at n s test) (numbers s.threads)
 
 abbrev pub any_thread : (Thread → Bool) → Core → Bool
 any_thread test s = list_any (λ e. test e.1) s.threads.list
 
 -- the thread that waits under n for its direct callee
 unfoldable pub under_of : ℕ → Core → Option ℕ
-under_of n s = first_thread (λ t. is_under n t.place) s.threads.list
+under_of n s = first_at (is_under n) s
 
 -- down from n through at most this many that are under it
 abbrev pub foot_from : ℕ → Core → ℕ → ℕ
@@ -405,7 +409,7 @@ strand_of n s = strand_from (size s.threads) s n
 
 -- the thread that is blocked on the subtask
 unfoldable pub blocked_on : Subtask → Core → Option ℕ
-blocked_on sub s = first_thread (λ t. is_blocked_on sub t.place) s.threads.list
+blocked_on sub s = first_at (is_blocked_on sub) s
 
 -- some thread of the call is left
 unfoldable pub has_thread : ℕ → Core → Bool

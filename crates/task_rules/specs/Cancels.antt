@@ -1,5 +1,4 @@
 -- Cancelling and dropping a subtask.
-use Rattle.std.specs.Option.{option_map_or}
 use Rattle.std.specs.Prelude.{Bool, None, Option, Some, [], false, is_some, not, true, ℕ, ◌∷◌}
 use Rattle.task_machine.specs.declared.op.CallOp.{CallOp}
 use Rattle.task_machine.specs.declared.component.Component.{Component}
@@ -24,7 +23,7 @@ use Rattle.task_machine.specs.declared.trap.Trap.TheVariants as trap
 use Rattle.task_machine.specs.declared.records.Why.TheVariants as why
 use Rattle.task_machine.specs.Core.{Core}
 use Rattle.task_machine.specs.Moves.{behind, call_settled, checked, passes_check, promoted_unless, put_switch, stopped_at, withdrawn}
-use Rattle.task_machine.specs.Read.{call_instance, event_of, foot_of, has_ended, how_far_of, instance_of, is_callback_yield, is_joined, is_watched, join_of, may_not_suspend, phase_of, place_of, registers_of, saved_callee_of, subtask_at, subtask_ended, undelivered_end, was_cancelled, was_started}
+use Rattle.task_machine.specs.Read.{call_instance, event_of, foot_of, has_ended, how_far_of, instance_of, is_at, is_callback_yield, is_joined, is_watched, join_of, may_not_suspend, phase_of, registers_of, saved_callee_of, subtask_at, subtask_ended, undelivered_end, was_cancelled, was_started}
 use Rattle.task_machine.specs.Write.{free_handle, set_cancelled, set_do_not_suspend, set_event, set_how_far, set_join, set_own_event, set_phase, set_saved_callee, set_subtask_handle}
 use Rattle.task_rules.specs.Calls.{answered, call_host_row, call_row, call_sync_host_row, call_sync_row, put_back, work_deleted}
 use Rattle.task_rules.specs.Data.{advanced}
@@ -130,10 +129,6 @@ cancel_yield mode n r k s false = after_cancel mode n r (subtask.Guest k) (asked
 abbrev pub cancel_running : Mode → ℕ → ℕ → ℕ → Core → Bool → Bool → Progress
 cancel_running mode n r k s true yields = Stops (pauses n) (cancel_delivered_to n k s)
 cancel_running mode n r k s false yields = cancel_yield mode n r k s yields
-
--- of a call's first thread
-abbrev pub is_at : ℕ → Core → (Place → Bool) → Bool
-is_at k s test = option_map_or test (place_of k s) false
 
 -- by whether the call has ended, and whether its start has run
 abbrev pub cancel_guest : Mode → ℕ → ℕ → ℕ → Core → Bool → Bool → Progress

@@ -23,7 +23,7 @@ use Rattle.task_machine.specs.declared.records.Why.TheVariants as why
 use Rattle.task_machine.specs.Core.{Core}
 use Rattle.task_machine.specs.Labels.{exit_label}
 use Rattle.task_machine.specs.Moves.{checked, ended, may_publish, passes_check, published, put_high, put_low, released, stopped}
-use Rattle.task_machine.specs.Read.{admitted_held, blocked_on, caller_of, callers_of, foot_of, goal_of, has_ended, has_ready_member, has_waiter, instance_of, is_direct, is_explicit, is_guest_call, is_last_thread, is_nil, join_of, kind_of, own_event_of, register_of, saved_own_of, set_at, set_instance, task_of}
+use Rattle.task_machine.specs.Read.{admitted_held, blocked_on, caller_of, callers_of, foot_of, goal_of, has_ended, has_ready_member, has_waiter, instance_of, is_direct, is_explicit, is_guest_call, is_last_thread, is_nil, join_of, kind_of, own_event_of, register_of, saved_own_of, set_at, set_instance, task_of, under_of}
 use Rattle.task_machine.specs.Write.{give_result, set_do_not_enter, set_do_not_suspend, set_end, set_how_far, set_own_event, set_place, set_register, set_result}
 use Rattle.task_rules.specs.Progress.{Goes, Never, Ordered, Progress, Stops, Traps, may, or_trap, trap_if}
 
@@ -126,13 +126,13 @@ blocking_exit_row n w s =
 unfoldable pub direct_left : ℕ → ℕ → ℕ → Core → Core
 direct_left n m v s = set_how_far m (how_far.Answered v) (set_place m place.Running (ended n (set_end (task_of n s) call_end.Returned s)))
 
-abbrev pub direct_exit_to : ℕ → ExportKind → Core → Caller → Progress
-direct_exit_to n x s caller.Main = Never
-direct_exit_to n kind.Sync s (caller.Thread m) = Goes (exit_label n None) (direct_left n m (register_of n 0 s) (restored n s)) m
-direct_exit_to n x s (caller.Thread m) = trap_if (not (passes_check (instance_of n s) s)) trap.CannotBlockSyncTask (Goes (exit_label n None) (direct_left n m (register_of n 0 s) (checked (instance_of n s) s)) m)
+abbrev pub direct_exit_to : ℕ → ExportKind → Core → Option ℕ → Progress
+direct_exit_to n x s None = Never
+direct_exit_to n kind.Sync s (Some m) = Goes (exit_label n None) (direct_left n m (register_of n 0 s) (restored n s)) m
+direct_exit_to n x s (Some m) = trap_if (not (passes_check (instance_of n s) s)) trap.CannotBlockSyncTask (Goes (exit_label n None) (direct_left n m (register_of n 0 s) (checked (instance_of n s) s)) m)
 
 abbrev pub direct_exit_row : ℕ → Core → Progress
-direct_exit_row n s = direct_exit_to n (kind_of (task_of n s) s) s (caller_of (task_of n s) s)
+direct_exit_row n s = direct_exit_to n (kind_of (task_of n s) s) s (under_of n s)
 
 -- ---- The ends of activations
 

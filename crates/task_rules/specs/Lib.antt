@@ -19,3 +19,6 @@ pub mod Texts
 pub mod History
 pub mod Once
 pub mod Notices
+pub mod Keeps
+pub mod Laws
+pub mod Places

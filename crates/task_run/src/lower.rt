@@ -3,10 +3,10 @@ ghost use Rattle.std.specs.Prelude.{◌≤◌, length};
 
 use crate::copy::copy_component;
 use crate::scenario::{InstanceNames, MainOp, NoMemory, RunError, Scenario};
-use scenario_text::{ExportText, InstanceText, MainLine, ScenarioText, TextError, read_text};
+use scenario_text::{ExportText, InstanceText, MainOpText, ScenarioText, TextError, read_text};
 use std::alloc::{AllocError, Global};
 use task_loop::{Func, Instance};
-use task_machine::{Callee, Component, ExportDef, InstanceDef, Seq, Slot};
+use task_machine::{Callee, Component, ExportDef, InstanceDef, Operand, Seq, Slot};
 
 fn empty_slots(alloc: Global) -> Result<Seq<Slot>, AllocError> {
     let mut slots = Seq::new(alloc);
@@ -55,15 +55,19 @@ fn func(callee: Callee) -> Func {
     }
 }
 
-fn main_ops(alloc: Global, lines: Seq<MainLine>) -> Result<Seq<MainOp>, AllocError> {
+fn main_ops(
+    alloc: Global,
+    lines: Seq<MainOpText>,
+    answer: Operand,
+) -> Result<Seq<MainOp>, AllocError> {
     let mut ops = Seq::new(alloc);
     for line in lines.into_vec() {
         ops.push(match line {
-            MainLine::Start(callee, params) => MainOp::Start(func(callee), params),
-            MainLine::Finish(start, to) => MainOp::Finish(start, to),
-            MainLine::Answer(value) => MainOp::Answer(value),
+            MainOpText::Start(callee, params) => MainOp::Start(func(callee), params),
+            MainOpText::Finish(start, to) => MainOp::Finish(start, to),
         })?;
     }
+    ops.push(MainOp::Answer(answer))?;
     Ok(ops)
 }
 
@@ -84,7 +88,7 @@ fn scenario_of(alloc: Global, text: ScenarioText) -> Result<Scenario, AllocError
             hosts: Seq::new(alloc),
         },
         names,
-        main: main_ops(alloc, text.main)?,
+        main: main_ops(alloc, text.main, text.answer)?,
         aborters: Seq::new(alloc),
     })
 }

@@ -3,7 +3,7 @@ ghost use Rattle.std.specs.Prelude.{◌<◌, ◌≤◌, length};
 use crate::lower::read_scenario;
 use crate::main_script::ScriptMain;
 use crate::scenario::{NoMemory, RunError, Scenario};
-use scenario_text::{append_label, append_outcome};
+use report_text::{append_label, append_outcome};
 use std::alloc::{AllocError, Global};
 use task_loop::{Outcome, Trace, run_concurrent};
 use task_machine::{IdleLine, Label};

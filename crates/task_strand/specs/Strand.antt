@@ -1,5 +1,5 @@
 -- The ends of a strand.
-use Rattle.std.specs.Prelude.{◌-◌, List, [], ◌∷◌, length, Option, Some, None, slice_get, slice_set}
+use Rattle.std.specs.Prelude.{◌-◌, List, length, Option, slice_get, slice_set}
 use Rattle.task_strand.specs.declared.frame.Frame.{Frame}
 
 -- the frame that was pushed last

@@ -1,5 +1,5 @@
 -- How each change of a place keeps the counts of children.
-use Rattle.std.proofs.Common.{◌≡◌, ◌≢◌, ℕ, zero, suc, ◌+◌, ◌-◌, ◌<◌, ◌≤◌, ◌^◌, ◌⊎◌, inl, inr, Bool, true, false, cond, List, [], ◌∷◌, ◌++◌, map, reverse, length, set, slice_get, count_by, Option, Some, None, IsSome, option_map, option_and_then, ◌==◌, length-set, get_or, refl, sym, ap, subst, ◌∙◌, arith}
+use Rattle.std.proofs.Common.{◌≡◌, ◌≢◌, ℕ, ◌+◌, ◌-◌, ◌<◌, ◌≤◌, inl, inr, Bool, false, cond, List, [], ◌∷◌, ◌++◌, map, reverse, length, set, slice_get, count_by, Option, Some, None, IsSome, option_map, option_and_then, ◌==◌, length-set, get_or, refl, sym, ap, subst, ◌∙◌, arith}
 use Rattle.std.proofs.lemmas.Bool.{cases_eq, eq-eqb, ne_eqb}
 use Rattle.std.proofs.lemmas.List.{map-set, map_push, length-map, reverse-append}
 use Rattle.std.proofs.lemmas.List.Sums.{count_by-le-length}

@@ -2,3 +2,4 @@ pub mod ReadLemmas
 pub mod CountLemmas
 pub mod TableLemmas
 pub mod SoundLemmas
+pub mod Laws

@@ -1,6 +1,6 @@
 -- Reads of a list after one of its elements was written or one was added.
-use Rattle.std.proofs.Common.{◌≡◌, ◌≢◌, ℕ, zero, suc, ◌+◌, ◌<◌, ◌≤◌, Bool, true, false, cond, List, [], ◌∷◌, ◌++◌, length, set, slice_get, count_by, Some, None, refl, sym, ap, ◌∙◌, arith, length-set}
-use Rattle.std.proofs.lemmas.List.{length_push, get_or-set_same, set-get_or}
+use Rattle.std.proofs.Common.{◌≡◌, ◌≢◌, ℕ, zero, suc, ◌+◌, ◌<◌, ◌≤◌, Bool, cond, List, [], ◌∷◌, ◌++◌, length, set, slice_get, count_by, Some, None, refl, sym, ap, ◌∙◌, arith}
+use Rattle.std.proofs.lemmas.List.{set-get_or}
 use Rattle.std.proofs.lemmas.List.Sums.{sum_by-set, sum_by_push, get_or-le-sum_by}
 use Rattle.std.proofs.lemmas.Option.{slice_get_within, get_or_from_slice_get}
 
@@ -47,3 +47,9 @@ module _ {X : Type 0} where
     count_by-found xs i x found =
         let counted = get_or-le-sum_by (λ z. cond (p z) 1 0) xs i x (slice_get_within xs i x found) in
         rw (get_or_from_slice_get xs i x x found) at counted
+
+  -- a write past the end
+  pub set-none : (xs : List X) (i : ℕ) (y : X) → slice_get xs i ≡ None → set xs i y ≡ xs
+  set-none [] i y none = refl
+  set-none (x ∷ xs) zero y none = absurd (cc)
+  set-none (x ∷ xs) (suc i) y none = ap (λ zs. x ∷ zs) (set-none xs i y none)

@@ -1,13 +1,13 @@
 -- How a table's places and free list show a table, and keep it in order.
-use Rattle.std.proofs.Common.{◌≡◌, ℕ, ◌+◌, ◌<◌, ◌≤◌, false, List, [], ◌∷◌, ◌++◌, map, reverse, drop, length, set, get_or, slice_get, Option, Some, None, is_some, IsSome, Result, Ok, Err, is_err, OnOk, option_map, option_and_then, refl, sym, ap, subst, ◌∙◌, arith, length-set, count_by, add-zero}
+use Rattle.std.proofs.Common.{◌≡◌, ℕ, ◌+◌, ◌<◌, ◌≤◌, false, List, [], ◌∷◌, ◌++◌, map, reverse, drop, length, set, get_or, slice_get, Option, Some, None, IsSome, Result, Ok, Err, is_err, OnOk, option_map, refl, sym, ap, subst, ◌∙◌, arith, length-set, count_by, add-zero}
 use Rattle.std.proofs.lemmas.List.{map-set, map_push, length-map, length_push, reverse-reverse, reverse-append, length-reverse}
 use Rattle.std.proofs.lemmas.Option.{same_Some, get_or_from_slice_get, slice_get-map}
 use Rattle.task_table.specs.declared.place.Place.{Place}
 use Rattle.task_table.specs.declared.place.Place.TheVariants.{Free, Taken}
 use Rattle.task_table.specs.declared.place.Slot.{Slot}
 use Rattle.task_table.specs.Table.{Table, Placed, IsTable, place_at, standing, is_full, is_child_of, children_of}
-use Rattle.task_table.specs.Changes.{with_entry, entry_put, with_parent, with_parent_at, pushed, put_at_next, deleted}
-use Rattle.task_table.specs.Places.{placed, placed_in, slot_of, slot_at, slot_children, entry_in, place_with, shown, NextIsFree, filled, IsSound, IsCounted}
+use Rattle.task_table.specs.Changes.{with_entry, entry_put, with_parent, with_parent_at, pushed, put_at_next, next_of, next_place, deleted}
+use Rattle.task_table.specs.Places.{placed, placed_in, slot_at, slot_children, entry_in, place_with, shown, NextIsFree, IsSound, IsCounted}
 use Rattle.task_table.proofs.CountLemmas.{slot_there, slot_at_taken, taken_at_slot, place_shown, parent_shown, counted-set, counted-push, counted-fill}
 use Rattle.task_table.proofs.TableLemmas.{IsTable-with_entry, IsTable-pushed, IsTable-with_parent, IsTable-deleted, free_head, free_fewer, some_of}
 
@@ -83,35 +83,35 @@ module _ {E : Type 0} where
       by_free [] is = tt
       by_free (rep ∷ rest) is = by_read rep (slice_get ps rep) refl (sym (slice_get-map placed_in ps rep) ∙ free_head (shown ps free given capacity) rep rest is table)
 
-  map-filled : (fs : List ℕ) (s : Slot E) (ps : List (Place E)) → map placed_in (filled fs (Taken s) ps) ≡ put_at_next fs (Some (placed s)) (map placed_in ps)
-  map-filled [] s ps = map_push placed_in ps (Taken s)
-  map-filled (rep ∷ rest) s ps = map-set placed_in ps rep (Taken s)
+  map-put_at_next : (fs : List ℕ) (s : Slot E) (ps : List (Place E)) → map placed_in (put_at_next fs (Taken s) ps) ≡ put_at_next fs (Some (placed s)) (map placed_in ps)
+  map-put_at_next [] s ps = map_push placed_in ps (Taken s)
+  map-put_at_next (rep ∷ rest) s ps = map-set placed_in ps rep (Taken s)
 
   -- an entry is put at the next place
-  pub shown-pushed : (ps qs : List (Place E)) (free left : List ℕ) (given capacity : ℕ) (t : Table E) (entry : E) → shown ps free given capacity ≡ t → qs ≡ filled (reverse free) (Taken (record { serial = given; parent = None; children = 0; entry = entry })) ps → reverse left ≡ drop 1 (reverse free) → shown qs left (given + 1) capacity ≡ pushed entry t
+  pub shown-pushed : (ps qs : List (Place E)) (free left : List ℕ) (given capacity : ℕ) (t : Table E) (entry : E) → shown ps free given capacity ≡ t → qs ≡ put_at_next (reverse free) (Taken (record { serial = given; parent = None; children = 0; entry = entry })) ps → reverse left ≡ drop 1 (reverse free) → shown qs left (given + 1) capacity ≡ pushed entry t
   unfolding pushed
   shown-pushed ps qs free left given capacity t entry is places rest =
       ap (λ xs. record { places = map placed_in xs; free = reverse left; given = given + 1; capacity = capacity }) places
-      ∙ ap (λ xs. record { places = xs; free = reverse left; given = given + 1; capacity = capacity }) (map-filled (reverse free) (record { serial = given; parent = None; children = 0; entry = entry }) ps)
+      ∙ ap (λ xs. record { places = xs; free = reverse left; given = given + 1; capacity = capacity }) (map-put_at_next (reverse free) (record { serial = given; parent = None; children = 0; entry = entry }) ps)
       ∙ ap (λ xs. record { places = put_at_next (reverse free) (Some (record { serial = given; parent = None; entry = entry })) (map placed_in ps); free = xs; given = given + 1; capacity = capacity }) rest
       ∙ ap (pushed entry) is
 
-  pub IsSound-pushed : (ps qs : List (Place E)) (free left : List ℕ) (room more given capacity : ℕ) (entry : E) → IsSound ps free room given capacity → is_full (shown ps free given capacity) ≡ false → qs ≡ filled (reverse free) (Taken (record { serial = given; parent = None; children = 0; entry = entry })) ps → reverse left ≡ drop 1 (reverse free) → room ≤ more → (free ≡ [] → length ps < more) → IsSound qs left more (given + 1) capacity
+  pub IsSound-pushed : (ps qs : List (Place E)) (free left : List ℕ) (room more given capacity : ℕ) (entry : E) → IsSound ps free room given capacity → is_full (shown ps free given capacity) ≡ false → qs ≡ put_at_next (reverse free) (Taken (record { serial = given; parent = None; children = 0; entry = entry })) ps → reverse left ≡ drop 1 (reverse free) → room ≤ more → (free ≡ [] → length ps < more) → IsSound qs left more (given + 1) capacity
   IsSound-pushed ps qs free left room more given capacity entry sound full places rest kept made =
       record {
         table = subst IsTable (sym (shown-pushed ps qs free left given capacity (shown ps free given capacity) entry refl places rest)) (IsTable-pushed (shown ps free given capacity) sound.table entry full);
-        counted = subst IsCounted (sym places) (counted_filled (reverse free) (next_is_free ps free given capacity sound.table));
+        counted = subst IsCounted (sym places) (counted_next (reverse free) (next_is_free ps free given capacity sound.table));
         room_to_free = subst (λ xs. length xs ≤ more) (sym places) (fits (reverse free) refl);
       }
     where
       slot : Slot E
       slot = record { serial = given; parent = None; children = 0; entry = entry }
 
-      counted_filled : (fs : List ℕ) → NextIsFree fs ps → IsCounted (filled fs (Taken slot) ps)
-      counted_filled [] next = counted-push ps (Taken slot) refl (λ rep. refl) sound.counted
-      counted_filled (rep ∷ rest) next = counted-fill ps rep slot next refl refl sound.counted
+      counted_next : (fs : List ℕ) → NextIsFree fs ps → IsCounted (put_at_next fs (Taken slot) ps)
+      counted_next [] next = counted-push ps (Taken slot) refl (λ rep. refl) sound.counted
+      counted_next (rep ∷ rest) next = counted-fill ps rep slot next refl refl sound.counted
 
-      fits : (fs : List ℕ) → reverse free ≡ fs → length (filled fs (Taken slot) ps) ≤ more
+      fits : (fs : List ℕ) → reverse free ≡ fs → length (put_at_next fs (Taken slot) ps) ≤ more
       fits [] is = let longer = length_push ps (Taken slot) in let below = made (nil_from_reverse free is) in omega arith
       fits (rep ∷ rest) is = let same = length-set ps rep (Taken slot) in let before = sound.room_to_free in omega arith
 
@@ -176,3 +176,7 @@ module _ {E : Type 0} where
       let made : length t.places ≡ length ps = sym (ap (λ x. length x.places) is) ∙ length-map ps placed_in in
       let fits = sound.room_to_free in
       omega arith
+
+  -- the place that is filled next is the table's next place
+  pub next_shown : (ps : List (Place E)) (free : List ℕ) (given capacity : ℕ) (t : Table E) → shown ps free given capacity ≡ t → next_of (reverse free) (length ps) ≡ next_place t
+  next_shown ps free given capacity t is = ap (λ n. next_of (reverse free) n) (sym (length-map ps placed_in)) ∙ ap next_place is

@@ -1,15 +1,15 @@
 -- Laws of a table and its changes, for this crate and its callers.
-use Rattle.std.proofs.Common.{◌≡◌, ◌≢◌, ℕ, zero, suc, ◌+◌, ◌-◌, ◌<◌, ◌≤◌, ◌^◌, ◌==◌, ◌&&◌, ◌||◌, ◌⊎◌, inl, inr, Bool, true, false, cond, nat_le, List, [], ◌∷◌, ◌++◌, drop, length, set, slice_get, count_by, Option, Some, None, is_some, IsSome, refl, sym, ap, subst, ◌∙◌, arith, length-set, option_map, Result, Ok, Err, ok_or}
+use Rattle.std.proofs.Common.{◌≡◌, ℕ, suc, ◌+◌, ◌-◌, ◌<◌, ◌≤◌, ◌^◌, ◌==◌, ◌&&◌, ◌⊎◌, inl, inr, Bool, true, false, cond, nat_le, List, [], ◌∷◌, ◌++◌, drop, length, set, slice_get, count_by, Option, Some, None, is_some, IsSome, refl, sym, ap, subst, ◌∙◌, arith, length-set, option_map, Result, Ok, Err, ok_or}
 use Rattle.std.specs.Result.{result_ok}
-use Rattle.std.proofs.lemmas.Bool.{cases_eq, eq-eqb, ne_eqb, and_parts, or_parts, and_cases, leb-false, cases_Bool, eqb-true}
+use Rattle.std.proofs.lemmas.Bool.{cases_eq, eq-eqb, ne_eqb, or_parts, and_cases, leb-false, eqb-true}
 use Rattle.std.proofs.lemmas.List.{length_push}
 use Rattle.std.proofs.lemmas.List.Sums.{sum_by-cons}
-use Rattle.std.proofs.lemmas.Option.{slice_get_within, slice_get_past, same_Some}
-use Rattle.task_table.specs.Table.{Table, Placed, IsTable, place_at, standing, found, of_serial, is_child_of, is_number, children_of, is_free, is_nil, is_full, table_len, free_count}
+use Rattle.std.proofs.lemmas.Option.{slice_get_within, same_Some}
+use Rattle.task_table.specs.Table.{Table, Placed, IsTable, place_at, standing, found, of_serial, is_child_of, is_number, children_of, is_free, is_nil, is_full}
 use Rattle.task_table.specs.declared.error.ResourceTableError.TheVariants.{WrongType}
 use Rattle.task_table.specs.Answers.{item_in, item_at, pair_refusal, deletion, unless_children}
 use Rattle.task_table.specs.Kind.{unwrapped, or_entry}
-use Rattle.task_table.specs.Changes.{pushed, put_at_next, next_place, next_of, deleted, with_entry, with_entry_at, entry_put, with_parent, with_parent_at, parent_put, with_capacity}
+use Rattle.task_table.specs.Changes.{pushed, put_at_next, deleted, with_entry, with_entry_at, entry_put, with_parent, parent_put, with_capacity}
 use Rattle.task_table.proofs.ReadLemmas.{slice_get-set_same, slice_get-set_other, slice_get-push_same, slice_get-push_other, set-slice_get, count_by-set, count_by-push, count_by-found}
 
 abbrev pub one_if : Bool → ℕ

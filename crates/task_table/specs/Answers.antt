@@ -1,7 +1,7 @@
 -- What the calls of a `ResourceTable` answer.
 use Rattle.std.specs.Prelude.{ℕ, ◌&&◌, nat_lt, if◌then◌else◌, Bool, Option, Some, None, Result, Ok, Err, is_some, ok_or}
 use Rattle.std.specs.Borrow.{Bor, MutBor}
-use Rattle.task_table.specs.Table.{Table, Placed, found, children_of, is_number}
+use Rattle.task_table.specs.Table.{Table, Placed, found, children_of}
 use Rattle.task_table.specs.declared.error.ResourceTableError.{ResourceTableError}
 use Rattle.task_table.specs.declared.error.ResourceTableError.TheVariants.{NotPresent, WrongType, HasChildren}
 

@@ -1,19 +1,20 @@
 -- What the calls of a `ResourceTable` change.
-use Rattle.std.specs.Prelude.{ℕ, ◌+◌, List, [], ◌∷◌, ◌++◌, length, drop, slice_set, slice_get, Option, Some, None}
-use Rattle.task_table.specs.Table.{Table, Placed, standing}
+use Rattle.std.specs.Prelude.{◌≡◌, ◌≢◌, ℕ, ◌+◌, List, [], ◌∷◌, ◌++◌, length, drop, slice_set, slice_get, Option, Some, None}
+use Rattle.task_table.specs.Table.{Table, Placed, standing, found}
 
 abbrev pub next_of : List ℕ → ℕ → ℕ
 next_of [] made = made
 next_of (rep ∷ rest) made = rep
 
+-- the places with this one at the first free place, else at the end
+abbrev pub put_at_next : {X : Type 0} → List ℕ → X → List X → List X
+put_at_next [] p places = places ++ p ∷ []
+put_at_next (rep ∷ rest) p places = slice_set places rep p
+
 module _ {E : Type 0} where
   -- the place that the next push gives: the one freed last, else a new one
   abbrev pub next_place : Table E → ℕ
   next_place t = next_of t.free (length t.places)
-
-  abbrev pub put_at_next : List ℕ → Option (Placed E) → List (Option (Placed E)) → List (Option (Placed E))
-  put_at_next [] p places = places ++ p ∷ []
-  put_at_next (rep ∷ rest) p places = slice_set places rep p
 
   -- an entry without a parent at the next place, with the next serial
   unfoldable pub pushed : E → Table E → Table E
@@ -52,3 +53,14 @@ module _ {E : Type 0} where
 
   unfoldable pub with_capacity : ℕ → Table E → Table E
   with_capacity n t = record t { capacity = n }
+
+  -- a new id finds the entry, and every other id finds what it found
+  pub record Adds (old new : Table E) (rep serial : ℕ) (entry : E) : Type 0 where
+    pub fresh : found old rep serial ≡ None
+    pub added : found new rep serial ≡ Some (record { serial = serial; parent = None; entry = entry })
+    pub others : (r s : ℕ) → ((r ≡ rep) × (s ≡ serial) → ⊥) → found new r s ≡ found old r s
+
+  -- no id finds an entry at the place, and every id of another place finds what it found
+  pub record Removes (old new : Table E) (rep : ℕ) : Type 0 where
+    pub gone : (s : ℕ) → found new rep s ≡ None
+    pub others : (r s : ℕ) → r ≢ rep → found new r s ≡ found old r s

@@ -1,5 +1,5 @@
 -- What contracts see of a `TableIter`.
-use Rattle.std.specs.Prelude.{ℕ, ◌+◌, ◌≤◌, List, [], ◌∷◌, length, Option, Some, None}
+use Rattle.std.specs.Prelude.{ℕ, ◌+◌, List, [], ◌∷◌, Option, Some, None}
 use Rattle.task_table.specs.Table.{Table, Placed}
 
 module _ {E : Type 0} where

@@ -1,7 +1,7 @@
 -- How a table lays out its places. No public clause cites this module.
-use Rattle.std.specs.Prelude.{◌≡◌, ℕ, ◌+◌, ◌<◌, ◌≤◌, if◌then◌else◌, List, [], ◌∷◌, ◌++◌, map, slice_set, Vec, vec_capacity, reverse, length, slice_get, count_by, Option, Some, None}
+use Rattle.std.specs.Prelude.{◌≡◌, ℕ, ◌+◌, ◌<◌, ◌≤◌, if◌then◌else◌, List, [], ◌∷◌, map, Vec, vec_capacity, reverse, length, slice_get, count_by, Option, Some, None}
 use Rattle.std.specs.Global.{Global}
-use Rattle.std.specs.Option.{option_map, option_and_then}
+use Rattle.std.specs.Option.{option_and_then}
 use Rattle.task_table.specs.Table.{Table, Placed, is_child_of, is_number, IsTable}
 use Rattle.task_table.specs.declared.place.Place.{Place}
 use Rattle.task_table.specs.declared.place.Place.TheVariants.{Free, Taken}
@@ -62,11 +62,6 @@ module _ {E : Type 0} where
   abbrev pub NextIsFree : List ℕ → List (Place E) → Type 0
   NextIsFree [] ps = Unit {0}
   NextIsFree (rep ∷ rest) ps = slice_get ps rep ≡ Some Free
-
-  -- the places with this one at the first free place, else at the end
-  abbrev pub filled : List ℕ → Place E → List (Place E) → List (Place E)
-  filled [] p ps = ps ++ p ∷ []
-  filled (rep ∷ rest) p ps = slice_set ps rep p
 
   -- what contracts see of a table
   abbrev pub shown : List (Place E) → List ℕ → ℕ → ℕ → Table E

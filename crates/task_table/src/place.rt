@@ -2,8 +2,8 @@
 ghost use Rattle.std.specs.Prelude.{◌≡◌, ◌<◌, ◌≤◌, ◌+◌, ◌^◌, [], map, reverse, drop, Some, None, IsSome, OnOk, slice_set, slice_index_or, length, vec_capacity};
 ghost use Rattle.std.specs.Option.{option_map};
 ghost use Rattle.std.specs.Borrow.{Lends, sem};
-ghost use Rattle.task_table.specs.Places.{placed_in, slot_of, slot_at, entry_in, place_with, place_with_parent, children_at, IsCounted, IsCountedBut, HasRoom, NextIsFree, filled};
-ghost use Rattle.task_table.specs.Changes.{next_of, with_parent_at};
+ghost use Rattle.task_table.specs.Places.{placed_in, slot_of, slot_at, entry_in, place_with, place_with_parent, children_at, IsCounted, IsCountedBut, HasRoom, NextIsFree};
+ghost use Rattle.task_table.specs.Changes.{next_of, put_at_next, with_parent_at};
 
 use std::alloc::AllocError;
 use std::mem;
@@ -146,7 +146,7 @@ pub(crate) fn fill<E>(places: &mut Vec<Place<E>>, free: &mut Vec<u32>, slot: Slo
     requires free { NextIsFree (reverse free.old.items) places.old.items }
     requires few { free.old.items ≡ [] → length places.old.items + 1 < 2 ^ 32 }
     ensures rep { result ≡ next_of (reverse free.old.items) (length places.old.items) }
-    ensures places { places.new.items ≡ filled (reverse free.old.items) (Place.Taken slot) places.old.items }
+    ensures places { places.new.items ≡ put_at_next (reverse free.old.items) (Place.Taken slot) places.old.items }
     ensures free { reverse free.new.items ≡ drop 1 (reverse free.old.items) }
     ensures capacity { vec_capacity free.new ≡ vec_capacity free.old }
 {

@@ -3,7 +3,7 @@ ghost use Rattle.std.specs.Option.{option_map, option_copied};
 ghost use Rattle.std.specs.Result.{result_err};
 ghost use Rattle.std.specs.Borrow.{sem};
 ghost use Rattle.task_table.specs.Answers.{item_at, deletion, pair_refusal, parent_of, or_not_child, result_copied, result_copied_mut};
-ghost use Rattle.task_table.specs.Changes.{next_place, pushed, deleted, with_parent, with_capacity};
+ghost use Rattle.task_table.specs.Changes.{Adds, Removes, next_place, pushed, deleted, with_parent, with_capacity};
 ghost use Rattle.task_table.specs.Places.{placed};
 ghost use Rattle.task_table.specs.Entries.{entries};
 ghost use Rattle.task_table.specs.Table.{IsTable, new_table, place_at, found, table_len, free_count, is_full, is_number, children_of};
@@ -16,7 +16,9 @@ use crate::place::{Place, Slot, fill, link, reserve, unlink, vacate};
 use std::alloc::{AllocError, Global};
 use std::marker::Model;
 
-/// Entries of several kinds, each at a place under an id.
+/// Entries of several kinds, as the calls, threads, sets and works of a store: a finite map from ids to entries, with a list of free places.
+///
+/// Contracts see what stands at each place, the free places from the one freed last on, how many serials were given, and the capacity. A place is given again, the one freed last first; a serial never is, so an id that was deleted finds nothing from then on. An entry can have one parent, and a parent is deleted only after its children. A refused call leaves the table as it was, and each call works in constant time, but for the growth of the table.
 #[derive(Drop)]
 pub struct ResourceTable<E> {
     places: Vec<Place<E>>,
@@ -47,7 +49,8 @@ impl<E> ResourceTable<E> {
 
     /// An empty table with a capacity of 1,000,000 entries.
     pub fn new(alloc: Global) -> ResourceTable<E>
-        ensures { result ≡ new_table }
+        ensures empty { result ≡ new_table }
+        ensures sound { IsTable result }
     {
         ResourceTable {
             places: Vec::new(alloc),
@@ -72,14 +75,14 @@ impl<E> ResourceTable<E> {
         self.len() == 0
     }
 
-    /// How many pushes the capacity still allows.
+    /// How many pushes the capacity still allows: the free places, and the places that may still be made.
     pub fn free(&self) -> usize
         ensures { result ≡ free_count self.now }
     {
         self.free.len() + self.max_capacity.saturating_sub(self.places.len())
     }
 
-    /// The most places that pushes make.
+    /// The capacity: the most places that pushes make, 1,000,000 in a new table.
     pub fn max_capacity(&self) -> usize
         ensures { result ≡ self.now.capacity }
     {
@@ -90,7 +93,8 @@ impl<E> ResourceTable<E> {
     #[tactic(auto, unfolding(crate::specs::Changes::with_capacity))]
     pub fn set_max_capacity(&mut self, n: usize)
         requires { n ≤ 4294967295 }
-        ensures { self.new ≡ with_capacity n self.old }
+        ensures capacity { self.new ≡ with_capacity n self.old }
+        ensures sound { IsTable self.new }
     {
         self.max_capacity = n;
     }
@@ -161,7 +165,7 @@ impl<E> ResourceTable<E> {
         self.places[rep as usize].entry_mut()
     }
 
-    /// The item of the entry with this id, for writing. It is refused as `get` is.
+    /// The item of the entry with this id, for writing. It is refused as `get` is. After a write the entry is the one that the kind makes of the item written, under the same id.
     pub fn get_mut<K: Kind<E>>(
         &mut self,
         id: TableId<K>,
@@ -185,6 +189,7 @@ impl<E> ResourceTable<E> {
         ensures rep { IfOk result (λ id. id.rep ≡ next_place self.old) }
         ensures serial { IfOk result (λ id. id.serial ≡ self.old.given) }
         ensures pushed { OnOk result (self.new ≡ pushed (K.entry_of item) self.old) }
+        ensures added { IfOk result (λ id. Adds self.old self.new id.rep id.serial (K.entry_of item)) }
         ensures room { OnOk result (is_full self.old ≡ false) }
 
         ensures why { IfErr result (λ refused. refused.why ≡ (if is_full self.old then ResourceTableError.Full else ResourceTableError.NoMemory)) }
@@ -222,6 +227,7 @@ impl<E> ResourceTable<E> {
     pub fn delete<K: Kind<E>>(&mut self, id: TableId<K>) -> Result<K::Item, ResourceTableError>
         ensures answer { result ≡ deletion K.item_of self.old id.rep id.serial }
         ensures ok { OnOk result (self.new ≡ deleted id.rep self.old) }
+        ensures removed { OnOk result (Removes self.old self.new id.rep) }
         ensures err { OnErr result (self.new ≡ self.old) }
         ensures sound { IsTable self.new }
     {
@@ -269,7 +275,17 @@ impl<E> ResourceTable<E> {
         }
     }
 
-    /// Makes one entry a child of another. The child must have no parent, which `remove_child` brings about.
+    /// Whether the entry with this id has a parent: the test for the condition of `add_child`. False where there is no such entry.
+    pub fn has_parent<C>(&self, child: TableId<C>) -> bool
+        ensures { result ≡ is_some (parent_of (found self.now child.rep child.serial)) }
+    {
+        match self.slot(child.rep, child.serial) {
+            Some(slot) => slot.parent.is_some(),
+            None => false,
+        }
+    }
+
+    /// Makes one entry a child of another. The child must have no parent, which `has_parent` tests.
     ///
     /// `NotPresent` where either is absent, else `WrongType` where either is of another kind. It takes no memory.
     pub fn add_child<C: Kind<E>, P: Kind<E>>(
@@ -309,9 +325,11 @@ impl<E> ResourceTable<E> {
         Ok(())
     }
 
-    /// The entries with their places, in order of the place.
+    /// Each entry with its place, in order of the place.
     pub fn iter(&self) -> TableIter<'_, E>
-        ensures { result ≡ entries self.now }
+        ensures entries { result ≡ entries self.now }
+        ensures len { length result ≡ table_len self.now }
+        ensures few { length result ≤ 4294967295 }
     {
         TableIter {
             places: self.places.as_slice(),

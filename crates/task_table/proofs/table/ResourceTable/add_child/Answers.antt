@@ -1,5 +1,4 @@
-use Rattle.std.proofs.Common.{Some, None, ap, sym, ◌∙◌}
-use Rattle.std.proofs.lemmas.Option.{same_Some}
+use Rattle.std.proofs.Common.{Some, ap, sym, ◌∙◌}
 use Rattle.std.specs.Result.{result_err}
 use Rattle.task_table.specs.Answers.{parent_of}
 use Rattle.task_table.proofs.TableLemmas.{pair_there, found_place, found_at, some_of, parent_at}

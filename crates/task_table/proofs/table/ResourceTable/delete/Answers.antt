@@ -1,7 +1,8 @@
 use Rattle.std.proofs.Common.{◌≡◌, Some, ap, sym, ◌∙◌, arith, is_some}
 use Rattle.task_table.specs.Answers.{result_copied}
 use Rattle.task_table.specs.Table.{children_of}
-use Rattle.task_table.proofs.TableLemmas.{item_place, free_fewer, unwrapped-item, deletion-ok}
+use Rattle.task_table.proofs.TableLemmas.{item_place, unwrapped-item, deletion-ok}
+use Rattle.task_table.proofs.Laws.{Removes-deleted}
 use Rattle.task_table.proofs.SoundLemmas.{children_of_slot, entry_of_slot, shown-deleted, IsSound-deleted, room_for_freed}
 use Rattle.task_table.proofs.table.ResourceTable.delete.Goals as goal
 
@@ -46,6 +47,9 @@ pub returns-clause-ok : goal.returns-clause-ok
 returns-clause-ok g c =
     shown-deleted c.self.inside.places.items c.vacate-slot.new.places.items c.self.inside.free.items c.push_reserved.new.self.items c.self.inside.given c.self.inside.max_capacity c.args.self.now c.args.id.rep
     c.self.view_is c.vacate-slot.ensures.shown c.push_reserved.ensures.items
+
+pub returns-clause-removed : goal.returns-clause-removed
+returns-clause-removed g c = Removes-deleted c.args.self.now _ c.args.id.rep (returns-clause-ok g c)
 
 pub returns-clause-sound : goal.returns-clause-sound
 returns-clause-sound g c = (invariant_of-self g c).table

@@ -1,4 +1,4 @@
-use Rattle.std.proofs.Common.{refl, ap, sym, ◌∙◌, inr, Err}
+use Rattle.std.proofs.Common.{refl, ap, sym, ◌∙◌, inr}
 use Rattle.std.specs.Option.{option_copied_mut}
 use Rattle.task_table.proofs.TableLemmas.{found_place, item_at-ok, item_at-wrong, with_entry-same}
 use Rattle.task_table.proofs.table.ResourceTable.get_mut.Goals as goal

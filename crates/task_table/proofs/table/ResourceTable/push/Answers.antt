@@ -1,8 +1,9 @@
-use Rattle.std.proofs.Common.{◌≡◌, false, ap, sym, ◌∙◌, arith, length, [], ◌<◌, vec_capacity}
-use Rattle.task_table.specs.Table.{is_full}
+use Rattle.std.proofs.Common.{◌≡◌, false, subst, ap, sym, ◌∙◌, arith, vec_capacity}
+use Rattle.task_table.specs.Table.{is_full, IsTable}
 use Rattle.task_table.specs.Changes.{pushed}
-use Rattle.task_table.specs.Places.{shown, IsSound}
-use Rattle.task_table.proofs.SoundLemmas.{next_is_free, shown-pushed, IsSound-pushed, unless_err}
+use Rattle.task_table.specs.Places.{shown}
+use Rattle.task_table.proofs.Laws.{Adds-pushed}
+use Rattle.task_table.proofs.SoundLemmas.{next_is_free, next_shown, shown-pushed, IsSound-pushed, unless_err}
 use Rattle.task_table.proofs.table.ResourceTable.push.Goals as goal
 
 pub fill-rep-requires-clause-free : goal.fill-rep-requires-clause-free
@@ -26,6 +27,11 @@ returns-clause-pushed g c =
     shown-pushed c.reserve.new.places.items c.fill-rep.new.places.items c.reserve.new.free.items c.fill-rep.new.free.items c.self.inside.given c.self.inside.max_capacity c.args.self.now c.wrap.result
     (rw (c.reserve.ensures.places, c.reserve.ensures.free) c.self.view_is) c.fill-rep.ensures.places c.fill-rep.ensures.free
     ∙ ap (λ entry. pushed entry c.args.self.now) c.wrap.ensures
+
+pub returns-clause-added : goal.returns-clause-added
+returns-clause-added g c = Adds-pushed c.args.self.now _ c.new.result.rep c.new.result.serial _ (subst IsTable c.self.view_is c.self.invariant.table) (returns-clause-pushed g c)
+    (c.new.ensures.rep ∙ c.fill-rep.ensures.rep ∙ next_shown c.reserve.new.places.items c.reserve.new.free.items c.self.inside.given c.self.inside.max_capacity c.args.self.now (rw (c.reserve.ensures.places, c.reserve.ensures.free) c.self.view_is))
+    (c.new.ensures.serial ∙ ap (λ t. t.given) c.self.view_is)
 
 pub returns-clause-sound : goal.returns-clause-sound
 returns-clause-sound g c = (invariant_of-self-2 g c).table

@@ -1,4 +1,4 @@
-use Rattle.std.proofs.Common.{Some, None, ap, sym, ◌∙◌}
+use Rattle.std.proofs.Common.{None, ap, sym, ◌∙◌}
 use Rattle.std.specs.Result.{result_err}
 use Rattle.task_table.proofs.TableLemmas.{pair_there, found_place, no_parent_at}
 use Rattle.task_table.proofs.SoundLemmas.{taken_shown, shown-with_parent, IsSound-with_parent}

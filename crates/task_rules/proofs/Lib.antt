@@ -1,0 +1,11 @@
+pub mod KeepWords
+pub mod KeepRows
+pub mod KeepLemmas
+pub mod EndLemmas
+pub mod LawLemmas
+pub mod PromotionLemmas
+pub mod CheckLemmas
+pub mod StandLemmas
+pub mod StopLemmas
+pub mod MoveLemmas
+pub mod UntouchedLemmas
