@@ -117,9 +117,9 @@ module _ (s : Core) (plain : IsPlain s) where
     unfolding call_started push_high set_place on_thread add_thread add_call add_group
     call_started_plain = record {
       threads = λ q u is. thread_cases q u is (λ same it. subst (λ n. IsSimpleThread n u) (sym same) (subst (IsSimpleThread k) (sym it) new_simple)) (λ ne at. plain.threads q u at);
-      no_callers = λ q. either q k
-          (λ same. ap (λ n. unwrap_or (get (insert s.callers k []) n) []) same ∙ ap (λ o. unwrap_or o []) (get-insert_same s.callers k []))
-          (λ ne. ap (λ o. unwrap_or o []) (get-insert_other s.callers k [] q ne) ∙ plain.no_callers q);
+      no_callers = λ q u is. thread_cases q u is
+          (λ same it. ap (get (insert s.callers k [])) same ∙ get-insert_same s.callers k [])
+          (λ ne at. get-insert_other s.callers k [] q ne ∙ plain.no_callers q u at);
       calls = λ q d is. insert_cases s.calls k made_call q d is (λ same it. subst (λ n. IsSimpleCall k n d) (sym same) (subst (IsSimpleCall k k) (sym it) call_simple)) (λ ne at. call_later _ q d (plain.calls q d at));
       called = λ q u is. thread_cases q u is
           (λ same it. ap (λ n. is_some (get (insert s.calls k made_call) n)) same ∙ ap is_some (get-insert_same s.calls k made_call))

@@ -4,7 +4,7 @@ use Rattle.std.specs.List.Sorted.{SwapsInRange, apply_swaps}
 use Rattle.std.proofs.lemmas.Bool.{eqb-false, eqb-true}
 use Rattle.std.specs.Prelude.{IsPermutation, List, None, Option, Some, [], is_some, option_map, ℕ, ◌<◌, ◌==◌, ◌∷◌, ◌≡◌, ◌≢◌}
 use Rattle.task_machine.specs.Maps.{Records, change, get, insert, remove}
-use Rattle.task_machine.proofs.MapLemmas.{get-change_other, get-change_same, get-insert_other, get-insert_same, get-remove_other, get-remove_same}
+use Rattle.task_machine.proofs.MapLemmas.{get-change_other, get-change_same, get-insert_other, get-insert_same, get-remove_other, get-remove_same, same_records}
 
 pub either : {P : Type 0} (q n : ℕ) → (q ≡ n → P) → (q ≢ n → P) → P
 either {P = P} q n same other = elim (q == n) as (λ b. (q == n) ≡ b → P) [ true ↦ λ e. same (eqb-true q n e) | false ↦ λ e. other (eqb-false q n e) ] refl
@@ -42,6 +42,13 @@ module _ {X : Type 0} (m : Records X) (n : ℕ) where
       kept : (o : Option X) → is_some (option_map f o) ≡ is_some o
       kept None = refl
       kept (Some x) = refl
+
+-- a record that is written again as it was
+pub insert-same : {X : Type 0} (m : Records X) (n : ℕ) (x : X) → get m n ≡ Some x → insert m n x ≡ m
+insert-same m n x found = same_records (insert m n x) m (λ q.
+    either q n
+    (λ e. ap (get (insert m n x)) e ∙ get-insert_same m n x ∙ sym found ∙ ap (get m) (sym e))
+    (λ ne. get-insert_other m n x q ne))
 
 -- nothing is found where it would be absurd
 pub none_found : {X : Type 0} (o : Option X) → ((x : X) → o ≡ Some x → ⊥) → o ≡ None

@@ -82,17 +82,11 @@ result_taken_simple k s simple = record { plain = result_taken_plain k s simple.
 
 -- ---- A thread that is gone
 
-callers_left : (s : Core) (n q : ℕ) → callers_of q s ≡ [] → unwrap_or (get (remove s.callers n) q) [] ≡ []
-callers_left s n q h =
-    either q n
-    (λ e. ap (λ k. unwrap_or (get (remove s.callers n) k) []) e ∙ ap (λ o. unwrap_or o []) (get-remove_same s.callers n))
-    (λ ne. ap (λ o. unwrap_or o []) (get-remove_other s.callers n q ne) ∙ h)
-
 pub trap_plain : (n : ℕ) (s : Core) → IsPlain s → IsPlain (trap_done n s)
 unfolding trap_done remove_thread set_trapped
 trap_plain n s plain = record {
   threads = λ q u is. remove_cases s.threads n q u is (λ ne at. plain.threads q u at);
-  no_callers = λ q. callers_left s n q (plain.no_callers q);
+  no_callers = λ q u is. remove_cases s.threads n q u is (λ ne at. get-remove_other s.callers n q ne ∙ plain.no_callers q u at);
   calls = plain.calls;
   called = λ q u is. remove_cases s.threads n q u is (λ ne at. plain.called q u at);
   no_works = plain.no_works;
@@ -166,7 +160,7 @@ module _ (s : Core) (plain : IsPlain s) (n : ℕ) (t : Thread) (found : get s.th
   unfolding exit_done remove_group remove_call remove_thread free_thread_handle set_do_not_enter on_instance
   exit_plain = record {
     threads = λ q u is. remove_cases s.threads n q u is (λ ne at. plain.threads q u at);
-    no_callers = λ q. callers_left s n q (plain.no_callers q);
+    no_callers = λ q u is. remove_cases s.threads n q u is (λ ne at. get-remove_other s.callers n q ne ∙ plain.no_callers q u at);
     calls = λ k d is. remove_cases s.calls n k d is (λ ne at. plain.calls k d at);
     called = λ q u is. remove_cases s.threads n q u is (λ ne at. ap is_some (get-remove_other s.calls n q ne) ∙ plain.called q u at);
     no_works = plain.no_works;

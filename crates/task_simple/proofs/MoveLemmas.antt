@@ -24,6 +24,7 @@ pub record Moves (s x : Core) (n : ℕ) (t : Thread) (c : Call) : Type 0 where
   pub instance_there : is_some (get x.instances c.callee.instance) ≡ true
   pub table_there : is_some (get x.thread_handles c.callee.instance) ≡ true
   pub made_same : x.made ≡ s.made
+  pub callers_there : get s.callers n ≡ Some []
   pub callers_same : x.callers ≡ s.callers
   pub works_same : x.works ≡ s.works
   pub sets_same : x.sets ≡ s.sets
@@ -72,7 +73,7 @@ module _ (s x : Core) (n : ℕ) (t : Thread) (c : Call) (plain : IsPlain s) (m :
   pub plain_moves : IsPlain x
   plain_moves = record {
     threads = λ q u is. thread_cases q u is (λ e same. subst (λ k. IsSimpleThread k u) (sym e) (subst (IsSimpleThread n) (sym same) m.thread_simple)) (λ ne found. plain.threads q u found);
-    no_callers = λ q. ap (λ w. unwrap_or (get w q) []) m.callers_same ∙ plain.no_callers q;
+    no_callers = λ q u is. ap (λ w. get w q) m.callers_same ∙ thread_cases q u is (λ e same. ap (get s.callers) e ∙ m.callers_there) (λ ne found. plain.no_callers q u found);
     calls = λ q d is. subst (λ last. IsSimpleCall last q d) (sym made_still) (call_cases q d is (λ e same. subst (λ k. IsSimpleCall s.made.threads k d) (sym e) (subst (IsSimpleCall s.made.threads n) (sym same) m.call_simple)) (λ ne found. plain.calls q d found));
     called = λ q u is. thread_cases q u is (λ e same. ap (λ k. is_some (get x.calls k)) e ∙ ap is_some m.call_now) (λ ne found. called_still q (plain.called q u found));
     no_works = m.works_same ∙ plain.no_works;

@@ -25,7 +25,7 @@ pub fresh_plain : (instances limit capacity : ℕ) → IsPlain (fresh instances 
 unfolding fresh numbers empty
 fresh_plain instances limit capacity = record {
   threads = λ n t is. absurd (nothing_in n t is);
-  no_callers = λ n. ap (λ o. unwrap_or o []) (get-empty n);
+  no_callers = λ n t is. absurd (nothing_in n t is);
   calls = λ k c is. absurd (nothing_in k c is);
   called = λ n t is. absurd (nothing_in n t is);
   no_works = refl;

@@ -3,7 +3,7 @@ use Rattle.std.proofs.Common.{arith, ap, ap₂, inl, inr, refl, subst, sym, ◌�
 use Rattle.std.proofs.lemmas.Bool.{ne_eqb}
 use Rattle.std.specs.List.{list_any}
 use Rattle.std.specs.Option.{option_map_or}
-use Rattle.std.specs.Prelude.{Bool, List, None, Option, Some, [], false, if◌then◌else◌, is_none, length, not, option_and_then, option_map, suc, true, zero, ℕ, ◌&&◌, ◌==◌, ◌∷◌, ◌≡◌, ◌≢◌}
+use Rattle.std.specs.Prelude.{Bool, List, None, Option, Some, [], false, if◌then◌else◌, is_none, length, not, option_and_then, option_map, suc, true, unwrap_or, zero, ℕ, ◌&&◌, ◌==◌, ◌∷◌, ◌≡◌, ◌≢◌}
 use Rattle.task_machine.specs.declared.component.ExportKind.TheVariants as kind
 use Rattle.task_machine.specs.declared.records.Call.{Call}
 use Rattle.task_machine.specs.declared.records.Caller.TheVariants as caller
@@ -20,22 +20,30 @@ use Rattle.task_machine.specs.declared.words.Mark.TheVariants as mark
 use Rattle.task_machine.specs.declared.words.Status.{Status}
 use Rattle.task_machine.specs.Core.{Core, State, Unscripted}
 use Rattle.task_machine.specs.Maps.{empty, get, size}
-use Rattle.task_machine.specs.Moves.{checked, passes_check, released_callers, stopped, stopped_at}
-use Rattle.task_machine.specs.Read.{admits, admitted_held, backpressure_of, call_instance, caller_of, first_of, foot_from, foot_of, goal_of, has_ended, held_why, instance_of, is_direct, is_explicit, is_held_admitted, is_last_thread, is_nil, is_under, kind_of, may_not_enter, may_not_suspend, next_entry, or_first, place_of, strand_from, strand_of, task_of, under_of}
-use Rattle.task_machine.specs.Write.{on_instance, set_do_not_enter, set_place}
+use Rattle.task_machine.specs.Moves.{checked, passes_check, passed_on, stopped, stopped_at}
+use Rattle.task_machine.specs.Read.{admits, admitted_held, backpressure_of, call_instance, caller_of, first_of, foot_from, foot_of, goal_of, has_ended, held_why, instance_of, is_at, is_direct, is_explicit, is_held_admitted, is_last_thread, is_nil, is_under, kind_of, may_not_enter, may_not_suspend, next_entry, or_first, place_of, strand_from, strand_of, task_of, under_of}
+use Rattle.task_machine.specs.Write.{on_instance, set_callers, set_do_not_enter, set_place}
 use Rattle.task_rules.specs.Ends.{held_out, is_told, leaves_no_result, may_tell, passes_after_stop, told}
 use Rattle.task_rules.specs.MainOps.{has_interesting, is_ready_for_call}
 use Rattle.task_rules.specs.Stalled.{Setting, deadlock_trap, is_idle, is_idle_trap, may_deadlock, works_rest, is_unended_take, main_pends}
 use Rattle.task_rules.specs.Turns.{nothing_stands, settled_futures, settled_turn}
 use Rattle.task_rules.specs.Works.{first_number, has_live_work, has_moving_work, is_moving, live_after, next_polled}
 use Rattle.task_simple.specs.Simple.{IsPlain, IsSimplePlace, held_start, ready_start}
-use Rattle.task_simple.proofs.RecordLemmas.{any_none, any_one, filter_none, find_none}
+use Rattle.task_simple.proofs.CaseLemmas.{insert-same}
+use Rattle.task_simple.proofs.RecordLemmas.{any_none, any_one, filter_none, find_number_none}
 
 -- what holds of the three places holds of each simple one
 pub at_each_place : (P : Place → Type 0) → P ready_start → P place.Running → P held_start → (p : Place) → IsSimplePlace p → P p
 at_each_place P a b c p (inl e) = subst P (sym e) a
 at_each_place P a b c p (inr (inl e)) = subst P (sym e) b
 at_each_place P a b c p (inr (inr e)) = subst P (sym e) c
+
+-- a strand on which nobody waits stops
+pub stopped_where : (n : ℕ) (s : Core) → s.queues.switch ≡ None → get s.callers n ≡ Some [] → stopped n s ≡ s
+unfolding stopped set_callers
+stopped_where n s none there =
+    ap₂ (λ (o : Option ℕ) (ns : List ℕ). passed_on o ns (set_callers n [] s)) none (ap (λ o. unwrap_or o []) there)
+    ∙ ap (λ m. record s { callers = m }) (insert-same s.callers n [] there)
 
 and_true : (b : Bool) → (b && true) ≡ b
 and_true true = refl
@@ -46,7 +54,10 @@ module _ (s : Core) (plain : IsPlain s) where
 
   pub under_of_none : (n : ℕ) → under_of n s ≡ None
   unfolding under_of
-  under_of_none n = ap (option_map (λ e. e.0)) (find_none s.threads (λ e. is_under n e.1.place) (λ q t is. at_each_place (λ p. is_under n p ≡ false) refl refl refl t.place (plain.threads q t is).placed))
+  under_of_none n =
+      find_number_none s.threads (λ q. is_at q s (is_under n)) (λ q t is.
+          ap (λ o. option_map_or (is_under n) (option_map (λ t. t.place) o) false) is
+          ∙ at_each_place (λ p. is_under n p ≡ false) refl refl refl t.place (plain.threads q t is).placed)
 
   foot_is : (k n : ℕ) → foot_from k s n ≡ n
   foot_is zero n = refl
@@ -64,12 +75,11 @@ module _ (s : Core) (plain : IsPlain s) where
   unfolding strand_of
   strand_of_is n = strand_is _ n
 
-  pub stopped_is : (n : ℕ) → stopped n s ≡ s
-  unfolding stopped
-  stopped_is n = ap₂ (λ (o : Option ℕ) (ns : List ℕ). released_callers n o ns s) plain.no_switch (plain.no_callers n)
+  pub stopped_is : (n : ℕ) (t : Thread) → get s.threads n ≡ Some t → stopped n s ≡ s
+  stopped_is n t found = stopped_where n s plain.no_switch (plain.no_callers n t found)
 
-  pub stopped_at_is : (n : ℕ) (p : Place) → stopped_at n p s ≡ set_place n p s
-  stopped_at_is n p = ap (set_place n p) (ap (λ f. stopped f s) (foot_of_is n) ∙ stopped_is n)
+  pub stopped_at_is : (n : ℕ) (p : Place) (t : Thread) → get s.threads n ≡ Some t → stopped_at n p s ≡ set_place n p s
+  stopped_at_is n p t found = ap (set_place n p) (ap (λ f. stopped f s) (foot_of_is n) ∙ stopped_is n t found)
 
   -- ---- Checks
 

@@ -91,6 +91,10 @@ module _ {X : Type 0} where
   keep_none test [] h = refl
   keep_none test (e ∷ es) h = ap (λ b. cond b (e.0 ∷ filter test (map (λ e. e.0) es)) (filter test (map (λ e. e.0) es))) h.0 ∙ keep_none test es h.1
 
+  find_in_numbers : (test : ℕ → Bool) (es : List (ℕ × X)) → EachIn (λ q x. test q ≡ false) es → find test (map (λ e. e.0) es) ≡ None
+  find_in_numbers test [] h = refl
+  find_in_numbers test (e ∷ es) h = ap (λ b. cond b (Some e.0) (find test (map (λ e. e.0) es))) h.0 ∙ find_in_numbers test es h.1
+
   -- no record passes the test
   pub any_none : (m : Records X) (test : ℕ × X → Bool) → ((q : ℕ) (x : X) → get m q ≡ Some x → test (q, x) ≡ false) → list_any test m.list ≡ false
   unfolding get
@@ -99,6 +103,10 @@ module _ {X : Type 0} where
   pub find_none : (m : Records X) (test : ℕ × X → Bool) → ((q : ℕ) (x : X) → get m q ≡ Some x → test (q, x) ≡ false) → find test m.list ≡ None
   unfolding get
   find_none m test h = find_in_none test m.list (each_in (λ q x. test (q, x) ≡ false) m.list m.sorted h)
+
+  pub find_number_none : (m : Records X) (test : ℕ → Bool) → ((q : ℕ) (x : X) → get m q ≡ Some x → test q ≡ false) → find test (numbers m) ≡ None
+  unfolding get numbers
+  find_number_none m test h = find_in_numbers test m.list (each_in (λ q x. test q ≡ false) m.list m.sorted h)
 
   pub sum_none : (m : Records X) (f : ℕ × X → ℕ) → ((q : ℕ) (x : X) → get m q ≡ Some x → f (q, x) ≡ 0) → sum_by f m.list ≡ 0
   unfolding get

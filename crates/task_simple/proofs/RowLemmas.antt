@@ -3,7 +3,7 @@ use Rattle.std.proofs.Common.{ap, ap₂, refl, subst, sym, ◌∙◌}
 use Rattle.std.proofs.lemmas.Bool.{eqb-false, eqb-true, false≢true}
 use Rattle.std.specs.List.{list_any}
 use Rattle.std.specs.Option.{option_map_or}
-use Rattle.std.specs.Prelude.{Bool, List, None, Option, Some, [], false, if◌then◌else◌, is_none, is_some, not, option_and_then, option_map, suc, true, zero, ℕ, ◌&&◌, ◌+◌, ◌==◌, ◌||◌, ◌≡◌}
+use Rattle.std.specs.Prelude.{Bool, List, None, Option, Some, [], false, find, if◌then◌else◌, is_none, is_some, not, option_and_then, option_map, suc, true, zero, ℕ, ◌&&◌, ◌+◌, ◌==◌, ◌||◌, ◌≡◌}
 use Rattle.task_machine.specs.declared.component.Callee.{Callee}
 use Rattle.task_machine.specs.declared.component.Component.{Component}
 use Rattle.task_machine.specs.declared.label.MainLabel.TheVariants as main_label
@@ -23,9 +23,9 @@ use Rattle.task_machine.specs.declared.words.Status.{Status}
 use Rattle.task_machine.specs.declared.words.Status.TheVariants as status
 use Rattle.task_machine.specs.Core.{Began, Core}
 use Rattle.task_machine.specs.Labels.{Choice, exit_label, held_label, ret_label, take_label}
-use Rattle.task_machine.specs.Maps.{Records, change, empty, get, remove}
-use Rattle.task_machine.specs.Moves.{call_settled, checked, departed, ended, exited_if, freed_thread_handle, group_settled, interest_settled, is_deletable, is_deletable_call, is_finished, is_group_done, put_high, released, released_callers, stopped, stopped_at}
-use Rattle.task_machine.specs.Read.{at_handle_limit, call_group, call_instance, caller_of, callers_of, first_thread, fits, foot_from, foot_of, has_ended, has_thread, instance_of, is_under, kind_of, may_not_enter, may_not_suspend, new_thread_handle, no_callee, place_of, position_of, task_of, thread_handle_of, under_of, undelivered_end}
+use Rattle.task_machine.specs.Maps.{Records, change, empty, get, remove, numbers}
+use Rattle.task_machine.specs.Moves.{call_settled, checked, departed, ended, exited_if, freed_thread_handle, group_settled, interest_settled, is_deletable, is_deletable_call, is_finished, is_group_done, put_high, released, stopped, stopped_at}
+use Rattle.task_machine.specs.Read.{at_handle_limit, call_group, call_instance, caller_of, callers_of, fits, foot_from, foot_of, has_ended, has_thread, instance_of, is_under, kind_of, may_not_enter, may_not_suspend, new_thread_handle, no_callee, place_of, position_of, task_of, thread_handle_of, under_of, undelivered_end}
 use Rattle.task_machine.specs.Write.{add_call, add_group, add_thread, free_thread_handle, give_result, give_thread_handle, on_call, on_instance, on_thread, push_high, remove_call, remove_thread, remove_threads, set_do_not_enter, set_end, set_exited, set_place, set_started, set_starting_published, set_thread_handle, set_trapped, set_uninteresting, take_result}
 use Rattle.task_machine.proofs.MapLemmas.{get-change_other, get-change_same, get-remove_other, get-remove_same, same_records}
 use Rattle.task_rules.specs.Calls.{call_made, new_call, new_thread, with_thread_handle}
@@ -39,7 +39,7 @@ use Rattle.task_rules.specs.Takes.{enters, held, may_tell_starting, start_held, 
 use Rattle.task_rules.specs.Task.{ret_done, ret_row}
 use Rattle.task_simple.specs.Forms.{call_started, exit_done, return_done, start_done, start_put_off, trap_done}
 use Rattle.task_simple.specs.Simple.{IsPlain, held_start, ready_start}
-use Rattle.task_simple.proofs.ReadLemmas.{admits_start, caller_of_is, foot_of_is, goal_of_is, held_out_none, instance_of_is, is_direct_not, is_explicit_not, kind_of_is, leaves_no_result_is, may_tell_is, passes_after_stop_is, strand_of_is, task_of_is, under_of_none}
+use Rattle.task_simple.proofs.ReadLemmas.{admits_start, caller_of_is, foot_of_is, goal_of_is, held_out_none, instance_of_is, is_direct_not, is_explicit_not, kind_of_is, leaves_no_result_is, may_tell_is, passes_after_stop_is, stopped_where, strand_of_is, task_of_is, under_of_none}
 use Rattle.task_simple.proofs.RecordLemmas.{any_none}
 
 -- ---- Maps
@@ -80,10 +80,6 @@ both_true false = refl
 pub told_where : (k : ℕ) (e : Status) (w : Option ℕ) (s : Core) → caller_of k s ≡ caller.Main → told k e w s ≡ s
 unfolding told
 told_where k e w s h = rw h refl
-
-pub stopped_where : (n : ℕ) (s : Core) → s.queues.switch ≡ None → callers_of n s ≡ [] → stopped n s ≡ s
-unfolding stopped
-stopped_where n s a b = ap₂ (λ (o : Option ℕ) (ns : List ℕ). released_callers n o ns s) a b
 
 pub checked_where : (i : ℕ) (s : Core) → may_not_suspend i s ≡ false → checked i s ≡ s
 unfolding checked
@@ -136,9 +132,9 @@ module _ (s : Core) (plain : IsPlain s) (n : ℕ) (t : Thread) (found : get s.th
   unfolding set_do_not_enter on_instance
   no_switch_then = plain.no_switch
 
-  no_callers_then : callers_of n (set_do_not_enter (instance_of n s) false s) ≡ []
+  no_callers_then : get (set_do_not_enter (instance_of n s) false s).callers n ≡ Some []
   unfolding set_do_not_enter on_instance
-  no_callers_then = plain.no_callers n
+  no_callers_then = plain.no_callers n t found
 
   let_in_is : deactivated n [] s ≡ set_do_not_enter (instance_of n s) false s
   unfolding deactivated let_in released
@@ -281,7 +277,7 @@ module _ (s : Core) (plain : IsPlain s) (n : ℕ) (t : Thread) (found : get s.th
 
   under_then : (x : Core) → x.threads ≡ s.threads → (q : ℕ) → under_of q x ≡ None
   unfolding under_of
-  under_then x same q = ap (λ m. first_thread (λ t. is_under q t.place) m.list) same ∙ under_of_none s plain q
+  under_then x same q = ap (λ m. find (λ n. option_map_or (is_under q) (option_map (λ t. t.place) (get m n)) false) (numbers m)) same ∙ under_of_none s plain q
 
   foot_from_then : (x : Core) → x.threads ≡ s.threads → (k q : ℕ) → foot_from k x q ≡ q
   foot_from_then x same zero q = refl
@@ -299,9 +295,9 @@ module _ (s : Core) (plain : IsPlain s) (n : ℕ) (t : Thread) (found : get s.th
   unfolding set_starting_published on_call
   switch_still = plain.no_switch
 
-  callers_still : callers_of n (set_starting_published n s) ≡ []
+  callers_still : get (set_starting_published n s).callers n ≡ Some []
   unfolding set_starting_published on_call
-  callers_still = plain.no_callers n
+  callers_still = plain.no_callers n t found
 
   pub start_held_is : start_held n None s ≡ start_put_off n s
   unfolding start_held held start_put_off

@@ -64,6 +64,7 @@ module _ (s : Core) (plain : IsPlain s) (n : ℕ) (t : Thread) (found : get s.th
     instance_there = plain.instance_there n c there;
     table_there = plain.table_there n c there;
     made_same = refl;
+    callers_there = plain.no_callers n t found;
     callers_same = refl;
     works_same = refl;
     sets_same = refl;
@@ -185,6 +186,7 @@ module _ (s : Core) (plain : IsPlain s) (n : ℕ) (t : Thread) (found : get s.th
       instance_there = is_some-change s.instances i shut c.callee.instance (plain.instance_there n c there);
       table_there = is_some-change s.thread_handles i (giving n) c.callee.instance (plain.table_there n c there);
       made_same = refl;
+      callers_there = plain.no_callers n t found;
       callers_same = refl;
       works_same = refl;
       sets_same = refl;
@@ -248,6 +250,7 @@ module _ (s : Core) (plain : IsPlain s) (n : ℕ) (t : Thread) (found : get s.th
     instance_there = plain.instance_there n c there;
     table_there = plain.table_there n c there;
     made_same = refl;
+    callers_there = plain.no_callers n t found;
     callers_same = refl;
     works_same = refl;
     sets_same = refl;

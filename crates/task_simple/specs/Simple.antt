@@ -20,7 +20,7 @@ use Rattle.task_machine.specs.declared.records.Why.TheVariants as why
 use Rattle.task_machine.specs.declared.words.Mark.TheVariants as mark
 use Rattle.task_machine.specs.Core.{Core, Table}
 use Rattle.task_machine.specs.Maps.{empty, get, numbers, size}
-use Rattle.task_machine.specs.Read.{call_instance, callers_of, is_entry_of, may_not_enter, place_of, thread_at}
+use Rattle.task_machine.specs.Read.{call_instance, is_entry_of, may_not_enter, place_of, thread_at}
 
 -- ---- One thread, one call, one instance, one table
 
@@ -84,7 +84,7 @@ pub record IsTable {X : Type 0} (t : Table X) : Type 0 where
 -- All but what stands at high.
 pub record IsPlain (s : Core) : Type 0 where
   pub threads : (n : ℕ) (t : Thread) → get s.threads n ≡ Some t → IsSimpleThread n t
-  pub no_callers : (n : ℕ) → callers_of n s ≡ []
+  pub no_callers : (n : ℕ) (t : Thread) → get s.threads n ≡ Some t → get s.callers n ≡ Some []
   pub calls : (k : ℕ) (c : Call) → get s.calls k ≡ Some c → IsSimpleCall s.made.threads k c
   -- a call may have lost its thread, but no thread its call
   pub called : (n : ℕ) (t : Thread) → get s.threads n ≡ Some t → is_some (get s.calls n) ≡ true

@@ -25,8 +25,8 @@ use task_machine::{
 pub fn strands_are_single()
     ensures foot { (s : Core) → IsPlain s → (n : ℕ) → foot_of n s ≡ n }
     ensures strand { (s : Core) → IsPlain s → (n : ℕ) → strand_of n s ≡ n ∷ [] }
-    ensures stop { (s : Core) → IsPlain s → (n : ℕ) → stopped n s ≡ s }
-    ensures stop_at { (s : Core) → IsPlain s → (n : ℕ) (p : Place) → stopped_at n p s ≡ set_place n p s }
+    ensures stop { (s : Core) → IsPlain s → (n : ℕ) (t : Thread) → get s.threads n ≡ Some t → stopped n s ≡ s }
+    ensures stop_at { (s : Core) → IsPlain s → (n : ℕ) (p : Place) (t : Thread) → get s.threads n ≡ Some t → stopped_at n p s ≡ set_place n p s }
 {}
 
 /// Each check passes, and promotes nothing.
