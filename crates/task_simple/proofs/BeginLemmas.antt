@@ -3,7 +3,7 @@ use Rattle.std.proofs.Common.{ap, ap₂, arith, inl, refl, subst, sym, ◌∙◌
 use Rattle.std.proofs.lemmas.Bool.{false≢true}
 use Rattle.std.proofs.lemmas.List.Folds.{list_all-append}
 use Rattle.std.specs.Option.{option_map_or}
-use Rattle.std.specs.Prelude.{List, None, Some, [], false, is_some, option_map, true, unwrap_or, ℕ, ◌&&◌, ◌++◌, ◌+◌, ◌∷◌, ◌≡◌, ◌≢◌}
+use Rattle.std.specs.Prelude.{List, None, Some, [], false, is_some, option_map, true, ℕ, ◌&&◌, ◌++◌, ◌+◌, ◌∷◌, ◌≡◌, ◌≢◌}
 use Rattle.task_machine.specs.declared.component.Callee.{Callee}
 use Rattle.task_machine.specs.declared.component.ExportKind.TheVariants as kind
 use Rattle.task_machine.specs.declared.records.Call.{Call}
@@ -22,10 +22,9 @@ use Rattle.task_rules.specs.Calls.{new_call, new_thread}
 use Rattle.task_rules.specs.Scripts.{registers_for}
 use Rattle.task_simple.specs.Forms.{call_started}
 use Rattle.task_simple.specs.Simple.{IsPlain, IsSimple, IsSimpleCall, IsSimpleThread, held_start, is_of_thread, ready_start, stands}
-use Rattle.task_simple.proofs.CaseLemmas.{either, insert_cases, none_found}
+use Rattle.task_simple.proofs.CaseLemmas.{either, get_changed, insert_cases, none_found}
 use Rattle.task_simple.proofs.QueueLemmas.{entries-push_other, entries-push_same, entries_of}
 use Rattle.task_simple.proofs.RecordLemmas.{numbers-insert_last}
-use Rattle.task_simple.proofs.RowLemmas.{get_changed}
 
 call_later : (last k : ℕ) (c : Call) → IsSimpleCall last k c → IsSimpleCall (last + 1) k c
 call_later last k c r = record {

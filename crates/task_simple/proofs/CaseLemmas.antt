@@ -1,7 +1,7 @@
 -- What is found in a map after one change: the record that was changed, or another that was found there before.
-use Rattle.std.proofs.Common.{ap, arith, false, refl, sym, true, ◌∙◌}
+use Rattle.std.proofs.Common.{ap, arith, false, refl, subst, sym, true, ◌∙◌}
 use Rattle.std.specs.List.Sorted.{SwapsInRange, apply_swaps}
-use Rattle.std.proofs.lemmas.Bool.{eqb-false, eqb-true}
+use Rattle.std.proofs.lemmas.Bool.{eqb-false, eqb-true, false≢true}
 use Rattle.std.specs.Prelude.{IsPermutation, List, None, Option, Some, [], is_some, option_map, ℕ, ◌<◌, ◌==◌, ◌∷◌, ◌≡◌, ◌≢◌}
 use Rattle.task_machine.specs.Maps.{Records, change, get, insert, remove}
 use Rattle.task_machine.proofs.MapLemmas.{get-change_other, get-change_same, get-insert_other, get-insert_same, get-remove_other, get-remove_same, same_records}
@@ -42,6 +42,35 @@ module _ {X : Type 0} (m : Records X) (n : ℕ) where
       kept : (o : Option X) → is_some (option_map f o) ≡ is_some o
       kept None = refl
       kept (Some x) = refl
+
+module _ {X : Type 0} where
+  -- what is there
+  pub some_there : (o : Option X) → is_some o ≡ true → (x : X) × (o ≡ Some x)
+  some_there None h = absurd (false≢true h)
+  some_there (Some x) h = (x, refl)
+
+  -- the record that was found, changed
+  pub get_changed : (m : Records X) (n : ℕ) (f : X → X) (x : X) → get m n ≡ Some x → get (change n f m) n ≡ Some (f x)
+  get_changed m n f x found = get-change_same m n f ∙ ap (option_map f) found
+
+  -- a change of what is taken away is no change
+  pub remove-change : (m : Records X) (n : ℕ) (f : X → X) → remove (change n f m) n ≡ remove m n
+  remove-change m n f = same_records (remove (change n f m) n) (remove m n) (λ q.
+      elim (q == n) as (λ b. (q == n) ≡ b → get (remove (change n f m) n) q ≡ get (remove m n) q) [
+        | true ↦ λ same. let e : q ≡ n = eqb-true q n same in
+            subst (λ k. get (remove (change n f m) n) k ≡ get (remove m n) k) (sym e) (get-remove_same (change n f m) n ∙ sym (get-remove_same m n))
+        | false ↦ λ other. let ne = eqb-false q n other in
+            get-remove_other (change n f m) n q ne ∙ get-change_other m n f q ne ∙ sym (get-remove_other m n q ne)
+      ] refl)
+
+  -- a change that leaves its record as it is
+  pub change-same : (m : Records X) (n : ℕ) (f : X → X) (x : X) → get m n ≡ Some x → f x ≡ x → change n f m ≡ m
+  change-same m n f x found same = same_records (change n f m) m (λ q.
+      elim (q == n) as (λ b. (q == n) ≡ b → get (change n f m) q ≡ get m q) [
+        | true ↦ λ eq. let e : q ≡ n = eqb-true q n eq in
+            subst (λ k. get (change n f m) k ≡ get m k) (sym e) (get_changed m n f x found ∙ ap (λ y. Some y) same ∙ sym found)
+        | false ↦ λ other. get-change_other m n f q (eqb-false q n other)
+      ] refl)
 
 -- a record that is written again as it was
 pub insert-same : {X : Type 0} (m : Records X) (n : ℕ) (x : X) → get m n ≡ Some x → insert m n x ≡ m

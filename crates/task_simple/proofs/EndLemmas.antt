@@ -2,15 +2,15 @@
 use Rattle.std.proofs.Common.{ap, refl, subst, sym, ◌∙◌}
 use Rattle.std.proofs.lemmas.Bool.{false≢true}
 use Rattle.std.specs.Option.{option_map_or}
-use Rattle.std.specs.Prelude.{None, Option, Some, [], false, filter, is_some, not, option_and_then, option_map, true, unwrap_or, ℕ, ◌==◌, ◌≡◌, ◌≢◌}
+use Rattle.std.specs.Prelude.{None, Option, Some, false, filter, is_some, not, option_and_then, option_map, true, ℕ, ◌==◌, ◌≡◌, ◌≢◌}
 use Rattle.task_machine.specs.declared.records.Instance.{Instance}
 use Rattle.task_machine.specs.declared.records.Place.TheVariants as place
 use Rattle.task_machine.specs.declared.records.Thread.{Thread}
 use Rattle.task_machine.specs.Core.{Core, Table}
 use Rattle.task_machine.specs.Maps.{change, get, remove}
-use Rattle.task_machine.specs.Read.{call_instance, callers_of, instance_of, may_not_enter, named_by, no_callee, thread_at}
+use Rattle.task_machine.specs.Read.{call_instance, instance_of, may_not_enter, named_by, no_callee, thread_at}
 use Rattle.task_machine.specs.Write.{free_thread_handle, on_instance, remove_call, remove_group, remove_thread, set_do_not_enter, set_trapped, take_result, taking}
-use Rattle.task_machine.proofs.MapLemmas.{get-change_other, get-change_same, get-remove_other, get-remove_same}
+use Rattle.task_machine.proofs.MapLemmas.{get-change_other, get-change_same, get-remove_other}
 use Rattle.task_simple.specs.Forms.{exit_done, trap_done}
 use Rattle.task_simple.specs.Simple.{IsPlain, IsSimple, IsSimpleInstance, IsTable}
 use Rattle.task_simple.proofs.CaseLemmas.{change_cases, either, is_some-change, remove_cases}

@@ -19,8 +19,8 @@ use Rattle.task_machine.specs.Write.{give_result, on_call, on_thread, set_end, s
 use Rattle.task_rules.specs.Data.{moved_to}
 use Rattle.task_simple.specs.Forms.{return_done}
 use Rattle.task_simple.specs.Simple.{IsPlain}
+use Rattle.task_simple.proofs.CaseLemmas.{change-same, get_changed}
 use Rattle.task_simple.proofs.ReadLemmas.{instance_of_is}
-use Rattle.task_simple.proofs.RowLemmas.{change-same, get_changed}
 
 pub place_found : (s : Core) (n : ℕ) (t : Thread) → get s.threads n ≡ Some t → place_of n s ≡ Some t.place
 place_found s n t found = ap (option_map (λ t. t.place)) found

@@ -1,6 +1,6 @@
 -- The first state is simple.
 use Rattle.std.proofs.Common.{ap, arith, refl, subst, sym}
-use Rattle.std.specs.Prelude.{None, Some, [], option_map, suc, unwrap_or, zero, ℕ, ◌≡◌}
+use Rattle.std.specs.Prelude.{None, Some, option_map, suc, zero, ℕ, ◌≡◌}
 use Rattle.task_machine.specs.Core.{filled, fresh, no_handles, untouched}
 use Rattle.task_machine.specs.Maps.{empty, get, get-empty, numbers}
 use Rattle.task_simple.specs.Simple.{IsPlain, IsSimple, IsSimpleInstance, IsTable, NoneRuns, stands}

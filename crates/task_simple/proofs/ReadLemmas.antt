@@ -21,7 +21,7 @@ use Rattle.task_machine.specs.declared.words.Status.{Status}
 use Rattle.task_machine.specs.Core.{Core, State, Unscripted}
 use Rattle.task_machine.specs.Maps.{empty, get, size}
 use Rattle.task_machine.specs.Moves.{checked, passes_check, passed_on, stopped, stopped_at}
-use Rattle.task_machine.specs.Read.{admits, admitted_held, backpressure_of, call_instance, caller_of, first_of, foot_from, foot_of, goal_of, has_ended, held_why, instance_of, is_at, is_direct, is_explicit, is_held_admitted, is_last_thread, is_nil, is_under, kind_of, may_not_enter, may_not_suspend, next_entry, or_first, place_of, strand_from, strand_of, task_of, under_of}
+use Rattle.task_machine.specs.Read.{admits, admitted_held, backpressure_of, call_instance, caller_of, callers_of, first_of, foot_from, foot_of, goal_of, has_ended, held_why, instance_of, is_at, is_direct, is_explicit, is_held_admitted, is_last_thread, is_nil, is_under, kind_of, may_not_enter, may_not_suspend, next_entry, or_first, place_of, strand_from, strand_of, task_of, under_of}
 use Rattle.task_machine.specs.Write.{on_instance, set_callers, set_do_not_enter, set_place}
 use Rattle.task_rules.specs.Ends.{held_out, is_told, leaves_no_result, may_tell, passes_after_stop, told}
 use Rattle.task_rules.specs.MainOps.{has_interesting, is_ready_for_call}
@@ -56,8 +56,8 @@ module _ (s : Core) (plain : IsPlain s) where
   unfolding under_of
   under_of_none n =
       find_number_none s.threads (λ q. is_at q s (is_under n)) (λ q t is.
-          ap (λ o. option_map_or (is_under n) (option_map (λ t. t.place) o) false) is
-          ∙ at_each_place (λ p. is_under n p ≡ false) refl refl refl t.place (plain.threads q t is).placed)
+      ap (λ o. option_map_or (is_under n) (option_map (λ t. t.place) o) false) is
+      ∙ at_each_place (λ p. is_under n p ≡ false) refl refl refl t.place (plain.threads q t is).placed)
 
   foot_is : (k n : ℕ) → foot_from k s n ≡ n
   foot_is zero n = refl
@@ -74,6 +74,9 @@ module _ (s : Core) (plain : IsPlain s) where
   pub strand_of_is : (n : ℕ) → strand_of n s ≡ n ∷ []
   unfolding strand_of
   strand_of_is n = strand_is _ n
+
+  pub callers_of_is : (n : ℕ) (t : Thread) → get s.threads n ≡ Some t → callers_of n s ≡ []
+  callers_of_is n t found = ap (λ o. unwrap_or o []) (plain.no_callers n t found)
 
   pub stopped_is : (n : ℕ) (t : Thread) → get s.threads n ≡ Some t → stopped n s ≡ s
   stopped_is n t found = stopped_where n s plain.no_switch (plain.no_callers n t found)
@@ -271,4 +274,4 @@ is_idle_is x s plain at unscripted none = is_idle_while x s plain at (ap (main_p
 pub may_deadlock_is : (x : Setting) (s : State) → IsPlain s.core → s.turn ≡ turn.Take false → s.main ≡ Unscripted → s.core.queues.high ≡ [] → may_deadlock x s ≡ is_idle_trap x.idle
 may_deadlock_is x s plain at unscripted none = may_deadlock_while x s plain at (ap (main_pends x s.core) unscripted) none
 
-pub ruleset reads = (foot_of_is, strand_of_is, stopped_is, stopped_at_is, passes_check_is, checked_is, told_is, may_tell_is, task_of_is, instance_of_is, is_last_thread_is, leaves_no_result_is, admits_start, is_ready_for_call_is, has_moving_work_not, has_live_work_not, next_polled_none, settled_futures_is, next_entry_is, nothing_stands_is, deadlock_trap_is, is_idle_is, may_deadlock_is, is_idle_while, may_deadlock_while, has_interesting_none, has_interesting_some)
+pub ruleset reads = (callers_of_is, foot_of_is, strand_of_is, stopped_is, stopped_at_is, passes_check_is, checked_is, told_is, may_tell_is, task_of_is, instance_of_is, is_last_thread_is, leaves_no_result_is, admits_start, is_ready_for_call_is, has_moving_work_not, has_live_work_not, next_polled_none, settled_futures_is, next_entry_is, nothing_stands_is, deadlock_trap_is, is_idle_is, may_deadlock_is, is_idle_while, may_deadlock_while, has_interesting_none, has_interesting_some)

@@ -1,6 +1,6 @@
 -- The rows of simple states, in simple words.
-use Rattle.std.proofs.Common.{ap, ap₂, refl, subst, sym, ◌∙◌}
-use Rattle.std.proofs.lemmas.Bool.{eqb-false, eqb-true, false≢true}
+use Rattle.std.proofs.Common.{ap, ap₂, refl, sym, ◌∙◌}
+use Rattle.std.proofs.lemmas.Bool.{eqb-false, eqb-true}
 use Rattle.std.specs.List.{list_any}
 use Rattle.std.specs.Option.{option_map_or}
 use Rattle.std.specs.Prelude.{Bool, List, None, Option, Some, [], false, find, if◌then◌else◌, is_none, is_some, not, option_and_then, option_map, suc, true, zero, ℕ, ◌&&◌, ◌+◌, ◌==◌, ◌||◌, ◌≡◌}
@@ -25,9 +25,9 @@ use Rattle.task_machine.specs.Core.{Began, Core}
 use Rattle.task_machine.specs.Labels.{Choice, exit_label, held_label, ret_label, take_label}
 use Rattle.task_machine.specs.Maps.{Records, change, empty, get, remove, numbers}
 use Rattle.task_machine.specs.Moves.{call_settled, checked, departed, ended, exited_if, freed_thread_handle, group_settled, interest_settled, is_deletable, is_deletable_call, is_finished, is_group_done, put_high, released, stopped, stopped_at}
-use Rattle.task_machine.specs.Read.{at_handle_limit, call_group, call_instance, caller_of, callers_of, fits, foot_from, foot_of, has_ended, has_thread, instance_of, is_under, kind_of, may_not_enter, may_not_suspend, new_thread_handle, no_callee, place_of, position_of, task_of, thread_handle_of, under_of, undelivered_end}
+use Rattle.task_machine.specs.Read.{at_handle_limit, call_group, call_instance, caller_of, fits, foot_from, foot_of, has_ended, has_thread, instance_of, is_under, kind_of, may_not_enter, may_not_suspend, new_thread_handle, no_callee, place_of, position_of, task_of, thread_handle_of, under_of, undelivered_end}
 use Rattle.task_machine.specs.Write.{add_call, add_group, add_thread, free_thread_handle, give_result, give_thread_handle, on_call, on_instance, on_thread, push_high, remove_call, remove_thread, remove_threads, set_do_not_enter, set_end, set_exited, set_place, set_started, set_starting_published, set_thread_handle, set_trapped, set_uninteresting, take_result}
-use Rattle.task_machine.proofs.MapLemmas.{get-change_other, get-change_same, get-remove_other, get-remove_same, same_records}
+use Rattle.task_machine.proofs.MapLemmas.{get-change_same, get-remove_other, get-remove_same}
 use Rattle.task_rules.specs.Calls.{call_made, new_call, new_thread, with_thread_handle}
 use Rattle.task_rules.specs.Data.{advanced, moved_to}
 use Rattle.task_rules.specs.Ends.{deactivated, exit_row, finished, held_out, let_in, result_given, returned, told}
@@ -39,37 +39,9 @@ use Rattle.task_rules.specs.Takes.{enters, held, may_tell_starting, start_held, 
 use Rattle.task_rules.specs.Task.{ret_done, ret_row}
 use Rattle.task_simple.specs.Forms.{call_started, exit_done, return_done, start_done, start_put_off, trap_done}
 use Rattle.task_simple.specs.Simple.{IsPlain, held_start, ready_start}
+use Rattle.task_simple.proofs.CaseLemmas.{change-same, get_changed, remove-change}
 use Rattle.task_simple.proofs.ReadLemmas.{admits_start, caller_of_is, foot_of_is, goal_of_is, held_out_none, instance_of_is, is_direct_not, is_explicit_not, kind_of_is, leaves_no_result_is, may_tell_is, passes_after_stop_is, stopped_where, strand_of_is, task_of_is, under_of_none}
 use Rattle.task_simple.proofs.RecordLemmas.{any_none}
-
--- ---- Maps
-
-module _ {X : Type 0} where
-  pub some_there : (o : Option X) → is_some o ≡ true → (x : X) × (o ≡ Some x)
-  some_there None h = absurd (false≢true h)
-  some_there (Some x) h = (x, refl)
-
-  pub get_changed : (m : Records X) (n : ℕ) (f : X → X) (x : X) → get m n ≡ Some x → get (change n f m) n ≡ Some (f x)
-  get_changed m n f x found = get-change_same m n f ∙ ap (option_map f) found
-
-  -- a change of what is taken away is no change
-  pub remove-change : (m : Records X) (n : ℕ) (f : X → X) → remove (change n f m) n ≡ remove m n
-  remove-change m n f = same_records (remove (change n f m) n) (remove m n) (λ q.
-      elim (q == n) as (λ b. (q == n) ≡ b → get (remove (change n f m) n) q ≡ get (remove m n) q) [
-        | true ↦ λ same. let e : q ≡ n = eqb-true q n same in
-            subst (λ k. get (remove (change n f m) n) k ≡ get (remove m n) k) (sym e) (get-remove_same (change n f m) n ∙ sym (get-remove_same m n))
-        | false ↦ λ other. let ne = eqb-false q n other in
-            get-remove_other (change n f m) n q ne ∙ get-change_other m n f q ne ∙ sym (get-remove_other m n q ne)
-      ] refl)
-
-  -- a change that leaves its record as it is
-  pub change-same : (m : Records X) (n : ℕ) (f : X → X) (x : X) → get m n ≡ Some x → f x ≡ x → change n f m ≡ m
-  change-same m n f x found same = same_records (change n f m) m (λ q.
-      elim (q == n) as (λ b. (q == n) ≡ b → get (change n f m) q ≡ get m q) [
-        | true ↦ λ eq. let e : q ≡ n = eqb-true q n eq in
-            subst (λ k. get (change n f m) k ≡ get m k) (sym e) (get_changed m n f x found ∙ ap (λ y. Some y) same ∙ sym found)
-        | false ↦ λ other. get-change_other m n f q (eqb-false q n other)
-      ] refl)
 
 both_true : (b : Bool) → (if b then true else true) ≡ true
 both_true true = refl

@@ -22,12 +22,11 @@ use Rattle.task_rules.specs.Scripts.{registers_for}
 use Rattle.task_rules.specs.Takes.{popped, rest_of}
 use Rattle.task_simple.specs.Forms.{call_started, exit_done, return_done, start_done, start_put_off, trap_done}
 use Rattle.task_simple.specs.Simple.{IsPlain, IsSimple, NoneRuns, held_start, ready_start, runs, stands}
-use Rattle.task_simple.proofs.CaseLemmas.{change_cases, either, insert_cases, remove_cases}
+use Rattle.task_simple.proofs.CaseLemmas.{change_cases, either, insert_cases, remove_cases, some_there}
 use Rattle.task_simple.proofs.EndLemmas.{exit_plain, trap_plain}
 use Rattle.task_simple.proofs.MoveLemmas.{Moves}
 use Rattle.task_simple.proofs.QueueLemmas.{first_ready, high_is, plain_popped, popped_rest, simple_left, simple_still}
 use Rattle.task_simple.proofs.ReadLemmas.{instance_of_is}
-use Rattle.task_simple.proofs.RowLemmas.{some_there}
 use Rattle.task_simple.proofs.StartLemmas.{put_off_moves, put_off_plain, return_moves, return_plain, start_moves, start_plain, table_here}
 
 -- ---- What is there

@@ -17,11 +17,10 @@ use Rattle.task_machine.proofs.MapLemmas.{get-change_other, get-change_same, get
 use Rattle.task_rules.specs.Data.{moved_to}
 use Rattle.task_simple.specs.Forms.{return_done, start_done, start_put_off}
 use Rattle.task_simple.specs.Simple.{IsPlain, IsSimpleCall, IsSimpleInstance, IsSimpleThread, IsTable, NoneRuns, held_start, ready_start, runs}
-use Rattle.task_simple.proofs.CaseLemmas.{change_cases, either, insert_cases, is_some-change}
+use Rattle.task_simple.proofs.CaseLemmas.{change_cases, either, get_changed, insert_cases, is_some-change, some_there}
 use Rattle.task_simple.proofs.MoveLemmas.{Moves, plain_moves}
 use Rattle.task_simple.proofs.ReadLemmas.{instance_of_is}
 use Rattle.task_simple.proofs.RecordLemmas.{numbers-change}
-use Rattle.task_simple.proofs.RowLemmas.{get_changed, some_there}
 use Rattle.task_simple.proofs.TableLemmas.{giving_is, next_handle_new}
 
 pub call_published : (last k : ℕ) (c : Call) → IsSimpleCall last k c → IsSimpleCall last k (record c { starting_published = true })

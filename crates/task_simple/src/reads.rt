@@ -4,7 +4,7 @@ ghost use Rattle.std.specs.Prelude.{List, None, Option, Some, [], false, is_none
 ghost use Rattle.task_machine.specs.Core.{Core, State, Unscripted};
 ghost use Rattle.task_machine.specs.Maps.{get, size};
 ghost use Rattle.task_machine.specs.Moves.{checked, passes_check, stopped, stopped_at};
-ghost use Rattle.task_machine.specs.Read.{admits, call_instance, first_of, foot_of, has_ended, instance_of, is_last_thread, is_nil, may_not_enter, next_entry, position_of, strand_of, task_of, thread_handle_of};
+ghost use Rattle.task_machine.specs.Read.{admits, call_instance, callers_of, first_of, foot_of, has_ended, instance_of, is_last_thread, is_nil, may_not_enter, next_entry, position_of, strand_of, task_of, thread_handle_of};
 ghost use Rattle.task_machine.specs.Write.{give_result, set_end, set_place, set_position};
 ghost use Rattle.task_rules.specs.Ends.{leaves_no_result, may_tell, told};
 ghost use Rattle.task_rules.specs.MainOps.{has_interesting, is_ready_for_call};
@@ -25,6 +25,7 @@ use task_machine::{
 pub fn strands_are_single()
     ensures foot { (s : Core) → IsPlain s → (n : ℕ) → foot_of n s ≡ n }
     ensures strand { (s : Core) → IsPlain s → (n : ℕ) → strand_of n s ≡ n ∷ [] }
+    ensures callers { (s : Core) → IsPlain s → (n : ℕ) (t : Thread) → get s.threads n ≡ Some t → callers_of n s ≡ [] }
     ensures stop { (s : Core) → IsPlain s → (n : ℕ) (t : Thread) → get s.threads n ≡ Some t → stopped n s ≡ s }
     ensures stop_at { (s : Core) → IsPlain s → (n : ℕ) (p : Place) (t : Thread) → get s.threads n ≡ Some t → stopped_at n p s ≡ set_place n p s }
 {}
