@@ -1,19 +1,19 @@
 //! What the machine reads off plain states. Each function is the statement of its clauses.
 
-ghost use Rattle.std.specs.Prelude.{List, None, Option, Some, [], false, is_none, is_some, not, slice_get, true, unwrap_or, ℕ, ◌+◌, ◌∷◌, ◌≡◌};
+ghost use Rattle.std.specs.Prelude.{List, None, Option, Some, [], false, is_none, is_some, not, slice_get, true, unwrap_or, ℕ, ◌+◌, ◌∷◌, ◌≡◌, ◌≢◌};
 ghost use Rattle.task_machine.specs.Core.{Core, State, Unscripted};
 ghost use Rattle.task_machine.specs.Maps.{get, size};
 ghost use Rattle.task_machine.specs.Moves.{checked, passes_check, stopped, stopped_at};
 ghost use Rattle.task_machine.specs.Read.{admits, call_instance, callers_of, first_of, foot_of, has_ended, instance_of, is_last_thread, is_nil, may_not_enter, next_entry, position_of, strand_of, task_of, thread_handle_of};
 ghost use Rattle.task_machine.specs.Write.{give_result, set_end, set_place, set_position};
-ghost use Rattle.task_rules.specs.Ends.{leaves_no_result, may_tell, told};
+ghost use Rattle.task_rules.specs.Ends.{held_out, leaves_no_result, may_tell, told};
 ghost use Rattle.task_rules.specs.MainOps.{has_interesting, is_ready_for_call};
 ghost use Rattle.task_rules.specs.Scripts.{op_of, script_in, value_in, value_of};
 ghost use Rattle.task_rules.specs.Stalled.{Setting, deadlock_trap, is_idle, is_idle_trap, main_pends, may_deadlock};
 ghost use Rattle.task_rules.specs.Turns.{nothing_stands, settled_turn};
 ghost use Rattle.task_rules.specs.Works.{has_live_work, has_moving_work, next_polled};
 ghost use Rattle.task_simple.specs.Forms.{return_done};
-ghost use Rattle.task_simple.specs.Simple.{IsPlain};
+ghost use Rattle.task_simple.specs.Simple.{IsPlain, held_start};
 
 use task_machine::{
     Call, CallEnd, Component, Entry, Mark, Op, Operand, Place, Script, Status, TaskOp, Thread,
@@ -58,6 +58,12 @@ pub fn threads_are_alone()
 pub fn starts_are_admitted()
     ensures start { (s : Core) → IsPlain s → (n : ℕ) → admits n s Why.Start ≡ not (may_not_enter (instance_of n s) s) }
     ensures main { (s : Core) → IsPlain s → (i : ℕ) → is_ready_for_call i s ≡ not (may_not_enter i s) }
+{}
+
+/// Where nothing of an instance is held, nothing is released once it lets others in.
+#[tactic(auto, using(crate::proofs::ReadLemmas::held_out_none))]
+pub fn nothing_is_released()
+    ensures { (s : Core) → IsPlain s → (i : ℕ) → ((m : ℕ) (u : Thread) → get s.threads m ≡ Some u → u.place ≡ held_start → call_instance m s ≢ i) → held_out i s ≡ [] }
 {}
 
 /// No work is there, so none moves or is polled.
