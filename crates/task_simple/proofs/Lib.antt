@@ -1,0 +1,17 @@
+pub mod RecordLemmas
+pub mod ReadLemmas
+pub mod RowLemmas
+pub mod CountLemmas
+pub mod TableLemmas
+pub mod CaseLemmas
+pub mod MoveLemmas
+pub mod QueueLemmas
+pub mod StartLemmas
+pub mod EndLemmas
+pub mod BeginLemmas
+pub mod SimpleLemmas
+pub mod OpenLemmas
+pub mod UseLemmas
+pub mod StepLemmas
+pub mod FrameLemmas
+pub mod FoundLemmas

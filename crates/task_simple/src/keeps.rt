@@ -1,0 +1,83 @@
+//! The moves of simple states lead to simple states. Each function is the statement of its clauses.
+
+ghost use Rattle.std.specs.Prelude.{List, Some, [], false, is_some, true, ℕ, ◌++◌, ◌+◌, ◌∷◌, ◌≡◌};
+ghost use Rattle.task_machine.specs.Core.{Core, fresh};
+ghost use Rattle.task_machine.specs.Maps.{get};
+ghost use Rattle.task_machine.specs.Read.{instance_of, may_not_enter, next_entry, place_of, thread_handle_of};
+ghost use Rattle.task_machine.specs.Write.{set_trapped, take_result};
+ghost use Rattle.task_rules.specs.Takes.{popped};
+ghost use Rattle.task_simple.specs.Forms.{call_started, exit_done, return_done, start_done, start_put_off, trap_done};
+ghost use Rattle.task_simple.specs.Simple.{IsSimple, NoneRuns};
+
+use task_machine::{Callee, Entry, ExportKind, Mark, Place};
+
+/// The state in which nothing was made.
+#[tactic(auto, using(crate::proofs::OpenLemmas::fresh_simple, crate::proofs::OpenLemmas::fresh_none_runs))]
+pub fn first_state()
+    ensures simple { (instances limit capacity : ℕ) → IsSimple (fresh instances limit capacity) }
+    ensures none_runs { (instances limit capacity : ℕ) → NoneRuns (fresh instances limit capacity) }
+{}
+
+/// After a call by main of a callback export, whose instance is there.
+#[tactic(auto, using(crate::proofs::BeginLemmas::call_started_simple, crate::proofs::SimpleLemmas::call_started_none_runs))]
+pub fn after_call()
+    ensures simple { (s : Core) (e : Callee) (words : List ℕ) → IsSimple s → s.trapped ≡ false → is_some (get s.instances e.instance) ≡ true → is_some (get s.thread_handles e.instance) ≡ true → IsSimple (call_started e ExportKind.Callback words s) }
+    ensures none_runs { (s : Core) (e : Callee) (words : List ℕ) → NoneRuns s → NoneRuns (call_started e ExportKind.Callback words s) }
+{}
+
+/// After a start that is put off.
+#[tactic(auto, using(crate::proofs::SimpleLemmas::put_off_simple, crate::proofs::SimpleLemmas::put_off_none_runs))]
+pub fn after_put_off()
+    ensures simple { (s : Core) → IsSimple s → (n : ℕ) → next_entry s ≡ Some (Mark.High, Entry.Thread n) → NoneRuns s → may_not_enter (instance_of n (popped Mark.High s)) (popped Mark.High s) ≡ true → IsSimple (start_put_off n (popped Mark.High s)) }
+    ensures none_runs { (s : Core) → IsSimple s → (n : ℕ) → next_entry s ≡ Some (Mark.High, Entry.Thread n) → NoneRuns s → may_not_enter (instance_of n (popped Mark.High s)) (popped Mark.High s) ≡ true → NoneRuns (start_put_off n (popped Mark.High s)) }
+{}
+
+/// After a start that is admitted.
+#[tactic(auto, using(crate::proofs::SimpleLemmas::start_simple, crate::proofs::SimpleLemmas::start_runs))]
+pub fn after_start()
+    ensures simple { (s : Core) → IsSimple s → (n : ℕ) → next_entry s ≡ Some (Mark.High, Entry.Thread n) → NoneRuns s → may_not_enter (instance_of n (popped Mark.High s)) (popped Mark.High s) ≡ false → IsSimple (start_done n (popped Mark.High s)) }
+    ensures runs { (s : Core) → IsSimple s → (n : ℕ) → next_entry s ≡ Some (Mark.High, Entry.Thread n) → NoneRuns s → may_not_enter (instance_of n (popped Mark.High s)) (popped Mark.High s) ≡ false → place_of n (start_done n (popped Mark.High s)) ≡ Some Place.Running }
+{}
+
+/// After a start that traps.
+#[tactic(auto, using(crate::proofs::SimpleLemmas::trap_taken_simple, crate::proofs::SimpleLemmas::trap_taken_none_runs))]
+pub fn after_start_trap()
+    ensures simple { (s : Core) → IsSimple s → (n : ℕ) → next_entry s ≡ Some (Mark.High, Entry.Thread n) → IsSimple (trap_done n (popped Mark.High s)) }
+    ensures none_runs { (n : ℕ) (s : Core) → NoneRuns s → NoneRuns (trap_done n (popped Mark.High s)) }
+{}
+
+/// After a return.
+#[tactic(auto, using(crate::proofs::SimpleLemmas::return_simple, crate::proofs::SimpleLemmas::return_runs))]
+pub fn after_return()
+    ensures simple { (s : Core) → IsSimple s → (n : ℕ) → place_of n s ≡ Some Place.Running → (v : ℕ) → IsSimple (return_done n v s) }
+    ensures runs { (s : Core) → IsSimple s → (n : ℕ) → place_of n s ≡ Some Place.Running → (v : ℕ) → place_of n (return_done n v s) ≡ Some Place.Running }
+{}
+
+/// After an exit.
+#[tactic(auto, using(crate::proofs::SimpleLemmas::exit_simple, crate::proofs::SimpleLemmas::exit_none_runs))]
+pub fn after_exit()
+    ensures simple { (s : Core) → IsSimple s → (n : ℕ) → place_of n s ≡ Some Place.Running → (h : ℕ) → thread_handle_of n s ≡ Some h → IsSimple (exit_done n h s) }
+    ensures none_runs { (s : Core) → IsSimple s → (n : ℕ) → place_of n s ≡ Some Place.Running → (h : ℕ) → NoneRuns (exit_done n h s) }
+{}
+
+/// After a trap of the running thread.
+#[tactic(auto, using(crate::proofs::SimpleLemmas::trap_simple, crate::proofs::SimpleLemmas::trap_none_runs))]
+pub fn after_trap()
+    ensures simple { (s : Core) → IsSimple s → (n : ℕ) → place_of n s ≡ Some Place.Running → IsSimple (trap_done n s) }
+    ensures none_runs { (s : Core) → IsSimple s → (n : ℕ) → place_of n s ≡ Some Place.Running → NoneRuns (trap_done n s) }
+{}
+
+/// After a trap of the store, and after a result that main takes.
+#[tactic(auto, using(crate::proofs::EndLemmas::trapped_simple, crate::proofs::EndLemmas::result_taken_simple))]
+pub fn after_others()
+    ensures trapped { (s : Core) → IsSimple s → IsSimple (set_trapped s) }
+    ensures taken { (k : ℕ) (s : Core) → IsSimple s → IsSimple (take_result k s) }
+{}
+
+/// A call by main makes a thread and a group, whose numbers are one, and stands last at high.
+#[tactic(auto, using(crate::proofs::FrameLemmas::frames))]
+pub fn what_a_call_makes()
+    ensures threads { (e : Callee) (x : ExportKind) (words : List ℕ) (s : Core) → (call_started e x words s).made.threads ≡ s.made.threads + 1 }
+    ensures groups { (e : Callee) (x : ExportKind) (words : List ℕ) (s : Core) → (call_started e x words s).made.groups ≡ s.made.groups + 1 }
+    ensures high { (e : Callee) (x : ExportKind) (words : List ℕ) (s : Core) → (call_started e x words s).queues.high ≡ s.queues.high ++ Entry.Thread (s.made.threads + 1) ∷ [] }
+{}

@@ -1,0 +1,9 @@
+//! The states that calls by main of callback exports lead to, where scripts have no other ops than
+//! `ret` and `exit`: there the machine's general words come down to simple ones.
+#![tactic(auto)]
+
+pub mod counts;
+pub mod keeps;
+pub mod reads;
+pub mod rows;
+pub mod steps;
