@@ -2,10 +2,12 @@ use crate::component::{Callee, Component};
 use crate::op::Operand;
 use crate::seq::Seq;
 
-/// What a run does that can't go on: a trap, or an outcome of its own.
+/// What happens where nothing can go on and no host work is live: `idle trap` or `idle wait`.
 #[derive(Clone, Copy, Debug, PartialEq, Eq)]
 pub enum IdleLine {
+    /// The run ends as a deadlock.
     Trap,
+    /// The run ends as idle.
     Wait,
 }
 

@@ -1,0 +1,73 @@
+use super::*;
+use std::alloc::Global;
+use std::test::Fail;
+use task_machine::{
+    CallLabel, Given, Label, LoopLabel, MainLabel, Mark, Outcome, OwnEvent, Phase, SetLabel,
+    Status, TakeLabel, ThreadLabel, Trap,
+};
+
+fn line_of(alloc: Global, label: Label) -> Result<Vec<u8>, Fail> {
+    let mut out = Vec::new(alloc);
+    append_label(&mut out, label)?;
+    Ok(out)
+}
+
+#[test]
+fn prints_labels(rt: HostRuntime) -> Result<(), Fail> {
+    let (mark, thread, woken, work) = (Mark::Switch, 2, 3, 4);
+    let subtask = Given::Subtask {
+        status: Status::Returned,
+        handle: 5,
+    };
+    let labels: [(Label, &[u8]); 9] = [
+        (
+            Label::Main(MainLabel::Abort(Phase::AbortRequested, 1)),
+            b"main abort 1 requested",
+        ),
+        (
+            Label::Main(MainLabel::StartRefused(Trap::TableFull, 2)),
+            b"main start 2 refused 18",
+        ),
+        (Label::Loop(LoopLabel::FutureEnds(work)), b"future 4 ends"),
+        (
+            Label::Take(TakeLabel::Event(mark, subtask, thread)),
+            b"take switch thread 2 event 1 5 2",
+        ),
+        (
+            Label::Take(TakeLabel::EventWakes(mark, OwnEvent::Cancelled, thread, woken)),
+            b"take switch thread 2 event 6 0 0 wakes 3",
+        ),
+        (
+            Label::Set(SetLabel::JoinWakes(thread, woken)),
+            b"thread 2 join wakes 3",
+        ),
+        (
+            Label::Call(CallLabel::CallPolls(33, thread, work)),
+            b"thread 2 call 33 future 4",
+        ),
+        (
+            Label::Thread(ThreadLabel::New(2, thread, 6)),
+            b"thread 2 thread_new 2 thread 6",
+        ),
+        (Label::RetWakes(thread, 7, woken), b"thread 2 ret 7 wakes 3"),
+    ];
+    for (label, text) in labels {
+        assert_eq!(rt; line_of(rt.alloc(), label)?.as_slice(), text);
+    }
+    Ok(())
+}
+
+#[test]
+fn prints_outcomes(rt: HostRuntime) -> Result<(), Fail> {
+    let outcomes: [(Outcome, &[u8]); 3] = [
+        (Outcome::Done(7), b"done 7"),
+        (Outcome::Deadlock(Trap::AsyncDeadlock), b"deadlock 15"),
+        (Outcome::OutOfSteps, b"out of steps"),
+    ];
+    for (outcome, text) in outcomes {
+        let mut out = Vec::new(rt.alloc());
+        append_outcome(&mut out, outcome)?;
+        assert_eq!(rt; out.as_slice(), text);
+    }
+    Ok(())
+}

@@ -1,0 +1,13 @@
+pub mod Numbers
+pub mod WordCounts
+pub mod Operands
+pub mod Position
+pub mod Splits
+pub mod ReadFrom
+pub mod WordLaws
+pub mod StandingLaws
+pub mod LineLaws
+pub mod StateLaws
+pub mod Completing
+pub mod Again
+pub mod Verdicts

@@ -1,0 +1,9 @@
+-- A step of reading gives a value or refuses it, unless memory is wanting.
+use Rattle.std.specs.Prelude.{◌≡◌, Option, Some, None, Result, Ok, Err}
+use Rattle.scenario_text.specs.declared.line.LineError.{LineError}
+use Rattle.scenario_text.specs.declared.line.LineError.TheVariants as errors
+
+abbrev pub Gives : {X : Type 0} → Result X LineError → Option X → Type 0
+Gives (Ok x) read = read ≡ Some x
+Gives (Err errors.Bad) read = read ≡ None
+Gives (Err errors.NoMemory) read = Unit {0}

@@ -1,0 +1,9 @@
+pub mod Keyword
+pub mod Words
+pub mod Line
+pub mod Gives
+pub mod Spelling
+pub mod Stands
+pub mod Grammar
+pub mod State
+pub mod Answers

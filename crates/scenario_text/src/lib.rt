@@ -1,0 +1,17 @@
+//! The scenario text, read into a tree that loses nothing of its lines.
+#![tactic(auto)]
+
+mod keyword;
+mod line;
+mod read;
+mod stands;
+mod state;
+mod tree;
+mod words;
+
+pub use read::{TextError, one_tree, read_text};
+pub use tree::{ExportText, InstanceText, MainOpText, Name, ScenarioText};
+pub use words::bounded;
+
+#[cfg(test)]
+mod tests;

@@ -1,0 +1,116 @@
+//! A text, line by line.
+ghost use Rattle.std.specs.Prelude.{◌≡◌, ◌==◌, ◌<◌, [], ◌∷◌, ℕ, List, length, map, position, IsOkUnless, IfOk, IfSome, MatchOption, OnOk};
+ghost use Rattle.scenario_text.specs.Gives.{Gives};
+ghost use Rattle.scenario_text.specs.Grammar.{lines, words, spelled, IsTextOf};
+ghost use Rattle.scenario_text.specs.State.{after_words, read_from, ReadsAs};
+ghost use Rattle.scenario_text.specs.Answers.{Answers};
+ghost use Rattle.scenario_text.specs.declared.tree.ScenarioText.{ScenarioText};
+
+use crate::line::{LineError, read_line};
+use crate::state::State;
+use crate::tree::ScenarioText;
+use std::alloc::{AllocError, Global};
+
+/// Why a text gave no scenario.
+#[derive(Clone, Copy, Debug, PartialEq, Eq)]
+pub enum TextError {
+    NoMemory,
+    /// The first line with which the lines so far begin no scenario, from 1, or one past the last.
+    Bad(u32),
+}
+
+// Where the first line of a text ends.
+fn line_end(text: &[u8]) -> Option<usize>
+    ensures place { result ≡ position (λ b. b == 10) text.now }
+    ensures inside { IfSome result (λ i. i < length text.now) }
+{
+    text.iter().position(|b| *b == b'\n')
+}
+
+// The first line of a text, and the text after it.
+fn first_line(text: &[u8]) -> Option<(&[u8], &[u8])>
+    ensures cases { MatchOption result (text.now ≡ []) (λ p. lines text.now ≡ p.0.now ∷ lines p.1.now) }
+    ensures shorter { IfSome result (λ p. length p.1.now < length text.now) }
+{
+    if text.is_empty() {
+        return None;
+    }
+    match line_end(text) {
+        Some(end) => Some((&text[..end], &text[end + 1..])),
+        None => Some((text, &[])),
+    }
+}
+
+// Where the first word of a line ends.
+fn word_end(line: &[u8]) -> Option<usize>
+    ensures place { result ≡ position (λ b. b == 32) line.now }
+    ensures inside { IfSome result (λ i. i < length line.now) }
+{
+    line.iter().position(|b| *b == b' ')
+}
+
+// Puts the words of a line into a list that is used for each line.
+fn split_words<'a>(list: &mut Vec<&'a [u8]>, line: &'a [u8]) -> Result<(), AllocError>
+    ensures { OnOk result (map (λ w. w.now) list.new.items ≡ words line.now) }
+{
+    list.clear();
+    let mut rest = line;
+    while let Some(end) = word_end(rest) {
+        list.push(&rest[..end])?;
+        rest = &rest[end + 1..];
+    }
+    list.push(rest)?;
+    Ok(())
+}
+
+#[tactic(auto, unfolding(crate::specs::State::after_words))]
+fn after_line<'a>(
+    alloc: Global,
+    state: State,
+    list: &mut Vec<&'a [u8]>,
+    line: &'a [u8],
+) -> Result<State, LineError>
+    ensures { Gives result (after_words state (words line.now)) }
+{
+    split_words(list, line)?;
+    let line = read_line(alloc, list)?;
+    state.after(alloc, line)
+}
+
+fn read(alloc: Global, text: &[u8]) -> Result<ScenarioText, TextError>
+    requires { length text.now < 4294967295 }
+    ensures { ReadsAs result (read_from State.Empty 1 (spelled text.now)) }
+{
+    let mut state = State::Empty;
+    let mut words = Vec::new(alloc);
+    let mut rest = text;
+    let mut number = 1;
+    while let Some((line, more)) = first_line(rest) {
+        state = match after_line(alloc, state, &mut words, line) {
+            Ok(state) => state,
+            Err(LineError::NoMemory) => return Err(TextError::NoMemory),
+            Err(LineError::Bad) => return Err(TextError::Bad(number)),
+        };
+        rest = more;
+        number += 1;
+    }
+    state.into_scenario().ok_or(TextError::Bad(number))
+}
+
+/// The tree of a scenario text. A text that is none is refused with its bad line: the least n such
+/// that its first n lines begin no scenario, or one past the last where only more lines are missing.
+/// The lines and their places are those of the scenario grammar.
+pub fn read_text(alloc: Global, text: &[u8]) -> Result<ScenarioText, TextError>
+    requires { length text.now < 4294967295 }
+    // A tree is the text's own, and a line is the bad one.
+    ensures answer { Answers result text.now }
+    // A scenario's text is refused for want of memory alone.
+    ensures only { (tree : ScenarioText) → IsTextOf tree text.now → IsOkUnless result TextError.NoMemory }
+{
+    read(alloc, text)
+}
+
+/// Two trees of one text are the same one: `read_text` answers no other than the text's own.
+pub fn one_tree()
+    ensures { (x y : ScenarioText) (text : List ℕ) → IsTextOf x text → IsTextOf y text → x ≡ y }
+{}

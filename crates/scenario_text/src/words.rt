@@ -1,0 +1,106 @@
+//! The words of a line, one by one.
+ghost use Rattle.std.specs.Prelude.{◌≡◌, ◌≤◌, IfSome};
+ghost use Rattle.std.specs.Char.{is_ascii_digit};
+ghost use Rattle.std.specs.List.{list_all};
+ghost use Rattle.scenario_text.specs.Words.{is_numeral, number_at, bounded_at, register_at, operand_at, idle_at, kind_at, is_name_byte, is_name};
+
+use task_machine::{ExportKind, IdleLine, Operand};
+
+fn all_digits(word: &[u8]) -> bool
+    ensures { result ≡ list_all is_ascii_digit word.now }
+{
+    word.iter().all(|b| b.is_ascii_digit())
+}
+
+// Whether a word is a decimal number without leading zeros, of any size.
+fn is_numeral(word: &[u8]) -> bool
+    ensures { result ≡ is_numeral word.now }
+{
+    if word.is_empty() {
+        return false;
+    }
+    all_digits(word) && (word.len() == 1 || word[0] != b'0')
+}
+
+/// The number that a word is, 0 to 2^64 - 1, in decimal without leading zeros.
+#[tactic(auto, unfolding(crate::specs::Words::number_at))]
+pub fn number(word: &[u8]) -> Option<u64>
+    ensures { result ≡ number_at word.now }
+{
+    if !is_numeral(word) {
+        return None;
+    }
+    match std::str::from_utf8(word) {
+        Ok(digits) => digits.parse().ok(),
+        Err(_) => None,
+    }
+}
+
+/// The number that a word is, up to a limit.
+#[tactic(auto, unfolding(crate::specs::Words::bounded_at))]
+pub fn bounded(word: &[u8], limit: u64) -> Option<u64>
+    ensures value { result ≡ bounded_at limit word.now }
+    ensures limit { IfSome result (λ n. n ≤ limit) }
+{
+    number(word).filter(|n| *n <= limit)
+}
+
+/// The register that a word names, `r0` to `r15`.
+#[tactic(auto, unfolding(crate::specs::Words::register_at))]
+pub fn register(word: &[u8]) -> Option<u8>
+    ensures { result ≡ register_at word.now }
+{
+    match word {
+        [b'r', digits @ ..] => Some(bounded(digits, 15)? as u8),
+        _ => None,
+    }
+}
+
+/// The number or register that a word is.
+#[tactic(auto, unfolding(crate::specs::Words::operand_at))]
+pub fn operand(word: &[u8]) -> Option<Operand>
+    ensures { result ≡ operand_at word.now }
+{
+    match register(word) {
+        Some(r) => Some(Operand::Register(r)),
+        None => Some(Operand::Number(number(word)?)),
+    }
+}
+
+/// What happens where nothing goes on, as a word says it.
+#[tactic(auto, unfolding(crate::specs::Words::idle_at))]
+pub fn idle_line(word: &[u8]) -> Option<IdleLine>
+    ensures { result ≡ idle_at word.now }
+{
+    (word == b"trap".as_slice()).then_some(IdleLine::Trap)
+}
+
+/// The kind of an export, as a word says it.
+#[tactic(auto, unfolding(crate::specs::Words::kind_at))]
+pub fn export_kind(word: &[u8]) -> Option<ExportKind>
+    ensures { result ≡ kind_at word.now }
+{
+    (word == b"callback".as_slice()).then_some(ExportKind::Callback)
+}
+
+fn is_name_byte(byte: u8) -> bool
+    ensures { result ≡ is_name_byte byte }
+{
+    matches!(byte, b'a'..=b'z' | b'0'..=b'9' | b'_')
+}
+
+fn all_name_bytes(word: &[u8]) -> bool
+    ensures { result ≡ list_all is_name_byte word.now }
+{
+    word.iter().all(|b| is_name_byte(*b))
+}
+
+/// Whether a word may be a name: 1 to 16 of `a` to `z`, `0` to `9` and `_`, a letter first.
+pub fn is_name(word: &[u8]) -> bool
+    ensures { result ≡ is_name word.now }
+{
+    if word.is_empty() || word.len() > 16 || !word[0].is_ascii_lowercase() {
+        return false;
+    }
+    all_name_bytes(word)
+}

@@ -1,0 +1,15 @@
+pub mod LogLemmas
+pub mod CallerLemmas
+pub mod CallLemmas
+pub mod SplitLemmas
+pub mod MeetLemmas
+pub mod FirstLemmas
+pub mod TallyLemmas
+pub mod StageLemmas
+pub mod StagedLemmas
+pub mod KnownLemmas
+pub mod OrderLemmas
+pub mod RoundLemmas
+pub mod UseLemmas
+pub mod UnfinishedLemmas
+pub mod SeenLemmas

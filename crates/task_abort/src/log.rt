@@ -1,0 +1,64 @@
+//! Phases, calls and logs, and what a pass knows of them.
+use std::collections::LinkedList;
+
+/// How far a spawned work has come. It only rises, in this order.
+#[derive(Clone, Copy, Debug, PartialEq, Eq)]
+pub enum Phase {
+    /// The work may be polled.
+    Running,
+    /// Somebody has asked that it end, and it isn't polled again.
+    AbortRequested,
+    /// It is over.
+    Complete,
+}
+
+/// The four calls of a join handle that a log has.
+#[derive(Clone, Copy, Debug, PartialEq, Eq)]
+pub enum PhaseCall {
+    /// Asks that the work end.
+    Abort,
+    /// Asks whether the work may still be polled.
+    PollFuture,
+    /// Asks whether the work is over.
+    PollHandle,
+    /// Says that the work is over.
+    Finish,
+}
+
+/// One call in a log, with the phase that it found.
+#[derive(Clone, Copy, Debug, PartialEq, Eq)]
+pub struct LogEntry<C> {
+    /// Who made it: the name of a pass, or a number that the log's owner gives.
+    pub caller: C,
+    pub call: PhaseCall,
+    pub answer: Phase,
+}
+
+/// A call as its caller can list it.
+#[derive(Clone, Copy, Debug, PartialEq, Eq)]
+pub struct CallMade {
+    pub call: PhaseCall,
+    /// The phase that the call found; none at a poll of the handle that answered `Pending`, which tells only that the
+    /// work wasn't over.
+    pub answer: Option<Phase>,
+}
+
+/// A name, the calls made under it in order, and how many passes were split off from it. No value of it is made.
+pub struct Caller {
+    pub name: LinkedList<u64>,
+    pub calls: LinkedList<LogEntry<LinkedList<u64>>>,
+    pub splits: u64,
+}
+
+/// What a pass has seen and done. No value of it is made.
+pub struct View {
+    /// The pass was met into another.
+    pub spent: bool,
+    pub own: Caller,
+    /// The callers whose passes were met into this one, with those that they had met.
+    pub met: LinkedList<Caller>,
+    /// All calls of which the pass knows, in order.
+    pub seen: LinkedList<LogEntry<LinkedList<u64>>>,
+    /// Between the two steps of a meet, what the other pass had seen. Else nothing.
+    pub heard: LinkedList<LogEntry<LinkedList<u64>>>,
+}

@@ -1,0 +1,131 @@
+-- The numbers of live groups, and notices that are told one after another.
+use Rattle.std.proofs.Common.{◌≡◌, ◌≢◌, ℕ, zero, suc, ◌+◌, ◌-◌, ◌≤◌, List, [], ◌∷◌, ◌++◌, length, map, take, refl, sym, ap, subst, ◌∙◌, arith, Bool, true, false, cond, append_assoc, append-nil, length-append}
+use Rattle.std.specs.Prelude.{Option, Some, None, IsSome, is_some, ◌==◌}
+use Rattle.std.specs.Option.{option_map}
+use Rattle.std.specs.Ordering.{nat_cmp, eq_by_cmp}
+use Rattle.std.specs.Cmp.{nat_cmp_total, unsigned_tied}
+use Rattle.std.specs.FinMap as finite
+use Rattle.std.proofs.lemmas.Bool.Decides.{nat_tests}
+use Rattle.std.proofs.lemmas.Grind.{common_steps}
+use Rattle.std.proofs.lemmas.List.{length-take, map-append}
+use Rattle.task_group.specs.declared.notice.Notice.{Notice}
+use Rattle.task_group.specs.Listeners.{Listeners, told_of, Told}
+use Rattle.task_group.specs.Counts.{Counts}
+use Rattle.task_group.specs.Groups.{IsKnown, finish_number}
+
+pub some_of : {X : Type 0} (o : Option X) (n : ℕ) → n ≢ 0 → (o ≡ None → n ≡ 0) → IsSome o
+some_of None n ne h = absurd (ne (h refl))
+some_of (Some x) n ne h = refl
+
+none_some : ◌≡◌ {A = Bool} false true → ⊥
+none_some e = cc
+
+at_most : (b : Bool) (w o : Option ℕ) (n made : ℕ) → IsSome (cond b w o) → (b ≡ true → n ≤ made) → (IsSome o → n ≤ made) → n ≤ made
+at_most true w o n made live first other = first refl
+at_most false w o n made live first other = other live
+
+removed : (b : Bool) (o : Option ℕ) (n : ℕ) {made : ℕ} → IsSome (cond b None o) → (IsSome o → n ≤ made) → n ≤ made
+removed true o n live other = absurd (none_some live)
+removed false o n live other = other live
+
+back : (b : Bool) (w o : Option ℕ) → (b ≡ true → o ≡ None) → cond b None (cond b w o) ≡ o
+back true w o h = sym (h refl)
+back false w o h = refl
+
+equal : (a b : ℕ) → (a == b) ≡ true → a ≡ b
+equal a b e = grind (arith, nat_tests)
+
+module _ (m : Counts) (made : ℕ) where
+  known_at : (k v : ℕ) (top : ℕ) → k ≤ top → made ≤ top → IsKnown m made → IsKnown (finite.insert m k v) top
+  known_at k v top le grow known n live =
+      let live' : IsSome (cond (eq_by_cmp nat_cmp n k) (Some v) (finite.get m n)) = let P : Option ℕ → Type 0 = IsSome in subst P (finite.get-insert nat_cmp_total m k v n) live in
+      at_most (eq_by_cmp nat_cmp n k) (Some v) (finite.get m n) n top live'
+      (λ e. let same : n ≡ k = equal n k (sym (unsigned_tied n k) ∙ e) in omega arith)
+      (λ old. omega (arith, known n old))
+
+  pub known-insert : (k v : ℕ) → IsKnown m made → IsSome (finite.get m k) → IsKnown (finite.insert m k v) made
+  known-insert k v known live = known_at k v made (known k live) (omega arith) known
+
+  pub known-add : IsKnown m made → IsKnown (finite.insert m (made + 1) 1) (made + 1)
+  known-add known = known_at (made + 1) 1 (made + 1) (omega arith) (omega arith) known
+
+  pub known-remove : (k : ℕ) → IsKnown m made → IsKnown (finite.remove m k) made
+  known-remove k known n live =
+      let live' : IsSome (cond (eq_by_cmp nat_cmp n k) None (finite.get m n)) = let P : Option ℕ → Type 0 = IsSome in subst P (finite.get-remove nat_cmp_total m k n) live in
+      removed (eq_by_cmp nat_cmp n k) (finite.get m n) n live' (known n)
+
+  fresh : (o : Option ℕ) → finite.get m (made + 1) ≡ o → IsKnown m made → o ≡ None
+  fresh None e known = refl
+  fresh (Some c) e known = absurd (let le = known (made + 1) (ap is_some e) in omega arith)
+
+  -- a group that is made and taken back leaves nothing
+  pub remove-insert : (v : ℕ) → IsKnown m made → finite.remove (finite.insert m (made + 1) v) (made + 1) ≡ m
+  remove-insert v known = finite.same_map nat_cmp_total finite.nat_cmp-IsAntisymmetric _ _ (λ q.
+      finite.get-remove nat_cmp_total (finite.insert m (made + 1) v) (made + 1) q
+      ∙ ap (λ o. cond (eq_by_cmp nat_cmp q (made + 1)) None o) (finite.get-insert nat_cmp_total m (made + 1) v q)
+      ∙ back (eq_by_cmp nat_cmp q (made + 1)) (Some v) (finite.get m q) (λ e. let same : q ≡ made + 1 = equal q (made + 1) (sym (unsigned_tied q (made + 1)) ∙ e) in ap (finite.get m) same ∙ fresh _ refl known))
+
+pub known-empty : (made : ℕ) → IsKnown finite.empty made
+known-empty made n live = absurd (let P : Option ℕ → Type 0 = IsSome in none_some (subst P (finite.get-empty nat_cmp n) live))
+
+mapped : (o : Option (List Notice)) (ns ms : List Notice) → option_map (λ n. n ++ ms) (option_map (λ n. n ++ ns) o) ≡ option_map (λ n. n ++ (ns ++ ms)) o
+mapped None ns ms = refl
+mapped (Some xs) ns ms = ap Some (append_assoc xs ns ms)
+
+mapped_none : (o : Option (List Notice)) → o ≡ option_map (λ n. n ++ []) o
+mapped_none None = refl
+mapped_none (Some xs) = ap Some (grind (arith, common_steps))
+
+pub told-none : (l : Listeners) → Told [] l l
+told-none l = record {
+  same_hook = refl;
+  told = mapped_none (told_of l);
+  kept = grind (arith, common_steps);
+  same_room = refl;
+  errors = omega arith;
+}
+
+take-nil : (k : ℕ) → ◌≡◌ {A = List Notice} (take k []) []
+take-nil zero = refl
+take-nil (suc k) = refl
+
+take-append : (k : ℕ) (xs ys : List Notice) → take k (xs ++ ys) ≡ take k xs ++ take (k - length xs) ys
+take-append k [] ys = let all : k - 0 ≡ k = omega arith in rw (take-nil k, all) refl
+take-append zero (x ∷ xs) ys = let none : 0 - suc (length xs) ≡ 0 = omega arith in rw none refl
+take-append (suc k) (x ∷ xs) ys = let left : suc k - suc (length xs) ≡ k - length xs = omega arith in rw left (ap (λ t. x ∷ t) (take-append k xs ys))
+
+kept_more : (xs ns ms : List Notice) (room : ℕ) → (xs ++ take (room - length xs) ns) ++ take (room - length (xs ++ take (room - length xs) ns)) ms ≡ xs ++ take (room - length xs) (ns ++ ms)
+kept_more xs ns ms room =
+    let long : length (xs ++ take (room - length xs) ns) ≡ length xs + length (take (room - length xs) ns) = length-append xs (take (room - length xs) ns) in
+    let left : room - length (xs ++ take (room - length xs) ns) ≡ (room - length xs) - length ns = omega (arith, long, length-take (room - length xs) ns) in
+    append_assoc xs _ _ ∙ ap (λ t. xs ++ t) (ap (λ k. take (room - length xs) ns ++ take k ms) left ∙ sym (take-append (room - length xs) ns ms))
+
+-- notices that are told one after another
+pub told-append : (ns ms : List Notice) (a b c : Listeners) → Told ns a b → Told ms b c → Told (ns ++ ms) a c
+told-append ns ms a b c first second = record {
+  same_hook = second.same_hook ∙ first.same_hook;
+  told = second.told ∙ ap (option_map (λ n. n ++ ms)) first.told ∙ mapped (told_of a) ns ms;
+  kept = second.kept
+      ∙ ap (λ r. b.notices ++ take (r - length b.notices) ms) first.same_room
+      ∙ ap (λ x. x ++ take (a.room - length x) ms) first.kept
+      ∙ kept_more a.notices ns ms a.room;
+  same_room = second.same_room ∙ first.same_room;
+  errors = omega (arith, first.errors, second.errors);
+}
+
+module _ (keys₀ keys₁ done : List ℕ) (a b : Listeners) (split : keys₀ ≡ done ++ keys₁) (told : Told (map finish_number done) a b) where
+  -- one more group is finished
+  pub finish_more : (number : ℕ) (keys₂ : List ℕ) (c : Listeners) → keys₁ ≡ number ∷ keys₂ → Told (finish_number number ∷ []) b c → (x : List ℕ) × (keys₀ ≡ x ++ keys₂) × Told (map finish_number x) a c
+  finish_more number keys₂ c next more =
+      let P : List Notice → Type 0 = λ ns. Told ns a c in (
+        done ++ number ∷ [],
+        split ∙ ap (λ ks. done ++ ks) next ∙ sym (append_assoc done (number ∷ []) keys₂),
+        subst P (sym (map-append finish_number done (number ∷ []))) (told-append (map finish_number done) (finish_number number ∷ []) a b c told more),
+      )
+
+  -- all are finished
+  pub finish_done : keys₁ ≡ [] → Told (map finish_number keys₀) a b
+  finish_done none =
+      let P : List ℕ → Type 0 = λ ks. Told (map finish_number ks) a b in
+      let all : keys₀ ≡ done = split ∙ ap (λ ks. done ++ ks) none ∙ append-nil done in
+      subst P (sym all) told

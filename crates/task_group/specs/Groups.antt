@@ -1,0 +1,60 @@
+-- What a contract sees of the groups of a store, and which notices their calls give.
+use Rattle.std.specs.Prelude.{◌≡◌, ℕ, ◌≤◌, ◌==◌, List, [], ◌∷◌, map, Option, Some, None, Bool, true, false, is_some, IsSome, if◌then◌else◌, refl}
+use Rattle.std.specs.Coded.{Coded, code_by, coded×, coded_ℕ}
+use Rattle.std.specs.FinMap as finite
+use Rattle.task_group.specs.declared.notice.Notice.{Notice}
+use Rattle.task_group.specs.declared.notice.NoticeKind.{NoticeKind}
+use Rattle.task_group.specs.declared.notice.NoticeKind.TheVariants.{Finish}
+use Rattle.task_group.specs.declared.notice.TaskGroupId.{TaskGroupId}
+use Rattle.task_group.specs.Heard.{notice_of, finish_of}
+use Rattle.task_group.specs.Listeners.{Listeners, listeners_code, errors_of, AnsweredErr, Told}
+use Rattle.task_group.specs.Counts.{Counts, count_in}
+
+-- the live groups with their counts, how many groups were made, and who is told
+pub record Groups : Type 0 where
+  pub live : Counts
+  pub made : ℕ
+  pub listeners : Listeners
+
+abbrev pub groups_code : Coded Groups
+groups_code =
+    code_by
+    (Counts × (ℕ × Listeners))
+    (coded× (finite.code coded_ℕ coded_ℕ) (coded× coded_ℕ listeners_code))
+    (λ g. (g.live, (g.made, g.listeners)))
+    (λ p. record { live = p.0; made = p.1.0; listeners = p.1.1 })
+    (λ _. refl)
+
+-- no live group has a number that wasn't given
+abbrev pub IsKnown : Counts → ℕ → Type 0
+IsKnown live made = (number : ℕ) → IsSome (finite.get live number) → number ≤ made
+
+-- a notice of a group, which isn't told of a finished one or of none
+abbrev pub notice_at : Counts → NoticeKind → Option TaskGroupId → List Notice
+notice_at live kind None = []
+notice_at live kind (Some id) =
+    if is_some (finite.get live id.number) then notice_of kind id ∷ [] else []
+
+-- the group finishes with its last task
+abbrev pub finish_at : Counts → TaskGroupId → List Notice
+finish_at live id = if count_in live id.number == 1 then finish_of id ∷ [] else []
+
+abbrev pub finish_number : ℕ → Notice
+finish_number number = record { kind = Finish; group = number }
+
+-- each live group finishes, in order of number
+abbrev pub finish_all : Counts → List Notice
+finish_all live = map finish_number (finite.keys live)
+
+abbrev pub same_group : Option TaskGroupId → Option TaskGroupId → Bool
+same_group None None = true
+same_group None (Some _) = false
+same_group (Some _) None = false
+same_group (Some a) (Some b) = a.number == b.number
+
+-- the hook is told of the exit, and then of the enter unless it answered the exit with an error
+pub record Switches (exits enters : List Notice) (old new : Listeners) : Type 0 where
+  pub between : Listeners
+  pub exited : Told exits old between
+  pub entered : errors_of between ≡ errors_of old → Told enters between new
+  pub stopped : AnsweredErr old between → new ≡ between

@@ -1,0 +1,4 @@
+pub mod Heard
+pub mod Listeners
+pub mod Counts
+pub mod Groups

@@ -1,0 +1,236 @@
+ghost use Rattle.std.specs.Prelude.{◌≡◌, ◌≢◌, ℕ, ◌≤◌, ◌<◌, ◌+◌, ◌^◌, ◌↔◌, ◌∷◌, [], ◌++◌, Some, None, Err, IsTrue, IsSome, IfOk, OnOk, OnErr, false, is_some, if◌then◌else◌};
+ghost use Rattle.std.specs.FinMap as finite;
+ghost use Rattle.task_group.specs.Counts.{count_in, raised, lowered};
+ghost use Rattle.task_group.specs.Listeners.{nobody, Told, AnsweredErr};
+ghost use Rattle.task_group.specs.Heard.{start_of};
+ghost use Rattle.task_group.specs.Groups.{notice_at, finish_at, finish_all, same_group, Switches};
+
+use crate::counts::Counts;
+use crate::hook::{NoHook, TaskGroupHook};
+use crate::listeners::Listeners;
+use crate::notice::{GroupError, NoMemory, Notice, NoticeKind, TaskGroupId};
+use std::alloc::Global;
+use std::marker::Model;
+
+/// The live groups of a store, with the number of tasks in each, and who is told of them.
+///
+/// A group is live from `make` until its count comes to 0. Then it is finished, and each later call passes it over. The calls take time that grows with the logarithm of the number of live groups, `clean_up` with that number.
+///
+/// `H` is the hook's type. Groups without a hook are `Groups`, and those with a boxed one `Groups<Box<MyHook>>`.
+#[derive(Drop)]
+pub struct Groups<H: TaskGroupHook = NoHook> {
+    counts: Counts,
+    made: u64,
+    listeners: Listeners<H>,
+}
+
+impl<H: TaskGroupHook> Model for Groups<H> {
+    ghost use Rattle.task_group.specs.Groups.{Groups as Shown, groups_code, IsKnown};
+
+    ghost Value = { Shown };
+
+    ghost coded = { groups_code };
+
+    ghost view = { λ g. record {
+      live = g.counts;
+      made = g.made;
+      listeners = g.listeners;
+    } };
+
+    ghost invariant = { λ g. IsKnown g.counts g.made };
+}
+
+impl<H: TaskGroupHook> Groups<H> {
+    /// No group, no hook, and no notice is kept.
+    pub fn new(alloc: Global) -> Self
+        ensures { result ≡ record { live = finite.empty; made = 0; listeners = nobody } }
+    {
+        Groups {
+            counts: Counts::new(alloc),
+            made: 0,
+            listeners: Listeners::new(alloc),
+        }
+    }
+
+    /// Replaces the hook, which is told of all groups from now on.
+    pub fn set_hook(&mut self, hook: H)
+        ensures { self.new ≡ record self.old { listeners = record self.old.listeners { hook = Some (H.heard hook) } } }
+    {
+        self.listeners.set_hook(hook);
+    }
+
+    /// A new group with one task, after the hook was told of its start. At most 2^61 groups are made.
+    ///
+    /// `NoMemory` where there is none for it, with all as before; `HookFailed` exactly where the hook answered an error, and then there is no such group, but the hook was told.
+    pub fn make(&mut self) -> Result<TaskGroupId, GroupError>
+        requires { self.old.made < 2 ^ 61 }
+        ensures id { IfOk result (λ id. id.number ≡ self.old.made + 1) }
+        ensures live { IfOk result (λ id. self.new.live ≡ finite.insert self.old.live id.number 1) }
+        ensures made { OnOk result (self.new.made ≡ self.old.made + 1) }
+        ensures refused { OnErr result ((self.new.live ≡ self.old.live) × (self.new.made ≡ self.old.made)) }
+
+        // The hook and the list are told of the start, unless memory is wanting.
+        ensures told { result ≢ Err GroupError.NoMemory → Told (start_of (record { number = self.old.made + 1 }) ∷ []) self.old.listeners self.new.listeners }
+        ensures failed { (result ≡ Err GroupError.HookFailed) ↔ AnsweredErr self.old.listeners self.new.listeners }
+        ensures no_memory { result ≡ Err GroupError.NoMemory → self.new ≡ self.old }
+    {
+        let id = TaskGroupId {
+            number: self.made + 1,
+        };
+        let Ok(()) = self.counts.add(id.number) else {
+            return Err(GroupError::NoMemory);
+        };
+        if self.listeners.tell(NoticeKind::Start, id).is_err() {
+            self.counts.remove(id.number);
+            return Err(GroupError::HookFailed);
+        }
+        self.made += 1;
+        Ok(id)
+    }
+
+    /// One more task in the group; nothing where it is finished. A group has fewer than 2^32 tasks.
+    pub fn increment(&mut self, id: TaskGroupId)
+        requires { count_in self.old.live id.number < 4294967295 }
+        ensures { self.new ≡ record self.old { live = raised self.old.live id.number } }
+    {
+        let count = self.counts.get(id.number);
+        if count != 0 {
+            self.counts.set(id.number, count + 1);
+        }
+    }
+
+    /// One task fewer in the group. Where that was its last, the group is finished and the hook is told so. Answers whether it finished by this call, which a group that was finished before doesn't.
+    ///
+    /// `HookFailed` exactly where the hook answered an error; the group is finished all the same.
+    pub fn decrement(&mut self, id: TaskGroupId) -> Result<bool, GroupError>
+        ensures live { self.new.live ≡ lowered self.old.live id.number }
+        ensures made { self.new.made ≡ self.old.made }
+        ensures answer { IfOk result (λ finished. IsTrue finished ↔ (count_in self.old.live id.number ≡ 1)) }
+        ensures told { Told (finish_at self.old.live id) self.old.listeners self.new.listeners }
+        ensures failed { (result ≡ Err GroupError.HookFailed) ↔ AnsweredErr self.old.listeners self.new.listeners }
+        ensures no_other { result ≢ Err GroupError.NoMemory }
+    {
+        let count = self.counts.get(id.number);
+        if count == 0 {
+            return Ok(false);
+        }
+        if count > 1 {
+            self.counts.set(id.number, count - 1);
+            return Ok(false);
+        }
+        self.counts.remove(id.number);
+        if self.listeners.tell(NoticeKind::Finish, id).is_err() {
+            return Err(GroupError::HookFailed);
+        }
+        Ok(true)
+    }
+
+    /// The thread that runs is one of another group, or of none: the hook is told of the exit from the old group and then of the enter into the new one, but for finished groups and for none. Nothing is told where both are the same.
+    ///
+    /// `HookFailed` exactly where the hook answered an error; after an error at the exit the enter isn't told.
+    pub fn switch(
+        &mut self,
+        old: Option<TaskGroupId>,
+        new: Option<TaskGroupId>,
+    ) -> Result<(), GroupError>
+        ensures groups { (self.new.live ≡ self.old.live) × (self.new.made ≡ self.old.made) }
+        ensures same { IsTrue (same_group old new) → self.new ≡ self.old }
+        ensures told { same_group old new ≡ false → Switches (notice_at self.old.live NoticeKind.Exit old) (notice_at self.old.live NoticeKind.Enter new) self.old.listeners self.new.listeners }
+        ensures failed { (result ≡ Err GroupError.HookFailed) ↔ AnsweredErr self.old.listeners self.new.listeners }
+        ensures no_other { result ≢ Err GroupError.NoMemory }
+    {
+        if is_same(old, new) {
+            return Ok(());
+        }
+        self.tell_if_live(NoticeKind::Exit, old)?;
+        self.tell_if_live(NoticeKind::Enter, new)
+    }
+
+    // A notice of a group, but of a finished one or of none.
+    fn tell_if_live(
+        &mut self,
+        kind: NoticeKind,
+        group: Option<TaskGroupId>,
+    ) -> Result<(), GroupError>
+        ensures groups { (self.new.live ≡ self.old.live) × (self.new.made ≡ self.old.made) }
+        ensures told { Told (notice_at self.old.live kind group) self.old.listeners self.new.listeners }
+        ensures failed { (result ≡ Err GroupError.HookFailed) ↔ AnsweredErr self.old.listeners self.new.listeners }
+        ensures no_other { result ≢ Err GroupError.NoMemory }
+    {
+        let Some(id) = group else {
+            return Ok(());
+        };
+        if self.counts.get(id.number) == 0 {
+            return Ok(());
+        }
+        if self.listeners.tell(kind, id).is_err() {
+            return Err(GroupError::HookFailed);
+        }
+        Ok(())
+    }
+
+    /// Finishes all groups, in time that grows with their number: the hook is told of the exit from the current group, unless it is finished, and then of the finish of each live group in order of number. Errors of the hook are passed over.
+    pub fn clean_up(&mut self, current: Option<TaskGroupId>)
+        ensures live { self.new.live ≡ finite.empty }
+        ensures made { self.new.made ≡ self.old.made }
+        ensures told { Told (notice_at self.old.live NoticeKind.Exit current ++ finish_all self.old.live) self.old.listeners self.new.listeners }
+    {
+        let _ = self.tell_if_live(NoticeKind::Exit, current);
+        finish_each(&mut self.counts, &mut self.listeners);
+    }
+
+    /// How many tasks the group has, 0 for a finished one.
+    pub fn count(&self, id: TaskGroupId) -> u32
+        ensures value { result ≡ count_in self.now.live id.number }
+        ensures finished { (result ≡ 0) ↔ (finite.get self.now.live id.number ≡ None) }
+    {
+        self.counts.get(id.number)
+    }
+
+    /// How many groups were made so far. No live group has a greater number.
+    pub fn made(&self) -> u64
+        ensures value { result ≡ self.now.made }
+        ensures known { (number : ℕ) → IsSome (finite.get self.now.live number) → number ≤ result }
+    {
+        self.made
+    }
+
+    /// Before the first group: from now on each notice is also kept, with or without a hook, until `room` of them are.
+    ///
+    /// `NoMemory` where there is none for so many; then all is as before.
+    pub fn keep_notices(&mut self, room: usize) -> Result<(), NoMemory>
+        requires { self.old.made ≡ 0 }
+        ensures ok { OnOk result (self.new ≡ record self.old { listeners = record self.old.listeners { room = room } }) }
+        ensures err { OnErr result (self.new ≡ self.old) }
+    {
+        self.listeners.keep_notices(room)
+    }
+
+    /// The notices that were kept, in the order in which they were told.
+    pub fn notices(&self) -> &[Notice]
+        ensures { result.now ≡ self.now.listeners.notices }
+    {
+        self.listeners.notices()
+    }
+}
+
+// Whether both name the same group, or both name none.
+fn is_same(old: Option<TaskGroupId>, new: Option<TaskGroupId>) -> bool
+    ensures { result ≡ same_group old new }
+{
+    match (old, new) {
+        (None, None) => true,
+        (Some(old), Some(new)) => old.number == new.number,
+        _ => false,
+    }
+}
+
+// Each live group is finished, in order of number.
+fn finish_each<H: TaskGroupHook>(counts: &mut Counts, listeners: &mut Listeners<H>)
+    ensures live { counts.new ≡ finite.empty }
+    ensures told { Told (finish_all counts.old) listeners.old listeners.new }
+{
+    while let Some(number) = counts.pop_first() {
+        let _ = listeners.tell(NoticeKind::Finish, TaskGroupId { number });
+    }
+}

@@ -1,0 +1,88 @@
+ghost use Rattle.std.specs.Prelude.{is_ok, None};
+ghost use Rattle.task_group.specs.Heard.{Heard, Tells, notice_of, start_of, enter_of, exit_of, finish_of};
+
+use crate::notice::{HookError, NoticeKind, TaskGroupId};
+
+/// What a store's owner hands in to be told of groups. An error that it answers refuses the call that told it.
+///
+/// Its meaning is the list of the notices that it was told, where it tells that, and the number of errors that it answered. A hook that has answered 18446744073709551615 errors answers `Ok` from then on.
+pub trait TaskGroupHook: Drop {
+    ghost heard: { Self → Heard };
+
+    /// The group is made.
+    fn handle_start(&mut self, id: TaskGroupId) -> Result<(), HookError>
+        ensures { Tells (start_of id) (heard self.old) (heard self.new) (is_ok result) };
+
+    /// A thread of the group begins to run, or goes on.
+    fn handle_enter(&mut self, id: TaskGroupId) -> Result<(), HookError>
+        ensures { Tells (enter_of id) (heard self.old) (heard self.new) (is_ok result) };
+
+    /// The thread of the group that ran has stopped.
+    fn handle_exit(&mut self, id: TaskGroupId) -> Result<(), HookError>
+        ensures { Tells (exit_of id) (heard self.old) (heard self.new) (is_ok result) };
+
+    /// The last task of the group has ended.
+    fn handle_finish(&mut self, id: TaskGroupId) -> Result<(), HookError>
+        ensures { Tells (finish_of id) (heard self.old) (heard self.new) (is_ok result) };
+}
+
+/// The hook's type where groups have no hook. As a hook it forgets what it is told, and answers `Ok`.
+#[derive(Drop)]
+pub struct NoHook;
+
+impl TaskGroupHook for NoHook {
+    ghost heard = { λ _. record { told = None; errors = 0 } };
+
+    fn handle_start(&mut self, _id: TaskGroupId) -> Result<(), HookError> {
+        Ok(())
+    }
+
+    fn handle_enter(&mut self, _id: TaskGroupId) -> Result<(), HookError> {
+        Ok(())
+    }
+
+    fn handle_exit(&mut self, _id: TaskGroupId) -> Result<(), HookError> {
+        Ok(())
+    }
+
+    fn handle_finish(&mut self, _id: TaskGroupId) -> Result<(), HookError> {
+        Ok(())
+    }
+}
+
+// A call goes to the hook in the box.
+impl<H: TaskGroupHook> TaskGroupHook for Box<H> {
+    ghost heard = { λ b. H.heard b.value };
+
+    fn handle_start(&mut self, id: TaskGroupId) -> Result<(), HookError> {
+        (**self).handle_start(id)
+    }
+
+    fn handle_enter(&mut self, id: TaskGroupId) -> Result<(), HookError> {
+        (**self).handle_enter(id)
+    }
+
+    fn handle_exit(&mut self, id: TaskGroupId) -> Result<(), HookError> {
+        (**self).handle_exit(id)
+    }
+
+    fn handle_finish(&mut self, id: TaskGroupId) -> Result<(), HookError> {
+        (**self).handle_finish(id)
+    }
+}
+
+/// One notice to a hook.
+pub fn tell<H: TaskGroupHook>(
+    hook: &mut H,
+    kind: NoticeKind,
+    id: TaskGroupId,
+) -> Result<(), HookError>
+    ensures { Tells (notice_of kind id) (H.heard hook.old) (H.heard hook.new) (is_ok result) }
+{
+    match kind {
+        NoticeKind::Start => hook.handle_start(id),
+        NoticeKind::Enter => hook.handle_enter(id),
+        NoticeKind::Exit => hook.handle_exit(id),
+        NoticeKind::Finish => hook.handle_finish(id),
+    }
+}

@@ -1,0 +1,14 @@
+//! Groups of tasks, and a hook that is told when a group starts, is entered, is left and finishes.
+#![tactic(auto)]
+
+mod counts;
+mod groups;
+mod hook;
+mod listeners;
+mod notice;
+#[cfg(test)]
+mod tests;
+
+pub use groups::Groups;
+pub use hook::{NoHook, TaskGroupHook};
+pub use notice::{GroupError, HookError, NoMemory, Notice, NoticeKind, TaskGroupId};

@@ -1,0 +1,5 @@
+pub mod HandleLaws
+pub mod SlotLemmas
+pub mod ChainLemmas
+pub mod StepLemmas
+pub mod CountLemmas

@@ -1,0 +1,84 @@
+ghost use Rattle.std.specs.Prelude.{◌≡◌, ◌≤◌, ◌<◌, ◌↔◌, IsTrue};
+ghost use Rattle.task_handles.specs.Counter.{raised, lowered};
+
+use crate::MAX_HANDLES;
+use std::marker::Model;
+
+/// How many handles are live over all tables that share this counter, and how many may be.
+///
+/// The live count is the sum of the live handles of those tables: each call of a table that makes or removes a handle keeps it so.
+#[derive(Drop)]
+pub struct HandleCounter {
+    limit: u32,
+    live: u32,
+}
+
+impl Model for HandleCounter {
+    ghost use Rattle.std.specs.Prelude.{◌≤◌};
+    ghost use Rattle.task_handles.specs.Counter.{Counter};
+    ghost use Rattle.task_handles.specs.declared.TheConstants.{MAX_HANDLES};
+
+    ghost Value = { Counter };
+
+    ghost view = { λ c. record { limit = c.limit; live = c.live } };
+
+    ghost invariant = { λ c. (c.limit ≤ MAX_HANDLES) × (c.live ≤ MAX_HANDLES) };
+}
+
+impl HandleCounter {
+    /// A counter of tables that have no live handle. The limit is at most `MAX_HANDLES`.
+    pub fn new(limit: u32) -> Self
+        requires { limit ≤ MAX_HANDLES }
+        ensures { result ≡ record { limit = limit; live = 0 } }
+    {
+        HandleCounter { limit, live: 0 }
+    }
+
+    /// How many handles may be live at once.
+    pub fn limit(&self) -> u32
+        ensures value { result ≡ self.now.limit }
+        ensures bound { result ≤ MAX_HANDLES }
+    {
+        self.limit
+    }
+
+    /// How many handles are live, over all tables that this counter counts.
+    pub fn live(&self) -> u32
+        ensures value { result ≡ self.now.live }
+        ensures bound { result ≤ MAX_HANDLES }
+    {
+        self.live
+    }
+
+    /// Sets the limit, which is at most `MAX_HANDLES`. A lowered limit blocks new handles only: those that are live stay so, also where they are more than it allows.
+    pub fn set_limit(&mut self, limit: u32)
+        requires { limit ≤ MAX_HANDLES }
+        ensures { self.new ≡ record self.old { limit = limit } }
+    {
+        self.limit = limit;
+    }
+
+    // Whether no more handle may be made.
+    pub(crate) fn is_full(&self) -> bool
+        ensures full { IsTrue result ↔ (self.now.limit ≤ self.now.live) }
+        ensures bound { self.now.limit ≤ MAX_HANDLES }
+    {
+        self.live >= self.limit
+    }
+
+    // Counts a new handle.
+    pub(crate) fn raise(&mut self)
+        requires { self.old.live < self.old.limit }
+        ensures { self.new ≡ raised self.old }
+    {
+        self.live += 1;
+    }
+
+    // No longer counts a handle.
+    pub(crate) fn lower(&mut self)
+        requires { 0 < self.old.live }
+        ensures { self.new ≡ lowered self.old }
+    {
+        self.live -= 1;
+    }
+}

@@ -1,0 +1,86 @@
+ghost use Rattle.std.specs.Prelude.{◌≡◌, ◌≢◌, ◌≤◌, ◌↔◌, IfOk, OnOk, OnErr, Err};
+ghost use Rattle.task_handles.specs.Handles.{no_handles, held_by};
+ghost use Rattle.task_handles.specs.Counted.{Counts, CountsHandle, Inserts, Removes, Unchanged};
+ghost use Rattle.task_handles.specs.Held.{thread_of};
+
+use crate::counter::HandleCounter;
+use crate::kinds::{HandleError, Rep};
+use crate::slots::Slots;
+use std::alloc::Global;
+use std::marker::Model;
+
+/// The handles by which the guest of one instance names threads, in numbers of their own.
+///
+/// The rules are those of `HandleTable`: handles run from 1 to `MAX_HANDLES`, the one freed last is given first, and a shared counter counts those that are live.
+#[derive(Drop)]
+pub struct ThreadHandleTable {
+    slots: Slots<Rep>,
+}
+
+impl Model for ThreadHandleTable {
+    ghost use Rattle.task_handles.specs.Handles.{Handles, handles_code};
+    ghost use Rattle.task_handles.specs.declared.kinds.Rep.{Rep};
+
+    ghost Value = { Handles Rep };
+
+    ghost use Rattle.task_handles.specs.contracts.kinds.Rep as rep;
+
+    ghost coded = { handles_code rep.the_row.coded };
+
+    ghost view = { λ t. t.slots };
+}
+
+impl ThreadHandleTable {
+    /// A table with no handle, of which none was made.
+    pub fn new(alloc: Global) -> Self
+        ensures { result ≡ no_handles }
+    {
+        ThreadHandleTable {
+            slots: Slots::new(alloc),
+        }
+    }
+
+    /// Gives a handle to a thread, which `rep` names in the table of entries, and counts it.
+    ///
+    /// `Limit` exactly where as many handles are live as the counter's limit, or more; this is tested before memory is asked for. `NoMemory` where the list can't grow. After an error table and counter are as before.
+    pub fn guest_thread_insert(
+        &mut self,
+        counter: &mut HandleCounter,
+        rep: Rep,
+    ) -> Result<u32, HandleError>
+        requires { Counts counter.old self.old }
+        ensures ok { IfOk result (λ handle. Inserts rep self.old self.new counter.old counter.new handle) }
+        ensures limit { (result ≡ Err HandleError.Limit) ↔ (counter.old.limit ≤ counter.old.live) }
+        ensures known { result ≢ Err HandleError.BadHandle }
+        ensures err { OnErr result (Unchanged self.old self.new counter.old counter.new) }
+    {
+        self.slots.insert_counted(counter, rep)
+    }
+
+    /// The thread that a handle names.
+    ///
+    /// `BadHandle` exactly where no live handle has this number.
+    pub fn guest_thread_rep(&self, handle: u32) -> Result<Rep, HandleError>
+        ensures { result ≡ thread_of (held_by self.now handle) }
+    {
+        self.slots.get(handle).ok_or(HandleError::BadHandle)
+    }
+
+    /// Takes back the handle of a thread, so that the number may be given again, and no longer counts it. Answers which thread it named.
+    ///
+    /// `BadHandle` exactly where no live handle has this number; then table and counter are as before.
+    pub fn guest_thread_remove(
+        &mut self,
+        counter: &mut HandleCounter,
+        handle: u32,
+    ) -> Result<Rep, HandleError>
+        requires { CountsHandle counter.old self.old handle }
+        ensures answer { result ≡ thread_of (held_by self.old handle) }
+        ensures ok { OnOk result (Removes handle self.old self.new counter.old counter.new) }
+        ensures err { OnErr result (Unchanged self.old self.new counter.old counter.new) }
+    {
+        let rep = self.guest_thread_rep(handle)?;
+        self.slots.remove_counted(counter, handle);
+        Ok(rep)
+    }
+}

@@ -1,0 +1,35 @@
+ghost use Rattle.std.specs.Prelude.{◌≡◌, option_copied, slice_get};
+ghost use Rattle.task_loop.specs.WellFormed.{export_at};
+
+use task_machine::{Callee, Component, ExportDef, Op, Operand};
+
+/// An operand's value in these registers.
+pub fn operand_value(registers: &[u64; 16], operand: Operand) -> u64 {
+    match operand {
+        Operand::Number(value) => value,
+        Operand::Register(register) => registers.get(register as usize).copied().unwrap_or(0),
+    }
+}
+
+/// What runs under an export.
+pub fn export_def(component: &Component, callee: Callee) -> Option<&ExportDef>
+    ensures { option_copied result ≡ export_at component.now callee.instance callee.export }
+{
+    let instance = component
+        .instances
+        .as_slice()
+        .get(callee.instance as usize)?;
+    instance.exports.as_slice().get(callee.export as usize)
+}
+
+fn op_at(def: &ExportDef, position: u32) -> Option<&Op>
+    ensures { option_copied result ≡ slice_get def.now.start position }
+{
+    def.start.as_slice().get(position as usize)
+}
+
+/// The op at a place of an export's start script, none at its end.
+pub fn script_op(component: &Component, callee: Callee, position: u32) -> Option<&Op> {
+    let def = export_def(component, callee)?;
+    op_at(def, position)
+}

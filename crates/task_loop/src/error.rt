@@ -1,0 +1,3 @@
+/// Memory is wanting.
+#[derive(Clone, Copy, Debug, PartialEq, Eq)]
+pub struct NoMemory;

@@ -1,0 +1,25 @@
+//! The event loop: main and the threads take their steps, and each step adds a label to a trace.
+#![tactic(auto)]
+
+mod call;
+mod component;
+mod error;
+mod instance;
+mod main_task;
+mod run;
+mod step;
+mod trace;
+
+pub use call::{Func, FuncCallConcurrent};
+pub use component::{operand_value, script_op};
+pub use error::NoMemory;
+pub use instance::Instance;
+pub use main_task::{MainStep, MainTask};
+pub use run::{RunConcurrent, run_concurrent};
+pub use task_machine::{
+    Callee, Component, ExportDef, HostDef, InstanceDef, Label, Op, Operand, Outcome, Slot,
+};
+pub use trace::Trace;
+
+#[cfg(test)]
+mod tests;

@@ -1,0 +1,114 @@
+//! Copies of components.
+
+use std::alloc::{AllocError, Global};
+use task_machine::{CallOp, Component, ExportDef, HostDef, InstanceDef, Op, Operand, Seq, Slot};
+
+fn copy_operands(alloc: Global, operands: &Seq<Operand>) -> Result<Seq<Operand>, AllocError> {
+    Ok(Seq::from_vec(Vec::from_slice(alloc, operands.as_slice())?))
+}
+
+fn copy_hosts(alloc: Global, hosts: &Seq<HostDef>) -> Result<Seq<HostDef>, AllocError> {
+    Ok(Seq::from_vec(Vec::from_slice(alloc, hosts.as_slice())?))
+}
+
+fn copy_call(alloc: Global, op: &CallOp) -> Result<CallOp, AllocError> {
+    Ok(match op {
+        CallOp::Call {
+            to,
+            result: register,
+            callee,
+            params,
+        } => CallOp::Call {
+            to: *to,
+            result: *register,
+            callee: *callee,
+            params: copy_operands(alloc, params)?,
+        },
+        CallOp::CallSync { to, callee, params } => CallOp::CallSync {
+            to: *to,
+            callee: *callee,
+            params: copy_operands(alloc, params)?,
+        },
+        CallOp::CallHost {
+            to,
+            result: register,
+            host,
+        } => CallOp::CallHost {
+            to: *to,
+            result: *register,
+            host: *host,
+        },
+        CallOp::CallSyncHost { to, host } => CallOp::CallSyncHost {
+            to: *to,
+            host: *host,
+        },
+        CallOp::Cancel { to, subtask } => CallOp::Cancel {
+            to: *to,
+            subtask: *subtask,
+        },
+        CallOp::CancelSync { to, subtask } => CallOp::CancelSync {
+            to: *to,
+            subtask: *subtask,
+        },
+        CallOp::Drop { subtask } => CallOp::Drop { subtask: *subtask },
+    })
+}
+
+fn copy_op(alloc: Global, op: &Op) -> Result<Op, AllocError> {
+    Ok(match op {
+        Op::Data(op) => Op::Data(*op),
+        Op::Task(op) => Op::Task(*op),
+        Op::Set(op) => Op::Set(*op),
+        Op::Call(op) => Op::Call(copy_call(alloc, op)?),
+        Op::Thread(op) => Op::Thread(*op),
+    })
+}
+
+fn copy_ops(alloc: Global, ops: &Seq<Op>) -> Result<Seq<Op>, AllocError> {
+    let mut copies = Seq::new(alloc);
+    for op in ops.as_slice() {
+        copies.push(copy_op(alloc, op)?)?;
+    }
+    Ok(copies)
+}
+
+fn copy_exports(alloc: Global, exports: &Seq<ExportDef>) -> Result<Seq<ExportDef>, AllocError> {
+    let mut copies = Seq::new(alloc);
+    for export in exports.as_slice() {
+        let start = copy_ops(alloc, &export.start)?;
+        let react = copy_ops(alloc, &export.react)?;
+        copies.push(ExportDef {
+            kind: export.kind,
+            params: export.params,
+            start,
+            react,
+        })?;
+    }
+    Ok(copies)
+}
+
+fn copy_slots(alloc: Global, slots: &Seq<Slot>) -> Result<Seq<Slot>, AllocError> {
+    let mut copies = Seq::new(alloc);
+    for slot in slots.as_slice() {
+        copies.push(match slot {
+            Slot::Empty => Slot::Empty,
+            Slot::Bad => Slot::Bad,
+            Slot::Script(ops) => Slot::Script(copy_ops(alloc, ops)?),
+        })?;
+    }
+    Ok(copies)
+}
+
+/// A copy of a component.
+pub fn copy_component(alloc: Global, component: &Component) -> Result<Component, AllocError> {
+    let mut instances = Seq::new(alloc);
+    for instance in component.instances.as_slice() {
+        let exports = copy_exports(alloc, &instance.exports)?;
+        let slots = copy_slots(alloc, &instance.slots)?;
+        instances.push(InstanceDef { exports, slots })?;
+    }
+    Ok(Component {
+        instances,
+        hosts: copy_hosts(alloc, &component.hosts)?,
+    })
+}

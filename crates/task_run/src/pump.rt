@@ -1,0 +1,59 @@
+ghost use Rattle.std.specs.Prelude.{◌≡◌, ◌≤◌, ◌+◌, false, IsErrOf, IfOk, length};
+ghost use Rattle.task_run.specs.Outside.{HasRisen};
+
+use crate::outside::{Read, Sink, Source, Wrote};
+use std::alloc::{AllocError, Global};
+
+/// The most bytes that a text has.
+pub const LIMIT: usize = 1_048_576;
+
+/// Why a source gave no text.
+#[derive(Clone, Copy, Debug, PartialEq, Eq)]
+pub enum ReadFault {
+    NoMemory,
+    Failed,
+}
+
+impl From<AllocError> for ReadFault {
+    ghost use Rattle.task_run.specs.declared.pump.ReadFault.TheVariants.{NoMemory};
+
+    ghost from_gives = { λ _ e. e ≡ NoMemory };
+
+    fn from(_e: AllocError) -> ReadFault {
+        ReadFault::NoMemory
+    }
+}
+
+/// The bytes of a source up to its end, or its first `LIMIT + 1` ones where it has more.
+pub fn read_all<S: Source>(alloc: Global, source: &mut S) -> Result<Vec<u8>, ReadFault>
+    ensures short { IfOk result (λ text. length text.items ≤ LIMIT + 1) }
+    ensures count { S.faults source.old ≤ S.faults source.new }
+    ensures cause { IsErrOf result ReadFault.Failed → HasRisen (S.faults source.old) (S.faults source.new) }
+{
+    let mut text = Vec::new(alloc);
+    let mut buf = [0; 4096];
+    while text.len() <= LIMIT {
+        let room = (LIMIT + 1 - text.len()).min(4096);
+        match source.read(&mut buf[..room]) {
+            Read::Got(count) => text.extend_from_slice(&buf[..count])?,
+            Read::End => return Ok(text),
+            Read::Failed => return Err(ReadFault::Failed),
+        }
+    }
+    Ok(text)
+}
+
+/// Writes all bytes, and says whether the sink took them.
+pub fn write_all<K: Sink>(sink: &mut K, bytes: &[u8]) -> bool
+    ensures count { K.faults sink.old ≤ K.faults sink.new }
+    ensures cause { result ≡ false → HasRisen (K.faults sink.old) (K.faults sink.new) }
+{
+    let mut rest = bytes;
+    while !rest.is_empty() {
+        match sink.write(rest) {
+            Wrote::Took(count) => rest = &rest[count..],
+            Wrote::Failed => return false,
+        }
+    }
+    true
+}

@@ -1,0 +1,96 @@
+ghost use Rattle.std.specs.Prelude.{◌<◌, ◌≤◌, length};
+
+use crate::lower::read_scenario;
+use crate::main_script::ScriptMain;
+use crate::scenario::{NoMemory, RunError, Scenario};
+use report_text::{append_label, append_outcome};
+use std::alloc::{AllocError, Global};
+use task_loop::{Outcome, Trace, run_concurrent};
+use task_machine::{IdleLine, Label};
+use task_store::Store;
+
+/// The host works of a scenario.
+pub struct ScriptedHost;
+
+impl Drop for ScriptedHost {
+    fn drop(self) {
+        let ScriptedHost = self;
+    }
+}
+
+/// What a run came to: its steps, its end, and the store that it left.
+#[derive(Drop)]
+pub struct Report {
+    pub trace: Trace,
+    pub outcome: Outcome,
+    pub store: Store<(), ScriptedHost>,
+}
+
+// Runs a scenario in a new store.
+fn run(alloc: Global, scenario: &Scenario, steps: u32) -> Result<Report, NoMemory> {
+    let mut store = Store::new(alloc, (), true, 1);
+    for _ in 0..scenario.component.instances.len() {
+        if store.add_instance().is_err() {
+            return Err(NoMemory);
+        }
+    }
+    let Ok(mut run) = run_concurrent(&mut store, scenario.idle == IdleLine::Trap) else {
+        return Err(NoMemory);
+    };
+    let mut trace = Trace::new(alloc);
+    let mut main = ScriptMain::new(alloc, scenario.main.as_slice());
+    let outcome = run.drive(
+        &scenario.component,
+        &mut store,
+        &mut main,
+        steps,
+        &mut trace,
+    );
+    run.end(&mut store);
+    match outcome {
+        Ok(outcome) => Ok(Report {
+            trace,
+            outcome,
+            store,
+        }),
+        Err(_) => Err(NoMemory),
+    }
+}
+
+/// Runs the scenario of a text of at most 1,048,576 bytes for at most `steps` steps, 1 to
+/// 1,000,000. A text that is no scenario is refused at its first bad line.
+pub fn run_scenario(alloc: Global, text: &[u8], steps: u32) -> Result<Report, RunError>
+    requires text { length text.now ≤ 1048577 }
+    requires steps { 0 < steps }
+{
+    let scenario = read_scenario(alloc, text)?;
+    run(alloc, &scenario, steps).map_err(|_| RunError::NoMemory)
+}
+
+/// Adds the line of a label.
+pub fn append_label_line(out: &mut Vec<u8>, label: Label) -> Result<(), AllocError> {
+    append_label(out, label)?;
+    out.push(b'\n')?;
+    Ok(())
+}
+
+/// Adds the line of an outcome.
+pub fn append_outcome_line(out: &mut Vec<u8>, outcome: Outcome) -> Result<(), AllocError> {
+    append_outcome(out, outcome)?;
+    out.push(b'\n')?;
+    Ok(())
+}
+
+fn text_of(alloc: Global, report: &Report) -> Result<Vec<u8>, AllocError> {
+    let mut out = Vec::new(alloc);
+    for label in report.trace.labels() {
+        append_label_line(&mut out, *label)?;
+    }
+    append_outcome_line(&mut out, report.outcome)?;
+    Ok(out)
+}
+
+/// The text of a report: its labels, one a line, and the line of its outcome.
+pub fn print_report(alloc: Global, report: &Report) -> Result<Vec<u8>, NoMemory> {
+    Ok(text_of(alloc, report)?)
+}

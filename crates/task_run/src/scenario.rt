@@ -1,0 +1,69 @@
+use std::alloc::AllocError;
+use task_loop::Func;
+use task_machine::{Component, IdleLine, Operand, Seq};
+use thiserror::Error;
+
+/// Memory is wanting.
+#[derive(Clone, Copy, Debug, PartialEq, Eq)]
+pub struct NoMemory;
+
+impl From<AllocError> for NoMemory {
+    fn from(_e: AllocError) -> NoMemory {
+        NoMemory
+    }
+}
+
+/// Why a text wasn't run.
+#[derive(Clone, Copy, Debug, PartialEq, Eq, Error)]
+pub enum RunError {
+    #[error("out of memory")]
+    NoMemory,
+    /// The text is no scenario: the least n such that its first n lines begin none, or one past the
+    /// last line where only more lines are missing.
+    #[error("bad scenario line {0}")]
+    BadScenario(u32),
+}
+
+/// The names that a text gives to an instance and its exports.
+#[derive(Debug, Drop)]
+pub struct InstanceNames {
+    pub instance: Seq<u8>,
+    pub exports: Seq<Seq<u8>>,
+}
+
+/// An op of main. Starts and spawns are counted apart, from 1, in the order of their ops.
+#[derive(Debug, Drop)]
+pub enum MainOp {
+    /// `start F X*`
+    Start(Func, Seq<Operand>),
+    /// `finish K R`
+    Finish(u32, u8),
+    /// `spawn H`, H a host's place
+    Spawn(u32),
+    /// `abort K`
+    Abort(u32),
+    /// `await K`
+    Await(u32),
+    /// `quiet`
+    Quiet,
+    /// `ready F`
+    Ready(Func),
+    /// `answer X`
+    Answer(Operand),
+}
+
+/// A scenario: what a text says, in the order of its lines.
+#[derive(Debug, Drop)]
+pub struct Scenario {
+    /// How many handles may be live at once, at most 268,435,455.
+    pub handles: u32,
+    /// How many entries the resource table may have, at most 1,000,000.
+    pub table: u32,
+    pub idle: IdleLine,
+    pub component: Component,
+    /// The names that the text gives; a run doesn't use them.
+    pub names: Seq<InstanceNames>,
+    pub main: Seq<MainOp>,
+    /// For each aborter the spawns that it aborts, in order.
+    pub aborters: Seq<Seq<u32>>,
+}

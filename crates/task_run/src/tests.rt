@@ -1,0 +1,122 @@
+use super::*;
+use std::alloc::Global;
+use std::test::Fail;
+
+const ONE_CALL: &[u8] =
+    b"scenario 1\nhandles 100000\ntable 1000000\nidle trap\ninstance a\nexport f callback 1\nret r0\nexit\nmain\nstart a.f 7\nfinish 1 r0\nanswer r0\nend\n";
+
+const NO_RESULT: &[u8] =
+    b"scenario 1\nhandles 100000\ntable 1000000\nidle trap\ninstance a\nexport f callback 1\nexit\nmain\nstart a.f 7\nfinish 1 r0\nanswer r0\nend\n";
+
+const RETURNED_TWICE: &[u8] =
+    b"scenario 1\nhandles 100000\ntable 1000000\nidle trap\ninstance a\nexport f callback 1\nret r0\nret r0\nexit\nmain\nstart a.f 7\nfinish 1 r0\nanswer r0\nend\n";
+
+const REPORT: &[u8] =
+    b"main start 1 thread 1\nmain pends\ntake high thread 1\nthread 1 ret 7\nthread 1 exit\nmain finish 1 = 7\nmain answer 7\ndone 7\n";
+
+fn words(alloc: Global, words: &[&str]) -> Result<Vec<String>, Fail> {
+    let mut copies = Vec::new(alloc);
+    for word in words {
+        copies.push(String::from_str(alloc, word)?)?;
+    }
+    Ok(copies)
+}
+
+fn source(alloc: Global, text: &[u8], piece: usize, fail: &[u32]) -> Result<MemorySource, Fail> {
+    let text = Vec::from_slice(alloc, text)?;
+    Ok(MemorySource::new(text, piece.max(1), Vec::from_slice(alloc, fail)?))
+}
+
+fn sink(alloc: Global, piece: usize, fail: &[u32]) -> Result<MemorySink, Fail> {
+    let fail = Vec::from_slice(alloc, fail)?;
+    Ok(
+        MemorySink::new(alloc, piece.max(1), 4096, fail)
+            .ok()
+            .ok_or("room")?,
+    )
+}
+
+#[test]
+fn runs_of_the_first_path_print_their_reports(rt: HostRuntime) -> Result<(), Fail> {
+    let cases: [(&[u8], u32, &[u8]); 4] = [
+        (ONE_CALL, 7, REPORT),
+        (
+            ONE_CALL,
+            6,
+            b"main start 1 thread 1\nmain pends\ntake high thread 1\nthread 1 ret 7\nthread 1 exit\nmain finish 1 = 7\nout of steps\n",
+        ),
+        (
+            NO_RESULT,
+            100,
+            b"main start 1 thread 1\nmain pends\ntake high thread 1\ntrap thread 1 4\ntrap 4\n",
+        ),
+        (
+            RETURNED_TWICE,
+            100,
+            b"main start 1 thread 1\nmain pends\ntake high thread 1\nthread 1 ret 7\ntrap thread 1 1\ntrap 1\n",
+        ),
+    ];
+    for (text, steps, printed) in cases {
+        let report = run_scenario(rt.alloc(), text, steps.max(1))
+            .ok()
+            .ok_or("a report")?;
+        let text = print_report(rt.alloc(), &report).ok().ok_or("a text")?;
+        assert_eq!(rt; text.as_slice(), printed);
+    }
+    Ok(())
+}
+
+#[test]
+fn the_program_ends_with_its_statuses(rt: HostRuntime) -> Result<(), Fail> {
+    let run: [&str; 2] = ["run", "7"];
+    let cases: [(&[&str], &[u8], &[u32], &[u32], u8, &[u8]); 7] = [
+        (&run, ONE_CALL, &[], &[], 0, REPORT),
+        (&run, b"", &[], &[], 3, b"bad scenario line 1\n"),
+        (&run, ONE_CALL, &[2], &[], 4, b""),
+        (&run, ONE_CALL, &[], &[2], 5, b"main start"),
+        (&["run", "07"], ONE_CALL, &[], &[], 2, USAGE),
+        (&["run", "0"], ONE_CALL, &[], &[], 2, USAGE),
+        (&[], ONE_CALL, &[], &[], 2, USAGE),
+    ];
+    for (line, text, bad_reads, bad_writes, status, written) in cases {
+        let mut source = source(rt.alloc(), text, 100, bad_reads)?;
+        let mut sink = sink(rt.alloc(), 10, bad_writes)?;
+        let words = words(rt.alloc(), line)?;
+        let end = tool(rt.alloc(), words.as_slice(), &mut source, &mut sink);
+        assert_eq!(rt; end.status, status);
+        assert_eq!(rt; end.report.is_some(), status == 0);
+        assert_eq!(rt; sink.bytes(), written);
+    }
+    Ok(())
+}
+
+#[test]
+fn a_scenario_is_read_and_its_component_copied(rt: HostRuntime) -> Result<(), Fail> {
+    let scenario = read_scenario(rt.alloc(), ONE_CALL)
+        .ok()
+        .ok_or("a scenario")?;
+    assert_eq!(rt; scenario.handles, 100_000);
+    assert_eq!(rt; scenario.names.len(), 1);
+    assert_eq!(rt; scenario.main.len(), 3);
+    let component = component_of(rt.alloc(), &scenario)
+        .ok()
+        .ok_or("a component")?;
+    assert_eq!(rt; component.instances.len(), 1);
+    assert_eq!(rt;
+        read_scenario(rt.alloc(), b"").err(),
+        Some(RunError::BadScenario(1))
+    );
+    Ok(())
+}
+
+#[test]
+fn std_s_readers_and_writers_are_adapted(rt: HostRuntime) -> Result<(), Fail> {
+    let mut source = StdSource::new(ONE_CALL);
+    let mut buf = [0; 8];
+    assert_eq!(rt; source.read(&mut buf), Read::Got(8));
+    assert_eq!(rt; buf.as_slice(), b"scenario".as_slice());
+    let mut written = Vec::new(rt.alloc());
+    let mut sink = StdSink::new(&mut written);
+    assert_eq!(rt; sink.write(b"done"), Wrote::Took(4));
+    Ok(())
+}

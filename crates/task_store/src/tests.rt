@@ -1,0 +1,31 @@
+use super::*;
+use std::test::Fail;
+
+#[test]
+fn a_store_numbers_its_instances(rt: HostRuntime) -> Result<(), Fail> {
+    let mut store: Store<u8, u8> = Store::new(rt.alloc(), 5, true, 1);
+    assert_eq!(rt; store.add_instance(), Ok(ComponentInstanceId(0)));
+    assert_eq!(rt; store.add_instance(), Ok(ComponentInstanceId(1)));
+    assert_eq!(rt; store.given(), 0);
+    assert!(rt; store.state_mut().take_high().is_none());
+    assert_eq!(rt; store.state().given(), 0);
+    Ok(())
+}
+
+#[test]
+fn a_store_is_trapped_once_and_for_all(rt: HostRuntime) {
+    let mut store: Store<u8, u8> = Store::new(rt.alloc(), 5, true, 1);
+    assert!(rt; !store.trapped());
+    store.set_trapped();
+    assert!(rt; store.trapped());
+    store.set_running(true);
+    assert!(rt; store.running());
+}
+
+#[test]
+fn access_lends_the_store(rt: HostRuntime) {
+    let mut store: Store<u8, u8> = Store::new(rt.alloc(), 5, true, 1);
+    let mut access: Access<'_, u8, Whole, u8> = Access::new(&mut store);
+    access.as_context_mut().set_trapped();
+    assert!(rt; access.as_context().trapped());
+}

@@ -1,0 +1,2 @@
+pub mod Strand
+pub mod Lends

@@ -1,0 +1,10 @@
+//! Strands: the frames of a call that has stopped in the middle, owned by value, in place of a native stack.
+#![tactic(auto)]
+
+mod frame;
+mod strand;
+#[cfg(test)]
+mod tests;
+
+pub use frame::{Frame, Half, NoMemory, StoreFiberYield};
+pub use strand::{MAX_FRAMES, Strand};

@@ -1,0 +1,5 @@
+pub mod ReadLemmas
+pub mod CountLemmas
+pub mod TableLemmas
+pub mod SoundLemmas
+pub mod Laws

@@ -1,0 +1,20 @@
+//! The resource table: entries of several kinds in one table, each named by an id whose place is given again and whose serial is not.
+//!
+//! It stands on nothing but the standard library, and the crates above know it by its contracts alone.
+#![tactic(auto)]
+
+mod error;
+mod id;
+mod iter;
+mod kind;
+mod place;
+mod table;
+#[cfg(test)]
+mod tests;
+
+pub use error::{PushError, ResourceTableError};
+pub use id::TableId;
+pub use iter::TableIter;
+pub use kind::Kind;
+pub use table::ResourceTable;
+pub use task_machine::Trap;
