@@ -35,7 +35,7 @@ module _ {X : Type 0} (p : Core → X) (at_place : (n : ℕ) (q : Place) (s : Co
   released_one_leaves n None s = refl
   released_one_leaves n (Some w) s = put_high_leaves n w s
 
-  released_leaves : (ns : List ℕ) (s : Core) → p (released ns s) ≡ p s
+  pub released_leaves : (ns : List ℕ) (s : Core) → p (released ns s) ≡ p s
   unfolding released
   released_leaves [] s = refl
   released_leaves (n ∷ ns) s = released_leaves ns (released_one n (held_why_of n s) s) ∙ released_one_leaves n (held_why_of n s) s
@@ -124,7 +124,7 @@ with_switch_passes i s n is = by_switch (not (may_not_suspend i s)) (is_some (fi
     by_switch true b o e = refl
     by_switch false b o e = rw e refl
 
-or_true_right : (a : Bool) → (a || true) ≡ true
+pub or_true_right : (a : Bool) → (a || true) ≡ true
 or_true_right true = refl
 or_true_right false = refl
 
@@ -156,7 +156,7 @@ stop_passes i f s = callers_pass i f s s.queues.switch (callers_of f s) refl
 
 -- ---- A release
 
-map_or : {X Y : Type 0} (g : X → Y) (o : Option X) (d : Y) → option_map_or g o d ≡ unwrap_or (option_map g o) d
+pub map_or : {X Y : Type 0} (g : X → Y) (o : Option X) (d : Y) → option_map_or g o d ≡ unwrap_or (option_map g o) d
 map_or g None d = refl
 map_or g (Some x) d = refl
 
@@ -165,20 +165,20 @@ unfolding set_place on_thread
 place_task m n q s =
     map_or (λ t. t.call) (get (change n (λ t. record t { place = q }) s.threads) m) 0 ∙ (ap (λ o. unwrap_or o 0) (change-field (λ (t : Thread). t.call) n (λ t. record t { place = q }) (λ t. refl) s.threads m) ∙ sym (map_or (λ t. t.call) (get s.threads m) 0))
 
-place_calls : (n : ℕ) (q : Place) (s : Core) → (set_place n q s).calls ≡ s.calls
+pub place_calls : (n : ℕ) (q : Place) (s : Core) → (set_place n q s).calls ≡ s.calls
 unfolding set_place on_thread
 place_calls n q s = refl
 
-place_instance : (m n : ℕ) (q : Place) (s : Core) → instance_of m (set_place n q s) ≡ instance_of m s
+pub place_instance : (m n : ℕ) (q : Place) (s : Core) → instance_of m (set_place n q s) ≡ instance_of m s
 place_instance m n q s =
     ap₂ (λ (cs : Records Call) (k : ℕ). (option_map_or (λ c. c.callee) (get cs k) no_callee).instance) (place_calls n q s) (place_task m n q s)
 
-high_instance : (m : ℕ) (e : Entry) (s : Core) → instance_of m (push_high e s) ≡ instance_of m s
+pub high_instance : (m : ℕ) (e : Entry) (s : Core) → instance_of m (push_high e s) ≡ instance_of m s
 unfolding push_high
 high_instance m e s = refl
 
 -- some entry of the list is of the instance
-abbrev any_in : ℕ → Core → List Entry → Bool
+abbrev pub any_in : ℕ → Core → List Entry → Bool
 any_in i s es = list_any (is_entry_in i s) es
 
 entry_in_is : (i : ℕ) (s t : Core) → ((m : ℕ) → instance_of m s ≡ instance_of m t) → (e : Entry) → is_entry_in i s e ≡ is_entry_in i t e
@@ -186,11 +186,11 @@ entry_in_is i s t h (entry.Thread n) = ap (λ k. k == i) (h n)
 entry_in_is i s t h (entry.Push j) = refl
 entry_in_is i s t h (entry.Host j) = refl
 
-any_in_is : (i : ℕ) (s t : Core) → ((m : ℕ) → instance_of m s ≡ instance_of m t) → (es : List Entry) → any_in i s es ≡ any_in i t es
+pub any_in_is : (i : ℕ) (s t : Core) → ((m : ℕ) → instance_of m s ≡ instance_of m t) → (es : List Entry) → any_in i s es ≡ any_in i t es
 any_in_is i s t h [] = refl
 any_in_is i s t h (e ∷ es) = ap₂ (λ (a b : Bool). a || b) (entry_in_is i s t h e) (any_in_is i s t h es)
 
-any_in-append : (i : ℕ) (s : Core) (es : List Entry) (e : Entry) → any_in i s (es ++ e ∷ []) ≡ (any_in i s es || is_entry_in i s e)
+pub any_in-append : (i : ℕ) (s : Core) (es : List Entry) (e : Entry) → any_in i s (es ++ e ∷ []) ≡ (any_in i s es || is_entry_in i s e)
 any_in-append i s [] e = or_false_right (is_entry_in i s e)
 any_in-append i s (d ∷ es) e = ap (λ b. is_entry_in i s d || b) (any_in-append i s es e) ∙ or_assoc (is_entry_in i s d) (any_in i s es) (is_entry_in i s e)
   where
@@ -204,7 +204,7 @@ first_found i s (entry.Push j) es true is rest = absurd (subst T (sym is) tt)
 first_found i s (entry.Host j) es true is rest = absurd (subst T (sym is) tt)
 first_found i s e es false is rest = rest
 
-first_in_is : (i : ℕ) (s : Core) (es : List Entry) → is_some (first_in i s es) ≡ any_in i s es
+pub first_in_is : (i : ℕ) (s : Core) (es : List Entry) → is_some (first_in i s es) ≡ any_in i s es
 first_in_is i s [] = refl
 first_in_is i s (e ∷ es) = first_found i s e es (is_entry_in i s e) refl (first_in_is i s es)
 
@@ -218,11 +218,11 @@ high_first_passes i s h = by_first (not (may_not_suspend i s)) (is_some s.queues
     by_first false false (Some n) e = refl
     by_first false false None e = absurd (subst T (sym e) tt)
 
-put_high_high : (n : ℕ) (w : Why) (s : Core) → (put_high n w s).queues.high ≡ s.queues.high ++ entry.Thread n ∷ []
+pub put_high_high : (n : ℕ) (w : Why) (s : Core) → (put_high n w s).queues.high ≡ s.queues.high ++ entry.Thread n ∷ []
 unfolding put_high push_high set_place on_thread
 put_high_high n w s = refl
 
-put_high_instance : (n : ℕ) (w : Why) (s : Core) (m : ℕ) → instance_of m (put_high n w s) ≡ instance_of m s
+pub put_high_instance : (n : ℕ) (w : Why) (s : Core) (m : ℕ) → instance_of m (put_high n w s) ≡ instance_of m s
 put_high_instance n w s m = put_high_leaves (instance_of m) (place_instance m) (high_instance m) n w s
 
 both_left : (a b : Bool) → (a && b) ≡ true → a ≡ true
@@ -254,7 +254,7 @@ one_comes_high : (i n : ℕ) (o : Option Why) (s : Core) → is_held_admitted i 
 one_comes_high i n None s h = absurd (subst T (sym h) tt)
 one_comes_high i n (Some w) s h = comes_high i n w s (both_left (instance_of n s == i) (admits n s w) h)
 
-release_passes : (i : ℕ) (ns : List ℕ) (s : Core) → ((n : ℕ) (ms : List ℕ) → ns ≡ n ∷ ms → is_held_admitted i s n (held_why_of n s) ≡ true) → passes_check i (released ns s) ≡ (passes_check i s || not (is_nil ns))
+pub release_passes : (i : ℕ) (ns : List ℕ) (s : Core) → ((n : ℕ) (ms : List ℕ) → ns ≡ n ∷ ms → is_held_admitted i s n (held_why_of n s) ≡ true) → passes_check i (released ns s) ≡ (passes_check i s || not (is_nil ns))
 unfolding released
 release_passes i [] s h = sym (or_false_right (passes_check i s))
 release_passes i (n ∷ ns) s h =
@@ -263,7 +263,7 @@ release_passes i (n ∷ ns) s h =
 
 -- ---- A callback's end
 
-enter_passes : (i : ℕ) (b : Bool) (s : Core) → passes_check i (set_do_not_enter i b s) ≡ passes_check i s
+pub enter_passes : (i : ℕ) (b : Bool) (s : Core) → passes_check i (set_do_not_enter i b s) ≡ passes_check i s
 unfolding passes_check first_entry set_do_not_enter on_instance
 enter_passes i b s =
     ap (λ c. not c || (is_some s.queues.switch || is_some (first_entry i s)))
@@ -307,14 +307,14 @@ all_held : (i : ℕ) (s : Core) → All (λ n. is_held_admitted i s n (held_why_
 unfolding admitted_held
 all_held i s k d h = passed (λ n. is_held_admitted i s n (held_why_of n s)) (numbers s.threads) k d h
 
-ordered_first : (i : ℕ) (s : Core) (order : List ℕ) → IsPermutation (admitted_held i s) order → (n : ℕ) (ms : List ℕ) → order ≡ n ∷ ms → is_held_admitted i s n (held_why_of n s) ≡ true
+pub ordered_first : (i : ℕ) (s : Core) (order : List ℕ) → IsPermutation (admitted_held i s) order → (n : ℕ) (ms : List ℕ) → order ≡ n ∷ ms → is_held_admitted i s n (held_why_of n s) ≡ true
 ordered_first i s order perm n ms is =
     subst (λ (ns : List ℕ). All (λ m. is_held_admitted i s m (held_why_of m s) ≡ true) ns) is (All-permutation (λ m. is_held_admitted i s m (held_why_of m s) ≡ true) (admitted_held i s) order perm (all_held i s)) 0 0 (zero_below (length ms))
   where
     zero_below : (j : ℕ) → 0 < suc j
     zero_below j = omega arith
 
-same_nil : (xs ys : List ℕ) → length ys ≡ length xs → is_nil ys ≡ is_nil xs
+pub same_nil : (xs ys : List ℕ) → length ys ≡ length xs → is_nil ys ≡ is_nil xs
 same_nil [] [] e = refl
 same_nil (x ∷ xs) (y ∷ ys) e = refl
 same_nil [] (y ∷ ys) e = absurd (no_suc (length ys) e)

@@ -1,5 +1,5 @@
 ghost use Rattle.task_rules.specs.Keeps.{EachStep};
-ghost use Rattle.task_rules.specs.Laws.{NeverFewer, SameLimits, OutcomeEnds, OverIsLast, RunGoesOn, RunsJoin, KeptByRuns, OutcomeIsLast, CheckMovesOne, PromotionMovesOne, CallbackCheckIsAfter, StopKeepsPlaces, ReleaseKeepsPlaces, WakeKeepsPlaces, RemovalKeepsPlaces, Steady};
+ghost use Rattle.task_rules.specs.Laws.{NeverFewer, SameLimits, OutcomeEnds, OverIsLast, RunGoesOn, RunsJoin, KeptByRuns, OutcomeIsLast, CheckMovesOne, PromotionMovesOne, CallbackCheckIsAfter, StopKeepsPlaces, ReleaseKeepsPlaces, WakeKeepsPlaces, RemovalKeepsPlaces, Steady, BlockingCheckIsAfter};
 
 /// No number is given twice: no step lowers a count of what was made.
 #[tactic(auto, using(crate::proofs::LawLemmas::never_fewer))]
@@ -107,4 +107,10 @@ pub fn records_are_steady()
 #[tactic(auto, using(crate::proofs::LawLemmas::runs_steady))]
 pub fn runs_are_steady()
     ensures { KeptByRuns Steady }
+{}
+
+/// Whether a blocking export may leave is told on the state before: it is the check after the
+/// release and the return, where each thread that waits on a set is of the set's instance.
+pub fn blocking_check_is_after()
+    ensures { BlockingCheckIsAfter }
 {}

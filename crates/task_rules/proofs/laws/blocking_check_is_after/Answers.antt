@@ -1,0 +1,5 @@
+use Rattle.task_rules.proofs.ReturnLemmas as checks
+use Rattle.task_rules.proofs.laws.blocking_check_is_after.Goals as goal
+
+pub returns : goal.returns
+returns c = checks.blocking_check
