@@ -1,0 +1,97 @@
+#!/usr/bin/env python3
+"""Measures this repository's program and a plain program of the same task side by side.
+
+    bench/measure.py PLAIN [--ours PROGRAM] [--runs N]
+
+Both programs get the same texts, one after the other in turns, N times each, and their reports are compared. For each
+case it prints the processor seconds of one run (the least of N), their ratio (ours to the plain one's; below 1 we are
+faster), the same with the time of an empty run taken off, and the bytes of memory that a label takes, where the trace
+is long enough to tell. Exit status 1 where a report differs.
+"""
+import argparse
+import os
+import subprocess
+import sys
+import tempfile
+
+TOP = os.path.dirname(os.path.dirname(os.path.abspath(__file__)))
+HEAD = "scenario 1\nhandles 100000\ntable 1000000\nidle trap\ninstance a\nexport f callback 1\n"
+TAIL = "main\nstart a.f 18446744073709551615\nfinish 1 r0\nanswer r0\nend\n"
+LEAST_LABELS = 100_000
+
+
+def cases():
+    """Name, words and text of each case; the first is the empty run."""
+    yield "empty text", ["run", "1"], ""
+    yield "short text", ["run", "1000000"], HEAD + "ret r0\nexit\n" + TAIL
+    ops = ["ret 18446744073709551615"] + ["exit"] * 4095
+    yield "longest script of short lines", ["run", "1000000"], HEAD + "\n".join(ops) + "\n" + TAIL
+    ops = ["ret 18446744073709551615"] * 4096
+    yield "longest script of long lines", ["run", "2"], HEAD + "\n".join(ops) + "\n" + TAIL
+
+
+def once(program, words, path):
+    """The processor seconds, peak bytes and output of one run."""
+    with open(path, "rb") as text, tempfile.TemporaryFile() as out:
+        child = subprocess.Popen([program, *words], stdin=text, stdout=out, stderr=subprocess.DEVNULL)
+        _, status, usage = os.wait4(child.pid, 0)
+        child.returncode = os.waitstatus_to_exitcode(status)
+        out.seek(0)
+        return usage.ru_utime + usage.ru_stime, usage.ru_maxrss * 1024, (child.returncode, out.read())
+
+
+def least(seconds, peak, run):
+    return min(seconds, run[0]), min(peak, run[1])
+
+
+def measure(programs, words, path, runs):
+    """The least seconds and bytes of each program, and what each wrote."""
+    best = [(float("inf"), float("inf"))] * 2
+    said = [None, None]
+    for _ in range(runs):
+        for which, program in enumerate(programs):
+            run = once(program, words, path)
+            best[which] = least(*best[which], run)
+            said[which] = run[2]
+    return best, said
+
+
+def ratio(ours, plain):
+    return f"{ours / plain:.2f}" if plain > 0 and ours > 0 else "-"
+
+
+def bytes_a_label(peak, empty, report):
+    labels = report.count(b"\n") - 1
+    return f"{(peak - empty) / labels:.0f}" if labels >= LEAST_LABELS else "-"
+
+
+def main():
+    parser = argparse.ArgumentParser()
+    parser.add_argument("plain")
+    parser.add_argument("--ours", default=os.path.join(TOP, "crates/vatbramble/out/vatbramble"))
+    parser.add_argument("--runs", type=int, default=100)
+    options = parser.parse_args()
+    programs = [options.ours, options.plain]
+    differs = False
+    empty = None
+    print("case | ours s | plain s | ratio | ratio without the start | bytes a label, ours | plain")
+    for name, words, text in cases():
+        with tempfile.NamedTemporaryFile("w") as file:
+            file.write(text)
+            file.flush()
+            best, said = measure(programs, words, file.name, options.runs)
+        empty = empty or best
+        net = [best[i][0] - empty[i][0] for i in range(2)]
+        memory = [bytes_a_label(best[i][1], empty[i][1], said[i][1]) for i in range(2)]
+        print(
+            f"{name} | {best[0][0]:.6f} | {best[1][0]:.6f} | {ratio(best[0][0], best[1][0])} | {ratio(*net)}"
+            f" | {memory[0]} | {memory[1]}"
+        )
+        if said[0] != said[1]:
+            print(f"{name}: the programs answer differently")
+            differs = True
+    sys.exit(1 if differs else 0)
+
+
+if __name__ == "__main__":
+    main()
