@@ -1,10 +1,10 @@
 -- Each kind of word is read from its one spelling.
-use Rattle.std.proofs.Common.{◌≡◌, ℕ, ◌^◌, ◌<◌, ◌≤◌, Bool, true, false, cond, leb, eqb, List, [], ◌∷◌, Option, Some, None, refl, sym, ap, subst, arith, lit<}
-use Rattle.std.specs.Prelude.{decimal, codes, nat_le, nat_lt, is_some}
+use Rattle.std.proofs.Common.{◌≡◌, ◌≢◌, ℕ, ◌^◌, ◌<◌, ◌≤◌, Bool, true, false, cond, leb, eqb, List, [], ◌∷◌, Option, Some, None, refl, sym, ap, subst, ◌∙◌, arith, lit<}
+use Rattle.std.specs.Prelude.{decimal, codes, nat_le, nat_lt, is_some, MatchOption}
 use Rattle.std.specs.Char.{is_ascii_digit}
 use Rattle.std.specs.Str.{all_ascii_digits, bytes_eq}
 use Rattle.std.proofs.lemmas.Fmt.{digits_decimal}
-use Rattle.std.proofs.lemmas.Bool.{and_parts, eqb-true, ne_eqb, leb-true, lt-ltb, ltb-true}
+use Rattle.std.proofs.lemmas.Bool.{and_parts, eqb-true, ne_eqb, le-leb, leb-true, lt-ltb, ltb-true}
 use Rattle.std.proofs.lemmas.Slice.Eq.{bytes_eq-Decides}
 use Rattle.task_machine.specs.declared.op.Operand.{Operand}
 use Rattle.task_machine.specs.declared.op.Operand.TheVariants.{Number, Register}
@@ -58,6 +58,13 @@ bounded_again limit n small fits =
 
 pub bounded : (limit : ℕ) → limit < 2 ^ 64 → Reads (bounded_at limit) decimal (λ n. nat_le n limit)
 bounded limit small = record { takes = bounded_takes limit; again = λ n. bounded_again limit n small }
+
+-- what was read as a number up to a limit is that number's word, and no other word was refused
+pub bounded_is : (limit : ℕ) (w : List ℕ) (o : Option ℕ) → limit < 2 ^ 64 → o ≡ bounded_at limit w → MatchOption o ((n : ℕ) → n ≤ limit → w ≢ decimal n) (λ n. (w ≡ decimal n) × (n ≤ limit))
+bounded_is limit w None small e = λ n le same.
+    let none : None ≡ Some n = e ∙ ap (bounded_at limit) same ∙ bounded_again limit n small (le-leb _ _ le) in
+    cc
+bounded_is limit w (Some n) small e = let t = bounded_takes limit w n (sym e) in (t.0, leb-true _ _ t.1)
 
 register_takes : (w : List ℕ) (r : ℕ) → register_at w ≡ Some r → (w ≡ register_word r) × (nat_le r 15 ≡ true)
 unfolding register_at

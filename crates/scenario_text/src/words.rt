@@ -1,5 +1,5 @@
 //! The words of a line, one by one.
-ghost use Rattle.std.specs.Prelude.{◌≡◌, ◌≤◌, IfSome};
+ghost use Rattle.std.specs.Prelude.{◌≡◌, ◌≢◌, ◌≤◌, ℕ, decimal, IfSome, MatchOption};
 ghost use Rattle.std.specs.Char.{is_ascii_digit};
 ghost use Rattle.std.specs.List.{list_all};
 ghost use Rattle.scenario_text.specs.Words.{is_numeral, number_at, bounded_at, register_at, operand_at, idle_at, kind_at, is_name_byte, is_name};
@@ -43,6 +43,13 @@ pub fn bounded(word: &[u8], limit: u64) -> Option<u64>
     ensures limit { IfSome result (λ n. n ≤ limit) }
 {
     number(word).filter(|n| *n <= limit)
+}
+
+/// The number that a word is in decimal without leading zeros, where that is at most the limit.
+pub fn number_up_to(word: &[u8], limit: u64) -> Option<u64>
+    ensures { MatchOption result ((n : ℕ) → n ≤ limit → word.now ≢ decimal n) (λ n. (word.now ≡ decimal n) × (n ≤ limit)) }
+{
+    bounded(word, limit)
 }
 
 /// The register that a word names, `r0` to `r15`.

@@ -1,4 +1,7 @@
-ghost use Rattle.std.specs.Prelude.{◌≡◌, ◌<◌, ◌≤◌, ◌++◌, length, IfOk, OnOk};
+ghost use Rattle.std.specs.Prelude.{◌≡◌, ◌<◌, ◌≤◌, ◌++◌, ℕ, length, IfOk, IsOk, IsErrOf, OnOk};
+ghost use Rattle.scenario_text.specs.Grammar.{IsBadLine};
+ghost use Rattle.task_run.specs.Lower.{Reads};
+ghost use Rattle.task_run.specs.declared.scenario.Scenario.{Scenario};
 ghost use Rattle.task_rules.specs.Texts.{label_text, outcome_text, line_text, text};
 
 use crate::lower::read_scenario;
@@ -63,6 +66,8 @@ fn run(alloc: Global, scenario: &Scenario, steps: u32) -> Result<Report, NoMemor
 pub fn run_scenario(alloc: Global, text: &[u8], steps: u32) -> Result<Report, RunError>
     requires text { length text.now ≤ 1048577 }
     requires steps { 0 < steps }
+    ensures taken { IsOk result → (x : Scenario) × Reads text.now x }
+    ensures refused { (n : ℕ) → IsErrOf result (RunError.BadScenario n) → IsBadLine text.now n }
 {
     let scenario = read_scenario(alloc, text)?;
     run(alloc, &scenario, steps).map_err(|_| RunError::NoMemory)
