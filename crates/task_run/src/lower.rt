@@ -1,5 +1,7 @@
 //! From the text's tree to what is run: empty lines of the tree are gone, and the names stand apart.
-ghost use Rattle.std.specs.Prelude.{◌≤◌, length};
+ghost use Rattle.std.specs.Prelude.{◌≡◌, ◌≤◌, [], ◌∷◌, ◌++◌, ◌==◌, length, map, replicate, IfOk, IsOkUnless};
+ghost use Rattle.task_run.specs.Lower.{export_def, instance_def, names_of, func_of, main_op, scenario_of, Reads, ReadsAs};
+ghost use Rattle.task_run.specs.declared.scenario.Scenario.{Scenario};
 
 use crate::copy::copy_component;
 use crate::scenario::{InstanceNames, MainOp, NoMemory, RunError, Scenario};
@@ -8,16 +10,20 @@ use std::alloc::{AllocError, Global};
 use task_loop::{Func, Instance};
 use task_machine::{Callee, Component, ExportDef, InstanceDef, Operand, Seq, Slot};
 
-fn empty_slots(alloc: Global) -> Result<Seq<Slot>, AllocError> {
+fn empty_slots(alloc: Global) -> Result<Seq<Slot>, AllocError>
+    ensures { IfOk result (λ slots. slots ≡ replicate 16 Slot.Empty) }
+{
     let mut slots = Seq::new(alloc);
-    for _ in 0..16 {
+    while slots.len() < 16 {
         slots.push(Slot::Empty)?;
     }
     Ok(slots)
 }
 
 // What runs of an export, beside its name.
-fn export_def(alloc: Global, export: ExportText) -> (Seq<u8>, ExportDef) {
+fn export_def(alloc: Global, export: ExportText) -> (Seq<u8>, ExportDef)
+    ensures { result ≡ (export.name, export_def export) }
+{
     let def = ExportDef {
         kind: export.kind,
         params: export.params,
@@ -30,7 +36,9 @@ fn export_def(alloc: Global, export: ExportText) -> (Seq<u8>, ExportDef) {
 fn instance_def(
     alloc: Global,
     instance: InstanceText,
-) -> Result<(InstanceNames, InstanceDef), AllocError> {
+) -> Result<(InstanceNames, InstanceDef), AllocError>
+    ensures { IfOk result (λ p. p ≡ (names_of instance, instance_def instance)) }
+{
     let mut names = Seq::new(alloc);
     let mut exports = Seq::new(alloc);
     for export in instance.exports.into_vec() {
@@ -46,7 +54,9 @@ fn instance_def(
     Ok((names, InstanceDef { exports, slots }))
 }
 
-fn func(callee: Callee) -> Func {
+fn func(callee: Callee) -> Func
+    ensures { result ≡ func_of callee }
+{
     Func {
         instance: Instance {
             index: callee.instance,
@@ -55,30 +65,49 @@ fn func(callee: Callee) -> Func {
     }
 }
 
+fn main_op(op: MainOpText) -> MainOp
+    ensures { result ≡ main_op op }
+{
+    match op {
+        MainOpText::Start(callee, params) => MainOp::Start(func(callee), params),
+        MainOpText::Finish(start, to) => MainOp::Finish(start, to),
+    }
+}
+
 fn main_ops(
     alloc: Global,
     lines: Seq<MainOpText>,
     answer: Operand,
-) -> Result<Seq<MainOp>, AllocError> {
+) -> Result<Seq<MainOp>, AllocError>
+    ensures { IfOk result (λ ops. ops ≡ map main_op lines ++ MainOp.Answer answer ∷ []) }
+{
     let mut ops = Seq::new(alloc);
     for line in lines.into_vec() {
-        ops.push(match line {
-            MainOpText::Start(callee, params) => MainOp::Start(func(callee), params),
-            MainOpText::Finish(start, to) => MainOp::Finish(start, to),
-        })?;
+        ops.push(main_op(line))?;
     }
     ops.push(MainOp::Answer(answer))?;
     Ok(ops)
 }
 
-fn scenario_of(alloc: Global, text: ScenarioText) -> Result<Scenario, AllocError> {
+type Instances = (Seq<InstanceNames>, Seq<InstanceDef>);
+
+fn instance_defs(alloc: Global, instances: Seq<InstanceText>) -> Result<Instances, AllocError>
+    ensures { IfOk result (λ p. p ≡ (map names_of instances, map instance_def instances)) }
+{
     let mut names = Seq::new(alloc);
-    let mut instances = Seq::new(alloc);
-    for instance in text.instances.into_vec() {
+    let mut defs = Seq::new(alloc);
+    for instance in instances.into_vec() {
         let (instance_names, def) = instance_def(alloc, instance)?;
         names.push(instance_names)?;
-        instances.push(def)?;
+        defs.push(def)?;
     }
+    Ok((names, defs))
+}
+
+fn scenario_of(alloc: Global, text: ScenarioText) -> Result<Scenario, AllocError>
+    ensures { IfOk result (λ x. x ≡ scenario_of text) }
+{
+    let (names, instances) = instance_defs(alloc, text.instances)?;
     Ok(Scenario {
         handles: text.handles,
         table: text.table,
@@ -97,15 +126,24 @@ fn scenario_of(alloc: Global, text: ScenarioText) -> Result<Scenario, AllocError
 /// bad line, from 1 to one past the last.
 pub fn read_scenario(alloc: Global, text: &[u8]) -> Result<Scenario, RunError>
     requires { length text.now ≤ 1048577 }
+    // A scenario is the text's own, and a line is the bad one.
+    ensures answer { ReadsAs text.now result }
+    // A scenario's text is refused for want of memory alone.
+    ensures only { (x : Scenario) → Reads text.now x → IsOkUnless result RunError.NoMemory }
 {
     match read_text(alloc, text) {
-        Ok(text) => scenario_of(alloc, text).map_err(|_| RunError::NoMemory),
+        Ok(text) => match scenario_of(alloc, text) {
+            Ok(scenario) => Ok(scenario),
+            Err(_) => Err(RunError::NoMemory),
+        },
         Err(TextError::NoMemory) => Err(RunError::NoMemory),
         Err(TextError::Bad(line)) => Err(RunError::BadScenario(line)),
     }
 }
 
 /// A copy of a scenario's component.
-pub fn component_of(alloc: Global, scenario: &Scenario) -> Result<Component, NoMemory> {
+pub fn component_of(alloc: Global, scenario: &Scenario) -> Result<Component, NoMemory>
+    ensures { IfOk result (λ c. c ≡ scenario.now.component) }
+{
     Ok(copy_component(alloc, &scenario.component)?)
 }

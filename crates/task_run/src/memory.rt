@@ -1,4 +1,4 @@
-ghost use Rattle.std.specs.Prelude.{◌≡◌, ◌<◌, ◌≤◌, ◌++◌, List, Option, Some, drop, length, vec_capacity, vec_len};
+ghost use Rattle.std.specs.Prelude.{◌≡◌, ◌<◌, ◌≤◌, ◌++◌, [], IfOk, List, Option, Some, drop, length, vec_capacity, vec_len};
 
 use crate::outside::{Read, Sink, Source, Wrote};
 use crate::scenario::NoMemory;
@@ -22,6 +22,8 @@ impl MemorySource {
     /// at least 1.
     pub fn new(bytes: Vec<u8>, piece: usize, fail: Vec<u32>) -> Self
         requires { 0 < piece }
+        ensures left { ⟦<MemorySource as Source>⟧.left result ≡ Some bytes.items }
+        ensures faults { ⟦<MemorySource as Source>⟧.faults result ≡ 0 }
     {
         MemorySource {
             bytes,
@@ -79,6 +81,8 @@ impl MemorySink {
         fail: Vec<u32>,
     ) -> Result<Self, NoMemory>
         requires { 0 < piece }
+        ensures held { IfOk result (λ sink. ⟦<MemorySink as Sink>⟧.held sink ≡ Some []) }
+        ensures faults { IfOk result (λ sink. ⟦<MemorySink as Sink>⟧.faults sink ≡ 0) }
     {
         let Ok(bytes) = Vec::with_capacity(alloc, capacity) else {
             return Err(NoMemory);
@@ -95,7 +99,7 @@ impl MemorySink {
 
     /// The bytes that the sink holds.
     pub fn bytes(&self) -> &[u8]
-        ensures { result.now ≡ self.now.bytes.items }
+        ensures { ⟦<MemorySink as Sink>⟧.held self.now ≡ Some result.now }
     {
         self.bytes.as_slice()
     }

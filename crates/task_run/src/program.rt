@@ -1,5 +1,9 @@
-ghost use Rattle.std.specs.Prelude.{◌≡◌, ◌≢◌, ◌⊎◌, ◌<◌, ◌≤◌, ◌+◌, length, IfSome};
+ghost use Rattle.std.specs.Prelude.{◌≡◌, ◌≢◌, ◌⊎◌, ◌<◌, ◌≤◌, ◌++◌, ℕ, List, Some, length, map, string_bytes, IfOk, IfErr, IsErrOf, IsOk, MatchOption};
 ghost use Rattle.task_run.specs.Outside.{HasRisen};
+ghost use Rattle.task_run.specs.Pump.{IsFront};
+ghost use Rattle.task_run.specs.Lower.{Reads};
+ghost use Rattle.task_run.specs.Tool.{IsRun, IsText, SaysBadLine, SaysOrFails, bad_line_text, usage_text, status_of};
+ghost use Rattle.task_run.specs.declared.scenario.Scenario.{Scenario};
 
 use crate::outside::{Sink, Source};
 use crate::pump::{ReadFault, read_all, write_all};
@@ -33,7 +37,9 @@ enum End {
 }
 
 impl End {
-    fn status(self) -> u8 {
+    fn status(self) -> u8
+        ensures { result ≡ status_of self }
+    {
         match self {
             End::NoMemory => 1,
             End::WrongWords => 2,
@@ -55,7 +61,12 @@ impl From<AllocError> for End {
 }
 
 // Writes a text, and ends so where all of it was written.
-fn say<K: Sink>(sink: &mut K, text: &[u8], end: End) -> End {
+fn say<K: Sink>(sink: &mut K, text: &[u8], end: End) -> End
+    requires { end ≢ End.WriteFailed }
+    ensures answer { (result ≡ end) ⊎ (result ≡ End.WriteFailed) }
+    ensures cause { result ≡ End.WriteFailed → HasRisen (K.faults sink.old) (K.faults sink.new) }
+    ensures told { (held : List ℕ) → K.held sink.old ≡ Some held → SaysOrFails held text.now (K.held sink.new) end result }
+{
     if write_all(sink, text) {
         end
     } else {
@@ -65,17 +76,23 @@ fn say<K: Sink>(sink: &mut K, text: &[u8], end: End) -> End {
 
 // The steps of `run STEPS`.
 fn steps_of(words: &[String]) -> Option<u32>
-    ensures { IfSome result (λ steps. 0 < steps) }
+    ensures { MatchOption result ((n : ℕ) → IsRun (map string_bytes words.now) n → ⊥) (λ n. IsRun (map string_bytes words.now) n) }
 {
-    if words.len() != 2 || words[0].as_str() != "run" {
+    if words.len() != 2 || words[0].as_bytes() != b"run".as_slice() {
         return None;
     }
-    let steps = number_up_to(words[1].as_bytes(), 1_000_000)? as u32;
-    (steps > 0).then_some(steps)
+    match number_up_to(words[1].as_bytes(), 1_000_000) {
+        Some(steps) if steps > 0 => Some(steps as u32),
+        _ => None,
+    }
 }
 
 // Writes what has gathered, and begins anew.
-fn flush<K: Sink>(sink: &mut K, out: &mut Vec<u8>) -> Result<(), End> {
+fn flush<K: Sink>(sink: &mut K, out: &mut Vec<u8>) -> Result<(), End>
+    ensures count { K.faults sink.old ≤ K.faults sink.new }
+    ensures cause { IsErrOf result End.WriteFailed → HasRisen (K.faults sink.old) (K.faults sink.new) }
+    ensures fault { IfErr result (λ end. end ≡ End.WriteFailed) }
+{
     if !write_all(sink, out.as_slice()) {
         return Err(End::WriteFailed);
     }
@@ -84,7 +101,11 @@ fn flush<K: Sink>(sink: &mut K, out: &mut Vec<u8>) -> Result<(), End> {
 }
 
 // Writes a report in pieces of at least a line.
-fn write_report<K: Sink>(alloc: Global, sink: &mut K, report: &Report) -> Result<(), End> {
+fn write_report<K: Sink>(alloc: Global, sink: &mut K, report: &Report) -> Result<(), End>
+    ensures count { K.faults sink.old ≤ K.faults sink.new }
+    ensures cause { IsErrOf result End.WriteFailed → HasRisen (K.faults sink.old) (K.faults sink.new) }
+    ensures fault { IfErr result (λ end. (end ≡ End.NoMemory) ⊎ (end ≡ End.WriteFailed)) }
+{
     let mut out = Vec::new(alloc);
     for label in report.trace.labels() {
         append_label_line(&mut out, *label)?;
@@ -96,7 +117,11 @@ fn write_report<K: Sink>(alloc: Global, sink: &mut K, report: &Report) -> Result
     flush(sink, &mut out)
 }
 
-fn say_bad_line<K: Sink>(alloc: Global, sink: &mut K, line: u32) -> End {
+fn say_bad_line<K: Sink>(alloc: Global, sink: &mut K, line: u32) -> End
+    ensures answer { (result ≡ End.NoMemory) ⊎ ((result ≡ End.BadScenario) ⊎ (result ≡ End.WriteFailed)) }
+    ensures cause { result ≡ End.WriteFailed → HasRisen (K.faults sink.old) (K.faults sink.new) }
+    ensures told { (held : List ℕ) → K.held sink.old ≡ Some held → result ≡ End.BadScenario → K.held sink.new ≡ Some (held ++ bad_line_text line) }
+{
     match format!(in alloc; "bad scenario line {line}\n") {
         Ok(text) => say(sink, text.as_bytes(), End::BadScenario),
         Err(_) => End::NoMemory,
@@ -111,6 +136,11 @@ fn run<S: Source, K: Sink>(
     sink: &mut K,
 ) -> Result<Report, End>
     requires { 0 < steps }
+    ensures words { IfErr result (λ end. end ≢ End.WrongWords) }
+    ensures read { IsErrOf result End.ReadFailed → HasRisen (S.faults source.old) (S.faults source.new) }
+    ensures write { IsErrOf result End.WriteFailed → HasRisen (K.faults sink.old) (K.faults sink.new) }
+    ensures done { (all : List ℕ) → S.left source.old ≡ Some all → IsOk result → (text : List ℕ) × IsText all (S.left source.new) text × ((x : Scenario) × Reads text x) }
+    ensures bad { (all held : List ℕ) → S.left source.old ≡ Some all → K.held sink.old ≡ Some held → IsErrOf result End.BadScenario → SaysBadLine all (S.left source.new) held (K.held sink.new) }
 {
     let text = match read_all(alloc, source) {
         Ok(text) => text,
@@ -127,22 +157,51 @@ fn run<S: Source, K: Sink>(
     }
 }
 
+// Runs a scenario, or says how the program is called.
+fn call<S: Source, K: Sink>(
+    alloc: Global,
+    words: &[String],
+    source: &mut S,
+    sink: &mut K,
+) -> Result<Report, End>
+    ensures untouched { ((n : ℕ) → IsRun (map string_bytes words.now) n → ⊥) → source.new ≡ source.old }
+    ensures usage { ((n : ℕ) → IsRun (map string_bytes words.now) n → ⊥) → IsErrOf result End.WrongWords ⊎ IsErrOf result End.WriteFailed }
+    ensures words { (n : ℕ) → IsRun (map string_bytes words.now) n → IfErr result (λ end. end ≢ End.WrongWords) }
+    ensures said { (held : List ℕ) → K.held sink.old ≡ Some held → IsErrOf result End.WrongWords → K.held sink.new ≡ Some (held ++ usage_text) }
+    ensures read { IsErrOf result End.ReadFailed → HasRisen (S.faults source.old) (S.faults source.new) }
+    ensures write { IsErrOf result End.WriteFailed → HasRisen (K.faults sink.old) (K.faults sink.new) }
+    ensures done { (all : List ℕ) → S.left source.old ≡ Some all → IsOk result → (text : List ℕ) × IsText all (S.left source.new) text × ((x : Scenario) × Reads text x) }
+    ensures bad { (all held : List ℕ) → S.left source.old ≡ Some all → K.held sink.old ≡ Some held → IsErrOf result End.BadScenario → SaysBadLine all (S.left source.new) held (K.held sink.new) }
+{
+    match steps_of(words) {
+        Some(steps) => run(alloc, steps, source, sink),
+        None => Err(say(sink, USAGE, End::WrongWords)),
+    }
+}
+
 /// What the program does with its words, its input and its output. `run STEPS`, with 1 to 1,000,000
 /// steps, reads a scenario to the source's end, runs it and writes its report. The status is 0 where
 /// the report was written, 1 where memory was wanting, 2 where the words are none of the forms, which
 /// writes the usage line, 3 where the text is no scenario, which writes its first bad line, 4 where the
-/// source failed and 5 where the sink did.
+/// source failed and 5 where the sink did. Other words leave the source as it was.
 pub fn tool<S: Source, K: Sink>(
     alloc: Global,
     words: &[String],
     source: &mut S,
     sink: &mut K,
-) -> ToolEnd {
-    let ended = match steps_of(words) {
-        Some(steps) => run(alloc, steps, source, sink),
-        None => Err(say(sink, USAGE, End::WrongWords)),
-    };
-    match ended {
+) -> ToolEnd
+    // Words that are no form leave the source as it was, and give status 2 or, where the sink failed, 5.
+    ensures untouched { ((n : ℕ) → IsRun (map string_bytes words.now) n → ⊥) → source.new ≡ source.old }
+    ensures usage { ((n : ℕ) → IsRun (map string_bytes words.now) n → ⊥) → (result.status ≡ 2) ⊎ (result.status ≡ 5) }
+    ensures words { (n : ℕ) → IsRun (map string_bytes words.now) n → result.status ≢ 2 }
+    ensures said { (held : List ℕ) → K.held sink.old ≡ Some held → result.status ≡ 2 → K.held sink.new ≡ Some (held ++ usage_text) }
+    ensures read { result.status ≡ 4 → HasRisen (S.faults source.old) (S.faults source.new) }
+    ensures write { result.status ≡ 5 → HasRisen (K.faults sink.old) (K.faults sink.new) }
+    // With status 0 the text was a scenario's, with 3 it was none.
+    ensures done { (all : List ℕ) → S.left source.old ≡ Some all → result.status ≡ 0 → (text : List ℕ) × IsText all (S.left source.new) text × ((x : Scenario) × Reads text x) }
+    ensures bad { (all held : List ℕ) → S.left source.old ≡ Some all → K.held sink.old ≡ Some held → result.status ≡ 3 → SaysBadLine all (S.left source.new) held (K.held sink.new) }
+{
+    match call(alloc, words, source, sink) {
         Ok(report) => ToolEnd {
             status: 0,
             report: Some(report),

@@ -1,5 +1,6 @@
-ghost use Rattle.std.specs.Prelude.{◌≡◌, ◌≤◌, ◌+◌, false, IsErrOf, IfOk, length};
+ghost use Rattle.std.specs.Prelude.{◌≡◌, ◌≤◌, ◌+◌, ◌++◌, ℕ, List, Some, true, false, IsErrOf, IfOk, length};
 ghost use Rattle.task_run.specs.Outside.{HasRisen};
+ghost use Rattle.task_run.specs.Pump.{ReadsAll, IsFront};
 
 use crate::outside::{Read, Sink, Source, Wrote};
 use std::alloc::{AllocError, Global};
@@ -29,6 +30,7 @@ pub fn read_all<S: Source>(alloc: Global, source: &mut S) -> Result<Vec<u8>, Rea
     ensures short { IfOk result (λ text. length text.items ≤ LIMIT + 1) }
     ensures count { S.faults source.old ≤ S.faults source.new }
     ensures cause { IsErrOf result ReadFault.Failed → HasRisen (S.faults source.old) (S.faults source.new) }
+    ensures told { (all : List ℕ) → S.left source.old ≡ Some all → ReadsAll all (S.left source.new) result }
 {
     let mut text = Vec::new(alloc);
     let mut buf = [0; 4096];
@@ -47,6 +49,8 @@ pub fn read_all<S: Source>(alloc: Global, source: &mut S) -> Result<Vec<u8>, Rea
 pub fn write_all<K: Sink>(sink: &mut K, bytes: &[u8]) -> bool
     ensures count { K.faults sink.old ≤ K.faults sink.new }
     ensures cause { result ≡ false → HasRisen (K.faults sink.old) (K.faults sink.new) }
+    ensures whole { (held : List ℕ) → K.held sink.old ≡ Some held → result ≡ true → K.held sink.new ≡ Some (held ++ bytes.now) }
+    ensures front { (held : List ℕ) → K.held sink.old ≡ Some held → IsFront held bytes.now (K.held sink.new) }
 {
     let mut rest = bytes;
     while !rest.is_empty() {

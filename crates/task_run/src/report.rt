@@ -1,4 +1,8 @@
-ghost use Rattle.std.specs.Prelude.{◌<◌, ◌≤◌, length};
+ghost use Rattle.std.specs.Prelude.{◌≡◌, ◌<◌, ◌≤◌, ◌++◌, ℕ, length, IfOk, IsOk, IsErrOf, OnOk};
+ghost use Rattle.scenario_text.specs.Grammar.{IsBadLine};
+ghost use Rattle.task_run.specs.Lower.{Reads};
+ghost use Rattle.task_run.specs.declared.scenario.Scenario.{Scenario};
+ghost use Rattle.task_rules.specs.Texts.{label_text, outcome_text, line_text, text};
 
 use crate::lower::read_scenario;
 use crate::main_script::ScriptMain;
@@ -62,26 +66,34 @@ fn run(alloc: Global, scenario: &Scenario, steps: u32) -> Result<Report, NoMemor
 pub fn run_scenario(alloc: Global, text: &[u8], steps: u32) -> Result<Report, RunError>
     requires text { length text.now ≤ 1048577 }
     requires steps { 0 < steps }
+    ensures taken { IsOk result → (x : Scenario) × Reads text.now x }
+    ensures refused { (n : ℕ) → IsErrOf result (RunError.BadScenario n) → IsBadLine text.now n }
 {
     let scenario = read_scenario(alloc, text)?;
     run(alloc, &scenario, steps).map_err(|_| RunError::NoMemory)
 }
 
 /// Adds the line of a label.
-pub fn append_label_line(out: &mut Vec<u8>, label: Label) -> Result<(), AllocError> {
+pub fn append_label_line(out: &mut Vec<u8>, label: Label) -> Result<(), AllocError>
+    ensures { OnOk result (out.new.items ≡ out.old.items ++ line_text (label_text label)) }
+{
     append_label(out, label)?;
     out.push(b'\n')?;
     Ok(())
 }
 
 /// Adds the line of an outcome.
-pub fn append_outcome_line(out: &mut Vec<u8>, outcome: Outcome) -> Result<(), AllocError> {
+pub fn append_outcome_line(out: &mut Vec<u8>, outcome: Outcome) -> Result<(), AllocError>
+    ensures { OnOk result (out.new.items ≡ out.old.items ++ line_text (outcome_text outcome)) }
+{
     append_outcome(out, outcome)?;
     out.push(b'\n')?;
     Ok(())
 }
 
-fn text_of(alloc: Global, report: &Report) -> Result<Vec<u8>, AllocError> {
+fn text_of(alloc: Global, report: &Report) -> Result<Vec<u8>, AllocError>
+    ensures { IfOk result (λ out. out.items ≡ text report.now.trace report.now.outcome) }
+{
     let mut out = Vec::new(alloc);
     for label in report.trace.labels() {
         append_label_line(&mut out, *label)?;
@@ -91,6 +103,8 @@ fn text_of(alloc: Global, report: &Report) -> Result<Vec<u8>, AllocError> {
 }
 
 /// The text of a report: its labels, one a line, and the line of its outcome.
-pub fn print_report(alloc: Global, report: &Report) -> Result<Vec<u8>, NoMemory> {
+pub fn print_report(alloc: Global, report: &Report) -> Result<Vec<u8>, NoMemory>
+    ensures { IfOk result (λ out. out.items ≡ text report.now.trace report.now.outcome) }
+{
     Ok(text_of(alloc, report)?)
 }

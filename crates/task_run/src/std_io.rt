@@ -1,4 +1,4 @@
-ghost use Rattle.std.specs.Prelude.{None};
+ghost use Rattle.std.specs.Prelude.{◌≡◌, None};
 
 use crate::outside::{Read, Sink, Source, Wrote};
 use std::io;
@@ -12,7 +12,9 @@ pub struct StdSource<R> {
 
 impl<R> StdSource<R> {
     /// A source over the reader.
-    pub fn new(inner: R) -> Self {
+    pub fn new(inner: R) -> Self
+        ensures { result.faults ≡ 0 }
+    {
         StdSource { inner, faults: 0 }
     }
 }
@@ -44,7 +46,9 @@ pub struct StdSink<W> {
 
 impl<W> StdSink<W> {
     /// A sink over the writer.
-    pub fn new(inner: W) -> Self {
+    pub fn new(inner: W) -> Self
+        ensures { result.faults ≡ 0 }
+    {
         StdSink { inner, faults: 0 }
     }
 }

@@ -1,0 +1,7 @@
+use Rattle.std.proofs.Common.{◌≡◌, take}
+use Rattle.std.specs.List.{flat_map}
+use Rattle.task_rules.specs.Texts.{label_text, line_text}
+use Rattle.task_run.proofs.report.text_of.Given as goal
+
+abbrev pub invariant-loop-label : goal.invariant-loop-label
+invariant-loop-label l = l.out.items ≡ flat_map (λ x. line_text (label_text x)) (take l.label-index l.label-items)
