@@ -1,7 +1,8 @@
-ghost use Rattle.std.specs.Prelude.{◌≡◌, ◌≢◌, ◌⊎◌, ◌<◌, ◌≤◌, ◌++◌, ℕ, List, Some, length, map, string_bytes, IfOk, IfErr, IsErrOf, IsOk, MatchOption};
+ghost use Rattle.std.specs.Prelude.{◌≡◌, ◌≢◌, ◌⊎◌, ◌<◌, ◌≤◌, ◌++◌, ℕ, List, Some, length, map, string_bytes, [], IfOk, IfErr, IfSome, IsErrOf, IsOk, OnOk, MatchOption};
 ghost use Rattle.task_run.specs.Outside.{HasRisen};
 ghost use Rattle.task_run.specs.Pump.{IsFront};
 ghost use Rattle.task_run.specs.Lower.{Reads};
+ghost use Rattle.task_rules.specs.Texts.{text};
 ghost use Rattle.task_run.specs.Tool.{IsRun, IsText, SaysBadLine, SaysOrFails, bad_line_text, usage_text, status_of};
 ghost use Rattle.task_run.specs.declared.scenario.Scenario.{Scenario};
 
@@ -92,6 +93,7 @@ fn flush<K: Sink>(sink: &mut K, out: &mut Vec<u8>) -> Result<(), End>
     ensures count { K.faults sink.old ≤ K.faults sink.new }
     ensures cause { IsErrOf result End.WriteFailed → HasRisen (K.faults sink.old) (K.faults sink.new) }
     ensures fault { IfErr result (λ end. end ≡ End.WriteFailed) }
+    ensures told { (held : List ℕ) → K.held sink.old ≡ Some held → OnOk result ((out.new.items ≡ []) × (K.held sink.new ≡ Some (held ++ out.old.items))) }
 {
     if !write_all(sink, out.as_slice()) {
         return Err(End::WriteFailed);
@@ -105,6 +107,7 @@ fn write_report<K: Sink>(alloc: Global, sink: &mut K, report: &Report) -> Result
     ensures count { K.faults sink.old ≤ K.faults sink.new }
     ensures cause { IsErrOf result End.WriteFailed → HasRisen (K.faults sink.old) (K.faults sink.new) }
     ensures fault { IfErr result (λ end. (end ≡ End.NoMemory) ⊎ (end ≡ End.WriteFailed)) }
+    ensures told { (held : List ℕ) → K.held sink.old ≡ Some held → OnOk result (K.held sink.new ≡ Some (held ++ text report.now.trace report.now.outcome)) }
 {
     let mut out = Vec::new(alloc);
     for label in report.trace.labels() {
@@ -139,6 +142,8 @@ fn run<S: Source, K: Sink>(
     ensures words { IfErr result (λ end. end ≢ End.WrongWords) }
     ensures read { IsErrOf result End.ReadFailed → HasRisen (S.faults source.old) (S.faults source.new) }
     ensures write { IsErrOf result End.WriteFailed → HasRisen (K.faults sink.old) (K.faults sink.new) }
+    ensures unwritten { IsErrOf result End.ReadFailed → sink.new ≡ sink.old }
+    ensures written { (held : List ℕ) → K.held sink.old ≡ Some held → IfOk result (λ r. K.held sink.new ≡ Some (held ++ text r.trace r.outcome)) }
     ensures done { (all : List ℕ) → S.left source.old ≡ Some all → IsOk result → (text : List ℕ) × IsText all (S.left source.new) text × ((x : Scenario) × Reads text x) }
     ensures bad { (all held : List ℕ) → S.left source.old ≡ Some all → K.held sink.old ≡ Some held → IsErrOf result End.BadScenario → SaysBadLine all (S.left source.new) held (K.held sink.new) }
 {
@@ -170,6 +175,8 @@ fn call<S: Source, K: Sink>(
     ensures said { (held : List ℕ) → K.held sink.old ≡ Some held → IsErrOf result End.WrongWords → K.held sink.new ≡ Some (held ++ usage_text) }
     ensures read { IsErrOf result End.ReadFailed → HasRisen (S.faults source.old) (S.faults source.new) }
     ensures write { IsErrOf result End.WriteFailed → HasRisen (K.faults sink.old) (K.faults sink.new) }
+    ensures unwritten { IsErrOf result End.ReadFailed → sink.new ≡ sink.old }
+    ensures written { (held : List ℕ) → K.held sink.old ≡ Some held → IfOk result (λ r. K.held sink.new ≡ Some (held ++ text r.trace r.outcome)) }
     ensures done { (all : List ℕ) → S.left source.old ≡ Some all → IsOk result → (text : List ℕ) × IsText all (S.left source.new) text × ((x : Scenario) × Reads text x) }
     ensures bad { (all held : List ℕ) → S.left source.old ≡ Some all → K.held sink.old ≡ Some held → IsErrOf result End.BadScenario → SaysBadLine all (S.left source.new) held (K.held sink.new) }
 {
@@ -197,6 +204,10 @@ pub fn tool<S: Source, K: Sink>(
     ensures said { (held : List ℕ) → K.held sink.old ≡ Some held → result.status ≡ 2 → K.held sink.new ≡ Some (held ++ usage_text) }
     ensures read { result.status ≡ 4 → HasRisen (S.faults source.old) (S.faults source.new) }
     ensures write { result.status ≡ 5 → HasRisen (K.faults sink.old) (K.faults sink.new) }
+    ensures unwritten { result.status ≡ 4 → sink.new ≡ sink.old }
+    // Status 0 comes with the report that was run, and with its text.
+    ensures report { MatchOption result.report (result.status ≢ 0) (λ r. result.status ≡ 0) }
+    ensures written { (held : List ℕ) → K.held sink.old ≡ Some held → IfSome result.report (λ r. K.held sink.new ≡ Some (held ++ text r.trace r.outcome)) }
     // With status 0 the text was a scenario's, with 3 it was none.
     ensures done { (all : List ℕ) → S.left source.old ≡ Some all → result.status ≡ 0 → (text : List ℕ) × IsText all (S.left source.new) text × ((x : Scenario) × Reads text x) }
     ensures bad { (all held : List ℕ) → S.left source.old ≡ Some all → K.held sink.old ≡ Some held → result.status ≡ 3 → SaysBadLine all (S.left source.new) held (K.held sink.new) }

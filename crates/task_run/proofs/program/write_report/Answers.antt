@@ -1,0 +1,52 @@
+use Rattle.std.proofs.Common.{◌≡◌, ◌<◌, ◌≤◌, ◌++◌, ◌+◌, ℕ, List, [], ◌∷◌, Some, length, get_or, take, sym, ap, ◌∙◌, append_assoc, append-nil, arith}
+use Rattle.std.specs.List.{flat_map}
+use Rattle.std.specs.Prelude.{Result, Ok, Err, OnOk}
+use Rattle.std.proofs.lemmas.List.{take_all, take_more}
+use Rattle.std.proofs.lemmas.Grind.{flat_map-append}
+use Rattle.task_machine.specs.declared.label.Label.{Label}
+use Rattle.task_machine.specs.declared.outcome.Outcome.{Outcome}
+use Rattle.task_rules.specs.Texts.{text, label_text, line_text, outcome_text}
+use Rattle.task_run.proofs.program.write_report.Goals.{then-len-ge-PIECE+in_ok-flush, else-len-ge-PIECE}
+use Rattle.task_run.proofs.program.write_report.Goals as goal
+
+abbrev line : Label → List ℕ
+line x = line_text (label_text x)
+
+more : (xs : List Label) (i : ℕ) (d : Label) → i < length xs → flat_map line (take (i + 1) xs) ≡ flat_map line (take i xs) ++ line (get_or xs i d)
+more xs i d lt = ap (λ (ys : List Label). flat_map line ys) (take_more xs i d lt) ∙ flat_map-append line (take i xs) (get_or xs i d ∷ []) ∙ ap (λ (bs : List ℕ). flat_map line (take i xs) ++ bs) (append-nil (line (get_or xs i d)))
+
+-- what was written and what has gathered, after one line more
+gathered : (xs : List Label) (i : ℕ) (d : Label) (front out out' : List ℕ) → i < length xs → front ++ out ≡ flat_map line (take i xs) → out' ≡ out ++ line (get_or xs i d) → front ++ out' ≡ flat_map line (take (i + 1) xs)
+gathered xs i d front out out' lt e o =
+    ap (λ (bs : List ℕ). front ++ bs) o ∙ sym (append_assoc front out (line (get_or xs i d))) ∙ ap (λ (bs : List ℕ). bs ++ line (get_or xs i d)) e ∙ sym (more xs i d lt)
+
+pub loop-label-preserved : goal.loop-label-preserved
+loop-label-preserved g c = record {
+  count = elim c.if-len-ge-PIECE.branch [ then-len-ge-PIECE+in_ok-flush w ↦ rw w.sink-is (omega (arith, c.loop-label.invariant.count, w.flush.ensures.count)) | else-len-ge-PIECE w ↦ rw w.sink-is c.loop-label.invariant.count ];
+  told = λ held h.
+      let t = c.loop-label.invariant.told held h in
+      let after = gathered c.labels-label-items.result.now c.loop-label.label-index _ t.0 c.loop-label.out.items c.append_label_line.new.out.items c.loop-label-test.true t.1 c.in_ok-append_label_line.ensures in
+      elim c.if-len-ge-PIECE.branch [
+        | then-len-ge-PIECE+in_ok-flush w ↦
+            let said = w.in_ok-flush.ensures.told (held ++ t.0) t.2 in
+            rw (w.sink-is, w.out-is) (t.0 ++ c.append_label_line.new.out.items, ap (λ (bs : List ℕ). (t.0 ++ c.append_label_line.new.out.items) ++ bs) said.0 ∙ append-nil _ ∙ after, said.1 ∙ ap (λ (bs : List ℕ). Some bs) (append_assoc held t.0 c.append_label_line.new.out.items))
+        | else-len-ge-PIECE w ↦ rw (w.sink-is, w.out-is) (t.0, after, t.2)
+      ];
+}
+
+on_ok : {A E : Type 0} {P Q : Type 0} (r : Result A E) → (P → Q) → OnOk r P → OnOk r Q
+on_ok (Ok x) f p = f p
+on_ok (Err e) f p = p
+
+-- all that was written, with the outcome's line
+whole : (labels items : List Label) (i : ℕ) (o : Outcome) (held front out out' : List ℕ) → length items ≤ i → items ≡ labels → front ++ out ≡ flat_map line (take i items) → out' ≡ out ++ line_text (outcome_text o) → (held ++ front) ++ out' ≡ held ++ text labels o
+whole labels items i o held front out out' le same e ends =
+    append_assoc held front out' ∙ ap (λ (bs : List ℕ). held ++ bs) (
+    ap (λ (bs : List ℕ). front ++ bs) ends ∙ sym (append_assoc front out (line_text (outcome_text o)))
+    ∙ ap (λ (bs : List ℕ). bs ++ line_text (outcome_text o)) (e ∙ ap (λ (ls : List Label). flat_map line ls) (take_all i items le ∙ same)))
+
+pub returns-clause-told : goal.returns-clause-told
+returns-clause-told g c = λ held h.
+    let t = c.loop-label.invariant.told held h in
+    let all = whole c.args.report.now.trace c.labels-label-items.result.now c.loop-label.label-index c.args.report.now.outcome held t.0 c.loop-label.out.items c.append_outcome_line.new.out.items (omega (arith, c.loop-label-test.false)) c.labels-label-items.ensures t.1 c.in_ok-append_outcome_line.ensures in
+    on_ok c.flush-2.result (λ said. said.1 ∙ ap (λ (bs : List ℕ). Some bs) all) (c.flush-2.ensures.told (held ++ t.0) t.2)
