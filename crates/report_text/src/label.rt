@@ -1,14 +1,14 @@
 //! What is printed of a label and of an outcome, each in one way. Text grows at the end of one
 //! buffer, and no label makes a string of its own.
 ghost use Rattle.std.specs.Prelude.{◌≡◌, ◌++◌, codes, decimal, OnOk};
-ghost use Rattle.task_rules.specs.Sets.{given_code, given_handle, given_result, status_code};
+ghost use Rattle.task_rules.specs.Sets.{given_code, given_handle, given_result};
 ghost use Rattle.task_rules.specs.Texts.{mark_text, phase_text, given_text, own_given, wakes, polls, refused, main_text, future_text, loop_text, taken_text, event_text, take_text, op_text, answer_text, data_text, task_text, set_text, call_text, thread_text, label_text, outcome_text};
 
 use itoa::Buffer;
 use std::alloc::AllocError;
 use task_machine::{
     CallLabel, DataLabel, Given, Label, LoopLabel, MainLabel, Mark, Outcome, OwnEvent, Phase,
-    SetLabel, Status, TakeLabel, TaskLabel, ThreadLabel, Trap,
+    SetLabel, TakeLabel, TaskLabel, ThreadLabel, Trap,
 };
 
 type Printed = Result<(), AllocError>;
@@ -97,18 +97,6 @@ fn mark_word(mark: Mark) -> &'static [u8]
     }
 }
 
-fn status_code(status: Status) -> u64
-    ensures { result ≡ status_code status }
-{
-    match status {
-        Status::Starting => 0,
-        Status::Started => 1,
-        Status::Returned => 2,
-        Status::StartCancelled => 3,
-        Status::ReturnCancelled => 4,
-    }
-}
-
 fn event_code(event: Given) -> u64
     ensures { result ≡ given_code event }
 {
@@ -132,7 +120,7 @@ fn event_result(event: Given) -> u64
     ensures { result ≡ given_result event }
 {
     match event {
-        Given::Subtask { status, handle: _ } => status_code(status),
+        Given::Subtask { status, handle: _ } => status.number().into(),
         _ => 0,
     }
 }

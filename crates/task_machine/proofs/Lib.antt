@@ -1,2 +1,5 @@
 pub mod MapLemmas
 pub mod FieldLemmas
+pub mod SizeLemmas
+pub mod SumLemmas
+pub mod CommuteLemmas

@@ -17,6 +17,39 @@ pub enum Status {
     ReturnCancelled,
 }
 
+impl Status {
+    ghost use Rattle.std.specs.Prelude.{◌≡◌, ◌↔◌, ◌<◌, ◌≤◌, None, IfSome};
+    ghost use Rattle.task_machine.specs.Statuses.{status_code, packed_status};
+
+    /// The status as a number, from 0 to 4 in the order of the variants, as the component model's public standard gives it.
+    pub fn number(self) -> u32
+        ensures number { result ≡ status_code self }
+        ensures bound { result ≤ 4 }
+    {
+        match self {
+            Status::Starting => 0,
+            Status::Started => 1,
+            Status::Returned => 2,
+            Status::StartCancelled => 3,
+            Status::ReturnCancelled => 4,
+        }
+    }
+
+    /// The number that a guest's call answers for a subtask with this status: the waitable's handle times 16, plus the status.
+    ///
+    /// A subtask that has returned has no waitable, and every other has one, whose handle is below 2^28. The form is that of the component model's public standard. It takes no memory.
+    pub fn pack(self, waitable: Option<u32>) -> u32
+        requires returned { (waitable ≡ None) ↔ (self ≡ Status.Returned) }
+        requires handle { IfSome waitable (λ handle. handle < 268435456) }
+        ensures { result ≡ packed_status self waitable }
+    {
+        match waitable {
+            Some(handle) => 16 * handle + self.number(),
+            None => self.number(),
+        }
+    }
+}
+
 /// The phase of a join handle.
 #[derive(Clone, Copy, Debug, PartialEq, Eq)]
 pub enum Phase {

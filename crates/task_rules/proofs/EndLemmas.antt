@@ -59,7 +59,8 @@ use Rattle.task_machine.specs.Maps.{get}
 use Rattle.task_machine.specs.Moves.{Gift, NoGift, checked, ended, gift, given_for, may_hand_on, may_publish, own_gift_only, passes_check}
 use Rattle.task_machine.specs.Read.{admits, at_handle_limit, backpressure_of, cancel_was_delivered, event_of, fits, foot_of, goal_of, has_ended, has_member, has_waiters, how_far_of, instance_of, is_async_lifted, is_at, is_callback_yield, is_direct, is_explicit, is_joined, is_watched, join_of, kind_of, new_handle, place_of, register_of, registers_of, set_at, subtask_at, subtask_ended, task_of, thread_at, thread_handle_of, undelivered_end, under_of, was_cancelled, was_started, word_of}
 use Rattle.task_machine.specs.Write.{set_join}
-use Rattle.task_rules.specs.Calls.{AtOnce, Failing, FirstPoll, Later, call_begins, call_blocked, call_host_polled, call_host_row, call_pending, call_row, call_status, call_sync_begins, call_sync_host_polled, call_sync_host_row, call_sync_row, call_sync_status, called, called_back, enter_row, entered, first_poll, host_blocked, host_pending, next_thread, next_work, packed, status_found}
+use Rattle.task_rules.specs.Calls.{AtOnce, Failing, FirstPoll, Later, call_begins, call_blocked, call_host_polled, call_host_row, call_pending, call_row, call_status, call_sync_begins, call_sync_host_polled, call_sync_host_row, call_sync_row, call_sync_status, called, called_back, enter_row, entered, first_poll, host_blocked, host_pending, next_thread, next_work, status_found}
+use Rattle.task_machine.specs.Statuses.{packed}
 use Rattle.task_rules.specs.Cancels.{Async, Mode, Sync, after_cancel, asked, awaiting, blocked_code, by_end, cancel_found, cancel_guest, cancel_host, cancel_label, cancel_resumed, cancel_row, cancel_running, cancel_subtask, cancel_yield, drop_found, drop_row, dropped, ended_row, host_cancelled, is_callback_wait, not_ended_row, pauses, subtask_row}
 use Rattle.task_rules.specs.Data.{data_row, skip_row}
 use Rattle.task_rules.specs.Ends.{blocking_exit_row, blocking_left, code_row, direct_exit_row, direct_exit_to, direct_left, exit_row, exit_row_for, finished, has_event_for, held_out, implicit_exit_row, kind_end, kind_exit_row, leave_row, leaves_no_result, left, may_tell, passes_after_return, passes_after_stop, sync_exit_row, sync_left, wait_end}
@@ -67,7 +68,8 @@ use Rattle.task_rules.specs.MainOps.{Abort, Answer, Answers, Await, Does, Finish
 use Rattle.task_rules.specs.Outcome.{main_outcome, outcome_of_label}
 use Rattle.task_rules.specs.Progress.{Fails, Goes, Never, Ordered, Progress, Stops, Traps, may, or_never, or_trap, trap_if}
 use Rattle.task_rules.specs.Scripts.{export_kind, host_at, op_of, slot_at, value_of, values_in}
-use Rattle.task_rules.specs.Sets.{begun_waiting, chosen, finds_nothing, handed_out, join_done, join_row, join_to, joined, may_wake_new, poll_row, poll_takes, received_woken, set_drop_found, set_drop_row, set_dropped, set_made, set_new_row, set_row, status_code, wait_begins, wait_goes_on, wait_row, wait_takes}
+use Rattle.task_rules.specs.Sets.{begun_waiting, chosen, finds_nothing, handed_out, join_done, join_row, join_to, joined, may_wake_new, poll_row, poll_takes, received_woken, set_drop_found, set_drop_row, set_dropped, set_made, set_new_row, set_row, wait_begins, wait_goes_on, wait_row, wait_takes}
+use Rattle.task_machine.specs.Statuses.{status_code}
 use Rattle.task_rules.specs.Stalled.{Setting}
 use Rattle.task_rules.specs.Step.{DeadlockStep, EmptyFor, FuturesStep, MainProgresses, MainStep, OpenProgresses, OpenStep, Polled, Progresses, RestStep, ScriptStep, Step, TakeStep, TurnStep, did, op_row}
 use Rattle.task_rules.specs.Takes.{activated_woken, delivered, delivery_row, held, host_done, host_row, may_tell_starting, own_delivered, popped, set_delivered, start_admitted, start_held, start_row, started, take_row, thread_taken, thread_taken_for}

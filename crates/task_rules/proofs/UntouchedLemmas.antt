@@ -49,7 +49,8 @@ use Rattle.task_rules.specs.Data.{advanced, assigned, moved_to, skipped, stored}
 use Rattle.task_rules.specs.Ends.{restored, result_given}
 use Rattle.task_rules.specs.MainOps.{main_aborted}
 use Rattle.task_rules.specs.Scripts.{script_of}
-use Rattle.task_rules.specs.Sets.{given_code, given_handle, given_result, received, set_dropped, set_given, set_made, status_code}
+use Rattle.task_rules.specs.Sets.{given_code, given_handle, given_result, received, set_dropped, set_given, set_made}
+use Rattle.task_machine.specs.Statuses.{status_code}
 use Rattle.task_rules.specs.Takes.{enters, host_result, pushed}
 use Rattle.task_rules.specs.Task.{lowered, raised}
 use Rattle.task_rules.specs.Works.{pended}

@@ -1,5 +1,5 @@
 -- The calls of exports and of hosts.
-use Rattle.std.specs.Prelude.{Bool, List, None, Option, Some, [], false, not, option_and_then, suc, true, unwrap_or, zero, ℕ, ◌*◌, ◌+◌, ◌∷◌}
+use Rattle.std.specs.Prelude.{Bool, List, None, Option, Some, [], false, not, option_and_then, suc, true, unwrap_or, zero, ℕ, ◌+◌, ◌∷◌}
 use Rattle.task_machine.specs.declared.records.Call.{Call}
 use Rattle.task_machine.specs.declared.component.Callee.{Callee}
 use Rattle.task_machine.specs.declared.records.Caller.{Caller}
@@ -42,7 +42,7 @@ use Rattle.task_machine.specs.Write.{add_call, add_thread, add_work, count_work,
 use Rattle.task_rules.specs.Data.{assigned}
 use Rattle.task_rules.specs.Progress.{Fails, Goes, Progress, Stops, trap_if}
 use Rattle.task_rules.specs.Scripts.{export_kind, host_at, registers_for}
-use Rattle.task_rules.specs.Sets.{status_code}
+use Rattle.task_machine.specs.Statuses.{packed}
 
 -- ---- Making a call
 
@@ -130,10 +130,6 @@ with_handle i sub s = set_subtask_handle sub (Some (new_handle i s)) (give_handl
 
 unfoldable pub call_pending : ℕ → ℕ → ℕ → ℕ → Core → Core
 call_pending n r k v s = answered n r v (with_handle (instance_of n s) (subtask.Guest k) (called_back n k s))
-
--- a packed status
-abbrev pub packed : ℕ → Status → ℕ
-packed h e = 16 * h + status_code e
 
 abbrev pub call_status : ℕ → ℕ → ℕ → Core → Status → Progress
 call_status n r k s status.Returned = Goes (label.Call (call_label.Call 2 n)) (call_returned n r k s) n

@@ -29,7 +29,7 @@ use Rattle.task_rules.specs.Calls.{answered, call_host_row, call_row, call_sync_
 use Rattle.task_rules.specs.Data.{advanced}
 use Rattle.task_rules.specs.Progress.{Goes, Progress, Stops, Traps, or_trap, trap_if}
 use Rattle.task_rules.specs.Scripts.{value_of, values_in}
-use Rattle.task_rules.specs.Sets.{status_code}
+use Rattle.task_machine.specs.Statuses.{status_code}
 
 -- Which of the two ops it is.
 pub data Mode : Type 0 where

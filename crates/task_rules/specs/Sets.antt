@@ -14,10 +14,10 @@ use Rattle.task_machine.specs.declared.records.Named.TheVariants as named
 use Rattle.task_machine.specs.declared.records.Place.TheVariants as place
 use Rattle.task_machine.specs.declared.label.SetLabel.TheVariants as set_label
 use Rattle.task_machine.specs.declared.op.SetOp.TheVariants as set_op
-use Rattle.task_machine.specs.declared.words.Status.TheVariants as status
 use Rattle.task_machine.specs.declared.label.ThreadLabel.TheVariants as thread_label
 use Rattle.task_machine.specs.declared.trap.Trap.TheVariants as trap
 use Rattle.task_machine.specs.Core.{Core}
+use Rattle.task_machine.specs.Statuses.{status_code}
 use Rattle.task_machine.specs.Labels.{Choice, join_label, wait_label}
 use Rattle.task_machine.specs.Moves.{Gift, NoGift, checked, gift, given_for, handed_on, may_hand_on, may_wake, own_gift_of, passes_check, stopped_at, taken, wake}
 use Rattle.task_machine.specs.Read.{at_handle_limit, event_of, fits, has_member, has_ready_member, has_waiters, how_far_of, instance_of, is_watched, join_of, new_handle, set_at, subtask_at, task_of}
@@ -68,14 +68,6 @@ given_code given.Cancelled = 6
 abbrev pub given_handle : Given → ℕ
 given_handle (given.Subtask e h) = h
 given_handle _ = 0
-
--- the number of a status
-abbrev pub status_code : Status → ℕ
-status_code status.Starting = 0
-status_code status.Started = 1
-status_code status.Returned = 2
-status_code status.StartCancelled = 3
-status_code status.ReturnCancelled = 4
 
 abbrev pub given_result : Given → ℕ
 given_result (given.Subtask e h) = status_code e

@@ -3,3 +3,9 @@ pub mod CountLemmas
 pub mod TableLemmas
 pub mod SoundLemmas
 pub mod Laws
+pub mod RecordLemmas
+pub mod RecordChangeLemmas
+pub mod NumberLemmas
+pub mod ItemLemmas
+pub mod MappedLemmas
+pub mod RecordCountLemmas

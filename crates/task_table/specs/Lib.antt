@@ -3,5 +3,7 @@ pub mod Changes
 pub mod Entries
 pub mod Kind
 pub mod Lends
+pub mod Mapped
 pub mod Places
+pub mod Records
 pub mod Table
