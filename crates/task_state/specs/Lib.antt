@@ -1,2 +1,3 @@
-pub mod Entries
-pub mod EntryLaws
+pub mod Seen
+pub mod State
+pub mod Moves

@@ -1,15 +1,13 @@
-//! The calls and threads of a store, in a table whose places are given again, and what is to be
-//! taken next.
+//! The calls and threads of a store, between one step and the next.
 #![tactic(auto)]
 
-mod entry;
-mod error;
-pub mod parts;
+mod begin;
 mod state;
+mod taken;
 
-pub use entry::{Entry, GuestTask, GuestTaskKey, GuestThread, QualifiedThreadId, ThreadKey};
-pub use error::{NoMemory, TaskError};
-pub use state::{ConcurrentInstanceState, ConcurrentState};
+pub use state::{ConcurrentState, Running};
+pub use taken::Taken;
+pub use task_core::{NoMemory, TaskError};
 pub use task_machine::{ExportKind, Mark};
 
 #[cfg(test)]

@@ -17,7 +17,7 @@ pub enum TaskError {
 
 impl From<AllocError> for TaskError {
     ghost use Rattle.std.specs.Prelude.{◌≡◌};
-    ghost use Rattle.task_state.specs.declared.error.TaskError.TheVariants.{NoMemory};
+    ghost use Rattle.task_core.specs.declared.error.TaskError.TheVariants.{NoMemory};
 
     ghost from_gives = { λ _ e. e ≡ NoMemory };
 

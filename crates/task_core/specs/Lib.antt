@@ -1,0 +1,10 @@
+pub mod Entries
+pub mod EntryLaws
+pub mod Shown
+pub mod Instances
+pub mod Image
+pub mod Simple
+pub mod Sound
+pub mod Queue
+pub mod Start
+pub mod State

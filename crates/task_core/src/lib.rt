@@ -1,0 +1,21 @@
+//! The calls and threads of a store, in a table whose places are given again, and what is to be
+//! taken next.
+#![tactic(auto)]
+
+mod entry;
+mod error;
+mod instance;
+pub mod parts;
+mod state;
+
+pub use entry::{
+    Entry, GroupKey, GuestTask, GuestTaskKey, GuestThread, QualifiedThreadId, SetKey, SyncSet,
+    TaskGroup, ThreadKey,
+};
+pub use error::{NoMemory, TaskError};
+pub use instance::InstanceRecord;
+pub use state::TaskCore;
+pub use task_machine::{ExportKind, Mark};
+
+#[cfg(test)]
+mod tests;

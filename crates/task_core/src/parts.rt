@@ -1,0 +1,11 @@
+//! What the loop needs beyond the state's public calls: each call reads or writes one part of what
+//! the machine keeps, or makes one of its moves.
+
+mod calls;
+mod ends;
+mod handles;
+mod instances;
+mod limits;
+mod queues;
+mod starts;
+mod threads;

@@ -1,0 +1,187 @@
+ghost use Rattle.std.specs.Prelude.{◌≡◌, ◌<◌, ◌≤◌, ◌+◌, ◌^◌, ℕ, None, false, IsSome, OnOk, IfOk};
+ghost use Rattle.task_machine.specs.declared.records.Caller.TheVariants as caller;
+ghost use Rattle.task_machine.specs.declared.records.Goal.TheVariants as goal;
+ghost use Rattle.task_machine.specs.declared.records.Script.TheVariants as script;
+ghost use Rattle.task_machine.specs.Maps.{get};
+ghost use Rattle.task_machine.specs.Write.{add_group, add_call};
+ghost use Rattle.task_rules.specs.Calls.{new_call, new_thread, next_thread};
+ghost use Rattle.task_core.specs.Shown.{IsLive, KeepsTags, number_of, call_number, thread_number, with_core};
+ghost use Rattle.task_core.specs.Simple.{IsPlainCall, IsPlainThread, IsNewGroup};
+ghost use Rattle.task_core.specs.Start.{thread_counted, put_new_thread, main_call_started};
+
+use crate::entry::{
+    GroupKey, GuestTask, GuestTaskKey, GuestThread, QualifiedThreadId, SetKey, SyncSet, TaskGroup,
+    ThreadKey,
+};
+use crate::state::TaskCore;
+use std::alloc::AllocError;
+use task_machine::{
+    Call, Callee, Caller, ExportKind, Goal, HowFar, Join, Mark, Place, Script, Thread, Why,
+};
+use task_table::TableId;
+
+// A call by main of an export, which has not begun.
+fn call_by_main(callee: Callee, kind: ExportKind, group: u64) -> Call
+    ensures is { result ≡ new_call caller.Main callee kind goal.Main group }
+    ensures plain { IsPlainCall result }
+{
+    Call {
+        caller: Caller::Main,
+        callee,
+        kind,
+        goal: Goal::Main,
+        started: false,
+        starting_published: false,
+        end: None,
+        event: None,
+        own_event: None,
+        cancel_delivered: false,
+        exited: false,
+        interesting: true,
+        result: None,
+        join: Join::Nowhere,
+        handle: None,
+        group,
+        borrows: 0,
+    }
+}
+
+// The first thread of a call, which has not begun.
+fn first_thread(call: u64, registers: [u64; 16]) -> Thread
+    ensures is { result ≡ new_thread call false script.Start registers None }
+    ensures plain { IsPlainThread call result }
+{
+    Thread {
+        call,
+        explicit: false,
+        script: Script::Start,
+        position: 0,
+        how_far: HowFar::Fresh,
+        registers,
+        handle: None,
+        saved_own: None,
+        saved_callee: None,
+        place: Place::New,
+    }
+}
+
+impl TaskCore {
+    // Gives a number to a thread that is to be made.
+    fn count_thread(&mut self) -> u64
+        requires { self.old.core.made.threads + 1 < 2 ^ 64 }
+        ensures number { result ≡ self.old.core.made.threads + 1 }
+        ensures state { self.new ≡ with_core (thread_counted self.old.core) self.old }
+        ensures no_call { get self.new.core.calls result ≡ None }
+        ensures no_thread { get self.new.core.threads result ≡ None }
+        ensures no_callers { get self.new.core.callers result ≡ None }
+    {
+        let number = self.made.threads + 1;
+        self.made.threads = number;
+        number
+    }
+
+    // Makes a group and answers its number.
+    fn add_group(&mut self) -> Result<u64, AllocError>
+        requires { self.old.core.made.groups + 1 < 2 ^ 64 }
+        ensures number { IfOk result (λ g. g ≡ self.old.core.made.groups + 1) }
+        ensures core { OnOk result (self.new.core ≡ add_group self.old.core) }
+        ensures tags { OnOk result (KeepsTags self.old.tags self.new.tags) }
+        ensures current { self.new.current ≡ self.old.current }
+        ensures new { IfOk result (λ g. IsNewGroup g self.new.core) }
+    {
+        let number = self.made.groups + 1;
+        let Ok(id) = self.table.push::<GroupKey>(TaskGroup { number }) else {
+            return Err(AllocError);
+        };
+        match self.groups.insert(number, id) {
+            Ok(_) => {
+                self.made.groups = number;
+                Ok(number)
+            }
+            Err(_) => {
+                let _ = self.table.delete(id);
+                Err(AllocError)
+            }
+        }
+    }
+
+    // Makes a call of this number.
+    fn add_call(&mut self, number: u64, call: Call) -> Result<TableId<GuestTaskKey>, AllocError>
+        requires made { number ≤ self.old.core.made.threads }
+        requires positive { 0 < number }
+        requires none { get self.old.core.calls number ≡ None }
+        requires plain { IsPlainCall call }
+        requires group { IsNewGroup call.group self.old.core }
+        requires group_made { call.group ≤ self.old.core.made.groups }
+        ensures core { OnOk result (self.new.core ≡ add_call number call self.old.core) }
+        ensures names { IfOk result (λ id. call_number self.new.tags id ≡ number) }
+        ensures tags { OnOk result (KeepsTags self.old.tags self.new.tags) }
+        ensures current { self.new.current ≡ self.old.current }
+    {
+        let Ok(id) = self.table.push::<GuestTaskKey>(GuestTask { number, call }) else {
+            return Err(AllocError);
+        };
+        Ok(id)
+    }
+
+    // Makes a thread of this number, and its set.
+    fn add_thread(&mut self, number: u64, thread: Thread) -> Result<TableId<ThreadKey>, AllocError>
+        requires made { number ≤ self.old.core.made.threads }
+        requires positive { 0 < number }
+        requires none { get self.old.core.threads number ≡ None }
+        requires no_callers { get self.old.core.callers number ≡ None }
+        requires task { IsSome (get self.old.core.calls number) }
+        requires plain { IsPlainThread number thread }
+        ensures core { OnOk result (self.new.core ≡ put_new_thread number thread self.old.core) }
+        ensures names { IfOk result (λ id. thread_number self.new.tags id ≡ number) }
+        ensures tags { OnOk result (KeepsTags self.old.tags self.new.tags) }
+        ensures current { self.new.current ≡ self.old.current }
+    {
+        let Ok(set) = self.table.push::<SetKey>(SyncSet { number }) else {
+            return Err(AllocError);
+        };
+        let thread = GuestThread {
+            number,
+            set,
+            thread,
+        };
+        match self.table.push::<ThreadKey>(thread) {
+            Ok(id) => Ok(id),
+            Err(_) => {
+                let _ = self.table.delete(set);
+                Err(AllocError)
+            }
+        }
+    }
+    /// Makes a call by main of an export of this kind: a group, the call and its first thread, with
+    /// these words in its registers. The thread's start stands last at high. It takes a group's
+    /// place in the table, then the call's, then that of the thread's sync-call set, then the
+    /// thread's.
+    pub fn start_call(
+        &mut self,
+        callee: Callee,
+        kind: ExportKind,
+        registers: [u64; 16],
+    ) -> Result<QualifiedThreadId, AllocError>
+        requires threads { self.old.core.made.threads + 1 < 2 ^ 64 }
+        requires groups { self.old.core.made.groups + 1 < 2 ^ 64 }
+        ensures core { OnOk result (self.new.core ≡ main_call_started callee kind registers self.old.core) }
+        ensures live { IfOk result (λ id. IsLive self.new id) }
+        ensures number { IfOk result (λ id. number_of self.new.tags id ≡ next_thread self.old.core) }
+        ensures tags { OnOk result (KeepsTags self.old.tags self.new.tags) }
+        ensures current { OnOk result (self.new.current ≡ self.old.current) }
+    {
+        let number = self.count_thread();
+        let group = self.add_group()?;
+        let task = self.add_call(number, call_by_main(callee, kind, group))?;
+        let thread = self.add_thread(number, first_thread(number, registers))?;
+        let id = QualifiedThreadId { task, thread };
+        let start = Place::Ready {
+            mark: Mark::High,
+            why: Why::Start,
+        };
+        self.set_place(thread, start);
+        self.push_high(id)?;
+        Ok(id)
+    }
+}
