@@ -1,1 +1,9 @@
-pub mod WellFormed
+pub mod Seen
+pub mod State
+pub mod Moves
+pub mod Fit
+pub mod Main
+pub mod Calls
+pub mod Turn
+pub mod Made
+pub mod Drive

@@ -1,12 +1,17 @@
-ghost use Rattle.std.specs.Prelude.{◌≡◌, ◌≤◌, length, IsSome};
-ghost use Rattle.task_loop.specs.WellFormed.{export_at};
+ghost use Rattle.std.specs.Prelude.{◌≡◌, ◌≢◌, ◌<◌, ◌≤◌, ◌^◌, Err, length, IsSome, IfSome};
+ghost use Rattle.task_rules.specs.MainOps.{start_refusal};
+ghost use Rattle.task_rules.specs.Scripts.{export_at, registers_for};
+ghost use Rattle.task_machine.specs.Write.{set_trapped};
+ghost use Rattle.task_loop.specs.Seen.{with_core};
+ghost use Rattle.task_loop.specs.Fit.{IsFirstComponent, Fits, given};
+ghost use Rattle.task_loop.specs.Calls.{callee_of, Starts, Finishes};
 
 use crate::component::export_def;
 use crate::instance::Instance;
+use crate::store::Store;
 use futures::task::Poll;
-use task_machine::{Callee, Component, ExportKind};
-use task_state::TaskError;
-use task_store::Store;
+use task_core::TaskError;
+use task_machine::{Callee, Component, Trap};
 
 /// Names an export by its instance and its place there, from 0.
 #[derive(Clone, Copy, Debug, PartialEq, Eq)]
@@ -33,16 +38,25 @@ impl FuncCallConcurrent {
 // The registers of a thread that is called with these words.
 fn registers_of(params: &[u64]) -> [u64; 16]
     requires { length params.now ≤ 16 }
+    ensures { result ≡ registers_for params.now }
 {
     let mut registers = [0; 16];
     registers[..params.len()].copy_from_slice(params);
     registers
 }
 
+// The start is refused, and the store is trapped.
+fn refuse<T, H>(store: &mut Store<T, H>, why: Trap) -> TaskError
+    ensures error { result ≡ TaskError.Trap why }
+    ensures store { store.new ≡ record store.old { state = with_core (set_trapped store.old.state.core) store.old.state } }
+{
+    store.set_trapped();
+    TaskError::Trap(why)
+}
+
 impl Func {
     fn callee(self) -> Callee
-        ensures instance { result.instance ≡ self.instance.index }
-        ensures export { result.export ≡ self.export }
+        ensures { result ≡ callee_of self }
     {
         Callee {
             instance: self.instance.index,
@@ -52,7 +66,8 @@ impl Func {
 
     /// How many words the export takes, 0 to 16.
     pub fn param_count(self, component: &Component) -> u32
-        requires { IsSome (export_at component.now self.instance.index self.export) }
+        requires { IsSome (export_at component.now (callee_of self)) }
+        ensures { IfSome (export_at component.now (callee_of self)) (λ e. result ≡ e.params) }
     {
         match export_def(component, self.callee()) {
             Some(def) => def.params,
@@ -61,50 +76,55 @@ impl Func {
     }
 
     /// Starts a call by the host with as many words as the export takes. The call is queued, and
-    /// runs when a run on the store takes it. Where memory is wanting, the store is trapped.
+    /// runs when a run on the store takes it. Refused with trap 20 exactly where the store is
+    /// trapped, and else with trap 18 exactly where its four entries don't fit into the table; then
+    /// nothing is made, and the store is trapped. It is trapped, too, where memory is wanting, and
+    /// then no call is left in it.
     pub fn start_call_concurrent<T, H>(
         self,
         component: &Component,
         store: &mut Store<T, H>,
         params: &[u64],
     ) -> Result<FuncCallConcurrent, TaskError>
-        requires params { length params.now ≤ 16 }
+        requires first { IsFirstComponent component.now }
+        requires there { IsSome (export_at component.now (callee_of self)) }
+        requires params { IfSome (export_at component.now (callee_of self)) (λ e. length params.now ≡ e.params) }
+        requires fits { Fits component.now store.old.state.core }
+        requires given { given store.old.state.core < 2 ^ 61 }
+        ensures starts { Starts component.now (callee_of self) params.now store.old.state (start_refusal store.old.state.core) result store.new.state }
+        ensures fits { result ≢ Err TaskError.NoMemory → Fits component.now store.new.state.core }
+        ensures rest { store.new ≡ record store.old { state = store.new.state } }
     {
-        let kind = match export_def(component, self.callee()) {
-            Some(def) => def.kind,
-            None => ExportKind::Callback,
-        };
-        match self.begin(store, kind, params) {
-            Ok(call) => Ok(call),
-            Err(e) => {
-                store.set_trapped();
-                Err(e)
-            }
+        let _component = component;
+        store.state.is_whole();
+        if store.state.trapped() {
+            return Err(refuse(store, Trap::CannotEnterComponent));
+        }
+        if !store.state.has_room(4) {
+            return Err(refuse(store, Trap::TableFull));
+        }
+        match store
+            .state
+            .start_call(self.callee(), registers_of(params))
+        {
+            Ok(thread) => Ok(FuncCallConcurrent { thread }),
+            Err(_) => Err(TaskError::NoMemory),
         }
     }
 
-    // Makes the call and queues its start.
-    fn begin<T, H>(
-        self,
-        store: &mut Store<T, H>,
-        kind: ExportKind,
-        params: &[u64],
-    ) -> Result<FuncCallConcurrent, TaskError>
-        requires { length params.now ≤ 16 }
-    {
-        let state = store.state_mut();
-        let (id, thread) = state.make_call(self.callee(), kind, registers_of(params))?;
-        state.push_high(id)?;
-        Ok(FuncCallConcurrent { thread })
-    }
-
-    /// The result of a call that has returned; pending where it hasn't. A call is finished once.
+    /// The result of a call that has returned; pending where it hasn't, and then nothing is
+    /// changed. A call is finished once.
     pub fn finish_call_concurrent<T, H>(
         self,
         store: &mut Store<T, H>,
         call: &mut FuncCallConcurrent,
-    ) -> Poll<u64> {
-        match store.state_mut().take_result(call.thread) {
+    ) -> Poll<u64>
+        ensures finishes { Finishes call.old.thread store.old.state result store.new.state }
+        ensures call { call.new ≡ call.old }
+        ensures fits { (c : Component) → Fits c store.old.state.core → Fits c store.new.state.core }
+        ensures rest { store.new ≡ record store.old { state = store.new.state } }
+    {
+        match store.state.take_result(call.thread) {
             Some(value) => Poll::Ready(value),
             None => Poll::Pending,
         }

@@ -1,19 +1,21 @@
 ghost use Rattle.std.specs.Prelude.{◌≡◌, option_copied, slice_get};
-ghost use Rattle.task_loop.specs.WellFormed.{export_at};
+ghost use Rattle.task_rules.specs.Scripts.{export_at, script_in, value_in};
 
-use task_machine::{Callee, Component, ExportDef, Op, Operand};
+use task_machine::{Callee, Component, ExportDef, Op, Operand, Script};
 
 /// An operand's value in these registers.
-pub fn operand_value(registers: &[u64; 16], operand: Operand) -> u64 {
+pub fn operand_value(registers: &[u64; 16], operand: Operand) -> u64
+    ensures { result ≡ value_in registers.now operand }
+{
     match operand {
         Operand::Number(value) => value,
         Operand::Register(register) => registers.get(register as usize).copied().unwrap_or(0),
     }
 }
 
-/// What runs under an export.
+/// What runs under an export, none where the component has no such export.
 pub fn export_def(component: &Component, callee: Callee) -> Option<&ExportDef>
-    ensures { option_copied result ≡ export_at component.now callee.instance callee.export }
+    ensures { option_copied result ≡ export_at component.now callee }
 {
     let instance = component
         .instances
@@ -29,7 +31,9 @@ fn op_at(def: &ExportDef, position: u32) -> Option<&Op>
 }
 
 /// The op at a place of an export's start script, none at its end.
-pub fn script_op(component: &Component, callee: Callee, position: u32) -> Option<&Op> {
+pub fn script_op(component: &Component, callee: Callee, position: u32) -> Option<&Op>
+    ensures { option_copied result ≡ slice_get (script_in component.now callee Script.Start) position }
+{
     let def = export_def(component, callee)?;
     op_at(def, position)
 }

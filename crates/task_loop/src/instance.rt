@@ -1,6 +1,12 @@
-use task_machine::{CallEnd, Component, Trap};
-use task_state::{QualifiedThreadId, TaskError};
-use task_store::Store;
+ghost use Rattle.std.specs.Prelude.{◌≡◌, ◌<◌, length, IsSome, IfSome};
+ghost use Rattle.task_machine.specs.Read.{has_ended, instance_of, position_of};
+ghost use Rattle.task_rules.specs.Scripts.{script_of};
+ghost use Rattle.task_loop.specs.Fit.{IsFirstComponent, Fits};
+ghost use Rattle.task_loop.specs.Calls.{Returns, is_own_type, return_refusal};
+
+use crate::store::Store;
+use task_core::TaskError;
+use task_machine::{Component, Trap};
 
 /// Names an instance by its place, from 0.
 #[derive(Clone, Copy, Debug, PartialEq, Eq)]
@@ -8,36 +14,13 @@ pub struct Instance {
     pub index: u32,
 }
 
-// The task returns the value to main.
-fn give_back<T, H>(
-    store: &mut Store<T, H>,
-    id: QualifiedThreadId,
-    value: u64,
-) -> Result<(), TaskError> {
-    let state = store.state_mut();
-    let Some(call) = state.call(id.task) else {
-        return Ok(());
-    };
-    if call.end.is_some() {
-        return Err(TaskError::Trap(Trap::TaskCancelOrReturnTwice));
-    }
-    state.give_result(call_number(state, id), value)?;
-    state.set_end(id.task, CallEnd::Returned);
-    Ok(())
-}
-
-fn call_number(state: &task_state::ConcurrentState, id: QualifiedThreadId) -> u64 {
-    match state.thread(id.thread) {
-        Some((_, thread)) => thread.call,
-        None => 0,
-    }
-}
-
 impl Instance {
-    /// `task.return`: the task of the current thread ends as returned with the value. The type, the
-    /// encoding and the memory are those of the lifted function where all three are 0. Refused with
-    /// trap 1 where the task has ended, and else with trap 3 where they aren't 0; nothing is changed
-    /// then.
+    /// `task.return`: the task of the current thread, which is of this instance, ends as returned
+    /// with the value, and the thread goes on after its op. The type, the encoding and the memory
+    /// are those of the lifted function where all three are 0. Refused with trap 1 exactly where the
+    /// task has ended, and else with trap 3 exactly where they aren't 0. Nothing is changed then,
+    /// nor where memory is wanting. The store still fits where the thread wasn't at its script's
+    /// end.
     pub fn task_return<T, H>(
         self,
         component: &Component,
@@ -46,22 +29,29 @@ impl Instance {
         encoding: u32,
         memory: u32,
         value: u64,
-    ) -> Result<(), TaskError> {
+    ) -> Result<(), TaskError>
+        requires first { IsFirstComponent component.now }
+        requires fits { Fits component.now store.old.state.core }
+        requires runs { IsSome store.old.state.running }
+        requires instance { IfSome store.old.state.running (λ n. instance_of n store.old.state.core ≡ self.index) }
+        ensures returns { IfSome store.old.state.running (λ n. Returns n value store.old.state (return_refusal (has_ended n store.old.state.core) (is_own_type ty encoding memory)) result store.new.state) }
+        ensures fits { IfSome store.old.state.running (λ n. position_of n store.old.state.core < length (script_of component.now n store.old.state.core) → Fits component.now store.new.state.core) }
+        ensures rest { store.new ≡ record store.old { state = store.new.state } }
+    {
         let _component = component;
-        let Some(id) = store.state().current() else {
-            return Ok(());
+        store.state.is_whole();
+        let Some(running) = store.state.running() else {
+            unreachable!()
         };
-        if ty != 0 || encoding != 0 || memory != 0 {
-            return Err(refusal(store, id));
+        if running.ended {
+            return Err(TaskError::Trap(Trap::TaskCancelOrReturnTwice));
         }
-        give_back(store, id, value)
-    }
-}
-
-// Why a return is refused whose type doesn't fit.
-fn refusal<T, H>(store: &Store<T, H>, id: QualifiedThreadId) -> TaskError {
-    match store.state().call(id.task) {
-        Some(call) if call.end.is_some() => TaskError::Trap(Trap::TaskCancelOrReturnTwice),
-        _ => TaskError::Trap(Trap::TaskReturnInvalid),
+        if ty != 0 || encoding != 0 || memory != 0 {
+            return Err(TaskError::Trap(Trap::TaskReturnInvalid));
+        }
+        match store.state.return_value(value) {
+            Ok(()) => Ok(()),
+            Err(_) => Err(TaskError::NoMemory),
+        }
     }
 }

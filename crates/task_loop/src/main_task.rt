@@ -1,6 +1,12 @@
+ghost use Rattle.std.specs.Prelude.{◌≡◌, ◌+◌, ◌<◌, ◌^◌, List, IfOk, IfErr, OnOk};
+ghost use Rattle.task_machine.specs.Core.{Main};
+ghost use Rattle.task_machine.specs.declared.scenario.MainOp.{MainOp};
+ghost use Rattle.task_loop.specs.Fit.{IsFirstComponent, Fits, given};
+ghost use Rattle.task_loop.specs.Main.{Steps};
+
+use crate::access::{Access, Whole};
+use task_core::TaskError;
 use task_machine::{Component, Label};
-use task_state::TaskError;
-use task_store::{Access, Whole};
 
 /// What main's next op came to.
 #[derive(Clone, Copy, Debug, PartialEq, Eq)]
@@ -13,12 +19,31 @@ pub enum MainStep {
     Answer(u64),
 }
 
-/// The host's own task, which starts calls and waits for them.
+/// The host's own task, which starts calls and waits for them. It is a script, or any other
+/// program: then its part says so, and its labels need only be lawful in the store.
 pub trait MainTask<T, H> {
-    /// Takes the next op. It answers no error but want of memory.
+    // Main's part of the machine's state.
+    ghost part: { Self → Main };
+
+    // The ops, where main is a script.
+    ghost script: { Self → List MainOp };
+
+    /// Takes the next op, in a store that fits the component and in which fewer than 2^61 - 4
+    /// numbers were given. The label of an op that is done is lawful, and store and main are as it
+    /// leaves them; else they are as before. It answers no error but want of memory, after which
+    /// nothing is said of either.
     fn step(
         &mut self,
         access: &mut Access<'_, T, Whole, H>,
         component: &Component,
-    ) -> Result<MainStep, TaskError>;
+    ) -> Result<MainStep, TaskError>
+        requires first { IsFirstComponent component.now }
+        requires fits { Fits component.now access.old.store.now.state.core }
+        requires given { given access.old.store.now.state.core + 4 < 2 ^ 61 }
+        ensures same { access.new.store.ghost_name ≡ access.old.store.ghost_name }
+        ensures script { script self.new ≡ script self.old }
+        ensures current { OnOk result (access.new.store.now.state.running ≡ access.old.store.now.state.running) }
+        ensures fits { OnOk result (Fits component.now access.new.store.now.state.core) }
+        ensures ok { IfOk result (λ step. Steps component.now (script self.old) (part self.old) access.old.store.now.state.core step (part self.new) access.new.store.now.state.core) }
+        ensures err { IfErr result (λ e. e ≡ TaskError.NoMemory) };
 }

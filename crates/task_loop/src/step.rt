@@ -1,20 +1,36 @@
 //! One step: main takes an op, an entry is taken, or the running thread takes its op.
+ghost use Rattle.std.specs.Prelude.{◌≡◌, ◌+◌, ◌<◌, ◌^◌, ℕ, None, [], IsSome, IfSome, IfOk};
+ghost use Rattle.task_machine.specs.Core.{Main};
+ghost use Rattle.task_rules.specs.Scripts.{op_of};
+ghost use Rattle.task_rules.specs.Stalled.{Setting, main_pends};
+ghost use Rattle.task_rules.specs.Step.{trap_label};
+ghost use Rattle.task_simple.specs.Forms.{trap_done};
+ghost use Rattle.task_loop.specs.Seen.{stopped_with};
+ghost use Rattle.task_loop.specs.Moves.{IsAbout};
+ghost use Rattle.task_loop.specs.Fit.{IsFirstComponent, Fits, given};
+ghost use Rattle.task_loop.specs.Turn.{Makes, Turns};
+ghost use Rattle.task_loop.specs.Made.{made_by, made_by_main, IsReturn, Took};
+
+use crate::access::Access;
 use crate::component::{operand_value, script_op};
 use crate::instance::Instance;
 use crate::main_task::{MainStep, MainTask};
+use crate::state::Running;
+use crate::store::Store;
+use crate::taken::Taken;
+use task_core::{NoMemory, TaskError};
 use task_machine::{
-    Callee, Component, Label, LoopLabel, MainLabel, Mark, Op, Place, TakeLabel, TaskLabel, TaskOp,
-    Trap, Why,
+    Component, IdleLine, Label, LoopLabel, MainLabel, Mark, Op, TakeLabel, TaskLabel, TaskOp, Trap,
 };
-use task_state::{QualifiedThreadId, TaskError};
-use task_store::{Access, Store};
 
 /// Whose turn it is.
 #[derive(Clone, Copy, Debug, PartialEq, Eq)]
 pub enum Phase {
     Main,
+    /// Main has pended, and an entry is to be taken.
     Take,
-    Run,
+    /// The thread of this number runs.
+    Run(u64),
     Over,
 }
 
@@ -25,73 +41,87 @@ pub struct Made {
     pub phase: Phase,
 }
 
+// What main's step shows.
+fn made_of_main(step: MainStep) -> Made
+    ensures { result ≡ made_by_main step }
+{
+    match step {
+        MainStep::Did(label) => Made {
+            label,
+            phase: Phase::Main,
+        },
+        MainStep::Pends => Made {
+            label: Label::Loop(LoopLabel::MainPends),
+            phase: Phase::Take,
+        },
+        MainStep::Answer(value) => Made {
+            label: Label::Main(MainLabel::Answer(value)),
+            phase: Phase::Over,
+        },
+    }
+}
+
 /// Main takes an op.
 pub fn step_main<T, H, M: MainTask<T, H>>(
     component: &Component,
     store: &mut Store<T, H>,
     main: &mut M,
-) -> Result<Made, TaskError> {
+) -> Result<Made, NoMemory>
+    requires first { IsFirstComponent component.now }
+    requires fits { Fits component.now store.old.state.core }
+    requires given { given store.old.state.core + 4 < 2 ^ 61 }
+    requires current { store.old.state.running ≡ None }
+    ensures script { M.script main.new ≡ M.script main.old }
+    ensures ok { IfOk result (λ made. (x : Setting) → x.component ≡ component.now → x.script ≡ M.script main.old → Turns x Phase.Main (M.part main.old) store.old.state made (M.part main.new) store.new.state) }
+{
+    store.state.is_whole();
     let mut access = Access::new(store);
-    match main.step(&mut access, component)? {
-        MainStep::Did(label) => Ok(Made {
-            label,
+    match main.step(&mut access, component) {
+        Ok(step) => Ok(made_of_main(step)),
+        Err(_) => Err(NoMemory),
+    }
+}
+
+// What the taking of an entry shows.
+fn made_of(taken: Taken) -> Option<Made>
+    ensures { result ≡ made_by taken }
+{
+    match taken {
+        Taken::Nothing => None,
+        Taken::PutOff(thread) => Some(Made {
+            label: Label::Take(TakeLabel::Held(Mark::High, thread)),
             phase: Phase::Main,
         }),
-        MainStep::Pends => Ok(Made {
-            label: Label::Loop(LoopLabel::MainPends),
-            phase: Phase::Take,
-        }),
-        MainStep::Answer(value) => Ok(Made {
-            label: Label::Main(MainLabel::Answer(value)),
+        Taken::NoHandle(thread) => Some(Made {
+            label: Label::Loop(LoopLabel::Trap(Trap::HandleLimit, thread)),
             phase: Phase::Over,
+        }),
+        Taken::Runs(thread) => Some(Made {
+            label: Label::Take(TakeLabel::Thread(Mark::High, thread)),
+            phase: Phase::Run(thread),
         }),
     }
 }
 
 /// The oldest entry of high is taken; none where nothing is there.
-pub fn step_take<T, H>(store: &mut Store<T, H>) -> Result<Option<Made>, TaskError> {
-    match store.state_mut().take_high() {
-        Some(id) => Ok(Some(take_start(store, id)?)),
-        None => Ok(None),
+pub fn step_take<T, H>(store: &mut Store<T, H>) -> Result<Option<Made>, NoMemory>
+    requires { store.old.state.running ≡ None }
+    ensures { IfOk result (λ made. Took store.old.state made store.new.state) }
+{
+    store.state.is_whole();
+    match store.state.take_start() {
+        Ok(taken) => Ok(made_of(taken)),
+        Err(_) => Err(NoMemory),
     }
-}
-
-// The number of a thread, and the instance of its call.
-fn whereabouts<T, H>(store: &Store<T, H>, id: QualifiedThreadId) -> (u64, u32) {
-    let number = match store.state().thread(id.thread) {
-        Some((number, _)) => number,
-        None => 0,
-    };
-    match store.state().call(id.task) {
-        Some(call) => (number, call.callee.instance),
-        None => (number, 0),
-    }
-}
-
-// The start of a call is taken: it runs, or it is held where an activation holds the instance.
-fn take_start<T, H>(store: &mut Store<T, H>, id: QualifiedThreadId) -> Result<Made, TaskError> {
-    let (number, instance) = whereabouts(store, id);
-    let state = store.state_mut();
-    if state.do_not_enter(instance) {
-        state.set_place(id.thread, Place::Held { why: Why::Start });
-        state.hold(instance, id)?;
-        return Ok(Made {
-            label: Label::Take(TakeLabel::Held(Mark::High, number)),
-            phase: Phase::Main,
-        });
-    }
-    state.set_started(id.task);
-    state.set_do_not_enter(instance);
-    state.set_place(id.thread, Place::Running);
-    state.set_current(Some(id));
-    Ok(Made {
-        label: Label::Take(TakeLabel::Thread(Mark::High, number)),
-        phase: Phase::Run,
-    })
 }
 
 /// Nothing can be taken, and main waits.
-pub fn step_deadlock<T, H>(store: &mut Store<T, H>) -> Made {
+pub fn step_deadlock<T, H>(store: &mut Store<T, H>) -> Made
+    requires high { store.old.state.core.queues.high ≡ [] }
+    requires current { store.old.state.running ≡ None }
+    ensures { (x : Setting) → x.idle ≡ IdleLine.Trap → Fits x.component store.old.state.core → (m : Main) → main_pends x store.old.state.core m ≡ true → Turns x Phase.Take m store.old.state result m store.new.state }
+{
+    store.state.is_whole();
     store.set_trapped();
     Made {
         label: Label::Loop(LoopLabel::Deadlock(Trap::AsyncDeadlock)),
@@ -99,49 +129,24 @@ pub fn step_deadlock<T, H>(store: &mut Store<T, H>) -> Made {
     }
 }
 
-// The running thread, as far as an op needs it.
-#[derive(Clone, Copy)]
-struct Running {
-    id: QualifiedThreadId,
-    number: u64,
-    callee: Callee,
-    position: u32,
-    registers: [u64; 16],
-}
-
-fn running_thread<T, H>(store: &Store<T, H>) -> Option<Running> {
-    let state = store.state();
-    let id = state.current()?;
-    let (number, thread) = state.thread(id.thread)?;
-    let call = state.call(id.task)?;
-    Some(Running {
-        id,
-        number,
-        callee: call.callee,
-        position: thread.position,
-        registers: thread.registers,
-    })
-}
-
-/// The running thread takes its op; none where no thread runs.
-pub fn step_run<T, H>(
-    component: &Component,
-    store: &mut Store<T, H>,
-) -> Result<Option<Made>, TaskError> {
-    let Some(running) = running_thread(store) else {
-        return Ok(None);
+/// The running thread takes its op.
+pub fn step_run<T, H>(component: &Component, store: &mut Store<T, H>) -> Result<Made, NoMemory>
+    requires first { IsFirstComponent component.now }
+    requires fits { Fits component.now store.old.state.core }
+    requires runs { IsSome store.old.state.running }
+    ensures { IfOk result (λ made. IfSome store.old.state.running (λ n. Makes component.now (Phase.Run n) store.old.state made store.new.state)) }
+{
+    store.state.is_whole();
+    let Some(running) = store.state.running() else {
+        unreachable!()
     };
-    let made = match script_op(component, running.callee, running.position) {
+    match script_op(component, running.callee, running.position) {
         Some(Op::Task(TaskOp::Ret { value })) => {
             let value = operand_value(&running.registers, *value);
             returns(component, store, &running, value)
         }
-        _ => exits(store, &running),
-    };
-    match made {
-        Err(TaskError::Trap(trap)) => Ok(Some(traps(store, &running, trap))),
-        Err(e) => Err(e),
-        Ok(made) => Ok(Some(made)),
+        Some(Op::Task(TaskOp::Exit)) | None => Ok(exits(store, &running)),
+        Some(_) => unreachable!(),
     }
 }
 
@@ -151,43 +156,52 @@ fn returns<T, H>(
     store: &mut Store<T, H>,
     running: &Running,
     value: u64,
-) -> Result<Made, TaskError> {
+) -> Result<Made, NoMemory>
+    requires first { IsFirstComponent component.now }
+    requires fits { Fits component.now store.old.state.core }
+    requires about { IsAbout store.old.state running.now }
+    requires op { IsReturn component.now running.now.number value store.old.state.core }
+    ensures { IfOk result (λ made. Makes component.now (Phase.Run running.now.number) store.old.state made store.new.state) }
+{
+    store.state.is_whole();
     let instance = Instance {
         index: running.callee.instance,
     };
-    instance.task_return(component, store, 0, 0, 0, value)?;
-    store
-        .state_mut()
-        .set_position(running.id.thread, running.position.saturating_add(1));
-    Ok(Made {
-        label: Label::Task(TaskLabel::Ret(running.number, value)),
-        phase: Phase::Run,
-    })
+    match instance.task_return(component, store, 0, 0, 0, value) {
+        Ok(()) => Ok(Made {
+            label: Label::Task(TaskLabel::Ret(running.number, value)),
+            phase: Phase::Run(running.number),
+        }),
+        Err(TaskError::Trap(trap)) => Ok(traps(store, running, trap)),
+        Err(TaskError::NoMemory) => Err(NoMemory),
+        Err(TaskError::HostFailed(_)) => unreachable!(),
+    }
 }
 
-// The activation ends: the instance may be entered again, and thread and call are gone.
-fn exits<T, H>(store: &mut Store<T, H>, running: &Running) -> Result<Made, TaskError> {
-    let state = store.state_mut();
-    if let Some(call) = state.call(running.id.task)
-        && call.end.is_none()
-    {
-        return Err(TaskError::Trap(Trap::NoAsyncResult));
+// The activation ends.
+fn exits<T, H>(store: &mut Store<T, H>, running: &Running) -> Made
+    requires { IsAbout store.old.state running.now }
+    ensures { (c : Component) → Fits c store.old.state.core → op_of c running.now.number store.old.state.core ≡ Op.Task TaskOp.Exit → Makes c (Phase.Run running.now.number) store.old.state result store.new.state }
+{
+    store.state.is_whole();
+    if !running.ended {
+        return traps(store, running, Trap::NoAsyncResult);
     }
-    state.clear_do_not_enter(running.callee.instance)?;
-    state.end_thread(running.id.thread);
-    state.end_call(running.id.task);
-    state.set_current(None);
-    Ok(Made {
+    store.state.exit();
+    Made {
         label: Label::Task(TaskLabel::Exit(running.number)),
         phase: Phase::Main,
-    })
+    }
 }
 
-// The step of the running thread trapped: the thread is gone, and the store is trapped.
-fn traps<T, H>(store: &mut Store<T, H>, running: &Running, trap: Trap) -> Made {
-    store.state_mut().end_thread(running.id.thread);
-    store.state_mut().set_current(None);
-    store.set_trapped();
+// The step of the running thread trapped.
+fn traps<T, H>(store: &mut Store<T, H>, running: &Running, trap: Trap) -> Made
+    requires { IsAbout store.old.state running.now }
+    ensures label { result.label ≡ trap_label running.now.number trap }
+    ensures phase { result.phase ≡ Phase.Over }
+    ensures state { store.new.state ≡ stopped_with (trap_done running.now.number store.old.state.core) }
+{
+    store.state.strike();
     Made {
         label: Label::Loop(LoopLabel::Trap(trap, running.number)),
         phase: Phase::Over,

@@ -1,3 +1,5 @@
+ghost use Rattle.std.specs.Prelude.{◌≡◌};
+
 use crate::store::Store;
 use std::marker::PhantomData;
 
@@ -24,13 +26,15 @@ impl<T> Project<T> for Whole {
 /// A store that is lent to a host's code, which looks at the part `P` of the host's value.
 #[derive(Drop)]
 pub struct Access<'a, T, P, H> {
-    store: &'a mut Store<T, H>,
+    pub store: &'a mut Store<T, H>,
     part: PhantomData<P>,
 }
 
 impl<'a, T, P, H> Access<'a, T, P, H> {
     /// Access to the store.
-    pub fn new(store: &'a mut Store<T, H>) -> Self {
+    pub fn new(store: &'a mut Store<T, H>) -> Self
+        ensures { result.store ≡ store.entry }
+    {
         Access {
             store,
             part: PhantomData,
@@ -38,7 +42,9 @@ impl<'a, T, P, H> Access<'a, T, P, H> {
     }
 
     /// The store.
-    pub fn as_context(&self) -> &Store<T, H> {
+    pub fn as_context(&self) -> &Store<T, H>
+        ensures { result.now ≡ self.now.store.now }
+    {
         self.store
     }
 

@@ -1,0 +1,44 @@
+-- What steps show, by what came of them.
+use Rattle.std.specs.Prelude.{◌≡◌, ℕ, [], Option, Some, None}
+use Rattle.task_machine.specs.declared.component.Component.{Component}
+use Rattle.task_machine.specs.declared.label.Label.TheVariants as label
+use Rattle.task_machine.specs.declared.label.LoopLabel.TheVariants as loop_label
+use Rattle.task_machine.specs.declared.label.MainLabel.TheVariants as main_label
+use Rattle.task_machine.specs.declared.op.Op.TheVariants as op
+use Rattle.task_machine.specs.declared.op.Operand.{Operand}
+use Rattle.task_machine.specs.declared.op.TaskOp.TheVariants as task
+use Rattle.task_machine.specs.declared.trap.Trap.TheVariants as trap
+use Rattle.task_machine.specs.declared.words.Mark.TheVariants as mark
+use Rattle.task_machine.specs.Core.{Core}
+use Rattle.task_machine.specs.Labels.{held_label, take_label}
+use Rattle.task_rules.specs.Scripts.{op_of, value_of}
+use Rattle.task_rules.specs.Step.{trap_label}
+use Rattle.task_loop.specs.declared.main_task.MainStep.{MainStep}
+use Rattle.task_loop.specs.declared.main_task.MainStep.TheVariants as main_step
+use Rattle.task_loop.specs.declared.step.Made.{Made}
+use Rattle.task_loop.specs.declared.step.Phase.TheVariants as phase
+use Rattle.task_loop.specs.declared.taken.Taken.{Taken}
+use Rattle.task_loop.specs.declared.taken.Taken.TheVariants as taken
+use Rattle.task_loop.specs.Fit.{Fits}
+use Rattle.task_loop.specs.Seen.{Seen}
+use Rattle.task_loop.specs.Turn.{Makes}
+
+abbrev pub made_by_main : MainStep → Made
+made_by_main (main_step.Did l) = record { label = l; phase = phase.Main }
+made_by_main main_step.Pends = record { label = label.Loop loop_label.MainPends; phase = phase.Take }
+made_by_main (main_step.Answer v) = record { label = label.Main (main_label.Answer v); phase = phase.Over }
+
+abbrev pub made_by : Taken → Option Made
+made_by taken.Nothing = None
+made_by (taken.PutOff n) = Some (record { label = held_label mark.High n None; phase = phase.Main })
+made_by (taken.NoHandle n) = Some (record { label = trap_label n trap.HandleLimit; phase = phase.Over })
+made_by (taken.Runs n) = Some (record { label = take_label mark.High n None; phase = phase.Run n })
+
+-- nothing was there to be taken, or a step was made
+abbrev pub Took : Seen → Option Made → Seen → Type 0
+Took s None t = (s.core.queues.high ≡ []) × (t ≡ s)
+Took s (Some made) t = (c : Component) → Fits c s.core → Makes c phase.Take s made t
+
+-- the thread n is about to return v
+abbrev pub IsReturn : Component → (n v : ℕ) → Core → Type 0
+IsReturn c n v s = (x : Operand) × ((op_of c n s ≡ op.Task (task.Ret x)) × (v ≡ value_of n s x))

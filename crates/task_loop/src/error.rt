@@ -1,3 +1,0 @@
-/// Memory is wanting.
-#[derive(Clone, Copy, Debug, PartialEq, Eq)]
-pub struct NoMemory;

@@ -1,0 +1,262 @@
+ghost use Rattle.std.specs.Prelude.{ℕ, Some, ◌≡◌, ◌<◌, ◌≤◌, ◌+◌, ◌^◌, None, true, false, min, is_some, IsSome, IfNone, IfSome, IfOk, OnOk, OnErr};
+ghost use Rattle.task_machine.specs.declared.component.ExportKind.TheVariants as kind;
+ghost use Rattle.task_machine.specs.Maps.{get, size};
+ghost use Rattle.task_machine.specs.Read.{fits, has_ended, place_of, position_of};
+ghost use Rattle.task_machine.specs.Write.{set_trapped, take_result};
+ghost use Rattle.task_core.specs.Shown.{with_handle_limit, with_instance};
+ghost use Rattle.task_simple.specs.Forms.{call_started, exit_done, return_done, trap_done};
+ghost use Rattle.task_simple.specs.Simple.{IsSimple, NoneRuns};
+ghost use Rattle.task_loop.specs.Seen.{nothing_made, with_core, stopped_with};
+ghost use Rattle.task_loop.specs.Moves.{IsAbout, Takes, Exits};
+
+use crate::begin::{begin, put_off, refuse};
+use crate::taken::Taken;
+use std::alloc::Global;
+use std::marker::Model;
+use task_core::{NoMemory, QualifiedThreadId, TaskCore};
+use task_machine::{CallEnd, Callee, ExportKind, Place};
+
+/// The calls and threads of a store, and the thread that runs.
+#[derive(Drop)]
+pub struct ConcurrentState {
+    alloc: Global,
+    core: TaskCore,
+}
+
+impl Model for ConcurrentState {
+    ghost use Rattle.task_loop.specs.Seen.{Seen, seen_code};
+
+    ghost Value = { Seen };
+
+    ghost coded = { seen_code };
+
+    ghost use Rattle.task_loop.specs.State.{IsWhole, seen};
+
+    ghost view = { λ a. seen a.core };
+
+    ghost invariant = { λ a. IsWhole a.core };
+}
+
+/// What the running thread is about to do: its number, its task's export, its place in the script,
+/// its registers, and whether its task has ended.
+#[derive(Clone, Copy, Debug)]
+pub struct Running {
+    pub number: u64,
+    pub callee: Callee,
+    pub position: u32,
+    pub registers: [u64; 16],
+    pub ended: bool,
+}
+
+impl ConcurrentState {
+    /// A state in which nothing was made: no instance, a limit of 100,000 handles, and room for
+    /// 1,000,000 entries.
+    pub fn new(alloc: Global) -> Self
+        ensures { result ≡ nothing_made }
+    {
+        ConcurrentState {
+            alloc,
+            core: TaskCore::new(alloc),
+        }
+    }
+
+    /// What stands of each state: it is simple, and the thread that it says runs is at its place.
+    pub fn is_whole(&self)
+        ensures simple { IsSimple self.now.core }
+        ensures none { self.now.running ≡ None → NoneRuns self.now.core }
+        ensures some { (n : ℕ) → self.now.running ≡ Some n → place_of n self.now.core ≡ Some Place.Running }
+    {
+        let _ = &self.core;
+    }
+
+    /// Makes an instance and answers its number, from 0: its counters and words are 0, its flags
+    /// are clear, and it has no handles. Where memory is wanting, the state is as before.
+    pub fn add_instance(&mut self) -> Result<u32, NoMemory>
+        requires { size self.old.core.instances < 4294967295 }
+        ensures number { IfOk result (λ i. i ≡ size self.old.core.instances) }
+        ensures ok { OnOk result (self.new ≡ with_core (with_instance self.old.core) self.old) }
+        ensures err { OnErr result (self.new ≡ self.old) }
+    {
+        self.core.add_instance()
+    }
+
+    /// How many threads, host works, sets and groups were made, up to 2^64 - 1.
+    pub fn given(&self) -> u64
+        ensures { result ≡ min (self.now.core.made.threads + self.now.core.made.works + self.now.core.made.sets + self.now.core.made.groups) (2 ^ 64 - 1) }
+    {
+        self.core.given()
+    }
+
+    /// Whether the store is trapped.
+    pub fn trapped(&self) -> bool
+        ensures { result ≡ self.now.core.trapped }
+    {
+        self.core.trapped()
+    }
+
+    /// The store is trapped, and all groups are finished.
+    pub fn set_trapped(&mut self)
+        ensures { self.new ≡ with_core (set_trapped self.old.core) self.old }
+    {
+        self.core.set_trapped();
+    }
+
+    /// Whether this many entries more fit into the table.
+    pub fn has_room(&self, entries: usize) -> bool
+        ensures { result ≡ fits entries self.now.core }
+    {
+        self.core.has_room(entries)
+    }
+
+    /// Whether there is an instance of this number.
+    pub fn has_instance(&self, index: u32) -> bool
+        ensures { result ≡ is_some (get self.now.core.instances index) }
+    {
+        self.core.has_instance(index)
+    }
+
+    /// Sets how many handles may be live at once, at most 268,435,455. A lowered limit takes none
+    /// away.
+    pub fn set_handle_limit(&mut self, handles: u32)
+        requires { handles ≤ 268435455 }
+        ensures { self.new ≡ with_core (with_handle_limit handles self.old.core) self.old }
+    {
+        self.core.set_handle_limit(handles);
+    }
+
+    /// Makes a call by main of a callback export, with these words in the registers of its thread,
+    /// whose number is answered. Its start stands last at high. Where memory is wanting, all calls
+    /// and instances are gone, and the store is trapped.
+    pub fn start_call(&mut self, callee: Callee, registers: [u64; 16]) -> Result<u64, NoMemory>
+        requires made { self.old.core.made.threads + 1 < 2 ^ 64 }
+        requires open { self.old.core.trapped ≡ false }
+        requires there { IsSome (get self.old.core.instances callee.instance) }
+        ensures number { IfOk result (λ n. n ≡ self.old.core.made.threads + 1) }
+        ensures ok { OnOk result (self.new ≡ with_core (call_started callee kind.Callback registers self.old.core) self.old) }
+        ensures err { OnErr result (self.new.core.trapped ≡ true) }
+    {
+        let _ = self.core.has_instance(callee.instance);
+        match self
+            .core
+            .start_call(callee, ExportKind::Callback, registers)
+        {
+            Ok(id) => Ok(self.core.number(id.thread)),
+            Err(_) => {
+                self.core = TaskCore::new(self.alloc);
+                self.core.set_trapped();
+                Err(NoMemory)
+            }
+        }
+    }
+
+    /// Takes the entry that is to be taken next, where no thread runs: today a start at high. Where
+    /// memory is wanting, the state is as before.
+    pub fn take_start(&mut self) -> Result<Taken, NoMemory>
+        requires { self.old.running ≡ None }
+        ensures ok { IfOk result (λ taken. Takes self.old taken self.new) }
+        ensures err { OnErr result (self.new ≡ self.old) }
+    {
+        let Some(id) = self.core.next_item() else {
+            return Ok(Taken::Nothing);
+        };
+        let number = self.core.number(id.thread);
+        let instance = self.core.call(id.task).callee.instance;
+        if self.core.do_not_enter(instance) {
+            put_off(&mut self.core, id);
+            return Ok(Taken::PutOff(number));
+        }
+        if self.core.at_handle_limit() {
+            refuse(&mut self.core, id);
+            return Ok(Taken::NoHandle(number));
+        }
+        match begin(&mut self.core, id, instance) {
+            Ok(()) => Ok(Taken::Runs(number)),
+            Err(_) => Err(NoMemory),
+        }
+    }
+
+    /// What the running thread is about to do, if one runs.
+    pub fn running(&self) -> Option<Running>
+        ensures none { IfNone result (self.now.running ≡ None) }
+        ensures some { IfSome result (λ r. IsAbout self.now r) }
+    {
+        let id = self.core.current()?;
+        let thread = self.core.thread(id.thread);
+        let call = self.core.call(id.task);
+        Some(Running {
+            number: self.core.number(id.thread),
+            callee: call.callee,
+            position: thread.position,
+            registers: thread.registers,
+            ended: call.end.is_some(),
+        })
+    }
+
+    /// The task of the running thread, which hasn't ended, returns the value to main, and the
+    /// thread goes on after its op. Where memory is wanting, the state is as before.
+    pub fn return_value(&mut self, value: u64) -> Result<(), NoMemory>
+        requires runs { IsSome self.old.running }
+        requires open { IfSome self.old.running (λ n. has_ended n self.old.core ≡ false) }
+        requires position { IfSome self.old.running (λ n. position_of n self.old.core + 1 < 2 ^ 32) }
+        ensures ok { OnOk result (IfSome self.old.running (λ n. self.new ≡ with_core (return_done n value self.old.core) self.old)) }
+        ensures err { OnErr result (self.new ≡ self.old) }
+    {
+        let Some(id) = self.core.current() else {
+            unreachable!()
+        };
+        let number = self.core.number(id.thread);
+        match self.core.give_result(number, value) {
+            Ok(()) => {}
+            Err(_) => return Err(NoMemory),
+        }
+        let position = self.core.thread(id.thread).position;
+        self.core.set_end(id.task, CallEnd::Returned);
+        self.core.set_position(id.thread, position + 1);
+        Ok(())
+    }
+
+    /// The running thread exits: its instance may be entered again, and the thread, its handle, its
+    /// call and its group are gone.
+    pub fn exit(&mut self)
+        requires runs { IsSome self.old.running }
+        ensures { IfSome self.old.running (λ n. Exits n self.old self.new) }
+    {
+        let Some(id) = self.core.current() else {
+            unreachable!()
+        };
+        let call = self.core.call(id.task);
+        let Some(handle) = self.core.thread(id.thread).handle else {
+            unreachable!()
+        };
+        self.core.clear_do_not_enter(call.callee.instance);
+        self.core.free_thread_handle(call.callee.instance, handle);
+        self.core.remove_thread(id.thread);
+        self.core.remove_call(id.task);
+        self.core.remove_group(call.group);
+        self.core.set_current(None);
+    }
+
+    /// The step of the running thread trapped: its strand, which today is the thread alone, is
+    /// gone, and the store is trapped.
+    pub fn strike(&mut self)
+        requires runs { IsSome self.old.running }
+        ensures { IfSome self.old.running (λ n. self.new ≡ stopped_with (trap_done n self.old.core)) }
+    {
+        let Some(id) = self.core.current() else {
+            unreachable!()
+        };
+        self.core.remove_thread(id.thread);
+        self.core.set_trapped();
+        self.core.set_current(None);
+    }
+
+    /// Takes the result of a call by main, which has one exactly where it has returned and main has
+    /// not taken it. The call is named by its thread's number.
+    pub fn take_result(&mut self, call: u64) -> Option<u64>
+        ensures value { result ≡ get self.old.core.results call }
+        ensures taken { IsSome result → self.new ≡ with_core (take_result call self.old.core) self.old }
+        ensures none { IfNone result (self.new ≡ self.old) }
+    {
+        self.core.take_result(call)
+    }
+}
