@@ -1,0 +1,5 @@
+pub mod FitLemmas
+pub mod MainLemmas
+pub mod GivenLemmas
+pub mod DriveLemmas
+pub mod StepLemmas

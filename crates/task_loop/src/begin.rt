@@ -1,4 +1,5 @@
 //! What becomes of a start that was taken.
+#![tactic(none)]
 ghost use Rattle.std.specs.Prelude.{◌≡◌, ◌<◌, Some, IsSome, false, OnOk, OnErr};
 ghost use Rattle.task_core.specs.Queue.{IsNext};
 ghost use Rattle.task_core.specs.Shown.{IsLive, KeepsTags, number_of, thread_number, call_number};

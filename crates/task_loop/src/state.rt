@@ -1,3 +1,4 @@
+#![tactic(none)]
 ghost use Rattle.std.specs.Prelude.{ℕ, Some, ◌≡◌, ◌<◌, ◌≤◌, ◌+◌, ◌^◌, None, true, false, min, is_some, IsSome, IfNone, IfSome, IfOk, OnOk, OnErr};
 ghost use Rattle.task_machine.specs.declared.component.ExportKind.TheVariants as kind;
 ghost use Rattle.task_machine.specs.Maps.{get, size};
@@ -182,12 +183,13 @@ impl ConcurrentState {
     {
         let id = self.core.current()?;
         let thread = self.core.thread(id.thread);
+        let registers = thread.registers;
         let call = self.core.call(id.task);
         Some(Running {
             number: self.core.number(id.thread),
             callee: call.callee,
             position: thread.position,
-            registers: thread.registers,
+            registers,
             ended: call.end.is_some(),
         })
     }

@@ -1,5 +1,5 @@
 //! One step: main takes an op, an entry is taken, or the running thread takes its op.
-ghost use Rattle.std.specs.Prelude.{◌≡◌, ◌+◌, ◌<◌, ◌^◌, ℕ, None, [], IsSome, IfSome, IfOk};
+ghost use Rattle.std.specs.Prelude.{◌≡◌, ◌+◌, ◌<◌, ◌^◌, ℕ, true, None, [], IsSome, IfSome, IfOk};
 ghost use Rattle.task_machine.specs.Core.{Main};
 ghost use Rattle.task_rules.specs.Scripts.{op_of};
 ghost use Rattle.task_rules.specs.Stalled.{Setting, main_pends};
