@@ -3,3 +3,4 @@ pub mod MainLemmas
 pub mod GivenLemmas
 pub mod DriveLemmas
 pub mod StepLemmas
+pub mod RunLemmas

@@ -41,7 +41,7 @@ return_refusal false false = Some trap.TaskReturnInvalid
 return_refusal false true = None
 
 -- A return of v by the thread n: refused for this cause, and then nothing is changed; else done, or memory is wanting, and nothing is changed.
-abbrev pub Returns : (n v : ℕ) → Seen → Option Trap → {U : Type 0} → Result U TaskError → Seen → Type 0
+abbrev pub Returns : (n v : ℕ) → Seen → Option Trap → Result (Unit {0}) TaskError → Seen → Type 0
 Returns n v s (Some why) r t = (r ≡ Err (task_error.Trap why)) × (t ≡ s)
 Returns n v s None (Ok u) t = t ≡ with_core (return_done n v s.core) s
 Returns n v s None (Err why) t = (why ≡ task_error.NoMemory) × (t ≡ s)

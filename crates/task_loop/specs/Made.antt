@@ -4,6 +4,7 @@ use Rattle.task_machine.specs.declared.component.Component.{Component}
 use Rattle.task_machine.specs.declared.label.Label.TheVariants as label
 use Rattle.task_machine.specs.declared.label.LoopLabel.TheVariants as loop_label
 use Rattle.task_machine.specs.declared.label.MainLabel.TheVariants as main_label
+use Rattle.task_machine.specs.declared.op.Op.{Op}
 use Rattle.task_machine.specs.declared.op.Op.TheVariants as op
 use Rattle.task_machine.specs.declared.op.Operand.{Operand}
 use Rattle.task_machine.specs.declared.op.TaskOp.TheVariants as task
@@ -38,6 +39,11 @@ made_by (taken.Runs n) = Some (record { label = take_label mark.High n None; pha
 abbrev pub Took : Seen → Option Made → Seen → Type 0
 Took s None t = (s.core.queues.high ≡ []) × (t ≡ s)
 Took s (Some made) t = (c : Component) → Fits c s.core → Makes c phase.Take s made t
+
+-- the op that returns this; that which exits, where it is none
+abbrev pub op_of_return : Option Operand → Op
+op_of_return (Some x) = op.Task (task.Ret x)
+op_of_return None = op.Task task.Exit
 
 -- the thread n is about to return v
 abbrev pub IsReturn : Component → (n v : ℕ) → Core → Type 0

@@ -1,15 +1,15 @@
 //! One step: main takes an op, an entry is taken, or the running thread takes its op.
-ghost use Rattle.std.specs.Prelude.{◌≡◌, ◌+◌, ◌<◌, ◌^◌, ℕ, true, None, [], IsSome, IfSome, IfOk};
+ghost use Rattle.std.specs.Prelude.{◌≡◌, ◌+◌, ◌<◌, ◌^◌, ℕ, true, None, [], slice_get, unwrap_or, IsSome, IfSome, IfOk};
 ghost use Rattle.task_machine.specs.Core.{Main};
-ghost use Rattle.task_rules.specs.Scripts.{op_of};
+ghost use Rattle.task_rules.specs.Scripts.{op_of, script_in};
 ghost use Rattle.task_rules.specs.Stalled.{Setting, main_pends};
 ghost use Rattle.task_rules.specs.Step.{trap_label};
 ghost use Rattle.task_simple.specs.Forms.{trap_done};
 ghost use Rattle.task_loop.specs.Seen.{stopped_with};
 ghost use Rattle.task_loop.specs.Moves.{IsAbout};
-ghost use Rattle.task_loop.specs.Fit.{IsFirstComponent, Fits, given};
+ghost use Rattle.task_loop.specs.Fit.{IsFirstComponent, Fits, given, is_first_op};
 ghost use Rattle.task_loop.specs.Turn.{Makes, Turns};
-ghost use Rattle.task_loop.specs.Made.{made_by, made_by_main, IsReturn, Took};
+ghost use Rattle.task_loop.specs.Made.{made_by, made_by_main, op_of_return, IsReturn, Took};
 
 use crate::access::Access;
 use crate::component::{operand_value, script_op};
@@ -20,7 +20,8 @@ use crate::store::Store;
 use crate::taken::Taken;
 use task_core::{NoMemory, TaskError};
 use task_machine::{
-    Component, IdleLine, Label, LoopLabel, MainLabel, Mark, Op, TakeLabel, TaskLabel, TaskOp, Trap,
+    Component, IdleLine, Label, LoopLabel, MainLabel, Mark, Op, Operand, Script, TakeLabel,
+    TaskLabel, TaskOp, Trap,
 };
 
 /// Whose turn it is.
@@ -140,13 +141,38 @@ pub fn step_run<T, H>(component: &Component, store: &mut Store<T, H>) -> Result<
     let Some(running) = store.state.running() else {
         unreachable!()
     };
-    match script_op(component, running.callee, running.position) {
-        Some(Op::Task(TaskOp::Ret { value })) => {
-            let value = operand_value(&running.registers, *value);
+    match next_return(component, &running) {
+        Some(operand) => {
+            let value = operand_value(&running.registers, operand);
             returns(component, store, &running, value)
         }
-        Some(Op::Task(TaskOp::Exit)) | None => Ok(exits(store, &running)),
-        Some(_) => unreachable!(),
+        None => Ok(exits(store, &running)),
+    }
+}
+
+// What an op of the first grammar returns; none where it exits.
+fn return_of(op: &Op) -> Option<Operand>
+    requires { is_first_op op.now ≡ true }
+    ensures { op.now ≡ op_of_return result }
+{
+    match op {
+        Op::Task(op) => match op {
+            TaskOp::Ret { value } => Some(*value),
+            TaskOp::Exit => None,
+            _ => unreachable!(),
+        },
+        _ => unreachable!(),
+    }
+}
+
+// What the op of the running thread returns; none where it exits, as a script does at its end.
+fn next_return(component: &Component, running: &Running) -> Option<Operand>
+    requires { IsFirstComponent component.now }
+    ensures { op_of_return result ≡ unwrap_or (slice_get (script_in component.now running.now.callee Script.Start) running.now.position) (Op.Task TaskOp.Exit) }
+{
+    match script_op(component, running.callee, running.position) {
+        Some(op) => return_of(op),
+        None => None,
     }
 }
 

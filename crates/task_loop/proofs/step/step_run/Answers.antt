@@ -1,0 +1,1 @@
+use Rattle.task_loop.proofs.step.step_run.Goals as goal
