@@ -160,6 +160,9 @@ module _ (s : Seen) (simple : IsSimple s.core) (r : Running) (about : IsAbout s 
 pub if_some : {X : Type 0} (P : X → Type 0) (o : Option X) (x : X) → o ≡ Some x → IfSome o P → P x
 if_some P o x is h = subst (λ o. IfSome o P) is h
 
+pub some_is : {X : Type 0} (P : X → Type 0) (o : Option X) (x : X) → o ≡ Some x → P x → IfSome o P
+some_is P o x is h = subst (λ o. IfSome o P) (sym is) h
+
 -- the same, of a step whose parts are these
 pub makes_same : (c : Component) (p : Phase) (s : Seen) (made made' : Made) (t t' : Seen) → made'.label ≡ made.label → made'.phase ≡ made.phase → t' ≡ t → Makes c p s made t → Makes c p s made' t'
 makes_same c p s made made' t t' label phase after m =

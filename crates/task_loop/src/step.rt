@@ -1,5 +1,5 @@
 //! One step: main takes an op, an entry is taken, or the running thread takes its op.
-ghost use Rattle.std.specs.Prelude.{◌≡◌, ◌+◌, ◌<◌, ◌^◌, ℕ, true, None, [], slice_get, unwrap_or, IsSome, IfSome, IfOk};
+ghost use Rattle.std.specs.Prelude.{◌≡◌, ◌+◌, ◌<◌, ◌^◌, ℕ, true, None, [], slice_get, unwrap_or, IsSome, IfSome, IfOk, OnOk};
 ghost use Rattle.task_machine.specs.Core.{Main};
 ghost use Rattle.task_rules.specs.Scripts.{op_of, script_in};
 ghost use Rattle.task_rules.specs.Stalled.{Setting, main_pends};
@@ -8,6 +8,7 @@ ghost use Rattle.task_simple.specs.Forms.{trap_done};
 ghost use Rattle.task_loop.specs.Seen.{stopped_with};
 ghost use Rattle.task_loop.specs.Moves.{IsAbout};
 ghost use Rattle.task_loop.specs.Fit.{IsFirstComponent, Fits, given, is_first_op};
+ghost use Rattle.task_loop.specs.Main.{Steps};
 ghost use Rattle.task_loop.specs.Turn.{Makes, Turns};
 ghost use Rattle.task_loop.specs.Made.{made_by, made_by_main, op_of_return, IsReturn, Took};
 
@@ -76,11 +77,28 @@ pub fn step_main<T, H, M: MainTask<T, H>>(
     ensures ok { IfOk result (λ made. (x : Setting) → x.component ≡ component.now → x.script ≡ M.script main.old → Turns x Phase.Main (M.part main.old) store.old.state made (M.part main.new) store.new.state) }
 {
     store.state.is_whole();
-    let mut access = Access::new(store);
-    match main.step(&mut access, component) {
+    match ask_main(component, store, main) {
         Ok(step) => Ok(made_of_main(step)),
         Err(_) => Err(NoMemory),
     }
+}
+
+// Lends the store to main for an op.
+fn ask_main<T, H, M: MainTask<T, H>>(
+    component: &Component,
+    store: &mut Store<T, H>,
+    main: &mut M,
+) -> Result<MainStep, TaskError>
+    requires first { IsFirstComponent component.now }
+    requires fits { Fits component.now store.old.state.core }
+    requires given { given store.old.state.core + 4 < 2 ^ 61 }
+    ensures script { M.script main.new ≡ M.script main.old }
+    ensures current { OnOk result (store.new.state.running ≡ store.old.state.running) }
+    ensures fits { OnOk result (Fits component.now store.new.state.core) }
+    ensures ok { IfOk result (λ step. Steps component.now (M.script main.old) (M.part main.old) store.old.state.core step (M.part main.new) store.new.state.core) }
+{
+    let mut access = Access::new(store);
+    main.step(&mut access, component)
 }
 
 // What the taking of an entry shows.
