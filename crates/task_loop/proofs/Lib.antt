@@ -4,3 +4,4 @@ pub mod GivenLemmas
 pub mod DriveLemmas
 pub mod StepLemmas
 pub mod RunLemmas
+pub mod TurnLemmas

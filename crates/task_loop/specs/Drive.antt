@@ -1,11 +1,16 @@
 -- What driving a run adds to a trace.
-use Rattle.std.specs.Prelude.{◌≡◌, ℕ, ◌≤◌, List, ◌++◌, None, length}
+use Rattle.std.specs.Prelude.{◌≡◌, ℕ, ◌+◌, ◌*◌, ◌≤◌, List, ◌++◌, None, length}
 use Rattle.task_machine.specs.declared.label.Label.{Label}
 use Rattle.task_machine.specs.declared.outcome.Outcome.{Outcome}
-use Rattle.task_machine.specs.Core.{State}
+use Rattle.task_machine.specs.Core.{Main, State}
 use Rattle.task_rules.specs.Stalled.{Setting}
 use Rattle.task_rules.specs.Run.{Run}
 use Rattle.task_rules.specs.Outcome.{last_outcome, IsOutcome}
+use Rattle.task_loop.specs.declared.step.Phase.{Phase}
+use Rattle.task_loop.specs.Fit.{Fits, given}
+use Rattle.task_loop.specs.Main.{state_at}
+use Rattle.task_loop.specs.Seen.{Seen}
+use Rattle.task_loop.specs.Turn.{PendsIn, goes_on, is_open, runs_in, turn_of}
 
 -- A run of n labels was added, of which the last gives no outcome.
 pub record Going (x : Setting) (s : State) (before : List Label) (t : State) (after : List Label) (n : ℕ) : Type 0 where
@@ -22,3 +27,12 @@ pub record Drives (x : Setting) (s : State) (before : List Label) (t : State) (a
   pub run : Run x s added t
   pub few : length added ≤ steps
   pub ends : IsOutcome x t added steps outcome
+
+-- What the turns came to: a run, and how the store stands then.
+pub record Drove (x : Setting) (s : State) (before : List Label) (numbers : ℕ) (p : Phase) (m : Main) (t : Seen) (after : List Label) (steps : ℕ) (outcome : Outcome) : Type 0 where
+  pub drives : Drives x s before (state_at t.core m (turn_of p)) after steps outcome
+  pub unfinished : is_open p ≡ goes_on outcome
+  pub fits : Fits x.component t.core
+  pub few : given t.core ≤ numbers + 2 * steps
+  pub running : t.running ≡ runs_in p
+  pub pends : PendsIn x t m p

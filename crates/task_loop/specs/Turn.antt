@@ -1,14 +1,15 @@
 -- What a step of the loop makes.
-use Rattle.std.specs.Prelude.{◌≡◌, ◌≢◌, ◌≤◌, ◌+◌, ℕ, Bool, true, false, Option, Some, None, is_none}
+use Rattle.std.specs.Prelude.{◌≡◌, ◌≢◌, ◌≤◌, ◌+◌, ℕ, Bool, true, false, List, Option, Some, None, is_none}
 use Rattle.task_machine.specs.declared.component.Component.{Component}
 use Rattle.task_machine.specs.declared.records.Turn.{Turn}
 use Rattle.task_machine.specs.declared.records.Turn.TheVariants as turn
 use Rattle.task_machine.specs.declared.outcome.Outcome.{Outcome}
 use Rattle.task_machine.specs.declared.outcome.Outcome.TheVariants as outcome
 use Rattle.task_machine.specs.declared.scenario.IdleLine.{IdleLine}
+use Rattle.task_machine.specs.declared.scenario.MainOp.{MainOp}
 use Rattle.task_machine.specs.declared.scenario.IdleLine.TheVariants as idle_line
 use Rattle.task_machine.specs.Core.{Main}
-use Rattle.task_rules.specs.Outcome.{outcome_of_label}
+use Rattle.task_rules.specs.Outcome.{is_at_rest, outcome_of_label}
 use Rattle.task_rules.specs.Stalled.{Setting, main_pends}
 use Rattle.task_rules.specs.Step.{Step}
 use Rattle.task_loop.specs.declared.step.Made.{Made}
@@ -66,3 +67,11 @@ pub record Makes (c : Component) (p : Phase) (s : Seen) (made : Made) (t : Seen)
   pub not_take : made.phase ≢ phase.Take
   pub fits : Fits c t.core
   pub few : given t.core ≡ given s.core
+
+-- A step was made, or nothing can go on and that is no deadlock, and nothing is changed.
+abbrev pub Turned : Setting → Phase → Main → Seen → Option Made → Main → Seen → Type 0
+Turned x p m s (Some made) m' t = Turns x p m s made m' t
+Turned x p m s None m' t = (is_at_rest x (state_at s.core m (turn_of p)) ≡ true) × ((m' ≡ m) × (t ≡ s))
+
+abbrev pub setting_of : Component → List MainOp → (trap_on_idle : Bool) → Setting
+setting_of c ops b = record { component = c; script = ops; idle = idle_line_of b }

@@ -1,0 +1,115 @@
+-- A turn of the loop.
+use Rattle.std.proofs.Common.{ap, ap₂, arith, refl, subst, sym, ◌∙◌, ◌≤◌}
+use Rattle.std.specs.Prelude.{Bool, List, None, Option, Some, [], ◌∷◌, ◌&&◌, ◌||◌, false, true, is_none, not, ℕ, ◌+◌, ◌≡◌, ◌≢◌}
+use Rattle.task_machine.specs.declared.component.Component.{Component}
+use Rattle.task_machine.specs.declared.records.Entry.{Entry}
+use Rattle.task_machine.specs.declared.records.Turn.TheVariants as turn
+use Rattle.task_machine.specs.declared.scenario.MainOp.{MainOp}
+use Rattle.task_machine.specs.declared.words.Mark.TheVariants as mark
+use Rattle.task_machine.specs.Core.{Core, Main, State}
+use Rattle.task_machine.specs.Read.{is_nil, next_entry}
+use Rattle.task_rules.specs.Outcome.{is_at_rest}
+use Rattle.task_rules.specs.Stalled.{Setting, is_idle, is_idle_trap, is_unended_take, main_pends, works_rest}
+use Rattle.task_rules.specs.Turns.{nothing_stands}
+use Rattle.task_rules.specs.Works.{has_live_work}
+use Rattle.task_simple.specs.Simple.{IsPlain}
+use Rattle.task_simple.proofs.QueueLemmas.{next_entry_first}
+use Rattle.task_simple.proofs.ReadLemmas.{has_live_work_not, is_idle_while}
+use Rattle.task_loop.specs.declared.step.Made.{Made}
+use Rattle.task_loop.specs.declared.step.Phase.{Phase}
+use Rattle.task_loop.specs.declared.step.Phase.TheVariants as phase
+use Rattle.task_loop.specs.Fit.{Fits}
+use Rattle.task_loop.specs.Main.{state_at}
+use Rattle.task_loop.specs.Seen.{Seen}
+use Rattle.task_loop.specs.Turn.{Makes, PendsIn, Turned, Turns, idle_line_of, setting_of, turn_of}
+
+-- ---- Where nothing can go on
+
+trap_of : (b : Bool) → is_idle_trap (idle_line_of b) ≡ b
+trap_of true = refl
+trap_of false = refl
+
+and_false : (a : Bool) → (a && false) ≡ false
+and_false true = refl
+and_false false = refl
+
+and_true : (a : Bool) → (a && true) ≡ a
+and_true true = refl
+and_true false = refl
+
+module _ (x : Setting) (s : Seen) (plain : IsPlain s.core) (b : Bool) (idle : x.idle ≡ idle_line_of b) (m : Main) where
+  -- a deadlock comes, or the run rests, by the idle line
+  rest_where : (t : State) → t.core ≡ s.core → is_at_rest x t ≡ (is_idle x t && not b)
+  unfolding is_at_rest
+  rest_where t core =
+      let live : has_live_work t.core ≡ false = ap has_live_work core ∙ has_live_work_not s.core plain in
+      ap₂ (λ v w. is_idle x t && (not v || w)) (ap is_idle_trap idle ∙ trap_of b) live ∙ ap (λ v. is_idle x t && v) (or_none (not b))
+    where
+      or_none : (v : Bool) → (v || false) ≡ v
+      or_none true = refl
+      or_none false = refl
+
+  -- in another phase it isn't yet seen that nothing can go on
+  elsewhere : (t : State) → t.core ≡ s.core → is_unended_take t.turn ≡ false → is_at_rest x t ≡ false
+  unfolding is_idle
+  elsewhere t core not_take = rest_where t core ∙ ap (λ v. ((v && main_pends x t.core t.main) && (nothing_stands t.core && works_rest t.core)) && not b) not_take
+
+  someone_stands : (e : Entry) (es : List Entry) → s.core.queues.high ≡ e ∷ es → is_idle x (state_at s.core m (turn.Take false)) ≡ false
+  unfolding is_idle
+  someone_stands e es some = ap (λ o. main_pends x s.core m && (is_none o && works_rest s.core)) (next_entry_first s.core plain e es some) ∙ and_false (main_pends x s.core m)
+
+  stands_where : (es : List Entry) → s.core.queues.high ≡ es → main_pends x s.core m ≡ true → is_idle x (state_at s.core m (turn.Take false)) ≡ is_nil es
+  stands_where [] none pends = is_idle_while x (state_at s.core m (turn.Take false)) plain refl pends none
+  stands_where (e ∷ es) some pends = someone_stands e es some
+
+  pub rest_take : main_pends x s.core m ≡ true → is_at_rest x (state_at s.core m (turn.Take false)) ≡ (is_nil s.core.queues.high && not b)
+  rest_take pends = rest_where (state_at s.core m (turn.Take false)) refl ∙ ap (λ v. v && not b) (stands_where s.core.queues.high refl pends)
+
+  -- the loop is idle in this phase
+  abbrev pub is_idle_in : Phase → Bool
+  is_idle_in phase.Take = is_nil s.core.queues.high && not b
+  is_idle_in _ = false
+
+  pub rest_in : (p : Phase) → PendsIn x s m p → is_at_rest x (state_at s.core m (turn_of p)) ≡ is_idle_in p
+  rest_in phase.Main pends = elsewhere (state_at s.core m turn.Main) refl refl
+  rest_in phase.Take pends = rest_take pends
+  rest_in (phase.Run n) pends = elsewhere (state_at s.core m (turn.Run n)) refl refl
+  rest_in phase.Over pends = elsewhere (state_at s.core m turn.Over) refl refl
+
+  pub rest_trap : (p : Phase) → PendsIn x s m p → b ≡ true → is_at_rest x (state_at s.core m (turn_of p)) ≡ false
+  rest_trap phase.Main pends traps = rest_in phase.Main pends
+  rest_trap phase.Take pends traps = rest_take pends ∙ (ap (λ v. is_nil s.core.queues.high && not v) traps ∙ and_false (is_nil s.core.queues.high))
+  rest_trap (phase.Run n) pends traps = rest_in (phase.Run n) pends
+  rest_trap phase.Over pends traps = rest_in phase.Over pends
+
+  pub rest_wait : main_pends x s.core m ≡ true → b ≡ false → is_at_rest x (state_at s.core m (turn.Take false)) ≡ is_nil s.core.queues.high
+  rest_wait pends waits = rest_take pends ∙ (ap (λ v. is_nil s.core.queues.high && not v) waits ∙ and_true (is_nil s.core.queues.high))
+
+  pub rest_else : (p : Phase) → p ≢ phase.Take → is_at_rest x (state_at s.core m (turn_of p)) ≡ false
+  rest_else phase.Main ne = rest_in phase.Main tt
+  rest_else phase.Take ne = absurd (ne refl)
+  rest_else (phase.Run n) ne = rest_in (phase.Run n) tt
+  rest_else phase.Over ne = rest_in phase.Over tt
+
+-- ---- A step in which main has no part
+
+pends_else : (x : Setting) (s : Seen) (m : Main) (p : Phase) → p ≢ phase.Take → PendsIn x s m p
+pends_else x s m phase.Main ne = tt
+pends_else x s m phase.Take ne = absurd (ne refl)
+pends_else x s m (phase.Run n) ne = tt
+pends_else x s m phase.Over ne = tt
+
+pub makes_turns : (x : Setting) (p : Phase) (s : Seen) (made : Made) (t : Seen) → Makes x.component p s made t → (m : Main) → Turns x p m s made m t
+makes_turns x p s made t h m = record {
+  step = h.step x refl m;
+  running = h.running;
+  over = h.over;
+  pends = pends_else x t m made.phase h.not_take;
+  fits = h.fits;
+  few = let same = h.few in omega arith;
+}
+
+-- the same, in the same setting
+pub turned_same : (c : Component) (ops ops' : List MainOp) (b b' : Bool) (p : Phase) (m : Main) (s : Seen) (made : Option Made) (m' : Main) (t : Seen) → ops ≡ ops' → b ≡ b'
+    → Turned (setting_of c ops b) p m s made m' t → Turned (setting_of c ops' b') p m s made m' t
+turned_same c ops ops' b b' p m s made m' t script trap h = subst (λ v. Turned (setting_of c ops' v) p m s made m' t) trap (subst (λ o. Turned (setting_of c o b) p m s made m' t) script h)

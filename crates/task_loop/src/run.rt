@@ -1,0 +1,204 @@
+ghost use Rattle.std.specs.Prelude.{◌≡◌, ◌+◌, ◌*◌, ◌≤◌, ◌<◌, ◌^◌, None, true, false, IfOk, IfErr, OnOk, OnErr};
+ghost use Rattle.task_machine.specs.Core.{Main};
+ghost use Rattle.task_rules.specs.Outcome.{is_at_rest, outcome_of_label};
+ghost use Rattle.task_rules.specs.Stalled.{Setting};
+ghost use Rattle.task_loop.specs.Drive.{Drives, Drove};
+ghost use Rattle.task_loop.specs.Fit.{IsFirstComponent, Fits, given};
+ghost use Rattle.task_loop.specs.Main.{state_at};
+ghost use Rattle.task_loop.specs.Turn.{PendsIn, Turned, goes_on, idle_line_of, is_open, runs_in, setting_of, turn_of};
+
+use crate::main_task::MainTask;
+use crate::step::{Made, Phase, step_deadlock, step_main, step_run, step_take};
+use crate::store::Store;
+use crate::trace::Trace;
+use task_core::NoMemory;
+use task_machine::{CallLabel, Component, Label, LoopLabel, MainLabel, Outcome, Trap};
+
+/// A run of the event loop on a store.
+#[derive(Drop)]
+pub struct RunConcurrent {
+    phase: Phase,
+    trap_on_idle: bool,
+}
+
+/// Begins a run on a store, with main. `trap_on_idle` says that the run ends as a deadlock where
+/// nothing can go on and main waits. Refused with trap 21 exactly where a run stands on the store,
+/// which isn't trapped by that, nor changed.
+pub fn run_concurrent<T, H>(
+    store: &mut Store<T, H>,
+    trap_on_idle: bool,
+) -> Result<RunConcurrent, Trap>
+    ensures refused { IfErr result (λ trap. (trap ≡ Trap.RecursiveRun) × (store.old.running ≡ true)) }
+    ensures begun { IfOk result (λ run. (run ≡ record { phase = Phase.Main; trap_on_idle = trap_on_idle }) × (store.old.running ≡ false)) }
+    ensures store { store.new ≡ record store.old { running = true } }
+{
+    if store.running() {
+        return Err(Trap::RecursiveRun);
+    }
+    store.set_running(true);
+    Ok(RunConcurrent {
+        phase: Phase::Main,
+        trap_on_idle,
+    })
+}
+
+// The outcome that a label gives.
+fn outcome_of(label: Label) -> Option<Outcome>
+    ensures { result ≡ outcome_of_label label }
+{
+    match label {
+        Label::Main(MainLabel::Answer(value)) => Some(Outcome::Done(value)),
+        Label::Loop(LoopLabel::Trap(trap, _)) => Some(Outcome::Trap(trap)),
+        Label::Loop(LoopLabel::Deadlock(trap)) => Some(Outcome::Deadlock(trap)),
+        Label::Loop(LoopLabel::FutureFails(work)) => Some(Outcome::HostFailed(work)),
+        Label::Call(CallLabel::Fails(_, work)) => Some(Outcome::HostFailed(work)),
+        _ => None,
+    }
+}
+
+impl RunConcurrent {
+    /// Goes on with the run until it is over, until it has added `steps` labels to the trace, or
+    /// until nothing can go on and that is no deadlock. The labels that it adds are those of a run
+    /// of the component machine from the store before to the store after, and the outcome is what
+    /// that run has come to. Where memory is wanting, the store is trapped.
+    ///
+    /// At most 2^60 numbers were given in the store, which fits the component. The thread that runs
+    /// in it is the one that the last call on this run left; at the first call none runs. The run
+    /// isn't over. Where main has pended in the last call, its op pends still; a main that is no
+    /// script pends as long as it says so. A main is asked for each op once more after it has
+    /// pended.
+    pub fn drive<T, H, M: MainTask<T, H>>(
+        &mut self,
+        component: &Component,
+        store: &mut Store<T, H>,
+        main: &mut M,
+        steps: u32,
+        trace: &mut Trace,
+    ) -> Result<Outcome, NoMemory>
+        requires first { IsFirstComponent component.now }
+        requires fits { Fits component.now store.old.state.core }
+        requires given { given store.old.state.core ≤ 2 ^ 60 }
+        requires current { store.old.state.running ≡ runs_in self.old.phase }
+        requires unfinished { is_open self.old.phase ≡ true }
+        requires pends { PendsIn (setting_of component.now (M.script main.old) self.old.trap_on_idle) store.old.state (M.part main.old) self.old.phase }
+        ensures script { M.script main.new ≡ M.script main.old }
+        ensures idle { self.new.trap_on_idle ≡ self.old.trap_on_idle }
+        ensures ok { IfOk result (λ outcome. Drives (setting_of component.now (M.script main.old) self.old.trap_on_idle) (state_at store.old.state.core (M.part main.old) (turn_of self.old.phase)) trace.old (state_at store.new.state.core (M.part main.new) (turn_of self.new.phase)) trace.new steps outcome) }
+        ensures unfinished { IfOk result (λ outcome. is_open self.new.phase ≡ goes_on outcome) }
+        ensures fits { OnOk result (Fits component.now store.new.state.core) }
+        ensures given { OnOk result (given store.new.state.core ≤ given store.old.state.core + 2 * steps) }
+        ensures current { OnOk result (store.new.state.running ≡ runs_in self.new.phase) }
+        ensures pends { OnOk result (PendsIn (setting_of component.now (M.script main.old) self.old.trap_on_idle) store.new.state (M.part main.new) self.new.phase) }
+        ensures err { OnErr result (store.new.state.core.trapped ≡ true) }
+    {
+        match self.go_on(component, store, main, steps, trace) {
+            Ok(outcome) => Ok(outcome),
+            Err(_) => {
+                store.set_trapped();
+                Err(NoMemory)
+            }
+        }
+    }
+
+    // Takes the turns.
+    fn go_on<T, H, M: MainTask<T, H>>(
+        &mut self,
+        component: &Component,
+        store: &mut Store<T, H>,
+        main: &mut M,
+        steps: u32,
+        trace: &mut Trace,
+    ) -> Result<Outcome, NoMemory>
+        requires first { IsFirstComponent component.now }
+        requires fits { Fits component.now store.old.state.core }
+        requires given { given store.old.state.core ≤ 2 ^ 60 }
+        requires current { store.old.state.running ≡ runs_in self.old.phase }
+        requires unfinished { is_open self.old.phase ≡ true }
+        requires pends { PendsIn (setting_of component.now (M.script main.old) self.old.trap_on_idle) store.old.state (M.part main.old) self.old.phase }
+        ensures script { M.script main.new ≡ M.script main.old }
+        ensures idle { self.new.trap_on_idle ≡ self.old.trap_on_idle }
+        ensures ok { IfOk result (λ outcome. Drove (setting_of component.now (M.script main.old) self.old.trap_on_idle) (state_at store.old.state.core (M.part main.old) (turn_of self.old.phase)) trace.old (given store.old.state.core) self.new.phase (M.part main.new) store.new.state trace.new steps outcome) }
+    {
+        'turns: for _added in 0..steps {
+            let Some(made) = self.turn(component, store, main)? else {
+                return Ok(Outcome::Idle);
+            };
+            self.phase = made.phase;
+            let Ok(()) = trace.push(made.label) else {
+                return Err(NoMemory);
+            };
+            if let Some(outcome) = outcome_of(made.label) {
+                return Ok(outcome);
+            }
+        }
+        if self.is_idle(store) {
+            return Ok(Outcome::Idle);
+        }
+        Ok(Outcome::OutOfSteps)
+    }
+
+    // Whether nothing can go on and that is no deadlock.
+    fn is_idle<T, H>(&self, store: &Store<T, H>) -> bool
+        ensures { (x : Setting) → x.idle ≡ idle_line_of self.now.trap_on_idle → (m : Main) → PendsIn x store.now.state m self.now.phase → is_at_rest x (state_at store.now.state.core m (turn_of self.now.phase)) ≡ result }
+    {
+        store.state.is_whole();
+        if self.trap_on_idle {
+            return false;
+        }
+        match self.phase {
+            Phase::Take => store.state.is_drained(),
+            _ => false,
+        }
+    }
+
+    // Makes a step; none where nothing can go on and that is no deadlock.
+    fn turn<T, H, M: MainTask<T, H>>(
+        &self,
+        component: &Component,
+        store: &mut Store<T, H>,
+        main: &mut M,
+    ) -> Result<Option<Made>, NoMemory>
+        requires first { IsFirstComponent component.now }
+        requires fits { Fits component.now store.old.state.core }
+        requires given { given store.old.state.core + 4 < 2 ^ 61 }
+        requires current { store.old.state.running ≡ runs_in self.now.phase }
+        requires unfinished { is_open self.now.phase ≡ true }
+        requires pends { PendsIn (setting_of component.now (M.script main.old) self.now.trap_on_idle) store.old.state (M.part main.old) self.now.phase }
+        ensures script { M.script main.new ≡ M.script main.old }
+        ensures turned { IfOk result (λ made. Turned (setting_of component.now (M.script main.old) self.now.trap_on_idle) self.now.phase (M.part main.old) store.old.state made (M.part main.new) store.new.state) }
+    {
+        match self.phase {
+            Phase::Main => match step_main(component, store, main) {
+                Ok(made) => Ok(Some(made)),
+                Err(e) => Err(e),
+            },
+            Phase::Take => self.take(store),
+            Phase::Run(_) => match step_run(component, store) {
+                Ok(made) => Ok(Some(made)),
+                Err(e) => Err(e),
+            },
+            Phase::Over => unreachable!(),
+        }
+    }
+
+    // Takes an entry, or else sees what it is that nothing can go on.
+    fn take<T, H>(&self, store: &mut Store<T, H>) -> Result<Option<Made>, NoMemory>
+        requires { store.old.state.running ≡ None }
+        ensures { IfOk result (λ made. (x : Setting) → x.idle ≡ idle_line_of self.now.trap_on_idle → (m : Main) → Fits x.component store.old.state.core → PendsIn x store.old.state m Phase.Take → Turned x Phase.Take m store.old.state made m store.new.state) }
+    {
+        store.state.is_whole();
+        match step_take(store) {
+            Ok(Some(made)) => Ok(Some(made)),
+            Ok(None) if self.trap_on_idle => Ok(Some(step_deadlock(store))),
+            Ok(None) => Ok(None),
+            Err(e) => Err(e),
+        }
+    }
+
+    /// Ends the run: it no longer stands on the store.
+    pub fn end<T, H>(self, store: &mut Store<T, H>)
+        ensures { store.new ≡ record store.old { running = false } }
+    {
+        store.set_running(false);
+    }
+}
