@@ -1,6 +1,8 @@
 -- Limits, and one instance more.
 use Rattle.std.proofs.Common.{inl, inr, ◌≡◌, ◌≤◌, ◌+◌, ℕ, List, [], ◌∷◌, ◌++◌, false, nat_le, Option, Some, None, map, length, refl, sym, ap, subst, ◌∙◌, arith}
+use Rattle.std.specs.Option.{option_map}
 use Rattle.std.proofs.lemmas.Bool.Decides.{nat_tests}
+use Rattle.std.proofs.lemmas.Option.{slice_get-map, slice_get_past}
 use Rattle.std.proofs.lemmas.List.{map_push, length-map}
 use Rattle.task_table.specs.Table.{Table, table_len, free_count}
 use Rattle.task_table.specs.Changes.{with_capacity as table_with_capacity}
@@ -22,7 +24,7 @@ use Rattle.task_core.specs.Entries.{thread_key, call_key, set_key, group_key}
 use Rattle.task_core.proofs.WriteLemmas.{KeepsNumbers, AreQueued-keeps, AreGroups-keeps}
 use Rattle.task_core.proofs.CoreLemmas.{inserted}
 use Rattle.task_core.proofs.HandleLemmas.{handle_table-none, live_in-more}
-use Rattle.task_core.proofs.InstanceLemmas.{size-by_place, by_place-push, get-by_place_past}
+use Rattle.task_core.proofs.InstanceLemmas.{size-by_place, by_place-push, get-by_place, get-by_place_past}
 use Rattle.task_core.proofs.InstancePartLemmas.{sound_instances}
 
 -- ---- Limits
@@ -153,3 +155,11 @@ module _ (a : Parts) (s : Shown) (is : image a ≡ s) (sound : Sound a) (n : ℕ
     pub capacity_is : image (record a { table = t }) ≡ with_core (with_capacity n s.core) s
     unfolding table_with_capacity
     capacity_is = subst (λ (s : Shown). image (record a { table = t }) ≡ with_core (with_capacity n s.core) s) is (rw with refl)
+
+-- nothing stands past the instances
+pub none_yet : (a : Parts) (s : Shown) → image a ≡ s → (n : ℕ) → n ≡ length a.instances → get s.core.instances n ≡ None
+none_yet a s is n past =
+    ap (λ (s : Shown). get s.core.instances n) (sym is)
+    ∙ get-by_place n (map (λ (i : InstanceRecord). i.instance) a.instances)
+    ∙ slice_get-map (λ (i : InstanceRecord). i.instance) a.instances n
+    ∙ ap (option_map (λ (i : InstanceRecord). i.instance)) (slice_get_past a.instances n (omega (arith, past)))

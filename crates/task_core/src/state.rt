@@ -1,5 +1,5 @@
-ghost use Rattle.std.specs.Prelude.{◌≡◌, ◌+◌, ◌-◌, ◌^◌, ◌<◌, min, IfOk, OnOk, OnErr};
-ghost use Rattle.task_machine.specs.Maps.{size};
+ghost use Rattle.std.specs.Prelude.{◌≡◌, ◌+◌, ◌-◌, ◌^◌, ◌<◌, min, None, IfOk, OnOk, OnErr};
+ghost use Rattle.task_machine.specs.Maps.{get, size};
 ghost use Rattle.task_core.specs.Shown.{nothing, with_core, with_instance};
 
 use crate::entry::{Entry, GroupKey, QualifiedThreadId};
@@ -97,6 +97,7 @@ impl TaskCore {
     pub fn add_instance(&mut self) -> Result<u32, NoMemory>
         requires { size self.old.core.instances < 4294967295 }
         ensures number { IfOk result (λ i. i ≡ size self.old.core.instances) }
+        ensures fresh { IfOk result (λ i. get self.old.core.instances i ≡ None) }
         ensures ok { OnOk result (self.new ≡ with_core (with_instance self.old.core) self.old) }
         ensures err { OnErr result (self.new ≡ self.old) }
     {

@@ -1,5 +1,5 @@
 -- What the moves of a state come to.
-use Rattle.std.specs.Prelude.{◌≡◌, ℕ, Bool, true, false, Option, Some, None, [], is_some}
+use Rattle.std.specs.Prelude.{◌≡◌, ℕ, Bool, true, false, Some, [], is_some}
 use Rattle.task_machine.specs.declared.records.Call.{Call}
 use Rattle.task_machine.specs.declared.records.Entry.TheVariants as entry
 use Rattle.task_machine.specs.declared.records.Thread.{Thread}

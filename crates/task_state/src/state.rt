@@ -1,14 +1,16 @@
-ghost use Rattle.std.specs.Prelude.{◌≡◌, ◌<◌, ◌≤◌, ◌+◌, ◌^◌, None, true, false, min, is_some, IsSome, IfNone, IfSome, IfOk, OnOk, OnErr};
+ghost use Rattle.std.specs.Prelude.{◌≡◌, ◌<◌, ◌≤◌, ◌+◌, ◌-◌, ◌^◌, ℕ, None, Some, true, false, min, is_some, length, IsSome, IfNone, IfSome, IfOk, OnOk, OnErr};
 ghost use Rattle.task_machine.specs.declared.component.ExportKind.TheVariants as kind;
+ghost use Rattle.task_machine.specs.declared.records.Place.TheVariants as place;
 ghost use Rattle.task_machine.specs.Maps.{get, size};
-ghost use Rattle.task_machine.specs.Read.{fits, has_ended, position_of};
+ghost use Rattle.task_machine.specs.Read.{fits, has_ended, place_of, position_of};
 ghost use Rattle.task_machine.specs.Write.{set_trapped, take_result};
 ghost use Rattle.task_core.specs.Shown.{with_handle_limit, with_instance};
 ghost use Rattle.task_simple.specs.Forms.{call_started, exit_done, return_done, trap_done};
+ghost use Rattle.task_simple.specs.Simple.{IsSimple, NoneRuns};
 ghost use Rattle.task_state.specs.Seen.{nothing_made, with_core, stopped_with};
 ghost use Rattle.task_state.specs.Moves.{IsAbout, Takes, Exits};
 
-use crate::begin::{begin, put_off, refuse};
+use crate::begin::{begin, put_off, refuse, registers_of};
 use crate::taken::Taken;
 use std::alloc::Global;
 use std::marker::Model;
@@ -67,7 +69,8 @@ impl ConcurrentState {
         ensures ok { OnOk result (self.new ≡ with_core (with_instance self.old.core) self.old) }
         ensures err { OnErr result (self.new ≡ self.old) }
     {
-        self.core.add_instance()
+        let number = self.core.add_instance()?;
+        Ok(number)
     }
 
     /// How many threads, host works, sets and groups were made, up to 2^64 - 1.
@@ -114,18 +117,20 @@ impl ConcurrentState {
         self.core.set_handle_limit(handles);
     }
 
-    /// Makes a call by main of a callback export, with these words in the registers of its thread,
-    /// whose number is answered. Its start stands last at high. Where memory is wanting, all calls
-    /// and instances are gone, and the store is trapped.
-    pub fn start_call(&mut self, callee: Callee, registers: [u64; 16]) -> Result<u64, NoMemory>
+    /// Makes a call by main of a callback export with these words, at most 16, and answers the
+    /// number of its thread. Its start stands last at high. Where memory is wanting, all calls and
+    /// instances are gone, and the store is trapped.
+    pub fn start_call(&mut self, callee: Callee, words: &[u64]) -> Result<u64, NoMemory>
         requires made { self.old.core.made.threads + 1 < 2 ^ 64 }
-        requires open { self.old.core.trapped ≡ false }
+        requires untrapped { self.old.core.trapped ≡ false }
         requires there { IsSome (get self.old.core.instances callee.instance) }
+        requires words { length words.now ≤ 16 }
         ensures number { IfOk result (λ n. n ≡ self.old.core.made.threads + 1) }
-        ensures ok { OnOk result (self.new ≡ with_core (call_started callee kind.Callback registers self.old.core) self.old) }
+        ensures ok { OnOk result (self.new ≡ with_core (call_started callee kind.Callback words.now self.old.core) self.old) }
         ensures err { OnErr result (self.new.core.trapped ≡ true) }
     {
         let _ = self.core.has_instance(callee.instance);
+        let registers = registers_of(words);
         match self
             .core
             .start_call(callee, ExportKind::Callback, registers)
@@ -159,10 +164,17 @@ impl ConcurrentState {
             refuse(&mut self.core, id);
             return Ok(Taken::NoHandle(number));
         }
-        match begin(&mut self.core, id, instance) {
-            Ok(()) => Ok(Taken::Runs(number)),
-            Err(_) => Err(NoMemory),
-        }
+        begin(&mut self.core, id, instance)?;
+        Ok(Taken::Runs(number))
+    }
+
+    /// The state is one that lies between two steps of scripts of `ret` and `exit`; for proofs alone.
+    pub fn is_whole(&self)
+        ensures simple { IsSimple self.now.core }
+        ensures none { self.now.running ≡ None → NoneRuns self.now.core }
+        ensures some { (n : ℕ) → self.now.running ≡ Some n → place_of n self.now.core ≡ Some place.Running }
+    {
+        let _ = self.core.trapped();
     }
 
     /// What the running thread is about to do, if one runs.
@@ -173,11 +185,12 @@ impl ConcurrentState {
         let id = self.core.current()?;
         let thread = self.core.thread(id.thread);
         let call = self.core.call(id.task);
+        let registers = thread.registers;
         Some(Running {
             number: self.core.number(id.thread),
             callee: call.callee,
             position: thread.position,
-            registers: thread.registers,
+            registers,
             ended: call.end.is_some(),
         })
     }
@@ -186,7 +199,7 @@ impl ConcurrentState {
     /// thread goes on after its op. Where memory is wanting, the state is as before.
     pub fn return_value(&mut self, value: u64) -> Result<(), NoMemory>
         requires runs { IsSome self.old.running }
-        requires open { IfSome self.old.running (λ n. has_ended n self.old.core ≡ false) }
+        requires unended { IfSome self.old.running (λ n. has_ended n self.old.core ≡ false) }
         requires position { IfSome self.old.running (λ n. position_of n self.old.core + 1 < 2 ^ 32) }
         ensures ok { OnOk result (IfSome self.old.running (λ n. self.new ≡ with_core (return_done n value self.old.core) self.old)) }
         ensures err { OnErr result (self.new ≡ self.old) }
@@ -195,11 +208,10 @@ impl ConcurrentState {
             unreachable!()
         };
         let number = self.core.number(id.thread);
-        match self.core.give_result(number, value) {
-            Ok(()) => {}
-            Err(_) => return Err(NoMemory),
-        }
         let position = self.core.thread(id.thread).position;
+        let Ok(()) = self.core.give_result(number, value) else {
+            return Err(NoMemory);
+        };
         self.core.set_end(id.task, CallEnd::Returned);
         self.core.set_position(id.thread, position + 1);
         Ok(())
@@ -247,6 +259,7 @@ impl ConcurrentState {
         ensures taken { IsSome result → self.new ≡ with_core (take_result call self.old.core) self.old }
         ensures none { IfNone result (self.new ≡ self.old) }
     {
-        self.core.take_result(call)
+        let value = self.core.take_result(call)?;
+        Some(value)
     }
 }

@@ -1,0 +1,26 @@
+use Rattle.std.proofs.Common.{◌≡◌, ◌∙◌, ap, sym, true}
+use Rattle.std.specs.Prelude.{is_some}
+use Rattle.task_machine.specs.declared.component.ExportKind.TheVariants as kind
+use Rattle.task_machine.specs.Maps.{get}
+use Rattle.task_simple.specs.Forms.{call_started}
+use Rattle.task_state.specs.Seen.{Seen, with_core}
+use Rattle.task_state.proofs.StateLemmas as whole
+use Rattle.task_state.proofs.state.ConcurrentState.start_call.Goals as goal
+
+pub invariant_of-self : goal.invariant_of-self
+invariant_of-self c =
+    let there : is_some (get c.self.inside.core.core.instances c.args.callee.instance) ≡ true = whole.true_there c.self.inside.core _ c.args.callee.instance c.self.view_is c.requires.there in
+    whole.whole_started c.self.inside.core c.start_call.new.self c.args.callee c.args.words.now c.self.invariant c.in-Ok.ensures.tags c.in-Ok.ensures.current
+    (ap (λ (s : Seen). s.core.trapped) c.self.view_is ∙ c.requires.untrapped) there (sym c.has_instance.ensures.table ∙ c.has_instance.ensures.is ∙ there)
+    (c.in-Ok.ensures.core ∙ whole.started_is c.args.callee _ c.args.words.now c.self.inside.core.core c.registers_of-registers.ensures c.self.invariant.simple)
+
+pub invariant_of-self-in-Err : goal.invariant_of-self-in-Err
+invariant_of-self-in-Err c = whole.whole_dropped c.new.result c.set_trapped.new.self c.new.ensures c.set_trapped.ensures.core c.set_trapped.ensures.current
+
+pub returns-in-Ok-clause-ok : goal.returns-in-Ok-clause-ok
+returns-in-Ok-clause-ok c =
+    whole.seen_still c.self.inside.core c.start_call.new.self c.self.invariant c.in-Ok.ensures.tags c.in-Ok.ensures.current _ (c.in-Ok.ensures.core ∙ whole.started_is c.args.callee _ c.args.words.now c.self.inside.core.core c.registers_of-registers.ensures c.self.invariant.simple)
+    ∙ ap (λ (s : Seen). with_core (call_started c.args.callee kind.Callback c.args.words.now s.core) s) c.self.view_is
+
+pub returns-in-Err-clause-err : goal.returns-in-Err-clause-err
+returns-in-Err-clause-err c = whole.trapped_dropped c.new.result c.set_trapped.new.self c.set_trapped.ensures.core
