@@ -2,7 +2,7 @@ ghost use Rattle.std.specs.Prelude.{◌≡◌, ◌<◌, ◌≤◌, ◌+◌, ◌-
 ghost use Rattle.task_machine.specs.declared.component.ExportKind.TheVariants as kind;
 ghost use Rattle.task_machine.specs.declared.records.Place.TheVariants as place;
 ghost use Rattle.task_machine.specs.Maps.{get, size};
-ghost use Rattle.task_machine.specs.Read.{fits, has_ended, place_of, position_of};
+ghost use Rattle.task_machine.specs.Read.{fits, has_ended, is_nil, place_of, position_of};
 ghost use Rattle.task_machine.specs.Write.{set_trapped, take_result};
 ghost use Rattle.task_core.specs.Shown.{with_handle_limit, with_instance};
 ghost use Rattle.task_simple.specs.Forms.{call_started, exit_done, return_done, trap_done};
@@ -141,6 +141,16 @@ impl ConcurrentState {
                 self.core.set_trapped();
                 Err(NoMemory)
             }
+        }
+    }
+
+    /// Whether no entry stands that is to be taken.
+    pub fn is_drained(&self) -> bool
+        ensures { result ≡ is_nil self.now.core.queues.high }
+    {
+        match self.core.next_item() {
+            Some(_) => false,
+            None => true,
         }
     }
 

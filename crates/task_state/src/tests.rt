@@ -16,6 +16,7 @@ fn a_call_runs_to_its_end(rt: HostRuntime) -> Result<(), Fail> {
     assert!(rt; state.has_room(4));
     assert_eq!(rt; state.start_call(CALLEE, &[7]), Ok(1));
     assert_eq!(rt; state.given(), 2);
+    assert!(rt; !state.is_drained());
     assert_eq!(rt; state.take_start(), Ok(Taken::Runs(1)));
     let running = state.running().ok_or("a thread")?;
     assert_eq!(rt; running.number, 1);
@@ -23,6 +24,7 @@ fn a_call_runs_to_its_end(rt: HostRuntime) -> Result<(), Fail> {
     assert_eq!(rt; state.return_value(9), Ok(()));
     state.exit();
     assert!(rt; state.running().is_none());
+    assert!(rt; state.is_drained());
     assert_eq!(rt; state.take_result(1), Some(9));
     assert_eq!(rt; state.take_result(1), None);
     assert_eq!(rt; state.take_start(), Ok(Taken::Nothing));
