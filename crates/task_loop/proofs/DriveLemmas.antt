@@ -22,7 +22,7 @@ use Rattle.task_loop.specs.declared.step.Phase.{Phase}
 use Rattle.task_loop.specs.Drive.{Going, Drives, Drove}
 use Rattle.task_loop.specs.Fit.{Fits, given}
 use Rattle.task_loop.specs.Main.{state_at}
-use Rattle.task_loop.specs.Seen.{Seen}
+use Rattle.task_state.specs.Seen.{Seen}
 use Rattle.task_loop.specs.Turn.{PendsIn, Turned, Turns, goes_on, is_open, runs_in, turn_of}
 
 -- a run and then one more step

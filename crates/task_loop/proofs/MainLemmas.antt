@@ -26,7 +26,7 @@ use Rattle.task_loop.specs.declared.step.Phase.TheVariants as phase
 use Rattle.task_loop.specs.Fit.{Fits, given}
 use Rattle.task_loop.specs.Made.{made_by_main}
 use Rattle.task_loop.specs.Main.{Answers, Did, IsOpOfMain, Pends, Steps, state_at, main_setting}
-use Rattle.task_loop.specs.Seen.{Seen}
+use Rattle.task_state.specs.Seen.{Seen}
 use Rattle.task_loop.specs.Turn.{Turns}
 use Rattle.task_loop.proofs.GivenLemmas.{main_few}
 

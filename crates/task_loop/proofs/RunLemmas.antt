@@ -28,15 +28,15 @@ use Rattle.task_rules.specs.Step.{trap_label}
 use Rattle.task_simple.specs.Forms.{exit_done, return_done, trap_done}
 use Rattle.task_simple.specs.Simple.{IsPlain, IsSimple}
 use Rattle.task_simple.proofs.FoundLemmas.{end_found, instance_found, op_found, position_found, value_found}
-use Rattle.task_loop.specs.declared.state.Running.{Running}
+use Rattle.task_state.specs.declared.state.Running.{Running}
 use Rattle.task_loop.specs.declared.step.Made.{Made}
 use Rattle.task_loop.specs.declared.step.Phase.{Phase}
 use Rattle.task_loop.specs.declared.step.Phase.TheVariants as phase
 use Rattle.task_loop.specs.Calls.{Returns, return_refusal}
 use Rattle.task_loop.specs.Fit.{Fits, IsFirstComponent, is_first_op}
 use Rattle.task_loop.specs.Made.{IsReturn, op_of_return}
-use Rattle.task_loop.specs.Moves.{Exits, IsAbout}
-use Rattle.task_loop.specs.Seen.{Seen, stopped_with, with_core}
+use Rattle.task_state.specs.Moves.{Exits, IsAbout}
+use Rattle.task_state.specs.Seen.{Seen, stopped_with, with_core}
 use Rattle.task_loop.specs.Turn.{Makes}
 use Rattle.task_loop.proofs.FitLemmas.{fits-return}
 use Rattle.task_loop.proofs.StepLemmas.{exits_early, exits_now, returns_now, returns_twice}

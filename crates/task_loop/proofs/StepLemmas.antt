@@ -32,13 +32,13 @@ use Rattle.task_simple.proofs.StepLemmas.{run_exit, run_exit_early, run_return, 
 use Rattle.task_loop.specs.declared.step.Made.{Made}
 use Rattle.task_loop.specs.declared.step.Phase.{Phase}
 use Rattle.task_loop.specs.declared.step.Phase.TheVariants as phase
-use Rattle.task_loop.specs.declared.taken.Taken.{Taken}
-use Rattle.task_loop.specs.declared.taken.Taken.TheVariants as taken
+use Rattle.task_state.specs.declared.taken.Taken.{Taken}
+use Rattle.task_state.specs.declared.taken.Taken.TheVariants as taken
 use Rattle.task_loop.specs.Fit.{Fits, given}
 use Rattle.task_loop.specs.Made.{Took, made_by}
 use Rattle.task_loop.specs.Main.{state_at}
-use Rattle.task_loop.specs.Moves.{Takes}
-use Rattle.task_loop.specs.Seen.{Seen, stopped_with, with_core}
+use Rattle.task_state.specs.Moves.{Takes}
+use Rattle.task_state.specs.Seen.{Seen, stopped_with, with_core}
 use Rattle.task_loop.specs.Turn.{Makes, PendsIn, Turns, is_open, runs_in, turn_of}
 use Rattle.task_loop.proofs.FitLemmas.{fits-exit, fits-popped, fits-put_off, fits-set_trapped, fits-start, fits-trap}
 

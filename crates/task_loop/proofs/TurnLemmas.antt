@@ -20,7 +20,7 @@ use Rattle.task_loop.specs.declared.step.Phase.{Phase}
 use Rattle.task_loop.specs.declared.step.Phase.TheVariants as phase
 use Rattle.task_loop.specs.Fit.{Fits}
 use Rattle.task_loop.specs.Main.{state_at}
-use Rattle.task_loop.specs.Seen.{Seen}
+use Rattle.task_state.specs.Seen.{Seen}
 use Rattle.task_loop.specs.Turn.{Makes, PendsIn, Turned, Turns, idle_line_of, setting_of, turn_of}
 
 -- ---- Where nothing can go on

@@ -14,7 +14,7 @@ use Rattle.task_rules.specs.MainOps.{main_started}
 use Rattle.task_simple.specs.Forms.{return_done}
 use Rattle.task_loop.specs.declared.call.Func.{Func}
 use Rattle.task_loop.specs.declared.call.FuncCallConcurrent.{FuncCallConcurrent}
-use Rattle.task_loop.specs.Seen.{Seen, with_core}
+use Rattle.task_state.specs.Seen.{Seen, with_core}
 
 abbrev pub callee_of : Func → Callee
 callee_of f = record { instance = f.instance.index; export = f.export }

@@ -9,7 +9,7 @@ use Rattle.task_rules.specs.Outcome.{last_outcome, IsOutcome}
 use Rattle.task_loop.specs.declared.step.Phase.{Phase}
 use Rattle.task_loop.specs.Fit.{Fits, given}
 use Rattle.task_loop.specs.Main.{state_at}
-use Rattle.task_loop.specs.Seen.{Seen}
+use Rattle.task_state.specs.Seen.{Seen}
 use Rattle.task_loop.specs.Turn.{PendsIn, goes_on, is_open, runs_in, turn_of}
 
 -- A run of n labels was added, of which the last gives no outcome.

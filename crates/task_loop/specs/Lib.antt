@@ -1,6 +1,3 @@
-pub mod Seen
-pub mod State
-pub mod Moves
 pub mod Fit
 pub mod Main
 pub mod Calls

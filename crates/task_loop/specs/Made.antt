@@ -18,10 +18,10 @@ use Rattle.task_loop.specs.declared.main_task.MainStep.{MainStep}
 use Rattle.task_loop.specs.declared.main_task.MainStep.TheVariants as main_step
 use Rattle.task_loop.specs.declared.step.Made.{Made}
 use Rattle.task_loop.specs.declared.step.Phase.TheVariants as phase
-use Rattle.task_loop.specs.declared.taken.Taken.{Taken}
-use Rattle.task_loop.specs.declared.taken.Taken.TheVariants as taken
+use Rattle.task_state.specs.declared.taken.Taken.{Taken}
+use Rattle.task_state.specs.declared.taken.Taken.TheVariants as taken
 use Rattle.task_loop.specs.Fit.{Fits}
-use Rattle.task_loop.specs.Seen.{Seen}
+use Rattle.task_state.specs.Seen.{Seen}
 use Rattle.task_loop.specs.Turn.{Makes}
 
 abbrev pub made_by_main : MainStep → Made

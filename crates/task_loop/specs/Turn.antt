@@ -17,7 +17,7 @@ use Rattle.task_loop.specs.declared.step.Phase.{Phase}
 use Rattle.task_loop.specs.declared.step.Phase.TheVariants as phase
 use Rattle.task_loop.specs.Fit.{Fits, given}
 use Rattle.task_loop.specs.Main.{state_at}
-use Rattle.task_loop.specs.Seen.{Seen}
+use Rattle.task_state.specs.Seen.{Seen}
 
 abbrev pub turn_of : Phase → Turn
 turn_of phase.Main = turn.Main

@@ -1,14 +1,14 @@
 ghost use Rattle.std.specs.Prelude.{◌≡◌, ◌≢◌, ◌<◌, ◌≤◌, ◌^◌, Err, length, IsSome, IfSome};
 ghost use Rattle.task_rules.specs.MainOps.{start_refusal};
-ghost use Rattle.task_rules.specs.Scripts.{export_at, registers_for};
+ghost use Rattle.task_rules.specs.Scripts.{export_at};
 ghost use Rattle.task_machine.specs.Write.{set_trapped};
-ghost use Rattle.task_loop.specs.Seen.{with_core};
+ghost use Rattle.task_state.specs.Seen.{with_core};
 ghost use Rattle.task_loop.specs.Fit.{IsFirstComponent, Fits, given};
 ghost use Rattle.task_loop.specs.Calls.{callee_of, Starts, Finishes};
 
 use crate::component::export_def;
 use crate::instance::Instance;
-use crate::store::Store;
+use task_store::Store;
 use futures::task::Poll;
 use task_core::TaskError;
 use task_machine::{Callee, Component, Trap};
@@ -33,16 +33,6 @@ impl FuncCallConcurrent {
     {
         self.thread
     }
-}
-
-// The registers of a thread that is called with these words.
-fn registers_of(params: &[u64]) -> [u64; 16]
-    requires { length params.now ≤ 16 }
-    ensures { result ≡ registers_for params.now }
-{
-    let mut registers = [0; 16];
-    registers[..params.len()].copy_from_slice(params);
-    registers
 }
 
 // The start is refused, and the store is trapped.
@@ -103,10 +93,7 @@ impl Func {
         if !store.state.has_room(4) {
             return Err(refuse(store, Trap::TableFull));
         }
-        match store
-            .state
-            .start_call(self.callee(), registers_of(params))
-        {
+        match store.state.start_call(self.callee(), params) {
             Ok(thread) => Ok(FuncCallConcurrent { thread }),
             Err(_) => Err(TaskError::NoMemory),
         }

@@ -1,29 +1,20 @@
 //! The event loop: main and the threads take their steps, and each step adds a label to a trace.
 #![tactic(auto)]
 
-mod access;
-mod begin;
 mod call;
 mod component;
 mod instance;
 mod main_task;
 mod run;
-mod state;
 mod step;
-mod store;
-mod taken;
 mod trace;
 
-pub use access::{Access, Project, Whole};
 pub use call::{Func, FuncCallConcurrent};
 pub use component::{operand_value, script_op};
 pub use instance::Instance;
 pub use main_task::{MainStep, MainTask};
 pub use run::{RunConcurrent, run_concurrent};
-pub use state::{ConcurrentState, Running};
 pub use step::{Made, Phase};
-pub use store::{ComponentInstanceId, Store};
-pub use taken::Taken;
 pub use task_core::{NoMemory, TaskError};
 pub use task_machine::{
     Callee, Component, ExportDef, HostDef, InstanceDef, Label, Op, Operand, Outcome, Slot,

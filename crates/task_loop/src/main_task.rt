@@ -4,7 +4,7 @@ ghost use Rattle.task_machine.specs.declared.scenario.MainOp.{MainOp};
 ghost use Rattle.task_loop.specs.Fit.{IsFirstComponent, Fits, given};
 ghost use Rattle.task_loop.specs.Main.{Steps};
 
-use crate::access::{Access, Whole};
+use task_store::{Access, Whole};
 use task_core::TaskError;
 use task_machine::{Component, Label};
 
@@ -28,7 +28,10 @@ pub trait MainTask<T, H> {
     // The ops, where main is a script.
     ghost script: { Self → List MainOp };
 
-    /// Takes the next op, in a store that fits the component and in which fewer than 2^61 - 4
+    // What main needs of the component, as that the exports that a script names are there.
+    ghost suits: { Self → Component → Type 0 };
+
+    /// Takes the next op, in a store that fits the component, which suits main, and in which fewer than 2^61 - 4
     /// numbers were given. The label of an op that is done is lawful, and store and main are as it
     /// leaves them; else they are as before. It answers no error but want of memory, after which
     /// nothing is said of either.
@@ -39,9 +42,11 @@ pub trait MainTask<T, H> {
     ) -> Result<MainStep, TaskError>
         requires first { IsFirstComponent component.now }
         requires fits { Fits component.now access.old.store.now.state.core }
+        requires suits { suits self.old component.now }
         requires given { given access.old.store.now.state.core + 4 < 2 ^ 61 }
         ensures same { access.new.store.ghost_name ≡ access.old.store.ghost_name }
         ensures script { script self.new ≡ script self.old }
+        ensures suits { OnOk result (suits self.new component.now) }
         ensures current { OnOk result (access.new.store.now.state.running ≡ access.old.store.now.state.running) }
         ensures fits { OnOk result (Fits component.now access.new.store.now.state.core) }
         ensures ok { IfOk result (λ step. Steps component.now (script self.old) (part self.old) access.old.store.now.state.core step (part self.new) access.new.store.now.state.core) }

@@ -9,7 +9,7 @@ ghost use Rattle.task_loop.specs.Turn.{PendsIn, Turned, goes_on, idle_line_of, i
 
 use crate::main_task::MainTask;
 use crate::step::{Made, Phase, step_deadlock, step_main, step_run, step_take};
-use crate::store::Store;
+use task_store::Store;
 use crate::trace::Trace;
 use task_core::NoMemory;
 use task_machine::{CallLabel, Component, Label, LoopLabel, MainLabel, Outcome, Trap};
@@ -77,11 +77,13 @@ impl RunConcurrent {
     ) -> Result<Outcome, NoMemory>
         requires first { IsFirstComponent component.now }
         requires fits { Fits component.now store.old.state.core }
+        requires suits { M.suits main.old component.now }
         requires given { given store.old.state.core ≤ 2 ^ 60 }
         requires current { store.old.state.running ≡ runs_in self.old.phase }
         requires unfinished { is_open self.old.phase ≡ true }
         requires pends { PendsIn (setting_of component.now (M.script main.old) self.old.trap_on_idle) store.old.state (M.part main.old) self.old.phase }
         ensures script { M.script main.new ≡ M.script main.old }
+        ensures suits { OnOk result (M.suits main.new component.now) }
         ensures idle { self.new.trap_on_idle ≡ self.old.trap_on_idle }
         ensures ok { IfOk result (λ outcome. Drives (setting_of component.now (M.script main.old) self.old.trap_on_idle) (state_at store.old.state.core (M.part main.old) (turn_of self.old.phase)) trace.old (state_at store.new.state.core (M.part main.new) (turn_of self.new.phase)) trace.new steps outcome) }
         ensures unfinished { IfOk result (λ outcome. is_open self.new.phase ≡ goes_on outcome) }
@@ -111,11 +113,13 @@ impl RunConcurrent {
     ) -> Result<Outcome, NoMemory>
         requires first { IsFirstComponent component.now }
         requires fits { Fits component.now store.old.state.core }
+        requires suits { M.suits main.old component.now }
         requires given { given store.old.state.core ≤ 2 ^ 60 }
         requires current { store.old.state.running ≡ runs_in self.old.phase }
         requires unfinished { is_open self.old.phase ≡ true }
         requires pends { PendsIn (setting_of component.now (M.script main.old) self.old.trap_on_idle) store.old.state (M.part main.old) self.old.phase }
         ensures script { M.script main.new ≡ M.script main.old }
+        ensures suits { OnOk result (M.suits main.new component.now) }
         ensures idle { self.new.trap_on_idle ≡ self.old.trap_on_idle }
         ensures ok { IfOk result (λ outcome. Drove (setting_of component.now (M.script main.old) self.old.trap_on_idle) (state_at store.old.state.core (M.part main.old) (turn_of self.old.phase)) trace.old (given store.old.state.core) self.new.phase (M.part main.new) store.new.state trace.new steps outcome) }
     {
@@ -160,11 +164,13 @@ impl RunConcurrent {
     ) -> Result<Option<Made>, NoMemory>
         requires first { IsFirstComponent component.now }
         requires fits { Fits component.now store.old.state.core }
+        requires suits { M.suits main.old component.now }
         requires given { given store.old.state.core + 4 < 2 ^ 61 }
         requires current { store.old.state.running ≡ runs_in self.now.phase }
         requires unfinished { is_open self.now.phase ≡ true }
         requires pends { PendsIn (setting_of component.now (M.script main.old) self.now.trap_on_idle) store.old.state (M.part main.old) self.now.phase }
         ensures script { M.script main.new ≡ M.script main.old }
+        ensures suits { OnOk result (M.suits main.new component.now) }
         ensures turned { IfOk result (λ made. Turned (setting_of component.now (M.script main.old) self.now.trap_on_idle) self.now.phase (M.part main.old) store.old.state made (M.part main.new) store.new.state) }
     {
         match self.phase {

@@ -5,20 +5,20 @@ ghost use Rattle.task_rules.specs.Scripts.{op_of, script_in};
 ghost use Rattle.task_rules.specs.Stalled.{Setting, main_pends};
 ghost use Rattle.task_rules.specs.Step.{trap_label};
 ghost use Rattle.task_simple.specs.Forms.{trap_done};
-ghost use Rattle.task_loop.specs.Seen.{stopped_with};
-ghost use Rattle.task_loop.specs.Moves.{IsAbout};
+ghost use Rattle.task_state.specs.Seen.{stopped_with};
+ghost use Rattle.task_state.specs.Moves.{IsAbout};
 ghost use Rattle.task_loop.specs.Fit.{IsFirstComponent, Fits, given, is_first_op};
 ghost use Rattle.task_loop.specs.Main.{Steps};
 ghost use Rattle.task_loop.specs.Turn.{Makes, Turns};
 ghost use Rattle.task_loop.specs.Made.{made_by, made_by_main, op_of_return, IsReturn, Took};
 
-use crate::access::Access;
+use task_store::Access;
 use crate::component::{operand_value, script_op};
 use crate::instance::Instance;
 use crate::main_task::{MainStep, MainTask};
-use crate::state::Running;
-use crate::store::Store;
-use crate::taken::Taken;
+use task_state::Running;
+use task_store::Store;
+use task_state::Taken;
 use task_core::{NoMemory, TaskError};
 use task_machine::{
     Component, IdleLine, Label, LoopLabel, MainLabel, Mark, Op, Operand, Script, TakeLabel,
@@ -71,9 +71,11 @@ pub fn step_main<T, H, M: MainTask<T, H>>(
 ) -> Result<Made, NoMemory>
     requires first { IsFirstComponent component.now }
     requires fits { Fits component.now store.old.state.core }
+    requires suits { M.suits main.old component.now }
     requires given { given store.old.state.core + 4 < 2 ^ 61 }
     requires current { store.old.state.running ≡ None }
     ensures script { M.script main.new ≡ M.script main.old }
+    ensures suits { OnOk result (M.suits main.new component.now) }
     ensures ok { IfOk result (λ made. (x : Setting) → x.component ≡ component.now → x.script ≡ M.script main.old → Turns x Phase.Main (M.part main.old) store.old.state made (M.part main.new) store.new.state) }
 {
     store.state.is_whole();
@@ -91,8 +93,10 @@ fn ask_main<T, H, M: MainTask<T, H>>(
 ) -> Result<MainStep, TaskError>
     requires first { IsFirstComponent component.now }
     requires fits { Fits component.now store.old.state.core }
+    requires suits { M.suits main.old component.now }
     requires given { given store.old.state.core + 4 < 2 ^ 61 }
     ensures script { M.script main.new ≡ M.script main.old }
+    ensures suits { OnOk result (M.suits main.new component.now) }
     ensures current { OnOk result (store.new.state.running ≡ store.old.state.running) }
     ensures fits { OnOk result (Fits component.now store.new.state.core) }
     ensures ok { IfOk result (λ step. Steps component.now (M.script main.old) (M.part main.old) store.old.state.core step (M.part main.new) store.new.state.core) }

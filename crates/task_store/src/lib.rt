@@ -1,11 +1,12 @@
-//! A store: the host's value, the calls and threads in it, and whether it is trapped.
+//! A store: the host's value, and the calls and threads in it.
 #![tactic(auto)]
 
 mod access;
 mod store;
 
 pub use access::{Access, Project, Whole};
-pub use store::{ComponentInstanceId, NoMemory, Store};
+pub use store::{ComponentInstanceId, Store};
+pub use task_state::NoMemory;
 
 #[cfg(test)]
 mod tests;

@@ -7,8 +7,7 @@ fn a_store_numbers_its_instances(rt: HostRuntime) -> Result<(), Fail> {
     assert_eq!(rt; store.add_instance(), Ok(ComponentInstanceId(0)));
     assert_eq!(rt; store.add_instance(), Ok(ComponentInstanceId(1)));
     assert_eq!(rt; store.given(), 0);
-    assert!(rt; store.state_mut().take_high().is_none());
-    assert_eq!(rt; store.state().given(), 0);
+    assert!(rt; store.state.is_drained());
     Ok(())
 }
 
@@ -18,6 +17,7 @@ fn a_store_is_trapped_once_and_for_all(rt: HostRuntime) {
     assert!(rt; !store.trapped());
     store.set_trapped();
     assert!(rt; store.trapped());
+    assert!(rt; !store.running());
     store.set_running(true);
     assert!(rt; store.running());
 }

@@ -1,5 +1,5 @@
 -- An exit after the return is one of the machine, and one before it traps.
-use Rattle.task_loop.specs.Moves.{Exits}
+use Rattle.task_state.specs.Moves.{Exits}
 use Rattle.task_loop.proofs.RunLemmas.{exited, exited_early, if_some, makes_same}
 use Rattle.task_loop.proofs.step.exits.Goals as goal
 

@@ -35,6 +35,7 @@ turns-preserved g c =
     let turned = turned_same c.args.component.now (script c.turns.main) (script c.args.main.now) c.turns.self.trap_on_idle c.args.self.now.trap_on_idle c.turns.self.phase (part c.turns.main) c.turns.store.state (Some c.in-Some.made) (part c.turn.new.main) c.turn.new.store.state c.turns.invariant.script c.turns.invariant.idle (rw c.in-Some.is at c.in_ok-made.ensures.turned) in
     record {
       script = c.in_ok-made.ensures.script ∙ c.turns.invariant.script;
+      suits = c.in_ok-made.ensures.suits;
       idle = c.turns.invariant.idle;
       on = on_more x (state_at s.core (part c.args.main.now) (turn_of c.args.self.now.phase)) c.args.trace.now (given s.core) c.turns.self.phase (part c.turns.main) c.turns.store.state c.turns.trace c.turns._added c.turns.invariant.on c.in-Some.made (part c.turn.new.main) c.turn.new.store.state turned c.push.new.self c.in-Ok.ensures.ok (sym c.in_default-outcome_of.ensures);
     }
