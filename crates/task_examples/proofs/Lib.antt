@@ -17,3 +17,5 @@ pub mod Generated5Shown
 pub mod Generated6Shown
 pub mod Generated7Shown
 pub mod Generated8Shown
+pub mod Generated9Shown
+pub mod Generated10Shown

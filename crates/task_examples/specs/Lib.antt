@@ -18,3 +18,5 @@ pub mod Generated5
 pub mod Generated6
 pub mod Generated7
 pub mod Generated8
+pub mod Generated9
+pub mod Generated10

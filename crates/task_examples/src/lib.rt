@@ -4,6 +4,7 @@
 pub mod calls;
 pub mod cancels;
 pub mod generated1;
+pub mod generated10;
 pub mod generated2;
 pub mod generated3;
 pub mod generated4;
@@ -11,6 +12,7 @@ pub mod generated5;
 pub mod generated6;
 pub mod generated7;
 pub mod generated8;
+pub mod generated9;
 pub mod guests;
 pub mod hosts;
 pub mod limits;
