@@ -9,6 +9,8 @@ pub mod LimitsShown
 pub mod RequestsShown
 pub mod ThreadsShown
 pub mod StrandsShown
+pub mod ChecksShown
+pub mod SubtasksShown
 pub mod Generated1Shown
 pub mod Generated2Shown
 pub mod Generated3Shown

@@ -10,6 +10,8 @@ pub mod Limits
 pub mod Requests
 pub mod Threads
 pub mod Strands
+pub mod Checks
+pub mod Subtasks
 pub mod Generated1
 pub mod Generated2
 pub mod Generated3

@@ -3,6 +3,7 @@
 
 pub mod calls;
 pub mod cancels;
+pub mod checks;
 pub mod generated1;
 pub mod generated10;
 pub mod generated2;
@@ -19,5 +20,6 @@ pub mod limits;
 pub mod requests;
 pub mod sets;
 pub mod strands;
+pub mod subtasks;
 pub mod threads;
 pub mod wakes;
