@@ -1,0 +1,8 @@
+//! Laws of the component machine that hold of each state that a run comes to, where the scripts
+//! keep to the grammar: the ops that end an activation stand in callback exports alone. Each
+//! function here is the statement of a law, about the rules that `task_rules` defines.
+#![tactic(auto)]
+
+mod rises;
+
+pub use rises::{statuses_rise};
