@@ -1,2 +1,4 @@
 pub mod EachLemmas
 pub mod SoundLemmas
+pub mod SoundFields
+pub mod SoundWords

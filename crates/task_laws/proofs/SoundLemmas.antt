@@ -82,7 +82,7 @@ pub record Sound (x : Component) (b : Core) (e : ℕ) (s : Core) : Type 0 where
   pub later : CallsRise b s
   pub callbacks : (n : ℕ) → n ≤ b.made.threads → IsOfCallback b.threads b.calls n → IsOfCallback s.threads s.calls n
 
-true_is_not_false : true ≡ false → ⊥
+pub true_is_not_false : true ≡ false → ⊥
 true_is_not_false h = grind (h, arith)
 
 same_number : (n : ℕ) → (n == n) ≡ true
@@ -264,9 +264,9 @@ end_rises c v unended first = record {
 
 -- ---- The words
 
-module _ {x : Component} {b : Core} {e : ℕ} where
+module _ {component : Component} {base : Core} {ending : ℕ} where
   -- the record of a thread is changed in a field that doesn't matter here, or in its place
-  pub thread_touched : (n : ℕ) (f : Thread → Thread) {s : Core} → ((t : Thread) → (f t).call ≡ t.call) → ((t : Thread) → (f t).explicit ≡ t.explicit) → ((t : Thread) → get s.threads n ≡ Some t → ThreadSound s.calls s.made.threads n t → is_delivered (f t).place ≡ true → is_callback (kind_in s.calls t.call) ≡ true) → Sound x b e s → Sound x b e (on_thread n f s)
+  pub thread_touched : (n : ℕ) (f : Thread → Thread) {s : Core} → ((t : Thread) → (f t).call ≡ t.call) → ((t : Thread) → (f t).explicit ≡ t.explicit) → ((t : Thread) → get s.threads n ≡ Some t → ThreadSound s.calls s.made.threads n t → is_delivered (f t).place ≡ true → is_callback (kind_in s.calls t.call) ≡ true) → Sound component base ending s → Sound component base ending (on_thread n f s)
   unfolding on_thread
   thread_touched n f {s = s} same_call same_explicit at_place q = record {
     counted = q.counted;
@@ -277,13 +277,13 @@ module _ {x : Component} {b : Core} {e : ℕ} where
       delivers = λ at. ap (λ c. is_callback (kind_in s.calls c)) (same_call t) ∙ at_place t is h at;
     });
     calls = q.calls;
-    gone = each_map (GoneAtEnd s.threads e) (GoneAtEnd (change n f s.threads) e) s.calls (λ k c is h lifted other ended. change_none s.threads n f k ∙ h lifted other ended) q.gone;
+    gone = each_map (GoneAtEnd s.threads ending) (GoneAtEnd (change n f s.threads) ending) s.calls (λ k c is h lifted other ended. change_none s.threads n f k ∙ h lifted other ended) q.gone;
     later = q.later;
     callbacks = λ m below h. ap (λ c. is_callback (kind_in s.calls c)) (change_read (λ t. t.call) 0 s.threads n f same_call m) ∙ q.callbacks m below h;
   }
 
   -- the record of a call is changed
-  pub call_changed : (k : ℕ) (f : Call → Call) {s : Core} → ((c : Call) → (f c).kind ≡ c.kind) → ((c : Call) → get s.calls k ≡ Some c → CallSound x s.made.threads k c → CallSound x s.made.threads k (f c)) → ((c : Call) → get s.calls k ≡ Some c → GoneAtEnd s.threads e k c → GoneAtEnd s.threads e k (f c)) → ((c : Call) → get s.calls k ≡ Some c → Rises c (f c)) → Sound x b e s → Sound x b e (on_call k f s)
+  pub call_changed : (k : ℕ) (f : Call → Call) {s : Core} → ((c : Call) → (f c).kind ≡ c.kind) → ((c : Call) → get s.calls k ≡ Some c → CallSound component s.made.threads k c → CallSound component s.made.threads k (f c)) → ((c : Call) → get s.calls k ≡ Some c → GoneAtEnd s.threads ending k c → GoneAtEnd s.threads ending k (f c)) → ((c : Call) → get s.calls k ≡ Some c → Rises c (f c)) → Sound component base ending s → Sound component base ending (on_call k f s)
   unfolding on_call
   call_changed k f {s = s} keeps_kind sound gone rise q =
       let same_kind : (n : ℕ) → kind_in (change k f s.calls) n ≡ kind_in s.calls n = change_read (λ c. c.kind) kind.Callback s.calls k f keeps_kind in
@@ -295,19 +295,19 @@ module _ {x : Component} {b : Core} {e : ℕ} where
           own = h.own;
           delivers = λ at. ap (λ c. is_callback c) (same_kind t.call) ∙ h.delivers at;
         }) q.threads;
-        calls = each_change (CallSound x s.made.threads) s.calls k f q.calls sound;
-        gone = each_change (GoneAtEnd s.threads e) s.calls k f q.gone gone;
-        later = λ n below. later_change s.calls k f rise n (get b.calls n) (q.later n below);
+        calls = each_change (CallSound component s.made.threads) s.calls k f q.calls sound;
+        gone = each_change (GoneAtEnd s.threads ending) s.calls k f q.gone gone;
+        later = λ n below. later_change s.calls k f rise n (get base.calls n) (q.later n below);
         callbacks = λ n below h. ap (λ c. is_callback c) (same_kind (task_in s.threads n)) ∙ q.callbacks n below h;
       }
 
   -- in a field that doesn't matter here
-  pub call_touched : (k : ℕ) (f : Call → Call) {s : Core} → ((c : Call) → Touched c (f c)) → Sound x b e s → Sound x b e (on_call k f s)
+  pub call_touched : (k : ℕ) (f : Call → Call) {s : Core} → ((c : Call) → Touched c (f c)) → Sound component base ending s → Sound component base ending (on_call k f s)
   call_touched k f {s = s} same q = call_changed k f (λ c. (same c).kind)
       (λ c is h. record {
         positive = h.positive;
         number = h.number;
-        kind = (same c).kind ∙ (h.kind ∙ ap (λ e. export_kind x e) (sym (same c).callee));
+        kind = (same c).kind ∙ (h.kind ∙ ap (λ y. export_kind component y) (sym (same c).callee));
         direct = λ d. ap (λ y. is_async_lifted y) (same c).kind ∙ h.direct (ap (λ g. is_direct g) (sym (same c).goal) ∙ d);
         undelivered = λ y. (same c).delivered ∙ h.undelivered (ap (λ y. is_async_lifted y) (sym (same c).kind) ∙ y);
       })
@@ -320,7 +320,7 @@ module _ {x : Component} {b : Core} {e : ℕ} where
       }) q
 
   -- a call or a thread is made or taken away
-  pub remove_call_sound : (k : ℕ) {s : Core} → Sound x b e s → Sound x b e (remove_call k s)
+  pub remove_call_sound : (k : ℕ) {s : Core} → Sound component base ending s → Sound component base ending (remove_call k s)
   unfolding remove_call
   remove_call_sound k {s = s} q = record {
     counted = q.counted;
@@ -330,41 +330,41 @@ module _ {x : Component} {b : Core} {e : ℕ} where
       own = h.own;
       delivers = λ at. still_callback s.calls k t.call (h.delivers at);
     }) q.threads;
-    calls = each_remove (CallSound x s.made.threads) s.calls k q.calls;
-    gone = each_remove (GoneAtEnd s.threads e) s.calls k q.gone;
-    later = λ n below. later_remove s.calls k n (get b.calls n) (q.later n below);
+    calls = each_remove (CallSound component s.made.threads) s.calls k q.calls;
+    gone = each_remove (GoneAtEnd s.threads ending) s.calls k q.gone;
+    later = λ n below. later_remove s.calls k n (get base.calls n) (q.later n below);
     callbacks = λ n below h. still_callback s.calls k (task_in s.threads n) (q.callbacks n below h);
   }
 
-  no_call_zero : {s : Core} → Sound x b e s → kind_in s.calls 0 ≡ kind.Callback
-  no_call_zero {s = s} q = absent s.calls (λ c is. too_low (each_get (CallSound x s.made.threads) s.calls q.calls 0 c is).positive)
+  no_call_zero : {s : Core} → Sound component base ending s → kind_in s.calls 0 ≡ kind.Callback
+  no_call_zero {s = s} q = absent s.calls (λ c is. too_low (each_get (CallSound component s.made.threads) s.calls q.calls 0 c is).positive)
 
-  pub remove_thread_sound : (n : ℕ) {s : Core} → Sound x b e s → Sound x b e (remove_thread n s)
+  pub remove_thread_sound : (n : ℕ) {s : Core} → Sound component base ending s → Sound component base ending (remove_thread n s)
   unfolding remove_thread
   remove_thread_sound n {s = s} q = record {
     counted = q.counted;
     threads = each_remove (ThreadSound s.calls s.made.threads) s.threads n q.threads;
     calls = q.calls;
-    gone = each_map (GoneAtEnd s.threads e) (GoneAtEnd (remove s.threads n) e) s.calls (λ k c is h lifted other ended. removed_none s.threads n k (h lifted other ended)) q.gone;
+    gone = each_map (GoneAtEnd s.threads ending) (GoneAtEnd (remove s.threads n) ending) s.calls (λ k c is h lifted other ended. removed_none s.threads n k (h lifted other ended)) q.gone;
     later = q.later;
     callbacks = λ m below h. of_removed s.threads s.calls n m (no_call_zero q) (q.callbacks m below h);
   }
 
   -- the first thread of the call that ends is gone
-  pub remove_thread_closes : {s : Core} → Sound x b e s → Sound x b 0 (remove_thread e s)
+  pub remove_thread_closes : {s : Core} → Sound component base ending s → Sound component base 0 (remove_thread ending s)
   unfolding remove_thread
   remove_thread_closes {s = s} q = record {
     counted = q.counted;
-    threads = each_remove (ThreadSound s.calls s.made.threads) s.threads e q.threads;
+    threads = each_remove (ThreadSound s.calls s.made.threads) s.threads ending q.threads;
     calls = q.calls;
-    gone = each_map (GoneAtEnd s.threads e) (GoneAtEnd (remove s.threads e) 0) s.calls (λ k c is h lifted other ended. closed_none s.threads e k (λ different. h lifted different ended)) q.gone;
+    gone = each_map (GoneAtEnd s.threads ending) (GoneAtEnd (remove s.threads ending) 0) s.calls (λ k c is h lifted other ended. closed_none s.threads ending k (λ different. h lifted different ended)) q.gone;
     later = q.later;
-    callbacks = λ m below h. of_removed s.threads s.calls e m (no_call_zero q) (q.callbacks m below h);
+    callbacks = λ m below h. of_removed s.threads s.calls ending m (no_call_zero q) (q.callbacks m below h);
   }
 
   -- ---- What is made
 
-  pub add_thread_sound : (t : Thread) {s : Core} → t.call ≤ s.made.threads → t.explicit ≡ true → is_delivered t.place ≡ false → Sound x b e s → Sound x b e (add_thread t s)
+  pub add_thread_sound : (t : Thread) {s : Core} → t.call ≤ s.made.threads → t.explicit ≡ true → is_delivered t.place ≡ false → Sound component base ending s → Sound component base ending (add_thread t s)
   unfolding add_thread
   add_thread_sound t {s = s} below explicit quiet q = record {
     counted = above q.counted;
@@ -374,13 +374,13 @@ module _ {x : Component} {b : Core} {e : ℕ} where
       own = λ implicit. absurd (true_is_not_false (sym explicit ∙ implicit));
       delivers = λ at. absurd (true_is_not_false (sym at ∙ quiet));
     });
-    calls = each_map (CallSound x s.made.threads) (CallSound x (s.made.threads + 1)) s.calls (λ k c is h. call_above h) q.calls;
-    gone = each_map (GoneAtEnd s.threads e) (GoneAtEnd (insert s.threads (s.made.threads + 1) t) e) s.calls (λ k c is h lifted other ended. inserted_none s.threads t s.made.threads k (each_get (CallSound x s.made.threads) s.calls q.calls k c is).number (h lifted other ended)) q.gone;
+    calls = each_map (CallSound component s.made.threads) (CallSound component (s.made.threads + 1)) s.calls (λ k c is h. call_above h) q.calls;
+    gone = each_map (GoneAtEnd s.threads ending) (GoneAtEnd (insert s.threads (s.made.threads + 1) t) ending) s.calls (λ k c is h lifted other ended. inserted_none s.threads t s.made.threads k (each_get (CallSound component s.made.threads) s.calls q.calls k c is).number (h lifted other ended)) q.gone;
     later = q.later;
     callbacks = λ m bound h. subst (λ (o : Option Thread). is_callback (kind_in s.calls (option_map_or (λ (r : Thread). r.call) o 0)) ≡ true) (sym (get-insert_other s.threads (s.made.threads + 1) t m (λ same. too_high same (le_trans bound q.counted)))) (q.callbacks m bound h);
   }
 
-  pub call_made_sound : (f : Caller) (y : Callee) (k : ExportKind) (g : Goal) (group : ℕ) (words : List ℕ) {s : Core} → k ≡ export_kind x y → (is_direct g ≡ true → is_async_lifted k ≡ false) → Sound x b e s → Sound x b e (call_made f y k g group words s)
+  pub call_made_sound : (f : Caller) (y : Callee) (k : ExportKind) (g : Goal) (group : ℕ) (words : List ℕ) {s : Core} → k ≡ export_kind component y → (is_direct g ≡ true → is_async_lifted k ≡ false) → Sound component base ending s → Sound component base ending (call_made f y k g group words s)
   unfolding call_made add_thread add_call
   call_made_sound f y k g group words {s = s} same_kind direct q =
       let m = s.made.threads + 1 in
@@ -399,28 +399,28 @@ module _ {x : Component} {b : Core} {e : ℕ} where
           own = λ implicit. refl;
           delivers = λ at. absurd (true_is_not_false (sym at));
         });
-        calls = each_insert (CallSound x m) s.calls m c (each_map (CallSound x s.made.threads) (CallSound x m) s.calls (λ n r is h. call_above h) q.calls) (record {
+        calls = each_insert (CallSound component m) s.calls m c (each_map (CallSound component s.made.threads) (CallSound component m) s.calls (λ n r is h. call_above h) q.calls) (record {
           positive = positive_next s.made.threads;
           number = le_refl _;
           kind = same_kind;
           direct = direct;
           undelivered = λ lifted. refl;
         });
-        gone = each_insert (GoneAtEnd (insert s.threads m t) e) s.calls m c (each_map (GoneAtEnd s.threads e) (GoneAtEnd (insert s.threads m t) e) s.calls (λ n r is h lifted other ended. inserted_none s.threads t s.made.threads n (each_get (CallSound x s.made.threads) s.calls q.calls n r is).number (h lifted other ended)) q.gone) (λ lifted other ended. absurd (true_is_not_false (sym ended)));
-        later = λ n bound. subst (λ (r : Option Call). LaterBy Rises (get b.calls n) r) (sym (get-insert_other s.calls m c n (λ same. too_high same (le_trans bound q.counted)))) (q.later n bound);
+        gone = each_insert (GoneAtEnd (insert s.threads m t) ending) s.calls m c (each_map (GoneAtEnd s.threads ending) (GoneAtEnd (insert s.threads m t) ending) s.calls (λ n r is h lifted other ended. inserted_none s.threads t s.made.threads n (each_get (CallSound component s.made.threads) s.calls q.calls n r is).number (h lifted other ended)) q.gone) (λ lifted other ended. absurd (true_is_not_false (sym ended)));
+        later = λ n bound. subst (λ (r : Option Call). LaterBy Rises (get base.calls n) r) (sym (get-insert_other s.calls m c n (λ same. too_high same (le_trans bound q.counted)))) (q.later n bound);
         callbacks = λ n bound h. subst (λ (o : Option Thread). is_callback (kind_in (insert s.calls m c) (option_map_or (λ (r : Thread). r.call) o 0)) ≡ true) (sym (get-insert_other s.threads m t n (λ same. too_high same (le_trans bound q.counted)))) (kind_stays s.calls c s.made.threads (task_in s.threads n) (task_below s.threads n (λ r is. (each_get (ThreadSound s.calls s.made.threads) s.threads q.threads n r is).call_number)) (q.callbacks n bound h));
       }
 
   -- ---- Ends and cancels
 
-  pub set_end_sound : (k : ℕ) (v : CallEnd) {s : Core} → has_ended k s ≡ false → (v ≡ call_end.StartCancelled → was_started k s ≡ false) → ((c : Call) → get s.calls k ≡ Some c → is_async_lifted c.kind ≡ false → (k ≡ e → ⊥) → is_none (get s.threads k) ≡ true) → Sound x b e s → Sound x b e (set_end k v s)
+  pub set_end_sound : (k : ℕ) (v : CallEnd) {s : Core} → has_ended k s ≡ false → (v ≡ call_end.StartCancelled → was_started k s ≡ false) → ((c : Call) → get s.calls k ≡ Some c → is_async_lifted c.kind ≡ false → (k ≡ ending → ⊥) → is_none (get s.threads k) ≡ true) → Sound component base ending s → Sound component base ending (set_end k v s)
   unfolding set_end
   set_end_sound k v {s = s} unended first gone q = call_changed k (λ c. record c { «end» = Some v }) (λ c. refl)
       (λ c is h. record { positive = h.positive; number = h.number; kind = h.kind; direct = h.direct; undelivered = h.undelivered })
       (λ c is h lifted other ended. gone c is lifted other)
       (λ c is. end_rises c v (sym (ap (λ o. is_some (option_and_then (λ (d : Call). d.«end») o)) is) ∙ unended) (λ at. sym (ap (λ o. option_map_or (λ (d : Call). d.started) o false) is) ∙ first at)) q
 
-  pub set_cancel_delivered_sound : (k : ℕ) {s : Core} → is_async_lifted (kind_of k s) ≡ true → Sound x b e s → Sound x b e (set_cancel_delivered k s)
+  pub set_cancel_delivered_sound : (k : ℕ) {s : Core} → is_async_lifted (kind_of k s) ≡ true → Sound component base ending s → Sound component base ending (set_cancel_delivered k s)
   unfolding set_cancel_delivered
   set_cancel_delivered_sound k {s = s} lifted q = call_changed k (λ c. record c { cancel_delivered = true }) (λ c. refl)
       (λ c is h. record { positive = h.positive; number = h.number; kind = h.kind; direct = h.direct; undelivered = λ not_lifted. absurd (true_is_not_false (sym lifted ∙ (ap (λ o. is_async_lifted (option_map_or (λ (d : Call). d.kind) o kind.Callback)) is ∙ not_lifted))) })
@@ -428,15 +428,15 @@ module _ {x : Component} {b : Core} {e : ℕ} where
       (λ c is. record { end_stays = λ e h. h; start_stays = λ h. h; rises = le_refl _; withdrawn_first = λ h k. k }) q
 
   -- any call may be the one that ends
-  pub opens_end : {s : Core} → Sound x b 0 s → Sound x b e s
+  pub opens_end : {s : Core} → Sound component base 0 s → Sound component base ending s
   opens_end {s = s} q = record {
     counted = q.counted;
     threads = q.threads;
     calls = q.calls;
-    gone = each_map (GoneAtEnd s.threads 0) (GoneAtEnd s.threads e) s.calls (λ k c is h lifted other ended. h lifted (λ none. too_low (subst (λ n. 1 ≤ n) none (each_get (CallSound x s.made.threads) s.calls q.calls k c is).positive)) ended) q.gone;
+    gone = each_map (GoneAtEnd s.threads 0) (GoneAtEnd s.threads ending) s.calls (λ k c is h lifted other ended. h lifted (λ none. too_low (subst (λ n. 1 ≤ n) none (each_get (CallSound component s.made.threads) s.calls q.calls k c is).positive)) ended) q.gone;
     later = q.later;
     callbacks = q.callbacks;
   }
 
-  pub is_callback_later : {s : Core} (n : ℕ) → n ≤ b.made.threads → IsCallback n b → Sound x b e s → IsCallback n s
+  pub is_callback_later : {s : Core} (n : ℕ) → n ≤ base.made.threads → IsCallback n base → Sound component base ending s → IsCallback n s
   is_callback_later n below h q = q.callbacks n below h
