@@ -167,7 +167,7 @@ rank_at_end (Some v) a b h = rank_of_end v a b
 rank_stays : (o : Option CallEnd) (a : Bool) (p : Option CallEnd) (b : Bool) → p ≡ o → (a ≡ true → b ≡ true) → rank (status_with o a) ≤ rank (status_with p b)
 rank_stays o a p b same h = subst (λ (r : Option CallEnd). rank (status_with o a) ≤ rank (status_with r b)) (sym same) (rank_at_end o a b h)
 
-too_low : 1 ≤ 0 → ⊥
+pub too_low : 1 ≤ 0 → ⊥
 too_low h = omega (h, arith)
 
 kind_or : Option Call → ExportKind
@@ -234,7 +234,7 @@ task_below_at : (o : Option Thread) (made : ℕ) → ((t : Thread) → o ≡ Som
 task_below_at None made h = omega arith
 task_below_at (Some t) made h = h t refl
 
-task_below : (threads : Records Thread) (n : ℕ) {made : ℕ} → ((t : Thread) → get threads n ≡ Some t → t.call ≤ made) → task_in threads n ≤ made
+pub task_below : (threads : Records Thread) (n : ℕ) {made : ℕ} → ((t : Thread) → get threads n ≡ Some t → t.call ≤ made) → task_in threads n ≤ made
 task_below threads n {made = made} h = task_below_at (get threads n) made h
 
 -- an end comes where there is none
@@ -336,7 +336,7 @@ module _ {component : Component} {base : Core} {ending : ℕ} where
     callbacks = λ n below h. still_callback s.calls k (task_in s.threads n) (q.callbacks n below h);
   }
 
-  no_call_zero : {s : Core} → Sound component base ending s → kind_in s.calls 0 ≡ kind.Callback
+  pub no_call_zero : {s : Core} → Sound component base ending s → kind_in s.calls 0 ≡ kind.Callback
   no_call_zero {s = s} q = absent s.calls (λ c is. too_low (each_get (CallSound component s.made.threads) s.calls q.calls 0 c is).positive)
 
   pub remove_thread_sound : (n : ℕ) {s : Core} → Sound component base ending s → Sound component base ending (remove_thread n s)

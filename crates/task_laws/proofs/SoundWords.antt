@@ -84,7 +84,7 @@ held_is_delivered (Some (place.Blocked sub)) h = h
 held_is_delivered (Some place.Suspended) h = h
 
 -- who runs which call, and of which kind, doesn't change with a place
-task_set_place : (n : ℕ) (p : Place) (s : Core) (m : ℕ) → task_of m (set_place n p s) ≡ task_of m s
+pub task_set_place : (n : ℕ) (p : Place) (s : Core) (m : ℕ) → task_of m (set_place n p s) ≡ task_of m s
 unfolding set_place on_thread
 task_set_place n p s m = change_read (λ t. t.call) 0 s.threads n (λ t. record t { place = p }) (λ t. refl) m
 
@@ -105,15 +105,23 @@ callback_unqueued : (n : ℕ) (s : Core) → IsCallback n s → IsCallback n (un
 unfolding unqueued set_high set_low
 callback_unqueued n s h = callback_if (has_entry n s.queues.high) n s (set_high (less n s.queues.high) s) (set_low (less n s.queues.low) s) h h
 
+pub task_if : (b : Bool) (m : ℕ) (s t u : Core) → task_of m t ≡ task_of m s → task_of m u ≡ task_of m s → task_of m (if b then t else u) ≡ task_of m s
+task_if true m s t u h k = h
+task_if false m s t u h k = k
+
+pub task_unqueued : (n : ℕ) (s : Core) (m : ℕ) → task_of m (unqueued n s) ≡ task_of m s
+unfolding unqueued set_high set_low
+task_unqueued n s m = task_if (has_entry n s.queues.high) m s (set_high (less n s.queues.high) s) (set_low (less n s.queues.low) s) refl refl
+
 pub kind_own_event : (k : ℕ) (v : Option OwnEvent) (n : ℕ) (s : Core) → kind_of n (set_own_event k v s) ≡ kind_of n s
 unfolding set_own_event on_call
 kind_own_event k v n s = change_read (λ c. c.kind) kind.Callback s.calls k (λ c. record c { own_event = v }) (λ c. refl) n
 
-calls_if : (b : Bool) (s t u : Core) → t.calls ≡ s.calls → u.calls ≡ s.calls → (if b then t else u).calls ≡ s.calls
+pub calls_if : (b : Bool) (s t u : Core) → t.calls ≡ s.calls → u.calls ≡ s.calls → (if b then t else u).calls ≡ s.calls
 calls_if true s t u h k = h
 calls_if false s t u h k = k
 
-calls_unqueued : (k : ℕ) (s : Core) → (unqueued k s).calls ≡ s.calls
+pub calls_unqueued : (k : ℕ) (s : Core) → (unqueued k s).calls ≡ s.calls
 unfolding unqueued set_high set_low
 calls_unqueued k s = calls_if (has_entry k s.queues.high) s (set_high (less k s.queues.high) s) (set_low (less k s.queues.low) s) refl refl
 
