@@ -5,3 +5,4 @@ pub mod SoundWords
 pub mod SoundEnds
 pub mod SoundRows
 pub mod SoundTakes
+pub mod SoundSteps

@@ -5,4 +5,4 @@
 
 mod rises;
 
-pub use rises::{statuses_rise};
+pub use rises::{runs_rise, statuses_rise, sync_end_is_last, sync_is_never_cancelled};
