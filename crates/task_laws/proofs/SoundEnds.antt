@@ -391,8 +391,8 @@ module _ {component : Component} {base : Core} where
   ret_row_kept n v w {s = s} q =
       let k = task_of n s in
       trap_if_when component base (has_ended k s) trap.TaskCancelOrReturnTwice (trap_if (not (is_async_lifted (kind_of k s))) trap.TaskReturnInvalid (may (may_tell k w s) (Goes (ret_label n v w) (ret_done n v w s) n))) (λ unended.
-        trap_if_when component base (not (is_async_lifted (kind_of k s))) trap.TaskReturnInvalid (may (may_tell k w s) (Goes (ret_label n v w) (ret_done n v w s) n)) (λ lifted.
-          may_kept component base (may_tell k w s) (Goes (ret_label n v w) (ret_done n v w s) n) (ret_done_sound n v w q unended (not_false _ lifted))))
+      trap_if_when component base (not (is_async_lifted (kind_of k s))) trap.TaskReturnInvalid (may (may_tell k w s) (Goes (ret_label n v w) (ret_done n v w s) n)) (λ lifted.
+      may_kept component base (may_tell k w s) (Goes (ret_label n v w) (ret_done n v w s) n) (ret_done_sound n v w q unended (not_false _ lifted))))
 
   pub ret_bad_row_kept : (a0 : ℕ) {s : Core} → Sound component base 0 s → Kept component base (ret_bad_row a0 s)
   ret_bad_row_kept n {s = s} q = trap_if_kept component base (has_ended (task_of n s) s) trap.TaskCancelOrReturnTwice (Traps trap.TaskReturnInvalid) tt
@@ -401,8 +401,8 @@ module _ {component : Component} {base : Core} where
   task_cancel_row_kept n w {s = s} q =
       let k = task_of n s in
       trap_if_when component base (not (cancel_was_delivered k s)) trap.TaskCancelNotCancelled (trap_if (has_ended k s) trap.TaskCancelOrReturnTwice (may (may_tell k w s) (Goes (task_cancel_label n w) (cancel_done n w s) n))) (λ delivered.
-        trap_if_when component base (has_ended k s) trap.TaskCancelOrReturnTwice (may (may_tell k w s) (Goes (task_cancel_label n w) (cancel_done n w s) n)) (λ unended.
-          may_kept component base (may_tell k w s) (Goes (task_cancel_label n w) (cancel_done n w s) n) (cancel_done_sound n w q unended (delivered_lifted k q (not_false _ delivered)))))
+      trap_if_when component base (has_ended k s) trap.TaskCancelOrReturnTwice (may (may_tell k w s) (Goes (task_cancel_label n w) (cancel_done n w s) n)) (λ unended.
+      may_kept component base (may_tell k w s) (Goes (task_cancel_label n w) (cancel_done n w s) n) (cancel_done_sound n w q unended (delivered_lifted k q (not_false _ delivered)))))
 
   pub inc_row_kept : (a0 : ℕ) {s : Core} → Sound component base 0 s → Kept component base (inc_row a0 s)
   inc_row_kept n {s = s} q = trap_if_kept component base (nat_le 65535 (backpressure_of (instance_of n s) s)) trap.BackpressureOverflow (Goes (label.Task (task_label.BpInc n)) (raised n s) n) (raised_sound n q)

@@ -26,7 +26,6 @@ use Rattle.task_machine.specs.declared.words.OwnEvent.{OwnEvent}
 use Rattle.task_machine.specs.declared.words.Phase.{Phase}
 use Rattle.task_machine.specs.declared.words.Status.{Status}
 use Rattle.task_rules.specs.Calls.{work_queued}
-use Rattle.task_rules.specs.Takes.{delivered, started}
 use Rattle.task_machine.specs.declared.component.ExportKind.TheVariants as kind
 use Rattle.task_machine.specs.declared.records.Subtask.TheVariants as subtask
 

@@ -7,7 +7,6 @@ use Rattle.task_laws.specs.Rises.{CallsRise, Rises, rank, status_before_end, sta
 use Rattle.task_machine.proofs.MapLemmas.{get-insert_other}
 use Rattle.task_machine.specs.Core.{Core}
 use Rattle.task_machine.specs.Maps.{Records, change, changed, get, get-insert, get-remove, insert, remove}
-use Rattle.task_machine.specs.Moves.{ended}
 use Rattle.task_machine.specs.Read.{has_ended, is_async_lifted, is_callback, is_direct, kind_of, task_of, was_started}
 use Rattle.task_machine.specs.Write.{add_call, add_thread, on_call, on_thread, remove_call, remove_thread, set_cancel_delivered, set_end}
 use Rattle.task_machine.specs.declared.component.Callee.{Callee}
@@ -207,7 +206,6 @@ closed_cut false n k e o h = h (λ same. true_is_not_false (sym (same_number n) 
 
 closed_none : (threads : Records Thread) (n k : ℕ) → ((k ≡ n → ⊥) → is_none (get threads k) ≡ true) → is_none (get (remove threads n) k) ≡ true
 closed_none threads n k h = subst (λ (o : Option Thread). is_none o ≡ true) (sym (get-remove threads n k)) (closed_cut (k == n) n k refl (get threads k) h)
-
 
 above : {n m : ℕ} → n ≤ m → n ≤ m + 1
 above h = omega (h, arith)

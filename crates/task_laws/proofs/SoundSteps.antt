@@ -119,9 +119,10 @@ place_popped mark.Low n s = refl
 module _ {component : Component} where
   code_of_thread : CodesInCallbacks component → (n : ℕ) {s : Core} → Settled component s → (o : Option Thread) → get s.threads n ≡ o → ends_activation (unwrap_or (slice_get (option_map_or (script_of_thread component s) o []) (option_map_or (λ (t : Thread). t.position) o 0)) (op.Task task_op.Exit)) ≡ true → (n ≤ s.made.threads) × (is_callback (kind_in s.calls (option_map_or (λ (t : Thread). t.call) o 0)) ≡ true)
   code_of_thread grammar n {s = s} q None is code = absurd (true_is_not_false (sym code ∙ no_code [] 0 empty_has_no_code))
-  code_of_thread grammar n {s = s} q (Some t) is code =
-      ((each_get (ThreadSound s.calls s.made.threads) s.threads q.threads n t is).number,
-       callback_of_call grammar (get s.calls t.call) (λ k at. (each_get (CallSound component s.made.threads) s.calls q.calls t.call k at).kind) t.script t.position code)
+  code_of_thread grammar n {s = s} q (Some t) is code = (
+    (each_get (ThreadSound s.calls s.made.threads) s.threads q.threads n t is).number,
+    callback_of_call grammar (get s.calls t.call) (λ k at. (each_get (CallSound component s.made.threads) s.calls q.calls t.call k at).kind) t.script t.position code,
+  )
 
   -- who ends an activation is of a callback export
   code_at_base : CodesInCallbacks component → (n : ℕ) {s : Core} → Settled component s → ends_activation (op_of component n s) ≡ true → AtBase s n
