@@ -6,3 +6,8 @@ pub mod SoundEnds
 pub mod SoundRows
 pub mod SoundTakes
 pub mod SoundSteps
+pub mod BarredFields
+pub mod BarredWords
+pub mod BarredEnds
+pub mod BarredRows
+pub mod BarredTakes
