@@ -11,3 +11,5 @@ pub mod BarredWords
 pub mod BarredEnds
 pub mod BarredRows
 pub mod BarredTakes
+pub mod LabelLemmas
+pub mod BarredSteps
