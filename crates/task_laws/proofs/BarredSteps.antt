@@ -150,13 +150,13 @@ pub record Housed (instances : ℕ) (s : Core) : Type 0 where
 home_there : {instances : ℕ} (k : ℕ) {s : Core} → 0 < instances → Housed instances s → is_some (get s.instances (call_instance k s)) ≡ true
 home_there k {s = s} some h = home_there_of (get s.calls k) s.instances (λ c is. each_get (Home s.instances) s.calls h.homes k c is) (h.there 0 some)
 
-unmoved : {instances : ℕ} {s : Core} (ex : Option ℕ) → Housed instances s → Barred s ex s
+pub unmoved : {instances : ℕ} {s : Core} (ex : Option ℕ) → Housed instances s → Barred s ex s
 unmoved ex h = record { flags = λ i other shut. shut; exist = λ i there. there; homes = h.homes }
 
 -- ---- What begins to run
 
 -- a holding entry that begins to run finds its instance open, and shuts it
-abbrev Begins : Core → Progress → Type 0
+abbrev pub Begins : Core → Progress → Type 0
 Begins b (Goes l new m) = (i : ℕ) → begun_holder b l ≡ Some i → (may_not_enter i b ≡ false) × (may_not_enter i new ≡ true)
 Begins b (Stops l new) = (i : ℕ) → begun_holder b l ≡ Some i → (may_not_enter i b ≡ false) × (may_not_enter i new ≡ true)
 Begins b (Traps t) = Unit {0}
@@ -180,7 +180,7 @@ begun_host : (m : Mark) (i : ℕ) (w : Option ℕ) (s : Core) → begun_holder s
 begun_host m i None s = refl
 begun_host m i (Some w) s = refl
 
-none_begun : {o : Option ℕ} (i : ℕ) {A : Type 0} → o ≡ None → o ≡ Some i → A
+pub none_begun : {o : Option ℕ} (i : ℕ) {A : Type 0} → o ≡ None → o ≡ Some i → A
 none_begun i none h = no_way (ap (λ p. is_some p) (sym none ∙ h))
 
 open_start : (e : Bool) (k : ExportKind) (m z : Bool) → e ≡ false → is_holding k ≡ true → (e || (is_sync k || (not m && z))) ≡ true → m ≡ false
@@ -315,7 +315,7 @@ module _ {instances : ℕ} (some : 0 < instances) where
   thread_taken_begins m n ch {s = s} h (Some (place.Ready x why.Resumption)) at = resumption_begins m n s x at
   thread_taken_begins m n ch {s = s} h u at = tt
 
-  take_row_begins : (m : Mark) (ch : Choice) {s : Core} → Housed instances s → (e : Entry) → Begins s (take_row m ch s e)
+  pub take_row_begins : (m : Mark) (ch : Choice) {s : Core} → Housed instances s → (e : Entry) → Begins s (take_row m ch s e)
   take_row_begins m ch {s = s} h (entry.Thread n) = thread_taken_begins m n ch h (place_of n s) refl
   take_row_begins m ch {s = s} h (entry.Push i) = λ j begun. no_way (ap (λ o. is_some o) begun)
   take_row_begins m ch {s = s} h (entry.Host i) = if_may (may_publish (subtask.Host i) ch.woken s)

@@ -13,3 +13,5 @@ pub mod BarredRows
 pub mod BarredTakes
 pub mod LabelLemmas
 pub mod BarredSteps
+pub mod HolderLemmas
+pub mod WrittenLemmas

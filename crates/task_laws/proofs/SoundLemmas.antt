@@ -84,7 +84,7 @@ pub record Sound (x : Component) (b : Core) (e : ℕ) (s : Core) : Type 0 where
 pub true_is_not_false : true ≡ false → ⊥
 true_is_not_false h = grind (h, arith)
 
-same_number : (n : ℕ) → (n == n) ≡ true
+pub same_number : (n : ℕ) → (n == n) ≡ true
 same_number n = grind arith
 
 -- ---- Later records

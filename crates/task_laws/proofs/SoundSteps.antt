@@ -269,7 +269,7 @@ module _ (x : Setting) (grammar : CodesInCallbacks x.component) where
 
 -- ---- The laws
 
-reached_settled : {x : Setting} {s : State} → Reached x s → Settled x.component s.core
+pub reached_settled : {x : Setting} {s : State} → Reached x s → Settled x.component s.core
 reached_settled {x = x} {s = s} r = run_sound x r.scripts (opening r.instances r.handle_limit r.capacity r.main) (opening_settled x.component r.instances r.handle_limit r.capacity) r.labels s r.run
 
 pub steps_rise : StepsRise

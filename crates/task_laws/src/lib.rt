@@ -1,8 +1,13 @@
 //! Laws of the component machine that hold of each state that a run comes to, where the scripts
-//! keep to the grammar: the ops that end an activation stand in callback exports alone. Each
-//! function here is the statement of a law, about the rules that `task_rules` defines.
+//! keep to the grammar: the ops that end an activation stand in callback exports alone, and what
+//! is called exists. Each function here is the statement of a law, about the rules that
+//! `task_rules` defines.
 #![tactic(auto)]
 
+mod holders;
 mod rises;
 
-pub use rises::{runs_rise, statuses_rise, sync_end_is_last, sync_is_never_cancelled};
+pub use holders::{one_entry_holds};
+pub use rises::{
+    call_ends_are_written_once, runs_rise, statuses_rise, sync_end_is_last, sync_is_never_cancelled,
+};
