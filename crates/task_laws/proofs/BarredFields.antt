@@ -33,7 +33,6 @@ use Rattle.task_machine.specs.declared.words.Status.{Status}
 use Rattle.task_rules.proofs.KeepWords.{same}
 use Rattle.task_rules.specs.Calls.{call_made, new_call, work_queued}
 use Rattle.task_rules.specs.Progress.{may}
-use Rattle.task_rules.specs.Takes.{started}
 use Rattle.task_machine.specs.declared.records.Subtask.TheVariants as subtask
 
 abbrev pub Home : Records Instance → ℕ → Call → Type 0

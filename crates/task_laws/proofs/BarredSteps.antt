@@ -221,9 +221,9 @@ module _ {instances : ℕ} (some : 0 < instances) where
       let q : Barred u None t = set_given_barred n 0 v (taken_barred g (task_of n u) (unmoved None h)) in
       let shut : may_not_enter (instance_of n u) (set_do_not_enter (instance_of n u) true t) ≡ true = shut_set (instance_of n u) t (q.exist (instance_of n u) (home_there (task_of n u) some h)) in
       shut_place i n place.Running (moved_to n 0 (set_script n script.React (set_do_not_enter (instance_of n u) true t)))
-        (shut_moved i n 0 (set_script n script.React (set_do_not_enter (instance_of n u) true t))
-          (shut_script i n script.React (set_do_not_enter (instance_of n u) true t)
-            (subst (λ (j : ℕ). may_not_enter j (set_do_not_enter (instance_of n u) true t) ≡ true) same shut)))
+      (shut_moved i n 0 (set_script n script.React (set_do_not_enter (instance_of n u) true t))
+      (shut_script i n script.React (set_do_not_enter (instance_of n u) true t)
+      (subst (λ (j : ℕ). may_not_enter j (set_do_not_enter (instance_of n u) true t) ≡ true) same shut)))
 
   housed_handed_on : (x : ℕ) (g : Gift) (w : Option ℕ) {s : Core} → Housed instances s → Housed instances (handed_on x g w s)
   housed_handed_on x g w {s = s} h =
@@ -243,12 +243,15 @@ module _ {instances : ℕ} (some : 0 < instances) where
       shows : (i : ℕ) → begun_holder s (take_label m n w) ≡ Some i → (may_not_enter i s ≡ false) × (may_not_enter i (started n w s) ≡ true)
       shows i begun =
           let at : (holds_at_start n s ≡ true) × (instance_of n s ≡ i) = holder_of_if (holds_at_start n s) (instance_of n s) i (sym (begun_take m n w s) ∙ begun) in
-          let parts : (is_explicit n s ≡ false) × (is_holding (kind_of (task_of n s) s) ≡ true) = start_parts (is_explicit n s) (is_holding (kind_of (task_of n s) s)) (option_map_or is_start (place_of n s) false) at.0 in
-          (subst (λ (j : ℕ). may_not_enter j s ≡ false) at.1 (open_start (is_explicit n s) (kind_of (task_of n s) s) (may_not_enter (instance_of n s) s) (backpressure_of (instance_of n s) s == 0) parts.0 parts.1 admitted),
-           subst (λ (j : ℕ). may_not_enter j (started n w s) ≡ true) at.1 (started_shuts n w h parts.1))
+          let parts : (is_explicit n s ≡ false) × (is_holding (kind_of (task_of n s) s) ≡ true) = start_parts (is_explicit n s) (is_holding (kind_of (task_of n s) s)) (option_map_or is_start (place_of n s) false) at.0 in (
+            subst (λ (j : ℕ). may_not_enter j s ≡ false) at.1 (open_start (is_explicit n s) (kind_of (task_of n s) s) (may_not_enter (instance_of n s) s) (backpressure_of (instance_of n s) s == 0) parts.0 parts.1 admitted),
+            subst (λ (j : ℕ). may_not_enter j (started n w s) ≡ true) at.1 (started_shuts n w h parts.1),
+          )
+
       if_may : (c : Bool) → Begins s (may c (Goes (take_label m n w) (started n w s) n))
       if_may true = shows
       if_may false = tt
+
       started_begins : (c : Bool) → Begins s (trap_if c trap.HandleLimit (may (may_tell (task_of n s) w s) (Goes (take_label m n w) (started n w s) n)))
       started_begins true = tt
       started_begins false = if_may (may_tell (task_of n s) w s)
@@ -276,6 +279,7 @@ module _ {instances : ℕ} (some : 0 < instances) where
     where
       shut : may_not_enter (instance_of n s) (activated_woken n x ch.woken g (handed_out ch s g) s) ≡ true
       shut = woken_shuts n x ch.woken g (handed_out ch s g) h
+
       if_may : (c : Bool) → Begins s (may c (Goes (event_label m n (handed_out ch s g) ch.woken) (activated_woken n x ch.woken g (handed_out ch s g) s) n))
       if_may true = activation_begins m n (handed_out ch s g) ch.woken s (activated_woken n x ch.woken g (handed_out ch s g) s) unshut shut
       if_may false = tt

@@ -298,9 +298,9 @@ module _ {x : Setting} {instances : ℕ} (exist : CalleesExist x instances) wher
   run_holds s h m (l ∷ ls) t run inside shut =
       let k : StepHolds s l run.0 = each_step_holds s h m l run.0 run.1.0 in
       and_true (not (is_among inside (begun_holder s.core l))) (holds_one (less_holder (with_holder inside (begun_holder s.core l)) (returned_holder s.core l)) (history x run.0 ls t run.1.1))
-        (none_inside s.core inside (begun_holder s.core l) shut (λ i begun. (k.begins i begun).0))
-        (run_holds run.0 (housed_by h k.barred) k.main ls t run.1.1 (less_holder (with_holder inside (begun_holder s.core l)) (returned_holder s.core l))
-          (λ i among. still_shut s.core run.0.core inside (begun_holder s.core l) (returned_holder s.core l) shut (λ j begun. (k.begins j begun).1) k.barred i among))
+      (none_inside s.core inside (begun_holder s.core l) shut (λ i begun. (k.begins i begun).0))
+      (run_holds run.0 (housed_by h k.barred) k.main ls t run.1.1 (less_holder (with_holder inside (begun_holder s.core l)) (returned_holder s.core l))
+      (λ i among. still_shut s.core run.0.core inside (begun_holder s.core l) (returned_holder s.core l) shut (λ j begun. (k.begins j begun).1) k.barred i among))
 
 -- ---- The law
 

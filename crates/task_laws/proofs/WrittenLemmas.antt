@@ -100,16 +100,16 @@ module _ (x : Setting) (grammar : CodesInCallbacks x.component) (k : ℕ) where
       let h : Sound x.component s.core 0 run.0.core = step_sound x grammar s q l run.0 run.1.0 in
       let later : LaterBy Rises (get s.core.calls k) (get run.0.core.calls k) = h.later k below in
       none_more (is_written (code_of (get s.core.calls k)) (code_of (get run.0.core.calls k))) _
-        (not_written (get s.core.calls k) (get run.0.core.calls k) later over)
-        (none_written run.0 (renewed h) (le_trans below h.counted) (over_stays (get s.core.calls k) (get run.0.core.calls k) later over) ls t run.1.1)
+      (not_written (get s.core.calls k) (get run.0.core.calls k) later over)
+      (none_written run.0 (renewed h) (le_trans below h.counted) (over_stays (get s.core.calls k) (get run.0.core.calls k) later over) ls t run.1.1)
 
   once_written : (s : State) → Settled x.component s.core → (ls : List Label) (t : State) → (run : Run x s ls t) → counted (writes_end (subtask.Guest k)) (history x s ls t run) ≤ 1
   once_written s q [] t run = omega arith
   once_written s q (l ∷ ls) t run =
       let h : Sound x.component s.core 0 run.0.core = step_sound x grammar s q l run.0 run.1.0 in
       one_at_most (is_written (code_of (get s.core.calls k)) (code_of (get run.0.core.calls k))) _
-        (once_written run.0 (renewed h) ls t run.1.1)
-        (λ w. none_written run.0 (renewed h) (le_trans (made_of q (get s.core.calls k) refl (get run.0.core.calls k) w) h.counted) (unwritten (get s.core.calls k) (get run.0.core.calls k) w) ls t run.1.1)
+      (once_written run.0 (renewed h) ls t run.1.1)
+      (λ w. none_written run.0 (renewed h) (le_trans (made_of q (get s.core.calls k) refl (get run.0.core.calls k) w) h.counted) (unwritten (get s.core.calls k) (get run.0.core.calls k) w) ls t run.1.1)
     where
       made_of : Settled x.component s.core → (o : Option Call) → get s.core.calls k ≡ o → (p : Option Call) → is_written (code_of o) (code_of p) ≡ true → k ≤ s.core.made.threads
       made_of q None at p w = no_way w

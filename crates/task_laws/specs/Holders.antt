@@ -1,5 +1,5 @@
 -- At most one holding entry of an instance runs at a time.
-use Rattle.std.specs.Prelude.{List, None, Option, Some, [], slice_get, ℕ, ◌<◌, ◌≡◌}
+use Rattle.std.specs.Prelude.{List, None, Option, Some, slice_get, ℕ, ◌<◌, ◌≡◌}
 use Rattle.task_machine.specs.declared.component.Callee.{Callee}
 use Rattle.task_machine.specs.declared.label.Label.{Label}
 use Rattle.task_machine.specs.declared.op.CallOp.{CallOp}

@@ -7,7 +7,7 @@
 mod holders;
 mod rises;
 
-pub use holders::{one_entry_holds};
+pub use holders::one_entry_holds;
 pub use rises::{
     call_ends_are_written_once, runs_rise, statuses_rise, sync_end_is_last, sync_is_never_cancelled,
 };
