@@ -15,3 +15,8 @@ pub mod LabelLemmas
 pub mod BarredSteps
 pub mod HolderLemmas
 pub mod WrittenLemmas
+pub mod SpunFields
+pub mod SpunWords
+pub mod SpunRows
+pub mod SpunTakes
+pub mod SpunSteps

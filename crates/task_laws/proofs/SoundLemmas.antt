@@ -207,13 +207,13 @@ closed_cut false n k e o h = h (λ same. true_is_not_false (sym (same_number n) 
 closed_none : (threads : Records Thread) (n k : ℕ) → ((k ≡ n → ⊥) → is_none (get threads k) ≡ true) → is_none (get (remove threads n) k) ≡ true
 closed_none threads n k h = subst (λ (o : Option Thread). is_none o ≡ true) (sym (get-remove threads n k)) (closed_cut (k == n) n k refl (get threads k) h)
 
-above : {n m : ℕ} → n ≤ m → n ≤ m + 1
+pub above : {n m : ℕ} → n ≤ m → n ≤ m + 1
 above h = omega (h, arith)
 
 positive_next : (n : ℕ) → 1 ≤ n + 1
 positive_next n = omega arith
 
-too_high : {q n : ℕ} → q ≡ n + 1 → q ≤ n → ⊥
+pub too_high : {q n : ℕ} → q ≡ n + 1 → q ≤ n → ⊥
 too_high e h = omega (e, h, arith)
 
 thread_above : {calls : Records Call} {made n : ℕ} {t : Thread} → ThreadSound calls made n t → ThreadSound calls (made + 1) n t

@@ -1,3 +1,4 @@
 pub mod Settings
 pub mod Rises
 pub mod Holders
+pub mod Written
