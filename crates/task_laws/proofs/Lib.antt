@@ -20,3 +20,4 @@ pub mod SpunWords
 pub mod SpunRows
 pub mod SpunTakes
 pub mod SpunSteps
+pub mod SpunLemmas

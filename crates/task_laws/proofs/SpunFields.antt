@@ -105,8 +105,8 @@ abbrev pub is_quiet : Work → Bool
 is_quiet w = is_stage_live w.stage || has_end w.course
 
 -- no push of a work stands that is live or has come to its end
-abbrev pub Quiet : List Entry → ℕ → Work → Type 0
-Quiet es i w = is_quiet w ≡ true → pushes i es ≡ 0
+abbrev pub Unpushed : List Entry → ℕ → Work → Type 0
+Unpushed es i w = is_quiet w ≡ true → pushes i es ≡ 0
 
 -- a work that has come to its end isn't polled
 abbrev pub EndedStage : ℕ → Work → Type 0
@@ -122,7 +122,7 @@ pub record Spun (b : Core) (s : Core) : Type 0 where
   pub once : (i : ℕ) → pushes i s.queues.high ≤ 1
   pub low : (i : ℕ) → pushes i s.queues.low ≡ 0
   pub given : (i : ℕ) → 1 ≤ pushes i s.queues.high → i ≤ s.made.works
-  pub quiet : Each (Quiet s.queues.high) s.works
+  pub quiet : Each (Unpushed s.queues.high) s.works
   pub ended : Each EndedStage s.works
   pub later : (i : ℕ) → i ≤ b.made.works → LaterBy WorkRises (get b.works i) (get s.works i)
 
@@ -189,7 +189,7 @@ other_pushed i made es below = pushes_last i es (entry.Push (made + 1)) (by_test
     by_test true e = absurd (too_high (eqb→eq i (made + 1) (subst T (sym e) tt)) below)
     by_test false e = e
 
-or_right : (a b : Bool) → b ≡ true → (a || b) ≡ true
+pub or_right : (a b : Bool) → b ≡ true → (a || b) ≡ true
 or_right true b h = refl
 or_right false b h = h
 
@@ -201,7 +201,7 @@ module _ {base : Core} where
     once = λ i. le_trans (fewer i) (q.once i);
     low = low;
     given = λ i h. q.given i (le_trans h (fewer i));
-    quiet = each_map (Quiet s.queues.high) (Quiet queues.high) s.works (λ i w is h quiet. zero_of (le_trans (fewer i) (le_of_eq (h quiet)))) q.quiet;
+    quiet = each_map (Unpushed s.queues.high) (Unpushed queues.high) s.works (λ i w is h quiet. zero_of (le_trans (fewer i) (le_of_eq (h quiet)))) q.quiet;
     ended = q.ended;
     later = q.later;
   }
@@ -214,20 +214,20 @@ module _ {base : Core} where
     once = q.once;
     low = q.low;
     given = q.given;
-    quiet = each_change (Quiet s.queues.high) s.works i f q.quiet (λ w is h. quiet w is);
+    quiet = each_change (Unpushed s.queues.high) s.works i f q.quiet (λ w is h. quiet w is);
     ended = each_change EndedStage s.works i f q.ended (λ w is h. ended w is);
     later = λ j below. work_later_change s.works i f rises j (get base.works j) (q.later j below);
   }
 
   pub work_spun : (i : ℕ) (f : Work → Work) {s : Core} → ((w : Work) → (f w).course ≡ w.course) → ((w : Work) → (f w).stage ≡ w.stage) → Spun base s → Spun base (on_work i f s)
   work_spun i f {s = s} course stage q = work_changed i f
-      (λ w is h. each_get (Quiet s.queues.high) s.works q.quiet i w is (ap (λ x. is_stage_live x || has_end w.course) (sym (stage w)) ∙ (ap (λ c. is_stage_live (f w).stage || has_end c) (sym (course w)) ∙ h)))
+      (λ w is h. each_get (Unpushed s.queues.high) s.works q.quiet i w is (ap (λ x. is_stage_live x || has_end w.course) (sym (stage w)) ∙ (ap (λ c. is_stage_live (f w).stage || has_end c) (sym (course w)) ∙ h)))
       (λ w is h. ap (λ x. is_stage_live x) (stage w) ∙ each_get EndedStage s.works q.ended i w is (ap (λ c. has_end c) (sym (course w)) ∙ h))
       (λ w is h. course w) q
 
   pub stage_spun : (i : ℕ) (x : Stage) {s : Core} → is_stage_live x ≡ false → Spun base s → Spun base (on_work i (λ w. record w { stage = x }) s)
   stage_spun i x {s = s} dead q = work_changed i (λ w. record w { stage = x })
-      (λ w is h. each_get (Quiet s.queues.high) s.works q.quiet i w is (or_right (is_stage_live w.stage) (has_end w.course) (ap (λ b. b || has_end w.course) (sym dead) ∙ h)))
+      (λ w is h. each_get (Unpushed s.queues.high) s.works q.quiet i w is (or_right (is_stage_live w.stage) (has_end w.course) (ap (λ b. b || has_end w.course) (sym dead) ∙ h)))
       (λ w is h. dead)
       (λ w is h. refl) q
 
@@ -347,7 +347,7 @@ module _ {base : Core} where
     once = q.once;
     low = q.low;
     given = q.given;
-    quiet = each_remove (Quiet s.queues.high) s.works i q.quiet;
+    quiet = each_remove (Unpushed s.queues.high) s.works i q.quiet;
     ended = each_remove EndedStage s.works i q.ended;
     later = λ j below. work_later_remove s.works i j (get base.works j) (q.later j below);
   }
@@ -455,7 +455,7 @@ module _ {base : Core} where
         once = λ i. once_pushed i s.made.works s.queues.high (q.once i) (q.given i);
         low = q.low;
         given = λ i h. given_pushed i s.made.works s.queues.high (q.given i) h;
-        quiet = each_insert (Quiet (s.queues.high ++ entry.Push m ∷ [])) s.works m w (each_map (Quiet s.queues.high) (Quiet (s.queues.high ++ entry.Push m ∷ [])) s.works (λ i v is h quiet. other_pushed i s.made.works s.queues.high (each_get (λ j u. j ≤ s.made.works) s.works q.numbers i v is) ∙ h quiet) q.quiet) (λ h. no_way h);
+        quiet = each_insert (Unpushed (s.queues.high ++ entry.Push m ∷ [])) s.works m w (each_map (Unpushed s.queues.high) (Unpushed (s.queues.high ++ entry.Push m ∷ [])) s.works (λ i v is h quiet. other_pushed i s.made.works s.queues.high (each_get (λ j u. j ≤ s.made.works) s.works q.numbers i v is) ∙ h quiet) q.quiet) (λ h. no_way h);
         ended = each_insert EndedStage s.works m w q.ended (λ h. refl);
         later = λ i below. subst (λ (r : Option Work). LaterBy WorkRises (get base.works i) r) (sym (get-insert_other s.works m w i (λ same. too_high same (le_trans below q.counted)))) (q.later i below);
       }

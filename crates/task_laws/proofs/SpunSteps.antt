@@ -8,7 +8,7 @@ use Rattle.std.specs.Prelude.{Bool, List, None, Option, Some, [], false, if◌th
 use Rattle.task_laws.proofs.EachLemmas.{each_empty}
 use Rattle.task_laws.proofs.SoundFields.{no_way}
 use Rattle.task_laws.proofs.SoundLemmas.{same_number, too_low}
-use Rattle.task_laws.proofs.SpunFields.{EndedStage, Quiet, Spun, work_later_refl}
+use Rattle.task_laws.proofs.SpunFields.{EndedStage, Spun, Unpushed, work_later_refl}
 use Rattle.task_machine.specs.Core.{Core, fresh}
 use Rattle.task_machine.specs.Maps.{empty, get, numbers}
 use Rattle.task_machine.specs.Moves.{ended, taken}
@@ -36,7 +36,7 @@ opening_calm instances handle_limit capacity = record {
   once = λ i. no_pushes_at_most 0 refl;
   low = λ i. refl;
   given = λ i h. absurd (too_low h);
-  quiet = each_empty (Quiet []);
+  quiet = each_empty (Unpushed []);
   ended = each_empty EndedStage;
   later = λ i below. work_later_refl (get empty i);
 }
@@ -88,6 +88,6 @@ live_found : (n : ℕ) (es : List (ℕ × Work)) (i : ℕ) → T (is_sorted nat_
 live_found n [] i sorted h = no_way (ap (λ o. is_some o) h)
 live_found n (e ∷ es) i sorted h = live_head n e es i (first (below_all nat_cmp e.0 es) (is_sorted nat_cmp es) sorted) (live_found n es i (second (below_all nat_cmp e.0 es) (is_sorted nat_cmp es) sorted)) (is_live e.1) refl (nat_lt n e.0) refl h
 
-polled_is_live : (n : ℕ) (s : Core) (i : ℕ) → next_polled n s ≡ Some i → option_map_or is_live (get s.works i) false ≡ true
+pub polled_is_live : (n : ℕ) (s : Core) (i : ℕ) → next_polled n s ≡ Some i → option_map_or is_live (get s.works i) false ≡ true
 unfolding next_polled get
 polled_is_live n s i h = live_found n s.works.list i s.works.sorted h
