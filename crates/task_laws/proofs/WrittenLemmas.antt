@@ -1,4 +1,4 @@
--- The end of a call is written at most once.
+-- The end of a call, and that of a host work, is written at most once.
 use Rattle.std.proofs.Common.{ap, arith, le_trans, refl, subst, ◌∙◌}
 use Rattle.std.proofs.lemmas.List.Recursion.{is_count_by}
 use Rattle.std.specs.Prelude.{Bool, List, None, Option, Some, [], count_by, false, if◌then◌else◌, is_some, not, option_map, true, ℕ, ◌&&◌, ◌+◌, ◌==◌, ◌∷◌, ◌≡◌, ◌≤◌}
@@ -6,19 +6,26 @@ use Rattle.task_laws.proofs.EachLemmas.{each_get}
 use Rattle.task_laws.proofs.SoundFields.{no_way}
 use Rattle.task_laws.proofs.SoundLemmas.{CallSound, Sound, same_number, true_is_not_false}
 use Rattle.task_laws.proofs.SoundSteps.{Settled, reached_settled, renewed, step_sound}
-use Rattle.task_laws.specs.Rises.{CallEndsWrittenOnce, Rises}
-use Rattle.task_laws.specs.Settings.{CodesInCallbacks}
-use Rattle.task_machine.specs.Core.{State}
+use Rattle.task_laws.proofs.SpunFields.{Spun, WorkRises, has_end}
+use Rattle.task_laws.proofs.SpunLemmas.{run_calm, step_spun}
+use Rattle.task_laws.proofs.SpunSteps.{Calm, calmed, opening_calm}
+use Rattle.task_laws.specs.Rises.{Rises}
+use Rattle.task_laws.specs.Settings.{CodesInCallbacks, Reached}
+use Rattle.task_laws.specs.Written.{EndsWrittenOnce}
+use Rattle.task_machine.specs.Core.{Core, State}
 use Rattle.task_machine.specs.Maps.{get}
 use Rattle.task_machine.specs.declared.label.Label.{Label}
 use Rattle.task_machine.specs.declared.records.Call.{Call}
 use Rattle.task_machine.specs.declared.records.CallEnd.{CallEnd}
+use Rattle.task_machine.specs.declared.records.Course.{Course}
+use Rattle.task_machine.specs.declared.records.Work.{Work}
 use Rattle.task_rules.specs.History.{Moment, history}
 use Rattle.task_rules.specs.Laws.{LaterBy}
-use Rattle.task_rules.specs.Once.{call_end_code, is_written, writes_end}
-use Rattle.task_rules.specs.Run.{Run}
+use Rattle.task_rules.specs.Once.{call_end_code, course_code, is_written, writes_end}
+use Rattle.task_rules.specs.Run.{Run, opening}
 use Rattle.task_rules.specs.Stalled.{Setting}
 use Rattle.task_machine.specs.declared.records.CallEnd.TheVariants as call_end
+use Rattle.task_machine.specs.declared.records.Course.TheVariants as course
 use Rattle.task_machine.specs.declared.records.Subtask.TheVariants as subtask
 
 -- the code of the end of a call, if there is one
@@ -115,5 +122,68 @@ module _ (x : Setting) (grammar : CodesInCallbacks x.component) (k : ℕ) where
       made_of q None at p w = no_way w
       made_of q (Some c) at p w = (each_get (CallSound x.component s.core.made.threads) s.core.calls q.calls k c at).number
 
-pub call_ends_written_once : CallEndsWrittenOnce
-call_ends_written_once x s ls t r run k = subst (λ (n : ℕ). n ≤ 1) (counted_is (writes_end (subtask.Guest k)) (history x s ls t run)) (once_written x r.scripts k s (reached_settled r) ls t run)
+-- ---- Host works
+
+abbrev work_code : Option Work → Option ℕ
+work_code o = option_map (λ (w : Work). course_code w.course) o
+
+abbrev is_work_over : Option Work → Bool
+is_work_over None = true
+is_work_over (Some w) = has_end w.course
+
+work_over_stays : (o p : Option Work) → LaterBy WorkRises o p → is_work_over o ≡ true → is_work_over p ≡ true
+work_over_stays None None h over = refl
+work_over_stays None (Some d) h over = absurd h
+work_over_stays (Some c) None h over = refl
+work_over_stays (Some c) (Some d) h over = ap (λ e. has_end e) (h over) ∙ over
+
+course_nonzero : (c : Course) → has_end c ≡ true → (course_code c == 0) ≡ false
+course_nonzero (course.Goes host) h = no_way h
+course_nonzero (course.Value v) h = refl
+course_nonzero course.NoValue h = refl
+
+work_not_written : (o p : Option Work) → LaterBy WorkRises o p → is_work_over o ≡ true → is_written (work_code o) (work_code p) ≡ false
+work_not_written None p h over = refl
+work_not_written (Some c) None h over = course_nonzero c.course over
+work_not_written (Some c) (Some d) h over = ap (λ e. not (course_code e == 0) && not (course_code e == course_code c.course)) (h over) ∙ and_not_same (not (course_code c.course == 0)) (course_code c.course)
+
+course_over : (d : Course) (n : ℕ) → (not (course_code d == 0) && not (course_code d == n)) ≡ true → has_end d ≡ true
+course_over (course.Goes host) n h = no_way h
+course_over (course.Value v) n h = refl
+course_over course.NoValue n h = refl
+
+work_unwritten : (o p : Option Work) → is_written (work_code o) (work_code p) ≡ true → is_work_over p ≡ true
+work_unwritten None p w = no_way w
+work_unwritten (Some c) None w = refl
+work_unwritten (Some c) (Some d) w = course_over d.course (course_code c.course) w
+
+module _ (x : Setting) (i : ℕ) where
+  none_written_work : (s : State) → Calm s.core → i ≤ s.core.made.works → is_work_over (get s.core.works i) ≡ true → (ls : List Label) (t : State) → (run : Run x s ls t) → counted (writes_end (subtask.Host i)) (history x s ls t run) ≡ 0
+  none_written_work s q below over [] t run = refl
+  none_written_work s q below over (l ∷ ls) t run =
+      let h : Spun s.core run.0.core = step_spun x s q l run.0 run.1.0 in
+      let later : LaterBy WorkRises (get s.core.works i) (get run.0.core.works i) = h.later i below in
+      none_more (is_written (work_code (get s.core.works i)) (work_code (get run.0.core.works i))) _
+        (work_not_written (get s.core.works i) (get run.0.core.works i) later over)
+        (none_written_work run.0 (calmed h) (le_trans below h.counted) (work_over_stays (get s.core.works i) (get run.0.core.works i) later over) ls t run.1.1)
+
+  work_made : {s : Core} → Calm s → (o : Option Work) → get s.works i ≡ o → (p : Option Work) → is_written (work_code o) (work_code p) ≡ true → i ≤ s.made.works
+  work_made q None at p w = no_way w
+  work_made {s = s} q (Some c) at p w = each_get (λ j v. j ≤ s.made.works) s.works q.numbers i c at
+
+  once_written_work : (s : State) → Calm s.core → (ls : List Label) (t : State) → (run : Run x s ls t) → counted (writes_end (subtask.Host i)) (history x s ls t run) ≤ 1
+  once_written_work s q [] t run = omega arith
+  once_written_work s q (l ∷ ls) t run =
+      let h : Spun s.core run.0.core = step_spun x s q l run.0 run.1.0 in
+      one_at_most (is_written (work_code (get s.core.works i)) (work_code (get run.0.core.works i))) _
+        (once_written_work run.0 (calmed h) ls t run.1.1)
+        (λ w. none_written_work run.0 (calmed h) (le_trans (work_made q (get s.core.works i) refl (get run.0.core.works i) w) h.counted) (work_unwritten (get s.core.works i) (get run.0.core.works i) w) ls t run.1.1)
+
+-- ---- The law
+
+reached_calm : {x : Setting} {s : State} → Reached x s → Calm s.core
+reached_calm {x = x} {s = s} r = run_calm x (opening r.instances r.handle_limit r.capacity r.main) (opening_calm r.instances r.handle_limit r.capacity) r.labels s r.run
+
+pub ends_written_once : EndsWrittenOnce
+ends_written_once x s ls t r run (subtask.Guest k) = subst (λ (n : ℕ). n ≤ 1) (counted_is (writes_end (subtask.Guest k)) (history x s ls t run)) (once_written x r.scripts k s (reached_settled r) ls t run)
+ends_written_once x s ls t r run (subtask.Host i) = subst (λ (n : ℕ). n ≤ 1) (counted_is (writes_end (subtask.Host i)) (history x s ls t run)) (once_written_work x i s (reached_calm r) ls t run)

@@ -1,5 +1,5 @@
 -- How the status of a call goes on: it only rises, and an end stays.
-use Rattle.std.specs.Prelude.{count_by, Bool, List, None, Option, Some, false, true, ℕ, ◌≡◌, ◌≤◌}
+use Rattle.std.specs.Prelude.{Bool, List, None, Option, Some, false, true, ℕ, ◌≡◌, ◌≤◌}
 use Rattle.task_machine.specs.declared.label.Label.{Label}
 use Rattle.task_machine.specs.declared.records.Call.{Call}
 use Rattle.task_machine.specs.declared.records.CallEnd.{CallEnd}
@@ -11,10 +11,7 @@ use Rattle.task_machine.specs.Maps.{get}
 use Rattle.task_machine.specs.Read.{is_async_lifted}
 use Rattle.task_laws.specs.Settings.{Reached}
 use Rattle.task_rules.specs.Laws.{LaterBy}
-use Rattle.task_rules.specs.History.{history}
-use Rattle.task_rules.specs.Once.{writes_end}
 use Rattle.task_rules.specs.Run.{Run}
-use Rattle.task_machine.specs.declared.records.Subtask.TheVariants as subtask
 use Rattle.task_rules.specs.Stalled.{Setting}
 use Rattle.task_rules.specs.Step.{Step}
 
@@ -68,8 +65,3 @@ SyncNeverCancelled = (x : Setting) (s : State) → Reached x s → (k : ℕ) (c 
 -- once such a task has ended its first thread is gone
 abbrev pub SyncEndsLast : Type 0
 SyncEndsLast = (x : Setting) (s : State) → Reached x s → (k : ℕ) (c : Call) → get s.core.calls k ≡ Some c → is_async_lifted c.kind ≡ false → (e : CallEnd) → c.«end» ≡ Some e → get s.core.threads k ≡ None
-
--- the end of each call is written at most once: what the first part of EndsOnce says of calls
-abbrev pub CallEndsWrittenOnce : Type 0
-CallEndsWrittenOnce =
-    (x : Setting) (s : State) (ls : List Label) (t : State) → Reached x s → (run : Run x s ls t) → (k : ℕ) → count_by (writes_end (subtask.Guest k)) (history x s ls t run) ≤ 1

@@ -6,8 +6,10 @@
 
 mod holders;
 mod rises;
+mod written;
 
 pub use holders::one_entry_holds;
 pub use rises::{
-    call_ends_are_written_once, runs_rise, statuses_rise, sync_end_is_last, sync_is_never_cancelled,
+    runs_rise, statuses_rise, sync_end_is_last, sync_is_never_cancelled,
 };
+pub use written::{ends_are_written_once};

@@ -1,4 +1,4 @@
-ghost use Rattle.task_laws.specs.Rises.{CallEndsWrittenOnce, RunsRise, StepsRise, SyncEndsLast, SyncNeverCancelled};
+ghost use Rattle.task_laws.specs.Rises.{RunsRise, StepsRise, SyncEndsLast, SyncNeverCancelled};
 
 /// A call's end is never replaced, and its status only rises: from Starting to Started to an end,
 /// or to StartCancelled before its start has run.
@@ -19,9 +19,4 @@ pub fn sync_is_never_cancelled()
 /// Once a task of a sync or a blocking export has ended, its first thread is gone.
 pub fn sync_end_is_last()
     ensures { SyncEndsLast }
-{}
-
-/// In each run the end of a call is written at most once.
-pub fn call_ends_are_written_once()
-    ensures { CallEndsWrittenOnce }
 {}
