@@ -34,7 +34,6 @@ use Rattle.task_machine.specs.declared.words.Phase.{Phase}
 use Rattle.task_machine.specs.declared.words.Status.{Status}
 use Rattle.task_rules.proofs.KeepWords.{same}
 use Rattle.task_rules.specs.Calls.{call_made, new_work, work_queued}
-use Rattle.task_rules.specs.Ends.{cancelled}
 use Rattle.task_rules.specs.Laws.{LaterBy}
 use Rattle.task_rules.specs.Places.{one_if}
 use Rattle.task_rules.specs.Takes.{rest_of}

@@ -137,9 +137,10 @@ push_next None (e ∷ es) low m i h none = (sym (ap mark_in h), pushes_head i e 
 
 push_high_taken : {s : Core} (i : ℕ) → Calm s → pushes i s.queues.high ≡ 1 + pushes i (rest_of s.queues.high) → (pushes i (popped mark.High s).queues.high ≡ 0) × ((w : Work) → get (popped mark.High s).works i ≡ Some w → has_end w.course ≡ false)
 unfolding popped set_high
-push_high_taken {s = s} i q h =
-    (one_left (pushes i s.queues.high) (pushes i (rest_of s.queues.high)) h (q.once i),
-     λ w is. not_both (has_end w.course) (λ ends. none_twice (pushes i s.queues.high) (pushes i (rest_of s.queues.high)) h (each_get (Unpushed s.queues.high) s.works q.quiet i w is (or_right (is_stage_live w.stage) (has_end w.course) ends))))
+push_high_taken {s = s} i q h = (
+  one_left (pushes i s.queues.high) (pushes i (rest_of s.queues.high)) h (q.once i),
+  λ w is. not_both (has_end w.course) (λ ends. none_twice (pushes i s.queues.high) (pushes i (rest_of s.queues.high)) h (each_get (Unpushed s.queues.high) s.works q.quiet i w is (or_right (is_stage_live w.stage) (has_end w.course) ends))),
+)
 
 push_taken : {s : Core} (m : Mark) (i : ℕ) → Calm s → next_entry s ≡ Some (m, entry.Push i) → (pushes i (popped m s).queues.high ≡ 0) × ((w : Work) → get (popped m s).works i ≡ Some w → has_end w.course ≡ false)
 unfolding next_entry

@@ -164,8 +164,8 @@ module _ (x : Setting) (i : ℕ) where
       let h : Spun s.core run.0.core = step_spun x s q l run.0 run.1.0 in
       let later : LaterBy WorkRises (get s.core.works i) (get run.0.core.works i) = h.later i below in
       none_more (is_written (work_code (get s.core.works i)) (work_code (get run.0.core.works i))) _
-        (work_not_written (get s.core.works i) (get run.0.core.works i) later over)
-        (none_written_work run.0 (calmed h) (le_trans below h.counted) (work_over_stays (get s.core.works i) (get run.0.core.works i) later over) ls t run.1.1)
+      (work_not_written (get s.core.works i) (get run.0.core.works i) later over)
+      (none_written_work run.0 (calmed h) (le_trans below h.counted) (work_over_stays (get s.core.works i) (get run.0.core.works i) later over) ls t run.1.1)
 
   work_made : {s : Core} → Calm s → (o : Option Work) → get s.works i ≡ o → (p : Option Work) → is_written (work_code o) (work_code p) ≡ true → i ≤ s.made.works
   work_made q None at p w = no_way w
@@ -176,8 +176,8 @@ module _ (x : Setting) (i : ℕ) where
   once_written_work s q (l ∷ ls) t run =
       let h : Spun s.core run.0.core = step_spun x s q l run.0 run.1.0 in
       one_at_most (is_written (work_code (get s.core.works i)) (work_code (get run.0.core.works i))) _
-        (once_written_work run.0 (calmed h) ls t run.1.1)
-        (λ w. none_written_work run.0 (calmed h) (le_trans (work_made q (get s.core.works i) refl (get run.0.core.works i) w) h.counted) (work_unwritten (get s.core.works i) (get run.0.core.works i) w) ls t run.1.1)
+      (once_written_work run.0 (calmed h) ls t run.1.1)
+      (λ w. none_written_work run.0 (calmed h) (le_trans (work_made q (get s.core.works i) refl (get run.0.core.works i) w) h.counted) (work_unwritten (get s.core.works i) (get run.0.core.works i) w) ls t run.1.1)
 
 -- ---- The law
 

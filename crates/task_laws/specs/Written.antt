@@ -1,5 +1,5 @@
 -- Each end is written at most once.
-use Rattle.std.specs.Prelude.{List, count_by, ℕ, ◌≤◌}
+use Rattle.std.specs.Prelude.{List, count_by, ◌≤◌}
 use Rattle.task_laws.specs.Settings.{Reached}
 use Rattle.task_machine.specs.Core.{State}
 use Rattle.task_machine.specs.declared.label.Label.{Label}
