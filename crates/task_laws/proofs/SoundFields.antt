@@ -78,7 +78,7 @@ module _ {component : Component} {base : Core} {ending : ℕ} where
 
   pub set_callers_sound : (a0 : ℕ) (a1 : List ℕ) {s : Core} → Sound component base ending s → Sound component base ending (set_callers a0 a1 s)
   unfolding set_callers
-  set_callers_sound a0 a1 q = record { counted = q.counted; threads = q.threads; calls = q.calls; gone = q.gone; later = q.later; callbacks = q.callbacks }
+  set_callers_sound a0 a1 q = record { counted = q.counted; threads = q.threads; calls = q.calls; gone = q.gone; later = q.later; callbacks = q.callbacks; nameless = q.nameless }
 
   pub set_started_sound : (a0 : ℕ) {s : Core} → Sound component base ending s → Sound component base ending (set_started a0 s)
   unfolding set_started
@@ -107,129 +107,129 @@ module _ {component : Component} {base : Core} {ending : ℕ} where
   pub set_event_sound : (a0 : Subtask) (a1 : Option Status) {s : Core} → Sound component base ending s → Sound component base ending (set_event a0 a1 s)
   unfolding set_event on_work
   set_event_sound (subtask.Guest k) a1 q = call_touched k (λ c. record c { event = a1 }) (λ c. record { kind = refl; callee = refl; goal = refl; ends = refl; started = λ h. h; delivered = refl }) q
-  set_event_sound (subtask.Host i) a1 q = record { counted = q.counted; threads = q.threads; calls = q.calls; gone = q.gone; later = q.later; callbacks = q.callbacks }
+  set_event_sound (subtask.Host i) a1 q = record { counted = q.counted; threads = q.threads; calls = q.calls; gone = q.gone; later = q.later; callbacks = q.callbacks; nameless = q.nameless }
 
   pub set_join_sound : (a0 : Subtask) (a1 : Join) {s : Core} → Sound component base ending s → Sound component base ending (set_join a0 a1 s)
   unfolding set_join on_work
   set_join_sound (subtask.Guest k) a1 q = call_touched k (λ c. record c { join = a1 }) (λ c. record { kind = refl; callee = refl; goal = refl; ends = refl; started = λ h. h; delivered = refl }) q
-  set_join_sound (subtask.Host i) a1 q = record { counted = q.counted; threads = q.threads; calls = q.calls; gone = q.gone; later = q.later; callbacks = q.callbacks }
+  set_join_sound (subtask.Host i) a1 q = record { counted = q.counted; threads = q.threads; calls = q.calls; gone = q.gone; later = q.later; callbacks = q.callbacks; nameless = q.nameless }
 
   pub set_subtask_handle_sound : (a0 : Subtask) (a1 : Option ℕ) {s : Core} → Sound component base ending s → Sound component base ending (set_subtask_handle a0 a1 s)
   unfolding set_subtask_handle on_work
   set_subtask_handle_sound (subtask.Guest k) a1 q = call_touched k (λ c. record c { handle = a1 }) (λ c. record { kind = refl; callee = refl; goal = refl; ends = refl; started = λ h. h; delivered = refl }) q
-  set_subtask_handle_sound (subtask.Host i) a1 q = record { counted = q.counted; threads = q.threads; calls = q.calls; gone = q.gone; later = q.later; callbacks = q.callbacks }
+  set_subtask_handle_sound (subtask.Host i) a1 q = record { counted = q.counted; threads = q.threads; calls = q.calls; gone = q.gone; later = q.later; callbacks = q.callbacks; nameless = q.nameless }
 
   pub count_work_sound : {s : Core} → Sound component base ending s → Sound component base ending (count_work s)
   unfolding count_work
-  count_work_sound q = record { counted = q.counted; threads = q.threads; calls = q.calls; gone = q.gone; later = q.later; callbacks = q.callbacks }
+  count_work_sound q = record { counted = q.counted; threads = q.threads; calls = q.calls; gone = q.gone; later = q.later; callbacks = q.callbacks; nameless = q.nameless }
 
   pub remove_work_sound : (a0 : ℕ) {s : Core} → Sound component base ending s → Sound component base ending (remove_work a0 s)
   unfolding remove_work
-  remove_work_sound a0 q = record { counted = q.counted; threads = q.threads; calls = q.calls; gone = q.gone; later = q.later; callbacks = q.callbacks }
+  remove_work_sound a0 q = record { counted = q.counted; threads = q.threads; calls = q.calls; gone = q.gone; later = q.later; callbacks = q.callbacks; nameless = q.nameless }
 
   pub set_course_sound : (a0 : ℕ) (a1 : Course) {s : Core} → Sound component base ending s → Sound component base ending (set_course a0 a1 s)
   unfolding set_course on_work
-  set_course_sound a0 a1 q = record { counted = q.counted; threads = q.threads; calls = q.calls; gone = q.gone; later = q.later; callbacks = q.callbacks }
+  set_course_sound a0 a1 q = record { counted = q.counted; threads = q.threads; calls = q.calls; gone = q.gone; later = q.later; callbacks = q.callbacks; nameless = q.nameless }
 
   pub set_phase_sound : (a0 : ℕ) (a1 : Phase) {s : Core} → Sound component base ending s → Sound component base ending (set_phase a0 a1 s)
   unfolding set_phase on_work
-  set_phase_sound a0 a1 q = record { counted = q.counted; threads = q.threads; calls = q.calls; gone = q.gone; later = q.later; callbacks = q.callbacks }
+  set_phase_sound a0 a1 q = record { counted = q.counted; threads = q.threads; calls = q.calls; gone = q.gone; later = q.later; callbacks = q.callbacks; nameless = q.nameless }
 
   pub set_stage_sound : (a0 : ℕ) (a1 : Stage) {s : Core} → Sound component base ending s → Sound component base ending (set_stage a0 a1 s)
   unfolding set_stage on_work
-  set_stage_sound a0 a1 q = record { counted = q.counted; threads = q.threads; calls = q.calls; gone = q.gone; later = q.later; callbacks = q.callbacks }
+  set_stage_sound a0 a1 q = record { counted = q.counted; threads = q.threads; calls = q.calls; gone = q.gone; later = q.later; callbacks = q.callbacks; nameless = q.nameless }
 
   pub set_cancelled_sound : (a0 : ℕ) {s : Core} → Sound component base ending s → Sound component base ending (set_cancelled a0 s)
   unfolding set_cancelled on_work
-  set_cancelled_sound a0 q = record { counted = q.counted; threads = q.threads; calls = q.calls; gone = q.gone; later = q.later; callbacks = q.callbacks }
+  set_cancelled_sound a0 q = record { counted = q.counted; threads = q.threads; calls = q.calls; gone = q.gone; later = q.later; callbacks = q.callbacks; nameless = q.nameless }
 
   pub add_set_sound : (a0 : Set) {s : Core} → Sound component base ending s → Sound component base ending (add_set a0 s)
   unfolding add_set
-  add_set_sound a0 q = record { counted = q.counted; threads = q.threads; calls = q.calls; gone = q.gone; later = q.later; callbacks = q.callbacks }
+  add_set_sound a0 q = record { counted = q.counted; threads = q.threads; calls = q.calls; gone = q.gone; later = q.later; callbacks = q.callbacks; nameless = q.nameless }
 
   pub remove_set_sound : (a0 : ℕ) {s : Core} → Sound component base ending s → Sound component base ending (remove_set a0 s)
   unfolding remove_set
-  remove_set_sound a0 q = record { counted = q.counted; threads = q.threads; calls = q.calls; gone = q.gone; later = q.later; callbacks = q.callbacks }
+  remove_set_sound a0 q = record { counted = q.counted; threads = q.threads; calls = q.calls; gone = q.gone; later = q.later; callbacks = q.callbacks; nameless = q.nameless }
 
   pub set_backpressure_sound : (a0 : ℕ) (a1 : ℕ) {s : Core} → Sound component base ending s → Sound component base ending (set_backpressure a0 a1 s)
   unfolding set_backpressure on_instance
-  set_backpressure_sound a0 a1 q = record { counted = q.counted; threads = q.threads; calls = q.calls; gone = q.gone; later = q.later; callbacks = q.callbacks }
+  set_backpressure_sound a0 a1 q = record { counted = q.counted; threads = q.threads; calls = q.calls; gone = q.gone; later = q.later; callbacks = q.callbacks; nameless = q.nameless }
 
   pub set_do_not_enter_sound : (a0 : ℕ) (a1 : Bool) {s : Core} → Sound component base ending s → Sound component base ending (set_do_not_enter a0 a1 s)
   unfolding set_do_not_enter on_instance
-  set_do_not_enter_sound a0 a1 q = record { counted = q.counted; threads = q.threads; calls = q.calls; gone = q.gone; later = q.later; callbacks = q.callbacks }
+  set_do_not_enter_sound a0 a1 q = record { counted = q.counted; threads = q.threads; calls = q.calls; gone = q.gone; later = q.later; callbacks = q.callbacks; nameless = q.nameless }
 
   pub set_do_not_suspend_sound : (a0 : ℕ) (a1 : Bool) {s : Core} → Sound component base ending s → Sound component base ending (set_do_not_suspend a0 a1 s)
   unfolding set_do_not_suspend on_instance
-  set_do_not_suspend_sound a0 a1 q = record { counted = q.counted; threads = q.threads; calls = q.calls; gone = q.gone; later = q.later; callbacks = q.callbacks }
+  set_do_not_suspend_sound a0 a1 q = record { counted = q.counted; threads = q.threads; calls = q.calls; gone = q.gone; later = q.later; callbacks = q.callbacks; nameless = q.nameless }
 
   pub set_word_sound : (a0 : ℕ) (a1 : ℕ) (a2 : ℕ) {s : Core} → Sound component base ending s → Sound component base ending (set_word a0 a1 a2 s)
   unfolding set_word on_instance
-  set_word_sound a0 a1 a2 q = record { counted = q.counted; threads = q.threads; calls = q.calls; gone = q.gone; later = q.later; callbacks = q.callbacks }
+  set_word_sound a0 a1 a2 q = record { counted = q.counted; threads = q.threads; calls = q.calls; gone = q.gone; later = q.later; callbacks = q.callbacks; nameless = q.nameless }
 
   pub give_handle_sound : (a0 : ℕ) (a1 : Named) {s : Core} → Sound component base ending s → Sound component base ending (give_handle a0 a1 s)
   unfolding give_handle
-  give_handle_sound a0 a1 q = record { counted = q.counted; threads = q.threads; calls = q.calls; gone = q.gone; later = q.later; callbacks = q.callbacks }
+  give_handle_sound a0 a1 q = record { counted = q.counted; threads = q.threads; calls = q.calls; gone = q.gone; later = q.later; callbacks = q.callbacks; nameless = q.nameless }
 
   pub free_handle_sound : (a0 : ℕ) (a1 : ℕ) {s : Core} → Sound component base ending s → Sound component base ending (free_handle a0 a1 s)
   unfolding free_handle
-  free_handle_sound a0 a1 q = record { counted = q.counted; threads = q.threads; calls = q.calls; gone = q.gone; later = q.later; callbacks = q.callbacks }
+  free_handle_sound a0 a1 q = record { counted = q.counted; threads = q.threads; calls = q.calls; gone = q.gone; later = q.later; callbacks = q.callbacks; nameless = q.nameless }
 
   pub give_thread_handle_sound : (a0 : ℕ) (a1 : ℕ) {s : Core} → Sound component base ending s → Sound component base ending (give_thread_handle a0 a1 s)
   unfolding give_thread_handle
-  give_thread_handle_sound a0 a1 q = record { counted = q.counted; threads = q.threads; calls = q.calls; gone = q.gone; later = q.later; callbacks = q.callbacks }
+  give_thread_handle_sound a0 a1 q = record { counted = q.counted; threads = q.threads; calls = q.calls; gone = q.gone; later = q.later; callbacks = q.callbacks; nameless = q.nameless }
 
   pub free_thread_handle_sound : (a0 : ℕ) (a1 : ℕ) {s : Core} → Sound component base ending s → Sound component base ending (free_thread_handle a0 a1 s)
   unfolding free_thread_handle
-  free_thread_handle_sound a0 a1 q = record { counted = q.counted; threads = q.threads; calls = q.calls; gone = q.gone; later = q.later; callbacks = q.callbacks }
+  free_thread_handle_sound a0 a1 q = record { counted = q.counted; threads = q.threads; calls = q.calls; gone = q.gone; later = q.later; callbacks = q.callbacks; nameless = q.nameless }
 
   pub set_switch_sound : (a0 : Option ℕ) {s : Core} → Sound component base ending s → Sound component base ending (set_switch a0 s)
   unfolding set_switch
-  set_switch_sound a0 q = record { counted = q.counted; threads = q.threads; calls = q.calls; gone = q.gone; later = q.later; callbacks = q.callbacks }
+  set_switch_sound a0 q = record { counted = q.counted; threads = q.threads; calls = q.calls; gone = q.gone; later = q.later; callbacks = q.callbacks; nameless = q.nameless }
 
   pub push_high_sound : (a0 : Entry) {s : Core} → Sound component base ending s → Sound component base ending (push_high a0 s)
   unfolding push_high
-  push_high_sound a0 q = record { counted = q.counted; threads = q.threads; calls = q.calls; gone = q.gone; later = q.later; callbacks = q.callbacks }
+  push_high_sound a0 q = record { counted = q.counted; threads = q.threads; calls = q.calls; gone = q.gone; later = q.later; callbacks = q.callbacks; nameless = q.nameless }
 
   pub push_high_first_sound : (a0 : Entry) {s : Core} → Sound component base ending s → Sound component base ending (push_high_first a0 s)
   unfolding push_high_first
-  push_high_first_sound a0 q = record { counted = q.counted; threads = q.threads; calls = q.calls; gone = q.gone; later = q.later; callbacks = q.callbacks }
+  push_high_first_sound a0 q = record { counted = q.counted; threads = q.threads; calls = q.calls; gone = q.gone; later = q.later; callbacks = q.callbacks; nameless = q.nameless }
 
   pub push_low_sound : (a0 : Entry) {s : Core} → Sound component base ending s → Sound component base ending (push_low a0 s)
   unfolding push_low
-  push_low_sound a0 q = record { counted = q.counted; threads = q.threads; calls = q.calls; gone = q.gone; later = q.later; callbacks = q.callbacks }
+  push_low_sound a0 q = record { counted = q.counted; threads = q.threads; calls = q.calls; gone = q.gone; later = q.later; callbacks = q.callbacks; nameless = q.nameless }
 
   pub set_high_sound : (a0 : List Entry) {s : Core} → Sound component base ending s → Sound component base ending (set_high a0 s)
   unfolding set_high
-  set_high_sound a0 q = record { counted = q.counted; threads = q.threads; calls = q.calls; gone = q.gone; later = q.later; callbacks = q.callbacks }
+  set_high_sound a0 q = record { counted = q.counted; threads = q.threads; calls = q.calls; gone = q.gone; later = q.later; callbacks = q.callbacks; nameless = q.nameless }
 
   pub set_low_sound : (a0 : List Entry) {s : Core} → Sound component base ending s → Sound component base ending (set_low a0 s)
   unfolding set_low
-  set_low_sound a0 q = record { counted = q.counted; threads = q.threads; calls = q.calls; gone = q.gone; later = q.later; callbacks = q.callbacks }
+  set_low_sound a0 q = record { counted = q.counted; threads = q.threads; calls = q.calls; gone = q.gone; later = q.later; callbacks = q.callbacks; nameless = q.nameless }
 
   pub give_result_sound : (a0 : ℕ) (a1 : ℕ) {s : Core} → Sound component base ending s → Sound component base ending (give_result a0 a1 s)
   unfolding give_result
-  give_result_sound a0 a1 q = record { counted = q.counted; threads = q.threads; calls = q.calls; gone = q.gone; later = q.later; callbacks = q.callbacks }
+  give_result_sound a0 a1 q = record { counted = q.counted; threads = q.threads; calls = q.calls; gone = q.gone; later = q.later; callbacks = q.callbacks; nameless = q.nameless }
 
   pub take_result_sound : (a0 : ℕ) {s : Core} → Sound component base ending s → Sound component base ending (take_result a0 s)
   unfolding take_result
-  take_result_sound a0 q = record { counted = q.counted; threads = q.threads; calls = q.calls; gone = q.gone; later = q.later; callbacks = q.callbacks }
+  take_result_sound a0 q = record { counted = q.counted; threads = q.threads; calls = q.calls; gone = q.gone; later = q.later; callbacks = q.callbacks; nameless = q.nameless }
 
   pub add_group_sound : {s : Core} → Sound component base ending s → Sound component base ending (add_group s)
   unfolding add_group
-  add_group_sound q = record { counted = q.counted; threads = q.threads; calls = q.calls; gone = q.gone; later = q.later; callbacks = q.callbacks }
+  add_group_sound q = record { counted = q.counted; threads = q.threads; calls = q.calls; gone = q.gone; later = q.later; callbacks = q.callbacks; nameless = q.nameless }
 
   pub remove_group_sound : (a0 : ℕ) {s : Core} → Sound component base ending s → Sound component base ending (remove_group a0 s)
   unfolding remove_group
-  remove_group_sound a0 q = record { counted = q.counted; threads = q.threads; calls = q.calls; gone = q.gone; later = q.later; callbacks = q.callbacks }
+  remove_group_sound a0 q = record { counted = q.counted; threads = q.threads; calls = q.calls; gone = q.gone; later = q.later; callbacks = q.callbacks; nameless = q.nameless }
 
   pub set_trapped_sound : {s : Core} → Sound component base ending s → Sound component base ending (set_trapped s)
   unfolding set_trapped
-  set_trapped_sound q = record { counted = q.counted; threads = q.threads; calls = q.calls; gone = q.gone; later = q.later; callbacks = q.callbacks }
+  set_trapped_sound q = record { counted = q.counted; threads = q.threads; calls = q.calls; gone = q.gone; later = q.later; callbacks = q.callbacks; nameless = q.nameless }
 
   pub work_queued_sound : (a0 : WorkCaller) (a1 : HostDef) (a2 : Option ℕ) {s : Core} → Sound component base ending s → Sound component base ending (work_queued a0 a1 a2 s)
   unfolding work_queued push_high add_work count_work
-  work_queued_sound a0 a1 a2 q = record { counted = q.counted; threads = q.threads; calls = q.calls; gone = q.gone; later = q.later; callbacks = q.callbacks }
+  work_queued_sound a0 a1 a2 q = record { counted = q.counted; threads = q.threads; calls = q.calls; gone = q.gone; later = q.later; callbacks = q.callbacks; nameless = q.nameless }
 
   pub set_place_sound : (n : ℕ) (p : Place) {s : Core} → Sound component base ending s → (is_delivered p ≡ true → IsCallback n s) → Sound component base ending (set_place n p s)
   unfolding set_place

@@ -72,6 +72,10 @@ pub record CallSound (x : Component) (made k : ℕ) (c : Call) : Type 0 where
 abbrev pub GoneAtEnd : Records Thread → ℕ → ℕ → Call → Type 0
 GoneAtEnd threads e k c = is_async_lifted c.kind ≡ false → (k ≡ e → ⊥) → is_some c.«end» ≡ true → is_none (get threads k) ≡ true
 
+-- a thread that isn't the first of its call names no call
+abbrev pub Nameless : Records Call → ℕ → Thread → Type 0
+Nameless calls n t = t.explicit ≡ true → is_none (get calls n) ≡ true
+
 -- On the way of a step from the core b, where the call e ends; no call is numbered 0.
 pub record Sound (x : Component) (b : Core) (e : ℕ) (s : Core) : Type 0 where
   pub counted : b.made.threads ≤ s.made.threads
@@ -80,6 +84,7 @@ pub record Sound (x : Component) (b : Core) (e : ℕ) (s : Core) : Type 0 where
   pub gone : Each (GoneAtEnd s.threads e) s.calls
   pub later : CallsRise b s
   pub callbacks : (n : ℕ) → n ≤ b.made.threads → IsOfCallback b.threads b.calls n → IsOfCallback s.threads s.calls n
+  pub nameless : Each (Nameless s.calls) s.threads
 
 pub true_is_not_false : true ≡ false → ⊥
 true_is_not_false h = grind (h, arith)
@@ -260,6 +265,26 @@ end_rises c v unended first = record {
   withdrawn_first = λ started at. absurd (true_is_not_false (sym started ∙ first (some_end v at)));
 }
 
+no_such : {A : Type 0} → false ≡ true → A
+no_such h = absurd (true_is_not_false (sym h))
+
+call_none_cut : (b : Bool) (o : Option Call) → is_none o ≡ true → is_none (cond b None o) ≡ true
+call_none_cut true o h = refl
+call_none_cut false o h = h
+
+call_removed_none : (calls : Records Call) (k n : ℕ) → is_none (get calls n) ≡ true → is_none (get (remove calls k) n) ≡ true
+call_removed_none calls k n h = subst (λ (o : Option Call). is_none o ≡ true) (sym (get-remove calls k n)) (call_none_cut (n == k) (get calls n) h)
+
+next_none_at : (o : Option Call) (made : ℕ) → ((c : Call) → o ≡ Some c → made + 1 ≤ made) → is_none o ≡ true
+next_none_at None made h = refl
+next_none_at (Some c) made h = absurd (too_high refl (h c refl))
+
+next_names_none : (calls : Records Call) (made : ℕ) → ((c : Call) → get calls (made + 1) ≡ Some c → made + 1 ≤ made) → is_none (get calls (made + 1)) ≡ true
+next_names_none calls made h = next_none_at (get calls (made + 1)) made h
+
+still_nameless : (calls : Records Call) (c : Call) (made n : ℕ) → n ≤ made → is_none (get calls n) ≡ true → is_none (get (insert calls (made + 1) c) n) ≡ true
+still_nameless calls c made n below h = subst (λ (o : Option Call). is_none o ≡ true) (sym (get-insert_other calls (made + 1) c n (λ same. too_high same below))) h
+
 -- ---- The words
 
 module _ {component : Component} {base : Core} {ending : ℕ} where
@@ -278,6 +303,7 @@ module _ {component : Component} {base : Core} {ending : ℕ} where
     gone = each_map (GoneAtEnd s.threads ending) (GoneAtEnd (change n f s.threads) ending) s.calls (λ k c is h lifted other ended. change_none s.threads n f k ∙ h lifted other ended) q.gone;
     later = q.later;
     callbacks = λ m below h. ap (λ c. is_callback (kind_in s.calls c)) (change_read (λ t. t.call) 0 s.threads n f same_call m) ∙ q.callbacks m below h;
+    nameless = each_change (Nameless s.calls) s.threads n f q.nameless (λ t is h explicit. h (sym (same_explicit t) ∙ explicit));
   }
 
   -- the record of a call is changed
@@ -297,6 +323,7 @@ module _ {component : Component} {base : Core} {ending : ℕ} where
         gone = each_change (GoneAtEnd s.threads ending) s.calls k f q.gone gone;
         later = λ n below. later_change s.calls k f rise n (get base.calls n) (q.later n below);
         callbacks = λ n below h. ap (λ c. is_callback c) (same_kind (task_in s.threads n)) ∙ q.callbacks n below h;
+        nameless = each_map (Nameless s.calls) (Nameless (change k f s.calls)) s.threads (λ n t is h explicit. change_none s.calls k f n ∙ h explicit) q.nameless;
       }
 
   -- in a field that doesn't matter here
@@ -332,6 +359,7 @@ module _ {component : Component} {base : Core} {ending : ℕ} where
     gone = each_remove (GoneAtEnd s.threads ending) s.calls k q.gone;
     later = λ n below. later_remove s.calls k n (get base.calls n) (q.later n below);
     callbacks = λ n below h. still_callback s.calls k (task_in s.threads n) (q.callbacks n below h);
+    nameless = each_map (Nameless s.calls) (Nameless (remove s.calls k)) s.threads (λ n t is h explicit. call_removed_none s.calls k n (h explicit)) q.nameless;
   }
 
   pub no_call_zero : {s : Core} → Sound component base ending s → kind_in s.calls 0 ≡ kind.Callback
@@ -346,6 +374,7 @@ module _ {component : Component} {base : Core} {ending : ℕ} where
     gone = each_map (GoneAtEnd s.threads ending) (GoneAtEnd (remove s.threads n) ending) s.calls (λ k c is h lifted other ended. removed_none s.threads n k (h lifted other ended)) q.gone;
     later = q.later;
     callbacks = λ m below h. of_removed s.threads s.calls n m (no_call_zero q) (q.callbacks m below h);
+    nameless = each_remove (Nameless s.calls) s.threads n q.nameless;
   }
 
   -- the first thread of the call that ends is gone
@@ -358,6 +387,7 @@ module _ {component : Component} {base : Core} {ending : ℕ} where
     gone = each_map (GoneAtEnd s.threads ending) (GoneAtEnd (remove s.threads ending) 0) s.calls (λ k c is h lifted other ended. closed_none s.threads ending k (λ different. h lifted different ended)) q.gone;
     later = q.later;
     callbacks = λ m below h. of_removed s.threads s.calls ending m (no_call_zero q) (q.callbacks m below h);
+    nameless = each_remove (Nameless s.calls) s.threads ending q.nameless;
   }
 
   -- ---- What is made
@@ -376,6 +406,7 @@ module _ {component : Component} {base : Core} {ending : ℕ} where
     gone = each_map (GoneAtEnd s.threads ending) (GoneAtEnd (insert s.threads (s.made.threads + 1) t) ending) s.calls (λ k c is h lifted other ended. inserted_none s.threads t s.made.threads k (each_get (CallSound component s.made.threads) s.calls q.calls k c is).number (h lifted other ended)) q.gone;
     later = q.later;
     callbacks = λ m bound h. subst (λ (o : Option Thread). is_callback (kind_in s.calls (option_map_or (λ (r : Thread). r.call) o 0)) ≡ true) (sym (get-insert_other s.threads (s.made.threads + 1) t m (λ same. too_high same (le_trans bound q.counted)))) (q.callbacks m bound h);
+    nameless = each_insert (Nameless s.calls) s.threads (s.made.threads + 1) t q.nameless (λ explicit. next_names_none s.calls s.made.threads (λ c is. (each_get (CallSound component s.made.threads) s.calls q.calls (s.made.threads + 1) c is).number));
   }
 
   pub call_made_sound : (f : Caller) (y : Callee) (k : ExportKind) (g : Goal) (group : ℕ) (words : List ℕ) {s : Core} → k ≡ export_kind component y → (is_direct g ≡ true → is_async_lifted k ≡ false) → Sound component base ending s → Sound component base ending (call_made f y k g group words s)
@@ -407,6 +438,7 @@ module _ {component : Component} {base : Core} {ending : ℕ} where
         gone = each_insert (GoneAtEnd (insert s.threads m t) ending) s.calls m c (each_map (GoneAtEnd s.threads ending) (GoneAtEnd (insert s.threads m t) ending) s.calls (λ n r is h lifted other ended. inserted_none s.threads t s.made.threads n (each_get (CallSound component s.made.threads) s.calls q.calls n r is).number (h lifted other ended)) q.gone) (λ lifted other ended. absurd (true_is_not_false (sym ended)));
         later = λ n bound. subst (λ (r : Option Call). LaterBy Rises (get base.calls n) r) (sym (get-insert_other s.calls m c n (λ same. too_high same (le_trans bound q.counted)))) (q.later n bound);
         callbacks = λ n bound h. subst (λ (o : Option Thread). is_callback (kind_in (insert s.calls m c) (option_map_or (λ (r : Thread). r.call) o 0)) ≡ true) (sym (get-insert_other s.threads m t n (λ same. too_high same (le_trans bound q.counted)))) (kind_stays s.calls c s.made.threads (task_in s.threads n) (task_below s.threads n (λ r is. (each_get (ThreadSound s.calls s.made.threads) s.threads q.threads n r is).call_number)) (q.callbacks n bound h));
+        nameless = each_insert (Nameless (insert s.calls m c)) s.threads m t (each_map (Nameless s.calls) (Nameless (insert s.calls m c)) s.threads (λ n r is h explicit. still_nameless s.calls c s.made.threads n (each_get (ThreadSound s.calls s.made.threads) s.threads q.threads n r is).number (h explicit)) q.nameless) (λ explicit. no_such explicit);
       }
 
   -- ---- Ends and cancels
@@ -434,6 +466,7 @@ module _ {component : Component} {base : Core} {ending : ℕ} where
     gone = each_map (GoneAtEnd s.threads 0) (GoneAtEnd s.threads ending) s.calls (λ k c is h lifted other ended. h lifted (λ none. too_low (subst (λ n. 1 ≤ n) none (each_get (CallSound component s.made.threads) s.calls q.calls k c is).positive)) ended) q.gone;
     later = q.later;
     callbacks = q.callbacks;
+    nameless = q.nameless;
   }
 
   pub is_callback_later : {s : Core} (n : ℕ) → n ≤ base.made.threads → IsCallback n base → Sound component base ending s → IsCallback n s

@@ -5,10 +5,10 @@ use Rattle.std.specs.Prelude.{Bool, List, None, Option, Some, [], false, is_none
 use Rattle.task_laws.proofs.EachLemmas.{each_empty, each_get}
 use Rattle.task_laws.proofs.SoundEnds.{Kept}
 use Rattle.task_laws.proofs.SoundFields.{no_way, set_trapped_sound, take_result_sound}
-use Rattle.task_laws.proofs.SoundLemmas.{CallSound, GoneAtEnd, Sound, ThreadSound, is_delivered, kind_in, later_refl, later_trans, too_low, true_is_not_false}
+use Rattle.task_laws.proofs.SoundLemmas.{CallSound, GoneAtEnd, Nameless, Sound, ThreadSound, is_delivered, kind_in, later_refl, later_trans, too_low, true_is_not_false}
 use Rattle.task_laws.proofs.SoundTakes.{main_aborted_sound, main_spawned_sound, main_started_sound, op_row_kept, pended_sound, popped_sound, struck_sound, take_row_kept, work_ended_sound}
 use Rattle.task_laws.proofs.SoundWords.{AtBase, delivered_is_callback}
-use Rattle.task_laws.specs.Rises.{CallsRise, Rises, RunsRise, StepsRise, SyncEndsLast, SyncNeverCancelled}
+use Rattle.task_laws.specs.Rises.{CallsRise, ExplicitNamesNoCall, Rises, RunsRise, StepsRise, SyncEndsLast, SyncNeverCancelled}
 use Rattle.task_laws.specs.Settings.{CodesInCallbacks, HasNoCode, Reached, ends_activation}
 use Rattle.task_machine.specs.Core.{Began, Core, Main, MainPlace, Refused, Scripted, Started, State, Unscripted, fresh}
 use Rattle.task_machine.specs.Labels.{Choice, choice_of}
@@ -57,7 +57,7 @@ abbrev pub Settled : Component → Core → Type 0
 Settled component s = Sound component s 0 s
 
 pub renewed : {component : Component} {base : Core} {s : Core} → Sound component base 0 s → Settled component s
-renewed {s = s} q = record { counted = le_refl _; threads = q.threads; calls = q.calls; gone = q.gone; later = λ k below. later_refl (get s.calls k); callbacks = λ n below h. h }
+renewed {s = s} q = record { counted = le_refl _; threads = q.threads; calls = q.calls; gone = q.gone; later = λ k below. later_refl (get s.calls k); callbacks = λ n below h. h; nameless = q.nameless }
 
 pub opening_settled : (component : Component) (instances handle_limit capacity : ℕ) → Settled component (fresh instances handle_limit capacity)
 unfolding fresh
@@ -68,6 +68,7 @@ opening_settled component instances handle_limit capacity = record {
   gone = each_empty (GoneAtEnd empty 0);
   later = λ k below. later_refl (get empty k);
   callbacks = λ n below h. h;
+  nameless = each_empty (Nameless empty);
 }
 
 -- ---- Scripts
@@ -289,3 +290,10 @@ pub sync_ends_last : SyncEndsLast
 sync_ends_last x s r k c is lifted e at =
     let q : Settled x.component s.core = reached_settled r in
     none_is (get s.core.threads k) (each_get (GoneAtEnd s.core.threads 0) s.core.calls q.gone k c is lifted (λ none. too_low (subst (λ n. 1 ≤ n) none (each_get (CallSound x.component s.core.made.threads) s.core.calls q.calls k c is).positive)) (ap (λ o. is_some o) at))
+
+no_call : (o : Option Call) → is_none o ≡ true → o ≡ None
+no_call None h = refl
+no_call (Some c) h = no_way h
+
+pub explicit_names_no_call : ExplicitNamesNoCall
+explicit_names_no_call x s r n t is explicit = no_call (get s.core.calls n) (each_get (Nameless s.core.calls) s.core.threads (reached_settled r).nameless n t is explicit)

@@ -1,19 +1,21 @@
 -- How the status of a call goes on: it only rises, and an end stays.
 use Rattle.std.specs.Prelude.{Bool, List, None, Option, Some, false, true, ℕ, ◌≡◌, ◌≤◌}
-use Rattle.task_machine.specs.declared.label.Label.{Label}
-use Rattle.task_machine.specs.declared.records.Call.{Call}
-use Rattle.task_machine.specs.declared.records.CallEnd.{CallEnd}
-use Rattle.task_machine.specs.declared.records.CallEnd.TheVariants as call_end
-use Rattle.task_machine.specs.declared.words.Status.{Status}
-use Rattle.task_machine.specs.declared.words.Status.TheVariants as status
+use Rattle.task_laws.specs.Settings.{Reached}
 use Rattle.task_machine.specs.Core.{Core, State}
 use Rattle.task_machine.specs.Maps.{get}
 use Rattle.task_machine.specs.Read.{is_async_lifted}
-use Rattle.task_laws.specs.Settings.{Reached}
+use Rattle.task_machine.specs.declared.label.Label.{Label}
+use Rattle.task_machine.specs.declared.records.Call.{Call}
+use Rattle.task_machine.specs.declared.records.CallEnd.{CallEnd}
+use Rattle.task_machine.specs.declared.records.Thread.{Thread}
+use Rattle.task_machine.specs.declared.words.Status.{Status}
 use Rattle.task_rules.specs.Laws.{LaterBy}
 use Rattle.task_rules.specs.Run.{Run}
 use Rattle.task_rules.specs.Stalled.{Setting}
 use Rattle.task_rules.specs.Step.{Step}
+use Rattle.task_rules.specs.Takes.{started}
+use Rattle.task_machine.specs.declared.records.CallEnd.TheVariants as call_end
+use Rattle.task_machine.specs.declared.words.Status.TheVariants as status
 
 -- ---- The status of a call
 
@@ -65,3 +67,7 @@ SyncNeverCancelled = (x : Setting) (s : State) → Reached x s → (k : ℕ) (c 
 -- once such a task has ended its first thread is gone
 abbrev pub SyncEndsLast : Type 0
 SyncEndsLast = (x : Setting) (s : State) → Reached x s → (k : ℕ) (c : Call) → get s.core.calls k ≡ Some c → is_async_lifted c.kind ≡ false → (e : CallEnd) → c.«end» ≡ Some e → get s.core.threads k ≡ None
+
+-- a thread that isn't the first of its call has a number that names no call
+abbrev pub ExplicitNamesNoCall : Type 0
+ExplicitNamesNoCall = (x : Setting) (s : State) → Reached x s → (n : ℕ) (t : Thread) → get s.core.threads n ≡ Some t → t.explicit ≡ true → get s.core.calls n ≡ None

@@ -9,5 +9,8 @@ mod rises;
 mod written;
 
 pub use holders::one_entry_holds;
-pub use rises::{runs_rise, statuses_rise, sync_end_is_last, sync_is_never_cancelled};
+pub use rises::{
+    explicit_thread_names_no_call, runs_rise, statuses_rise, sync_end_is_last,
+    sync_is_never_cancelled,
+};
 pub use written::ends_are_written_once;

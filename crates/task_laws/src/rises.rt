@@ -1,4 +1,4 @@
-ghost use Rattle.task_laws.specs.Rises.{RunsRise, StepsRise, SyncEndsLast, SyncNeverCancelled};
+ghost use Rattle.task_laws.specs.Rises.{ExplicitNamesNoCall, RunsRise, StepsRise, SyncEndsLast, SyncNeverCancelled};
 
 /// A call's end is never replaced, and its status only rises: from Starting to Started to an end,
 /// or to StartCancelled before its start has run.
@@ -19,4 +19,9 @@ pub fn sync_is_never_cancelled()
 /// Once a task of a sync or a blocking export has ended, its first thread is gone.
 pub fn sync_end_is_last()
     ensures { SyncEndsLast }
+{}
+
+/// The number of a thread that a task made beside its first one names no call.
+pub fn explicit_thread_names_no_call()
+    ensures { ExplicitNamesNoCall }
 {}
