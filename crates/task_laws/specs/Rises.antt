@@ -13,7 +13,6 @@ use Rattle.task_rules.specs.Laws.{LaterBy}
 use Rattle.task_rules.specs.Run.{Run}
 use Rattle.task_rules.specs.Stalled.{Setting}
 use Rattle.task_rules.specs.Step.{Step}
-use Rattle.task_rules.specs.Takes.{started}
 use Rattle.task_machine.specs.declared.records.CallEnd.TheVariants as call_end
 use Rattle.task_machine.specs.declared.words.Status.TheVariants as status
 
