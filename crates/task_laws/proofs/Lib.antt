@@ -21,3 +21,8 @@ pub mod SpunRows
 pub mod SpunTakes
 pub mod SpunSteps
 pub mod SpunLemmas
+pub mod ShelvedFields
+pub mod ShelvedWords
+pub mod ShelvedRows
+pub mod ShelvedTakes
+pub mod ShelvedLemmas

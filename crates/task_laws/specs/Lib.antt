@@ -2,3 +2,4 @@ pub mod Settings
 pub mod Rises
 pub mod Holders
 pub mod Written
+pub mod Handles

@@ -4,10 +4,12 @@
 //! `task_rules` defines.
 #![tactic(auto)]
 
+mod handles;
 mod holders;
 mod rises;
 mod written;
 
+pub use handles::{sets_are_named_at_home, sets_are_named_once};
 pub use holders::one_entry_holds;
 pub use rises::{
     explicit_thread_names_no_call, runs_rise, statuses_rise, sync_end_is_last,
