@@ -1,0 +1,5 @@
+pub mod Codes
+pub mod Links
+pub mod Rings
+pub mod Sets
+pub mod Walks
