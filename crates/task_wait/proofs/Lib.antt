@@ -9,5 +9,7 @@ pub mod Calls
 pub mod Names
 pub mod Uses
 pub mod Seen
+pub mod ReadLemmas
 pub mod SetLemmas
 pub mod WalkLemmas
+pub mod OrderLemmas

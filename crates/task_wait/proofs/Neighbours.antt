@@ -1,9 +1,9 @@
 -- The neighbours of a node or a chain, and what contracts see there.
-use Rattle.std.proofs.Common.{◌≡◌, ℕ, ◌<◌, ◌⊎◌, inl, inr, true, List, [], ◌∷◌, ◌++◌, length, None, IsSome, refl, sym, ap, subst, ◌∙◌, option_map}
+use Rattle.std.proofs.Common.{◌≡◌, ℕ, ◌<◌, ◌⊎◌, inl, inr, true, List, [], ◌∷◌, ◌++◌, length, None, IsSome, is_some, refl, sym, ap, subst, ◌∙◌, option_map}
 use Rattle.task_wait.specs.declared.links.Role.{Role}
 use Rattle.task_wait.specs.declared.links.Role.TheVariants.{Unused, Chain, Free, Linked}
 use Rattle.task_wait.specs.Links.{Spot, spot_list, spot_link, spot_is_free, spot_is_made, list_of, link_of, is_free, is_made, entries, list_or_nil, head_of, last_or, last_of, after, before}
-use Rattle.task_wait.specs.Rings.{at, role_at, role_value, ring_list, In, Apart, Path, AreRings, shown, spot_of, entry_at}
+use Rattle.task_wait.specs.Rings.{at, role_at, role_is_chain, role_is_free, role_is_node, role_value, ring_list, In, Apart, Path, AreRings, shown, spot_of, entry_at}
 use Rattle.task_wait.proofs.Paths.{end, start, In-left, In-right, In-end, In-start, Path-start, Path-end, Path-next, Path-previous, Path-role, after-at, before-at}
 use Rattle.task_wait.proofs.Spots.{spot_at-shown}
 use Rattle.task_wait.proofs.Changes.{within}
@@ -35,6 +35,34 @@ module _ {P : Type 0} where
   -- what contracts see of a node in a chain
   pub link_seen : (nx : List ℕ) (rs : List (Role P)) (links : List (Spot P)) (n : ℕ) → shown nx rs ≡ links → (r : Role P) → role_at rs n ≡ r → link_of links n ≡ spot_link (spot_of nx rs n r)
   link_seen nx rs links n view r is = ap (λ l. link_of l n) (sym view) ∙ (ap spot_link (spot_at-shown nx rs n) ∙ ap (λ k. spot_link (spot_of nx rs n k)) is)
+
+  -- what a name stands for decides whether it is a live chain, a node or a free one
+  pub live_shown : (nx : List ℕ) (rs : List (Role P)) (links : List (Spot P)) (n : ℕ) → shown nx rs ≡ links → role_is_chain (role_at rs n) ≡ is_some (list_of links n)
+  live_shown nx rs links n view = by_each (role_at rs n) ∙ (ap (λ s. is_some (spot_list s)) (sym (spot_at-shown nx rs n)) ∙ ap (λ l. is_some (list_of l n)) view)
+    where
+      by_each : (r : Role P) → role_is_chain r ≡ is_some (spot_list (spot_of nx rs n r))
+      by_each Unused = refl
+      by_each Chain = refl
+      by_each Free = refl
+      by_each (Linked c v) = refl
+
+  pub made_shown : (nx : List ℕ) (rs : List (Role P)) (links : List (Spot P)) (n : ℕ) → shown nx rs ≡ links → role_is_node (role_at rs n) ≡ is_made links n
+  made_shown nx rs links n view = by_each (role_at rs n) ∙ (ap spot_is_made (sym (spot_at-shown nx rs n)) ∙ ap (λ l. is_made l n) view)
+    where
+      by_each : (r : Role P) → role_is_node r ≡ spot_is_made (spot_of nx rs n r)
+      by_each Unused = refl
+      by_each Chain = refl
+      by_each Free = refl
+      by_each (Linked c v) = refl
+
+  pub free_shown : (nx : List ℕ) (rs : List (Role P)) (links : List (Spot P)) (n : ℕ) → shown nx rs ≡ links → role_is_free (role_at rs n) ≡ is_free links n
+  free_shown nx rs links n view = by_each (role_at rs n) ∙ (ap spot_is_free (sym (spot_at-shown nx rs n)) ∙ ap (λ l. is_free l n) view)
+    where
+      by_each : (r : Role P) → role_is_free r ≡ spot_is_free (spot_of nx rs n r)
+      by_each Unused = refl
+      by_each Chain = refl
+      by_each Free = refl
+      by_each (Linked c v) = refl
 
   by_made : (r : Role P) (nx : List ℕ) (rs : List (Role P)) (n : ℕ) → spot_is_made (spot_of nx rs n r) ≡ true → r ≡ Unused → ⊥
   by_made Unused nx rs n is e = absurd (cc)

@@ -1,5 +1,5 @@
 -- The numbers under which an event is handed to a guest.
-use Rattle.std.specs.Prelude.{ℕ}
+use Rattle.std.specs.Prelude.{ℕ, ◌%◌, ◌/◌}
 use Rattle.task_machine.specs.Statuses.{status_code}
 use Rattle.task_wait.specs.declared.codes.Event.{Event}
 use Rattle.task_wait.specs.declared.codes.Event.TheVariants as event
@@ -13,3 +13,7 @@ parts_of (event.StreamWrite code) = (3, code)
 parts_of (event.FutureRead code) = (4, code)
 parts_of (event.FutureWrite code) = (5, code)
 parts_of event.Cancelled = (6, 0)
+
+-- the low four bits of a number, then the rest
+abbrev pub unpacked : ℕ → ℕ × ℕ
+unpacked code = (code % 16, code / 16)

@@ -185,3 +185,12 @@ pub record IsLinks {P : Type 0} (links : List (Spot P)) : Type 0 where
   pub once : (chain : ℕ) → Apart (entries links chain)
   pub listed : (node chain : ℕ) (value : P) → link_of links node ≡ Some (chain, value) → IsSome (list_of links chain) × In node (entries links chain)
   pub entered : (node chain : ℕ) → In node (entries links chain) → (value : P) × (link_of links node ≡ Some (chain, value))
+
+-- This chain has this list now and this node that link; every other chain keeps its list, and every other node its link, or stays free.
+pub record ChangesOnly {P : Type 0} (old new : List (Spot P)) (chain node : ℕ) (list : List (ℕ × P)) (link : Option (ℕ × P)) : Type 0 where
+  pub list_is : list_of new chain ≡ Some list
+  pub link_is : link_of new node ≡ link
+  pub stays_made : is_made new node ≡ true
+  pub lists : (n : ℕ) → (n ≡ chain → ⊥) → list_of new n ≡ list_of old n
+  pub links : (n : ℕ) → (n ≡ node → ⊥) → link_of new n ≡ link_of old n
+  pub free : (n : ℕ) → (n ≡ node → ⊥) → is_free new n ≡ is_free old n

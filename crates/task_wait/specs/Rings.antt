@@ -76,6 +76,24 @@ module _ {P : Type 0} where
   role_is_used Free = true
   role_is_used (Linked chain value) = true
 
+  abbrev pub role_is_chain : Role P → Bool
+  role_is_chain Unused = false
+  role_is_chain Chain = true
+  role_is_chain Free = false
+  role_is_chain (Linked chain value) = false
+
+  abbrev pub role_is_free : Role P → Bool
+  role_is_free Unused = false
+  role_is_free Chain = false
+  role_is_free Free = true
+  role_is_free (Linked chain value) = false
+
+  abbrev pub role_is_node : Role P → Bool
+  role_is_node Unused = false
+  role_is_node Chain = false
+  role_is_node Free = true
+  role_is_node (Linked chain value) = true
+
   abbrev pub is_unused_at : Option (Role P) → Bool
   is_unused_at None = false
   is_unused_at (Some r) = role_is_unused r

@@ -1,5 +1,5 @@
 -- What the calls of a `WaitableSet` change in the links.
-use Rattle.std.specs.Prelude.{ℕ, ◌==◌, if◌then◌else◌, Bool, true, false, List, [], ◌∷◌, ◌++◌, Option, Some, None}
+use Rattle.std.specs.Prelude.{◌≡◌, ℕ, ◌==◌, if◌then◌else◌, Bool, true, false, List, [], ◌∷◌, ◌++◌, Option, Some, None}
 use Rattle.std.specs.declared.cmp.Ordering.{Ordering}
 use Rattle.std.specs.List.{list_any}
 use Rattle.std.specs.Ordering.{is_lt}
@@ -39,3 +39,12 @@ module _ {P : Type 0} where
   -- the list with an entry after the last one that is less, by the order of the values
   abbrev pub placed : (P → P → Ordering) → ℕ × P → List (ℕ × P) → List (ℕ × P)
   placed cmp entry list = placed_at (place_of (λ value. is_lt (cmp value entry.1)) list) entry list
+
+  -- no value of the list is less than this one
+  abbrev pub IsLeast : (P → P → Ordering) → P → List (ℕ × P) → Type 0
+  IsLeast cmp value list = list_any (λ e. is_lt (cmp e.1 value)) list ≡ false
+
+  -- no value is less than one that stands before it
+  abbrev pub IsAscending : (P → P → Ordering) → List (ℕ × P) → Type 0
+  IsAscending cmp [] = Unit {0}
+  IsAscending cmp (e ∷ es) = IsLeast cmp e.1 es × IsAscending cmp es

@@ -1,5 +1,5 @@
-ghost use Rattle.std.specs.Prelude.{◌≡◌, ◌/◌, ◌%◌};
-ghost use Rattle.task_wait.specs.Codes.{parts_of};
+ghost use Rattle.std.specs.Prelude.{◌≡◌};
+ghost use Rattle.task_wait.specs.Codes.{parts_of, unpacked};
 
 use task_machine::Status;
 
@@ -16,7 +16,7 @@ pub const BLOCKED: u32 = 4294967295;
 ///
 /// The form is that of the component model's public standard. It takes no memory.
 pub fn unpack_callback_code(code: u32) -> (u32, u32)
-    ensures { result ≡ (code % 16, code / 16) }
+    ensures { result ≡ unpacked code }
 {
     (code % 16, code / 16)
 }

@@ -5,6 +5,7 @@
 
 mod codes;
 mod keys;
+mod laws;
 mod links;
 mod set;
 #[cfg(test)]
@@ -15,6 +16,7 @@ pub use keys::{
     GroupKey, GuestTaskKey, HostTaskKey, SetKey, ThreadKey, TransmitKey, Waitable, WaitableCommon,
     WaiterKey,
 };
+pub use laws::{callback_code_unpacks, others_stay, packed_status_unpacks};
 pub use links::{Links, NoMemory, Node};
 pub use set::WaitableSet;
 pub use task_machine::Status;

@@ -1,7 +1,7 @@
-ghost use Rattle.std.specs.Prelude.{◌≡◌, ◌⊎◌, ◌<◌, ◌≤◌, ◌++◌, ◌∷◌, [], true, Some, slice_set, length, IsSome, IfOk, OnOk, OnErr, vec_capacity};
+ghost use Rattle.std.specs.Prelude.{◌≡◌, ◌⊎◌, ◌<◌, ◌≤◌, ◌++◌, ◌∷◌, [], ◌↔◌, true, Some, slice_set, length, IsSome, is_some, IfOk, OnOk, OnErr, vec_capacity};
 ghost use Rattle.std.specs.Option.{option_map};
 ghost use Rattle.task_wait.specs.Links.{spot_at, Unmade, ChainOf, FreeNode, Renames, IsLinks, entries, is_free, is_made, link_of, list_of, linked, removed, inserted, head_of, following, last_of, preceding};
-ghost use Rattle.task_wait.specs.Rings.{HasRoom, IsSound, entry_at, shown, new_spot, role_is_new};
+ghost use Rattle.task_wait.specs.Rings.{HasRoom, IsSound, entry_at, shown, new_spot, role_at, role_is_chain, role_is_free, role_is_new, role_is_node};
 
 use std::alloc::{AllocError, Global};
 use std::marker::Model;
@@ -93,6 +93,43 @@ fn entry<P: Copy>(roles: &Vec<Role<P>>, index: usize) -> Option<(Node, P)>
     match roles[index] {
         Role::Linked(_, value) => Some((Node { index }, value)),
         _ => None,
+    }
+}
+
+// What a name stands for.
+fn role_of<P: Copy>(roles: &Vec<Role<P>>, index: usize) -> Role<P>
+    ensures { result ≡ role_at roles.now.items index }
+{
+    match roles.get(index) {
+        Some(role) => *role,
+        None => Role::Unused,
+    }
+}
+
+fn is_chain<P: Copy>(role: Role<P>) -> bool
+    ensures { result ≡ role_is_chain role }
+{
+    match role {
+        Role::Chain => true,
+        Role::Unused | Role::Free | Role::Linked(_, _) => false,
+    }
+}
+
+fn is_free<P: Copy>(role: Role<P>) -> bool
+    ensures { result ≡ role_is_free role }
+{
+    match role {
+        Role::Free => true,
+        Role::Unused | Role::Chain | Role::Linked(_, _) => false,
+    }
+}
+
+fn is_node<P: Copy>(role: Role<P>) -> bool
+    ensures { result ≡ role_is_node role }
+{
+    match role {
+        Role::Free | Role::Linked(_, _) => true,
+        Role::Unused | Role::Chain => false,
     }
 }
 
@@ -308,6 +345,41 @@ impl<P: Copy> Links<P> {
             }
             _ => unreachable!(),
         }
+    }
+
+    /// The law that no node is twice in the chains, and that a node's link is to the chain whose list it is in. It does nothing.
+    pub fn no_node_is_twice(&self)
+        ensures { IsLinks self.now }
+    {
+        let _links = self;
+    }
+
+    /// Whether this names a live chain. It may be asked of any number.
+    pub fn is_live(&self, chain: usize) -> bool
+        ensures { result ≡ is_some (list_of self.now chain) }
+    {
+        is_chain(role_of(&self.roles, chain))
+    }
+
+    /// Whether this names a live chain with no node, so that it may be dropped. It may be asked of any number.
+    pub fn is_empty(&self, chain: usize) -> bool
+        ensures { (result ≡ true) ↔ (list_of self.now chain ≡ Some []) }
+    {
+        self.is_live(chain) && self.first(chain).is_none()
+    }
+
+    /// Whether this names a node that was made and not dropped. It may be asked of any name.
+    pub fn is_made(&self, node: Node) -> bool
+        ensures { result ≡ is_made self.now node.index }
+    {
+        is_node(role_of(&self.roles, node.index))
+    }
+
+    /// Whether this names a node that is made and in no chain. It may be asked of any name.
+    pub fn is_free(&self, node: Node) -> bool
+        ensures { result ≡ is_free self.now node.index }
+    {
+        is_free(role_of(&self.roles, node.index))
     }
 
     /// The chain of a made node and its value. `None` where it is in no chain.

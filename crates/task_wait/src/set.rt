@@ -1,7 +1,7 @@
-ghost use Rattle.std.specs.Prelude.{◌≡◌, ◌++◌, ◌∷◌, [], true, Some, None, IsSome, is_some, drop, OnErr, OnOk, IfOk};
+ghost use Rattle.std.specs.Prelude.{◌≡◌, ◌++◌, ◌∷◌, [], true, Some, None, IsSome, is_some, drop, IfSome, OnErr, OnOk, IfOk};
 ghost use Rattle.std.specs.Option.{option_map};
 ghost use Rattle.task_wait.specs.Links.{IsLinks, Renames, NamesSame, Unmade, ChainOf, entries, head_of, is_free, is_made, list_of, linked};
-ghost use Rattle.task_wait.specs.Sets.{is_in, placed, place_of, taken_out, without_first};
+ghost use Rattle.task_wait.specs.Sets.{IsAscending, IsLeast, is_in, placed, place_of, taken_out, without_first};
 ghost use Rattle.std.specs.Ordering.{is_lt};
 
 use crate::keys::{Waitable, WaiterKey};
@@ -20,10 +20,12 @@ pub struct WaitableSet {
 }
 
 // Takes a node out of a chain, if it is in it, and tells whether it was.
-fn take_out<P: Copy>(links: &mut Links<P>, chain: usize, node: Node) -> bool
-    requires { is_made links.old node.index ≡ true }
+fn take_out<P: Copy + Ord>(links: &mut Links<P>, chain: usize, node: Node) -> bool
+    requires chain { IsSome (list_of links.old chain) }
+    requires made { is_made links.old node.index ≡ true }
     ensures there { result ≡ is_in chain node.index links.old }
     ensures links { links.new ≡ taken_out chain node.index links.old }
+    ensures order { IsAscending P.cmp (entries links.old chain) → IsAscending P.cmp (entries links.new chain) }
 {
     match links.get(node) {
         Some((found, _)) if found == chain => {
@@ -34,12 +36,26 @@ fn take_out<P: Copy>(links: &mut Links<P>, chain: usize, node: Node) -> bool
     }
 }
 
+// The value of the first node of a chain.
+fn first_value<P: Copy + Ord>(links: &Links<P>, chain: usize) -> Option<P>
+    requires { IsSome (list_of links.now chain) }
+    ensures first { result ≡ option_map (λ e. e.1) (head_of (entries links.now chain)) }
+    ensures least { IsAscending P.cmp (entries links.now chain) → IfSome result (λ value. IsLeast P.cmp value (entries links.now chain)) }
+{
+    match links.first(chain) {
+        Some((_, value)) => Some(value),
+        None => None,
+    }
+}
+
 // Takes the first node of a chain out of it, and gives its value.
-fn take_first<P: Copy>(links: &mut Links<P>, chain: usize) -> Option<P>
+fn take_first<P: Copy + Ord>(links: &mut Links<P>, chain: usize) -> Option<P>
     requires { IsSome (list_of links.old chain) }
     ensures first { result ≡ option_map (λ e. e.1) (head_of (entries links.old chain)) }
     ensures links { links.new ≡ without_first chain links.old }
     ensures rest { entries links.new chain ≡ drop 1 (entries links.old chain) }
+    ensures least { IsAscending P.cmp (entries links.old chain) → IfSome result (λ value. IsLeast P.cmp value (entries links.old chain)) }
+    ensures order { IsAscending P.cmp (entries links.old chain) → IsAscending P.cmp (entries links.new chain) }
 {
     match links.first(chain) {
         Some((first, value)) => {
@@ -79,7 +95,8 @@ fn place<P: Copy + Ord>(links: &Links<P>, chain: usize, value: P) -> Option<Node
 fn put_in_order<P: Copy + Ord>(links: &mut Links<P>, chain: usize, node: Node, value: P)
     requires chain { IsSome (list_of links.old chain) }
     requires free { is_free links.old node.index ≡ true }
-    ensures { links.new ≡ linked chain node.index value (placed P.cmp (node.index, value) (entries links.old chain)) links.old }
+    ensures links { links.new ≡ linked chain node.index value (placed P.cmp (node.index, value) (entries links.old chain)) links.old }
+    ensures order { IsAscending P.cmp (entries links.old chain) → IsAscending P.cmp (entries links.new chain) }
 {
     match place(links, chain, value) {
         Some(at) => links.insert_before(at, node, value),
@@ -132,15 +149,13 @@ impl WaitableSet {
         waiting.first(self.waiters).is_some()
     }
 
-    /// The first of the ready members. `None` exactly where none is ready.
+    /// The first of the ready members, which is the least where they stand in ascending order. `None` exactly where none is ready.
     pub fn first_ready(&self, ready: &Links<Waitable>) -> Option<Waitable>
         requires { IsSome (list_of ready.now self.now.ready) }
-        ensures { result ≡ option_map (λ e. e.1) (head_of (entries ready.now self.now.ready)) }
+        ensures first { result ≡ option_map (λ e. e.1) (head_of (entries ready.now self.now.ready)) }
+        ensures least { IsAscending ⟦<Waitable as Ord>⟧.cmp (entries ready.now self.now.ready) → IfSome result (λ waitable. IsLeast ⟦<Waitable as Ord>⟧.cmp waitable (entries ready.now self.now.ready)) }
     {
-        match ready.first(self.ready) {
-            Some((_, waitable)) => Some(waitable),
-            None => None,
-        }
+        first_value(ready, self.ready)
     }
 
     /// Adds a member to the ready ones, after the last that is less, so that members that were all put so stand in ascending order. Where it is the greatest, that takes constant time.
@@ -148,6 +163,7 @@ impl WaitableSet {
         requires chain { IsSome (list_of ready.old self.old.ready) }
         requires free { is_free ready.old node.index ≡ true }
         ensures links { ready.new ≡ linked self.old.ready node.index waitable (placed ⟦<Waitable as Ord>⟧.cmp (node.index, waitable) (entries ready.old self.old.ready)) ready.old }
+        ensures order { IsAscending ⟦<Waitable as Ord>⟧.cmp (entries ready.old self.old.ready) → IsAscending ⟦<Waitable as Ord>⟧.cmp (entries ready.new self.old.ready) }
         ensures set { self.new ≡ self.old }
     {
         put_in_order(ready, self.ready, node, waitable);
@@ -159,6 +175,7 @@ impl WaitableSet {
         requires made { is_made ready.old node.index ≡ true }
         ensures there { result ≡ is_in self.old.ready node.index ready.old }
         ensures links { ready.new ≡ taken_out self.old.ready node.index ready.old }
+        ensures order { IsAscending ⟦<Waitable as Ord>⟧.cmp (entries ready.old self.old.ready) → IsAscending ⟦<Waitable as Ord>⟧.cmp (entries ready.new self.old.ready) }
         ensures set { self.new ≡ self.old }
     {
         take_out(ready, self.ready, node)
@@ -169,6 +186,7 @@ impl WaitableSet {
         requires chain { IsSome (list_of waiting.old self.old.waiters) }
         requires free { is_free waiting.old node.index ≡ true }
         ensures links { waiting.new ≡ linked self.old.waiters node.index waiter (placed ⟦<WaiterKey as Ord>⟧.cmp (node.index, waiter) (entries waiting.old self.old.waiters)) waiting.old }
+        ensures order { IsAscending ⟦<WaiterKey as Ord>⟧.cmp (entries waiting.old self.old.waiters) → IsAscending ⟦<WaiterKey as Ord>⟧.cmp (entries waiting.new self.old.waiters) }
         ensures set { self.new ≡ self.old }
     {
         put_in_order(waiting, self.waiters, node, waiter);
@@ -184,12 +202,14 @@ impl WaitableSet {
         waiting.push_back(self.waiters, node, waiter);
     }
 
-    /// Takes the first waiter, whose node is then free. `None` exactly where none waits.
+    /// Takes the first waiter, which is the least where they stand in ascending order; its node is then free. `None` exactly where none waits.
     pub fn take_first_waiter(&mut self, waiting: &mut Links<WaiterKey>) -> Option<WaiterKey>
         requires { IsSome (list_of waiting.old self.old.waiters) }
         ensures first { result ≡ option_map (λ e. e.1) (head_of (entries waiting.old self.old.waiters)) }
         ensures links { waiting.new ≡ without_first self.old.waiters waiting.old }
         ensures rest { entries waiting.new self.old.waiters ≡ drop 1 (entries waiting.old self.old.waiters) }
+        ensures least { IsAscending ⟦<WaiterKey as Ord>⟧.cmp (entries waiting.old self.old.waiters) → IfSome result (λ waiter. IsLeast ⟦<WaiterKey as Ord>⟧.cmp waiter (entries waiting.old self.old.waiters)) }
+        ensures order { IsAscending ⟦<WaiterKey as Ord>⟧.cmp (entries waiting.old self.old.waiters) → IsAscending ⟦<WaiterKey as Ord>⟧.cmp (entries waiting.new self.old.waiters) }
         ensures set { self.new ≡ self.old }
     {
         take_first(waiting, self.waiters)
@@ -201,6 +221,7 @@ impl WaitableSet {
         requires made { is_made waiting.old node.index ≡ true }
         ensures there { result ≡ is_in self.old.waiters node.index waiting.old }
         ensures links { waiting.new ≡ taken_out self.old.waiters node.index waiting.old }
+        ensures order { IsAscending ⟦<WaiterKey as Ord>⟧.cmp (entries waiting.old self.old.waiters) → IsAscending ⟦<WaiterKey as Ord>⟧.cmp (entries waiting.new self.old.waiters) }
         ensures set { self.new ≡ self.old }
     {
         take_out(waiting, self.waiters, node)
