@@ -124,6 +124,6 @@ module _ {P : Type 0} where
           by_test : IsAscending cmp (placed cmp entry es) → (t : Bool) → list_any (λ k. less k.1) (e ∷ es) ≡ t → IsAscending cmp (placed_at (cond t (place_of less es) (Some e.0)) entry (e ∷ es))
           by_test more true any =
               subst (IsAscending cmp) (sym (later (place_of less es) entry e es apart (λ n is. place_in less n es is)))
-              ( any-placed_at (λ v. is_lt (cmp v e.1)) (place_of less es) entry es (raised entry.1 e.1 (e ∷ es) any (least_of_all e es up.0)) up.0, more)
+              (any-placed_at (λ v. is_lt (cmp v e.1)) (place_of less es) entry es (raised entry.1 e.1 (e ∷ es) any (least_of_all e es up.0)) up.0, more)
           by_test more false none =
               subst (λ t. IsAscending cmp (cond t (entry ∷ e ∷ es) (e ∷ put_before e.0 entry es))) (sym (eq-eqb e.0 e.0 refl)) (none, up)

@@ -351,7 +351,7 @@ impl<P: Copy> Links<P> {
     pub fn no_node_is_twice(&self)
         ensures { IsLinks self.now }
     {
-        let _links = self;
+        let _names = self.roles.len();
     }
 
     /// Whether this names a live chain. It may be asked of any number.

@@ -1,4 +1,4 @@
-ghost use Rattle.std.specs.Prelude.{◌≡◌, ◌++◌, ◌∷◌, [], true, Some, None, IsSome, is_some, drop, IfSome, OnErr, OnOk, IfOk};
+ghost use Rattle.std.specs.Prelude.{◌≡◌, ◌↔◌, ◌++◌, ◌∷◌, [], true, Some, None, IsSome, is_some, drop, IfSome, OnErr, OnOk, IfOk};
 ghost use Rattle.std.specs.Option.{option_map};
 ghost use Rattle.task_wait.specs.Links.{IsLinks, Renames, NamesSame, Unmade, ChainOf, entries, head_of, is_free, is_made, list_of, linked};
 ghost use Rattle.task_wait.specs.Sets.{IsAscending, IsLeast, is_in, placed, place_of, taken_out, without_first};
@@ -139,6 +139,20 @@ impl WaitableSet {
         ensures { result ≡ self.now.sync }
     {
         self.sync
+    }
+
+    /// Whether the set's chains are live in these links, as its other calls need.
+    pub fn is_live(&self, ready: &Links<Waitable>, waiting: &Links<WaiterKey>) -> bool
+        ensures { (result ≡ true) ↔ IsSome (list_of ready.now self.now.ready) × IsSome (list_of waiting.now self.now.waiters) }
+    {
+        ready.is_live(self.ready) && waiting.is_live(self.waiters)
+    }
+
+    /// Whether the set has no ready member and no waiter in these links, so that it may be closed.
+    pub fn is_empty(&self, ready: &Links<Waitable>, waiting: &Links<WaiterKey>) -> bool
+        ensures { (result ≡ true) ↔ (list_of ready.now self.now.ready ≡ Some []) × (list_of waiting.now self.now.waiters ≡ Some []) }
+    {
+        ready.is_empty(self.ready) && waiting.is_empty(self.waiters)
     }
 
     /// Whether a thread waits at the set.
