@@ -3,9 +3,27 @@ use Rattle.std.specs.Prelude.{◌≡◌, ℕ, ◌==◌, if◌then◌else◌, Boo
 use Rattle.std.specs.declared.cmp.Ordering.{Ordering}
 use Rattle.std.specs.List.{list_any}
 use Rattle.std.specs.Ordering.{is_lt}
+use Rattle.task_wait.specs.declared.set.WaitableSet.{WaitableSet}
 use Rattle.task_wait.specs.Links.{Spot, entries, head_of, link_of, put_before, removed}
 
+-- the chains of the ready members and of the waiters, and the flag
+abbrev pub ready_chain : WaitableSet → ℕ
+ready_chain set = set.ready
+
+abbrev pub waiter_chain : WaitableSet → ℕ
+waiter_chain set = set.waiters
+
+abbrev pub sync_flag : WaitableSet → Bool
+sync_flag set = set.sync
+
 module _ {P : Type 0} where
+  -- the ready members and the waiters, in order, over the links that are handed in
+  abbrev pub ready_list : WaitableSet → List (Spot P) → List (ℕ × P)
+  ready_list set links = entries links (ready_chain set)
+
+  abbrev pub waiter_list : WaitableSet → List (Spot P) → List (ℕ × P)
+  waiter_list set links = entries links (waiter_chain set)
+
   -- there is a link, and it is to this chain
   abbrev pub is_to : ℕ → Option (ℕ × P) → Bool
   is_to chain None = false

@@ -1,7 +1,7 @@
 ghost use Rattle.std.specs.Prelude.{◌≡◌, ◌↔◌, ◌++◌, ◌∷◌, [], true, Some, None, IsSome, is_some, drop, IfSome, OnErr, OnOk, IfOk};
 ghost use Rattle.std.specs.Option.{option_map};
 ghost use Rattle.task_wait.specs.Links.{IsLinks, Renames, NamesSame, Unmade, ChainOf, entries, head_of, is_free, is_made, list_of, linked};
-ghost use Rattle.task_wait.specs.Sets.{IsAscending, IsLeast, is_in, placed, place_of, taken_out, without_first};
+ghost use Rattle.task_wait.specs.Sets.{IsAscending, IsLeast, is_in, placed, place_of, ready_chain, ready_list, sync_flag, taken_out, waiter_chain, waiter_list, without_first};
 ghost use Rattle.std.specs.Ordering.{is_lt};
 
 use crate::keys::{Waitable, WaiterKey};
@@ -111,9 +111,9 @@ impl WaitableSet {
         ready: &mut Links<Waitable>,
         waiting: &mut Links<WaiterKey>,
     ) -> Result<WaitableSet, NoMemory>
-        ensures ready { IfOk result (λ set. Renames ready.old ready.new set.ready Unmade (ChainOf [])) }
-        ensures waiters { IfOk result (λ set. Renames waiting.old waiting.new set.waiters Unmade (ChainOf [])) }
-        ensures sync { IfOk result (λ set. set.sync ≡ sync) }
+        ensures ready { IfOk result (λ set. Renames ready.old ready.new (ready_chain set) Unmade (ChainOf [])) }
+        ensures waiters { IfOk result (λ set. Renames waiting.old waiting.new (waiter_chain set) Unmade (ChainOf [])) }
+        ensures sync { IfOk result (λ set. sync_flag set ≡ sync) }
         ensures err_ready { OnErr result (NamesSame ready.old ready.new) }
         ensures err_waiters { OnErr result (waiting.new ≡ waiting.old) }
     {
@@ -136,48 +136,48 @@ impl WaitableSet {
 
     /// Whether the set is a sync one.
     pub fn is_sync(&self) -> bool
-        ensures { result ≡ self.now.sync }
+        ensures { result ≡ sync_flag self.now }
     {
         self.sync
     }
 
     /// Whether the set's chains are live in these links, as its other calls need.
     pub fn is_live(&self, ready: &Links<Waitable>, waiting: &Links<WaiterKey>) -> bool
-        ensures { (result ≡ true) ↔ IsSome (list_of ready.now self.now.ready) × IsSome (list_of waiting.now self.now.waiters) }
+        ensures { (result ≡ true) ↔ IsSome (list_of ready.now (ready_chain self.now)) × IsSome (list_of waiting.now (waiter_chain self.now)) }
     {
         ready.is_live(self.ready) && waiting.is_live(self.waiters)
     }
 
     /// Whether the set has no ready member and no waiter in these links, so that it may be closed.
     pub fn is_empty(&self, ready: &Links<Waitable>, waiting: &Links<WaiterKey>) -> bool
-        ensures { (result ≡ true) ↔ (list_of ready.now self.now.ready ≡ Some []) × (list_of waiting.now self.now.waiters ≡ Some []) }
+        ensures { (result ≡ true) ↔ (list_of ready.now (ready_chain self.now) ≡ Some []) × (list_of waiting.now (waiter_chain self.now) ≡ Some []) }
     {
         ready.is_empty(self.ready) && waiting.is_empty(self.waiters)
     }
 
     /// Whether a thread waits at the set.
     pub fn has_waiters(&self, waiting: &Links<WaiterKey>) -> bool
-        requires { IsSome (list_of waiting.now self.now.waiters) }
-        ensures { result ≡ is_some (head_of (entries waiting.now self.now.waiters)) }
+        requires { IsSome (list_of waiting.now (waiter_chain self.now)) }
+        ensures { result ≡ is_some (head_of (waiter_list self.now waiting.now)) }
     {
         waiting.first(self.waiters).is_some()
     }
 
     /// The first of the ready members, which is the least where they stand in ascending order. `None` exactly where none is ready.
     pub fn first_ready(&self, ready: &Links<Waitable>) -> Option<Waitable>
-        requires { IsSome (list_of ready.now self.now.ready) }
-        ensures first { result ≡ option_map (λ e. e.1) (head_of (entries ready.now self.now.ready)) }
-        ensures least { IsAscending ⟦<Waitable as Ord>⟧.cmp (entries ready.now self.now.ready) → IfSome result (λ waitable. IsLeast ⟦<Waitable as Ord>⟧.cmp waitable (entries ready.now self.now.ready)) }
+        requires { IsSome (list_of ready.now (ready_chain self.now)) }
+        ensures first { result ≡ option_map (λ e. e.1) (head_of (ready_list self.now ready.now)) }
+        ensures least { IsAscending ⟦<Waitable as Ord>⟧.cmp (ready_list self.now ready.now) → IfSome result (λ waitable. IsLeast ⟦<Waitable as Ord>⟧.cmp waitable (ready_list self.now ready.now)) }
     {
         first_value(ready, self.ready)
     }
 
     /// Adds a member to the ready ones, after the last that is less, so that members that were all put so stand in ascending order. Where it is the greatest, that takes constant time.
     pub fn mark(&mut self, ready: &mut Links<Waitable>, node: Node, waitable: Waitable)
-        requires chain { IsSome (list_of ready.old self.old.ready) }
+        requires chain { IsSome (list_of ready.old (ready_chain self.old)) }
         requires free { is_free ready.old node.index ≡ true }
-        ensures links { ready.new ≡ linked self.old.ready node.index waitable (placed ⟦<Waitable as Ord>⟧.cmp (node.index, waitable) (entries ready.old self.old.ready)) ready.old }
-        ensures order { IsAscending ⟦<Waitable as Ord>⟧.cmp (entries ready.old self.old.ready) → IsAscending ⟦<Waitable as Ord>⟧.cmp (entries ready.new self.old.ready) }
+        ensures links { ready.new ≡ linked (ready_chain self.old) node.index waitable (placed ⟦<Waitable as Ord>⟧.cmp (node.index, waitable) (ready_list self.old ready.old)) ready.old }
+        ensures order { IsAscending ⟦<Waitable as Ord>⟧.cmp (ready_list self.old ready.old) → IsAscending ⟦<Waitable as Ord>⟧.cmp (ready_list self.old ready.new) }
         ensures set { self.new ≡ self.old }
     {
         put_in_order(ready, self.ready, node, waitable);
@@ -185,11 +185,11 @@ impl WaitableSet {
 
     /// Takes a member from the ready ones, and tells whether it was one. Its node is then free.
     pub fn unmark(&mut self, ready: &mut Links<Waitable>, node: Node) -> bool
-        requires chain { IsSome (list_of ready.old self.old.ready) }
+        requires chain { IsSome (list_of ready.old (ready_chain self.old)) }
         requires made { is_made ready.old node.index ≡ true }
-        ensures there { result ≡ is_in self.old.ready node.index ready.old }
-        ensures links { ready.new ≡ taken_out self.old.ready node.index ready.old }
-        ensures order { IsAscending ⟦<Waitable as Ord>⟧.cmp (entries ready.old self.old.ready) → IsAscending ⟦<Waitable as Ord>⟧.cmp (entries ready.new self.old.ready) }
+        ensures there { result ≡ is_in (ready_chain self.old) node.index ready.old }
+        ensures links { ready.new ≡ taken_out (ready_chain self.old) node.index ready.old }
+        ensures order { IsAscending ⟦<Waitable as Ord>⟧.cmp (ready_list self.old ready.old) → IsAscending ⟦<Waitable as Ord>⟧.cmp (ready_list self.old ready.new) }
         ensures set { self.new ≡ self.old }
     {
         take_out(ready, self.ready, node)
@@ -197,10 +197,10 @@ impl WaitableSet {
 
     /// Adds a waiter, after the last that is less, so that waiters that were all put so stand in ascending order. Where it is the greatest, that takes constant time.
     pub fn add_waiter(&mut self, waiting: &mut Links<WaiterKey>, node: Node, waiter: WaiterKey)
-        requires chain { IsSome (list_of waiting.old self.old.waiters) }
+        requires chain { IsSome (list_of waiting.old (waiter_chain self.old)) }
         requires free { is_free waiting.old node.index ≡ true }
-        ensures links { waiting.new ≡ linked self.old.waiters node.index waiter (placed ⟦<WaiterKey as Ord>⟧.cmp (node.index, waiter) (entries waiting.old self.old.waiters)) waiting.old }
-        ensures order { IsAscending ⟦<WaiterKey as Ord>⟧.cmp (entries waiting.old self.old.waiters) → IsAscending ⟦<WaiterKey as Ord>⟧.cmp (entries waiting.new self.old.waiters) }
+        ensures links { waiting.new ≡ linked (waiter_chain self.old) node.index waiter (placed ⟦<WaiterKey as Ord>⟧.cmp (node.index, waiter) (waiter_list self.old waiting.old)) waiting.old }
+        ensures order { IsAscending ⟦<WaiterKey as Ord>⟧.cmp (waiter_list self.old waiting.old) → IsAscending ⟦<WaiterKey as Ord>⟧.cmp (waiter_list self.old waiting.new) }
         ensures set { self.new ≡ self.old }
     {
         put_in_order(waiting, self.waiters, node, waiter);
@@ -208,9 +208,9 @@ impl WaitableSet {
 
     /// Puts a waiter at the end of the waiters.
     pub fn add_waiter_last(&mut self, waiting: &mut Links<WaiterKey>, node: Node, waiter: WaiterKey)
-        requires chain { IsSome (list_of waiting.old self.old.waiters) }
+        requires chain { IsSome (list_of waiting.old (waiter_chain self.old)) }
         requires free { is_free waiting.old node.index ≡ true }
-        ensures links { waiting.new ≡ linked self.old.waiters node.index waiter (entries waiting.old self.old.waiters ++ (node.index, waiter) ∷ []) waiting.old }
+        ensures links { waiting.new ≡ linked (waiter_chain self.old) node.index waiter (waiter_list self.old waiting.old ++ (node.index, waiter) ∷ []) waiting.old }
         ensures set { self.new ≡ self.old }
     {
         waiting.push_back(self.waiters, node, waiter);
@@ -218,12 +218,12 @@ impl WaitableSet {
 
     /// Takes the first waiter, which is the least where they stand in ascending order; its node is then free. `None` exactly where none waits.
     pub fn take_first_waiter(&mut self, waiting: &mut Links<WaiterKey>) -> Option<WaiterKey>
-        requires { IsSome (list_of waiting.old self.old.waiters) }
-        ensures first { result ≡ option_map (λ e. e.1) (head_of (entries waiting.old self.old.waiters)) }
-        ensures links { waiting.new ≡ without_first self.old.waiters waiting.old }
-        ensures rest { entries waiting.new self.old.waiters ≡ drop 1 (entries waiting.old self.old.waiters) }
-        ensures least { IsAscending ⟦<WaiterKey as Ord>⟧.cmp (entries waiting.old self.old.waiters) → IfSome result (λ waiter. IsLeast ⟦<WaiterKey as Ord>⟧.cmp waiter (entries waiting.old self.old.waiters)) }
-        ensures order { IsAscending ⟦<WaiterKey as Ord>⟧.cmp (entries waiting.old self.old.waiters) → IsAscending ⟦<WaiterKey as Ord>⟧.cmp (entries waiting.new self.old.waiters) }
+        requires { IsSome (list_of waiting.old (waiter_chain self.old)) }
+        ensures first { result ≡ option_map (λ e. e.1) (head_of (waiter_list self.old waiting.old)) }
+        ensures links { waiting.new ≡ without_first (waiter_chain self.old) waiting.old }
+        ensures rest { waiter_list self.old waiting.new ≡ drop 1 (waiter_list self.old waiting.old) }
+        ensures least { IsAscending ⟦<WaiterKey as Ord>⟧.cmp (waiter_list self.old waiting.old) → IfSome result (λ waiter. IsLeast ⟦<WaiterKey as Ord>⟧.cmp waiter (waiter_list self.old waiting.old)) }
+        ensures order { IsAscending ⟦<WaiterKey as Ord>⟧.cmp (waiter_list self.old waiting.old) → IsAscending ⟦<WaiterKey as Ord>⟧.cmp (waiter_list self.old waiting.new) }
         ensures set { self.new ≡ self.old }
     {
         take_first(waiting, self.waiters)
@@ -231,11 +231,11 @@ impl WaitableSet {
 
     /// Takes a waiter from the waiters, and tells whether it was one. Its node is then free.
     pub fn remove_waiter(&mut self, waiting: &mut Links<WaiterKey>, node: Node) -> bool
-        requires chain { IsSome (list_of waiting.old self.old.waiters) }
+        requires chain { IsSome (list_of waiting.old (waiter_chain self.old)) }
         requires made { is_made waiting.old node.index ≡ true }
-        ensures there { result ≡ is_in self.old.waiters node.index waiting.old }
-        ensures links { waiting.new ≡ taken_out self.old.waiters node.index waiting.old }
-        ensures order { IsAscending ⟦<WaiterKey as Ord>⟧.cmp (entries waiting.old self.old.waiters) → IsAscending ⟦<WaiterKey as Ord>⟧.cmp (entries waiting.new self.old.waiters) }
+        ensures there { result ≡ is_in (waiter_chain self.old) node.index waiting.old }
+        ensures links { waiting.new ≡ taken_out (waiter_chain self.old) node.index waiting.old }
+        ensures order { IsAscending ⟦<WaiterKey as Ord>⟧.cmp (waiter_list self.old waiting.old) → IsAscending ⟦<WaiterKey as Ord>⟧.cmp (waiter_list self.old waiting.new) }
         ensures set { self.new ≡ self.old }
     {
         take_out(waiting, self.waiters, node)
@@ -243,10 +243,10 @@ impl WaitableSet {
 
     /// Ends a set with no ready member and no waiter: its chains are dropped.
     pub fn close(self, ready: &mut Links<Waitable>, waiting: &mut Links<WaiterKey>)
-        requires ready { list_of ready.old self.ready ≡ Some [] }
-        requires waiters { list_of waiting.old self.waiters ≡ Some [] }
-        ensures ready { Renames ready.old ready.new self.ready (ChainOf []) Unmade }
-        ensures waiters { Renames waiting.old waiting.new self.waiters (ChainOf []) Unmade }
+        requires ready { list_of ready.old (ready_chain self) ≡ Some [] }
+        requires waiters { list_of waiting.old (waiter_chain self) ≡ Some [] }
+        ensures ready { Renames ready.old ready.new (ready_chain self) (ChainOf []) Unmade }
+        ensures waiters { Renames waiting.old waiting.new (waiter_chain self) (ChainOf []) Unmade }
     {
         ready.drop_chain(self.ready);
         waiting.drop_chain(self.waiters);

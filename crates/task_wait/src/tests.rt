@@ -1,3 +1,5 @@
+ghost use Rattle.std.specs.Prelude.{◌≤◌};
+
 use super::*;
 use plain::Plain;
 use std::alloc::Global;
@@ -155,7 +157,9 @@ fn the_least_waiter_is_taken_first(rt: HostRuntime) {
 }
 
 // A pseudo-random number below the bound.
-fn below(state: &mut u64, bound: u64) -> u64 {
+fn below(state: &mut u64, bound: u64) -> u64
+    ensures { result ≤ bound }
+{
     *state = state
         .wrapping_mul(6_364_136_223_846_793_005)
         .wrapping_add(1_442_695_040_888_963_407);
@@ -259,6 +263,9 @@ fn walked(
     goes_back: bool,
 ) -> Result<Vec<(usize, u32)>, Fail> {
     let mut found = Vec::new(alloc);
+    if !links.is_live(chain) {
+        return Ok(found);
+    }
     let mut here = if goes_back {
         links.last(chain)
     } else {
