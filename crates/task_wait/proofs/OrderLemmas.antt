@@ -1,5 +1,5 @@
 -- What keeps a list in ascending order.
-use Rattle.std.proofs.Common.{◌≡◌, ℕ, ◌==◌, ◌||◌, Bool, true, false, cond, List, [], ◌∷◌, ◌++◌, drop, Option, Some, None, IsSome, IfSome, inl, inr, refl, sym, ap, subst, ◌∙◌, option_map}
+use Rattle.std.proofs.Common.{◌≡◌, ℕ, ◌==◌, ◌||◌, Bool, true, false, cond, List, [], ◌∷◌, ◌++◌, drop, Option, Some, None, IsSome, IfSome, refl, sym, ap, subst, ◌∙◌, option_map}
 use Rattle.std.specs.declared.cmp.Ordering.{Ordering}
 use Rattle.std.specs.declared.cmp.Ordering.TheVariants.{Less, Equal, Greater}
 use Rattle.std.specs.Cmp.{IsTotalOrder}
@@ -7,7 +7,7 @@ use Rattle.std.specs.List.{list_any}
 use Rattle.std.specs.Ordering.{is_lt}
 use Rattle.std.proofs.lemmas.Bool.{eq-eqb, ne_eqb, eqb-true}
 use Rattle.std.proofs.lemmas.Cmp.{tied_itself}
-use Rattle.task_wait.specs.Links.{Spot, In, Apart, entries, head_of, link_of, list_of, is_made, put_before, removed_by, unlinked, without}
+use Rattle.task_wait.specs.Links.{Spot, In, Apart, entries, head_of, link_of, list_of, put_before, removed_by, unlinked, without}
 use Rattle.task_wait.specs.Sets.{IsAscending, IsLeast, is_to, place_of, placed, placed_at, taken_out}
 use Rattle.task_wait.proofs.ReadLemmas.{entries-unlinked_same, made_linked}
 use Rattle.task_wait.proofs.WalkLemmas.{place_in}

@@ -1,5 +1,5 @@
 -- What is read of links after a node was put into a chain or taken out of one.
-use Rattle.std.proofs.Common.{◌≡◌, ℕ, ◌<◌, inl, inr, Bool, true, List, length, set, Option, Some, None, IsSome, refl, sym, ap, subst, ◌∙◌, length-set}
+use Rattle.std.proofs.Common.{◌≡◌, ℕ, ◌<◌, inl, inr, Bool, true, List, length, set, Some, None, IsSome, refl, sym, ap, subst, ◌∙◌, length-set}
 use Rattle.std.proofs.lemmas.Bool.{cases_eq, cases_lt}
 use Rattle.std.proofs.lemmas.List.{get_or-set_same, get_or-set_other, get_or_past}
 use Rattle.task_wait.specs.Links.{Spot, Unmade, ChainOf, FreeNode, LinkedNode, ChangesOnly, spot_at, spot_list, spot_link, spot_is_free, spot_is_made, list_or_nil, entries, list_of, link_of, is_free, is_made, linked, unlinked}

@@ -1,8 +1,7 @@
 -- Laws of the first of a chain.
-use Rattle.std.proofs.Common.{◌≡◌, ℕ, ◌<◌, inl, inr, true, cond, List, [], ◌∷◌, drop, length, set, Option, Some, None, IsSome, refl, sym, ap, subst, ◌∙◌}
-use Rattle.std.proofs.lemmas.Bool.{cases_eq, cases_lt, eq-eqb}
-use Rattle.std.proofs.lemmas.List.{get_or-set_same, get_or-set_other, get_or_past}
-use Rattle.task_wait.specs.Links.{Spot, Renames, NamesSame, Unmade, ChainOf, FreeNode, LinkedNode, spot_at, spot_list, spot_link, spot_is_made, list_or_nil, In, IsLinks, entries, list_of, link_of, head_of, is_made, without, unlinked, removed_by}
+use Rattle.std.proofs.Common.{◌≡◌, ℕ, inl, inr, true, cond, List, [], ◌∷◌, drop, Option, Some, None, IsSome, refl, sym, ap, subst, ◌∙◌}
+use Rattle.std.proofs.lemmas.Bool.{cases_eq, eq-eqb}
+use Rattle.task_wait.specs.Links.{Spot, Renames, NamesSame, Unmade, ChainOf, spot_at, In, IsLinks, entries, list_of, head_of, is_made, without, removed_by}
 use Rattle.task_wait.specs.Sets.{without_first, without_entry}
 use Rattle.task_wait.proofs.ReadLemmas.{made_linked, entries-unlinked_same}
 

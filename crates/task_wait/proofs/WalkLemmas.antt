@@ -1,8 +1,8 @@
 -- The place of a new entry, found from the end of a list.
-use Rattle.std.proofs.Common.{◌≡◌, ℕ, ◌+◌, ◌<◌, ◌≤◌, ◌==◌, ◌||◌, inl, inr, Bool, true, false, cond, List, [], ◌∷◌, ◌++◌, length, Option, Some, None, IsSome, refl, sym, ap, subst, ◌∙◌, arith, option_map}
+use Rattle.std.proofs.Common.{◌≡◌, ℕ, ◌+◌, ◌<◌, ◌||◌, inl, inr, Bool, true, false, cond, List, [], ◌∷◌, ◌++◌, length, Option, Some, None, refl, sym, ap, subst, ◌∙◌, arith, option_map}
 use Rattle.std.specs.List.{list_any}
-use Rattle.std.proofs.lemmas.Bool.{eq-eqb, ne_eqb, or_left, or_right, or_from}
-use Rattle.task_wait.specs.Links.{Spot, In, Apart, IsLinks, entries, list_of, link_of, head_of, last_of, last_or, after, before, preceding, in_list}
+use Rattle.std.proofs.lemmas.Bool.{eq-eqb, ne_eqb, or_left, or_right}
+use Rattle.task_wait.specs.Links.{Spot, In, Apart, IsLinks, entries, link_of, head_of, last_of, last_or, before, preceding, in_list}
 use Rattle.std.proofs.lemmas.Option.{same_Some}
 use Rattle.task_wait.specs.Sets.{place_of}
 use Rattle.task_wait.specs.Walks.{IsWalk, position_of, up_to}

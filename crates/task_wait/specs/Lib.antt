@@ -1,4 +1,5 @@
 pub mod Codes
+pub mod Keys
 pub mod Links
 pub mod Rings
 pub mod Sets

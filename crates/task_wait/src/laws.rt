@@ -3,8 +3,10 @@ ghost use Rattle.std.specs.Prelude.{◌≡◌, ◌+◌, ◌*◌, ◌<◌, ℕ, L
 ghost use Rattle.std.specs.Option.{unwrap_or};
 ghost use Rattle.task_machine.specs.Statuses.{packed_status, status_code};
 ghost use Rattle.task_wait.specs.Codes.{unpacked};
+ghost use Rattle.task_wait.specs.Keys.{waitable_order, waiter_order};
 ghost use Rattle.task_wait.specs.Links.{ChangesOnly, is_made, linked, list_of, unlinked};
 
+use crate::keys::{Waitable, WaiterKey};
 use crate::links::{Links, Node};
 use task_machine::Status;
 
@@ -34,4 +36,18 @@ pub fn others_stay<P: Copy>(links: &Links<P>, chain: usize, node: Node)
 {
     let _links = links;
     let _parts = (chain, node);
+}
+
+/// The law of the order of waiters: by the place of the task, then of the thread, then by the thread's serial.
+pub fn waiters_by_task_and_thread(a: WaiterKey, b: WaiterKey)
+    ensures { ⟦<WaiterKey as Ord>⟧.cmp a b ≡ waiter_order a b }
+{
+    let _keys = (a, b);
+}
+
+/// The law of the order of waitables: by the kind, then by the id's place, then by its serial.
+pub fn waitables_by_kind_and_id(a: Waitable, b: Waitable)
+    ensures { ⟦<Waitable as Ord>⟧.cmp a b ≡ waitable_order a b }
+{
+    let _waitables = (a, b);
 }

@@ -16,7 +16,10 @@ pub use keys::{
     GroupKey, GuestTaskKey, HostTaskKey, SetKey, ThreadKey, TransmitKey, Waitable, WaitableCommon,
     WaiterKey,
 };
-pub use laws::{callback_code_unpacks, others_stay, packed_status_unpacks};
+pub use laws::{
+    callback_code_unpacks, others_stay, packed_status_unpacks, waitables_by_kind_and_id,
+    waiters_by_task_and_thread,
+};
 pub use links::{Links, NoMemory, Node};
 pub use set::WaitableSet;
 pub use task_machine::Status;
