@@ -156,6 +156,20 @@ fn the_least_waiter_is_taken_first(rt: HostRuntime) {
     set.close(&mut room.ready, &mut room.waiting);
 }
 
+#[test]
+fn laws_speak_of_what_is_made(rt: HostRuntime) {
+    packed_status_unpacks(Status::Started, Some(5));
+    callback_code_unpacks(WAIT, 1);
+    waiters_by_task_and_thread(waiter(1), waiter(2));
+    waitables_by_kind_and_id(guest(1), guest(2));
+    let mut links: Links<u32> = Links::new(rt.alloc());
+    let chain = made(&rt, links.make_chain());
+    let node = made(&rt, links.make_node());
+    links.no_node_is_twice();
+    assert!(rt; links.is_live(chain) && links.is_made(node));
+    others_stay(&links, chain, node);
+}
+
 // A pseudo-random number below the bound.
 fn below(state: &mut u64, bound: u64) -> u64
     ensures { result ≤ bound }
