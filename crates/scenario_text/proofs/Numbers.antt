@@ -1,17 +1,20 @@
 -- A number is read from its decimal form, and from no other word.
-use Rattle.std.proofs.Common.{◌≡◌, ℕ, ◌^◌, ◌<◌, Bool, ◌&&◌, true, false, cond, ltb, List, [], ◌∷◌, length, get_or, Some, None, Result, Ok, Err, refl, sym, ap, ◌∙◌, arith, inl, inr}
+use Rattle.std.proofs.Common.{◌≡◌, ℕ, ◌^◌, ◌<◌, ◌≤◌, ◌+◌, ◌*◌, Bool, ◌&&◌, true, false, cond, ltb, List, [], ◌∷◌, length, take, get_or, Some, None, refl, sym, ap, subst, ◌∙◌, arith, inl, inr}
 use Rattle.std.specs.Prelude.{decimal}
 use Rattle.std.specs.Char.{is_ascii_digit}
 use Rattle.std.specs.List.{list_all}
-use Rattle.std.specs.Result.{result_ok}
-use Rattle.std.specs.Str.{all_ascii_digits, IsUtf8}
-use Rattle.std.specs.Str.Parse.{digits_value, ParsesUnsigned}
+use Rattle.std.specs.Int.{IsInRange}
+use Rattle.std.specs.Str.{all_ascii_digits}
+use Rattle.std.specs.Str.Parse.{digits_value}
 use Rattle.std.proofs.lemmas.Bool.Decides.{nat_tests}
-use Rattle.std.proofs.lemmas.Bool.{and_parts, cases_lt, false_from_ne_true, ltb-true, lt-ltb}
-use Rattle.std.proofs.lemmas.Str.{IsUtf8-from_ascii}
-use Rattle.std.proofs.lemmas.Str.Parse.{IsNumeralModel, numerals_by_value, tells_all_ascii_digits, parse_digits}
-use Rattle.std.proofs.lemmas.Fmt.{IsAscii-from_digits, decimal-digits_value, digits_decimal, digits_value-decimal, decimal_nonempty, first_decimal, decimal_digit}
-use Rattle.scenario_text.specs.Words.{is_numeral, number_at}
+use Rattle.std.proofs.lemmas.Bool.{and_parts, cases_lt, ltb-true, lt-ltb, le-ltb}
+use Rattle.std.proofs.lemmas.Int.Digits.{digits_value_more}
+use Rattle.std.proofs.lemmas.List.{get_or_default, take_all}
+use Rattle.std.proofs.lemmas.List.Folds.{list_all_more}
+use Rattle.std.proofs.lemmas.Str.{digit_value_digit}
+use Rattle.std.proofs.lemmas.Str.Parse.{IsNumeralModel, numerals_by_value, tells_all_ascii_digits, digits_value-take-le}
+use Rattle.std.proofs.lemmas.Fmt.{decimal-digits_value, digits_decimal, digits_value-decimal, decimal_nonempty, first_decimal, decimal_digit}
+use Rattle.scenario_text.specs.Words.{is_numeral, digits_at, number_at}
 
 -- the value of a test that was passed
 pub guarded : {A : Type 0} (b : Bool) (x y : A) → cond b (Some x) None ≡ Some y → (b ≡ true) × (x ≡ y)
@@ -42,21 +45,45 @@ numeral_from word h =
     let digits : list_all is_ascii_digit word ≡ true = digits_are word ∙ h.digits in
     grind (arith, nat_tests)
 
-pub numeral_is_text : (word : List ℕ) → is_numeral word ≡ true → IsUtf8 word
-numeral_is_text word h = IsUtf8-from_ascii word (IsAscii-from_digits word (digits_model.to word (numeral_parts word h).digits))
+-- ---- Digits, one by one
 
--- what std's `parse` makes of a numeral
-pub parsed : {E : Type 0} (word : List ℕ) (r : Result ℕ E) → is_numeral word ≡ true → ParsesUnsigned 64 10 word r → result_ok r ≡ number_at word
-unfolding number_at
-parsed {E} word (Ok n) h p =
-    let q = parse_digits digits_model {E = E} 64 word (Ok n) p (numeral_parts word h).digits in
-    let below : ltb (digits_value 10 word) (2 ^ 64) ≡ true = lt-ltb _ _ q.0.1 in
-    rw (h, below, q.1) refl
-parsed {E} word (Err e) h p =
-    let q = parse_digits digits_model {E = E} 64 word (Err e) p (numeral_parts word h).digits in
-    let some = (numeral_parts word h).some in
-    let above : ltb (digits_value 10 word) (2 ^ 64) ≡ false = false_from_ne_true _ (λ e. q (some, ltb-true _ _ e)) in
-    rw (h, above) refl
+-- what one more digit adds, and that it is one
+pub record IsDigit (word : List ℕ) (i d : ℕ) : Type 0 where
+  pub more : digits_value 10 (take (i + 1) word) + 48 ≡ digits_value 10 (take i word) * 10 + get_or word i d
+  pub least : 48 ≤ get_or word i d
+  pub all : list_all is_ascii_digit (take i word) ≡ true → list_all is_ascii_digit (take (i + 1) word) ≡ true
+
+pub digit_more : (word : List ℕ) (i d : ℕ) → i < length word → is_ascii_digit (get_or word i d) ≡ true → IsDigit word i d
+digit_more word i d lt h =
+    let more = digits_value_more 10 word i lt in
+    let same : get_or word i 0 ≡ get_or word i d = get_or_default word i 0 d lt in
+    let range : IsInRange 48 57 (get_or word i 0) = grind (arith, nat_tests, h, same) in
+    let value = digit_value_digit (get_or word i 0) range in
+    record {
+      more = omega (arith, more, value, same);
+      least = omega (arith, range, same);
+      all = λ e. list_all_more is_ascii_digit word i d lt ∙ (rw (e, h) refl);
+    }
+
+barred : (b : Bool) (n : ℕ) → cond (b && false) (Some n) None ≡ None
+barred true n = refl
+barred false n = refl
+
+-- a front of the digits is too great, so all are
+pub digits_overflow : (word : List ℕ) (i : ℕ) → 2 ^ 64 ≤ digits_value 10 (take i word) → digits_at word ≡ None
+unfolding digits_at
+digits_overflow word i le =
+    let above : ltb (digits_value 10 word) (2 ^ 64) ≡ false = le-ltb _ _ (omega (arith, le, digits_value-take-le 10 word i (omega arith))) in
+    rw above (barred (list_all is_ascii_digit word) (digits_value 10 word))
+
+pub digits_read : (word : List ℕ) (i v : ℕ) → length word ≤ i → v < 2 ^ 64 → list_all is_ascii_digit (take i word) ≡ true → v ≡ digits_value 10 (take i word) → Some v ≡ digits_at word
+unfolding digits_at
+digits_read word i v le lt h e =
+    let whole : take i word ≡ word = take_all i word le in
+    let digits : list_all is_ascii_digit word ≡ true = subst (λ ds. list_all is_ascii_digit ds ≡ true) whole h in
+    let value : v ≡ digits_value 10 word = e ∙ ap (λ ds. digits_value 10 ds) whole in
+    let below : ltb (digits_value 10 word) (2 ^ 64) ≡ true = lt-ltb _ _ (omega (arith, lt, value)) in
+    rw (digits, below) (ap (λ n. Some n) value)
 
 pub number_takes : (word : List ℕ) (n : ℕ) → number_at word ≡ Some n → (word ≡ decimal n) × (n < 2 ^ 64)
 unfolding number_at

@@ -21,6 +21,10 @@ is_numeral word =
     if length word == 0 then false
     else list_all is_ascii_digit word && (length word == 1 || not (slice_index word 0 == 48))
 
+-- the number that digits write, below 2^64
+unfoldable pub digits_at : List ℕ → Option ℕ
+digits_at word = if list_all is_ascii_digit word && nat_lt (digits_value 10 word) (2 ^ 64) then Some (digits_value 10 word) else None
+
 unfoldable pub number_at : List ℕ → Option ℕ
 number_at word = if is_numeral word && nat_lt (digits_value 10 word) (2 ^ 64) then Some (digits_value 10 word) else None
 

@@ -98,6 +98,7 @@ fn copied(alloc: Global, name: &[u8]) -> Result<Name, AllocError>
 }
 
 // The line of the head that the words after its first one complete.
+#[inline(never)]
 #[tactic(auto, unfolding(crate::specs::Line::head_after))]
 fn head_after(word: HeadWord, words: &[&[u8]]) -> Option<HeadLine>
     ensures { result ≡ head_after word (map (λ w. w.now) words.now) }
@@ -134,6 +135,7 @@ fn export_after(alloc: Global, words: &[&[u8]]) -> Result<PartLine, LineError>
     Ok(PartLine::Export(copied(alloc, name)?, kind, params))
 }
 
+#[inline(never)]
 #[tactic(auto, unfolding(crate::specs::Line::part_after))]
 fn part_after(alloc: Global, word: PartWord, words: &[&[u8]]) -> Result<PartLine, LineError>
     ensures { Gives result (part_after word (map (λ w. w.now) words.now)) }
@@ -211,6 +213,7 @@ fn finish_after(words: &[&[u8]]) -> Option<NamedOp>
 }
 
 // The line of main, or the last one, that the words after its first one complete.
+#[inline(never)]
 #[tactic(auto, unfolding(crate::specs::Line::main_after))]
 fn main_after(alloc: Global, word: MainWord, words: &[&[u8]]) -> Result<Line, LineError>
     ensures { Gives result (main_after word (map (λ w. w.now) words.now)) }

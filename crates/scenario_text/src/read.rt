@@ -1,6 +1,6 @@
 //! A text, line by line.
 ghost use Rattle.std.specs.Prelude.{◌≡◌, ◌==◌, ◌<◌, [], ◌∷◌, ℕ, List, length, map, position, IsOkUnless, IfOk, IfSome, MatchOption, OnOk};
-ghost use Rattle.scenario_text.specs.Gives.{Gives};
+ghost use Rattle.scenario_text.specs.Gives.{Becomes};
 ghost use Rattle.scenario_text.specs.Grammar.{lines, words, spelled, IsTextOf};
 ghost use Rattle.scenario_text.specs.State.{after_words, read_from, ReadsAs};
 ghost use Rattle.scenario_text.specs.Answers.{Answers};
@@ -64,17 +64,17 @@ fn split_words<'a>(list: &mut Vec<&'a [u8]>, line: &'a [u8]) -> Result<(), Alloc
 }
 
 #[tactic(auto, unfolding(crate::specs::State::after_words))]
-fn after_line<'a>(
+fn add_line<'a>(
     alloc: Global,
-    state: State,
+    state: &mut State,
     list: &mut Vec<&'a [u8]>,
     line: &'a [u8],
-) -> Result<State, LineError>
-    ensures { Gives result (after_words state (words line.now)) }
+) -> Result<(), LineError>
+    ensures { Becomes state.new result (after_words state.old (words line.now)) }
 {
     split_words(list, line)?;
     let line = read_line(alloc, list)?;
-    state.after(alloc, line)
+    state.add(alloc, line)
 }
 
 fn read(alloc: Global, text: &[u8]) -> Result<ScenarioText, TextError>
@@ -86,11 +86,11 @@ fn read(alloc: Global, text: &[u8]) -> Result<ScenarioText, TextError>
     let mut rest = text;
     let mut number = 1;
     while let Some((line, more)) = first_line(rest) {
-        state = match after_line(alloc, state, &mut words, line) {
-            Ok(state) => state,
+        match add_line(alloc, &mut state, &mut words, line) {
+            Ok(()) => {}
             Err(LineError::NoMemory) => return Err(TextError::NoMemory),
             Err(LineError::Bad) => return Err(TextError::Bad(number)),
-        };
+        }
         rest = more;
         number += 1;
     }

@@ -1,6 +1,6 @@
 //! What was read so far, and what each kind of line adds to it.
 ghost use Rattle.std.specs.Prelude.{◌≡◌};
-ghost use Rattle.scenario_text.specs.Gives.{Gives};
+ghost use Rattle.scenario_text.specs.Gives.{Gives, Becomes};
 ghost use Rattle.scenario_text.specs.State.{with_op, start_of, finish_of, main_op_of};
 
 use crate::line::{HeadLine, Line, LineError, NamedOp, PartLine};
@@ -10,6 +10,7 @@ use crate::stands::{
 };
 use crate::tree::{ExportText, InstanceText, MainOpText, Name, ScenarioText};
 use std::alloc::Global;
+use std::mem;
 use task_machine::{ExportKind, IdleLine, Op, Operand, Seq};
 
 /// The head, and the instances that are closed.
@@ -45,14 +46,14 @@ impl Opening {
 }
 
 #[tactic(auto, unfolding(crate::specs::State::with_op))]
-fn with_op(mut ops: Seq<Op>, op: Op) -> Result<Seq<Op>, LineError>
-    ensures { Gives result (with_op ops op) }
+fn push_op(ops: &mut Seq<Op>, op: Op) -> Result<(), LineError>
+    ensures { Becomes ops.new result (with_op ops.old op) }
 {
     if ops.len() >= OPS {
         return Err(LineError::Bad);
     }
     ops.push(op)?;
-    Ok(ops)
+    Ok(())
 }
 
 // The op of main that names of an export and operands are, after those before it.
@@ -141,16 +142,6 @@ impl State {
         let (mut body, instance) = self.close_script()?;
         body.instances.push(instance)?;
         Ok(body)
-    }
-
-    #[tactic(auto, unfolding(crate::specs::State::main_open))]
-    fn open_main(self) -> Result<(Body, Seq<MainOpText>), LineError>
-        ensures { Gives result (main_open self) }
-    {
-        match self {
-            State::Main(body, ops) => Ok((body, ops)),
-            _ => Err(LineError::Bad),
-        }
     }
 
     #[tactic(auto, unfolding(crate::specs::State::after_title))]
@@ -252,14 +243,11 @@ impl State {
     }
 
     #[tactic(auto, unfolding(crate::specs::State::after_op))]
-    fn after_op(self, op: Op) -> Result<State, LineError>
-        ensures { Gives result (after_op self op) }
+    fn add_op(&mut self, op: Op) -> Result<(), LineError>
+        ensures { Becomes self.new result (after_op self.old op) }
     {
         match self {
-            State::Script(body, instance, opening, start) => {
-                let start = with_op(start, op)?;
-                Ok(State::Script(body, instance, opening, start))
-            }
+            State::Script(_, _, _, start) => push_op(start, op),
             _ => Err(LineError::Bad),
         }
     }
@@ -275,14 +263,30 @@ impl State {
         Ok(State::Main(body, Seq::new(alloc)))
     }
 
-    #[tactic(auto, unfolding(crate::specs::State::after_main_op))]
-    fn after_main_op(self, op: NamedOp) -> Result<State, LineError>
-        ensures { Gives result (after_main_op self op) }
+    #[tactic(auto, unfolding(crate::specs::State::after_main_op, crate::specs::State::main_open))]
+    fn add_main_op(&mut self, op: NamedOp) -> Result<(), LineError>
+        ensures { Becomes self.new result (after_main_op self.old op) }
     {
-        let (body, mut ops) = self.open_main()?;
-        let op = main_op_of(body.instances.as_slice(), ops.as_slice(), op).ok_or(LineError::Bad)?;
-        ops.push(op)?;
-        Ok(State::Main(body, ops))
+        match self {
+            State::Main(body, ops) => {
+                let op = main_op_of(body.instances.as_slice(), ops.as_slice(), op).ok_or(
+                    LineError::Bad,
+                )?;
+                ops.push(op)?;
+                Ok(())
+            }
+            _ => Err(LineError::Bad),
+        }
+    }
+
+    #[tactic(auto, unfolding(crate::specs::State::main_open))]
+    fn open_main(self) -> Result<(Body, Seq<MainOpText>), LineError>
+        ensures { Gives result (main_open self) }
+    {
+        match self {
+            State::Main(body, ops) => Ok((body, ops)),
+            _ => Err(LineError::Bad),
+        }
     }
 
     #[tactic(auto, unfolding(crate::specs::State::after_answer))]
@@ -313,19 +317,38 @@ impl State {
         }
     }
 
-    /// What was read, with a further line.
+    fn taken(&mut self) -> State
+        ensures { result ≡ self.old }
+    {
+        mem::replace(self, State::Empty)
+    }
+
+    // Adds any line. It stays out of line, so that the lines of scripts don't pay for its values.
+    #[inline(never)]
     #[tactic(auto, unfolding(crate::specs::State::after))]
-    pub fn after(self, alloc: Global, line: Line) -> Result<State, LineError>
-        ensures { Gives result (after self line) }
+    fn add_any(&mut self, alloc: Global, line: Line) -> Result<(), LineError>
+        ensures { Becomes self.new result (after self.old line) }
     {
         match line {
-            Line::Head(line) => self.after_head(alloc, line),
-            Line::Part(line) => self.after_part(alloc, line),
-            Line::Op(op) => self.after_op(op),
-            Line::Main => self.after_main(alloc),
-            Line::MainOp(op) => self.after_main_op(op),
-            Line::Answer(value) => self.after_answer(value),
-            Line::End => self.after_end(),
+            Line::Head(line) => *self = self.taken().after_head(alloc, line)?,
+            Line::Part(line) => *self = self.taken().after_part(alloc, line)?,
+            Line::Op(op) => self.add_op(op)?,
+            Line::Main => *self = self.taken().after_main(alloc)?,
+            Line::MainOp(op) => self.add_main_op(op)?,
+            Line::Answer(value) => *self = self.taken().after_answer(value)?,
+            Line::End => *self = self.taken().after_end()?,
+        }
+        Ok(())
+    }
+
+    /// Adds a further line to what was read. After an error nothing is said of the state.
+    #[tactic(auto, unfolding(crate::specs::State::after))]
+    pub fn add(&mut self, alloc: Global, line: Line) -> Result<(), LineError>
+        ensures { Becomes self.new result (after self.old line) }
+    {
+        match line {
+            Line::Op(op) => self.add_op(op),
+            line => self.add_any(alloc, line),
         }
     }
 

@@ -2,38 +2,34 @@
 ghost use Rattle.std.specs.Prelude.{◌≡◌, ◌≢◌, ◌≤◌, ℕ, decimal, IfSome, MatchOption};
 ghost use Rattle.std.specs.Char.{is_ascii_digit};
 ghost use Rattle.std.specs.List.{list_all};
-ghost use Rattle.scenario_text.specs.Words.{is_numeral, number_at, bounded_at, register_at, operand_at, idle_at, kind_at, is_name_byte, is_name};
+ghost use Rattle.scenario_text.specs.Words.{digits_at, number_at, bounded_at, register_at, operand_at, idle_at, kind_at, is_name_byte, is_name};
 
 use task_machine::{ExportKind, IdleLine, Operand};
 
-fn all_digits(word: &[u8]) -> bool
-    ensures { result ≡ list_all is_ascii_digit word.now }
+// The number that digits write, where it is below 2^64.
+#[tactic(auto, unfolding(crate::specs::Words::digits_at))]
+fn digits(word: &[u8]) -> Option<u64>
+    ensures { result ≡ digits_at word.now }
 {
-    word.iter().all(|b| b.is_ascii_digit())
-}
-
-// Whether a word is a decimal number without leading zeros, of any size.
-fn is_numeral(word: &[u8]) -> bool
-    ensures { result ≡ is_numeral word.now }
-{
-    if word.is_empty() {
-        return false;
+    let mut value: u64 = 0;
+    for b in word {
+        if !b.is_ascii_digit() {
+            return None;
+        }
+        value = value.checked_mul(10)?.checked_add(u64::from(*b - b'0'))?;
     }
-    all_digits(word) && (word.len() == 1 || word[0] != b'0')
+    Some(value)
 }
 
 /// The number that a word is, 0 to 2^64 - 1, in decimal without leading zeros.
-#[tactic(auto, unfolding(crate::specs::Words::number_at))]
+#[tactic(auto, unfolding(crate::specs::Words::number_at, crate::specs::Words::digits_at))]
 pub fn number(word: &[u8]) -> Option<u64>
     ensures { result ≡ number_at word.now }
 {
-    if !is_numeral(word) {
+    if word.is_empty() || (word.len() > 1 && word[0] == b'0') {
         return None;
     }
-    match std::str::from_utf8(word) {
-        Ok(digits) => digits.parse().ok(),
-        Err(_) => None,
-    }
+    digits(word)
 }
 
 /// The number that a word is, up to a limit.

@@ -9,6 +9,8 @@ pub mod LimitsShown
 pub mod RequestsShown
 pub mod ThreadsShown
 pub mod StrandsShown
+pub mod ChecksShown
+pub mod SubtasksShown
 pub mod Generated1Shown
 pub mod Generated2Shown
 pub mod Generated3Shown
@@ -17,3 +19,5 @@ pub mod Generated5Shown
 pub mod Generated6Shown
 pub mod Generated7Shown
 pub mod Generated8Shown
+pub mod Generated9Shown
+pub mod Generated10Shown

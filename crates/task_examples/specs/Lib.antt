@@ -10,6 +10,8 @@ pub mod Limits
 pub mod Requests
 pub mod Threads
 pub mod Strands
+pub mod Checks
+pub mod Subtasks
 pub mod Generated1
 pub mod Generated2
 pub mod Generated3
@@ -18,3 +20,5 @@ pub mod Generated5
 pub mod Generated6
 pub mod Generated7
 pub mod Generated8
+pub mod Generated9
+pub mod Generated10

@@ -3,7 +3,9 @@
 
 pub mod calls;
 pub mod cancels;
+pub mod checks;
 pub mod generated1;
+pub mod generated10;
 pub mod generated2;
 pub mod generated3;
 pub mod generated4;
@@ -11,11 +13,13 @@ pub mod generated5;
 pub mod generated6;
 pub mod generated7;
 pub mod generated8;
+pub mod generated9;
 pub mod guests;
 pub mod hosts;
 pub mod limits;
 pub mod requests;
 pub mod sets;
 pub mod strands;
+pub mod subtasks;
 pub mod threads;
 pub mod wakes;

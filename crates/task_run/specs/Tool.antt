@@ -3,6 +3,11 @@ use Rattle.std.specs.Prelude.{◌≡◌, ◌⊎◌, ℕ, ◌≤◌, List, [], �
 use Rattle.task_run.specs.declared.program.End.{End}
 use Rattle.task_run.specs.declared.program.End.TheVariants as ends
 use Rattle.scenario_text.specs.Grammar.{IsBadLine}
+use Rattle.task_machine.specs.declared.label.Label.{Label}
+use Rattle.task_machine.specs.declared.outcome.Outcome.{Outcome}
+use Rattle.task_rules.specs.Texts as texts
+use Rattle.task_run.specs.declared.scenario.Scenario.{Scenario}
+use Rattle.task_run.specs.Lower.{Reads}
 use Rattle.task_run.specs.Pump.{IsTaken, IsFront}
 
 -- the words are `run N`, N from 1 to 1,000,000 in decimal without leading zeros
@@ -39,3 +44,29 @@ pub record SaysBadLine (all : List ℕ) (left : Option (List ℕ)) (held : List 
   pub read : IsText all left text
   pub bad : IsBadLine text line
   pub written : now ≡ Some (held ++ bad_line_text line)
+
+-- a scenario was read, and a front of a report's text is written
+pub record IsReportCut (all : List ℕ) (left : Option (List ℕ)) (held : List ℕ) (now : Option (List ℕ)) : Type 0 where
+  pub text : List ℕ
+  pub scenario : Scenario
+  pub trace : List Label
+  pub outcome : Outcome
+  pub read : IsText all left text
+  pub reads : Reads text scenario
+  pub written : IsFront held (texts.text trace outcome) now
+
+-- a text outside the grammar was read, and a front of its bad line is written
+pub record IsBadLineCut (all : List ℕ) (left : Option (List ℕ)) (held : List ℕ) (now : Option (List ℕ)) : Type 0 where
+  pub text : List ℕ
+  pub line : ℕ
+  pub read : IsText all left text
+  pub bad : IsBadLine text line
+  pub written : IsFront held (bad_line_text line) now
+
+-- a front of what was to be written after reading
+abbrev pub IsCut : List ℕ → Option (List ℕ) → List ℕ → Option (List ℕ) → Type 0
+IsCut all left held now = IsReportCut all left held now ⊎ IsBadLineCut all left held now
+
+-- nothing was written, or a front of a report's text
+abbrev pub IsWanting : List ℕ → Option (List ℕ) → List ℕ → Option (List ℕ) → Type 0
+IsWanting all left held now = (now ≡ Some held) ⊎ IsReportCut all left held now

@@ -1,4 +1,5 @@
 ghost use Rattle.std.specs.Prelude.{◌≡◌, ◌<◌, ◌≤◌, ◌++◌, [], IfOk, List, Option, Some, drop, length, vec_capacity, vec_len};
+ghost use Rattle.task_run.specs.Outside.{HasRisen, IsWritten};
 
 use crate::outside::{Read, Sink, Source, Wrote};
 use crate::scenario::NoMemory;
@@ -82,6 +83,7 @@ impl MemorySink {
     ) -> Result<Self, NoMemory>
         requires { 0 < piece }
         ensures held { IfOk result (λ sink. ⟦<MemorySink as Sink>⟧.held sink ≡ Some []) }
+        ensures room { IfOk result (λ sink. sink.capacity ≡ capacity) }
         ensures faults { IfOk result (λ sink. ⟦<MemorySink as Sink>⟧.faults sink ≡ 0) }
     {
         let Ok(bytes) = Vec::with_capacity(alloc, capacity) else {
@@ -110,7 +112,15 @@ impl Sink for MemorySink {
 
     ghost held = { λ s. Some s.bytes.items };
 
-    fn write(&mut self, bytes: &[u8]) -> Wrote {
+    fn write(&mut self, bytes: &[u8]) -> Wrote
+        requires { 0 < length bytes.now }
+        ensures count { self.old.faults ≤ self.new.faults }
+        ensures cause { result ≡ Wrote.Failed → HasRisen self.old.faults self.new.faults }
+        ensures written { IsWritten (Some self.old.bytes.items) (Some self.new.bytes.items) bytes.now result }
+        // Its room stays, and where that is full it fails.
+        ensures room { self.new.capacity ≡ self.old.capacity }
+        ensures full { self.old.capacity ≤ length self.old.bytes.items → result ≡ Wrote.Failed }
+    {
         self.calls = self.calls.saturating_add(1);
         let room = self.capacity.saturating_sub(self.bytes.len());
         let count = room.min(self.piece).min(bytes.len());

@@ -3,7 +3,7 @@ ghost use Rattle.task_run.specs.Outside.{HasRisen};
 ghost use Rattle.task_run.specs.Pump.{IsFront};
 ghost use Rattle.task_run.specs.Lower.{Reads};
 ghost use Rattle.task_rules.specs.Texts.{text};
-ghost use Rattle.task_run.specs.Tool.{IsRun, IsText, SaysBadLine, SaysOrFails, bad_line_text, usage_text, status_of};
+ghost use Rattle.task_run.specs.Tool.{IsRun, IsText, IsCut, IsWanting, SaysBadLine, SaysOrFails, bad_line_text, usage_text, status_of};
 ghost use Rattle.task_run.specs.declared.scenario.Scenario.{Scenario};
 
 use crate::outside::{Sink, Source};
@@ -94,6 +94,7 @@ fn flush<K: Sink>(sink: &mut K, out: &mut Vec<u8>) -> Result<(), End>
     ensures cause { IsErrOf result End.WriteFailed → HasRisen (K.faults sink.old) (K.faults sink.new) }
     ensures fault { IfErr result (λ end. end ≡ End.WriteFailed) }
     ensures told { (held : List ℕ) → K.held sink.old ≡ Some held → OnOk result ((out.new.items ≡ []) × (K.held sink.new ≡ Some (held ++ out.old.items))) }
+    ensures front { (held : List ℕ) → K.held sink.old ≡ Some held → IsFront held out.old.items (K.held sink.new) }
 {
     if !write_all(sink, out.as_slice()) {
         return Err(End::WriteFailed);
@@ -108,6 +109,7 @@ fn write_report<K: Sink>(alloc: Global, sink: &mut K, report: &Report) -> Result
     ensures cause { IsErrOf result End.WriteFailed → HasRisen (K.faults sink.old) (K.faults sink.new) }
     ensures fault { IfErr result (λ end. (end ≡ End.NoMemory) ⊎ (end ≡ End.WriteFailed)) }
     ensures told { (held : List ℕ) → K.held sink.old ≡ Some held → OnOk result (K.held sink.new ≡ Some (held ++ text report.now.trace report.now.outcome)) }
+    ensures front { (held : List ℕ) → K.held sink.old ≡ Some held → IsFront held (text report.now.trace report.now.outcome) (K.held sink.new) }
 {
     let mut out = Vec::new(alloc);
     for label in report.trace.labels() {
@@ -124,6 +126,8 @@ fn say_bad_line<K: Sink>(alloc: Global, sink: &mut K, line: u32) -> End
     ensures answer { (result ≡ End.NoMemory) ⊎ ((result ≡ End.BadScenario) ⊎ (result ≡ End.WriteFailed)) }
     ensures cause { result ≡ End.WriteFailed → HasRisen (K.faults sink.old) (K.faults sink.new) }
     ensures told { (held : List ℕ) → K.held sink.old ≡ Some held → result ≡ End.BadScenario → K.held sink.new ≡ Some (held ++ bad_line_text line) }
+    ensures front { (held : List ℕ) → K.held sink.old ≡ Some held → result ≡ End.WriteFailed → IsFront held (bad_line_text line) (K.held sink.new) }
+    ensures wanting { result ≡ End.NoMemory → sink.new ≡ sink.old }
 {
     match format!(in alloc; "bad scenario line {line}\n") {
         Ok(text) => say(sink, text.as_bytes(), End::BadScenario),
@@ -146,6 +150,8 @@ fn run<S: Source, K: Sink>(
     ensures written { (held : List ℕ) → K.held sink.old ≡ Some held → IfOk result (λ r. K.held sink.new ≡ Some (held ++ text r.trace r.outcome)) }
     ensures done { (all : List ℕ) → S.left source.old ≡ Some all → IsOk result → (text : List ℕ) × IsText all (S.left source.new) text × ((x : Scenario) × Reads text x) }
     ensures bad { (all held : List ℕ) → S.left source.old ≡ Some all → K.held sink.old ≡ Some held → IsErrOf result End.BadScenario → SaysBadLine all (S.left source.new) held (K.held sink.new) }
+    ensures wanting { (all held : List ℕ) → S.left source.old ≡ Some all → K.held sink.old ≡ Some held → IsErrOf result End.NoMemory → IsWanting all (S.left source.new) held (K.held sink.new) }
+    ensures cut { (all held : List ℕ) → S.left source.old ≡ Some all → K.held sink.old ≡ Some held → IsErrOf result End.WriteFailed → IsCut all (S.left source.new) held (K.held sink.new) }
 {
     let text = match read_all(alloc, source) {
         Ok(text) => text,
@@ -179,6 +185,9 @@ fn call<S: Source, K: Sink>(
     ensures written { (held : List ℕ) → K.held sink.old ≡ Some held → IfOk result (λ r. K.held sink.new ≡ Some (held ++ text r.trace r.outcome)) }
     ensures done { (all : List ℕ) → S.left source.old ≡ Some all → IsOk result → (text : List ℕ) × IsText all (S.left source.new) text × ((x : Scenario) × Reads text x) }
     ensures bad { (all held : List ℕ) → S.left source.old ≡ Some all → K.held sink.old ≡ Some held → IsErrOf result End.BadScenario → SaysBadLine all (S.left source.new) held (K.held sink.new) }
+    ensures wanting { (all held : List ℕ) → S.left source.old ≡ Some all → K.held sink.old ≡ Some held → IsErrOf result End.NoMemory → IsWanting all (S.left source.new) held (K.held sink.new) }
+    ensures cut { (n : ℕ) (all held : List ℕ) → IsRun (map string_bytes words.now) n → S.left source.old ≡ Some all → K.held sink.old ≡ Some held → IsErrOf result End.WriteFailed → IsCut all (S.left source.new) held (K.held sink.new) }
+    ensures unsaid { (held : List ℕ) → ((n : ℕ) → IsRun (map string_bytes words.now) n → ⊥) → K.held sink.old ≡ Some held → IsErrOf result End.WriteFailed → IsFront held usage_text (K.held sink.new) }
 {
     match steps_of(words) {
         Some(steps) => run(alloc, steps, source, sink),
@@ -211,6 +220,10 @@ pub fn tool<S: Source, K: Sink>(
     // With status 0 the text was a scenario's, with 3 it was none.
     ensures done { (all : List ℕ) → S.left source.old ≡ Some all → result.status ≡ 0 → (text : List ℕ) × IsText all (S.left source.new) text × ((x : Scenario) × Reads text x) }
     ensures bad { (all held : List ℕ) → S.left source.old ≡ Some all → K.held sink.old ≡ Some held → result.status ≡ 3 → SaysBadLine all (S.left source.new) held (K.held sink.new) }
+    // With status 1 nothing or a front of a report was written, with 5 a front of what was to be written.
+    ensures wanting { (all held : List ℕ) → S.left source.old ≡ Some all → K.held sink.old ≡ Some held → result.status ≡ 1 → IsWanting all (S.left source.new) held (K.held sink.new) }
+    ensures cut { (n : ℕ) (all held : List ℕ) → IsRun (map string_bytes words.now) n → S.left source.old ≡ Some all → K.held sink.old ≡ Some held → result.status ≡ 5 → IsCut all (S.left source.new) held (K.held sink.new) }
+    ensures unsaid { (held : List ℕ) → ((n : ℕ) → IsRun (map string_bytes words.now) n → ⊥) → K.held sink.old ≡ Some held → result.status ≡ 5 → IsFront held usage_text (K.held sink.new) }
 {
     match call(alloc, words, source, sink) {
         Ok(report) => ToolEnd {

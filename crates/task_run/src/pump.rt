@@ -33,9 +33,9 @@ pub fn read_all<S: Source>(alloc: Global, source: &mut S) -> Result<Vec<u8>, Rea
     ensures told { (all : List ℕ) → S.left source.old ≡ Some all → ReadsAll all (S.left source.new) result }
 {
     let mut text = Vec::new(alloc);
-    let mut buf = [0; 4096];
+    let mut buf = [0; 16_384];
     while text.len() <= LIMIT {
-        let room = (LIMIT + 1 - text.len()).min(4096);
+        let room = (LIMIT + 1 - text.len()).min(16_384);
         match source.read(&mut buf[..room]) {
             Read::Got(count) => text.extend_from_slice(&buf[..count])?,
             Read::End => return Ok(text),

@@ -120,3 +120,33 @@ fn std_s_readers_and_writers_are_adapted(rt: HostRuntime) -> Result<(), Fail> {
     assert_eq!(rt; sink.write(b"done"), Wrote::Took(4));
     Ok(())
 }
+
+#[test]
+fn memory_that_is_there_is_not_wanting(rt: HostRuntime) -> Result<(), Fail> {
+    let alloc = rt.alloc();
+    let scenario = read_scenario(alloc, ONE_CALL).ok().ok_or("a scenario")?;
+    assert!(rt; component_of(alloc, &scenario).is_ok());
+    let report = run_scenario(alloc, ONE_CALL, 7).ok().ok_or("a report")?;
+    assert!(rt; print_report(alloc, &report).is_ok());
+    let words = words(alloc, &["run", "7"])?;
+    let mut source = source(alloc, ONE_CALL, 100, &[])?;
+    let mut sink = sink(alloc, 10, &[])?;
+    let end = tool(alloc, words.as_slice(), &mut source, &mut sink);
+    assert_eq!(rt; end.status, 0);
+    Ok(())
+}
+
+#[test]
+fn a_full_sink_fails(rt: HostRuntime) -> Result<(), Fail> {
+    let alloc = rt.alloc();
+    let mut sink = MemorySink::new(alloc, 4, 10, Vec::new(alloc))
+        .ok()
+        .ok_or("room")?;
+    let mut source = source(alloc, ONE_CALL, 100, &[])?;
+    let words = words(alloc, &["run", "7"])?;
+    let end = tool(alloc, words.as_slice(), &mut source, &mut sink);
+    assert_eq!(rt; end.status, 5);
+    assert_eq!(rt; sink.bytes(), b"main start".as_slice());
+    assert!(rt; MemorySink::new(alloc, 4, usize::MAX, Vec::new(alloc)).is_err());
+    Ok(())
+}

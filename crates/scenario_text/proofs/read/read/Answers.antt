@@ -9,7 +9,7 @@ returns-in-Err-Bad c =
 
 pub loop-line-preserved : goal.loop-line-preserved
 loop-line-preserved c =
-    let good = line_taken c.loop-line.state c.in-Ok.state c.loop-line.number c.loop-line.rest.now c.in-Some.line.now c.in-Some.more.now c.in-Some.ensures.cases c.in-Ok.ensures in
+    let good = line_taken c.loop-line.state c.add_line.new.state c.loop-line.number c.loop-line.rest.now c.in-Some.line.now c.in-Some.more.now c.in-Some.ensures.cases c.in-Ok.ensures in
     record { same = sym good ∙ c.loop-line.invariant.same; few = omega (arith, c.in-Some.ensures.shorter) }
 
 pub returns : goal.returns

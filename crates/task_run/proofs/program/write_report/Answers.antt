@@ -5,12 +5,10 @@ use Rattle.std.proofs.lemmas.List.{take_all, take_more}
 use Rattle.std.proofs.lemmas.Grind.{flat_map-append}
 use Rattle.task_machine.specs.declared.label.Label.{Label}
 use Rattle.task_machine.specs.declared.outcome.Outcome.{Outcome}
-use Rattle.task_rules.specs.Texts.{text, label_text, line_text, outcome_text}
+use Rattle.task_rules.specs.Texts.{text, line_text, outcome_text}
+use Rattle.task_run.proofs.Fronts.{line, behind, piece_cut, gathered_cut}
 use Rattle.task_run.proofs.program.write_report.Goals.{then-len-ge-PIECE+in_ok-flush, else-len-ge-PIECE}
 use Rattle.task_run.proofs.program.write_report.Goals as goal
-
-abbrev line : Label → List ℕ
-line x = line_text (label_text x)
 
 more : (xs : List Label) (i : ℕ) (d : Label) → i < length xs → flat_map line (take (i + 1) xs) ≡ flat_map line (take i xs) ++ line (get_or xs i d)
 more xs i d lt = ap (λ (ys : List Label). flat_map line ys) (take_more xs i d lt) ∙ flat_map-append line (take i xs) (get_or xs i d ∷ []) ∙ ap (λ (bs : List ℕ). flat_map line (take i xs) ++ bs) (append-nil (line (get_or xs i d)))
@@ -38,15 +36,36 @@ on_ok : {A E : Type 0} {P Q : Type 0} (r : Result A E) → (P → Q) → OnOk r 
 on_ok (Ok x) f p = f p
 on_ok (Err e) f p = p
 
--- all that was written, with the outcome's line
-whole : (labels items : List Label) (i : ℕ) (o : Outcome) (held front out out' : List ℕ) → length items ≤ i → items ≡ labels → front ++ out ≡ flat_map line (take i items) → out' ≡ out ++ line_text (outcome_text o) → (held ++ front) ++ out' ≡ held ++ text labels o
-whole labels items i o held front out out' le same e ends =
-    append_assoc held front out' ∙ ap (λ (bs : List ℕ). held ++ bs) (
+-- the whole text, with the outcome's line
+whole : (labels items : List Label) (i : ℕ) (o : Outcome) (front out out' : List ℕ) → length items ≤ i → items ≡ labels → front ++ out ≡ flat_map line (take i items) → out' ≡ out ++ line_text (outcome_text o) → front ++ out' ≡ text labels o
+whole labels items i o front out out' le same e ends =
     ap (λ (bs : List ℕ). front ++ bs) ends ∙ sym (append_assoc front out (line_text (outcome_text o)))
-    ∙ ap (λ (bs : List ℕ). bs ++ line_text (outcome_text o)) (e ∙ ap (λ (ls : List Label). flat_map line ls) (take_all i items le ∙ same)))
+    ∙ ap (λ (bs : List ℕ). bs ++ line_text (outcome_text o)) (e ∙ ap (λ (ls : List Label). flat_map line ls) (take_all i items le ∙ same))
 
 pub returns-clause-told : goal.returns-clause-told
 returns-clause-told g c = λ held h.
     let t = c.loop-label.invariant.told held h in
-    let all = whole c.args.report.now.trace c.labels-label-items.result.now c.loop-label.label-index c.args.report.now.outcome held t.0 c.loop-label.out.items c.append_outcome_line.new.out.items (omega (arith, c.loop-label-test.false)) c.labels-label-items.ensures t.1 c.in_ok-append_outcome_line.ensures in
-    on_ok c.flush-2.result (λ said. said.1 ∙ ap (λ (bs : List ℕ). Some bs) all) (c.flush-2.ensures.told (held ++ t.0) t.2)
+    let all = whole c.args.report.now.trace c.labels-label-items.result.now c.loop-label.label-index c.args.report.now.outcome t.0 c.loop-label.out.items c.append_outcome_line.new.out.items (omega (arith, c.loop-label-test.false)) c.labels-label-items.ensures t.1 c.in_ok-append_outcome_line.ensures in
+    on_ok c.flush-2.result (λ said. said.1 ∙ ap (λ (bs : List ℕ). Some bs) (append_assoc held t.0 c.append_outcome_line.new.out.items ∙ ap (λ (bs : List ℕ). held ++ bs) all)) (c.flush-2.ensures.told (held ++ t.0) t.2)
+
+pub returns-clause-front : goal.returns-clause-front
+returns-clause-front g c = λ held h.
+    let t = c.loop-label.invariant.told held h in
+    let all = whole c.args.report.now.trace c.labels-label-items.result.now c.loop-label.label-index c.args.report.now.outcome t.0 c.loop-label.out.items c.append_outcome_line.new.out.items (omega (arith, c.loop-label-test.false)) c.labels-label-items.ensures t.1 c.in_ok-append_outcome_line.ensures in
+    behind held t.0 c.append_outcome_line.new.out.items [] (text c.args.report.now.trace c.args.report.now.outcome) (g.K.Sink.held c.flush-2.new.sink) (append-nil _ ∙ all) (c.flush-2.ensures.front (held ++ t.0) t.2)
+
+pub returns-in_err-append_label_line-clause-front : goal.returns-in_err-append_label_line-clause-front
+returns-in_err-append_label_line-clause-front g c = λ held h.
+    let t = c.loop-label.invariant.told held h in
+    gathered_cut c.args.report.now.trace c.labels-label-items.result.now c.loop-label.label-index c.args.report.now.outcome held t.0 c.loop-label.out.items (g.K.Sink.held c.loop-label.sink) c.labels-label-items.ensures t.1 t.2
+
+pub returns-in_err-append_outcome_line-clause-front : goal.returns-in_err-append_outcome_line-clause-front
+returns-in_err-append_outcome_line-clause-front g c = λ held h.
+    let t = c.loop-label.invariant.told held h in
+    gathered_cut c.args.report.now.trace c.labels-label-items.result.now c.loop-label.label-index c.args.report.now.outcome held t.0 c.loop-label.out.items (g.K.Sink.held c.loop-label.sink) c.labels-label-items.ensures t.1 t.2
+
+pub returns-in_err-flush-clause-front : goal.returns-in_err-flush-clause-front
+returns-in_err-flush-clause-front g c = λ held h.
+    let t = c.loop-label.invariant.told held h in
+    let after = gathered c.labels-label-items.result.now c.loop-label.label-index _ t.0 c.loop-label.out.items c.append_label_line.new.out.items c.loop-label-test.true t.1 c.in_ok-append_label_line.ensures in
+    piece_cut c.args.report.now.trace c.labels-label-items.result.now (c.loop-label.label-index + 1) c.args.report.now.outcome held t.0 c.append_label_line.new.out.items (g.K.Sink.held c.flush.new.sink) c.labels-label-items.ensures after (c.flush.ensures.front (held ++ t.0) t.2)

@@ -1,0 +1,37 @@
+-- The runs of these scenarios, computed.
+use Rattle.std.proofs.Common.{refl}
+use Rattle.std.specs.Prelude.{[]}
+use Rattle.task_machine.specs.declared.outcome.Outcome.TheVariants as outcome
+use Rattle.task_machine.specs.declared.trap.Trap.TheVariants as trap
+use Rattle.task_examples.proofs.PlayLemmas.{example}
+use Rattle.task_examples.specs.Subtasks.{cancel_after_the_end_was_taken_traps, cancel_after_the_end_was_taken_traps_labels, cancel_of_a_host_call_whose_entry_was_not_taken_leaves_its_value, cancel_of_a_host_call_whose_entry_was_not_taken_leaves_its_value_labels, cancel_of_a_yield_that_stands_at_high, cancel_of_a_yield_that_stands_at_high_labels, cancel_of_a_yield_that_stands_at_switch, cancel_of_a_yield_that_stands_at_switch_labels, drop_before_the_end_was_taken_traps, drop_before_the_end_was_taken_traps_labels, set_drop_with_a_waiter_traps, set_drop_with_a_waiter_traps_labels, task_cancel_after_a_return_traps, task_cancel_after_a_return_traps_labels}
+use Rattle.task_examples.specs.Play.{Example}
+use Rattle.task_examples.specs.Words.{the_words}
+
+pub cancel_of_a_yield_that_stands_at_switch_shown : Example cancel_of_a_yield_that_stands_at_switch 1000 cancel_of_a_yield_that_stands_at_switch_labels (outcome.Done 4)
+unfolding the_words
+cancel_of_a_yield_that_stands_at_switch_shown = example cancel_of_a_yield_that_stands_at_switch [] 1000 cancel_of_a_yield_that_stands_at_switch_labels (outcome.Done 4) refl refl
+
+pub cancel_of_a_yield_that_stands_at_high_shown : Example cancel_of_a_yield_that_stands_at_high 1000 cancel_of_a_yield_that_stands_at_high_labels (outcome.Done 4)
+unfolding the_words
+cancel_of_a_yield_that_stands_at_high_shown = example cancel_of_a_yield_that_stands_at_high [] 1000 cancel_of_a_yield_that_stands_at_high_labels (outcome.Done 4) refl refl
+
+pub cancel_of_a_host_call_whose_entry_was_not_taken_leaves_its_value_shown : Example cancel_of_a_host_call_whose_entry_was_not_taken_leaves_its_value 1000 cancel_of_a_host_call_whose_entry_was_not_taken_leaves_its_value_labels (outcome.Done 6)
+unfolding the_words
+cancel_of_a_host_call_whose_entry_was_not_taken_leaves_its_value_shown = example cancel_of_a_host_call_whose_entry_was_not_taken_leaves_its_value [] 1000 cancel_of_a_host_call_whose_entry_was_not_taken_leaves_its_value_labels (outcome.Done 6) refl refl
+
+pub cancel_after_the_end_was_taken_traps_shown : Example cancel_after_the_end_was_taken_traps 1000 cancel_after_the_end_was_taken_traps_labels (outcome.Trap trap.SubtaskCancelAfterTerminal)
+unfolding the_words
+cancel_after_the_end_was_taken_traps_shown = example cancel_after_the_end_was_taken_traps [] 1000 cancel_after_the_end_was_taken_traps_labels (outcome.Trap trap.SubtaskCancelAfterTerminal) refl refl
+
+pub drop_before_the_end_was_taken_traps_shown : Example drop_before_the_end_was_taken_traps 1000 drop_before_the_end_was_taken_traps_labels (outcome.Trap trap.SubtaskDropNotResolved)
+unfolding the_words
+drop_before_the_end_was_taken_traps_shown = example drop_before_the_end_was_taken_traps [] 1000 drop_before_the_end_was_taken_traps_labels (outcome.Trap trap.SubtaskDropNotResolved) refl refl
+
+pub task_cancel_after_a_return_traps_shown : Example task_cancel_after_a_return_traps 1000 task_cancel_after_a_return_traps_labels (outcome.Trap trap.TaskCancelOrReturnTwice)
+unfolding the_words
+task_cancel_after_a_return_traps_shown = example task_cancel_after_a_return_traps [] 1000 task_cancel_after_a_return_traps_labels (outcome.Trap trap.TaskCancelOrReturnTwice) refl refl
+
+pub set_drop_with_a_waiter_traps_shown : Example set_drop_with_a_waiter_traps 1000 set_drop_with_a_waiter_traps_labels (outcome.Trap trap.WaitableSetDropHasWaiters)
+unfolding the_words
+set_drop_with_a_waiter_traps_shown = example set_drop_with_a_waiter_traps [] 1000 set_drop_with_a_waiter_traps_labels (outcome.Trap trap.WaitableSetDropHasWaiters) refl refl

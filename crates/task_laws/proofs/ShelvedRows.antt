@@ -1,0 +1,689 @@
+-- What is kept by the ops: a handle of a set names a set of its instance.
+use Rattle.std.proofs.Common.{refl}
+use Rattle.std.specs.Prelude.{Bool, List, None, Option, Some, [], false, is_some, length, min, nat_le, nat_lt, not, suc, true, unwrap_or, zero, ℕ, ◌%◌, ◌*◌, ◌+◌, ◌-◌, ◌/◌, ◌==◌, ◌^◌, ◌∷◌, ◌≡◌}
+use Rattle.task_laws.proofs.ShelvedFields.{Shelved, add_thread_shelved, call_made_shelved, count_work_shelved, free_handle_shelved, give_result_shelved, give_thread_handle_shelved, remove_work_shelved, set_backpressure_shelved, set_cancelled_shelved, set_do_not_enter_shelved, set_do_not_suspend_shelved, set_end_shelved, set_event_shelved, set_given_shelved_to, set_how_far_shelved, set_join_shelved, set_own_event_shelved, set_phase_shelved, set_place_shelved, set_position_shelved, set_register_shelved, set_removed_shelved, set_result_shelved, set_saved_callee_shelved, set_saved_own_shelved, set_started_shelved, set_subtask_handle_shelved, set_thread_handle_shelved, set_word_shelved, subtask_given_shelved, work_queued_shelved}
+use Rattle.task_laws.proofs.ShelvedWords.{behind_shelved, call_settled_shelved, checked_shelved, ended_shelved, group_settled_shelved, handed_on_shelved, if_shelved, promoted_unless_shelved, published_shelved, put_high_shelved, put_low_shelved, put_switch_shelved, released_shelved, stopped_at_shelved, stopped_shelved, taken_shelved, wake_shelved, withdrawn_shelved}
+use Rattle.task_machine.specs.Core.{Core}
+use Rattle.task_machine.specs.Labels.{Choice, exit_label, join_label, ret_label, task_cancel_label, wait_label}
+use Rattle.task_machine.specs.Moves.{Gift, NoGift, checked, gift, may_hand_on, passes_check, published}
+use Rattle.task_machine.specs.Read.{at_handle_limit, backpressure_of, call_instance, caller_of, cancel_was_delivered, event_of, fits, foot_of, goal_of, has_ended, has_member, has_waiters, how_far_of, instance_of, is_async_lifted, is_at, is_callback_yield, is_direct, is_explicit, is_joined, is_watched, join_of, kind_of, may_not_suspend, new_handle, new_thread_handle, own_event_of, phase_of, position_of, register_of, registers_of, result_of, saved_callee_of, saved_own_of, set_at, subtask_at, subtask_ended, task_of, thread_at, thread_group, thread_handle_of, undelivered_end, under_of, was_cancelled, was_started, word_of}
+use Rattle.task_machine.specs.Statuses.{packed, status_code}
+use Rattle.task_machine.specs.Write.{set_join}
+use Rattle.task_machine.specs.declared.component.Callee.{Callee}
+use Rattle.task_machine.specs.declared.component.Component.{Component}
+use Rattle.task_machine.specs.declared.component.ExportKind.{ExportKind}
+use Rattle.task_machine.specs.declared.component.HostDef.{HostDef}
+use Rattle.task_machine.specs.declared.component.Slot.{Slot}
+use Rattle.task_machine.specs.declared.label.Label.{Label}
+use Rattle.task_machine.specs.declared.label.ThreadLabel.{ThreadLabel}
+use Rattle.task_machine.specs.declared.op.CallOp.{CallOp}
+use Rattle.task_machine.specs.declared.op.DataOp.{DataOp}
+use Rattle.task_machine.specs.declared.op.SetOp.{SetOp}
+use Rattle.task_machine.specs.declared.op.TaskOp.{TaskOp}
+use Rattle.task_machine.specs.declared.op.ThreadOp.{ThreadOp}
+use Rattle.task_machine.specs.declared.records.Caller.{Caller}
+use Rattle.task_machine.specs.declared.records.Goal.{Goal}
+use Rattle.task_machine.specs.declared.records.HowFar.{HowFar}
+use Rattle.task_machine.specs.declared.records.Subtask.{Subtask}
+use Rattle.task_machine.specs.declared.records.Why.{Why}
+use Rattle.task_machine.specs.declared.trap.Trap.{Trap}
+use Rattle.task_machine.specs.declared.words.Given.{Given}
+use Rattle.task_machine.specs.declared.words.Status.{Status}
+use Rattle.task_rules.specs.Calls.{AtOnce, Failing, FirstPoll, Later, answered, blocked, call_answered, call_begins, call_blocked, call_host_polled, call_host_row, call_pending, call_returned, call_row, call_status, call_sync_begins, call_sync_host_polled, call_sync_host_row, call_sync_row, call_sync_status, called, called_back, enter_row, entered, first_poll, forbidding, host_answered, host_blocked, host_pending, host_ready, new_thread, next_thread, next_work, put_back, settle_group_of, status_found, suspending, with_handle, with_thread_handle, work_answered, work_deleted, work_group, work_value}
+use Rattle.task_rules.specs.Cancels.{Async, Mode, Sync, aborted_phase, after_cancel, asked, awaiting, behind_switch, blocked_code, by_end, cancel_delivered_to, cancel_found, cancel_guest, cancel_host, cancel_resumed, cancel_row, cancel_running, cancel_subtask, cancel_yield, drop_found, drop_row, dropped, end_taken, ended_row, host_cancelled, is_callback_wait, lets_go_on, not_ended_row, pauses, start_withdrawn, subtask_instance, subtask_row, subtask_settled, yield_cancelled}
+use Rattle.task_rules.specs.Data.{advanced, assigned, data_row, moved_to, skip_row, skipped, stored}
+use Rattle.task_rules.specs.Ends.{awaited, blocking_exit_row, blocking_left, cancelled, code_row, deactivated, direct_exit_row, direct_exit_to, direct_left, exit_row, exit_row_for, finished, found, has_event_for, held_out, implicit_exit_row, is_told, kind_end, kind_exit_row, leave_row, leaves_no_result, left, let_in, may_tell, own_or_none, passes_after_return, passes_after_stop, restored, result_given, returned, sync_exit_row, sync_left, told, wait_end, yielded}
+use Rattle.task_rules.specs.Progress.{Fails, Goes, Never, Ordered, Progress, Stops, Traps, may, or_never, or_trap, trap_if}
+use Rattle.task_rules.specs.Scripts.{export_kind, host_at, registers_for, script_of, slot_at, value_of, values_in}
+use Rattle.task_rules.specs.Sets.{begun_waiting, chosen, finds_nothing, given_code, given_handle, given_result, handed_out, join_done, join_row, join_to, joined, joins, may_wake_new, poll_row, poll_takes, received, received_woken, set_drop_found, set_drop_row, set_dropped, set_given, set_made, set_new_row, set_row, wait_begins, wait_goes_on, wait_row, wait_takes, waiting, wakes_joined}
+use Rattle.task_rules.specs.Takes.{held, started}
+use Rattle.task_rules.specs.Task.{cancel_done, dec_from, dec_row, inc_row, lowered, opened, raised, ret_bad_row, ret_done, ret_row, task_cancel_row, task_row}
+use Rattle.task_rules.specs.Threads.{Halt, Suspension, Yielding, by_how_far, halt_row, halted, halted_checked, halted_promoting, halted_resuming, halting, halts, has_yielded, resume_later_found, resume_later_row, resume_why, resumed_later, then_promote, then_promote_found, then_promote_row, then_resume_found, then_resume_row, thread_index_row, thread_made, thread_new_label, thread_new_row, thread_row}
+use Rattle.task_machine.specs.declared.records.CallEnd.TheVariants as call_end
+use Rattle.task_machine.specs.declared.label.CallLabel.TheVariants as call_label
+use Rattle.task_machine.specs.declared.op.CallOp.TheVariants as call_op
+use Rattle.task_machine.specs.declared.records.Caller.TheVariants as caller
+use Rattle.task_machine.specs.declared.op.DataOp.TheVariants as data_op
+use Rattle.task_machine.specs.declared.records.Delivery.TheVariants as delivery
+use Rattle.task_machine.specs.declared.records.Goal.TheVariants as goal
+use Rattle.task_machine.specs.declared.records.HowFar.TheVariants as how_far
+use Rattle.task_machine.specs.declared.records.Join.TheVariants as join
+use Rattle.task_machine.specs.declared.component.ExportKind.TheVariants as kind
+use Rattle.task_machine.specs.declared.label.Label.TheVariants as label
+use Rattle.task_machine.specs.declared.words.OwnEvent.TheVariants as own
+use Rattle.task_machine.specs.declared.records.Place.TheVariants as place
+use Rattle.task_machine.specs.declared.records.Script.TheVariants as script
+use Rattle.task_machine.specs.declared.label.SetLabel.TheVariants as set_label
+use Rattle.task_machine.specs.declared.op.SetOp.TheVariants as set_op
+use Rattle.task_machine.specs.declared.component.Slot.TheVariants as slot
+use Rattle.task_machine.specs.declared.words.Status.TheVariants as status
+use Rattle.task_machine.specs.declared.records.Subtask.TheVariants as subtask
+use Rattle.task_machine.specs.declared.label.TaskLabel.TheVariants as task_label
+use Rattle.task_machine.specs.declared.op.TaskOp.TheVariants as task_op
+use Rattle.task_machine.specs.declared.label.ThreadLabel.TheVariants as thread_label
+use Rattle.task_machine.specs.declared.op.ThreadOp.TheVariants as thread_op
+use Rattle.task_machine.specs.declared.trap.Trap.TheVariants as trap
+use Rattle.task_machine.specs.declared.records.Why.TheVariants as why
+use Rattle.task_machine.specs.declared.records.WorkCaller.TheVariants as work_caller
+
+-- what the row leads to
+abbrev pub Stays : Core → Progress → Type 0
+Stays base (Goes l new m) = Shelved base new
+Stays base (Stops l new) = Shelved base new
+Stays base (Traps t) = Unit {0}
+Stays base (Fails i) = Unit {0}
+Stays base Never = Unit {0}
+Stays base (Ordered ns next) = (order : List ℕ) → Stays base (next order)
+
+module _ (base : Core) where
+  pub or_trap_when : {X : Type 0} (o : Option X) (t : Trap) (next : X → Progress) → ((y : X) → o ≡ Some y → Stays base (next y)) → Stays base (or_trap o t next)
+  or_trap_when None t next k = tt
+  or_trap_when (Some y) t next k = k y refl
+
+  pub trap_if_stays : (b : Bool) (t : Trap) (p : Progress) → Stays base p → Stays base (trap_if b t p)
+  trap_if_stays true t p k = tt
+  trap_if_stays false t p k = k
+
+  pub may_stays : (b : Bool) (p : Progress) → Stays base p → Stays base (may b p)
+  may_stays true p k = k
+  may_stays false p k = tt
+
+  pub or_trap_stays : {X : Type 0} (o : Option X) (t : Trap) (next : X → Progress) → ((y : X) → Stays base (next y)) → Stays base (or_trap o t next)
+  or_trap_stays None t next k = tt
+  or_trap_stays (Some y) t next k = k y
+
+  pub or_never_stays : {X : Type 0} (o : Option X) (next : X → Progress) → ((y : X) → Stays base (next y)) → Stays base (or_never o next)
+  or_never_stays None next k = tt
+  or_never_stays (Some y) next k = k y
+
+module _ {base : Core} where
+  pub moved_to_shelved : (a0 : ℕ) (a1 : ℕ) {s : Core} → Shelved base s → Shelved base (moved_to a0 a1 s)
+  unfolding moved_to
+  moved_to_shelved n p {s = s} q = set_how_far_shelved n how_far.Fresh (set_position_shelved n p q)
+
+  pub advanced_shelved : (a0 : ℕ) {s : Core} → Shelved base s → Shelved base (advanced a0 s)
+  unfolding advanced
+  advanced_shelved n {s = s} q = moved_to_shelved n (position_of n s + 1) q
+
+  pub assigned_shelved : (a0 : ℕ) (a1 : ℕ) (a2 : ℕ) {s : Core} → Shelved base s → Shelved base (assigned a0 a1 a2 s)
+  unfolding assigned
+  assigned_shelved n r v {s = s} q = advanced_shelved n (set_register_shelved n r v q)
+
+  pub stored_shelved : (a0 : ℕ) (a1 : ℕ) (a2 : ℕ) {s : Core} → Shelved base s → Shelved base (stored a0 a1 a2 s)
+  unfolding stored
+  stored_shelved n w v {s = s} q = advanced_shelved n (set_word_shelved (instance_of n s) w v q)
+
+  pub skipped_shelved : (a0 : Component) (a1 : ℕ) (a2 : ℕ) {s : Core} → Shelved base s → Shelved base (skipped a0 a1 a2 s)
+  unfolding skipped
+  skipped_shelved c n ops {s = s} q = moved_to_shelved n (min (position_of n s + 1 + ops) (length (script_of c n s))) q
+
+  pub skip_row_stays : (a0 : Component) (a1 : ℕ) (a2 : ℕ) {s : Core} → Shelved base s → (a4 : Bool) → Stays base (skip_row a0 a1 a2 s a4)
+  skip_row_stays c n ops {s = s} q true = skipped_shelved c n ops q
+  skip_row_stays c n ops {s = s} q false = advanced_shelved n q
+
+  pub data_row_stays : (a0 : Component) (a1 : ℕ) {s : Core} → Shelved base s → (a3 : DataOp) → Stays base (data_row a0 a1 s a3)
+  data_row_stays c n {s = s} q (data_op.Set r x) = let v = value_of n s x in assigned_shelved n r v q
+  data_row_stays c n {s = s} q (data_op.Add r x) = let v = (register_of n r s + value_of n s x) % 2 ^ 64 in assigned_shelved n r v q
+  data_row_stays c n {s = s} q (data_op.Handle r x) = let v = value_of n s x / 16 in assigned_shelved n r v q
+  data_row_stays c n {s = s} q (data_op.Load r w) = let v = word_of (instance_of n s) w s in assigned_shelved n r v q
+  data_row_stays c n {s = s} q (data_op.Store w x) = let v = value_of n s x in stored_shelved n w v q
+  data_row_stays c n {s = s} q (data_op.SkipEq x y ops) = skip_row_stays c n ops q (value_of n s x == value_of n s y)
+
+  pub result_given_shelved : (a0 : Goal) (a1 : Caller) (a2 : ℕ) (a3 : ℕ) {s : Core} → Shelved base s → Shelved base (result_given a0 a1 a2 a3 s)
+  result_given_shelved goal.Main f k v {s = s} q = give_result_shelved k v q
+  result_given_shelved (goal.Register r) (caller.Thread n) k v {s = s} q = set_register_shelved n r v q
+  result_given_shelved goal.Answer f k v {s = s} q = set_result_shelved k (Some v) q
+  result_given_shelved u1 f k v {s = s} q = q
+
+  pub told_shelved : (a0 : ℕ) (a1 : Status) (a2 : Option ℕ) {s : Core} → Shelved base s → Shelved base (told a0 a1 a2 s)
+  unfolding told
+  told_shelved k e w {s = s} q = if_shelved (is_told k s) (published (subtask.Guest k) e w s) s (published_shelved (subtask.Guest k) e w q) q
+
+  pub returned_shelved : (a0 : ℕ) (a1 : ℕ) (a2 : Option ℕ) {s : Core} → Shelved base s → Shelved base (returned a0 a1 a2 s)
+  unfolding returned
+  returned_shelved k v w {s = s} q = told_shelved k status.Returned w (result_given_shelved (goal_of k s) (caller_of k s) k v (set_end_shelved k call_end.Returned q))
+
+  pub cancelled_shelved : (a0 : ℕ) (a1 : Option ℕ) {s : Core} → Shelved base s → Shelved base (cancelled a0 a1 s)
+  unfolding cancelled
+  cancelled_shelved k w {s = s} q = told_shelved k status.ReturnCancelled w (set_end_shelved k call_end.ReturnCancelled q)
+
+  pub let_in_shelved : (a0 : ℕ) (a1 : List ℕ) {s : Core} → Shelved base s → Shelved base (let_in a0 a1 s)
+  unfolding let_in
+  let_in_shelved i order {s = s} q = released_shelved order (set_do_not_enter_shelved i false q)
+
+  pub restored_shelved : (a0 : ℕ) {s : Core} → Shelved base s → Shelved base (restored a0 s)
+  unfolding restored
+  restored_shelved n {s = s} q = set_do_not_suspend_shelved (instance_of n s) (unwrap_or (saved_own_of n s) false) q
+
+  pub left_shelved : (a0 : ℕ) {s : Core} → Shelved base s → Shelved base (left a0 s)
+  unfolding left
+  left_shelved n {s = s} q = ended_shelved n (stopped_shelved (foot_of n s) (checked_shelved (instance_of n s) q))
+
+  pub leave_row_stays : (a0 : ℕ) {s : Core} → Shelved base s → Stays base (leave_row a0 s)
+  leave_row_stays n {s = s} q = trap_if_stays base (not (passes_check (instance_of n s) s)) trap.CannotBlockSyncTask (trap_if (leaves_no_result n s) trap.NoAsyncResult (Stops (exit_label n None) (left n s))) (trap_if_stays base (leaves_no_result n s) trap.NoAsyncResult (Stops (exit_label n None) (left n s)) (left_shelved n q))
+
+  pub sync_left_shelved : (a0 : ℕ) (a1 : Option ℕ) {s : Core} → Shelved base s → Shelved base (sync_left a0 a1 s)
+  unfolding sync_left
+  sync_left_shelved n w {s = s} q = ended_shelved n (stopped_shelved (foot_of n s) (returned_shelved (task_of n s) (register_of n 0 s) w (restored_shelved n q)))
+
+  pub sync_exit_row_stays : (a0 : ℕ) (a1 : Option ℕ) {s : Core} → Shelved base s → Stays base (sync_exit_row a0 a1 s)
+  sync_exit_row_stays n w {s = s} q = may_stays base (may_tell (task_of n s) w s) (Stops (exit_label n w) (sync_left n w s)) (sync_left_shelved n w q)
+
+  pub blocking_left_shelved : (a0 : ℕ) (a1 : Option ℕ) (a2 : List ℕ) {s : Core} → Shelved base s → Shelved base (blocking_left a0 a1 a2 s)
+  unfolding blocking_left
+  blocking_left_shelved n w order {s = s} q = left_shelved n (returned_shelved (task_of n s) (register_of n 0 s) w (let_in_shelved (instance_of n s) order q))
+
+  pub blocking_exit_row_stays : (a0 : ℕ) (a1 : Option ℕ) {s : Core} → Shelved base s → Stays base (blocking_exit_row a0 a1 s)
+  blocking_exit_row_stays n w {s = s} q = let held = held_out (instance_of n s) s in trap_if_stays base (not (passes_after_return (instance_of n s) (task_of n s) held s)) trap.CannotBlockSyncTask (may (may_tell (task_of n s) w s) (Ordered held (λ order. Stops (exit_label n w) (blocking_left n w order s)))) (may_stays base (may_tell (task_of n s) w s) (Ordered held (λ order. Stops (exit_label n w) (blocking_left n w order s))) (λ order. blocking_left_shelved n w order q))
+
+  pub direct_left_shelved : (a0 : ℕ) (a1 : ℕ) (a2 : ℕ) {s : Core} → Shelved base s → Shelved base (direct_left a0 a1 a2 s)
+  unfolding direct_left
+  direct_left_shelved n m v {s = s} q = set_how_far_shelved m (how_far.Answered v) (set_place_shelved m place.Running (ended_shelved n (set_end_shelved (task_of n s) call_end.Returned q)))
+
+  pub direct_exit_to_stays : (a0 : ℕ) (a1 : ExportKind) {s : Core} → Shelved base s → (a3 : Option ℕ) → Stays base (direct_exit_to a0 a1 s a3)
+  direct_exit_to_stays n x {s = s} q None = tt
+  direct_exit_to_stays n kind.Sync {s = s} q (Some m) = direct_left_shelved n m (register_of n 0 s) (restored_shelved n q)
+  direct_exit_to_stays n x {s = s} q (Some m) = trap_if_stays base (not (passes_check (instance_of n s) s)) trap.CannotBlockSyncTask (Goes (exit_label n None) (direct_left n m (register_of n 0 s) (checked (instance_of n s) s)) m) (direct_left_shelved n m (register_of n 0 s) (checked_shelved (instance_of n s) q))
+
+  pub direct_exit_row_stays : (a0 : ℕ) {s : Core} → Shelved base s → Stays base (direct_exit_row a0 s)
+  direct_exit_row_stays n {s = s} q = direct_exit_to_stays n (kind_of (task_of n s) s) q (under_of n s)
+
+  pub deactivated_shelved : (a0 : ℕ) (a1 : List ℕ) {s : Core} → Shelved base s → Shelved base (deactivated a0 a1 s)
+  unfolding deactivated
+  deactivated_shelved n order {s = s} q = stopped_shelved (foot_of n s) (let_in_shelved (instance_of n s) order q)
+
+  pub finished_shelved : (a0 : ℕ) (a1 : List ℕ) {s : Core} → Shelved base s → Shelved base (finished a0 a1 s)
+  unfolding finished
+  finished_shelved n order {s = s} q = ended_shelved n (checked_shelved (instance_of n s) (deactivated_shelved n order q))
+
+  pub yielded_shelved : (a0 : ℕ) (a1 : List ℕ) {s : Core} → Shelved base s → Shelved base (yielded a0 a1 s)
+  unfolding yielded
+  yielded_shelved n order {s = s} q = let k = task_of n s in put_low_shelved n (why.Delivery delivery.Yield) (set_own_event_shelved k (own_or_none (own_event_of k s)) (deactivated_shelved n order q))
+
+  pub found_shelved : (a0 : ℕ) (a1 : ℕ) (a2 : List ℕ) {s : Core} → Shelved base s → Shelved base (found a0 a1 a2 s)
+  unfolding found
+  found_shelved n x order {s = s} q = put_high_shelved n (why.Delivery (delivery.Set x)) (deactivated_shelved n order q)
+
+  pub awaited_shelved : (a0 : ℕ) (a1 : ℕ) (a2 : List ℕ) {s : Core} → Shelved base s → Shelved base (awaited a0 a1 a2 s)
+  unfolding awaited
+  awaited_shelved n x order {s = s} q = set_place_shelved n (place.Waiting x true) (deactivated_shelved n order q)
+
+  pub wait_end_stays : (a0 : Label) (a1 : ℕ) (a2 : ℕ) (a3 : List ℕ) {s : Core} → Shelved base s → (a5 : Bool) → Stays base (wait_end a0 a1 a2 a3 s a5)
+  wait_end_stays l n x held {s = s} q true = λ order. found_shelved n x order q
+  wait_end_stays l n x held {s = s} q false = λ order. awaited_shelved n x order q
+
+  pub kind_end_stays : (a0 : Label) (a1 : ℕ) (a2 : List ℕ) {s : Core} → Shelved base s → (a4 : ℕ) (a5 : ℕ) → Stays base (kind_end a0 a1 a2 s a4 a5)
+  kind_end_stays l n held {s = s} q zero rest = trap_if_stays base (not (passes_after_stop (instance_of n s) (foot_of n s) held s)) trap.CannotBlockSyncTask (trap_if (leaves_no_result n s) trap.NoAsyncResult (Ordered held (λ order. Stops l (finished n order s)))) (trap_if_stays base (leaves_no_result n s) trap.NoAsyncResult (Ordered held (λ order. Stops l (finished n order s))) (λ order. finished_shelved n order q))
+  kind_end_stays l n held {s = s} q (suc zero) rest = λ order. yielded_shelved n order q
+  kind_end_stays l n held {s = s} q (suc (suc zero)) rest = or_trap_stays base (set_at (instance_of n s) rest s) trap.BadHandle (λ x. wait_end l n x held s (has_event_for (task_of n s) x s)) (λ x. wait_end_stays l n x held q (has_event_for (task_of n s) x s))
+  kind_end_stays l n held {s = s} q u1 rest = tt
+
+  pub code_row_stays : (a0 : Label) (a1 : ℕ) {s : Core} → Shelved base s → (a3 : ℕ) → Stays base (code_row a0 a1 s a3)
+  code_row_stays l n {s = s} q code = trap_if_stays base (nat_lt 4294967295 code) trap.UnsupportedCallbackCode (kind_end l n (held_out (instance_of n s) s) s (code % 16) (code / 16)) (kind_end_stays l n (held_out (instance_of n s) s) q (code % 16) (code / 16))
+
+  pub kind_exit_row_stays : (a0 : ℕ) (a1 : Option ℕ) {s : Core} → Shelved base s → (a3 : ExportKind) → Stays base (kind_exit_row a0 a1 s a3)
+  kind_exit_row_stays n w {s = s} q kind.Sync = sync_exit_row_stays n w q
+  kind_exit_row_stays n w {s = s} q kind.Blocking = blocking_exit_row_stays n w q
+  kind_exit_row_stays n w {s = s} q kind.Stackful = leave_row_stays n q
+  kind_exit_row_stays n w {s = s} q kind.Callback = code_row_stays (exit_label n None) n q 0
+
+  pub implicit_exit_row_stays : (a0 : ℕ) (a1 : Option ℕ) {s : Core} → Shelved base s → (a3 : Bool) → Stays base (implicit_exit_row a0 a1 s a3)
+  implicit_exit_row_stays n w {s = s} q true = direct_exit_row_stays n q
+  implicit_exit_row_stays n w {s = s} q false = kind_exit_row_stays n w q (kind_of (task_of n s) s)
+
+  pub exit_row_for_stays : (a0 : ℕ) (a1 : Option ℕ) {s : Core} → Shelved base s → (a3 : Bool) → Stays base (exit_row_for a0 a1 s a3)
+  exit_row_for_stays n w {s = s} q true = leave_row_stays n q
+  exit_row_for_stays n w {s = s} q false = implicit_exit_row_stays n w q (is_direct (goal_of (task_of n s) s))
+
+  pub exit_row_stays : (a0 : ℕ) (a1 : Option ℕ) {s : Core} → Shelved base s → Stays base (exit_row a0 a1 s)
+  exit_row_stays n w {s = s} q = exit_row_for_stays n w q (is_explicit n s)
+
+  pub ret_done_shelved : (a0 : ℕ) (a1 : ℕ) (a2 : Option ℕ) {s : Core} → Shelved base s → Shelved base (ret_done a0 a1 a2 s)
+  unfolding ret_done
+  ret_done_shelved n v w {s = s} q = advanced_shelved n (returned_shelved (task_of n s) v w q)
+
+  pub ret_row_stays : (a0 : ℕ) (a1 : ℕ) (a2 : Option ℕ) {s : Core} → Shelved base s → Stays base (ret_row a0 a1 a2 s)
+  ret_row_stays n v w {s = s} q = trap_if_stays base (has_ended (task_of n s) s) trap.TaskCancelOrReturnTwice (trap_if (not (is_async_lifted (kind_of (task_of n s) s))) trap.TaskReturnInvalid (may (may_tell (task_of n s) w s) (Goes (ret_label n v w) (ret_done n v w s) n))) (trap_if_stays base (not (is_async_lifted (kind_of (task_of n s) s))) trap.TaskReturnInvalid (may (may_tell (task_of n s) w s) (Goes (ret_label n v w) (ret_done n v w s) n)) (may_stays base (may_tell (task_of n s) w s) (Goes (ret_label n v w) (ret_done n v w s) n) (ret_done_shelved n v w q)))
+
+  pub ret_bad_row_stays : (a0 : ℕ) {s : Core} → Shelved base s → Stays base (ret_bad_row a0 s)
+  ret_bad_row_stays n {s = s} q = trap_if_stays base (has_ended (task_of n s) s) trap.TaskCancelOrReturnTwice (Traps trap.TaskReturnInvalid) tt
+
+  pub cancel_done_shelved : (a0 : ℕ) (a1 : Option ℕ) {s : Core} → Shelved base s → Shelved base (cancel_done a0 a1 s)
+  unfolding cancel_done
+  cancel_done_shelved n w {s = s} q = advanced_shelved n (cancelled_shelved (task_of n s) w q)
+
+  pub task_cancel_row_stays : (a0 : ℕ) (a1 : Option ℕ) {s : Core} → Shelved base s → Stays base (task_cancel_row a0 a1 s)
+  task_cancel_row_stays n w {s = s} q = trap_if_stays base (not (cancel_was_delivered (task_of n s) s)) trap.TaskCancelNotCancelled (trap_if (has_ended (task_of n s) s) trap.TaskCancelOrReturnTwice (may (may_tell (task_of n s) w s) (Goes (task_cancel_label n w) (cancel_done n w s) n))) (trap_if_stays base (has_ended (task_of n s) s) trap.TaskCancelOrReturnTwice (may (may_tell (task_of n s) w s) (Goes (task_cancel_label n w) (cancel_done n w s) n)) (may_stays base (may_tell (task_of n s) w s) (Goes (task_cancel_label n w) (cancel_done n w s) n) (cancel_done_shelved n w q)))
+
+  pub raised_shelved : (a0 : ℕ) {s : Core} → Shelved base s → Shelved base (raised a0 s)
+  unfolding raised
+  raised_shelved n {s = s} q = let i = instance_of n s in advanced_shelved n (set_backpressure_shelved i (backpressure_of i s + 1) q)
+
+  pub inc_row_stays : (a0 : ℕ) {s : Core} → Shelved base s → Stays base (inc_row a0 s)
+  inc_row_stays n {s = s} q = trap_if_stays base (nat_le 65535 (backpressure_of (instance_of n s) s)) trap.BackpressureOverflow (Goes (label.Task (task_label.BpInc n)) (raised n s) n) (raised_shelved n q)
+
+  pub lowered_shelved : (a0 : ℕ) {s : Core} → Shelved base s → Shelved base (lowered a0 s)
+  unfolding lowered
+  lowered_shelved n {s = s} q = let i = instance_of n s in advanced_shelved n (set_backpressure_shelved i (backpressure_of i s - 1) q)
+
+  pub opened_shelved : (a0 : ℕ) (a1 : List ℕ) {s : Core} → Shelved base s → Shelved base (opened a0 a1 s)
+  unfolding opened
+  opened_shelved n order {s = s} q = advanced_shelved n (released_shelved order (set_backpressure_shelved (instance_of n s) 0 q))
+
+  pub dec_from_stays : (a0 : ℕ) {s : Core} → Shelved base s → (a2 : ℕ) → Stays base (dec_from a0 s a2)
+  dec_from_stays n {s = s} q zero = tt
+  dec_from_stays n {s = s} q (suc zero) = λ order. opened_shelved n order q
+  dec_from_stays n {s = s} q (suc (suc b)) = lowered_shelved n q
+
+  pub dec_row_stays : (a0 : ℕ) {s : Core} → Shelved base s → Stays base (dec_row a0 s)
+  dec_row_stays n {s = s} q = dec_from_stays n q (backpressure_of (instance_of n s) s)
+
+  pub task_row_stays : (a0 : ℕ) {s : Core} → Shelved base s → (a2 : Choice) (a3 : TaskOp) → Stays base (task_row a0 s a2 a3)
+  task_row_stays n {s = s} q ch (task_op.Ret x) = ret_row_stays n (value_of n s x) ch.woken q
+  task_row_stays n {s = s} q ch (task_op.RetBad x) = ret_bad_row_stays n q
+  task_row_stays n {s = s} q ch task_op.TaskCancel = task_cancel_row_stays n ch.woken q
+  task_row_stays n {s = s} q ch task_op.Exit = exit_row_stays n ch.woken q
+  task_row_stays n {s = s} q ch task_op.CbYield = code_row_stays (label.Task (task_label.CbYield n)) n q 1
+  task_row_stays n {s = s} q ch (task_op.CbWait x) = code_row_stays (label.Task (task_label.CbWait n)) n q (16 * value_of n s x + 2)
+  task_row_stays n {s = s} q ch (task_op.Code x) = code_row_stays (label.Task (task_label.Code n)) n q (value_of n s x)
+  task_row_stays n {s = s} q ch task_op.BpInc = inc_row_stays n q
+  task_row_stays n {s = s} q ch task_op.BpDec = dec_row_stays n q
+
+  pub set_made_shelved : (n r : ℕ) {s : Core} → Shelved base s → Shelved base (set_made n r s)
+  unfolding set_made
+  set_made_shelved n r {s = s} q = assigned_shelved n r (new_handle (instance_of n s) s) (set_given_shelved_to (instance_of n s) q)
+
+  pub set_new_row_stays : (a0 : ℕ) (a1 : ℕ) {s : Core} → Shelved base s → Stays base (set_new_row a0 a1 s)
+  set_new_row_stays n r {s = s} q = trap_if_stays base (not (fits 1 s)) trap.TableFull (trap_if (at_handle_limit s) trap.HandleLimit (Goes (label.Set (set_label.New (new_handle (instance_of n s) s) n)) (set_made n r s) n)) (trap_if_stays base (at_handle_limit s) trap.HandleLimit (Goes (label.Set (set_label.New (new_handle (instance_of n s) s) n)) (set_made n r s) n) (set_made_shelved n r q))
+
+  pub set_dropped_shelved : (n h x : ℕ) {s : Core} → Shelved base s → set_at (instance_of n s) h s ≡ Some x → Shelved base (set_dropped n h x s)
+  unfolding set_dropped
+  set_dropped_shelved n h x {s = s} q named = advanced_shelved n (set_removed_shelved (instance_of n s) h x q named)
+
+  pub set_drop_found_stays : (a0 : ℕ) (a1 : ℕ) {s : Core} → Shelved base s → (a3 : ℕ) → set_at (instance_of a0 s) a1 s ≡ Some a3 → Stays base (set_drop_found a0 a1 s a3)
+  set_drop_found_stays n h {s = s} q x named = trap_if_stays base (has_waiters x s) trap.WaitableSetDropHasWaiters (trap_if (has_member x s) trap.TableHasChildren (Goes (label.Set (set_label.Drop n)) (set_dropped n h x s) n)) (trap_if_stays base (has_member x s) trap.TableHasChildren (Goes (label.Set (set_label.Drop n)) (set_dropped n h x s) n) (set_dropped_shelved n h x q named))
+
+  pub set_drop_row_stays : (a0 : ℕ) (a1 : ℕ) {s : Core} → Shelved base s → Stays base (set_drop_row a0 a1 s)
+  set_drop_row_stays n h {s = s} q = or_trap_when base (set_at (instance_of n s) h s) trap.BadHandle (set_drop_found n h s) (λ got named. set_drop_found_stays n h q got named)
+
+  pub set_given_shelved : (a0 : ℕ) (a1 : ℕ) (a2 : Given) {s : Core} → Shelved base s → Shelved base (set_given a0 a1 a2 s)
+  unfolding set_given
+  set_given_shelved n r v {s = s} q = set_register_shelved n (r + 2) (given_result v) (set_register_shelved n (r + 1) (given_handle v) (set_register_shelved n r (given_code v) q))
+
+  pub received_shelved : (a0 : ℕ) (a1 : ℕ) (a2 : Gift) (a3 : Given) {s : Core} → Shelved base s → Shelved base (received a0 a1 a2 a3 s)
+  unfolding received
+  received_shelved n r g v {s = s} q = advanced_shelved n (set_given_shelved n r v (taken_shelved g (task_of n s) q))
+
+  pub waiting_shelved : (a0 : ℕ) (a1 : ℕ) {s : Core} → Shelved base s → Shelved base (waiting a0 a1 s)
+  unfolding waiting
+  waiting_shelved n x {s = s} q = set_how_far_shelved n (how_far.Waits x) (stopped_at_shelved n (place.Waiting x false) q)
+
+  pub begun_waiting_shelved : (a0 : ℕ) (a1 : ℕ) {s : Core} → Shelved base s → Shelved base (begun_waiting a0 a1 s)
+  unfolding begun_waiting
+  begun_waiting_shelved n x {s = s} q = waiting_shelved n x (checked_shelved (instance_of n s) q)
+
+  pub wait_takes_stays : (a0 : ℕ) (a1 : ℕ) (a2 : Choice) {s : Core} → Shelved base s → (a4 : Gift) → Stays base (wait_takes a0 a1 a2 s a4)
+  wait_takes_stays n r ch {s = s} q g = let v = handed_out ch s g in received_shelved n r g v q
+
+  pub wait_begins_stays : (a0 : ℕ) (a1 : ℕ) (a2 : Choice) {s : Core} → Shelved base s → (a4 : ℕ) (a5 : Bool) → Stays base (wait_begins a0 a1 a2 s a4 a5)
+  wait_begins_stays n r ch {s = s} q x true = trap_if_stays base (not (passes_check (instance_of n s) s)) trap.CannotBlockSyncTask (Stops (label.Thread (thread_label.Pauses n)) (begun_waiting n x s)) (begun_waiting_shelved n x q)
+  wait_begins_stays n r ch {s = s} q x false = or_never_stays base (gift false (task_of n s) x (chosen n ch s) s) (wait_takes n r ch s) (λ got. wait_takes_stays n r ch q got)
+
+  pub received_woken_shelved : (a0 : ℕ) (a1 : ℕ) (a2 : ℕ) (a3 : Option ℕ) (a4 : Gift) (a5 : Given) {s : Core} → Shelved base s → Shelved base (received_woken a0 a1 a2 a3 a4 a5 s)
+  unfolding received_woken
+  received_woken_shelved n x r w g v {s = s} q = received_shelved n r g v (handed_on_shelved x g w q)
+
+  pub wait_goes_on_stays : (a0 : ℕ) (a1 : ℕ) (a2 : ℕ) (a3 : Choice) {s : Core} → Shelved base s → (a5 : Gift) → Stays base (wait_goes_on a0 a1 a2 a3 s a5)
+  wait_goes_on_stays n x r ch {s = s} q NoGift = waiting_shelved n x q
+  wait_goes_on_stays n x r ch {s = s} q g = let v = handed_out ch s g in may_stays base (may_hand_on x g ch.woken s) (Goes (wait_label n v ch.woken) (received_woken n x r ch.woken g v s) n) (received_woken_shelved n x r ch.woken g v q)
+
+  pub wait_row_stays : (a0 : ℕ) (a1 : ℕ) (a2 : ℕ) (a3 : Choice) {s : Core} → Shelved base s → (a5 : HowFar) → Stays base (wait_row a0 a1 a2 a3 s a5)
+  wait_row_stays n r h ch {s = s} q (how_far.Waits x) = or_never_stays base (gift false (task_of n s) x (chosen n ch s) s) (wait_goes_on n x r ch s) (λ got. wait_goes_on_stays n x r ch q got)
+  wait_row_stays n r h ch {s = s} q u1 = or_trap_stays base (set_at (instance_of n s) h s) trap.BadHandle (λ x. wait_begins n r ch s x (finds_nothing n x s)) (λ x. wait_begins_stays n r ch q x (finds_nothing n x s))
+
+  pub poll_takes_stays : (a0 : ℕ) (a1 : ℕ) (a2 : Choice) {s : Core} → Shelved base s → (a4 : Gift) → Stays base (poll_takes a0 a1 a2 s a4)
+  poll_takes_stays n r ch {s = s} q g = let v = handed_out ch s g in received_shelved n r g v q
+
+  pub poll_row_stays : (a0 : ℕ) (a1 : ℕ) (a2 : ℕ) (a3 : Choice) {s : Core} → Shelved base s → Stays base (poll_row a0 a1 a2 a3 s)
+  poll_row_stays n r h ch {s = s} q = or_trap_stays base (set_at (instance_of n s) h s) trap.BadHandle (λ x. or_never (gift false (task_of n s) x (chosen n ch s) s) (poll_takes n r ch s)) (λ x. or_never_stays base (gift false (task_of n s) x (chosen n ch s) s) (poll_takes n r ch s) (λ got. poll_takes_stays n r ch q got))
+
+  pub wakes_joined_shelved : (a0 : Option Status) (a1 : Option ℕ) (a2 : Option ℕ) {s : Core} → Shelved base s → Shelved base (wakes_joined a0 a1 a2 s)
+  wakes_joined_shelved (Some e) (Some x) w {s = s} q = wake_shelved x w q
+  wakes_joined_shelved u1 u2 w {s = s} q = q
+
+  pub joined_shelved : (a0 : ℕ) (a1 : Subtask) (a2 : Option ℕ) (a3 : Option ℕ) {s : Core} → Shelved base s → Shelved base (joined a0 a1 a2 a3 s)
+  unfolding joined
+  joined_shelved n sub x w {s = s} q = advanced_shelved n (wakes_joined_shelved (event_of sub s) x w (set_join_shelved sub (joins x) q))
+
+  pub join_done_stays : (a0 : ℕ) (a1 : Subtask) (a2 : Option ℕ) {s : Core} → Shelved base s → (a4 : Option ℕ) → Stays base (join_done a0 a1 a2 s a4)
+  join_done_stays n sub w {s = s} q x = trap_if_stays base (is_watched (join_of sub s)) trap.WaitableSyncAndAsync (may (may_wake_new (event_of sub s) x w s) (Goes (join_label n w) (joined n sub x w s) n)) (may_stays base (may_wake_new (event_of sub s) x w s) (Goes (join_label n w) (joined n sub x w s) n) (joined_shelved n sub x w q))
+
+  pub join_to_stays : (a0 : ℕ) (a1 : ℕ) (a2 : Option ℕ) {s : Core} → Shelved base s → (a4 : Subtask) → Stays base (join_to a0 a1 a2 s a4)
+  join_to_stays n zero w {s = s} q sub = join_done_stays n sub w q None
+  join_to_stays n (suc h) w {s = s} q sub = or_trap_stays base (set_at (instance_of n s) (suc h) s) trap.BadHandle (λ x. join_done n sub w s (Some x)) (λ x. join_done_stays n sub w q (Some x))
+
+  pub join_row_stays : (a0 : ℕ) (a1 : ℕ) (a2 : ℕ) (a3 : Option ℕ) {s : Core} → Shelved base s → Stays base (join_row a0 a1 a2 a3 s)
+  join_row_stays n h y w {s = s} q = or_trap_stays base (subtask_at (instance_of n s) h s) trap.BadHandle (join_to n y w s) (λ got. join_to_stays n y w q got)
+
+  pub set_row_stays : (a0 : ℕ) {s : Core} → Shelved base s → (a2 : Choice) (a3 : SetOp) → Stays base (set_row a0 s a2 a3)
+  set_row_stays n {s = s} q ch (set_op.New r) = set_new_row_stays n r q
+  set_row_stays n {s = s} q ch (set_op.Drop x) = set_drop_row_stays n (value_of n s x) q
+  set_row_stays n {s = s} q ch (set_op.Wait r x) = wait_row_stays n r (value_of n s x) ch q (how_far_of n s)
+  set_row_stays n {s = s} q ch (set_op.Poll r x) = poll_row_stays n r (value_of n s x) ch q
+  set_row_stays n {s = s} q ch (set_op.Join x y) = join_row_stays n (value_of n s x) (value_of n s y) ch.woken q
+
+  pub suspending_shelved : (a0 : ℕ) (a1 : ℕ) (a2 : ExportKind) {s : Core} → Shelved base s → Shelved base (suspending a0 a1 a2 s)
+  suspending_shelved n j kind.Sync {s = s} q = q
+  suspending_shelved n j x {s = s} q = set_do_not_suspend_shelved j false (set_saved_callee_shelved n (Some (may_not_suspend j s)) q)
+
+  pub called_shelved : (a0 : ℕ) (a1 : Callee) (a2 : ExportKind) (a3 : Goal) (a4 : List ℕ) {s : Core} → Shelved base s → Shelved base (called a0 a1 a2 a3 a4 s)
+  unfolding called
+  called_shelved n e x g words {s = s} q = let m = next_thread s in set_how_far_shelved n (how_far.Calls (subtask.Guest m)) (behind_shelved m (n ∷ []) (suspending_shelved n e.instance x (put_switch_shelved m why.Start (call_made_shelved (caller.Thread n) e x g (thread_group n s) words q))))
+
+  pub call_begins_stays : (a0 : Component) (a1 : ℕ) (a2 : Callee) (a3 : Goal) (a4 : List ℕ) {s : Core} → Shelved base s → Stays base (call_begins a0 a1 a2 a3 a4 s)
+  call_begins_stays c n e g words {s = s} q = trap_if_stays base (not (fits 3 s)) trap.TableFull (Stops (label.Call (call_label.Calls n (next_thread s))) (called n e (export_kind c e) g words s)) (called_shelved n e (export_kind c e) g words q)
+
+  pub put_back_shelved : (a0 : Option Bool) (a1 : ℕ) {s : Core} → Shelved base s → Shelved base (put_back a0 a1 s)
+  put_back_shelved None j {s = s} q = q
+  put_back_shelved (Some b) j {s = s} q = set_do_not_suspend_shelved j b q
+
+  pub called_back_shelved : (a0 : ℕ) (a1 : ℕ) {s : Core} → Shelved base s → Shelved base (called_back a0 a1 s)
+  unfolding called_back
+  called_back_shelved n k {s = s} q = set_event_shelved (subtask.Guest k) None (put_back_shelved (saved_callee_of n s) (call_instance k s) q)
+
+  pub answered_shelved : (a0 : ℕ) (a1 : ℕ) (a2 : ℕ) {s : Core} → Shelved base s → Shelved base (answered a0 a1 a2 s)
+  unfolding answered
+  answered_shelved n r v {s = s} q = assigned_shelved n r v (set_saved_callee_shelved n None q)
+
+  pub call_returned_shelved : (a0 : ℕ) (a1 : ℕ) (a2 : ℕ) {s : Core} → Shelved base s → Shelved base (call_returned a0 a1 a2 s)
+  unfolding call_returned
+  call_returned_shelved n r k {s = s} q = answered_shelved n r 2 (call_settled_shelved k (called_back_shelved n k q))
+
+  pub with_handle_shelved : (i : ℕ) (sub : Subtask) {s : Core} → Shelved base s → Shelved base (with_handle i sub s)
+  unfolding with_handle
+  with_handle_shelved i sub {s = s} q = set_subtask_handle_shelved sub (Some (new_handle i s)) (subtask_given_shelved i sub q)
+
+  pub call_pending_shelved : (a0 : ℕ) (a1 : ℕ) (a2 : ℕ) (a3 : ℕ) {s : Core} → Shelved base s → Shelved base (call_pending a0 a1 a2 a3 s)
+  unfolding call_pending
+  call_pending_shelved n r k v {s = s} q = answered_shelved n r v (with_handle_shelved (instance_of n s) (subtask.Guest k) (called_back_shelved n k q))
+
+  pub call_status_stays : (a0 : ℕ) (a1 : ℕ) (a2 : ℕ) {s : Core} → Shelved base s → (a4 : Status) → Stays base (call_status a0 a1 a2 s a4)
+  call_status_stays n r k {s = s} q status.Returned = call_returned_shelved n r k q
+  call_status_stays n r k {s = s} q e = let v = packed (new_handle (instance_of n s) s) e in trap_if_stays base (at_handle_limit s) trap.HandleLimit (Goes (label.Call (call_label.Call v n)) (call_pending n r k v s) n) (call_pending_shelved n r k v q)
+
+  pub call_row_stays : (a0 : Component) (a1 : ℕ) (a2 : ℕ) (a3 : ℕ) (a4 : Callee) (a5 : List ℕ) {s : Core} → Shelved base s → (a7 : HowFar) → Stays base (call_row a0 a1 a2 a3 a4 a5 s a7)
+  call_row_stays c n r to e words {s = s} q (how_far.Calls (subtask.Guest k)) = call_status_stays n r k q (status_found k s)
+  call_row_stays c n r to e words {s = s} q u1 = call_begins_stays c n e (goal.Register to) words q
+
+  pub call_answered_shelved : (a0 : ℕ) (a1 : ℕ) (a2 : ℕ) {s : Core} → Shelved base s → Shelved base (call_answered a0 a1 a2 s)
+  unfolding call_answered
+  call_answered_shelved n r k {s = s} q = answered_shelved n r (result_of k s) (call_settled_shelved k (set_result_shelved k None (called_back_shelved n k q)))
+
+  pub blocked_shelved : (a0 : ℕ) (a1 : Subtask) {s : Core} → Shelved base s → Shelved base (blocked a0 a1 s)
+  unfolding blocked
+  blocked_shelved n sub {s = s} q = set_how_far_shelved n (how_far.Calls sub) (stopped_at_shelved n (place.Blocked sub) q)
+
+  pub call_blocked_shelved : (a0 : ℕ) (a1 : ℕ) {s : Core} → Shelved base s → Shelved base (call_blocked a0 a1 s)
+  unfolding call_blocked
+  call_blocked_shelved n k {s = s} q = blocked_shelved n (subtask.Guest k) (checked_shelved (instance_of n s) (called_back_shelved n k q))
+
+  pub call_sync_status_stays : (a0 : ℕ) (a1 : ℕ) (a2 : ℕ) {s : Core} → Shelved base s → (a4 : Status) → Stays base (call_sync_status a0 a1 a2 s a4)
+  call_sync_status_stays n r k {s = s} q status.Returned = call_answered_shelved n r k q
+  call_sync_status_stays n r k {s = s} q e = trap_if_stays base (not (passes_check (instance_of n s) (called_back n k s))) trap.CannotBlockSyncTask (Stops (label.Thread (thread_label.Pauses n)) (call_blocked n k s)) (call_blocked_shelved n k q)
+
+  pub forbidding_shelved : (a0 : ℕ) (a1 : ℕ) (a2 : ExportKind) {s : Core} → Shelved base s → Shelved base (forbidding a0 a1 a2 s)
+  forbidding_shelved m j kind.Sync {s = s} q = set_do_not_suspend_shelved j true (set_saved_own_shelved m (Some (may_not_suspend j s)) q)
+  forbidding_shelved m j x {s = s} q = q
+
+  pub with_thread_handle_shelved : (a0 : ℕ) (a1 : ℕ) {s : Core} → Shelved base s → Shelved base (with_thread_handle a0 a1 s)
+  unfolding with_thread_handle
+  with_thread_handle_shelved i m {s = s} q = set_thread_handle_shelved m (Some (new_thread_handle i s)) (give_thread_handle_shelved i m q)
+
+  pub entered_shelved : (a0 : ℕ) (a1 : Callee) (a2 : ExportKind) (a3 : List ℕ) {s : Core} → Shelved base s → Shelved base (entered a0 a1 a2 a3 s)
+  unfolding entered
+  entered_shelved n e x words {s = s} q = let m = next_thread s in set_how_far_shelved n (how_far.Calls (subtask.Guest m)) (set_place_shelved n (place.Under m) (set_place_shelved m place.Running (forbidding_shelved m e.instance x (set_started_shelved m (with_thread_handle_shelved e.instance m (call_made_shelved (caller.Thread n) e x goal.Direct (thread_group n s) words q))))))
+
+  pub enter_row_stays : (a0 : ℕ) (a1 : Callee) (a2 : ExportKind) (a3 : List ℕ) {s : Core} → Shelved base s → Stays base (enter_row a0 a1 a2 a3 s)
+  enter_row_stays n e x words {s = s} q = trap_if_stays base (not (fits 3 s)) trap.TableFull (trap_if (at_handle_limit s) trap.HandleLimit (Goes (label.Call (call_label.Enters n (next_thread s))) (entered n e x words s) (next_thread s))) (trap_if_stays base (at_handle_limit s) trap.HandleLimit (Goes (label.Call (call_label.Enters n (next_thread s))) (entered n e x words s) (next_thread s)) (entered_shelved n e x words q))
+
+  pub call_sync_begins_stays : (a0 : Component) (a1 : ℕ) (a2 : Callee) (a3 : List ℕ) {s : Core} → Shelved base s → (a5 : Bool) → Stays base (call_sync_begins a0 a1 a2 a3 s a5)
+  call_sync_begins_stays c n e words {s = s} q true = call_begins_stays c n e goal.Answer words q
+  call_sync_begins_stays c n e words {s = s} q false = enter_row_stays n e (export_kind c e) words q
+
+  pub call_sync_row_stays : (a0 : Component) (a1 : ℕ) (a2 : ℕ) (a3 : Callee) (a4 : List ℕ) {s : Core} → Shelved base s → (a6 : HowFar) → Stays base (call_sync_row a0 a1 a2 a3 a4 s a6)
+  call_sync_row_stays c n r e words {s = s} q (how_far.Answered v) = assigned_shelved n r v q
+  call_sync_row_stays c n r e words {s = s} q (how_far.Calls (subtask.Guest k)) = call_sync_status_stays n r k q (status_found k s)
+  call_sync_row_stays c n r e words {s = s} q u1 = call_sync_begins_stays c n e words q (is_async_lifted (export_kind c e))
+
+  pub host_ready_shelved : (a0 : ℕ) (a1 : ℕ) (a2 : ℕ) (a3 : ℕ) {s : Core} → Shelved base s → Shelved base (host_ready a0 a1 a2 a3 s)
+  unfolding host_ready
+  host_ready_shelved n r to v {s = s} q = assigned_shelved n r 2 (set_register_shelved n to v (count_work_shelved q))
+
+  pub host_pending_shelved : (a0 : ℕ) (a1 : ℕ) (a2 : ℕ) (a3 : ℕ) (a4 : HostDef) {s : Core} → Shelved base s → Shelved base (host_pending a0 a1 a2 a3 a4 s)
+  unfolding host_pending
+  host_pending_shelved n r to v host {s = s} q = assigned_shelved n r v (with_handle_shelved (instance_of n s) (subtask.Host (next_work s)) (work_queued_shelved (work_caller.Async n to) host (Some (thread_group n s)) q))
+
+  pub call_host_polled_stays : (a0 : ℕ) (a1 : ℕ) (a2 : ℕ) {s : Core} → Shelved base s → (a4 : FirstPoll) → Stays base (call_host_polled a0 a1 a2 s a4)
+  call_host_polled_stays n r to {s = s} q (AtOnce v) = host_ready_shelved n r to v q
+  call_host_polled_stays n r to {s = s} q Failing = tt
+  call_host_polled_stays n r to {s = s} q (Later host) = let v = packed (new_handle (instance_of n s) s) status.Started in trap_if_stays base (not (fits 1 s)) trap.TableFull (trap_if (at_handle_limit s) trap.HandleLimit (Goes (label.Call (call_label.CallPolls v n (next_work s))) (host_pending n r to v host s) n)) (trap_if_stays base (at_handle_limit s) trap.HandleLimit (Goes (label.Call (call_label.CallPolls v n (next_work s))) (host_pending n r to v host s) n) (host_pending_shelved n r to v host q))
+
+  pub call_host_row_stays : (a0 : Component) (a1 : ℕ) (a2 : ℕ) (a3 : ℕ) (a4 : ℕ) {s : Core} → Shelved base s → Stays base (call_host_row a0 a1 a2 a3 a4 s)
+  call_host_row_stays c n r to h {s = s} q = call_host_polled_stays n r to q (first_poll (host_at c h))
+
+  pub host_answered_shelved : (a0 : ℕ) (a1 : ℕ) (a2 : ℕ) {s : Core} → Shelved base s → Shelved base (host_answered a0 a1 a2 s)
+  unfolding host_answered
+  host_answered_shelved n r v {s = s} q = assigned_shelved n r v (count_work_shelved q)
+
+  pub host_blocked_shelved : (a0 : ℕ) (a1 : HostDef) {s : Core} → Shelved base s → Shelved base (host_blocked a0 a1 s)
+  unfolding host_blocked
+  host_blocked_shelved n host {s = s} q = blocked_shelved n (subtask.Host (next_work s)) (work_queued_shelved (work_caller.Sync n) host (Some (thread_group n s)) (checked_shelved (instance_of n s) q))
+
+  pub call_sync_host_polled_stays : (a0 : ℕ) (a1 : ℕ) {s : Core} → Shelved base s → (a3 : FirstPoll) → Stays base (call_sync_host_polled a0 a1 s a3)
+  call_sync_host_polled_stays n r {s = s} q (AtOnce v) = host_answered_shelved n r v q
+  call_sync_host_polled_stays n r {s = s} q Failing = tt
+  call_sync_host_polled_stays n r {s = s} q (Later host) = trap_if_stays base (not (fits 1 s)) trap.TableFull (trap_if (not (passes_check (instance_of n s) s)) trap.CannotBlockSyncTask (Stops (label.Call (call_label.PausesPolls n (next_work s))) (host_blocked n host s))) (trap_if_stays base (not (passes_check (instance_of n s) s)) trap.CannotBlockSyncTask (Stops (label.Call (call_label.PausesPolls n (next_work s))) (host_blocked n host s)) (host_blocked_shelved n host q))
+
+  pub settle_group_of_shelved : (a0 : Option ℕ) {s : Core} → Shelved base s → Shelved base (settle_group_of a0 s)
+  settle_group_of_shelved None {s = s} q = q
+  settle_group_of_shelved (Some g) {s = s} q = group_settled_shelved g q
+
+  pub work_deleted_shelved : (a0 : ℕ) {s : Core} → Shelved base s → Shelved base (work_deleted a0 s)
+  unfolding work_deleted
+  work_deleted_shelved i {s = s} q = settle_group_of_shelved (work_group i s) (remove_work_shelved i q)
+
+  pub work_answered_shelved : (a0 : ℕ) (a1 : ℕ) (a2 : ℕ) {s : Core} → Shelved base s → Shelved base (work_answered a0 a1 a2 s)
+  unfolding work_answered
+  work_answered_shelved n r i {s = s} q = assigned_shelved n r (work_value i s) (work_deleted_shelved i q)
+
+  pub call_sync_host_row_stays : (a0 : Component) (a1 : ℕ) (a2 : ℕ) (a3 : ℕ) {s : Core} → Shelved base s → (a5 : HowFar) → Stays base (call_sync_host_row a0 a1 a2 a3 s a5)
+  call_sync_host_row_stays c n r h {s = s} q (how_far.Calls (subtask.Host i)) = work_answered_shelved n r i q
+  call_sync_host_row_stays c n r h {s = s} q u1 = call_sync_host_polled_stays n r q (first_poll (host_at c h))
+
+  pub end_taken_shelved : (a0 : ℕ) (a1 : ℕ) (a2 : Subtask) (a3 : Status) {s : Core} → Shelved base s → Shelved base (end_taken a0 a1 a2 a3 s)
+  unfolding end_taken
+  end_taken_shelved n r sub e {s = s} q = answered_shelved n r (status_code e) (set_event_shelved sub None q)
+
+  pub ended_row_stays : (a0 : Mode) (a1 : ℕ) (a2 : ℕ) (a3 : Subtask) {s : Core} → Shelved base s → (a5 : Option Status) → Stays base (ended_row a0 a1 a2 a3 s a5)
+  ended_row_stays mode n r sub {s = s} q None = tt
+  ended_row_stays mode n r sub {s = s} q (Some e) = end_taken_shelved n r sub e q
+
+  pub awaiting_shelved : (a0 : ℕ) (a1 : Subtask) {s : Core} → Shelved base s → Shelved base (awaiting a0 a1 s)
+  unfolding awaiting
+  awaiting_shelved n sub {s = s} q = set_how_far_shelved n (how_far.AwaitsEnd sub) (stopped_at_shelved n (place.Blocked sub) (checked_shelved (instance_of n s) (set_join_shelved sub (join.Watched n) (set_saved_callee_shelved n None q))))
+
+  pub not_ended_row_stays : (a0 : Mode) (a1 : ℕ) (a2 : ℕ) (a3 : Subtask) {s : Core} → Shelved base s → Stays base (not_ended_row a0 a1 a2 a3 s)
+  not_ended_row_stays Async n r sub {s = s} q = answered_shelved n r blocked_code q
+  not_ended_row_stays Sync n r sub {s = s} q = trap_if_stays base (not (passes_check (instance_of n s) s)) trap.CannotBlockSyncTask (Stops (pauses n) (awaiting n sub s)) (awaiting_shelved n sub q)
+
+  pub by_end_stays : (a0 : Mode) (a1 : ℕ) (a2 : ℕ) (a3 : Subtask) {s : Core} → Shelved base s → (a5 : Bool) → Stays base (by_end a0 a1 a2 a3 s a5)
+  by_end_stays mode n r sub {s = s} q true = ended_row_stays mode n r sub q (undelivered_end (event_of sub s))
+  by_end_stays mode n r sub {s = s} q false = not_ended_row_stays mode n r sub q
+
+  pub after_cancel_stays : (a0 : Mode) (a1 : ℕ) (a2 : ℕ) (a3 : Subtask) {s : Core} → Shelved base s → Stays base (after_cancel a0 a1 a2 a3 s)
+  after_cancel_stays mode n r sub {s = s} q = by_end_stays mode n r sub q (subtask_ended sub s)
+
+  pub host_cancelled_shelved : (a0 : ℕ) {s : Core} → Shelved base s → Shelved base (host_cancelled a0 s)
+  unfolding host_cancelled
+  host_cancelled_shelved i {s = s} q = set_cancelled_shelved i (set_phase_shelved i (aborted_phase (phase_of i s)) q)
+
+  pub cancel_host_stays : (a0 : Mode) (a1 : ℕ) (a2 : ℕ) (a3 : ℕ) {s : Core} → Shelved base s → Stays base (cancel_host a0 a1 a2 a3 s)
+  cancel_host_stays mode n r i {s = s} q = trap_if_stays base (was_cancelled i s) trap.SubtaskCancelAfterTerminal (after_cancel mode n r (subtask.Host i) (host_cancelled i s)) (after_cancel_stays mode n r (subtask.Host i) (host_cancelled_shelved i q))
+
+  pub start_withdrawn_shelved : (a0 : ℕ) (a1 : ℕ) (a2 : ℕ) {s : Core} → Shelved base s → Shelved base (start_withdrawn a0 a1 a2 s)
+  unfolding start_withdrawn
+  start_withdrawn_shelved n r k {s = s} q = answered_shelved n r 3 (withdrawn_shelved k q)
+
+  pub asked_shelved : (a0 : ℕ) {s : Core} → Shelved base s → Shelved base (asked a0 s)
+  unfolding asked
+  asked_shelved k {s = s} q = set_own_event_shelved k (Some own.Cancelled) q
+
+  pub behind_switch_shelved : (a0 : ℕ) (a1 : Option ℕ) {s : Core} → Shelved base s → Shelved base (behind_switch a0 a1 s)
+  behind_switch_shelved n None {s = s} q = q
+  behind_switch_shelved n (Some m) {s = s} q = behind_shelved (foot_of m s) (n ∷ []) q
+
+  pub lets_go_on_shelved : (a0 : ℕ) (a1 : ℕ) {s : Core} → Shelved base s → Shelved base (lets_go_on a0 a1 s)
+  unfolding lets_go_on
+  lets_go_on_shelved n k {s = s} q = let j = call_instance k s in set_how_far_shelved n (how_far.Cancels (subtask.Guest k)) (behind_switch_shelved n s.queues.switch (set_join_shelved (subtask.Guest k) (join.Watched n) (set_do_not_suspend_shelved j false (set_saved_callee_shelved n (Some (may_not_suspend j s)) q))))
+
+  pub cancel_delivered_to_shelved : (a0 : ℕ) (a1 : ℕ) {s : Core} → Shelved base s → Shelved base (cancel_delivered_to a0 a1 s)
+  unfolding cancel_delivered_to
+  cancel_delivered_to_shelved n k {s = s} q = lets_go_on_shelved n k (put_switch_shelved k (why.Delivery delivery.Cancel) (asked_shelved k q))
+
+  pub yield_cancelled_shelved : (a0 : ℕ) (a1 : ℕ) {s : Core} → Shelved base s → Shelved base (yield_cancelled a0 a1 s)
+  unfolding yield_cancelled
+  yield_cancelled_shelved n k {s = s} q = lets_go_on_shelved n k (promoted_unless_shelved k (asked_shelved k q))
+
+  pub cancel_yield_stays : (a0 : Mode) (a1 : ℕ) (a2 : ℕ) (a3 : ℕ) {s : Core} → Shelved base s → (a5 : Bool) → Stays base (cancel_yield a0 a1 a2 a3 s a5)
+  cancel_yield_stays mode n r k {s = s} q true = yield_cancelled_shelved n k q
+  cancel_yield_stays mode n r k {s = s} q false = after_cancel_stays mode n r (subtask.Guest k) (asked_shelved k q)
+
+  pub cancel_running_stays : (a0 : Mode) (a1 : ℕ) (a2 : ℕ) (a3 : ℕ) {s : Core} → Shelved base s → (a5 : Bool) (a6 : Bool) → Stays base (cancel_running a0 a1 a2 a3 s a5 a6)
+  cancel_running_stays mode n r k {s = s} q true yields = cancel_delivered_to_shelved n k q
+  cancel_running_stays mode n r k {s = s} q false yields = cancel_yield_stays mode n r k q yields
+
+  pub cancel_guest_stays : (a0 : Mode) (a1 : ℕ) (a2 : ℕ) (a3 : ℕ) {s : Core} → Shelved base s → (a5 : Bool) (a6 : Bool) → Stays base (cancel_guest a0 a1 a2 a3 s a5 a6)
+  cancel_guest_stays mode n r k {s = s} q true started = ended_row_stays mode n r (subtask.Guest k) q (undelivered_end (event_of (subtask.Guest k) s))
+  cancel_guest_stays mode n r k {s = s} q false true = cancel_running_stays mode n r k q (is_at k s is_callback_wait) (is_at k s is_callback_yield)
+  cancel_guest_stays mode n r k {s = s} q false false = start_withdrawn_shelved n r k q
+
+  pub cancel_subtask_stays : (a0 : Mode) (a1 : ℕ) (a2 : ℕ) {s : Core} → Shelved base s → (a4 : Subtask) → Stays base (cancel_subtask a0 a1 a2 s a4)
+  cancel_subtask_stays mode n r {s = s} q (subtask.Guest k) = cancel_guest_stays mode n r k q (has_ended k s) (was_started k s)
+  cancel_subtask_stays mode n r {s = s} q (subtask.Host i) = cancel_host_stays mode n r i q
+
+  pub cancel_found_stays : (a0 : Mode) (a1 : ℕ) (a2 : ℕ) {s : Core} → Shelved base s → (a4 : Subtask) → Stays base (cancel_found a0 a1 a2 s a4)
+  cancel_found_stays mode n r {s = s} q sub = trap_if_stays base (is_joined (join_of sub s)) trap.WaitableSyncAndAsync (cancel_subtask mode n r s sub) (cancel_subtask_stays mode n r q sub)
+
+  pub cancel_resumed_shelved : (a0 : ℕ) (a1 : Subtask) {s : Core} → Shelved base s → Shelved base (cancel_resumed a0 a1 s)
+  unfolding cancel_resumed
+  cancel_resumed_shelved n sub {s = s} q = set_join_shelved sub join.Nowhere (set_saved_callee_shelved n None (put_back_shelved (saved_callee_of n s) (subtask_instance sub s) q))
+
+  pub cancel_row_stays : (a0 : Mode) (a1 : ℕ) (a2 : ℕ) (a3 : ℕ) {s : Core} → Shelved base s → (a5 : HowFar) → Stays base (cancel_row a0 a1 a2 a3 s a5)
+  cancel_row_stays mode n r h {s = s} q (how_far.Cancels sub) = after_cancel_stays mode n r sub (cancel_resumed_shelved n sub q)
+  cancel_row_stays mode n r h {s = s} q (how_far.AwaitsEnd sub) = ended_row_stays mode n r sub (set_join_shelved sub join.Nowhere q) (undelivered_end (event_of sub (set_join sub join.Nowhere s)))
+  cancel_row_stays mode n r h {s = s} q u1 = or_trap_stays base (subtask_at (instance_of n s) h s) trap.BadHandle (cancel_found mode n r s) (λ got. cancel_found_stays mode n r q got)
+
+  pub subtask_settled_shelved : (a0 : Subtask) {s : Core} → Shelved base s → Shelved base (subtask_settled a0 s)
+  subtask_settled_shelved (subtask.Guest k) {s = s} q = call_settled_shelved k q
+  subtask_settled_shelved (subtask.Host i) {s = s} q = work_deleted_shelved i q
+
+  pub dropped_shelved : (a0 : ℕ) (a1 : ℕ) (a2 : Subtask) {s : Core} → Shelved base s → Shelved base (dropped a0 a1 a2 s)
+  unfolding dropped
+  dropped_shelved n h sub {s = s} q = advanced_shelved n (subtask_settled_shelved sub (free_handle_shelved (instance_of n s) h (set_subtask_handle_shelved sub None (set_join_shelved sub join.Nowhere q))))
+
+  pub drop_found_stays : (a0 : ℕ) (a1 : ℕ) {s : Core} → Shelved base s → (a3 : Subtask) → Stays base (drop_found a0 a1 s a3)
+  drop_found_stays n h {s = s} q sub = trap_if_stays base (is_watched (join_of sub s)) trap.WaitableSyncAndAsync (trap_if (not (subtask_ended sub s)) trap.SubtaskDropNotResolved (trap_if (is_some (event_of sub s)) trap.SubtaskDropNotResolved (Goes (label.Call (call_label.Drop n)) (dropped n h sub s) n))) (trap_if_stays base (not (subtask_ended sub s)) trap.SubtaskDropNotResolved (trap_if (is_some (event_of sub s)) trap.SubtaskDropNotResolved (Goes (label.Call (call_label.Drop n)) (dropped n h sub s) n)) (trap_if_stays base (is_some (event_of sub s)) trap.SubtaskDropNotResolved (Goes (label.Call (call_label.Drop n)) (dropped n h sub s) n) (dropped_shelved n h sub q)))
+
+  pub drop_row_stays : (a0 : ℕ) (a1 : ℕ) {s : Core} → Shelved base s → Stays base (drop_row a0 a1 s)
+  drop_row_stays n h {s = s} q = or_trap_stays base (subtask_at (instance_of n s) h s) trap.BadHandle (drop_found n h s) (λ got. drop_found_stays n h q got)
+
+  pub subtask_row_stays : (a0 : Component) (a1 : ℕ) {s : Core} → Shelved base s → (a3 : CallOp) → Stays base (subtask_row a0 a1 s a3)
+  subtask_row_stays c n {s = s} q (call_op.Call r to e xs) = call_row_stays c n r to e (values_in (registers_of n s) xs) q (how_far_of n s)
+  subtask_row_stays c n {s = s} q (call_op.CallSync r e xs) = call_sync_row_stays c n r e (values_in (registers_of n s) xs) q (how_far_of n s)
+  subtask_row_stays c n {s = s} q (call_op.CallHost r to h) = call_host_row_stays c n r to h q
+  subtask_row_stays c n {s = s} q (call_op.CallSyncHost r h) = call_sync_host_row_stays c n r h q (how_far_of n s)
+  subtask_row_stays c n {s = s} q (call_op.Cancel r x) = cancel_row_stays Async n r (value_of n s x) q (how_far_of n s)
+  subtask_row_stays c n {s = s} q (call_op.CancelSync r x) = cancel_row_stays Sync n r (value_of n s x) q (how_far_of n s)
+  subtask_row_stays c n {s = s} q (call_op.Drop x) = drop_row_stays n (value_of n s x) q
+
+  pub thread_made_shelved : (a0 : ℕ) (a1 : ℕ) (a2 : ℕ) (a3 : ℕ) {s : Core} → Shelved base s → Shelved base (thread_made a0 a1 a2 a3 s)
+  unfolding thread_made
+  thread_made_shelved n r x v {s = s} q = let i = instance_of n s in let h = new_thread_handle i s in assigned_shelved n r h (with_thread_handle_shelved i (next_thread s) (add_thread_shelved (new_thread (task_of n s) true (script.Slot x) (registers_for (v ∷ [])) None) q))
+
+  pub thread_new_row_stays : (a0 : ℕ) (a1 : ℕ) (a2 : ℕ) (a3 : ℕ) {s : Core} → Shelved base s → (a5 : Slot) → Stays base (thread_new_row a0 a1 a2 a3 s a5)
+  thread_new_row_stays n r x v {s = s} q slot.Empty = tt
+  thread_new_row_stays n r x v {s = s} q slot.Bad = tt
+  thread_new_row_stays n r x v {s = s} q (slot.Script ops) = trap_if_stays base (not (fits 2 s)) trap.TableFull (trap_if (at_handle_limit s) trap.HandleLimit (Goes (thread_new_label n s) (thread_made n r x v s) n)) (trap_if_stays base (at_handle_limit s) trap.HandleLimit (Goes (thread_new_label n s) (thread_made n r x v s) n) (thread_made_shelved n r x v q))
+
+  pub thread_index_row_stays : (a0 : ℕ) (a1 : ℕ) {s : Core} → Shelved base s → Stays base (thread_index_row a0 a1 s)
+  thread_index_row_stays n r {s = s} q = let h = unwrap_or (thread_handle_of n s) 0 in assigned_shelved n r h q
+
+  pub resumed_later_shelved : (a0 : ℕ) (a1 : ℕ) (a2 : Why) {s : Core} → Shelved base s → Shelved base (resumed_later a0 a1 a2 s)
+  unfolding resumed_later
+  resumed_later_shelved n m w {s = s} q = advanced_shelved n (put_low_shelved m w q)
+
+  pub resume_later_found_stays : (a0 : ℕ) {s : Core} → Shelved base s → (a2 : ℕ) → Stays base (resume_later_found a0 s a2)
+  resume_later_found_stays n {s = s} q m = trap_if_stays base (m == n) trap.CannotResumeThread (or_trap (resume_why m s) trap.CannotResumeThread (λ w. Goes (label.Thread (thread_label.ResumeLater n)) (resumed_later n m w s) n)) (or_trap_stays base (resume_why m s) trap.CannotResumeThread (λ w. Goes (label.Thread (thread_label.ResumeLater n)) (resumed_later n m w s) n) (λ w. resumed_later_shelved n m w q))
+
+  pub resume_later_row_stays : (a0 : ℕ) (a1 : ℕ) {s : Core} → Shelved base s → Stays base (resume_later_row a0 a1 s)
+  resume_later_row_stays n h {s = s} q = or_trap_stays base (thread_at (instance_of n s) h s) trap.BadHandle (resume_later_found n s) (λ got. resume_later_found_stays n q got)
+
+  pub halted_shelved : (a0 : Halt) (a1 : ℕ) {s : Core} → Shelved base s → Shelved base (halted a0 a1 s)
+  unfolding halted
+  halted_shelved Suspension n {s = s} q = set_how_far_shelved n how_far.Suspends (stopped_at_shelved n place.Suspended q)
+  halted_shelved Yielding n {s = s} q = set_how_far_shelved n how_far.Yields (put_low_shelved n why.Resumption (stopped_shelved (foot_of n s) q))
+
+  pub halted_checked_shelved : (a0 : Halt) (a1 : ℕ) {s : Core} → Shelved base s → Shelved base (halted_checked a0 a1 s)
+  unfolding halted_checked
+  halted_checked_shelved x n {s = s} q = halted_shelved x n (checked_shelved (instance_of n s) q)
+
+  pub halts_stays : (a0 : Halt) (a1 : ℕ) (a2 : Label) {s : Core} → Shelved base s → (a4 : Bool) → Stays base (halts a0 a1 a2 s a4)
+  halts_stays x n l {s = s} q true = halted_checked_shelved x n q
+  halts_stays Suspension n l {s = s} q false = tt
+  halts_stays Yielding n l {s = s} q false = advanced_shelved n q
+
+  pub halt_row_stays : (a0 : Halt) (a1 : ℕ) (a2 : Label) {s : Core} → Shelved base s → Stays base (halt_row a0 a1 a2 s)
+  halt_row_stays x n l {s = s} q = halts_stays x n l q (passes_check (instance_of n s) s)
+
+  pub halted_resuming_shelved : (a0 : Halt) (a1 : ℕ) (a2 : ℕ) (a3 : Why) {s : Core} → Shelved base s → Shelved base (halted_resuming a0 a1 a2 a3 s)
+  unfolding halted_resuming
+  halted_resuming_shelved x n m w {s = s} q = halted_shelved x n (put_switch_shelved m w q)
+
+  pub then_resume_found_stays : (a0 : Halt) (a1 : ℕ) {s : Core} → Shelved base s → (a3 : ℕ) → Stays base (then_resume_found a0 a1 s a3)
+  then_resume_found_stays x n {s = s} q m = trap_if_stays base (m == n) trap.CannotResumeThread (or_trap (resume_why m s) trap.CannotResumeThread (λ w. Stops (pauses n) (halted_resuming x n m w s))) (or_trap_stays base (resume_why m s) trap.CannotResumeThread (λ w. Stops (pauses n) (halted_resuming x n m w s)) (λ w. halted_resuming_shelved x n m w q))
+
+  pub then_resume_row_stays : (a0 : Halt) (a1 : ℕ) (a2 : ℕ) {s : Core} → Shelved base s → Stays base (then_resume_row a0 a1 a2 s)
+  then_resume_row_stays x n h {s = s} q = or_trap_stays base (thread_at (instance_of n s) h s) trap.BadHandle (then_resume_found x n s) (λ got. then_resume_found_stays x n q got)
+
+  pub halted_promoting_shelved : (a0 : Halt) (a1 : ℕ) (a2 : ℕ) {s : Core} → Shelved base s → Shelved base (halted_promoting a0 a1 a2 s)
+  unfolding halted_promoting
+  halted_promoting_shelved x n m {s = s} q = halted_shelved x n (promoted_unless_shelved m q)
+
+  pub then_promote_stays : (a0 : Halt) (a1 : ℕ) (a2 : Label) {s : Core} → Shelved base s → (a4 : ℕ) (a5 : Bool) → Stays base (then_promote a0 a1 a2 s a4 a5)
+  then_promote_stays x n l {s = s} q m true = halted_promoting_shelved x n m q
+  then_promote_stays x n l {s = s} q m false = halt_row_stays x n l q
+
+  pub then_promote_found_stays : (a0 : Halt) (a1 : ℕ) (a2 : Label) {s : Core} → Shelved base s → (a4 : ℕ) → Stays base (then_promote_found a0 a1 a2 s a4)
+  then_promote_found_stays x n l {s = s} q m = trap_if_stays base (m == n) trap.CannotResumeThread (then_promote x n l s m (has_yielded m s)) (then_promote_stays x n l q m (has_yielded m s))
+
+  pub then_promote_row_stays : (a0 : Halt) (a1 : ℕ) (a2 : ℕ) (a3 : Label) {s : Core} → Shelved base s → Stays base (then_promote_row a0 a1 a2 a3 s)
+  then_promote_row_stays x n h l {s = s} q = or_trap_stays base (thread_at (instance_of n s) h s) trap.BadHandle (then_promote_found x n l s) (λ got. then_promote_found_stays x n l q got)
+
+  pub by_how_far_stays : (h : HowFar) (n : ℕ) (l : Label) {s : Core} → Shelved base s → (p : Progress) → Stays base p → Stays base (by_how_far h n l s p)
+  by_how_far_stays how_far.Suspends n l {s = s} q p k = advanced_shelved n q
+  by_how_far_stays how_far.Yields n l {s = s} q p k = advanced_shelved n q
+  by_how_far_stays _ n l {s = s} q p k = k
+
+  pub halting_stays : (n : ℕ) {s : Core} → Shelved base s → (l : ThreadLabel) (row : Label → Progress) → Stays base (row (label.Thread l)) → Stays base (halting n s l row)
+  halting_stays n {s = s} q l row k = by_how_far_stays (how_far_of n s) n (label.Thread l) q (row (label.Thread l)) k
+
+  pub thread_row_stays : (c : Component) (n : ℕ) {s : Core} → Shelved base s → (o : ThreadOp) → Stays base (thread_row c n s o)
+  thread_row_stays c n {s = s} q (thread_op.New r x v) = thread_new_row_stays n r x (value_of n s v) q (slot_at c (instance_of n s) x)
+  thread_row_stays c n {s = s} q (thread_op.Index r) = thread_index_row_stays n r q
+  thread_row_stays c n {s = s} q (thread_op.ResumeLater x) = resume_later_row_stays n (value_of n s x) q
+  thread_row_stays c n {s = s} q thread_op.Suspend = halting_stays n q (thread_label.Suspend n) (λ l. halt_row Suspension n l s) (halt_row_stays Suspension n (label.Thread (thread_label.Suspend n)) q)
+  thread_row_stays c n {s = s} q thread_op.Yield = halting_stays n q (thread_label.Yield n) (λ l. halt_row Yielding n l s) (halt_row_stays Yielding n (label.Thread (thread_label.Yield n)) q)
+  thread_row_stays c n {s = s} q (thread_op.SuspendThenResume x) = halting_stays n q (thread_label.SuspendThenResume n) (λ l. then_resume_row Suspension n (value_of n s x) s) (then_resume_row_stays Suspension n (value_of n s x) q)
+  thread_row_stays c n {s = s} q (thread_op.YieldThenResume x) = halting_stays n q (thread_label.YieldThenResume n) (λ l. then_resume_row Yielding n (value_of n s x) s) (then_resume_row_stays Yielding n (value_of n s x) q)
+  thread_row_stays c n {s = s} q (thread_op.SuspendThenPromote x) = halting_stays n q (thread_label.SuspendThenPromote n) (λ l. then_promote_row Suspension n (value_of n s x) l s) (then_promote_row_stays Suspension n (value_of n s x) (label.Thread (thread_label.SuspendThenPromote n)) q)
+  thread_row_stays c n {s = s} q (thread_op.YieldThenPromote x) = halting_stays n q (thread_label.YieldThenPromote n) (λ l. then_promote_row Yielding n (value_of n s x) l s) (then_promote_row_stays Yielding n (value_of n s x) (label.Thread (thread_label.YieldThenPromote n)) q)

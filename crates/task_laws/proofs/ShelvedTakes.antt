@@ -1,0 +1,181 @@
+-- What is kept by takings and main: a handle of a set names a set of its instance.
+use Rattle.std.specs.Prelude.{Bool, List, None, Option, Some, false, true, ℕ, ◌+◌}
+use Rattle.task_laws.proofs.ShelvedFields.{Shelved, add_group_shelved, call_made_shelved, push_high_shelved, set_course_shelved, set_do_not_enter_shelved, set_high_shelved, set_low_shelved, set_phase_shelved, set_place_shelved, set_register_shelved, set_script_shelved, set_stage_shelved, set_started_shelved, set_starting_published_shelved, set_switch_shelved, set_trapped_shelved, work_queued_shelved}
+use Rattle.task_laws.proofs.ShelvedRows.{Stays, data_row_stays, forbidding_shelved, may_stays, moved_to_shelved, or_never_stays, set_given_shelved, set_row_stays, subtask_row_stays, task_row_stays, thread_row_stays, told_shelved, trap_if_stays, with_thread_handle_shelved}
+use Rattle.task_laws.proofs.ShelvedWords.{handed_on_shelved, if_shelved, published_shelved, put_high_shelved, remove_threads_shelved, stopped_at_shelved, taken_shelved, unblocked_shelved}
+use Rattle.task_machine.specs.Core.{Core}
+use Rattle.task_machine.specs.Labels.{Choice, event_label, held_label, host_label, take_label}
+use Rattle.task_machine.specs.Moves.{Gift, NoGift, gift, given_for, may_hand_on, may_publish, own_gift_only}
+use Rattle.task_machine.specs.Read.{admits, at_handle_limit, blocked_on, course_of, course_value, instance_of, is_explicit, kind_of, phase_of, place_of, strand_of, task_of, work_caller_of}
+use Rattle.task_machine.specs.Write.{set_starting_published}
+use Rattle.task_machine.specs.declared.component.Callee.{Callee}
+use Rattle.task_machine.specs.declared.component.Component.{Component}
+use Rattle.task_machine.specs.declared.component.ExportKind.{ExportKind}
+use Rattle.task_machine.specs.declared.component.HostDef.{HostDef}
+use Rattle.task_machine.specs.declared.op.Op.{Op}
+use Rattle.task_machine.specs.declared.records.Delivery.{Delivery}
+use Rattle.task_machine.specs.declared.records.Entry.{Entry}
+use Rattle.task_machine.specs.declared.records.Place.{Place}
+use Rattle.task_machine.specs.declared.records.Why.{Why}
+use Rattle.task_machine.specs.declared.records.WorkCaller.{WorkCaller}
+use Rattle.task_machine.specs.declared.words.Given.{Given}
+use Rattle.task_machine.specs.declared.words.Mark.{Mark}
+use Rattle.task_rules.specs.Calls.{next_thread}
+use Rattle.task_rules.specs.Cancels.{aborted_phase}
+use Rattle.task_rules.specs.Ends.{may_tell, told}
+use Rattle.task_rules.specs.MainOps.{main_aborted, main_spawned, main_started}
+use Rattle.task_rules.specs.Progress.{Goes, Stops, may}
+use Rattle.task_rules.specs.Scripts.{export_kind, host_at}
+use Rattle.task_rules.specs.Sets.{chosen, handed_out}
+use Rattle.task_rules.specs.Step.{op_row, struck}
+use Rattle.task_rules.specs.Takes.{activated, activated_woken, awaits_again, delivered, delivery_row, enters, held, host_done, host_result, host_row, host_status, may_tell_starting, own_delivered, popped, pushed, rest_of, running, set_delivered, start_admitted, start_held, start_row, started, starting_is_published, starting_told, take_row, thread_taken, thread_taken_for}
+use Rattle.task_rules.specs.Works.{course_for, followed, pended, work_ended}
+use Rattle.task_machine.specs.declared.records.Caller.TheVariants as caller
+use Rattle.task_machine.specs.declared.records.Course.TheVariants as course
+use Rattle.task_machine.specs.declared.records.Delivery.TheVariants as delivery
+use Rattle.task_machine.specs.declared.records.Entry.TheVariants as entry
+use Rattle.task_machine.specs.declared.records.Goal.TheVariants as goal
+use Rattle.task_machine.specs.declared.component.ExportKind.TheVariants as kind
+use Rattle.task_machine.specs.declared.words.Mark.TheVariants as mark
+use Rattle.task_machine.specs.declared.op.Op.TheVariants as op
+use Rattle.task_machine.specs.declared.words.Phase.TheVariants as phase
+use Rattle.task_machine.specs.declared.records.Place.TheVariants as place
+use Rattle.task_machine.specs.declared.records.Script.TheVariants as script
+use Rattle.task_machine.specs.declared.records.Stage.TheVariants as stage
+use Rattle.task_machine.specs.declared.words.Status.TheVariants as status
+use Rattle.task_machine.specs.declared.records.Subtask.TheVariants as subtask
+use Rattle.task_machine.specs.declared.trap.Trap.TheVariants as trap
+use Rattle.task_machine.specs.declared.records.Why.TheVariants as why
+use Rattle.task_machine.specs.declared.records.WorkCaller.TheVariants as work_caller
+
+module _ {base : Core} where
+  pub popped_shelved : (a0 : Mark) {s : Core} → Shelved base s → Shelved base (popped a0 s)
+  unfolding popped
+  popped_shelved mark.Switch {s = s} q = set_switch_shelved None q
+  popped_shelved mark.High {s = s} q = set_high_shelved (rest_of s.queues.high) q
+  popped_shelved mark.Low {s = s} q = set_low_shelved (rest_of s.queues.low) q
+
+  pub pushed_shelved : (a0 : ℕ) {s : Core} → Shelved base s → Shelved base (pushed a0 s)
+  unfolding pushed
+  pushed_shelved i {s = s} q = set_stage_shelved i stage.Live q
+
+  pub host_result_shelved : (a0 : WorkCaller) (a1 : Option ℕ) {s : Core} → Shelved base s → Shelved base (host_result a0 a1 s)
+  host_result_shelved (work_caller.Async n to) (Some v) {s = s} q = set_register_shelved n to v q
+  host_result_shelved u1 u2 {s = s} q = q
+
+  pub host_done_shelved : (a0 : ℕ) (a1 : Option ℕ) {s : Core} → Shelved base s → Shelved base (host_done a0 a1 s)
+  unfolding host_done
+  host_done_shelved i w {s = s} q = let v = course_value (course_of i s) in set_stage_shelved i stage.Ended (published_shelved (subtask.Host i) (host_status v) w (host_result_shelved (work_caller_of i s) v q))
+
+  pub host_row_stays : (a0 : Mark) (a1 : ℕ) (a2 : Option ℕ) {s : Core} → Shelved base s → Stays base (host_row a0 a1 a2 s)
+  host_row_stays m i w {s = s} q = may_stays base (may_publish (subtask.Host i) w s) (Stops (host_label m i w) (host_done i w s)) (host_done_shelved i w q)
+
+  pub starting_told_shelved : (a0 : ℕ) (a1 : Option ℕ) {s : Core} → Shelved base s → Shelved base (starting_told a0 a1 s)
+  unfolding starting_told
+  starting_told_shelved k w {s = s} q = if_shelved (starting_is_published k s) s (told k status.Starting w (set_starting_published k s)) q (told_shelved k status.Starting w (set_starting_published_shelved k q))
+
+  pub held_shelved : (a0 : ℕ) (a1 : Why) {s : Core} → Shelved base s → Shelved base (held a0 a1 s)
+  unfolding held
+  held_shelved n w {s = s} q = stopped_at_shelved n (place.Held w) q
+
+  pub start_held_shelved : (a0 : ℕ) (a1 : Option ℕ) {s : Core} → Shelved base s → Shelved base (start_held a0 a1 s)
+  unfolding start_held
+  start_held_shelved n w {s = s} q = held_shelved n why.Start (starting_told_shelved (task_of n s) w q)
+
+  pub enters_shelved : (a0 : ℕ) (a1 : ExportKind) {s : Core} → Shelved base s → Shelved base (enters a0 a1 s)
+  enters_shelved n kind.Sync {s = s} q = forbidding_shelved n (instance_of n s) kind.Sync q
+  enters_shelved n kind.Stackful {s = s} q = q
+  enters_shelved n x {s = s} q = set_do_not_enter_shelved (instance_of n s) true q
+
+  pub started_shelved : (a0 : ℕ) (a1 : Option ℕ) {s : Core} → Shelved base s → Shelved base (started a0 a1 s)
+  unfolding started
+  started_shelved n w {s = s} q = let k = task_of n s in set_place_shelved n place.Running (enters_shelved n (kind_of k s) (told_shelved k status.Started w (set_started_shelved k (with_thread_handle_shelved (instance_of n s) n q))))
+
+  pub running_shelved : (a0 : ℕ) {s : Core} → Shelved base s → Shelved base (running a0 s)
+  unfolding running
+  running_shelved n {s = s} q = set_place_shelved n place.Running q
+
+  pub start_admitted_stays : (a0 : Mark) (a1 : ℕ) (a2 : Option ℕ) {s : Core} → Shelved base s → (a4 : Bool) → Stays base (start_admitted a0 a1 a2 s a4)
+  start_admitted_stays m n w {s = s} q true = running_shelved n q
+  start_admitted_stays m n w {s = s} q false = trap_if_stays base (at_handle_limit s) trap.HandleLimit (may (may_tell (task_of n s) w s) (Goes (take_label m n w) (started n w s) n)) (may_stays base (may_tell (task_of n s) w s) (Goes (take_label m n w) (started n w s) n) (started_shelved n w q))
+
+  pub start_row_stays : (a0 : Mark) (a1 : ℕ) (a2 : Option ℕ) {s : Core} → Shelved base s → (a4 : Bool) → Stays base (start_row a0 a1 a2 s a4)
+  start_row_stays m n w {s = s} q true = start_admitted_stays m n w q (is_explicit n s)
+  start_row_stays m n w {s = s} q false = may_stays base (may_tell_starting (task_of n s) w s) (Stops (held_label m n w) (start_held n w s)) (start_held_shelved n w q)
+
+  pub activated_shelved : (a0 : ℕ) (a1 : Gift) (a2 : Given) {s : Core} → Shelved base s → Shelved base (activated a0 a1 a2 s)
+  unfolding activated
+  activated_shelved n g v {s = s} q = set_place_shelved n place.Running (moved_to_shelved n 0 (set_script_shelved n script.React (set_do_not_enter_shelved (instance_of n s) true (set_given_shelved n 0 v (taken_shelved g (task_of n s) q)))))
+
+  pub activated_woken_shelved : (a0 : ℕ) (a1 : ℕ) (a2 : Option ℕ) (a3 : Gift) (a4 : Given) {s : Core} → Shelved base s → Shelved base (activated_woken a0 a1 a2 a3 a4 s)
+  unfolding activated_woken
+  activated_woken_shelved n x w g v {s = s} q = activated_shelved n g v (handed_on_shelved x g w q)
+
+  pub awaits_again_shelved : (a0 : ℕ) (a1 : ℕ) {s : Core} → Shelved base s → Shelved base (awaits_again a0 a1 s)
+  unfolding awaits_again
+  awaits_again_shelved n x {s = s} q = stopped_at_shelved n (place.Waiting x true) q
+
+  pub set_delivered_stays : (a0 : Mark) (a1 : ℕ) (a2 : ℕ) (a3 : Choice) {s : Core} → Shelved base s → (a5 : Gift) → Stays base (set_delivered a0 a1 a2 a3 s a5)
+  set_delivered_stays m n x ch {s = s} q NoGift = awaits_again_shelved n x q
+  set_delivered_stays m n x ch {s = s} q g = let v = handed_out ch s g in may_stays base (may_hand_on x g ch.woken s) (Goes (event_label m n v ch.woken) (activated_woken n x ch.woken g v s) n) (activated_woken_shelved n x ch.woken g v q)
+
+  pub own_delivered_stays : (a0 : Mark) (a1 : ℕ) {s : Core} → Shelved base s → (a3 : Gift) → Stays base (own_delivered a0 a1 s a3)
+  own_delivered_stays m n {s = s} q g = let v = given_for g 0 s in activated_shelved n g v q
+
+  pub delivered_stays : (a0 : Mark) (a1 : ℕ) (a2 : Choice) {s : Core} → Shelved base s → (a4 : Delivery) → Stays base (delivered a0 a1 a2 s a4)
+  delivered_stays m n ch {s = s} q (delivery.Set x) = or_never_stays base (gift true (task_of n s) x (chosen n ch s) s) (set_delivered m n x ch s) (λ got. set_delivered_stays m n x ch q got)
+  delivered_stays m n ch {s = s} q d = own_delivered_stays m n q (own_gift_only (task_of n s) s)
+
+  pub delivery_row_stays : (a0 : Mark) (a1 : ℕ) (a2 : Choice) {s : Core} → Shelved base s → (a4 : Delivery) (a5 : Bool) → Stays base (delivery_row a0 a1 a2 s a4 a5)
+  delivery_row_stays m n ch {s = s} q d true = delivered_stays m n ch q d
+  delivery_row_stays m n ch {s = s} q d false = held_shelved n (why.Delivery d) q
+
+  pub thread_taken_for_stays : (a0 : Mark) (a1 : ℕ) (a2 : Choice) {s : Core} → Shelved base s → (a4 : Why) → Stays base (thread_taken_for a0 a1 a2 s a4)
+  thread_taken_for_stays m n ch {s = s} q why.Start = start_row_stays m n ch.woken q (admits n s why.Start)
+  thread_taken_for_stays m n ch {s = s} q (why.Delivery d) = delivery_row_stays m n ch q d (admits n s (why.Delivery d))
+  thread_taken_for_stays m n ch {s = s} q why.Resumption = running_shelved n q
+
+  pub thread_taken_stays : (a0 : Mark) (a1 : ℕ) (a2 : Choice) {s : Core} → Shelved base s → (a4 : Option Place) → Stays base (thread_taken a0 a1 a2 s a4)
+  thread_taken_stays m n ch {s = s} q (Some (place.Ready x w)) = thread_taken_for_stays m n ch q w
+  thread_taken_stays m n ch {s = s} q u1 = tt
+
+  pub take_row_stays : (a0 : Mark) (a1 : Choice) {s : Core} → Shelved base s → (a3 : Entry) → Stays base (take_row a0 a1 s a3)
+  take_row_stays m ch {s = s} q (entry.Thread n) = thread_taken_stays m n ch q (place_of n s)
+  take_row_stays m ch {s = s} q (entry.Push i) = pushed_shelved i q
+  take_row_stays m ch {s = s} q (entry.Host i) = host_row_stays m i ch.woken q
+
+  pub pended_shelved : (a0 : ℕ) (a1 : HostDef) {s : Core} → Shelved base s → Shelved base (pended a0 a1 s)
+  unfolding pended
+  pended_shelved i host {s = s} q = set_course_shelved i (course.Goes host) q
+
+  pub followed_shelved : (a0 : WorkCaller) (a1 : ℕ) {s : Core} → Shelved base s → Shelved base (followed a0 a1 s)
+  followed_shelved work_caller.Spawn i {s = s} q = set_stage_shelved i stage.Ended q
+  followed_shelved (work_caller.Async n to) i {s = s} q = push_high_shelved (entry.Host i) (set_stage_shelved i stage.Finishing q)
+  followed_shelved (work_caller.Sync n) i {s = s} q = unblocked_shelved (blocked_on (subtask.Host i) s) (set_stage_shelved i stage.Ended q)
+
+  pub work_ended_shelved : (a0 : ℕ) (a1 : Option ℕ) {s : Core} → Shelved base s → Shelved base (work_ended a0 a1 s)
+  unfolding work_ended
+  work_ended_shelved i v {s = s} q = followed_shelved (work_caller_of i s) i (set_phase_shelved i phase.Complete (set_course_shelved i (course_for v) q))
+
+  pub main_started_shelved : (a0 : Component) (a1 : Callee) (a2 : List ℕ) {s : Core} → Shelved base s → Shelved base (main_started a0 a1 a2 s)
+  unfolding main_started
+  main_started_shelved c e words {s = s} q = let k = next_thread s in put_high_shelved k why.Start (call_made_shelved caller.Main e (export_kind c e) goal.Main (s.made.groups + 1) words (add_group_shelved q))
+
+  pub main_spawned_shelved : (a0 : Component) (a1 : ℕ) {s : Core} → Shelved base s → Shelved base (main_spawned a0 a1 s)
+  unfolding main_spawned
+  main_spawned_shelved c h {s = s} q = work_queued_shelved work_caller.Spawn (host_at c h) None q
+
+  pub main_aborted_shelved : (a0 : ℕ) {s : Core} → Shelved base s → Shelved base (main_aborted a0 s)
+  unfolding main_aborted
+  main_aborted_shelved i {s = s} q = set_phase_shelved i (aborted_phase (phase_of i s)) q
+
+  pub op_row_stays : (c : Component) (n : ℕ) {s : Core} → Shelved base s → (ch : Choice) (o : Op) → Stays base (op_row c n s ch o)
+  op_row_stays c n {s = s} q ch (op.Data o) = data_row_stays c n q o
+  op_row_stays c n {s = s} q ch (op.Task o) = task_row_stays n q ch o
+  op_row_stays c n {s = s} q ch (op.Set o) = set_row_stays n q ch o
+  op_row_stays c n {s = s} q ch (op.Call o) = subtask_row_stays c n q o
+  op_row_stays c n {s = s} q ch (op.Thread o) = thread_row_stays c n q o
+
+  pub struck_shelved : (a0 : ℕ) {s : Core} → Shelved base s → Shelved base (struck a0 s)
+  unfolding struck
+  struck_shelved n {s = s} q = set_trapped_shelved (remove_threads_shelved (strand_of n s) q)

@@ -1,0 +1,5 @@
+use Rattle.task_laws.proofs.HolderLemmas as lemmas
+use Rattle.task_laws.proofs.holders.one_entry_holds.Goals as goal
+
+pub returns : goal.returns
+returns c = lemmas.runs_hold_one

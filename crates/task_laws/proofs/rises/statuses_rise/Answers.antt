@@ -1,0 +1,5 @@
+use Rattle.task_laws.proofs.SoundSteps as steps
+use Rattle.task_laws.proofs.rises.statuses_rise.Goals as goal
+
+pub returns : goal.returns
+returns c = steps.steps_rise

@@ -1,0 +1,5 @@
+use Rattle.task_laws.proofs.SoundSteps as steps
+use Rattle.task_laws.proofs.rises.sync_end_is_last.Goals as goal
+
+pub returns : goal.returns
+returns c = steps.sync_ends_last

@@ -1,0 +1,5 @@
+pub mod Settings
+pub mod Rises
+pub mod Holders
+pub mod Written
+pub mod Handles

@@ -1,0 +1,18 @@
+//! Laws of the component machine that hold of each state that a run comes to, where the scripts
+//! keep to the grammar: the ops that end an activation stand in callback exports alone, and what
+//! is called exists. Each function here is the statement of a law, about the rules that
+//! `task_rules` defines.
+#![tactic(auto)]
+
+mod handles;
+mod holders;
+mod rises;
+mod written;
+
+pub use handles::{sets_are_named_at_home, sets_are_named_once};
+pub use holders::one_entry_holds;
+pub use rises::{
+    explicit_thread_names_no_call, runs_rise, statuses_rise, sync_end_is_last,
+    sync_is_never_cancelled,
+};
+pub use written::ends_are_written_once;

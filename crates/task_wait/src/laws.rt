@@ -1,0 +1,53 @@
+//! Laws of codes and links that users of them rest on. The functions do nothing.
+ghost use Rattle.std.specs.Prelude.{◌≡◌, ◌+◌, ◌*◌, ◌<◌, ℕ, List, None, Some, IsSome, true};
+ghost use Rattle.std.specs.Option.{unwrap_or};
+ghost use Rattle.task_machine.specs.Statuses.{packed_status, status_code};
+ghost use Rattle.task_wait.specs.Codes.{unpacked};
+ghost use Rattle.task_wait.specs.Keys.{waitable_order, waiter_order};
+ghost use Rattle.task_wait.specs.Links.{ChangesOnly, is_made, linked, list_of, unlinked};
+
+use crate::keys::{Waitable, WaiterKey};
+use crate::links::{Links, Node};
+use task_machine::Status;
+
+/// The law that what [`Status::pack`] gives comes apart by [`unpack_callback_code`](crate::unpack_callback_code), into
+/// the status and the waitable's handle, or 0 where there is none.
+pub fn packed_status_unpacks(status: Status, waitable: Option<u32>)
+    ensures { unpacked (packed_status status waitable) ≡ (status_code status, unwrap_or waitable 0) }
+{
+    let _packed = (status, waitable);
+}
+
+/// The law that a callback's answer comes apart into the code and the handle that it was made of.
+pub fn callback_code_unpacks(code: u32, rest: u32)
+    requires { code < 16 }
+    ensures { unpacked (16 * rest + code) ≡ (code, rest) }
+{
+    let _parts = (code, rest);
+}
+
+/// The law that a node which is put into a live chain, or taken out of it, changes that chain and its own link alone:
+/// every other chain keeps its list, and every other node its link, or stays free.
+pub fn others_stay<P: Copy>(links: &Links<P>, chain: usize, node: Node)
+    requires chain { IsSome (list_of links.now chain) }
+    requires made { is_made links.now node.index ≡ true }
+    ensures linked { (value : P) (list : List (ℕ × P)) → ChangesOnly links.now (linked chain node.index value list links.now) chain node.index list (Some (chain, value)) }
+    ensures unlinked { (list : List (ℕ × P)) → ChangesOnly links.now (unlinked chain node.index list links.now) chain node.index list None }
+{
+    let _links = links;
+    let _parts = (chain, node);
+}
+
+/// The law of the order of waiters: by the place of the task, then of the thread, then by the thread's serial.
+pub fn waiters_by_task_and_thread(a: WaiterKey, b: WaiterKey)
+    ensures { ⟦<WaiterKey as Ord>⟧.cmp a b ≡ waiter_order a b }
+{
+    let _keys = (a, b);
+}
+
+/// The law of the order of waitables: by the kind, then by the id's place, then by its serial.
+pub fn waitables_by_kind_and_id(a: Waitable, b: Waitable)
+    ensures { ⟦<Waitable as Ord>⟧.cmp a b ≡ waitable_order a b }
+{
+    let _waitables = (a, b);
+}

@@ -1,0 +1,25 @@
+//! What waits and what wakes: the codes that a guest is given, links between entries that stand in lists, and waitable sets.
+//!
+//! A place in a list is a link that its owner made before, so that no wake and no wait takes memory.
+#![tactic(auto)]
+
+mod codes;
+mod keys;
+mod laws;
+mod links;
+mod set;
+#[cfg(test)]
+mod tests;
+
+pub use codes::{BLOCKED, EXIT, Event, WAIT, YIELD, unpack_callback_code};
+pub use keys::{
+    GroupKey, GuestTaskKey, HostTaskKey, SetKey, ThreadKey, TransmitKey, Waitable, WaitableCommon,
+    WaiterKey,
+};
+pub use laws::{
+    callback_code_unpacks, others_stay, packed_status_unpacks, waitables_by_kind_and_id,
+    waiters_by_task_and_thread,
+};
+pub use links::{Links, NoMemory, Node};
+pub use set::WaitableSet;
+pub use task_machine::Status;
