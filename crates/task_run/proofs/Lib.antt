@@ -1,1 +1,5 @@
 pub mod Fronts
+pub mod ScriptLemmas
+pub mod FirstLemmas
+pub mod StoreLemmas
+pub mod HeadlineLemmas

@@ -1,33 +1,62 @@
+ghost use Rattle.std.specs.Prelude.{◌≡◌, ◌+◌, ◌<◌, ◌^◌, ◌-◌, ◌++◌, ◌∷◌, [], length, option_copied, IfOk, IfErr, IfSome, OnOk, OnErr, Some, slice_get, slice_set};
+ghost use Rattle.task_machine.specs.declared.component.ExportDef.{ExportDef};
+ghost use Rattle.task_rules.specs.MainOps.{started_at};
+ghost use Rattle.task_rules.specs.Run.{main_opening};
+ghost use Rattle.task_rules.specs.Scripts.{export_at, values_in};
+ghost use Rattle.task_core.specs.declared.error.TaskError.TheVariants as task_error;
+ghost use Rattle.task_run.specs.declared.scenario.MainOp.TheVariants as main_op;
+ghost use Rattle.task_loop.specs.Calls.{callee_of};
+ghost use Rattle.task_loop.specs.Fit.{Fits, IsFirstComponent, given};
+ghost use Rattle.task_loop.specs.Main.{Steps};
+ghost use Rattle.task_run.specs.Script.{Suits, part_of, place_of, script_of, started};
+
 use crate::scenario::MainOp;
-use futures::task::Poll;
 use std::alloc::{AllocError, Global};
-use std::mem;
-use task_loop::{Func, FuncCallConcurrent, MainStep, MainTask, operand_value};
+use task_loop::{Func, MainStep, MainTask, operand_value};
 use task_machine::{Component, Label, MainLabel, Operand, Trap};
 use task_state::TaskError;
 use task_store::{Access, Whole};
 
-// A start by main.
-#[derive(Debug, Drop)]
-enum Start {
-    Called(Func, FuncCallConcurrent),
+// A start by main: the number of its call, or why it was refused.
+#[derive(Clone, Copy, Debug)]
+pub enum Start {
+    Called(u64),
     Refused(Trap),
-    Finished,
 }
 
 /// Main as a script: it takes its ops one by one.
 #[derive(Drop)]
 pub struct ScriptMain<'a> {
+    alloc: Global,
     ops: &'a [MainOp],
     at: usize,
     registers: [u64; 16],
     starts: Vec<Start>,
 }
 
+// The values of these operands.
+fn words_of(
+    alloc: Global,
+    registers: &[u64; 16],
+    operands: &[Operand],
+) -> Result<Vec<u64>, AllocError>
+    ensures { IfOk result (λ words. words.items ≡ values_in registers.now operands.now) }
+{
+    let mut words = Vec::new(alloc);
+    for operand in operands {
+        words.push(operand_value(registers, *operand))?;
+    }
+    Ok(words)
+}
+
 impl<'a> ScriptMain<'a> {
     /// Main at its first op, with registers 0.
-    pub fn new(alloc: Global, ops: &'a [MainOp]) -> Self {
+    pub fn new(alloc: Global, ops: &'a [MainOp]) -> Self
+        ensures place { place_of result ≡ main_opening }
+        ensures ops { result.ops.now ≡ ops.now }
+    {
         ScriptMain {
+            alloc,
             ops,
             at: 0,
             registers: [0; 16],
@@ -35,102 +64,169 @@ impl<'a> ScriptMain<'a> {
         }
     }
 
-    fn set_register(&mut self, register: u8, value: u64) {
-        if let Some(place) = self.registers.get_mut(register as usize) {
-            *place = value;
-        }
+    // The number by which labels name the next start, if there is one more.
+    fn next_start(&self) -> Option<u32>
+        ensures { IfSome result (λ k. k ≡ length self.now.starts.items + 1) }
+    {
+        let count = u32::try_from(self.starts.len()).ok()?;
+        count.checked_add(1)
     }
 
-    // The number by which labels name the next start.
-    fn next_start(&self) -> u32 {
-        match u32::try_from(self.starts.len()) {
-            Ok(count) => count.saturating_add(1),
-            Err(_) => u32::MAX,
-        }
+    // The place after this op. A script can't have so many ops that there is none.
+    fn next_place(&self) -> Option<usize>
+        ensures { IfSome result (λ at. at ≡ self.now.at + 1) }
+    {
+        self.at.checked_add(1)
     }
 
-    fn keep(&mut self, start: Start) -> Result<(), AllocError> {
+    // The op is done, and this came of a start.
+    fn keep(&mut self, start: Start) -> Result<(), AllocError>
+        ensures ops { self.new.ops ≡ self.old.ops }
+        ensures registers { self.new.registers ≡ self.old.registers }
+        ensures at { OnOk result (self.new.at ≡ self.old.at + 1) }
+        ensures starts { OnOk result (self.new.starts.items ≡ self.old.starts.items ++ start ∷ []) }
+    {
+        let Some(at) = self.next_place() else {
+            return Err(AllocError);
+        };
         self.starts.push(start)?;
+        self.at = at;
         Ok(())
     }
 
-    fn start<T, H>(
-        &mut self,
-        access: &mut Access<'_, T, Whole, H>,
-        component: &Component,
-        func: Func,
-        params: &[Operand],
-    ) -> Result<MainStep, TaskError> {
-        let mut words = [0; 16];
-        let count = params.len().min(16);
-        for (word, operand) in words.iter_mut().zip(params) {
-            *word = operand_value(&self.registers, *operand);
+    // The number of the call that a start made, or why it was refused. A start that isn't there has
+    // the number 0, which no call has.
+    fn call_at(&self, start: u32) -> Result<u64, Trap>
+        ensures { started_at (place_of self.now) start ≡ started result }
+    {
+        match self.starts.get((start as usize).saturating_sub(1)) {
+            Some(Start::Called(number)) => Ok(*number),
+            Some(Start::Refused(why)) => Err(*why),
+            None => Ok(0),
         }
-        let start = self.next_start();
-        let store = access.as_context_mut();
-        let label = match func.start_call_concurrent(component, store, &words[..count]) {
-            Ok(call) => {
-                let thread = call.thread();
-                self.keep(Start::Called(func, call))?;
-                MainLabel::Start(start, thread)
-            }
-            Err(TaskError::Trap(trap)) => {
-                self.keep(Start::Refused(trap))?;
-                MainLabel::StartRefused(trap, start)
-            }
-            Err(e) => return Err(e),
-        };
-        self.at = self.at.saturating_add(1);
-        Ok(MainStep::Did(Label::Main(label)))
     }
 
-    fn finish<T, H>(
-        &mut self,
-        access: &mut Access<'_, T, Whole, H>,
-        start: u32,
-        register: u8,
-    ) -> Result<MainStep, TaskError> {
-        let index = (start as usize).saturating_sub(1);
-        let Some(entry) = self.starts.get_mut(index) else {
-            return Ok(MainStep::Pends);
-        };
-        let label = match mem::replace(entry, Start::Finished) {
-            Start::Called(func, mut call) => {
-                match func.finish_call_concurrent(access.as_context_mut(), &mut call) {
-                    Poll::Ready(value) => {
-                        self.set_register(register, value);
-                        MainLabel::Finish(start, value)
-                    }
-                    Poll::Pending => {
-                        *entry = Start::Called(func, call);
-                        return Ok(MainStep::Pends);
-                    }
-                }
-            }
-            Start::Refused(trap) => MainLabel::FinishRefused(trap, start),
-            Start::Finished => return Ok(MainStep::Pends),
-        };
-        self.at = self.at.saturating_add(1);
-        Ok(MainStep::Did(Label::Main(label)))
+    // The value of a register.
+    #[tactic(auto, using(std::proofs::lemmas::List::set_past))]
+    fn set_register(&mut self, register: u8, value: u64)
+        ensures { self.new ≡ record self.old { registers = slice_set self.old.registers register value } }
+    {
+        if (register as usize) < self.registers.len() {
+            self.registers[register as usize] = value;
+        }
     }
 }
 
+// Main calls the export.
+fn make_start<T, H>(
+    main: &mut ScriptMain<'_>,
+    access: &mut Access<'_, T, Whole, H>,
+    component: &Component,
+    func: Func,
+    params: &[Operand],
+) -> Result<MainStep, TaskError>
+    requires first { IsFirstComponent component.now }
+    requires fits { Fits component.now access.old.store.now.state.core }
+    requires given { given access.old.store.now.state.core + 4 < 2 ^ 61 }
+    requires op { slice_get main.old.ops.now main.old.at ≡ Some (main_op.Start func params.now) }
+    requires there { (e : ExportDef) × ((export_at component.now (callee_of func) ≡ Some e) × (length params.now ≡ e.params)) }
+    ensures same { access.new.store.ghost_name ≡ access.old.store.ghost_name }
+    ensures ops { main.new.ops ≡ main.old.ops }
+    ensures current { OnOk result (access.new.store.now.state.running ≡ access.old.store.now.state.running) }
+    ensures fits { OnOk result (Fits component.now access.new.store.now.state.core) }
+    ensures ok { IfOk result (λ step. Steps component.now (script_of main.old) (part_of main.old) access.old.store.now.state.core step (part_of main.new) access.new.store.now.state.core) }
+    ensures err { IfErr result (λ e. e ≡ task_error.NoMemory) }
+{
+    let Some(number) = main.next_start() else {
+        return Err(TaskError::NoMemory);
+    };
+    let words = words_of(main.alloc, &main.registers, params)?;
+    match func.start_call_concurrent(component, access.store, words.as_slice()) {
+        Ok(call) => {
+            let thread = call.thread();
+            main.keep(Start::Called(thread))?;
+            Ok(MainStep::Did(Label::Main(MainLabel::Start(number, thread))))
+        }
+        Err(TaskError::Trap(trap)) => {
+            main.keep(Start::Refused(trap))?;
+            Ok(MainStep::Did(Label::Main(MainLabel::StartRefused(trap, number))))
+        }
+        Err(_) => Err(TaskError::NoMemory),
+    }
+}
+
+// Main finishes the call that came of a start.
+fn finish_call<T, H>(
+    main: &mut ScriptMain<'_>,
+    access: &mut Access<'_, T, Whole, H>,
+    component: &Component,
+    start: u32,
+    register: u8,
+) -> Result<MainStep, TaskError>
+    requires fits { Fits component.now access.old.store.now.state.core }
+    requires op { slice_get main.old.ops.now main.old.at ≡ Some (main_op.Finish start register) }
+    ensures same { access.new.store.ghost_name ≡ access.old.store.ghost_name }
+    ensures ops { main.new.ops ≡ main.old.ops }
+    ensures current { OnOk result (access.new.store.now.state.running ≡ access.old.store.now.state.running) }
+    ensures fits { OnOk result (Fits component.now access.new.store.now.state.core) }
+    ensures ok { IfOk result (λ step. Steps component.now (script_of main.old) (part_of main.old) access.old.store.now.state.core step (part_of main.new) access.new.store.now.state.core) }
+    ensures err { IfErr result (λ e. e ≡ task_error.NoMemory) }
+{
+    let _component = component;
+    let Some(at) = main.next_place() else {
+        return Err(TaskError::NoMemory);
+    };
+    match main.call_at(start) {
+        Ok(number) => match access.store.state.take_result(number) {
+            Some(value) => {
+                main.set_register(register, value);
+                main.at = at;
+                Ok(MainStep::Did(Label::Main(MainLabel::Finish(start, value))))
+            }
+            None => Ok(MainStep::Pends),
+        },
+        Err(why) => {
+            main.at = at;
+            Ok(MainStep::Did(Label::Main(MainLabel::FinishRefused(why, start))))
+        }
+    }
+}
+
+// The op at this place, none at the script's end.
+fn op_here(ops: &[MainOp], at: usize) -> Option<&MainOp>
+    ensures { option_copied result ≡ slice_get ops.now at }
+{
+    ops.get(at)
+}
+
 impl<T, H> MainTask<T, H> for ScriptMain<'_> {
+    ghost part = { part_of };
+
+    ghost script = { script_of };
+
+    ghost suits = { Suits };
+
     fn step(
         &mut self,
         access: &mut Access<'_, T, Whole, H>,
         component: &Component,
     ) -> Result<MainStep, TaskError> {
         let ops = self.ops;
-        match ops.get(self.at) {
+        match op_here(ops, self.at) {
             Some(MainOp::Start(func, params)) => {
-                self.start(access, component, *func, params.as_slice())
+                make_start(self, access, component, *func, params.as_slice())
             }
-            Some(MainOp::Finish(start, to)) => self.finish(access, *start, *to),
+            Some(MainOp::Finish(start, to)) => finish_call(self, access, component, *start, *to),
             Some(MainOp::Answer(value)) => {
                 Ok(MainStep::Answer(operand_value(&self.registers, *value)))
             }
-            _ => Ok(MainStep::Pends),
+            // The first grammar has no other ops.
+            Some(MainOp::Spawn(_)) => unreachable!(),
+            Some(MainOp::Abort(_)) => unreachable!(),
+            Some(MainOp::Await(_)) => unreachable!(),
+            Some(MainOp::Quiet) => unreachable!(),
+            Some(MainOp::Ready(_)) => unreachable!(),
+            None => Ok(MainStep::Pends),
         }
     }
 }

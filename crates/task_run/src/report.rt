@@ -1,5 +1,9 @@
-ghost use Rattle.std.specs.Prelude.{◌≡◌, ◌<◌, ◌≤◌, ◌++◌, ℕ, length, IfOk, IsOk, IsErrOf, OnOk};
+ghost use Rattle.std.specs.Prelude.{◌≡◌, ◌<◌, ◌≤◌, ◌++◌, ℕ, false, length, IfOk, IsOk, IsErrOf, OnOk};
 ghost use Rattle.scenario_text.specs.Grammar.{IsBadLine};
+ghost use Rattle.task_machine.specs.Core.{fresh};
+ghost use Rattle.task_state.specs.Seen.{stopped_with};
+ghost use Rattle.task_run.specs.First.{IsFirstScenario};
+ghost use Rattle.task_run.specs.Headline.{IsReportOf, IsRunOf, machine_scenario};
 ghost use Rattle.task_run.specs.Lower.{Reads};
 ghost use Rattle.task_run.specs.declared.scenario.Scenario.{Scenario};
 ghost use Rattle.task_rules.specs.Texts.{label_text, outcome_text, line_text, text};
@@ -30,47 +34,66 @@ pub struct Report {
     pub store: Store<(), ScriptedHost>,
 }
 
-// Runs a scenario in a new store.
-fn run(alloc: Global, scenario: &Scenario, steps: u32) -> Result<Report, NoMemory> {
+// A new store with this many instances.
+fn new_store(alloc: Global, instances: usize) -> Result<Store<(), ScriptedHost>, NoMemory>
+    requires { instances ≤ 4294967295 }
+    ensures state { IfOk result (λ s. s.state ≡ stopped_with (fresh instances 100000 1000000)) }
+    ensures free { IfOk result (λ s. s.running ≡ false) }
+{
     let mut store = Store::new(alloc, (), true, 1);
-    for _ in 0..scenario.component.instances.len() {
-        if store.add_instance().is_err() {
+    for _made in 0..instances {
+        let Ok(_) = store.add_instance() else {
             return Err(NoMemory);
-        }
+        };
     }
+    Ok(store)
+}
+
+// Runs a scenario in a new store.
+fn run(alloc: Global, scenario: &Scenario, steps: u32) -> Result<Report, NoMemory>
+    requires { IsFirstScenario scenario.now }
+    ensures { IfOk result (λ r. IsRunOf (machine_scenario scenario.now) steps r.trace r.outcome r.store.state.core) }
+{
+    let mut store = new_store(alloc, scenario.component.instances.len())?;
     let Ok(mut run) = run_concurrent(&mut store, scenario.idle == IdleLine::Trap) else {
         return Err(NoMemory);
     };
     let mut trace = Trace::new(alloc);
     let mut main = ScriptMain::new(alloc, scenario.main.as_slice());
-    let outcome = run.drive(
+    let driven = run.drive(
         &scenario.component,
         &mut store,
         &mut main,
         steps,
         &mut trace,
     );
+    let Ok(outcome) = driven else {
+        return Err(NoMemory);
+    };
     run.end(&mut store);
-    match outcome {
-        Ok(outcome) => Ok(Report {
-            trace,
-            outcome,
-            store,
-        }),
-        Err(_) => Err(NoMemory),
-    }
+    Ok(Report {
+        trace,
+        outcome,
+        store,
+    })
 }
 
 /// Runs the scenario of a text of at most 1,048,576 bytes for at most `steps` steps, 1 to
-/// 1,000,000. A text that is no scenario is refused at its first bad line.
+/// 1,000,000. The report's labels are those of a run of the component machine from the scenario's
+/// opening state, its outcome is what that run has come to, and its store has the run's last state
+/// as its image. A text that is no scenario is refused at its first bad line.
 pub fn run_scenario(alloc: Global, text: &[u8], steps: u32) -> Result<Report, RunError>
     requires text { length text.now ≤ 1048577 }
     requires steps { 0 < steps }
+    ensures ran { IfOk result (λ r. IsReportOf text.now steps r) }
     ensures taken { IsOk result → (x : Scenario) × Reads text.now x }
     ensures refused { (n : ℕ) → IsErrOf result (RunError.BadScenario n) → IsBadLine text.now n }
 {
     let scenario = read_scenario(alloc, text)?;
-    run(alloc, &scenario, steps).map_err(|_| RunError::NoMemory)
+    match run(alloc, &scenario, steps) {
+        Ok(report) => Ok(report),
+        Err(_) => Err(RunError::NoMemory),
+    }
 }
 
 /// Adds the line of a label.

@@ -1,0 +1,33 @@
+use Rattle.std.proofs.Common.{◌≡◌, ◌∙◌, ap, refl, subst, sym}
+use Rattle.std.specs.Option.{option_map}
+use Rattle.std.proofs.lemmas.Option.{slice_get-map}
+use Rattle.task_machine.specs.declared.label.Label.TheVariants as label
+use Rattle.task_machine.specs.declared.label.MainLabel.TheVariants as main_label
+use Rattle.task_machine.specs.declared.scenario.MainOp.TheVariants as machine
+use Rattle.task_machine.specs.Core.{Core, Main, Scripted}
+use Rattle.task_machine.specs.Write.{take_result}
+use Rattle.task_rules.specs.MainOps.{finish_act, finish_result}
+use Rattle.task_loop.specs.Main.{Did, Pends}
+use Rattle.task_run.specs.Script.{machine_op, part_of, place_of, script_of}
+use Rattle.task_state.specs.Seen.{Seen}
+use Rattle.task_loop.proofs.FitLemmas.{fits-take_result}
+use Rattle.task_run.proofs.ScriptLemmas.{did_by_row, pends_by_row}
+use Rattle.task_run.proofs.main_script.finish_call.Goals as goal
+
+pub returns-in-Some-take_result-clause-fits : goal.returns-in-Some-take_result-clause-fits
+returns-in-Some-take_result-clause-fits c w = rw (w.in-Some-take_result.ensures.taken refl) (fits-take_result w.args.component.now w.args.access.now.store.now.state.core w.requires.fits _)
+
+pub returns-in-Some-take_result-clause-ok : goal.returns-in-Some-take_result-clause-ok
+returns-in-Some-take_result-clause-ok c w =
+    let row = ap (finish_act w.args.start w.args.access.now.store.now.state.core) w.in-Ok.ensures ∙ ap (finish_result w.args.start _ w.args.access.now.store.now.state.core) (sym w.in-Some-take_result.ensures.value) in
+    rw (w.in-Some-take_result.ensures.taken refl, w.set_register.ensures, w.in-Some.ensures)
+    (did_by_row w.args.component.now (script_of w.args.main.now) (place_of w.args.main.now) w.args.access.now.store.now.state.core (machine.Finish w.args.start w.args.register) (slice_get-map machine_op w.args.main.now.ops.now w.args.main.now.at ∙ ap (option_map machine_op) w.requires.op) (main_label.Finish w.args.start w.in-Some-take_result.value) _ row tt)
+
+pub returns-in-None-clause-ok : goal.returns-in-None-clause-ok
+returns-in-None-clause-ok c w =
+    let row = ap (finish_act w.args.start w.args.access.now.store.now.state.core) w.in-Ok.ensures ∙ ap (finish_result w.args.start _ w.args.access.now.store.now.state.core) (sym w.in-None.ensures.value) in
+    rw w.in-None.ensures.none (pends_by_row w.args.component.now (script_of w.args.main.now) (place_of w.args.main.now) w.args.access.now.store.now.state.core (machine.Finish w.args.start w.args.register) (slice_get-map machine_op w.args.main.now.ops.now w.args.main.now.at ∙ ap (option_map machine_op) w.requires.op) row)
+
+pub returns-in-Err-clause-ok : goal.returns-in-Err-clause-ok
+returns-in-Err-clause-ok c w =
+    rw w.in-Some.ensures (did_by_row w.args.component.now (script_of w.args.main.now) (place_of w.args.main.now) w.args.access.now.store.now.state.core (machine.Finish w.args.start w.args.register) (slice_get-map machine_op w.args.main.now.ops.now w.args.main.now.at ∙ ap (option_map machine_op) w.requires.op) (main_label.FinishRefused w.in-Err.why w.args.start) _ (ap (finish_act w.args.start w.args.access.now.store.now.state.core) w.in-Err.ensures) tt)

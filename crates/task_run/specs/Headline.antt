@@ -1,0 +1,45 @@
+-- What a report says of a scenario: the printed steps are a run of the component machine.
+use Rattle.std.specs.Prelude.{◌≡◌, ℕ, ◌≤◌, List, length, map}
+use Rattle.task_loop.specs.declared.trace.Trace.{Trace}
+use Rattle.task_machine.specs.declared.label.Label.{Label}
+use Rattle.task_machine.specs.declared.outcome.Outcome.{Outcome}
+use Rattle.task_machine.specs.declared.scenario.InstanceNames.{InstanceNames as MachineNames}
+use Rattle.task_machine.specs.declared.scenario.Scenario.{Scenario as MachineScenario}
+use Rattle.task_machine.specs.Core.{Core, State}
+use Rattle.task_rules.specs.Outcome.{IsOutcome}
+use Rattle.task_rules.specs.Run.{Run, opens}
+use Rattle.task_rules.specs.Stalled.{setting_of}
+use Rattle.task_run.specs.declared.report.Report.{Report}
+use Rattle.task_run.specs.declared.scenario.InstanceNames.{InstanceNames}
+use Rattle.task_run.specs.declared.scenario.Scenario.{Scenario}
+use Rattle.task_run.specs.Lower.{Reads}
+use Rattle.task_run.specs.Script.{machine_ops}
+
+abbrev pub machine_names : InstanceNames → MachineNames
+machine_names n = record { instance = n.instance; exports = n.exports }
+
+-- the scenario as the machine has it
+abbrev pub machine_scenario : Scenario → MachineScenario
+machine_scenario x = record {
+  handles = x.handles;
+  table = x.table;
+  idle = x.idle;
+  component = x.component;
+  names = map machine_names x.names;
+  main = machine_ops x.main;
+  aborters = x.aborters;
+}
+
+-- Some run of the scenario with at most so many steps shows these labels, has come to this, and its last state has this core.
+pub record IsRunOf (x : MachineScenario) (steps : ℕ) (trace : List Label) (outcome : Outcome) (core : Core) : Type 0 where
+  pub last : State
+  pub run : Run (setting_of x) (opens x) trace last
+  pub few : length trace ≤ steps
+  pub ends : IsOutcome (setting_of x) last trace steps outcome
+  pub image : core ≡ last.core
+
+-- The report is of a run of the scenario that the text stands for.
+pub record IsReportOf (text : List ℕ) (steps : ℕ) (r : Report) : Type 0 where
+  pub scenario : Scenario
+  pub reads : Reads text scenario
+  pub run : IsRunOf (machine_scenario scenario) steps r.trace r.outcome r.store.state.core

@@ -1,0 +1,65 @@
+-- Main as a script.
+use Rattle.std.specs.Prelude.{◌≡◌, ℕ, Bool, true, false, List, [], Some, Result, Ok, Err, map, length, slice_get}
+use Rattle.task_machine.specs.declared.component.Component.{Component}
+use Rattle.task_machine.specs.declared.scenario.MainOp.{MainOp as Machine}
+use Rattle.task_machine.specs.declared.scenario.MainOp.TheVariants as machine
+use Rattle.task_machine.specs.declared.component.ExportDef.{ExportDef}
+use Rattle.task_machine.specs.declared.op.Operand.{Operand}
+use Rattle.task_machine.specs.declared.trap.Trap.{Trap}
+use Rattle.task_machine.specs.Core.{Began, Main, MainPlace, Refused, Scripted, Started}
+use Rattle.task_rules.specs.Scripts.{export_at}
+use Rattle.task_run.specs.declared.scenario.MainOp.{MainOp}
+use Rattle.task_run.specs.declared.scenario.MainOp.TheVariants as op
+use Rattle.task_loop.specs.declared.call.Func.{Func}
+use Rattle.task_run.specs.declared.main_script.ScriptMain.{ScriptMain}
+use Rattle.task_run.specs.declared.main_script.Start.{Start}
+use Rattle.task_run.specs.declared.main_script.Start.TheVariants as start
+use Rattle.task_loop.specs.Calls.{callee_of}
+
+-- the machine's op
+abbrev pub machine_op : MainOp → Machine
+machine_op (op.Start f xs) = machine.Start (callee_of f) xs
+machine_op (op.Finish k r) = machine.Finish k r
+machine_op (op.Spawn h) = machine.Spawn h
+machine_op (op.Abort k) = machine.Abort k
+machine_op (op.Await k) = machine.Await k
+machine_op op.Quiet = machine.Quiet
+machine_op (op.Ready f) = machine.Ready (callee_of f)
+machine_op (op.Answer x) = machine.Answer x
+
+-- the op as the machine has it, at each place
+abbrev pub machine_ops : List MainOp → List Machine
+machine_ops ops = map machine_op ops
+
+-- a start, a finish or an answer
+abbrev pub is_first_op : MainOp → Bool
+is_first_op (op.Start f xs) = true
+is_first_op (op.Finish k r) = true
+is_first_op (op.Answer x) = true
+is_first_op _ = false
+
+-- The script has ops of the first grammar alone. Each export that it calls is the component's, and takes as many words.
+pub record SuitsOps (ops : List MainOp) (c : Component) : Type 0 where
+  pub first : (i : ℕ) (o : MainOp) → slice_get ops i ≡ Some o → is_first_op o ≡ true
+  pub starts : (i : ℕ) (f : Func) (xs : List Operand) → slice_get ops i ≡ Some (op.Start f xs) → (e : ExportDef) × ((export_at c (callee_of f) ≡ Some e) × (length xs ≡ e.params))
+
+abbrev pub started_of : Start → Started
+started_of (start.Called n) = Began n
+started_of (start.Refused why) = Refused why
+
+-- where the script is
+abbrev pub place_of : ScriptMain → MainPlace
+place_of m = record { position = m.at; registers = m.registers; starts = map started_of m.starts.items; spawns = [] }
+
+abbrev pub part_of : ScriptMain → Main
+part_of m = Scripted (place_of m)
+
+abbrev pub script_of : ScriptMain → List Machine
+script_of m = machine_ops m.ops.now
+
+abbrev pub Suits : ScriptMain → Component → Type 0
+Suits m c = SuitsOps m.ops.now c
+
+abbrev pub started : Result ℕ Trap → Started
+started (Ok n) = Began n
+started (Err why) = Refused why
