@@ -5,3 +5,4 @@ pub mod DriveLemmas
 pub mod StepLemmas
 pub mod RunLemmas
 pub mod TurnLemmas
+pub mod CallLemmas
