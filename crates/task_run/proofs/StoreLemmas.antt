@@ -18,10 +18,10 @@ module _ {X : Type 0} (x : X) where
     | inr other ↦ ap is_some (get-insert_other (filled x n) n x q other) ∙ is_some-filled n q ∙ grind (arith, other)
   ]
 
-  pub is_some-list : (xs : List X) (q : ℕ) → is_some (slice_get xs q) ≡ nat_lt q (length xs)
-  is_some-list [] q = grind arith
-  is_some-list (y ∷ xs) zero = grind arith
-  is_some-list (y ∷ xs) (suc q) = is_some-list xs q ∙ grind arith
+pub is_some-list : {X : Type 0} (xs : List X) (q : ℕ) → is_some (slice_get xs q) ≡ nat_lt q (length xs)
+is_some-list [] q = grind arith
+is_some-list (y ∷ xs) zero = grind arith
+is_some-list (y ∷ xs) (suc q) = is_some-list xs q ∙ grind arith
 
 nothing_in : {X Y : Type 0} (q : ℕ) (x : X) → get (empty {X = X}) q ≡ Some x → Y
 nothing_in {X = X} q x is = let none : get (empty {X = X}) q ≡ None = get-empty q in absurd (cc)

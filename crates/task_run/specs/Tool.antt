@@ -6,7 +6,9 @@ use Rattle.scenario_text.specs.Grammar.{IsBadLine}
 use Rattle.task_machine.specs.declared.label.Label.{Label}
 use Rattle.task_machine.specs.declared.outcome.Outcome.{Outcome}
 use Rattle.task_rules.specs.Texts as texts
+use Rattle.task_run.specs.declared.report.Report.{Report}
 use Rattle.task_run.specs.declared.scenario.Scenario.{Scenario}
+use Rattle.task_run.specs.Headline.{IsReportOf}
 use Rattle.task_run.specs.Lower.{Reads}
 use Rattle.task_run.specs.Pump.{IsTaken, IsFront}
 
@@ -36,6 +38,12 @@ SaysOrFails held text now end result = ((result ≡ end) × (now ≡ Some (held 
 pub record IsText (all : List ℕ) (left : Option (List ℕ)) (text : List ℕ) : Type 0 where
   pub taken : IsTaken all text left
   pub ended : length text ≤ 1048576 → left ≡ Some []
+
+-- The text of a scenario was read, and the report is of a run of it with at most n steps.
+pub record Ran (all : List ℕ) (left : Option (List ℕ)) (n : ℕ) (r : Report) : Type 0 where
+  pub text : List ℕ
+  pub read : IsText all left text
+  pub report : IsReportOf text n r
 
 -- a text outside the grammar was read, and its bad line is written
 pub record SaysBadLine (all : List ℕ) (left : Option (List ℕ)) (held : List ℕ) (now : Option (List ℕ)) : Type 0 where

@@ -3,7 +3,7 @@ ghost use Rattle.task_run.specs.Outside.{HasRisen};
 ghost use Rattle.task_run.specs.Pump.{IsFront};
 ghost use Rattle.task_run.specs.Lower.{Reads};
 ghost use Rattle.task_rules.specs.Texts.{text};
-ghost use Rattle.task_run.specs.Tool.{IsRun, IsText, IsCut, IsWanting, SaysBadLine, SaysOrFails, bad_line_text, usage_text, status_of};
+ghost use Rattle.task_run.specs.Tool.{IsRun, IsText, IsCut, Ran, IsWanting, SaysBadLine, SaysOrFails, bad_line_text, usage_text, status_of};
 ghost use Rattle.task_run.specs.declared.scenario.Scenario.{Scenario};
 
 use crate::outside::{Sink, Source};
@@ -148,6 +148,7 @@ fn run<S: Source, K: Sink>(
     ensures write { IsErrOf result End.WriteFailed → HasRisen (K.faults sink.old) (K.faults sink.new) }
     ensures unwritten { IsErrOf result End.ReadFailed → sink.new ≡ sink.old }
     ensures written { (held : List ℕ) → K.held sink.old ≡ Some held → IfOk result (λ r. K.held sink.new ≡ Some (held ++ text r.trace r.outcome)) }
+    ensures ran { (all : List ℕ) → S.left source.old ≡ Some all → IfOk result (λ r. Ran all (S.left source.new) steps r) }
     ensures done { (all : List ℕ) → S.left source.old ≡ Some all → IsOk result → (text : List ℕ) × IsText all (S.left source.new) text × ((x : Scenario) × Reads text x) }
     ensures bad { (all held : List ℕ) → S.left source.old ≡ Some all → K.held sink.old ≡ Some held → IsErrOf result End.BadScenario → SaysBadLine all (S.left source.new) held (K.held sink.new) }
     ensures wanting { (all held : List ℕ) → S.left source.old ≡ Some all → K.held sink.old ≡ Some held → IsErrOf result End.NoMemory → IsWanting all (S.left source.new) held (K.held sink.new) }
@@ -183,6 +184,7 @@ fn call<S: Source, K: Sink>(
     ensures write { IsErrOf result End.WriteFailed → HasRisen (K.faults sink.old) (K.faults sink.new) }
     ensures unwritten { IsErrOf result End.ReadFailed → sink.new ≡ sink.old }
     ensures written { (held : List ℕ) → K.held sink.old ≡ Some held → IfOk result (λ r. K.held sink.new ≡ Some (held ++ text r.trace r.outcome)) }
+    ensures ran { (all : List ℕ) → S.left source.old ≡ Some all → IfOk result (λ r. (n : ℕ) × (IsRun (map string_bytes words.now) n × Ran all (S.left source.new) n r)) }
     ensures done { (all : List ℕ) → S.left source.old ≡ Some all → IsOk result → (text : List ℕ) × IsText all (S.left source.new) text × ((x : Scenario) × Reads text x) }
     ensures bad { (all held : List ℕ) → S.left source.old ≡ Some all → K.held sink.old ≡ Some held → IsErrOf result End.BadScenario → SaysBadLine all (S.left source.new) held (K.held sink.new) }
     ensures wanting { (all held : List ℕ) → S.left source.old ≡ Some all → K.held sink.old ≡ Some held → IsErrOf result End.NoMemory → IsWanting all (S.left source.new) held (K.held sink.new) }
@@ -217,6 +219,8 @@ pub fn tool<S: Source, K: Sink>(
     // Status 0 comes with the report that was run, and with its text.
     ensures report { MatchOption result.report (result.status ≢ 0) (λ r. result.status ≡ 0) }
     ensures written { (held : List ℕ) → K.held sink.old ≡ Some held → IfSome result.report (λ r. K.held sink.new ≡ Some (held ++ text r.trace r.outcome)) }
+    // The report of status 0 is of a run of the scenario that was read.
+    ensures ran { (all : List ℕ) → S.left source.old ≡ Some all → IfSome result.report (λ r. (n : ℕ) × (IsRun (map string_bytes words.now) n × Ran all (S.left source.new) n r)) }
     // With status 0 the text was a scenario's, with 3 it was none.
     ensures done { (all : List ℕ) → S.left source.old ≡ Some all → result.status ≡ 0 → (text : List ℕ) × IsText all (S.left source.new) text × ((x : Scenario) × Reads text x) }
     ensures bad { (all held : List ℕ) → S.left source.old ≡ Some all → K.held sink.old ≡ Some held → result.status ≡ 3 → SaysBadLine all (S.left source.new) held (K.held sink.new) }

@@ -1,6 +1,7 @@
 ghost use Rattle.std.specs.Prelude.{◌≡◌, ◌<◌, ◌≤◌, ◌++◌, ℕ, false, length, IfOk, IsOk, IsErrOf, OnOk};
 ghost use Rattle.scenario_text.specs.Grammar.{IsBadLine};
 ghost use Rattle.task_machine.specs.Core.{fresh};
+ghost use Rattle.task_loop.specs.Turn.{idle_line_of};
 ghost use Rattle.task_state.specs.Seen.{stopped_with};
 ghost use Rattle.task_run.specs.First.{IsFirstScenario};
 ghost use Rattle.task_run.specs.Headline.{IsReportOf, IsRunOf, machine_scenario};
@@ -49,13 +50,23 @@ fn new_store(alloc: Global, instances: usize) -> Result<Store<(), ScriptedHost>,
     Ok(store)
 }
 
+// Whether a run ends as a deadlock where nothing can go on.
+fn traps_on_idle(idle: IdleLine) -> bool
+    ensures { idle_line_of result ≡ idle }
+{
+    match idle {
+        IdleLine::Trap => true,
+        IdleLine::Wait => false,
+    }
+}
+
 // Runs a scenario in a new store.
 fn run(alloc: Global, scenario: &Scenario, steps: u32) -> Result<Report, NoMemory>
     requires { IsFirstScenario scenario.now }
     ensures { IfOk result (λ r. IsRunOf (machine_scenario scenario.now) steps r.trace r.outcome r.store.state.core) }
 {
     let mut store = new_store(alloc, scenario.component.instances.len())?;
-    let Ok(mut run) = run_concurrent(&mut store, scenario.idle == IdleLine::Trap) else {
+    let Ok(mut run) = run_concurrent(&mut store, traps_on_idle(scenario.idle)) else {
         return Err(NoMemory);
     };
     let mut trace = Trace::new(alloc);

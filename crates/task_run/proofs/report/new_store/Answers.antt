@@ -1,0 +1,25 @@
+use Rattle.std.proofs.Common.{◌≡◌, ◌<◌, ◌≤◌, ◌+◌, ◌∙◌, ℕ, suc, ap, arith}
+use Rattle.task_core.specs.Shown.{with_instance}
+use Rattle.task_core.proofs.Laws.{fresh_more, size-fresh}
+use Rattle.task_machine.specs.Core.{fresh}
+use Rattle.task_machine.specs.Maps.{size}
+use Rattle.task_state.specs.Seen.{Seen, stopped_with, with_core}
+use Rattle.task_run.proofs.report.new_store.Goals as goal
+
+pub add_instance-requires : goal.add_instance-requires
+add_instance-requires c =
+    let count : size c.loop-made.store.state.core.instances ≡ c.loop-made._made = ap (λ (s : Seen). size s.core.instances) c.loop-made.invariant.state ∙ size-fresh c.loop-made._made 100000 1000000 in
+    let few : c.args.instances ≤ 4294967295 = c.requires in
+    let below : c.loop-made._made < c.args.instances = c.loop-made-test.true in
+    omega arith
+
+pub loop-made-preserved : goal.loop-made-preserved
+loop-made-preserved c =
+    let next : suc c.loop-made._made ≡ c.loop-made._made + 1 = omega arith in
+    record {
+      state =
+          rw c.in-Ok.ensures.ok
+          (ap (λ (s : Seen). with_core (with_instance s.core) s) c.loop-made.invariant.state
+          ∙ ap stopped_with (fresh_more c.loop-made._made 100000 1000000 ∙ ap (λ n. fresh n 100000 1000000) next));
+      free = rw c.in-Ok.ensures.ok c.loop-made.invariant.free;
+    }
