@@ -12,18 +12,16 @@ ghost use Rattle.task_loop.specs.Main.{Steps};
 ghost use Rattle.task_loop.specs.Turn.{Makes, Turns};
 ghost use Rattle.task_loop.specs.Made.{made_by, made_by_main, op_of_return, IsReturn, Took};
 
-use task_store::Access;
 use crate::component::{operand_value, script_op};
 use crate::instance::Instance;
 use crate::main_task::{MainStep, MainTask};
-use task_state::Running;
-use task_store::Store;
-use task_state::Taken;
 use task_core::{NoMemory, TaskError};
 use task_machine::{
     Component, IdleLine, Label, LoopLabel, MainLabel, Mark, Op, Operand, Script, TakeLabel,
     TaskLabel, TaskOp, Trap,
 };
+use task_state::{Running, Taken};
+use task_store::{Access, Store};
 
 /// Whose turn it is.
 #[derive(Clone, Copy, Debug, PartialEq, Eq)]
