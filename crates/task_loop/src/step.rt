@@ -1,5 +1,5 @@
 //! One step: main takes an op, an entry is taken, or the running thread takes its op.
-ghost use Rattle.std.specs.Prelude.{◌≡◌, ◌+◌, ◌<◌, ◌^◌, ℕ, true, None, [], slice_get, unwrap_or, IsSome, IfSome, IfOk, OnOk};
+ghost use Rattle.std.specs.Prelude.{◌≡◌, ◌+◌, ◌<◌, ◌^◌, ℕ, true, None, [], slice_get, unwrap_or, IsSome, IfSome, IfOk, IfErr, OnOk};
 ghost use Rattle.task_machine.specs.Core.{Main};
 ghost use Rattle.task_rules.specs.Scripts.{op_of, script_in};
 ghost use Rattle.task_rules.specs.Stalled.{Setting, main_pends};
@@ -98,6 +98,7 @@ fn ask_main<T, H, M: MainTask<T, H>>(
     ensures current { OnOk result (store.new.state.running ≡ store.old.state.running) }
     ensures fits { OnOk result (Fits component.now store.new.state.core) }
     ensures ok { IfOk result (λ step. Steps component.now (M.script main.old) (M.part main.old) store.old.state.core step (M.part main.new) store.new.state.core) }
+    ensures err { IfErr result (λ e. e ≡ TaskError.NoMemory) }
 {
     let mut access = Access::new(store);
     main.step(&mut access, component)
