@@ -59,10 +59,7 @@ fn store(alloc: Global) -> Result<Store<(), ()>, Fail>
 }
 
 // A call of that export with 7, in a store in which nothing was made but the instance.
-fn called(
-    component: &Component,
-    store: &mut Store<(), ()>,
-) -> Result<FuncCallConcurrent, Fail>
+fn called(component: &Component, store: &mut Store<(), ()>) -> Result<FuncCallConcurrent, Fail>
     requires first { IsFirstComponent component.now }
     requires there { IsSome (export_at component.now (callee_of CALLEE)) }
     requires params { IfSome (export_at component.now (callee_of CALLEE)) (λ e. 1 ≡ e.params) }
@@ -167,7 +164,9 @@ fn returned(alloc: Global, ty: u32) -> Result<Result<(), TaskError>, Fail> {
         return Err(Fail::from("a thread that runs"));
     };
     store.state.is_whole();
-    let running = store.state.running().ok_or("a thread")?;
+    let Some(running) = store.state.running() else {
+        return Err(Fail::from("a thread"));
+    };
     let instance = Instance {
         index: running.callee.instance,
     };
