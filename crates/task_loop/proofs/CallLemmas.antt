@@ -2,14 +2,14 @@
 use Rattle.std.proofs.Common.{ap, arith, refl, subst, sym, ◌∙◌, ◌≤◌}
 use Rattle.std.proofs.lemmas.Bool.{false≢true}
 use Rattle.std.specs.Option.{option_map_or}
-use Rattle.std.specs.Prelude.{Bool, Err, IfSome, IsSome, List, None, Ok, Option, Some, false, length, option_map, true, ℕ, ◌+◌, ◌≡◌}
+use Rattle.std.specs.Prelude.{Err, IfSome, IsSome, List, None, Ok, Option, Some, false, option_map, true, ℕ, ◌+◌, ◌≡◌}
 use Rattle.task_core.specs.declared.error.TaskError.{TaskError}
 use Rattle.task_core.specs.declared.error.TaskError.TheVariants as task_error
 use Rattle.task_machine.specs.declared.component.Callee.{Callee}
 use Rattle.task_machine.specs.declared.component.Component.{Component}
 use Rattle.task_machine.specs.declared.component.ExportDef.{ExportDef}
-use Rattle.task_machine.specs.declared.component.ExportKind.{ExportKind}
 use Rattle.task_machine.specs.declared.component.ExportKind.TheVariants as kind
+use Rattle.task_machine.specs.declared.trap.Trap.{Trap}
 use Rattle.task_machine.specs.declared.trap.Trap.TheVariants as trap
 use Rattle.task_machine.specs.Core.{Core}
 use Rattle.task_machine.specs.Read.{fits}
@@ -22,8 +22,9 @@ use Rattle.task_simple.proofs.RowLemmas.{main_started_is}
 use Rattle.task_state.specs.Seen.{Seen, with_core}
 use Rattle.task_loop.specs.declared.call.FuncCallConcurrent.{FuncCallConcurrent}
 use Rattle.task_loop.specs.Calls.{Starts}
-use Rattle.task_loop.specs.Fit.{Fits, IsFirstComponent}
+use Rattle.task_loop.specs.Fit.{Fits, IsFirstComponent, given}
 use Rattle.task_loop.proofs.FitLemmas.{fits-call}
+use Rattle.task_loop.proofs.GivenLemmas.{given-main_started}
 
 -- ---- Exports of the first grammar
 
@@ -79,3 +80,16 @@ module _ (c : Component) (first : IsFirstComponent c) (e : Callee) (there : IsSo
 
     pub starts_not : s.core.trapped ≡ false → fits 4 s.core ≡ true → (t : Seen) → t.core.trapped ≡ true → Starts c e words s (start_refusal s.core) (Err task_error.NoMemory) t
     starts_not untrapped room t trapped = subst (λ o. Starts c e words s o (Err task_error.NoMemory) t) (sym (not_refused untrapped room)) (refl, trapped)
+
+-- ---- A start that is made
+
+module _ (c : Component) (e : Callee) (words : List ℕ) (s : Seen) (call : FuncCallConcurrent) (t : Seen) where
+  pub started_core : (o : Option Trap) → Starts c e words s o (Ok call) t → t ≡ with_core (main_started c e words s.core) s
+  started_core None h = h.1
+  started_core (Some why) h = absurd (let clash = h.0 in cc)
+
+  pub started_given : (o : Option Trap) → Starts c e words s o (Ok call) t → given t.core ≡ given s.core + 2
+  started_given o h = ap (λ (u : Seen). given u.core) (started_core o h) ∙ given-main_started c e words s.core
+
+  pub started_current : (o : Option Trap) → Starts c e words s o (Ok call) t → t.running ≡ s.running
+  started_current o h = ap (λ (u : Seen). u.running) (started_core o h)

@@ -1,7 +1,7 @@
 -- The moves of a store keep it fit for its component.
 use Rattle.std.proofs.Common.{ap, arith, refl, subst, sym, ◌∙◌, ◌≤◌, ◌<◌}
 use Rattle.std.specs.Option.{option_map_or}
-use Rattle.std.specs.Prelude.{Bool, List, None, Option, Some, [], false, true, is_some, length, option_map, ℕ, ◌+◌, ◌≡◌, ◌≢◌}
+use Rattle.std.specs.Prelude.{Bool, List, None, Option, Some, [], false, true, is_some, length, option_map, ℕ, ◌+◌, ◌≡◌}
 use Rattle.task_machine.specs.declared.component.Callee.{Callee}
 use Rattle.task_machine.specs.declared.component.Component.{Component}
 use Rattle.task_machine.specs.declared.component.ExportKind.{ExportKind}
@@ -21,18 +21,18 @@ use Rattle.task_machine.specs.declared.records.Script.TheVariants as script
 use Rattle.task_machine.specs.declared.records.Thread.{Thread}
 use Rattle.task_machine.specs.declared.words.Mark.TheVariants as mark
 use Rattle.task_machine.specs.Core.{Core}
-use Rattle.task_machine.specs.Maps.{Records, change, get, insert, remove}
+use Rattle.task_machine.specs.Maps.{Records, change, get, remove}
 use Rattle.task_machine.specs.Read.{callee_of, instance_of, new_thread_handle, no_callee, position_of}
 use Rattle.task_machine.specs.Write.{add_call, add_group, add_thread, free_thread_handle, give_result, give_thread_handle, on_call, on_instance, on_thread, push_high, remove_call, remove_group, remove_thread, set_do_not_enter, set_end, set_high, set_place, set_position, set_started, set_starting_published, set_thread_handle, set_trapped, take_result}
 use Rattle.task_machine.proofs.MapLemmas.{change-field, get-remove_other, get-remove_same}
-use Rattle.task_rules.specs.Calls.{new_call, new_thread, next_thread}
+use Rattle.task_rules.specs.Calls.{new_call, new_thread}
 use Rattle.task_rules.specs.Scripts.{export_at, registers_for, script_in, script_of, script_of_thread}
 use Rattle.task_rules.specs.Takes.{popped}
 use Rattle.task_simple.specs.Forms.{call_started, exit_done, return_done, start_done, start_put_off, trap_done}
 use Rattle.task_simple.specs.Simple.{IsPlain, held_start, ready_start}
-use Rattle.task_simple.proofs.BeginLemmas.{no_call_yet, no_thread_yet}
-use Rattle.task_simple.proofs.CaseLemmas.{change_cases, either, insert_cases, remove_cases}
-use Rattle.task_simple.proofs.FoundLemmas.{position_found, return_done_is}
+use Rattle.task_simple.proofs.BeginLemmas.{no_thread_yet}
+use Rattle.task_simple.proofs.CaseLemmas.{change_cases, either, insert_cases}
+use Rattle.task_simple.proofs.FoundLemmas.{return_done_is}
 use Rattle.task_loop.specs.Fit.{Fits, IsPlaced}
 
 -- ---- Less is told by one map than by another, of a part of each record
@@ -225,10 +225,10 @@ module _ (c : Component) (s : Core) (fits : Fits c s) where
     threads = λ q u is.
         change_cases s.threads n {P = (d : Call) → get s.calls u.call ≡ Some d → IsPlaced c d u} (λ t. record t { position = p }) q u is
         (λ t e found same d call.
-            let call_t : get s.calls t.call ≡ Some d = ap (λ (y : Thread). get s.calls y.call) (sym same) ∙ call in
-            let place_t : p ≤ length (script_in c d.callee t.script) = there t found d call_t in
-            let op_t = (fits.threads n t found d call_t).op in
-            subst (IsPlaced c d) (sym same) (record { place = place_t; op = op_t }))
+        let call_t : get s.calls t.call ≡ Some d = ap (λ (y : Thread). get s.calls y.call) (sym same) ∙ call in
+        let place_t : p ≤ length (script_in c d.callee t.script) = there t found d call_t in
+        let op_t = (fits.threads n t found d call_t).op in
+        subst (IsPlaced c d) (sym same) (record { place = place_t; op = op_t }))
         (λ ne found d call. fits.threads q u found d call);
   }
 
@@ -247,13 +247,13 @@ fits-return c s plain fits n v t found before =
     let in_b = fits_keeps c a b (keeps_same a b refl refl refl) in_a in
     subst (Fits c) (sym (return_done_is v s plain n t found))
     (fits-set_position c b in_b n p (λ u is d call.
-        let threads_same : get b.threads n ≡ get s.threads n = ap (λ m. get m n) (threads_kept n v s) in
-        let same : u ≡ t = (let there = sym threads_same ∙ is in cc) in
-        let e = found_key call_key (get s.calls u.call) (call_key d) ((keeps-set_end n call_end.Returned s).calls u.call (call_key d) (ap (option_map call_key) call)) in
-        let callee : callee_of u.call s ≡ d.callee = ap (λ o. option_map_or (λ c. c.callee) o no_callee) e.1.0 ∙ ap (λ (y : CallKey). y.0) e.1.1 in
-        let lengths : length (script_of c n s) ≡ length (script_in c d.callee u.script) =
-            ap (λ o. length (option_map_or (script_of_thread c s) o [])) (found ∙ ap (λ y. Some y) (sym same)) ∙ ap (λ f. length (script_in c f u.script)) callee in
-        omega (arith, lengths, before)))
+    let threads_same : get b.threads n ≡ get s.threads n = ap (λ m. get m n) (threads_kept n v s) in
+    let same : u ≡ t = (let there = sym threads_same ∙ is in cc) in
+    let e = found_key call_key (get s.calls u.call) (call_key d) ((keeps-set_end n call_end.Returned s).calls u.call (call_key d) (ap (option_map call_key) call)) in
+    let callee : callee_of u.call s ≡ d.callee = ap (λ o. option_map_or (λ c. c.callee) o no_callee) e.1.0 ∙ ap (λ (y : CallKey). y.0) e.1.1 in
+    let lengths : length (script_of c n s) ≡ length (script_in c d.callee u.script) =
+    ap (λ o. length (option_map_or (script_of_thread c s) o [])) (found ∙ ap (λ y. Some y) (sym same)) ∙ ap (λ f. length (script_in c f u.script)) callee in
+    omega (arith, lengths, before)))
 
 -- a call by main of an export of this kind
 module _ (c : Component) (s : Core) (plain : IsPlain s) (fits : Fits c s) where

@@ -1,14 +1,12 @@
 -- A step of main makes few numbers.
-use Rattle.std.proofs.Common.{◌≡◌, ◌≤◌, ◌+◌, ℕ, List, Bool, true, false, refl, sym, ap, ◌∙◌, subst, arith}
+use Rattle.std.proofs.Common.{◌≡◌, ◌≤◌, ◌+◌, ℕ, List, Bool, true, false, ap, arith}
 use Rattle.std.specs.Prelude.{Option, Some, None}
 use Rattle.task_machine.specs.declared.component.Callee.{Callee}
 use Rattle.task_machine.specs.declared.component.Component.{Component}
 use Rattle.task_machine.specs.declared.label.Label.{Label}
 use Rattle.task_machine.specs.declared.label.Label.TheVariants as label
-use Rattle.task_machine.specs.declared.label.LoopLabel.TheVariants as loop_label
 use Rattle.task_machine.specs.declared.label.MainLabel.{MainLabel}
 use Rattle.task_machine.specs.declared.label.MainLabel.TheVariants as main_label
-use Rattle.task_machine.specs.declared.records.Turn.TheVariants as turn
 use Rattle.task_machine.specs.declared.trap.Trap.{Trap}
 use Rattle.task_machine.specs.declared.scenario.MainOp.{MainOp}
 use Rattle.task_machine.specs.Core.{Core, Main, MainPlace, Scripted, Unscripted, State, Started, Began, Refused}
@@ -16,10 +14,10 @@ use Rattle.task_machine.specs.Moves.{put_high}
 use Rattle.task_machine.specs.Write.{add_group, add_call, add_thread, push_high, set_place, on_thread, set_trapped, take_result, set_phase, on_work, count_work, add_work}
 use Rattle.task_machine.specs.Maps.{get}
 use Rattle.task_rules.specs.Calls.{call_made, work_queued}
-use Rattle.task_rules.specs.MainOps.{MainAct, Start, Finish, Spawn, Abort, Await, Quiet, Ready, Answer, MainProgress, Does, Pends, Answers, main_row, start_act, start_refusal, finish_act, finish_result, unless_pending, main_started, main_spawned, main_aborted, op_at, act_of, line_of, has_interesting, is_ready_for_call, is_complete}
+use Rattle.task_rules.specs.MainOps.{MainAct, Start, Finish, Spawn, Abort, Await, Quiet, Ready, Answer, MainProgress, Does, Pends, Answers, main_row, start_act, start_refusal, finish_act, finish_result, unless_pending, main_started, main_spawned, main_aborted, op_at, act_of, line_of, is_ready_for_call, is_complete}
 use Rattle.task_machine.specs.Read.{phase_of}
 use Rattle.task_rules.specs.Stalled.{Setting}
-use Rattle.task_rules.specs.Step.{MainStep, ScriptStep, MainProgresses, OpenStep, OpenProgresses}
+use Rattle.task_rules.specs.Step.{MainStep, ScriptStep, MainProgresses, OpenProgresses}
 use Rattle.task_rules.specs.Turns.{at_turn}
 use Rattle.task_loop.specs.Fit.{given}
 
@@ -79,3 +77,8 @@ main_few x s (Scripted p) l t step = at_op (op_at x.script p) step
     at_op None none = absurd (cc)
     at_op (Some o) some = script_few s p o _ (label.Main l) t (row_few x.component (line_of p o) s.core (act_of p o)) some
 main_few x s Unscripted l t step = open_few s _ (label.Main l) t (row_few x.component step.0 s.core step.1.0) step.1.1
+
+-- a start of main makes a thread and a group
+pub given-main_started : (c : Component) (e : Callee) (words : List ℕ) (s : Core) → given (main_started c e words s) ≡ given s + 2
+unfolding main_started put_high push_high set_place on_thread call_made add_thread add_call add_group
+given-main_started c e words s = omega arith

@@ -6,3 +6,4 @@ pub mod StepLemmas
 pub mod RunLemmas
 pub mod TurnLemmas
 pub mod CallLemmas
+pub mod TestLemmas

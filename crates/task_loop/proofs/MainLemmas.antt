@@ -1,10 +1,9 @@
 -- What a step of main leaves, and that it makes few numbers.
-use Rattle.std.proofs.Common.{◌≡◌, ◌≤◌, ◌+◌, ℕ, List, Bool, true, false, refl, sym, ap, ◌∙◌, subst, arith}
+use Rattle.std.proofs.Common.{◌≡◌, ℕ, List, true, false, refl, sym, ap, ◌∙◌, subst, arith}
 use Rattle.std.specs.Prelude.{Option, Some, None, is_none}
 use Rattle.task_machine.specs.declared.component.Component.{Component}
 use Rattle.task_machine.specs.declared.label.Label.{Label}
 use Rattle.task_machine.specs.declared.label.Label.TheVariants as label
-use Rattle.task_machine.specs.declared.label.LoopLabel.{LoopLabel}
 use Rattle.task_machine.specs.declared.label.LoopLabel.TheVariants as loop_label
 use Rattle.task_machine.specs.declared.label.MainLabel.{MainLabel}
 use Rattle.task_machine.specs.declared.label.MainLabel.TheVariants as main_label
@@ -14,8 +13,8 @@ use Rattle.task_machine.specs.Core.{Core, Main, MainPlace, Scripted, Unscripted,
 use Rattle.task_rules.specs.MainOps.{MainAct, MainProgress, main_row, op_at, act_of, line_of}
 use Rattle.task_rules.specs.MainOps as row
 use Rattle.task_rules.specs.Stalled.{Setting, main_pends}
-use Rattle.task_rules.specs.Step.{Step, MainStep, ScriptStep, MainProgresses, OpenStep}
-use Rattle.task_rules.specs.Turns.{at_turn, goes_to, settled_turn, settled_futures}
+use Rattle.task_rules.specs.Step.{Step, MainStep, ScriptStep, MainProgresses}
+use Rattle.task_rules.specs.Turns.{at_turn, goes_to, settled_futures}
 use Rattle.task_rules.specs.Works.{next_polled}
 use Rattle.task_rules.specs.Outcome.{outcome_of_label}
 use Rattle.task_simple.specs.Simple.{IsPlain}

@@ -1,12 +1,11 @@
 -- What is read of the running thread, and what its op comes to.
-use Rattle.std.proofs.Common.{ap, ap₂, arith, refl, subst, sym, ◌∙◌, ◌≤◌, ◌<◌, get_or, List, []}
+use Rattle.std.proofs.Common.{ap, ap₂, arith, refl, subst, sym, ◌∙◌, ◌≤◌, ◌<◌, List, []}
 use Rattle.std.proofs.lemmas.List.Sums.{AllPass-from_list_all}
 use Rattle.std.proofs.lemmas.Option.{get_or_from_slice_get, slice_get_cases, slice_get_within}
 use Rattle.std.specs.List.{list_all}
 use Rattle.std.specs.Option.{option_map_or}
-use Rattle.std.specs.Prelude.{Bool, Err, IfSome, None, Ok, Option, Result, Some, false, true, is_some, length, slice_get, unwrap_or, ℕ, ◌+◌, ◌^◌, ◌≡◌, ◌⊎◌}
+use Rattle.std.specs.Prelude.{Bool, Err, IfSome, None, Ok, Option, Some, false, true, length, slice_get, unwrap_or, ℕ, ◌+◌, ◌^◌, ◌≡◌}
 use Rattle.std.proofs.Common.{inl, inr}
-use Rattle.task_core.specs.declared.error.TaskError.{TaskError}
 use Rattle.task_core.specs.declared.error.TaskError.TheVariants as task_error
 use Rattle.task_machine.specs.declared.component.Callee.{Callee}
 use Rattle.task_machine.specs.declared.component.Component.{Component}
@@ -19,14 +18,13 @@ use Rattle.task_machine.specs.declared.records.Place.TheVariants as place
 use Rattle.task_machine.specs.declared.records.Script.TheVariants as script
 use Rattle.task_machine.specs.declared.trap.Trap.{Trap}
 use Rattle.task_machine.specs.declared.trap.Trap.TheVariants as trap
-use Rattle.task_machine.specs.Core.{Core}
 use Rattle.task_machine.specs.Labels.{exit_label, ret_label}
 use Rattle.task_machine.specs.Maps.{get}
-use Rattle.task_machine.specs.Read.{callee_of, has_ended, no_callee, instance_of, place_of, position_of, thread_handle_of}
+use Rattle.task_machine.specs.Read.{callee_of, has_ended, no_callee, instance_of, place_of, position_of}
 use Rattle.task_rules.specs.Scripts.{export_at, op_of, script_in, script_of, script_of_thread, value_in, value_of}
 use Rattle.task_rules.specs.Step.{trap_label}
-use Rattle.task_simple.specs.Forms.{exit_done, return_done, trap_done}
-use Rattle.task_simple.specs.Simple.{IsPlain, IsSimple}
+use Rattle.task_simple.specs.Forms.{return_done, trap_done}
+use Rattle.task_simple.specs.Simple.{IsSimple}
 use Rattle.task_simple.proofs.FoundLemmas.{end_found, instance_found, op_found, position_found, value_found}
 use Rattle.task_state.specs.declared.state.Running.{Running}
 use Rattle.task_loop.specs.declared.step.Made.{Made}
@@ -34,7 +32,7 @@ use Rattle.task_loop.specs.declared.step.Phase.{Phase}
 use Rattle.task_loop.specs.declared.step.Phase.TheVariants as phase
 use Rattle.task_loop.specs.Calls.{Returns, return_refusal}
 use Rattle.task_loop.specs.Fit.{Fits, IsFirstComponent, is_first_op}
-use Rattle.task_loop.specs.Made.{IsReturn, op_of_return}
+use Rattle.task_loop.specs.Made.{IsReturn}
 use Rattle.task_state.specs.Moves.{Exits, IsAbout}
 use Rattle.task_state.specs.Seen.{Seen, stopped_with, with_core}
 use Rattle.task_loop.specs.Turn.{Makes}

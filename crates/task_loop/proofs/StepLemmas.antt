@@ -1,8 +1,7 @@
 -- The steps of the loop are steps of the machine.
-use Rattle.std.proofs.Common.{ap, arith, refl, subst, sym, ◌∙◌, ◌≤◌}
-use Rattle.std.specs.Prelude.{Bool, List, None, Option, Some, [], false, true, is_none, ℕ, ◌+◌, ◌≡◌, ◌≢◌}
+use Rattle.std.proofs.Common.{ap, arith, refl, subst, sym, ◌∙◌}
+use Rattle.std.specs.Prelude.{None, Some, [], false, true, ℕ, ◌≡◌}
 use Rattle.task_machine.specs.declared.component.Component.{Component}
-use Rattle.task_machine.specs.declared.label.Label.{Label}
 use Rattle.task_machine.specs.declared.label.Label.TheVariants as label
 use Rattle.task_machine.specs.declared.label.LoopLabel.TheVariants as loop_label
 use Rattle.task_machine.specs.declared.op.Op.{Op}
@@ -15,12 +14,11 @@ use Rattle.task_machine.specs.declared.scenario.IdleLine.TheVariants as idle_lin
 use Rattle.task_machine.specs.declared.trap.Trap.{Trap}
 use Rattle.task_machine.specs.declared.trap.Trap.TheVariants as trap
 use Rattle.task_machine.specs.declared.words.Mark.TheVariants as mark
-use Rattle.task_machine.specs.Core.{Core, Main, State}
+use Rattle.task_machine.specs.Core.{Core, Main}
 use Rattle.task_machine.specs.Labels.{exit_label, held_label, ret_label, take_label}
 use Rattle.task_machine.specs.Read.{has_ended, place_of, thread_handle_of}
-use Rattle.task_machine.specs.Write.{add_call, free_thread_handle, give_result, give_thread_handle, on_call, on_instance, on_thread, remove_call, remove_group, remove_thread, set_do_not_enter, set_end, set_high, set_how_far, set_place, set_position, set_started, set_starting_published, set_thread_handle, set_trapped}
+use Rattle.task_machine.specs.Write.{free_thread_handle, give_result, give_thread_handle, on_call, on_instance, on_thread, remove_call, remove_group, remove_thread, set_do_not_enter, set_end, set_high, set_how_far, set_place, set_position, set_started, set_starting_published, set_thread_handle, set_trapped}
 use Rattle.task_rules.specs.Data.{moved_to}
-use Rattle.task_rules.specs.Outcome.{outcome_of_label}
 use Rattle.task_rules.specs.Scripts.{op_of, value_of}
 use Rattle.task_rules.specs.Stalled.{Setting, main_pends}
 use Rattle.task_rules.specs.Step.{Step, trap_label}
@@ -29,8 +27,6 @@ use Rattle.task_rules.specs.Turns.{at_turn, goes_to}
 use Rattle.task_simple.specs.Forms.{exit_done, return_done, start_done, start_put_off, trap_done}
 use Rattle.task_simple.specs.Simple.{IsPlain, IsSimple}
 use Rattle.task_simple.proofs.StepLemmas.{run_exit, run_exit_early, run_return, run_return_twice, take_deadlock_while, take_full, take_put_off, take_start}
-use Rattle.task_loop.specs.declared.step.Made.{Made}
-use Rattle.task_loop.specs.declared.step.Phase.{Phase}
 use Rattle.task_loop.specs.declared.step.Phase.TheVariants as phase
 use Rattle.task_state.specs.declared.taken.Taken.{Taken}
 use Rattle.task_state.specs.declared.taken.Taken.TheVariants as taken
@@ -39,7 +35,7 @@ use Rattle.task_loop.specs.Made.{Took, made_by}
 use Rattle.task_loop.specs.Main.{state_at}
 use Rattle.task_state.specs.Moves.{Takes}
 use Rattle.task_state.specs.Seen.{Seen, stopped_with, with_core}
-use Rattle.task_loop.specs.Turn.{Makes, PendsIn, Turns, is_open, runs_in, turn_of}
+use Rattle.task_loop.specs.Turn.{Makes, Turns}
 use Rattle.task_loop.proofs.FitLemmas.{fits-exit, fits-popped, fits-put_off, fits-set_trapped, fits-start, fits-trap}
 
 -- ---- Where a step leads

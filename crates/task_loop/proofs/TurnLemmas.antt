@@ -1,13 +1,12 @@
 -- A turn of the loop.
-use Rattle.std.proofs.Common.{ap, ap₂, arith, refl, subst, sym, ◌∙◌, ◌≤◌}
-use Rattle.std.specs.Prelude.{Bool, List, None, Option, Some, [], ◌∷◌, ◌&&◌, ◌||◌, false, true, is_none, not, ℕ, ◌+◌, ◌≡◌, ◌≢◌}
+use Rattle.std.proofs.Common.{ap, ap₂, arith, refl, subst, ◌∙◌}
+use Rattle.std.specs.Prelude.{Bool, List, Option, [], ◌∷◌, ◌&&◌, ◌||◌, false, true, is_none, not, ◌≡◌, ◌≢◌}
 use Rattle.task_machine.specs.declared.component.Component.{Component}
 use Rattle.task_machine.specs.declared.records.Entry.{Entry}
 use Rattle.task_machine.specs.declared.records.Turn.TheVariants as turn
 use Rattle.task_machine.specs.declared.scenario.MainOp.{MainOp}
-use Rattle.task_machine.specs.declared.words.Mark.TheVariants as mark
-use Rattle.task_machine.specs.Core.{Core, Main, State}
-use Rattle.task_machine.specs.Read.{is_nil, next_entry}
+use Rattle.task_machine.specs.Core.{Main, State}
+use Rattle.task_machine.specs.Read.{is_nil}
 use Rattle.task_rules.specs.Outcome.{is_at_rest}
 use Rattle.task_rules.specs.Stalled.{Setting, is_idle, is_idle_trap, is_unended_take, main_pends, works_rest}
 use Rattle.task_rules.specs.Turns.{nothing_stands}
@@ -18,7 +17,6 @@ use Rattle.task_simple.proofs.ReadLemmas.{has_live_work_not, is_idle_while}
 use Rattle.task_loop.specs.declared.step.Made.{Made}
 use Rattle.task_loop.specs.declared.step.Phase.{Phase}
 use Rattle.task_loop.specs.declared.step.Phase.TheVariants as phase
-use Rattle.task_loop.specs.Fit.{Fits}
 use Rattle.task_loop.specs.Main.{state_at}
 use Rattle.task_state.specs.Seen.{Seen}
 use Rattle.task_loop.specs.Turn.{Makes, PendsIn, Turned, Turns, idle_line_of, setting_of, turn_of}

@@ -8,10 +8,10 @@ ghost use Rattle.task_loop.specs.Calls.{callee_of, Starts, Finishes};
 
 use crate::component::export_def;
 use crate::instance::Instance;
-use task_store::Store;
 use futures::task::Poll;
 use task_core::TaskError;
 use task_machine::{Callee, Component, Trap};
+use task_store::Store;
 
 /// Names an export by its instance and its place there, from 0.
 #[derive(Clone, Copy, Debug, PartialEq, Eq)]

@@ -4,9 +4,9 @@ ghost use Rattle.task_rules.specs.Scripts.{script_of};
 ghost use Rattle.task_loop.specs.Fit.{IsFirstComponent, Fits};
 ghost use Rattle.task_loop.specs.Calls.{Returns, is_own_type, return_refusal};
 
-use task_store::Store;
 use task_core::TaskError;
 use task_machine::{Component, Trap};
+use task_store::Store;
 
 /// Names an instance by its place, from 0.
 #[derive(Clone, Copy, Debug, PartialEq, Eq)]

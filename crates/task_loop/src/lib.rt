@@ -20,3 +20,6 @@ pub use task_machine::{
     Callee, Component, ExportDef, HostDef, InstanceDef, Label, Op, Operand, Outcome, Slot,
 };
 pub use trace::Trace;
+
+#[cfg(test)]
+mod tests;

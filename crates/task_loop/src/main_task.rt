@@ -5,9 +5,9 @@ ghost use Rattle.task_machine.specs.declared.scenario.MainOp.{MainOp};
 ghost use Rattle.task_loop.specs.Fit.{IsFirstComponent, Fits, given};
 ghost use Rattle.task_loop.specs.Main.{Steps};
 
-use task_store::{Access, Whole};
 use task_core::TaskError;
 use task_machine::{Component, Label};
+use task_store::{Access, Whole};
 
 /// What main's next op came to.
 #[derive(Clone, Copy, Debug, PartialEq, Eq)]

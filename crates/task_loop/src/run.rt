@@ -9,10 +9,10 @@ ghost use Rattle.task_loop.specs.Turn.{PendsIn, Turned, goes_on, idle_line_of, i
 
 use crate::main_task::MainTask;
 use crate::step::{Made, Phase, step_deadlock, step_main, step_run, step_take};
-use task_store::Store;
 use crate::trace::Trace;
 use task_core::NoMemory;
 use task_machine::{CallLabel, Component, Label, LoopLabel, MainLabel, Outcome, Trap};
+use task_store::Store;
 
 /// A run of the event loop on a store.
 #[derive(Drop)]

@@ -1,5 +1,5 @@
 //! One step: main takes an op, an entry is taken, or the running thread takes its op.
-ghost use Rattle.std.specs.Prelude.{◌≡◌, ◌+◌, ◌<◌, ◌^◌, ℕ, true, None, [], slice_get, unwrap_or, IsSome, IfSome, IfOk, OnOk};
+ghost use Rattle.std.specs.Prelude.{◌≡◌, ◌+◌, ◌<◌, ◌^◌, ℕ, true, None, [], slice_get, unwrap_or, IsSome, IfSome, IfOk, IfErr, OnOk};
 ghost use Rattle.task_machine.specs.Core.{Main};
 ghost use Rattle.task_rules.specs.Scripts.{op_of, script_in};
 ghost use Rattle.task_rules.specs.Stalled.{Setting, main_pends};
@@ -12,18 +12,16 @@ ghost use Rattle.task_loop.specs.Main.{Steps};
 ghost use Rattle.task_loop.specs.Turn.{Makes, Turns};
 ghost use Rattle.task_loop.specs.Made.{made_by, made_by_main, op_of_return, IsReturn, Took};
 
-use task_store::Access;
 use crate::component::{operand_value, script_op};
 use crate::instance::Instance;
 use crate::main_task::{MainStep, MainTask};
-use task_state::Running;
-use task_store::Store;
-use task_state::Taken;
 use task_core::{NoMemory, TaskError};
 use task_machine::{
     Component, IdleLine, Label, LoopLabel, MainLabel, Mark, Op, Operand, Script, TakeLabel,
     TaskLabel, TaskOp, Trap,
 };
+use task_state::{Running, Taken};
+use task_store::{Access, Store};
 
 /// Whose turn it is.
 #[derive(Clone, Copy, Debug, PartialEq, Eq)]
@@ -100,6 +98,7 @@ fn ask_main<T, H, M: MainTask<T, H>>(
     ensures current { OnOk result (store.new.state.running ≡ store.old.state.running) }
     ensures fits { OnOk result (Fits component.now store.new.state.core) }
     ensures ok { IfOk result (λ step. Steps component.now (M.script main.old) (M.part main.old) store.old.state.core step (M.part main.new) store.new.state.core) }
+    ensures err { IfErr result (λ e. e ≡ TaskError.NoMemory) }
 {
     let mut access = Access::new(store);
     main.step(&mut access, component)

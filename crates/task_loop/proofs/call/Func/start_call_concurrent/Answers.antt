@@ -1,7 +1,6 @@
 -- A start is refused where its test holds, else made.
-use Rattle.std.proofs.Common.{ap, refl, subst, sym, ◌∙◌}
+use Rattle.std.proofs.Common.{refl, sym, ◌∙◌}
 use Rattle.task_loop.specs.Calls.{callee_of}
-use Rattle.task_loop.specs.Fit.{Fits}
 use Rattle.task_loop.proofs.CallLemmas.{few_words, fits-started, starts_full, starts_not, starts_now, starts_trapped}
 use Rattle.task_loop.proofs.FitLemmas.{fits-set_trapped}
 use Rattle.task_loop.proofs.call.Func.start_call_concurrent.Goals as goal

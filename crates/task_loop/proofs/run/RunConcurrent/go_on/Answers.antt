@@ -1,5 +1,5 @@
 -- Each turn adds to the run, until it is over.
-use Rattle.std.proofs.Common.{arith, ap, sym, ◌≡◌, ◌≤◌, ◌<◌, ◌∙◌}
+use Rattle.std.proofs.Common.{arith, ap, sym, ◌∙◌}
 use Rattle.std.specs.Prelude.{None, Some}
 use Rattle.task_loop.specs.Fit.{given}
 use Rattle.task_loop.specs.Main.{state_at}

@@ -1,5 +1,5 @@
 -- So far a run was made, and it can go on.
-use Rattle.std.proofs.Common.{◌≡◌, ◌≤◌}
+use Rattle.std.proofs.Common.{◌≡◌}
 use Rattle.task_loop.specs.Fit.{given}
 use Rattle.task_loop.specs.Main.{state_at}
 use Rattle.task_loop.specs.Turn.{setting_of, turn_of}

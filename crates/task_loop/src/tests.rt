@@ -1,0 +1,197 @@
+ghost use Rattle.std.specs.Prelude.{◌≡◌, [], IfOk, OnOk, None, length, IsSome, IfSome};
+ghost use Rattle.task_machine.specs.Core.{Main, Unscripted};
+ghost use Rattle.task_rules.specs.Scripts.{export_at};
+ghost use Rattle.task_loop.specs.Calls.{callee_of};
+ghost use Rattle.task_loop.specs.Fit.{IsFirstComponent, Fits, given};
+
+use super::*;
+use futures::task::Poll;
+use std::alloc::Global;
+use std::test::Fail;
+use task_machine::{Callee, ExportKind, LoopLabel, MainLabel, Seq, TaskOp, Trap};
+use task_store::{Access, Store, Whole};
+
+const CALLEE: Func = Func {
+    instance: Instance { index: 0 },
+    export: 0,
+};
+
+// A component with one callback export, which returns its first parameter.
+fn component(alloc: Global) -> Result<Component, Fail>
+    ensures first { IfOk result IsFirstComponent }
+    ensures there { IfOk result (λ c. IsSome (export_at c (callee_of CALLEE))) }
+    ensures params { IfOk result (λ c. IfSome (export_at c (callee_of CALLEE)) (λ e. 1 ≡ e.params)) }
+    ensures one { IfOk result (λ c. length c.instances ≡ 1) }
+{
+    let mut start = Seq::new(alloc);
+    start.push(Op::Task(TaskOp::Ret {
+        value: Operand::Register(0),
+    }))?;
+    let mut exports = Seq::new(alloc);
+    exports.push(ExportDef {
+        kind: ExportKind::Callback,
+        params: 1,
+        start,
+        react: Seq::new(alloc),
+    })?;
+    let mut instances = Seq::new(alloc);
+    instances.push(InstanceDef {
+        exports,
+        slots: Seq::new(alloc),
+    })?;
+    Ok(Component {
+        instances,
+        hosts: Seq::new(alloc),
+    })
+}
+
+// A store with that component's one instance.
+fn store(alloc: Global) -> Result<Store<(), ()>, Fail>
+    ensures fits { IfOk result (λ s. (c : Component) → length c.instances ≡ 1 → Fits c s.state.core) }
+    ensures given { IfOk result (λ s. given s.state.core ≡ 0) }
+    ensures current { IfOk result (λ s. s.state.running ≡ None) }
+{
+    let mut store: Store<(), ()> = Store::new(alloc, (), true, 1);
+    match store.add_instance() {
+        Ok(_) => Ok(store),
+        Err(_) => Err(Fail::from("memory")),
+    }
+}
+
+// A call of that export with 7, in a store in which nothing was made but the instance.
+fn called(component: &Component, store: &mut Store<(), ()>) -> Result<FuncCallConcurrent, Fail>
+    requires first { IsFirstComponent component.now }
+    requires there { IsSome (export_at component.now (callee_of CALLEE)) }
+    requires params { IfSome (export_at component.now (callee_of CALLEE)) (λ e. 1 ≡ e.params) }
+    requires fits { Fits component.now store.old.state.core }
+    requires given { given store.old.state.core ≡ 0 }
+    requires current { store.old.state.running ≡ None }
+    ensures fits { OnOk result (Fits component.now store.new.state.core) }
+    ensures given { OnOk result (given store.new.state.core ≡ 2) }
+    ensures current { OnOk result (store.new.state.running ≡ None) }
+{
+    match CALLEE.start_call_concurrent(component, store, &[7]) {
+        Ok(call) => Ok(call),
+        Err(_) => Err(Fail::from("a call")),
+    }
+}
+
+// A main that answers this, or else waits.
+#[derive(Drop)]
+struct Host {
+    answer: Option<u64>,
+}
+
+impl<T, H> MainTask<T, H> for Host {
+    ghost part = { λ _. Unscripted };
+
+    ghost script = { λ _. [] };
+
+    ghost suits = { λ _ _. Unit {0} };
+
+    fn step(
+        &mut self,
+        _access: &mut Access<'_, T, Whole, H>,
+        _component: &Component,
+    ) -> Result<MainStep, TaskError> {
+        match self.answer {
+            Some(value) => Ok(MainStep::Answer(value)),
+            None => Ok(MainStep::Pends),
+        }
+    }
+}
+
+#[test]
+fn a_call_runs_while_main_waits(rt: HostRuntime) -> Result<(), Fail> {
+    let component = component(rt.alloc())?;
+    assert_eq!(rt; CALLEE.param_count(&component), 1);
+    let mut store = store(rt.alloc())?;
+    let mut call = called(&component, &mut store)?;
+    assert_eq!(rt; call.thread(), 1);
+    let mut run = run_concurrent(&mut store, false).ok().ok_or("a run")?;
+    let again = run_concurrent(&mut store, false).err();
+    assert_eq!(rt; again, Some(Trap::RecursiveRun));
+    let mut main = Host { answer: None };
+    let mut trace = Trace::new(rt.alloc());
+    let outcome = run.drive(&component, &mut store, &mut main, 9, &mut trace);
+    assert_eq!(rt; outcome, Ok(Outcome::Idle));
+    assert_eq!(rt; trace.labels().len(), 5);
+    let result = CALLEE.finish_call_concurrent(&mut store, &mut call);
+    assert_eq!(rt; result, Poll::Ready(7));
+    run.end(&mut store);
+    assert!(rt; run_concurrent(&mut store, true).is_ok());
+    Ok(())
+}
+
+#[test]
+fn a_run_ends_where_main_answers(rt: HostRuntime) -> Result<(), Fail> {
+    let component = component(rt.alloc())?;
+    let mut store = store(rt.alloc())?;
+    let mut run = run_concurrent(&mut store, true).ok().ok_or("a run")?;
+    let mut main = Host { answer: Some(5) };
+    let mut trace = Trace::new(rt.alloc());
+    let outcome = run.drive(&component, &mut store, &mut main, 9, &mut trace);
+    assert_eq!(rt; outcome, Ok(Outcome::Done(5)));
+    let answer = Label::Main(MainLabel::Answer(5));
+    assert_eq!(rt; trace.labels().first(), Some(&answer));
+    Ok(())
+}
+
+#[test]
+fn a_run_in_which_nothing_goes_on_is_a_deadlock(rt: HostRuntime) -> Result<(), Fail> {
+    let component = component(rt.alloc())?;
+    let mut store = store(rt.alloc())?;
+    let mut run = run_concurrent(&mut store, true).ok().ok_or("a run")?;
+    let mut main = Host { answer: None };
+    let mut trace = Trace::new(rt.alloc());
+    let outcome = run.drive(&component, &mut store, &mut main, 9, &mut trace);
+    assert_eq!(rt; outcome, Ok(Outcome::Deadlock(Trap::AsyncDeadlock)));
+    assert_eq!(rt; trace.labels().len(), 2);
+    assert!(rt; store.trapped());
+    Ok(())
+}
+
+// What the return of a thread that has just begun comes to, with this type.
+fn returned(alloc: Global, ty: u32) -> Result<Result<(), TaskError>, Fail> {
+    let component = component(alloc)?;
+    let mut store = store(alloc)?;
+    called(&component, &mut store)?;
+    let mut run = run_concurrent(&mut store, true).ok().ok_or("a run")?;
+    let mut main = Host { answer: None };
+    let mut trace = Trace::new(alloc);
+    let outcome = run.drive(&component, &mut store, &mut main, 2, &mut trace);
+    let Ok(Outcome::OutOfSteps) = outcome else {
+        return Err(Fail::from("a thread that runs"));
+    };
+    store.state.is_whole();
+    let Some(running) = store.state.running() else {
+        return Err(Fail::from("a thread"));
+    };
+    let instance = Instance {
+        index: running.callee.instance,
+    };
+    Ok(instance.task_return(&component, &mut store, ty, 0, 0, 7))
+}
+
+#[test]
+fn a_return_needs_the_task_s_own_type(rt: HostRuntime) -> Result<(), Fail> {
+    assert_eq!(rt; returned(rt.alloc(), 0)?, Ok(()));
+    let bad = Err(TaskError::Trap(Trap::TaskReturnInvalid));
+    assert_eq!(rt; returned(rt.alloc(), 1)?, bad);
+    Ok(())
+}
+
+#[test]
+fn ops_and_operands_are_read(rt: HostRuntime) -> Result<(), Fail> {
+    let component = component(rt.alloc())?;
+    let callee = Callee {
+        instance: 0,
+        export: 0,
+    };
+    assert!(rt; script_op(&component, callee, 0).is_some());
+    assert!(rt; script_op(&component, callee, 1).is_none());
+    let registers = [5; 16];
+    assert_eq!(rt; operand_value(&registers, Operand::Register(3)), 5);
+    assert_eq!(rt; operand_value(&registers, Operand::Number(9)), 9);
+    Ok(())
+}
