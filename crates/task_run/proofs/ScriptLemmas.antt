@@ -1,9 +1,6 @@
 -- The steps of a main that is a script, by the rows of its ops.
-use Rattle.std.proofs.Common.{◌≡◌, ◌+◌, ◌-◌, ℕ, List, [], ◌∷◌, ◌++◌, true, map, length, Option, Some, None, refl, sym, ap, subst, ◌∙◌}
-use Rattle.std.specs.Prelude.{slice_get, slice_set}
-use Rattle.std.specs.Option.{option_map}
-use Rattle.std.proofs.lemmas.Option.{slice_get-map}
-use Rattle.std.proofs.lemmas.List.{map_push}
+use Rattle.std.proofs.Common.{◌≡◌, ℕ, List, true, Option, Some, None, refl, sym, ap, subst, ◌∙◌}
+use Rattle.std.specs.Prelude.{slice_get}
 use Rattle.task_machine.specs.declared.component.Component.{Component}
 use Rattle.task_machine.specs.declared.label.Label.TheVariants as label
 use Rattle.task_machine.specs.declared.label.MainLabel.{MainLabel}
@@ -11,7 +8,7 @@ use Rattle.task_machine.specs.declared.label.MainLabel.TheVariants as main_label
 use Rattle.task_machine.specs.declared.records.Turn.TheVariants as turn
 use Rattle.task_machine.specs.declared.scenario.MainOp.{MainOp as Machine}
 use Rattle.task_machine.specs.Core.{Core, MainPlace, Scripted}
-use Rattle.task_rules.specs.MainOps.{Answers, Does, Pends, MainProgress, act_of, advanced_main, line_of, main_row, op_at}
+use Rattle.task_rules.specs.MainOps.{Answers, Does, Pends, act_of, advanced_main, line_of, main_row, op_at}
 use Rattle.task_rules.specs.Step.{MainProgresses, ScriptStep}
 use Rattle.task_rules.specs.Stalled.{is_pending, pends_at}
 use Rattle.task_rules.specs.Turns.{at_turn}

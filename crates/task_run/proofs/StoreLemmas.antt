@@ -1,10 +1,10 @@
 -- A new store, and that it fits a component with as many instances.
-use Rattle.std.proofs.Common.{◌≡◌, ◌<◌, ◌≤◌, ◌+◌, ℕ, suc, zero, Bool, true, false, List, [], ◌∷◌, Option, Some, None, length, slice_get, is_some, refl, sym, ap, ◌∙◌, arith}
+use Rattle.std.proofs.Common.{◌≡◌, ℕ, suc, zero, List, [], ◌∷◌, Some, None, length, slice_get, is_some, refl, sym, ap, ◌∙◌, arith}
 use Rattle.std.specs.Prelude.{nat_lt}
 use Rattle.std.proofs.lemmas.Bool.{cases_eq}
 use Rattle.std.proofs.Common.{inl, inr}
 use Rattle.task_machine.specs.declared.component.Component.{Component}
-use Rattle.task_machine.specs.Core.{Core, filled, fresh, untouched}
+use Rattle.task_machine.specs.Core.{filled, fresh, untouched}
 use Rattle.task_machine.specs.Maps.{empty, get, get-empty}
 use Rattle.task_machine.proofs.MapLemmas.{get-insert_other, get-insert_same}
 use Rattle.task_loop.specs.Fit.{Fits, given}

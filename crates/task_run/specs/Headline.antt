@@ -1,6 +1,5 @@
 -- What a report says of a scenario: the printed steps are a run of the component machine.
 use Rattle.std.specs.Prelude.{◌≡◌, ℕ, ◌≤◌, List, length, map}
-use Rattle.task_loop.specs.declared.trace.Trace.{Trace}
 use Rattle.task_machine.specs.declared.label.Label.{Label}
 use Rattle.task_machine.specs.declared.outcome.Outcome.{Outcome}
 use Rattle.task_machine.specs.declared.scenario.InstanceNames.{InstanceNames as MachineNames}

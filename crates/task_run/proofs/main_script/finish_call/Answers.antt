@@ -1,15 +1,10 @@
-use Rattle.std.proofs.Common.{◌≡◌, ◌∙◌, ap, refl, subst, sym}
+use Rattle.std.proofs.Common.{◌∙◌, ap, refl, sym}
 use Rattle.std.specs.Option.{option_map}
 use Rattle.std.proofs.lemmas.Option.{slice_get-map}
-use Rattle.task_machine.specs.declared.label.Label.TheVariants as label
 use Rattle.task_machine.specs.declared.label.MainLabel.TheVariants as main_label
 use Rattle.task_machine.specs.declared.scenario.MainOp.TheVariants as machine
-use Rattle.task_machine.specs.Core.{Core, Main, Scripted}
-use Rattle.task_machine.specs.Write.{take_result}
 use Rattle.task_rules.specs.MainOps.{finish_act, finish_result}
-use Rattle.task_loop.specs.Main.{Did, Pends}
-use Rattle.task_run.specs.Script.{machine_op, part_of, place_of, script_of}
-use Rattle.task_state.specs.Seen.{Seen}
+use Rattle.task_run.specs.Script.{machine_op, place_of, script_of}
 use Rattle.task_loop.proofs.FitLemmas.{fits-take_result}
 use Rattle.task_run.proofs.ScriptLemmas.{did_by_row, pends_by_row}
 use Rattle.task_run.proofs.main_script.finish_call.Goals as goal

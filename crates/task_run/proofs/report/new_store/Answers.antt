@@ -1,4 +1,4 @@
-use Rattle.std.proofs.Common.{◌≡◌, ◌<◌, ◌≤◌, ◌+◌, ◌∙◌, ℕ, suc, ap, arith}
+use Rattle.std.proofs.Common.{◌≡◌, ◌<◌, ◌≤◌, ◌+◌, ◌∙◌, suc, ap, arith}
 use Rattle.task_core.specs.Shown.{with_instance}
 use Rattle.task_core.proofs.Laws.{fresh_more, size-fresh}
 use Rattle.task_machine.specs.Core.{fresh}

@@ -1,15 +1,13 @@
-use Rattle.std.proofs.Common.{◌≡◌, ◌≤◌, ◌∙◌, ℕ, Some, length, ap, refl, subst, sym, arith}
+use Rattle.std.proofs.Common.{◌∙◌, ap, refl, arith}
 use Rattle.std.proofs.Common.{List}
 use Rattle.task_machine.specs.declared.records.Turn.TheVariants as turn
-use Rattle.task_machine.specs.Core.{Core, Scripted, fresh}
+use Rattle.task_machine.specs.Core.{Scripted}
 use Rattle.task_rules.specs.Run.{main_opening}
 use Rattle.task_loop.specs.Main.{state_at}
 use Rattle.task_loop.specs.Turn as loop
 use Rattle.task_run.specs.Script.{machine_ops, part_of, script_of}
 use Rattle.task_run.specs.declared.scenario.MainOp.{MainOp}
-use Rattle.task_loop.specs.Fit.{Fits, given}
 use Rattle.task_loop.specs.declared.run.RunConcurrent.{RunConcurrent}
-use Rattle.task_state.specs.Seen.{Seen}
 use Rattle.task_run.specs.Headline.{machine_scenario}
 use Rattle.task_run.proofs.HeadlineLemmas.{headline, opens_is}
 use Rattle.task_run.proofs.StoreLemmas.{fits_fresh, given_fresh}

@@ -1,9 +1,8 @@
-use Rattle.std.proofs.Common.{◌≡◌, ◌∙◌, ◌<◌, ℕ, Some, None, ap, refl, sym}
+use Rattle.std.proofs.Common.{◌≡◌, ◌∙◌, Some, None, ap, refl, sym}
 use Rattle.std.specs.Prelude.{slice_get}
 use Rattle.std.specs.Option.{option_map}
 use Rattle.std.proofs.lemmas.Option.{slice_get-map}
 use Rattle.task_machine.specs.declared.scenario.MainOp.TheVariants as machine
-use Rattle.task_rules.specs.MainOps.{Answers}
 use Rattle.task_run.specs.declared.scenario.MainOp.{MainOp}
 use Rattle.task_run.specs.declared.scenario.MainOp.TheVariants as main_op
 use Rattle.task_run.specs.Script.{machine_op, place_of, script_of}
