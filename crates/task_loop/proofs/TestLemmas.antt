@@ -1,10 +1,8 @@
 -- A component of one export, and a store in which its one instance was made.
 use Rattle.std.proofs.Common.{ap, arith, inl, inr, refl, subst, sym, ◌∙◌, ◌<◌, ◌≤◌}
-use Rattle.std.proofs.lemmas.Option.{slice_get_cases, slice_get_past, slice_get_within}
-use Rattle.std.specs.Prelude.{List, None, Option, Some, [], ◌∷◌, length, true, is_some, option_and_then, slice_get, ℕ, ◌≡◌, ◌≢◌}
-use Rattle.task_machine.specs.declared.component.Callee.{Callee}
+use Rattle.std.proofs.lemmas.Option.{slice_get_cases, slice_get_past}
+use Rattle.std.specs.Prelude.{List, None, [], length, true, is_some, slice_get, ℕ, ◌≡◌}
 use Rattle.task_machine.specs.declared.component.Component.{Component}
-use Rattle.task_machine.specs.declared.component.ExportDef.{ExportDef}
 use Rattle.task_machine.specs.declared.component.InstanceDef.{InstanceDef}
 use Rattle.task_machine.specs.Core.{Core, fresh, untouched}
 use Rattle.task_machine.specs.Maps.{Records, empty, get, get-empty, insert, size}
@@ -12,18 +10,13 @@ use Rattle.task_machine.specs.Core.{Unscripted}
 use Rattle.task_machine.specs.declared.records.Call.{Call}
 use Rattle.task_machine.specs.declared.records.Instance.{Instance}
 use Rattle.task_machine.specs.declared.records.Thread.{Thread}
-use Rattle.task_machine.specs.declared.label.Label.TheVariants as label
-use Rattle.task_machine.specs.declared.label.MainLabel.TheVariants as main_label
-use Rattle.task_machine.specs.declared.records.Turn.TheVariants as turn
-use Rattle.task_machine.specs.declared.scenario.MainOp.{MainOp}
 use Rattle.task_machine.proofs.MapLemmas.{get-insert_other, get-insert_same}
 use Rattle.task_core.specs.Shown.{with_instance}
 use Rattle.task_rules.specs.MainOps as row
-use Rattle.task_rules.specs.Scripts.{export_at}
 use Rattle.task_rules.specs.Turns.{at_turn}
 use Rattle.task_simple.proofs.CaseLemmas.{either}
-use Rattle.task_loop.specs.Fit.{Fits, given, IsFirstComponent, IsFirstExport}
-use Rattle.task_loop.specs.Main.{Answers, state_at}
+use Rattle.task_loop.specs.Fit.{Fits, given}
+use Rattle.task_loop.specs.Main.{Answers}
 
 there_at : {X : Type 0} (xs : List X) (i : ℕ) → i < length xs → is_some (slice_get xs i) ≡ true
 there_at xs i within =

@@ -62,11 +62,10 @@ impl RunConcurrent {
     /// of the component machine from the store before to the store after, and the outcome is what
     /// that run has come to. Where memory is wanting, the store is trapped.
     ///
-    /// At most 2^60 numbers were given in the store, which fits the component. The thread that runs
-    /// in it is the one that the last call on this run left; at the first call none runs. The run
-    /// isn't over. Where main has pended in the last call, its op pends still; a main that is no
-    /// script pends as long as it says so. A main is asked for each op once more after it has
-    /// pended.
+    /// At most 2^60 numbers were given in the store, which fits the component, as the component
+    /// suits main. The thread that runs in the store is the one that the last call on this run
+    /// left; at the first call none runs. The run isn't over. Where main pended in the last call,
+    /// its op pends still, which is so of each main that is no script.
     pub fn drive<T, H, M: MainTask<T, H>>(
         &mut self,
         component: &Component,

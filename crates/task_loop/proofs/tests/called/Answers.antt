@@ -1,6 +1,5 @@
 -- The call makes a thread and a group.
 use Rattle.std.proofs.Common.{arith, ◌∙◌}
-use Rattle.task_loop.specs.Calls.{callee_of}
 use Rattle.task_loop.proofs.CallLemmas.{started_current, started_given}
 use Rattle.task_loop.proofs.tests.called.Goals as goal
 

@@ -1,5 +1,5 @@
 -- One instance was made.
-use Rattle.std.proofs.Common.{ap, refl, ◌∙◌}
+use Rattle.std.proofs.Common.{refl}
 use Rattle.task_loop.proofs.TestLemmas.{fits_one, given_one, small}
 use Rattle.task_loop.proofs.tests.store.Goals as goal
 
