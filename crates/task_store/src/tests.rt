@@ -5,7 +5,6 @@ use std::test::Fail;
 fn a_store_numbers_its_instances(rt: HostRuntime) -> Result<(), Fail> {
     let mut store: Store<u8, u8> = Store::new(rt.alloc(), 5, true, 1);
     assert_eq!(rt; store.add_instance(), Ok(ComponentInstanceId(0)));
-    assert_eq!(rt; store.add_instance(), Ok(ComponentInstanceId(1)));
     assert_eq!(rt; store.given(), 0);
     assert!(rt; store.state.is_drained());
     Ok(())
