@@ -1,6 +1,6 @@
 -- A driven script is a run of its scenario.
 use Rattle.std.proofs.Common.{◌≡◌, ℕ, List, [], refl, sym, subst}
-use Rattle.std.specs.Prelude.{◌≤◌, length, IfOk, Result, Ok, Err}
+use Rattle.std.specs.Prelude.{◌≤◌, codes, decimal, length, IfOk, Result, Ok, Err}
 use Rattle.task_machine.specs.declared.label.Label.{Label}
 use Rattle.task_machine.specs.declared.outcome.Outcome.{Outcome}
 use Rattle.task_machine.specs.declared.records.Turn.TheVariants as turn
@@ -13,6 +13,9 @@ use Rattle.task_loop.specs.Drive.{Drives}
 use Rattle.task_loop.specs.Main.{state_at}
 use Rattle.task_run.specs.First.{IsFirstScenario}
 use Rattle.task_run.specs.Lower.{Reads}
+use Rattle.task_run.specs.Tool.{IsRun}
+use Rattle.std.proofs.lemmas.Fmt.{decimal_injective}
+use Rattle.std.proofs.Common.{◌∷◌, ◌∙◌, arith}
 use Rattle.task_run.proofs.FirstLemmas.{first_scenario}
 use Rattle.task_run.specs.Headline.{IsRunOf, machine_scenario}
 use Rattle.task_run.specs.declared.scenario.Scenario.{Scenario}
@@ -44,3 +47,14 @@ first_read text x reads = subst (λ (x : Scenario). IsFirstScenario x) (sym read
 pub more_ok : {X E : Type 0} {P Q : X → Type 0} (r : Result X E) → ((x : X) → P x → Q x) → IfOk r P → IfOk r Q
 more_ok (Ok x) more holds = more x holds
 more_ok (Err e) more holds = holds
+
+-- words say how many steps in one way
+pub same_steps : (words : List (List ℕ)) (n k : ℕ) → IsRun words n → IsRun words k → n ≡ k
+same_steps words n k one two =
+    let a = one.2 in
+    let b = two.2 in
+    let same : codes "run" ∷ decimal n ∷ [] ≡ codes "run" ∷ decimal k ∷ [] = sym one.0 ∙ two.0 in
+    decimal_injective n k (omega arith) (omega arith) (second (codes "run") (decimal n) (decimal k) same)
+  where
+    second : (w x y : List ℕ) → w ∷ x ∷ [] ≡ w ∷ y ∷ [] → x ≡ y
+    second w x y same = cc

@@ -8,7 +8,8 @@ use Rattle.task_machine.specs.declared.outcome.Outcome.{Outcome}
 use Rattle.task_rules.specs.Texts as texts
 use Rattle.task_run.specs.declared.report.Report.{Report}
 use Rattle.task_run.specs.declared.scenario.Scenario.{Scenario}
-use Rattle.task_run.specs.Headline.{IsReportOf}
+use Rattle.task_machine.specs.Core.{Core}
+use Rattle.task_run.specs.Headline.{IsReportOf, IsRunOf, machine_scenario}
 use Rattle.task_run.specs.Lower.{Reads}
 use Rattle.task_run.specs.Pump.{IsTaken, IsFront}
 
@@ -53,14 +54,16 @@ pub record SaysBadLine (all : List ℕ) (left : Option (List ℕ)) (held : List 
   pub bad : IsBadLine text line
   pub written : now ≡ Some (held ++ bad_line_text line)
 
--- a scenario was read, and a front of a report's text is written
-pub record IsReportCut (all : List ℕ) (left : Option (List ℕ)) (held : List ℕ) (now : Option (List ℕ)) : Type 0 where
+-- a scenario was read, and a front of the text of a run of it with at most n steps is written
+pub record IsReportCut (n : ℕ) (all : List ℕ) (left : Option (List ℕ)) (held : List ℕ) (now : Option (List ℕ)) : Type 0 where
   pub text : List ℕ
   pub scenario : Scenario
   pub trace : List Label
   pub outcome : Outcome
+  pub core : Core
   pub read : IsText all left text
   pub reads : Reads text scenario
+  pub run : IsRunOf (machine_scenario scenario) n trace outcome core
   pub written : IsFront held (texts.text trace outcome) now
 
 -- a text outside the grammar was read, and a front of its bad line is written
@@ -72,9 +75,9 @@ pub record IsBadLineCut (all : List ℕ) (left : Option (List ℕ)) (held : List
   pub written : IsFront held (bad_line_text line) now
 
 -- a front of what was to be written after reading
-abbrev pub IsCut : List ℕ → Option (List ℕ) → List ℕ → Option (List ℕ) → Type 0
-IsCut all left held now = IsReportCut all left held now ⊎ IsBadLineCut all left held now
+abbrev pub IsCut : ℕ → List ℕ → Option (List ℕ) → List ℕ → Option (List ℕ) → Type 0
+IsCut n all left held now = IsReportCut n all left held now ⊎ IsBadLineCut all left held now
 
 -- nothing was written, or a front of a report's text
-abbrev pub IsWanting : List ℕ → Option (List ℕ) → List ℕ → Option (List ℕ) → Type 0
-IsWanting all left held now = (now ≡ Some held) ⊎ IsReportCut all left held now
+abbrev pub IsWanting : ℕ → List ℕ → Option (List ℕ) → List ℕ → Option (List ℕ) → Type 0
+IsWanting n all left held now = (now ≡ Some held) ⊎ IsReportCut n all left held now

@@ -151,8 +151,8 @@ fn run<S: Source, K: Sink>(
     ensures ran { (all : List ℕ) → S.left source.old ≡ Some all → IfOk result (λ r. Ran all (S.left source.new) steps r) }
     ensures done { (all : List ℕ) → S.left source.old ≡ Some all → IsOk result → (text : List ℕ) × IsText all (S.left source.new) text × ((x : Scenario) × Reads text x) }
     ensures bad { (all held : List ℕ) → S.left source.old ≡ Some all → K.held sink.old ≡ Some held → IsErrOf result End.BadScenario → SaysBadLine all (S.left source.new) held (K.held sink.new) }
-    ensures wanting { (all held : List ℕ) → S.left source.old ≡ Some all → K.held sink.old ≡ Some held → IsErrOf result End.NoMemory → IsWanting all (S.left source.new) held (K.held sink.new) }
-    ensures cut { (all held : List ℕ) → S.left source.old ≡ Some all → K.held sink.old ≡ Some held → IsErrOf result End.WriteFailed → IsCut all (S.left source.new) held (K.held sink.new) }
+    ensures wanting { (all held : List ℕ) → S.left source.old ≡ Some all → K.held sink.old ≡ Some held → IsErrOf result End.NoMemory → IsWanting steps all (S.left source.new) held (K.held sink.new) }
+    ensures cut { (all held : List ℕ) → S.left source.old ≡ Some all → K.held sink.old ≡ Some held → IsErrOf result End.WriteFailed → IsCut steps all (S.left source.new) held (K.held sink.new) }
 {
     let text = match read_all(alloc, source) {
         Ok(text) => text,
@@ -184,11 +184,11 @@ fn call<S: Source, K: Sink>(
     ensures write { IsErrOf result End.WriteFailed → HasRisen (K.faults sink.old) (K.faults sink.new) }
     ensures unwritten { IsErrOf result End.ReadFailed → sink.new ≡ sink.old }
     ensures written { (held : List ℕ) → K.held sink.old ≡ Some held → IfOk result (λ r. K.held sink.new ≡ Some (held ++ text r.trace r.outcome)) }
-    ensures ran { (all : List ℕ) → S.left source.old ≡ Some all → IfOk result (λ r. (n : ℕ) × (IsRun (map string_bytes words.now) n × Ran all (S.left source.new) n r)) }
+    ensures ran { (n : ℕ) (all : List ℕ) → IsRun (map string_bytes words.now) n → S.left source.old ≡ Some all → IfOk result (λ r. Ran all (S.left source.new) n r) }
     ensures done { (all : List ℕ) → S.left source.old ≡ Some all → IsOk result → (text : List ℕ) × IsText all (S.left source.new) text × ((x : Scenario) × Reads text x) }
     ensures bad { (all held : List ℕ) → S.left source.old ≡ Some all → K.held sink.old ≡ Some held → IsErrOf result End.BadScenario → SaysBadLine all (S.left source.new) held (K.held sink.new) }
-    ensures wanting { (all held : List ℕ) → S.left source.old ≡ Some all → K.held sink.old ≡ Some held → IsErrOf result End.NoMemory → IsWanting all (S.left source.new) held (K.held sink.new) }
-    ensures cut { (n : ℕ) (all held : List ℕ) → IsRun (map string_bytes words.now) n → S.left source.old ≡ Some all → K.held sink.old ≡ Some held → IsErrOf result End.WriteFailed → IsCut all (S.left source.new) held (K.held sink.new) }
+    ensures wanting { (n : ℕ) (all held : List ℕ) → IsRun (map string_bytes words.now) n → S.left source.old ≡ Some all → K.held sink.old ≡ Some held → IsErrOf result End.NoMemory → IsWanting n all (S.left source.new) held (K.held sink.new) }
+    ensures cut { (n : ℕ) (all held : List ℕ) → IsRun (map string_bytes words.now) n → S.left source.old ≡ Some all → K.held sink.old ≡ Some held → IsErrOf result End.WriteFailed → IsCut n all (S.left source.new) held (K.held sink.new) }
     ensures unsaid { (held : List ℕ) → ((n : ℕ) → IsRun (map string_bytes words.now) n → ⊥) → K.held sink.old ≡ Some held → IsErrOf result End.WriteFailed → IsFront held usage_text (K.held sink.new) }
 {
     match steps_of(words) {
@@ -220,13 +220,13 @@ pub fn tool<S: Source, K: Sink>(
     ensures report { MatchOption result.report (result.status ≢ 0) (λ r. result.status ≡ 0) }
     ensures written { (held : List ℕ) → K.held sink.old ≡ Some held → IfSome result.report (λ r. K.held sink.new ≡ Some (held ++ text r.trace r.outcome)) }
     // The report of status 0 is of a run of the scenario that was read.
-    ensures ran { (all : List ℕ) → S.left source.old ≡ Some all → IfSome result.report (λ r. (n : ℕ) × (IsRun (map string_bytes words.now) n × Ran all (S.left source.new) n r)) }
+    ensures ran { (n : ℕ) (all : List ℕ) → IsRun (map string_bytes words.now) n → S.left source.old ≡ Some all → IfSome result.report (λ r. Ran all (S.left source.new) n r) }
     // With status 0 the text was a scenario's, with 3 it was none.
     ensures done { (all : List ℕ) → S.left source.old ≡ Some all → result.status ≡ 0 → (text : List ℕ) × IsText all (S.left source.new) text × ((x : Scenario) × Reads text x) }
     ensures bad { (all held : List ℕ) → S.left source.old ≡ Some all → K.held sink.old ≡ Some held → result.status ≡ 3 → SaysBadLine all (S.left source.new) held (K.held sink.new) }
     // With status 1 nothing or a front of a report was written, with 5 a front of what was to be written.
-    ensures wanting { (all held : List ℕ) → S.left source.old ≡ Some all → K.held sink.old ≡ Some held → result.status ≡ 1 → IsWanting all (S.left source.new) held (K.held sink.new) }
-    ensures cut { (n : ℕ) (all held : List ℕ) → IsRun (map string_bytes words.now) n → S.left source.old ≡ Some all → K.held sink.old ≡ Some held → result.status ≡ 5 → IsCut all (S.left source.new) held (K.held sink.new) }
+    ensures wanting { (n : ℕ) (all held : List ℕ) → IsRun (map string_bytes words.now) n → S.left source.old ≡ Some all → K.held sink.old ≡ Some held → result.status ≡ 1 → IsWanting n all (S.left source.new) held (K.held sink.new) }
+    ensures cut { (n : ℕ) (all held : List ℕ) → IsRun (map string_bytes words.now) n → S.left source.old ≡ Some all → K.held sink.old ≡ Some held → result.status ≡ 5 → IsCut n all (S.left source.new) held (K.held sink.new) }
     ensures unsaid { (held : List ℕ) → ((n : ℕ) → IsRun (map string_bytes words.now) n → ⊥) → K.held sink.old ≡ Some held → result.status ≡ 5 → IsFront held usage_text (K.held sink.new) }
 {
     match call(alloc, words, source, sink) {
