@@ -5,6 +5,7 @@ ghost use Rattle.task_machine.specs.Write.{set_do_not_enter, set_word};
 ghost use Rattle.task_machine.proofs.FieldLemmas.{put_instance};
 ghost use Rattle.task_core.specs.Shown.{with_core};
 
+use crate::parts::words::put_word;
 use crate::state::TaskCore;
 use task_machine::Instance;
 
@@ -59,9 +60,7 @@ impl TaskCore {
         ensures { self.new ≡ with_core (set_word index word value self.old.core) self.old }
     {
         let mut instance = self.instance_record(index);
-        if let Some(slot) = instance.words.get_mut(word as usize) {
-            *slot = value;
-        }
+        put_word(&mut instance.words, word, value);
         self.put_instance(index, instance);
     }
 

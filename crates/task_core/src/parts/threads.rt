@@ -6,6 +6,7 @@ ghost use Rattle.task_core.specs.Shown.{thread_number, with_core};
 ghost use Rattle.task_core.specs.Simple.{IsPlainThread};
 
 use crate::entry::ThreadKey;
+use crate::parts::words::put_word;
 use crate::state::TaskCore;
 use task_machine::{HowFar, Place, Script, Thread};
 use task_table::TableId;
@@ -53,9 +54,7 @@ impl TaskCore {
         ensures { self.new ≡ with_core (set_register (thread_number self.old.tags id) register value self.old.core) self.old }
     {
         let mut thread = self.thread(id);
-        if let Some(slot) = thread.registers.get_mut(register as usize) {
-            *slot = value;
-        }
+        put_word(&mut thread.registers, register, value);
         self.put_thread(id, thread);
     }
 
