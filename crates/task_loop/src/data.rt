@@ -1,5 +1,5 @@
 //! The ops on registers and on the instance's words.
-ghost use Rattle.std.specs.Prelude.{◌≡◌, ◌+◌, length, min};
+ghost use Rattle.std.specs.Prelude.{◌≡◌, ◌==◌, ◌≤◌, ◌+◌, ◌%◌, ◌^◌, if◌then◌else◌, length, min};
 ghost use Rattle.task_rules.specs.Data.{assigned, moved_to, stored};
 ghost use Rattle.task_rules.specs.Scripts.{op_of, script_in, value_in};
 ghost use Rattle.task_state.specs.Moves.{IsAbout};
