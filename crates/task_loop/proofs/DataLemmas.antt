@@ -1,24 +1,22 @@
 -- An op on registers and words makes the step that its row says.
 use Rattle.std.proofs.Common.{ap, ap₂, arith, refl, subst, sym, ◌∙◌, ◌≤◌, ◌<◌}
-use Rattle.std.specs.Prelude.{Bool, Some, false, if◌then◌else◌, length, min, true, ℕ, ◌%◌, ◌+◌, ◌/◌, ◌==◌, ◌^◌, ◌≡◌}
+use Rattle.std.specs.Prelude.{Bool, Some, false, if◌then◌else◌, length, min, true, ℕ, ◌+◌, ◌==◌, ◌≡◌}
 use Rattle.task_machine.specs.declared.component.Component.{Component}
 use Rattle.task_machine.specs.declared.label.DataLabel.{DataLabel}
 use Rattle.task_machine.specs.declared.label.DataLabel.TheVariants as data_label
 use Rattle.task_machine.specs.declared.label.Label.TheVariants as label
-use Rattle.task_machine.specs.declared.op.DataOp.{DataOp}
 use Rattle.task_machine.specs.declared.op.DataOp.TheVariants as data_op
 use Rattle.task_machine.specs.declared.op.Op.TheVariants as op
 use Rattle.task_machine.specs.declared.op.Operand.{Operand}
-use Rattle.task_machine.specs.declared.op.Operand.TheVariants as operand
 use Rattle.task_machine.specs.declared.records.Place.TheVariants as place
 use Rattle.task_machine.specs.declared.records.Script.TheVariants as script
 use Rattle.task_machine.specs.declared.records.Turn.TheVariants as turn
 use Rattle.task_machine.specs.Core.{Core}
-use Rattle.task_machine.specs.Read.{instance_of, place_of, position_of, word_of}
+use Rattle.task_machine.specs.Read.{place_of, position_of}
 use Rattle.task_machine.specs.Write.{on_instance, on_thread, set_how_far, set_position, set_register, set_word}
 use Rattle.task_rules.specs.Data.{advanced, assigned, data_row, moved_to, skip_row, skipped, stored}
 use Rattle.task_rules.specs.Progress.{Goes}
-use Rattle.task_rules.specs.Scripts.{op_of, script_in, script_of, value_in, value_of}
+use Rattle.task_rules.specs.Scripts.{op_of, script_in, script_of, value_in}
 use Rattle.task_rules.specs.Step.{Step}
 use Rattle.task_simple.specs.Simple.{IsSimple}
 use Rattle.task_simple.proofs.StepLemmas.{run_data}
@@ -85,36 +83,13 @@ module _ (s : Seen) (simple : IsSimple s.core) (r : Running) (about : IsAbout s 
         script_is : length (script_of c n s.core) ≡ length (script_in c r.callee script.Start)
         script_is = ap length (about_script s simple r about c) ∙ ap (λ f. length (script_in c f script.Start)) (sym about.callee)
 
-  -- ---- The rows
-
-  -- an operand's value, as it was read
-  read : (x : Operand) (v : ℕ) → v ≡ value_in r.registers x → value_of n s.core x ≡ v
-  read x v is = about_value s simple r about x ∙ sym is
-
-  pub set_is : (k : ℕ) (x : Operand) (v : ℕ) → op_of c n s.core ≡ op.Data (data_op.Set k x) → v ≡ value_in r.registers x → IsData c n s.core (data_label.Set n v) (assigned n k v s.core)
-  set_is k x v op_is is = (data_op.Set k x, (op_is, ap (λ w. Goes (label.Data (data_label.Set n w)) (assigned n k w s.core) n) (read x v is)))
-
-  pub add_is : (k : ℕ) (x : Operand) (v : ℕ) → op_of c n s.core ≡ op.Data (data_op.Add k x) → v ≡ (value_in r.registers (operand.Register k) + value_in r.registers x) % 2 ^ 64 → IsData c n s.core (data_label.Add n v) (assigned n k v s.core)
-  add_is k x v op_is is = (data_op.Add k x, (op_is, ap (λ w. Goes (label.Data (data_label.Add n w)) (assigned n k w s.core) n)
-      (ap₂ (λ a b. (a + b) % 2 ^ 64) (about_value s simple r about (operand.Register k)) (about_value s simple r about x) ∙ sym is)))
-
-  pub handle_is : (k : ℕ) (x : Operand) (v : ℕ) → op_of c n s.core ≡ op.Data (data_op.Handle k x) → v ≡ value_in r.registers x / 16 → IsData c n s.core (data_label.Handle n v) (assigned n k v s.core)
-  handle_is k x v op_is is = (data_op.Handle k x, (op_is, ap (λ w. Goes (label.Data (data_label.Handle n w)) (assigned n k w s.core) n) (ap (λ a. a / 16) (about_value s simple r about x) ∙ sym is)))
-
-  pub load_is : (k w v : ℕ) → op_of c n s.core ≡ op.Data (data_op.Load k w) → v ≡ word_of (instance_of n s.core) w s.core → IsData c n s.core (data_label.Load n v) (assigned n k v s.core)
-  load_is k w v op_is is = (data_op.Load k w, (op_is, ap (λ a. Goes (label.Data (data_label.Load n a)) (assigned n k a s.core) n) (sym is)))
-
-  pub store_is : (w : ℕ) (x : Operand) (v : ℕ) → op_of c n s.core ≡ op.Data (data_op.Store w x) → v ≡ value_in r.registers x → IsData c n s.core (data_label.Store n v) (stored n w v s.core)
-  store_is w x v op_is is = (data_op.Store w x, (op_is, ap (λ a. Goes (label.Data (data_label.Store n a)) (stored n w a s.core) n) (read x v is)))
+  -- ---- The row of `skip_eq`
 
   abbrev script_end : ℕ
   script_end = length (script_in c r.callee script.Start)
 
   abbrev passing : Bool → ℕ → ℕ
   passing b ops = min (r.position + 1 + (if b then ops else 0)) script_end
-
-  pub passing_within : (b : Bool) (ops p : ℕ) → p ≡ passing b ops → p ≤ script_end
-  passing_within b ops p is = let m : passing b ops ≤ script_end = omega arith in subst (λ q. q ≤ script_end) (sym is) m
 
   position_is : position_of n s.core ≡ r.position
   position_is = about_position s simple r about ∙ sym about.position

@@ -1,4 +1,4 @@
--- The components of the first grammar, and the stores that fit a component.
+-- The components whose exports are callbacks with plain scripts, and the stores that fit a component.
 use Rattle.std.specs.Prelude.{◌≡◌, ℕ, ◌+◌, ◌≤◌, Bool, true, false, length, Some, is_some, slice_get}
 use Rattle.std.specs.List.{list_all}
 use Rattle.std.specs.Option.{option_map}

@@ -1,6 +1,5 @@
 -- The thread has an op more, and goes on after it.
 use Rattle.std.specs.Prelude.{◌≡◌, ◌<◌, ◌+◌, ◌^◌}
-use Rattle.task_machine.specs.declared.label.DataLabel.TheVariants as data_label
 use Rattle.task_machine.specs.Read.{position_of}
 use Rattle.task_rules.specs.Data.{assigned}
 use Rattle.task_state.specs.Seen.{with_core}

@@ -1,6 +1,5 @@
 -- The op is the one that was read.
 use Rattle.std.proofs.Common.{ap, ◌∙◌}
-use Rattle.task_machine.specs.declared.op.Op.{Op}
 use Rattle.task_machine.specs.declared.op.Op.TheVariants as op
 use Rattle.task_machine.specs.declared.op.TaskOp.{TaskOp}
 use Rattle.task_loop.proofs.step.ends.Goals as goal
