@@ -107,7 +107,12 @@ module _ (s : Seen) (simple : IsSimple s.core) (r : Running) (about : IsAbout s 
       ap (λ p. Goes (label.Data (data_label.SkipEq n)) (moved_to n p s.core) n) next
 
   pub skip_is : (x y : Operand) (ops p : ℕ) → op_of c n s.core ≡ op.Data (data_op.SkipEq x y ops) → p ≡ passing (value_in r.registers x == value_in r.registers y) ops → IsData c n s.core (data_label.SkipEq n) (moved_to n p s.core)
-  skip_is x y ops p op_is is = (data_op.SkipEq x y ops, (op_is,
+  skip_is x y ops p op_is is = (
+    data_op.SkipEq x y ops,
+    (
+      op_is,
       ap₂ (λ a b. skip_row c n ops s.core (a == b)) (about_value s simple r about x) (about_value s simple r about y)
-      ∙ skip_where (value_in r.registers x == value_in r.registers y) ops (before_data s simple r about c fits (data_op.SkipEq x y ops) op_is)
-      ∙ ap (λ q. Goes (label.Data (data_label.SkipEq n)) (moved_to n q s.core) n) (sym is)))
+          ∙ skip_where (value_in r.registers x == value_in r.registers y) ops (before_data s simple r about c fits (data_op.SkipEq x y ops) op_is)
+          ∙ ap (λ q. Goes (label.Data (data_label.SkipEq n)) (moved_to n q s.core) n) (sym is),
+    ),
+  )

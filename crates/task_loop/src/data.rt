@@ -31,19 +31,47 @@ pub(crate) fn computes<T, H>(
     match op {
         DataOp::Set { to, value } => {
             let answer = operand_value(&running.registers, value);
-            assigns(component, store, running, to, answer, DataLabel::Set(number, answer))
+            assigns(
+                component,
+                store,
+                running,
+                to,
+                answer,
+                DataLabel::Set(number, answer),
+            )
         }
         DataOp::Add { to, value } => {
             let answer = sum(running, to, value);
-            assigns(component, store, running, to, answer, DataLabel::Add(number, answer))
+            assigns(
+                component,
+                store,
+                running,
+                to,
+                answer,
+                DataLabel::Add(number, answer),
+            )
         }
         DataOp::Handle { to, value } => {
             let answer = operand_value(&running.registers, value) / 16;
-            assigns(component, store, running, to, answer, DataLabel::Handle(number, answer))
+            assigns(
+                component,
+                store,
+                running,
+                to,
+                answer,
+                DataLabel::Handle(number, answer),
+            )
         }
         DataOp::Load { to, word } => {
             let answer = store.state.word(word);
-            assigns(component, store, running, to, answer, DataLabel::Load(number, answer))
+            assigns(
+                component,
+                store,
+                running,
+                to,
+                answer,
+                DataLabel::Load(number, answer),
+            )
         }
         DataOp::Store { word, value } => {
             let answer = operand_value(&running.registers, value);

@@ -179,7 +179,8 @@ impl ConcurrentState {
         Ok(Taken::Runs(number))
     }
 
-    /// The state is one that lies between two steps of scripts of plain ops; for proofs alone.
+    /// The state is one that lies between two steps of returns, exits and ops on
+    /// registers and words; for proofs alone.
     pub fn is_whole(&self)
         ensures simple { IsSimple self.now.core }
         ensures none { self.now.running ≡ None → NoneRuns self.now.core }
