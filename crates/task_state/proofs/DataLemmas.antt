@@ -1,12 +1,12 @@
 -- What the ops on registers and words come to for the thread that runs.
-use Rattle.std.proofs.Common.{◌≡◌, ◌<◌, ◌+◌, ℕ, Some, refl, sym, ap, subst, ◌∙◌}
+use Rattle.std.proofs.Common.{◌≡◌, ◌+◌, ℕ, Some, refl, sym, ap, subst, ◌∙◌}
 use Rattle.std.specs.Prelude.{IfSome}
 use Rattle.task_machine.specs.declared.records.Call.{Call}
 use Rattle.task_machine.specs.declared.records.Place.TheVariants as place
 use Rattle.task_machine.specs.declared.records.Thread.{Thread}
 use Rattle.task_machine.specs.Core.{Core}
 use Rattle.task_machine.specs.Maps.{get}
-use Rattle.task_machine.specs.Read.{place_of, position_of, task_of}
+use Rattle.task_machine.specs.Read.{place_of, position_of}
 use Rattle.task_machine.specs.Write.{set_position, set_register, set_word}
 use Rattle.task_rules.specs.Data.{assigned, moved_to, stored}
 use Rattle.task_core.specs.Shown.{IsLive, Shown, call_number, number_of, with_core}
