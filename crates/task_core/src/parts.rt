@@ -9,3 +9,4 @@ mod limits;
 mod queues;
 mod starts;
 mod threads;
+mod words;

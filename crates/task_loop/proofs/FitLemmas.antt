@@ -1,7 +1,7 @@
 -- The moves of a store keep it fit for its component.
 use Rattle.std.proofs.Common.{ap, arith, refl, subst, sym, ◌∙◌, ◌≤◌, ◌<◌}
 use Rattle.std.specs.Option.{option_map_or}
-use Rattle.std.specs.Prelude.{Bool, List, None, Option, Some, [], false, true, is_some, length, option_map, ℕ, ◌+◌, ◌≡◌}
+use Rattle.std.specs.Prelude.{Bool, List, None, Option, Some, [], false, true, is_some, length, option_map, slice_set, ℕ, ◌+◌, ◌≡◌}
 use Rattle.task_machine.specs.declared.component.Callee.{Callee}
 use Rattle.task_machine.specs.declared.component.Component.{Component}
 use Rattle.task_machine.specs.declared.component.ExportKind.{ExportKind}
@@ -22,16 +22,18 @@ use Rattle.task_machine.specs.declared.records.Thread.{Thread}
 use Rattle.task_machine.specs.declared.words.Mark.TheVariants as mark
 use Rattle.task_machine.specs.Core.{Core}
 use Rattle.task_machine.specs.Maps.{Records, change, get, remove}
-use Rattle.task_machine.specs.Read.{callee_of, instance_of, new_thread_handle, no_callee, position_of}
-use Rattle.task_machine.specs.Write.{add_call, add_group, add_thread, free_thread_handle, give_result, give_thread_handle, on_call, on_instance, on_thread, push_high, remove_call, remove_group, remove_thread, set_do_not_enter, set_end, set_high, set_place, set_position, set_started, set_starting_published, set_thread_handle, set_trapped, take_result}
+use Rattle.task_machine.specs.Read.{callee_of, instance_of, new_thread_handle, no_callee, place_of, position_of}
+use Rattle.task_machine.specs.Write.{add_call, add_group, add_thread, free_thread_handle, give_result, give_thread_handle, on_call, on_instance, on_thread, push_high, remove_call, remove_group, remove_thread, set_do_not_enter, set_end, set_high, set_place, set_position, set_register, set_word, set_started, set_starting_published, set_thread_handle, set_trapped, take_result}
 use Rattle.task_machine.proofs.MapLemmas.{change-field, get-remove_other, get-remove_same}
 use Rattle.task_rules.specs.Calls.{new_call, new_thread}
+use Rattle.task_rules.specs.Data.{assigned, moved_to, stored}
 use Rattle.task_rules.specs.Scripts.{export_at, registers_for, script_in, script_of, script_of_thread}
 use Rattle.task_rules.specs.Takes.{popped}
 use Rattle.task_simple.specs.Forms.{call_started, exit_done, return_done, start_done, start_put_off, trap_done}
-use Rattle.task_simple.specs.Simple.{IsPlain, held_start, ready_start}
+use Rattle.task_simple.specs.Simple.{IsPlain, IsSimple, held_start, ready_start}
 use Rattle.task_simple.proofs.BeginLemmas.{no_thread_yet}
 use Rattle.task_simple.proofs.CaseLemmas.{change_cases, either, insert_cases}
+use Rattle.task_simple.proofs.DataLemmas.{assigned_is, moved_is, stored_is}
 use Rattle.task_simple.proofs.FoundLemmas.{return_done_is}
 use Rattle.task_loop.specs.Fit.{Fits, IsPlaced}
 
@@ -296,3 +298,37 @@ module _ (c : Component) (s : Core) (plain : IsPlain s) (fits : Fits c s) where
       let h = push_high (entry.Thread k) g in
       let in_f = with_thread d (with_call d exported) t refl refl in
       fits_keeps c g h (keeps_same g h refl refl refl) (fits_keeps c f g (keeps-set_place k ready_start f) in_f)
+
+-- ---- An op on registers and words
+
+keeps-set_register : (n r v : ℕ) (s : Core) → Keeps s (set_register n r v s)
+unfolding set_register
+keeps-set_register n r v s = keeps-on_thread n (λ t. record t { registers = slice_set t.registers r v }) (λ t. refl) s
+
+keeps-set_word : (i w v : ℕ) (s : Core) → Keeps s (set_word i w v s)
+unfolding set_word on_instance
+keeps-set_word i w v s = record { instances = λ q. is_some-change s.instances i (λ (r : Instance). record r { words = slice_set r.words w v }) q; calls = λ q y is. is; threads = λ q y is. is }
+
+module _ (c : Component) (s : Core) (fits : Fits c s) (n : ℕ) where
+  -- nothing that the fit is about is written, and the thread goes on at a place of its script
+  fits_on : (x : Core) → Keeps s x → (p : ℕ) → p ≤ length (script_of c n s) → Fits c (set_position n p x)
+  unfolding script_of
+  fits_on x keeps p within = fits-set_position c x (fits_keeps c s x keeps fits) n p (λ u is d call.
+      let k = found_key thread_key (get s.threads n) (thread_key u) (keeps.threads n (thread_key u) (ap (option_map thread_key) is)) in
+      let e = found_key call_key (get s.calls u.call) (call_key d) (keeps.calls u.call (call_key d) (ap (option_map call_key) call)) in
+      let callee : callee_of u.call s ≡ d.callee = ap (λ o. option_map_or (λ c. c.callee) o no_callee) e.1.0 ∙ ap (λ (y : CallKey). y.0) e.1.1 in
+      let lengths : length (script_of c n s) ≡ length (script_in c d.callee u.script) =
+      ap (λ o. length (option_map_or (script_of_thread c s) o [])) k.1.0
+      ∙ ap (λ (y : ThreadKey). length (script_in c (callee_of y.0 s) y.1)) k.1.1
+      ∙ ap (λ f. length (script_in c f u.script)) callee in
+      subst (λ m. p ≤ m) lengths within)
+
+  module _ (simple : IsSimple s) (at : place_of n s ≡ Some place.Running) where
+    pub fits-assigned : (r v : ℕ) → position_of n s < length (script_of c n s) → Fits c (assigned n r v s)
+    fits-assigned r v before = subst (Fits c) (sym (assigned_is n r v s simple at)) (fits_on (set_register n r v s) (keeps-set_register n r v s) (position_of n s + 1) (omega (arith, before)))
+
+    pub fits-stored : (w v : ℕ) → position_of n s < length (script_of c n s) → Fits c (stored n w v s)
+    fits-stored w v before = subst (Fits c) (sym (stored_is n w v s simple at)) (fits_on (set_word (instance_of n s) w v s) (keeps-set_word (instance_of n s) w v s) (position_of n s + 1) (omega (arith, before)))
+
+    pub fits-moved : (p : ℕ) → p ≤ length (script_of c n s) → Fits c (moved_to n p s)
+    fits-moved p within = subst (Fits c) (sym (moved_is n p s simple at)) (fits_on s (keeps_same s s refl refl refl) p within)

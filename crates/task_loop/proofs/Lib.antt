@@ -7,3 +7,4 @@ pub mod RunLemmas
 pub mod TurnLemmas
 pub mod CallLemmas
 pub mod TestLemmas
+pub mod DataLemmas

@@ -10,6 +10,7 @@ use Rattle.task_core.specs.declared.error.TaskError.TheVariants as task_error
 use Rattle.task_machine.specs.declared.component.Callee.{Callee}
 use Rattle.task_machine.specs.declared.component.Component.{Component}
 use Rattle.task_machine.specs.declared.component.ExportDef.{ExportDef}
+use Rattle.task_machine.specs.declared.op.DataOp.{DataOp}
 use Rattle.task_machine.specs.declared.op.Op.{Op}
 use Rattle.task_machine.specs.declared.op.Op.TheVariants as op
 use Rattle.task_machine.specs.declared.op.Operand.{Operand}
@@ -31,13 +32,13 @@ use Rattle.task_loop.specs.declared.step.Made.{Made}
 use Rattle.task_loop.specs.declared.step.Phase.{Phase}
 use Rattle.task_loop.specs.declared.step.Phase.TheVariants as phase
 use Rattle.task_loop.specs.Calls.{Returns, return_refusal}
-use Rattle.task_loop.specs.Fit.{Fits, IsFirstComponent, is_first_op}
+use Rattle.task_loop.specs.Fit.{Fits, IsFirstComponent, is_plain_op}
 use Rattle.task_loop.specs.Made.{IsReturn}
 use Rattle.task_state.specs.Moves.{Exits, IsAbout}
 use Rattle.task_state.specs.Seen.{Seen, stopped_with, with_core}
 use Rattle.task_loop.specs.Turn.{Makes}
 use Rattle.task_loop.proofs.FitLemmas.{fits-return}
-use Rattle.task_loop.proofs.StepLemmas.{exits_early, exits_now, returns_now, returns_twice}
+use Rattle.task_loop.proofs.StepLemmas.{exits_early, exits_now, returns_badly, returns_badly_twice, returns_now, returns_twice}
 
 -- ---- Scripts of the first grammar
 
@@ -52,12 +53,12 @@ module _ (c : Component) (first : IsFirstComponent c) (f : Callee) where
   script_short : length (script_in c f script.Start) ≤ 4096
   script_short = short_at (export_at c f) refl
 
-  first_at : (i : ℕ) (x : Op) (o : Option ExportDef) → export_at c f ≡ o → slice_get (option_map_or (λ d. d.start) o []) i ≡ Some x → is_first_op x ≡ true
-  first_at i x None is at = let within = slice_get_within [] i x at in absurd (omega arith)
-  first_at i x (Some e) is at = list_all_at is_first_op e.start i x (first f e is).ops at
+  plain_at : (i : ℕ) (x : Op) (o : Option ExportDef) → export_at c f ≡ o → slice_get (option_map_or (λ d. d.start) o []) i ≡ Some x → is_plain_op x ≡ true
+  plain_at i x None is at = let within = slice_get_within [] i x at in absurd (omega arith)
+  plain_at i x (Some e) is at = list_all_at is_plain_op e.start i x (first f e is).ops at
 
-  pub is_first_at : (i : ℕ) (x : Op) → slice_get (script_in c f script.Start) i ≡ Some x → is_first_op x ≡ true
-  is_first_at i x at = first_at i x (export_at c f) refl at
+  pub is_plain_at : (i : ℕ) (x : Op) → slice_get (script_in c f script.Start) i ≡ Some x → is_plain_op x ≡ true
+  is_plain_at i x at = plain_at i x (export_at c f) refl at
 
 -- ---- What is read of the running thread
 
@@ -82,7 +83,7 @@ module _ (s : Seen) (simple : IsSimple s.core) (r : Running) (about : IsAbout s 
   pub about_position : position_of n s.core ≡ about.thread.position
   about_position = position_found s.core n about.thread about.thread_is
 
-  about_script : (c : Component) → script_of c n s.core ≡ script_in c about.call.callee script.Start
+  pub about_script : (c : Component) → script_of c n s.core ≡ script_in c about.call.callee script.Start
   unfolding script_of
   about_script c =
       let t = simple.plain.threads n about.thread about.thread_is in
@@ -119,6 +120,16 @@ module _ (s : Seen) (simple : IsSimple s.core) (r : Running) (about : IsAbout s 
           | inr w ↦ absurd (let gone = ap (λ o. unwrap_or o (op.Task task.Exit)) w.1 in let clash : op.Task (task.Ret x) ≡ op.Task task.Exit = sym is ∙ found ∙ gone in cc)
         ]
 
+    pub before_data : (x : DataOp) → op_of c n s.core ≡ op.Data x → position_of n s.core < length (script_of c n s.core)
+    before_data x is =
+        let found = op_found c s.core simple.plain n about.thread about.call about.thread_is about.call_is in
+        let lengths = ap length (about_script c) in
+        let at = about_position in
+        elim (slice_get_cases (script_in c about.call.callee script.Start) about.thread.position).1 [
+          | inl w ↦ let h = w.1 in omega arith
+          | inr w ↦ absurd (let gone = ap (λ o. unwrap_or o (op.Task task.Exit)) w.1 in let clash : op.Data x ≡ op.Task task.Exit = sym is ∙ found ∙ gone in cc)
+        ]
+
     -- ---- What its op comes to
 
     module _ (at : place_of n s.core ≡ Some place.Running) where
@@ -147,6 +158,12 @@ module _ (s : Seen) (simple : IsSimple s.core) (r : Running) (about : IsAbout s 
       pub refused : (v : ℕ) → IsReturn c n v s.core → (q : Trap) (t : Seen) → Returns n v s (return_refusal (has_ended n s.core) true) (Err (task_error.Trap q)) t
           → Makes c (phase.Run n) s (record { label = trap_label n q; phase = phase.Over }) (stopped_with (trap_done n t.core))
       refused v ret q t h = refused_where (has_ended n s.core) refl v ret q t h
+
+      pub returned_badly : (x : Operand) → op_of c n s.core ≡ op.Task (task.RetBad x) → r.ended ≡ false → Makes c (phase.Run n) s (record { label = trap_label n trap.TaskReturnInvalid; phase = phase.Over }) (stopped_with (trap_done n s.core))
+      returned_badly x is unended = returns_badly s simple c fits n at x is (about_end ∙ unended)
+
+      pub returned_badly_twice : (x : Operand) → op_of c n s.core ≡ op.Task (task.RetBad x) → r.ended ≡ true → Makes c (phase.Run n) s (record { label = trap_label n trap.TaskCancelOrReturnTwice; phase = phase.Over }) (stopped_with (trap_done n s.core))
+      returned_badly_twice x is ended = returns_badly_twice s simple c fits n at x is (about_end ∙ ended)
 
       pub exited : (t : Seen) → op_of c n s.core ≡ op.Task task.Exit → r.ended ≡ true → Exits n s t → Makes c (phase.Run n) s (record { label = exit_label n None; phase = phase.Main }) t
       exited t is ended h =

@@ -26,7 +26,7 @@ use Rattle.task_rules.specs.Takes.{popped}
 use Rattle.task_rules.specs.Turns.{at_turn, goes_to}
 use Rattle.task_simple.specs.Forms.{exit_done, return_done, start_done, start_put_off, trap_done}
 use Rattle.task_simple.specs.Simple.{IsPlain, IsSimple}
-use Rattle.task_simple.proofs.StepLemmas.{run_exit, run_exit_early, run_return, run_return_twice, take_deadlock_while, take_full, take_put_off, take_start}
+use Rattle.task_simple.proofs.StepLemmas.{run_exit, run_exit_early, run_return, run_return_bad, run_return_bad_twice, run_return_twice, take_deadlock_while, take_full, take_put_off, take_start}
 use Rattle.task_loop.specs.declared.step.Phase.TheVariants as phase
 use Rattle.task_state.specs.declared.taken.Taken.{Taken}
 use Rattle.task_state.specs.declared.taken.Taken.TheVariants as taken
@@ -48,7 +48,7 @@ to_over : (s new : Core) (m : Main) (x : _) → goes_to (state_at s m x) new tur
 unfolding at_turn
 to_over s new m x = refl
 
-to_run : (s new : Core) (m : Main) (x : _) (n : ℕ) → goes_to (state_at s m x) new (turn.Run n) ≡ state_at new m (turn.Run n)
+pub to_run : (s new : Core) (m : Main) (x : _) (n : ℕ) → goes_to (state_at s m x) new (turn.Run n) ≡ state_at new m (turn.Run n)
 unfolding at_turn
 to_run s new m x n = refl
 
@@ -172,6 +172,12 @@ module _ (s : Seen) (simple : IsSimple s.core) (c : Component) (fits : Fits c s.
 
   pub returns_twice : (o : Operand) → op_of c n s.core ≡ op.Task (task.Ret o) → has_ended n s.core ≡ true → Makes c (phase.Run n) s (record { label = trap_label n trap.TaskCancelOrReturnTwice; phase = phase.Over }) (stopped_with (trap_done n s.core))
   returns_twice o op_is ended = strikes trap.TaskCancelOrReturnTwice (λ x is m. run_return_twice x (state_at s.core m (turn.Run n)) simple n refl at o (same_op x is _ op_is) ended)
+
+  pub returns_badly : (o : Operand) → op_of c n s.core ≡ op.Task (task.RetBad o) → has_ended n s.core ≡ false → Makes c (phase.Run n) s (record { label = trap_label n trap.TaskReturnInvalid; phase = phase.Over }) (stopped_with (trap_done n s.core))
+  returns_badly o op_is unended = strikes trap.TaskReturnInvalid (λ x is m. run_return_bad x (state_at s.core m (turn.Run n)) simple n refl at o (same_op x is _ op_is) unended)
+
+  pub returns_badly_twice : (o : Operand) → op_of c n s.core ≡ op.Task (task.RetBad o) → has_ended n s.core ≡ true → Makes c (phase.Run n) s (record { label = trap_label n trap.TaskCancelOrReturnTwice; phase = phase.Over }) (stopped_with (trap_done n s.core))
+  returns_badly_twice o op_is ended = strikes trap.TaskCancelOrReturnTwice (λ x is m. run_return_bad_twice x (state_at s.core m (turn.Run n)) simple n refl at o (same_op x is _ op_is) ended)
 
   pub exits_early : op_of c n s.core ≡ op.Task task.Exit → has_ended n s.core ≡ false → Makes c (phase.Run n) s (record { label = trap_label n trap.NoAsyncResult; phase = phase.Over }) (stopped_with (trap_done n s.core))
   exits_early op_is unended = strikes trap.NoAsyncResult (λ x is m. run_exit_early x (state_at s.core m (turn.Run n)) simple n refl at (same_op x is _ op_is) unended)

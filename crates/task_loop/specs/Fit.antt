@@ -1,4 +1,4 @@
--- The components of the first grammar, and the stores that fit a component.
+-- The components whose exports are callbacks with plain scripts, and the stores that fit a component.
 use Rattle.std.specs.Prelude.{◌≡◌, ℕ, ◌+◌, ◌≤◌, Bool, true, false, length, Some, is_some, slice_get}
 use Rattle.std.specs.List.{list_all}
 use Rattle.std.specs.Option.{option_map}
@@ -16,22 +16,25 @@ use Rattle.task_machine.specs.Core.{Core}
 use Rattle.task_machine.specs.Maps.{get}
 use Rattle.task_rules.specs.Scripts.{export_at, script_in}
 
-abbrev pub is_first_op : Op → Bool
-is_first_op (op.Task (task.Ret x)) = true
-is_first_op (op.Task task.Exit) = true
-is_first_op _ = false
+-- the op is of the running thread alone: it is done in one step, and concerns no set, no call and no other thread
+abbrev pub is_plain_op : Op → Bool
+is_plain_op (op.Data x) = true
+is_plain_op (op.Task (task.Ret x)) = true
+is_plain_op (op.Task (task.RetBad x)) = true
+is_plain_op (op.Task task.Exit) = true
+is_plain_op _ = false
 
--- A callback whose script returns and exits.
+-- A callback whose script has plain ops alone.
 pub record IsFirstExport (e : ExportDef) : Type 0 where
   pub called_back : e.kind ≡ kind.Callback
   pub few_params : e.params ≤ 16
   pub short : length e.start ≤ 4096
-  pub ops : list_all is_first_op e.start ≡ true
+  pub ops : list_all is_plain_op e.start ≡ true
 
 abbrev pub IsFirstComponent : Component → Type 0
 IsFirstComponent c = (f : Callee) (e : ExportDef) → export_at c f ≡ Some e → IsFirstExport e
 
--- The thread, of this call, is at a place in its script or at its end. An op of the first grammar is done in one step, so none has begun.
+-- The thread, of this call, is at a place in its script or at its end. A plain op is done in one step, so none has begun.
 pub record IsPlaced (c : Component) (x : Call) (t : Thread) : Type 0 where
   pub place : t.position ≤ length (script_in c x.callee t.script)
   pub op : t.how_far ≡ how_far.Fresh

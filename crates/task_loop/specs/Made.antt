@@ -4,6 +4,8 @@ use Rattle.task_machine.specs.declared.component.Component.{Component}
 use Rattle.task_machine.specs.declared.label.Label.TheVariants as label
 use Rattle.task_machine.specs.declared.label.LoopLabel.TheVariants as loop_label
 use Rattle.task_machine.specs.declared.label.MainLabel.TheVariants as main_label
+use Rattle.task_machine.specs.declared.label.DataLabel.{DataLabel}
+use Rattle.task_machine.specs.declared.op.DataOp.{DataOp}
 use Rattle.task_machine.specs.declared.op.Op.{Op}
 use Rattle.task_machine.specs.declared.op.Op.TheVariants as op
 use Rattle.task_machine.specs.declared.op.Operand.{Operand}
@@ -12,11 +14,15 @@ use Rattle.task_machine.specs.declared.trap.Trap.TheVariants as trap
 use Rattle.task_machine.specs.declared.words.Mark.TheVariants as mark
 use Rattle.task_machine.specs.Core.{Core}
 use Rattle.task_machine.specs.Labels.{held_label, take_label}
+use Rattle.task_rules.specs.Data.{data_row}
+use Rattle.task_rules.specs.Progress.{Goes}
 use Rattle.task_rules.specs.Scripts.{op_of, value_of}
 use Rattle.task_rules.specs.Step.{trap_label}
 use Rattle.task_loop.specs.declared.main_task.MainStep.{MainStep}
 use Rattle.task_loop.specs.declared.main_task.MainStep.TheVariants as main_step
 use Rattle.task_loop.specs.declared.step.Made.{Made}
+use Rattle.task_loop.specs.declared.step.Next.{Next}
+use Rattle.task_loop.specs.declared.step.Next.TheVariants as next
 use Rattle.task_loop.specs.declared.step.Phase.TheVariants as phase
 use Rattle.task_state.specs.declared.taken.Taken.{Taken}
 use Rattle.task_state.specs.declared.taken.Taken.TheVariants as taken
@@ -40,11 +46,14 @@ abbrev pub Took : Seen → Option Made → Seen → Type 0
 Took s None t = (s.core.queues.high ≡ []) × (t ≡ s)
 Took s (Some made) t = (c : Component) → Fits c s.core → Makes c phase.Take s made t
 
--- the op that returns this; that which exits, where it is none
-abbrev pub op_of_return : Option Operand → Op
-op_of_return (Some x) = op.Task (task.Ret x)
-op_of_return None = op.Task task.Exit
+abbrev pub op_of_next : Next → Op
+op_of_next (next.Data o) = op.Data o
+op_of_next (next.Task o) = op.Task o
 
 -- the thread n is about to return v
 abbrev pub IsReturn : Component → (n v : ℕ) → Core → Type 0
 IsReturn c n v s = (x : Operand) × ((op_of c n s ≡ op.Task (task.Ret x)) × (v ≡ value_of n s x))
+
+-- the thread n is about to do an op on registers and words that shows this and comes to this core
+abbrev pub IsData : Component → ℕ → Core → DataLabel → Core → Type 0
+IsData c n s l new = (o : DataOp) × ((op_of c n s ≡ op.Data o) × (data_row c n s o ≡ Goes (label.Data l) new n))

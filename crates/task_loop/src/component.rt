@@ -1,4 +1,4 @@
-ghost use Rattle.std.specs.Prelude.{◌≡◌, option_copied, slice_get};
+ghost use Rattle.std.specs.Prelude.{◌≡◌, length, option_copied, slice_get};
 ghost use Rattle.task_rules.specs.Scripts.{export_at, script_in, value_in};
 
 use task_machine::{Callee, Component, ExportDef, Op, Operand, Script};
@@ -36,4 +36,14 @@ pub fn script_op(component: &Component, callee: Callee, position: u32) -> Option
 {
     let def = export_def(component, callee)?;
     op_at(def, position)
+}
+
+/// How many ops an export's start script has; 0 where the component has no such export.
+pub fn script_length(component: &Component, callee: Callee) -> usize
+    ensures { result ≡ length (script_in component.now callee Script.Start) }
+{
+    match export_def(component, callee) {
+        Some(def) => def.start.as_slice().len(),
+        None => 0,
+    }
 }

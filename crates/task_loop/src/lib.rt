@@ -3,6 +3,7 @@
 
 mod call;
 mod component;
+mod data;
 mod instance;
 mod main_task;
 mod run;

@@ -7,17 +7,18 @@ ghost use Rattle.task_rules.specs.Step.{trap_label};
 ghost use Rattle.task_simple.specs.Forms.{trap_done};
 ghost use Rattle.task_state.specs.Seen.{stopped_with};
 ghost use Rattle.task_state.specs.Moves.{IsAbout};
-ghost use Rattle.task_loop.specs.Fit.{IsFirstComponent, Fits, given, is_first_op};
+ghost use Rattle.task_loop.specs.Fit.{IsFirstComponent, Fits, given, is_plain_op};
 ghost use Rattle.task_loop.specs.Main.{Steps};
 ghost use Rattle.task_loop.specs.Turn.{Makes, Turns};
-ghost use Rattle.task_loop.specs.Made.{made_by, made_by_main, op_of_return, IsReturn, Took};
+ghost use Rattle.task_loop.specs.Made.{made_by, made_by_main, op_of_next, IsReturn, Took};
 
 use crate::component::{operand_value, script_op};
+use crate::data::computes;
 use crate::instance::Instance;
 use crate::main_task::{MainStep, MainTask};
 use task_core::{NoMemory, TaskError};
 use task_machine::{
-    Component, IdleLine, Label, LoopLabel, MainLabel, Mark, Op, Operand, Script, TakeLabel,
+    Component, DataOp, IdleLine, Label, LoopLabel, MainLabel, Mark, Op, Operand, Script, TakeLabel,
     TaskLabel, TaskOp, Trap,
 };
 use task_state::{Running, Taken};
@@ -162,39 +163,78 @@ pub fn step_run<T, H>(component: &Component, store: &mut Store<T, H>) -> Result<
     let Some(running) = store.state.running() else {
         unreachable!()
     };
-    match next_return(component, &running) {
-        Some(operand) => {
-            let value = operand_value(&running.registers, operand);
-            returns(component, store, &running, value)
-        }
-        None => Ok(exits(store, &running)),
+    match next_op(component, &running) {
+        Next::Data(op) => Ok(computes(component, store, &running, op)),
+        Next::Task(op) => ends(component, store, &running, op),
     }
 }
 
-// What an op of the first grammar returns; none where it exits.
-fn return_of(op: &Op) -> Option<Operand>
-    requires { is_first_op op.now ≡ true }
-    ensures { op.now ≡ op_of_return result }
+// A plain op, to be done next.
+#[derive(Clone, Copy, Debug)]
+enum Next {
+    Data(DataOp),
+    Task(TaskOp),
+}
+
+fn next_of(op: &Op) -> Next
+    requires { is_plain_op op.now ≡ true }
+    ensures { op.now ≡ op_of_next result }
 {
     match op {
-        Op::Task(op) => match op {
-            TaskOp::Ret { value } => Some(*value),
-            TaskOp::Exit => None,
-            _ => unreachable!(),
-        },
+        Op::Data(op) => Next::Data(*op),
+        Op::Task(op) => Next::Task(*op),
         _ => unreachable!(),
     }
 }
 
-// What the op of the running thread returns; none where it exits, as a script does at its end.
-fn next_return(component: &Component, running: &Running) -> Option<Operand>
+// The op of the running thread. It exits at its script's end.
+fn next_op(component: &Component, running: &Running) -> Next
     requires { IsFirstComponent component.now }
-    ensures { op_of_return result ≡ unwrap_or (slice_get (script_in component.now running.now.callee Script.Start) running.now.position) (Op.Task TaskOp.Exit) }
+    ensures op { op_of_next result ≡ unwrap_or (slice_get (script_in component.now running.now.callee Script.Start) running.now.position) (Op.Task TaskOp.Exit) }
+    ensures plain { is_plain_op (op_of_next result) ≡ true }
 {
     match script_op(component, running.callee, running.position) {
-        Some(op) => return_of(op),
-        None => None,
+        Some(op) => next_of(op),
+        None => Next::Task(TaskOp::Exit),
     }
+}
+
+// An op that ends the task or the activation.
+fn ends<T, H>(
+    component: &Component,
+    store: &mut Store<T, H>,
+    running: &Running,
+    op: TaskOp,
+) -> Result<Made, NoMemory>
+    requires first { IsFirstComponent component.now }
+    requires fits { Fits component.now store.old.state.core }
+    requires about { IsAbout store.old.state running.now }
+    requires op { op_of component.now running.now.number store.old.state.core ≡ Op.Task op }
+    requires plain { is_plain_op (Op.Task op) ≡ true }
+    ensures { IfOk result (λ made. Makes component.now (Phase.Run running.now.number) store.old.state made store.new.state) }
+{
+    store.state.is_whole();
+    match op {
+        TaskOp::Ret { value } => {
+            let value = operand_value(&running.registers, value);
+            returns(component, store, running, value)
+        }
+        TaskOp::RetBad { value: _ } => Ok(returns_badly(store, running)),
+        TaskOp::Exit => Ok(exits(store, running)),
+        _ => unreachable!(),
+    }
+}
+
+// `ret_bad X`
+fn returns_badly<T, H>(store: &mut Store<T, H>, running: &Running) -> Made
+    requires { IsAbout store.old.state running.now }
+    ensures { (c : Component) → Fits c store.old.state.core → (x : Operand) → op_of c running.now.number store.old.state.core ≡ Op.Task (TaskOp.RetBad x) → Makes c (Phase.Run running.now.number) store.old.state result store.new.state }
+{
+    store.state.is_whole();
+    if running.ended {
+        return traps(store, running, Trap::TaskCancelOrReturnTwice);
+    }
+    traps(store, running, Trap::TaskReturnInvalid)
 }
 
 // `ret X`

@@ -1,14 +1,15 @@
-ghost use Rattle.std.specs.Prelude.{◌≡◌, [], IfOk, OnOk, None, length, IsSome, IfSome};
+ghost use Rattle.std.specs.Prelude.{◌≡◌, ◌≤◌, [], true, IfOk, OnOk, None, length, IsSome, IfSome};
+ghost use Rattle.std.specs.List.{list_all};
 ghost use Rattle.task_machine.specs.Core.{Main, Unscripted};
 ghost use Rattle.task_rules.specs.Scripts.{export_at};
 ghost use Rattle.task_loop.specs.Calls.{callee_of};
-ghost use Rattle.task_loop.specs.Fit.{IsFirstComponent, Fits, given};
+ghost use Rattle.task_loop.specs.Fit.{IsFirstComponent, Fits, given, is_plain_op};
 
 use super::*;
 use futures::task::Poll;
 use std::alloc::Global;
 use std::test::Fail;
-use task_machine::{Callee, ExportKind, LoopLabel, MainLabel, Seq, TaskOp, Trap};
+use task_machine::{Callee, DataOp, ExportKind, LoopLabel, MainLabel, Seq, TaskOp, Trap};
 use task_store::{Access, Store, Whole};
 
 const CALLEE: Func = Func {
@@ -16,17 +17,45 @@ const CALLEE: Func = Func {
     export: 0,
 };
 
-// A component with one callback export, which returns its first parameter.
+// Adds 2 to the first parameter, by way of the instance's words, and returns it.
+fn script(alloc: Global) -> Result<Seq<Op>, Fail>
+    ensures plain { IfOk result (λ ops. list_all is_plain_op ops ≡ true) }
+    ensures short { IfOk result (λ ops. length ops ≤ 4096) }
+{
+    let value = Operand::Register(2);
+    let mut ops = Seq::new(alloc);
+    ops.push(Op::Data(DataOp::Set {
+        to: 2,
+        value: Operand::Number(33),
+    }))?;
+    ops.push(Op::Data(DataOp::Handle { to: 2, value }))?;
+    ops.push(Op::Data(DataOp::Add { to: 0, value }))?;
+    let left = Operand::Register(0);
+    let right = Operand::Register(1);
+    ops.push(Op::Data(DataOp::Store {
+        word: 3,
+        value: left,
+    }))?;
+    ops.push(Op::Data(DataOp::Load { to: 1, word: 3 }))?;
+    let ops_over = 1;
+    ops.push(Op::Data(DataOp::SkipEq {
+        left,
+        right,
+        ops: ops_over,
+    }))?;
+    ops.push(Op::Task(TaskOp::RetBad { value }))?;
+    ops.push(Op::Task(TaskOp::Ret { value: right }))?;
+    Ok(ops)
+}
+
+// A component with one callback export, which has that script.
 fn component(alloc: Global) -> Result<Component, Fail>
     ensures first { IfOk result IsFirstComponent }
     ensures there { IfOk result (λ c. IsSome (export_at c (callee_of CALLEE))) }
     ensures params { IfOk result (λ c. IfSome (export_at c (callee_of CALLEE)) (λ e. 1 ≡ e.params)) }
     ensures one { IfOk result (λ c. length c.instances ≡ 1) }
 {
-    let mut start = Seq::new(alloc);
-    start.push(Op::Task(TaskOp::Ret {
-        value: Operand::Register(0),
-    }))?;
+    let start = script(alloc)?;
     let mut exports = Seq::new(alloc);
     exports.push(ExportDef {
         kind: ExportKind::Callback,
@@ -113,11 +142,11 @@ fn a_call_runs_while_main_waits(rt: HostRuntime) -> Result<(), Fail> {
     assert_eq!(rt; again, Some(Trap::RecursiveRun));
     let mut main = Host { answer: None };
     let mut trace = Trace::new(rt.alloc());
-    let outcome = run.drive(&component, &mut store, &mut main, 9, &mut trace);
+    let outcome = run.drive(&component, &mut store, &mut main, 16, &mut trace);
     assert_eq!(rt; outcome, Ok(Outcome::Idle));
-    assert_eq!(rt; trace.labels().len(), 5);
+    assert_eq!(rt; trace.labels().len(), 11);
     let result = CALLEE.finish_call_concurrent(&mut store, &mut call);
-    assert_eq!(rt; result, Poll::Ready(7));
+    assert_eq!(rt; result, Poll::Ready(9));
     run.end(&mut store);
     assert!(rt; run_concurrent(&mut store, true).is_ok());
     Ok(())
@@ -189,7 +218,7 @@ fn ops_and_operands_are_read(rt: HostRuntime) -> Result<(), Fail> {
         export: 0,
     };
     assert!(rt; script_op(&component, callee, 0).is_some());
-    assert!(rt; script_op(&component, callee, 1).is_none());
+    assert!(rt; script_op(&component, callee, 8).is_none());
     let registers = [5; 16];
     assert_eq!(rt; operand_value(&registers, Operand::Register(3)), 5);
     assert_eq!(rt; operand_value(&registers, Operand::Number(9)), 9);

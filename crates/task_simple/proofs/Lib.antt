@@ -15,3 +15,4 @@ pub mod UseLemmas
 pub mod StepLemmas
 pub mod FrameLemmas
 pub mod FoundLemmas
+pub mod DataLemmas

@@ -8,6 +8,7 @@ use Rattle.task_machine.specs.declared.label.LoopLabel.TheVariants as loop_label
 use Rattle.task_machine.specs.declared.label.MainLabel.{MainLabel}
 use Rattle.task_machine.specs.declared.label.MainLabel.TheVariants as main_label
 use Rattle.task_machine.specs.declared.scenario.MainOp.{MainOp}
+use Rattle.task_machine.specs.declared.op.DataOp.{DataOp}
 use Rattle.task_machine.specs.declared.op.Op.TheVariants as op
 use Rattle.task_machine.specs.declared.op.Operand.{Operand}
 use Rattle.task_machine.specs.declared.op.TaskOp.TheVariants as task_op
@@ -24,17 +25,19 @@ use Rattle.task_machine.specs.Maps.{get}
 use Rattle.task_machine.specs.Read.{at_handle_limit, fits, has_ended, instance_of, may_not_enter, next_entry, place_of, thread_handle_of}
 use Rattle.task_machine.specs.Write.{set_trapped, take_result}
 use Rattle.task_rules.specs.MainOps.{Answer, Answers, Does, Finish, Pends, act_of, advanced_main, line_of, op_at, Start, main_row}
-use Rattle.task_rules.specs.Progress.{Traps}
+use Rattle.task_rules.specs.Data.{data_row}
+use Rattle.task_rules.specs.Progress.{Goes, Traps, trap_if}
 use Rattle.task_rules.specs.Scripts.{export_kind, op_of, value_of}
 use Rattle.task_rules.specs.Stalled.{Setting, is_idle_trap}
 use Rattle.task_rules.specs.Stalled as stalled
 use Rattle.task_rules.specs.Step.{MainProgresses, ScriptStep, DeadlockStep, EmptyFor, MainStep, OpenProgresses, Progresses, Step, TakeStep, TurnStep, did, op_row, trap_label}
 use Rattle.task_rules.specs.Takes.{popped, take_row}
+use Rattle.task_rules.specs.Task.{ret_bad_row}
 use Rattle.task_rules.specs.Turns.{at_turn, goes_to}
 use Rattle.task_simple.specs.Forms.{call_started, exit_done, return_done, start_done, start_put_off, trap_done}
 use Rattle.task_simple.specs.Simple.{IsPlain, IsSimple}
 use Rattle.task_simple.proofs.QueueLemmas.{next_entry_none, plain_popped}
-use Rattle.task_simple.proofs.ReadLemmas.{deadlock_trap_is, has_moving_work_not, may_deadlock_while}
+use Rattle.task_simple.proofs.ReadLemmas.{deadlock_trap_is, has_moving_work_not, may_deadlock_while, task_of_is}
 use Rattle.task_simple.proofs.RowLemmas.{exit_after_return, exit_early, finish_act_given, finished_is, ret_once, ret_twice, start_act_begun, start_act_full, start_act_trapped, start_done_row, start_held_row, start_refused_row, struck_is, thread_taken_is}
 use Rattle.task_simple.proofs.SimpleLemmas.{call_there, popped_ready, thread_there}
 
@@ -125,6 +128,17 @@ module _ (x : Setting) (s : State) (simple : IsSimple s.core) (n : ℕ) (turn_is
       let c = call_there s.core simple.plain n r.0 r.1 in
       trapping trap.TaskCancelOrReturnTwice (ap (op_row x.component n s.core (choice_of (trap_label n trap.TaskCancelOrReturnTwice))) op_is ∙ ret_twice s.core simple.plain n r.0 r.1 c.0 c.1 (value_of n s.core o) None ended)
 
+  bad_row : (v : Bool) → has_ended n s.core ≡ v → ret_bad_row n s.core ≡ trap_if v trap.TaskCancelOrReturnTwice (Traps trap.TaskReturnInvalid)
+  bad_row v ended =
+      let r = thread_there place.Running n s.core runs in
+      rw (task_of_is s.core simple.plain n r.0 r.1, ended) refl
+
+  pub run_return_bad : (o : Operand) → op_of x.component n s.core ≡ op.Task (task_op.RetBad o) → has_ended n s.core ≡ false → Step x s (trap_label n trap.TaskReturnInvalid) (goes_to s (trap_done n s.core) turn.Over)
+  run_return_bad o op_is unended = trapping trap.TaskReturnInvalid (ap (op_row x.component n s.core (choice_of (trap_label n trap.TaskReturnInvalid))) op_is ∙ bad_row false unended)
+
+  pub run_return_bad_twice : (o : Operand) → op_of x.component n s.core ≡ op.Task (task_op.RetBad o) → has_ended n s.core ≡ true → Step x s (trap_label n trap.TaskCancelOrReturnTwice) (goes_to s (trap_done n s.core) turn.Over)
+  run_return_bad_twice o op_is ended = trapping trap.TaskCancelOrReturnTwice (ap (op_row x.component n s.core (choice_of (trap_label n trap.TaskCancelOrReturnTwice))) op_is ∙ bad_row true ended)
+
   pub run_exit_early : op_of x.component n s.core ≡ op.Task task_op.Exit → has_ended n s.core ≡ false → Step x s (trap_label n trap.NoAsyncResult) (goes_to s (trap_done n s.core) turn.Over)
   run_exit_early op_is unended =
       let r = thread_there place.Running n s.core runs in
@@ -141,6 +155,13 @@ module _ (x : Setting) (s : State) (simple : IsSimple s.core) (n : ℕ) (turn_is
       let core = finished_is s.core simple.plain n r.0 r.1 c.0 c.1 h own ended in
       running l t (subst (λ p. Progresses s s.core n p l t) (sym (ap (op_row x.component n s.core (choice_of l)) op_is ∙ exit_after_return s.core simple.plain n r.0 r.1 c.0 c.1 None ended r.2))
       ([], (record { moves = []; below = tt; is = refl }, (refl, ap (λ y. goes_to s y turn.Main) (sym core)))))
+
+-- an op on registers and words does what its row says
+pub run_data : (x : Setting) (s : State) (n : ℕ) → s.turn ≡ turn.Run n → (o : DataOp) → op_of x.component n s.core ≡ op.Data o → (l : Label) (new : Core) → data_row x.component n s.core o ≡ Goes l new n → Step x s l (goes_to s new (turn.Run n))
+unfolding Step did
+run_data x s n turn_is o op_is l new row =
+    let t = goes_to s new (turn.Run n) in
+    subst (λ u. TurnStep x s u l t) (sym turn_is) (subst (λ p. Progresses s s.core n p l t) (sym (ap (op_row x.component n s.core (choice_of l)) op_is ∙ row)) (refl, refl))
 
 -- ---- Main, which is no script
 

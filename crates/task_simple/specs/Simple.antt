@@ -1,4 +1,4 @@
--- The states that calls by main of callback exports lead to, where scripts have no other ops than `ret` and `exit`.
+-- The states that calls by main of callback exports lead to, where scripts have no other ops than returns, `exit` and those on registers and words.
 use Rattle.std.specs.Prelude.{Bool, None, Option, Some, [], count_by, false, is_some, length, true, ℕ, ◌+◌, ◌<◌, ◌==◌, ◌≡◌, ◌≢◌, ◌≤◌}
 use Rattle.std.specs.List.{list_all}
 use Rattle.std.proofs.Common.{◌⊎◌}

@@ -5,6 +5,7 @@ ghost use Rattle.task_machine.specs.Core.{Core, fresh};
 ghost use Rattle.task_machine.specs.Maps.{get};
 ghost use Rattle.task_machine.specs.Read.{instance_of, may_not_enter, next_entry, place_of, thread_handle_of};
 ghost use Rattle.task_machine.specs.Write.{set_trapped, take_result};
+ghost use Rattle.task_rules.specs.Data.{assigned, moved_to, stored};
 ghost use Rattle.task_rules.specs.Takes.{popped};
 ghost use Rattle.task_simple.specs.Forms.{call_started, exit_done, return_done, start_done, start_put_off, trap_done};
 ghost use Rattle.task_simple.specs.Simple.{IsSimple, NoneRuns};
@@ -51,6 +52,22 @@ pub fn after_start_trap()
 pub fn after_return()
     ensures simple { (s : Core) → IsSimple s → (n : ℕ) → place_of n s ≡ Some Place.Running → (v : ℕ) → IsSimple (return_done n v s) }
     ensures runs { (s : Core) → IsSimple s → (n : ℕ) → place_of n s ≡ Some Place.Running → (v : ℕ) → place_of n (return_done n v s) ≡ Some Place.Running }
+{}
+
+/// After an op that writes a register, one that writes a word of the instance, and one that goes on at another place.
+#[tactic(auto, using(crate::proofs::DataLemmas::assigned_simple, crate::proofs::DataLemmas::stored_simple, crate::proofs::DataLemmas::moved_simple))]
+pub fn after_data()
+    ensures assigned { (s : Core) → IsSimple s → (n : ℕ) → place_of n s ≡ Some Place.Running → (r v : ℕ) → IsSimple (assigned n r v s) }
+    ensures stored { (s : Core) → IsSimple s → (n : ℕ) → place_of n s ≡ Some Place.Running → (w v : ℕ) → IsSimple (stored n w v s) }
+    ensures moved { (s : Core) → IsSimple s → (n : ℕ) → place_of n s ≡ Some Place.Running → (p : ℕ) → IsSimple (moved_to n p s) }
+{}
+
+/// The thread runs on after such an op.
+#[tactic(auto, using(crate::proofs::DataLemmas::assigned_runs, crate::proofs::DataLemmas::stored_runs, crate::proofs::DataLemmas::moved_runs))]
+pub fn runs_after_data()
+    ensures assigned { (s : Core) → IsSimple s → (n : ℕ) → place_of n s ≡ Some Place.Running → (r v : ℕ) → place_of n (assigned n r v s) ≡ Some Place.Running }
+    ensures stored { (s : Core) → IsSimple s → (n : ℕ) → place_of n s ≡ Some Place.Running → (w v : ℕ) → place_of n (stored n w v s) ≡ Some Place.Running }
+    ensures moved { (s : Core) → IsSimple s → (n : ℕ) → place_of n s ≡ Some Place.Running → (p : ℕ) → place_of n (moved_to n p s) ≡ Some Place.Running }
 {}
 
 /// After an exit.

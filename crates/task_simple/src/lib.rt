@@ -1,5 +1,6 @@
 //! The states that calls by main of callback exports lead to, where scripts have no other ops than
-//! `ret` and `exit`: there the machine's general words come down to simple ones.
+//! returns, `exit` and those on registers and words: there the machine's general words come down to
+//! simple ones.
 #![tactic(auto)]
 
 pub mod counts;

@@ -4,8 +4,9 @@ ghost use Rattle.std.specs.Prelude.{List, None, Option, Some, [], false, is_none
 ghost use Rattle.task_machine.specs.Core.{Core, State, Unscripted};
 ghost use Rattle.task_machine.specs.Maps.{get, size};
 ghost use Rattle.task_machine.specs.Moves.{checked, passes_check, stopped, stopped_at};
-ghost use Rattle.task_machine.specs.Read.{admits, call_instance, callers_of, first_of, foot_of, has_ended, instance_of, is_last_thread, is_nil, may_not_enter, next_entry, position_of, strand_of, task_of, thread_handle_of};
-ghost use Rattle.task_machine.specs.Write.{give_result, set_end, set_place, set_position};
+ghost use Rattle.task_machine.specs.Read.{admits, call_instance, callers_of, first_of, foot_of, has_ended, instance_of, is_last_thread, is_nil, may_not_enter, next_entry, place_of, position_of, strand_of, task_of, thread_handle_of};
+ghost use Rattle.task_machine.specs.Write.{give_result, set_end, set_place, set_position, set_register, set_word};
+ghost use Rattle.task_rules.specs.Data.{assigned, moved_to, stored};
 ghost use Rattle.task_rules.specs.Ends.{held_out, leaves_no_result, may_tell, told};
 ghost use Rattle.task_rules.specs.MainOps.{has_interesting, is_ready_for_call};
 ghost use Rattle.task_rules.specs.Scripts.{op_of, script_in, value_in, value_of};
@@ -13,7 +14,7 @@ ghost use Rattle.task_rules.specs.Stalled.{Setting, deadlock_trap, is_idle, is_i
 ghost use Rattle.task_rules.specs.Turns.{nothing_stands, settled_turn};
 ghost use Rattle.task_rules.specs.Works.{has_live_work, has_moving_work, next_polled};
 ghost use Rattle.task_simple.specs.Forms.{return_done};
-ghost use Rattle.task_simple.specs.Simple.{IsPlain, held_start};
+ghost use Rattle.task_simple.specs.Simple.{IsPlain, IsSimple, held_start};
 
 use task_machine::{
     Call, CallEnd, Component, Entry, Mark, Op, Operand, Place, Script, Status, TaskOp, Thread,
@@ -108,4 +109,12 @@ pub fn records_tell()
     ensures handle { (s : Core) (n : ℕ) (t : Thread) → get s.threads n ≡ Some t → thread_handle_of n s ≡ t.handle }
     ensures returns { (v : ℕ) (s : Core) → IsPlain s → (n : ℕ) (t : Thread) → get s.threads n ≡ Some t → return_done n v s ≡ set_position n (position_of n s + 1) (give_result n v (set_end n CallEnd.Returned s)) }
     ensures ended { (s : Core) (k : ℕ) (c : Call) → get s.calls k ≡ Some c → has_ended k s ≡ is_some c.«end» }
+{}
+
+/// An op on registers and words writes its answer and the thread's next place, since nothing is under way at it.
+#[tactic(auto, using(crate::proofs::DataLemmas::assigned_is, crate::proofs::DataLemmas::stored_is, crate::proofs::DataLemmas::moved_is))]
+pub fn data_writes_tell()
+    ensures assigned { (n r v : ℕ) (s : Core) → IsSimple s → place_of n s ≡ Some Place.Running → assigned n r v s ≡ set_position n (position_of n s + 1) (set_register n r v s) }
+    ensures stored { (n w v : ℕ) (s : Core) → IsSimple s → place_of n s ≡ Some Place.Running → stored n w v s ≡ set_position n (position_of n s + 1) (set_word (instance_of n s) w v s) }
+    ensures moved { (n p : ℕ) (s : Core) → IsSimple s → place_of n s ≡ Some Place.Running → moved_to n p s ≡ set_position n p s }
 {}

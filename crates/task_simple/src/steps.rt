@@ -6,7 +6,9 @@ ghost use Rattle.task_machine.specs.Labels.{exit_label, held_label, ret_label, t
 ghost use Rattle.task_machine.specs.Maps.{get};
 ghost use Rattle.task_machine.specs.Read.{at_handle_limit, fits, has_ended, instance_of, may_not_enter, next_entry, place_of, thread_handle_of};
 ghost use Rattle.task_machine.specs.Write.{set_trapped, take_result};
+ghost use Rattle.task_rules.specs.Data.{data_row};
 ghost use Rattle.task_rules.specs.MainOps.{Answers, Does, Pends, act_of, advanced_main, line_of, main_row, op_at};
+ghost use Rattle.task_rules.specs.Progress.{Goes};
 ghost use Rattle.task_rules.specs.Scripts.{export_kind, op_of, value_of};
 ghost use Rattle.task_rules.specs.Stalled.{Setting, main_pends};
 ghost use Rattle.task_rules.specs.Step.{Step, trap_label};
@@ -16,8 +18,8 @@ ghost use Rattle.task_simple.specs.Forms.{call_started, exit_done, return_done, 
 ghost use Rattle.task_simple.specs.Simple.{IsPlain, IsSimple};
 
 use task_machine::{
-    Callee, Entry, IdleLine, Label, LoopLabel, MainLabel, MainOp, Mark, Op, Operand, Place, TaskOp,
-    Trap, Turn,
+    Callee, DataOp, Entry, IdleLine, Label, LoopLabel, MainLabel, MainOp, Mark, Op, Operand, Place,
+    TaskOp, Trap, Turn,
 };
 
 /// The first entry is taken: its start is held while its instance lets in no other, traps where no handle is left, or runs.
@@ -41,6 +43,19 @@ pub fn deadlock_comes()
 pub fn thread_returns()
     ensures once { (x : Setting) (s : State) → IsSimple s.core → (n : ℕ) → s.turn ≡ Turn.Run n → place_of n s.core ≡ Some Place.Running → (o : Operand) → op_of x.component n s.core ≡ Op.Task (TaskOp.Ret o) → has_ended n s.core ≡ false → Step x s (ret_label n (value_of n s.core o) None) (goes_to s (return_done n (value_of n s.core o) s.core) (Turn.Run n)) }
     ensures twice { (x : Setting) (s : State) → IsSimple s.core → (n : ℕ) → s.turn ≡ Turn.Run n → place_of n s.core ≡ Some Place.Running → (o : Operand) → op_of x.component n s.core ≡ Op.Task (TaskOp.Ret o) → has_ended n s.core ≡ true → Step x s (trap_label n Trap.TaskCancelOrReturnTwice) (goes_to s (trap_done n s.core) Turn.Over) }
+{}
+
+/// A running thread does what the row of its op on registers and words says, and runs on.
+#[tactic(auto, using(crate::proofs::StepLemmas::run_data))]
+pub fn thread_computes()
+    ensures { (x : Setting) (s : State) → (n : ℕ) → s.turn ≡ Turn.Run n → (o : DataOp) → op_of x.component n s.core ≡ Op.Data o → (l : Label) (new : Core) → data_row x.component n s.core o ≡ Goes l new n → Step x s l (goes_to s new (Turn.Run n)) }
+{}
+
+/// A return whose type doesn't fit traps.
+#[tactic(auto, using(crate::proofs::StepLemmas::run_return_bad, crate::proofs::StepLemmas::run_return_bad_twice))]
+pub fn bad_return_traps()
+    ensures unfit { (x : Setting) (s : State) → IsSimple s.core → (n : ℕ) → s.turn ≡ Turn.Run n → place_of n s.core ≡ Some Place.Running → (o : Operand) → op_of x.component n s.core ≡ Op.Task (TaskOp.RetBad o) → has_ended n s.core ≡ false → Step x s (trap_label n Trap.TaskReturnInvalid) (goes_to s (trap_done n s.core) Turn.Over) }
+    ensures twice { (x : Setting) (s : State) → IsSimple s.core → (n : ℕ) → s.turn ≡ Turn.Run n → place_of n s.core ≡ Some Place.Running → (o : Operand) → op_of x.component n s.core ≡ Op.Task (TaskOp.RetBad o) → has_ended n s.core ≡ true → Step x s (trap_label n Trap.TaskCancelOrReturnTwice) (goes_to s (trap_done n s.core) Turn.Over) }
 {}
 
 /// A running thread exits after its return.

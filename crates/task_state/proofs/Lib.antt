@@ -1,3 +1,4 @@
 pub mod TakenLemmas
 pub mod RunLemmas
 pub mod StateLemmas
+pub mod DataLemmas

@@ -2,8 +2,9 @@ ghost use Rattle.std.specs.Prelude.{◌≡◌, ◌<◌, ◌≤◌, ◌+◌, ◌-
 ghost use Rattle.task_machine.specs.declared.component.ExportKind.TheVariants as kind;
 ghost use Rattle.task_machine.specs.declared.records.Place.TheVariants as place;
 ghost use Rattle.task_machine.specs.Maps.{get, size};
-ghost use Rattle.task_machine.specs.Read.{fits, has_ended, is_nil, place_of, position_of};
+ghost use Rattle.task_machine.specs.Read.{fits, has_ended, instance_of, is_nil, place_of, position_of, word_of};
 ghost use Rattle.task_machine.specs.Write.{set_trapped, take_result};
+ghost use Rattle.task_rules.specs.Data.{assigned, moved_to, stored};
 ghost use Rattle.task_core.specs.Shown.{with_handle_limit, with_instance};
 ghost use Rattle.task_simple.specs.Forms.{call_started, exit_done, return_done, trap_done};
 ghost use Rattle.task_simple.specs.Simple.{IsSimple, NoneRuns};
@@ -178,7 +179,8 @@ impl ConcurrentState {
         Ok(Taken::Runs(number))
     }
 
-    /// The state is one that lies between two steps of scripts of `ret` and `exit`; for proofs alone.
+    /// The state is one that lies between two steps of returns, exits and ops on
+    /// registers and words; for proofs alone.
     pub fn is_whole(&self)
         ensures simple { IsSimple self.now.core }
         ensures none { self.now.running ≡ None → NoneRuns self.now.core }
@@ -225,6 +227,60 @@ impl ConcurrentState {
         self.core.set_end(id.task, CallEnd::Returned);
         self.core.set_position(id.thread, position + 1);
         Ok(())
+    }
+
+    /// A word of the running thread's instance, 0 to 15; 0 where there is no such word.
+    pub fn word(&self, word: u8) -> u64
+        requires { IsSome self.now.running }
+        ensures { IfSome self.now.running (λ n. result ≡ word_of (instance_of n self.now.core) word self.now.core) }
+    {
+        let Some(id) = self.core.current() else {
+            unreachable!()
+        };
+        let call = self.core.call(id.task);
+        self.core.word(call.callee.instance, word)
+    }
+
+    /// The op of the running thread answers the value in a register, 0 to 15, and the thread goes on
+    /// after it. There are no other registers, and then the thread alone goes on.
+    pub fn assign(&mut self, register: u8, value: u64)
+        requires runs { IsSome self.old.running }
+        requires position { IfSome self.old.running (λ n. position_of n self.old.core + 1 < 2 ^ 32) }
+        ensures { IfSome self.old.running (λ n. self.new ≡ with_core (assigned n register value self.old.core) self.old) }
+    {
+        let Some(id) = self.core.current() else {
+            unreachable!()
+        };
+        let position = self.core.thread(id.thread).position;
+        self.core.set_register(id.thread, register, value);
+        self.core.set_position(id.thread, position + 1);
+    }
+
+    /// The op of the running thread writes a word of its instance, 0 to 15, and the thread goes on
+    /// after it. There are no other words, and then the thread alone goes on.
+    pub fn store_word(&mut self, word: u8, value: u64)
+        requires runs { IsSome self.old.running }
+        requires position { IfSome self.old.running (λ n. position_of n self.old.core + 1 < 2 ^ 32) }
+        ensures { IfSome self.old.running (λ n. self.new ≡ with_core (stored n word value self.old.core) self.old) }
+    {
+        let Some(id) = self.core.current() else {
+            unreachable!()
+        };
+        let position = self.core.thread(id.thread).position;
+        let call = self.core.call(id.task);
+        self.core.set_word(call.callee.instance, word, value);
+        self.core.set_position(id.thread, position + 1);
+    }
+
+    /// The running thread goes on with the op at this place of its script, from 0.
+    pub fn move_to(&mut self, position: u32)
+        requires { IsSome self.old.running }
+        ensures { IfSome self.old.running (λ n. self.new ≡ with_core (moved_to n position self.old.core) self.old) }
+    {
+        let Some(id) = self.core.current() else {
+            unreachable!()
+        };
+        self.core.set_position(id.thread, position);
     }
 
     /// The running thread exits: its instance may be entered again, and the thread, its handle, its

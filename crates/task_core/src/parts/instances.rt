@@ -1,10 +1,11 @@
 ghost use Rattle.std.specs.Prelude.{◌≡◌, Some, IsSome, is_some, true, false};
 ghost use Rattle.task_machine.specs.Maps.{get};
-ghost use Rattle.task_machine.specs.Read.{may_not_enter};
-ghost use Rattle.task_machine.specs.Write.{set_do_not_enter};
+ghost use Rattle.task_machine.specs.Read.{may_not_enter, word_of};
+ghost use Rattle.task_machine.specs.Write.{set_do_not_enter, set_word};
 ghost use Rattle.task_machine.proofs.FieldLemmas.{put_instance};
 ghost use Rattle.task_core.specs.Shown.{with_core};
 
+use crate::parts::words::put_word;
 use crate::state::TaskCore;
 use task_machine::Instance;
 
@@ -41,6 +42,26 @@ impl TaskCore {
         ensures { result ≡ may_not_enter index self.now.core }
     {
         self.instance_record(index).do_not_enter
+    }
+
+    /// A word of the instance, 0 to 15; 0 where there is no such word.
+    pub fn word(&self, index: u32, word: u8) -> u64
+        requires { IsSome (get self.now.core.instances index) }
+        ensures { result ≡ word_of index word self.now.core }
+    {
+        let instance = self.instance_record(index);
+        instance.words.get(word as usize).copied().unwrap_or(0)
+    }
+
+    /// Sets a word of the instance, 0 to 15; there are no others, and a write of one changes nothing.
+    #[tactic(auto, using(task_machine::proofs::FieldLemmas::fields))]
+    pub fn set_word(&mut self, index: u32, word: u8, value: u64)
+        requires { IsSome (get self.old.core.instances index) }
+        ensures { self.new ≡ with_core (set_word index word value self.old.core) self.old }
+    {
+        let mut instance = self.instance_record(index);
+        put_word(&mut instance.words, word, value);
+        self.put_instance(index, instance);
     }
 
     /// An activation of the instance keeps others out from now on.

@@ -6,6 +6,7 @@ ghost use Rattle.task_core.specs.Shown.{thread_number, with_core};
 ghost use Rattle.task_core.specs.Simple.{IsPlainThread};
 
 use crate::entry::ThreadKey;
+use crate::parts::words::put_word;
 use crate::state::TaskCore;
 use task_machine::{HowFar, Place, Script, Thread};
 use task_table::TableId;
@@ -44,6 +45,17 @@ impl TaskCore {
             Ok(entry) => entry.thread = thread,
             Err(_) => unreachable!(),
         }
+    }
+
+    /// Sets a register of a thread, 0 to 15; there are no others, and a write of one changes nothing.
+    #[tactic(auto, using(task_machine::proofs::FieldLemmas::fields))]
+    pub fn set_register(&mut self, id: TableId<ThreadKey>, register: u8, value: u64)
+        requires { 0 < thread_number self.old.tags id }
+        ensures { self.new ≡ with_core (set_register (thread_number self.old.tags id) register value self.old.core) self.old }
+    {
+        let mut thread = self.thread(id);
+        put_word(&mut thread.registers, register, value);
+        self.put_thread(id, thread);
     }
 
     /// Sets the place of a thread in its script, from 0.
