@@ -5,6 +5,8 @@ use Rattle.scenario_text.specs.declared.keyword.HeadWord.{HeadWord}
 use Rattle.scenario_text.specs.declared.keyword.HeadWord.TheVariants as head
 use Rattle.scenario_text.specs.declared.keyword.PartWord.{PartWord}
 use Rattle.scenario_text.specs.declared.keyword.PartWord.TheVariants as part
+use Rattle.scenario_text.specs.declared.keyword.DataWord.{DataWord}
+use Rattle.scenario_text.specs.declared.keyword.DataWord.TheVariants as data
 use Rattle.scenario_text.specs.declared.keyword.TaskWord.{TaskWord}
 use Rattle.scenario_text.specs.declared.keyword.TaskWord.TheVariants as task
 use Rattle.scenario_text.specs.declared.keyword.MainWord.{MainWord}
@@ -22,8 +24,17 @@ abbrev pub part_word : PartWord → List ℕ
 part_word part.Instance = codes "instance"
 part_word part.Export = codes "export"
 
+abbrev pub data_word : DataWord → List ℕ
+data_word data.Set = codes "set"
+data_word data.Add = codes "add"
+data_word data.Handle = codes "handle"
+data_word data.Load = codes "load"
+data_word data.Store = codes "store"
+data_word data.SkipEq = codes "skip_eq"
+
 abbrev pub task_word : TaskWord → List ℕ
 task_word task.Ret = codes "ret"
+task_word task.RetBad = codes "ret_bad"
 task_word task.Exit = codes "exit"
 
 abbrev pub main_word : MainWord → List ℕ
@@ -36,12 +47,15 @@ main_word main.End = codes "end"
 abbrev pub keyword_text : Keyword → List ℕ
 keyword_text (keyword.Head k) = head_word k
 keyword_text (keyword.Part k) = part_word k
+keyword_text (keyword.Data k) = data_word k
 keyword_text (keyword.Task k) = task_word k
 keyword_text (keyword.Main k) = main_word k
 
 abbrev pub keywords : List Keyword
 keywords =
-    keyword.Task task.Ret ∷ keyword.Task task.Exit ∷ keyword.Main main.Start ∷ keyword.Main main.Finish
+    keyword.Data data.Set ∷ keyword.Data data.Add ∷ keyword.Data data.Handle
+    ∷ keyword.Data data.Load ∷ keyword.Data data.Store ∷ keyword.Data data.SkipEq
+    ∷ keyword.Task task.Ret ∷ keyword.Task task.RetBad ∷ keyword.Task task.Exit ∷ keyword.Main main.Start ∷ keyword.Main main.Finish
     ∷ keyword.Part part.Instance ∷ keyword.Part part.Export
     ∷ keyword.Head head.Scenario ∷ keyword.Head head.Handles ∷ keyword.Head head.Table ∷ keyword.Head head.Idle
     ∷ keyword.Main main.Main ∷ keyword.Main main.Answer ∷ keyword.Main main.End ∷ []
