@@ -6,7 +6,7 @@ use Rattle.scenario_text.specs.declared.keyword.HeadWord.TheVariants as head
 use Rattle.scenario_text.specs.declared.keyword.PartWord.{PartWord}
 use Rattle.scenario_text.specs.declared.keyword.PartWord.TheVariants as part
 use Rattle.scenario_text.specs.declared.keyword.DataWord.{DataWord}
-use Rattle.scenario_text.specs.declared.keyword.DataWord.TheVariants as data
+use Rattle.scenario_text.specs.declared.keyword.DataWord.TheVariants as datum
 use Rattle.scenario_text.specs.declared.keyword.TaskWord.{TaskWord}
 use Rattle.scenario_text.specs.declared.keyword.TaskWord.TheVariants as task
 use Rattle.scenario_text.specs.declared.keyword.MainWord.{MainWord}
@@ -25,12 +25,12 @@ part_word part.Instance = codes "instance"
 part_word part.Export = codes "export"
 
 abbrev pub data_word : DataWord → List ℕ
-data_word data.Set = codes "set"
-data_word data.Add = codes "add"
-data_word data.Handle = codes "handle"
-data_word data.Load = codes "load"
-data_word data.Store = codes "store"
-data_word data.SkipEq = codes "skip_eq"
+data_word datum.Set = codes "set"
+data_word datum.Add = codes "add"
+data_word datum.Handle = codes "handle"
+data_word datum.Load = codes "load"
+data_word datum.Store = codes "store"
+data_word datum.SkipEq = codes "skip_eq"
 
 abbrev pub task_word : TaskWord → List ℕ
 task_word task.Ret = codes "ret"
@@ -53,8 +53,8 @@ keyword_text (keyword.Main k) = main_word k
 
 abbrev pub keywords : List Keyword
 keywords =
-    keyword.Data data.Set ∷ keyword.Data data.Add ∷ keyword.Data data.Handle
-    ∷ keyword.Data data.Load ∷ keyword.Data data.Store ∷ keyword.Data data.SkipEq
+    keyword.Data datum.Set ∷ keyword.Data datum.Add ∷ keyword.Data datum.Handle
+    ∷ keyword.Data datum.Load ∷ keyword.Data datum.Store ∷ keyword.Data datum.SkipEq
     ∷ keyword.Task task.Ret ∷ keyword.Task task.RetBad ∷ keyword.Task task.Exit ∷ keyword.Main main.Start ∷ keyword.Main main.Finish
     ∷ keyword.Part part.Instance ∷ keyword.Part part.Export
     ∷ keyword.Head head.Scenario ∷ keyword.Head head.Handles ∷ keyword.Head head.Table ∷ keyword.Head head.Idle

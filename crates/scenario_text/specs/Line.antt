@@ -12,7 +12,7 @@ use Rattle.scenario_text.specs.declared.keyword.HeadWord.TheVariants as head
 use Rattle.scenario_text.specs.declared.keyword.PartWord.{PartWord}
 use Rattle.scenario_text.specs.declared.keyword.PartWord.TheVariants as part
 use Rattle.scenario_text.specs.declared.keyword.DataWord.{DataWord}
-use Rattle.scenario_text.specs.declared.keyword.DataWord.TheVariants as data
+use Rattle.scenario_text.specs.declared.keyword.DataWord.TheVariants as datum
 use Rattle.scenario_text.specs.declared.keyword.TaskWord.{TaskWord}
 use Rattle.scenario_text.specs.declared.keyword.TaskWord.TheVariants as task
 use Rattle.scenario_text.specs.declared.keyword.MainWord.{MainWord}
@@ -94,18 +94,18 @@ skip_after words = do
   Some (data_op.SkipEq x y n)
 
 unfoldable pub data_op_after : DataWord → List (List ℕ) → Option DataOp
-data_op_after data.Set words = do
+data_op_after datum.Set words = do
   p ← target_after words
   Some (data_op.Set p.0 p.1)
-data_op_after data.Add words = do
+data_op_after datum.Add words = do
   p ← target_after words
   Some (data_op.Add p.0 p.1)
-data_op_after data.Handle words = do
+data_op_after datum.Handle words = do
   p ← target_after words
   Some (data_op.Handle p.0 p.1)
-data_op_after data.Load words = load_after words
-data_op_after data.Store words = store_after words
-data_op_after data.SkipEq words = skip_after words
+data_op_after datum.Load words = load_after words
+data_op_after datum.Store words = store_after words
+data_op_after datum.SkipEq words = skip_after words
 
 unfoldable pub task_op_after : TaskWord → List (List ℕ) → Option TaskOp
 task_op_after task.Ret words = do
