@@ -1,5 +1,5 @@
 -- What a state has read can be completed: it begins a scenario.
-use Rattle.std.proofs.Common.{◌≡◌, ℕ, true, List, [], ◌∷◌, ◌++◌, Some, refl, sym, ap, subst, ◌∙◌, append_assoc}
+use Rattle.std.proofs.Common.{◌≡◌, ℕ, true, List, [], ◌∷◌, ◌++◌, Some, refl, sym, subst, ◌∙◌, append_assoc}
 use Rattle.std.proofs.lemmas.List.{append-nil}
 use Rattle.task_machine.specs.declared.op.Operand.{Operand}
 use Rattle.task_machine.specs.declared.op.Operand.TheVariants.{Number}
