@@ -1,11 +1,12 @@
 -- The spelling of a well formed tree is read as that tree.
-use Rattle.std.proofs.Common.{◌≡◌, ℕ, ◌+◌, ◌^◌, ◌<◌, true, false, eqb, ltb, List, [], ◌∷◌, ◌++◌, length, map, take, Option, Some, None, Ok, refl, sym, ap, subst, ◌∙◌, append_assoc, arith, length-take-le}
+use Rattle.std.proofs.Common.{◌≡◌, ℕ, ◌+◌, ◌^◌, ◌<◌, ◌≤◌, not, ◌&&◌, true, false, ltb, List, [], ◌∷◌, ◌++◌, length, map, take, Option, Some, None, Ok, refl, sym, ap, subst, ◌∙◌, append_assoc, arith, lit≤}
 use Rattle.std.specs.Prelude.{slice_get, unwrap_or, position, nat_le}
 use Rattle.std.specs.List.{flat_map, list_any}
 use Rattle.std.specs.Option.{option_map}
 use Rattle.std.specs.Str.{bytes_eq}
-use Rattle.std.proofs.lemmas.Bool.{and_parts, and_from, eq-eqb, eqb-true, le-leb, lt-ltb, ltb-true}
-use Rattle.std.proofs.lemmas.List.{append-nil, nil_from_length}
+use Rattle.std.proofs.lemmas.Bool.{and_parts, and_from, eq-eqb, eqb-true, le-leb, leb-true, lt-ltb, ltb-true, not-true}
+use Rattle.std.proofs.lemmas.List.{append-nil}
+use Rattle.std.proofs.lemmas.List.Sums.{count_by-le-length}
 use Rattle.std.proofs.lemmas.Option.{slice_get_within}
 use Rattle.task_machine.specs.declared.component.Callee.{Callee}
 use Rattle.task_machine.specs.declared.op.Op.{Op}
@@ -27,10 +28,10 @@ use Rattle.scenario_text.specs.declared.tree.MainOpText.TheVariants as main
 use Rattle.scenario_text.specs.declared.tree.ScenarioText.{ScenarioText}
 use Rattle.scenario_text.specs.Words.{◌>>=◌, is_name}
 use Rattle.scenario_text.specs.Spelling.{Lines, title_words, handles_words, table_words, idle_words, head_lines, op_words, export_words, export_lines, instance_words, instance_lines, body_lines, exports_of, instance_name, export_name, main_op_words, main_words, main_lines, answer_words, end_words, lines_of}
-use Rattle.scenario_text.specs.Stands.{EachStands, idle_fits, handles_fit, table_fits, OpStands, ExportStands, InstanceStands, params_of, MainOpStands, IsWellFormed}
+use Rattle.scenario_text.specs.Stands.{EachStands, idle_fits, handles_fit, table_fits, OpStands, export_count, ExportStands, InstanceStands, main_has_room, is_start, finishes, start_count, params_of, MainOpStands, IsWellFormed}
 use Rattle.scenario_text.specs.State.{with_instance, with_export, script_closed, instance_closed, main_open, after_title, after_handles, after_table, after_idle, after_head, after_instance, after_export, after_part, with_op, after_op, after_main, small, callee_of, start_of, finish_of, main_op_of, after_main_op, after_answer, after_end, after, after_words, read_from, scenario_of}
 use Rattle.scenario_text.proofs.LineLaws.{named_words, named_fits, line_words, line_fits, line_again}
-use Rattle.scenario_text.proofs.StandingLaws.{stands_at, place_again, bytes_same, some_map}
+use Rattle.scenario_text.proofs.StandingLaws.{stands_at, place_again, bytes_same, some_map, few_after}
 
 -- ---- Reading on
 
@@ -134,8 +135,9 @@ instances_read s b (i ∷ is) closed each =
 
 -- ---- Main
 
-small_again : {X : Type 0} (name : X → List ℕ) (xs : List X) (k : ℕ) (x : X) → slice_get xs k ≡ Some x → list_any (λ y. bytes_eq (name y) (name x)) (take k xs) ≡ false → k < 256 → (position (λ y. bytes_eq (name y) (name x)) xs >>= small) ≡ Some k
+small_again : {X : Type 0} (name : X → List ℕ) (xs : List X) (k : ℕ) (x : X) → slice_get xs k ≡ Some x → list_any (λ y. bytes_eq (name y) (name x)) (take k xs) ≡ false → length xs ≤ 256 → (position (λ y. bytes_eq (name y) (name x)) xs >>= small) ≡ Some k
 small_again name xs k x e fresh few =
+    let within = slice_get_within xs k x e in
     let fits : ltb k (2 ^ 32) ≡ true = lt-ltb _ _ (omega arith) in
     rw (place_again (λ y. bytes_eq (name y) (name x)) xs k x e (bytes_same (name x)) fresh, fits) refl
 
@@ -160,29 +162,34 @@ record Named (is : List InstanceText) (f : Callee) : Type 0 where
   export : is_name (export_name (exports_of is f.instance) f.export) ≡ true
   again : callee_of is (instance_name is f.instance) (export_name (exports_of is f.instance) f.export) ≡ Some f
 
--- an item that nothing precedes is the first
-first_place : {X : Type 0} (xs : List X) (k : ℕ) (x : X) → slice_get xs k ≡ Some x → length (take k xs) ≡ 0 → k ≡ 0
-first_place xs k x e none = let within : k < length xs = slice_get_within xs k x e in omega (arith, length-take-le k xs (omega (arith, within)))
+few_instances : (before : List InstanceText) (i : InstanceText) → InstanceStands before i → length before < 256
+few_instances before i stands = let few = ltb-true _ _ (and_parts (ltb (length before) 64) _ stands.opens).0 in omega arith
 
-none_named : {X : Type 0} (name : X → List ℕ) (x : X) (before : List X) → length before ≡ 0 → list_any (λ y. bytes_eq (name y) (name x)) before ≡ false
-none_named {X} name x before none = ap (λ (ys : List X). list_any (λ y. bytes_eq (name y) (name x)) ys) (nil_from_length before none)
+few_exports : (is : List InstanceText) (before : List ExportText) (x : ExportText) → ExportStands is before x → length before < 256
+few_exports is before x stands = let few = ltb-true _ _ (and_parts (ltb (export_count is + length before) 256) _ stands.opens).0 in omega arith
 
 named_at : (is : List InstanceText) (f : Callee) (n : ℕ) → EachStands InstanceStands [] is → Found is f n → Named is f
 unfolding callee_of
 named_at is f n each g =
     let stands = stands_at InstanceStands is f.instance g.i each g.at in
     let within = stands_at (ExportStands (take f.instance is)) g.i.exports f.export g.x stands.exports g.within in
-    let first_i : length (take f.instance is) ≡ 0 = eqb-true _ _ stands.opens in
-    let first_x : length (take f.export g.i.exports) ≡ 0 = omega (arith, ltb-true _ _ within.opens) in
-    let zero_i : f.instance ≡ 0 = first_place is f.instance g.i g.at first_i in
-    let zero_x : f.export ≡ 0 = first_place g.i.exports f.export g.x g.within first_x in
-    let place_i = small_again (λ (i : InstanceText). i.name) is f.instance g.i g.at (none_named (λ (i : InstanceText). i.name) g.i (take f.instance is) first_i) (omega arith) in
-    let place_x = small_again (λ (x : ExportText). x.name) g.i.exports f.export g.x g.within (none_named (λ (x : ExportText). x.name) g.x (take f.export g.i.exports) first_x) (omega arith) in
+    let fresh_i = not-true _ (and_parts (ltb (length (take f.instance is)) 64) _ stands.opens).1 in
+    let fresh_x = not-true _ (and_parts (ltb (export_count (take f.instance is) + length (take f.export g.i.exports)) 256) _ within.opens).1 in
+    let place_i = small_again (λ (i : InstanceText). i.name) is f.instance g.i g.at fresh_i (few_after InstanceStands 256 few_instances [] is (lit≤ tt) each) in
+    let place_x = small_again (λ (x : ExportText). x.name) g.i.exports f.export g.x g.within fresh_x (few_after (ExportStands (take f.instance is)) 256 (few_exports (take f.instance is)) [] g.i.exports (lit≤ tt) stands.exports) in
     record {
       instance = rw g.at stands.name;
       export = rw (g.at, g.within) within.name;
       again = rw (g.at, g.within, place_i, g.at, place_x) refl;
     }
+
+-- a start's number fits its word
+few_starts : (before : List MainOpText) (k : ℕ) → (main_has_room before && nat_le 1 k && nat_le k (start_count before) && not (list_any (finishes k) before)) ≡ true → k ≤ 4095
+few_starts before k h =
+    let p = and_parts (main_has_room before && nat_le 1 k && nat_le k (start_count before)) _ h in
+    let q = and_parts (main_has_room before && nat_le 1 k) (nat_le k (start_count before)) p.0 in
+    let r = and_parts (main_has_room before) (nat_le 1 k) q.0 in
+    omega (arith, count_by-le-length is_start before, leb-true _ _ q.1, ltb-true _ _ r.0)
 
 -- the line of an op of main, which is read as it
 record MainLine (is : List InstanceText) (before : List MainOpText) (o : MainOpText) : Type 0 where
@@ -202,11 +209,10 @@ main_line is before (main.Start f xs) each stands =
       read = rw (names.again, stands.1, stands.0, eq-eqb (length xs) (length xs) refl) refl;
     }
 main_line is before (main.Finish k r) each stands =
-    let one : k ≡ 1 = eqb-true _ _ (and_parts (eqb (length before) 1) (eqb k 1) stands.0).1 in
     record {
       of = named.Finish k r;
       words = refl;
-      fits = and_from _ _ (le-leb _ _ (omega arith)) (le-leb _ _ stands.1);
+      fits = and_from _ _ (le-leb _ _ (few_starts before k stands.0)) (le-leb _ _ stands.1);
       read = rw stands.0 refl;
     }
 
@@ -257,7 +263,7 @@ unfolding after after_main
 main_read s fits t closed =
     let b = body_of s in
     both t (state.Main b []) (state.Main b s.main) (main_words ∷ []) (map (main_op_words s.instances) s.main)
-    (one_line t (state.Main b []) line.Main refl (rw (closed, fits.opens) refl)) (main_ops_read b [] s.main fits.instances fits.main)
+    (one_line t (state.Main b []) line.Main refl (rw closed refl)) (main_ops_read b [] s.main fits.instances fits.main)
 
 end_read : (s : ScenarioText) → IsWellFormed s → ReadsTo (state.Main (body_of s) s.main) (answer_words s.answer ∷ [] ++ end_words ∷ []) (state.Ended s)
 unfolding after after_answer main_open after_end
@@ -265,7 +271,7 @@ end_read s fits =
     let b = body_of s in
     let answered : State = state.Answered b s.main s.answer in
     both (state.Main b s.main) answered (state.Ended s) (answer_words s.answer ∷ []) (end_words ∷ [])
-    (one_line (state.Main b s.main) answered (line.Answer s.answer) fits.answer (rw fits.answers refl)) (one_line answered (state.Ended s) line.End refl refl)
+    (one_line (state.Main b s.main) answered (line.Answer s.answer) fits.answer refl) (one_line answered (state.Ended s) line.End refl refl)
 
 tree_read : (s : ScenarioText) → IsWellFormed s → ReadsTo state.Empty (lines_of s) (state.Ended s)
 tree_read s fits =

@@ -11,6 +11,8 @@ use Rattle.std.proofs.lemmas.Slice.Eq.{bytes_eq-Decides}
 use Rattle.task_machine.specs.declared.op.Operand.{Operand}
 use Rattle.task_machine.specs.declared.op.Op.{Op}
 use Rattle.task_machine.specs.declared.op.Op.TheVariants as op
+use Rattle.task_machine.specs.declared.op.DataOp.{DataOp}
+use Rattle.task_machine.specs.declared.op.DataOp.TheVariants as data_op
 use Rattle.task_machine.specs.declared.op.TaskOp.{TaskOp}
 use Rattle.task_machine.specs.declared.op.TaskOp.TheVariants as task_op
 use Rattle.task_machine.specs.declared.component.ExportKind.{ExportKind}
@@ -18,6 +20,8 @@ use Rattle.scenario_text.specs.declared.keyword.HeadWord.{HeadWord}
 use Rattle.scenario_text.specs.declared.keyword.HeadWord.TheVariants as head
 use Rattle.scenario_text.specs.declared.keyword.PartWord.{PartWord}
 use Rattle.scenario_text.specs.declared.keyword.PartWord.TheVariants as part
+use Rattle.scenario_text.specs.declared.keyword.DataWord.{DataWord}
+use Rattle.scenario_text.specs.declared.keyword.DataWord.TheVariants as datum
 use Rattle.scenario_text.specs.declared.keyword.TaskWord.{TaskWord}
 use Rattle.scenario_text.specs.declared.keyword.TaskWord.TheVariants as task
 use Rattle.scenario_text.specs.declared.keyword.MainWord.{MainWord}
@@ -32,11 +36,11 @@ use Rattle.scenario_text.specs.declared.line.NamedOp.{NamedOp}
 use Rattle.scenario_text.specs.declared.line.NamedOp.TheVariants as named
 use Rattle.scenario_text.specs.declared.line.Line.{Line}
 use Rattle.scenario_text.specs.declared.line.Line.TheVariants as line
-use Rattle.scenario_text.specs.Words.{◌>>=◌, bounded_at, operand_at, kind_at, is_name_byte, is_name, one_of, two_of, three_of}
-use Rattle.scenario_text.specs.Keyword.{head_word, part_word, task_word, main_word, keyword_text, keywords, keyword_at}
-use Rattle.scenario_text.specs.Line.{head_after, instance_after, export_after, part_after, task_op_after, operands_at, callee_at, start_after, finish_after, main_after, line_after, line_at}
-use Rattle.scenario_text.specs.Spelling.{register_word, operand_word, kind_word, callee_word, title_words, handles_words, table_words, idle_words, task_op_words, op_words, export_words, instance_words, main_words, answer_words, end_words}
-use Rattle.scenario_text.specs.Stands.{operand_fits, idle_fits, kind_fits, task_op_fits, op_fits}
+use Rattle.scenario_text.specs.Words.{◌>>=◌, bounded_at, register_at, operand_at, kind_at, is_name_byte, is_name, one_of, two_of, three_of}
+use Rattle.scenario_text.specs.Keyword.{head_word, part_word, data_word, task_word, main_word, keyword_text, keywords, keyword_at}
+use Rattle.scenario_text.specs.Line.{head_after, instance_after, export_after, part_after, target_after, load_after, store_after, skip_after, data_op_after, task_op_after, operands_at, callee_at, start_after, finish_after, main_after, line_after, line_at}
+use Rattle.scenario_text.specs.Spelling.{register_word, operand_word, kind_word, callee_word, title_words, handles_words, table_words, idle_words, data_op_words, task_op_words, op_words, export_words, instance_words, main_words, answer_words, end_words}
+use Rattle.scenario_text.specs.Stands.{operand_fits, idle_fits, kind_fits, data_op_fits, task_op_fits, op_fits}
 use Rattle.scenario_text.proofs.Numbers.{guarded}
 use Rattle.scenario_text.proofs.Position.{position_head, position_tail}
 use Rattle.scenario_text.proofs.WordLaws.{bind_some, some_is, Reads, registers, operands, bounded, idles, kinds}
@@ -133,6 +137,40 @@ word_of_each words fits kw {a = a} {wa = wa} ra {b = b} {wb = wb} rb f spelled f
     let ty = rb.takes p.0.1 y.0 y.1 in
     subst (Spells words fits kw ws) (some_is (f x.0 y.0) l y.2) (two_words kw ws p.0.0 p.0.1 (wa x.0) (wb y.0) (two_take ws p.0 p.1) tx.0 ty.0 ∙ sym (spelled x.0 y.0), fit x.0 y.0 ∙ and_from _ _ tx.1 ty.1)
 
+-- a register and an operand, as the ops that write a register have them
+word_of_target : (words : DataOp → List (List ℕ)) (fits : DataOp → Bool) (kw : List ℕ) (f : ℕ → Operand → DataOp)
+    → ((r : ℕ) (x : Operand) → words (f r x) ≡ kw ∷ register_word r ∷ operand_word x ∷ []) → ((r : ℕ) (x : Operand) → fits (f r x) ≡ (nat_le r 15 && operand_fits x))
+    → (ws : List (List ℕ)) (o : DataOp) → (target_after ws >>= λ p. Some (f p.0 p.1)) ≡ Some o → Spells words fits kw ws o
+unfolding target_after
+word_of_target words fits kw f spelled fit ws o e =
+    let pair = λ (r : ℕ) (x : Operand). let made : ℕ × Operand = (r, x) in made in
+    let t = bind_some (target_after ws) (λ p. Some (f p.0 p.1)) o e in
+    let p = bind_some (two_of ws) (λ p. register_at p.0 >>= λ r. operand_at p.1 >>= λ x. Some (pair r x)) t.0 t.1 in
+    let r = bind_some (register_at p.0.0) (λ r. operand_at p.0.1 >>= λ x. Some (pair r x)) t.0 p.2 in
+    let x = bind_some (operand_at p.0.1) (λ x. Some (pair r.0 x)) t.0 r.2 in
+    let tr = registers.takes p.0.0 r.0 r.1 in
+    let tx = operands.takes p.0.1 x.0 x.1 in
+    let is : f r.0 x.0 ≡ o = ap (λ (q : ℕ × Operand). f q.0 q.1) (some_is (pair r.0 x.0) t.0 x.2) ∙ some_is (f t.0.0 t.0.1) o t.2 in
+    subst (Spells words fits kw ws) is
+    (two_words kw ws p.0.0 p.0.1 (register_word r.0) (operand_word x.0) (two_take ws p.0 p.1) tr.0 tx.0 ∙ sym (spelled r.0 x.0), fit r.0 x.0 ∙ and_from _ _ tr.1 tx.1)
+
+-- a word of each of three kinds
+word_of_three : {L A B C : Type 0} (words : L → List (List ℕ)) (fits : L → Bool) (kw : List ℕ)
+    {a : List ℕ → Option A} {wa : A → List ℕ} {fa : A → Bool} (ra : Reads a wa fa) {b : List ℕ → Option B} {wb : B → List ℕ} {fb : B → Bool} (rb : Reads b wb fb)
+    {c : List ℕ → Option C} {wc : C → List ℕ} {fc : C → Bool} (rc : Reads c wc fc)
+    (f : A → B → C → L) → ((x : A) (y : B) (z : C) → words (f x y z) ≡ kw ∷ wa x ∷ wb y ∷ wc z ∷ []) → ((x : A) (y : B) (z : C) → fits (f x y z) ≡ (fa x && fb y && fc z))
+    → (ws : List (List ℕ)) (l : L) → (three_of ws >>= λ p. a p.0 >>= λ x. b p.1 >>= λ y. c p.2 >>= λ z. Some (f x y z)) ≡ Some l → Spells words fits kw ws l
+word_of_three words fits kw {a = a} {wa = wa} ra {b = b} {wb = wb} rb {c = c} {wc = wc} rc f spelled fit ws l e =
+    let p = bind_some (three_of ws) (λ p. a p.0 >>= λ x. b p.1 >>= λ y. c p.2 >>= λ z. Some (f x y z)) l e in
+    let x = bind_some (a p.0.0) (λ x. b p.0.1 >>= λ y. c p.0.2 >>= λ z. Some (f x y z)) l p.2 in
+    let y = bind_some (b p.0.1) (λ y. c p.0.2 >>= λ z. Some (f x.0 y z)) l x.2 in
+    let z = bind_some (c p.0.2) (λ z. Some (f x.0 y.0 z)) l y.2 in
+    let tx = ra.takes p.0.0 x.0 x.1 in
+    let ty = rb.takes p.0.1 y.0 y.1 in
+    let tz = rc.takes p.0.2 z.0 z.1 in
+    subst (Spells words fits kw ws) (some_is (f x.0 y.0 z.0) l z.2)
+    (three_words kw ws p.0.0 p.0.1 p.0.2 (wa x.0) (wb y.0) (wc z.0) (three_take ws p.0 p.1) tx.0 ty.0 tz.0 ∙ sym (spelled x.0 y.0 z.0), fit x.0 y.0 z.0 ∙ and_from _ _ (and_from _ _ tx.1 ty.1) tz.1)
+
 -- what was read of a kind of lines, as a line
 as_line : {A L : Type 0} (words : A → List (List ℕ)) (fits : A → Bool) (whole : L → List (List ℕ)) (all : L → Bool) (f : A → L) → ((x : A) → whole (f x) ≡ words x) → ((x : A) → all (f x) ≡ fits x)
     → (kw : List ℕ) (ws : List (List ℕ)) (o : Option A) (l : L) → (o >>= λ x. Some (f x)) ≡ Some l → ((x : A) → o ≡ Some x → Spells words fits kw ws x) → Spells whole all kw ws l
@@ -214,18 +252,42 @@ part_again (part_line.Export name k n) fits =
 
 -- ---- Ops
 
+data_op_takes : (k : DataWord) (ws : List (List ℕ)) (o : DataOp) → data_op_after k ws ≡ Some o → Spells data_op_words data_op_fits (data_word k) ws o
+unfolding data_op_after load_after store_after skip_after
+data_op_takes datum.Set ws o e = word_of_target data_op_words data_op_fits (codes "set") data_op.Set (λ r x. refl) (λ r x. refl) ws o e
+data_op_takes datum.Add ws o e = word_of_target data_op_words data_op_fits (codes "add") data_op.Add (λ r x. refl) (λ r x. refl) ws o e
+data_op_takes datum.Handle ws o e = word_of_target data_op_words data_op_fits (codes "handle") data_op.Handle (λ r x. refl) (λ r x. refl) ws o e
+data_op_takes datum.Load ws o e = word_of_each data_op_words data_op_fits (codes "load") registers (bounded 15 (lit< tt)) data_op.Load (λ r w. refl) (λ r w. refl) ws o e
+data_op_takes datum.Store ws o e = word_of_each data_op_words data_op_fits (codes "store") (bounded 15 (lit< tt)) operands data_op.Store (λ w x. refl) (λ w x. refl) ws o e
+data_op_takes datum.SkipEq ws o e = word_of_three data_op_words data_op_fits (codes "skip_eq") operands operands (bounded 4096 (lit< tt)) data_op.SkipEq (λ x y n. refl) (λ x y n. refl) ws o e
+
+data_op_again : (o : DataOp) → data_op_fits o ≡ true → line_at (data_op_words o) ≡ Some (line.Op (op.Data o))
+unfolding line_at line_after data_op_after target_after load_after store_after skip_after two_of three_of
+data_op_again (data_op.Set r x) fits = let p = and_parts _ _ fits in rw (registers.again r p.0, operands.again x p.1) refl
+data_op_again (data_op.Add r x) fits = let p = and_parts _ _ fits in rw (registers.again r p.0, operands.again x p.1) refl
+data_op_again (data_op.Handle r x) fits = let p = and_parts _ _ fits in rw (registers.again r p.0, operands.again x p.1) refl
+data_op_again (data_op.Load r w) fits = let p = and_parts _ _ fits in rw (registers.again r p.0, (bounded 15 (lit< tt)).again w p.1) refl
+data_op_again (data_op.Store w x) fits = let p = and_parts _ _ fits in rw ((bounded 15 (lit< tt)).again w p.0, operands.again x p.1) refl
+data_op_again (data_op.SkipEq x y n) fits =
+    let p = and_parts _ _ fits in
+    let q = and_parts _ _ p.0 in
+    rw (operands.again x q.0, operands.again y q.1, (bounded 4096 (lit< tt)).again n p.1) refl
+
 task_op_takes : (k : TaskWord) (ws : List (List ℕ)) (o : TaskOp) → task_op_after k ws ≡ Some o → Spells task_op_words task_op_fits (task_word k) ws o
 unfolding task_op_after
 task_op_takes task.Ret ws o e = one_word task_op_words task_op_fits (codes "ret") operands task_op.Ret (λ x. refl) (λ x. refl) ws o e
+task_op_takes task.RetBad ws o e = one_word task_op_words task_op_fits (codes "ret_bad") operands task_op.RetBad (λ x. refl) (λ x. refl) ws o e
 task_op_takes task.Exit ws o e = no_words task_op_words task_op_fits (codes "exit") task_op.Exit refl refl ws o e
 
 task_op_again : (o : TaskOp) → task_op_fits o ≡ true → line_at (task_op_words o) ≡ Some (line.Op (op.Task o))
 unfolding line_at line_after task_op_after one_of
 task_op_again (task_op.Ret x) fits = rw (operands.again x fits) refl
+task_op_again (task_op.RetBad x) fits = rw (operands.again x fits) refl
 task_op_again task_op.Exit fits = refl
 task_op_again _ fits = absurd cc
 
 op_again : (o : Op) → op_fits o ≡ true → line_at (op_words o) ≡ Some (line.Op o)
+op_again (op.Data o) fits = data_op_again o fits
 op_again (op.Task o) fits = task_op_again o fits
 op_again _ fits = absurd cc
 
@@ -348,6 +410,7 @@ after_takes : (k : Keyword) (ws : List (List ℕ)) (l : Line) → line_after k w
 unfolding line_after
 after_takes (keyword.Head k) ws l e = as_line head_line_words head_line_fits line_words line_fits line.Head (λ x. refl) (λ x. refl) (head_word k) ws (head_after k ws) l e (head_takes k ws)
 after_takes (keyword.Part k) ws l e = as_line part_line_words part_line_fits line_words line_fits line.Part (λ x. refl) (λ x. refl) (part_word k) ws (part_after k ws) l e (part_takes k ws)
+after_takes (keyword.Data k) ws l e = as_line data_op_words data_op_fits line_words line_fits (λ o. line.Op (op.Data o)) (λ x. refl) (λ x. refl) (data_word k) ws (data_op_after k ws) l e (data_op_takes k ws)
 after_takes (keyword.Task k) ws l e = as_line task_op_words task_op_fits line_words line_fits (λ o. line.Op (op.Task o)) (λ x. refl) (λ x. refl) (task_word k) ws (task_op_after k ws) l e (task_op_takes k ws)
 after_takes (keyword.Main k) ws l e = main_takes k ws l e
 

@@ -1,5 +1,5 @@
 -- Items that each stand after those before them, and the places of their names.
-use Rattle.std.proofs.Common.{◌≡◌, ℕ, zero, suc, Bool, true, false, List, [], ◌∷◌, ◌++◌, take, Option, Some, None, refl, sym, ap, subst, ◌∙◌, append_assoc}
+use Rattle.std.proofs.Common.{◌≡◌, ℕ, zero, suc, ◌<◌, ◌≤◌, Bool, true, false, List, [], ◌∷◌, ◌++◌, length, take, Option, Some, None, refl, sym, ap, subst, ◌∙◌, append_assoc, length-append, arith}
 use Rattle.std.specs.Prelude.{position, slice_get}
 use Rattle.std.specs.List.{list_any}
 use Rattle.std.specs.Option.{option_map}
@@ -67,3 +67,11 @@ same_bytes xs ys e = (bytes_eq-Decides xs ys).0 e
 
 pub bytes_same : (xs : List ℕ) → bytes_eq xs xs ≡ true
 bytes_same xs = (bytes_eq-Decides xs xs).1 refl
+
+-- as many as may stand
+pub few_after : {X : Type 0} (S : List X → X → Type 0) (n : ℕ) → ((before : List X) (x : X) → S before x → length before < n) → (before xs : List X) → length before ≤ n → EachStands S before xs → length (before ++ xs) ≤ n
+few_after S n bound before [] le each = omega (arith, length-append before [])
+few_after S n bound before (x ∷ xs) le each =
+    let lt = bound before x each.0 in
+    let h = few_after S n bound (before ++ x ∷ []) xs (omega (arith, length-append before (x ∷ []))) each.1 in
+    omega (arith, h, length-append (before ++ x ∷ []) xs, length-append before (x ∷ []), length-append before (x ∷ xs))

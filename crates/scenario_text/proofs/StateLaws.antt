@@ -29,7 +29,7 @@ use Rattle.scenario_text.specs.declared.tree.MainOpText.{MainOpText}
 use Rattle.scenario_text.specs.declared.tree.MainOpText.TheVariants as main
 use Rattle.scenario_text.specs.Words.{◌>>=◌, is_name}
 use Rattle.scenario_text.specs.Spelling.{Lines, operand_word, callee_word, title_words, handles_words, table_words, idle_words, head_lines, op_words, export_words, export_lines, instance_words, instance_lines, body_lines, exports_of, export_name, name_of, main_op_words, main_words, main_lines, answer_words, end_words, lines_of}
-use Rattle.scenario_text.specs.Stands.{EachStands, operand_fits, idle_fits, kind_fits, handles_fit, table_fits, op_fits, has_room_for_op, OpStands, export_opens, ExportStands, instance_opens, InstanceStands, main_opens, start_opens, finish_opens, answer_opens, params_of, MainOpStands, IsWellFormed}
+use Rattle.scenario_text.specs.Stands.{EachStands, operand_fits, idle_fits, kind_fits, handles_fit, table_fits, op_fits, has_room_for_op, OpStands, export_opens, ExportStands, instance_opens, InstanceStands, start_opens, finish_opens, params_of, MainOpStands, IsWellFormed}
 use Rattle.scenario_text.specs.State.{with_instance, with_export, export_from, script_closed, instance_closed, main_open, after_title, handles_taken, after_handles, table_taken, after_table, after_idle, after_head, after_instance, after_export, after_part, with_op, after_op, after_main, small, instance_place, export_place, callee_of, start_of, finish_of, main_op_of, after_main_op, after_answer, whole, after_end, after}
 use Rattle.scenario_text.proofs.Numbers.{guarded}
 use Rattle.scenario_text.proofs.WordLaws.{bind_some, some_is, passed}
@@ -67,12 +67,10 @@ pub record ScriptFits (b : Body) (i : InstanceText) (e : ExportText) : Type 0 wh
 
 pub record MainFits (b : Body) (ops : List MainOpText) : Type 0 where
   pub body : BodyFits b
-  pub opens : main_opens b.instances ≡ true
   pub each : EachStands (MainOpStands b.instances) [] ops
 
 pub record AnswerFits (b : Body) (ops : List MainOpText) (x : Operand) : Type 0 where
   pub main : MainFits b ops
-  pub answers : answer_opens ops ≡ true
   pub answer : operand_fits x ≡ true
 
 -- what was read stands where it does
@@ -81,7 +79,7 @@ IsSound state.Empty = Unit {0}
 IsSound state.Titled = Unit {0}
 IsSound (state.Handles h) = handles_fit h ≡ true
 IsSound (state.Table h t) = (handles_fit h ≡ true) × (table_fits t ≡ true)
-IsSound (state.Body b) = BodyFits b × (b.instances ≡ [])
+IsSound (state.Body b) = BodyFits b
 IsSound (state.Instance b i) = BodyFits b × InstanceStands b.instances i
 IsSound (state.Script b i h start) = ScriptFits b i (export_from h start)
 IsSound (state.Main b ops) = MainFits b ops
@@ -150,7 +148,7 @@ closes_by_script s b e sound =
 
 pub closes_instance : (s : State) (b : Body) → instance_closed s ≡ Some b → IsSound s → InstanceClosed s b
 unfolding instance_closed
-closes_instance (state.Body c) b e sound = subst (InstanceClosed (state.Body c)) (some_is c b e) (record { body = sound.0; lines = refl })
+closes_instance (state.Body c) b e sound = subst (InstanceClosed (state.Body c)) (some_is c b e) (record { body = sound; lines = refl })
 closes_instance s b e sound = closes_by_script s b e sound
 
 -- ---- The head
@@ -172,7 +170,7 @@ idle_follows : (s t : State) (i : IdleLine) → after_idle s i ≡ Some t → id
 unfolding after_idle
 idle_follows (state.Table h n) t i e fits sound =
     subst (Follows (state.Table h n) (idle_words i)) (some_is (state.Body (record { handles = h; table = n; idle = i; instances = [] })) t e)
-    (record { lines = refl; sound = (record { handles = sound.0; table = sound.1; idle = fits; instances = tt }, refl) })
+    (record { lines = refl; sound = record { handles = sound.0; table = sound.1; idle = fits; instances = tt } })
 idle_follows _ t i e fits sound = absurd cc
 
 head_follows : (s t : State) (l : HeadLine) → after_head s l ≡ Some t → head_line_fits l ≡ true → IsSound s → Follows s (head_line_words l) t
@@ -188,8 +186,8 @@ instance_follows : (s t : State) (name : List ℕ) → after_instance s name ≡
 unfolding after_instance
 instance_follows s t name e fits sound =
     let opened = λ (b : Body). state.Instance b (record { name = name; exports = [] }) in
-    let b = bind_some (instance_closed s) (λ b. cond (instance_opens b.instances) (Some (opened b)) None) t e in
-    let g = guarded (instance_opens b.0.instances) (opened b.0) t b.2 in
+    let b = bind_some (instance_closed s) (λ b. cond (instance_opens b.instances name) (Some (opened b)) None) t e in
+    let g = guarded (instance_opens b.0.instances name) (opened b.0) t b.2 in
     let c = closes_instance s b.0 b.1 sound in
     subst (Follows s (instance_words name)) g.1
     (record { lines = ap (λ (ls : Lines). ls ++ instance_words name ∷ []) (sym c.lines); sound = (c.body, record { name = fits; opens = g.0; exports = tt }) })
@@ -198,8 +196,8 @@ export_follows : (s t : State) (h : Opening) → after_export s h ≡ Some t →
 unfolding after_export
 export_follows s t h e fits sound =
     let opened = λ (p : Body × InstanceText). state.Script p.0 p.1 h [] in
-    let p = bind_some (script_closed s) (λ p. cond (export_opens p.0.instances p.1.exports) (Some (opened p)) None) t e in
-    let g = guarded (export_opens p.0.0.instances p.0.1.exports) (opened p.0) t p.2 in
+    let p = bind_some (script_closed s) (λ p. cond (export_opens p.0.instances p.1.exports h.name) (Some (opened p)) None) t e in
+    let g = guarded (export_opens p.0.0.instances p.0.1.exports h.name) (opened p.0) t p.2 in
     let c = closes_script s p.0 p.1 sound in
     let f = and_parts (is_name h.name && kind_fits h.kind) (nat_le h.params 16) fits in
     let q = and_parts (is_name h.name) (kind_fits h.kind) f.0 in
@@ -246,11 +244,10 @@ op_follows _ t o e fits sound = absurd cc
 main_follows : (s t : State) → after_main s ≡ Some t → IsSound s → Follows s main_words t
 unfolding after_main
 main_follows s t e sound =
-    let b = bind_some (instance_closed s) (λ b. cond (main_opens b.instances) (Some (state.Main b [])) None) t e in
-    let g = guarded (main_opens b.0.instances) (state.Main b.0 []) t b.2 in
+    let b = bind_some (instance_closed s) (λ b. Some (state.Main b [])) t e in
     let c = closes_instance s b.0 b.1 sound in
-    subst (Follows s main_words) g.1
-    (record { lines = ap (λ (ls : Lines). ls ++ main_words ∷ []) (sym c.lines); sound = record { body = c.body; opens = g.0; each = tt } })
+    subst (Follows s main_words) (some_is (state.Main b.0 []) t b.2)
+    (record { lines = ap (λ (ls : Lines). ls ++ main_words ∷ []) (sym c.lines); sound = record { body = c.body; each = tt } })
 
 -- the name at the place of a name is that name
 named_place : {X : Type 0} (name : X → List ℕ) (xs : List X) (w : List ℕ) (k : ℕ) → (position (λ x. bytes_eq (name x) w) xs >>= small) ≡ Some k → unwrap_or (option_map name (slice_get xs k)) [] ≡ w
@@ -309,15 +306,14 @@ main_op_follows (state.Main b ops) t l e fits sound =
     subst (Follows (state.Main b ops) (named_words l)) (some_is (state.Main b (ops ++ o.0 ∷ [])) t o.2)
     (record {
       lines = ap (λ (ls : Lines). front b ++ ls) grown ∙ sym (append_assoc (front b) (main_lines b.instances ops) (named_words l ∷ []));
-      sound = record { body = sound.body; opens = sound.opens; each = each_more (MainOpStands b.instances) ops o.0 sound.each is.1 };
+      sound = record { body = sound.body; each = each_more (MainOpStands b.instances) ops o.0 sound.each is.1 };
     })
 main_op_follows _ t l e fits sound = absurd cc
 
 answer_follows : (s t : State) (x : Operand) → after_answer s x ≡ Some t → operand_fits x ≡ true → IsSound s → Follows s (answer_words x) t
 unfolding after_answer main_open
 answer_follows (state.Main b ops) t x e fits sound =
-    let g = guarded (answer_opens ops) (state.Answered b ops x) t e in
-    subst (Follows (state.Main b ops) (answer_words x)) g.1 (record { lines = refl; sound = record { main = sound; answers = g.0; answer = fits } })
+    subst (Follows (state.Main b ops) (answer_words x)) (some_is (state.Answered b ops x) t e) (record { lines = refl; sound = record { main = sound; answer = fits } })
 answer_follows _ t x e fits sound = absurd cc
 
 pub well_formed : (b : Body) (ops : List MainOpText) (x : Operand) → AnswerFits b ops x → IsWellFormed (whole b ops x)
@@ -326,9 +322,7 @@ well_formed b ops x fits = record {
   table = fits.main.body.table;
   idle = fits.main.body.idle;
   instances = fits.main.body.instances;
-  opens = fits.main.opens;
   main = fits.main.each;
-  answers = fits.answers;
   answer = fits.answer;
 }
 

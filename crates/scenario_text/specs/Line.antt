@@ -3,12 +3,16 @@ use Rattle.std.specs.Prelude.{ℕ, List, [], ◌∷◌, Option, Some, None, leng
 use Rattle.std.specs.Str.{bytes_eq}
 use Rattle.task_machine.specs.declared.op.Operand.{Operand}
 use Rattle.task_machine.specs.declared.op.Op.TheVariants as op
+use Rattle.task_machine.specs.declared.op.DataOp.{DataOp}
+use Rattle.task_machine.specs.declared.op.DataOp.TheVariants as data_op
 use Rattle.task_machine.specs.declared.op.TaskOp.{TaskOp}
 use Rattle.task_machine.specs.declared.op.TaskOp.TheVariants as task_op
 use Rattle.scenario_text.specs.declared.keyword.HeadWord.{HeadWord}
 use Rattle.scenario_text.specs.declared.keyword.HeadWord.TheVariants as head
 use Rattle.scenario_text.specs.declared.keyword.PartWord.{PartWord}
 use Rattle.scenario_text.specs.declared.keyword.PartWord.TheVariants as part
+use Rattle.scenario_text.specs.declared.keyword.DataWord.{DataWord}
+use Rattle.scenario_text.specs.declared.keyword.DataWord.TheVariants as datum
 use Rattle.scenario_text.specs.declared.keyword.TaskWord.{TaskWord}
 use Rattle.scenario_text.specs.declared.keyword.TaskWord.TheVariants as task
 use Rattle.scenario_text.specs.declared.keyword.MainWord.{MainWord}
@@ -59,11 +63,59 @@ unfoldable pub part_after : PartWord → List (List ℕ) → Option PartLine
 part_after part.Instance words = instance_after words
 part_after part.Export words = export_after words
 
+-- a register and an operand
+unfoldable pub target_after : List (List ℕ) → Option (ℕ × Operand)
+target_after words = do
+  p ← two_of words
+  r ← register_at p.0
+  x ← operand_at p.1
+  Some (r, x)
+
+unfoldable pub load_after : List (List ℕ) → Option DataOp
+load_after words = do
+  p ← two_of words
+  r ← register_at p.0
+  w ← bounded_at 15 p.1
+  Some (data_op.Load r w)
+
+unfoldable pub store_after : List (List ℕ) → Option DataOp
+store_after words = do
+  p ← two_of words
+  w ← bounded_at 15 p.0
+  x ← operand_at p.1
+  Some (data_op.Store w x)
+
+unfoldable pub skip_after : List (List ℕ) → Option DataOp
+skip_after words = do
+  p ← three_of words
+  x ← operand_at p.0
+  y ← operand_at p.1
+  n ← bounded_at 4096 p.2
+  Some (data_op.SkipEq x y n)
+
+unfoldable pub data_op_after : DataWord → List (List ℕ) → Option DataOp
+data_op_after datum.Set words = do
+  p ← target_after words
+  Some (data_op.Set p.0 p.1)
+data_op_after datum.Add words = do
+  p ← target_after words
+  Some (data_op.Add p.0 p.1)
+data_op_after datum.Handle words = do
+  p ← target_after words
+  Some (data_op.Handle p.0 p.1)
+data_op_after datum.Load words = load_after words
+data_op_after datum.Store words = store_after words
+data_op_after datum.SkipEq words = skip_after words
+
 unfoldable pub task_op_after : TaskWord → List (List ℕ) → Option TaskOp
 task_op_after task.Ret words = do
   a ← one_of words
   x ← operand_at a
   Some (task_op.Ret x)
+task_op_after task.RetBad words = do
+  a ← one_of words
+  x ← operand_at a
+  Some (task_op.RetBad x)
 task_op_after task.Exit words = if length words == 0 then Some task_op.Exit else None
 
 unfoldable pub operands_at : List (List ℕ) → Option (List Operand)
@@ -114,6 +166,9 @@ line_after (keyword.Head k) words = do
 line_after (keyword.Part k) words = do
   l ← part_after k words
   Some (line.Part l)
+line_after (keyword.Data k) words = do
+  o ← data_op_after k words
+  Some (line.Op (op.Data o))
 line_after (keyword.Task k) words = do
   o ← task_op_after k words
   Some (line.Op (op.Task o))

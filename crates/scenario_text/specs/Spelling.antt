@@ -9,6 +9,8 @@ use Rattle.task_machine.specs.declared.op.Operand.{Operand}
 use Rattle.task_machine.specs.declared.op.Operand.TheVariants.{Number, Register}
 use Rattle.task_machine.specs.declared.op.Op.{Op}
 use Rattle.task_machine.specs.declared.op.Op.TheVariants as op
+use Rattle.task_machine.specs.declared.op.DataOp.{DataOp}
+use Rattle.task_machine.specs.declared.op.DataOp.TheVariants as data_op
 use Rattle.task_machine.specs.declared.op.TaskOp.{TaskOp}
 use Rattle.task_machine.specs.declared.op.TaskOp.TheVariants as task_op
 use Rattle.task_machine.specs.declared.scenario.IdleLine.{IdleLine}
@@ -64,13 +66,23 @@ head_lines handles table i = title_words ∷ handles_words handles ∷ table_wor
 
 -- ---- Instances, exports and scripts
 
+abbrev pub data_op_words : DataOp → List (List ℕ)
+data_op_words (data_op.Set r x) = codes "set" ∷ register_word r ∷ operand_word x ∷ []
+data_op_words (data_op.Add r x) = codes "add" ∷ register_word r ∷ operand_word x ∷ []
+data_op_words (data_op.Handle r x) = codes "handle" ∷ register_word r ∷ operand_word x ∷ []
+data_op_words (data_op.Load r w) = codes "load" ∷ register_word r ∷ decimal w ∷ []
+data_op_words (data_op.Store w x) = codes "store" ∷ decimal w ∷ operand_word x ∷ []
+data_op_words (data_op.SkipEq x y n) = codes "skip_eq" ∷ operand_word x ∷ operand_word y ∷ decimal n ∷ []
+
 abbrev pub task_op_words : TaskOp → List (List ℕ)
 task_op_words (task_op.Ret x) = codes "ret" ∷ operand_word x ∷ []
+task_op_words (task_op.RetBad x) = codes "ret_bad" ∷ operand_word x ∷ []
 task_op_words task_op.Exit = codes "exit" ∷ []
 task_op_words _ = []
 
 -- an op that the grammar hasn't yet has no words
 abbrev pub op_words : Op → List (List ℕ)
+op_words (op.Data o) = data_op_words o
 op_words (op.Task o) = task_op_words o
 op_words _ = []
 

@@ -27,7 +27,7 @@ use Rattle.scenario_text.specs.declared.tree.ScenarioText.{ScenarioText}
 use Rattle.scenario_text.specs.Words.{◌>>=◌}
 use Rattle.scenario_text.specs.Line.{line_at}
 use Rattle.scenario_text.specs.Spelling.{Lines, exports_of}
-use Rattle.scenario_text.specs.Stands.{handles_fit, table_fits, has_room_for_op, params_of, export_opens, instance_opens, main_opens, start_opens, finish_opens, answer_opens}
+use Rattle.scenario_text.specs.Stands.{handles_fit, table_fits, has_room_for_op, params_of, export_opens, instance_opens, start_opens, finish_opens}
 
 abbrev pub with_instance : Body → InstanceText → Body
 with_instance b i = record b { instances = b.instances ++ i ∷ [] }
@@ -92,12 +92,12 @@ after_head s (head_line.Idle i) = after_idle s i
 unfoldable pub after_instance : State → List ℕ → Option State
 after_instance s name = do
   b ← instance_closed s
-  if instance_opens b.instances then Some (state.Instance b (record { name = name; exports = [] })) else None
+  if instance_opens b.instances name then Some (state.Instance b (record { name = name; exports = [] })) else None
 
 unfoldable pub after_export : State → Opening → Option State
 after_export s h = do
   p ← script_closed s
-  if export_opens p.0.instances p.1.exports then Some (state.Script p.0 p.1 h []) else None
+  if export_opens p.0.instances p.1.exports h.name then Some (state.Script p.0 p.1 h []) else None
 
 unfoldable pub after_part : State → PartLine → Option State
 after_part s (part_line.Instance name) = after_instance s name
@@ -114,9 +114,7 @@ after_op _ o = None
 -- ---- Main
 
 unfoldable pub after_main : State → Option State
-after_main s = do
-  b ← instance_closed s
-  if main_opens b.instances then Some (state.Main b []) else None
+after_main s = instance_closed s >>= λ b. Some (state.Main b [])
 
 -- a place that fits its type
 abbrev pub small : ℕ → Option ℕ
@@ -155,9 +153,7 @@ after_main_op s l = do
   Some (state.Main p.0 (p.1 ++ o ∷ []))
 
 unfoldable pub after_answer : State → Operand → Option State
-after_answer s x = do
-  p ← main_open s
-  if answer_opens p.1 then Some (state.Answered p.0 p.1 x) else None
+after_answer s x = main_open s >>= λ p. Some (state.Answered p.0 p.1 x)
 
 abbrev pub whole : Body → List MainOpText → Operand → ScenarioText
 whole b ops x = record { handles = b.handles; table = b.table; idle = b.idle; instances = b.instances; main = ops; answer = x }

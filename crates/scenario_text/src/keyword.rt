@@ -1,6 +1,6 @@
 //! The words with which lines begin, by the part of the text in which they stand.
 ghost use Rattle.std.specs.Prelude.{◌≡◌};
-ghost use Rattle.scenario_text.specs.Keyword.{head_word, part_word, task_word, main_word, keyword_text, keyword_at};
+ghost use Rattle.scenario_text.specs.Keyword.{head_word, part_word, data_word, task_word, main_word, keyword_text, keyword_at};
 
 /// A word of the text's head.
 #[derive(Clone, Copy, Debug, PartialEq, Eq)]
@@ -18,10 +18,22 @@ pub enum PartWord {
     Export,
 }
 
+/// An op on registers and on the instance's words.
+#[derive(Clone, Copy, Debug, PartialEq, Eq)]
+pub enum DataWord {
+    Set,
+    Add,
+    Handle,
+    Load,
+    Store,
+    SkipEq,
+}
+
 /// An op that ends a task or an activation.
 #[derive(Clone, Copy, Debug, PartialEq, Eq)]
 pub enum TaskWord {
     Ret,
+    RetBad,
     Exit,
 }
 
@@ -40,6 +52,7 @@ pub enum MainWord {
 pub enum Keyword {
     Head(HeadWord),
     Part(PartWord),
+    Data(DataWord),
     Task(TaskWord),
     Main(MainWord),
 }
@@ -70,6 +83,22 @@ impl PartWord {
     }
 }
 
+impl DataWord {
+    /// The word itself.
+    pub fn text(self) -> &'static [u8]
+        ensures { result.now ≡ data_word self }
+    {
+        match self {
+            DataWord::Set => b"set",
+            DataWord::Add => b"add",
+            DataWord::Handle => b"handle",
+            DataWord::Load => b"load",
+            DataWord::Store => b"store",
+            DataWord::SkipEq => b"skip_eq",
+        }
+    }
+}
+
 impl TaskWord {
     /// The word itself.
     pub fn text(self) -> &'static [u8]
@@ -77,6 +106,7 @@ impl TaskWord {
     {
         match self {
             TaskWord::Ret => b"ret",
+            TaskWord::RetBad => b"ret_bad",
             TaskWord::Exit => b"exit",
         }
     }
@@ -99,8 +129,15 @@ impl MainWord {
 
 impl Keyword {
     /// Each keyword once, the frequent ones first.
-    pub const ALL: [Keyword; 13] = [
+    pub const ALL: [Keyword; 20] = [
+        Keyword::Data(DataWord::Set),
+        Keyword::Data(DataWord::Add),
+        Keyword::Data(DataWord::Handle),
+        Keyword::Data(DataWord::Load),
+        Keyword::Data(DataWord::Store),
+        Keyword::Data(DataWord::SkipEq),
         Keyword::Task(TaskWord::Ret),
+        Keyword::Task(TaskWord::RetBad),
         Keyword::Task(TaskWord::Exit),
         Keyword::Main(MainWord::Start),
         Keyword::Main(MainWord::Finish),
@@ -122,6 +159,7 @@ impl Keyword {
         match self {
             Keyword::Head(word) => word.text(),
             Keyword::Part(word) => word.text(),
+            Keyword::Data(word) => word.text(),
             Keyword::Task(word) => word.text(),
             Keyword::Main(word) => word.text(),
         }

@@ -2,14 +2,14 @@
 ghost use Rattle.std.specs.Prelude.{◌≡◌, ◌<◌, ◌==◌, length, map, position, IfOk, IfSome};
 ghost use Rattle.std.specs.Option.{option_map};
 ghost use Rattle.scenario_text.specs.Words.{one_of, two_of, three_of};
-ghost use Rattle.scenario_text.specs.Line.{head_after, instance_after, export_after, part_after, task_op_after, operands_at, callee_at, start_after, finish_after, main_after, line_after, line_at};
+ghost use Rattle.scenario_text.specs.Line.{head_after, instance_after, export_after, part_after, target_after, load_after, store_after, skip_after, data_op_after, task_op_after, operands_at, callee_at, start_after, finish_after, main_after, line_after, line_at};
 ghost use Rattle.scenario_text.specs.Gives.{Gives};
 
-use crate::keyword::{HeadWord, Keyword, MainWord, PartWord, TaskWord};
+use crate::keyword::{DataWord, HeadWord, Keyword, MainWord, PartWord, TaskWord};
 use crate::tree::Name;
 use crate::words::{bounded, export_kind, idle_line, is_name, operand, register};
 use std::alloc::{AllocError, Global};
-use task_machine::{ExportKind, IdleLine, Op, Operand, Seq, TaskOp};
+use task_machine::{DataOp, ExportKind, IdleLine, Op, Operand, Seq, TaskOp};
 
 /// A line of the text's head.
 #[derive(Debug, Drop)]
@@ -146,6 +146,70 @@ fn part_after(alloc: Global, word: PartWord, words: &[&[u8]]) -> Result<PartLine
     }
 }
 
+// A register and an operand.
+#[tactic(auto, unfolding(crate::specs::Line::target_after))]
+fn target(words: &[&[u8]]) -> Option<(u8, Operand)>
+    ensures { result ≡ target_after (map (λ w. w.now) words.now) }
+{
+    let (to, value) = two(words)?;
+    Some((register(to)?, operand(value)?))
+}
+
+#[tactic(auto, unfolding(crate::specs::Line::load_after))]
+fn load_after(words: &[&[u8]]) -> Option<DataOp>
+    ensures { result ≡ load_after (map (λ w. w.now) words.now) }
+{
+    let (to, word) = two(words)?;
+    let to = register(to)?;
+    let word = bounded(word, 15)? as u8;
+    Some(DataOp::Load { to, word })
+}
+
+#[tactic(auto, unfolding(crate::specs::Line::store_after))]
+fn store_after(words: &[&[u8]]) -> Option<DataOp>
+    ensures { result ≡ store_after (map (λ w. w.now) words.now) }
+{
+    let (word, value) = two(words)?;
+    let word = bounded(word, 15)? as u8;
+    let value = operand(value)?;
+    Some(DataOp::Store { word, value })
+}
+
+#[tactic(auto, unfolding(crate::specs::Line::skip_after))]
+fn skip_after(words: &[&[u8]]) -> Option<DataOp>
+    ensures { result ≡ skip_after (map (λ w. w.now) words.now) }
+{
+    let (left, right, ops) = three(words)?;
+    let left = operand(left)?;
+    let right = operand(right)?;
+    let ops = bounded(ops, 4_096)? as u32;
+    Some(DataOp::SkipEq { left, right, ops })
+}
+
+// The op on registers that the words after its first one complete.
+#[tactic(auto, unfolding(crate::specs::Line::data_op_after))]
+fn data_op_after(word: DataWord, words: &[&[u8]]) -> Option<DataOp>
+    ensures { result ≡ data_op_after word (map (λ w. w.now) words.now) }
+{
+    match word {
+        DataWord::Set => {
+            let (to, value) = target(words)?;
+            Some(DataOp::Set { to, value })
+        }
+        DataWord::Add => {
+            let (to, value) = target(words)?;
+            Some(DataOp::Add { to, value })
+        }
+        DataWord::Handle => {
+            let (to, value) = target(words)?;
+            Some(DataOp::Handle { to, value })
+        }
+        DataWord::Load => load_after(words),
+        DataWord::Store => store_after(words),
+        DataWord::SkipEq => skip_after(words),
+    }
+}
+
 // The op that the words after its first one complete.
 #[tactic(auto, unfolding(crate::specs::Line::task_op_after))]
 fn task_op_after(word: TaskWord, words: &[&[u8]]) -> Option<TaskOp>
@@ -153,6 +217,9 @@ fn task_op_after(word: TaskWord, words: &[&[u8]]) -> Option<TaskOp>
 {
     match word {
         TaskWord::Ret => Some(TaskOp::Ret {
+            value: operand(one(words)?)?,
+        }),
+        TaskWord::RetBad => Some(TaskOp::RetBad {
             value: operand(one(words)?)?,
         }),
         TaskWord::Exit => words.is_empty().then_some(TaskOp::Exit),
@@ -237,6 +304,10 @@ fn line_after(alloc: Global, keyword: Keyword, words: &[&[u8]]) -> Result<Line, 
     match keyword {
         Keyword::Head(word) => Ok(Line::Head(head_after(word, words).ok_or(LineError::Bad)?)),
         Keyword::Part(word) => Ok(Line::Part(part_after(alloc, word, words)?)),
+        Keyword::Data(word) => {
+            let op = data_op_after(word, words).ok_or(LineError::Bad)?;
+            Ok(Line::Op(Op::Data(op)))
+        }
         Keyword::Task(word) => {
             let op = task_op_after(word, words).ok_or(LineError::Bad)?;
             Ok(Line::Op(Op::Task(op)))

@@ -1,8 +1,9 @@
 //! Where a line may stand: the limits, and the names that stand on earlier lines.
-ghost use Rattle.std.specs.Prelude.{◌≡◌, ◌+◌, ◌-◌, ◌==◌, length, position};
+ghost use Rattle.std.specs.Prelude.{◌≡◌, ◌+◌, ◌-◌, length, position};
+ghost use Rattle.std.specs.List.{list_any};
 ghost use Rattle.std.specs.Str.{bytes_eq};
 ghost use Rattle.scenario_text.specs.Spelling.{exports_of};
-ghost use Rattle.scenario_text.specs.Stands.{handles_fit, table_fits, params_of, export_count, export_opens, instance_opens, main_opens, start_opens, finish_opens, answer_opens};
+ghost use Rattle.scenario_text.specs.Stands.{handles_fit, table_fits, params_of, export_count, export_opens, instance_opens, main_has_room, is_start, finishes, start_count, start_opens, finish_opens};
 ghost use Rattle.scenario_text.specs.State.{instance_place, export_place, callee_of};
 
 use crate::tree::{ExportText, InstanceText, MainOpText};
@@ -11,8 +12,15 @@ use task_machine::Callee;
 /// The most ops of a script.
 pub const OPS: usize = 4_096;
 
-// The most exports of a text.
-const EXPORTS: usize = 1;
+// The most instances, and the most exports of a text in all.
+const INSTANCES: usize = 64;
+
+const EXPORTS: usize = 256;
+
+// The most ops of main before its answer, and the most starts among them.
+const MAIN_OPS: usize = 4_095;
+
+const STARTS: usize = 256;
 
 /// Whether a text may have this handle limit.
 pub fn handles_fit(handles: u32) -> bool
@@ -28,16 +36,22 @@ pub fn table_fits(table: u32) -> bool
     table == 1_000_000
 }
 
-/// Whether an instance may begin after those before it.
-pub fn instance_opens(before: &[InstanceText]) -> bool
-    ensures { result ≡ instance_opens before.now }
+fn has_instance(before: &[InstanceText], name: &[u8]) -> bool
+    ensures { result ≡ list_any (λ i. bytes_eq i.name name.now) before.now }
 {
-    before.is_empty()
+    before.iter().any(|i| i.name.as_slice() == name)
+}
+
+/// Whether an instance of this name may begin after those before it.
+pub fn instance_opens(before: &[InstanceText], name: &[u8]) -> bool
+    ensures { result ≡ instance_opens before.now name.now }
+{
+    before.len() < INSTANCES && !has_instance(before, name)
 }
 
 // How many exports there may still be, beside those of these instances and so many more.
 fn room_for_exports(instances: &[InstanceText], more: usize) -> usize
-    ensures { result ≡ 1 - (export_count instances.now + more) }
+    ensures { result ≡ 256 - (export_count instances.now + more) }
 {
     let mut room = EXPORTS.saturating_sub(more);
     for i in instances {
@@ -46,39 +60,65 @@ fn room_for_exports(instances: &[InstanceText], more: usize) -> usize
     room
 }
 
-/// Whether an export may begin after those of the instances before and those of its own.
-pub fn export_opens(instances: &[InstanceText], before: &[ExportText]) -> bool
-    ensures { result ≡ export_opens instances.now before.now }
+fn has_export(before: &[ExportText], name: &[u8]) -> bool
+    ensures { result ≡ list_any (λ e. bytes_eq e.name name.now) before.now }
 {
-    room_for_exports(instances, before.len()) > 0
+    before.iter().any(|e| e.name.as_slice() == name)
 }
 
-/// Whether main may begin after these instances.
-pub fn main_opens(instances: &[InstanceText]) -> bool
-    ensures { result ≡ main_opens instances.now }
+/// Whether an export of this name may begin after those of the instances before and those of its
+/// own.
+pub fn export_opens(instances: &[InstanceText], before: &[ExportText], name: &[u8]) -> bool
+    ensures { result ≡ export_opens instances.now before.now name.now }
 {
-    room_for_exports(instances, 0) == 0
+    room_for_exports(instances, before.len()) > 0 && !has_export(before, name)
+}
+
+fn main_has_room(before: &[MainOpText]) -> bool
+    ensures { result ≡ main_has_room before.now }
+{
+    before.len() < MAIN_OPS
+}
+
+fn is_start(op: &MainOpText) -> bool
+    ensures { result ≡ is_start op.now }
+{
+    matches!(op, MainOpText::Start(..))
+}
+
+fn finishes(op: &MainOpText, start: u32) -> bool
+    ensures { result ≡ finishes start op.now }
+{
+    matches!(op, MainOpText::Finish(k, _) if *k == start)
+}
+
+fn start_count(before: &[MainOpText]) -> usize
+    ensures { result ≡ start_count before.now }
+{
+    before.iter().filter(|o| is_start(o)).count()
+}
+
+fn is_finished(before: &[MainOpText], start: u32) -> bool
+    ensures { result ≡ list_any (finishes start) before.now }
+{
+    before.iter().any(|o| finishes(o, start))
 }
 
 /// Whether a start may follow these ops of main.
 pub fn start_opens(before: &[MainOpText]) -> bool
     ensures { result ≡ start_opens before.now }
 {
-    before.is_empty()
+    main_has_room(before) && start_count(before) < STARTS
 }
 
-/// Whether a finish of this start may follow these ops of main.
+/// Whether a finish of this start, an earlier one that isn't finished, may follow these ops of main.
 pub fn finish_opens(before: &[MainOpText], start: u32) -> bool
     ensures { result ≡ finish_opens before.now start }
 {
-    before.len() == 1 && start == 1
-}
-
-/// Whether the answer may follow these ops of main.
-pub fn answer_opens(before: &[MainOpText]) -> bool
-    ensures { result ≡ answer_opens before.now }
-{
-    before.len() == 2
+    main_has_room(before)
+        && 1 <= start
+        && start as usize <= start_count(before)
+        && !is_finished(before, start)
 }
 
 fn instance_position(instances: &[InstanceText], name: &[u8]) -> Option<usize>

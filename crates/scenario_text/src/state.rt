@@ -5,8 +5,8 @@ ghost use Rattle.scenario_text.specs.State.{with_op, start_of, finish_of, main_o
 
 use crate::line::{HeadLine, Line, LineError, NamedOp, PartLine};
 use crate::stands::{
-    OPS, answer_opens, callee_of, export_opens, finish_opens, handles_fit, instance_opens,
-    main_opens, params_of, start_opens, table_fits,
+    OPS, callee_of, export_opens, finish_opens, handles_fit, instance_opens, params_of,
+    start_opens, table_fits,
 };
 use crate::tree::{ExportText, InstanceText, MainOpText, Name, ScenarioText};
 use std::alloc::Global;
@@ -212,7 +212,7 @@ impl State {
         ensures { Gives result (after_instance self name) }
     {
         let body = self.close_instance()?;
-        if !instance_opens(body.instances.as_slice()) {
+        if !instance_opens(body.instances.as_slice(), name.as_slice()) {
             return Err(LineError::Bad);
         }
         let exports = Seq::new(alloc);
@@ -224,7 +224,11 @@ impl State {
         ensures { Gives result (after_export self opening) }
     {
         let (body, instance) = self.close_script()?;
-        if !export_opens(body.instances.as_slice(), instance.exports.as_slice()) {
+        if !export_opens(
+            body.instances.as_slice(),
+            instance.exports.as_slice(),
+            opening.name.as_slice(),
+        ) {
             return Err(LineError::Bad);
         }
         Ok(State::Script(body, instance, opening, Seq::new(alloc)))
@@ -257,9 +261,6 @@ impl State {
         ensures { Gives result (after_main self) }
     {
         let body = self.close_instance()?;
-        if !main_opens(body.instances.as_slice()) {
-            return Err(LineError::Bad);
-        }
         Ok(State::Main(body, Seq::new(alloc)))
     }
 
@@ -294,9 +295,6 @@ impl State {
         ensures { Gives result (after_answer self value) }
     {
         let (body, ops) = self.open_main()?;
-        if !answer_opens(ops.as_slice()) {
-            return Err(LineError::Bad);
-        }
         Ok(State::Answered(body, ops, value))
     }
 

@@ -1,8 +1,15 @@
 use super::*;
 use std::test::Fail;
+use task_machine::{Callee, DataOp, Op, Operand};
 
 const ONE_CALL: &[u8] =
     b"scenario 1\nhandles 100000\ntable 1000000\nidle trap\ninstance a\nexport f callback 1\nret r0\nexit\nmain\nstart a.f 7\nfinish 1 r0\nanswer r0\nend\n";
+
+const TWO_INSTANCES: &[u8] =
+    b"scenario 1\nhandles 100000\ntable 1000000\nidle trap\ninstance a\nexport f callback 2\nset r3 r0\nadd r3 18446744073709551615\nhandle r15 r3\nload r4 15\nstore 0 9\nskip_eq r3 0 4096\nret_bad r3\nexport g callback 0\ninstance b\ninstance c\nexport f callback 0\nmain\nstart c.f\nstart a.f 7 r2\nfinish 2 r0\nstart a.g\nfinish 1 r1\nanswer r0\nend";
+
+const NOTHING: &[u8] =
+    b"scenario 1\nhandles 100000\ntable 1000000\nidle trap\nmain\nanswer 0\nend\n";
 
 #[test]
 fn reads_one_call(rt: HostRuntime) -> Result<(), Fail> {
@@ -13,6 +20,33 @@ fn reads_one_call(rt: HostRuntime) -> Result<(), Fail> {
         assert_eq!(rt; tree.main.len(), 2);
     }
     one_tree();
+    Ok(())
+}
+
+#[test]
+fn reads_many_instances(rt: HostRuntime) -> Result<(), Fail> {
+    let tree = read_text(rt.alloc(), TWO_INSTANCES)
+        .ok()
+        .ok_or("a scenario")?;
+    assert_eq!(rt; tree.instances.len(), 3);
+    let instance = tree.instances.as_slice().get(0).ok_or("an instance")?;
+    assert_eq!(rt; instance.exports.len(), 2);
+    let export = instance.exports.as_slice().get(0).ok_or("an export")?;
+    assert_eq!(rt; export.start.len(), 7);
+    let op = export.start.as_slice().get(5).ok_or("an op")?;
+    let skip = DataOp::SkipEq {
+        left: Operand::Register(3),
+        right: Operand::Number(0),
+        ops: 4096,
+    };
+    assert!(rt; matches!(op, Op::Data(data) if *data == skip));
+    let start = tree.main.as_slice().get(1).ok_or("a start")?;
+    let callee = Callee {
+        instance: 0,
+        export: 0,
+    };
+    assert!(rt; matches!(start, MainOpText::Start(f, params) if *f == callee && params.len() == 2));
+    assert!(rt; read_text(rt.alloc(), NOTHING).is_ok());
     Ok(())
 }
 
@@ -36,9 +70,37 @@ fn names_the_first_bad_line(rt: HostRuntime) {
         ),
         (
             b"scenario 1\nhandles 100000\ntable 1000000\nidle trap\ninstance a\nmain\n",
-            6,
+            7,
         ),
         (front, 13),
+    ];
+    for (text, line) in texts {
+        assert_eq!(rt;
+            read_text(rt.alloc(), text).err(),
+            Some(TextError::Bad(line))
+        );
+    }
+}
+
+#[test]
+fn names_stand_on_earlier_lines(rt: HostRuntime) {
+    let texts: [(&[u8], u32); 4] = [
+        (
+            b"scenario 1\nhandles 100000\ntable 1000000\nidle trap\ninstance a\ninstance b\ninstance a\n",
+            7,
+        ),
+        (
+            b"scenario 1\nhandles 100000\ntable 1000000\nidle trap\ninstance a\nexport f callback 0\nexport f callback 0\n",
+            7,
+        ),
+        (
+            b"scenario 1\nhandles 100000\ntable 1000000\nidle trap\ninstance a\nexport f callback 0\nmain\nstart a.g\n",
+            8,
+        ),
+        (
+            b"scenario 1\nhandles 100000\ntable 1000000\nidle trap\ninstance a\nexport f callback 0\nmain\nstart a.f\nfinish 1 r0\nfinish 1 r0\n",
+            10,
+        ),
     ];
     for (text, line) in texts {
         assert_eq!(rt;
