@@ -1,12 +1,12 @@
 -- A scenario that a text of the first grammar stands for keeps what a run of it needs.
 use Rattle.std.proofs.Common.{inl, inr, ◌≡◌, ◌<◌, ◌≤◌, ◌+◌, ℕ, suc, zero, true, false, List, [], ◌∷◌, ◌++◌, Option, Some, None, map, length, take, slice_get, refl, sym, ap, subst, ◌∙◌, arith}
-use Rattle.std.specs.Prelude.{nat_lt, ◌==◌}
+use Rattle.std.specs.Prelude.{Bool, nat_lt, ◌==◌, ◌&&◌}
 use Rattle.std.specs.List.{list_all}
 use Rattle.std.specs.Option.{option_map, option_and_then}
 use Rattle.std.proofs.Common.{◌⊎◌}
 use Rattle.std.proofs.lemmas.Option.{same_Some}
 use Rattle.std.proofs.lemmas.Bool.{cases_eq, ne_eqb}
-use Rattle.std.proofs.lemmas.List.{length_push}
+use Rattle.std.proofs.lemmas.List.{length_push, length-map}
 use Rattle.std.proofs.lemmas.Option.{slice_get-map}
 use Rattle.scenario_text.specs.declared.tree.ExportText.{ExportText}
 use Rattle.scenario_text.specs.declared.tree.InstanceText.{InstanceText}
@@ -76,16 +76,18 @@ callback kind.Sync fits = absurd (cc)
 callback kind.Blocking fits = absurd (cc)
 callback kind.Stackful fits = absurd (cc)
 
-first_task : (o : TaskOp) → task_op_fits o ≡ true → fit.is_first_op (op.Task o) ≡ true
+first_task : (o : TaskOp) → task_op_fits o ≡ true → fit.is_plain_op (op.Task o) ≡ true
 first_task (task.Ret x) fits = refl
+first_task (task.RetBad x) fits = refl
 first_task task.Exit fits = refl
 first_task o fits = absurd (cc)
 
-first_op : (o : Op) → op_fits o ≡ true → fit.is_first_op o ≡ true
+first_op : (o : Op) → op_fits o ≡ true → fit.is_plain_op o ≡ true
 first_op (op.Task o) fits = first_task o fits
+first_op (op.Data o) fits = refl
 first_op o fits = absurd (cc)
 
-all_first : (before xs : List Op) → EachStands OpStands before xs → list_all fit.is_first_op xs ≡ true
+all_first : (before xs : List Op) → EachStands OpStands before xs → list_all fit.is_plain_op xs ≡ true
 all_first before [] stands = refl
 all_first before (x ∷ xs) stands = rw (first_op x stands.0.fits, all_first (before ++ x ∷ []) xs stands.1) refl
 
@@ -126,6 +128,20 @@ first_export before others e stands = record {
   ops = all_first [] e.start stands.start;
 }
 
+first_of_and : (a b : Bool) → (a && b) ≡ true → a ≡ true
+first_of_and true b both = refl
+first_of_and false b both = absurd (cc)
+
+-- each instance had room
+below_64 : (before is : List InstanceText) → EachStands InstanceStands before is → length before ≤ 64 → length before + length is ≤ 64
+below_64 before [] stands few = omega arith
+below_64 before (i ∷ is) stands few =
+    let room : nat_lt (length before) 64 ≡ true = first_of_and _ _ stands.0.opens in
+    let more : length (before ++ i ∷ []) ≡ length before + 1 = length_push before i in
+    let below : length before < 64 = grind (arith, room) in
+    let rest = below_64 (before ++ i ∷ []) is stands.1 (omega arith) in
+    omega arith
+
 module _ (s : ScenarioText) (formed : IsWellFormed s) where
   abbrev c : Component
   c = (scenario_of s).component
@@ -141,13 +157,8 @@ module _ (s : ScenarioText) (formed : IsWellFormed s) where
       let stands = stands_at (ExportStands (take f.instance s.instances)) e.0.exports f.export x.0 i.exports x.1.0 in
       subst IsFirstExport x.1.1 (first_export (take f.instance s.instances) (take f.export e.0.exports) x.0 stands)
 
-  one_instance : length c.instances ≤ 1
-  one_instance = by_instances s.instances formed.instances
-    where
-      by_instances : (is : List InstanceText) → EachStands InstanceStands [] is → length (map instance_def is) ≤ 1
-      by_instances [] stands = omega arith
-      by_instances (a ∷ []) stands = omega arith
-      by_instances (a ∷ b ∷ is) stands = absurd (let no : false ≡ true = stands.1.0.opens in cc)
+  few_instances : length c.instances ≤ 64
+  few_instances = let few = below_64 [] s.instances formed.instances (omega arith) in let same = length-map s.instances instance_def in omega arith
 
   -- ---- Main's script
 
@@ -185,7 +196,7 @@ module _ (s : ScenarioText) (formed : IsWellFormed s) where
   first_scenario = record {
     handles = same_number s.handles 100000 formed.handles;
     table = same_number s.table 1000000 formed.table;
-    few = one_instance;
+    few = few_instances;
     component = component_first;
     main = suits;
   }
