@@ -28,6 +28,34 @@ def cases():
     yield "longest script of short lines", ["run", "1000000"], HEAD + "\n".join(ops) + "\n" + TAIL
     ops = ["ret 18446744073709551615"] * 4096
     yield "longest script of long lines", ["run", "2"], HEAD + "\n".join(ops) + "\n" + TAIL
+    yield "256 starts of plain ops", ["run", "1000000"], HEAD + script(4096) + starts(256)
+    yield "longest text", ["run", "1"], longest(1_048_576)
+
+
+def script(length):
+    """Plain ops of each kind in turn, then a return and an exit."""
+    ops = ["set r1 7", "add r2 r1", "add r1 18446744073709551615", "handle r3 r2"]
+    ops += ["store 3 r2", "load r4 3", "skip_eq r1 r2 1", "add r5 1"]
+    lines = [ops[i % len(ops)] for i in range(length - 2)] + ["ret r2", "exit"]
+    return "".join(line + "\n" for line in lines)
+
+
+def starts(count):
+    numbers = range(1, count + 1)
+    lines = ["main", *(f"start a.f {k}" for k in numbers), *(f"finish {k} r0" for k in numbers), "answer r0", "end"]
+    return "".join(line + "\n" for line in lines)
+
+
+def longest(size):
+    """A text of so many bytes or a few less, with scripts of long lines."""
+    text, line, end = HEAD + "exit\n", "add r1 18446744073709551615\n", starts(1)
+    for export in range(255):
+        text += f"export f{export} callback 1\n"
+        room = (size - len(text) - len(end)) // len(line)
+        text += line * min(room, 4096)
+        if room < 4096 + 2:
+            break
+    return text + end
 
 
 def once(program, words, path):

@@ -4,7 +4,7 @@ use Rattle.std.specs.Prelude.{slice_get, unwrap_or, position, nat_le}
 use Rattle.std.specs.List.{flat_map, list_any}
 use Rattle.std.specs.Option.{option_map}
 use Rattle.std.specs.Str.{bytes_eq}
-use Rattle.std.proofs.lemmas.Bool.{and_parts, and_from, eq-eqb, eqb-true, le-leb, leb-true, lt-ltb, ltb-true, not-true}
+use Rattle.std.proofs.lemmas.Bool.{and_parts, and_from, eq-eqb, le-leb, leb-true, lt-ltb, ltb-true, not-true}
 use Rattle.std.proofs.lemmas.List.{append-nil}
 use Rattle.std.proofs.lemmas.List.Sums.{count_by-le-length}
 use Rattle.std.proofs.lemmas.Option.{slice_get_within}
@@ -232,19 +232,13 @@ main_ops_read b before (o ∷ ops) each stand =
 
 -- ---- The whole
 
-handles_small : (h : ℕ) → handles_fit h ≡ true → nat_le h 268435455 ≡ true
-handles_small h fits = ap (λ (n : ℕ). nat_le n 268435455) (eqb-true _ _ fits)
-
-table_small : (t : ℕ) → table_fits t ≡ true → nat_le t 1000000 ≡ true
-table_small t fits = ap (λ (n : ℕ). nat_le n 1000000) (eqb-true _ _ fits)
-
 head_read : (h t : ℕ) (i : IdleLine) → handles_fit h ≡ true → table_fits t ≡ true → idle_fits i ≡ true → ReadsTo state.Empty (head_lines h t i) (state.Body (record { handles = h; table = t; idle = i; instances = [] }))
 unfolding after after_head after_title after_handles after_table after_idle
 head_read h t i fh ft fi =
     let b : State = state.Body (record { handles = h; table = t; idle = i; instances = [] }) in
     both state.Empty state.Titled b (title_words ∷ []) (handles_words h ∷ table_words t ∷ idle_words i ∷ []) (one_line state.Empty state.Titled (line.Head head_line.Title) refl refl)
-    (both state.Titled (state.Handles h) b (handles_words h ∷ []) (table_words t ∷ idle_words i ∷ []) (one_line state.Titled (state.Handles h) (line.Head (head_line.Handles h)) (handles_small h fh) (rw fh refl))
-    (both (state.Handles h) (state.Table h t) b (table_words t ∷ []) (idle_words i ∷ []) (one_line (state.Handles h) (state.Table h t) (line.Head (head_line.Table t)) (table_small t ft) (rw ft refl))
+    (both state.Titled (state.Handles h) b (handles_words h ∷ []) (table_words t ∷ idle_words i ∷ []) (one_line state.Titled (state.Handles h) (line.Head (head_line.Handles h)) fh (rw fh refl))
+    (both (state.Handles h) (state.Table h t) b (table_words t ∷ []) (idle_words i ∷ []) (one_line (state.Handles h) (state.Table h t) (line.Head (head_line.Table t)) ft (rw ft refl))
     (one_line (state.Table h t) b (line.Head (head_line.Idle i)) fi refl)))
 
 abbrev body_of : ScenarioText → Body

@@ -43,12 +43,13 @@ abbrev pub kind_fits : ExportKind → Bool
 kind_fits kind.Callback = true
 kind_fits _ = false
 
--- the only limits that a text may give so far
+-- at most so many handles may be live at once
 abbrev pub handles_fit : ℕ → Bool
-handles_fit n = n == 100000
+handles_fit n = nat_le n 268435455
 
+-- at most so many entries does the table have room for
 abbrev pub table_fits : ℕ → Bool
-table_fits n = n == 1000000
+table_fits n = nat_le n 1000000
 
 -- ---- Scripts
 

@@ -12,6 +12,11 @@ use task_machine::Callee;
 /// The most ops of a script.
 pub const OPS: usize = 4_096;
 
+// The most handles that may be live at once, and the most entries of the table.
+const HANDLES: u32 = 268_435_455;
+
+const TABLE: u32 = 1_000_000;
+
 // The most instances, and the most exports of a text in all.
 const INSTANCES: usize = 64;
 
@@ -26,14 +31,14 @@ const STARTS: usize = 256;
 pub fn handles_fit(handles: u32) -> bool
     ensures { result ≡ handles_fit handles }
 {
-    handles == 100_000
+    handles <= HANDLES
 }
 
 /// Whether a text may have this table capacity.
 pub fn table_fits(table: u32) -> bool
     ensures { result ≡ table_fits table }
 {
-    table == 1_000_000
+    table <= TABLE
 }
 
 fn has_instance(before: &[InstanceText], name: &[u8]) -> bool

@@ -54,14 +54,12 @@ impl TaskCore {
     }
 
     /// Sets a word of the instance, 0 to 15; there are no others, and a write of one changes nothing.
-    #[tactic(auto, using(task_machine::proofs::FieldLemmas::fields))]
     pub fn set_word(&mut self, index: u32, word: u8, value: u64)
         requires { IsSome (get self.old.core.instances index) }
         ensures { self.new ≡ with_core (set_word index word value self.old.core) self.old }
     {
-        let mut instance = self.instance_record(index);
+        let instance = &mut self.instances[index as usize].instance;
         put_word(&mut instance.words, word, value);
-        self.put_instance(index, instance);
     }
 
     /// An activation of the instance keeps others out from now on.

@@ -48,25 +48,25 @@ impl TaskCore {
     }
 
     /// Sets a register of a thread, 0 to 15; there are no others, and a write of one changes nothing.
-    #[tactic(auto, using(task_machine::proofs::FieldLemmas::fields))]
     pub fn set_register(&mut self, id: TableId<ThreadKey>, register: u8, value: u64)
         requires { 0 < thread_number self.old.tags id }
         ensures { self.new ≡ with_core (set_register (thread_number self.old.tags id) register value self.old.core) self.old }
     {
-        let mut thread = self.thread(id);
-        put_word(&mut thread.registers, register, value);
-        self.put_thread(id, thread);
+        match self.table.get_mut(id) {
+            Ok(entry) => put_word(&mut entry.thread.registers, register, value),
+            Err(_) => unreachable!(),
+        }
     }
 
     /// Sets the place of a thread in its script, from 0.
-    #[tactic(auto, using(task_machine::proofs::FieldLemmas::fields))]
     pub fn set_position(&mut self, id: TableId<ThreadKey>, position: u32)
         requires { 0 < thread_number self.old.tags id }
         ensures { self.new ≡ with_core (set_position (thread_number self.old.tags id) position self.old.core) self.old }
     {
-        let mut thread = self.thread(id);
-        thread.position = position;
-        self.put_thread(id, thread);
+        match self.table.get_mut(id) {
+            Ok(entry) => entry.thread.position = position,
+            Err(_) => unreachable!(),
+        }
     }
 
     /// Says where a thread is.
