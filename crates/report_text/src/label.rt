@@ -13,6 +13,7 @@ use task_machine::{
 
 type Printed = Result<(), AllocError>;
 
+#[inline(always)]
 fn words(out: &mut Vec<u8>, words: &[u8]) -> Printed
     ensures { OnOk result (out.new.items ≡ out.old.items ++ words.now) }
 {
@@ -20,7 +21,8 @@ fn words(out: &mut Vec<u8>, words: &[u8]) -> Printed
     Ok(())
 }
 
-// Words and a number behind them.
+// Words and a number behind them. The words of each call are known where it is compiled.
+#[inline(always)]
 fn number(out: &mut Vec<u8>, before: &[u8], number: u64) -> Printed
     ensures { OnOk result (out.new.items ≡ out.old.items ++ (before.now ++ decimal number)) }
 {
@@ -29,6 +31,7 @@ fn number(out: &mut Vec<u8>, before: &[u8], number: u64) -> Printed
     Ok(())
 }
 
+#[inline(always)]
 fn numbers(out: &mut Vec<u8>, before: &[u8], first: u64, between: &[u8], second: u64) -> Printed
     ensures { OnOk result (out.new.items ≡ out.old.items ++ (before.now ++ decimal first ++ between.now ++ decimal second)) }
 {
@@ -37,6 +40,7 @@ fn numbers(out: &mut Vec<u8>, before: &[u8], first: u64, between: &[u8], second:
 }
 
 // `thread N` and what it does.
+#[inline(always)]
 fn does(out: &mut Vec<u8>, thread: u64, what: &[u8]) -> Printed
     ensures { OnOk result (out.new.items ≡ out.old.items ++ op_text thread what.now) }
 {
@@ -45,6 +49,7 @@ fn does(out: &mut Vec<u8>, thread: u64, what: &[u8]) -> Printed
 }
 
 // `thread N`, what it does, and a number.
+#[inline(always)]
 fn answers(out: &mut Vec<u8>, thread: u64, what: &[u8], answer: u64) -> Printed
     ensures { OnOk result (out.new.items ≡ out.old.items ++ answer_text thread what.now answer) }
 {
