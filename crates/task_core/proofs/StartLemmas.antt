@@ -57,7 +57,6 @@ pub SoundTable-more : (t : Table Entry) (m n : ℕ) → m ≤ n → SoundTable t
 SoundTable-more t m n more sound = record {
   table = sound.table;
   childless = sound.childless;
-  room = sound.room;
   threads = sound.threads;
   callers = sound.callers;
   calls = sound.calls;
@@ -141,7 +140,6 @@ module _ (a : Parts) (s : Shown) (is : image a ≡ s) (sound : Sound a) (k : ℕ
     table = record {
       table = sound.table.table;
       childless = sound.table.childless;
-      room = sound.table.room;
       threads = sound.table.threads;
       callers = sound.table.callers;
       calls = sound.table.calls;
