@@ -12,6 +12,7 @@ pub mod TableChangeLemmas
 pub mod UndoLemmas
 pub mod StartLemmas
 pub mod StartCoreLemmas
+pub mod RefusalLemmas
 pub mod EndLemmas
 pub mod GroupLemmas
 pub mod HandlePartLemmas

@@ -1,5 +1,5 @@
 -- Limits, and one instance more.
-use Rattle.std.proofs.Common.{inl, inr, ◌≡◌, ◌≤◌, ◌+◌, ℕ, List, [], ◌∷◌, ◌++◌, false, nat_le, Option, Some, None, map, length, refl, sym, ap, subst, ◌∙◌, arith}
+use Rattle.std.proofs.Common.{inl, inr, ◌≡◌, ◌<◌, ◌≤◌, ◌+◌, ◌-◌, ℕ, List, [], ◌∷◌, ◌++◌, false, nat_le, Option, Some, None, map, length, refl, sym, ap, subst, ◌∙◌, arith}
 use Rattle.std.specs.Option.{option_map}
 use Rattle.std.proofs.lemmas.Bool.Decides.{nat_tests}
 use Rattle.std.proofs.lemmas.Option.{slice_get-map, slice_get_past}
@@ -15,7 +15,7 @@ use Rattle.task_machine.specs.Core.{Core, no_handles, untouched}
 use Rattle.task_machine.specs.Read.{table_use, live_count, fits, at_handle_limit}
 use Rattle.task_core.specs.declared.entry.Entry.{Entry}
 use Rattle.task_core.specs.declared.instance.InstanceRecord.{InstanceRecord}
-use Rattle.task_core.specs.Image.{Parts, core_of, image, tag_of}
+use Rattle.task_core.specs.Image.{Parts, IsTableOf, core_of, image}
 use Rattle.task_core.specs.Instances.{by_place, handle_table, named_of, thread_of}
 use Rattle.task_core.specs.Shown.{Shown, with_core, with_instance, with_capacity}
 use Rattle.task_core.specs.Sound.{Sound, SoundTable}
@@ -29,13 +29,20 @@ use Rattle.task_core.proofs.InstancePartLemmas.{sound_instances}
 
 -- ---- Limits
 
-room_test : (n free taken capacity len : ℕ) → free + len ≡ capacity → len ≡ taken → nat_le n free ≡ nat_le (taken + n) capacity
-room_test n free taken capacity len room used = grind (arith, nat_tests)
+room_test : (n taken capacity len : ℕ) → len ≡ taken → n ≤ capacity → nat_le len (capacity - n) ≡ nat_le (taken + n) capacity
+room_test n taken capacity len used most = grind (arith, nat_tests)
+
+no_room_test : (n taken capacity : ℕ) → capacity < n → nat_le n capacity ≡ nat_le (taken + n) capacity
+no_room_test n taken capacity more = grind (arith, nat_tests)
 
 module _ (a : Parts) (s : Shown) (is : image a ≡ s) (sound : Sound a) where
-  pub has_room : (n : ℕ) → nat_le n (free_count a.table) ≡ fits n s.core
+  pub has_room : (n : ℕ) → n ≤ a.table.capacity → nat_le (table_len a.table) (a.table.capacity - n) ≡ fits n s.core
   unfolding fits
-  has_room n = room_test n (free_count a.table) (table_use (core_of a)) a.table.capacity (table_len a.table) sound.table.room sound.used ∙ ap (λ (s : Shown). nat_le (table_use s.core + n) s.core.capacity) is
+  has_room n most = room_test n (table_use (core_of a)) a.table.capacity (table_len a.table) sound.used most ∙ ap (λ (s : Shown). nat_le (table_use s.core + n) s.core.capacity) is
+
+  pub has_no_room : (n : ℕ) → a.table.capacity < n → nat_le n a.table.capacity ≡ fits n s.core
+  unfolding fits
+  has_no_room n more = no_room_test n (table_use (core_of a)) a.table.capacity more ∙ ap (λ (s : Shown). nat_le (table_use s.core + n) s.core.capacity) is
 
   pub at_limit : nat_le a.counter.limit a.counter.live ≡ at_handle_limit s.core
   unfolding at_handle_limit
@@ -44,6 +51,10 @@ module _ (a : Parts) (s : Shown) (is : image a ≡ s) (sound : Sound a) where
   pub limits_soundly : (c : Counter) → c.live ≡ a.counter.live → Sound (record a { counter = c })
   unfolding live_count
   limits_soundly c live = sound_instances a a.instances c (live ∙ sound.live) (λ i r at. sound.simple.suspends i r at) sound
+
+-- the table itself
+pub table_is : (a : Parts) (s : Shown) → image a ≡ s → Sound a → IsTableOf s.core a.table
+table_is a s is sound = subst (λ (s : Shown). IsTableOf s.core a.table) is (record { used = sound.used; capacity = refl; calls = refl; threads = refl })
 
 -- ---- One instance more
 
@@ -102,28 +113,14 @@ module _ (a : Parts) (s : Shown) (is : image a ≡ s) (sound : Sound a) (xs : Li
 pub counts_instances : (a : Parts) (s : Shown) → image a ≡ s → length a.instances ≡ size s.core.instances
 counts_instances a s is = instance_count a ∙ ap (λ (s : Shown). size s.core.instances) is
 
--- ---- The capacity, before any entry was made
+-- ---- The capacity
 
-nothing_mapped : {X Y : Type 0} (f : X → Y) (xs : List X) → map f xs ≡ [] → length xs ≡ 0
-nothing_mapped f [] is = refl
-nothing_mapped f (x ∷ xs) is = absurd (cc)
-
-module _ (a : Parts) (s : Shown) (is : image a ≡ s) (sound : Sound a) (n : ℕ) (most : n ≤ 4294967295) (none : s.tags ≡ []) where
-  no_place : length a.table.places ≡ 0
-  no_place = nothing_mapped tag_of a.table.places (ap (λ (s : Shown). s.tags) is ∙ none)
-
-  none_taken : table_len a.table ≡ 0
-  none_taken = let all : length a.table.free + table_len a.table ≡ length a.table.places = sound.table.table.free_or_taken in omega (arith, no_place)
-
-  none_free : length a.table.free ≡ 0
-  none_free = let all : length a.table.free + table_len a.table ≡ length a.table.places = sound.table.table.free_or_taken in omega (arith, no_place)
-
+module _ (a : Parts) (s : Shown) (is : image a ≡ s) (sound : Sound a) (n : ℕ) (most : n ≤ 4294967295) where
   capacity_table : SoundTable (table_with_capacity n a.table) a.made.threads
   unfolding table_with_capacity
   capacity_table = record {
     table = IsTable-with_capacity a.table n most sound.table.table;
     childless = sound.table.childless;
-    room = omega (arith, no_place, none_taken, none_free);
     threads = sound.table.threads;
     callers = sound.table.callers;
     calls = sound.table.calls;

@@ -55,7 +55,6 @@ opening_table : IsTable (new_table {E = Entry}) → SoundTable new_table 0
 opening_table table = record {
   table = table;
   childless = λ rep. refl;
-  room = omega arith;
   threads = AreApart-new_table thread_key;
   callers = AreApart-new_table callers_key;
   calls = AreApart-new_table call_key;

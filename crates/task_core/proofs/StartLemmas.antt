@@ -1,6 +1,8 @@
 -- A group, a call and a thread are made.
-use Rattle.std.proofs.Common.{Greater, inl, inr, ◌≡◌, ◌≢◌, ◌<◌, ◌≤◌, ◌+◌, ℕ, List, [], ◌∷◌, ◌++◌, false, map, Option, Some, None, refl, sym, ap, subst, ◌∙◌, arith}
+use Rattle.std.proofs.Common.{Greater, inl, inr, ◌≡◌, ◌≢◌, ◌<◌, ◌≤◌, ◌+◌, ◌-◌, ◌==◌, ℕ, List, [], ◌∷◌, ◌++◌, false, not, cond, filter, map, count_by, Option, Some, None, refl, sym, ap, subst, ◌∙◌, arith}
 use Rattle.std.specs.Prelude.{IsSome}
+use Rattle.std.proofs.lemmas.Bool.{cases_eq, eq-eqb, ne_eqb}
+use Rattle.std.proofs.lemmas.List.Sums.{sum_by-cons}
 use Rattle.std.proofs.lemmas.List.{map_push}
 use Rattle.std.specs.Ordering.{nat_cmp}
 use Rattle.std.specs.BTreeMap.{insert_entry}
@@ -11,13 +13,15 @@ use Rattle.task_table.specs.Table.{Table, Placed, IsTable, place_at, table_len, 
 use Rattle.task_table.specs.Changes.{pushed, deleted, next_place}
 use Rattle.task_table.specs.Records.{records, number_in, number_of, found_record}
 use Rattle.task_table.proofs.Laws.{table_len-pushed, capacity-pushed}
+use Rattle.task_table.proofs.NumberLemmas.{number_of-le}
 use Rattle.task_table.proofs.RecordLemmas.{get-records, found_record_at}
 use Rattle.task_machine.specs.declared.records.Call.{Call}
+use Rattle.task_machine.specs.declared.records.Entry.TheVariants as mark_entry
 use Rattle.task_machine.specs.declared.records.Thread.{Thread as ThreadRecord}
 use Rattle.task_machine.specs.Maps.{get}
 use Rattle.task_machine.specs.Core.{Core}
-use Rattle.task_machine.specs.Read.{table_use, live_count}
-use Rattle.task_machine.specs.Write.{add_group, add_call, with_threads_made, with_groups_made}
+use Rattle.task_machine.specs.Read.{table_use, live_count, is_entry_of}
+use Rattle.task_machine.specs.Write.{add_group, add_call, remove_group, with_threads_made, with_groups_made}
 use Rattle.task_simple.proofs.CountLemmas.{table_use-add_group, table_use-add_call, live_count-add_group, live_count-add_call}
 use Rattle.task_machine.proofs.SizeLemmas.{size-insert_new}
 use Rattle.task_core.specs.declared.entry.Entry.{Entry}
@@ -28,11 +32,12 @@ use Rattle.task_core.specs.declared.entry.ThreadKey.{ThreadKey}
 use Rattle.task_core.specs.declared.entry.SetKey.{SetKey}
 use Rattle.task_core.specs.declared.entry.GuestThread.{GuestThread}
 use Rattle.task_core.specs.Entries.{thread_in, call_key, thread_key, callers_key, set_key, group_key}
-use Rattle.task_core.specs.Image.{Parts, core_of, image, tag_of}
+use Rattle.task_core.specs.declared.instance.Queued.{Queued}
+use Rattle.task_core.specs.Image.{Parts, core_of, image, tag_of, numbers}
 use Rattle.task_core.specs.Shown.{Shown, KeepsTags, thread_number, call_number, with_core}
 use Rattle.task_core.specs.Simple.{IsSimple, IsPlainThread, IsPlainCall, IsNewGroup}
 use Rattle.task_core.specs.Sound.{Sound, SoundTable, AreQueued, AreGroups, AreAbove, AreRising}
-use Rattle.task_core.specs.Start.{thread_counted, put_new_thread}
+use Rattle.task_core.specs.Start.{IsFree, IsUnnamed, thread_counted, thread_uncounted, group_taken_back, put_new_thread}
 use Rattle.task_core.proofs.CoreLemmas.{inserted, inserted_some}
 use Rattle.task_core.proofs.NumberLemmas.{absent, thread_shown, call_shown, thread_is}
 use Rattle.task_core.proofs.TableChangeLemmas.{HasSet, number_pushed, other_threads, other_callers, other_calls, other_pushed, call_threads, call_callers, call_calls, call_pushed, thread_threads, thread_callers, thread_calls, thread_pushed}
@@ -52,7 +57,6 @@ pub SoundTable-more : (t : Table Entry) (m n : ℕ) → m ≤ n → SoundTable t
 SoundTable-more t m n more sound = record {
   table = sound.table;
   childless = sound.childless;
-  room = sound.room;
   threads = sound.threads;
   callers = sound.callers;
   calls = sound.calls;
@@ -87,9 +91,74 @@ module _ (a : Parts) (sound : Sound a) where
   pub no_callers : get (records callers_key a.table.places) (a.made.threads + 1) ≡ None
   no_callers = get-records callers_key a.table.places (a.made.threads + 1) ∙ sound.table.later_callers (a.made.threads + 1) (omega arith)
 
+  -- no entry at high has the new number
+  not_at_high : (qs : List Queued) → AreQueued a.table qs → count_by (is_entry_of (a.made.threads + 1)) (map (λ (q : Queued). mark_entry.Thread q.number) qs) ≡ 0
+  not_at_high [] queued = refl
+  not_at_high (q ∷ qs) queued =
+      let rest = not_at_high qs queued.3 in
+      let most = number_of-le thread_key a.table q.id.thread.rep q.id.thread.serial a.made.threads sound.table.threads sound.table.later_threads in
+      let zero : ◌≡◌ {A = ℕ} (cond (is_entry_of (a.made.threads + 1) (mark_entry.Thread q.number)) 1 0) 0 = ap (λ b. cond b 1 0) (ne_eqb (a.made.threads + 1) q.number (λ same. let is = queued.0 in omega arith)) in
+      let sum = sum_by-cons (λ e. cond (is_entry_of (a.made.threads + 1) e) 1 0) (mark_entry.Thread q.number) (map (λ (q : Queued). mark_entry.Thread q.number) qs) in
+      omega arith
+
+  pub counted_free : IsFree (a.made.threads + 1) (core_of (record a { made = with_threads_made (a.made.threads + 1) a.made }))
+  counted_free = record { live = omega arith; last = refl; threads = no_thread; callers = no_callers; out = not_at_high a.high sound.queued }
+
+  pub counted_unnamed : IsUnnamed (a.made.threads + 1) (map tag_of a.table.places)
+  counted_unnamed = record {
+    threads = λ id same.
+        let most = number_of-le thread_key a.table id.rep id.serial a.made.threads sound.table.threads sound.table.later_threads in
+        let shown = thread_shown a.table id in
+        omega arith;
+    calls = λ id same.
+        let most = number_of-le call_key a.table id.rep id.serial a.made.threads sound.table.calls sound.table.later_calls in
+        let shown = call_shown a.table id in
+        omega arith;
+  }
+
 pub counts : (a : Parts) (s : Shown) → image a ≡ s → image (record a { made = with_threads_made (a.made.threads + 1) a.made }) ≡ with_core (thread_counted s.core) s
 unfolding thread_counted
 counts a s is = subst (λ (s : Shown). image (record a { made = with_threads_made (a.made.threads + 1) a.made }) ≡ with_core (thread_counted s.core) s) is refl
+
+-- The number k, given last, is taken back.
+module _ (a : Parts) (s : Shown) (is : image a ≡ s) (sound : Sound a) (k : ℕ) (free : IsFree k s.core) (none : get s.core.calls k ≡ None) where
+  free_here : IsFree k (core_of a)
+  free_here = subst (λ (s : Shown). IsFree k s.core) (sym is) free
+
+  none_of : get (core_of a).calls k ≡ None
+  none_of = subst (λ (s : Shown). get s.core.calls k ≡ None) (sym is) none
+
+  later_still : {X : Type 0} (key : Entry → Option (ℕ × X)) → get (records key a.table.places) k ≡ None → ((n : ℕ) → a.made.threads < n → found_record key n a.table.places ≡ None) → (n : ℕ) → k - 1 < n → found_record key n a.table.places ≡ None
+  later_still key none_at later n more = elim (cases_eq n k) [
+    | inl same ↦ ap (λ m. found_record key m a.table.places) same ∙ sym (get-records key a.table.places k) ∙ none_at
+    | inr other ↦ let last : k ≡ a.made.threads = free_here.last in later n (omega arith)
+  ]
+
+  pub uncounted_sound : Sound (record a { made = with_threads_made (k - 1) a.made })
+  unfolding table_use live_count
+  uncounted_sound = record {
+    table = record {
+      table = sound.table.table;
+      childless = sound.table.childless;
+      threads = sound.table.threads;
+      callers = sound.table.callers;
+      calls = sound.table.calls;
+      later_threads = later_still thread_key free_here.threads sound.table.later_threads;
+      later_callers = later_still callers_key free_here.callers sound.table.later_callers;
+      later_calls = later_still call_key none_of sound.table.later_calls;
+      sets = sound.table.sets;
+    };
+    queued = sound.queued;
+    groups = sound.groups;
+    rising = sound.rising;
+    used = sound.used;
+    live = sound.live;
+    simple = record { threads = sound.simple.threads; tasks = sound.simple.tasks; calls = sound.simple.calls; groups = sound.simple.groups; made = sound.simple.made; works = sound.simple.works; suspends = sound.simple.suspends };
+  }
+
+  pub uncounted : image (record a { made = with_threads_made (k - 1) a.made }) ≡ with_core (thread_uncounted k s.core) s
+  unfolding thread_uncounted
+  uncounted = subst (λ (s : Shown). image (record a { made = with_threads_made (k - 1) a.made }) ≡ with_core (thread_uncounted k s.core) s) is refl
 
 -- ---- A group
 
@@ -119,6 +188,21 @@ AreRising-more t made g [] id groups more rising = (tt, tt)
 AreRising-more t made g (e ∷ es) id groups more rising =
     let below = groups.2 in
     (AreAbove-more e.0 es (g, id) (omega arith) rising.0, AreRising-more t made g es id groups.3 more rising.1)
+
+-- a group more, with a number above all, and a group less
+more_and_less : (t : Table Entry) (made g : ℕ) (es : List (ℕ × TableId GroupKey)) → AreGroups t made es → made < g → filter (λ h. not (g == h)) (numbers es ++ g ∷ []) ≡ numbers es
+more_and_less t made g [] groups more = ap (λ b. cond (not b) (g ∷ []) []) (eq-eqb g g refl)
+more_and_less t made g (e ∷ es) groups more =
+    let below = groups.2 in
+    ap (λ b. cond (not b) (e.0 ∷ filter (λ h. not (g == h)) (numbers es ++ g ∷ [])) (filter (λ h. not (g == h)) (numbers es ++ g ∷ []))) (ne_eqb g e.0 (λ same. omega arith))
+    ∙ ap (λ ns. e.0 ∷ ns) (more_and_less t made g es groups.3 more)
+
+one_more_and_less : (n : ℕ) → n + 1 - 1 ≡ n
+one_more_and_less n = omega arith
+
+pub group_back : (a : Parts) → Sound a → group_taken_back (a.made.groups + 1) (add_group (core_of a)) ≡ core_of a
+unfolding group_taken_back add_group remove_group
+group_back a sound = rw (more_and_less a.table a.made.groups (a.made.groups + 1) a.groups sound.groups (omega arith), one_more_and_less a.made.groups) refl
 
 simple_group : (s : Core) → IsSimple s → IsSimple (add_group s)
 unfolding add_group
@@ -207,7 +291,7 @@ AreGroups-left t u made (e ∷ es) keeps groups =
 
 -- a push that was undone
 module _ (a : Parts) (sound : Sound a) (v : Table Entry) (e : Entry) (back : Undone a.table v a.made.threads e) (no_group : (n : ℕ) → 0 < n → n ≤ a.made.groups → n ≢ number_in (group_key e)) where
-  undone_core : core_of (record a { table = v }) ≡ core_of a
+  pub undone_core : core_of (record a { table = v }) ≡ core_of a
   undone_core = rw (back.threads, back.callers, back.calls, back.capacity) refl
 
   pub undone_sound : Sound (record a { table = v })
@@ -220,6 +304,9 @@ module _ (a : Parts) (sound : Sound a) (v : Table Entry) (e : Entry) (back : Und
     live = sound.live ∙ sym (ap live_count undone_core);
     simple = subst (λ s. IsSimple s) (sym undone_core) sound.simple;
   }
+
+  pub undone_tags : KeepsTags (map tag_of a.table.places) (map tag_of v.places)
+  undone_tags = tags_keep a.table v back.thread_numbers back.call_numbers
 
 -- ---- A call
 
@@ -451,10 +538,20 @@ module _ (a : Parts) (sound : Sound a) (u : Table Entry) (is : u ≡ pushed (gro
   group_none : (r : ℕ) (q : Placed Entry) (g : GuestThread) → place_at a.table r ≡ Some q → thread_in q.entry ≡ Some g → g.number ≢ number_in (set_key group_e)
   group_none r q g at thread none = let live = (sound.table.sets r q g at thread).0 in omega arith
 
+  group_pushed_back : Undone a.table (deleted id.rep (pushed group_e a.table)) a.made.threads group_e
+  group_pushed_back = undone a.table a.made.threads sound.table group_e room group_table refl refl refl refl id.rep id.serial place serial (subst (λ (t : Table Entry). IsTable t) group_gone after) group_none
+
+  not_live : (n : ℕ) → 0 < n → n ≤ a.made.groups → n ≢ number_in (group_key group_e)
+  not_live n live most equal = omega arith
+
   pub group_undone : Sound (record a { table = v; groups = es })
-  group_undone =
-      let undone_here = undone a.table a.made.threads sound.table group_e room group_table refl refl refl refl id.rep id.serial place serial (subst (λ (t : Table Entry). IsTable t) group_gone after) group_none in
-      rw (same, group_gone) (undone_sound a sound (deleted id.rep (pushed group_e a.table)) group_e undone_here (λ n live most equal. omega arith))
+  group_undone = rw (same, group_gone) (undone_sound a sound (deleted id.rep (pushed group_e a.table)) group_e group_pushed_back not_live)
+
+  pub group_undone_core : core_of (record a { table = v; groups = es }) ≡ core_of a
+  group_undone_core = rw (same, group_gone) (undone_core a sound (deleted id.rep (pushed group_e a.table)) group_e group_pushed_back not_live)
+
+  pub group_undone_tags : KeepsTags (map tag_of a.table.places) (map tag_of v.places)
+  group_undone_tags = rw group_gone (undone_tags a sound (deleted id.rep (pushed group_e a.table)) group_e group_pushed_back not_live)
 
 module _ (a : Parts) (s : Shown) (is : image a ≡ s) (sound : Sound a) (n : ℕ) (none : get s.core.threads n ≡ None) (u : Table Entry) (set_pushes : u ≡ pushed (set_entry n) a.table) (room : is_full a.table ≡ false) (table : IsTable u) (set : TableId SetKey) (place : set.rep ≡ next_place a.table) (serial : set.serial ≡ a.table.given) (w : Table Entry) (stays : w ≡ u) (v : Table Entry) (result : Result SyncSet ResourceTableError) (answer : result ≡ deletion set_in w set.rep set.serial) (ok : OnOk result (v ≡ deleted set.rep w)) (after : IsTable v) where
   abbrev set_e : Entry
@@ -483,7 +580,17 @@ module _ (a : Parts) (s : Shown) (is : image a ≡ s) (sound : Sound a) (n : ℕ
       let there = found_record_at thread_key a.table.places r g.number g.thread sound.table.threads (rw at (thread_is q.entry g item)) in
       absent g.thread (sym (sym (get-records thread_key a.table.places n) ∙ none_thread) ∙ ap (λ m. found_record thread_key m a.table.places) (sym same) ∙ there)
 
+  set_pushed_back : Undone a.table (deleted set.rep (pushed set_e a.table)) a.made.threads set_e
+  set_pushed_back = undone a.table a.made.threads sound.table set_e room set_table_here refl refl refl refl set.rep set.serial place serial (subst (λ (t : Table Entry). IsTable t) set_gone after) set_other
+
+  no_group : (m : ℕ) → 0 < m → m ≤ a.made.groups → m ≢ number_in (group_key set_e)
+  no_group m live most equal = omega arith
+
   pub thread_undone : Sound (record a { table = v })
-  thread_undone =
-      let undone_here = undone a.table a.made.threads sound.table set_e room set_table_here refl refl refl refl set.rep set.serial place serial (subst (λ (t : Table Entry). IsTable t) set_gone after) set_other in
-      rw set_gone (undone_sound a sound (deleted set.rep (pushed set_e a.table)) set_e undone_here (λ m live most equal. omega arith))
+  thread_undone = rw set_gone (undone_sound a sound (deleted set.rep (pushed set_e a.table)) set_e set_pushed_back no_group)
+
+  pub thread_undone_core : core_of (record a { table = v }) ≡ s.core
+  thread_undone_core = rw set_gone (undone_core a sound (deleted set.rep (pushed set_e a.table)) set_e set_pushed_back no_group) ∙ ap (λ (s : Shown). s.core) is
+
+  pub thread_undone_tags : KeepsTags s.tags (map tag_of v.places)
+  thread_undone_tags = subst (λ (s : Shown). KeepsTags s.tags (map tag_of v.places)) is (rw set_gone (undone_tags a sound (deleted set.rep (pushed set_e a.table)) set_e set_pushed_back no_group))

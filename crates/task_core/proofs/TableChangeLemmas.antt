@@ -41,14 +41,6 @@ module _ (t : Table Entry) (made : ℕ) (sound : SoundTable t made) (e : Entry) 
       let before : HasSet t g = elim (stands r q is) [ inl new ↦ mine g (ap thread_in (sym new) ∙ thread) | inr old ↦ sound.sets r q g old thread ] in
       (before.0, number_pushed set_key g.set.rep g.set.serial (subst (λ n. 0 < n) (sym before.1) before.0) ∙ before.1)
 
-  room_pushed : free_count (pushed e t) + table_len (pushed e t) ≡ (pushed e t).capacity
-  room_pushed =
-      let free = free_count-pushed t e room in
-      let len = table_len-pushed t e sound.table in
-      let same = capacity-pushed t e in
-      let before = sound.room in
-      omega arith
-
   -- of another kind than calls and threads
   module _ (no_thread : thread_key e ≡ None) (no_callers : callers_key e ≡ None) (no_call : call_key e ≡ None) (no_item : thread_in e ≡ None) where
     pub other_threads : KeepsRecords thread_key t.places (pushed e t).places
@@ -64,7 +56,6 @@ module _ (t : Table Entry) (made : ℕ) (sound : SoundTable t made) (e : Entry) 
     other_pushed = record {
       table = table;
       childless = λ r. children_of-pushed t e r sound.table ∙ sound.childless r;
-      room = room_pushed;
       threads = other_threads.apart;
       callers = other_callers.apart;
       calls = other_calls.apart;
@@ -92,7 +83,6 @@ module _ (t : Table Entry) (made : ℕ) (sound : SoundTable t made) (g : GuestTa
   call_pushed = record {
     table = table;
     childless = λ r. children_of-pushed t task r sound.table ∙ sound.childless r;
-    room = room_pushed t made sound task room table;
     threads = call_threads.apart;
     callers = call_callers.apart;
     calls = call_calls.apart;
@@ -120,7 +110,6 @@ module _ (t : Table Entry) (made : ℕ) (sound : SoundTable t made) (g : GuestTh
   thread_pushed = record {
     table = table;
     childless = λ r. children_of-pushed t thread r sound.table ∙ sound.childless r;
-    room = room_pushed t made sound thread room table;
     threads = thread_threads.apart;
     callers = thread_callers.apart;
     calls = thread_calls.apart;
@@ -154,14 +143,6 @@ module _ (t : Table Entry) (made : ℕ) (sound : SoundTable t made) (rep : ℕ) 
       let before = sound.sets r q g was.1 thread in
       (before.0, number_of-deleted_apart set_key t rep g.set.rep g.set.serial (λ same. others r q g was.0 was.1 thread (sym before.1 ∙ same ∙ ap (λ o. number_in (key_in set_key o)) at)) ∙ before.1)
 
-  room_deleted : free_count (deleted rep t) + table_len (deleted rep t) ≡ (deleted rep t).capacity
-  unfolding deleted
-  room_deleted =
-      let free = free_count-deleted t rep in
-      let len = table_len-deleted t rep p at in
-      let before = sound.room in
-      omega arith
-
   childless_deleted : (r : ℕ) → children_of (deleted rep t) r ≡ 0
   childless_deleted r =
       let one = children_of-deleted t rep r p at in
@@ -183,7 +164,6 @@ module _ (t : Table Entry) (made : ℕ) (sound : SoundTable t made) (rep : ℕ) 
     other_deleted = record {
       table = table;
       childless = childless_deleted;
-      room = room_deleted;
       threads = gone_threads.apart;
       callers = gone_callers.apart;
       calls = gone_calls.apart;
@@ -211,7 +191,6 @@ module _ (t : Table Entry) (made : ℕ) (sound : SoundTable t made) (rep : ℕ) 
     call_deleted = record {
       table = table;
       childless = childless_deleted;
-      room = room_deleted;
       threads = ended_threads.apart;
       callers = ended_callers.apart;
       calls = ended_calls.apart;
@@ -239,7 +218,6 @@ module _ (t : Table Entry) (made : ℕ) (sound : SoundTable t made) (rep : ℕ) 
     thread_deleted = record {
       table = table;
       childless = childless_deleted;
-      room = room_deleted;
       threads = left_threads.apart;
       callers = left_callers.apart;
       calls = left_calls.apart;

@@ -99,7 +99,6 @@ module _ (t : Table Entry) (rep : ℕ) (p : Placed Entry) (at : place_at t rep �
     sound_written threads callers calls later_threads later_callers later_calls sets = record {
       table = IsTable-with_entry t rep e p at sound.table;
       childless = λ r. children_of-with_entry t rep r e p at ∙ sound.childless r;
-      room = rw (free_count-with_entry t rep e, table_len-with_entry t rep e p at, capacity_kept) sound.room;
       threads = threads;
       callers = callers;
       calls = calls;

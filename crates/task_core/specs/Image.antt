@@ -1,13 +1,14 @@
 -- The machine's core that the parts of a state stand for.
-use Rattle.std.specs.Prelude.{ℕ, Bool, List, Option, Some, None, [], map}
+use Rattle.std.specs.Prelude.{◌≡◌, ℕ, Bool, List, Option, Some, None, [], map}
 use Rattle.task_table.specs.declared.id.TableId.{TableId}
-use Rattle.task_table.specs.Table.{Table, Placed}
+use Rattle.task_table.specs.Table.{Table, Placed, table_len}
 use Rattle.task_table.specs.Records.{records, number_in}
 use Rattle.task_handles.specs.Counter.{Counter}
 use Rattle.task_machine.specs.declared.records.Made.{Made}
 use Rattle.task_machine.specs.declared.records.Entry.TheVariants as mark_entry
 use Rattle.task_machine.specs.Maps.{empty, from_entries}
 use Rattle.task_machine.specs.Core.{Core}
+use Rattle.task_machine.specs.Read.{table_use}
 use Rattle.task_core.specs.declared.entry.Entry.{Entry}
 use Rattle.task_core.specs.declared.entry.GroupKey.{GroupKey}
 use Rattle.task_core.specs.declared.entry.QualifiedThreadId.{QualifiedThreadId}
@@ -58,3 +59,10 @@ core_of p = record {
 
 abbrev pub image : Parts → Shown
 image p = record { core = core_of p; tags = map tag_of p.table.places; current = p.current }
+
+-- The table has the calls and the threads of the core, its capacity, and as many entries.
+pub record IsTableOf (s : Core) (t : Table Entry) : Type 0 where
+  pub used : table_len t ≡ table_use s
+  pub capacity : t.capacity ≡ s.capacity
+  pub calls : records call_key t.places ≡ s.calls
+  pub threads : records thread_key t.places ≡ s.threads

@@ -1,7 +1,7 @@
 -- What holds of the parts of every state.
 use Rattle.std.specs.Prelude.{◌≡◌, ◌<◌, ◌≤◌, ◌+◌, ℕ, List, [], ◌∷◌, Some, None}
 use Rattle.task_table.specs.declared.id.TableId.{TableId}
-use Rattle.task_table.specs.Table.{Table, Placed, IsTable, place_at, table_len, free_count, children_of}
+use Rattle.task_table.specs.Table.{Table, Placed, IsTable, place_at, table_len, children_of}
 use Rattle.task_table.specs.Records.{AreApart, found_record, number_of}
 use Rattle.task_machine.specs.Read.{table_use, live_count}
 use Rattle.task_core.specs.declared.entry.Entry.{Entry}
@@ -43,7 +43,6 @@ HaveSets t = (rep : ℕ) (p : Placed Entry) (g : GuestThread) → place_at t rep
 pub record SoundTable (t : Table Entry) (made : ℕ) : Type 0 where
   pub table : IsTable t
   pub childless : (rep : ℕ) → children_of t rep ≡ 0
-  pub room : free_count t + table_len t ≡ t.capacity
   pub threads : AreApart thread_key t.places
   pub callers : AreApart callers_key t.places
   pub calls : AreApart call_key t.places

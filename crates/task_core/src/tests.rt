@@ -25,7 +25,9 @@ fn limits_are_asked(rt: HostRuntime) {
     core.set_capacity(4);
     assert!(rt; core.has_room(4));
     assert!(rt; !core.has_room(5));
+    assert_eq!(rt; core.table().max_capacity(), 4);
     core.set_handle_limit(1);
+    assert_eq!(rt; core.handle_limit(), 1);
     assert!(rt; !core.at_handle_limit());
     core.set_handle_limit(0);
     assert!(rt; core.at_handle_limit());

@@ -16,7 +16,7 @@ use Rattle.task_machine.specs.Read.{call_instance, no_callee, place_of, task_of}
 use Rattle.task_machine.specs.Write.{add_call, add_group, add_thread, on_thread, push_high, set_place, set_trapped, take_result}
 use Rattle.task_machine.proofs.MapLemmas.{get-change_other, get-insert_other}
 use Rattle.task_rules.specs.Scripts.{registers_for}
-use Rattle.task_core.specs.Shown.{KeepsTags, Shown, nothing, number_of, with_handle_limit, with_instance}
+use Rattle.task_core.specs.Shown.{KeepsTags, Shown, nothing, number_of, with_capacity, with_handle_limit, with_instance}
 use Rattle.task_core.specs.Start.{main_call_started}
 use Rattle.task_core.specs.declared.entry.QualifiedThreadId.{QualifiedThreadId}
 use Rattle.task_simple.specs.Forms.{call_started}
@@ -72,23 +72,11 @@ whole_new t is = subst (λ t. IsWhole t) (sym is) (whole_stopped nothing (fresh_
 pub seen_new : (t : Shown) → t ≡ nothing → seen t ≡ nothing_made
 seen_new t is = rw is refl
 
--- a new state that is trapped
-pub whole_dropped : (t u : Shown) → t ≡ nothing → u.core ≡ set_trapped t.core → u.current ≡ t.current → IsWhole u
-whole_dropped t u is core current =
-    let made = whole_new t is in
-    whole_stopped u
-    (subst (λ c. IsSimple c) (sym core) (trapped_simple t.core made.simple))
-    (subst (λ c. NoneRuns c) (sym core) (trapped_none_runs t.core (subst (λ (t : Shown). NoneRuns t.core) (sym is) (fresh_none_runs 0 100000 1000000))))
-    (current ∙ ap (λ (t : Shown). t.current) is)
-
-trapped_true : (s : Core) → (set_trapped s).trapped ≡ true
-unfolding set_trapped
-trapped_true s = refl
-
-pub trapped_dropped : (t u : Shown) → u.core ≡ set_trapped t.core → (seen u).core.trapped ≡ true
-trapped_dropped t u core = ap (λ (c : Core). c.trapped) core ∙ trapped_true t.core
-
 -- ---- A trap, a limit, a result taken
+
+-- with the same core all is the same
+pub whole_same : (s u : Shown) → IsWhole s → KeepsTags s.tags u.tags → u.current ≡ s.current → u.core ≡ s.core → IsWhole u
+whole_same s u whole tags current core = whole_still s u whole tags current (subst (λ c. IsSimple c) (sym core) whole.simple) (λ none. subst (λ c. NoneRuns c) (sym core) none) (λ n at. ap (place_of n) core ∙ at)
 
 place_trapped : (n : ℕ) (s : Core) → place_of n (set_trapped s) ≡ place_of n s
 unfolding set_trapped
@@ -141,6 +129,40 @@ limited_simple h s simple = record { plain = limited_plain h s simple.plain; of_
 pub whole_limited : (s u : Shown) (h : ℕ) → IsWhole s → u.tags ≡ s.tags → u.current ≡ s.current → u.core ≡ with_handle_limit h s.core → IsWhole u
 whole_limited s u h whole tags current core = whole_still s u whole (subst (λ g. KeepsTags s.tags g) (sym tags) (keeps_tags s)) current
     (subst (λ c. IsSimple c) (sym core) (limited_simple h s.core whole.simple))
+    (λ none. subst (λ c. NoneRuns c) (sym core) none)
+    (λ n at. ap (place_of n) core ∙ at)
+
+widened_plain : (h : ℕ) (s : Core) → IsPlain s → IsPlain (with_capacity h s)
+widened_plain h s plain = record {
+  threads = plain.threads;
+  no_callers = plain.no_callers;
+  calls = plain.calls;
+  called = plain.called;
+  no_works = plain.no_works;
+  no_sets = plain.no_sets;
+  no_switch = plain.no_switch;
+  no_low = plain.no_low;
+  alone = plain.alone;
+  apart = plain.apart;
+  held_out = plain.held_out;
+  instances = plain.instances;
+  instance_there = plain.instance_there;
+  table_there = plain.table_there;
+  no_handles = plain.no_handles;
+  tables = plain.tables;
+  named = plain.named;
+  groups_open = plain.groups_open;
+  groups_trapped = plain.groups_trapped;
+  as_many = plain.as_many;
+  results = plain.results;
+}
+
+widened_simple : (h : ℕ) (s : Core) → IsSimple s → IsSimple (with_capacity h s)
+widened_simple h s simple = record { plain = widened_plain h s simple.plain; of_threads = simple.of_threads; queued = simple.queued }
+
+pub whole_widened : (s u : Shown) (h : ℕ) → IsWhole s → u.tags ≡ s.tags → u.current ≡ s.current → u.core ≡ with_capacity h s.core → IsWhole u
+whole_widened s u h whole tags current core = whole_still s u whole (subst (λ g. KeepsTags s.tags g) (sym tags) (keeps_tags s)) current
+    (subst (λ c. IsSimple c) (sym core) (widened_simple h s.core whole.simple))
     (λ none. subst (λ c. NoneRuns c) (sym core) none)
     (λ n at. ap (place_of n) core ∙ at)
 

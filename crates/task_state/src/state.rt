@@ -5,7 +5,8 @@ ghost use Rattle.task_machine.specs.Maps.{get, size};
 ghost use Rattle.task_machine.specs.Read.{fits, has_ended, instance_of, is_nil, place_of, position_of, word_of};
 ghost use Rattle.task_machine.specs.Write.{set_trapped, take_result};
 ghost use Rattle.task_rules.specs.Data.{assigned, moved_to, stored};
-ghost use Rattle.task_core.specs.Shown.{with_handle_limit, with_instance};
+ghost use Rattle.task_core.specs.Image.{IsTableOf};
+ghost use Rattle.task_core.specs.Shown.{with_capacity, with_handle_limit, with_instance};
 ghost use Rattle.task_simple.specs.Forms.{call_started, exit_done, return_done, trap_done};
 ghost use Rattle.task_simple.specs.Simple.{IsSimple, NoneRuns};
 ghost use Rattle.task_state.specs.Seen.{nothing_made, with_core, stopped_with};
@@ -15,13 +16,13 @@ use crate::begin::{begin, put_off, refuse, registers_of};
 use crate::taken::Taken;
 use std::alloc::Global;
 use std::marker::Model;
-use task_core::{NoMemory, QualifiedThreadId, TaskCore};
+use task_core::{Entry, NoMemory, QualifiedThreadId, TaskCore};
 use task_machine::{CallEnd, Callee, ExportKind};
+use task_table::ResourceTable;
 
 /// The calls and threads of a store, and the thread that runs.
 #[derive(Drop)]
 pub struct ConcurrentState {
-    alloc: Global,
     core: TaskCore,
 }
 
@@ -57,7 +58,6 @@ impl ConcurrentState {
         ensures { result ≡ nothing_made }
     {
         ConcurrentState {
-            alloc,
             core: TaskCore::new(alloc),
         }
     }
@@ -109,6 +109,30 @@ impl ConcurrentState {
         self.core.has_instance(index)
     }
 
+    /// The table of the calls and threads, their sync-call sets, and the groups.
+    pub fn table(&self) -> &ResourceTable<Entry>
+        ensures { IsTableOf self.now.core result.now }
+    {
+        self.core.table()
+    }
+
+    /// Sets how many entries the table has room for, at most 4,294,967,295. A lowered capacity takes
+    /// none away.
+    pub fn set_capacity(&mut self, entries: usize)
+        requires { entries ≤ 4294967295 }
+        ensures { self.new ≡ with_core (with_capacity entries self.old.core) self.old }
+    {
+        self.core.set_capacity(entries);
+    }
+
+    /// How many handles may be live at once.
+    pub fn handle_limit(&self) -> u32
+        ensures is { result ≡ self.now.core.handle_limit }
+        ensures bound { result ≤ 268435455 }
+    {
+        self.core.handle_limit()
+    }
+
     /// Sets how many handles may be live at once, at most 268,435,455. A lowered limit takes none
     /// away.
     pub fn set_handle_limit(&mut self, handles: u32)
@@ -119,8 +143,8 @@ impl ConcurrentState {
     }
 
     /// Makes a call by main of a callback export with these words, at most 16, and answers the
-    /// number of its thread. Its start stands last at high. Where memory is wanting, all calls and
-    /// instances are gone, and the store is trapped.
+    /// number of its thread. Its start stands last at high. Where memory is wanting, the state is
+    /// as before.
     pub fn start_call(&mut self, callee: Callee, words: &[u64]) -> Result<u64, NoMemory>
         requires made { self.old.core.made.threads + 1 < 2 ^ 64 }
         requires untrapped { self.old.core.trapped ≡ false }
@@ -128,21 +152,17 @@ impl ConcurrentState {
         requires words { length words.now ≤ 16 }
         ensures number { IfOk result (λ n. n ≡ self.old.core.made.threads + 1) }
         ensures ok { OnOk result (self.new ≡ with_core (call_started callee kind.Callback words.now self.old.core) self.old) }
-        ensures err { OnErr result (self.new.core.trapped ≡ true) }
+        ensures err { OnErr result (self.new ≡ self.old) }
     {
         let _ = self.core.has_instance(callee.instance);
         let registers = registers_of(words);
-        match self
+        let Ok(id) = self
             .core
             .start_call(callee, ExportKind::Callback, registers)
-        {
-            Ok(id) => Ok(self.core.number(id.thread)),
-            Err(_) => {
-                self.core = TaskCore::new(self.alloc);
-                self.core.set_trapped();
-                Err(NoMemory)
-            }
-        }
+        else {
+            return Err(NoMemory);
+        };
+        Ok(self.core.number(id.thread))
     }
 
     /// Whether no entry stands that is to be taken.

@@ -12,6 +12,10 @@ fn nothing_stands_in_a_new_state(rt: HostRuntime) {
     assert!(rt; state.running().is_none());
     assert_eq!(rt; state.take_result(1), None);
     state.set_handle_limit(7);
+    assert_eq!(rt; state.handle_limit(), 7);
+    state.set_capacity(5);
+    assert_eq!(rt; state.table().max_capacity(), 5);
+    assert_eq!(rt; state.table().len(), 0);
     state.set_trapped();
     assert!(rt; state.trapped());
 }

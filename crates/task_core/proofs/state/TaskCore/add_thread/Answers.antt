@@ -31,3 +31,15 @@ returns-in-Ok-push-clause-tags c =
     start.thread_tags (parts c.self.inside) _ c.self.view_is c.self.invariant c.args.number c.args.thread c.requires.made c.requires.positive c.requires.none c.requires.no_callers c.requires.task c.requires.plain
     _ c.in-Ok.ensures.pushed c.in-Ok.ensures.room c.in-Ok.ensures.sound c.in-Ok.set c.in-Ok.ensures.rep c.in-Ok.ensures.serial
     _ c.in-Ok-push.ensures.pushed c.in-Ok-push.ensures.room c.in-Ok-push.ensures.sound
+
+pub returns-in-Err-clause-err : goal.returns-in-Err-clause-err
+returns-in-Err-clause-err c =
+    start.thread_undone_core (parts c.self.inside) _ c.self.view_is c.self.invariant c.args.number c.requires.none
+    _ c.in-Ok.ensures.pushed c.in-Ok.ensures.room c.in-Ok.ensures.sound c.in-Ok.set c.in-Ok.ensures.rep c.in-Ok.ensures.serial
+    _ c.in-Err.ensures.err _ _ c.delete.ensures.answer c.delete.ensures.ok c.delete.ensures.sound
+
+pub returns-in-Err-clause-tags : goal.returns-in-Err-clause-tags
+returns-in-Err-clause-tags c =
+    start.thread_undone_tags (parts c.self.inside) _ c.self.view_is c.self.invariant c.args.number c.requires.none
+    _ c.in-Ok.ensures.pushed c.in-Ok.ensures.room c.in-Ok.ensures.sound c.in-Ok.set c.in-Ok.ensures.rep c.in-Ok.ensures.serial
+    _ c.in-Err.ensures.err _ _ c.delete.ensures.answer c.delete.ensures.ok c.delete.ensures.sound

@@ -7,20 +7,20 @@ use Rattle.task_state.specs.Seen.{Seen, with_core}
 use Rattle.task_state.proofs.StateLemmas as whole
 use Rattle.task_state.proofs.state.ConcurrentState.start_call.Goals as goal
 
-pub invariant_of-self : goal.invariant_of-self
-invariant_of-self c =
+pub invariant_of-self-2 : goal.invariant_of-self-2
+invariant_of-self-2 c =
     let there : is_some (get c.self.inside.core.core.instances c.args.callee.instance) ≡ true = whole.true_there c.self.inside.core _ c.args.callee.instance c.self.view_is c.requires.there in
     whole.whole_started c.self.inside.core c.start_call.new.self c.args.callee c.args.words.now c.self.invariant c.in-Ok.ensures.tags c.in-Ok.ensures.current
     (ap (λ (s : Seen). s.core.trapped) c.self.view_is ∙ c.requires.untrapped) there (sym c.has_instance.ensures.table ∙ c.has_instance.ensures.is ∙ there)
     (c.in-Ok.ensures.core ∙ whole.started_is c.args.callee _ c.args.words.now c.self.inside.core.core c.registers_of-registers.ensures c.self.invariant.simple)
 
-pub invariant_of-self-in-Err : goal.invariant_of-self-in-Err
-invariant_of-self-in-Err c = whole.whole_dropped c.new.result c.set_trapped.new.self c.new.ensures c.set_trapped.ensures.core c.set_trapped.ensures.current
+pub invariant_of-self : goal.invariant_of-self
+invariant_of-self c = whole.whole_same c.self.inside.core c.start_call.new.self c.self.invariant c.in_default.ensures.tags c.in_default.ensures.current c.in_default.ensures.err
 
-pub returns-in-Ok-clause-ok : goal.returns-in-Ok-clause-ok
-returns-in-Ok-clause-ok c =
+pub returns-clause-ok : goal.returns-clause-ok
+returns-clause-ok c =
     whole.seen_still c.self.inside.core c.start_call.new.self c.self.invariant c.in-Ok.ensures.tags c.in-Ok.ensures.current _ (c.in-Ok.ensures.core ∙ whole.started_is c.args.callee _ c.args.words.now c.self.inside.core.core c.registers_of-registers.ensures c.self.invariant.simple)
     ∙ ap (λ (s : Seen). with_core (call_started c.args.callee kind.Callback c.args.words.now s.core) s) c.self.view_is
 
-pub returns-in-Err-clause-err : goal.returns-in-Err-clause-err
-returns-in-Err-clause-err c = whole.trapped_dropped c.new.result c.set_trapped.new.self c.set_trapped.ensures.core
+pub returns-in_default-clause-err : goal.returns-in_default-clause-err
+returns-in_default-clause-err c = whole.seen_still c.self.inside.core c.start_call.new.self c.self.invariant c.in_default.ensures.tags c.in_default.ensures.current _ c.in_default.ensures.err ∙ c.self.view_is
