@@ -7,7 +7,9 @@ use Rattle.std.proofs.lemmas.Grind.{flat_map-append}
 use Rattle.task_machine.specs.declared.label.Label.{Label}
 use Rattle.task_machine.specs.declared.outcome.Outcome.{Outcome}
 use Rattle.task_rules.specs.Texts.{text, label_text, line_text, outcome_text}
+use Rattle.task_run.specs.Outside.{Appends}
 use Rattle.task_run.specs.Pump.{IsFront}
+use Rattle.task_run.proofs.Appending.{behind}
 
 abbrev pub line : Label → List ℕ
 line x = line_text (label_text x)
@@ -22,28 +24,16 @@ parts_are labels items i o same =
     ∙ ap (λ (bs : List ℕ). bs ++ line_text (outcome_text o)) (
     sym (flat_map-append line (take i items) (drop i items)) ∙ ap (λ (ls : List Label). flat_map line ls) (take-append-drop i items ∙ same))
 
--- what was written before a front of a piece, and that front
-pub behind : (held front piece rest whole : List ℕ) (now : Option (List ℕ)) → (front ++ piece) ++ rest ≡ whole → IsFront (held ++ front) piece now → IsFront held whole now
-behind held front piece rest whole now e f = record {
-  front = front ++ f.front;
-  rest = f.rest ++ rest;
-  parts =
-      append_assoc front f.front (f.rest ++ rest)
-      ∙ ap (λ (bs : List ℕ). front ++ bs) (sym (append_assoc f.front f.rest rest) ∙ ap (λ (bs : List ℕ). bs ++ rest) f.parts)
-      ∙ sym (append_assoc front piece rest) ∙ e;
-  now_is = f.now_is ∙ ap (λ (bs : List ℕ). Some bs) (append_assoc held front f.front);
-}
-
 -- a piece that ends with the line of a label was begun
-pub piece_cut : (labels items : List Label) (i : ℕ) (o : Outcome) (held front piece : List ℕ) (now : Option (List ℕ)) → items ≡ labels → front ++ piece ≡ flat_map line (take i items) → IsFront (held ++ front) piece now → IsFront held (text labels o) now
-piece_cut labels items i o held front piece now same e f =
-    behind held front piece (rest_of items i o) (text labels o) now (ap (λ (bs : List ℕ). bs ++ rest_of items i o) e ∙ parts_are labels items i o same) f
+pub piece_cut : (labels items : List Label) (i : ℕ) (o : Outcome) (old mid new : Option (List ℕ)) (front piece : List ℕ) → items ≡ labels → front ++ piece ≡ flat_map line (take i items) → Appends old mid front → IsFront mid new piece → IsFront old new (text labels o)
+piece_cut labels items i o old mid new front piece same e before f =
+    behind old mid new front piece (rest_of items i o) (text labels o) (ap (λ (bs : List ℕ). bs ++ rest_of items i o) e ∙ parts_are labels items i o same) before f
 
 -- what has gathered since was not written
-pub gathered_cut : (labels items : List Label) (i : ℕ) (o : Outcome) (held front out : List ℕ) (now : Option (List ℕ)) → items ≡ labels → front ++ out ≡ flat_map line (take i items) → now ≡ Some (held ++ front) → IsFront held (text labels o) now
-gathered_cut labels items i o held front out now same e is = record {
+pub gathered_cut : (labels items : List Label) (i : ℕ) (o : Outcome) (old new : Option (List ℕ)) (front out : List ℕ) → items ≡ labels → front ++ out ≡ flat_map line (take i items) → Appends old new front → IsFront old new (text labels o)
+gathered_cut labels items i o old new front out same e before = record {
   front = front;
   rest = out ++ rest_of items i o;
   parts = sym (append_assoc front out (rest_of items i o)) ∙ ap (λ (bs : List ℕ). bs ++ rest_of items i o) e ∙ parts_are labels items i o same;
-  now_is = is;
+  appended = before;
 }

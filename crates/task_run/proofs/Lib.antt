@@ -1,5 +1,8 @@
+pub mod Appending
 pub mod Fronts
+pub mod Says
 pub mod ScriptLemmas
 pub mod FirstLemmas
 pub mod StoreLemmas
 pub mod HeadlineLemmas
+pub mod ToolLemmas

@@ -1,5 +1,5 @@
 -- What reads and writes do, and when they fail.
-use Rattle.std.specs.Prelude.{◌≡◌, ℕ, ◌<◌, ◌≤◌, ◌^◌, ◌-◌, ◌⊎◌, List, [], ◌++◌, length, take, drop, Option, Some}
+use Rattle.std.specs.Prelude.{◌≡◌, ℕ, ◌<◌, ◌≤◌, ◌^◌, ◌-◌, ◌⊎◌, Bool, true, false, List, [], ◌++◌, length, take, drop, Option, Some, None}
 use Rattle.task_run.specs.declared.outside.Read.{Read}
 use Rattle.task_run.specs.declared.outside.Read.TheVariants as read
 use Rattle.task_run.specs.declared.outside.Wrote.{Wrote}
@@ -18,8 +18,17 @@ IsRead old new buf (read.Got n) =
 IsRead old new buf read.End = (bytes : List ℕ) → old ≡ Some bytes → (bytes ≡ []) × (new ≡ Some [])
 IsRead old new buf read.Failed = new ≡ old
 
+-- Where what is held is told now, it was told before, and these bytes were appended since.
+abbrev pub Appends : Option (List ℕ) → Option (List ℕ) → List ℕ → Type 0
+Appends old new bytes = (now : List ℕ) → new ≡ Some now → (held : List ℕ) × ((old ≡ Some held) × (now ≡ held ++ bytes))
+
 -- Took appends from 1 byte to the whole piece, its first ones, where that is told; Failed appends nothing.
 abbrev pub IsWritten : Option (List ℕ) → Option (List ℕ) → List ℕ → Wrote → Type 0
 IsWritten old new piece (wrote.Took n) =
-    (1 ≤ n) × (n ≤ length piece) × ((held : List ℕ) → old ≡ Some held → new ≡ Some (held ++ take n piece))
+    (1 ≤ n) × (n ≤ length piece) × Appends old new (take n piece)
 IsWritten old new piece wrote.Failed = new ≡ old
+
+-- what a sink tells of what it keeps: nothing, once something has passed its room
+abbrev pub kept_told : Bool → List ℕ → Option (List ℕ)
+kept_told true kept = None
+kept_told false kept = Some kept

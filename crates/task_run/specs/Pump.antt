@@ -2,6 +2,8 @@
 use Rattle.std.specs.Prelude.{◌≡◌, ℕ, ◌≤◌, List, [], ◌++◌, length, Option, Some, Result, Ok, Err}
 use Rattle.std.specs.Global.{Vec}
 use Rattle.task_run.specs.declared.pump.ReadFault.{ReadFault}
+use Rattle.task_run.specs.declared.pump.ReadFault.TheVariants as fault
+use Rattle.task_run.specs.Outside.{Appends}
 
 -- these bytes were taken off the front of all, and the others are left
 pub record IsTaken (all taken : List ℕ) (left : Option (List ℕ)) : Type 0 where
@@ -9,14 +11,27 @@ pub record IsTaken (all taken : List ℕ) (left : Option (List ℕ)) : Type 0 wh
   pub parts : taken ++ rest ≡ all
   pub left_is : left ≡ Some rest
 
--- The text is what was taken: up to the end, or more bytes than a text may have. Where no text is answered, a front was taken.
-abbrev pub ReadsAll : List ℕ → Option (List ℕ) → Result (Vec ℕ) ReadFault → Type 0
-ReadsAll all left (Ok text) = IsTaken all text.items left × (length text.items ≤ 1048576 → left ≡ Some [])
-ReadsAll all left (Err fault) = (taken : List ℕ) × IsTaken all taken left
+-- all was read to its end, and has no more bytes than a text may have
+pub record IsWhole (all : List ℕ) (left : Option (List ℕ)) : Type 0 where
+  pub ended : left ≡ Some []
+  pub short : length all ≤ 1048576
 
--- a front of the bytes was appended to what was held
-pub record IsFront (held bytes : List ℕ) (now : Option (List ℕ)) : Type 0 where
+-- one byte more was taken than a text may have
+pub record IsTooLong (all : List ℕ) (left : Option (List ℕ)) : Type 0 where
+  pub taken : List ℕ
+  pub read : IsTaken all taken left
+  pub long : length taken ≡ 1048577
+
+-- The text is all that there was. Where no text is answered, a front was taken.
+abbrev pub ReadsAll : List ℕ → Option (List ℕ) → Result (Vec ℕ) ReadFault → Type 0
+ReadsAll all left (Ok text) = (text.items ≡ all) × IsWhole all left
+ReadsAll all left (Err fault.TooLong) = IsTooLong all left
+ReadsAll all left (Err fault.NoMemory) = (taken : List ℕ) × IsTaken all taken left
+ReadsAll all left (Err fault.Failed) = (taken : List ℕ) × IsTaken all taken left
+
+-- a front of the bytes was appended
+pub record IsFront (old new : Option (List ℕ)) (bytes : List ℕ) : Type 0 where
   pub front : List ℕ
   pub rest : List ℕ
   pub parts : front ++ rest ≡ bytes
-  pub now_is : now ≡ Some (held ++ front)
+  pub appended : Appends old new front

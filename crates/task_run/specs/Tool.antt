@@ -11,7 +11,8 @@ use Rattle.task_run.specs.declared.scenario.Scenario.{Scenario}
 use Rattle.task_machine.specs.Core.{Core}
 use Rattle.task_run.specs.Headline.{IsReportOf, IsRunOf, machine_scenario}
 use Rattle.task_run.specs.Lower.{Reads}
-use Rattle.task_run.specs.Pump.{IsTaken, IsFront}
+use Rattle.task_run.specs.Outside.{Appends}
+use Rattle.task_run.specs.Pump.{IsFront, IsTooLong, IsWhole}
 
 -- the words are `run N`, N from 1 to 1,000,000 in decimal without leading zeros
 abbrev pub IsRun : List (List ℕ) → ℕ → Type 0
@@ -23,6 +24,9 @@ bad_line_text n = codes "bad scenario line " ++ decimal n ++ codes "\n"
 abbrev pub usage_text : List ℕ
 usage_text = codes "usage: run STEPS, make NUMBER, big NUMBER STEPS, beside STEPS\n"
 
+abbrev pub too_long_text : List ℕ
+too_long_text = codes "text too long\n"
+
 -- the status of an end that ran nothing
 abbrev pub status_of : End → ℕ
 status_of ends.NoMemory = 1
@@ -30,54 +34,61 @@ status_of ends.WrongWords = 2
 status_of ends.BadScenario = 3
 status_of ends.ReadFailed = 4
 status_of ends.WriteFailed = 5
+status_of ends.TooLong = 6
 
 -- all of the text was appended, or a front of it, where the sink failed
-abbrev pub SaysOrFails : List ℕ → List ℕ → Option (List ℕ) → End → End → Type 0
-SaysOrFails held text now end result = ((result ≡ end) × (now ≡ Some (held ++ text))) ⊎ ((result ≡ ends.WriteFailed) × IsFront held text now)
+abbrev pub SaysOrFails : Option (List ℕ) → Option (List ℕ) → List ℕ → End → End → Type 0
+SaysOrFails old new text end result = ((result ≡ end) × Appends old new text) ⊎ ((result ≡ ends.WriteFailed) × IsFront old new text)
 
--- the text that was read: all up to the end, or more bytes than a text may have
-pub record IsText (all : List ℕ) (left : Option (List ℕ)) (text : List ℕ) : Type 0 where
-  pub taken : IsTaken all text left
-  pub ended : length text ≤ 1048576 → left ≡ Some []
-
--- The text of a scenario was read, and the report is of a run of it with at most n steps.
+-- All was read, and the report is of a run of the scenario that it stands for, with at most n steps.
 pub record Ran (all : List ℕ) (left : Option (List ℕ)) (n : ℕ) (r : Report) : Type 0 where
-  pub text : List ℕ
-  pub read : IsText all left text
-  pub report : IsReportOf text n r
+  pub whole : IsWhole all left
+  pub report : IsReportOf all n r
 
--- a text outside the grammar was read, and its bad line is written
-pub record SaysBadLine (all : List ℕ) (left : Option (List ℕ)) (held : List ℕ) (now : Option (List ℕ)) : Type 0 where
-  pub text : List ℕ
+-- all was read and stands for a scenario
+pub record IsScenario (all : List ℕ) (left : Option (List ℕ)) : Type 0 where
+  pub scenario : Scenario
+  pub whole : IsWhole all left
+  pub reads : Reads all scenario
+
+-- all was read and is outside the grammar, and its bad line is written
+pub record SaysBadLine (all : List ℕ) (left old new : Option (List ℕ)) : Type 0 where
   pub line : ℕ
-  pub read : IsText all left text
-  pub bad : IsBadLine text line
-  pub written : now ≡ Some (held ++ bad_line_text line)
+  pub whole : IsWhole all left
+  pub bad : IsBadLine all line
+  pub written : Appends old new (bad_line_text line)
 
--- a scenario was read, and a front of the text of a run of it with at most n steps is written
-pub record IsReportCut (n : ℕ) (all : List ℕ) (left : Option (List ℕ)) (held : List ℕ) (now : Option (List ℕ)) : Type 0 where
-  pub text : List ℕ
+-- all was read and stands for a scenario, and a front of the text of a run of it with at most n steps is written
+pub record IsReportCut (n : ℕ) (all : List ℕ) (left old new : Option (List ℕ)) : Type 0 where
   pub scenario : Scenario
   pub trace : List Label
   pub outcome : Outcome
   pub core : Core
-  pub read : IsText all left text
-  pub reads : Reads text scenario
+  pub whole : IsWhole all left
+  pub reads : Reads all scenario
   pub run : IsRunOf (machine_scenario scenario) n trace outcome core
-  pub written : IsFront held (texts.text trace outcome) now
+  pub written : IsFront old new (texts.text trace outcome)
 
--- a text outside the grammar was read, and a front of its bad line is written
-pub record IsBadLineCut (all : List ℕ) (left : Option (List ℕ)) (held : List ℕ) (now : Option (List ℕ)) : Type 0 where
-  pub text : List ℕ
+-- all was read and is outside the grammar, and a front of its bad line is written
+pub record IsBadLineCut (all : List ℕ) (left old new : Option (List ℕ)) : Type 0 where
   pub line : ℕ
-  pub read : IsText all left text
-  pub bad : IsBadLine text line
-  pub written : IsFront held (bad_line_text line) now
+  pub whole : IsWhole all left
+  pub bad : IsBadLine all line
+  pub written : IsFront old new (bad_line_text line)
+
+-- more was read than a text may have, and a front of the line that says so is written
+pub record IsTooLongCut (all : List ℕ) (left old new : Option (List ℕ)) : Type 0 where
+  pub long : IsTooLong all left
+  pub written : IsFront old new too_long_text
 
 -- a front of what was to be written after reading
-abbrev pub IsCut : ℕ → List ℕ → Option (List ℕ) → List ℕ → Option (List ℕ) → Type 0
-IsCut n all left held now = IsReportCut n all left held now ⊎ IsBadLineCut all left held now
+abbrev pub IsCut : ℕ → List ℕ → Option (List ℕ) → Option (List ℕ) → Option (List ℕ) → Type 0
+IsCut n all left old new = IsReportCut n all left old new ⊎ (IsBadLineCut all left old new ⊎ IsTooLongCut all left old new)
 
 -- nothing was written, or a front of a report's text
-abbrev pub IsWanting : ℕ → List ℕ → Option (List ℕ) → List ℕ → Option (List ℕ) → Type 0
-IsWanting n all left held now = (now ≡ Some held) ⊎ IsReportCut n all left held now
+abbrev pub IsWanting : ℕ → List ℕ → Option (List ℕ) → Option (List ℕ) → Option (List ℕ) → Type 0
+IsWanting n all left old new = (new ≡ old) ⊎ IsReportCut n all left old new
+
+-- memory was wanting, or the source or the sink failed
+abbrev pub IsHindered : ℕ → Type 0
+IsHindered status = (status ≡ 1) ⊎ ((status ≡ 4) ⊎ (status ≡ 5))

@@ -11,6 +11,7 @@ mod pump;
 mod report;
 mod scenario;
 mod std_io;
+mod sure;
 
 pub use lower::{component_of, read_scenario};
 pub use main_script::ScriptMain;
@@ -20,6 +21,7 @@ pub use program::{ToolEnd, USAGE, tool};
 pub use report::{Report, ScriptedHost, print_report, run_scenario};
 pub use scenario::{InstanceNames, MainOp, NoMemory, RunError, Scenario};
 pub use std_io::{StdSink, StdSource};
+pub use sure::{SureSink, SureSource};
 pub use task_machine::{IdleLine, Operand, Seq};
 
 #[cfg(test)]

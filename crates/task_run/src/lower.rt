@@ -125,7 +125,7 @@ fn scenario_of(alloc: Global, text: ScenarioText) -> Result<Scenario, AllocError
 /// The scenario of a text of at most 1,048,576 bytes. A text that is none is refused with its first
 /// bad line, from 1 to one past the last.
 pub fn read_scenario(alloc: Global, text: &[u8]) -> Result<Scenario, RunError>
-    requires { length text.now ≤ 1048577 }
+    requires { length text.now ≤ 1048576 }
     // A scenario is the text's own, and a line is the bad one.
     ensures answer { ReadsAs text.now result }
     // A scenario's text is refused for want of memory alone.

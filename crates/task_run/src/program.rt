@@ -1,9 +1,9 @@
-ghost use Rattle.std.specs.Prelude.{◌≡◌, ◌≢◌, ◌⊎◌, ◌<◌, ◌≤◌, ◌++◌, ℕ, List, Some, length, map, string_bytes, [], IfOk, IfErr, IfSome, IsErrOf, IsOk, OnOk, MatchOption};
-ghost use Rattle.task_run.specs.Outside.{HasRisen};
-ghost use Rattle.task_run.specs.Pump.{IsFront};
+ghost use Rattle.std.specs.Prelude.{◌≡◌, ◌≢◌, ◌⊎◌, ◌<◌, ◌≤◌, ℕ, List, Some, length, map, string_bytes, [], IfOk, IfErr, IfSome, IsErrOf, IsOk, OnOk, MatchOption};
+ghost use Rattle.task_run.specs.Outside.{Appends, HasRisen};
+ghost use Rattle.task_run.specs.Pump.{IsFront, IsTooLong};
 ghost use Rattle.task_run.specs.Lower.{Reads};
 ghost use Rattle.task_rules.specs.Texts.{text};
-ghost use Rattle.task_run.specs.Tool.{IsRun, IsText, IsCut, Ran, IsWanting, SaysBadLine, SaysOrFails, bad_line_text, usage_text, status_of};
+ghost use Rattle.task_run.specs.Tool.{IsCut, IsHindered, IsRun, IsScenario, IsWanting, Ran, SaysBadLine, SaysOrFails, bad_line_text, too_long_text, usage_text, status_of};
 ghost use Rattle.task_run.specs.declared.scenario.Scenario.{Scenario};
 
 use crate::outside::{Sink, Source};
@@ -15,6 +15,9 @@ use std::alloc::{AllocError, Global};
 
 /// What the program says of wrong words.
 pub const USAGE: &[u8] = b"usage: run STEPS, make NUMBER, big NUMBER STEPS, beside STEPS\n";
+
+// What it says of a text of more bytes than it takes.
+const TOO_LONG: &[u8] = b"text too long\n";
 
 // A piece of a report is written once it has so many bytes.
 const PIECE: usize = 65_536;
@@ -35,6 +38,7 @@ enum End {
     BadScenario,
     ReadFailed,
     WriteFailed,
+    TooLong,
 }
 
 impl End {
@@ -47,6 +51,7 @@ impl End {
             End::BadScenario => 3,
             End::ReadFailed => 4,
             End::WriteFailed => 5,
+            End::TooLong => 6,
         }
     }
 }
@@ -66,7 +71,7 @@ fn say<K: Sink>(sink: &mut K, text: &[u8], end: End) -> End
     requires { end ≢ End.WriteFailed }
     ensures answer { (result ≡ end) ⊎ (result ≡ End.WriteFailed) }
     ensures cause { result ≡ End.WriteFailed → HasRisen (K.faults sink.old) (K.faults sink.new) }
-    ensures told { (held : List ℕ) → K.held sink.old ≡ Some held → SaysOrFails held text.now (K.held sink.new) end result }
+    ensures told { SaysOrFails (K.held sink.old) (K.held sink.new) text.now end result }
 {
     if write_all(sink, text) {
         end
@@ -93,8 +98,8 @@ fn flush<K: Sink>(sink: &mut K, out: &mut Vec<u8>) -> Result<(), End>
     ensures count { K.faults sink.old ≤ K.faults sink.new }
     ensures cause { IsErrOf result End.WriteFailed → HasRisen (K.faults sink.old) (K.faults sink.new) }
     ensures fault { IfErr result (λ end. end ≡ End.WriteFailed) }
-    ensures told { (held : List ℕ) → K.held sink.old ≡ Some held → OnOk result ((out.new.items ≡ []) × (K.held sink.new ≡ Some (held ++ out.old.items))) }
-    ensures front { (held : List ℕ) → K.held sink.old ≡ Some held → IsFront held out.old.items (K.held sink.new) }
+    ensures told { OnOk result ((out.new.items ≡ []) × Appends (K.held sink.old) (K.held sink.new) out.old.items) }
+    ensures front { IsFront (K.held sink.old) (K.held sink.new) out.old.items }
 {
     if !write_all(sink, out.as_slice()) {
         return Err(End::WriteFailed);
@@ -108,8 +113,8 @@ fn write_report<K: Sink>(alloc: Global, sink: &mut K, report: &Report) -> Result
     ensures count { K.faults sink.old ≤ K.faults sink.new }
     ensures cause { IsErrOf result End.WriteFailed → HasRisen (K.faults sink.old) (K.faults sink.new) }
     ensures fault { IfErr result (λ end. (end ≡ End.NoMemory) ⊎ (end ≡ End.WriteFailed)) }
-    ensures told { (held : List ℕ) → K.held sink.old ≡ Some held → OnOk result (K.held sink.new ≡ Some (held ++ text report.now.trace report.now.outcome)) }
-    ensures front { (held : List ℕ) → K.held sink.old ≡ Some held → IsFront held (text report.now.trace report.now.outcome) (K.held sink.new) }
+    ensures told { OnOk result (Appends (K.held sink.old) (K.held sink.new) (text report.now.trace report.now.outcome)) }
+    ensures front { IsFront (K.held sink.old) (K.held sink.new) (text report.now.trace report.now.outcome) }
 {
     let mut out = Vec::new(alloc);
     for label in report.trace.labels() {
@@ -125,8 +130,8 @@ fn write_report<K: Sink>(alloc: Global, sink: &mut K, report: &Report) -> Result
 fn say_bad_line<K: Sink>(alloc: Global, sink: &mut K, line: u32) -> End
     ensures answer { (result ≡ End.NoMemory) ⊎ ((result ≡ End.BadScenario) ⊎ (result ≡ End.WriteFailed)) }
     ensures cause { result ≡ End.WriteFailed → HasRisen (K.faults sink.old) (K.faults sink.new) }
-    ensures told { (held : List ℕ) → K.held sink.old ≡ Some held → result ≡ End.BadScenario → K.held sink.new ≡ Some (held ++ bad_line_text line) }
-    ensures front { (held : List ℕ) → K.held sink.old ≡ Some held → result ≡ End.WriteFailed → IsFront held (bad_line_text line) (K.held sink.new) }
+    ensures told { result ≡ End.BadScenario → Appends (K.held sink.old) (K.held sink.new) (bad_line_text line) }
+    ensures front { result ≡ End.WriteFailed → IsFront (K.held sink.old) (K.held sink.new) (bad_line_text line) }
     ensures wanting { result ≡ End.NoMemory → sink.new ≡ sink.old }
 {
     match format!(in alloc; "bad scenario line {line}\n") {
@@ -142,22 +147,26 @@ fn run<S: Source, K: Sink>(
     source: &mut S,
     sink: &mut K,
 ) -> Result<Report, End>
-    requires { 0 < steps }
+    requires some { 0 < steps }
+    requires few { steps ≤ 1000000 }
     ensures words { IfErr result (λ end. end ≢ End.WrongWords) }
     ensures read { IsErrOf result End.ReadFailed → HasRisen (S.faults source.old) (S.faults source.new) }
     ensures write { IsErrOf result End.WriteFailed → HasRisen (K.faults sink.old) (K.faults sink.new) }
     ensures unwritten { IsErrOf result End.ReadFailed → sink.new ≡ sink.old }
-    ensures written { (held : List ℕ) → K.held sink.old ≡ Some held → IfOk result (λ r. K.held sink.new ≡ Some (held ++ text r.trace r.outcome)) }
+    ensures written { IfOk result (λ r. Appends (K.held sink.old) (K.held sink.new) (text r.trace r.outcome)) }
     ensures ran { (all : List ℕ) → S.left source.old ≡ Some all → IfOk result (λ r. Ran all (S.left source.new) steps r) }
-    ensures done { (all : List ℕ) → S.left source.old ≡ Some all → IsOk result → (text : List ℕ) × IsText all (S.left source.new) text × ((x : Scenario) × Reads text x) }
-    ensures bad { (all held : List ℕ) → S.left source.old ≡ Some all → K.held sink.old ≡ Some held → IsErrOf result End.BadScenario → SaysBadLine all (S.left source.new) held (K.held sink.new) }
-    ensures wanting { (all held : List ℕ) → S.left source.old ≡ Some all → K.held sink.old ≡ Some held → IsErrOf result End.NoMemory → IsWanting steps all (S.left source.new) held (K.held sink.new) }
-    ensures cut { (all held : List ℕ) → S.left source.old ≡ Some all → K.held sink.old ≡ Some held → IsErrOf result End.WriteFailed → IsCut steps all (S.left source.new) held (K.held sink.new) }
+    ensures done { (all : List ℕ) → S.left source.old ≡ Some all → IsOk result → IsScenario all (S.left source.new) }
+    ensures bad { (all : List ℕ) → S.left source.old ≡ Some all → IsErrOf result End.BadScenario → SaysBadLine all (S.left source.new) (K.held sink.old) (K.held sink.new) }
+    ensures long { (all : List ℕ) → S.left source.old ≡ Some all → IsErrOf result End.TooLong → IsTooLong all (S.left source.new) }
+    ensures long_said { IsErrOf result End.TooLong → Appends (K.held sink.old) (K.held sink.new) too_long_text }
+    ensures wanting { (all : List ℕ) → S.left source.old ≡ Some all → IsErrOf result End.NoMemory → IsWanting steps all (S.left source.new) (K.held sink.old) (K.held sink.new) }
+    ensures cut { (all : List ℕ) → S.left source.old ≡ Some all → IsErrOf result End.WriteFailed → IsCut steps all (S.left source.new) (K.held sink.old) (K.held sink.new) }
 {
     let text = match read_all(alloc, source) {
         Ok(text) => text,
         Err(ReadFault::NoMemory) => return Err(End::NoMemory),
         Err(ReadFault::Failed) => return Err(End::ReadFailed),
+        Err(ReadFault::TooLong) => return Err(say(sink, TOO_LONG, End::TooLong)),
     };
     match run_scenario(alloc, text.as_slice(), steps) {
         Ok(report) => {
@@ -179,17 +188,19 @@ fn call<S: Source, K: Sink>(
     ensures untouched { ((n : ℕ) → IsRun (map string_bytes words.now) n → ⊥) → source.new ≡ source.old }
     ensures usage { ((n : ℕ) → IsRun (map string_bytes words.now) n → ⊥) → IsErrOf result End.WrongWords ⊎ IsErrOf result End.WriteFailed }
     ensures words { (n : ℕ) → IsRun (map string_bytes words.now) n → IfErr result (λ end. end ≢ End.WrongWords) }
-    ensures said { (held : List ℕ) → K.held sink.old ≡ Some held → IsErrOf result End.WrongWords → K.held sink.new ≡ Some (held ++ usage_text) }
+    ensures said { IsErrOf result End.WrongWords → Appends (K.held sink.old) (K.held sink.new) usage_text }
     ensures read { IsErrOf result End.ReadFailed → HasRisen (S.faults source.old) (S.faults source.new) }
     ensures write { IsErrOf result End.WriteFailed → HasRisen (K.faults sink.old) (K.faults sink.new) }
     ensures unwritten { IsErrOf result End.ReadFailed → sink.new ≡ sink.old }
-    ensures written { (held : List ℕ) → K.held sink.old ≡ Some held → IfOk result (λ r. K.held sink.new ≡ Some (held ++ text r.trace r.outcome)) }
+    ensures written { IfOk result (λ r. Appends (K.held sink.old) (K.held sink.new) (text r.trace r.outcome)) }
     ensures ran { (n : ℕ) (all : List ℕ) → IsRun (map string_bytes words.now) n → S.left source.old ≡ Some all → IfOk result (λ r. Ran all (S.left source.new) n r) }
-    ensures done { (all : List ℕ) → S.left source.old ≡ Some all → IsOk result → (text : List ℕ) × IsText all (S.left source.new) text × ((x : Scenario) × Reads text x) }
-    ensures bad { (all held : List ℕ) → S.left source.old ≡ Some all → K.held sink.old ≡ Some held → IsErrOf result End.BadScenario → SaysBadLine all (S.left source.new) held (K.held sink.new) }
-    ensures wanting { (n : ℕ) (all held : List ℕ) → IsRun (map string_bytes words.now) n → S.left source.old ≡ Some all → K.held sink.old ≡ Some held → IsErrOf result End.NoMemory → IsWanting n all (S.left source.new) held (K.held sink.new) }
-    ensures cut { (n : ℕ) (all held : List ℕ) → IsRun (map string_bytes words.now) n → S.left source.old ≡ Some all → K.held sink.old ≡ Some held → IsErrOf result End.WriteFailed → IsCut n all (S.left source.new) held (K.held sink.new) }
-    ensures unsaid { (held : List ℕ) → ((n : ℕ) → IsRun (map string_bytes words.now) n → ⊥) → K.held sink.old ≡ Some held → IsErrOf result End.WriteFailed → IsFront held usage_text (K.held sink.new) }
+    ensures done { (all : List ℕ) → S.left source.old ≡ Some all → IsOk result → IsScenario all (S.left source.new) }
+    ensures bad { (all : List ℕ) → S.left source.old ≡ Some all → IsErrOf result End.BadScenario → SaysBadLine all (S.left source.new) (K.held sink.old) (K.held sink.new) }
+    ensures long { (all : List ℕ) → S.left source.old ≡ Some all → IsErrOf result End.TooLong → IsTooLong all (S.left source.new) }
+    ensures long_said { IsErrOf result End.TooLong → Appends (K.held sink.old) (K.held sink.new) too_long_text }
+    ensures wanting { (n : ℕ) (all : List ℕ) → IsRun (map string_bytes words.now) n → S.left source.old ≡ Some all → IsErrOf result End.NoMemory → IsWanting n all (S.left source.new) (K.held sink.old) (K.held sink.new) }
+    ensures cut { (n : ℕ) (all : List ℕ) → IsRun (map string_bytes words.now) n → S.left source.old ≡ Some all → IsErrOf result End.WriteFailed → IsCut n all (S.left source.new) (K.held sink.old) (K.held sink.new) }
+    ensures unsaid { ((n : ℕ) → IsRun (map string_bytes words.now) n → ⊥) → IsErrOf result End.WriteFailed → IsFront (K.held sink.old) (K.held sink.new) usage_text }
 {
     match steps_of(words) {
         Some(steps) => run(alloc, steps, source, sink),
@@ -201,7 +212,8 @@ fn call<S: Source, K: Sink>(
 /// steps, reads a scenario to the source's end, runs it and writes its report. The status is 0 where
 /// the report was written, 1 where memory was wanting, 2 where the words are none of the forms, which
 /// writes the usage line, 3 where the text is no scenario, which writes its first bad line, 4 where the
-/// source failed and 5 where the sink did. Other words leave the source as it was.
+/// source failed, 5 where the sink did, and 6 where the source gave more than 1,048,576 bytes, which
+/// writes a line that says so. Other words leave the source as it was.
 pub fn tool<S: Source, K: Sink>(
     alloc: Global,
     words: &[String],
@@ -212,22 +224,28 @@ pub fn tool<S: Source, K: Sink>(
     ensures untouched { ((n : ℕ) → IsRun (map string_bytes words.now) n → ⊥) → source.new ≡ source.old }
     ensures usage { ((n : ℕ) → IsRun (map string_bytes words.now) n → ⊥) → (result.status ≡ 2) ⊎ (result.status ≡ 5) }
     ensures words { (n : ℕ) → IsRun (map string_bytes words.now) n → result.status ≢ 2 }
-    ensures said { (held : List ℕ) → K.held sink.old ≡ Some held → result.status ≡ 2 → K.held sink.new ≡ Some (held ++ usage_text) }
+    ensures said { result.status ≡ 2 → Appends (K.held sink.old) (K.held sink.new) usage_text }
     ensures read { result.status ≡ 4 → HasRisen (S.faults source.old) (S.faults source.new) }
     ensures write { result.status ≡ 5 → HasRisen (K.faults sink.old) (K.faults sink.new) }
     ensures unwritten { result.status ≡ 4 → sink.new ≡ sink.old }
     // Status 0 comes with the report that was run, and with its text.
     ensures report { MatchOption result.report (result.status ≢ 0) (λ r. result.status ≡ 0) }
-    ensures written { (held : List ℕ) → K.held sink.old ≡ Some held → IfSome result.report (λ r. K.held sink.new ≡ Some (held ++ text r.trace r.outcome)) }
+    ensures written { IfSome result.report (λ r. Appends (K.held sink.old) (K.held sink.new) (text r.trace r.outcome)) }
     // The report of status 0 is of a run of the scenario that was read.
     ensures ran { (n : ℕ) (all : List ℕ) → IsRun (map string_bytes words.now) n → S.left source.old ≡ Some all → IfSome result.report (λ r. Ran all (S.left source.new) n r) }
-    // With status 0 the text was a scenario's, with 3 it was none.
-    ensures done { (all : List ℕ) → S.left source.old ≡ Some all → result.status ≡ 0 → (text : List ℕ) × IsText all (S.left source.new) text × ((x : Scenario) × Reads text x) }
-    ensures bad { (all held : List ℕ) → S.left source.old ≡ Some all → K.held sink.old ≡ Some held → result.status ≡ 3 → SaysBadLine all (S.left source.new) held (K.held sink.new) }
+    // With status 0 the text was a scenario's, with 3 it was none, with 6 it was too long.
+    ensures done { (all : List ℕ) → S.left source.old ≡ Some all → result.status ≡ 0 → IsScenario all (S.left source.new) }
+    ensures bad { (all : List ℕ) → S.left source.old ≡ Some all → result.status ≡ 3 → SaysBadLine all (S.left source.new) (K.held sink.old) (K.held sink.new) }
+    ensures long { (all : List ℕ) → S.left source.old ≡ Some all → result.status ≡ 6 → IsTooLong all (S.left source.new) }
+    ensures long_said { result.status ≡ 6 → Appends (K.held sink.old) (K.held sink.new) too_long_text }
     // With status 1 nothing or a front of a report was written, with 5 a front of what was to be written.
-    ensures wanting { (n : ℕ) (all held : List ℕ) → IsRun (map string_bytes words.now) n → S.left source.old ≡ Some all → K.held sink.old ≡ Some held → result.status ≡ 1 → IsWanting n all (S.left source.new) held (K.held sink.new) }
-    ensures cut { (n : ℕ) (all held : List ℕ) → IsRun (map string_bytes words.now) n → S.left source.old ≡ Some all → K.held sink.old ≡ Some held → result.status ≡ 5 → IsCut n all (S.left source.new) held (K.held sink.new) }
-    ensures unsaid { (held : List ℕ) → ((n : ℕ) → IsRun (map string_bytes words.now) n → ⊥) → K.held sink.old ≡ Some held → result.status ≡ 5 → IsFront held usage_text (K.held sink.new) }
+    ensures wanting { (n : ℕ) (all : List ℕ) → IsRun (map string_bytes words.now) n → S.left source.old ≡ Some all → result.status ≡ 1 → IsWanting n all (S.left source.new) (K.held sink.old) (K.held sink.new) }
+    ensures cut { (n : ℕ) (all : List ℕ) → IsRun (map string_bytes words.now) n → S.left source.old ≡ Some all → result.status ≡ 5 → IsCut n all (S.left source.new) (K.held sink.old) (K.held sink.new) }
+    ensures unsaid { ((n : ℕ) → IsRun (map string_bytes words.now) n → ⊥) → result.status ≡ 5 → IsFront (K.held sink.old) (K.held sink.new) usage_text }
+    // Only want of memory and a fault stand in the way of 0 for a scenario, of 3 for another text and of 6 for a longer one.
+    ensures complete { (n : ℕ) (all : List ℕ) (x : Scenario) → IsRun (map string_bytes words.now) n → S.left source.old ≡ Some all → length all ≤ 1048576 → Reads all x → (HasRisen (S.faults source.old) (S.faults source.new) → ⊥) → (HasRisen (K.faults sink.old) (K.faults sink.new) → ⊥) → (result.status ≡ 0) ⊎ (result.status ≡ 1) }
+    ensures refused { (n : ℕ) (all : List ℕ) → IsRun (map string_bytes words.now) n → S.left source.old ≡ Some all → length all ≤ 1048576 → ((x : Scenario) → Reads all x → ⊥) → (result.status ≡ 3) ⊎ IsHindered result.status }
+    ensures too_long { (n : ℕ) (all : List ℕ) → IsRun (map string_bytes words.now) n → S.left source.old ≡ Some all → 1048576 < length all → (result.status ≡ 6) ⊎ IsHindered result.status }
 {
     match call(alloc, words, source, sink) {
         Ok(report) => ToolEnd {

@@ -1,5 +1,5 @@
-ghost use Rattle.std.specs.Prelude.{◌≡◌, ◌≤◌, ◌+◌, ◌++◌, ℕ, List, Some, true, false, IsErrOf, IfOk, length};
-ghost use Rattle.task_run.specs.Outside.{HasRisen};
+ghost use Rattle.std.specs.Prelude.{◌≡◌, ◌≤◌, ℕ, List, Some, true, false, IsErrOf, IfOk, length};
+ghost use Rattle.task_run.specs.Outside.{Appends, HasRisen};
 ghost use Rattle.task_run.specs.Pump.{ReadsAll, IsFront};
 
 use crate::outside::{Read, Sink, Source, Wrote};
@@ -13,6 +13,8 @@ pub const LIMIT: usize = 1_048_576;
 pub enum ReadFault {
     NoMemory,
     Failed,
+    /// It gave more than `LIMIT` bytes.
+    TooLong,
 }
 
 impl From<AllocError> for ReadFault {
@@ -25,9 +27,10 @@ impl From<AllocError> for ReadFault {
     }
 }
 
-/// The bytes of a source up to its end, or its first `LIMIT + 1` ones where it has more.
+/// The bytes of a source up to its end. Of a source that has more than `LIMIT` only `LIMIT + 1` are
+/// read.
 pub fn read_all<S: Source>(alloc: Global, source: &mut S) -> Result<Vec<u8>, ReadFault>
-    ensures short { IfOk result (λ text. length text.items ≤ LIMIT + 1) }
+    ensures short { IfOk result (λ text. length text.items ≤ LIMIT) }
     ensures count { S.faults source.old ≤ S.faults source.new }
     ensures cause { IsErrOf result ReadFault.Failed → HasRisen (S.faults source.old) (S.faults source.new) }
     ensures told { (all : List ℕ) → S.left source.old ≡ Some all → ReadsAll all (S.left source.new) result }
@@ -42,15 +45,15 @@ pub fn read_all<S: Source>(alloc: Global, source: &mut S) -> Result<Vec<u8>, Rea
             Read::Failed => return Err(ReadFault::Failed),
         }
     }
-    Ok(text)
+    Err(ReadFault::TooLong)
 }
 
 /// Writes all bytes, and says whether the sink took them.
 pub fn write_all<K: Sink>(sink: &mut K, bytes: &[u8]) -> bool
     ensures count { K.faults sink.old ≤ K.faults sink.new }
     ensures cause { result ≡ false → HasRisen (K.faults sink.old) (K.faults sink.new) }
-    ensures whole { (held : List ℕ) → K.held sink.old ≡ Some held → result ≡ true → K.held sink.new ≡ Some (held ++ bytes.now) }
-    ensures front { (held : List ℕ) → K.held sink.old ≡ Some held → IsFront held bytes.now (K.held sink.new) }
+    ensures whole { result ≡ true → Appends (K.held sink.old) (K.held sink.new) bytes.now }
+    ensures front { IsFront (K.held sink.old) (K.held sink.new) bytes.now }
 {
     let mut rest = bytes;
     while !rest.is_empty() {

@@ -1,4 +1,4 @@
-ghost use Rattle.std.specs.Prelude.{◌≡◌, ◌<◌, ◌≤◌, ◌++◌, ℕ, false, length, IfOk, IsOk, IsErrOf, OnOk};
+ghost use Rattle.std.specs.Prelude.{◌≡◌, ◌<◌, ◌≤◌, ◌++◌, ℕ, false, length, IfOk, IsOk, IsErrOf, IsOkUnless, OnOk};
 ghost use Rattle.scenario_text.specs.Grammar.{IsBadLine};
 ghost use Rattle.task_machine.specs.Core.{fresh};
 ghost use Rattle.task_loop.specs.Turn.{idle_line_of};
@@ -67,7 +67,7 @@ fn run(alloc: Global, scenario: &Scenario, steps: u32) -> Result<Report, NoMemor
 {
     let mut store = new_store(alloc, scenario.component.instances.len())?;
     let Ok(mut run) = run_concurrent(&mut store, traps_on_idle(scenario.idle)) else {
-        return Err(NoMemory);
+        unreachable!()
     };
     let mut trace = Trace::new(alloc);
     let mut main = ScriptMain::new(alloc, scenario.main.as_slice());
@@ -94,11 +94,14 @@ fn run(alloc: Global, scenario: &Scenario, steps: u32) -> Result<Report, NoMemor
 /// opening state, its outcome is what that run has come to, and its store has the run's last state
 /// as its image. A text that is no scenario is refused at its first bad line.
 pub fn run_scenario(alloc: Global, text: &[u8], steps: u32) -> Result<Report, RunError>
-    requires text { length text.now ≤ 1048577 }
-    requires steps { 0 < steps }
+    requires text { length text.now ≤ 1048576 }
+    requires some { 0 < steps }
+    requires few { steps ≤ 1000000 }
     ensures ran { IfOk result (λ r. IsReportOf text.now steps r) }
     ensures taken { IsOk result → (x : Scenario) × Reads text.now x }
     ensures refused { (n : ℕ) → IsErrOf result (RunError.BadScenario n) → IsBadLine text.now n }
+    // A scenario's text is refused for want of memory alone.
+    ensures only { (x : Scenario) → Reads text.now x → IsOkUnless result RunError.NoMemory }
 {
     let scenario = read_scenario(alloc, text)?;
     match run(alloc, &scenario, steps) {

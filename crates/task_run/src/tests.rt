@@ -67,15 +67,34 @@ fn runs_of_the_first_path_print_their_reports(rt: HostRuntime) -> Result<(), Fai
 }
 
 #[test]
+fn a_bad_text_is_refused_at_its_first_bad_line(rt: HostRuntime) -> Result<(), Fail> {
+    let unended = &ONE_CALL[..ONE_CALL.len() - 4];
+    let mut longer = Vec::from_slice(rt.alloc(), ONE_CALL)?;
+    longer.extend_from_slice(b"end\n")?;
+    let cases: [(&[u8], u32); 3] = [(b"", 1), (unended, 13), (longer.as_slice(), 14)];
+    for (text, line) in cases {
+        assert_eq!(rt;
+            read_scenario(rt.alloc(), text).err(),
+            Some(RunError::BadScenario(line))
+        );
+    }
+    Ok(())
+}
+
+#[test]
 fn the_program_ends_with_its_statuses(rt: HostRuntime) -> Result<(), Fail> {
     let run: [&str; 2] = ["run", "7"];
-    let cases: [(&[&str], &[u8], &[u32], &[u32], u8, &[u8]); 7] = [
+    let long = vec![in rt.alloc(); b'\n'; 1_048_577]?;
+    let cases: [(&[&str], &[u8], &[u32], &[u32], u8, &[u8]); 10] = [
         (&run, ONE_CALL, &[], &[], 0, REPORT),
         (&run, b"", &[], &[], 3, b"bad scenario line 1\n"),
         (&run, ONE_CALL, &[2], &[], 4, b""),
         (&run, ONE_CALL, &[], &[2], 5, b"main start"),
+        (&run, long.as_slice(), &[], &[], 6, b"text too long\n"),
+        (&run, long.as_slice(), &[], &[2], 5, b"text too l"),
         (&["run", "07"], ONE_CALL, &[], &[], 2, USAGE),
         (&["run", "0"], ONE_CALL, &[], &[], 2, USAGE),
+        (&["run"], ONE_CALL, &[], &[], 2, USAGE),
         (&[], ONE_CALL, &[], &[], 2, USAGE),
     ];
     for (line, text, bad_reads, bad_writes, status, written) in cases {
@@ -86,6 +105,21 @@ fn the_program_ends_with_its_statuses(rt: HostRuntime) -> Result<(), Fail> {
         assert_eq!(rt; end.status, status);
         assert_eq!(rt; end.report.is_some(), status == 0);
         assert_eq!(rt; sink.bytes(), written);
+    }
+    Ok(())
+}
+
+#[test]
+fn a_sure_sink_keeps_what_its_room_holds(rt: HostRuntime) -> Result<(), Fail> {
+    let alloc = rt.alloc();
+    let words = words(alloc, &["run", "7"])?;
+    let cases: [(usize, &[u8]); 2] = [(120, REPORT), (10, b"main start")];
+    for (capacity, kept) in cases {
+        let mut source = SureSource::new(Vec::from_slice(alloc, ONE_CALL)?, 100);
+        let mut sink = SureSink::new(alloc, 50, capacity).ok().ok_or("room")?;
+        let end = tool(alloc, words.as_slice(), &mut source, &mut sink);
+        assert_eq!(rt; end.status, 0);
+        assert_eq!(rt; sink.bytes(), kept);
     }
     Ok(())
 }
@@ -102,10 +136,6 @@ fn a_scenario_is_read_and_its_component_copied(rt: HostRuntime) -> Result<(), Fa
         .ok()
         .ok_or("a component")?;
     assert_eq!(rt; component.instances.len(), 1);
-    assert_eq!(rt;
-        read_scenario(rt.alloc(), b"").err(),
-        Some(RunError::BadScenario(1))
-    );
     Ok(())
 }
 

@@ -1,8 +1,8 @@
-use Rattle.std.proofs.Common.{◌≡◌, ℕ, ◌+◌, ◌≤◌, ◌++◌, List, [], length, take, drop, append_assoc, refl, subst, arith}
+use Rattle.std.proofs.Common.{◌≡◌, ℕ, ◌+◌, ◌≤◌, ◌++◌, List, [], length, take, drop, append_assoc, append-nil, refl, sym, ap, ◌∙◌, subst, arith}
 use Rattle.std.proofs.lemmas.List.{take-append-le, take-append-drop, length-append, length-take, length-take-le}
 use Rattle.std.specs.Prelude.{Option, Result, Ok, Err}
-use Rattle.std.specs.Result.{IsErr}
 use Rattle.std.specs.Global.{Vec}
+use Rattle.std.proofs.lemmas.Result.{err_from_is_err_and}
 use Rattle.task_run.specs.declared.pump.ReadFault.{ReadFault}
 use Rattle.task_run.specs.Pump.{IsTaken, ReadsAll}
 use Rattle.task_run.proofs.pump.read_all.Goals as goal
@@ -30,23 +30,33 @@ loop-buf-preserved g c =
           };
     }
 
+-- nothing is left
+ended : (text rest all : List ℕ) → rest ≡ [] → text ++ rest ≡ all → text ≡ all
+ended text rest all none parts = sym (append-nil text) ∙ ap (λ (bs : List ℕ). text ++ bs) (sym none) ∙ parts
+
 pub returns-in-End-clause-told : goal.returns-in-End-clause-told
 returns-in-End-clause-told g c = λ all h.
     let t = c.loop-buf.invariant.told all h in
     let r = c.in-End.ensures.read t.rest t.left_is in
-    (record { rest = []; parts = subst (λ (bs : List ℕ). c.loop-buf.text.items ++ bs ≡ all) r.0 t.parts; left_is = r.1 }, λ le. r.1)
+    let whole = ended c.loop-buf.text.items t.rest all r.0 t.parts in
+    (whole, record { ended = r.1; short = subst (λ (bs : List ℕ). length bs ≤ 1048576) whole (omega (arith, c.loop-buf-test.true, c.len.ensures)) })
+
+pub returns-clause-told : goal.returns-clause-told
+returns-clause-told g c = λ all h.
+    record {
+      taken = c.loop-buf.text.items;
+      read = c.loop-buf.invariant.told all h;
+      long = omega (arith, c.loop-buf-test.false, c.loop-buf.invariant.short, c.len.ensures);
+    }
 
 cut : (text rest all : List ℕ) (n : ℕ) → text ++ rest ≡ all → (text ++ take n rest) ++ drop n rest ≡ all
 cut text rest all n h = rw (append_assoc, take-append-drop) h
-
-refused : (all : List ℕ) (left : Option (List ℕ)) (r : Result (Vec ℕ) ReadFault) → IsErr r → (taken : List ℕ) × IsTaken all taken left → ReadsAll all left r
-refused all left (Ok text) e taken = absurd cc
-refused all left (Err fault) e taken = taken
 
 pub returns-in_err-extend_from_slice-in-Got-clause-told : goal.returns-in_err-extend_from_slice-in-Got-clause-told
 returns-in_err-extend_from_slice-in-Got-clause-told g c = λ all h.
     let t = c.loop-buf.invariant.told all h in
     let w = c.in-Got.ensures.read.2 t.rest t.left_is in
     let text = c.loop-buf.text.items in
-    refused all (g.S.Source.left c.read.new.self) c.from_residual.result c.from_residual.ensures.0
+    let e = err_from_is_err_and c.from_residual.result c.from_residual.ensures.1 in
+    subst (λ (r : Result (Vec ℕ) ReadFault). ReadsAll all (g.S.Source.left c.read.new.self) r) (sym (e.1 ∙ ap (λ (f : ReadFault). Err f) e.2))
     (text ++ take c.in-Got.count t.rest, record { rest = drop c.in-Got.count t.rest; parts = cut text t.rest all c.in-Got.count t.parts; left_is = w.2 })
