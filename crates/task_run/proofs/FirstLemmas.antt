@@ -194,8 +194,7 @@ module _ (s : ScenarioText) (formed : IsWellFormed s) where
 
   pub first_scenario : IsFirstScenario (scenario_of s)
   first_scenario = record {
-    handles = same_number s.handles 100000 formed.handles;
-    table = same_number s.table 1000000 formed.table;
+    handles = leb-true s.handles 268435455 formed.handles;
     few = few_instances;
     component = component_first;
     main = suits;

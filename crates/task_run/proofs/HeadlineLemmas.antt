@@ -22,9 +22,9 @@ use Rattle.task_run.specs.declared.scenario.Scenario.{Scenario}
 
 module _ (x : Scenario) (first : IsFirstScenario x) where
   -- the opening state is that of a new store with main at its first op
-  pub opens_is : state_at (fresh (length x.component.instances) 100000 1000000) (Scripted main_opening) turn.Main ≡ opens (machine_scenario x)
+  pub opens_is : state_at (fresh (length x.component.instances) x.handles x.table) (Scripted main_opening) turn.Main ≡ opens (machine_scenario x)
   unfolding opens
-  opens_is = rw (first.handles, first.table) refl
+  opens_is = refl
 
 pub headline : (x : MachineScenario) (y : Setting) (s t : State) (before after : List Label) (steps : ℕ) (o : Outcome) (core : Core) → y ≡ setting_of x → s ≡ opens x → before ≡ [] → core ≡ t.core → Drives y s before t after steps o → IsRunOf x steps after o core
 headline x y s t before after steps o core setting start none image drives =

@@ -5,8 +5,7 @@ use Rattle.task_loop.specs.Fit.{IsFirstComponent}
 use Rattle.task_run.specs.Script.{SuitsOps}
 
 pub record IsFirstScenario (x : Scenario) : Type 0 where
-  pub handles : x.handles ≡ 100000
-  pub table : x.table ≡ 1000000
+  pub handles : x.handles ≤ 268435455
   pub few : length x.component.instances ≤ 64
   pub component : IsFirstComponent x.component
   pub main : SuitsOps x.main x.component

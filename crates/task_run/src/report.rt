@@ -35,13 +35,21 @@ pub struct Report {
     pub store: Store<(), ScriptedHost>,
 }
 
-// A new store with this many instances.
-fn new_store(alloc: Global, instances: usize) -> Result<Store<(), ScriptedHost>, NoMemory>
-    requires { instances ≤ 4294967295 }
-    ensures state { IfOk result (λ s. s.state ≡ stopped_with (fresh instances 100000 1000000)) }
+// A new store with this many instances, handles that may be live at once, and room for entries.
+fn new_store(
+    alloc: Global,
+    instances: usize,
+    handles: u32,
+    table: u32,
+) -> Result<Store<(), ScriptedHost>, NoMemory>
+    requires instances { instances ≤ 4294967295 }
+    requires handles { handles ≤ 268435455 }
+    ensures state { IfOk result (λ s. s.state ≡ stopped_with (fresh instances handles table)) }
     ensures free { IfOk result (λ s. s.running ≡ false) }
 {
     let mut store = Store::new(alloc, (), true, 1);
+    store.set_table_capacity(table as usize);
+    store.set_max_component_handles(handles as usize);
     for _made in 0..instances {
         let Ok(_) = store.add_instance() else {
             return Err(NoMemory);
@@ -65,7 +73,12 @@ fn run(alloc: Global, scenario: &Scenario, steps: u32) -> Result<Report, NoMemor
     requires { IsFirstScenario scenario.now }
     ensures { IfOk result (λ r. IsRunOf (machine_scenario scenario.now) steps r.trace r.outcome r.store.state.core) }
 {
-    let mut store = new_store(alloc, scenario.component.instances.len())?;
+    let mut store = new_store(
+        alloc,
+        scenario.component.instances.len(),
+        scenario.handles,
+        scenario.table,
+    )?;
     let Ok(mut run) = run_concurrent(&mut store, traps_on_idle(scenario.idle)) else {
         unreachable!()
     };

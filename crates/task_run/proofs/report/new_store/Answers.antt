@@ -8,7 +8,7 @@ use Rattle.task_run.proofs.report.new_store.Goals as goal
 
 pub add_instance-requires : goal.add_instance-requires
 add_instance-requires c =
-    let count : size c.loop-made.store.state.core.instances ≡ c.loop-made._made = ap (λ (s : Seen). size s.core.instances) c.loop-made.invariant.state ∙ size-fresh c.loop-made._made 100000 1000000 in
+    let count : size c.loop-made.store.state.core.instances ≡ c.loop-made._made = ap (λ (s : Seen). size s.core.instances) c.loop-made.invariant.state ∙ size-fresh c.loop-made._made c.args.handles c.args.table in
     let few : c.args.instances ≤ 4294967295 = c.requires in
     let below : c.loop-made._made < c.args.instances = c.loop-made-test.true in
     omega arith
@@ -20,6 +20,6 @@ loop-made-preserved c =
       state =
           rw c.in-Ok.ensures.ok
           (ap (λ (s : Seen). with_core (with_instance s.core) s) c.loop-made.invariant.state
-          ∙ ap stopped_with (fresh_more c.loop-made._made 100000 1000000 ∙ ap (λ n. fresh n 100000 1000000) next));
+          ∙ ap stopped_with (fresh_more c.loop-made._made c.args.handles c.args.table ∙ ap (λ n. fresh n c.args.handles c.args.table) next));
       free = rw c.in-Ok.ensures.ok c.loop-made.invariant.free;
     }

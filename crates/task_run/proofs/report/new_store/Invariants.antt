@@ -5,6 +5,6 @@ use Rattle.task_run.proofs.report.new_store.Given as goal
 
 abbrev pub invariant-loop-made : goal.invariant-loop-made
 invariant-loop-made l = record {
-  state : l.store.state ≡ stopped_with (fresh l._made 100000 1000000);
+  state : l.store.state ≡ stopped_with (fresh l._made l.handles l.table);
   free : l.store.running ≡ false;
 }

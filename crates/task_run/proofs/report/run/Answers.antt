@@ -14,7 +14,7 @@ use Rattle.task_run.proofs.StoreLemmas.{fits_fresh, given_fresh}
 use Rattle.task_run.proofs.report.run.Goals as goal
 
 pub drive-driven-requires-clause-fits : goal.drive-driven-requires-clause-fits
-drive-driven-requires-clause-fits c = rw (c.run_concurrent.ensures.store, c.in_ok-store.ensures.state, c.len.ensures) (fits_fresh c.args.scenario.now.component 100000 1000000)
+drive-driven-requires-clause-fits c = rw (c.run_concurrent.ensures.store, c.in_ok-store.ensures.state, c.len.ensures) (fits_fresh c.args.scenario.now.component c.args.scenario.now.handles c.args.scenario.now.table)
 
 pub drive-driven-requires-clause-given : goal.drive-driven-requires-clause-given
 drive-driven-requires-clause-given c = rw (c.run_concurrent.ensures.store, c.in_ok-store.ensures.state, given_fresh) (omega arith)
