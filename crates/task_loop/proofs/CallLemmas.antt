@@ -78,8 +78,8 @@ module _ (c : Component) (first : IsFirstComponent c) (e : Callee) (there : IsSo
     starts_now plain untrapped room call number t after =
         subst (λ o. Starts c e words s o (Ok call) t) (sym (not_refused untrapped room)) (number, after ∙ ap (λ w. with_core w s) (started_is s.core plain words))
 
-    pub starts_not : s.core.trapped ≡ false → fits 4 s.core ≡ true → (t : Seen) → t.core.trapped ≡ true → Starts c e words s (start_refusal s.core) (Err task_error.NoMemory) t
-    starts_not untrapped room t trapped = subst (λ o. Starts c e words s o (Err task_error.NoMemory) t) (sym (not_refused untrapped room)) (refl, trapped)
+    pub starts_not : s.core.trapped ≡ false → fits 4 s.core ≡ true → (t : Seen) → t ≡ with_core (set_trapped s.core) s → Starts c e words s (start_refusal s.core) (Err task_error.NoMemory) t
+    starts_not untrapped room t after = subst (λ o. Starts c e words s o (Err task_error.NoMemory) t) (sym (not_refused untrapped room)) (refl, after)
 
 -- ---- A start that is made
 

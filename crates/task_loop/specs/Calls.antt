@@ -19,11 +19,11 @@ use Rattle.task_state.specs.Seen.{Seen, with_core}
 abbrev pub callee_of : Func → Callee
 callee_of f = record { instance = f.instance.index; export = f.export }
 
--- A start with these words: refused for this cause, and then the store is trapped; else the call is made, or memory is wanting.
+-- A start with these words: refused for this cause, or memory is wanting, and then the store is trapped and nothing else is changed; else the call is made.
 abbrev pub Starts : Component → Callee → List ℕ → Seen → Option Trap → Result FuncCallConcurrent TaskError → Seen → Type 0
 Starts c e words s (Some why) r t = (r ≡ Err (task_error.Trap why)) × (t ≡ with_core (set_trapped s.core) s)
 Starts c e words s None (Ok call) t = (call.thread ≡ s.core.made.threads + 1) × (t ≡ with_core (main_started c e words s.core) s)
-Starts c e words s None (Err why) t = (why ≡ task_error.NoMemory) × (t.core.trapped ≡ true)
+Starts c e words s None (Err why) t = (why ≡ task_error.NoMemory) × (t ≡ with_core (set_trapped s.core) s)
 
 -- the call of this number is finished, where it has a result
 abbrev pub Finishes : ℕ → Seen → Poll ℕ → Seen → Type 0

@@ -1,4 +1,4 @@
-ghost use Rattle.std.specs.Prelude.{◌≡◌, ◌≢◌, ◌<◌, ◌≤◌, ◌^◌, Err, length, IsSome, IfSome};
+ghost use Rattle.std.specs.Prelude.{◌≡◌, ◌<◌, ◌≤◌, ◌^◌, length, IsSome, IfSome};
 ghost use Rattle.task_rules.specs.MainOps.{start_refusal};
 ghost use Rattle.task_rules.specs.Scripts.{export_at};
 ghost use Rattle.task_machine.specs.Write.{set_trapped};
@@ -67,9 +67,8 @@ impl Func {
 
     /// Starts a call by the host with as many words as the export takes. The call is queued, and
     /// runs when a run on the store takes it. Refused with trap 20 exactly where the store is
-    /// trapped, and else with trap 18 exactly where its four entries don't fit into the table; then
-    /// nothing is made, and the store is trapped. It is trapped, too, where memory is wanting, and
-    /// then no call is left in it.
+    /// trapped, and else with trap 18 exactly where its four entries don't fit into the table. Where
+    /// it is refused, or memory is wanting, nothing is made, and the store is trapped.
     pub fn start_call_concurrent<T, H>(
         self,
         component: &Component,
@@ -82,7 +81,7 @@ impl Func {
         requires fits { Fits component.now store.old.state.core }
         requires given { given store.old.state.core < 2 ^ 61 }
         ensures starts { Starts component.now (callee_of self) params.now store.old.state (start_refusal store.old.state.core) result store.new.state }
-        ensures fits { result ≢ Err TaskError.NoMemory → Fits component.now store.new.state.core }
+        ensures fits { Fits component.now store.new.state.core }
         ensures rest { store.new ≡ record store.old { state = store.new.state } }
     {
         let _component = component;
@@ -95,7 +94,10 @@ impl Func {
         }
         match store.state.start_call(self.callee(), params) {
             Ok(thread) => Ok(FuncCallConcurrent { thread }),
-            Err(_) => Err(TaskError::NoMemory),
+            Err(_) => {
+                store.set_trapped();
+                Err(TaskError::NoMemory)
+            }
         }
     }
 

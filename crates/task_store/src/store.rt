@@ -1,11 +1,14 @@
-ghost use Rattle.std.specs.Prelude.{◌≡◌, ◌+◌, ◌-◌, ◌<◌, ◌^◌, false, min, cond, IfOk, OnOk, OnErr};
+ghost use Rattle.std.specs.Prelude.{◌≡◌, ◌+◌, ◌-◌, ◌<◌, ◌≤◌, ◌^◌, ◌↔◌, true, false, min, cond, IsSome, IfSome, IfOk, OnOk, OnErr};
 ghost use Rattle.task_machine.specs.Maps.{size};
 ghost use Rattle.task_machine.specs.Write.{set_trapped};
-ghost use Rattle.task_core.specs.Shown.{with_instance};
+ghost use Rattle.task_core.specs.Image.{IsTableOf};
+ghost use Rattle.task_core.specs.Shown.{with_capacity, with_handle_limit, with_instance};
 ghost use Rattle.task_state.specs.Seen.{nothing_made, with_core};
 
 use std::alloc::Global;
+use task_core::Entry;
 use task_state::{ConcurrentState, NoMemory};
+use task_table::ResourceTable;
 
 /// Names an instance by its number, from 0.
 #[derive(Clone, Copy, Debug, PartialEq, Eq)]
@@ -69,6 +72,47 @@ impl<T, H> Store<T, H> {
         } else {
             0
         }
+    }
+
+    /// Sets how many entries the table of a concurrent store has room for, at most 4,294,967,295,
+    /// where nothing was made in it: a new store has room for 1,000,000.
+    pub fn set_table_capacity(&mut self, n: usize)
+        requires concurrent { self.old.concurrent ≡ true }
+        requires given { self.old.state.core.made.threads + self.old.state.core.made.works + self.old.state.core.made.sets + self.old.state.core.made.groups ≡ 0 }
+        requires bound { n ≤ 4294967295 }
+        ensures { self.new ≡ record self.old { state = with_core (with_capacity n self.old.state.core) self.old.state } }
+    {
+        self.state.set_capacity(n);
+    }
+
+    /// How many handles may be live at once in the store: the last value set, and 100,000 in a new
+    /// store.
+    pub fn max_component_handles(&self) -> usize
+        ensures is { result ≡ self.now.state.core.handle_limit }
+        ensures bound { result ≤ 268435455 }
+    {
+        self.state.handle_limit() as usize
+    }
+
+    /// Sets how many handles may be live at once in the store, at most 268,435,455. A lowered limit
+    /// takes none away.
+    pub fn set_max_component_handles(&mut self, limit: usize)
+        requires { limit ≤ 268435455 }
+        ensures { self.new ≡ record self.old { state = with_core (with_handle_limit limit self.old.state.core) self.old.state } }
+    {
+        self.state.set_handle_limit(limit as u32);
+    }
+
+    /// The table of a concurrent store: its calls and threads, their sync-call sets, and the groups.
+    /// None exactly where the store isn't concurrent.
+    pub fn concurrent_resource_table(&self) -> Option<&ResourceTable<Entry>>
+        ensures some { IsSome result ↔ (self.now.concurrent ≡ true) }
+        ensures table { IfSome result (λ table. IsTableOf self.now.state.core table.now) }
+    {
+        if !self.concurrent {
+            return None;
+        }
+        Some(self.state.table())
     }
 
     /// Whether the store is trapped: then it takes no further call.

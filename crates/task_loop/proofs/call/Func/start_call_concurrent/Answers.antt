@@ -10,14 +10,14 @@ returns-then-trapped-clause-starts g c =
     starts_trapped c.args.component.now c.requires.first (callee_of c.args.self) c.requires.there c.args.params.now c.args.store.now.state (sym c.trapped.ensures ∙ c.if-trapped.true) c.refuse.result c.refuse.ensures.error c.refuse.new.store.state (rw c.refuse.ensures.store refl)
 
 pub returns-then-trapped-clause-fits : goal.returns-then-trapped-clause-fits
-returns-then-trapped-clause-fits g c = λ claimed. rw c.refuse.ensures.store (fits-set_trapped c.args.component.now c.args.store.now.state.core c.requires.fits)
+returns-then-trapped-clause-fits g c = rw c.refuse.ensures.store (fits-set_trapped c.args.component.now c.args.store.now.state.core c.requires.fits)
 
 pub returns-then-not-has_room-clause-starts : goal.returns-then-not-has_room-clause-starts
 returns-then-not-has_room-clause-starts g c =
     starts_full c.args.component.now c.requires.first (callee_of c.args.self) c.requires.there c.args.params.now c.args.store.now.state (sym c.trapped.ensures ∙ c.if-trapped.false) (sym c.has_room.ensures ∙ c.if-not-has_room.true) c.refuse-then-not-has_room.result c.refuse-then-not-has_room.ensures.error c.refuse-then-not-has_room.new.store.state (rw c.refuse-then-not-has_room.ensures.store refl)
 
 pub returns-then-not-has_room-clause-fits : goal.returns-then-not-has_room-clause-fits
-returns-then-not-has_room-clause-fits g c = λ claimed. rw c.refuse-then-not-has_room.ensures.store (fits-set_trapped c.args.component.now c.args.store.now.state.core c.requires.fits)
+returns-then-not-has_room-clause-fits g c = rw c.refuse-then-not-has_room.ensures.store (fits-set_trapped c.args.component.now c.args.store.now.state.core c.requires.fits)
 
 pub start_call-requires-clause-words : goal.start_call-requires-clause-words
 start_call-requires-clause-words g c = few_words c.args.component.now c.requires.first (callee_of c.args.self) c.requires.there _ c.requires.params
@@ -28,10 +28,13 @@ returns-in-Ok-clause-starts g c =
     starts_now c.args.component.now c.requires.first (callee_of c.args.self) c.requires.there c.args.params.now c.args.store.now.state c.is_whole.ensures.simple.plain (sym c.trapped.ensures ∙ c.if-trapped.false) (sym c.has_room.ensures ∙ c.if-not-has_room.false) _ c.in-Ok.ensures.number c.start_call.new.self called
 
 pub returns-in-Ok-clause-fits : goal.returns-in-Ok-clause-fits
-returns-in-Ok-clause-fits g c = λ claimed.
+returns-in-Ok-clause-fits g c =
     let called = rw c.callee.ensures at c.in-Ok.ensures.ok in
     rw called (fits-started c.args.component.now c.requires.first (callee_of c.args.self) c.requires.there c.args.store.now.state.core c.is_whole.ensures.simple.plain c.requires.fits c.args.params.now)
 
 pub returns-in-Err-clause-starts : goal.returns-in-Err-clause-starts
 returns-in-Err-clause-starts g c =
-    starts_not c.args.component.now c.requires.first (callee_of c.args.self) c.requires.there c.args.params.now c.args.store.now.state (sym c.trapped.ensures ∙ c.if-trapped.false) (sym c.has_room.ensures ∙ c.if-not-has_room.false) c.start_call.new.self c.in-Err.ensures.err
+    starts_not c.args.component.now c.requires.first (callee_of c.args.self) c.requires.there c.args.params.now c.args.store.now.state (sym c.trapped.ensures ∙ c.if-trapped.false) (sym c.has_room.ensures ∙ c.if-not-has_room.false) c.set_trapped.new.store.state (rw (c.set_trapped.ensures, c.in-Err.ensures.err) refl)
+
+pub returns-in-Err-clause-fits : goal.returns-in-Err-clause-fits
+returns-in-Err-clause-fits g c = rw (c.set_trapped.ensures, c.in-Err.ensures.err) (fits-set_trapped c.args.component.now c.args.store.now.state.core c.requires.fits)
