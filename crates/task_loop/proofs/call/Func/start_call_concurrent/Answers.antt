@@ -34,7 +34,7 @@ returns-in-Ok-clause-fits g c =
 
 pub returns-in-Err-clause-starts : goal.returns-in-Err-clause-starts
 returns-in-Err-clause-starts g c =
-    starts_not c.args.component.now c.requires.first (callee_of c.args.self) c.requires.there c.args.params.now c.args.store.now.state (sym c.trapped.ensures ∙ c.if-trapped.false) (sym c.has_room.ensures ∙ c.if-not-has_room.false) c.set_trapped.new.store.state (rw (c.set_trapped.ensures, c.in-Err.ensures.err) refl)
+    starts_not c.args.component.now c.requires.first (callee_of c.args.self) c.requires.there c.args.params.now c.args.store.now.state (sym c.trapped.ensures ∙ c.if-trapped.false) (sym c.has_room.ensures ∙ c.if-not-has_room.false) c.set_trapped.new.self.state (rw (c.set_trapped.ensures, c.in-Err.ensures.err) refl)
 
 pub returns-in-Err-clause-fits : goal.returns-in-Err-clause-fits
 returns-in-Err-clause-fits g c = rw (c.set_trapped.ensures, c.in-Err.ensures.err) (fits-set_trapped c.args.component.now c.args.store.now.state.core c.requires.fits)
