@@ -5,7 +5,7 @@ use Rattle.std.specs.List.{list_all}
 use Rattle.std.specs.Option.{option_map, option_and_then}
 use Rattle.std.proofs.Common.{◌⊎◌}
 use Rattle.std.proofs.lemmas.Option.{same_Some}
-use Rattle.std.proofs.lemmas.Bool.{cases_eq, ne_eqb}
+use Rattle.std.proofs.lemmas.Bool.{leb-true}
 use Rattle.std.proofs.lemmas.List.{length_push, length-map}
 use Rattle.std.proofs.lemmas.Option.{slice_get-map}
 use Rattle.scenario_text.specs.declared.tree.ExportText.{ExportText}
@@ -100,12 +100,6 @@ short before (x ∷ xs) stands few =
     let below : length before < 4096 = grind (arith, room) in
     let rest = short (before ++ x ∷ []) xs stands.1 (omega arith) in
     omega arith
-
-same_number : (a b : ℕ) → (a == b) ≡ true → a ≡ b
-same_number a b is = elim (cases_eq a b) [
-  | inl same ↦ same
-  | inr other ↦ let no : (a == b) ≡ false = ne_eqb a b other in absurd (cc)
-]
 
 -- ---- What a start's line gives
 

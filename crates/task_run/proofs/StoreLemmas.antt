@@ -4,6 +4,7 @@ use Rattle.std.specs.Prelude.{nat_lt}
 use Rattle.std.proofs.lemmas.Bool.{cases_eq}
 use Rattle.std.proofs.Common.{inl, inr}
 use Rattle.task_machine.specs.declared.component.Component.{Component}
+use Rattle.task_core.specs.Shown.{with_capacity, with_handle_limit}
 use Rattle.task_machine.specs.Core.{filled, fresh, untouched}
 use Rattle.task_machine.specs.Maps.{empty, get, get-empty}
 use Rattle.task_machine.proofs.MapLemmas.{get-insert_other, get-insert_same}
@@ -37,3 +38,8 @@ fits_fresh c handles capacity = record {
 pub given_fresh : (n handles capacity : ℕ) → given (fresh n handles capacity) ≡ 0
 unfolding fresh
 given_fresh n handles capacity = refl
+
+-- the limits of a new store may be set at once
+pub limits_set : (handles capacity : ℕ) → with_handle_limit handles (with_capacity capacity (fresh 0 100000 1000000)) ≡ fresh 0 handles capacity
+unfolding fresh
+limits_set handles capacity = refl

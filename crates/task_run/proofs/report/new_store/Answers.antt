@@ -4,12 +4,13 @@ use Rattle.task_core.proofs.Laws.{fresh_more, size-fresh}
 use Rattle.task_machine.specs.Core.{fresh}
 use Rattle.task_machine.specs.Maps.{size}
 use Rattle.task_state.specs.Seen.{Seen, stopped_with, with_core}
+use Rattle.task_run.proofs.StoreLemmas.{given_fresh, limits_set}
 use Rattle.task_run.proofs.report.new_store.Goals as goal
 
 pub add_instance-requires : goal.add_instance-requires
 add_instance-requires c =
     let count : size c.loop-made.store.state.core.instances ≡ c.loop-made._made = ap (λ (s : Seen). size s.core.instances) c.loop-made.invariant.state ∙ size-fresh c.loop-made._made c.args.handles c.args.table in
-    let few : c.args.instances ≤ 4294967295 = c.requires in
+    let few : c.args.instances ≤ 4294967295 = c.requires.instances in
     let below : c.loop-made._made < c.args.instances = c.loop-made-test.true in
     omega arith
 
@@ -23,3 +24,12 @@ loop-made-preserved c =
           ∙ ap stopped_with (fresh_more c.loop-made._made c.args.handles c.args.table ∙ ap (λ n. fresh n c.args.handles c.args.table) next));
       free = rw c.in-Ok.ensures.ok c.loop-made.invariant.free;
     }
+
+pub set_table_capacity-requires-clause-given : goal.set_table_capacity-requires-clause-given
+set_table_capacity-requires-clause-given c = rw c.new-store.ensures.state (given_fresh 0 100000 1000000)
+
+pub loop-made-init : goal.loop-made-init
+loop-made-init c = record {
+  state = rw (c.set_max_component_handles.ensures, c.set_table_capacity.ensures, c.new-store.ensures.state) (ap stopped_with (limits_set c.args.handles c.args.table));
+  free = rw (c.set_max_component_handles.ensures, c.set_table_capacity.ensures) c.new-store.ensures.running;
+}
