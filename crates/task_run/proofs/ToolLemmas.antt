@@ -35,6 +35,14 @@ only_long ends.ReadFailed words bad = inr (inr (inl refl))
 only_long ends.WriteFailed words bad = inr (inr (inr refl))
 only_long ends.TooLong words bad = inl refl
 
+pub at_most_six : (e : End) → status_of e ≤ 6
+at_most_six ends.NoMemory = omega arith
+at_most_six ends.WrongWords = omega arith
+at_most_six ends.BadScenario = omega arith
+at_most_six ends.ReadFailed = omega arith
+at_most_six ends.WriteFailed = omega arith
+at_most_six ends.TooLong = omega arith
+
 -- a scenario's text has no bad line
 pub not_bad : (all : List ℕ) (x : Scenario) (left old new : Option (List ℕ)) → Reads all x → SaysBadLine all left old new → ⊥
 not_bad all x left old new reads bad = bad.bad.past reads.0 reads.1

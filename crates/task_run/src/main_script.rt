@@ -72,23 +72,24 @@ impl<'a> ScriptMain<'a> {
         count.checked_add(1)
     }
 
-    // The place after this op. A script can't have so many ops that there is none.
-    fn next_place(&self) -> Option<usize>
-        ensures { IfSome result (λ at. at ≡ self.now.at + 1) }
+    // The place after this op.
+    fn next_place(&self) -> usize
+        requires { self.now.at < length self.now.ops.now }
+        ensures { result ≡ self.now.at + 1 }
     {
-        self.at.checked_add(1)
+        let _count = self.ops.len();
+        self.at + 1
     }
 
     // The op is done, and this came of a start.
     fn keep(&mut self, start: Start) -> Result<(), AllocError>
+        requires { self.old.at < length self.old.ops.now }
         ensures ops { self.new.ops ≡ self.old.ops }
         ensures registers { self.new.registers ≡ self.old.registers }
         ensures at { OnOk result (self.new.at ≡ self.old.at + 1) }
         ensures starts { OnOk result (self.new.starts.items ≡ self.old.starts.items ++ start ∷ []) }
     {
-        let Some(at) = self.next_place() else {
-            return Err(AllocError);
-        };
+        let at = self.next_place();
         self.starts.push(start)?;
         self.at = at;
         Ok(())
@@ -118,6 +119,7 @@ impl<'a> ScriptMain<'a> {
 }
 
 // Main calls the export.
+#[tactic(auto, using(std::proofs::lemmas::Option::slice_get_within))]
 fn make_start<T, H>(
     main: &mut ScriptMain<'_>,
     access: &mut Access<'_, T, Whole, H>,
@@ -156,6 +158,7 @@ fn make_start<T, H>(
 }
 
 // Main finishes the call that came of a start.
+#[tactic(auto, using(std::proofs::lemmas::Option::slice_get_within))]
 fn finish_call<T, H>(
     main: &mut ScriptMain<'_>,
     access: &mut Access<'_, T, Whole, H>,
@@ -173,9 +176,7 @@ fn finish_call<T, H>(
     ensures err { IfErr result (λ e. e ≡ task_error.NoMemory) }
 {
     let _component = component;
-    let Some(at) = main.next_place() else {
-        return Err(TaskError::NoMemory);
-    };
+    let at = main.next_place();
     match main.call_at(start) {
         Ok(number) => match access.store.state.take_result(number) {
             Some(value) => {

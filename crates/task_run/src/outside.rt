@@ -40,7 +40,7 @@ pub trait Sink {
     // How often it has failed, up to 2^64 - 1.
     ghost faults: { Self → ℕ };
 
-    // The bytes that it holds, where that is told.
+    // The bytes that it holds, where that is told. One that doesn't tell them doesn't tell them later.
     ghost held: { Self → Option (List ℕ) };
 
     /// Writes from one byte to the whole of a piece that isn't empty.

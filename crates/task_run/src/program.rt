@@ -228,7 +228,8 @@ pub fn tool<S: Source, K: Sink>(
     ensures read { result.status ≡ 4 → HasRisen (S.faults source.old) (S.faults source.new) }
     ensures write { result.status ≡ 5 → HasRisen (K.faults sink.old) (K.faults sink.new) }
     ensures unwritten { result.status ≡ 4 → sink.new ≡ sink.old }
-    // Status 0 comes with the report that was run, and with its text.
+    // No other statuses are there, and 0 comes with the report that was run, and with its text.
+    ensures statuses { result.status ≤ 6 }
     ensures report { MatchOption result.report (result.status ≢ 0) (λ r. result.status ≡ 0) }
     ensures written { IfSome result.report (λ r. Appends (K.held sink.old) (K.held sink.new) (text r.trace r.outcome)) }
     // The report of status 0 is of a run of the scenario that was read.
@@ -243,8 +244,11 @@ pub fn tool<S: Source, K: Sink>(
     ensures cut { (n : ℕ) (all : List ℕ) → IsRun (map string_bytes words.now) n → S.left source.old ≡ Some all → result.status ≡ 5 → IsCut n all (S.left source.new) (K.held sink.old) (K.held sink.new) }
     ensures unsaid { ((n : ℕ) → IsRun (map string_bytes words.now) n → ⊥) → result.status ≡ 5 → IsFront (K.held sink.old) (K.held sink.new) usage_text }
     // Only want of memory and a fault stand in the way of 0 for a scenario, of 3 for another text and of 6 for a longer one.
-    ensures complete { (n : ℕ) (all : List ℕ) (x : Scenario) → IsRun (map string_bytes words.now) n → S.left source.old ≡ Some all → length all ≤ 1048576 → Reads all x → (HasRisen (S.faults source.old) (S.faults source.new) → ⊥) → (HasRisen (K.faults sink.old) (K.faults sink.new) → ⊥) → (result.status ≡ 0) ⊎ (result.status ≡ 1) }
-    ensures refused { (n : ℕ) (all : List ℕ) → IsRun (map string_bytes words.now) n → S.left source.old ≡ Some all → length all ≤ 1048576 → ((x : Scenario) → Reads all x → ⊥) → (result.status ≡ 3) ⊎ IsHindered result.status }
+    ensures complete { (n : ℕ) (all : List ℕ) (x : Scenario) → IsRun (map string_bytes words.now) n → S.left source.old ≡ Some all →
+        length all ≤ 1048576 → Reads all x → ¬ HasRisen (S.faults source.old) (S.faults source.new) → ¬ HasRisen (K.faults sink.old) (K.faults sink.new) →
+        (result.status ≡ 0) ⊎ (result.status ≡ 1) }
+    ensures refused { (n : ℕ) (all : List ℕ) → IsRun (map string_bytes words.now) n → S.left source.old ≡ Some all →
+        length all ≤ 1048576 → ((x : Scenario) → ¬ Reads all x) → (result.status ≡ 3) ⊎ IsHindered result.status }
     ensures too_long { (n : ℕ) (all : List ℕ) → IsRun (map string_bytes words.now) n → S.left source.old ≡ Some all → 1048576 < length all → (result.status ≡ 6) ⊎ IsHindered result.status }
 {
     match call(alloc, words, source, sink) {

@@ -9,14 +9,14 @@ use Rattle.task_loop.proofs.FitLemmas.{fits-take_result}
 use Rattle.task_run.proofs.ScriptLemmas.{did_by_row, pends_by_row}
 use Rattle.task_run.proofs.main_script.finish_call.Goals as goal
 
-pub returns-in-Some-take_result-clause-fits : goal.returns-in-Some-take_result-clause-fits
-returns-in-Some-take_result-clause-fits c w = rw (w.in-Some-take_result.ensures.taken refl) (fits-take_result w.args.component.now w.args.access.now.store.now.state.core w.requires.fits _)
+pub returns-in-Some-clause-fits : goal.returns-in-Some-clause-fits
+returns-in-Some-clause-fits c w = rw (w.in-Some.ensures.taken refl) (fits-take_result w.args.component.now w.args.access.now.store.now.state.core w.requires.fits _)
 
-pub returns-in-Some-take_result-clause-ok : goal.returns-in-Some-take_result-clause-ok
-returns-in-Some-take_result-clause-ok c w =
-    let row = ap (finish_act w.args.start w.args.access.now.store.now.state.core) w.in-Ok.ensures ∙ ap (finish_result w.args.start _ w.args.access.now.store.now.state.core) (sym w.in-Some-take_result.ensures.value) in
-    rw (w.in-Some-take_result.ensures.taken refl, w.set_register.ensures, w.in-Some.ensures)
-    (did_by_row w.args.component.now (script_of w.args.main.now) (place_of w.args.main.now) w.args.access.now.store.now.state.core (machine.Finish w.args.start w.args.register) (slice_get-map machine_op w.args.main.now.ops.now w.args.main.now.at ∙ ap (option_map machine_op) w.requires.op) (main_label.Finish w.args.start w.in-Some-take_result.value) _ row tt)
+pub returns-in-Some-clause-ok : goal.returns-in-Some-clause-ok
+returns-in-Some-clause-ok c w =
+    let row = ap (finish_act w.args.start w.args.access.now.store.now.state.core) w.in-Ok.ensures ∙ ap (finish_result w.args.start _ w.args.access.now.store.now.state.core) (sym w.in-Some.ensures.value) in
+    rw (w.in-Some.ensures.taken refl, w.set_register.ensures, w.next_place-at.ensures)
+    (did_by_row w.args.component.now (script_of w.args.main.now) (place_of w.args.main.now) w.args.access.now.store.now.state.core (machine.Finish w.args.start w.args.register) (slice_get-map machine_op w.args.main.now.ops.now w.args.main.now.at ∙ ap (option_map machine_op) w.requires.op) (main_label.Finish w.args.start w.in-Some.value) _ row tt)
 
 pub returns-in-None-clause-ok : goal.returns-in-None-clause-ok
 returns-in-None-clause-ok c w =
@@ -25,4 +25,4 @@ returns-in-None-clause-ok c w =
 
 pub returns-in-Err-clause-ok : goal.returns-in-Err-clause-ok
 returns-in-Err-clause-ok c w =
-    rw w.in-Some.ensures (did_by_row w.args.component.now (script_of w.args.main.now) (place_of w.args.main.now) w.args.access.now.store.now.state.core (machine.Finish w.args.start w.args.register) (slice_get-map machine_op w.args.main.now.ops.now w.args.main.now.at ∙ ap (option_map machine_op) w.requires.op) (main_label.FinishRefused w.in-Err.why w.args.start) _ (ap (finish_act w.args.start w.args.access.now.store.now.state.core) w.in-Err.ensures) tt)
+    rw w.next_place-at.ensures (did_by_row w.args.component.now (script_of w.args.main.now) (place_of w.args.main.now) w.args.access.now.store.now.state.core (machine.Finish w.args.start w.args.register) (slice_get-map machine_op w.args.main.now.ops.now w.args.main.now.at ∙ ap (option_map machine_op) w.requires.op) (main_label.FinishRefused w.in-Err.why w.args.start) _ (ap (finish_act w.args.start w.args.access.now.store.now.state.core) w.in-Err.ensures) tt)

@@ -1,6 +1,6 @@
 use Rattle.std.proofs.Common.{◌<◌, ◌≤◌, length, refl, ap, sym, subst, arith, Err}
 use Rattle.task_run.specs.declared.program.End.{End}
-use Rattle.task_run.proofs.ToolLemmas.{longer, not_bad, only_bad, only_done, only_long}
+use Rattle.task_run.proofs.ToolLemmas.{at_most_six, longer, not_bad, only_bad, only_done, only_long}
 use Rattle.task_run.proofs.program.tool.Goals as goal
 
 pub returns-in-Ok-clause-refused : goal.returns-in-Ok-clause-refused
@@ -13,6 +13,9 @@ returns-in-Ok-clause-too_long g c = λ n all is l long.
     let s = c.in-Ok.ensures.done all l refl in
     let short : length all ≤ 1048576 = s.whole.short in
     absurd (omega arith)
+
+pub returns-in-Err-clause-statuses : goal.returns-in-Err-clause-statuses
+returns-in-Err-clause-statuses g c = rw c.status.ensures (at_most_six c.in-Err.end)
 
 pub returns-in-Err-clause-complete : goal.returns-in-Err-clause-complete
 returns-in-Err-clause-complete g c = λ n all x is l short reads calm_source calm_sink.
