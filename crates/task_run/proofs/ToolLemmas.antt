@@ -66,3 +66,21 @@ report_cut n read all left old new r same whole is front = record {
   run = is.run;
   written = front;
 }
+
+-- each of these statuses has one cause
+
+pub was_wanting : (e : End) → status_of e ≡ 1 → e ≡ ends.NoMemory
+was_wanting ends.NoMemory is = refl
+was_wanting ends.WrongWords is = absurd (cc)
+was_wanting ends.BadScenario is = absurd (cc)
+was_wanting ends.ReadFailed is = absurd (cc)
+was_wanting ends.WriteFailed is = absurd (cc)
+was_wanting ends.TooLong is = absurd (cc)
+
+pub was_cut : (e : End) → status_of e ≡ 5 → e ≡ ends.WriteFailed
+was_cut ends.NoMemory is = absurd (cc)
+was_cut ends.WrongWords is = absurd (cc)
+was_cut ends.BadScenario is = absurd (cc)
+was_cut ends.ReadFailed is = absurd (cc)
+was_cut ends.WriteFailed is = refl
+was_cut ends.TooLong is = absurd (cc)

@@ -1,6 +1,6 @@
-use Rattle.std.proofs.Common.{◌<◌, ◌≤◌, length, refl, ap, sym, subst, arith, Err}
+use Rattle.std.proofs.Common.{◌<◌, ◌≤◌, ◌∙◌, length, refl, ap, sym, subst, arith, Err}
 use Rattle.task_run.specs.declared.program.End.{End}
-use Rattle.task_run.proofs.ToolLemmas.{at_most_six, longer, not_bad, only_bad, only_done, only_long}
+use Rattle.task_run.proofs.ToolLemmas.{at_most_six, longer, not_bad, only_bad, only_done, only_long, was_cut, was_wanting}
 use Rattle.task_run.proofs.program.tool.Goals as goal
 
 pub returns-in-Ok-clause-refused : goal.returns-in-Ok-clause-refused
@@ -35,3 +35,9 @@ pub returns-in-Err-clause-too_long : goal.returns-in-Err-clause-too_long
 returns-in-Err-clause-too_long g c = λ n all is l long.
     rw c.status.ensures
     (only_long c.in-Err.end (c.in-Err.ensures.words n is) (λ e. let short : length all ≤ 1048576 = (c.in-Err.ensures.bad all l (ap (λ (e : End). Err e) e)).whole.short in omega arith))
+
+pub returns-in-Err-clause-wanting : goal.returns-in-Err-clause-wanting
+returns-in-Err-clause-wanting g c = λ n all is l status. c.in-Err.ensures.wanting n all is l (ap (λ (e : End). Err e) (was_wanting c.in-Err.end (sym c.status.ensures ∙ status)))
+
+pub returns-in-Err-clause-cut : goal.returns-in-Err-clause-cut
+returns-in-Err-clause-cut g c = λ n all is l status. c.in-Err.ensures.cut n all is l (ap (λ (e : End). Err e) (was_cut c.in-Err.end (sym c.status.ensures ∙ status)))
