@@ -6,6 +6,7 @@ pub mod StateLemmas
 pub mod PartLemmas
 pub mod InstanceLemmas
 pub mod InstancePartLemmas
+pub mod LiveLemmas
 pub mod HandleLemmas
 pub mod LimitLemmas
 pub mod TableChangeLemmas

@@ -4,7 +4,7 @@ use Rattle.std.specs.Option.{option_map}
 use Rattle.std.proofs.lemmas.Bool.Decides.{nat_tests}
 use Rattle.std.proofs.lemmas.Option.{slice_get-map, slice_get_past}
 use Rattle.std.proofs.lemmas.List.{map_push, length-map}
-use Rattle.task_table.specs.Table.{Table, table_len, free_count}
+use Rattle.task_table.specs.Table.{Table, table_len}
 use Rattle.task_table.specs.Changes.{with_capacity as table_with_capacity}
 use Rattle.task_table.proofs.TableLemmas.{IsTable-with_capacity}
 use Rattle.task_handles.specs.Counter.{Counter}

@@ -1,5 +1,5 @@
 -- A state in which nothing was made.
-use Rattle.std.proofs.Common.{◌≡◌, ℕ, [], Some, None, false, refl, sym, ◌∙◌, arith}
+use Rattle.std.proofs.Common.{◌≡◌, ℕ, [], Some, None, false, refl, sym, ◌∙◌}
 use Rattle.std.specs.Prelude.{Option}
 use Rattle.task_table.specs.Table.{IsTable, new_table}
 use Rattle.task_table.specs.Records.{records}

@@ -1,11 +1,11 @@
 -- An entry is pushed or deleted: the table stays sound.
-use Rattle.std.proofs.Common.{inl, inr, ◌⊎◌, ◌≡◌, ◌≢◌, ◌<◌, ◌≤◌, ◌+◌, ℕ, List, [], Bool, true, false, cond, ◌==◌, Option, Some, None, refl, sym, ap, subst, ◌∙◌, arith}
+use Rattle.std.proofs.Common.{inl, inr, ◌⊎◌, ◌≡◌, ◌≢◌, ◌<◌, ◌≤◌, ℕ, List, [], Bool, true, false, cond, ◌==◌, Option, Some, None, refl, sym, ap, subst, ◌∙◌, arith}
 use Rattle.std.proofs.lemmas.Bool.{cases_eq, eq-eqb, ne_eqb}
 use Rattle.std.proofs.lemmas.Option.{same_Some}
-use Rattle.task_table.specs.Table.{Table, Placed, IsTable, place_at, table_len, free_count, children_of, is_full}
+use Rattle.task_table.specs.Table.{Table, Placed, IsTable, place_at, children_of, is_full}
 use Rattle.task_table.specs.Changes.{pushed, deleted, next_place}
 use Rattle.task_table.specs.Records.{record_at, key_in, number_in, number_of, found_record, KeepsRecords, PutsRecord, TakesRecord}
-use Rattle.task_table.proofs.Laws.{place_at-pushed, place_at-deleted, free_count-pushed, free_count-deleted, table_len-pushed, table_len-deleted, children_of-pushed, children_of-deleted, capacity-pushed}
+use Rattle.task_table.proofs.Laws.{place_at-pushed, place_at-deleted, children_of-pushed, children_of-deleted}
 use Rattle.task_table.proofs.NumberLemmas.{number_of-pushed_kept, number_of-deleted_apart}
 use Rattle.task_table.proofs.RecordChangeLemmas.{KeepsRecords-pushed, PutsRecord-pushed, KeepsRecords-deleted, TakesRecord-deleted}
 use Rattle.task_core.specs.declared.entry.Entry.{Entry}

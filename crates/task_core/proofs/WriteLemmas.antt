@@ -11,7 +11,7 @@ use Rattle.task_table.specs.Answers.{item_at}
 use Rattle.task_table.specs.Records.{records, record_at, key_in, number_in, number_of, found_record, AreApart, KeepsRecords, PutsRecord}
 use Rattle.task_table.proofs.ReadLemmas.{set-slice_get}
 use Rattle.task_table.proofs.TableLemmas.{place_at_there, found_at, IsTable-with_entry, item_place}
-use Rattle.task_table.proofs.Laws.{place_at-with_entry, found-with_entry, free_count-with_entry, table_len-with_entry, children_of-with_entry}
+use Rattle.task_table.proofs.Laws.{place_at-with_entry, found-with_entry, table_len-with_entry, children_of-with_entry}
 use Rattle.task_table.proofs.RecordLemmas.{get-records, found_record_at}
 use Rattle.task_table.proofs.RecordChangeLemmas.{KeepsRecords-with_entry, PutsRecord-with_entry}
 use Rattle.task_machine.specs.declared.records.Call.{Call}

@@ -1,5 +1,5 @@
 -- What holds of the parts of every state.
-use Rattle.std.specs.Prelude.{◌≡◌, ◌<◌, ◌≤◌, ◌+◌, ℕ, List, [], ◌∷◌, Some, None}
+use Rattle.std.specs.Prelude.{◌≡◌, ◌<◌, ◌≤◌, ℕ, List, [], ◌∷◌, Some, None}
 use Rattle.task_table.specs.declared.id.TableId.{TableId}
 use Rattle.task_table.specs.Table.{Table, Placed, IsTable, place_at, table_len, children_of}
 use Rattle.task_table.specs.Records.{AreApart, found_record, number_of}

@@ -4,6 +4,7 @@
 mod calls;
 mod ends;
 mod handles;
+mod ids;
 mod instances;
 mod limits;
 mod queues;

@@ -1,5 +1,6 @@
 use super::*;
 use std::test::Fail;
+use task_machine::Callee;
 
 #[test]
 fn nothing_stands_in_a_new_core(rt: HostRuntime) -> Result<(), Fail> {
@@ -31,4 +32,17 @@ fn limits_are_asked(rt: HostRuntime) {
     assert!(rt; !core.at_handle_limit());
     core.set_handle_limit(0);
     assert!(rt; core.at_handle_limit());
+}
+
+#[test]
+fn a_started_call_is_live(rt: HostRuntime) -> Result<(), Fail> {
+    let mut core = TaskCore::new(rt.alloc());
+    let callee = Callee {
+        instance: 0,
+        export: 0,
+    };
+    let id = core.start_call(callee, ExportKind::Callback, [0; 16])?;
+    assert!(rt; core.is_live(id));
+    assert_eq!(rt; core.table().len(), 4);
+    Ok(())
 }

@@ -42,4 +42,7 @@ fn access_lends_the_store(rt: HostRuntime) {
     let mut access: Access<'_, u8, Whole, u8> = Access::new(&mut store);
     access.as_context_mut().set_trapped();
     assert!(rt; access.as_context().trapped());
+    let mut value = 5;
+    *Whole::project(&mut value) = 6;
+    assert_eq!(rt; value, 6);
 }
