@@ -1,6 +1,6 @@
 -- A thread's entry is promoted: each thread has its place.
 use Rattle.std.proofs.Common.{T, ap, arith, cond, refl, subst, sym, ◌∙◌}
-use Rattle.std.specs.Prelude.{Bool, List, None, Option, Some, [], false, find, if◌then◌else◌, is_some, not, option_and_then, true, unwrap_or, ℕ, ◌+◌, ◌==◌, ◌||◌, ◌∷◌, ◌≡◌, ◌≤◌}
+use Rattle.std.specs.Prelude.{Bool, is_none, List, None, Option, Some, [], false, find, if◌then◌else◌, is_some, not, option_and_then, true, unwrap_or, ℕ, ◌+◌, ◌==◌, ◌||◌, ◌∷◌, ◌≡◌, ◌≤◌}
 use Rattle.task_machine.specs.Core.{Core}
 use Rattle.task_machine.specs.Maps.{get}
 use Rattle.task_machine.specs.Moves.{checked, displaced, first_entry, first_low, has_entry, less, promoted, promoted_first, promoted_unless, put_switch, stand, unqueued, why_of}
@@ -10,12 +10,15 @@ use Rattle.task_machine.specs.declared.records.Entry.{Entry}
 use Rattle.task_machine.specs.declared.records.Place.{Place}
 use Rattle.task_machine.specs.declared.records.Why.{Why}
 use Rattle.task_machine.specs.declared.words.Mark.{Mark}
-use Rattle.task_rules.proofs.StandLemmas.{Loose, Stand, by_number, entries-less, eq_refl, gain, is_eq_of, plus_none, plus_one}
+use Rattle.task_rules.proofs.StandLemmas.{Loose, Stand, by_number, entries-less, eq_refl, gain, is_eq_of, place_kept, plus_none, plus_one}
 use Rattle.task_rules.proofs.StopLemmas.{put_switch_stand}
 use Rattle.task_rules.specs.Places.{HasPlace, entries, is_at_high, is_at_low, is_at_switch, is_behind_of, one_if, says, switch_entries, times}
 use Rattle.task_machine.specs.declared.records.Entry.TheVariants as entry
 use Rattle.task_machine.specs.declared.words.Mark.TheVariants as mark
 use Rattle.task_machine.specs.declared.records.Place.TheVariants as place
+
+pub no_both_of : {X A : Type 0} {x : X} → None ≡ Some x → A
+no_both_of h = absurd (subst T (ap (λ o. is_none o) h) tt)
 
 -- ---- What stands in a list
 
@@ -335,3 +338,63 @@ module _ (n : ℕ) (q : Place) where
       go true b e = st
       go false true e = st
       go false false e = first_stand i s (first_entry i s) refl (no_switch s.queues.switch e) st
+
+-- ---- Threads that have no entry stay where they are
+
+unqueued_place : (k m : ℕ) (s : Core) → place_of k (unqueued m s) ≡ place_of k s
+unfolding unqueued set_high set_low
+unqueued_place k m s = go (has_entry m s.queues.high)
+  where
+    go : (b : Bool) → place_of k (if b then set_high (less m s.queues.high) s else set_low (less m s.queues.low) s) ≡ place_of k s
+    go true = refl
+    go false = refl
+
+promoted_place : (k m : ℕ) (s : Core) → (k == m) ≡ false → place_of k (promoted m s) ≡ place_of k s
+unfolding promoted set_switch
+promoted_place k m s e = place_kept k m (place.Ready mark.Switch (why_of m s)) (unqueued m s) e ∙ unqueued_place k m s
+
+pub loose_unlisted : (k m : ℕ) (s : Core) → Loose k s → Listed m s → (k == m) ≡ false
+loose_unlisted k m s l h = go (k == m) refl
+  where
+    go : (b : Bool) → (k == m) ≡ b → (k == m) ≡ false
+    go false e = e
+    go true e = absurd (no_listed k place.New s l (has_entry k s.queues.high) (has_entry k s.queues.low) refl refl (subst (λ (j : ℕ). Listed j s) (sym (is_eq_of k m e)) h))
+
+first_place : (k i : ℕ) (s : Core) (o : Option ℕ) → first_entry i s ≡ o → Loose k s → place_of k (promoted_first o s) ≡ place_of k s
+first_place k i s None e l = refl
+first_place k i s (Some m) e l = promoted_place k m s (loose_unlisted k m s l (entry_listed k place.New i m s e))
+
+pub checked_place : (k i : ℕ) (s : Core) → Loose k s → place_of k (checked i s) ≡ place_of k s
+unfolding checked
+checked_place k i s l = go (not (may_not_suspend i s) || is_some s.queues.switch)
+  where
+    go : (b : Bool) → place_of k (if b then s else promoted_first (first_entry i s) s) ≡ place_of k s
+    go true = refl
+    go false = first_place k i s (first_entry i s) refl l
+
+-- a thread whose entry stands at high or low is in a list
+pub ready_listed : (m : ℕ) (x : Mark) (w : Why) (s : Core) → place_of m s ≡ Some (place.Ready x w) → HasPlace m s → s.queues.switch ≡ None → Listed m s
+ready_listed m mark.Switch w s at h none = absurd (no_one (sym (ap (switch_entries m) none) ∙ (h.switch ∙ ap (says is_at_switch) at)))
+  where
+    no_one : ◌≡◌ {A = ℕ} 0 1 → ⊥
+    no_one k = omega (arith, k)
+ready_listed m mark.High w s at h none = go (has_entry m s.queues.high) refl
+  where
+    no_one : ◌≡◌ {A = ℕ} 0 1 → ⊥
+    no_one k = omega (arith, k)
+
+    go : (b : Bool) → has_entry m s.queues.high ≡ b → (has_entry m s.queues.high || has_entry m s.queues.low) ≡ true
+    go true e = ap (λ b. b || has_entry m s.queues.low) e
+    go false e = absurd (no_one (sym (none_stands m s.queues.high e) ∙ (h.high ∙ ap (says is_at_high) at)))
+ready_listed m mark.Low w s at h none = go (has_entry m s.queues.low) refl
+  where
+    no_one : ◌≡◌ {A = ℕ} 0 1 → ⊥
+    no_one k = omega (arith, k)
+
+    or_right : (a : Bool) → (a || true) ≡ true
+    or_right true = refl
+    or_right false = refl
+
+    go : (b : Bool) → has_entry m s.queues.low ≡ b → (has_entry m s.queues.high || has_entry m s.queues.low) ≡ true
+    go true e = ap (λ b. has_entry m s.queues.high || b) e ∙ or_right (has_entry m s.queues.high)
+    go false e = absurd (no_one (sym (none_stands m s.queues.low e) ∙ (h.low ∙ ap (says is_at_low) at)))
