@@ -1,3 +1,5 @@
 pub mod EntryLemmas
 pub mod PlaceWords
 pub mod RunRows
+pub mod OpRows
+pub mod CallRows

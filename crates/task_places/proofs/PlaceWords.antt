@@ -306,3 +306,29 @@ added_placed s t new none k h = by_number k (s.made.threads + 1) (HasPlace k (ad
       low = h.low ∙ (ap (says is_at_low) (before e) ∙ sym (ap (says is_at_low) (after e)));
       callers = λ f. both_le (added_callers s t k f) (subst (λ (c : ℕ). times k (callers_of f s) ≤ c) (ap (says (is_behind_of f)) (before e) ∙ sym (ap (says (is_behind_of f)) (after e))) (h.callers f));
     }
+
+pub added_stand : (n : ℕ) (q : Place) (t : Thread) (s : Core) → t.place ≡ place.New → place_of (s.made.threads + 1) s ≡ None → Stand n q [] s → Stand n q [] (add_thread t s)
+unfolding add_thread
+added_stand n q t s new none st = record {
+  here = added_gone s t n apart ∙ st.here;
+  once = st.once;
+  loose = λ k h. still k (st.loose k h);
+  there = λ k h. absurd (no_one h);
+  placed = λ k h. added_placed s t new none k (st.placed k h);
+}
+  where
+    no_one : ◌≡◌ {A = ℕ} 0 1 → ⊥
+    no_one h = omega (arith, h)
+
+    apart : (n == s.made.threads + 1) ≡ false
+    apart = go (n == s.made.threads + 1) refl
+      where
+        go : (b : Bool) → (n == s.made.threads + 1) ≡ b → (n == s.made.threads + 1) ≡ false
+        go false e = e
+        go true e = no_both_of (sym none ∙ (ap (λ (j : ℕ). place_of j s) (sym (is_eq_of n (s.made.threads + 1) e)) ∙ st.here))
+
+    still : (k : ℕ) → Loose k s → Loose k (add_thread t s)
+    still k l = record { switch = l.switch; high = l.high; low = l.low; callers = λ f. zero_le (added_callers s t k f) (l.callers f) }
+
+pub added_all : (t : Thread) (s : Core) → t.place ≡ place.New → place_of (s.made.threads + 1) s ≡ None → All s → All (add_thread t s)
+added_all t s new none all k = added_placed s t new none k (all k)

@@ -65,7 +65,7 @@ use Rattle.task_machine.specs.declared.records.Why.TheVariants as why
 use Rattle.task_machine.specs.declared.records.WorkCaller.TheVariants as work_caller
 use Rattle.task_places.proofs.EntryLemmas.{checked_place, checked_stand, promoted_unless_stand, ready_listed, no_both_of}
 use Rattle.task_places.proofs.PlaceWords.{All, Waits, added_stand, cancelled_stand, ended_all, free_moved, handed_on_stand, let_in_stand, passes_found, published_stand, pushed_stand, quiet_all, returned_stand, told_stand, wake_stand, waits_of, waits_quiet, waits_released, waits_told}
-use Rattle.task_rules.proofs.UntouchedLemmas.{set_register_untouched, set_position_untouched, set_how_far_untouched, set_script_untouched, set_thread_handle_untouched, set_saved_own_untouched, set_saved_callee_untouched, on_call_untouched, add_call_untouched, remove_call_untouched, on_work_untouched, count_work_untouched, add_work_untouched, remove_work_untouched, add_set_untouched, remove_set_untouched, on_instance_untouched, give_handle_untouched, free_handle_untouched, give_thread_handle_untouched, free_thread_handle_untouched, give_result_untouched, take_result_untouched, add_group_untouched, remove_group_untouched, set_trapped_untouched, set_started_untouched, set_starting_published_untouched, set_end_untouched, set_own_event_untouched, set_cancel_delivered_untouched, set_exited_untouched, set_uninteresting_untouched, set_result_untouched, set_course_untouched, set_phase_untouched, set_stage_untouched, set_cancelled_untouched, set_event_untouched, set_join_untouched, set_subtask_handle_untouched, set_backpressure_untouched, set_do_not_enter_untouched, set_do_not_suspend_untouched, set_word_untouched, taken_own_untouched, taken_untouched, group_settled_untouched, call_settled_untouched, interest_settled_untouched, freed_thread_handle_untouched, exited_if_untouched, moved_to_untouched, advanced_untouched, assigned_untouched, stored_untouched, skipped_untouched, result_given_untouched, restored_untouched, raised_untouched, lowered_untouched, set_made_untouched, set_dropped_untouched, set_given_untouched, received_untouched, suspending_untouched, put_back_untouched, called_back_untouched, answered_untouched, call_returned_untouched, with_handle_untouched, call_pending_untouched, call_answered_untouched, forbidding_untouched, with_thread_handle_untouched, host_ready_untouched, host_answered_untouched, settle_group_of_untouched, work_deleted_untouched, work_answered_untouched, end_taken_untouched, host_cancelled_untouched, asked_untouched, cancel_resumed_untouched, subtask_settled_untouched, dropped_untouched, pushed_untouched, host_result_untouched, enters_untouched, pended_untouched, main_aborted_untouched}
+use Rattle.task_rules.proofs.UntouchedLemmas.{untouched_after, set_register_untouched, set_position_untouched, set_how_far_untouched, set_script_untouched, set_thread_handle_untouched, set_saved_own_untouched, set_saved_callee_untouched, on_call_untouched, add_call_untouched, remove_call_untouched, on_work_untouched, count_work_untouched, add_work_untouched, remove_work_untouched, add_set_untouched, remove_set_untouched, on_instance_untouched, give_handle_untouched, free_handle_untouched, give_thread_handle_untouched, free_thread_handle_untouched, give_result_untouched, take_result_untouched, add_group_untouched, remove_group_untouched, set_trapped_untouched, set_started_untouched, set_starting_published_untouched, set_end_untouched, set_own_event_untouched, set_cancel_delivered_untouched, set_exited_untouched, set_uninteresting_untouched, set_result_untouched, set_course_untouched, set_phase_untouched, set_stage_untouched, set_cancelled_untouched, set_event_untouched, set_join_untouched, set_subtask_handle_untouched, set_backpressure_untouched, set_do_not_enter_untouched, set_do_not_suspend_untouched, set_word_untouched, taken_own_untouched, taken_untouched, group_settled_untouched, call_settled_untouched, interest_settled_untouched, freed_thread_handle_untouched, exited_if_untouched, moved_to_untouched, advanced_untouched, assigned_untouched, stored_untouched, skipped_untouched, result_given_untouched, restored_untouched, raised_untouched, lowered_untouched, set_made_untouched, set_dropped_untouched, set_given_untouched, received_untouched, suspending_untouched, put_back_untouched, called_back_untouched, answered_untouched, call_returned_untouched, with_handle_untouched, call_pending_untouched, call_answered_untouched, forbidding_untouched, with_thread_handle_untouched, host_ready_untouched, host_answered_untouched, settle_group_of_untouched, work_deleted_untouched, work_answered_untouched, end_taken_untouched, host_cancelled_untouched, asked_untouched, cancel_resumed_untouched, subtask_settled_untouched, dropped_untouched, pushed_untouched, host_result_untouched, enters_untouched, pended_untouched, main_aborted_untouched}
 use Rattle.task_rules.proofs.MoveLemmas.{all_of, behind_all, is_busy, put_high_all, put_high_good, put_low_all, put_low_good, put_switch_good, released_good, set_place_all, stand_of}
 use Rattle.task_rules.proofs.StandLemmas.{Stand, free_loose, is_eq_of, not_eq, place_written}
 use Rattle.task_rules.proofs.StopLemmas.{Untouched, quiet_stand, stopped_stand}
@@ -75,6 +75,10 @@ use Rattle.task_machine.proofs.MapLemmas.{get-remove_other}
 use Rattle.task_machine.specs.declared.records.Place.{Place}
 use Rattle.std.specs.Option.{option_map_or}
 use Rattle.task_machine.specs.Maps.{get, numbers, remove}
+use Rattle.task_machine.specs.Write.{add_call, remove_thread, set_backpressure, set_do_not_enter, set_end, set_how_far, set_own_event, set_place}
+use Rattle.task_machine.specs.Read.{is_under, place_of, is_suspended, is_new}
+use Rattle.task_machine.specs.Moves.{behind_one, put_low, put_switch, ended, exited_if, freed_thread_handle, interest_settled, released, stopped, stopped_at}
+use Rattle.task_rules.specs.Calls.{call_made}
 
 abbrev pub Runs : ℕ → Core → Type 0
 Runs n s = Stand n place.Running [] s
@@ -110,18 +114,18 @@ quiet_runs n s t u r = quiet_stand n place.Running [] s t u r
 -- ---- Stops
 
 -- the strand stops and n is at such a place
-stopped_all : (n f : ℕ) (p : Place) (s : Core) → is_free p ≡ true → Runs n s → All (set_place n p (stopped f s))
+pub stopped_all : (n f : ℕ) (p : Place) (s : Core) → is_free p ≡ true → Runs n s → All (set_place n p (stopped f s))
 stopped_all n f p s free r = set_place_all n place.Running refl p (stopped f s) free (stopped_stand n place.Running f s r)
 
-how_far_all : (n : ℕ) (h : HowFar) (s : Core) → All s → All (set_how_far n h s)
+pub how_far_all : (n : ℕ) (h : HowFar) (s : Core) → All s → All (set_how_far n h s)
 how_far_all n h s all = quiet_all s _ (set_how_far_untouched n h s) all
 
 -- ---- Data
 
-advanced_runs : (n : ℕ) (s : Core) → Runs n s → Runs n (advanced n s)
+pub advanced_runs : (n : ℕ) (s : Core) → Runs n s → Runs n (advanced n s)
 advanced_runs n s r = quiet_runs n s _ (advanced_untouched n s) r
 
-assigned_runs : (n to v : ℕ) (s : Core) → Runs n s → Runs n (assigned n to v s)
+pub assigned_runs : (n to v : ℕ) (s : Core) → Runs n s → Runs n (assigned n to v s)
 assigned_runs n to v s r = quiet_runs n s _ (assigned_untouched n to v s) r
 
 skip_row_stays : (c : Component) (n ops : ℕ) (s : Core) → Runs n s → (b : Bool) → Stays (skip_row c n ops s b)
