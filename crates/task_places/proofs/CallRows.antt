@@ -1,6 +1,6 @@
 -- What is kept by direct calls, calls of hosts, cancels and the ops on threads: each thread has its place.
 use Rattle.std.proofs.Common.{T, ap, arith, cond, refl, subst, sym, ◌∙◌}
-use Rattle.std.specs.Prelude.{Bool, List, None, Option, Some, [], false, is_some, length, min, nat_le, nat_lt, not, suc, true, unwrap_or, zero, ℕ, ◌%◌, ◌*◌, ◌+◌, ◌-◌, ◌/◌, ◌==◌, ◌^◌, ◌∷◌, ◌≡◌}
+use Rattle.std.specs.Prelude.{Bool, option_map, option_and_then, ◌&&◌, List, None, Option, Some, [], false, is_some, length, min, nat_le, nat_lt, not, suc, true, unwrap_or, zero, ℕ, ◌%◌, ◌*◌, ◌+◌, ◌-◌, ◌/◌, ◌==◌, ◌^◌, ◌∷◌, ◌≡◌}
 use Rattle.task_machine.specs.Core.{Core}
 use Rattle.task_machine.specs.Labels.{Choice, exit_label, join_label, ret_label, task_cancel_label, wait_label}
 use Rattle.task_machine.specs.Moves.{Gift, NoGift, checked, gift, may_hand_on, passes_check, published}
@@ -77,7 +77,7 @@ use Rattle.std.specs.Option.{option_map_or}
 use Rattle.task_machine.specs.Maps.{get, numbers, remove}
 use Rattle.task_machine.specs.Write.{add_call, count_work, set_started, set_saved_callee, set_do_not_suspend, set_join, remove_thread, set_backpressure, set_do_not_enter, set_end, set_how_far, set_own_event, set_place}
 use Rattle.task_machine.specs.Read.{is_under, place_of, is_suspended, is_new}
-use Rattle.task_machine.specs.Moves.{behind_one, put_low, put_switch, ended, exited_if, freed_thread_handle, interest_settled, released, stopped, stopped_at}
+use Rattle.task_machine.specs.Moves.{promoted_unless, behind_one, put_low, put_switch, ended, exited_if, freed_thread_handle, interest_settled, released, stopped, stopped_at}
 use Rattle.task_rules.specs.Calls.{call_made}
 use Rattle.task_places.proofs.RunRows.{Runs, Stays, advanced_runs, assigned_runs, data_row_stays, how_far_all, may_stays, or_never_stays, or_trap_stays, quiet_runs, stopped_all, task_row_stays, trap_if_stays}
 use Rattle.task_machine.specs.Moves.{MemberGift, OwnGift}
@@ -142,7 +142,7 @@ call_sync_begins_stays : (c : Component) (n : ℕ) (e : Callee) (words : List �
 call_sync_begins_stays c n e words s none r true = call_begins_stays c n e goal.Answer words s none r
 call_sync_begins_stays c n e words s none r false = enter_row_stays n e (export_kind c e) words s none r
 
-call_sync_row_stays : (c : Component) (n to : ℕ) (e : Callee) (words : List ℕ) (s : Core) → Unused s → Runs n s → (f : HowFar) → Stays (call_sync_row c n to e words s f)
+pub call_sync_row_stays : (c : Component) (n to : ℕ) (e : Callee) (words : List ℕ) (s : Core) → Unused s → Runs n s → (f : HowFar) → Stays (call_sync_row c n to e words s f)
 call_sync_row_stays c n to e words s none r (how_far.Answered v) = assigned_runs n to v s r
 call_sync_row_stays c n to e words s none r (how_far.Calls (subtask.Guest k)) = call_sync_status_stays n to k s r (status_found k s)
 call_sync_row_stays c n to e words s none r _ = call_sync_begins_stays c n e words s none r (is_async_lifted (export_kind c e))
@@ -159,7 +159,7 @@ host_pending_runs n r to v host s q =
     let a = work_queued (work_caller.Async n to) host (Some (thread_group n s)) s in
     assigned_runs n r v _ (quiet_runs n a _ (with_handle_untouched (instance_of n s) (subtask.Host (next_work s)) a) (queued_stand n place.Running (work_caller.Async n to) host (Some (thread_group n s)) s q))
 
-call_host_polled_stays : (n r to : ℕ) (s : Core) → Runs n s → (f : FirstPoll) → Stays (call_host_polled n r to s f)
+pub call_host_polled_stays : (n r to : ℕ) (s : Core) → Runs n s → (f : FirstPoll) → Stays (call_host_polled n r to s f)
 call_host_polled_stays n r to s q (AtOnce v) = quiet_runs n s _ (host_ready_untouched n r to v s) q
 call_host_polled_stays n r to s q Failing = tt
 call_host_polled_stays n r to s q (Later host) = trap_if_stays (not (fits 1 s)) trap.TableFull _ (λ e. trap_if_stays (at_handle_limit s) trap.HandleLimit _ (λ f. host_pending_runs n r to _ host s q))
@@ -173,7 +173,7 @@ call_sync_host_polled_stays n r s q (AtOnce v) = quiet_runs n s _ (host_answered
 call_sync_host_polled_stays n r s q Failing = tt
 call_sync_host_polled_stays n r s q (Later host) = trap_if_stays (not (fits 1 s)) trap.TableFull _ (λ e. trap_if_stays (not (passes_check (instance_of n s) s)) trap.CannotBlockSyncTask (Stops (label.Call (call_label.PausesPolls n (next_work s))) (host_blocked n host s)) (λ f. host_blocked_all n host s q))
 
-call_sync_host_row_stays : (c : Component) (n r h : ℕ) (s : Core) → Runs n s → (f : HowFar) → Stays (call_sync_host_row c n r h s f)
+pub call_sync_host_row_stays : (c : Component) (n r h : ℕ) (s : Core) → Runs n s → (f : HowFar) → Stays (call_sync_host_row c n r h s f)
 call_sync_host_row_stays c n r h s q (how_far.Calls (subtask.Host i)) = quiet_runs n s _ (work_answered_untouched n r i s) q
 call_sync_host_row_stays c n r h s q _ = call_sync_host_polled_stays n r s q (first_poll (host_at c h))
 
@@ -191,7 +191,7 @@ is_unbegun (Some (place.Ready m w)) = true
 is_unbegun (Some (place.Held w)) = true
 is_unbegun _ = false
 
-ended_row_stays : (mode : Mode) (n r : ℕ) (sub : Subtask) (s : Core) → Runs n s → (o : Option Status) → Stays (ended_row mode n r sub s o)
+pub ended_row_stays : (mode : Mode) (n r : ℕ) (sub : Subtask) (s : Core) → Runs n s → (o : Option Status) → Stays (ended_row mode n r sub s o)
 ended_row_stays mode n r sub s q None = tt
 ended_row_stays mode n r sub s q (Some e) = quiet_runs n s _ (end_taken_untouched n r sub e s) q
 
@@ -211,10 +211,10 @@ by_end_stays : (mode : Mode) (n r : ℕ) (sub : Subtask) (s : Core) → Runs n s
 by_end_stays mode n r sub s q true = ended_row_stays mode n r sub s q (undelivered_end (event_of sub s))
 by_end_stays mode n r sub s q false = not_ended_row_stays mode n r sub s q
 
-after_cancel_stays : (mode : Mode) (n r : ℕ) (sub : Subtask) (s : Core) → Runs n s → Stays (after_cancel mode n r sub s)
+pub after_cancel_stays : (mode : Mode) (n r : ℕ) (sub : Subtask) (s : Core) → Runs n s → Stays (after_cancel mode n r sub s)
 after_cancel_stays mode n r sub s q = by_end_stays mode n r sub s q (subtask_ended sub s)
 
-cancel_host_stays : (mode : Mode) (n r i : ℕ) (s : Core) → Runs n s → Stays (cancel_host mode n r i s)
+pub cancel_host_stays : (mode : Mode) (n r i : ℕ) (s : Core) → Runs n s → Stays (cancel_host mode n r i s)
 cancel_host_stays mode n r i s q = trap_if_stays (was_cancelled i s) trap.SubtaskCancelAfterTerminal _ (λ e. after_cancel_stays mode n r (subtask.Host i) (host_cancelled i s) (quiet_runs n s _ (host_cancelled_untouched i s) q))
 
 behind_switch_all : (n : ℕ) (o : Option ℕ) (s : Core) → Runs n s → All (behind_switch n o s)
@@ -291,7 +291,7 @@ cancel_yield_stays : (mode : Mode) (n r k : ℕ) (s : Core) → Runs n s → (b 
 cancel_yield_stays mode n r k s q true h = yield_cancelled_all n k s h q
 cancel_yield_stays mode n r k s q false h = after_cancel_stays mode n r (subtask.Guest k) (asked k s) (quiet_runs n s _ (asked_untouched k s) q)
 
-cancel_running_stays : (mode : Mode) (n r k : ℕ) (s : Core) → Runs n s → (b : Bool) → is_at k s is_callback_wait ≡ b → Stays (cancel_running mode n r k s b (is_at k s is_callback_yield))
+pub cancel_running_stays : (mode : Mode) (n r k : ℕ) (s : Core) → Runs n s → (b : Bool) → is_at k s is_callback_wait ≡ b → Stays (cancel_running mode n r k s b (is_at k s is_callback_yield))
 cancel_running_stays mode n r k s q true h = cancel_delivered_all n k s h q
 cancel_running_stays mode n r k s q false h = cancel_yield_stays mode n r k s q (is_at k s is_callback_yield) refl
 

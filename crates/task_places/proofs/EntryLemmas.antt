@@ -78,7 +78,7 @@ gain_own m x = ap (λ b. cond b x 0) (eq_refl m)
 pub gain_other : (k m x : ℕ) → (k == m) ≡ false → gain k m x ≡ 0
 gain_other k m x e = ap (λ b. cond b x 0) e
 
-less_both : (x y g a : ℕ) → x + g ≡ y → g ≡ a → x + a ≡ y
+pub less_both : (x y g a : ℕ) → x + g ≡ y → g ≡ a → x + a ≡ y
 less_both x y g a e f = omega (arith, e, f)
 
 same_callers : (s t : Core) → t.callers ≡ s.callers → (k f : ℕ) → times k (callers_of f t) ≡ times k (callers_of f s)

@@ -3,3 +3,5 @@ pub mod PlaceWords
 pub mod RunRows
 pub mod OpRows
 pub mod CallRows
+pub mod WithdrawRows
+pub mod TakeRows

@@ -77,7 +77,7 @@ use Rattle.std.specs.Option.{option_map_or}
 use Rattle.task_machine.specs.Maps.{get, numbers, remove}
 use Rattle.task_machine.specs.Write.{add_call, remove_thread, set_backpressure, set_do_not_enter, set_end, set_how_far, set_own_event, set_place}
 use Rattle.task_machine.specs.Read.{is_under, place_of, is_suspended, is_new}
-use Rattle.task_machine.specs.Moves.{behind_one, put_low, put_switch, ended, exited_if, freed_thread_handle, interest_settled, released, stopped, stopped_at}
+use Rattle.task_machine.specs.Moves.{promoted_unless, behind_one, put_low, put_switch, ended, exited_if, freed_thread_handle, interest_settled, released, stopped, stopped_at}
 use Rattle.task_rules.specs.Calls.{call_made}
 use Rattle.task_places.proofs.RunRows.{Runs, Stays, advanced_runs, assigned_runs, data_row_stays, how_far_all, may_stays, or_never_stays, or_trap_stays, quiet_runs, stopped_all, task_row_stays, trap_if_stays}
 use Rattle.task_machine.specs.Moves.{MemberGift, OwnGift}

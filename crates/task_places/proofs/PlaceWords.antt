@@ -47,7 +47,7 @@ abbrev pub Waits : Option ℕ → Core → Type 0
 Waits None s = Unit {0}
 Waits (Some m) s = (x : ℕ) × ((b : Bool) × (place_of m s ≡ Some (place.Waiting x b)))
 
-none_waits : (w : Option ℕ) (s : Core) → is_none w ≡ true → Waits w s
+pub none_waits : (w : Option ℕ) (s : Core) → is_none w ≡ true → Waits w s
 none_waits None s h = tt
 none_waits (Some m) s h = absurd (subst T (sym h) tt)
 
@@ -115,9 +115,9 @@ find_passes test (n ∷ ns) m h = go (test n) refl (find_passes test ns m) h
     go true e rest g = subst (λ (k : ℕ). test k ≡ true) (ap (λ (o : Option ℕ). unwrap_or o n) g) e
     go false e rest g = rest g
 
-blocked_at : (sub : Subtask) (o : Option Place) → option_map_or (is_blocked_on sub) o false ≡ true → (p : Place) × ((o ≡ Some p) × (is_wait p ≡ false))
+blocked_at : (sub : Subtask) (o : Option Place) → option_map_or (is_blocked_on sub) o false ≡ true → (p : Place) × ((o ≡ Some p) × ((is_free p ≡ true) × (is_wait p ≡ false)))
 blocked_at sub None h = absurd (subst T (sym h) tt)
-blocked_at sub (Some (place.Blocked c)) h = (place.Blocked c, (refl, refl))
+blocked_at sub (Some (place.Blocked c)) h = (place.Blocked c, (refl, (refl, refl)))
 blocked_at sub (Some (place.Waiting y b)) h = absurd (subst T (sym h) tt)
 blocked_at sub (Some place.New) h = absurd (subst T (sym h) tt)
 blocked_at sub (Some place.Running) h = absurd (subst T (sym h) tt)
@@ -127,13 +127,13 @@ blocked_at sub (Some (place.Behind c)) h = absurd (subst T (sym h) tt)
 blocked_at sub (Some (place.Held c)) h = absurd (subst T (sym h) tt)
 blocked_at sub (Some place.Suspended) h = absurd (subst T (sym h) tt)
 
-blocked_place : (sub : Subtask) (s : Core) (j : ℕ) → blocked_on sub s ≡ Some j → (p : Place) × ((place_of j s ≡ Some p) × (is_wait p ≡ false))
+pub blocked_place : (sub : Subtask) (s : Core) (j : ℕ) → blocked_on sub s ≡ Some j → (p : Place) × ((place_of j s ≡ Some p) × ((is_free p ≡ true) × (is_wait p ≡ false)))
 unfolding blocked_on
 blocked_place sub s j h = blocked_at sub (place_of j s) (find_passes (λ k. is_at k s (is_blocked_on sub)) (numbers s.threads) j h)
 
-waits_unblocked : (sub : Subtask) (w : Option ℕ) (s t : Core) → Untouched s t → (o : Option ℕ) → blocked_on sub s ≡ o → Waits w t → Waits w (unblocked o t)
+pub waits_unblocked : (sub : Subtask) (w : Option ℕ) (s t : Core) → Untouched s t → (o : Option ℕ) → blocked_on sub s ≡ o → Waits w t → Waits w (unblocked o t)
 waits_unblocked sub w s t u None e h = h
-waits_unblocked sub w s t u (Some j) e h = let p = blocked_place sub s j e in waits_high w j p.0 why.Resumption t (u.places j ∙ p.1.0) p.1.1 h
+waits_unblocked sub w s t u (Some j) e h = let p = blocked_place sub s j e in waits_high w j p.0 why.Resumption t (u.places j ∙ p.1.0) p.1.1.1 h
 
 held_no_wait : (o : Option Place) (v : Why) → option_and_then held_why o ≡ Some v → (p : Place) × ((o ≡ Some p) × (is_wait p ≡ false))
 held_no_wait None v h = absurd (no_both_of h)

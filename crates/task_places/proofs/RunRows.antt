@@ -1,6 +1,6 @@
 -- What is kept by the ops of a running thread: each thread has its place.
 use Rattle.std.proofs.Common.{T, ap, arith, cond, refl, subst, sym, ◌∙◌}
-use Rattle.std.specs.Prelude.{Bool, List, None, Option, Some, [], false, is_some, length, min, nat_le, nat_lt, not, suc, true, unwrap_or, zero, ℕ, ◌%◌, ◌*◌, ◌+◌, ◌-◌, ◌/◌, ◌==◌, ◌^◌, ◌∷◌, ◌≡◌}
+use Rattle.std.specs.Prelude.{Bool, option_map, option_and_then, ◌&&◌, List, None, Option, Some, [], false, is_some, length, min, nat_le, nat_lt, not, suc, true, unwrap_or, zero, ℕ, ◌%◌, ◌*◌, ◌+◌, ◌-◌, ◌/◌, ◌==◌, ◌^◌, ◌∷◌, ◌≡◌}
 use Rattle.task_machine.specs.Core.{Core}
 use Rattle.task_machine.specs.Labels.{Choice, exit_label, join_label, ret_label, task_cancel_label, wait_label}
 use Rattle.task_machine.specs.Moves.{Gift, NoGift, checked, gift, may_hand_on, passes_check, published}
@@ -77,7 +77,7 @@ use Rattle.std.specs.Option.{option_map_or}
 use Rattle.task_machine.specs.Maps.{get, numbers, remove}
 use Rattle.task_machine.specs.Write.{add_call, remove_thread, set_backpressure, set_do_not_enter, set_end, set_how_far, set_own_event, set_place}
 use Rattle.task_machine.specs.Read.{is_under, place_of, is_suspended, is_new}
-use Rattle.task_machine.specs.Moves.{behind_one, put_low, put_switch, ended, exited_if, freed_thread_handle, interest_settled, released, stopped, stopped_at}
+use Rattle.task_machine.specs.Moves.{promoted_unless, behind_one, put_low, put_switch, ended, exited_if, freed_thread_handle, interest_settled, released, stopped, stopped_at}
 use Rattle.task_rules.specs.Calls.{call_made}
 
 abbrev pub Runs : ℕ → Core → Type 0

@@ -1,4 +1,4 @@
-use Rattle.task_places.proofs.CallRows as lemmas
+use Rattle.task_places.proofs.TakeRows as lemmas
 use Rattle.task_places.proofs.places.steps_keep_places.Goals as goal
 
 pub returns : goal.returns

@@ -1,0 +1,284 @@
+-- What is kept where a start is withdrawn: each thread has its place.
+use Rattle.std.proofs.Common.{T, ap, arith, cond, refl, subst, sym, ◌∙◌}
+use Rattle.std.specs.Prelude.{Bool, option_map, option_and_then, ◌&&◌, List, None, Option, Some, [], false, is_some, length, min, nat_le, nat_lt, not, suc, true, unwrap_or, zero, ℕ, ◌%◌, ◌*◌, ◌+◌, ◌-◌, ◌/◌, ◌==◌, ◌^◌, ◌∷◌, ◌≡◌}
+use Rattle.task_machine.specs.Core.{Core}
+use Rattle.task_machine.specs.Labels.{Choice, exit_label, join_label, ret_label, task_cancel_label, wait_label}
+use Rattle.task_machine.specs.Moves.{Gift, NoGift, checked, gift, may_hand_on, passes_check, published}
+use Rattle.task_machine.specs.Read.{at_handle_limit, backpressure_of, call_instance, caller_of, cancel_was_delivered, event_of, fits, foot_of, goal_of, has_ended, has_member, has_waiters, how_far_of, instance_of, is_async_lifted, is_at, is_callback_yield, is_direct, is_explicit, is_joined, is_watched, join_of, kind_of, may_not_suspend, new_handle, new_thread_handle, own_event_of, phase_of, position_of, register_of, registers_of, result_of, saved_callee_of, saved_own_of, set_at, subtask_at, subtask_ended, task_of, thread_at, thread_group, thread_handle_of, undelivered_end, under_of, was_cancelled, was_started, word_of}
+use Rattle.task_machine.specs.Statuses.{packed, status_code}
+use Rattle.task_machine.specs.Write.{set_join}
+use Rattle.task_machine.specs.declared.component.Callee.{Callee}
+use Rattle.task_machine.specs.declared.component.Component.{Component}
+use Rattle.task_machine.specs.declared.component.ExportKind.{ExportKind}
+use Rattle.task_machine.specs.declared.component.HostDef.{HostDef}
+use Rattle.task_machine.specs.declared.component.Slot.{Slot}
+use Rattle.task_machine.specs.declared.label.Label.{Label}
+use Rattle.task_machine.specs.declared.label.ThreadLabel.{ThreadLabel}
+use Rattle.task_machine.specs.declared.op.CallOp.{CallOp}
+use Rattle.task_machine.specs.declared.op.DataOp.{DataOp}
+use Rattle.task_machine.specs.declared.op.SetOp.{SetOp}
+use Rattle.task_machine.specs.declared.op.TaskOp.{TaskOp}
+use Rattle.task_machine.specs.declared.op.ThreadOp.{ThreadOp}
+use Rattle.task_machine.specs.declared.records.Caller.{Caller}
+use Rattle.task_machine.specs.declared.records.Goal.{Goal}
+use Rattle.task_machine.specs.declared.records.HowFar.{HowFar}
+use Rattle.task_machine.specs.declared.records.Subtask.{Subtask}
+use Rattle.task_machine.specs.declared.records.Why.{Why}
+use Rattle.task_machine.specs.declared.trap.Trap.{Trap}
+use Rattle.task_machine.specs.declared.words.Given.{Given}
+use Rattle.task_machine.specs.declared.words.Status.{Status}
+use Rattle.task_rules.specs.Calls.{AtOnce, Failing, FirstPoll, Later, answered, blocked, call_answered, call_begins, call_blocked, call_host_polled, call_host_row, call_pending, call_returned, call_row, call_status, call_sync_begins, call_sync_host_polled, call_sync_host_row, call_sync_row, call_sync_status, called, called_back, enter_row, entered, first_poll, forbidding, host_answered, host_blocked, host_pending, host_ready, new_thread, next_thread, next_work, put_back, settle_group_of, status_found, suspending, with_handle, with_thread_handle, work_answered, work_deleted, work_group, work_value}
+use Rattle.task_rules.specs.Cancels.{Async, Mode, Sync, aborted_phase, after_cancel, asked, awaiting, behind_switch, blocked_code, by_end, cancel_delivered_to, cancel_found, cancel_guest, cancel_host, cancel_resumed, cancel_row, cancel_running, cancel_subtask, cancel_yield, drop_found, drop_row, dropped, end_taken, ended_row, host_cancelled, is_callback_wait, lets_go_on, not_ended_row, pauses, start_withdrawn, subtask_instance, subtask_row, subtask_settled, yield_cancelled}
+use Rattle.task_rules.specs.Data.{advanced, assigned, data_row, moved_to, skip_row, skipped, stored}
+use Rattle.task_rules.specs.Ends.{awaited, blocking_exit_row, blocking_left, cancelled, code_row, deactivated, direct_exit_row, direct_exit_to, direct_left, exit_row, exit_row_for, finished, found, has_event_for, held_out, implicit_exit_row, is_told, kind_end, kind_exit_row, leave_row, leaves_no_result, left, let_in, may_tell, own_or_none, passes_after_return, passes_after_stop, restored, result_given, returned, sync_exit_row, sync_left, told, wait_end, yielded}
+use Rattle.task_rules.specs.Progress.{Fails, Goes, Never, Ordered, Progress, Stops, Traps, may, or_never, or_trap, trap_if}
+use Rattle.task_rules.specs.Scripts.{export_kind, host_at, registers_for, script_of, slot_at, value_of, values_in}
+use Rattle.task_rules.specs.Sets.{begun_waiting, chosen, finds_nothing, given_code, given_handle, given_result, handed_out, join_done, join_row, join_to, joined, joins, may_wake_new, poll_row, poll_takes, received, received_woken, set_drop_found, set_drop_row, set_dropped, set_given, set_made, set_new_row, set_row, wait_begins, wait_goes_on, wait_row, wait_takes, waiting, wakes_joined}
+use Rattle.task_rules.specs.Takes.{held, started}
+use Rattle.task_rules.specs.Task.{cancel_done, dec_from, dec_row, inc_row, lowered, opened, raised, ret_bad_row, ret_done, ret_row, task_cancel_row, task_row}
+use Rattle.task_rules.specs.Threads.{resume_at, Halt, Suspension, Yielding, by_how_far, halt_row, halted, halted_checked, halted_promoting, halted_resuming, halting, halts, has_yielded, resume_later_found, resume_later_row, resume_why, resumed_later, then_promote, then_promote_found, then_promote_row, then_resume_found, then_resume_row, thread_index_row, thread_made, thread_new_label, thread_new_row, thread_row}
+use Rattle.task_machine.specs.declared.records.CallEnd.TheVariants as call_end
+use Rattle.task_machine.specs.declared.label.CallLabel.TheVariants as call_label
+use Rattle.task_machine.specs.declared.op.CallOp.TheVariants as call_op
+use Rattle.task_machine.specs.declared.records.Caller.TheVariants as caller
+use Rattle.task_machine.specs.declared.op.DataOp.TheVariants as data_op
+use Rattle.task_machine.specs.declared.records.Delivery.TheVariants as delivery
+use Rattle.task_machine.specs.declared.records.Goal.TheVariants as goal
+use Rattle.task_machine.specs.declared.records.HowFar.TheVariants as how_far
+use Rattle.task_machine.specs.declared.records.Join.TheVariants as join
+use Rattle.task_machine.specs.declared.component.ExportKind.TheVariants as kind
+use Rattle.task_machine.specs.declared.label.Label.TheVariants as label
+use Rattle.task_machine.specs.declared.words.OwnEvent.TheVariants as own
+use Rattle.task_machine.specs.declared.records.Place.TheVariants as place
+use Rattle.task_machine.specs.declared.records.Script.TheVariants as script
+use Rattle.task_machine.specs.declared.label.SetLabel.TheVariants as set_label
+use Rattle.task_machine.specs.declared.op.SetOp.TheVariants as set_op
+use Rattle.task_machine.specs.declared.component.Slot.TheVariants as slot
+use Rattle.task_machine.specs.declared.words.Status.TheVariants as status
+use Rattle.task_machine.specs.declared.records.Subtask.TheVariants as subtask
+use Rattle.task_machine.specs.declared.label.TaskLabel.TheVariants as task_label
+use Rattle.task_machine.specs.declared.op.TaskOp.TheVariants as task_op
+use Rattle.task_machine.specs.declared.label.ThreadLabel.TheVariants as thread_label
+use Rattle.task_machine.specs.declared.op.ThreadOp.TheVariants as thread_op
+use Rattle.task_machine.specs.declared.trap.Trap.TheVariants as trap
+use Rattle.task_machine.specs.declared.records.Why.TheVariants as why
+use Rattle.task_machine.specs.declared.records.WorkCaller.TheVariants as work_caller
+use Rattle.task_places.proofs.EntryLemmas.{Shorter, none_stands, one_place, one_stands, shorter_kept, shorter_loose, shorter_still, checked_place, checked_stand, promoted_unless_stand, ready_listed, no_both_of}
+use Rattle.task_places.proofs.PlaceWords.{All, Waits, added_here, added_stand, cancelled_stand, ended_all, free_moved, handed_on_stand, let_in_stand, passes_found, published_stand, pushed_stand, quiet_all, returned_stand, told_stand, wake_stand, waits_of, waits_quiet, waits_released, waits_told}
+use Rattle.task_rules.proofs.UntouchedLemmas.{untouched_after, set_register_untouched, set_position_untouched, set_how_far_untouched, set_script_untouched, set_thread_handle_untouched, set_saved_own_untouched, set_saved_callee_untouched, on_call_untouched, add_call_untouched, remove_call_untouched, on_work_untouched, count_work_untouched, add_work_untouched, remove_work_untouched, add_set_untouched, remove_set_untouched, on_instance_untouched, give_handle_untouched, free_handle_untouched, give_thread_handle_untouched, free_thread_handle_untouched, give_result_untouched, take_result_untouched, add_group_untouched, remove_group_untouched, set_trapped_untouched, set_started_untouched, set_starting_published_untouched, set_end_untouched, set_own_event_untouched, set_cancel_delivered_untouched, set_exited_untouched, set_uninteresting_untouched, set_result_untouched, set_course_untouched, set_phase_untouched, set_stage_untouched, set_cancelled_untouched, set_event_untouched, set_join_untouched, set_subtask_handle_untouched, set_backpressure_untouched, set_do_not_enter_untouched, set_do_not_suspend_untouched, set_word_untouched, taken_own_untouched, taken_untouched, group_settled_untouched, call_settled_untouched, interest_settled_untouched, freed_thread_handle_untouched, exited_if_untouched, moved_to_untouched, advanced_untouched, assigned_untouched, stored_untouched, skipped_untouched, result_given_untouched, restored_untouched, raised_untouched, lowered_untouched, set_made_untouched, set_dropped_untouched, set_given_untouched, received_untouched, suspending_untouched, put_back_untouched, called_back_untouched, answered_untouched, call_returned_untouched, with_handle_untouched, call_pending_untouched, call_answered_untouched, forbidding_untouched, with_thread_handle_untouched, host_ready_untouched, host_answered_untouched, settle_group_of_untouched, work_deleted_untouched, work_answered_untouched, end_taken_untouched, host_cancelled_untouched, asked_untouched, cancel_resumed_untouched, subtask_settled_untouched, dropped_untouched, pushed_untouched, host_result_untouched, enters_untouched, pended_untouched, main_aborted_untouched}
+use Rattle.task_rules.proofs.MoveLemmas.{all_of, is_parked, behind_all, is_busy, put_high_all, put_high_good, put_low_all, put_low_good, put_switch_good, released_good, set_place_all, stand_of}
+use Rattle.task_rules.proofs.StandLemmas.{Loose, gain, plus_none, plus_one, entries-less, loose_gone, by_number, Stand, place_kept, free_loose, is_eq_of, not_eq, place_written}
+use Rattle.task_rules.proofs.StopLemmas.{Untouched, quiet_stand, stopped_stand}
+use Rattle.task_rules.specs.Laws.{is_free}
+use Rattle.task_rules.specs.Places.{entries, is_at_high, is_at_low, is_at_switch, is_behind_of, says, switch_entries, times, HasPlace, one_if}
+use Rattle.task_machine.proofs.MapLemmas.{get-remove_same, get-remove_other}
+use Rattle.task_machine.specs.declared.records.Place.{Place}
+use Rattle.std.specs.Option.{option_map_or}
+use Rattle.task_machine.specs.Maps.{get, get-remove, numbers, remove}
+use Rattle.task_machine.specs.Write.{set_exited, set_high, set_low, set_switch, set_uninteresting, add_call, count_work, set_started, set_saved_callee, set_do_not_suspend, set_join, remove_thread, set_backpressure, set_do_not_enter, set_end, set_how_far, set_own_event, set_place}
+use Rattle.task_machine.specs.Read.{callers_of, is_entry_of, is_under, place_of, is_suspended, is_new}
+use Rattle.task_machine.specs.Moves.{has_entry, less, less_switch, unqueued, withdrawn, promoted_unless, behind_one, put_low, put_switch, ended, exited_if, freed_thread_handle, interest_settled, released, stopped, stopped_at}
+use Rattle.task_rules.specs.Calls.{call_made}
+use Rattle.task_places.proofs.RunRows.{Runs, Stays, advanced_runs, assigned_runs, data_row_stays, how_far_all, may_stays, or_never_stays, or_trap_stays, quiet_runs, stopped_all, task_row_stays, trap_if_stays}
+use Rattle.task_machine.specs.Moves.{MemberGift, OwnGift}
+use Rattle.task_rules.specs.Calls.{new_call}
+use Rattle.task_places.proofs.OpRows.{Unused, blocked_all, call_begins_stays, call_row_stays, call_sync_status_stays, called_all, made_place, made_stand, set_row_stays}
+use Rattle.task_machine.specs.declared.records.Entry.TheVariants as entry
+use Rattle.task_machine.specs.declared.records.WorkCaller.{WorkCaller}
+use Rattle.task_machine.specs.declared.words.Mark.{Mark}
+use Rattle.task_rules.specs.Calls.{new_work, work_queued}
+use Rattle.task_machine.specs.Read.{is_ready_to_resume, is_yielded}
+use Rattle.task_machine.specs.Write.{add_thread}
+use Rattle.task_places.proofs.CallRows.{after_cancel_stays, call_host_polled_stays, call_sync_host_row_stays, call_sync_row_stays, cancel_host_stays, cancel_running_stays, ended_row_stays, is_unbegun, thread_row_stays}
+use Rattle.task_machine.specs.declared.records.Entry.{Entry}
+use Rattle.task_machine.specs.declared.records.Thread.{Thread}
+use Rattle.task_machine.specs.declared.op.Op.{Op}
+use Rattle.task_machine.specs.declared.op.Op.TheVariants as op
+use Rattle.task_rules.specs.Step.{op_row}
+
+-- ---- The entry of a thread that may have one
+
+less_same : (m : ℕ) (es : List Entry) → has_entry m es ≡ false → less m es ≡ es
+less_same m [] h = refl
+less_same m (e ∷ es) h = go (is_entry_of m e) (less_same m es) h
+  where
+    go : (b : Bool) → (has_entry m es ≡ false → less m es ≡ es) → (b || has_entry m es) ≡ false → cond b es (e ∷ less m es) ≡ e ∷ es
+    go true rest x = absurd (subst T x tt)
+    go false rest x = ap (λ l. e ∷ l) (rest x)
+
+one_of : (k m : ℕ) (es : List Entry) → has_entry m es ≡ true → entries k (less m es) + gain k m 1 ≡ entries k es
+one_of k m es g = let e = entries-less k m es g in sym (plus_one k m (entries k (less m es)) (entries k es) (sym e))
+
+none_more : (k m x : ℕ) → x + gain k m 0 ≡ x
+none_more k m x = sym (plus_none k m x)
+
+less_switch_is : (k m : ℕ) (o : Option ℕ) → switch_entries k (less_switch m o) + gain k m (switch_entries m o) ≡ switch_entries k o
+less_switch_is k m None = none_more k m 0
+less_switch_is k m (Some j) = go (m == j) refl
+  where
+    go : (b : Bool) → (m == j) ≡ b → switch_entries k (cond b None (Some j)) + gain k m (one_if (m == j)) ≡ one_if (k == j)
+    go true e = ap (λ x. 0 + gain k m (one_if x)) e ∙ sym (plus_one k m 0 (one_if (k == j)) (ap (λ i. one_if (k == i)) (sym (is_eq_of m j e))))
+    go false e = ap (λ x. one_if (k == j) + gain k m (one_if x)) e ∙ none_more k m (one_if (k == j))
+
+abbrev unqueued_switch_of : ℕ → Core → Core
+unqueued_switch_of m s = set_switch (less_switch m s.queues.switch) (unqueued m s)
+
+gone_shorter : (m : ℕ) (s : Core) → HasPlace m s → (a : ℕ) × ((b : ℕ) × ((c : ℕ) × ((a + b + c ≡ says is_at_high (place_of m s) + says is_at_low (place_of m s) + says is_at_switch (place_of m s)) × Shorter m a b c s (unqueued_switch_of m s))))
+unfolding unqueued set_high set_low set_switch
+gone_shorter m s h = go (has_entry m s.queues.high) (has_entry m s.queues.low) refl refl
+  where
+    w : says is_at_switch (place_of m s) + says is_at_high (place_of m s) + says is_at_low (place_of m s) ≤ 1
+    w = (one_place (place_of m s)).one
+
+    go : (x y : Bool) → has_entry m s.queues.high ≡ x → has_entry m s.queues.low ≡ y → (a : ℕ) × ((b : ℕ) × ((c : ℕ) × ((a + b + c ≡ says is_at_high (place_of m s) + says is_at_low (place_of m s) + says is_at_switch (place_of m s)) × Shorter m a b c s (set_switch (less_switch m s.queues.switch) (cond x (set_high (less m s.queues.high) s) (set_low (less m s.queues.low) s))))))
+    go true y e f = (1, (0, (switch_entries m s.queues.switch, (let u = one_stands m s.queues.high e in let hh = h.high in let hl = h.low in let hs = h.switch in let v = w in omega (arith, u, hh, hl, hs, v), record { places = λ k. refl; callers = refl; high = λ k. one_of k m s.queues.high e; low = λ k. none_more k m _; switch = λ k. less_switch_is k m s.queues.switch }))))
+    go false true e f = (0, (1, (switch_entries m s.queues.switch, (let u = one_stands m s.queues.low f in let z = none_stands m s.queues.high e in let hh = h.high in let hl = h.low in let hs = h.switch in let v = w in omega (arith, u, z, hh, hl, hs, v), record { places = λ k. refl; callers = refl; high = λ k. none_more k m _; low = λ k. one_of k m s.queues.low f; switch = λ k. less_switch_is k m s.queues.switch }))))
+    go false false e f = (0, (0, (switch_entries m s.queues.switch, (let u = none_stands m s.queues.low f in let z = none_stands m s.queues.high e in let hh = h.high in let hl = h.low in let hs = h.switch in omega (arith, u, z, hh, hl, hs), record { places = λ k. refl; callers = refl; high = λ k. none_more k m _; low = λ k. ap (λ l. entries k l + gain k m 0) (less_same m s.queues.low f) ∙ none_more k m _; switch = λ k. less_switch_is k m s.queues.switch }))))
+
+-- ---- A loose thread is gone
+
+gone_place : (m : ℕ) (s : Core) → place_of m (remove_thread m s) ≡ None
+unfolding remove_thread
+gone_place m s = ap (option_map (λ (t : Thread). t.place)) (get-remove_same s.threads m)
+
+other_place : (k m : ℕ) (s : Core) → (k == m) ≡ false → place_of k (remove_thread m s) ≡ place_of k s
+unfolding remove_thread
+other_place k m s e = ap (option_map (λ (t : Thread). t.place)) (get-remove_other s.threads m k (not_eq k m e))
+
+fewer_callers : (k f m : ℕ) (s : Core) → times k (callers_of f (remove_thread m s)) ≤ times k (callers_of f s)
+unfolding remove_thread
+fewer_callers k f m s = subst (λ (c : ℕ). c ≤ times k (callers_of f s)) (sym (ap (λ (o : Option (List ℕ)). times k (unwrap_or o [])) (get-remove s.callers m f))) (fewer (f == m))
+  where
+    fewer : (b : Bool) → times k (unwrap_or (cond b None (get s.callers f)) []) ≤ times k (callers_of f s)
+    fewer true = omega arith
+    fewer false = omega arith
+
+le_both : {a b c : ℕ} → a ≤ b → b ≤ c → a ≤ c
+le_both x y = omega (arith, x, y)
+
+le_zero : {a b : ℕ} → a ≤ b → b ≡ 0 → a ≡ 0
+le_zero x y = omega (arith, x, y)
+
+pub removed_kept : (k m : ℕ) (s : Core) → (k == m) ≡ false → HasPlace k s → HasPlace k (remove_thread m s)
+unfolding remove_thread
+removed_kept k m s e h = record {
+  switch = h.switch ∙ ap (says is_at_switch) (sym (other_place k m s e));
+  high = h.high ∙ ap (says is_at_high) (sym (other_place k m s e));
+  low = h.low ∙ ap (says is_at_low) (sym (other_place k m s e));
+  callers = λ f. le_both (fewer_callers k f m s) (subst (λ (o : Option Place). times k (callers_of f s) ≤ says (is_behind_of f) o) (sym (other_place k m s e)) (h.callers f));
+}
+
+pub removed_still : (k m : ℕ) (s : Core) → Loose k s → Loose k (remove_thread m s)
+unfolding remove_thread
+removed_still k m s l = record { switch = l.switch; high = l.high; low = l.low; callers = λ f. le_zero (fewer_callers k f m s) (l.callers f) }
+
+pub removed_gone : (m : ℕ) (s : Core) → Loose m s → HasPlace m (remove_thread m s)
+removed_gone m s l = loose_gone m (remove_thread m s) (gone_place m s) (removed_still m m s l)
+
+-- ---- The withdrawal
+
+unbegun_free : (o : Option Place) → is_unbegun o ≡ true → (f : ℕ) → says (is_behind_of f) o ≡ 0
+unbegun_free None h f = refl
+unbegun_free (Some place.New) h f = refl
+unbegun_free (Some (place.Ready m w)) h f = refl
+unbegun_free (Some (place.Held w)) h f = refl
+unbegun_free (Some place.Running) h f = refl
+unbegun_free (Some (place.Under c)) h f = refl
+unbegun_free (Some (place.Behind c)) h f = absurd (subst T (sym h) tt)
+unbegun_free (Some (place.Waiting y b)) h f = refl
+unbegun_free (Some (place.Blocked c)) h f = refl
+unbegun_free (Some place.Suspended) h f = refl
+
+unbegun_apart : (n k : ℕ) (s : Core) → is_unbegun (place_of k s) ≡ true → Runs n s → (k == n) ≡ false
+unbegun_apart n k s h r = go (k == n) refl
+  where
+    go : (b : Bool) → (k == n) ≡ b → (k == n) ≡ false
+    go false e = e
+    go true e = absurd (subst T (sym (ap is_unbegun (ap (λ (j : ℕ). place_of j s) (is_eq_of k n e) ∙ r.here)) ∙ h) tt)
+
+withdrawn_runs : (n k : ℕ) (s : Core) → is_unbegun (place_of k s) ≡ true → Runs n s → Runs n (withdrawn k s)
+unfolding withdrawn
+withdrawn_runs n k s h r =
+    let a = unqueued_switch_of k s in
+    let b = remove_thread k a in
+    let c = set_end k call_end.StartCancelled b in
+    let d = set_exited k c in
+    let u = untouched_after (set_end_untouched k call_end.StartCancelled b) (untouched_after (set_exited_untouched k c) (set_uninteresting_untouched k d)) in
+    quiet_runs n b _ u sb
+  where
+    apart : (k == n) ≡ false
+    apart = unbegun_apart n k s h r
+
+    p : HasPlace k s
+    p = r.placed k (ap (λ b. one_if b + 0) apart)
+
+    g : (a : ℕ) × ((b : ℕ) × ((c : ℕ) × ((a + b + c ≡ says is_at_high (place_of k s) + says is_at_low (place_of k s) + says is_at_switch (place_of k s)) × Shorter k a b c s (unqueued_switch_of k s))))
+    g = gone_shorter k s p
+
+    w : Shorter k g.0 g.1.0 g.1.1.0 s (unqueued_switch_of k s)
+    w = g.1.1.1.1
+
+    flip : (n == k) ≡ false
+    flip = go (n == k) refl
+      where
+        go : (b : Bool) → (n == k) ≡ b → (n == k) ≡ false
+        go false e = e
+        go true e = absurd (not_eq k n apart (sym (is_eq_of n k e)))
+
+    no_one : ◌≡◌ {A = ℕ} 0 1 → ⊥
+    no_one x = omega (arith, x)
+
+    sb : Runs n (remove_thread k (unqueued_switch_of k s))
+    sb = record {
+      here = other_place n k _ flip ∙ (w.places n ∙ r.here);
+      once = r.once;
+      loose = λ j e. removed_still j k _ (shorter_still j k g.0 g.1.0 g.1.1.0 s _ w (r.loose j e));
+      there = λ j e. absurd (no_one e);
+      placed = λ j e. by_number j k (HasPlace j (remove_thread k (unqueued_switch_of k s)))
+        (λ same. subst (λ (i : ℕ). HasPlace i (remove_thread k (unqueued_switch_of k s))) (sym same) (removed_gone k _ (shorter_loose k g.0 g.1.0 g.1.1.0 s _ g.1.1.1.0 (unbegun_free (place_of k s) h) w p)))
+        (λ other. removed_kept j k _ other (shorter_kept j k g.0 g.1.0 g.1.1.0 s _ other w (r.placed j e)));
+    }
+
+-- a call that has a handle, and whose start hasn't run, has a thread that waits for its start
+abbrev pub Withdrawable : Core → Type 0
+Withdrawable s = (i h k : ℕ) → subtask_at i h s ≡ Some (subtask.Guest k) → has_ended k s ≡ false → was_started k s ≡ false → is_unbegun (place_of k s) ≡ true
+
+start_withdrawn_runs : (n r k : ℕ) (s : Core) → is_unbegun (place_of k s) ≡ true → Runs n s → Runs n (start_withdrawn n r k s)
+unfolding start_withdrawn
+start_withdrawn_runs n r k s h q = quiet_runs n (withdrawn k s) _ (answered_untouched n r 3 (withdrawn k s)) (withdrawn_runs n k s h q)
+
+cancel_guest_stays : (mode : Mode) (n r k : ℕ) (s : Core) → Runs n s → (a b : Bool) → has_ended k s ≡ a → was_started k s ≡ b → (has_ended k s ≡ false → was_started k s ≡ false → is_unbegun (place_of k s) ≡ true) → Stays (cancel_guest mode n r k s a b)
+cancel_guest_stays mode n r k s q true b e f h = ended_row_stays mode n r (subtask.Guest k) s q (undelivered_end (event_of (subtask.Guest k) s))
+cancel_guest_stays mode n r k s q false true e f h = cancel_running_stays mode n r k s q (is_at k s is_callback_wait) refl
+cancel_guest_stays mode n r k s q false false e f h = start_withdrawn_runs n r k s (h e f) q
+
+cancel_subtask_stays : (mode : Mode) (n r : ℕ) (s : Core) → Withdrawable s → Runs n s → (i h : ℕ) (sub : Subtask) → subtask_at i h s ≡ Some sub → Stays (cancel_subtask mode n r s sub)
+cancel_subtask_stays mode n r s may_be q i h (subtask.Guest k) e = cancel_guest_stays mode n r k s q (has_ended k s) (was_started k s) refl refl (may_be i h k e)
+cancel_subtask_stays mode n r s may_be q i h (subtask.Host j) e = cancel_host_stays mode n r j s q
+
+cancel_begins_stays : (mode : Mode) (n r h : ℕ) (s : Core) → Withdrawable s → Runs n s → Stays (or_trap (subtask_at (instance_of n s) h s) trap.BadHandle (cancel_found mode n r s))
+cancel_begins_stays mode n r h s may_be q = or_trap_stays (subtask_at (instance_of n s) h s) trap.BadHandle (cancel_found mode n r s) (λ sub e. trap_if_stays (is_joined (join_of sub s)) trap.WaitableSyncAndAsync (cancel_subtask mode n r s sub) (λ f. cancel_subtask_stays mode n r s may_be q (instance_of n s) h sub e))
+
+cancel_row_stays : (mode : Mode) (n r h : ℕ) (s : Core) → Withdrawable s → Runs n s → (f : HowFar) → Stays (cancel_row mode n r h s f)
+cancel_row_stays mode n r h s may_be q (how_far.Cancels sub) = after_cancel_stays mode n r sub (cancel_resumed n sub s) (quiet_runs n s _ (cancel_resumed_untouched n sub s) q)
+cancel_row_stays mode n r h s may_be q (how_far.AwaitsEnd sub) = ended_row_stays mode n r sub (set_join sub join.Nowhere s) (quiet_runs n s _ (set_join_untouched sub join.Nowhere s) q) (undelivered_end (event_of sub (set_join sub join.Nowhere s)))
+cancel_row_stays mode n r h s may_be q _ = cancel_begins_stays mode n r h s may_be q
+
+drop_found_stays : (n h : ℕ) (s : Core) → Runs n s → (sub : Subtask) → Stays (drop_found n h s sub)
+drop_found_stays n h s q sub = trap_if_stays (is_watched (join_of sub s)) trap.WaitableSyncAndAsync _ (λ e. trap_if_stays (not (subtask_ended sub s)) trap.SubtaskDropNotResolved _ (λ f. trap_if_stays (is_some (event_of sub s)) trap.SubtaskDropNotResolved (Goes (label.Call (call_label.Drop n)) (dropped n h sub s) n) (λ g. quiet_runs n s _ (dropped_untouched n h sub s) q)))
+
+subtask_row_stays : (c : Component) (n : ℕ) (s : Core) → Unused s → Withdrawable s → Runs n s → (o : CallOp) → Stays (subtask_row c n s o)
+subtask_row_stays c n s none may_be q (call_op.Call r to e xs) = call_row_stays c n r to e (values_in (registers_of n s) xs) s none q (how_far_of n s)
+subtask_row_stays c n s none may_be q (call_op.CallSync r e xs) = call_sync_row_stays c n r e (values_in (registers_of n s) xs) s none q (how_far_of n s)
+subtask_row_stays c n s none may_be q (call_op.CallHost r to h) = call_host_polled_stays n r to s q (first_poll (host_at c h))
+subtask_row_stays c n s none may_be q (call_op.CallSyncHost r h) = call_sync_host_row_stays c n r h s q (how_far_of n s)
+subtask_row_stays c n s none may_be q (call_op.Cancel r x) = cancel_row_stays Async n r (value_of n s x) s may_be q (how_far_of n s)
+subtask_row_stays c n s none may_be q (call_op.CancelSync r x) = cancel_row_stays Sync n r (value_of n s x) s may_be q (how_far_of n s)
+subtask_row_stays c n s none may_be q (call_op.Drop x) = or_trap_stays (subtask_at (instance_of n s) (value_of n s x) s) trap.BadHandle (drop_found n (value_of n s x) s) (λ sub e. drop_found_stays n (value_of n s x) s q sub)
+
+pub op_row_stays : (c : Component) (n : ℕ) (s : Core) → Unused s → Withdrawable s → Runs n s → (ch : Choice) (o : Op) → Stays (op_row c n s ch o)
+op_row_stays c n s none may_be q ch (op.Data o) = data_row_stays c n s q o
+op_row_stays c n s none may_be q ch (op.Task o) = task_row_stays n s q ch o
+op_row_stays c n s none may_be q ch (op.Set o) = set_row_stays n s q ch o
+op_row_stays c n s none may_be q ch (op.Call o) = subtask_row_stays c n s none may_be q o
+op_row_stays c n s none may_be q ch (op.Thread o) = thread_row_stays c n s none q o
