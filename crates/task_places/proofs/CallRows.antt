@@ -179,18 +179,6 @@ call_sync_host_row_stays c n r h s q _ = call_sync_host_polled_stays n r s q (fi
 
 -- ---- Cancels
 
--- a call whose start hasn't run
-abbrev pub unstarted : ℕ → Core → Bool
-unstarted k s = not (was_started k s)
-
--- the thread of a call whose start hasn't run is gone, or waits for its start
-abbrev pub is_unbegun : Option Place → Bool
-is_unbegun None = true
-is_unbegun (Some place.New) = true
-is_unbegun (Some (place.Ready m w)) = true
-is_unbegun (Some (place.Held w)) = true
-is_unbegun _ = false
-
 pub ended_row_stays : (mode : Mode) (n r : ℕ) (sub : Subtask) (s : Core) → Runs n s → (o : Option Status) → Stays (ended_row mode n r sub s o)
 ended_row_stays mode n r sub s q None = tt
 ended_row_stays mode n r sub s q (Some e) = quiet_runs n s _ (end_taken_untouched n r sub e s) q

@@ -5,3 +5,4 @@ pub mod OpRows
 pub mod CallRows
 pub mod WithdrawRows
 pub mod TakeRows
+pub mod PlaceSteps

@@ -74,6 +74,7 @@ use Rattle.task_rules.specs.Places.{HasPlace, one_if}
 use Rattle.task_machine.proofs.MapLemmas.{get-remove_other}
 use Rattle.task_machine.specs.declared.records.Place.{Place}
 use Rattle.std.specs.Option.{option_map_or}
+use Rattle.task_machine.specs.declared.records.Thread.{Thread}
 use Rattle.task_machine.specs.Maps.{get, numbers, remove}
 use Rattle.task_machine.specs.Write.{add_call, remove_thread, set_backpressure, set_do_not_enter, set_end, set_how_far, set_own_event, set_place}
 use Rattle.task_machine.specs.Read.{is_under, place_of, is_suspended, is_new}
@@ -227,7 +228,7 @@ under_at n (Some (place.Blocked c)) h = absurd (subst T (sym h) tt)
 under_at n (Some (place.Held c)) h = absurd (subst T (sym h) tt)
 under_at n (Some place.Suspended) h = absurd (subst T (sym h) tt)
 
-under_place : (n m : ℕ) (s : Core) → under_of n s ≡ Some m → place_of m s ≡ Some (place.Under n)
+pub under_place : (n m : ℕ) (s : Core) → under_of n s ≡ Some m → place_of m s ≡ Some (place.Under n)
 unfolding under_of
 under_place n m s h = under_at n (place_of m s) (passes_found (λ k. is_at k s (is_under n)) (numbers s.threads) m h)
 

@@ -1,6 +1,6 @@
 -- What is kept by takings, by works and by main: each thread has its place.
 use Rattle.std.proofs.Common.{T, ap, arith, cond, refl, subst, sym, ◌∙◌}
-use Rattle.std.specs.Prelude.{Bool, List, None, Option, Some, [], false, is_some, length, min, nat_le, nat_lt, not, option_and_then, option_map, suc, true, unwrap_or, zero, ℕ, ◌%◌, ◌&&◌, ◌*◌, ◌+◌, ◌-◌, ◌/◌, ◌==◌, ◌^◌, ◌∷◌, ◌≡◌}
+use Rattle.std.specs.Prelude.{is_none, Bool, List, None, Option, Some, [], false, if◌then◌else◌, is_some, length, min, nat_le, nat_lt, not, option_and_then, option_map, suc, true, unwrap_or, zero, ℕ, ◌%◌, ◌&&◌, ◌*◌, ◌+◌, ◌-◌, ◌/◌, ◌==◌, ◌^◌, ◌||◌, ◌∷◌, ◌≡◌, ◌≤◌}
 use Rattle.task_machine.specs.Core.{Core}
 use Rattle.task_machine.specs.Labels.{Choice, event_label, exit_label, held_label, host_label, join_label, ret_label, take_label, task_cancel_label, wait_label}
 use Rattle.task_machine.specs.Moves.{Gift, MemberGift, NoGift, OwnGift, behind_one, checked, ended, exited_if, freed_thread_handle, gift, given_for, has_entry, interest_settled, is_callback_waiter, less, less_switch, may_hand_on, may_publish, own_gift_only, passes_check, promoted_unless, published, put_high, put_low, put_switch, released, stopped, stopped_at, taken, unblocked, unqueued, wake, wake_joined, waken_by, withdrawn}
@@ -53,7 +53,7 @@ use Rattle.task_places.proofs.RunRows.{Runs, Stays, advanced_runs, assigned_runs
 use Rattle.task_places.proofs.OpRows.{Unused, blocked_all, call_begins_stays, call_row_stays, call_sync_status_stays, called_all, made_place, made_stand, set_row_stays}
 use Rattle.task_machine.specs.declared.records.WorkCaller.{WorkCaller}
 use Rattle.task_machine.specs.declared.words.Mark.{Mark}
-use Rattle.task_places.proofs.CallRows.{after_cancel_stays, call_host_polled_stays, call_sync_host_row_stays, call_sync_row_stays, cancel_host_stays, cancel_running_stays, ended_row_stays, is_unbegun, thread_row_stays}
+use Rattle.task_places.proofs.CallRows.{after_cancel_stays, call_host_polled_stays, call_sync_host_row_stays, call_sync_row_stays, cancel_host_stays, cancel_running_stays, ended_row_stays, thread_row_stays}
 use Rattle.task_machine.specs.declared.records.Entry.{Entry}
 use Rattle.task_machine.specs.declared.records.Thread.{Thread}
 use Rattle.task_machine.specs.declared.op.Op.{Op}
@@ -61,7 +61,7 @@ use Rattle.task_rules.specs.Step.{op_row, struck}
 use Rattle.task_machine.specs.declared.records.Delivery.{Delivery}
 use Rattle.task_rules.specs.MainOps.{main_aborted, main_spawned, main_started}
 use Rattle.task_rules.specs.Works.{course_for, followed, pended, work_ended}
-use Rattle.task_places.proofs.WithdrawRows.{Withdrawable, op_row_stays, removed_gone, removed_kept, removed_still}
+use Rattle.task_places.proofs.WithdrawRows.{op_row_stays, removed_gone, removed_kept, removed_still}
 use Rattle.task_machine.specs.declared.records.Join.{Join}
 use Rattle.task_machine.specs.declared.records.CallEnd.TheVariants as call_end
 use Rattle.task_machine.specs.declared.label.CallLabel.TheVariants as call_label
@@ -98,7 +98,7 @@ use Rattle.task_machine.specs.declared.records.Stage.TheVariants as stage
 
 -- ---- Moves where nothing runs
 
-high_all : (m : ℕ) (w : Why) (p : Place) (s : Core) → place_of m s ≡ Some p → is_free p ≡ true → All s → All (put_high m w s)
+pub high_all : (m : ℕ) (w : Why) (p : Place) (s : Core) → place_of m s ≡ Some p → is_free p ≡ true → All s → All (put_high m w s)
 high_all m w p s at free all k = adds_all m p (place.Ready mark.High w) s (put_high m w s) (put_high_adds m w p s at) (stand_of m p s at free all) k
 
 waken_all : (x : ℕ) (w : Option ℕ) (s : Core) → Waits w s → All s → All (wake x w s)
@@ -115,7 +115,7 @@ wake_joined_all (join.Set x) w s h all = waken_all x w s h all
 wake_joined_all join.Nowhere w s h all = all
 wake_joined_all (join.Watched m) w s h all = all
 
-unblocked_all : (sub : Subtask) (s t : Core) → Untouched s t → (o : Option ℕ) → blocked_on sub s ≡ o → All t → All (unblocked o t)
+pub unblocked_all : (sub : Subtask) (s t : Core) → Untouched s t → (o : Option ℕ) → blocked_on sub s ≡ o → All t → All (unblocked o t)
 unblocked_all sub s t u None e all = all
 unblocked_all sub s t u (Some j) e all = let p = blocked_place sub s j e in high_all j why.Resumption p.0 t (u.places j ∙ p.1.0) p.1.1.0 all
 
@@ -126,7 +126,7 @@ published_all sub e w s h all =
     let u : Untouched s t = set_event_untouched sub (Some e) s in
     wake_joined_all (join_of sub s) w (unblocked (blocked_on sub s) t) (waits_unblocked sub w s t u (blocked_on sub s) refl (waits_quiet w s t u h)) (unblocked_all sub s t u (blocked_on sub s) refl (quiet_all s t u all))
 
-host_done_all : (i : ℕ) (w : Option ℕ) (s : Core) → may_publish (subtask.Host i) w s ≡ true → All s → All (host_done i w s)
+pub host_done_all : (i : ℕ) (w : Option ℕ) (s : Core) → may_publish (subtask.Host i) w s ≡ true → All s → All (host_done i w s)
 unfolding host_done
 host_done_all i w s h all =
     let v = course_value (course_of i s) in
@@ -152,7 +152,7 @@ front_of None (x ∷ hs) ls r h = front_is None (x ∷ hs) ls (mark.High, x) r h
 front_of None [] (x ∷ ls) r h = front_is None [] (x ∷ ls) (mark.Low, x) r h refl
 front_of None [] [] r h = no_both_of h
 
-next_front : (s : Core) (r : Mark × Entry) → next_entry s ≡ Some r → Front s.queues.switch s.queues.high s.queues.low r.0 r.1
+pub next_front : (s : Core) (r : Mark × Entry) → next_entry s ≡ Some r → Front s.queues.switch s.queues.high s.queues.low r.0 r.1
 unfolding next_entry
 next_front s r h = front_of s.queues.switch s.queues.high s.queues.low r h
 
@@ -165,10 +165,13 @@ first_gone k n es e = sym (plus_one k n (entries k (rest_of es)) (entries k es) 
     swapped : (a b : ℕ) → a + b ≡ b + a
     swapped a b = omega arith
 
-switch_gone : (k n : ℕ) (o : Option ℕ) → o ≡ Some n → 0 + gain k n 1 ≡ switch_entries k o
-switch_gone k n o e = sym (plus_one k n 0 (switch_entries k o) (ap (switch_entries k) e))
+zero_plus : (x : ℕ) → x ≡ 0 + x
+zero_plus x = omega arith
 
-entry_number_of : Entry → ℕ
+switch_gone : (k n : ℕ) (o : Option ℕ) → o ≡ Some n → 0 + gain k n 1 ≡ switch_entries k o
+switch_gone k n o e = sym (plus_one k n 0 (switch_entries k o) (ap (switch_entries k) e ∙ zero_plus (one_if (k == n))))
+
+abbrev entry_number_of : Entry → ℕ
 entry_number_of (entry.Thread n) = n
 entry_number_of _ = 0
 
@@ -179,7 +182,7 @@ popped_shorter mark.High n s f = (1, (0, (0, (omega arith, record { places = λ 
 popped_shorter mark.Low n s f = (0, (1, (0, (omega arith, record { places = λ k. refl; callers = refl; high = λ k. none_more k n _; low = λ k. first_gone k n s.queues.low f; switch = λ k. none_more k n _ }))))
 
 -- the taken thread is loose, and all others have their places
-popped_stand : (m : Mark) (n : ℕ) (p : Place) (s : Core) → Front s.queues.switch s.queues.high s.queues.low m (entry.Thread n) → place_of n (popped m s) ≡ Some p → All s → Stand n p [] (popped m s)
+pub popped_stand : (m : Mark) (n : ℕ) (p : Place) (s : Core) → Front s.queues.switch s.queues.high s.queues.low m (entry.Thread n) → place_of n (popped m s) ≡ Some p → All s → Stand n p [] (popped m s)
 popped_stand m n p s f at all = record {
   here = at;
   once = λ k. at_most_one (k == n);
@@ -230,7 +233,7 @@ popped_stand m n p s f at all = record {
 rest_entries : (k : ℕ) (e : Entry) (es : List Entry) → is_entry_of k e ≡ false → es ≡ e ∷ rest_of es → entries k (rest_of es) ≡ entries k es
 rest_entries k e es isnt is = let x = ap (entries k) is in let y = ap one_if isnt in omega (arith, x, y)
 
-popped_all : (m : Mark) (e : Entry) (s : Core) → ((k : ℕ) → is_entry_of k e ≡ false) → Front s.queues.switch s.queues.high s.queues.low m e → All s → All (popped m s)
+pub popped_all : (m : Mark) (e : Entry) (s : Core) → ((k : ℕ) → is_entry_of k e ≡ false) → Front s.queues.switch s.queues.high s.queues.low m e → All s → All (popped m s)
 unfolding popped set_switch set_high set_low
 popped_all mark.Switch e s isnt f all k = absurd (subst T (sym (sym (isnt f.0) ∙ (ap (is_entry_of f.0) f.1.1 ∙ eq_refl f.0))) tt)
 popped_all mark.High e s isnt f all k = let h = all k in record { switch = h.switch; high = rest_entries k e s.queues.high (isnt k) f ∙ h.high; low = h.low; callers = h.callers }

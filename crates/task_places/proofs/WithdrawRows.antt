@@ -1,6 +1,6 @@
 -- What is kept where a start is withdrawn: each thread has its place.
 use Rattle.std.proofs.Common.{T, ap, arith, cond, refl, subst, sym, ◌∙◌}
-use Rattle.std.specs.Prelude.{Bool, option_map, option_and_then, ◌&&◌, List, None, Option, Some, [], false, is_some, length, min, nat_le, nat_lt, not, suc, true, unwrap_or, zero, ℕ, ◌%◌, ◌*◌, ◌+◌, ◌-◌, ◌/◌, ◌==◌, ◌^◌, ◌∷◌, ◌≡◌}
+use Rattle.std.specs.Prelude.{Bool, if◌then◌else◌, ◌||◌, ◌≤◌, option_map, option_and_then, ◌&&◌, List, None, Option, Some, [], false, is_some, length, min, nat_le, nat_lt, not, suc, true, unwrap_or, zero, ℕ, ◌%◌, ◌*◌, ◌+◌, ◌-◌, ◌/◌, ◌==◌, ◌^◌, ◌∷◌, ◌≡◌}
 use Rattle.task_machine.specs.Core.{Core}
 use Rattle.task_machine.specs.Labels.{Choice, exit_label, join_label, ret_label, task_cancel_label, wait_label}
 use Rattle.task_machine.specs.Moves.{Gift, NoGift, checked, gift, may_hand_on, passes_check, published}
@@ -89,10 +89,11 @@ use Rattle.task_machine.specs.declared.words.Mark.{Mark}
 use Rattle.task_rules.specs.Calls.{new_work, work_queued}
 use Rattle.task_machine.specs.Read.{is_ready_to_resume, is_yielded}
 use Rattle.task_machine.specs.Write.{add_thread}
-use Rattle.task_places.proofs.CallRows.{after_cancel_stays, call_host_polled_stays, call_sync_host_row_stays, call_sync_row_stays, cancel_host_stays, cancel_running_stays, ended_row_stays, is_unbegun, thread_row_stays}
+use Rattle.task_places.proofs.CallRows.{after_cancel_stays, call_host_polled_stays, call_sync_host_row_stays, call_sync_row_stays, cancel_host_stays, cancel_running_stays, ended_row_stays, thread_row_stays}
 use Rattle.task_machine.specs.declared.records.Entry.{Entry}
 use Rattle.task_machine.specs.declared.records.Thread.{Thread}
 use Rattle.task_machine.specs.declared.op.Op.{Op}
+use Rattle.task_places.specs.Kept.{Withdrawable, is_unbegun}
 use Rattle.task_machine.specs.declared.op.Op.TheVariants as op
 use Rattle.task_rules.specs.Step.{op_row}
 
@@ -112,12 +113,15 @@ one_of k m es g = let e = entries-less k m es g in sym (plus_one k m (entries k 
 none_more : (k m x : ℕ) → x + gain k m 0 ≡ x
 none_more k m x = sym (plus_none k m x)
 
+zero_plus : (x : ℕ) → x ≡ 0 + x
+zero_plus x = omega arith
+
 less_switch_is : (k m : ℕ) (o : Option ℕ) → switch_entries k (less_switch m o) + gain k m (switch_entries m o) ≡ switch_entries k o
 less_switch_is k m None = none_more k m 0
 less_switch_is k m (Some j) = go (m == j) refl
   where
     go : (b : Bool) → (m == j) ≡ b → switch_entries k (cond b None (Some j)) + gain k m (one_if (m == j)) ≡ one_if (k == j)
-    go true e = ap (λ x. 0 + gain k m (one_if x)) e ∙ sym (plus_one k m 0 (one_if (k == j)) (ap (λ i. one_if (k == i)) (sym (is_eq_of m j e))))
+    go true e = ap (λ x. 0 + gain k m (one_if x)) e ∙ sym (plus_one k m 0 (one_if (k == j)) (ap (λ i. one_if (k == i)) (sym (is_eq_of m j e)) ∙ zero_plus (one_if (k == m))))
     go false e = ap (λ x. one_if (k == j) + gain k m (one_if x)) e ∙ none_more k m (one_if (k == j))
 
 abbrev unqueued_switch_of : ℕ → Core → Core
@@ -137,11 +141,11 @@ gone_shorter m s h = go (has_entry m s.queues.high) (has_entry m s.queues.low) r
 
 -- ---- A loose thread is gone
 
-gone_place : (m : ℕ) (s : Core) → place_of m (remove_thread m s) ≡ None
+pub gone_place : (m : ℕ) (s : Core) → place_of m (remove_thread m s) ≡ None
 unfolding remove_thread
 gone_place m s = ap (option_map (λ (t : Thread). t.place)) (get-remove_same s.threads m)
 
-other_place : (k m : ℕ) (s : Core) → (k == m) ≡ false → place_of k (remove_thread m s) ≡ place_of k s
+pub other_place : (k m : ℕ) (s : Core) → (k == m) ≡ false → place_of k (remove_thread m s) ≡ place_of k s
 unfolding remove_thread
 other_place k m s e = ap (option_map (λ (t : Thread). t.place)) (get-remove_other s.threads m k (not_eq k m e))
 
@@ -194,7 +198,7 @@ unbegun_apart n k s h r = go (k == n) refl
   where
     go : (b : Bool) → (k == n) ≡ b → (k == n) ≡ false
     go false e = e
-    go true e = absurd (subst T (sym (ap is_unbegun (ap (λ (j : ℕ). place_of j s) (is_eq_of k n e) ∙ r.here)) ∙ h) tt)
+    go true e = absurd (subst T (sym h ∙ ap is_unbegun (ap (λ (j : ℕ). place_of j s) (is_eq_of k n e) ∙ r.here)) tt)
 
 withdrawn_runs : (n k : ℕ) (s : Core) → is_unbegun (place_of k s) ≡ true → Runs n s → Runs n (withdrawn k s)
 unfolding withdrawn
@@ -238,10 +242,6 @@ withdrawn_runs n k s h r =
         (λ same. subst (λ (i : ℕ). HasPlace i (remove_thread k (unqueued_switch_of k s))) (sym same) (removed_gone k _ (shorter_loose k g.0 g.1.0 g.1.1.0 s _ g.1.1.1.0 (unbegun_free (place_of k s) h) w p)))
         (λ other. removed_kept j k _ other (shorter_kept j k g.0 g.1.0 g.1.1.0 s _ other w (r.placed j e)));
     }
-
--- a call that has a handle, and whose start hasn't run, has a thread that waits for its start
-abbrev pub Withdrawable : Core → Type 0
-Withdrawable s = (i h k : ℕ) → subtask_at i h s ≡ Some (subtask.Guest k) → has_ended k s ≡ false → was_started k s ≡ false → is_unbegun (place_of k s) ≡ true
 
 start_withdrawn_runs : (n r k : ℕ) (s : Core) → is_unbegun (place_of k s) ≡ true → Runs n s → Runs n (start_withdrawn n r k s)
 unfolding start_withdrawn

@@ -1,5 +1,5 @@
-use Rattle.task_places.proofs.TakeRows as lemmas
+use Rattle.task_places.proofs.PlaceSteps as lemmas
 use Rattle.task_places.proofs.places.steps_keep_places.Goals as goal
 
 pub returns : goal.returns
-returns c = ?
+returns c = lemmas.steps_keep_places
