@@ -250,8 +250,8 @@ work_ended_all i v s all =
 
 polled_lands : (s : State) → All s.core → (i : ℕ) (p : Poll) (l : Label) (t : State) → Polled s i p l t → Lands t.core t.turn
 unfolding at_turn
-polled_lands s all i (StillPends host) l t is = lands_is t _ is.1 (lands_still _ _ (futures_still i _ (next_polled i (pended i host s.core))) (quiet_all s.core _ (pended_untouched i host s.core) all))
-polled_lands s all i (Ends v) l t is = lands_is t _ is.1 (lands_still _ _ (take_still true (nothing_stands (work_ended i v s.core))) (work_ended_all i v s.core all))
+polled_lands s all i (StillPends host) l t is = lands_is t _ is.1 (lands_still (pended i host s.core) (settled_futures i (pended i host s.core) (next_polled i (pended i host s.core))) (futures_still i (pended i host s.core) (next_polled i (pended i host s.core))) (quiet_all s.core _ (pended_untouched i host s.core) all))
+polled_lands s all i (Ends v) l t is = lands_is t _ is.1 (lands_still (work_ended i v s.core) (settled_take true (nothing_stands (work_ended i v s.core))) (take_still true (nothing_stands (work_ended i v s.core))) (work_ended_all i v s.core all))
 polled_lands s all i FailsNow l t is = lands_is t _ is.1 (lands_still _ turn.Over refl (quiet_all s.core _ (set_trapped_untouched s.core) all))
 
 futures_land : (s : State) → All s.core → (o : Option ℕ) (l : Label) (t : State) → FuturesStep s o l t → Lands t.core t.turn
@@ -316,7 +316,7 @@ main_row_keeps c k s none all (Answer v) = tt
 
 pends_land : (s : State) → All s.core → (t : State) → t ≡ goes_to s s.core (turn.Futures 0) → Lands t.core t.turn
 unfolding at_turn
-pends_land s all t is = lands_is t _ is (lands_still s.core _ (futures_still 0 s.core (next_polled 0 s.core)) all)
+pends_land s all t is = lands_is t _ is (lands_still s.core (settled_futures 0 s.core (next_polled 0 s.core)) (futures_still 0 s.core (next_polled 0 s.core)) all)
 
 main_progresses_land : (s : State) → All s.core → (p : MainPlace) (o : MainOp) (r : MainProgress) (l : Label) (t : State) → KeepsMain r → MainProgresses s p o r l t → Lands t.core t.turn
 unfolding at_turn
@@ -389,6 +389,6 @@ next_reached x s l t r step = record { scripts = r.scripts; instances = r.instan
 
 pub steps_keep_places : StepsKeepPlaces
 unfolding Step
-steps_keep_places x s l t r h may_be step =
+steps_keep_places x s l t r may_be h step =
     let k = turn_step_lands x s (unused s.core h.placed.numbered) may_be h.placed.each s.turn h.runs l t step in
     record { placed = record { numbered = reached_numbered x t (next_reached x s l t r step); each = k.0 }; runs = k.1 }
