@@ -1,14 +1,13 @@
 -- What is kept by the words of the machine: each thread has its place.
 use Rattle.std.proofs.Common.{T, ap, arith, cond, refl, subst, sym, ◌∙◌}
 use Rattle.std.specs.Option.{option_map_or}
-use Rattle.std.specs.Prelude.{Bool, List, None, Option, Some, [], false, find, if◌then◌else◌, is_none, is_some, not, option_and_then, option_map, true, unwrap_or, ℕ, ◌++◌, ◌+◌, ◌==◌, ◌||◌, ◌∷◌, ◌≡◌, ◌≤◌}
-use Rattle.task_machine.proofs.MapLemmas.{get-insert_other, get-insert_same, get-remove_other, get-remove_same}
+use Rattle.std.specs.Prelude.{Bool, List, None, Option, Some, [], false, find, if◌then◌else◌, is_none, option_and_then, option_map, true, unwrap_or, ℕ, ◌++◌, ◌+◌, ◌==◌, ◌∷◌, ◌≡◌, ◌≤◌}
+use Rattle.task_machine.proofs.MapLemmas.{get-insert_other, get-insert_same}
 use Rattle.task_machine.specs.Core.{Core}
-use Rattle.task_machine.specs.Maps.{get, get-insert, get-remove, insert, numbers, remove}
-use Rattle.task_machine.specs.Moves.{departed, ended, exited_if, freed_thread_handle, handed_on, hands_on, has_entry, held_why_of, interest_settled, is_callback_waiter, may_hand_on, may_publish, may_wake, may_wake_joined, published, put_high, released, released_one, unblocked, wake, wake_joined, waken_by, Gift, MemberGift, NoGift, OwnGift}
-use Rattle.task_machine.specs.Read.{blocked_on, caller_of, callers_of, goal_of, held_why, instance_of, is_at, is_blocked_on, is_entry_of, is_explicit, is_waiter, is_waiting_on, join_of, place_of, task_of, thread_handle_of}
-use Rattle.task_machine.specs.Write.{add_thread, push_high, remove_thread, remove_threads, set_do_not_enter, set_end, set_event, set_place}
-use Rattle.task_machine.specs.declared.records.CallEnd.{CallEnd}
+use Rattle.task_machine.specs.Maps.{get, get-insert, numbers}
+use Rattle.task_machine.specs.Moves.{ended, exited_if, freed_thread_handle, handed_on, hands_on, held_why_of, interest_settled, is_callback_waiter, may_hand_on, may_publish, may_wake, may_wake_joined, published, put_high, released, released_one, unblocked, wake, wake_joined, waken_by, Gift}
+use Rattle.task_machine.specs.Read.{blocked_on, caller_of, callers_of, goal_of, held_why, instance_of, is_at, is_blocked_on, is_entry_of, is_explicit, is_waiting_on, join_of, place_of, task_of, thread_handle_of}
+use Rattle.task_machine.specs.Write.{add_thread, push_high, remove_thread, set_do_not_enter, set_end, set_event, set_place}
 use Rattle.task_machine.specs.declared.records.Entry.{Entry}
 use Rattle.task_machine.specs.declared.records.Join.{Join}
 use Rattle.task_machine.specs.declared.records.Place.{Place}
@@ -16,16 +15,15 @@ use Rattle.task_machine.specs.declared.records.Subtask.{Subtask}
 use Rattle.task_machine.specs.declared.records.Thread.{Thread}
 use Rattle.task_machine.specs.declared.records.Why.{Why}
 use Rattle.task_machine.specs.declared.words.Status.{Status}
-use Rattle.task_rules.proofs.MoveLemmas.{all_of, is_busy, put_high_good, removed_all, released_good, stand_of, unblocked_good}
-use Rattle.task_rules.proofs.StandLemmas.{Loose, Stand, adds_all, by_number, entries-append, eq_refl, is_eq_of, loose_gone, not_eq, place_kept, place_written, set_place_adds}
+use Rattle.task_rules.proofs.MoveLemmas.{is_busy, put_high_good, removed_all, released_good, stand_of, unblocked_good}
+use Rattle.task_rules.proofs.StandLemmas.{Loose, Stand, adds_all, by_number, entries-append, is_eq_of, not_eq, place_kept, set_place_adds}
 use Rattle.task_rules.proofs.StopLemmas.{Untouched, quiet_placed, quiet_stand}
 use Rattle.task_rules.proofs.UntouchedLemmas.{call_settled_untouched, exited_if_untouched, freed_thread_handle_untouched, interest_settled_untouched, result_given_untouched, set_do_not_enter_untouched, set_end_untouched, set_event_untouched, untouched_after}
 use Rattle.task_rules.specs.Ends.{cancelled, is_told, let_in, may_tell, result_given, returned, told}
 use Rattle.task_rules.specs.Laws.{is_free}
-use Rattle.task_rules.specs.Places.{HasPlace, entries, is_at_high, is_at_low, is_at_switch, is_behind_of, one_if, says, switch_entries, times}
+use Rattle.task_rules.specs.Places.{HasPlace, entries, is_at_high, is_at_low, is_at_switch, is_behind_of, one_if, says, times}
 use Rattle.task_machine.specs.declared.records.CallEnd.TheVariants as call_end
 use Rattle.task_machine.specs.declared.records.Delivery.TheVariants as delivery
-use Rattle.task_machine.specs.declared.records.Entry.TheVariants as entry
 use Rattle.task_machine.specs.declared.records.Join.TheVariants as join
 use Rattle.task_machine.specs.declared.records.Place.TheVariants as place
 use Rattle.task_machine.specs.declared.words.Status.TheVariants as status

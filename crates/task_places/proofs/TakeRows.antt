@@ -1,99 +1,44 @@
 -- What is kept by takings, by works and by main: each thread has its place.
-use Rattle.std.proofs.Common.{T, ap, arith, cond, refl, subst, sym, ◌∙◌}
-use Rattle.std.specs.Prelude.{is_none, Bool, List, None, Option, Some, [], false, if◌then◌else◌, is_some, length, min, nat_le, nat_lt, not, option_and_then, option_map, suc, true, unwrap_or, zero, ℕ, ◌%◌, ◌&&◌, ◌*◌, ◌+◌, ◌-◌, ◌/◌, ◌==◌, ◌^◌, ◌||◌, ◌∷◌, ◌≡◌, ◌≤◌}
+use Rattle.std.proofs.Common.{T, ap, arith, refl, subst, sym, ◌∙◌}
+use Rattle.std.specs.Prelude.{is_none, Bool, List, None, Option, Some, [], false, if◌then◌else◌, true, unwrap_or, ℕ, ◌+◌, ◌==◌, ◌∷◌, ◌≡◌, ◌≤◌}
 use Rattle.task_machine.specs.Core.{Core}
-use Rattle.task_machine.specs.Labels.{Choice, event_label, exit_label, held_label, host_label, join_label, ret_label, take_label, task_cancel_label, wait_label}
-use Rattle.task_machine.specs.Moves.{Gift, MemberGift, NoGift, OwnGift, behind_one, checked, ended, exited_if, freed_thread_handle, gift, given_for, has_entry, interest_settled, is_callback_waiter, less, less_switch, may_hand_on, may_publish, own_gift_only, passes_check, promoted_unless, published, put_high, put_low, put_switch, released, stopped, stopped_at, taken, unblocked, unqueued, wake, wake_joined, waken_by, withdrawn}
-use Rattle.task_machine.specs.Read.{admits, at_handle_limit, backpressure_of, blocked_on, call_instance, caller_of, callers_of, cancel_was_delivered, course_of, course_value, event_of, fits, foot_of, goal_of, has_ended, has_member, has_waiters, how_far_of, instance_of, is_async_lifted, is_at, is_callback_yield, is_direct, is_entry_of, is_explicit, is_joined, is_new, is_ready_to_resume, is_suspended, is_under, is_watched, is_yielded, join_of, kind_of, may_not_suspend, new_handle, new_thread_handle, next_entry, or_high, own_event_of, phase_of, place_of, position_of, register_of, registers_of, result_of, saved_callee_of, saved_own_of, set_at, strand_of, subtask_at, subtask_ended, task_of, thread_at, thread_group, thread_handle_of, undelivered_end, under_of, was_cancelled, was_started, word_of, work_caller_of}
-use Rattle.task_machine.specs.Statuses.{packed, status_code}
-use Rattle.task_machine.specs.Write.{add_call, add_thread, count_work, remove_thread, set_backpressure, set_do_not_enter, set_do_not_suspend, set_end, set_event, set_exited, set_high, set_how_far, set_join, set_low, set_own_event, set_place, set_saved_callee, set_script, set_started, set_starting_published, set_switch, set_uninteresting}
-use Rattle.task_machine.specs.declared.component.Callee.{Callee}
-use Rattle.task_machine.specs.declared.component.Component.{Component}
-use Rattle.task_machine.specs.declared.component.ExportKind.{ExportKind}
-use Rattle.task_machine.specs.declared.component.HostDef.{HostDef}
-use Rattle.task_machine.specs.declared.component.Slot.{Slot}
-use Rattle.task_machine.specs.declared.label.Label.{Label}
-use Rattle.task_machine.specs.declared.label.ThreadLabel.{ThreadLabel}
-use Rattle.task_machine.specs.declared.op.CallOp.{CallOp}
-use Rattle.task_machine.specs.declared.op.DataOp.{DataOp}
-use Rattle.task_machine.specs.declared.op.SetOp.{SetOp}
-use Rattle.task_machine.specs.declared.op.TaskOp.{TaskOp}
-use Rattle.task_machine.specs.declared.op.ThreadOp.{ThreadOp}
-use Rattle.task_machine.specs.declared.records.Caller.{Caller}
-use Rattle.task_machine.specs.declared.records.Goal.{Goal}
-use Rattle.task_machine.specs.declared.records.HowFar.{HowFar}
+use Rattle.task_machine.specs.Labels.{Choice, held_label, host_label, take_label}
+use Rattle.task_machine.specs.Moves.{Gift, MemberGift, NoGift, OwnGift, gift, is_callback_waiter, may_hand_on, may_publish, own_gift_only, published, put_high, taken, unblocked, wake, wake_joined, waken_by}
+use Rattle.task_machine.specs.Read.{admits, at_handle_limit, blocked_on, course_of, course_value, foot_of, instance_of, is_entry_of, is_explicit, join_of, next_entry, or_high, place_of, task_of, work_caller_of}
+use Rattle.task_machine.specs.Write.{set_do_not_enter, set_event, set_high, set_low, set_place, set_script, set_started, set_starting_published, set_switch}
 use Rattle.task_machine.specs.declared.records.Subtask.{Subtask}
 use Rattle.task_machine.specs.declared.records.Why.{Why}
-use Rattle.task_machine.specs.declared.trap.Trap.{Trap}
 use Rattle.task_machine.specs.declared.words.Given.{Given}
 use Rattle.task_machine.specs.declared.words.Status.{Status}
-use Rattle.task_rules.specs.Calls.{AtOnce, Failing, FirstPoll, Later, answered, blocked, call_answered, call_begins, call_blocked, call_host_polled, call_host_row, call_made, call_pending, call_returned, call_row, call_status, call_sync_begins, call_sync_host_polled, call_sync_host_row, call_sync_row, call_sync_status, called, called_back, enter_row, entered, first_poll, forbidding, host_answered, host_blocked, host_pending, host_ready, new_call, new_thread, new_work, next_thread, next_work, put_back, settle_group_of, status_found, suspending, with_handle, with_thread_handle, work_answered, work_deleted, work_group, work_queued, work_value}
-use Rattle.task_rules.specs.Cancels.{Async, Mode, Sync, aborted_phase, after_cancel, asked, awaiting, behind_switch, blocked_code, by_end, cancel_delivered_to, cancel_found, cancel_guest, cancel_host, cancel_resumed, cancel_row, cancel_running, cancel_subtask, cancel_yield, drop_found, drop_row, dropped, end_taken, ended_row, host_cancelled, is_callback_wait, lets_go_on, not_ended_row, pauses, start_withdrawn, subtask_instance, subtask_row, subtask_settled, yield_cancelled}
-use Rattle.task_rules.specs.Data.{advanced, assigned, data_row, moved_to, skip_row, skipped, stored}
-use Rattle.task_rules.specs.Ends.{awaited, blocking_exit_row, blocking_left, cancelled, code_row, deactivated, direct_exit_row, direct_exit_to, direct_left, exit_row, exit_row_for, finished, found, has_event_for, held_out, implicit_exit_row, is_told, kind_end, kind_exit_row, leave_row, leaves_no_result, left, let_in, may_tell, own_or_none, passes_after_return, passes_after_stop, restored, result_given, returned, sync_exit_row, sync_left, told, wait_end, yielded}
-use Rattle.task_rules.specs.Progress.{Fails, Goes, Never, Ordered, Progress, Stops, Traps, may, or_never, or_trap, trap_if}
-use Rattle.task_rules.specs.Scripts.{export_kind, host_at, registers_for, script_of, slot_at, value_of, values_in}
-use Rattle.task_rules.specs.Sets.{begun_waiting, chosen, finds_nothing, given_code, given_handle, given_result, handed_out, join_done, join_row, join_to, joined, joins, may_wake_new, poll_row, poll_takes, received, received_woken, set_drop_found, set_drop_row, set_dropped, set_given, set_made, set_new_row, set_row, wait_begins, wait_goes_on, wait_row, wait_takes, waiting, wakes_joined}
-use Rattle.task_rules.specs.Takes.{activated, activated_woken, awaits_again, delivered, delivery_row, enters, held, host_done, host_result, host_row, host_status, may_tell_starting, own_delivered, popped, pushed, rest_of, running, set_delivered, start_admitted, start_held, start_row, started, starting_is_published, starting_told, take_row, thread_taken, thread_taken_for}
-use Rattle.task_rules.specs.Task.{cancel_done, dec_from, dec_row, inc_row, lowered, opened, raised, ret_bad_row, ret_done, ret_row, task_cancel_row, task_row}
-use Rattle.task_rules.specs.Threads.{Halt, Suspension, Yielding, by_how_far, halt_row, halted, halted_checked, halted_promoting, halted_resuming, halting, halts, has_yielded, resume_at, resume_later_found, resume_later_row, resume_why, resumed_later, then_promote, then_promote_found, then_promote_row, then_resume_found, then_resume_row, thread_index_row, thread_made, thread_new_label, thread_new_row, thread_row}
-use Rattle.task_places.proofs.EntryLemmas.{Shorter, checked_place, checked_stand, gain_own, less_both, no_both_of, none_stands, one_place, one_stands, promoted_unless_stand, ready_listed, shorter_kept, shorter_loose, shorter_still}
-use Rattle.task_places.proofs.PlaceWords.{All, Waits, added_here, added_stand, blocked_place, cancelled_stand, ended_all, free_moved, handed_on_stand, let_in_stand, none_waits, passes_found, published_stand, pushed_stand, quiet_all, returned_stand, told_stand, waits_of, waits_published, waits_quiet, waits_released, waits_told, waits_unblocked, wake_stand}
-use Rattle.task_rules.proofs.UntouchedLemmas.{add_call_untouched, add_group_untouched, add_set_untouched, add_work_untouched, advanced_untouched, answered_untouched, asked_untouched, assigned_untouched, call_answered_untouched, call_pending_untouched, call_returned_untouched, call_settled_untouched, called_back_untouched, cancel_resumed_untouched, count_work_untouched, dropped_untouched, end_taken_untouched, enters_untouched, exited_if_untouched, forbidding_untouched, free_handle_untouched, free_thread_handle_untouched, freed_thread_handle_untouched, give_handle_untouched, give_result_untouched, give_thread_handle_untouched, group_settled_untouched, host_answered_untouched, host_cancelled_untouched, host_ready_untouched, host_result_untouched, interest_settled_untouched, lowered_untouched, main_aborted_untouched, moved_to_untouched, on_call_untouched, on_instance_untouched, on_work_untouched, pended_untouched, pushed_untouched, put_back_untouched, raised_untouched, received_untouched, remove_call_untouched, remove_group_untouched, remove_set_untouched, remove_work_untouched, restored_untouched, result_given_untouched, set_backpressure_untouched, set_cancel_delivered_untouched, set_cancelled_untouched, set_course_untouched, set_do_not_enter_untouched, set_do_not_suspend_untouched, set_dropped_untouched, set_end_untouched, set_event_untouched, set_exited_untouched, set_given_untouched, set_how_far_untouched, set_join_untouched, set_made_untouched, set_own_event_untouched, set_phase_untouched, set_position_untouched, set_register_untouched, set_result_untouched, set_saved_callee_untouched, set_saved_own_untouched, set_script_untouched, set_stage_untouched, set_started_untouched, set_starting_published_untouched, set_subtask_handle_untouched, set_thread_handle_untouched, set_trapped_untouched, set_uninteresting_untouched, set_word_untouched, settle_group_of_untouched, skipped_untouched, stored_untouched, subtask_settled_untouched, suspending_untouched, take_result_untouched, taken_own_untouched, taken_untouched, untouched_after, with_handle_untouched, with_thread_handle_untouched, work_answered_untouched, work_deleted_untouched}
-use Rattle.task_rules.proofs.MoveLemmas.{all_of, behind_all, is_busy, is_parked, put_high_all, put_high_good, put_low_all, put_low_good, put_switch_good, released_good, set_place_all, stand_of}
-use Rattle.task_rules.proofs.StandLemmas.{Loose, Stand, adds_all, by_number, entries-less, eq_refl, free_loose, gain, is_eq_of, loose_gone, not_eq, place_kept, place_written, plus_none, plus_one, put_high_adds}
+use Rattle.task_rules.specs.Calls.{with_thread_handle}
+use Rattle.task_rules.specs.Ends.{may_tell, told}
+use Rattle.task_rules.specs.Progress.{Goes, Stops}
+use Rattle.task_rules.specs.Sets.{chosen, set_given}
+use Rattle.task_rules.specs.Takes.{activated, activated_woken, awaits_again, delivered, delivery_row, held, host_done, host_result, host_status, may_tell_starting, popped, rest_of, running, set_delivered, start_admitted, start_held, start_row, started, starting_is_published, starting_told, take_row, thread_taken, thread_taken_for}
+use Rattle.task_places.proofs.EntryLemmas.{Shorter, gain_own, less_both, no_both_of, one_place, shorter_kept, shorter_loose}
+use Rattle.task_places.proofs.PlaceWords.{All, Waits, blocked_place, handed_on_stand, none_waits, quiet_all, told_stand, waits_published, waits_quiet, waits_told, waits_unblocked}
+use Rattle.task_rules.proofs.UntouchedLemmas.{enters_untouched, host_result_untouched, moved_to_untouched, pushed_untouched, set_do_not_enter_untouched, set_event_untouched, set_given_untouched, set_script_untouched, set_stage_untouched, set_started_untouched, set_starting_published_untouched, taken_untouched, untouched_after, with_thread_handle_untouched}
+use Rattle.task_rules.proofs.MoveLemmas.{is_busy, set_place_all, stand_of}
+use Rattle.task_rules.proofs.StandLemmas.{Loose, Stand, adds_all, by_number, eq_refl, gain, place_written, plus_none, plus_one, put_high_adds}
 use Rattle.task_rules.proofs.StopLemmas.{Untouched, quiet_stand, stopped_stand}
 use Rattle.task_rules.specs.Laws.{is_free}
-use Rattle.task_rules.specs.Places.{HasPlace, entries, is_at_high, is_at_low, is_at_switch, is_behind_of, one_if, says, switch_entries, times}
-use Rattle.task_machine.proofs.MapLemmas.{get-remove_other, get-remove_same}
+use Rattle.task_rules.specs.Places.{entries, is_at_high, is_at_low, is_at_switch, is_behind_of, one_if, says, switch_entries}
 use Rattle.task_machine.specs.declared.records.Place.{Place}
-use Rattle.std.specs.Option.{option_map_or}
-use Rattle.task_machine.specs.Maps.{get, get-remove, numbers, remove}
-use Rattle.task_places.proofs.RunRows.{Runs, Stays, advanced_runs, assigned_runs, data_row_stays, how_far_all, may_stays, or_never_stays, or_trap_stays, quiet_runs, stopped_all, task_row_stays, trap_if_stays}
-use Rattle.task_places.proofs.OpRows.{Unused, blocked_all, call_begins_stays, call_row_stays, call_sync_status_stays, called_all, made_place, made_stand, set_row_stays}
-use Rattle.task_machine.specs.declared.records.WorkCaller.{WorkCaller}
+use Rattle.task_places.proofs.RunRows.{Runs, Stays, may_stays, or_never_stays, trap_if_stays}
 use Rattle.task_machine.specs.declared.words.Mark.{Mark}
-use Rattle.task_places.proofs.CallRows.{after_cancel_stays, call_host_polled_stays, call_sync_host_row_stays, call_sync_row_stays, cancel_host_stays, cancel_running_stays, ended_row_stays, thread_row_stays}
 use Rattle.task_machine.specs.declared.records.Entry.{Entry}
-use Rattle.task_machine.specs.declared.records.Thread.{Thread}
-use Rattle.task_machine.specs.declared.op.Op.{Op}
-use Rattle.task_rules.specs.Step.{op_row, struck}
 use Rattle.task_machine.specs.declared.records.Delivery.{Delivery}
-use Rattle.task_rules.specs.MainOps.{main_aborted, main_spawned, main_started}
-use Rattle.task_rules.specs.Works.{course_for, followed, pended, work_ended}
-use Rattle.task_places.proofs.WithdrawRows.{op_row_stays, removed_gone, removed_kept, removed_still}
 use Rattle.task_machine.specs.declared.records.Join.{Join}
-use Rattle.task_machine.specs.declared.records.CallEnd.TheVariants as call_end
-use Rattle.task_machine.specs.declared.label.CallLabel.TheVariants as call_label
-use Rattle.task_machine.specs.declared.op.CallOp.TheVariants as call_op
-use Rattle.task_machine.specs.declared.records.Caller.TheVariants as caller
-use Rattle.task_machine.specs.declared.op.DataOp.TheVariants as data_op
 use Rattle.task_machine.specs.declared.records.Delivery.TheVariants as delivery
-use Rattle.task_machine.specs.declared.records.Goal.TheVariants as goal
-use Rattle.task_machine.specs.declared.records.HowFar.TheVariants as how_far
 use Rattle.task_machine.specs.declared.records.Join.TheVariants as join
-use Rattle.task_machine.specs.declared.component.ExportKind.TheVariants as kind
-use Rattle.task_machine.specs.declared.label.Label.TheVariants as label
-use Rattle.task_machine.specs.declared.words.OwnEvent.TheVariants as own
 use Rattle.task_machine.specs.declared.records.Place.TheVariants as place
 use Rattle.task_machine.specs.declared.records.Script.TheVariants as script
-use Rattle.task_machine.specs.declared.label.SetLabel.TheVariants as set_label
-use Rattle.task_machine.specs.declared.op.SetOp.TheVariants as set_op
-use Rattle.task_machine.specs.declared.component.Slot.TheVariants as slot
 use Rattle.task_machine.specs.declared.words.Status.TheVariants as status
 use Rattle.task_machine.specs.declared.records.Subtask.TheVariants as subtask
-use Rattle.task_machine.specs.declared.label.TaskLabel.TheVariants as task_label
-use Rattle.task_machine.specs.declared.op.TaskOp.TheVariants as task_op
-use Rattle.task_machine.specs.declared.label.ThreadLabel.TheVariants as thread_label
-use Rattle.task_machine.specs.declared.op.ThreadOp.TheVariants as thread_op
 use Rattle.task_machine.specs.declared.trap.Trap.TheVariants as trap
 use Rattle.task_machine.specs.declared.records.Why.TheVariants as why
-use Rattle.task_machine.specs.declared.records.WorkCaller.TheVariants as work_caller
 use Rattle.task_machine.specs.declared.records.Entry.TheVariants as entry
-use Rattle.task_machine.specs.declared.op.Op.TheVariants as op
-use Rattle.task_machine.specs.declared.records.Course.TheVariants as course
 use Rattle.task_machine.specs.declared.words.Mark.TheVariants as mark
-use Rattle.task_machine.specs.declared.words.Phase.TheVariants as phase
 use Rattle.task_machine.specs.declared.records.Stage.TheVariants as stage
 
 -- ---- Moves where nothing runs

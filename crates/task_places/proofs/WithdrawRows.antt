@@ -1,94 +1,39 @@
 -- What is kept where a start is withdrawn: each thread has its place.
 use Rattle.std.proofs.Common.{T, ap, arith, cond, refl, subst, sym, ◌∙◌}
-use Rattle.std.specs.Prelude.{Bool, if◌then◌else◌, ◌||◌, ◌≤◌, option_map, option_and_then, ◌&&◌, List, None, Option, Some, [], false, is_some, length, min, nat_le, nat_lt, not, suc, true, unwrap_or, zero, ℕ, ◌%◌, ◌*◌, ◌+◌, ◌-◌, ◌/◌, ◌==◌, ◌^◌, ◌∷◌, ◌≡◌}
+use Rattle.std.specs.Prelude.{Bool, ◌||◌, ◌≤◌, option_map, List, None, Option, Some, [], false, is_some, not, true, unwrap_or, ℕ, ◌+◌, ◌==◌, ◌∷◌, ◌≡◌}
 use Rattle.task_machine.specs.Core.{Core}
-use Rattle.task_machine.specs.Labels.{Choice, exit_label, join_label, ret_label, task_cancel_label, wait_label}
-use Rattle.task_machine.specs.Moves.{Gift, NoGift, checked, gift, may_hand_on, passes_check, published}
-use Rattle.task_machine.specs.Read.{at_handle_limit, backpressure_of, call_instance, caller_of, cancel_was_delivered, event_of, fits, foot_of, goal_of, has_ended, has_member, has_waiters, how_far_of, instance_of, is_async_lifted, is_at, is_callback_yield, is_direct, is_explicit, is_joined, is_watched, join_of, kind_of, may_not_suspend, new_handle, new_thread_handle, own_event_of, phase_of, position_of, register_of, registers_of, result_of, saved_callee_of, saved_own_of, set_at, subtask_at, subtask_ended, task_of, thread_at, thread_group, thread_handle_of, undelivered_end, under_of, was_cancelled, was_started, word_of}
-use Rattle.task_machine.specs.Statuses.{packed, status_code}
+use Rattle.task_machine.specs.Labels.{Choice}
+use Rattle.task_machine.specs.Read.{event_of, has_ended, how_far_of, instance_of, is_at, is_joined, is_watched, join_of, registers_of, subtask_at, subtask_ended, undelivered_end, was_started}
 use Rattle.task_machine.specs.Write.{set_join}
-use Rattle.task_machine.specs.declared.component.Callee.{Callee}
 use Rattle.task_machine.specs.declared.component.Component.{Component}
-use Rattle.task_machine.specs.declared.component.ExportKind.{ExportKind}
-use Rattle.task_machine.specs.declared.component.HostDef.{HostDef}
-use Rattle.task_machine.specs.declared.component.Slot.{Slot}
-use Rattle.task_machine.specs.declared.label.Label.{Label}
-use Rattle.task_machine.specs.declared.label.ThreadLabel.{ThreadLabel}
 use Rattle.task_machine.specs.declared.op.CallOp.{CallOp}
-use Rattle.task_machine.specs.declared.op.DataOp.{DataOp}
-use Rattle.task_machine.specs.declared.op.SetOp.{SetOp}
-use Rattle.task_machine.specs.declared.op.TaskOp.{TaskOp}
-use Rattle.task_machine.specs.declared.op.ThreadOp.{ThreadOp}
-use Rattle.task_machine.specs.declared.records.Caller.{Caller}
-use Rattle.task_machine.specs.declared.records.Goal.{Goal}
 use Rattle.task_machine.specs.declared.records.HowFar.{HowFar}
 use Rattle.task_machine.specs.declared.records.Subtask.{Subtask}
-use Rattle.task_machine.specs.declared.records.Why.{Why}
-use Rattle.task_machine.specs.declared.trap.Trap.{Trap}
-use Rattle.task_machine.specs.declared.words.Given.{Given}
-use Rattle.task_machine.specs.declared.words.Status.{Status}
-use Rattle.task_rules.specs.Calls.{AtOnce, Failing, FirstPoll, Later, answered, blocked, call_answered, call_begins, call_blocked, call_host_polled, call_host_row, call_pending, call_returned, call_row, call_status, call_sync_begins, call_sync_host_polled, call_sync_host_row, call_sync_row, call_sync_status, called, called_back, enter_row, entered, first_poll, forbidding, host_answered, host_blocked, host_pending, host_ready, new_thread, next_thread, next_work, put_back, settle_group_of, status_found, suspending, with_handle, with_thread_handle, work_answered, work_deleted, work_group, work_value}
-use Rattle.task_rules.specs.Cancels.{Async, Mode, Sync, aborted_phase, after_cancel, asked, awaiting, behind_switch, blocked_code, by_end, cancel_delivered_to, cancel_found, cancel_guest, cancel_host, cancel_resumed, cancel_row, cancel_running, cancel_subtask, cancel_yield, drop_found, drop_row, dropped, end_taken, ended_row, host_cancelled, is_callback_wait, lets_go_on, not_ended_row, pauses, start_withdrawn, subtask_instance, subtask_row, subtask_settled, yield_cancelled}
-use Rattle.task_rules.specs.Data.{advanced, assigned, data_row, moved_to, skip_row, skipped, stored}
-use Rattle.task_rules.specs.Ends.{awaited, blocking_exit_row, blocking_left, cancelled, code_row, deactivated, direct_exit_row, direct_exit_to, direct_left, exit_row, exit_row_for, finished, found, has_event_for, held_out, implicit_exit_row, is_told, kind_end, kind_exit_row, leave_row, leaves_no_result, left, let_in, may_tell, own_or_none, passes_after_return, passes_after_stop, restored, result_given, returned, sync_exit_row, sync_left, told, wait_end, yielded}
-use Rattle.task_rules.specs.Progress.{Fails, Goes, Never, Ordered, Progress, Stops, Traps, may, or_never, or_trap, trap_if}
-use Rattle.task_rules.specs.Scripts.{export_kind, host_at, registers_for, script_of, slot_at, value_of, values_in}
-use Rattle.task_rules.specs.Sets.{begun_waiting, chosen, finds_nothing, given_code, given_handle, given_result, handed_out, join_done, join_row, join_to, joined, joins, may_wake_new, poll_row, poll_takes, received, received_woken, set_drop_found, set_drop_row, set_dropped, set_given, set_made, set_new_row, set_row, wait_begins, wait_goes_on, wait_row, wait_takes, waiting, wakes_joined}
-use Rattle.task_rules.specs.Takes.{held, started}
-use Rattle.task_rules.specs.Task.{cancel_done, dec_from, dec_row, inc_row, lowered, opened, raised, ret_bad_row, ret_done, ret_row, task_cancel_row, task_row}
-use Rattle.task_rules.specs.Threads.{resume_at, Halt, Suspension, Yielding, by_how_far, halt_row, halted, halted_checked, halted_promoting, halted_resuming, halting, halts, has_yielded, resume_later_found, resume_later_row, resume_why, resumed_later, then_promote, then_promote_found, then_promote_row, then_resume_found, then_resume_row, thread_index_row, thread_made, thread_new_label, thread_new_row, thread_row}
+use Rattle.task_rules.specs.Calls.{first_poll}
+use Rattle.task_rules.specs.Cancels.{Async, Mode, Sync, cancel_found, cancel_guest, cancel_resumed, cancel_row, cancel_subtask, drop_found, dropped, is_callback_wait, start_withdrawn, subtask_row}
+use Rattle.task_rules.specs.Progress.{Goes, or_trap}
+use Rattle.task_rules.specs.Scripts.{host_at, value_of, values_in}
 use Rattle.task_machine.specs.declared.records.CallEnd.TheVariants as call_end
 use Rattle.task_machine.specs.declared.label.CallLabel.TheVariants as call_label
 use Rattle.task_machine.specs.declared.op.CallOp.TheVariants as call_op
-use Rattle.task_machine.specs.declared.records.Caller.TheVariants as caller
-use Rattle.task_machine.specs.declared.op.DataOp.TheVariants as data_op
-use Rattle.task_machine.specs.declared.records.Delivery.TheVariants as delivery
-use Rattle.task_machine.specs.declared.records.Goal.TheVariants as goal
 use Rattle.task_machine.specs.declared.records.HowFar.TheVariants as how_far
 use Rattle.task_machine.specs.declared.records.Join.TheVariants as join
-use Rattle.task_machine.specs.declared.component.ExportKind.TheVariants as kind
 use Rattle.task_machine.specs.declared.label.Label.TheVariants as label
-use Rattle.task_machine.specs.declared.words.OwnEvent.TheVariants as own
 use Rattle.task_machine.specs.declared.records.Place.TheVariants as place
-use Rattle.task_machine.specs.declared.records.Script.TheVariants as script
-use Rattle.task_machine.specs.declared.label.SetLabel.TheVariants as set_label
-use Rattle.task_machine.specs.declared.op.SetOp.TheVariants as set_op
-use Rattle.task_machine.specs.declared.component.Slot.TheVariants as slot
-use Rattle.task_machine.specs.declared.words.Status.TheVariants as status
 use Rattle.task_machine.specs.declared.records.Subtask.TheVariants as subtask
-use Rattle.task_machine.specs.declared.label.TaskLabel.TheVariants as task_label
-use Rattle.task_machine.specs.declared.op.TaskOp.TheVariants as task_op
-use Rattle.task_machine.specs.declared.label.ThreadLabel.TheVariants as thread_label
-use Rattle.task_machine.specs.declared.op.ThreadOp.TheVariants as thread_op
 use Rattle.task_machine.specs.declared.trap.Trap.TheVariants as trap
-use Rattle.task_machine.specs.declared.records.Why.TheVariants as why
-use Rattle.task_machine.specs.declared.records.WorkCaller.TheVariants as work_caller
-use Rattle.task_places.proofs.EntryLemmas.{Shorter, none_stands, one_place, one_stands, shorter_kept, shorter_loose, shorter_still, checked_place, checked_stand, promoted_unless_stand, ready_listed, no_both_of}
-use Rattle.task_places.proofs.PlaceWords.{All, Waits, added_here, added_stand, cancelled_stand, ended_all, free_moved, handed_on_stand, let_in_stand, passes_found, published_stand, pushed_stand, quiet_all, returned_stand, told_stand, wake_stand, waits_of, waits_quiet, waits_released, waits_told}
-use Rattle.task_rules.proofs.UntouchedLemmas.{untouched_after, set_register_untouched, set_position_untouched, set_how_far_untouched, set_script_untouched, set_thread_handle_untouched, set_saved_own_untouched, set_saved_callee_untouched, on_call_untouched, add_call_untouched, remove_call_untouched, on_work_untouched, count_work_untouched, add_work_untouched, remove_work_untouched, add_set_untouched, remove_set_untouched, on_instance_untouched, give_handle_untouched, free_handle_untouched, give_thread_handle_untouched, free_thread_handle_untouched, give_result_untouched, take_result_untouched, add_group_untouched, remove_group_untouched, set_trapped_untouched, set_started_untouched, set_starting_published_untouched, set_end_untouched, set_own_event_untouched, set_cancel_delivered_untouched, set_exited_untouched, set_uninteresting_untouched, set_result_untouched, set_course_untouched, set_phase_untouched, set_stage_untouched, set_cancelled_untouched, set_event_untouched, set_join_untouched, set_subtask_handle_untouched, set_backpressure_untouched, set_do_not_enter_untouched, set_do_not_suspend_untouched, set_word_untouched, taken_own_untouched, taken_untouched, group_settled_untouched, call_settled_untouched, interest_settled_untouched, freed_thread_handle_untouched, exited_if_untouched, moved_to_untouched, advanced_untouched, assigned_untouched, stored_untouched, skipped_untouched, result_given_untouched, restored_untouched, raised_untouched, lowered_untouched, set_made_untouched, set_dropped_untouched, set_given_untouched, received_untouched, suspending_untouched, put_back_untouched, called_back_untouched, answered_untouched, call_returned_untouched, with_handle_untouched, call_pending_untouched, call_answered_untouched, forbidding_untouched, with_thread_handle_untouched, host_ready_untouched, host_answered_untouched, settle_group_of_untouched, work_deleted_untouched, work_answered_untouched, end_taken_untouched, host_cancelled_untouched, asked_untouched, cancel_resumed_untouched, subtask_settled_untouched, dropped_untouched, pushed_untouched, host_result_untouched, enters_untouched, pended_untouched, main_aborted_untouched}
-use Rattle.task_rules.proofs.MoveLemmas.{all_of, is_parked, behind_all, is_busy, put_high_all, put_high_good, put_low_all, put_low_good, put_switch_good, released_good, set_place_all, stand_of}
-use Rattle.task_rules.proofs.StandLemmas.{Loose, gain, plus_none, plus_one, entries-less, loose_gone, by_number, Stand, place_kept, free_loose, is_eq_of, not_eq, place_written}
-use Rattle.task_rules.proofs.StopLemmas.{Untouched, quiet_stand, stopped_stand}
-use Rattle.task_rules.specs.Laws.{is_free}
+use Rattle.task_places.proofs.EntryLemmas.{Shorter, none_stands, one_place, one_stands, shorter_kept, shorter_loose, shorter_still}
+use Rattle.task_rules.proofs.UntouchedLemmas.{untouched_after, set_end_untouched, set_exited_untouched, set_uninteresting_untouched, set_join_untouched, answered_untouched, cancel_resumed_untouched, dropped_untouched}
+use Rattle.task_rules.proofs.StandLemmas.{Loose, gain, plus_none, plus_one, entries-less, loose_gone, by_number, is_eq_of, not_eq}
 use Rattle.task_rules.specs.Places.{entries, is_at_high, is_at_low, is_at_switch, is_behind_of, says, switch_entries, times, HasPlace, one_if}
 use Rattle.task_machine.proofs.MapLemmas.{get-remove_same, get-remove_other}
 use Rattle.task_machine.specs.declared.records.Place.{Place}
-use Rattle.std.specs.Option.{option_map_or}
-use Rattle.task_machine.specs.Maps.{get, get-remove, numbers, remove}
-use Rattle.task_machine.specs.Write.{set_exited, set_high, set_low, set_switch, set_uninteresting, add_call, count_work, set_started, set_saved_callee, set_do_not_suspend, set_join, remove_thread, set_backpressure, set_do_not_enter, set_end, set_how_far, set_own_event, set_place}
-use Rattle.task_machine.specs.Read.{callers_of, is_entry_of, is_under, place_of, is_suspended, is_new}
-use Rattle.task_machine.specs.Moves.{has_entry, less, less_switch, unqueued, withdrawn, promoted_unless, behind_one, put_low, put_switch, ended, exited_if, freed_thread_handle, interest_settled, released, stopped, stopped_at}
-use Rattle.task_rules.specs.Calls.{call_made}
-use Rattle.task_places.proofs.RunRows.{Runs, Stays, advanced_runs, assigned_runs, data_row_stays, how_far_all, may_stays, or_never_stays, or_trap_stays, quiet_runs, stopped_all, task_row_stays, trap_if_stays}
-use Rattle.task_machine.specs.Moves.{MemberGift, OwnGift}
-use Rattle.task_rules.specs.Calls.{new_call}
-use Rattle.task_places.proofs.OpRows.{Unused, blocked_all, call_begins_stays, call_row_stays, call_sync_status_stays, called_all, made_place, made_stand, set_row_stays}
-use Rattle.task_machine.specs.declared.records.Entry.TheVariants as entry
-use Rattle.task_machine.specs.declared.records.WorkCaller.{WorkCaller}
-use Rattle.task_machine.specs.declared.words.Mark.{Mark}
-use Rattle.task_rules.specs.Calls.{new_work, work_queued}
-use Rattle.task_machine.specs.Read.{is_ready_to_resume, is_yielded}
-use Rattle.task_machine.specs.Write.{add_thread}
+use Rattle.task_machine.specs.Maps.{get, get-remove}
+use Rattle.task_machine.specs.Write.{set_exited, set_high, set_low, set_switch, set_join, remove_thread, set_end}
+use Rattle.task_machine.specs.Read.{callers_of, is_entry_of, place_of}
+use Rattle.task_machine.specs.Moves.{has_entry, less, less_switch, unqueued, withdrawn}
+use Rattle.task_places.proofs.RunRows.{Runs, Stays, data_row_stays, or_trap_stays, quiet_runs, task_row_stays, trap_if_stays}
+use Rattle.task_places.proofs.OpRows.{Unused, call_row_stays, set_row_stays}
 use Rattle.task_places.proofs.CallRows.{after_cancel_stays, call_host_polled_stays, call_sync_host_row_stays, call_sync_row_stays, cancel_host_stays, cancel_running_stays, ended_row_stays, thread_row_stays}
 use Rattle.task_machine.specs.declared.records.Entry.{Entry}
 use Rattle.task_machine.specs.declared.records.Thread.{Thread}
@@ -239,8 +184,8 @@ withdrawn_runs n k s h r =
       loose = λ j e. removed_still j k _ (shorter_still j k g.0 g.1.0 g.1.1.0 s _ w (r.loose j e));
       there = λ j e. absurd (no_one e);
       placed = λ j e. by_number j k (HasPlace j (remove_thread k (unqueued_switch_of k s)))
-        (λ same. subst (λ (i : ℕ). HasPlace i (remove_thread k (unqueued_switch_of k s))) (sym same) (removed_gone k _ (shorter_loose k g.0 g.1.0 g.1.1.0 s _ g.1.1.1.0 (unbegun_free (place_of k s) h) w p)))
-        (λ other. removed_kept j k _ other (shorter_kept j k g.0 g.1.0 g.1.1.0 s _ other w (r.placed j e)));
+          (λ same. subst (λ (i : ℕ). HasPlace i (remove_thread k (unqueued_switch_of k s))) (sym same) (removed_gone k _ (shorter_loose k g.0 g.1.0 g.1.1.0 s _ g.1.1.1.0 (unbegun_free (place_of k s) h) w p)))
+          (λ other. removed_kept j k _ other (shorter_kept j k g.0 g.1.0 g.1.1.0 s _ other w (r.placed j e)));
     }
 
 start_withdrawn_runs : (n r k : ℕ) (s : Core) → is_unbegun (place_of k s) ≡ true → Runs n s → Runs n (start_withdrawn n r k s)
