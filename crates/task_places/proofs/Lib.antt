@@ -6,3 +6,4 @@ pub mod CallRows
 pub mod WithdrawRows
 pub mod TakeRows
 pub mod PlaceSteps
+pub mod FreshMoves

@@ -1,0 +1,142 @@
+-- A thread that waits for its start goes on to wait for it, or is gone: what each move keeps.
+use Rattle.std.proofs.Common.{ap, arith, cond, refl, subst, sym, ◌∙◌}
+use Rattle.std.specs.Prelude.{Bool, List, None, Option, Some, [], false, option_and_then, option_map, true, ℕ, ◌+◌, ◌==◌, ◌∷◌, ◌≡◌, ◌≤◌}
+use Rattle.task_machine.proofs.CommuteLemmas.{get-change}
+use Rattle.task_machine.specs.Core.{Core}
+use Rattle.task_machine.specs.Maps.{get}
+use Rattle.task_machine.specs.Moves.{behind, behind_one, held_why_of, put_high, put_low, released, released_one, resumed_all}
+use Rattle.task_machine.specs.Read.{held_why, place_of}
+use Rattle.task_machine.specs.Write.{on_thread, push_high, set_callers, push_low, set_place}
+use Rattle.task_machine.specs.declared.records.Place.{Place}
+use Rattle.task_machine.specs.declared.records.Thread.{Thread}
+use Rattle.task_machine.specs.declared.records.Why.{Why}
+use Rattle.task_places.proofs.EntryLemmas.{no_both_of}
+use Rattle.task_rules.proofs.StandLemmas.{eq_refl, is_eq_of}
+use Rattle.task_rules.proofs.StopLemmas.{Untouched}
+use Rattle.task_rules.specs.Places.{one_if, times}
+use Rattle.task_machine.specs.declared.records.Place.TheVariants as place
+use Rattle.task_machine.specs.declared.records.Why.TheVariants as why
+use Rattle.task_machine.specs.declared.words.Mark.TheVariants as mark
+
+abbrev pub is_start : Why → Bool
+is_start why.Start = true
+is_start _ = false
+
+abbrev pub is_fresh : Option Place → Bool
+is_fresh None = true
+is_fresh (Some place.New) = true
+is_fresh (Some (place.Ready m w)) = is_start w
+is_fresh (Some (place.Held w)) = is_start w
+is_fresh _ = false
+
+abbrev pub Fresher : Core → Core → Type 0
+Fresher s t = (k : ℕ) → is_fresh (place_of k s) ≡ true → is_fresh (place_of k t) ≡ true
+
+pub fresher_same : (s : Core) → Fresher s s
+fresher_same s k h = h
+
+pub fresher_after : (s m t : Core) → Fresher s m → Fresher m t → Fresher s t
+fresher_after s m t f g k h = g k (f k h)
+
+pub fresher_quiet : (s t : Core) → Untouched s t → Fresher s t
+fresher_quiet s t u k h = ap is_fresh (u.places k) ∙ h
+
+set_place_is : (k m : ℕ) (p : Place) (s : Core) → place_of k (set_place m p s) ≡ cond (k == m) (option_map (λ (q : Place). p) (place_of k s)) (place_of k s)
+unfolding set_place on_thread
+set_place_is k m p s = ap (option_map (λ (t : Thread). t.place)) (get-change m (λ t. record t { place = p }) s.threads k) ∙ go (k == m) (get s.threads k)
+  where
+    go : (b : Bool) (o : Option Thread) → option_map (λ (t : Thread). t.place) (cond b (option_map (λ (t : Thread). record t { place = p }) o) o) ≡ cond b (option_map (λ (q : Place). p) (option_map (λ (t : Thread). t.place) o)) (option_map (λ (t : Thread). t.place) o)
+    go true None = refl
+    go true (Some t) = refl
+    go false o = refl
+
+-- a thread comes to a place: where it waited for its start, so it does there
+pub placed_fresher : (m : ℕ) (p : Place) (s : Core) → (is_fresh (place_of m s) ≡ true → is_fresh (Some p) ≡ true) → Fresher s (set_place m p s)
+placed_fresher m p s h k f = ap is_fresh (set_place_is k m p s) ∙ go (k == m) refl
+  where
+    own : (o : Option Place) → is_fresh (Some p) ≡ true → is_fresh (option_map (λ (q : Place). p) o) ≡ true
+    own None g = refl
+    own (Some q) g = g
+
+    go : (b : Bool) → (k == m) ≡ b → is_fresh (cond b (option_map (λ (q : Place). p) (place_of k s)) (place_of k s)) ≡ true
+    go true e = own (place_of k s) (h (subst (λ (j : ℕ). is_fresh (place_of j s) ≡ true) (is_eq_of k m e) f))
+    go false e = f
+
+pub high_fresher : (m : ℕ) (w : Why) (s : Core) → (is_fresh (place_of m s) ≡ true → is_start w ≡ true) → Fresher s (put_high m w s)
+unfolding put_high push_high
+high_fresher m w s h = placed_fresher m (place.Ready mark.High w) s h
+
+pub low_fresher : (m : ℕ) (w : Why) (s : Core) → (is_fresh (place_of m s) ≡ true → is_start w ≡ true) → Fresher s (put_low m w s)
+unfolding put_low push_low
+low_fresher m w s h = placed_fresher m (place.Ready mark.Low w) s h
+
+held_fresh : (o : Option Place) (w : Why) → option_and_then held_why o ≡ Some w → is_fresh o ≡ true → is_start w ≡ true
+held_fresh None w h f = no_both_of h
+held_fresh (Some (place.Held v)) w h f = ap (λ (o : Option Why). is_start_or o) (sym h) ∙ f
+  where
+    is_start_or : Option Why → Bool
+    is_start_or None = false
+    is_start_or (Some v) = is_start v
+held_fresh (Some place.New) w h f = no_both_of h
+held_fresh (Some place.Running) w h f = no_both_of h
+held_fresh (Some (place.Ready m v)) w h f = no_both_of h
+held_fresh (Some (place.Under c)) w h f = no_both_of h
+held_fresh (Some (place.Behind c)) w h f = no_both_of h
+held_fresh (Some (place.Waiting y b)) w h f = no_both_of h
+held_fresh (Some (place.Blocked c)) w h f = no_both_of h
+held_fresh (Some place.Suspended) w h f = no_both_of h
+
+one_fresher : (m : ℕ) (o : Option Why) (s : Core) → held_why_of m s ≡ o → Fresher s (released_one m o s)
+one_fresher m None s e = fresher_same s
+one_fresher m (Some w) s e = high_fresher m w s (λ f. held_fresh (place_of m s) w e f)
+
+pub released_fresher : (ns : List ℕ) (s : Core) → Fresher s (released ns s)
+unfolding released
+released_fresher [] s = fresher_same s
+released_fresher (m ∷ ns) s = fresher_after s (released_one m (held_why_of m s) s) (released ns (released_one m (held_why_of m s) s)) (one_fresher m (held_why_of m s) s refl) (released_fresher ns (released_one m (held_why_of m s) s))
+
+-- ---- Callers, who don't wait for a start
+
+abbrev pub Begun : List ℕ → Core → Type 0
+Begun ns s = (k : ℕ) → 1 ≤ times k ns → is_fresh (place_of k s) ≡ false
+
+begun_first : (n : ℕ) (ns : List ℕ) (s : Core) → Begun (n ∷ ns) s → is_fresh (place_of n s) ≡ true → false ≡ true
+begun_first n ns s b f = sym (b n (at_first (ap one_if (eq_refl n)))) ∙ f
+  where
+    at_first : one_if (n == n) ≡ 1 → 1 ≤ one_if (n == n) + times n ns
+    at_first e = omega (arith, e)
+
+-- a thread that comes to a place that is no start leaves all that have begun so
+still_begun : (n : ℕ) (p : Place) (ns : List ℕ) (s : Core) → is_fresh (Some p) ≡ false → Begun (n ∷ ns) s → Begun ns (set_place n p s)
+still_begun n p ns s begun b k h = ap is_fresh (set_place_is k n p s) ∙ go (k == n) refl
+  where
+    listed : 1 ≤ one_if (k == n) + times k ns
+    listed = omega (arith, h)
+
+    own : (o : Option Place) → is_fresh o ≡ false → is_fresh (option_map (λ (q : Place). p) o) ≡ false
+    own None g = g
+    own (Some q) g = begun
+
+    go : (c : Bool) → (k == n) ≡ c → is_fresh (cond c (option_map (λ (q : Place). p) (place_of k s)) (place_of k s)) ≡ false
+    go true e = own (place_of k s) (b k listed)
+    go false e = b k listed
+
+resumed_begun : (n : ℕ) (ns : List ℕ) (s : Core) → Begun (n ∷ ns) s → Begun ns (put_high n why.Resumption s)
+unfolding put_high push_high
+resumed_begun n ns s b = still_begun n (place.Ready mark.High why.Resumption) ns s refl b
+
+pub resumed_all_fresher : (ns : List ℕ) (s : Core) → Begun ns s → Fresher s (resumed_all ns s)
+resumed_all_fresher [] s b = fresher_same s
+resumed_all_fresher (n ∷ ns) s b = fresher_after s (put_high n why.Resumption s) (resumed_all ns (put_high n why.Resumption s)) (high_fresher n why.Resumption s (λ f. begun_first n ns s b f)) (resumed_all_fresher ns (put_high n why.Resumption s) (resumed_begun n ns s b))
+
+behind_begun : (f n : ℕ) (ns : List ℕ) (s : Core) → Begun (n ∷ ns) s → Begun ns (behind_one f n s)
+unfolding behind_one set_callers
+behind_begun f n ns s b = still_begun n (place.Behind f) ns s refl b
+
+behind_one_fresher : (f n : ℕ) (ns : List ℕ) (s : Core) → Begun (n ∷ ns) s → Fresher s (behind_one f n s)
+unfolding behind_one set_callers
+behind_one_fresher f n ns s b = placed_fresher n (place.Behind f) s (λ g. begun_first n ns s b g)
+
+pub behind_fresher : (f : ℕ) (ns : List ℕ) (s : Core) → Begun ns s → Fresher s (behind f ns s)
+behind_fresher f [] s b = fresher_same s
+behind_fresher f (n ∷ ns) s b = fresher_after s (behind_one f n s) (behind f ns (behind_one f n s)) (behind_one_fresher f n ns s b) (behind_fresher f ns (behind_one f n s) (behind_begun f n ns s b))
