@@ -1,19 +1,21 @@
 -- A thread that waits for its start goes on to wait for it, or is gone: what each move keeps.
+use Rattle.std.specs.Option.{option_map_or}
+use Rattle.task_places.proofs.PlaceWords.{All}
 use Rattle.std.proofs.Common.{ap, arith, cond, refl, subst, sym, ◌∙◌}
 use Rattle.std.specs.Prelude.{Bool, List, None, Option, Some, [], false, option_and_then, option_map, true, ℕ, ◌+◌, ◌==◌, ◌∷◌, ◌≡◌, ◌≤◌}
 use Rattle.task_machine.proofs.CommuteLemmas.{get-change}
 use Rattle.task_machine.specs.Core.{Core}
 use Rattle.task_machine.specs.Maps.{get}
-use Rattle.task_machine.specs.Moves.{behind, behind_one, held_why_of, put_high, put_low, released, released_one, resumed_all}
-use Rattle.task_machine.specs.Read.{held_why, place_of}
-use Rattle.task_machine.specs.Write.{on_thread, push_high, set_callers, push_low, set_place}
+use Rattle.task_machine.specs.Moves.{behind, behind_one, displaced, held_why_of, put_high, put_low, ready_why, released, released_one, resumed_all, why_of}
+use Rattle.task_machine.specs.Read.{callers_of, held_why, place_of}
+use Rattle.task_machine.specs.Write.{on_thread, push_high, push_high_first, push_low, set_callers, set_place}
 use Rattle.task_machine.specs.declared.records.Place.{Place}
 use Rattle.task_machine.specs.declared.records.Thread.{Thread}
 use Rattle.task_machine.specs.declared.records.Why.{Why}
 use Rattle.task_places.proofs.EntryLemmas.{no_both_of}
 use Rattle.task_rules.proofs.StandLemmas.{eq_refl, is_eq_of}
 use Rattle.task_rules.proofs.StopLemmas.{Untouched}
-use Rattle.task_rules.specs.Places.{one_if, times}
+use Rattle.task_rules.specs.Places.{is_at_switch, is_behind_of, one_if, says, switch_entries, times}
 use Rattle.task_machine.specs.declared.records.Place.TheVariants as place
 use Rattle.task_machine.specs.declared.records.Why.TheVariants as why
 use Rattle.task_machine.specs.declared.words.Mark.TheVariants as mark
@@ -95,6 +97,15 @@ unfolding released
 released_fresher [] s = fresher_same s
 released_fresher (m ∷ ns) s = fresher_after s (released_one m (held_why_of m s) s) (released ns (released_one m (held_why_of m s) s)) (one_fresher m (held_why_of m s) s refl) (released_fresher ns (released_one m (held_why_of m s) s))
 
+too_low : 1 ≤ 0 → ⊥
+too_low h = omega (arith, h)
+
+no_one : ◌≡◌ {A = ℕ} 0 1 → ⊥
+no_one h = omega (arith, h)
+
+le_both : {a b c : ℕ} → a ≤ b → b ≤ c → a ≤ c
+le_both x y = omega (arith, x, y)
+
 -- ---- Callers, who don't wait for a start
 
 abbrev pub Begun : List ℕ → Core → Type 0
@@ -140,3 +151,42 @@ behind_one_fresher f n ns s b = placed_fresher n (place.Behind f) s (λ g. begun
 pub behind_fresher : (f : ℕ) (ns : List ℕ) (s : Core) → Begun ns s → Fresher s (behind f ns s)
 behind_fresher f [] s b = fresher_same s
 behind_fresher f (n ∷ ns) s b = fresher_after s (behind_one f n s) (behind f ns (behind_one f n s)) (behind_one_fresher f n ns s b) (behind_fresher f ns (behind_one f n s) (behind_begun f n ns s b))
+
+behind_is_begun : (f : ℕ) (o : Option Place) → 1 ≤ says (is_behind_of f) o → is_fresh o ≡ false
+behind_is_begun f (Some (place.Behind c)) h = refl
+behind_is_begun f None h = absurd (too_low h)
+behind_is_begun f (Some place.New) h = absurd (too_low h)
+behind_is_begun f (Some (place.Ready m w)) h = absurd (too_low h)
+behind_is_begun f (Some (place.Held w)) h = absurd (too_low h)
+behind_is_begun f (Some place.Running) h = refl
+behind_is_begun f (Some (place.Under c)) h = refl
+behind_is_begun f (Some (place.Waiting y b)) h = refl
+behind_is_begun f (Some (place.Blocked c)) h = refl
+behind_is_begun f (Some place.Suspended) h = refl
+
+-- where each thread has its place, callers have begun
+pub callers_begun : (f : ℕ) (s : Core) → All s → Begun (callers_of f s) s
+callers_begun f s all k h = behind_is_begun f (place_of k s) (le_both h ((all k).callers f))
+
+-- ---- What stands at switch
+
+switch_ready : (o : Option Place) → says is_at_switch o ≡ 1 → is_fresh o ≡ is_start (option_map_or ready_why o why.Resumption)
+switch_ready (Some (place.Ready m w)) h = refl
+switch_ready None h = absurd (no_one h)
+switch_ready (Some place.New) h = absurd (no_one h)
+switch_ready (Some (place.Held w)) h = absurd (no_one h)
+switch_ready (Some place.Running) h = absurd (no_one h)
+switch_ready (Some (place.Under c)) h = refl
+switch_ready (Some (place.Behind c)) h = refl
+switch_ready (Some (place.Waiting y b)) h = refl
+switch_ready (Some (place.Blocked c)) h = refl
+switch_ready (Some place.Suspended) h = refl
+
+stands_once : (j : ℕ) (o : Option ℕ) → o ≡ Some j → switch_entries j o ≡ 1
+stands_once j o e = ap (switch_entries j) e ∙ ap one_if (eq_refl j)
+
+-- what stood at switch keeps its why
+pub displaced_fresher : (o : Option ℕ) (s : Core) → s.queues.switch ≡ o → All s → Fresher s (displaced o s)
+unfolding push_high_first
+displaced_fresher None s e all = fresher_same s
+displaced_fresher (Some j) s e all = placed_fresher j (place.Ready mark.High (why_of j s)) s (λ f. sym (switch_ready (place_of j s) (sym (all j).switch ∙ stands_once j s.queues.switch e)) ∙ f)
