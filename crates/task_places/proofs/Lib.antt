@@ -7,3 +7,8 @@ pub mod WithdrawRows
 pub mod TakeRows
 pub mod PlaceSteps
 pub mod FreshMoves
+pub mod TracedFields
+pub mod TracedWords
+pub mod TracedRows
+pub mod TracedTakes
+pub mod TracedLemmas
