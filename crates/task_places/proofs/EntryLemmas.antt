@@ -177,6 +177,9 @@ module _ (n : ℕ) (q : Place) where
       go false true x y z = let u = one_stands m s.queues.low y in let v = p.low in let w = (one_place (place_of m s)).one in omega (arith, u, v, w)
       go false false x y z = absurd (subst T (sym z) tt)
 
+  pub listed_says : (m : ℕ) (s : Core) → Stand n q [] s → Listed m s → says is_at_high (place_of m s) + says is_at_low (place_of m s) + says is_at_switch (place_of m s) ≡ 1
+  listed_says m s st h = says_one m s h (st.placed m (no_times m (not_own m s st h)))
+
   free_of : (m : ℕ) (s : Core) → says is_at_high (place_of m s) + says is_at_low (place_of m s) + says is_at_switch (place_of m s) ≡ 1 → (f : ℕ) → says (is_behind_of f) (place_of m s) ≡ 0
   free_of m s one f = let w = (one_place (place_of m s)).apart f in omega (arith, one, w)
 
@@ -274,7 +277,7 @@ module _ (n : ℕ) (q : Place) where
   pub promoted_stand : (m : ℕ) (s : Core) → s.queues.switch ≡ None → Listed m s → Stand n q [] s → Stand n q [] (promoted m s)
   promoted_stand m s none h st = subst (λ (u : Core). Stand n q [] u) (sym (promoted_is m s (unqueued_switch m s ∙ none))) (put_switch_stand n q m [] (why_of m s) (unqueued m s) refl (unqueued_stand m s h st))
 
-  no_switch : (o : Option ℕ) → is_some o ≡ false → o ≡ None
+  pub no_switch : (o : Option ℕ) → is_some o ≡ false → o ≡ None
   no_switch None h = refl
   no_switch (Some m) h = absurd (subst T h tt)
 
@@ -322,7 +325,7 @@ module _ (n : ℕ) (q : Place) where
       or_right true y = refl
       or_right false y = y
 
-  entry_listed : (i m : ℕ) (s : Core) → first_entry i s ≡ Some m → Listed m s
+  pub entry_listed : (i m : ℕ) (s : Core) → first_entry i s ≡ Some m → Listed m s
   unfolding first_entry
   entry_listed i m s h = first_listed i s (first_in i s s.queues.high) refl m h
 
@@ -341,7 +344,7 @@ module _ (n : ℕ) (q : Place) where
 
 -- ---- Threads that have no entry stay where they are
 
-unqueued_place : (k m : ℕ) (s : Core) → place_of k (unqueued m s) ≡ place_of k s
+pub unqueued_place : (k m : ℕ) (s : Core) → place_of k (unqueued m s) ≡ place_of k s
 unfolding unqueued set_high set_low
 unqueued_place k m s = go (has_entry m s.queues.high)
   where

@@ -1,21 +1,20 @@
 -- A thread that waits for its start goes on to wait for it, or is gone: what each move keeps.
 use Rattle.std.specs.Option.{option_map_or}
-use Rattle.task_places.proofs.PlaceWords.{All}
-use Rattle.std.proofs.Common.{ap, arith, cond, refl, subst, sym, ◌∙◌}
-use Rattle.std.specs.Prelude.{Bool, List, None, Option, Some, [], false, option_and_then, option_map, true, ℕ, ◌+◌, ◌==◌, ◌∷◌, ◌≡◌, ◌≤◌}
+use Rattle.std.proofs.Common.{ap, arith, cond, refl, subst, sym, ◌∙◌, is_some, not}
+use Rattle.std.specs.Prelude.{if◌then◌else◌, ◌||◌, Bool, List, None, Option, Some, [], false, option_and_then, option_map, true, ℕ, ◌+◌, ◌==◌, ◌∷◌, ◌≡◌, ◌≤◌}
 use Rattle.task_machine.proofs.CommuteLemmas.{get-change}
 use Rattle.task_machine.specs.Core.{Core}
 use Rattle.task_machine.specs.Maps.{get}
-use Rattle.task_machine.specs.Moves.{behind, behind_one, displaced, held_why_of, put_high, put_low, ready_why, released, released_one, resumed_all, why_of}
-use Rattle.task_machine.specs.Read.{callers_of, held_why, place_of}
-use Rattle.task_machine.specs.Write.{on_thread, push_high, push_high_first, push_low, set_callers, set_place}
+use Rattle.task_machine.specs.Moves.{behind, behind_one, displaced, held_why_of, put_high, put_low, ready_why, released, released_one, resumed_all, why_of, put_switch, promoted, promoted_unless, first_entry, checked, newest, resumed_callers, passed_on, stopped, stand, unqueued, promoted_first, older}
+use Rattle.task_machine.specs.Read.{callers_of, held_why, place_of, foot_of, may_not_suspend}
+use Rattle.task_machine.specs.Write.{on_thread, push_high, push_high_first, push_low, set_callers, set_place, set_switch}
 use Rattle.task_machine.specs.declared.records.Place.{Place}
 use Rattle.task_machine.specs.declared.records.Thread.{Thread}
 use Rattle.task_machine.specs.declared.records.Why.{Why}
-use Rattle.task_places.proofs.EntryLemmas.{no_both_of}
-use Rattle.task_rules.proofs.StandLemmas.{eq_refl, is_eq_of}
+use Rattle.task_places.proofs.EntryLemmas.{Listed, entry_listed, listed_says, no_both_of, no_switch, one_place, unqueued_place}
+use Rattle.task_rules.proofs.StandLemmas.{Stand, by_number, eq_refl, is_eq_of, times-newest}
 use Rattle.task_rules.proofs.StopLemmas.{Untouched}
-use Rattle.task_rules.specs.Places.{is_at_switch, is_behind_of, one_if, says, switch_entries, times}
+use Rattle.task_rules.specs.Places.{is_at_high, is_at_low, is_at_switch, is_behind_of, one_if, says, switch_entries, times}
 use Rattle.task_machine.specs.declared.records.Place.TheVariants as place
 use Rattle.task_machine.specs.declared.records.Why.TheVariants as why
 use Rattle.task_machine.specs.declared.words.Mark.TheVariants as mark
@@ -52,17 +51,20 @@ set_place_is k m p s = ap (option_map (λ (t : Thread). t.place)) (get-change m 
     go true (Some t) = refl
     go false o = refl
 
--- a thread comes to a place: where it waited for its start, so it does there
-pub placed_fresher : (m : ℕ) (p : Place) (s : Core) → (is_fresh (place_of m s) ≡ true → is_fresh (Some p) ≡ true) → Fresher s (set_place m p s)
-placed_fresher m p s h k f = ap is_fresh (set_place_is k m p s) ∙ go (k == m) refl
+-- a thread comes to a place, where others have moved before: if it waited for its start, so it does there
+pub over_fresher : (m : ℕ) (p : Place) (s t : Core) → Fresher s t → (is_fresh (place_of m s) ≡ true → is_fresh (Some p) ≡ true) → Fresher s (set_place m p t)
+over_fresher m p s t f h k g = ap is_fresh (set_place_is k m p t) ∙ go (k == m) refl
   where
     own : (o : Option Place) → is_fresh (Some p) ≡ true → is_fresh (option_map (λ (q : Place). p) o) ≡ true
-    own None g = refl
-    own (Some q) g = g
+    own None x = refl
+    own (Some q) x = x
 
-    go : (b : Bool) → (k == m) ≡ b → is_fresh (cond b (option_map (λ (q : Place). p) (place_of k s)) (place_of k s)) ≡ true
-    go true e = own (place_of k s) (h (subst (λ (j : ℕ). is_fresh (place_of j s) ≡ true) (is_eq_of k m e) f))
-    go false e = f
+    go : (b : Bool) → (k == m) ≡ b → is_fresh (cond b (option_map (λ (q : Place). p) (place_of k t)) (place_of k t)) ≡ true
+    go true e = own (place_of k t) (h (subst (λ (j : ℕ). is_fresh (place_of j s) ≡ true) (is_eq_of k m e) g))
+    go false e = f k g
+
+pub placed_fresher : (m : ℕ) (p : Place) (s : Core) → (is_fresh (place_of m s) ≡ true → is_fresh (Some p) ≡ true) → Fresher s (set_place m p s)
+placed_fresher m p s h = over_fresher m p s s (fresher_same s) h
 
 pub high_fresher : (m : ℕ) (w : Why) (s : Core) → (is_fresh (place_of m s) ≡ true → is_start w ≡ true) → Fresher s (put_high m w s)
 unfolding put_high push_high
@@ -164,29 +166,135 @@ behind_is_begun f (Some (place.Waiting y b)) h = refl
 behind_is_begun f (Some (place.Blocked c)) h = refl
 behind_is_begun f (Some place.Suspended) h = refl
 
--- where each thread has its place, callers have begun
-pub callers_begun : (f : ℕ) (s : Core) → All s → Begun (callers_of f s) s
-callers_begun f s all k h = behind_is_begun f (place_of k s) (le_both h ((all k).callers f))
+module _ (n : ℕ) (q : Place) where
+  own_times : times n (n ∷ []) ≡ 1
+  own_times = ap (λ b. one_if b + 0) (eq_refl n)
 
--- ---- What stands at switch
+  no_times : (k : ℕ) → (k == n) ≡ false → times k (n ∷ []) ≡ 0
+  no_times k e = ap (λ b. one_if b + 0) e
 
-switch_ready : (o : Option Place) → says is_at_switch o ≡ 1 → is_fresh o ≡ is_start (option_map_or ready_why o why.Resumption)
-switch_ready (Some (place.Ready m w)) h = refl
-switch_ready None h = absurd (no_one h)
-switch_ready (Some place.New) h = absurd (no_one h)
-switch_ready (Some (place.Held w)) h = absurd (no_one h)
-switch_ready (Some place.Running) h = absurd (no_one h)
-switch_ready (Some (place.Under c)) h = refl
-switch_ready (Some (place.Behind c)) h = refl
-switch_ready (Some (place.Waiting y b)) h = refl
-switch_ready (Some (place.Blocked c)) h = refl
-switch_ready (Some place.Suspended) h = refl
+  none_listed : {c : ℕ} → 1 ≤ c → c ≡ 0 → ⊥
+  none_listed h e = omega (arith, h, e)
 
-stands_once : (j : ℕ) (o : Option ℕ) → o ≡ Some j → switch_entries j o ≡ 1
-stands_once j o e = ap (switch_entries j) e ∙ ap one_if (eq_refl j)
+  -- callers are behind another thread
+  callers_begun : (f : ℕ) (s : Core) → Stand n q [] s → Begun (callers_of f s) s
+  callers_begun f s st k h = by_number k n (is_fresh (place_of k s) ≡ false) (λ e. absurd (none_listed (subst (λ (j : ℕ). 1 ≤ times j (callers_of f s)) e h) ((st.loose n own_times).callers f))) (λ e. behind_is_begun f (place_of k s) (le_both h ((st.placed k (no_times k e)).callers f)))
 
--- what stood at switch keeps its why
-pub displaced_fresher : (o : Option ℕ) (s : Core) → s.queues.switch ≡ o → All s → Fresher s (displaced o s)
-unfolding push_high_first
-displaced_fresher None s e all = fresher_same s
-displaced_fresher (Some j) s e all = placed_fresher j (place.Ready mark.High (why_of j s)) s (λ f. sym (switch_ready (place_of j s) (sym (all j).switch ∙ stands_once j s.queues.switch e)) ∙ f)
+  -- ---- What stands at a mark
+
+  marked_ready : (o : Option Place) → says is_at_high o + says is_at_low o + says is_at_switch o ≡ 1 → is_fresh o ≡ is_start (option_map_or ready_why o why.Resumption)
+  marked_ready (Some (place.Ready m w)) h = refl
+  marked_ready None h = absurd (no_one h)
+  marked_ready (Some place.New) h = absurd (no_one h)
+  marked_ready (Some (place.Held w)) h = absurd (no_one h)
+  marked_ready (Some place.Running) h = refl
+  marked_ready (Some (place.Under c)) h = refl
+  marked_ready (Some (place.Behind c)) h = refl
+  marked_ready (Some (place.Waiting y b)) h = refl
+  marked_ready (Some (place.Blocked c)) h = refl
+  marked_ready (Some place.Suspended) h = refl
+
+  -- the thread comes to switch, and each other one is where it was or still waits for its start
+  switch_fresher : (m : ℕ) (w : Why) (s t : Core) → Fresher s t → (is_fresh (place_of m s) ≡ true → is_start w ≡ true) → Fresher s (set_switch (Some m) (stand m mark.Switch w t))
+  unfolding set_switch
+  switch_fresher m w s t f h = over_fresher m (place.Ready mark.Switch w) s t f h
+
+  stands_once : (j : ℕ) (o : Option ℕ) → o ≡ Some j → switch_entries j o ≡ 1
+  stands_once j o e = ap (switch_entries j) e ∙ ap one_if (eq_refl j)
+
+  at_switch : (high low switch : ℕ) → switch + high + low ≤ 1 → switch ≡ 1 → high + low + switch ≡ 1
+  at_switch high low switch h e = omega (arith, h, e)
+
+  -- what stood at switch keeps its why
+  displaced_fresher : (o : Option ℕ) (s : Core) → s.queues.switch ≡ o → Stand n q [] s → Fresher s (displaced o s)
+  unfolding push_high_first
+  displaced_fresher None s e st = fresher_same s
+  displaced_fresher (Some j) s e st = placed_fresher j (place.Ready mark.High (why_of j s)) s (λ f. sym (marked_ready (place_of j s) says_so) ∙ f)
+    where
+      once : switch_entries j s.queues.switch ≡ 1
+      once = stands_once j s.queues.switch e
+
+      apart : (j == n) ≡ false
+      apart = go (j == n) refl
+        where
+          go : (b : Bool) → (j == n) ≡ b → (j == n) ≡ false
+          go false x = x
+          go true x = absurd (no_one (sym (subst (λ (k : ℕ). switch_entries k s.queues.switch ≡ 0) (sym (is_eq_of j n x)) (st.loose n own_times).switch) ∙ once))
+
+      says_so : says is_at_high (place_of j s) + says is_at_low (place_of j s) + says is_at_switch (place_of j s) ≡ 1
+      says_so = at_switch _ _ _ (one_place (place_of j s)).one (sym (st.placed j (no_times j apart)).switch ∙ once)
+
+  pub put_switch_fresher : (m : ℕ) (w : Why) (s : Core) → (is_fresh (place_of m s) ≡ true → is_start w ≡ true) → Stand n q [] s → Fresher s (put_switch m w s)
+  unfolding put_switch
+  put_switch_fresher m w s h st = switch_fresher m w s (displaced s.queues.switch s) (displaced_fresher s.queues.switch s refl st) h
+
+  -- ---- A promotion
+
+  pub promoted_fresher : (m : ℕ) (s : Core) → Listed m s → Stand n q [] s → Fresher s (promoted m s)
+  unfolding promoted
+  promoted_fresher m s h st = switch_fresher m (why_of m s) s (unqueued m s) (λ k f. ap is_fresh (unqueued_place k m s) ∙ f) (λ f. sym (marked_ready (place_of m s) (listed_says n q m s st h)) ∙ f)
+
+  pub promoted_unless_fresher : (m : ℕ) (s : Core) → (s.queues.switch ≡ None → Listed m s) → Stand n q [] s → Fresher s (promoted_unless m s)
+  unfolding promoted_unless
+  promoted_unless_fresher m s h st = go (is_some s.queues.switch) refl
+    where
+      go : (b : Bool) → is_some s.queues.switch ≡ b → Fresher s (if b then s else promoted m s)
+      go true e = fresher_same s
+      go false e = promoted_fresher m s (h (no_switch n q s.queues.switch e)) st
+
+  first_fresher : (i : ℕ) (s : Core) (o : Option ℕ) → first_entry i s ≡ o → Stand n q [] s → Fresher s (promoted_first o s)
+  first_fresher i s None e st = fresher_same s
+  first_fresher i s (Some m) e st = promoted_fresher m s (entry_listed n q i m s e) st
+
+  pub checked_fresher : (i : ℕ) (s : Core) → Stand n q [] s → Fresher s (checked i s)
+  unfolding checked
+  checked_fresher i s st = go (not (may_not_suspend i s) || is_some s.queues.switch)
+    where
+      go : (b : Bool) → Fresher s (if b then s else promoted_first (first_entry i s) s)
+      go true = fresher_same s
+      go false = first_fresher i s (first_entry i s) refl st
+
+  -- ---- A stop
+
+  newest_begun : (m : ℕ) (ns : List ℕ) (s : Core) → Begun (m ∷ ns) s → Begun (newest m ns ∷ older m ns) s
+  newest_begun m ns s b k h = b k (listed (times-newest k m ns))
+    where
+      listed : times k (m ∷ ns) ≡ times k (older m ns) + one_if (k == newest m ns) → 1 ≤ times k (m ∷ ns)
+      listed e = omega (arith, e, h)
+
+  unswitched_is : (m : ℕ) (w : Why) (s : Core) → s.queues.switch ≡ None → put_switch m w s ≡ set_switch (Some m) (stand m mark.Switch w s)
+  unfolding put_switch
+  unswitched_is m w s e = ap (λ o. set_switch (Some m) (stand m mark.Switch w (displaced o s))) e
+
+  switch_begun : (m : ℕ) (ns : List ℕ) (s : Core) → Begun (m ∷ ns) s → Begun ns (set_switch (Some m) (stand m mark.Switch why.Resumption s))
+  unfolding set_switch
+  switch_begun m ns s b = still_begun m (place.Ready mark.Switch why.Resumption) ns s refl b
+
+  resumed_callers_fresher : (ns : List ℕ) (s : Core) → s.queues.switch ≡ None → Begun ns s → Fresher s (resumed_callers ns s)
+  resumed_callers_fresher [] s e b = fresher_same s
+  resumed_callers_fresher (m ∷ ns) s e b =
+      let j = newest m ns in
+      let c = newest_begun m ns s b in
+      let u = set_switch (Some j) (stand j mark.Switch why.Resumption s) in
+      let f : Fresher s u = switch_fresher j why.Resumption s s (fresher_same s) (λ g. begun_first j (older m ns) s c g) in
+      subst (λ (v : Core). Fresher s (resumed_all (older m ns) v)) (sym (unswitched_is j why.Resumption s e)) (fresher_after s u (resumed_all (older m ns) u) f (resumed_all_fresher (older m ns) u (switch_begun j (older m ns) s c)))
+
+  passed_on_fresher : (o : Option ℕ) (ns : List ℕ) (s : Core) → s.queues.switch ≡ o → Begun ns s → Fresher s (passed_on o ns s)
+  passed_on_fresher (Some m) ns s e b = behind_fresher (foot_of m s) ns s b
+  passed_on_fresher None ns s e b = resumed_callers_fresher ns s e b
+
+  detached_begun : (f : ℕ) (ns : List ℕ) (s : Core) → Begun ns s → Begun ns (set_callers f [] s)
+  unfolding set_callers
+  detached_begun f ns s b = b
+
+  same_switch : (f : ℕ) (s : Core) → (set_callers f [] s).queues.switch ≡ s.queues.switch
+  unfolding set_callers
+  same_switch f s = refl
+
+  detached_fresher : (f : ℕ) (s t : Core) → Fresher (set_callers f [] s) t → Fresher s t
+  unfolding set_callers
+  detached_fresher f s t h = h
+
+  pub stopped_fresher : (f : ℕ) (s : Core) → Stand n q [] s → Fresher s (stopped f s)
+  unfolding stopped
+  stopped_fresher f s st = detached_fresher f s (passed_on s.queues.switch (callers_of f s) (set_callers f [] s)) (passed_on_fresher s.queues.switch (callers_of f s) (set_callers f [] s) (same_switch f s) (detached_begun f (callers_of f s) s (callers_begun f s st)))

@@ -7,6 +7,7 @@ pub mod WithdrawRows
 pub mod TakeRows
 pub mod PlaceSteps
 pub mod FreshMoves
+pub mod FreshStand
 pub mod TracedFields
 pub mod TracedWords
 pub mod TracedRows
