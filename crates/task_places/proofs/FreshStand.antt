@@ -63,7 +63,7 @@ either : (a b : Bool) → (not a || b) ≡ true → a ≡ true → b ≡ true
 either true b h e = h
 either false b h e = absurd (subst T (sym e) tt)
 
-goes : (m : ℕ) (p : Place) (w : Why) (s : Core) → place_of m s ≡ Some p → may_go p w ≡ true → is_fresh (place_of m s) ≡ true → is_start w ≡ true
+pub goes : (m : ℕ) (p : Place) (w : Why) (s : Core) → place_of m s ≡ Some p → may_go p w ≡ true → is_fresh (place_of m s) ≡ true → is_start w ≡ true
 goes m p w s at h f = either (is_fresh (Some p)) (is_start w) h (sym (ap is_fresh at) ∙ f)
 
 comes : (m : ℕ) (p r : Place) (s : Core) → place_of m s ≡ Some p → may_come p r ≡ true → is_fresh (place_of m s) ≡ true → is_fresh (Some r) ≡ true

@@ -112,7 +112,7 @@ known_at None sub h = no_way (ap (λ p. is_some p) h)
 known_at (Some (named.Subtask own)) sub h = ap (λ p. guest_of (unwrap_or p own)) h
 known_at (Some (named.Set x)) sub h = no_way (ap (λ p. is_some p) h)
 
-known_named : (i h : ℕ) (sub : Subtask) {s : Core} → subtask_at i h s ≡ Some sub → Traced s → Known sub s
+pub known_named : (i h : ℕ) (sub : Subtask) {s : Core} → subtask_at i h s ≡ Some sub → Traced s → Known sub s
 known_named i h sub {s = s} is q k e = q.named i h k (known_at (named_by s.handles i h) sub is ∙ e)
 
 -- what the row leads to

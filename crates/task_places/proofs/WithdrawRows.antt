@@ -32,13 +32,14 @@ use Rattle.task_machine.specs.Maps.{get, get-remove}
 use Rattle.task_machine.specs.Write.{set_exited, set_high, set_low, set_switch, set_join, remove_thread, set_end}
 use Rattle.task_machine.specs.Read.{callers_of, is_entry_of, place_of}
 use Rattle.task_machine.specs.Moves.{has_entry, less, less_switch, unqueued, withdrawn}
-use Rattle.task_places.proofs.RunRows.{Runs, Stays, data_row_stays, or_trap_stays, quiet_runs, task_row_stays, trap_if_stays}
+use Rattle.task_places.proofs.RunRows.{Stays, data_row_stays, or_trap_stays, quiet_runs, task_row_stays, trap_if_stays, quiet_goes}
 use Rattle.task_places.proofs.OpRows.{Unused, call_row_stays, set_row_stays}
 use Rattle.task_places.proofs.CallRows.{after_cancel_stays, call_host_polled_stays, call_sync_host_row_stays, call_sync_row_stays, cancel_host_stays, cancel_running_stays, ended_row_stays, thread_row_stays}
 use Rattle.task_machine.specs.declared.records.Entry.{Entry}
 use Rattle.task_machine.specs.declared.records.Thread.{Thread}
 use Rattle.task_machine.specs.declared.op.Op.{Op}
-use Rattle.task_places.specs.Kept.{Withdrawable, is_unbegun}
+use Rattle.task_places.proofs.FreshMoves.{fresher_after, is_fresh}
+use Rattle.task_places.proofs.FreshStand.{Going, Runs, removed_fresher}
 use Rattle.task_machine.specs.declared.op.Op.TheVariants as op
 use Rattle.task_rules.specs.Step.{op_row}
 
@@ -126,104 +127,112 @@ removed_gone m s l = loose_gone m (remove_thread m s) (gone_place m s) (removed_
 
 -- ---- The withdrawal
 
-unbegun_free : (o : Option Place) → is_unbegun o ≡ true → (f : ℕ) → says (is_behind_of f) o ≡ 0
-unbegun_free None h f = refl
-unbegun_free (Some place.New) h f = refl
-unbegun_free (Some (place.Ready m w)) h f = refl
-unbegun_free (Some (place.Held w)) h f = refl
-unbegun_free (Some place.Running) h f = refl
-unbegun_free (Some (place.Under c)) h f = refl
-unbegun_free (Some (place.Behind c)) h f = absurd (subst T (sym h) tt)
-unbegun_free (Some (place.Waiting y b)) h f = refl
-unbegun_free (Some (place.Blocked c)) h f = refl
-unbegun_free (Some place.Suspended) h f = refl
+-- where a handle names a call whose start hasn't run, its first thread waits for it, or is gone
+abbrev pub Withdrawable : Core → Type 0
+Withdrawable s = (i h k : ℕ) → subtask_at i h s ≡ Some (subtask.Guest k) → was_started k s ≡ false → is_fresh (place_of k s) ≡ true
 
-unbegun_apart : (n k : ℕ) (s : Core) → is_unbegun (place_of k s) ≡ true → Runs n s → (k == n) ≡ false
-unbegun_apart n k s h r = go (k == n) refl
-  where
-    go : (b : Bool) → (k == n) ≡ b → (k == n) ≡ false
-    go false e = e
-    go true e = absurd (subst T (sym h ∙ ap is_unbegun (ap (λ (j : ℕ). place_of j s) (is_eq_of k n e) ∙ r.here)) tt)
+fresh_free : (o : Option Place) → is_fresh o ≡ true → (f : ℕ) → says (is_behind_of f) o ≡ 0
+fresh_free None h f = refl
+fresh_free (Some place.New) h f = refl
+fresh_free (Some (place.Ready m w)) h f = refl
+fresh_free (Some (place.Held w)) h f = refl
+fresh_free (Some place.Running) h f = refl
+fresh_free (Some (place.Under c)) h f = refl
+fresh_free (Some (place.Behind c)) h f = absurd (subst T (sym h) tt)
+fresh_free (Some (place.Waiting y b)) h f = refl
+fresh_free (Some (place.Blocked c)) h f = refl
+fresh_free (Some place.Suspended) h f = refl
 
-withdrawn_runs : (n k : ℕ) (s : Core) → is_unbegun (place_of k s) ≡ true → Runs n s → Runs n (withdrawn k s)
-unfolding withdrawn
-withdrawn_runs n k s h r =
-    let a = unqueued_switch_of k s in
-    let b = remove_thread k a in
-    let c = set_end k call_end.StartCancelled b in
-    let d = set_exited k c in
-    let u = untouched_after (set_end_untouched k call_end.StartCancelled b) (untouched_after (set_exited_untouched k c) (set_uninteresting_untouched k d)) in
-    quiet_runs n b _ u sb
-  where
-    apart : (k == n) ≡ false
-    apart = unbegun_apart n k s h r
+module _ {base : Core} where
+  fresh_apart : (n k : ℕ) (s : Core) → is_fresh (place_of k s) ≡ true → Runs base n s → (k == n) ≡ false
+  fresh_apart n k s h r = go (k == n) refl
+    where
+      go : (b : Bool) → (k == n) ≡ b → (k == n) ≡ false
+      go false e = e
+      go true e = absurd (subst T (sym h ∙ ap is_fresh (ap (λ (j : ℕ). place_of j s) (is_eq_of k n e) ∙ r.stand.here)) tt)
 
-    p : HasPlace k s
-    p = r.placed k (ap (λ b. one_if b + 0) apart)
+  withdrawn_runs : (n k : ℕ) (s : Core) → is_fresh (place_of k s) ≡ true → Runs base n s → Runs base n (withdrawn k s)
+  unfolding withdrawn
+  withdrawn_runs n k s h r =
+      let a = unqueued_switch_of k s in
+      let b = remove_thread k a in
+      let c = set_end k call_end.StartCancelled b in
+      let d = set_exited k c in
+      let u = untouched_after (set_end_untouched k call_end.StartCancelled b) (untouched_after (set_exited_untouched k c) (set_uninteresting_untouched k d)) in
+      quiet_runs n b _ u sb
+    where
+      apart : (k == n) ≡ false
+      apart = fresh_apart n k s h r
 
-    g : (a : ℕ) × ((b : ℕ) × ((c : ℕ) × ((a + b + c ≡ says is_at_high (place_of k s) + says is_at_low (place_of k s) + says is_at_switch (place_of k s)) × Shorter k a b c s (unqueued_switch_of k s))))
-    g = gone_shorter k s p
+      p : HasPlace k s
+      p = r.stand.placed k (ap (λ b. one_if b + 0) apart)
 
-    w : Shorter k g.0 g.1.0 g.1.1.0 s (unqueued_switch_of k s)
-    w = g.1.1.1.1
+      g : (a : ℕ) × ((b : ℕ) × ((c : ℕ) × ((a + b + c ≡ says is_at_high (place_of k s) + says is_at_low (place_of k s) + says is_at_switch (place_of k s)) × Shorter k a b c s (unqueued_switch_of k s))))
+      g = gone_shorter k s p
 
-    flip : (n == k) ≡ false
-    flip = go (n == k) refl
-      where
-        go : (b : Bool) → (n == k) ≡ b → (n == k) ≡ false
-        go false e = e
-        go true e = absurd (not_eq k n apart (sym (is_eq_of n k e)))
+      w : Shorter k g.0 g.1.0 g.1.1.0 s (unqueued_switch_of k s)
+      w = g.1.1.1.1
 
-    no_one : ◌≡◌ {A = ℕ} 0 1 → ⊥
-    no_one x = omega (arith, x)
+      flip : (n == k) ≡ false
+      flip = go (n == k) refl
+        where
+          go : (b : Bool) → (n == k) ≡ b → (n == k) ≡ false
+          go false e = e
+          go true e = absurd (not_eq k n apart (sym (is_eq_of n k e)))
 
-    sb : Runs n (remove_thread k (unqueued_switch_of k s))
-    sb = record {
-      here = other_place n k _ flip ∙ (w.places n ∙ r.here);
-      once = r.once;
-      loose = λ j e. removed_still j k _ (shorter_still j k g.0 g.1.0 g.1.1.0 s _ w (r.loose j e));
-      there = λ j e. absurd (no_one e);
-      placed = λ j e. by_number j k (HasPlace j (remove_thread k (unqueued_switch_of k s)))
-          (λ same. subst (λ (i : ℕ). HasPlace i (remove_thread k (unqueued_switch_of k s))) (sym same) (removed_gone k _ (shorter_loose k g.0 g.1.0 g.1.1.0 s _ g.1.1.1.0 (unbegun_free (place_of k s) h) w p)))
-          (λ other. removed_kept j k _ other (shorter_kept j k g.0 g.1.0 g.1.1.0 s _ other w (r.placed j e)));
-    }
+      no_one : ◌≡◌ {A = ℕ} 0 1 → ⊥
+      no_one x = omega (arith, x)
 
-start_withdrawn_runs : (n r k : ℕ) (s : Core) → is_unbegun (place_of k s) ≡ true → Runs n s → Runs n (start_withdrawn n r k s)
-unfolding start_withdrawn
-start_withdrawn_runs n r k s h q = quiet_runs n (withdrawn k s) _ (answered_untouched n r 3 (withdrawn k s)) (withdrawn_runs n k s h q)
+      sb : Runs base n (remove_thread k (unqueued_switch_of k s))
+      sb = record {
+        stand = record {
+          here = other_place n k _ flip ∙ (w.places n ∙ r.stand.here);
+          once = r.stand.once;
+          loose = λ j e. removed_still j k _ (shorter_still j k g.0 g.1.0 g.1.1.0 s _ w (r.stand.loose j e));
+          there = λ j e. absurd (no_one e);
+          placed = λ j e. by_number j k (HasPlace j (remove_thread k (unqueued_switch_of k s)))
+              (λ same. subst (λ (i : ℕ). HasPlace i (remove_thread k (unqueued_switch_of k s))) (sym same) (removed_gone k _ (shorter_loose k g.0 g.1.0 g.1.1.0 s _ g.1.1.1.0 (fresh_free (place_of k s) h) w p)))
+              (λ other. removed_kept j k _ other (shorter_kept j k g.0 g.1.0 g.1.1.0 s _ other w (r.stand.placed j e)));
+        };
+        fresh = fresher_after base s (remove_thread k (unqueued_switch_of k s)) r.fresh (fresher_after s (unqueued_switch_of k s) (remove_thread k (unqueued_switch_of k s)) (λ j f. ap is_fresh (w.places j) ∙ f) (removed_fresher k (unqueued_switch_of k s)));
+      }
 
-cancel_guest_stays : (mode : Mode) (n r k : ℕ) (s : Core) → Runs n s → (a b : Bool) → has_ended k s ≡ a → was_started k s ≡ b → (has_ended k s ≡ false → was_started k s ≡ false → is_unbegun (place_of k s) ≡ true) → Stays (cancel_guest mode n r k s a b)
-cancel_guest_stays mode n r k s q true b e f h = ended_row_stays mode n r (subtask.Guest k) s q (undelivered_end (event_of (subtask.Guest k) s))
-cancel_guest_stays mode n r k s q false true e f h = cancel_running_stays mode n r k s q (is_at k s is_callback_wait) refl
-cancel_guest_stays mode n r k s q false false e f h = start_withdrawn_runs n r k s (h e f) q
+  start_withdrawn_goes : (n r k : ℕ) (s : Core) → is_fresh (place_of k s) ≡ true → Runs base n s → Going base n (start_withdrawn n r k s)
+  unfolding start_withdrawn
+  start_withdrawn_goes n r k s h q = quiet_goes n (withdrawn k s) _ (answered_untouched n r 3 (withdrawn k s)) (withdrawn_runs n k s h q)
 
-cancel_subtask_stays : (mode : Mode) (n r : ℕ) (s : Core) → Withdrawable s → Runs n s → (i h : ℕ) (sub : Subtask) → subtask_at i h s ≡ Some sub → Stays (cancel_subtask mode n r s sub)
-cancel_subtask_stays mode n r s may_be q i h (subtask.Guest k) e = cancel_guest_stays mode n r k s q (has_ended k s) (was_started k s) refl refl (may_be i h k e)
-cancel_subtask_stays mode n r s may_be q i h (subtask.Host j) e = cancel_host_stays mode n r j s q
+  cancel_guest_stays : (mode : Mode) (n r k : ℕ) (s : Core) → Runs base n s → (a b : Bool) → was_started k s ≡ b → (was_started k s ≡ false → is_fresh (place_of k s) ≡ true) → Stays base (cancel_guest mode n r k s a b)
+  cancel_guest_stays mode n r k s q true b f h = ended_row_stays mode n r (subtask.Guest k) s q (undelivered_end (event_of (subtask.Guest k) s))
+  cancel_guest_stays mode n r k s q false true f h = cancel_running_stays mode n r k s q (is_at k s is_callback_wait) refl
+  cancel_guest_stays mode n r k s q false false f h = start_withdrawn_goes n r k s (h f) q
 
-cancel_begins_stays : (mode : Mode) (n r h : ℕ) (s : Core) → Withdrawable s → Runs n s → Stays (or_trap (subtask_at (instance_of n s) h s) trap.BadHandle (cancel_found mode n r s))
-cancel_begins_stays mode n r h s may_be q = or_trap_stays (subtask_at (instance_of n s) h s) trap.BadHandle (cancel_found mode n r s) (λ sub e. trap_if_stays (is_joined (join_of sub s)) trap.WaitableSyncAndAsync (cancel_subtask mode n r s sub) (λ f. cancel_subtask_stays mode n r s may_be q (instance_of n s) h sub e))
+  cancel_subtask_stays : (mode : Mode) (n r : ℕ) (s : Core) → Withdrawable s → Runs base n s → (i h : ℕ) (sub : Subtask) → subtask_at i h s ≡ Some sub → Stays base (cancel_subtask mode n r s sub)
+  cancel_subtask_stays mode n r s may_be q i h (subtask.Guest k) e = cancel_guest_stays mode n r k s q (has_ended k s) (was_started k s) refl (may_be i h k e)
+  cancel_subtask_stays mode n r s may_be q i h (subtask.Host j) e = cancel_host_stays mode n r j s q
 
-cancel_row_stays : (mode : Mode) (n r h : ℕ) (s : Core) → Withdrawable s → Runs n s → (f : HowFar) → Stays (cancel_row mode n r h s f)
-cancel_row_stays mode n r h s may_be q (how_far.Cancels sub) = after_cancel_stays mode n r sub (cancel_resumed n sub s) (quiet_runs n s _ (cancel_resumed_untouched n sub s) q)
-cancel_row_stays mode n r h s may_be q (how_far.AwaitsEnd sub) = ended_row_stays mode n r sub (set_join sub join.Nowhere s) (quiet_runs n s _ (set_join_untouched sub join.Nowhere s) q) (undelivered_end (event_of sub (set_join sub join.Nowhere s)))
-cancel_row_stays mode n r h s may_be q _ = cancel_begins_stays mode n r h s may_be q
+  cancel_begins_stays : (mode : Mode) (n r h : ℕ) (s : Core) → Withdrawable s → Runs base n s → Stays base (or_trap (subtask_at (instance_of n s) h s) trap.BadHandle (cancel_found mode n r s))
+  cancel_begins_stays mode n r h s may_be q = or_trap_stays base (subtask_at (instance_of n s) h s) trap.BadHandle (cancel_found mode n r s) (λ sub e. trap_if_stays base (is_joined (join_of sub s)) trap.WaitableSyncAndAsync (cancel_subtask mode n r s sub) (λ f. cancel_subtask_stays mode n r s may_be q (instance_of n s) h sub e))
 
-drop_found_stays : (n h : ℕ) (s : Core) → Runs n s → (sub : Subtask) → Stays (drop_found n h s sub)
-drop_found_stays n h s q sub = trap_if_stays (is_watched (join_of sub s)) trap.WaitableSyncAndAsync _ (λ e. trap_if_stays (not (subtask_ended sub s)) trap.SubtaskDropNotResolved _ (λ f. trap_if_stays (is_some (event_of sub s)) trap.SubtaskDropNotResolved (Goes (label.Call (call_label.Drop n)) (dropped n h sub s) n) (λ g. quiet_runs n s _ (dropped_untouched n h sub s) q)))
+  cancel_row_stays : (mode : Mode) (n r h : ℕ) (s : Core) → Withdrawable s → Runs base n s → (f : HowFar) → Stays base (cancel_row mode n r h s f)
+  cancel_row_stays mode n r h s may_be q (how_far.Cancels sub) = after_cancel_stays mode n r sub (cancel_resumed n sub s) (quiet_runs n s _ (cancel_resumed_untouched n sub s) q)
+  cancel_row_stays mode n r h s may_be q (how_far.AwaitsEnd sub) = ended_row_stays mode n r sub (set_join sub join.Nowhere s) (quiet_runs n s _ (set_join_untouched sub join.Nowhere s) q) (undelivered_end (event_of sub (set_join sub join.Nowhere s)))
+  cancel_row_stays mode n r h s may_be q _ = cancel_begins_stays mode n r h s may_be q
 
-subtask_row_stays : (c : Component) (n : ℕ) (s : Core) → Unused s → Withdrawable s → Runs n s → (o : CallOp) → Stays (subtask_row c n s o)
-subtask_row_stays c n s none may_be q (call_op.Call r to e xs) = call_row_stays c n r to e (values_in (registers_of n s) xs) s none q (how_far_of n s)
-subtask_row_stays c n s none may_be q (call_op.CallSync r e xs) = call_sync_row_stays c n r e (values_in (registers_of n s) xs) s none q (how_far_of n s)
-subtask_row_stays c n s none may_be q (call_op.CallHost r to h) = call_host_polled_stays n r to s q (first_poll (host_at c h))
-subtask_row_stays c n s none may_be q (call_op.CallSyncHost r h) = call_sync_host_row_stays c n r h s q (how_far_of n s)
-subtask_row_stays c n s none may_be q (call_op.Cancel r x) = cancel_row_stays Async n r (value_of n s x) s may_be q (how_far_of n s)
-subtask_row_stays c n s none may_be q (call_op.CancelSync r x) = cancel_row_stays Sync n r (value_of n s x) s may_be q (how_far_of n s)
-subtask_row_stays c n s none may_be q (call_op.Drop x) = or_trap_stays (subtask_at (instance_of n s) (value_of n s x) s) trap.BadHandle (drop_found n (value_of n s x) s) (λ sub e. drop_found_stays n (value_of n s x) s q sub)
+  drop_found_stays : (n h : ℕ) (s : Core) → Runs base n s → (sub : Subtask) → Stays base (drop_found n h s sub)
+  drop_found_stays n h s q sub = trap_if_stays base (is_watched (join_of sub s)) trap.WaitableSyncAndAsync _ (λ e. trap_if_stays base (not (subtask_ended sub s)) trap.SubtaskDropNotResolved _ (λ f. trap_if_stays base (is_some (event_of sub s)) trap.SubtaskDropNotResolved (Goes (label.Call (call_label.Drop n)) (dropped n h sub s) n) (λ g. quiet_goes n s _ (dropped_untouched n h sub s) q)))
 
-pub op_row_stays : (c : Component) (n : ℕ) (s : Core) → Unused s → Withdrawable s → Runs n s → (ch : Choice) (o : Op) → Stays (op_row c n s ch o)
-op_row_stays c n s none may_be q ch (op.Data o) = data_row_stays c n s q o
-op_row_stays c n s none may_be q ch (op.Task o) = task_row_stays n s q ch o
-op_row_stays c n s none may_be q ch (op.Set o) = set_row_stays n s q ch o
-op_row_stays c n s none may_be q ch (op.Call o) = subtask_row_stays c n s none may_be q o
-op_row_stays c n s none may_be q ch (op.Thread o) = thread_row_stays c n s none q o
+  subtask_row_stays : (c : Component) (n : ℕ) (s : Core) → Unused s → Withdrawable s → Runs base n s → (o : CallOp) → Stays base (subtask_row c n s o)
+  subtask_row_stays c n s none may_be q (call_op.Call r to e xs) = call_row_stays c n r to e (values_in (registers_of n s) xs) s none q (how_far_of n s)
+  subtask_row_stays c n s none may_be q (call_op.CallSync r e xs) = call_sync_row_stays c n r e (values_in (registers_of n s) xs) s none q (how_far_of n s)
+  subtask_row_stays c n s none may_be q (call_op.CallHost r to h) = call_host_polled_stays n r to s q (first_poll (host_at c h))
+  subtask_row_stays c n s none may_be q (call_op.CallSyncHost r h) = call_sync_host_row_stays c n r h s q (how_far_of n s)
+  subtask_row_stays c n s none may_be q (call_op.Cancel r x) = cancel_row_stays Async n r (value_of n s x) s may_be q (how_far_of n s)
+  subtask_row_stays c n s none may_be q (call_op.CancelSync r x) = cancel_row_stays Sync n r (value_of n s x) s may_be q (how_far_of n s)
+  subtask_row_stays c n s none may_be q (call_op.Drop x) = or_trap_stays base (subtask_at (instance_of n s) (value_of n s x) s) trap.BadHandle (drop_found n (value_of n s x) s) (λ sub e. drop_found_stays n (value_of n s x) s q sub)
+
+  pub op_row_stays : (c : Component) (n : ℕ) (s : Core) → Unused s → Withdrawable s → Runs base n s → (ch : Choice) (o : Op) → Stays base (op_row c n s ch o)
+  op_row_stays c n s none may_be q ch (op.Data o) = data_row_stays c n s q o
+  op_row_stays c n s none may_be q ch (op.Task o) = task_row_stays n s q ch o
+  op_row_stays c n s none may_be q ch (op.Set o) = set_row_stays n s q ch o
+  op_row_stays c n s none may_be q ch (op.Call o) = subtask_row_stays c n s none may_be q o
+  op_row_stays c n s none may_be q ch (op.Thread o) = thread_row_stays c n s none q o

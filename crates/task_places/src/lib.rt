@@ -4,4 +4,4 @@
 
 mod places;
 
-pub use places::steps_keep_places;
+pub use places::{reached_are_placed, steps_keep_places};
