@@ -58,7 +58,7 @@ use Rattle.task_machine.specs.Write.{count_work, set_started, set_saved_callee, 
 use Rattle.task_machine.specs.Read.{place_of}
 use Rattle.task_machine.specs.Moves.{promoted_unless}
 use Rattle.task_rules.specs.Calls.{call_made}
-use Rattle.task_places.proofs.RunRows.{Stays, advanced_goes, assigned_goes, quiet_goes, how_far_all, or_trap_stays, quiet_runs, stopped_all, trap_if_stays, assigned_runs}
+use Rattle.task_places.proofs.RunRows.{Stays, advanced_goes, assigned_goes, quiet_goes, how_far_all, or_trap_stays, quiet_runs, stopped_all, trap_if_stays}
 use Rattle.task_places.proofs.OpRows.{Unused, blocked_all, call_begins_stays, call_sync_status_stays, made_place, made_stand}
 use Rattle.task_machine.specs.declared.records.Entry.TheVariants as entry
 use Rattle.task_machine.specs.declared.records.WorkCaller.{WorkCaller}

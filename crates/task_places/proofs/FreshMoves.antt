@@ -23,6 +23,7 @@ abbrev pub is_start : Why → Bool
 is_start why.Start = true
 is_start _ = false
 
+-- the thread is gone, or waits for its start
 abbrev pub is_fresh : Option Place → Bool
 is_fresh None = true
 is_fresh (Some place.New) = true
@@ -30,6 +31,7 @@ is_fresh (Some (place.Ready m w)) = is_start w
 is_fresh (Some (place.Held w)) = is_start w
 is_fresh _ = false
 
+-- what waits for its start in s does so in t, or is gone
 abbrev pub Fresher : Core → Core → Type 0
 Fresher s t = (k : ℕ) → is_fresh (place_of k s) ≡ true → is_fresh (place_of k t) ≡ true
 

@@ -1,7 +1,7 @@
 -- Each thread has its place, and those that waited for their starts in the core before the step still do: what the moves keep, beside a thread that runs or is taken.
 use Rattle.std.proofs.Common.{T, ap, refl, subst, sym, ◌∙◌, cond}
 use Rattle.std.specs.Option.{option_map_or}
-use Rattle.std.specs.Prelude.{Bool, List, None, Option, Some, [], false, not, option_and_then, option_map, true, ℕ, ◌+◌, ◌==◌, ◌||◌, ◌≡◌}
+use Rattle.std.specs.Prelude.{Bool, List, None, Option, Some, [], false, not, option_map, true, ℕ, ◌==◌, ◌||◌, ◌≡◌}
 use Rattle.task_machine.specs.Core.{Core}
 use Rattle.task_machine.specs.Maps.{get, get-remove}
 use Rattle.task_machine.specs.Read.{place_of}
@@ -10,9 +10,8 @@ use Rattle.task_machine.specs.declared.records.Place.{Place}
 use Rattle.task_machine.specs.declared.records.Place.TheVariants as place
 use Rattle.task_machine.specs.declared.records.Thread.{Thread}
 use Rattle.task_machine.specs.declared.records.Why.{Why}
-use Rattle.task_machine.specs.declared.words.Mark.TheVariants as mark
 use Rattle.task_machine.specs.Moves.{behind_one, checked, promoted_unless, put_high, put_low, put_switch, released, stopped}
-use Rattle.task_machine.specs.Write.{add_thread, push_high, remove_thread, set_place, set_callers}
+use Rattle.task_machine.specs.Write.{remove_thread, set_place, set_callers}
 use Rattle.task_places.proofs.EntryLemmas.{Listed}
 use Rattle.task_places.proofs.EntryLemmas as entry_lemmas
 use Rattle.task_places.proofs.FreshMoves.{Fresher, checked_fresher, fresher_after, fresher_quiet, high_fresher, is_fresh, is_start, low_fresher, placed_fresher, promoted_unless_fresher, put_switch_fresher, released_fresher, stopped_fresher}
@@ -56,6 +55,7 @@ pub record Going (base : Core) (m : ℕ) (s : Core) : Type 0 where
 abbrev pub may_go : Place → Why → Bool
 may_go p w = not (is_fresh (Some p)) || is_start w
 
+-- likewise a thread that comes from p to r
 abbrev pub may_come : Place → Place → Bool
 may_come p r = not (is_fresh (Some p)) || is_fresh (Some r)
 
@@ -73,7 +73,7 @@ comes m p r s at h f = either (is_fresh (Some p)) (is_fresh (Some r)) h (sym (ap
 pub not_fresh : {base : Core} (n : ℕ) (q : Place) (s : Core) → is_fresh (Some q) ≡ false → Standing base n q s → {A : Type 0} → is_fresh (place_of n base) ≡ true → A
 not_fresh n q s begun st f = absurd (subst T (sym (st.fresh n f) ∙ (ap is_fresh st.stand.here ∙ begun)) tt)
 
--- a thread that ran goes on to run
+-- a thread that ran before goes on to run
 pub going : {base : Core} (n : ℕ) (s : Core) → Runs base n s → Going base n s
 going n s r = record { stand = r.stand; fresh = λ k e f. r.fresh k f; begun = λ f. not_fresh n place.Running s refl r f }
 

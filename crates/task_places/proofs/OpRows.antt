@@ -1,6 +1,6 @@
 -- What is kept by the ops on sets, subtasks and threads: each thread has its place.
 use Rattle.std.proofs.Common.{refl}
-use Rattle.std.specs.Prelude.{Bool, List, None, Option, Some, [], false, not, suc, true, zero, ℕ, ◌≡◌}
+use Rattle.std.specs.Prelude.{Bool, List, None, Option, Some, false, not, suc, true, zero, ℕ, ◌≡◌}
 use Rattle.task_machine.specs.Core.{Core}
 use Rattle.task_machine.specs.Labels.{Choice, join_label}
 use Rattle.task_machine.specs.Moves.{Gift, NoGift, gift, may_hand_on, passes_check}
@@ -108,7 +108,6 @@ module _ {base : Core} where
   set_row_stays n s q ch (set_op.Wait r x) = wait_row_stays n r (value_of n s x) ch s q (how_far_of n s)
   set_row_stays n s q ch (set_op.Poll r x) = poll_row_stays n r (value_of n s x) ch s q
   set_row_stays n s q ch (set_op.Join x y) = or_trap_stays base (subtask_at (instance_of n s) (value_of n s x) s) trap.BadHandle (join_to n (value_of n s y) ch.woken s) (λ sub e. join_to_stays n (value_of n s y) ch.woken s q sub)
-
   -- ---- Calls
 
 -- the next thread's number names no thread

@@ -1,6 +1,6 @@
 -- Each thread has its place: what each step keeps.
 use Rattle.std.proofs.Common.{T, ap, arith, refl, subst, sym, ◌∙◌}
-use Rattle.std.specs.Prelude.{Bool, List, None, Option, Some, [], false, is_some, not, option_map, suc, true, zero, ℕ, ◌++◌, ◌+◌, ◌==◌, ◌∷◌, ◌≡◌, ◌≤◌}
+use Rattle.std.specs.Prelude.{Bool, List, None, Option, Some, [], false, not, suc, true, zero, ℕ, ◌+◌, ◌==◌, ◌∷◌, ◌≡◌}
 use Rattle.task_machine.specs.Core.{Began, Core, Main, MainPlace, Refused, Scripted, Started, State, Unscripted}
 use Rattle.task_machine.specs.Labels.{Choice, choice_of}
 use Rattle.task_machine.specs.Moves.{ended}
@@ -21,7 +21,7 @@ use Rattle.task_rules.proofs.UntouchedLemmas.{add_call_untouched, add_group_unto
 use Rattle.task_rules.proofs.MoveLemmas.{all_of}
 use Rattle.task_rules.proofs.StandLemmas.{Loose, Stand, by_number, eq_refl, is_eq_of}
 use Rattle.task_rules.proofs.StopLemmas.{quiet_placed}
-use Rattle.task_rules.specs.Places.{HasPlace, Numbered, is_at_high, is_at_low, is_at_switch, is_behind_of, one_if, says, times}
+use Rattle.task_rules.specs.Places.{HasPlace, is_at_high, is_at_low, is_at_switch, is_behind_of, one_if, says, times}
 use Rattle.task_machine.specs.declared.records.Place.{Place}
 use Rattle.std.specs.Option.{option_map_or}
 use Rattle.task_machine.specs.Maps.{get, size}
@@ -30,23 +30,16 @@ use Rattle.task_places.proofs.OpRows.{Unused}
 use Rattle.task_machine.specs.declared.records.WorkCaller.{WorkCaller}
 use Rattle.task_machine.specs.declared.words.Mark.{Mark}
 use Rattle.task_machine.specs.declared.records.Entry.{Entry}
-use Rattle.task_machine.specs.declared.records.Thread.{Thread}
-use Rattle.task_rules.specs.Step.{DeadlockStep, EmptyFor, FuturesStep, MainProgresses, MainStep, OpenProgresses, OpenStep, Polled, Progresses, RestStep, ScriptStep, Step, TakeStep, TurnStep, did, entry_number, struck}
+use Rattle.task_rules.specs.Step.{DeadlockStep, EmptyFor, FuturesStep, MainProgresses, MainStep, OpenProgresses, OpenStep, Polled, Progresses, RestStep, ScriptStep, TakeStep, TurnStep, did, entry_number, struck}
 use Rattle.task_rules.specs.MainOps.{Abort, Answer, Answers, Await, Does, Finish, MainAct, MainProgress, Pends, Quiet, Ready, Spawn, Start, act_of, finish_act, finish_result, has_interesting, is_complete, is_ready_for_call, line_of, main_row, main_spawned, main_started, op_at, start_act, start_refusal, unless_pending}
 use Rattle.task_rules.specs.Works.{Ends, FailsNow, Poll, StillPends, course_for, followed, next_polled, pended, poll_of, work_ended}
 use Rattle.task_places.proofs.WithdrawRows.{Withdrawable, gone_place, op_row_stays, other_place, removed_gone, removed_kept}
-use Rattle.task_laws.specs.Settings.{Reached}
 use Rattle.task_machine.specs.declared.label.MainLabel.{MainLabel}
 use Rattle.task_machine.specs.declared.records.Turn.{Turn}
 use Rattle.task_machine.specs.declared.scenario.MainOp.{MainOp}
-use Rattle.task_rules.specs.Run.{opening}
 use Rattle.task_rules.specs.Stalled.{Setting}
 use Rattle.task_rules.specs.Turns.{at_turn, goes_to, nothing_stands, settled_futures, settled_take}
 use Rattle.task_places.proofs.TakeRows.{Front, Owned, owned_popped, high_all, host_done_all, next_front, popped_all, popped_stand, taken_for_stays, unblocked_all}
-use Rattle.task_laws.proofs.EachLemmas.{each_get}
-use Rattle.task_laws.proofs.SoundLemmas.{ThreadSound}
-use Rattle.task_laws.proofs.SoundSteps.{reached_settled}
-use Rattle.task_rules.proofs.LawLemmas.{run_goes_on}
 use Rattle.task_machine.specs.declared.records.Caller.TheVariants as caller
 use Rattle.task_machine.specs.declared.records.Goal.TheVariants as goal
 use Rattle.task_machine.specs.declared.label.Label.TheVariants as label

@@ -1,14 +1,14 @@
 -- Each reached state has each thread at its place: what all steps keep.
 use Rattle.std.proofs.Common.{T, ap, arith, refl, subst, sym, ◌∙◌}
 use Rattle.std.specs.Option.{option_map_or}
-use Rattle.std.specs.Prelude.{Bool, List, None, Option, Some, [], false, is_none, is_some, not, option_map, true, unwrap_or, ℕ, ◌++◌, ◌+◌, ◌==◌, ◌∷◌, ◌≡◌, ◌≤◌}
+use Rattle.std.specs.Prelude.{Bool, List, None, Option, Some, [], false, is_none, is_some, not, option_map, true, unwrap_or, ℕ, ◌++◌, ◌+◌, ◌∷◌, ◌≡◌, ◌≤◌}
 use Rattle.task_laws.proofs.EachLemmas.{each_get}
 use Rattle.task_laws.proofs.SoundLemmas.{ThreadSound}
 use Rattle.task_laws.proofs.SoundSteps.{reached_settled, explicit_names_no_call}
 use Rattle.task_laws.specs.Settings.{Reached}
 use Rattle.task_machine.specs.Core.{Core, State, fresh, Main}
 use Rattle.task_machine.specs.Maps.{get, get-empty, empty}
-use Rattle.task_machine.specs.Read.{is_explicit, place_of, was_started}
+use Rattle.task_machine.specs.Read.{place_of}
 use Rattle.task_machine.specs.declared.label.Label.{Label}
 use Rattle.task_machine.specs.declared.records.Call.{Call}
 use Rattle.task_machine.specs.declared.records.Place.{Place}
@@ -20,7 +20,7 @@ use Rattle.task_places.proofs.FreshMoves.{fresher_same, is_fresh}
 use Rattle.task_places.proofs.FreshStand.{is_starting}
 use Rattle.task_places.proofs.OpRows.{Unused}
 use Rattle.task_places.proofs.PlaceSteps.{AllOwned, Lands, is_turn_of, turn_step_lands}
-use Rattle.task_places.proofs.TakeRows.{Owned, begun_later}
+use Rattle.task_places.proofs.TakeRows.{begun_later}
 use Rattle.task_places.proofs.TracedFields.{First, Housed, Traced}
 use Rattle.task_places.proofs.TracedLemmas.{reached_traced}
 use Rattle.task_places.proofs.TracedRows.{known_named}

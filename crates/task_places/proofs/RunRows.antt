@@ -1,6 +1,6 @@
 -- What is kept by the ops of a running thread: each thread has its place.
 use Rattle.std.proofs.Common.{T, ap, refl, subst, sym, ◌∙◌}
-use Rattle.std.specs.Prelude.{Bool, option_map, List, None, Option, Some, [], false, nat_le, nat_lt, not, suc, true, zero, ℕ, ◌%◌, ◌*◌, ◌+◌, ◌/◌, ◌==◌, ◌≡◌}
+use Rattle.std.specs.Prelude.{Bool, option_map, List, None, Option, Some, false, nat_le, nat_lt, not, suc, true, zero, ℕ, ◌%◌, ◌*◌, ◌+◌, ◌/◌, ◌==◌, ◌≡◌}
 use Rattle.task_machine.specs.Core.{Core}
 use Rattle.task_machine.specs.Labels.{Choice, exit_label, ret_label, task_cancel_label}
 use Rattle.task_machine.specs.Moves.{checked, passes_check}
@@ -123,11 +123,7 @@ module _ {base : Core} where
   data_row_stays c n s q (data_op.Load r w) = assigned_goes n r _ s q
   data_row_stays c n s q (data_op.Store w x) = quiet_goes n s _ (stored_untouched n w _ s) q
   data_row_stays c n s q (data_op.SkipEq x y ops) = skip_row_stays c n ops s q (value_of n s x == value_of n s y)
-
   -- ---- Ends
-
-busy_runs : is_busy place.Running ≡ true
-busy_runs = refl
 
 module _ {base : Core} where
   left_all : (n : ℕ) (s : Core) → Runs base n s → Kept base (left n s)
@@ -194,7 +190,6 @@ module _ {base : Core} where
 
   code_row_stays : (l : Label) (n : ℕ) (s : Core) → Runs base n s → (code : ℕ) → Stays base (code_row l n s code)
   code_row_stays l n s r code = trap_if_stays base (nat_lt 4294967295 code) trap.UnsupportedCallbackCode _ (λ e. kind_end_stays l n (held_out (instance_of n s) s) s r (code % 16) (code / 16))
-
   -- ---- The exit of a direct call
 
 abbrev is_under_any : Place → Bool

@@ -2,7 +2,7 @@
 use Rattle.std.proofs.Common.{T, ap, arith, le_trans, refl, subst, sym, ◌∙◌}
 use Rattle.std.specs.Prelude.{IsTrue, not, ◌||◌, is_none, Bool, List, None, Option, Some, [], false, if◌then◌else◌, true, unwrap_or, ℕ, ◌+◌, ◌==◌, ◌∷◌, ◌≡◌, ◌≤◌}
 use Rattle.task_machine.specs.Core.{Core}
-use Rattle.task_machine.specs.Labels.{Choice, held_label, host_label, take_label}
+use Rattle.task_machine.specs.Labels.{Choice, held_label, take_label}
 use Rattle.task_machine.specs.Moves.{Gift, MemberGift, NoGift, OwnGift, gift, is_callback_waiter, may_hand_on, may_publish, own_gift_only, published, put_high, taken, unblocked, wake, wake_joined, waken_by}
 use Rattle.task_machine.specs.Read.{admits, at_handle_limit, blocked_on, course_of, course_value, foot_of, instance_of, is_entry_of, is_explicit, join_of, next_entry, or_high, place_of, task_of, work_caller_of, kind_of}
 use Rattle.task_machine.specs.Write.{set_do_not_enter, set_event, set_high, set_low, set_place, set_script, set_started, set_starting_published, set_switch, on_instance, on_thread}
@@ -14,7 +14,7 @@ use Rattle.task_rules.specs.Calls.{with_thread_handle}
 use Rattle.task_rules.specs.Ends.{may_tell, told}
 use Rattle.task_rules.specs.Progress.{Goes, Stops}
 use Rattle.task_rules.specs.Sets.{chosen, set_given}
-use Rattle.task_rules.specs.Takes.{activated, activated_woken, awaits_again, delivered, delivery_row, held, host_done, host_result, host_status, may_tell_starting, popped, rest_of, running, set_delivered, start_admitted, start_held, start_row, started, starting_is_published, starting_told, take_row, thread_taken, thread_taken_for, enters}
+use Rattle.task_rules.specs.Takes.{activated, activated_woken, awaits_again, delivered, delivery_row, held, host_done, host_result, host_status, may_tell_starting, popped, rest_of, running, set_delivered, start_admitted, start_held, start_row, started, starting_is_published, starting_told, thread_taken_for, enters}
 use Rattle.task_places.proofs.EntryLemmas.{Shorter, gain_own, less_both, no_both_of, one_place, shorter_kept, shorter_loose}
 use Rattle.task_places.proofs.PlaceWords.{Waits, blocked_place, handed_on_stand, none_waits, told_stand, waits_published, waits_quiet, waits_told, waits_unblocked}
 use Rattle.task_places.proofs.CallRows.{forbidding_calls, started_begun}
@@ -30,7 +30,7 @@ use Rattle.task_machine.specs.declared.records.Call.{Call}
 use Rattle.task_machine.specs.declared.component.ExportKind.{ExportKind}
 use Rattle.task_machine.specs.declared.component.ExportKind.TheVariants as kind
 use Rattle.std.specs.Option.{option_map_or}
-use Rattle.task_rules.proofs.UntouchedLemmas.{enters_untouched, host_result_untouched, moved_to_untouched, pushed_untouched, set_do_not_enter_untouched, set_event_untouched, set_given_untouched, set_script_untouched, set_stage_untouched, set_started_untouched, set_starting_published_untouched, taken_untouched, untouched_after, with_thread_handle_untouched}
+use Rattle.task_rules.proofs.UntouchedLemmas.{enters_untouched, host_result_untouched, moved_to_untouched, set_do_not_enter_untouched, set_event_untouched, set_given_untouched, set_script_untouched, set_stage_untouched, set_started_untouched, set_starting_published_untouched, taken_untouched, untouched_after, with_thread_handle_untouched}
 use Rattle.task_rules.proofs.MoveLemmas as moves
 use Rattle.task_rules.proofs.MoveLemmas.{is_busy}
 use Rattle.task_rules.proofs.StandLemmas.{Loose, Stand, adds_all, by_number, eq_refl, gain, place_kept, place_written, plus_none, plus_one, put_high_adds}
@@ -97,7 +97,6 @@ module _ {base : Core} where
       let u = host_result_untouched (work_caller_of i s) v s in
       let b = published (subtask.Host i) (host_status v) w a in
       quiet_all b _ (set_stage_untouched i stage.Ended b) (published_all (subtask.Host i) (host_status v) w a (waits_quiet w s a u (waits_published (subtask.Host i) w s h)) (quiet_all s a u all))
-
   -- ---- The entry that is taken
 
 -- where the first entry stands
@@ -257,9 +256,6 @@ placed_starting k n p s = refl
 -- ---- The rows of takings
 
 module _ {base : Core} (n : ℕ) (q : Place) (busy : is_busy q ≡ true) where
-  quiet_taken : (s t : Core) → Untouched s t → Standing base n q s → Standing base n q t
-  quiet_taken s t u st = quiet_stand n q s t u st
-
   taken_to_run : (s : Core) → (is_fresh (place_of n base) ≡ true → is_starting n s ≡ false) → Standing base n q s → Going base n (set_place n place.Running s)
   taken_to_run s begun st = record {
     stand = moves.stand_of n place.Running (set_place n place.Running s) (place_written n place.Running q s st.stand.here) refl (moves.set_place_all n q busy place.Running s refl st.stand);

@@ -1,5 +1,5 @@
 -- What is kept by each word of the machine: a subtask that is named is of a call that was made, and the call of an implicit thread is there.
-use Rattle.std.proofs.Common.{T, ap, cond, eqb→eq, inl, inr, refl, subst, sym, ◌∙◌, ◌∷◌}
+use Rattle.std.proofs.Common.{ap, cond, inl, inr, refl, sym, ◌∙◌, ◌∷◌}
 use Rattle.std.specs.FinMap.Entries.{find as seek}
 use Rattle.std.specs.List.{list_any}
 use Rattle.std.specs.Option.{option_map_or}
@@ -266,7 +266,6 @@ remove_call_traced k {s = s} none q = record {
 }
 
 -- ---- Words that touch neither handles nor threads nor calls
-
 
 pub set_register_traced : (a0 : ℕ) (a1 : ℕ) (a2 : ℕ) {s : Core} → Traced s → Traced (set_register a0 a1 a2 s)
 unfolding set_register

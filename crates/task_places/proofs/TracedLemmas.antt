@@ -1,7 +1,7 @@
--- A handle of a set names a set of its instance: what each step and each run keeps.
+-- A subtask that is named is of a call that was made: what each step and each run keeps.
 use Rattle.std.proofs.Common.{ap, cond, refl, subst, sym, ◌∙◌}
 use Rattle.std.specs.Option.{option_map_or}
-use Rattle.std.specs.Prelude.{Bool, List, None, Option, Some, [], false, is_some, not, option_and_then, option_map, true, unwrap_or, ℕ, ◌==◌, ◌∷◌, ◌≡◌}
+use Rattle.std.specs.Prelude.{Bool, List, None, Option, Some, [], false, is_some, not, option_and_then, true, ℕ, ◌==◌, ◌∷◌, ◌≡◌}
 use Rattle.task_places.proofs.TracedFields.{Housed, Traced, guest_in, guest_named, guest_under_way, set_trapped_traced, take_result_traced}
 use Rattle.task_places.proofs.TracedRows.{Stays}
 use Rattle.task_places.proofs.TracedTakes.{main_aborted_traced, main_spawned_traced, main_started_traced, op_row_stays, pended_traced, popped_traced, struck_traced, take_row_stays, work_ended_traced}
@@ -21,7 +21,6 @@ use Rattle.task_machine.specs.declared.label.Label.{Label}
 use Rattle.task_machine.specs.declared.label.MainLabel.{MainLabel}
 use Rattle.task_machine.specs.declared.records.Entry.{Entry}
 use Rattle.task_machine.specs.declared.records.Named.{Named}
-use Rattle.task_machine.specs.declared.records.Set.{Set}
 use Rattle.task_machine.specs.declared.records.Turn.{Turn}
 use Rattle.task_machine.specs.declared.scenario.MainOp.{MainOp}
 use Rattle.task_machine.specs.declared.trap.Trap.{Trap}

@@ -1,5 +1,5 @@
 -- What is kept by the ops: a subtask that is named is of a call that was made.
-use Rattle.std.proofs.Common.{refl, option_map, ap, option_and_then, le_trans, ◌∙◌, subst, le_refl, sym}
+use Rattle.std.proofs.Common.{refl, ap, option_and_then, le_trans, ◌∙◌, subst, le_refl, sym}
 use Rattle.std.specs.Option.{option_map_or}
 use Rattle.std.specs.Prelude.{Bool, List, None, Option, Some, [], false, is_some, length, min, nat_le, nat_lt, not, suc, true, unwrap_or, zero, ℕ, ◌%◌, ◌*◌, ◌+◌, ◌-◌, ◌/◌, ◌==◌, ◌^◌, ◌∷◌, ◌≡◌}
 use Rattle.task_places.proofs.TracedFields.{Traced, add_thread_traced, call_made_traced, count_work_traced, free_handle_traced, give_result_traced, give_thread_handle_traced, remove_work_traced, set_backpressure_traced, set_cancelled_traced, set_do_not_enter_traced, set_do_not_suspend_traced, set_end_traced, set_event_traced, set_how_far_traced, set_plain_traced, set_join_traced, set_own_event_traced, set_phase_traced, set_place_traced, set_position_traced, set_register_traced, set_result_traced, set_saved_callee_traced, set_saved_own_traced, set_started_traced, set_subtask_handle_traced, set_thread_handle_traced, set_word_traced, work_queued_traced, guest_of, First, guest_under_way, give_handle_traced, remove_set_traced, add_set_traced, guest_named}
@@ -80,8 +80,8 @@ use Rattle.task_machine.specs.declared.records.WorkCaller.TheVariants as work_ca
 
 -- ---- Calls that are named
 
-abbrev E : Elementary Steady
-E = steady_elementary
+abbrev all_steady : Elementary Steady
+all_steady = steady_elementary
 
 -- the subtask, if it is a call, was made as one
 abbrev pub Known : Subtask → Core → Type 0
@@ -430,7 +430,7 @@ called_traced n e x g words {s = s} q =
     let a = call_made (caller.Thread n) e x g (thread_group n s) words s in
     let b = put_switch m why.Start a in
     let c = suspending n e.instance x b in
-    let u : Steady a (behind m (n ∷ []) c) = after E (put_switch_keeps E m why.Start a) (after E (suspending_keeps E n e.instance x b) (behind_keeps E m (n ∷ []) c)) in
+    let u : Steady a (behind m (n ∷ []) c) = after all_steady (put_switch_keeps all_steady m why.Start a) (after all_steady (suspending_keeps all_steady n e.instance x b) (behind_keeps all_steady m (n ∷ []) c)) in
     set_how_far_traced n (how_far.Calls (subtask.Guest m)) (known_later (subtask.Guest m) u (made_known (caller.Thread n) e x g (thread_group n s) words s)) (behind_traced m (n ∷ []) (suspending_traced n e.instance x (put_switch_traced m why.Start (call_made_traced (caller.Thread n) e x g (thread_group n s) words q))))
 
 pub call_begins_stays : (a0 : Component) (a1 : ℕ) (a2 : Callee) (a3 : Goal) (a4 : List ℕ) {s : Core} → Traced s → Stays (call_begins a0 a1 a2 a3 a4 s)
@@ -458,7 +458,7 @@ with_handle_traced i sub {s = s} known q = set_subtask_handle_traced sub (Some (
 
 pub call_pending_traced : (n r k v : ℕ) {s : Core} → Known (subtask.Guest k) s → Traced s → Traced (call_pending n r k v s)
 unfolding call_pending
-call_pending_traced n r k v {s = s} known q = answered_traced n r v (with_handle_traced (instance_of n s) (subtask.Guest k) (known_later (subtask.Guest k) (called_back_keeps E n k s) known) (called_back_traced n k q))
+call_pending_traced n r k v {s = s} known q = answered_traced n r v (with_handle_traced (instance_of n s) (subtask.Guest k) (known_later (subtask.Guest k) (called_back_keeps all_steady n k s) known) (called_back_traced n k q))
 
 pub call_status_stays : (a0 : ℕ) (a1 : ℕ) (a2 : ℕ) {s : Core} → Known (subtask.Guest a2) s → Traced s → (a4 : Status) → Stays (call_status a0 a1 a2 s a4)
 call_status_stays n r k {s = s} known q status.Returned = call_returned_traced n r k q
@@ -474,11 +474,11 @@ call_answered_traced n r k {s = s} q = answered_traced n r (result_of k s) (call
 
 pub blocked_traced : (a0 : ℕ) (a1 : Subtask) {s : Core} → Known a1 s → Traced s → Traced (blocked a0 a1 s)
 unfolding blocked
-blocked_traced n sub {s = s} known q = set_how_far_traced n (how_far.Calls sub) (known_later sub (stopped_at_keeps E n (place.Blocked sub) s) known) (stopped_at_traced n (place.Blocked sub) q)
+blocked_traced n sub {s = s} known q = set_how_far_traced n (how_far.Calls sub) (known_later sub (stopped_at_keeps all_steady n (place.Blocked sub) s) known) (stopped_at_traced n (place.Blocked sub) q)
 
 pub call_blocked_traced : (a0 : ℕ) (a1 : ℕ) {s : Core} → Known (subtask.Guest a1) s → Traced s → Traced (call_blocked a0 a1 s)
 unfolding call_blocked
-call_blocked_traced n k {s = s} known q = blocked_traced n (subtask.Guest k) (known_later (subtask.Guest k) (after E (called_back_keeps E n k s) (checked_keeps E (instance_of n s) (called_back n k s))) known) (checked_traced (instance_of n s) (called_back_traced n k q))
+call_blocked_traced n k {s = s} known q = blocked_traced n (subtask.Guest k) (known_later (subtask.Guest k) (after all_steady (called_back_keeps all_steady n k s) (checked_keeps all_steady (instance_of n s) (called_back n k s))) known) (checked_traced (instance_of n s) (called_back_traced n k q))
 
 pub call_sync_status_stays : (a0 : ℕ) (a1 : ℕ) (a2 : ℕ) {s : Core} → Known (subtask.Guest a2) s → Traced s → (a4 : Status) → Stays (call_sync_status a0 a1 a2 s a4)
 call_sync_status_stays n r k {s = s} known q status.Returned = call_answered_traced n r k q
@@ -501,7 +501,7 @@ entered_traced n e x words {s = s} q =
     let c = set_started m b in
     let d = forbidding m e.instance x c in
     let g = set_place m place.Running d in
-    let u : Steady a (set_place n (place.Under m) g) = after E (with_thread_handle_keeps E e.instance m a) (after E (set_started_keeps E m b) (after E (forbidding_keeps E m e.instance x c) (after E (set_place_keeps E m place.Running d) (set_place_keeps E n (place.Under m) g)))) in
+    let u : Steady a (set_place n (place.Under m) g) = after all_steady (with_thread_handle_keeps all_steady e.instance m a) (after all_steady (set_started_keeps all_steady m b) (after all_steady (forbidding_keeps all_steady m e.instance x c) (after all_steady (set_place_keeps all_steady m place.Running d) (set_place_keeps all_steady n (place.Under m) g)))) in
     set_how_far_traced n (how_far.Calls (subtask.Guest m)) (known_later (subtask.Guest m) u (made_known (caller.Thread n) e x goal.Direct (thread_group n s) words s)) (set_place_traced n (place.Under m) (set_place_traced m place.Running (forbidding_traced m e.instance x (set_started_traced m (with_thread_handle_traced e.instance m (call_made_traced (caller.Thread n) e x goal.Direct (thread_group n s) words q))))))
 
 pub enter_row_stays : (a0 : ℕ) (a1 : Callee) (a2 : ExportKind) (a3 : List ℕ) {s : Core} → Traced s → Stays (enter_row a0 a1 a2 a3 s)
@@ -575,7 +575,7 @@ awaiting_traced n sub {s = s} known q =
     let a = set_saved_callee n None s in
     let b = set_join sub (join.Watched n) a in
     let c = checked (instance_of n s) b in
-    let u : Steady s (stopped_at n (place.Blocked sub) c) = after E (set_saved_callee_keeps E n None s) (after E (set_join_keeps E sub (join.Watched n) a) (after E (checked_keeps E (instance_of n s) b) (stopped_at_keeps E n (place.Blocked sub) c))) in
+    let u : Steady s (stopped_at n (place.Blocked sub) c) = after all_steady (set_saved_callee_keeps all_steady n None s) (after all_steady (set_join_keeps all_steady sub (join.Watched n) a) (after all_steady (checked_keeps all_steady (instance_of n s) b) (stopped_at_keeps all_steady n (place.Blocked sub) c))) in
     set_how_far_traced n (how_far.AwaitsEnd sub) (known_later sub u known) (stopped_at_traced n (place.Blocked sub) (checked_traced (instance_of n s) (set_join_traced sub (join.Watched n) (set_saved_callee_traced n None q))))
 
 pub not_ended_row_stays : (a0 : Mode) (a1 : ℕ) (a2 : ℕ) (a3 : Subtask) {s : Core} → Known a3 s → Traced s → Stays (not_ended_row a0 a1 a2 a3 s)
@@ -615,20 +615,20 @@ lets_go_on_traced n k {s = s} known q =
     let a = set_saved_callee n (Some (may_not_suspend j s)) s in
     let b = set_do_not_suspend j false a in
     let c = set_join (subtask.Guest k) (join.Watched n) b in
-    let u : Steady s (behind_switch n s.queues.switch c) = after E (set_saved_callee_keeps E n (Some (may_not_suspend j s)) s) (after E (set_do_not_suspend_keeps E j false a) (after E (set_join_keeps E (subtask.Guest k) (join.Watched n) b) (behind_switch_keeps E n s.queues.switch c))) in
+    let u : Steady s (behind_switch n s.queues.switch c) = after all_steady (set_saved_callee_keeps all_steady n (Some (may_not_suspend j s)) s) (after all_steady (set_do_not_suspend_keeps all_steady j false a) (after all_steady (set_join_keeps all_steady (subtask.Guest k) (join.Watched n) b) (behind_switch_keeps all_steady n s.queues.switch c))) in
     set_how_far_traced n (how_far.Cancels (subtask.Guest k)) (known_later (subtask.Guest k) u known) (behind_switch_traced n s.queues.switch (set_join_traced (subtask.Guest k) (join.Watched n) (set_do_not_suspend_traced j false (set_saved_callee_traced n (Some (may_not_suspend j s)) q))))
 
 pub cancel_delivered_to_traced : (a0 : ℕ) (a1 : ℕ) {s : Core} → Known (subtask.Guest a1) s → Traced s → Traced (cancel_delivered_to a0 a1 s)
 unfolding cancel_delivered_to
-cancel_delivered_to_traced n k {s = s} known q = lets_go_on_traced n k (known_later (subtask.Guest k) (after E (asked_keeps E k s) (put_switch_keeps E k (why.Delivery delivery.Cancel) (asked k s))) known) (put_switch_traced k (why.Delivery delivery.Cancel) (asked_traced k q))
+cancel_delivered_to_traced n k {s = s} known q = lets_go_on_traced n k (known_later (subtask.Guest k) (after all_steady (asked_keeps all_steady k s) (put_switch_keeps all_steady k (why.Delivery delivery.Cancel) (asked k s))) known) (put_switch_traced k (why.Delivery delivery.Cancel) (asked_traced k q))
 
 pub yield_cancelled_traced : (a0 : ℕ) (a1 : ℕ) {s : Core} → Known (subtask.Guest a1) s → Traced s → Traced (yield_cancelled a0 a1 s)
 unfolding yield_cancelled
-yield_cancelled_traced n k {s = s} known q = lets_go_on_traced n k (known_later (subtask.Guest k) (after E (asked_keeps E k s) (promoted_unless_keeps E k (asked k s))) known) (promoted_unless_traced k (asked_traced k q))
+yield_cancelled_traced n k {s = s} known q = lets_go_on_traced n k (known_later (subtask.Guest k) (after all_steady (asked_keeps all_steady k s) (promoted_unless_keeps all_steady k (asked k s))) known) (promoted_unless_traced k (asked_traced k q))
 
 pub cancel_yield_stays : (a0 : Mode) (a1 : ℕ) (a2 : ℕ) (a3 : ℕ) {s : Core} → Known (subtask.Guest a3) s → Traced s → (a5 : Bool) → Stays (cancel_yield a0 a1 a2 a3 s a5)
 cancel_yield_stays mode n r k {s = s} known q true = yield_cancelled_traced n k known q
-cancel_yield_stays mode n r k {s = s} known q false = after_cancel_stays mode n r (subtask.Guest k) (known_later (subtask.Guest k) (asked_keeps E k s) known) (asked_traced k q)
+cancel_yield_stays mode n r k {s = s} known q false = after_cancel_stays mode n r (subtask.Guest k) (known_later (subtask.Guest k) (asked_keeps all_steady k s) known) (asked_traced k q)
 
 pub cancel_running_stays : (a0 : Mode) (a1 : ℕ) (a2 : ℕ) (a3 : ℕ) {s : Core} → Known (subtask.Guest a3) s → Traced s → (a5 : Bool) (a6 : Bool) → Stays (cancel_running a0 a1 a2 a3 s a5 a6)
 cancel_running_stays mode n r k {s = s} known q true yields = cancel_delivered_to_traced n k known q
@@ -651,7 +651,7 @@ unfolding cancel_resumed
 cancel_resumed_traced n sub {s = s} q = set_join_traced sub join.Nowhere (set_saved_callee_traced n None (put_back_traced (saved_callee_of n s) (subtask_instance sub s) q))
 
 pub cancel_row_stays : (a0 : Mode) (a1 : ℕ) (a2 : ℕ) (a3 : ℕ) {s : Core} → Traced s → (a5 : HowFar) → how_far_of a1 s ≡ a5 → Stays (cancel_row a0 a1 a2 a3 s a5)
-cancel_row_stays mode n r h {s = s} q (how_far.Cancels sub) is = after_cancel_stays mode n r sub (known_later sub (cancel_resumed_keeps E n sub s) (known_op n (how_far.Cancels sub) sub refl is q)) (cancel_resumed_traced n sub q)
+cancel_row_stays mode n r h {s = s} q (how_far.Cancels sub) is = after_cancel_stays mode n r sub (known_later sub (cancel_resumed_keeps all_steady n sub s) (known_op n (how_far.Cancels sub) sub refl is q)) (cancel_resumed_traced n sub q)
 cancel_row_stays mode n r h {s = s} q (how_far.AwaitsEnd sub) is = ended_row_stays mode n r sub (set_join_traced sub join.Nowhere q) (undelivered_end (event_of sub (set_join sub join.Nowhere s)))
 cancel_row_stays mode n r h {s = s} q u1 is = or_trap_when (subtask_at (instance_of n s) h s) trap.BadHandle (cancel_found mode n r s) (λ got at. cancel_found_stays mode n r q got (known_named (instance_of n s) h got at q))
 
