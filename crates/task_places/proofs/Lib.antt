@@ -1,0 +1,16 @@
+pub mod EntryLemmas
+pub mod PlaceWords
+pub mod RunRows
+pub mod OpRows
+pub mod CallRows
+pub mod WithdrawRows
+pub mod TakeRows
+pub mod PlaceSteps
+pub mod ReachedPlaces
+pub mod FreshMoves
+pub mod FreshStand
+pub mod TracedFields
+pub mod TracedWords
+pub mod TracedRows
+pub mod TracedTakes
+pub mod TracedLemmas

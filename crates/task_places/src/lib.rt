@@ -1,0 +1,7 @@
+//! Laws of the component machine that say where each thread is, in each state that a run comes
+//! to. Each function here is the statement of a law, about the rules that `task_rules` defines.
+#![tactic(auto)]
+
+mod places;
+
+pub use places::{reached_are_placed, steps_keep_places};

@@ -1,0 +1,12 @@
+ghost use Rattle.task_places.specs.Kept.{ReachedInPlace, StepsKeepPlaces};
+
+/// In each reached state each thread is at exactly one place, with an entry exactly where its
+/// place says so, and a thread whose turn it is runs.
+pub fn reached_are_placed()
+    ensures { ReachedInPlace }
+{}
+
+/// Each step from a reached state leads to such a state.
+pub fn steps_keep_places()
+    ensures { StepsKeepPlaces }
+{}
