@@ -60,13 +60,12 @@ module _ (s : Shown) (whole : IsWhole s) (id : QualifiedThreadId) (now : Some id
       goes (λ m. moved_to m p) u (is ∙ ap (λ c. with_core c s) (sym (moved_is n p s.core whole.simple at)))
       (moved_simple s.core whole.simple n at p) (moved_runs s.core whole.simple n at p)
 
-  module _ (t : Thread) (found : get s.core.threads n ≡ Some t) where
-    pub assigns : (r v : ℕ) (u : Shown) → u ≡ with_core (set_position n (t.position + 1) (set_register n r v s.core)) s → Goes (λ m. assigned m r v) u
-    assigns r v u is =
-        goes (λ m. assigned m r v) u
-        (is ∙ ap (λ p. with_core (set_position n (p + 1) (set_register n r v s.core)) s) (sym (position_found s.core n t found)) ∙ ap (λ c. with_core c s) (sym (assigned_is n r v s.core whole.simple at)))
-        (assigned_simple s.core whole.simple n at r v) (assigned_runs s.core whole.simple n at r v)
+  pub assigns : (r v : ℕ) (u : Shown) → u ≡ with_core (set_position n (position_of n s.core + 1) (set_register n r v s.core)) s → Goes (λ m. assigned m r v) u
+  assigns r v u is =
+      goes (λ m. assigned m r v) u (is ∙ ap (λ c. with_core c s) (sym (assigned_is n r v s.core whole.simple at)))
+      (assigned_simple s.core whole.simple n at r v) (assigned_runs s.core whole.simple n at r v)
 
+  module _ (t : Thread) (found : get s.core.threads n ≡ Some t) where
     module _ (c : Call) (read : get s.core.calls (call_number s.tags id.task) ≡ Some c) where
       pub stores : (w v : ℕ) (u : Shown) → u ≡ with_core (set_position n (t.position + 1) (set_word c.callee.instance w v s.core)) s → Goes (λ m. stored m w v) u
       stores w v u is =

@@ -271,9 +271,7 @@ impl ConcurrentState {
         let Some(id) = self.core.current() else {
             unreachable!()
         };
-        let position = self.core.thread(id.thread).position;
-        self.core.set_register(id.thread, register, value);
-        self.core.set_position(id.thread, position + 1);
+        self.core.answer(id.thread, register, value);
     }
 
     /// The op of the running thread writes a word of its instance, 0 to 15, and the thread goes on
