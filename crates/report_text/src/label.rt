@@ -1,6 +1,6 @@
 //! What is printed of a label and of an outcome, each in one way. Text grows at the end of one
 //! buffer, and no label makes a string of its own.
-ghost use Rattle.std.specs.Prelude.{◌≡◌, ◌++◌, codes, decimal, OnOk};
+ghost use Rattle.std.specs.Prelude.{◌≡◌, ◌≤◌, ◌<◌, ◌/◌, ◌++◌, ℕ, List, codes, decimal, OnOk};
 ghost use Rattle.task_rules.specs.Sets.{given_code, given_handle, given_result};
 ghost use Rattle.task_rules.specs.Texts.{mark_text, phase_text, given_text, own_given, wakes, polls, refused, main_text, future_text, loop_text, taken_text, event_text, take_text, op_text, answer_text, data_text, task_text, set_text, call_text, thread_text, label_text, outcome_text};
 
@@ -21,14 +21,76 @@ fn words(out: &mut Vec<u8>, words: &[u8]) -> Printed
     Ok(())
 }
 
+// A digit behind those of a tenth of the number.
+#[inline(always)]
+#[tactic(auto, using(std::proofs::lemmas::Fmt::decimal_step))]
+fn last_digit(out: &mut Vec<u8>, number: u64) -> Printed
+    requires { 10 ≤ number }
+    ensures { (before : List ℕ) → out.old.items ≡ before ++ decimal (number / 10) → OnOk result (out.new.items ≡ before ++ decimal number) }
+{
+    out.push(b'0' + (number % 10) as u8)?;
+    Ok(())
+}
+
+#[inline(always)]
+#[tactic(auto, using(std::proofs::lemmas::Fmt::decimal_digit))]
+fn one_digit(out: &mut Vec<u8>, number: u64) -> Printed
+    requires { number < 10 }
+    ensures { OnOk result (out.new.items ≡ out.old.items ++ decimal number) }
+{
+    out.push(b'0' + number as u8)?;
+    Ok(())
+}
+
+#[inline(always)]
+fn two_digits(out: &mut Vec<u8>, number: u64) -> Printed
+    requires from { 10 ≤ number }
+    requires to { number < 100 }
+    ensures { OnOk result (out.new.items ≡ out.old.items ++ decimal number) }
+{
+    one_digit(out, number / 10)?;
+    last_digit(out, number)
+}
+
+#[inline(always)]
+fn three_digits(out: &mut Vec<u8>, number: u64) -> Printed
+    requires from { 100 ≤ number }
+    requires to { number < 1000 }
+    ensures { OnOk result (out.new.items ≡ out.old.items ++ decimal number) }
+{
+    two_digits(out, number / 10)?;
+    last_digit(out, number)
+}
+
+fn many_digits(out: &mut Vec<u8>, number: u64) -> Printed
+    ensures { OnOk result (out.new.items ≡ out.old.items ++ decimal number) }
+{
+    out.extend_from_slice(Buffer::new().format(number).as_bytes())?;
+    Ok(())
+}
+
+// A number. Most are short: their digits are added one by one.
+fn digits(out: &mut Vec<u8>, number: u64) -> Printed
+    ensures { OnOk result (out.new.items ≡ out.old.items ++ decimal number) }
+{
+    if number < 10 {
+        one_digit(out, number)
+    } else if number < 100 {
+        two_digits(out, number)
+    } else if number < 1_000 {
+        three_digits(out, number)
+    } else {
+        many_digits(out, number)
+    }
+}
+
 // Words and a number behind them. The words of each call are known where it is compiled.
 #[inline(always)]
 fn number(out: &mut Vec<u8>, before: &[u8], number: u64) -> Printed
     ensures { OnOk result (out.new.items ≡ out.old.items ++ (before.now ++ decimal number)) }
 {
     out.extend_from_slice(before)?;
-    out.extend_from_slice(Buffer::new().format(number).as_bytes())?;
-    Ok(())
+    digits(out, number)
 }
 
 #[inline(always)]
