@@ -1,4 +1,4 @@
-use Rattle.std.proofs.Common.{◌≡◌, ℕ, List, subst}
+use Rattle.std.proofs.Common.{◌≡◌, subst}
 use Rattle.task_run.specs.declared.program.End.TheVariants as ends
 use Rattle.task_run.specs.Tool.{IsCut, IsWanting, Ran, usage_text}
 use Rattle.task_run.proofs.Says.{cut, said}

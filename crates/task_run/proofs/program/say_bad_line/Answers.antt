@@ -1,10 +1,8 @@
-use Rattle.std.proofs.Common.{◌≡◌, ℕ, List, inl, inr, subst, ◌∙◌}
-use Rattle.std.specs.Prelude.{Option}
-use Rattle.task_run.specs.declared.program.End.{End}
+use Rattle.std.proofs.Common.{◌≡◌, ℕ, List, subst, ◌∙◌}
 use Rattle.task_run.specs.declared.program.End.TheVariants as ends
 use Rattle.task_run.specs.Outside.{Appends}
 use Rattle.task_run.specs.Pump.{IsFront}
-use Rattle.task_run.specs.Tool.{SaysOrFails, bad_line_text}
+use Rattle.task_run.specs.Tool.{bad_line_text}
 use Rattle.task_run.proofs.Says.{cut, said}
 use Rattle.task_run.proofs.program.say_bad_line.Goals as goal
 

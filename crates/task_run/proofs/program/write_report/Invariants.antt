@@ -1,4 +1,4 @@
-use Rattle.std.proofs.Common.{◌≡◌, ℕ, ◌≤◌, ◌++◌, List, Some, take}
+use Rattle.std.proofs.Common.{◌≡◌, ℕ, ◌≤◌, ◌++◌, List, take}
 use Rattle.std.specs.List.{flat_map}
 use Rattle.task_rules.specs.Texts.{label_text, line_text}
 use Rattle.task_run.specs.Outside.{Appends}

@@ -1,10 +1,10 @@
 use Rattle.std.proofs.Common.{◌≡◌, ℕ, ◌+◌, ◌≤◌, ◌++◌, List, [], length, take, drop, append_assoc, append-nil, refl, sym, ap, ◌∙◌, subst, arith}
 use Rattle.std.proofs.lemmas.List.{take-append-le, take-append-drop, length-append, length-take, length-take-le}
-use Rattle.std.specs.Prelude.{Option, Result, Ok, Err}
+use Rattle.std.specs.Prelude.{Result, Err}
 use Rattle.std.specs.Global.{Vec}
 use Rattle.std.proofs.lemmas.Result.{err_from_is_err_and}
 use Rattle.task_run.specs.declared.pump.ReadFault.{ReadFault}
-use Rattle.task_run.specs.Pump.{IsTaken, ReadsAll}
+use Rattle.task_run.specs.Pump.{ReadsAll}
 use Rattle.task_run.proofs.pump.read_all.Goals as goal
 
 got : (text buf tail rest all : List ℕ) (n : ℕ) → n ≤ length buf → take n buf ≡ take n rest → text ++ rest ≡ all → (text ++ take n (buf ++ tail)) ++ drop n rest ≡ all

@@ -1,6 +1,5 @@
-use Rattle.std.proofs.Common.{◌≡◌, ℕ, ◌-◌, ◌++◌, List, [], length, take, drop, append_assoc, append-nil, arith, refl, sym, subst, ◌∙◌}
+use Rattle.std.proofs.Common.{◌≡◌, ℕ, ◌-◌, ◌++◌, List, [], length, take, drop, append_assoc, arith, refl}
 use Rattle.std.proofs.lemmas.List.{take_rest, take-append-drop}
-use Rattle.task_run.specs.Outside.{Appends}
 use Rattle.task_run.proofs.Appending.{appends_none, appends_then}
 use Rattle.task_run.proofs.pump.write_all.Goals as goal
 
