@@ -1,5 +1,5 @@
 -- Which statuses are left, once the others are ruled out.
-use Rattle.std.proofs.Common.{◌≡◌, ◌≢◌, ◌⊎◌, ◌∙◌, ◌+◌, ◌++◌, ◌<◌, ◌≤◌, ℕ, List, inl, inr, length, length-append, refl, ap, sym, subst, arith}
+use Rattle.std.proofs.Common.{◌≡◌, ◌≢◌, ◌⊎◌, ◌∙◌, ◌+◌, ◌<◌, ◌≤◌, ℕ, List, inl, inr, length, length-append, refl, ap, sym, subst, arith}
 use Rattle.std.specs.Prelude.{Option}
 use Rattle.task_run.specs.declared.program.End.{End}
 use Rattle.task_run.specs.declared.program.End.TheVariants as ends

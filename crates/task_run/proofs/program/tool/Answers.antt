@@ -1,4 +1,4 @@
-use Rattle.std.proofs.Common.{◌<◌, ◌≤◌, ◌∙◌, length, refl, ap, sym, subst, arith, Err}
+use Rattle.std.proofs.Common.{◌<◌, ◌≤◌, ◌∙◌, length, refl, ap, sym, arith, Err}
 use Rattle.task_run.specs.declared.program.End.{End}
 use Rattle.task_run.proofs.ToolLemmas.{at_most_six, longer, not_bad, only_bad, only_done, only_long, was_cut, was_wanting}
 use Rattle.task_run.proofs.program.tool.Goals as goal
