@@ -8,8 +8,7 @@ const ONE_CALL: &[u8] =
 const TWO_INSTANCES: &[u8] =
     b"scenario 1\nhandles 100000\ntable 1000000\nidle trap\ninstance a\nexport f callback 2\nset r3 r0\nadd r3 18446744073709551615\nhandle r15 r3\nload r4 15\nstore 0 9\nskip_eq r3 0 4096\nret_bad r3\nexport g callback 0\ninstance b\ninstance c\nexport f callback 0\nmain\nstart c.f\nstart a.f 7 r2\nfinish 2 r0\nstart a.g\nfinish 1 r1\nanswer r0\nend";
 
-const NOTHING: &[u8] =
-    b"scenario 1\nhandles 0\ntable 0\nidle trap\nmain\nanswer 0\nend\n";
+const NOTHING: &[u8] = b"scenario 1\nhandles 0\ntable 0\nidle trap\nmain\nanswer 0\nend\n";
 
 #[test]
 fn reads_one_call(rt: HostRuntime) -> Result<(), Fail> {

@@ -16,7 +16,7 @@ use Rattle.task_machine.specs.Read.{place_of, position_of}
 use Rattle.task_machine.specs.Write.{on_instance, on_thread, set_how_far, set_position, set_register, set_word}
 use Rattle.task_rules.specs.Data.{advanced, assigned, data_row, moved_to, skip_row, skipped, stored}
 use Rattle.task_rules.specs.Progress.{Goes}
-use Rattle.task_rules.specs.Scripts.{op_of, script_in, script_of, value_in}
+use Rattle.task_rules.specs.Scripts.{op_of, script_in, script_of, value_of}
 use Rattle.task_rules.specs.Step.{Step}
 use Rattle.task_simple.specs.Simple.{IsSimple}
 use Rattle.task_simple.proofs.StepLemmas.{run_data}
@@ -29,7 +29,7 @@ use Rattle.task_loop.specs.Made.{IsData}
 use Rattle.task_loop.specs.Main.{state_at}
 use Rattle.task_loop.specs.Turn.{Makes}
 use Rattle.task_loop.proofs.FitLemmas.{fits-assigned, fits-moved, fits-stored}
-use Rattle.task_loop.proofs.RunLemmas.{about_position, about_script, about_value, before_data}
+use Rattle.task_loop.proofs.RunLemmas.{about_position, about_script, before_data}
 use Rattle.task_loop.proofs.StepLemmas.{to_run}
 
 -- ---- No number is given
@@ -106,13 +106,12 @@ module _ (s : Seen) (simple : IsSimple s.core) (r : Running) (about : IsAbout s 
       let next : position_of n s.core + 1 ≡ passing false ops = omega (arith, before) in
       ap (λ p. Goes (label.Data (data_label.SkipEq n)) (moved_to n p s.core) n) next
 
-  pub skip_is : (x y : Operand) (ops p : ℕ) → op_of c n s.core ≡ op.Data (data_op.SkipEq x y ops) → p ≡ passing (value_in r.registers x == value_in r.registers y) ops → IsData c n s.core (data_label.SkipEq n) (moved_to n p s.core)
+  pub skip_is : (x y : Operand) (ops p : ℕ) → op_of c n s.core ≡ op.Data (data_op.SkipEq x y ops) → p ≡ passing (value_of n s.core x == value_of n s.core y) ops → IsData c n s.core (data_label.SkipEq n) (moved_to n p s.core)
   skip_is x y ops p op_is is = (
     data_op.SkipEq x y ops,
     (
       op_is,
-      ap₂ (λ a b. skip_row c n ops s.core (a == b)) (about_value s simple r about x) (about_value s simple r about y)
-          ∙ skip_where (value_in r.registers x == value_in r.registers y) ops (before_data s simple r about c fits (data_op.SkipEq x y ops) op_is)
+      skip_where (value_of n s.core x == value_of n s.core y) ops (before_data s simple r about c fits (data_op.SkipEq x y ops) op_is)
           ∙ ap (λ q. Goes (label.Data (data_label.SkipEq n)) (moved_to n q s.core) n) (sym is),
     ),
   )

@@ -22,11 +22,11 @@ use Rattle.task_machine.specs.declared.trap.Trap.TheVariants as trap
 use Rattle.task_machine.specs.Labels.{exit_label, ret_label}
 use Rattle.task_machine.specs.Maps.{get}
 use Rattle.task_machine.specs.Read.{callee_of, has_ended, no_callee, instance_of, place_of, position_of}
-use Rattle.task_rules.specs.Scripts.{export_at, op_of, script_in, script_of, script_of_thread, value_in, value_of}
+use Rattle.task_rules.specs.Scripts.{export_at, op_of, script_in, script_of, script_of_thread, value_of}
 use Rattle.task_rules.specs.Step.{trap_label}
 use Rattle.task_simple.specs.Forms.{return_done, trap_done}
 use Rattle.task_simple.specs.Simple.{IsSimple}
-use Rattle.task_simple.proofs.FoundLemmas.{end_found, instance_found, op_found, position_found, value_found}
+use Rattle.task_simple.proofs.FoundLemmas.{end_found, instance_found, op_found, position_found}
 use Rattle.task_state.specs.declared.state.Running.{Running}
 use Rattle.task_loop.specs.declared.step.Made.{Made}
 use Rattle.task_loop.specs.declared.step.Phase.{Phase}
@@ -70,9 +70,6 @@ module _ (s : Seen) (simple : IsSimple s.core) (r : Running) (about : IsAbout s 
   about_op c =
       op_found c s.core simple.plain n about.thread about.call about.thread_is about.call_is
       ∙ ap₂ (λ f p. unwrap_or (slice_get (script_in c f script.Start) p) (op.Task task.Exit)) (sym about.callee) (sym about.position)
-
-  pub about_value : (x : Operand) → value_of n s.core x ≡ value_in r.registers x
-  about_value x = value_found s.core n about.thread x about.thread_is ∙ ap (λ w. value_in w x) (sym about.registers)
 
   pub about_instance : instance_of n s.core ≡ r.callee.instance
   about_instance = instance_found s.core simple.plain n about.thread about.call about.thread_is about.call_is ∙ ap (λ f. f.instance) (sym about.callee)

@@ -1,13 +1,13 @@
 //! The ops on registers and on the instance's words.
 ghost use Rattle.std.specs.Prelude.{◌≡◌, ◌==◌, ◌≤◌, ◌+◌, ◌%◌, ◌^◌, if◌then◌else◌, length, min};
 ghost use Rattle.task_rules.specs.Data.{assigned, moved_to, stored};
-ghost use Rattle.task_rules.specs.Scripts.{op_of, script_in, value_in};
+ghost use Rattle.task_rules.specs.Scripts.{op_of, script_in, value_of};
 ghost use Rattle.task_state.specs.Moves.{IsAbout};
 ghost use Rattle.task_loop.specs.Fit.{IsFirstComponent, Fits};
 ghost use Rattle.task_loop.specs.Made.{IsData};
 ghost use Rattle.task_loop.specs.Turn.{Makes};
 
-use crate::component::{operand_value, script_length};
+use crate::component::script_length;
 use crate::step::{Made, Phase};
 use task_machine::{Component, DataLabel, DataOp, Label, Op, Operand, Script};
 use task_state::Running;
@@ -30,7 +30,7 @@ pub(crate) fn computes<T, H>(
     let number = running.number;
     match op {
         DataOp::Set { to, value } => {
-            let answer = operand_value(&running.registers, value);
+            let answer = value_now(store, running, value);
             assigns(
                 component,
                 store,
@@ -41,7 +41,7 @@ pub(crate) fn computes<T, H>(
             )
         }
         DataOp::Add { to, value } => {
-            let answer = sum(running, to, value);
+            let answer = sum(store, running, to, value);
             assigns(
                 component,
                 store,
@@ -52,7 +52,7 @@ pub(crate) fn computes<T, H>(
             )
         }
         DataOp::Handle { to, value } => {
-            let answer = operand_value(&running.registers, value) / 16;
+            let answer = value_now(store, running, value) / 16;
             assigns(
                 component,
                 store,
@@ -74,22 +74,32 @@ pub(crate) fn computes<T, H>(
             )
         }
         DataOp::Store { word, value } => {
-            let answer = operand_value(&running.registers, value);
+            let answer = value_now(store, running, value);
             stores(component, store, running, word, answer)
         }
         DataOp::SkipEq { left, right, ops } => {
-            let place = place_after(component, running, left, right, ops);
+            let place = place_after(component, store, running, left, right, ops);
             skips(component, store, running, place)
         }
     }
 }
 
-// A register and an operand, modulo 2^64.
-fn sum(running: &Running, register: u8, operand: Operand) -> u64
-    ensures { result ≡ (value_in running.now.registers (Operand.Register register) + value_in running.now.registers operand) % 2 ^ 64 }
+/// An operand's value for the running thread.
+pub(crate) fn value_now<T, H>(store: &Store<T, H>, running: &Running, operand: Operand) -> u64
+    requires { IsAbout store.now.state running.now }
+    ensures { result ≡ value_of running.now.number store.now.state.core operand }
 {
-    let left = operand_value(&running.registers, Operand::Register(register));
-    left.wrapping_add(operand_value(&running.registers, operand))
+    let _running = running;
+    store.state.operand(operand)
+}
+
+// A register and an operand, modulo 2^64.
+fn sum<T, H>(store: &Store<T, H>, running: &Running, register: u8, operand: Operand) -> u64
+    requires { IsAbout store.now.state running.now }
+    ensures { result ≡ (value_of running.now.number store.now.state.core (Operand.Register register) + value_of running.now.number store.now.state.core operand) % 2 ^ 64 }
+{
+    let left = value_now(store, running, Operand::Register(register));
+    left.wrapping_add(value_now(store, running, operand))
 }
 
 // The op answers in a register.
@@ -160,10 +170,17 @@ fn skips<T, H>(
 }
 
 // How many ops are passed over.
-fn passed(running: &Running, left: Operand, right: Operand, ops: u32) -> u32
-    ensures { result ≡ (if value_in running.now.registers left == value_in running.now.registers right then ops else 0) }
+fn passed<T, H>(
+    store: &Store<T, H>,
+    running: &Running,
+    left: Operand,
+    right: Operand,
+    ops: u32,
+) -> u32
+    requires { IsAbout store.now.state running.now }
+    ensures { result ≡ (if value_of running.now.number store.now.state.core left == value_of running.now.number store.now.state.core right then ops else 0) }
 {
-    if operand_value(&running.registers, left) == operand_value(&running.registers, right) {
+    if value_now(store, running, left) == value_now(store, running, right) {
         ops
     } else {
         0
@@ -171,17 +188,19 @@ fn passed(running: &Running, left: Operand, right: Operand, ops: u32) -> u32
 }
 
 // The place that is so many ops past the next one, at most the script's end.
-fn place_after(
+fn place_after<T, H>(
     component: &Component,
+    store: &Store<T, H>,
     running: &Running,
     left: Operand,
     right: Operand,
     ops: u32,
 ) -> u32
-    requires { IsFirstComponent component.now }
-    ensures { result ≡ min (running.now.position + 1 + (if value_in running.now.registers left == value_in running.now.registers right then ops else 0)) (length (script_in component.now running.now.callee Script.Start)) }
+    requires first { IsFirstComponent component.now }
+    requires about { IsAbout store.now.state running.now }
+    ensures { result ≡ min (running.now.position + 1 + (if value_of running.now.number store.now.state.core left == value_of running.now.number store.now.state.core right then ops else 0)) (length (script_in component.now running.now.callee Script.Start)) }
 {
     let length = script_length(component, running.callee) as u64;
-    let place = running.position as u64 + 1 + passed(running, left, right, ops) as u64;
+    let place = running.position as u64 + 1 + passed(store, running, left, right, ops) as u64;
     place.min(length) as u32
 }

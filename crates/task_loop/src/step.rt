@@ -12,8 +12,8 @@ ghost use Rattle.task_loop.specs.Main.{Steps};
 ghost use Rattle.task_loop.specs.Turn.{Makes, Turns};
 ghost use Rattle.task_loop.specs.Made.{made_by, made_by_main, op_of_next, IsReturn, Took};
 
-use crate::component::{operand_value, script_op};
-use crate::data::computes;
+use crate::component::script_op;
+use crate::data::{computes, value_now};
 use crate::instance::Instance;
 use crate::main_task::{MainStep, MainTask};
 use task_core::{NoMemory, TaskError};
@@ -216,7 +216,7 @@ fn ends<T, H>(
     store.state.is_whole();
     match op {
         TaskOp::Ret { value } => {
-            let value = operand_value(&running.registers, value);
+            let value = value_now(store, running, value);
             returns(component, store, running, value)
         }
         TaskOp::RetBad { value: _ } => Ok(returns_badly(store, running)),

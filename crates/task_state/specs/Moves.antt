@@ -38,7 +38,6 @@ pub record IsAbout (s : Seen) (r : Running) : Type 0 where
   pub call_is : get s.core.calls r.number ≡ Some call
   pub callee : r.callee ≡ call.callee
   pub position : r.position ≡ thread.position
-  pub registers : r.registers ≡ thread.registers
   pub ended : r.ended ≡ is_some call.«end»
 
 -- The thread n, which has a handle, exits.

@@ -5,6 +5,7 @@ ghost use Rattle.task_machine.specs.Maps.{get, size};
 ghost use Rattle.task_machine.specs.Read.{fits, has_ended, instance_of, is_nil, place_of, position_of, word_of};
 ghost use Rattle.task_machine.specs.Write.{set_trapped, take_result};
 ghost use Rattle.task_rules.specs.Data.{assigned, moved_to, stored};
+ghost use Rattle.task_rules.specs.Scripts.{value_of};
 ghost use Rattle.task_core.specs.Image.{IsTableOf};
 ghost use Rattle.task_core.specs.Shown.{with_capacity, with_handle_limit, with_instance};
 ghost use Rattle.task_simple.specs.Forms.{call_started, exit_done, return_done, trap_done};
@@ -17,7 +18,7 @@ use crate::taken::Taken;
 use std::alloc::Global;
 use std::marker::Model;
 use task_core::{Entry, NoMemory, QualifiedThreadId, TaskCore};
-use task_machine::{CallEnd, Callee, ExportKind};
+use task_machine::{CallEnd, Callee, ExportKind, Operand};
 use task_table::ResourceTable;
 
 /// The calls and threads of a store, and the thread that runs.
@@ -41,13 +42,12 @@ impl Model for ConcurrentState {
 }
 
 /// What the running thread is about to do: its number, its task's export, its place in the script,
-/// its registers, and whether its task has ended.
+/// and whether its task has ended.
 #[derive(Clone, Copy, Debug)]
 pub struct Running {
     pub number: u64,
     pub callee: Callee,
     pub position: u32,
-    pub registers: [u64; 16],
     pub ended: bool,
 }
 
@@ -217,12 +217,10 @@ impl ConcurrentState {
         let id = self.core.current()?;
         let thread = self.core.thread(id.thread);
         let call = self.core.call(id.task);
-        let registers = thread.registers;
         Some(Running {
             number: self.core.number(id.thread),
             callee: call.callee,
             position: thread.position,
-            registers,
             ended: call.end.is_some(),
         })
     }
@@ -247,6 +245,20 @@ impl ConcurrentState {
         self.core.set_end(id.task, CallEnd::Returned);
         self.core.set_position(id.thread, position + 1);
         Ok(())
+    }
+
+    /// The value of an operand for the running thread: a number, or what stands in its register.
+    pub fn operand(&self, operand: Operand) -> u64
+        requires { IsSome self.now.running }
+        ensures { IfSome self.now.running (λ n. result ≡ value_of n self.now.core operand) }
+    {
+        let Some(id) = self.core.current() else {
+            unreachable!()
+        };
+        match operand {
+            Operand::Number(value) => value,
+            Operand::Register(register) => self.core.register(id.thread, register),
+        }
     }
 
     /// A word of the running thread's instance, 0 to 15; 0 where there is no such word.

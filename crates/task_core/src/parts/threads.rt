@@ -1,13 +1,13 @@
 ghost use Rattle.std.specs.Prelude.{◌≡◌, ◌<◌, ◌+◌, ◌^◌, Some};
 ghost use Rattle.task_machine.specs.Maps.{get};
-ghost use Rattle.task_machine.specs.Read.{position_of};
+ghost use Rattle.task_machine.specs.Read.{position_of, register_of};
 ghost use Rattle.task_machine.specs.Write.{set_register, set_position, set_how_far, set_script, set_place};
 ghost use Rattle.task_machine.proofs.FieldLemmas.{put_thread};
 ghost use Rattle.task_core.specs.Shown.{thread_number, with_core};
 ghost use Rattle.task_core.specs.Simple.{IsPlainThread};
 
 use crate::entry::ThreadKey;
-use crate::parts::words::put_word;
+use crate::parts::words::{put_word, register_in};
 use crate::state::TaskCore;
 use task_machine::{HowFar, Place, Script, Thread};
 use task_table::TableId;
@@ -32,6 +32,17 @@ impl TaskCore {
     {
         match self.table.get(id) {
             Ok(entry) => entry.number,
+            Err(_) => unreachable!(),
+        }
+    }
+
+    /// What stands in a register of a thread, 0 to 15; 0 where there is no such register.
+    pub fn register(&self, id: TableId<ThreadKey>, register: u8) -> u64
+        requires { 0 < thread_number self.now.tags id }
+        ensures { result ≡ register_of (thread_number self.now.tags id) register self.now.core }
+    {
+        match self.table.get(id) {
+            Ok(entry) => register_in(&entry.thread.registers, register),
             Err(_) => unreachable!(),
         }
     }

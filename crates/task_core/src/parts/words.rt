@@ -1,4 +1,4 @@
-ghost use Rattle.std.specs.Prelude.{◌≡◌, slice_set};
+ghost use Rattle.std.specs.Prelude.{◌≡◌, slice_index, slice_set};
 
 // Sets a word, 0 to 15; there are no others, and a write of one changes nothing.
 pub(crate) fn put_word(words: &mut [u64; 16], place: u8, value: u64)
@@ -7,4 +7,11 @@ pub(crate) fn put_word(words: &mut [u64; 16], place: u8, value: u64)
     if place < 16 {
         words[place as usize] = value;
     }
+}
+
+// What stands in a register; 0 where there is none.
+pub(crate) fn register_in(registers: &[u64; 16], register: u8) -> u64
+    ensures { result ≡ slice_index registers.now register }
+{
+    registers.get(register as usize).copied().unwrap_or(0)
 }
