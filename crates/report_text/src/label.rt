@@ -62,6 +62,7 @@ fn three_digits(out: &mut Vec<u8>, number: u64) -> Printed
     last_digit(out, number)
 }
 
+#[inline(never)]
 fn many_digits(out: &mut Vec<u8>, number: u64) -> Printed
     ensures { OnOk result (out.new.items ≡ out.old.items ++ decimal number) }
 {
@@ -70,6 +71,7 @@ fn many_digits(out: &mut Vec<u8>, number: u64) -> Printed
 }
 
 // A number. Most are short: their digits are added one by one.
+#[inline(always)]
 fn digits(out: &mut Vec<u8>, number: u64) -> Printed
     ensures { OnOk result (out.new.items ≡ out.old.items ++ decimal number) }
 {

@@ -66,6 +66,40 @@ fn runs_of_the_first_path_print_their_reports(rt: HostRuntime) -> Result<(), Fai
     Ok(())
 }
 
+// Example texts of limits that refuse.
+const FULL_TABLE: &[u8] =
+    b"scenario 1\nhandles 100000\ntable 7\nidle trap\ninstance a\nexport f callback 0\nret 1\nmain\nstart a.f\nstart a.f\nstart a.f\nfinish 1 r0\nanswer r0\nend\n";
+
+const NO_HANDLE: &[u8] =
+    b"scenario 1\nhandles 0\ntable 1000000\nidle trap\ninstance a\nexport f callback 1\nret r0\nexit\nmain\nstart a.f 7\nfinish 1 r0\nanswer r0\nend\n";
+
+const FIRST_START_REFUSED: &[u8] =
+    b"scenario 1\nhandles 100000\ntable 3\nidle trap\ninstance a\nexport f callback 1\nret r0\nexit\nmain\nstart a.f 7\nfinish 1 r0\nanswer r0\nend\n";
+
+#[test]
+fn limits_refuse_starts_and_takings(rt: HostRuntime) -> Result<(), Fail> {
+    let cases: [(&[u8], &[u8]); 3] = [
+        (
+            FULL_TABLE,
+            b"main start 1 thread 1\nmain start 2 refused 18\nmain start 3 refused 20\nmain pends\ntake high thread 1\nthread 1 ret 1\nthread 1 exit\nmain finish 1 = 1\nmain answer 1\ndone 1\n",
+        ),
+        (
+            NO_HANDLE,
+            b"main start 1 thread 1\nmain pends\ntrap thread 1 17\ntrap 17\n",
+        ),
+        (
+            FIRST_START_REFUSED,
+            b"main start 1 refused 18\nmain finish 1 refused 18\nmain answer 0\ndone 0\n",
+        ),
+    ];
+    for (text, printed) in cases {
+        let report = run_scenario(rt.alloc(), text, 100).ok().ok_or("a report")?;
+        let text = print_report(rt.alloc(), &report).ok().ok_or("a text")?;
+        assert_eq!(rt; text.as_slice(), printed);
+    }
+    Ok(())
+}
+
 #[test]
 fn a_bad_text_is_refused_at_its_first_bad_line(rt: HostRuntime) -> Result<(), Fail> {
     let unended = &ONE_CALL[..ONE_CALL.len() - 4];
