@@ -1,6 +1,6 @@
 //! What is printed of a label and of an outcome, each in one way. Text grows at the end of one
 //! buffer, and no label makes a string of its own.
-ghost use Rattle.std.specs.Prelude.{◌≡◌, ◌≤◌, ◌<◌, ◌/◌, ◌++◌, ℕ, List, codes, decimal, OnOk};
+ghost use Rattle.std.specs.Prelude.{◌≡◌, ◌≤◌, ◌<◌, ◌++◌, codes, decimal, OnOk};
 ghost use Rattle.task_rules.specs.Sets.{given_code, given_handle, given_result};
 ghost use Rattle.task_rules.specs.Texts.{mark_text, phase_text, given_text, own_given, wakes, polls, refused, main_text, future_text, loop_text, taken_text, event_text, take_text, op_text, answer_text, data_text, task_text, set_text, call_text, thread_text, label_text, outcome_text};
 
@@ -21,48 +21,43 @@ fn words(out: &mut Vec<u8>, words: &[u8]) -> Printed
     Ok(())
 }
 
-// A digit behind those of a tenth of the number.
-#[inline(always)]
-#[tactic(auto, using(std::proofs::lemmas::Fmt::decimal_step))]
-fn last_digit(out: &mut Vec<u8>, number: u64) -> Printed
-    requires { 10 ≤ number }
-    ensures { (before : List ℕ) → out.old.items ≡ before ++ decimal (number / 10) → OnOk result (out.new.items ≡ before ++ decimal number) }
-{
-    out.push(b'0' + (number % 10) as u8)?;
-    Ok(())
-}
-
 #[inline(always)]
 #[tactic(auto, using(std::proofs::lemmas::Fmt::decimal_digit))]
 fn one_digit(out: &mut Vec<u8>, number: u64) -> Printed
     requires { number < 10 }
     ensures { OnOk result (out.new.items ≡ out.old.items ++ decimal number) }
 {
-    out.push(b'0' + number as u8)?;
+    out.extend_from_slice(&[b'0' + number as u8])?;
     Ok(())
 }
 
 #[inline(always)]
+#[tactic(auto, using(crate::proofs::Digits::decimal_two))]
 fn two_digits(out: &mut Vec<u8>, number: u64) -> Printed
     requires from { 10 ≤ number }
     requires to { number < 100 }
     ensures { OnOk result (out.new.items ≡ out.old.items ++ decimal number) }
 {
-    one_digit(out, number / 10)?;
-    last_digit(out, number)
+    let tens = b'0' + (number / 10) as u8;
+    let ones = b'0' + (number % 10) as u8;
+    out.extend_from_slice(&[tens, ones])?;
+    Ok(())
 }
 
 #[inline(always)]
+#[tactic(auto, using(crate::proofs::Digits::decimal_three))]
 fn three_digits(out: &mut Vec<u8>, number: u64) -> Printed
     requires from { 100 ≤ number }
     requires to { number < 1000 }
     ensures { OnOk result (out.new.items ≡ out.old.items ++ decimal number) }
 {
-    two_digits(out, number / 10)?;
-    last_digit(out, number)
+    let hundreds = b'0' + (number / 100) as u8;
+    let tens = b'0' + (number / 10 % 10) as u8;
+    let ones = b'0' + (number % 10) as u8;
+    out.extend_from_slice(&[hundreds, tens, ones])?;
+    Ok(())
 }
 
-#[inline(never)]
 fn many_digits(out: &mut Vec<u8>, number: u64) -> Printed
     ensures { OnOk result (out.new.items ≡ out.old.items ++ decimal number) }
 {
@@ -70,8 +65,7 @@ fn many_digits(out: &mut Vec<u8>, number: u64) -> Printed
     Ok(())
 }
 
-// A number. Most are short: their digits are added one by one.
-#[inline(always)]
+// A number. Most are short: their digits are added at once.
 fn digits(out: &mut Vec<u8>, number: u64) -> Printed
     ensures { OnOk result (out.new.items ≡ out.old.items ++ decimal number) }
 {
