@@ -59,17 +59,17 @@ def longest(size):
 
 
 def once(program, words, path):
-    """The processor seconds, peak bytes and output of one run."""
+    """The processor seconds, the bytes of the pages that were touched, and the output of one run."""
     with open(path, "rb") as text, tempfile.TemporaryFile() as out:
         child = subprocess.Popen([program, *words], stdin=text, stdout=out, stderr=subprocess.DEVNULL)
         _, status, usage = os.wait4(child.pid, 0)
         child.returncode = os.waitstatus_to_exitcode(status)
         out.seek(0)
-        return usage.ru_utime + usage.ru_stime, usage.ru_maxrss * 1024, (child.returncode, out.read())
+        return usage.ru_utime + usage.ru_stime, usage.ru_minflt * os.sysconf("SC_PAGE_SIZE"), (child.returncode, out.read())
 
 
-def least(seconds, peak, run):
-    return min(seconds, run[0]), min(peak, run[1])
+def least(seconds, touched, run):
+    return min(seconds, run[0]), min(touched, run[1])
 
 
 def measure(programs, words, path, runs):
@@ -88,9 +88,9 @@ def ratio(ours, plain):
     return f"{ours / plain:.2f}" if plain > 0 and ours > 0 else "-"
 
 
-def bytes_a_label(peak, empty, report):
+def bytes_a_label(touched, empty, report):
     labels = report.count(b"\n") - 1
-    return f"{(peak - empty) / labels:.0f}" if labels >= LEAST_LABELS else "-"
+    return f"{(touched - empty) / labels:.0f}" if labels >= LEAST_LABELS else "-"
 
 
 def main():
