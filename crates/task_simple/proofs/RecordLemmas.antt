@@ -1,6 +1,6 @@
 -- What is found at the numbers of a map, and what its list is: tests, sums and counts over it, its numbers, and how many records it has.
 use Rattle.std.proofs.Common.{arith, ℕ, ◌≡◌, ◌≢◌, ◌+◌, ◌<◌, ◌≤◌, refl, sym, ap, ap₂, ◌∙◌, Bool, true, false, cond, T, subst, List, [], ◌∷◌, ◌++◌, length}
-use Rattle.std.proofs.lemmas.Bool.{ltb-true, eqb-true, ne_eqb, eq-eqb}
+use Rattle.std.proofs.lemmas.Bool.{ltb-true, eqb-true, ne_eqb, eq-eqb, false≢true}
 use Rattle.std.proofs.lemmas.List.Sums.{sum_by-cons}
 use Rattle.std.specs.Prelude.{Option, Some, None, is_some, not, ◌&&◌, ◌||◌, ◌==◌, filter, find, map, sum_by, nat_lt}
 use Rattle.std.specs.List.{list_any}
@@ -133,6 +133,21 @@ module _ {X : Type 0} where
   pub any_one : (m : Records X) (test : ℕ × X → Bool) (q : ℕ) (x : X) → get m q ≡ Some x → test (q, x) ≡ true → list_any test m.list ≡ true
   unfolding get
   any_one m test q x is t = list_one test q x t m.list is
+
+  found_in : (test : ℕ × X → Bool) (es : List (ℕ × X)) → T (is_sorted nat_cmp es) → list_any test es ≡ true → (q : ℕ) × (x : X) × (at q es ≡ Some x) × (test (q, x) ≡ true)
+  found_in test [] h any = absurd (false≢true any)
+  found_in test (e ∷ es) h any =
+      elim (test e) as (λ b. test e ≡ b → (b || list_any test es) ≡ true → (q : ℕ) × (x : X) × (at q (e ∷ es) ≡ Some x) × (test (q, x) ≡ true)) [
+        | true ↦ λ passes rest. (e.0, e.1, at_first e es, passes)
+        | false ↦ λ fails rest.
+            let later = found_in test es (both_second _ _ h) rest in
+            (later.0, later.1, at_later later.0 later.1 e es h later.2, later.3)
+      ] refl any
+
+  -- where some record passes, one is found
+  pub any_there : (m : Records X) (test : ℕ × X → Bool) → list_any test m.list ≡ true → (q : ℕ) × (x : X) × (get m q ≡ Some x) × (test (q, x) ≡ true)
+  unfolding get
+  any_there m test any = found_in test m.list m.sorted any
 
   -- ---- Sizes
 

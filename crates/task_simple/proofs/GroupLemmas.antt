@@ -1,0 +1,145 @@
+-- The groups that calls are of, and those that are live.
+use Rattle.std.proofs.Common.{ap, ap₂, arith, cond, refl, sym, ◌∙◌}
+use Rattle.std.proofs.lemmas.Bool.{eq-eqb, eqb-true, false≢true, ne_eqb}
+use Rattle.std.proofs.lemmas.List.Sums.{sum_by-append, sum_by-cons}
+use Rattle.std.specs.List.{list_any}
+use Rattle.std.specs.Prelude.{Bool, List, None, Option, Some, [], count_by, false, filter, length, not, true, ℕ, ◌&&◌, ◌++◌, ◌+◌, ◌==◌, ◌∷◌, ◌||◌, ◌≡◌, ◌≢◌, ◌≤◌}
+use Rattle.task_machine.specs.declared.records.Call.{Call}
+use Rattle.task_machine.specs.Core.{Core}
+use Rattle.task_machine.specs.Maps.{Records, change, get, insert, remove, size}
+use Rattle.task_machine.specs.Moves.{group_settled, is_group_done}
+use Rattle.task_machine.specs.Write.{remove_group}
+use Rattle.task_machine.proofs.MapLemmas.{get-change_other, get-insert_other, get-insert_same, get-remove_other}
+use Rattle.task_simple.specs.Simple.{IsPlain, has_call}
+use Rattle.task_simple.proofs.CaseLemmas.{change_cases, either, get_changed, insert_cases, remove_cases}
+use Rattle.task_simple.proofs.RecordLemmas.{any_one, any_there}
+
+-- ---- Tests of records, after one change
+
+same_truth : (a b : Bool) → (a ≡ true → b ≡ true) → (b ≡ true → a ≡ true) → a ≡ b
+same_truth true b there back = sym (there refl)
+same_truth false true there back = back refl
+same_truth false false there back = refl
+
+left_or : (a b : Bool) → a ≡ true → (a || b) ≡ true
+left_or a b is = ap (λ c. c || b) is
+
+right_or : (a b : Bool) → b ≡ true → (a || b) ≡ true
+right_or true b is = refl
+right_or false b is = is
+
+or_cases : {P : Type 0} (a b : Bool) → (a || b) ≡ true → (a ≡ true → P) → (b ≡ true → P) → P
+or_cases true b is first second = first refl
+or_cases false b is first second = second is
+
+module _ {X : Type 0} (m : Records X) (test : ℕ × X → Bool) (n : ℕ) where
+  pub any-change : (f : X → X) → ((x : X) → test (n, f x) ≡ test (n, x)) → list_any test (change n f m).list ≡ list_any test m.list
+  any-change f same = same_truth (list_any test (change n f m).list) (list_any test m.list)
+      (λ some.
+      let e = any_there (change n f m) test some in
+      change_cases m n f e.0 e.1 e.2
+      (λ x at found is. any_one m test n x found (sym (same x) ∙ ap₂ (λ q y. test (q, y)) (sym at) (sym is) ∙ e.3))
+      (λ ne found. any_one m test e.0 e.1 found e.3))
+      (λ some.
+      let e = any_there m test some in
+      either e.0 n
+      (λ at. any_one (change n f m) test n (f e.1) (get_changed m n f e.1 (ap (get m) (sym at) ∙ e.2)) (same e.1 ∙ ap (λ q. test (q, e.1)) (sym at) ∙ e.3))
+      (λ ne. any_one (change n f m) test e.0 e.1 (get-change_other m n f e.0 ne ∙ e.2) e.3))
+
+  pub any-insert_new : (x : X) → get m n ≡ None → list_any test (insert m n x).list ≡ (test (n, x) || list_any test m.list)
+  any-insert_new x new = same_truth (list_any test (insert m n x).list) (test (n, x) || list_any test m.list)
+      (λ some.
+      let e = any_there (insert m n x) test some in
+      insert_cases m n x e.0 e.1 e.2
+      (λ at is. left_or _ _ (ap₂ (λ q y. test (q, y)) (sym at) (sym is) ∙ e.3))
+      (λ ne found. right_or _ _ (any_one m test e.0 e.1 found e.3)))
+      (λ some. or_cases _ _ some
+      (λ passes. any_one (insert m n x) test n x (get-insert_same m n x) passes)
+      (λ old.
+      let e = any_there m test old in
+      let ne : e.0 ≢ n = λ at. let a = e.2 in let b : get m e.0 ≡ None = ap (get m) at ∙ new in cc in
+      any_one (insert m n x) test e.0 e.1 (get-insert_other m n x e.0 ne ∙ e.2) e.3))
+
+  pub any-remove : (x : X) → get m n ≡ Some x → list_any test m.list ≡ (test (n, x) || list_any test (remove m n).list)
+  any-remove x there = same_truth (list_any test m.list) (test (n, x) || list_any test (remove m n).list)
+      (λ some.
+      let e = any_there m test some in
+      either e.0 n
+      (λ at.
+      let y : e.1 ≡ x = let a = e.2 in let b = ap (get m) at in cc in
+      left_or _ _ (ap₂ (λ q z. test (q, z)) (sym at) (sym y) ∙ e.3))
+      (λ ne. right_or _ _ (any_one (remove m n) test e.0 e.1 (get-remove_other m n e.0 ne ∙ e.2) e.3)))
+      (λ some. or_cases _ _ some
+      (λ passes. any_one m test n x there passes)
+      (λ left.
+      let e = any_there (remove m n) test left in
+      remove_cases m n e.0 e.1 e.2 (λ ne found. any_one m test e.0 e.1 found e.3)))
+
+-- ---- How often a group stands in a list
+
+abbrev pub times : ℕ → List ℕ → ℕ
+times g gs = count_by (λ h. g == h) gs
+
+times-cons : (g h : ℕ) (gs : List ℕ) → times g (h ∷ gs) ≡ cond (g == h) 1 0 + times g gs
+times-cons g h gs = sum_by-cons (λ x. cond (g == x) 1 0) h gs
+
+pub times-push : (g h : ℕ) (gs : List ℕ) → times g (gs ++ h ∷ []) ≡ times g gs + cond (g == h) 1 0
+times-push g h gs = let a = sum_by-append (λ x. cond (g == x) 1 0) gs (h ∷ []) in let b = times-cons g h [] in omega arith
+
+abbrev pub less : ℕ → List ℕ → List ℕ
+less g gs = filter (λ h. not (g == h)) gs
+
+pub times-less_same : (g : ℕ) (gs : List ℕ) → times g (less g gs) ≡ 0
+times-less_same g [] = refl
+times-less_same g (h ∷ gs) =
+    let ih : times g (less g gs) ≡ 0 = times-less_same g gs in
+    elim (g == h) as (λ b. (g == h) ≡ b → times g (cond (not b) (h ∷ less g gs) (less g gs)) ≡ 0) [
+      | true ↦ λ same. ih
+      | false ↦ λ other. let a = times-cons g h (less g gs) in let b : cond {A = ℕ} (g == h) 1 0 ≡ 0 = ap (λ b. cond b 1 0) other in omega arith
+    ] refl
+
+pub times-less_other : (g h : ℕ) (gs : List ℕ) → g ≢ h → times g (less h gs) ≡ times g gs
+times-less_other g h [] ne = refl
+times-less_other g h (x ∷ gs) ne =
+    let ih : times g (less h gs) ≡ times g gs = times-less_other g h gs ne in
+    let all = times-cons g x gs in
+    elim (h == x) as (λ b. (h == x) ≡ b → times g (cond (not b) (x ∷ less h gs) (less h gs)) ≡ times g (x ∷ gs)) [
+      | true ↦ λ same. let e : h ≡ x = eqb-true h x same in let b : cond {A = ℕ} (g == x) 1 0 ≡ 0 = ap (λ b. cond b 1 0) (ne_eqb g x (λ k. ne (k ∙ sym e))) in omega arith
+      | false ↦ λ other. let a = times-cons g x (less h gs) in omega arith
+    ] refl
+
+pub length-less : (g : ℕ) (gs : List ℕ) → length (less g gs) + times g gs ≡ length gs
+length-less g [] = refl
+length-less g (x ∷ gs) =
+    let ih : length (less g gs) + times g gs ≡ length gs = length-less g gs in
+    let all = times-cons g x gs in
+    elim (g == x) as (λ b. (g == x) ≡ b → length (cond (not b) (x ∷ less g gs) (less g gs)) + times g (x ∷ gs) ≡ length (x ∷ gs)) [
+      | true ↦ λ same. let b : cond {A = ℕ} (g == x) 1 0 ≡ 1 = ap (λ b. cond b 1 0) same in omega arith
+      | false ↦ λ other. let b : cond {A = ℕ} (g == x) 1 0 ≡ 0 = ap (λ b. cond b 1 0) other in omega arith
+    ] refl
+
+-- a list of groups in which each stands once at most, and only where a call is of it, is no longer than that of the calls
+none_listed : (gs : List ℕ) → ((g : ℕ) → times g gs ≤ 0) → length gs ≡ 0
+none_listed [] few = refl
+none_listed (h ∷ gs) few = let a = few h in let b = times-cons h h gs in let c : cond {A = ℕ} (h == h) 1 0 ≡ 1 = ap (λ b. cond b 1 0) (eq-eqb h h refl) in absurd (omega arith)
+
+pub length-groups : (es : List (ℕ × Call)) (gs : List ℕ) → ((g : ℕ) → times g gs ≤ cond (list_any (λ e. e.1.group == g) es) 1 0) → length gs ≤ length es
+length-groups [] gs few = let none = none_listed gs few in omega arith
+length-groups (e ∷ es) gs few =
+    let h = e.1.group in
+    let rest : length (less h gs) ≤ length es = length-groups es (less h gs) (λ g. either g h
+        (λ same. let a : times g (less h gs) ≡ 0 = ap (λ k. times g (less k gs)) (sym same) ∙ times-less_same g gs in omega arith)
+        (λ ne.
+        let a = times-less_other g h gs ne in
+        let b : (h == g) ≡ false = ne_eqb h g (λ k. ne (sym k)) in
+        let c : cond {A = ℕ} (list_any (λ e. e.1.group == g) (e ∷ es)) 1 0 ≡ cond (list_any (λ e. e.1.group == g) es) 1 0 = ap (λ b. cond {A = ℕ} (b || list_any (λ e. e.1.group == g) es) 1 0) b in
+        let d = few g in
+        omega arith)) in
+    let a = length-less h gs in
+    let once : times h gs ≤ 1 =
+        let b : cond {A = ℕ} (list_any (λ e. e.1.group == h) (e ∷ es)) 1 0 ≡ 1 = ap (λ b. cond {A = ℕ} (b || list_any (λ e. e.1.group == h) es) 1 0) (eq-eqb h h refl) in
+        let d = few h in omega arith in
+    let c : length (e ∷ es) ≡ length es + 1 = omega arith in
+    omega arith
+
+pub ruleset group_facts = (any-change, any-insert_new, any-remove, times-push, times-less_same, times-less_other, length-less, length-groups)
