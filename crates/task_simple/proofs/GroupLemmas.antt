@@ -3,16 +3,18 @@ use Rattle.std.proofs.Common.{ap, ap₂, arith, cond, refl, sym, ◌∙◌}
 use Rattle.std.proofs.lemmas.Bool.{eq-eqb, eqb-true, false≢true, ne_eqb}
 use Rattle.std.proofs.lemmas.List.Sums.{sum_by-append, sum_by-cons}
 use Rattle.std.specs.List.{list_any}
-use Rattle.std.specs.Prelude.{Bool, List, None, Option, Some, [], count_by, false, filter, length, not, true, ℕ, ◌&&◌, ◌++◌, ◌+◌, ◌==◌, ◌∷◌, ◌||◌, ◌≡◌, ◌≢◌, ◌≤◌}
+use Rattle.std.specs.Option.{option_map_or}
+use Rattle.std.specs.Prelude.{Bool, Contains, List, None, Some, [], count_by, false, filter, if◌then◌else◌, length, not, slice_index_or, suc, true, zero, ℕ, ◌++◌, ◌+◌, ◌<◌, ◌==◌, ◌∷◌, ◌||◌, ◌≡◌, ◌≢◌, ◌≤◌}
 use Rattle.task_machine.specs.declared.records.Call.{Call}
+use Rattle.task_machine.specs.declared.records.Work.{Work}
 use Rattle.task_machine.specs.Core.{Core}
-use Rattle.task_machine.specs.Maps.{Records, change, get, insert, remove, size}
+use Rattle.task_machine.specs.Maps.{Records, change, empty, get, insert, remove, size}
 use Rattle.task_machine.specs.Moves.{group_settled, is_group_done}
 use Rattle.task_machine.specs.Write.{remove_group}
 use Rattle.task_machine.proofs.MapLemmas.{get-change_other, get-insert_other, get-insert_same, get-remove_other}
 use Rattle.task_simple.specs.Simple.{IsPlain, has_call}
 use Rattle.task_simple.proofs.CaseLemmas.{change_cases, either, get_changed, insert_cases, remove_cases}
-use Rattle.task_simple.proofs.RecordLemmas.{any_one, any_there}
+use Rattle.task_simple.proofs.RecordLemmas.{any_none, any_one, any_there}
 
 -- ---- Tests of records, after one change
 
@@ -142,4 +144,76 @@ length-groups (e ∷ es) gs few =
     let c : length (e ∷ es) ≡ length es + 1 = omega arith in
     omega arith
 
-pub ruleset group_facts = (any-change, any-insert_new, any-remove, times-push, times-less_same, times-less_other, length-less, length-groups)
+-- a group that is live stands in the list
+pub times_some : (g : ℕ) (gs : List ℕ) → Contains gs g → 0 < times g gs
+times_some g gs h = counted gs h.0 h.1 h.2
+  where
+    counted : (gs : List ℕ) (k : ℕ) → k < length gs → slice_index_or gs k g ≡ g → 0 < times g gs
+    counted [] k lt is = absurd (omega arith)
+    counted (h ∷ gs) zero lt is = let a = times-cons g h gs in let b : cond {A = ℕ} (g == h) 1 0 ≡ 1 = ap (λ b. cond b 1 0) (eq-eqb g h (sym is)) in omega arith
+    counted (h ∷ gs) (suc k) lt is = let ih : 0 < times g gs = counted gs k (omega arith) is in let a = times-cons g h gs in omega arith
+
+-- ---- Groups of calls
+
+-- where each live group is that of a call, a group that no other call is of goes with its call
+pub times_left : (calls : Records Call) (n : ℕ) (c : Call) → get calls n ≡ Some c → (gs : List ℕ) → ((g : ℕ) → times g gs ≡ cond (list_any (λ e. e.1.group == g) calls.list) 1 0) → (b : Bool) → list_any (λ e. e.1.group == c.group) (remove calls n).list ≡ b → (g : ℕ) → times g (cond b gs (less c.group gs)) ≡ cond (list_any (λ e. e.1.group == g) (remove calls n).list) 1 0
+times_left calls n c there gs once true kept g =
+    let all = any-remove calls (λ e. e.1.group == g) n c there in
+    once g ∙ ap (λ b. cond b 1 0) all ∙ either g c.group
+    (λ same.
+    let left : list_any (λ e. e.1.group == g) (remove calls n).list ≡ true = ap (λ k. list_any (λ e. e.1.group == k) (remove calls n).list) same ∙ kept in
+    ap (λ b. cond {A = ℕ} b 1 0) (right_or (c.group == g) _ left) ∙ sym (ap (λ b. cond {A = ℕ} b 1 0) left))
+    (λ ne. ap (λ b. cond {A = ℕ} (b || list_any (λ e. e.1.group == g) (remove calls n).list) 1 0) (ne_eqb c.group g (λ e. ne (sym e))))
+times_left calls n c there gs once false gone g =
+    let all = any-remove calls (λ e. e.1.group == g) n c there in
+    either g c.group
+    (λ same.
+    let left : list_any (λ e. e.1.group == g) (remove calls n).list ≡ false = ap (λ k. list_any (λ e. e.1.group == k) (remove calls n).list) same ∙ gone in
+    ap (λ k. times g (less k gs)) (sym same) ∙ times-less_same g gs ∙ sym (ap (λ b. cond {A = ℕ} b 1 0) left))
+    (λ ne.
+    times-less_other g c.group gs ne ∙ once g ∙ ap (λ b. cond b 1 0) all
+    ∙ ap (λ b. cond {A = ℕ} (b || list_any (λ e. e.1.group == g) (remove calls n).list) 1 0) (ne_eqb c.group g (λ e. ne (sym e))))
+
+-- ---- A group that is settled
+
+-- only the groups change
+pub group_settled_is : (g : ℕ) (s : Core) → group_settled g s ≡ record s { groups = (group_settled g s).groups }
+unfolding group_settled remove_group
+group_settled_is g s =
+    elim (is_group_done g s) as (λ b. (if b then remove_group g s else s) ≡ record s { groups = (if b then remove_group g s else s).groups }) [ true ↦ refl | false ↦ refl ]
+
+-- without works a group is done once no call is of it
+pub group_done_is : (g : ℕ) (s : Core) → s.works ≡ empty → is_group_done g s ≡ not (has_call g s)
+unfolding is_group_done empty
+group_done_is g s none = ap (λ (m : Records Work). not (has_call g s || list_any (λ e. option_map_or (λ h. h == g) e.1.group false) m.list)) none ∙ ap not (or_false (has_call g s))
+  where
+    or_false : (b : Bool) → (b || false) ≡ b
+    or_false true = refl
+    or_false false = refl
+
+groups_when : (g : ℕ) (s : Core) (b : Bool) → is_group_done g s ≡ not b → (group_settled g s).groups ≡ cond b s.groups (less g s.groups)
+unfolding group_settled remove_group
+groups_when g s true is = ap (λ b. (if b then remove_group g s else s).groups) is
+groups_when g s false is = ap (λ b. (if b then remove_group g s else s).groups) is
+
+pub groups_settled : (g : ℕ) (s : Core) → s.works ≡ empty → (group_settled g s).groups ≡ cond (has_call g s) s.groups (less g s.groups)
+groups_settled g s none = groups_when g s (has_call g s) (group_done_is g s none)
+
+-- in a state that isn't trapped there are no more groups than calls
+pub groups_below_calls : (s : Core) → IsPlain s → s.trapped ≡ false → length s.groups ≤ size s.calls
+unfolding size
+groups_below_calls s plain untrapped = length-groups s.calls.list s.groups (λ g. let a = plain.groups_open untrapped g in omega arith)
+
+-- a live group is that of a call
+pub call_of_live : (s : Core) → IsPlain s → s.trapped ≡ false → (g : ℕ) → Contains s.groups g → has_call g s ≡ true
+call_of_live s plain untrapped g live = live_when (has_call g s) refl
+  where
+    live_when : (b : Bool) → has_call g s ≡ b → has_call g s ≡ true
+    live_when true is = is
+    live_when false is = absurd (let a = times_some g s.groups live in let b = plain.groups_open untrapped g in let c : cond {A = ℕ} (has_call g s) 1 0 ≡ 0 = ap (λ b. cond b 1 0) is in omega arith)
+
+-- the next group has no call
+pub no_call_of_next : (s : Core) → IsPlain s → (g : ℕ) → s.made.groups < g → has_call g s ≡ false
+no_call_of_next s plain g above = any_none s.calls (λ e. e.1.group == g) (λ q c is. ne_eqb c.group g (λ e. let m = (plain.calls q c is).grouped in omega arith))
+
+pub ruleset group_facts = (any-change, groups_below_calls, groups_settled, times_left, call_of_live, no_call_of_next)
