@@ -121,6 +121,31 @@ pub exit_is : (n h : ℕ) (s : Core) → exit_done n h s ≡ left_with (exit_don
 unfolding exit_done
 exit_is n h s = group_settled_is (call_group n s) (remove_call n (remove_thread n (free_thread_handle (instance_of n s) h (set_do_not_enter (instance_of n s) false s))))
 
+-- ---- The group of a call that is gone
+
+module _ (s : Core) (plain : IsPlain s) (n : ℕ) (c : Call) (there : get s.calls n ≡ Some c) (h : ℕ) where
+  abbrev others : Bool
+  others = list_any (λ e. e.1.group == c.group) (remove s.calls n).list
+
+  -- the group stays while another call is of it
+  pub groups_left : (exit_done n h s).groups ≡ cond others s.groups (filter (λ g. not (c.group == g)) s.groups)
+  unfolding exit_done remove_call remove_thread free_thread_handle set_do_not_enter on_instance
+  groups_left =
+      ap (λ g. (group_settled g (left_with s.groups n h s)).groups) (ap (λ o. option_map_or (λ c. c.group) o 0) there)
+      ∙ groups_settled c.group (left_with s.groups n h s) plain.no_works
+
+  pub exit_open : s.trapped ≡ false → (g : ℕ) → count_by (λ h. g == h) (exit_done n h s).groups ≡ cond (list_any (λ e. e.1.group == g) (remove s.calls n).list) 1 0
+  exit_open untrapped g = ap (λ gs. count_by (λ h. g == h) gs) groups_left ∙ times_left s.calls n c there s.groups (plain.groups_open untrapped) others refl g
+
+  pub exit_trapped : s.trapped ≡ true → (exit_done n h s).groups ≡ []
+  exit_trapped trapped = groups_left ∙ ap (λ gs. cond others gs (filter (λ g. not (c.group == g)) gs)) (plain.groups_trapped trapped) ∙ both_none others
+    where
+      both_none : (b : Bool) → cond {A = List ℕ} b [] [] ≡ []
+      both_none true = refl
+      both_none false = refl
+
+-- ---- A thread that exits
+
 module _ (s : Core) (plain : IsPlain s) (n : ℕ) (t : Thread) (found : get s.threads n ≡ Some t) (runs : t.place ≡ place.Running) (h : ℕ) (has : t.handle ≡ Some h) where
   abbrev i : ℕ
   i = instance_of n s
@@ -202,30 +227,5 @@ module _ (s : Core) (plain : IsPlain s) (n : ℕ) (t : Thread) (found : get s.th
       results = plain.results;
   }
 
-  -- ---- The group of the call that is gone
-
-  module _ (c : Call) (there : get s.calls n ≡ Some c) where
-    abbrev others : Bool
-    others = list_any (λ e. e.1.group == c.group) (remove s.calls n).list
-
-    -- the group stays while another call is of it
-    pub groups_left : (exit_done n h s).groups ≡ cond others s.groups (filter (λ g. not (c.group == g)) s.groups)
-    unfolding exit_done remove_call remove_thread free_thread_handle set_do_not_enter on_instance
-    groups_left =
-        ap (λ g. (group_settled g (left_with s.groups n h s)).groups) (ap (λ o. option_map_or (λ c. c.group) o 0) there)
-        ∙ groups_settled c.group (left_with s.groups n h s) plain.no_works
-
-    exit_open : s.trapped ≡ false → (g : ℕ) → count_by (λ h. g == h) (exit_done n h s).groups ≡ cond (list_any (λ e. e.1.group == g) (remove s.calls n).list) 1 0
-    exit_open untrapped g = ap (λ gs. count_by (λ h. g == h) gs) groups_left ∙ times_left s.calls n c there s.groups (plain.groups_open untrapped) others refl g
-
-    exit_trapped : s.trapped ≡ true → (exit_done n h s).groups ≡ []
-    exit_trapped trapped = groups_left ∙ ap (λ gs. cond others gs (filter (λ g. not (c.group == g)) gs)) (plain.groups_trapped trapped) ∙ both_none others
-      where
-        both_none : (b : Bool) → cond {A = List ℕ} b [] [] ≡ []
-        both_none true = refl
-        both_none false = refl
-
-    pub exit_plain : IsPlain (exit_done n h s)
-    exit_plain = subst IsPlain (sym (exit_is n h s)) (plain_left (exit_done n h s).groups exit_open exit_trapped)
-
-pub ruleset scratch = (trap_plain, exit_plain)
+  pub exit_plain : (c : Call) → get s.calls n ≡ Some c → IsPlain (exit_done n h s)
+  exit_plain c there = subst IsPlain (sym (exit_is n h s)) (plain_left (exit_done n h s).groups (exit_open s plain n c there h) (exit_trapped s plain n c there h))
