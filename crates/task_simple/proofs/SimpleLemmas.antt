@@ -256,5 +256,3 @@ call_started_none_runs s e words none q u is =
     change_cases (insert s.threads k new) k (λ t. record t { place = ready_start }) q u is
     (λ y at found same running. let p : ready_start ≡ place.Running = sym (ap (λ (t : Thread). t.place) same) ∙ running in cc)
     (λ ne found. insert_cases s.threads k new q u found (λ at _. absurd (ne at)) (λ _ old. none q u old))
-
-pub ruleset scratch = (trap_simple, exit_simple)
