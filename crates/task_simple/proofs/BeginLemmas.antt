@@ -428,3 +428,5 @@ pub task_alone_runs : (s : Core) (f : Caller) (x : ExportKind) (i g : ℕ) → I
 unfolding task_made call_made add_thread add_call add_group
 task_alone_runs s f x i g simple n at =
     ap (option_map (λ t. t.place)) (get-insert_other s.threads (next_thread s) (new_thread (next_thread s) false script.Start (registers_for []) None) n (runs_else s simple.plain n at)) ∙ at
+
+pub ruleset tasks = (task_made_simple, task_alone_simple, task_made_none_runs, task_alone_none_runs, task_made_runs, task_alone_runs)

@@ -232,5 +232,3 @@ module _ (x : Setting) (s : State) (turn_is : s.turn ≡ turn.Main) (p : MainPla
       let l = label.Main (main_label.Answer v) in
       let t = goes_to s s.core turn.Over in
       at_op (Some o) is l t (subst (λ q. MainProgresses s p o q l t) (sym row) (refl, refl))
-
-pub ruleset scratch = (take_put_off, run_exit)

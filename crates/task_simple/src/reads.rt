@@ -38,11 +38,11 @@ pub fn checks_pass()
     ensures stays { (s : Core) → IsPlain s → (i : ℕ) → checked i s ≡ s }
 {}
 
-/// Nothing is told of a call by main.
+/// Nothing is told of a call unless its thread is New.
 #[tactic(auto, using(crate::proofs::ReadLemmas::reads))]
 pub fn nothing_is_told()
-    ensures stays { (s : Core) → IsPlain s → (k : ℕ) (e : Status) (w : Option ℕ) → told k e w s ≡ s }
-    ensures lawful { (s : Core) → IsPlain s → (k : ℕ) (w : Option ℕ) → may_tell k w s ≡ is_none w }
+    ensures stays { (s : Core) → IsPlain s → (k : ℕ) (e : Status) (w : Option ℕ) → place_of k s ≢ Some Place.New → told k e w s ≡ s }
+    ensures lawful { (s : Core) → IsPlain s → (k : ℕ) (w : Option ℕ) → place_of k s ≢ Some Place.New → may_tell k w s ≡ is_none w }
 {}
 
 /// A thread is the first and only one of its call.
@@ -54,10 +54,10 @@ pub fn threads_are_alone()
     ensures leaves { (s : Core) → IsPlain s → (n : ℕ) (t : Thread) → get s.threads n ≡ Some t → leaves_no_result n s ≡ not (has_ended n s) }
 {}
 
-/// A start is admitted, and main may call, unless the instance lets in nothing.
+/// A start of a thread that isn't New is admitted, and main may call, unless the instance lets in nothing.
 #[tactic(auto, using(crate::proofs::ReadLemmas::reads))]
 pub fn starts_are_admitted()
-    ensures start { (s : Core) → IsPlain s → (n : ℕ) → admits n s Why.Start ≡ not (may_not_enter (instance_of n s) s) }
+    ensures start { (s : Core) → IsPlain s → (n : ℕ) → place_of n s ≢ Some Place.New → admits n s Why.Start ≡ not (may_not_enter (instance_of n s) s) }
     ensures main { (s : Core) → IsPlain s → (i : ℕ) → is_ready_for_call i s ≡ not (may_not_enter i s) }
 {}
 
