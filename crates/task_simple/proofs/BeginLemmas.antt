@@ -18,7 +18,7 @@ use Rattle.task_machine.specs.declared.records.Place.TheVariants as place
 use Rattle.task_machine.specs.declared.records.Script.TheVariants as script
 use Rattle.task_machine.specs.declared.records.Thread.{Thread}
 use Rattle.task_machine.specs.Core.{Core}
-use Rattle.task_machine.specs.Maps.{change, get, insert}
+use Rattle.task_machine.specs.Maps.{get, insert}
 use Rattle.task_machine.specs.Read.{call_instance, may_not_enter, named_by, no_callee, place_of, thread_at}
 use Rattle.task_machine.specs.Write.{add_call, add_group, add_thread, on_thread, push_high, set_place}
 use Rattle.task_machine.proofs.MapLemmas.{get-change_other, get-insert_other, get-insert_same}

@@ -1,8 +1,7 @@
 -- How the entries of the resource table and the live handles change with each word, in any state.
-use Rattle.std.proofs.Common.{ap, arith, cond, refl, ◌∙◌}
+use Rattle.std.proofs.Common.{arith, refl}
 use Rattle.std.proofs.lemmas.List.{length-append}
-use Rattle.std.proofs.lemmas.List.Sums.{sum_by-cons}
-use Rattle.std.specs.Prelude.{List, None, Some, [], count_by, filter, length, false, nat_le, not, suc, true, ℕ, ◌+◌, ◌==◌, ◌∷◌, ◌≡◌}
+use Rattle.std.specs.Prelude.{List, None, Some, [], count_by, length, nat_le, ℕ, ◌+◌, ◌==◌, ◌∷◌, ◌≡◌}
 use Rattle.task_machine.specs.declared.records.Call.{Call}
 use Rattle.task_machine.specs.declared.records.Entry.{Entry}
 use Rattle.task_machine.specs.declared.records.Instance.{Instance}

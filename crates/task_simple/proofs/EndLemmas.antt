@@ -224,7 +224,7 @@ module _ (s : Core) (plain : IsPlain s) (n : ℕ) (t : Thread) (found : get s.th
         ∙ named_left (call_instance q s) g q ne (plain.named q g u at gives));
     groups_open = open_then;
     groups_trapped = trapped_then;
-      results = plain.results;
+    results = plain.results;
   }
 
   pub exit_plain : (c : Call) → get s.calls n ≡ Some c → IsPlain (exit_done n h s)

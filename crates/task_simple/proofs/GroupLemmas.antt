@@ -1,6 +1,6 @@
 -- The groups that calls are of, and those that are live.
 use Rattle.std.proofs.Common.{ap, ap₂, arith, cond, refl, sym, ◌∙◌}
-use Rattle.std.proofs.lemmas.Bool.{eq-eqb, eqb-true, false≢true, ne_eqb}
+use Rattle.std.proofs.lemmas.Bool.{eq-eqb, eqb-true, ne_eqb}
 use Rattle.std.proofs.lemmas.List.Sums.{sum_by-append, sum_by-cons}
 use Rattle.std.specs.List.{list_any}
 use Rattle.std.specs.Option.{option_map_or}
@@ -130,17 +130,17 @@ length-groups [] gs few = let none = none_listed gs few in omega arith
 length-groups (e ∷ es) gs few =
     let h = e.1.group in
     let rest : length (less h gs) ≤ length es = length-groups es (less h gs) (λ g. either g h
-        (λ same. let a : times g (less h gs) ≡ 0 = ap (λ k. times g (less k gs)) (sym same) ∙ times-less_same g gs in omega arith)
-        (λ ne.
-        let a = times-less_other g h gs ne in
-        let b : (h == g) ≡ false = ne_eqb h g (λ k. ne (sym k)) in
-        let c : cond {A = ℕ} (list_any (λ e. e.1.group == g) (e ∷ es)) 1 0 ≡ cond (list_any (λ e. e.1.group == g) es) 1 0 = ap (λ b. cond {A = ℕ} (b || list_any (λ e. e.1.group == g) es) 1 0) b in
-        let d = few g in
-        omega arith)) in
+    (λ same. let a : times g (less h gs) ≡ 0 = ap (λ k. times g (less k gs)) (sym same) ∙ times-less_same g gs in omega arith)
+    (λ ne.
+    let a = times-less_other g h gs ne in
+    let b : (h == g) ≡ false = ne_eqb h g (λ k. ne (sym k)) in
+    let c : cond {A = ℕ} (list_any (λ e. e.1.group == g) (e ∷ es)) 1 0 ≡ cond (list_any (λ e. e.1.group == g) es) 1 0 = ap (λ b. cond {A = ℕ} (b || list_any (λ e. e.1.group == g) es) 1 0) b in
+    let d = few g in
+    omega arith)) in
     let a = length-less h gs in
     let once : times h gs ≤ 1 =
-        let b : cond {A = ℕ} (list_any (λ e. e.1.group == h) (e ∷ es)) 1 0 ≡ 1 = ap (λ b. cond {A = ℕ} (b || list_any (λ e. e.1.group == h) es) 1 0) (eq-eqb h h refl) in
-        let d = few h in omega arith in
+    let b : cond {A = ℕ} (list_any (λ e. e.1.group == h) (e ∷ es)) 1 0 ≡ 1 = ap (λ b. cond {A = ℕ} (b || list_any (λ e. e.1.group == h) es) 1 0) (eq-eqb h h refl) in
+    let d = few h in omega arith in
     let c : length (e ∷ es) ≡ length es + 1 = omega arith in
     omega arith
 

@@ -1,40 +1,35 @@
 -- The rows of simple states, in simple words.
 use Rattle.std.proofs.Common.{ap, ap₂, refl, sym, ◌∙◌}
 use Rattle.std.proofs.lemmas.Bool.{eqb-false, eqb-true}
-use Rattle.std.specs.List.{list_any}
 use Rattle.std.specs.Option.{option_map_or}
-use Rattle.std.specs.Prelude.{Bool, List, None, Option, Some, [], false, find, if◌then◌else◌, is_none, is_some, not, option_and_then, option_map, suc, true, zero, ℕ, ◌&&◌, ◌+◌, ◌==◌, ◌||◌, ◌≡◌, ◌≢◌}
+use Rattle.std.specs.Prelude.{Bool, List, None, Option, Some, [], false, find, if◌then◌else◌, is_none, is_some, not, option_and_then, option_map, suc, true, zero, ℕ, ◌&&◌, ◌+◌, ◌==◌, ◌≡◌, ◌≢◌}
 use Rattle.task_machine.specs.declared.component.Callee.{Callee}
 use Rattle.task_machine.specs.declared.component.Component.{Component}
 use Rattle.task_machine.specs.declared.label.MainLabel.TheVariants as main_label
 use Rattle.task_machine.specs.declared.records.Call.{Call}
 use Rattle.task_machine.specs.declared.records.CallEnd.TheVariants as call_end
 use Rattle.task_machine.specs.declared.records.Caller.TheVariants as caller
-use Rattle.task_machine.specs.declared.records.Entry.TheVariants as entry
-use Rattle.task_machine.specs.declared.records.Goal.TheVariants as goal
 use Rattle.task_machine.specs.declared.records.Instance.{Instance}
 use Rattle.task_machine.specs.declared.records.Place.{Place}
 use Rattle.task_machine.specs.declared.records.Place.TheVariants as place
-use Rattle.task_machine.specs.declared.records.Script.TheVariants as script
 use Rattle.task_machine.specs.declared.records.Thread.{Thread}
-use Rattle.task_machine.specs.declared.records.Work.{Work}
 use Rattle.task_machine.specs.declared.trap.Trap.TheVariants as trap
 use Rattle.task_machine.specs.declared.words.Mark.{Mark}
 use Rattle.task_machine.specs.declared.words.Status.{Status}
 use Rattle.task_machine.specs.declared.words.Status.TheVariants as status
 use Rattle.task_machine.specs.Core.{Began, Core}
 use Rattle.task_machine.specs.Labels.{Choice, exit_label, held_label, ret_label, take_label}
-use Rattle.task_machine.specs.Maps.{Records, change, empty, get, remove, numbers}
-use Rattle.task_machine.specs.Moves.{call_settled, checked, departed, ended, exited_if, freed_thread_handle, group_settled, interest_settled, is_deletable, is_deletable_call, is_finished, is_group_done, put_high, released, stopped, stopped_at}
+use Rattle.task_machine.specs.Maps.{change, get, remove, numbers}
+use Rattle.task_machine.specs.Moves.{call_settled, checked, departed, ended, exited_if, freed_thread_handle, group_settled, interest_settled, is_deletable, is_deletable_call, is_finished, put_high, released, stopped, stopped_at}
 use Rattle.task_machine.specs.Read.{at_handle_limit, call_group, call_instance, caller_of, fits, foot_from, foot_of, goal_of, has_ended, has_thread, instance_of, is_direct, is_under, kind_of, may_not_enter, may_not_suspend, new_thread_handle, no_callee, place_of, position_of, task_of, thread_handle_of, under_of, undelivered_end}
-use Rattle.task_machine.specs.Write.{add_call, add_group, add_thread, free_thread_handle, give_result, give_thread_handle, on_call, on_instance, on_thread, push_high, remove_call, remove_thread, remove_threads, set_do_not_enter, set_end, set_exited, set_place, set_started, set_starting_published, set_thread_handle, set_trapped, set_uninteresting, take_result}
+use Rattle.task_machine.specs.Write.{add_group, free_thread_handle, give_result, give_thread_handle, on_call, on_instance, on_thread, remove_call, remove_thread, remove_threads, set_do_not_enter, set_end, set_exited, set_place, set_started, set_starting_published, set_thread_handle, set_trapped, set_uninteresting, take_result}
 use Rattle.task_machine.proofs.MapLemmas.{get-change_same, get-remove_other, get-remove_same}
-use Rattle.task_rules.specs.Calls.{call_made, new_call, new_thread, with_thread_handle}
+use Rattle.task_rules.specs.Calls.{call_made, with_thread_handle}
 use Rattle.task_rules.specs.Data.{advanced, moved_to}
 use Rattle.task_rules.specs.Ends.{deactivated, exit_row, may_tell, finished, held_out, let_in, result_given, returned, told}
 use Rattle.task_rules.specs.MainOps.{Does, Pends, finish_act, main_started, refusal, start_act, start_refusal}
 use Rattle.task_rules.specs.Progress.{Goes, Ordered, Stops, Traps}
-use Rattle.task_rules.specs.Scripts.{export_kind, registers_for}
+use Rattle.task_rules.specs.Scripts.{export_kind}
 use Rattle.task_rules.specs.Step.{struck}
 use Rattle.task_rules.specs.Takes.{enters, held, may_tell_starting, start_held, start_row, started, starting_is_published, starting_told, thread_taken}
 use Rattle.task_rules.specs.Task.{ret_done, ret_row}

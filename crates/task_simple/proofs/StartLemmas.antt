@@ -295,4 +295,3 @@ module _ (s : Core) (plain : IsPlain s) (n : ℕ) (t : Thread) (found : get s.th
 
   pub return_plain : (v : ℕ) → t.place ≡ place.Running → IsPlain (return_done n v s)
   return_plain v at = plain_moves s (return_done n v s) n (freshened (passed t)) ended_call plain (return_moves v at)
-
