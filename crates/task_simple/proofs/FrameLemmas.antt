@@ -83,6 +83,22 @@ pub groups_made-task_made : (f : Caller) (x : ExportKind) (i g : ℕ) (s : Core)
 unfolding task_made call_made add_thread add_call
 groups_made-task_made f x i g s = refl
 
+pub threads_made-task_alone : (f : Caller) (x : ExportKind) (i g : ℕ) (s : Core) → (task_made f x i g (add_group s)).made.threads ≡ s.made.threads + 1
+unfolding task_made call_made add_thread add_call add_group
+threads_made-task_alone f x i g s = refl
+
+pub groups_made-task_alone : (f : Caller) (x : ExportKind) (i g : ℕ) (s : Core) → (task_made f x i g (add_group s)).made.groups ≡ s.made.groups + 1
+unfolding task_made call_made add_thread add_call add_group
+groups_made-task_alone f x i g s = refl
+
+pub groups-task_alone : (f : Caller) (x : ExportKind) (i g : ℕ) (s : Core) → (task_made f x i g (add_group s)).groups ≡ s.groups ++ (s.made.groups + 1) ∷ []
+unfolding task_made call_made add_thread add_call add_group
+groups-task_alone f x i g s = refl
+
+pub high-task_alone : (f : Caller) (x : ExportKind) (i g : ℕ) (s : Core) → (task_made f x i g (add_group s)).queues.high ≡ s.queues.high
+unfolding task_made call_made add_thread add_call add_group
+high-task_alone f x i g s = refl
+
 -- ---- start_put_off
 
 pub made-start_put_off : (n : ℕ) (s : Core) → (start_put_off n s).made ≡ s.made
@@ -322,4 +338,4 @@ pub trapped_then : (n : ℕ) (s : Core) → (trap_done n s).trapped ≡ true
 unfolding trap_done remove_thread set_trapped
 trapped_then n s = refl
 
-pub ruleset frames = (trapped-call_started, results-call_started, handles-call_started, works-call_started, sets-call_started, trapped-task_made, results-task_made, groups-task_made, high-task_made, handles-task_made, thread_handles-task_made, instances-task_made, works-task_made, sets-task_made, threads_made-task_made, groups_made-task_made, made-start_put_off, trapped-start_put_off, results-start_put_off, groups-start_put_off, high-start_put_off, handles-start_put_off, works-start_put_off, sets-start_put_off, made-start_done, trapped-start_done, results-start_done, groups-start_done, high-start_done, handles-start_done, works-start_done, sets-start_done, made-return_done, trapped-return_done, groups-return_done, high-return_done, handles-return_done, works-return_done, sets-return_done, made-exit_done, trapped-exit_done, results-exit_done, high-exit_done, handles-exit_done, works-exit_done, sets-exit_done, made-trap_done, results-trap_done, high-trap_done, handles-trap_done, works-trap_done, sets-trap_done, made-popped_high, trapped-popped_high, results-popped_high, groups-popped_high, handles-popped_high, works-popped_high, sets-popped_high, place_of-popped_high, task_of-popped_high, has_ended-popped_high, instance_of-popped_high, thread_handle_of-popped_high, position_of-popped_high, registers_of-popped_high, may_not_enter-popped_high, at_handle_limit-popped_high, threads_made, groups_made, high_then, trapped_then)
+pub ruleset frames = (trapped-call_started, results-call_started, handles-call_started, works-call_started, sets-call_started, trapped-task_made, results-task_made, groups-task_made, high-task_made, handles-task_made, thread_handles-task_made, instances-task_made, works-task_made, sets-task_made, threads_made-task_made, groups_made-task_made, threads_made-task_alone, groups_made-task_alone, groups-task_alone, high-task_alone, made-start_put_off, trapped-start_put_off, results-start_put_off, groups-start_put_off, high-start_put_off, handles-start_put_off, works-start_put_off, sets-start_put_off, made-start_done, trapped-start_done, results-start_done, groups-start_done, high-start_done, handles-start_done, works-start_done, sets-start_done, made-return_done, trapped-return_done, groups-return_done, high-return_done, handles-return_done, works-return_done, sets-return_done, made-exit_done, trapped-exit_done, results-exit_done, high-exit_done, handles-exit_done, works-exit_done, sets-exit_done, made-trap_done, results-trap_done, high-trap_done, handles-trap_done, works-trap_done, sets-trap_done, made-popped_high, trapped-popped_high, results-popped_high, groups-popped_high, handles-popped_high, works-popped_high, sets-popped_high, place_of-popped_high, task_of-popped_high, has_ended-popped_high, instance_of-popped_high, thread_handle_of-popped_high, position_of-popped_high, registers_of-popped_high, may_not_enter-popped_high, at_handle_limit-popped_high, threads_made, groups_made, high_then, trapped_then)

@@ -153,6 +153,18 @@ times_some g gs h = counted gs h.0 h.1 h.2
     counted (h ∷ gs) zero lt is = let a = times-cons g h gs in let b : cond {A = ℕ} (g == h) 1 0 ≡ 1 = ap (λ b. cond b 1 0) (eq-eqb g h (sym is)) in omega arith
     counted (h ∷ gs) (suc k) lt is = let ih : 0 < times g gs = counted gs k (omega arith) is in let a = times-cons g h gs in omega arith
 
+-- and one that stands there is live
+pub times_there : (g : ℕ) (gs : List ℕ) → 0 < times g gs → Contains gs g
+times_there g [] some = absurd (omega arith)
+times_there g (h ∷ gs) some =
+    either g h
+    (λ same. (0, omega arith, sym same))
+    (λ ne.
+    let a = times-cons g h gs in
+    let b : cond {A = ℕ} (g == h) 1 0 ≡ 0 = ap (λ b. cond b 1 0) (ne_eqb g h ne) in
+    let rest = times_there g gs (omega arith) in
+    (suc rest.0, (let lt = rest.1 in omega arith), rest.2))
+
 -- ---- Groups of calls
 
 -- where each live group is that of a call, a group that no other call is of goes with its call
@@ -216,4 +228,26 @@ call_of_live s plain untrapped g live = live_when (has_call g s) refl
 pub no_call_of_next : (s : Core) → IsPlain s → (g : ℕ) → s.made.groups < g → has_call g s ≡ false
 no_call_of_next s plain g above = any_none s.calls (λ e. e.1.group == g) (λ q c is. ne_eqb c.group g (λ e. let m = (plain.calls q c is).grouped in omega arith))
 
-pub ruleset group_facts = (any-change, groups_below_calls, groups_settled, times_left, call_of_live, no_call_of_next)
+-- the group of a call is live
+pub live_of_call : (s : Core) → IsPlain s → s.trapped ≡ false → (k : ℕ) (c : Call) → get s.calls k ≡ Some c → Contains s.groups c.group
+live_of_call s plain untrapped k c there =
+    let called = any_one s.calls (λ e. e.1.group == c.group) k c there (eq-eqb c.group c.group refl) in
+    let once = plain.groups_open untrapped c.group in
+    let one : cond {A = ℕ} (has_call c.group s) 1 0 ≡ 1 = ap (λ b. cond b 1 0) called in
+    times_there c.group s.groups (omega arith)
+
+any-counted : {X : Type 0} (test : X → Bool) (xs : List X) → not (list_any test xs) ≡ (count_by test xs == 0)
+any-counted test [] = refl
+any-counted test (x ∷ xs) =
+    let ih : not (list_any test xs) ≡ (count_by test xs == 0) = any-counted test xs in
+    let all = sum_by-cons (λ y. cond (test y) 1 0) x xs in
+    elim (test x) as (λ b. test x ≡ b → not (b || list_any test xs) ≡ (count_by test (x ∷ xs) == 0)) [
+      | true ↦ λ is. let a : cond {A = ℕ} (test x) 1 0 ≡ 1 = ap (λ b. cond b 1 0) is in sym (ne_eqb (count_by test (x ∷ xs)) 0 (λ none. omega arith))
+      | false ↦ λ is. let a : cond {A = ℕ} (test x) 1 0 ≡ 0 = ap (λ b. cond b 1 0) is in let b : count_by test (x ∷ xs) ≡ count_by test xs = omega arith in ih ∙ sym (ap (λ k. k == 0) b)
+    ] refl
+
+-- a group is done where no call is of it
+pub done_counted : (s : Core) → IsPlain s → (g : ℕ) → is_group_done g s ≡ (count_by (λ e. e.1.group == g) s.calls.list == 0)
+done_counted s plain g = group_done_is g s plain.no_works ∙ any-counted (λ e. e.1.group == g) s.calls.list
+
+pub ruleset groups = (live_of_call, call_of_live, done_counted)

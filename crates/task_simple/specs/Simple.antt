@@ -66,7 +66,7 @@ pub record IsSimpleCall (all : Made) (k : ℕ) (c : Call) : Type 0 where
   pub uncancelled : c.cancel_delivered ≡ false
   pub lends_nothing : c.borrows ≡ 0
 
--- The record of a call by main of a callback export.
+-- The record is of a call by main of a callback export.
 pub record IsMains (c : Call) : Type 0 where
   pub by_main : c.caller ≡ caller.Main
   pub to_main : c.goal ≡ goal.Main
@@ -94,7 +94,7 @@ pub record IsPlain (s : Core) : Type 0 where
   pub threads : (n : ℕ) (t : Thread) → get s.threads n ≡ Some t → IsSimpleThread n t
   pub no_callers : (n : ℕ) (t : Thread) → get s.threads n ≡ Some t → get s.callers n ≡ Some []
   pub calls : (k : ℕ) (c : Call) → get s.calls k ≡ Some c → IsSimpleCall s.made k c
-  -- only a call whose thread is New needn't be main's
+  -- a call may be another's while its thread is New
   pub begun : (k : ℕ) (c : Call) → get s.calls k ≡ Some c → place_of k s ≢ Some place.New → IsMains c
   -- a call may have lost its thread, but no thread its call
   pub called : (n : ℕ) (t : Thread) → get s.threads n ≡ Some t → is_some (get s.calls n) ≡ true
@@ -113,7 +113,7 @@ pub record IsPlain (s : Core) : Type 0 where
   pub no_handles : (i : ℕ) (t : Table Named) → get s.handles i ≡ Some t → t.live ≡ empty
   pub tables : (i : ℕ) (t : Table ℕ) → get s.thread_handles i ≡ Some t → IsTable t
   pub named : (n h : ℕ) (t : Thread) → get s.threads n ≡ Some t → t.handle ≡ Some h → thread_at (call_instance n s) h s ≡ Some n
-  -- a group is live, once, while a call is of it
+  -- a group is live, and once, just while a call is of it
   pub groups_open : s.trapped ≡ false → (g : ℕ) → count_by (λ h. g == h) s.groups ≡ (if has_call g s then 1 else 0)
   pub groups_trapped : s.trapped ≡ true → s.groups ≡ []
   pub results : (k v : ℕ) → get s.results k ≡ Some v → k ≤ s.made.threads

@@ -111,11 +111,15 @@ pub fn what_a_call_makes()
     ensures high { (e : Callee) (x : ExportKind) (words : List ℕ) (s : Core) → (call_started e x words s).queues.high ≡ s.queues.high ++ Entry.Thread (s.made.threads + 1) ∷ [] }
 {}
 
-/// A call whose thread is New makes a thread, and stands nowhere.
+/// A call whose thread is New makes a thread, and a group where that is new, and stands nowhere.
 #[tactic(auto, using(crate::proofs::FrameLemmas::frames))]
 pub fn what_a_task_makes()
     ensures threads { (f : Caller) (x : ExportKind) (i g : ℕ) (s : Core) → (task_made f x i g s).made.threads ≡ s.made.threads + 1 }
     ensures groups { (f : Caller) (x : ExportKind) (i g : ℕ) (s : Core) → (task_made f x i g s).made.groups ≡ s.made.groups }
     ensures live { (f : Caller) (x : ExportKind) (i g : ℕ) (s : Core) → (task_made f x i g s).groups ≡ s.groups }
     ensures high { (f : Caller) (x : ExportKind) (i g : ℕ) (s : Core) → (task_made f x i g s).queues.high ≡ s.queues.high }
+    ensures threads_with_group { (f : Caller) (x : ExportKind) (i g : ℕ) (s : Core) → (task_made f x i g (add_group s)).made.threads ≡ s.made.threads + 1 }
+    ensures groups_with_group { (f : Caller) (x : ExportKind) (i g : ℕ) (s : Core) → (task_made f x i g (add_group s)).made.groups ≡ s.made.groups + 1 }
+    ensures live_with_group { (f : Caller) (x : ExportKind) (i g : ℕ) (s : Core) → (task_made f x i g (add_group s)).groups ≡ s.groups ++ (s.made.groups + 1) ∷ [] }
+    ensures high_with_group { (f : Caller) (x : ExportKind) (i g : ℕ) (s : Core) → (task_made f x i g (add_group s)).queues.high ≡ s.queues.high }
 {}

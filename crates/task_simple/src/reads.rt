@@ -1,9 +1,9 @@
 //! What the machine reads off plain states. Each function is the statement of its clauses.
 
-ghost use Rattle.std.specs.Prelude.{List, None, Option, Some, [], false, is_none, is_some, not, slice_get, true, unwrap_or, ℕ, ◌+◌, ◌∷◌, ◌≡◌, ◌≢◌};
+ghost use Rattle.std.specs.Prelude.{Contains, List, None, Option, Some, [], count_by, false, is_none, is_some, not, slice_get, true, unwrap_or, ℕ, ◌+◌, ◌==◌, ◌∷◌, ◌≡◌, ◌≢◌};
 ghost use Rattle.task_machine.specs.Core.{Core, State, Unscripted};
 ghost use Rattle.task_machine.specs.Maps.{get, size};
-ghost use Rattle.task_machine.specs.Moves.{checked, passes_check, stopped, stopped_at};
+ghost use Rattle.task_machine.specs.Moves.{checked, is_group_done, passes_check, stopped, stopped_at};
 ghost use Rattle.task_machine.specs.Read.{admits, call_instance, callers_of, first_of, foot_of, has_ended, instance_of, is_last_thread, is_nil, may_not_enter, next_entry, place_of, position_of, strand_of, task_of, thread_handle_of};
 ghost use Rattle.task_machine.specs.Write.{give_result, set_end, set_place, set_position, set_register, set_word};
 ghost use Rattle.task_rules.specs.Data.{assigned, moved_to, stored};
@@ -14,7 +14,7 @@ ghost use Rattle.task_rules.specs.Stalled.{Setting, deadlock_trap, is_idle, is_i
 ghost use Rattle.task_rules.specs.Turns.{nothing_stands, settled_turn};
 ghost use Rattle.task_rules.specs.Works.{has_live_work, has_moving_work, next_polled};
 ghost use Rattle.task_simple.specs.Forms.{return_done};
-ghost use Rattle.task_simple.specs.Simple.{IsPlain, IsSimple, held_start};
+ghost use Rattle.task_simple.specs.Simple.{IsPlain, IsSimple, has_call, held_start};
 
 use task_machine::{
     Call, CallEnd, Component, Entry, Mark, Op, Operand, Place, Script, Status, TaskOp, Thread,
@@ -52,6 +52,14 @@ pub fn threads_are_alone()
     ensures instance { (s : Core) → IsPlain s → (n : ℕ) (t : Thread) → get s.threads n ≡ Some t → instance_of n s ≡ call_instance n s }
     ensures last { (s : Core) → IsPlain s → (n : ℕ) (t : Thread) → get s.threads n ≡ Some t → is_last_thread n s ≡ true }
     ensures leaves { (s : Core) → IsPlain s → (n : ℕ) (t : Thread) → get s.threads n ≡ Some t → leaves_no_result n s ≡ not (has_ended n s) }
+{}
+
+/// The groups that are live are those of calls, and a group is done where no call is of it.
+#[tactic(auto, using(crate::proofs::GroupLemmas::groups))]
+pub fn groups_are_of_calls()
+    ensures live { (s : Core) → IsPlain s → s.trapped ≡ false → (k : ℕ) (c : Call) → get s.calls k ≡ Some c → Contains s.groups c.group }
+    ensures called { (s : Core) → IsPlain s → s.trapped ≡ false → (g : ℕ) → Contains s.groups g → has_call g s ≡ true }
+    ensures done { (s : Core) → IsPlain s → (g : ℕ) → is_group_done g s ≡ (count_by (λ e. e.1.group == g) s.calls.list == 0) }
 {}
 
 /// A start of a thread that isn't New is admitted, and main may call, unless the instance lets in nothing.
