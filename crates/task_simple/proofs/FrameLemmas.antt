@@ -1,15 +1,19 @@
 -- What the moves of simple states leave alone.
 use Rattle.std.proofs.Common.{ap, refl}
-use Rattle.std.specs.Prelude.{List, true, ℕ, ◌++◌, ◌+◌, ◌∷◌, [], ◌≡◌}
+use Rattle.std.specs.Prelude.{List, None, Some, false, replicate, true, ℕ, ◌++◌, ◌+◌, ◌∷◌, [], ◌≡◌, ◌≢◌}
 use Rattle.task_machine.specs.declared.component.Callee.{Callee}
 use Rattle.task_machine.specs.declared.component.ExportKind.{ExportKind}
 use Rattle.task_machine.specs.declared.records.Caller.{Caller}
 use Rattle.task_machine.specs.declared.records.Entry.TheVariants as entry
+use Rattle.task_machine.specs.declared.records.Goal.TheVariants as goal
+use Rattle.task_machine.specs.declared.records.Script.TheVariants as script
 use Rattle.task_machine.specs.declared.words.Mark.TheVariants as mark
 use Rattle.task_machine.specs.Core.{Core}
+use Rattle.task_machine.specs.Maps.{get}
 use Rattle.task_machine.specs.Read.{at_handle_limit, has_ended, instance_of, live_count, may_not_enter, place_of, position_of, registers_of, task_of, thread_handle_of}
 use Rattle.task_machine.specs.Write.{add_call, add_group, add_thread, free_thread_handle, give_result, give_thread_handle, on_call, on_instance, on_thread, push_high, remove_call, remove_thread, set_do_not_enter, set_end, set_high, set_how_far, set_place, set_position, set_started, set_starting_published, set_thread_handle, set_trapped}
-use Rattle.task_rules.specs.Calls.{call_made}
+use Rattle.task_machine.proofs.MapLemmas.{get-insert_other, get-insert_same}
+use Rattle.task_rules.specs.Calls.{call_made, new_call, new_thread}
 use Rattle.task_rules.specs.Data.{moved_to}
 use Rattle.task_rules.specs.Takes.{popped}
 use Rattle.task_simple.specs.Forms.{call_started, exit_done, return_done, start_done, start_put_off, task_made, trap_done}
@@ -98,6 +102,24 @@ groups-task_alone f x i g s = refl
 pub high-task_alone : (f : Caller) (x : ExportKind) (i g : ℕ) (s : Core) → (task_made f x i g (add_group s)).queues.high ≡ s.queues.high
 unfolding task_made call_made add_thread add_call add_group
 high-task_alone f x i g s = refl
+
+-- its records, and the others
+
+pub thread-task_made : (f : Caller) (x : ExportKind) (i g : ℕ) (s : Core) → get (task_made f x i g s).threads (s.made.threads + 1) ≡ Some (new_thread (s.made.threads + 1) false script.Start (replicate 16 0) None)
+unfolding task_made call_made add_thread add_call
+thread-task_made f x i g s = get-insert_same s.threads (s.made.threads + 1) (new_thread (s.made.threads + 1) false script.Start (replicate 16 0) None)
+
+pub call-task_made : (f : Caller) (x : ExportKind) (i g : ℕ) (s : Core) → get (task_made f x i g s).calls (s.made.threads + 1) ≡ Some (new_call f (record { instance = i; export = 0 }) x goal.Nowhere g)
+unfolding task_made call_made add_thread add_call
+call-task_made f x i g s = get-insert_same s.calls (s.made.threads + 1) (new_call f (record { instance = i; export = 0 }) x goal.Nowhere g)
+
+pub other_threads-task_made : (f : Caller) (x : ExportKind) (i g : ℕ) (s : Core) (q : ℕ) → q ≢ s.made.threads + 1 → get (task_made f x i g s).threads q ≡ get s.threads q
+unfolding task_made call_made add_thread add_call
+other_threads-task_made f x i g s q ne = get-insert_other s.threads (s.made.threads + 1) _ q ne
+
+pub other_calls-task_made : (f : Caller) (x : ExportKind) (i g : ℕ) (s : Core) (q : ℕ) → q ≢ s.made.threads + 1 → get (task_made f x i g s).calls q ≡ get s.calls q
+unfolding task_made call_made add_thread add_call
+other_calls-task_made f x i g s q ne = get-insert_other s.calls (s.made.threads + 1) _ q ne
 
 -- ---- start_put_off
 
@@ -339,3 +361,5 @@ unfolding trap_done remove_thread set_trapped
 trapped_then n s = refl
 
 pub ruleset frames = (trapped-call_started, results-call_started, handles-call_started, works-call_started, sets-call_started, trapped-task_made, results-task_made, groups-task_made, high-task_made, handles-task_made, thread_handles-task_made, instances-task_made, works-task_made, sets-task_made, threads_made-task_made, groups_made-task_made, threads_made-task_alone, groups_made-task_alone, groups-task_alone, high-task_alone, made-start_put_off, trapped-start_put_off, results-start_put_off, groups-start_put_off, high-start_put_off, handles-start_put_off, works-start_put_off, sets-start_put_off, made-start_done, trapped-start_done, results-start_done, groups-start_done, high-start_done, handles-start_done, works-start_done, sets-start_done, made-return_done, trapped-return_done, groups-return_done, high-return_done, handles-return_done, works-return_done, sets-return_done, made-exit_done, trapped-exit_done, results-exit_done, high-exit_done, handles-exit_done, works-exit_done, sets-exit_done, made-trap_done, results-trap_done, high-trap_done, handles-trap_done, works-trap_done, sets-trap_done, made-popped_high, trapped-popped_high, results-popped_high, groups-popped_high, handles-popped_high, works-popped_high, sets-popped_high, place_of-popped_high, task_of-popped_high, has_ended-popped_high, instance_of-popped_high, thread_handle_of-popped_high, position_of-popped_high, registers_of-popped_high, may_not_enter-popped_high, at_handle_limit-popped_high, threads_made, groups_made, high_then, trapped_then)
+
+pub ruleset task_records = (thread-task_made, call-task_made, other_threads-task_made, other_calls-task_made)

@@ -1,16 +1,17 @@
 //! The moves of simple states lead to simple states. Each function is the statement of its clauses.
 
-ghost use Rattle.std.specs.Prelude.{Contains, List, Some, [], false, is_some, true, ℕ, ◌++◌, ◌+◌, ◌∷◌, ◌≡◌, ◌≤◌};
+ghost use Rattle.std.specs.Prelude.{Contains, List, None, Some, [], false, is_some, replicate, true, ℕ, ◌++◌, ◌+◌, ◌∷◌, ◌≡◌, ◌≢◌, ◌≤◌};
 ghost use Rattle.task_machine.specs.Core.{Core, fresh};
 ghost use Rattle.task_machine.specs.Maps.{get};
 ghost use Rattle.task_machine.specs.Read.{instance_of, may_not_enter, next_entry, place_of, thread_handle_of};
 ghost use Rattle.task_machine.specs.Write.{add_group, set_trapped, take_result};
+ghost use Rattle.task_rules.specs.Calls.{new_call, new_thread};
 ghost use Rattle.task_rules.specs.Data.{assigned, moved_to, stored};
 ghost use Rattle.task_rules.specs.Takes.{popped};
 ghost use Rattle.task_simple.specs.Forms.{call_started, exit_done, return_done, start_done, start_put_off, task_made, trap_done};
 ghost use Rattle.task_simple.specs.Simple.{IsSimple, NoneRuns};
 
-use task_machine::{Callee, Caller, Entry, ExportKind, Mark, Place};
+use task_machine::{Callee, Caller, Entry, ExportKind, Goal, Mark, Place, Script};
 
 /// The state in which nothing was made.
 #[tactic(auto, using(crate::proofs::OpenLemmas::fresh_simple, crate::proofs::OpenLemmas::fresh_none_runs))]
@@ -122,4 +123,14 @@ pub fn what_a_task_makes()
     ensures groups_with_group { (f : Caller) (x : ExportKind) (i g : ℕ) (s : Core) → (task_made f x i g (add_group s)).made.groups ≡ s.made.groups + 1 }
     ensures live_with_group { (f : Caller) (x : ExportKind) (i g : ℕ) (s : Core) → (task_made f x i g (add_group s)).groups ≡ s.groups ++ (s.made.groups + 1) ∷ [] }
     ensures high_with_group { (f : Caller) (x : ExportKind) (i g : ℕ) (s : Core) → (task_made f x i g (add_group s)).queues.high ≡ s.queues.high }
+{}
+
+/// Its thread is New, at the first op of the start script, with registers 0, and its call is of the
+/// first export and interesting; its result goes nowhere. All other threads and calls stay.
+#[tactic(auto, using(crate::proofs::FrameLemmas::task_records))]
+pub fn what_a_task_is()
+    ensures thread { (f : Caller) (x : ExportKind) (i g : ℕ) (s : Core) → get (task_made f x i g s).threads (s.made.threads + 1) ≡ Some (new_thread (s.made.threads + 1) false Script.Start (replicate 16 0) None) }
+    ensures call { (f : Caller) (x : ExportKind) (i g : ℕ) (s : Core) → get (task_made f x i g s).calls (s.made.threads + 1) ≡ Some (new_call f (record { instance = i; export = 0 }) x Goal.Nowhere g) }
+    ensures other_threads { (f : Caller) (x : ExportKind) (i g : ℕ) (s : Core) (q : ℕ) → q ≢ s.made.threads + 1 → get (task_made f x i g s).threads q ≡ get s.threads q }
+    ensures other_calls { (f : Caller) (x : ExportKind) (i g : ℕ) (s : Core) (q : ℕ) → q ≢ s.made.threads + 1 → get (task_made f x i g s).calls q ≡ get s.calls q }
 {}
