@@ -246,8 +246,11 @@ any-counted test (x ∷ xs) =
       | false ↦ λ is. let a : cond {A = ℕ} (test x) 1 0 ≡ 0 = ap (λ b. cond b 1 0) is in let b : count_by test (x ∷ xs) ≡ count_by test xs = omega arith in ih ∙ sym (ap (λ k. k == 0) b)
     ] refl
 
--- a group is done where no call is of it
+-- without works a group is done where it has no calls
+pub group_done_counted : (g : ℕ) (s : Core) → s.works ≡ empty → is_group_done g s ≡ (count_by (λ e. e.1.group == g) s.calls.list == 0)
+group_done_counted g s none = group_done_is g s none ∙ any-counted (λ e. e.1.group == g) s.calls.list
+
 pub done_counted : (s : Core) → IsPlain s → (g : ℕ) → is_group_done g s ≡ (count_by (λ e. e.1.group == g) s.calls.list == 0)
-done_counted s plain g = group_done_is g s plain.no_works ∙ any-counted (λ e. e.1.group == g) s.calls.list
+done_counted s plain g = group_done_counted g s plain.no_works
 
 pub ruleset groups = (live_of_call, call_of_live, done_counted)
