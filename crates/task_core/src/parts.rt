@@ -3,6 +3,7 @@
 
 mod calls;
 mod ends;
+mod groups;
 mod handles;
 mod ids;
 mod instances;

@@ -10,9 +10,10 @@ ghost use Rattle.task_core.specs.Simple.{IsPlainCall, IsPlainThread, IsNewGroup}
 ghost use Rattle.task_core.specs.Start.{IsFree, IsUnnamed, thread_counted, thread_uncounted, group_taken_back, put_new_thread, thread_started, counted_call_started, main_call_started};
 
 use crate::entry::{
-    GroupKey, GuestTask, GuestTaskKey, GuestThread, QualifiedThreadId, SetKey, SyncSet, TaskGroup,
-    ThreadKey,
+    GroupKey, GuestTask, GuestTaskKey, GuestThread, LiveGroup, QualifiedThreadId, SetKey, SyncSet,
+    TaskGroup, ThreadKey,
 };
+use crate::parts::groups::count_up;
 use crate::state::TaskCore;
 use std::alloc::AllocError;
 use task_machine::{
@@ -104,7 +105,7 @@ impl TaskCore {
         let Ok(id) = self.table.push::<GroupKey>(TaskGroup { number }) else {
             return Err(AllocError);
         };
-        match self.groups.insert(number, id) {
+        match self.groups.insert(number, LiveGroup { id, calls: 0 }) {
             Ok(_) => {
                 self.made.groups = number;
                 Ok(number)
@@ -135,7 +136,6 @@ impl TaskCore {
         requires positive { 0 < number }
         requires none { get self.old.core.calls number ≡ None }
         requires plain { IsPlainCall call }
-        requires group { IsNewGroup call.group self.old.core }
         requires group_made { call.group ≤ self.old.core.made.groups }
         ensures core { OnOk result (self.new.core ≡ add_call number call self.old.core) }
         ensures names { IfOk result (λ id. call_number self.new.tags id ≡ number) }
@@ -146,6 +146,7 @@ impl TaskCore {
         let Ok(id) = self.table.push::<GuestTaskKey>(GuestTask { number, call }) else {
             return Err(AllocError);
         };
+        count_up(&mut self.groups, call.group);
         Ok(id)
     }
 
