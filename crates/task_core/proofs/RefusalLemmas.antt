@@ -15,7 +15,7 @@ use Rattle.task_core.specs.declared.entry.LiveGroup.{LiveGroup}
 use Rattle.task_core.specs.declared.entry.GuestTaskKey.{GuestTaskKey}
 use Rattle.task_core.specs.declared.entry.ThreadKey.{ThreadKey}
 use Rattle.task_core.specs.Image.{Parts, core_of, image, numbers}
-use Rattle.task_core.specs.Shown.{Tag, Shown, KeepsTagsBut, thread_number, call_number}
+use Rattle.task_core.specs.Shown.{Tag, Shown, KeepsTags, KeepsTagsBut, thread_number, call_number}
 use Rattle.task_core.specs.Simple.{IsNewGroup}
 use Rattle.task_core.specs.Sound.{Sound, AreGroups}
 use Rattle.task_core.specs.Start.{IsFree, thread_counted, thread_uncounted, group_taken_back, put_new_thread}
@@ -142,3 +142,7 @@ module _ (a : Parts) (s : Shown) (is : image a ≡ s) (sound : Sound a) (old : C
   pub taken_back : core_of (record a { made = with_groups_made (g - 1) a.made }) ≡ group_taken_back g old
   unfolding group_taken_back remove_group
   taken_back = ap (λ (c : Core). record c { made = with_groups_made (g - 1) c.made }) core_is
+
+-- a call stays named where all tags are kept
+pub still_kept : (k : ℕ) (a b : List (Option Tag)) (id : TableId GuestTaskKey) → 0 < k → call_number a id ≡ k → KeepsTags a b → call_number b id ≡ k
+still_kept k a b id live names keeps = keeps.calls id (subst (λ n. 0 < n) (sym names) live) ∙ names

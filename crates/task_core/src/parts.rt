@@ -10,5 +10,6 @@ mod instances;
 mod limits;
 mod queues;
 mod starts;
+mod tasks;
 mod threads;
 mod words;

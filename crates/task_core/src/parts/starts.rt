@@ -48,7 +48,7 @@ fn call_by_main(callee: Callee, kind: ExportKind, group: u64) -> Call
 }
 
 // The first thread of a call, which has not begun.
-fn first_thread(call: u64, registers: [u64; 16]) -> Thread
+pub(crate) fn first_thread(call: u64, registers: [u64; 16]) -> Thread
     ensures is { result ≡ new_thread call false script.Start registers None }
     ensures plain { IsPlainThread call result }
 {
@@ -68,7 +68,7 @@ fn first_thread(call: u64, registers: [u64; 16]) -> Thread
 
 impl TaskCore {
     // Gives a number to a thread that is to be made.
-    fn count_thread(&mut self) -> u64
+    pub(crate) fn count_thread(&mut self) -> u64
         requires { self.old.core.made.threads + 1 < 2 ^ 64 }
         ensures number { result ≡ self.old.core.made.threads + 1 }
         ensures state { self.new ≡ with_core (thread_counted self.old.core) self.old }
@@ -82,7 +82,7 @@ impl TaskCore {
     }
 
     // Takes the number given last back, which nothing has.
-    fn uncount_thread(&mut self, number: u64)
+    pub(crate) fn uncount_thread(&mut self, number: u64)
         requires free { IsFree number self.old.core }
         requires no_call { get self.old.core.calls number ≡ None }
         ensures { self.new ≡ with_core (thread_uncounted number self.old.core) self.old }
@@ -91,7 +91,7 @@ impl TaskCore {
     }
 
     // Makes a group and answers its number. Where memory is wanting, all stays.
-    fn add_group(&mut self) -> Result<u64, AllocError>
+    pub(crate) fn add_group(&mut self) -> Result<u64, AllocError>
         requires { self.old.core.made.groups + 1 < 2 ^ 64 }
         ensures number { IfOk result (λ g. g ≡ self.old.core.made.groups + 1) }
         ensures core { OnOk result (self.new.core ≡ add_group self.old.core) }
@@ -118,7 +118,7 @@ impl TaskCore {
     }
 
     // Takes the group made last, which no call is in, out of the table, and its number back.
-    fn take_back_group(&mut self, number: u64)
+    pub(crate) fn take_back_group(&mut self, number: u64)
         requires last { number ≡ self.old.core.made.groups }
         requires live { 0 < number }
         requires empty { IsNewGroup number self.old.core }
@@ -131,7 +131,11 @@ impl TaskCore {
     }
 
     // Makes a call of this number. Where memory is wanting, all stays.
-    fn add_call(&mut self, number: u64, call: Call) -> Result<TableId<GuestTaskKey>, AllocError>
+    pub(crate) fn add_call(
+        &mut self,
+        number: u64,
+        call: Call,
+    ) -> Result<TableId<GuestTaskKey>, AllocError>
         requires made { number ≤ self.old.core.made.threads }
         requires positive { 0 < number }
         requires none { get self.old.core.calls number ≡ None }
@@ -151,7 +155,11 @@ impl TaskCore {
     }
 
     // Makes a thread of this number, and its set. Where memory is wanting, all stays.
-    fn add_thread(&mut self, number: u64, thread: Thread) -> Result<TableId<ThreadKey>, AllocError>
+    pub(crate) fn add_thread(
+        &mut self,
+        number: u64,
+        thread: Thread,
+    ) -> Result<TableId<ThreadKey>, AllocError>
         requires made { number ≤ self.old.core.made.threads }
         requires positive { 0 < number }
         requires none { get self.old.core.threads number ≡ None }
