@@ -75,14 +75,13 @@ module _ (s : Core) where
       | inr old ↦ simple.tasks q t old
     ];
     calls = simple.calls;
-    groups = simple.groups;
     made = simple.made;
     works = simple.works;
     suspends = simple.suspends;
   }
 
   -- the group of a call that was read
-  group_read : (g : ℕ) (o : Option Call) (x : Call) → o ≡ Some x → HasGroup g o → g ≡ x.group
+  pub group_read : (g : ℕ) (o : Option Call) (x : Call) → o ≡ Some x → HasGroup g o → g ≡ x.group
   group_read g o x at has = subst (λ p. HasGroup g p) at has
 
   pub IsSimple-put_call : (k : ℕ) (x y : Call) → get s.calls k ≡ Some x → IsPlainCall y → HasGroup y.group (get s.calls k) → IsSimple s → IsSimple (put_call k y s)
@@ -90,10 +89,6 @@ module _ (s : Core) where
     threads = simple.threads;
     tasks = λ q t is. inserted_some s.calls k y q (simple.tasks q t is);
     calls = λ q c is. elim (inserted s.calls k y q c is) [ inl new ↦ subst (λ d. IsPlainCall d) new.1 plain | inr old ↦ simple.calls q c old ];
-    groups = λ q r c d at_q at_r same.
-        let old_q = was q c at_q in
-        let old_r = was r d at_r in
-        simple.groups q r old_q.0 old_r.0 old_q.1 old_r.1 (sym old_q.2 ∙ same ∙ old_r.2);
     made = λ q c at_q. let old_q = was q c at_q in let before = simple.made q old_q.0 old_q.1 in let same = old_q.2 in omega arith;
     works = simple.works;
     suspends = simple.suspends;

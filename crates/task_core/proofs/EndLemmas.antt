@@ -1,5 +1,5 @@
 -- A thread and a call are taken out of the table.
-use Rattle.std.proofs.Common.{inl, inr, ◌≡◌, ◌≢◌, ◌<◌, ◌+◌, ℕ, List, [], ◌∷◌, ◌==◌, Bool, true, false, cond, map, count_by, Option, Some, None, refl, sym, ap, subst, ◌∙◌, arith}
+use Rattle.std.proofs.Common.{inl, inr, ◌≡◌, ◌≢◌, ◌<◌, ◌+◌, ◌-◌, ℕ, List, [], ◌∷◌, ◌==◌, Bool, true, false, cond, map, count_by, Option, Some, None, refl, sym, ap, subst, ◌∙◌, arith}
 use Rattle.std.specs.Prelude.{IsSome, Result, Ok, Err, OnOk}
 use Rattle.std.proofs.lemmas.Bool.{cases_eq, eq-eqb, ne_eqb}
 use Rattle.std.proofs.lemmas.List.Sums.{sum_by-cons}
@@ -29,13 +29,16 @@ use Rattle.task_core.specs.declared.entry.GuestThread.{GuestThread}
 use Rattle.task_core.specs.declared.entry.SyncSet.{SyncSet}
 use Rattle.task_core.specs.declared.entry.GuestTaskKey.{GuestTaskKey}
 use Rattle.task_core.specs.declared.entry.ThreadKey.{ThreadKey}
+use Rattle.task_core.specs.declared.entry.LiveGroup.{LiveGroup}
 use Rattle.task_core.specs.declared.instance.Queued.{Queued}
 use Rattle.task_core.specs.Entries.{task_in, thread_in, set_in, call_key, thread_key, callers_key, set_key, group_key}
 use Rattle.task_core.specs.EntryLaws.{no_other_task, no_other_thread}
-use Rattle.task_core.specs.Image.{Parts, core_of, image, tag_of}
+use Rattle.task_core.specs.Groups.{AreCounted, live_group, recounted}
+use Rattle.task_core.specs.Image.{Parts, core_of, image, numbers, tag_of}
 use Rattle.task_core.specs.Shown.{Shown, KeepsTagsBut, thread_number, call_number}
 use Rattle.task_core.specs.Simple.{IsSimple}
-use Rattle.task_core.specs.Sound.{Sound, SoundTable, HaveSets, AreQueued, AreGroups}
+use Rattle.task_core.specs.Sound.{Sound, SoundTable, HaveSets, AreQueued, AreGroups, AreRising}
+use Rattle.task_core.proofs.CountLemmas.{counted_less, counted_one, recounted_groups, recounted_numbers, recounted_rising}
 use Rattle.task_core.proofs.NumberLemmas.{absent, thread_shown, call_shown, thread_found, call_found, thread_names, call_names, number_named, thread_is}
 use Rattle.task_core.proofs.TableChangeLemmas.{sets_deleted, other_deleted, gone_threads, gone_callers, gone_calls, call_deleted, ended_threads, ended_callers, ended_calls, thread_deleted, left_threads, left_callers, left_calls}
 use Rattle.task_core.proofs.UndoLemmas.{deletes}
@@ -59,7 +62,6 @@ simple_less_thread s n simple = record {
   threads = λ q t at. simple.threads q t (removed s.threads n q t at).1;
   tasks = λ q t at. simple.tasks q t (removed s.threads n q t at).1;
   calls = simple.calls;
-  groups = simple.groups;
   made = simple.made;
   works = simple.works;
   suspends = simple.suspends;
@@ -71,11 +73,18 @@ simple_less_call s k none simple = record {
   threads = simple.threads;
   tasks = λ q t at. removed_some s.calls k q (λ same. absent t (sym none ∙ ap (get s.threads) (sym same) ∙ at)) (simple.tasks q t at);
   calls = λ q c at. simple.calls q c (removed s.calls k q c at).1;
-  groups = λ p q c d at_p at_q same. simple.groups p q c d (removed s.calls k p c at_p).1 (removed s.calls k q d at_q).1 same;
   made = λ q c at. simple.made q c (removed s.calls k q c at).1;
   works = simple.works;
   suspends = simple.suspends;
 }
+
+counted_less_thread : (s : Core) (n : ℕ) (es : List (ℕ × LiveGroup)) → AreCounted s.calls es → AreCounted (remove_thread n s).calls es
+unfolding remove_thread
+counted_less_thread s n es counted = counted
+
+counted_less_call : (s : Core) (k : ℕ) (es : List (ℕ × LiveGroup)) → AreCounted (remove s.calls k) es → AreCounted (remove_call k s).calls es
+unfolding remove_call
+counted_less_call s k es counted = counted
 
 -- ---- The queue
 
@@ -163,12 +172,31 @@ module _ (a : Parts) (s : Shown) (is : image a ≡ s) (sound : Sound a) (id : Ta
   is_task : there.0.entry ≡ entries.Task g
   is_task = sym (no_other_task there.0.entry g there.2)
 
-  module _ (result : Result GuestTask ResourceTableError) (v : Table Entry) (answer : result ≡ deletion task_in a.table id.rep id.serial) (ok : OnOk result (v ≡ deleted id.rep a.table)) (after : IsTable v) (none : get s.core.threads (call_number s.tags id) ≡ None) (out : count_by (is_entry_of (call_number s.tags id)) s.core.queues.high ≡ 0) where
+  call_there : get (core_of a).calls g.number ≡ Some g.call
+  call_there = get-records call_key a.table.places g.number ∙ found_record_at call_key a.table.places id.rep g.number g.call sound.table.calls (ap (key_in call_key) there.1 ∙ ap call_key is_task)
+
+  -- it is not refused
+  pub call_deletes : (e : ResourceTableError) → Err e ≡ deletion task_in a.table id.rep id.serial → ⊥
+  call_deletes e answer = not_refused task_in a.table id.rep id.serial g e answer one.1 (sound.table.childless id.rep)
+
+  -- its group has a count
+  pub call_is_counted : (item : GuestTask) → Ok item ≡ deletion task_in a.table id.rep id.serial → (r : LiveGroup) → live_group item.call.group a.groups ≡ Some r → 0 < r.calls
+  call_is_counted item answer r at =
+      counted_one (core_of a).calls g.number g.call a.groups r call_there sound.counted
+      (sym (ap (λ (x : GuestTask). live_group x.call.group a.groups) (same_item task_in a.table id.rep id.serial g item answer one.1 (sound.table.childless id.rep))) ∙ at)
+
+  module _ (item : GuestTask) (v : Table Entry) (answer : Ok item ≡ deletion task_in a.table id.rep id.serial) (gone : v ≡ deleted id.rep a.table) (after : IsTable v) (es : List (ℕ × LiveGroup)) (counts_down : es ≡ recounted (λ n. n - 1) item.call.group a.groups) (none : get s.core.threads (call_number s.tags id) ≡ None) (out : count_by (is_entry_of (call_number s.tags id)) s.core.queues.high ≡ 0) where
     abbrev t : Table Entry
     t = deleted id.rep a.table
 
-    gone : v ≡ t
-    gone = deletes task_in a.table id.rep id.serial g result (v ≡ t) answer ok one.1 (sound.table.childless id.rep)
+    same_task : item ≡ g
+    same_task = same_item task_in a.table id.rep id.serial g item answer one.1 (sound.table.childless id.rep)
+
+    es_is : es ≡ recounted (λ n. n - 1) g.call.group a.groups
+    es_is = counts_down ∙ ap (λ (x : GuestTask). recounted (λ n. n - 1) x.call.group a.groups) same_task
+
+    es_numbers : numbers es ≡ numbers a.groups
+    es_numbers = ap numbers es_is ∙ recounted_numbers (λ n. n - 1) g.call.group a.groups sound.rising
 
     after_here : IsTable t
     after_here = subst (λ (t : Table Entry). IsTable t) gone after
@@ -191,18 +219,16 @@ module _ (a : Parts) (s : Shown) (is : image a ≡ s) (sound : Sound a) (id : Ta
     kept_none : {X : Type 0} (key : Entry → Option (ℕ × X)) → number_in (key (entries.Task g)) ≡ 0 → KeepsNumbers key a.table t
     kept_none key same r q live_r = kept key 0 same r q live_r (λ equal. omega arith)
 
-    core_gone : core_of (record a { table = v }) ≡ remove_call g.number (core_of a)
+    core_gone : core_of (record a { table = v; groups = es }) ≡ remove_call g.number (core_of a)
     unfolding remove_call
     core_gone = rw (
+      es_numbers,
       gone,
       (ended_threads a.table a.made.threads sound.table id.rep there.0 there.1 after_here g is_task sets).map,
       (ended_callers a.table a.made.threads sound.table id.rep there.0 there.1 after_here g is_task sets).map,
       (ended_calls a.table a.made.threads sound.table id.rep there.0 there.1 after_here g is_task sets).map,
       capacity_deleted a.table id.rep,
     ) refl
-
-    call_there : get (core_of a).calls g.number ≡ Some g.call
-    call_there = get-records call_key a.table.places g.number ∙ found_record_at call_key a.table.places id.rep g.number g.call sound.table.calls (ap (key_in call_key) there.1 ∙ ap call_key is_task)
 
     used : table_len v ≡ table_use (remove_call g.number (core_of a))
     used =
@@ -212,18 +238,19 @@ module _ (a : Parts) (s : Shown) (is : image a ≡ s) (sound : Sound a) (id : Ta
         let before = sound.used in
         omega arith
 
-    pub call_gone_soundly : Sound (record a { table = v })
+    pub call_gone_soundly : Sound (record a { table = v; groups = es })
     call_gone_soundly = record {
       table = subst (λ (t : Table Entry). SoundTable t a.made.threads) (sym gone) (call_deleted a.table a.made.threads sound.table id.rep there.0 there.1 after_here g is_task sets);
       queued = subst (λ (t : Table Entry). AreQueued t a.high) (sym gone) (AreQueued-left a.table t 0 g.number a.high (λ r q live_r other. kept_none thread_key refl r q live_r) (kept call_key g.number refl) (no_zero a.table a.high sound.queued) out_here sound.queued);
-      groups = subst (λ (t : Table Entry). AreGroups t a.made.groups a.groups) (sym gone) (AreGroups-keeps a.table t a.made.groups a.groups (kept_none group_key refl) sound.groups);
-      rising = sound.rising;
+      groups = rw (gone, es_is) (recounted_groups (λ n. n - 1) g.call.group a.groups sound.rising t a.made.groups (AreGroups-keeps a.table t a.made.groups a.groups (kept_none group_key refl) sound.groups));
+      rising = subst (λ gs. AreRising gs) (sym es_is) (recounted_rising (λ n. n - 1) g.call.group a.groups sound.rising);
+      counted = subst (λ (c : Core). AreCounted c.calls es) (sym core_gone) (counted_less_call (core_of a) g.number es (subst (λ gs. AreCounted (remove (core_of a).calls g.number) gs) (sym es_is) (counted_less (core_of a).calls g.number g.call a.groups sound.rising call_there sound.counted)));
       used = used ∙ sym (ap table_use core_gone);
       live = sound.live ∙ sym (ap live_count core_gone ∙ live_count-remove_call g.number (core_of a));
       simple = subst (λ s. IsSimple s) (sym core_gone) (simple_less_call (core_of a) g.number none_here sound.simple);
     }
 
-    pub call_gone : core_of (record a { table = v }) ≡ remove_call (call_number s.tags id) s.core
+    pub call_gone : core_of (record a { table = v; groups = es }) ≡ remove_call (call_number s.tags id) s.core
     call_gone = core_gone ∙ ap (λ n. remove_call n (core_of a)) number ∙ ap (λ (u : Shown). remove_call (call_number s.tags id) u.core) is
 
     pub call_gone_tags : KeepsTagsBut 0 (call_number s.tags id) s.tags (map tag_of v.places)
@@ -375,6 +402,7 @@ module _ (a : Parts) (s : Shown) (is : image a ≡ s) (sound : Sound a) (id : Ta
         queued = subst (λ (t : Table Entry). AreQueued t a.high) (sym gone_2) (AreQueued-left a.table t2 h.number 0 a.high (kept_2 thread_key (ap number_in no_thread_2) h.number refl) (λ r q live_r other. kept_all call_key (ap number_in no_call_2) refl r q live_r) out_thread (no_zero a.table a.high sound.queued) sound.queued);
         groups = subst (λ (t : Table Entry). AreGroups t a.made.groups a.groups) (sym gone_2) (AreGroups-keeps a.table t2 a.made.groups a.groups (kept_all group_key (ap (λ e. number_in (group_key e)) set_is.1) refl) sound.groups);
         rising = sound.rising;
+        counted = subst (λ (c : Core). AreCounted c.calls a.groups) (sym core_left) (counted_less_thread (core_of a) h.number a.groups sound.counted);
         used = used_2 ∙ sym (ap table_use core_left);
         live = sound.live ∙ sym (ap live_count core_left ∙ live_count-remove_thread h.number (core_of a));
         simple = subst (λ s. IsSimple s) (sym core_left) (simple_less_thread (core_of a) h.number sound.simple);

@@ -43,9 +43,10 @@ sound_instances a xs c live suspends sound = record {
   queued = sound.queued;
   groups = sound.groups;
   rising = sound.rising;
+  counted = sound.counted;
   used = sound.used;
   live = live;
-  simple = record { threads = sound.simple.threads; tasks = sound.simple.tasks; calls = sound.simple.calls; groups = sound.simple.groups; made = sound.simple.made; works = sound.simple.works; suspends = suspends };
+  simple = record { threads = sound.simple.threads; tasks = sound.simple.tasks; calls = sound.simple.calls; made = sound.simple.made; works = sound.simple.works; suspends = suspends };
 }
 
 module _ (a : Parts) (i : ℕ) where

@@ -1,6 +1,7 @@
 pub mod NewLemmas
 pub mod NumberLemmas
 pub mod CoreLemmas
+pub mod CountLemmas
 pub mod WriteLemmas
 pub mod StateLemmas
 pub mod PartLemmas

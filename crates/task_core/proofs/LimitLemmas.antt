@@ -140,9 +140,10 @@ module _ (a : Parts) (s : Shown) (is : image a ≡ s) (sound : Sound a) (n : ℕ
     queued = AreQueued-keeps a.table (table_with_capacity n a.table) a.high (same_number thread_key) (same_number call_key) sound.queued;
     groups = AreGroups-keeps a.table (table_with_capacity n a.table) a.made.groups a.groups (same_number group_key) sound.groups;
     rising = sound.rising;
+    counted = sound.counted;
     used = sound.used;
     live = sound.live;
-    simple = record { threads = sound.simple.threads; tasks = sound.simple.tasks; calls = sound.simple.calls; groups = sound.simple.groups; made = sound.simple.made; works = sound.simple.works; suspends = sound.simple.suspends };
+    simple = record { threads = sound.simple.threads; tasks = sound.simple.tasks; calls = sound.simple.calls; made = sound.simple.made; works = sound.simple.works; suspends = sound.simple.suspends };
   }
 
   module _ (t : Table Entry) (with : t ≡ table_with_capacity n a.table) where

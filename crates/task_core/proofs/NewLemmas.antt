@@ -8,6 +8,7 @@ use Rattle.task_machine.specs.Maps.{get, size, empty, get-empty}
 use Rattle.task_machine.specs.Core.{nothing_made, fresh}
 use Rattle.task_machine.specs.Read.{table_use, live_count}
 use Rattle.task_core.specs.declared.entry.Entry.{Entry}
+use Rattle.task_core.specs.declared.entry.LiveGroup.{LiveGroup}
 use Rattle.task_core.specs.Entries.{call_key, thread_key, callers_key}
 use Rattle.task_core.specs.Image.{Parts, image, core_of}
 use Rattle.task_core.specs.Instances.{by_place_from}
@@ -45,7 +46,6 @@ opening_simple = record {
   threads = λ n t at. not_there n t at;
   tasks = λ n t at. not_there n t at;
   calls = λ n c at. not_there n c at;
-  groups = λ k q c d at_k at_q same. not_there k c at_k;
   made = λ k c at. not_there k c at;
   works = refl;
   suspends = λ i r at. not_there i r at;
@@ -64,6 +64,9 @@ opening_table table = record {
   sets = λ rep p g at is. none_there p at;
 }
 
+no_group : {Y : Type 0} (r : LiveGroup) → ◌≡◌ {A = Option LiveGroup} None (Some r) → Y
+no_group r at = absurd (cc)
+
 pub opening_sound : IsTable (new_table {E = Entry}) → Sound opening
 unfolding records by_place_from table_use live_count size empty
 opening_sound table = record {
@@ -71,6 +74,7 @@ opening_sound table = record {
   queued = tt;
   groups = tt;
   rising = tt;
+  counted = record { count = λ g r at. no_group r at };
   used = refl;
   live = refl;
   simple = opening_simple;

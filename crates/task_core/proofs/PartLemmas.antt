@@ -36,9 +36,10 @@ sound_high a qs queued sound = record {
   queued = queued;
   groups = sound.groups;
   rising = sound.rising;
+  counted = sound.counted;
   used = sound.used;
   live = sound.live;
-  simple = record { threads = sound.simple.threads; tasks = sound.simple.tasks; calls = sound.simple.calls; groups = sound.simple.groups; made = sound.simple.made; works = sound.simple.works; suspends = sound.simple.suspends };
+  simple = record { threads = sound.simple.threads; tasks = sound.simple.tasks; calls = sound.simple.calls; made = sound.simple.made; works = sound.simple.works; suspends = sound.simple.suspends };
 }
 
 pub AreQueued-push : (t : Table Entry) (qs : List Queued) (q : Queued) → AreQueued t qs → AreQueued t (q ∷ []) → AreQueued t (qs ++ q ∷ [])
@@ -143,9 +144,10 @@ sound_results a fs sound = record {
   queued = sound.queued;
   groups = sound.groups;
   rising = sound.rising;
+  counted = sound.counted;
   used = sound.used;
   live = sound.live;
-  simple = record { threads = sound.simple.threads; tasks = sound.simple.tasks; calls = sound.simple.calls; groups = sound.simple.groups; made = sound.simple.made; works = sound.simple.works; suspends = sound.simple.suspends };
+  simple = record { threads = sound.simple.threads; tasks = sound.simple.tasks; calls = sound.simple.calls; made = sound.simple.made; works = sound.simple.works; suspends = sound.simple.suspends };
 }
 
 module _ (a : Parts) (s : Shown) (is : image a ≡ s) (n : ℕ) where

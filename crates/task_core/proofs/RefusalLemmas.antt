@@ -11,11 +11,11 @@ use Rattle.task_machine.specs.Read.{table_use, live_count, is_entry_of}
 use Rattle.task_machine.specs.Write.{add_group, add_call, remove_thread, remove_call, remove_group, with_groups_made}
 use Rattle.task_machine.proofs.MapLemmas.{get-insert_other, get-remove_same, get-remove_other}
 use Rattle.task_core.specs.declared.entry.Entry.{Entry}
-use Rattle.task_core.specs.declared.entry.GroupKey.{GroupKey}
+use Rattle.task_core.specs.declared.entry.LiveGroup.{LiveGroup}
 use Rattle.task_core.specs.declared.entry.GuestTaskKey.{GuestTaskKey}
 use Rattle.task_core.specs.declared.entry.ThreadKey.{ThreadKey}
 use Rattle.task_core.specs.Image.{Parts, core_of, image, numbers}
-use Rattle.task_core.specs.Shown.{Tag, Shown, KeepsTagsBut, thread_number, call_number}
+use Rattle.task_core.specs.Shown.{Tag, Shown, KeepsTags, KeepsTagsBut, thread_number, call_number}
 use Rattle.task_core.specs.Simple.{IsNewGroup}
 use Rattle.task_core.specs.Sound.{Sound, AreGroups}
 use Rattle.task_core.specs.Start.{IsFree, thread_counted, thread_uncounted, group_taken_back, put_new_thread}
@@ -95,7 +95,7 @@ others_left g (n ∷ ns) = by_test (g == n) refl (others_left g ns)
     by_test true is rest = rest
     by_test false is rest = ((λ same. eqb_clash (sym is ∙ eq-eqb g n (sym same))), rest)
 
-groups_below : (t : Table Entry) (made g : ℕ) (es : List (ℕ × TableId GroupKey)) → made ≡ g → AreOthers g (numbers es) → AreGroups t made es → AreGroups t (g - 1) es
+groups_below : (t : Table Entry) (made g : ℕ) (es : List (ℕ × LiveGroup)) → made ≡ g → AreOthers g (numbers es) → AreGroups t made es → AreGroups t (g - 1) es
 groups_below t made g [] last others groups = tt
 groups_below t made g (e ∷ es) last others groups =
     let other = others.0 in
@@ -126,13 +126,13 @@ module _ (a : Parts) (s : Shown) (is : image a ≡ s) (sound : Sound a) (old : C
     queued = sound.queued;
     groups = groups_below a.table a.made.groups g a.groups made_is others sound.groups;
     rising = sound.rising;
+    counted = sound.counted;
     used = sound.used;
     live = sound.live;
     simple = record {
       threads = sound.simple.threads;
       tasks = sound.simple.tasks;
       calls = sound.simple.calls;
-      groups = sound.simple.groups;
       made = λ k c at. let before : c.group ≤ a.made.groups = sound.simple.made k c at in let other = none_in k c at in let same = made_is in omega arith;
       works = sound.simple.works;
       suspends = sound.simple.suspends;
@@ -142,3 +142,7 @@ module _ (a : Parts) (s : Shown) (is : image a ≡ s) (sound : Sound a) (old : C
   pub taken_back : core_of (record a { made = with_groups_made (g - 1) a.made }) ≡ group_taken_back g old
   unfolding group_taken_back remove_group
   taken_back = ap (λ (c : Core). record c { made = with_groups_made (g - 1) c.made }) core_is
+
+-- a call stays named where all tags are kept
+pub still_kept : (k : ℕ) (a b : List (Option Tag)) (id : TableId GuestTaskKey) → 0 < k → call_number a id ≡ k → KeepsTags a b → call_number b id ≡ k
+still_kept k a b id live names keeps = keeps.calls id (subst (λ n. 0 < n) (sym names) live) ∙ names

@@ -16,7 +16,11 @@ use Rattle.task_machine.specs.Read.{task_of}
 use Rattle.task_machine.specs.Write.{add_call, add_group, add_thread, push_high, set_place, on_thread}
 use Rattle.task_machine.proofs.MapLemmas.{get-insert_same, get-change_same}
 use Rattle.task_core.specs.Shown.{Tag, Shown, IsLive, with_core, KeepsTags, thread_number, call_number}
-use Rattle.task_core.specs.Start.{thread_counted, put_new_thread, thread_started, counted_call_started, main_call_started}
+use Rattle.std.specs.Prelude.{[], replicate}
+use Rattle.task_machine.specs.declared.records.Caller.{Caller}
+use Rattle.task_machine.specs.declared.records.Goal.TheVariants as goal
+use Rattle.task_rules.specs.Calls.{call_made, new_call}
+use Rattle.task_core.specs.Start.{counted_call_made, thread_counted, put_new_thread, thread_started, counted_call_started, main_call_started}
 
 -- a start where the thread has its number, after the number was given
 pub started : (s : Core) (e : Callee) (x : ExportKind) (registers : List ℕ) → counted_call_started (s.made.threads + 1) e x registers (thread_counted s) ≡ main_call_started e x registers s
@@ -26,6 +30,15 @@ started s e x registers = refl
 pub few_groups : (s : Core) → (thread_counted s).made.groups ≡ s.made.groups
 unfolding thread_counted
 few_groups s = refl
+
+-- a call whose thread is New, after the number was given
+pub made : (s : Core) (f : Caller) (e : Callee) (x : ExportKind) (g : ℕ) → counted_call_made (s.made.threads + 1) (new_call f e x goal.Nowhere g) (replicate 16 0) (thread_counted s) ≡ call_made f e x goal.Nowhere g [] s
+unfolding counted_call_made put_new_thread call_made add_thread add_call thread_counted
+made s f e x g = refl
+
+pub as_many_threads : (s : Core) → (add_group s).made.threads ≡ s.made.threads
+unfolding add_group
+as_many_threads s = refl
 
 -- ---- The call of the new thread
 

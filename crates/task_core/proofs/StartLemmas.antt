@@ -1,5 +1,5 @@
 -- A group, a call and a thread are made.
-use Rattle.std.proofs.Common.{Greater, inl, inr, ◌≡◌, ◌≢◌, ◌<◌, ◌≤◌, ◌+◌, ◌-◌, ◌==◌, ℕ, List, [], ◌∷◌, ◌++◌, false, not, cond, filter, map, count_by, Option, Some, None, refl, sym, ap, subst, ◌∙◌, arith}
+use Rattle.std.proofs.Common.{Greater, inl, inr, ◌≡◌, ◌≢◌, ◌<◌, ◌≤◌, ◌+◌, ◌-◌, ◌^◌, ◌==◌, ℕ, List, [], ◌∷◌, ◌++◌, false, not, cond, filter, map, count_by, Option, Some, None, refl, sym, ap, subst, ◌∙◌, arith}
 use Rattle.std.specs.Prelude.{IsSome}
 use Rattle.std.proofs.lemmas.Bool.{cases_eq, eq-eqb, ne_eqb}
 use Rattle.std.proofs.lemmas.List.Sums.{sum_by-cons}
@@ -18,7 +18,7 @@ use Rattle.task_table.proofs.RecordLemmas.{get-records, found_record_at}
 use Rattle.task_machine.specs.declared.records.Call.{Call}
 use Rattle.task_machine.specs.declared.records.Entry.TheVariants as mark_entry
 use Rattle.task_machine.specs.declared.records.Thread.{Thread as ThreadRecord}
-use Rattle.task_machine.specs.Maps.{get}
+use Rattle.task_machine.specs.Maps.{get, insert}
 use Rattle.task_machine.specs.Core.{Core}
 use Rattle.task_machine.specs.Read.{table_use, live_count, is_entry_of}
 use Rattle.task_machine.specs.Write.{add_group, add_call, remove_group, with_threads_made, with_groups_made}
@@ -27,18 +27,21 @@ use Rattle.task_machine.proofs.SizeLemmas.{size-insert_new}
 use Rattle.task_core.specs.declared.entry.Entry.{Entry}
 use Rattle.task_core.specs.declared.entry.Entry.TheVariants as entries
 use Rattle.task_core.specs.declared.entry.GroupKey.{GroupKey}
+use Rattle.task_core.specs.declared.entry.LiveGroup.{LiveGroup}
 use Rattle.task_core.specs.declared.entry.GuestTaskKey.{GuestTaskKey}
 use Rattle.task_core.specs.declared.entry.ThreadKey.{ThreadKey}
 use Rattle.task_core.specs.declared.entry.SetKey.{SetKey}
 use Rattle.task_core.specs.declared.entry.GuestThread.{GuestThread}
 use Rattle.task_core.specs.Entries.{thread_in, call_key, thread_key, callers_key, set_key, group_key}
 use Rattle.task_core.specs.declared.instance.Queued.{Queued}
+use Rattle.task_core.specs.Groups.{AreCounted, live_group, recounted}
 use Rattle.task_core.specs.Image.{Parts, core_of, image, tag_of, numbers}
 use Rattle.task_core.specs.Shown.{Shown, KeepsTags, thread_number, call_number, with_core}
 use Rattle.task_core.specs.Simple.{IsSimple, IsPlainThread, IsPlainCall, IsNewGroup}
 use Rattle.task_core.specs.Sound.{Sound, SoundTable, AreQueued, AreGroups, AreAbove, AreRising}
 use Rattle.task_core.specs.Start.{IsFree, IsUnnamed, thread_counted, thread_uncounted, group_taken_back, put_new_thread}
 use Rattle.task_core.proofs.CoreLemmas.{inserted, inserted_some}
+use Rattle.task_core.proofs.CountLemmas.{counted_more, counted_new, few_calls, recounted_groups, recounted_numbers, recounted_rising}
 use Rattle.task_core.proofs.NumberLemmas.{absent, thread_shown, call_shown, thread_is}
 use Rattle.task_core.proofs.TableChangeLemmas.{HasSet, number_pushed, other_threads, other_callers, other_calls, other_pushed, call_threads, call_callers, call_calls, call_pushed, thread_threads, thread_callers, thread_calls, thread_pushed}
 use Rattle.task_core.proofs.UndoLemmas.{tags_keep, number_new, item_new, deletes, undone, Undone}
@@ -77,9 +80,10 @@ module _ (a : Parts) (sound : Sound a) where
     queued = sound.queued;
     groups = sound.groups;
     rising = sound.rising;
+    counted = sound.counted;
     used = sound.used;
     live = sound.live;
-    simple = record { threads = sound.simple.threads; tasks = sound.simple.tasks; calls = sound.simple.calls; groups = sound.simple.groups; made = sound.simple.made; works = sound.simple.works; suspends = sound.simple.suspends };
+    simple = record { threads = sound.simple.threads; tasks = sound.simple.tasks; calls = sound.simple.calls; made = sound.simple.made; works = sound.simple.works; suspends = sound.simple.suspends };
   }
 
   pub no_call : get (records call_key a.table.places) (a.made.threads + 1) ≡ None
@@ -151,9 +155,10 @@ module _ (a : Parts) (s : Shown) (is : image a ≡ s) (sound : Sound a) (k : ℕ
     queued = sound.queued;
     groups = sound.groups;
     rising = sound.rising;
+    counted = sound.counted;
     used = sound.used;
     live = sound.live;
-    simple = record { threads = sound.simple.threads; tasks = sound.simple.tasks; calls = sound.simple.calls; groups = sound.simple.groups; made = sound.simple.made; works = sound.simple.works; suspends = sound.simple.suspends };
+    simple = record { threads = sound.simple.threads; tasks = sound.simple.tasks; calls = sound.simple.calls; made = sound.simple.made; works = sound.simple.works; suspends = sound.simple.suspends };
   }
 
   pub uncounted : image (record a { made = with_threads_made (k - 1) a.made }) ≡ with_core (thread_uncounted k s.core) s
@@ -165,32 +170,32 @@ module _ (a : Parts) (s : Shown) (is : image a ≡ s) (sound : Sound a) (k : ℕ
 greater : (g n : ℕ) → n < g → nat_cmp g n ≡ Greater
 greater g n more = sym (nat_cmp_is g n Greater more)
 
-last_entry : (t : Table Entry) (made g : ℕ) (es : List (ℕ × TableId GroupKey)) (id : TableId GroupKey) → AreGroups t made es → made < g → insert_entry nat_cmp es g id ≡ es ++ (g, id) ∷ []
+last_entry : (t : Table Entry) (made g : ℕ) (es : List (ℕ × LiveGroup)) (id : LiveGroup) → AreGroups t made es → made < g → insert_entry nat_cmp es g id ≡ es ++ (g, id) ∷ []
 last_entry t made g [] id groups more = refl
 last_entry t made g (e ∷ es) id groups more =
     let below = groups.2 in
     ap (λ r. match_ordering r ((g, id) ∷ e ∷ es) ((e.0, id) ∷ es) (e ∷ insert_entry nat_cmp es g id)) (greater g e.0 (omega arith))
     ∙ ap (λ fs. e ∷ fs) (last_entry t made g es id groups.3 more)
 
-AreGroups-more : (t u : Table Entry) (made g : ℕ) (es : List (ℕ × TableId GroupKey)) (id : TableId GroupKey) → KeepsNumbers group_key t u → number_of group_key u id.rep id.serial ≡ g → 0 < g → made < g → AreGroups t made es → AreGroups u g (es ++ (g, id) ∷ [])
+AreGroups-more : (t u : Table Entry) (made g : ℕ) (es : List (ℕ × LiveGroup)) (id : LiveGroup) → KeepsNumbers group_key t u → number_of group_key u id.id.rep id.id.serial ≡ g → 0 < g → made < g → AreGroups t made es → AreGroups u g (es ++ (g, id) ∷ [])
 AreGroups-more t u made g [] id keeps new live more groups = (new, live, omega arith, tt)
 AreGroups-more t u made g (e ∷ es) id keeps new live more groups =
     let below = groups.2 in
-    let some : 0 < number_of group_key t e.1.rep e.1.serial = subst (λ n. 0 < n) (sym groups.0) groups.1 in
-    (keeps e.1.rep e.1.serial some ∙ groups.0, groups.1, omega arith, AreGroups-more t u made g es id keeps new live more groups.3)
+    let some : 0 < number_of group_key t e.1.id.rep e.1.id.serial = subst (λ n. 0 < n) (sym groups.0) groups.1 in
+    (keeps e.1.id.rep e.1.id.serial some ∙ groups.0, groups.1, omega arith, AreGroups-more t u made g es id keeps new live more groups.3)
 
 AreAbove-more : {X : Type 0} (n : ℕ) (es : List (ℕ × X)) (e : ℕ × X) → n < e.0 → AreAbove n es → AreAbove n (es ++ e ∷ [])
 AreAbove-more n [] e more above = (more, tt)
 AreAbove-more n (d ∷ es) e more above = (above.0, AreAbove-more n es e more above.1)
 
-AreRising-more : (t : Table Entry) (made g : ℕ) (es : List (ℕ × TableId GroupKey)) (id : TableId GroupKey) → AreGroups t made es → made < g → AreRising es → AreRising (es ++ (g, id) ∷ [])
+AreRising-more : (t : Table Entry) (made g : ℕ) (es : List (ℕ × LiveGroup)) (id : LiveGroup) → AreGroups t made es → made < g → AreRising es → AreRising (es ++ (g, id) ∷ [])
 AreRising-more t made g [] id groups more rising = (tt, tt)
 AreRising-more t made g (e ∷ es) id groups more rising =
     let below = groups.2 in
     (AreAbove-more e.0 es (g, id) (omega arith) rising.0, AreRising-more t made g es id groups.3 more rising.1)
 
 -- a group more, with a number above all, and a group less
-more_and_less : (t : Table Entry) (made g : ℕ) (es : List (ℕ × TableId GroupKey)) → AreGroups t made es → made < g → filter (λ h. not (g == h)) (numbers es ++ g ∷ []) ≡ numbers es
+more_and_less : (t : Table Entry) (made g : ℕ) (es : List (ℕ × LiveGroup)) → AreGroups t made es → made < g → filter (λ h. not (g == h)) (numbers es ++ g ∷ []) ≡ numbers es
 more_and_less t made g [] groups more = ap (λ b. cond (not b) (g ∷ []) []) (eq-eqb g g refl)
 more_and_less t made g (e ∷ es) groups more =
     let below = groups.2 in
@@ -210,11 +215,17 @@ simple_group s simple = record {
   threads = simple.threads;
   tasks = simple.tasks;
   calls = simple.calls;
-  groups = simple.groups;
   made = λ k c at. let before = simple.made k c at in omega arith;
   works = simple.works;
   suspends = simple.suspends;
 }
+
+counted_group : (s : Core) (es : List (ℕ × LiveGroup)) → AreCounted s.calls es → AreCounted (add_group s).calls es
+unfolding add_group
+counted_group s es counted = counted
+
+abbrev pub new_group : TableId GroupKey → LiveGroup
+new_group id = record { id = id; calls = 0 }
 
 abbrev pub group_entry : ℕ → Entry
 group_entry g = entries.Group (record { number = g })
@@ -236,12 +247,12 @@ module _ (a : Parts) (sound : Sound a) (u : Table Entry) (is : u ≡ pushed (gro
   group_tags = subst (λ (t : Table Entry). KeepsTags (map tag_of a.table.places) (map tag_of t.places)) (sym is) (tags_keep a.table (pushed (group_entry g) a.table) (keeps_here thread_key) (keeps_here call_key))
 
   -- the group has its entry
-  module _ (id : TableId GroupKey) (place : id.rep ≡ next_place a.table) (serial : id.serial ≡ a.table.given) (es : List (ℕ × TableId GroupKey)) (added : es ≡ insert_entry nat_cmp a.groups g id) where
+  module _ (id : TableId GroupKey) (place : id.rep ≡ next_place a.table) (serial : id.serial ≡ a.table.given) (es : List (ℕ × LiveGroup)) (added : es ≡ insert_entry nat_cmp a.groups g (new_group id)) where
     abbrev pub with_group : Parts
     with_group = record a { table = u; groups = es; made = with_groups_made (a.made.groups + 1) a.made }
 
-    es_is : es ≡ a.groups ++ (g, id) ∷ []
-    es_is = added ∙ last_entry a.table a.made.groups g a.groups id sound.groups (omega arith)
+    es_is : es ≡ a.groups ++ (g, new_group id) ∷ []
+    es_is = added ∙ last_entry a.table a.made.groups g a.groups (new_group id) sound.groups (omega arith)
 
     pub group_core : core_of (record a { table = u; groups = es; made = with_groups_made (a.made.groups + 1) a.made }) ≡ add_group (core_of a)
     unfolding add_group
@@ -269,8 +280,9 @@ module _ (a : Parts) (sound : Sound a) (u : Table Entry) (is : u ≡ pushed (gro
     group_sound = record {
       table = subst (λ (t : Table Entry). SoundTable t a.made.threads) (sym is) sound_here;
       queued = subst (λ (t : Table Entry). AreQueued t a.high) (sym is) (AreQueued-keeps a.table (pushed (group_entry g) a.table) a.high (keeps_here thread_key) (keeps_here call_key) sound.queued);
-      groups = rw (is, es_is) (AreGroups-more a.table (pushed (group_entry g) a.table) a.made.groups g a.groups id (keeps_here group_key) new_number (omega arith) (omega arith) sound.groups);
-      rising = rw es_is (AreRising-more a.table a.made.groups g a.groups id sound.groups (omega arith) sound.rising);
+      groups = rw (is, es_is) (AreGroups-more a.table (pushed (group_entry g) a.table) a.made.groups g a.groups (new_group id) (keeps_here group_key) new_number (omega arith) (omega arith) sound.groups);
+      rising = rw es_is (AreRising-more a.table a.made.groups g a.groups (new_group id) sound.groups (omega arith) sound.rising);
+      counted = subst (λ (c : Core). AreCounted c.calls es) (sym group_core) (counted_group (core_of a) es (subst (λ gs. AreCounted (core_of a).calls gs) (sym es_is) (counted_new (core_of a) g (new_group id) a.groups sound.simple (omega arith) refl sound.counted)));
       used = len_here ∙ sym (ap table_use group_core);
       live = sound.live ∙ sym (ap live_count group_core ∙ live_count-add_group (core_of a));
       simple = subst (λ s. IsSimple s) (sym group_core) (simple_group (core_of a) sound.simple);
@@ -284,10 +296,10 @@ module _ (a : Parts) (sound : Sound a) (u : Table Entry) (is : u ≡ pushed (gro
 pub group_tags_of : (a : Parts) (s : Shown) → image a ≡ s → (sound : Sound a) (u : Table Entry) (is : u ≡ pushed (group_entry (a.made.groups + 1)) a.table) (room : is_full a.table ≡ false) (table : IsTable u) → KeepsTags s.tags (map tag_of u.places)
 group_tags_of a s view sound u is room table = subst (λ (s : Shown). KeepsTags s.tags (map tag_of u.places)) view (group_tags a sound u is room table)
 
-AreGroups-left : (t u : Table Entry) (made : ℕ) (es : List (ℕ × TableId GroupKey)) → ((r s : ℕ) → 0 < number_of group_key t r s → number_of group_key t r s ≤ made → number_of group_key u r s ≡ number_of group_key t r s) → AreGroups t made es → AreGroups u made es
+AreGroups-left : (t u : Table Entry) (made : ℕ) (es : List (ℕ × LiveGroup)) → ((r s : ℕ) → 0 < number_of group_key t r s → number_of group_key t r s ≤ made → number_of group_key u r s ≡ number_of group_key t r s) → AreGroups t made es → AreGroups u made es
 AreGroups-left t u made [] keeps groups = tt
 AreGroups-left t u made (e ∷ es) keeps groups =
-    (keeps e.1.rep e.1.serial (subst (λ n. 0 < n) (sym groups.0) groups.1) (subst (λ n. n ≤ made) (sym groups.0) groups.2) ∙ groups.0, groups.1, groups.2, AreGroups-left t u made es keeps groups.3)
+    (keeps e.1.id.rep e.1.id.serial (subst (λ n. 0 < n) (sym groups.0) groups.1) (subst (λ n. n ≤ made) (sym groups.0) groups.2) ∙ groups.0, groups.1, groups.2, AreGroups-left t u made es keeps groups.3)
 
 -- a push that was undone
 module _ (a : Parts) (sound : Sound a) (v : Table Entry) (e : Entry) (back : Undone a.table v a.made.threads e) (no_group : (n : ℕ) → 0 < n → n ≤ a.made.groups → n ≢ number_in (group_key e)) where
@@ -300,6 +312,7 @@ module _ (a : Parts) (sound : Sound a) (v : Table Entry) (e : Entry) (back : Und
     queued = AreQueued-keeps a.table v a.high back.thread_numbers back.call_numbers sound.queued;
     groups = AreGroups-left a.table v a.made.groups a.groups (λ r s live most. back.group_numbers r s live (no_group _ live most)) sound.groups;
     rising = sound.rising;
+    counted = subst (λ (c : Core). AreCounted c.calls a.groups) (sym undone_core) sound.counted;
     used = back.len ∙ sound.used ∙ sym (ap table_use undone_core);
     live = sound.live ∙ sym (ap live_count undone_core);
     simple = subst (λ s. IsSimple s) (sym undone_core) sound.simple;
@@ -310,28 +323,26 @@ module _ (a : Parts) (sound : Sound a) (v : Table Entry) (e : Entry) (back : Und
 
 -- ---- A call
 
-simple_call : (s : Core) (k : ℕ) (c : Call) → IsPlainCall c → IsNewGroup c.group s → c.group ≤ s.made.groups → IsSimple s → IsSimple (add_call k c s)
+counted_call : (s : Core) (k : ℕ) (c : Call) (es : List (ℕ × LiveGroup)) → AreCounted (insert s.calls k c) es → AreCounted (add_call k c s).calls es
 unfolding add_call
-simple_call s k c plain new made simple = record {
+counted_call s k c es counted = counted
+
+-- one call more can be counted
+pub more_counted : (a : Parts) → Sound a → (g : ℕ) (r : LiveGroup) → live_group g a.groups ≡ Some r → r.calls + 1 < 2 ^ 64
+more_counted a sound g r at = few_calls (core_of a) a.table a.groups g r sound.table.table sound.used sound.counted at
+
+simple_call : (s : Core) (k : ℕ) (c : Call) → IsPlainCall c → c.group ≤ s.made.groups → IsSimple s → IsSimple (add_call k c s)
+unfolding add_call
+simple_call s k c plain made simple = record {
   threads = simple.threads;
   tasks = λ n t at. inserted_some s.calls k c n (simple.tasks n t at);
   calls = λ q d at. elim (inserted s.calls k c q d at) [ inl is ↦ subst (λ d. IsPlainCall d) is.1 plain | inr old ↦ simple.calls q d old ];
-  groups = λ p q d e at_p at_q same. elim (inserted s.calls k c p d at_p) [
-    | inl here ↦ elim (inserted s.calls k c q e at_q) [
-      | inl too ↦ here.0 ∙ sym too.0
-      | inr old ↦ absurd (new.none q e old (sym same ∙ ap (λ (x : Call). x.group) (sym here.1)))
-    ]
-    | inr old ↦ elim (inserted s.calls k c q e at_q) [
-      | inl here ↦ absurd (new.none p d old (same ∙ ap (λ (x : Call). x.group) (sym here.1)))
-      | inr older ↦ simple.groups p q d e old older same
-    ]
-  ];
   made = λ q d at. elim (inserted s.calls k c q d at) [ inl is ↦ subst (λ (d : Call). d.group ≤ s.made.groups) is.1 made | inr old ↦ simple.made q d old ];
   works = simple.works;
   suspends = simple.suspends;
 }
 
-module _ (a : Parts) (s : Shown) (is : image a ≡ s) (sound : Sound a) (k : ℕ) (c : Call) (made : k ≤ s.core.made.threads) (live : 0 < k) (none : get s.core.calls k ≡ None) (plain : IsPlainCall c) (new : IsNewGroup c.group s.core) (group : c.group ≤ s.core.made.groups) (u : Table Entry) (pushes : u ≡ pushed (entries.Task (record { number = k; call = c })) a.table) (room : is_full a.table ≡ false) (table : IsTable u) where
+module _ (a : Parts) (s : Shown) (is : image a ≡ s) (sound : Sound a) (k : ℕ) (c : Call) (made : k ≤ s.core.made.threads) (live : 0 < k) (none : get s.core.calls k ≡ None) (plain : IsPlainCall c) (group : c.group ≤ s.core.made.groups) (u : Table Entry) (pushes : u ≡ pushed (entries.Task (record { number = k; call = c })) a.table) (room : is_full a.table ≡ false) (table : IsTable u) (es : List (ℕ × LiveGroup)) (counts_up : es ≡ recounted (λ n. n + 1) c.group a.groups) where
   abbrev call_entry : Entry
   call_entry = entries.Task (record { number = k; call = c })
 
@@ -350,9 +361,13 @@ module _ (a : Parts) (s : Shown) (is : image a ≡ s) (sound : Sound a) (k : ℕ
   call_keeps : {X : Type 0} (key : Entry → Option (ℕ × X)) → KeepsNumbers key a.table (pushed call_entry a.table)
   call_keeps = number_pushed a.table a.made.threads sound.table call_entry room call_table
 
-  call_core : core_of (record a { table = u }) ≡ add_call k c (core_of a)
+  es_numbers : numbers es ≡ numbers a.groups
+  es_numbers = ap numbers counts_up ∙ recounted_numbers (λ n. n + 1) c.group a.groups sound.rising
+
+  call_core : core_of (record a { table = u; groups = es }) ≡ add_call k c (core_of a)
   unfolding add_call
   call_core = rw (
+    es_numbers,
     pushes,
     (call_threads a.table a.made.threads sound.table (record { number = k; call = c }) room call_table made_here new_here).map,
     (call_callers a.table a.made.threads sound.table (record { number = k; call = c }) room call_table made_here new_here).map,
@@ -367,18 +382,19 @@ module _ (a : Parts) (s : Shown) (is : image a ≡ s) (sound : Sound a) (k : ℕ
       let three = sound.used in
       omega arith
 
-  pub adds_call_soundly : Sound (record a { table = u })
+  pub adds_call_soundly : Sound (record a { table = u; groups = es })
   adds_call_soundly = record {
     table = subst (λ (t : Table Entry). SoundTable t a.made.threads) (sym pushes) (call_pushed a.table a.made.threads sound.table (record { number = k; call = c }) room call_table made_here new_here);
     queued = subst (λ (t : Table Entry). AreQueued t a.high) (sym pushes) (AreQueued-keeps a.table (pushed call_entry a.table) a.high (call_keeps thread_key) (call_keeps call_key) sound.queued);
-    groups = subst (λ (t : Table Entry). AreGroups t a.made.groups a.groups) (sym pushes) (AreGroups-keeps a.table (pushed call_entry a.table) a.made.groups a.groups (call_keeps group_key) sound.groups);
-    rising = sound.rising;
+    groups = rw (pushes, counts_up) (recounted_groups (λ n. n + 1) c.group a.groups sound.rising (pushed call_entry a.table) a.made.groups (AreGroups-keeps a.table (pushed call_entry a.table) a.made.groups a.groups (call_keeps group_key) sound.groups));
+    rising = subst (λ gs. AreRising gs) (sym counts_up) (recounted_rising (λ n. n + 1) c.group a.groups sound.rising);
+    counted = subst (λ (c : Core). AreCounted c.calls es) (sym call_core) (counted_call (core_of a) k c es (subst (λ gs. AreCounted (insert (core_of a).calls k c) gs) (sym counts_up) (counted_more (core_of a).calls k c a.groups sound.rising none_here sound.counted)));
     used = call_len ∙ sym (ap table_use call_core);
     live = sound.live ∙ sym (ap live_count call_core ∙ live_count-add_call k c (core_of a));
-    simple = subst (λ s. IsSimple s) (sym call_core) (simple_call (core_of a) k c plain (subst (λ (s : Shown). IsNewGroup c.group s.core) (sym is) new) (subst (λ (s : Shown). c.group ≤ s.core.made.groups) (sym is) group) sound.simple);
+    simple = subst (λ s. IsSimple s) (sym call_core) (simple_call (core_of a) k c plain (subst (λ (s : Shown). c.group ≤ s.core.made.groups) (sym is) group) sound.simple);
   }
 
-  pub adds_call : core_of (record a { table = u }) ≡ add_call k c s.core
+  pub adds_call : core_of (record a { table = u; groups = es }) ≡ add_call k c s.core
   adds_call = call_core ∙ ap (λ (s : Shown). add_call k c s.core) is
 
   pub call_tags : KeepsTags s.tags (map tag_of u.places)
@@ -398,11 +414,14 @@ simple_thread s n t plain task simple = record {
   ];
   tasks = λ q u at. elim (inserted s.threads n t q u at) [ inl is ↦ subst (λ m. IsSome (get s.calls m)) (sym is.0) task | inr old ↦ simple.tasks q u old ];
   calls = simple.calls;
-  groups = simple.groups;
   made = simple.made;
   works = simple.works;
   suspends = simple.suspends;
 }
+
+counted_thread : (s : Core) (n : ℕ) (t : ThreadRecord) (es : List (ℕ × LiveGroup)) → AreCounted s.calls es → AreCounted (put_new_thread n t s).calls es
+unfolding put_new_thread
+counted_thread s n t es counted = counted
 
 use_thread : (s : Core) (n : ℕ) (t : ThreadRecord) → get s.threads n ≡ None → table_use (put_new_thread n t s) ≡ table_use s + 2
 unfolding table_use put_new_thread
@@ -502,6 +521,7 @@ module _ (a : Parts) (s : Shown) (is : image a ≡ s) (sound : Sound a) (n : ℕ
       queued = subst (λ (t : Table Entry). AreQueued t a.high) (sym v_is) (AreQueued-keeps a.table t2 a.high (thread_keeps thread_key) (thread_keeps call_key) sound.queued);
       groups = subst (λ (t : Table Entry). AreGroups t a.made.groups a.groups) (sym v_is) (AreGroups-keeps a.table t2 a.made.groups a.groups (thread_keeps group_key) sound.groups);
       rising = sound.rising;
+      counted = subst (λ (c : Core). AreCounted c.calls a.groups) (sym thread_core) (counted_thread (core_of a) n x a.groups sound.counted);
       used = thread_len ∙ sym (ap table_use thread_core);
       live = sound.live ∙ sym (ap live_count thread_core ∙ live_thread (core_of a) n x);
       simple = subst (λ s. IsSimple s) (sym thread_core) (simple_thread (core_of a) n x plain (subst (λ (s : Shown). IsSome (get s.core.calls n)) (sym is) task) sound.simple);
@@ -519,7 +539,7 @@ module _ (a : Parts) (s : Shown) (is : image a ≡ s) (sound : Sound a) (n : ℕ
 
 -- ---- Pushes that are undone
 
-module _ (a : Parts) (sound : Sound a) (u : Table Entry) (is : u ≡ pushed (group_entry (a.made.groups + 1)) a.table) (room : is_full a.table ≡ false) (table : IsTable u) (id : TableId GroupKey) (place : id.rep ≡ next_place a.table) (serial : id.serial ≡ a.table.given) (v : Table Entry) (result : Result TaskGroup ResourceTableError) (answer : result ≡ deletion group_in u id.rep id.serial) (ok : OnOk result (v ≡ deleted id.rep u)) (after : IsTable v) (es : List (ℕ × TableId GroupKey)) (same : es ≡ a.groups) where
+module _ (a : Parts) (sound : Sound a) (u : Table Entry) (is : u ≡ pushed (group_entry (a.made.groups + 1)) a.table) (room : is_full a.table ≡ false) (table : IsTable u) (id : TableId GroupKey) (place : id.rep ≡ next_place a.table) (serial : id.serial ≡ a.table.given) (v : Table Entry) (result : Result TaskGroup ResourceTableError) (answer : result ≡ deletion group_in u id.rep id.serial) (ok : OnOk result (v ≡ deleted id.rep u)) (after : IsTable v) (es : List (ℕ × LiveGroup)) (same : es ≡ a.groups) where
   abbrev group_e : Entry
   group_e = group_entry (a.made.groups + 1)
 

@@ -20,7 +20,6 @@ use Rattle.task_machine.specs.Maps.{get}
 use Rattle.task_machine.proofs.FieldLemmas.{put_thread, put_call}
 use Rattle.task_core.specs.declared.entry.Entry.{Entry}
 use Rattle.task_core.specs.declared.entry.Entry.TheVariants as entries
-use Rattle.task_core.specs.declared.entry.GroupKey.{GroupKey}
 use Rattle.task_core.specs.declared.entry.GuestTask.{GuestTask}
 use Rattle.task_core.specs.declared.entry.GuestThread.{GuestThread}
 use Rattle.task_core.specs.declared.entry.GuestTaskKey.{GuestTaskKey}
@@ -34,7 +33,11 @@ use Rattle.task_machine.specs.Read.{table_use, live_count}
 use Rattle.task_core.specs.Simple.{IsSimple, IsPlainThread, IsPlainCall, HasGroup}
 use Rattle.task_core.specs.Sound.{Sound, SoundTable, HaveSets, AreQueued, AreGroups}
 use Rattle.task_core.proofs.NumberLemmas.{absent}
-use Rattle.task_core.proofs.CoreLemmas.{insert-same, table_use-put_thread, table_use-put_call, live_count-put_thread, live_count-put_call, IsSimple-put_thread, IsSimple-put_call}
+use Rattle.task_core.specs.Groups.{AreCounted}
+use Rattle.task_core.specs.declared.entry.LiveGroup.{LiveGroup}
+use Rattle.task_machine.specs.Core.{Core}
+use Rattle.task_core.proofs.CountLemmas.{counted_put}
+use Rattle.task_core.proofs.CoreLemmas.{group_read, insert-same, table_use-put_thread, table_use-put_call, live_count-put_thread, live_count-put_call, IsSimple-put_thread, IsSimple-put_call}
 
 -- each id that named an entry of the kind names it still
 abbrev pub KeepsNumbers : {X : Type 0} → (Entry → Option (ℕ × X)) → Table Entry → Table Entry → Type 0
@@ -50,10 +53,10 @@ AreQueued-keeps t u (q ∷ qs) threads calls queued =
     let call = calls q.id.task.rep q.id.task.serial (positive _ 0 q.number queued.1 queued.2) in
     (thread ∙ queued.0, call ∙ queued.1, queued.2, AreQueued-keeps t u qs threads calls queued.3)
 
-pub AreGroups-keeps : (t u : Table Entry) (made : ℕ) (gs : List (ℕ × TableId GroupKey)) → KeepsNumbers group_key t u → AreGroups t made gs → AreGroups u made gs
+pub AreGroups-keeps : (t u : Table Entry) (made : ℕ) (gs : List (ℕ × LiveGroup)) → KeepsNumbers group_key t u → AreGroups t made gs → AreGroups u made gs
 AreGroups-keeps t u made [] keeps groups = tt
 AreGroups-keeps t u made (e ∷ es) keeps groups =
-    (keeps e.1.rep e.1.serial (positive _ 0 e.0 groups.0 groups.1) ∙ groups.0, groups.1, groups.2, AreGroups-keeps t u made es keeps groups.3)
+    (keeps e.1.id.rep e.1.id.serial (positive _ 0 e.0 groups.0 groups.1) ∙ groups.0, groups.1, groups.2, AreGroups-keeps t u made es keeps groups.3)
 
 -- Numbers past those that were made stay free.
 abbrev pub AreFree : {X : Type 0} → (Entry → Option (ℕ × X)) → ℕ → List (Option (Placed Entry)) → Type 0
@@ -187,6 +190,7 @@ module _ (a : Parts) (sound : Sound a) (id : TableId ThreadKey) (g : GuestThread
       queued = AreQueued-keeps a.table thread_table a.high (λ r s live. number_same thread_key refl r s) (λ r s live. number_same call_key refl r s) sound.queued;
       groups = AreGroups-keeps a.table thread_table a.made.groups a.groups (λ r s live. number_same group_key refl r s) sound.groups;
       rising = sound.rising;
+      counted = subst (λ (c : Core). AreCounted c.calls a.groups) (sym thread_core) sound.counted;
       used = table_len-with_entry a.table id.rep thread_entry there.0 there.1 ∙ sound.used ∙ sym (ap table_use thread_core ∙ table_use-put_thread (core_of a) g.number g.thread x thread_read);
       live = sound.live ∙ sym (ap live_count thread_core ∙ live_count-put_thread (core_of a) g.number x);
       simple = subst (λ s. IsSimple s) (sym thread_core) (IsSimple-put_thread (core_of a) g.number g.thread x thread_read plain sound.simple);
@@ -249,6 +253,7 @@ module _ (a : Parts) (sound : Sound a) (id : TableId GuestTaskKey) (g : GuestTas
       queued = AreQueued-keeps a.table call_table a.high (λ r s live. call_number_same thread_key refl r s) (λ r s live. call_number_same call_key refl r s) sound.queued;
       groups = AreGroups-keeps a.table call_table a.made.groups a.groups (λ r s live. call_number_same group_key refl r s) sound.groups;
       rising = sound.rising;
+      counted = subst (λ (c : Core). AreCounted c.calls a.groups) (sym call_core) (counted_put (core_of a).calls g.number g.call x a.groups call_read (group_read (core_of a) x.group (get (core_of a).calls g.number) g.call call_read group) sound.counted);
       used = table_len-with_entry a.table id.rep call_entry call_there.0 call_there.1 ∙ sound.used ∙ sym (ap table_use call_core ∙ table_use-put_call (core_of a) g.number g.call x call_read);
       live = sound.live ∙ sym (ap live_count call_core ∙ live_count-put_call (core_of a) g.number x);
       simple = subst (λ s. IsSimple s) (sym call_core) (IsSimple-put_call (core_of a) g.number g.call x call_read plain group sound.simple);

@@ -1,6 +1,5 @@
 -- The machine's core that the parts of a state stand for.
 use Rattle.std.specs.Prelude.{◌≡◌, ℕ, Bool, List, Option, Some, None, [], map}
-use Rattle.task_table.specs.declared.id.TableId.{TableId}
 use Rattle.task_table.specs.Table.{Table, Placed, table_len}
 use Rattle.task_table.specs.Records.{records, number_in}
 use Rattle.task_handles.specs.Counter.{Counter}
@@ -10,7 +9,7 @@ use Rattle.task_machine.specs.Maps.{empty, from_entries}
 use Rattle.task_machine.specs.Core.{Core}
 use Rattle.task_machine.specs.Read.{table_use}
 use Rattle.task_core.specs.declared.entry.Entry.{Entry}
-use Rattle.task_core.specs.declared.entry.GroupKey.{GroupKey}
+use Rattle.task_core.specs.declared.entry.LiveGroup.{LiveGroup}
 use Rattle.task_core.specs.declared.entry.QualifiedThreadId.{QualifiedThreadId}
 use Rattle.task_core.specs.declared.instance.InstanceRecord.{InstanceRecord}
 use Rattle.task_core.specs.declared.instance.Queued.{Queued}
@@ -26,7 +25,7 @@ pub record Parts : Type 0 where
   pub high : List Queued
   pub current : Option QualifiedThreadId
   pub results : List (ℕ × ℕ)
-  pub groups : List (ℕ × TableId GroupKey)
+  pub groups : List (ℕ × LiveGroup)
   pub made : Made
   pub trapped : Bool
 

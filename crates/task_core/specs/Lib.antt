@@ -2,6 +2,7 @@ pub mod Entries
 pub mod EntryLaws
 pub mod Shown
 pub mod Instances
+pub mod Groups
 pub mod Image
 pub mod Simple
 pub mod Sound

@@ -1,4 +1,4 @@
--- What every core of a state has today: each call has one thread, is told nothing, and makes up its group.
+-- What every core of a state has today: each call has one thread and is told nothing, and its group was made.
 use Rattle.std.specs.Prelude.{◌≡◌, ◌≢◌, ◌≤◌, ℕ, false, Option, Some, None, IsSome}
 use Rattle.task_machine.specs.declared.records.Call.{Call}
 use Rattle.task_machine.specs.declared.records.Instance.{Instance}
@@ -26,7 +26,6 @@ pub record IsSimple (s : Core) : Type 0 where
   -- a call may have lost its thread, but no thread its call
   pub tasks : (n : ℕ) (t : Thread) → get s.threads n ≡ Some t → IsSome (get s.calls n)
   pub calls : (k : ℕ) (c : Call) → get s.calls k ≡ Some c → IsPlainCall c
-  pub groups : (k q : ℕ) (c d : Call) → get s.calls k ≡ Some c → get s.calls q ≡ Some d → c.group ≡ d.group → k ≡ q
   pub made : (k : ℕ) (c : Call) → get s.calls k ≡ Some c → c.group ≤ s.made.groups
   pub works : s.works ≡ empty
   pub suspends : (i : ℕ) (r : Instance) → get s.instances i ≡ Some r → r.do_not_suspend ≡ false

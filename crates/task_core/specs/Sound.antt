@@ -1,14 +1,14 @@
 -- What holds of the parts of every state.
 use Rattle.std.specs.Prelude.{◌≡◌, ◌<◌, ◌≤◌, ℕ, List, [], ◌∷◌, Some, None}
-use Rattle.task_table.specs.declared.id.TableId.{TableId}
 use Rattle.task_table.specs.Table.{Table, Placed, IsTable, place_at, table_len, children_of}
 use Rattle.task_table.specs.Records.{AreApart, found_record, number_of}
 use Rattle.task_machine.specs.Read.{table_use, live_count}
 use Rattle.task_core.specs.declared.entry.Entry.{Entry}
-use Rattle.task_core.specs.declared.entry.GroupKey.{GroupKey}
 use Rattle.task_core.specs.declared.entry.GuestThread.{GuestThread}
+use Rattle.task_core.specs.declared.entry.LiveGroup.{LiveGroup}
 use Rattle.task_core.specs.declared.instance.Queued.{Queued}
 use Rattle.task_core.specs.Entries.{thread_in, call_key, thread_key, callers_key, set_key, group_key}
+use Rattle.task_core.specs.Groups.{AreCounted}
 use Rattle.task_core.specs.Image.{Parts, core_of}
 use Rattle.task_core.specs.Simple.{IsSimple}
 
@@ -20,10 +20,10 @@ AreQueued t (q ∷ qs) =
     × (number_of call_key t q.id.task.rep q.id.task.serial ≡ q.number) × (0 < q.number) × AreQueued t qs
 
 -- Each live group has its entry, and its number is at most `made`.
-abbrev pub AreGroups : Table Entry → ℕ → List (ℕ × TableId GroupKey) → Type 0
+abbrev pub AreGroups : Table Entry → ℕ → List (ℕ × LiveGroup) → Type 0
 AreGroups t made [] = Unit {0}
 AreGroups t made (e ∷ es) =
-    (number_of group_key t e.1.rep e.1.serial ≡ e.0) × (0 < e.0) × (e.0 ≤ made) × AreGroups t made es
+    (number_of group_key t e.1.id.rep e.1.id.serial ≡ e.0) × (0 < e.0) × (e.0 ≤ made) × AreGroups t made es
 
 -- all these numbers are above n
 abbrev pub AreAbove : {X : Type 0} → ℕ → List (ℕ × X) → Type 0
@@ -56,6 +56,7 @@ pub record Sound (p : Parts) : Type 0 where
   pub queued : AreQueued p.table p.high
   pub groups : AreGroups p.table p.made.groups p.groups
   pub rising : AreRising p.groups
+  pub counted : AreCounted (core_of p).calls p.groups
   pub used : table_len p.table ≡ table_use (core_of p)
   pub live : p.counter.live ≡ live_count (core_of p)
   pub simple : IsSimple (core_of p)

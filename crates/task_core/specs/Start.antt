@@ -6,6 +6,7 @@ use Rattle.task_core.specs.declared.entry.ThreadKey.{ThreadKey}
 use Rattle.task_core.specs.Shown.{Tag, thread_number, call_number}
 use Rattle.task_machine.specs.declared.component.Callee.{Callee}
 use Rattle.task_machine.specs.declared.component.ExportKind.{ExportKind}
+use Rattle.task_machine.specs.declared.records.Call.{Call}
 use Rattle.task_machine.specs.declared.records.Caller.TheVariants as caller
 use Rattle.task_machine.specs.declared.records.Goal.TheVariants as goal
 use Rattle.task_machine.specs.declared.records.Script.TheVariants as script
@@ -63,3 +64,7 @@ thread_started k registers s = set_place k (place.Ready mark.High why.Start) (pu
 -- a start by main, where the thread has its number, which is k
 unfoldable pub counted_call_started : ℕ → Callee → ExportKind → List ℕ → Core → Core
 counted_call_started k e x registers s = thread_started k registers (add_call k (new_call caller.Main e x goal.Main (s.made.groups + 1)) (add_group s))
+
+-- a call and its thread, which is New, are made, where the thread has its number, which is k
+unfoldable pub counted_call_made : ℕ → Call → List ℕ → Core → Core
+counted_call_made k c registers s = put_new_thread k (new_thread k false script.Start registers None) (add_call k c s)

@@ -48,6 +48,13 @@ pub struct TaskGroup {
     pub(crate) number: u64,
 }
 
+/// A live group: its entry, and how many calls are of it.
+#[derive(Clone, Copy, Debug)]
+pub(crate) struct LiveGroup {
+    pub(crate) id: TableId<GroupKey>,
+    pub(crate) calls: u64,
+}
+
 /// What stands in the resource table.
 #[derive(Clone, Copy, Debug)]
 pub enum Entry {

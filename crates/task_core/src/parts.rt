@@ -3,11 +3,13 @@
 
 mod calls;
 mod ends;
+mod groups;
 mod handles;
 mod ids;
 mod instances;
 mod limits;
 mod queues;
 mod starts;
+mod tasks;
 mod threads;
 mod words;

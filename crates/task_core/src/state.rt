@@ -2,7 +2,7 @@ ghost use Rattle.std.specs.Prelude.{◌≡◌, ◌+◌, ◌-◌, ◌^◌, ◌<�
 ghost use Rattle.task_machine.specs.Maps.{get, size};
 ghost use Rattle.task_core.specs.Shown.{nothing, with_core, with_instance};
 
-use crate::entry::{Entry, GroupKey, QualifiedThreadId};
+use crate::entry::{Entry, LiveGroup, QualifiedThreadId};
 use crate::error::NoMemory;
 use crate::instance::{InstanceRecord, Queued};
 use std::alloc::{AllocError, Global};
@@ -10,7 +10,7 @@ use std::collections::{BTreeMap, VecDeque};
 use std::marker::Model;
 use task_handles::{HandleCounter, HandleTable, ThreadHandleTable};
 use task_machine::{Instance, Made};
-use task_table::{ResourceTable, TableId};
+use task_table::ResourceTable;
 
 /// The calls and threads of a store, its instances, and what is to be taken next.
 #[derive(Drop)]
@@ -26,7 +26,7 @@ pub struct TaskCore {
     // What calls of main have returned and main has not taken, by the call's number.
     pub(crate) results: BTreeMap<u64, u64>,
     // The live groups, by their numbers.
-    pub(crate) groups: BTreeMap<u64, TableId<GroupKey>>,
+    pub(crate) groups: BTreeMap<u64, LiveGroup>,
     pub(crate) made: Made,
     pub(crate) trapped: bool,
 }

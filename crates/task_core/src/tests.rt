@@ -14,7 +14,7 @@ fn nothing_stands_in_a_new_core(rt: HostRuntime) -> Result<(), Fail> {
     core.give_result(1, 9)?;
     assert_eq!(rt; core.take_result(1), Some(9));
     assert_eq!(rt; core.take_result(1), None);
-    core.remove_group(1);
+    core.settle_group(1);
     core.set_trapped();
     assert!(rt; core.trapped());
     Ok(())

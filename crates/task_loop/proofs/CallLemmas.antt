@@ -54,7 +54,7 @@ module _ (c : Component) (first : IsFirstComponent c) (e : Callee) (there : IsSo
   fits-started s plain fit words = fits-call c s plain fit e kind.Callback words exported
 
   started_is : (s : Core) → IsPlain s → (words : List ℕ) → call_started e kind.Callback words s ≡ main_started c e words s
-  started_is s plain words = ap (λ k. call_started e k words s) (sym called_back) ∙ sym (main_started_is c e words s plain.as_many)
+  started_is s plain words = ap (λ k. call_started e k words s) (sym called_back) ∙ sym (main_started_is c e words s)
 
   -- ---- What a start comes to
 

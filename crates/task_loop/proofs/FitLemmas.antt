@@ -22,8 +22,9 @@ use Rattle.task_machine.specs.declared.records.Thread.{Thread}
 use Rattle.task_machine.specs.declared.words.Mark.TheVariants as mark
 use Rattle.task_machine.specs.Core.{Core}
 use Rattle.task_machine.specs.Maps.{Records, change, get, remove}
-use Rattle.task_machine.specs.Read.{callee_of, instance_of, new_thread_handle, no_callee, place_of, position_of}
-use Rattle.task_machine.specs.Write.{add_call, add_group, add_thread, free_thread_handle, give_result, give_thread_handle, on_call, on_instance, on_thread, push_high, remove_call, remove_group, remove_thread, set_do_not_enter, set_end, set_high, set_place, set_position, set_register, set_word, set_started, set_starting_published, set_thread_handle, set_trapped, take_result}
+use Rattle.task_machine.specs.Moves.{group_settled}
+use Rattle.task_machine.specs.Read.{call_group, callee_of, instance_of, new_thread_handle, no_callee, place_of, position_of}
+use Rattle.task_machine.specs.Write.{add_call, add_group, add_thread, free_thread_handle, give_result, give_thread_handle, on_call, on_instance, on_thread, push_high, remove_call, remove_thread, set_do_not_enter, set_end, set_high, set_place, set_position, set_register, set_word, set_started, set_starting_published, set_thread_handle, set_trapped, take_result}
 use Rattle.task_machine.proofs.MapLemmas.{change-field, get-remove_other, get-remove_same}
 use Rattle.task_rules.specs.Calls.{new_call, new_thread}
 use Rattle.task_rules.specs.Data.{assigned, moved_to, stored}
@@ -35,6 +36,7 @@ use Rattle.task_simple.proofs.BeginLemmas.{no_thread_yet}
 use Rattle.task_simple.proofs.CaseLemmas.{change_cases, either, insert_cases}
 use Rattle.task_simple.proofs.DataLemmas.{assigned_is, moved_is, stored_is}
 use Rattle.task_simple.proofs.FoundLemmas.{return_done_is}
+use Rattle.task_simple.proofs.GroupLemmas.{group_settled_is}
 use Rattle.task_loop.specs.Fit.{Fits, IsPlaced}
 
 -- ---- Less is told by one map than by another, of a part of each record
@@ -198,19 +200,20 @@ module _ (c : Component) (s : Core) (fits : Fits c s) where
       fits_keeps c e f (keeps-set_place n place.Running e) in_e
 
   pub fits-exit : (n h : ℕ) → Fits c (exit_done n h s)
-  unfolding exit_done free_thread_handle remove_group
+  unfolding exit_done free_thread_handle
   fits-exit n h =
       let i = instance_of n s in
       let a = set_do_not_enter i false s in
       let b = free_thread_handle i h a in
       let d = remove_thread n b in
       let e = remove_call n d in
-      let f = remove_group n e in
+      let g = call_group n s in
+      let f = record e { groups = (group_settled g e).groups } in
       let in_a = fits_keeps c s a (keeps-set_do_not_enter i false s) fits in
       let in_b = fits_keeps c a b (keeps_same a b refl refl refl) in_a in
       let in_d = fits_keeps c b d (keeps-remove_thread n b) in_b in
       let in_e = fits_keeps c d e (keeps-remove_call n d) in_d in
-      fits_keeps c e f (keeps_same e f refl refl refl) in_e
+      subst (λ x. Fits c x) (sym (group_settled_is g e)) (fits_keeps c e f (keeps_same e f refl refl refl) in_e)
 
   pub fits-trap : (n : ℕ) → Fits c (trap_done n s)
   unfolding trap_done set_trapped
@@ -290,7 +293,7 @@ module _ (c : Component) (s : Core) (plain : IsPlain s) (fits : Fits c s) where
   pub fits-call : (e : Callee) (x : ExportKind) (words : List ℕ) → option_map (λ d. d.kind) (export_at c e) ≡ Some x → Fits c (call_started e x words s)
   unfolding call_started push_high
   fits-call e x words exported =
-      let d = new_call caller.Main e x goal.Main k in
+      let d = new_call caller.Main e x goal.Main (s.made.groups + 1) in
       let t = new_thread k false script.Start (registers_for words) None in
       let b = add_call k d (add_group s) in
       let f = add_thread t b in

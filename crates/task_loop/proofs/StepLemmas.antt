@@ -1,6 +1,6 @@
 -- The steps of the loop are steps of the machine.
 use Rattle.std.proofs.Common.{ap, arith, refl, subst, sym, ◌∙◌}
-use Rattle.std.specs.Prelude.{None, Some, [], false, true, ℕ, ◌≡◌}
+use Rattle.std.specs.Prelude.{None, Some, [], false, true, ℕ, ◌+◌, ◌≡◌}
 use Rattle.task_machine.specs.declared.component.Component.{Component}
 use Rattle.task_machine.specs.declared.label.Label.TheVariants as label
 use Rattle.task_machine.specs.declared.label.LoopLabel.TheVariants as loop_label
@@ -8,6 +8,7 @@ use Rattle.task_machine.specs.declared.op.Op.{Op}
 use Rattle.task_machine.specs.declared.op.Op.TheVariants as op
 use Rattle.task_machine.specs.declared.op.Operand.{Operand}
 use Rattle.task_machine.specs.declared.op.TaskOp.TheVariants as task
+use Rattle.task_machine.specs.declared.records.Made.{Made}
 use Rattle.task_machine.specs.declared.records.Place.TheVariants as place
 use Rattle.task_machine.specs.declared.records.Turn.TheVariants as turn
 use Rattle.task_machine.specs.declared.scenario.IdleLine.TheVariants as idle_line
@@ -17,7 +18,7 @@ use Rattle.task_machine.specs.declared.words.Mark.TheVariants as mark
 use Rattle.task_machine.specs.Core.{Core, Main}
 use Rattle.task_machine.specs.Labels.{exit_label, held_label, ret_label, take_label}
 use Rattle.task_machine.specs.Read.{has_ended, place_of, thread_handle_of}
-use Rattle.task_machine.specs.Write.{free_thread_handle, give_result, give_thread_handle, on_call, on_instance, on_thread, remove_call, remove_group, remove_thread, set_do_not_enter, set_end, set_high, set_how_far, set_place, set_position, set_started, set_starting_published, set_thread_handle, set_trapped}
+use Rattle.task_machine.specs.Write.{give_result, give_thread_handle, on_call, on_instance, on_thread, remove_thread, set_do_not_enter, set_end, set_high, set_how_far, set_place, set_position, set_started, set_starting_published, set_thread_handle, set_trapped}
 use Rattle.task_rules.specs.Data.{moved_to}
 use Rattle.task_rules.specs.Scripts.{op_of, value_of}
 use Rattle.task_rules.specs.Stalled.{Setting, main_pends}
@@ -26,6 +27,7 @@ use Rattle.task_rules.specs.Takes.{popped}
 use Rattle.task_rules.specs.Turns.{at_turn, goes_to}
 use Rattle.task_simple.specs.Forms.{exit_done, return_done, start_done, start_put_off, trap_done}
 use Rattle.task_simple.specs.Simple.{IsPlain, IsSimple}
+use Rattle.task_simple.proofs.FrameLemmas.{made-exit_done}
 use Rattle.task_simple.proofs.StepLemmas.{run_exit, run_exit_early, run_return, run_return_bad, run_return_bad_twice, run_return_twice, take_deadlock_while, take_full, take_put_off, take_start}
 use Rattle.task_loop.specs.declared.step.Phase.TheVariants as phase
 use Rattle.task_state.specs.declared.taken.Taken.{Taken}
@@ -71,8 +73,7 @@ unfolding return_done moved_to set_how_far set_position on_thread give_result se
 given-return n v s = refl
 
 given-exit : (n h : ℕ) (s : Core) → given (exit_done n h s) ≡ given s
-unfolding exit_done set_do_not_enter on_instance free_thread_handle remove_thread remove_call remove_group
-given-exit n h s = refl
+given-exit n h s = ap (λ (m : Made). m.threads + m.works + m.sets + m.groups) (made-exit_done n h s)
 
 given-trap : (n : ℕ) (s : Core) → given (trap_done n s) ≡ given s
 unfolding trap_done set_trapped remove_thread

@@ -1,8 +1,7 @@
 -- How the entries of the resource table and the live handles change with each word, in any state.
-use Rattle.std.proofs.Common.{ap, arith, cond, refl, ◌∙◌}
+use Rattle.std.proofs.Common.{arith, refl}
 use Rattle.std.proofs.lemmas.List.{length-append}
-use Rattle.std.proofs.lemmas.List.Sums.{sum_by-cons}
-use Rattle.std.specs.Prelude.{List, None, Some, [], count_by, filter, length, false, nat_le, not, suc, true, ℕ, ◌+◌, ◌==◌, ◌∷◌, ◌≡◌}
+use Rattle.std.specs.Prelude.{List, None, Some, [], count_by, length, nat_le, ℕ, ◌+◌, ◌==◌, ◌∷◌, ◌≡◌}
 use Rattle.task_machine.specs.declared.records.Call.{Call}
 use Rattle.task_machine.specs.declared.records.Entry.{Entry}
 use Rattle.task_machine.specs.declared.records.Instance.{Instance}
@@ -12,6 +11,7 @@ use Rattle.task_machine.specs.Core.{Core, Table}
 use Rattle.task_machine.specs.Maps.{Records, change, get, size}
 use Rattle.task_machine.specs.Read.{at_handle_limit, fits, live_count, live_in, next_handle, table_use}
 use Rattle.task_machine.specs.Write.{add_call, add_group, add_thread, free_handle, free_thread_handle, give_handle, give_result, give_thread_handle, giving, on_call, on_instance, on_thread, push_high, remove_call, remove_group, remove_thread, set_high, set_trapped, take_result, taking}
+use Rattle.task_simple.proofs.GroupLemmas.{length-less}
 use Rattle.task_simple.proofs.RecordLemmas.{size-change, size-insert_new, size-remove, sum-change}
 
 -- ---- What is asked
@@ -84,19 +84,10 @@ pub table_use-remove_thread : (n : ℕ) (t : Thread) (s : Core) → get s.thread
 unfolding table_use remove_thread
 table_use-remove_thread n t s found = let e = size-remove s.threads n t found in omega arith
 
-left_and_gone : (g : ℕ) (gs : List ℕ) → length (filter (λ h. not (g == h)) gs) + count_by (λ h. g == h) gs ≡ length gs
-left_and_gone g [] = refl
-left_and_gone g (x ∷ gs) =
-    let left = filter (λ h. not (g == h)) gs in
-    let gone = count_by (λ h. g == h) gs in
-    let ih : length left + gone ≡ length gs = left_and_gone g gs in
-    ap (λ z. length (cond (not (g == x)) (x ∷ left) left) + z) (sum_by-cons (λ h. cond (g == h) 1 0) x gs)
-    ∙ elim (g == x) as (λ b. length (cond (not b) (x ∷ left) left) + (cond b 1 0 + gone) ≡ suc (length gs)) [ true ↦ omega arith | false ↦ omega arith ]
-
 -- a group takes one
 pub table_use-remove_group : (g : ℕ) (s : Core) → table_use (remove_group g s) + count_by (λ h. g == h) s.groups ≡ table_use s
 unfolding table_use remove_group
-table_use-remove_group g s = let e = left_and_gone g s.groups in omega arith
+table_use-remove_group g s = let e = length-less g s.groups in omega arith
 
 -- all groups are finished by a trap
 pub table_use-set_trapped : (s : Core) → table_use (set_trapped s) + length s.groups ≡ table_use s

@@ -17,6 +17,7 @@ use Rattle.task_simple.specs.Simple.{IsPlain, IsSimple, IsSimpleInstance, IsSimp
 use Rattle.task_simple.proofs.CaseLemmas.{change-same, change_cases, either, get_changed, is_some-change}
 use Rattle.task_simple.proofs.MoveLemmas.{Moves, plain_moves}
 use Rattle.task_simple.proofs.QueueLemmas.{simple_still}
+use Rattle.task_simple.proofs.ReadLemmas.{begun_here}
 use Rattle.task_simple.proofs.SimpleLemmas.{call_there, thread_there}
 
 -- a simple state in which this thread runs
@@ -49,6 +50,7 @@ module _ (n : ℕ) (s : Core) (now : Running n s) (f : Thread → Thread) (spare
       callee_same = sym (ap (λ o. option_map_or (λ c. c.callee) o no_callee) there);
       thread_simple = spares.spared n t (plain.threads n t found);
       call_simple = plain.calls n c there;
+      mains = plain.begun n c there (begun_here s plain n t found (λ new. let e : place.Running ≡ place.New = sym at ∙ new in cc));
       instance_there = plain.instance_there n c there;
       table_there = plain.table_there n c there;
       made_same = refl;
@@ -60,7 +62,7 @@ module _ (n : ℕ) (s : Core) (now : Running n s) (f : Thread → Thread) (spare
       low_same = refl;
       groups_same = refl;
       trapped_same = refl;
-      numbers_same = refl;
+      grouped_same = λ g. refl;
       results = plain.results;
       instances = plain.instances;
       instance_kept = λ i h. h;
@@ -151,6 +153,7 @@ module _ (n i w v : ℕ) (s : Core) (now : Running n s) where
     threads = old.threads;
     no_callers = old.no_callers;
     calls = old.calls;
+    begun = old.begun;
     called = old.called;
     no_works = old.no_works;
     no_sets = old.no_sets;
@@ -167,7 +170,6 @@ module _ (n i w v : ℕ) (s : Core) (now : Running n s) where
     named = old.named;
     groups_open = old.groups_open;
     groups_trapped = old.groups_trapped;
-    as_many = old.as_many;
     results = old.results;
   }
 

@@ -1,16 +1,23 @@
 -- What the moves of simple states leave alone.
-use Rattle.std.proofs.Common.{refl}
-use Rattle.std.specs.Prelude.{List, true, ℕ, ◌++◌, ◌+◌, ◌∷◌, [], ◌≡◌}
+use Rattle.std.proofs.Common.{ap, refl}
+use Rattle.std.specs.Prelude.{List, None, Some, false, replicate, true, ℕ, ◌++◌, ◌+◌, ◌∷◌, [], ◌≡◌, ◌≢◌}
 use Rattle.task_machine.specs.declared.component.Callee.{Callee}
 use Rattle.task_machine.specs.declared.component.ExportKind.{ExportKind}
+use Rattle.task_machine.specs.declared.records.Caller.{Caller}
 use Rattle.task_machine.specs.declared.records.Entry.TheVariants as entry
+use Rattle.task_machine.specs.declared.records.Goal.TheVariants as goal
+use Rattle.task_machine.specs.declared.records.Script.TheVariants as script
 use Rattle.task_machine.specs.declared.words.Mark.TheVariants as mark
 use Rattle.task_machine.specs.Core.{Core}
+use Rattle.task_machine.specs.Maps.{get}
 use Rattle.task_machine.specs.Read.{at_handle_limit, has_ended, instance_of, live_count, may_not_enter, place_of, position_of, registers_of, task_of, thread_handle_of}
-use Rattle.task_machine.specs.Write.{add_call, add_group, add_thread, free_thread_handle, give_result, give_thread_handle, on_call, on_instance, on_thread, push_high, remove_call, remove_group, remove_thread, set_do_not_enter, set_end, set_high, set_how_far, set_place, set_position, set_started, set_starting_published, set_thread_handle, set_trapped}
+use Rattle.task_machine.specs.Write.{add_call, add_group, add_thread, free_thread_handle, give_result, give_thread_handle, on_call, on_instance, on_thread, push_high, remove_call, remove_thread, set_do_not_enter, set_end, set_high, set_how_far, set_place, set_position, set_started, set_starting_published, set_thread_handle, set_trapped}
+use Rattle.task_machine.proofs.MapLemmas.{get-insert_other, get-insert_same}
+use Rattle.task_rules.specs.Calls.{call_made, new_call, new_thread}
 use Rattle.task_rules.specs.Data.{moved_to}
 use Rattle.task_rules.specs.Takes.{popped}
-use Rattle.task_simple.specs.Forms.{call_started, exit_done, return_done, start_done, start_put_off, trap_done}
+use Rattle.task_simple.specs.Forms.{call_started, exit_done, return_done, start_done, start_put_off, task_made, trap_done}
+use Rattle.task_simple.proofs.EndLemmas.{exit_is}
 
 -- ---- call_started
 
@@ -33,6 +40,86 @@ works-call_started e x words s = refl
 pub sets-call_started : (e : Callee) (x : ExportKind) (words : List ℕ) (s : Core) → (call_started e x words s).sets ≡ s.sets
 unfolding call_started push_high set_place on_thread add_thread add_call add_group
 sets-call_started e x words s = refl
+
+-- ---- task_made
+
+pub trapped-task_made : (f : Caller) (x : ExportKind) (i g : ℕ) (s : Core) → (task_made f x i g s).trapped ≡ s.trapped
+unfolding task_made call_made add_thread add_call
+trapped-task_made f x i g s = refl
+
+pub results-task_made : (f : Caller) (x : ExportKind) (i g : ℕ) (s : Core) → (task_made f x i g s).results ≡ s.results
+unfolding task_made call_made add_thread add_call
+results-task_made f x i g s = refl
+
+pub groups-task_made : (f : Caller) (x : ExportKind) (i g : ℕ) (s : Core) → (task_made f x i g s).groups ≡ s.groups
+unfolding task_made call_made add_thread add_call
+groups-task_made f x i g s = refl
+
+pub high-task_made : (f : Caller) (x : ExportKind) (i g : ℕ) (s : Core) → (task_made f x i g s).queues.high ≡ s.queues.high
+unfolding task_made call_made add_thread add_call
+high-task_made f x i g s = refl
+
+pub handles-task_made : (f : Caller) (x : ExportKind) (i g : ℕ) (s : Core) → (task_made f x i g s).handles ≡ s.handles
+unfolding task_made call_made add_thread add_call
+handles-task_made f x i g s = refl
+
+pub thread_handles-task_made : (f : Caller) (x : ExportKind) (i g : ℕ) (s : Core) → (task_made f x i g s).thread_handles ≡ s.thread_handles
+unfolding task_made call_made add_thread add_call
+thread_handles-task_made f x i g s = refl
+
+pub instances-task_made : (f : Caller) (x : ExportKind) (i g : ℕ) (s : Core) → (task_made f x i g s).instances ≡ s.instances
+unfolding task_made call_made add_thread add_call
+instances-task_made f x i g s = refl
+
+pub works-task_made : (f : Caller) (x : ExportKind) (i g : ℕ) (s : Core) → (task_made f x i g s).works ≡ s.works
+unfolding task_made call_made add_thread add_call
+works-task_made f x i g s = refl
+
+pub sets-task_made : (f : Caller) (x : ExportKind) (i g : ℕ) (s : Core) → (task_made f x i g s).sets ≡ s.sets
+unfolding task_made call_made add_thread add_call
+sets-task_made f x i g s = refl
+
+pub threads_made-task_made : (f : Caller) (x : ExportKind) (i g : ℕ) (s : Core) → (task_made f x i g s).made.threads ≡ s.made.threads + 1
+unfolding task_made call_made add_thread add_call
+threads_made-task_made f x i g s = refl
+
+pub groups_made-task_made : (f : Caller) (x : ExportKind) (i g : ℕ) (s : Core) → (task_made f x i g s).made.groups ≡ s.made.groups
+unfolding task_made call_made add_thread add_call
+groups_made-task_made f x i g s = refl
+
+pub threads_made-task_alone : (f : Caller) (x : ExportKind) (i g : ℕ) (s : Core) → (task_made f x i g (add_group s)).made.threads ≡ s.made.threads + 1
+unfolding task_made call_made add_thread add_call add_group
+threads_made-task_alone f x i g s = refl
+
+pub groups_made-task_alone : (f : Caller) (x : ExportKind) (i g : ℕ) (s : Core) → (task_made f x i g (add_group s)).made.groups ≡ s.made.groups + 1
+unfolding task_made call_made add_thread add_call add_group
+groups_made-task_alone f x i g s = refl
+
+pub groups-task_alone : (f : Caller) (x : ExportKind) (i g : ℕ) (s : Core) → (task_made f x i g (add_group s)).groups ≡ s.groups ++ (s.made.groups + 1) ∷ []
+unfolding task_made call_made add_thread add_call add_group
+groups-task_alone f x i g s = refl
+
+pub high-task_alone : (f : Caller) (x : ExportKind) (i g : ℕ) (s : Core) → (task_made f x i g (add_group s)).queues.high ≡ s.queues.high
+unfolding task_made call_made add_thread add_call add_group
+high-task_alone f x i g s = refl
+
+-- its records, and the others
+
+pub thread-task_made : (f : Caller) (x : ExportKind) (i g : ℕ) (s : Core) → get (task_made f x i g s).threads (s.made.threads + 1) ≡ Some (new_thread (s.made.threads + 1) false script.Start (replicate 16 0) None)
+unfolding task_made call_made add_thread add_call
+thread-task_made f x i g s = get-insert_same s.threads (s.made.threads + 1) (new_thread (s.made.threads + 1) false script.Start (replicate 16 0) None)
+
+pub call-task_made : (f : Caller) (x : ExportKind) (i g : ℕ) (s : Core) → get (task_made f x i g s).calls (s.made.threads + 1) ≡ Some (new_call f (record { instance = i; export = 0 }) x goal.Nowhere g)
+unfolding task_made call_made add_thread add_call
+call-task_made f x i g s = get-insert_same s.calls (s.made.threads + 1) (new_call f (record { instance = i; export = 0 }) x goal.Nowhere g)
+
+pub other_threads-task_made : (f : Caller) (x : ExportKind) (i g : ℕ) (s : Core) (q : ℕ) → q ≢ s.made.threads + 1 → get (task_made f x i g s).threads q ≡ get s.threads q
+unfolding task_made call_made add_thread add_call
+other_threads-task_made f x i g s q ne = get-insert_other s.threads (s.made.threads + 1) _ q ne
+
+pub other_calls-task_made : (f : Caller) (x : ExportKind) (i g : ℕ) (s : Core) (q : ℕ) → q ≢ s.made.threads + 1 → get (task_made f x i g s).calls q ≡ get s.calls q
+unfolding task_made call_made add_thread add_call
+other_calls-task_made f x i g s q ne = get-insert_other s.calls (s.made.threads + 1) _ q ne
 
 -- ---- start_put_off
 
@@ -135,32 +222,32 @@ sets-return_done n v s = refl
 -- ---- exit_done
 
 pub made-exit_done : (n h : ℕ) (s : Core) → (exit_done n h s).made ≡ s.made
-unfolding exit_done remove_group remove_call remove_thread free_thread_handle set_do_not_enter on_instance
-made-exit_done n h s = refl
+unfolding remove_call remove_thread free_thread_handle set_do_not_enter on_instance
+made-exit_done n h s = ap (λ x. x.made) (exit_is n h s)
 
 pub trapped-exit_done : (n h : ℕ) (s : Core) → (exit_done n h s).trapped ≡ s.trapped
-unfolding exit_done remove_group remove_call remove_thread free_thread_handle set_do_not_enter on_instance
-trapped-exit_done n h s = refl
+unfolding remove_call remove_thread free_thread_handle set_do_not_enter on_instance
+trapped-exit_done n h s = ap (λ x. x.trapped) (exit_is n h s)
 
 pub results-exit_done : (n h : ℕ) (s : Core) → (exit_done n h s).results ≡ s.results
-unfolding exit_done remove_group remove_call remove_thread free_thread_handle set_do_not_enter on_instance
-results-exit_done n h s = refl
+unfolding remove_call remove_thread free_thread_handle set_do_not_enter on_instance
+results-exit_done n h s = ap (λ x. x.results) (exit_is n h s)
 
 pub high-exit_done : (n h : ℕ) (s : Core) → (exit_done n h s).queues.high ≡ s.queues.high
-unfolding exit_done remove_group remove_call remove_thread free_thread_handle set_do_not_enter on_instance
-high-exit_done n h s = refl
+unfolding remove_call remove_thread free_thread_handle set_do_not_enter on_instance
+high-exit_done n h s = ap (λ x. x.queues.high) (exit_is n h s)
 
 pub handles-exit_done : (n h : ℕ) (s : Core) → (exit_done n h s).handles ≡ s.handles
-unfolding exit_done remove_group remove_call remove_thread free_thread_handle set_do_not_enter on_instance
-handles-exit_done n h s = refl
+unfolding remove_call remove_thread free_thread_handle set_do_not_enter on_instance
+handles-exit_done n h s = ap (λ x. x.handles) (exit_is n h s)
 
 pub works-exit_done : (n h : ℕ) (s : Core) → (exit_done n h s).works ≡ s.works
-unfolding exit_done remove_group remove_call remove_thread free_thread_handle set_do_not_enter on_instance
-works-exit_done n h s = refl
+unfolding remove_call remove_thread free_thread_handle set_do_not_enter on_instance
+works-exit_done n h s = ap (λ x. x.works) (exit_is n h s)
 
 pub sets-exit_done : (n h : ℕ) (s : Core) → (exit_done n h s).sets ≡ s.sets
-unfolding exit_done remove_group remove_call remove_thread free_thread_handle set_do_not_enter on_instance
-sets-exit_done n h s = refl
+unfolding remove_call remove_thread free_thread_handle set_do_not_enter on_instance
+sets-exit_done n h s = ap (λ x. x.sets) (exit_is n h s)
 
 -- ---- trap_done
 
@@ -273,4 +360,6 @@ pub trapped_then : (n : ℕ) (s : Core) → (trap_done n s).trapped ≡ true
 unfolding trap_done remove_thread set_trapped
 trapped_then n s = refl
 
-pub ruleset frames = (trapped-call_started, results-call_started, handles-call_started, works-call_started, sets-call_started, made-start_put_off, trapped-start_put_off, results-start_put_off, groups-start_put_off, high-start_put_off, handles-start_put_off, works-start_put_off, sets-start_put_off, made-start_done, trapped-start_done, results-start_done, groups-start_done, high-start_done, handles-start_done, works-start_done, sets-start_done, made-return_done, trapped-return_done, groups-return_done, high-return_done, handles-return_done, works-return_done, sets-return_done, made-exit_done, trapped-exit_done, results-exit_done, high-exit_done, handles-exit_done, works-exit_done, sets-exit_done, made-trap_done, results-trap_done, high-trap_done, handles-trap_done, works-trap_done, sets-trap_done, made-popped_high, trapped-popped_high, results-popped_high, groups-popped_high, handles-popped_high, works-popped_high, sets-popped_high, place_of-popped_high, task_of-popped_high, has_ended-popped_high, instance_of-popped_high, thread_handle_of-popped_high, position_of-popped_high, registers_of-popped_high, may_not_enter-popped_high, at_handle_limit-popped_high, threads_made, groups_made, high_then, trapped_then)
+pub ruleset frames = (trapped-call_started, results-call_started, handles-call_started, works-call_started, sets-call_started, trapped-task_made, results-task_made, groups-task_made, high-task_made, handles-task_made, thread_handles-task_made, instances-task_made, works-task_made, sets-task_made, threads_made-task_made, groups_made-task_made, threads_made-task_alone, groups_made-task_alone, groups-task_alone, high-task_alone, made-start_put_off, trapped-start_put_off, results-start_put_off, groups-start_put_off, high-start_put_off, handles-start_put_off, works-start_put_off, sets-start_put_off, made-start_done, trapped-start_done, results-start_done, groups-start_done, high-start_done, handles-start_done, works-start_done, sets-start_done, made-return_done, trapped-return_done, groups-return_done, high-return_done, handles-return_done, works-return_done, sets-return_done, made-exit_done, trapped-exit_done, results-exit_done, high-exit_done, handles-exit_done, works-exit_done, sets-exit_done, made-trap_done, results-trap_done, high-trap_done, handles-trap_done, works-trap_done, sets-trap_done, made-popped_high, trapped-popped_high, results-popped_high, groups-popped_high, handles-popped_high, works-popped_high, sets-popped_high, place_of-popped_high, task_of-popped_high, has_ended-popped_high, instance_of-popped_high, thread_handle_of-popped_high, position_of-popped_high, registers_of-popped_high, may_not_enter-popped_high, at_handle_limit-popped_high, threads_made, groups_made, high_then, trapped_then)
+
+pub ruleset task_records = (thread-task_made, call-task_made, other_threads-task_made, other_calls-task_made)

@@ -3,6 +3,7 @@ pub mod ReadLemmas
 pub mod RowLemmas
 pub mod CountLemmas
 pub mod TableLemmas
+pub mod GroupLemmas
 pub mod CaseLemmas
 pub mod MoveLemmas
 pub mod QueueLemmas

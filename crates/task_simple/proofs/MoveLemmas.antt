@@ -1,15 +1,15 @@
 -- A move that changes the records of one thread and of its call, and what goes with them, leads from a plain state to a plain one.
-use Rattle.std.proofs.Common.{ap, subst, sym, ◌∙◌}
+use Rattle.std.proofs.Common.{ap, cond, subst, sym, ◌∙◌}
 use Rattle.std.specs.Option.{option_map_or}
-use Rattle.std.specs.Prelude.{Some, [], is_some, true, ℕ, ◌≡◌, ◌≢◌, ◌≤◌}
+use Rattle.std.specs.Prelude.{Some, [], count_by, is_some, option_map, true, ℕ, ◌==◌, ◌≡◌, ◌≢◌, ◌≤◌}
 use Rattle.task_machine.specs.declared.records.Call.{Call}
 use Rattle.task_machine.specs.declared.records.Instance.{Instance}
 use Rattle.task_machine.specs.declared.records.Place.TheVariants as place
 use Rattle.task_machine.specs.declared.records.Thread.{Thread}
 use Rattle.task_machine.specs.Core.{Core, Table}
-use Rattle.task_machine.specs.Maps.{get, numbers}
+use Rattle.task_machine.specs.Maps.{get}
 use Rattle.task_machine.specs.Read.{call_instance, callee_of, may_not_enter, no_callee, thread_at}
-use Rattle.task_simple.specs.Simple.{IsPlain, IsSimpleCall, IsSimpleInstance, IsSimpleThread, IsTable, held_start}
+use Rattle.task_simple.specs.Simple.{IsMains, IsPlain, IsSimpleCall, IsSimpleInstance, IsSimpleThread, IsTable, has_call, held_start}
 use Rattle.task_simple.proofs.CaseLemmas.{either}
 
 -- From s to x the thread n and its call have come to be t and c.
@@ -20,7 +20,8 @@ pub record Moves (s x : Core) (n : ℕ) (t : Thread) (c : Call) : Type 0 where
   pub call_else : (q : ℕ) → q ≢ n → get x.calls q ≡ get s.calls q
   pub callee_same : c.callee ≡ callee_of n s
   pub thread_simple : IsSimpleThread n t
-  pub call_simple : IsSimpleCall s.made.threads n c
+  pub call_simple : IsSimpleCall s.made n c
+  pub mains : IsMains c
   pub instance_there : is_some (get x.instances c.callee.instance) ≡ true
   pub table_there : is_some (get x.thread_handles c.callee.instance) ≡ true
   pub made_same : x.made ≡ s.made
@@ -32,7 +33,7 @@ pub record Moves (s x : Core) (n : ℕ) (t : Thread) (c : Call) : Type 0 where
   pub low_same : x.queues.low ≡ s.queues.low
   pub groups_same : x.groups ≡ s.groups
   pub trapped_same : x.trapped ≡ s.trapped
-  pub numbers_same : numbers x.calls ≡ numbers s.calls
+  pub grouped_same : (g : ℕ) → has_call g x ≡ has_call g s
   pub results : (k v : ℕ) → get x.results k ≡ Some v → k ≤ x.made.threads
   pub instances : (i : ℕ) (r : Instance) → get x.instances i ≡ Some r → IsSimpleInstance r
   pub instance_kept : (i : ℕ) → is_some (get s.instances i) ≡ true → is_some (get x.instances i) ≡ true
@@ -62,9 +63,6 @@ module _ (s x : Core) (n : ℕ) (t : Thread) (c : Call) (plain : IsPlain s) (m :
   instance_kept : (q : ℕ) → call_instance q x ≡ call_instance q s
   instance_kept q = ap (λ f. f.instance) (callee_kept q)
 
-  made_still : x.made.threads ≡ s.made.threads
-  made_still = ap (λ a. a.threads) m.made_same
-
   called_still : (q : ℕ) → is_some (get s.calls q) ≡ true → is_some (get x.calls q) ≡ true
   called_still q there = either q n
       (λ e. ap (λ k. is_some (get x.calls k)) e ∙ ap is_some m.call_now)
@@ -74,7 +72,8 @@ module _ (s x : Core) (n : ℕ) (t : Thread) (c : Call) (plain : IsPlain s) (m :
   plain_moves = record {
     threads = λ q u is. thread_cases q u is (λ e same. subst (λ k. IsSimpleThread k u) (sym e) (subst (IsSimpleThread n) (sym same) m.thread_simple)) (λ ne found. plain.threads q u found);
     no_callers = λ q u is. ap (λ w. get w q) m.callers_same ∙ thread_cases q u is (λ e same. ap (get s.callers) e ∙ m.callers_there) (λ ne found. plain.no_callers q u found);
-    calls = λ q d is. subst (λ last. IsSimpleCall last q d) (sym made_still) (call_cases q d is (λ e same. subst (λ k. IsSimpleCall s.made.threads k d) (sym e) (subst (IsSimpleCall s.made.threads n) (sym same) m.call_simple)) (λ ne found. plain.calls q d found));
+    calls = λ q d is. subst (λ all. IsSimpleCall all q d) (sym m.made_same) (call_cases q d is (λ e same. subst (λ k. IsSimpleCall s.made k d) (sym e) (subst (IsSimpleCall s.made n) (sym same) m.call_simple)) (λ ne found. plain.calls q d found));
+    begun = λ q d is here. call_cases q d is (λ e same. subst IsMains (sym same) m.mains) (λ ne found. plain.begun q d found (λ new. here (ap (option_map (λ t. t.place)) (m.thread_else q ne) ∙ new)));
     called = λ q u is. thread_cases q u is (λ e same. ap (λ k. is_some (get x.calls k)) e ∙ ap is_some m.call_now) (λ ne found. called_still q (plain.called q u found));
     no_works = m.works_same ∙ plain.no_works;
     no_sets = m.sets_same ∙ plain.no_sets;
@@ -108,8 +107,7 @@ module _ (s x : Core) (n : ℕ) (t : Thread) (c : Call) (plain : IsPlain s) (m :
         ∙ thread_cases q u is
         (λ e same. ap (λ k. thread_at (call_instance k s) h x) e ∙ m.named_now h (sym (ap (λ (y : Thread). y.handle) same) ∙ has) ∙ ap (λ k. Some k) (sym e))
         (λ ne found. m.names_kept _ h q (plain.named q h u found has));
-    groups_open = λ untrapped. m.groups_same ∙ plain.groups_open (sym m.trapped_same ∙ untrapped) ∙ sym m.numbers_same;
+    groups_open = λ untrapped g. ap (λ gs. count_by (λ h. g == h) gs) m.groups_same ∙ plain.groups_open (sym m.trapped_same ∙ untrapped) g ∙ ap (λ b. cond b 1 0) (sym (m.grouped_same g));
     groups_trapped = λ shut. m.groups_same ∙ plain.groups_trapped (sym m.trapped_same ∙ shut);
-    as_many = ap (λ a. a.threads) m.made_same ∙ plain.as_many ∙ sym (ap (λ a. a.groups) m.made_same);
     results = m.results;
   }

@@ -2,7 +2,7 @@
 use Rattle.std.proofs.Common.{ap, arith, refl, subst, sym}
 use Rattle.std.specs.Prelude.{None, Some, option_map, suc, zero, ℕ, ◌≡◌}
 use Rattle.task_machine.specs.Core.{filled, fresh, no_handles, untouched}
-use Rattle.task_machine.specs.Maps.{empty, get, get-empty, numbers}
+use Rattle.task_machine.specs.Maps.{empty, get, get-empty}
 use Rattle.task_simple.specs.Simple.{IsPlain, IsSimple, IsSimpleInstance, IsTable, NoneRuns, stands}
 use Rattle.task_simple.proofs.CaseLemmas.{insert_cases}
 
@@ -22,11 +22,12 @@ no_handles_table = record {
 }
 
 pub fresh_plain : (instances limit capacity : ℕ) → IsPlain (fresh instances limit capacity)
-unfolding fresh numbers empty
+unfolding fresh empty
 fresh_plain instances limit capacity = record {
   threads = λ n t is. absurd (nothing_in n t is);
   no_callers = λ n t is. absurd (nothing_in n t is);
   calls = λ k c is. absurd (nothing_in k c is);
+  begun = λ k c is. absurd (nothing_in k c is);
   called = λ n t is. absurd (nothing_in n t is);
   no_works = refl;
   no_sets = refl;
@@ -41,9 +42,8 @@ fresh_plain instances limit capacity = record {
   no_handles = λ i t is. ap (λ t. t.live) (filled_with no_handles instances i t is);
   tables = λ i t is. subst IsTable (sym (filled_with no_handles instances i t is)) no_handles_table;
   named = λ n h t is. absurd (nothing_in n t is);
-  groups_open = λ _. refl;
+  groups_open = λ _ g. refl;
   groups_trapped = λ _. refl;
-  as_many = refl;
   results = λ k v is. absurd (nothing_in k v is);
 }
 

@@ -61,6 +61,7 @@ plain_popped s plain = record {
   threads = plain.threads;
   no_callers = plain.no_callers;
   calls = plain.calls;
+  begun = plain.begun;
   called = plain.called;
   no_works = plain.no_works;
   no_sets = plain.no_sets;
@@ -77,7 +78,6 @@ plain_popped s plain = record {
   named = plain.named;
   groups_open = plain.groups_open;
   groups_trapped = plain.groups_trapped;
-  as_many = plain.as_many;
   results = plain.results;
 }
 
@@ -93,7 +93,8 @@ zero_one k e = omega arith
 stands_ready : (t : Thread) (k : ℕ) → IsSimplePlace t.place → 1 + k ≡ stands (Some t.place) → t.place ≡ ready_start
 stands_ready t k (inl e) is = e
 stands_ready t k (inr (inl e)) is = absurd (zero_one k (is ∙ ap (λ p. stands (Some p)) e))
-stands_ready t k (inr (inr e)) is = absurd (zero_one k (is ∙ ap (λ p. stands (Some p)) e))
+stands_ready t k (inr (inr (inl e))) is = absurd (zero_one k (is ∙ ap (λ p. stands (Some p)) e))
+stands_ready t k (inr (inr (inr e))) is = absurd (zero_one k (is ∙ ap (λ p. stands (Some p)) e))
 
 module _ (s : Core) (simple : IsSimple s) (n : ℕ) (es : List Entry) (first : s.queues.high ≡ entry.Thread n ∷ es) where
   counted : (q : ℕ) → entries_of q (entry.Thread n ∷ es) ≡ stands (place_of q s)

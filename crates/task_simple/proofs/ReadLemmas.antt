@@ -32,11 +32,12 @@ use Rattle.task_simple.specs.Simple.{IsPlain, IsSimplePlace, held_start, ready_s
 use Rattle.task_simple.proofs.CaseLemmas.{insert-same}
 use Rattle.task_simple.proofs.RecordLemmas.{any_none, any_one, filter_none, find_number_none}
 
--- what holds of the three places holds of each simple one
-pub at_each_place : (P : Place → Type 0) → P ready_start → P place.Running → P held_start → (p : Place) → IsSimplePlace p → P p
-at_each_place P a b c p (inl e) = subst P (sym e) a
-at_each_place P a b c p (inr (inl e)) = subst P (sym e) b
-at_each_place P a b c p (inr (inr e)) = subst P (sym e) c
+-- what holds of the four places holds of each simple one
+pub at_each_place : (P : Place → Type 0) → P ready_start → P place.Running → P held_start → P place.New → (p : Place) → IsSimplePlace p → P p
+at_each_place P a b c d p (inl e) = subst P (sym e) a
+at_each_place P a b c d p (inr (inl e)) = subst P (sym e) b
+at_each_place P a b c d p (inr (inr (inl e))) = subst P (sym e) c
+at_each_place P a b c d p (inr (inr (inr e))) = subst P (sym e) d
 
 -- a strand on which nobody waits stops
 pub stopped_where : (n : ℕ) (s : Core) → s.queues.switch ≡ None → get s.callers n ≡ Some [] → stopped n s ≡ s
@@ -57,7 +58,7 @@ module _ (s : Core) (plain : IsPlain s) where
   under_of_none n =
       find_number_none s.threads (λ q. is_at q s (is_under n)) (λ q t is.
       ap (λ o. option_map_or (is_under n) (option_map (λ t. t.place) o) false) is
-      ∙ at_each_place (λ p. is_under n p ≡ false) refl refl refl t.place (plain.threads q t is).placed)
+      ∙ at_each_place (λ p. is_under n p ≡ false) refl refl refl refl t.place (plain.threads q t is).placed)
 
   foot_is : (k n : ℕ) → foot_from k s n ≡ n
   foot_is zero n = refl
@@ -114,40 +115,40 @@ module _ (s : Core) (plain : IsPlain s) where
 
   -- ---- Calls
 
-  kind_is : (k : ℕ) (o : Option Call) → get s.calls k ≡ o → option_map_or (λ c. c.kind) o kind.Callback ≡ kind.Callback
-  kind_is k None is = refl
-  kind_is k (Some c) is = (plain.calls k c is).called_back
+  kind_is : (k : ℕ) (o : Option Call) → get s.calls k ≡ o → place_of k s ≢ Some place.New → option_map_or (λ c. c.kind) o kind.Callback ≡ kind.Callback
+  kind_is k None is begun = refl
+  kind_is k (Some c) is begun = (plain.begun k c is begun).called_back
 
-  pub kind_of_is : (k : ℕ) → kind_of k s ≡ kind.Callback
-  kind_of_is k = kind_is k (get s.calls k) refl
+  pub kind_of_is : (k : ℕ) → place_of k s ≢ Some place.New → kind_of k s ≡ kind.Callback
+  kind_of_is k begun = kind_is k (get s.calls k) refl begun
 
-  caller_is : (k : ℕ) (o : Option Call) → get s.calls k ≡ o → option_map_or (λ c. c.caller) o caller.Main ≡ caller.Main
-  caller_is k None is = refl
-  caller_is k (Some c) is = (plain.calls k c is).by_main
+  caller_is : (k : ℕ) (o : Option Call) → get s.calls k ≡ o → place_of k s ≢ Some place.New → option_map_or (λ c. c.caller) o caller.Main ≡ caller.Main
+  caller_is k None is begun = refl
+  caller_is k (Some c) is begun = (plain.begun k c is begun).by_main
 
-  pub caller_of_is : (k : ℕ) → caller_of k s ≡ caller.Main
-  caller_of_is k = caller_is k (get s.calls k) refl
+  pub caller_of_is : (k : ℕ) → place_of k s ≢ Some place.New → caller_of k s ≡ caller.Main
+  caller_of_is k begun = caller_is k (get s.calls k) refl begun
 
-  direct_is : (k : ℕ) (o : Option Call) → get s.calls k ≡ o → is_direct (option_map_or (λ c. c.goal) o goal.Nowhere) ≡ false
-  direct_is k None is = refl
-  direct_is k (Some c) is = ap is_direct (plain.calls k c is).to_main
+  direct_is : (k : ℕ) (o : Option Call) → get s.calls k ≡ o → place_of k s ≢ Some place.New → is_direct (option_map_or (λ c. c.goal) o goal.Nowhere) ≡ false
+  direct_is k None is begun = refl
+  direct_is k (Some c) is begun = ap is_direct (plain.begun k c is begun).to_main
 
-  pub is_direct_not : (k : ℕ) → is_direct (goal_of k s) ≡ false
-  is_direct_not k = direct_is k (get s.calls k) refl
+  pub is_direct_not : (k : ℕ) → place_of k s ≢ Some place.New → is_direct (goal_of k s) ≡ false
+  is_direct_not k begun = direct_is k (get s.calls k) refl begun
 
-  pub goal_of_is : (k : ℕ) (c : Call) → get s.calls k ≡ Some c → goal_of k s ≡ goal.Main
-  goal_of_is k c is = ap (λ o. option_map_or (λ c. c.goal) o goal.Nowhere) is ∙ (plain.calls k c is).to_main
+  pub goal_of_is : (k : ℕ) (c : Call) → get s.calls k ≡ Some c → place_of k s ≢ Some place.New → goal_of k s ≡ goal.Main
+  goal_of_is k c is begun = ap (λ o. option_map_or (λ c. c.goal) o goal.Nowhere) is ∙ (plain.begun k c is begun).to_main
 
-  pub is_told_not : (k : ℕ) → is_told k s ≡ false
-  is_told_not k = rw (caller_of_is k) refl
+  pub is_told_not : (k : ℕ) → place_of k s ≢ Some place.New → is_told k s ≡ false
+  is_told_not k begun = rw (caller_of_is k begun) refl
 
-  pub told_is : (k : ℕ) (e : Status) (w : Option ℕ) → told k e w s ≡ s
+  pub told_is : (k : ℕ) (e : Status) (w : Option ℕ) → place_of k s ≢ Some place.New → told k e w s ≡ s
   unfolding told
-  told_is k e w = rw (caller_of_is k) refl
+  told_is k e w begun = rw (caller_of_is k begun) refl
 
-  pub may_tell_is : (k : ℕ) (w : Option ℕ) → may_tell k w s ≡ is_none w
+  pub may_tell_is : (k : ℕ) (w : Option ℕ) → place_of k s ≢ Some place.New → may_tell k w s ≡ is_none w
   unfolding may_tell
-  may_tell_is k w = rw (caller_of_is k) refl
+  may_tell_is k w begun = rw (caller_of_is k begun) refl
 
   -- ---- Threads
 
@@ -164,8 +165,23 @@ module _ (s : Core) (plain : IsPlain s) where
   pub instance_of_is : (n : ℕ) (t : Thread) → get s.threads n ≡ Some t → instance_of n s ≡ call_instance n s
   instance_of_is n t is = ap (λ k. call_instance k s) (task_of_is n t is)
 
-  pub admits_start : (n : ℕ) → admits n s why.Start ≡ not (may_not_enter (instance_of n s) s)
-  admits_start n = rw (is_explicit_not n, kind_of_is (task_of n s), no_backpressure (instance_of n s)) (and_true _)
+  -- a thread that is there and isn't New
+  pub begun_here : (n : ℕ) (t : Thread) → get s.threads n ≡ Some t → t.place ≢ place.New → place_of n s ≢ Some place.New
+  begun_here n t is ne new = ne (let a = ap (option_map (λ t. t.place)) is in cc)
+
+  kind_of_none : (o : Option Call) → get s.calls 0 ≡ o → option_map_or (λ c. c.kind) o kind.Callback ≡ kind.Callback
+  kind_of_none None is = refl
+  kind_of_none (Some c) is = absurd (let p = (plain.calls 0 c is).positive in omega arith)
+
+  kind_of_thread : (n : ℕ) (o : Option Thread) → get s.threads n ≡ o → place_of n s ≢ Some place.New → kind_of (option_map_or (λ t. t.call) o 0) s ≡ kind.Callback
+  kind_of_thread n None is begun = kind_of_none (get s.calls 0) refl
+  kind_of_thread n (Some t) is begun = ap (λ k. kind_of k s) (plain.threads n t is).of_itself ∙ kind_of_is n begun
+
+  pub kind_of_task : (n : ℕ) → place_of n s ≢ Some place.New → kind_of (task_of n s) s ≡ kind.Callback
+  kind_of_task n begun = kind_of_thread n (get s.threads n) refl begun
+
+  pub admits_start : (n : ℕ) → place_of n s ≢ Some place.New → admits n s why.Start ≡ not (may_not_enter (instance_of n s) s)
+  admits_start n begun = rw (is_explicit_not n, kind_of_task n begun, no_backpressure (instance_of n s)) (and_true _)
 
   both_not : (a b : ℕ) → ((a == b) && not (a == b)) ≡ false
   both_not a b = go (a == b)
@@ -186,7 +202,8 @@ module _ (s : Core) (plain : IsPlain s) where
   held_admitted_not : (i q : ℕ) (p : Place) (m : Core) → IsSimplePlace p → (p ≡ held_start → instance_of q m ≢ i) → is_held_admitted i m q (held_why p) ≡ false
   held_admitted_not i q p m (inl e) h = ap (λ p. is_held_admitted i m q (held_why p)) e
   held_admitted_not i q p m (inr (inl e)) h = ap (λ p. is_held_admitted i m q (held_why p)) e
-  held_admitted_not i q p m (inr (inr e)) h = ap (λ p. is_held_admitted i m q (held_why p)) e ∙ ap (λ b. b && admits q m why.Start) (ne_eqb (instance_of q m) i (h e))
+  held_admitted_not i q p m (inr (inr (inl e))) h = ap (λ p. is_held_admitted i m q (held_why p)) e ∙ ap (λ b. b && admits q m why.Start) (ne_eqb (instance_of q m) i (h e))
+  held_admitted_not i q p m (inr (inr (inr e))) h = ap (λ p. is_held_admitted i m q (held_why p)) e
 
   -- where nothing of the instance is held, nothing is released
   pub held_out_none : (i : ℕ) → ((m : ℕ) (u : Thread) → get s.threads m ≡ Some u → u.place ≡ held_start → call_instance m s ≢ i) → held_out i s ≡ []

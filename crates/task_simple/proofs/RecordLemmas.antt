@@ -1,6 +1,6 @@
--- What is found at the numbers of a map, and what its list is: tests, sums and counts over it, its numbers, and how many records it has.
-use Rattle.std.proofs.Common.{arith, ℕ, ◌≡◌, ◌≢◌, ◌+◌, ◌<◌, ◌≤◌, refl, sym, ap, ap₂, ◌∙◌, Bool, true, false, cond, T, subst, List, [], ◌∷◌, ◌++◌, length}
-use Rattle.std.proofs.lemmas.Bool.{ltb-true, eqb-true, ne_eqb, eq-eqb}
+-- What is found at the numbers of a map, and what its list is: tests, sums and counts over it, and how many records it has.
+use Rattle.std.proofs.Common.{arith, ℕ, ◌≡◌, ◌≢◌, ◌+◌, ◌<◌, ◌≤◌, refl, sym, ap, ap₂, ◌∙◌, Bool, true, false, cond, T, subst, List, [], ◌∷◌, length}
+use Rattle.std.proofs.lemmas.Bool.{ltb-true, eqb-true, ne_eqb, eq-eqb, false≢true}
 use Rattle.std.proofs.lemmas.List.Sums.{sum_by-cons}
 use Rattle.std.specs.Prelude.{Option, Some, None, is_some, not, ◌&&◌, ◌||◌, ◌==◌, filter, find, map, sum_by, nat_lt}
 use Rattle.std.specs.List.{list_any}
@@ -134,6 +134,21 @@ module _ {X : Type 0} where
   unfolding get
   any_one m test q x is t = list_one test q x t m.list is
 
+  found_in : (test : ℕ × X → Bool) (es : List (ℕ × X)) → T (is_sorted nat_cmp es) → list_any test es ≡ true → (q : ℕ) × (x : X) × (at q es ≡ Some x) × (test (q, x) ≡ true)
+  found_in test [] h any = absurd (false≢true any)
+  found_in test (e ∷ es) h any =
+      elim (test e) as (λ b. test e ≡ b → (b || list_any test es) ≡ true → (q : ℕ) × (x : X) × (at q (e ∷ es) ≡ Some x) × (test (q, x) ≡ true)) [
+        | true ↦ λ passes rest. (e.0, e.1, at_first e es, passes)
+        | false ↦ λ fails rest.
+            let later = found_in test es (both_second _ _ h) rest in
+            (later.0, later.1, at_later later.0 later.1 e es h later.2, later.3)
+      ] refl any
+
+  -- where some record passes, one is found
+  pub any_there : (m : Records X) (test : ℕ × X → Bool) → list_any test m.list ≡ true → (q : ℕ) × (x : X) × (get m q ≡ Some x) × (test (q, x) ≡ true)
+  unfolding get
+  any_there m test any = found_in test m.list m.sorted any
+
   -- ---- Sizes
 
   pub size-insert_new : (m : Records X) (n : ℕ) (x : X) → get m n ≡ None → size (insert m n x) ≡ size m + 1
@@ -200,57 +215,3 @@ module _ {X : Type 0} where
   pub sum-change : (m : Records X) (f : ℕ × X → ℕ) (n : ℕ) (g : X → X) (y : X) → get m n ≡ Some y → sum_by f (change n g m).list + f (n, y) ≡ sum_by f m.list + f (n, g y)
   unfolding change
   sum-change m f n g y h = ap (λ o. sum_by f (changed m n g o).list + f (n, y)) h ∙ sum-insert_old m f n (g y) y h
-
-  -- ---- Numbers
-
-  numbers-put_last : (n : ℕ) (x : X) (es : List (ℕ × X)) → EachIn (λ q y. q < n) es → map (λ e. e.0) (put nat_cmp n x es) ≡ map (λ e. e.0) es ++ n ∷ []
-  numbers-put_last n x [] h = refl
-  numbers-put_last n x (e ∷ es) h =
-      elim (nat_cmp n e.0) as (λ r. nat_cmp n e.0 ≡ r → map (λ e. e.0) (by_order r ((n, x) ∷ e ∷ es) ((e.0, x) ∷ es) (e ∷ put nat_cmp n x es)) ≡ e.0 ∷ (map (λ e. e.0) es ++ n ∷ [])) [
-        | Less ↦ λ p. let lt = less_is n e.0 p in let gt = h.0 in absurd (omega arith)
-        | Equal ↦ λ p. let eq = equal_is n e.0 p in let gt = h.0 in absurd (omega arith)
-        | Greater ↦ λ p. ap (λ ns. e.0 ∷ ns) (numbers-put_last n x es h.1)
-      ] refl
-
-  -- a number above all others comes last
-  pub numbers-insert_last : (m : Records X) (n : ℕ) (x : X) → ((q : ℕ) (y : X) → get m q ≡ Some y → q < n) → numbers (insert m n x) ≡ numbers m ++ n ∷ []
-  unfolding get insert numbers
-  numbers-insert_last m n x h = numbers-put_last n x m.list (each_in (λ q y. q < n) m.list m.sorted h)
-
-  numbers-put_old : (n : ℕ) (x y : X) (es : List (ℕ × X)) → T (is_sorted nat_cmp es) → at n es ≡ Some y → map (λ e. e.0) (put nat_cmp n x es) ≡ map (λ e. e.0) es
-  numbers-put_old n x y [] h is = absurd cc
-  numbers-put_old n x y (e ∷ es) h is =
-      elim (nat_cmp n e.0) as (λ r. nat_cmp n e.0 ≡ r → map (λ e. e.0) (by_order r ((n, x) ∷ e ∷ es) ((e.0, x) ∷ es) (e ∷ put nat_cmp n x es)) ≡ e.0 ∷ map (λ e. e.0) es) [
-        | Less ↦ λ p. let lt = less_is n e.0 p in let ne : n ≢ e.0 = omega arith in
-            let none = at_other n e es ne ∙ above n e.0 es (omega arith) (both_first _ _ h) in absurd cc
-        | Equal ↦ λ p. refl
-        | Greater ↦ λ p.
-            let later : at n es ≡ Some y = sym (at_cons n e es ∙ ap (λ b. cond b (Some e.1) (at n es)) (greater_is n e.0 p)) ∙ is in
-            ap (λ ns. e.0 ∷ ns) (numbers-put_old n x y es (both_second _ _ h) later)
-      ] refl
-
-  pub numbers-insert_old : (m : Records X) (n : ℕ) (x y : X) → get m n ≡ Some y → numbers (insert m n x) ≡ numbers m
-  unfolding get insert numbers
-  numbers-insert_old m n x y h = numbers-put_old n x y m.list m.sorted h
-
-  numbers-changed : (m : Records X) (n : ℕ) (f : X → X) (o : Option X) → get m n ≡ o → numbers (changed m n f o) ≡ numbers m
-  numbers-changed m n f None h = refl
-  numbers-changed m n f (Some x) h = numbers-insert_old m n (f x) x h
-
-  pub numbers-change : (m : Records X) (n : ℕ) (f : X → X) → numbers (change n f m) ≡ numbers m
-  unfolding change
-  numbers-change m n f = numbers-changed m n f (get m n) refl
-
-  numbers-where : (n : ℕ) (es : List (ℕ × X)) → map (λ e. e.0) (where_key nat_cmp (λ q. not (eq_by_cmp nat_cmp n q)) es) ≡ filter (λ q. not (n == q)) (map (λ e. e.0) es)
-  numbers-where n [] = refl
-  numbers-where n (e ∷ es) =
-      let rest = where_key nat_cmp (λ q. not (eq_by_cmp nat_cmp n q)) es in
-      let kept = filter (λ q. not (n == q)) (map (λ e. e.0) es) in
-      let ih : map (λ e. e.0) rest ≡ kept = numbers-where n es in
-      ap (λ b. map (λ e. e.0) (cond b (e ∷ rest) rest)) (same_eq n e.0)
-      ∙ elim (not (n == e.0)) as (λ b. map (λ e. e.0) (cond b (e ∷ rest) rest) ≡ cond b (e.0 ∷ kept) kept) [ true ↦ ap (λ ns. e.0 ∷ ns) ih | false ↦ ih ]
-
-  -- the number is gone
-  pub numbers-remove : (m : Records X) (n : ℕ) → numbers (remove m n) ≡ filter (λ q. not (n == q)) (numbers m)
-  unfolding remove numbers
-  numbers-remove m n = numbers-where n m.list

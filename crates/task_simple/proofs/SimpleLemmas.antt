@@ -12,9 +12,9 @@ use Rattle.task_machine.specs.declared.records.Script.TheVariants as script
 use Rattle.task_machine.specs.declared.records.Thread.{Thread}
 use Rattle.task_machine.specs.declared.words.Mark.TheVariants as mark
 use Rattle.task_machine.specs.Core.{Core}
-use Rattle.task_machine.specs.Maps.{get, insert}
+use Rattle.task_machine.specs.Maps.{get, insert, remove}
 use Rattle.task_machine.specs.Read.{call_instance, instance_of, may_not_enter, next_entry, place_of, thread_handle_of}
-use Rattle.task_machine.specs.Write.{add_call, add_group, add_thread, free_thread_handle, give_result, give_thread_handle, on_call, on_instance, on_thread, push_high, remove_call, remove_group, remove_thread, set_do_not_enter, set_end, set_high, set_how_far, set_place, set_position, set_started, set_starting_published, set_thread_handle, set_trapped, take_result}
+use Rattle.task_machine.specs.Write.{add_call, add_group, add_thread, free_thread_handle, give_result, give_thread_handle, on_call, on_instance, on_thread, push_high, remove_call, remove_thread, set_do_not_enter, set_end, set_high, set_how_far, set_place, set_position, set_started, set_starting_published, set_thread_handle, set_trapped, take_result}
 use Rattle.task_machine.proofs.MapLemmas.{get-remove_other, get-remove_same}
 use Rattle.task_rules.specs.Calls.{new_thread}
 use Rattle.task_rules.specs.Data.{moved_to}
@@ -23,10 +23,10 @@ use Rattle.task_rules.specs.Takes.{popped, rest_of}
 use Rattle.task_simple.specs.Forms.{call_started, exit_done, return_done, start_done, start_put_off, trap_done}
 use Rattle.task_simple.specs.Simple.{IsPlain, IsSimple, NoneRuns, held_start, ready_start, runs, stands}
 use Rattle.task_simple.proofs.CaseLemmas.{change_cases, either, insert_cases, remove_cases, some_there}
-use Rattle.task_simple.proofs.EndLemmas.{exit_plain, trap_plain}
+use Rattle.task_simple.proofs.EndLemmas.{exit_is, exit_plain, trap_plain}
 use Rattle.task_simple.proofs.MoveLemmas.{Moves}
 use Rattle.task_simple.proofs.QueueLemmas.{first_ready, high_is, plain_popped, popped_rest, simple_left, simple_still}
-use Rattle.task_simple.proofs.ReadLemmas.{instance_of_is}
+use Rattle.task_simple.proofs.ReadLemmas.{begun_here, instance_of_is}
 use Rattle.task_simple.proofs.StartLemmas.{put_off_moves, put_off_plain, return_moves, return_plain, start_moves, start_plain, table_here}
 
 -- ---- What is there
@@ -85,6 +85,9 @@ module _ (s : Core) (simple : IsSimple s) (n : ℕ) (next : next_entry s ≡ Som
   unfolding popped set_high
   popped_ready = first_ready s simple n es first
 
+  begun_b : (t : Thread) → t.place ≡ ready_start → t.place ≢ place.New
+  begun_b t at new = let e : ready_start ≡ place.New = sym at ∙ new in cc
+
   places_b : (q : ℕ) → place_of q b ≡ place_of q s
   unfolding popped set_high
   places_b q = refl
@@ -124,8 +127,9 @@ module _ (s : Core) (simple : IsSimple s) (n : ℕ) (next : next_entry s ≡ Som
       let c = call_there b plain_b n t.0 t.1 in
       let quiet = none_runs_popped s none in
       let o = table_here b plain_b n t.0 t.1 c.0 c.1 in
-      let m = start_moves b plain_b n t.0 t.1 c.0 c.1 o.0 o.1 quiet (enters_here false enters) in
-      simple_left s simple n es first (start_done n b) (start_plain b plain_b n t.0 t.1 c.0 c.1 quiet (enters_here false enters)) start_high
+      let begun = begun_b t.0 t.2 in
+      let m = start_moves b plain_b n t.0 t.1 c.0 c.1 o.0 o.1 begun quiet (enters_here false enters) in
+      simple_left s simple n es first (start_done n b) (start_plain b plain_b n t.0 t.1 c.0 c.1 begun quiet (enters_here false enters)) start_high
       (λ q ne. place_else b _ n _ _ m q ne ∙ places_b q)
       (ap stands (place_now b _ n _ _ m))
 
@@ -135,7 +139,7 @@ module _ (s : Core) (simple : IsSimple s) (n : ℕ) (next : next_entry s ≡ Som
       let t = popped_ready in
       let c = call_there b plain_b n t.0 t.1 in
       let o = table_here b plain_b n t.0 t.1 c.0 c.1 in
-      let m = start_moves b plain_b n t.0 t.1 c.0 c.1 o.0 o.1 (none_runs_popped s none) (enters_here false enters) in
+      let m = start_moves b plain_b n t.0 t.1 c.0 c.1 o.0 o.1 (begun_b t.0 t.2) (none_runs_popped s none) (enters_here false enters) in
       place_now b _ n _ _ m
 
   -- no handle is left for the thread, and it traps
@@ -152,7 +156,9 @@ module _ (s : Core) (simple : IsSimple s) (n : ℕ) (next : next_entry s ≡ Som
   trap_taken_now = ap (λ o. stands (option_map (λ t. t.place) o)) (get-remove_same s.threads n)
 
   pub trap_taken_simple : IsSimple (trap_done n b)
-  trap_taken_simple = simple_left s simple n es first (trap_done n b) (trap_plain n b plain_b) trap_taken_high trap_taken_else trap_taken_now
+  trap_taken_simple =
+      let t = popped_ready in
+      simple_left s simple n es first (trap_done n b) (trap_plain n b plain_b (begun_here b plain_b n t.0 t.1 (begun_b t.0 t.2))) trap_taken_high trap_taken_else trap_taken_now
 
 -- ---- A thread runs
 
@@ -177,22 +183,25 @@ module _ (s : Core) (simple : IsSimple s) (n : ℕ) (at : place_of n s ≡ Some 
       (ap stands (return_runs v ∙ sym at))
 
   exit_high : (h : ℕ) → (exit_done n h s).queues.high ≡ s.queues.high
-  unfolding exit_done remove_group remove_call remove_thread free_thread_handle set_do_not_enter on_instance
-  exit_high h = refl
+  unfolding remove_call remove_thread free_thread_handle set_do_not_enter on_instance
+  exit_high h = ap (λ x. x.queues.high) (exit_is n h s)
+
+  exit_threads : (h : ℕ) → (exit_done n h s).threads ≡ remove s.threads n
+  unfolding remove_call remove_thread free_thread_handle set_do_not_enter on_instance
+  exit_threads h = ap (λ x. x.threads) (exit_is n h s)
 
   exit_else : (h q : ℕ) → q ≢ n → place_of q (exit_done n h s) ≡ place_of q s
-  unfolding exit_done remove_group remove_call remove_thread free_thread_handle set_do_not_enter on_instance
-  exit_else h q ne = ap (option_map (λ t. t.place)) (get-remove_other s.threads n q ne)
+  exit_else h q ne = ap (λ m. option_map (λ t. t.place) (get m q)) (exit_threads h) ∙ ap (option_map (λ t. t.place)) (get-remove_other s.threads n q ne)
 
   exit_now : (h : ℕ) → place_of n (exit_done n h s) ≡ None
-  unfolding exit_done remove_group remove_call remove_thread free_thread_handle set_do_not_enter on_instance
-  exit_now h = ap (option_map (λ t. t.place)) (get-remove_same s.threads n)
+  exit_now h = ap (λ m. option_map (λ t. t.place) (get m n)) (exit_threads h) ∙ ap (option_map (λ t. t.place)) (get-remove_same s.threads n)
 
   pub exit_simple : (h : ℕ) → thread_handle_of n s ≡ Some h → IsSimple (exit_done n h s)
   exit_simple h has =
       let t = thread_there place.Running n s at in
+      let c = call_there s simple.plain n t.0 t.1 in
       let own : t.0.handle ≡ Some h = sym (ap (option_and_then (λ t. t.handle)) t.1) ∙ has in
-      simple_still s (exit_done n h s) n simple (exit_plain s simple.plain n t.0 t.1 t.2 h own) (exit_high h) (exit_else h)
+      simple_still s (exit_done n h s) n simple (exit_plain s simple.plain n t.0 t.1 t.2 h own c.0 c.1) (exit_high h) (exit_else h)
       (ap stands (exit_now h) ∙ sym (ap stands at))
 
   no_other_runs : (q : ℕ) (u : Thread) → q ≢ n → get s.threads q ≡ Some u → u.place ≢ place.Running
@@ -201,8 +210,7 @@ module _ (s : Core) (simple : IsSimple s) (n : ℕ) (at : place_of n s ≡ Some 
       ne (simple.plain.alone q n u t.0 is running t.1 t.2)
 
   pub exit_none_runs : (h : ℕ) → NoneRuns (exit_done n h s)
-  unfolding exit_done remove_group remove_call remove_thread free_thread_handle set_do_not_enter on_instance
-  exit_none_runs h q u is = remove_cases s.threads n q u is (λ ne found. no_other_runs q u ne found)
+  exit_none_runs h q u is = remove_cases s.threads n q u (sym (ap (λ m. get m q) (exit_threads h)) ∙ is) (λ ne found. no_other_runs q u ne found)
 
   trap_high : (trap_done n s).queues.high ≡ s.queues.high
   unfolding trap_done remove_thread set_trapped
@@ -216,8 +224,11 @@ module _ (s : Core) (simple : IsSimple s) (n : ℕ) (at : place_of n s ≡ Some 
   unfolding trap_done remove_thread set_trapped
   trap_now = ap (option_map (λ t. t.place)) (get-remove_same s.threads n)
 
+  running_begun : place_of n s ≢ Some place.New
+  running_begun new = let e : Some place.Running ≡ Some place.New = sym at ∙ new in cc
+
   pub trap_simple : IsSimple (trap_done n s)
-  trap_simple = simple_still s (trap_done n s) n simple (trap_plain n s simple.plain) trap_high trap_else (ap stands trap_now ∙ sym (ap stands at))
+  trap_simple = simple_still s (trap_done n s) n simple (trap_plain n s simple.plain running_begun) trap_high trap_else (ap stands trap_now ∙ sym (ap stands at))
 
   pub trap_none_runs : NoneRuns (trap_done n s)
   unfolding trap_done remove_thread set_trapped

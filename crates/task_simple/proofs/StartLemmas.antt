@@ -2,11 +2,13 @@
 use Rattle.std.proofs.Common.{ap, ap₂, arith, inl, inr, refl, subst, sym, ◌∙◌}
 use Rattle.std.proofs.lemmas.Bool.{false≢true}
 use Rattle.std.specs.Option.{option_map_or}
-use Rattle.std.specs.Prelude.{None, Option, Some, false, is_some, option_and_then, option_map, true, ℕ, ◌+◌, ◌≡◌, ◌≢◌, ◌≤◌}
+use Rattle.std.specs.Prelude.{None, Option, Some, false, is_some, option_and_then, option_map, true, ℕ, ◌+◌, ◌==◌, ◌≡◌, ◌≢◌, ◌≤◌}
 use Rattle.task_machine.specs.declared.records.Call.{Call}
 use Rattle.task_machine.specs.declared.records.CallEnd.TheVariants as call_end
 use Rattle.task_machine.specs.declared.records.HowFar.TheVariants as how_far
 use Rattle.task_machine.specs.declared.records.Instance.{Instance}
+use Rattle.task_machine.specs.declared.records.Made.{Made}
+use Rattle.task_machine.specs.declared.records.Place.{Place}
 use Rattle.task_machine.specs.declared.records.Place.TheVariants as place
 use Rattle.task_machine.specs.declared.records.Thread.{Thread}
 use Rattle.task_machine.specs.Core.{Core, Table}
@@ -16,21 +18,30 @@ use Rattle.task_machine.specs.Write.{give_result, give_thread_handle, giving, on
 use Rattle.task_machine.proofs.MapLemmas.{get-change_other, get-change_same, get-insert_other, get-insert_same}
 use Rattle.task_rules.specs.Data.{moved_to}
 use Rattle.task_simple.specs.Forms.{return_done, start_done, start_put_off}
-use Rattle.task_simple.specs.Simple.{IsPlain, IsSimpleCall, IsSimpleInstance, IsSimpleThread, IsTable, NoneRuns, held_start, ready_start, runs}
+use Rattle.task_simple.specs.Simple.{IsMains, IsPlain, IsSimpleCall, IsSimpleInstance, IsSimpleThread, IsTable, NoneRuns, held_start, ready_start, runs}
 use Rattle.task_simple.proofs.CaseLemmas.{change_cases, either, get_changed, insert_cases, is_some-change, some_there}
 use Rattle.task_simple.proofs.MoveLemmas.{Moves, plain_moves}
-use Rattle.task_simple.proofs.ReadLemmas.{instance_of_is}
-use Rattle.task_simple.proofs.RecordLemmas.{numbers-change}
+use Rattle.task_simple.proofs.ReadLemmas.{begun_here, instance_of_is}
+use Rattle.task_simple.proofs.GroupLemmas.{any-change}
 use Rattle.task_simple.proofs.TableLemmas.{giving_is, next_handle_new}
 
-pub call_published : (last k : ℕ) (c : Call) → IsSimpleCall last k c → IsSimpleCall last k (record c { starting_published = true })
-call_published last k c r = record { positive = r.positive; made = r.made; by_main = r.by_main; to_main = r.to_main; called_back = r.called_back; of_its_group = r.of_its_group; no_event = r.no_event; no_own_event = r.no_own_event; no_handle = r.no_handle; no_result = r.no_result; in_no_set = r.in_no_set; not_exited = r.not_exited; interesting = r.interesting; uncancelled = r.uncancelled; lends_nothing = r.lends_nothing }
+pub call_published : (all : Made) (k : ℕ) (c : Call) → IsSimpleCall all k c → IsSimpleCall all k (record c { starting_published = true })
+call_published all k c r = record { positive = r.positive; made = r.made; grouped = r.grouped; no_event = r.no_event; no_own_event = r.no_own_event; no_handle = r.no_handle; no_result = r.no_result; in_no_set = r.in_no_set; not_exited = r.not_exited; interesting = r.interesting; uncancelled = r.uncancelled; lends_nothing = r.lends_nothing }
 
-pub call_begun : (last k : ℕ) (c : Call) → IsSimpleCall last k c → IsSimpleCall last k (record c { started = true })
-call_begun last k c r = record { positive = r.positive; made = r.made; by_main = r.by_main; to_main = r.to_main; called_back = r.called_back; of_its_group = r.of_its_group; no_event = r.no_event; no_own_event = r.no_own_event; no_handle = r.no_handle; no_result = r.no_result; in_no_set = r.in_no_set; not_exited = r.not_exited; interesting = r.interesting; uncancelled = r.uncancelled; lends_nothing = r.lends_nothing }
+pub mains_published : (c : Call) → IsMains c → IsMains (record c { starting_published = true })
+mains_published c r = record { by_main = r.by_main; to_main = r.to_main; called_back = r.called_back }
 
-pub call_ended : (last k : ℕ) (c : Call) → IsSimpleCall last k c → IsSimpleCall last k (record c { «end» = Some call_end.Returned })
-call_ended last k c r = record { positive = r.positive; made = r.made; by_main = r.by_main; to_main = r.to_main; called_back = r.called_back; of_its_group = r.of_its_group; no_event = r.no_event; no_own_event = r.no_own_event; no_handle = r.no_handle; no_result = r.no_result; in_no_set = r.in_no_set; not_exited = r.not_exited; interesting = r.interesting; uncancelled = r.uncancelled; lends_nothing = r.lends_nothing }
+pub call_begun : (all : Made) (k : ℕ) (c : Call) → IsSimpleCall all k c → IsSimpleCall all k (record c { started = true })
+call_begun all k c r = record { positive = r.positive; made = r.made; grouped = r.grouped; no_event = r.no_event; no_own_event = r.no_own_event; no_handle = r.no_handle; no_result = r.no_result; in_no_set = r.in_no_set; not_exited = r.not_exited; interesting = r.interesting; uncancelled = r.uncancelled; lends_nothing = r.lends_nothing }
+
+pub mains_begun : (c : Call) → IsMains c → IsMains (record c { started = true })
+mains_begun c r = record { by_main = r.by_main; to_main = r.to_main; called_back = r.called_back }
+
+pub call_ended : (all : Made) (k : ℕ) (c : Call) → IsSimpleCall all k c → IsSimpleCall all k (record c { «end» = Some call_end.Returned })
+call_ended all k c r = record { positive = r.positive; made = r.made; grouped = r.grouped; no_event = r.no_event; no_own_event = r.no_own_event; no_handle = r.no_handle; no_result = r.no_result; in_no_set = r.in_no_set; not_exited = r.not_exited; interesting = r.interesting; uncancelled = r.uncancelled; lends_nothing = r.lends_nothing }
+
+pub mains_ended : (c : Call) → IsMains c → IsMains (record c { «end» = Some call_end.Returned })
+mains_ended c r = record { by_main = r.by_main; to_main = r.to_main; called_back = r.called_back }
 
 module _ (s : Core) (plain : IsPlain s) (n : ℕ) (t : Thread) (found : get s.threads n ≡ Some t) (c : Call) (there : get s.calls n ≡ Some c) where
   callee_here : c.callee ≡ callee_of n s
@@ -42,13 +53,19 @@ module _ (s : Core) (plain : IsPlain s) (n : ℕ) (t : Thread) (found : get s.th
   abbrev r : IsSimpleThread n t
   r = plain.threads n t found
 
+  not_new : (p : Place) → t.place ≡ p → p ≢ place.New → t.place ≢ place.New
+  not_new p at ne new = ne (sym at ∙ new)
+
+  mains_here : t.place ≢ place.New → IsMains c
+  mains_here ne = plain.begun n c there (begun_here s plain n t found ne)
+
   -- ---- A start that is put off
 
   abbrev pub held_thread : Thread
   held_thread = record t { place = held_start }
 
   held_simple : t.place ≡ ready_start → IsSimpleThread n held_thread
-  held_simple at = record { of_itself = r.of_itself; implicit = r.implicit; starting = r.starting; fresh = r.fresh; own_unsaved = r.own_unsaved; callee_unsaved = r.callee_unsaved; placed = inr (inr refl); handled = r.handled ∙ ap runs at }
+  held_simple at = record { of_itself = r.of_itself; implicit = r.implicit; starting = r.starting; fresh = r.fresh; own_unsaved = r.own_unsaved; callee_unsaved = r.callee_unsaved; placed = inr (inr (inl refl)); handled = r.handled ∙ ap runs at }
 
   pub put_off_moves : t.place ≡ ready_start → NoneRuns s → may_not_enter (call_instance n s) s ≡ true → Moves s (start_put_off n s) n held_thread (record c { starting_published = true })
   unfolding start_put_off set_place on_thread set_starting_published on_call
@@ -60,6 +77,7 @@ module _ (s : Core) (plain : IsPlain s) (n : ℕ) (t : Thread) (found : get s.th
     callee_same = callee_here;
     thread_simple = held_simple at;
     call_simple = call_published _ _ c (plain.calls n c there);
+    mains = mains_published c (mains_here (not_new ready_start at (λ e. let a : ready_start ≡ place.New = e in cc)));
     instance_there = plain.instance_there n c there;
     table_there = plain.table_there n c there;
     made_same = refl;
@@ -71,7 +89,7 @@ module _ (s : Core) (plain : IsPlain s) (n : ℕ) (t : Thread) (found : get s.th
     low_same = refl;
     groups_same = refl;
     trapped_same = refl;
-    numbers_same = numbers-change s.calls n (λ c. record c { starting_published = true });
+    grouped_same = λ g. any-change s.calls (λ e. e.1.group == g) n (λ c. record c { starting_published = true }) (λ c. refl);
     results = plain.results;
     instances = plain.instances;
     instance_kept = λ i h. h;
@@ -172,9 +190,9 @@ module _ (s : Core) (plain : IsPlain s) (n : ℕ) (t : Thread) (found : get s.th
     running_simple : IsSimpleThread n running_thread
     running_simple = record { of_itself = r.of_itself; implicit = r.implicit; starting = r.starting; fresh = r.fresh; own_unsaved = r.own_unsaved; callee_unsaved = r.callee_unsaved; placed = inr (inl refl); handled = refl }
 
-    pub start_moves : NoneRuns s → may_not_enter (call_instance n s) s ≡ false → Moves s (start_done n s) n running_thread begun_call
+    pub start_moves : t.place ≢ place.New → NoneRuns s → may_not_enter (call_instance n s) s ≡ false → Moves s (start_done n s) n running_thread begun_call
     unfolding start_done set_place set_thread_handle on_thread set_do_not_enter on_instance set_started on_call give_thread_handle
-    start_moves none enters = record {
+    start_moves begun none enters = record {
       thread_now = get_changed (change n with_own_handle s.threads) n now_running (with_own_handle t) (get_changed s.threads n with_own_handle t found);
       thread_else = λ q ne. get-change_other (change n with_own_handle s.threads) n now_running q ne ∙ get-change_other s.threads n with_own_handle q ne;
       call_now = get_changed s.calls n (λ c. record c { started = true }) c there;
@@ -182,6 +200,7 @@ module _ (s : Core) (plain : IsPlain s) (n : ℕ) (t : Thread) (found : get s.th
       callee_same = callee_here;
       thread_simple = running_simple;
       call_simple = call_begun _ _ c (plain.calls n c there);
+      mains = mains_begun c (mains_here begun);
       instance_there = is_some-change s.instances i shut c.callee.instance (plain.instance_there n c there);
       table_there = is_some-change s.thread_handles i (giving n) c.callee.instance (plain.table_there n c there);
       made_same = refl;
@@ -193,7 +212,7 @@ module _ (s : Core) (plain : IsPlain s) (n : ℕ) (t : Thread) (found : get s.th
       low_same = refl;
       groups_same = refl;
       trapped_same = refl;
-      numbers_same = numbers-change s.calls n (λ c. record c { started = true });
+      grouped_same = λ g. any-change s.calls (λ e. e.1.group == g) n (λ c. record c { started = true }) (λ c. refl);
       results = plain.results;
       instances = instances_then;
       instance_kept = λ j h. is_some-change s.instances i shut j h;
@@ -209,15 +228,15 @@ module _ (s : Core) (plain : IsPlain s) (n : ℕ) (t : Thread) (found : get s.th
       named_now = named_then;
     }
 
-    start_plain_with : NoneRuns s → may_not_enter (call_instance n s) s ≡ false → IsPlain (start_done n s)
-    start_plain_with none enters = plain_moves s (start_done n s) n running_thread begun_call plain (start_moves none enters)
+    start_plain_with : t.place ≢ place.New → NoneRuns s → may_not_enter (call_instance n s) s ≡ false → IsPlain (start_done n s)
+    start_plain_with begun none enters = plain_moves s (start_done n s) n running_thread begun_call plain (start_moves begun none enters)
 
   -- the instance of the call has a table
   pub table_here : (tb : Table ℕ) × (get s.thread_handles (instance_of n s) ≡ Some tb)
   table_here = let o = some_there _ (plain.table_there n c there) in (o.0, ap (get s.thread_handles) (sym callee_instance) ∙ o.1)
 
-  pub start_plain : NoneRuns s → may_not_enter (call_instance n s) s ≡ false → IsPlain (start_done n s)
-  start_plain none enters = let o = table_here in start_plain_with o.0 o.1 none enters
+  pub start_plain : t.place ≢ place.New → NoneRuns s → may_not_enter (call_instance n s) s ≡ false → IsPlain (start_done n s)
+  start_plain begun none enters = let o = table_here in start_plain_with o.0 o.1 begun none enters
 
   -- ---- A return
 
@@ -246,6 +265,7 @@ module _ (s : Core) (plain : IsPlain s) (n : ℕ) (t : Thread) (found : get s.th
     callee_same = callee_here;
     thread_simple = returned_simple;
     call_simple = call_ended _ _ c (plain.calls n c there);
+    mains = mains_ended c (mains_here (not_new place.Running at (λ e. let a : place.Running ≡ place.New = e in cc)));
     instance_there = plain.instance_there n c there;
     table_there = plain.table_there n c there;
     made_same = refl;
@@ -257,7 +277,7 @@ module _ (s : Core) (plain : IsPlain s) (n : ℕ) (t : Thread) (found : get s.th
     low_same = refl;
     groups_same = refl;
     trapped_same = refl;
-    numbers_same = numbers-change s.calls n (λ c. record c { «end» = Some call_end.Returned });
+    grouped_same = λ g. any-change s.calls (λ e. e.1.group == g) n (λ c. record c { «end» = Some call_end.Returned }) (λ c. refl);
     results = results_then v;
     instances = plain.instances;
     instance_kept = λ i h. h;

@@ -1,6 +1,6 @@
 -- The steps of the machine from simple states.
 use Rattle.std.proofs.Common.{ap, refl, subst, sym, ◌∙◌}
-use Rattle.std.specs.Prelude.{Bool, List, None, Option, Some, [], false, option_and_then, true, ℕ, ◌+◌, ◌≡◌}
+use Rattle.std.specs.Prelude.{Bool, List, None, Option, Some, [], false, option_and_then, true, ℕ, ◌+◌, ◌≡◌, ◌≢◌}
 use Rattle.task_machine.specs.declared.component.Callee.{Callee}
 use Rattle.task_machine.specs.declared.label.Label.{Label}
 use Rattle.task_machine.specs.declared.label.Label.TheVariants as label
@@ -14,6 +14,7 @@ use Rattle.task_machine.specs.declared.op.Operand.{Operand}
 use Rattle.task_machine.specs.declared.op.TaskOp.TheVariants as task_op
 use Rattle.task_machine.specs.declared.records.Entry.TheVariants as entry
 use Rattle.task_machine.specs.declared.records.Place.TheVariants as place
+use Rattle.task_machine.specs.declared.records.Thread.{Thread}
 use Rattle.task_machine.specs.declared.records.Turn.TheVariants as turn
 use Rattle.task_machine.specs.declared.scenario.IdleLine.TheVariants as idle_line
 use Rattle.task_machine.specs.declared.trap.Trap.{Trap}
@@ -35,7 +36,7 @@ use Rattle.task_rules.specs.Takes.{popped, take_row}
 use Rattle.task_rules.specs.Task.{ret_bad_row}
 use Rattle.task_rules.specs.Turns.{at_turn, goes_to}
 use Rattle.task_simple.specs.Forms.{call_started, exit_done, return_done, start_done, start_put_off, trap_done}
-use Rattle.task_simple.specs.Simple.{IsPlain, IsSimple}
+use Rattle.task_simple.specs.Simple.{IsPlain, IsSimple, ready_start}
 use Rattle.task_simple.proofs.QueueLemmas.{next_entry_none, plain_popped}
 use Rattle.task_simple.proofs.ReadLemmas.{deadlock_trap_is, has_moving_work_not, may_deadlock_while, task_of_is}
 use Rattle.task_simple.proofs.RowLemmas.{exit_after_return, exit_early, finish_act_given, finished_is, ret_once, ret_twice, start_act_begun, start_act_full, start_act_trapped, start_done_row, start_held_row, start_refused_row, struck_is, thread_taken_is}
@@ -46,6 +47,9 @@ use Rattle.task_simple.proofs.SimpleLemmas.{call_there, popped_ready, thread_the
 module _ (x : Setting) (s : State) (simple : IsSimple s.core) (was : Bool) (turn_is : s.turn ≡ turn.Take was) (n : ℕ) (next : next_entry s.core ≡ Some (mark.High, entry.Thread n)) where
   abbrev b : Core
   b = popped mark.High s.core
+
+  ready_begun : (t : Thread) → t.place ≡ ready_start → t.place ≢ place.New
+  ready_begun t at new = let e : ready_start ≡ place.New = sym at ∙ new in cc
 
   taking : (l : Label) (t : State) → Progresses s b n (take_row mark.High (choice_of l) b (entry.Thread n)) l t → Step x s l t
   unfolding Step
@@ -59,7 +63,7 @@ module _ (x : Setting) (s : State) (simple : IsSimple s.core) (was : Bool) (turn
       let c = call_there b plain n r.0 r.1 in
       let l = held_label mark.High n None in
       let t = goes_to s (start_put_off n b) turn.Main in
-      taking l t (subst (λ p. Progresses s b n p l t) (sym (thread_taken_is b plain n r.0 r.1 c.0 c.1 mark.High (choice_of l) r.2 ∙ start_held_row b plain n r.0 r.1 c.0 c.1 mark.High shut)) (refl, refl))
+      taking l t (subst (λ p. Progresses s b n p l t) (sym (thread_taken_is b plain n r.0 r.1 c.0 c.1 mark.High (choice_of l) r.2 ∙ start_held_row b plain n r.0 r.1 c.0 c.1 mark.High (ready_begun r.0 r.2) shut)) (refl, refl))
 
   -- no handle is left for the thread
   pub take_full : may_not_enter (instance_of n b) b ≡ false → at_handle_limit b ≡ true → Step x s (trap_label n trap.HandleLimit) (goes_to s (trap_done n b) turn.Over)
@@ -79,7 +83,7 @@ module _ (x : Setting) (s : State) (simple : IsSimple s.core) (was : Bool) (turn
       let c = call_there b plain n r.0 r.1 in
       let l = take_label mark.High n None in
       let t = goes_to s (start_done n b) (turn.Run n) in
-      taking l t (subst (λ p. Progresses s b n p l t) (sym (thread_taken_is b plain n r.0 r.1 c.0 c.1 mark.High (choice_of l) r.2 ∙ start_done_row b plain n r.0 r.1 c.0 c.1 mark.High enters room)) (refl, refl))
+      taking l t (subst (λ p. Progresses s b n p l t) (sym (thread_taken_is b plain n r.0 r.1 c.0 c.1 mark.High (choice_of l) r.2 ∙ start_done_row b plain n r.0 r.1 c.0 c.1 mark.High (ready_begun r.0 r.2) enters room)) (refl, refl))
 
 -- nothing stands, main pends, and it is to trap
 pub take_deadlock_while : (x : Setting) (s : State) → IsPlain s.core → s.turn ≡ turn.Take false → stalled.main_pends x s.core s.main ≡ true → s.core.queues.high ≡ [] → x.idle ≡ idle_line.Trap → Step x s (label.Loop (loop_label.Deadlock trap.AsyncDeadlock)) (goes_to s (set_trapped s.core) turn.Over)
@@ -111,7 +115,7 @@ module _ (x : Setting) (s : State) (simple : IsSimple s.core) (n : ℕ) (turn_is
       let v = value_of n s.core o in
       let l = ret_label n v None in
       let t = goes_to s (return_done n v s.core) (turn.Run n) in
-      running l t (subst (λ p. Progresses s s.core n p l t) (sym (ap (op_row x.component n s.core (choice_of l)) op_is ∙ ret_once s.core simple.plain n r.0 r.1 c.0 c.1 v unended)) (refl, refl))
+      running l t (subst (λ p. Progresses s s.core n p l t) (sym (ap (op_row x.component n s.core (choice_of l)) op_is ∙ ret_once s.core simple.plain n r.0 r.1 c.0 c.1 v (λ new. let e : place.Running ≡ place.New = sym r.2 ∙ new in cc) unended)) (refl, refl))
 
   -- a step that traps
   trapping : (q : Trap) → op_row x.component n s.core (choice_of (trap_label n q)) (op_of x.component n s.core) ≡ Traps q → Step x s (trap_label n q) (goes_to s (trap_done n s.core) turn.Over)
@@ -173,11 +177,11 @@ module _ (x : Setting) (s : State) (turn_is : s.turn ≡ turn.Main) (unscripted 
   pub main_pends : Step x s (label.Loop loop_label.MainPends) (goes_to s s.core (turn.Futures 0))
   main_pends = mains _ _ refl
 
-  pub main_starts : (k : ℕ) (e : Callee) (words : List ℕ) → s.core.made.threads ≡ s.core.made.groups → s.core.trapped ≡ false → fits 4 s.core ≡ true → Step x s (label.Main (main_label.Start k (s.core.made.threads + 1))) (goes_to s (call_started e (export_kind x.component e) words s.core) turn.Main)
-  main_starts k e words as_many untrapped room =
+  pub main_starts : (k : ℕ) (e : Callee) (words : List ℕ) → s.core.trapped ≡ false → fits 4 s.core ≡ true → Step x s (label.Main (main_label.Start k (s.core.made.threads + 1))) (goes_to s (call_started e (export_kind x.component e) words s.core) turn.Main)
+  main_starts k e words untrapped room =
       let l = label.Main (main_label.Start k (s.core.made.threads + 1)) in
       let t = goes_to s (call_started e (export_kind x.component e) words s.core) turn.Main in
-      mains l t (k, (Start e words, subst (λ p. OpenProgresses s p l t) (sym (start_act_begun x.component k e words s.core as_many untrapped room)) (refl, refl)))
+      mains l t (k, (Start e words, subst (λ p. OpenProgresses s p l t) (sym (start_act_begun x.component k e words s.core untrapped room)) (refl, refl)))
 
   pub main_start_trapped : (k : ℕ) (e : Callee) (words : List ℕ) → s.core.trapped ≡ true → Step x s (label.Main (main_label.StartRefused trap.CannotEnterComponent k)) (goes_to s (set_trapped s.core) turn.Main)
   main_start_trapped k e words trapped =

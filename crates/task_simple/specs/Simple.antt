@@ -1,6 +1,6 @@
--- The states that calls by main of callback exports lead to, where scripts have no other ops than returns, `exit` and those on registers and words.
-use Rattle.std.specs.Prelude.{Bool, None, Option, Some, [], count_by, false, is_some, length, true, ℕ, ◌+◌, ◌<◌, ◌==◌, ◌≡◌, ◌≢◌, ◌≤◌}
-use Rattle.std.specs.List.{list_all}
+-- The states that calls by main of callback exports lead to, where scripts have no other ops than returns, `exit` and those on registers and words, beside calls whose threads are New.
+use Rattle.std.specs.Prelude.{Bool, None, Option, Some, [], count_by, false, if◌then◌else◌, is_some, length, true, ℕ, ◌+◌, ◌<◌, ◌==◌, ◌≡◌, ◌≢◌, ◌≤◌}
+use Rattle.std.specs.List.{list_all, list_any}
 use Rattle.std.proofs.Common.{◌⊎◌}
 use Rattle.task_machine.specs.declared.component.ExportKind.TheVariants as kind
 use Rattle.task_machine.specs.declared.records.Call.{Call}
@@ -11,6 +11,7 @@ use Rattle.task_machine.specs.declared.records.Goal.TheVariants as goal
 use Rattle.task_machine.specs.declared.records.HowFar.TheVariants as how_far
 use Rattle.task_machine.specs.declared.records.Instance.{Instance}
 use Rattle.task_machine.specs.declared.records.Join.TheVariants as join
+use Rattle.task_machine.specs.declared.records.Made.{Made}
 use Rattle.task_machine.specs.declared.records.Named.{Named}
 use Rattle.task_machine.specs.declared.records.Place.{Place}
 use Rattle.task_machine.specs.declared.records.Place.TheVariants as place
@@ -19,7 +20,7 @@ use Rattle.task_machine.specs.declared.records.Thread.{Thread}
 use Rattle.task_machine.specs.declared.records.Why.TheVariants as why
 use Rattle.task_machine.specs.declared.words.Mark.TheVariants as mark
 use Rattle.task_machine.specs.Core.{Core, Table}
-use Rattle.task_machine.specs.Maps.{empty, get, numbers, size}
+use Rattle.task_machine.specs.Maps.{empty, get, size}
 use Rattle.task_machine.specs.Read.{call_instance, is_entry_of, may_not_enter, place_of, thread_at}
 
 -- ---- One thread, one call, one instance, one table
@@ -33,7 +34,7 @@ abbrev pub held_start : Place
 held_start = place.Held why.Start
 
 abbrev pub IsSimplePlace : Place → Type 0
-IsSimplePlace p = (p ≡ ready_start) ⊎ ((p ≡ place.Running) ⊎ (p ≡ held_start))
+IsSimplePlace p = (p ≡ ready_start) ⊎ ((p ≡ place.Running) ⊎ ((p ≡ held_start) ⊎ (p ≡ place.New)))
 
 abbrev pub runs : Place → Bool
 runs place.Running = true
@@ -50,14 +51,11 @@ pub record IsSimpleThread (n : ℕ) (t : Thread) : Type 0 where
   pub placed : IsSimplePlace t.place
   pub handled : is_some t.handle ≡ runs t.place
 
--- The record of the call k, where the last that was made is this one.
-pub record IsSimpleCall (last k : ℕ) (c : Call) : Type 0 where
+-- The record of the call k, where these many were made.
+pub record IsSimpleCall (all : Made) (k : ℕ) (c : Call) : Type 0 where
   pub positive : 0 < k
-  pub made : k ≤ last
-  pub by_main : c.caller ≡ caller.Main
-  pub to_main : c.goal ≡ goal.Main
-  pub called_back : c.kind ≡ kind.Callback
-  pub of_its_group : c.group ≡ k
+  pub made : k ≤ all.threads
+  pub grouped : c.group ≤ all.groups
   pub no_event : c.event ≡ None
   pub no_own_event : c.own_event ≡ None
   pub no_handle : c.handle ≡ None
@@ -67,6 +65,12 @@ pub record IsSimpleCall (last k : ℕ) (c : Call) : Type 0 where
   pub interesting : c.interesting ≡ true
   pub uncancelled : c.cancel_delivered ≡ false
   pub lends_nothing : c.borrows ≡ 0
+
+-- The record is of a call by main of a callback export.
+pub record IsMains (c : Call) : Type 0 where
+  pub by_main : c.caller ≡ caller.Main
+  pub to_main : c.goal ≡ goal.Main
+  pub called_back : c.kind ≡ kind.Callback
 
 pub record IsSimpleInstance (r : Instance) : Type 0 where
   pub accepts : r.backpressure ≡ 0
@@ -81,11 +85,17 @@ pub record IsTable {X : Type 0} (t : Table X) : Type 0 where
 
 -- ---- The state
 
+-- some call is of the group
+abbrev pub has_call : ℕ → Core → Bool
+has_call g s = list_any (λ e. e.1.group == g) s.calls.list
+
 -- All but what stands at high.
 pub record IsPlain (s : Core) : Type 0 where
   pub threads : (n : ℕ) (t : Thread) → get s.threads n ≡ Some t → IsSimpleThread n t
   pub no_callers : (n : ℕ) (t : Thread) → get s.threads n ≡ Some t → get s.callers n ≡ Some []
-  pub calls : (k : ℕ) (c : Call) → get s.calls k ≡ Some c → IsSimpleCall s.made.threads k c
+  pub calls : (k : ℕ) (c : Call) → get s.calls k ≡ Some c → IsSimpleCall s.made k c
+  -- a call may be another's while its thread is New
+  pub begun : (k : ℕ) (c : Call) → get s.calls k ≡ Some c → place_of k s ≢ Some place.New → IsMains c
   -- a call may have lost its thread, but no thread its call
   pub called : (n : ℕ) (t : Thread) → get s.threads n ≡ Some t → is_some (get s.calls n) ≡ true
   pub no_works : s.works ≡ empty
@@ -103,9 +113,9 @@ pub record IsPlain (s : Core) : Type 0 where
   pub no_handles : (i : ℕ) (t : Table Named) → get s.handles i ≡ Some t → t.live ≡ empty
   pub tables : (i : ℕ) (t : Table ℕ) → get s.thread_handles i ≡ Some t → IsTable t
   pub named : (n h : ℕ) (t : Thread) → get s.threads n ≡ Some t → t.handle ≡ Some h → thread_at (call_instance n s) h s ≡ Some n
-  pub groups_open : s.trapped ≡ false → s.groups ≡ numbers s.calls
+  -- a group is live, and once, just while a call is of it
+  pub groups_open : s.trapped ≡ false → (g : ℕ) → count_by (λ h. g == h) s.groups ≡ (if has_call g s then 1 else 0)
   pub groups_trapped : s.trapped ≡ true → s.groups ≡ []
-  pub as_many : s.made.threads ≡ s.made.groups
   pub results : (k v : ℕ) → get s.results k ≡ Some v → k ≤ s.made.threads
 
 abbrev pub is_of_thread : Entry → Bool

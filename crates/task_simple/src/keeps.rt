@@ -1,16 +1,17 @@
 //! The moves of simple states lead to simple states. Each function is the statement of its clauses.
 
-ghost use Rattle.std.specs.Prelude.{List, Some, [], false, is_some, true, ℕ, ◌++◌, ◌+◌, ◌∷◌, ◌≡◌};
+ghost use Rattle.std.specs.Prelude.{Contains, List, None, Some, [], false, is_some, replicate, true, ℕ, ◌++◌, ◌+◌, ◌∷◌, ◌≡◌, ◌≢◌, ◌≤◌};
 ghost use Rattle.task_machine.specs.Core.{Core, fresh};
 ghost use Rattle.task_machine.specs.Maps.{get};
 ghost use Rattle.task_machine.specs.Read.{instance_of, may_not_enter, next_entry, place_of, thread_handle_of};
-ghost use Rattle.task_machine.specs.Write.{set_trapped, take_result};
+ghost use Rattle.task_machine.specs.Write.{add_group, set_trapped, take_result};
+ghost use Rattle.task_rules.specs.Calls.{new_call, new_thread};
 ghost use Rattle.task_rules.specs.Data.{assigned, moved_to, stored};
 ghost use Rattle.task_rules.specs.Takes.{popped};
-ghost use Rattle.task_simple.specs.Forms.{call_started, exit_done, return_done, start_done, start_put_off, trap_done};
+ghost use Rattle.task_simple.specs.Forms.{call_started, exit_done, return_done, start_done, start_put_off, task_made, trap_done};
 ghost use Rattle.task_simple.specs.Simple.{IsSimple, NoneRuns};
 
-use task_machine::{Callee, Entry, ExportKind, Mark, Place};
+use task_machine::{Callee, Caller, Entry, ExportKind, Goal, Mark, Place, Script};
 
 /// The state in which nothing was made.
 #[tactic(auto, using(crate::proofs::OpenLemmas::fresh_simple, crate::proofs::OpenLemmas::fresh_none_runs))]
@@ -24,6 +25,18 @@ pub fn first_state()
 pub fn after_call()
     ensures simple { (s : Core) (e : Callee) (words : List ℕ) → IsSimple s → s.trapped ≡ false → is_some (get s.instances e.instance) ≡ true → is_some (get s.thread_handles e.instance) ≡ true → IsSimple (call_started e ExportKind.Callback words s) }
     ensures none_runs { (s : Core) (e : Callee) (words : List ℕ) → NoneRuns s → NoneRuns (call_started e ExportKind.Callback words s) }
+{}
+
+/// After a call whose thread is New, whose instance is there: of a group that was made and is live
+/// unless the store is trapped, and of a new one.
+#[tactic(auto, using(crate::proofs::BeginLemmas::tasks))]
+pub fn after_task()
+    ensures simple { (s : Core) (f : Caller) (x : ExportKind) (i : ℕ) → IsSimple s → is_some (get s.instances i) ≡ true → is_some (get s.thread_handles i) ≡ true → (g : ℕ) → g ≤ s.made.groups → (s.trapped ≡ false → Contains s.groups g) → IsSimple (task_made f x i g s) }
+    ensures simple_with_group { (s : Core) (f : Caller) (x : ExportKind) (i : ℕ) → IsSimple s → is_some (get s.instances i) ≡ true → is_some (get s.thread_handles i) ≡ true → s.trapped ≡ false → IsSimple (task_made f x i (s.made.groups + 1) (add_group s)) }
+    ensures none_runs { (s : Core) (f : Caller) (x : ExportKind) (i g : ℕ) → NoneRuns s → NoneRuns (task_made f x i g s) }
+    ensures none_runs_with_group { (s : Core) (f : Caller) (x : ExportKind) (i g : ℕ) → NoneRuns s → NoneRuns (task_made f x i g (add_group s)) }
+    ensures runs { (s : Core) (f : Caller) (x : ExportKind) (i g : ℕ) → IsSimple s → (n : ℕ) → place_of n s ≡ Some Place.Running → place_of n (task_made f x i g s) ≡ Some Place.Running }
+    ensures runs_with_group { (s : Core) (f : Caller) (x : ExportKind) (i g : ℕ) → IsSimple s → (n : ℕ) → place_of n s ≡ Some Place.Running → place_of n (task_made f x i g (add_group s)) ≡ Some Place.Running }
 {}
 
 /// After a start that is put off.
@@ -91,10 +104,33 @@ pub fn after_others()
     ensures taken { (k : ℕ) (s : Core) → IsSimple s → IsSimple (take_result k s) }
 {}
 
-/// A call by main makes a thread and a group, whose numbers are one, and stands last at high.
+/// A call by main makes a thread and a group, and stands last at high.
 #[tactic(auto, using(crate::proofs::FrameLemmas::frames))]
 pub fn what_a_call_makes()
     ensures threads { (e : Callee) (x : ExportKind) (words : List ℕ) (s : Core) → (call_started e x words s).made.threads ≡ s.made.threads + 1 }
     ensures groups { (e : Callee) (x : ExportKind) (words : List ℕ) (s : Core) → (call_started e x words s).made.groups ≡ s.made.groups + 1 }
     ensures high { (e : Callee) (x : ExportKind) (words : List ℕ) (s : Core) → (call_started e x words s).queues.high ≡ s.queues.high ++ Entry.Thread (s.made.threads + 1) ∷ [] }
+{}
+
+/// A call whose thread is New makes a thread, and a group where that is new, and stands nowhere.
+#[tactic(auto, using(crate::proofs::FrameLemmas::frames))]
+pub fn what_a_task_makes()
+    ensures threads { (f : Caller) (x : ExportKind) (i g : ℕ) (s : Core) → (task_made f x i g s).made.threads ≡ s.made.threads + 1 }
+    ensures groups { (f : Caller) (x : ExportKind) (i g : ℕ) (s : Core) → (task_made f x i g s).made.groups ≡ s.made.groups }
+    ensures live { (f : Caller) (x : ExportKind) (i g : ℕ) (s : Core) → (task_made f x i g s).groups ≡ s.groups }
+    ensures high { (f : Caller) (x : ExportKind) (i g : ℕ) (s : Core) → (task_made f x i g s).queues.high ≡ s.queues.high }
+    ensures threads_with_group { (f : Caller) (x : ExportKind) (i g : ℕ) (s : Core) → (task_made f x i g (add_group s)).made.threads ≡ s.made.threads + 1 }
+    ensures groups_with_group { (f : Caller) (x : ExportKind) (i g : ℕ) (s : Core) → (task_made f x i g (add_group s)).made.groups ≡ s.made.groups + 1 }
+    ensures live_with_group { (f : Caller) (x : ExportKind) (i g : ℕ) (s : Core) → (task_made f x i g (add_group s)).groups ≡ s.groups ++ (s.made.groups + 1) ∷ [] }
+    ensures high_with_group { (f : Caller) (x : ExportKind) (i g : ℕ) (s : Core) → (task_made f x i g (add_group s)).queues.high ≡ s.queues.high }
+{}
+
+/// Its thread is New, at the first op of the start script, with registers 0, and its call is of the
+/// first export and interesting; its result goes nowhere. All other threads and calls stay.
+#[tactic(auto, using(crate::proofs::FrameLemmas::task_records))]
+pub fn what_a_task_is()
+    ensures thread { (f : Caller) (x : ExportKind) (i g : ℕ) (s : Core) → get (task_made f x i g s).threads (s.made.threads + 1) ≡ Some (new_thread (s.made.threads + 1) false Script.Start (replicate 16 0) None) }
+    ensures call { (f : Caller) (x : ExportKind) (i g : ℕ) (s : Core) → get (task_made f x i g s).calls (s.made.threads + 1) ≡ Some (new_call f (record { instance = i; export = 0 }) x Goal.Nowhere g) }
+    ensures other_threads { (f : Caller) (x : ExportKind) (i g : ℕ) (s : Core) (q : ℕ) → q ≢ s.made.threads + 1 → get (task_made f x i g s).threads q ≡ get s.threads q }
+    ensures other_calls { (f : Caller) (x : ExportKind) (i g : ℕ) (s : Core) (q : ℕ) → q ≢ s.made.threads + 1 → get (task_made f x i g s).calls q ≡ get s.calls q }
 {}

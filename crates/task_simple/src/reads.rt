@@ -1,9 +1,9 @@
 //! What the machine reads off plain states. Each function is the statement of its clauses.
 
-ghost use Rattle.std.specs.Prelude.{List, None, Option, Some, [], false, is_none, is_some, not, slice_get, true, unwrap_or, ℕ, ◌+◌, ◌∷◌, ◌≡◌, ◌≢◌};
+ghost use Rattle.std.specs.Prelude.{Contains, List, None, Option, Some, [], count_by, false, is_none, is_some, not, slice_get, true, unwrap_or, ℕ, ◌+◌, ◌==◌, ◌∷◌, ◌≡◌, ◌≢◌};
 ghost use Rattle.task_machine.specs.Core.{Core, State, Unscripted};
 ghost use Rattle.task_machine.specs.Maps.{get, size};
-ghost use Rattle.task_machine.specs.Moves.{checked, passes_check, stopped, stopped_at};
+ghost use Rattle.task_machine.specs.Moves.{checked, is_group_done, passes_check, stopped, stopped_at};
 ghost use Rattle.task_machine.specs.Read.{admits, call_instance, callers_of, first_of, foot_of, has_ended, instance_of, is_last_thread, is_nil, may_not_enter, next_entry, place_of, position_of, strand_of, task_of, thread_handle_of};
 ghost use Rattle.task_machine.specs.Write.{give_result, set_end, set_place, set_position, set_register, set_word};
 ghost use Rattle.task_rules.specs.Data.{assigned, moved_to, stored};
@@ -14,7 +14,7 @@ ghost use Rattle.task_rules.specs.Stalled.{Setting, deadlock_trap, is_idle, is_i
 ghost use Rattle.task_rules.specs.Turns.{nothing_stands, settled_turn};
 ghost use Rattle.task_rules.specs.Works.{has_live_work, has_moving_work, next_polled};
 ghost use Rattle.task_simple.specs.Forms.{return_done};
-ghost use Rattle.task_simple.specs.Simple.{IsPlain, IsSimple, held_start};
+ghost use Rattle.task_simple.specs.Simple.{IsPlain, IsSimple, has_call, held_start};
 
 use task_machine::{
     Call, CallEnd, Component, Entry, Mark, Op, Operand, Place, Script, Status, TaskOp, Thread,
@@ -38,11 +38,11 @@ pub fn checks_pass()
     ensures stays { (s : Core) → IsPlain s → (i : ℕ) → checked i s ≡ s }
 {}
 
-/// Nothing is told of a call by main.
+/// Nothing is told of a call unless its thread is New.
 #[tactic(auto, using(crate::proofs::ReadLemmas::reads))]
 pub fn nothing_is_told()
-    ensures stays { (s : Core) → IsPlain s → (k : ℕ) (e : Status) (w : Option ℕ) → told k e w s ≡ s }
-    ensures lawful { (s : Core) → IsPlain s → (k : ℕ) (w : Option ℕ) → may_tell k w s ≡ is_none w }
+    ensures stays { (s : Core) → IsPlain s → (k : ℕ) (e : Status) (w : Option ℕ) → place_of k s ≢ Some Place.New → told k e w s ≡ s }
+    ensures lawful { (s : Core) → IsPlain s → (k : ℕ) (w : Option ℕ) → place_of k s ≢ Some Place.New → may_tell k w s ≡ is_none w }
 {}
 
 /// A thread is the first and only one of its call.
@@ -54,10 +54,18 @@ pub fn threads_are_alone()
     ensures leaves { (s : Core) → IsPlain s → (n : ℕ) (t : Thread) → get s.threads n ≡ Some t → leaves_no_result n s ≡ not (has_ended n s) }
 {}
 
-/// A start is admitted, and main may call, unless the instance lets in nothing.
+/// The groups that are live are those of calls, and a group is done where no call is of it.
+#[tactic(auto, using(crate::proofs::GroupLemmas::groups))]
+pub fn groups_are_of_calls()
+    ensures live { (s : Core) → IsPlain s → s.trapped ≡ false → (k : ℕ) (c : Call) → get s.calls k ≡ Some c → Contains s.groups c.group }
+    ensures called { (s : Core) → IsPlain s → s.trapped ≡ false → (g : ℕ) → Contains s.groups g → has_call g s ≡ true }
+    ensures done { (s : Core) → IsPlain s → (g : ℕ) → is_group_done g s ≡ (count_by (λ e. e.1.group == g) s.calls.list == 0) }
+{}
+
+/// A start of a thread that isn't New is admitted, and main may call, unless the instance lets in nothing.
 #[tactic(auto, using(crate::proofs::ReadLemmas::reads))]
 pub fn starts_are_admitted()
-    ensures start { (s : Core) → IsPlain s → (n : ℕ) → admits n s Why.Start ≡ not (may_not_enter (instance_of n s) s) }
+    ensures start { (s : Core) → IsPlain s → (n : ℕ) → place_of n s ≢ Some Place.New → admits n s Why.Start ≡ not (may_not_enter (instance_of n s) s) }
     ensures main { (s : Core) → IsPlain s → (i : ℕ) → is_ready_for_call i s ≡ not (may_not_enter i s) }
 {}
 

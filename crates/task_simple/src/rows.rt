@@ -1,6 +1,6 @@
 //! The rows of simple states, in simple words. Each function is the statement of its clauses.
 
-ghost use Rattle.std.specs.Prelude.{List, None, Option, Some, [], false, not, true, ℕ, ◌+◌, ◌≡◌};
+ghost use Rattle.std.specs.Prelude.{List, None, Option, Some, [], false, not, true, ℕ, ◌+◌, ◌≡◌, ◌≢◌};
 ghost use Rattle.task_machine.specs.Core.{Began, Core};
 ghost use Rattle.task_machine.specs.Labels.{Choice, exit_label, held_label, ret_label, take_label};
 ghost use Rattle.task_machine.specs.Maps.{get};
@@ -22,7 +22,7 @@ use task_machine::{Call, Callee, Component, MainLabel, Mark, Place, Thread, Trap
 #[tactic(auto, using(crate::proofs::RowLemmas::rows))]
 pub fn returns_come_down()
     ensures twice { (s : Core) → IsPlain s → (n : ℕ) (t : Thread) → get s.threads n ≡ Some t → (c : Call) → get s.calls n ≡ Some c → (v : ℕ) (w : Option ℕ) → has_ended n s ≡ true → ret_row n v w s ≡ Traps Trap.TaskCancelOrReturnTwice }
-    ensures once { (s : Core) → IsPlain s → (n : ℕ) (t : Thread) → get s.threads n ≡ Some t → (c : Call) → get s.calls n ≡ Some c → (v : ℕ) → has_ended n s ≡ false → ret_row n v None s ≡ Goes (ret_label n v None) (return_done n v s) n }
+    ensures once { (s : Core) → IsPlain s → (n : ℕ) (t : Thread) → get s.threads n ≡ Some t → (c : Call) → get s.calls n ≡ Some c → (v : ℕ) → t.place ≢ Place.New → has_ended n s ≡ false → ret_row n v None s ≡ Goes (ret_label n v None) (return_done n v s) n }
 {}
 
 /// A task exits after its return.
@@ -37,9 +37,9 @@ pub fn exits_come_down()
 #[tactic(auto, using(crate::proofs::RowLemmas::rows))]
 pub fn starts_come_down()
     ensures taken { (s : Core) → IsPlain s → (n : ℕ) (t : Thread) → get s.threads n ≡ Some t → (c : Call) → get s.calls n ≡ Some c → (m : Mark) (ch : Choice) → t.place ≡ ready_start → thread_taken m n ch s (place_of n s) ≡ start_row m n ch.woken s (not (may_not_enter (instance_of n s) s)) }
-    ensures put_off { (s : Core) → IsPlain s → (n : ℕ) (t : Thread) → get s.threads n ≡ Some t → (c : Call) → get s.calls n ≡ Some c → (m : Mark) → may_not_enter (instance_of n s) s ≡ true → start_row m n None s (not (may_not_enter (instance_of n s) s)) ≡ Stops (held_label m n None) (start_put_off n s) }
+    ensures put_off { (s : Core) → IsPlain s → (n : ℕ) (t : Thread) → get s.threads n ≡ Some t → (c : Call) → get s.calls n ≡ Some c → (m : Mark) → t.place ≢ Place.New → may_not_enter (instance_of n s) s ≡ true → start_row m n None s (not (may_not_enter (instance_of n s) s)) ≡ Stops (held_label m n None) (start_put_off n s) }
     ensures full { (s : Core) → IsPlain s → (n : ℕ) (t : Thread) → get s.threads n ≡ Some t → (c : Call) → get s.calls n ≡ Some c → (m : Mark) → may_not_enter (instance_of n s) s ≡ false → at_handle_limit s ≡ true → start_row m n None s (not (may_not_enter (instance_of n s) s)) ≡ Traps Trap.HandleLimit }
-    ensures admitted { (s : Core) → IsPlain s → (n : ℕ) (t : Thread) → get s.threads n ≡ Some t → (c : Call) → get s.calls n ≡ Some c → (m : Mark) → may_not_enter (instance_of n s) s ≡ false → at_handle_limit s ≡ false → start_row m n None s (not (may_not_enter (instance_of n s) s)) ≡ Goes (take_label m n None) (start_done n s) n }
+    ensures admitted { (s : Core) → IsPlain s → (n : ℕ) (t : Thread) → get s.threads n ≡ Some t → (c : Call) → get s.calls n ≡ Some c → (m : Mark) → t.place ≢ Place.New → may_not_enter (instance_of n s) s ≡ false → at_handle_limit s ≡ false → start_row m n None s (not (may_not_enter (instance_of n s) s)) ≡ Goes (take_label m n None) (start_done n s) n }
     ensures struck { (s : Core) → IsPlain s → (n : ℕ) (t : Thread) → get s.threads n ≡ Some t → (c : Call) → get s.calls n ≡ Some c → struck n s ≡ trap_done n s }
 {}
 
@@ -48,8 +48,8 @@ pub fn starts_come_down()
 pub fn main_starts_come_down()
     ensures trapped { (d : Component) (k : ℕ) (e : Callee) (words : List ℕ) (s : Core) → s.trapped ≡ true → start_act d k e words s (start_refusal s) ≡ Does (MainLabel.StartRefused Trap.CannotEnterComponent k) (set_trapped s) }
     ensures full { (d : Component) (k : ℕ) (e : Callee) (words : List ℕ) (s : Core) → s.trapped ≡ false → fits 4 s ≡ false → start_act d k e words s (start_refusal s) ≡ Does (MainLabel.StartRefused Trap.TableFull k) (set_trapped s) }
-    ensures begun { (d : Component) (k : ℕ) (e : Callee) (words : List ℕ) (s : Core) → s.made.threads ≡ s.made.groups → s.trapped ≡ false → fits 4 s ≡ true → start_act d k e words s (start_refusal s) ≡ Does (MainLabel.Start k (s.made.threads + 1)) (call_started e (export_kind d e) words s) }
-    ensures core { (d : Component) (e : Callee) (words : List ℕ) (s : Core) → s.made.threads ≡ s.made.groups → main_started d e words s ≡ call_started e (export_kind d e) words s }
+    ensures begun { (d : Component) (k : ℕ) (e : Callee) (words : List ℕ) (s : Core) → s.trapped ≡ false → fits 4 s ≡ true → start_act d k e words s (start_refusal s) ≡ Does (MainLabel.Start k (s.made.threads + 1)) (call_started e (export_kind d e) words s) }
+    ensures core { (d : Component) (e : Callee) (words : List ℕ) (s : Core) → main_started d e words s ≡ call_started e (export_kind d e) words s }
 {}
 
 /// Main finishes a call that has returned.

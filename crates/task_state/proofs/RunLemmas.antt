@@ -1,7 +1,7 @@
 -- The thread that runs, and what its return, its exit and its trap come to.
 use Rattle.std.proofs.Common.{◌≡◌, ◌<◌, ◌+◌, ◌^◌, ℕ, Bool, true, false, cond, ◌==◌, List, Option, Some, None, count_by, refl, sym, ap, subst, ◌∙◌, arith}
 use Rattle.std.specs.Prelude.{IsSome, IfSome, is_some}
-use Rattle.std.specs.Option.{option_map}
+use Rattle.std.specs.Option.{option_map, option_map_or}
 use Rattle.task_machine.specs.declared.records.Call.{Call}
 use Rattle.task_machine.specs.declared.records.CallEnd.TheVariants as call_end
 use Rattle.task_machine.specs.declared.records.Instance.{Instance}
@@ -9,8 +9,9 @@ use Rattle.task_machine.specs.declared.records.Place.TheVariants as place
 use Rattle.task_machine.specs.declared.records.Thread.{Thread}
 use Rattle.task_machine.specs.Core.{Core}
 use Rattle.task_machine.specs.Maps.{get}
-use Rattle.task_machine.specs.Read.{instance_of, is_entry_of, place_of, position_of, task_of, thread_at, thread_handle_of}
-use Rattle.task_machine.specs.Write.{free_thread_handle, give_result, on_call, on_instance, remove_call, remove_group, remove_thread, set_do_not_enter, set_end, set_position, set_trapped}
+use Rattle.task_machine.specs.Moves.{group_settled}
+use Rattle.task_machine.specs.Read.{call_group, instance_of, is_entry_of, place_of, position_of, task_of, thread_at, thread_handle_of}
+use Rattle.task_machine.specs.Write.{free_thread_handle, give_result, on_call, on_instance, remove_call, remove_thread, set_do_not_enter, set_end, set_position, set_trapped}
 use Rattle.task_machine.proofs.CommuteLemmas.{get-change}
 use Rattle.task_machine.proofs.MapLemmas.{get-remove_same}
 use Rattle.task_core.specs.Shown.{IsLive, KeepsTagsBut, Shown, Tag, call_number, number_of, thread_number, with_core}
@@ -20,12 +21,13 @@ use Rattle.task_table.specs.declared.id.TableId.{TableId}
 use Rattle.task_simple.specs.Forms.{exit_done, return_done, trap_done}
 use Rattle.task_simple.specs.Simple.{IsSimple, NoneRuns, stands, runs}
 use Rattle.task_simple.proofs.FoundLemmas.{handle_found, instance_found, position_found, return_done_is}
+use Rattle.task_simple.proofs.FrameLemmas.{made-exit_done, made-return_done, made-trap_done}
 use Rattle.task_simple.proofs.ReadLemmas.{instance_of_is, task_of_is}
 use Rattle.task_simple.proofs.SimpleLemmas.{exit_none_runs, exit_simple, return_runs, return_simple, thread_there, trap_none_runs, trap_simple}
 use Rattle.task_state.specs.Moves.{Exits}
 use Rattle.task_state.specs.Seen.{Seen, stopped_with, with_core as with_seen_core}
 use Rattle.task_state.specs.State.{IsWhole, Runs, seen}
-use Rattle.task_state.proofs.TakenLemmas.{seen_stopped, whole_stopped}
+use Rattle.task_state.proofs.TakenLemmas.{few_made, seen_stopped, whole_stopped}
 
 -- ---- The thread that runs
 
@@ -59,8 +61,8 @@ module _ (s : Shown) (whole : IsWhole s) (id : QualifiedThreadId) (now : Some id
     pub call_is : get s.core.calls n ≡ Some c
     call_is = ap (get s.core.calls) (sym call_now) ∙ read
 
-    pub group_is : c.group ≡ n
-    group_is = (whole.simple.plain.calls n c call_is).of_its_group
+    pub group_is : call_group n s.core ≡ c.group
+    group_is = ap (λ o. option_map_or (λ (d : Call). d.group) o 0) call_is
 
     pub instance_is : instance_of n s.core ≡ c.callee.instance
     instance_is = let t = thread_now in instance_found s.core whole.simple.plain n t.0 c t.1 call_is
@@ -138,7 +140,7 @@ module _ (s : Shown) (whole : IsWhole s) (id : QualifiedThreadId) (now : Some id
         }
 
     pub whole_returned : IsWhole u
-    whole_returned = record { simple = simple_returned; runs = subst (λ o. Runs u o) (now ∙ sym current) (live_returned, ap (λ k. place_of k u.core) number_same ∙ runs_returned) }
+    whole_returned = record { simple = simple_returned; few = few_made u.core s.core (ap (λ (c : Core). c.made) core ∙ made-return_done n v s.core) whole.few; runs = subst (λ o. Runs u o) (now ∙ sym current) (live_returned, ap (λ k. place_of k u.core) number_same ∙ runs_returned) }
 
     pub seen_returned : seen u ≡ with_seen_core (return_done n v (seen s).core) (seen s)
     seen_returned = rw (core, tags, current) refl
@@ -157,6 +159,7 @@ module _ (s : Shown) (whole : IsWhole s) (id : QualifiedThreadId) (now : Some id
     whole_struck = whole_stopped u
         (subst (λ c. IsSimple c) (sym struck) (trap_simple s.core whole.simple n place_now))
         (subst (λ c. NoneRuns c) (sym struck) (trap_none_runs s.core whole.simple n place_now))
+        (few_made u.core s.core (ap (λ (c : Core). c.made) struck ∙ made-trap_done n s.core) whole.few)
         current
 
     pub seen_struck : seen u ≡ stopped_with (trap_done n (seen s).core)
@@ -169,6 +172,7 @@ module _ (s : Shown) (whole : IsWhole s) (id : QualifiedThreadId) (now : Some id
     whole_exited = whole_stopped u
         (subst (λ c. IsSimple c) (sym core) (exit_simple s.core whole.simple n place_now h has))
         (subst (λ c. NoneRuns c) (sym core) (exit_none_runs s.core whole.simple n place_now h))
+        (few_made u.core s.core (ap (λ (c : Core). c.made) core ∙ made-exit_done n h s.core) whole.few)
         current
 
     pub exits_is : Exits n (seen s) (seen u)
@@ -207,9 +211,9 @@ pub gone : (n : ℕ) (s : Core) → get (remove_thread n s).threads n ≡ None
 unfolding remove_thread
 gone n s = get-remove_same s.threads n
 
-pub exit_is : (n i h : ℕ) (s : Core) → instance_of n s ≡ i → remove_group n (remove_call n (remove_thread n (free_thread_handle i h (set_do_not_enter i false s)))) ≡ exit_done n h s
+pub exit_is : (n i g h : ℕ) (s : Core) → instance_of n s ≡ i → call_group n s ≡ g → group_settled g (remove_call n (remove_thread n (free_thread_handle i h (set_do_not_enter i false s)))) ≡ exit_done n h s
 unfolding exit_done
-exit_is n i h s at = rw (sym at) refl
+exit_is n i g h s at of = rw (sym at, sym of) refl
 
 -- ---- The writes of an exit, one after another
 
@@ -251,8 +255,7 @@ module _ (s : Shown) (whole : IsWhole s) (id : QualifiedThreadId) (now : Some id
       pub out_removed : count_by (is_entry_of (call_number r.tags id.task)) r.core.queues.high ≡ 0
       out_removed = rw (call_removed, core_removed, high_removed, high_freed c.callee.instance h c.callee.instance false s.core) (out_now s whole id now)
 
-      pub exit_core : (u w : Core) → u ≡ remove_call (call_number r.tags id.task) r.core → w ≡ remove_group c.group u → w ≡ exit_done k h s.core
+      pub exit_core : (u w : Core) → u ≡ remove_call (call_number r.tags id.task) r.core → w ≡ group_settled c.group u → w ≡ exit_done k h s.core
       exit_core u w four five =
-          five ∙ ap (λ g. remove_group g u) (group_is s whole id now c read)
-          ∙ ap (remove_group k) (four ∙ ap (λ m. remove_call m r.core) call_removed ∙ ap (remove_call k) core_removed)
-          ∙ exit_is k c.callee.instance h s.core (instance_is s whole id now c read)
+          five ∙ ap (group_settled c.group) (four ∙ ap (λ m. remove_call m r.core) call_removed ∙ ap (remove_call k) core_removed)
+          ∙ exit_is k c.callee.instance c.group h s.core (instance_is s whole id now c read) (group_is s whole id now c read)

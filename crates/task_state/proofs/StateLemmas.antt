@@ -9,7 +9,7 @@ use Rattle.task_machine.specs.declared.records.Instance.{Instance}
 use Rattle.task_machine.specs.declared.records.Named.{Named}
 use Rattle.task_machine.specs.declared.records.Place.TheVariants as place
 use Rattle.task_machine.specs.declared.records.Thread.{Thread}
-use Rattle.task_machine.specs.Core.{Core, Table, no_handles, untouched}
+use Rattle.task_machine.specs.Core.{Core, Table, fresh, no_handles, untouched}
 use Rattle.task_machine.specs.Maps.{empty, get, size, get-empty}
 use Rattle.task_machine.specs.Moves.{put_high}
 use Rattle.task_machine.specs.Read.{call_instance, no_callee, place_of, task_of}
@@ -28,13 +28,13 @@ use Rattle.task_simple.proofs.OpenLemmas.{fresh_none_runs, fresh_simple}
 use Rattle.task_simple.proofs.ReadLemmas.{task_of_is}
 use Rattle.task_simple.proofs.SimpleLemmas.{call_started_none_runs, result_taken_none_runs, thread_there, trapped_none_runs}
 use Rattle.task_state.specs.Seen.{Seen, nothing_made, with_core}
-use Rattle.task_state.specs.State.{IsWhole, Runs, seen}
-use Rattle.task_state.proofs.TakenLemmas.{whole_stopped}
+use Rattle.task_state.specs.State.{HasFewGroups, IsWhole, Runs, seen}
+use Rattle.task_state.proofs.TakenLemmas.{few_made, whole_stopped}
 
 -- ---- A state in which the same thread runs
 
 module _ (s u : Shown) (whole : IsWhole s) (tags : KeepsTags s.tags u.tags) (current : u.current ≡ s.current) where
-  module _ (simple : IsSimple u.core) (none : NoneRuns s.core → NoneRuns u.core) (places : (n : ℕ) → place_of n s.core ≡ Some place.Running → place_of n u.core ≡ Some place.Running) where
+  module _ (simple : IsSimple u.core) (none : NoneRuns s.core → NoneRuns u.core) (places : (n : ℕ) → place_of n s.core ≡ Some place.Running → place_of n u.core ≡ Some place.Running) (few : HasFewGroups s.core → HasFewGroups u.core) where
     runs_still : (o : Option QualifiedThreadId) → Runs s o → Runs u o
     runs_still None quiet = none quiet
     runs_still (Some id) runs =
@@ -51,7 +51,7 @@ module _ (s u : Shown) (whole : IsWhole s) (tags : KeepsTags s.tags u.tags) (cur
         )
 
     pub whole_still : IsWhole u
-    whole_still = record { simple = simple; runs = subst (λ o. Runs u o) (sym current) (runs_still s.current whole.runs) }
+    whole_still = record { simple = simple; few = few whole.few; runs = subst (λ o. Runs u o) (sym current) (runs_still s.current whole.runs) }
 
   running_still : (o : Option QualifiedThreadId) → Runs s o → option_map (λ (id : QualifiedThreadId). number_of u.tags id) o ≡ option_map (λ (id : QualifiedThreadId). number_of s.tags id) o
   running_still None quiet = refl
@@ -66,8 +66,12 @@ keeps_tags s = record { threads = λ id live. refl; calls = λ id live. refl }
 
 -- ---- A new state
 
+few_new : HasFewGroups (fresh 0 100000 1000000)
+unfolding fresh
+few_new = omega arith
+
 pub whole_new : (t : Shown) → t ≡ nothing → IsWhole t
-whole_new t is = subst (λ t. IsWhole t) (sym is) (whole_stopped nothing (fresh_simple 0 100000 1000000) (fresh_none_runs 0 100000 1000000) refl)
+whole_new t is = subst (λ t. IsWhole t) (sym is) (whole_stopped nothing (fresh_simple 0 100000 1000000) (fresh_none_runs 0 100000 1000000) few_new refl)
 
 pub seen_new : (t : Shown) → t ≡ nothing → seen t ≡ nothing_made
 seen_new t is = rw is refl
@@ -76,7 +80,11 @@ seen_new t is = rw is refl
 
 -- with the same core all is the same
 pub whole_same : (s u : Shown) → IsWhole s → KeepsTags s.tags u.tags → u.current ≡ s.current → u.core ≡ s.core → IsWhole u
-whole_same s u whole tags current core = whole_still s u whole tags current (subst (λ c. IsSimple c) (sym core) whole.simple) (λ none. subst (λ c. NoneRuns c) (sym core) none) (λ n at. ap (place_of n) core ∙ at)
+whole_same s u whole tags current core = whole_still s u whole tags current (subst (λ c. IsSimple c) (sym core) whole.simple) (λ none. subst (λ c. NoneRuns c) (sym core) none) (λ n at. ap (place_of n) core ∙ at) (λ few. few_made u.core s.core (ap (λ (c : Core). c.made) core) few)
+
+made_trapped : (s : Core) → (set_trapped s).made ≡ s.made
+unfolding set_trapped
+made_trapped s = refl
 
 place_trapped : (n : ℕ) (s : Core) → place_of n (set_trapped s) ≡ place_of n s
 unfolding set_trapped
@@ -87,6 +95,11 @@ whole_trapped s u whole tags current core = whole_still s u whole tags current
     (subst (λ c. IsSimple c) (sym core) (trapped_simple s.core whole.simple))
     (λ none. subst (λ c. NoneRuns c) (sym core) (trapped_none_runs s.core none))
     (λ n at. ap (place_of n) core ∙ place_trapped n s.core ∙ at)
+    (λ few. few_made u.core s.core (ap (λ (c : Core). c.made) core ∙ made_trapped s.core) few)
+
+made_taken : (k : ℕ) (s : Core) → (take_result k s).made ≡ s.made
+unfolding take_result
+made_taken k s = refl
 
 place_taken : (n k : ℕ) (s : Core) → place_of n (take_result k s) ≡ place_of n s
 unfolding take_result
@@ -97,12 +110,14 @@ whole_taken s u k whole tags current core = whole_still s u whole (subst (λ g. 
     (subst (λ c. IsSimple c) (sym core) (result_taken_simple k s.core whole.simple))
     (λ none. subst (λ c. NoneRuns c) (sym core) (result_taken_none_runs k s.core none))
     (λ n at. ap (place_of n) core ∙ place_taken n k s.core ∙ at)
+    (λ few. few_made u.core s.core (ap (λ (c : Core). c.made) core ∙ made_taken k s.core) few)
 
 limited_plain : (h : ℕ) (s : Core) → IsPlain s → IsPlain (with_handle_limit h s)
 limited_plain h s plain = record {
   threads = plain.threads;
   no_callers = plain.no_callers;
   calls = plain.calls;
+  begun = plain.begun;
   called = plain.called;
   no_works = plain.no_works;
   no_sets = plain.no_sets;
@@ -119,7 +134,6 @@ limited_plain h s plain = record {
   named = plain.named;
   groups_open = plain.groups_open;
   groups_trapped = plain.groups_trapped;
-  as_many = plain.as_many;
   results = plain.results;
 }
 
@@ -131,12 +145,14 @@ whole_limited s u h whole tags current core = whole_still s u whole (subst (λ g
     (subst (λ c. IsSimple c) (sym core) (limited_simple h s.core whole.simple))
     (λ none. subst (λ c. NoneRuns c) (sym core) none)
     (λ n at. ap (place_of n) core ∙ at)
+    (λ few. few_made u.core s.core (ap (λ (c : Core). c.made) core) few)
 
 widened_plain : (h : ℕ) (s : Core) → IsPlain s → IsPlain (with_capacity h s)
 widened_plain h s plain = record {
   threads = plain.threads;
   no_callers = plain.no_callers;
   calls = plain.calls;
+  begun = plain.begun;
   called = plain.called;
   no_works = plain.no_works;
   no_sets = plain.no_sets;
@@ -153,7 +169,6 @@ widened_plain h s plain = record {
   named = plain.named;
   groups_open = plain.groups_open;
   groups_trapped = plain.groups_trapped;
-  as_many = plain.as_many;
   results = plain.results;
 }
 
@@ -165,6 +180,7 @@ whole_widened s u h whole tags current core = whole_still s u whole (subst (λ g
     (subst (λ c. IsSimple c) (sym core) (widened_simple h s.core whole.simple))
     (λ none. subst (λ c. NoneRuns c) (sym core) none)
     (λ n at. ap (place_of n) core ∙ at)
+    (λ few. few_made u.core s.core (ap (λ (c : Core). c.made) core) few)
 
 -- ---- An instance more
 
@@ -209,6 +225,7 @@ module _ (s : Core) (simple : IsSimple s) (new : get s.instances (size s.instanc
     threads = simple.plain.threads;
     no_callers = simple.plain.no_callers;
     calls = simple.plain.calls;
+    begun = simple.plain.begun;
     called = simple.plain.called;
     no_works = simple.plain.no_works;
     no_sets = simple.plain.no_sets;
@@ -225,13 +242,16 @@ module _ (s : Core) (simple : IsSimple s) (new : get s.instances (size s.instanc
     named = λ n h t at has. ap (λ o. option_and_then (λ (t : Table ℕ). get t.live h) o) (get-insert_other s.thread_handles i no_handles (call_instance n s) (instance_of_thread n t at)) ∙ simple.plain.named n h t at has;
     groups_open = simple.plain.groups_open;
     groups_trapped = simple.plain.groups_trapped;
-    as_many = simple.plain.as_many;
     results = simple.plain.results;
   }
 
   pub simple_more : IsSimple (with_instance s)
   unfolding with_instance
   simple_more = record { plain = plain_more; of_threads = simple.of_threads; queued = simple.queued }
+
+made_more : (s : Core) → (with_instance s).made ≡ s.made
+unfolding with_instance
+made_more s = refl
 
 place_more : (n : ℕ) (s : Core) → place_of n (with_instance s) ≡ place_of n s
 unfolding with_instance
@@ -246,12 +266,13 @@ whole_more s u whole new tags current core = whole_still s u whole (subst (λ g.
     (subst (λ c. IsSimple c) (sym core) (simple_more s.core whole.simple new))
     (λ none. subst (λ c. NoneRuns c) (sym core) (none_runs_more s.core none))
     (λ n at. ap (place_of n) core ∙ place_more n s.core ∙ at)
+    (λ few. few_made u.core s.core (ap (λ (c : Core). c.made) core ∙ made_more s.core) few)
 
 -- ---- A call more
 
-pub started_is : (e : Callee) (registers words : List ℕ) (s : Core) → registers ≡ registers_for words → IsSimple s → main_call_started e kind.Callback registers s ≡ call_started e kind.Callback words s
+pub started_is : (e : Callee) (registers words : List ℕ) (s : Core) → registers ≡ registers_for words → main_call_started e kind.Callback registers s ≡ call_started e kind.Callback words s
 unfolding main_call_started call_started put_high
-started_is e registers words s is simple = rw (is, sym simple.plain.as_many) refl
+started_is e registers words s is = rw is refl
 
 place_started : (e : Callee) (words : List ℕ) (s : Core) → IsSimple s → (n : ℕ) → place_of n s ≡ Some place.Running → place_of n (call_started e kind.Callback words s) ≡ Some place.Running
 unfolding call_started push_high set_place on_thread add_thread add_call add_group
@@ -261,11 +282,16 @@ place_started e words s simple n at =
     let other : n ≢ s.made.threads + 1 = (λ same. let here : get s.threads (s.made.threads + 1) ≡ Some old.0 = ap (get s.threads) (sym same) ∙ old.1 in cc) in
     ap (option_map (λ (t : Thread). t.place)) (get-change_other _ _ _ n other ∙ get-insert_other s.threads (s.made.threads + 1) _ n other) ∙ at
 
+few_started : (e : Callee) (words : List ℕ) (s : Core) → HasFewGroups s → HasFewGroups (call_started e kind.Callback words s)
+unfolding call_started push_high set_place on_thread add_thread add_call add_group
+few_started e words s few = omega arith
+
 pub whole_started : (s u : Shown) (e : Callee) (words : List ℕ) → IsWhole s → KeepsTags s.tags u.tags → u.current ≡ s.current → s.core.trapped ≡ false → is_some (get s.core.instances e.instance) ≡ true → is_some (get s.core.thread_handles e.instance) ≡ true → u.core ≡ call_started e kind.Callback words s.core → IsWhole u
 whole_started s u e words whole tags current untrapped there tabled core = whole_still s u whole tags current
     (subst (λ c. IsSimple c) (sym core) (call_started_simple s.core e words whole.simple untrapped there tabled))
     (λ none. subst (λ c. NoneRuns c) (sym core) (call_started_none_runs s.core e words none))
     (λ n at. ap (place_of n) core ∙ place_started e words s.core whole.simple n at)
+    (λ few. subst (λ c. HasFewGroups c) (sym core) (few_started e words s.core few))
 
 -- an instance that is seen is there
 pub true_there : (s : Shown) (w : Seen) (i : ℕ) → seen s ≡ w → IsSome (get w.core.instances i) → is_some (get s.core.instances i) ≡ true

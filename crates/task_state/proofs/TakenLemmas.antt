@@ -1,9 +1,10 @@
 -- The first entry of high, and what its taking comes to.
-use Rattle.std.proofs.Common.{◌≡◌, ◌<◌, ℕ, Bool, true, false, Option, Some, None, count_by, refl, sym, ap, subst, ◌∙◌}
+use Rattle.std.proofs.Common.{◌≡◌, ◌<◌, ◌≤◌, ℕ, Bool, true, false, Option, Some, None, count_by, refl, sym, ap, subst, ◌∙◌}
 use Rattle.std.specs.Prelude.{IsSome, is_some}
 use Rattle.std.specs.Option.{option_map}
 use Rattle.task_machine.specs.declared.records.Call.{Call}
 use Rattle.task_machine.specs.declared.records.Entry.TheVariants as entry
+use Rattle.task_machine.specs.declared.records.Made.{Made}
 use Rattle.task_machine.specs.declared.records.Place.TheVariants as place
 use Rattle.task_machine.specs.declared.records.Thread.{Thread}
 use Rattle.task_machine.specs.declared.records.Why.TheVariants as why
@@ -21,13 +22,13 @@ use Rattle.task_core.specs.declared.entry.QualifiedThreadId.{QualifiedThreadId}
 use Rattle.task_simple.specs.Forms.{start_done, start_put_off, trap_done}
 use Rattle.task_simple.specs.Simple.{IsSimple, NoneRuns, stands}
 use Rattle.task_simple.proofs.FoundLemmas.{instance_found}
-use Rattle.task_simple.proofs.FrameLemmas.{at_handle_limit-popped_high, high-trap_done, instance_of-popped_high, may_not_enter-popped_high}
+use Rattle.task_simple.proofs.FrameLemmas.{at_handle_limit-popped_high, high-trap_done, instance_of-popped_high, made-popped_high, made-start_done, made-start_put_off, made-trap_done, may_not_enter-popped_high}
 use Rattle.task_simple.proofs.QueueLemmas.{first_ready, high_is}
 use Rattle.task_simple.proofs.ReadLemmas.{task_of_is}
 use Rattle.task_simple.proofs.SimpleLemmas.{call_there, put_off_none_runs, put_off_simple, start_runs, start_simple, thread_there, trap_taken_none_runs, trap_taken_simple}
 use Rattle.task_state.specs.Moves.{Takes, IsFirst}
 use Rattle.task_state.specs.Seen.{stopped_with}
-use Rattle.task_state.specs.State.{IsWhole, Runs, seen}
+use Rattle.task_state.specs.State.{HasFewGroups, IsWhole, Runs, seen}
 use Rattle.task_state.specs.declared.taken.Taken.TheVariants as taken
 
 -- ---- The thread, its call and its instance
@@ -112,9 +113,13 @@ none_running s (Some id) is runs none = absurd (cc)
 pub stopped_is : (s : Shown) → IsWhole s → (seen s).running ≡ None → (s.current ≡ None) × NoneRuns s.core
 stopped_is s whole none = none_running s s.current refl whole.runs none
 
+-- where nothing was made the groups are as few
+pub few_made : (c d : Core) → c.made ≡ d.made → HasFewGroups d → HasFewGroups c
+few_made c d same few = subst (λ (m : Made). m.groups ≤ m.threads) (sym same) few
+
 -- a state in which none runs
-pub whole_stopped : (t : Shown) → IsSimple t.core → NoneRuns t.core → t.current ≡ None → IsWhole t
-whole_stopped t simple none is = record { simple = simple; runs = subst (λ o. Runs t o) (sym is) none }
+pub whole_stopped : (t : Shown) → IsSimple t.core → NoneRuns t.core → HasFewGroups t.core → t.current ≡ None → IsWhole t
+whole_stopped t simple none few is = record { simple = simple; few = few; runs = subst (λ o. Runs t o) (sym is) none }
 
 pub seen_stopped : (t : Shown) (c : Core) → t.core ≡ c → t.current ≡ None → seen t ≡ stopped_with c
 seen_stopped t c core current = rw (core, current) refl
@@ -144,6 +149,7 @@ module _ (s : Shown) (whole : IsWhole s) (none : (seen s).running ≡ None) (id 
       whole_put_off = whole_stopped t
           (subst (λ c. IsSimple c) (sym core) (put_off_simple s.core whole.simple m next.next quiet (shut_is i true at shut)))
           (subst (λ c. NoneRuns c) (sym core) (put_off_none_runs s.core whole.simple m next.next quiet (shut_is i true at shut)))
+          (few_made t.core s.core (ap (λ (c : Core). c.made) core ∙ made-start_put_off m b ∙ made-popped_high s.core) whole.few)
           stopped
 
       pub takes_put_off : Takes (seen s) (taken.PutOff m) (seen t)
@@ -154,6 +160,7 @@ module _ (s : Shown) (whole : IsWhole s) (none : (seen s).running ≡ None) (id 
       whole_refused = whole_stopped t
           (subst (λ c. IsSimple c) (sym core) (trap_taken_simple s.core whole.simple m next.next))
           (subst (λ c. NoneRuns c) (sym core) (trap_taken_none_runs m s.core quiet))
+          (few_made t.core s.core (ap (λ (c : Core). c.made) core ∙ made-trap_done m b ∙ made-popped_high s.core) whole.few)
           stopped
 
       pub takes_refused : Takes (seen s) (taken.NoHandle m) (seen t)
@@ -178,7 +185,7 @@ module _ (s : Shown) (whole : IsWhole s) (none : (seen s).running ≡ None) (id 
         }
 
     pub whole_begun : IsWhole t
-    whole_begun = record { simple = simple_begun; runs = subst (λ o. Runs t o) (sym current) (live_begun, ap (λ k. place_of k t.core) number_begun ∙ runs_begun) }
+    whole_begun = record { simple = simple_begun; few = few_made t.core s.core (ap (λ (c : Core). c.made) core ∙ made-start_done m b ∙ made-popped_high s.core) whole.few; runs = subst (λ o. Runs t o) (sym current) (live_begun, ap (λ k. place_of k t.core) number_begun ∙ runs_begun) }
 
     seen_begun : seen t ≡ record { core = start_done m b; running = Some m }
     seen_begun = rw (current, core, tags) refl

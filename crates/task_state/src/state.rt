@@ -313,8 +313,8 @@ impl ConcurrentState {
         self.core.set_position(id.thread, position);
     }
 
-    /// The running thread exits: its instance may be entered again, and the thread, its handle, its
-    /// call and its group are gone.
+    /// The running thread exits: its instance may be entered again, and the thread, its handle and
+    /// its call are gone, and its group where no other call is of it.
     pub fn exit(&mut self)
         requires runs { IsSome self.old.running }
         ensures { IfSome self.old.running (λ n. Exits n self.old self.new) }
@@ -330,7 +330,7 @@ impl ConcurrentState {
         self.core.free_thread_handle(call.callee.instance, handle);
         self.core.remove_thread(id.thread);
         self.core.remove_call(id.task);
-        self.core.remove_group(call.group);
+        self.core.settle_group(call.group);
         self.core.set_current(None);
     }
 

@@ -1,13 +1,14 @@
-ghost use Rattle.std.specs.Prelude.{◌≡◌, ◌<◌, [], ◌∷◌, None, OnOk, count_by};
+ghost use Rattle.std.specs.Prelude.{◌≡◌, ◌<◌, if◌then◌else◌, None, count_by};
 ghost use Rattle.task_machine.specs.Maps.{get};
 ghost use Rattle.task_machine.specs.Read.{is_entry_of, strand_of};
-ghost use Rattle.task_machine.specs.Moves.{stopped, ended, freed_thread_handle};
+ghost use Rattle.task_machine.specs.Moves.{group_settled};
 ghost use Rattle.task_machine.specs.Write.{remove_thread, remove_call, remove_group, set_trapped};
 ghost use Rattle.task_rules.specs.Step.{struck};
 ghost use Rattle.task_core.specs.Shown.{IsLive, KeepsTags, KeepsTagsBut, number_of, thread_number, call_number, with_core, without_groups};
 ghost use Rattle.task_core.specs.Simple.{HasHandle, IsHandle};
 
 use crate::entry::{GuestTaskKey, QualifiedThreadId, ThreadKey};
+use crate::parts::groups::count_down;
 use crate::state::TaskCore;
 use std::alloc::AllocError;
 use task_table::TableId;
@@ -28,7 +29,8 @@ impl TaskCore {
         let _ = self.table.delete(set);
     }
 
-    /// Takes a call, whose thread is gone, out of the table.
+    /// Takes a call, whose thread is gone, out of the table. Its group, if it is live, has one call
+    /// less.
     pub fn remove_call(&mut self, id: TableId<GuestTaskKey>)
         requires live { 0 < call_number self.old.tags id }
         requires thread { get self.old.core.threads (call_number self.old.tags id) ≡ None }
@@ -37,18 +39,44 @@ impl TaskCore {
         ensures tags { KeepsTagsBut 0 (call_number self.old.tags id) self.old.tags self.new.tags }
         ensures current { self.new.current ≡ self.old.current }
     {
-        let _ = self.table.delete(id);
+        match self.table.delete(id) {
+            Ok(task) => count_down(&mut self.groups, task.call.group),
+            Err(_) => unreachable!(),
+        }
     }
-    /// Takes a group, which nothing is left of, out of the table.
-    pub fn remove_group(&mut self, number: u64)
+
+    // Takes a group out of the table.
+    pub(crate) fn remove_group(&mut self, number: u64)
         ensures core { self.new.core ≡ remove_group number self.old.core }
         ensures tags { KeepsTags self.old.tags self.new.tags }
         ensures current { self.new.current ≡ self.old.current }
     {
-        if let Some(id) = self.groups.remove(&number) {
-            let _ = self.table.delete(id);
+        if let Some(group) = self.groups.remove(&number) {
+            let _ = self.table.delete(group.id);
         }
     }
+
+    // Whether no call is left of a live group.
+    fn is_finished(&self, number: u64) -> bool
+        ensures { group_settled number self.now.core ≡ (if result then remove_group number self.now.core else self.now.core) }
+    {
+        match self.groups.get(&number) {
+            Some(group) => group.calls == 0,
+            None => false,
+        }
+    }
+
+    /// Finishes a live group which no call is left of.
+    pub fn settle_group(&mut self, number: u64)
+        ensures core { self.new.core ≡ group_settled number self.old.core }
+        ensures tags { KeepsTags self.old.tags self.new.tags }
+        ensures current { self.new.current ≡ self.old.current }
+    {
+        if self.is_finished(number) {
+            self.remove_group(number);
+        }
+    }
+
     // All groups are finished.
     fn clear_groups(&mut self)
         ensures core { self.new.core ≡ without_groups self.old.core }

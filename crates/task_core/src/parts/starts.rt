@@ -10,9 +10,10 @@ ghost use Rattle.task_core.specs.Simple.{IsPlainCall, IsPlainThread, IsNewGroup}
 ghost use Rattle.task_core.specs.Start.{IsFree, IsUnnamed, thread_counted, thread_uncounted, group_taken_back, put_new_thread, thread_started, counted_call_started, main_call_started};
 
 use crate::entry::{
-    GroupKey, GuestTask, GuestTaskKey, GuestThread, QualifiedThreadId, SetKey, SyncSet, TaskGroup,
-    ThreadKey,
+    GroupKey, GuestTask, GuestTaskKey, GuestThread, LiveGroup, QualifiedThreadId, SetKey, SyncSet,
+    TaskGroup, ThreadKey,
 };
+use crate::parts::groups::count_up;
 use crate::state::TaskCore;
 use std::alloc::AllocError;
 use task_machine::{
@@ -47,7 +48,7 @@ fn call_by_main(callee: Callee, kind: ExportKind, group: u64) -> Call
 }
 
 // The first thread of a call, which has not begun.
-fn first_thread(call: u64, registers: [u64; 16]) -> Thread
+pub(crate) fn first_thread(call: u64, registers: [u64; 16]) -> Thread
     ensures is { result ≡ new_thread call false script.Start registers None }
     ensures plain { IsPlainThread call result }
 {
@@ -67,7 +68,7 @@ fn first_thread(call: u64, registers: [u64; 16]) -> Thread
 
 impl TaskCore {
     // Gives a number to a thread that is to be made.
-    fn count_thread(&mut self) -> u64
+    pub(crate) fn count_thread(&mut self) -> u64
         requires { self.old.core.made.threads + 1 < 2 ^ 64 }
         ensures number { result ≡ self.old.core.made.threads + 1 }
         ensures state { self.new ≡ with_core (thread_counted self.old.core) self.old }
@@ -81,7 +82,7 @@ impl TaskCore {
     }
 
     // Takes the number given last back, which nothing has.
-    fn uncount_thread(&mut self, number: u64)
+    pub(crate) fn uncount_thread(&mut self, number: u64)
         requires free { IsFree number self.old.core }
         requires no_call { get self.old.core.calls number ≡ None }
         ensures { self.new ≡ with_core (thread_uncounted number self.old.core) self.old }
@@ -90,7 +91,7 @@ impl TaskCore {
     }
 
     // Makes a group and answers its number. Where memory is wanting, all stays.
-    fn add_group(&mut self) -> Result<u64, AllocError>
+    pub(crate) fn add_group(&mut self) -> Result<u64, AllocError>
         requires { self.old.core.made.groups + 1 < 2 ^ 64 }
         ensures number { IfOk result (λ g. g ≡ self.old.core.made.groups + 1) }
         ensures core { OnOk result (self.new.core ≡ add_group self.old.core) }
@@ -104,7 +105,7 @@ impl TaskCore {
         let Ok(id) = self.table.push::<GroupKey>(TaskGroup { number }) else {
             return Err(AllocError);
         };
-        match self.groups.insert(number, id) {
+        match self.groups.insert(number, LiveGroup { id, calls: 0 }) {
             Ok(_) => {
                 self.made.groups = number;
                 Ok(number)
@@ -117,7 +118,7 @@ impl TaskCore {
     }
 
     // Takes the group made last, which no call is in, out of the table, and its number back.
-    fn take_back_group(&mut self, number: u64)
+    pub(crate) fn take_back_group(&mut self, number: u64)
         requires last { number ≡ self.old.core.made.groups }
         requires live { 0 < number }
         requires empty { IsNewGroup number self.old.core }
@@ -130,12 +131,15 @@ impl TaskCore {
     }
 
     // Makes a call of this number. Where memory is wanting, all stays.
-    fn add_call(&mut self, number: u64, call: Call) -> Result<TableId<GuestTaskKey>, AllocError>
+    pub(crate) fn add_call(
+        &mut self,
+        number: u64,
+        call: Call,
+    ) -> Result<TableId<GuestTaskKey>, AllocError>
         requires made { number ≤ self.old.core.made.threads }
         requires positive { 0 < number }
         requires none { get self.old.core.calls number ≡ None }
         requires plain { IsPlainCall call }
-        requires group { IsNewGroup call.group self.old.core }
         requires group_made { call.group ≤ self.old.core.made.groups }
         ensures core { OnOk result (self.new.core ≡ add_call number call self.old.core) }
         ensures names { IfOk result (λ id. call_number self.new.tags id ≡ number) }
@@ -146,11 +150,16 @@ impl TaskCore {
         let Ok(id) = self.table.push::<GuestTaskKey>(GuestTask { number, call }) else {
             return Err(AllocError);
         };
+        count_up(&mut self.groups, call.group);
         Ok(id)
     }
 
     // Makes a thread of this number, and its set. Where memory is wanting, all stays.
-    fn add_thread(&mut self, number: u64, thread: Thread) -> Result<TableId<ThreadKey>, AllocError>
+    pub(crate) fn add_thread(
+        &mut self,
+        number: u64,
+        thread: Thread,
+    ) -> Result<TableId<ThreadKey>, AllocError>
         requires made { number ≤ self.old.core.made.threads }
         requires positive { 0 < number }
         requires none { get self.old.core.threads number ≡ None }

@@ -39,7 +39,7 @@ invariant_of-self c =
     whole_exited c.self.inside.core c.self.invariant c.in-Some.id c.in-Some.ensures c.set_current.new.self c.in-Some-handle.handle
     (handle_is c.self.inside.core c.self.invariant c.in-Some.id c.in-Some.ensures c.call-call.result c.call-call.ensures.value c.thread.result c.thread.ensures.value c.in-Some-handle.handle c.in-Some-handle.is)
     (ap (λ (s : Shown). s.core) c.set_current.ensures
-    ∙ exit_core c.self.inside.core c.self.invariant c.in-Some.id c.in-Some.ensures c.call-call.result c.call-call.ensures.value c.thread.result c.thread.ensures.value c.in-Some-handle.handle c.in-Some-handle.is c.clear_do_not_enter.new.self c.free_thread_handle.new.self c.clear_do_not_enter.ensures c.free_thread_handle.ensures c.remove_thread.new.self c.remove_thread.ensures.core c.remove_thread.ensures.tags _ _ c.remove_call.ensures.core c.remove_group.ensures.core)
+    ∙ exit_core c.self.inside.core c.self.invariant c.in-Some.id c.in-Some.ensures c.call-call.result c.call-call.ensures.value c.thread.result c.thread.ensures.value c.in-Some-handle.handle c.in-Some-handle.is c.clear_do_not_enter.new.self c.free_thread_handle.new.self c.clear_do_not_enter.ensures c.free_thread_handle.ensures c.remove_thread.new.self c.remove_thread.ensures.core c.remove_thread.ensures.tags _ _ c.remove_call.ensures.core c.settle_group.ensures.core)
     (ap (λ (s : Shown). s.current) c.set_current.ensures)
 
 pub returns : goal.returns
@@ -49,5 +49,5 @@ returns c =
     (exits_is c.self.inside.core c.self.invariant c.in-Some.id c.in-Some.ensures c.set_current.new.self c.in-Some-handle.handle
     (handle_is c.self.inside.core c.self.invariant c.in-Some.id c.in-Some.ensures c.call-call.result c.call-call.ensures.value c.thread.result c.thread.ensures.value c.in-Some-handle.handle c.in-Some-handle.is)
     (ap (λ (s : Shown). s.core) c.set_current.ensures
-    ∙ exit_core c.self.inside.core c.self.invariant c.in-Some.id c.in-Some.ensures c.call-call.result c.call-call.ensures.value c.thread.result c.thread.ensures.value c.in-Some-handle.handle c.in-Some-handle.is c.clear_do_not_enter.new.self c.free_thread_handle.new.self c.clear_do_not_enter.ensures c.free_thread_handle.ensures c.remove_thread.new.self c.remove_thread.ensures.core c.remove_thread.ensures.tags _ _ c.remove_call.ensures.core c.remove_group.ensures.core)
+    ∙ exit_core c.self.inside.core c.self.invariant c.in-Some.id c.in-Some.ensures c.call-call.result c.call-call.ensures.value c.thread.result c.thread.ensures.value c.in-Some-handle.handle c.in-Some-handle.is c.clear_do_not_enter.new.self c.free_thread_handle.new.self c.clear_do_not_enter.ensures c.free_thread_handle.ensures c.remove_thread.new.self c.remove_thread.ensures.core c.remove_thread.ensures.tags _ _ c.remove_call.ensures.core c.settle_group.ensures.core)
     (ap (λ (s : Shown). s.current) c.set_current.ensures)))
