@@ -3,6 +3,7 @@ pub mod NumberLemmas
 pub mod CoreLemmas
 pub mod CountLemmas
 pub mod WriteLemmas
+pub mod ContextLemmas
 pub mod StateLemmas
 pub mod PartLemmas
 pub mod InstanceLemmas

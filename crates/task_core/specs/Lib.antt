@@ -8,4 +8,5 @@ pub mod Simple
 pub mod Sound
 pub mod Queue
 pub mod Start
+pub mod Context
 pub mod State

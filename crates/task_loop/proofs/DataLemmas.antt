@@ -1,18 +1,18 @@
 -- An op on registers and words makes the step that its row says.
 use Rattle.std.proofs.Common.{ap, ap₂, arith, refl, subst, sym, ◌∙◌, ◌≤◌, ◌<◌}
-use Rattle.std.specs.Prelude.{Bool, Some, false, if◌then◌else◌, length, min, true, ℕ, ◌+◌, ◌==◌, ◌≡◌}
+use Rattle.std.specs.Prelude.{Bool, Some, false, if◌then◌else◌, length, min, true, ℕ, ◌%◌, ◌+◌, ◌/◌, ◌==◌, ◌^◌, ◌≡◌}
 use Rattle.task_machine.specs.declared.component.Component.{Component}
 use Rattle.task_machine.specs.declared.label.DataLabel.{DataLabel}
 use Rattle.task_machine.specs.declared.label.DataLabel.TheVariants as data_label
 use Rattle.task_machine.specs.declared.label.Label.TheVariants as label
+use Rattle.task_machine.specs.declared.op.DataOp.{DataOp}
 use Rattle.task_machine.specs.declared.op.DataOp.TheVariants as data_op
 use Rattle.task_machine.specs.declared.op.Op.TheVariants as op
-use Rattle.task_machine.specs.declared.op.Operand.{Operand}
 use Rattle.task_machine.specs.declared.records.Place.TheVariants as place
 use Rattle.task_machine.specs.declared.records.Script.TheVariants as script
 use Rattle.task_machine.specs.declared.records.Turn.TheVariants as turn
 use Rattle.task_machine.specs.Core.{Core}
-use Rattle.task_machine.specs.Read.{place_of, position_of}
+use Rattle.task_machine.specs.Read.{instance_of, place_of, position_of, register_of, word_of}
 use Rattle.task_machine.specs.Write.{on_instance, on_thread, set_how_far, set_position, set_register, set_word}
 use Rattle.task_rules.specs.Data.{advanced, assigned, data_row, moved_to, skip_row, skipped, stored}
 use Rattle.task_rules.specs.Progress.{Goes}
@@ -106,12 +106,22 @@ module _ (s : Seen) (simple : IsSimple s.core) (r : Running) (about : IsAbout s 
       let next : position_of n s.core + 1 ≡ passing false ops = omega (arith, before) in
       ap (λ p. Goes (label.Data (data_label.SkipEq n)) (moved_to n p s.core) n) next
 
-  pub skip_is : (x y : Operand) (ops p : ℕ) → op_of c n s.core ≡ op.Data (data_op.SkipEq x y ops) → p ≡ passing (value_of n s.core x == value_of n s.core y) ops → IsData c n s.core (data_label.SkipEq n) (moved_to n p s.core)
-  skip_is x y ops p op_is is = (
-    data_op.SkipEq x y ops,
-    (
-      op_is,
-      skip_where (value_of n s.core x == value_of n s.core y) ops (before_data s simple r about c fits (data_op.SkipEq x y ops) op_is)
-          ∙ ap (λ q. Goes (label.Data (data_label.SkipEq n)) (moved_to n q s.core) n) (sym is),
-    ),
-  )
+  -- an op on registers and words makes the step that its row says
+  module _ (at : place_of n s.core ≡ Some place.Running) where
+    assigned_as : (o : DataOp) → op_of c n s.core ≡ op.Data o → (l : DataLabel) (new : Core) → data_row c n s.core o ≡ Goes (label.Data l) new n → (k v : ℕ) → new ≡ assigned n k v s.core → Makes c (phase.Run n) s (record { label = label.Data l; phase = phase.Run n }) (with_core new s)
+    assigned_as o is l new row k v same = assigned_makes at k v l (with_core new s) (o, (is, row ∙ ap (λ w. Goes (label.Data l) w n) same)) (ap (λ w. with_core w s) same)
+
+    pub data_makes : (o : DataOp) → op_of c n s.core ≡ op.Data o → (l : DataLabel) (new : Core) → data_row c n s.core o ≡ Goes (label.Data l) new n → Makes c (phase.Run n) s (record { label = label.Data l; phase = phase.Run n }) (with_core new s)
+    data_makes (data_op.Set to x) is l new row = assigned_as (data_op.Set to x) is l new row to (value_of n s.core x) (cc row)
+    data_makes (data_op.Add to x) is l new row = assigned_as (data_op.Add to x) is l new row to ((register_of n to s.core + value_of n s.core x) % 2 ^ 64) (cc row)
+    data_makes (data_op.Handle to x) is l new row = assigned_as (data_op.Handle to x) is l new row to (value_of n s.core x / 16) (cc row)
+    data_makes (data_op.Load to w) is l new row = assigned_as (data_op.Load to w) is l new row to (word_of (instance_of n s.core) w s.core) (cc row)
+    data_makes (data_op.Store w x) is l new row =
+        let same : new ≡ stored n w (value_of n s.core x) s.core = cc row in
+        stored_makes at w (value_of n s.core x) l (with_core new s) (data_op.Store w x, (is, row ∙ ap (λ w. Goes (label.Data l) w n) same)) (ap (λ w. with_core w s) same)
+    data_makes (data_op.SkipEq x y ops) is l new row =
+        let b : Bool = value_of n s.core x == value_of n s.core y in
+        let shown : Goes (label.Data l) new n ≡ Goes (label.Data (data_label.SkipEq n)) (moved_to n (passing b ops) s.core) n = sym row ∙ skip_where b ops (before_data s simple r about c fits (data_op.SkipEq x y ops) is) in
+        let same : new ≡ moved_to n (passing b ops) s.core = cc shown in
+        let within : passing b ops ≤ script_end = omega arith in
+        moved_makes at (passing b ops) l (with_core new s) within (data_op.SkipEq x y ops, (is, row ∙ ap (λ w. Goes (label.Data l) w n) same)) (ap (λ w. with_core w s) same)

@@ -1,6 +1,6 @@
 -- Runs go on, and end.
 use Rattle.std.proofs.Common.{◌≡◌, ◌≤◌, ◌<◌, ◌+◌, ℕ, List, [], ◌∷◌, ◌++◌, true, false, refl, sym, ap, ◌∙◌, append_assoc, append-nil, subst, length-append, length, arith}
-use Rattle.std.specs.Prelude.{Some, None, is_none, ◌*◌, ◌==◌}
+use Rattle.std.specs.Prelude.{Some, None, is_none, ◌==◌}
 use Rattle.std.proofs.lemmas.Bool.{eq-eqb}
 use Rattle.task_machine.specs.declared.label.CallLabel.{CallLabel}
 use Rattle.task_machine.specs.declared.label.CallLabel.TheVariants as call_label
@@ -19,7 +19,7 @@ use Rattle.task_rules.specs.Run.{Run}
 use Rattle.task_rules.specs.Outcome.{call_outcome, last_outcome, loop_outcome, main_outcome, outcome_of_label, outcome_of, or_open, open_outcome, is_at_rest, IsOutcome}
 use Rattle.task_loop.specs.declared.step.Made.{Made}
 use Rattle.task_loop.specs.declared.step.Phase.{Phase}
-use Rattle.task_loop.specs.Drive.{Going, Drives, Drove}
+use Rattle.task_loop.specs.Drive.{Drives, Drove, Going, IsOn}
 use Rattle.task_loop.specs.Fit.{Fits, given}
 use Rattle.task_loop.specs.Main.{state_at}
 use Rattle.task_state.specs.Seen.{Seen}
@@ -128,15 +128,6 @@ label_ends (label.Main l) o is = main_ends l o is
 label_ends (label.Loop l) o is = loop_ends l o is
 label_ends (label.Call l) o is = call_ends l o is
 label_ends _ o is = absurd (cc)
-
--- The run has gone on for n labels, and the store stands so that it can go on.
-pub record IsOn (x : Setting) (s : State) (before : List Label) (numbers : ℕ) (p : Phase) (m : Main) (t : Seen) (after : List Label) (n : ℕ) : Type 0 where
-  pub going : Going x s before (state_at t.core m (turn_of p)) after n
-  pub unfinished : is_open p ≡ true
-  pub fits : Fits x.component t.core
-  pub few : given t.core ≤ numbers + 2 * n
-  pub running : t.running ≡ runs_in p
-  pub pends : PendsIn x t m p
 
 pub on_begins : (x : Setting) (before : List Label) (p : Phase) (m : Main) (t : Seen) → is_open p ≡ true → Fits x.component t.core → t.running ≡ runs_in p → PendsIn x t m p
     → IsOn x (state_at t.core m (turn_of p)) before (given t.core) p m t before 0

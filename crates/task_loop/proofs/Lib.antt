@@ -7,4 +7,6 @@ pub mod RunLemmas
 pub mod TurnLemmas
 pub mod CallLemmas
 pub mod TestLemmas
+pub mod ContextLemmas
 pub mod DataLemmas
+pub mod StretchLemmas

@@ -50,7 +50,7 @@ module _ (c : Component) (first : IsFirstComponent c) (f : Callee) where
   short_at None is = omega arith
   short_at (Some e) is = (first f e is).short
 
-  script_short : length (script_in c f script.Start) ≤ 4096
+  pub script_short : length (script_in c f script.Start) ≤ 4096
   script_short = short_at (export_at c f) refl
 
   plain_at : (i : ℕ) (x : Op) (o : Option ExportDef) → export_at c f ≡ o → slice_get (option_map_or (λ d. d.start) o []) i ≡ Some x → is_plain_op x ≡ true

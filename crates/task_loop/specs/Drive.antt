@@ -1,5 +1,6 @@
 -- What driving a run adds to a trace.
-use Rattle.std.specs.Prelude.{◌≡◌, ℕ, ◌+◌, ◌*◌, ◌≤◌, List, ◌++◌, None, length}
+use Rattle.std.specs.Prelude.{◌≡◌, ℕ, ◌+◌, ◌*◌, ◌≤◌, List, ◌++◌, None, length, true}
+use Rattle.task_machine.specs.declared.component.Component.{Component}
 use Rattle.task_machine.specs.declared.label.Label.{Label}
 use Rattle.task_machine.specs.declared.outcome.Outcome.{Outcome}
 use Rattle.task_machine.specs.Core.{Main, State}
@@ -36,3 +37,16 @@ pub record Drove (x : Setting) (s : State) (before : List Label) (numbers : ℕ)
   pub few : given t.core ≤ numbers + 2 * steps
   pub running : t.running ≡ runs_in p
   pub pends : PendsIn x t m p
+
+-- The run has gone on for n labels, and the store stands so that it can go on.
+pub record IsOn (x : Setting) (s : State) (before : List Label) (numbers : ℕ) (p : Phase) (m : Main) (t : Seen) (after : List Label) (n : ℕ) : Type 0 where
+  pub going : Going x s before (state_at t.core m (turn_of p)) after n
+  pub unfinished : is_open p ≡ true
+  pub fits : Fits x.component t.core
+  pub few : given t.core ≤ numbers + 2 * n
+  pub running : t.running ≡ runs_in p
+  pub pends : PendsIn x t m p
+
+-- Where a run has gone on for so many labels in this phase, it goes on to this store and trace in the same phase, with main as it was.
+abbrev pub KeepsOn : Component → Phase → Seen → List Label → ℕ → Seen → List Label → ℕ → Type 0
+KeepsOn c p s before added t after k = (x : Setting) → x.component ≡ c → (o : State) (trace : List Label) (numbers : ℕ) (m : Main) → IsOn x o trace numbers p m s before added → IsOn x o trace numbers p m t after k

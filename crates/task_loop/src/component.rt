@@ -24,10 +24,11 @@ pub fn export_def(component: &Component, callee: Callee) -> Option<&ExportDef>
     instance.exports.as_slice().get(callee.export as usize)
 }
 
-fn op_at(def: &ExportDef, position: u32) -> Option<&Op>
-    ensures { option_copied result ≡ slice_get def.now.start position }
+/// The op at a place of a script, none at its end.
+pub(crate) fn op_at(script: &[Op], position: u32) -> Option<&Op>
+    ensures { option_copied result ≡ slice_get script.now position }
 {
-    def.start.as_slice().get(position as usize)
+    script.get(position as usize)
 }
 
 /// The op at a place of an export's start script, none at its end.
@@ -35,15 +36,15 @@ pub fn script_op(component: &Component, callee: Callee, position: u32) -> Option
     ensures { option_copied result ≡ slice_get (script_in component.now callee Script.Start) position }
 {
     let def = export_def(component, callee)?;
-    op_at(def, position)
+    op_at(def.start.as_slice(), position)
 }
 
-/// How many ops an export's start script has; 0 where the component has no such export.
-pub fn script_length(component: &Component, callee: Callee) -> usize
-    ensures { result ≡ length (script_in component.now callee Script.Start) }
+/// An export's start script; empty where the component has no such export.
+pub fn start_script(component: &Component, callee: Callee) -> &[Op]
+    ensures { result.now ≡ script_in component.now callee Script.Start }
 {
     match export_def(component, callee) {
-        Some(def) => def.start.as_slice().len(),
-        None => 0,
+        Some(def) => def.start.as_slice(),
+        None => &[],
     }
 }

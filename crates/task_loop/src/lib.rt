@@ -8,6 +8,7 @@ mod instance;
 mod main_task;
 mod run;
 mod step;
+mod stretch;
 mod trace;
 
 pub use call::{Func, FuncCallConcurrent};

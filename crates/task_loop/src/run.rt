@@ -2,13 +2,14 @@ ghost use Rattle.std.specs.Prelude.{◌≡◌, ◌+◌, ◌*◌, ◌≤◌, ◌<
 ghost use Rattle.task_machine.specs.Core.{Main};
 ghost use Rattle.task_rules.specs.Outcome.{is_at_rest, outcome_of_label};
 ghost use Rattle.task_rules.specs.Stalled.{Setting};
-ghost use Rattle.task_loop.specs.Drive.{Drives, Drove};
+ghost use Rattle.task_loop.specs.Drive.{Drives, Drove, KeepsOn};
 ghost use Rattle.task_loop.specs.Fit.{IsFirstComponent, Fits, given};
 ghost use Rattle.task_loop.specs.Main.{state_at};
 ghost use Rattle.task_loop.specs.Turn.{PendsIn, Turned, goes_on, idle_line_of, is_open, runs_in, setting_of, turn_of};
 
 use crate::main_task::MainTask;
 use crate::step::{Made, Phase, step_deadlock, step_main, step_run, step_take};
+use crate::stretch::stretch;
 use crate::trace::Trace;
 use task_core::NoMemory;
 use task_machine::{CallLabel, Component, Label, LoopLabel, MainLabel, Outcome, Trap};
@@ -122,7 +123,8 @@ impl RunConcurrent {
         ensures idle { self.new.trap_on_idle ≡ self.old.trap_on_idle }
         ensures ok { IfOk result (λ outcome. Drove (setting_of component.now (M.script main.old) self.old.trap_on_idle) (state_at store.old.state.core (M.part main.old) (turn_of self.old.phase)) trace.old (given store.old.state.core) self.new.phase (M.part main.new) store.new.state trace.new steps outcome) }
     {
-        'turns: for _added in 0..steps {
+        let mut added = 0;
+        'turns: while added < steps {
             let Some(made) = self.turn(component, store, main)? else {
                 return Ok(Outcome::Idle);
             };
@@ -133,11 +135,33 @@ impl RunConcurrent {
             if let Some(outcome) = outcome_of(made.label) {
                 return Ok(outcome);
             }
+            added = self.compute(component, store, trace, added + 1, steps)?;
         }
         if self.is_idle(store) {
             return Ok(Outcome::Idle);
         }
         Ok(Outcome::OutOfSteps)
+    }
+
+    // The ops on registers and words that come next, where a thread runs.
+    fn compute<T, H>(
+        &self,
+        component: &Component,
+        store: &mut Store<T, H>,
+        trace: &mut Trace,
+        added: u32,
+        steps: u32,
+    ) -> Result<u32, NoMemory>
+        requires first { IsFirstComponent component.now }
+        requires current { store.old.state.running ≡ runs_in self.now.phase }
+        requires few { added ≤ steps }
+        ensures few { IfOk result (λ k. (added ≤ k) × (k ≤ steps)) }
+        ensures on { IfOk result (λ k. KeepsOn component.now self.now.phase store.old.state trace.old added store.new.state trace.new k) }
+    {
+        match self.phase {
+            Phase::Run(_) => stretch(component, store, trace, added, steps),
+            _ => Ok(added),
+        }
     }
 
     // Whether nothing can go on and that is no deadlock.

@@ -11,11 +11,15 @@ use Rattle.task_machine.specs.Write.{on_instance, on_thread, set_how_far, set_po
 use Rattle.task_rules.specs.Data.{advanced, assigned, moved_to, stored}
 use Rattle.task_core.specs.Shown.{IsLive, Shown, call_number, number_of, with_core}
 use Rattle.task_core.specs.declared.entry.QualifiedThreadId.{QualifiedThreadId}
+use Rattle.task_core.specs.Context.{with_context}
+use Rattle.task_core.proofs.ContextLemmas.{made-context, running-context}
 use Rattle.task_simple.specs.Simple.{IsSimple}
-use Rattle.task_simple.proofs.DataLemmas.{assigned_is, assigned_runs, assigned_simple, moved_is, moved_runs, moved_simple, stored_is, stored_runs, stored_simple}
+use Rattle.task_simple.proofs.DataLemmas.{Running, running-set_word, assigned_is, assigned_runs, assigned_simple, moved_is, moved_runs, moved_simple, stored_is, stored_runs, stored_simple}
 use Rattle.task_simple.proofs.FoundLemmas.{position_found}
 use Rattle.task_simple.proofs.ReadLemmas.{task_of_is}
 use Rattle.task_simple.proofs.SimpleLemmas.{thread_there}
+use Rattle.task_state.specs.declared.context.ThreadContext.{ThreadContext}
+use Rattle.task_state.specs.Context.{in_context}
 use Rattle.task_state.specs.Seen.{Seen, with_core as with_seen_core}
 use Rattle.task_state.specs.State.{IsWhole, Runs, seen}
 use Rattle.task_state.proofs.TakenLemmas.{few_made}
@@ -32,6 +36,10 @@ made_assigned n r v s = refl
 made_stored : (n w v : ℕ) (s : Core) → (stored n w v s).made ≡ s.made
 unfolding stored advanced moved_to set_how_far set_position set_word on_thread on_instance
 made_stored n w v s = refl
+
+made_written : (i w v : ℕ) (s : Core) → (set_word i w v s).made ≡ s.made
+unfolding set_word on_instance
+made_written i w v s = refl
 
 module _ (s : Shown) (whole : IsWhole s) (id : QualifiedThreadId) (now : Some id ≡ s.current) where
   abbrev n : ℕ
@@ -77,6 +85,19 @@ module _ (s : Shown) (whole : IsWhole s) (id : QualifiedThreadId) (now : Some id
   assigns r v u is =
       goes (λ m. assigned m r v) u (is ∙ ap (λ c. with_core c s) (sym (assigned_is n r v s.core whole.simple at)))
       (assigned_simple s.core whole.simple n at r v) (assigned_runs s.core whole.simple n at r v) (made_assigned n r v s.core)
+
+  abbrev here : Running n s.core
+  here = record { simple = whole.simple; runs = at }
+
+  pub contexts : (x : ThreadContext) (u : Shown) → u ≡ with_core (with_context n x.position x.registers s.core) s → Goes (λ m. in_context m x) u
+  contexts x u is =
+      let now = running-context n s.core here x.position x.registers in
+      goes (λ m. in_context m x) u is now.simple now.runs (made-context n x.position x.registers s.core)
+
+  pub writes : (i w v : ℕ) (u : Shown) → u ≡ with_core (set_word i w v s.core) s → Goes (λ m. set_word i w v) u
+  writes i w v u is =
+      let now = running-set_word n i w v s.core here in
+      goes (λ m. set_word i w v) u is now.simple now.runs (made_written i w v s.core)
 
   module _ (t : Thread) (found : get s.core.threads n ≡ Some t) where
     module _ (c : Call) (read : get s.core.calls (call_number s.tags id.task) ≡ Some c) where

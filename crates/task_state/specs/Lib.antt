@@ -1,3 +1,4 @@
 pub mod Seen
+pub mod Context
 pub mod State
 pub mod Moves

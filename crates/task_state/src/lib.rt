@@ -2,9 +2,11 @@
 #![tactic(auto)]
 
 mod begin;
+mod context;
 mod state;
 mod taken;
 
+pub use context::ThreadContext;
 pub use state::{ConcurrentState, Running};
 pub use taken::Taken;
 pub use task_core::{NoMemory, TaskError};

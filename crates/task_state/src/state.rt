@@ -24,7 +24,7 @@ use task_table::ResourceTable;
 /// The calls and threads of a store, and the thread that runs.
 #[derive(Drop)]
 pub struct ConcurrentState {
-    core: TaskCore,
+    pub(crate) core: TaskCore,
 }
 
 impl Model for ConcurrentState {

@@ -3,6 +3,7 @@ ghost use Rattle.task_machine.specs.Maps.{get};
 ghost use Rattle.task_machine.specs.Read.{position_of, register_of};
 ghost use Rattle.task_machine.specs.Write.{set_register, set_position, set_how_far, set_script, set_place};
 ghost use Rattle.task_machine.proofs.FieldLemmas.{put_thread};
+ghost use Rattle.task_core.specs.Context.{with_context};
 ghost use Rattle.task_core.specs.Shown.{thread_number, with_core};
 ghost use Rattle.task_core.specs.Simple.{IsPlainThread};
 
@@ -81,6 +82,20 @@ impl TaskCore {
             Ok(entry) => {
                 put_word(&mut entry.thread.registers, register, value);
                 entry.thread.position += 1;
+            }
+            Err(_) => unreachable!(),
+        }
+    }
+
+    /// Writes the context of a thread: its place in its script, from 0, and its registers.
+    pub fn set_context(&mut self, id: TableId<ThreadKey>, position: u32, registers: &[u64; 16])
+        requires { 0 < thread_number self.old.tags id }
+        ensures { self.new ≡ with_core (with_context (thread_number self.old.tags id) position registers.now self.old.core) self.old }
+    {
+        match self.table.get_mut(id) {
+            Ok(entry) => {
+                entry.thread.position = position;
+                entry.thread.registers = *registers;
             }
             Err(_) => unreachable!(),
         }

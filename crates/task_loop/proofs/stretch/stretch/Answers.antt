@@ -1,0 +1,73 @@
+-- Each op of the stretch adds to the run, and in the end the context is written back.
+use Rattle.std.proofs.Common.{ap, arith, subst, sym, ◌∙◌}
+use Rattle.std.specs.Prelude.{◌≡◌, ◌+◌, List, Some, length, option_copied, slice_get}
+use Rattle.task_machine.specs.declared.label.Label.{Label}
+use Rattle.task_machine.specs.declared.op.Op.{Op}
+use Rattle.task_machine.specs.declared.op.Op.TheVariants as op
+use Rattle.task_machine.specs.declared.records.Script.TheVariants as script
+use Rattle.task_rules.specs.Scripts.{script_in}
+use Rattle.task_machine.specs.Read.{position_of, registers_of}
+use Rattle.task_state.specs.Context.{in_context}
+use Rattle.task_state.specs.Seen.{Seen, with_core}
+use Rattle.task_loop.specs.declared.step.Phase.TheVariants as phase
+use Rattle.task_loop.specs.Drive.{KeepsOn}
+use Rattle.task_loop.proofs.RunLemmas.{if_some, some_is}
+use Rattle.task_loop.proofs.StretchLemmas.{begins, keeps_none, keeps_on, op_there, script_there, store_in}
+use Rattle.task_loop.proofs.stretch.stretch.Goals as goal
+
+pub ops-init : goal.ops-init
+ops-init g c =
+    let s = c.args.store.now.state in
+    let r = c.in-Some.running in
+    let about = c.in-Some.ensures.some in
+    let x = c.context-context.result in
+    let position = if_some (λ n. x.position ≡ position_of n s.core) s.running r.number about.runs c.context-context.ensures.position in
+    let registers = if_some (λ n. x.registers ≡ registers_of n s.core) s.running r.number about.runs c.context-context.ensures.registers in
+    let same = begins s c.is_whole.ensures.simple r about (c.is_whole.ensures.some r.number about.runs) x position registers in
+    record {
+      about = about;
+      on = subst (λ d. KeepsOn c.args.component.now (phase.Run r.number) s c.args.trace.now c.args.added (with_core d s) c.args.trace.now c.args.added) (sym same) (keeps_none c.args.component.now (phase.Run r.number) s c.args.trace.now c.args.added);
+    }
+
+pub returns-in_default-op_at-clause-on : goal.returns-in_default-op_at-clause-on
+returns-in_default-op_at-clause-on g c =
+    let s = c.args.store.now.state in
+    let r = c.in-Some.running in
+    let t = c.ops.store.state in
+    let written = if_some (λ n. c.set_context.new.self ≡ with_core (in_context n c.ops.context t.core) t) t.running r.number c.ops.invariant.about.runs c.set_context.ensures in
+    some_is (λ n. KeepsOn c.args.component.now (phase.Run n) s c.args.trace.now c.args.added c.set_context.new.self c.ops.trace c.ops.count) s.running r.number c.in-Some.ensures.some.runs
+    (subst (λ (u : Seen). KeepsOn c.args.component.now (phase.Run r.number) s c.args.trace.now c.args.added u c.ops.trace c.ops.count) (sym written) c.ops.invariant.on)
+
+pub returns-clause-on : goal.returns-clause-on
+returns-clause-on g c =
+    let s = c.args.store.now.state in
+    let r = c.in-Some.running in
+    let t = c.ops.store.state in
+    let all : c.ops.count ≡ c.args.steps = omega (arith, c.ops-test.false) in
+    let written = if_some (λ n. c.set_context-2.new.self ≡ with_core (in_context n c.ops.context t.core) t) t.running r.number c.ops.invariant.about.runs c.set_context-2.ensures in
+    some_is (λ n. KeepsOn c.args.component.now (phase.Run n) s c.args.trace.now c.args.added c.set_context-2.new.self c.ops.trace c.args.steps) s.running r.number c.in-Some.ensures.some.runs
+    (subst (λ k. KeepsOn c.args.component.now (phase.Run r.number) s c.args.trace.now c.args.added c.set_context-2.new.self c.ops.trace k) all
+    (subst (λ (u : Seen). KeepsOn c.args.component.now (phase.Run r.number) s c.args.trace.now c.args.added u c.ops.trace c.ops.count) (sym written) c.ops.invariant.on))
+
+pub ops-preserved : goal.ops-preserved
+ops-preserved g c =
+    let s = c.args.store.now.state in
+    let r = c.in-Some.running in
+    let t = c.ops.store.state in
+    let about = c.ops.invariant.about in
+    let simple = c.is_whole-in-ops.ensures.simple in
+    let at = c.is_whole-in-ops.ensures.some r.number about.runs in
+    let x = c.ops.context in
+    let y = c.computes_in-label.new.context in
+    let u = c.computes_in-label.new.store.state in
+    let l = c.computes_in-label.result in
+    let ends = ap length (script_there t simple r about at x c.args.component.now ∙ sym c.start_script-script.ensures) in
+    let row = c.computes_in-label.ensures.row c.args.component.now ends in
+    let lookup : slice_get (script_in c.args.component.now r.callee script.Start) x.position ≡ Some (op.Data c.in-Some-Data.op) =
+    ap (λ (ops : List Op). slice_get ops x.position) (sym c.start_script-script.ensures) ∙ sym c.op_at.ensures ∙ ap option_copied c.in-Some-Data.is ∙ ap (λ (o : Op). Some o) c.in-Some-Data.field-0-is in
+    let at_op = op_there t simple r about at x c.args.component.now (op.Data c.in-Some-Data.op) lookup in
+    let on = keeps_on t simple r about at x c.args.component.now c.in-Some-Data.op l y u row (c.computes_in-label.ensures.about.runs ∙ sym about.runs) at_op s c.args.trace.now c.ops.trace c.args.added c.ops.count c.ops.invariant.on in
+    record {
+      about = c.computes_in-label.ensures.about;
+      on = subst (λ (ls : List Label). KeepsOn c.args.component.now (phase.Run r.number) s c.args.trace.now c.args.added (store_in r.number y u) ls (c.ops.count + 1)) (sym c.in-Ok.ensures.ok) on;
+    }
