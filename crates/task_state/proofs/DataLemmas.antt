@@ -16,8 +16,7 @@ use Rattle.task_simple.proofs.DataLemmas.{assigned_is, assigned_runs, assigned_s
 use Rattle.task_simple.proofs.FoundLemmas.{position_found}
 use Rattle.task_simple.proofs.ReadLemmas.{task_of_is}
 use Rattle.task_simple.proofs.SimpleLemmas.{thread_there}
-use Rattle.task_state.specs.Seen.{Seen, with_core as with_seen_core}
-use Rattle.task_state.specs.State.{IsWhole, Runs, seen}
+use Rattle.task_state.specs.State.{IsWhole, Runs, running_of}
 use Rattle.task_state.proofs.TakenLemmas.{few_made}
 use Rattle.task_state.proofs.RunLemmas.{call_now, instance_is, live_now, place_now, running_now}
 
@@ -53,19 +52,19 @@ module _ (s : Shown) (whole : IsWhole s) (id : QualifiedThreadId) (now : Some id
     whole_on : IsWhole (with_core x s)
     whole_on = record { simple = simple; few = few_made x s.core made whole.few; runs = subst (λ o. Runs (with_core x s) o) now (live, runs) }
 
-  -- the move that was made, and how it is seen
+  -- the move that was made, and what it comes to
   pub record Goes (x : ℕ → Core → Core) (u : Shown) : Type 0 where
     pub whole_then : IsWhole u
-    pub seen_then : (w : Seen) → seen s ≡ w → IfSome w.running (λ m. seen u ≡ with_seen_core (x m w.core) w)
+    pub then_is : (w : Shown) → s ≡ w → IfSome (running_of w) (λ m. u ≡ with_core (x m w.core) w)
 
-  seen_on : (x : ℕ → Core → Core) → IfSome (seen s).running (λ m. seen (with_core (x n s.core) s) ≡ with_seen_core (x m s.core) (seen s))
-  seen_on x = subst (λ o. IfSome o (λ m. seen (with_core (x n s.core) s) ≡ with_seen_core (x m s.core) (seen s))) (sym (running_now s whole id now)) refl
+  moved_on : (x : ℕ → Core → Core) → IfSome (running_of s) (λ m. with_core (x n s.core) s ≡ with_core (x m s.core) s)
+  moved_on x = subst (λ o. IfSome o (λ m. with_core (x n s.core) s ≡ with_core (x m s.core) s)) (sym (running_now s whole id now)) refl
 
   goes : (x : ℕ → Core → Core) (u : Shown) → u ≡ with_core (x n s.core) s → IsSimple (x n s.core) → place_of n (x n s.core) ≡ Some place.Running → (x n s.core).made ≡ s.core.made → Goes x u
   goes x u is simple runs made = record {
     whole_then = subst (λ u. IsWhole u) (sym is) (whole_on (x n s.core) simple runs made);
-    seen_then = λ w same. subst (λ (w : Seen). IfSome w.running (λ m. seen u ≡ with_seen_core (x m w.core) w)) same
-        (subst (λ u. IfSome (seen s).running (λ m. seen u ≡ with_seen_core (x m s.core) (seen s))) (sym is) (seen_on x));
+    then_is = λ w same. subst (λ (w : Shown). IfSome (running_of w) (λ m. u ≡ with_core (x m w.core) w)) same
+        (subst (λ u. IfSome (running_of s) (λ m. u ≡ with_core (x m s.core) s)) (sym is) (moved_on x));
   }
 
   pub moves : (p : ℕ) (u : Shown) → u ≡ with_core (set_position n p s.core) s → Goes (λ m. moved_to m p) u

@@ -1,3 +1,4 @@
 pub mod Seen
 pub mod State
 pub mod Moves
+pub mod Guest

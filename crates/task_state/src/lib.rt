@@ -2,12 +2,13 @@
 #![tactic(auto)]
 
 mod begin;
+mod guest;
 mod state;
 mod taken;
 
 pub use state::{ConcurrentState, Running};
 pub use taken::Taken;
-pub use task_core::{NoMemory, TaskError};
+pub use task_core::{NoMemory, QualifiedThreadId, TaskError};
 pub use task_machine::{ExportKind, Mark};
 
 #[cfg(test)]

@@ -5,4 +5,4 @@ pub invariant_of-self : goal.invariant_of-self
 invariant_of-self c = (assigns c.self.inside.core c.self.invariant c.in-Some.id c.in-Some.ensures c.args.register c.args.value c.answer.new.self c.answer.ensures).whole_then
 
 pub returns : goal.returns
-returns c = (assigns c.self.inside.core c.self.invariant c.in-Some.id c.in-Some.ensures c.args.register c.args.value c.answer.new.self c.answer.ensures).seen_then _ c.self.view_is
+returns c = (assigns c.self.inside.core c.self.invariant c.in-Some.id c.in-Some.ensures c.args.register c.args.value c.answer.new.self c.answer.ensures).then_is _ c.self.view_is

@@ -5,4 +5,4 @@ pub invariant_of-self : goal.invariant_of-self
 invariant_of-self c = (moves c.self.inside.core c.self.invariant c.in-Some.id c.in-Some.ensures c.args.position c.set_position.new.self c.set_position.ensures).whole_then
 
 pub returns : goal.returns
-returns c = (moves c.self.inside.core c.self.invariant c.in-Some.id c.in-Some.ensures c.args.position c.set_position.new.self c.set_position.ensures).seen_then _ c.self.view_is
+returns c = (moves c.self.inside.core c.self.invariant c.in-Some.id c.in-Some.ensures c.args.position c.set_position.new.self c.set_position.ensures).then_is _ c.self.view_is
