@@ -6,6 +6,7 @@ ghost use Rattle.task_state.specs.Moves.{IsAbout};
 ghost use Rattle.task_loop.specs.Fit.{IsFirstComponent, Fits};
 ghost use Rattle.task_loop.specs.Made.{IsData};
 ghost use Rattle.task_loop.specs.Turn.{Makes};
+ghost use Rattle.task_state.specs.State.{seen};
 
 use crate::component::script_length;
 use crate::step::{Made, Phase};
@@ -22,9 +23,9 @@ pub(crate) fn computes<T, H>(
 ) -> Made
     requires first { IsFirstComponent component.now }
     requires fits { Fits component.now store.old.state.core }
-    requires about { IsAbout store.old.state running.now }
+    requires about { IsAbout (seen store.old.state) running.now }
     requires op { op_of component.now running.now.number store.old.state.core ≡ Op.Data op }
-    ensures { Makes component.now (Phase.Run running.now.number) store.old.state result store.new.state }
+    ensures { Makes component.now (Phase.Run running.now.number) (seen store.old.state) result (seen store.new.state) }
 {
     store.state.is_whole();
     let number = running.number;
@@ -86,7 +87,7 @@ pub(crate) fn computes<T, H>(
 
 /// An operand's value for the running thread.
 pub(crate) fn value_now<T, H>(store: &Store<T, H>, running: &Running, operand: Operand) -> u64
-    requires { IsAbout store.now.state running.now }
+    requires { IsAbout (seen store.now.state) running.now }
     ensures { result ≡ value_of running.now.number store.now.state.core operand }
 {
     let _running = running;
@@ -95,7 +96,7 @@ pub(crate) fn value_now<T, H>(store: &Store<T, H>, running: &Running, operand: O
 
 // A register and an operand, modulo 2^64.
 fn sum<T, H>(store: &Store<T, H>, running: &Running, register: u8, operand: Operand) -> u64
-    requires { IsAbout store.now.state running.now }
+    requires { IsAbout (seen store.now.state) running.now }
     ensures { result ≡ (value_of running.now.number store.now.state.core (Operand.Register register) + value_of running.now.number store.now.state.core operand) % 2 ^ 64 }
 {
     let left = value_now(store, running, Operand::Register(register));
@@ -113,9 +114,9 @@ fn assigns<T, H>(
 ) -> Made
     requires first { IsFirstComponent component.now }
     requires fits { Fits component.now store.old.state.core }
-    requires about { IsAbout store.old.state running.now }
+    requires about { IsAbout (seen store.old.state) running.now }
     requires op { IsData component.now running.now.number store.old.state.core label (assigned running.now.number register answer store.old.state.core) }
-    ensures { Makes component.now (Phase.Run running.now.number) store.old.state result store.new.state }
+    ensures { Makes component.now (Phase.Run running.now.number) (seen store.old.state) result (seen store.new.state) }
 {
     store.state.is_whole();
     store.state.assign(register, answer);
@@ -135,9 +136,9 @@ fn stores<T, H>(
 ) -> Made
     requires first { IsFirstComponent component.now }
     requires fits { Fits component.now store.old.state.core }
-    requires about { IsAbout store.old.state running.now }
+    requires about { IsAbout (seen store.old.state) running.now }
     requires op { IsData component.now running.now.number store.old.state.core (DataLabel.Store running.now.number answer) (stored running.now.number word answer store.old.state.core) }
-    ensures { Makes component.now (Phase.Run running.now.number) store.old.state result store.new.state }
+    ensures { Makes component.now (Phase.Run running.now.number) (seen store.old.state) result (seen store.new.state) }
 {
     store.state.is_whole();
     store.state.store_word(word, answer);
@@ -156,10 +157,10 @@ fn skips<T, H>(
 ) -> Made
     requires first { IsFirstComponent component.now }
     requires fits { Fits component.now store.old.state.core }
-    requires about { IsAbout store.old.state running.now }
+    requires about { IsAbout (seen store.old.state) running.now }
     requires place { place ≤ length (script_in component.now running.now.callee Script.Start) }
     requires op { IsData component.now running.now.number store.old.state.core (DataLabel.SkipEq running.now.number) (moved_to running.now.number place store.old.state.core) }
-    ensures { Makes component.now (Phase.Run running.now.number) store.old.state result store.new.state }
+    ensures { Makes component.now (Phase.Run running.now.number) (seen store.old.state) result (seen store.new.state) }
 {
     store.state.is_whole();
     store.state.move_to(place);
@@ -177,7 +178,7 @@ fn passed<T, H>(
     right: Operand,
     ops: u32,
 ) -> u32
-    requires { IsAbout store.now.state running.now }
+    requires { IsAbout (seen store.now.state) running.now }
     ensures { result ≡ (if value_of running.now.number store.now.state.core left == value_of running.now.number store.now.state.core right then ops else 0) }
 {
     if value_now(store, running, left) == value_now(store, running, right) {
@@ -197,7 +198,7 @@ fn place_after<T, H>(
     ops: u32,
 ) -> u32
     requires first { IsFirstComponent component.now }
-    requires about { IsAbout store.now.state running.now }
+    requires about { IsAbout (seen store.now.state) running.now }
     ensures { result ≡ min (running.now.position + 1 + (if value_of running.now.number store.now.state.core left == value_of running.now.number store.now.state.core right then ops else 0)) (length (script_in component.now running.now.callee Script.Start)) }
 {
     let length = script_length(component, running.callee) as u64;
