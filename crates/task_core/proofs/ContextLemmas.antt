@@ -1,19 +1,19 @@
 -- The place and the registers of the running thread are written at once: what is read then, and what an op on them comes to.
 use Rattle.std.proofs.Common.{ap, refl, subst, sym, ◌∙◌}
 use Rattle.std.specs.Option.{option_map_or}
-use Rattle.std.specs.Prelude.{List, None, Option, Some, [], option_map, slice_set, ℕ, ◌+◌, ◌≡◌, ◌≢◌}
+use Rattle.std.specs.Prelude.{List, None, Option, Some, [], option_map, slice_set, ℕ, ◌+◌, ◌≡◌}
 use Rattle.task_machine.specs.declared.op.Operand.{Operand}
 use Rattle.task_machine.specs.declared.records.Place.TheVariants as place
 use Rattle.task_machine.specs.declared.records.Thread.{Thread}
 use Rattle.task_machine.specs.Core.{Core}
 use Rattle.task_machine.specs.Maps.{Records, change, get}
-use Rattle.task_machine.specs.Read.{call_instance, instance_of, place_of, position_of, registers_of, task_of}
+use Rattle.task_machine.specs.Read.{call_instance, instance_of, position_of, registers_of}
 use Rattle.task_machine.specs.Write.{on_instance, on_thread, set_position, set_register, set_word}
 use Rattle.task_machine.proofs.MapLemmas.{change-field, get-change_other, same_records}
 use Rattle.task_rules.specs.Data.{assigned, moved_to, stored}
 use Rattle.task_rules.specs.Scripts.{value_in, value_of}
 use Rattle.task_simple.proofs.CaseLemmas.{change-same, either, get_changed}
-use Rattle.task_simple.proofs.DataLemmas.{Running, assigned_is, moved_is, running-set_word, stored_is, thread_changed}
+use Rattle.task_simple.proofs.DataLemmas.{Running, assigned_is, moved_is, stored_is, thread_changed}
 use Rattle.task_simple.proofs.SimpleLemmas.{thread_there}
 use Rattle.task_core.specs.Context.{with_context}
 

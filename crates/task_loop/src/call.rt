@@ -2,7 +2,8 @@ ghost use Rattle.std.specs.Prelude.{◌≡◌, ◌<◌, ◌≤◌, ◌^◌, leng
 ghost use Rattle.task_rules.specs.MainOps.{start_refusal};
 ghost use Rattle.task_rules.specs.Scripts.{export_at};
 ghost use Rattle.task_machine.specs.Write.{set_trapped};
-ghost use Rattle.task_state.specs.Seen.{with_core};
+ghost use Rattle.task_core.specs.Shown.{KeepsTags};
+ghost use Rattle.task_state.specs.State.{Becomes, seen};
 ghost use Rattle.task_loop.specs.Fit.{IsFirstComponent, Fits, given};
 ghost use Rattle.task_loop.specs.Calls.{callee_of, Starts, Finishes};
 
@@ -38,7 +39,8 @@ impl FuncCallConcurrent {
 // The start is refused, and the store is trapped.
 fn refuse<T, H>(store: &mut Store<T, H>, why: Trap) -> TaskError
     ensures error { result ≡ TaskError.Trap why }
-    ensures store { store.new ≡ record store.old { state = with_core (set_trapped store.old.state.core) store.old.state } }
+    ensures state { Becomes (set_trapped store.old.state.core) store.old.state store.new.state }
+    ensures rest { store.new ≡ record store.old { state = store.new.state } }
 {
     store.set_trapped();
     TaskError::Trap(why)
@@ -80,8 +82,9 @@ impl Func {
         requires params { IfSome (export_at component.now (callee_of self)) (λ e. length params.now ≡ e.params) }
         requires fits { Fits component.now store.old.state.core }
         requires given { given store.old.state.core < 2 ^ 61 }
-        ensures starts { Starts component.now (callee_of self) params.now store.old.state (start_refusal store.old.state.core) result store.new.state }
+        ensures starts { Starts component.now (callee_of self) params.now (seen store.old.state) (start_refusal store.old.state.core) result (seen store.new.state) }
         ensures fits { Fits component.now store.new.state.core }
+        ensures tags { KeepsTags store.old.state.tags store.new.state.tags }
         ensures rest { store.new ≡ record store.old { state = store.new.state } }
     {
         let _component = component;
@@ -108,9 +111,10 @@ impl Func {
         store: &mut Store<T, H>,
         call: &mut FuncCallConcurrent,
     ) -> Poll<u64>
-        ensures finishes { Finishes call.old.thread store.old.state result store.new.state }
+        ensures finishes { Finishes call.old.thread (seen store.old.state) result (seen store.new.state) }
         ensures call { call.new ≡ call.old }
         ensures fits { (c : Component) → Fits c store.old.state.core → Fits c store.new.state.core }
+        ensures tags { store.new.state.tags ≡ store.old.state.tags }
         ensures rest { store.new ≡ record store.old { state = store.new.state } }
     {
         match store.state.take_result(call.thread) {

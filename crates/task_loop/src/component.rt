@@ -4,6 +4,7 @@ ghost use Rattle.task_rules.specs.Scripts.{export_at, script_in, value_in};
 use task_machine::{Callee, Component, ExportDef, Op, Operand, Script};
 
 /// An operand's value in these registers.
+#[inline(always)]
 pub fn operand_value(registers: &[u64; 16], operand: Operand) -> u64
     ensures { result ≡ value_in registers.now operand }
 {

@@ -5,6 +5,7 @@ ghost use Rattle.task_rules.specs.Progress.{Goes};
 ghost use Rattle.task_rules.specs.Scripts.{op_of, script_of, value_in, value_of};
 ghost use Rattle.task_state.specs.Context.{in_context};
 ghost use Rattle.task_state.specs.Moves.{IsAbout};
+ghost use Rattle.task_state.specs.State.{seen};
 ghost use Rattle.task_loop.specs.Fit.{IsFirstComponent, Fits};
 ghost use Rattle.task_loop.specs.Turn.{Makes};
 
@@ -16,7 +17,7 @@ use task_store::Store;
 
 /// An operand's value for the running thread.
 pub(crate) fn value_now<T, H>(store: &Store<T, H>, running: &Running, operand: Operand) -> u64
-    requires { IsAbout store.now.state running.now }
+    requires { IsAbout (seen store.now.state) running.now }
     ensures { result ≡ value_of running.now.number store.now.state.core operand }
 {
     let _running = running;
@@ -24,6 +25,7 @@ pub(crate) fn value_now<T, H>(store: &Store<T, H>, running: &Running, operand: O
 }
 
 // Sets a register, 0 to 15; there are no others, and a write of one changes nothing.
+#[inline(always)]
 fn put_register(registers: &mut [u64; 16], register: u8, value: u64)
     ensures { registers.new ≡ slice_set registers.old register value }
 {
@@ -33,6 +35,7 @@ fn put_register(registers: &mut [u64; 16], register: u8, value: u64)
 }
 
 // The op answers in a register, and the thread goes on after it.
+#[inline(always)]
 fn assigns(context: &mut ThreadContext, register: u8, answer: u64)
     requires { context.old.position + 1 < 2 ^ 32 }
     ensures { context.new ≡ record { position = context.old.position + 1; registers = slice_set context.old.registers register answer } }
@@ -42,6 +45,7 @@ fn assigns(context: &mut ThreadContext, register: u8, answer: u64)
 }
 
 // The place after `skip_eq`: so many ops past the next one where the operands are equal, at most the script's end.
+#[inline(always)]
 fn place_after(context: &ThreadContext, left: Operand, right: Operand, ops: u32, end: u32) -> u32
     requires { context.now.position < end }
     ensures { result ≡ min (context.now.position + 1 + (if value_in context.now.registers left == value_in context.now.registers right then ops else 0)) end }
@@ -53,7 +57,8 @@ fn place_after(context: &ThreadContext, left: Operand, right: Operand, ops: u32,
 }
 
 /// The running thread, of an export of this instance and at this context before its script's end, does an op on
-/// registers and words. Its record keeps the context of before.
+/// registers and words. Its record keeps the context of before. It is inlined so that a label is made where it stands.
+#[inline(always)]
 pub(crate) fn computes_in<T, H>(
     store: &mut Store<T, H>,
     context: &mut ThreadContext,
@@ -61,10 +66,10 @@ pub(crate) fn computes_in<T, H>(
     end: u32,
     op: DataOp,
 ) -> DataLabel
-    requires about { IsAbout store.old.state running.now }
+    requires about { IsAbout (seen store.old.state) running.now }
     requires before { context.old.position < end }
     ensures row { (c : Component) → length (script_of c running.now.number (in_context running.now.number context.old store.old.state.core)) ≡ end → data_row c running.now.number (in_context running.now.number context.old store.old.state.core) op ≡ Goes (Label.Data result) (in_context running.now.number context.new store.new.state.core) running.now.number }
-    ensures about { IsAbout store.new.state running.now }
+    ensures about { IsAbout (seen store.new.state) running.now }
 {
     store.state.is_whole();
     let number = running.number;
@@ -114,9 +119,9 @@ pub(crate) fn computes<T, H>(
 ) -> Made
     requires first { IsFirstComponent component.now }
     requires fits { Fits component.now store.old.state.core }
-    requires about { IsAbout store.old.state running.now }
+    requires about { IsAbout (seen store.old.state) running.now }
     requires op { op_of component.now running.now.number store.old.state.core ≡ Op.Data op }
-    ensures { Makes component.now (Phase.Run running.now.number) store.old.state result store.new.state }
+    ensures { Makes component.now (Phase.Run running.now.number) (seen store.old.state) result (seen store.new.state) }
 {
     store.state.is_whole();
     let end = start_script(component, running.callee).len() as u32;

@@ -3,6 +3,7 @@ ghost use Rattle.task_machine.specs.Read.{has_ended, instance_of, position_of};
 ghost use Rattle.task_rules.specs.Scripts.{script_of};
 ghost use Rattle.task_loop.specs.Fit.{IsFirstComponent, Fits};
 ghost use Rattle.task_loop.specs.Calls.{Returns, is_own_type, return_refusal};
+ghost use Rattle.task_state.specs.State.{running_of, seen};
 
 use task_core::TaskError;
 use task_machine::{Component, Trap};
@@ -32,10 +33,11 @@ impl Instance {
     ) -> Result<(), TaskError>
         requires first { IsFirstComponent component.now }
         requires fits { Fits component.now store.old.state.core }
-        requires runs { IsSome store.old.state.running }
-        requires instance { IfSome store.old.state.running (λ n. instance_of n store.old.state.core ≡ self.index) }
-        ensures returns { IfSome store.old.state.running (λ n. Returns n value store.old.state (return_refusal (has_ended n store.old.state.core) (is_own_type ty encoding memory)) result store.new.state) }
-        ensures fits { IfSome store.old.state.running (λ n. position_of n store.old.state.core < length (script_of component.now n store.old.state.core) → Fits component.now store.new.state.core) }
+        requires runs { IsSome (running_of store.old.state) }
+        requires instance { IfSome (running_of store.old.state) (λ n. instance_of n store.old.state.core ≡ self.index) }
+        ensures returns { IfSome (running_of store.old.state) (λ n. Returns n value (seen store.old.state) (return_refusal (has_ended n store.old.state.core) (is_own_type ty encoding memory)) result (seen store.new.state)) }
+        ensures fits { IfSome (running_of store.old.state) (λ n. position_of n store.old.state.core < length (script_of component.now n store.old.state.core) → Fits component.now store.new.state.core) }
+        ensures tags { store.new.state.tags ≡ store.old.state.tags }
         ensures rest { store.new ≡ record store.old { state = store.new.state } }
     {
         let _component = component;

@@ -4,6 +4,7 @@ ghost use Rattle.task_machine.specs.declared.component.Component.{Component};
 ghost use Rattle.task_machine.specs.declared.scenario.MainOp.{MainOp};
 ghost use Rattle.task_loop.specs.Fit.{IsFirstComponent, Fits, given};
 ghost use Rattle.task_loop.specs.Main.{Steps};
+ghost use Rattle.task_state.specs.State.{running_of};
 
 use task_core::TaskError;
 use task_machine::{Component, Label};
@@ -48,7 +49,7 @@ pub trait MainTask<T, H> {
         ensures same { access.new.store.ghost_name ≡ access.old.store.ghost_name }
         ensures script { script self.new ≡ script self.old }
         ensures suits { OnOk result (suits self.new component.now) }
-        ensures current { OnOk result (access.new.store.now.state.running ≡ access.old.store.now.state.running) }
+        ensures current { OnOk result (running_of access.new.store.now.state ≡ running_of access.old.store.now.state) }
         ensures fits { OnOk result (Fits component.now access.new.store.now.state.core) }
         ensures ok { IfOk result (λ step. Steps component.now (script self.old) (part self.old) access.old.store.now.state.core step (part self.new) access.new.store.now.state.core) }
         ensures err { IfErr result (λ e. e ≡ TaskError.NoMemory) };

@@ -6,6 +6,7 @@ ghost use Rattle.task_loop.specs.Drive.{Drives, Drove, KeepsOn};
 ghost use Rattle.task_loop.specs.Fit.{IsFirstComponent, Fits, given};
 ghost use Rattle.task_loop.specs.Main.{state_at};
 ghost use Rattle.task_loop.specs.Turn.{PendsIn, Turned, goes_on, idle_line_of, is_open, runs_in, setting_of, turn_of};
+ghost use Rattle.task_state.specs.State.{running_of, seen};
 
 use crate::main_task::MainTask;
 use crate::step::{Made, Phase, step_deadlock, step_main, step_run, step_take};
@@ -79,9 +80,9 @@ impl RunConcurrent {
         requires fits { Fits component.now store.old.state.core }
         requires suits { M.suits main.old component.now }
         requires given { given store.old.state.core ≤ 2 ^ 60 }
-        requires current { store.old.state.running ≡ runs_in self.old.phase }
+        requires current { running_of store.old.state ≡ runs_in self.old.phase }
         requires unfinished { is_open self.old.phase ≡ true }
-        requires pends { PendsIn (setting_of component.now (M.script main.old) self.old.trap_on_idle) store.old.state (M.part main.old) self.old.phase }
+        requires pends { PendsIn (setting_of component.now (M.script main.old) self.old.trap_on_idle) (seen store.old.state) (M.part main.old) self.old.phase }
         ensures script { M.script main.new ≡ M.script main.old }
         ensures suits { OnOk result (M.suits main.new component.now) }
         ensures idle { self.new.trap_on_idle ≡ self.old.trap_on_idle }
@@ -89,8 +90,8 @@ impl RunConcurrent {
         ensures unfinished { IfOk result (λ outcome. is_open self.new.phase ≡ goes_on outcome) }
         ensures fits { OnOk result (Fits component.now store.new.state.core) }
         ensures given { OnOk result (given store.new.state.core ≤ given store.old.state.core + 2 * steps) }
-        ensures current { OnOk result (store.new.state.running ≡ runs_in self.new.phase) }
-        ensures pends { OnOk result (PendsIn (setting_of component.now (M.script main.old) self.old.trap_on_idle) store.new.state (M.part main.new) self.new.phase) }
+        ensures current { OnOk result (running_of store.new.state ≡ runs_in self.new.phase) }
+        ensures pends { OnOk result (PendsIn (setting_of component.now (M.script main.old) self.old.trap_on_idle) (seen store.new.state) (M.part main.new) self.new.phase) }
         ensures err { OnErr result (store.new.state.core.trapped ≡ true) }
     {
         match self.go_on(component, store, main, steps, trace) {
@@ -115,13 +116,13 @@ impl RunConcurrent {
         requires fits { Fits component.now store.old.state.core }
         requires suits { M.suits main.old component.now }
         requires given { given store.old.state.core ≤ 2 ^ 60 }
-        requires current { store.old.state.running ≡ runs_in self.old.phase }
+        requires current { running_of store.old.state ≡ runs_in self.old.phase }
         requires unfinished { is_open self.old.phase ≡ true }
-        requires pends { PendsIn (setting_of component.now (M.script main.old) self.old.trap_on_idle) store.old.state (M.part main.old) self.old.phase }
+        requires pends { PendsIn (setting_of component.now (M.script main.old) self.old.trap_on_idle) (seen store.old.state) (M.part main.old) self.old.phase }
         ensures script { M.script main.new ≡ M.script main.old }
         ensures suits { OnOk result (M.suits main.new component.now) }
         ensures idle { self.new.trap_on_idle ≡ self.old.trap_on_idle }
-        ensures ok { IfOk result (λ outcome. Drove (setting_of component.now (M.script main.old) self.old.trap_on_idle) (state_at store.old.state.core (M.part main.old) (turn_of self.old.phase)) trace.old (given store.old.state.core) self.new.phase (M.part main.new) store.new.state trace.new steps outcome) }
+        ensures ok { IfOk result (λ outcome. Drove (setting_of component.now (M.script main.old) self.old.trap_on_idle) (state_at store.old.state.core (M.part main.old) (turn_of self.old.phase)) trace.old (given store.old.state.core) self.new.phase (M.part main.new) (seen store.new.state) trace.new steps outcome) }
     {
         let mut added = 0;
         'turns: while added < steps {
@@ -153,10 +154,10 @@ impl RunConcurrent {
         steps: u32,
     ) -> Result<u32, NoMemory>
         requires first { IsFirstComponent component.now }
-        requires current { store.old.state.running ≡ runs_in self.now.phase }
+        requires current { running_of store.old.state ≡ runs_in self.now.phase }
         requires few { added ≤ steps }
         ensures few { IfOk result (λ k. (added ≤ k) × (k ≤ steps)) }
-        ensures on { IfOk result (λ k. KeepsOn component.now self.now.phase store.old.state trace.old added store.new.state trace.new k) }
+        ensures on { IfOk result (λ k. KeepsOn component.now self.now.phase (seen store.old.state) trace.old added (seen store.new.state) trace.new k) }
     {
         match self.phase {
             Phase::Run(_) => stretch(component, store, trace, added, steps),
@@ -166,7 +167,7 @@ impl RunConcurrent {
 
     // Whether nothing can go on and that is no deadlock.
     fn is_idle<T, H>(&self, store: &Store<T, H>) -> bool
-        ensures { (x : Setting) → x.idle ≡ idle_line_of self.now.trap_on_idle → (m : Main) → PendsIn x store.now.state m self.now.phase → is_at_rest x (state_at store.now.state.core m (turn_of self.now.phase)) ≡ result }
+        ensures { (x : Setting) → x.idle ≡ idle_line_of self.now.trap_on_idle → (m : Main) → PendsIn x (seen store.now.state) m self.now.phase → is_at_rest x (state_at store.now.state.core m (turn_of self.now.phase)) ≡ result }
     {
         store.state.is_whole();
         if self.trap_on_idle {
@@ -189,12 +190,12 @@ impl RunConcurrent {
         requires fits { Fits component.now store.old.state.core }
         requires suits { M.suits main.old component.now }
         requires given { given store.old.state.core + 4 < 2 ^ 61 }
-        requires current { store.old.state.running ≡ runs_in self.now.phase }
+        requires current { running_of store.old.state ≡ runs_in self.now.phase }
         requires unfinished { is_open self.now.phase ≡ true }
-        requires pends { PendsIn (setting_of component.now (M.script main.old) self.now.trap_on_idle) store.old.state (M.part main.old) self.now.phase }
+        requires pends { PendsIn (setting_of component.now (M.script main.old) self.now.trap_on_idle) (seen store.old.state) (M.part main.old) self.now.phase }
         ensures script { M.script main.new ≡ M.script main.old }
         ensures suits { OnOk result (M.suits main.new component.now) }
-        ensures turned { IfOk result (λ made. Turned (setting_of component.now (M.script main.old) self.now.trap_on_idle) self.now.phase (M.part main.old) store.old.state made (M.part main.new) store.new.state) }
+        ensures turned { IfOk result (λ made. Turned (setting_of component.now (M.script main.old) self.now.trap_on_idle) self.now.phase (M.part main.old) (seen store.old.state) made (M.part main.new) (seen store.new.state)) }
     {
         match self.phase {
             Phase::Main => match step_main(component, store, main) {
@@ -212,8 +213,8 @@ impl RunConcurrent {
 
     // Takes an entry, or else sees what it is that nothing can go on.
     fn take<T, H>(&self, store: &mut Store<T, H>) -> Result<Option<Made>, NoMemory>
-        requires { store.old.state.running ≡ None }
-        ensures { IfOk result (λ made. (x : Setting) → x.idle ≡ idle_line_of self.now.trap_on_idle → (m : Main) → Fits x.component store.old.state.core → PendsIn x store.old.state m Phase.Take → Turned x Phase.Take m store.old.state made m store.new.state) }
+        requires { running_of store.old.state ≡ None }
+        ensures { IfOk result (λ made. (x : Setting) → x.idle ≡ idle_line_of self.now.trap_on_idle → (m : Main) → Fits x.component store.old.state.core → PendsIn x (seen store.old.state) m Phase.Take → Turned x Phase.Take m (seen store.old.state) made m (seen store.new.state)) }
     {
         store.state.is_whole();
         match step_take(store) {

@@ -11,6 +11,7 @@ ghost use Rattle.task_loop.specs.Fit.{IsFirstComponent, Fits, given, is_plain_op
 ghost use Rattle.task_loop.specs.Main.{Steps};
 ghost use Rattle.task_loop.specs.Turn.{Makes, Turns};
 ghost use Rattle.task_loop.specs.Made.{made_by, made_by_main, op_of_next, IsReturn, Took};
+ghost use Rattle.task_state.specs.State.{running_of, seen};
 
 use crate::component::script_op;
 use crate::data::{computes, value_now};
@@ -72,10 +73,10 @@ pub fn step_main<T, H, M: MainTask<T, H>>(
     requires fits { Fits component.now store.old.state.core }
     requires suits { M.suits main.old component.now }
     requires given { given store.old.state.core + 4 < 2 ^ 61 }
-    requires current { store.old.state.running ≡ None }
+    requires current { running_of store.old.state ≡ None }
     ensures script { M.script main.new ≡ M.script main.old }
     ensures suits { OnOk result (M.suits main.new component.now) }
-    ensures ok { IfOk result (λ made. (x : Setting) → x.component ≡ component.now → x.script ≡ M.script main.old → Turns x Phase.Main (M.part main.old) store.old.state made (M.part main.new) store.new.state) }
+    ensures ok { IfOk result (λ made. (x : Setting) → x.component ≡ component.now → x.script ≡ M.script main.old → Turns x Phase.Main (M.part main.old) (seen store.old.state) made (M.part main.new) (seen store.new.state)) }
 {
     store.state.is_whole();
     match ask_main(component, store, main) {
@@ -96,7 +97,7 @@ fn ask_main<T, H, M: MainTask<T, H>>(
     requires given { given store.old.state.core + 4 < 2 ^ 61 }
     ensures script { M.script main.new ≡ M.script main.old }
     ensures suits { OnOk result (M.suits main.new component.now) }
-    ensures current { OnOk result (store.new.state.running ≡ store.old.state.running) }
+    ensures current { OnOk result (running_of store.new.state ≡ running_of store.old.state) }
     ensures fits { OnOk result (Fits component.now store.new.state.core) }
     ensures ok { IfOk result (λ step. Steps component.now (M.script main.old) (M.part main.old) store.old.state.core step (M.part main.new) store.new.state.core) }
     ensures err { IfErr result (λ e. e ≡ TaskError.NoMemory) }
@@ -128,8 +129,8 @@ fn made_of(taken: Taken) -> Option<Made>
 
 /// The oldest entry of high is taken; none where nothing is there.
 pub fn step_take<T, H>(store: &mut Store<T, H>) -> Result<Option<Made>, NoMemory>
-    requires { store.old.state.running ≡ None }
-    ensures { IfOk result (λ made. Took store.old.state made store.new.state) }
+    requires { running_of store.old.state ≡ None }
+    ensures { IfOk result (λ made. Took (seen store.old.state) made (seen store.new.state)) }
 {
     store.state.is_whole();
     match store.state.take_start() {
@@ -141,8 +142,8 @@ pub fn step_take<T, H>(store: &mut Store<T, H>) -> Result<Option<Made>, NoMemory
 /// Nothing can be taken, and main waits.
 pub fn step_deadlock<T, H>(store: &mut Store<T, H>) -> Made
     requires high { store.old.state.core.queues.high ≡ [] }
-    requires current { store.old.state.running ≡ None }
-    ensures { (x : Setting) → x.idle ≡ IdleLine.Trap → Fits x.component store.old.state.core → (m : Main) → main_pends x store.old.state.core m ≡ true → Turns x Phase.Take m store.old.state result m store.new.state }
+    requires current { running_of store.old.state ≡ None }
+    ensures { (x : Setting) → x.idle ≡ IdleLine.Trap → Fits x.component store.old.state.core → (m : Main) → main_pends x store.old.state.core m ≡ true → Turns x Phase.Take m (seen store.old.state) result m (seen store.new.state) }
 {
     store.state.is_whole();
     store.set_trapped();
@@ -156,8 +157,8 @@ pub fn step_deadlock<T, H>(store: &mut Store<T, H>) -> Made
 pub fn step_run<T, H>(component: &Component, store: &mut Store<T, H>) -> Result<Made, NoMemory>
     requires first { IsFirstComponent component.now }
     requires fits { Fits component.now store.old.state.core }
-    requires runs { IsSome store.old.state.running }
-    ensures { IfOk result (λ made. IfSome store.old.state.running (λ n. Makes component.now (Phase.Run n) store.old.state made store.new.state)) }
+    requires runs { IsSome (running_of store.old.state) }
+    ensures { IfOk result (λ made. IfSome (running_of store.old.state) (λ n. Makes component.now (Phase.Run n) (seen store.old.state) made (seen store.new.state))) }
 {
     store.state.is_whole();
     let Some(running) = store.state.running() else {
@@ -208,10 +209,10 @@ fn ends<T, H>(
 ) -> Result<Made, NoMemory>
     requires first { IsFirstComponent component.now }
     requires fits { Fits component.now store.old.state.core }
-    requires about { IsAbout store.old.state running.now }
+    requires about { IsAbout (seen store.old.state) running.now }
     requires op { op_of component.now running.now.number store.old.state.core ≡ Op.Task op }
     requires plain { is_plain_op (Op.Task op) ≡ true }
-    ensures { IfOk result (λ made. Makes component.now (Phase.Run running.now.number) store.old.state made store.new.state) }
+    ensures { IfOk result (λ made. Makes component.now (Phase.Run running.now.number) (seen store.old.state) made (seen store.new.state)) }
 {
     store.state.is_whole();
     match op {
@@ -227,8 +228,8 @@ fn ends<T, H>(
 
 // `ret_bad X`
 fn returns_badly<T, H>(store: &mut Store<T, H>, running: &Running) -> Made
-    requires { IsAbout store.old.state running.now }
-    ensures { (c : Component) → Fits c store.old.state.core → (x : Operand) → op_of c running.now.number store.old.state.core ≡ Op.Task (TaskOp.RetBad x) → Makes c (Phase.Run running.now.number) store.old.state result store.new.state }
+    requires { IsAbout (seen store.old.state) running.now }
+    ensures { (c : Component) → Fits c store.old.state.core → (x : Operand) → op_of c running.now.number store.old.state.core ≡ Op.Task (TaskOp.RetBad x) → Makes c (Phase.Run running.now.number) (seen store.old.state) result (seen store.new.state) }
 {
     store.state.is_whole();
     if running.ended {
@@ -246,9 +247,9 @@ fn returns<T, H>(
 ) -> Result<Made, NoMemory>
     requires first { IsFirstComponent component.now }
     requires fits { Fits component.now store.old.state.core }
-    requires about { IsAbout store.old.state running.now }
+    requires about { IsAbout (seen store.old.state) running.now }
     requires op { IsReturn component.now running.now.number value store.old.state.core }
-    ensures { IfOk result (λ made. Makes component.now (Phase.Run running.now.number) store.old.state made store.new.state) }
+    ensures { IfOk result (λ made. Makes component.now (Phase.Run running.now.number) (seen store.old.state) made (seen store.new.state)) }
 {
     store.state.is_whole();
     let instance = Instance {
@@ -267,8 +268,8 @@ fn returns<T, H>(
 
 // The activation ends.
 fn exits<T, H>(store: &mut Store<T, H>, running: &Running) -> Made
-    requires { IsAbout store.old.state running.now }
-    ensures { (c : Component) → Fits c store.old.state.core → op_of c running.now.number store.old.state.core ≡ Op.Task TaskOp.Exit → Makes c (Phase.Run running.now.number) store.old.state result store.new.state }
+    requires { IsAbout (seen store.old.state) running.now }
+    ensures { (c : Component) → Fits c store.old.state.core → op_of c running.now.number store.old.state.core ≡ Op.Task TaskOp.Exit → Makes c (Phase.Run running.now.number) (seen store.old.state) result (seen store.new.state) }
 {
     store.state.is_whole();
     if !running.ended {
@@ -283,10 +284,10 @@ fn exits<T, H>(store: &mut Store<T, H>, running: &Running) -> Made
 
 // The step of the running thread trapped.
 fn traps<T, H>(store: &mut Store<T, H>, running: &Running, trap: Trap) -> Made
-    requires { IsAbout store.old.state running.now }
+    requires { IsAbout (seen store.old.state) running.now }
     ensures label { result.label ≡ trap_label running.now.number trap }
     ensures phase { result.phase ≡ Phase.Over }
-    ensures state { store.new.state ≡ stopped_with (trap_done running.now.number store.old.state.core) }
+    ensures state { seen store.new.state ≡ stopped_with (trap_done running.now.number store.old.state.core) }
 {
     store.state.strike();
     Made {

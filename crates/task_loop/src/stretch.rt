@@ -1,6 +1,7 @@
 //! A stretch of ops on registers and words, which the running thread does one after another. It works with the
 //! thread's context, which is written back in the end, so that no op looks the thread up.
 ghost use Rattle.std.specs.Prelude.{◌≡◌, ◌≤◌, IsSome, IfSome, IfOk};
+ghost use Rattle.task_state.specs.State.{running_of, seen};
 ghost use Rattle.task_loop.specs.Drive.{KeepsOn};
 ghost use Rattle.task_loop.specs.Fit.{IsFirstComponent};
 
@@ -22,10 +23,10 @@ pub(crate) fn stretch<T, H>(
     steps: u32,
 ) -> Result<u32, NoMemory>
     requires first { IsFirstComponent component.now }
-    requires runs { IsSome store.old.state.running }
+    requires runs { IsSome (running_of store.old.state) }
     requires few { added ≤ steps }
     ensures few { IfOk result (λ k. (added ≤ k) × (k ≤ steps)) }
-    ensures on { IfOk result (λ k. IfSome store.old.state.running (λ n. KeepsOn component.now (Phase.Run n) store.old.state trace.old added store.new.state trace.new k)) }
+    ensures on { IfOk result (λ k. IfSome (running_of store.old.state) (λ n. KeepsOn component.now (Phase.Run n) (seen store.old.state) trace.old added (seen store.new.state) trace.new k)) }
 {
     store.state.is_whole();
     let Some(running) = store.state.running() else {

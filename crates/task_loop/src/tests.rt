@@ -4,6 +4,7 @@ ghost use Rattle.task_machine.specs.Core.{Main, Unscripted};
 ghost use Rattle.task_rules.specs.Scripts.{export_at};
 ghost use Rattle.task_loop.specs.Calls.{callee_of};
 ghost use Rattle.task_loop.specs.Fit.{IsFirstComponent, Fits, given, is_plain_op};
+ghost use Rattle.task_state.specs.State.{running_of};
 
 use super::*;
 use futures::task::Poll;
@@ -78,7 +79,7 @@ fn component(alloc: Global) -> Result<Component, Fail>
 fn store(alloc: Global) -> Result<Store<(), ()>, Fail>
     ensures fits { IfOk result (λ s. (c : Component) → length c.instances ≡ 1 → Fits c s.state.core) }
     ensures given { IfOk result (λ s. given s.state.core ≡ 0) }
-    ensures current { IfOk result (λ s. s.state.running ≡ None) }
+    ensures current { IfOk result (λ s. running_of s.state ≡ None) }
 {
     let mut store: Store<(), ()> = Store::new(alloc, (), true, 1);
     match store.add_instance() {
@@ -94,10 +95,10 @@ fn called(component: &Component, store: &mut Store<(), ()>) -> Result<FuncCallCo
     requires params { IfSome (export_at component.now (callee_of CALLEE)) (λ e. 1 ≡ e.params) }
     requires fits { Fits component.now store.old.state.core }
     requires given { given store.old.state.core ≡ 0 }
-    requires current { store.old.state.running ≡ None }
+    requires current { running_of store.old.state ≡ None }
     ensures fits { OnOk result (Fits component.now store.new.state.core) }
     ensures given { OnOk result (given store.new.state.core ≡ 2) }
-    ensures current { OnOk result (store.new.state.running ≡ None) }
+    ensures current { OnOk result (running_of store.new.state ≡ None) }
 {
     match CALLEE.start_call_concurrent(component, store, &[7]) {
         Ok(call) => Ok(call),

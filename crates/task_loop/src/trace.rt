@@ -37,6 +37,7 @@ impl Trace {
     }
 
     // Adds a label.
+    #[inline(always)]
     pub(crate) fn push(&mut self, label: Label) -> Result<(), AllocError>
         ensures ok { OnOk result (self.new ≡ self.old ++ label ∷ []) }
         ensures err { OnErr result (self.new ≡ self.old) }

@@ -9,6 +9,7 @@ ghost use Rattle.task_loop.specs.Calls.{callee_of};
 ghost use Rattle.task_loop.specs.Fit.{Fits, IsFirstComponent, given};
 ghost use Rattle.task_loop.specs.Main.{Steps};
 ghost use Rattle.task_run.specs.Script.{Suits, part_of, place_of, script_of, started};
+ghost use Rattle.task_state.specs.State.{running_of};
 
 use crate::scenario::MainOp;
 use std::alloc::{AllocError, Global};
@@ -134,7 +135,7 @@ fn make_start<T, H>(
     requires there { (e : ExportDef) × ((export_at component.now (callee_of func) ≡ Some e) × (length params.now ≡ e.params)) }
     ensures same { access.new.store.ghost_name ≡ access.old.store.ghost_name }
     ensures ops { main.new.ops ≡ main.old.ops }
-    ensures current { OnOk result (access.new.store.now.state.running ≡ access.old.store.now.state.running) }
+    ensures current { OnOk result (running_of access.new.store.now.state ≡ running_of access.old.store.now.state) }
     ensures fits { OnOk result (Fits component.now access.new.store.now.state.core) }
     ensures ok { IfOk result (λ step. Steps component.now (script_of main.old) (part_of main.old) access.old.store.now.state.core step (part_of main.new) access.new.store.now.state.core) }
     ensures err { IfErr result (λ e. e ≡ task_error.NoMemory) }
@@ -170,7 +171,7 @@ fn finish_call<T, H>(
     requires op { slice_get main.old.ops.now main.old.at ≡ Some (main_op.Finish start register) }
     ensures same { access.new.store.ghost_name ≡ access.old.store.ghost_name }
     ensures ops { main.new.ops ≡ main.old.ops }
-    ensures current { OnOk result (access.new.store.now.state.running ≡ access.old.store.now.state.running) }
+    ensures current { OnOk result (running_of access.new.store.now.state ≡ running_of access.old.store.now.state) }
     ensures fits { OnOk result (Fits component.now access.new.store.now.state.core) }
     ensures ok { IfOk result (λ step. Steps component.now (script_of main.old) (part_of main.old) access.old.store.now.state.core step (part_of main.new) access.new.store.now.state.core) }
     ensures err { IfErr result (λ e. e ≡ task_error.NoMemory) }

@@ -2,7 +2,7 @@ ghost use Rattle.std.specs.Prelude.{◌≡◌, ◌<◌, ◌≤◌, ◌++◌, ℕ
 ghost use Rattle.scenario_text.specs.Grammar.{IsBadLine};
 ghost use Rattle.task_machine.specs.Core.{fresh};
 ghost use Rattle.task_loop.specs.Turn.{idle_line_of};
-ghost use Rattle.task_state.specs.Seen.{stopped_with};
+ghost use Rattle.task_core.specs.Shown.{nothing, with_core};
 ghost use Rattle.task_run.specs.First.{IsFirstScenario};
 ghost use Rattle.task_run.specs.Headline.{IsReportOf, IsRunOf, machine_scenario};
 ghost use Rattle.task_run.specs.Lower.{Reads};
@@ -44,7 +44,7 @@ fn new_store(
 ) -> Result<Store<(), ScriptedHost>, NoMemory>
     requires instances { instances ≤ 4294967295 }
     requires handles { handles ≤ 268435455 }
-    ensures state { IfOk result (λ s. s.state ≡ stopped_with (fresh instances handles table)) }
+    ensures state { IfOk result (λ s. s.state ≡ with_core (fresh instances handles table) nothing) }
     ensures free { IfOk result (λ s. s.running ≡ false) }
 {
     let mut store = Store::new(alloc, (), true, 1);

@@ -2,3 +2,4 @@ pub mod TakenLemmas
 pub mod RunLemmas
 pub mod StateLemmas
 pub mod DataLemmas
+pub mod GuestLemmas

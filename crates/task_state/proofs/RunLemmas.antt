@@ -14,7 +14,7 @@ use Rattle.task_machine.specs.Read.{call_group, instance_of, is_entry_of, place_
 use Rattle.task_machine.specs.Write.{free_thread_handle, give_result, on_call, on_instance, remove_call, remove_thread, set_do_not_enter, set_end, set_position, set_trapped}
 use Rattle.task_machine.proofs.CommuteLemmas.{get-change}
 use Rattle.task_machine.proofs.MapLemmas.{get-remove_same}
-use Rattle.task_core.specs.Shown.{IsLive, KeepsTagsBut, Shown, Tag, call_number, number_of, thread_number, with_core}
+use Rattle.task_core.specs.Shown.{IsLive, KeepsTags, KeepsTagsBut, Shown, Tag, call_number, number_of, thread_number, with_core}
 use Rattle.task_core.specs.declared.entry.GuestTaskKey.{GuestTaskKey}
 use Rattle.task_core.specs.declared.entry.QualifiedThreadId.{QualifiedThreadId}
 use Rattle.task_table.specs.declared.id.TableId.{TableId}
@@ -25,9 +25,33 @@ use Rattle.task_simple.proofs.FrameLemmas.{made-exit_done, made-return_done, mad
 use Rattle.task_simple.proofs.ReadLemmas.{instance_of_is, task_of_is}
 use Rattle.task_simple.proofs.SimpleLemmas.{exit_none_runs, exit_simple, return_runs, return_simple, thread_there, trap_none_runs, trap_simple}
 use Rattle.task_state.specs.Moves.{Exits}
-use Rattle.task_state.specs.Seen.{Seen, stopped_with, with_core as with_seen_core}
-use Rattle.task_state.specs.State.{IsWhole, Runs, seen}
+use Rattle.task_state.specs.Seen.{stopped_with}
+use Rattle.task_state.specs.State.{IsWhole, Runs, running_of, seen}
 use Rattle.task_state.proofs.TakenLemmas.{few_made, seen_stopped, whole_stopped}
+
+-- ---- What ids name still
+
+-- the core alone is another
+shown_is : (s u : Shown) (c : Core) → u.core ≡ c → u.tags ≡ s.tags → u.current ≡ s.current → u ≡ with_core c s
+shown_is s u c core tags current =
+    ap (λ (d : Core). record u { core = d }) core ∙ ap (λ (g : List (Option Tag)). record u { core = c; tags = g }) tags ∙ ap (λ (o : Option QualifiedThreadId). record s { core = c; current = o }) current
+
+pub but_then : (n k : ℕ) (a b c : List (Option Tag)) → KeepsTagsBut n k a b → KeepsTags b c → KeepsTagsBut n k a c
+but_then n k a b c first second = record {
+  threads = λ id live other. let same = first.threads id live other in second.threads id (subst (λ m. 0 < m) (sym same) live) ∙ same;
+  calls = λ id live other. let same = first.calls id live other in second.calls id (subst (λ m. 0 < m) (sym same) live) ∙ same;
+}
+
+-- first the thread is gone, and then the call
+but_both : (n k : ℕ) (a b c : List (Option Tag)) → KeepsTagsBut n 0 a b → KeepsTagsBut 0 k b c → KeepsTagsBut n k a c
+but_both n k a b c first second = record {
+  threads = λ id live other.
+      let same = first.threads id live other in
+      second.threads id (subst (λ m. 0 < m) (sym same) live) (λ none. let zero = sym same ∙ none in omega (arith, zero, live)) ∙ same;
+  calls = λ id live other.
+      let same = first.calls id live (λ none. omega (arith, none, live)) in
+      second.calls id (subst (λ m. 0 < m) (sym same) live) (λ is. other (sym same ∙ is)) ∙ same;
+}
 
 -- ---- The thread that runs
 
@@ -53,7 +77,7 @@ module _ (s : Shown) (whole : IsWhole s) (id : QualifiedThreadId) (now : Some id
   pub call_live : 0 < call_number s.tags id.task
   call_live = subst (λ k. 0 < k) (sym call_now) live_now.live
 
-  pub running_now : (seen s).running ≡ Some n
+  pub running_now : running_of s ≡ Some n
   running_now = ap (option_map (λ (q : QualifiedThreadId). number_of s.tags q)) (sym now)
 
   -- the call of the thread, as it was read
@@ -108,9 +132,9 @@ module _ (s : Shown) (whole : IsWhole s) (id : QualifiedThreadId) (now : Some id
     past_result k s = refl
 
     -- its next place fits, where that was required
-    pub position_fits : (w : Seen) → seen s ≡ w → IfSome w.running (λ m. position_of m w.core + 1 < 2 ^ 32) → t.position + 1 < 2 ^ 32
+    pub position_fits : (w : Shown) → s ≡ w → IfSome (running_of w) (λ m. position_of m w.core + 1 < 2 ^ 32) → t.position + 1 < 2 ^ 32
     position_fits w is fits =
-        let here : IfSome (seen s).running (λ m. position_of m s.core + 1 < 2 ^ 32) = subst (λ (w : Seen). IfSome w.running (λ m. position_of m w.core + 1 < 2 ^ 32)) (sym is) fits in
+        let here : IfSome (running_of s) (λ m. position_of m s.core + 1 < 2 ^ 32) = subst (λ (w : Shown). IfSome (running_of w) (λ m. position_of m w.core + 1 < 2 ^ 32)) (sym is) fits in
         let mine : position_of n s.core + 1 < 2 ^ 32 = subst (λ o. IfSome o (λ m. position_of m s.core + 1 < 2 ^ 32)) running_now here in
         subst (λ p. p + 1 < 2 ^ 32) (position_found s.core n t found) mine
 
@@ -142,8 +166,8 @@ module _ (s : Shown) (whole : IsWhole s) (id : QualifiedThreadId) (now : Some id
     pub whole_returned : IsWhole u
     whole_returned = record { simple = simple_returned; few = few_made u.core s.core (ap (λ (c : Core). c.made) core ∙ made-return_done n v s.core) whole.few; runs = subst (λ o. Runs u o) (now ∙ sym current) (live_returned, ap (λ k. place_of k u.core) number_same ∙ runs_returned) }
 
-    pub seen_returned : seen u ≡ with_seen_core (return_done n v (seen s).core) (seen s)
-    seen_returned = rw (core, tags, current) refl
+    pub is_returned : u ≡ with_core (return_done n v s.core) s
+    is_returned = shown_is s u (return_done n v s.core) core tags current
 
   -- ---- A trap
 
@@ -259,3 +283,9 @@ module _ (s : Shown) (whole : IsWhole s) (id : QualifiedThreadId) (now : Some id
       exit_core u w four five =
           five ∙ ap (group_settled c.group) (four ∙ ap (λ m. remove_call m r.core) call_removed ∙ ap (remove_call k) core_removed)
           ∙ exit_is k c.callee.instance c.group h s.core (instance_is s whole id now c read) (group_is s whole id now c read)
+
+      pub exit_tags : (w v u : List (Option Tag)) → KeepsTagsBut 0 (call_number r.tags id.task) r.tags w → KeepsTags w v → u ≡ v → KeepsTagsBut k k s.tags u
+      exit_tags w v u call group same =
+          let one : KeepsTagsBut k 0 s.tags r.tags = subst (λ (g : List (Option Tag)). KeepsTagsBut (thread_number g id.thread) 0 g r.tags) tags_freed tags in
+          let two : KeepsTagsBut 0 k r.tags w = subst (λ m. KeepsTagsBut 0 m r.tags w) call_removed call in
+          subst (λ g. KeepsTagsBut k k s.tags g) (sym same) (but_then k k s.tags w v (but_both k k s.tags r.tags w one two) group)

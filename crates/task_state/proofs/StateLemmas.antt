@@ -27,8 +27,7 @@ use Rattle.task_simple.proofs.EndLemmas.{result_taken_simple, trapped_simple}
 use Rattle.task_simple.proofs.OpenLemmas.{fresh_none_runs, fresh_simple}
 use Rattle.task_simple.proofs.ReadLemmas.{task_of_is}
 use Rattle.task_simple.proofs.SimpleLemmas.{call_started_none_runs, result_taken_none_runs, thread_there, trapped_none_runs}
-use Rattle.task_state.specs.Seen.{Seen, nothing_made, with_core}
-use Rattle.task_state.specs.State.{HasFewGroups, IsWhole, Runs, seen}
+use Rattle.task_state.specs.State.{Becomes, HasFewGroups, IsWhole, Runs}
 use Rattle.task_state.proofs.TakenLemmas.{few_made, whole_stopped}
 
 -- ---- A state in which the same thread runs
@@ -57,8 +56,8 @@ module _ (s u : Shown) (whole : IsWhole s) (tags : KeepsTags s.tags u.tags) (cur
   running_still None quiet = refl
   running_still (Some id) runs = ap (λ (n : ℕ). Some n) (tags.threads id.thread runs.0.live)
 
-  pub seen_still : (c : Core) → u.core ≡ c → seen u ≡ with_core c (seen s)
-  seen_still c core = rw (core, current, running_still s.current whole.runs) refl
+  pub becomes : (c : Core) → u.core ≡ c → Becomes c s u
+  becomes c core = record { core = core; running = rw (current, running_still s.current whole.runs) refl; current = current; tags = tags }
 
 -- ids that stand for what they stood for
 pub keeps_tags : (s : Shown) → KeepsTags s.tags s.tags
@@ -72,9 +71,6 @@ few_new = omega arith
 
 pub whole_new : (t : Shown) → t ≡ nothing → IsWhole t
 whole_new t is = subst (λ t. IsWhole t) (sym is) (whole_stopped nothing (fresh_simple 0 100000 1000000) (fresh_none_runs 0 100000 1000000) few_new refl)
-
-pub seen_new : (t : Shown) → t ≡ nothing → seen t ≡ nothing_made
-seen_new t is = rw is refl
 
 -- ---- A trap, a limit, a result taken
 
@@ -294,8 +290,8 @@ whole_started s u e words whole tags current untrapped there tabled core = whole
     (λ few. subst (λ c. HasFewGroups c) (sym core) (few_started e words s.core few))
 
 -- an instance that is seen is there
-pub true_there : (s : Shown) (w : Seen) (i : ℕ) → seen s ≡ w → IsSome (get w.core.instances i) → is_some (get s.core.instances i) ≡ true
-true_there s w i is there = some_true (get s.core.instances i) (subst (λ (w : Seen). IsSome (get w.core.instances i)) (sym is) there)
+pub true_there : (s w : Shown) (i : ℕ) → s ≡ w → IsSome (get w.core.instances i) → is_some (get s.core.instances i) ≡ true
+true_there s w i is there = some_true (get s.core.instances i) (subst (λ (w : Shown). IsSome (get w.core.instances i)) (sym is) there)
   where
     some_true : {X : Type 0} (o : Option X) → IsSome o → is_some o ≡ true
     some_true None is = absurd (cc)

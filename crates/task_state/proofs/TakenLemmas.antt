@@ -28,7 +28,7 @@ use Rattle.task_simple.proofs.ReadLemmas.{task_of_is}
 use Rattle.task_simple.proofs.SimpleLemmas.{call_there, put_off_none_runs, put_off_simple, start_runs, start_simple, thread_there, trap_taken_none_runs, trap_taken_simple}
 use Rattle.task_state.specs.Moves.{Takes, IsFirst}
 use Rattle.task_state.specs.Seen.{stopped_with}
-use Rattle.task_state.specs.State.{HasFewGroups, IsWhole, Runs, seen}
+use Rattle.task_state.specs.State.{HasFewGroups, IsWhole, Runs, running_of, seen}
 use Rattle.task_state.specs.declared.taken.Taken.TheVariants as taken
 
 -- ---- The thread, its call and its instance
@@ -110,7 +110,7 @@ none_running s None is runs none = (is, runs)
 none_running s (Some id) is runs none = absurd (cc)
 
 -- where no thread runs, none is current
-pub stopped_is : (s : Shown) → IsWhole s → (seen s).running ≡ None → (s.current ≡ None) × NoneRuns s.core
+pub stopped_is : (s : Shown) → IsWhole s → running_of s ≡ None → (s.current ≡ None) × NoneRuns s.core
 stopped_is s whole none = none_running s s.current refl whole.runs none
 
 -- where nothing was made the groups are as few
@@ -124,7 +124,7 @@ whole_stopped t simple none few is = record { simple = simple; few = few; runs =
 pub seen_stopped : (t : Shown) (c : Core) → t.core ≡ c → t.current ≡ None → seen t ≡ stopped_with c
 seen_stopped t c core current = rw (core, current) refl
 
-module _ (s : Shown) (whole : IsWhole s) (none : (seen s).running ≡ None) (id : QualifiedThreadId) (next : IsNext s id) where
+module _ (s : Shown) (whole : IsWhole s) (none : running_of s ≡ None) (id : QualifiedThreadId) (next : IsNext s id) where
   abbrev m : ℕ
   m = number_of s.tags id
 

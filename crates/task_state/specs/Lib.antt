@@ -2,3 +2,4 @@ pub mod Seen
 pub mod Context
 pub mod State
 pub mod Moves
+pub mod Guest

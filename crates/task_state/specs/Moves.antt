@@ -1,5 +1,5 @@
 -- What the moves of a state come to.
-use Rattle.std.specs.Prelude.{◌≡◌, ℕ, Bool, true, false, Some, [], is_some}
+use Rattle.std.specs.Prelude.{◌≡◌, ℕ, Bool, true, false, List, Option, Some, [], is_some}
 use Rattle.task_machine.specs.declared.records.Call.{Call}
 use Rattle.task_machine.specs.declared.records.Entry.TheVariants as entry
 use Rattle.task_machine.specs.declared.records.Thread.{Thread}
@@ -7,6 +7,7 @@ use Rattle.task_machine.specs.declared.words.Mark.TheVariants as mark
 use Rattle.task_machine.specs.Core.{Core}
 use Rattle.task_machine.specs.Maps.{get}
 use Rattle.task_machine.specs.Read.{at_handle_limit, instance_of, may_not_enter, next_entry, thread_handle_of}
+use Rattle.task_core.specs.Shown.{KeepsTagsBut, Tag}
 use Rattle.task_rules.specs.Takes.{popped}
 use Rattle.task_simple.specs.Forms.{exit_done, start_done, start_put_off, trap_done}
 use Rattle.task_state.specs.declared.state.Running.{Running}
@@ -28,6 +29,13 @@ Takes s taken.Nothing t = (s.core.queues.high ≡ []) × (t ≡ s)
 Takes s (taken.PutOff n) t = IsFirst n s.core × ((is_shut n (popped mark.High s.core) ≡ true) × (t ≡ stopped_with (start_put_off n (popped mark.High s.core))))
 Takes s (taken.NoHandle n) t = IsFirst n s.core × ((is_shut n (popped mark.High s.core) ≡ false) × ((at_handle_limit (popped mark.High s.core) ≡ true) × (t ≡ stopped_with (trap_done n (popped mark.High s.core)))))
 Takes s (taken.Runs n) t = IsFirst n s.core × ((is_shut n (popped mark.High s.core) ≡ false) × ((at_handle_limit (popped mark.High s.core) ≡ false) × (t ≡ record { core = start_done n (popped mark.High s.core); running = Some n })))
+
+-- what the ids name once an entry was taken: what they named, but for a thread that got no handle
+abbrev pub NamesAfter : Taken → (old new : List (Option Tag)) → Type 0
+NamesAfter taken.Nothing old new = new ≡ old
+NamesAfter (taken.PutOff n) old new = new ≡ old
+NamesAfter (taken.NoHandle n) old new = KeepsTagsBut n 0 old new
+NamesAfter (taken.Runs n) old new = new ≡ old
 
 -- The thread that runs is about to take this op's place.
 pub record IsAbout (s : Seen) (r : Running) : Type 0 where

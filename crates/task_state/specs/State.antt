@@ -1,16 +1,27 @@
 -- What holds between two steps, and what is seen of it.
-use Rattle.std.specs.Prelude.{◌≡◌, ◌≤◌, Option, Some, None}
+use Rattle.std.specs.Prelude.{◌≡◌, ◌≤◌, ℕ, Option, Some, None}
 use Rattle.std.specs.Option.{option_map}
 use Rattle.task_machine.specs.declared.records.Place.TheVariants as place
 use Rattle.task_machine.specs.Core.{Core}
 use Rattle.task_machine.specs.Read.{place_of}
 use Rattle.task_core.specs.declared.entry.QualifiedThreadId.{QualifiedThreadId}
-use Rattle.task_core.specs.Shown.{Shown, IsLive, number_of}
+use Rattle.task_core.specs.Shown.{Shown, IsLive, KeepsTags, number_of}
 use Rattle.task_simple.specs.Simple.{IsSimple, NoneRuns}
 use Rattle.task_state.specs.Seen.{Seen}
 
+-- the number of the thread that runs
+abbrev pub running_of : Shown → Option ℕ
+running_of s = option_map (λ id. number_of s.tags id) s.current
+
 abbrev pub seen : Shown → Seen
-seen s = record { core = s.core; running = option_map (λ id. number_of s.tags id) s.current }
+seen s = record { core = s.core; running = running_of s }
+
+-- The core is this, the same thread runs, and each id names what it named.
+pub record Becomes (c : Core) (s t : Shown) : Type 0 where
+  pub core : t.core ≡ c
+  pub running : running_of t ≡ running_of s
+  pub current : t.current ≡ s.current
+  pub tags : KeepsTags s.tags t.tags
 
 -- this is the thread that runs, if one does
 abbrev pub Runs : Shown → Option QualifiedThreadId → Type 0

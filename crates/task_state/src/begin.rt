@@ -1,7 +1,7 @@
 //! How a call begins, and what becomes of a start that was taken.
 ghost use Rattle.std.specs.Prelude.{◌≡◌, ◌≤◌, length, Some, IsSome, false, OnOk, OnErr};
 ghost use Rattle.task_core.specs.Queue.{IsNext};
-ghost use Rattle.task_core.specs.Shown.{IsLive, KeepsTags, number_of, thread_number, call_number};
+ghost use Rattle.task_core.specs.Shown.{IsLive, KeepsTags, KeepsTagsBut, number_of, thread_number, call_number};
 ghost use Rattle.task_machine.specs.declared.words.Mark.TheVariants as mark;
 ghost use Rattle.task_machine.specs.Read.{at_handle_limit, instance_of};
 ghost use Rattle.task_rules.specs.Scripts.{registers_for};
@@ -27,6 +27,7 @@ pub fn put_off(core: &mut TaskCore, id: QualifiedThreadId)
     requires next { IsNext core.old id }
     requires simple { IsSimple core.old.core }
     ensures core { core.new.core ≡ start_put_off (number_of core.old.tags id) (popped mark.High core.old.core) }
+    ensures tags { core.new.tags ≡ core.old.tags }
     ensures current { core.new.current ≡ core.old.current }
 {
     let _ = core.take_item();
@@ -39,6 +40,7 @@ pub fn refuse(core: &mut TaskCore, id: QualifiedThreadId)
     requires next { IsNext core.old id }
     requires simple { IsSimple core.old.core }
     ensures core { core.new.core ≡ trap_done (number_of core.old.tags id) (popped mark.High core.old.core) }
+    ensures tags { KeepsTagsBut (number_of core.old.tags id) 0 core.old.tags core.new.tags }
     ensures current { core.new.current ≡ core.old.current }
 {
     let _ = core.take_item();

@@ -3,7 +3,8 @@ ghost use Rattle.task_machine.specs.Maps.{get};
 ghost use Rattle.task_machine.specs.Read.{position_of, registers_of, word_of};
 ghost use Rattle.task_machine.specs.Write.{set_word};
 ghost use Rattle.task_state.specs.Context.{in_context};
-ghost use Rattle.task_state.specs.Seen.{with_core};
+ghost use Rattle.task_core.specs.Shown.{with_core};
+ghost use Rattle.task_state.specs.State.{running_of};
 
 use crate::state::ConcurrentState;
 
@@ -18,9 +19,9 @@ pub struct ThreadContext {
 impl ConcurrentState {
     /// The context of the running thread.
     pub fn context(&self) -> ThreadContext
-        requires { IsSome self.now.running }
-        ensures position { IfSome self.now.running (λ n. result.position ≡ position_of n self.now.core) }
-        ensures registers { IfSome self.now.running (λ n. result.registers ≡ registers_of n self.now.core) }
+        requires { IsSome (running_of self.now) }
+        ensures position { IfSome (running_of self.now) (λ n. result.position ≡ position_of n self.now.core) }
+        ensures registers { IfSome (running_of self.now) (λ n. result.registers ≡ registers_of n self.now.core) }
     {
         let Some(id) = self.core.current() else {
             unreachable!()
@@ -35,8 +36,8 @@ impl ConcurrentState {
 
     /// Writes the context of the running thread.
     pub fn set_context(&mut self, context: &ThreadContext)
-        requires { IsSome self.old.running }
-        ensures { IfSome self.old.running (λ n. self.new ≡ with_core (in_context n context.now self.old.core) self.old) }
+        requires { IsSome (running_of self.old) }
+        ensures { IfSome (running_of self.old) (λ n. self.new ≡ with_core (in_context n context.now self.old.core) self.old) }
     {
         let Some(id) = self.core.current() else {
             unreachable!()
@@ -56,7 +57,7 @@ impl ConcurrentState {
     /// Writes a word of an instance, 0 to 15, while a thread runs. There are no other words, and
     /// then nothing is changed.
     pub fn set_instance_word(&mut self, instance: u32, word: u8, value: u64)
-        requires runs { IsSome self.old.running }
+        requires runs { IsSome (running_of self.old) }
         requires there { IsSome (get self.old.core.instances instance) }
         ensures { self.new ≡ with_core (set_word instance word value self.old.core) self.old }
     {

@@ -7,11 +7,12 @@ ghost use Rattle.task_machine.specs.Write.{set_trapped, take_result};
 ghost use Rattle.task_rules.specs.Data.{assigned, moved_to, stored};
 ghost use Rattle.task_rules.specs.Scripts.{value_of};
 ghost use Rattle.task_core.specs.Image.{IsTableOf};
-ghost use Rattle.task_core.specs.Shown.{with_capacity, with_handle_limit, with_instance};
+ghost use Rattle.task_core.specs.Shown.{IsLive, KeepsTagsBut, nothing, with_capacity, with_core, with_handle_limit, with_instance};
 ghost use Rattle.task_simple.specs.Forms.{call_started, exit_done, return_done, trap_done};
 ghost use Rattle.task_simple.specs.Simple.{IsSimple, NoneRuns};
-ghost use Rattle.task_state.specs.Seen.{nothing_made, with_core, stopped_with};
-ghost use Rattle.task_state.specs.Moves.{IsAbout, Takes, Exits};
+ghost use Rattle.task_state.specs.Seen.{stopped_with};
+ghost use Rattle.task_state.specs.State.{Becomes, running_of, seen};
+ghost use Rattle.task_state.specs.Moves.{IsAbout, Takes, Exits, NamesAfter};
 
 use crate::begin::{begin, put_off, refuse, registers_of};
 use crate::taken::Taken;
@@ -28,15 +29,15 @@ pub struct ConcurrentState {
 }
 
 impl Model for ConcurrentState {
-    ghost use Rattle.task_state.specs.Seen.{Seen, seen_code};
+    ghost use Rattle.task_core.specs.Shown.{Shown, shown_code};
 
-    ghost Value = { Seen };
+    ghost Value = { Shown };
 
-    ghost coded = { seen_code };
+    ghost coded = { shown_code };
 
-    ghost use Rattle.task_state.specs.State.{IsWhole, seen};
+    ghost use Rattle.task_state.specs.State.{IsWhole};
 
-    ghost view = { λ a. seen a.core };
+    ghost view = { λ a. a.core };
 
     ghost invariant = { λ a. IsWhole a.core };
 }
@@ -55,7 +56,7 @@ impl ConcurrentState {
     /// A state in which nothing was made: no instance, a limit of 100,000 handles, and room for
     /// 1,000,000 entries.
     pub fn new(alloc: Global) -> Self
-        ensures { result ≡ nothing_made }
+        ensures { result ≡ nothing }
     {
         ConcurrentState {
             core: TaskCore::new(alloc),
@@ -90,7 +91,7 @@ impl ConcurrentState {
 
     /// The store is trapped, and all groups are finished.
     pub fn set_trapped(&mut self)
-        ensures { self.new ≡ with_core (set_trapped self.old.core) self.old }
+        ensures { Becomes (set_trapped self.old.core) self.old self.new }
     {
         self.core.set_trapped();
     }
@@ -151,8 +152,8 @@ impl ConcurrentState {
         requires there { IsSome (get self.old.core.instances callee.instance) }
         requires words { length words.now ≤ 16 }
         ensures number { IfOk result (λ n. n ≡ self.old.core.made.threads + 1) }
-        ensures ok { OnOk result (self.new ≡ with_core (call_started callee kind.Callback words.now self.old.core) self.old) }
-        ensures err { OnErr result (self.new ≡ self.old) }
+        ensures ok { OnOk result (Becomes (call_started callee kind.Callback words.now self.old.core) self.old self.new) }
+        ensures err { OnErr result (Becomes self.old.core self.old self.new) }
     {
         let _ = self.core.has_instance(callee.instance);
         let registers = registers_of(words);
@@ -178,8 +179,9 @@ impl ConcurrentState {
     /// Takes the entry that is to be taken next, where no thread runs: today a start at high. Where
     /// memory is wanting, the state is as before.
     pub fn take_start(&mut self) -> Result<Taken, NoMemory>
-        requires { self.old.running ≡ None }
-        ensures ok { IfOk result (λ taken. Takes self.old taken self.new) }
+        requires { running_of self.old ≡ None }
+        ensures ok { IfOk result (λ taken. Takes (seen self.old) taken (seen self.new)) }
+        ensures tags { IfOk result (λ taken. NamesAfter taken self.old.tags self.new.tags) }
         ensures err { OnErr result (self.new ≡ self.old) }
     {
         let Some(id) = self.core.next_item() else {
@@ -203,16 +205,16 @@ impl ConcurrentState {
     /// registers and words; for proofs alone.
     pub fn is_whole(&self)
         ensures simple { IsSimple self.now.core }
-        ensures none { self.now.running ≡ None → NoneRuns self.now.core }
-        ensures some { (n : ℕ) → self.now.running ≡ Some n → place_of n self.now.core ≡ Some place.Running }
+        ensures none { running_of self.now ≡ None → NoneRuns self.now.core }
+        ensures some { (n : ℕ) → running_of self.now ≡ Some n → place_of n self.now.core ≡ Some place.Running }
     {
         let _ = self.core.trapped();
     }
 
     /// What the running thread is about to do, if one runs.
     pub fn running(&self) -> Option<Running>
-        ensures none { IfNone result (self.now.running ≡ None) }
-        ensures some { IfSome result (λ r. IsAbout self.now r) }
+        ensures none { IfNone result (running_of self.now ≡ None) }
+        ensures some { IfSome result (λ r. IsAbout (seen self.now) r) }
     {
         let id = self.core.current()?;
         let thread = self.core.thread(id.thread);
@@ -228,10 +230,10 @@ impl ConcurrentState {
     /// The task of the running thread, which hasn't ended, returns the value to main, and the
     /// thread goes on after its op. Where memory is wanting, the state is as before.
     pub fn return_value(&mut self, value: u64) -> Result<(), NoMemory>
-        requires runs { IsSome self.old.running }
-        requires unended { IfSome self.old.running (λ n. has_ended n self.old.core ≡ false) }
-        requires position { IfSome self.old.running (λ n. position_of n self.old.core + 1 < 2 ^ 32) }
-        ensures ok { OnOk result (IfSome self.old.running (λ n. self.new ≡ with_core (return_done n value self.old.core) self.old)) }
+        requires runs { IsSome (running_of self.old) }
+        requires unended { IfSome (running_of self.old) (λ n. has_ended n self.old.core ≡ false) }
+        requires position { IfSome (running_of self.old) (λ n. position_of n self.old.core + 1 < 2 ^ 32) }
+        ensures ok { OnOk result (IfSome (running_of self.old) (λ n. self.new ≡ with_core (return_done n value self.old.core) self.old)) }
         ensures err { OnErr result (self.new ≡ self.old) }
     {
         let Some(id) = self.core.current() else {
@@ -249,8 +251,8 @@ impl ConcurrentState {
 
     /// The value of an operand for the running thread: a number, or what stands in its register.
     pub fn operand(&self, operand: Operand) -> u64
-        requires { IsSome self.now.running }
-        ensures { IfSome self.now.running (λ n. result ≡ value_of n self.now.core operand) }
+        requires { IsSome (running_of self.now) }
+        ensures { IfSome (running_of self.now) (λ n. result ≡ value_of n self.now.core operand) }
     {
         let Some(id) = self.core.current() else {
             unreachable!()
@@ -261,63 +263,12 @@ impl ConcurrentState {
         }
     }
 
-    /// A word of the running thread's instance, 0 to 15; 0 where there is no such word.
-    pub fn word(&self, word: u8) -> u64
-        requires { IsSome self.now.running }
-        ensures { IfSome self.now.running (λ n. result ≡ word_of (instance_of n self.now.core) word self.now.core) }
-    {
-        let Some(id) = self.core.current() else {
-            unreachable!()
-        };
-        let call = self.core.call(id.task);
-        self.core.word(call.callee.instance, word)
-    }
-
-    /// The op of the running thread answers the value in a register, 0 to 15, and the thread goes on
-    /// after it. There are no other registers, and then the thread alone goes on.
-    pub fn assign(&mut self, register: u8, value: u64)
-        requires runs { IsSome self.old.running }
-        requires position { IfSome self.old.running (λ n. position_of n self.old.core + 1 < 2 ^ 32) }
-        ensures { IfSome self.old.running (λ n. self.new ≡ with_core (assigned n register value self.old.core) self.old) }
-    {
-        let Some(id) = self.core.current() else {
-            unreachable!()
-        };
-        self.core.answer(id.thread, register, value);
-    }
-
-    /// The op of the running thread writes a word of its instance, 0 to 15, and the thread goes on
-    /// after it. There are no other words, and then the thread alone goes on.
-    pub fn store_word(&mut self, word: u8, value: u64)
-        requires runs { IsSome self.old.running }
-        requires position { IfSome self.old.running (λ n. position_of n self.old.core + 1 < 2 ^ 32) }
-        ensures { IfSome self.old.running (λ n. self.new ≡ with_core (stored n word value self.old.core) self.old) }
-    {
-        let Some(id) = self.core.current() else {
-            unreachable!()
-        };
-        let position = self.core.thread(id.thread).position;
-        let call = self.core.call(id.task);
-        self.core.set_word(call.callee.instance, word, value);
-        self.core.set_position(id.thread, position + 1);
-    }
-
-    /// The running thread goes on with the op at this place of its script, from 0.
-    pub fn move_to(&mut self, position: u32)
-        requires { IsSome self.old.running }
-        ensures { IfSome self.old.running (λ n. self.new ≡ with_core (moved_to n position self.old.core) self.old) }
-    {
-        let Some(id) = self.core.current() else {
-            unreachable!()
-        };
-        self.core.set_position(id.thread, position);
-    }
-
     /// The running thread exits: its instance may be entered again, and the thread, its handle and
     /// its call are gone, and its group where no other call is of it.
     pub fn exit(&mut self)
-        requires runs { IsSome self.old.running }
-        ensures { IfSome self.old.running (λ n. Exits n self.old self.new) }
+        requires runs { IsSome (running_of self.old) }
+        ensures exits { IfSome (running_of self.old) (λ n. Exits n (seen self.old) (seen self.new)) }
+        ensures tags { IfSome (running_of self.old) (λ n. KeepsTagsBut n n self.old.tags self.new.tags) }
     {
         let Some(id) = self.core.current() else {
             unreachable!()
@@ -337,8 +288,9 @@ impl ConcurrentState {
     /// The step of the running thread trapped: its strand, which today is the thread alone, is
     /// gone, and the store is trapped.
     pub fn strike(&mut self)
-        requires runs { IsSome self.old.running }
-        ensures { IfSome self.old.running (λ n. self.new ≡ stopped_with (trap_done n self.old.core)) }
+        requires runs { IsSome (running_of self.old) }
+        ensures state { IfSome (running_of self.old) (λ n. seen self.new ≡ stopped_with (trap_done n self.old.core)) }
+        ensures tags { IfSome (running_of self.old) (λ n. KeepsTagsBut n 0 self.old.tags self.new.tags) }
     {
         let Some(id) = self.core.current() else {
             unreachable!()

@@ -2,8 +2,8 @@ ghost use Rattle.std.specs.Prelude.{◌≡◌, ◌+◌, ◌-◌, ◌<◌, ◌≤
 ghost use Rattle.task_machine.specs.Maps.{size};
 ghost use Rattle.task_machine.specs.Write.{set_trapped};
 ghost use Rattle.task_core.specs.Image.{IsTableOf};
-ghost use Rattle.task_core.specs.Shown.{with_capacity, with_handle_limit, with_instance};
-ghost use Rattle.task_state.specs.Seen.{nothing_made, with_core};
+ghost use Rattle.task_core.specs.Shown.{nothing, with_capacity, with_core, with_handle_limit, with_instance};
+ghost use Rattle.task_state.specs.State.{Becomes};
 
 use std::alloc::Global;
 use task_core::Entry;
@@ -35,7 +35,7 @@ impl<T, H> Store<T, H> {
         ensures value { result.value ≡ value }
         ensures concurrent { result.concurrent ≡ concurrent }
         ensures id { result.id ≡ id }
-        ensures state { result.state ≡ nothing_made }
+        ensures state { result.state ≡ nothing }
         ensures running { result.running ≡ false }
     {
         Store {
@@ -124,7 +124,8 @@ impl<T, H> Store<T, H> {
 
     /// Traps the store, and finishes all groups.
     pub fn set_trapped(&mut self)
-        ensures { self.new ≡ record self.old { state = with_core (set_trapped self.old.state.core) self.old.state } }
+        ensures state { Becomes (set_trapped self.old.state.core) self.old.state self.new.state }
+        ensures rest { self.new ≡ record self.old { state = self.new.state } }
     {
         self.state.set_trapped();
     }

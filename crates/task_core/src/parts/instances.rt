@@ -5,7 +5,7 @@ ghost use Rattle.task_machine.specs.Write.{set_do_not_enter, set_word};
 ghost use Rattle.task_machine.proofs.FieldLemmas.{put_instance};
 ghost use Rattle.task_core.specs.Shown.{with_core};
 
-use crate::parts::words::put_word;
+use crate::parts::words::{put_word, word_in};
 use crate::state::TaskCore;
 use task_machine::Instance;
 
@@ -49,8 +49,7 @@ impl TaskCore {
         requires { IsSome (get self.now.core.instances index) }
         ensures { result ≡ word_of index word self.now.core }
     {
-        let instance = self.instance_record(index);
-        instance.words.get(word as usize).copied().unwrap_or(0)
+        word_in(&self.instances[index as usize].instance.words, word)
     }
 
     /// Sets a word of the instance, 0 to 15; there are no others, and a write of one changes nothing.

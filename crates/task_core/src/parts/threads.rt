@@ -8,7 +8,7 @@ ghost use Rattle.task_core.specs.Shown.{thread_number, with_core};
 ghost use Rattle.task_core.specs.Simple.{IsPlainThread};
 
 use crate::entry::ThreadKey;
-use crate::parts::words::{put_word, register_in};
+use crate::parts::words::{put_word, word_in};
 use crate::state::TaskCore;
 use task_machine::{HowFar, Place, Script, Thread};
 use task_table::TableId;
@@ -43,7 +43,7 @@ impl TaskCore {
         ensures { result ≡ register_of (thread_number self.now.tags id) register self.now.core }
     {
         match self.table.get(id) {
-            Ok(entry) => register_in(&entry.thread.registers, register),
+            Ok(entry) => word_in(&entry.thread.registers, register),
             Err(_) => unreachable!(),
         }
     }

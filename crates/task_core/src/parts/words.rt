@@ -9,9 +9,9 @@ pub(crate) fn put_word(words: &mut [u64; 16], place: u8, value: u64)
     }
 }
 
-// What stands in a register; 0 where there is none.
-pub(crate) fn register_in(registers: &[u64; 16], register: u8) -> u64
-    ensures { result ≡ slice_index registers.now register }
+// What stands in a word or register; 0 where there is none.
+pub(crate) fn word_in(words: &[u64; 16], place: u8) -> u64
+    ensures { result ≡ slice_index words.now place }
 {
-    registers.get(register as usize).copied().unwrap_or(0)
+    words.get(place as usize).copied().unwrap_or(0)
 }

@@ -8,6 +8,8 @@ use Rattle.task_machine.specs.declared.records.Script.TheVariants as script
 use Rattle.task_rules.specs.Scripts.{script_in}
 use Rattle.task_machine.specs.Read.{position_of, registers_of}
 use Rattle.task_state.specs.Context.{in_context}
+use Rattle.task_core.specs.Shown.{with_core as with_shown_core}
+use Rattle.task_state.specs.State.{seen}
 use Rattle.task_state.specs.Seen.{Seen, with_core}
 use Rattle.task_loop.specs.declared.step.Phase.TheVariants as phase
 use Rattle.task_loop.specs.Drive.{KeepsOn}
@@ -17,7 +19,7 @@ use Rattle.task_loop.proofs.stretch.stretch.Goals as goal
 
 pub ops-init : goal.ops-init
 ops-init g c =
-    let s = c.args.store.now.state in
+    let s = seen c.args.store.now.state in
     let r = c.in-Some.running in
     let about = c.in-Some.ensures.some in
     let x = c.context-context.result in
@@ -31,35 +33,35 @@ ops-init g c =
 
 pub returns-in_default-op_at-clause-on : goal.returns-in_default-op_at-clause-on
 returns-in_default-op_at-clause-on g c =
-    let s = c.args.store.now.state in
+    let s = seen c.args.store.now.state in
     let r = c.in-Some.running in
-    let t = c.ops.store.state in
-    let written = if_some (λ n. c.set_context.new.self ≡ with_core (in_context n c.ops.context t.core) t) t.running r.number c.ops.invariant.about.runs c.set_context.ensures in
-    some_is (λ n. KeepsOn c.args.component.now (phase.Run n) s c.args.trace.now c.args.added c.set_context.new.self c.ops.trace c.ops.count) s.running r.number c.in-Some.ensures.some.runs
+    let t = seen c.ops.store.state in
+    let written = ap seen (if_some (λ n. c.set_context.new.self ≡ with_shown_core (in_context n c.ops.context t.core) c.ops.store.state) t.running r.number c.ops.invariant.about.runs c.set_context.ensures) in
+    some_is (λ n. KeepsOn c.args.component.now (phase.Run n) s c.args.trace.now c.args.added (seen c.set_context.new.self) c.ops.trace c.ops.count) s.running r.number c.in-Some.ensures.some.runs
     (subst (λ (u : Seen). KeepsOn c.args.component.now (phase.Run r.number) s c.args.trace.now c.args.added u c.ops.trace c.ops.count) (sym written) c.ops.invariant.on)
 
 pub returns-clause-on : goal.returns-clause-on
 returns-clause-on g c =
-    let s = c.args.store.now.state in
+    let s = seen c.args.store.now.state in
     let r = c.in-Some.running in
-    let t = c.ops.store.state in
+    let t = seen c.ops.store.state in
     let all : c.ops.count ≡ c.args.steps = omega (arith, c.ops-test.false) in
-    let written = if_some (λ n. c.set_context-2.new.self ≡ with_core (in_context n c.ops.context t.core) t) t.running r.number c.ops.invariant.about.runs c.set_context-2.ensures in
-    some_is (λ n. KeepsOn c.args.component.now (phase.Run n) s c.args.trace.now c.args.added c.set_context-2.new.self c.ops.trace c.args.steps) s.running r.number c.in-Some.ensures.some.runs
-    (subst (λ k. KeepsOn c.args.component.now (phase.Run r.number) s c.args.trace.now c.args.added c.set_context-2.new.self c.ops.trace k) all
+    let written = ap seen (if_some (λ n. c.set_context-2.new.self ≡ with_shown_core (in_context n c.ops.context t.core) c.ops.store.state) t.running r.number c.ops.invariant.about.runs c.set_context-2.ensures) in
+    some_is (λ n. KeepsOn c.args.component.now (phase.Run n) s c.args.trace.now c.args.added (seen c.set_context-2.new.self) c.ops.trace c.args.steps) s.running r.number c.in-Some.ensures.some.runs
+    (subst (λ k. KeepsOn c.args.component.now (phase.Run r.number) s c.args.trace.now c.args.added (seen c.set_context-2.new.self) c.ops.trace k) all
     (subst (λ (u : Seen). KeepsOn c.args.component.now (phase.Run r.number) s c.args.trace.now c.args.added u c.ops.trace c.ops.count) (sym written) c.ops.invariant.on))
 
 pub ops-preserved : goal.ops-preserved
 ops-preserved g c =
-    let s = c.args.store.now.state in
+    let s = seen c.args.store.now.state in
     let r = c.in-Some.running in
-    let t = c.ops.store.state in
+    let t = seen c.ops.store.state in
     let about = c.ops.invariant.about in
     let simple = c.is_whole-in-ops.ensures.simple in
     let at = c.is_whole-in-ops.ensures.some r.number about.runs in
     let x = c.ops.context in
     let y = c.computes_in-label.new.context in
-    let u = c.computes_in-label.new.store.state in
+    let u = seen c.computes_in-label.new.store.state in
     let l = c.computes_in-label.result in
     let ends = ap length (script_there t simple r about at x c.args.component.now ∙ sym c.start_script-script.ensures) in
     let row = c.computes_in-label.ensures.row c.args.component.now ends in

@@ -1,10 +1,10 @@
 use Rattle.std.proofs.Common.{◌≡◌, false}
 use Rattle.task_machine.specs.Core.{fresh}
-use Rattle.task_state.specs.Seen.{stopped_with}
+use Rattle.task_core.specs.Shown.{nothing, with_core}
 use Rattle.task_run.proofs.report.new_store.Given as goal
 
 abbrev pub invariant-loop-made : goal.invariant-loop-made
 invariant-loop-made l = record {
-  state : l.store.state ≡ stopped_with (fresh l._made l.handles l.table);
+  state : l.store.state ≡ with_core (fresh l._made l.handles l.table) nothing;
   free : l.store.running ≡ false;
 }

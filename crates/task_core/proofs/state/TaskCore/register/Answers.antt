@@ -12,4 +12,4 @@ unreachable-requires c = thread_there (parts c.self.inside) _ c.self.view_is c.s
 pub returns : goal.returns
 returns c =
     let read = reads_thread (parts c.self.inside) _ c.self.view_is c.self.invariant c.args.id _ c.in-Ok.ensures in
-    c.register_in.ensures ∙ sym (ap (λ (o : Option Thread). slice_index (option_map_or (λ (t : Thread). t.registers) o []) c.args.register) read)
+    c.word_in.ensures ∙ sym (ap (λ (o : Option Thread). slice_index (option_map_or (λ (t : Thread). t.registers) o []) c.args.register) read)

@@ -1,5 +1,5 @@
 use Rattle.std.proofs.Common.{ap, sym, refl, ◌∙◌}
-use Rattle.task_machine.proofs.FieldLemmas.{on_thread_is, put_thread}
+use Rattle.task_machine.proofs.FieldLemmas.{on_thread_is}
 use Rattle.task_machine.specs.Core.{Core}
 use Rattle.task_core.specs.Shown.{thread_number, with_core}
 use Rattle.task_core.specs.State.{parts}

@@ -5,4 +5,4 @@ pub invariant_of-self : goal.invariant_of-self
 invariant_of-self c = (contexts c.self.inside.core c.self.invariant c.in-Some.id c.in-Some.ensures c.args.context.now c.set_context.new.self c.set_context.ensures).whole_then
 
 pub returns : goal.returns
-returns c = (contexts c.self.inside.core c.self.invariant c.in-Some.id c.in-Some.ensures c.args.context.now c.set_context.new.self c.set_context.ensures).seen_then _ c.self.view_is
+returns c = (contexts c.self.inside.core c.self.invariant c.in-Some.id c.in-Some.ensures c.args.context.now c.set_context.new.self c.set_context.ensures).then_is _ c.self.view_is
