@@ -1,11 +1,11 @@
 -- What a call whose thread is New comes to.
-use Rattle.std.specs.Prelude.{◌≡◌, ◌+◌, ℕ, Bool, true, false, Option, Some, None, Result, Ok, Err}
+use Rattle.std.specs.Prelude.{◌≡◌, ◌+◌, ℕ, Bool, true, false, if◌then◌else◌, Option, Some, None, Result, Ok, Err}
 use Rattle.task_machine.specs.declared.component.ExportKind.{ExportKind}
 use Rattle.task_machine.specs.declared.records.Caller.TheVariants as caller
 use Rattle.task_machine.specs.declared.trap.Trap.TheVariants as trap
 use Rattle.task_machine.specs.Core.{Core}
 use Rattle.task_machine.specs.Read.{thread_group}
-use Rattle.task_machine.specs.Write.{add_group}
+use Rattle.task_machine.specs.Write.{add_group, set_trapped}
 use Rattle.task_rules.specs.Calls.{next_thread}
 use Rattle.task_core.specs.declared.entry.QualifiedThreadId.{QualifiedThreadId}
 use Rattle.task_core.specs.declared.error.TaskError.{TaskError}
@@ -19,10 +19,14 @@ abbrev pub entries_of : Option QualifiedThreadId → ℕ
 entries_of (Some id) = 3
 entries_of None = 4
 
+-- a group more, which in a trapped store is finished at once, as all groups there are
+abbrev pub group_begun : Core → Core
+group_begun s = if s.trapped then set_trapped (add_group s) else add_group s
+
 -- the core with a call more of this kind and this instance, in the group of the caller's call or in a new one
 abbrev pub task_begun : ExportKind → ℕ → Option QualifiedThreadId → Shown → Core
 task_begun x i (Some id) s = task_made (caller.Thread (number_of s.tags id)) x i (thread_group (number_of s.tags id) s.core) s.core
-task_begun x i None s = task_made caller.Main x i (s.core.made.groups + 1) (add_group s.core)
+task_begun x i None s = task_made caller.Main x i (s.core.made.groups + 1) (group_begun s.core)
 
 -- The call was made, and the id names its thread, which has the next number.
 pub record IsBegun (x : ExportKind) (i : ℕ) (f : Option QualifiedThreadId) (s t : Shown) (id : QualifiedThreadId) : Type 0 where

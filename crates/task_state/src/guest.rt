@@ -1,7 +1,8 @@
 //! Calls whose threads are New.
-ghost use Rattle.std.specs.Prelude.{◌≡◌, ◌<◌, ◌+◌, ◌^◌, ◌↔◌, Some, false, IsSome, IsTrue, IfNone, IfOk, IfSome, OnOk, OnErr};
+ghost use Rattle.std.specs.Prelude.{◌≡◌, ◌<◌, ◌+◌, ◌^◌, ◌↔◌, None, Some, false, if◌then◌else◌, IsSome, IsTrue, IfOk, IfSome, OnOk, OnErr};
 ghost use Rattle.task_machine.specs.Maps.{get};
 ghost use Rattle.task_machine.specs.Read.{fits, task_of};
+ghost use Rattle.task_machine.specs.Write.{set_trapped};
 ghost use Rattle.task_rules.specs.Calls.{next_thread};
 ghost use Rattle.task_core.specs.Shown.{IsLive, KeepsTags, number_of};
 ghost use Rattle.task_state.specs.Guest.{Begins, entries_of, task_begun};
@@ -50,7 +51,43 @@ fn begin_from(
     core.make_task(Caller::Thread { thread: number }, callee, kind, group)
 }
 
-// The same of a call that may have no caller, and then has a group of its own.
+// In a trapped store all groups are finished.
+fn finish_where_trapped(core: &mut TaskCore)
+    ensures core { core.new.core ≡ (if core.old.core.trapped then set_trapped core.old.core else core.old.core) }
+    ensures tags { KeepsTags core.old.tags core.new.tags }
+    ensures current { core.new.current ≡ core.old.current }
+{
+    if core.trapped() {
+        core.set_trapped();
+    }
+}
+
+// Main calls the first export of the instance, in a group of its own. Where memory is wanting, all
+// stays.
+fn begin_alone(
+    core: &mut TaskCore,
+    kind: ExportKind,
+    instance: u32,
+) -> Result<QualifiedThreadId, AllocError>
+    requires threads { core.old.core.made.threads + 1 < 2 ^ 64 }
+    requires groups { core.old.core.made.groups + 1 < 2 ^ 64 }
+    ensures core { OnOk result (core.new.core ≡ task_begun kind instance None core.old) }
+    ensures live { IfOk result (λ id. IsLive core.new id) }
+    ensures number { IfOk result (λ id. number_of core.new.tags id ≡ next_thread core.old.core) }
+    ensures err { OnErr result (core.new.core ≡ core.old.core) }
+    ensures tags { KeepsTags core.old.tags core.new.tags }
+    ensures current { core.new.current ≡ core.old.current }
+{
+    let callee = Callee {
+        instance,
+        export: 0,
+    };
+    let id = core.make_task_in_new_group(Caller::Main, callee, kind)?;
+    finish_where_trapped(core);
+    Ok(id)
+}
+
+// The same of a call that may have a caller or not.
 fn begin_task(
     core: &mut TaskCore,
     kind: ExportKind,
@@ -70,13 +107,7 @@ fn begin_task(
 {
     match caller {
         Some(from) => begin_from(core, kind, instance, from),
-        None => {
-            let callee = Callee {
-                instance,
-                export: 0,
-            };
-            core.make_task_in_new_group(Caller::Main, callee, kind)
-        }
+        None => begin_alone(core, kind, instance),
     }
 }
 
@@ -86,8 +117,8 @@ impl ConcurrentState {
     /// interesting, and its result goes nowhere. It is of the group of the caller's call, or of a
     /// new one where it has no caller. Refused with trap 18 exactly where its entries, 3 or 4 with
     /// the group, don't fit into the table, and then nothing is changed. Where memory is wanting,
-    /// the state is as before. In a trapped store all groups are finished, so there only a call of a
-    /// thread is made.
+    /// the state is as before. In a trapped store all groups are finished, and so a new one is
+    /// finished at once.
     pub fn new_guest_task(
         &mut self,
         kind: ExportKind,
@@ -96,7 +127,6 @@ impl ConcurrentState {
     ) -> Result<QualifiedThreadId, TaskError>
         requires instance { IsSome (get self.old.core.instances instance) }
         requires caller { IfSome caller (λ id. IsLive self.old id) }
-        requires untrapped { IfNone caller (self.old.core.trapped ≡ false) }
         requires given { self.old.core.made.threads + self.old.core.made.works + self.old.core.made.sets + self.old.core.made.groups < 2 ^ 61 }
         ensures { Begins kind instance caller self.old (fits (entries_of caller) self.old.core) result self.new }
     {

@@ -1,8 +1,7 @@
 -- The state with the call is whole, and so is the state as it was before.
-use Rattle.std.proofs.Common.{◌≡◌, ◌∙◌, sym, subst, true, false}
-use Rattle.std.specs.Prelude.{IfNone, is_some}
+use Rattle.std.proofs.Common.{◌≡◌, ◌∙◌, sym, true}
+use Rattle.std.specs.Prelude.{is_some}
 use Rattle.task_machine.specs.Maps.{get}
-use Rattle.task_core.specs.Shown.{Shown}
 use Rattle.task_state.proofs.GuestLemmas.{whole_with_task}
 use Rattle.task_state.proofs.StateLemmas as whole
 use Rattle.task_state.proofs.state.ConcurrentState.new_guest_task.Goals as goal
@@ -15,4 +14,4 @@ invariant_of-self-2 c =
     let there : is_some (get c.self.inside.core.core.instances c.args.instance) ≡ true = whole.true_there c.self.inside.core _ c.args.instance c.self.view_is c.requires.instance in
     whole_with_task c.self.inside.core c.begin_task.new.core c.args.kind c.args.instance c.self.invariant c.in-Ok.ensures.tags c.in-Ok.ensures.current
     there (sym c.has_instance.ensures.table ∙ c.has_instance.ensures.is ∙ there)
-    c.args.caller c.in-Ok.ensures.called (subst (λ (s : Shown). IfNone c.args.caller (s.core.trapped ≡ false)) (sym c.self.view_is) c.requires.untrapped) c.in-Ok.ensures.core
+    c.args.caller c.in-Ok.ensures.called c.in-Ok.ensures.core
