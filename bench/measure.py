@@ -5,14 +5,16 @@
 
 Both programs get the same texts, one after the other in turns, N times each, and their reports are compared. For each
 case it prints the processor seconds of one run (the least of N), their ratio (ours to the plain one's; below 1 we are
-faster), the same with the time of an empty run taken off, and the bytes of memory that a label takes, where the trace
-is long enough to tell. Exit status 1 where a report differs.
+faster), the same with the time of an empty run taken off, and, where the trace is long enough to tell, the bytes of
+memory that a label takes and the run's own time: both programs print once the run is over, so that is the time to the
+first byte of the report, less the same of the empty run. Exit status 1 where a report differs.
 """
 import argparse
 import os
 import subprocess
 import sys
 import tempfile
+import time
 
 TOP = os.path.dirname(os.path.dirname(os.path.abspath(__file__)))
 HEAD = "scenario 1\nhandles 100000\ntable 1000000\nidle trap\ninstance a\nexport f callback 1\n"
@@ -68,6 +70,18 @@ def once(program, words, path):
         return usage.ru_utime + usage.ru_stime, usage.ru_minflt * os.sysconf("SC_PAGE_SIZE"), (child.returncode, out.read())
 
 
+def to_first_byte(program, words, path):
+    """The seconds from the start of one run to the first byte that it writes."""
+    with open(path, "rb") as text:
+        begun = time.perf_counter()
+        child = subprocess.Popen([program, *words], stdin=text, stdout=subprocess.PIPE, stderr=subprocess.DEVNULL)
+        child.stdout.read(1)
+        seconds = time.perf_counter() - begun
+        child.stdout.close()
+        child.wait()
+        return seconds
+
+
 def least(seconds, touched, run):
     return min(seconds, run[0]), min(touched, run[1])
 
@@ -84,12 +98,25 @@ def measure(programs, words, path, runs):
     return best, said
 
 
+def run_alone(programs, words, path, runs):
+    """The least seconds that each program takes to its first byte."""
+    best = [float("inf")] * 2
+    for _ in range(runs):
+        for which, program in enumerate(programs):
+            best[which] = min(best[which], to_first_byte(program, words, path))
+    return best
+
+
 def ratio(ours, plain):
     return f"{ours / plain:.2f}" if plain > 0 and ours > 0 else "-"
 
 
-def bytes_a_label(touched, empty, report):
-    labels = report.count(b"\n") - 1
+def labels_of(said):
+    return said[1].count(b"\n") - 1
+
+
+def bytes_a_label(touched, empty, said):
+    labels = labels_of(said)
     return f"{(touched - empty) / labels:.0f}" if labels >= LEAST_LABELS else "-"
 
 
@@ -101,19 +128,23 @@ def main():
     options = parser.parse_args()
     programs = [options.ours, options.plain]
     differs = False
-    empty = None
-    print("case | ours s | plain s | ratio | ratio without the start | bytes a label, ours | plain")
+    empty = idle = None
+    print("case | ours s | plain s | ratio | ratio without the start | bytes a label, ours | plain | the run alone, ours s | plain s | ratio")
     for name, words, text in cases():
         with tempfile.NamedTemporaryFile("w") as file:
             file.write(text)
             file.flush()
             best, said = measure(programs, words, file.name, options.runs)
-        empty = empty or best
+            is_long = labels_of(said[1]) >= LEAST_LABELS
+            alone = run_alone(programs, words, file.name, options.runs) if is_long or not idle else None
+        empty, idle = empty or best, idle or alone
         net = [best[i][0] - empty[i][0] for i in range(2)]
-        memory = [bytes_a_label(best[i][1], empty[i][1], said[i][1]) for i in range(2)]
+        own = [alone[i] - idle[i] if is_long else 0 for i in range(2)]
+        seconds = [f"{it:.4f}" if is_long else "-" for it in own]
+        memory = [bytes_a_label(best[i][1], empty[i][1], said[i]) for i in range(2)]
         print(
             f"{name} | {best[0][0]:.6f} | {best[1][0]:.6f} | {ratio(best[0][0], best[1][0])} | {ratio(*net)}"
-            f" | {memory[0]} | {memory[1]}"
+            f" | {memory[0]} | {memory[1]} | {seconds[0]} | {seconds[1]} | {ratio(*own)}"
         )
         if said[0] != said[1]:
             print(f"{name}: the programs answer differently")

@@ -1,6 +1,6 @@
-ghost use Rattle.std.specs.Prelude.{◌≡◌, ◌<◌, ◌+◌, ◌^◌, Some};
+ghost use Rattle.std.specs.Prelude.{◌≡◌, ◌<◌, Some};
 ghost use Rattle.task_machine.specs.Maps.{get};
-ghost use Rattle.task_machine.specs.Read.{position_of, register_of};
+ghost use Rattle.task_machine.specs.Read.{register_of};
 ghost use Rattle.task_machine.specs.Write.{set_register, set_position, set_how_far, set_script, set_place};
 ghost use Rattle.task_machine.proofs.FieldLemmas.{put_thread};
 ghost use Rattle.task_core.specs.Context.{with_context};
@@ -67,22 +67,6 @@ impl TaskCore {
     {
         match self.table.get_mut(id) {
             Ok(entry) => put_word(&mut entry.thread.registers, register, value),
-            Err(_) => unreachable!(),
-        }
-    }
-
-    /// The op of a thread answers the value in a register, 0 to 15, and the thread goes on after it.
-    /// There are no other registers, and then the thread alone goes on.
-    pub fn answer(&mut self, id: TableId<ThreadKey>, register: u8, value: u64)
-        requires live { 0 < thread_number self.old.tags id }
-        requires position { position_of (thread_number self.old.tags id) self.old.core + 1 < 2 ^ 32 }
-        ensures { self.new ≡ with_core (set_position (thread_number self.old.tags id) (position_of (thread_number self.old.tags id) self.old.core + 1) (set_register (thread_number self.old.tags id) register value self.old.core)) self.old }
-    {
-        match self.table.get_mut(id) {
-            Ok(entry) => {
-                put_word(&mut entry.thread.registers, register, value);
-                entry.thread.position += 1;
-            }
             Err(_) => unreachable!(),
         }
     }
