@@ -9,6 +9,7 @@ pub mod PartLemmas
 pub mod InstanceLemmas
 pub mod InstancePartLemmas
 pub mod LiveLemmas
+pub mod TestLemmas
 pub mod HandleLemmas
 pub mod LimitLemmas
 pub mod TableChangeLemmas

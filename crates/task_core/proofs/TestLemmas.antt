@@ -1,0 +1,23 @@
+-- Nothing was made in a new core.
+use Rattle.std.proofs.Common.{[], ap, arith, ℕ, ◌+◌, ◌<◌, ◌≡◌, ◌≤◌}
+use Rattle.task_machine.specs.declared.component.Callee.{Callee}
+use Rattle.task_machine.specs.declared.component.ExportKind.{ExportKind}
+use Rattle.task_machine.specs.declared.records.Caller.{Caller}
+use Rattle.task_machine.specs.declared.records.Goal.{Goal}
+use Rattle.task_machine.specs.Core.{Core, fresh}
+use Rattle.task_machine.specs.Write.{add_call, add_group, add_thread}
+use Rattle.task_rules.specs.Calls.{call_made}
+use Rattle.task_core.specs.Shown.{Shown, nothing}
+
+pub few_threads : (s : Shown) → s ≡ nothing → s.core.made.threads + 1 < 18446744073709551616
+unfolding fresh
+few_threads s is = let none : s.core.made.threads ≡ 0 = ap (λ (s : Shown). s.core.made.threads) is in omega (arith, none)
+
+pub few_groups : (s : Shown) → s ≡ nothing → s.core.made.groups + 1 < 18446744073709551616
+unfolding fresh
+few_groups s is = let none : s.core.made.groups ≡ 0 = ap (λ (s : Shown). s.core.made.groups) is in omega (arith, none)
+
+-- a call in a group of its own counts the group
+pub one_group : (f : Caller) (e : Callee) (x : ExportKind) (q : Goal) (g : ℕ) (s t : Core) → t ≡ call_made f e x q g [] (add_group s) → 1 ≤ t.made.groups
+unfolding call_made add_thread add_call add_group
+one_group f e x q g s t is = let more : t.made.groups ≡ s.made.groups + 1 = ap (λ (c : Core). c.made.groups) is in omega (arith, more)
