@@ -387,7 +387,8 @@ fn thread_label(out: &mut [u8], at: usize, label: ThreadLabel) -> usize
     }
 }
 
-// The text of a label, without a line feed.
+// The text of a label, without a line feed. It is compiled into the loop that prints a report, so
+// that nothing is kept and handed over from line to line.
 #[inline(always)]
 fn any_label(out: &mut [u8], at: usize, label: Label) -> usize
     requires { at + LINE ≤ length out.old }
@@ -416,6 +417,7 @@ fn any_label(out: &mut [u8], at: usize, label: Label) -> usize
 }
 
 /// Writes the line of a label in place. The answer is the place behind it.
+#[inline(always)]
 pub(crate) fn label_line(out: &mut [u8], at: usize, label: Label) -> usize
     requires { at + LINE ≤ length out.old }
     ensures end { result ≤ at + LINE }

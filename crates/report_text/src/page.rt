@@ -44,6 +44,7 @@ impl Page {
     }
 
     /// Adds the line of a label.
+    #[inline(always)]
     pub fn add_label(&mut self, label: Label)
         requires { length self.old ≤ PAGE }
         ensures { self.new ≡ self.old ++ line_text (label_text label) }
