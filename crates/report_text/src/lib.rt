@@ -2,8 +2,10 @@
 #![tactic(auto)]
 
 mod label;
+mod page;
+mod piece;
 
-pub use label::{append_label, append_outcome};
+pub use page::{PAGE, Page};
 
 #[cfg(test)]
 mod tests;

@@ -7,9 +7,9 @@ use task_machine::{
 };
 
 fn line_of(alloc: Global, label: Label) -> Result<Vec<u8>, Fail> {
-    let mut out = Vec::new(alloc);
-    append_label(&mut out, label)?;
-    Ok(out)
+    let mut page = Page::new(alloc)?;
+    page.add_label(label);
+    Ok(Vec::from_slice(alloc, page.as_slice())?)
 }
 
 #[test]
@@ -22,34 +22,37 @@ fn prints_labels(rt: HostRuntime) -> Result<(), Fail> {
     let labels: [(Label, &[u8]); 9] = [
         (
             Label::Main(MainLabel::Abort(Phase::AbortRequested, 1)),
-            b"main abort 1 requested",
+            b"main abort 1 requested\n",
         ),
         (
             Label::Main(MainLabel::StartRefused(Trap::TableFull, 2)),
-            b"main start 2 refused 18",
+            b"main start 2 refused 18\n",
         ),
-        (Label::Loop(LoopLabel::FutureEnds(work)), b"future 4 ends"),
+        (Label::Loop(LoopLabel::FutureEnds(work)), b"future 4 ends\n"),
         (
             Label::Take(TakeLabel::Event(mark, subtask, thread)),
-            b"take switch thread 2 event 1 5 2",
+            b"take switch thread 2 event 1 5 2\n",
         ),
         (
             Label::Take(TakeLabel::EventWakes(mark, OwnEvent::Cancelled, thread, woken)),
-            b"take switch thread 2 event 6 0 0 wakes 3",
+            b"take switch thread 2 event 6 0 0 wakes 3\n",
         ),
         (
             Label::Set(SetLabel::JoinWakes(thread, woken)),
-            b"thread 2 join wakes 3",
+            b"thread 2 join wakes 3\n",
         ),
         (
             Label::Call(CallLabel::CallPolls(33, thread, work)),
-            b"thread 2 call 33 future 4",
+            b"thread 2 call 33 future 4\n",
         ),
         (
             Label::Thread(ThreadLabel::New(2, thread, 6)),
-            b"thread 2 thread_new 2 thread 6",
+            b"thread 2 thread_new 2 thread 6\n",
         ),
-        (Label::RetWakes(thread, 7, woken), b"thread 2 ret 7 wakes 3"),
+        (
+            Label::RetWakes(thread, 7, woken),
+            b"thread 2 ret 7 wakes 3\n",
+        ),
     ];
     for (label, text) in labels {
         assert_eq!(rt; line_of(rt.alloc(), label)?.as_slice(), text);
@@ -60,14 +63,14 @@ fn prints_labels(rt: HostRuntime) -> Result<(), Fail> {
 #[test]
 fn prints_outcomes(rt: HostRuntime) -> Result<(), Fail> {
     let outcomes: [(Outcome, &[u8]); 3] = [
-        (Outcome::Done(7), b"done 7"),
-        (Outcome::Deadlock(Trap::AsyncDeadlock), b"deadlock 15"),
-        (Outcome::OutOfSteps, b"out of steps"),
+        (Outcome::Done(7), b"done 7\n"),
+        (Outcome::Deadlock(Trap::AsyncDeadlock), b"deadlock 15\n"),
+        (Outcome::OutOfSteps, b"out of steps\n"),
     ];
     for (outcome, text) in outcomes {
-        let mut out = Vec::new(rt.alloc());
-        append_outcome(&mut out, outcome)?;
-        assert_eq!(rt; out.as_slice(), text);
+        let mut page = Page::new(rt.alloc())?;
+        page.add_outcome(outcome);
+        assert_eq!(rt; page.as_slice(), text);
     }
     Ok(())
 }

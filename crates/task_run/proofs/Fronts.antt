@@ -28,12 +28,3 @@ parts_are labels items i o same =
 pub piece_cut : (labels items : List Label) (i : ℕ) (o : Outcome) (old mid new : Option (List ℕ)) (front piece : List ℕ) → items ≡ labels → front ++ piece ≡ flat_map line (take i items) → Appends old mid front → IsFront mid new piece → IsFront old new (text labels o)
 piece_cut labels items i o old mid new front piece same e before f =
     behind old mid new front piece (rest_of items i o) (text labels o) (ap (λ (bs : List ℕ). bs ++ rest_of items i o) e ∙ parts_are labels items i o same) before f
-
--- what has gathered since was not written
-pub gathered_cut : (labels items : List Label) (i : ℕ) (o : Outcome) (old new : Option (List ℕ)) (front out : List ℕ) → items ≡ labels → front ++ out ≡ flat_map line (take i items) → Appends old new front → IsFront old new (text labels o)
-gathered_cut labels items i o old new front out same e before = record {
-  front = front;
-  rest = out ++ rest_of items i o;
-  parts = sym (append_assoc front out (rest_of items i o)) ∙ ap (λ (bs : List ℕ). bs ++ rest_of items i o) e ∙ parts_are labels items i o same;
-  appended = before;
-}

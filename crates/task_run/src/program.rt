@@ -8,8 +8,9 @@ ghost use Rattle.task_run.specs.declared.scenario.Scenario.{Scenario};
 
 use crate::outside::{Sink, Source};
 use crate::pump::{ReadFault, read_all, write_all};
-use crate::report::{Report, append_label_line, append_outcome_line, run_scenario};
+use crate::report::{Report, run_scenario};
 use crate::scenario::RunError;
+use report_text::Page;
 use scenario_text::number_up_to;
 use std::alloc::{AllocError, Global};
 
@@ -18,9 +19,6 @@ pub const USAGE: &[u8] = b"usage: run STEPS, make NUMBER, big NUMBER STEPS, besi
 
 // What it says of a text of more bytes than it takes.
 const TOO_LONG: &[u8] = b"text too long\n";
-
-// A piece of a report is written once it has so many bytes.
-const PIECE: usize = 65_536;
 
 /// How a call of the program ended: the status that it ends with, and the report of what was run
 /// where that is 0.
@@ -94,17 +92,17 @@ fn steps_of(words: &[String]) -> Option<u32>
 }
 
 // Writes what has gathered, and begins anew.
-fn flush<K: Sink>(sink: &mut K, out: &mut Vec<u8>) -> Result<(), End>
+fn flush<K: Sink>(sink: &mut K, page: &mut Page) -> Result<(), End>
     ensures count { K.faults sink.old ≤ K.faults sink.new }
     ensures cause { IsErrOf result End.WriteFailed → HasRisen (K.faults sink.old) (K.faults sink.new) }
     ensures fault { IfErr result (λ end. end ≡ End.WriteFailed) }
-    ensures told { OnOk result ((out.new.items ≡ []) × Appends (K.held sink.old) (K.held sink.new) out.old.items) }
-    ensures front { IsFront (K.held sink.old) (K.held sink.new) out.old.items }
+    ensures told { OnOk result ((page.new ≡ []) × Appends (K.held sink.old) (K.held sink.new) page.old) }
+    ensures front { IsFront (K.held sink.old) (K.held sink.new) page.old }
 {
-    if !write_all(sink, out.as_slice()) {
+    if !write_all(sink, page.as_slice()) {
         return Err(End::WriteFailed);
     }
-    out.clear();
+    page.clear();
     Ok(())
 }
 
@@ -116,15 +114,15 @@ fn write_report<K: Sink>(alloc: Global, sink: &mut K, report: &Report) -> Result
     ensures told { OnOk result (Appends (K.held sink.old) (K.held sink.new) (text report.now.trace report.now.outcome)) }
     ensures front { IsFront (K.held sink.old) (K.held sink.new) (text report.now.trace report.now.outcome) }
 {
-    let mut out = Vec::new(alloc);
+    let mut page = Page::new(alloc)?;
     for label in report.trace.labels() {
-        append_label_line(&mut out, *label)?;
-        if out.len() >= PIECE {
-            flush(sink, &mut out)?;
+        page.add_label(*label);
+        if !page.has_room() {
+            flush(sink, &mut page)?;
         }
     }
-    append_outcome_line(&mut out, report.outcome)?;
-    flush(sink, &mut out)
+    page.add_outcome(report.outcome);
+    flush(sink, &mut page)
 }
 
 fn say_bad_line<K: Sink>(alloc: Global, sink: &mut K, line: u32) -> End

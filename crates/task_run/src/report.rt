@@ -12,10 +12,10 @@ ghost use Rattle.task_rules.specs.Texts.{label_text, outcome_text, line_text, te
 use crate::lower::read_scenario;
 use crate::main_script::ScriptMain;
 use crate::scenario::{NoMemory, RunError, Scenario};
-use report_text::{append_label, append_outcome};
+use report_text::Page;
 use std::alloc::{AllocError, Global};
 use task_loop::{Outcome, Trace, run_concurrent};
-use task_machine::{IdleLine, Label};
+use task_machine::IdleLine;
 use task_store::Store;
 
 /// The host works of a scenario.
@@ -123,32 +123,20 @@ pub fn run_scenario(alloc: Global, text: &[u8], steps: u32) -> Result<Report, Ru
     }
 }
 
-/// Adds the line of a label.
-pub fn append_label_line(out: &mut Vec<u8>, label: Label) -> Result<(), AllocError>
-    ensures { OnOk result (out.new.items ≡ out.old.items ++ line_text (label_text label)) }
-{
-    append_label(out, label)?;
-    out.push(b'\n')?;
-    Ok(())
-}
-
-/// Adds the line of an outcome.
-pub fn append_outcome_line(out: &mut Vec<u8>, outcome: Outcome) -> Result<(), AllocError>
-    ensures { OnOk result (out.new.items ≡ out.old.items ++ line_text (outcome_text outcome)) }
-{
-    append_outcome(out, outcome)?;
-    out.push(b'\n')?;
-    Ok(())
-}
-
 fn text_of(alloc: Global, report: &Report) -> Result<Vec<u8>, AllocError>
     ensures { IfOk result (λ out. out.items ≡ text report.now.trace report.now.outcome) }
 {
     let mut out = Vec::new(alloc);
+    let mut page = Page::new(alloc)?;
     for label in report.trace.labels() {
-        append_label_line(&mut out, *label)?;
+        page.add_label(*label);
+        if !page.has_room() {
+            out.extend_from_slice(page.as_slice())?;
+            page.clear();
+        }
     }
-    append_outcome_line(&mut out, report.outcome)?;
+    page.add_outcome(report.outcome);
+    out.extend_from_slice(page.as_slice())?;
     Ok(out)
 }
 

@@ -1,6 +1,7 @@
 use Rattle.std.proofs.Common.{◌≡◌, ◌<◌, ◌≤◌, ◌++◌, ◌+◌, ℕ, List, [], ◌∷◌, length, get_or, take, refl, sym, subst, ap, ◌∙◌, append_assoc, append-nil, arith}
 use Rattle.std.specs.List.{flat_map}
 use Rattle.std.specs.Prelude.{Result, Ok, Err, OnOk}
+use Rattle.std.proofs.lemmas.Bool.{leb-true}
 use Rattle.std.proofs.lemmas.List.{take_all, take_more}
 use Rattle.std.proofs.lemmas.Grind.{flat_map-append}
 use Rattle.task_machine.specs.declared.label.Label.{Label}
@@ -8,8 +9,8 @@ use Rattle.task_machine.specs.declared.outcome.Outcome.{Outcome}
 use Rattle.task_rules.specs.Texts.{text, line_text, outcome_text}
 use Rattle.task_run.specs.Outside.{Appends}
 use Rattle.task_run.proofs.Appending.{appends_none, appends_then, behind}
-use Rattle.task_run.proofs.Fronts.{line, piece_cut, gathered_cut}
-use Rattle.task_run.proofs.program.write_report.Goals.{then-len-ge-PIECE+in_ok-flush, else-len-ge-PIECE}
+use Rattle.task_run.proofs.Fronts.{line, piece_cut}
+use Rattle.task_run.proofs.program.write_report.Goals.{then-not-has_room+in_ok-flush, else-not-has_room}
 use Rattle.task_run.proofs.program.write_report.Goals as goal
 
 more : (xs : List Label) (i : ℕ) (d : Label) → i < length xs → flat_map line (take (i + 1) xs) ≡ flat_map line (take i xs) ++ line (get_or xs i d)
@@ -23,20 +24,22 @@ gathered xs i d front out out' lt e o =
 pub loop-label-init : goal.loop-label-init
 loop-label-init g c = record {
   count = omega arith;
-  told = ([], (rw c.new-out.ensures.items refl, appends_none _));
+  fits = rw c.in_ok-page.ensures (omega arith);
+  told = ([], (rw c.in_ok-page.ensures refl, appends_none _));
 }
 
 pub loop-label-preserved : goal.loop-label-preserved
 loop-label-preserved g c = record {
-  count = elim c.if-len-ge-PIECE.branch [ then-len-ge-PIECE+in_ok-flush w ↦ rw w.sink-is (omega (arith, c.loop-label.invariant.count, w.flush.ensures.count)) | else-len-ge-PIECE w ↦ rw w.sink-is c.loop-label.invariant.count ];
+  count = elim c.if-not-has_room.branch [ then-not-has_room+in_ok-flush w ↦ rw w.sink-is (omega (arith, c.loop-label.invariant.count, w.flush.ensures.count)) | else-not-has_room w ↦ rw w.sink-is c.loop-label.invariant.count ];
+  fits = elim c.if-not-has_room.branch [ then-not-has_room+in_ok-flush w ↦ rw (w.page-is, w.in_ok-flush.ensures.told.0) (omega arith) | else-not-has_room w ↦ rw w.page-is (leb-true (length c.add_label.new.self) 65536 (sym c.has_room.ensures ∙ w.if-not-has_room.false)) ];
   told =
       let t = c.loop-label.invariant.told in
-      let after = gathered c.labels-label-items.result.now c.loop-label.label-index _ t.0 c.loop-label.out.items c.append_label_line.new.out.items c.loop-label-test.true t.1.0 c.in_ok-append_label_line.ensures in
-      elim c.if-len-ge-PIECE.branch [
-        | then-len-ge-PIECE+in_ok-flush w ↦
+      let after = gathered c.labels-label-items.result.now c.loop-label.label-index _ t.0 c.loop-label.page c.add_label.new.self c.loop-label-test.true t.1.0 c.add_label.ensures in
+      elim c.if-not-has_room.branch [
+        | then-not-has_room+in_ok-flush w ↦
             let said = w.in_ok-flush.ensures.told in
-            rw (w.sink-is, w.out-is) (t.0 ++ c.append_label_line.new.out.items, (ap (λ (bs : List ℕ). (t.0 ++ c.append_label_line.new.out.items) ++ bs) said.0 ∙ append-nil _ ∙ after, appends_then _ _ _ t.0 c.append_label_line.new.out.items t.1.1 said.1))
-        | else-len-ge-PIECE w ↦ rw (w.sink-is, w.out-is) (t.0, (after, t.1.1))
+            rw (w.sink-is, w.page-is) (t.0 ++ c.add_label.new.self, (ap (λ (bs : List ℕ). (t.0 ++ c.add_label.new.self) ++ bs) said.0 ∙ append-nil _ ∙ after, appends_then _ _ _ t.0 c.add_label.new.self t.1.1 said.1))
+        | else-not-has_room w ↦ rw (w.sink-is, w.page-is) (t.0, (after, t.1.1))
       ];
 }
 
@@ -53,27 +56,17 @@ whole labels items i o front out out' le same e ends =
 pub returns-clause-told : goal.returns-clause-told
 returns-clause-told g c =
     let t = c.loop-label.invariant.told in
-    let all = whole c.args.report.now.trace c.labels-label-items.result.now c.loop-label.label-index c.args.report.now.outcome t.0 c.loop-label.out.items c.append_outcome_line.new.out.items (omega (arith, c.loop-label-test.false)) c.labels-label-items.ensures t.1.0 c.in_ok-append_outcome_line.ensures in
-    on_ok c.flush-2.result (λ said. subst (λ (bs : List ℕ). Appends (g.K.Sink.held c.args.sink.now) (g.K.Sink.held c.flush-2.new.sink) bs) all (appends_then _ _ _ t.0 c.append_outcome_line.new.out.items t.1.1 said.1)) c.flush-2.ensures.told
+    let all = whole c.args.report.now.trace c.labels-label-items.result.now c.loop-label.label-index c.args.report.now.outcome t.0 c.loop-label.page c.add_outcome.new.self (omega (arith, c.loop-label-test.false)) c.labels-label-items.ensures t.1.0 c.add_outcome.ensures in
+    on_ok c.flush-2.result (λ said. subst (λ (bs : List ℕ). Appends (g.K.Sink.held c.args.sink.now) (g.K.Sink.held c.flush-2.new.sink) bs) all (appends_then _ _ _ t.0 c.add_outcome.new.self t.1.1 said.1)) c.flush-2.ensures.told
 
 pub returns-clause-front : goal.returns-clause-front
 returns-clause-front g c =
     let t = c.loop-label.invariant.told in
-    let all = whole c.args.report.now.trace c.labels-label-items.result.now c.loop-label.label-index c.args.report.now.outcome t.0 c.loop-label.out.items c.append_outcome_line.new.out.items (omega (arith, c.loop-label-test.false)) c.labels-label-items.ensures t.1.0 c.in_ok-append_outcome_line.ensures in
-    behind _ _ _ t.0 c.append_outcome_line.new.out.items [] (text c.args.report.now.trace c.args.report.now.outcome) (append-nil _ ∙ all) t.1.1 c.flush-2.ensures.front
-
-pub returns-in_err-append_label_line-clause-front : goal.returns-in_err-append_label_line-clause-front
-returns-in_err-append_label_line-clause-front g c =
-    let t = c.loop-label.invariant.told in
-    gathered_cut c.args.report.now.trace c.labels-label-items.result.now c.loop-label.label-index c.args.report.now.outcome _ _ t.0 c.loop-label.out.items c.labels-label-items.ensures t.1.0 t.1.1
-
-pub returns-in_err-append_outcome_line-clause-front : goal.returns-in_err-append_outcome_line-clause-front
-returns-in_err-append_outcome_line-clause-front g c =
-    let t = c.loop-label.invariant.told in
-    gathered_cut c.args.report.now.trace c.labels-label-items.result.now c.loop-label.label-index c.args.report.now.outcome _ _ t.0 c.loop-label.out.items c.labels-label-items.ensures t.1.0 t.1.1
+    let all = whole c.args.report.now.trace c.labels-label-items.result.now c.loop-label.label-index c.args.report.now.outcome t.0 c.loop-label.page c.add_outcome.new.self (omega (arith, c.loop-label-test.false)) c.labels-label-items.ensures t.1.0 c.add_outcome.ensures in
+    behind _ _ _ t.0 c.add_outcome.new.self [] (text c.args.report.now.trace c.args.report.now.outcome) (append-nil _ ∙ all) t.1.1 c.flush-2.ensures.front
 
 pub returns-in_err-flush-clause-front : goal.returns-in_err-flush-clause-front
 returns-in_err-flush-clause-front g c =
     let t = c.loop-label.invariant.told in
-    let after = gathered c.labels-label-items.result.now c.loop-label.label-index _ t.0 c.loop-label.out.items c.append_label_line.new.out.items c.loop-label-test.true t.1.0 c.in_ok-append_label_line.ensures in
-    piece_cut c.args.report.now.trace c.labels-label-items.result.now (c.loop-label.label-index + 1) c.args.report.now.outcome _ _ _ t.0 c.append_label_line.new.out.items c.labels-label-items.ensures after t.1.1 c.flush.ensures.front
+    let after = gathered c.labels-label-items.result.now c.loop-label.label-index _ t.0 c.loop-label.page c.add_label.new.self c.loop-label-test.true t.1.0 c.add_label.ensures in
+    piece_cut c.args.report.now.trace c.labels-label-items.result.now (c.loop-label.label-index + 1) c.args.report.now.outcome _ _ _ t.0 c.add_label.new.self c.labels-label-items.ensures after t.1.1 c.flush.ensures.front

@@ -1,4 +1,4 @@
-use Rattle.std.proofs.Common.{◌≡◌, ℕ, ◌≤◌, ◌++◌, List, take}
+use Rattle.std.proofs.Common.{◌≡◌, ℕ, ◌≤◌, ◌++◌, List, length, take}
 use Rattle.std.specs.List.{flat_map}
 use Rattle.task_rules.specs.Texts.{label_text, line_text}
 use Rattle.task_run.specs.Outside.{Appends}
@@ -7,5 +7,6 @@ use Rattle.task_run.proofs.program.write_report.Given as goal
 abbrev pub invariant-loop-label : goal.invariant-loop-label
 invariant-loop-label g l = record {
   count : g.K.Sink.faults l.fn.sink ≤ g.K.Sink.faults l.sink;
-  told : (front : List ℕ) × ((front ++ l.out.items ≡ flat_map (λ x. line_text (label_text x)) (take l.label-index l.label-items)) × Appends (g.K.Sink.held l.fn.sink) (g.K.Sink.held l.sink) front);
+  fits : length l.page ≤ 65536;
+  told : (front : List ℕ) × ((front ++ l.page ≡ flat_map (λ x. line_text (label_text x)) (take l.label-index l.label-items)) × Appends (g.K.Sink.held l.fn.sink) (g.K.Sink.held l.sink) front);
 }
