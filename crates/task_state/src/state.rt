@@ -7,7 +7,7 @@ ghost use Rattle.task_machine.specs.Write.{set_trapped, take_result};
 ghost use Rattle.task_rules.specs.Data.{assigned, moved_to, stored};
 ghost use Rattle.task_rules.specs.Scripts.{value_of};
 ghost use Rattle.task_core.specs.Image.{IsTableOf};
-ghost use Rattle.task_core.specs.Shown.{IsLive, KeepsTagsBut, nothing, with_capacity, with_core, with_handle_limit, with_instance};
+ghost use Rattle.task_core.specs.Shown.{KeepsTagsBut, nothing, with_capacity, with_core, with_handle_limit, with_instance};
 ghost use Rattle.task_simple.specs.Forms.{call_started, exit_done, return_done, trap_done};
 ghost use Rattle.task_simple.specs.Simple.{IsSimple, NoneRuns};
 ghost use Rattle.task_state.specs.Seen.{stopped_with};
