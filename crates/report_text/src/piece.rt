@@ -10,8 +10,8 @@ use itoa::Buffer;
 static PAIRS: [u8; 200] =
     *b"00010203040506070809101112131415161718192021222324252627282930313233343536373839404142434445464748495051525354555657585960616263646566676869707172737475767778798081828384858687888990919293949596979899";
 
+// Words, byte by byte: of words that are known where a line is compiled, a few stores are made.
 #[inline(always)]
-#[tactic(auto, using(std::proofs::lemmas::Slice::overwrites))]
 pub(crate) fn words(out: &mut [u8], at: usize, words: &[u8]) -> usize
     requires { at + length words.now ≤ length out.old }
     ensures end { result ≡ at + length words.now }
@@ -50,6 +50,7 @@ fn pair(out: &mut [u8], at: usize, number: u64) -> usize
     words(out, at, &[PAIRS[from], PAIRS[from + 1]])
 }
 
+// A long number is rare: its digits stand apart from the lines.
 #[inline(never)]
 #[tactic(auto, using(crate::proofs::Digits::decimal_at_most))]
 fn many_digits(out: &mut [u8], at: usize, number: u64) -> usize
@@ -65,7 +66,7 @@ fn many_digits(out: &mut [u8], at: usize, number: u64) -> usize
 // A number. Most are short: their digits are written one or two at a time, from the front.
 #[inline(always)]
 #[tactic(auto, using(crate::proofs::Digits::decimal_two))]
-pub(crate) fn digits(out: &mut [u8], at: usize, number: u64) -> usize
+fn digits(out: &mut [u8], at: usize, number: u64) -> usize
     requires { at + 20 ≤ length out.old }
     ensures end { result ≤ at + 20 }
     ensures room { length out.new ≡ length out.old }
