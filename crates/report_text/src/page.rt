@@ -18,13 +18,15 @@ pub struct Page {
 }
 
 impl Model for Page {
-    ghost use Rattle.std.specs.Prelude.{◌≡◌, ◌≤◌, ℕ, List, length, take, vec_len};
+    ghost use Rattle.std.specs.Prelude.{◌≡◌, ◌+◌, ◌≤◌, ℕ, List, length, take};
+    ghost use Rattle.report_text.specs.declared.label.TheConstants.{LINE};
+    ghost use Rattle.report_text.specs.declared.page.TheConstants.{PAGE};
 
     ghost Value = { List ℕ };
 
     ghost view = { λ p. take p.used p.bytes.items };
 
-    ghost invariant = { λ p. (length p.bytes.items ≡ 65696) × (p.used ≤ 65696) };
+    ghost invariant = { λ p. (length p.bytes.items ≡ PAGE + LINE) × (p.used ≤ PAGE + LINE) };
 }
 
 impl Page {

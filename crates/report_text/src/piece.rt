@@ -1,12 +1,17 @@
 //! The pieces of a line, each written in place: into room that is there, behind what was written
 //! before. The answer is the place behind the piece.
 ghost use Rattle.std.specs.Prelude.{◌≡◌, ◌+◌, ◌≤◌, ◌<◌, ◌++◌, codes, decimal, length, take};
+ghost use Rattle.report_text.specs.Pair.{pair_text};
 ghost use Rattle.task_rules.specs.Texts.{op_text, answer_text};
 
 use itoa::Buffer;
 
+// The two digits of each number below 100.
+static PAIRS: [u8; 200] =
+    *b"00010203040506070809101112131415161718192021222324252627282930313233343536373839404142434445464748495051525354555657585960616263646566676869707172737475767778798081828384858687888990919293949596979899";
+
+// Words, byte by byte: of words that are known where a line is compiled, a few stores are made.
 #[inline(always)]
-#[tactic(auto, using(std::proofs::lemmas::Slice::overwrites))]
 pub(crate) fn words(out: &mut [u8], at: usize, words: &[u8]) -> usize
     requires { at + length words.now ≤ length out.old }
     ensures end { result ≡ at + length words.now }
@@ -31,54 +36,21 @@ fn one_digit(out: &mut [u8], at: usize, number: u64) -> usize
     words(out, at, &[b'0' + number as u8])
 }
 
+// Two digits, of which the first may be 0.
 #[inline(always)]
-#[tactic(auto, using(crate::proofs::Digits::decimal_two))]
-fn two_digits(out: &mut [u8], at: usize, number: u64) -> usize
-    requires from { 10 ≤ number }
-    requires to { number < 100 }
+#[tactic(auto, using(crate::proofs::Digits::PAIRS_at))]
+fn pair(out: &mut [u8], at: usize, number: u64) -> usize
+    requires small { number < 100 }
     requires room { at + 2 ≤ length out.old }
     ensures end { result ≡ at + 2 }
     ensures room { length out.new ≡ length out.old }
-    ensures text { take result out.new ≡ take at out.old ++ decimal number }
+    ensures text { take result out.new ≡ take at out.old ++ pair_text number }
 {
-    let tens = b'0' + (number / 10) as u8;
-    let ones = b'0' + (number % 10) as u8;
-    words(out, at, &[tens, ones])
+    let from = number as usize * 2;
+    words(out, at, &[PAIRS[from], PAIRS[from + 1]])
 }
 
-#[inline(always)]
-#[tactic(auto, using(crate::proofs::Digits::decimal_three))]
-fn three_digits(out: &mut [u8], at: usize, number: u64) -> usize
-    requires from { 100 ≤ number }
-    requires to { number < 1000 }
-    requires room { at + 3 ≤ length out.old }
-    ensures end { result ≡ at + 3 }
-    ensures room { length out.new ≡ length out.old }
-    ensures text { take result out.new ≡ take at out.old ++ decimal number }
-{
-    let hundreds = b'0' + (number / 100) as u8;
-    let tens = b'0' + (number / 10 % 10) as u8;
-    let ones = b'0' + (number % 10) as u8;
-    words(out, at, &[hundreds, tens, ones])
-}
-
-#[inline(always)]
-#[tactic(auto, using(crate::proofs::Digits::decimal_four))]
-fn four_digits(out: &mut [u8], at: usize, number: u64) -> usize
-    requires from { 1000 ≤ number }
-    requires to { number < 10000 }
-    requires room { at + 4 ≤ length out.old }
-    ensures end { result ≡ at + 4 }
-    ensures room { length out.new ≡ length out.old }
-    ensures text { take result out.new ≡ take at out.old ++ decimal number }
-{
-    let thousands = b'0' + (number / 1000) as u8;
-    let hundreds = b'0' + (number / 100 % 10) as u8;
-    let tens = b'0' + (number / 10 % 10) as u8;
-    let ones = b'0' + (number % 10) as u8;
-    words(out, at, &[thousands, hundreds, tens, ones])
-}
-
+// A long number is rare: its digits stand apart from the lines.
 #[inline(never)]
 #[tactic(auto, using(crate::proofs::Digits::decimal_at_most))]
 fn many_digits(out: &mut [u8], at: usize, number: u64) -> usize
@@ -91,9 +63,10 @@ fn many_digits(out: &mut [u8], at: usize, number: u64) -> usize
     words(out, at, buffer.format(number).as_bytes())
 }
 
-// A number. Most are short: their digits are written at once.
+// A number. Most are short: their digits are written one or two at a time, from the front.
 #[inline(always)]
-pub(crate) fn digits(out: &mut [u8], at: usize, number: u64) -> usize
+#[tactic(auto, using(crate::proofs::Digits::decimal_two))]
+fn digits(out: &mut [u8], at: usize, number: u64) -> usize
     requires { at + 20 ≤ length out.old }
     ensures end { result ≤ at + 20 }
     ensures room { length out.new ≡ length out.old }
@@ -102,11 +75,13 @@ pub(crate) fn digits(out: &mut [u8], at: usize, number: u64) -> usize
     if number < 10 {
         one_digit(out, at, number)
     } else if number < 100 {
-        two_digits(out, at, number)
+        pair(out, at, number)
     } else if number < 1_000 {
-        three_digits(out, at, number)
+        let end = one_digit(out, at, number / 100);
+        pair(out, end, number % 100)
     } else if number < 10_000 {
-        four_digits(out, at, number)
+        let end = pair(out, at, number / 100);
+        pair(out, end, number % 100)
     } else {
         many_digits(out, at, number)
     }

@@ -62,8 +62,12 @@ fn prints_labels(rt: HostRuntime) -> Result<(), Fail> {
 
 #[test]
 fn prints_outcomes(rt: HostRuntime) -> Result<(), Fail> {
-    let outcomes: [(Outcome, &[u8]); 3] = [
+    let outcomes: [(Outcome, &[u8]); 7] = [
         (Outcome::Done(7), b"done 7\n"),
+        (Outcome::Done(10), b"done 10\n"),
+        (Outcome::Done(305), b"done 305\n"),
+        (Outcome::HostFailed(6_789), b"host failed 6789\n"),
+        (Outcome::Done(u64::MAX), b"done 18446744073709551615\n"),
         (Outcome::Deadlock(Trap::AsyncDeadlock), b"deadlock 15\n"),
         (Outcome::OutOfSteps, b"out of steps\n"),
     ];

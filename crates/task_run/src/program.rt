@@ -106,13 +106,14 @@ fn flush<K: Sink>(sink: &mut K, page: &mut Page) -> Result<(), End>
     Ok(())
 }
 
-// Writes a report in pieces of at least a line.
+// Writes a report page by page. Where the room of a page can't be had, nothing is written.
 fn write_report<K: Sink>(alloc: Global, sink: &mut K, report: &Report) -> Result<(), End>
     ensures count { K.faults sink.old ≤ K.faults sink.new }
     ensures cause { IsErrOf result End.WriteFailed → HasRisen (K.faults sink.old) (K.faults sink.new) }
     ensures fault { IfErr result (λ end. (end ≡ End.NoMemory) ⊎ (end ≡ End.WriteFailed)) }
     ensures told { OnOk result (Appends (K.held sink.old) (K.held sink.new) (text report.now.trace report.now.outcome)) }
     ensures front { IsFront (K.held sink.old) (K.held sink.new) (text report.now.trace report.now.outcome) }
+    ensures wanting { IsErrOf result End.NoMemory → sink.new ≡ sink.old }
 {
     let mut page = Page::new(alloc)?;
     for label in report.trace.labels() {
