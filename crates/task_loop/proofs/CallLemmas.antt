@@ -1,5 +1,5 @@
 -- Calls by main.
-use Rattle.std.proofs.Common.{ap, arith, refl, subst, sym, ◌∙◌, ◌<◌, ◌≤◌}
+use Rattle.std.proofs.Common.{ap, arith, refl, subst, sym, ◌∙◌, ◌≤◌}
 use Rattle.std.proofs.lemmas.Bool.{false≢true}
 use Rattle.std.specs.Option.{option_map_or}
 use Rattle.std.specs.Prelude.{Err, IfSome, IsSome, List, None, Ok, Option, Some, false, option_map, true, ℕ, ◌+◌, ◌≡◌}
@@ -19,7 +19,7 @@ use Rattle.task_rules.specs.Scripts.{export_at, export_kind}
 use Rattle.task_simple.specs.Forms.{call_started}
 use Rattle.task_simple.specs.Simple.{IsPlain}
 use Rattle.task_simple.proofs.RowLemmas.{main_started_is}
-use Rattle.task_core.specs.Shown.{KeepsTags, Shown, Tag}
+use Rattle.task_core.specs.Shown.{Shown}
 use Rattle.task_state.specs.Seen.{Seen, with_core}
 use Rattle.task_state.specs.State.{Becomes, seen}
 use Rattle.task_loop.specs.declared.call.FuncCallConcurrent.{FuncCallConcurrent}
@@ -88,12 +88,6 @@ module _ (c : Component) (first : IsFirstComponent c) (e : Callee) (there : IsSo
 -- what is seen of a state that has another core
 pub seen_becomes : (c : Core) (s t : Shown) → Becomes c s t → seen t ≡ with_core c (seen s)
 seen_becomes c s t becomes = rw (becomes.core, becomes.running) refl
-
-pub keeps_both : (a b c : List (Option Tag)) → KeepsTags a b → KeepsTags b c → KeepsTags a c
-keeps_both a b c first second = record {
-  threads = λ id live. let same = first.threads id live in second.threads id (subst (λ n. 0 < n) (sym same) live) ∙ same;
-  calls = λ id live. let same = first.calls id live in second.calls id (subst (λ n. 0 < n) (sym same) live) ∙ same;
-}
 
 -- the same where it was as before in between
 pub seen_twice : (f : Core → Core) (s t u : Shown) → Becomes s.core s t → Becomes (f t.core) t u → seen u ≡ with_core (f s.core) (seen s)

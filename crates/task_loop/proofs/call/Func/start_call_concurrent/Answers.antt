@@ -1,8 +1,9 @@
 -- A start is refused where its test holds, else made.
 use Rattle.std.proofs.Common.{sym, ◌∙◌}
+use Rattle.task_core.proofs.GroupLemmas.{KeepsTags-trans}
 use Rattle.task_machine.specs.Write.{set_trapped}
 use Rattle.task_loop.specs.Calls.{callee_of}
-use Rattle.task_loop.proofs.CallLemmas.{few_words, fits-started, keeps_both, seen_becomes, seen_twice, starts_full, starts_not, starts_now, starts_trapped}
+use Rattle.task_loop.proofs.CallLemmas.{few_words, fits-started, seen_becomes, seen_twice, starts_full, starts_not, starts_now, starts_trapped}
 use Rattle.task_loop.proofs.FitLemmas.{fits-set_trapped}
 use Rattle.task_state.specs.State.{seen}
 use Rattle.task_loop.proofs.call.Func.start_call_concurrent.Goals as goal
@@ -42,4 +43,4 @@ pub returns-in-Err-clause-fits : goal.returns-in-Err-clause-fits
 returns-in-Err-clause-fits g c = rw (c.set_trapped.ensures.state.core, c.in-Err.ensures.err.core) (fits-set_trapped c.args.component.now c.args.store.now.state.core c.requires.fits)
 
 pub returns-in-Err-clause-tags : goal.returns-in-Err-clause-tags
-returns-in-Err-clause-tags g c = keeps_both c.args.store.now.state.tags c.start_call.new.self.tags c.set_trapped.new.self.state.tags c.in-Err.ensures.err.tags c.set_trapped.ensures.state.tags
+returns-in-Err-clause-tags g c = KeepsTags-trans c.args.store.now.state.tags c.start_call.new.self.tags c.set_trapped.new.self.state.tags c.in-Err.ensures.err.tags c.set_trapped.ensures.state.tags
