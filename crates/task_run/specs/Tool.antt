@@ -85,10 +85,6 @@ pub record IsTooLongCut (all : List ℕ) (left old new : Option (List ℕ)) : Ty
 abbrev pub IsCut : ℕ → List ℕ → Option (List ℕ) → Option (List ℕ) → Option (List ℕ) → Type 0
 IsCut n all left old new = IsReportCut n all left old new ⊎ (IsBadLineCut all left old new ⊎ IsTooLongCut all left old new)
 
--- nothing was written, or a front of a report's text
-abbrev pub IsWanting : ℕ → List ℕ → Option (List ℕ) → Option (List ℕ) → Option (List ℕ) → Type 0
-IsWanting n all left old new = (new ≡ old) ⊎ IsReportCut n all left old new
-
 -- memory was wanting, or the source or the sink failed
 abbrev pub IsHindered : ℕ → Type 0
 IsHindered status = (status ≡ 1) ⊎ ((status ≡ 4) ⊎ (status ≡ 5))

@@ -3,7 +3,7 @@ ghost use Rattle.task_run.specs.Outside.{Appends, HasRisen};
 ghost use Rattle.task_run.specs.Pump.{IsFront, IsTooLong};
 ghost use Rattle.task_run.specs.Lower.{Reads};
 ghost use Rattle.task_rules.specs.Texts.{text};
-ghost use Rattle.task_run.specs.Tool.{IsCut, IsHindered, IsRun, IsScenario, IsWanting, Ran, SaysBadLine, SaysOrFails, bad_line_text, too_long_text, usage_text, status_of};
+ghost use Rattle.task_run.specs.Tool.{IsCut, IsHindered, IsRun, IsScenario, Ran, SaysBadLine, SaysOrFails, bad_line_text, too_long_text, usage_text, status_of};
 ghost use Rattle.task_run.specs.declared.scenario.Scenario.{Scenario};
 
 use crate::outside::{Sink, Source};
@@ -158,7 +158,7 @@ fn run<S: Source, K: Sink>(
     ensures bad { (all : List ℕ) → S.left source.old ≡ Some all → IsErrOf result End.BadScenario → SaysBadLine all (S.left source.new) (K.held sink.old) (K.held sink.new) }
     ensures long { (all : List ℕ) → S.left source.old ≡ Some all → IsErrOf result End.TooLong → IsTooLong all (S.left source.new) }
     ensures long_said { IsErrOf result End.TooLong → Appends (K.held sink.old) (K.held sink.new) too_long_text }
-    ensures wanting { (all : List ℕ) → S.left source.old ≡ Some all → IsErrOf result End.NoMemory → IsWanting steps all (S.left source.new) (K.held sink.old) (K.held sink.new) }
+    ensures wanting { IsErrOf result End.NoMemory → sink.new ≡ sink.old }
     ensures cut { (all : List ℕ) → S.left source.old ≡ Some all → IsErrOf result End.WriteFailed → IsCut steps all (S.left source.new) (K.held sink.old) (K.held sink.new) }
 {
     let text = match read_all(alloc, source) {
@@ -197,7 +197,7 @@ fn call<S: Source, K: Sink>(
     ensures bad { (all : List ℕ) → S.left source.old ≡ Some all → IsErrOf result End.BadScenario → SaysBadLine all (S.left source.new) (K.held sink.old) (K.held sink.new) }
     ensures long { (all : List ℕ) → S.left source.old ≡ Some all → IsErrOf result End.TooLong → IsTooLong all (S.left source.new) }
     ensures long_said { IsErrOf result End.TooLong → Appends (K.held sink.old) (K.held sink.new) too_long_text }
-    ensures wanting { (n : ℕ) (all : List ℕ) → IsRun (map string_bytes words.now) n → S.left source.old ≡ Some all → IsErrOf result End.NoMemory → IsWanting n all (S.left source.new) (K.held sink.old) (K.held sink.new) }
+    ensures wanting { IsErrOf result End.NoMemory → sink.new ≡ sink.old }
     ensures cut { (n : ℕ) (all : List ℕ) → IsRun (map string_bytes words.now) n → S.left source.old ≡ Some all → IsErrOf result End.WriteFailed → IsCut n all (S.left source.new) (K.held sink.old) (K.held sink.new) }
     ensures unsaid { ((n : ℕ) → IsRun (map string_bytes words.now) n → ⊥) → IsErrOf result End.WriteFailed → IsFront (K.held sink.old) (K.held sink.new) usage_text }
 {
@@ -209,7 +209,7 @@ fn call<S: Source, K: Sink>(
 
 /// What the program does with its words, its input and its output. `run STEPS`, with 1 to 1,000,000
 /// steps, reads a scenario to the source's end, runs it and writes its report. The status is 0 where
-/// the report was written, 1 where memory was wanting, 2 where the words are none of the forms, which
+/// the report was written, 1 where memory was wanting, and then nothing was written, 2 where the words are none of the forms, which
 /// writes the usage line, 3 where the text is no scenario, which writes its first bad line, 4 where the
 /// source failed, 5 where the sink did, and 6 where the source gave more than 1,048,576 bytes, which
 /// writes a line that says so. Other words leave the source as it was.
@@ -238,8 +238,8 @@ pub fn tool<S: Source, K: Sink>(
     ensures bad { (all : List ℕ) → S.left source.old ≡ Some all → result.status ≡ 3 → SaysBadLine all (S.left source.new) (K.held sink.old) (K.held sink.new) }
     ensures long { (all : List ℕ) → S.left source.old ≡ Some all → result.status ≡ 6 → IsTooLong all (S.left source.new) }
     ensures long_said { result.status ≡ 6 → Appends (K.held sink.old) (K.held sink.new) too_long_text }
-    // With status 1 nothing or a front of a report was written, with 5 a front of what was to be written.
-    ensures wanting { (n : ℕ) (all : List ℕ) → IsRun (map string_bytes words.now) n → S.left source.old ≡ Some all → result.status ≡ 1 → IsWanting n all (S.left source.new) (K.held sink.old) (K.held sink.new) }
+    // With status 1 nothing was written, with 5 a front of what was to be written.
+    ensures wanting { result.status ≡ 1 → sink.new ≡ sink.old }
     ensures cut { (n : ℕ) (all : List ℕ) → IsRun (map string_bytes words.now) n → S.left source.old ≡ Some all → result.status ≡ 5 → IsCut n all (S.left source.new) (K.held sink.old) (K.held sink.new) }
     ensures unsaid { ((n : ℕ) → IsRun (map string_bytes words.now) n → ⊥) → result.status ≡ 5 → IsFront (K.held sink.old) (K.held sink.new) usage_text }
     // Only want of memory and a fault stand in the way of 0 for a scenario, of 3 for another text and of 6 for a longer one.

@@ -37,7 +37,7 @@ returns-in-Err-clause-too_long g c = λ n all is l long.
     (only_long c.in-Err.end (c.in-Err.ensures.words n is) (λ e. let short : length all ≤ 1048576 = (c.in-Err.ensures.bad all l (ap (λ (e : End). Err e) e)).whole.short in omega arith))
 
 pub returns-in-Err-clause-wanting : goal.returns-in-Err-clause-wanting
-returns-in-Err-clause-wanting g c = λ n all is l status. c.in-Err.ensures.wanting n all is l (ap (λ (e : End). Err e) (was_wanting c.in-Err.end (sym c.status.ensures ∙ status)))
+returns-in-Err-clause-wanting g c = λ status. c.in-Err.ensures.wanting (ap (λ (e : End). Err e) (was_wanting c.in-Err.end (sym c.status.ensures ∙ status)))
 
 pub returns-in-Err-clause-cut : goal.returns-in-Err-clause-cut
 returns-in-Err-clause-cut g c = λ n all is l status. c.in-Err.ensures.cut n all is l (ap (λ (e : End). Err e) (was_cut c.in-Err.end (sym c.status.ensures ∙ status)))
