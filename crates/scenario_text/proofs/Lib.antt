@@ -11,3 +11,4 @@ pub mod StateLaws
 pub mod Completing
 pub mod Again
 pub mod Verdicts
+pub mod FirstByte

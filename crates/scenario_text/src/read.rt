@@ -9,6 +9,7 @@ ghost use Rattle.scenario_text.specs.declared.tree.ScenarioText.{ScenarioText};
 use crate::line::{LineError, read_line};
 use crate::state::State;
 use crate::tree::ScenarioText;
+use memchr::memchr;
 use std::alloc::{AllocError, Global};
 
 /// Why a text gave no scenario.
@@ -20,11 +21,12 @@ pub enum TextError {
 }
 
 // Where the first line of a text ends.
+#[tactic(auto, using(crate::proofs::FirstByte::first_byte))]
 fn line_end(text: &[u8]) -> Option<usize>
     ensures place { result ≡ position (λ b. b == 10) text.now }
     ensures inside { IfSome result (λ i. i < length text.now) }
 {
-    text.iter().position(|b| *b == b'\n')
+    memchr(b'\n', text)
 }
 
 // The first line of a text, and the text after it.
