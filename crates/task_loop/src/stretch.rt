@@ -33,6 +33,9 @@ pub(crate) fn stretch<T, H>(
         unreachable!()
     };
     let script = start_script(component, running.callee);
+    let Some(Op::Data(_)) = op_at(script, running.position) else {
+        return Ok(added);
+    };
     let end = script.len() as u32;
     let mut context = store.state.context();
     'ops: for count in added..steps {

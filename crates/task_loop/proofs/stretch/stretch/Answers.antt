@@ -1,5 +1,6 @@
 -- Each op of the stretch adds to the run, and in the end the context is written back.
 use Rattle.std.proofs.Common.{ap, arith, subst, sym, ◌∙◌}
+use Rattle.std.proofs.lemmas.Option.{slice_get_within}
 use Rattle.std.specs.Prelude.{◌≡◌, ◌+◌, List, Some, length, option_copied, slice_get}
 use Rattle.task_machine.specs.declared.label.Label.{Label}
 use Rattle.task_machine.specs.declared.op.Op.{Op}
@@ -31,8 +32,8 @@ ops-init g c =
       on = subst (λ d. KeepsOn c.args.component.now (phase.Run r.number) s c.args.trace.now c.args.added (with_core d s) c.args.trace.now c.args.added) (sym same) (keeps_none c.args.component.now (phase.Run r.number) s c.args.trace.now c.args.added);
     }
 
-pub returns-in_default-op_at-clause-on : goal.returns-in_default-op_at-clause-on
-returns-in_default-op_at-clause-on g c =
+pub returns-in_default-op_at-2-clause-on : goal.returns-in_default-op_at-2-clause-on
+returns-in_default-op_at-2-clause-on g c =
     let s = seen c.args.store.now.state in
     let r = c.in-Some.running in
     let t = seen c.ops.store.state in
@@ -65,11 +66,15 @@ ops-preserved g c =
     let l = c.computes_in-label.result in
     let ends = ap length (script_there t simple r about at x c.args.component.now ∙ sym c.start_script-script.ensures) in
     let row = c.computes_in-label.ensures.row c.args.component.now ends in
-    let lookup : slice_get (script_in c.args.component.now r.callee script.Start) x.position ≡ Some (op.Data c.in-Some-Data.op) =
-    ap (λ (ops : List Op). slice_get ops x.position) (sym c.start_script-script.ensures) ∙ sym c.op_at.ensures ∙ ap option_copied c.in-Some-Data.is ∙ ap (λ (o : Op). Some o) c.in-Some-Data.field-0-is in
-    let at_op = op_there t simple r about at x c.args.component.now (op.Data c.in-Some-Data.op) lookup in
-    let on = keeps_on t simple r about at x c.args.component.now c.in-Some-Data.op l y u row (c.computes_in-label.ensures.about.runs ∙ sym about.runs) at_op s c.args.trace.now c.ops.trace c.args.added c.ops.count c.ops.invariant.on in
+    let lookup : slice_get (script_in c.args.component.now r.callee script.Start) x.position ≡ Some (op.Data c.in-Some-Data-op_at.op) =
+    ap (λ (ops : List Op). slice_get ops x.position) (sym c.start_script-script.ensures) ∙ sym c.op_at-in-ops.ensures ∙ ap option_copied c.in-Some-Data-op_at.is ∙ ap (λ (o : Op). Some o) c.in-Some-Data-op_at.field-0-is in
+    let at_op = op_there t simple r about at x c.args.component.now (op.Data c.in-Some-Data-op_at.op) lookup in
+    let on = keeps_on t simple r about at x c.args.component.now c.in-Some-Data-op_at.op l y u row (c.computes_in-label.ensures.about.runs ∙ sym about.runs) at_op s c.args.trace.now c.ops.trace c.args.added c.ops.count c.ops.invariant.on in
     record {
       about = c.computes_in-label.ensures.about;
       on = subst (λ (ls : List Label). KeepsOn c.args.component.now (phase.Run r.number) s c.args.trace.now c.args.added (store_in r.number y u) ls (c.ops.count + 1)) (sym c.in-Ok.ensures.ok) on;
     }
+
+pub computes_in-label-requires-clause-before : goal.computes_in-label-requires-clause-before
+computes_in-label-requires-clause-before g c =
+    slice_get_within c.start_script-script.result.now c.ops.context.position c.in-Some-Data-op_at.field-0.now (sym c.op_at-in-ops.ensures ∙ ap option_copied c.in-Some-Data-op_at.is)
