@@ -174,7 +174,7 @@ module _ {base : Core} where
   blocking_left_shelved n w order {s = s} q = left_shelved n (returned_shelved (task_of n s) (register_of n 0 s) w (let_in_shelved (instance_of n s) order q))
 
   pub blocking_exit_row_stays : (a0 : ℕ) (a1 : Option ℕ) {s : Core} → Shelved base s → Stays base (blocking_exit_row a0 a1 s)
-  blocking_exit_row_stays n w {s = s} q = let held = held_out (instance_of n s) s in trap_if_stays base (not (passes_after_return (instance_of n s) (task_of n s) held s)) trap.CannotBlockSyncTask (may (may_tell (task_of n s) w s) (Ordered held (λ order. Stops (exit_label n w) (blocking_left n w order s)))) (may_stays base (may_tell (task_of n s) w s) (Ordered held (λ order. Stops (exit_label n w) (blocking_left n w order s))) (λ order. blocking_left_shelved n w order q))
+  blocking_exit_row_stays n w {s = s} q = let held = held_out (instance_of n s) s in trap_if_stays base (not (passes_after_return n w s)) trap.CannotBlockSyncTask (may (may_tell (task_of n s) w s) (Ordered held (λ order. Stops (exit_label n w) (blocking_left n w order s)))) (may_stays base (may_tell (task_of n s) w s) (Ordered held (λ order. Stops (exit_label n w) (blocking_left n w order s))) (λ order. blocking_left_shelved n w order q))
 
   pub direct_left_shelved : (a0 : ℕ) (a1 : ℕ) (a2 : ℕ) {s : Core} → Shelved base s → Shelved base (direct_left a0 a1 a2 s)
   unfolding direct_left

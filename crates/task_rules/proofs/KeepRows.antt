@@ -144,7 +144,7 @@ module _ {R : Core → Core → Type 0} (E : Elementary R) where
   blocking_left_keeps n w order s = after E (after E (let_in_keeps (instance_of n s) order s) (returned_keeps (task_of n s) (register_of n 0 s) w (let_in (instance_of n s) order s))) (left_keeps n (returned (task_of n s) (register_of n 0 s) w (let_in (instance_of n s) order s)))
 
   pub blocking_exit_row_keeps : (a0 : ℕ) (a1 : Option ℕ) (s : Core) → Keeps R s (blocking_exit_row a0 a1 s)
-  blocking_exit_row_keeps n w s = let held = held_out (instance_of n s) s in trap_if_keeps E s (not (passes_after_return (instance_of n s) (task_of n s) held s)) trap.CannotBlockSyncTask (may (may_tell (task_of n s) w s) (Ordered held (λ order. Stops (exit_label n w) (blocking_left n w order s)))) (may_keeps E s (may_tell (task_of n s) w s) (Ordered held (λ order. Stops (exit_label n w) (blocking_left n w order s))) (λ order. blocking_left_keeps n w order s))
+  blocking_exit_row_keeps n w s = let held = held_out (instance_of n s) s in trap_if_keeps E s (not (passes_after_return n w s)) trap.CannotBlockSyncTask (may (may_tell (task_of n s) w s) (Ordered held (λ order. Stops (exit_label n w) (blocking_left n w order s)))) (may_keeps E s (may_tell (task_of n s) w s) (Ordered held (λ order. Stops (exit_label n w) (blocking_left n w order s))) (λ order. blocking_left_keeps n w order s))
 
   pub direct_left_keeps : (a0 : ℕ) (a1 : ℕ) (a2 : ℕ) (s : Core) → R s (direct_left a0 a1 a2 s)
   unfolding direct_left
