@@ -29,7 +29,7 @@ use Rattle.task_rules.specs.Progress.{Fails, Goes, Never, Ordered, Progress, Sto
 use Rattle.task_rules.specs.Run.{Run, opening}
 use Rattle.task_rules.specs.Scripts.{op_of}
 use Rattle.task_rules.specs.Stalled.{Setting}
-use Rattle.task_rules.specs.Step.{DeadlockStep, EmptyFor, FuturesStep, MainProgresses, MainStep, OpenProgresses, OpenStep, Polled, Progresses, RestStep, ScriptStep, Step, TakeStep, TurnStep, did}
+use Rattle.task_rules.specs.Step.{DeadlockStep, EmptyFor, FuturesStep, MainProgresses, MainStep, OpenAct, OpenProgresses, OpenStep, Polled, Progresses, RestStep, ScriptStep, Step, TakeStep, TurnStep, did}
 use Rattle.task_rules.specs.Takes.{popped}
 use Rattle.task_rules.specs.Turns.{at_turn}
 use Rattle.task_rules.specs.Works.{Ends, FailsNow, Poll, StillPends, next_polled, poll_of}
@@ -131,8 +131,8 @@ module _ (x : Setting) where
   script_step_shelved s q p None l t is = shelved_is t _ is.1 q
   script_step_shelved s q p (Some o) l t is = main_progresses_shelved s q p o _ l t (main_row_stays x.component (line_of p o) q (act_of p o)) is
 
-  open_act_shelved : (s : State) → Tidy s.core → (l : Label) (t : State) → (k : ℕ) × ((act : MainAct) × OpenProgresses s (main_row x.component k s.core act) l t) → Shelved s.core t.core
-  open_act_shelved s q l t h = open_progresses_shelved s q _ l t (main_row_stays x.component h.0 q h.1.0) h.1.1
+  open_act_shelved : (s : State) → Tidy s.core → (l : Label) (t : State) → (k : ℕ) × ((act : MainAct) × OpenAct x s k act l t) → Shelved s.core t.core
+  open_act_shelved s q l t h = open_progresses_shelved s q _ l t (main_row_stays x.component h.0 q h.1.0) h.1.1.1
 
   open_step_shelved : (s : State) → Tidy s.core → (l : Label) (t : State) → OpenStep x s l t → Shelved s.core t.core
   unfolding at_turn

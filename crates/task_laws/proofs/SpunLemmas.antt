@@ -37,7 +37,7 @@ use Rattle.task_rules.specs.Progress.{Fails, Goes, Never, Ordered, Progress, Sto
 use Rattle.task_rules.specs.Run.{Run}
 use Rattle.task_rules.specs.Scripts.{op_of}
 use Rattle.task_rules.specs.Stalled.{Setting}
-use Rattle.task_rules.specs.Step.{DeadlockStep, EmptyFor, FuturesStep, MainProgresses, MainStep, OpenProgresses, OpenStep, Polled, Progresses, RestStep, ScriptStep, Step, TakeStep, TurnStep, did}
+use Rattle.task_rules.specs.Step.{DeadlockStep, EmptyFor, FuturesStep, MainProgresses, MainStep, OpenAct, OpenProgresses, OpenStep, Polled, Progresses, RestStep, ScriptStep, Step, TakeStep, TurnStep, did}
 use Rattle.task_rules.specs.Takes.{popped, pushed, rest_of, take_row}
 use Rattle.task_rules.specs.Turns.{at_turn}
 use Rattle.task_rules.specs.Works.{Ends, FailsNow, Poll, StillPends, course_for, followed, next_polled, pended, poll_of, work_ended}
@@ -235,8 +235,8 @@ module _ (x : Setting) where
   script_step_spun s q p None l t is = spun_is t _ is.1 q
   script_step_spun s q p (Some o) l t is = main_progresses_spun s q p o _ l t (main_row_spins x.component (line_of p o) q (act_of p o)) is
 
-  open_act_spun : (s : State) → Calm s.core → (l : Label) (t : State) → (k : ℕ) × ((act : MainAct) × OpenProgresses s (main_row x.component k s.core act) l t) → Spun s.core t.core
-  open_act_spun s q l t h = open_progresses_spun s q _ l t (main_row_spins x.component h.0 q h.1.0) h.1.1
+  open_act_spun : (s : State) → Calm s.core → (l : Label) (t : State) → (k : ℕ) × ((act : MainAct) × OpenAct x s k act l t) → Spun s.core t.core
+  open_act_spun s q l t h = open_progresses_spun s q _ l t (main_row_spins x.component h.0 q h.1.0) h.1.1.1
 
   open_step_spun : (s : State) → Calm s.core → (l : Label) (t : State) → OpenStep x s l t → Spun s.core t.core
   unfolding at_turn

@@ -30,7 +30,7 @@ use Rattle.task_places.proofs.OpRows.{Unused}
 use Rattle.task_machine.specs.declared.records.WorkCaller.{WorkCaller}
 use Rattle.task_machine.specs.declared.words.Mark.{Mark}
 use Rattle.task_machine.specs.declared.records.Entry.{Entry}
-use Rattle.task_rules.specs.Step.{DeadlockStep, EmptyFor, FuturesStep, MainProgresses, MainStep, OpenProgresses, OpenStep, Polled, Progresses, RestStep, ScriptStep, TakeStep, TurnStep, did, entry_number, struck}
+use Rattle.task_rules.specs.Step.{DeadlockStep, EmptyFor, FuturesStep, MainProgresses, MainStep, OpenAct, OpenProgresses, OpenStep, Polled, Progresses, RestStep, ScriptStep, TakeStep, TurnStep, did, entry_number, struck}
 use Rattle.task_rules.specs.MainOps.{Abort, Answer, Answers, Await, Does, Finish, MainAct, MainProgress, Pends, Quiet, Ready, Spawn, Start, act_of, finish_act, finish_result, has_interesting, is_complete, is_ready_for_call, line_of, main_row, main_spawned, main_started, op_at, start_act, start_refusal, unless_pending}
 use Rattle.task_rules.specs.Works.{Ends, FailsNow, Poll, StillPends, course_for, followed, next_polled, pended, poll_of, work_ended}
 use Rattle.task_places.proofs.WithdrawRows.{Withdrawable, gone_place, op_row_stays, other_place, removed_gone, removed_kept}
@@ -328,8 +328,8 @@ module _ {base : Core} (x : Setting) where
   script_step_lands s none all p None l t is = pends_land s all t is.1
   script_step_lands s none all p (Some o) l t is = main_progresses_land s all p o _ l t (main_row_keeps x.component (line_of p o) s.core none all (act_of p o)) is
 
-  open_act_lands : (s : State) → Unused s.core → Kept base s.core → (l : Label) (t : State) → (k : ℕ) × ((act : MainAct) × OpenProgresses s (main_row x.component k s.core act) l t) → Lands base t.core t.turn
-  open_act_lands s none all l t h = open_progresses_land s all _ l t (main_row_keeps x.component h.0 s.core none all h.1.0) h.1.1
+  open_act_lands : (s : State) → Unused s.core → Kept base s.core → (l : Label) (t : State) → (k : ℕ) × ((act : MainAct) × OpenAct x s k act l t) → Lands base t.core t.turn
+  open_act_lands s none all l t h = open_progresses_land s all _ l t (main_row_keeps x.component h.0 s.core none all h.1.0) h.1.1.1
 
   open_step_lands : (s : State) → Unused s.core → Kept base s.core → (l : Label) (t : State) → OpenStep x s l t → Lands base t.core t.turn
   open_step_lands s none all (label.Loop loop_label.MainPends) t is = pends_land s all t is

@@ -71,7 +71,7 @@ use Rattle.task_rules.specs.Scripts.{export_kind, host_at, op_of, slot_at, value
 use Rattle.task_rules.specs.Sets.{begun_waiting, chosen, finds_nothing, handed_out, join_done, join_row, join_to, joined, may_wake_new, poll_row, poll_takes, received_woken, set_drop_found, set_drop_row, set_dropped, set_made, set_new_row, set_row, wait_begins, wait_goes_on, wait_row, wait_takes}
 use Rattle.task_machine.specs.Statuses.{status_code}
 use Rattle.task_rules.specs.Stalled.{Setting}
-use Rattle.task_rules.specs.Step.{DeadlockStep, EmptyFor, FuturesStep, MainProgresses, MainStep, OpenProgresses, OpenStep, Polled, Progresses, RestStep, ScriptStep, Step, TakeStep, TurnStep, did, op_row}
+use Rattle.task_rules.specs.Step.{DeadlockStep, EmptyFor, FuturesStep, MainProgresses, MainStep, OpenAct, OpenProgresses, OpenStep, Polled, Progresses, RestStep, ScriptStep, Step, TakeStep, TurnStep, did, op_row}
 use Rattle.task_rules.specs.Takes.{activated_woken, delivered, delivery_row, held, host_done, host_row, may_tell_starting, own_delivered, popped, set_delivered, start_admitted, start_held, start_row, started, take_row, thread_taken, thread_taken_for}
 use Rattle.task_rules.specs.Task.{cancel_done, dec_from, dec_row, inc_row, raised, ret_bad_row, ret_done, ret_row, task_cancel_row, task_row}
 use Rattle.task_rules.specs.Threads.{Halt, Suspension, Yielding, by_how_far, halt_row, halted_resuming, halting, halts, has_yielded, resume_later_found, resume_later_row, resume_why, resumed_later, then_promote, then_promote_found, then_promote_row, then_resume_found, then_resume_row, thread_index_row, thread_made, thread_new_label, thread_new_row, thread_row}
@@ -560,8 +560,8 @@ open_progresses_end s (Does m new) l t k is = silent t is.0 k
 open_progresses_end s Pends l t k is = absurd is
 open_progresses_end s (Answers v) l t k is = over_is l is.1 refl
 
-open_act_ends : (x : Setting) (s : State) (l : Label) (t : State) → (k : ℕ) × ((act : MainAct) × OpenProgresses s (main_row x.component k s.core act) l t) → IsLast l t
-open_act_ends x s l t h = open_progresses_end s _ l t (main_row_opens x.component h.0 s.core h.1.0) h.1.1
+open_act_ends : (x : Setting) (s : State) (l : Label) (t : State) → (k : ℕ) × ((act : MainAct) × OpenAct x s k act l t) → IsLast l t
+open_act_ends x s l t h = open_progresses_end s _ l t (main_row_opens x.component h.0 s.core h.1.0) h.1.1.1
 
 open_step_ends : (x : Setting) (s : State) (l : Label) (t : State) → OpenStep x s l t → IsLast l t
 open_step_ends x s (label.Loop loop_label.MainPends) t is = silent {l = label.Loop loop_label.MainPends} t refl refl
