@@ -38,7 +38,7 @@ use Rattle.task_machine.specs.Read.{admitted_held, blocked_on, caller_of, first_
 use Rattle.task_machine.specs.Write.{give_result, on_call, on_instance, on_thread, push_high, set_do_not_enter, set_end, set_event, set_place, set_register, set_result}
 use Rattle.task_rules.proofs.CheckLemmas.{any_in, any_in-append, any_in_is, enter_passes, first_in_is, high_instance, map_or, or_true_right, ordered_first, place_calls, place_instance, put_high_high, put_high_instance, release_passes, released_leaves, same_nil}
 use Rattle.task_rules.proofs.StandLemmas.{by_number, place_kept, place_written}
-use Rattle.task_rules.specs.Ends.{blocking_returned, first_waiter, held_out, is_told, let_in, may_tell, passes_after_return, result_given, returned, told, waiter_told}
+use Rattle.task_rules.specs.Ends.{blocking_returned, first_waiter, held_by_flag, is_told, end_reopens, may_tell, passes_after_return, result_given, returned, told, waiter_told}
 use Rattle.task_rules.specs.Laws.{BlockingCheckIsAfter}
 use Rattle.std.specs.FinMap.Entries.{find as seek}
 
@@ -300,8 +300,8 @@ high_calls : (e : Entry) (s : Core) → (push_high e s).calls ≡ s.calls
 unfolding push_high
 high_calls e s = refl
 
-tells_let_in : (k i : ℕ) (order : List ℕ) (s : Core) → Tells k s (let_in i order s)
-unfolding let_in set_do_not_enter on_instance blocked_on
+tells_let_in : (k i : ℕ) (order : List ℕ) (s : Core) → Tells k s (end_reopens i order s)
+unfolding end_reopens set_do_not_enter on_instance blocked_on
 tells_let_in k i order s =
     let v = set_do_not_enter i false s in
     let calls = released_leaves (λ c. c.calls) place_calls high_calls order v in
@@ -436,8 +436,8 @@ told_lawful i k w s true h = ap (λ c. is_in_instance i s (blocked_on (subtask.G
 told_lawful i k w s false h = refl
 
 -- the check after the release, in any order, and the return
-returned_passes : (n : ℕ) (w : Option ℕ) (s : Core) (order : List ℕ) → IsPermutation (held_out (instance_of n s) s) order → passes_check (instance_of n s) (blocking_returned n w order s) ≡ ((passes_check (instance_of n s) s || not (is_nil (held_out (instance_of n s) s))) || TellsIn (instance_of n s) (task_of n s) w s (is_told (task_of n s) s))
-unfolding set_do_not_enter on_instance returned told let_in held_out
+returned_passes : (n : ℕ) (w : Option ℕ) (s : Core) (order : List ℕ) → IsPermutation (held_by_flag (instance_of n s) s) order → passes_check (instance_of n s) (blocking_returned n w order s) ≡ ((passes_check (instance_of n s) s || not (is_nil (held_by_flag (instance_of n s) s))) || TellsIn (instance_of n s) (task_of n s) w s (is_told (task_of n s) s))
+unfolding set_do_not_enter on_instance returned told end_reopens held_by_flag
 returned_passes n w s order perm =
     let i = instance_of n s in
     let k = task_of n s in
@@ -466,5 +466,5 @@ blocking_check n w s order lawful perm =
     let i = instance_of n s in
     let k = task_of n s in
     returned_passes n w s order perm
-    ∙ (ap (λ (b : Bool). (passes_check i s || not (is_nil (held_out i s))) || b) (sym (told_lawful i k w s (is_told k s) lawful))
-    ∙ sym (returned_passes n (waiter_told k w s) s (held_out i s) (IsPermutation-refl (held_out i s))))
+    ∙ (ap (λ (b : Bool). (passes_check i s || not (is_nil (held_by_flag i s))) || b) (sym (told_lawful i k w s (is_told k s) lawful))
+    ∙ sym (returned_passes n (waiter_told k w s) s (held_by_flag i s) (IsPermutation-refl (held_by_flag i s))))

@@ -82,11 +82,11 @@ unfoldable pub received : ℕ → ℕ → Gift → Given → Core → Core
 received n r g v s = advanced n (set_given n r v (taken g (task_of n s) s))
 
 -- the strand stops, and its top waits on x
-unfoldable pub waiting : ℕ → ℕ → Core → Core
-waiting n x s = set_how_far n (how_far.Waits x) (stopped_at n (place.Waiting x false) s)
+unfoldable pub wait_stops : ℕ → ℕ → Core → Core
+wait_stops n x s = set_how_far n (how_far.Waits x) (stopped_at n (place.Waiting x false) s)
 
-unfoldable pub begun_waiting : ℕ → ℕ → Core → Core
-begun_waiting n x s = waiting n x (checked (instance_of n s) s)
+unfoldable pub wait_stops_checked : ℕ → ℕ → Core → Core
+wait_stops_checked n x s = wait_stops n x (checked (instance_of n s) s)
 
 -- neither the own event, as far as the thread may take it, nor a ready member is there
 unfoldable pub finds_nothing : ℕ → ℕ → Core → Bool
@@ -96,7 +96,7 @@ abbrev pub wait_takes : ℕ → ℕ → Choice → Core → Gift → Progress
 wait_takes n r ch s g = let v = handed_out ch s g in Goes (label.Set (set_label.Wait v n)) (received n r g v s) n
 
 abbrev pub wait_begins : ℕ → ℕ → Choice → Core → ℕ → Bool → Progress
-wait_begins n r ch s x true = trap_if (not (passes_check (instance_of n s) s)) trap.CannotBlockSyncTask (Stops (label.Thread (thread_label.Pauses n)) (begun_waiting n x s))
+wait_begins n r ch s x true = trap_if (not (passes_check (instance_of n s) s)) trap.CannotBlockSyncTask (Stops (label.Thread (thread_label.Pauses n)) (wait_stops_checked n x s))
 wait_begins n r ch s x false = or_never (gift false (task_of n s) x (chosen n ch s) s) (wait_takes n r ch s)
 
 -- the wake is handed on where the gift is the own event
@@ -104,7 +104,7 @@ unfoldable pub received_woken : ℕ → ℕ → ℕ → Option ℕ → Gift → 
 received_woken n x r w g v s = received n r g v (handed_on x g w s)
 
 abbrev pub wait_goes_on : ℕ → ℕ → ℕ → Choice → Core → Gift → Progress
-wait_goes_on n x r ch s NoGift = Stops (label.Thread (thread_label.Pauses n)) (waiting n x s)
+wait_goes_on n x r ch s NoGift = Stops (label.Thread (thread_label.Pauses n)) (wait_stops n x s)
 wait_goes_on n x r ch s g = let v = handed_out ch s g in may (may_hand_on x g ch.woken s) (Goes (wait_label n v ch.woken) (received_woken n x r ch.woken g v s) n)
 
 -- `wait R X`, by how far it has come
