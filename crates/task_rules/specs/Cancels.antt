@@ -61,11 +61,15 @@ blocked_code = 4294967295
 
 -- the subtask joins the thread's own set, and the thread waits for its end
 unfoldable pub cancel_stops : ℕ → Subtask → Core → Core
-cancel_stops n sub s = set_how_far n (how_far.AwaitsEnd sub) (stopped_at n (place.Blocked sub) (checked (instance_of n s) (set_join sub (join.Watched n) (set_saved_callee n None s))))
+cancel_stops n sub s =
+    let watched = set_join sub (join.Watched n) (set_saved_callee n None s) in
+    set_how_far n (how_far.AwaitsEnd sub) (stopped_at n (place.Blocked sub) (checked (instance_of n s) watched))
 
 abbrev pub cancel_unended_row : Mode → ℕ → ℕ → Subtask → Core → Progress
 cancel_unended_row Async n r sub s = Goes (cancel_label Async n blocked_code) (answered n r blocked_code s) n
-cancel_unended_row Sync n r sub s = trap_if (not (passes_check (instance_of n s) s)) trap.CannotBlockSyncTask (Stops (pauses n) (cancel_stops n sub s))
+cancel_unended_row Sync n r sub s =
+    trap_if (not (passes_check (instance_of n s) s)) trap.CannotBlockSyncTask (
+    Stops (pauses n) (cancel_stops n sub s))
 
 abbrev pub cancel_by_end : Mode → ℕ → ℕ → Subtask → Core → Bool → Progress
 cancel_by_end mode n r sub s true = cancel_ended_row mode n r sub s (undelivered_end (event_of sub s))
@@ -87,7 +91,9 @@ unfoldable pub cancel_aborts_host : ℕ → Core → Core
 cancel_aborts_host i s = set_cancelled i (set_phase i (aborted_phase (phase_of i s)) s)
 
 abbrev pub cancel_host : Mode → ℕ → ℕ → ℕ → Core → Progress
-cancel_host mode n r i s = trap_if (was_cancelled i s) trap.SubtaskCancelAfterTerminal (after_cancel mode n r (subtask.Host i) (cancel_aborts_host i s))
+cancel_host mode n r i s =
+    trap_if (was_cancelled i s) trap.SubtaskCancelAfterTerminal (
+    after_cancel mode n r (subtask.Host i) (cancel_aborts_host i s))
 
 -- ---- The cancel of a guest call
 
@@ -108,7 +114,9 @@ behind_switch n (Some m) s = behind (foot_of m s) (n ∷ []) s
 unfoldable pub cancel_goes_behind : ℕ → ℕ → Core → Core
 cancel_goes_behind n k s =
     let j = call_instance k s in
-    set_how_far n (how_far.Cancels (subtask.Guest k)) (behind_switch n s.queues.switch (set_join (subtask.Guest k) (join.Watched n) (set_do_not_suspend j false (set_saved_callee n (Some (may_not_suspend j s)) s))))
+    let cleared = set_do_not_suspend j false (set_saved_callee n (Some (may_not_suspend j s)) s) in
+    let watched = set_join (subtask.Guest k) (join.Watched n) cleared in
+    set_how_far n (how_far.Cancels (subtask.Guest k)) (behind_switch n s.queues.switch watched)
 
 -- the waiting callback becomes the switch entry
 unfoldable pub cancel_wakes_callback : ℕ → ℕ → Core → Core
@@ -137,7 +145,11 @@ pub data CancelCase : Type 0 where
 
 -- the first of them that holds
 abbrev pub cancel_case : ℕ → Core → CancelCase
-cancel_case k s = if has_ended k s then AlreadyEnded else if not (was_started k s) then StartNotRun else if is_at k s is_callback_wait then CallbackWaits else if is_at k s is_callback_yield then CallbackYields else OtherwiseRuns
+cancel_case k s =
+    if has_ended k s then AlreadyEnded else
+    if not (was_started k s) then StartNotRun else
+    if is_at k s is_callback_wait then CallbackWaits else
+    if is_at k s is_callback_yield then CallbackYields else OtherwiseRuns
 
 -- the table of the cancel
 abbrev pub cancel_guest : Mode → ℕ → ℕ → ℕ → Core → CancelCase → Progress
@@ -154,7 +166,9 @@ cancel_subtask mode n r s (subtask.Guest k) = cancel_guest mode n r k s (cancel_
 cancel_subtask mode n r s (subtask.Host i) = cancel_host mode n r i s
 
 abbrev pub cancel_found : Mode → ℕ → ℕ → Core → Subtask → Progress
-cancel_found mode n r s sub = trap_if (is_joined (join_of sub s)) trap.WaitableSyncAndAsync (cancel_subtask mode n r s sub)
+cancel_found mode n r s sub =
+    trap_if (is_joined (join_of sub s)) trap.WaitableSyncAndAsync (
+    cancel_subtask mode n r s sub)
 
 abbrev pub subtask_instance : Subtask → Core → ℕ
 subtask_instance (subtask.Guest k) s = call_instance k s
@@ -167,7 +181,9 @@ cancel_resumed n sub s = set_join sub join.Nowhere (set_saved_callee n None (put
 -- `cancel R X` and `cancel_sync R X`, by how far it has come
 abbrev pub cancel_row : Mode → ℕ → ℕ → ℕ → Core → HowFar → Progress
 cancel_row mode n r h s (how_far.Cancels sub) = after_cancel mode n r sub (cancel_resumed n sub s)
-cancel_row mode n r h s (how_far.AwaitsEnd sub) = let t = set_join sub join.Nowhere s in cancel_ended_row mode n r sub t (undelivered_end (event_of sub t))
+cancel_row mode n r h s (how_far.AwaitsEnd sub) =
+    let t = set_join sub join.Nowhere s in
+    cancel_ended_row mode n r sub t (undelivered_end (event_of sub t))
 cancel_row mode n r h s _ = or_trap (subtask_at (instance_of n s) h s) trap.BadHandle (cancel_found mode n r s)
 
 -- ---- Dropping
@@ -178,10 +194,16 @@ subtask_settled (subtask.Host i) s = work_deleted i s
 
 -- the subtask leaves its set, and the handle is gone
 unfoldable pub dropped : ℕ → ℕ → Subtask → Core → Core
-dropped n h sub s = advanced n (subtask_settled sub (free_handle (instance_of n s) h (set_subtask_handle sub None (set_join sub join.Nowhere s))))
+dropped n h sub s =
+    let parted = set_subtask_handle sub None (set_join sub join.Nowhere s) in
+    advanced n (subtask_settled sub (free_handle (instance_of n s) h parted))
 
 abbrev pub drop_found : ℕ → ℕ → Core → Subtask → Progress
-drop_found n h s sub = trap_if (is_watched (join_of sub s)) trap.WaitableSyncAndAsync (trap_if (not (subtask_ended sub s)) trap.SubtaskDropNotResolved (trap_if (is_some (event_of sub s)) trap.SubtaskDropNotResolved (Goes (label.Call (call_label.Drop n)) (dropped n h sub s) n)))
+drop_found n h s sub =
+    trap_if (is_watched (join_of sub s)) trap.WaitableSyncAndAsync (
+    trap_if (not (subtask_ended sub s)) trap.SubtaskDropNotResolved (
+    trap_if (is_some (event_of sub s)) trap.SubtaskDropNotResolved (
+    Goes (label.Call (call_label.Drop n)) (dropped n h sub s) n)))
 
 -- `drop X`
 abbrev pub drop_row : ℕ → ℕ → Core → Progress

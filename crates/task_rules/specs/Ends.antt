@@ -48,7 +48,9 @@ may_tell k w s = if is_told k s then may_publish (subtask.Guest k) w s else is_n
 
 -- the task ends as Returned with v
 unfoldable pub returned : ℕ → ℕ → Option ℕ → Core → Core
-returned k v w s = told k status.Returned w (result_given (goal_of k s) (caller_of k s) k v (set_end k call_end.Returned s))
+returned k v w s =
+    let over = set_end k call_end.Returned s in
+    told k status.Returned w (result_given (goal_of k s) (caller_of k s) k v over)
 
 -- the task ends as ReturnCancelled
 unfoldable pub cancelled : ℕ → Option ℕ → Core → Core
@@ -104,7 +106,10 @@ exit_stops n s = ended n (stopped (foot_of n s) (checked (instance_of n s) s))
 
 -- a stackful export's exit, and an explicit thread's
 abbrev pub thread_exit_row : ℕ → Core → Progress
-thread_exit_row n s = trap_if (not (passes_check (instance_of n s) s)) trap.CannotBlockSyncTask (trap_if (leaves_no_result n s) trap.NoAsyncResult (Stops (exit_label n None) (exit_stops n s)))
+thread_exit_row n s =
+    trap_if (not (passes_check (instance_of n s) s)) trap.CannotBlockSyncTask (
+    trap_if (leaves_no_result n s) trap.NoAsyncResult (
+    Stops (exit_label n None) (exit_stops n s)))
 
 -- a sync export's task returns r0
 unfoldable pub sync_exits : ℕ → Option ℕ → Core → Core
@@ -120,7 +125,9 @@ blocking_exits n w order s = exit_stops n (returned (task_of n s) (register_of n
 abbrev pub blocking_exit_row : ℕ → Option ℕ → Core → Progress
 blocking_exit_row n w s =
     let held = held_by_flag (instance_of n s) s in
-    trap_if (not (passes_after_return (instance_of n s) (task_of n s) held s)) trap.CannotBlockSyncTask (may (may_tell (task_of n s) w s) (Ordered held (λ order. Stops (exit_label n w) (blocking_exits n w order s))))
+    trap_if (not (passes_after_return (instance_of n s) (task_of n s) held s)) trap.CannotBlockSyncTask (
+    may (may_tell (task_of n s) w s) (
+    Ordered held (λ order. Stops (exit_label n w) (blocking_exits n w order s))))
 
 -- a direct call's task returns v; the thread under it goes on
 unfoldable pub direct_exits : ℕ → ℕ → ℕ → Core → Core
@@ -128,8 +135,11 @@ direct_exits n m v s = set_how_far m (how_far.Answered v) (set_place m place.Run
 
 abbrev pub direct_exit_to : ℕ → ExportKind → Core → Option ℕ → Progress
 direct_exit_to n x s None = Never
-direct_exit_to n kind.Sync s (Some m) = Goes (exit_label n None) (direct_exits n m (register_of n 0 s) (exit_restores n s)) m
-direct_exit_to n x s (Some m) = trap_if (not (passes_check (instance_of n s) s)) trap.CannotBlockSyncTask (Goes (exit_label n None) (direct_exits n m (register_of n 0 s) (checked (instance_of n s) s)) m)
+direct_exit_to n kind.Sync s (Some m) =
+    Goes (exit_label n None) (direct_exits n m (register_of n 0 s) (exit_restores n s)) m
+direct_exit_to n x s (Some m) =
+    trap_if (not (passes_check (instance_of n s) s)) trap.CannotBlockSyncTask (
+    Goes (exit_label n None) (direct_exits n m (register_of n 0 s) (checked (instance_of n s) s)) m)
 
 abbrev pub direct_exit_row : ℕ → Core → Progress
 direct_exit_row n s = direct_exit_to n (kind_of (task_of n s) s) s (under_of n s)
@@ -172,14 +182,21 @@ code_wait_row l n x held s false = Ordered held (λ order. Stops l (code_waits n
 
 -- by the low four bits of the code, and the rest of it
 abbrev pub code_kind_row : Label → ℕ → List ℕ → Core → ℕ → ℕ → Progress
-code_kind_row l n held s zero rest = trap_if (not (passes_after_stop (instance_of n s) (foot_of n s) held s)) trap.CannotBlockSyncTask (trap_if (leaves_no_result n s) trap.NoAsyncResult (Ordered held (λ order. Stops l (code_exits n order s))))
+code_kind_row l n held s zero rest =
+    trap_if (not (passes_after_stop (instance_of n s) (foot_of n s) held s)) trap.CannotBlockSyncTask (
+    trap_if (leaves_no_result n s) trap.NoAsyncResult (
+    Ordered held (λ order. Stops l (code_exits n order s))))
 code_kind_row l n held s (suc zero) rest = Ordered held (λ order. Stops l (code_yields n order s))
-code_kind_row l n held s (suc (suc zero)) rest = or_trap (set_at (instance_of n s) rest s) trap.BadHandle (λ x. code_wait_row l n x held s (has_event_for (task_of n s) x s))
+code_kind_row l n held s (suc (suc zero)) rest =
+    or_trap (set_at (instance_of n s) rest s) trap.BadHandle (
+    λ x. code_wait_row l n x held s (has_event_for (task_of n s) x s))
 code_kind_row l n held s _ rest = Traps trap.UnsupportedCallbackCode
 
 -- a callback activation ends with the code
 abbrev pub code_row : Label → ℕ → Core → ℕ → Progress
-code_row l n s code = trap_if (nat_lt 4294967295 code) trap.UnsupportedCallbackCode (code_kind_row l n (held_by_flag (instance_of n s) s) s (code % 16) (code / 16))
+code_row l n s code =
+    trap_if (nat_lt 4294967295 code) trap.UnsupportedCallbackCode (
+    code_kind_row l n (held_by_flag (instance_of n s) s) s (code % 16) (code / 16))
 
 -- ---- Exit
 

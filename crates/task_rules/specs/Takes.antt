@@ -99,24 +99,33 @@ start_sets_flags n x s = set_do_not_enter (instance_of n s) true s
 unfoldable pub start_begins : ℕ → Option ℕ → Core → Core
 start_begins n w s =
     let k = task_of n s in
-    set_place n place.Running (start_sets_flags n (kind_of k s) (told k status.Started w (set_started k (with_thread_handle (instance_of n s) n s))))
+    let begun = set_started k (with_thread_handle (instance_of n s) n s) in
+    set_place n place.Running (start_sets_flags n (kind_of k s) (told k status.Started w begun))
 
 unfoldable pub running : ℕ → Core → Core
 running n s = set_place n place.Running s
 
 abbrev pub start_admitted : Mark → ℕ → Option ℕ → Core → Bool → Progress
 start_admitted m n w s true = Goes (take_label m n None) (running n s) n
-start_admitted m n w s false = trap_if (at_handle_limit s) trap.HandleLimit (may (may_tell (task_of n s) w s) (Goes (take_label m n w) (start_begins n w s) n))
+start_admitted m n w s false =
+    trap_if (at_handle_limit s) trap.HandleLimit (
+    may (may_tell (task_of n s) w s) (
+    Goes (take_label m n w) (start_begins n w s) n))
 
 abbrev pub start_row : Mark → ℕ → Option ℕ → Core → Bool → Progress
 start_row m n w s true = start_admitted m n w s (is_explicit n s)
-start_row m n w s false = may (may_tell_starting (task_of n s) w s) (Stops (held_label m n w) (start_holds n w s))
+start_row m n w s false =
+    may (may_tell_starting (task_of n s) w s) (
+    Stops (held_label m n w) (start_holds n w s))
 
 -- ---- Deliveries
 
 -- what it hands out is in r0, r1 and r2, and the react script runs
 unfoldable pub activated : ℕ → Gift → Given → Core → Core
-activated n g v s = set_place n place.Running (moved_to n 0 (set_script n script.React (set_do_not_enter (instance_of n s) true (set_given n 0 v (taken g (task_of n s) s)))))
+activated n g v s =
+    let given = set_given n 0 v (taken g (task_of n s) s) in
+    let shut = set_do_not_enter (instance_of n s) true given in
+    set_place n place.Running (moved_to n 0 (set_script n script.React shut))
 
 unfoldable pub activated_woken : ℕ → ℕ → Option ℕ → Gift → Given → Core → Core
 activated_woken n x w g v s = activated n g v (handed_on x g w s)
@@ -127,13 +136,20 @@ wait_again n x s = stopped_at n (place.Waiting x true) s
 
 abbrev pub set_delivered : Mark → ℕ → ℕ → Choice → Core → Gift → Progress
 set_delivered m n x ch s NoGift = Stops (label.Take (take.Again m n)) (wait_again n x s)
-set_delivered m n x ch s g = let v = handed_out ch s g in may (may_hand_on x g ch.woken s) (Goes (event_label m n v ch.woken) (activated_woken n x ch.woken g v s) n)
+set_delivered m n x ch s g =
+    let v = handed_out ch s g in
+    may (may_hand_on x g ch.woken s) (
+    Goes (event_label m n v ch.woken) (activated_woken n x ch.woken g v s) n)
 
 abbrev pub own_delivered : Mark → ℕ → Core → Gift → Progress
-own_delivered m n s g = let v = given_for g 0 s in Goes (event_label m n v None) (activated n g v s) n
+own_delivered m n s g =
+    let v = given_for g 0 s in
+    Goes (event_label m n v None) (activated n g v s) n
 
 abbrev pub delivered : Mark → ℕ → Choice → Core → Delivery → Progress
-delivered m n ch s (delivery.Set x) = or_never (gift true (task_of n s) x (chosen n ch s) s) (set_delivered m n x ch s)
+delivered m n ch s (delivery.Set x) =
+    or_never (gift true (task_of n s) x (chosen n ch s) s) (
+    set_delivered m n x ch s)
 delivered m n ch s d = own_delivered m n s (own_gift_only (task_of n s) s)
 
 abbrev pub delivery_row : Mark → ℕ → Choice → Core → Delivery → Bool → Progress
