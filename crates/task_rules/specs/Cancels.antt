@@ -49,6 +49,7 @@ pauses n = label.Thread (thread_label.Pauses n)
 unfoldable pub cancel_takes_end : ℕ → ℕ → Subtask → Status → Core → Core
 cancel_takes_end n r sub e s = answered n r (status_code e) (set_event sub None s)
 
+-- trap 5 (SubtaskCancelAfterTerminal) where the end was handed out before
 abbrev pub cancel_ended_row : Mode → ℕ → ℕ → Subtask → Core → Option Status → Progress
 cancel_ended_row mode n r sub s None = Traps trap.SubtaskCancelAfterTerminal
 cancel_ended_row mode n r sub s (Some e) = Goes (cancel_label mode n (status_code e)) (cancel_takes_end n r sub e s) n
@@ -65,6 +66,8 @@ cancel_stops n sub s =
     let watched = set_join sub (join.Watched n) (set_saved_callee n None s) in
     set_how_far n (how_far.AwaitsEnd sub) (stopped_at n (place.Blocked sub) (checked (instance_of n s) watched))
 
+-- `cancel` answers that it is blocked; `cancel_sync` stops the strand after a check:
+-- trap 9 (CannotBlockSyncTask) where it fails
 abbrev pub cancel_unended_row : Mode → ℕ → ℕ → Subtask → Core → Progress
 cancel_unended_row Async n r sub s = Goes (cancel_label Async n blocked_code) (answered n r blocked_code s) n
 cancel_unended_row Sync n r sub s =
@@ -90,6 +93,7 @@ aborted_phase p = p
 unfoldable pub cancel_aborts_host : ℕ → Core → Core
 cancel_aborts_host i s = set_cancelled i (set_phase i (aborted_phase (phase_of i s)) s)
 
+-- trap 5 (SubtaskCancelAfterTerminal) where the work was cancelled before
 abbrev pub cancel_host : Mode → ℕ → ℕ → ℕ → Core → Progress
 cancel_host mode n r i s =
     trap_if (was_cancelled i s) trap.SubtaskCancelAfterTerminal (
@@ -165,6 +169,7 @@ abbrev pub cancel_subtask : Mode → ℕ → ℕ → Core → Subtask → Progre
 cancel_subtask mode n r s (subtask.Guest k) = cancel_guest mode n r k s (cancel_case k s)
 cancel_subtask mode n r s (subtask.Host i) = cancel_host mode n r i s
 
+-- trap 7 (WaitableSyncAndAsync) where the subtask stands in any set
 abbrev pub cancel_found : Mode → ℕ → ℕ → Core → Subtask → Progress
 cancel_found mode n r s sub =
     trap_if (is_joined (join_of sub s)) trap.WaitableSyncAndAsync (
@@ -178,7 +183,8 @@ subtask_instance (subtask.Host i) s = 0
 unfoldable pub cancel_resumed : ℕ → Subtask → Core → Core
 cancel_resumed n sub s = set_join sub join.Nowhere (set_saved_callee n None (put_back (saved_callee_of n s) (subtask_instance sub s) s))
 
--- `cancel R X` and `cancel_sync R X`, by how far it has come
+-- `cancel R X` and `cancel_sync R X`: resumed behind the callee; resumed once the end was told; or as it begins:
+-- trap 16 (BadHandle) where X names no subtask
 abbrev pub cancel_row : Mode → ℕ → ℕ → ℕ → Core → HowFar → Progress
 cancel_row mode n r h s (how_far.Cancels sub) = after_cancel mode n r sub (cancel_resumed n sub s)
 cancel_row mode n r h s (how_far.AwaitsEnd sub) =
@@ -198,6 +204,8 @@ dropped n h sub s =
     let parted = set_subtask_handle sub None (set_join sub join.Nowhere s) in
     advanced n (subtask_settled sub (free_handle (instance_of n s) h parted))
 
+-- trap 7 (WaitableSyncAndAsync) where the subtask stands in a thread's own set,
+-- trap 6 (SubtaskDropNotResolved) where it hasn't ended, and where its event wasn't handed out
 abbrev pub drop_found : ℕ → ℕ → Core → Subtask → Progress
 drop_found n h s sub =
     trap_if (is_watched (join_of sub s)) trap.WaitableSyncAndAsync (
@@ -205,7 +213,7 @@ drop_found n h s sub =
     trap_if (is_some (event_of sub s)) trap.SubtaskDropNotResolved (
     Goes (label.Call (call_label.Drop n)) (dropped n h sub s) n)))
 
--- `drop X`
+-- `drop X`: trap 16 (BadHandle) where X names no subtask
 abbrev pub drop_row : ℕ → ℕ → Core → Progress
 drop_row n h s = or_trap (subtask_at (instance_of n s) h s) trap.BadHandle (drop_found n h s)
 

@@ -104,7 +104,8 @@ exit_restores n s = set_do_not_suspend (instance_of n s) (unwrap_or (saved_own_o
 unfoldable pub exit_stops : ℕ → Core → Core
 exit_stops n s = ended n (stopped (foot_of n s) (checked (instance_of n s) s))
 
--- a stackful export's exit, and an explicit thread's
+-- a stackful export's exit, and an explicit thread's: trap 9 (CannotBlockSyncTask) where the check fails,
+-- trap 4 (NoAsyncResult) where no thread is left and the task hasn't ended
 abbrev pub thread_exit_row : ℕ → Core → Progress
 thread_exit_row n s =
     trap_if (not (passes_check (instance_of n s) s)) trap.CannotBlockSyncTask (
@@ -115,6 +116,7 @@ thread_exit_row n s =
 unfoldable pub sync_exits : ℕ → Option ℕ → Core → Core
 sync_exits n w s = ended n (stopped (foot_of n s) (returned (task_of n s) (register_of n 0 s) w (exit_restores n s)))
 
+-- a sync export's exit
 abbrev pub sync_exit_row : ℕ → Option ℕ → Core → Progress
 sync_exit_row n w s = may (may_tell (task_of n s) w s) (Stops (exit_label n w) (sync_exits n w s))
 
@@ -122,6 +124,7 @@ sync_exit_row n w s = may (may_tell (task_of n s) w s) (Stops (exit_label n w) (
 unfoldable pub blocking_exits : ℕ → Option ℕ → List ℕ → Core → Core
 blocking_exits n w order s = exit_stops n (returned (task_of n s) (register_of n 0 s) w (end_reopens (instance_of n s) order s))
 
+-- a blocking export's exit: trap 9 (CannotBlockSyncTask) where the check after the release and the return fails
 abbrev pub blocking_exit_row : ℕ → Option ℕ → Core → Progress
 blocking_exit_row n w s =
     let held = held_by_flag (instance_of n s) s in
@@ -133,6 +136,7 @@ blocking_exit_row n w s =
 unfoldable pub direct_exits : ℕ → ℕ → ℕ → Core → Core
 direct_exits n m v s = set_how_far m (how_far.Answered v) (set_place m place.Running (ended n (set_end (task_of n s) call_end.Returned s)))
 
+-- of a sync export the flag is written back; of a blocking one a check: trap 9 (CannotBlockSyncTask) where it fails
 abbrev pub direct_exit_to : ℕ → ExportKind → Core → Option ℕ → Progress
 direct_exit_to n x s None = Never
 direct_exit_to n kind.Sync s (Some m) =
@@ -176,11 +180,15 @@ code_waits n x order s = set_place n (place.Waiting x true) (code_stops n order 
 unfoldable pub has_event_for : ℕ → ℕ → Core → Bool
 has_event_for k x s = is_some (own_event_of k s) || has_ready_member x s
 
+-- by whether an event is there
 abbrev pub code_wait_row : Label → ℕ → ℕ → List ℕ → Core → Bool → Progress
 code_wait_row l n x held s true = Ordered held (λ order. Stops l (code_finds n x order s))
 code_wait_row l n x held s false = Ordered held (λ order. Stops l (code_waits n x order s))
 
--- by the low four bits of the code, and the rest of it
+-- By the low four bits of the code, and the rest of it.
+-- 0: trap 9 (CannotBlockSyncTask) where the check after the release and the stop fails, trap 4 (NoAsyncResult) where no thread is
+-- left and the task hasn't ended. 1: the callback yields. 2: trap 16 (BadHandle) where the rest names no set.
+-- Else trap 12 (UnsupportedCallbackCode)
 abbrev pub code_kind_row : Label → ℕ → List ℕ → Core → ℕ → ℕ → Progress
 code_kind_row l n held s zero rest =
     trap_if (not (passes_after_stop (instance_of n s) (foot_of n s) held s)) trap.CannotBlockSyncTask (
@@ -192,7 +200,7 @@ code_kind_row l n held s (suc (suc zero)) rest =
     λ x. code_wait_row l n x held s (has_event_for (task_of n s) x s))
 code_kind_row l n held s _ rest = Traps trap.UnsupportedCallbackCode
 
--- a callback activation ends with the code
+-- a callback activation ends with the code: trap 12 (UnsupportedCallbackCode) where it is above 4294967295
 abbrev pub code_row : Label → ℕ → Core → ℕ → Progress
 code_row l n s code =
     trap_if (nat_lt 4294967295 code) trap.UnsupportedCallbackCode (
@@ -206,13 +214,16 @@ kind_exit_row n w s kind.Blocking = blocking_exit_row n w s
 kind_exit_row n w s kind.Stackful = thread_exit_row n s
 kind_exit_row n w s kind.Callback = code_row (exit_label n None) n s 0
 
+-- of a call's first thread, by whether the call is direct
 abbrev pub implicit_exit_row : ℕ → Option ℕ → Core → Bool → Progress
 implicit_exit_row n w s true = direct_exit_row n s
 implicit_exit_row n w s false = kind_exit_row n w s (kind_of (task_of n s) s)
 
+-- by whether the thread is explicit
 abbrev pub exit_row_for : ℕ → Option ℕ → Core → Bool → Progress
 exit_row_for n w s true = thread_exit_row n s
 exit_row_for n w s false = implicit_exit_row n w s (is_direct (goal_of (task_of n s) s))
 
+-- `exit`, and a script's end
 abbrev pub exit_row : ℕ → Option ℕ → Core → Progress
 exit_row n w s = exit_row_for n w s (is_explicit n s)
