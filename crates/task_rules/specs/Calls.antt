@@ -121,7 +121,7 @@ put_back (Some b) j s = set_do_not_suspend j b s
 unfoldable pub call_resumes : ℕ → ℕ → Core → Core
 call_resumes n k s = set_event (subtask.Guest k) None (put_back (saved_callee_of n s) (call_instance k s) s)
 
--- the call's status that the calling thread finds
+-- the call's status that the calling thread finds; default: no event
 abbrev pub status_found : ℕ → Core → Status
 status_found k s = unwrap_or (event_of (subtask.Guest k) s) status.Starting
 
@@ -147,7 +147,7 @@ call_status n r k s e =
     trap_if (at_handle_limit s) trap.HandleLimit (
     Goes (label.Call (call_label.Call v n)) (call_pending n r k v s) n)
 
--- `call R Q F X*`, by how far it has come
+-- `call R Q F X*`, by how far it has come; default: inside another op
 abbrev pub call_row : Component → ℕ → ℕ → ℕ → Callee → List ℕ → Core → HowFar → Progress
 call_row c n r q e words s (how_far.Calls (subtask.Guest k)) = call_status n r k s (status_found k s)
 call_row c n r q e words s _ = call_begins c n e (goal.Register q) words s
@@ -303,6 +303,7 @@ work_group i s = option_and_then (λ w. w.group) (get s.works i)
 unfoldable pub work_deleted : ℕ → Core → Core
 work_deleted i s = settle_group_of (work_group i s) (remove_work i s)
 
+-- what the sync host call ended with; default: no value
 abbrev pub work_value : ℕ → Core → ℕ
 work_value i s = unwrap_or (course_value (course_of i s)) 0
 

@@ -109,7 +109,7 @@ cancel_withdraws n r k s = answered n r 3 (withdrawn k s)
 unfoldable pub cancel_asks : ℕ → Core → Core
 cancel_asks k s = set_own_event k (Some own.Cancelled) s
 
--- the canceller goes behind the entry at switch
+-- the canceller goes behind the entry at switch; default: nothing at switch
 abbrev pub behind_switch : ℕ → Option ℕ → Core → Core
 behind_switch n None s = s
 behind_switch n (Some m) s = behind (foot_of m s) (n ∷ []) s
@@ -142,7 +142,7 @@ pub data CancelCase : Type 0 where
   StartNotRun : CancelCase
   -- its callback waits on a set
   CallbackWaits : CancelCase
-  -- its callback has yielded, and the entry stands at a mark
+  -- its callback has yielded, and the entry is queued
   CallbackYields : CancelCase
   -- it runs, or is anywhere else
   OtherwiseRuns : CancelCase
@@ -175,6 +175,7 @@ cancel_found mode n r s sub =
     trap_if (is_joined (join_of sub s)) trap.WaitableSyncAndAsync (
     cancel_subtask mode n r s sub)
 
+-- the callee's instance; default: host behind
 abbrev pub subtask_instance : Subtask → Core → ℕ
 subtask_instance (subtask.Guest k) s = call_instance k s
 subtask_instance (subtask.Host i) s = 0

@@ -29,7 +29,7 @@ use Rattle.task_rules.specs.Progress.{Goes, Never, Ordered, Progress, Stops, Tra
 
 -- ---- The end of a task
 
--- the result goes where the call says; to a thread that is gone it goes nowhere
+-- the result goes where the call says; to a thread that is gone it goes nowhere; default: no goal
 abbrev pub result_given : Goal → Caller → ℕ → ℕ → Core → Core
 result_given goal.Main f k v s = give_result k v s
 result_given (goal.Register r) (caller.Thread n) k v s = set_register n r v s
@@ -96,7 +96,7 @@ end_reopens i order s = released order (set_do_not_enter i false s)
 unfoldable pub held_by_flag : ℕ → Core → List ℕ
 held_by_flag i s = admitted_held i (set_do_not_enter i false s)
 
--- the flag of the instance that the thread's start saved is written back
+-- the flag of the instance that the thread's start saved is written back; default: no saved flag
 unfoldable pub exit_restores : ℕ → Core → Core
 exit_restores n s = set_do_not_suspend (instance_of n s) (unwrap_or (saved_own_of n s) false) s
 
@@ -136,7 +136,8 @@ blocking_exit_row n w s =
 unfoldable pub direct_exits : ℕ → ℕ → ℕ → Core → Core
 direct_exits n m v s = set_how_far m (how_far.Answered v) (set_place m place.Running (ended n (set_end (task_of n s) call_end.Returned s)))
 
--- of a sync export the flag is written back; of a blocking one a check: trap 9 (CannotBlockSyncTask) where it fails
+-- of a sync export the flag is written back; of a blocking one a check: trap 9 (CannotBlockSyncTask) where it fails;
+-- default: nobody under
 abbrev pub direct_exit_to : ℕ → ExportKind → Core → Option ℕ → Progress
 direct_exit_to n x s None = Never
 direct_exit_to n kind.Sync s (Some m) =

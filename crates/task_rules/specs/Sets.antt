@@ -64,7 +64,7 @@ set_drop_row n h s = or_trap (set_at (instance_of n s) h s) trap.BadHandle (set_
 abbrev pub chosen : ℕ → Choice → Core → Option Subtask
 chosen n ch s = option_and_then (λ h. subtask_at (instance_of n s) h s) ch.member
 
--- what the gift hands out
+-- what the gift hands out; default: no member chosen
 abbrev pub handed_out : Choice → Core → Gift → Given
 handed_out ch s g = given_for g (unwrap_or ch.member 0) s
 

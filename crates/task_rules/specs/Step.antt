@@ -43,7 +43,7 @@ op_row c n s ch (op.Set o) = set_row n s ch o
 op_row c n s ch (op.Call o) = subtask_row c n s o
 op_row c n s ch (op.Thread o) = thread_row c n s o
 
--- what the next step of the running thread comes to, where it chooses so
+-- what the next step of the running thread results in, where it chooses so
 unfoldable pub did : Component → ℕ → Core → Choice → Progress
 did c n s ch = op_row c n s ch (op_of c n s)
 

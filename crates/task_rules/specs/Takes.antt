@@ -53,11 +53,12 @@ popped mark.Low s = set_low (rest_of s.queues.low) s
 unfoldable pub pushed : ℕ → Core → Core
 pushed i s = set_stage i stage.Live s
 
--- what the host call came to is told
+-- what the host call resulted in is told
 abbrev pub host_status : Option ℕ → Status
 host_status None = status.ReturnCancelled
 host_status (Some v) = status.Returned
 
+-- default: host entry of another work
 abbrev pub host_result : WorkCaller → Option ℕ → Core → Core
 host_result (work_caller.Async n q) (Some v) s = set_register n q v s
 host_result _ _ s = s
@@ -169,12 +170,12 @@ thread_taken_for m n ch s why.Start = start_row m n ch.woken s (admits n s why.S
 thread_taken_for m n ch s (why.Delivery d) = delivery_row m n ch s d (admits n s (why.Delivery d))
 thread_taken_for m n ch s why.Resumption = Goes (take_label m n None) (running n s) n
 
--- only a thread whose entry stands at a mark is taken
+-- only a thread whose entry is queued is taken; default: not queued
 abbrev pub thread_taken : Mark → ℕ → Choice → Core → Option Place → Progress
 thread_taken m n ch s (Some (place.Ready x w)) = thread_taken_for m n ch s w
 thread_taken m n ch s _ = Never
 
--- the entry, which stood at the mark, is taken
+-- the entry, which was queued at the mark, is taken
 abbrev pub take_row : Mark → Choice → Core → Entry → Progress
 take_row m ch s (entry.Thread n) = thread_taken m n ch s (place_of n s)
 take_row m ch s (entry.Push i) = Stops (label.Take (take.Push m i)) (pushed i s)

@@ -52,7 +52,7 @@ thread_new_row n r x v s (slot.Script ops) =
     trap_if (at_handle_limit s) trap.HandleLimit (
     Goes (thread_new_label n s) (thread_made n r x v s) n))
 
--- `thread_index R`
+-- `thread_index R`; default: no handle of its own
 abbrev pub thread_index_row : ℕ → ℕ → Core → Progress
 thread_index_row n r s = let h = unwrap_or (thread_handle_of n s) 0 in Goes (label.Thread (thread_label.Index h n)) (assigned n r h s) n
 
@@ -120,7 +120,7 @@ then_resume_found x n s m =
 abbrev pub then_resume_row : Halt → ℕ → ℕ → Core → Progress
 then_resume_row x n h s = or_trap (thread_at (instance_of n s) h s) trap.BadHandle (then_resume_found x n s)
 
--- the thread has yielded, and its entry stands at a mark
+-- the thread has yielded, and its entry is queued
 unfoldable pub has_yielded : ℕ → Core → Bool
 has_yielded m s = option_map_or is_ready_to_resume (place_of m s) false && is_yielded (how_far_of m s)
 
