@@ -7,15 +7,15 @@ use Rattle.task_machine.specs.declared.records.Goal.{Goal}
 use Rattle.task_machine.specs.Core.{Core, fresh}
 use Rattle.task_machine.specs.Write.{add_call, add_group, add_thread}
 use Rattle.task_rules.specs.Calls.{call_made}
-use Rattle.task_core.specs.Shown.{Shown, nothing}
+use Rattle.task_core.specs.StateView.{StateView, nothing}
 
-pub few_threads : (s : Shown) → s ≡ nothing → s.core.made.threads + 1 < 18446744073709551616
+pub few_threads : (s : StateView) → s ≡ nothing → s.core.made.threads + 1 < 18446744073709551616
 unfolding fresh
-few_threads s is = let none : s.core.made.threads ≡ 0 = ap (λ (s : Shown). s.core.made.threads) is in omega (arith, none)
+few_threads s is = let none : s.core.made.threads ≡ 0 = ap (λ (s : StateView). s.core.made.threads) is in omega (arith, none)
 
-pub few_groups : (s : Shown) → s ≡ nothing → s.core.made.groups + 1 < 18446744073709551616
+pub few_groups : (s : StateView) → s ≡ nothing → s.core.made.groups + 1 < 18446744073709551616
 unfolding fresh
-few_groups s is = let none : s.core.made.groups ≡ 0 = ap (λ (s : Shown). s.core.made.groups) is in omega (arith, none)
+few_groups s is = let none : s.core.made.groups ≡ 0 = ap (λ (s : StateView). s.core.made.groups) is in omega (arith, none)
 
 -- a call in a group of its own counts the group
 pub one_group : (f : Caller) (e : Callee) (x : ExportKind) (q : Goal) (g : ℕ) (s t : Core) → t ≡ call_made f e x q g [] (add_group s) → 1 ≤ t.made.groups

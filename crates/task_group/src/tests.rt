@@ -113,7 +113,7 @@ fn end_two(rt: &impl Abort, groups: &mut Groups<Box<Recorder>>) {
 fn notices_in_order(rt: HostRuntime) -> Result<(), Fail> {
     let (mut groups, list) = watched(rt.alloc(), None)?;
     assert!(rt; groups.made() == 0);
-    assert_eq!(rt; groups.keep_notices(6), Ok(()));
+    assert!(rt; groups.keep_notices(6).is_ok());
     begin_two(&rt, &mut groups);
     end_two(&rt, &mut groups);
     let want = [
@@ -175,7 +175,7 @@ fn failing_hooks(rt: HostRuntime) -> Result<(), Fail> {
 #[test]
 fn no_hook(rt: HostRuntime) {
     let mut groups: Groups = Groups::new(rt.alloc());
-    assert_eq!(rt; groups.keep_notices(1), Ok(()));
+    assert!(rt; groups.keep_notices(1).is_ok());
     assert_eq!(rt; groups.make(), Ok(id(1)));
     assert_eq!(rt; groups.decrement(id(1)), Ok(true));
     assert_eq!(rt; groups.notices(), [told(NoticeKind::Start, 1)].as_slice());

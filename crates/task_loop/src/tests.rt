@@ -3,7 +3,7 @@ ghost use Rattle.std.specs.List.{list_all};
 ghost use Rattle.task_machine.specs.Core.{Main, Unscripted};
 ghost use Rattle.task_rules.specs.Scripts.{export_at};
 ghost use Rattle.task_loop.specs.Calls.{callee_of};
-ghost use Rattle.task_loop.specs.Fit.{IsFirstComponent, Fits, given, is_plain_op};
+ghost use Rattle.task_loop.specs.Fit.{HasPlainExports, Fits, given, is_plain_op};
 ghost use Rattle.task_state.specs.State.{running_of};
 
 use super::*;
@@ -51,7 +51,7 @@ fn script(alloc: Global) -> Result<Seq<Op>, Fail>
 
 // A component with one callback export, which has that script.
 fn component(alloc: Global) -> Result<Component, Fail>
-    ensures first { IfOk result IsFirstComponent }
+    ensures exports { IfOk result HasPlainExports }
     ensures there { IfOk result (λ c. IsSome (export_at c (callee_of CALLEE))) }
     ensures params { IfOk result (λ c. IfSome (export_at c (callee_of CALLEE)) (λ e. 1 ≡ e.params)) }
     ensures one { IfOk result (λ c. length c.instances ≡ 1) }
@@ -90,7 +90,7 @@ fn store(alloc: Global) -> Result<Store<(), ()>, Fail>
 
 // A call of that export with 7, in a store in which nothing was made but the instance.
 fn called(component: &Component, store: &mut Store<(), ()>) -> Result<FuncCallConcurrent, Fail>
-    requires first { IsFirstComponent component.now }
+    requires exports { HasPlainExports component.now }
     requires there { IsSome (export_at component.now (callee_of CALLEE)) }
     requires params { IfSome (export_at component.now (callee_of CALLEE)) (λ e. 1 ≡ e.params) }
     requires fits { Fits component.now store.old.state.core }
@@ -144,7 +144,7 @@ fn a_call_runs_while_main_waits(rt: HostRuntime) -> Result<(), Fail> {
     let mut main = Host { answer: None };
     let mut trace = Trace::new(rt.alloc());
     let outcome = run.drive(&component, &mut store, &mut main, 16, &mut trace);
-    assert_eq!(rt; outcome, Ok(Outcome::Idle));
+    assert_eq!(rt; outcome.ok(), Some(Outcome::Idle));
     assert_eq!(rt; trace.labels().len(), 11);
     let result = CALLEE.finish_call_concurrent(&mut store, &mut call);
     assert_eq!(rt; result, Poll::Ready(9));
@@ -161,7 +161,7 @@ fn a_run_ends_where_main_answers(rt: HostRuntime) -> Result<(), Fail> {
     let mut main = Host { answer: Some(5) };
     let mut trace = Trace::new(rt.alloc());
     let outcome = run.drive(&component, &mut store, &mut main, 9, &mut trace);
-    assert_eq!(rt; outcome, Ok(Outcome::Done(5)));
+    assert_eq!(rt; outcome.ok(), Some(Outcome::Done(5)));
     let answer = Label::Main(MainLabel::Answer(5));
     assert_eq!(rt; trace.labels().first(), Some(&answer));
     Ok(())
@@ -175,7 +175,7 @@ fn a_run_in_which_nothing_goes_on_is_a_deadlock(rt: HostRuntime) -> Result<(), F
     let mut main = Host { answer: None };
     let mut trace = Trace::new(rt.alloc());
     let outcome = run.drive(&component, &mut store, &mut main, 9, &mut trace);
-    assert_eq!(rt; outcome, Ok(Outcome::Deadlock(Trap::AsyncDeadlock)));
+    assert_eq!(rt; outcome.ok(), Some(Outcome::Deadlock(Trap::AsyncDeadlock)));
     assert_eq!(rt; trace.labels().len(), 2);
     assert!(rt; store.trapped());
     Ok(())

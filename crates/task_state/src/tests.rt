@@ -1,5 +1,5 @@
 ghost use Rattle.std.specs.Prelude.{IfSome};
-ghost use Rattle.task_core.specs.Shown.{IsLive};
+ghost use Rattle.task_core.specs.StateView.{IsLive};
 
 use super::*;
 use std::test::Fail;
@@ -13,7 +13,7 @@ fn nothing_stands_in_a_new_state(rt: HostRuntime) {
     assert!(rt; !state.has_instance(0));
     assert!(rt; state.has_room(4));
     assert!(rt; state.is_drained());
-    assert_eq!(rt; state.take_start(), Ok(Taken::Nothing));
+    assert_eq!(rt; state.take_start().ok(), Some(Taken::Nothing));
     assert!(rt; state.running().is_none());
     assert_eq!(rt; state.take_result(1), None);
     state.set_handle_limit(7);
@@ -28,7 +28,7 @@ fn nothing_stands_in_a_new_state(rt: HostRuntime) {
 #[test]
 fn a_new_call_is_live(rt: HostRuntime) -> Result<(), Fail> {
     let mut state = ConcurrentState::new(rt.alloc());
-    assert_eq!(rt; state.add_instance(), Ok(0));
+    assert_eq!(rt; state.add_instance().ok(), Some(0));
     let first = made(&mut state, None)?;
     assert!(rt; state.is_live(first));
     assert_eq!(rt; state.table().len(), 4);
