@@ -10,7 +10,7 @@ use std::alloc::Global;
 use std::sync::{Arc, Mutex};
 
 /// There was no memory.
-#[derive(Clone, Copy, Debug, PartialEq, Eq)]
+#[derive(Clone, Copy)]
 pub struct NoMemory;
 
 /// Who is woken by an abort, and who by a finish.

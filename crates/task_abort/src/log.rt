@@ -2,7 +2,7 @@
 use std::collections::LinkedList;
 
 /// How far a spawned work has come. It only rises, in this order.
-#[derive(Clone, Copy, Debug, PartialEq, Eq)]
+#[derive(Clone, Copy)]
 pub enum Phase {
     /// The work may be polled.
     Running,
@@ -13,7 +13,7 @@ pub enum Phase {
 }
 
 /// The four calls of a join handle that a log has.
-#[derive(Clone, Copy, Debug, PartialEq, Eq)]
+#[derive(Clone, Copy)]
 pub enum PhaseCall {
     /// Asks that the work end.
     Abort,
@@ -26,7 +26,7 @@ pub enum PhaseCall {
 }
 
 /// One call in a log, with the phase that it found.
-#[derive(Clone, Copy, Debug, PartialEq, Eq)]
+#[derive(Clone, Copy)]
 pub struct LogEntry<C> {
     /// Who made it: the name of a pass, or a number that the log's owner gives.
     pub caller: C,
@@ -35,7 +35,7 @@ pub struct LogEntry<C> {
 }
 
 /// A call as its caller can list it.
-#[derive(Clone, Copy, Debug, PartialEq, Eq)]
+#[derive(Clone, Copy)]
 pub struct CallMade {
     pub call: PhaseCall,
     /// The phase that the call found; none at a poll of the handle that answered `Pending`, which tells only that the

@@ -3,11 +3,11 @@ use task_machine::Trap;
 use task_table::{PushError, ResourceTableError};
 
 /// Memory is wanting.
-#[derive(Clone, Copy, Debug, PartialEq, Eq)]
+#[derive(Clone, Copy)]
 pub struct NoMemory;
 
 /// Why a call of a task was refused.
-#[derive(Clone, Copy, Debug, PartialEq, Eq)]
+#[derive(Clone, Copy)]
 pub enum TaskError {
     NoMemory,
     Trap(Trap),

@@ -4,7 +4,7 @@ use task_machine::{Component, IdleLine, Operand, Seq};
 use thiserror::Error;
 
 /// Memory is wanting.
-#[derive(Clone, Copy, Debug, PartialEq, Eq)]
+#[derive(Clone, Copy)]
 pub struct NoMemory;
 
 impl From<AllocError> for NoMemory {
@@ -14,7 +14,7 @@ impl From<AllocError> for NoMemory {
 }
 
 /// Why a text wasn't run.
-#[derive(Clone, Copy, Debug, PartialEq, Eq, Error)]
+#[derive(Clone, Copy, Debug, Error)]
 pub enum RunError {
     #[error("out of memory")]
     NoMemory,
@@ -25,14 +25,14 @@ pub enum RunError {
 }
 
 /// The names that a text gives to an instance and its exports.
-#[derive(Debug, Drop)]
+#[derive(Drop)]
 pub struct InstanceNames {
     pub instance: Seq<u8>,
     pub exports: Seq<Seq<u8>>,
 }
 
 /// An op of main. Starts and spawns are counted apart, from 1, in the order of their ops.
-#[derive(Debug, Drop)]
+#[derive(Drop)]
 pub enum MainOp {
     /// `start F X*`
     Start(Func, Seq<Operand>),
@@ -53,7 +53,7 @@ pub enum MainOp {
 }
 
 /// A scenario: what a text says, in the order of its lines.
-#[derive(Debug, Drop)]
+#[derive(Drop)]
 pub struct Scenario {
     /// How many handles may be live at once, at most 268,435,455.
     pub handles: u32,

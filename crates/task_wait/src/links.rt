@@ -7,11 +7,11 @@ use std::alloc::{AllocError, Global};
 use std::marker::Model;
 
 /// There was no memory for a new chain or node.
-#[derive(Clone, Copy, Debug, PartialEq, Eq)]
+#[derive(Clone, Copy)]
 pub struct NoMemory;
 
 /// Names a node, which is a place in a chain that its owner made before.
-#[derive(Clone, Copy, Debug, PartialEq, Eq)]
+#[derive(Clone, Copy)]
 pub struct Node {
     /// The node's number.
     pub index: usize,
