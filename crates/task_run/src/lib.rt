@@ -23,6 +23,3 @@ pub use scenario::{InstanceNames, MainOp, NoMemory, RunError, Scenario};
 pub use std_io::{StdSink, StdSource};
 pub use sure::{SureSink, SureSource};
 pub use task_machine::{IdleLine, Operand, Seq};
-
-#[cfg(test)]
-mod tests;
