@@ -14,7 +14,7 @@ use std::mem;
 use task_machine::{ExportKind, IdleLine, Op, Operand, Seq};
 
 /// The head, and the instances that are closed.
-#[derive(Debug, Drop)]
+#[derive(Drop)]
 pub struct Body {
     pub handles: u32,
     pub table: u32,
@@ -23,7 +23,7 @@ pub struct Body {
 }
 
 /// The line with which an export opens.
-#[derive(Debug, Drop)]
+#[derive(Drop)]
 pub struct Opening {
     pub name: Name,
     pub kind: ExportKind,
@@ -98,7 +98,7 @@ fn main_op_of(instances: &[InstanceText], before: &[MainOpText], op: NamedOp) ->
 }
 
 /// What the lines so far have said.
-#[derive(Debug, Drop)]
+#[derive(Drop)]
 pub enum State {
     Empty,
     Titled,

@@ -3,7 +3,7 @@ use std::collections::LinkedList;
 use task_machine::Phase;
 
 /// The four calls of a join handle that a log has.
-#[derive(Clone, Copy, Debug, PartialEq, Eq)]
+#[derive(Clone, Copy)]
 pub enum PhaseCall {
     /// Asks that the work end.
     Abort,
@@ -16,7 +16,7 @@ pub enum PhaseCall {
 }
 
 /// One call in a log, with the phase that it found.
-#[derive(Clone, Copy, Debug, PartialEq, Eq)]
+#[derive(Clone, Copy)]
 pub struct LogEntry<C> {
     /// Who made it: the name of a pass, or a number that the log's owner gives.
     pub caller: C,
@@ -25,7 +25,7 @@ pub struct LogEntry<C> {
 }
 
 /// A call as its caller can list it.
-#[derive(Clone, Copy, Debug, PartialEq, Eq)]
+#[derive(Clone, Copy)]
 pub struct CallMade {
     pub call: PhaseCall,
     /// The phase that the call found; none at a poll of the handle that answered `Pending`, which tells only that the

@@ -3,7 +3,7 @@ use task_machine::Trap;
 use task_table::{PushError, ResourceTableError};
 
 /// Why a call of a task was refused.
-#[derive(Clone, Copy, Debug, PartialEq, Eq)]
+#[derive(Clone, Copy)]
 pub enum TaskError {
     NoMemory,
     Trap(Trap),

@@ -14,6 +14,3 @@ pub use instance::InstanceRecord;
 pub use state::TaskCore;
 pub use task_machine::{ExportKind, Mark, NoMemory};
 pub use task_wait::{GroupKey, GuestTaskKey, SetKey, ThreadKey};
-
-#[cfg(test)]
-mod tests;

@@ -1,15 +1,15 @@
 /// Names a group of tasks, which all come from one call by main or by the host. Numbers run from 1 and aren't given again.
-#[derive(Clone, Copy, Debug, PartialEq, Eq, PartialOrd, Ord, Hash)]
+#[derive(Clone, Copy)]
 pub struct TaskGroupId {
     pub number: u64,
 }
 
 /// A hook's answer where it refuses.
-#[derive(Clone, Copy, Debug, PartialEq, Eq)]
+#[derive(Clone, Copy)]
 pub struct HookError;
 
 /// Why a call on groups is refused.
-#[derive(Clone, Copy, Debug, PartialEq, Eq)]
+#[derive(Clone, Copy)]
 pub enum GroupError {
     /// There is no memory for one more group.
     NoMemory,

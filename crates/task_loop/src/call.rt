@@ -15,14 +15,14 @@ use task_machine::{Callee, Component, Trap};
 use task_store::Store;
 
 /// Names an export by its instance and its place there, from 0.
-#[derive(Clone, Copy, Debug, PartialEq, Eq)]
+#[derive(Clone, Copy)]
 pub struct Func {
     pub instance: Instance,
     pub export: u32,
 }
 
 /// A call by the host that was started. It can be finished once.
-#[derive(Debug, Drop)]
+#[derive(Drop)]
 pub struct FuncCallConcurrent {
     thread: u64,
 }

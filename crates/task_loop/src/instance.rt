@@ -10,7 +10,7 @@ use task_machine::{Component, Trap};
 use task_store::Store;
 
 /// Names an instance by its place, from 0.
-#[derive(Clone, Copy, Debug, PartialEq, Eq)]
+#[derive(Clone, Copy)]
 pub struct Instance {
     pub index: u32,
 }

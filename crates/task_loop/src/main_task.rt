@@ -11,7 +11,7 @@ use task_machine::{Component, Label};
 use task_store::{Access, Whole};
 
 /// What main's next op came to.
-#[derive(Clone, Copy, Debug, PartialEq, Eq)]
+#[derive(Clone, Copy)]
 pub enum MainStep {
     /// The op is done, with this label.
     Did(Label),

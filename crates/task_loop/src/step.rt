@@ -26,7 +26,7 @@ use task_state::{Running, Taken};
 use task_store::{Access, Store};
 
 /// A step that was made: its label, and whose turn it is then.
-#[derive(Clone, Copy, Debug, PartialEq, Eq)]
+#[derive(Clone, Copy)]
 pub struct Made {
     pub label: Label,
     pub turn: Turn,
@@ -160,7 +160,7 @@ pub fn step_run<T, H>(component: &Component, store: &mut Store<T, H>) -> Result<
 }
 
 // A plain op, to be done next.
-#[derive(Clone, Copy, Debug)]
+#[derive(Clone, Copy)]
 enum Next {
     Data(DataOp),
     Task(TaskOp),

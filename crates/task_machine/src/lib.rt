@@ -27,6 +27,3 @@ pub use scenario::{IdleLine, MainOpDef, NamesDef, ScenarioDef};
 pub use seq::Seq;
 pub use trap::Trap;
 pub use words::{Given, Mark, OwnEvent, Phase, Status};
-
-#[cfg(test)]
-mod tests;

@@ -1,7 +1,7 @@
 use std::alloc::AllocError;
 
 /// There is no memory.
-#[derive(Clone, Copy, Debug)]
+#[derive(Clone, Copy)]
 pub struct NoMemory;
 
 impl From<AllocError> for NoMemory {

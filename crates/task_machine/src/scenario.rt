@@ -3,7 +3,7 @@ use crate::op::Operand;
 use crate::seq::Seq;
 
 /// What happens where nothing can go on and no host work is live: `idle trap` or `idle wait`.
-#[derive(Clone, Copy, Debug, PartialEq, Eq)]
+#[derive(Clone, Copy)]
 pub enum IdleLine {
     /// The run ends as a deadlock.
     Trap,
@@ -12,7 +12,7 @@ pub enum IdleLine {
 }
 
 /// An op of main's script. Starts and spawns are named by their lines, counted apart from 1.
-#[derive(Debug, Drop)]
+#[derive(Drop)]
 pub enum MainOpDef {
     /// `start F X*`
     Start(Callee, Seq<Operand>),
@@ -33,14 +33,14 @@ pub enum MainOpDef {
 }
 
 /// The names that a text gives to an instance and its exports.
-#[derive(Debug, Drop)]
+#[derive(Drop)]
 pub struct NamesDef {
     pub instance: Seq<u8>,
     pub exports: Seq<Seq<u8>>,
 }
 
 /// A scenario: the limits, what is run, and what main does.
-#[derive(Debug, Drop)]
+#[derive(Drop)]
 pub struct ScenarioDef {
     /// How many handles may be live at once.
     pub handles: u32,

@@ -24,6 +24,3 @@ pub use task_machine::NoMemory;
 pub use std_io::{StdSink, StdSource};
 pub use sure::{SureSink, SureSource};
 pub use task_machine::{IdleLine, Operand, Seq};
-
-#[cfg(test)]
-mod tests;

@@ -19,7 +19,7 @@ use task_state::TaskError;
 use task_store::{Access, Whole};
 
 // A start by main: the number of its call, or why it was refused.
-#[derive(Clone, Copy, Debug)]
+#[derive(Clone, Copy)]
 pub enum Start {
     Called(u64),
     Refused(Trap),

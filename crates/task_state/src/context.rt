@@ -10,7 +10,7 @@ use crate::state::ConcurrentState;
 
 /// A thread's context: its place in its script, from 0, and its registers. A loop over ops works
 /// with it apart from the thread's record, and writes it back in the end.
-#[derive(Clone, Copy, Debug)]
+#[derive(Clone, Copy)]
 pub struct ThreadContext {
     pub position: u32,
     pub registers: [u64; 16],

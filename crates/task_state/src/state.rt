@@ -44,7 +44,7 @@ impl Model for ConcurrentState {
 
 /// What the running thread is about to do: its number, its task's export, its place in the script,
 /// and whether its task has ended.
-#[derive(Clone, Copy, Debug)]
+#[derive(Clone, Copy)]
 pub struct Running {
     pub number: u64,
     pub callee: Callee,

@@ -11,7 +11,7 @@ use task_state::{ConcurrentState, NoMemory};
 use task_table::ResourceTable;
 
 /// Names an instance by its number, from 0.
-#[derive(Clone, Copy, Debug, PartialEq, Eq)]
+#[derive(Clone, Copy)]
 pub struct ComponentInstanceId(pub u32);
 
 /// A store of a host's value `T` and host works of the type `H`.

@@ -8,8 +8,6 @@ mod keys;
 mod laws;
 mod links;
 mod set;
-#[cfg(test)]
-mod tests;
 
 pub use codes::{BLOCKED, EXIT, Event, WAIT, YIELD, unpack_callback_code};
 pub use keys::{

@@ -8,7 +8,7 @@ use std::marker::Model;
 use task_machine::NoMemory;
 
 /// Names a node, which is a place in a chain that its owner made before.
-#[derive(Clone, Copy, Debug, PartialEq, Eq)]
+#[derive(Clone, Copy)]
 pub struct Node {
     /// The node's number.
     pub index: usize,
