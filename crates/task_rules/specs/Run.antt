@@ -1,7 +1,7 @@
 -- Runs, and the states that they begin in.
 use Rattle.std.specs.Prelude.{List, [], length, replicate, ℕ, ◌∷◌, ◌≡◌}
 use Rattle.task_machine.specs.declared.label.Label.{Label}
-use Rattle.task_machine.specs.declared.scenario.Scenario.{Scenario}
+use Rattle.task_machine.specs.declared.scenario.ScenarioDef.{ScenarioDef}
 use Rattle.task_machine.specs.declared.records.Turn.TheVariants as turn
 use Rattle.task_machine.specs.Core.{Main, MainPlace, One, Scripted, State, fresh}
 use Rattle.task_rules.specs.Stalled.{Setting}
@@ -26,5 +26,5 @@ opening instances handle_limit capacity main = record {
 }
 
 -- the opening state of a scenario
-unfoldable pub opens : Scenario → State
+unfoldable pub opens : ScenarioDef → State
 opens x = opening (length x.component.instances) x.handles x.table (Scripted main_opening)
