@@ -6,7 +6,7 @@ ghost use Rattle.task_loop.specs.Drive.{Drives};
 ghost use Rattle.task_loop.specs.Fit.{IsFirstComponent};
 ghost use Rattle.task_loop.specs.Main.{state_at};
 ghost use Rattle.task_loop.specs.Turn.{setting_of};
-ghost use Rattle.task_core.specs.Shown.{nothing, with_core, with_instance};
+ghost use Rattle.task_core.specs.Shown.{nothing, with_core};
 ghost use Rattle.embed_example.specs.Host.{TakesOne};
 
 use crate::parts::{DOUBLE, NEXT};
@@ -20,13 +20,12 @@ const STEPS: u32 = 64;
 
 // A new store with two instances.
 fn store(alloc: Global) -> Result<Store<(), ()>, NoMemory>
-    ensures state { IfOk result (λ s. s.state ≡ with_core (with_instance (with_instance (fresh 0 100000 1000000))) nothing) }
+    ensures state { IfOk result (λ s. s.state ≡ with_core (fresh 2 100000 1000000) nothing) }
     ensures free { IfOk result (λ s. s.running ≡ false) }
 {
     let mut store = Store::new(alloc, (), true, 1);
-    for _made in 0..2 {
-        store.add_instance()?;
-    }
+    store.add_instance()?;
+    store.add_instance()?;
     Ok(store)
 }
 
@@ -41,7 +40,7 @@ pub fn relayed(
     requires double { TakesOne component.now DOUBLE }
     requires next { TakesOne component.now NEXT }
     requires two { length component.now.instances ≡ 2 }
-    ensures { IfOk result (λ r. (t : State) × Drives (setting_of component.now [] true) (state_at (with_instance (with_instance (fresh 0 100000 1000000))) Unscripted turn.Main) [] t r.0 STEPS r.1) }
+    ensures { IfOk result (λ r. (t : State) × Drives (setting_of component.now [] true) (state_at (fresh 2 100000 1000000) Unscripted turn.Main) [] t r.0 STEPS r.1) }
 {
     let mut store = store(alloc)?;
     let Ok(mut run) = run_concurrent(&mut store, true) else {

@@ -1,0 +1,65 @@
+-- The steps of a main that is no script.
+use Rattle.std.proofs.Common.{ap, refl, subst, sym}
+use Rattle.std.specs.Prelude.{Err, List, None, Ok, Option, Some, [], ℕ, ◌≡◌}
+use Rattle.task_machine.specs.declared.component.Callee.{Callee}
+use Rattle.task_machine.specs.declared.component.Component.{Component}
+use Rattle.task_machine.specs.declared.label.Label.TheVariants as label
+use Rattle.task_machine.specs.declared.label.MainLabel.TheVariants as main_label
+use Rattle.task_machine.specs.declared.records.Turn.TheVariants as turn
+use Rattle.task_machine.specs.declared.trap.Trap.{Trap}
+use Rattle.task_machine.specs.Core.{Began, Core, Unscripted}
+use Rattle.task_machine.specs.Maps.{get}
+use Rattle.task_machine.specs.Write.{take_result}
+use Rattle.task_core.specs.declared.error.TaskError.TheVariants as task_error
+use Rattle.task_rules.specs.MainOps as row
+use Rattle.task_rules.specs.MainOps.{finish_result, start_act, start_refusal}
+use Rattle.task_rules.specs.Step.{OpenProgresses}
+use Rattle.task_rules.specs.Turns.{at_turn}
+use Rattle.task_loop.specs.declared.call.FuncCallConcurrent.{FuncCallConcurrent}
+use Rattle.task_loop.specs.Calls.{Starts}
+use Rattle.task_loop.specs.Main.{Answers, Did, Pends, state_at}
+use Rattle.task_state.specs.Seen.{Seen}
+
+-- ---- A start
+
+module _ (c : Component) (e : Callee) (words : List ℕ) (s t : Seen) (k : ℕ) where
+  started_in : (o : Option Trap) (call : FuncCallConcurrent) → Starts c e words s o (Ok call) t
+      → OpenProgresses (state_at s.core Unscripted turn.Main) (start_act c k e words s.core o) (label.Main (main_label.Start k call.thread)) (state_at t.core Unscripted turn.Main)
+  unfolding at_turn
+  started_in None call h = (ap (λ n. label.Main (main_label.Start k n)) h.0, ap (λ (u : Seen). state_at u.core Unscripted turn.Main) h.1)
+  started_in (Some why) call h = absurd (let clash = h.0 in cc)
+
+  refused_in : (o : Option Trap) (why : Trap) → Starts c e words s o (Err (task_error.Trap why)) t
+      → OpenProgresses (state_at s.core Unscripted turn.Main) (start_act c k e words s.core o) (label.Main (main_label.StartRefused why k)) (state_at t.core Unscripted turn.Main)
+  unfolding at_turn
+  refused_in None why h = absurd (let clash = h.0 in cc)
+  refused_in (Some other) why h =
+      let is = h.0 in
+      let same : why ≡ other = cc in
+      (ap (λ w. label.Main (main_label.StartRefused w k)) same, ap (λ (u : Seen). state_at u.core Unscripted turn.Main) h.1)
+
+  pub did_start : (call : FuncCallConcurrent) → Starts c e words s (start_refusal s.core) (Ok call) t → Did c [] Unscripted s.core (label.Main (main_label.Start k call.thread)) Unscripted t.core
+  did_start call h = record { op = tt; step = (k, (row.Start e words, started_in (start_refusal s.core) call h)) }
+
+  pub did_refuse : (why : Trap) → Starts c e words s (start_refusal s.core) (Err (task_error.Trap why)) t → Did c [] Unscripted s.core (label.Main (main_label.StartRefused why k)) Unscripted t.core
+  did_refuse why h = record { op = tt; step = (k, (row.Start e words, refused_in (start_refusal s.core) why h)) }
+
+-- ---- The other ops
+
+module _ (c : Component) (s : Core) where
+  pub did_finish : (n k v : ℕ) → get s.results n ≡ Some v → Did c [] Unscripted s (label.Main (main_label.Finish k v)) Unscripted (take_result n s)
+  unfolding at_turn
+  did_finish n k v there = record {
+    op = tt;
+    step = (
+      k, (
+      row.Finish (Began n),
+      subst (λ o. OpenProgresses (state_at s Unscripted turn.Main) (finish_result k n s o) (label.Main (main_label.Finish k v)) (state_at (take_result n s) Unscripted turn.Main)) (sym there) (refl, refl)));
+  }
+
+  pub pends_now : Pends c [] Unscripted s Unscripted s
+  pends_now = record { part = refl; core = refl; pends = refl }
+
+  pub answers_now : (v : ℕ) → Answers c [] Unscripted s v Unscripted s
+  unfolding at_turn
+  answers_now v = record { part = refl; core = refl; step = (0, (row.Answer v, (refl, refl))) }
