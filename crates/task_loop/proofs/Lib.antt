@@ -1,5 +1,4 @@
 pub mod FitLemmas
-pub mod FreshLemmas
 pub mod MainLemmas
 pub mod GivenLemmas
 pub mod DriveLemmas

@@ -3,8 +3,7 @@ use Rattle.task_core.specs.Shown.{Shown, nothing, with_core, with_instance}
 use Rattle.task_core.proofs.Laws.{fresh_more, size-fresh}
 use Rattle.task_machine.specs.Core.{fresh}
 use Rattle.task_machine.specs.Maps.{size}
-use Rattle.task_loop.proofs.FreshLemmas.{given_fresh}
-use Rattle.task_run.proofs.StoreLemmas.{limits_set}
+use Rattle.task_run.proofs.StoreLemmas.{given_fresh, limits_set}
 use Rattle.task_run.proofs.report.new_store.Goals as goal
 
 pub add_instance-requires : goal.add_instance-requires
