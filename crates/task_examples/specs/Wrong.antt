@@ -1,7 +1,7 @@
 -- Histories of two wrong machines: the steps of the right one, and a last one that it would not make.
 use Rattle.std.specs.Prelude.{List, None, Some, [], replicate, ◌++◌, ◌∷◌}
 use Rattle.task_machine.specs.declared.label.Label.{Label}
-use Rattle.task_machine.specs.declared.scenario.Scenario.{Scenario}
+use Rattle.task_machine.specs.declared.scenario.ScenarioDef.{ScenarioDef}
 use Rattle.task_machine.specs.declared.label.CallLabel.TheVariants as call_label
 use Rattle.task_machine.specs.declared.op.CallOp.TheVariants as call_op
 use Rattle.task_machine.specs.declared.words.Given.TheVariants as given
@@ -10,7 +10,7 @@ use Rattle.task_machine.specs.declared.component.ExportKind.TheVariants as kind
 use Rattle.task_machine.specs.declared.label.Label.TheVariants as label
 use Rattle.task_machine.specs.declared.label.LoopLabel.TheVariants as loop_label
 use Rattle.task_machine.specs.declared.label.MainLabel.TheVariants as main_label
-use Rattle.task_machine.specs.declared.scenario.MainOp.TheVariants as main_op
+use Rattle.task_machine.specs.declared.scenario.MainOpDef.TheVariants as main_op
 use Rattle.task_machine.specs.declared.words.Mark.TheVariants as mark
 use Rattle.task_machine.specs.declared.op.Op.TheVariants as op
 use Rattle.task_machine.specs.declared.op.Operand.TheVariants as operand
@@ -43,13 +43,13 @@ steps_of x [] s = []
 steps_of x (l ∷ ls) s = step_then s (λ t. steps_of x ls t) (turned x s (choice_of l) [] s.turn)
 
 -- the state to which these labels lead from the opening state
-abbrev pub state_after : Scenario → List Label → State
+abbrev pub state_after : ScenarioDef → List Label → State
 state_after x ls = (play (setting_of x) [] 0 ls (opens x)).last
 
 -- ---- A second return that is no trap
 
 -- a call whose callee returns 1 and then 2
-abbrev pub returning_twice : Scenario
+abbrev pub returning_twice : ScenarioDef
 returning_twice = record {
   handles = 10;
   table = 10;
@@ -81,7 +81,7 @@ returned_twice = steps_of (setting_of returning_twice) returned_labels (opens re
 -- ---- A cancel that takes the place of a return
 
 -- a call whose callee yields and returns 5; the caller yields, and then cancels it
-abbrev pub cancelling_late : Scenario
+abbrev pub cancelling_late : ScenarioDef
 cancelling_late = record {
   handles = 10;
   table = 10;
