@@ -26,3 +26,4 @@ pub mod ShelvedWords
 pub mod ShelvedRows
 pub mod ShelvedTakes
 pub mod ShelvedLemmas
+pub mod OnceLemmas
