@@ -24,7 +24,7 @@ use Rattle.task_machine.specs.declared.words.Phase.{Phase}
 use Rattle.task_machine.specs.declared.words.Status.{Status}
 use Rattle.task_rules.specs.Calls.{call_made, with_handle, with_thread_handle, work_queued}
 use Rattle.task_rules.specs.Takes.{popped}
-use Rattle.task_rules.specs.Works.{pended}
+use Rattle.task_rules.specs.Works.{poll_pends}
 use Rattle.task_machine.specs.declared.records.Entry.TheVariants as entry
 use Rattle.task_machine.specs.declared.records.Named.TheVariants as named
 use Rattle.task_machine.specs.declared.records.Place.TheVariants as place
@@ -164,7 +164,7 @@ after_word (UnnameCall i h k) s = free_handle i h (set_subtask_handle (subtask.G
 after_word CountWork s = count_work s
 after_word (QueueWork f host group) s = work_queued f host group s
 after_word (TakePush m i) s = set_stage i stage.Live (placed_as (popped m s) s)
-after_word (Pend i host) s = pended i host s
+after_word (Pend i host) s = poll_pends i host s
 after_word (EndWork i c) s = set_stage i stage.Ended (set_phase i phase.Complete (set_course i c s))
 after_word (FinishWork i c) s = push_high (entry.Host i) (set_stage i stage.Finishing (set_phase i phase.Complete (set_course i c s)))
 after_word (TakeHost m i) s = set_stage i stage.Ended (placed_as (popped m s) s)
