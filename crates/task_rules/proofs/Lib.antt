@@ -5,6 +5,7 @@ pub mod EndLemmas
 pub mod LawLemmas
 pub mod PromotionLemmas
 pub mod ChainLemmas
+pub mod WalkOps
 pub mod WalkTask
 pub mod WalkEnds
 pub mod WalkMoves

@@ -95,7 +95,7 @@ waken_shifts x n s false e h = put_shifts mark.High n why.Resumption s (Wakes x 
 abbrev pub Chosen : ℕ → Option ℕ → Core → Type 0
 Chosen x w s = (n : ℕ) → w ≡ Some n → is_waiter x n s ≡ true
 
-wake_shifts : (x : ℕ) (w : Option ℕ) (s : Core) → Chosen x w s → Shifts s (wake x w s)
+pub wake_shifts : (x : ℕ) (w : Option ℕ) (s : Core) → Chosen x w s → Shifts s (wake x w s)
 unfolding wake
 wake_shifts x None s h = NoWord
 wake_shifts x (Some n) s h = waken_shifts x n s (is_callback_waiter n s) refl (h n refl)
