@@ -60,7 +60,7 @@ at_place : (test : Place → Bool) (o : Option Place) → option_map_or test o f
 at_place test None h = absurd (subst T (sym h) tt)
 at_place test (Some p) h = (p, refl, h)
 
-find_passes : (test : ℕ → Bool) (ns : List ℕ) (m : ℕ) → find test ns ≡ Some m → test m ≡ true
+pub find_passes : (test : ℕ → Bool) (ns : List ℕ) (m : ℕ) → find test ns ≡ Some m → test m ≡ true
 find_passes test [] m h = absurd (no_both h)
   where
     no_both : None ≡ Some m → ⊥
