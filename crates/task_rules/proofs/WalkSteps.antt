@@ -1,5 +1,5 @@
 -- Each step as a chain of words: host works, main, the loop and all turns.
-use Rattle.std.proofs.Common.{T, ap, ap₂, cond, inl, inr, refl, subst, suc, sym, ◌∙◌, ◌⊎◌}
+use Rattle.std.proofs.Common.{T, ap, ap₂, cond, inl, inr, length, refl, subst, suc, sym, take, ◌∙◌, ◌⊎◌}
 use Rattle.std.specs.Option.{option_map_or}
 use Rattle.std.specs.Prelude.{Bool, List, None, Option, Some, [], false, not, option_map, slice_set, true, unwrap_or, zero, ℕ, ◌+◌, ◌==◌, ◌∷◌, ◌≡◌}
 use Rattle.task_machine.proofs.CommuteLemmas.{change-change_same}
@@ -28,6 +28,7 @@ use Rattle.task_machine.specs.declared.scenario.MainOpDef.{MainOpDef}
 use Rattle.task_machine.specs.declared.trap.Trap.{Trap}
 use Rattle.task_machine.specs.declared.words.Mark.{Mark}
 use Rattle.task_machine.specs.declared.words.Status.{Status}
+use Rattle.task_rules.proofs.ChainLemmas.{join}
 use Rattle.task_rules.proofs.PlacingLemmas.{placed, popped_shifted}
 use Rattle.task_rules.proofs.WalkMoves.{blocked_at, chosen_in_of, published_work, shifted, unblocked_shifts, word}
 use Rattle.task_rules.proofs.WalkOps.{Born, born_explicit, born_goal, born_place, call_born, set_row_leads, subtask_row_leads, thread_row_leads}
@@ -38,7 +39,7 @@ use Rattle.task_rules.specs.Calls.{call_made, next_thread}
 use Rattle.task_rules.specs.Cancels.{aborted_phase}
 use Rattle.task_rules.specs.Chains.{LastWords, NoWord, Shifts, StepsAreWalks, Walk, is_take}
 use Rattle.task_rules.specs.Laws.{is_free}
-use Rattle.task_rules.specs.MainOps.{Abort, Answer, Answers, Await, Does, Finish, MainAct, MainProgress, Pends, Quiet, Ready, Spawn, Start, act_of, advanced_main, finish_act, finish_result, has_interesting, is_complete, is_ready_for_call, line_of, main_aborted, main_row, main_spawned, main_started, op_at, start_act, start_refusal, unless_pending}
+use Rattle.task_rules.specs.MainOps.{Abort, Answer, Answers, Await, Does, Finish, MainAct, MainProgress, Pends, Quiet, Ready, Spawn, Start, act_of, advanced_main, finish_act, finish_result, has_interesting, is_complete, is_ready_for_call, line_of, main_aborted, main_row, main_spawned, main_started, may_act, op_at, start_act, start_refusal, unless_pending}
 use Rattle.task_rules.specs.Once.{begun_holder}
 use Rattle.task_rules.specs.OpParts.{callee_of_main_op}
 use Rattle.task_rules.specs.Outcome.{main_outcome, outcome_of_label}
@@ -406,9 +407,9 @@ module _ (x : Setting) (s : State) (l : Label) where
   open_progresses_walk u Pends t c is = absurd is
   open_progresses_walk u (Answers v) t c is = answers_here u v t is.0 is.1
 
-  open_act_walks : (u : Turn) (t : State) → s.main ≡ Unscripted → (k : ℕ) × ((act : MainAct) × OpenAct x s k act l t) → WalkedBy (scene_at u None) s.core t
+  open_act_walks : (u : Turn) (k : ℕ) (act : MainAct) (t : State) → s.main ≡ Unscripted → OpenAct x s k act l t → WalkedBy (scene_at u None) s.core t
   unfolding add_group
-  open_act_walks u t open_main h = open_progresses_walk u (main_row x.component h.0 s.core h.1.0) t (main_row_leads u h.0 h.1.0 (λ e words at. ByProgram open_main refl refl)) h.1.1.1
+  open_act_walks u k act t open_main h = open_progresses_walk u (main_row x.component k s.core act) t (main_row_leads u k act (λ e words at. ByProgram (length words) open_main (sym (ap (λ y. may_act x.component s.core y) at) ∙ h.0) refl refl)) h.1
 
   -- ---- Works
 
@@ -493,7 +494,7 @@ run_walks x s n l t is =
 main_step_walks : (x : Setting) (s : State) (l : Label) (u : Turn) (m : Main) (t : State) → s.main ≡ m → MainStep x s m l t → WalkedBy (scene_at x s l u None) s.core t
 main_step_walks x s l u (Scripted p) t at is = script_step_walks x s l u p (op_at x.script p) t at refl is
 main_step_walks x s (label.Loop loop_label.MainPends) u Unscripted t at is = pends_here x s (label.Loop loop_label.MainPends) u t refl is
-main_step_walks x s l u Unscripted t at is = open_act_walks x s l u t at is
+main_step_walks x s l u Unscripted t at is = open_act_walks x s l u is.0 is.1.0 t at is.1.1
 
 -- the scene of the step, at its turn
 abbrev scene_at_turn : Setting → State → Label → Turn → Turn → Scene
