@@ -1,4 +1,7 @@
 pub mod EachLemmas
+pub mod ReachLemmas
+pub mod HostWorks
+pub mod SetHandles
 pub mod SoundLemmas
 pub mod SoundFields
 pub mod SoundWords
@@ -15,14 +18,3 @@ pub mod LabelLemmas
 pub mod BarredSteps
 pub mod HolderLemmas
 pub mod WrittenLemmas
-pub mod SpunFields
-pub mod SpunWords
-pub mod SpunRows
-pub mod SpunTakes
-pub mod SpunSteps
-pub mod SpunLemmas
-pub mod ShelvedFields
-pub mod ShelvedWords
-pub mod ShelvedRows
-pub mod ShelvedTakes
-pub mod ShelvedLemmas
