@@ -513,7 +513,10 @@ next_entry s = or_high s.queues.switch s.queues.high s.queues.low
 
 -- such an entry of the thread may begin
 abbrev pub admits : ℕ → Core → Why → Bool
-admits n s why.Start = is_explicit n s || (is_sync (kind_of (task_of n s) s) || (not (may_not_enter (instance_of n s) s) && (backpressure_of (instance_of n s) s == 0)))
+admits n s why.Start =
+    is_explicit n s
+    || (is_sync (kind_of (task_of n s) s)
+    || (not (may_not_enter (instance_of n s) s) && (backpressure_of (instance_of n s) s == 0)))
 admits n s (why.Delivery d) = not (may_not_enter (instance_of n s) s)
 admits n s why.Resumption = true
 

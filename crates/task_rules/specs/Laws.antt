@@ -15,7 +15,7 @@ use Rattle.task_machine.specs.Maps.{get}
 use Rattle.task_machine.specs.Moves.{checked, has_entry, may_wake, passes_check, promoted_unless, released, stopped, wake}
 use Rattle.task_machine.specs.Read.{foot_of, instance_of, is_waiter, place_of, set_instance, task_of}
 use Rattle.task_machine.specs.Write.{remove_thread, set_place}
-use Rattle.task_rules.specs.Ends.{deactivated, held_out, let_in, may_tell, passes_after_return, passes_after_stop, returned}
+use Rattle.task_rules.specs.Ends.{code_stops, held_by_flag, end_reopens, may_tell, passes_after_return, passes_after_stop, returned}
 use Rattle.task_rules.specs.Outcome.{outcome_of_label}
 use Rattle.task_rules.specs.Places.{HasPlace}
 use Rattle.task_rules.specs.Run.{Run}
@@ -128,8 +128,8 @@ PromotionMovesOne = (n : ℕ) (s : Core) → (has_entry n s.queues.high || has_e
 -- the test of a callback's end on the state before is the check that its sentence has after the release and the stop
 abbrev pub CallbackCheckIsAfter : Type 0
 CallbackCheckIsAfter =
-    (n : ℕ) (s : Core) (order : List ℕ) → IsPermutation (held_out (instance_of n s) s) order →
-    passes_check (instance_of n s) (deactivated n order s) ≡ passes_after_stop (instance_of n s) (foot_of n s) (held_out (instance_of n s) s) s
+    (n : ℕ) (s : Core) (order : List ℕ) → IsPermutation (held_by_flag (instance_of n s) s) order →
+    passes_check (instance_of n s) (code_stops n order s) ≡ passes_after_stop (instance_of n s) (foot_of n s) (held_by_flag (instance_of n s) s) s
 
 -- ---- The moves of a running thread, in a state in which each thread has its place
 
@@ -166,5 +166,5 @@ WaitsAtHome s = (x m : ℕ) → is_waiter x m s ≡ true → instance_of m s ≡
 -- the test of a blocking export's exit on the state before is the check that its sentence has after the release and the return
 abbrev pub BlockingCheckIsAfter : Type 0
 BlockingCheckIsAfter =
-    (n v : ℕ) (w : Option ℕ) (s : Core) (order : List ℕ) → WaitsAtHome s → may_tell (task_of n s) w s ≡ true → IsPermutation (held_out (instance_of n s) s) order →
-    passes_check (instance_of n s) (returned (task_of n s) v w (let_in (instance_of n s) order s)) ≡ passes_after_return (instance_of n s) (task_of n s) (held_out (instance_of n s) s) s
+    (n v : ℕ) (w : Option ℕ) (s : Core) (order : List ℕ) → WaitsAtHome s → may_tell (task_of n s) w s ≡ true → IsPermutation (held_by_flag (instance_of n s) s) order →
+    passes_check (instance_of n s) (returned (task_of n s) v w (end_reopens (instance_of n s) order s)) ≡ passes_after_return (instance_of n s) (task_of n s) (held_by_flag (instance_of n s) s) s

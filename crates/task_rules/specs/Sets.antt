@@ -37,14 +37,20 @@ set_made n r s =
 
 -- `set_new R`
 abbrev pub set_new_row : ℕ → ℕ → Core → Progress
-set_new_row n r s = trap_if (not (fits 1 s)) trap.TableFull (trap_if (at_handle_limit s) trap.HandleLimit (Goes (label.Set (set_label.New (new_handle (instance_of n s) s) n)) (set_made n r s) n))
+set_new_row n r s =
+    trap_if (not (fits 1 s)) trap.TableFull (
+    trap_if (at_handle_limit s) trap.HandleLimit (
+    Goes (label.Set (set_label.New (new_handle (instance_of n s) s) n)) (set_made n r s) n))
 
 -- the set x and its handle h are gone
 unfoldable pub set_dropped : ℕ → ℕ → ℕ → Core → Core
 set_dropped n h x s = advanced n (remove_set x (free_handle (instance_of n s) h s))
 
 abbrev pub set_drop_found : ℕ → ℕ → Core → ℕ → Progress
-set_drop_found n h s x = trap_if (has_waiters x s) trap.WaitableSetDropHasWaiters (trap_if (has_member x s) trap.TableHasChildren (Goes (label.Set (set_label.Drop n)) (set_dropped n h x s) n))
+set_drop_found n h s x =
+    trap_if (has_waiters x s) trap.WaitableSetDropHasWaiters (
+    trap_if (has_member x s) trap.TableHasChildren (
+    Goes (label.Set (set_label.Drop n)) (set_dropped n h x s) n))
 
 -- `set_drop X`
 abbrev pub set_drop_row : ℕ → ℕ → Core → Progress
@@ -75,49 +81,69 @@ given_result _ = 0
 
 -- code, handle and result are in r and the two registers after it
 unfoldable pub set_given : ℕ → ℕ → Given → Core → Core
-set_given n r v s = set_register n (r + 2) (given_result v) (set_register n (r + 1) (given_handle v) (set_register n r (given_code v) s))
+set_given n r v s =
+    let first = set_register n r (given_code v) s in
+    set_register n (r + 2) (given_result v) (set_register n (r + 1) (given_handle v) first)
 
 -- the gift is taken, and what it hands out is in r and the two registers after it
 unfoldable pub received : ℕ → ℕ → Gift → Given → Core → Core
 received n r g v s = advanced n (set_given n r v (taken g (task_of n s) s))
 
 -- the strand stops, and its top waits on x
-unfoldable pub waiting : ℕ → ℕ → Core → Core
-waiting n x s = set_how_far n (how_far.Waits x) (stopped_at n (place.Waiting x false) s)
+unfoldable pub wait_stops : ℕ → ℕ → Core → Core
+wait_stops n x s = set_how_far n (how_far.Waits x) (stopped_at n (place.Waiting x false) s)
 
-unfoldable pub begun_waiting : ℕ → ℕ → Core → Core
-begun_waiting n x s = waiting n x (checked (instance_of n s) s)
+unfoldable pub wait_stops_checked : ℕ → ℕ → Core → Core
+wait_stops_checked n x s = wait_stops n x (checked (instance_of n s) s)
 
 -- neither the own event, as far as the thread may take it, nor a ready member is there
 unfoldable pub finds_nothing : ℕ → ℕ → Core → Bool
 finds_nothing n x s = is_none (own_gift_of false (task_of n s) s) && not (has_ready_member x s)
 
 abbrev pub wait_takes : ℕ → ℕ → Choice → Core → Gift → Progress
-wait_takes n r ch s g = let v = handed_out ch s g in Goes (label.Set (set_label.Wait v n)) (received n r g v s) n
+wait_takes n r ch s g =
+    let v = handed_out ch s g in
+    Goes (label.Set (set_label.Wait v n)) (received n r g v s) n
 
 abbrev pub wait_begins : ℕ → ℕ → Choice → Core → ℕ → Bool → Progress
-wait_begins n r ch s x true = trap_if (not (passes_check (instance_of n s) s)) trap.CannotBlockSyncTask (Stops (label.Thread (thread_label.Pauses n)) (begun_waiting n x s))
-wait_begins n r ch s x false = or_never (gift false (task_of n s) x (chosen n ch s) s) (wait_takes n r ch s)
+wait_begins n r ch s x true =
+    trap_if (not (passes_check (instance_of n s) s)) trap.CannotBlockSyncTask (
+    Stops (label.Thread (thread_label.Pauses n)) (wait_stops_checked n x s))
+wait_begins n r ch s x false =
+    or_never (gift false (task_of n s) x (chosen n ch s) s) (
+    wait_takes n r ch s)
 
 -- the wake is handed on where the gift is the own event
 unfoldable pub received_woken : ℕ → ℕ → ℕ → Option ℕ → Gift → Given → Core → Core
 received_woken n x r w g v s = received n r g v (handed_on x g w s)
 
 abbrev pub wait_goes_on : ℕ → ℕ → ℕ → Choice → Core → Gift → Progress
-wait_goes_on n x r ch s NoGift = Stops (label.Thread (thread_label.Pauses n)) (waiting n x s)
-wait_goes_on n x r ch s g = let v = handed_out ch s g in may (may_hand_on x g ch.woken s) (Goes (wait_label n v ch.woken) (received_woken n x r ch.woken g v s) n)
+wait_goes_on n x r ch s NoGift = Stops (label.Thread (thread_label.Pauses n)) (wait_stops n x s)
+wait_goes_on n x r ch s g =
+    let v = handed_out ch s g in
+    may (may_hand_on x g ch.woken s) (
+    Goes (wait_label n v ch.woken) (received_woken n x r ch.woken g v s) n)
 
 -- `wait R X`, by how far it has come
 abbrev pub wait_row : ℕ → ℕ → ℕ → Choice → Core → HowFar → Progress
-wait_row n r h ch s (how_far.Waits x) = or_never (gift false (task_of n s) x (chosen n ch s) s) (wait_goes_on n x r ch s)
-wait_row n r h ch s _ = or_trap (set_at (instance_of n s) h s) trap.BadHandle (λ x. wait_begins n r ch s x (finds_nothing n x s))
+wait_row n r h ch s (how_far.Waits x) =
+    or_never (gift false (task_of n s) x (chosen n ch s) s) (
+    wait_goes_on n x r ch s)
+wait_row n r h ch s _ =
+    or_trap (set_at (instance_of n s) h s) trap.BadHandle (
+    λ x. wait_begins n r ch s x (finds_nothing n x s))
 
 abbrev pub poll_takes : ℕ → ℕ → Choice → Core → Gift → Progress
-poll_takes n r ch s g = let v = handed_out ch s g in Goes (label.Set (set_label.Poll v n)) (received n r g v s) n
+poll_takes n r ch s g =
+    let v = handed_out ch s g in
+    Goes (label.Set (set_label.Poll v n)) (received n r g v s) n
 
 -- `poll R X`
 abbrev pub poll_row : ℕ → ℕ → ℕ → Choice → Core → Progress
-poll_row n r h ch s = or_trap (set_at (instance_of n s) h s) trap.BadHandle (λ x. or_never (gift false (task_of n s) x (chosen n ch s) s) (poll_takes n r ch s))
+poll_row n r h ch s =
+    or_trap (set_at (instance_of n s) h s) trap.BadHandle (
+    λ x. or_never (gift false (task_of n s) x (chosen n ch s) s) (
+    poll_takes n r ch s))
 
 -- ---- Joining
 
@@ -139,7 +165,10 @@ unfoldable pub joined : ℕ → Subtask → Option ℕ → Option ℕ → Core �
 joined n sub x w s = advanced n (wakes_joined (event_of sub s) x w (set_join sub (joins x) s))
 
 abbrev pub join_done : ℕ → Subtask → Option ℕ → Core → Option ℕ → Progress
-join_done n sub w s x = trap_if (is_watched (join_of sub s)) trap.WaitableSyncAndAsync (may (may_wake_new (event_of sub s) x w s) (Goes (join_label n w) (joined n sub x w s) n))
+join_done n sub w s x =
+    trap_if (is_watched (join_of sub s)) trap.WaitableSyncAndAsync (
+    may (may_wake_new (event_of sub s) x w s) (
+    Goes (join_label n w) (joined n sub x w s) n))
 
 -- the set that the handle names; 0 is for none
 abbrev pub join_to : ℕ → ℕ → Option ℕ → Core → Subtask → Progress

@@ -35,7 +35,8 @@ unfoldable pub thread_made : ℕ → ℕ → ℕ → ℕ → Core → Core
 thread_made n r x v s =
     let i = instance_of n s in
     let h = new_thread_handle i s in
-    assigned n r h (with_thread_handle i (next_thread s) (add_thread (new_thread (task_of n s) true (script.Slot x) (registers_for (v ∷ [])) None) s))
+    let thread = new_thread (task_of n s) true (script.Slot x) (registers_for (v ∷ [])) None in
+    assigned n r h (with_thread_handle i (next_thread s) (add_thread thread s))
 
 abbrev pub thread_new_label : ℕ → Core → Label
 thread_new_label n s = label.Thread (thread_label.New (new_thread_handle (instance_of n s) s) n (next_thread s))
@@ -44,7 +45,10 @@ thread_new_label n s = label.Thread (thread_label.New (new_thread_handle (instan
 abbrev pub thread_new_row : ℕ → ℕ → ℕ → ℕ → Core → Slot → Progress
 thread_new_row n r x v s slot.Empty = Traps trap.ThreadNewIndirectUninitialized
 thread_new_row n r x v s slot.Bad = Traps trap.ThreadNewIndirectInvalidType
-thread_new_row n r x v s (slot.Script ops) = trap_if (not (fits 2 s)) trap.TableFull (trap_if (at_handle_limit s) trap.HandleLimit (Goes (thread_new_label n s) (thread_made n r x v s) n))
+thread_new_row n r x v s (slot.Script ops) =
+    trap_if (not (fits 2 s)) trap.TableFull (
+    trap_if (at_handle_limit s) trap.HandleLimit (
+    Goes (thread_new_label n s) (thread_made n r x v s) n))
 
 -- `thread_index R`
 abbrev pub thread_index_row : ℕ → ℕ → Core → Progress
@@ -65,7 +69,10 @@ unfoldable pub resumed_later : ℕ → ℕ → Why → Core → Core
 resumed_later n m w s = advanced n (put_low m w s)
 
 abbrev pub resume_later_found : ℕ → Core → ℕ → Progress
-resume_later_found n s m = trap_if (m == n) trap.CannotResumeThread (or_trap (resume_why m s) trap.CannotResumeThread (λ w. Goes (label.Thread (thread_label.ResumeLater n)) (resumed_later n m w s) n))
+resume_later_found n s m =
+    trap_if (m == n) trap.CannotResumeThread (
+    or_trap (resume_why m s) trap.CannotResumeThread (
+    λ w. Goes (label.Thread (thread_label.ResumeLater n)) (resumed_later n m w s) n))
 
 -- `resume_later X`
 abbrev pub resume_later_row : ℕ → ℕ → Core → Progress
@@ -99,7 +106,10 @@ unfoldable pub halted_resuming : Halt → ℕ → ℕ → Why → Core → Core
 halted_resuming x n m w s = halted x n (put_switch m w s)
 
 abbrev pub then_resume_found : Halt → ℕ → Core → ℕ → Progress
-then_resume_found x n s m = trap_if (m == n) trap.CannotResumeThread (or_trap (resume_why m s) trap.CannotResumeThread (λ w. Stops (pauses n) (halted_resuming x n m w s)))
+then_resume_found x n s m =
+    trap_if (m == n) trap.CannotResumeThread (
+    or_trap (resume_why m s) trap.CannotResumeThread (
+    λ w. Stops (pauses n) (halted_resuming x n m w s)))
 
 abbrev pub then_resume_row : Halt → ℕ → ℕ → Core → Progress
 then_resume_row x n h s = or_trap (thread_at (instance_of n s) h s) trap.BadHandle (then_resume_found x n s)
@@ -116,7 +126,9 @@ then_promote x n l s m true = Stops (pauses n) (halted_promoting x n m s)
 then_promote x n l s m false = halt_row x n l s
 
 abbrev pub then_promote_found : Halt → ℕ → Label → Core → ℕ → Progress
-then_promote_found x n l s m = trap_if (m == n) trap.CannotResumeThread (then_promote x n l s m (has_yielded m s))
+then_promote_found x n l s m =
+    trap_if (m == n) trap.CannotResumeThread (
+    then_promote x n l s m (has_yielded m s))
 
 abbrev pub then_promote_row : Halt → ℕ → ℕ → Label → Core → Progress
 then_promote_row x n h l s = or_trap (thread_at (instance_of n s) h s) trap.BadHandle (then_promote_found x n l s)
@@ -136,7 +148,11 @@ thread_row c n s (thread_op.Index r) = thread_index_row n r s
 thread_row c n s (thread_op.ResumeLater x) = resume_later_row n (value_of n s x) s
 thread_row c n s thread_op.Suspend = halting n s (thread_label.Suspend n) (λ l. halt_row Suspension n l s)
 thread_row c n s thread_op.Yield = halting n s (thread_label.Yield n) (λ l. halt_row Yielding n l s)
-thread_row c n s (thread_op.SuspendThenResume x) = halting n s (thread_label.SuspendThenResume n) (λ l. then_resume_row Suspension n (value_of n s x) s)
-thread_row c n s (thread_op.YieldThenResume x) = halting n s (thread_label.YieldThenResume n) (λ l. then_resume_row Yielding n (value_of n s x) s)
-thread_row c n s (thread_op.SuspendThenPromote x) = halting n s (thread_label.SuspendThenPromote n) (λ l. then_promote_row Suspension n (value_of n s x) l s)
-thread_row c n s (thread_op.YieldThenPromote x) = halting n s (thread_label.YieldThenPromote n) (λ l. then_promote_row Yielding n (value_of n s x) l s)
+thread_row c n s (thread_op.SuspendThenResume x) =
+    halting n s (thread_label.SuspendThenResume n) (λ l. then_resume_row Suspension n (value_of n s x) s)
+thread_row c n s (thread_op.YieldThenResume x) =
+    halting n s (thread_label.YieldThenResume n) (λ l. then_resume_row Yielding n (value_of n s x) s)
+thread_row c n s (thread_op.SuspendThenPromote x) =
+    halting n s (thread_label.SuspendThenPromote n) (λ l. then_promote_row Suspension n (value_of n s x) l s)
+thread_row c n s (thread_op.YieldThenPromote x) =
+    halting n s (thread_label.YieldThenPromote n) (λ l. then_promote_row Yielding n (value_of n s x) l s)
