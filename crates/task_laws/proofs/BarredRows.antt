@@ -4,7 +4,7 @@ use Rattle.std.specs.Prelude.{Bool, List, None, Option, Some, [], false, is_some
 use Rattle.task_laws.proofs.BarredEnds.{Holds, advanced_barred, assigned_barred, may_holds, or_never_holds, or_trap_holds, trap_if_holds}
 use Rattle.task_laws.proofs.BarredFields.{Barred, add_set_barred, add_thread_barred, call_made_barred, count_work_barred, free_handle_barred, give_handle_barred, give_thread_handle_barred, remove_set_barred, remove_work_barred, set_cancelled_barred, set_do_not_suspend_barred, set_event_barred, set_how_far_barred, set_join_barred, set_own_event_barred, set_phase_barred, set_place_barred, set_register_barred, set_result_barred, set_saved_callee_barred, set_saved_own_barred, set_started_barred, set_subtask_handle_barred, set_thread_handle_barred, work_queued_barred}
 use Rattle.task_laws.proofs.BarredWords.{behind_barred, call_settled_barred, checked_barred, group_settled_barred, handed_on_barred, promoted_unless_barred, put_low_barred, put_switch_barred, stopped_at_barred, stopped_barred, taken_barred, wake_barred, withdrawn_barred}
-use Rattle.task_laws.specs.Holders.{callee_of_call}
+use Rattle.task_rules.specs.OpParts.{callee_of_call}
 use Rattle.task_machine.specs.Core.{Core}
 use Rattle.task_machine.specs.Labels.{Choice, join_label, wait_label}
 use Rattle.task_machine.specs.Maps.{get}

@@ -5,7 +5,7 @@ use Rattle.task_laws.proofs.BarredFields.{Barred, add_group_barred, call_made_ba
 use Rattle.task_laws.proofs.BarredRows.{sync_sets_flag_barred, set_given_barred, set_row_holds, subtask_row_holds, thread_row_holds, with_thread_handle_barred}
 use Rattle.task_laws.proofs.BarredWords.{handed_on_barred, if_barred, published_barred, put_high_barred, remove_threads_barred, stopped_at_barred, taken_barred, unblocked_barred}
 use Rattle.task_laws.proofs.SoundLemmas.{true_is_not_false}
-use Rattle.task_laws.specs.Holders.{callee_of_op}
+use Rattle.task_rules.specs.OpParts.{callee_of_op}
 use Rattle.task_machine.specs.Core.{Core}
 use Rattle.task_machine.specs.Labels.{Choice, event_label, held_label, host_label, take_label}
 use Rattle.task_machine.specs.Maps.{get}

@@ -11,7 +11,8 @@ use Rattle.task_laws.proofs.EachLemmas.{each_empty}
 use Rattle.task_laws.proofs.LabelLemmas.{Untaken, did_untaken, is_take}
 use Rattle.task_laws.proofs.SoundFields.{no_way}
 use Rattle.task_laws.proofs.SoundLemmas.{same_number, true_is_not_false}
-use Rattle.task_laws.specs.Holders.{CalleesExist, RunsHoldOne, callee_of_main_op, callee_of_op}
+use Rattle.task_laws.specs.Holders.{CalleesExist, RunsHoldOne}
+use Rattle.task_rules.specs.OpParts.{callee_of_main_op, callee_of_op}
 use Rattle.task_machine.specs.Core.{Began, Core, Main, MainPlace, Refused, Scripted, Started, State, Unscripted, filled, fresh, untouched}
 use Rattle.task_machine.specs.Labels.{Choice, choice_of}
 use Rattle.task_machine.specs.Maps.{get, get-insert, insert}

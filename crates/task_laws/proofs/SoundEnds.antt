@@ -6,7 +6,7 @@ use Rattle.task_laws.proofs.EachLemmas.{each_get}
 use Rattle.task_laws.proofs.SoundFields.{give_result_sound, no_way, not_false, set_backpressure_sound, set_do_not_enter_sound, set_do_not_suspend_sound, set_how_far_sound, set_own_event_sound, set_place_sound, set_position_sound, set_register_sound, set_result_sound, set_word_sound}
 use Rattle.task_laws.proofs.SoundLemmas.{CallSound, GoneAtEnd, Sound, ThreadSound, is_callback_later, kind_in, no_call_zero, opens_end, set_end_sound, too_low, true_is_not_false}
 use Rattle.task_laws.proofs.SoundWords.{AtBase, calls_if, calls_unqueued, checked_sound, ended_closes, ended_sound, if_sound, published_sound, put_high_sound, put_low_sound, released_sound, stopped_sound, task_if, task_set_place, task_unqueued}
-use Rattle.task_laws.specs.Settings.{is_code_op}
+use Rattle.task_rules.specs.OpParts.{is_code_op}
 use Rattle.task_machine.specs.Core.{Core}
 use Rattle.task_machine.specs.Labels.{Choice, exit_label, ret_label, task_cancel_label}
 use Rattle.task_machine.specs.Maps.{get}

@@ -9,7 +9,8 @@ use Rattle.task_laws.proofs.SoundLemmas.{CallSound, GoneAtEnd, Nameless, Sound, 
 use Rattle.task_laws.proofs.SoundTakes.{main_aborted_sound, main_spawned_sound, main_started_sound, op_row_kept, poll_pends_sound, popped_sound, struck_sound, take_row_kept, poll_ends_sound}
 use Rattle.task_laws.proofs.SoundWords.{AtBase, delivered_is_callback}
 use Rattle.task_laws.specs.Rises.{CallsRise, ExplicitNamesNoCall, Rises, RunsRise, StepsRise, SyncEndsLast, SyncNeverCancelled}
-use Rattle.task_laws.specs.Settings.{CodesInCallbacks, HasNoCode, Reached, ends_activation}
+use Rattle.task_laws.specs.Settings.{CodesInCallbacks, HasNoCode, Reached}
+use Rattle.task_rules.specs.OpParts.{ends_activation}
 use Rattle.task_machine.specs.Core.{Began, Core, Main, MainPlace, Refused, Scripted, Started, State, Unscripted, fresh}
 use Rattle.task_machine.specs.Labels.{Choice, choice_of}
 use Rattle.task_machine.specs.Maps.{empty, get}

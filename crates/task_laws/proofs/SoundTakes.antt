@@ -7,7 +7,7 @@ use Rattle.task_laws.proofs.SoundFields.{add_group_sound, callback_is_lifted, no
 use Rattle.task_laws.proofs.SoundLemmas.{Sound, call_made_sound, is_callback_later, is_delivered, is_delivery}
 use Rattle.task_laws.proofs.SoundRows.{sync_sets_flag_sound, set_given_sound, set_row_kept, subtask_row_kept, thread_row_kept, with_thread_handle_sound}
 use Rattle.task_laws.proofs.SoundWords.{AtBase, handed_on_sound, if_sound, published_sound, put_high_sound, remove_threads_sound, stopped_at_sound, taken_sound, unblocked_sound}
-use Rattle.task_laws.specs.Settings.{ends_activation}
+use Rattle.task_rules.specs.OpParts.{ends_activation}
 use Rattle.task_machine.specs.Core.{Core}
 use Rattle.task_machine.specs.Labels.{Choice, event_label, held_label, host_label, take_label}
 use Rattle.task_machine.specs.Moves.{Gift, NoGift, gift, given_for, may_hand_on, may_publish, own_gift_only}

@@ -10,20 +10,10 @@ use Rattle.task_machine.specs.declared.op.TaskOp.{TaskOp}
 use Rattle.task_machine.specs.declared.op.TaskOp.TheVariants as task_op
 use Rattle.task_machine.specs.Core.{Main, State}
 use Rattle.task_machine.specs.Read.{is_callback}
+use Rattle.task_rules.specs.OpParts.{ends_activation}
 use Rattle.task_rules.specs.Run.{Run, opening}
 use Rattle.task_rules.specs.Scripts.{export_at, slot_at, slot_script}
 use Rattle.task_rules.specs.Stalled.{Setting}
-
--- the ops that end a callback's activation with a code
-abbrev pub is_code_op : TaskOp → Bool
-is_code_op task_op.CbYield = true
-is_code_op (task_op.CbWait x) = true
-is_code_op (task_op.Code x) = true
-is_code_op _ = false
-
-abbrev pub ends_activation : Op → Bool
-ends_activation (op.Task o) = is_code_op o
-ends_activation _ = false
 
 -- no op of the script ends an activation
 abbrev pub HasNoCode : List Op → Type 0

@@ -4,6 +4,7 @@ pub mod KeepLemmas
 pub mod EndLemmas
 pub mod LawLemmas
 pub mod PromotionLemmas
+pub mod ChainLemmas
 pub mod CheckLemmas
 pub mod StandLemmas
 pub mod StopLemmas

@@ -19,6 +19,11 @@ pub mod Texts
 pub mod History
 pub mod Once
 pub mod Notices
+pub mod Words
+pub mod Scenes
+pub mod OpParts
+pub mod Allowed
+pub mod Chains
 pub mod Keeps
 pub mod Laws
 pub mod Places
