@@ -1,6 +1,6 @@
 -- A state in order: what is so of every opening state and kept by every step, whatever the state was reached by.
 use Rattle.std.specs.Option.{option_map_or}
-use Rattle.std.specs.Prelude.{Bool, None, Option, Some, false, is_none, is_some, option_map, true, ℕ, ◌≡◌, ◌≤◌}
+use Rattle.std.specs.Prelude.{Bool, None, Option, Some, false, is_none, is_some, option_map, true, ℕ, ◌+◌, ◌≡◌, ◌≤◌}
 use Rattle.task_laws.specs.Settings.{CodesInCallbacks}
 use Rattle.task_machine.specs.Core.{Core, Main, State}
 use Rattle.task_machine.specs.Maps.{get}
@@ -31,6 +31,12 @@ use Rattle.task_rules.specs.Step.{Step}
 pub record InPlace (s : State) : Type 0 where
   pub placed : Placed s.core
   pub runs : (n : ℕ) → s.turn ≡ turn.Run n → place_of n s.core ≡ Some place.Running
+
+-- A thread that is under another has a smaller number than that one, whose number was given; and it is under it alone.
+pub record Strands (s : Core) : Type 0 where
+  pub below : (n m : ℕ) → place_of n s ≡ Some (place.Under m) → n + 1 ≤ m
+  pub made : (n m : ℕ) → place_of n s ≡ Some (place.Under m) → m ≤ s.made.threads
+  pub alone : (n k m : ℕ) → place_of n s ≡ Some (place.Under m) → place_of k s ≡ Some (place.Under m) → n ≡ k
 
 -- ---- Numbers
 
@@ -111,6 +117,15 @@ is_fresh _ = false
 -- the first thread of a call whose start hasn't run waits for it, or is gone
 abbrev pub StartsAwaited : Core → Type 0
 StartsAwaited s = (k : ℕ) (c : Call) → get s.calls k ≡ Some c → c.started ≡ false → is_fresh (place_of k s) ≡ true
+
+-- ---- Counts
+
+-- From s to t at most one thread is made, one work, one set and one group.
+pub record MakesFew (s t : Core) : Type 0 where
+  pub threads : t.made.threads ≤ s.made.threads + 1
+  pub works : t.made.works ≤ s.made.works + 1
+  pub sets : t.made.sets ≤ s.made.sets + 1
+  pub groups : t.made.groups ≤ s.made.groups + 1
 
 -- ---- All of it
 

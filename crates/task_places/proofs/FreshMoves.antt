@@ -3,7 +3,6 @@ use Rattle.std.specs.Option.{option_map_or}
 use Rattle.std.proofs.Common.{ap, arith, cond, refl, subst, sym, ◌∙◌, is_some, not}
 use Rattle.std.specs.Prelude.{if◌then◌else◌, ◌||◌, Bool, List, None, Option, Some, [], false, option_and_then, option_map, true, ℕ, ◌+◌, ◌==◌, ◌∷◌, ◌≡◌, ◌≤◌}
 use Rattle.task_laws.specs.Order.{is_fresh, is_start}
-use Rattle.task_machine.proofs.CommuteLemmas.{get-change}
 use Rattle.task_machine.specs.Core.{Core}
 use Rattle.task_machine.specs.Maps.{get}
 use Rattle.task_machine.specs.Moves.{behind, behind_one, displaced, held_why_of, put_high, put_low, ready_why, released, released_one, resumed_all, why_of, put_switch, promoted, promoted_unless, first_entry, checked, newest, resumed_callers, passed_on, stopped, stand, unqueued, promoted_first, older}
@@ -13,7 +12,7 @@ use Rattle.task_machine.specs.declared.records.Place.{Place}
 use Rattle.task_machine.specs.declared.records.Thread.{Thread}
 use Rattle.task_machine.specs.declared.records.Why.{Why}
 use Rattle.task_places.proofs.EntryLemmas.{Listed, entry_listed, listed_says, no_both_of, no_switch, one_place, unqueued_place}
-use Rattle.task_rules.proofs.StandLemmas.{Stand, by_number, callers_say, eq_refl, is_eq_of, times-newest}
+use Rattle.task_rules.proofs.StandLemmas.{Stand, by_number, callers_say, set_place_is, set_place_there, eq_refl, is_eq_of, times-newest}
 use Rattle.task_rules.proofs.StopLemmas.{Untouched}
 use Rattle.task_rules.specs.Places.{is_at_high, is_at_low, is_at_switch, is_behind_of, is_there, one_if, says, switch_entries, times}
 use Rattle.task_machine.specs.declared.records.Place.TheVariants as place
@@ -32,23 +31,6 @@ fresher_after s m t f g k h = g k (f k h)
 
 pub fresher_quiet : (s t : Core) → Untouched s t → Fresher s t
 fresher_quiet s t u k h = ap is_fresh (u.places k) ∙ h
-
-set_place_is : (k m : ℕ) (p : Place) (s : Core) → place_of k (set_place m p s) ≡ cond (k == m) (option_map (λ (q : Place). p) (place_of k s)) (place_of k s)
-unfolding set_place on_thread
-set_place_is k m p s = ap (option_map (λ (t : Thread). t.place)) (get-change m (λ t. record t { place = p }) s.threads k) ∙ go (k == m) (get s.threads k)
-  where
-    go : (b : Bool) (o : Option Thread) → option_map (λ (t : Thread). t.place) (cond b (option_map (λ (t : Thread). record t { place = p }) o) o) ≡ cond b (option_map (λ (q : Place). p) (option_map (λ (t : Thread). t.place) o)) (option_map (λ (t : Thread). t.place) o)
-    go true None = refl
-    go true (Some t) = refl
-    go false o = refl
-
-pub set_place_there : (k m : ℕ) (p : Place) (s : Core) → is_there k (set_place m p s) ≡ is_there k s
-set_place_there k m p s = ap (λ (o : Option Place). is_some o) (set_place_is k m p s) ∙ go (k == m) (place_of k s)
-  where
-    go : (b : Bool) (o : Option Place) → is_some (cond b (option_map (λ (q : Place). p) o) o) ≡ is_some o
-    go true None = refl
-    go true (Some q) = refl
-    go false o = refl
 
 -- a put takes no thread away
 pub put_switch_there : (k m : ℕ) (w : Why) (s : Core) → is_there k (put_switch m w s) ≡ is_there k s

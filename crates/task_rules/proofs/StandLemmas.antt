@@ -8,6 +8,7 @@ use Rattle.task_machine.specs.declared.records.Why.{Why}
 use Rattle.task_machine.specs.declared.records.Entry.TheVariants as entry
 use Rattle.task_machine.specs.declared.words.Mark.TheVariants as mark
 use Rattle.task_machine.specs.declared.records.Place.TheVariants as place
+use Rattle.task_machine.proofs.CommuteLemmas.{get-change}
 use Rattle.task_machine.proofs.MapLemmas.{get-change_other, get-change_same}
 use Rattle.task_machine.specs.Core.{Core}
 use Rattle.task_machine.specs.Maps.{get}
@@ -80,6 +81,23 @@ place_written m p q s h =
 pub place_kept : (k m : ℕ) (p : Place) (s : Core) → (k == m) ≡ false → place_of k (set_place m p s) ≡ place_of k s
 unfolding set_place on_thread
 place_kept k m p s h = ap (option_map (λ (t : Thread). t.place)) (get-change_other s.threads m (λ t. record t { place = p }) k (not_eq k m h))
+
+pub set_place_is : (k m : ℕ) (p : Place) (s : Core) → place_of k (set_place m p s) ≡ cond (k == m) (option_map (λ (q : Place). p) (place_of k s)) (place_of k s)
+unfolding set_place on_thread
+set_place_is k m p s = ap (option_map (λ (t : Thread). t.place)) (get-change m (λ t. record t { place = p }) s.threads k) ∙ go (k == m) (get s.threads k)
+  where
+    go : (b : Bool) (o : Option Thread) → option_map (λ (t : Thread). t.place) (cond b (option_map (λ (t : Thread). record t { place = p }) o) o) ≡ cond b (option_map (λ (q : Place). p) (option_map (λ (t : Thread). t.place) o)) (option_map (λ (t : Thread). t.place) o)
+    go true None = refl
+    go true (Some t) = refl
+    go false o = refl
+
+pub set_place_there : (k m : ℕ) (p : Place) (s : Core) → is_there k (set_place m p s) ≡ is_there k s
+set_place_there k m p s = ap (λ (o : Option Place). is_some o) (set_place_is k m p s) ∙ go (k == m) (place_of k s)
+  where
+    go : (b : Bool) (o : Option Place) → is_some (cond b (option_map (λ (q : Place). p) o) o) ≡ is_some o
+    go true None = refl
+    go true (Some q) = refl
+    go false o = refl
 
 -- ---- Threads that have no entry and are among no callers
 
