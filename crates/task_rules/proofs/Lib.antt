@@ -5,6 +5,11 @@ pub mod EndLemmas
 pub mod LawLemmas
 pub mod PromotionLemmas
 pub mod ChainLemmas
+pub mod WalkOps
+pub mod WalkTask
+pub mod WalkEnds
+pub mod WalkMoves
+pub mod PlacingLemmas
 pub mod CheckLemmas
 pub mod StandLemmas
 pub mod StopLemmas

@@ -3,7 +3,7 @@ use Rattle.std.specs.Prelude.{Bool, None, Option, Some, [], false, is_none, true
 use Rattle.task_machine.specs.Core.{Core, MainPlace, Scripted, Unscripted}
 use Rattle.task_machine.specs.Maps.{get}
 use Rattle.task_machine.specs.Moves.{has_entry, is_callback_waiter, is_deletable, is_group_done}
-use Rattle.task_machine.specs.Read.{cancel_was_delivered, course_of, course_value, end_of, goal_of, has_ended, has_member, has_waiters, how_far_of, instance_of, is_async_lifted, is_at, is_direct, is_explicit, is_joined, is_stage_ended, is_waiter, join_of, kind_of, may_not_enter, next_entry, phase_of, place_of, set_at, stage_of, subtask_at, subtask_ended, subtask_handle, task_of, thread_group, was_started, work_caller_of}
+use Rattle.task_machine.specs.Read.{cancel_was_delivered, course_of, course_value, end_of, goal_of, has_ended, has_member, has_waiters, how_far_of, instance_of, is_async_lifted, is_at, is_direct, is_explicit, is_joined, is_stage_ended, is_waiter, join_of, kind_of, may_not_enter, next_entry, own_event_of, phase_of, place_of, set_at, stage_of, subtask_at, subtask_ended, subtask_handle, task_of, thread_group, was_started, work_caller_of}
 use Rattle.task_machine.specs.declared.component.Callee.{Callee}
 use Rattle.task_machine.specs.declared.component.ExportKind.{ExportKind}
 use Rattle.task_machine.specs.declared.label.Label.{Label}
@@ -24,7 +24,7 @@ use Rattle.task_machine.specs.declared.words.OwnEvent.{OwnEvent}
 use Rattle.task_machine.specs.declared.words.Status.{Status}
 use Rattle.task_rules.specs.Calls.{new_thread, next_thread, next_work}
 use Rattle.task_rules.specs.Cancels.{aborted_phase, is_callback_wait}
-use Rattle.task_rules.specs.Ends.{is_told}
+use Rattle.task_rules.specs.Ends.{is_told, own_or_none}
 use Rattle.task_rules.specs.MainOps.{op_at}
 use Rattle.task_rules.specs.Once.{returned_holder}
 use Rattle.task_rules.specs.OpParts.{callee_of_main_op, callee_of_op, ends_activation}
@@ -185,7 +185,7 @@ MayMake a t s = (n : ℕ) × (IsRunner a n × ((s.made.threads ≡ a.base.made.t
 -- Who is gone.
 pub data MayGo (a : Scene) (n : ℕ) : Type 0 where
   -- the running thread
-  Ends : Leaves a n → MayGo a n
+  Departs : Leaves a n → MayGo a n
   -- the running thread, and the one under it goes on
   EndsOver : (m : ℕ) → IsRunner a n → a.next ≡ turn.Run m → place_of m a.base ≡ Some (place.Under n) → MayGo a n
   -- the strand that trapped: the thread that ran or was taken, and those that were under others
@@ -238,10 +238,11 @@ abbrev pub MayTell : Scene → ℕ → Option Status → Core → Type 0
 MayTell a k (Some e) s = (is_told k s ≡ true) × Tells e k s
 MayTell a k None s = IsOwn a (subtask.Guest k)
 
--- Cancelled comes to a task that is started and hasn't ended; None to one that yields; what is there is taken by the running thread
+-- Cancelled comes to a task that is started and hasn't ended; to one that yields comes what it has, or None; what is there is taken by the running thread
 abbrev pub MayOwe : Scene → ℕ → Option OwnEvent → Core → Type 0
-MayOwe a k (Some own.Cancelled) s = IsOwn a (subtask.Guest k) × ((was_started k s ≡ true) × (has_ended k s ≡ false))
-MayOwe a k (Some own.None) s = (n : ℕ) × (EndsActivation a n × (k ≡ task_of n a.base))
+MayOwe a k (Some e) s =
+    ((e ≡ own.Cancelled) × (IsOwn a (subtask.Guest k) × ((was_started k s ≡ true) × (has_ended k s ≡ false))))
+    ⊎ ((n : ℕ) × (EndsActivation a n × ((k ≡ task_of n a.base) × (own_or_none (own_event_of k a.base) ≡ Some e))))
 MayOwe a k None s = (n : ℕ) × (IsRunner a n × (k ≡ task_of n a.base))
 
 -- a thread that was taken with a delivery finds its task's own event

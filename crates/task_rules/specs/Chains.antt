@@ -6,11 +6,13 @@ use Rattle.task_machine.specs.Maps.{get}
 use Rattle.task_machine.specs.Moves.{ended}
 use Rattle.task_machine.specs.Read.{may_not_enter, place_of}
 use Rattle.task_machine.specs.declared.label.Label.{Label}
+use Rattle.task_machine.specs.declared.outcome.Outcome.{Outcome}
 use Rattle.task_machine.specs.declared.records.Place.{Place}
 use Rattle.task_machine.specs.declared.records.Turn.{Turn}
 use Rattle.task_rules.specs.Allowed.{Allowed, IsRunner, MayShift, is_exit}
 use Rattle.task_rules.specs.Laws.{is_free}
 use Rattle.task_rules.specs.Once.{begun_holder}
+use Rattle.task_rules.specs.Outcome.{outcome_of_label}
 use Rattle.task_rules.specs.Progress.{may}
 use Rattle.task_rules.specs.Scenes.{Scene, scene_of}
 use Rattle.task_rules.specs.Stalled.{Setting}
@@ -46,11 +48,13 @@ is_take (turn.Take ended) = true
 is_take _ = false
 
 -- What the last words of a step leave.
-pub record Ends (a : Scene) (t : Core) : Type 0 where
+pub record LastWords (a : Scene) (t : Core) : Type 0 where
   -- a thread that was taken is at a place that says nothing of entries, or gone
   pub laid : (n : ℕ) → IsRunner a n → is_take a.turn ≡ true → option_map_or is_free (place_of n t) true ≡ true
   -- a thread whose turn comes was running already, or runs now
   pub runs : (n : ℕ) → a.next ≡ turn.Run n → (a.turn ≡ turn.Run n) ⊎ (option_map_or is_running (place_of n t) true ≡ true)
+  -- a label that gives an outcome ends the turns
+  pub outcome : (o : Outcome) → outcome_of_label a.label ≡ Some o → a.next ≡ turn.Over
   -- a thread that exits is gone
   pub gone : (n : ℕ) → IsRunner a n → is_exit a.label ≡ true → get t.threads n ≡ None
   -- a holding entry that begins to run finds its instance open, and shuts it
@@ -61,7 +65,7 @@ pub record Walked (x : Setting) (s : State) (l : Label) (t : State) : Type 0 whe
   pub next : Turn
   pub turn : t.turn ≡ settled_turn t.core next
   pub walk : Walk (scene_of x s l next) s.core t.core
-  pub ends : Ends (scene_of x s l next) t.core
+  pub ends : LastWords (scene_of x s l next) t.core
 
 -- each step is a chain of words, each where it may be done
 abbrev pub StepsAreWalks : Type 0
