@@ -15,6 +15,7 @@ pub mod LabelLemmas
 pub mod BarredSteps
 pub mod CameLemmas
 pub mod StrandLemmas
+pub mod WaitLemmas
 pub mod CountLemmas
 pub mod HolderLemmas
 pub mod WrittenLemmas
