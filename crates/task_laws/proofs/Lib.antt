@@ -16,6 +16,7 @@ pub mod BarredSteps
 pub mod CameLemmas
 pub mod StrandLemmas
 pub mod WaitLemmas
+pub mod SceneLemmas
 pub mod CountLemmas
 pub mod HolderLemmas
 pub mod WrittenLemmas
