@@ -39,7 +39,6 @@ use Rattle.task_machine.specs.declared.words.OwnEvent.{OwnEvent}
 use Rattle.task_machine.specs.declared.words.Status.{Status}
 use Rattle.task_rules.proofs.CancelLemmas.{CaseSays, case_says}
 use Rattle.task_rules.proofs.ChainLemmas.{join}
-use Rattle.task_rules.proofs.KeepWords.{same}
 use Rattle.task_rules.proofs.PlacingLemmas.{Shifted, placed, placing_shifted, shifted_after, shifted_explicit, shifted_made, shifted_task, shifts_shifted}
 use Rattle.task_rules.proofs.StandLemmas.{by_number, place_kept}
 use Rattle.task_rules.proofs.WalkMoves.{MayTake, call_settled_walks, checked_shifts, chosen_of, group_settled_walks, handed_on_shifts, moved, promoted_unless_shifts, shifted, stopped_shifts, taken_walks, wake_shifts, word}
@@ -135,7 +134,7 @@ some_same : {X : Type 0} (x y : X) → Some x ≡ Some y → x ≡ y
 some_same x y e = ap (λ o. unwrap_or o x) e
 
 -- what a gift may be: a task takes Cancelled only by callback, and a member is the chosen one
-gift_is : (a : Scene) (n : ℕ) (by : Bool) (y : ℕ) (ch : Choice) (g : Gift) → IsRunner a n → (by ≡ true → MayDeliver a (task_of n a.base)) → gift by (task_of n a.base) y (chosen n ch a.base) a.base ≡ Some g → MayTake a (task_of n a.base) g
+pub gift_is : (a : Scene) (n : ℕ) (by : Bool) (y : ℕ) (ch : Choice) (g : Gift) → IsRunner a n → (by ≡ true → MayDeliver a (task_of n a.base)) → gift by (task_of n a.base) y (chosen n ch a.base) a.base ≡ Some g → MayTake a (task_of n a.base) g
 unfolding gift
 gift_is a n by y ch g is delivers e = of_own (own_event_of (task_of n a.base) a.base) by refl e
   where
@@ -221,7 +220,7 @@ module _ {a : Scene} {b : Core} (n : ℕ) (is : IsRunner a n) where
       word (SetHowFar n (how_far.Calls sub)) (is, own (set_place n (place.Blocked sub) u) (shifted_after h (placing_shifted (Move n (place.Blocked sub)) u)))
       (moved (Move n (place.Blocked sub)) (Blocks sub leave (own u h) refl) (stopped_walks t c))
 
-  sync_sets_flag_walks : (m j : ℕ) (k : ExportKind) {t : Core} → Walk a b t → Walk a b (sync_sets_flag m j k t)
+  pub sync_sets_flag_walks : (m j : ℕ) (k : ExportKind) {t : Core} → Walk a b t → Walk a b (sync_sets_flag m j k t)
   sync_sets_flag_walks m j kind.Sync {t = t} c = word (SetDoNotSuspend j true) tt (word (SetSavedOwn m (Some (may_not_suspend j t))) tt c)
   sync_sets_flag_walks m j kind.Blocking c = c
   sync_sets_flag_walks m j kind.Stackful c = c
@@ -271,7 +270,7 @@ module _ {a : Scene} {b : Core} (n : ℕ) (is : IsRunner a n) where
 -- ---- A new call
 
 -- the record of a thread as it was made, but for its place and whose it is
-abbrev birth : Thread → Thread
+abbrev pub birth : Thread → Thread
 birth r = record {
   call = r.call;
   explicit = r.explicit;
@@ -286,10 +285,10 @@ birth r = record {
 }
 
 -- The call was just made with this goal, with its thread.
-record Born (m : ℕ) (g : Goal) (t : Core) : Type 0 where
-  thread : option_map birth (get t.threads m) ≡ Some (birth (new_thread m false script.Start [] None))
-  goal : goal_of m t ≡ g
-  made : t.made.threads ≡ m
+pub record Born (m : ℕ) (g : Goal) (t : Core) : Type 0 where
+  pub thread : option_map birth (get t.threads m) ≡ Some (birth (new_thread m false script.Start [] None))
+  pub goal : goal_of m t ≡ g
+  pub made : t.made.threads ≡ m
 
 born_read : {A : Type 0} (f : Thread → A) (none : A) → ((r : Thread) → f (birth r) ≡ f r) → (o : Option Thread) (r : Thread) → option_map birth o ≡ Some (birth r) → option_map_or f o none ≡ f r
 born_read f none same o r e = sym (at o) ∙ (ap (λ q. option_map_or f q none) e ∙ same r)
@@ -303,19 +302,19 @@ born_place_at None r e = absurd (subst T (ap (λ (o : Option Thread). is_none o)
 born_place_at (Some u) r e = ap (λ (o : Option Thread). option_map (λ (v : Thread). v.place) o) e
 
 module _ {m : ℕ} {g : Goal} {t : Core} (h : Born m g t) where
-  born_place : place_of m t ≡ Some place.New
+  pub born_place : place_of m t ≡ Some place.New
   born_place = born_place_at (get t.threads m) (new_thread m false script.Start [] None) h.thread
 
-  born_explicit : is_explicit m t ≡ false
+  pub born_explicit : is_explicit m t ≡ false
   born_explicit = born_read (λ r. r.explicit) false (λ r. refl) (get t.threads m) (new_thread m false script.Start [] None) h.thread
 
-  born_task : task_of m t ≡ m
+  pub born_task : task_of m t ≡ m
   born_task = born_read (λ r. r.call) 0 (λ r. refl) (get t.threads m) (new_thread m false script.Start [] None) h.thread
 
-  born_goal : goal_of (task_of m t) t ≡ g
+  pub born_goal : goal_of (task_of m t) t ≡ g
   born_goal = ap (λ (k : ℕ). goal_of k t) born_task ∙ h.goal
 
-call_born : (f : Caller) (e : Callee) (x : ExportKind) (g : Goal) (group : ℕ) (words : List ℕ) (s : Core) → Born (next_thread s) g (call_made f e x g group words s)
+pub call_born : (f : Caller) (e : Callee) (x : ExportKind) (g : Goal) (group : ℕ) (words : List ℕ) (s : Core) → Born (next_thread s) g (call_made f e x g group words s)
 unfolding call_made add_thread add_call
 call_born f e x g group words s =
     let m = next_thread s in
@@ -420,7 +419,7 @@ enter_gives n e k words s other =
 
 -- ---- What the rows read
 
-queued_made : (f : WorkCaller) (host : HostDef) (group : Option ℕ) (t : Core) → (work_queued f host group t).made.works ≡ t.made.works + 1
+pub queued_made : (f : WorkCaller) (host : HostDef) (group : Option ℕ) (t : Core) → (work_queued f host group t).made.works ≡ t.made.works + 1
 unfolding work_queued push_high add_work count_work
 queued_made f host group t = refl
 

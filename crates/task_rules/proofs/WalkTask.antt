@@ -21,7 +21,6 @@ use Rattle.task_machine.specs.declared.records.Thread.{Thread}
 use Rattle.task_machine.specs.declared.records.Turn.{Turn}
 use Rattle.task_machine.specs.declared.trap.Trap.{Trap}
 use Rattle.task_machine.specs.declared.words.OwnEvent.{OwnEvent}
-use Rattle.task_rules.proofs.KeepWords.{same}
 use Rattle.task_rules.proofs.StopLemmas.{find_passes}
 use Rattle.task_rules.proofs.PlacingLemmas.{Shifted, shifted_calls, shifted_task, shifts_shifted}
 use Rattle.task_rules.proofs.StandLemmas.{is_eq_of}
@@ -142,17 +141,17 @@ exit_returns : (n : ℕ) (w : Option ℕ) (s : Core) → returned_holder s (exit
 exit_returns n None s = refl
 exit_returns n (Some w) s = refl
 
-none_is_some : {X : Type 0} {A : Type 0} (x : X) → None ≡ Some x → A
+pub none_is_some : {X : Type 0} {A : Type 0} (x : X) → None ≡ Some x → A
 none_is_some {X = X} x h = absurd (subst T (ap (λ (o : Option X). is_none o) h) tt)
 
-one_runner : (n m : ℕ) → turn.Run n ≡ turn.Run m → n ≡ m
+pub one_runner : (n m : ℕ) → turn.Run n ≡ turn.Run m → n ≡ m
 one_runner n m e = ap runner e
   where
     runner : Turn → ℕ
     runner (turn.Run k) = k
     runner _ = 0
 
-not_main : {A : Type 0} (n : ℕ) → turn.Main ≡ turn.Run n → A
+pub not_main : {A : Type 0} (n : ℕ) → turn.Main ≡ turn.Run n → A
 not_main n e = absurd (subst T (ap is_main e) tt)
   where
     is_main : Turn → Bool
