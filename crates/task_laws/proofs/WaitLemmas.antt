@@ -95,7 +95,7 @@ module _ (a : Scene) where
   far_word (SetSavedOwn n b) s ok k = inl (far_same n (λ t. record t { saved_own = b }) (λ t. refl) k s)
   far_word (SetSavedCallee n b) s ok k = inl (far_same n (λ t. record t { saved_callee = b }) (λ t. refl) k s)
   far_word (NameThread i n) s ok k = inl (far_same n (λ t. record t { handle = Some (new_thread_handle i s) }) (λ t. refl) k (give_thread_handle i n s))
-  far_word (MakeThread t) s ok k = far_made t s (ap (λ (r : Thread). r.how_far) ok.1.1.1.1.1) k
+  far_word (MakeThread t) s ok k = far_made t s (ap (λ (r : Thread). r.how_far) ok.1.1.1.1.1.0) k
   far_word (MakeCall f e x g group words) s ok k = far_made _ s refl k
   far_word (RemoveThread n) s ok k = far_removed n s k
   far_word (Withdraw j) s ok k = far_removed j s k

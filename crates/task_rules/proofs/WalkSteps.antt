@@ -1,5 +1,5 @@
 -- Each step as a chain of words: host works, main, the loop and all turns.
-use Rattle.std.proofs.Common.{T, ap, ap₂, cond, inl, inr, refl, subst, suc, sym, take, ◌∙◌, ◌⊎◌}
+use Rattle.std.proofs.Common.{T, ap, ap₂, cond, inl, inr, length, refl, subst, suc, sym, take, ◌∙◌, ◌⊎◌}
 use Rattle.std.specs.Option.{option_map_or}
 use Rattle.std.specs.Prelude.{Bool, List, None, Option, Some, [], false, not, option_map, slice_set, true, unwrap_or, zero, ℕ, ◌+◌, ◌==◌, ◌∷◌, ◌≡◌}
 use Rattle.task_machine.proofs.CommuteLemmas.{change-change_same}
@@ -24,7 +24,7 @@ use Rattle.task_machine.specs.declared.records.Turn.{Turn}
 use Rattle.task_machine.specs.declared.records.Why.{Why}
 use Rattle.task_machine.specs.declared.records.Work.{Work}
 use Rattle.task_machine.specs.declared.records.WorkCaller.{WorkCaller}
-use Rattle.task_machine.specs.declared.scenario.MainOp.{MainOp}
+use Rattle.task_machine.specs.declared.scenario.MainOpDef.{MainOpDef}
 use Rattle.task_machine.specs.declared.trap.Trap.{Trap}
 use Rattle.task_machine.specs.declared.words.Mark.{Mark}
 use Rattle.task_machine.specs.declared.words.Status.{Status}
@@ -39,7 +39,7 @@ use Rattle.task_rules.specs.Calls.{call_made, next_thread}
 use Rattle.task_rules.specs.Cancels.{aborted_phase}
 use Rattle.task_rules.specs.Chains.{LastWords, NoWord, Shifts, StepsAreWalks, Walk, is_take}
 use Rattle.task_rules.specs.Laws.{is_free}
-use Rattle.task_rules.specs.MainOps.{Abort, Answer, Answers, Await, Does, Finish, MainAct, MainProgress, Pends, Quiet, Ready, Spawn, Start, act_of, advanced_main, finish_act, finish_result, has_interesting, is_complete, is_ready_for_call, line_of, main_aborted, main_row, main_spawned, main_started, op_at, start_act, start_refusal, unless_pending}
+use Rattle.task_rules.specs.MainOps.{Abort, Answer, Answers, Await, Does, Finish, MainAct, MainProgress, Pends, Quiet, Ready, Spawn, Start, act_of, advanced_main, finish_act, finish_result, has_interesting, is_complete, is_ready_for_call, line_of, main_aborted, main_row, main_spawned, main_started, may_act, op_at, start_act, start_refusal, unless_pending}
 use Rattle.task_rules.specs.Once.{begun_holder}
 use Rattle.task_rules.specs.OpParts.{callee_of_main_op}
 use Rattle.task_rules.specs.Outcome.{main_outcome, outcome_of_label}
@@ -47,7 +47,7 @@ use Rattle.task_rules.specs.Progress.{Fails, Goes, Never, Ordered, Progress, Sto
 use Rattle.task_rules.specs.Scenes.{Scene, base_at, base_without, runner_at, thread_of_entry}
 use Rattle.task_rules.specs.Scripts.{export_kind, host_at, op_of}
 use Rattle.task_rules.specs.Stalled.{Setting, is_unended_take, may_deadlock}
-use Rattle.task_rules.specs.Step.{DeadlockStep, EmptyFor, FuturesStep, MainProgresses, MainStep, OpenProgresses, Polled, Progresses, RestStep, ScriptStep, Step, TakeStep, TurnStep, did, entry_number, op_row, struck, trap_label}
+use Rattle.task_rules.specs.Step.{DeadlockStep, EmptyFor, FuturesStep, MainProgresses, MainStep, OpenAct, OpenProgresses, Polled, Progresses, RestStep, ScriptStep, Step, TakeStep, TurnStep, did, entry_number, op_row, struck, trap_label}
 use Rattle.task_rules.specs.Takes.{host_done, host_result, host_status, popped, pushed, take_row}
 use Rattle.task_rules.specs.Turns.{at_turn, goes_to, settled_turn}
 use Rattle.task_rules.specs.Words.{AddGroup, EndWork, FinishWork, MakeCall, Pend, Pop, Put, QueueWork, RemoveThread, SetPhase, SetRegister, SetTrapped, TakeHost, TakePush, TakeResult}
@@ -68,7 +68,7 @@ use Rattle.task_machine.specs.declared.records.Subtask.TheVariants as subtask
 use Rattle.task_machine.specs.declared.records.Turn.TheVariants as turn
 use Rattle.task_machine.specs.declared.records.Why.TheVariants as why
 use Rattle.task_machine.specs.declared.records.WorkCaller.TheVariants as work_caller
-use Rattle.task_machine.specs.declared.scenario.MainOp.TheVariants as main_op
+use Rattle.task_machine.specs.declared.scenario.MainOpDef.TheVariants as main_op
 use Rattle.task_machine.specs.declared.words.Mark.TheVariants as mark
 use Rattle.task_machine.specs.declared.words.Phase.TheVariants as phase
 
@@ -375,12 +375,12 @@ module _ (x : Setting) (s : State) (l : Label) where
   answers_here : (u : Turn) (v : ℕ) (t : State) → l ≡ label.Main (main_label.Answer v) → t ≡ goes_to s s.core turn.Over → WalkedBy (scene_at u None) s.core t
   answers_here u v t is at = landed (scene_at u None) s.core s s.core s.main turn.Over t at (main_here u turn.Over (main_label.Answer v) s.core is (inr refl) (λ j f. not_over j f) NoWord)
 
-  main_progresses_walk : (u : Turn) (p : MainPlace) (o : MainOp) (q : MainProgress) (t : State) → LeadsMain u q → MainProgresses s p o q l t → WalkedBy (scene_at u None) s.core t
+  main_progresses_walk : (u : Turn) (p : MainPlace) (o : MainOpDef) (q : MainProgress) (t : State) → LeadsMain u q → MainProgresses s p o q l t → WalkedBy (scene_at u None) s.core t
   main_progresses_walk u p o (Does k new) t c is = does_here u (Scripted (advanced_main o k p)) k new t c is.0 is.1
   main_progresses_walk u p o Pends t c is = pends_here u t is.0 is.1
   main_progresses_walk u p o (Answers v) t c is = answers_here u v t is.0 is.1
 
-  script_call : (u : Turn) (p : MainPlace) (o : MainOp) → s.main ≡ Scripted p → op_at x.script p ≡ Some o → (e : Callee) (words : List ℕ) → act_of p o ≡ Start e words → MayCall (scene_at u None turn.Main) caller.Main e (s.core.made.groups + 1) (add_group s.core)
+  script_call : (u : Turn) (p : MainPlace) (o : MainOpDef) → s.main ≡ Scripted p → op_at x.script p ≡ Some o → (e : Callee) (words : List ℕ) → act_of p o ≡ Start e words → MayCall (scene_at u None turn.Main) caller.Main e (s.core.made.groups + 1) (add_group s.core)
   unfolding add_group
   script_call u p o scripted is e words at = ByScript p o scripted is (names o at) refl refl
     where
@@ -388,7 +388,7 @@ module _ (x : Setting) (s : State) (l : Label) where
       is_start_act (Start f ws) = Some f
       is_start_act _ = None
 
-      names : (q : MainOp) → act_of p q ≡ Start e words → callee_of_main_op q ≡ Some e
+      names : (q : MainOpDef) → act_of p q ≡ Start e words → callee_of_main_op q ≡ Some e
       names (main_op.Start f xs) h = ap is_start_act h
       names (main_op.Finish k r) h = ap is_start_act h
       names (main_op.Spawn k) h = ap is_start_act h
@@ -398,7 +398,7 @@ module _ (x : Setting) (s : State) (l : Label) where
       names (main_op.Ready f) h = ap is_start_act h
       names (main_op.Answer v) h = ap is_start_act h
 
-  script_step_walks : (u : Turn) (p : MainPlace) (o : Option MainOp) (t : State) → s.main ≡ Scripted p → op_at x.script p ≡ o → ScriptStep x s p o l t → WalkedBy (scene_at u None) s.core t
+  script_step_walks : (u : Turn) (p : MainPlace) (o : Option MainOpDef) (t : State) → s.main ≡ Scripted p → op_at x.script p ≡ o → ScriptStep x s p o l t → WalkedBy (scene_at u None) s.core t
   script_step_walks u p None t scripted at is = pends_here u t is.0 is.1
   script_step_walks u p (Some o) t scripted at is = main_progresses_walk u p o (main_row x.component (line_of p o) s.core (act_of p o)) t (main_row_leads u (line_of p o) (act_of p o) (λ e words h. script_call u p o scripted at e words h)) is
 
@@ -407,9 +407,9 @@ module _ (x : Setting) (s : State) (l : Label) where
   open_progresses_walk u Pends t c is = absurd is
   open_progresses_walk u (Answers v) t c is = answers_here u v t is.0 is.1
 
-  open_act_walks : (u : Turn) (t : State) → s.main ≡ Unscripted → (k : ℕ) × ((act : MainAct) × OpenProgresses s (main_row x.component k s.core act) l t) → WalkedBy (scene_at u None) s.core t
+  open_act_walks : (u : Turn) (k : ℕ) (act : MainAct) (t : State) → s.main ≡ Unscripted → OpenAct x s k act l t → WalkedBy (scene_at u None) s.core t
   unfolding add_group
-  open_act_walks u t open_main h = open_progresses_walk u (main_row x.component h.0 s.core h.1.0) t (main_row_leads u h.0 h.1.0 (λ e words at. ByProgram open_main refl refl)) h.1.1
+  open_act_walks u k act t open_main h = open_progresses_walk u (main_row x.component k s.core act) t (main_row_leads u k act (λ e words at. ByProgram (length words) open_main (sym (ap (λ y. may_act x.component s.core y) at) ∙ h.0) refl refl)) h.1
 
   -- ---- Works
 
@@ -494,7 +494,7 @@ run_walks x s n l t is =
 main_step_walks : (x : Setting) (s : State) (l : Label) (u : Turn) (m : Main) (t : State) → s.main ≡ m → MainStep x s m l t → WalkedBy (scene_at x s l u None) s.core t
 main_step_walks x s l u (Scripted p) t at is = script_step_walks x s l u p (op_at x.script p) t at refl is
 main_step_walks x s (label.Loop loop_label.MainPends) u Unscripted t at is = pends_here x s (label.Loop loop_label.MainPends) u t refl is
-main_step_walks x s l u Unscripted t at is = open_act_walks x s l u t at is
+main_step_walks x s l u Unscripted t at is = open_act_walks x s l u is.0 is.1.0 t at is.1.1
 
 -- the scene of the step, at its turn
 abbrev scene_at_turn : Setting → State → Label → Turn → Turn → Scene

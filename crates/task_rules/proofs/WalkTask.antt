@@ -409,7 +409,7 @@ module _ (x : Setting) (main : Main) (s : Core) (n : ℕ) (l : Label) (next : Tu
 
   blocking_exit_row_leads : (w : Option ℕ) → is_explicit n s ≡ false → kind_of (task_of n s) s ≡ kind.Blocking → is_direct (goal_of (task_of n s) s) ≡ false → Leads a s (blocking_exit_row n w s)
   blocking_exit_row_leads w implicit kind direct =
-      trap_if_leads a s (not (passes_after_return (instance_of n s) (task_of n s) (held_by_flag (instance_of n s) s) s)) trap.CannotBlockSyncTask _ (λ e.
+      trap_if_leads a s (not (passes_after_return n w s)) trap.CannotBlockSyncTask _ (λ e.
       may_leads a s (may_tell (task_of n s) w s) _ (λ may order.
       gone_here x main s n l next (exit_label n w) (blocking_exits n w order s) (exit_quiet n w) (blocking_exits_gone n w order s) (λ is leave.
       let i = instance_of n s in
