@@ -16,5 +16,10 @@ pub mod BarredRows
 pub mod BarredTakes
 pub mod LabelLemmas
 pub mod BarredSteps
+pub mod CameLemmas
+pub mod StrandLemmas
+pub mod WaitLemmas
+pub mod SceneLemmas
+pub mod CountLemmas
 pub mod HolderLemmas
 pub mod WrittenLemmas
