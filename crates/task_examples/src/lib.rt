@@ -25,5 +25,6 @@ pub mod sets;
 pub mod strands;
 pub mod subtasks;
 pub mod threads;
+pub mod unplaced;
 pub mod wakes;
 pub mod wrong;

@@ -788,7 +788,7 @@ module _ (x : Setting) (main : Main) (s : Core) (n : ℕ) (l : Label) (next : Tu
       trap_if_leads a s (not (fits 2 s)) trap.TableFull _ (λ e.
       trap_if_leads a s (at_handle_limit s) trap.HandleLimit _ (λ f.
       go _ (thread_made n r y v s) refl (assigned_walks n refl r (new_thread_handle (instance_of n s) s) (word (NameThread (instance_of n s) (next_thread s)) tt
-      (word (MakeThread (new_thread (task_of n s) true (script.Slot y) (registers_for (v ∷ [])) None)) (n, (refl, (refl, (y, (v, refl))))) NoWord)))))
+      (word (MakeThread (new_thread (task_of n s) true (script.Slot y) (registers_for (v ∷ [])) None)) (n, (refl, (refl, (y, (v, (refl, refl)))))) NoWord)))))
 
   halted_walks : (h : Halt) (t : Core) → Leaves a n → Walk a s t → Walk a s (halted h n t)
   unfolding halted

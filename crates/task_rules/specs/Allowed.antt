@@ -181,7 +181,7 @@ MayCome a n h s = IsRunner a n
 
 -- a thread beside the first one of its task, by an op that names a script
 abbrev pub MayMake : Scene → Thread → Core → Type 0
-MayMake a t s = (n : ℕ) × (IsRunner a n × ((s.made.threads ≡ a.base.made.threads) × ((x : ℕ) × ((v : ℕ) × (t ≡ new_thread (task_of n a.base) true (script.Slot x) (registers_for (v ∷ [])) None)))))
+MayMake a t s = (n : ℕ) × (IsRunner a n × ((s.made.threads ≡ a.base.made.threads) × ((x : ℕ) × ((v : ℕ) × ((t ≡ new_thread (task_of n a.base) true (script.Slot x) (registers_for (v ∷ [])) None) × (s.calls ≡ a.base.calls))))))
 
 -- Who is gone.
 pub data MayGo (a : Scene) (n : ℕ) : Type 0 where
