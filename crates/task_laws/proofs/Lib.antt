@@ -21,6 +21,7 @@ pub mod StrandLemmas
 pub mod WaitLemmas
 pub mod SceneLemmas
 pub mod CountLemmas
+pub mod HousedLemmas
 pub mod HolderLemmas
 pub mod WrittenLemmas
 pub mod OnceLemmas
