@@ -23,7 +23,6 @@ use Rattle.task_rules.specs.Once.{returned_holder, returns_at_exit}
 use Rattle.task_rules.specs.Progress.{Fails, Goes, Never, Ordered, Progress, Stops, Traps, may, or_never, or_trap, trap_if}
 use Rattle.task_rules.specs.Run.{opens}
 use Rattle.task_rules.specs.Scripts.{script_of, value_of}
-use Rattle.task_rules.specs.Takes.{take_holds}
 use Rattle.task_rules.specs.Task.{task_cancel_done, dec_from, dec_row, inc_row, dec_lowers, dec_opens, inc_raises, ret_bad_row, ret_done, ret_row, task_cancel_row, task_row}
 use Rattle.task_machine.specs.declared.records.CallEnd.TheVariants as call_end
 use Rattle.task_machine.specs.declared.records.Caller.TheVariants as caller

@@ -9,7 +9,7 @@ use Rattle.task_machine.specs.Core.{Core}
 use Rattle.task_machine.specs.Labels.{Choice, join_label, wait_label}
 use Rattle.task_machine.specs.Maps.{get}
 use Rattle.task_machine.specs.Moves.{Gift, NoGift, gift, may_hand_on, passes_check}
-use Rattle.task_machine.specs.Read.{at_handle_limit, call_instance, event_of, fits, foot_of, has_ended, has_member, has_waiters, how_far_of, instance_of, is_async_lifted, is_at, is_callback_yield, is_joined, is_watched, join_of, may_not_suspend, new_handle, new_thread_handle, phase_of, registers_of, result_of, saved_callee_of, set_at, subtask_at, subtask_ended, task_of, thread_at, thread_group, thread_handle_of, undelivered_end, was_cancelled, was_started}
+use Rattle.task_machine.specs.Read.{at_handle_limit, call_instance, event_of, fits, foot_of, has_member, has_waiters, how_far_of, instance_of, is_async_lifted, is_joined, is_watched, join_of, may_not_suspend, new_handle, new_thread_handle, phase_of, registers_of, result_of, saved_callee_of, set_at, subtask_at, subtask_ended, task_of, thread_at, thread_group, thread_handle_of, undelivered_end, was_cancelled}
 use Rattle.task_machine.specs.Statuses.{packed, status_code}
 use Rattle.task_machine.specs.Write.{set_join}
 use Rattle.task_machine.specs.declared.component.Callee.{Callee}
@@ -29,11 +29,10 @@ use Rattle.task_machine.specs.declared.records.Why.{Why}
 use Rattle.task_machine.specs.declared.words.Given.{Given}
 use Rattle.task_machine.specs.declared.words.Status.{Status}
 use Rattle.task_rules.specs.Calls.{AtOnce, Failing, FirstPoll, Later, answered, call_stops, call_answered, call_begins, call_sync_stops, call_host_polled, call_host_row, call_pending, call_returned, call_row, call_status, call_sync_begins, call_sync_host_polled, call_sync_host_row, call_sync_row, call_sync_status, call_queues, call_resumes, enter_row, enter_runs, first_poll, sync_sets_flag, host_answered, call_sync_host_stops, host_pending, host_ready, new_thread, next_thread, next_work, put_back, settle_group_of, status_found, call_clears_flag, with_handle, with_thread_handle, work_answered, work_deleted, work_group, work_value}
-use Rattle.task_rules.specs.Cancels.{AlreadyEnded, CallbackWaits, CallbackYields, CancelCase, OtherwiseRuns, StartNotRun, cancel_case, Async, Mode, Sync, aborted_phase, after_cancel, cancel_asks, cancel_stops, behind_switch, blocked_code, cancel_by_end, cancel_wakes_callback, cancel_found, cancel_guest, cancel_host, cancel_resumed, cancel_row, cancel_subtask, drop_found, drop_row, dropped, cancel_takes_end, cancel_ended_row, cancel_aborts_host, is_callback_wait, cancel_goes_behind, cancel_unended_row, pauses, cancel_withdraws, subtask_instance, subtask_row, subtask_settled, cancel_promotes_yield}
+use Rattle.task_rules.specs.Cancels.{AlreadyEnded, CallbackWaits, CallbackYields, CancelCase, OtherwiseRuns, StartNotRun, cancel_case, Async, Mode, Sync, aborted_phase, after_cancel, cancel_asks, cancel_stops, behind_switch, blocked_code, cancel_by_end, cancel_wakes_callback, cancel_found, cancel_guest, cancel_host, cancel_resumed, cancel_row, cancel_subtask, drop_found, drop_row, dropped, cancel_takes_end, cancel_ended_row, cancel_aborts_host, cancel_goes_behind, cancel_unended_row, pauses, cancel_withdraws, subtask_instance, subtask_row, subtask_settled, cancel_promotes_yield}
 use Rattle.task_rules.specs.Progress.{Goes, Progress, Stops, may, or_never, or_trap, trap_if}
 use Rattle.task_rules.specs.Scripts.{export_kind, host_at, registers_for, slot_at, value_of, values_in}
 use Rattle.task_rules.specs.Sets.{wait_stops_checked, chosen, finds_nothing, given_code, given_handle, given_result, handed_out, join_done, join_row, join_to, joined, joins, may_wake_new, poll_row, poll_takes, received, received_woken, set_drop_found, set_drop_row, set_dropped, set_given, set_made, set_new_row, set_row, wait_begins, wait_goes_on, wait_row, wait_takes, wait_stops, wakes_joined}
-use Rattle.task_rules.specs.Takes.{start_begins}
 use Rattle.task_rules.specs.Threads.{Halt, Suspension, Yielding, by_how_far, halt_row, halted, halted_checked, halted_promoting, halted_resuming, halting, halts, has_yielded, resume_later_found, resume_later_row, resume_why, resumed_later, then_promote, then_promote_found, then_promote_row, then_resume_found, then_resume_row, thread_index_row, thread_made, thread_new_label, thread_new_row, thread_row}
 use Rattle.task_machine.specs.declared.label.CallLabel.TheVariants as call_label
 use Rattle.task_machine.specs.declared.op.CallOp.TheVariants as call_op

@@ -4,7 +4,7 @@ use Rattle.std.specs.Prelude.{Bool, List, None, Option, Some, false, is_some, na
 use Rattle.task_machine.specs.Core.{Core}
 use Rattle.task_machine.specs.Labels.{Choice, exit_label, join_label, ret_label, task_cancel_label, wait_label}
 use Rattle.task_machine.specs.Moves.{Gift, NoGift, checked, gift, may_hand_on, passes_check}
-use Rattle.task_machine.specs.Read.{at_handle_limit, backpressure_of, cancel_was_delivered, event_of, fits, foot_of, goal_of, has_ended, has_member, has_waiters, how_far_of, instance_of, is_async_lifted, is_at, is_callback_yield, is_direct, is_explicit, is_joined, is_watched, join_of, kind_of, new_handle, register_of, registers_of, set_at, subtask_at, subtask_ended, task_of, thread_at, thread_handle_of, undelivered_end, under_of, was_cancelled, was_started, word_of}
+use Rattle.task_machine.specs.Read.{at_handle_limit, backpressure_of, cancel_was_delivered, event_of, fits, foot_of, goal_of, has_ended, has_member, has_waiters, how_far_of, instance_of, is_async_lifted, is_direct, is_explicit, is_joined, is_watched, join_of, kind_of, new_handle, register_of, registers_of, set_at, subtask_at, subtask_ended, task_of, thread_at, thread_handle_of, undelivered_end, under_of, was_cancelled, word_of}
 use Rattle.task_machine.specs.Statuses.{packed, status_code}
 use Rattle.task_machine.specs.Write.{set_join}
 use Rattle.task_machine.specs.declared.component.Callee.{Callee}
@@ -26,14 +26,13 @@ use Rattle.task_machine.specs.declared.trap.Trap.{Trap}
 use Rattle.task_machine.specs.declared.words.Given.{Given}
 use Rattle.task_machine.specs.declared.words.Status.{Status}
 use Rattle.task_rules.specs.Calls.{AtOnce, Failing, FirstPoll, Later, call_begins, call_sync_stops, call_host_polled, call_host_row, call_pending, call_row, call_status, call_sync_begins, call_sync_host_polled, call_sync_host_row, call_sync_row, call_sync_status, call_queues, call_resumes, enter_row, enter_runs, first_poll, call_sync_host_stops, host_pending, next_thread, next_work, status_found}
-use Rattle.task_rules.specs.Cancels.{AlreadyEnded, CallbackWaits, CallbackYields, CancelCase, OtherwiseRuns, StartNotRun, cancel_case, Async, Mode, Sync, after_cancel, cancel_asks, cancel_stops, blocked_code, cancel_by_end, cancel_found, cancel_guest, cancel_host, cancel_label, cancel_resumed, cancel_row, cancel_subtask, drop_found, drop_row, dropped, cancel_ended_row, cancel_aborts_host, is_callback_wait, cancel_unended_row, pauses, subtask_row}
+use Rattle.task_rules.specs.Cancels.{AlreadyEnded, CallbackWaits, CallbackYields, CancelCase, OtherwiseRuns, StartNotRun, cancel_case, Async, Mode, Sync, after_cancel, cancel_asks, cancel_stops, blocked_code, cancel_by_end, cancel_found, cancel_guest, cancel_host, cancel_label, cancel_resumed, cancel_row, cancel_subtask, drop_found, drop_row, dropped, cancel_ended_row, cancel_aborts_host, cancel_unended_row, pauses, subtask_row}
 use Rattle.task_rules.specs.Data.{data_row, skip_row}
 use Rattle.task_rules.specs.Ends.{blocking_exit_row, blocking_exits, code_row, direct_exit_row, direct_exit_to, direct_exits, exit_row, exit_row_for, code_exits, has_event_for, held_by_flag, implicit_exit_row, code_kind_row, kind_exit_row, thread_exit_row, leaves_no_result, exit_stops, may_tell, passes_after_return, passes_after_stop, sync_exit_row, sync_exits, code_wait_row}
 use Rattle.task_rules.specs.Progress.{Fails, Goes, Never, Ordered, Progress, Stops, Traps, may, or_never, or_trap, trap_if}
 use Rattle.task_rules.specs.Scripts.{export_kind, host_at, op_of, slot_at, value_of, values_in}
 use Rattle.task_rules.specs.Sets.{wait_stops_checked, chosen, finds_nothing, handed_out, join_done, join_row, join_to, joined, may_wake_new, poll_row, poll_takes, received_woken, set_drop_found, set_drop_row, set_dropped, set_made, set_new_row, set_row, wait_begins, wait_goes_on, wait_row, wait_takes}
 use Rattle.task_rules.specs.Step.{did, op_row}
-use Rattle.task_rules.specs.Takes.{take_holds, start_begins}
 use Rattle.task_rules.specs.Task.{task_cancel_done, dec_from, dec_row, inc_row, inc_raises, ret_bad_row, ret_done, ret_row, task_cancel_row, task_row}
 use Rattle.task_rules.specs.Threads.{Halt, Suspension, Yielding, by_how_far, halt_row, halted_resuming, halting, halts, has_yielded, resume_later_found, resume_later_row, resume_why, resumed_later, then_promote, then_promote_found, then_promote_row, then_resume_found, then_resume_row, thread_index_row, thread_made, thread_new_label, thread_new_row, thread_row}
 use Rattle.task_machine.specs.declared.label.CallLabel.TheVariants as call_label

@@ -10,7 +10,7 @@ use Rattle.task_laws.proofs.SoundWords.{behind_sound, call_settled_sound, checke
 use Rattle.task_machine.specs.Core.{Core}
 use Rattle.task_machine.specs.Labels.{Choice, join_label, wait_label}
 use Rattle.task_machine.specs.Moves.{Gift, MemberGift, NoGift, gift, gift_after_own, may_hand_on, member_gift, own_gift, passes_check}
-use Rattle.task_machine.specs.Read.{at_handle_limit, call_instance, event_of, fits, foot_of, has_ended, has_member, has_ready_member, has_waiters, how_far_of, instance_of, is_async_lifted, is_at, is_callback, is_callback_yield, is_direct, is_explicit, is_joined, is_ready_member, is_watched, join_of, may_not_suspend, new_handle, new_thread_handle, own_event_of, phase_of, place_of, registers_of, result_of, saved_callee_of, set_at, subtask_at, subtask_ended, task_of, thread_at, thread_group, thread_handle_of, undelivered_end, was_cancelled, was_started}
+use Rattle.task_machine.specs.Read.{at_handle_limit, call_instance, event_of, fits, foot_of, has_ended, has_member, has_ready_member, has_waiters, how_far_of, instance_of, is_async_lifted, is_at, is_callback, is_direct, is_explicit, is_joined, is_ready_member, is_watched, join_of, may_not_suspend, new_handle, new_thread_handle, own_event_of, phase_of, place_of, registers_of, result_of, saved_callee_of, set_at, subtask_at, subtask_ended, task_of, thread_at, thread_group, thread_handle_of, undelivered_end, was_cancelled, was_started}
 use Rattle.task_machine.specs.Statuses.{packed, status_code}
 use Rattle.task_machine.specs.Write.{on_call, set_join, set_own_event}
 use Rattle.task_machine.specs.declared.component.Callee.{Callee}
@@ -38,7 +38,6 @@ use Rattle.task_rules.specs.Cancels.{AlreadyEnded, CallbackWaits, CallbackYields
 use Rattle.task_rules.specs.Progress.{Goes, Progress, Stops, may, or_never, or_trap, trap_if}
 use Rattle.task_rules.specs.Scripts.{export_kind, host_at, registers_for, slot_at, value_of, values_in}
 use Rattle.task_rules.specs.Sets.{wait_stops_checked, chosen, finds_nothing, given_code, given_handle, given_result, handed_out, join_done, join_row, join_to, joined, joins, may_wake_new, poll_row, poll_takes, received, received_woken, set_drop_found, set_drop_row, set_dropped, set_given, set_made, set_new_row, set_row, wait_begins, wait_goes_on, wait_row, wait_takes, wait_stops, wakes_joined}
-use Rattle.task_rules.specs.Takes.{start_begins}
 use Rattle.task_rules.specs.Threads.{Halt, Suspension, Yielding, by_how_far, halt_row, halted, halted_checked, halted_promoting, halted_resuming, halting, halts, has_yielded, resume_at, resume_later_found, resume_later_row, resume_why, resumed_later, then_promote, then_promote_found, then_promote_row, then_resume_found, then_resume_row, thread_index_row, thread_made, thread_new_label, thread_new_row, thread_row}
 use Rattle.task_machine.specs.declared.label.CallLabel.TheVariants as call_label
 use Rattle.task_machine.specs.declared.op.CallOp.TheVariants as call_op

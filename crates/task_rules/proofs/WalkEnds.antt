@@ -11,13 +11,11 @@ use Rattle.task_machine.specs.declared.records.Call.{Call}
 use Rattle.task_machine.specs.declared.records.CallEnd.{CallEnd}
 use Rattle.task_machine.specs.declared.records.Caller.{Caller}
 use Rattle.task_machine.specs.declared.records.Goal.{Goal}
-use Rattle.task_rules.proofs.ChainLemmas.{join}
 use Rattle.task_rules.proofs.WalkMoves.{Chosen, ToldTo, told_walks, word}
 use Rattle.task_rules.specs.Allowed.{MayEnd}
 use Rattle.task_rules.specs.Chains.{Walk}
 use Rattle.task_rules.specs.Ends.{cancelled, is_told, result_given, returned, told}
 use Rattle.task_rules.specs.Scenes.{Scene}
-use Rattle.task_rules.specs.Sets.{chosen}
 use Rattle.task_rules.specs.Words.{GiveResult, SetEnd, SetRegister, SetResult}
 use Rattle.task_machine.specs.declared.records.CallEnd.TheVariants as call_end
 use Rattle.task_machine.specs.declared.records.Caller.TheVariants as caller

@@ -1,12 +1,12 @@
 -- The takings of entries as chains of words.
-use Rattle.std.proofs.Common.{T, ap, cond, inl, inr, refl, subst, sym, take, ◌∙◌}
+use Rattle.std.proofs.Common.{T, ap, cond, inl, inr, refl, subst, sym, ◌∙◌}
 use Rattle.std.specs.Option.{option_map_or}
 use Rattle.std.specs.Prelude.{Bool, None, Option, Some, false, if◌then◌else◌, is_none, is_some, not, option_map, true, unwrap_or, ℕ, ◌&&◌, ◌==◌, ◌||◌, ◌≡◌}
 use Rattle.task_machine.proofs.MapLemmas.{change-field, get-change_same}
 use Rattle.task_machine.specs.Core.{Core, Main}
 use Rattle.task_machine.specs.Labels.{Choice, event_label, held_label, host_label, take_label}
 use Rattle.task_machine.specs.Maps.{change, get}
-use Rattle.task_machine.specs.Moves.{Gift, MemberGift, NoGift, OwnGift, ended, gift, given_for, handed_on, may_hand_on, own_gift_of, own_gift_only, own_or_nothing, published, stopped, taken}
+use Rattle.task_machine.specs.Moves.{Gift, MemberGift, NoGift, OwnGift, gift, given_for, handed_on, may_hand_on, own_gift_of, own_gift_only, own_or_nothing, published, stopped, taken}
 use Rattle.task_machine.specs.Read.{admits, at_handle_limit, backpressure_of, call_instance, foot_of, instance_of, is_direct, is_explicit, is_guest_call, is_holding, is_sync, is_waiting_on, kind_of, may_not_enter, new_thread_handle, no_callee, place_of, task_of, was_started}
 use Rattle.task_machine.specs.Write.{give_thread_handle, on_call, on_instance, on_thread, set_do_not_enter, set_event, set_how_far, set_place, set_position, set_script, set_started, set_starting_published, set_thread_handle, taking}
 use Rattle.task_machine.specs.declared.component.Callee.{Callee}

@@ -1,5 +1,5 @@
 -- The rows of ops as chains of words: what a row owes, the ops on registers and words, and the ops that end a task or an activation.
-use Rattle.std.proofs.Common.{T, ap, cond, inl, inr, length, refl, subst, suc, sym, take, ◌-◌, ◌∙◌, ◌⊎◌}
+use Rattle.std.proofs.Common.{T, ap, cond, inl, inr, length, refl, subst, suc, sym, ◌-◌, ◌∙◌, ◌⊎◌}
 use Rattle.std.specs.Option.{option_map_or}
 use Rattle.std.specs.Prelude.{Bool, List, None, Option, Some, false, if◌then◌else◌, is_none, min, nat_le, nat_lt, not, option_map, true, unwrap_or, zero, ℕ, ◌%◌, ◌&&◌, ◌*◌, ◌+◌, ◌/◌, ◌==◌, ◌≡◌}
 use Rattle.task_machine.proofs.CommuteLemmas.{get-change}
@@ -37,9 +37,7 @@ use Rattle.task_rules.specs.Outcome.{outcome_of_label}
 use Rattle.task_rules.specs.Progress.{Fails, Goes, Never, Ordered, Progress, Stops, Traps, may, or_never, or_trap, trap_if}
 use Rattle.task_rules.specs.Scenes.{Scene, op_in}
 use Rattle.task_rules.specs.Scripts.{script_of, value_of}
-use Rattle.task_rules.specs.Sets.{chosen}
 use Rattle.task_rules.specs.Stalled.{Setting}
-use Rattle.task_rules.specs.Takes.{delivered}
 use Rattle.task_rules.specs.Task.{dec_from, dec_lowers, dec_opens, inc_raises, inc_row, ret_done, ret_row, task_cancel_done, task_cancel_row, task_row}
 use Rattle.task_rules.specs.Words.{Move, Put, SetBackpressure, SetDoNotEnter, SetDoNotSuspend, SetEnd, SetHowFar, SetOwnEvent, SetPosition, SetRegister, SetSavedCallee, SetWord}
 use Rattle.task_machine.specs.declared.component.ExportKind.TheVariants as kind
