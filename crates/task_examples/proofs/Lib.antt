@@ -11,6 +11,7 @@ pub mod ThreadsShown
 pub mod StrandsShown
 pub mod ChecksShown
 pub mod SubtasksShown
+pub mod UnplacedShown
 pub mod Generated1Shown
 pub mod Generated2Shown
 pub mod Generated3Shown

@@ -12,6 +12,7 @@ pub mod Threads
 pub mod Strands
 pub mod Checks
 pub mod Subtasks
+pub mod Unplaced
 pub mod Generated1
 pub mod Generated2
 pub mod Generated3

@@ -22,4 +22,5 @@ pub mod sets;
 pub mod strands;
 pub mod subtasks;
 pub mod threads;
+pub mod unplaced;
 pub mod wakes;

@@ -13,6 +13,9 @@ pub mod BarredRows
 pub mod BarredTakes
 pub mod LabelLemmas
 pub mod BarredSteps
+pub mod CameLemmas
+pub mod StrandLemmas
+pub mod CountLemmas
 pub mod HolderLemmas
 pub mod WrittenLemmas
 pub mod SpunFields

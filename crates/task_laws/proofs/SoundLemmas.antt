@@ -3,6 +3,7 @@ use Rattle.std.proofs.Common.{T, ap, arith, cond, eqb→eq, le_refl, le_trans, r
 use Rattle.std.specs.Option.{option_map_or}
 use Rattle.std.specs.Prelude.{Bool, List, None, Option, Some, false, is_none, is_some, option_and_then, true, ℕ, ◌+◌, ◌==◌, ◌≡◌, ◌≤◌}
 use Rattle.task_laws.proofs.EachLemmas.{Each, change_none, change_read, each_change, each_get, each_insert, each_map, each_remove}
+pub use Rattle.task_laws.specs.Order.{is_delivered, is_delivery}
 use Rattle.task_laws.specs.Rises.{CallsRise, Rises, rank, status_before_end, status_with}
 use Rattle.task_machine.proofs.MapLemmas.{get-insert_other}
 use Rattle.task_machine.specs.Core.{Core}
@@ -30,17 +31,6 @@ use Rattle.task_machine.specs.declared.records.Script.TheVariants as script
 use Rattle.task_machine.specs.declared.records.Why.TheVariants as why
 
 -- ---- What is kept
-
-abbrev pub is_delivery : Why → Bool
-is_delivery (why.Delivery d) = true
-is_delivery _ = false
-
--- the thread waits by callback, or a delivery for it stands at a mark or is held
-abbrev pub is_delivered : Place → Bool
-is_delivered (place.Ready m w) = is_delivery w
-is_delivered (place.Held w) = is_delivery w
-is_delivered (place.Waiting x by_callback) = by_callback
-is_delivered _ = false
 
 abbrev pub kind_in : Records Call → ℕ → ExportKind
 kind_in calls k = option_map_or (λ c. c.kind) (get calls k) kind.Callback

@@ -30,14 +30,15 @@ use Rattle.task_machine.specs.declared.op.TaskOp.TheVariants as task_op
 use Rattle.task_machine.specs.declared.trap.Trap.TheVariants as trap
 use Rattle.task_machine.specs.declared.records.Why.TheVariants as why
 use Rattle.task_places.proofs.EntryLemmas.{checked_place}
-use Rattle.task_places.proofs.PlaceWords.{Waits, cancelled_stand, ended_all, free_moved, let_in_stand, passes_found, returned_stand, waits_quiet, waits_released, waits_told}
+use Rattle.task_places.proofs.PlaceWords.{Waits, cancelled_stand, ended_all, free_moved, let_in_stand, returned_stand, waits_quiet, waits_released, waits_told}
 use Rattle.task_rules.proofs.UntouchedLemmas.{untouched_after, set_how_far_untouched, set_end_untouched, set_own_event_untouched, set_backpressure_untouched, set_do_not_enter_untouched, call_settled_untouched, interest_settled_untouched, freed_thread_handle_untouched, exited_if_untouched, advanced_untouched, assigned_untouched, stored_untouched, skipped_untouched, exit_restores_untouched, inc_raises_untouched, dec_lowers_untouched}
 use Rattle.task_rules.proofs.MoveLemmas as moves
 use Rattle.task_rules.proofs.MoveLemmas.{is_busy}
-use Rattle.task_places.proofs.FreshMoves.{fresher_after, is_fresh, placed_fresher}
+use Rattle.task_places.proofs.FreshMoves.{fresher_after, placed_fresher}
+use Rattle.task_laws.specs.Order.{is_fresh}
 use Rattle.task_places.proofs.FreshStand.{Going, Kept, Runs, checked_stand, going, put_high_all, put_low_all, quiet_all, quiet_stand, released_good, set_place_all, stopped_stand}
 use Rattle.task_rules.proofs.StandLemmas.{free_loose, is_eq_of, not_eq, place_written}
-use Rattle.task_rules.proofs.StopLemmas.{Untouched}
+use Rattle.task_rules.proofs.StopLemmas.{find_passes, Untouched}
 use Rattle.task_rules.specs.Laws.{is_free}
 use Rattle.task_rules.specs.Places.{one_if}
 use Rattle.task_machine.proofs.MapLemmas.{get-remove_other}
@@ -210,7 +211,7 @@ under_at n (Some place.Suspended) h = absurd (subst T (sym h) tt)
 
 pub under_place : (n m : ℕ) (s : Core) → under_of n s ≡ Some m → place_of m s ≡ Some (place.Under n)
 unfolding under_of
-under_place n m s h = under_at n (place_of m s) (passes_found (λ k. is_at k s (is_under n)) (numbers s.threads) m h)
+under_place n m s h = under_at n (place_of m s) (find_passes (λ k. is_at k s (is_under n)) (numbers s.threads) m h)
 
 ended_place : (n m : ℕ) (s : Core) → (m == n) ≡ false → place_of m (ended n s) ≡ place_of m s
 unfolding ended remove_thread

@@ -173,7 +173,7 @@ no_guest_named : (n i h k : ℕ) {A : Type 0} → guest_in (filled no_handles n)
 no_guest_named ℕ.zero i h k is = no_way (ap (λ o. is_some o) (sym (ap (λ o. option_and_then guest_named (option_and_then (λ (t : Table Named). get t.live h) o)) (get-empty i)) ∙ is))
 no_guest_named (ℕ.suc n) i h k is = no_guest_next n i h k (λ r. no_guest_named n i h k r) (i == n) refl is
 
-opening_traced : (instances handle_limit capacity : ℕ) → Traced (fresh instances handle_limit capacity)
+pub opening_traced : (instances handle_limit capacity : ℕ) → Traced (fresh instances handle_limit capacity)
 unfolding fresh
 opening_traced instances handle_limit capacity = record {
   named = λ i h k is. no_guest_named instances i h k is;

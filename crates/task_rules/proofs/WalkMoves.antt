@@ -17,7 +17,7 @@ use Rattle.task_machine.specs.declared.words.Mark.{Mark}
 use Rattle.task_machine.specs.declared.words.Status.{Status}
 use Rattle.task_rules.proofs.ChainLemmas.{join, shifts_walk}
 use Rattle.task_rules.proofs.KeepWords.{same}
-use Rattle.task_rules.proofs.MoveLemmas.{find_passes}
+use Rattle.task_rules.proofs.StopLemmas.{find_passes}
 use Rattle.task_rules.proofs.PlacingLemmas.{placed}
 use Rattle.task_rules.proofs.PromotionLemmas.{first_has_entry}
 use Rattle.task_rules.proofs.StandLemmas.{by_number, is_eq_of, place_kept}

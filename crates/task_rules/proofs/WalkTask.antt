@@ -22,7 +22,7 @@ use Rattle.task_machine.specs.declared.records.Turn.{Turn}
 use Rattle.task_machine.specs.declared.trap.Trap.{Trap}
 use Rattle.task_machine.specs.declared.words.OwnEvent.{OwnEvent}
 use Rattle.task_rules.proofs.KeepWords.{same}
-use Rattle.task_rules.proofs.MoveLemmas.{find_passes}
+use Rattle.task_rules.proofs.StopLemmas.{find_passes}
 use Rattle.task_rules.proofs.PlacingLemmas.{Shifted, shifted_calls, shifted_task, shifts_shifted}
 use Rattle.task_rules.proofs.StandLemmas.{is_eq_of}
 use Rattle.task_rules.proofs.WalkEnds.{SameCall, cancelled_walks, returned_walks, still_told_to, unanswered}
