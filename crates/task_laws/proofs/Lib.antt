@@ -16,6 +16,7 @@ pub mod BarredSteps
 pub mod CameLemmas
 pub mod StrandLemmas
 pub mod CountLemmas
+pub mod CallsCame
 pub mod HolderLemmas
 pub mod WrittenLemmas
 pub mod SpunFields
