@@ -17,6 +17,8 @@ pub mod CameLemmas
 pub mod StrandLemmas
 pub mod CountLemmas
 pub mod CallsCame
+pub mod CallsLaw
+pub mod CallsSteps
 pub mod HolderLemmas
 pub mod WrittenLemmas
 pub mod SpunFields
