@@ -22,3 +22,7 @@ pub mod Generated7Shown
 pub mod Generated8Shown
 pub mod Generated9Shown
 pub mod Generated10Shown
+pub mod Generated11Shown
+pub mod Generated12Shown
+pub mod Generated13Shown
+pub mod WrongShown

@@ -23,3 +23,7 @@ pub mod Generated7
 pub mod Generated8
 pub mod Generated9
 pub mod Generated10
+pub mod Generated11
+pub mod Generated12
+pub mod Generated13
+pub mod Wrong

@@ -201,7 +201,7 @@ module _ {base : Core} where
   sync_exit_row_holds n w {s = s} q = may_holds base (may_tell (task_of n s) w s) (Stops (exit_label n w) (sync_exits n w s)) (sync_exits_barred n w (q _))
 
   pub blocking_exit_row_holds : (a0 : ℕ) (a1 : Option ℕ) {s : Core} → ((ex : Option ℕ) → Barred base ex s) → returned_holder base (exit_label a0 a1) ≡ Some (instance_of a0 s) → Holds base (blocking_exit_row a0 a1 s)
-  blocking_exit_row_holds n w {s = s} q opens = let held = held_by_flag (instance_of n s) s in trap_if_holds base (not (passes_after_return (instance_of n s) (task_of n s) held s)) trap.CannotBlockSyncTask (may (may_tell (task_of n s) w s) (Ordered held (λ order. Stops (exit_label n w) (blocking_exits n w order s)))) (may_holds base (may_tell (task_of n s) w s) (Ordered held (λ order. Stops (exit_label n w) (blocking_exits n w order s))) (λ order. blocking_exits_barred n w order (q _) opens))
+  blocking_exit_row_holds n w {s = s} q opens = let held = held_by_flag (instance_of n s) s in trap_if_holds base (not (passes_after_return n w s)) trap.CannotBlockSyncTask (may (may_tell (task_of n s) w s) (Ordered held (λ order. Stops (exit_label n w) (blocking_exits n w order s)))) (may_holds base (may_tell (task_of n s) w s) (Ordered held (λ order. Stops (exit_label n w) (blocking_exits n w order s))) (λ order. blocking_exits_barred n w order (q _) opens))
 
   pub direct_exit_to_holds : (a0 : ℕ) (a1 : ExportKind) {s : Core} → ((ex : Option ℕ) → Barred base ex s) → (a3 : Option ℕ) → Holds base (direct_exit_to a0 a1 s a3)
   direct_exit_to_holds n x {s = s} q None = tt

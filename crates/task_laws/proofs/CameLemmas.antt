@@ -249,7 +249,7 @@ module _ {a : Scene} where
   came_word (SetSavedOwn n b) s ok k = Shifts (Stays (read_same n (λ t. record t { saved_own = b }) (λ t. refl) k s))
   came_word (SetSavedCallee n b) s ok k = Shifts (Stays (read_same n (λ t. record t { saved_callee = b }) (λ t. refl) k s))
   came_word (NameThread i n) s ok k = Shifts (Stays (read_same n (λ t. record t { handle = Some (new_thread_handle i s) }) (λ t. refl) k (give_thread_handle i n s)))
-  came_word (MakeThread t) s ok k = made_came t s (ap (λ (r : Thread). r.place) ok.1.1.1.1.1) k
+  came_word (MakeThread t) s ok k = made_came t s (ap (λ (r : Thread). r.place) ok.1.1.1.1.1.0) k
   came_word (MakeCall f e x g group words) s ok k = made_came _ s refl k
   came_word (RemoveThread n) s ok k = removed_came n s k
   came_word (Withdraw j) s ok k = removed_came j s k

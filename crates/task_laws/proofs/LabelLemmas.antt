@@ -128,7 +128,7 @@ sync_exit_row_untaken : (a0 : ℕ) (a1 : Option ℕ) (a2 : Core) → Untaken (sy
 sync_exit_row_untaken n w s = may_untaken (may_tell (task_of n s) w s) (Stops (exit_label n w) (sync_exits n w s)) (exit_label-untaken n w)
 
 blocking_exit_row_untaken : (a0 : ℕ) (a1 : Option ℕ) (a2 : Core) → Untaken (blocking_exit_row a0 a1 a2)
-blocking_exit_row_untaken n w s = let held = held_by_flag (instance_of n s) s in trap_if_untaken (not (passes_after_return (instance_of n s) (task_of n s) held s)) trap.CannotBlockSyncTask (may (may_tell (task_of n s) w s) (Ordered held (λ order. Stops (exit_label n w) (blocking_exits n w order s)))) (may_untaken (may_tell (task_of n s) w s) (Ordered held (λ order. Stops (exit_label n w) (blocking_exits n w order s))) (λ order. exit_label-untaken n w))
+blocking_exit_row_untaken n w s = let held = held_by_flag (instance_of n s) s in trap_if_untaken (not (passes_after_return n w s)) trap.CannotBlockSyncTask (may (may_tell (task_of n s) w s) (Ordered held (λ order. Stops (exit_label n w) (blocking_exits n w order s)))) (may_untaken (may_tell (task_of n s) w s) (Ordered held (λ order. Stops (exit_label n w) (blocking_exits n w order s))) (λ order. exit_label-untaken n w))
 
 direct_exit_to_untaken : (a0 : ℕ) (a1 : ExportKind) (a2 : Core) (a3 : Option ℕ) → Untaken (direct_exit_to a0 a1 a2 a3)
 direct_exit_to_untaken n x s None = tt

@@ -15,6 +15,8 @@ pub mod LabelLemmas
 pub mod BarredSteps
 pub mod CameLemmas
 pub mod StrandLemmas
+pub mod WaitLemmas
+pub mod SceneLemmas
 pub mod CountLemmas
 pub mod CallsCame
 pub mod CallsLaw

@@ -174,7 +174,7 @@ module _ {base : Core} where
   blocking_exits_shelved n w order {s = s} q = exit_stops_shelved n (returned_shelved (task_of n s) (register_of n 0 s) w (end_reopens_shelved (instance_of n s) order q))
 
   pub blocking_exit_row_stays : (a0 : ℕ) (a1 : Option ℕ) {s : Core} → Shelved base s → Stays base (blocking_exit_row a0 a1 s)
-  blocking_exit_row_stays n w {s = s} q = let held = held_by_flag (instance_of n s) s in trap_if_stays base (not (passes_after_return (instance_of n s) (task_of n s) held s)) trap.CannotBlockSyncTask (may (may_tell (task_of n s) w s) (Ordered held (λ order. Stops (exit_label n w) (blocking_exits n w order s)))) (may_stays base (may_tell (task_of n s) w s) (Ordered held (λ order. Stops (exit_label n w) (blocking_exits n w order s))) (λ order. blocking_exits_shelved n w order q))
+  blocking_exit_row_stays n w {s = s} q = let held = held_by_flag (instance_of n s) s in trap_if_stays base (not (passes_after_return n w s)) trap.CannotBlockSyncTask (may (may_tell (task_of n s) w s) (Ordered held (λ order. Stops (exit_label n w) (blocking_exits n w order s)))) (may_stays base (may_tell (task_of n s) w s) (Ordered held (λ order. Stops (exit_label n w) (blocking_exits n w order s))) (λ order. blocking_exits_shelved n w order q))
 
   pub direct_exits_shelved : (a0 : ℕ) (a1 : ℕ) (a2 : ℕ) {s : Core} → Shelved base s → Shelved base (direct_exits a0 a1 a2 s)
   unfolding direct_exits

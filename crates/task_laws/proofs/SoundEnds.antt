@@ -325,7 +325,7 @@ module _ {component : Component} {base : Core} where
       left_closes n (returned_sound (task_of n s) (register_of n 0 s) w r (unended_by (task_of n s) s (end_reopens (instance_of n s) order s) (calls_let_in (instance_of n s) order s) unended) (λ c is lifted other. absurd (other own)))
 
   pub blocking_exit_row_kept : (a0 : ℕ) (a1 : Option ℕ) {s : Core} → Sound component base 0 s → has_ended (task_of a0 s) s ≡ false → task_of a0 s ≡ a0 → Kept component base (blocking_exit_row a0 a1 s)
-  blocking_exit_row_kept n w {s = s} q unended own = let held = held_by_flag (instance_of n s) s in trap_if_kept component base (not (passes_after_return (instance_of n s) (task_of n s) held s)) trap.CannotBlockSyncTask (may (may_tell (task_of n s) w s) (Ordered held (λ order. Stops (exit_label n w) (blocking_exits n w order s)))) (may_kept component base (may_tell (task_of n s) w s) (Ordered held (λ order. Stops (exit_label n w) (blocking_exits n w order s))) (λ order. blocking_exits_sound n w order q unended own))
+  blocking_exit_row_kept n w {s = s} q unended own = let held = held_by_flag (instance_of n s) s in trap_if_kept component base (not (passes_after_return n w s)) trap.CannotBlockSyncTask (may (may_tell (task_of n s) w s) (Ordered held (λ order. Stops (exit_label n w) (blocking_exits n w order s)))) (may_kept component base (may_tell (task_of n s) w s) (Ordered held (λ order. Stops (exit_label n w) (blocking_exits n w order s))) (λ order. blocking_exits_sound n w order q unended own))
 
   pub direct_exits_sound : (n m v : ℕ) {s : Core} → Sound component base 0 s → has_ended (task_of n s) s ≡ false → task_of n s ≡ n → Sound component base 0 (direct_exits n m v s)
   unfolding direct_exits

@@ -170,7 +170,7 @@ module _ {base : Core} where
   blocking_exits_spun n w order {s = s} q = exit_stops_spun n (returned_spun (task_of n s) (register_of n 0 s) w (end_reopens_spun (instance_of n s) order q))
 
   pub blocking_exit_row_spins : (a0 : ℕ) (a1 : Option ℕ) {s : Core} → Spun base s → Spins base (blocking_exit_row a0 a1 s)
-  blocking_exit_row_spins n w {s = s} q = let held = held_by_flag (instance_of n s) s in trap_if_spins base (not (passes_after_return (instance_of n s) (task_of n s) held s)) trap.CannotBlockSyncTask (may (may_tell (task_of n s) w s) (Ordered held (λ order. Stops (exit_label n w) (blocking_exits n w order s)))) (may_spins base (may_tell (task_of n s) w s) (Ordered held (λ order. Stops (exit_label n w) (blocking_exits n w order s))) (λ order. blocking_exits_spun n w order q))
+  blocking_exit_row_spins n w {s = s} q = let held = held_by_flag (instance_of n s) s in trap_if_spins base (not (passes_after_return n w s)) trap.CannotBlockSyncTask (may (may_tell (task_of n s) w s) (Ordered held (λ order. Stops (exit_label n w) (blocking_exits n w order s)))) (may_spins base (may_tell (task_of n s) w s) (Ordered held (λ order. Stops (exit_label n w) (blocking_exits n w order s))) (λ order. blocking_exits_spun n w order q))
 
   pub direct_exits_spun : (a0 : ℕ) (a1 : ℕ) (a2 : ℕ) {s : Core} → Spun base s → Spun base (direct_exits a0 a1 a2 s)
   unfolding direct_exits

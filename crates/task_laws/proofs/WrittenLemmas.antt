@@ -21,7 +21,7 @@ use Rattle.task_machine.specs.declared.records.Course.{Course}
 use Rattle.task_machine.specs.declared.records.Work.{Work}
 use Rattle.task_rules.specs.History.{Moment, history}
 use Rattle.task_rules.specs.Laws.{LaterBy}
-use Rattle.task_rules.specs.Once.{call_end_code, course_code, is_written, writes_end}
+use Rattle.task_rules.specs.Once.{call_end_code, course_code, is_written, changes_end}
 use Rattle.task_rules.specs.Run.{Run, opening}
 use Rattle.task_rules.specs.Stalled.{Setting}
 use Rattle.task_machine.specs.declared.records.CallEnd.TheVariants as call_end
@@ -101,7 +101,7 @@ counted_is : (p : Moment → Bool) (ms : List Moment) → counted p ms ≡ count
 counted_is p ms = is_count_by (counted p) p refl (λ m ms. refl) ms
 
 module _ (x : Setting) (grammar : CodesInCallbacks x.component) (k : ℕ) where
-  none_written : (s : State) → Settled x.component s.core → k ≤ s.core.made.threads → is_over (get s.core.calls k) ≡ true → (ls : List Label) (t : State) → (run : Run x s ls t) → counted (writes_end (subtask.Guest k)) (history x s ls t run) ≡ 0
+  none_written : (s : State) → Settled x.component s.core → k ≤ s.core.made.threads → is_over (get s.core.calls k) ≡ true → (ls : List Label) (t : State) → (run : Run x s ls t) → counted (changes_end (subtask.Guest k)) (history x s ls t run) ≡ 0
   none_written s q below over [] t run = refl
   none_written s q below over (l ∷ ls) t run =
       let h : Sound x.component s.core 0 run.0.core = step_sound x grammar s q l run.0 run.1.0 in
@@ -110,7 +110,7 @@ module _ (x : Setting) (grammar : CodesInCallbacks x.component) (k : ℕ) where
       (not_written (get s.core.calls k) (get run.0.core.calls k) later over)
       (none_written run.0 (renewed h) (le_trans below h.counted) (over_stays (get s.core.calls k) (get run.0.core.calls k) later over) ls t run.1.1)
 
-  once_written : (s : State) → Settled x.component s.core → (ls : List Label) (t : State) → (run : Run x s ls t) → counted (writes_end (subtask.Guest k)) (history x s ls t run) ≤ 1
+  once_written : (s : State) → Settled x.component s.core → (ls : List Label) (t : State) → (run : Run x s ls t) → counted (changes_end (subtask.Guest k)) (history x s ls t run) ≤ 1
   once_written s q [] t run = omega arith
   once_written s q (l ∷ ls) t run =
       let h : Sound x.component s.core 0 run.0.core = step_sound x grammar s q l run.0 run.1.0 in
@@ -158,7 +158,7 @@ work_unwritten (Some c) None w = refl
 work_unwritten (Some c) (Some d) w = course_over d.course (course_code c.course) w
 
 module _ (x : Setting) (i : ℕ) where
-  none_written_work : (s : State) → Calm s.core → i ≤ s.core.made.works → is_work_over (get s.core.works i) ≡ true → (ls : List Label) (t : State) → (run : Run x s ls t) → counted (writes_end (subtask.Host i)) (history x s ls t run) ≡ 0
+  none_written_work : (s : State) → Calm s.core → i ≤ s.core.made.works → is_work_over (get s.core.works i) ≡ true → (ls : List Label) (t : State) → (run : Run x s ls t) → counted (changes_end (subtask.Host i)) (history x s ls t run) ≡ 0
   none_written_work s q below over [] t run = refl
   none_written_work s q below over (l ∷ ls) t run =
       let h : Spun s.core run.0.core = step_spun x s q l run.0 run.1.0 in
@@ -171,7 +171,7 @@ module _ (x : Setting) (i : ℕ) where
   work_made q None at p w = no_way w
   work_made {s = s} q (Some c) at p w = each_get (λ j v. j ≤ s.made.works) s.works q.numbers i c at
 
-  once_written_work : (s : State) → Calm s.core → (ls : List Label) (t : State) → (run : Run x s ls t) → counted (writes_end (subtask.Host i)) (history x s ls t run) ≤ 1
+  once_written_work : (s : State) → Calm s.core → (ls : List Label) (t : State) → (run : Run x s ls t) → counted (changes_end (subtask.Host i)) (history x s ls t run) ≤ 1
   once_written_work s q [] t run = omega arith
   once_written_work s q (l ∷ ls) t run =
       let h : Spun s.core run.0.core = step_spun x s q l run.0 run.1.0 in
@@ -185,5 +185,5 @@ reached_calm : {x : Setting} {s : State} → Reached x s → Calm s.core
 reached_calm {x = x} {s = s} r = run_calm x (opening r.instances r.handle_limit r.capacity r.main) (opening_calm r.instances r.handle_limit r.capacity) r.labels s r.run
 
 pub ends_written_once : EndsWrittenOnce
-ends_written_once x s ls t r run (subtask.Guest k) = subst (λ (n : ℕ). n ≤ 1) (counted_is (writes_end (subtask.Guest k)) (history x s ls t run)) (once_written x r.scripts k s (reached_settled r) ls t run)
-ends_written_once x s ls t r run (subtask.Host i) = subst (λ (n : ℕ). n ≤ 1) (counted_is (writes_end (subtask.Host i)) (history x s ls t run)) (once_written_work x i s (reached_calm r) ls t run)
+ends_written_once x s ls t r run (subtask.Guest k) = subst (λ (n : ℕ). n ≤ 1) (counted_is (changes_end (subtask.Guest k)) (history x s ls t run)) (once_written x r.scripts k s (reached_settled r) ls t run)
+ends_written_once x s ls t r run (subtask.Host i) = subst (λ (n : ℕ). n ≤ 1) (counted_is (changes_end (subtask.Host i)) (history x s ls t run)) (once_written_work x i s (reached_calm r) ls t run)

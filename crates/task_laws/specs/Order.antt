@@ -1,13 +1,14 @@
 -- A state in order: what is so of every opening state and kept by every step, whatever the state was reached by.
 use Rattle.std.specs.Option.{option_map_or}
-use Rattle.std.specs.Prelude.{Bool, None, Option, Some, false, is_none, is_some, option_map, true, ℕ, ◌+◌, ◌≡◌, ◌≤◌}
+use Rattle.std.specs.Prelude.{Bool, None, Option, Some, false, is_none, is_some, option_and_then, option_map, true, ℕ, ◌+◌, ◌≡◌, ◌≤◌}
 use Rattle.task_laws.specs.Settings.{CodesInCallbacks}
 use Rattle.task_machine.specs.Core.{Core, Main, State}
 use Rattle.task_machine.specs.Maps.{get}
-use Rattle.task_machine.specs.Read.{how_far_of, is_async_lifted, is_callback, is_direct, is_explicit, kind_of, place_of, set_at, subtask_at}
+use Rattle.task_machine.specs.Read.{how_far_of, instance_of, is_async_lifted, is_callback, is_direct, is_explicit, kind_of, place_of, set_at, subtask_at}
 use Rattle.task_machine.specs.declared.component.Component.{Component}
 use Rattle.task_machine.specs.declared.label.Label.{Label}
 use Rattle.task_machine.specs.declared.records.Call.{Call}
+use Rattle.task_machine.specs.declared.records.Delivery.TheVariants as delivery
 use Rattle.task_machine.specs.declared.records.HowFar.{HowFar}
 use Rattle.task_machine.specs.declared.records.HowFar.TheVariants as how_far
 use Rattle.task_machine.specs.declared.records.Place.{Place}
@@ -74,6 +75,34 @@ pub record SetsNamed (s : Core) : Type 0 where
   pub number : (i h x : ℕ) → set_at i h s ≡ Some x → x ≤ s.made.sets
   pub home : (i h x : ℕ) → set_at i h s ≡ Some x → option_map (λ (r : Set). r.instance) (get s.sets x) ≡ Some i
   pub once : (i j h g x : ℕ) → set_at i h s ≡ Some x → set_at j g s ≡ Some x → (i ≡ j) × (h ≡ g)
+
+-- ---- Waiting on sets
+
+abbrev pub set_of_why : Why → Option ℕ
+set_of_why (why.Delivery (delivery.Set x)) = Some x
+set_of_why _ = None
+
+-- the set on which the thread waits, or for which a delivery stands or is held
+abbrev pub set_of_place : Place → Option ℕ
+set_of_place (place.Waiting x by_callback) = Some x
+set_of_place (place.Ready m w) = set_of_why w
+set_of_place (place.Held w) = set_of_why w
+set_of_place _ = None
+
+-- the set inside a wait on which the thread is
+abbrev pub set_of_op : HowFar → Option ℕ
+set_of_op (how_far.Waits x) = Some x
+set_of_op _ = None
+
+-- the set was made, and if it is there, it is of the instance
+pub record IsOf (i x : ℕ) (s : Core) : Type 0 where
+  pub made : x ≤ s.made.sets
+  pub home : (r : Set) → get s.sets x ≡ Some r → r.instance ≡ i
+
+-- A thread that waits on a set, has a delivery for it or is inside a wait on it is of the set's instance.
+pub record WaitsAtHome (s : Core) : Type 0 where
+  pub by_place : (n x : ℕ) → option_and_then set_of_place (place_of n s) ≡ Some x → IsOf (instance_of n s) x s
+  pub by_op : (n x : ℕ) → set_of_op (how_far_of n s) ≡ Some x → IsOf (instance_of n s) x s
 
 -- ---- Calls
 

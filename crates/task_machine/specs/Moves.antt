@@ -34,7 +34,7 @@ use Rattle.task_machine.specs.Write.{set_place, set_callers, set_switch, push_hi
 abbrev pub stand : ℕ → Mark → Why → Core → Core
 stand n m w = set_place n (place.Ready m w)
 
--- why the thread's entry stands at its mark
+-- why the thread's entry is queued; default: no entry
 abbrev pub ready_why : Place → Why
 ready_why (place.Ready m w) = w
 ready_why _ = why.Resumption
@@ -42,7 +42,7 @@ ready_why _ = why.Resumption
 abbrev pub why_of : ℕ → Core → Why
 why_of n s = option_map_or ready_why (place_of n s) why.Resumption
 
--- what stood at switch goes to the front of high
+-- what was at switch goes to the front of high
 abbrev pub displaced : Option ℕ → Core → Core
 displaced None s = s
 displaced (Some m) s = push_high_first (entry.Thread m) (stand m mark.High (why_of m s) s)
@@ -232,7 +232,7 @@ abbrev pub given_own : OwnEvent → Given
 given_own own.None = given.Nothing
 given_own own.Cancelled = given.Cancelled
 
--- what is handed out for it, a member by the handle h
+-- what is handed out for it, a member by the handle h; default: no event
 unfoldable pub given_for : Gift → ℕ → Core → Given
 given_for (OwnGift e) h s = given_own e
 given_for (MemberGift sub) h s = given.Subtask (unwrap_or (event_of sub s) status.Starting) h
@@ -251,7 +251,7 @@ may_hand_on x g w s = if hands_on x g s then may_wake x w s else is_none w
 
 -- ---- Release
 
--- a held thread is put at high
+-- a held thread is put at high; default: not held
 abbrev pub released_one : ℕ → Option Why → Core → Core
 released_one n None s = s
 released_one n (Some w) s = put_high n w s

@@ -30,14 +30,14 @@ use Rattle.task_places.proofs.RunRows.{Stays, under_place}
 use Rattle.task_machine.specs.declared.records.WorkCaller.{WorkCaller}
 use Rattle.task_machine.specs.declared.words.Mark.{Mark}
 use Rattle.task_machine.specs.declared.records.Entry.{Entry}
-use Rattle.task_rules.specs.Step.{DeadlockStep, EmptyFor, FuturesStep, MainProgresses, MainStep, OpenProgresses, OpenStep, Polled, Progresses, RestStep, ScriptStep, TakeStep, TurnStep, did, entry_number, struck}
+use Rattle.task_rules.specs.Step.{DeadlockStep, EmptyFor, FuturesStep, MainProgresses, MainStep, OpenAct, OpenProgresses, OpenStep, Polled, Progresses, RestStep, ScriptStep, TakeStep, TurnStep, did, entry_number, struck}
 use Rattle.task_rules.specs.MainOps.{Abort, Answer, Answers, Await, Does, Finish, MainAct, MainProgress, Pends, Quiet, Ready, Spawn, Start, act_of, finish_act, finish_result, has_interesting, is_complete, is_ready_for_call, line_of, main_row, main_spawned, main_started, op_at, start_act, start_refusal, unless_pending}
 use Rattle.task_rules.specs.Works.{Ends, FailsNow, Poll, StillPends, course_for, followed, next_polled, poll_pends, poll_of, poll_ends}
 use Rattle.task_places.proofs.WithdrawRows.{Withdrawable, op_row_stays}
 use Rattle.task_rules.proofs.MoveLemmas.{all_of, gone_place, other_place, removed_gone, removed_placed}
 use Rattle.task_machine.specs.declared.label.MainLabel.{MainLabel}
 use Rattle.task_machine.specs.declared.records.Turn.{Turn}
-use Rattle.task_machine.specs.declared.scenario.MainOp.{MainOp}
+use Rattle.task_machine.specs.declared.scenario.MainOpDef.{MainOpDef}
 use Rattle.task_rules.specs.Stalled.{Setting}
 use Rattle.task_rules.specs.Turns.{at_turn, goes_to, nothing_stands, settled_futures, settled_take}
 use Rattle.task_places.proofs.TakeRows.{Front, Owned, owned_popped, high_all, host_done_all, next_front, popped_all, popped_stand, taken_for_stays, unblocked_all}
@@ -310,7 +310,7 @@ module _ {base : Core} where
   unfolding at_turn
   pends_land s all t is = lands_is t _ is (lands_still s.core (settled_futures 0 s.core (next_polled 0 s.core)) (futures_still 0 s.core (next_polled 0 s.core)) all)
 
-  main_progresses_land : (s : State) → Kept base s.core → (p : MainPlace) (o : MainOp) (r : MainProgress) (l : Label) (t : State) → KeepsMain base r → MainProgresses s p o r l t → Lands base t.core t.turn
+  main_progresses_land : (s : State) → Kept base s.core → (p : MainPlace) (o : MainOpDef) (r : MainProgress) (l : Label) (t : State) → KeepsMain base r → MainProgresses s p o r l t → Lands base t.core t.turn
   unfolding at_turn
   main_progresses_land s all p o (Does m new) l t k is = lands_is t _ is.1 (lands_still new turn.Main refl k)
   main_progresses_land s all p o Pends l t k is = pends_land s all t is.1
@@ -325,12 +325,12 @@ module _ {base : Core} where
 -- ---- Steps
 
 module _ {base : Core} (x : Setting) where
-  script_step_lands : (s : State) → Unused s.core → Kept base s.core → (p : MainPlace) (o : Option MainOp) (l : Label) (t : State) → ScriptStep x s p o l t → Lands base t.core t.turn
+  script_step_lands : (s : State) → Unused s.core → Kept base s.core → (p : MainPlace) (o : Option MainOpDef) (l : Label) (t : State) → ScriptStep x s p o l t → Lands base t.core t.turn
   script_step_lands s none all p None l t is = pends_land s all t is.1
   script_step_lands s none all p (Some o) l t is = main_progresses_land s all p o _ l t (main_row_keeps x.component (line_of p o) s.core none all (act_of p o)) is
 
-  open_act_lands : (s : State) → Unused s.core → Kept base s.core → (l : Label) (t : State) → (k : ℕ) × ((act : MainAct) × OpenProgresses s (main_row x.component k s.core act) l t) → Lands base t.core t.turn
-  open_act_lands s none all l t h = open_progresses_land s all _ l t (main_row_keeps x.component h.0 s.core none all h.1.0) h.1.1
+  open_act_lands : (s : State) → Unused s.core → Kept base s.core → (l : Label) (t : State) → (k : ℕ) × ((act : MainAct) × OpenAct x s k act l t) → Lands base t.core t.turn
+  open_act_lands s none all l t h = open_progresses_land s all _ l t (main_row_keeps x.component h.0 s.core none all h.1.0) h.1.1.1
 
   open_step_lands : (s : State) → Unused s.core → Kept base s.core → (l : Label) (t : State) → OpenStep x s l t → Lands base t.core t.turn
   open_step_lands s none all (label.Loop loop_label.MainPends) t is = pends_land s all t is

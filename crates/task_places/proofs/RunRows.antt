@@ -156,7 +156,7 @@ module _ {base : Core} where
 
   blocking_exit_row_stays : (n : ℕ) (w : Option ℕ) (s : Core) → Runs base n s → Stays base (blocking_exit_row n w s)
   blocking_exit_row_stays n w s r =
-      trap_if_stays base (not (passes_after_return (instance_of n s) (task_of n s) (held_by_flag (instance_of n s) s) s)) trap.CannotBlockSyncTask _
+      trap_if_stays base (not (passes_after_return n w s)) trap.CannotBlockSyncTask _
       (λ e. may_stays base (may_tell (task_of n s) w s) (Ordered (held_by_flag (instance_of n s) s) (λ order. Stops (exit_label n w) (blocking_exits n w order s))) (λ f. λ order. blocking_exits_all n w order s (waits_told (task_of n s) w s f) r))
 
   deactivated_runs : (n : ℕ) (order : List ℕ) (s : Core) → Runs base n s → Runs base n (code_stops n order s)

@@ -221,7 +221,7 @@ unfolding blocking_exits
 blocking_exits_traced n w order {s = s} q = exit_stops_traced n (returned_traced (task_of n s) (register_of n 0 s) w (end_reopens_traced (instance_of n s) order q))
 
 pub blocking_exit_row_stays : (a0 : ℕ) (a1 : Option ℕ) {s : Core} → Traced s → Stays (blocking_exit_row a0 a1 s)
-blocking_exit_row_stays n w {s = s} q = let held = held_by_flag (instance_of n s) s in trap_if_stays (not (passes_after_return (instance_of n s) (task_of n s) held s)) trap.CannotBlockSyncTask (may (may_tell (task_of n s) w s) (Ordered held (λ order. Stops (exit_label n w) (blocking_exits n w order s)))) (may_stays (may_tell (task_of n s) w s) (Ordered held (λ order. Stops (exit_label n w) (blocking_exits n w order s))) (λ order. blocking_exits_traced n w order q))
+blocking_exit_row_stays n w {s = s} q = let held = held_by_flag (instance_of n s) s in trap_if_stays (not (passes_after_return n w s)) trap.CannotBlockSyncTask (may (may_tell (task_of n s) w s) (Ordered held (λ order. Stops (exit_label n w) (blocking_exits n w order s)))) (may_stays (may_tell (task_of n s) w s) (Ordered held (λ order. Stops (exit_label n w) (blocking_exits n w order s))) (λ order. blocking_exits_traced n w order q))
 
 pub direct_exits_traced : (a0 : ℕ) (a1 : ℕ) (a2 : ℕ) {s : Core} → Traced s → Traced (direct_exits a0 a1 a2 s)
 unfolding direct_exits

@@ -10,7 +10,7 @@ use Rattle.task_machine.specs.declared.words.Given.{Given}
 use Rattle.task_machine.specs.declared.component.HostDef.{HostDef}
 use Rattle.task_machine.specs.declared.label.Label.{Label}
 use Rattle.task_machine.specs.declared.label.MainLabel.{MainLabel}
-use Rattle.task_machine.specs.declared.scenario.MainOp.{MainOp}
+use Rattle.task_machine.specs.declared.scenario.MainOpDef.{MainOpDef}
 use Rattle.task_machine.specs.declared.words.Mark.{Mark}
 use Rattle.task_machine.specs.declared.op.Op.{Op}
 use Rattle.task_machine.specs.declared.records.Place.{Place}
@@ -56,7 +56,7 @@ use Rattle.task_rules.specs.Progress.{Fails, Goes, Never, Ordered, Progress, Sto
 use Rattle.task_rules.specs.Scripts.{export_kind, host_at, op_of}
 use Rattle.task_rules.specs.Sets.{chosen, handed_out, set_given}
 use Rattle.task_rules.specs.Stalled.{Setting}
-use Rattle.task_rules.specs.Step.{DeadlockStep, EmptyFor, FuturesStep, MainProgresses, MainStep, OpenProgresses, OpenStep, Polled, Progresses, RestStep, ScriptStep, Step, TakeStep, TurnStep, did, op_row, struck}
+use Rattle.task_rules.specs.Step.{DeadlockStep, EmptyFor, FuturesStep, MainProgresses, MainStep, OpenAct, OpenProgresses, OpenStep, Polled, Progresses, RestStep, ScriptStep, Step, TakeStep, TurnStep, did, op_row, struck}
 use Rattle.task_rules.specs.Takes.{activated, activated_woken, wait_again, delivered, delivery_row, start_sets_flags, take_holds, host_done, host_result, host_row, host_status, may_tell_starting, own_delivered, popped, pushed, rest_of, running, set_delivered, start_admitted, start_holds, start_row, start_begins, starting_is_published, starting_told, take_row, thread_taken, thread_taken_for}
 use Rattle.task_rules.specs.Turns.{at_turn}
 use Rattle.task_rules.specs.Works.{Ends, FailsNow, Poll, StillPends, course_for, followed, poll_pends, poll_of, poll_ends}
@@ -242,13 +242,13 @@ module _ {R : Core → Core → Type 0} (E : Elementary R) where
   main_row_keeps c k s (Ready i) = unless_pending_keeps _ _ s
   main_row_keeps c k s (Answer v) = tt
 
-  main_progresses_keeps : (s : State) (p : MainPlace) (o : MainOp) (q : MainProgress) (l : Label) (t : State) → KeepsMain s.core q → MainProgresses s p o q l t → R s.core t.core
+  main_progresses_keeps : (s : State) (p : MainPlace) (o : MainOpDef) (q : MainProgress) (l : Label) (t : State) → KeepsMain s.core q → MainProgresses s p o q l t → R s.core t.core
   unfolding at_turn
   main_progresses_keeps s p o (Does m new) l t k is = core_is s.core t _ is.1 k
   main_progresses_keeps s p o Pends l t k is = core_is s.core t _ is.1 (same E s.core)
   main_progresses_keeps s p o (Answers v) l t k is = core_is s.core t _ is.1 (same E s.core)
 
-  script_step_keeps : (x : Setting) (s : State) (p : MainPlace) (o : Option MainOp) (l : Label) (t : State) → ScriptStep x s p o l t → R s.core t.core
+  script_step_keeps : (x : Setting) (s : State) (p : MainPlace) (o : Option MainOpDef) (l : Label) (t : State) → ScriptStep x s p o l t → R s.core t.core
   unfolding at_turn
   script_step_keeps x s p None l t is = core_is s.core t _ is.1 (same E s.core)
   script_step_keeps x s p (Some o) l t is = main_progresses_keeps s p o _ l t (main_row_keeps x.component (line_of p o) s.core (act_of p o)) is
@@ -259,8 +259,8 @@ module _ {R : Core → Core → Type 0} (E : Elementary R) where
   open_progresses_keeps s Pends l t k is = absurd is
   open_progresses_keeps s (Answers v) l t k is = core_is s.core t _ is.1 (same E s.core)
 
-  open_act_keeps : (x : Setting) (s : State) (l : Label) (t : State) → (k : ℕ) × ((act : MainAct) × OpenProgresses s (main_row x.component k s.core act) l t) → R s.core t.core
-  open_act_keeps x s l t h = open_progresses_keeps s _ l t (main_row_keeps x.component h.0 s.core h.1.0) h.1.1
+  open_act_keeps : (x : Setting) (s : State) (l : Label) (t : State) → (k : ℕ) × ((act : MainAct) × OpenAct x s k act l t) → R s.core t.core
+  open_act_keeps x s l t h = open_progresses_keeps s _ l t (main_row_keeps x.component h.0 s.core h.1.0) h.1.1.1
 
   open_step_keeps : (x : Setting) (s : State) (l : Label) (t : State) → OpenStep x s l t → R s.core t.core
   unfolding at_turn

@@ -5,6 +5,9 @@ pub mod EndLemmas
 pub mod LawLemmas
 pub mod PromotionLemmas
 pub mod ChainLemmas
+pub mod WalkSteps
+pub mod WalkTakes
+pub mod WalkOps
 pub mod WalkTask
 pub mod WalkEnds
 pub mod WalkMoves

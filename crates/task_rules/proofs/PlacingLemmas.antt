@@ -15,7 +15,6 @@ use Rattle.task_machine.specs.declared.records.Thread.{Thread}
 use Rattle.task_machine.specs.declared.records.Why.{Why}
 use Rattle.task_machine.specs.declared.words.Mark.{Mark}
 use Rattle.task_rules.proofs.ChainLemmas.{along}
-use Rattle.task_rules.proofs.KeepWords.{same}
 use Rattle.task_rules.specs.Chains.{Chain, IsShift, Shifts, Then}
 use Rattle.task_rules.specs.Progress.{may}
 use Rattle.task_rules.specs.Takes.{popped, rest_of}

@@ -12,7 +12,6 @@ use Rattle.task_machine.specs.declared.records.CallEnd.{CallEnd}
 use Rattle.task_machine.specs.declared.records.Caller.{Caller}
 use Rattle.task_machine.specs.declared.records.Goal.{Goal}
 use Rattle.task_rules.proofs.ChainLemmas.{join}
-use Rattle.task_rules.proofs.KeepWords.{same}
 use Rattle.task_rules.proofs.WalkMoves.{Chosen, ToldTo, told_walks, word}
 use Rattle.task_rules.specs.Allowed.{MayEnd}
 use Rattle.task_rules.specs.Chains.{Walk}
@@ -29,15 +28,15 @@ use Rattle.task_machine.specs.declared.words.Status.TheVariants as status
 
 -- ---- What an end and a result leave of a call
 
--- the record of a call but for its end and its result
+-- the record of a call but for how far it has come, its end and its result
 abbrev pub unanswered : Call → Call
-unanswered c = record c { «end» = None; result = None }
+unanswered c = record c { started = false; starting_published = false; «end» = None; result = None }
 
 -- the record of a call but for its result
 abbrev unresulted : Call → Call
 unresulted c = record c { result = None }
 
-read_by : {X A : Type 0} (g : X → X) (f : X → A) (none : A) → ((c : X) → f (g c) ≡ f c) → (o p : Option X) → option_map g o ≡ option_map g p → option_map_or f o none ≡ option_map_or f p none
+pub read_by : {X A : Type 0} (g : X → X) (f : X → A) (none : A) → ((c : X) → f (g c) ≡ f c) → (o p : Option X) → option_map g o ≡ option_map g p → option_map_or f o none ≡ option_map_or f p none
 read_by {X = X} g f none same o p e = sym (at o) ∙ (ap (λ q. option_map_or f q none) e ∙ at p)
   where
     at : (q : Option X) → option_map_or f (option_map g q) none ≡ option_map_or f q none

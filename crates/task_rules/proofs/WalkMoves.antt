@@ -16,7 +16,6 @@ use Rattle.task_machine.specs.declared.records.Why.{Why}
 use Rattle.task_machine.specs.declared.words.Mark.{Mark}
 use Rattle.task_machine.specs.declared.words.Status.{Status}
 use Rattle.task_rules.proofs.ChainLemmas.{join, shifts_walk}
-use Rattle.task_rules.proofs.KeepWords.{same}
 use Rattle.task_rules.proofs.StopLemmas.{find_passes}
 use Rattle.task_rules.proofs.PlacingLemmas.{placed}
 use Rattle.task_rules.proofs.PromotionLemmas.{first_has_entry}
@@ -95,7 +94,7 @@ waken_shifts x n s false e h = put_shifts mark.High n why.Resumption s (Wakes x 
 abbrev pub Chosen : ℕ → Option ℕ → Core → Type 0
 Chosen x w s = (n : ℕ) → w ≡ Some n → is_waiter x n s ≡ true
 
-wake_shifts : (x : ℕ) (w : Option ℕ) (s : Core) → Chosen x w s → Shifts s (wake x w s)
+pub wake_shifts : (x : ℕ) (w : Option ℕ) (s : Core) → Chosen x w s → Shifts s (wake x w s)
 unfolding wake
 wake_shifts x None s h = NoWord
 wake_shifts x (Some n) s h = waken_shifts x n s (is_callback_waiter n s) refl (h n refl)
@@ -160,10 +159,10 @@ unfolding blocked_on
 blocked_at sub s m h = blocked_place sub (place_of m s) (find_passes (λ k. is_at k s (is_blocked_on sub)) (numbers s.threads) m h)
 
 -- the thread is blocked on the subtask
-abbrev IsBlocked : Subtask → Option ℕ → Core → Type 0
+abbrev pub IsBlocked : Subtask → Option ℕ → Core → Type 0
 IsBlocked sub o s = (m : ℕ) → o ≡ Some m → place_of m s ≡ Some (place.Blocked sub)
 
-unblocked_shifts : (sub : Subtask) (o : Option ℕ) (s : Core) → IsBlocked sub o s → Shifts s (unblocked o s)
+pub unblocked_shifts : (sub : Subtask) (o : Option ℕ) (s : Core) → IsBlocked sub o s → Shifts s (unblocked o s)
 unblocked_shifts sub None s h = NoWord
 unblocked_shifts sub (Some m) s h = put_shifts mark.High m why.Resumption s (Unblocks sub (h m refl) refl)
 

@@ -21,7 +21,6 @@ use Rattle.task_machine.specs.declared.records.Thread.{Thread}
 use Rattle.task_machine.specs.declared.records.Turn.{Turn}
 use Rattle.task_machine.specs.declared.trap.Trap.{Trap}
 use Rattle.task_machine.specs.declared.words.OwnEvent.{OwnEvent}
-use Rattle.task_rules.proofs.KeepWords.{same}
 use Rattle.task_rules.proofs.StopLemmas.{find_passes}
 use Rattle.task_rules.proofs.PlacingLemmas.{Shifted, shifted_calls, shifted_task, shifts_shifted}
 use Rattle.task_rules.proofs.StandLemmas.{is_eq_of}
@@ -95,7 +94,7 @@ module _ (a : Scene) (b : Core) where
 -- ---- Labels
 
 -- a label of a running thread that gives no outcome
-abbrev is_quiet : Label → Bool
+abbrev pub is_quiet : Label → Bool
 is_quiet (label.Main l) = false
 is_quiet (label.Take l) = false
 is_quiet (label.Loop l) = false
@@ -142,28 +141,28 @@ exit_returns : (n : ℕ) (w : Option ℕ) (s : Core) → returned_holder s (exit
 exit_returns n None s = refl
 exit_returns n (Some w) s = refl
 
-none_is_some : {X : Type 0} {A : Type 0} (x : X) → None ≡ Some x → A
+pub none_is_some : {X : Type 0} {A : Type 0} (x : X) → None ≡ Some x → A
 none_is_some {X = X} x h = absurd (subst T (ap (λ (o : Option X). is_none o) h) tt)
 
-one_runner : (n m : ℕ) → turn.Run n ≡ turn.Run m → n ≡ m
+pub one_runner : (n m : ℕ) → turn.Run n ≡ turn.Run m → n ≡ m
 one_runner n m e = ap runner e
   where
     runner : Turn → ℕ
     runner (turn.Run k) = k
     runner _ = 0
 
-not_main : {A : Type 0} (n : ℕ) → turn.Main ≡ turn.Run n → A
+pub not_main : {A : Type 0} (n : ℕ) → turn.Main ≡ turn.Run n → A
 not_main n e = absurd (subst T (ap is_main e) tt)
   where
     is_main : Turn → Bool
     is_main turn.Main = true
     is_main _ = false
 
-unnot : (c : Bool) → not c ≡ false → c ≡ true
+pub unnot : (c : Bool) → not c ≡ false → c ≡ true
 unnot true h = refl
 unnot false h = absurd (subst T h tt)
 
-running_moved : (m : ℕ) (t : Core) → option_map_or is_running (place_of m (set_place m place.Running t)) true ≡ true
+pub running_moved : (m : ℕ) (t : Core) → option_map_or is_running (place_of m (set_place m place.Running t)) true ≡ true
 unfolding set_place on_thread
 running_moved m t = ap (λ o. option_map_or is_running (option_map (λ (r : Thread). r.place) o) true) (get-change_same t.threads m (λ r. record r { place = place.Running })) ∙ at (get t.threads m)
   where
@@ -203,9 +202,9 @@ module _ (x : Setting) (main : Main) (s : Core) (n : ℕ) (l : Label) (next : Tu
   gone_here k t quiet gone c is to = (c is (refl, to), quiet_ends (ap is_quiet is ∙ quiet) (λ m at. not_main m (sym to ∙ at)) (λ exit. gone))
 
   -- another thread, which runs now, goes on
-  pub goes_over : (k : Label) (m : ℕ) (t : Core) → is_quiet k ≡ true → (is_exit k ≡ true → get t.threads n ≡ None) → option_map_or is_running (place_of m t) true ≡ true → (l ≡ k → next ≡ turn.Run m → Walk running_scene s t) → Leads running_scene s (Goes k t m)
+  pub goes_over : (k : Label) (m : ℕ) (t : Core) → is_quiet k ≡ true → (is_exit k ≡ true → get t.threads n ≡ None) → (turn.Run n ≡ turn.Run m) ⊎ (option_map_or is_running (place_of m t) true ≡ true) → (l ≡ k → next ≡ turn.Run m → Walk running_scene s t) → Leads running_scene s (Goes k t m)
   goes_over k m t quiet gone runs c is to =
-      (c is to, quiet_ends (ap is_quiet is ∙ quiet) (λ j at. inr (subst (λ (i : ℕ). option_map_or is_running (place_of i t) true ≡ true) (one_runner m j (sym to ∙ at)) runs)) (λ exit. gone (sym (ap is_exit is) ∙ exit)))
+      (c is to, quiet_ends (ap is_quiet is ∙ quiet) (λ j at. subst (λ (i : ℕ). (turn.Run n ≡ turn.Run i) ⊎ (option_map_or is_running (place_of i t) true ≡ true)) (one_runner m j (sym to ∙ at)) runs) (λ exit. gone (sym (ap is_exit is) ∙ exit)))
 
 module _ {a : Scene} {b : Core} (n : ℕ) (is : IsRunner a n) where
   -- ---- Registers and words
@@ -410,7 +409,7 @@ module _ (x : Setting) (main : Main) (s : Core) (n : ℕ) (l : Label) (next : Tu
 
   blocking_exit_row_leads : (w : Option ℕ) → is_explicit n s ≡ false → kind_of (task_of n s) s ≡ kind.Blocking → is_direct (goal_of (task_of n s) s) ≡ false → Leads a s (blocking_exit_row n w s)
   blocking_exit_row_leads w implicit kind direct =
-      trap_if_leads a s (not (passes_after_return (instance_of n s) (task_of n s) (held_by_flag (instance_of n s) s) s)) trap.CannotBlockSyncTask _ (λ e.
+      trap_if_leads a s (not (passes_after_return n w s)) trap.CannotBlockSyncTask _ (λ e.
       may_leads a s (may_tell (task_of n s) w s) _ (λ may order.
       gone_here x main s n l next (exit_label n w) (blocking_exits n w order s) (exit_quiet n w) (blocking_exits_gone n w order s) (λ is leave.
       let i = instance_of n s in
@@ -422,7 +421,7 @@ module _ (x : Setting) (main : Main) (s : Core) (n : ℕ) (l : Label) (next : Tu
   direct_leads : (m : ℕ) (t : Core) → under_of n s ≡ Some m → is_explicit n s ≡ false → is_direct (goal_of (task_of n s) s) ≡ true → task_of n t ≡ task_of n s → t.calls ≡ s.calls → Walk a s t → Leads a s (Goes (exit_label n None) (direct_exits n m (register_of n 0 s) t) m)
   direct_leads m t under implicit direct task calls c =
       let v = register_of n 0 s in
-      goes_over x main s n l next (exit_label n None) m (direct_exits n m v t) refl (λ e. direct_exits_gone n m v t) (direct_exits_runs n m v t) (λ is to.
+      goes_over x main s n l next (exit_label n None) m (direct_exits n m v t) refl (λ e. direct_exits_gone n m v t) (inr (direct_exits_runs n m v t)) (λ is to.
       direct_exits_walks n refl m v (subst (λ (k : ℕ). MayEnd a k call_end.Returned t) (sym task) (exits None t is implicit (inl direct) calls)) to (under_place n m s under) c)
 
   direct_exit_to_leads : (k : ExportKind) (o : Option ℕ) → under_of n s ≡ o → is_explicit n s ≡ false → is_direct (goal_of (task_of n s) s) ≡ true → Leads a s (direct_exit_to n k s o)

@@ -18,14 +18,14 @@ use Rattle.task_machine.specs.declared.records.Subtask.{Subtask}
 use Rattle.task_machine.specs.declared.records.Thread.{Thread}
 use Rattle.task_machine.specs.declared.records.Why.{Why}
 use Rattle.task_machine.specs.declared.records.WorkCaller.{WorkCaller}
-use Rattle.task_machine.specs.declared.scenario.MainOp.{MainOp}
+use Rattle.task_machine.specs.declared.scenario.MainOpDef.{MainOpDef}
 use Rattle.task_machine.specs.declared.words.Mark.{Mark}
 use Rattle.task_machine.specs.declared.words.OwnEvent.{OwnEvent}
 use Rattle.task_machine.specs.declared.words.Status.{Status}
 use Rattle.task_rules.specs.Calls.{new_thread, next_thread, next_work}
 use Rattle.task_rules.specs.Cancels.{aborted_phase, is_callback_wait}
 use Rattle.task_rules.specs.Ends.{is_told, own_or_none}
-use Rattle.task_rules.specs.MainOps.{op_at}
+use Rattle.task_rules.specs.MainOps.{op_at, takes_words}
 use Rattle.task_rules.specs.Once.{returned_holder}
 use Rattle.task_rules.specs.OpParts.{callee_of_main_op, callee_of_op, ends_activation}
 use Rattle.task_rules.specs.Scenes.{Scene, component_of, op_in}
@@ -180,7 +180,7 @@ MayCome a n h s = IsRunner a n
 
 -- a thread beside the first one of its task, by an op that names a script
 abbrev pub MayMake : Scene → Thread → Core → Type 0
-MayMake a t s = (n : ℕ) × (IsRunner a n × ((s.made.threads ≡ a.base.made.threads) × ((x : ℕ) × ((v : ℕ) × (t ≡ new_thread (task_of n a.base) true (script.Slot x) (registers_for (v ∷ [])) None)))))
+MayMake a t s = (n : ℕ) × (IsRunner a n × ((s.made.threads ≡ a.base.made.threads) × ((x : ℕ) × ((v : ℕ) × ((t ≡ new_thread (task_of n a.base) true (script.Slot x) (registers_for (v ∷ [])) None) × (s.calls ≡ a.base.calls))))))
 
 -- Who is gone.
 pub data MayGo (a : Scene) (n : ℕ) : Type 0 where
@@ -199,8 +199,8 @@ MayWithdraw a k s = (n : ℕ) × (IsRunner a n × (HasSubtask a n (subtask.Guest
 
 -- Who calls the export: main's op, or that of the running thread.
 pub data MayCall (a : Scene) (f : Caller) (e : Callee) (group : ℕ) (s : Core) : Type 0 where
-  ByScript : (p : MainPlace) (o : MainOp) → a.main ≡ Scripted p → op_at a.setting.script p ≡ Some o → callee_of_main_op o ≡ Some e → f ≡ caller.Main → group ≡ s.made.groups → MayCall a f e group s
-  ByProgram : a.main ≡ Unscripted → f ≡ caller.Main → group ≡ s.made.groups → MayCall a f e group s
+  ByScript : (p : MainPlace) (o : MainOpDef) → a.main ≡ Scripted p → op_at a.setting.script p ≡ Some o → callee_of_main_op o ≡ Some e → f ≡ caller.Main → group ≡ s.made.groups → MayCall a f e group s
+  ByProgram : (words : ℕ) → a.main ≡ Unscripted → takes_words (component_of a) e words ≡ true → f ≡ caller.Main → group ≡ s.made.groups → MayCall a f e group s
   ByThread : (n : ℕ) → IsRunner a n → callee_of_op (op_in a n) ≡ Some e → f ≡ caller.Thread n → group ≡ thread_group n a.base → MayCall a f e group s
 
 -- a direct call isn't of an async-lifted export

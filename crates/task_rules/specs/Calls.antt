@@ -107,6 +107,7 @@ call_queues n e x g words s =
     let queued = put_switch m why.Start made in
     set_how_far n (how_far.Calls (subtask.Guest m)) (behind m (n ∷ []) (call_clears_flag n e.instance x queued))
 
+-- trap 18 (TableFull) where 3 entries don't fit
 abbrev pub call_begins : Component → ℕ → Callee → Goal → List ℕ → Core → Progress
 call_begins c n e g words s =
     trap_if (not (fits 3 s)) trap.TableFull (
@@ -120,7 +121,7 @@ put_back (Some b) j s = set_do_not_suspend j b s
 unfoldable pub call_resumes : ℕ → ℕ → Core → Core
 call_resumes n k s = set_event (subtask.Guest k) None (put_back (saved_callee_of n s) (call_instance k s) s)
 
--- the call's status that the calling thread finds
+-- the call's status that the calling thread finds; default: no event
 abbrev pub status_found : ℕ → Core → Status
 status_found k s = unwrap_or (event_of (subtask.Guest k) s) status.Starting
 
@@ -138,6 +139,7 @@ with_handle i sub s = set_subtask_handle sub (Some (new_handle i s)) (give_handl
 unfoldable pub call_pending : ℕ → ℕ → ℕ → ℕ → Core → Core
 call_pending n r k v s = answered n r v (with_handle (instance_of n s) (subtask.Guest k) (call_resumes n k s))
 
+-- Returned is answered as 2; another status with a new handle: trap 17 (HandleLimit) where none may be given
 abbrev pub call_status : ℕ → ℕ → ℕ → Core → Status → Progress
 call_status n r k s status.Returned = Goes (label.Call (call_label.Call 2 n)) (call_returned n r k s) n
 call_status n r k s e =
@@ -145,7 +147,7 @@ call_status n r k s e =
     trap_if (at_handle_limit s) trap.HandleLimit (
     Goes (label.Call (call_label.Call v n)) (call_pending n r k v s) n)
 
--- `call R Q F X*`, by how far it has come
+-- `call R Q F X*`, by how far it has come; default: inside another op
 abbrev pub call_row : Component → ℕ → ℕ → ℕ → Callee → List ℕ → Core → HowFar → Progress
 call_row c n r q e words s (how_far.Calls (subtask.Guest k)) = call_status n r k s (status_found k s)
 call_row c n r q e words s _ = call_begins c n e (goal.Register q) words s
@@ -161,6 +163,8 @@ call_stops n sub s = set_how_far n (how_far.Calls sub) (stopped_at n (place.Bloc
 unfoldable pub call_sync_stops : ℕ → ℕ → Core → Core
 call_sync_stops n k s = call_stops n (subtask.Guest k) (checked (instance_of n s) (call_resumes n k s))
 
+-- Returned is answered by the result; another status stops the strand, after a check:
+-- trap 9 (CannotBlockSyncTask) where it fails
 abbrev pub call_sync_status : ℕ → ℕ → ℕ → Core → Status → Progress
 call_sync_status n r k s status.Returned = Goes (label.Call (call_label.CallSync n (result_of k s))) (call_answered n r k s) n
 call_sync_status n r k s e =
@@ -187,12 +191,14 @@ enter_runs n e x words s =
     let on_top = set_place m place.Running (sync_sets_flag m e.instance x begun) in
     set_how_far n (how_far.Calls (subtask.Guest m)) (set_place n (place.Under m) on_top)
 
+-- trap 18 (TableFull) where 3 entries don't fit, trap 17 (HandleLimit) where no handle may be given
 abbrev pub enter_row : ℕ → Callee → ExportKind → List ℕ → Core → Progress
 enter_row n e x words s =
     trap_if (not (fits 3 s)) trap.TableFull (
     trap_if (at_handle_limit s) trap.HandleLimit (
     Goes (label.Call (call_label.Enters n (next_thread s))) (enter_runs n e x words s) (next_thread s)))
 
+-- by whether the export is async-lifted: its start is queued, or it is called directly
 abbrev pub call_sync_begins : Component → ℕ → Callee → List ℕ → Core → Bool → Progress
 call_sync_begins c n e words s true = call_begins c n e goal.Answer words s
 call_sync_begins c n e words s false = enter_row n e (export_kind c e) words s
@@ -253,6 +259,8 @@ host_pending n r q v host s =
     let made = work_queued (work_caller.Async n q) host (Some (thread_group n s)) s in
     assigned n r v (with_handle (instance_of n s) (subtask.Host (next_work s)) made)
 
+-- a value at once; a failure, which ends the run; or a pending work:
+-- trap 18 (TableFull) where 1 entry doesn't fit, trap 17 (HandleLimit) where no handle may be given
 abbrev pub call_host_polled : ℕ → ℕ → ℕ → Core → FirstPoll → Progress
 call_host_polled n r q s (AtOnce v) = Goes (label.Call (call_label.CallPolls 2 n (next_work s))) (host_ready n r q v s) n
 call_host_polled n r q s Failing = Fails (next_work s)
@@ -274,6 +282,8 @@ call_sync_host_stops n host s =
     let made = work_queued (work_caller.Sync n) host (Some (thread_group n s)) (checked (instance_of n s) s) in
     call_stops n (subtask.Host (next_work s)) made
 
+-- a value at once; a failure, which ends the run; or a pending work, which stops the strand after a check:
+-- trap 18 (TableFull) where 1 entry doesn't fit, trap 9 (CannotBlockSyncTask) where the check fails
 abbrev pub call_sync_host_polled : ℕ → ℕ → Core → FirstPoll → Progress
 call_sync_host_polled n r s (AtOnce v) = Goes (label.CallSyncPolls n v (next_work s)) (host_answered n r v s) n
 call_sync_host_polled n r s Failing = Fails (next_work s)
@@ -293,6 +303,7 @@ work_group i s = option_and_then (λ w. w.group) (get s.works i)
 unfoldable pub work_deleted : ℕ → Core → Core
 work_deleted i s = settle_group_of (work_group i s) (remove_work i s)
 
+-- what the sync host call ended with; default: no value
 abbrev pub work_value : ℕ → Core → ℕ
 work_value i s = unwrap_or (course_value (course_of i s)) 0
 

@@ -49,6 +49,7 @@ pauses n = label.Thread (thread_label.Pauses n)
 unfoldable pub cancel_takes_end : ℕ → ℕ → Subtask → Status → Core → Core
 cancel_takes_end n r sub e s = answered n r (status_code e) (set_event sub None s)
 
+-- trap 5 (SubtaskCancelAfterTerminal) where the end was handed out before
 abbrev pub cancel_ended_row : Mode → ℕ → ℕ → Subtask → Core → Option Status → Progress
 cancel_ended_row mode n r sub s None = Traps trap.SubtaskCancelAfterTerminal
 cancel_ended_row mode n r sub s (Some e) = Goes (cancel_label mode n (status_code e)) (cancel_takes_end n r sub e s) n
@@ -65,6 +66,8 @@ cancel_stops n sub s =
     let watched = set_join sub (join.Watched n) (set_saved_callee n None s) in
     set_how_far n (how_far.AwaitsEnd sub) (stopped_at n (place.Blocked sub) (checked (instance_of n s) watched))
 
+-- `cancel` answers that it is blocked; `cancel_sync` stops the strand after a check:
+-- trap 9 (CannotBlockSyncTask) where it fails
 abbrev pub cancel_unended_row : Mode → ℕ → ℕ → Subtask → Core → Progress
 cancel_unended_row Async n r sub s = Goes (cancel_label Async n blocked_code) (answered n r blocked_code s) n
 cancel_unended_row Sync n r sub s =
@@ -90,6 +93,7 @@ aborted_phase p = p
 unfoldable pub cancel_aborts_host : ℕ → Core → Core
 cancel_aborts_host i s = set_cancelled i (set_phase i (aborted_phase (phase_of i s)) s)
 
+-- trap 5 (SubtaskCancelAfterTerminal) where the work was cancelled before
 abbrev pub cancel_host : Mode → ℕ → ℕ → ℕ → Core → Progress
 cancel_host mode n r i s =
     trap_if (was_cancelled i s) trap.SubtaskCancelAfterTerminal (
@@ -105,7 +109,7 @@ cancel_withdraws n r k s = answered n r 3 (withdrawn k s)
 unfoldable pub cancel_asks : ℕ → Core → Core
 cancel_asks k s = set_own_event k (Some own.Cancelled) s
 
--- the canceller goes behind the entry at switch
+-- the canceller goes behind the entry at switch; default: nothing at switch
 abbrev pub behind_switch : ℕ → Option ℕ → Core → Core
 behind_switch n None s = s
 behind_switch n (Some m) s = behind (foot_of m s) (n ∷ []) s
@@ -138,7 +142,7 @@ pub data CancelCase : Type 0 where
   StartNotRun : CancelCase
   -- its callback waits on a set
   CallbackWaits : CancelCase
-  -- its callback has yielded, and the entry stands at a mark
+  -- its callback has yielded, and the entry is queued
   CallbackYields : CancelCase
   -- it runs, or is anywhere else
   OtherwiseRuns : CancelCase
@@ -165,11 +169,13 @@ abbrev pub cancel_subtask : Mode → ℕ → ℕ → Core → Subtask → Progre
 cancel_subtask mode n r s (subtask.Guest k) = cancel_guest mode n r k s (cancel_case k s)
 cancel_subtask mode n r s (subtask.Host i) = cancel_host mode n r i s
 
+-- trap 7 (WaitableSyncAndAsync) where the subtask stands in any set
 abbrev pub cancel_found : Mode → ℕ → ℕ → Core → Subtask → Progress
 cancel_found mode n r s sub =
     trap_if (is_joined (join_of sub s)) trap.WaitableSyncAndAsync (
     cancel_subtask mode n r s sub)
 
+-- the callee's instance; default: host behind
 abbrev pub subtask_instance : Subtask → Core → ℕ
 subtask_instance (subtask.Guest k) s = call_instance k s
 subtask_instance (subtask.Host i) s = 0
@@ -178,7 +184,8 @@ subtask_instance (subtask.Host i) s = 0
 unfoldable pub cancel_resumed : ℕ → Subtask → Core → Core
 cancel_resumed n sub s = set_join sub join.Nowhere (set_saved_callee n None (put_back (saved_callee_of n s) (subtask_instance sub s) s))
 
--- `cancel R X` and `cancel_sync R X`, by how far it has come
+-- `cancel R X` and `cancel_sync R X`: resumed behind the callee; resumed once the end was told; or as it begins:
+-- trap 16 (BadHandle) where X names no subtask
 abbrev pub cancel_row : Mode → ℕ → ℕ → ℕ → Core → HowFar → Progress
 cancel_row mode n r h s (how_far.Cancels sub) = after_cancel mode n r sub (cancel_resumed n sub s)
 cancel_row mode n r h s (how_far.AwaitsEnd sub) =
@@ -198,6 +205,8 @@ dropped n h sub s =
     let parted = set_subtask_handle sub None (set_join sub join.Nowhere s) in
     advanced n (subtask_settled sub (free_handle (instance_of n s) h parted))
 
+-- trap 7 (WaitableSyncAndAsync) where the subtask stands in a thread's own set,
+-- trap 6 (SubtaskDropNotResolved) where it hasn't ended, and where its event wasn't handed out
 abbrev pub drop_found : ℕ → ℕ → Core → Subtask → Progress
 drop_found n h s sub =
     trap_if (is_watched (join_of sub s)) trap.WaitableSyncAndAsync (
@@ -205,7 +214,7 @@ drop_found n h s sub =
     trap_if (is_some (event_of sub s)) trap.SubtaskDropNotResolved (
     Goes (label.Call (call_label.Drop n)) (dropped n h sub s) n)))
 
--- `drop X`
+-- `drop X`: trap 16 (BadHandle) where X names no subtask
 abbrev pub drop_row : ℕ → ℕ → Core → Progress
 drop_row n h s = or_trap (subtask_at (instance_of n s) h s) trap.BadHandle (drop_found n h s)
 

@@ -1,5 +1,5 @@
 -- The end of a task, and the ends of threads and activations.
-use Rattle.std.specs.Prelude.{Bool, List, None, Option, Some, false, if◌then◌else◌, is_none, is_some, nat_lt, not, suc, true, unwrap_or, zero, ℕ, ◌%◌, ◌&&◌, ◌/◌, ◌==◌, ◌||◌}
+use Rattle.std.specs.Prelude.{Bool, List, None, Option, Some, false, if◌then◌else◌, is_none, is_some, nat_lt, not, suc, true, unwrap_or, zero, ℕ, ◌%◌, ◌&&◌, ◌/◌, ◌||◌}
 use Rattle.task_machine.specs.declared.records.Caller.{Caller}
 use Rattle.task_machine.specs.declared.component.ExportKind.{ExportKind}
 use Rattle.task_machine.specs.declared.records.Goal.{Goal}
@@ -23,13 +23,13 @@ use Rattle.task_machine.specs.declared.records.Why.TheVariants as why
 use Rattle.task_machine.specs.Core.{Core}
 use Rattle.task_machine.specs.Labels.{exit_label}
 use Rattle.task_machine.specs.Moves.{checked, ended, may_publish, passes_check, published, put_high, put_low, released, stopped}
-use Rattle.task_machine.specs.Read.{admitted_held, blocked_on, caller_of, callers_of, foot_of, goal_of, has_ended, has_ready_member, has_waiter, instance_of, is_direct, is_explicit, is_guest_call, is_last_thread, is_nil, join_of, kind_of, own_event_of, register_of, saved_own_of, set_at, set_instance, task_of, under_of}
+use Rattle.task_machine.specs.Read.{admitted_held, caller_of, callers_of, first_at, foot_of, goal_of, has_ended, has_ready_member, instance_of, is_direct, is_explicit, is_guest_call, is_last_thread, is_nil, is_waiting_on, join_of, kind_of, own_event_of, register_of, saved_own_of, set_at, task_of, under_of}
 use Rattle.task_machine.specs.Write.{give_result, set_do_not_enter, set_do_not_suspend, set_end, set_how_far, set_own_event, set_place, set_register, set_result}
 use Rattle.task_rules.specs.Progress.{Goes, Never, Ordered, Progress, Stops, Traps, may, or_trap, trap_if}
 
 -- ---- The end of a task
 
--- the result goes where the call says; to a thread that is gone it goes nowhere
+-- the result goes where the call says; to a thread that is gone it goes nowhere; default: no goal
 abbrev pub result_given : Goal → Caller → ℕ → ℕ → Core → Core
 result_given goal.Main f k v s = give_result k v s
 result_given (goal.Register r) (caller.Thread n) k v s = set_register n r v s
@@ -68,24 +68,6 @@ leaves_no_result n s = is_last_thread n s && not (has_ended (task_of n s) s)
 unfoldable pub passes_after_stop : ℕ → ℕ → List ℕ → Core → Bool
 passes_after_stop i f held s = passes_check i s || (not (is_nil (callers_of f s)) || not (is_nil held))
 
--- the thread, if there is one, is of the instance
-abbrev pub is_in_instance : ℕ → Core → Option ℕ → Bool
-is_in_instance i s None = false
-is_in_instance i s (Some n) = instance_of n s == i
-
--- the subtask is in a set of the instance on which some thread waits
-abbrev pub wakes_in : ℕ → Core → Join → Bool
-wakes_in i s (join.Set x) = has_waiter x s && (set_instance x s == i)
-wakes_in i s _ = false
-
--- telling an end of the call gives an entry to a thread of the instance
-abbrev pub tells_in : ℕ → ℕ → Core → Bool
-tells_in i k s = is_told k s && (is_in_instance i s (blocked_on (subtask.Guest k) s) || wakes_in i s (join_of (subtask.Guest k) s))
-
--- a check of the instance passes once these held threads of it are released and the call's end is told
-unfoldable pub passes_after_return : ℕ → ℕ → List ℕ → Core → Bool
-passes_after_return i k held s = passes_check i s || (not (is_nil held) || tells_in i k s)
-
 -- ---- The ends of threads
 
 -- the instance lets entries in again, and these held threads of it are released
@@ -96,7 +78,29 @@ end_reopens i order s = released order (set_do_not_enter i false s)
 unfoldable pub held_by_flag : ℕ → Core → List ℕ
 held_by_flag i s = admitted_held i (set_do_not_enter i false s)
 
--- the flag of the instance that the thread's start saved is written back
+-- ---- A check after the return
+
+-- the first thread that waits on the set
+abbrev pub first_waiter : Join → Core → Option ℕ
+first_waiter (join.Set x) s = first_at (is_waiting_on x) s
+first_waiter _ s = None
+
+-- the waiter that telling an end of the call wakes: the chosen one; where a label shows none, as that of a trap, the first one
+abbrev pub waiter_told : ℕ → Option ℕ → Core → Option ℕ
+waiter_told k None s = first_waiter (join_of (subtask.Guest k) s) s
+waiter_told k (Some w) s = Some w
+
+-- the instance lets entries in, these held threads of it are released, and the blocking export's task returns r0
+abbrev pub blocking_returned : ℕ → Option ℕ → List ℕ → Core → Core
+blocking_returned n w order s = returned (task_of n s) (register_of n 0 s) w (end_reopens (instance_of n s) order s)
+
+-- a check of the instance passes after that
+unfoldable pub passes_after_return : ℕ → Option ℕ → Core → Bool
+passes_after_return n w s = let i = instance_of n s in passes_check i (blocking_returned n (waiter_told (task_of n s) w s) (held_by_flag i s) s)
+
+-- ---- The exits
+
+-- the flag of the instance that the thread's start saved is written back; default: no saved flag
 unfoldable pub exit_restores : ℕ → Core → Core
 exit_restores n s = set_do_not_suspend (instance_of n s) (unwrap_or (saved_own_of n s) false) s
 
@@ -104,7 +108,8 @@ exit_restores n s = set_do_not_suspend (instance_of n s) (unwrap_or (saved_own_o
 unfoldable pub exit_stops : ℕ → Core → Core
 exit_stops n s = ended n (stopped (foot_of n s) (checked (instance_of n s) s))
 
--- a stackful export's exit, and an explicit thread's
+-- a stackful export's exit, and an explicit thread's: trap 9 (CannotBlockSyncTask) where the check fails,
+-- trap 4 (NoAsyncResult) where no thread is left and the task hasn't ended
 abbrev pub thread_exit_row : ℕ → Core → Progress
 thread_exit_row n s =
     trap_if (not (passes_check (instance_of n s) s)) trap.CannotBlockSyncTask (
@@ -115,17 +120,19 @@ thread_exit_row n s =
 unfoldable pub sync_exits : ℕ → Option ℕ → Core → Core
 sync_exits n w s = ended n (stopped (foot_of n s) (returned (task_of n s) (register_of n 0 s) w (exit_restores n s)))
 
+-- a sync export's exit
 abbrev pub sync_exit_row : ℕ → Option ℕ → Core → Progress
 sync_exit_row n w s = may (may_tell (task_of n s) w s) (Stops (exit_label n w) (sync_exits n w s))
 
--- a blocking export's task returns r0
+-- after the release and the return a blocking export's thread leaves
 unfoldable pub blocking_exits : ℕ → Option ℕ → List ℕ → Core → Core
-blocking_exits n w order s = exit_stops n (returned (task_of n s) (register_of n 0 s) w (end_reopens (instance_of n s) order s))
+blocking_exits n w order s = exit_stops n (blocking_returned n w order s)
 
+-- a blocking export's exit: trap 9 (CannotBlockSyncTask) where the check after the release and the return fails
 abbrev pub blocking_exit_row : ℕ → Option ℕ → Core → Progress
 blocking_exit_row n w s =
     let held = held_by_flag (instance_of n s) s in
-    trap_if (not (passes_after_return (instance_of n s) (task_of n s) held s)) trap.CannotBlockSyncTask (
+    trap_if (not (passes_after_return n w s)) trap.CannotBlockSyncTask (
     may (may_tell (task_of n s) w s) (
     Ordered held (λ order. Stops (exit_label n w) (blocking_exits n w order s))))
 
@@ -133,6 +140,8 @@ blocking_exit_row n w s =
 unfoldable pub direct_exits : ℕ → ℕ → ℕ → Core → Core
 direct_exits n m v s = set_how_far m (how_far.Answered v) (set_place m place.Running (ended n (set_end (task_of n s) call_end.Returned s)))
 
+-- of a sync export the flag is written back; of a blocking one a check: trap 9 (CannotBlockSyncTask) where it fails;
+-- default: nobody under
 abbrev pub direct_exit_to : ℕ → ExportKind → Core → Option ℕ → Progress
 direct_exit_to n x s None = Never
 direct_exit_to n kind.Sync s (Some m) =
@@ -176,11 +185,15 @@ code_waits n x order s = set_place n (place.Waiting x true) (code_stops n order 
 unfoldable pub has_event_for : ℕ → ℕ → Core → Bool
 has_event_for k x s = is_some (own_event_of k s) || has_ready_member x s
 
+-- by whether an event is there
 abbrev pub code_wait_row : Label → ℕ → ℕ → List ℕ → Core → Bool → Progress
 code_wait_row l n x held s true = Ordered held (λ order. Stops l (code_finds n x order s))
 code_wait_row l n x held s false = Ordered held (λ order. Stops l (code_waits n x order s))
 
--- by the low four bits of the code, and the rest of it
+-- By the low four bits of the code, and the rest of it.
+-- 0: trap 9 (CannotBlockSyncTask) where the check after the release and the stop fails, trap 4 (NoAsyncResult) where no thread is
+-- left and the task hasn't ended. 1: the callback yields. 2: trap 16 (BadHandle) where the rest names no set.
+-- Else trap 12 (UnsupportedCallbackCode)
 abbrev pub code_kind_row : Label → ℕ → List ℕ → Core → ℕ → ℕ → Progress
 code_kind_row l n held s zero rest =
     trap_if (not (passes_after_stop (instance_of n s) (foot_of n s) held s)) trap.CannotBlockSyncTask (
@@ -192,7 +205,7 @@ code_kind_row l n held s (suc (suc zero)) rest =
     λ x. code_wait_row l n x held s (has_event_for (task_of n s) x s))
 code_kind_row l n held s _ rest = Traps trap.UnsupportedCallbackCode
 
--- a callback activation ends with the code
+-- a callback activation ends with the code: trap 12 (UnsupportedCallbackCode) where it is above 4294967295
 abbrev pub code_row : Label → ℕ → Core → ℕ → Progress
 code_row l n s code =
     trap_if (nat_lt 4294967295 code) trap.UnsupportedCallbackCode (
@@ -206,13 +219,16 @@ kind_exit_row n w s kind.Blocking = blocking_exit_row n w s
 kind_exit_row n w s kind.Stackful = thread_exit_row n s
 kind_exit_row n w s kind.Callback = code_row (exit_label n None) n s 0
 
+-- of a call's first thread, by whether the call is direct
 abbrev pub implicit_exit_row : ℕ → Option ℕ → Core → Bool → Progress
 implicit_exit_row n w s true = direct_exit_row n s
 implicit_exit_row n w s false = kind_exit_row n w s (kind_of (task_of n s) s)
 
+-- by whether the thread is explicit
 abbrev pub exit_row_for : ℕ → Option ℕ → Core → Bool → Progress
 exit_row_for n w s true = thread_exit_row n s
 exit_row_for n w s false = implicit_exit_row n w s (is_direct (goal_of (task_of n s) s))
 
+-- `exit`, and a script's end
 abbrev pub exit_row : ℕ → Option ℕ → Core → Progress
 exit_row n w s = exit_row_for n w s (is_explicit n s)

@@ -17,6 +17,7 @@ pub mod Run
 pub mod Outcome
 pub mod Texts
 pub mod History
+pub mod SubtaskEnds
 pub mod Once
 pub mod Notices
 pub mod Words

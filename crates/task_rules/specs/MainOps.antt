@@ -1,16 +1,18 @@
 -- The ops of main.
 use Rattle.std.specs.List.{list_any}
-use Rattle.std.specs.Prelude.{Bool, List, None, Option, Some, [], false, length, not, slice_get, slice_set, true, unwrap_or, ℕ, ◌&&◌, ◌++◌, ◌+◌, ◌-◌, ◌==◌, ◌∷◌}
+use Rattle.std.specs.Option.{option_map_or}
+use Rattle.std.specs.Prelude.{Bool, List, None, Option, Some, [], false, is_some, length, not, slice_get, slice_set, true, unwrap_or, ℕ, ◌&&◌, ◌++◌, ◌+◌, ◌-◌, ◌==◌, ◌∷◌}
 use Rattle.task_machine.specs.declared.component.Callee.{Callee}
 use Rattle.task_machine.specs.declared.component.Component.{Component}
 use Rattle.task_machine.specs.declared.label.MainLabel.{MainLabel}
-use Rattle.task_machine.specs.declared.scenario.MainOp.{MainOp}
+use Rattle.task_machine.specs.declared.scenario.MainOpDef.{MainOpDef}
 use Rattle.task_machine.specs.declared.words.Phase.{Phase}
 use Rattle.task_machine.specs.declared.trap.Trap.{Trap}
+use Rattle.task_machine.specs.declared.records.WorkCaller.{WorkCaller}
 use Rattle.task_machine.specs.declared.records.Caller.TheVariants as caller
 use Rattle.task_machine.specs.declared.records.Goal.TheVariants as goal
 use Rattle.task_machine.specs.declared.label.MainLabel.TheVariants as main_label
-use Rattle.task_machine.specs.declared.scenario.MainOp.TheVariants as main_op
+use Rattle.task_machine.specs.declared.scenario.MainOpDef.TheVariants as main_op
 use Rattle.task_machine.specs.declared.words.Phase.TheVariants as phase
 use Rattle.task_machine.specs.declared.trap.Trap.TheVariants as trap
 use Rattle.task_machine.specs.declared.records.Why.TheVariants as why
@@ -22,7 +24,7 @@ use Rattle.task_machine.specs.Read.{backpressure_of, fits, may_not_enter, phase_
 use Rattle.task_machine.specs.Write.{add_group, set_phase, set_trapped, take_result}
 use Rattle.task_rules.specs.Calls.{call_made, next_thread, next_work, work_queued}
 use Rattle.task_rules.specs.Cancels.{aborted_phase}
-use Rattle.task_rules.specs.Scripts.{export_kind, host_at, value_in, values_in}
+use Rattle.task_rules.specs.Scripts.{export_at, export_kind, host_at, value_in, values_in}
 
 -- What an op of main is about, its operands read: the call, the work or the instance that it names.
 pub data MainAct : Type 0 where
@@ -35,7 +37,7 @@ pub data MainAct : Type 0 where
   Ready : (instance : ℕ) → MainAct
   Answer : (value : ℕ) → MainAct
 
--- What such an op comes to.
+-- What such an op results in.
 pub data MainProgress : Type 0 where
   Does : (label : MainLabel) → (new : Core) → MainProgress
   Pends : MainProgress
@@ -102,15 +104,47 @@ main_row c k s Quiet = unless_pending (not (has_interesting s)) main_label.Quiet
 main_row c k s (Ready i) = unless_pending (is_ready_for_call i s) main_label.Ready s
 main_row c k s (Answer v) = Answers v
 
+-- ---- What a main may do
+
+-- the component has the export, which takes this many words
+abbrev pub takes_words : Component → Callee → ℕ → Bool
+takes_words c e n = option_map_or (λ d. d.params == n) (export_at c e) false
+
+abbrev pub is_refusal : Trap → Bool
+is_refusal trap.CannotEnterComponent = true
+is_refusal trap.TableFull = true
+is_refusal _ = false
+
+abbrev pub is_spawn_caller : WorkCaller → Bool
+is_spawn_caller work_caller.Spawn = true
+is_spawn_caller _ = false
+
+abbrev pub is_spawn : ℕ → Core → Bool
+is_spawn i s = option_map_or (λ w. is_spawn_caller w.caller) (get s.works i) false
+
+-- what a main names is there: the export that it starts, with its words, a host, a spawn, an instance; a start that was refused has trapped the store
+abbrev pub may_act : Component → Core → MainAct → Bool
+may_act c s (Start e words) = takes_words c e (length words)
+may_act c s (Finish (Began n)) = true
+may_act c s (Finish (Refused t)) = s.trapped && is_refusal t
+may_act c s (Spawn h) = is_some (slice_get c.hosts h)
+may_act c s (Abort i) = is_spawn i s
+may_act c s (Await i) = is_spawn i s
+may_act c s Quiet = true
+may_act c s (Ready i) = is_some (slice_get c.instances i)
+may_act c s (Answer v) = true
+
 -- ---- Main's script
 
+-- default: absent start or spawn
 abbrev pub started_at : MainPlace → ℕ → Started
 started_at p k = unwrap_or (slice_get p.starts (k - 1)) (Began 0)
 
+-- default: absent start or spawn
 abbrev pub spawned_at : MainPlace → ℕ → ℕ
 spawned_at p k = unwrap_or (slice_get p.spawns (k - 1)) 0
 
-abbrev pub act_of : MainPlace → MainOp → MainAct
+abbrev pub act_of : MainPlace → MainOpDef → MainAct
 act_of p (main_op.Start e xs) = Start e (values_in p.registers xs)
 act_of p (main_op.Finish k r) = Finish (started_at p k)
 act_of p (main_op.Spawn h) = Spawn h
@@ -121,7 +155,7 @@ act_of p (main_op.Ready e) = Ready e.instance
 act_of p (main_op.Answer x) = Answer (value_in p.registers x)
 
 -- the K of the op: that which it names, else the next one of its kind
-abbrev pub line_of : MainPlace → MainOp → ℕ
+abbrev pub line_of : MainPlace → MainOpDef → ℕ
 line_of p (main_op.Start e xs) = length p.starts + 1
 line_of p (main_op.Finish k r) = k
 line_of p (main_op.Spawn h) = length p.spawns + 1
@@ -132,12 +166,12 @@ line_of p _ = 0
 abbrev pub after_op : MainPlace → MainPlace
 after_op p = record p { position = p.position + 1 }
 
-abbrev pub finished_into : MainOp → ℕ → MainPlace → MainPlace
+abbrev pub finished_into : MainOpDef → ℕ → MainPlace → MainPlace
 finished_into (main_op.Finish k r) v p = record p { registers = slice_set p.registers r v }
 finished_into _ v p = p
 
 -- what the label of an op leaves in main's part
-abbrev pub noted : MainOp → MainLabel → MainPlace → MainPlace
+abbrev pub noted : MainOpDef → MainLabel → MainPlace → MainPlace
 noted op (main_label.Start k n) p = record p { starts = p.starts ++ Began n ∷ [] }
 noted op (main_label.StartRefused t k) p = record p { starts = p.starts ++ Refused t ∷ [] }
 noted op (main_label.Finish k v) p = finished_into op v p
@@ -145,9 +179,9 @@ noted op (main_label.Spawn k i) p = record p { spawns = p.spawns ++ i ∷ [] }
 noted op _ p = p
 
 -- main's part, once its op has shown the label
-abbrev pub advanced_main : MainOp → MainLabel → MainPlace → MainPlace
+abbrev pub advanced_main : MainOpDef → MainLabel → MainPlace → MainPlace
 advanced_main op l p = after_op (noted op l p)
 
 -- main's op; past the script's end there is none, and nothing is lawful but to pend
-abbrev pub op_at : List MainOp → MainPlace → Option MainOp
+abbrev pub op_at : List MainOpDef → MainPlace → Option MainOpDef
 op_at ops p = slice_get ops p.position

@@ -4,11 +4,11 @@ use Rattle.task_machine.specs.declared.component.Callee.{Callee}
 use Rattle.task_machine.specs.declared.op.CallOp.{CallOp}
 use Rattle.task_machine.specs.declared.op.Op.{Op}
 use Rattle.task_machine.specs.declared.op.TaskOp.{TaskOp}
-use Rattle.task_machine.specs.declared.scenario.MainOp.{MainOp}
+use Rattle.task_machine.specs.declared.scenario.MainOpDef.{MainOpDef}
 use Rattle.task_machine.specs.declared.op.CallOp.TheVariants as call_op
 use Rattle.task_machine.specs.declared.op.Op.TheVariants as op
 use Rattle.task_machine.specs.declared.op.TaskOp.TheVariants as task_op
-use Rattle.task_machine.specs.declared.scenario.MainOp.TheVariants as main_op
+use Rattle.task_machine.specs.declared.scenario.MainOpDef.TheVariants as main_op
 
 -- the ops that end a callback's activation with a code
 abbrev pub is_code_op : TaskOp → Bool
@@ -31,6 +31,6 @@ abbrev pub callee_of_op : Op → Option Callee
 callee_of_op (op.Call o) = callee_of_call o
 callee_of_op _ = None
 
-abbrev pub callee_of_main_op : MainOp → Option Callee
+abbrev pub callee_of_main_op : MainOpDef → Option Callee
 callee_of_main_op (main_op.Start e xs) = Some e
 callee_of_main_op _ = None

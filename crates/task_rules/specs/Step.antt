@@ -3,7 +3,7 @@ use Rattle.std.specs.Prelude.{Bool, IsPermutation, List, None, Option, Some, fal
 use Rattle.task_machine.specs.declared.component.Component.{Component}
 use Rattle.task_machine.specs.declared.records.Entry.{Entry}
 use Rattle.task_machine.specs.declared.label.Label.{Label}
-use Rattle.task_machine.specs.declared.scenario.MainOp.{MainOp}
+use Rattle.task_machine.specs.declared.scenario.MainOpDef.{MainOpDef}
 use Rattle.task_machine.specs.declared.words.Mark.{Mark}
 use Rattle.task_machine.specs.declared.op.Op.{Op}
 use Rattle.task_machine.specs.declared.trap.Trap.{Trap}
@@ -22,7 +22,7 @@ use Rattle.task_machine.specs.Read.{next_entry, strand_of}
 use Rattle.task_machine.specs.Write.{remove_threads, set_trapped}
 use Rattle.task_rules.specs.Cancels.{subtask_row}
 use Rattle.task_rules.specs.Data.{data_row}
-use Rattle.task_rules.specs.MainOps.{Answers, Does, MainAct, MainProgress, Pends, act_of, advanced_main, line_of, main_row, op_at}
+use Rattle.task_rules.specs.MainOps.{Answers, Does, MainAct, MainProgress, Pends, act_of, advanced_main, line_of, main_row, may_act, op_at}
 use Rattle.task_rules.specs.Progress.{Fails, Goes, Never, Ordered, Progress, Stops, Traps}
 use Rattle.task_rules.specs.Scripts.{op_of}
 use Rattle.task_rules.specs.Sets.{set_row}
@@ -43,7 +43,7 @@ op_row c n s ch (op.Set o) = set_row n s ch o
 op_row c n s ch (op.Call o) = subtask_row c n s o
 op_row c n s ch (op.Thread o) = thread_row c n s o
 
--- what the next step of the running thread comes to, where it chooses so
+-- what the next step of the running thread results in, where it chooses so
 unfoldable pub did : Component → ℕ → Core → Choice → Progress
 did c n s ch = op_row c n s ch (op_of c n s)
 
@@ -65,13 +65,13 @@ Progresses s base n (Ordered ns next) l t = (order : List ℕ) × (IsPermutation
 
 -- ---- The turns
 
--- the ops of main: of a script the op at its place, else any op that the core allows
-abbrev pub MainProgresses : State → MainPlace → MainOp → MainProgress → Label → State → Type 0
+-- the ops of main: of a script the op at its place, else any act that a main may do
+abbrev pub MainProgresses : State → MainPlace → MainOpDef → MainProgress → Label → State → Type 0
 MainProgresses s p o (Does l new) x t = (x ≡ label.Main l) × (t ≡ at_turn s new (Scripted (advanced_main o l p)) turn.Main)
 MainProgresses s p o Pends x t = (x ≡ label.Loop loop_label.MainPends) × (t ≡ goes_to s s.core (turn.Futures 0))
 MainProgresses s p o (Answers v) x t = (x ≡ label.Main (main_label.Answer v)) × (t ≡ goes_to s s.core turn.Over)
 
-abbrev pub ScriptStep : Setting → State → MainPlace → Option MainOp → Label → State → Type 0
+abbrev pub ScriptStep : Setting → State → MainPlace → Option MainOpDef → Label → State → Type 0
 ScriptStep x s p None l t = (l ≡ label.Loop loop_label.MainPends) × (t ≡ goes_to s s.core (turn.Futures 0))
 ScriptStep x s p (Some o) l t = MainProgresses s p o (main_row x.component (line_of p o) s.core (act_of p o)) l t
 
@@ -80,10 +80,14 @@ OpenProgresses s (Does l new) x t = (x ≡ label.Main l) × (t ≡ goes_to s new
 OpenProgresses s Pends x t = ⊥
 OpenProgresses s (Answers v) x t = (x ≡ label.Main (main_label.Answer v)) × (t ≡ goes_to s s.core turn.Over)
 
--- a main that is no script may pend, or do any op that the core allows
+-- a main that is no script does such an act, in an op that is the k-th of its kind or names it
+abbrev pub OpenAct : Setting → State → ℕ → MainAct → Label → State → Type 0
+OpenAct x s k act l t = (may_act x.component s.core act ≡ true) × OpenProgresses s (main_row x.component k s.core act) l t
+
+-- it may pend, or do any act that a main may do in this core
 abbrev pub OpenStep : Setting → State → Label → State → Type 0
 OpenStep x s (label.Loop loop_label.MainPends) t = t ≡ goes_to s s.core (turn.Futures 0)
-OpenStep x s l t = (k : ℕ) × ((act : MainAct) × OpenProgresses s (main_row x.component k s.core act) l t)
+OpenStep x s l t = (k : ℕ) × ((act : MainAct) × OpenAct x s k act l t)
 
 abbrev pub MainStep : Setting → State → Main → Label → State → Type 0
 MainStep x s (Scripted p) l t = ScriptStep x s p (op_at x.script p) l t

@@ -53,11 +53,12 @@ popped mark.Low s = set_low (rest_of s.queues.low) s
 unfoldable pub pushed : ℕ → Core → Core
 pushed i s = set_stage i stage.Live s
 
--- what the host call came to is told
+-- what the host call resulted in is told
 abbrev pub host_status : Option ℕ → Status
 host_status None = status.ReturnCancelled
 host_status (Some v) = status.Returned
 
+-- default: host entry of another work
 abbrev pub host_result : WorkCaller → Option ℕ → Core → Core
 host_result (work_caller.Async n q) (Some v) s = set_register n q v s
 host_result _ _ s = s
@@ -90,6 +91,7 @@ take_holds n w s = stopped_at n (place.Held w) s
 unfoldable pub start_holds : ℕ → Option ℕ → Core → Core
 start_holds n w s = take_holds n why.Start (starting_told (task_of n s) w s)
 
+-- a sync export saves and sets `do_not_suspend`; a blocking one and a callback set `do_not_enter`
 abbrev pub start_sets_flags : ℕ → ExportKind → Core → Core
 start_sets_flags n kind.Sync s = sync_sets_flag n (instance_of n s) kind.Sync s
 start_sets_flags n kind.Stackful s = s
@@ -105,6 +107,7 @@ start_begins n w s =
 unfoldable pub running : ℕ → Core → Core
 running n s = set_place n place.Running s
 
+-- an explicit thread goes on; a call's first thread begins: trap 17 (HandleLimit) where no thread handle may be given
 abbrev pub start_admitted : Mark → ℕ → Option ℕ → Core → Bool → Progress
 start_admitted m n w s true = Goes (take_label m n None) (running n s) n
 start_admitted m n w s false =
@@ -112,6 +115,7 @@ start_admitted m n w s false =
     may (may_tell (task_of n s) w s) (
     Goes (take_label m n w) (start_begins n w s) n))
 
+-- by whether the start is admitted
 abbrev pub start_row : Mark → ℕ → Option ℕ → Core → Bool → Progress
 start_row m n w s true = start_admitted m n w s (is_explicit n s)
 start_row m n w s false =
@@ -134,6 +138,7 @@ activated_woken n x w g v s = activated n g v (handed_on x g w s)
 unfoldable pub wait_again : ℕ → ℕ → Core → Core
 wait_again n x s = stopped_at n (place.Waiting x true) s
 
+-- the callback waits again where nothing is there; else it is given what is there
 abbrev pub set_delivered : Mark → ℕ → ℕ → Choice → Core → Gift → Progress
 set_delivered m n x ch s NoGift = Stops (label.Take (take.Again m n)) (wait_again n x s)
 set_delivered m n x ch s g =
@@ -141,6 +146,7 @@ set_delivered m n x ch s g =
     may (may_hand_on x g ch.woken s) (
     Goes (event_label m n v ch.woken) (activated_woken n x ch.woken g v s) n)
 
+-- of a yield and of a cancel: the own event alone, and 0 0 0 where none is there
 abbrev pub own_delivered : Mark → ℕ → Core → Gift → Progress
 own_delivered m n s g =
     let v = given_for g 0 s in
@@ -152,6 +158,7 @@ delivered m n ch s (delivery.Set x) =
     set_delivered m n x ch s)
 delivered m n ch s d = own_delivered m n s (own_gift_only (task_of n s) s)
 
+-- by whether the delivery is admitted
 abbrev pub delivery_row : Mark → ℕ → Choice → Core → Delivery → Bool → Progress
 delivery_row m n ch s d true = delivered m n ch s d
 delivery_row m n ch s d false = Stops (held_label m n None) (take_holds n (why.Delivery d) s)
@@ -163,12 +170,12 @@ thread_taken_for m n ch s why.Start = start_row m n ch.woken s (admits n s why.S
 thread_taken_for m n ch s (why.Delivery d) = delivery_row m n ch s d (admits n s (why.Delivery d))
 thread_taken_for m n ch s why.Resumption = Goes (take_label m n None) (running n s) n
 
--- only a thread whose entry stands at a mark is taken
+-- only a thread whose entry is queued is taken; default: not queued
 abbrev pub thread_taken : Mark → ℕ → Choice → Core → Option Place → Progress
 thread_taken m n ch s (Some (place.Ready x w)) = thread_taken_for m n ch s w
 thread_taken m n ch s _ = Never
 
--- the entry, which stood at the mark, is taken
+-- the entry, which was queued at the mark, is taken
 abbrev pub take_row : Mark → Choice → Core → Entry → Progress
 take_row m ch s (entry.Thread n) = thread_taken m n ch s (place_of n s)
 take_row m ch s (entry.Push i) = Stops (label.Take (take.Push m i)) (pushed i s)
