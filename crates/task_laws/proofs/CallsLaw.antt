@@ -185,7 +185,7 @@ some_none o x e none = absurd (subst T (ap (λ r. is_some r) (sym e ∙ none)) t
 pub same_some : {X : Type 0} (o : Option X) (x y : X) → o ≡ Some x → o ≡ Some y → x ≡ y
 same_some o x y e f = ap (λ r. unwrap_or r x) (sym e ∙ f)
 
-none_is : {X : Type 0} (o : Option X) → is_none o ≡ true → o ≡ None
+pub none_is : {X : Type 0} (o : Option X) → is_none o ≡ true → o ≡ None
 none_is None h = refl
 none_is (Some x) h = no_way h
 

@@ -3,7 +3,7 @@ use Rattle.std.proofs.Common.{ap, inl, inr, le_refl, le_trans, refl, subst, sym,
 use Rattle.std.specs.Option.{option_map_or}
 use Rattle.std.specs.Prelude.{List, None, Option, Some, [], false, is_none, is_some, option_map, true, ℕ, ◌∷◌, ◌≡◌, ◌≤◌, ◌⊎◌}
 use Rattle.task_laws.proofs.CallsCame.{Basis, CallCame, Delivers, Ends, Grown, Grows, IsBeside, IsFirst, IsGone, IsSame, Keeps, NewCall, NoCall, Starts, ThreadCame, basis, call_came, thread_came}
-use Rattle.task_laws.proofs.CallsLaw.{CallsGo, CallsHold, Goes, GoneOr, KindHolds, base_task, both, call_goes, call_nameless, call_there, delivered_in, first_runner, goes_after, goes_of, is_positive, kept_callback, later_after, later_same, next_nameless, no_way, place_delivers, ready_delivered, rises_after, rises_same, same_after, same_some, some_none, there_number, thread_goes, too_high, true_is_not_false}
+use Rattle.task_laws.proofs.CallsLaw.{CallsGo, CallsHold, Goes, GoneOr, KindHolds, base_task, both, call_goes, call_nameless, call_there, delivered_in, first_runner, goes_after, goes_of, is_positive, kept_callback, later_after, later_same, next_nameless, no_way, none_is, place_delivers, ready_delivered, rises_after, rises_same, same_after, same_some, some_none, there_number, thread_goes, too_high, true_is_not_false}
 use Rattle.task_laws.proofs.CameLemmas.{came_word}
 use Rattle.task_laws.proofs.CountLemmas.{made_threads_word}
 use Rattle.task_laws.specs.Order.{CallKind, CallKinds, Numbered, ThreadNumbered, is_delivered}
@@ -27,6 +27,8 @@ use Rattle.task_machine.specs.declared.records.Why.TheVariants as why
 use Rattle.task_machine.specs.declared.words.Mark.{Mark}
 use Rattle.task_machine.specs.declared.words.Mark.TheVariants as mark
 use Rattle.task_rules.proofs.ChainLemmas.{along}
+use Rattle.task_rules.proofs.LawLemmas.{never_fewer}
+use Rattle.task_rules.proofs.WalkSteps.{step_walks}
 use Rattle.task_rules.specs.Allowed.{Allowed, IsRunner, MayDeliver, MayEnd, is_exit}
 use Rattle.task_rules.specs.Allowed as may
 use Rattle.task_rules.specs.Chains.{LastWords, StepsAreWalks, Walked}
@@ -65,9 +67,9 @@ module _ (a : Scene) (codes : CodesInCallbacks (component_of a)) (h : CallsHold 
             })
         go (IsBeside u is l same m e) = subst (ThreadNumbered (after_word w s) n) (same_some _ u t e at) (record {
           number = l;
-          call = subst (λ (k : ℕ). k ≤ (after_word w s).made.threads) (sym (ap (λ (r : Thread). r.call) m.1.1.1.1.1)) (le_trans (base_task a codes h m.0) (le_trans q.counted (made_threads_word a w s)));
-          own = λ z. absurd (true_is_not_false (sym (ap (λ (r : Thread). r.explicit) m.1.1.1.1.1) ∙ z));
-          there = λ z. absurd (true_is_not_false (sym (ap (λ (r : Thread). r.explicit) m.1.1.1.1.1) ∙ z));
+          call = subst (λ (k : ℕ). k ≤ (after_word w s).made.threads) (sym (ap (λ (r : Thread). r.call) m.1.1.1.1.1.0)) (le_trans (base_task a codes h m.0) (le_trans q.counted (made_threads_word a w s)));
+          own = λ z. absurd (true_is_not_false (sym (ap (λ (r : Thread). r.explicit) m.1.1.1.1.1.0) ∙ z));
+          there = λ z. absurd (true_is_not_false (sym (ap (λ (r : Thread). r.explicit) m.1.1.1.1.1.0) ∙ z));
           nameless = λ z. ap (λ (o : Option Call). is_none o) same ∙ next_nameless a codes h q n is;
         })
         go (IsFirst u is l there x y e) = subst (ThreadNumbered (after_word w s) n) (same_some _ u t e at) (record {
@@ -209,5 +211,102 @@ base_is turn.Over s = refl
 pub of_base : (P : Core → Type 0) (u : Turn) (s : Core) → P (record s { queues = (base_at u s).queues }) → P (base_at u s)
 of_base P u s p = subst P (sym (base_is u s)) p
 
-kind_same : {c : Component} {s : Core} {k : ℕ} {x : Call} → CallKind c s k x → (q : _) → CallKind c (record s { queues = q }) k x
-kind_same p q = record { kind = p.kind; direct = p.direct; uncancelled = p.uncancelled; gone = p.gone }
+-- From the state s on the row reads the core b: the calls and threads are those of s.
+record Begins (c : Component) (s b : Core) : Type 0 where
+  counted : b.made.threads ≤ s.made.threads
+  threads : (n : ℕ) → n ≤ b.made.threads → LaterBy SameThread (get b.threads n) (get s.threads n)
+  calls : (k : ℕ) → k ≤ b.made.threads → LaterBy Goes (get b.calls k) (get s.calls k)
+  holds : CallsHold c b
+
+begins : (c : Component) (u : Turn) (s : Core) → CallsHold c s → Begins c s (base_at u s)
+begins c u s p = of_base (Begins c s) u s (record {
+  counted = le_refl _;
+  threads = λ n below. later_same SameThread (λ t. record { call = refl; explicit = refl }) (get s.threads n);
+  calls = λ k below. later_same Goes (λ x. record { kind = refl; rises = rises_same x }) (get s.calls k);
+  holds = record {
+    numbered = record {
+      threads = λ n t e. record {
+        number = (p.numbered.threads n t e).number;
+        call = (p.numbered.threads n t e).call;
+        own = (p.numbered.threads n t e).own;
+        there = (p.numbered.threads n t e).there;
+        nameless = (p.numbered.threads n t e).nameless;
+      };
+      calls = p.numbered.calls;
+    };
+    kinds = λ k x e. record {
+      kind = (p.kinds k x e).kind;
+      direct = (p.kinds k x e).direct;
+      uncancelled = (p.kinds k x e).uncancelled;
+      gone = (p.kinds k x e).gone;
+    };
+    deliveries = p.deliveries;
+  };
+})
+
+-- ---- Steps
+
+pub step_goes : (x : Setting) (s : State) (l : Label) (t : State) → CodesInCallbacks x.component → CallsHold x.component s.core → Step x s l t → CallsHold x.component t.core × CallsRise s.core t.core
+step_goes x s l t codes p step =
+    let w : Walked x s l t = step_walks x s l t step in
+    let a : Scene = scene_of x s l w.next in
+    let b : Begins x.component s.core a.base = begins x.component s.turn s.core p in
+    let q : CallsGo a s.core = record {
+      counted = b.counted;
+      numbered = p.numbered;
+      threads = b.threads;
+      calls = b.calls;
+      kinds = λ k y e. record { kind = (p.kinds k y e).kind; direct = (p.kinds k y e).direct; uncancelled = (p.kinds k y e).uncancelled; gone = λ i j. inl ((p.kinds k y e).gone i j) };
+      deliveries = p.deliveries;
+    } in
+    let g : CallsGo a t.core = along (CallsGo a) (word_goes a codes b.holds) q w.walk in
+    (ended_holds a codes b.holds t.core g w.ends, of_base (λ c. CallsGo (record a { base = c }) t.core → CallsRise s.core t.core) s.turn s.core (λ h k below. risen (get s.core.calls k) (get t.core.calls k) (h.calls k below)) g)
+  where
+    risen : (o p : Option Call) → LaterBy Goes o p → LaterBy Rises o p
+    risen None None h = tt
+    risen None (Some y) h = absurd h
+    risen (Some x) None h = tt
+    risen (Some x) (Some y) h = h.rises
+
+-- ---- Runs
+
+none_of_empty : {X : Type 0} (n : ℕ) (x : X) → get empty n ≡ Some x → {A : Type 0} → A
+none_of_empty n x e = some_none (get empty n) x e (get-empty n)
+
+pub opening_holds : (c : Component) (instances handle_limit capacity : ℕ) → CallsHold c (fresh instances handle_limit capacity)
+unfolding fresh
+opening_holds c instances handle_limit capacity = record {
+  numbered = record { threads = λ n t e. none_of_empty n t e; calls = λ k x e. none_of_empty k x e };
+  kinds = λ k x e. none_of_empty k x e;
+  deliveries = λ n t e. none_of_empty n t e;
+}
+
+run_goes : (x : Setting) (s : State) → CodesInCallbacks x.component → CallsHold x.component s.core → (ls : List Label) (t : State) → Run x s ls t → CallsHold x.component t.core × CallsRise s.core t.core
+run_goes x s codes p [] t r = subst (λ (y : State). CallsHold x.component y.core × CallsRise s.core y.core) (sym r) (p, λ k below. later_same Rises rises_same (get s.core.calls k))
+run_goes x s codes p (l ∷ ls) t r =
+    let g = step_goes x s l r.0 codes p r.1.0 in
+    let h = run_goes x r.0 codes g.0 ls t r.1.1 in
+    (h.0, λ k below. later_after Rises rises_after _ _ _ (g.1 k below) (h.1 k (le_trans below (fewer x s l r.0 r.1.0))))
+  where
+    fewer : (x : Setting) (s : State) (l : Label) (t : State) → Step x s l t → s.core.made.threads ≤ t.core.made.threads
+    fewer x s l t step = (never_fewer x s l t step).threads
+
+-- ---- The laws
+
+pub reached_holds : {x : Setting} {s : State} → Reached x s → CallsHold x.component s.core
+reached_holds {x = x} {s = s} r = (run_goes x (opening r.instances r.handle_limit r.capacity r.main) r.scripts (opening_holds x.component r.instances r.handle_limit r.capacity) r.labels s r.run).0
+
+pub steps_rise : StepsRise
+steps_rise x s l t r step = (step_goes x s l t r.scripts (reached_holds r) step).1
+
+pub runs_rise : RunsRise
+runs_rise x s ls t r run = (run_goes x s r.scripts (reached_holds r) ls t run).1
+
+pub sync_never_cancelled : SyncNeverCancelled
+sync_never_cancelled x s r k c is sync = ((reached_holds r).kinds k c is).uncancelled sync
+
+pub sync_ends_last : SyncEndsLast
+sync_ends_last x s r k c is sync e at = none_is (get s.core.threads k) (((reached_holds r).kinds k c is).gone sync (ap (λ (o : Option CallEnd). is_some o) at))
+
+pub explicit_names_no_call : ExplicitNamesNoCall
+explicit_names_no_call x s r n t is explicit = none_is (get s.core.calls n) (((reached_holds r).numbered.threads n t is).nameless explicit)
