@@ -270,7 +270,7 @@ step_goes x s l t codes p step =
 
 -- ---- Runs
 
-none_of_empty : {X : Type 0} (n : ℕ) (x : X) → get empty n ≡ Some x → {A : Type 0} → A
+pub none_of_empty : {X : Type 0} (n : ℕ) (x : X) → get empty n ≡ Some x → {A : Type 0} → A
 none_of_empty n x e = some_none (get empty n) x e (get-empty n)
 
 pub opening_holds : (c : Component) (instances handle_limit capacity : ℕ) → CallsHold c (fresh instances handle_limit capacity)

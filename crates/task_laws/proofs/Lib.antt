@@ -21,6 +21,7 @@ pub mod CountLemmas
 pub mod CallsCame
 pub mod CallsLaw
 pub mod CallsSteps
+pub mod OneHolder
 pub mod HolderLemmas
 pub mod WrittenLemmas
 pub mod SpunFields
