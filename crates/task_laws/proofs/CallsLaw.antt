@@ -5,21 +5,20 @@ use Rattle.std.specs.List.{list_any}
 use Rattle.std.specs.Option.{option_map_or}
 use Rattle.std.specs.Ordering.{eq_by_cmp, nat_cmp}
 use Rattle.std.specs.Prelude.{Bool, List, None, Option, Some, [], false, is_none, is_some, not, option_and_then, option_map, slice_get, true, unwrap_or, ℕ, ◌&&◌, ◌+◌, ◌==◌, ◌||◌, ◌∷◌, ◌≡◌, ◌≤◌, ◌⊎◌}
-use Rattle.task_laws.proofs.CallsCame.{Basis, CallCame, Delivers, Ends, Grown, Grows, IsBeside, IsFirst, IsGone, IsSame, Keeps, NewCall, NoCall, Starts, ThreadCame, basis, call_came, thread_came}
+use Rattle.task_laws.proofs.Basics.{no_way, same_number, too_high, too_low, true_is_not_false}
+use Rattle.task_laws.proofs.CallsCame.{Basis, CallCame, Delivers, Ends, Grown, Grows, IsBeside, IsFirst, IsGone, IsSame, Keeps, NewCall, NoCall, Starts, ThreadCame, basis}
 use Rattle.task_laws.proofs.CameLemmas.{Came, Comes, Entered, Enters, Follows, IsMade, Leaves, MayStand, Shifts, Stands, Stays, came_word}
 use Rattle.task_laws.proofs.CameLemmas as came
-use Rattle.task_laws.proofs.CountLemmas.{made_threads_word}
-use Rattle.task_laws.specs.Order.{CallKind, CallKinds, DeliveredByCallback, Numbered, ThreadNumbered, is_delivered, is_delivery}
+use Rattle.task_laws.specs.Order.{CallKinds, DeliveredByCallback, Numbered, is_delivered, is_delivery}
 use Rattle.task_laws.specs.Rises.{Rises, rank, status_with}
 use Rattle.task_laws.specs.Settings.{CodesInCallbacks, HasNoCode}
 use Rattle.task_machine.specs.Core.{Core}
 use Rattle.task_machine.specs.Maps.{get}
 use Rattle.task_machine.specs.Moves.{is_callback_waiter, is_deletable, is_deletable_call}
-use Rattle.task_machine.specs.Read.{goal_of, has_ended, has_thread, is_async_lifted, is_callback, is_direct, is_explicit, is_waiting_on, kind_of, no_callee, place_of, task_of, was_started, waits_by_callback}
+use Rattle.task_machine.specs.Read.{goal_of, has_ended, has_thread, is_async_lifted, is_callback, is_direct, is_explicit, kind_of, no_callee, place_of, task_of, waits_by_callback}
 use Rattle.task_machine.specs.declared.component.Callee.{Callee}
 use Rattle.task_machine.specs.declared.component.Component.{Component}
 use Rattle.task_machine.specs.declared.component.ExportDef.{ExportDef}
-use Rattle.task_machine.specs.declared.component.ExportKind.{ExportKind}
 use Rattle.task_machine.specs.declared.component.ExportKind.TheVariants as kind
 use Rattle.task_machine.specs.declared.op.Op.{Op}
 use Rattle.task_machine.specs.declared.op.Op.TheVariants as op
@@ -43,8 +42,7 @@ use Rattle.task_rules.specs.Laws.{LaterBy, SameThread}
 use Rattle.task_rules.specs.OpParts.{ends_activation}
 use Rattle.task_rules.specs.Scenes.{Scene, component_of}
 use Rattle.task_rules.specs.Scripts.{export_at, export_kind, op_of, script_in, script_of, script_of_thread}
-use Rattle.task_rules.specs.Threads.{resume_at, resume_why}
-use Rattle.task_rules.specs.Words.{Word, after_word}
+use Rattle.task_rules.specs.Threads.{resume_at}
 
 -- ---- Statuses
 
@@ -52,12 +50,6 @@ use Rattle.task_rules.specs.Words.{Word, after_word}
 pub record Goes (c d : Call) : Type 0 where
   pub kind : d.kind ≡ c.kind
   pub rises : Rises c d
-
-pub true_is_not_false : true ≡ false → ⊥
-true_is_not_false h = subst T h tt
-
-pub no_way : {A : Type 0} → false ≡ true → A
-no_way h = absurd (true_is_not_false (sym h))
 
 pub rises_after : (b c d : Call) → Rises b c → Rises c d → Rises b d
 rises_after b c d p q = record {
@@ -135,14 +127,6 @@ module _ {X : Type 0} (P : X → X → Type 0) where
 pub same_after : (t u v : Thread) → SameThread t u → SameThread u v → SameThread t v
 same_after t u v p q = record { call = p.call ∙ q.call; explicit = p.explicit ∙ q.explicit }
 
--- ---- Arithmetic of numbers
-
-pub too_high : {q n : ℕ} → q ≡ n + 1 → q ≤ n → ⊥
-too_high e h = omega (e, h, arith)
-
-pub too_low : 1 ≤ 0 → ⊥
-too_low h = omega (h, arith)
-
 pub is_positive : (k n : ℕ) → k ≡ n + 1 → 1 ≤ k
 is_positive k n e = omega (e, arith)
 
@@ -215,9 +199,6 @@ not_right false b h = no_way h
 deletable_left : (k : ℕ) (s : Core) → is_deletable k s ≡ true → has_thread k s ≡ false
 unfolding is_deletable
 deletable_left k s h = not_right (option_map_or is_deletable_call (get s.calls k) false) (has_thread k s) h
-
-is_itself : (n : ℕ) → (n == n) ≡ true
-is_itself n = grind arith
 
 abbrev pub delivered_in : Option Place → Bool
 delivered_in o = option_map_or is_delivered o false
@@ -388,7 +369,7 @@ module _ (a : Scene) (codes : CodesInCallbacks (component_of a)) (h : CallsHold 
     pub call_there : (b k n : ℕ) (t : Thread) (p : Option Call) → get s.threads n ≡ Some t → t.call ≡ k → CallCame a s b k (get s.calls k) p → is_some (get s.calls k) ≡ true → is_some p ≡ true
     call_there b k n t p at same (Grown c d e f g) there = ap (λ (o : Option Call). is_some o) f
     call_there b k n t p at same (NoCall e (inl none)) there = absurd (true_is_not_false (sym there ∙ ap (λ (o : Option Call). is_some o) none))
-    call_there b k n t p at same (NoCall e (inr left)) there = absurd (true_is_not_false (sym (ap (λ (j : ℕ). t.call == j) (sym same) ∙ is_itself t.call) ∙ no_thread_of k n t s (deletable_left k s left) at))
+    call_there b k n t p at same (NoCall e (inr left)) there = absurd (true_is_not_false (sym (ap (λ (j : ℕ). t.call == j) (sym same) ∙ same_number t.call) ∙ no_thread_of k n t s (deletable_left k s left) at))
     call_there b k n t p at same (NewCall f e x g group is l m new) there = ap (λ (o : Option Call). is_some o) new
 
     pub call_nameless : (b n : ℕ) (p : Option Call) → n ≤ s.made.threads → CallCame a s b n (get s.calls n) p → is_none (get s.calls n) ≡ true → is_none p ≡ true

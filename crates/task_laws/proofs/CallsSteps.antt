@@ -1,12 +1,13 @@
 -- Calls along the words of a step, along steps and along runs.
 use Rattle.std.proofs.Common.{ap, inl, inr, le_refl, le_trans, refl, subst, sym, ◌∙◌}
 use Rattle.std.specs.Option.{option_map_or}
-use Rattle.std.specs.Prelude.{List, None, Option, Some, [], false, is_none, is_some, option_map, true, ℕ, ◌∷◌, ◌≡◌, ◌≤◌, ◌⊎◌}
+use Rattle.std.specs.Prelude.{List, None, Option, Some, [], false, is_none, is_some, option_map, true, ℕ, ◌∷◌, ◌≡◌, ◌≤◌}
+use Rattle.task_laws.proofs.Basics.{no_way, too_high, true_is_not_false}
 use Rattle.task_laws.proofs.CallsCame.{Basis, CallCame, Delivers, Ends, Grown, Grows, IsBeside, IsFirst, IsGone, IsSame, Keeps, NewCall, NoCall, Starts, ThreadCame, basis, call_came, thread_came}
-use Rattle.task_laws.proofs.CallsLaw.{CallsGo, CallsHold, Goes, GoneOr, KindHolds, base_task, both, call_goes, call_nameless, call_there, delivered_in, first_runner, goes_after, goes_of, is_positive, kept_callback, later_after, later_same, next_nameless, no_way, none_is, place_delivers, ready_delivered, rises_after, rises_same, same_after, same_some, some_none, there_number, thread_goes, too_high, true_is_not_false}
+use Rattle.task_laws.proofs.CallsLaw.{CallsGo, CallsHold, Goes, GoneOr, KindHolds, base_task, both, call_goes, call_nameless, call_there, delivered_in, first_runner, goes_after, goes_of, is_positive, kept_callback, later_after, later_same, next_nameless, none_is, place_delivers, ready_delivered, rises_after, rises_same, same_after, same_some, some_none, there_number, thread_goes}
 use Rattle.task_laws.proofs.CameLemmas.{came_word}
 use Rattle.task_laws.proofs.CountLemmas.{made_threads_word}
-use Rattle.task_laws.specs.Order.{CallKind, CallKinds, Numbered, ThreadNumbered, is_delivered}
+use Rattle.task_laws.specs.Order.{ThreadNumbered, is_delivered}
 use Rattle.task_laws.specs.Rises.{CallsRise, ExplicitNamesNoCall, Rises, RunsRise, StepsRise, SyncEndsLast, SyncNeverCancelled}
 use Rattle.task_laws.specs.Settings.{CodesInCallbacks, Reached}
 use Rattle.task_machine.specs.Core.{Core, State, fresh}
@@ -31,7 +32,7 @@ use Rattle.task_rules.proofs.LawLemmas.{never_fewer}
 use Rattle.task_rules.proofs.WalkSteps.{step_walks}
 use Rattle.task_rules.specs.Allowed.{Allowed, IsRunner, MayDeliver, MayEnd, is_exit}
 use Rattle.task_rules.specs.Allowed as may
-use Rattle.task_rules.specs.Chains.{LastWords, StepsAreWalks, Walked}
+use Rattle.task_rules.specs.Chains.{LastWords, Walked}
 use Rattle.task_rules.specs.Laws.{LaterBy, SameThread}
 use Rattle.task_rules.specs.Run.{Run, opening}
 use Rattle.task_rules.specs.Scenes.{Scene, base_at, base_without, component_of, scene_of}

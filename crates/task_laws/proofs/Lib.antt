@@ -1,18 +1,5 @@
+pub mod Basics
 pub mod EachLemmas
-pub mod SoundLemmas
-pub mod SoundFields
-pub mod SoundWords
-pub mod SoundEnds
-pub mod SoundRows
-pub mod SoundTakes
-pub mod SoundSteps
-pub mod BarredFields
-pub mod BarredWords
-pub mod BarredEnds
-pub mod BarredRows
-pub mod BarredTakes
-pub mod LabelLemmas
-pub mod BarredSteps
 pub mod CameLemmas
 pub mod StrandLemmas
 pub mod WaitLemmas
@@ -22,7 +9,6 @@ pub mod CallsCame
 pub mod CallsLaw
 pub mod CallsSteps
 pub mod OneHolder
-pub mod HolderLemmas
 pub mod WrittenLemmas
 pub mod SpunFields
 pub mod SpunWords

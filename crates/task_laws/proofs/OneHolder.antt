@@ -1,10 +1,11 @@
 -- At most one holding entry of an instance runs at a time: each word, each step, and each run.
-use Rattle.std.proofs.Common.{T, ap, arith, cond, eqb→eq, refl, subst, sym, ◌∙◌}
+use Rattle.std.proofs.Common.{ap, arith, cond, refl, subst, sym, ◌∙◌}
 use Rattle.std.specs.List.{list_any}
 use Rattle.std.specs.Option.{option_map_or}
 use Rattle.std.specs.Prelude.{Bool, List, None, Option, Some, [], false, filter, if◌then◌else◌, is_some, not, option_map, slice_get, slice_set, suc, true, unwrap_or, ℕ, ◌&&◌, ◌<◌, ◌==◌, ◌||◌, ◌∷◌, ◌≡◌}
+use Rattle.task_laws.proofs.Basics.{no_way, true_is_not_false}
 use Rattle.task_laws.proofs.CallsCame.{CallCame, Delivers, Ends, Grown, Grows, Keeps, NewCall, NoCall, Starts, Basis, call_came}
-use Rattle.task_laws.proofs.CallsLaw.{no_way, same_some, some_none, true_is_not_false}
+use Rattle.task_laws.proofs.CallsLaw.{same_some, some_none}
 use Rattle.task_laws.proofs.CallsSteps.{none_of_empty, of_base}
 use Rattle.task_laws.specs.Holders.{CalleesExist, RunsHoldOne}
 use Rattle.task_machine.proofs.MapLemmas.{get-change_other, get-change_same}
@@ -37,14 +38,14 @@ use Rattle.task_rules.proofs.WalkSteps.{step_walks}
 use Rattle.task_rules.specs.Allowed.{Allowed, MayCall}
 use Rattle.task_rules.specs.Allowed as may
 use Rattle.task_rules.specs.Calls.{call_made, with_handle, with_thread_handle, work_queued}
-use Rattle.task_rules.specs.Chains.{LastWords, Walked}
+use Rattle.task_rules.specs.Chains.{Walked}
 use Rattle.task_rules.specs.History.{history}
 use Rattle.task_rules.specs.MainOps.{Answers, Does, MainProgress, Pends, act_of, line_of, main_row, op_at}
 use Rattle.task_rules.specs.Once.{begun_holder, holds_one, is_among, less_holder, returned_holder, with_holder}
 use Rattle.task_rules.specs.OpParts.{callee_of_op}
 use Rattle.task_rules.specs.Progress.{Fails, Goes, Never, Ordered, Progress, Stops, Traps}
 use Rattle.task_rules.specs.Run.{Run, opening}
-use Rattle.task_rules.specs.Scenes.{Scene, base_at, component_of, scene_of}
+use Rattle.task_rules.specs.Scenes.{Scene, base_at, scene_of}
 use Rattle.task_rules.specs.Scripts.{op_of, script_of, script_of_thread}
 use Rattle.task_rules.specs.Stalled.{Setting, is_unended_take, may_deadlock}
 use Rattle.task_rules.specs.Step.{DeadlockStep, EmptyFor, FuturesStep, MainProgresses, MainStep, Polled, Progresses, RestStep, ScriptStep, Step, TakeStep, TurnStep, did, entry_number}

@@ -1,9 +1,8 @@
 -- What is kept by each word of the machine: a handle of a set names a set of its instance.
+use Rattle.task_laws.proofs.Basics.{above, no_way, same_number, too_high, true_is_not_false}
 use Rattle.std.proofs.Common.{T, ap, cond, eqb→eq, inl, inr, refl, subst, sym, ◌∙◌}
 use Rattle.std.specs.Option.{option_map_or}
 use Rattle.std.specs.Prelude.{Bool, List, None, Option, Some, false, is_some, option_and_then, option_map, true, unwrap_or, ℕ, ◌+◌, ◌==◌, ◌≡◌, ◌≤◌, ◌⊎◌}
-use Rattle.task_laws.proofs.SoundFields.{no_way}
-use Rattle.task_laws.proofs.SoundLemmas.{above, same_number, too_high, true_is_not_false}
 use Rattle.task_laws.proofs.SpunFields.{le_of_eq}
 use Rattle.task_machine.proofs.CommuteLemmas.{get-change}
 use Rattle.task_machine.proofs.MapLemmas.{get-insert_other, get-insert_same, get-remove_other}

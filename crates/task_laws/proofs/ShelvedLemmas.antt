@@ -1,11 +1,11 @@
 -- A handle of a set names a set of its instance: what each step and each run keeps.
+use Rattle.task_laws.proofs.Basics.{no_way}
 use Rattle.std.proofs.Common.{ap, cond, refl, subst, sym, ◌∙◌}
 use Rattle.std.specs.Option.{option_map_or}
 use Rattle.std.specs.Prelude.{Bool, List, None, Option, Some, [], false, is_some, not, option_and_then, option_map, true, unwrap_or, ℕ, ◌==◌, ◌∷◌, ◌≡◌}
 use Rattle.task_laws.proofs.ShelvedFields.{Shelved, set_in, set_trapped_shelved, take_result_shelved}
 use Rattle.task_laws.proofs.ShelvedRows.{Stays}
 use Rattle.task_laws.proofs.ShelvedTakes.{main_aborted_shelved, main_spawned_shelved, main_started_shelved, op_row_stays, poll_pends_shelved, popped_shelved, struck_shelved, take_row_stays, poll_ends_shelved}
-use Rattle.task_laws.proofs.SoundFields.{no_way}
 use Rattle.task_laws.specs.Handles.{SetsNamedAtHome, SetsNamedOnce}
 use Rattle.task_laws.specs.Settings.{Reached}
 use Rattle.task_machine.specs.Core.{Began, Core, Main, MainPlace, Refused, Scripted, Started, State, Table, Unscripted, filled, fresh, no_handles}

@@ -1,9 +1,8 @@
 -- What is kept by each word of the machine: a host work comes to one end.
+use Rattle.task_laws.proofs.Basics.{above, no_way, too_high, true_is_not_false}
 use Rattle.std.proofs.Common.{T, ap, arith, cond, eqb→eq, le_refl, le_trans, refl, subst, sym, ◌∙◌}
 use Rattle.std.specs.Prelude.{Bool, List, None, Option, Some, [], false, if◌then◌else◌, suc, true, zero, ℕ, ◌++◌, ◌+◌, ◌==◌, ◌||◌, ◌∷◌, ◌≡◌, ◌≤◌}
 use Rattle.task_laws.proofs.EachLemmas.{Each, each_change, each_get, each_insert, each_map, each_remove}
-use Rattle.task_laws.proofs.SoundFields.{no_way}
-use Rattle.task_laws.proofs.SoundLemmas.{above, too_high, true_is_not_false}
 use Rattle.task_machine.proofs.MapLemmas.{get-insert_other}
 use Rattle.task_machine.specs.Core.{Core, Queues}
 use Rattle.task_machine.specs.Maps.{Records, change, changed, get, get-insert, get-remove, insert, remove}

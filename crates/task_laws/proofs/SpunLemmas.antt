@@ -1,10 +1,9 @@
 -- A host work comes to one end: polls, pushes, and each step and each run.
+use Rattle.task_laws.proofs.Basics.{no_way, same_number, true_is_not_false}
 use Rattle.std.proofs.Common.{ap, arith, refl, subst, sym, ◌∙◌}
 use Rattle.std.specs.Option.{option_map_or}
 use Rattle.std.specs.Prelude.{Bool, List, None, Option, Some, [], false, is_some, not, true, ℕ, ◌+◌, ◌||◌, ◌∷◌, ◌≡◌, ◌≤◌}
 use Rattle.task_laws.proofs.EachLemmas.{each_get}
-use Rattle.task_laws.proofs.SoundFields.{no_way}
-use Rattle.task_laws.proofs.SoundLemmas.{same_number, true_is_not_false}
 use Rattle.task_laws.proofs.SpunFields.{EndedStage, Spun, Unpushed, has_end, is_push_of, or_right, push_high_spun, pushes, set_trapped_spun, take_result_spun, work_changed}
 use Rattle.task_laws.proofs.SpunRows.{Spins}
 use Rattle.task_laws.proofs.SpunSteps.{Calm, calmed, polled_is_live}

@@ -1,4 +1,5 @@
 -- What is kept by each word of the machine: a subtask that is named is of a call that was made, and the call of an implicit thread is there.
+use Rattle.task_laws.proofs.Basics.{above, no_way, too_high, true_is_not_false}
 use Rattle.std.proofs.Common.{ap, cond, inl, inr, refl, sym, ◌∙◌, ◌∷◌}
 use Rattle.std.specs.FinMap.Entries.{find as seek}
 use Rattle.std.specs.List.{list_any}
@@ -6,8 +7,6 @@ use Rattle.std.specs.Option.{option_map_or}
 use Rattle.std.specs.Ordering.{eq_by_cmp, nat_cmp}
 use Rattle.std.specs.Prelude.{Bool, List, [], None, Option, Some, false, is_none, is_some, option_and_then, option_map, ◌||◌, slice_set, true, unwrap_or, ℕ, ◌+◌, ◌==◌, ◌≡◌, ◌≤◌, ◌⊎◌}
 use Rattle.task_laws.proofs.EachLemmas.{Each, change_none, change_read, each_change, each_insert, each_map, each_remove}
-use Rattle.task_laws.proofs.SoundFields.{no_way}
-use Rattle.task_laws.proofs.SoundLemmas.{above, too_high, true_is_not_false}
 use Rattle.task_machine.proofs.CommuteLemmas.{get-change}
 use Rattle.task_machine.proofs.MapLemmas.{get-insert_other, get-insert_same}
 use Rattle.task_machine.specs.Core.{Core, Table}

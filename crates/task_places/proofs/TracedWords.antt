@@ -1,9 +1,9 @@
 -- What is kept by the moves of the machine: a subtask that is named is of a call that was made.
+use Rattle.task_laws.proofs.Basics.{no_way}
 use Rattle.std.proofs.Common.{refl, sym}
 use Rattle.std.specs.Option.{option_map_or}
 use Rattle.std.specs.Prelude.{Bool, List, None, Option, Some, [], false, if◌then◌else◌, is_some, not, true, ℕ, ◌++◌, ◌||◌, ◌∷◌, ◌&&◌, ◌≡◌}
 use Rattle.task_places.proofs.TracedFields.{Traced, free_thread_handle_traced, push_high_first_traced, push_high_traced, push_low_traced, remove_call_traced, remove_group_traced, remove_thread_traced, set_callers_traced, set_cancel_delivered_traced, set_end_traced, set_event_traced, set_exited_traced, set_high_traced, set_low_traced, set_own_event_traced, set_place_traced, set_switch_traced, set_uninteresting_traced}
-use Rattle.task_laws.proofs.SoundFields.{no_way}
 use Rattle.task_machine.specs.Core.{Core}
 use Rattle.task_machine.specs.Maps.{get}
 use Rattle.task_machine.specs.Moves.{Gift, MemberGift, NoGift, OwnGift, behind, behind_one, call_settled, checked, departed, displaced, ended, exited_if, first_entry, freed_thread_handle, group_settled, handed_on, hands_on, has_entry, held_why_of, interest_settled, is_callback_waiter, is_deletable, is_finished, is_group_done, less, less_switch, newest, older, passed_on, promoted, promoted_first, promoted_unless, published, put_high, put_low, put_switch, released, released_one, resumed_all, resumed_callers, stand, stopped, stopped_at, taken, taken_own, unblocked, unqueued, wake, wake_joined, waken_by, why_of, withdrawn, is_deletable_call}
