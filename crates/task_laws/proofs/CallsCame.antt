@@ -91,7 +91,7 @@ module _ {a : Scene} where
   call_came (MakeCall f e x g group words) s ok k = call_added f e x g group s ok k
   call_came (RemoveCall j) s ok k = call_removed j s s.made.threads ok k
   call_came (SetStarted j) s ok k = call_changed j (λ c. record c { started = true }) s s.made.threads (λ c. Starts ok refl) k
-  call_came (SetEnd j e) s ok k = call_changed j (λ c. record c { «end» = Some e }) s s.made.threads (λ c. Ends e ok refl) k
+  call_came (SetEnd j e) s ok k = call_changed j (λ c. record c { «end» = Some e }) s s.made.threads (λ c. Ends e ok.0 refl) k
   call_came (SetCancelDelivered j) s ok k = call_changed j (λ c. record c { cancel_delivered = true }) s s.made.threads (λ c. Delivers ok refl) k
   call_came (SetStartingPublished j) s ok k = call_changed j (λ c. record c { starting_published = true }) s s.made.threads (λ c. Keeps refl) k
   call_came (SetOwnEvent j e) s ok k = call_changed j (λ c. record c { own_event = e }) s s.made.threads (λ c. Keeps refl) k

@@ -1,5 +1,8 @@
 pub mod Basics
 pub mod EachLemmas
+pub mod ReachLemmas
+pub mod HostWorks
+pub mod SetHandles
 pub mod CameLemmas
 pub mod StrandLemmas
 pub mod WaitLemmas
@@ -10,14 +13,4 @@ pub mod CallsLaw
 pub mod CallsSteps
 pub mod OneHolder
 pub mod WrittenLemmas
-pub mod SpunFields
-pub mod SpunWords
-pub mod SpunRows
-pub mod SpunTakes
-pub mod SpunSteps
-pub mod SpunLemmas
-pub mod ShelvedFields
-pub mod ShelvedWords
-pub mod ShelvedRows
-pub mod ShelvedTakes
-pub mod ShelvedLemmas
+pub mod OnceLemmas

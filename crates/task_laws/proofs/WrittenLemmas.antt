@@ -6,10 +6,8 @@ use Rattle.std.specs.Prelude.{Bool, List, None, Option, Some, [], count_by, fals
 use Rattle.task_laws.proofs.EachLemmas.{each_get}
 use Rattle.task_laws.proofs.CallsLaw.{CallsHold}
 use Rattle.task_laws.proofs.CallsSteps.{reached_holds, step_goes}
+use Rattle.task_laws.proofs.HostWorks.{Calm, Spun, WorkRises, calmed, has_end, opening_calm, run_calm, step_spun}
 use Rattle.task_rules.proofs.LawLemmas.{never_fewer}
-use Rattle.task_laws.proofs.SpunFields.{Spun, WorkRises, has_end}
-use Rattle.task_laws.proofs.SpunLemmas.{run_calm, step_spun}
-use Rattle.task_laws.proofs.SpunSteps.{Calm, calmed, opening_calm}
 use Rattle.task_laws.specs.Rises.{Rises}
 use Rattle.task_laws.specs.Settings.{CodesInCallbacks, Reached}
 use Rattle.task_laws.specs.Written.{EndsWrittenOnce}
@@ -166,19 +164,19 @@ module _ (x : Setting) (i : ℕ) where
       let later : LaterBy WorkRises (get s.core.works i) (get run.0.core.works i) = h.later i below in
       none_more (is_written (work_code (get s.core.works i)) (work_code (get run.0.core.works i))) _
       (work_not_written (get s.core.works i) (get run.0.core.works i) later over)
-      (none_written_work run.0 (calmed h) (le_trans below h.counted) (work_over_stays (get s.core.works i) (get run.0.core.works i) later over) ls t run.1.1)
+      (none_written_work run.0 (calmed s.core run.0.core h) (le_trans below h.counted) (work_over_stays (get s.core.works i) (get run.0.core.works i) later over) ls t run.1.1)
 
-  work_made : {s : Core} → Calm s → (o : Option Work) → get s.works i ≡ o → (p : Option Work) → is_written (work_code o) (work_code p) ≡ true → i ≤ s.made.works
-  work_made q None at p w = no_way w
-  work_made {s = s} q (Some c) at p w = each_get (λ j v. j ≤ s.made.works) s.works q.numbers i c at
+  work_made : (s : Core) → Calm s → (o : Option Work) → get s.works i ≡ o → (p : Option Work) → is_written (work_code o) (work_code p) ≡ true → i ≤ s.made.works
+  work_made s q None at p w = no_way w
+  work_made s q (Some c) at p w = each_get (λ j v. j ≤ s.made.works) s.works q.numbers i c at
 
   once_written_work : (s : State) → Calm s.core → (ls : List Label) (t : State) → (run : Run x s ls t) → counted (changes_end (subtask.Host i)) (history x s ls t run) ≤ 1
   once_written_work s q [] t run = omega arith
   once_written_work s q (l ∷ ls) t run =
       let h : Spun s.core run.0.core = step_spun x s q l run.0 run.1.0 in
       one_at_most (is_written (work_code (get s.core.works i)) (work_code (get run.0.core.works i))) _
-      (once_written_work run.0 (calmed h) ls t run.1.1)
-      (λ w. none_written_work run.0 (calmed h) (le_trans (work_made q (get s.core.works i) refl (get run.0.core.works i) w) h.counted) (work_unwritten (get s.core.works i) (get run.0.core.works i) w) ls t run.1.1)
+      (once_written_work run.0 (calmed s.core run.0.core h) ls t run.1.1)
+      (λ w. none_written_work run.0 (calmed s.core run.0.core h) (le_trans (work_made s.core q (get s.core.works i) refl (get run.0.core.works i) w) h.counted) (work_unwritten (get s.core.works i) (get run.0.core.works i) w) ls t run.1.1)
 
 -- ---- The law
 

@@ -1,14 +1,10 @@
 -- At most one holding entry of an instance runs at a time.
-use Rattle.std.specs.Prelude.{List, None, Option, Some, slice_get, ℕ, ◌<◌, ◌≡◌}
+use Rattle.std.specs.Prelude.{List, Some, slice_get, ℕ, ◌<◌, ◌≡◌}
 use Rattle.task_machine.specs.declared.component.Callee.{Callee}
 use Rattle.task_machine.specs.declared.label.Label.{Label}
-use Rattle.task_machine.specs.declared.op.CallOp.{CallOp}
-use Rattle.task_machine.specs.declared.op.CallOp.TheVariants as call_op
 use Rattle.task_machine.specs.declared.op.Op.{Op}
-use Rattle.task_machine.specs.declared.op.Op.TheVariants as op
 use Rattle.task_machine.specs.declared.records.Script.{Script}
 use Rattle.task_machine.specs.declared.scenario.MainOpDef.{MainOpDef}
-use Rattle.task_machine.specs.declared.scenario.MainOpDef.TheVariants as main_op
 use Rattle.task_machine.specs.Core.{MainPlace, Scripted, State}
 use Rattle.task_rules.specs.History.{history}
 use Rattle.task_rules.specs.OpParts.{callee_of_main_op, callee_of_op}

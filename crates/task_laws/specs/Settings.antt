@@ -1,13 +1,10 @@
 -- What the grammar of scenarios says of scripts: the ops that end an activation stand in the scripts of callback exports alone.
-use Rattle.std.specs.Prelude.{Bool, List, Some, false, slice_get, true, ℕ, ◌≡◌}
+use Rattle.std.specs.Prelude.{List, Some, false, slice_get, ℕ, ◌≡◌}
 use Rattle.task_machine.specs.declared.component.Callee.{Callee}
 use Rattle.task_machine.specs.declared.component.Component.{Component}
 use Rattle.task_machine.specs.declared.component.ExportDef.{ExportDef}
 use Rattle.task_machine.specs.declared.label.Label.{Label}
 use Rattle.task_machine.specs.declared.op.Op.{Op}
-use Rattle.task_machine.specs.declared.op.Op.TheVariants as op
-use Rattle.task_machine.specs.declared.op.TaskOp.{TaskOp}
-use Rattle.task_machine.specs.declared.op.TaskOp.TheVariants as task_op
 use Rattle.task_machine.specs.Core.{Main, State}
 use Rattle.task_machine.specs.Read.{is_callback}
 use Rattle.task_rules.specs.OpParts.{ends_activation}

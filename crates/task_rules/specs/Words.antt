@@ -1,6 +1,5 @@
 -- The words that every step is made of: each a change that keeps what is said of states.
-use Rattle.std.proofs.Common.{set}
-use Rattle.std.specs.Prelude.{Bool, List, None, Option, position, ℕ, ◌+◌}
+use Rattle.std.specs.Prelude.{Bool, List, None, Option, ℕ, ◌+◌}
 use Rattle.task_machine.specs.Core.{Core}
 use Rattle.task_machine.specs.Moves.{behind_one, less_switch, promoted, put_high, put_low, put_switch, stopped, unqueued}
 use Rattle.task_machine.specs.Write.{add_group, add_set, add_thread, count_work, free_handle, free_thread_handle, give_handle, give_result, push_high, remove_call, remove_group, remove_set, remove_thread, remove_work, set_backpressure, set_cancel_delivered, set_cancelled, set_course, set_do_not_enter, set_do_not_suspend, set_end, set_event, set_exited, set_how_far, set_join, set_own_event, set_phase, set_place, set_position, set_register, set_result, set_saved_callee, set_saved_own, set_script, set_stage, set_started, set_starting_published, set_subtask_handle, set_trapped, set_uninteresting, set_word, take_result, with_switch}
