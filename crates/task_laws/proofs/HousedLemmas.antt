@@ -1,4 +1,5 @@
 -- The call of each thread is there, along the words of a step.
+use Rattle.task_laws.proofs.CallsLaw.{deletable_left, no_thread_of}
 use Rattle.std.proofs.Common.{ap, cond, inl, inr, refl, subst, sym, ◌∙◌, ◌∷◌}
 use Rattle.std.specs.FinMap.Entries.{find as seek}
 use Rattle.std.specs.List.{list_any}
@@ -6,8 +7,8 @@ use Rattle.std.specs.Option.{option_map_or}
 use Rattle.std.specs.Ordering.{eq_by_cmp, nat_cmp}
 use Rattle.std.specs.Prelude.{Bool, List, [], None, Option, Some, false, is_none, is_some, not, option_map, slice_set, true, unwrap_or, ℕ, ◌&&◌, ◌+◌, ◌==◌, ◌||◌, ◌≡◌, ◌⊎◌}
 use Rattle.task_laws.proofs.EachLemmas.{change_none}
-use Rattle.task_laws.proofs.SoundFields.{no_way}
-use Rattle.task_laws.proofs.SoundLemmas.{true_is_not_false}
+use Rattle.task_laws.proofs.Basics.{no_way}
+use Rattle.task_laws.proofs.Basics.{true_is_not_false}
 use Rattle.task_laws.specs.Order.{CallsThere}
 use Rattle.task_machine.proofs.MapLemmas.{change-field}
 use Rattle.task_machine.specs.Core.{Core}
@@ -24,29 +25,6 @@ use Rattle.task_rules.specs.Calls.{call_made, with_handle, with_thread_handle, w
 use Rattle.task_rules.specs.Scenes.{Scene}
 use Rattle.task_rules.specs.Words.{MakeCall, MakeThread, NameThread, Places, Placing, Pop, RemoveCall, RemoveThread, SetCallEvent, SetCallJoin, SetCancelDelivered, SetEnd, SetExited, SetHowFar, SetOwnEvent, SetPosition, SetRegister, SetResult, SetSavedCallee, SetSavedOwn, SetScript, SetStarted, SetStartingPublished, SetUninteresting, NameCall, TakeHost, TakePush, UnnameCall, Withdraw, Word, after_placing, after_word}
 use Rattle.task_rules.specs.Works.{poll_pends}
-
-any_found : {X : Type 0} (test : X → Bool) (q : ℕ) (x : X) (es : List (ℕ × X)) → seek nat_cmp q es ≡ Some x → list_any (λ e. test e.1) es ≡ false → test x ≡ false
-any_found test q x [] h none = no_way (ap (λ p. is_some p) h)
-any_found test q x (e ∷ es) h none = go (eq_by_cmp nat_cmp q e.0) h (any_found test q x es) (test e.1) refl none
-  where
-    go : (b : Bool) → cond b (Some e.1) (seek nat_cmp q es) ≡ Some x → (seek nat_cmp q es ≡ Some x → list_any (λ d. test d.1) es ≡ false → test x ≡ false) → (c : Bool) → test e.1 ≡ c → (c || list_any (λ d. test d.1) es) ≡ false → test x ≡ false
-    go b g rest true is none = absurd (true_is_not_false none)
-    go true g rest false is none = ap test (sym (ap (λ o. unwrap_or o e.1) g)) ∙ is
-    go false g rest false is none = rest g none
-
--- no thread of the call is left
-pub no_thread_of : (k n : ℕ) (t : Thread) (s : Core) → has_thread k s ≡ false → get s.threads n ≡ Some t → (t.call == k) ≡ false
-unfolding has_thread get
-no_thread_of k n t s none is = any_found (λ (r : Thread). r.call == k) n t s.threads.list is none
-
-and_not : (a b : Bool) → (a && not b) ≡ true → b ≡ false
-and_not true true h = sym h
-and_not true false h = refl
-and_not false b h = no_way h
-
-pub no_thread_left : (k : ℕ) (s : Core) → is_deletable k s ≡ true → has_thread k s ≡ false
-unfolding is_deletable
-no_thread_left k s h = and_not (option_map_or is_deletable_call (get s.calls k) false) (has_thread k s) h
 
 -- ---- The call of a thread
 
@@ -160,7 +138,7 @@ module _ (a : Scene) (known : RunnerHoused a) where
   kept_call w s ok n k h j e =
       let t = call_at (get s.threads n) k h in
       let gone : is_deletable j s ≡ true = subst (λ (v : Word). Allowed a v s) e ok in
-      subst (λ (c : ℕ). (c == j) ≡ false) t.1.1 (no_thread_of j n t.0 s (no_thread_left j s gone) t.1.0)
+      subst (λ (c : ℕ). (c == j) ≡ false) t.1.1 (no_thread_of j n t.0 s (deletable_left j s gone) t.1.0)
 
   pub housed_word : (w : Word) (s : Core) → Allowed a w s → CallsThere s → CallsThere (after_word w s)
   housed_word w s ok q n k h = by_came (call_came w s ok n) h

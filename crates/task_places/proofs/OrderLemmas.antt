@@ -14,9 +14,9 @@ use Rattle.std.proofs.Common.{T, ap, arith, le_refl, refl, subst, sym, ◌∙◌
 use Rattle.std.specs.Option.{option_map_or}
 use Rattle.std.specs.Prelude.{Bool, List, None, Option, Some, [], false, if◌then◌else◌, is_none, is_some, not, option_and_then, option_map, true, unwrap_or, ℕ, ◌∷◌, ◌≡◌, ◌≤◌, ◌+◌}
 use Rattle.task_laws.proofs.EachLemmas.{Each, EachAt, each_get}
-use Rattle.task_laws.proofs.ShelvedLemmas.{Tidy, opening_tidy, step_shelved, tidied}
-use Rattle.task_laws.proofs.SoundLemmas.{CallSound, GoneAtEnd, Nameless, ThreadSound, later_refl}
-use Rattle.task_laws.proofs.SoundSteps.{Settled, opening_settled, renewed, step_sound}
+use Rattle.task_laws.proofs.SetHandles.{IsTidy, opening_tidy, tidy_word}
+use Rattle.task_laws.proofs.CallsLaw.{CallsHold}
+use Rattle.task_laws.proofs.CallsSteps.{opening_holds, step_goes}
 use Rattle.task_laws.specs.Order.{CallKinds, CallsNamed, DeliveredByCallback, InOrder, InPlace, Numbered, OpeningInOrder, SetsNamed, StartsAwaited, StepInOrder, WasCall, is_fresh, under_way, CallsThere, IsOf, MakesFew, Strands, WaitsAtHome, set_of_op, set_of_place, StepsMakeFew}
 use Rattle.task_machine.specs.Core.{Core, Main, State, fresh}
 use Rattle.task_machine.specs.Maps.{Records, empty, get, get-empty}
@@ -72,17 +72,6 @@ each_of {X = X} P m h n = go (get m n) (h n)
     go None g = tt
     go (Some x) g = g x refl
 
-settled : (c : Component) (s : Core) → Numbered s → CallKinds c s → DeliveredByCallback s → Settled c s
-settled c s numbered kinds deliveries = record {
-  counted = le_refl _;
-  threads = each_of (ThreadSound s.calls s.made.threads) s.threads (λ n t e. let h = numbered.threads n t e in record { number = h.number; call_number = h.call; own = h.own; delivers = deliveries n t e });
-  calls = each_of (CallSound c s.made.threads) s.calls (λ k x e. let h = kinds k x e in let g = numbered.calls k x e in record { positive = g.0; number = g.1; kind = h.kind; direct = h.direct; undelivered = h.uncancelled });
-  gone = each_of (GoneAtEnd s.threads 0) s.calls (λ k x e. λ sync other ended. (kinds k x e).gone sync ended);
-  later = λ k below. later_refl (get s.calls k);
-  callbacks = λ n below h. h;
-  nameless = each_of (Nameless s.calls) s.threads (λ n t e. (numbered.threads n t e).nameless);
-}
-
 -- ---- Calls that were made
 
 guest_is : (sub : Subtask) (k : ℕ) → guest_of sub ≡ Some k → Some sub ≡ Some (subtask.Guest k)
@@ -134,48 +123,20 @@ traced s there h = record {
 
 -- ---- What the walks keep, as facts
 
-numbered_of : (c : Component) (s : Core) → Settled c s → Numbered s
-numbered_of c s q = record {
-  threads =
-      λ n t e. let h = each_get (ThreadSound s.calls s.made.threads) s.threads q.threads n t e in record {
-        number = h.number;
-        call = h.call_number;
-        own = h.own;
-        nameless = each_get (Nameless s.calls) s.threads q.nameless n t e;
-      };
-  calls = λ k x e. let h = each_get (CallSound c s.made.threads) s.calls q.calls k x e in (h.positive, h.number);
-}
-
 named_of : (s : Core) → Traced s → CallsNamed s
 named_of s q = record {
   by_handle = λ i h k e. was_call s k (q.named i h k (handle_of_guest (named_by s.handles i h) k e));
   by_op = λ n k e. was_call s k (q.under_way n k (op_of_guest (option_map_or (λ (t : Thread). t.how_far) (get s.threads n) how_far.Fresh) k e));
 }
 
-kinds_of : (c : Component) (s : Core) → Settled c s → CallKinds c s
-kinds_of c s q k x e =
-    let h = each_get (CallSound c s.made.threads) s.calls q.calls k x e in
-    record {
-      kind = h.kind;
-      direct = h.direct;
-      uncancelled = h.undelivered;
-      gone = λ sync ended. each_get (GoneAtEnd s.threads 0) s.calls q.gone k x e sync (λ zero. too_low (subst (λ (j : ℕ). 1 ≤ j) zero h.positive)) ended;
-    }
-  where
-    too_low : 1 ≤ 0 → ⊥
-    too_low h = omega (arith, h)
-
-deliveries_of : (c : Component) (s : Core) → Settled c s → DeliveredByCallback s
-deliveries_of c s q n t e = (each_get (ThreadSound s.calls s.made.threads) s.threads q.threads n t e).delivers
-
-sets_of : (s : Core) → Tidy s → SetsNamed s
+sets_of : (s : Core) → IsTidy s → SetsNamed s
 sets_of s q = record {
   number = q.numbers;
   home = q.homes;
   once = λ i j h g x a b. let home : i ≡ j = ap (λ o. unwrap_or o 0) (sym (q.homes i h x a) ∙ q.homes j g x b) in (home, q.apart i h g x a (subst (λ (k : ℕ). set_at k g s ≡ Some x) (sym home) b));
 }
 
-tidy : (s : Core) → SetsNamed s → Tidy s
+tidy : (s : Core) → SetsNamed s → IsTidy s
 tidy s h = record { numbers = h.number; homes = h.home; apart = λ i a b x e f. (h.once i i a b x e f).1 }
 
 -- ---- Starts
@@ -376,19 +337,19 @@ pub step_in_order : StepInOrder
 step_in_order x s l t h step =
     let w = step_walks x s l t step in
     let k = lands x s l t h step in
-    let q = renewed (step_sound x h.codes s (settled x.component s.core h.numbered h.kinds h.deliveries) l t step) in
+    let q : CallsHold x.component t.core = (step_goes x s l t h.codes (record { numbered = h.numbered; kinds = h.kinds; deliveries = h.deliveries }) step).0 in
     let r = step_traced x s (traced s.core h.calls_there h.calls_named) l t step in
     record {
       codes = h.codes;
       in_place = record { placed = k.each; runs = k.runs };
       strands = strands_kept x s l t h w;
-      numbered = numbered_of x.component t.core q;
+      numbered = q.numbered;
       calls_there = calls_kept x s l t h w;
       calls_named = named_of t.core r;
       waits = waits_kept x s l t h w (steady x s l t step);
-      sets_named = sets_of t.core (tidied (step_shelved x s (tidy s.core h.sets_named) l t step));
-      kinds = kinds_of x.component t.core q;
-      deliveries = deliveries_of x.component t.core q;
+      sets_named = sets_of t.core (along IsTidy (tidy_word (scene_of x s l w.next)) (tidy s.core h.sets_named) w.walk);
+      kinds = q.kinds;
+      deliveries = q.deliveries;
       starts = starts_kept s.core t.core t.turn k (waited s.core t.core h.in_place.placed (steady x s l t step) h.starts);
     }
 
@@ -448,20 +409,20 @@ opening_waits instances handle_limit capacity = record {
 
 pub opening_in_order : OpeningInOrder
 opening_in_order c codes instances handle_limit capacity main =
-    let q = opening_settled c instances handle_limit capacity in
+    let q : CallsHold c (fresh instances handle_limit capacity) = opening_holds c instances handle_limit capacity in
     let r = opening_traced instances handle_limit capacity in
     let s = fresh instances handle_limit capacity in
     record {
       codes = codes;
       in_place = opening_in_place instances handle_limit capacity main;
       strands = opening_strands instances handle_limit capacity;
-      numbered = numbered_of c s q;
+      numbered = q.numbered;
       calls_there = opening_calls instances handle_limit capacity;
       waits = opening_waits instances handle_limit capacity;
       calls_named = named_of s r;
       sets_named = sets_of s (opening_tidy instances handle_limit capacity);
-      kinds = kinds_of c s q;
-      deliveries = deliveries_of c s q;
+      kinds = q.kinds;
+      deliveries = q.deliveries;
       starts = opening_starts instances handle_limit capacity;
     }
 

@@ -1,4 +1,5 @@
 -- What is kept by the ops: a subtask that is named is of a call that was made.
+use Rattle.task_laws.proofs.Basics.{no_way}
 use Rattle.std.proofs.Common.{refl, ap, option_and_then, le_trans, ◌∙◌, subst, le_refl, sym}
 use Rattle.std.specs.Option.{option_map_or}
 use Rattle.std.specs.Prelude.{Bool, List, None, Option, Some, [], false, is_some, length, min, nat_le, nat_lt, not, suc, true, unwrap_or, zero, ℕ, ◌%◌, ◌*◌, ◌+◌, ◌-◌, ◌/◌, ◌==◌, ◌^◌, ◌∷◌, ◌≡◌}
@@ -14,7 +15,6 @@ use Rattle.task_machine.specs.Maps.{get, insert}
 use Rattle.task_machine.specs.declared.records.Named.{Named}
 use Rattle.task_machine.specs.declared.records.Thread.{Thread}
 use Rattle.task_machine.specs.declared.records.Named.TheVariants as named
-use Rattle.task_laws.proofs.SoundFields.{no_way}
 use Rattle.task_machine.proofs.MapLemmas.{get-insert_same}
 use Rattle.task_machine.specs.Labels.{Choice, exit_label, join_label, ret_label, task_cancel_label, wait_label}
 use Rattle.task_machine.specs.Moves.{Gift, NoGift, checked, gift, may_hand_on, passes_check, published, put_switch, stopped_at, behind}

@@ -1,8 +1,9 @@
 -- What is kept by the moves of the machine: a subtask that is named is of a call that was made.
+use Rattle.task_laws.proofs.Basics.{no_way}
 use Rattle.std.proofs.Common.{refl}
 use Rattle.std.specs.Option.{option_map_or}
 use Rattle.std.specs.Prelude.{Bool, List, None, Option, Some, [], false, if◌then◌else◌, is_some, not, true, ℕ, ◌++◌, ◌||◌, ◌∷◌, ◌≡◌}
-use Rattle.task_laws.proofs.HousedLemmas.{no_thread_left}
+use Rattle.task_laws.proofs.CallsLaw.{deletable_left}
 use Rattle.task_places.proofs.TracedFields.{Traced, free_thread_handle_traced, push_high_first_traced, push_high_traced, push_low_traced, remove_call_traced, remove_group_traced, remove_thread_traced, set_callers_traced, set_cancel_delivered_traced, set_end_traced, set_event_traced, set_exited_traced, set_high_traced, set_low_traced, set_own_event_traced, set_place_traced, set_switch_traced, set_uninteresting_traced}
 use Rattle.task_machine.specs.Core.{Core}
 use Rattle.task_machine.specs.Maps.{get}
@@ -156,7 +157,7 @@ unfolding call_settled
 call_settled_traced k {s = s} q = by_test (is_deletable k s) refl
   where
     by_test : (b : Bool) → is_deletable k s ≡ b → Traced (if b then group_settled (call_group k s) (remove_call k s) else s)
-    by_test true e = group_settled_traced (call_group k s) (remove_call_traced k (no_thread_left k s e) q)
+    by_test true e = group_settled_traced (call_group k s) (remove_call_traced k (deletable_left k s e) q)
     by_test false e = q
 
 pub interest_settled_traced : (a0 : ℕ) {s : Core} → Traced s → Traced (interest_settled a0 s)

@@ -12,7 +12,7 @@ use Rattle.task_machine.specs.declared.records.CallEnd.{CallEnd}
 use Rattle.task_machine.specs.declared.records.Caller.{Caller}
 use Rattle.task_machine.specs.declared.records.Goal.{Goal}
 use Rattle.task_rules.proofs.WalkMoves.{Chosen, ToldTo, told_walks, word}
-use Rattle.task_rules.specs.Allowed.{MayEnd}
+use Rattle.task_rules.specs.Allowed.{MayEnd, SaysEnd}
 use Rattle.task_rules.specs.Chains.{Walk}
 use Rattle.task_rules.specs.Ends.{cancelled, is_told, result_given, returned, told}
 use Rattle.task_rules.specs.Scenes.{Scene}
@@ -105,31 +105,31 @@ told_ends k e s t same told =
     told_end k e (get s.calls k) (get t.calls k) there (sym (same_told k s t (unanswer (get t.calls k) (get (set_end k e s).calls k) same ∙ end_same k e s)) ∙ told)
 
 module _ {a : Scene} {b : Core} where
-  result_given_walks : (g : Goal) (f : Caller) (k v : ℕ) {s : Core} → Walk a b s → Walk a b (result_given g f k v s)
-  result_given_walks goal.Main f k v c = word (GiveResult k v) tt c
-  result_given_walks (goal.Register r) (caller.Thread n) k v c = word (SetRegister n r v) tt c
-  result_given_walks (goal.Register r) caller.Main k v c = c
-  result_given_walks goal.Answer f k v c = word (SetResult k (Some v)) tt c
-  result_given_walks goal.Nowhere f k v c = c
-  result_given_walks goal.Direct f k v c = c
+  result_given_walks : (g : Goal) (f : Caller) (k v : ℕ) {s : Core} → SaysEnd a k status.Returned → Walk a b s → Walk a b (result_given g f k v s)
+  result_given_walks goal.Main f k v says c = word (GiveResult k v) says c
+  result_given_walks (goal.Register r) (caller.Thread n) k v says c = word (SetRegister n r v) tt c
+  result_given_walks (goal.Register r) caller.Main k v says c = c
+  result_given_walks goal.Answer f k v says c = word (SetResult k (Some v)) tt c
+  result_given_walks goal.Nowhere f k v says c = c
+  result_given_walks goal.Direct f k v says c = c
 
-  pub returned_walks : (k v : ℕ) (w : Option ℕ) {s : Core} → MayEnd a k call_end.Returned s → ToldTo k w s → Walk a b s → Walk a b (returned k v w s)
+  pub returned_walks : (k v : ℕ) (w : Option ℕ) {s : Core} → MayEnd a k call_end.Returned s → SaysEnd a k status.Returned → ToldTo k w s → Walk a b s → Walk a b (returned k v w s)
   unfolding returned
-  returned_walks k v w {s = s} ok to c =
+  returned_walks k v w {s = s} ok says to c =
       let m = set_end k call_end.Returned s in
       let t = result_given (goal_of k s) (caller_of k s) k v m in
       let same : option_map unresulted (get t.calls k) ≡ option_map unresulted (get m.calls k) = result_resulted (goal_of k s) (caller_of k s) k v m in
-      told_walks k status.Returned w (λ told. told_ends k call_end.Returned s t same told)
+      told_walks k status.Returned w (λ told. told_ends k call_end.Returned s t same told) (λ e. says)
       (still_told_to k s t (unanswer (get t.calls k) (get m.calls k) same ∙ end_same k call_end.Returned s) w (λ x chosen n is. ap (λ p. option_map_or (is_waiting_on x) p false) (places n) ∙ chosen n is) to)
-      (result_given_walks (goal_of k s) (caller_of k s) k v (word (SetEnd k call_end.Returned) ok c))
+      (result_given_walks (goal_of k s) (caller_of k s) k v says (word (SetEnd k call_end.Returned) (ok, says) c))
     where
       places : (n : ℕ) → place_of n (result_given (goal_of k s) (caller_of k s) k v (set_end k call_end.Returned s)) ≡ place_of n s
       places n = result_places (goal_of k s) (caller_of k s) k v (set_end k call_end.Returned s) n ∙ end_places k call_end.Returned s n
 
-  pub cancelled_walks : (k : ℕ) (w : Option ℕ) {s : Core} → MayEnd a k call_end.ReturnCancelled s → ToldTo k w s → Walk a b s → Walk a b (cancelled k w s)
+  pub cancelled_walks : (k : ℕ) (w : Option ℕ) {s : Core} → MayEnd a k call_end.ReturnCancelled s → SaysEnd a k status.ReturnCancelled → ToldTo k w s → Walk a b s → Walk a b (cancelled k w s)
   unfolding cancelled
-  cancelled_walks k w {s = s} ok to c =
+  cancelled_walks k w {s = s} ok says to c =
       let t = set_end k call_end.ReturnCancelled s in
-      told_walks k status.ReturnCancelled w (λ told. told_ends k call_end.ReturnCancelled s t refl told)
+      told_walks k status.ReturnCancelled w (λ told. told_ends k call_end.ReturnCancelled s t refl told) (λ e. says)
       (still_told_to k s t (end_same k call_end.ReturnCancelled s) w (λ x chosen n is. ap (λ p. option_map_or (is_waiting_on x) p false) (end_places k call_end.ReturnCancelled s n) ∙ chosen n is) to)
-      (word (SetEnd k call_end.ReturnCancelled) ok c)
+      (word (SetEnd k call_end.ReturnCancelled) (ok, says) c)

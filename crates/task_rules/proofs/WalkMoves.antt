@@ -6,7 +6,7 @@ use Rattle.task_machine.proofs.MapLemmas.{get-remove_same}
 use Rattle.task_machine.specs.Core.{Core}
 use Rattle.task_machine.specs.Maps.{Records, get, numbers, remove}
 use Rattle.task_machine.specs.Moves.{Gift, MemberGift, NoGift, OwnGift, call_settled, checked, ended, exited_if, first_entry, freed_thread_handle, group_settled, handed_on, hands_on, held_why_of, interest_settled, is_callback_waiter, is_deletable, is_finished, is_group_done, may_hand_on, may_publish, may_wake, may_wake_joined, promoted, promoted_first, promoted_unless, published, put_high, released, released_one, stopped, taken, unblocked, wake, wake_joined, waken_by}
-use Rattle.task_machine.specs.Read.{blocked_on, call_group, held_why, instance_of, is_at, is_blocked_on, is_explicit, is_waiter, is_waiting_on, is_watched, join_of, may_not_suspend, place_of, same_subtask, task_of, thread_handle_of}
+use Rattle.task_machine.specs.Read.{blocked_on, call_group, held_why, instance_of, is_at, is_blocked_on, is_explicit, is_waiter, is_waiting_on, is_watched, join_of, may_not_suspend, place_of, same_subtask, task_of, thread_handle_of, is_end}
 use Rattle.task_machine.specs.Write.{free_thread_handle, on_call, on_work, push_high, remove_call, remove_group, remove_thread, set_event, set_exited, set_place, set_uninteresting}
 use Rattle.task_machine.specs.declared.records.Join.{Join}
 use Rattle.task_machine.specs.declared.records.Place.{Place}
@@ -20,7 +20,7 @@ use Rattle.task_rules.proofs.StopLemmas.{find_passes}
 use Rattle.task_rules.proofs.PlacingLemmas.{placed}
 use Rattle.task_rules.proofs.PromotionLemmas.{first_has_entry}
 use Rattle.task_rules.proofs.StandLemmas.{by_number, is_eq_of, place_kept}
-use Rattle.task_rules.specs.Allowed.{Allowed, HasEntry, IsOwn, IsRunner, MayDeliver, MayGo, MayLeave, MayPut, MayTell, MayTellWork, Releases, Tells, Unblocks, Wakes, wake_why}
+use Rattle.task_rules.specs.Allowed.{Allowed, HasEntry, IsOwn, IsRunner, MayDeliver, MayGo, MayLeave, MayPut, MayTell, MayTellWork, Releases, Tells, Unblocks, Wakes, wake_why, SaysEnd}
 use Rattle.task_rules.specs.Chains.{NoWord, Shifts, Then, Walk}
 use Rattle.task_rules.specs.Ends.{is_told, may_tell, told}
 use Rattle.task_rules.specs.Scenes.{Scene}
@@ -241,9 +241,9 @@ unfolding may_tell may_publish
 told_to k w s h told = chosen_in_of (join_of (subtask.Guest k) s) w s (sym (ap (λ c. cond c (may_wake_joined (join_of (subtask.Guest k) s) w s) (is_none w)) told) ∙ h)
 
 module _ {a : Scene} {b : Core} where
-  pub told_walks : (k : ℕ) (e : Status) (w : Option ℕ) {s : Core} → (is_told k s ≡ true → Tells e k s) → ToldTo k w s → Walk a b s → Walk a b (told k e w s)
+  pub told_walks : (k : ℕ) (e : Status) (w : Option ℕ) {s : Core} → (is_told k s ≡ true → Tells e k s) → (is_end e ≡ true → SaysEnd a k e) → ToldTo k w s → Walk a b s → Walk a b (told k e w s)
   unfolding told
-  told_walks k e w {s = s} tells to c = walk_if (is_told k s) (published (subtask.Guest k) e w s) s (λ is. published_call k e w (is, tells is) (to is) c) (λ is. c)
+  told_walks k e w {s = s} tells says to c = walk_if (is_told k s) (published (subtask.Guest k) e w s) s (λ is. published_call k e w (is, (tells is, says)) (to is) c) (λ is. c)
 
 -- ---- Given and handed on
 

@@ -1,4 +1,5 @@
 -- The rows of the ops on sets, subtasks and threads as chains of words.
+use Rattle.task_rules.specs.SubtaskEnds.{cancel_target, cancelled_of_op, end_for, written_by}
 use Rattle.std.proofs.Common.{T, ap, inl, inr, refl, subst, suc, sym, ◌∙◌, ◌⊎◌}
 use Rattle.std.specs.Option.{option_map_or}
 use Rattle.std.specs.Prelude.{Bool, List, None, Option, Some, [], false, if◌then◌else◌, is_none, is_some, not, option_and_then, option_map, true, unwrap_or, zero, ℕ, ◌&&◌, ◌+◌, ◌==◌, ◌∷◌, ◌≡◌}
@@ -41,8 +42,8 @@ use Rattle.task_rules.proofs.CancelLemmas.{CaseSays, case_says}
 use Rattle.task_rules.proofs.PlacingLemmas.{Shifted, placed, placing_shifted, shifted_after, shifted_explicit, shifted_made, shifted_task, shifts_shifted}
 use Rattle.task_rules.proofs.StandLemmas.{by_number, place_kept}
 use Rattle.task_rules.proofs.WalkMoves.{MayTake, call_settled_walks, checked_shifts, chosen_of, group_settled_walks, handed_on_shifts, moved, promoted_unless_shifts, shifted, stopped_shifts, taken_walks, wake_shifts, word}
-use Rattle.task_rules.proofs.WalkTask.{Leads, advanced_walks, answered_walks, assigned_walks, goes_on, goes_over, is_plain, may_leads, or_never_leads, or_trap_leads, running_moved, running_scene, stops_here, trap_if_leads, unnot}
-use Rattle.task_rules.specs.Allowed.{Blocks, ByHandle, ByOp, BySetHandle, ByThread, ByWait, Cancels, HasSet, HasSubtask, IsNew, IsRunner, IsWithdrawn, Leaves, MayDeliver, MayJoin, MayMakeCall, MayRemoveWork, MayWithdraw, Resumes, Starts, Suspends, Waits, Yields, subtask_under_way}
+use Rattle.task_rules.proofs.WalkTask.{Leads, advanced_walks, answered_walks, assigned_walks, goes_on, goes_over, is_plain, may_leads, or_never_leads, or_trap_leads, running_moved, running_scene, stops_here, trap_if_leads, unnot, goes_on_saying}
+use Rattle.task_rules.specs.Allowed.{Blocks, ByHandle, ByOp, BySetHandle, ByThread, ByWait, Cancels, HasSet, HasSubtask, IsNew, IsRunner, IsWithdrawn, Leaves, MayDeliver, MayJoin, MayMakeCall, MayRemoveWork, MayWithdraw, Resumes, Starts, Suspends, Waits, Yields, subtask_under_way, SaysEnd}
 use Rattle.task_rules.specs.Calls.{AtOnce, Failing, FirstPoll, Later, answered, call_answered, call_begins, call_clears_flag, call_host_polled, call_made, call_pending, call_queues, call_resumes, call_returned, call_row, call_status, call_stops, call_sync_begins, call_sync_host_polled, call_sync_host_row, call_sync_host_stops, call_sync_row, call_sync_status, call_sync_stops, enter_row, enter_runs, first_poll, host_answered, host_pending, host_ready, new_call, new_thread, next_thread, next_work, put_back, settle_group_of, status_found, sync_sets_flag, with_thread_handle, work_answered, work_deleted, work_group, work_queued, work_value}
 use Rattle.task_rules.specs.Cancels.{AlreadyEnded, Async, CallbackWaits, CallbackYields, CancelCase, Mode, OtherwiseRuns, StartNotRun, Sync, aborted_phase, behind_switch, blocked_code, cancel_aborts_host, cancel_asks, cancel_by_end, cancel_case, cancel_ended_row, cancel_goes_behind, cancel_guest, cancel_label, cancel_promotes_yield, cancel_resumed, cancel_row, cancel_stops, cancel_subtask, cancel_takes_end, cancel_wakes_callback, cancel_withdraws, drop_row, dropped, is_callback_wait, pauses, subtask_instance, subtask_row}
 use Rattle.task_rules.specs.Chains.{NoWord, Shifts, Walk, is_running}
@@ -51,7 +52,7 @@ use Rattle.task_rules.specs.OpParts.{callee_of_op}
 use Rattle.task_rules.specs.Places.{says}
 use Rattle.task_rules.specs.Progress.{Goes, Progress, Stops, may, trap_if}
 use Rattle.task_rules.specs.Scenes.{Scene, op_in}
-use Rattle.task_rules.specs.Scripts.{export_kind, host_at, registers_for, slot_at, value_of, values_in}
+use Rattle.task_rules.specs.Scripts.{export_kind, host_at, registers_for, slot_at, value_of, values_in, op_of}
 use Rattle.task_rules.specs.Sets.{chosen, finds_nothing, given_code, given_handle, given_result, handed_out, join_done, join_to, joined, joins, may_wake_new, poll_row, received, received_woken, set_drop_row, set_dropped, set_given, set_made, set_new_row, set_row, wait_begins, wait_goes_on, wait_row, wait_stops, wait_stops_checked, wakes_joined}
 use Rattle.task_rules.specs.Stalled.{Setting}
 use Rattle.task_rules.specs.Threads.{Halt, Suspension, Yielding, by_how_far, halt_row, halted, halted_checked, halted_promoting, halted_resuming, halting, halts, has_yielded, resume_later_row, resume_why, resumed_later, then_promote, then_promote_row, then_resume_row, thread_made, thread_new_row, thread_row}
@@ -260,11 +261,11 @@ module _ {a : Scene} {b : Core} (n : ℕ) (is : IsRunner a n) where
       word (SetHowFar n (how_far.Cancels (subtask.Guest k))) (is, has) (behind_switch_walks t.queues.switch leave
       (join_walks (subtask.Guest k) (join.Watched n) (is, (has, inl free)) (word (SetDoNotSuspend j false) tt (word (SetSavedCallee n (Some (may_not_suspend j t))) tt c))))
 
-  withdrawn_walks : (k : ℕ) {t : Core} → MayWithdraw a k t → Walk a b t → Walk a b (withdrawn k t)
+  withdrawn_walks : (k : ℕ) {t : Core} → MayWithdraw a k t → SaysEnd a k status.StartCancelled → Walk a b t → Walk a b (withdrawn k t)
   unfolding withdrawn remove_thread
-  withdrawn_walks k {t = t} ok c =
+  withdrawn_walks k {t = t} ok says c =
       subst (λ (v : Core). Walk a b (set_uninteresting k (set_exited k (set_end k call_end.StartCancelled v)))) (withdraws k t)
-      (word (SetUninteresting k) tt (word (SetExited k) tt (word (SetEnd k call_end.StartCancelled) (IsWithdrawn ok (ap (λ (o : Option Thread). is_none o) (get-remove_same t.threads k)) refl) (word (Withdraw k) ok c))))
+      (word (SetUninteresting k) tt (word (SetExited k) tt (word (SetEnd k call_end.StartCancelled) (IsWithdrawn ok (ap (λ (o : Option Thread). is_none o) (get-remove_same t.threads k)) refl, says) (word (Withdraw k) ok c))))
 
 -- ---- A new call
 
@@ -704,43 +705,47 @@ module _ (x : Setting) (main : Main) (s : Core) (n : ℕ) (l : Label) (next : Tu
   unfolding cancel_asks
   asks_walks k has says = word (SetOwnEvent k (Some own.Cancelled)) (inl (refl, ((n, (refl, has)), (says.1, says.0)))) NoWord
 
-  cancel_guest_leads : (mode : Mode) (r k : ℕ) (y : CancelCase) → cancel_case k s ≡ y → HasSubtask a n (subtask.Guest k) → is_joined (join_of (subtask.Guest k) s) ≡ false → Leads a s (cancel_guest mode n r k s y)
+  cancel_writes : (mode : Mode) → written_by x.component s (cancel_label mode n 3) s ≡ option_map (end_for status.StartCancelled) (cancelled_of_op x.component n s (how_far_of n s))
+  cancel_writes Async = refl
+  cancel_writes Sync = refl
+
+  cancel_guest_leads : (mode : Mode) (r k : ℕ) (y : CancelCase) → cancelled_of_op x.component n s (how_far_of n s) ≡ Some (subtask.Guest k) → cancel_case k s ≡ y → HasSubtask a n (subtask.Guest k) → is_joined (join_of (subtask.Guest k) s) ≡ false → Leads a s (cancel_guest mode n r k s y)
   unfolding cancel_withdraws cancel_wakes_callback cancel_promotes_yield cancel_asks set_own_event on_call
-  cancel_guest_leads mode r k AlreadyEnded is has free = cancel_ended_row_leads mode r (subtask.Guest k) s (undelivered_end (event_of (subtask.Guest k) s)) has NoWord
-  cancel_guest_leads mode r k StartNotRun is has free =
+  cancel_guest_leads mode r k AlreadyEnded target is has free = cancel_ended_row_leads mode r (subtask.Guest k) s (undelivered_end (event_of (subtask.Guest k) s)) has NoWord
+  cancel_guest_leads mode r k StartNotRun target is has free =
       let says = subst (CaseSays k s) is (case_says k s) in
-      go (cancel_label mode n 3) (cancel_withdraws n r k s) (cancel_plain mode n 3) (answered_walks n refl r 3 (withdrawn_walks n refl k (n, (refl, (has, (says.1, says.0)))) NoWord))
-  cancel_guest_leads mode r k CallbackWaits is has free =
+      goes_on_saying x main s n l next (cancel_label mode n 3) (cancel_withdraws n r k s) (cancel_plain mode n 3) (λ at. answered_walks n refl r 3 (withdrawn_walks n refl k (n, (refl, (has, (says.1, says.0)))) (ap (λ (y : Label). written_by x.component s y s) at ∙ (cancel_writes mode ∙ ap (option_map (end_for status.StartCancelled)) target)) NoWord))
+  cancel_guest_leads mode r k CallbackWaits target is has free =
       let asks = asks_walks k has (goes_on_case k s CallbackWaits is refl) in
       stop (pauses n) (cancel_wakes_callback n k s) refl (λ leave. cancel_goes_behind_walks n refl k leave has free
       (placed (Put mark.Switch k (why.Delivery delivery.Cancel)) (inl (Cancels (subst (CaseSays k s) is (case_says k s)) refl)) asks))
-  cancel_guest_leads mode r k CallbackYields is has free =
+  cancel_guest_leads mode r k CallbackYields target is has free =
       let asks = asks_walks k has (goes_on_case k s CallbackYields is refl) in
       stop (pauses n) (cancel_promotes_yield n k s) refl (λ leave. cancel_goes_behind_walks n refl k leave has free
       (shifted (promoted_unless_shifts k (cancel_asks k s) (inr (ready_at (place_of k s) (yields_ready (place_of k s) (subst (CaseSays k s) is (case_says k s)))))) asks))
-  cancel_guest_leads mode r k OtherwiseRuns is has free = cancel_by_end_leads mode r (subtask.Guest k) (cancel_asks k s) (subtask_ended (subtask.Guest k) (cancel_asks k s)) has (inl free) (asks_walks k has (goes_on_case k s OtherwiseRuns is refl))
+  cancel_guest_leads mode r k OtherwiseRuns target is has free = cancel_by_end_leads mode r (subtask.Guest k) (cancel_asks k s) (subtask_ended (subtask.Guest k) (cancel_asks k s)) has (inl free) (asks_walks k has (goes_on_case k s OtherwiseRuns is refl))
 
-  cancel_subtask_leads : (mode : Mode) (r : ℕ) (sub : Subtask) → HasSubtask a n sub → is_joined (join_of sub s) ≡ false → Leads a s (cancel_subtask mode n r s sub)
+  cancel_subtask_leads : (mode : Mode) (r : ℕ) (sub : Subtask) → cancelled_of_op x.component n s (how_far_of n s) ≡ Some sub → HasSubtask a n sub → is_joined (join_of sub s) ≡ false → Leads a s (cancel_subtask mode n r s sub)
   unfolding cancel_aborts_host
-  cancel_subtask_leads mode r (subtask.Guest k) has free = cancel_guest_leads mode r k (cancel_case k s) refl has free
-  cancel_subtask_leads mode r (subtask.Host i) has free =
+  cancel_subtask_leads mode r (subtask.Guest k) target has free = cancel_guest_leads mode r k (cancel_case k s) target refl has free
+  cancel_subtask_leads mode r (subtask.Host i) target has free =
       trap_if_leads a s (was_cancelled i s) trap.SubtaskCancelAfterTerminal _ (λ e.
       cancel_by_end_leads mode r (subtask.Host i) (cancel_aborts_host i s) (subtask_ended (subtask.Host i) (cancel_aborts_host i s)) has (inl free) (word (SetCancelled i) (n, (refl, has)) (word (SetPhase i (aborted_phase (phase_of i s))) refl NoWord)))
 
-  cancel_row_leads : (mode : Mode) (r h : ℕ) (f : HowFar) → how_far_of n s ≡ f → Leads a s (cancel_row mode n r h s f)
+  cancel_row_leads : (mode : Mode) (r h : ℕ) (f : HowFar) → cancel_target n s (op_of x.component n s) ≡ subtask_at (instance_of n s) h s → how_far_of n s ≡ f → Leads a s (cancel_row mode n r h s f)
   unfolding cancel_resumed
-  cancel_row_leads mode r h (how_far.Cancels sub) far =
+  cancel_row_leads mode r h (how_far.Cancels sub) target far =
       let has : HasSubtask a n sub = ByOp (ap (λ y. subtask_under_way y) far) in
       cancel_by_end_leads mode r sub (cancel_resumed n sub s) (subtask_ended sub (cancel_resumed n sub s)) has (inr far)
       (join_walks n refl sub join.Nowhere (n, (refl, has)) (word (SetSavedCallee n None) tt (put_back_walks n refl (saved_callee_of n s) (subtask_instance sub s) NoWord)))
-  cancel_row_leads mode r h (how_far.AwaitsEnd sub) far =
+  cancel_row_leads mode r h (how_far.AwaitsEnd sub) target far =
       let has : HasSubtask a n sub = ByOp (ap (λ y. subtask_under_way y) far) in
       let t = set_join sub join.Nowhere s in
       cancel_ended_row_leads mode r sub t (undelivered_end (event_of sub t)) has (join_walks n refl sub join.Nowhere (n, (refl, has)) NoWord)
-  cancel_row_leads mode r h _ far =
+  cancel_row_leads mode r h f target far =
       or_trap_leads a s (subtask_at (instance_of n s) h s) trap.BadHandle _ (λ sub named.
       trap_if_leads a s (is_joined (join_of sub s)) trap.WaitableSyncAndAsync _ (λ free.
-      cancel_subtask_leads mode r sub (ByHandle h named) free))
+      cancel_subtask_leads mode r sub (ap (cancelled_of_op x.component n s) far ∙ (target ∙ named)) (ByHandle h named) free))
 
   -- ---- Dropping
 
@@ -769,8 +774,8 @@ module _ (x : Setting) (main : Main) (s : Core) (n : ℕ) (l : Label) (next : Tu
   subtask_row_leads (call_op.CallSync r e xs) is = call_sync_row_leads r e (values_in (registers_of n s) xs) (how_far_of n s) (ap (λ p. callee_of_op p) is) refl
   subtask_row_leads (call_op.CallHost r q h) is = call_host_polled_leads r q (first_poll (host_at x.component h))
   subtask_row_leads (call_op.CallSyncHost r h) is = call_sync_host_row_leads r h (how_far_of n s) refl
-  subtask_row_leads (call_op.Cancel r v) is = cancel_row_leads Async r (value_of n s v) (how_far_of n s) refl
-  subtask_row_leads (call_op.CancelSync r v) is = cancel_row_leads Sync r (value_of n s v) (how_far_of n s) refl
+  subtask_row_leads (call_op.Cancel r v) is = cancel_row_leads Async r (value_of n s v) (how_far_of n s) (ap (cancel_target n s) is) refl
+  subtask_row_leads (call_op.CancelSync r v) is = cancel_row_leads Sync r (value_of n s v) (how_far_of n s) (ap (cancel_target n s) is) refl
   subtask_row_leads (call_op.Drop v) is = drop_row_leads (value_of n s v)
 
   -- ---- Threads

@@ -279,7 +279,7 @@ module _ (x : Setting) (main : Main) (ended : Bool) (s : Core) (n : ℕ) (l : La
     unfolding begun_at
     starts_walks w ready may =
         let k = task_of n s in
-        told_walks k status.Started w (begun_started n s) (still_told_to k s (begun_at n s) (begun_same n s) w (λ y h. begun_chosen n y w s h) (told_to k w s may))
+        told_walks k status.Started w (begun_started n s) (λ e. absurd (subst T (sym e) tt)) (still_told_to k s (begun_at n s) (begun_same n s) w (λ y h. begun_chosen n y w s h) (told_to k w s may))
         (word (SetStarted k) (inl (n, (refl, (ready, refl)))) (word (NameThread (instance_of n s) n) tt start))
 
     barred_leads : (m : Mark) (w : Option ℕ) → WasReady taking_scene n why.Start → is_explicit n s ≡ false → admits n s why.Start ≡ true → may_tell (task_of n s) w s ≡ true → (q : ExportKind) → kind_of (task_of n s) s ≡ q → is_holding q ≡ true → Leads taking_scene b (Goes (take_label m n w) (set_place n place.Running (set_do_not_enter (instance_of n (told_start w)) true (told_start w))) n)
@@ -317,7 +317,7 @@ module _ (x : Setting) (main : Main) (ended : Bool) (s : Core) (n : ℕ) (l : La
     starting_walks w may =
         let k = task_of n s in
         walk_if (starting_is_published k s) s (told k status.Starting w (set_starting_published k s)) (λ e. start) (λ e.
-        told_walks k status.Starting w (λ told. tt) (still_told_to k s (set_starting_published k s) (published_same k s) w (λ y h. published_chosen k y w s h) (told_to k w s (sym (ap (λ c. cond c (is_none w) (may_tell k w s)) e) ∙ may)))
+        told_walks k status.Starting w (λ told. tt) (λ e. absurd (subst T (sym e) tt)) (still_told_to k s (set_starting_published k s) (published_same k s) w (λ y h. published_chosen k y w s h) (told_to k w s (sym (ap (λ c. cond c (is_none w) (may_tell k w s)) e) ∙ may)))
         (word (SetStartingPublished k) tt start))
 
     start_row_leads : (m : Mark) (w : Option ℕ) (c : Bool) → admits n s why.Start ≡ c → WasReady taking_scene n why.Start → Leads taking_scene b (start_row m n w s c)

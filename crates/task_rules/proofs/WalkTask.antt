@@ -1,7 +1,9 @@
 -- The rows of ops as chains of words: what a row owes, the ops on registers and words, and the ops that end a task or an activation.
+use Rattle.task_rules.specs.SubtaskEnds.{task_end, written_by, written_by_exit}
+use Rattle.task_machine.specs.declared.words.Status.TheVariants as status
 use Rattle.std.proofs.Common.{T, ap, cond, inl, inr, length, refl, subst, suc, sym, ◌-◌, ◌∙◌, ◌⊎◌}
 use Rattle.std.specs.Option.{option_map_or}
-use Rattle.std.specs.Prelude.{Bool, List, None, Option, Some, false, if◌then◌else◌, is_none, min, nat_le, nat_lt, not, option_map, true, unwrap_or, zero, ℕ, ◌%◌, ◌&&◌, ◌*◌, ◌+◌, ◌/◌, ◌==◌, ◌≡◌}
+use Rattle.std.specs.Prelude.{Bool, List, None, Option, Some, false, if◌then◌else◌, is_none, min, nat_le, nat_lt, not, option_map, true, unwrap_or, zero, ℕ, ◌%◌, ◌&&◌, ◌*◌, ◌+◌, ◌/◌, ◌==◌, ◌≡◌, ◌||◌}
 use Rattle.task_machine.proofs.CommuteLemmas.{get-change}
 use Rattle.task_machine.proofs.MapLemmas.{change-field, get-change_same}
 use Rattle.task_machine.specs.Core.{Core, Main}
@@ -26,7 +28,7 @@ use Rattle.task_rules.proofs.PlacingLemmas.{Shifted, shifted_calls, shifted_task
 use Rattle.task_rules.proofs.StandLemmas.{is_eq_of}
 use Rattle.task_rules.proofs.WalkEnds.{SameCall, cancelled_walks, returned_walks, still_told_to, unanswered}
 use Rattle.task_rules.proofs.WalkMoves.{Chosen, ToldTo, checked_shifts, chosen_released, ended_gone, ended_walks, moved, released_shifts, shifted, stopped_shifts, told_to, word}
-use Rattle.task_rules.specs.Allowed.{AwaitsEvent, BySetHandle, ComesAgain, Departs, EndsActivation, EndsOver, Exits, FindsEvent, GivesUp, HasSet, IsRunner, Leaves, MayBar, MayEnd, MayGo, MayOwe, ReturnsNow, Uncovers, is_exit}
+use Rattle.task_rules.specs.Allowed.{AwaitsEvent, BySetHandle, ComesAgain, Departs, EndsActivation, EndsOver, Exits, FindsEvent, GivesUp, HasSet, IsRunner, Leaves, MayBar, MayEnd, MayGo, MayOwe, ReturnsNow, Uncovers, is_exit, SaysEnd}
 use Rattle.task_rules.specs.Calls.{answered}
 use Rattle.task_rules.specs.Chains.{LastWords, NoWord, Walk, is_running}
 use Rattle.task_rules.specs.Data.{advanced, assigned, data_row, moved_to, skip_row, skipped, stored}
@@ -127,6 +129,14 @@ task_cancel_plain : (n : ℕ) (w : Option ℕ) → is_plain (task_cancel_label n
 task_cancel_plain n None = refl
 task_cancel_plain n (Some w) = refl
 
+ret_writes : (c : Component) (n v : ℕ) (w : Option ℕ) (s : Core) → written_by c s (ret_label n v w) s ≡ task_end n status.Returned s
+ret_writes c n v None s = refl
+ret_writes c n v (Some y) s = refl
+
+task_cancel_writes : (c : Component) (n : ℕ) (w : Option ℕ) (s : Core) → written_by c s (task_cancel_label n w) s ≡ task_end n status.ReturnCancelled s
+task_cancel_writes c n None s = refl
+task_cancel_writes c n (Some y) s = refl
+
 exit_quiet : (n : ℕ) (w : Option ℕ) → is_quiet (exit_label n w) ≡ true
 exit_quiet n None = refl
 exit_quiet n (Some w) = refl
@@ -183,11 +193,15 @@ module _ (x : Setting) (main : Main) (s : Core) (n : ℕ) (l : Label) (next : Tu
     shut = λ i begun. none_is_some i (sym (quiet_begins s l quiet) ∙ begun);
   }
 
+  -- n goes on, as the label says
+  pub goes_on_saying : (k : Label) (t : Core) → is_plain k ≡ true → (l ≡ k → Walk running_scene s t) → Leads running_scene s (Goes k t n)
+  goes_on_saying k t plain c is to =
+      let p = plain_quiet (is_quiet k) (is_exit k) plain in
+      (c is, quiet_ends (ap is_quiet is ∙ p.0) (λ m at. inl (sym to ∙ at)) (λ exit. absurd (subst T (sym exit ∙ (ap is_exit is ∙ p.1)) tt)))
+
   -- n goes on
   pub goes_on : (k : Label) (t : Core) → is_plain k ≡ true → Walk running_scene s t → Leads running_scene s (Goes k t n)
-  goes_on k t plain c is to =
-      let p = plain_quiet (is_quiet k) (is_exit k) plain in
-      (c, quiet_ends (ap is_quiet is ∙ p.0) (λ m at. inl (sym to ∙ at)) (λ exit. absurd (subst T (sym exit ∙ (ap is_exit is ∙ p.1)) tt)))
+  goes_on k t plain c = goes_on_saying k t plain (λ is. c)
 
   -- no thread goes on
   pub stops_here : (k : Label) (t : Core) → is_plain k ≡ true → (Leaves running_scene n → Walk running_scene s t) → Leads running_scene s (Stops k t)
@@ -233,23 +247,23 @@ module _ {a : Scene} {b : Core} (n : ℕ) (is : IsRunner a n) where
   unfolding exit_stops
   exit_stops_walks {t = t} go c = ended_walks n go (shifted (stopped_shifts (foot_of n t) (checked (instance_of n t) t)) (shifted (checked_shifts (instance_of n t) t) c))
 
-  sync_exits_walks : (w : Option ℕ) {t : Core} → MayEnd a (task_of n t) call_end.Returned (exit_restores n t) → ToldTo (task_of n t) w (exit_restores n t) → MayGo a n → Walk a b t → Walk a b (sync_exits n w t)
+  sync_exits_walks : (w : Option ℕ) {t : Core} → MayEnd a (task_of n t) call_end.Returned (exit_restores n t) → SaysEnd a (task_of n t) status.Returned → ToldTo (task_of n t) w (exit_restores n t) → MayGo a n → Walk a b t → Walk a b (sync_exits n w t)
   unfolding sync_exits exit_restores
-  sync_exits_walks w {t = t} ok to go c =
+  sync_exits_walks w {t = t} ok says to go c =
       let r = returned (task_of n t) (register_of n 0 t) w (exit_restores n t) in
-      ended_walks n go (shifted (stopped_shifts (foot_of n t) r) (returned_walks (task_of n t) (register_of n 0 t) w ok to (word (SetDoNotSuspend (instance_of n t) (unwrap_or (saved_own_of n t) false)) tt c)))
+      ended_walks n go (shifted (stopped_shifts (foot_of n t) r) (returned_walks (task_of n t) (register_of n 0 t) w ok says to (word (SetDoNotSuspend (instance_of n t) (unwrap_or (saved_own_of n t) false)) tt c)))
 
-  blocking_exits_walks : (w : Option ℕ) (order : List ℕ) {t : Core} → MayBar a (instance_of n t) false → MayEnd a (task_of n t) call_end.Returned (end_reopens (instance_of n t) order t) → ToldTo (task_of n t) w (end_reopens (instance_of n t) order t) → MayGo a n → Walk a b t → Walk a b (blocking_exits n w order t)
+  blocking_exits_walks : (w : Option ℕ) (order : List ℕ) {t : Core} → MayBar a (instance_of n t) false → MayEnd a (task_of n t) call_end.Returned (end_reopens (instance_of n t) order t) → SaysEnd a (task_of n t) status.Returned → ToldTo (task_of n t) w (end_reopens (instance_of n t) order t) → MayGo a n → Walk a b t → Walk a b (blocking_exits n w order t)
   unfolding blocking_exits
-  blocking_exits_walks w order {t = t} bar ok to go c = exit_stops_walks go (returned_walks (task_of n t) (register_of n 0 t) w ok to (reopens_walks (instance_of n t) order bar c))
+  blocking_exits_walks w order {t = t} bar ok says to go c = exit_stops_walks go (returned_walks (task_of n t) (register_of n 0 t) w ok says to (reopens_walks (instance_of n t) order bar c))
 
   -- the thread m goes on, under which n ran
-  direct_exits_walks : (m v : ℕ) {t : Core} → MayEnd a (task_of n t) call_end.Returned t → a.next ≡ turn.Run m → place_of m a.base ≡ Some (place.Under n) → Walk a b t → Walk a b (direct_exits n m v t)
+  direct_exits_walks : (m v : ℕ) {t : Core} → MayEnd a (task_of n t) call_end.Returned t → SaysEnd a (task_of n t) status.Returned → a.next ≡ turn.Run m → place_of m a.base ≡ Some (place.Under n) → Walk a b t → Walk a b (direct_exits n m v t)
   unfolding direct_exits
-  direct_exits_walks m v {t = t} ok to under c =
+  direct_exits_walks m v {t = t} ok says to under c =
       let u = set_end (task_of n t) call_end.Returned t in
       let gone : is_none (get (ended n u).threads n) ≡ true = ap (λ (o : Option Thread). is_none o) (ended_gone n u) in
-      word (SetHowFar m (how_far.Answered v)) (n, (is, (to, under))) (moved (Move m place.Running) (Uncovers n is to under gone refl) (ended_walks n (EndsOver m is to under) (word (SetEnd (task_of n t) call_end.Returned) ok c)))
+      word (SetHowFar m (how_far.Answered v)) (n, (is, (to, under))) (moved (Move m place.Running) (Uncovers n is to under gone refl) (ended_walks n (EndsOver m is to under) (word (SetEnd (task_of n t) call_end.Returned) (ok, says) c)))
 
   code_stops_walks : (order : List ℕ) {t : Core} → MayBar a (instance_of n t) false → Walk a b t → Walk a b (code_stops n order t)
   unfolding code_stops
@@ -358,6 +372,9 @@ module _ (x : Setting) (main : Main) (s : Core) (n : ℕ) (l : Label) (next : Tu
   abbrev a : Scene
   a = running_scene x main s n l next
 
+  go_saying : (k : Label) (t : Core) → is_plain k ≡ true → (l ≡ k → Walk a s t) → Leads a s (Goes k t n)
+  go_saying k t plain c = goes_on_saying x main s n l next k t plain c
+
   go : (k : Label) (t : Core) → is_plain k ≡ true → Walk a s t → Leads a s (Goes k t n)
   go k t plain c = goes_on x main s n l next k t plain c
 
@@ -388,11 +405,25 @@ module _ (x : Setting) (main : Main) (s : Core) (n : ℕ) (l : Label) (next : Tu
   exits : (w : Option ℕ) (t : Core) → l ≡ exit_label n w → is_explicit n s ≡ false → (is_direct (goal_of (task_of n s) s) ≡ true) ⊎ (is_async_lifted (kind_of (task_of n s) s) ≡ false) → t.calls ≡ s.calls → MayEnd a (task_of n s) call_end.Returned t
   exits w t is implicit kind same = Exits n refl (ap is_exit is ∙ exit_is n w) refl implicit kind (ap (λ (m : Records Call). get m (task_of n s)) same) refl
 
+  exit_says : (w : Option ℕ) → l ≡ exit_label n w → is_explicit n s ≡ false → (is_direct (goal_of (task_of n s) s) ≡ true) ⊎ (is_async_lifted (kind_of (task_of n s) s) ≡ false) → SaysEnd a (task_of n s) status.Returned
+  exit_says w is implicit kind = ap (λ (k : Label). written_by x.component s k s) is ∙ (exit_writes w ∙ ap (λ b. if b then task_end n status.Returned s else None) (ends (is_explicit n s) (is_direct (goal_of (task_of n s) s)) (is_async_lifted (kind_of (task_of n s) s)) implicit kind))
+    where
+      exit_writes : (v : Option ℕ) → written_by x.component s (exit_label n v) s ≡ written_by_exit n s
+      exit_writes None = refl
+      exit_writes (Some y) = refl
+
+      ends : (e d h : Bool) → e ≡ false → (d ≡ true) ⊎ (h ≡ false) → (not e && (d || not h)) ≡ true
+      ends false true h i k = refl
+      ends false false false i k = refl
+      ends true d h i k = absurd (subst T i tt)
+      ends false false true i (inl k) = absurd (subst T (sym k) tt)
+      ends false false true i (inr k) = absurd (subst T k tt)
+
   sync_exit_row_leads : (w : Option ℕ) → is_explicit n s ≡ false → is_async_lifted (kind_of (task_of n s) s) ≡ false → Leads a s (sync_exit_row n w s)
   sync_exit_row_leads w implicit kind =
       may_leads a s (may_tell (task_of n s) w s) _ (λ may.
       gone_here x main s n l next (exit_label n w) (sync_exits n w s) (exit_quiet n w) (sync_exits_gone n w s) (λ is leave.
-      sync_exits_walks n refl w (exits w (exit_restores n s) is implicit (inr kind) (restored_calls n s))
+      sync_exits_walks n refl w (exits w (exit_restores n s) is implicit (inr kind) (restored_calls n s)) (exit_says w is implicit (inr kind))
       (still_told_to (task_of n s) s (exit_restores n s) (same_call (task_of n s) s (exit_restores n s) (restored_calls n s)) w (λ y chosen. restored_chosen n y w s chosen) (told_to (task_of n s) w s may)) (Departs leave) NoWord))
 
   -- where a holding entry returns
@@ -413,14 +444,14 @@ module _ (x : Setting) (main : Main) (s : Core) (n : ℕ) (l : Label) (next : Tu
       let i = instance_of n s in
       let k = task_of n s in
       let t = end_reopens i order s in
-      blocking_exits_walks n refl w order (bars w is implicit (ap (λ y. is_holding y) kind) direct) (exits w t is implicit (inr (ap (λ y. is_async_lifted y) kind)) (reopened_calls i order s))
+      blocking_exits_walks n refl w order (bars w is implicit (ap (λ y. is_holding y) kind) direct) (exits w t is implicit (inr (ap (λ y. is_async_lifted y) kind)) (reopened_calls i order s)) (exit_says w is implicit (inr (ap (λ y. is_async_lifted y) kind)))
       (still_told_to k s t (same_call k s t (reopened_calls i order s)) w (λ y chosen. reopened_chosen i order y w s chosen) (told_to k w s may)) (Departs leave) NoWord)))
 
   direct_leads : (m : ℕ) (t : Core) → under_of n s ≡ Some m → is_explicit n s ≡ false → is_direct (goal_of (task_of n s) s) ≡ true → task_of n t ≡ task_of n s → t.calls ≡ s.calls → Walk a s t → Leads a s (Goes (exit_label n None) (direct_exits n m (register_of n 0 s) t) m)
   direct_leads m t under implicit direct task calls c =
       let v = register_of n 0 s in
       goes_over x main s n l next (exit_label n None) m (direct_exits n m v t) refl (λ e. direct_exits_gone n m v t) (inr (direct_exits_runs n m v t)) (λ is to.
-      direct_exits_walks n refl m v (subst (λ (k : ℕ). MayEnd a k call_end.Returned t) (sym task) (exits None t is implicit (inl direct) calls)) to (under_place n m s under) c)
+      direct_exits_walks n refl m v (subst (λ (k : ℕ). MayEnd a k call_end.Returned t) (sym task) (exits None t is implicit (inl direct) calls)) (subst (λ (k : ℕ). SaysEnd a k status.Returned) (sym task) (exit_says None is implicit (inl direct))) to (under_place n m s under) c)
 
   direct_exit_to_leads : (k : ExportKind) (o : Option ℕ) → under_of n s ≡ o → is_explicit n s ≡ false → is_direct (goal_of (task_of n s) s) ≡ true → Leads a s (direct_exit_to n k s o)
   direct_exit_to_leads k None under implicit direct = tt
@@ -477,7 +508,7 @@ module _ (x : Setting) (main : Main) (s : Core) (n : ℕ) (l : Label) (next : Tu
       trap_if_leads a s (has_ended (task_of n s) s) trap.TaskCancelOrReturnTwice _ (λ unended.
       trap_if_leads a s (not (is_async_lifted (kind_of (task_of n s) s))) trap.TaskReturnInvalid _ (λ lifted.
       may_leads a s (may_tell (task_of n s) w s) _ (λ may.
-      go (ret_label n v w) (ret_done n v w s) (ret_plain n v w) (advanced_walks n refl (returned_walks (task_of n s) v w (ReturnsNow n refl refl unended (unnot (is_async_lifted (kind_of (task_of n s) s)) lifted) refl) (told_to (task_of n s) w s may) NoWord)))))
+      go_saying (ret_label n v w) (ret_done n v w s) (ret_plain n v w) (λ is. advanced_walks n refl (returned_walks (task_of n s) v w (ReturnsNow n refl refl unended (unnot (is_async_lifted (kind_of (task_of n s) s)) lifted) refl) (ap (λ (k : Label). written_by x.component s k s) is ∙ ret_writes x.component n v w s) (told_to (task_of n s) w s may) NoWord)))))
 
   task_cancel_row_leads : (w : Option ℕ) → Leads a s (task_cancel_row n w s)
   unfolding task_cancel_done
@@ -485,7 +516,7 @@ module _ (x : Setting) (main : Main) (s : Core) (n : ℕ) (l : Label) (next : Tu
       trap_if_leads a s (not (cancel_was_delivered (task_of n s) s)) trap.TaskCancelNotCancelled _ (λ delivered.
       trap_if_leads a s (has_ended (task_of n s) s) trap.TaskCancelOrReturnTwice _ (λ unended.
       may_leads a s (may_tell (task_of n s) w s) _ (λ may.
-      go (task_cancel_label n w) (task_cancel_done n w s) (task_cancel_plain n w) (advanced_walks n refl (cancelled_walks (task_of n s) w (GivesUp n refl refl unended (unnot (cancel_was_delivered (task_of n s) s) delivered) refl) (told_to (task_of n s) w s may) NoWord)))))
+      go_saying (task_cancel_label n w) (task_cancel_done n w s) (task_cancel_plain n w) (λ is. advanced_walks n refl (cancelled_walks (task_of n s) w (GivesUp n refl refl unended (unnot (cancel_was_delivered (task_of n s) s) delivered) refl) (ap (λ (k : Label). written_by x.component s k s) is ∙ task_cancel_writes x.component n w s) (told_to (task_of n s) w s may) NoWord)))))
 
   dec_from_leads : (b : ℕ) → Leads a s (dec_from n s b)
   unfolding dec_lowers dec_opens

@@ -3,7 +3,7 @@ use Rattle.std.specs.Prelude.{Bool, None, Option, Some, [], false, is_none, true
 use Rattle.task_machine.specs.Core.{Core, MainPlace, Scripted, Unscripted}
 use Rattle.task_machine.specs.Maps.{get}
 use Rattle.task_machine.specs.Moves.{has_entry, is_callback_waiter, is_deletable, is_group_done}
-use Rattle.task_machine.specs.Read.{cancel_was_delivered, course_of, course_value, end_of, goal_of, has_ended, has_member, has_waiters, how_far_of, instance_of, is_async_lifted, is_at, is_direct, is_explicit, is_joined, is_stage_ended, is_waiter, join_of, kind_of, may_not_enter, next_entry, own_event_of, phase_of, place_of, set_at, stage_of, subtask_at, subtask_ended, subtask_handle, task_of, thread_group, was_started, work_caller_of}
+use Rattle.task_machine.specs.Read.{cancel_was_delivered, course_of, course_value, end_of, goal_of, has_ended, has_member, has_waiters, how_far_of, instance_of, is_async_lifted, is_at, is_direct, is_end, is_explicit, is_joined, is_stage_ended, is_waiter, join_of, kind_of, may_not_enter, next_entry, own_event_of, phase_of, place_of, set_at, stage_of, subtask_at, subtask_ended, subtask_handle, task_of, thread_group, was_started, work_caller_of}
 use Rattle.task_machine.specs.declared.component.Callee.{Callee}
 use Rattle.task_machine.specs.declared.component.ExportKind.{ExportKind}
 use Rattle.task_machine.specs.declared.label.Label.{Label}
@@ -32,8 +32,9 @@ use Rattle.task_rules.specs.Scenes.{Scene, component_of, op_in}
 use Rattle.task_rules.specs.Scripts.{export_kind, registers_for}
 use Rattle.task_rules.specs.Takes.{host_status}
 use Rattle.task_rules.specs.Threads.{resume_why}
-use Rattle.task_rules.specs.Words.{AddGroup, CloseSet, CountWork, EndWork, Enter, FinishWork, GoBehind, MakeCall, MakeThread, Move, NameCall, NameWork, OpenSet, Pend, Places, Placing, Pop, Promote, Put, QueueWork, RemoveCall, RemoveGroup, RemoveThread, RemoveWork, SetCallEvent, SetCallJoin, SetCancelDelivered, SetCancelled, SetDoNotEnter, SetEnd, SetHowFar, SetOwnEvent, SetPhase, SetStarted, SetWorkEvent, SetWorkJoin, Stop, TakeHost, TakePush, UnnameCall, UnnameWork, Withdraw, Word}
+use Rattle.task_rules.specs.Words.{AddGroup, CloseSet, CountWork, EndWork, Enter, FinishWork, GoBehind, MakeCall, MakeThread, Move, NameCall, NameWork, OpenSet, Pend, Places, Placing, Pop, Promote, Put, QueueWork, RemoveCall, RemoveGroup, RemoveThread, RemoveWork, SetCallEvent, SetCallJoin, SetCancelDelivered, SetCancelled, SetDoNotEnter, SetEnd, SetHowFar, SetOwnEvent, SetPhase, SetStarted, SetWorkEvent, SetWorkJoin, Stop, TakeHost, TakePush, UnnameCall, UnnameWork, Withdraw, Word, GiveResult}
 use Rattle.task_rules.specs.Works.{next_polled}
+use Rattle.task_rules.specs.SubtaskEnds.{end_for, written_by}
 use Rattle.task_machine.specs.declared.label.Label.TheVariants as label
 use Rattle.task_machine.specs.declared.label.TaskLabel.TheVariants as task_label
 use Rattle.task_machine.specs.declared.records.CallEnd.TheVariants as call_end
@@ -221,6 +222,15 @@ pub data MayEnd (a : Scene) (k : ℕ) (e : CallEnd) (s : Core) : Type 0 where
   -- its start is withdrawn, and its thread is gone
   IsWithdrawn : MayWithdraw a k s → is_none (get s.threads k) ≡ true → e ≡ call_end.StartCancelled → MayEnd a k e s
 
+abbrev pub status_of_end : CallEnd → Status
+status_of_end call_end.Returned = status.Returned
+status_of_end call_end.StartCancelled = status.StartCancelled
+status_of_end call_end.ReturnCancelled = status.ReturnCancelled
+
+-- the label says that the step writes this end of the call
+abbrev pub SaysEnd : Scene → ℕ → Status → Type 0
+SaysEnd a k e = written_by (component_of a) a.base a.label a.base ≡ Some (end_for e (subtask.Guest k))
+
 -- the call has come to where this status says
 abbrev pub Tells : Status → ℕ → Core → Type 0
 Tells status.Starting k s = Unit {0}
@@ -235,7 +245,7 @@ IsOwn a sub = (n : ℕ) × (IsRunner a n × HasSubtask a n sub)
 
 -- the call's status is told to the calling thread, or the running thread takes it
 abbrev pub MayTell : Scene → ℕ → Option Status → Core → Type 0
-MayTell a k (Some e) s = (is_told k s ≡ true) × Tells e k s
+MayTell a k (Some e) s = (is_told k s ≡ true) × (Tells e k s × (is_end e ≡ true → SaysEnd a k e))
 MayTell a k None s = IsOwn a (subtask.Guest k)
 
 -- Cancelled comes to a task that is started and hasn't ended; to one that yields comes what it has, or None; what is there is taken by the running thread
@@ -315,7 +325,7 @@ Allowed a (RemoveThread n) s = MayGo a n
 Allowed a (Withdraw k) s = MayWithdraw a k s
 Allowed a (MakeCall f e x g group words) s = MayMakeCall a f e x g group s
 Allowed a (SetStarted k) s = MayStart a k s
-Allowed a (SetEnd k e) s = MayEnd a k e s
+Allowed a (SetEnd k e) s = MayEnd a k e s × SaysEnd a k (status_of_end e)
 Allowed a (SetOwnEvent k e) s = MayOwe a k e s
 Allowed a (SetCancelDelivered k) s = MayDeliver a k
 Allowed a (RemoveCall k) s = is_deletable k s ≡ true
@@ -341,6 +351,7 @@ Allowed a (RemoveWork i) s = MayRemoveWork a i s
 Allowed a (OpenSet i) s = MayOpen a i s
 Allowed a (CloseSet i h x) s = MayClose a i h x s
 Allowed a (SetDoNotEnter i b) s = MayBar a i b
+Allowed a (GiveResult k v) s = SaysEnd a k status.Returned
 Allowed a AddGroup s = s.made.groups ≡ a.base.made.groups
 Allowed a (RemoveGroup g) s = is_group_done g s ≡ true
 Allowed a _ s = Unit {0}
