@@ -1,4 +1,5 @@
 -- A host work comes to one end, and its push stands once: what each word of a step keeps.
+use Rattle.task_laws.proofs.Basics.{above, no_way, same_number, too_high, too_low, true_is_not_false}
 use Rattle.std.proofs.Common.{T, ap, ap₂, arith, cond, eqb→eq, le_refl, le_trans, refl, subst, suc, sym, ◌++◌, ◌∙◌}
 use Rattle.std.proofs.lemmas.Cmp.{tied_itself}
 use Rattle.std.specs.Cmp.{nat_cmp_total, unsigned_tied}
@@ -7,8 +8,6 @@ use Rattle.std.specs.Option.{option_map_or}
 use Rattle.std.specs.Ordering.{eq_by_cmp, is_lt, nat_cmp}
 use Rattle.std.specs.Prelude.{Bool, List, None, Option, Some, [], false, if◌then◌else◌, is_some, nat_lt, true, unwrap_or, zero, ℕ, ◌&&◌, ◌+◌, ◌==◌, ◌||◌, ◌∷◌, ◌≡◌, ◌≤◌}
 use Rattle.task_laws.proofs.EachLemmas.{Each, each_change, each_empty, each_get, each_insert, each_map, each_remove}
-use Rattle.task_laws.proofs.SoundFields.{no_way}
-use Rattle.task_laws.proofs.SoundLemmas.{above, same_number, too_high, too_low, true_is_not_false}
 use Rattle.task_machine.proofs.CommuteLemmas.{change-change_same}
 use Rattle.task_machine.proofs.MapLemmas.{get-insert_other}
 use Rattle.task_machine.specs.Core.{Core, State, fresh}

@@ -1,4 +1,5 @@
 -- From facts of each step to all that is once in a run.
+use Rattle.task_laws.proofs.Basics.{same_number, true_is_not_false}
 use Rattle.std.proofs.Common.{T, ap, arith, inl, inr, refl, subst, sym, ◌∙◌, eqb→eq}
 use Rattle.std.proofs.lemmas.List.Recursion.{is_count_by}
 use Rattle.std.specs.List.{list_any}
@@ -16,7 +17,6 @@ use Rattle.task_rules.specs.Run.{Run}
 use Rattle.task_rules.specs.Stalled.{Setting}
 use Rattle.task_rules.specs.Step.{Step}
 use Rattle.task_rules.specs.SubtaskEnds.{SubtaskEnd}
-use Rattle.task_laws.proofs.SoundLemmas.{same_number, true_is_not_false}
 
 -- ---- Counting
 

@@ -1,7 +1,7 @@
 -- What each word of a step keeps holds in each reached state.
+use Rattle.task_laws.proofs.Basics.{no_way}
 use Rattle.std.proofs.Common.{ap, cond, refl, subst, sym, ◌∙◌}
 use Rattle.std.specs.Prelude.{Bool, List, Some, [], false, is_some, true, unwrap_or, ℕ, ◌==◌, ◌∷◌, ◌≡◌}
-use Rattle.task_laws.proofs.SoundFields.{no_way}
 use Rattle.task_laws.specs.Settings.{Reached}
 use Rattle.task_machine.specs.Core.{Core, State, filled, fresh}
 use Rattle.task_machine.specs.Maps.{get, get-empty, get-insert, insert}

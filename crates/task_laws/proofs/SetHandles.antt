@@ -1,10 +1,9 @@
 -- A handle of a set names a set of its own instance, and no two handles name one set: what each word of a step keeps.
+use Rattle.task_laws.proofs.Basics.{above, no_way, same_number, too_high, true_is_not_false}
 use Rattle.std.proofs.Common.{T, ap, arith, cond, eqb→eq, inl, inr, refl, subst, sym, ◌∙◌, ◌≤◌, ◌⊎◌}
 use Rattle.std.specs.Option.{option_map_or}
 use Rattle.std.specs.Prelude.{Bool, None, Option, Some, false, is_some, option_and_then, option_map, true, unwrap_or, ℕ, ◌+◌, ◌==◌, ◌≡◌}
 use Rattle.task_laws.proofs.ReachLemmas.{filled_with, reached_kept}
-use Rattle.task_laws.proofs.SoundFields.{no_way}
-use Rattle.task_laws.proofs.SoundLemmas.{above, same_number, too_high, true_is_not_false}
 use Rattle.task_laws.specs.Handles.{SetsNamedAtHome, SetsNamedOnce}
 use Rattle.task_laws.specs.Settings.{Reached}
 use Rattle.task_machine.proofs.CommuteLemmas.{get-change}
@@ -158,7 +157,7 @@ set_closed i h x {handles = handles} {sets = sets} named q = record {
         let home : j ≡ i = one_set (sym (q.homes j g x too) ∙ q.homes i h x named) in
         k.1 home (q.apart i g h x (subst (λ (n : ℕ). Names handles n g x) home too) named))) ∙ q.homes j g y k.0
 
-tidy_word : (a : Scene) (w : Word) (s : Core) → Allowed a w s → IsTidy s → IsTidy (after_word w s)
+pub tidy_word : (a : Scene) (w : Word) (s : Core) → Allowed a w s → IsTidy s → IsTidy (after_word w s)
 unfolding add_call add_group add_set add_thread add_work call_made count_work free_handle free_thread_handle give_handle give_result give_thread_handle on_call on_instance on_thread on_work poll_pends push_high remove_call remove_group remove_set remove_thread remove_work set_backpressure set_cancel_delivered set_cancelled set_course set_do_not_enter set_do_not_suspend set_end set_event set_exited set_how_far set_join set_own_event set_phase set_position set_register set_result set_saved_callee set_saved_own set_script set_stage set_started set_starting_published set_subtask_handle set_thread_handle set_trapped set_uninteresting set_word take_result with_handle with_thread_handle work_queued
 tidy_word a (NameCall i k) s ok q = subtask_named i (subtask.Guest k) q
 tidy_word a (NameWork i w) s ok q = subtask_named i (subtask.Host w) q
@@ -170,7 +169,7 @@ tidy_word a w s ok q = q
 
 -- ---- Reached states
 
-opening_tidy : (instances handle_limit capacity : ℕ) → IsTidy (fresh instances handle_limit capacity)
+pub opening_tidy : (instances handle_limit capacity : ℕ) → IsTidy (fresh instances handle_limit capacity)
 unfolding fresh
 opening_tidy instances handle_limit capacity = record {
   numbers = λ i h x k. none_named instances i h x k;

@@ -1,11 +1,11 @@
 -- A subtask that is named is of a call that was made: what each step and each run keeps.
+use Rattle.task_laws.proofs.Basics.{no_way}
 use Rattle.std.proofs.Common.{ap, cond, refl, subst, sym, ◌∙◌}
 use Rattle.std.specs.Option.{option_map_or}
 use Rattle.std.specs.Prelude.{Bool, List, None, Option, Some, [], false, is_some, not, option_and_then, true, ℕ, ◌==◌, ◌∷◌, ◌≡◌}
 use Rattle.task_places.proofs.TracedFields.{Housed, Traced, guest_in, guest_named, guest_under_way, set_trapped_traced, take_result_traced}
 use Rattle.task_places.proofs.TracedRows.{Stays}
 use Rattle.task_places.proofs.TracedTakes.{main_aborted_traced, main_spawned_traced, main_started_traced, op_row_stays, poll_pends_traced, popped_traced, struck_traced, take_row_stays, poll_ends_traced}
-use Rattle.task_laws.proofs.SoundFields.{no_way}
 use Rattle.task_laws.specs.Settings.{Reached}
 use Rattle.task_machine.specs.Core.{Began, Core, Main, MainPlace, Refused, Scripted, Started, State, Table, Unscripted, filled, fresh, no_handles}
 use Rattle.task_machine.specs.Labels.{Choice, choice_of}
