@@ -23,7 +23,7 @@ use Rattle.task_laws.specs.Order.{is_fresh}
 use Rattle.task_places.proofs.FreshStand.{All, Going, Kept, Standing, goes, is_starting, may_come, may_go, not_fresh, quiet_all, quiet_stand, set_place_all, stopped_stand}
 use Rattle.task_rules.proofs.KeepRows.{told_keeps, with_thread_handle_keeps}
 use Rattle.task_rules.proofs.KeepWords.{after, set_started_keeps}
-use Rattle.task_rules.proofs.LawLemmas.{steady_elementary}
+use Rattle.task_rules.proofs.KeepLaws.{steady_elementary}
 use Rattle.task_rules.specs.Data.{moved_to}
 use Rattle.task_rules.specs.Laws.{LaterBy, LaterCall, Steady}
 use Rattle.task_machine.specs.Maps.{Records, get}
