@@ -8,7 +8,7 @@ use Rattle.task_run.specs.Lower.{Reads}
 use Rattle.task_rules.specs.Texts.{text}
 use Rattle.task_run.specs.declared.report.Report.{Report}
 use Rattle.task_run.specs.Headline.{IsReportOf}
-use Rattle.task_run.specs.Pump.{IsFront, IsTooLong, IsWhole}
+use Rattle.byte_streams.specs.Pump.{IsFront, IsTooLong, IsWhole}
 use Rattle.task_run.specs.Tool.{IsHindered, IsReportCut, SaysBadLine, status_of}
 
 pub only_done : (e : End) → e ≢ ends.WrongWords → e ≢ ends.BadScenario → e ≢ ends.ReadFailed → e ≢ ends.WriteFailed → e ≢ ends.TooLong → (status_of e ≡ 0) ⊎ (status_of e ≡ 1)

@@ -11,8 +11,8 @@ use Rattle.task_run.specs.declared.scenario.Scenario.{Scenario}
 use Rattle.task_machine.specs.Core.{Core}
 use Rattle.task_run.specs.Headline.{IsReportOf, IsRunOf, machine_scenario}
 use Rattle.task_run.specs.Lower.{Reads}
-use Rattle.task_run.specs.Outside.{Appends}
-use Rattle.task_run.specs.Pump.{IsFront, IsTooLong, IsWhole}
+use Rattle.byte_streams.specs.Outside.{Appends}
+use Rattle.byte_streams.specs.Pump.{IsFront, IsTooLong, IsWhole}
 
 -- the words are `run N`, N from 1 to 1,000,000 in decimal without leading zeros
 abbrev pub IsRun : List (List ℕ) → ℕ → Type 0

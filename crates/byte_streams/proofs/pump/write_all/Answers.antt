@@ -1,7 +1,7 @@
 use Rattle.std.proofs.Common.{◌≡◌, ℕ, ◌-◌, ◌++◌, List, [], length, take, drop, append_assoc, arith, refl}
 use Rattle.std.proofs.lemmas.List.{take_rest, take-append-drop}
-use Rattle.task_run.proofs.Appending.{appends_none, appends_then}
-use Rattle.task_run.proofs.pump.write_all.Goals as goal
+use Rattle.byte_streams.proofs.Appending.{appends_none, appends_then}
+use Rattle.byte_streams.proofs.pump.write_all.Goals as goal
 
 further : (front rest bytes : List ℕ) (n : ℕ) → front ++ rest ≡ bytes → front ++ take n rest ++ take (length rest - n) (drop n rest) ≡ bytes
 further front rest bytes n e = rw (append_assoc, take_rest, take-append-drop) e

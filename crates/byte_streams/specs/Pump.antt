@@ -1,9 +1,9 @@
 -- What reading all and writing all come to, where what is left and what is held are told.
 use Rattle.std.specs.Prelude.{◌≡◌, ℕ, ◌≤◌, List, [], ◌++◌, length, Option, Some, Result, Ok, Err}
 use Rattle.std.specs.Global.{Vec}
-use Rattle.task_run.specs.declared.pump.ReadFault.{ReadFault}
-use Rattle.task_run.specs.declared.pump.ReadFault.TheVariants as fault
-use Rattle.task_run.specs.Outside.{Appends}
+use Rattle.byte_streams.specs.declared.pump.ReadFault.{ReadFault}
+use Rattle.byte_streams.specs.declared.pump.ReadFault.TheVariants as fault
+use Rattle.byte_streams.specs.Outside.{Appends}
 
 -- these bytes were taken off the front of all, and the others are left
 pub record IsTaken (all taken : List ℕ) (left : Option (List ℕ)) : Type 0 where

@@ -2,8 +2,8 @@
 use Rattle.std.proofs.Common.{◌≡◌, ℕ, true, false, List, [], ◌++◌, Some, None, append-nil, append_assoc, refl, sym, ap, ◌∙◌}
 use Rattle.std.specs.Prelude.{Bool, Option}
 use Rattle.std.proofs.lemmas.Option.{same_Some}
-use Rattle.task_run.specs.Outside.{Appends, kept_told}
-use Rattle.task_run.specs.Pump.{IsFront}
+use Rattle.byte_streams.specs.Outside.{Appends, kept_told}
+use Rattle.byte_streams.specs.Pump.{IsFront}
 
 pub appends_none : (o : Option (List ℕ)) → Appends o o []
 appends_none o now is = (now, (is, sym (append-nil now)))

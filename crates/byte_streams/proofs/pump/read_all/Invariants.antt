@@ -1,6 +1,6 @@
 use Rattle.std.proofs.Common.{◌≡◌, ℕ, ◌-◌, ◌≤◌, List, length, Some}
-use Rattle.task_run.specs.Pump.{IsTaken}
-use Rattle.task_run.proofs.pump.read_all.Given as goal
+use Rattle.byte_streams.specs.Pump.{IsTaken}
+use Rattle.byte_streams.proofs.pump.read_all.Given as goal
 
 abbrev pub invariant-loop-buf : goal.invariant-loop-buf
 invariant-loop-buf g l = record {

@@ -1,9 +1,9 @@
 ghost use Rattle.std.specs.Prelude.{◌≡◌, ◌<◌, ◌≤◌, ◌++◌, [], IfOk, List, Option, Some, drop, length, vec_capacity, vec_len};
-ghost use Rattle.task_run.specs.Outside.{HasRisen, IsWritten};
+ghost use Rattle.byte_streams.specs.Outside.{HasRisen, IsWritten};
 
 use crate::outside::{Read, Sink, Source, Wrote};
-use crate::scenario::NoMemory;
 use std::alloc::Global;
+use task_machine::NoMemory;
 
 /// A source over memory, which gives at most `piece` bytes a call and fails at chosen calls.
 #[derive(Drop)]

@@ -1,6 +1,6 @@
 ghost use Rattle.std.specs.Prelude.{◌≡◌, ◌≤◌, ℕ, List, Some, true, false, IsErrOf, IfOk, length};
-ghost use Rattle.task_run.specs.Outside.{Appends, HasRisen};
-ghost use Rattle.task_run.specs.Pump.{ReadsAll, IsFront};
+ghost use Rattle.byte_streams.specs.Outside.{Appends, HasRisen};
+ghost use Rattle.byte_streams.specs.Pump.{ReadsAll, IsFront};
 
 use crate::outside::{Read, Sink, Source, Wrote};
 use std::alloc::{AllocError, Global};
@@ -18,7 +18,7 @@ pub enum ReadFault {
 }
 
 impl From<AllocError> for ReadFault {
-    ghost use Rattle.task_run.specs.declared.pump.ReadFault.TheVariants.{NoMemory};
+    ghost use Rattle.byte_streams.specs.declared.pump.ReadFault.TheVariants.{NoMemory};
 
     ghost from_gives = { λ _ e. e ≡ NoMemory };
 

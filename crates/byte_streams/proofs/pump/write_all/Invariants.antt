@@ -1,6 +1,6 @@
 use Rattle.std.proofs.Common.{◌≡◌, ℕ, ◌≤◌, ◌++◌, List, length}
-use Rattle.task_run.specs.Outside.{Appends}
-use Rattle.task_run.proofs.pump.write_all.Given as goal
+use Rattle.byte_streams.specs.Outside.{Appends}
+use Rattle.byte_streams.proofs.pump.write_all.Given as goal
 
 abbrev pub invariant-loop-rest : goal.invariant-loop-rest
 invariant-loop-rest g l = record {

@@ -1,9 +1,9 @@
 -- What reads and writes do, and when they fail.
 use Rattle.std.specs.Prelude.{◌≡◌, ℕ, ◌<◌, ◌≤◌, ◌^◌, ◌-◌, ◌⊎◌, Bool, true, false, List, [], ◌++◌, length, take, drop, Option, Some, None}
-use Rattle.task_run.specs.declared.outside.Read.{Read}
-use Rattle.task_run.specs.declared.outside.Read.TheVariants as read
-use Rattle.task_run.specs.declared.outside.Wrote.{Wrote}
-use Rattle.task_run.specs.declared.outside.Wrote.TheVariants as wrote
+use Rattle.byte_streams.specs.declared.outside.Read.{Read}
+use Rattle.byte_streams.specs.declared.outside.Read.TheVariants as read
+use Rattle.byte_streams.specs.declared.outside.Wrote.{Wrote}
+use Rattle.byte_streams.specs.declared.outside.Wrote.TheVariants as wrote
 
 -- a count of faults rose; one that stands at its end counts as risen
 abbrev pub HasRisen : ℕ → ℕ → Type 0

@@ -1,10 +1,10 @@
 //! A source and a sink over memory that never fail.
 ghost use Rattle.std.specs.Prelude.{◌≡◌, ◌<◌, ◌≤◌, ◌++◌, [], false, min, IfOk, List, Option, ℕ, Some, drop, length, take, vec_capacity, vec_len};
-ghost use Rattle.task_run.specs.Outside.{HasRisen, IsWritten, kept_told};
+ghost use Rattle.byte_streams.specs.Outside.{HasRisen, IsWritten, kept_told};
 
 use crate::outside::{Read, Sink, Source, Wrote};
-use crate::scenario::NoMemory;
 use std::alloc::Global;
+use task_machine::NoMemory;
 
 /// A source over memory, which gives at most `piece` bytes a call and never fails.
 #[derive(Drop)]

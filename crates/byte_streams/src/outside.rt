@@ -1,5 +1,5 @@
 ghost use Rattle.std.specs.Prelude.{◌≡◌, ℕ, ◌<◌, ◌≤◌, List, Option, length};
-ghost use Rattle.task_run.specs.Outside.{HasRisen, IsRead, IsWritten};
+ghost use Rattle.byte_streams.specs.Outside.{HasRisen, IsRead, IsWritten};
 
 /// What a read gave.
 #[derive(Clone, Copy)]

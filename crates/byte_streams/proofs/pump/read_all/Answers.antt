@@ -3,9 +3,9 @@ use Rattle.std.proofs.lemmas.List.{take-append-le, take-append-drop, length-appe
 use Rattle.std.specs.Prelude.{Result, Err}
 use Rattle.std.specs.Global.{Vec}
 use Rattle.std.proofs.lemmas.Result.{err_from_is_err_and}
-use Rattle.task_run.specs.declared.pump.ReadFault.{ReadFault}
-use Rattle.task_run.specs.Pump.{ReadsAll}
-use Rattle.task_run.proofs.pump.read_all.Goals as goal
+use Rattle.byte_streams.specs.declared.pump.ReadFault.{ReadFault}
+use Rattle.byte_streams.specs.Pump.{ReadsAll}
+use Rattle.byte_streams.proofs.pump.read_all.Goals as goal
 
 got : (text buf tail rest all : List ℕ) (n : ℕ) → n ≤ length buf → take n buf ≡ take n rest → text ++ rest ≡ all → (text ++ take n (buf ++ tail)) ++ drop n rest ≡ all
 got text buf tail rest all n le same h = rw (take-append-le n buf tail le, same, append_assoc, take-append-drop) h
