@@ -3,8 +3,8 @@ use Rattle.std.proofs.Common.{◌≡◌, ◌≢◌, ◌⊎◌, ◌∙◌, ◌+�
 use Rattle.std.specs.Prelude.{Option}
 use Rattle.task_run.specs.declared.program.End.{End}
 use Rattle.task_run.specs.declared.program.End.TheVariants as ends
-use Rattle.task_run.specs.declared.scenario.Scenario.{Scenario}
-use Rattle.task_run.specs.Lower.{Reads}
+use Rattle.task_scenario.specs.declared.scenario.Scenario.{Scenario}
+use Rattle.task_scenario.specs.Lower.{Reads}
 use Rattle.task_rules.specs.Texts.{text}
 use Rattle.task_run.specs.declared.report.Report.{Report}
 use Rattle.task_run.specs.Headline.{IsReportOf}

@@ -1,6 +1,6 @@
 -- What a scenario of the first grammar keeps, as a run needs it.
 use Rattle.std.specs.Prelude.{◌≤◌, length}
-use Rattle.task_run.specs.declared.scenario.Scenario.{Scenario}
+use Rattle.task_scenario.specs.declared.scenario.Scenario.{Scenario}
 use Rattle.task_loop.specs.Fit.{IsFirstComponent}
 use Rattle.task_run.specs.Script.{SuitsOps}
 

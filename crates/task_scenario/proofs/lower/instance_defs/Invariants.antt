@@ -1,6 +1,6 @@
 use Rattle.std.proofs.Common.{◌≡◌, map}
-use Rattle.task_run.specs.Lower.{names_of, instance_def}
-use Rattle.task_run.proofs.lower.instance_defs.Given as goal
+use Rattle.task_scenario.specs.Lower.{names_of, instance_def}
+use Rattle.task_scenario.proofs.lower.instance_defs.Given as goal
 
 abbrev pub invariant-loop-instance : goal.invariant-loop-instance
 invariant-loop-instance l = record {

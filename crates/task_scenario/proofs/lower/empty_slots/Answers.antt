@@ -2,7 +2,7 @@ use Rattle.std.proofs.Common.{◌≡◌, ◌≤◌, ◌<◌, ℕ, zero, suc, Lis
 use Rattle.std.specs.Prelude.{replicate}
 use Rattle.task_machine.specs.declared.component.Slot.{Slot}
 use Rattle.task_machine.specs.declared.component.Slot.TheVariants as slot
-use Rattle.task_run.proofs.lower.empty_slots.Goals as goal
+use Rattle.task_scenario.proofs.lower.empty_slots.Goals as goal
 
 replicate_last : (n : ℕ) (x : Slot) → replicate n x ++ x ∷ [] ≡ replicate (suc n) x
 replicate_last zero x = refl

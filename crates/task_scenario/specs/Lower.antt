@@ -11,12 +11,12 @@ use Rattle.task_machine.specs.declared.component.ExportDef.{ExportDef}
 use Rattle.task_machine.specs.declared.component.InstanceDef.{InstanceDef}
 use Rattle.task_machine.specs.declared.component.Slot.TheVariants as slot
 use Rattle.task_loop.specs.declared.call.Func.{Func}
-use Rattle.task_run.specs.declared.scenario.InstanceNames.{InstanceNames}
-use Rattle.task_run.specs.declared.scenario.MainOp.{MainOp}
-use Rattle.task_run.specs.declared.scenario.MainOp.TheVariants as op
-use Rattle.task_run.specs.declared.scenario.Scenario.{Scenario}
-use Rattle.task_run.specs.declared.scenario.RunError.{RunError}
-use Rattle.task_run.specs.declared.scenario.RunError.TheVariants as errors
+use Rattle.task_scenario.specs.declared.scenario.InstanceNames.{InstanceNames}
+use Rattle.task_scenario.specs.declared.scenario.MainOp.{MainOp}
+use Rattle.task_scenario.specs.declared.scenario.MainOp.TheVariants as op
+use Rattle.task_scenario.specs.declared.scenario.Scenario.{Scenario}
+use Rattle.task_scenario.specs.declared.scenario.RunError.{RunError}
+use Rattle.task_scenario.specs.declared.scenario.RunError.TheVariants as errors
 
 -- what runs of an export; a react script comes only from a `react` line
 abbrev pub export_def : ExportText → ExportDef

@@ -1,7 +1,7 @@
 use Rattle.std.proofs.Common.{◌≡◌, ◌≤◌, ◌-◌, length}
 use Rattle.std.specs.Prelude.{replicate}
 use Rattle.task_machine.specs.declared.component.Slot.TheVariants as slot
-use Rattle.task_run.proofs.lower.empty_slots.Given as goal
+use Rattle.task_scenario.proofs.lower.empty_slots.Given as goal
 
 abbrev pub invariant-loop-slots : goal.invariant-loop-slots
 invariant-loop-slots l = record {

@@ -1,6 +1,6 @@
 use Rattle.std.proofs.Common.{◌≡◌, map}
-use Rattle.task_run.specs.Lower.{export_def}
-use Rattle.task_run.proofs.lower.instance_def.Given as goal
+use Rattle.task_scenario.specs.Lower.{export_def}
+use Rattle.task_scenario.proofs.lower.instance_def.Given as goal
 
 abbrev pub invariant-loop-export : goal.invariant-loop-export
 invariant-loop-export l = record {
