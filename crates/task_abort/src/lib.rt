@@ -12,8 +12,6 @@ mod handle;
 mod laws;
 mod log;
 mod rule;
-#[cfg(test)]
-mod tests;
 mod wake;
 mod work;
 

@@ -16,6 +16,3 @@ pub use error::{NoMemory, TaskError};
 pub use instance::InstanceRecord;
 pub use state::TaskCore;
 pub use task_machine::{ExportKind, Mark};
-
-#[cfg(test)]
-mod tests;

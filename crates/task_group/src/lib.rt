@@ -6,8 +6,6 @@ mod groups;
 mod hook;
 mod listeners;
 mod notice;
-#[cfg(test)]
-mod tests;
 
 pub use groups::Groups;
 pub use hook::{NoHook, TaskGroupHook};

@@ -22,6 +22,3 @@ pub use task_machine::{
     Callee, Component, ExportDef, HostDef, InstanceDef, Label, Op, Operand, Outcome, Slot,
 };
 pub use trace::Trace;
-
-#[cfg(test)]
-mod tests;

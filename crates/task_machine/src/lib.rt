@@ -25,6 +25,3 @@ pub use scenario::{IdleLine, InstanceNames, MainOp, Scenario};
 pub use seq::Seq;
 pub use trap::Trap;
 pub use words::{Given, Mark, OwnEvent, Phase, Status};
-
-#[cfg(test)]
-mod tests;

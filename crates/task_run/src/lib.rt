@@ -13,6 +13,3 @@ pub use program::{ToolEnd, USAGE, tool};
 pub use report::{Report, ScriptedHost, print_report, run_scenario};
 pub use task_machine::{IdleLine, NoMemory, Operand, Seq};
 pub use task_scenario::{InstanceNames, MainOp, RunError, Scenario, component_of, read_scenario};
-
-#[cfg(test)]
-mod tests;

@@ -3,8 +3,6 @@
 
 mod frame;
 mod strand;
-#[cfg(test)]
-mod tests;
 
 pub use frame::{Frame, Half, NoMemory, StoreFiberYield};
 pub use strand::{MAX_FRAMES, Strand};

@@ -7,8 +7,6 @@ mod codes;
 mod keys;
 mod laws;
 mod set;
-#[cfg(test)]
-mod tests;
 
 pub use codes::{BLOCKED, EXIT, Event, WAIT, YIELD, unpack_callback_code};
 pub use keys::{
