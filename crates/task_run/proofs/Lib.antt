@@ -1,7 +1,7 @@
 pub mod Fronts
 pub mod Says
 pub mod ScriptLemmas
-pub mod FirstLemmas
+pub mod RunnableLemmas
 pub mod StoreLemmas
 pub mod HeadlineLemmas
 pub mod ToolLemmas

@@ -2,8 +2,8 @@ ghost use Rattle.std.specs.Prelude.{◌≡◌, ◌<◌, ◌≤◌, ◌++◌, ℕ
 ghost use Rattle.scenario_text.specs.Grammar.{IsBadLine};
 ghost use Rattle.task_machine.specs.Core.{fresh};
 ghost use Rattle.task_loop.specs.Turn.{idle_line_of};
-ghost use Rattle.task_core.specs.Shown.{nothing, with_core};
-ghost use Rattle.task_run.specs.First.{IsFirstScenario};
+ghost use Rattle.task_core.specs.StateView.{nothing, with_core};
+ghost use Rattle.task_run.specs.Runnable.{IsRunnable};
 ghost use Rattle.task_run.specs.Headline.{IsReportOf, IsRunOf, machine_scenario};
 ghost use Rattle.task_scenario.specs.Lower.{Reads};
 ghost use Rattle.task_scenario.specs.declared.scenario.Scenario.{Scenario};
@@ -69,7 +69,7 @@ fn traps_on_idle(idle: IdleLine) -> bool
 
 // Runs a scenario in a new store.
 fn run(alloc: Global, scenario: &Scenario, steps: u32) -> Result<Report, NoMemory>
-    requires { IsFirstScenario scenario.now }
+    requires { IsRunnable scenario.now }
     ensures { IfOk result (λ r. IsRunOf (machine_scenario scenario.now) steps r.trace r.outcome r.store.state.core) }
 {
     let mut store = new_store(
