@@ -11,7 +11,7 @@ use Rattle.task_machine.specs.declared.records.Call.{Call}
 use Rattle.task_machine.specs.declared.records.Instance.{Instance}
 use Rattle.task_machine.specs.declared.records.Thread.{Thread}
 use Rattle.task_machine.proofs.MapLemmas.{get-insert_other, get-insert_same}
-use Rattle.task_core.specs.Shown.{with_instance}
+use Rattle.task_core.specs.StateView.{with_instance}
 use Rattle.task_rules.specs.MainOps as row
 use Rattle.task_rules.specs.Turns.{at_turn}
 use Rattle.task_simple.proofs.CaseLemmas.{either}

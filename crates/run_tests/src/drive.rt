@@ -3,7 +3,7 @@ ghost use Rattle.std.specs.List.{list_all};
 ghost use Rattle.task_machine.specs.Core.{Main, Unscripted};
 ghost use Rattle.task_rules.specs.Scripts.{export_at};
 ghost use Rattle.task_loop.specs.Calls.{callee_of};
-ghost use Rattle.task_loop.specs.Fit.{IsFirstComponent, Fits, given, is_plain_op};
+ghost use Rattle.task_loop.specs.Fit.{HasPlainExports, Fits, given, is_plain_op};
 ghost use Rattle.task_state.specs.State.{running_of};
 
 use futures::task::Poll;
@@ -54,7 +54,7 @@ fn script(alloc: Global) -> Result<Seq<Op>, Fail>
 
 // A component with one callback export, which has that script.
 fn component(alloc: Global) -> Result<Component, Fail>
-    ensures first { IfOk result IsFirstComponent }
+    ensures exports { IfOk result HasPlainExports }
     ensures there { IfOk result (λ c. IsSome (export_at c (callee_of CALLEE))) }
     ensures params { IfOk result (λ c. IfSome (export_at c (callee_of CALLEE)) (λ e. 1 ≡ e.params)) }
     ensures one { IfOk result (λ c. length c.instances ≡ 1) }
@@ -93,7 +93,7 @@ fn store(alloc: Global) -> Result<Store<(), ()>, Fail>
 
 // A call of that export with 7, in a store in which nothing was made but the instance.
 fn called(component: &Component, store: &mut Store<(), ()>) -> Result<FuncCallConcurrent, Fail>
-    requires first { IsFirstComponent component.now }
+    requires exports { HasPlainExports component.now }
     requires there { IsSome (export_at component.now (callee_of CALLEE)) }
     requires params { IfSome (export_at component.now (callee_of CALLEE)) (λ e. 1 ≡ e.params) }
     requires fits { Fits component.now store.old.state.core }

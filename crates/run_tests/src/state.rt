@@ -1,5 +1,5 @@
 ghost use Rattle.std.specs.Prelude.{IfSome};
-ghost use Rattle.task_core.specs.Shown.{IsLive};
+ghost use Rattle.task_core.specs.StateView.{IsLive};
 
 use std::test::Fail;
 use task_core::TaskCore;

@@ -4,7 +4,7 @@
 mod keyword;
 mod line;
 mod read;
-mod stands;
+mod placement;
 mod state;
 mod tree;
 mod words;

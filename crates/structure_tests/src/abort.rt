@@ -3,7 +3,7 @@ ghost use Rattle.std.specs.Option.{ForSome};
 ghost use Rattle.task_abort.specs.Cells.{handle_cell, pass_cell, work_cell};
 ghost use Rattle.task_abort.specs.PhaseLog.{entry};
 ghost use Rattle.task_abort.specs.Staged.{made, staged};
-ghost use Rattle.task_abort.specs.declared.log.Phase.TheVariants.{Running, AbortRequested};
+ghost use Rattle.task_machine.specs.declared.words.Phase.TheVariants.{Running, AbortRequested};
 ghost use Rattle.task_abort.specs.declared.log.PhaseCall.TheVariants.{Abort, PollFuture, PollHandle, Finish};
 
 use futures::Future;

@@ -1,16 +1,6 @@
 //! Phases, calls and logs, and what a pass knows of them.
 use std::collections::LinkedList;
-
-/// How far a spawned work has come. It only rises, in this order.
-#[derive(Clone, Copy)]
-pub enum Phase {
-    /// The work may be polled.
-    Running,
-    /// Somebody has asked that it end, and it isn't polled again.
-    AbortRequested,
-    /// It is over.
-    Complete,
-}
+use task_machine::Phase;
 
 /// The four calls of a join handle that a log has.
 #[derive(Clone, Copy)]

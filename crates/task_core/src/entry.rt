@@ -1,17 +1,6 @@
 use task_machine::{Call, Thread};
 use task_table::{Kind, TableId};
-
-/// The kind of an entry that is a call of an export.
-pub enum GuestTaskKey {}
-
-/// The kind of an entry that is a thread.
-pub enum ThreadKey {}
-
-/// The kind of an entry that is a waitable set.
-pub enum SetKey {}
-
-/// The kind of an entry that is a group of calls.
-pub enum GroupKey {}
+use task_wait::{GroupKey, GuestTaskKey, SetKey, ThreadKey};
 
 /// A thread and its call.
 #[derive(Clone, Copy)]

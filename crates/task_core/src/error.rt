@@ -2,10 +2,6 @@ use std::alloc::AllocError;
 use task_machine::Trap;
 use task_table::{PushError, ResourceTableError};
 
-/// Memory is wanting.
-#[derive(Clone, Copy)]
-pub struct NoMemory;
-
 /// Why a call of a task was refused.
 #[derive(Clone, Copy)]
 pub enum TaskError {

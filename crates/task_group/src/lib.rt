@@ -9,4 +9,5 @@ mod notice;
 
 pub use groups::Groups;
 pub use hook::{NoHook, TaskGroupHook};
-pub use notice::{GroupError, HookError, NoMemory, Notice, NoticeKind, TaskGroupId};
+pub use notice::{GroupError, HookError, TaskGroupId};
+pub use task_machine::{NoMemory, Notice, NoticeKind};

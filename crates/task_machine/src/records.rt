@@ -276,16 +276,20 @@ pub enum Turn {
     Over,
 }
 
-/// What a group is told.
+/// What a group does.
 #[derive(Clone, Copy)]
 pub enum NoticeKind {
+    /// The group is made, with its first task.
     Start,
+    /// A thread of the group begins to run, or goes on.
     Enter,
+    /// The thread of the group that ran has stopped.
     Exit,
+    /// The last task of the group has ended.
     Finish,
 }
 
-/// A notice of a group: of a call by main or the host, and of all that came of it.
+/// What the host is told of a group, which is a call by main or the host and all that came of it.
 #[derive(Clone, Copy)]
 pub struct Notice {
     pub kind: NoticeKind,

@@ -13,7 +13,7 @@ pub enum IdleLine {
 
 /// An op of main's script. Starts and spawns are named by their lines, counted apart from 1.
 #[derive(Drop)]
-pub enum MainOp {
+pub enum MainOpDef {
     /// `start F X*`
     Start(Callee, Seq<Operand>),
     /// `finish K R`
@@ -34,22 +34,22 @@ pub enum MainOp {
 
 /// The names that a text gives to an instance and its exports.
 #[derive(Drop)]
-pub struct InstanceNames {
+pub struct NamesDef {
     pub instance: Seq<u8>,
     pub exports: Seq<Seq<u8>>,
 }
 
 /// A scenario: the limits, what is run, and what main does.
 #[derive(Drop)]
-pub struct Scenario {
+pub struct ScenarioDef {
     /// How many handles may be live at once.
     pub handles: u32,
     /// How many entries the resource table has room for.
     pub table: u32,
     pub idle: IdleLine,
     pub component: Component,
-    pub names: Seq<InstanceNames>,
-    pub main: Seq<MainOp>,
+    pub names: Seq<NamesDef>,
+    pub main: Seq<MainOpDef>,
     /// The spawns that each aborter aborts beside a run.
     pub aborters: Seq<Seq<u32>>,
 }

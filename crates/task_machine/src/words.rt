@@ -50,11 +50,14 @@ impl Status {
     }
 }
 
-/// The phase of a join handle.
+/// How far a spawned work has come, as its join handle tells. It only rises, in this order.
 #[derive(Clone, Copy)]
 pub enum Phase {
+    /// The work may be polled.
     Running,
+    /// Somebody has asked that it end, and it isn't polled again.
     AbortRequested,
+    /// It is over.
     Complete,
 }
 

@@ -4,7 +4,7 @@ use Rattle.std.specs.Prelude.{nat_lt}
 use Rattle.std.proofs.lemmas.Bool.{cases_eq}
 use Rattle.std.proofs.Common.{inl, inr}
 use Rattle.task_machine.specs.declared.component.Component.{Component}
-use Rattle.task_core.specs.Shown.{with_capacity, with_handle_limit}
+use Rattle.task_core.specs.StateView.{with_capacity, with_handle_limit}
 use Rattle.task_machine.specs.Core.{filled, fresh, untouched}
 use Rattle.task_machine.specs.Maps.{empty, get, get-empty}
 use Rattle.task_machine.proofs.MapLemmas.{get-insert_other, get-insert_same}

@@ -1,17 +1,6 @@
-use std::alloc::AllocError;
 use task_loop::Func;
 use task_machine::{Component, IdleLine, Operand, Seq};
 use thiserror::Error;
-
-/// Memory is wanting.
-#[derive(Clone, Copy)]
-pub struct NoMemory;
-
-impl From<AllocError> for NoMemory {
-    fn from(_e: AllocError) -> NoMemory {
-        NoMemory
-    }
-}
 
 /// Why a text wasn't run.
 #[derive(Clone, Copy, Debug, Error)]

@@ -3,7 +3,7 @@ ghost use Rattle.task_machine.specs.Maps.{get};
 ghost use Rattle.task_machine.specs.Read.{position_of, registers_of, word_of};
 ghost use Rattle.task_machine.specs.Write.{set_word};
 ghost use Rattle.task_state.specs.Context.{in_context};
-ghost use Rattle.task_core.specs.Shown.{with_core};
+ghost use Rattle.task_core.specs.StateView.{with_core};
 ghost use Rattle.task_state.specs.State.{running_of};
 
 use crate::state::ConcurrentState;

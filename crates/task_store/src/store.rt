@@ -2,7 +2,7 @@ ghost use Rattle.std.specs.Prelude.{◌≡◌, ◌+◌, ◌-◌, ◌<◌, ◌≤
 ghost use Rattle.task_machine.specs.Maps.{size};
 ghost use Rattle.task_machine.specs.Write.{set_trapped};
 ghost use Rattle.task_core.specs.Image.{IsTableOf};
-ghost use Rattle.task_core.specs.Shown.{nothing, with_capacity, with_core, with_handle_limit, with_instance};
+ghost use Rattle.task_core.specs.StateView.{nothing, with_capacity, with_core, with_handle_limit, with_instance};
 ghost use Rattle.task_state.specs.State.{Becomes};
 
 use std::alloc::Global;

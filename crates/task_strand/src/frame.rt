@@ -28,7 +28,3 @@ pub enum StoreFiberYield {
     KeepStore,
     ReleaseStore,
 }
-
-/// There is no memory for one more frame.
-#[derive(Clone, Copy)]
-pub struct NoMemory;

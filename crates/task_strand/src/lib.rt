@@ -4,5 +4,6 @@
 mod frame;
 mod strand;
 
-pub use frame::{Frame, Half, NoMemory, StoreFiberYield};
+pub use frame::{Frame, Half, StoreFiberYield};
 pub use strand::{MAX_FRAMES, Strand};
+pub use task_machine::NoMemory;

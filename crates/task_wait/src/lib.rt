@@ -18,6 +18,6 @@ pub use laws::{
     callback_code_unpacks, others_stay, packed_status_unpacks, waitables_by_kind_and_id,
     waiters_by_task_and_thread,
 };
-pub use links::{Links, NoMemory, Node};
+pub use links::{Links, Node};
 pub use set::WaitableSet;
-pub use task_machine::Status;
+pub use task_machine::{NoMemory, Status};

@@ -1,4 +1,4 @@
--- A scenario that a text of the first grammar stands for keeps what a run of it needs.
+-- A scenario that a text stands for keeps what a run of it needs.
 use Rattle.std.proofs.Common.{inl, inr, ◌≡◌, ◌<◌, ◌≤◌, ◌+◌, ℕ, suc, zero, true, false, List, [], ◌∷◌, ◌++◌, Option, Some, None, map, length, take, slice_get, refl, sym, ap, subst, ◌∙◌, arith}
 use Rattle.std.specs.Prelude.{Bool, nat_lt, ◌&&◌}
 use Rattle.std.specs.List.{list_all}
@@ -14,7 +14,7 @@ use Rattle.scenario_text.specs.declared.tree.MainOpText.{MainOpText}
 use Rattle.scenario_text.specs.declared.tree.MainOpText.TheVariants as text
 use Rattle.scenario_text.specs.declared.tree.ScenarioText.{ScenarioText}
 use Rattle.scenario_text.specs.Spelling.{exports_of}
-use Rattle.scenario_text.specs.Stands.{EachStands, ExportStands, InstanceStands, IsWellFormed, MainOpStands, OpStands, kind_fits, op_fits, params_of, task_op_fits}
+use Rattle.scenario_text.specs.Placement.{EachStands, ExportStands, InstanceStands, IsWellFormed, MainOpStands, OpStands, kind_fits, op_fits, params_of, task_op_fits}
 use Rattle.scenario_text.proofs.StandingLaws.{some_map, stands_at}
 use Rattle.task_machine.specs.declared.component.Callee.{Callee}
 use Rattle.task_machine.specs.declared.component.Component.{Component}
@@ -32,8 +32,8 @@ use Rattle.task_loop.specs.declared.call.Func.{Func}
 use Rattle.task_run.specs.declared.scenario.MainOp.{MainOp}
 use Rattle.task_run.specs.declared.scenario.MainOp.TheVariants as main_op
 use Rattle.task_loop.specs.Fit as fit
-use Rattle.task_loop.specs.Fit.{IsFirstComponent, IsFirstExport}
-use Rattle.task_run.specs.First.{IsFirstScenario}
+use Rattle.task_loop.specs.Fit.{HasPlainExports, IsPlainExport}
+use Rattle.task_run.specs.Runnable.{IsRunnable}
 use Rattle.task_run.specs.Lower as lower
 use Rattle.task_run.specs.Lower.{export_def, instance_def, scenario_of}
 use Rattle.task_loop.specs.Calls.{callee_of}
@@ -76,20 +76,20 @@ callback kind.Sync fits = absurd (cc)
 callback kind.Blocking fits = absurd (cc)
 callback kind.Stackful fits = absurd (cc)
 
-first_task : (o : TaskOp) → task_op_fits o ≡ true → fit.is_plain_op (op.Task o) ≡ true
-first_task (task.Ret x) fits = refl
-first_task (task.RetBad x) fits = refl
-first_task task.Exit fits = refl
-first_task o fits = absurd (cc)
+plain_task : (o : TaskOp) → task_op_fits o ≡ true → fit.is_plain_op (op.Task o) ≡ true
+plain_task (task.Ret x) fits = refl
+plain_task (task.RetBad x) fits = refl
+plain_task task.Exit fits = refl
+plain_task o fits = absurd (cc)
 
-first_op : (o : Op) → op_fits o ≡ true → fit.is_plain_op o ≡ true
-first_op (op.Task o) fits = first_task o fits
-first_op (op.Data o) fits = refl
-first_op o fits = absurd (cc)
+plain_op : (o : Op) → op_fits o ≡ true → fit.is_plain_op o ≡ true
+plain_op (op.Task o) fits = plain_task o fits
+plain_op (op.Data o) fits = refl
+plain_op o fits = absurd (cc)
 
-all_first : (before xs : List Op) → EachStands OpStands before xs → list_all fit.is_plain_op xs ≡ true
-all_first before [] stands = refl
-all_first before (x ∷ xs) stands = rw (first_op x stands.0.fits, all_first (before ++ x ∷ []) xs stands.1) refl
+all_plain : (before xs : List Op) → EachStands OpStands before xs → list_all fit.is_plain_op xs ≡ true
+all_plain before [] stands = refl
+all_plain before (x ∷ xs) stands = rw (plain_op x stands.0.fits, all_plain (before ++ x ∷ []) xs stands.1) refl
 
 -- each op had room
 short : (before xs : List Op) → EachStands OpStands before xs → length before ≤ 4096 → length before + length xs ≤ 4096
@@ -114,12 +114,12 @@ same_callee g f is = ap callee_of is
 
 -- ---- The component
 
-first_export : (before : List InstanceText) (others : List ExportText) (e : ExportText) → ExportStands before others e → IsFirstExport (export_def e)
-first_export before others e stands = record {
+plain_export : (before : List InstanceText) (others : List ExportText) (e : ExportText) → ExportStands before others e → IsPlainExport (export_def e)
+plain_export before others e stands = record {
   called_back = callback e.kind stands.kind;
   few_params = stands.params;
   short = let few = short [] e.start stands.start (omega arith) in omega arith;
-  ops = all_first [] e.start stands.start;
+  ops = all_plain [] e.start stands.start;
 }
 
 first_of_and : (a b : Bool) → (a && b) ≡ true → a ≡ true
@@ -143,13 +143,13 @@ module _ (s : ScenarioText) (formed : IsWellFormed s) where
   at_lowered : (f : Callee) → export_at c f ≡ here s.instances f (slice_get s.instances f.instance)
   at_lowered f = ap (option_and_then (λ (d : InstanceDef). slice_get d.exports f.export)) (slice_get-map instance_def s.instances f.instance)
 
-  component_first : IsFirstComponent c
-  component_first f d at =
+  plain_component : HasPlainExports c
+  plain_component f d at =
       let e = export_text s.instances f d (sym (at_lowered f) ∙ at) in
       let i = stands_at InstanceStands s.instances f.instance e.0 formed.instances e.1.0 in
       let x = e.1.1 in
       let stands = stands_at (ExportStands (take f.instance s.instances)) e.0.exports f.export x.0 i.exports x.1.0 in
-      subst IsFirstExport x.1.1 (first_export (take f.instance s.instances) (take f.export e.0.exports) x.0 stands)
+      subst IsPlainExport x.1.1 (plain_export (take f.instance s.instances) (take f.export e.0.exports) x.0 stands)
 
   few_instances : length c.instances ≤ 64
   few_instances = let few = below_64 [] s.instances formed.instances (omega arith) in let same = length-map s.instances instance_def in omega arith
@@ -163,9 +163,9 @@ module _ (s : ScenarioText) (formed : IsWellFormed s) where
   line_or_answer (l ∷ lines) zero o at = inl (l, (refl, same_Some _ _ at))
   line_or_answer (l ∷ lines) (suc i) o at = line_or_answer lines i o at
 
-  first_line : (l : MainOpText) → script.is_first_op (lower.main_op l) ≡ true
-  first_line (text.Start f xs) = refl
-  first_line (text.Finish k r) = refl
+  line_is_so : (l : MainOpText) → script.is_start_finish_or_answer (lower.main_op l) ≡ true
+  line_is_so (text.Start f xs) = refl
+  line_is_so (text.Finish k r) = refl
 
   start_line : (l : MainOpText) (f : Func) (xs : List Operand) → lower.main_op l ≡ main_op.Start f xs → (before : List MainOpText) → MainOpStands s.instances before l → params_of s.instances (callee_of f) ≡ Some (length xs)
   start_line (text.Start g ys) f xs is before stands =
@@ -176,9 +176,9 @@ module _ (s : ScenarioText) (formed : IsWellFormed s) where
 
   suits : SuitsOps (scenario_of s).main c
   suits = record {
-    first = λ i o at. elim (line_or_answer s.main i o at) [
-      | inl l ↦ sym (ap script.is_first_op l.1.1) ∙ first_line l.0
-      | inr answer ↦ ap script.is_first_op answer
+    only = λ i o at. elim (line_or_answer s.main i o at) [
+      | inl l ↦ sym (ap script.is_start_finish_or_answer l.1.1) ∙ line_is_so l.0
+      | inr answer ↦ ap script.is_start_finish_or_answer answer
     ];
     starts = λ i f xs at. elim (line_or_answer s.main i (main_op.Start f xs) at) [
       | inl l ↦ let p = export_params s.instances (callee_of f) (length xs) (start_line l.0 f xs l.1.1 (take i s.main) (stands_at (MainOpStands s.instances) s.main i l.0 formed.main l.1.0)) in (p.0, (at_lowered (callee_of f) ∙ p.1.0, p.1.1))
@@ -186,10 +186,10 @@ module _ (s : ScenarioText) (formed : IsWellFormed s) where
     ];
   }
 
-  pub first_scenario : IsFirstScenario (scenario_of s)
-  first_scenario = record {
+  pub runnable_scenario : IsRunnable (scenario_of s)
+  runnable_scenario = record {
     handles = leb-true s.handles 268435455 formed.handles;
     few = few_instances;
-    component = component_first;
+    component = plain_component;
     main = suits;
   }

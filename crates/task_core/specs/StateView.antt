@@ -2,8 +2,8 @@
 use Rattle.std.specs.Prelude.{◌≡◌, ◌≢◌, ◌<◌, ℕ, ◌==◌, if◌then◌else◌, List, [], Option, Some, None, slice_get, refl}
 use Rattle.std.specs.Coded.{Coded, code_by, coded×, coded_ℕ, coded_option, coded_list}
 use Rattle.task_table.specs.declared.id.TableId.{TableId}
-use Rattle.task_core.specs.declared.entry.GuestTaskKey.{GuestTaskKey}
-use Rattle.task_core.specs.declared.entry.ThreadKey.{ThreadKey}
+use Rattle.task_wait.specs.declared.keys.GuestTaskKey.{GuestTaskKey}
+use Rattle.task_wait.specs.declared.keys.ThreadKey.{ThreadKey}
 use Rattle.task_core.specs.declared.entry.QualifiedThreadId.{QualifiedThreadId}
 use Rattle.task_core.specs.contracts.entry.QualifiedThreadId as qualified
 use Rattle.task_machine.specs.Codes.{core_code}
@@ -18,7 +18,7 @@ pub record Tag : Type 0 where
   pub call : ℕ
 
 -- the machine's core, what stands at each place of the table, and the thread that runs
-pub record Shown : Type 0 where
+pub record StateView : Type 0 where
   pub core : Core
   pub tags : List (Option Tag)
   pub current : Option QualifiedThreadId
@@ -51,29 +51,29 @@ pub record KeepsTagsBut (n k : ℕ) (old new : List (Option Tag)) : Type 0 where
   pub calls : (id : TableId GuestTaskKey) → 0 < call_number old id → call_number old id ≢ k → call_number new id ≡ call_number old id
 
 -- The id names a thread and its call.
-pub record IsLive (s : Shown) (id : QualifiedThreadId) : Type 0 where
+pub record IsLive (s : StateView) (id : QualifiedThreadId) : Type 0 where
   pub live : 0 < thread_number s.tags id.thread
   pub task : call_number s.tags id.task ≡ task_of (thread_number s.tags id.thread) s.core
 
 -- another thread runs
-abbrev pub with_current : Option QualifiedThreadId → Shown → Shown
+abbrev pub with_current : Option QualifiedThreadId → StateView → StateView
 with_current id s = record { core = s.core; tags = s.tags; current = id }
 
 -- the core alone is changed
-abbrev pub with_core : Core → Shown → Shown
+abbrev pub with_core : Core → StateView → StateView
 with_core c s = record { core = c; tags = s.tags; current = s.current }
 
 abbrev pub tag_code : Coded Tag
 tag_code = code_by (ℕ × (ℕ × ℕ)) (coded× coded_ℕ (coded× coded_ℕ coded_ℕ)) (λ t. (t.serial, (t.thread, t.call))) (λ p. record { serial = p.0; thread = p.1.0; call = p.1.1 }) (λ _. refl)
 
-abbrev pub shown_code : Coded Shown
-shown_code =
+abbrev pub state_view_code : Coded StateView
+state_view_code =
     code_by (Core × (List (Option Tag) × Option QualifiedThreadId))
     (coded× core_code (coded× (coded_list (coded_option tag_code)) (coded_option qualified.the_row.coded)))
     (λ s. (s.core, (s.tags, s.current))) (λ p. record { core = p.0; tags = p.1.0; current = p.1.1 }) (λ _. refl)
 
 -- what is seen of a state in which nothing was made
-abbrev pub nothing : Shown
+abbrev pub nothing : StateView
 nothing = record { core = fresh 0 100000 1000000; tags = []; current = None }
 
 -- one instance more, at the next place
@@ -95,7 +95,7 @@ abbrev pub without_groups : Core → Core
 without_groups s = record s { groups = [] }
 
 -- What is left to do is to finish groups.
-pub record IsClearing (old new : Shown) : Type 0 where
+pub record IsClearing (old new : StateView) : Type 0 where
   pub core : without_groups new.core ≡ without_groups old.core
   pub tags : KeepsTags old.tags new.tags
   pub current : new.current ≡ old.current

@@ -3,7 +3,7 @@ ghost use Rattle.std.specs.Prelude.{◌≡◌, ◌+◌, ◌-◌, length, positio
 ghost use Rattle.std.specs.List.{list_any};
 ghost use Rattle.std.specs.Str.{bytes_eq};
 ghost use Rattle.scenario_text.specs.Spelling.{exports_of};
-ghost use Rattle.scenario_text.specs.Stands.{handles_fit, table_fits, params_of, export_count, export_opens, instance_opens, main_has_room, is_start, finishes, start_count, start_opens, finish_opens};
+ghost use Rattle.scenario_text.specs.Placement.{handles_fit, table_fits, params_of, export_count, export_opens, instance_opens, main_has_room, is_start, finishes, start_count, start_opens, finish_opens};
 ghost use Rattle.scenario_text.specs.State.{instance_place, export_place, callee_of};
 
 use crate::tree::{ExportText, InstanceText, MainOpText};
