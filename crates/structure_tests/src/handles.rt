@@ -67,10 +67,7 @@ fn handles_name_what_was_put_in(rt: HostRuntime) {
     assert_eq!(rt; held.insert_guest(10).ok(), Some(1));
     assert_eq!(rt; held.insert_set(11).ok(), Some(2));
     assert_eq!(rt; held.insert_host(12).ok(), Some(3));
-    assert_eq!(rt;
-        held.table.waitable_set_rep(2).map(|rep| rep.id).ok(),
-        Some(11)
-    );
+    assert!(rt; matches!(held.table.waitable_set_rep(2), Ok(Rep { id: 11, .. })));
     assert!(rt;
         matches!(
             held.table.subtask_rep(3),
@@ -112,7 +109,7 @@ fn threads_share_the_counter(rt: HostRuntime) {
         threads.guest_thread_insert(&mut counter, rep(1)).ok(),
         Some(1)
     );
-    assert_eq!(rt; threads.guest_thread_rep(1).map(|rep| rep.id).ok(), Some(1));
+    assert!(rt; matches!(threads.guest_thread_rep(1), Ok(Rep { id: 1, .. })));
     let mut held = HandleTable::new(rt.alloc());
     assert_eq!(rt;
         held.waitable_set_insert(&mut counter, rep(4)).ok(),
@@ -120,6 +117,6 @@ fn threads_share_the_counter(rt: HostRuntime) {
     );
     assert!(rt; is_limit(held.waitable_set_insert(&mut counter, rep(5))));
     let removed = threads.guest_thread_remove(&mut counter, 1);
-    assert_eq!(rt; removed.map(|rep| rep.id).ok(), Some(1));
+    assert!(rt; matches!(removed, Ok(Rep { id: 1, .. })));
     assert_eq!(rt; counter.live(), 1);
 }

@@ -69,17 +69,20 @@ fn done<T: Drop>(answer: Result<T, ResourceTableError>) -> u32 {
     }
 }
 
+// The id that this push gave, or one that names nothing.
+fn id_at(ids: &Vec<TableId<Number>>, push: usize) -> TableId<Number> {
+    match ids.get(push) {
+        Some(id) => *id,
+        None => TableId::new(u32::MAX, u64::MAX),
+    }
+}
+
 // The place that a push gave, 0 for another call that was not refused, or the refusal.
 fn answer_of(
     table: &mut ResourceTable<u64>,
     ids: &mut Vec<TableId<Number>>,
     call: Call,
 ) -> Result<u32, Fail> {
-    let id_at = |n: usize| -> TableId<Number> {
-        ids.get(n)
-            .copied()
-            .unwrap_or(TableId::new(u32::MAX, u64::MAX))
-    };
     let answer = match call {
         Call::Push => match table.push::<Number>(7) {
             Ok(id) => {
@@ -88,19 +91,22 @@ fn answer_of(
             }
             Err(back) => refused(back.why),
         },
-        Call::Delete(n) => done(table.delete(id_at(n))),
+        Call::Delete(n) => done(table.delete(id_at(ids, n))),
         Call::Capacity(n) => {
             table.set_max_capacity(n as usize);
             0
         }
         Call::AddChild(child, parent) => {
-            let child = id_at(child);
+            let child = id_at(ids, child);
             if table.has_parent(child) {
                 return Err(Fail::from("a child without a parent"));
             }
-            done(table.add_child(child, id_at(parent)))
+            done(table.add_child(child, id_at(ids, parent)))
         }
-        Call::RemoveChild(child, parent) => done(table.remove_child(id_at(child), id_at(parent))),
+        Call::RemoveChild(child, parent) => done(table.remove_child(
+            id_at(ids, child),
+            id_at(ids, parent),
+        )),
     };
     Ok(answer)
 }
