@@ -13,7 +13,7 @@ use Rattle.task_machine.specs.Read.{table_use, live_count, may_not_suspend}
 use Rattle.task_machine.specs.Moves.{passes_check, checked, released}
 use Rattle.task_machine.specs.Write.{set_do_not_enter}
 use Rattle.task_machine.proofs.FieldLemmas.{put_instance}
-use Rattle.task_rules.specs.Ends.{let_in, held_out}
+use Rattle.task_rules.specs.Ends.{end_reopens, held_by_flag}
 use Rattle.task_handles.specs.Counter.{Counter}
 use Rattle.task_core.specs.declared.instance.InstanceRecord.{InstanceRecord}
 use Rattle.task_core.specs.Image.{Parts, core_of, image}
@@ -115,9 +115,9 @@ module _ (a : Parts) (s : StateView) (is : image a ≡ s) (sound : Sound a) (i :
 
 module _ (s : Core) (i : ℕ) where
   -- nothing is held out
-  pub lets_in : (t : Core) → held_out i s ≡ [] → t ≡ set_do_not_enter i false s → (order : List ℕ) × IsPermutation (held_out i s) order × (t ≡ let_in i order s)
-  unfolding let_in released
-  lets_in t none is = ([], subst (λ ns. IsPermutation (held_out i s) ns) none (IsPermutation-refl (held_out i s)), is)
+  pub lets_in : (t : Core) → held_by_flag i s ≡ [] → t ≡ set_do_not_enter i false s → (order : List ℕ) × IsPermutation (held_by_flag i s) order × (t ≡ end_reopens i order s)
+  unfolding end_reopens released
+  lets_in t none is = ([], subst (λ ns. IsPermutation (held_by_flag i s) ns) none (IsPermutation-refl (held_by_flag i s)), is)
 
   module _ (r : Instance) (at : get s.instances i ≡ Some r) (suspends : r.do_not_suspend ≡ false) where
     may_block : may_not_suspend i s ≡ false

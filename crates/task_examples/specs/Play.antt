@@ -26,7 +26,7 @@ use Rattle.task_rules.specs.Stalled.{Setting, deadlock_trap, is_unended_take, ma
 use Rattle.task_rules.specs.Step.{did, entry_number, struck, trap_label}
 use Rattle.task_rules.specs.Takes.{popped, take_row}
 use Rattle.task_rules.specs.Turns.{at_turn, goes_to}
-use Rattle.task_rules.specs.Works.{Ends, FailsNow, Poll, StillPends, has_moving_work, next_polled, pended, poll_of, work_ended}
+use Rattle.task_rules.specs.Works.{Ends, FailsNow, Poll, StillPends, has_moving_work, next_polled, poll_pends, poll_of, poll_ends}
 
 -- Exchanges of places, by which an order is made of a list.
 abbrev pub Swaps : Type 0
@@ -78,8 +78,8 @@ moved x s (Scripted p) = script_did x s p (op_at x.script p)
 moved x s Unscripted = None
 
 abbrev pub polled : State → ℕ → Poll → Next
-polled s i (StillPends host) = Some (label.Loop (loop_label.FuturePends i), goes_to s (pended i host s.core) (turn.Futures i))
-polled s i (Ends v) = Some (label.Loop (loop_label.FutureEnds i), goes_to s (work_ended i v s.core) (turn.Take true))
+polled s i (StillPends host) = Some (label.Loop (loop_label.FuturePends i), goes_to s (poll_pends i host s.core) (turn.Futures i))
+polled s i (Ends v) = Some (label.Loop (loop_label.FutureEnds i), goes_to s (poll_ends i v s.core) (turn.Take true))
 polled s i FailsNow = Some (label.Loop (loop_label.FutureFails i), goes_to s (set_trapped s.core) turn.Over)
 
 abbrev pub polled_next : State → Option ℕ → Next

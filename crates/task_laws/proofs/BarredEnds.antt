@@ -18,13 +18,13 @@ use Rattle.task_machine.specs.declared.records.Goal.{Goal}
 use Rattle.task_machine.specs.declared.trap.Trap.{Trap}
 use Rattle.task_machine.specs.declared.words.Status.{Status}
 use Rattle.task_rules.specs.Data.{advanced, assigned, data_row, moved_to, skip_row, skipped, stored}
-use Rattle.task_rules.specs.Ends.{awaited, blocking_exit_row, blocking_left, cancelled, code_row, deactivated, direct_exit_row, direct_exit_to, direct_left, exit_row, exit_row_for, finished, found, has_event_for, held_out, implicit_exit_row, is_told, kind_end, kind_exit_row, leave_row, leaves_no_result, left, let_in, may_tell, own_or_none, passes_after_return, passes_after_stop, restored, result_given, returned, sync_exit_row, sync_left, told, wait_end, yielded}
+use Rattle.task_rules.specs.Ends.{code_waits, blocking_exit_row, blocking_exits, cancelled, code_row, code_stops, direct_exit_row, direct_exit_to, direct_exits, exit_row, exit_row_for, code_exits, code_finds, has_event_for, held_by_flag, implicit_exit_row, is_told, code_kind_row, kind_exit_row, thread_exit_row, leaves_no_result, exit_stops, end_reopens, may_tell, own_or_none, passes_after_return, passes_after_stop, exit_restores, result_given, returned, sync_exit_row, sync_exits, told, code_wait_row, code_yields}
 use Rattle.task_rules.specs.Once.{returned_holder, returns_at_exit}
 use Rattle.task_rules.specs.Progress.{Fails, Goes, Never, Ordered, Progress, Stops, Traps, may, or_never, or_trap, trap_if}
 use Rattle.task_rules.specs.Run.{opens}
 use Rattle.task_rules.specs.Scripts.{script_of, value_of}
-use Rattle.task_rules.specs.Takes.{held}
-use Rattle.task_rules.specs.Task.{cancel_done, dec_from, dec_row, inc_row, lowered, opened, raised, ret_bad_row, ret_done, ret_row, task_cancel_row, task_row}
+use Rattle.task_rules.specs.Takes.{take_holds}
+use Rattle.task_rules.specs.Task.{task_cancel_done, dec_from, dec_row, inc_row, dec_lowers, dec_opens, inc_raises, ret_bad_row, ret_done, ret_row, task_cancel_row, task_row}
 use Rattle.task_machine.specs.declared.records.CallEnd.TheVariants as call_end
 use Rattle.task_machine.specs.declared.records.Caller.TheVariants as caller
 use Rattle.task_machine.specs.declared.op.DataOp.TheVariants as data_op
@@ -117,69 +117,69 @@ module _ {base : Core} {ex : Option ℕ} where
   unfolding cancelled
   cancelled_barred k w {s = s} q = told_barred k status.ReturnCancelled w (set_end_barred k call_end.ReturnCancelled q)
 
-  pub let_in_barred : (a0 : ℕ) (a1 : List ℕ) {s : Core} → Barred base ex s → ex ≡ Some a0 → Barred base ex (let_in a0 a1 s)
-  unfolding let_in
-  let_in_barred i order {s = s} q may = released_barred order (set_do_not_enter_barred i false q (λ h. may))
+  pub end_reopens_barred : (a0 : ℕ) (a1 : List ℕ) {s : Core} → Barred base ex s → ex ≡ Some a0 → Barred base ex (end_reopens a0 a1 s)
+  unfolding end_reopens
+  end_reopens_barred i order {s = s} q may = released_barred order (set_do_not_enter_barred i false q (λ h. may))
 
-  pub restored_barred : (a0 : ℕ) {s : Core} → Barred base ex s → Barred base ex (restored a0 s)
-  unfolding restored
-  restored_barred n {s = s} q = set_do_not_suspend_barred (instance_of n s) (unwrap_or (saved_own_of n s) false) q
+  pub exit_restores_barred : (a0 : ℕ) {s : Core} → Barred base ex s → Barred base ex (exit_restores a0 s)
+  unfolding exit_restores
+  exit_restores_barred n {s = s} q = set_do_not_suspend_barred (instance_of n s) (unwrap_or (saved_own_of n s) false) q
 
-  pub left_barred : (a0 : ℕ) {s : Core} → Barred base ex s → Barred base ex (left a0 s)
-  unfolding left
-  left_barred n {s = s} q = ended_barred n (stopped_barred (foot_of n s) (checked_barred (instance_of n s) q))
+  pub exit_stops_barred : (a0 : ℕ) {s : Core} → Barred base ex s → Barred base ex (exit_stops a0 s)
+  unfolding exit_stops
+  exit_stops_barred n {s = s} q = ended_barred n (stopped_barred (foot_of n s) (checked_barred (instance_of n s) q))
 
-  pub sync_left_barred : (a0 : ℕ) (a1 : Option ℕ) {s : Core} → Barred base ex s → Barred base ex (sync_left a0 a1 s)
-  unfolding sync_left
-  sync_left_barred n w {s = s} q = ended_barred n (stopped_barred (foot_of n s) (returned_barred (task_of n s) (register_of n 0 s) w (restored_barred n q)))
+  pub sync_exits_barred : (a0 : ℕ) (a1 : Option ℕ) {s : Core} → Barred base ex s → Barred base ex (sync_exits a0 a1 s)
+  unfolding sync_exits
+  sync_exits_barred n w {s = s} q = ended_barred n (stopped_barred (foot_of n s) (returned_barred (task_of n s) (register_of n 0 s) w (exit_restores_barred n q)))
 
-  pub blocking_left_barred : (a0 : ℕ) (a1 : Option ℕ) (a2 : List ℕ) {s : Core} → Barred base ex s → ex ≡ Some (instance_of a0 s) → Barred base ex (blocking_left a0 a1 a2 s)
-  unfolding blocking_left
-  blocking_left_barred n w order {s = s} q may = left_barred n (returned_barred (task_of n s) (register_of n 0 s) w (let_in_barred (instance_of n s) order q may))
+  pub blocking_exits_barred : (a0 : ℕ) (a1 : Option ℕ) (a2 : List ℕ) {s : Core} → Barred base ex s → ex ≡ Some (instance_of a0 s) → Barred base ex (blocking_exits a0 a1 a2 s)
+  unfolding blocking_exits
+  blocking_exits_barred n w order {s = s} q may = exit_stops_barred n (returned_barred (task_of n s) (register_of n 0 s) w (end_reopens_barred (instance_of n s) order q may))
 
-  pub direct_left_barred : (a0 : ℕ) (a1 : ℕ) (a2 : ℕ) {s : Core} → Barred base ex s → Barred base ex (direct_left a0 a1 a2 s)
-  unfolding direct_left
-  direct_left_barred n m v {s = s} q = set_how_far_barred m (how_far.Answered v) (set_place_barred m place.Running (ended_barred n (set_end_barred (task_of n s) call_end.Returned q)))
+  pub direct_exits_barred : (a0 : ℕ) (a1 : ℕ) (a2 : ℕ) {s : Core} → Barred base ex s → Barred base ex (direct_exits a0 a1 a2 s)
+  unfolding direct_exits
+  direct_exits_barred n m v {s = s} q = set_how_far_barred m (how_far.Answered v) (set_place_barred m place.Running (ended_barred n (set_end_barred (task_of n s) call_end.Returned q)))
 
-  pub deactivated_barred : (a0 : ℕ) (a1 : List ℕ) {s : Core} → Barred base ex s → ex ≡ Some (instance_of a0 s) → Barred base ex (deactivated a0 a1 s)
-  unfolding deactivated
-  deactivated_barred n order {s = s} q may = stopped_barred (foot_of n s) (let_in_barred (instance_of n s) order q may)
+  pub code_stops_barred : (a0 : ℕ) (a1 : List ℕ) {s : Core} → Barred base ex s → ex ≡ Some (instance_of a0 s) → Barred base ex (code_stops a0 a1 s)
+  unfolding code_stops
+  code_stops_barred n order {s = s} q may = stopped_barred (foot_of n s) (end_reopens_barred (instance_of n s) order q may)
 
-  pub finished_barred : (a0 : ℕ) (a1 : List ℕ) {s : Core} → Barred base ex s → ex ≡ Some (instance_of a0 s) → Barred base ex (finished a0 a1 s)
-  unfolding finished
-  finished_barred n order {s = s} q may = ended_barred n (checked_barred (instance_of n s) (deactivated_barred n order q may))
+  pub code_exits_barred : (a0 : ℕ) (a1 : List ℕ) {s : Core} → Barred base ex s → ex ≡ Some (instance_of a0 s) → Barred base ex (code_exits a0 a1 s)
+  unfolding code_exits
+  code_exits_barred n order {s = s} q may = ended_barred n (checked_barred (instance_of n s) (code_stops_barred n order q may))
 
-  pub yielded_barred : (a0 : ℕ) (a1 : List ℕ) {s : Core} → Barred base ex s → ex ≡ Some (instance_of a0 s) → Barred base ex (yielded a0 a1 s)
-  unfolding yielded
-  yielded_barred n order {s = s} q may = let k = task_of n s in put_low_barred n (why.Delivery delivery.Yield) (set_own_event_barred k (own_or_none (own_event_of k s)) (deactivated_barred n order q may))
+  pub code_yields_barred : (a0 : ℕ) (a1 : List ℕ) {s : Core} → Barred base ex s → ex ≡ Some (instance_of a0 s) → Barred base ex (code_yields a0 a1 s)
+  unfolding code_yields
+  code_yields_barred n order {s = s} q may = let k = task_of n s in put_low_barred n (why.Delivery delivery.Yield) (set_own_event_barred k (own_or_none (own_event_of k s)) (code_stops_barred n order q may))
 
-  pub found_barred : (a0 : ℕ) (a1 : ℕ) (a2 : List ℕ) {s : Core} → Barred base ex s → ex ≡ Some (instance_of a0 s) → Barred base ex (found a0 a1 a2 s)
-  unfolding found
-  found_barred n x order {s = s} q may = put_high_barred n (why.Delivery (delivery.Set x)) (deactivated_barred n order q may)
+  pub code_finds_barred : (a0 : ℕ) (a1 : ℕ) (a2 : List ℕ) {s : Core} → Barred base ex s → ex ≡ Some (instance_of a0 s) → Barred base ex (code_finds a0 a1 a2 s)
+  unfolding code_finds
+  code_finds_barred n x order {s = s} q may = put_high_barred n (why.Delivery (delivery.Set x)) (code_stops_barred n order q may)
 
-  pub awaited_barred : (a0 : ℕ) (a1 : ℕ) (a2 : List ℕ) {s : Core} → Barred base ex s → ex ≡ Some (instance_of a0 s) → Barred base ex (awaited a0 a1 a2 s)
-  unfolding awaited
-  awaited_barred n x order {s = s} q may = set_place_barred n (place.Waiting x true) (deactivated_barred n order q may)
+  pub code_waits_barred : (a0 : ℕ) (a1 : ℕ) (a2 : List ℕ) {s : Core} → Barred base ex s → ex ≡ Some (instance_of a0 s) → Barred base ex (code_waits a0 a1 a2 s)
+  unfolding code_waits
+  code_waits_barred n x order {s = s} q may = set_place_barred n (place.Waiting x true) (code_stops_barred n order q may)
 
   pub ret_done_barred : (a0 : ℕ) (a1 : ℕ) (a2 : Option ℕ) {s : Core} → Barred base ex s → Barred base ex (ret_done a0 a1 a2 s)
   unfolding ret_done
   ret_done_barred n v w {s = s} q = advanced_barred n (returned_barred (task_of n s) v w q)
 
-  pub cancel_done_barred : (a0 : ℕ) (a1 : Option ℕ) {s : Core} → Barred base ex s → Barred base ex (cancel_done a0 a1 s)
-  unfolding cancel_done
-  cancel_done_barred n w {s = s} q = advanced_barred n (cancelled_barred (task_of n s) w q)
+  pub task_cancel_done_barred : (a0 : ℕ) (a1 : Option ℕ) {s : Core} → Barred base ex s → Barred base ex (task_cancel_done a0 a1 s)
+  unfolding task_cancel_done
+  task_cancel_done_barred n w {s = s} q = advanced_barred n (cancelled_barred (task_of n s) w q)
 
-  pub raised_barred : (a0 : ℕ) {s : Core} → Barred base ex s → Barred base ex (raised a0 s)
-  unfolding raised
-  raised_barred n {s = s} q = let i = instance_of n s in advanced_barred n (set_backpressure_barred i (backpressure_of i s + 1) q)
+  pub inc_raises_barred : (a0 : ℕ) {s : Core} → Barred base ex s → Barred base ex (inc_raises a0 s)
+  unfolding inc_raises
+  inc_raises_barred n {s = s} q = let i = instance_of n s in advanced_barred n (set_backpressure_barred i (backpressure_of i s + 1) q)
 
-  pub lowered_barred : (a0 : ℕ) {s : Core} → Barred base ex s → Barred base ex (lowered a0 s)
-  unfolding lowered
-  lowered_barred n {s = s} q = let i = instance_of n s in advanced_barred n (set_backpressure_barred i (backpressure_of i s - 1) q)
+  pub dec_lowers_barred : (a0 : ℕ) {s : Core} → Barred base ex s → Barred base ex (dec_lowers a0 s)
+  unfolding dec_lowers
+  dec_lowers_barred n {s = s} q = let i = instance_of n s in advanced_barred n (set_backpressure_barred i (backpressure_of i s - 1) q)
 
-  pub opened_barred : (a0 : ℕ) (a1 : List ℕ) {s : Core} → Barred base ex s → Barred base ex (opened a0 a1 s)
-  unfolding opened
-  opened_barred n order {s = s} q = advanced_barred n (released_barred order (set_backpressure_barred (instance_of n s) 0 q))
+  pub dec_opens_barred : (a0 : ℕ) (a1 : List ℕ) {s : Core} → Barred base ex s → Barred base ex (dec_opens a0 a1 s)
+  unfolding dec_opens
+  dec_opens_barred n order {s = s} q = advanced_barred n (released_barred order (set_backpressure_barred (instance_of n s) 0 q))
 
 module _ {base : Core} where
   pub skip_row_holds : (a0 : Component) (a1 : ℕ) (a2 : ℕ) {s : Core} → ((ex : Option ℕ) → Barred base ex s) → (a4 : Bool) → Holds base (skip_row a0 a1 a2 s a4)
@@ -194,40 +194,40 @@ module _ {base : Core} where
   data_row_holds c n {s = s} q (data_op.Store w x) = let v = value_of n s x in stored_barred n w v (q _)
   data_row_holds c n {s = s} q (data_op.SkipEq x y ops) = skip_row_holds c n ops q (value_of n s x == value_of n s y)
 
-  pub leave_row_holds : (a0 : ℕ) {s : Core} → ((ex : Option ℕ) → Barred base ex s) → Holds base (leave_row a0 s)
-  leave_row_holds n {s = s} q = trap_if_holds base (not (passes_check (instance_of n s) s)) trap.CannotBlockSyncTask (trap_if (leaves_no_result n s) trap.NoAsyncResult (Stops (exit_label n None) (left n s))) (trap_if_holds base (leaves_no_result n s) trap.NoAsyncResult (Stops (exit_label n None) (left n s)) (left_barred n (q _)))
+  pub thread_exit_row_holds : (a0 : ℕ) {s : Core} → ((ex : Option ℕ) → Barred base ex s) → Holds base (thread_exit_row a0 s)
+  thread_exit_row_holds n {s = s} q = trap_if_holds base (not (passes_check (instance_of n s) s)) trap.CannotBlockSyncTask (trap_if (leaves_no_result n s) trap.NoAsyncResult (Stops (exit_label n None) (exit_stops n s))) (trap_if_holds base (leaves_no_result n s) trap.NoAsyncResult (Stops (exit_label n None) (exit_stops n s)) (exit_stops_barred n (q _)))
 
   pub sync_exit_row_holds : (a0 : ℕ) (a1 : Option ℕ) {s : Core} → ((ex : Option ℕ) → Barred base ex s) → Holds base (sync_exit_row a0 a1 s)
-  sync_exit_row_holds n w {s = s} q = may_holds base (may_tell (task_of n s) w s) (Stops (exit_label n w) (sync_left n w s)) (sync_left_barred n w (q _))
+  sync_exit_row_holds n w {s = s} q = may_holds base (may_tell (task_of n s) w s) (Stops (exit_label n w) (sync_exits n w s)) (sync_exits_barred n w (q _))
 
   pub blocking_exit_row_holds : (a0 : ℕ) (a1 : Option ℕ) {s : Core} → ((ex : Option ℕ) → Barred base ex s) → returned_holder base (exit_label a0 a1) ≡ Some (instance_of a0 s) → Holds base (blocking_exit_row a0 a1 s)
-  blocking_exit_row_holds n w {s = s} q opens = let held = held_out (instance_of n s) s in trap_if_holds base (not (passes_after_return (instance_of n s) (task_of n s) held s)) trap.CannotBlockSyncTask (may (may_tell (task_of n s) w s) (Ordered held (λ order. Stops (exit_label n w) (blocking_left n w order s)))) (may_holds base (may_tell (task_of n s) w s) (Ordered held (λ order. Stops (exit_label n w) (blocking_left n w order s))) (λ order. blocking_left_barred n w order (q _) opens))
+  blocking_exit_row_holds n w {s = s} q opens = let held = held_by_flag (instance_of n s) s in trap_if_holds base (not (passes_after_return (instance_of n s) (task_of n s) held s)) trap.CannotBlockSyncTask (may (may_tell (task_of n s) w s) (Ordered held (λ order. Stops (exit_label n w) (blocking_exits n w order s)))) (may_holds base (may_tell (task_of n s) w s) (Ordered held (λ order. Stops (exit_label n w) (blocking_exits n w order s))) (λ order. blocking_exits_barred n w order (q _) opens))
 
   pub direct_exit_to_holds : (a0 : ℕ) (a1 : ExportKind) {s : Core} → ((ex : Option ℕ) → Barred base ex s) → (a3 : Option ℕ) → Holds base (direct_exit_to a0 a1 s a3)
   direct_exit_to_holds n x {s = s} q None = tt
-  direct_exit_to_holds n kind.Sync {s = s} q (Some m) = direct_left_barred n m (register_of n 0 s) (restored_barred n (q _))
-  direct_exit_to_holds n x {s = s} q (Some m) = trap_if_holds base (not (passes_check (instance_of n s) s)) trap.CannotBlockSyncTask (Goes (exit_label n None) (direct_left n m (register_of n 0 s) (checked (instance_of n s) s)) m) (direct_left_barred n m (register_of n 0 s) (checked_barred (instance_of n s) (q _)))
+  direct_exit_to_holds n kind.Sync {s = s} q (Some m) = direct_exits_barred n m (register_of n 0 s) (exit_restores_barred n (q _))
+  direct_exit_to_holds n x {s = s} q (Some m) = trap_if_holds base (not (passes_check (instance_of n s) s)) trap.CannotBlockSyncTask (Goes (exit_label n None) (direct_exits n m (register_of n 0 s) (checked (instance_of n s) s)) m) (direct_exits_barred n m (register_of n 0 s) (checked_barred (instance_of n s) (q _)))
 
   pub direct_exit_row_holds : (a0 : ℕ) {s : Core} → ((ex : Option ℕ) → Barred base ex s) → Holds base (direct_exit_row a0 s)
   direct_exit_row_holds n {s = s} q = direct_exit_to_holds n (kind_of (task_of n s) s) q (under_of n s)
 
-  pub wait_end_holds : (a0 : Label) (a1 : ℕ) (a2 : ℕ) (a3 : List ℕ) {s : Core} → ((ex : Option ℕ) → Barred base ex s) → (a5 : Bool) → returned_holder base a0 ≡ Some (instance_of a1 s) → Holds base (wait_end a0 a1 a2 a3 s a5)
-  wait_end_holds l n x held {s = s} q true may = λ order. found_barred n x order (q _) may
-  wait_end_holds l n x held {s = s} q false may = λ order. awaited_barred n x order (q _) may
+  pub code_wait_row_holds : (a0 : Label) (a1 : ℕ) (a2 : ℕ) (a3 : List ℕ) {s : Core} → ((ex : Option ℕ) → Barred base ex s) → (a5 : Bool) → returned_holder base a0 ≡ Some (instance_of a1 s) → Holds base (code_wait_row a0 a1 a2 a3 s a5)
+  code_wait_row_holds l n x held {s = s} q true may = λ order. code_finds_barred n x order (q _) may
+  code_wait_row_holds l n x held {s = s} q false may = λ order. code_waits_barred n x order (q _) may
 
-  pub kind_end_holds : (a0 : Label) (a1 : ℕ) (a2 : List ℕ) {s : Core} → ((ex : Option ℕ) → Barred base ex s) → (a4 : ℕ) (a5 : ℕ) → returned_holder base a0 ≡ Some (instance_of a1 s) → Holds base (kind_end a0 a1 a2 s a4 a5)
-  kind_end_holds l n held {s = s} q zero rest may = trap_if_holds base (not (passes_after_stop (instance_of n s) (foot_of n s) held s)) trap.CannotBlockSyncTask (trap_if (leaves_no_result n s) trap.NoAsyncResult (Ordered held (λ order. Stops l (finished n order s)))) (trap_if_holds base (leaves_no_result n s) trap.NoAsyncResult (Ordered held (λ order. Stops l (finished n order s))) (λ order. finished_barred n order (q _) may))
-  kind_end_holds l n held {s = s} q (suc zero) rest may = λ order. yielded_barred n order (q _) may
-  kind_end_holds l n held {s = s} q (suc (suc zero)) rest may = or_trap_holds base (set_at (instance_of n s) rest s) trap.BadHandle (λ x. wait_end l n x held s (has_event_for (task_of n s) x s)) (λ x. wait_end_holds l n x held q (has_event_for (task_of n s) x s) may)
-  kind_end_holds l n held {s = s} q u1 rest may = tt
+  pub code_kind_row_holds : (a0 : Label) (a1 : ℕ) (a2 : List ℕ) {s : Core} → ((ex : Option ℕ) → Barred base ex s) → (a4 : ℕ) (a5 : ℕ) → returned_holder base a0 ≡ Some (instance_of a1 s) → Holds base (code_kind_row a0 a1 a2 s a4 a5)
+  code_kind_row_holds l n held {s = s} q zero rest may = trap_if_holds base (not (passes_after_stop (instance_of n s) (foot_of n s) held s)) trap.CannotBlockSyncTask (trap_if (leaves_no_result n s) trap.NoAsyncResult (Ordered held (λ order. Stops l (code_exits n order s)))) (trap_if_holds base (leaves_no_result n s) trap.NoAsyncResult (Ordered held (λ order. Stops l (code_exits n order s))) (λ order. code_exits_barred n order (q _) may))
+  code_kind_row_holds l n held {s = s} q (suc zero) rest may = λ order. code_yields_barred n order (q _) may
+  code_kind_row_holds l n held {s = s} q (suc (suc zero)) rest may = or_trap_holds base (set_at (instance_of n s) rest s) trap.BadHandle (λ x. code_wait_row l n x held s (has_event_for (task_of n s) x s)) (λ x. code_wait_row_holds l n x held q (has_event_for (task_of n s) x s) may)
+  code_kind_row_holds l n held {s = s} q u1 rest may = tt
 
   pub code_row_holds : (a0 : Label) (a1 : ℕ) {s : Core} → ((ex : Option ℕ) → Barred base ex s) → (a3 : ℕ) → returned_holder base a0 ≡ Some (instance_of a1 s) → Holds base (code_row a0 a1 s a3)
-  code_row_holds l n {s = s} q code may = trap_if_holds base (nat_lt 4294967295 code) trap.UnsupportedCallbackCode (kind_end l n (held_out (instance_of n s) s) s (code % 16) (code / 16)) (kind_end_holds l n (held_out (instance_of n s) s) q (code % 16) (code / 16) may)
+  code_row_holds l n {s = s} q code may = trap_if_holds base (nat_lt 4294967295 code) trap.UnsupportedCallbackCode (code_kind_row l n (held_by_flag (instance_of n s) s) s (code % 16) (code / 16)) (code_kind_row_holds l n (held_by_flag (instance_of n s) s) q (code % 16) (code / 16) may)
 
   pub kind_exit_row_holds : (n : ℕ) (w : Option ℕ) {s : Core} → ((ex : Option ℕ) → Barred base ex s) → (k : ExportKind) → kind_of (task_of n s) s ≡ k → is_explicit n s ≡ false → is_direct (goal_of (task_of n s) s) ≡ false → ((w : Option ℕ) → returns_at_exit n s ≡ true → returned_holder base (exit_label n w) ≡ Some (instance_of n s)) → Holds base (kind_exit_row n w s k)
   kind_exit_row_holds n w {s = s} q kind.Sync is implicit queued may = sync_exit_row_holds n w q
   kind_exit_row_holds n w {s = s} q kind.Blocking is implicit queued may = blocking_exit_row_holds n w q (may w (returns_by (is_explicit n s) (kind_of (task_of n s) s) (is_direct (goal_of (task_of n s) s)) implicit (ap (λ y. is_holding y) is) queued))
-  kind_exit_row_holds n w {s = s} q kind.Stackful is implicit queued may = leave_row_holds n q
+  kind_exit_row_holds n w {s = s} q kind.Stackful is implicit queued may = thread_exit_row_holds n q
   kind_exit_row_holds n w {s = s} q kind.Callback is implicit queued may = code_row_holds (exit_label n None) n q 0 (may None (returns_by (is_explicit n s) (kind_of (task_of n s) s) (is_direct (goal_of (task_of n s) s)) implicit (ap (λ y. is_holding y) is) queued))
 
   pub implicit_exit_row_holds : (n : ℕ) (w : Option ℕ) {s : Core} → ((ex : Option ℕ) → Barred base ex s) → (b : Bool) → is_direct (goal_of (task_of n s) s) ≡ b → is_explicit n s ≡ false → ((w : Option ℕ) → returns_at_exit n s ≡ true → returned_holder base (exit_label n w) ≡ Some (instance_of n s)) → Holds base (implicit_exit_row n w s b)
@@ -235,7 +235,7 @@ module _ {base : Core} where
   implicit_exit_row_holds n w {s = s} q false is implicit may = kind_exit_row_holds n w q (kind_of (task_of n s) s) refl implicit is may
 
   pub exit_row_for_holds : (n : ℕ) (w : Option ℕ) {s : Core} → ((ex : Option ℕ) → Barred base ex s) → (b : Bool) → is_explicit n s ≡ b → ((w : Option ℕ) → returns_at_exit n s ≡ true → returned_holder base (exit_label n w) ≡ Some (instance_of n s)) → Holds base (exit_row_for n w s b)
-  exit_row_for_holds n w {s = s} q true is may = leave_row_holds n q
+  exit_row_for_holds n w {s = s} q true is may = thread_exit_row_holds n q
   exit_row_for_holds n w {s = s} q false is may = implicit_exit_row_holds n w q (is_direct (goal_of (task_of n s) s)) refl is may
 
   pub exit_row_holds : (n : ℕ) (w : Option ℕ) {s : Core} → ((ex : Option ℕ) → Barred base ex s) → ((w : Option ℕ) → returns_at_exit n s ≡ true → returned_holder base (exit_label n w) ≡ Some (instance_of n s)) → Holds base (exit_row n w s)
@@ -248,15 +248,15 @@ module _ {base : Core} where
   ret_bad_row_holds n {s = s} q = trap_if_holds base (has_ended (task_of n s) s) trap.TaskCancelOrReturnTwice (Traps trap.TaskReturnInvalid) tt
 
   pub task_cancel_row_holds : (a0 : ℕ) (a1 : Option ℕ) {s : Core} → ((ex : Option ℕ) → Barred base ex s) → Holds base (task_cancel_row a0 a1 s)
-  task_cancel_row_holds n w {s = s} q = trap_if_holds base (not (cancel_was_delivered (task_of n s) s)) trap.TaskCancelNotCancelled (trap_if (has_ended (task_of n s) s) trap.TaskCancelOrReturnTwice (may (may_tell (task_of n s) w s) (Goes (task_cancel_label n w) (cancel_done n w s) n))) (trap_if_holds base (has_ended (task_of n s) s) trap.TaskCancelOrReturnTwice (may (may_tell (task_of n s) w s) (Goes (task_cancel_label n w) (cancel_done n w s) n)) (may_holds base (may_tell (task_of n s) w s) (Goes (task_cancel_label n w) (cancel_done n w s) n) (cancel_done_barred n w (q _))))
+  task_cancel_row_holds n w {s = s} q = trap_if_holds base (not (cancel_was_delivered (task_of n s) s)) trap.TaskCancelNotCancelled (trap_if (has_ended (task_of n s) s) trap.TaskCancelOrReturnTwice (may (may_tell (task_of n s) w s) (Goes (task_cancel_label n w) (task_cancel_done n w s) n))) (trap_if_holds base (has_ended (task_of n s) s) trap.TaskCancelOrReturnTwice (may (may_tell (task_of n s) w s) (Goes (task_cancel_label n w) (task_cancel_done n w s) n)) (may_holds base (may_tell (task_of n s) w s) (Goes (task_cancel_label n w) (task_cancel_done n w s) n) (task_cancel_done_barred n w (q _))))
 
   pub inc_row_holds : (a0 : ℕ) {s : Core} → ((ex : Option ℕ) → Barred base ex s) → Holds base (inc_row a0 s)
-  inc_row_holds n {s = s} q = trap_if_holds base (nat_le 65535 (backpressure_of (instance_of n s) s)) trap.BackpressureOverflow (Goes (label.Task (task_label.BpInc n)) (raised n s) n) (raised_barred n (q _))
+  inc_row_holds n {s = s} q = trap_if_holds base (nat_le 65535 (backpressure_of (instance_of n s) s)) trap.BackpressureOverflow (Goes (label.Task (task_label.BpInc n)) (inc_raises n s) n) (inc_raises_barred n (q _))
 
   pub dec_from_holds : (a0 : ℕ) {s : Core} → ((ex : Option ℕ) → Barred base ex s) → (a2 : ℕ) → Holds base (dec_from a0 s a2)
   dec_from_holds n {s = s} q zero = tt
-  dec_from_holds n {s = s} q (suc zero) = λ order. opened_barred n order (q _)
-  dec_from_holds n {s = s} q (suc (suc b)) = lowered_barred n (q _)
+  dec_from_holds n {s = s} q (suc zero) = λ order. dec_opens_barred n order (q _)
+  dec_from_holds n {s = s} q (suc (suc b)) = dec_lowers_barred n (q _)
 
   pub dec_row_holds : (a0 : ℕ) {s : Core} → ((ex : Option ℕ) → Barred base ex s) → Holds base (dec_row a0 s)
   dec_row_holds n {s = s} q = dec_from_holds n q (backpressure_of (instance_of n s) s)

@@ -28,12 +28,12 @@ use Rattle.task_machine.specs.declared.records.Subtask.{Subtask}
 use Rattle.task_machine.specs.declared.records.Why.{Why}
 use Rattle.task_machine.specs.declared.words.Given.{Given}
 use Rattle.task_machine.specs.declared.words.Status.{Status}
-use Rattle.task_rules.specs.Calls.{AtOnce, Failing, FirstPoll, Later, answered, blocked, call_answered, call_begins, call_blocked, call_host_polled, call_host_row, call_pending, call_returned, call_row, call_status, call_sync_begins, call_sync_host_polled, call_sync_host_row, call_sync_row, call_sync_status, called, called_back, enter_row, entered, first_poll, forbidding, host_answered, host_blocked, host_pending, host_ready, new_thread, next_thread, next_work, put_back, settle_group_of, status_found, suspending, with_handle, with_thread_handle, work_answered, work_deleted, work_group, work_value}
-use Rattle.task_rules.specs.Cancels.{Async, Mode, Sync, aborted_phase, after_cancel, asked, awaiting, behind_switch, blocked_code, by_end, cancel_delivered_to, cancel_found, cancel_guest, cancel_host, cancel_resumed, cancel_row, cancel_running, cancel_subtask, cancel_yield, drop_found, drop_row, dropped, end_taken, ended_row, host_cancelled, is_callback_wait, lets_go_on, not_ended_row, pauses, start_withdrawn, subtask_instance, subtask_row, subtask_settled, yield_cancelled}
+use Rattle.task_rules.specs.Calls.{AtOnce, Failing, FirstPoll, Later, answered, call_stops, call_answered, call_begins, call_sync_stops, call_host_polled, call_host_row, call_pending, call_returned, call_row, call_status, call_sync_begins, call_sync_host_polled, call_sync_host_row, call_sync_row, call_sync_status, call_queues, call_resumes, enter_row, enter_runs, first_poll, sync_sets_flag, host_answered, call_sync_host_stops, host_pending, host_ready, new_thread, next_thread, next_work, put_back, settle_group_of, status_found, call_clears_flag, with_handle, with_thread_handle, work_answered, work_deleted, work_group, work_value}
+use Rattle.task_rules.specs.Cancels.{AlreadyEnded, CallbackWaits, CallbackYields, CancelCase, OtherwiseRuns, StartNotRun, cancel_case, Async, Mode, Sync, aborted_phase, after_cancel, cancel_asks, cancel_stops, behind_switch, blocked_code, cancel_by_end, cancel_wakes_callback, cancel_found, cancel_guest, cancel_host, cancel_resumed, cancel_row, cancel_subtask, drop_found, drop_row, dropped, cancel_takes_end, cancel_ended_row, cancel_aborts_host, is_callback_wait, cancel_goes_behind, cancel_unended_row, pauses, cancel_withdraws, subtask_instance, subtask_row, subtask_settled, cancel_promotes_yield}
 use Rattle.task_rules.specs.Progress.{Goes, Progress, Stops, may, or_never, or_trap, trap_if}
 use Rattle.task_rules.specs.Scripts.{export_kind, host_at, registers_for, slot_at, value_of, values_in}
-use Rattle.task_rules.specs.Sets.{begun_waiting, chosen, finds_nothing, given_code, given_handle, given_result, handed_out, join_done, join_row, join_to, joined, joins, may_wake_new, poll_row, poll_takes, received, received_woken, set_drop_found, set_drop_row, set_dropped, set_given, set_made, set_new_row, set_row, wait_begins, wait_goes_on, wait_row, wait_takes, waiting, wakes_joined}
-use Rattle.task_rules.specs.Takes.{started}
+use Rattle.task_rules.specs.Sets.{wait_stops_checked, chosen, finds_nothing, given_code, given_handle, given_result, handed_out, join_done, join_row, join_to, joined, joins, may_wake_new, poll_row, poll_takes, received, received_woken, set_drop_found, set_drop_row, set_dropped, set_given, set_made, set_new_row, set_row, wait_begins, wait_goes_on, wait_row, wait_takes, wait_stops, wakes_joined}
+use Rattle.task_rules.specs.Takes.{start_begins}
 use Rattle.task_rules.specs.Threads.{Halt, Suspension, Yielding, by_how_far, halt_row, halted, halted_checked, halted_promoting, halted_resuming, halting, halts, has_yielded, resume_later_found, resume_later_row, resume_why, resumed_later, then_promote, then_promote_found, then_promote_row, then_resume_found, then_resume_row, thread_index_row, thread_made, thread_new_label, thread_new_row, thread_row}
 use Rattle.task_machine.specs.declared.label.CallLabel.TheVariants as call_label
 use Rattle.task_machine.specs.declared.op.CallOp.TheVariants as call_op
@@ -76,13 +76,13 @@ module _ {base : Core} {ex : Option ℕ} where
   unfolding received
   received_barred n r g v {s = s} q = advanced_barred n (set_given_barred n r v (taken_barred g (task_of n s) q))
 
-  pub waiting_barred : (a0 : ℕ) (a1 : ℕ) {s : Core} → Barred base ex s → Barred base ex (waiting a0 a1 s)
-  unfolding waiting
-  waiting_barred n x {s = s} q = set_how_far_barred n (how_far.Waits x) (stopped_at_barred n (place.Waiting x false) q)
+  pub wait_stops_barred : (a0 : ℕ) (a1 : ℕ) {s : Core} → Barred base ex s → Barred base ex (wait_stops a0 a1 s)
+  unfolding wait_stops
+  wait_stops_barred n x {s = s} q = set_how_far_barred n (how_far.Waits x) (stopped_at_barred n (place.Waiting x false) q)
 
-  pub begun_waiting_barred : (a0 : ℕ) (a1 : ℕ) {s : Core} → Barred base ex s → Barred base ex (begun_waiting a0 a1 s)
-  unfolding begun_waiting
-  begun_waiting_barred n x {s = s} q = waiting_barred n x (checked_barred (instance_of n s) q)
+  pub wait_stops_checked_barred : (a0 : ℕ) (a1 : ℕ) {s : Core} → Barred base ex s → Barred base ex (wait_stops_checked a0 a1 s)
+  unfolding wait_stops_checked
+  wait_stops_checked_barred n x {s = s} q = wait_stops_barred n x (checked_barred (instance_of n s) q)
 
   pub received_woken_barred : (a0 : ℕ) (a1 : ℕ) (a2 : ℕ) (a3 : Option ℕ) (a4 : Gift) (a5 : Given) {s : Core} → Barred base ex s → Barred base ex (received_woken a0 a1 a2 a3 a4 a5 s)
   unfolding received_woken
@@ -96,21 +96,21 @@ module _ {base : Core} {ex : Option ℕ} where
   unfolding joined
   joined_barred n sub x w {s = s} q = advanced_barred n (wakes_joined_barred (event_of sub s) x w (set_join_barred sub (joins x) q))
 
-  pub suspending_barred : (a0 : ℕ) (a1 : ℕ) (a2 : ExportKind) {s : Core} → Barred base ex s → Barred base ex (suspending a0 a1 a2 s)
-  suspending_barred n j kind.Sync {s = s} q = q
-  suspending_barred n j x {s = s} q = set_do_not_suspend_barred j false (set_saved_callee_barred n (Some (may_not_suspend j s)) q)
+  pub call_clears_flag_barred : (a0 : ℕ) (a1 : ℕ) (a2 : ExportKind) {s : Core} → Barred base ex s → Barred base ex (call_clears_flag a0 a1 a2 s)
+  call_clears_flag_barred n j kind.Sync {s = s} q = q
+  call_clears_flag_barred n j x {s = s} q = set_do_not_suspend_barred j false (set_saved_callee_barred n (Some (may_not_suspend j s)) q)
 
-  pub called_barred : (a0 : ℕ) (a1 : Callee) (a2 : ExportKind) (a3 : Goal) (a4 : List ℕ) {s : Core} → Barred base ex s → is_some (get base.instances a1.instance) ≡ true → Barred base ex (called a0 a1 a2 a3 a4 s)
-  unfolding called
-  called_barred n e x g words {s = s} q home = let m = next_thread s in set_how_far_barred n (how_far.Calls (subtask.Guest m)) (behind_barred m (n ∷ []) (suspending_barred n e.instance x (put_switch_barred m why.Start (call_made_barred (caller.Thread n) e x g (thread_group n s) words q home))))
+  pub call_queues_barred : (a0 : ℕ) (a1 : Callee) (a2 : ExportKind) (a3 : Goal) (a4 : List ℕ) {s : Core} → Barred base ex s → is_some (get base.instances a1.instance) ≡ true → Barred base ex (call_queues a0 a1 a2 a3 a4 s)
+  unfolding call_queues
+  call_queues_barred n e x g words {s = s} q home = let m = next_thread s in set_how_far_barred n (how_far.Calls (subtask.Guest m)) (behind_barred m (n ∷ []) (call_clears_flag_barred n e.instance x (put_switch_barred m why.Start (call_made_barred (caller.Thread n) e x g (thread_group n s) words q home))))
 
   pub put_back_barred : (a0 : Option Bool) (a1 : ℕ) {s : Core} → Barred base ex s → Barred base ex (put_back a0 a1 s)
   put_back_barred None j {s = s} q = q
   put_back_barred (Some b) j {s = s} q = set_do_not_suspend_barred j b q
 
-  pub called_back_barred : (a0 : ℕ) (a1 : ℕ) {s : Core} → Barred base ex s → Barred base ex (called_back a0 a1 s)
-  unfolding called_back
-  called_back_barred n k {s = s} q = set_event_barred (subtask.Guest k) None (put_back_barred (saved_callee_of n s) (call_instance k s) q)
+  pub call_resumes_barred : (a0 : ℕ) (a1 : ℕ) {s : Core} → Barred base ex s → Barred base ex (call_resumes a0 a1 s)
+  unfolding call_resumes
+  call_resumes_barred n k {s = s} q = set_event_barred (subtask.Guest k) None (put_back_barred (saved_callee_of n s) (call_instance k s) q)
 
   pub answered_barred : (a0 : ℕ) (a1 : ℕ) (a2 : ℕ) {s : Core} → Barred base ex s → Barred base ex (answered a0 a1 a2 s)
   unfolding answered
@@ -118,7 +118,7 @@ module _ {base : Core} {ex : Option ℕ} where
 
   pub call_returned_barred : (a0 : ℕ) (a1 : ℕ) (a2 : ℕ) {s : Core} → Barred base ex s → Barred base ex (call_returned a0 a1 a2 s)
   unfolding call_returned
-  call_returned_barred n r k {s = s} q = answered_barred n r 2 (call_settled_barred k (called_back_barred n k q))
+  call_returned_barred n r k {s = s} q = answered_barred n r 2 (call_settled_barred k (call_resumes_barred n k q))
 
   pub with_handle_barred : (a0 : ℕ) (a1 : Subtask) {s : Core} → Barred base ex s → Barred base ex (with_handle a0 a1 s)
   unfolding with_handle
@@ -126,31 +126,31 @@ module _ {base : Core} {ex : Option ℕ} where
 
   pub call_pending_barred : (a0 : ℕ) (a1 : ℕ) (a2 : ℕ) (a3 : ℕ) {s : Core} → Barred base ex s → Barred base ex (call_pending a0 a1 a2 a3 s)
   unfolding call_pending
-  call_pending_barred n r k v {s = s} q = answered_barred n r v (with_handle_barred (instance_of n s) (subtask.Guest k) (called_back_barred n k q))
+  call_pending_barred n r k v {s = s} q = answered_barred n r v (with_handle_barred (instance_of n s) (subtask.Guest k) (call_resumes_barred n k q))
 
   pub call_answered_barred : (a0 : ℕ) (a1 : ℕ) (a2 : ℕ) {s : Core} → Barred base ex s → Barred base ex (call_answered a0 a1 a2 s)
   unfolding call_answered
-  call_answered_barred n r k {s = s} q = answered_barred n r (result_of k s) (call_settled_barred k (set_result_barred k None (called_back_barred n k q)))
+  call_answered_barred n r k {s = s} q = answered_barred n r (result_of k s) (call_settled_barred k (set_result_barred k None (call_resumes_barred n k q)))
 
-  pub blocked_barred : (a0 : ℕ) (a1 : Subtask) {s : Core} → Barred base ex s → Barred base ex (blocked a0 a1 s)
-  unfolding blocked
-  blocked_barred n sub {s = s} q = set_how_far_barred n (how_far.Calls sub) (stopped_at_barred n (place.Blocked sub) q)
+  pub call_stops_barred : (a0 : ℕ) (a1 : Subtask) {s : Core} → Barred base ex s → Barred base ex (call_stops a0 a1 s)
+  unfolding call_stops
+  call_stops_barred n sub {s = s} q = set_how_far_barred n (how_far.Calls sub) (stopped_at_barred n (place.Blocked sub) q)
 
-  pub call_blocked_barred : (a0 : ℕ) (a1 : ℕ) {s : Core} → Barred base ex s → Barred base ex (call_blocked a0 a1 s)
-  unfolding call_blocked
-  call_blocked_barred n k {s = s} q = blocked_barred n (subtask.Guest k) (checked_barred (instance_of n s) (called_back_barred n k q))
+  pub call_sync_stops_barred : (a0 : ℕ) (a1 : ℕ) {s : Core} → Barred base ex s → Barred base ex (call_sync_stops a0 a1 s)
+  unfolding call_sync_stops
+  call_sync_stops_barred n k {s = s} q = call_stops_barred n (subtask.Guest k) (checked_barred (instance_of n s) (call_resumes_barred n k q))
 
-  pub forbidding_barred : (a0 : ℕ) (a1 : ℕ) (a2 : ExportKind) {s : Core} → Barred base ex s → Barred base ex (forbidding a0 a1 a2 s)
-  forbidding_barred m j kind.Sync {s = s} q = set_do_not_suspend_barred j true (set_saved_own_barred m (Some (may_not_suspend j s)) q)
-  forbidding_barred m j x {s = s} q = q
+  pub sync_sets_flag_barred : (a0 : ℕ) (a1 : ℕ) (a2 : ExportKind) {s : Core} → Barred base ex s → Barred base ex (sync_sets_flag a0 a1 a2 s)
+  sync_sets_flag_barred m j kind.Sync {s = s} q = set_do_not_suspend_barred j true (set_saved_own_barred m (Some (may_not_suspend j s)) q)
+  sync_sets_flag_barred m j x {s = s} q = q
 
   pub with_thread_handle_barred : (a0 : ℕ) (a1 : ℕ) {s : Core} → Barred base ex s → Barred base ex (with_thread_handle a0 a1 s)
   unfolding with_thread_handle
   with_thread_handle_barred i m {s = s} q = set_thread_handle_barred m (Some (new_thread_handle i s)) (give_thread_handle_barred i m q)
 
-  pub entered_barred : (a0 : ℕ) (a1 : Callee) (a2 : ExportKind) (a3 : List ℕ) {s : Core} → Barred base ex s → is_some (get base.instances a1.instance) ≡ true → Barred base ex (entered a0 a1 a2 a3 s)
-  unfolding entered
-  entered_barred n e x words {s = s} q home = let m = next_thread s in set_how_far_barred n (how_far.Calls (subtask.Guest m)) (set_place_barred n (place.Under m) (set_place_barred m place.Running (forbidding_barred m e.instance x (set_started_barred m (with_thread_handle_barred e.instance m (call_made_barred (caller.Thread n) e x goal.Direct (thread_group n s) words q home))))))
+  pub enter_runs_barred : (a0 : ℕ) (a1 : Callee) (a2 : ExportKind) (a3 : List ℕ) {s : Core} → Barred base ex s → is_some (get base.instances a1.instance) ≡ true → Barred base ex (enter_runs a0 a1 a2 a3 s)
+  unfolding enter_runs
+  enter_runs_barred n e x words {s = s} q home = let m = next_thread s in set_how_far_barred n (how_far.Calls (subtask.Guest m)) (set_place_barred n (place.Under m) (set_place_barred m place.Running (sync_sets_flag_barred m e.instance x (set_started_barred m (with_thread_handle_barred e.instance m (call_made_barred (caller.Thread n) e x goal.Direct (thread_group n s) words q home))))))
 
   pub host_ready_barred : (a0 : ℕ) (a1 : ℕ) (a2 : ℕ) (a3 : ℕ) {s : Core} → Barred base ex s → Barred base ex (host_ready a0 a1 a2 a3 s)
   unfolding host_ready
@@ -164,9 +164,9 @@ module _ {base : Core} {ex : Option ℕ} where
   unfolding host_answered
   host_answered_barred n r v {s = s} q = assigned_barred n r v (count_work_barred q)
 
-  pub host_blocked_barred : (a0 : ℕ) (a1 : HostDef) {s : Core} → Barred base ex s → Barred base ex (host_blocked a0 a1 s)
-  unfolding host_blocked
-  host_blocked_barred n host {s = s} q = blocked_barred n (subtask.Host (next_work s)) (work_queued_barred (work_caller.Sync n) host (Some (thread_group n s)) (checked_barred (instance_of n s) q))
+  pub call_sync_host_stops_barred : (a0 : ℕ) (a1 : HostDef) {s : Core} → Barred base ex s → Barred base ex (call_sync_host_stops a0 a1 s)
+  unfolding call_sync_host_stops
+  call_sync_host_stops_barred n host {s = s} q = call_stops_barred n (subtask.Host (next_work s)) (work_queued_barred (work_caller.Sync n) host (Some (thread_group n s)) (checked_barred (instance_of n s) q))
 
   pub settle_group_of_barred : (a0 : Option ℕ) {s : Core} → Barred base ex s → Barred base ex (settle_group_of a0 s)
   settle_group_of_barred None {s = s} q = q
@@ -180,41 +180,41 @@ module _ {base : Core} {ex : Option ℕ} where
   unfolding work_answered
   work_answered_barred n r i {s = s} q = assigned_barred n r (work_value i s) (work_deleted_barred i q)
 
-  pub end_taken_barred : (a0 : ℕ) (a1 : ℕ) (a2 : Subtask) (a3 : Status) {s : Core} → Barred base ex s → Barred base ex (end_taken a0 a1 a2 a3 s)
-  unfolding end_taken
-  end_taken_barred n r sub e {s = s} q = answered_barred n r (status_code e) (set_event_barred sub None q)
+  pub cancel_takes_end_barred : (a0 : ℕ) (a1 : ℕ) (a2 : Subtask) (a3 : Status) {s : Core} → Barred base ex s → Barred base ex (cancel_takes_end a0 a1 a2 a3 s)
+  unfolding cancel_takes_end
+  cancel_takes_end_barred n r sub e {s = s} q = answered_barred n r (status_code e) (set_event_barred sub None q)
 
-  pub awaiting_barred : (a0 : ℕ) (a1 : Subtask) {s : Core} → Barred base ex s → Barred base ex (awaiting a0 a1 s)
-  unfolding awaiting
-  awaiting_barred n sub {s = s} q = set_how_far_barred n (how_far.AwaitsEnd sub) (stopped_at_barred n (place.Blocked sub) (checked_barred (instance_of n s) (set_join_barred sub (join.Watched n) (set_saved_callee_barred n None q))))
+  pub cancel_stops_barred : (a0 : ℕ) (a1 : Subtask) {s : Core} → Barred base ex s → Barred base ex (cancel_stops a0 a1 s)
+  unfolding cancel_stops
+  cancel_stops_barred n sub {s = s} q = set_how_far_barred n (how_far.AwaitsEnd sub) (stopped_at_barred n (place.Blocked sub) (checked_barred (instance_of n s) (set_join_barred sub (join.Watched n) (set_saved_callee_barred n None q))))
 
-  pub host_cancelled_barred : (a0 : ℕ) {s : Core} → Barred base ex s → Barred base ex (host_cancelled a0 s)
-  unfolding host_cancelled
-  host_cancelled_barred i {s = s} q = set_cancelled_barred i (set_phase_barred i (aborted_phase (phase_of i s)) q)
+  pub cancel_aborts_host_barred : (a0 : ℕ) {s : Core} → Barred base ex s → Barred base ex (cancel_aborts_host a0 s)
+  unfolding cancel_aborts_host
+  cancel_aborts_host_barred i {s = s} q = set_cancelled_barred i (set_phase_barred i (aborted_phase (phase_of i s)) q)
 
-  pub start_withdrawn_barred : (a0 : ℕ) (a1 : ℕ) (a2 : ℕ) {s : Core} → Barred base ex s → Barred base ex (start_withdrawn a0 a1 a2 s)
-  unfolding start_withdrawn
-  start_withdrawn_barred n r k {s = s} q = answered_barred n r 3 (withdrawn_barred k q)
+  pub cancel_withdraws_barred : (a0 : ℕ) (a1 : ℕ) (a2 : ℕ) {s : Core} → Barred base ex s → Barred base ex (cancel_withdraws a0 a1 a2 s)
+  unfolding cancel_withdraws
+  cancel_withdraws_barred n r k {s = s} q = answered_barred n r 3 (withdrawn_barred k q)
 
-  pub asked_barred : (a0 : ℕ) {s : Core} → Barred base ex s → Barred base ex (asked a0 s)
-  unfolding asked
-  asked_barred k {s = s} q = set_own_event_barred k (Some own.Cancelled) q
+  pub cancel_asks_barred : (a0 : ℕ) {s : Core} → Barred base ex s → Barred base ex (cancel_asks a0 s)
+  unfolding cancel_asks
+  cancel_asks_barred k {s = s} q = set_own_event_barred k (Some own.Cancelled) q
 
   pub behind_switch_barred : (a0 : ℕ) (a1 : Option ℕ) {s : Core} → Barred base ex s → Barred base ex (behind_switch a0 a1 s)
   behind_switch_barred n None {s = s} q = q
   behind_switch_barred n (Some m) {s = s} q = behind_barred (foot_of m s) (n ∷ []) q
 
-  pub lets_go_on_barred : (a0 : ℕ) (a1 : ℕ) {s : Core} → Barred base ex s → Barred base ex (lets_go_on a0 a1 s)
-  unfolding lets_go_on
-  lets_go_on_barred n k {s = s} q = let j = call_instance k s in set_how_far_barred n (how_far.Cancels (subtask.Guest k)) (behind_switch_barred n s.queues.switch (set_join_barred (subtask.Guest k) (join.Watched n) (set_do_not_suspend_barred j false (set_saved_callee_barred n (Some (may_not_suspend j s)) q))))
+  pub cancel_goes_behind_barred : (a0 : ℕ) (a1 : ℕ) {s : Core} → Barred base ex s → Barred base ex (cancel_goes_behind a0 a1 s)
+  unfolding cancel_goes_behind
+  cancel_goes_behind_barred n k {s = s} q = let j = call_instance k s in set_how_far_barred n (how_far.Cancels (subtask.Guest k)) (behind_switch_barred n s.queues.switch (set_join_barred (subtask.Guest k) (join.Watched n) (set_do_not_suspend_barred j false (set_saved_callee_barred n (Some (may_not_suspend j s)) q))))
 
-  pub cancel_delivered_to_barred : (a0 : ℕ) (a1 : ℕ) {s : Core} → Barred base ex s → Barred base ex (cancel_delivered_to a0 a1 s)
-  unfolding cancel_delivered_to
-  cancel_delivered_to_barred n k {s = s} q = lets_go_on_barred n k (put_switch_barred k (why.Delivery delivery.Cancel) (asked_barred k q))
+  pub cancel_wakes_callback_barred : (a0 : ℕ) (a1 : ℕ) {s : Core} → Barred base ex s → Barred base ex (cancel_wakes_callback a0 a1 s)
+  unfolding cancel_wakes_callback
+  cancel_wakes_callback_barred n k {s = s} q = cancel_goes_behind_barred n k (put_switch_barred k (why.Delivery delivery.Cancel) (cancel_asks_barred k q))
 
-  pub yield_cancelled_barred : (a0 : ℕ) (a1 : ℕ) {s : Core} → Barred base ex s → Barred base ex (yield_cancelled a0 a1 s)
-  unfolding yield_cancelled
-  yield_cancelled_barred n k {s = s} q = lets_go_on_barred n k (promoted_unless_barred k (asked_barred k q))
+  pub cancel_promotes_yield_barred : (a0 : ℕ) (a1 : ℕ) {s : Core} → Barred base ex s → Barred base ex (cancel_promotes_yield a0 a1 s)
+  unfolding cancel_promotes_yield
+  cancel_promotes_yield_barred n k {s = s} q = cancel_goes_behind_barred n k (promoted_unless_barred k (cancel_asks_barred k q))
 
   pub cancel_resumed_barred : (a0 : ℕ) (a1 : Subtask) {s : Core} → Barred base ex s → Barred base ex (cancel_resumed a0 a1 s)
   unfolding cancel_resumed
@@ -267,11 +267,11 @@ module _ {base : Core} where
   wait_takes_holds n r ch {s = s} q g = let v = handed_out ch s g in received_barred n r g v (q _)
 
   pub wait_begins_holds : (a0 : ℕ) (a1 : ℕ) (a2 : Choice) {s : Core} → ((ex : Option ℕ) → Barred base ex s) → (a4 : ℕ) (a5 : Bool) → Holds base (wait_begins a0 a1 a2 s a4 a5)
-  wait_begins_holds n r ch {s = s} q x true = trap_if_holds base (not (passes_check (instance_of n s) s)) trap.CannotBlockSyncTask (Stops (label.Thread (thread_label.Pauses n)) (begun_waiting n x s)) (begun_waiting_barred n x (q _))
+  wait_begins_holds n r ch {s = s} q x true = trap_if_holds base (not (passes_check (instance_of n s) s)) trap.CannotBlockSyncTask (Stops (label.Thread (thread_label.Pauses n)) (wait_stops_checked n x s)) (wait_stops_checked_barred n x (q _))
   wait_begins_holds n r ch {s = s} q x false = or_never_holds base (gift false (task_of n s) x (chosen n ch s) s) (wait_takes n r ch s) (λ got. wait_takes_holds n r ch q got)
 
   pub wait_goes_on_holds : (a0 : ℕ) (a1 : ℕ) (a2 : ℕ) (a3 : Choice) {s : Core} → ((ex : Option ℕ) → Barred base ex s) → (a5 : Gift) → Holds base (wait_goes_on a0 a1 a2 a3 s a5)
-  wait_goes_on_holds n x r ch {s = s} q NoGift = waiting_barred n x (q _)
+  wait_goes_on_holds n x r ch {s = s} q NoGift = wait_stops_barred n x (q _)
   wait_goes_on_holds n x r ch {s = s} q g = let v = handed_out ch s g in may_holds base (may_hand_on x g ch.woken s) (Goes (wait_label n v ch.woken) (received_woken n x r ch.woken g v s) n) (received_woken_barred n x r ch.woken g v (q _))
 
   pub wait_row_holds : (a0 : ℕ) (a1 : ℕ) (a2 : ℕ) (a3 : Choice) {s : Core} → ((ex : Option ℕ) → Barred base ex s) → (a5 : HowFar) → Holds base (wait_row a0 a1 a2 a3 s a5)
@@ -302,7 +302,7 @@ module _ {base : Core} where
   set_row_holds n {s = s} q ch (set_op.Join x y) = join_row_holds n (value_of n s x) (value_of n s y) ch.woken q
 
   pub call_begins_holds : (a0 : Component) (a1 : ℕ) (a2 : Callee) (a3 : Goal) (a4 : List ℕ) {s : Core} → ((ex : Option ℕ) → Barred base ex s) → is_some (get base.instances a2.instance) ≡ true → Holds base (call_begins a0 a1 a2 a3 a4 s)
-  call_begins_holds c n e g words {s = s} q home = trap_if_holds base (not (fits 3 s)) trap.TableFull (Stops (label.Call (call_label.Calls n (next_thread s))) (called n e (export_kind c e) g words s)) (called_barred n e (export_kind c e) g words (q _) home)
+  call_begins_holds c n e g words {s = s} q home = trap_if_holds base (not (fits 3 s)) trap.TableFull (Stops (label.Call (call_label.Calls n (next_thread s))) (call_queues n e (export_kind c e) g words s)) (call_queues_barred n e (export_kind c e) g words (q _) home)
 
   pub call_status_holds : (a0 : ℕ) (a1 : ℕ) (a2 : ℕ) {s : Core} → ((ex : Option ℕ) → Barred base ex s) → (a4 : Status) → Holds base (call_status a0 a1 a2 s a4)
   call_status_holds n r k {s = s} q status.Returned = call_returned_barred n r k (q _)
@@ -314,10 +314,10 @@ module _ {base : Core} where
 
   pub call_sync_status_holds : (a0 : ℕ) (a1 : ℕ) (a2 : ℕ) {s : Core} → ((ex : Option ℕ) → Barred base ex s) → (a4 : Status) → Holds base (call_sync_status a0 a1 a2 s a4)
   call_sync_status_holds n r k {s = s} q status.Returned = call_answered_barred n r k (q _)
-  call_sync_status_holds n r k {s = s} q e = trap_if_holds base (not (passes_check (instance_of n s) (called_back n k s))) trap.CannotBlockSyncTask (Stops (label.Thread (thread_label.Pauses n)) (call_blocked n k s)) (call_blocked_barred n k (q _))
+  call_sync_status_holds n r k {s = s} q e = trap_if_holds base (not (passes_check (instance_of n s) (call_resumes n k s))) trap.CannotBlockSyncTask (Stops (label.Thread (thread_label.Pauses n)) (call_sync_stops n k s)) (call_sync_stops_barred n k (q _))
 
   pub enter_row_holds : (a0 : ℕ) (a1 : Callee) (a2 : ExportKind) (a3 : List ℕ) {s : Core} → ((ex : Option ℕ) → Barred base ex s) → is_some (get base.instances a1.instance) ≡ true → Holds base (enter_row a0 a1 a2 a3 s)
-  enter_row_holds n e x words {s = s} q home = trap_if_holds base (not (fits 3 s)) trap.TableFull (trap_if (at_handle_limit s) trap.HandleLimit (Goes (label.Call (call_label.Enters n (next_thread s))) (entered n e x words s) (next_thread s))) (trap_if_holds base (at_handle_limit s) trap.HandleLimit (Goes (label.Call (call_label.Enters n (next_thread s))) (entered n e x words s) (next_thread s)) (entered_barred n e x words (q _) home))
+  enter_row_holds n e x words {s = s} q home = trap_if_holds base (not (fits 3 s)) trap.TableFull (trap_if (at_handle_limit s) trap.HandleLimit (Goes (label.Call (call_label.Enters n (next_thread s))) (enter_runs n e x words s) (next_thread s))) (trap_if_holds base (at_handle_limit s) trap.HandleLimit (Goes (label.Call (call_label.Enters n (next_thread s))) (enter_runs n e x words s) (next_thread s)) (enter_runs_barred n e x words (q _) home))
 
   pub call_sync_begins_holds : (a0 : Component) (a1 : ℕ) (a2 : Callee) (a3 : List ℕ) {s : Core} → ((ex : Option ℕ) → Barred base ex s) → is_some (get base.instances a2.instance) ≡ true → (a5 : Bool) → Holds base (call_sync_begins a0 a1 a2 a3 s a5)
   call_sync_begins_holds c n e words {s = s} q home true = call_begins_holds c n e goal.Answer words q home
@@ -339,45 +339,39 @@ module _ {base : Core} where
   pub call_sync_host_polled_holds : (a0 : ℕ) (a1 : ℕ) {s : Core} → ((ex : Option ℕ) → Barred base ex s) → (a3 : FirstPoll) → Holds base (call_sync_host_polled a0 a1 s a3)
   call_sync_host_polled_holds n r {s = s} q (AtOnce v) = host_answered_barred n r v (q _)
   call_sync_host_polled_holds n r {s = s} q Failing = tt
-  call_sync_host_polled_holds n r {s = s} q (Later host) = trap_if_holds base (not (fits 1 s)) trap.TableFull (trap_if (not (passes_check (instance_of n s) s)) trap.CannotBlockSyncTask (Stops (label.Call (call_label.PausesPolls n (next_work s))) (host_blocked n host s))) (trap_if_holds base (not (passes_check (instance_of n s) s)) trap.CannotBlockSyncTask (Stops (label.Call (call_label.PausesPolls n (next_work s))) (host_blocked n host s)) (host_blocked_barred n host (q _)))
+  call_sync_host_polled_holds n r {s = s} q (Later host) = trap_if_holds base (not (fits 1 s)) trap.TableFull (trap_if (not (passes_check (instance_of n s) s)) trap.CannotBlockSyncTask (Stops (label.Call (call_label.PausesPolls n (next_work s))) (call_sync_host_stops n host s))) (trap_if_holds base (not (passes_check (instance_of n s) s)) trap.CannotBlockSyncTask (Stops (label.Call (call_label.PausesPolls n (next_work s))) (call_sync_host_stops n host s)) (call_sync_host_stops_barred n host (q _)))
 
   pub call_sync_host_row_holds : (a0 : Component) (a1 : ℕ) (a2 : ℕ) (a3 : ℕ) {s : Core} → ((ex : Option ℕ) → Barred base ex s) → (a5 : HowFar) → Holds base (call_sync_host_row a0 a1 a2 a3 s a5)
   call_sync_host_row_holds c n r h {s = s} q (how_far.Calls (subtask.Host i)) = work_answered_barred n r i (q _)
   call_sync_host_row_holds c n r h {s = s} q u1 = call_sync_host_polled_holds n r q (first_poll (host_at c h))
 
-  pub ended_row_holds : (a0 : Mode) (a1 : ℕ) (a2 : ℕ) (a3 : Subtask) {s : Core} → ((ex : Option ℕ) → Barred base ex s) → (a5 : Option Status) → Holds base (ended_row a0 a1 a2 a3 s a5)
-  ended_row_holds mode n r sub {s = s} q None = tt
-  ended_row_holds mode n r sub {s = s} q (Some e) = end_taken_barred n r sub e (q _)
+  pub cancel_ended_row_holds : (a0 : Mode) (a1 : ℕ) (a2 : ℕ) (a3 : Subtask) {s : Core} → ((ex : Option ℕ) → Barred base ex s) → (a5 : Option Status) → Holds base (cancel_ended_row a0 a1 a2 a3 s a5)
+  cancel_ended_row_holds mode n r sub {s = s} q None = tt
+  cancel_ended_row_holds mode n r sub {s = s} q (Some e) = cancel_takes_end_barred n r sub e (q _)
 
-  pub not_ended_row_holds : (a0 : Mode) (a1 : ℕ) (a2 : ℕ) (a3 : Subtask) {s : Core} → ((ex : Option ℕ) → Barred base ex s) → Holds base (not_ended_row a0 a1 a2 a3 s)
-  not_ended_row_holds Async n r sub {s = s} q = answered_barred n r blocked_code (q _)
-  not_ended_row_holds Sync n r sub {s = s} q = trap_if_holds base (not (passes_check (instance_of n s) s)) trap.CannotBlockSyncTask (Stops (pauses n) (awaiting n sub s)) (awaiting_barred n sub (q _))
+  pub cancel_unended_row_holds : (a0 : Mode) (a1 : ℕ) (a2 : ℕ) (a3 : Subtask) {s : Core} → ((ex : Option ℕ) → Barred base ex s) → Holds base (cancel_unended_row a0 a1 a2 a3 s)
+  cancel_unended_row_holds Async n r sub {s = s} q = answered_barred n r blocked_code (q _)
+  cancel_unended_row_holds Sync n r sub {s = s} q = trap_if_holds base (not (passes_check (instance_of n s) s)) trap.CannotBlockSyncTask (Stops (pauses n) (cancel_stops n sub s)) (cancel_stops_barred n sub (q _))
 
-  pub by_end_holds : (a0 : Mode) (a1 : ℕ) (a2 : ℕ) (a3 : Subtask) {s : Core} → ((ex : Option ℕ) → Barred base ex s) → (a5 : Bool) → Holds base (by_end a0 a1 a2 a3 s a5)
-  by_end_holds mode n r sub {s = s} q true = ended_row_holds mode n r sub q (undelivered_end (event_of sub s))
-  by_end_holds mode n r sub {s = s} q false = not_ended_row_holds mode n r sub q
+  pub cancel_by_end_holds : (a0 : Mode) (a1 : ℕ) (a2 : ℕ) (a3 : Subtask) {s : Core} → ((ex : Option ℕ) → Barred base ex s) → (a5 : Bool) → Holds base (cancel_by_end a0 a1 a2 a3 s a5)
+  cancel_by_end_holds mode n r sub {s = s} q true = cancel_ended_row_holds mode n r sub q (undelivered_end (event_of sub s))
+  cancel_by_end_holds mode n r sub {s = s} q false = cancel_unended_row_holds mode n r sub q
 
   pub after_cancel_holds : (a0 : Mode) (a1 : ℕ) (a2 : ℕ) (a3 : Subtask) {s : Core} → ((ex : Option ℕ) → Barred base ex s) → Holds base (after_cancel a0 a1 a2 a3 s)
-  after_cancel_holds mode n r sub {s = s} q = by_end_holds mode n r sub q (subtask_ended sub s)
+  after_cancel_holds mode n r sub {s = s} q = cancel_by_end_holds mode n r sub q (subtask_ended sub s)
 
   pub cancel_host_holds : (a0 : Mode) (a1 : ℕ) (a2 : ℕ) (a3 : ℕ) {s : Core} → ((ex : Option ℕ) → Barred base ex s) → Holds base (cancel_host a0 a1 a2 a3 s)
-  cancel_host_holds mode n r i {s = s} q = trap_if_holds base (was_cancelled i s) trap.SubtaskCancelAfterTerminal (after_cancel mode n r (subtask.Host i) (host_cancelled i s)) (after_cancel_holds mode n r (subtask.Host i) (λ y. host_cancelled_barred i (q y)))
+  cancel_host_holds mode n r i {s = s} q = trap_if_holds base (was_cancelled i s) trap.SubtaskCancelAfterTerminal (after_cancel mode n r (subtask.Host i) (cancel_aborts_host i s)) (after_cancel_holds mode n r (subtask.Host i) (λ y. cancel_aborts_host_barred i (q y)))
 
-  pub cancel_yield_holds : (a0 : Mode) (a1 : ℕ) (a2 : ℕ) (a3 : ℕ) {s : Core} → ((ex : Option ℕ) → Barred base ex s) → (a5 : Bool) → Holds base (cancel_yield a0 a1 a2 a3 s a5)
-  cancel_yield_holds mode n r k {s = s} q true = yield_cancelled_barred n k (q _)
-  cancel_yield_holds mode n r k {s = s} q false = after_cancel_holds mode n r (subtask.Guest k) (λ y. asked_barred k (q y))
-
-  pub cancel_running_holds : (a0 : Mode) (a1 : ℕ) (a2 : ℕ) (a3 : ℕ) {s : Core} → ((ex : Option ℕ) → Barred base ex s) → (a5 : Bool) (a6 : Bool) → Holds base (cancel_running a0 a1 a2 a3 s a5 a6)
-  cancel_running_holds mode n r k {s = s} q true yields = cancel_delivered_to_barred n k (q _)
-  cancel_running_holds mode n r k {s = s} q false yields = cancel_yield_holds mode n r k q yields
-
-  pub cancel_guest_holds : (a0 : Mode) (a1 : ℕ) (a2 : ℕ) (a3 : ℕ) {s : Core} → ((ex : Option ℕ) → Barred base ex s) → (a5 : Bool) (a6 : Bool) → Holds base (cancel_guest a0 a1 a2 a3 s a5 a6)
-  cancel_guest_holds mode n r k {s = s} q true started = ended_row_holds mode n r (subtask.Guest k) q (undelivered_end (event_of (subtask.Guest k) s))
-  cancel_guest_holds mode n r k {s = s} q false true = cancel_running_holds mode n r k q (is_at k s is_callback_wait) (is_at k s is_callback_yield)
-  cancel_guest_holds mode n r k {s = s} q false false = start_withdrawn_barred n r k (q _)
+  pub cancel_guest_holds : (a0 : Mode) (a1 : ℕ) (a2 : ℕ) (a3 : ℕ) {s : Core} → ((ex : Option ℕ) → Barred base ex s) → (a5 : CancelCase) → Holds base (cancel_guest a0 a1 a2 a3 s a5)
+  cancel_guest_holds mode n r k {s = s} q AlreadyEnded = cancel_ended_row_holds mode n r (subtask.Guest k) q (undelivered_end (event_of (subtask.Guest k) s))
+  cancel_guest_holds mode n r k {s = s} q StartNotRun = cancel_withdraws_barred n r k (q _)
+  cancel_guest_holds mode n r k {s = s} q CallbackWaits = cancel_wakes_callback_barred n k (q _)
+  cancel_guest_holds mode n r k {s = s} q CallbackYields = cancel_promotes_yield_barred n k (q _)
+  cancel_guest_holds mode n r k {s = s} q OtherwiseRuns = after_cancel_holds mode n r (subtask.Guest k) (λ y. cancel_asks_barred k (q y))
 
   pub cancel_subtask_holds : (a0 : Mode) (a1 : ℕ) (a2 : ℕ) {s : Core} → ((ex : Option ℕ) → Barred base ex s) → (a4 : Subtask) → Holds base (cancel_subtask a0 a1 a2 s a4)
-  cancel_subtask_holds mode n r {s = s} q (subtask.Guest k) = cancel_guest_holds mode n r k q (has_ended k s) (was_started k s)
+  cancel_subtask_holds mode n r {s = s} q (subtask.Guest k) = cancel_guest_holds mode n r k q (cancel_case k s)
   cancel_subtask_holds mode n r {s = s} q (subtask.Host i) = cancel_host_holds mode n r i q
 
   pub cancel_found_holds : (a0 : Mode) (a1 : ℕ) (a2 : ℕ) {s : Core} → ((ex : Option ℕ) → Barred base ex s) → (a4 : Subtask) → Holds base (cancel_found a0 a1 a2 s a4)
@@ -385,7 +379,7 @@ module _ {base : Core} where
 
   pub cancel_row_holds : (a0 : Mode) (a1 : ℕ) (a2 : ℕ) (a3 : ℕ) {s : Core} → ((ex : Option ℕ) → Barred base ex s) → (a5 : HowFar) → Holds base (cancel_row a0 a1 a2 a3 s a5)
   cancel_row_holds mode n r h {s = s} q (how_far.Cancels sub) = after_cancel_holds mode n r sub (λ y. cancel_resumed_barred n sub (q y))
-  cancel_row_holds mode n r h {s = s} q (how_far.AwaitsEnd sub) = ended_row_holds mode n r sub (λ y. set_join_barred sub join.Nowhere (q y)) (undelivered_end (event_of sub (set_join sub join.Nowhere s)))
+  cancel_row_holds mode n r h {s = s} q (how_far.AwaitsEnd sub) = cancel_ended_row_holds mode n r sub (λ y. set_join_barred sub join.Nowhere (q y)) (undelivered_end (event_of sub (set_join sub join.Nowhere s)))
   cancel_row_holds mode n r h {s = s} q u1 = or_trap_holds base (subtask_at (instance_of n s) h s) trap.BadHandle (cancel_found mode n r s) (λ got. cancel_found_holds mode n r q got)
 
   pub drop_found_holds : (a0 : ℕ) (a1 : ℕ) {s : Core} → ((ex : Option ℕ) → Barred base ex s) → (a3 : Subtask) → Holds base (drop_found a0 a1 s a3)

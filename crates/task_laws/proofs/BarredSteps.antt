@@ -38,7 +38,7 @@ use Rattle.task_rules.specs.Ends.{is_told, may_tell, told}
 use Rattle.task_rules.specs.Once.{begun_holder, holder_at_start, holds_at_start, is_start}
 use Rattle.task_rules.specs.Progress.{Fails, Goes, Never, Ordered, Progress, Stops, Traps, may, or_never, trap_if}
 use Rattle.task_rules.specs.Sets.{chosen, handed_out, set_given}
-use Rattle.task_rules.specs.Takes.{activated, activated_woken, delivered, delivery_row, enters, host_done, may_tell_starting, own_delivered, running, set_delivered, start_admitted, start_held, start_row, started, take_row, thread_taken}
+use Rattle.task_rules.specs.Takes.{activated, activated_woken, delivered, delivery_row, start_sets_flags, host_done, may_tell_starting, own_delivered, running, set_delivered, start_admitted, start_holds, start_row, start_begins, take_row, thread_taken}
 use Rattle.task_machine.specs.declared.records.Delivery.TheVariants as delivery
 use Rattle.task_machine.specs.declared.records.Entry.TheVariants as entry
 use Rattle.task_machine.specs.declared.records.Join.TheVariants as join
@@ -197,22 +197,22 @@ start_parts true h p k = no_way k
 start_parts false true p k = (refl, refl)
 start_parts false false p k = no_way k
 
-enters_shuts : (n : ℕ) (x : ExportKind) (u : Core) (i : ℕ) → is_holding x ≡ true → instance_of n u ≡ i → is_some (get u.instances i) ≡ true → may_not_enter i (enters n x u) ≡ true
+enters_shuts : (n : ℕ) (x : ExportKind) (u : Core) (i : ℕ) → is_holding x ≡ true → instance_of n u ≡ i → is_some (get u.instances i) ≡ true → may_not_enter i (start_sets_flags n x u) ≡ true
 enters_shuts n kind.Sync u i h same there = no_way h
 enters_shuts n kind.Stackful u i h same there = no_way h
 enters_shuts n kind.Blocking u i h same there = subst (λ (j : ℕ). is_some (get u.instances j) ≡ true → may_not_enter j (set_do_not_enter (instance_of n u) true u) ≡ true) same (shut_set (instance_of n u) u) there
 enters_shuts n kind.Callback u i h same there = subst (λ (j : ℕ). is_some (get u.instances j) ≡ true → may_not_enter j (set_do_not_enter (instance_of n u) true u) ≡ true) same (shut_set (instance_of n u) u) there
 
 module _ {instances : ℕ} (some : 0 < instances) where
-  started_shuts : (n : ℕ) (w : Option ℕ) {s : Core} → Housed instances s → is_holding (kind_of (task_of n s) s) ≡ true → may_not_enter (instance_of n s) (started n w s) ≡ true
-  unfolding started
+  started_shuts : (n : ℕ) (w : Option ℕ) {s : Core} → Housed instances s → is_holding (kind_of (task_of n s) s) ≡ true → may_not_enter (instance_of n s) (start_begins n w s) ≡ true
+  unfolding start_begins
   started_shuts n w {s = s} h holding =
       let k = task_of n s in
       let i = instance_of n s in
       let v = with_thread_handle i n s in
       let u = told k status.Started w (set_started k v) in
       let q : Barred s None u = told_barred k status.Started w (set_started_barred k (with_thread_handle_barred i n (unmoved None h))) in
-      shut_place i n place.Running (enters n (kind_of k s) u) (enters_shuts n (kind_of k s) u i holding (home_told k status.Started w n (set_started k v) ∙ (home_started k n v ∙ home_thread_handle i n n s)) (q.exist i (home_there k some h)))
+      shut_place i n place.Running (start_sets_flags n (kind_of k s) u) (enters_shuts n (kind_of k s) u i holding (home_told k status.Started w n (set_started k v) ∙ (home_started k n v ∙ home_thread_handle i n n s)) (q.exist i (home_there k some h)))
 
   activated_shuts : (n : ℕ) (g : Gift) (v : Given) {u : Core} (i : ℕ) → Housed instances u → instance_of n u ≡ i → may_not_enter i (activated n g v u) ≡ true
   unfolding activated
@@ -240,19 +240,19 @@ module _ {instances : ℕ} (some : 0 < instances) where
       absurd (true_is_not_false (sym explicit ∙ (start_parts (is_explicit n s) (is_holding (kind_of (task_of n s) s)) (option_map_or is_start (place_of n s) false) at.0).0))
   start_admitted_begins m n w {s = s} h admitted false explicit = started_begins (at_handle_limit s)
     where
-      shows : (i : ℕ) → begun_holder s (take_label m n w) ≡ Some i → (may_not_enter i s ≡ false) × (may_not_enter i (started n w s) ≡ true)
+      shows : (i : ℕ) → begun_holder s (take_label m n w) ≡ Some i → (may_not_enter i s ≡ false) × (may_not_enter i (start_begins n w s) ≡ true)
       shows i begun =
           let at : (holds_at_start n s ≡ true) × (instance_of n s ≡ i) = holder_of_if (holds_at_start n s) (instance_of n s) i (sym (begun_take m n w s) ∙ begun) in
           let parts : (is_explicit n s ≡ false) × (is_holding (kind_of (task_of n s) s) ≡ true) = start_parts (is_explicit n s) (is_holding (kind_of (task_of n s) s)) (option_map_or is_start (place_of n s) false) at.0 in (
             subst (λ (j : ℕ). may_not_enter j s ≡ false) at.1 (open_start (is_explicit n s) (kind_of (task_of n s) s) (may_not_enter (instance_of n s) s) (backpressure_of (instance_of n s) s == 0) parts.0 parts.1 admitted),
-            subst (λ (j : ℕ). may_not_enter j (started n w s) ≡ true) at.1 (started_shuts n w h parts.1),
+            subst (λ (j : ℕ). may_not_enter j (start_begins n w s) ≡ true) at.1 (started_shuts n w h parts.1),
           )
 
-      if_may : (c : Bool) → Begins s (may c (Goes (take_label m n w) (started n w s) n))
+      if_may : (c : Bool) → Begins s (may c (Goes (take_label m n w) (start_begins n w s) n))
       if_may true = shows
       if_may false = tt
 
-      started_begins : (c : Bool) → Begins s (trap_if c trap.HandleLimit (may (may_tell (task_of n s) w s) (Goes (take_label m n w) (started n w s) n)))
+      started_begins : (c : Bool) → Begins s (trap_if c trap.HandleLimit (may (may_tell (task_of n s) w s) (Goes (take_label m n w) (start_begins n w s) n)))
       started_begins true = tt
       started_begins false = if_may (may_tell (task_of n s) w s)
 
@@ -260,7 +260,7 @@ module _ {instances : ℕ} (some : 0 < instances) where
   start_row_begins m n w {s = s} h true admitted = start_admitted_begins m n w h admitted (is_explicit n s) refl
   start_row_begins m n w {s = s} h false admitted = if_may (may_tell_starting (task_of n s) w s)
     where
-      if_may : (c : Bool) → Begins s (may c (Stops (held_label m n w) (start_held n w s)))
+      if_may : (c : Bool) → Begins s (may c (Stops (held_label m n w) (start_holds n w s)))
       if_may true = λ i begun. none_begun i (begun_held m n w s) begun
       if_may false = tt
 

@@ -2,7 +2,7 @@
 use Rattle.std.specs.Prelude.{Bool, List, None, Option, Some, false, is_some, true, ℕ, ◌+◌, ◌≡◌}
 use Rattle.task_laws.proofs.BarredEnds.{Holds, data_row_holds, may_holds, moved_to_barred, or_never_holds, task_row_holds, told_barred, trap_if_holds}
 use Rattle.task_laws.proofs.BarredFields.{Barred, add_group_barred, call_made_barred, push_high_barred, set_course_barred, set_do_not_enter_barred, set_high_barred, set_low_barred, set_phase_barred, set_place_barred, set_register_barred, set_script_barred, set_stage_barred, set_started_barred, set_starting_published_barred, set_switch_barred, set_trapped_barred, work_queued_barred}
-use Rattle.task_laws.proofs.BarredRows.{forbidding_barred, set_given_barred, set_row_holds, subtask_row_holds, thread_row_holds, with_thread_handle_barred}
+use Rattle.task_laws.proofs.BarredRows.{sync_sets_flag_barred, set_given_barred, set_row_holds, subtask_row_holds, thread_row_holds, with_thread_handle_barred}
 use Rattle.task_laws.proofs.BarredWords.{handed_on_barred, if_barred, published_barred, put_high_barred, remove_threads_barred, stopped_at_barred, taken_barred, unblocked_barred}
 use Rattle.task_laws.proofs.SoundLemmas.{true_is_not_false}
 use Rattle.task_laws.specs.Holders.{callee_of_op}
@@ -32,8 +32,8 @@ use Rattle.task_rules.specs.Progress.{Goes, Stops, may}
 use Rattle.task_rules.specs.Scripts.{export_kind, host_at}
 use Rattle.task_rules.specs.Sets.{chosen, handed_out}
 use Rattle.task_rules.specs.Step.{op_row, struck}
-use Rattle.task_rules.specs.Takes.{activated, activated_woken, awaits_again, delivered, delivery_row, enters, held, host_done, host_result, host_row, host_status, may_tell_starting, own_delivered, popped, pushed, rest_of, running, set_delivered, start_admitted, start_held, start_row, started, starting_is_published, starting_told, take_row, thread_taken, thread_taken_for}
-use Rattle.task_rules.specs.Works.{course_for, followed, pended, work_ended}
+use Rattle.task_rules.specs.Takes.{activated, activated_woken, wait_again, delivered, delivery_row, start_sets_flags, take_holds, host_done, host_result, host_row, host_status, may_tell_starting, own_delivered, popped, pushed, rest_of, running, set_delivered, start_admitted, start_holds, start_row, start_begins, starting_is_published, starting_told, take_row, thread_taken, thread_taken_for}
+use Rattle.task_rules.specs.Works.{course_for, followed, poll_pends, poll_ends}
 use Rattle.task_machine.specs.declared.records.Caller.TheVariants as caller
 use Rattle.task_machine.specs.declared.records.Course.TheVariants as course
 use Rattle.task_machine.specs.declared.records.Delivery.TheVariants as delivery
@@ -75,22 +75,22 @@ module _ {base : Core} {ex : Option ℕ} where
   unfolding starting_told
   starting_told_barred k w {s = s} q = if_barred (starting_is_published k s) s (told k status.Starting w (set_starting_published k s)) q (told_barred k status.Starting w (set_starting_published_barred k q))
 
-  pub held_barred : (a0 : ℕ) (a1 : Why) {s : Core} → Barred base ex s → Barred base ex (held a0 a1 s)
-  unfolding held
-  held_barred n w {s = s} q = stopped_at_barred n (place.Held w) q
+  pub take_holds_barred : (a0 : ℕ) (a1 : Why) {s : Core} → Barred base ex s → Barred base ex (take_holds a0 a1 s)
+  unfolding take_holds
+  take_holds_barred n w {s = s} q = stopped_at_barred n (place.Held w) q
 
-  pub start_held_barred : (a0 : ℕ) (a1 : Option ℕ) {s : Core} → Barred base ex s → Barred base ex (start_held a0 a1 s)
-  unfolding start_held
-  start_held_barred n w {s = s} q = held_barred n why.Start (starting_told_barred (task_of n s) w q)
+  pub start_holds_barred : (a0 : ℕ) (a1 : Option ℕ) {s : Core} → Barred base ex s → Barred base ex (start_holds a0 a1 s)
+  unfolding start_holds
+  start_holds_barred n w {s = s} q = take_holds_barred n why.Start (starting_told_barred (task_of n s) w q)
 
-  pub enters_barred : (a0 : ℕ) (a1 : ExportKind) {s : Core} → Barred base ex s → Barred base ex (enters a0 a1 s)
-  enters_barred n kind.Sync {s = s} q = forbidding_barred n (instance_of n s) kind.Sync q
-  enters_barred n kind.Stackful {s = s} q = q
-  enters_barred n x {s = s} q = set_do_not_enter_barred (instance_of n s) true q (λ h. absurd (true_is_not_false h))
+  pub start_sets_flags_barred : (a0 : ℕ) (a1 : ExportKind) {s : Core} → Barred base ex s → Barred base ex (start_sets_flags a0 a1 s)
+  start_sets_flags_barred n kind.Sync {s = s} q = sync_sets_flag_barred n (instance_of n s) kind.Sync q
+  start_sets_flags_barred n kind.Stackful {s = s} q = q
+  start_sets_flags_barred n x {s = s} q = set_do_not_enter_barred (instance_of n s) true q (λ h. absurd (true_is_not_false h))
 
-  pub started_barred : (a0 : ℕ) (a1 : Option ℕ) {s : Core} → Barred base ex s → Barred base ex (started a0 a1 s)
-  unfolding started
-  started_barred n w {s = s} q = let k = task_of n s in set_place_barred n place.Running (enters_barred n (kind_of k s) (told_barred k status.Started w (set_started_barred k (with_thread_handle_barred (instance_of n s) n q))))
+  pub start_begins_barred : (a0 : ℕ) (a1 : Option ℕ) {s : Core} → Barred base ex s → Barred base ex (start_begins a0 a1 s)
+  unfolding start_begins
+  start_begins_barred n w {s = s} q = let k = task_of n s in set_place_barred n place.Running (start_sets_flags_barred n (kind_of k s) (told_barred k status.Started w (set_started_barred k (with_thread_handle_barred (instance_of n s) n q))))
 
   pub running_barred : (a0 : ℕ) {s : Core} → Barred base ex s → Barred base ex (running a0 s)
   unfolding running
@@ -104,22 +104,22 @@ module _ {base : Core} {ex : Option ℕ} where
   unfolding activated_woken
   activated_woken_barred n x w g v {s = s} q = activated_barred n g v (handed_on_barred x g w q)
 
-  pub awaits_again_barred : (a0 : ℕ) (a1 : ℕ) {s : Core} → Barred base ex s → Barred base ex (awaits_again a0 a1 s)
-  unfolding awaits_again
-  awaits_again_barred n x {s = s} q = stopped_at_barred n (place.Waiting x true) q
+  pub wait_again_barred : (a0 : ℕ) (a1 : ℕ) {s : Core} → Barred base ex s → Barred base ex (wait_again a0 a1 s)
+  unfolding wait_again
+  wait_again_barred n x {s = s} q = stopped_at_barred n (place.Waiting x true) q
 
-  pub pended_barred : (a0 : ℕ) (a1 : HostDef) {s : Core} → Barred base ex s → Barred base ex (pended a0 a1 s)
-  unfolding pended
-  pended_barred i host {s = s} q = set_course_barred i (course.Goes host) q
+  pub poll_pends_barred : (a0 : ℕ) (a1 : HostDef) {s : Core} → Barred base ex s → Barred base ex (poll_pends a0 a1 s)
+  unfolding poll_pends
+  poll_pends_barred i host {s = s} q = set_course_barred i (course.Goes host) q
 
   pub followed_barred : (a0 : WorkCaller) (a1 : ℕ) {s : Core} → Barred base ex s → Barred base ex (followed a0 a1 s)
   followed_barred work_caller.Spawn i {s = s} q = set_stage_barred i stage.Ended q
   followed_barred (work_caller.Async n to) i {s = s} q = push_high_barred (entry.Host i) (set_stage_barred i stage.Finishing q)
   followed_barred (work_caller.Sync n) i {s = s} q = unblocked_barred (blocked_on (subtask.Host i) s) (set_stage_barred i stage.Ended q)
 
-  pub work_ended_barred : (a0 : ℕ) (a1 : Option ℕ) {s : Core} → Barred base ex s → Barred base ex (work_ended a0 a1 s)
-  unfolding work_ended
-  work_ended_barred i v {s = s} q = followed_barred (work_caller_of i s) i (set_phase_barred i phase.Complete (set_course_barred i (course_for v) q))
+  pub poll_ends_barred : (a0 : ℕ) (a1 : Option ℕ) {s : Core} → Barred base ex s → Barred base ex (poll_ends a0 a1 s)
+  unfolding poll_ends
+  poll_ends_barred i v {s = s} q = followed_barred (work_caller_of i s) i (set_phase_barred i phase.Complete (set_course_barred i (course_for v) q))
 
   pub main_started_barred : (a0 : Component) (a1 : Callee) (a2 : List ℕ) {s : Core} → Barred base ex s → is_some (get base.instances a1.instance) ≡ true → Barred base ex (main_started a0 a1 a2 s)
   unfolding main_started
@@ -143,14 +143,14 @@ module _ {base : Core} where
 
   pub start_admitted_holds : (a0 : Mark) (a1 : ℕ) (a2 : Option ℕ) {s : Core} → ((ex : Option ℕ) → Barred base ex s) → (a4 : Bool) → Holds base (start_admitted a0 a1 a2 s a4)
   start_admitted_holds m n w {s = s} q true = running_barred n (q _)
-  start_admitted_holds m n w {s = s} q false = trap_if_holds base (at_handle_limit s) trap.HandleLimit (may (may_tell (task_of n s) w s) (Goes (take_label m n w) (started n w s) n)) (may_holds base (may_tell (task_of n s) w s) (Goes (take_label m n w) (started n w s) n) (started_barred n w (q _)))
+  start_admitted_holds m n w {s = s} q false = trap_if_holds base (at_handle_limit s) trap.HandleLimit (may (may_tell (task_of n s) w s) (Goes (take_label m n w) (start_begins n w s) n)) (may_holds base (may_tell (task_of n s) w s) (Goes (take_label m n w) (start_begins n w s) n) (start_begins_barred n w (q _)))
 
   pub start_row_holds : (a0 : Mark) (a1 : ℕ) (a2 : Option ℕ) {s : Core} → ((ex : Option ℕ) → Barred base ex s) → (a4 : Bool) → Holds base (start_row a0 a1 a2 s a4)
   start_row_holds m n w {s = s} q true = start_admitted_holds m n w q (is_explicit n s)
-  start_row_holds m n w {s = s} q false = may_holds base (may_tell_starting (task_of n s) w s) (Stops (held_label m n w) (start_held n w s)) (start_held_barred n w (q _))
+  start_row_holds m n w {s = s} q false = may_holds base (may_tell_starting (task_of n s) w s) (Stops (held_label m n w) (start_holds n w s)) (start_holds_barred n w (q _))
 
   pub set_delivered_holds : (a0 : Mark) (a1 : ℕ) (a2 : ℕ) (a3 : Choice) {s : Core} → ((ex : Option ℕ) → Barred base ex s) → (a5 : Gift) → Holds base (set_delivered a0 a1 a2 a3 s a5)
-  set_delivered_holds m n x ch {s = s} q NoGift = awaits_again_barred n x (q _)
+  set_delivered_holds m n x ch {s = s} q NoGift = wait_again_barred n x (q _)
   set_delivered_holds m n x ch {s = s} q g = let v = handed_out ch s g in may_holds base (may_hand_on x g ch.woken s) (Goes (event_label m n v ch.woken) (activated_woken n x ch.woken g v s) n) (activated_woken_barred n x ch.woken g v (q _))
 
   pub own_delivered_holds : (a0 : Mark) (a1 : ℕ) {s : Core} → ((ex : Option ℕ) → Barred base ex s) → (a3 : Gift) → Holds base (own_delivered a0 a1 s a3)
@@ -162,7 +162,7 @@ module _ {base : Core} where
 
   pub delivery_row_holds : (a0 : Mark) (a1 : ℕ) (a2 : Choice) {s : Core} → ((ex : Option ℕ) → Barred base ex s) → (a4 : Delivery) (a5 : Bool) → Holds base (delivery_row a0 a1 a2 s a4 a5)
   delivery_row_holds m n ch {s = s} q d true = delivered_holds m n ch q d
-  delivery_row_holds m n ch {s = s} q d false = held_barred n (why.Delivery d) (q _)
+  delivery_row_holds m n ch {s = s} q d false = take_holds_barred n (why.Delivery d) (q _)
 
   pub thread_taken_for_holds : (a0 : Mark) (a1 : ℕ) (a2 : Choice) {s : Core} → ((ex : Option ℕ) → Barred base ex s) → (a4 : Why) → Holds base (thread_taken_for a0 a1 a2 s a4)
   thread_taken_for_holds m n ch {s = s} q why.Start = start_row_holds m n ch.woken q (admits n s why.Start)

@@ -6,7 +6,7 @@ use Rattle.std.specs.Prelude.{Bool, List, None, Option, Some, [], false, filter,
 use Rattle.task_laws.proofs.BarredEnds.{Holds}
 use Rattle.task_laws.proofs.BarredFields.{Barred, Home, set_trapped_barred, take_result_barred}
 use Rattle.task_laws.proofs.BarredSteps.{Begins, Housed, none_begun, take_row_begins, unmoved}
-use Rattle.task_laws.proofs.BarredTakes.{main_aborted_barred, main_spawned_barred, main_started_barred, op_row_holds, pended_barred, popped_barred, struck_barred, take_row_holds, work_ended_barred}
+use Rattle.task_laws.proofs.BarredTakes.{main_aborted_barred, main_spawned_barred, main_started_barred, op_row_holds, poll_pends_barred, popped_barred, struck_barred, take_row_holds, poll_ends_barred}
 use Rattle.task_laws.proofs.EachLemmas.{each_empty}
 use Rattle.task_laws.proofs.LabelLemmas.{Untaken, did_untaken, is_take}
 use Rattle.task_laws.proofs.SoundFields.{no_way}
@@ -29,7 +29,7 @@ use Rattle.task_machine.specs.declared.scenario.MainOpDef.{MainOpDef}
 use Rattle.task_machine.specs.declared.trap.Trap.{Trap}
 use Rattle.task_machine.specs.declared.words.Mark.{Mark}
 use Rattle.task_rules.proofs.KeepWords.{same}
-use Rattle.task_rules.specs.Ends.{left}
+use Rattle.task_rules.specs.Ends.{exit_stops}
 use Rattle.task_rules.specs.History.{history}
 use Rattle.task_rules.specs.MainOps.{Answers, Does, MainProgress, Pends, act_of, advanced_main, finish_act, finish_result, has_interesting, is_complete, is_ready_for_call, line_of, main_row, op_at, spawned_at, start_act, start_refusal, started_at, unless_pending}
 use Rattle.task_rules.specs.Once.{begun_holder, holds_one, is_among, less_holder, returned_holder, with_holder}
@@ -40,7 +40,7 @@ use Rattle.task_rules.specs.Stalled.{Setting, deadlock_trap, is_unended_take, ma
 use Rattle.task_rules.specs.Step.{DeadlockStep, EmptyFor, FuturesStep, MainProgresses, MainStep, Polled, Progresses, RestStep, ScriptStep, Step, TakeStep, TurnStep, did, entry_number, struck, trap_label}
 use Rattle.task_rules.specs.Takes.{popped, take_row}
 use Rattle.task_rules.specs.Turns.{at_turn, goes_to}
-use Rattle.task_rules.specs.Works.{Ends, FailsNow, Poll, StillPends, has_moving_work, next_polled, pended, poll_of, work_ended}
+use Rattle.task_rules.specs.Works.{Ends, FailsNow, Poll, StillPends, has_moving_work, next_polled, poll_pends, poll_of, poll_ends}
 use Rattle.task_machine.specs.declared.label.CallLabel.TheVariants as call_label
 use Rattle.task_machine.specs.declared.label.Label.TheVariants as label
 use Rattle.task_machine.specs.declared.label.LoopLabel.TheVariants as loop_label
@@ -76,11 +76,11 @@ none_inside s inside (Some i) shut unshut = go (is_among inside (Some i)) refl
     go false e = ap (λ b. not b) e
 
 among_head : (i j k : ℕ) (ks : List ℕ) → (list_any (λ n. j == n) (filter (λ n. not (i == n)) ks) ≡ true → (list_any (λ n. j == n) ks ≡ true) × (i ≡ j → ⊥)) → (b : Bool) → (i == k) ≡ b → (c : Bool) → (j == k) ≡ c → list_any (λ n. j == n) (if not (i == k) then k ∷ filter (λ n. not (i == n)) ks else filter (λ n. not (i == n)) ks) ≡ true → (((j == k) || list_any (λ n. j == n) ks) ≡ true) × (i ≡ j → ⊥)
-among_head i j k ks left true e c f h = let r = left (ap (λ b. list_any (λ n. j == n) (if not b then k ∷ filter (λ n. not (i == n)) ks else filter (λ n. not (i == n)) ks)) (sym e) ∙ h) in (or_later (j == k) (list_any (λ n. j == n) ks) r.0, r.1)
-among_head i j k ks left false e true f h = (ap (λ b. b || list_any (λ n. j == n) ks) f, λ same. true_is_not_false (sym f ∙ (ap (λ n. n == k) (sym same) ∙ e)))
-among_head i j k ks left false e false f h =
+among_head i j k ks exit_stops true e c f h = let r = exit_stops (ap (λ b. list_any (λ n. j == n) (if not b then k ∷ filter (λ n. not (i == n)) ks else filter (λ n. not (i == n)) ks)) (sym e) ∙ h) in (or_later (j == k) (list_any (λ n. j == n) ks) r.0, r.1)
+among_head i j k ks exit_stops false e true f h = (ap (λ b. b || list_any (λ n. j == n) ks) f, λ same. true_is_not_false (sym f ∙ (ap (λ n. n == k) (sym same) ∙ e)))
+among_head i j k ks exit_stops false e false f h =
     let g : ((j == k) || list_any (λ n. j == n) (filter (λ n. not (i == n)) ks)) ≡ true = ap (λ b. list_any (λ n. j == n) (if not b then k ∷ filter (λ n. not (i == n)) ks else filter (λ n. not (i == n)) ks)) (sym e) ∙ h in
-    let r = left (ap (λ b. b || list_any (λ n. j == n) (filter (λ n. not (i == n)) ks)) (sym f) ∙ g) in
+    let r = exit_stops (ap (λ b. b || list_any (λ n. j == n) (filter (λ n. not (i == n)) ks)) (sym f) ∙ g) in
     (or_later (j == k) (list_any (λ n. j == n) ks) r.0, r.1)
 
 -- who is left of a list less one
@@ -106,8 +106,8 @@ still_shut s t inside o ex shut begun q i among = let r = left_of (with_holder i
 -- ---- The first state
 
 filled_next : {X : Type 0} (x : X) (n i : ℕ) → i < suc n → (i < n → is_some (get (filled x n) i) ≡ true) → (b : Bool) → (i == n) ≡ b → is_some (get (insert (filled x n) n x) i) ≡ true
-filled_next x n i below left true e = ap (λ o. is_some o) (get-insert (filled x n) n x i ∙ ap (λ c. cond c (Some x) (get (filled x n) i)) e)
-filled_next x n i below left false e = ap (λ o. is_some o) (get-insert (filled x n) n x i ∙ ap (λ c. cond c (Some x) (get (filled x n) i)) e) ∙ left (below_next below (λ same. true_is_not_false (sym (same_number i) ∙ (ap (λ k. i == k) same ∙ e))))
+filled_next x n i below exit_stops true e = ap (λ o. is_some o) (get-insert (filled x n) n x i ∙ ap (λ c. cond c (Some x) (get (filled x n) i)) e)
+filled_next x n i below exit_stops false e = ap (λ o. is_some o) (get-insert (filled x n) n x i ∙ ap (λ c. cond c (Some x) (get (filled x n) i)) e) ∙ exit_stops (below_next below (λ same. true_is_not_false (sym (same_number i) ∙ (ap (λ k. i == k) same ∙ e))))
 
 filled_at : {X : Type 0} (x : X) (n i : ℕ) → i < n → is_some (get (filled x n) i) ≡ true
 filled_at x ℕ.zero i below = absurd (not_below_zero below)
@@ -250,8 +250,8 @@ module _ {x : Setting} {instances : ℕ} (exist : CalleesExist x instances) wher
 
   polled_holds : (s : State) → Housed instances s.core → IsScripted s.main → (i : ℕ) (p : Poll) (l : Label) (t : State) → Polled s i p l t → StepHolds s l t
   unfolding at_turn
-  polled_holds s h m i (StillPends host) l t is = step_holds s l (label.Loop (loop_label.FuturePends i)) t (goes_to s (pended i host s.core) (turn.Futures i)) is.0 is.1 (quiet_step s (label.Loop (loop_label.FuturePends i)) (goes_to s (pended i host s.core) (turn.Futures i)) refl (pended_barred i host (unmoved None h)) m)
-  polled_holds s h m i (Ends v) l t is = step_holds s l (label.Loop (loop_label.FutureEnds i)) t (goes_to s (work_ended i v s.core) (turn.Take true)) is.0 is.1 (quiet_step s (label.Loop (loop_label.FutureEnds i)) (goes_to s (work_ended i v s.core) (turn.Take true)) refl (work_ended_barred i v (unmoved None h)) m)
+  polled_holds s h m i (StillPends host) l t is = step_holds s l (label.Loop (loop_label.FuturePends i)) t (goes_to s (poll_pends i host s.core) (turn.Futures i)) is.0 is.1 (quiet_step s (label.Loop (loop_label.FuturePends i)) (goes_to s (poll_pends i host s.core) (turn.Futures i)) refl (poll_pends_barred i host (unmoved None h)) m)
+  polled_holds s h m i (Ends v) l t is = step_holds s l (label.Loop (loop_label.FutureEnds i)) t (goes_to s (poll_ends i v s.core) (turn.Take true)) is.0 is.1 (quiet_step s (label.Loop (loop_label.FutureEnds i)) (goes_to s (poll_ends i v s.core) (turn.Take true)) refl (poll_ends_barred i v (unmoved None h)) m)
   polled_holds s h m i FailsNow l t is = step_holds s l (label.Loop (loop_label.FutureFails i)) t (goes_to s (set_trapped s.core) turn.Over) is.0 is.1 (quiet_step s (label.Loop (loop_label.FutureFails i)) (goes_to s (set_trapped s.core) turn.Over) refl (set_trapped_barred (unmoved None h)) m)
 
   futures_holds : (s : State) → Housed instances s.core → IsScripted s.main → (o : Option ℕ) (l : Label) (t : State) → FuturesStep s o l t → StepHolds s l t

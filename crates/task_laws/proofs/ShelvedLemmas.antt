@@ -4,7 +4,7 @@ use Rattle.std.specs.Option.{option_map_or}
 use Rattle.std.specs.Prelude.{Bool, List, None, Option, Some, [], false, is_some, not, option_and_then, option_map, true, unwrap_or, ℕ, ◌==◌, ◌∷◌, ◌≡◌}
 use Rattle.task_laws.proofs.ShelvedFields.{Shelved, set_in, set_trapped_shelved, take_result_shelved}
 use Rattle.task_laws.proofs.ShelvedRows.{Stays}
-use Rattle.task_laws.proofs.ShelvedTakes.{main_aborted_shelved, main_spawned_shelved, main_started_shelved, op_row_stays, pended_shelved, popped_shelved, struck_shelved, take_row_stays, work_ended_shelved}
+use Rattle.task_laws.proofs.ShelvedTakes.{main_aborted_shelved, main_spawned_shelved, main_started_shelved, op_row_stays, poll_pends_shelved, popped_shelved, struck_shelved, take_row_stays, poll_ends_shelved}
 use Rattle.task_laws.proofs.SoundFields.{no_way}
 use Rattle.task_laws.specs.Handles.{SetsNamedAtHome, SetsNamedOnce}
 use Rattle.task_laws.specs.Settings.{Reached}
@@ -103,8 +103,8 @@ open_progresses_shelved s q (Answers v) l t k is = shelved_is t _ is.1 q
 
 polled_shelved : (s : State) → Tidy s.core → (i : ℕ) (p : Poll) (l : Label) (t : State) → Polled s i p l t → Shelved s.core t.core
 unfolding at_turn
-polled_shelved s q i (StillPends host) l t is = shelved_is t _ is.1 (pended_shelved i host q)
-polled_shelved s q i (Ends v) l t is = shelved_is t _ is.1 (work_ended_shelved i v q)
+polled_shelved s q i (StillPends host) l t is = shelved_is t _ is.1 (poll_pends_shelved i host q)
+polled_shelved s q i (Ends v) l t is = shelved_is t _ is.1 (poll_ends_shelved i v q)
 polled_shelved s q i FailsNow l t is = shelved_is t _ is.1 (set_trapped_shelved q)
 
 futures_shelved : (s : State) → Tidy s.core → (n : ℕ) (o : Option ℕ) → next_polled n s.core ≡ o → (l : Label) (t : State) → FuturesStep s o l t → Shelved s.core t.core

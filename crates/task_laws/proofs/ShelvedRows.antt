@@ -29,15 +29,15 @@ use Rattle.task_machine.specs.declared.records.Why.{Why}
 use Rattle.task_machine.specs.declared.trap.Trap.{Trap}
 use Rattle.task_machine.specs.declared.words.Given.{Given}
 use Rattle.task_machine.specs.declared.words.Status.{Status}
-use Rattle.task_rules.specs.Calls.{AtOnce, Failing, FirstPoll, Later, answered, blocked, call_answered, call_begins, call_blocked, call_host_polled, call_host_row, call_pending, call_returned, call_row, call_status, call_sync_begins, call_sync_host_polled, call_sync_host_row, call_sync_row, call_sync_status, called, called_back, enter_row, entered, first_poll, forbidding, host_answered, host_blocked, host_pending, host_ready, new_thread, next_thread, next_work, put_back, settle_group_of, status_found, suspending, with_handle, with_thread_handle, work_answered, work_deleted, work_group, work_value}
-use Rattle.task_rules.specs.Cancels.{Async, Mode, Sync, aborted_phase, after_cancel, asked, awaiting, behind_switch, blocked_code, by_end, cancel_delivered_to, cancel_found, cancel_guest, cancel_host, cancel_resumed, cancel_row, cancel_running, cancel_subtask, cancel_yield, drop_found, drop_row, dropped, end_taken, ended_row, host_cancelled, is_callback_wait, lets_go_on, not_ended_row, pauses, start_withdrawn, subtask_instance, subtask_row, subtask_settled, yield_cancelled}
+use Rattle.task_rules.specs.Calls.{AtOnce, Failing, FirstPoll, Later, answered, call_stops, call_answered, call_begins, call_sync_stops, call_host_polled, call_host_row, call_pending, call_returned, call_row, call_status, call_sync_begins, call_sync_host_polled, call_sync_host_row, call_sync_row, call_sync_status, call_queues, call_resumes, enter_row, enter_runs, first_poll, sync_sets_flag, host_answered, call_sync_host_stops, host_pending, host_ready, new_thread, next_thread, next_work, put_back, settle_group_of, status_found, call_clears_flag, with_handle, with_thread_handle, work_answered, work_deleted, work_group, work_value}
+use Rattle.task_rules.specs.Cancels.{AlreadyEnded, CallbackWaits, CallbackYields, CancelCase, OtherwiseRuns, StartNotRun, cancel_case, Async, Mode, Sync, aborted_phase, after_cancel, cancel_asks, cancel_stops, behind_switch, blocked_code, cancel_by_end, cancel_wakes_callback, cancel_found, cancel_guest, cancel_host, cancel_resumed, cancel_row, cancel_subtask, drop_found, drop_row, dropped, cancel_takes_end, cancel_ended_row, cancel_aborts_host, is_callback_wait, cancel_goes_behind, cancel_unended_row, pauses, cancel_withdraws, subtask_instance, subtask_row, subtask_settled, cancel_promotes_yield}
 use Rattle.task_rules.specs.Data.{advanced, assigned, data_row, moved_to, skip_row, skipped, stored}
-use Rattle.task_rules.specs.Ends.{awaited, blocking_exit_row, blocking_left, cancelled, code_row, deactivated, direct_exit_row, direct_exit_to, direct_left, exit_row, exit_row_for, finished, found, has_event_for, held_out, implicit_exit_row, is_told, kind_end, kind_exit_row, leave_row, leaves_no_result, left, let_in, may_tell, own_or_none, passes_after_return, passes_after_stop, restored, result_given, returned, sync_exit_row, sync_left, told, wait_end, yielded}
+use Rattle.task_rules.specs.Ends.{code_waits, blocking_exit_row, blocking_exits, cancelled, code_row, code_stops, direct_exit_row, direct_exit_to, direct_exits, exit_row, exit_row_for, code_exits, code_finds, has_event_for, held_by_flag, implicit_exit_row, is_told, code_kind_row, kind_exit_row, thread_exit_row, leaves_no_result, exit_stops, end_reopens, may_tell, own_or_none, passes_after_return, passes_after_stop, exit_restores, result_given, returned, sync_exit_row, sync_exits, told, code_wait_row, code_yields}
 use Rattle.task_rules.specs.Progress.{Fails, Goes, Never, Ordered, Progress, Stops, Traps, may, or_never, or_trap, trap_if}
 use Rattle.task_rules.specs.Scripts.{export_kind, host_at, registers_for, script_of, slot_at, value_of, values_in}
-use Rattle.task_rules.specs.Sets.{begun_waiting, chosen, finds_nothing, given_code, given_handle, given_result, handed_out, join_done, join_row, join_to, joined, joins, may_wake_new, poll_row, poll_takes, received, received_woken, set_drop_found, set_drop_row, set_dropped, set_given, set_made, set_new_row, set_row, wait_begins, wait_goes_on, wait_row, wait_takes, waiting, wakes_joined}
-use Rattle.task_rules.specs.Takes.{held, started}
-use Rattle.task_rules.specs.Task.{cancel_done, dec_from, dec_row, inc_row, lowered, opened, raised, ret_bad_row, ret_done, ret_row, task_cancel_row, task_row}
+use Rattle.task_rules.specs.Sets.{wait_stops_checked, chosen, finds_nothing, given_code, given_handle, given_result, handed_out, join_done, join_row, join_to, joined, joins, may_wake_new, poll_row, poll_takes, received, received_woken, set_drop_found, set_drop_row, set_dropped, set_given, set_made, set_new_row, set_row, wait_begins, wait_goes_on, wait_row, wait_takes, wait_stops, wakes_joined}
+use Rattle.task_rules.specs.Takes.{take_holds, start_begins}
+use Rattle.task_rules.specs.Task.{task_cancel_done, dec_from, dec_row, inc_row, dec_lowers, dec_opens, inc_raises, ret_bad_row, ret_done, ret_row, task_cancel_row, task_row}
 use Rattle.task_rules.specs.Threads.{Halt, Suspension, Yielding, by_how_far, halt_row, halted, halted_checked, halted_promoting, halted_resuming, halting, halts, has_yielded, resume_later_found, resume_later_row, resume_why, resumed_later, then_promote, then_promote_found, then_promote_row, then_resume_found, then_resume_row, thread_index_row, thread_made, thread_new_label, thread_new_row, thread_row}
 use Rattle.task_machine.specs.declared.records.CallEnd.TheVariants as call_end
 use Rattle.task_machine.specs.declared.label.CallLabel.TheVariants as call_label
@@ -147,84 +147,84 @@ module _ {base : Core} where
   unfolding cancelled
   cancelled_shelved k w {s = s} q = told_shelved k status.ReturnCancelled w (set_end_shelved k call_end.ReturnCancelled q)
 
-  pub let_in_shelved : (a0 : ℕ) (a1 : List ℕ) {s : Core} → Shelved base s → Shelved base (let_in a0 a1 s)
-  unfolding let_in
-  let_in_shelved i order {s = s} q = released_shelved order (set_do_not_enter_shelved i false q)
+  pub end_reopens_shelved : (a0 : ℕ) (a1 : List ℕ) {s : Core} → Shelved base s → Shelved base (end_reopens a0 a1 s)
+  unfolding end_reopens
+  end_reopens_shelved i order {s = s} q = released_shelved order (set_do_not_enter_shelved i false q)
 
-  pub restored_shelved : (a0 : ℕ) {s : Core} → Shelved base s → Shelved base (restored a0 s)
-  unfolding restored
-  restored_shelved n {s = s} q = set_do_not_suspend_shelved (instance_of n s) (unwrap_or (saved_own_of n s) false) q
+  pub exit_restores_shelved : (a0 : ℕ) {s : Core} → Shelved base s → Shelved base (exit_restores a0 s)
+  unfolding exit_restores
+  exit_restores_shelved n {s = s} q = set_do_not_suspend_shelved (instance_of n s) (unwrap_or (saved_own_of n s) false) q
 
-  pub left_shelved : (a0 : ℕ) {s : Core} → Shelved base s → Shelved base (left a0 s)
-  unfolding left
-  left_shelved n {s = s} q = ended_shelved n (stopped_shelved (foot_of n s) (checked_shelved (instance_of n s) q))
+  pub exit_stops_shelved : (a0 : ℕ) {s : Core} → Shelved base s → Shelved base (exit_stops a0 s)
+  unfolding exit_stops
+  exit_stops_shelved n {s = s} q = ended_shelved n (stopped_shelved (foot_of n s) (checked_shelved (instance_of n s) q))
 
-  pub leave_row_stays : (a0 : ℕ) {s : Core} → Shelved base s → Stays base (leave_row a0 s)
-  leave_row_stays n {s = s} q = trap_if_stays base (not (passes_check (instance_of n s) s)) trap.CannotBlockSyncTask (trap_if (leaves_no_result n s) trap.NoAsyncResult (Stops (exit_label n None) (left n s))) (trap_if_stays base (leaves_no_result n s) trap.NoAsyncResult (Stops (exit_label n None) (left n s)) (left_shelved n q))
+  pub thread_exit_row_stays : (a0 : ℕ) {s : Core} → Shelved base s → Stays base (thread_exit_row a0 s)
+  thread_exit_row_stays n {s = s} q = trap_if_stays base (not (passes_check (instance_of n s) s)) trap.CannotBlockSyncTask (trap_if (leaves_no_result n s) trap.NoAsyncResult (Stops (exit_label n None) (exit_stops n s))) (trap_if_stays base (leaves_no_result n s) trap.NoAsyncResult (Stops (exit_label n None) (exit_stops n s)) (exit_stops_shelved n q))
 
-  pub sync_left_shelved : (a0 : ℕ) (a1 : Option ℕ) {s : Core} → Shelved base s → Shelved base (sync_left a0 a1 s)
-  unfolding sync_left
-  sync_left_shelved n w {s = s} q = ended_shelved n (stopped_shelved (foot_of n s) (returned_shelved (task_of n s) (register_of n 0 s) w (restored_shelved n q)))
+  pub sync_exits_shelved : (a0 : ℕ) (a1 : Option ℕ) {s : Core} → Shelved base s → Shelved base (sync_exits a0 a1 s)
+  unfolding sync_exits
+  sync_exits_shelved n w {s = s} q = ended_shelved n (stopped_shelved (foot_of n s) (returned_shelved (task_of n s) (register_of n 0 s) w (exit_restores_shelved n q)))
 
   pub sync_exit_row_stays : (a0 : ℕ) (a1 : Option ℕ) {s : Core} → Shelved base s → Stays base (sync_exit_row a0 a1 s)
-  sync_exit_row_stays n w {s = s} q = may_stays base (may_tell (task_of n s) w s) (Stops (exit_label n w) (sync_left n w s)) (sync_left_shelved n w q)
+  sync_exit_row_stays n w {s = s} q = may_stays base (may_tell (task_of n s) w s) (Stops (exit_label n w) (sync_exits n w s)) (sync_exits_shelved n w q)
 
-  pub blocking_left_shelved : (a0 : ℕ) (a1 : Option ℕ) (a2 : List ℕ) {s : Core} → Shelved base s → Shelved base (blocking_left a0 a1 a2 s)
-  unfolding blocking_left
-  blocking_left_shelved n w order {s = s} q = left_shelved n (returned_shelved (task_of n s) (register_of n 0 s) w (let_in_shelved (instance_of n s) order q))
+  pub blocking_exits_shelved : (a0 : ℕ) (a1 : Option ℕ) (a2 : List ℕ) {s : Core} → Shelved base s → Shelved base (blocking_exits a0 a1 a2 s)
+  unfolding blocking_exits
+  blocking_exits_shelved n w order {s = s} q = exit_stops_shelved n (returned_shelved (task_of n s) (register_of n 0 s) w (end_reopens_shelved (instance_of n s) order q))
 
   pub blocking_exit_row_stays : (a0 : ℕ) (a1 : Option ℕ) {s : Core} → Shelved base s → Stays base (blocking_exit_row a0 a1 s)
-  blocking_exit_row_stays n w {s = s} q = let held = held_out (instance_of n s) s in trap_if_stays base (not (passes_after_return (instance_of n s) (task_of n s) held s)) trap.CannotBlockSyncTask (may (may_tell (task_of n s) w s) (Ordered held (λ order. Stops (exit_label n w) (blocking_left n w order s)))) (may_stays base (may_tell (task_of n s) w s) (Ordered held (λ order. Stops (exit_label n w) (blocking_left n w order s))) (λ order. blocking_left_shelved n w order q))
+  blocking_exit_row_stays n w {s = s} q = let held = held_by_flag (instance_of n s) s in trap_if_stays base (not (passes_after_return (instance_of n s) (task_of n s) held s)) trap.CannotBlockSyncTask (may (may_tell (task_of n s) w s) (Ordered held (λ order. Stops (exit_label n w) (blocking_exits n w order s)))) (may_stays base (may_tell (task_of n s) w s) (Ordered held (λ order. Stops (exit_label n w) (blocking_exits n w order s))) (λ order. blocking_exits_shelved n w order q))
 
-  pub direct_left_shelved : (a0 : ℕ) (a1 : ℕ) (a2 : ℕ) {s : Core} → Shelved base s → Shelved base (direct_left a0 a1 a2 s)
-  unfolding direct_left
-  direct_left_shelved n m v {s = s} q = set_how_far_shelved m (how_far.Answered v) (set_place_shelved m place.Running (ended_shelved n (set_end_shelved (task_of n s) call_end.Returned q)))
+  pub direct_exits_shelved : (a0 : ℕ) (a1 : ℕ) (a2 : ℕ) {s : Core} → Shelved base s → Shelved base (direct_exits a0 a1 a2 s)
+  unfolding direct_exits
+  direct_exits_shelved n m v {s = s} q = set_how_far_shelved m (how_far.Answered v) (set_place_shelved m place.Running (ended_shelved n (set_end_shelved (task_of n s) call_end.Returned q)))
 
   pub direct_exit_to_stays : (a0 : ℕ) (a1 : ExportKind) {s : Core} → Shelved base s → (a3 : Option ℕ) → Stays base (direct_exit_to a0 a1 s a3)
   direct_exit_to_stays n x {s = s} q None = tt
-  direct_exit_to_stays n kind.Sync {s = s} q (Some m) = direct_left_shelved n m (register_of n 0 s) (restored_shelved n q)
-  direct_exit_to_stays n x {s = s} q (Some m) = trap_if_stays base (not (passes_check (instance_of n s) s)) trap.CannotBlockSyncTask (Goes (exit_label n None) (direct_left n m (register_of n 0 s) (checked (instance_of n s) s)) m) (direct_left_shelved n m (register_of n 0 s) (checked_shelved (instance_of n s) q))
+  direct_exit_to_stays n kind.Sync {s = s} q (Some m) = direct_exits_shelved n m (register_of n 0 s) (exit_restores_shelved n q)
+  direct_exit_to_stays n x {s = s} q (Some m) = trap_if_stays base (not (passes_check (instance_of n s) s)) trap.CannotBlockSyncTask (Goes (exit_label n None) (direct_exits n m (register_of n 0 s) (checked (instance_of n s) s)) m) (direct_exits_shelved n m (register_of n 0 s) (checked_shelved (instance_of n s) q))
 
   pub direct_exit_row_stays : (a0 : ℕ) {s : Core} → Shelved base s → Stays base (direct_exit_row a0 s)
   direct_exit_row_stays n {s = s} q = direct_exit_to_stays n (kind_of (task_of n s) s) q (under_of n s)
 
-  pub deactivated_shelved : (a0 : ℕ) (a1 : List ℕ) {s : Core} → Shelved base s → Shelved base (deactivated a0 a1 s)
-  unfolding deactivated
-  deactivated_shelved n order {s = s} q = stopped_shelved (foot_of n s) (let_in_shelved (instance_of n s) order q)
+  pub code_stops_shelved : (a0 : ℕ) (a1 : List ℕ) {s : Core} → Shelved base s → Shelved base (code_stops a0 a1 s)
+  unfolding code_stops
+  code_stops_shelved n order {s = s} q = stopped_shelved (foot_of n s) (end_reopens_shelved (instance_of n s) order q)
 
-  pub finished_shelved : (a0 : ℕ) (a1 : List ℕ) {s : Core} → Shelved base s → Shelved base (finished a0 a1 s)
-  unfolding finished
-  finished_shelved n order {s = s} q = ended_shelved n (checked_shelved (instance_of n s) (deactivated_shelved n order q))
+  pub code_exits_shelved : (a0 : ℕ) (a1 : List ℕ) {s : Core} → Shelved base s → Shelved base (code_exits a0 a1 s)
+  unfolding code_exits
+  code_exits_shelved n order {s = s} q = ended_shelved n (checked_shelved (instance_of n s) (code_stops_shelved n order q))
 
-  pub yielded_shelved : (a0 : ℕ) (a1 : List ℕ) {s : Core} → Shelved base s → Shelved base (yielded a0 a1 s)
-  unfolding yielded
-  yielded_shelved n order {s = s} q = let k = task_of n s in put_low_shelved n (why.Delivery delivery.Yield) (set_own_event_shelved k (own_or_none (own_event_of k s)) (deactivated_shelved n order q))
+  pub code_yields_shelved : (a0 : ℕ) (a1 : List ℕ) {s : Core} → Shelved base s → Shelved base (code_yields a0 a1 s)
+  unfolding code_yields
+  code_yields_shelved n order {s = s} q = let k = task_of n s in put_low_shelved n (why.Delivery delivery.Yield) (set_own_event_shelved k (own_or_none (own_event_of k s)) (code_stops_shelved n order q))
 
-  pub found_shelved : (a0 : ℕ) (a1 : ℕ) (a2 : List ℕ) {s : Core} → Shelved base s → Shelved base (found a0 a1 a2 s)
-  unfolding found
-  found_shelved n x order {s = s} q = put_high_shelved n (why.Delivery (delivery.Set x)) (deactivated_shelved n order q)
+  pub code_finds_shelved : (a0 : ℕ) (a1 : ℕ) (a2 : List ℕ) {s : Core} → Shelved base s → Shelved base (code_finds a0 a1 a2 s)
+  unfolding code_finds
+  code_finds_shelved n x order {s = s} q = put_high_shelved n (why.Delivery (delivery.Set x)) (code_stops_shelved n order q)
 
-  pub awaited_shelved : (a0 : ℕ) (a1 : ℕ) (a2 : List ℕ) {s : Core} → Shelved base s → Shelved base (awaited a0 a1 a2 s)
-  unfolding awaited
-  awaited_shelved n x order {s = s} q = set_place_shelved n (place.Waiting x true) (deactivated_shelved n order q)
+  pub code_waits_shelved : (a0 : ℕ) (a1 : ℕ) (a2 : List ℕ) {s : Core} → Shelved base s → Shelved base (code_waits a0 a1 a2 s)
+  unfolding code_waits
+  code_waits_shelved n x order {s = s} q = set_place_shelved n (place.Waiting x true) (code_stops_shelved n order q)
 
-  pub wait_end_stays : (a0 : Label) (a1 : ℕ) (a2 : ℕ) (a3 : List ℕ) {s : Core} → Shelved base s → (a5 : Bool) → Stays base (wait_end a0 a1 a2 a3 s a5)
-  wait_end_stays l n x held {s = s} q true = λ order. found_shelved n x order q
-  wait_end_stays l n x held {s = s} q false = λ order. awaited_shelved n x order q
+  pub code_wait_row_stays : (a0 : Label) (a1 : ℕ) (a2 : ℕ) (a3 : List ℕ) {s : Core} → Shelved base s → (a5 : Bool) → Stays base (code_wait_row a0 a1 a2 a3 s a5)
+  code_wait_row_stays l n x held {s = s} q true = λ order. code_finds_shelved n x order q
+  code_wait_row_stays l n x held {s = s} q false = λ order. code_waits_shelved n x order q
 
-  pub kind_end_stays : (a0 : Label) (a1 : ℕ) (a2 : List ℕ) {s : Core} → Shelved base s → (a4 : ℕ) (a5 : ℕ) → Stays base (kind_end a0 a1 a2 s a4 a5)
-  kind_end_stays l n held {s = s} q zero rest = trap_if_stays base (not (passes_after_stop (instance_of n s) (foot_of n s) held s)) trap.CannotBlockSyncTask (trap_if (leaves_no_result n s) trap.NoAsyncResult (Ordered held (λ order. Stops l (finished n order s)))) (trap_if_stays base (leaves_no_result n s) trap.NoAsyncResult (Ordered held (λ order. Stops l (finished n order s))) (λ order. finished_shelved n order q))
-  kind_end_stays l n held {s = s} q (suc zero) rest = λ order. yielded_shelved n order q
-  kind_end_stays l n held {s = s} q (suc (suc zero)) rest = or_trap_stays base (set_at (instance_of n s) rest s) trap.BadHandle (λ x. wait_end l n x held s (has_event_for (task_of n s) x s)) (λ x. wait_end_stays l n x held q (has_event_for (task_of n s) x s))
-  kind_end_stays l n held {s = s} q u1 rest = tt
+  pub code_kind_row_stays : (a0 : Label) (a1 : ℕ) (a2 : List ℕ) {s : Core} → Shelved base s → (a4 : ℕ) (a5 : ℕ) → Stays base (code_kind_row a0 a1 a2 s a4 a5)
+  code_kind_row_stays l n held {s = s} q zero rest = trap_if_stays base (not (passes_after_stop (instance_of n s) (foot_of n s) held s)) trap.CannotBlockSyncTask (trap_if (leaves_no_result n s) trap.NoAsyncResult (Ordered held (λ order. Stops l (code_exits n order s)))) (trap_if_stays base (leaves_no_result n s) trap.NoAsyncResult (Ordered held (λ order. Stops l (code_exits n order s))) (λ order. code_exits_shelved n order q))
+  code_kind_row_stays l n held {s = s} q (suc zero) rest = λ order. code_yields_shelved n order q
+  code_kind_row_stays l n held {s = s} q (suc (suc zero)) rest = or_trap_stays base (set_at (instance_of n s) rest s) trap.BadHandle (λ x. code_wait_row l n x held s (has_event_for (task_of n s) x s)) (λ x. code_wait_row_stays l n x held q (has_event_for (task_of n s) x s))
+  code_kind_row_stays l n held {s = s} q u1 rest = tt
 
   pub code_row_stays : (a0 : Label) (a1 : ℕ) {s : Core} → Shelved base s → (a3 : ℕ) → Stays base (code_row a0 a1 s a3)
-  code_row_stays l n {s = s} q code = trap_if_stays base (nat_lt 4294967295 code) trap.UnsupportedCallbackCode (kind_end l n (held_out (instance_of n s) s) s (code % 16) (code / 16)) (kind_end_stays l n (held_out (instance_of n s) s) q (code % 16) (code / 16))
+  code_row_stays l n {s = s} q code = trap_if_stays base (nat_lt 4294967295 code) trap.UnsupportedCallbackCode (code_kind_row l n (held_by_flag (instance_of n s) s) s (code % 16) (code / 16)) (code_kind_row_stays l n (held_by_flag (instance_of n s) s) q (code % 16) (code / 16))
 
   pub kind_exit_row_stays : (a0 : ℕ) (a1 : Option ℕ) {s : Core} → Shelved base s → (a3 : ExportKind) → Stays base (kind_exit_row a0 a1 s a3)
   kind_exit_row_stays n w {s = s} q kind.Sync = sync_exit_row_stays n w q
   kind_exit_row_stays n w {s = s} q kind.Blocking = blocking_exit_row_stays n w q
-  kind_exit_row_stays n w {s = s} q kind.Stackful = leave_row_stays n q
+  kind_exit_row_stays n w {s = s} q kind.Stackful = thread_exit_row_stays n q
   kind_exit_row_stays n w {s = s} q kind.Callback = code_row_stays (exit_label n None) n q 0
 
   pub implicit_exit_row_stays : (a0 : ℕ) (a1 : Option ℕ) {s : Core} → Shelved base s → (a3 : Bool) → Stays base (implicit_exit_row a0 a1 s a3)
@@ -232,7 +232,7 @@ module _ {base : Core} where
   implicit_exit_row_stays n w {s = s} q false = kind_exit_row_stays n w q (kind_of (task_of n s) s)
 
   pub exit_row_for_stays : (a0 : ℕ) (a1 : Option ℕ) {s : Core} → Shelved base s → (a3 : Bool) → Stays base (exit_row_for a0 a1 s a3)
-  exit_row_for_stays n w {s = s} q true = leave_row_stays n q
+  exit_row_for_stays n w {s = s} q true = thread_exit_row_stays n q
   exit_row_for_stays n w {s = s} q false = implicit_exit_row_stays n w q (is_direct (goal_of (task_of n s) s))
 
   pub exit_row_stays : (a0 : ℕ) (a1 : Option ℕ) {s : Core} → Shelved base s → Stays base (exit_row a0 a1 s)
@@ -248,32 +248,32 @@ module _ {base : Core} where
   pub ret_bad_row_stays : (a0 : ℕ) {s : Core} → Shelved base s → Stays base (ret_bad_row a0 s)
   ret_bad_row_stays n {s = s} q = trap_if_stays base (has_ended (task_of n s) s) trap.TaskCancelOrReturnTwice (Traps trap.TaskReturnInvalid) tt
 
-  pub cancel_done_shelved : (a0 : ℕ) (a1 : Option ℕ) {s : Core} → Shelved base s → Shelved base (cancel_done a0 a1 s)
-  unfolding cancel_done
-  cancel_done_shelved n w {s = s} q = advanced_shelved n (cancelled_shelved (task_of n s) w q)
+  pub task_cancel_done_shelved : (a0 : ℕ) (a1 : Option ℕ) {s : Core} → Shelved base s → Shelved base (task_cancel_done a0 a1 s)
+  unfolding task_cancel_done
+  task_cancel_done_shelved n w {s = s} q = advanced_shelved n (cancelled_shelved (task_of n s) w q)
 
   pub task_cancel_row_stays : (a0 : ℕ) (a1 : Option ℕ) {s : Core} → Shelved base s → Stays base (task_cancel_row a0 a1 s)
-  task_cancel_row_stays n w {s = s} q = trap_if_stays base (not (cancel_was_delivered (task_of n s) s)) trap.TaskCancelNotCancelled (trap_if (has_ended (task_of n s) s) trap.TaskCancelOrReturnTwice (may (may_tell (task_of n s) w s) (Goes (task_cancel_label n w) (cancel_done n w s) n))) (trap_if_stays base (has_ended (task_of n s) s) trap.TaskCancelOrReturnTwice (may (may_tell (task_of n s) w s) (Goes (task_cancel_label n w) (cancel_done n w s) n)) (may_stays base (may_tell (task_of n s) w s) (Goes (task_cancel_label n w) (cancel_done n w s) n) (cancel_done_shelved n w q)))
+  task_cancel_row_stays n w {s = s} q = trap_if_stays base (not (cancel_was_delivered (task_of n s) s)) trap.TaskCancelNotCancelled (trap_if (has_ended (task_of n s) s) trap.TaskCancelOrReturnTwice (may (may_tell (task_of n s) w s) (Goes (task_cancel_label n w) (task_cancel_done n w s) n))) (trap_if_stays base (has_ended (task_of n s) s) trap.TaskCancelOrReturnTwice (may (may_tell (task_of n s) w s) (Goes (task_cancel_label n w) (task_cancel_done n w s) n)) (may_stays base (may_tell (task_of n s) w s) (Goes (task_cancel_label n w) (task_cancel_done n w s) n) (task_cancel_done_shelved n w q)))
 
-  pub raised_shelved : (a0 : ℕ) {s : Core} → Shelved base s → Shelved base (raised a0 s)
-  unfolding raised
-  raised_shelved n {s = s} q = let i = instance_of n s in advanced_shelved n (set_backpressure_shelved i (backpressure_of i s + 1) q)
+  pub inc_raises_shelved : (a0 : ℕ) {s : Core} → Shelved base s → Shelved base (inc_raises a0 s)
+  unfolding inc_raises
+  inc_raises_shelved n {s = s} q = let i = instance_of n s in advanced_shelved n (set_backpressure_shelved i (backpressure_of i s + 1) q)
 
   pub inc_row_stays : (a0 : ℕ) {s : Core} → Shelved base s → Stays base (inc_row a0 s)
-  inc_row_stays n {s = s} q = trap_if_stays base (nat_le 65535 (backpressure_of (instance_of n s) s)) trap.BackpressureOverflow (Goes (label.Task (task_label.BpInc n)) (raised n s) n) (raised_shelved n q)
+  inc_row_stays n {s = s} q = trap_if_stays base (nat_le 65535 (backpressure_of (instance_of n s) s)) trap.BackpressureOverflow (Goes (label.Task (task_label.BpInc n)) (inc_raises n s) n) (inc_raises_shelved n q)
 
-  pub lowered_shelved : (a0 : ℕ) {s : Core} → Shelved base s → Shelved base (lowered a0 s)
-  unfolding lowered
-  lowered_shelved n {s = s} q = let i = instance_of n s in advanced_shelved n (set_backpressure_shelved i (backpressure_of i s - 1) q)
+  pub dec_lowers_shelved : (a0 : ℕ) {s : Core} → Shelved base s → Shelved base (dec_lowers a0 s)
+  unfolding dec_lowers
+  dec_lowers_shelved n {s = s} q = let i = instance_of n s in advanced_shelved n (set_backpressure_shelved i (backpressure_of i s - 1) q)
 
-  pub opened_shelved : (a0 : ℕ) (a1 : List ℕ) {s : Core} → Shelved base s → Shelved base (opened a0 a1 s)
-  unfolding opened
-  opened_shelved n order {s = s} q = advanced_shelved n (released_shelved order (set_backpressure_shelved (instance_of n s) 0 q))
+  pub dec_opens_shelved : (a0 : ℕ) (a1 : List ℕ) {s : Core} → Shelved base s → Shelved base (dec_opens a0 a1 s)
+  unfolding dec_opens
+  dec_opens_shelved n order {s = s} q = advanced_shelved n (released_shelved order (set_backpressure_shelved (instance_of n s) 0 q))
 
   pub dec_from_stays : (a0 : ℕ) {s : Core} → Shelved base s → (a2 : ℕ) → Stays base (dec_from a0 s a2)
   dec_from_stays n {s = s} q zero = tt
-  dec_from_stays n {s = s} q (suc zero) = λ order. opened_shelved n order q
-  dec_from_stays n {s = s} q (suc (suc b)) = lowered_shelved n q
+  dec_from_stays n {s = s} q (suc zero) = λ order. dec_opens_shelved n order q
+  dec_from_stays n {s = s} q (suc (suc b)) = dec_lowers_shelved n q
 
   pub dec_row_stays : (a0 : ℕ) {s : Core} → Shelved base s → Stays base (dec_row a0 s)
   dec_row_stays n {s = s} q = dec_from_stays n q (backpressure_of (instance_of n s) s)
@@ -314,19 +314,19 @@ module _ {base : Core} where
   unfolding received
   received_shelved n r g v {s = s} q = advanced_shelved n (set_given_shelved n r v (taken_shelved g (task_of n s) q))
 
-  pub waiting_shelved : (a0 : ℕ) (a1 : ℕ) {s : Core} → Shelved base s → Shelved base (waiting a0 a1 s)
-  unfolding waiting
-  waiting_shelved n x {s = s} q = set_how_far_shelved n (how_far.Waits x) (stopped_at_shelved n (place.Waiting x false) q)
+  pub wait_stops_shelved : (a0 : ℕ) (a1 : ℕ) {s : Core} → Shelved base s → Shelved base (wait_stops a0 a1 s)
+  unfolding wait_stops
+  wait_stops_shelved n x {s = s} q = set_how_far_shelved n (how_far.Waits x) (stopped_at_shelved n (place.Waiting x false) q)
 
-  pub begun_waiting_shelved : (a0 : ℕ) (a1 : ℕ) {s : Core} → Shelved base s → Shelved base (begun_waiting a0 a1 s)
-  unfolding begun_waiting
-  begun_waiting_shelved n x {s = s} q = waiting_shelved n x (checked_shelved (instance_of n s) q)
+  pub wait_stops_checked_shelved : (a0 : ℕ) (a1 : ℕ) {s : Core} → Shelved base s → Shelved base (wait_stops_checked a0 a1 s)
+  unfolding wait_stops_checked
+  wait_stops_checked_shelved n x {s = s} q = wait_stops_shelved n x (checked_shelved (instance_of n s) q)
 
   pub wait_takes_stays : (a0 : ℕ) (a1 : ℕ) (a2 : Choice) {s : Core} → Shelved base s → (a4 : Gift) → Stays base (wait_takes a0 a1 a2 s a4)
   wait_takes_stays n r ch {s = s} q g = let v = handed_out ch s g in received_shelved n r g v q
 
   pub wait_begins_stays : (a0 : ℕ) (a1 : ℕ) (a2 : Choice) {s : Core} → Shelved base s → (a4 : ℕ) (a5 : Bool) → Stays base (wait_begins a0 a1 a2 s a4 a5)
-  wait_begins_stays n r ch {s = s} q x true = trap_if_stays base (not (passes_check (instance_of n s) s)) trap.CannotBlockSyncTask (Stops (label.Thread (thread_label.Pauses n)) (begun_waiting n x s)) (begun_waiting_shelved n x q)
+  wait_begins_stays n r ch {s = s} q x true = trap_if_stays base (not (passes_check (instance_of n s) s)) trap.CannotBlockSyncTask (Stops (label.Thread (thread_label.Pauses n)) (wait_stops_checked n x s)) (wait_stops_checked_shelved n x q)
   wait_begins_stays n r ch {s = s} q x false = or_never_stays base (gift false (task_of n s) x (chosen n ch s) s) (wait_takes n r ch s) (λ got. wait_takes_stays n r ch q got)
 
   pub received_woken_shelved : (a0 : ℕ) (a1 : ℕ) (a2 : ℕ) (a3 : Option ℕ) (a4 : Gift) (a5 : Given) {s : Core} → Shelved base s → Shelved base (received_woken a0 a1 a2 a3 a4 a5 s)
@@ -334,7 +334,7 @@ module _ {base : Core} where
   received_woken_shelved n x r w g v {s = s} q = received_shelved n r g v (handed_on_shelved x g w q)
 
   pub wait_goes_on_stays : (a0 : ℕ) (a1 : ℕ) (a2 : ℕ) (a3 : Choice) {s : Core} → Shelved base s → (a5 : Gift) → Stays base (wait_goes_on a0 a1 a2 a3 s a5)
-  wait_goes_on_stays n x r ch {s = s} q NoGift = waiting_shelved n x q
+  wait_goes_on_stays n x r ch {s = s} q NoGift = wait_stops_shelved n x q
   wait_goes_on_stays n x r ch {s = s} q g = let v = handed_out ch s g in may_stays base (may_hand_on x g ch.woken s) (Goes (wait_label n v ch.woken) (received_woken n x r ch.woken g v s) n) (received_woken_shelved n x r ch.woken g v q)
 
   pub wait_row_stays : (a0 : ℕ) (a1 : ℕ) (a2 : ℕ) (a3 : Choice) {s : Core} → Shelved base s → (a5 : HowFar) → Stays base (wait_row a0 a1 a2 a3 s a5)
@@ -372,24 +372,24 @@ module _ {base : Core} where
   set_row_stays n {s = s} q ch (set_op.Poll r x) = poll_row_stays n r (value_of n s x) ch q
   set_row_stays n {s = s} q ch (set_op.Join x y) = join_row_stays n (value_of n s x) (value_of n s y) ch.woken q
 
-  pub suspending_shelved : (a0 : ℕ) (a1 : ℕ) (a2 : ExportKind) {s : Core} → Shelved base s → Shelved base (suspending a0 a1 a2 s)
-  suspending_shelved n j kind.Sync {s = s} q = q
-  suspending_shelved n j x {s = s} q = set_do_not_suspend_shelved j false (set_saved_callee_shelved n (Some (may_not_suspend j s)) q)
+  pub call_clears_flag_shelved : (a0 : ℕ) (a1 : ℕ) (a2 : ExportKind) {s : Core} → Shelved base s → Shelved base (call_clears_flag a0 a1 a2 s)
+  call_clears_flag_shelved n j kind.Sync {s = s} q = q
+  call_clears_flag_shelved n j x {s = s} q = set_do_not_suspend_shelved j false (set_saved_callee_shelved n (Some (may_not_suspend j s)) q)
 
-  pub called_shelved : (a0 : ℕ) (a1 : Callee) (a2 : ExportKind) (a3 : Goal) (a4 : List ℕ) {s : Core} → Shelved base s → Shelved base (called a0 a1 a2 a3 a4 s)
-  unfolding called
-  called_shelved n e x g words {s = s} q = let m = next_thread s in set_how_far_shelved n (how_far.Calls (subtask.Guest m)) (behind_shelved m (n ∷ []) (suspending_shelved n e.instance x (put_switch_shelved m why.Start (call_made_shelved (caller.Thread n) e x g (thread_group n s) words q))))
+  pub call_queues_shelved : (a0 : ℕ) (a1 : Callee) (a2 : ExportKind) (a3 : Goal) (a4 : List ℕ) {s : Core} → Shelved base s → Shelved base (call_queues a0 a1 a2 a3 a4 s)
+  unfolding call_queues
+  call_queues_shelved n e x g words {s = s} q = let m = next_thread s in set_how_far_shelved n (how_far.Calls (subtask.Guest m)) (behind_shelved m (n ∷ []) (call_clears_flag_shelved n e.instance x (put_switch_shelved m why.Start (call_made_shelved (caller.Thread n) e x g (thread_group n s) words q))))
 
   pub call_begins_stays : (a0 : Component) (a1 : ℕ) (a2 : Callee) (a3 : Goal) (a4 : List ℕ) {s : Core} → Shelved base s → Stays base (call_begins a0 a1 a2 a3 a4 s)
-  call_begins_stays c n e g words {s = s} q = trap_if_stays base (not (fits 3 s)) trap.TableFull (Stops (label.Call (call_label.Calls n (next_thread s))) (called n e (export_kind c e) g words s)) (called_shelved n e (export_kind c e) g words q)
+  call_begins_stays c n e g words {s = s} q = trap_if_stays base (not (fits 3 s)) trap.TableFull (Stops (label.Call (call_label.Calls n (next_thread s))) (call_queues n e (export_kind c e) g words s)) (call_queues_shelved n e (export_kind c e) g words q)
 
   pub put_back_shelved : (a0 : Option Bool) (a1 : ℕ) {s : Core} → Shelved base s → Shelved base (put_back a0 a1 s)
   put_back_shelved None j {s = s} q = q
   put_back_shelved (Some b) j {s = s} q = set_do_not_suspend_shelved j b q
 
-  pub called_back_shelved : (a0 : ℕ) (a1 : ℕ) {s : Core} → Shelved base s → Shelved base (called_back a0 a1 s)
-  unfolding called_back
-  called_back_shelved n k {s = s} q = set_event_shelved (subtask.Guest k) None (put_back_shelved (saved_callee_of n s) (call_instance k s) q)
+  pub call_resumes_shelved : (a0 : ℕ) (a1 : ℕ) {s : Core} → Shelved base s → Shelved base (call_resumes a0 a1 s)
+  unfolding call_resumes
+  call_resumes_shelved n k {s = s} q = set_event_shelved (subtask.Guest k) None (put_back_shelved (saved_callee_of n s) (call_instance k s) q)
 
   pub answered_shelved : (a0 : ℕ) (a1 : ℕ) (a2 : ℕ) {s : Core} → Shelved base s → Shelved base (answered a0 a1 a2 s)
   unfolding answered
@@ -397,7 +397,7 @@ module _ {base : Core} where
 
   pub call_returned_shelved : (a0 : ℕ) (a1 : ℕ) (a2 : ℕ) {s : Core} → Shelved base s → Shelved base (call_returned a0 a1 a2 s)
   unfolding call_returned
-  call_returned_shelved n r k {s = s} q = answered_shelved n r 2 (call_settled_shelved k (called_back_shelved n k q))
+  call_returned_shelved n r k {s = s} q = answered_shelved n r 2 (call_settled_shelved k (call_resumes_shelved n k q))
 
   pub with_handle_shelved : (i : ℕ) (sub : Subtask) {s : Core} → Shelved base s → Shelved base (with_handle i sub s)
   unfolding with_handle
@@ -405,7 +405,7 @@ module _ {base : Core} where
 
   pub call_pending_shelved : (a0 : ℕ) (a1 : ℕ) (a2 : ℕ) (a3 : ℕ) {s : Core} → Shelved base s → Shelved base (call_pending a0 a1 a2 a3 s)
   unfolding call_pending
-  call_pending_shelved n r k v {s = s} q = answered_shelved n r v (with_handle_shelved (instance_of n s) (subtask.Guest k) (called_back_shelved n k q))
+  call_pending_shelved n r k v {s = s} q = answered_shelved n r v (with_handle_shelved (instance_of n s) (subtask.Guest k) (call_resumes_shelved n k q))
 
   pub call_status_stays : (a0 : ℕ) (a1 : ℕ) (a2 : ℕ) {s : Core} → Shelved base s → (a4 : Status) → Stays base (call_status a0 a1 a2 s a4)
   call_status_stays n r k {s = s} q status.Returned = call_returned_shelved n r k q
@@ -417,34 +417,34 @@ module _ {base : Core} where
 
   pub call_answered_shelved : (a0 : ℕ) (a1 : ℕ) (a2 : ℕ) {s : Core} → Shelved base s → Shelved base (call_answered a0 a1 a2 s)
   unfolding call_answered
-  call_answered_shelved n r k {s = s} q = answered_shelved n r (result_of k s) (call_settled_shelved k (set_result_shelved k None (called_back_shelved n k q)))
+  call_answered_shelved n r k {s = s} q = answered_shelved n r (result_of k s) (call_settled_shelved k (set_result_shelved k None (call_resumes_shelved n k q)))
 
-  pub blocked_shelved : (a0 : ℕ) (a1 : Subtask) {s : Core} → Shelved base s → Shelved base (blocked a0 a1 s)
-  unfolding blocked
-  blocked_shelved n sub {s = s} q = set_how_far_shelved n (how_far.Calls sub) (stopped_at_shelved n (place.Blocked sub) q)
+  pub call_stops_shelved : (a0 : ℕ) (a1 : Subtask) {s : Core} → Shelved base s → Shelved base (call_stops a0 a1 s)
+  unfolding call_stops
+  call_stops_shelved n sub {s = s} q = set_how_far_shelved n (how_far.Calls sub) (stopped_at_shelved n (place.Blocked sub) q)
 
-  pub call_blocked_shelved : (a0 : ℕ) (a1 : ℕ) {s : Core} → Shelved base s → Shelved base (call_blocked a0 a1 s)
-  unfolding call_blocked
-  call_blocked_shelved n k {s = s} q = blocked_shelved n (subtask.Guest k) (checked_shelved (instance_of n s) (called_back_shelved n k q))
+  pub call_sync_stops_shelved : (a0 : ℕ) (a1 : ℕ) {s : Core} → Shelved base s → Shelved base (call_sync_stops a0 a1 s)
+  unfolding call_sync_stops
+  call_sync_stops_shelved n k {s = s} q = call_stops_shelved n (subtask.Guest k) (checked_shelved (instance_of n s) (call_resumes_shelved n k q))
 
   pub call_sync_status_stays : (a0 : ℕ) (a1 : ℕ) (a2 : ℕ) {s : Core} → Shelved base s → (a4 : Status) → Stays base (call_sync_status a0 a1 a2 s a4)
   call_sync_status_stays n r k {s = s} q status.Returned = call_answered_shelved n r k q
-  call_sync_status_stays n r k {s = s} q e = trap_if_stays base (not (passes_check (instance_of n s) (called_back n k s))) trap.CannotBlockSyncTask (Stops (label.Thread (thread_label.Pauses n)) (call_blocked n k s)) (call_blocked_shelved n k q)
+  call_sync_status_stays n r k {s = s} q e = trap_if_stays base (not (passes_check (instance_of n s) (call_resumes n k s))) trap.CannotBlockSyncTask (Stops (label.Thread (thread_label.Pauses n)) (call_sync_stops n k s)) (call_sync_stops_shelved n k q)
 
-  pub forbidding_shelved : (a0 : ℕ) (a1 : ℕ) (a2 : ExportKind) {s : Core} → Shelved base s → Shelved base (forbidding a0 a1 a2 s)
-  forbidding_shelved m j kind.Sync {s = s} q = set_do_not_suspend_shelved j true (set_saved_own_shelved m (Some (may_not_suspend j s)) q)
-  forbidding_shelved m j x {s = s} q = q
+  pub sync_sets_flag_shelved : (a0 : ℕ) (a1 : ℕ) (a2 : ExportKind) {s : Core} → Shelved base s → Shelved base (sync_sets_flag a0 a1 a2 s)
+  sync_sets_flag_shelved m j kind.Sync {s = s} q = set_do_not_suspend_shelved j true (set_saved_own_shelved m (Some (may_not_suspend j s)) q)
+  sync_sets_flag_shelved m j x {s = s} q = q
 
   pub with_thread_handle_shelved : (a0 : ℕ) (a1 : ℕ) {s : Core} → Shelved base s → Shelved base (with_thread_handle a0 a1 s)
   unfolding with_thread_handle
   with_thread_handle_shelved i m {s = s} q = set_thread_handle_shelved m (Some (new_thread_handle i s)) (give_thread_handle_shelved i m q)
 
-  pub entered_shelved : (a0 : ℕ) (a1 : Callee) (a2 : ExportKind) (a3 : List ℕ) {s : Core} → Shelved base s → Shelved base (entered a0 a1 a2 a3 s)
-  unfolding entered
-  entered_shelved n e x words {s = s} q = let m = next_thread s in set_how_far_shelved n (how_far.Calls (subtask.Guest m)) (set_place_shelved n (place.Under m) (set_place_shelved m place.Running (forbidding_shelved m e.instance x (set_started_shelved m (with_thread_handle_shelved e.instance m (call_made_shelved (caller.Thread n) e x goal.Direct (thread_group n s) words q))))))
+  pub enter_runs_shelved : (a0 : ℕ) (a1 : Callee) (a2 : ExportKind) (a3 : List ℕ) {s : Core} → Shelved base s → Shelved base (enter_runs a0 a1 a2 a3 s)
+  unfolding enter_runs
+  enter_runs_shelved n e x words {s = s} q = let m = next_thread s in set_how_far_shelved n (how_far.Calls (subtask.Guest m)) (set_place_shelved n (place.Under m) (set_place_shelved m place.Running (sync_sets_flag_shelved m e.instance x (set_started_shelved m (with_thread_handle_shelved e.instance m (call_made_shelved (caller.Thread n) e x goal.Direct (thread_group n s) words q))))))
 
   pub enter_row_stays : (a0 : ℕ) (a1 : Callee) (a2 : ExportKind) (a3 : List ℕ) {s : Core} → Shelved base s → Stays base (enter_row a0 a1 a2 a3 s)
-  enter_row_stays n e x words {s = s} q = trap_if_stays base (not (fits 3 s)) trap.TableFull (trap_if (at_handle_limit s) trap.HandleLimit (Goes (label.Call (call_label.Enters n (next_thread s))) (entered n e x words s) (next_thread s))) (trap_if_stays base (at_handle_limit s) trap.HandleLimit (Goes (label.Call (call_label.Enters n (next_thread s))) (entered n e x words s) (next_thread s)) (entered_shelved n e x words q))
+  enter_row_stays n e x words {s = s} q = trap_if_stays base (not (fits 3 s)) trap.TableFull (trap_if (at_handle_limit s) trap.HandleLimit (Goes (label.Call (call_label.Enters n (next_thread s))) (enter_runs n e x words s) (next_thread s))) (trap_if_stays base (at_handle_limit s) trap.HandleLimit (Goes (label.Call (call_label.Enters n (next_thread s))) (enter_runs n e x words s) (next_thread s)) (enter_runs_shelved n e x words q))
 
   pub call_sync_begins_stays : (a0 : Component) (a1 : ℕ) (a2 : Callee) (a3 : List ℕ) {s : Core} → Shelved base s → (a5 : Bool) → Stays base (call_sync_begins a0 a1 a2 a3 s a5)
   call_sync_begins_stays c n e words {s = s} q true = call_begins_stays c n e goal.Answer words q
@@ -475,14 +475,14 @@ module _ {base : Core} where
   unfolding host_answered
   host_answered_shelved n r v {s = s} q = assigned_shelved n r v (count_work_shelved q)
 
-  pub host_blocked_shelved : (a0 : ℕ) (a1 : HostDef) {s : Core} → Shelved base s → Shelved base (host_blocked a0 a1 s)
-  unfolding host_blocked
-  host_blocked_shelved n host {s = s} q = blocked_shelved n (subtask.Host (next_work s)) (work_queued_shelved (work_caller.Sync n) host (Some (thread_group n s)) (checked_shelved (instance_of n s) q))
+  pub call_sync_host_stops_shelved : (a0 : ℕ) (a1 : HostDef) {s : Core} → Shelved base s → Shelved base (call_sync_host_stops a0 a1 s)
+  unfolding call_sync_host_stops
+  call_sync_host_stops_shelved n host {s = s} q = call_stops_shelved n (subtask.Host (next_work s)) (work_queued_shelved (work_caller.Sync n) host (Some (thread_group n s)) (checked_shelved (instance_of n s) q))
 
   pub call_sync_host_polled_stays : (a0 : ℕ) (a1 : ℕ) {s : Core} → Shelved base s → (a3 : FirstPoll) → Stays base (call_sync_host_polled a0 a1 s a3)
   call_sync_host_polled_stays n r {s = s} q (AtOnce v) = host_answered_shelved n r v q
   call_sync_host_polled_stays n r {s = s} q Failing = tt
-  call_sync_host_polled_stays n r {s = s} q (Later host) = trap_if_stays base (not (fits 1 s)) trap.TableFull (trap_if (not (passes_check (instance_of n s) s)) trap.CannotBlockSyncTask (Stops (label.Call (call_label.PausesPolls n (next_work s))) (host_blocked n host s))) (trap_if_stays base (not (passes_check (instance_of n s) s)) trap.CannotBlockSyncTask (Stops (label.Call (call_label.PausesPolls n (next_work s))) (host_blocked n host s)) (host_blocked_shelved n host q))
+  call_sync_host_polled_stays n r {s = s} q (Later host) = trap_if_stays base (not (fits 1 s)) trap.TableFull (trap_if (not (passes_check (instance_of n s) s)) trap.CannotBlockSyncTask (Stops (label.Call (call_label.PausesPolls n (next_work s))) (call_sync_host_stops n host s))) (trap_if_stays base (not (passes_check (instance_of n s) s)) trap.CannotBlockSyncTask (Stops (label.Call (call_label.PausesPolls n (next_work s))) (call_sync_host_stops n host s)) (call_sync_host_stops_shelved n host q))
 
   pub settle_group_of_shelved : (a0 : Option ℕ) {s : Core} → Shelved base s → Shelved base (settle_group_of a0 s)
   settle_group_of_shelved None {s = s} q = q
@@ -500,75 +500,69 @@ module _ {base : Core} where
   call_sync_host_row_stays c n r h {s = s} q (how_far.Calls (subtask.Host i)) = work_answered_shelved n r i q
   call_sync_host_row_stays c n r h {s = s} q u1 = call_sync_host_polled_stays n r q (first_poll (host_at c h))
 
-  pub end_taken_shelved : (a0 : ℕ) (a1 : ℕ) (a2 : Subtask) (a3 : Status) {s : Core} → Shelved base s → Shelved base (end_taken a0 a1 a2 a3 s)
-  unfolding end_taken
-  end_taken_shelved n r sub e {s = s} q = answered_shelved n r (status_code e) (set_event_shelved sub None q)
+  pub cancel_takes_end_shelved : (a0 : ℕ) (a1 : ℕ) (a2 : Subtask) (a3 : Status) {s : Core} → Shelved base s → Shelved base (cancel_takes_end a0 a1 a2 a3 s)
+  unfolding cancel_takes_end
+  cancel_takes_end_shelved n r sub e {s = s} q = answered_shelved n r (status_code e) (set_event_shelved sub None q)
 
-  pub ended_row_stays : (a0 : Mode) (a1 : ℕ) (a2 : ℕ) (a3 : Subtask) {s : Core} → Shelved base s → (a5 : Option Status) → Stays base (ended_row a0 a1 a2 a3 s a5)
-  ended_row_stays mode n r sub {s = s} q None = tt
-  ended_row_stays mode n r sub {s = s} q (Some e) = end_taken_shelved n r sub e q
+  pub cancel_ended_row_stays : (a0 : Mode) (a1 : ℕ) (a2 : ℕ) (a3 : Subtask) {s : Core} → Shelved base s → (a5 : Option Status) → Stays base (cancel_ended_row a0 a1 a2 a3 s a5)
+  cancel_ended_row_stays mode n r sub {s = s} q None = tt
+  cancel_ended_row_stays mode n r sub {s = s} q (Some e) = cancel_takes_end_shelved n r sub e q
 
-  pub awaiting_shelved : (a0 : ℕ) (a1 : Subtask) {s : Core} → Shelved base s → Shelved base (awaiting a0 a1 s)
-  unfolding awaiting
-  awaiting_shelved n sub {s = s} q = set_how_far_shelved n (how_far.AwaitsEnd sub) (stopped_at_shelved n (place.Blocked sub) (checked_shelved (instance_of n s) (set_join_shelved sub (join.Watched n) (set_saved_callee_shelved n None q))))
+  pub cancel_stops_shelved : (a0 : ℕ) (a1 : Subtask) {s : Core} → Shelved base s → Shelved base (cancel_stops a0 a1 s)
+  unfolding cancel_stops
+  cancel_stops_shelved n sub {s = s} q = set_how_far_shelved n (how_far.AwaitsEnd sub) (stopped_at_shelved n (place.Blocked sub) (checked_shelved (instance_of n s) (set_join_shelved sub (join.Watched n) (set_saved_callee_shelved n None q))))
 
-  pub not_ended_row_stays : (a0 : Mode) (a1 : ℕ) (a2 : ℕ) (a3 : Subtask) {s : Core} → Shelved base s → Stays base (not_ended_row a0 a1 a2 a3 s)
-  not_ended_row_stays Async n r sub {s = s} q = answered_shelved n r blocked_code q
-  not_ended_row_stays Sync n r sub {s = s} q = trap_if_stays base (not (passes_check (instance_of n s) s)) trap.CannotBlockSyncTask (Stops (pauses n) (awaiting n sub s)) (awaiting_shelved n sub q)
+  pub cancel_unended_row_stays : (a0 : Mode) (a1 : ℕ) (a2 : ℕ) (a3 : Subtask) {s : Core} → Shelved base s → Stays base (cancel_unended_row a0 a1 a2 a3 s)
+  cancel_unended_row_stays Async n r sub {s = s} q = answered_shelved n r blocked_code q
+  cancel_unended_row_stays Sync n r sub {s = s} q = trap_if_stays base (not (passes_check (instance_of n s) s)) trap.CannotBlockSyncTask (Stops (pauses n) (cancel_stops n sub s)) (cancel_stops_shelved n sub q)
 
-  pub by_end_stays : (a0 : Mode) (a1 : ℕ) (a2 : ℕ) (a3 : Subtask) {s : Core} → Shelved base s → (a5 : Bool) → Stays base (by_end a0 a1 a2 a3 s a5)
-  by_end_stays mode n r sub {s = s} q true = ended_row_stays mode n r sub q (undelivered_end (event_of sub s))
-  by_end_stays mode n r sub {s = s} q false = not_ended_row_stays mode n r sub q
+  pub cancel_by_end_stays : (a0 : Mode) (a1 : ℕ) (a2 : ℕ) (a3 : Subtask) {s : Core} → Shelved base s → (a5 : Bool) → Stays base (cancel_by_end a0 a1 a2 a3 s a5)
+  cancel_by_end_stays mode n r sub {s = s} q true = cancel_ended_row_stays mode n r sub q (undelivered_end (event_of sub s))
+  cancel_by_end_stays mode n r sub {s = s} q false = cancel_unended_row_stays mode n r sub q
 
   pub after_cancel_stays : (a0 : Mode) (a1 : ℕ) (a2 : ℕ) (a3 : Subtask) {s : Core} → Shelved base s → Stays base (after_cancel a0 a1 a2 a3 s)
-  after_cancel_stays mode n r sub {s = s} q = by_end_stays mode n r sub q (subtask_ended sub s)
+  after_cancel_stays mode n r sub {s = s} q = cancel_by_end_stays mode n r sub q (subtask_ended sub s)
 
-  pub host_cancelled_shelved : (a0 : ℕ) {s : Core} → Shelved base s → Shelved base (host_cancelled a0 s)
-  unfolding host_cancelled
-  host_cancelled_shelved i {s = s} q = set_cancelled_shelved i (set_phase_shelved i (aborted_phase (phase_of i s)) q)
+  pub cancel_aborts_host_shelved : (a0 : ℕ) {s : Core} → Shelved base s → Shelved base (cancel_aborts_host a0 s)
+  unfolding cancel_aborts_host
+  cancel_aborts_host_shelved i {s = s} q = set_cancelled_shelved i (set_phase_shelved i (aborted_phase (phase_of i s)) q)
 
   pub cancel_host_stays : (a0 : Mode) (a1 : ℕ) (a2 : ℕ) (a3 : ℕ) {s : Core} → Shelved base s → Stays base (cancel_host a0 a1 a2 a3 s)
-  cancel_host_stays mode n r i {s = s} q = trap_if_stays base (was_cancelled i s) trap.SubtaskCancelAfterTerminal (after_cancel mode n r (subtask.Host i) (host_cancelled i s)) (after_cancel_stays mode n r (subtask.Host i) (host_cancelled_shelved i q))
+  cancel_host_stays mode n r i {s = s} q = trap_if_stays base (was_cancelled i s) trap.SubtaskCancelAfterTerminal (after_cancel mode n r (subtask.Host i) (cancel_aborts_host i s)) (after_cancel_stays mode n r (subtask.Host i) (cancel_aborts_host_shelved i q))
 
-  pub start_withdrawn_shelved : (a0 : ℕ) (a1 : ℕ) (a2 : ℕ) {s : Core} → Shelved base s → Shelved base (start_withdrawn a0 a1 a2 s)
-  unfolding start_withdrawn
-  start_withdrawn_shelved n r k {s = s} q = answered_shelved n r 3 (withdrawn_shelved k q)
+  pub cancel_withdraws_shelved : (a0 : ℕ) (a1 : ℕ) (a2 : ℕ) {s : Core} → Shelved base s → Shelved base (cancel_withdraws a0 a1 a2 s)
+  unfolding cancel_withdraws
+  cancel_withdraws_shelved n r k {s = s} q = answered_shelved n r 3 (withdrawn_shelved k q)
 
-  pub asked_shelved : (a0 : ℕ) {s : Core} → Shelved base s → Shelved base (asked a0 s)
-  unfolding asked
-  asked_shelved k {s = s} q = set_own_event_shelved k (Some own.Cancelled) q
+  pub cancel_asks_shelved : (a0 : ℕ) {s : Core} → Shelved base s → Shelved base (cancel_asks a0 s)
+  unfolding cancel_asks
+  cancel_asks_shelved k {s = s} q = set_own_event_shelved k (Some own.Cancelled) q
 
   pub behind_switch_shelved : (a0 : ℕ) (a1 : Option ℕ) {s : Core} → Shelved base s → Shelved base (behind_switch a0 a1 s)
   behind_switch_shelved n None {s = s} q = q
   behind_switch_shelved n (Some m) {s = s} q = behind_shelved (foot_of m s) (n ∷ []) q
 
-  pub lets_go_on_shelved : (a0 : ℕ) (a1 : ℕ) {s : Core} → Shelved base s → Shelved base (lets_go_on a0 a1 s)
-  unfolding lets_go_on
-  lets_go_on_shelved n k {s = s} q = let j = call_instance k s in set_how_far_shelved n (how_far.Cancels (subtask.Guest k)) (behind_switch_shelved n s.queues.switch (set_join_shelved (subtask.Guest k) (join.Watched n) (set_do_not_suspend_shelved j false (set_saved_callee_shelved n (Some (may_not_suspend j s)) q))))
+  pub cancel_goes_behind_shelved : (a0 : ℕ) (a1 : ℕ) {s : Core} → Shelved base s → Shelved base (cancel_goes_behind a0 a1 s)
+  unfolding cancel_goes_behind
+  cancel_goes_behind_shelved n k {s = s} q = let j = call_instance k s in set_how_far_shelved n (how_far.Cancels (subtask.Guest k)) (behind_switch_shelved n s.queues.switch (set_join_shelved (subtask.Guest k) (join.Watched n) (set_do_not_suspend_shelved j false (set_saved_callee_shelved n (Some (may_not_suspend j s)) q))))
 
-  pub cancel_delivered_to_shelved : (a0 : ℕ) (a1 : ℕ) {s : Core} → Shelved base s → Shelved base (cancel_delivered_to a0 a1 s)
-  unfolding cancel_delivered_to
-  cancel_delivered_to_shelved n k {s = s} q = lets_go_on_shelved n k (put_switch_shelved k (why.Delivery delivery.Cancel) (asked_shelved k q))
+  pub cancel_wakes_callback_shelved : (a0 : ℕ) (a1 : ℕ) {s : Core} → Shelved base s → Shelved base (cancel_wakes_callback a0 a1 s)
+  unfolding cancel_wakes_callback
+  cancel_wakes_callback_shelved n k {s = s} q = cancel_goes_behind_shelved n k (put_switch_shelved k (why.Delivery delivery.Cancel) (cancel_asks_shelved k q))
 
-  pub yield_cancelled_shelved : (a0 : ℕ) (a1 : ℕ) {s : Core} → Shelved base s → Shelved base (yield_cancelled a0 a1 s)
-  unfolding yield_cancelled
-  yield_cancelled_shelved n k {s = s} q = lets_go_on_shelved n k (promoted_unless_shelved k (asked_shelved k q))
+  pub cancel_promotes_yield_shelved : (a0 : ℕ) (a1 : ℕ) {s : Core} → Shelved base s → Shelved base (cancel_promotes_yield a0 a1 s)
+  unfolding cancel_promotes_yield
+  cancel_promotes_yield_shelved n k {s = s} q = cancel_goes_behind_shelved n k (promoted_unless_shelved k (cancel_asks_shelved k q))
 
-  pub cancel_yield_stays : (a0 : Mode) (a1 : ℕ) (a2 : ℕ) (a3 : ℕ) {s : Core} → Shelved base s → (a5 : Bool) → Stays base (cancel_yield a0 a1 a2 a3 s a5)
-  cancel_yield_stays mode n r k {s = s} q true = yield_cancelled_shelved n k q
-  cancel_yield_stays mode n r k {s = s} q false = after_cancel_stays mode n r (subtask.Guest k) (asked_shelved k q)
-
-  pub cancel_running_stays : (a0 : Mode) (a1 : ℕ) (a2 : ℕ) (a3 : ℕ) {s : Core} → Shelved base s → (a5 : Bool) (a6 : Bool) → Stays base (cancel_running a0 a1 a2 a3 s a5 a6)
-  cancel_running_stays mode n r k {s = s} q true yields = cancel_delivered_to_shelved n k q
-  cancel_running_stays mode n r k {s = s} q false yields = cancel_yield_stays mode n r k q yields
-
-  pub cancel_guest_stays : (a0 : Mode) (a1 : ℕ) (a2 : ℕ) (a3 : ℕ) {s : Core} → Shelved base s → (a5 : Bool) (a6 : Bool) → Stays base (cancel_guest a0 a1 a2 a3 s a5 a6)
-  cancel_guest_stays mode n r k {s = s} q true started = ended_row_stays mode n r (subtask.Guest k) q (undelivered_end (event_of (subtask.Guest k) s))
-  cancel_guest_stays mode n r k {s = s} q false true = cancel_running_stays mode n r k q (is_at k s is_callback_wait) (is_at k s is_callback_yield)
-  cancel_guest_stays mode n r k {s = s} q false false = start_withdrawn_shelved n r k q
+  pub cancel_guest_stays : (a0 : Mode) (a1 : ℕ) (a2 : ℕ) (a3 : ℕ) {s : Core} → Shelved base s → (a5 : CancelCase) → Stays base (cancel_guest a0 a1 a2 a3 s a5)
+  cancel_guest_stays mode n r k {s = s} q AlreadyEnded = cancel_ended_row_stays mode n r (subtask.Guest k) q (undelivered_end (event_of (subtask.Guest k) s))
+  cancel_guest_stays mode n r k {s = s} q StartNotRun = cancel_withdraws_shelved n r k q
+  cancel_guest_stays mode n r k {s = s} q CallbackWaits = cancel_wakes_callback_shelved n k q
+  cancel_guest_stays mode n r k {s = s} q CallbackYields = cancel_promotes_yield_shelved n k q
+  cancel_guest_stays mode n r k {s = s} q OtherwiseRuns = after_cancel_stays mode n r (subtask.Guest k) (cancel_asks_shelved k q)
 
   pub cancel_subtask_stays : (a0 : Mode) (a1 : ℕ) (a2 : ℕ) {s : Core} → Shelved base s → (a4 : Subtask) → Stays base (cancel_subtask a0 a1 a2 s a4)
-  cancel_subtask_stays mode n r {s = s} q (subtask.Guest k) = cancel_guest_stays mode n r k q (has_ended k s) (was_started k s)
+  cancel_subtask_stays mode n r {s = s} q (subtask.Guest k) = cancel_guest_stays mode n r k q (cancel_case k s)
   cancel_subtask_stays mode n r {s = s} q (subtask.Host i) = cancel_host_stays mode n r i q
 
   pub cancel_found_stays : (a0 : Mode) (a1 : ℕ) (a2 : ℕ) {s : Core} → Shelved base s → (a4 : Subtask) → Stays base (cancel_found a0 a1 a2 s a4)
@@ -580,7 +574,7 @@ module _ {base : Core} where
 
   pub cancel_row_stays : (a0 : Mode) (a1 : ℕ) (a2 : ℕ) (a3 : ℕ) {s : Core} → Shelved base s → (a5 : HowFar) → Stays base (cancel_row a0 a1 a2 a3 s a5)
   cancel_row_stays mode n r h {s = s} q (how_far.Cancels sub) = after_cancel_stays mode n r sub (cancel_resumed_shelved n sub q)
-  cancel_row_stays mode n r h {s = s} q (how_far.AwaitsEnd sub) = ended_row_stays mode n r sub (set_join_shelved sub join.Nowhere q) (undelivered_end (event_of sub (set_join sub join.Nowhere s)))
+  cancel_row_stays mode n r h {s = s} q (how_far.AwaitsEnd sub) = cancel_ended_row_stays mode n r sub (set_join_shelved sub join.Nowhere q) (undelivered_end (event_of sub (set_join sub join.Nowhere s)))
   cancel_row_stays mode n r h {s = s} q u1 = or_trap_stays base (subtask_at (instance_of n s) h s) trap.BadHandle (cancel_found mode n r s) (λ got. cancel_found_stays mode n r q got)
 
   pub subtask_settled_shelved : (a0 : Subtask) {s : Core} → Shelved base s → Shelved base (subtask_settled a0 s)

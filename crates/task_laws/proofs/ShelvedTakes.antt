@@ -1,7 +1,7 @@
 -- What is kept by takings and main: a handle of a set names a set of its instance.
 use Rattle.std.specs.Prelude.{Bool, List, None, Option, Some, false, true, ℕ, ◌+◌}
 use Rattle.task_laws.proofs.ShelvedFields.{Shelved, add_group_shelved, call_made_shelved, push_high_shelved, set_course_shelved, set_do_not_enter_shelved, set_high_shelved, set_low_shelved, set_phase_shelved, set_place_shelved, set_register_shelved, set_script_shelved, set_stage_shelved, set_started_shelved, set_starting_published_shelved, set_switch_shelved, set_trapped_shelved, work_queued_shelved}
-use Rattle.task_laws.proofs.ShelvedRows.{Stays, data_row_stays, forbidding_shelved, may_stays, moved_to_shelved, or_never_stays, set_given_shelved, set_row_stays, subtask_row_stays, task_row_stays, thread_row_stays, told_shelved, trap_if_stays, with_thread_handle_shelved}
+use Rattle.task_laws.proofs.ShelvedRows.{Stays, data_row_stays, sync_sets_flag_shelved, may_stays, moved_to_shelved, or_never_stays, set_given_shelved, set_row_stays, subtask_row_stays, task_row_stays, thread_row_stays, told_shelved, trap_if_stays, with_thread_handle_shelved}
 use Rattle.task_laws.proofs.ShelvedWords.{handed_on_shelved, if_shelved, published_shelved, put_high_shelved, remove_threads_shelved, stopped_at_shelved, taken_shelved, unblocked_shelved}
 use Rattle.task_machine.specs.Core.{Core}
 use Rattle.task_machine.specs.Labels.{Choice, event_label, held_label, host_label, take_label}
@@ -28,8 +28,8 @@ use Rattle.task_rules.specs.Progress.{Goes, Stops, may}
 use Rattle.task_rules.specs.Scripts.{export_kind, host_at}
 use Rattle.task_rules.specs.Sets.{chosen, handed_out}
 use Rattle.task_rules.specs.Step.{op_row, struck}
-use Rattle.task_rules.specs.Takes.{activated, activated_woken, awaits_again, delivered, delivery_row, enters, held, host_done, host_result, host_row, host_status, may_tell_starting, own_delivered, popped, pushed, rest_of, running, set_delivered, start_admitted, start_held, start_row, started, starting_is_published, starting_told, take_row, thread_taken, thread_taken_for}
-use Rattle.task_rules.specs.Works.{course_for, followed, pended, work_ended}
+use Rattle.task_rules.specs.Takes.{activated, activated_woken, wait_again, delivered, delivery_row, start_sets_flags, take_holds, host_done, host_result, host_row, host_status, may_tell_starting, own_delivered, popped, pushed, rest_of, running, set_delivered, start_admitted, start_holds, start_row, start_begins, starting_is_published, starting_told, take_row, thread_taken, thread_taken_for}
+use Rattle.task_rules.specs.Works.{course_for, followed, poll_pends, poll_ends}
 use Rattle.task_machine.specs.declared.records.Caller.TheVariants as caller
 use Rattle.task_machine.specs.declared.records.Course.TheVariants as course
 use Rattle.task_machine.specs.declared.records.Delivery.TheVariants as delivery
@@ -74,22 +74,22 @@ module _ {base : Core} where
   unfolding starting_told
   starting_told_shelved k w {s = s} q = if_shelved (starting_is_published k s) s (told k status.Starting w (set_starting_published k s)) q (told_shelved k status.Starting w (set_starting_published_shelved k q))
 
-  pub held_shelved : (a0 : ℕ) (a1 : Why) {s : Core} → Shelved base s → Shelved base (held a0 a1 s)
-  unfolding held
-  held_shelved n w {s = s} q = stopped_at_shelved n (place.Held w) q
+  pub take_holds_shelved : (a0 : ℕ) (a1 : Why) {s : Core} → Shelved base s → Shelved base (take_holds a0 a1 s)
+  unfolding take_holds
+  take_holds_shelved n w {s = s} q = stopped_at_shelved n (place.Held w) q
 
-  pub start_held_shelved : (a0 : ℕ) (a1 : Option ℕ) {s : Core} → Shelved base s → Shelved base (start_held a0 a1 s)
-  unfolding start_held
-  start_held_shelved n w {s = s} q = held_shelved n why.Start (starting_told_shelved (task_of n s) w q)
+  pub start_holds_shelved : (a0 : ℕ) (a1 : Option ℕ) {s : Core} → Shelved base s → Shelved base (start_holds a0 a1 s)
+  unfolding start_holds
+  start_holds_shelved n w {s = s} q = take_holds_shelved n why.Start (starting_told_shelved (task_of n s) w q)
 
-  pub enters_shelved : (a0 : ℕ) (a1 : ExportKind) {s : Core} → Shelved base s → Shelved base (enters a0 a1 s)
-  enters_shelved n kind.Sync {s = s} q = forbidding_shelved n (instance_of n s) kind.Sync q
-  enters_shelved n kind.Stackful {s = s} q = q
-  enters_shelved n x {s = s} q = set_do_not_enter_shelved (instance_of n s) true q
+  pub start_sets_flags_shelved : (a0 : ℕ) (a1 : ExportKind) {s : Core} → Shelved base s → Shelved base (start_sets_flags a0 a1 s)
+  start_sets_flags_shelved n kind.Sync {s = s} q = sync_sets_flag_shelved n (instance_of n s) kind.Sync q
+  start_sets_flags_shelved n kind.Stackful {s = s} q = q
+  start_sets_flags_shelved n x {s = s} q = set_do_not_enter_shelved (instance_of n s) true q
 
-  pub started_shelved : (a0 : ℕ) (a1 : Option ℕ) {s : Core} → Shelved base s → Shelved base (started a0 a1 s)
-  unfolding started
-  started_shelved n w {s = s} q = let k = task_of n s in set_place_shelved n place.Running (enters_shelved n (kind_of k s) (told_shelved k status.Started w (set_started_shelved k (with_thread_handle_shelved (instance_of n s) n q))))
+  pub start_begins_shelved : (a0 : ℕ) (a1 : Option ℕ) {s : Core} → Shelved base s → Shelved base (start_begins a0 a1 s)
+  unfolding start_begins
+  start_begins_shelved n w {s = s} q = let k = task_of n s in set_place_shelved n place.Running (start_sets_flags_shelved n (kind_of k s) (told_shelved k status.Started w (set_started_shelved k (with_thread_handle_shelved (instance_of n s) n q))))
 
   pub running_shelved : (a0 : ℕ) {s : Core} → Shelved base s → Shelved base (running a0 s)
   unfolding running
@@ -97,11 +97,11 @@ module _ {base : Core} where
 
   pub start_admitted_stays : (a0 : Mark) (a1 : ℕ) (a2 : Option ℕ) {s : Core} → Shelved base s → (a4 : Bool) → Stays base (start_admitted a0 a1 a2 s a4)
   start_admitted_stays m n w {s = s} q true = running_shelved n q
-  start_admitted_stays m n w {s = s} q false = trap_if_stays base (at_handle_limit s) trap.HandleLimit (may (may_tell (task_of n s) w s) (Goes (take_label m n w) (started n w s) n)) (may_stays base (may_tell (task_of n s) w s) (Goes (take_label m n w) (started n w s) n) (started_shelved n w q))
+  start_admitted_stays m n w {s = s} q false = trap_if_stays base (at_handle_limit s) trap.HandleLimit (may (may_tell (task_of n s) w s) (Goes (take_label m n w) (start_begins n w s) n)) (may_stays base (may_tell (task_of n s) w s) (Goes (take_label m n w) (start_begins n w s) n) (start_begins_shelved n w q))
 
   pub start_row_stays : (a0 : Mark) (a1 : ℕ) (a2 : Option ℕ) {s : Core} → Shelved base s → (a4 : Bool) → Stays base (start_row a0 a1 a2 s a4)
   start_row_stays m n w {s = s} q true = start_admitted_stays m n w q (is_explicit n s)
-  start_row_stays m n w {s = s} q false = may_stays base (may_tell_starting (task_of n s) w s) (Stops (held_label m n w) (start_held n w s)) (start_held_shelved n w q)
+  start_row_stays m n w {s = s} q false = may_stays base (may_tell_starting (task_of n s) w s) (Stops (held_label m n w) (start_holds n w s)) (start_holds_shelved n w q)
 
   pub activated_shelved : (a0 : ℕ) (a1 : Gift) (a2 : Given) {s : Core} → Shelved base s → Shelved base (activated a0 a1 a2 s)
   unfolding activated
@@ -111,12 +111,12 @@ module _ {base : Core} where
   unfolding activated_woken
   activated_woken_shelved n x w g v {s = s} q = activated_shelved n g v (handed_on_shelved x g w q)
 
-  pub awaits_again_shelved : (a0 : ℕ) (a1 : ℕ) {s : Core} → Shelved base s → Shelved base (awaits_again a0 a1 s)
-  unfolding awaits_again
-  awaits_again_shelved n x {s = s} q = stopped_at_shelved n (place.Waiting x true) q
+  pub wait_again_shelved : (a0 : ℕ) (a1 : ℕ) {s : Core} → Shelved base s → Shelved base (wait_again a0 a1 s)
+  unfolding wait_again
+  wait_again_shelved n x {s = s} q = stopped_at_shelved n (place.Waiting x true) q
 
   pub set_delivered_stays : (a0 : Mark) (a1 : ℕ) (a2 : ℕ) (a3 : Choice) {s : Core} → Shelved base s → (a5 : Gift) → Stays base (set_delivered a0 a1 a2 a3 s a5)
-  set_delivered_stays m n x ch {s = s} q NoGift = awaits_again_shelved n x q
+  set_delivered_stays m n x ch {s = s} q NoGift = wait_again_shelved n x q
   set_delivered_stays m n x ch {s = s} q g = let v = handed_out ch s g in may_stays base (may_hand_on x g ch.woken s) (Goes (event_label m n v ch.woken) (activated_woken n x ch.woken g v s) n) (activated_woken_shelved n x ch.woken g v q)
 
   pub own_delivered_stays : (a0 : Mark) (a1 : ℕ) {s : Core} → Shelved base s → (a3 : Gift) → Stays base (own_delivered a0 a1 s a3)
@@ -128,7 +128,7 @@ module _ {base : Core} where
 
   pub delivery_row_stays : (a0 : Mark) (a1 : ℕ) (a2 : Choice) {s : Core} → Shelved base s → (a4 : Delivery) (a5 : Bool) → Stays base (delivery_row a0 a1 a2 s a4 a5)
   delivery_row_stays m n ch {s = s} q d true = delivered_stays m n ch q d
-  delivery_row_stays m n ch {s = s} q d false = held_shelved n (why.Delivery d) q
+  delivery_row_stays m n ch {s = s} q d false = take_holds_shelved n (why.Delivery d) q
 
   pub thread_taken_for_stays : (a0 : Mark) (a1 : ℕ) (a2 : Choice) {s : Core} → Shelved base s → (a4 : Why) → Stays base (thread_taken_for a0 a1 a2 s a4)
   thread_taken_for_stays m n ch {s = s} q why.Start = start_row_stays m n ch.woken q (admits n s why.Start)
@@ -144,18 +144,18 @@ module _ {base : Core} where
   take_row_stays m ch {s = s} q (entry.Push i) = pushed_shelved i q
   take_row_stays m ch {s = s} q (entry.Host i) = host_row_stays m i ch.woken q
 
-  pub pended_shelved : (a0 : ℕ) (a1 : HostDef) {s : Core} → Shelved base s → Shelved base (pended a0 a1 s)
-  unfolding pended
-  pended_shelved i host {s = s} q = set_course_shelved i (course.Goes host) q
+  pub poll_pends_shelved : (a0 : ℕ) (a1 : HostDef) {s : Core} → Shelved base s → Shelved base (poll_pends a0 a1 s)
+  unfolding poll_pends
+  poll_pends_shelved i host {s = s} q = set_course_shelved i (course.Goes host) q
 
   pub followed_shelved : (a0 : WorkCaller) (a1 : ℕ) {s : Core} → Shelved base s → Shelved base (followed a0 a1 s)
   followed_shelved work_caller.Spawn i {s = s} q = set_stage_shelved i stage.Ended q
   followed_shelved (work_caller.Async n to) i {s = s} q = push_high_shelved (entry.Host i) (set_stage_shelved i stage.Finishing q)
   followed_shelved (work_caller.Sync n) i {s = s} q = unblocked_shelved (blocked_on (subtask.Host i) s) (set_stage_shelved i stage.Ended q)
 
-  pub work_ended_shelved : (a0 : ℕ) (a1 : Option ℕ) {s : Core} → Shelved base s → Shelved base (work_ended a0 a1 s)
-  unfolding work_ended
-  work_ended_shelved i v {s = s} q = followed_shelved (work_caller_of i s) i (set_phase_shelved i phase.Complete (set_course_shelved i (course_for v) q))
+  pub poll_ends_shelved : (a0 : ℕ) (a1 : Option ℕ) {s : Core} → Shelved base s → Shelved base (poll_ends a0 a1 s)
+  unfolding poll_ends
+  poll_ends_shelved i v {s = s} q = followed_shelved (work_caller_of i s) i (set_phase_shelved i phase.Complete (set_course_shelved i (course_for v) q))
 
   pub main_started_shelved : (a0 : Component) (a1 : Callee) (a2 : List ℕ) {s : Core} → Shelved base s → Shelved base (main_started a0 a1 a2 s)
   unfolding main_started

@@ -28,11 +28,11 @@ use Rattle.task_machine.specs.declared.trap.Trap.{Trap}
 use Rattle.task_machine.specs.declared.words.Status.{Status}
 use Rattle.task_rules.proofs.KeepWords.{same}
 use Rattle.task_rules.specs.Data.{advanced, assigned, data_row, moved_to, skip_row, skipped, stored}
-use Rattle.task_rules.specs.Ends.{awaited, blocking_exit_row, blocking_left, cancelled, code_row, deactivated, direct_exit_row, direct_exit_to, direct_left, exit_row, exit_row_for, finished, found, has_event_for, held_out, implicit_exit_row, is_told, kind_end, kind_exit_row, leave_row, leaves_no_result, left, let_in, may_tell, own_or_none, passes_after_return, passes_after_stop, restored, result_given, returned, sync_exit_row, sync_left, told, wait_end, yielded}
+use Rattle.task_rules.specs.Ends.{code_waits, blocking_exit_row, blocking_exits, cancelled, code_row, code_stops, direct_exit_row, direct_exit_to, direct_exits, exit_row, exit_row_for, code_exits, code_finds, has_event_for, held_by_flag, implicit_exit_row, is_told, code_kind_row, kind_exit_row, thread_exit_row, leaves_no_result, exit_stops, end_reopens, may_tell, own_or_none, passes_after_return, passes_after_stop, exit_restores, result_given, returned, sync_exit_row, sync_exits, told, code_wait_row, code_yields}
 use Rattle.task_rules.specs.Progress.{Fails, Goes, Never, Ordered, Progress, Stops, Traps, may, or_never, or_trap, trap_if}
 use Rattle.task_rules.specs.Scripts.{script_of, value_of}
-use Rattle.task_rules.specs.Takes.{delivered, held}
-use Rattle.task_rules.specs.Task.{cancel_done, dec_from, dec_row, inc_row, lowered, opened, raised, ret_bad_row, ret_done, ret_row, task_cancel_row, task_row}
+use Rattle.task_rules.specs.Takes.{delivered, take_holds}
+use Rattle.task_rules.specs.Task.{task_cancel_done, dec_from, dec_row, inc_row, dec_lowers, dec_opens, inc_raises, ret_bad_row, ret_done, ret_row, task_cancel_row, task_row}
 use Rattle.task_machine.specs.declared.records.CallEnd.TheVariants as call_end
 use Rattle.task_machine.specs.declared.records.Caller.TheVariants as caller
 use Rattle.task_machine.specs.declared.op.DataOp.TheVariants as data_op
@@ -76,12 +76,12 @@ not_withdrawn_either h = no_way (ap is_withdrawn h)
 unended_by : (k : ℕ) (s t : Core) → t.calls ≡ s.calls → has_ended k s ≡ false → has_ended k t ≡ false
 unended_by k s t same h = ap (λ calls. is_some (option_and_then (λ (c : Call). c.«end») (get calls k))) same ∙ h
 
-calls_restored : (n : ℕ) (s : Core) → (restored n s).calls ≡ s.calls
-unfolding restored set_do_not_suspend on_instance
+calls_restored : (n : ℕ) (s : Core) → (exit_restores n s).calls ≡ s.calls
+unfolding exit_restores set_do_not_suspend on_instance
 calls_restored n s = refl
 
-task_restored : (n : ℕ) (s : Core) → task_of n (restored n s) ≡ task_of n s
-unfolding restored set_do_not_suspend on_instance
+task_restored : (n : ℕ) (s : Core) → task_of n (exit_restores n s) ≡ task_of n s
+unfolding exit_restores set_do_not_suspend on_instance
 task_restored n s = refl
 
 calls_put_high : (n : ℕ) (w : Why) (s : Core) → (put_high n w s).calls ≡ s.calls
@@ -97,8 +97,8 @@ unfolding released
 calls_released [] s = refl
 calls_released (n ∷ ns) s = calls_released ns (released_one n (held_why_of n s) s) ∙ calls_released_one n (held_why_of n s) s
 
-calls_let_in : (i : ℕ) (order : List ℕ) (s : Core) → (let_in i order s).calls ≡ s.calls
-unfolding let_in set_do_not_enter on_instance
+calls_let_in : (i : ℕ) (order : List ℕ) (s : Core) → (end_reopens i order s).calls ≡ s.calls
+unfolding end_reopens set_do_not_enter on_instance
 calls_let_in i order s = calls_released order (set_do_not_enter i false s)
 
 calls_promoted : (n : ℕ) (s : Core) → (promoted n s).calls ≡ s.calls
@@ -193,64 +193,64 @@ module _ {component : Component} {base : Core} {ending : ℕ} where
   unfolding cancelled
   cancelled_sound k w {s = s} q unended gone = told_sound k status.ReturnCancelled w (set_end_sound k call_end.ReturnCancelled unended not_withdrawn_either gone q)
 
-  pub let_in_sound : (a0 : ℕ) (a1 : List ℕ) {s : Core} → Sound component base ending s → Sound component base ending (let_in a0 a1 s)
-  unfolding let_in
-  let_in_sound i order {s = s} q = released_sound order (set_do_not_enter_sound i false q)
+  pub end_reopens_sound : (a0 : ℕ) (a1 : List ℕ) {s : Core} → Sound component base ending s → Sound component base ending (end_reopens a0 a1 s)
+  unfolding end_reopens
+  end_reopens_sound i order {s = s} q = released_sound order (set_do_not_enter_sound i false q)
 
-  pub restored_sound : (a0 : ℕ) {s : Core} → Sound component base ending s → Sound component base ending (restored a0 s)
-  unfolding restored
-  restored_sound n {s = s} q = set_do_not_suspend_sound (instance_of n s) (unwrap_or (saved_own_of n s) false) q
+  pub exit_restores_sound : (a0 : ℕ) {s : Core} → Sound component base ending s → Sound component base ending (exit_restores a0 s)
+  unfolding exit_restores
+  exit_restores_sound n {s = s} q = set_do_not_suspend_sound (instance_of n s) (unwrap_or (saved_own_of n s) false) q
 
-  pub left_sound : (a0 : ℕ) {s : Core} → Sound component base ending s → Sound component base ending (left a0 s)
-  unfolding left
-  left_sound n {s = s} q = ended_sound n (stopped_sound (foot_of n s) (checked_sound (instance_of n s) q))
+  pub exit_stops_sound : (a0 : ℕ) {s : Core} → Sound component base ending s → Sound component base ending (exit_stops a0 s)
+  unfolding exit_stops
+  exit_stops_sound n {s = s} q = ended_sound n (stopped_sound (foot_of n s) (checked_sound (instance_of n s) q))
 
-  pub deactivated_sound : (a0 : ℕ) (a1 : List ℕ) {s : Core} → Sound component base ending s → Sound component base ending (deactivated a0 a1 s)
-  unfolding deactivated
-  deactivated_sound n order {s = s} q = stopped_sound (foot_of n s) (let_in_sound (instance_of n s) order q)
+  pub code_stops_sound : (a0 : ℕ) (a1 : List ℕ) {s : Core} → Sound component base ending s → Sound component base ending (code_stops a0 a1 s)
+  unfolding code_stops
+  code_stops_sound n order {s = s} q = stopped_sound (foot_of n s) (end_reopens_sound (instance_of n s) order q)
 
-  pub finished_sound : (a0 : ℕ) (a1 : List ℕ) {s : Core} → Sound component base ending s → Sound component base ending (finished a0 a1 s)
-  unfolding finished
-  finished_sound n order {s = s} q = ended_sound n (checked_sound (instance_of n s) (deactivated_sound n order q))
+  pub code_exits_sound : (a0 : ℕ) (a1 : List ℕ) {s : Core} → Sound component base ending s → Sound component base ending (code_exits a0 a1 s)
+  unfolding code_exits
+  code_exits_sound n order {s = s} q = ended_sound n (checked_sound (instance_of n s) (code_stops_sound n order q))
 
-  pub yielded_sound : (n : ℕ) (order : List ℕ) {s : Core} → Sound component base ending s → AtBase base n → Sound component base ending (yielded n order s)
-  unfolding yielded
-  yielded_sound n order {s = s} q c =
+  pub code_yields_sound : (n : ℕ) (order : List ℕ) {s : Core} → Sound component base ending s → AtBase base n → Sound component base ending (code_yields n order s)
+  unfolding code_yields
+  code_yields_sound n order {s = s} q c =
       let k = task_of n s in
-      let r : Sound component base ending (set_own_event k (own_or_none (own_event_of k s)) (deactivated n order s)) = set_own_event_sound k (own_or_none (own_event_of k s)) (deactivated_sound n order q) in
+      let r : Sound component base ending (set_own_event k (own_or_none (own_event_of k s)) (code_stops n order s)) = set_own_event_sound k (own_or_none (own_event_of k s)) (code_stops_sound n order q) in
       put_low_sound n (why.Delivery delivery.Yield) r (λ d. is_callback_later n c.0 c.1 r)
 
-  pub found_sound : (n x : ℕ) (order : List ℕ) {s : Core} → Sound component base ending s → AtBase base n → Sound component base ending (found n x order s)
-  unfolding found
-  found_sound n x order {s = s} q c =
-      let r : Sound component base ending (deactivated n order s) = deactivated_sound n order q in
+  pub code_finds_sound : (n x : ℕ) (order : List ℕ) {s : Core} → Sound component base ending s → AtBase base n → Sound component base ending (code_finds n x order s)
+  unfolding code_finds
+  code_finds_sound n x order {s = s} q c =
+      let r : Sound component base ending (code_stops n order s) = code_stops_sound n order q in
       put_high_sound n (why.Delivery (delivery.Set x)) r (λ d. is_callback_later n c.0 c.1 r)
 
-  pub awaited_sound : (n x : ℕ) (order : List ℕ) {s : Core} → Sound component base ending s → AtBase base n → Sound component base ending (awaited n x order s)
-  unfolding awaited
-  awaited_sound n x order {s = s} q c =
-      let r : Sound component base ending (deactivated n order s) = deactivated_sound n order q in
+  pub code_waits_sound : (n x : ℕ) (order : List ℕ) {s : Core} → Sound component base ending s → AtBase base n → Sound component base ending (code_waits n x order s)
+  unfolding code_waits
+  code_waits_sound n x order {s = s} q c =
+      let r : Sound component base ending (code_stops n order s) = code_stops_sound n order q in
       set_place_sound n (place.Waiting x true) r (λ d. is_callback_later n c.0 c.1 r)
 
   pub ret_done_sound : (n v : ℕ) (w : Option ℕ) {s : Core} → Sound component base ending s → has_ended (task_of n s) s ≡ false → is_async_lifted (kind_of (task_of n s) s) ≡ true → Sound component base ending (ret_done n v w s)
   unfolding ret_done
   ret_done_sound n v w {s = s} q unended lifted = advanced_sound n (returned_sound (task_of n s) v w q unended (λ c is not_lifted other. lifted_stays (task_of n s) s lifted c is not_lifted))
 
-  pub cancel_done_sound : (n : ℕ) (w : Option ℕ) {s : Core} → Sound component base ending s → has_ended (task_of n s) s ≡ false → is_async_lifted (kind_of (task_of n s) s) ≡ true → Sound component base ending (cancel_done n w s)
-  unfolding cancel_done
-  cancel_done_sound n w {s = s} q unended lifted = advanced_sound n (cancelled_sound (task_of n s) w q unended (λ c is not_lifted other. lifted_stays (task_of n s) s lifted c is not_lifted))
+  pub task_cancel_done_sound : (n : ℕ) (w : Option ℕ) {s : Core} → Sound component base ending s → has_ended (task_of n s) s ≡ false → is_async_lifted (kind_of (task_of n s) s) ≡ true → Sound component base ending (task_cancel_done n w s)
+  unfolding task_cancel_done
+  task_cancel_done_sound n w {s = s} q unended lifted = advanced_sound n (cancelled_sound (task_of n s) w q unended (λ c is not_lifted other. lifted_stays (task_of n s) s lifted c is not_lifted))
 
-  pub raised_sound : (a0 : ℕ) {s : Core} → Sound component base ending s → Sound component base ending (raised a0 s)
-  unfolding raised
-  raised_sound n {s = s} q = let i = instance_of n s in advanced_sound n (set_backpressure_sound i (backpressure_of i s + 1) q)
+  pub inc_raises_sound : (a0 : ℕ) {s : Core} → Sound component base ending s → Sound component base ending (inc_raises a0 s)
+  unfolding inc_raises
+  inc_raises_sound n {s = s} q = let i = instance_of n s in advanced_sound n (set_backpressure_sound i (backpressure_of i s + 1) q)
 
-  pub lowered_sound : (a0 : ℕ) {s : Core} → Sound component base ending s → Sound component base ending (lowered a0 s)
-  unfolding lowered
-  lowered_sound n {s = s} q = let i = instance_of n s in advanced_sound n (set_backpressure_sound i (backpressure_of i s - 1) q)
+  pub dec_lowers_sound : (a0 : ℕ) {s : Core} → Sound component base ending s → Sound component base ending (dec_lowers a0 s)
+  unfolding dec_lowers
+  dec_lowers_sound n {s = s} q = let i = instance_of n s in advanced_sound n (set_backpressure_sound i (backpressure_of i s - 1) q)
 
-  pub opened_sound : (a0 : ℕ) (a1 : List ℕ) {s : Core} → Sound component base ending s → Sound component base ending (opened a0 a1 s)
-  unfolding opened
-  opened_sound n order {s = s} q = advanced_sound n (released_sound order (set_backpressure_sound (instance_of n s) 0 q))
+  pub dec_opens_sound : (a0 : ℕ) (a1 : List ℕ) {s : Core} → Sound component base ending s → Sound component base ending (dec_opens a0 a1 s)
+  unfolding dec_opens
+  dec_opens_sound n order {s = s} q = advanced_sound n (released_sound order (set_backpressure_sound (instance_of n s) 0 q))
 
 module _ {component : Component} {base : Core} where
   -- ---- Sync-lifted calls
@@ -302,47 +302,47 @@ module _ {component : Component} {base : Core} where
   data_row_kept n {s = s} q (data_op.SkipEq x y ops) = skip_row_kept n ops q (value_of n s x == value_of n s y)
 
   -- where its call has ended on the way
-  pub left_closes : (n : ℕ) {s : Core} → Sound component base n s → Sound component base 0 (left n s)
-  unfolding left
+  pub left_closes : (n : ℕ) {s : Core} → Sound component base n s → Sound component base 0 (exit_stops n s)
+  unfolding exit_stops
   left_closes n {s = s} q = ended_closes n (stopped_sound (foot_of n s) (checked_sound (instance_of n s) q))
 
-  pub leave_row_kept : (a0 : ℕ) {s : Core} → Sound component base 0 s → Kept component base (leave_row a0 s)
-  leave_row_kept n {s = s} q = trap_if_kept component base (not (passes_check (instance_of n s) s)) trap.CannotBlockSyncTask (trap_if (leaves_no_result n s) trap.NoAsyncResult (Stops (exit_label n None) (left n s))) (trap_if_kept component base (leaves_no_result n s) trap.NoAsyncResult (Stops (exit_label n None) (left n s)) (left_sound n q))
+  pub thread_exit_row_kept : (a0 : ℕ) {s : Core} → Sound component base 0 s → Kept component base (thread_exit_row a0 s)
+  thread_exit_row_kept n {s = s} q = trap_if_kept component base (not (passes_check (instance_of n s) s)) trap.CannotBlockSyncTask (trap_if (leaves_no_result n s) trap.NoAsyncResult (Stops (exit_label n None) (exit_stops n s))) (trap_if_kept component base (leaves_no_result n s) trap.NoAsyncResult (Stops (exit_label n None) (exit_stops n s)) (exit_stops_sound n q))
 
-  pub sync_left_sound : (n : ℕ) (w : Option ℕ) {s : Core} → Sound component base 0 s → has_ended (task_of n s) s ≡ false → task_of n s ≡ n → Sound component base 0 (sync_left n w s)
-  unfolding sync_left
-  sync_left_sound n w {s = s} q unended own =
-      let r : Sound component base n (restored n s) = restored_sound n (opens_end q) in
-      ended_closes n (stopped_sound (foot_of n s) (returned_sound (task_of n s) (register_of n 0 s) w r (unended_by (task_of n s) s (restored n s) (calls_restored n s) unended) (λ c is lifted other. absurd (other own))))
+  pub sync_exits_sound : (n : ℕ) (w : Option ℕ) {s : Core} → Sound component base 0 s → has_ended (task_of n s) s ≡ false → task_of n s ≡ n → Sound component base 0 (sync_exits n w s)
+  unfolding sync_exits
+  sync_exits_sound n w {s = s} q unended own =
+      let r : Sound component base n (exit_restores n s) = exit_restores_sound n (opens_end q) in
+      ended_closes n (stopped_sound (foot_of n s) (returned_sound (task_of n s) (register_of n 0 s) w r (unended_by (task_of n s) s (exit_restores n s) (calls_restored n s) unended) (λ c is lifted other. absurd (other own))))
 
   pub sync_exit_row_kept : (n : ℕ) (w : Option ℕ) {s : Core} → Sound component base 0 s → has_ended (task_of n s) s ≡ false → task_of n s ≡ n → Kept component base (sync_exit_row n w s)
-  sync_exit_row_kept n w {s = s} q unended own = may_kept component base (may_tell (task_of n s) w s) (Stops (exit_label n w) (sync_left n w s)) (sync_left_sound n w q unended own)
+  sync_exit_row_kept n w {s = s} q unended own = may_kept component base (may_tell (task_of n s) w s) (Stops (exit_label n w) (sync_exits n w s)) (sync_exits_sound n w q unended own)
 
-  pub blocking_left_sound : (n : ℕ) (w : Option ℕ) (order : List ℕ) {s : Core} → Sound component base 0 s → has_ended (task_of n s) s ≡ false → task_of n s ≡ n → Sound component base 0 (blocking_left n w order s)
-  unfolding blocking_left
-  blocking_left_sound n w order {s = s} q unended own =
-      let r : Sound component base n (let_in (instance_of n s) order s) = let_in_sound (instance_of n s) order (opens_end q) in
-      left_closes n (returned_sound (task_of n s) (register_of n 0 s) w r (unended_by (task_of n s) s (let_in (instance_of n s) order s) (calls_let_in (instance_of n s) order s) unended) (λ c is lifted other. absurd (other own)))
+  pub blocking_exits_sound : (n : ℕ) (w : Option ℕ) (order : List ℕ) {s : Core} → Sound component base 0 s → has_ended (task_of n s) s ≡ false → task_of n s ≡ n → Sound component base 0 (blocking_exits n w order s)
+  unfolding blocking_exits
+  blocking_exits_sound n w order {s = s} q unended own =
+      let r : Sound component base n (end_reopens (instance_of n s) order s) = end_reopens_sound (instance_of n s) order (opens_end q) in
+      left_closes n (returned_sound (task_of n s) (register_of n 0 s) w r (unended_by (task_of n s) s (end_reopens (instance_of n s) order s) (calls_let_in (instance_of n s) order s) unended) (λ c is lifted other. absurd (other own)))
 
   pub blocking_exit_row_kept : (a0 : ℕ) (a1 : Option ℕ) {s : Core} → Sound component base 0 s → has_ended (task_of a0 s) s ≡ false → task_of a0 s ≡ a0 → Kept component base (blocking_exit_row a0 a1 s)
-  blocking_exit_row_kept n w {s = s} q unended own = let held = held_out (instance_of n s) s in trap_if_kept component base (not (passes_after_return (instance_of n s) (task_of n s) held s)) trap.CannotBlockSyncTask (may (may_tell (task_of n s) w s) (Ordered held (λ order. Stops (exit_label n w) (blocking_left n w order s)))) (may_kept component base (may_tell (task_of n s) w s) (Ordered held (λ order. Stops (exit_label n w) (blocking_left n w order s))) (λ order. blocking_left_sound n w order q unended own))
+  blocking_exit_row_kept n w {s = s} q unended own = let held = held_by_flag (instance_of n s) s in trap_if_kept component base (not (passes_after_return (instance_of n s) (task_of n s) held s)) trap.CannotBlockSyncTask (may (may_tell (task_of n s) w s) (Ordered held (λ order. Stops (exit_label n w) (blocking_exits n w order s)))) (may_kept component base (may_tell (task_of n s) w s) (Ordered held (λ order. Stops (exit_label n w) (blocking_exits n w order s))) (λ order. blocking_exits_sound n w order q unended own))
 
-  pub direct_left_sound : (n m v : ℕ) {s : Core} → Sound component base 0 s → has_ended (task_of n s) s ≡ false → task_of n s ≡ n → Sound component base 0 (direct_left n m v s)
-  unfolding direct_left
-  direct_left_sound n m v {s = s} q unended own =
+  pub direct_exits_sound : (n m v : ℕ) {s : Core} → Sound component base 0 s → has_ended (task_of n s) s ≡ false → task_of n s ≡ n → Sound component base 0 (direct_exits n m v s)
+  unfolding direct_exits
+  direct_exits_sound n m v {s = s} q unended own =
       let r : Sound component base n (set_end (task_of n s) call_end.Returned s) = set_end_sound (task_of n s) call_end.Returned unended not_withdrawn (λ c is lifted other. absurd (other own)) (opens_end q) in
       set_how_far_sound m (how_far.Answered v) (set_place_sound m place.Running (ended_closes n r) no_way)
 
-  direct_exit_checked : (n m : ℕ) {s : Core} → Sound component base 0 s → has_ended (task_of n s) s ≡ false → task_of n s ≡ n → Kept component base (trap_if (not (passes_check (instance_of n s) s)) trap.CannotBlockSyncTask (Goes (exit_label n None) (direct_left n m (register_of n 0 s) (checked (instance_of n s) s)) m))
+  direct_exit_checked : (n m : ℕ) {s : Core} → Sound component base 0 s → has_ended (task_of n s) s ≡ false → task_of n s ≡ n → Kept component base (trap_if (not (passes_check (instance_of n s) s)) trap.CannotBlockSyncTask (Goes (exit_label n None) (direct_exits n m (register_of n 0 s) (checked (instance_of n s) s)) m))
   direct_exit_checked n m {s = s} q unended own =
       let i = instance_of n s in
       let t = checked i s in
       let task : task_of n t ≡ task_of n s = task_checked i s n in
-      trap_if_kept component base (not (passes_check i s)) trap.CannotBlockSyncTask (Goes (exit_label n None) (direct_left n m (register_of n 0 s) t) m) (direct_left_sound n m (register_of n 0 s) (checked_sound i q) (unended_by (task_of n t) s t (calls_checked i s) (ap (λ k. has_ended k s) task ∙ unended)) (task ∙ own))
+      trap_if_kept component base (not (passes_check i s)) trap.CannotBlockSyncTask (Goes (exit_label n None) (direct_exits n m (register_of n 0 s) t) m) (direct_exits_sound n m (register_of n 0 s) (checked_sound i q) (unended_by (task_of n t) s t (calls_checked i s) (ap (λ k. has_ended k s) task ∙ unended)) (task ∙ own))
 
   pub direct_exit_to_kept : (n : ℕ) (x : ExportKind) {s : Core} → Sound component base 0 s → (o : Option ℕ) → has_ended (task_of n s) s ≡ false → task_of n s ≡ n → Kept component base (direct_exit_to n x s o)
   direct_exit_to_kept n x {s = s} q None unended own = tt
-  direct_exit_to_kept n kind.Sync {s = s} q (Some m) unended own = direct_left_sound n m (register_of n 0 s) (restored_sound n q) (unended_by (task_of n (restored n s)) s (restored n s) (calls_restored n s) (ap (λ k. has_ended k s) (task_restored n s) ∙ unended)) (task_restored n s ∙ own)
+  direct_exit_to_kept n kind.Sync {s = s} q (Some m) unended own = direct_exits_sound n m (register_of n 0 s) (exit_restores_sound n q) (unended_by (task_of n (exit_restores n s)) s (exit_restores n s) (calls_restored n s) (ap (λ k. has_ended k s) (task_restored n s) ∙ unended)) (task_restored n s ∙ own)
   direct_exit_to_kept n kind.Blocking {s = s} q (Some m) unended own = direct_exit_checked n m q unended own
   direct_exit_to_kept n kind.Stackful {s = s} q (Some m) unended own = direct_exit_checked n m q unended own
   direct_exit_to_kept n kind.Callback {s = s} q (Some m) unended own = direct_exit_checked n m q unended own
@@ -350,30 +350,30 @@ module _ {component : Component} {base : Core} where
   pub direct_exit_row_kept : (n : ℕ) {s : Core} → Sound component base 0 s → has_ended (task_of n s) s ≡ false → task_of n s ≡ n → Kept component base (direct_exit_row n s)
   direct_exit_row_kept n {s = s} q unended own = direct_exit_to_kept n (kind_of (task_of n s) s) q (under_of n s) unended own
 
-  pub wait_end_kept : (l : Label) (n x : ℕ) (held : List ℕ) {s : Core} → Sound component base 0 s → (b : Bool) → AtBase base n → Kept component base (wait_end l n x held s b)
-  wait_end_kept l n x held {s = s} q true c = λ order. found_sound n x order q c
-  wait_end_kept l n x held {s = s} q false c = λ order. awaited_sound n x order q c
+  pub code_wait_row_kept : (l : Label) (n x : ℕ) (held : List ℕ) {s : Core} → Sound component base 0 s → (b : Bool) → AtBase base n → Kept component base (code_wait_row l n x held s b)
+  code_wait_row_kept l n x held {s = s} q true c = λ order. code_finds_sound n x order q c
+  code_wait_row_kept l n x held {s = s} q false c = λ order. code_waits_sound n x order q c
 
-  pub kind_zero_kept : (l : Label) (n : ℕ) (held : List ℕ) {s : Core} → Sound component base 0 s → (rest : ℕ) → Kept component base (kind_end l n held s zero rest)
-  kind_zero_kept l n held {s = s} q rest = trap_if_kept component base (not (passes_after_stop (instance_of n s) (foot_of n s) held s)) trap.CannotBlockSyncTask (trap_if (leaves_no_result n s) trap.NoAsyncResult (Ordered held (λ order. Stops l (finished n order s)))) (trap_if_kept component base (leaves_no_result n s) trap.NoAsyncResult (Ordered held (λ order. Stops l (finished n order s))) (λ order. finished_sound n order q))
+  pub kind_zero_kept : (l : Label) (n : ℕ) (held : List ℕ) {s : Core} → Sound component base 0 s → (rest : ℕ) → Kept component base (code_kind_row l n held s zero rest)
+  kind_zero_kept l n held {s = s} q rest = trap_if_kept component base (not (passes_after_stop (instance_of n s) (foot_of n s) held s)) trap.CannotBlockSyncTask (trap_if (leaves_no_result n s) trap.NoAsyncResult (Ordered held (λ order. Stops l (code_exits n order s)))) (trap_if_kept component base (leaves_no_result n s) trap.NoAsyncResult (Ordered held (λ order. Stops l (code_exits n order s))) (λ order. code_exits_sound n order q))
 
-  pub kind_end_kept : (a0 : Label) (a1 : ℕ) (a2 : List ℕ) {s : Core} → Sound component base 0 s → (a4 : ℕ) (a5 : ℕ) → AtBase base a1 → Kept component base (kind_end a0 a1 a2 s a4 a5)
-  kind_end_kept l n held {s = s} q zero rest c = kind_zero_kept l n held q rest
-  kind_end_kept l n held {s = s} q (suc zero) rest c = λ order. yielded_sound n order q c
-  kind_end_kept l n held {s = s} q (suc (suc zero)) rest c = or_trap_kept component base (set_at (instance_of n s) rest s) trap.BadHandle (λ x. wait_end l n x held s (has_event_for (task_of n s) x s)) (λ x is. wait_end_kept l n x held q (has_event_for (task_of n s) x s) c)
-  kind_end_kept l n held {s = s} q u1 rest c = tt
+  pub code_kind_row_kept : (a0 : Label) (a1 : ℕ) (a2 : List ℕ) {s : Core} → Sound component base 0 s → (a4 : ℕ) (a5 : ℕ) → AtBase base a1 → Kept component base (code_kind_row a0 a1 a2 s a4 a5)
+  code_kind_row_kept l n held {s = s} q zero rest c = kind_zero_kept l n held q rest
+  code_kind_row_kept l n held {s = s} q (suc zero) rest c = λ order. code_yields_sound n order q c
+  code_kind_row_kept l n held {s = s} q (suc (suc zero)) rest c = or_trap_kept component base (set_at (instance_of n s) rest s) trap.BadHandle (λ x. code_wait_row l n x held s (has_event_for (task_of n s) x s)) (λ x is. code_wait_row_kept l n x held q (has_event_for (task_of n s) x s) c)
+  code_kind_row_kept l n held {s = s} q u1 rest c = tt
 
   -- code 0: the thread ends
   pub code_zero_kept : (l : Label) (n : ℕ) {s : Core} → Sound component base 0 s → Kept component base (code_row l n s 0)
-  code_zero_kept l n {s = s} q = kind_zero_kept l n (held_out (instance_of n s) s) q 0
+  code_zero_kept l n {s = s} q = kind_zero_kept l n (held_by_flag (instance_of n s) s) q 0
 
   pub code_row_kept : (a0 : Label) (a1 : ℕ) {s : Core} → Sound component base 0 s → (a3 : ℕ) → AtBase base a1 → Kept component base (code_row a0 a1 s a3)
-  code_row_kept l n {s = s} q code c = trap_if_kept component base (nat_lt 4294967295 code) trap.UnsupportedCallbackCode (kind_end l n (held_out (instance_of n s) s) s (code % 16) (code / 16)) (kind_end_kept l n (held_out (instance_of n s) s) q (code % 16) (code / 16) c)
+  code_row_kept l n {s = s} q code c = trap_if_kept component base (nat_lt 4294967295 code) trap.UnsupportedCallbackCode (code_kind_row l n (held_by_flag (instance_of n s) s) s (code % 16) (code / 16)) (code_kind_row_kept l n (held_by_flag (instance_of n s) s) q (code % 16) (code / 16) c)
 
   pub kind_exit_row_kept : (n : ℕ) (w : Option ℕ) {s : Core} → Sound component base 0 s → (k : ExportKind) → kind_of (task_of n s) s ≡ k → is_explicit n s ≡ false → Kept component base (kind_exit_row n w s k)
   kind_exit_row_kept n w {s = s} q kind.Sync is implicit = let h = unended_first n q implicit (ap (λ y. is_async_lifted y) is) in sync_exit_row_kept n w q h.1 h.0
   kind_exit_row_kept n w {s = s} q kind.Blocking is implicit = let h = unended_first n q implicit (ap (λ y. is_async_lifted y) is) in blocking_exit_row_kept n w q h.1 h.0
-  kind_exit_row_kept n w {s = s} q kind.Stackful is implicit = leave_row_kept n q
+  kind_exit_row_kept n w {s = s} q kind.Stackful is implicit = thread_exit_row_kept n q
   kind_exit_row_kept n w {s = s} q kind.Callback is implicit = code_zero_kept (exit_label n None) n q
 
   pub implicit_exit_row_kept : (n : ℕ) (w : Option ℕ) {s : Core} → Sound component base 0 s → (b : Bool) → is_direct (goal_of (task_of n s) s) ≡ b → is_explicit n s ≡ false → Kept component base (implicit_exit_row n w s b)
@@ -381,7 +381,7 @@ module _ {component : Component} {base : Core} where
   implicit_exit_row_kept n w {s = s} q false is implicit = kind_exit_row_kept n w q (kind_of (task_of n s) s) refl implicit
 
   pub exit_row_for_kept : (n : ℕ) (w : Option ℕ) {s : Core} → Sound component base 0 s → (b : Bool) → is_explicit n s ≡ b → Kept component base (exit_row_for n w s b)
-  exit_row_for_kept n w {s = s} q true is = leave_row_kept n q
+  exit_row_for_kept n w {s = s} q true is = thread_exit_row_kept n q
   exit_row_for_kept n w {s = s} q false is = implicit_exit_row_kept n w q (is_direct (goal_of (task_of n s) s)) refl is
 
   pub exit_row_kept : (n : ℕ) (w : Option ℕ) {s : Core} → Sound component base 0 s → Kept component base (exit_row n w s)
@@ -400,17 +400,17 @@ module _ {component : Component} {base : Core} where
   pub task_cancel_row_kept : (n : ℕ) (w : Option ℕ) {s : Core} → Sound component base 0 s → Kept component base (task_cancel_row n w s)
   task_cancel_row_kept n w {s = s} q =
       let k = task_of n s in
-      trap_if_when component base (not (cancel_was_delivered k s)) trap.TaskCancelNotCancelled (trap_if (has_ended k s) trap.TaskCancelOrReturnTwice (may (may_tell k w s) (Goes (task_cancel_label n w) (cancel_done n w s) n))) (λ delivered.
-      trap_if_when component base (has_ended k s) trap.TaskCancelOrReturnTwice (may (may_tell k w s) (Goes (task_cancel_label n w) (cancel_done n w s) n)) (λ unended.
-      may_kept component base (may_tell k w s) (Goes (task_cancel_label n w) (cancel_done n w s) n) (cancel_done_sound n w q unended (delivered_lifted k q (not_false _ delivered)))))
+      trap_if_when component base (not (cancel_was_delivered k s)) trap.TaskCancelNotCancelled (trap_if (has_ended k s) trap.TaskCancelOrReturnTwice (may (may_tell k w s) (Goes (task_cancel_label n w) (task_cancel_done n w s) n))) (λ delivered.
+      trap_if_when component base (has_ended k s) trap.TaskCancelOrReturnTwice (may (may_tell k w s) (Goes (task_cancel_label n w) (task_cancel_done n w s) n)) (λ unended.
+      may_kept component base (may_tell k w s) (Goes (task_cancel_label n w) (task_cancel_done n w s) n) (task_cancel_done_sound n w q unended (delivered_lifted k q (not_false _ delivered)))))
 
   pub inc_row_kept : (a0 : ℕ) {s : Core} → Sound component base 0 s → Kept component base (inc_row a0 s)
-  inc_row_kept n {s = s} q = trap_if_kept component base (nat_le 65535 (backpressure_of (instance_of n s) s)) trap.BackpressureOverflow (Goes (label.Task (task_label.BpInc n)) (raised n s) n) (raised_sound n q)
+  inc_row_kept n {s = s} q = trap_if_kept component base (nat_le 65535 (backpressure_of (instance_of n s) s)) trap.BackpressureOverflow (Goes (label.Task (task_label.BpInc n)) (inc_raises n s) n) (inc_raises_sound n q)
 
   pub dec_from_kept : (a0 : ℕ) {s : Core} → Sound component base 0 s → (a2 : ℕ) → Kept component base (dec_from a0 s a2)
   dec_from_kept n {s = s} q zero = tt
-  dec_from_kept n {s = s} q (suc zero) = λ order. opened_sound n order q
-  dec_from_kept n {s = s} q (suc (suc b)) = lowered_sound n q
+  dec_from_kept n {s = s} q (suc zero) = λ order. dec_opens_sound n order q
+  dec_from_kept n {s = s} q (suc (suc b)) = dec_lowers_sound n q
 
   pub dec_row_kept : (a0 : ℕ) {s : Core} → Sound component base 0 s → Kept component base (dec_row a0 s)
   dec_row_kept n {s = s} q = dec_from_kept n q (backpressure_of (instance_of n s) s)

@@ -31,13 +31,14 @@ use Rattle.task_machine.specs.declared.records.Why.{Why}
 use Rattle.task_machine.specs.declared.words.Given.{Given}
 use Rattle.task_machine.specs.declared.words.OwnEvent.{OwnEvent}
 use Rattle.task_machine.specs.declared.words.Status.{Status}
+use Rattle.task_rules.proofs.CancelLemmas.{CaseSays, case_says}
 use Rattle.task_rules.proofs.KeepWords.{same}
-use Rattle.task_rules.specs.Calls.{AtOnce, Failing, FirstPoll, Later, answered, blocked, call_answered, call_begins, call_blocked, call_host_polled, call_host_row, call_pending, call_returned, call_row, call_status, call_sync_begins, call_sync_host_polled, call_sync_host_row, call_sync_row, call_sync_status, called, called_back, enter_row, entered, first_poll, forbidding, host_answered, host_blocked, host_pending, host_ready, new_thread, next_thread, next_work, put_back, settle_group_of, status_found, suspending, with_handle, with_thread_handle, work_answered, work_deleted, work_group, work_value}
-use Rattle.task_rules.specs.Cancels.{Async, Mode, Sync, aborted_phase, after_cancel, asked, awaiting, behind_switch, blocked_code, by_end, cancel_delivered_to, cancel_found, cancel_guest, cancel_host, cancel_resumed, cancel_row, cancel_running, cancel_subtask, cancel_yield, drop_found, drop_row, dropped, end_taken, ended_row, host_cancelled, is_callback_wait, lets_go_on, not_ended_row, pauses, start_withdrawn, subtask_instance, subtask_row, subtask_settled, yield_cancelled}
+use Rattle.task_rules.specs.Calls.{AtOnce, Failing, FirstPoll, Later, answered, call_stops, call_answered, call_begins, call_sync_stops, call_host_polled, call_host_row, call_pending, call_returned, call_row, call_status, call_sync_begins, call_sync_host_polled, call_sync_host_row, call_sync_row, call_sync_status, call_queues, call_resumes, enter_row, enter_runs, first_poll, sync_sets_flag, host_answered, call_sync_host_stops, host_pending, host_ready, new_thread, next_thread, next_work, put_back, settle_group_of, status_found, call_clears_flag, with_handle, with_thread_handle, work_answered, work_deleted, work_group, work_value}
+use Rattle.task_rules.specs.Cancels.{AlreadyEnded, CallbackWaits, CallbackYields, CancelCase, OtherwiseRuns, StartNotRun, cancel_case, Async, Mode, Sync, aborted_phase, after_cancel, cancel_asks, cancel_stops, behind_switch, blocked_code, cancel_by_end, cancel_wakes_callback, cancel_found, cancel_guest, cancel_host, cancel_resumed, cancel_row, cancel_subtask, drop_found, drop_row, dropped, cancel_takes_end, cancel_ended_row, cancel_aborts_host, is_callback_wait, cancel_goes_behind, cancel_unended_row, pauses, cancel_withdraws, subtask_instance, subtask_row, subtask_settled, cancel_promotes_yield}
 use Rattle.task_rules.specs.Progress.{Goes, Progress, Stops, may, or_never, or_trap, trap_if}
 use Rattle.task_rules.specs.Scripts.{export_kind, host_at, registers_for, slot_at, value_of, values_in}
-use Rattle.task_rules.specs.Sets.{begun_waiting, chosen, finds_nothing, given_code, given_handle, given_result, handed_out, join_done, join_row, join_to, joined, joins, may_wake_new, poll_row, poll_takes, received, received_woken, set_drop_found, set_drop_row, set_dropped, set_given, set_made, set_new_row, set_row, wait_begins, wait_goes_on, wait_row, wait_takes, waiting, wakes_joined}
-use Rattle.task_rules.specs.Takes.{started}
+use Rattle.task_rules.specs.Sets.{wait_stops_checked, chosen, finds_nothing, given_code, given_handle, given_result, handed_out, join_done, join_row, join_to, joined, joins, may_wake_new, poll_row, poll_takes, received, received_woken, set_drop_found, set_drop_row, set_dropped, set_given, set_made, set_new_row, set_row, wait_begins, wait_goes_on, wait_row, wait_takes, wait_stops, wakes_joined}
+use Rattle.task_rules.specs.Takes.{start_begins}
 use Rattle.task_rules.specs.Threads.{Halt, Suspension, Yielding, by_how_far, halt_row, halted, halted_checked, halted_promoting, halted_resuming, halting, halts, has_yielded, resume_at, resume_later_found, resume_later_row, resume_why, resumed_later, then_promote, then_promote_found, then_promote_row, then_resume_found, then_resume_row, thread_index_row, thread_made, thread_new_label, thread_new_row, thread_row}
 use Rattle.task_machine.specs.declared.label.CallLabel.TheVariants as call_label
 use Rattle.task_machine.specs.declared.op.CallOp.TheVariants as call_op
@@ -92,8 +93,8 @@ callback_wait_is_delivered None h = no_way h
 callback_wait_is_delivered (Some (place.Waiting x c)) h = h
 callback_wait_is_delivered (Some _) h = no_way h
 
-callback_asked : (k : ℕ) (s : Core) → IsCallback k s → IsCallback k (asked k s)
-unfolding asked set_own_event on_call
+callback_asked : (k : ℕ) (s : Core) → IsCallback k s → IsCallback k (cancel_asks k s)
+unfolding cancel_asks set_own_event on_call
 callback_asked k s h = ap (λ y. is_callback y) (change_read (λ c. c.kind) kind.Callback s.calls k (λ c. record c { own_event = Some own.Cancelled }) (λ c. refl) (task_of k s)) ∙ h
 
 resumes_at : (b : Bool) (p : Place) → option_map_or is_delivery (resume_at b p) false ≡ false
@@ -125,13 +126,13 @@ module _ {component : Component} {base : Core} {ending : ℕ} where
   unfolding received
   received_sound n r g v {s = s} q calm = advanced_sound n (set_given_sound n r v (taken_sound g (task_of n s) q (λ h. no_way (sym calm ∙ h))))
 
-  pub waiting_sound : (a0 : ℕ) (a1 : ℕ) {s : Core} → Sound component base ending s → Sound component base ending (waiting a0 a1 s)
-  unfolding waiting
-  waiting_sound n x {s = s} q = set_how_far_sound n (how_far.Waits x) (stopped_at_sound n (place.Waiting x false) q no_way)
+  pub wait_stops_sound : (a0 : ℕ) (a1 : ℕ) {s : Core} → Sound component base ending s → Sound component base ending (wait_stops a0 a1 s)
+  unfolding wait_stops
+  wait_stops_sound n x {s = s} q = set_how_far_sound n (how_far.Waits x) (stopped_at_sound n (place.Waiting x false) q no_way)
 
-  pub begun_waiting_sound : (a0 : ℕ) (a1 : ℕ) {s : Core} → Sound component base ending s → Sound component base ending (begun_waiting a0 a1 s)
-  unfolding begun_waiting
-  begun_waiting_sound n x {s = s} q = waiting_sound n x (checked_sound (instance_of n s) q)
+  pub wait_stops_checked_sound : (a0 : ℕ) (a1 : ℕ) {s : Core} → Sound component base ending s → Sound component base ending (wait_stops_checked a0 a1 s)
+  unfolding wait_stops_checked
+  wait_stops_checked_sound n x {s = s} q = wait_stops_sound n x (checked_sound (instance_of n s) q)
 
   pub received_woken_sound : (n x r : ℕ) (w : Option ℕ) (g : Gift) (v : Given) {s : Core} → Sound component base ending s → is_cancel_gift g ≡ false → Sound component base ending (received_woken n x r w g v s)
   unfolding received_woken
@@ -145,21 +146,21 @@ module _ {component : Component} {base : Core} {ending : ℕ} where
   unfolding joined
   joined_sound n sub x w {s = s} q = advanced_sound n (wakes_joined_sound (event_of sub s) x w (set_join_sound sub (joins x) q))
 
-  pub suspending_sound : (a0 : ℕ) (a1 : ℕ) (a2 : ExportKind) {s : Core} → Sound component base ending s → Sound component base ending (suspending a0 a1 a2 s)
-  suspending_sound n j kind.Sync {s = s} q = q
-  suspending_sound n j x {s = s} q = set_do_not_suspend_sound j false (set_saved_callee_sound n (Some (may_not_suspend j s)) q)
+  pub call_clears_flag_sound : (a0 : ℕ) (a1 : ℕ) (a2 : ExportKind) {s : Core} → Sound component base ending s → Sound component base ending (call_clears_flag a0 a1 a2 s)
+  call_clears_flag_sound n j kind.Sync {s = s} q = q
+  call_clears_flag_sound n j x {s = s} q = set_do_not_suspend_sound j false (set_saved_callee_sound n (Some (may_not_suspend j s)) q)
 
-  pub called_sound : (a0 : ℕ) (a1 : Callee) (a2 : ExportKind) (a3 : Goal) (a4 : List ℕ) {s : Core} → Sound component base ending s → a2 ≡ export_kind component a1 → (is_direct a3 ≡ true → is_async_lifted a2 ≡ false) → Sound component base ending (called a0 a1 a2 a3 a4 s)
-  unfolding called
-  called_sound n e x g words {s = s} q same direct = let m = next_thread s in set_how_far_sound n (how_far.Calls (subtask.Guest m)) (behind_sound m (n ∷ []) (suspending_sound n e.instance x (put_switch_sound m why.Start (call_made_sound (caller.Thread n) e x g (thread_group n s) words same direct q) no_way)))
+  pub call_queues_sound : (a0 : ℕ) (a1 : Callee) (a2 : ExportKind) (a3 : Goal) (a4 : List ℕ) {s : Core} → Sound component base ending s → a2 ≡ export_kind component a1 → (is_direct a3 ≡ true → is_async_lifted a2 ≡ false) → Sound component base ending (call_queues a0 a1 a2 a3 a4 s)
+  unfolding call_queues
+  call_queues_sound n e x g words {s = s} q same direct = let m = next_thread s in set_how_far_sound n (how_far.Calls (subtask.Guest m)) (behind_sound m (n ∷ []) (call_clears_flag_sound n e.instance x (put_switch_sound m why.Start (call_made_sound (caller.Thread n) e x g (thread_group n s) words same direct q) no_way)))
 
   pub put_back_sound : (a0 : Option Bool) (a1 : ℕ) {s : Core} → Sound component base ending s → Sound component base ending (put_back a0 a1 s)
   put_back_sound None j {s = s} q = q
   put_back_sound (Some b) j {s = s} q = set_do_not_suspend_sound j b q
 
-  pub called_back_sound : (a0 : ℕ) (a1 : ℕ) {s : Core} → Sound component base ending s → Sound component base ending (called_back a0 a1 s)
-  unfolding called_back
-  called_back_sound n k {s = s} q = set_event_sound (subtask.Guest k) None (put_back_sound (saved_callee_of n s) (call_instance k s) q)
+  pub call_resumes_sound : (a0 : ℕ) (a1 : ℕ) {s : Core} → Sound component base ending s → Sound component base ending (call_resumes a0 a1 s)
+  unfolding call_resumes
+  call_resumes_sound n k {s = s} q = set_event_sound (subtask.Guest k) None (put_back_sound (saved_callee_of n s) (call_instance k s) q)
 
   pub answered_sound : (a0 : ℕ) (a1 : ℕ) (a2 : ℕ) {s : Core} → Sound component base ending s → Sound component base ending (answered a0 a1 a2 s)
   unfolding answered
@@ -167,7 +168,7 @@ module _ {component : Component} {base : Core} {ending : ℕ} where
 
   pub call_returned_sound : (a0 : ℕ) (a1 : ℕ) (a2 : ℕ) {s : Core} → Sound component base ending s → Sound component base ending (call_returned a0 a1 a2 s)
   unfolding call_returned
-  call_returned_sound n r k {s = s} q = answered_sound n r 2 (call_settled_sound k (called_back_sound n k q))
+  call_returned_sound n r k {s = s} q = answered_sound n r 2 (call_settled_sound k (call_resumes_sound n k q))
 
   pub with_handle_sound : (a0 : ℕ) (a1 : Subtask) {s : Core} → Sound component base ending s → Sound component base ending (with_handle a0 a1 s)
   unfolding with_handle
@@ -175,31 +176,31 @@ module _ {component : Component} {base : Core} {ending : ℕ} where
 
   pub call_pending_sound : (a0 : ℕ) (a1 : ℕ) (a2 : ℕ) (a3 : ℕ) {s : Core} → Sound component base ending s → Sound component base ending (call_pending a0 a1 a2 a3 s)
   unfolding call_pending
-  call_pending_sound n r k v {s = s} q = answered_sound n r v (with_handle_sound (instance_of n s) (subtask.Guest k) (called_back_sound n k q))
+  call_pending_sound n r k v {s = s} q = answered_sound n r v (with_handle_sound (instance_of n s) (subtask.Guest k) (call_resumes_sound n k q))
 
   pub call_answered_sound : (a0 : ℕ) (a1 : ℕ) (a2 : ℕ) {s : Core} → Sound component base ending s → Sound component base ending (call_answered a0 a1 a2 s)
   unfolding call_answered
-  call_answered_sound n r k {s = s} q = answered_sound n r (result_of k s) (call_settled_sound k (set_result_sound k None (called_back_sound n k q)))
+  call_answered_sound n r k {s = s} q = answered_sound n r (result_of k s) (call_settled_sound k (set_result_sound k None (call_resumes_sound n k q)))
 
-  pub blocked_sound : (a0 : ℕ) (a1 : Subtask) {s : Core} → Sound component base ending s → Sound component base ending (blocked a0 a1 s)
-  unfolding blocked
-  blocked_sound n sub {s = s} q = set_how_far_sound n (how_far.Calls sub) (stopped_at_sound n (place.Blocked sub) q no_way)
+  pub call_stops_sound : (a0 : ℕ) (a1 : Subtask) {s : Core} → Sound component base ending s → Sound component base ending (call_stops a0 a1 s)
+  unfolding call_stops
+  call_stops_sound n sub {s = s} q = set_how_far_sound n (how_far.Calls sub) (stopped_at_sound n (place.Blocked sub) q no_way)
 
-  pub call_blocked_sound : (a0 : ℕ) (a1 : ℕ) {s : Core} → Sound component base ending s → Sound component base ending (call_blocked a0 a1 s)
-  unfolding call_blocked
-  call_blocked_sound n k {s = s} q = blocked_sound n (subtask.Guest k) (checked_sound (instance_of n s) (called_back_sound n k q))
+  pub call_sync_stops_sound : (a0 : ℕ) (a1 : ℕ) {s : Core} → Sound component base ending s → Sound component base ending (call_sync_stops a0 a1 s)
+  unfolding call_sync_stops
+  call_sync_stops_sound n k {s = s} q = call_stops_sound n (subtask.Guest k) (checked_sound (instance_of n s) (call_resumes_sound n k q))
 
-  pub forbidding_sound : (a0 : ℕ) (a1 : ℕ) (a2 : ExportKind) {s : Core} → Sound component base ending s → Sound component base ending (forbidding a0 a1 a2 s)
-  forbidding_sound m j kind.Sync {s = s} q = set_do_not_suspend_sound j true (set_saved_own_sound m (Some (may_not_suspend j s)) q)
-  forbidding_sound m j x {s = s} q = q
+  pub sync_sets_flag_sound : (a0 : ℕ) (a1 : ℕ) (a2 : ExportKind) {s : Core} → Sound component base ending s → Sound component base ending (sync_sets_flag a0 a1 a2 s)
+  sync_sets_flag_sound m j kind.Sync {s = s} q = set_do_not_suspend_sound j true (set_saved_own_sound m (Some (may_not_suspend j s)) q)
+  sync_sets_flag_sound m j x {s = s} q = q
 
   pub with_thread_handle_sound : (a0 : ℕ) (a1 : ℕ) {s : Core} → Sound component base ending s → Sound component base ending (with_thread_handle a0 a1 s)
   unfolding with_thread_handle
   with_thread_handle_sound i m {s = s} q = set_thread_handle_sound m (Some (new_thread_handle i s)) (give_thread_handle_sound i m q)
 
-  pub entered_sound : (a0 : ℕ) (a1 : Callee) (a2 : ExportKind) (a3 : List ℕ) {s : Core} → Sound component base ending s → a2 ≡ export_kind component a1 → is_async_lifted a2 ≡ false → Sound component base ending (entered a0 a1 a2 a3 s)
-  unfolding entered
-  entered_sound n e x words {s = s} q same lifted = let m = next_thread s in set_how_far_sound n (how_far.Calls (subtask.Guest m)) (set_place_sound n (place.Under m) (set_place_sound m place.Running (forbidding_sound m e.instance x (set_started_sound m (with_thread_handle_sound e.instance m (call_made_sound (caller.Thread n) e x goal.Direct (thread_group n s) words same (λ h. lifted) q)))) no_way) no_way)
+  pub enter_runs_sound : (a0 : ℕ) (a1 : Callee) (a2 : ExportKind) (a3 : List ℕ) {s : Core} → Sound component base ending s → a2 ≡ export_kind component a1 → is_async_lifted a2 ≡ false → Sound component base ending (enter_runs a0 a1 a2 a3 s)
+  unfolding enter_runs
+  enter_runs_sound n e x words {s = s} q same lifted = let m = next_thread s in set_how_far_sound n (how_far.Calls (subtask.Guest m)) (set_place_sound n (place.Under m) (set_place_sound m place.Running (sync_sets_flag_sound m e.instance x (set_started_sound m (with_thread_handle_sound e.instance m (call_made_sound (caller.Thread n) e x goal.Direct (thread_group n s) words same (λ h. lifted) q)))) no_way) no_way)
 
   pub host_ready_sound : (a0 : ℕ) (a1 : ℕ) (a2 : ℕ) (a3 : ℕ) {s : Core} → Sound component base ending s → Sound component base ending (host_ready a0 a1 a2 a3 s)
   unfolding host_ready
@@ -213,9 +214,9 @@ module _ {component : Component} {base : Core} {ending : ℕ} where
   unfolding host_answered
   host_answered_sound n r v {s = s} q = assigned_sound n r v (count_work_sound q)
 
-  pub host_blocked_sound : (a0 : ℕ) (a1 : HostDef) {s : Core} → Sound component base ending s → Sound component base ending (host_blocked a0 a1 s)
-  unfolding host_blocked
-  host_blocked_sound n host {s = s} q = blocked_sound n (subtask.Host (next_work s)) (work_queued_sound (work_caller.Sync n) host (Some (thread_group n s)) (checked_sound (instance_of n s) q))
+  pub call_sync_host_stops_sound : (a0 : ℕ) (a1 : HostDef) {s : Core} → Sound component base ending s → Sound component base ending (call_sync_host_stops a0 a1 s)
+  unfolding call_sync_host_stops
+  call_sync_host_stops_sound n host {s = s} q = call_stops_sound n (subtask.Host (next_work s)) (work_queued_sound (work_caller.Sync n) host (Some (thread_group n s)) (checked_sound (instance_of n s) q))
 
   pub settle_group_of_sound : (a0 : Option ℕ) {s : Core} → Sound component base ending s → Sound component base ending (settle_group_of a0 s)
   settle_group_of_sound None {s = s} q = q
@@ -229,41 +230,41 @@ module _ {component : Component} {base : Core} {ending : ℕ} where
   unfolding work_answered
   work_answered_sound n r i {s = s} q = assigned_sound n r (work_value i s) (work_deleted_sound i q)
 
-  pub end_taken_sound : (a0 : ℕ) (a1 : ℕ) (a2 : Subtask) (a3 : Status) {s : Core} → Sound component base ending s → Sound component base ending (end_taken a0 a1 a2 a3 s)
-  unfolding end_taken
-  end_taken_sound n r sub e {s = s} q = answered_sound n r (status_code e) (set_event_sound sub None q)
+  pub cancel_takes_end_sound : (a0 : ℕ) (a1 : ℕ) (a2 : Subtask) (a3 : Status) {s : Core} → Sound component base ending s → Sound component base ending (cancel_takes_end a0 a1 a2 a3 s)
+  unfolding cancel_takes_end
+  cancel_takes_end_sound n r sub e {s = s} q = answered_sound n r (status_code e) (set_event_sound sub None q)
 
-  pub awaiting_sound : (a0 : ℕ) (a1 : Subtask) {s : Core} → Sound component base ending s → Sound component base ending (awaiting a0 a1 s)
-  unfolding awaiting
-  awaiting_sound n sub {s = s} q = set_how_far_sound n (how_far.AwaitsEnd sub) (stopped_at_sound n (place.Blocked sub) (checked_sound (instance_of n s) (set_join_sound sub (join.Watched n) (set_saved_callee_sound n None q))) no_way)
+  pub cancel_stops_sound : (a0 : ℕ) (a1 : Subtask) {s : Core} → Sound component base ending s → Sound component base ending (cancel_stops a0 a1 s)
+  unfolding cancel_stops
+  cancel_stops_sound n sub {s = s} q = set_how_far_sound n (how_far.AwaitsEnd sub) (stopped_at_sound n (place.Blocked sub) (checked_sound (instance_of n s) (set_join_sound sub (join.Watched n) (set_saved_callee_sound n None q))) no_way)
 
-  pub host_cancelled_sound : (a0 : ℕ) {s : Core} → Sound component base ending s → Sound component base ending (host_cancelled a0 s)
-  unfolding host_cancelled
-  host_cancelled_sound i {s = s} q = set_cancelled_sound i (set_phase_sound i (aborted_phase (phase_of i s)) q)
+  pub cancel_aborts_host_sound : (a0 : ℕ) {s : Core} → Sound component base ending s → Sound component base ending (cancel_aborts_host a0 s)
+  unfolding cancel_aborts_host
+  cancel_aborts_host_sound i {s = s} q = set_cancelled_sound i (set_phase_sound i (aborted_phase (phase_of i s)) q)
 
-  pub start_withdrawn_sound : (a0 : ℕ) (a1 : ℕ) (a2 : ℕ) {s : Core} → Sound component base ending s → has_ended a2 s ≡ false → was_started a2 s ≡ false → Sound component base ending (start_withdrawn a0 a1 a2 s)
-  unfolding start_withdrawn
-  start_withdrawn_sound n r k {s = s} q unended unstarted = answered_sound n r 3 (withdrawn_sound k q unended unstarted)
+  pub cancel_withdraws_sound : (a0 : ℕ) (a1 : ℕ) (a2 : ℕ) {s : Core} → Sound component base ending s → has_ended a2 s ≡ false → was_started a2 s ≡ false → Sound component base ending (cancel_withdraws a0 a1 a2 s)
+  unfolding cancel_withdraws
+  cancel_withdraws_sound n r k {s = s} q unended unstarted = answered_sound n r 3 (withdrawn_sound k q unended unstarted)
 
-  pub asked_sound : (a0 : ℕ) {s : Core} → Sound component base ending s → Sound component base ending (asked a0 s)
-  unfolding asked
-  asked_sound k {s = s} q = set_own_event_sound k (Some own.Cancelled) q
+  pub cancel_asks_sound : (a0 : ℕ) {s : Core} → Sound component base ending s → Sound component base ending (cancel_asks a0 s)
+  unfolding cancel_asks
+  cancel_asks_sound k {s = s} q = set_own_event_sound k (Some own.Cancelled) q
 
   pub behind_switch_sound : (a0 : ℕ) (a1 : Option ℕ) {s : Core} → Sound component base ending s → Sound component base ending (behind_switch a0 a1 s)
   behind_switch_sound n None {s = s} q = q
   behind_switch_sound n (Some m) {s = s} q = behind_sound (foot_of m s) (n ∷ []) q
 
-  pub lets_go_on_sound : (a0 : ℕ) (a1 : ℕ) {s : Core} → Sound component base ending s → Sound component base ending (lets_go_on a0 a1 s)
-  unfolding lets_go_on
-  lets_go_on_sound n k {s = s} q = let j = call_instance k s in set_how_far_sound n (how_far.Cancels (subtask.Guest k)) (behind_switch_sound n s.queues.switch (set_join_sound (subtask.Guest k) (join.Watched n) (set_do_not_suspend_sound j false (set_saved_callee_sound n (Some (may_not_suspend j s)) q))))
+  pub cancel_goes_behind_sound : (a0 : ℕ) (a1 : ℕ) {s : Core} → Sound component base ending s → Sound component base ending (cancel_goes_behind a0 a1 s)
+  unfolding cancel_goes_behind
+  cancel_goes_behind_sound n k {s = s} q = let j = call_instance k s in set_how_far_sound n (how_far.Cancels (subtask.Guest k)) (behind_switch_sound n s.queues.switch (set_join_sound (subtask.Guest k) (join.Watched n) (set_do_not_suspend_sound j false (set_saved_callee_sound n (Some (may_not_suspend j s)) q))))
 
-  pub cancel_delivered_to_sound : (n k : ℕ) {s : Core} → Sound component base ending s → is_at k s is_callback_wait ≡ true → Sound component base ending (cancel_delivered_to n k s)
-  unfolding cancel_delivered_to
-  cancel_delivered_to_sound n k {s = s} q waits = lets_go_on_sound n k (put_switch_sound k (why.Delivery delivery.Cancel) (asked_sound k q) (λ d. callback_asked k s (delivered_is_callback k q (callback_wait_is_delivered (place_of k s) waits))))
+  pub cancel_wakes_callback_sound : (n k : ℕ) {s : Core} → Sound component base ending s → is_at k s is_callback_wait ≡ true → Sound component base ending (cancel_wakes_callback n k s)
+  unfolding cancel_wakes_callback
+  cancel_wakes_callback_sound n k {s = s} q waits = cancel_goes_behind_sound n k (put_switch_sound k (why.Delivery delivery.Cancel) (cancel_asks_sound k q) (λ d. callback_asked k s (delivered_is_callback k q (callback_wait_is_delivered (place_of k s) waits))))
 
-  pub yield_cancelled_sound : (a0 : ℕ) (a1 : ℕ) {s : Core} → Sound component base ending s → Sound component base ending (yield_cancelled a0 a1 s)
-  unfolding yield_cancelled
-  yield_cancelled_sound n k {s = s} q = lets_go_on_sound n k (promoted_unless_sound k (asked_sound k q))
+  pub cancel_promotes_yield_sound : (a0 : ℕ) (a1 : ℕ) {s : Core} → Sound component base ending s → Sound component base ending (cancel_promotes_yield a0 a1 s)
+  unfolding cancel_promotes_yield
+  cancel_promotes_yield_sound n k {s = s} q = cancel_goes_behind_sound n k (promoted_unless_sound k (cancel_asks_sound k q))
 
   pub cancel_resumed_sound : (a0 : ℕ) (a1 : Subtask) {s : Core} → Sound component base ending s → Sound component base ending (cancel_resumed a0 a1 s)
   unfolding cancel_resumed
@@ -316,11 +317,11 @@ module _ {component : Component} {base : Core} where
   wait_takes_kept n r ch {s = s} q g calm = received_sound n r g (handed_out ch s g) q calm
 
   pub wait_begins_kept : (a0 : ℕ) (a1 : ℕ) (a2 : Choice) {s : Core} → Sound component base 0 s → (a4 : ℕ) (a5 : Bool) → Kept component base (wait_begins a0 a1 a2 s a4 a5)
-  wait_begins_kept n r ch {s = s} q x true = trap_if_kept component base (not (passes_check (instance_of n s) s)) trap.CannotBlockSyncTask (Stops (label.Thread (thread_label.Pauses n)) (begun_waiting n x s)) (begun_waiting_sound n x q)
+  wait_begins_kept n r ch {s = s} q x true = trap_if_kept component base (not (passes_check (instance_of n s) s)) trap.CannotBlockSyncTask (Stops (label.Thread (thread_label.Pauses n)) (wait_stops_checked n x s)) (wait_stops_checked_sound n x q)
   wait_begins_kept n r ch {s = s} q x false = or_never_kept component base (gift false (task_of n s) x (chosen n ch s) s) (wait_takes n r ch s) (λ got is. wait_takes_kept n r ch q got (calm_gift (task_of n s) x (chosen n ch s) s got is))
 
   pub wait_goes_on_kept : (a0 : ℕ) (a1 : ℕ) (a2 : ℕ) (a3 : Choice) {s : Core} → Sound component base 0 s → (a5 : Gift) → is_cancel_gift a5 ≡ false → Kept component base (wait_goes_on a0 a1 a2 a3 s a5)
-  wait_goes_on_kept n x r ch {s = s} q NoGift calm = waiting_sound n x q
+  wait_goes_on_kept n x r ch {s = s} q NoGift calm = wait_stops_sound n x q
   wait_goes_on_kept n x r ch {s = s} q g calm = let v = handed_out ch s g in may_kept component base (may_hand_on x g ch.woken s) (Goes (wait_label n v ch.woken) (received_woken n x r ch.woken g v s) n) (received_woken_sound n x r ch.woken g v q calm)
 
   pub wait_row_kept : (a0 : ℕ) (a1 : ℕ) (a2 : ℕ) (a3 : Choice) {s : Core} → Sound component base 0 s → (a5 : HowFar) → Kept component base (wait_row a0 a1 a2 a3 s a5)
@@ -351,7 +352,7 @@ module _ {component : Component} {base : Core} where
   set_row_kept n {s = s} q ch (set_op.Join x y) = join_row_kept n (value_of n s x) (value_of n s y) ch.woken q
 
   pub call_begins_kept : (a1 : ℕ) (a2 : Callee) (a3 : Goal) (a4 : List ℕ) {s : Core} → Sound component base 0 s → (is_direct a3 ≡ true → is_async_lifted (export_kind component a2) ≡ false) → Kept component base (call_begins component a1 a2 a3 a4 s)
-  call_begins_kept n e g words {s = s} q direct = trap_if_kept component base (not (fits 3 s)) trap.TableFull (Stops (label.Call (call_label.Calls n (next_thread s))) (called n e (export_kind component e) g words s)) (called_sound n e (export_kind component e) g words q refl direct)
+  call_begins_kept n e g words {s = s} q direct = trap_if_kept component base (not (fits 3 s)) trap.TableFull (Stops (label.Call (call_label.Calls n (next_thread s))) (call_queues n e (export_kind component e) g words s)) (call_queues_sound n e (export_kind component e) g words q refl direct)
 
   pub call_status_kept : (a0 : ℕ) (a1 : ℕ) (a2 : ℕ) {s : Core} → Sound component base 0 s → (a4 : Status) → Kept component base (call_status a0 a1 a2 s a4)
   call_status_kept n r k {s = s} q status.Returned = call_returned_sound n r k q
@@ -363,10 +364,10 @@ module _ {component : Component} {base : Core} where
 
   pub call_sync_status_kept : (a0 : ℕ) (a1 : ℕ) (a2 : ℕ) {s : Core} → Sound component base 0 s → (a4 : Status) → Kept component base (call_sync_status a0 a1 a2 s a4)
   call_sync_status_kept n r k {s = s} q status.Returned = call_answered_sound n r k q
-  call_sync_status_kept n r k {s = s} q e = trap_if_kept component base (not (passes_check (instance_of n s) (called_back n k s))) trap.CannotBlockSyncTask (Stops (label.Thread (thread_label.Pauses n)) (call_blocked n k s)) (call_blocked_sound n k q)
+  call_sync_status_kept n r k {s = s} q e = trap_if_kept component base (not (passes_check (instance_of n s) (call_resumes n k s))) trap.CannotBlockSyncTask (Stops (label.Thread (thread_label.Pauses n)) (call_sync_stops n k s)) (call_sync_stops_sound n k q)
 
   pub enter_row_kept : (a0 : ℕ) (a1 : Callee) (a2 : ExportKind) (a3 : List ℕ) {s : Core} → Sound component base 0 s → a2 ≡ export_kind component a1 → is_async_lifted a2 ≡ false → Kept component base (enter_row a0 a1 a2 a3 s)
-  enter_row_kept n e x words {s = s} q same lifted = trap_if_kept component base (not (fits 3 s)) trap.TableFull (trap_if (at_handle_limit s) trap.HandleLimit (Goes (label.Call (call_label.Enters n (next_thread s))) (entered n e x words s) (next_thread s))) (trap_if_kept component base (at_handle_limit s) trap.HandleLimit (Goes (label.Call (call_label.Enters n (next_thread s))) (entered n e x words s) (next_thread s)) (entered_sound n e x words q same lifted))
+  enter_row_kept n e x words {s = s} q same lifted = trap_if_kept component base (not (fits 3 s)) trap.TableFull (trap_if (at_handle_limit s) trap.HandleLimit (Goes (label.Call (call_label.Enters n (next_thread s))) (enter_runs n e x words s) (next_thread s))) (trap_if_kept component base (at_handle_limit s) trap.HandleLimit (Goes (label.Call (call_label.Enters n (next_thread s))) (enter_runs n e x words s) (next_thread s)) (enter_runs_sound n e x words q same lifted))
 
   pub call_sync_begins_kept : (a1 : ℕ) (a2 : Callee) (a3 : List ℕ) {s : Core} → Sound component base 0 s → (a5 : Bool) → is_async_lifted (export_kind component a2) ≡ a5 → Kept component base (call_sync_begins component a1 a2 a3 s a5)
   call_sync_begins_kept n e words {s = s} q true is = call_begins_kept n e goal.Answer words q no_way
@@ -388,45 +389,39 @@ module _ {component : Component} {base : Core} where
   pub call_sync_host_polled_kept : (a0 : ℕ) (a1 : ℕ) {s : Core} → Sound component base 0 s → (a3 : FirstPoll) → Kept component base (call_sync_host_polled a0 a1 s a3)
   call_sync_host_polled_kept n r {s = s} q (AtOnce v) = host_answered_sound n r v q
   call_sync_host_polled_kept n r {s = s} q Failing = tt
-  call_sync_host_polled_kept n r {s = s} q (Later host) = trap_if_kept component base (not (fits 1 s)) trap.TableFull (trap_if (not (passes_check (instance_of n s) s)) trap.CannotBlockSyncTask (Stops (label.Call (call_label.PausesPolls n (next_work s))) (host_blocked n host s))) (trap_if_kept component base (not (passes_check (instance_of n s) s)) trap.CannotBlockSyncTask (Stops (label.Call (call_label.PausesPolls n (next_work s))) (host_blocked n host s)) (host_blocked_sound n host q))
+  call_sync_host_polled_kept n r {s = s} q (Later host) = trap_if_kept component base (not (fits 1 s)) trap.TableFull (trap_if (not (passes_check (instance_of n s) s)) trap.CannotBlockSyncTask (Stops (label.Call (call_label.PausesPolls n (next_work s))) (call_sync_host_stops n host s))) (trap_if_kept component base (not (passes_check (instance_of n s) s)) trap.CannotBlockSyncTask (Stops (label.Call (call_label.PausesPolls n (next_work s))) (call_sync_host_stops n host s)) (call_sync_host_stops_sound n host q))
 
   pub call_sync_host_row_kept : (a1 : ℕ) (a2 : ℕ) (a3 : ℕ) {s : Core} → Sound component base 0 s → (a5 : HowFar) → Kept component base (call_sync_host_row component a1 a2 a3 s a5)
   call_sync_host_row_kept n r h {s = s} q (how_far.Calls (subtask.Host i)) = work_answered_sound n r i q
   call_sync_host_row_kept n r h {s = s} q u1 = call_sync_host_polled_kept n r q (first_poll (host_at component h))
 
-  pub ended_row_kept : (a0 : Mode) (a1 : ℕ) (a2 : ℕ) (a3 : Subtask) {s : Core} → Sound component base 0 s → (a5 : Option Status) → Kept component base (ended_row a0 a1 a2 a3 s a5)
-  ended_row_kept mode n r sub {s = s} q None = tt
-  ended_row_kept mode n r sub {s = s} q (Some e) = end_taken_sound n r sub e q
+  pub cancel_ended_row_kept : (a0 : Mode) (a1 : ℕ) (a2 : ℕ) (a3 : Subtask) {s : Core} → Sound component base 0 s → (a5 : Option Status) → Kept component base (cancel_ended_row a0 a1 a2 a3 s a5)
+  cancel_ended_row_kept mode n r sub {s = s} q None = tt
+  cancel_ended_row_kept mode n r sub {s = s} q (Some e) = cancel_takes_end_sound n r sub e q
 
-  pub not_ended_row_kept : (a0 : Mode) (a1 : ℕ) (a2 : ℕ) (a3 : Subtask) {s : Core} → Sound component base 0 s → Kept component base (not_ended_row a0 a1 a2 a3 s)
-  not_ended_row_kept Async n r sub {s = s} q = answered_sound n r blocked_code q
-  not_ended_row_kept Sync n r sub {s = s} q = trap_if_kept component base (not (passes_check (instance_of n s) s)) trap.CannotBlockSyncTask (Stops (pauses n) (awaiting n sub s)) (awaiting_sound n sub q)
+  pub cancel_unended_row_kept : (a0 : Mode) (a1 : ℕ) (a2 : ℕ) (a3 : Subtask) {s : Core} → Sound component base 0 s → Kept component base (cancel_unended_row a0 a1 a2 a3 s)
+  cancel_unended_row_kept Async n r sub {s = s} q = answered_sound n r blocked_code q
+  cancel_unended_row_kept Sync n r sub {s = s} q = trap_if_kept component base (not (passes_check (instance_of n s) s)) trap.CannotBlockSyncTask (Stops (pauses n) (cancel_stops n sub s)) (cancel_stops_sound n sub q)
 
-  pub by_end_kept : (a0 : Mode) (a1 : ℕ) (a2 : ℕ) (a3 : Subtask) {s : Core} → Sound component base 0 s → (a5 : Bool) → Kept component base (by_end a0 a1 a2 a3 s a5)
-  by_end_kept mode n r sub {s = s} q true = ended_row_kept mode n r sub q (undelivered_end (event_of sub s))
-  by_end_kept mode n r sub {s = s} q false = not_ended_row_kept mode n r sub q
+  pub cancel_by_end_kept : (a0 : Mode) (a1 : ℕ) (a2 : ℕ) (a3 : Subtask) {s : Core} → Sound component base 0 s → (a5 : Bool) → Kept component base (cancel_by_end a0 a1 a2 a3 s a5)
+  cancel_by_end_kept mode n r sub {s = s} q true = cancel_ended_row_kept mode n r sub q (undelivered_end (event_of sub s))
+  cancel_by_end_kept mode n r sub {s = s} q false = cancel_unended_row_kept mode n r sub q
 
   pub after_cancel_kept : (a0 : Mode) (a1 : ℕ) (a2 : ℕ) (a3 : Subtask) {s : Core} → Sound component base 0 s → Kept component base (after_cancel a0 a1 a2 a3 s)
-  after_cancel_kept mode n r sub {s = s} q = by_end_kept mode n r sub q (subtask_ended sub s)
+  after_cancel_kept mode n r sub {s = s} q = cancel_by_end_kept mode n r sub q (subtask_ended sub s)
 
   pub cancel_host_kept : (a0 : Mode) (a1 : ℕ) (a2 : ℕ) (a3 : ℕ) {s : Core} → Sound component base 0 s → Kept component base (cancel_host a0 a1 a2 a3 s)
-  cancel_host_kept mode n r i {s = s} q = trap_if_kept component base (was_cancelled i s) trap.SubtaskCancelAfterTerminal (after_cancel mode n r (subtask.Host i) (host_cancelled i s)) (after_cancel_kept mode n r (subtask.Host i) (host_cancelled_sound i q))
+  cancel_host_kept mode n r i {s = s} q = trap_if_kept component base (was_cancelled i s) trap.SubtaskCancelAfterTerminal (after_cancel mode n r (subtask.Host i) (cancel_aborts_host i s)) (after_cancel_kept mode n r (subtask.Host i) (cancel_aborts_host_sound i q))
 
-  pub cancel_yield_kept : (a0 : Mode) (a1 : ℕ) (a2 : ℕ) (a3 : ℕ) {s : Core} → Sound component base 0 s → (a5 : Bool) → Kept component base (cancel_yield a0 a1 a2 a3 s a5)
-  cancel_yield_kept mode n r k {s = s} q true = yield_cancelled_sound n k q
-  cancel_yield_kept mode n r k {s = s} q false = after_cancel_kept mode n r (subtask.Guest k) (asked_sound k q)
-
-  pub cancel_running_kept : (a0 : Mode) (a1 : ℕ) (a2 : ℕ) (a3 : ℕ) {s : Core} → Sound component base 0 s → (a5 : Bool) (a6 : Bool) → is_at a3 s is_callback_wait ≡ a5 → Kept component base (cancel_running a0 a1 a2 a3 s a5 a6)
-  cancel_running_kept mode n r k {s = s} q true yields is = cancel_delivered_to_sound n k q is
-  cancel_running_kept mode n r k {s = s} q false yields is = cancel_yield_kept mode n r k q yields
-
-  pub cancel_guest_kept : (a0 : Mode) (a1 : ℕ) (a2 : ℕ) (a3 : ℕ) {s : Core} → Sound component base 0 s → (a5 : Bool) (a6 : Bool) → has_ended a3 s ≡ a5 → was_started a3 s ≡ a6 → Kept component base (cancel_guest a0 a1 a2 a3 s a5 a6)
-  cancel_guest_kept mode n r k {s = s} q true started is was = ended_row_kept mode n r (subtask.Guest k) q (undelivered_end (event_of (subtask.Guest k) s))
-  cancel_guest_kept mode n r k {s = s} q false true is was = cancel_running_kept mode n r k q (is_at k s is_callback_wait) (is_at k s is_callback_yield) refl
-  cancel_guest_kept mode n r k {s = s} q false false is was = start_withdrawn_sound n r k q is was
+  pub cancel_guest_kept : (a0 : Mode) (a1 : ℕ) (a2 : ℕ) (a3 : ℕ) {s : Core} → Sound component base 0 s → (a5 : CancelCase) → CaseSays a3 s a5 → Kept component base (cancel_guest a0 a1 a2 a3 s a5)
+  cancel_guest_kept mode n r k {s = s} q AlreadyEnded is = cancel_ended_row_kept mode n r (subtask.Guest k) q (undelivered_end (event_of (subtask.Guest k) s))
+  cancel_guest_kept mode n r k {s = s} q StartNotRun is = cancel_withdraws_sound n r k q is.0 is.1
+  cancel_guest_kept mode n r k {s = s} q CallbackWaits is = cancel_wakes_callback_sound n k q is
+  cancel_guest_kept mode n r k {s = s} q CallbackYields is = cancel_promotes_yield_sound n k q
+  cancel_guest_kept mode n r k {s = s} q OtherwiseRuns is = after_cancel_kept mode n r (subtask.Guest k) (cancel_asks_sound k q)
 
   pub cancel_subtask_kept : (a0 : Mode) (a1 : ℕ) (a2 : ℕ) {s : Core} → Sound component base 0 s → (a4 : Subtask) → Kept component base (cancel_subtask a0 a1 a2 s a4)
-  cancel_subtask_kept mode n r {s = s} q (subtask.Guest k) = cancel_guest_kept mode n r k q (has_ended k s) (was_started k s) refl refl
+  cancel_subtask_kept mode n r {s = s} q (subtask.Guest k) = cancel_guest_kept mode n r k q (cancel_case k s) (case_says k s)
   cancel_subtask_kept mode n r {s = s} q (subtask.Host i) = cancel_host_kept mode n r i q
 
   pub cancel_found_kept : (a0 : Mode) (a1 : ℕ) (a2 : ℕ) {s : Core} → Sound component base 0 s → (a4 : Subtask) → Kept component base (cancel_found a0 a1 a2 s a4)
@@ -434,7 +429,7 @@ module _ {component : Component} {base : Core} where
 
   pub cancel_row_kept : (a0 : Mode) (a1 : ℕ) (a2 : ℕ) (a3 : ℕ) {s : Core} → Sound component base 0 s → (a5 : HowFar) → Kept component base (cancel_row a0 a1 a2 a3 s a5)
   cancel_row_kept mode n r h {s = s} q (how_far.Cancels sub) = after_cancel_kept mode n r sub (cancel_resumed_sound n sub q)
-  cancel_row_kept mode n r h {s = s} q (how_far.AwaitsEnd sub) = ended_row_kept mode n r sub (set_join_sound sub join.Nowhere q) (undelivered_end (event_of sub (set_join sub join.Nowhere s)))
+  cancel_row_kept mode n r h {s = s} q (how_far.AwaitsEnd sub) = cancel_ended_row_kept mode n r sub (set_join_sound sub join.Nowhere q) (undelivered_end (event_of sub (set_join sub join.Nowhere s)))
   cancel_row_kept mode n r h {s = s} q u1 = or_trap_kept component base (subtask_at (instance_of n s) h s) trap.BadHandle (cancel_found mode n r s) (λ got is. cancel_found_kept mode n r q got)
 
   pub drop_found_kept : (a0 : ℕ) (a1 : ℕ) {s : Core} → Sound component base 0 s → (a3 : Subtask) → Kept component base (drop_found a0 a1 s a3)

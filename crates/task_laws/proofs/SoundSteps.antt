@@ -6,7 +6,7 @@ use Rattle.task_laws.proofs.EachLemmas.{each_empty, each_get}
 use Rattle.task_laws.proofs.SoundEnds.{Kept}
 use Rattle.task_laws.proofs.SoundFields.{no_way, set_trapped_sound, take_result_sound}
 use Rattle.task_laws.proofs.SoundLemmas.{CallSound, GoneAtEnd, Nameless, Sound, ThreadSound, is_delivered, kind_in, later_refl, later_trans, too_low, true_is_not_false}
-use Rattle.task_laws.proofs.SoundTakes.{main_aborted_sound, main_spawned_sound, main_started_sound, op_row_kept, pended_sound, popped_sound, struck_sound, take_row_kept, work_ended_sound}
+use Rattle.task_laws.proofs.SoundTakes.{main_aborted_sound, main_spawned_sound, main_started_sound, op_row_kept, poll_pends_sound, popped_sound, struck_sound, take_row_kept, poll_ends_sound}
 use Rattle.task_laws.proofs.SoundWords.{AtBase, delivered_is_callback}
 use Rattle.task_laws.specs.Rises.{CallsRise, ExplicitNamesNoCall, Rises, RunsRise, StepsRise, SyncEndsLast, SyncNeverCancelled}
 use Rattle.task_laws.specs.Settings.{CodesInCallbacks, HasNoCode, Reached, ends_activation}
@@ -199,8 +199,8 @@ module _ {component : Component} where
 
   polled_sound : (s : State) → Settled component s.core → (i : ℕ) (p : Poll) (l : Label) (t : State) → Polled s i p l t → Sound component s.core 0 t.core
   unfolding at_turn
-  polled_sound s q i (StillPends host) l t is = core_is t _ is.1 (pended_sound i host q)
-  polled_sound s q i (Ends v) l t is = core_is t _ is.1 (work_ended_sound i v q)
+  polled_sound s q i (StillPends host) l t is = core_is t _ is.1 (poll_pends_sound i host q)
+  polled_sound s q i (Ends v) l t is = core_is t _ is.1 (poll_ends_sound i v q)
   polled_sound s q i FailsNow l t is = core_is t _ is.1 (set_trapped_sound q)
 
   futures_sound : (s : State) → Settled component s.core → (o : Option ℕ) (l : Label) (t : State) → FuturesStep s o l t → Sound component s.core 0 t.core

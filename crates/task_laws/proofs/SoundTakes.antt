@@ -5,7 +5,7 @@ use Rattle.std.specs.Prelude.{Bool, List, None, Option, Some, false, true, ℕ, 
 use Rattle.task_laws.proofs.SoundEnds.{Kept, data_row_kept, may_kept, moved_to_sound, or_never_kept, task_row_kept, told_sound, trap_if_kept}
 use Rattle.task_laws.proofs.SoundFields.{add_group_sound, callback_is_lifted, no_way, push_high_sound, set_course_sound, set_do_not_enter_sound, set_high_sound, set_low_sound, set_phase_sound, set_place_sound, set_register_sound, set_script_sound, set_stage_sound, set_started_sound, set_starting_published_sound, set_switch_sound, set_trapped_sound, work_queued_sound}
 use Rattle.task_laws.proofs.SoundLemmas.{Sound, call_made_sound, is_callback_later, is_delivered, is_delivery}
-use Rattle.task_laws.proofs.SoundRows.{forbidding_sound, set_given_sound, set_row_kept, subtask_row_kept, thread_row_kept, with_thread_handle_sound}
+use Rattle.task_laws.proofs.SoundRows.{sync_sets_flag_sound, set_given_sound, set_row_kept, subtask_row_kept, thread_row_kept, with_thread_handle_sound}
 use Rattle.task_laws.proofs.SoundWords.{AtBase, handed_on_sound, if_sound, published_sound, put_high_sound, remove_threads_sound, stopped_at_sound, taken_sound, unblocked_sound}
 use Rattle.task_laws.specs.Settings.{ends_activation}
 use Rattle.task_machine.specs.Core.{Core}
@@ -33,8 +33,8 @@ use Rattle.task_rules.specs.Progress.{Goes, Stops, may}
 use Rattle.task_rules.specs.Scripts.{export_kind, host_at}
 use Rattle.task_rules.specs.Sets.{chosen, handed_out}
 use Rattle.task_rules.specs.Step.{op_row, struck}
-use Rattle.task_rules.specs.Takes.{activated, activated_woken, awaits_again, delivered, delivery_row, enters, held, host_done, host_result, host_row, host_status, may_tell_starting, own_delivered, popped, pushed, rest_of, running, set_delivered, start_admitted, start_held, start_row, started, starting_is_published, starting_told, take_row, thread_taken, thread_taken_for}
-use Rattle.task_rules.specs.Works.{course_for, followed, pended, work_ended}
+use Rattle.task_rules.specs.Takes.{activated, activated_woken, wait_again, delivered, delivery_row, start_sets_flags, take_holds, host_done, host_result, host_row, host_status, may_tell_starting, own_delivered, popped, pushed, rest_of, running, set_delivered, start_admitted, start_holds, start_row, start_begins, starting_is_published, starting_told, take_row, thread_taken, thread_taken_for}
+use Rattle.task_rules.specs.Works.{course_for, followed, poll_pends, poll_ends}
 use Rattle.task_machine.specs.declared.records.Caller.TheVariants as caller
 use Rattle.task_machine.specs.declared.records.Course.TheVariants as course
 use Rattle.task_machine.specs.declared.records.Delivery.TheVariants as delivery
@@ -76,22 +76,22 @@ module _ {component : Component} {base : Core} {ending : ℕ} where
   unfolding starting_told
   starting_told_sound k w {s = s} q = if_sound (starting_is_published k s) s (told k status.Starting w (set_starting_published k s)) q (told_sound k status.Starting w (set_starting_published_sound k q))
 
-  pub held_sound : (n : ℕ) (w : Why) {s : Core} → Sound component base ending s → (is_delivery w ≡ true → AtBase base n) → Sound component base ending (held n w s)
-  unfolding held
-  held_sound n w {s = s} q side = stopped_at_sound n (place.Held w) q side
+  pub take_holds_sound : (n : ℕ) (w : Why) {s : Core} → Sound component base ending s → (is_delivery w ≡ true → AtBase base n) → Sound component base ending (take_holds n w s)
+  unfolding take_holds
+  take_holds_sound n w {s = s} q side = stopped_at_sound n (place.Held w) q side
 
-  pub start_held_sound : (a0 : ℕ) (a1 : Option ℕ) {s : Core} → Sound component base ending s → Sound component base ending (start_held a0 a1 s)
-  unfolding start_held
-  start_held_sound n w {s = s} q = held_sound n why.Start (starting_told_sound (task_of n s) w q) no_way
+  pub start_holds_sound : (a0 : ℕ) (a1 : Option ℕ) {s : Core} → Sound component base ending s → Sound component base ending (start_holds a0 a1 s)
+  unfolding start_holds
+  start_holds_sound n w {s = s} q = take_holds_sound n why.Start (starting_told_sound (task_of n s) w q) no_way
 
-  pub enters_sound : (a0 : ℕ) (a1 : ExportKind) {s : Core} → Sound component base ending s → Sound component base ending (enters a0 a1 s)
-  enters_sound n kind.Sync {s = s} q = forbidding_sound n (instance_of n s) kind.Sync q
-  enters_sound n kind.Stackful {s = s} q = q
-  enters_sound n x {s = s} q = set_do_not_enter_sound (instance_of n s) true q
+  pub start_sets_flags_sound : (a0 : ℕ) (a1 : ExportKind) {s : Core} → Sound component base ending s → Sound component base ending (start_sets_flags a0 a1 s)
+  start_sets_flags_sound n kind.Sync {s = s} q = sync_sets_flag_sound n (instance_of n s) kind.Sync q
+  start_sets_flags_sound n kind.Stackful {s = s} q = q
+  start_sets_flags_sound n x {s = s} q = set_do_not_enter_sound (instance_of n s) true q
 
-  pub started_sound : (a0 : ℕ) (a1 : Option ℕ) {s : Core} → Sound component base ending s → Sound component base ending (started a0 a1 s)
-  unfolding started
-  started_sound n w {s = s} q = let k = task_of n s in set_place_sound n place.Running (enters_sound n (kind_of k s) (told_sound k status.Started w (set_started_sound k (with_thread_handle_sound (instance_of n s) n q)))) no_way
+  pub start_begins_sound : (a0 : ℕ) (a1 : Option ℕ) {s : Core} → Sound component base ending s → Sound component base ending (start_begins a0 a1 s)
+  unfolding start_begins
+  start_begins_sound n w {s = s} q = let k = task_of n s in set_place_sound n place.Running (start_sets_flags_sound n (kind_of k s) (told_sound k status.Started w (set_started_sound k (with_thread_handle_sound (instance_of n s) n q)))) no_way
 
   pub running_sound : (a0 : ℕ) {s : Core} → Sound component base ending s → Sound component base ending (running a0 s)
   unfolding running
@@ -105,22 +105,22 @@ module _ {component : Component} {base : Core} {ending : ℕ} where
   unfolding activated_woken
   activated_woken_sound n x w g v {s = s} q c = activated_sound n g v (handed_on_sound x g w q) c
 
-  pub awaits_again_sound : (n x : ℕ) {s : Core} → Sound component base ending s → AtBase base n → Sound component base ending (awaits_again n x s)
-  unfolding awaits_again
-  awaits_again_sound n x {s = s} q c = stopped_at_sound n (place.Waiting x true) q (λ d. c)
+  pub wait_again_sound : (n x : ℕ) {s : Core} → Sound component base ending s → AtBase base n → Sound component base ending (wait_again n x s)
+  unfolding wait_again
+  wait_again_sound n x {s = s} q c = stopped_at_sound n (place.Waiting x true) q (λ d. c)
 
-  pub pended_sound : (a0 : ℕ) (a1 : HostDef) {s : Core} → Sound component base ending s → Sound component base ending (pended a0 a1 s)
-  unfolding pended
-  pended_sound i host {s = s} q = set_course_sound i (course.Goes host) q
+  pub poll_pends_sound : (a0 : ℕ) (a1 : HostDef) {s : Core} → Sound component base ending s → Sound component base ending (poll_pends a0 a1 s)
+  unfolding poll_pends
+  poll_pends_sound i host {s = s} q = set_course_sound i (course.Goes host) q
 
   pub followed_sound : (a0 : WorkCaller) (a1 : ℕ) {s : Core} → Sound component base ending s → Sound component base ending (followed a0 a1 s)
   followed_sound work_caller.Spawn i {s = s} q = set_stage_sound i stage.Ended q
   followed_sound (work_caller.Async n to) i {s = s} q = push_high_sound (entry.Host i) (set_stage_sound i stage.Finishing q)
   followed_sound (work_caller.Sync n) i {s = s} q = unblocked_sound (blocked_on (subtask.Host i) s) (set_stage_sound i stage.Ended q)
 
-  pub work_ended_sound : (a0 : ℕ) (a1 : Option ℕ) {s : Core} → Sound component base ending s → Sound component base ending (work_ended a0 a1 s)
-  unfolding work_ended
-  work_ended_sound i v {s = s} q = followed_sound (work_caller_of i s) i (set_phase_sound i phase.Complete (set_course_sound i (course_for v) q))
+  pub poll_ends_sound : (a0 : ℕ) (a1 : Option ℕ) {s : Core} → Sound component base ending s → Sound component base ending (poll_ends a0 a1 s)
+  unfolding poll_ends
+  poll_ends_sound i v {s = s} q = followed_sound (work_caller_of i s) i (set_phase_sound i phase.Complete (set_course_sound i (course_for v) q))
 
   pub main_started_sound : (a1 : Callee) (a2 : List ℕ) {s : Core} → Sound component base ending s → Sound component base ending (main_started component a1 a2 s)
   unfolding main_started
@@ -144,14 +144,14 @@ module _ {component : Component} {base : Core} where
 
   pub start_admitted_kept : (a0 : Mark) (a1 : ℕ) (a2 : Option ℕ) {s : Core} → Sound component base 0 s → (a4 : Bool) → Kept component base (start_admitted a0 a1 a2 s a4)
   start_admitted_kept m n w {s = s} q true = running_sound n q
-  start_admitted_kept m n w {s = s} q false = trap_if_kept component base (at_handle_limit s) trap.HandleLimit (may (may_tell (task_of n s) w s) (Goes (take_label m n w) (started n w s) n)) (may_kept component base (may_tell (task_of n s) w s) (Goes (take_label m n w) (started n w s) n) (started_sound n w q))
+  start_admitted_kept m n w {s = s} q false = trap_if_kept component base (at_handle_limit s) trap.HandleLimit (may (may_tell (task_of n s) w s) (Goes (take_label m n w) (start_begins n w s) n)) (may_kept component base (may_tell (task_of n s) w s) (Goes (take_label m n w) (start_begins n w s) n) (start_begins_sound n w q))
 
   pub start_row_kept : (a0 : Mark) (a1 : ℕ) (a2 : Option ℕ) {s : Core} → Sound component base 0 s → (a4 : Bool) → Kept component base (start_row a0 a1 a2 s a4)
   start_row_kept m n w {s = s} q true = start_admitted_kept m n w q (is_explicit n s)
-  start_row_kept m n w {s = s} q false = may_kept component base (may_tell_starting (task_of n s) w s) (Stops (held_label m n w) (start_held n w s)) (start_held_sound n w q)
+  start_row_kept m n w {s = s} q false = may_kept component base (may_tell_starting (task_of n s) w s) (Stops (held_label m n w) (start_holds n w s)) (start_holds_sound n w q)
 
   pub set_delivered_kept : (a0 : Mark) (a1 : ℕ) (a2 : ℕ) (a3 : Choice) {s : Core} → Sound component base 0 s → (a5 : Gift) → AtBase base a1 → Kept component base (set_delivered a0 a1 a2 a3 s a5)
-  set_delivered_kept m n x ch {s = s} q NoGift c = awaits_again_sound n x q c
+  set_delivered_kept m n x ch {s = s} q NoGift c = wait_again_sound n x q c
   set_delivered_kept m n x ch {s = s} q g c = let v = handed_out ch s g in may_kept component base (may_hand_on x g ch.woken s) (Goes (event_label m n v ch.woken) (activated_woken n x ch.woken g v s) n) (activated_woken_sound n x ch.woken g v q c)
 
   pub own_delivered_kept : (a0 : Mark) (a1 : ℕ) {s : Core} → Sound component base 0 s → (a3 : Gift) → AtBase base a1 → Kept component base (own_delivered a0 a1 s a3)
@@ -163,7 +163,7 @@ module _ {component : Component} {base : Core} where
 
   pub delivery_row_kept : (a0 : Mark) (a1 : ℕ) (a2 : Choice) {s : Core} → Sound component base 0 s → (a4 : Delivery) (a5 : Bool) → AtBase base a1 → Kept component base (delivery_row a0 a1 a2 s a4 a5)
   delivery_row_kept m n ch {s = s} q d true c = delivered_kept m n ch q d c
-  delivery_row_kept m n ch {s = s} q d false c = held_sound n (why.Delivery d) q (λ h. c)
+  delivery_row_kept m n ch {s = s} q d false c = take_holds_sound n (why.Delivery d) q (λ h. c)
 
   pub thread_taken_for_kept : (a0 : Mark) (a1 : ℕ) (a2 : Choice) {s : Core} → Sound component base 0 s → (a4 : Why) → (is_delivery a4 ≡ true → AtBase base a1) → Kept component base (thread_taken_for a0 a1 a2 s a4)
   thread_taken_for_kept m n ch {s = s} q why.Start c = start_row_kept m n ch.woken q (admits n s why.Start)

@@ -40,7 +40,7 @@ use Rattle.task_rules.specs.Stalled.{Setting}
 use Rattle.task_rules.specs.Step.{DeadlockStep, EmptyFor, FuturesStep, MainProgresses, MainStep, OpenProgresses, OpenStep, Polled, Progresses, RestStep, ScriptStep, Step, TakeStep, TurnStep, did}
 use Rattle.task_rules.specs.Takes.{popped, pushed, rest_of, take_row}
 use Rattle.task_rules.specs.Turns.{at_turn}
-use Rattle.task_rules.specs.Works.{Ends, FailsNow, Poll, StillPends, course_for, followed, next_polled, pended, poll_of, work_ended}
+use Rattle.task_rules.specs.Works.{Ends, FailsNow, Poll, StillPends, course_for, followed, next_polled, poll_pends, poll_of, poll_ends}
 use Rattle.task_machine.specs.declared.records.Course.TheVariants as course
 use Rattle.task_machine.specs.declared.records.Entry.TheVariants as entry
 use Rattle.task_machine.specs.declared.label.Label.TheVariants as label
@@ -80,9 +80,9 @@ module _ {base : Core} where
   live_quiet : (i : ℕ) {s : Core} → Spun base s → option_map_or is_live (get s.works i) false ≡ true → (w : Work) → get s.works i ≡ Some w → pushes i s.queues.high ≡ 0
   live_quiet i {s = s} q live w is = each_get (Unpushed s.queues.high) s.works q.quiet i w is (or_left (is_stage_live w.stage) (has_end w.course) (live_of s i live w is))
 
-  pended_spun : (i : ℕ) (host : HostDef) {s : Core} → Spun base s → option_map_or is_live (get s.works i) false ≡ true → Spun base (pended i host s)
-  unfolding pended set_course
-  pended_spun i host {s = s} q live = work_changed i (λ w. record w { course = course.Goes host }) (λ w is h. live_quiet i q live w is) (λ w is h. no_way h) (λ w is h. absurd (true_is_not_false (sym h ∙ live_unended i q live w is))) q
+  poll_pends_spun : (i : ℕ) (host : HostDef) {s : Core} → Spun base s → option_map_or is_live (get s.works i) false ≡ true → Spun base (poll_pends i host s)
+  unfolding poll_pends set_course
+  poll_pends_spun i host {s = s} q live = work_changed i (λ w. record w { course = course.Goes host }) (λ w is h. live_quiet i q live w is) (λ w is h. no_way h) (λ w is h. absurd (true_is_not_false (sym h ∙ live_unended i q live w is))) q
 
   settled_spun : (i : ℕ) (c : Course) (x : Stage) {s : Core} → Spun base s → option_map_or is_live (get s.works i) false ≡ true → is_stage_live x ≡ false → Spun base (set_stage i x (set_phase i phase.Complete (set_course i c s)))
   settled_spun i c x {s = s} q live dead = subst (λ (t : Core). Spun base t) (sym (settled_is i c x s)) (work_changed i (λ w. record w { course = c; phase = phase.Complete; stage = x }) (λ w is h. live_quiet i q live w is) (λ w is h. dead) (λ w is h. absurd (true_is_not_false (sym h ∙ live_unended i q live w is))) q)
@@ -92,9 +92,9 @@ module _ {base : Core} where
   followed_spun (work_caller.Async n r) i c q live = push_high_spun (entry.Host i) (settled_spun i c stage.Finishing q live refl) (λ j. refl)
   followed_spun (work_caller.Sync n) i c {s = s} q live = unblocked_spun (blocked_on (subtask.Host i) (set_phase i phase.Complete (set_course i c s))) (settled_spun i c stage.Ended q live refl)
 
-  work_ended_spun : (i : ℕ) (v : Option ℕ) {s : Core} → Spun base s → option_map_or is_live (get s.works i) false ≡ true → Spun base (work_ended i v s)
-  unfolding work_ended
-  work_ended_spun i v {s = s} q live = followed_spun (work_caller_of i s) i (course_for v) q live
+  poll_ends_spun : (i : ℕ) (v : Option ℕ) {s : Core} → Spun base s → option_map_or is_live (get s.works i) false ≡ true → Spun base (poll_ends i v s)
+  unfolding poll_ends
+  poll_ends_spun i v {s = s} q live = followed_spun (work_caller_of i s) i (course_for v) q live
 
   pushed_spun : (i : ℕ) {s : Core} → Spun base s → pushes i s.queues.high ≡ 0 → ((w : Work) → get s.works i ≡ Some w → has_end w.course ≡ false) → Spun base (pushed i s)
   unfolding pushed set_stage
@@ -207,8 +207,8 @@ open_progresses_spun s q (Answers v) l t k is = spun_is t _ is.1 q
 
 polled_spun : (s : State) → Calm s.core → (i : ℕ) → option_map_or is_live (get s.core.works i) false ≡ true → (p : Poll) (l : Label) (t : State) → Polled s i p l t → Spun s.core t.core
 unfolding at_turn
-polled_spun s q i live (StillPends host) l t is = spun_is t _ is.1 (pended_spun i host q live)
-polled_spun s q i live (Ends v) l t is = spun_is t _ is.1 (work_ended_spun i v q live)
+polled_spun s q i live (StillPends host) l t is = spun_is t _ is.1 (poll_pends_spun i host q live)
+polled_spun s q i live (Ends v) l t is = spun_is t _ is.1 (poll_ends_spun i v q live)
 polled_spun s q i live FailsNow l t is = spun_is t _ is.1 (set_trapped_spun q)
 
 futures_spun : (s : State) → Calm s.core → (n : ℕ) (o : Option ℕ) → next_polled n s.core ≡ o → (l : Label) (t : State) → FuturesStep s o l t → Spun s.core t.core

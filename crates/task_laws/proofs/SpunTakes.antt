@@ -2,7 +2,7 @@
 use Rattle.std.proofs.Common.{le_refl, le_trans, refl}
 use Rattle.std.specs.Prelude.{Bool, List, None, Option, Some, false, true, ℕ, ◌+◌}
 use Rattle.task_laws.proofs.SpunFields.{Spun, add_group_spun, call_made_spun, le_of_eq, pushes_rest, set_do_not_enter_spun, set_phase_spun, set_place_spun, set_register_spun, set_script_spun, set_stage_spun, set_started_spun, set_starting_published_spun, set_trapped_spun, shrunk, work_queued_spun, zero_of}
-use Rattle.task_laws.proofs.SpunRows.{Spins, data_row_spins, forbidding_spun, may_spins, moved_to_spun, or_never_spins, set_given_spun, set_row_spins, subtask_row_spins, task_row_spins, thread_row_spins, told_spun, trap_if_spins, with_thread_handle_spun}
+use Rattle.task_laws.proofs.SpunRows.{Spins, data_row_spins, sync_sets_flag_spun, may_spins, moved_to_spun, or_never_spins, set_given_spun, set_row_spins, subtask_row_spins, task_row_spins, thread_row_spins, told_spun, trap_if_spins, with_thread_handle_spun}
 use Rattle.task_laws.proofs.SpunWords.{handed_on_spun, if_spun, published_spun, put_high_spun, remove_threads_spun, stopped_at_spun, taken_spun}
 use Rattle.task_machine.specs.Core.{Core}
 use Rattle.task_machine.specs.Labels.{Choice, event_label, held_label, host_label, take_label}
@@ -27,7 +27,7 @@ use Rattle.task_rules.specs.Progress.{Goes, Stops, may}
 use Rattle.task_rules.specs.Scripts.{export_kind, host_at}
 use Rattle.task_rules.specs.Sets.{chosen, handed_out}
 use Rattle.task_rules.specs.Step.{op_row, struck}
-use Rattle.task_rules.specs.Takes.{activated, activated_woken, awaits_again, delivered, delivery_row, enters, held, host_done, host_result, host_row, host_status, may_tell_starting, own_delivered, popped, rest_of, running, set_delivered, start_admitted, start_held, start_row, started, starting_is_published, starting_told, thread_taken, thread_taken_for}
+use Rattle.task_rules.specs.Takes.{activated, activated_woken, wait_again, delivered, delivery_row, start_sets_flags, take_holds, host_done, host_result, host_row, host_status, may_tell_starting, own_delivered, popped, rest_of, running, set_delivered, start_admitted, start_holds, start_row, start_begins, starting_is_published, starting_told, thread_taken, thread_taken_for}
 use Rattle.task_machine.specs.declared.records.Caller.TheVariants as caller
 use Rattle.task_machine.specs.declared.records.Delivery.TheVariants as delivery
 use Rattle.task_machine.specs.declared.records.Goal.TheVariants as goal
@@ -65,22 +65,22 @@ module _ {base : Core} where
   unfolding starting_told
   starting_told_spun k w {s = s} q = if_spun (starting_is_published k s) s (told k status.Starting w (set_starting_published k s)) q (told_spun k status.Starting w (set_starting_published_spun k q))
 
-  pub held_spun : (a0 : ℕ) (a1 : Why) {s : Core} → Spun base s → Spun base (held a0 a1 s)
-  unfolding held
-  held_spun n w {s = s} q = stopped_at_spun n (place.Held w) q
+  pub take_holds_spun : (a0 : ℕ) (a1 : Why) {s : Core} → Spun base s → Spun base (take_holds a0 a1 s)
+  unfolding take_holds
+  take_holds_spun n w {s = s} q = stopped_at_spun n (place.Held w) q
 
-  pub start_held_spun : (a0 : ℕ) (a1 : Option ℕ) {s : Core} → Spun base s → Spun base (start_held a0 a1 s)
-  unfolding start_held
-  start_held_spun n w {s = s} q = held_spun n why.Start (starting_told_spun (task_of n s) w q)
+  pub start_holds_spun : (a0 : ℕ) (a1 : Option ℕ) {s : Core} → Spun base s → Spun base (start_holds a0 a1 s)
+  unfolding start_holds
+  start_holds_spun n w {s = s} q = take_holds_spun n why.Start (starting_told_spun (task_of n s) w q)
 
-  pub enters_spun : (a0 : ℕ) (a1 : ExportKind) {s : Core} → Spun base s → Spun base (enters a0 a1 s)
-  enters_spun n kind.Sync {s = s} q = forbidding_spun n (instance_of n s) kind.Sync q
-  enters_spun n kind.Stackful {s = s} q = q
-  enters_spun n x {s = s} q = set_do_not_enter_spun (instance_of n s) true q
+  pub start_sets_flags_spun : (a0 : ℕ) (a1 : ExportKind) {s : Core} → Spun base s → Spun base (start_sets_flags a0 a1 s)
+  start_sets_flags_spun n kind.Sync {s = s} q = sync_sets_flag_spun n (instance_of n s) kind.Sync q
+  start_sets_flags_spun n kind.Stackful {s = s} q = q
+  start_sets_flags_spun n x {s = s} q = set_do_not_enter_spun (instance_of n s) true q
 
-  pub started_spun : (a0 : ℕ) (a1 : Option ℕ) {s : Core} → Spun base s → Spun base (started a0 a1 s)
-  unfolding started
-  started_spun n w {s = s} q = let k = task_of n s in set_place_spun n place.Running (enters_spun n (kind_of k s) (told_spun k status.Started w (set_started_spun k (with_thread_handle_spun (instance_of n s) n q))))
+  pub start_begins_spun : (a0 : ℕ) (a1 : Option ℕ) {s : Core} → Spun base s → Spun base (start_begins a0 a1 s)
+  unfolding start_begins
+  start_begins_spun n w {s = s} q = let k = task_of n s in set_place_spun n place.Running (start_sets_flags_spun n (kind_of k s) (told_spun k status.Started w (set_started_spun k (with_thread_handle_spun (instance_of n s) n q))))
 
   pub running_spun : (a0 : ℕ) {s : Core} → Spun base s → Spun base (running a0 s)
   unfolding running
@@ -88,11 +88,11 @@ module _ {base : Core} where
 
   pub start_admitted_spins : (a0 : Mark) (a1 : ℕ) (a2 : Option ℕ) {s : Core} → Spun base s → (a4 : Bool) → Spins base (start_admitted a0 a1 a2 s a4)
   start_admitted_spins m n w {s = s} q true = running_spun n q
-  start_admitted_spins m n w {s = s} q false = trap_if_spins base (at_handle_limit s) trap.HandleLimit (may (may_tell (task_of n s) w s) (Goes (take_label m n w) (started n w s) n)) (may_spins base (may_tell (task_of n s) w s) (Goes (take_label m n w) (started n w s) n) (started_spun n w q))
+  start_admitted_spins m n w {s = s} q false = trap_if_spins base (at_handle_limit s) trap.HandleLimit (may (may_tell (task_of n s) w s) (Goes (take_label m n w) (start_begins n w s) n)) (may_spins base (may_tell (task_of n s) w s) (Goes (take_label m n w) (start_begins n w s) n) (start_begins_spun n w q))
 
   pub start_row_spins : (a0 : Mark) (a1 : ℕ) (a2 : Option ℕ) {s : Core} → Spun base s → (a4 : Bool) → Spins base (start_row a0 a1 a2 s a4)
   start_row_spins m n w {s = s} q true = start_admitted_spins m n w q (is_explicit n s)
-  start_row_spins m n w {s = s} q false = may_spins base (may_tell_starting (task_of n s) w s) (Stops (held_label m n w) (start_held n w s)) (start_held_spun n w q)
+  start_row_spins m n w {s = s} q false = may_spins base (may_tell_starting (task_of n s) w s) (Stops (held_label m n w) (start_holds n w s)) (start_holds_spun n w q)
 
   pub activated_spun : (a0 : ℕ) (a1 : Gift) (a2 : Given) {s : Core} → Spun base s → Spun base (activated a0 a1 a2 s)
   unfolding activated
@@ -102,12 +102,12 @@ module _ {base : Core} where
   unfolding activated_woken
   activated_woken_spun n x w g v {s = s} q = activated_spun n g v (handed_on_spun x g w q)
 
-  pub awaits_again_spun : (a0 : ℕ) (a1 : ℕ) {s : Core} → Spun base s → Spun base (awaits_again a0 a1 s)
-  unfolding awaits_again
-  awaits_again_spun n x {s = s} q = stopped_at_spun n (place.Waiting x true) q
+  pub wait_again_spun : (a0 : ℕ) (a1 : ℕ) {s : Core} → Spun base s → Spun base (wait_again a0 a1 s)
+  unfolding wait_again
+  wait_again_spun n x {s = s} q = stopped_at_spun n (place.Waiting x true) q
 
   pub set_delivered_spins : (a0 : Mark) (a1 : ℕ) (a2 : ℕ) (a3 : Choice) {s : Core} → Spun base s → (a5 : Gift) → Spins base (set_delivered a0 a1 a2 a3 s a5)
-  set_delivered_spins m n x ch {s = s} q NoGift = awaits_again_spun n x q
+  set_delivered_spins m n x ch {s = s} q NoGift = wait_again_spun n x q
   set_delivered_spins m n x ch {s = s} q g = let v = handed_out ch s g in may_spins base (may_hand_on x g ch.woken s) (Goes (event_label m n v ch.woken) (activated_woken n x ch.woken g v s) n) (activated_woken_spun n x ch.woken g v q)
 
   pub own_delivered_spins : (a0 : Mark) (a1 : ℕ) {s : Core} → Spun base s → (a3 : Gift) → Spins base (own_delivered a0 a1 s a3)
@@ -119,7 +119,7 @@ module _ {base : Core} where
 
   pub delivery_row_spins : (a0 : Mark) (a1 : ℕ) (a2 : Choice) {s : Core} → Spun base s → (a4 : Delivery) (a5 : Bool) → Spins base (delivery_row a0 a1 a2 s a4 a5)
   delivery_row_spins m n ch {s = s} q d true = delivered_spins m n ch q d
-  delivery_row_spins m n ch {s = s} q d false = held_spun n (why.Delivery d) q
+  delivery_row_spins m n ch {s = s} q d false = take_holds_spun n (why.Delivery d) q
 
   pub thread_taken_for_spins : (a0 : Mark) (a1 : ℕ) (a2 : Choice) {s : Core} → Spun base s → (a4 : Why) → Spins base (thread_taken_for a0 a1 a2 s a4)
   thread_taken_for_spins m n ch {s = s} q why.Start = start_row_spins m n ch.woken q (admits n s why.Start)

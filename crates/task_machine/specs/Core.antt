@@ -48,12 +48,12 @@ pub record Core : Type 0 where
   pub capacity : ℕ
   pub made : Made
 
--- What a start of main came to.
+-- What a start of main resulted in.
 pub data Started : Type 0 where
   Began : (call : ℕ) → Started
   Refused : (trap : Trap) → Started
 
--- Main's part of a state: where main is in its script, its registers, what its starts came to and the works of its spawns, in order.
+-- Main's part of a state: where main is in its script, its registers, what its starts resulted in and the works of its spawns, in order.
 pub record MainPlace : Type 0 where
   pub position : ℕ
   pub registers : List ℕ

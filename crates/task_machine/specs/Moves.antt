@@ -1,4 +1,5 @@
--- The moves that steps are made of: Put, Check, Stop, Publish, Wake, Give, Release, and the end of a thread. What a step chooses is an argument.
+-- The moves that steps are made of: Put, Check, Stop, Publish, Wake, Give, Release, and the end of a thread.
+-- What a step chooses is an argument.
 use Rattle.std.specs.Prelude.{ℕ, Bool, true, false, not, ◌&&◌, ◌||◌, List, [], ◌∷◌, ◌++◌, Option, Some, None, is_some, is_none, unwrap_or, option_and_then, ◌==◌, if◌then◌else◌}
 use Rattle.std.specs.List.{list_any}
 use Rattle.std.specs.Option.{option_map_or}
@@ -33,7 +34,7 @@ use Rattle.task_machine.specs.Write.{set_place, set_callers, set_switch, push_hi
 abbrev pub stand : ℕ → Mark → Why → Core → Core
 stand n m w = set_place n (place.Ready m w)
 
--- why the thread's entry stands at its mark
+-- why the thread's entry is queued; default: no entry
 abbrev pub ready_why : Place → Why
 ready_why (place.Ready m w) = w
 ready_why _ = why.Resumption
@@ -41,7 +42,7 @@ ready_why _ = why.Resumption
 abbrev pub why_of : ℕ → Core → Why
 why_of n s = option_map_or ready_why (place_of n s) why.Resumption
 
--- what stood at switch goes to the front of high
+-- what was at switch goes to the front of high
 abbrev pub displaced : Option ℕ → Core → Core
 displaced None s = s
 displaced (Some m) s = push_high_first (entry.Thread m) (stand m mark.High (why_of m s) s)
@@ -231,7 +232,7 @@ abbrev pub given_own : OwnEvent → Given
 given_own own.None = given.Nothing
 given_own own.Cancelled = given.Cancelled
 
--- what is handed out for it, a member by the handle h
+-- what is handed out for it, a member by the handle h; default: no event
 unfoldable pub given_for : Gift → ℕ → Core → Given
 given_for (OwnGift e) h s = given_own e
 given_for (MemberGift sub) h s = given.Subtask (unwrap_or (event_of sub s) status.Starting) h
@@ -250,7 +251,7 @@ may_hand_on x g w s = if hands_on x g s then may_wake x w s else is_none w
 
 -- ---- Release
 
--- a held thread is put at high
+-- a held thread is put at high; default: not held
 abbrev pub released_one : ℕ → Option Why → Core → Core
 released_one n None s = s
 released_one n (Some w) s = put_high n w s
@@ -274,7 +275,9 @@ is_deletable k s = option_map_or is_deletable_call (get s.calls k) false && not 
 
 -- no call and no host call of the group is left
 unfoldable pub is_group_done : ℕ → Core → Bool
-is_group_done g s = not (list_any (λ e. e.1.group == g) s.calls.list || list_any (λ e. option_map_or (λ h. h == g) e.1.group false) s.works.list)
+is_group_done g s =
+    not (list_any (λ e. e.1.group == g) s.calls.list
+    || list_any (λ e. option_map_or (λ h. h == g) e.1.group false) s.works.list)
 
 -- the group is finished, if nothing of it is left
 unfoldable pub group_settled : ℕ → Core → Core
@@ -300,7 +303,9 @@ exited_if explicit k s = if explicit then s else set_exited k s
 
 -- the thread gives back its handle and is gone; where it was the first of its call, the task has exited
 abbrev pub departed : ℕ → Core → Core
-departed n s = remove_thread n (freed_thread_handle (instance_of n s) (thread_handle_of n s) (exited_if (is_explicit n s) (task_of n s) s))
+departed n s =
+    let over = exited_if (is_explicit n s) (task_of n s) s in
+    remove_thread n (freed_thread_handle (instance_of n s) (thread_handle_of n s) over)
 
 -- the end of a thread
 unfoldable pub ended : ℕ → Core → Core
@@ -312,4 +317,6 @@ less_switch n (Some m) = if n == m then None else Some m
 
 -- the start of the call's first thread is withdrawn, wherever it stands
 unfoldable pub withdrawn : ℕ → Core → Core
-withdrawn k s = set_uninteresting k (set_exited k (set_end k call_end.StartCancelled (remove_thread k (set_switch (less_switch k s.queues.switch) (unqueued k s)))))
+withdrawn k s =
+    let gone = remove_thread k (set_switch (less_switch k s.queues.switch) (unqueued k s)) in
+    set_uninteresting k (set_exited k (set_end k call_end.StartCancelled gone))

@@ -47,7 +47,7 @@ abbrev pub is_nil : {X : Type 0} → List X → Bool
 is_nil [] = true
 is_nil (x ∷ xs) = false
 
--- ---- Threads
+-- ---- Threads, with the default "absent thread" (docs/MACHINE.md lists the defaults)
 
 abbrev pub registers_of : ℕ → Core → List ℕ
 registers_of n s = option_map_or (λ t. t.registers) (get s.threads n) []
@@ -83,7 +83,7 @@ saved_callee_of n s = option_and_then (λ t. t.saved_callee) (get s.threads n)
 abbrev pub callers_of : ℕ → Core → List ℕ
 callers_of n s = unwrap_or (get s.callers n) []
 
--- ---- Calls
+-- ---- Calls, with the default "absent call"
 
 abbrev pub no_callee : Callee
 no_callee = record { instance = 0; export = 0 }
@@ -118,6 +118,7 @@ own_event_of k s = option_and_then (λ c. c.own_event) (get s.calls k)
 abbrev pub cancel_was_delivered : ℕ → Core → Bool
 cancel_was_delivered k s = option_map_or (λ c. c.cancel_delivered) (get s.calls k) false
 
+-- default: no result
 abbrev pub result_of : ℕ → Core → ℕ
 result_of k s = unwrap_or (option_and_then (λ c. c.result) (get s.calls k)) 0
 
@@ -158,7 +159,7 @@ abbrev pub is_guest_call : Caller → Bool
 is_guest_call caller.Main = false
 is_guest_call (caller.Thread n) = true
 
--- ---- Works
+-- ---- Works, with the default "absent work"
 
 abbrev pub course_of : ℕ → Core → Course
 course_of i s = option_map_or (λ w. w.course) (get s.works i) course.NoValue
@@ -205,7 +206,7 @@ abbrev pub is_never : Course → Bool
 is_never (course.Goes host) = is_none host.polls
 is_never _ = false
 
--- ---- Subtasks
+-- ---- Subtasks, with the defaults "absent call" and "absent work"
 
 abbrev pub same_subtask : Subtask → Subtask → Bool
 same_subtask (subtask.Guest k) (subtask.Guest q) = k == q
@@ -224,7 +225,7 @@ abbrev pub subtask_handle : Subtask → Core → Option ℕ
 subtask_handle (subtask.Guest k) s = option_and_then (λ c. c.handle) (get s.calls k)
 subtask_handle (subtask.Host i) s = option_and_then (λ w. w.handle) (get s.works i)
 
--- the subtask has come to its end
+-- the subtask has ended
 abbrev pub subtask_ended : Subtask → Core → Bool
 subtask_ended (subtask.Guest k) s = has_ended k s
 subtask_ended (subtask.Host i) s = is_stage_ended (stage_of i s)
@@ -251,7 +252,7 @@ abbrev pub is_in_set : ℕ → Join → Bool
 is_in_set x (join.Set y) = x == y
 is_in_set x _ = false
 
--- ---- Instances and handles
+-- ---- Instances and handles, with the default "absent instance"
 
 abbrev pub backpressure_of : ℕ → Core → ℕ
 backpressure_of i s = option_map_or (λ r. r.backpressure) (get s.instances i) 0
@@ -357,7 +358,7 @@ abbrev pub is_yield_delivery : Why → Bool
 is_yield_delivery (why.Delivery delivery.Yield) = true
 is_yield_delivery _ = false
 
--- a callback's yield that stands at a mark
+-- a callback's yield that is queued
 abbrev pub is_callback_yield : Place → Bool
 is_callback_yield (place.Ready m w) = is_yield_delivery w
 is_callback_yield _ = false
@@ -366,7 +367,7 @@ abbrev pub is_resumption : Why → Bool
 is_resumption why.Resumption = true
 is_resumption _ = false
 
--- a resumption that stands at a mark
+-- a resumption that is queued
 abbrev pub is_ready_to_resume : Place → Bool
 is_ready_to_resume (place.Ready m w) = is_resumption w
 is_ready_to_resume _ = false
@@ -390,7 +391,7 @@ any_thread test s = list_any (λ e. test e.1) s.threads.list
 unfoldable pub under_of : ℕ → Core → Option ℕ
 under_of n s = first_at (is_under n) s
 
--- down from n through at most this many that are under it
+-- down from n through at most this many that are under it; default: too deep
 abbrev pub foot_from : ℕ → Core → ℕ → ℕ
 foot_from zero s n = n
 foot_from (suc k) s n = option_map_or (foot_from k s) (under_of n s) n
@@ -421,6 +422,7 @@ is_last_thread n s = not (list_any (λ e. (e.1.call == task_of n s) && not (e.0 
 
 -- ---- Sets
 
+-- default: absent set
 abbrev pub set_instance : ℕ → Core → ℕ
 set_instance x s = option_map_or (λ r. r.instance) (get s.sets x) 0
 
@@ -455,7 +457,7 @@ abbrev pub is_inside_wait : ℕ → HowFar → Bool
 is_inside_wait x (how_far.Waits y) = x == y
 is_inside_wait x _ = false
 
--- an entry for the set stands at a mark or is held, or the thread goes on inside a wait on it
+-- an entry for the set is queued or is held, or the thread goes on inside a wait on it
 abbrev pub is_woken_for : ℕ → Thread → Place → Bool
 is_woken_for x t (place.Ready m w) = is_delivery_for x w || (is_resumption w && is_inside_wait x t.how_far)
 is_woken_for x t (place.Held w) = is_delivery_for x w
@@ -513,7 +515,10 @@ next_entry s = or_high s.queues.switch s.queues.high s.queues.low
 
 -- such an entry of the thread may begin
 abbrev pub admits : ℕ → Core → Why → Bool
-admits n s why.Start = is_explicit n s || (is_sync (kind_of (task_of n s) s) || (not (may_not_enter (instance_of n s) s) && (backpressure_of (instance_of n s) s == 0)))
+admits n s why.Start =
+    is_explicit n s
+    || (is_sync (kind_of (task_of n s) s)
+    || (not (may_not_enter (instance_of n s) s) && (backpressure_of (instance_of n s) s == 0)))
 admits n s (why.Delivery d) = not (may_not_enter (instance_of n s) s)
 admits n s why.Resumption = true
 

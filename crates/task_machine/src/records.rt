@@ -44,7 +44,7 @@ pub enum Why {
 pub enum Place {
     /// Not started, and without an entry.
     New,
-    /// Its entry stands at the mark.
+    /// Its entry is queued at the mark.
     Ready { mark: Mark, why: Why },
     Running,
     /// Its direct callee runs on top of it.
@@ -59,13 +59,13 @@ pub enum Place {
     Suspended,
 }
 
-/// What stands at a mark.
+/// What is queued.
 #[derive(Clone, Copy)]
 pub enum Entry {
     Thread { thread: u64 },
     /// A host work that becomes live.
     Push { work: u64 },
-    /// A host call of a subtask that has come to its end.
+    /// A host call of a subtask that has ended.
     Host { work: u64 },
 }
 
@@ -78,7 +78,7 @@ pub enum HowFar {
     Waits { set: u64 },
     /// A call, whose subtask was made.
     Calls { subtask: Subtask },
-    /// A call whose direct callee has come to this value.
+    /// A call whose direct callee has answered this value.
     Answered { value: u64 },
     /// A cancel that has let its subtask go on.
     Cancels { subtask: Subtask },
@@ -199,7 +199,7 @@ pub enum WorkCaller {
     Sync { thread: u64 },
 }
 
-/// What a host work comes to.
+/// What a host work results in.
 #[derive(Clone, Copy)]
 pub enum Course {
     /// It goes on: the polls left, and what it ends with.
@@ -214,11 +214,11 @@ pub enum Course {
 #[derive(Clone, Copy)]
 pub enum Stage {
     FirstPoll,
-    /// Its push stands at a mark.
+    /// Its push is queued.
     Queued,
     /// The loop polls it.
     Live,
-    /// It has ended, and its host entry stands at a mark.
+    /// It has ended, and its host entry is queued.
     Finishing,
     Ended,
 }

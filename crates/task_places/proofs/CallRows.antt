@@ -21,8 +21,8 @@ use Rattle.task_machine.specs.declared.records.HowFar.{HowFar}
 use Rattle.task_machine.specs.declared.records.Subtask.{Subtask}
 use Rattle.task_machine.specs.declared.records.Why.{Why}
 use Rattle.task_machine.specs.declared.words.Status.{Status}
-use Rattle.task_rules.specs.Calls.{AtOnce, Failing, FirstPoll, Later, call_host_polled, call_sync_begins, call_sync_host_polled, call_sync_host_row, call_sync_row, enter_row, entered, first_poll, forbidding, host_blocked, host_pending, new_thread, next_thread, next_work, status_found, with_thread_handle}
-use Rattle.task_rules.specs.Cancels.{Async, Mode, Sync, after_cancel, asked, awaiting, behind_switch, blocked_code, by_end, cancel_delivered_to, cancel_host, cancel_running, cancel_yield, ended_row, host_cancelled, is_callback_wait, lets_go_on, not_ended_row, pauses, yield_cancelled}
+use Rattle.task_rules.specs.Calls.{AtOnce, Failing, FirstPoll, Later, call_host_polled, call_sync_begins, call_sync_host_polled, call_sync_host_row, call_sync_row, enter_row, enter_runs, first_poll, sync_sets_flag, call_sync_host_stops, host_pending, new_thread, next_thread, next_work, status_found, with_thread_handle}
+use Rattle.task_rules.specs.Cancels.{CallbackWaits, CallbackYields, OtherwiseRuns, cancel_guest, Async, Mode, Sync, after_cancel, cancel_asks, cancel_stops, behind_switch, blocked_code, cancel_by_end, cancel_wakes_callback, cancel_host, cancel_ended_row, cancel_aborts_host, is_callback_wait, cancel_goes_behind, cancel_unended_row, pauses, cancel_promotes_yield}
 use Rattle.task_rules.specs.Progress.{Goes, Progress, Stops}
 use Rattle.task_rules.specs.Scripts.{export_kind, host_at, registers_for, slot_at, value_of}
 use Rattle.task_rules.specs.Threads.{resume_at, Halt, Suspension, Yielding, by_how_far, halt_row, halted, halted_checked, halted_promoting, halted_resuming, halting, halts, has_yielded, resume_later_found, resume_why, resumed_later, then_promote, then_promote_found, then_promote_row, then_resume_found, then_resume_row, thread_made, thread_new_label, thread_new_row, thread_row}
@@ -46,7 +46,7 @@ use Rattle.task_places.proofs.EntryLemmas.{ready_listed, no_both_of}
 use Rattle.task_places.proofs.FreshMoves.{is_fresh, is_start}
 use Rattle.task_places.proofs.FreshStand.{All, Going, Kept, Runs, Standing, all_of, behind_all, checked_stand, is_starting, may_go, not_fresh, promoted_unless_stand, put_low_all, put_low_good, put_switch_good, quiet_stand, stopped_stand}
 use Rattle.task_places.proofs.PlaceWords.{added_stand, free_moved, pushed_stand}
-use Rattle.task_rules.proofs.UntouchedLemmas.{untouched_after, set_how_far_untouched, set_saved_callee_untouched, count_work_untouched, add_work_untouched, set_started_untouched, set_join_untouched, set_do_not_suspend_untouched, answered_untouched, with_handle_untouched, forbidding_untouched, with_thread_handle_untouched, host_ready_untouched, host_answered_untouched, work_answered_untouched, end_taken_untouched, host_cancelled_untouched, asked_untouched}
+use Rattle.task_rules.proofs.UntouchedLemmas.{untouched_after, set_how_far_untouched, set_saved_callee_untouched, count_work_untouched, add_work_untouched, set_started_untouched, set_join_untouched, set_do_not_suspend_untouched, answered_untouched, with_handle_untouched, sync_sets_flag_untouched, with_thread_handle_untouched, host_ready_untouched, host_answered_untouched, work_answered_untouched, cancel_takes_end_untouched, cancel_aborts_host_untouched, cancel_asks_untouched}
 use Rattle.task_rules.proofs.MoveLemmas as moves
 use Rattle.task_rules.proofs.MoveLemmas.{is_parked}
 use Rattle.task_rules.proofs.StandLemmas.{by_number, place_kept, is_eq_of, not_eq, place_written}
@@ -59,7 +59,7 @@ use Rattle.task_machine.specs.Read.{place_of}
 use Rattle.task_machine.specs.Moves.{promoted_unless}
 use Rattle.task_rules.specs.Calls.{call_made}
 use Rattle.task_places.proofs.RunRows.{Stays, advanced_goes, assigned_goes, quiet_goes, how_far_all, or_trap_stays, quiet_runs, stopped_all, trap_if_stays}
-use Rattle.task_places.proofs.OpRows.{Unused, blocked_all, call_begins_stays, call_sync_status_stays, made_place, made_stand}
+use Rattle.task_places.proofs.OpRows.{Unused, call_stops_all, call_begins_stays, call_sync_status_stays, made_place, made_stand}
 use Rattle.task_machine.specs.declared.records.Entry.TheVariants as entry
 use Rattle.task_machine.specs.declared.records.WorkCaller.{WorkCaller}
 use Rattle.task_machine.specs.declared.words.Mark.{Mark}
@@ -93,16 +93,16 @@ started_begun k s = ap (λ (o : Option Call). option_map_or (λ (c : Call). not 
     go None = refl
     go (Some c) = refl
 
-pub forbidding_calls : (m j : ℕ) (x : ExportKind) (s : Core) → (forbidding m j x s).calls ≡ s.calls
+pub sync_sets_flag_calls : (m j : ℕ) (x : ExportKind) (s : Core) → (sync_sets_flag m j x s).calls ≡ s.calls
 unfolding set_do_not_suspend on_instance set_saved_own on_thread
-forbidding_calls m j kind.Sync s = refl
-forbidding_calls m j kind.Blocking s = refl
-forbidding_calls m j kind.Stackful s = refl
-forbidding_calls m j kind.Callback s = refl
+sync_sets_flag_calls m j kind.Sync s = refl
+sync_sets_flag_calls m j kind.Blocking s = refl
+sync_sets_flag_calls m j kind.Stackful s = refl
+sync_sets_flag_calls m j kind.Callback s = refl
 
-entered_calls : (n m j : ℕ) (x : ExportKind) (h : HowFar) (s : Core) → (set_how_far n h (set_place n (place.Under m) (set_place m place.Running (forbidding m j x s)))).calls ≡ s.calls
+enter_runs_calls : (n m j : ℕ) (x : ExportKind) (h : HowFar) (s : Core) → (set_how_far n h (set_place n (place.Under m) (set_place m place.Running (sync_sets_flag m j x s)))).calls ≡ s.calls
 unfolding set_how_far set_place on_thread
-entered_calls n m j x h s = forbidding_calls m j x s
+enter_runs_calls n m j x h s = sync_sets_flag_calls m j x s
 
 flipped : (n m : ℕ) → (n == m) ≡ false → (m == n) ≡ false
 flipped n m e = go (m == n) refl
@@ -119,15 +119,15 @@ module _ {base : Core} where
       (λ e. not_fresh n place.Running s refl r (subst (λ (j : ℕ). is_fresh (place_of j base) ≡ true) e f))
       (λ e. ap is_fresh (place_kept k n (place.Under m) (set_place m place.Running s) e ∙ place_kept k m place.Running s other) ∙ r.fresh k f)
 
-  entered_goes : (n : ℕ) (e : Callee) (x : ExportKind) (words : List ℕ) (s : Core) → Unused s → Runs base n s → Going base (next_thread s) (entered n e x words s)
-  unfolding entered
-  entered_goes n e x words s none r =
+  enter_runs_goes : (n : ℕ) (e : Callee) (x : ExportKind) (words : List ℕ) (s : Core) → Unused s → Runs base n s → Going base (next_thread s) (enter_runs n e x words s)
+  unfolding enter_runs
+  enter_runs_goes n e x words s none r =
       let m = next_thread s in
       let a = call_made (caller.Thread n) e x goal.Direct (thread_group n s) words s in
       let b = with_thread_handle e.instance m a in
       let c = set_started m b in
-      let d = forbidding m e.instance x c in
-      let u = untouched_after (with_thread_handle_untouched e.instance m a) (untouched_after (set_started_untouched m b) (forbidding_untouched m e.instance x c)) in
+      let d = sync_sets_flag m e.instance x c in
+      let u = untouched_after (with_thread_handle_untouched e.instance m a) (untouched_after (set_started_untouched m b) (sync_sets_flag_untouched m e.instance x c)) in
       let sa = made_stand n place.Running (caller.Thread n) e x goal.Direct (thread_group n s) words s none r in
       let sd : Runs base n d = quiet_runs n a d u sa in
       let at : place_of m d ≡ Some place.New = u.places m ∙ made_place (caller.Thread n) e x goal.Direct (thread_group n s) words s in
@@ -142,11 +142,11 @@ module _ {base : Core} where
       record {
         stand = stops.quiet_stand m place.Running [] h _ v (moves.stand_of m place.Running h hm refl ah);
         fresh = λ k other f. ap is_fresh (v.places k) ∙ under_others n m k d sd f other;
-        begun = λ f. ap (λ (calls : Records Call). option_map_or (λ (o : Call). not o.started) (get calls m) false) (entered_calls n m e.instance x (how_far.Calls (subtask.Guest m)) c) ∙ started_begun m b;
+        begun = λ f. ap (λ (calls : Records Call). option_map_or (λ (o : Call). not o.started) (get calls m) false) (enter_runs_calls n m e.instance x (how_far.Calls (subtask.Guest m)) c) ∙ started_begun m b;
       }
 
   enter_row_stays : (n : ℕ) (e : Callee) (x : ExportKind) (words : List ℕ) (s : Core) → Unused s → Runs base n s → Stays base (enter_row n e x words s)
-  enter_row_stays n e x words s none r = trap_if_stays base (not (fits 3 s)) trap.TableFull _ (λ f. trap_if_stays base (at_handle_limit s) trap.HandleLimit (Goes (label.Call (call_label.Enters n (next_thread s))) (entered n e x words s) (next_thread s)) (λ g. entered_goes n e x words s none r))
+  enter_row_stays n e x words s none r = trap_if_stays base (not (fits 3 s)) trap.TableFull _ (λ f. trap_if_stays base (at_handle_limit s) trap.HandleLimit (Goes (label.Call (call_label.Enters n (next_thread s))) (enter_runs n e x words s) (next_thread s)) (λ g. enter_runs_goes n e x words s none r))
 
   call_sync_begins_stays : (c : Component) (n : ℕ) (e : Callee) (words : List ℕ) (s : Core) → Unused s → Runs base n s → (b : Bool) → Stays base (call_sync_begins c n e words s b)
   call_sync_begins_stays c n e words s none r true = call_begins_stays c n e goal.Answer words s none r
@@ -174,14 +174,14 @@ module _ {base : Core} where
   call_host_polled_stays n r to s q Failing = tt
   call_host_polled_stays n r to s q (Later host) = trap_if_stays base (not (fits 1 s)) trap.TableFull _ (λ e. trap_if_stays base (at_handle_limit s) trap.HandleLimit _ (λ f. host_pending_goes n r to _ host s q))
 
-  host_blocked_all : (n : ℕ) (host : HostDef) (s : Core) → Runs base n s → Kept base (host_blocked n host s)
-  unfolding host_blocked
-  host_blocked_all n host s r = blocked_all n (subtask.Host (next_work s)) _ (queued_stand n place.Running (work_caller.Sync n) host (Some (thread_group n s)) _ (checked_stand n place.Running (instance_of n s) s r))
+  call_sync_host_stops_all : (n : ℕ) (host : HostDef) (s : Core) → Runs base n s → Kept base (call_sync_host_stops n host s)
+  unfolding call_sync_host_stops
+  call_sync_host_stops_all n host s r = call_stops_all n (subtask.Host (next_work s)) _ (queued_stand n place.Running (work_caller.Sync n) host (Some (thread_group n s)) _ (checked_stand n place.Running (instance_of n s) s r))
 
   call_sync_host_polled_stays : (n r : ℕ) (s : Core) → Runs base n s → (f : FirstPoll) → Stays base (call_sync_host_polled n r s f)
   call_sync_host_polled_stays n r s q (AtOnce v) = quiet_goes n s _ (host_answered_untouched n r v s) q
   call_sync_host_polled_stays n r s q Failing = tt
-  call_sync_host_polled_stays n r s q (Later host) = trap_if_stays base (not (fits 1 s)) trap.TableFull _ (λ e. trap_if_stays base (not (passes_check (instance_of n s) s)) trap.CannotBlockSyncTask (Stops (label.Call (call_label.PausesPolls n (next_work s))) (host_blocked n host s)) (λ f. host_blocked_all n host s q))
+  call_sync_host_polled_stays n r s q (Later host) = trap_if_stays base (not (fits 1 s)) trap.TableFull _ (λ e. trap_if_stays base (not (passes_check (instance_of n s) s)) trap.CannotBlockSyncTask (Stops (label.Call (call_label.PausesPolls n (next_work s))) (call_sync_host_stops n host s)) (λ f. call_sync_host_stops_all n host s q))
 
   pub call_sync_host_row_stays : (c : Component) (n r h : ℕ) (s : Core) → Runs base n s → (f : HowFar) → Stays base (call_sync_host_row c n r h s f)
   call_sync_host_row_stays c n r h s q (how_far.Calls (subtask.Host i)) = quiet_goes n s _ (work_answered_untouched n r i s) q
@@ -189,39 +189,39 @@ module _ {base : Core} where
 
   -- ---- Cancels
 
-  pub ended_row_stays : (mode : Mode) (n r : ℕ) (sub : Subtask) (s : Core) → Runs base n s → (o : Option Status) → Stays base (ended_row mode n r sub s o)
-  ended_row_stays mode n r sub s q None = tt
-  ended_row_stays mode n r sub s q (Some e) = quiet_goes n s _ (end_taken_untouched n r sub e s) q
+  pub cancel_ended_row_stays : (mode : Mode) (n r : ℕ) (sub : Subtask) (s : Core) → Runs base n s → (o : Option Status) → Stays base (cancel_ended_row mode n r sub s o)
+  cancel_ended_row_stays mode n r sub s q None = tt
+  cancel_ended_row_stays mode n r sub s q (Some e) = quiet_goes n s _ (cancel_takes_end_untouched n r sub e s) q
 
-  awaiting_all : (n : ℕ) (sub : Subtask) (s : Core) → Runs base n s → Kept base (awaiting n sub s)
-  unfolding awaiting
-  awaiting_all n sub s r =
+  cancel_stops_all : (n : ℕ) (sub : Subtask) (s : Core) → Runs base n s → Kept base (cancel_stops n sub s)
+  unfolding cancel_stops
+  cancel_stops_all n sub s r =
       let a = set_saved_callee n None s in
       let b = set_join sub (join.Watched n) a in
       let u = untouched_after (set_saved_callee_untouched n None s) (set_join_untouched sub (join.Watched n) a) in
       how_far_all n (how_far.AwaitsEnd sub) _ (stopped_all n _ (place.Blocked sub) _ refl (checked_stand n place.Running (instance_of n s) b (quiet_runs n s b u r)))
 
-  not_ended_row_stays : (mode : Mode) (n r : ℕ) (sub : Subtask) (s : Core) → Runs base n s → Stays base (not_ended_row mode n r sub s)
-  not_ended_row_stays Async n r sub s q = quiet_goes n s _ (answered_untouched n r blocked_code s) q
-  not_ended_row_stays Sync n r sub s q = trap_if_stays base (not (passes_check (instance_of n s) s)) trap.CannotBlockSyncTask (Stops (pauses n) (awaiting n sub s)) (λ e. awaiting_all n sub s q)
+  cancel_unended_row_stays : (mode : Mode) (n r : ℕ) (sub : Subtask) (s : Core) → Runs base n s → Stays base (cancel_unended_row mode n r sub s)
+  cancel_unended_row_stays Async n r sub s q = quiet_goes n s _ (answered_untouched n r blocked_code s) q
+  cancel_unended_row_stays Sync n r sub s q = trap_if_stays base (not (passes_check (instance_of n s) s)) trap.CannotBlockSyncTask (Stops (pauses n) (cancel_stops n sub s)) (λ e. cancel_stops_all n sub s q)
 
-  by_end_stays : (mode : Mode) (n r : ℕ) (sub : Subtask) (s : Core) → Runs base n s → (b : Bool) → Stays base (by_end mode n r sub s b)
-  by_end_stays mode n r sub s q true = ended_row_stays mode n r sub s q (undelivered_end (event_of sub s))
-  by_end_stays mode n r sub s q false = not_ended_row_stays mode n r sub s q
+  cancel_by_end_stays : (mode : Mode) (n r : ℕ) (sub : Subtask) (s : Core) → Runs base n s → (b : Bool) → Stays base (cancel_by_end mode n r sub s b)
+  cancel_by_end_stays mode n r sub s q true = cancel_ended_row_stays mode n r sub s q (undelivered_end (event_of sub s))
+  cancel_by_end_stays mode n r sub s q false = cancel_unended_row_stays mode n r sub s q
 
   pub after_cancel_stays : (mode : Mode) (n r : ℕ) (sub : Subtask) (s : Core) → Runs base n s → Stays base (after_cancel mode n r sub s)
-  after_cancel_stays mode n r sub s q = by_end_stays mode n r sub s q (subtask_ended sub s)
+  after_cancel_stays mode n r sub s q = cancel_by_end_stays mode n r sub s q (subtask_ended sub s)
 
   pub cancel_host_stays : (mode : Mode) (n r i : ℕ) (s : Core) → Runs base n s → Stays base (cancel_host mode n r i s)
-  cancel_host_stays mode n r i s q = trap_if_stays base (was_cancelled i s) trap.SubtaskCancelAfterTerminal _ (λ e. after_cancel_stays mode n r (subtask.Host i) (host_cancelled i s) (quiet_runs n s _ (host_cancelled_untouched i s) q))
+  cancel_host_stays mode n r i s q = trap_if_stays base (was_cancelled i s) trap.SubtaskCancelAfterTerminal _ (λ e. after_cancel_stays mode n r (subtask.Host i) (cancel_aborts_host i s) (quiet_runs n s _ (cancel_aborts_host_untouched i s) q))
 
   behind_switch_all : (n : ℕ) (o : Option ℕ) (s : Core) → Runs base n s → Kept base (behind_switch n o s)
   behind_switch_all n None s r = all_of n place.Running s refl r
   behind_switch_all n (Some m) s r = behind_all n place.Running refl (foot_of m s) s refl r
 
-  lets_go_on_all : (n k : ℕ) (s : Core) → Runs base n s → Kept base (lets_go_on n k s)
-  unfolding lets_go_on
-  lets_go_on_all n k s r =
+  cancel_goes_behind_all : (n k : ℕ) (s : Core) → Runs base n s → Kept base (cancel_goes_behind n k s)
+  unfolding cancel_goes_behind
+  cancel_goes_behind_all n k s r =
       let j = call_instance k s in
       let a = set_saved_callee n (Some (may_not_suspend j s)) s in
       let b = set_do_not_suspend j false a in
@@ -242,12 +242,12 @@ waits_by (Some (place.Held c)) h = absurd (subst T (sym h) tt)
 waits_by (Some place.Suspended) h = absurd (subst T (sym h) tt)
 
 module _ {base : Core} where
-  cancel_delivered_all : (n k : ℕ) (s : Core) → is_at k s is_callback_wait ≡ true → Runs base n s → Kept base (cancel_delivered_to n k s)
-  unfolding cancel_delivered_to
+  cancel_delivered_all : (n k : ℕ) (s : Core) → is_at k s is_callback_wait ≡ true → Runs base n s → Kept base (cancel_wakes_callback n k s)
+  unfolding cancel_wakes_callback
   cancel_delivered_all n k s h r =
       let p = waits_by (place_of k s) h in
-      let u = asked_untouched k s in
-      lets_go_on_all n k _ (put_switch_good n place.Running refl k (why.Delivery delivery.Cancel) (place.Waiting p.0 p.1.0) (asked k s) (u.places k ∙ p.1.1) refl refl (quiet_runs n s _ u r))
+      let u = cancel_asks_untouched k s in
+      cancel_goes_behind_all n k _ (put_switch_good n place.Running refl k (why.Delivery delivery.Cancel) (place.Waiting p.0 p.1.0) (cancel_asks k s) (u.places k ∙ p.1.1) refl refl (quiet_runs n s _ u r))
 
 ready_by : (o : Option Place) → option_map_or is_callback_yield o false ≡ true → (x : Mark) × ((w : Why) × (o ≡ Some (place.Ready x w)))
 ready_by None h = absurd (subst T (sym h) tt)
@@ -280,20 +280,21 @@ module _ {base : Core} where
   promoted_runs : (n k : ℕ) (x : Mark) (w : Why) (s : Core) → place_of k s ≡ Some (place.Ready x w) → Runs base n s → Runs base n (promoted_unless k s)
   promoted_runs n k x w s at r = promoted_unless_stand n place.Running k s (λ none. ready_listed k x w s at (r.stand.placed k (ap (λ b. one_if b + 0) (ready_apart n k x w s at r))) none) r
 
-  yield_cancelled_all : (n k : ℕ) (s : Core) → is_at k s is_callback_yield ≡ true → Runs base n s → Kept base (yield_cancelled n k s)
-  unfolding yield_cancelled
-  yield_cancelled_all n k s h r =
+  cancel_promotes_yield_all : (n k : ℕ) (s : Core) → is_at k s is_callback_yield ≡ true → Runs base n s → Kept base (cancel_promotes_yield n k s)
+  unfolding cancel_promotes_yield
+  cancel_promotes_yield_all n k s h r =
       let p = ready_by (place_of k s) h in
-      let u = asked_untouched k s in
-      lets_go_on_all n k _ (promoted_runs n k p.0 p.1.0 (asked k s) (u.places k ∙ p.1.1) (quiet_runs n s _ u r))
+      let u = cancel_asks_untouched k s in
+      cancel_goes_behind_all n k _ (promoted_runs n k p.0 p.1.0 (cancel_asks k s) (u.places k ∙ p.1.1) (quiet_runs n s _ u r))
 
-  cancel_yield_stays : (mode : Mode) (n r k : ℕ) (s : Core) → Runs base n s → (b : Bool) → is_at k s is_callback_yield ≡ b → Stays base (cancel_yield mode n r k s b)
-  cancel_yield_stays mode n r k s q true h = yield_cancelled_all n k s h q
-  cancel_yield_stays mode n r k s q false h = after_cancel_stays mode n r (subtask.Guest k) (asked k s) (quiet_runs n s _ (asked_untouched k s) q)
+  pub cancel_waits_stays : (mode : Mode) (n r k : ℕ) (s : Core) → Runs base n s → is_at k s is_callback_wait ≡ true → Stays base (cancel_guest mode n r k s CallbackWaits)
+  cancel_waits_stays mode n r k s q h = cancel_delivered_all n k s h q
 
-  pub cancel_running_stays : (mode : Mode) (n r k : ℕ) (s : Core) → Runs base n s → (b : Bool) → is_at k s is_callback_wait ≡ b → Stays base (cancel_running mode n r k s b (is_at k s is_callback_yield))
-  cancel_running_stays mode n r k s q true h = cancel_delivered_all n k s h q
-  cancel_running_stays mode n r k s q false h = cancel_yield_stays mode n r k s q (is_at k s is_callback_yield) refl
+  pub cancel_yields_stays : (mode : Mode) (n r k : ℕ) (s : Core) → Runs base n s → is_at k s is_callback_yield ≡ true → Stays base (cancel_guest mode n r k s CallbackYields)
+  cancel_yields_stays mode n r k s q h = cancel_promotes_yield_all n k s h q
+
+  pub cancel_runs_stays : (mode : Mode) (n r k : ℕ) (s : Core) → Runs base n s → Stays base (cancel_guest mode n r k s OtherwiseRuns)
+  cancel_runs_stays mode n r k s q = after_cancel_stays mode n r (subtask.Guest k) (cancel_asks k s) (quiet_runs n s _ (cancel_asks_untouched k s) q)
 
   -- ---- Threads
 

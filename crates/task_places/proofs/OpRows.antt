@@ -16,10 +16,10 @@ use Rattle.task_machine.specs.declared.records.HowFar.{HowFar}
 use Rattle.task_machine.specs.declared.records.Subtask.{Subtask}
 use Rattle.task_machine.specs.declared.words.Given.{Given}
 use Rattle.task_machine.specs.declared.words.Status.{Status}
-use Rattle.task_rules.specs.Calls.{blocked, call_begins, call_blocked, call_pending, call_row, call_status, call_sync_status, called, called_back, next_thread, status_found}
+use Rattle.task_rules.specs.Calls.{call_stops, call_begins, call_sync_stops, call_pending, call_row, call_status, call_sync_status, call_queues, call_resumes, next_thread, status_found}
 use Rattle.task_rules.specs.Progress.{Goes, Stops, or_never, or_trap, trap_if}
 use Rattle.task_rules.specs.Scripts.{export_kind, value_of}
-use Rattle.task_rules.specs.Sets.{begun_waiting, chosen, finds_nothing, join_done, join_to, joined, joins, may_wake_new, poll_row, poll_takes, received, received_woken, set_drop_found, set_dropped, set_made, set_row, wait_begins, wait_goes_on, wait_row, wait_takes, waiting, wakes_joined}
+use Rattle.task_rules.specs.Sets.{wait_stops_checked, chosen, finds_nothing, join_done, join_to, joined, joins, may_wake_new, poll_row, poll_takes, received, received_woken, set_drop_found, set_dropped, set_made, set_row, wait_begins, wait_goes_on, wait_row, wait_takes, wait_stops, wakes_joined}
 use Rattle.task_machine.specs.declared.label.CallLabel.TheVariants as call_label
 use Rattle.task_machine.specs.declared.records.Caller.TheVariants as caller
 use Rattle.task_machine.specs.declared.records.Goal.TheVariants as goal
@@ -35,7 +35,7 @@ use Rattle.task_machine.specs.declared.trap.Trap.TheVariants as trap
 use Rattle.task_machine.specs.declared.records.Why.TheVariants as why
 use Rattle.task_places.proofs.PlaceWords.{added_here, added_stand, handed_on_stand, wake_stand, waits_of, waits_quiet}
 use Rattle.task_places.proofs.FreshStand.{Going, Kept, Runs, Standing, behind_all, checked_stand, put_switch_good, quiet_stand}
-use Rattle.task_rules.proofs.UntouchedLemmas.{add_call_untouched, set_join_untouched, set_made_untouched, set_dropped_untouched, received_untouched, suspending_untouched, called_back_untouched, call_returned_untouched, call_pending_untouched, call_answered_untouched}
+use Rattle.task_rules.proofs.UntouchedLemmas.{add_call_untouched, set_join_untouched, set_made_untouched, set_dropped_untouched, received_untouched, call_clears_flag_untouched, call_resumes_untouched, call_returned_untouched, call_pending_untouched, call_answered_untouched}
 use Rattle.task_rules.proofs.StopLemmas.{Untouched}
 use Rattle.task_machine.specs.declared.records.Place.{Place}
 use Rattle.task_machine.specs.Write.{add_call}
@@ -52,16 +52,16 @@ module _ {base : Core} where
   received_goes : (n r : ℕ) (g : Gift) (v : Given) (s : Core) → Runs base n s → Going base n (received n r g v s)
   received_goes n r g v s q = quiet_goes n s _ (received_untouched n r g v s) q
 
-  waiting_all : (n x : ℕ) (s : Core) → Runs base n s → Kept base (waiting n x s)
-  unfolding waiting
-  waiting_all n x s r = how_far_all n (how_far.Waits x) _ (stopped_all n (foot_of n s) (place.Waiting x false) s refl r)
+  wait_stops_all : (n x : ℕ) (s : Core) → Runs base n s → Kept base (wait_stops n x s)
+  unfolding wait_stops
+  wait_stops_all n x s r = how_far_all n (how_far.Waits x) _ (stopped_all n (foot_of n s) (place.Waiting x false) s refl r)
 
-  begun_waiting_all : (n x : ℕ) (s : Core) → Runs base n s → Kept base (begun_waiting n x s)
-  unfolding begun_waiting
-  begun_waiting_all n x s r = waiting_all n x _ (checked_stand n place.Running (instance_of n s) s r)
+  wait_stops_checked_all : (n x : ℕ) (s : Core) → Runs base n s → Kept base (wait_stops_checked n x s)
+  unfolding wait_stops_checked
+  wait_stops_checked_all n x s r = wait_stops_all n x _ (checked_stand n place.Running (instance_of n s) s r)
 
   wait_begins_stays : (n r : ℕ) (ch : Choice) (s : Core) → Runs base n s → (x : ℕ) (b : Bool) → Stays base (wait_begins n r ch s x b)
-  wait_begins_stays n r ch s q x true = trap_if_stays base (not (passes_check (instance_of n s) s)) trap.CannotBlockSyncTask (Stops (label.Thread (thread_label.Pauses n)) (begun_waiting n x s)) (λ e. begun_waiting_all n x s q)
+  wait_begins_stays n r ch s q x true = trap_if_stays base (not (passes_check (instance_of n s) s)) trap.CannotBlockSyncTask (Stops (label.Thread (thread_label.Pauses n)) (wait_stops_checked n x s)) (λ e. wait_stops_checked_all n x s q)
   wait_begins_stays n r ch s q x false = or_never_stays base (gift false (task_of n s) x (chosen n ch s) s) (wait_takes n r ch s) (λ g. received_goes n r g _ s q)
 
   received_woken_goes : (n x r : ℕ) (w : Option ℕ) (g : Gift) (v : Given) (s : Core) → may_hand_on x g w s ≡ true → Runs base n s → Going base n (received_woken n x r w g v s)
@@ -69,7 +69,7 @@ module _ {base : Core} where
   received_woken_goes n x r w g v s h q = received_goes n r g v _ (handed_on_stand n place.Running refl x g w s h q)
 
   wait_goes_on_stays : (n x r : ℕ) (ch : Choice) (s : Core) → Runs base n s → (g : Gift) → Stays base (wait_goes_on n x r ch s g)
-  wait_goes_on_stays n x r ch s q NoGift = waiting_all n x s q
+  wait_goes_on_stays n x r ch s q NoGift = wait_stops_all n x s q
   wait_goes_on_stays n x r ch s q (OwnGift e) = may_stays base (may_hand_on x (OwnGift e) ch.woken s) _ (λ h. received_woken_goes n x r ch.woken (OwnGift e) _ s h q)
   wait_goes_on_stays n x r ch s q (MemberGift e) = may_stays base (may_hand_on x (MemberGift e) ch.woken s) _ (λ h. received_woken_goes n x r ch.woken (MemberGift e) _ s h q)
 
@@ -124,16 +124,16 @@ unfolding call_made add_call
 made_place f e x g group words s = added_here _ _
 
 module _ {base : Core} where
-  pub called_all : (n : ℕ) (e : Callee) (x : ExportKind) (g : Goal) (words : List ℕ) (s : Core) → Unused s → Runs base n s → Kept base (called n e x g words s)
-  unfolding called
-  called_all n e x g words s none r =
+  pub call_queues_all : (n : ℕ) (e : Callee) (x : ExportKind) (g : Goal) (words : List ℕ) (s : Core) → Unused s → Runs base n s → Kept base (call_queues n e x g words s)
+  unfolding call_queues
+  call_queues_all n e x g words s none r =
       let m = next_thread s in
       let a = call_made (caller.Thread n) e x g (thread_group n s) words s in
       let b = put_switch m why.Start a in
-      how_far_all n (how_far.Calls (subtask.Guest m)) _ (behind_all n place.Running refl m _ refl (quiet_runs n b _ (suspending_untouched n e.instance x b) (put_switch_good n place.Running refl m why.Start place.New a (made_place (caller.Thread n) e x g (thread_group n s) words s) refl refl (made_stand n place.Running (caller.Thread n) e x g (thread_group n s) words s none r))))
+      how_far_all n (how_far.Calls (subtask.Guest m)) _ (behind_all n place.Running refl m _ refl (quiet_runs n b _ (call_clears_flag_untouched n e.instance x b) (put_switch_good n place.Running refl m why.Start place.New a (made_place (caller.Thread n) e x g (thread_group n s) words s) refl refl (made_stand n place.Running (caller.Thread n) e x g (thread_group n s) words s none r))))
 
   pub call_begins_stays : (c : Component) (n : ℕ) (e : Callee) (g : Goal) (words : List ℕ) (s : Core) → Unused s → Runs base n s → Stays base (call_begins c n e g words s)
-  call_begins_stays c n e g words s none r = trap_if_stays base (not (fits 3 s)) trap.TableFull (Stops (label.Call (call_label.Calls n (next_thread s))) (called n e (export_kind c e) g words s)) (λ h. called_all n e (export_kind c e) g words s none r)
+  call_begins_stays c n e g words s none r = trap_if_stays base (not (fits 3 s)) trap.TableFull (Stops (label.Call (call_label.Calls n (next_thread s))) (call_queues n e (export_kind c e) g words s)) (λ h. call_queues_all n e (export_kind c e) g words s none r)
 
   call_pending_stays : (n r k : ℕ) (s : Core) → Runs base n s → (e : Status) → Stays base (let v = packed (new_handle (instance_of n s) s) e in trap_if (at_handle_limit s) trap.HandleLimit (Goes (label.Call (call_label.Call v n)) (call_pending n r k v s) n))
   call_pending_stays n r k s q e = trap_if_stays base (at_handle_limit s) trap.HandleLimit _ (λ h. quiet_goes n s _ (call_pending_untouched n r k (packed (new_handle (instance_of n s) s) e) s) q)
@@ -149,16 +149,16 @@ module _ {base : Core} where
   call_row_stays c n r to e words s none q (how_far.Calls (subtask.Guest k)) = call_status_stays n r k s q (status_found k s)
   call_row_stays c n r to e words s none q _ = call_begins_stays c n e (goal.Register to) words s none q
 
-  pub blocked_all : (n : ℕ) (sub : Subtask) (s : Core) → Runs base n s → Kept base (blocked n sub s)
-  unfolding blocked
-  blocked_all n sub s r = how_far_all n (how_far.Calls sub) _ (stopped_all n (foot_of n s) (place.Blocked sub) s refl r)
+  pub call_stops_all : (n : ℕ) (sub : Subtask) (s : Core) → Runs base n s → Kept base (call_stops n sub s)
+  unfolding call_stops
+  call_stops_all n sub s r = how_far_all n (how_far.Calls sub) _ (stopped_all n (foot_of n s) (place.Blocked sub) s refl r)
 
-  call_blocked_all : (n k : ℕ) (s : Core) → Runs base n s → Kept base (call_blocked n k s)
-  unfolding call_blocked
-  call_blocked_all n k s r = blocked_all n (subtask.Guest k) _ (checked_stand n place.Running (instance_of n s) _ (quiet_runs n s _ (called_back_untouched n k s) r))
+  call_sync_stops_all : (n k : ℕ) (s : Core) → Runs base n s → Kept base (call_sync_stops n k s)
+  unfolding call_sync_stops
+  call_sync_stops_all n k s r = call_stops_all n (subtask.Guest k) _ (checked_stand n place.Running (instance_of n s) _ (quiet_runs n s _ (call_resumes_untouched n k s) r))
 
-  call_sync_pauses_stays : (n k : ℕ) (s : Core) → Runs base n s → Stays base (trap_if (not (passes_check (instance_of n s) (called_back n k s))) trap.CannotBlockSyncTask (Stops (label.Thread (thread_label.Pauses n)) (call_blocked n k s)))
-  call_sync_pauses_stays n k s r = trap_if_stays base (not (passes_check (instance_of n s) (called_back n k s))) trap.CannotBlockSyncTask _ (λ e. call_blocked_all n k s r)
+  call_sync_pauses_stays : (n k : ℕ) (s : Core) → Runs base n s → Stays base (trap_if (not (passes_check (instance_of n s) (call_resumes n k s))) trap.CannotBlockSyncTask (Stops (label.Thread (thread_label.Pauses n)) (call_sync_stops n k s)))
+  call_sync_pauses_stays n k s r = trap_if_stays base (not (passes_check (instance_of n s) (call_resumes n k s))) trap.CannotBlockSyncTask _ (λ e. call_sync_stops_all n k s r)
 
   pub call_sync_status_stays : (n r k : ℕ) (s : Core) → Runs base n s → (e : Status) → Stays base (call_sync_status n r k s e)
   call_sync_status_stays n r k s q status.Returned = quiet_goes n s _ (call_answered_untouched n r k s) q

@@ -17,7 +17,7 @@ use Rattle.task_rules.specs.Takes.{popped, take_row, thread_taken}
 use Rattle.task_places.proofs.PlaceWords.{added_all, added_here, pushed_all}
 use Rattle.task_places.proofs.FreshMoves.{Fresher, fresher_after, fresher_quiet, fresher_same, is_fresh}
 use Rattle.task_places.proofs.FreshStand.{All, Going, Kept, Runs, Standing, is_starting, quiet_all, removed_fresher, stand_of}
-use Rattle.task_rules.proofs.UntouchedLemmas.{add_call_untouched, add_group_untouched, add_work_untouched, count_work_untouched, main_aborted_untouched, pended_untouched, pushed_untouched, set_course_untouched, set_phase_untouched, set_stage_untouched, set_trapped_untouched, take_result_untouched, untouched_after}
+use Rattle.task_rules.proofs.UntouchedLemmas.{add_call_untouched, add_group_untouched, add_work_untouched, count_work_untouched, main_aborted_untouched, poll_pends_untouched, pushed_untouched, set_course_untouched, set_phase_untouched, set_stage_untouched, set_trapped_untouched, take_result_untouched, untouched_after}
 use Rattle.task_rules.proofs.MoveLemmas.{all_of}
 use Rattle.task_rules.proofs.StandLemmas.{Loose, Stand, by_number, eq_refl, is_eq_of}
 use Rattle.task_rules.proofs.StopLemmas.{quiet_placed}
@@ -32,7 +32,7 @@ use Rattle.task_machine.specs.declared.words.Mark.{Mark}
 use Rattle.task_machine.specs.declared.records.Entry.{Entry}
 use Rattle.task_rules.specs.Step.{DeadlockStep, EmptyFor, FuturesStep, MainProgresses, MainStep, OpenProgresses, OpenStep, Polled, Progresses, RestStep, ScriptStep, TakeStep, TurnStep, did, entry_number, struck}
 use Rattle.task_rules.specs.MainOps.{Abort, Answer, Answers, Await, Does, Finish, MainAct, MainProgress, Pends, Quiet, Ready, Spawn, Start, act_of, finish_act, finish_result, has_interesting, is_complete, is_ready_for_call, line_of, main_row, main_spawned, main_started, op_at, start_act, start_refusal, unless_pending}
-use Rattle.task_rules.specs.Works.{Ends, FailsNow, Poll, StillPends, course_for, followed, next_polled, pended, poll_of, work_ended}
+use Rattle.task_rules.specs.Works.{Ends, FailsNow, Poll, StillPends, course_for, followed, next_polled, poll_pends, poll_of, poll_ends}
 use Rattle.task_places.proofs.WithdrawRows.{Withdrawable, gone_place, op_row_stays, other_place, removed_gone, removed_kept}
 use Rattle.task_machine.specs.declared.label.MainLabel.{MainLabel}
 use Rattle.task_machine.specs.declared.records.Turn.{Turn}
@@ -238,16 +238,16 @@ module _ {base : Core} where
   followed_all (work_caller.Async n to) i s all = pushed_all (entry.Host i) _ (λ k. refl) (quiet_all s _ (set_stage_untouched i stage.Finishing s) all)
   followed_all (work_caller.Sync n) i s all = let u = set_stage_untouched i stage.Ended s in unblocked_all (subtask.Host i) s _ u (blocked_on (subtask.Host i) s) refl (quiet_all s _ u all)
 
-  work_ended_all : (i : ℕ) (v : Option ℕ) (s : Core) → Kept base s → Kept base (work_ended i v s)
-  unfolding work_ended
-  work_ended_all i v s all =
+  poll_ends_all : (i : ℕ) (v : Option ℕ) (s : Core) → Kept base s → Kept base (poll_ends i v s)
+  unfolding poll_ends
+  poll_ends_all i v s all =
       let a = set_course i (course_for v) s in
       followed_all (work_caller_of i s) i _ (quiet_all s _ (untouched_after (set_course_untouched i (course_for v) s) (set_phase_untouched i phase.Complete a)) all)
 
   polled_lands : (s : State) → Kept base s.core → (i : ℕ) (p : Poll) (l : Label) (t : State) → Polled s i p l t → Lands base t.core t.turn
   unfolding at_turn
-  polled_lands s all i (StillPends host) l t is = lands_is t _ is.1 (lands_still (pended i host s.core) (settled_futures i (pended i host s.core) (next_polled i (pended i host s.core))) (futures_still i (pended i host s.core) (next_polled i (pended i host s.core))) (quiet_all s.core _ (pended_untouched i host s.core) all))
-  polled_lands s all i (Ends v) l t is = lands_is t _ is.1 (lands_still (work_ended i v s.core) (settled_take true (nothing_stands (work_ended i v s.core))) (take_still true (nothing_stands (work_ended i v s.core))) (work_ended_all i v s.core all))
+  polled_lands s all i (StillPends host) l t is = lands_is t _ is.1 (lands_still (poll_pends i host s.core) (settled_futures i (poll_pends i host s.core) (next_polled i (poll_pends i host s.core))) (futures_still i (poll_pends i host s.core) (next_polled i (poll_pends i host s.core))) (quiet_all s.core _ (poll_pends_untouched i host s.core) all))
+  polled_lands s all i (Ends v) l t is = lands_is t _ is.1 (lands_still (poll_ends i v s.core) (settled_take true (nothing_stands (poll_ends i v s.core))) (take_still true (nothing_stands (poll_ends i v s.core))) (poll_ends_all i v s.core all))
   polled_lands s all i FailsNow l t is = lands_is t _ is.1 (lands_still _ turn.Over refl (quiet_all s.core _ (set_trapped_untouched s.core) all))
 
   futures_land : (s : State) → Kept base s.core → (o : Option ℕ) (l : Label) (t : State) → FuturesStep s o l t → Lands base t.core t.turn

@@ -22,7 +22,7 @@ use Rattle.task_rules.proofs.MoveLemmas.{is_busy}
 use Rattle.task_rules.proofs.StandLemmas.{Loose, Stand, adds_all, by_number, entries-append, is_eq_of, not_eq, place_kept, set_place_adds}
 use Rattle.task_rules.proofs.StopLemmas.{Untouched}
 use Rattle.task_rules.proofs.UntouchedLemmas.{call_settled_untouched, exited_if_untouched, freed_thread_handle_untouched, interest_settled_untouched, result_given_untouched, set_do_not_enter_untouched, set_end_untouched, set_event_untouched, untouched_after}
-use Rattle.task_rules.specs.Ends.{cancelled, is_told, let_in, may_tell, result_given, returned, told}
+use Rattle.task_rules.specs.Ends.{cancelled, is_told, end_reopens, may_tell, result_given, returned, told}
 use Rattle.task_rules.specs.Laws.{is_free}
 use Rattle.task_rules.specs.Places.{HasPlace, entries, is_at_high, is_at_low, is_at_switch, is_behind_of, one_if, says, times}
 use Rattle.task_machine.specs.declared.records.CallEnd.TheVariants as call_end
@@ -204,8 +204,8 @@ module _ {base : Core} (n : ℕ) (q : Place) (busy : is_busy q ≡ true) where
       let u = set_end_untouched k call_end.ReturnCancelled s in
       told_stand k status.ReturnCancelled w (set_end k call_end.ReturnCancelled s) (waits_quiet w s _ u h) (quiet_stand n q s _ u st)
 
-  pub let_in_stand : (i : ℕ) (order : List ℕ) (s : Core) → Standing base n q s → Standing base n q (let_in i order s)
-  unfolding let_in
+  pub let_in_stand : (i : ℕ) (order : List ℕ) (s : Core) → Standing base n q s → Standing base n q (end_reopens i order s)
+  unfolding end_reopens
   let_in_stand i order s st = released_good n q busy order (set_do_not_enter i false s) (quiet_stand n q s _ (set_do_not_enter_untouched i false s) st)
 
   hands_waits : (x : ℕ) (g : Gift) (w : Option ℕ) (s : Core) → may_hand_on x g w s ≡ true → Standing base n q s → Standing base n q (handed_on x g w s)

@@ -13,11 +13,11 @@ use Rattle.task_machine.specs.declared.op.TaskOp.{TaskOp}
 use Rattle.task_machine.specs.declared.records.HowFar.{HowFar}
 use Rattle.task_machine.specs.declared.trap.Trap.{Trap}
 use Rattle.task_rules.specs.Data.{advanced, assigned, data_row, skip_row}
-use Rattle.task_rules.specs.Ends.{awaited, blocking_exit_row, blocking_left, code_row, deactivated, direct_exit_to, direct_left, exit_row_for, finished, found, has_event_for, held_out, implicit_exit_row, kind_end, kind_exit_row, leave_row, leaves_no_result, left, let_in, may_tell, own_or_none, passes_after_return, passes_after_stop, restored, sync_exit_row, sync_left, wait_end, yielded}
+use Rattle.task_rules.specs.Ends.{code_waits, blocking_exit_row, blocking_exits, code_row, code_stops, direct_exit_to, direct_exits, exit_row_for, code_exits, code_finds, has_event_for, held_by_flag, implicit_exit_row, code_kind_row, kind_exit_row, thread_exit_row, leaves_no_result, exit_stops, end_reopens, may_tell, own_or_none, passes_after_return, passes_after_stop, exit_restores, sync_exit_row, sync_exits, code_wait_row, code_yields}
 use Rattle.task_rules.specs.Progress.{Fails, Goes, Never, Ordered, Progress, Stops, Traps, may, or_never, or_trap, trap_if}
 use Rattle.task_rules.specs.Scripts.{value_of}
-use Rattle.task_rules.specs.Takes.{held}
-use Rattle.task_rules.specs.Task.{cancel_done, dec_from, opened, raised, ret_done, ret_row, task_cancel_row, task_row}
+use Rattle.task_rules.specs.Takes.{take_holds}
+use Rattle.task_rules.specs.Task.{task_cancel_done, dec_from, dec_opens, inc_raises, ret_done, ret_row, task_cancel_row, task_row}
 use Rattle.task_machine.specs.declared.records.CallEnd.TheVariants as call_end
 use Rattle.task_machine.specs.declared.op.DataOp.TheVariants as data_op
 use Rattle.task_machine.specs.declared.records.Delivery.TheVariants as delivery
@@ -31,7 +31,7 @@ use Rattle.task_machine.specs.declared.trap.Trap.TheVariants as trap
 use Rattle.task_machine.specs.declared.records.Why.TheVariants as why
 use Rattle.task_places.proofs.EntryLemmas.{checked_place}
 use Rattle.task_places.proofs.PlaceWords.{Waits, cancelled_stand, ended_all, free_moved, let_in_stand, passes_found, returned_stand, waits_quiet, waits_released, waits_told}
-use Rattle.task_rules.proofs.UntouchedLemmas.{untouched_after, set_how_far_untouched, set_end_untouched, set_own_event_untouched, set_backpressure_untouched, set_do_not_enter_untouched, call_settled_untouched, interest_settled_untouched, freed_thread_handle_untouched, exited_if_untouched, advanced_untouched, assigned_untouched, stored_untouched, skipped_untouched, restored_untouched, raised_untouched, lowered_untouched}
+use Rattle.task_rules.proofs.UntouchedLemmas.{untouched_after, set_how_far_untouched, set_end_untouched, set_own_event_untouched, set_backpressure_untouched, set_do_not_enter_untouched, call_settled_untouched, interest_settled_untouched, freed_thread_handle_untouched, exited_if_untouched, advanced_untouched, assigned_untouched, stored_untouched, skipped_untouched, exit_restores_untouched, inc_raises_untouched, dec_lowers_untouched}
 use Rattle.task_rules.proofs.MoveLemmas as moves
 use Rattle.task_rules.proofs.MoveLemmas.{is_busy}
 use Rattle.task_places.proofs.FreshMoves.{fresher_after, is_fresh, placed_fresher}
@@ -126,70 +126,70 @@ module _ {base : Core} where
   -- ---- Ends
 
 module _ {base : Core} where
-  left_all : (n : ℕ) (s : Core) → Runs base n s → Kept base (left n s)
-  unfolding left
-  left_all n s r = ended_all n place.Running refl _ (stopped_stand n place.Running (foot_of n s) _ (checked_stand n place.Running (instance_of n s) s r))
+  exit_stops_all : (n : ℕ) (s : Core) → Runs base n s → Kept base (exit_stops n s)
+  unfolding exit_stops
+  exit_stops_all n s r = ended_all n place.Running refl _ (stopped_stand n place.Running (foot_of n s) _ (checked_stand n place.Running (instance_of n s) s r))
 
-  leave_row_stays : (n : ℕ) (s : Core) → Runs base n s → Stays base (leave_row n s)
-  leave_row_stays n s r = trap_if_stays base (not (passes_check (instance_of n s) s)) trap.CannotBlockSyncTask _ (λ e. trap_if_stays base (leaves_no_result n s) trap.NoAsyncResult (Stops (exit_label n None) (left n s)) (λ f. left_all n s r))
+  thread_exit_row_stays : (n : ℕ) (s : Core) → Runs base n s → Stays base (thread_exit_row n s)
+  thread_exit_row_stays n s r = trap_if_stays base (not (passes_check (instance_of n s) s)) trap.CannotBlockSyncTask _ (λ e. trap_if_stays base (leaves_no_result n s) trap.NoAsyncResult (Stops (exit_label n None) (exit_stops n s)) (λ f. exit_stops_all n s r))
 
-  sync_left_all : (n : ℕ) (w : Option ℕ) (s : Core) → Waits w s → Runs base n s → Kept base (sync_left n w s)
-  unfolding sync_left
-  sync_left_all n w s h r =
-      let u = restored_untouched n s in
-      ended_all n place.Running refl _ (stopped_stand n place.Running (foot_of n s) _ (returned_stand n place.Running refl (task_of n s) (register_of n 0 s) w (restored n s) (waits_quiet w s _ u h) (quiet_runs n s _ u r)))
+  sync_exits_all : (n : ℕ) (w : Option ℕ) (s : Core) → Waits w s → Runs base n s → Kept base (sync_exits n w s)
+  unfolding sync_exits
+  sync_exits_all n w s h r =
+      let u = exit_restores_untouched n s in
+      ended_all n place.Running refl _ (stopped_stand n place.Running (foot_of n s) _ (returned_stand n place.Running refl (task_of n s) (register_of n 0 s) w (exit_restores n s) (waits_quiet w s _ u h) (quiet_runs n s _ u r)))
 
   sync_exit_row_stays : (n : ℕ) (w : Option ℕ) (s : Core) → Runs base n s → Stays base (sync_exit_row n w s)
-  sync_exit_row_stays n w s r = may_stays base (may_tell (task_of n s) w s) (Stops (exit_label n w) (sync_left n w s)) (λ e. sync_left_all n w s (waits_told (task_of n s) w s e) r)
+  sync_exit_row_stays n w s r = may_stays base (may_tell (task_of n s) w s) (Stops (exit_label n w) (sync_exits n w s)) (λ e. sync_exits_all n w s (waits_told (task_of n s) w s e) r)
 
-let_in_waits : (i : ℕ) (order : List ℕ) (w : Option ℕ) (s : Core) → Waits w s → Waits w (let_in i order s)
-unfolding let_in
+let_in_waits : (i : ℕ) (order : List ℕ) (w : Option ℕ) (s : Core) → Waits w s → Waits w (end_reopens i order s)
+unfolding end_reopens
 let_in_waits i order w s h = waits_released w order (set_do_not_enter i false s) (waits_quiet w s _ (set_do_not_enter_untouched i false s) h)
 
 module _ {base : Core} where
-  blocking_left_all : (n : ℕ) (w : Option ℕ) (order : List ℕ) (s : Core) → Waits w s → Runs base n s → Kept base (blocking_left n w order s)
-  unfolding blocking_left
-  blocking_left_all n w order s h r =
-      let t = let_in (instance_of n s) order s in
-      left_all n _ (returned_stand n place.Running refl (task_of n s) (register_of n 0 s) w t (let_in_waits (instance_of n s) order w s h) (let_in_stand n place.Running refl (instance_of n s) order s r))
+  blocking_exits_all : (n : ℕ) (w : Option ℕ) (order : List ℕ) (s : Core) → Waits w s → Runs base n s → Kept base (blocking_exits n w order s)
+  unfolding blocking_exits
+  blocking_exits_all n w order s h r =
+      let t = end_reopens (instance_of n s) order s in
+      exit_stops_all n _ (returned_stand n place.Running refl (task_of n s) (register_of n 0 s) w t (let_in_waits (instance_of n s) order w s h) (let_in_stand n place.Running refl (instance_of n s) order s r))
 
   blocking_exit_row_stays : (n : ℕ) (w : Option ℕ) (s : Core) → Runs base n s → Stays base (blocking_exit_row n w s)
   blocking_exit_row_stays n w s r =
-      trap_if_stays base (not (passes_after_return (instance_of n s) (task_of n s) (held_out (instance_of n s) s) s)) trap.CannotBlockSyncTask _
-      (λ e. may_stays base (may_tell (task_of n s) w s) (Ordered (held_out (instance_of n s) s) (λ order. Stops (exit_label n w) (blocking_left n w order s))) (λ f. λ order. blocking_left_all n w order s (waits_told (task_of n s) w s f) r))
+      trap_if_stays base (not (passes_after_return (instance_of n s) (task_of n s) (held_by_flag (instance_of n s) s) s)) trap.CannotBlockSyncTask _
+      (λ e. may_stays base (may_tell (task_of n s) w s) (Ordered (held_by_flag (instance_of n s) s) (λ order. Stops (exit_label n w) (blocking_exits n w order s))) (λ f. λ order. blocking_exits_all n w order s (waits_told (task_of n s) w s f) r))
 
-  deactivated_runs : (n : ℕ) (order : List ℕ) (s : Core) → Runs base n s → Runs base n (deactivated n order s)
-  unfolding deactivated
+  deactivated_runs : (n : ℕ) (order : List ℕ) (s : Core) → Runs base n s → Runs base n (code_stops n order s)
+  unfolding code_stops
   deactivated_runs n order s r = stopped_stand n place.Running (foot_of n s) _ (let_in_stand n place.Running refl (instance_of n s) order s r)
 
-  finished_all : (n : ℕ) (order : List ℕ) (s : Core) → Runs base n s → Kept base (finished n order s)
-  unfolding finished
-  finished_all n order s r = ended_all n place.Running refl _ (checked_stand n place.Running (instance_of n s) _ (deactivated_runs n order s r))
+  code_exits_all : (n : ℕ) (order : List ℕ) (s : Core) → Runs base n s → Kept base (code_exits n order s)
+  unfolding code_exits
+  code_exits_all n order s r = ended_all n place.Running refl _ (checked_stand n place.Running (instance_of n s) _ (deactivated_runs n order s r))
 
-  yielded_all : (n : ℕ) (order : List ℕ) (s : Core) → Runs base n s → Kept base (yielded n order s)
-  unfolding yielded
-  yielded_all n order s r = put_low_all n place.Running refl (why.Delivery delivery.Yield) _ refl (quiet_runs n _ _ (set_own_event_untouched (task_of n s) (own_or_none (own_event_of (task_of n s) s)) (deactivated n order s)) (deactivated_runs n order s r))
+  code_yields_all : (n : ℕ) (order : List ℕ) (s : Core) → Runs base n s → Kept base (code_yields n order s)
+  unfolding code_yields
+  code_yields_all n order s r = put_low_all n place.Running refl (why.Delivery delivery.Yield) _ refl (quiet_runs n _ _ (set_own_event_untouched (task_of n s) (own_or_none (own_event_of (task_of n s) s)) (code_stops n order s)) (deactivated_runs n order s r))
 
-  found_all : (n x : ℕ) (order : List ℕ) (s : Core) → Runs base n s → Kept base (found n x order s)
-  unfolding found
-  found_all n x order s r = put_high_all n place.Running refl (why.Delivery (delivery.Set x)) _ refl (deactivated_runs n order s r)
+  code_finds_all : (n x : ℕ) (order : List ℕ) (s : Core) → Runs base n s → Kept base (code_finds n x order s)
+  unfolding code_finds
+  code_finds_all n x order s r = put_high_all n place.Running refl (why.Delivery (delivery.Set x)) _ refl (deactivated_runs n order s r)
 
-  awaited_all : (n x : ℕ) (order : List ℕ) (s : Core) → Runs base n s → Kept base (awaited n x order s)
-  unfolding awaited
-  awaited_all n x order s r = set_place_all n place.Running refl (place.Waiting x true) _ refl refl (deactivated_runs n order s r)
+  code_waits_all : (n x : ℕ) (order : List ℕ) (s : Core) → Runs base n s → Kept base (code_waits n x order s)
+  unfolding code_waits
+  code_waits_all n x order s r = set_place_all n place.Running refl (place.Waiting x true) _ refl refl (deactivated_runs n order s r)
 
-  wait_end_stays : (l : Label) (n x : ℕ) (held : List ℕ) (s : Core) → Runs base n s → (b : Bool) → Stays base (wait_end l n x held s b)
-  wait_end_stays l n x held s r true = λ order. found_all n x order s r
-  wait_end_stays l n x held s r false = λ order. awaited_all n x order s r
+  code_wait_row_stays : (l : Label) (n x : ℕ) (held : List ℕ) (s : Core) → Runs base n s → (b : Bool) → Stays base (code_wait_row l n x held s b)
+  code_wait_row_stays l n x held s r true = λ order. code_finds_all n x order s r
+  code_wait_row_stays l n x held s r false = λ order. code_waits_all n x order s r
 
-  kind_end_stays : (l : Label) (n : ℕ) (held : List ℕ) (s : Core) → Runs base n s → (k rest : ℕ) → Stays base (kind_end l n held s k rest)
-  kind_end_stays l n held s r zero rest = trap_if_stays base (not (passes_after_stop (instance_of n s) (foot_of n s) held s)) trap.CannotBlockSyncTask _ (λ e. trap_if_stays base (leaves_no_result n s) trap.NoAsyncResult (Ordered held (λ order. Stops l (finished n order s))) (λ f. λ order. finished_all n order s r))
-  kind_end_stays l n held s r (suc zero) rest = λ order. yielded_all n order s r
-  kind_end_stays l n held s r (suc (suc zero)) rest = or_trap_stays base (set_at (instance_of n s) rest s) trap.BadHandle (λ x. wait_end l n x held s (has_event_for (task_of n s) x s)) (λ x e. wait_end_stays l n x held s r (has_event_for (task_of n s) x s))
-  kind_end_stays l n held s r (suc (suc (suc k))) rest = tt
+  code_kind_row_stays : (l : Label) (n : ℕ) (held : List ℕ) (s : Core) → Runs base n s → (k rest : ℕ) → Stays base (code_kind_row l n held s k rest)
+  code_kind_row_stays l n held s r zero rest = trap_if_stays base (not (passes_after_stop (instance_of n s) (foot_of n s) held s)) trap.CannotBlockSyncTask _ (λ e. trap_if_stays base (leaves_no_result n s) trap.NoAsyncResult (Ordered held (λ order. Stops l (code_exits n order s))) (λ f. λ order. code_exits_all n order s r))
+  code_kind_row_stays l n held s r (suc zero) rest = λ order. code_yields_all n order s r
+  code_kind_row_stays l n held s r (suc (suc zero)) rest = or_trap_stays base (set_at (instance_of n s) rest s) trap.BadHandle (λ x. code_wait_row l n x held s (has_event_for (task_of n s) x s)) (λ x e. code_wait_row_stays l n x held s r (has_event_for (task_of n s) x s))
+  code_kind_row_stays l n held s r (suc (suc (suc k))) rest = tt
 
   code_row_stays : (l : Label) (n : ℕ) (s : Core) → Runs base n s → (code : ℕ) → Stays base (code_row l n s code)
-  code_row_stays l n s r code = trap_if_stays base (nat_lt 4294967295 code) trap.UnsupportedCallbackCode _ (λ e. kind_end_stays l n (held_out (instance_of n s) s) s r (code % 16) (code / 16))
+  code_row_stays l n s r code = trap_if_stays base (nat_lt 4294967295 code) trap.UnsupportedCallbackCode _ (λ e. code_kind_row_stays l n (held_by_flag (instance_of n s) s) s r (code % 16) (code / 16))
   -- ---- The exit of a direct call
 
 abbrev is_under_any : Place → Bool
@@ -235,9 +235,9 @@ module _ {base : Core} where
       go true e = absurd (no_under (sym at ∙ (ap (λ (j : ℕ). place_of j s) (is_eq_of m n e) ∙ r.stand.here)))
 
   -- n is gone, and the thread under it runs
-  direct_left_goes : (n m v : ℕ) (s : Core) → place_of m s ≡ Some (place.Under n) → Runs base n s → Going base m (direct_left n m v s)
-  unfolding direct_left
-  direct_left_goes n m v s at r =
+  direct_exits_goes : (n m v : ℕ) (s : Core) → place_of m s ≡ Some (place.Under n) → Runs base n s → Going base m (direct_exits n m v s)
+  unfolding direct_exits
+  direct_exits_goes n m v s at r =
       let b = set_end (task_of n s) call_end.Returned s in
       let u = set_end_untouched (task_of n s) call_end.Returned s in
       let t = ended n b in
@@ -245,16 +245,16 @@ module _ {base : Core} where
       let here : place_of m t ≡ Some (place.Under n) = ended_place n m b (not_running n m s at r) ∙ (u.places m ∙ at) in
       quiet_goes m (set_place m place.Running t) _ (set_how_far_untouched m (how_far.Answered v) (set_place m place.Running t)) (comes_to_run m (place.Under n) t here refl refl all)
 
-  direct_checked : (n m : ℕ) (s : Core) → Runs base n s → under_of n s ≡ Some m → Stays base (trap_if (not (passes_check (instance_of n s) s)) trap.CannotBlockSyncTask (Goes (exit_label n None) (direct_left n m (register_of n 0 s) (checked (instance_of n s) s)) m))
+  direct_checked : (n m : ℕ) (s : Core) → Runs base n s → under_of n s ≡ Some m → Stays base (trap_if (not (passes_check (instance_of n s) s)) trap.CannotBlockSyncTask (Goes (exit_label n None) (direct_exits n m (register_of n 0 s) (checked (instance_of n s) s)) m))
   direct_checked n m s r e =
       let at = under_place n m s e in
       let apart = not_running n m s at r in
       let l = free_loose m (place.Under n) s at refl (r.stand.placed m (ap (λ b. one_if b + 0) apart)) in
-      trap_if_stays base (not (passes_check (instance_of n s) s)) trap.CannotBlockSyncTask _ (λ f. direct_left_goes n m (register_of n 0 s) (checked (instance_of n s) s) (checked_place m (instance_of n s) s l ∙ at) (checked_stand n place.Running (instance_of n s) s r))
+      trap_if_stays base (not (passes_check (instance_of n s) s)) trap.CannotBlockSyncTask _ (λ f. direct_exits_goes n m (register_of n 0 s) (checked (instance_of n s) s) (checked_place m (instance_of n s) s l ∙ at) (checked_stand n place.Running (instance_of n s) s r))
 
   direct_exit_to_stays : (n : ℕ) (x : ExportKind) (s : Core) → Runs base n s → (o : Option ℕ) → under_of n s ≡ o → Stays base (direct_exit_to n x s o)
   direct_exit_to_stays n x s r None e = tt
-  direct_exit_to_stays n kind.Sync s r (Some m) e = let u = restored_untouched n s in direct_left_goes n m (register_of n 0 s) (restored n s) (u.places m ∙ under_place n m s e) (quiet_runs n s _ u r)
+  direct_exit_to_stays n kind.Sync s r (Some m) e = let u = exit_restores_untouched n s in direct_exits_goes n m (register_of n 0 s) (exit_restores n s) (u.places m ∙ under_place n m s e) (quiet_runs n s _ u r)
   direct_exit_to_stays n kind.Blocking s r (Some m) e = direct_checked n m s r e
   direct_exit_to_stays n kind.Stackful s r (Some m) e = direct_checked n m s r e
   direct_exit_to_stays n kind.Callback s r (Some m) e = direct_checked n m s r e
@@ -262,7 +262,7 @@ module _ {base : Core} where
   kind_exit_row_stays : (n : ℕ) (w : Option ℕ) (s : Core) → Runs base n s → (x : ExportKind) → Stays base (kind_exit_row n w s x)
   kind_exit_row_stays n w s r kind.Sync = sync_exit_row_stays n w s r
   kind_exit_row_stays n w s r kind.Blocking = blocking_exit_row_stays n w s r
-  kind_exit_row_stays n w s r kind.Stackful = leave_row_stays n s r
+  kind_exit_row_stays n w s r kind.Stackful = thread_exit_row_stays n s r
   kind_exit_row_stays n w s r kind.Callback = code_row_stays (exit_label n None) n s r 0
 
   implicit_exit_row_stays : (n : ℕ) (w : Option ℕ) (s : Core) → Runs base n s → (b : Bool) → Stays base (implicit_exit_row n w s b)
@@ -270,7 +270,7 @@ module _ {base : Core} where
   implicit_exit_row_stays n w s r false = kind_exit_row_stays n w s r (kind_of (task_of n s) s)
 
   exit_row_for_stays : (n : ℕ) (w : Option ℕ) (s : Core) → Runs base n s → (b : Bool) → Stays base (exit_row_for n w s b)
-  exit_row_for_stays n w s r true = leave_row_stays n s r
+  exit_row_for_stays n w s r true = thread_exit_row_stays n s r
   exit_row_for_stays n w s r false = implicit_exit_row_stays n w s r (is_direct (goal_of (task_of n s) s))
 
   -- ---- The ops that end a task, and backpressure
@@ -283,20 +283,20 @@ module _ {base : Core} where
       (λ f. may_stays base (may_tell (task_of n s) w s) (Goes (ret_label n v w) (ret_done n v w s) n) (λ g. advanced_goes n _ (returned_stand n place.Running refl (task_of n s) v w s (waits_told (task_of n s) w s g) r))))
 
   task_cancel_row_stays : (n : ℕ) (w : Option ℕ) (s : Core) → Runs base n s → Stays base (task_cancel_row n w s)
-  unfolding cancel_done
+  unfolding task_cancel_done
   task_cancel_row_stays n w s r =
       trap_if_stays base (not (cancel_was_delivered (task_of n s) s)) trap.TaskCancelNotCancelled _
       (λ e. trap_if_stays base (has_ended (task_of n s) s) trap.TaskCancelOrReturnTwice _
-      (λ f. may_stays base (may_tell (task_of n s) w s) (Goes (task_cancel_label n w) (cancel_done n w s) n) (λ g. advanced_goes n _ (cancelled_stand n place.Running refl (task_of n s) w s (waits_told (task_of n s) w s g) r))))
+      (λ f. may_stays base (may_tell (task_of n s) w s) (Goes (task_cancel_label n w) (task_cancel_done n w s) n) (λ g. advanced_goes n _ (cancelled_stand n place.Running refl (task_of n s) w s (waits_told (task_of n s) w s g) r))))
 
-  opened_goes : (n : ℕ) (order : List ℕ) (s : Core) → Runs base n s → Going base n (opened n order s)
-  unfolding opened
-  opened_goes n order s r = advanced_goes n _ (released_good n place.Running refl order _ (quiet_runs n s _ (set_backpressure_untouched (instance_of n s) 0 s) r))
+  dec_opens_goes : (n : ℕ) (order : List ℕ) (s : Core) → Runs base n s → Going base n (dec_opens n order s)
+  unfolding dec_opens
+  dec_opens_goes n order s r = advanced_goes n _ (released_good n place.Running refl order _ (quiet_runs n s _ (set_backpressure_untouched (instance_of n s) 0 s) r))
 
   dec_from_stays : (n : ℕ) (s : Core) → Runs base n s → (b : ℕ) → Stays base (dec_from n s b)
   dec_from_stays n s r zero = tt
-  dec_from_stays n s r (suc zero) = λ order. opened_goes n order s r
-  dec_from_stays n s r (suc (suc b)) = quiet_goes n s _ (lowered_untouched n s) r
+  dec_from_stays n s r (suc zero) = λ order. dec_opens_goes n order s r
+  dec_from_stays n s r (suc (suc b)) = quiet_goes n s _ (dec_lowers_untouched n s) r
 
   pub task_row_stays : (n : ℕ) (s : Core) → Runs base n s → (ch : Choice) (o : TaskOp) → Stays base (task_row n s ch o)
   task_row_stays n s r ch (task_op.Ret x) = ret_row_stays n (value_of n s x) ch.woken s r
@@ -306,5 +306,5 @@ module _ {base : Core} where
   task_row_stays n s r ch task_op.CbYield = code_row_stays (label.Task (task_label.CbYield n)) n s r 1
   task_row_stays n s r ch (task_op.CbWait x) = code_row_stays (label.Task (task_label.CbWait n)) n s r (16 * value_of n s x + 2)
   task_row_stays n s r ch (task_op.Code x) = code_row_stays (label.Task (task_label.Code n)) n s r (value_of n s x)
-  task_row_stays n s r ch task_op.BpInc = trap_if_stays base (nat_le 65535 (backpressure_of (instance_of n s) s)) trap.BackpressureOverflow (Goes (label.Task (task_label.BpInc n)) (raised n s) n) (λ e. quiet_goes n s _ (raised_untouched n s) r)
+  task_row_stays n s r ch task_op.BpInc = trap_if_stays base (nat_le 65535 (backpressure_of (instance_of n s) s)) trap.BackpressureOverflow (Goes (label.Task (task_label.BpInc n)) (inc_raises n s) n) (λ e. quiet_goes n s _ (inc_raises_untouched n s) r)
   task_row_stays n s r ch task_op.BpDec = dec_from_stays n s r (backpressure_of (instance_of n s) s)

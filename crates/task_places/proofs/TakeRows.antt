@@ -14,10 +14,10 @@ use Rattle.task_rules.specs.Calls.{with_thread_handle}
 use Rattle.task_rules.specs.Ends.{may_tell, told}
 use Rattle.task_rules.specs.Progress.{Goes, Stops}
 use Rattle.task_rules.specs.Sets.{chosen, set_given}
-use Rattle.task_rules.specs.Takes.{activated, activated_woken, awaits_again, delivered, delivery_row, held, host_done, host_result, host_status, may_tell_starting, popped, rest_of, running, set_delivered, start_admitted, start_held, start_row, started, starting_is_published, starting_told, thread_taken_for, enters}
+use Rattle.task_rules.specs.Takes.{activated, activated_woken, wait_again, delivered, delivery_row, take_holds, host_done, host_result, host_status, may_tell_starting, popped, rest_of, running, set_delivered, start_admitted, start_holds, start_row, start_begins, starting_is_published, starting_told, thread_taken_for, start_sets_flags}
 use Rattle.task_places.proofs.EntryLemmas.{Shorter, gain_own, less_both, no_both_of, one_place, shorter_kept, shorter_loose}
 use Rattle.task_places.proofs.PlaceWords.{Waits, blocked_place, handed_on_stand, none_waits, told_stand, waits_published, waits_quiet, waits_told, waits_unblocked}
-use Rattle.task_places.proofs.CallRows.{forbidding_calls, started_begun}
+use Rattle.task_places.proofs.CallRows.{sync_sets_flag_calls, started_begun}
 use Rattle.task_places.proofs.FreshMoves.{Fresher, fresher_after, high_fresher, is_fresh}
 use Rattle.task_places.proofs.FreshStand.{All, Going, Kept, Standing, goes, is_starting, may_come, may_go, not_fresh, quiet_all, quiet_stand, set_place_all, stopped_stand}
 use Rattle.task_rules.proofs.KeepRows.{told_keeps, with_thread_handle_keeps}
@@ -30,7 +30,7 @@ use Rattle.task_machine.specs.declared.records.Call.{Call}
 use Rattle.task_machine.specs.declared.component.ExportKind.{ExportKind}
 use Rattle.task_machine.specs.declared.component.ExportKind.TheVariants as kind
 use Rattle.std.specs.Option.{option_map_or}
-use Rattle.task_rules.proofs.UntouchedLemmas.{enters_untouched, host_result_untouched, moved_to_untouched, set_do_not_enter_untouched, set_event_untouched, set_given_untouched, set_script_untouched, set_stage_untouched, set_started_untouched, set_starting_published_untouched, taken_untouched, untouched_after, with_thread_handle_untouched}
+use Rattle.task_rules.proofs.UntouchedLemmas.{start_sets_flags_untouched, host_result_untouched, moved_to_untouched, set_do_not_enter_untouched, set_event_untouched, set_given_untouched, set_script_untouched, set_stage_untouched, set_started_untouched, set_starting_published_untouched, taken_untouched, untouched_after, with_thread_handle_untouched}
 use Rattle.task_rules.proofs.MoveLemmas as moves
 use Rattle.task_rules.proofs.MoveLemmas.{is_busy}
 use Rattle.task_rules.proofs.StandLemmas.{Loose, Stand, adds_all, by_number, eq_refl, gain, place_kept, place_written, plus_none, plus_one, put_high_adds}
@@ -242,12 +242,12 @@ owned_popped n mark.Switch s h = record { number = h.number; implicit = h.implic
 owned_popped n mark.High s h = record { number = h.number; implicit = h.implicit; explicit = h.explicit }
 owned_popped n mark.Low s h = record { number = h.number; implicit = h.implicit; explicit = h.explicit }
 
-enters_calls : (n : ℕ) (x : ExportKind) (s : Core) → (enters n x s).calls ≡ s.calls
+start_sets_flags_calls : (n : ℕ) (x : ExportKind) (s : Core) → (start_sets_flags n x s).calls ≡ s.calls
 unfolding set_do_not_enter on_instance
-enters_calls n kind.Sync s = forbidding_calls n (instance_of n s) kind.Sync s
-enters_calls n kind.Stackful s = refl
-enters_calls n kind.Blocking s = refl
-enters_calls n kind.Callback s = refl
+start_sets_flags_calls n kind.Sync s = sync_sets_flag_calls n (instance_of n s) kind.Sync s
+start_sets_flags_calls n kind.Stackful s = refl
+start_sets_flags_calls n kind.Blocking s = refl
+start_sets_flags_calls n kind.Callback s = refl
 
 placed_starting : (k n : ℕ) (p : Place) (s : Core) → is_starting k (set_place n p s) ≡ is_starting k s
 unfolding set_place on_thread
@@ -263,9 +263,9 @@ module _ {base : Core} (n : ℕ) (q : Place) (busy : is_busy q ≡ true) where
     begun = λ f. placed_starting n n place.Running s ∙ begun f;
   }
 
-  held_all : (w : Why) (s : Core) → may_come q (place.Held w) ≡ true → Standing base n q s → Kept base (held n w s)
-  unfolding held
-  held_all w s h st = set_place_all n q busy (place.Held w) _ refl h (stopped_stand n q (foot_of n s) s st)
+  take_holds_all : (w : Why) (s : Core) → may_come q (place.Held w) ≡ true → Standing base n q s → Kept base (take_holds n w s)
+  unfolding take_holds
+  take_holds_all w s h st = set_place_all n q busy (place.Held w) _ refl h (stopped_stand n q (foot_of n s) s st)
 
 waits_starting : (k : ℕ) (w : Option ℕ) (s : Core) → may_tell_starting k w s ≡ true → Waits w s
 unfolding may_tell_starting
@@ -285,24 +285,24 @@ module _ {base : Core} (n : ℕ) (x : Mark) where
       go true = st
       go false = let u = set_starting_published_untouched k s in told_stand n (place.Ready x why.Start) refl k status.Starting w (set_starting_published k s) (waits_quiet w s _ u h) (quiet_stand n (place.Ready x why.Start) s _ u st)
 
-  start_held_all : (w : Option ℕ) (s : Core) → Waits w s → Standing base n (place.Ready x why.Start) s → Kept base (start_held n w s)
-  unfolding start_held
-  start_held_all w s h st = held_all n (place.Ready x why.Start) refl why.Start _ refl (starting_stand (task_of n s) w s h st)
+  start_holds_all : (w : Option ℕ) (s : Core) → Waits w s → Standing base n (place.Ready x why.Start) s → Kept base (start_holds n w s)
+  unfolding start_holds
+  start_holds_all w s h st = take_holds_all n (place.Ready x why.Start) refl why.Start _ refl (starting_stand (task_of n s) w s h st)
 
-  started_goes : (w : Option ℕ) (s : Core) → n ≤ s.made.threads → task_of n s ≡ n → Waits w s → Standing base n (place.Ready x why.Start) s → Going base n (started n w s)
-  unfolding started
-  started_goes w s below own h st =
+  start_begins_goes : (w : Option ℕ) (s : Core) → n ≤ s.made.threads → task_of n s ≡ n → Waits w s → Standing base n (place.Ready x why.Start) s → Going base n (start_begins n w s)
+  unfolding start_begins
+  start_begins_goes w s below own h st =
       let k = task_of n s in
       let a = with_thread_handle (instance_of n s) n s in
       let b = set_started k a in
       let u = untouched_after (with_thread_handle_untouched (instance_of n s) n s) (set_started_untouched k a) in
       let c = told k status.Started w b in
-      let e = enters n (kind_of k s) c in
+      let e = start_sets_flags n (kind_of k s) c in
       let made : n ≤ b.made.threads = le_trans below (after steady_elementary (with_thread_handle_keeps steady_elementary (instance_of n s) n s) (set_started_keeps steady_elementary k a)).threads_made in
       let ran : is_starting n b ≡ false = subst (λ (j : ℕ). is_starting j b ≡ false) own (started_begun k a) in
       let begun : is_starting n c ≡ false = begun_later n b c (told_keeps steady_elementary k status.Started w b) made ran in
-      taken_to_run n (place.Ready x why.Start) refl e (λ f. ap (λ (calls : Records Call). option_map_or (λ (o : Call). not o.started) (get calls n) false) (enters_calls n (kind_of k s) c) ∙ begun)
-      (quiet_stand n (place.Ready x why.Start) c e (enters_untouched n (kind_of k s) c) (told_stand n (place.Ready x why.Start) refl k status.Started w b (waits_quiet w s b u h) (quiet_stand n (place.Ready x why.Start) s b u st)))
+      taken_to_run n (place.Ready x why.Start) refl e (λ f. ap (λ (calls : Records Call). option_map_or (λ (o : Call). not o.started) (get calls n) false) (start_sets_flags_calls n (kind_of k s) c) ∙ begun)
+      (quiet_stand n (place.Ready x why.Start) c e (start_sets_flags_untouched n (kind_of k s) c) (told_stand n (place.Ready x why.Start) refl k status.Started w b (waits_quiet w s b u h) (quiet_stand n (place.Ready x why.Start) s b u st)))
 
   running_goes : (s : Core) → is_starting n s ≡ false → Standing base n (place.Ready x why.Start) s → Going base n (running n s)
   unfolding running
@@ -310,11 +310,11 @@ module _ {base : Core} (n : ℕ) (x : Mark) where
 
   start_admitted_stays : (m : Mark) (w : Option ℕ) (s : Core) → Owned n s → Standing base n (place.Ready x why.Start) s → (b : Bool) → is_explicit n s ≡ b → Stays base (start_admitted m n w s b)
   start_admitted_stays m w s o st true e = running_goes s (o.explicit e) st
-  start_admitted_stays m w s o st false e = trap_if_stays base (at_handle_limit s) trap.HandleLimit _ (λ f. may_stays base (may_tell (task_of n s) w s) (Goes (take_label m n w) (started n w s) n) (λ h. started_goes w s o.number (o.implicit e) (waits_told (task_of n s) w s h) st))
+  start_admitted_stays m w s o st false e = trap_if_stays base (at_handle_limit s) trap.HandleLimit _ (λ f. may_stays base (may_tell (task_of n s) w s) (Goes (take_label m n w) (start_begins n w s) n) (λ h. start_begins_goes w s o.number (o.implicit e) (waits_told (task_of n s) w s h) st))
 
   start_row_stays : (m : Mark) (w : Option ℕ) (s : Core) → Owned n s → Standing base n (place.Ready x why.Start) s → (b : Bool) → Stays base (start_row m n w s b)
   start_row_stays m w s o st true = start_admitted_stays m w s o st (is_explicit n s) refl
-  start_row_stays m w s o st false = may_stays base (may_tell_starting (task_of n s) w s) (Stops (held_label m n w) (start_held n w s)) (λ h. start_held_all w s (waits_starting (task_of n s) w s h) st)
+  start_row_stays m w s o st false = may_stays base (may_tell_starting (task_of n s) w s) (Stops (held_label m n w) (start_holds n w s)) (λ h. start_holds_all w s (waits_starting (task_of n s) w s h) st)
 
 begun_comes : (q : Place) → is_fresh (Some q) ≡ false → (p : Place) → may_come q p ≡ true
 begun_comes q begun p = ap (λ b. not b || is_fresh (Some p)) begun
@@ -341,12 +341,12 @@ module _ {base : Core} (n : ℕ) (q : Place) (busy : is_busy q ≡ true) (begun 
   unfolding activated_woken
   activated_woken_goes x w g v s h st = activated_goes g v _ (handed_on_stand n q busy x g w s h st)
 
-  awaits_again_all : (x : ℕ) (s : Core) → Standing base n q s → Kept base (awaits_again n x s)
-  unfolding awaits_again
-  awaits_again_all x s st = set_place_all n q busy (place.Waiting x true) _ refl (begun_comes q begun (place.Waiting x true)) (stopped_stand n q (foot_of n s) s st)
+  wait_again_all : (x : ℕ) (s : Core) → Standing base n q s → Kept base (wait_again n x s)
+  unfolding wait_again
+  wait_again_all x s st = set_place_all n q busy (place.Waiting x true) _ refl (begun_comes q begun (place.Waiting x true)) (stopped_stand n q (foot_of n s) s st)
 
   set_delivered_stays : (m : Mark) (x : ℕ) (ch : Choice) (s : Core) → Standing base n q s → (g : Gift) → Stays base (set_delivered m n x ch s g)
-  set_delivered_stays m x ch s st NoGift = awaits_again_all x s st
+  set_delivered_stays m x ch s st NoGift = wait_again_all x s st
   set_delivered_stays m x ch s st (OwnGift e) = may_stays base (may_hand_on x (OwnGift e) ch.woken s) _ (λ h. activated_woken_goes x ch.woken (OwnGift e) _ s h st)
   set_delivered_stays m x ch s st (MemberGift e) = may_stays base (may_hand_on x (MemberGift e) ch.woken s) _ (λ h. activated_woken_goes x ch.woken (MemberGift e) _ s h st)
 
@@ -357,7 +357,7 @@ module _ {base : Core} (n : ℕ) (q : Place) (busy : is_busy q ≡ true) (begun 
 
   delivery_row_stays : (m : Mark) (ch : Choice) (s : Core) → Standing base n q s → (d : Delivery) (b : Bool) → Stays base (delivery_row m n ch s d b)
   delivery_row_stays m ch s st d true = delivered_stays m ch s st d
-  delivery_row_stays m ch s st d false = held_all n q busy (why.Delivery d) s (begun_comes q begun (place.Held (why.Delivery d))) st
+  delivery_row_stays m ch s st d false = take_holds_all n q busy (why.Delivery d) s (begun_comes q begun (place.Held (why.Delivery d))) st
 
 pub taken_for_stays : {base : Core} (n : ℕ) (x m : Mark) (ch : Choice) (s : Core) → Owned n s → (w : Why) → Standing base n (place.Ready x w) s → Stays base (thread_taken_for m n ch s w)
 taken_for_stays n x m ch s o why.Start st = start_row_stays n x m ch.woken s o st (admits n s why.Start)

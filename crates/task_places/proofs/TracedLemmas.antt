@@ -4,7 +4,7 @@ use Rattle.std.specs.Option.{option_map_or}
 use Rattle.std.specs.Prelude.{Bool, List, None, Option, Some, [], false, is_some, not, option_and_then, true, ℕ, ◌==◌, ◌∷◌, ◌≡◌}
 use Rattle.task_places.proofs.TracedFields.{Housed, Traced, guest_in, guest_named, guest_under_way, set_trapped_traced, take_result_traced}
 use Rattle.task_places.proofs.TracedRows.{Stays}
-use Rattle.task_places.proofs.TracedTakes.{main_aborted_traced, main_spawned_traced, main_started_traced, op_row_stays, pended_traced, popped_traced, struck_traced, take_row_stays, work_ended_traced}
+use Rattle.task_places.proofs.TracedTakes.{main_aborted_traced, main_spawned_traced, main_started_traced, op_row_stays, poll_pends_traced, popped_traced, struck_traced, take_row_stays, poll_ends_traced}
 use Rattle.task_laws.proofs.SoundFields.{no_way}
 use Rattle.task_laws.specs.Settings.{Reached}
 use Rattle.task_machine.specs.Core.{Began, Core, Main, MainPlace, Refused, Scripted, Started, State, Table, Unscripted, filled, fresh, no_handles}
@@ -98,8 +98,8 @@ open_progresses_traced s q (Answers v) l t k is = traced_is t _ is.1 q
 
 polled_traced : (s : State) → Traced s.core → (i : ℕ) (p : Poll) (l : Label) (t : State) → Polled s i p l t → Traced t.core
 unfolding at_turn
-polled_traced s q i (StillPends host) l t is = traced_is t _ is.1 (pended_traced i host q)
-polled_traced s q i (Ends v) l t is = traced_is t _ is.1 (work_ended_traced i v q)
+polled_traced s q i (StillPends host) l t is = traced_is t _ is.1 (poll_pends_traced i host q)
+polled_traced s q i (Ends v) l t is = traced_is t _ is.1 (poll_ends_traced i v q)
 polled_traced s q i FailsNow l t is = traced_is t _ is.1 (set_trapped_traced q)
 
 futures_traced : (s : State) → Traced s.core → (n : ℕ) (o : Option ℕ) → next_polled n s.core ≡ o → (l : Label) (t : State) → FuturesStep s o l t → Traced t.core

@@ -5,7 +5,7 @@ use Rattle.std.specs.Prelude.{Bool, List, None, Option, Some, [], false, is_some
 use Rattle.task_places.proofs.TracedFields.{Traced, add_thread_traced, call_made_traced, count_work_traced, free_handle_traced, give_result_traced, give_thread_handle_traced, remove_work_traced, set_backpressure_traced, set_cancelled_traced, set_do_not_enter_traced, set_do_not_suspend_traced, set_end_traced, set_event_traced, set_how_far_traced, set_plain_traced, set_join_traced, set_own_event_traced, set_phase_traced, set_place_traced, set_position_traced, set_register_traced, set_result_traced, set_saved_callee_traced, set_saved_own_traced, set_started_traced, set_subtask_handle_traced, set_thread_handle_traced, set_word_traced, work_queued_traced, guest_of, First, guest_under_way, give_handle_traced, remove_set_traced, add_set_traced, guest_named}
 use Rattle.task_places.proofs.TracedWords.{behind_traced, call_settled_traced, checked_traced, ended_traced, group_settled_traced, handed_on_traced, if_traced, promoted_unless_traced, published_traced, put_high_traced, put_low_traced, put_switch_traced, released_traced, stopped_at_traced, stopped_traced, taken_traced, wake_traced, withdrawn_traced}
 use Rattle.task_machine.specs.Core.{Core}
-use Rattle.task_rules.proofs.KeepRows.{asked_keeps, behind_switch_keeps, called_back_keeps, cancel_resumed_keeps, forbidding_keeps, suspending_keeps, with_thread_handle_keeps}
+use Rattle.task_rules.proofs.KeepRows.{cancel_asks_keeps, behind_switch_keeps, call_resumes_keeps, cancel_resumed_keeps, sync_sets_flag_keeps, call_clears_flag_keeps, with_thread_handle_keeps}
 use Rattle.task_rules.proofs.KeepWords.{after, behind_keeps, checked_keeps, promoted_unless_keeps, put_switch_keeps, set_do_not_suspend_keeps, set_join_keeps, set_place_keeps, set_saved_callee_keeps, set_started_keeps, stopped_at_keeps}
 use Rattle.task_rules.proofs.LawLemmas.{steady_elementary}
 use Rattle.task_rules.specs.Keeps.{Elementary}
@@ -41,15 +41,15 @@ use Rattle.task_machine.specs.declared.records.Why.{Why}
 use Rattle.task_machine.specs.declared.trap.Trap.{Trap}
 use Rattle.task_machine.specs.declared.words.Given.{Given}
 use Rattle.task_machine.specs.declared.words.Status.{Status}
-use Rattle.task_rules.specs.Calls.{AtOnce, Failing, FirstPoll, Later, answered, blocked, call_answered, call_begins, call_blocked, call_host_polled, call_host_row, call_pending, call_returned, call_row, call_status, call_sync_begins, call_sync_host_polled, call_sync_host_row, call_sync_row, call_sync_status, called, called_back, enter_row, entered, first_poll, forbidding, host_answered, host_blocked, host_pending, host_ready, new_thread, next_thread, next_work, put_back, settle_group_of, status_found, suspending, with_handle, with_thread_handle, work_answered, work_deleted, work_group, work_value, call_made}
-use Rattle.task_rules.specs.Cancels.{Async, Mode, Sync, aborted_phase, after_cancel, asked, awaiting, behind_switch, blocked_code, by_end, cancel_delivered_to, cancel_found, cancel_guest, cancel_host, cancel_resumed, cancel_row, cancel_running, cancel_subtask, cancel_yield, drop_found, drop_row, dropped, end_taken, ended_row, host_cancelled, is_callback_wait, lets_go_on, not_ended_row, pauses, start_withdrawn, subtask_instance, subtask_row, subtask_settled, yield_cancelled}
+use Rattle.task_rules.specs.Calls.{AtOnce, Failing, FirstPoll, Later, answered, call_stops, call_answered, call_begins, call_sync_stops, call_host_polled, call_host_row, call_pending, call_returned, call_row, call_status, call_sync_begins, call_sync_host_polled, call_sync_host_row, call_sync_row, call_sync_status, call_queues, call_resumes, enter_row, enter_runs, first_poll, sync_sets_flag, host_answered, call_sync_host_stops, host_pending, host_ready, new_thread, next_thread, next_work, put_back, settle_group_of, status_found, call_clears_flag, with_handle, with_thread_handle, work_answered, work_deleted, work_group, work_value, call_made}
+use Rattle.task_rules.specs.Cancels.{AlreadyEnded, CallbackWaits, CallbackYields, CancelCase, OtherwiseRuns, StartNotRun, cancel_case, Async, Mode, Sync, aborted_phase, after_cancel, cancel_asks, cancel_stops, behind_switch, blocked_code, cancel_by_end, cancel_wakes_callback, cancel_found, cancel_guest, cancel_host, cancel_resumed, cancel_row, cancel_subtask, drop_found, drop_row, dropped, cancel_takes_end, cancel_ended_row, cancel_aborts_host, is_callback_wait, cancel_goes_behind, cancel_unended_row, pauses, cancel_withdraws, subtask_instance, subtask_row, subtask_settled, cancel_promotes_yield}
 use Rattle.task_rules.specs.Data.{advanced, assigned, data_row, moved_to, skip_row, skipped, stored}
-use Rattle.task_rules.specs.Ends.{awaited, blocking_exit_row, blocking_left, cancelled, code_row, deactivated, direct_exit_row, direct_exit_to, direct_left, exit_row, exit_row_for, finished, found, has_event_for, held_out, implicit_exit_row, is_told, kind_end, kind_exit_row, leave_row, leaves_no_result, left, let_in, may_tell, own_or_none, passes_after_return, passes_after_stop, restored, result_given, returned, sync_exit_row, sync_left, told, wait_end, yielded}
+use Rattle.task_rules.specs.Ends.{code_waits, blocking_exit_row, blocking_exits, cancelled, code_row, code_stops, direct_exit_row, direct_exit_to, direct_exits, exit_row, exit_row_for, code_exits, code_finds, has_event_for, held_by_flag, implicit_exit_row, is_told, code_kind_row, kind_exit_row, thread_exit_row, leaves_no_result, exit_stops, end_reopens, may_tell, own_or_none, passes_after_return, passes_after_stop, exit_restores, result_given, returned, sync_exit_row, sync_exits, told, code_wait_row, code_yields}
 use Rattle.task_rules.specs.Progress.{Fails, Goes, Never, Ordered, Progress, Stops, Traps, may, or_never, or_trap, trap_if}
 use Rattle.task_rules.specs.Scripts.{export_kind, host_at, registers_for, script_of, slot_at, value_of, values_in}
-use Rattle.task_rules.specs.Sets.{begun_waiting, chosen, finds_nothing, given_code, given_handle, given_result, handed_out, join_done, join_row, join_to, joined, joins, may_wake_new, poll_row, poll_takes, received, received_woken, set_drop_found, set_drop_row, set_dropped, set_given, set_made, set_new_row, set_row, wait_begins, wait_goes_on, wait_row, wait_takes, waiting, wakes_joined}
-use Rattle.task_rules.specs.Takes.{held, started}
-use Rattle.task_rules.specs.Task.{cancel_done, dec_from, dec_row, inc_row, lowered, opened, raised, ret_bad_row, ret_done, ret_row, task_cancel_row, task_row}
+use Rattle.task_rules.specs.Sets.{wait_stops_checked, chosen, finds_nothing, given_code, given_handle, given_result, handed_out, join_done, join_row, join_to, joined, joins, may_wake_new, poll_row, poll_takes, received, received_woken, set_drop_found, set_drop_row, set_dropped, set_given, set_made, set_new_row, set_row, wait_begins, wait_goes_on, wait_row, wait_takes, wait_stops, wakes_joined}
+use Rattle.task_rules.specs.Takes.{take_holds, start_begins}
+use Rattle.task_rules.specs.Task.{task_cancel_done, dec_from, dec_row, inc_row, dec_lowers, dec_opens, inc_raises, ret_bad_row, ret_done, ret_row, task_cancel_row, task_row}
 use Rattle.task_rules.specs.Threads.{Halt, Suspension, Yielding, by_how_far, halt_row, halted, halted_checked, halted_promoting, halted_resuming, halting, halts, has_yielded, resume_later_found, resume_later_row, resume_why, resumed_later, then_promote, then_promote_found, then_promote_row, then_resume_found, then_resume_row, thread_index_row, thread_made, thread_new_label, thread_new_row, thread_row}
 use Rattle.task_machine.specs.declared.records.CallEnd.TheVariants as call_end
 use Rattle.task_machine.specs.declared.label.CallLabel.TheVariants as call_label
@@ -194,84 +194,84 @@ pub cancelled_traced : (a0 : ℕ) (a1 : Option ℕ) {s : Core} → Traced s → 
 unfolding cancelled
 cancelled_traced k w {s = s} q = told_traced k status.ReturnCancelled w (set_end_traced k call_end.ReturnCancelled q)
 
-pub let_in_traced : (a0 : ℕ) (a1 : List ℕ) {s : Core} → Traced s → Traced (let_in a0 a1 s)
-unfolding let_in
-let_in_traced i order {s = s} q = released_traced order (set_do_not_enter_traced i false q)
+pub end_reopens_traced : (a0 : ℕ) (a1 : List ℕ) {s : Core} → Traced s → Traced (end_reopens a0 a1 s)
+unfolding end_reopens
+end_reopens_traced i order {s = s} q = released_traced order (set_do_not_enter_traced i false q)
 
-pub restored_traced : (a0 : ℕ) {s : Core} → Traced s → Traced (restored a0 s)
-unfolding restored
-restored_traced n {s = s} q = set_do_not_suspend_traced (instance_of n s) (unwrap_or (saved_own_of n s) false) q
+pub exit_restores_traced : (a0 : ℕ) {s : Core} → Traced s → Traced (exit_restores a0 s)
+unfolding exit_restores
+exit_restores_traced n {s = s} q = set_do_not_suspend_traced (instance_of n s) (unwrap_or (saved_own_of n s) false) q
 
-pub left_traced : (a0 : ℕ) {s : Core} → Traced s → Traced (left a0 s)
-unfolding left
-left_traced n {s = s} q = ended_traced n (stopped_traced (foot_of n s) (checked_traced (instance_of n s) q))
+pub exit_stops_traced : (a0 : ℕ) {s : Core} → Traced s → Traced (exit_stops a0 s)
+unfolding exit_stops
+exit_stops_traced n {s = s} q = ended_traced n (stopped_traced (foot_of n s) (checked_traced (instance_of n s) q))
 
-pub leave_row_stays : (a0 : ℕ) {s : Core} → Traced s → Stays (leave_row a0 s)
-leave_row_stays n {s = s} q = trap_if_stays (not (passes_check (instance_of n s) s)) trap.CannotBlockSyncTask (trap_if (leaves_no_result n s) trap.NoAsyncResult (Stops (exit_label n None) (left n s))) (trap_if_stays (leaves_no_result n s) trap.NoAsyncResult (Stops (exit_label n None) (left n s)) (left_traced n q))
+pub thread_exit_row_stays : (a0 : ℕ) {s : Core} → Traced s → Stays (thread_exit_row a0 s)
+thread_exit_row_stays n {s = s} q = trap_if_stays (not (passes_check (instance_of n s) s)) trap.CannotBlockSyncTask (trap_if (leaves_no_result n s) trap.NoAsyncResult (Stops (exit_label n None) (exit_stops n s))) (trap_if_stays (leaves_no_result n s) trap.NoAsyncResult (Stops (exit_label n None) (exit_stops n s)) (exit_stops_traced n q))
 
-pub sync_left_traced : (a0 : ℕ) (a1 : Option ℕ) {s : Core} → Traced s → Traced (sync_left a0 a1 s)
-unfolding sync_left
-sync_left_traced n w {s = s} q = ended_traced n (stopped_traced (foot_of n s) (returned_traced (task_of n s) (register_of n 0 s) w (restored_traced n q)))
+pub sync_exits_traced : (a0 : ℕ) (a1 : Option ℕ) {s : Core} → Traced s → Traced (sync_exits a0 a1 s)
+unfolding sync_exits
+sync_exits_traced n w {s = s} q = ended_traced n (stopped_traced (foot_of n s) (returned_traced (task_of n s) (register_of n 0 s) w (exit_restores_traced n q)))
 
 pub sync_exit_row_stays : (a0 : ℕ) (a1 : Option ℕ) {s : Core} → Traced s → Stays (sync_exit_row a0 a1 s)
-sync_exit_row_stays n w {s = s} q = may_stays (may_tell (task_of n s) w s) (Stops (exit_label n w) (sync_left n w s)) (sync_left_traced n w q)
+sync_exit_row_stays n w {s = s} q = may_stays (may_tell (task_of n s) w s) (Stops (exit_label n w) (sync_exits n w s)) (sync_exits_traced n w q)
 
-pub blocking_left_traced : (a0 : ℕ) (a1 : Option ℕ) (a2 : List ℕ) {s : Core} → Traced s → Traced (blocking_left a0 a1 a2 s)
-unfolding blocking_left
-blocking_left_traced n w order {s = s} q = left_traced n (returned_traced (task_of n s) (register_of n 0 s) w (let_in_traced (instance_of n s) order q))
+pub blocking_exits_traced : (a0 : ℕ) (a1 : Option ℕ) (a2 : List ℕ) {s : Core} → Traced s → Traced (blocking_exits a0 a1 a2 s)
+unfolding blocking_exits
+blocking_exits_traced n w order {s = s} q = exit_stops_traced n (returned_traced (task_of n s) (register_of n 0 s) w (end_reopens_traced (instance_of n s) order q))
 
 pub blocking_exit_row_stays : (a0 : ℕ) (a1 : Option ℕ) {s : Core} → Traced s → Stays (blocking_exit_row a0 a1 s)
-blocking_exit_row_stays n w {s = s} q = let held = held_out (instance_of n s) s in trap_if_stays (not (passes_after_return (instance_of n s) (task_of n s) held s)) trap.CannotBlockSyncTask (may (may_tell (task_of n s) w s) (Ordered held (λ order. Stops (exit_label n w) (blocking_left n w order s)))) (may_stays (may_tell (task_of n s) w s) (Ordered held (λ order. Stops (exit_label n w) (blocking_left n w order s))) (λ order. blocking_left_traced n w order q))
+blocking_exit_row_stays n w {s = s} q = let held = held_by_flag (instance_of n s) s in trap_if_stays (not (passes_after_return (instance_of n s) (task_of n s) held s)) trap.CannotBlockSyncTask (may (may_tell (task_of n s) w s) (Ordered held (λ order. Stops (exit_label n w) (blocking_exits n w order s)))) (may_stays (may_tell (task_of n s) w s) (Ordered held (λ order. Stops (exit_label n w) (blocking_exits n w order s))) (λ order. blocking_exits_traced n w order q))
 
-pub direct_left_traced : (a0 : ℕ) (a1 : ℕ) (a2 : ℕ) {s : Core} → Traced s → Traced (direct_left a0 a1 a2 s)
-unfolding direct_left
-direct_left_traced n m v {s = s} q = set_plain_traced m (how_far.Answered v) refl (set_place_traced m place.Running (ended_traced n (set_end_traced (task_of n s) call_end.Returned q)))
+pub direct_exits_traced : (a0 : ℕ) (a1 : ℕ) (a2 : ℕ) {s : Core} → Traced s → Traced (direct_exits a0 a1 a2 s)
+unfolding direct_exits
+direct_exits_traced n m v {s = s} q = set_plain_traced m (how_far.Answered v) refl (set_place_traced m place.Running (ended_traced n (set_end_traced (task_of n s) call_end.Returned q)))
 
 pub direct_exit_to_stays : (a0 : ℕ) (a1 : ExportKind) {s : Core} → Traced s → (a3 : Option ℕ) → Stays (direct_exit_to a0 a1 s a3)
 direct_exit_to_stays n x {s = s} q None = tt
-direct_exit_to_stays n kind.Sync {s = s} q (Some m) = direct_left_traced n m (register_of n 0 s) (restored_traced n q)
-direct_exit_to_stays n x {s = s} q (Some m) = trap_if_stays (not (passes_check (instance_of n s) s)) trap.CannotBlockSyncTask (Goes (exit_label n None) (direct_left n m (register_of n 0 s) (checked (instance_of n s) s)) m) (direct_left_traced n m (register_of n 0 s) (checked_traced (instance_of n s) q))
+direct_exit_to_stays n kind.Sync {s = s} q (Some m) = direct_exits_traced n m (register_of n 0 s) (exit_restores_traced n q)
+direct_exit_to_stays n x {s = s} q (Some m) = trap_if_stays (not (passes_check (instance_of n s) s)) trap.CannotBlockSyncTask (Goes (exit_label n None) (direct_exits n m (register_of n 0 s) (checked (instance_of n s) s)) m) (direct_exits_traced n m (register_of n 0 s) (checked_traced (instance_of n s) q))
 
 pub direct_exit_row_stays : (a0 : ℕ) {s : Core} → Traced s → Stays (direct_exit_row a0 s)
 direct_exit_row_stays n {s = s} q = direct_exit_to_stays n (kind_of (task_of n s) s) q (under_of n s)
 
-pub deactivated_traced : (a0 : ℕ) (a1 : List ℕ) {s : Core} → Traced s → Traced (deactivated a0 a1 s)
-unfolding deactivated
-deactivated_traced n order {s = s} q = stopped_traced (foot_of n s) (let_in_traced (instance_of n s) order q)
+pub code_stops_traced : (a0 : ℕ) (a1 : List ℕ) {s : Core} → Traced s → Traced (code_stops a0 a1 s)
+unfolding code_stops
+code_stops_traced n order {s = s} q = stopped_traced (foot_of n s) (end_reopens_traced (instance_of n s) order q)
 
-pub finished_traced : (a0 : ℕ) (a1 : List ℕ) {s : Core} → Traced s → Traced (finished a0 a1 s)
-unfolding finished
-finished_traced n order {s = s} q = ended_traced n (checked_traced (instance_of n s) (deactivated_traced n order q))
+pub code_exits_traced : (a0 : ℕ) (a1 : List ℕ) {s : Core} → Traced s → Traced (code_exits a0 a1 s)
+unfolding code_exits
+code_exits_traced n order {s = s} q = ended_traced n (checked_traced (instance_of n s) (code_stops_traced n order q))
 
-pub yielded_traced : (a0 : ℕ) (a1 : List ℕ) {s : Core} → Traced s → Traced (yielded a0 a1 s)
-unfolding yielded
-yielded_traced n order {s = s} q = let k = task_of n s in put_low_traced n (why.Delivery delivery.Yield) (set_own_event_traced k (own_or_none (own_event_of k s)) (deactivated_traced n order q))
+pub code_yields_traced : (a0 : ℕ) (a1 : List ℕ) {s : Core} → Traced s → Traced (code_yields a0 a1 s)
+unfolding code_yields
+code_yields_traced n order {s = s} q = let k = task_of n s in put_low_traced n (why.Delivery delivery.Yield) (set_own_event_traced k (own_or_none (own_event_of k s)) (code_stops_traced n order q))
 
-pub found_traced : (a0 : ℕ) (a1 : ℕ) (a2 : List ℕ) {s : Core} → Traced s → Traced (found a0 a1 a2 s)
-unfolding found
-found_traced n x order {s = s} q = put_high_traced n (why.Delivery (delivery.Set x)) (deactivated_traced n order q)
+pub code_finds_traced : (a0 : ℕ) (a1 : ℕ) (a2 : List ℕ) {s : Core} → Traced s → Traced (code_finds a0 a1 a2 s)
+unfolding code_finds
+code_finds_traced n x order {s = s} q = put_high_traced n (why.Delivery (delivery.Set x)) (code_stops_traced n order q)
 
-pub awaited_traced : (a0 : ℕ) (a1 : ℕ) (a2 : List ℕ) {s : Core} → Traced s → Traced (awaited a0 a1 a2 s)
-unfolding awaited
-awaited_traced n x order {s = s} q = set_place_traced n (place.Waiting x true) (deactivated_traced n order q)
+pub code_waits_traced : (a0 : ℕ) (a1 : ℕ) (a2 : List ℕ) {s : Core} → Traced s → Traced (code_waits a0 a1 a2 s)
+unfolding code_waits
+code_waits_traced n x order {s = s} q = set_place_traced n (place.Waiting x true) (code_stops_traced n order q)
 
-pub wait_end_stays : (a0 : Label) (a1 : ℕ) (a2 : ℕ) (a3 : List ℕ) {s : Core} → Traced s → (a5 : Bool) → Stays (wait_end a0 a1 a2 a3 s a5)
-wait_end_stays l n x held {s = s} q true = λ order. found_traced n x order q
-wait_end_stays l n x held {s = s} q false = λ order. awaited_traced n x order q
+pub code_wait_row_stays : (a0 : Label) (a1 : ℕ) (a2 : ℕ) (a3 : List ℕ) {s : Core} → Traced s → (a5 : Bool) → Stays (code_wait_row a0 a1 a2 a3 s a5)
+code_wait_row_stays l n x held {s = s} q true = λ order. code_finds_traced n x order q
+code_wait_row_stays l n x held {s = s} q false = λ order. code_waits_traced n x order q
 
-pub kind_end_stays : (a0 : Label) (a1 : ℕ) (a2 : List ℕ) {s : Core} → Traced s → (a4 : ℕ) (a5 : ℕ) → Stays (kind_end a0 a1 a2 s a4 a5)
-kind_end_stays l n held {s = s} q zero rest = trap_if_stays (not (passes_after_stop (instance_of n s) (foot_of n s) held s)) trap.CannotBlockSyncTask (trap_if (leaves_no_result n s) trap.NoAsyncResult (Ordered held (λ order. Stops l (finished n order s)))) (trap_if_stays (leaves_no_result n s) trap.NoAsyncResult (Ordered held (λ order. Stops l (finished n order s))) (λ order. finished_traced n order q))
-kind_end_stays l n held {s = s} q (suc zero) rest = λ order. yielded_traced n order q
-kind_end_stays l n held {s = s} q (suc (suc zero)) rest = or_trap_stays (set_at (instance_of n s) rest s) trap.BadHandle (λ x. wait_end l n x held s (has_event_for (task_of n s) x s)) (λ x. wait_end_stays l n x held q (has_event_for (task_of n s) x s))
-kind_end_stays l n held {s = s} q u1 rest = tt
+pub code_kind_row_stays : (a0 : Label) (a1 : ℕ) (a2 : List ℕ) {s : Core} → Traced s → (a4 : ℕ) (a5 : ℕ) → Stays (code_kind_row a0 a1 a2 s a4 a5)
+code_kind_row_stays l n held {s = s} q zero rest = trap_if_stays (not (passes_after_stop (instance_of n s) (foot_of n s) held s)) trap.CannotBlockSyncTask (trap_if (leaves_no_result n s) trap.NoAsyncResult (Ordered held (λ order. Stops l (code_exits n order s)))) (trap_if_stays (leaves_no_result n s) trap.NoAsyncResult (Ordered held (λ order. Stops l (code_exits n order s))) (λ order. code_exits_traced n order q))
+code_kind_row_stays l n held {s = s} q (suc zero) rest = λ order. code_yields_traced n order q
+code_kind_row_stays l n held {s = s} q (suc (suc zero)) rest = or_trap_stays (set_at (instance_of n s) rest s) trap.BadHandle (λ x. code_wait_row l n x held s (has_event_for (task_of n s) x s)) (λ x. code_wait_row_stays l n x held q (has_event_for (task_of n s) x s))
+code_kind_row_stays l n held {s = s} q u1 rest = tt
 
 pub code_row_stays : (a0 : Label) (a1 : ℕ) {s : Core} → Traced s → (a3 : ℕ) → Stays (code_row a0 a1 s a3)
-code_row_stays l n {s = s} q code = trap_if_stays (nat_lt 4294967295 code) trap.UnsupportedCallbackCode (kind_end l n (held_out (instance_of n s) s) s (code % 16) (code / 16)) (kind_end_stays l n (held_out (instance_of n s) s) q (code % 16) (code / 16))
+code_row_stays l n {s = s} q code = trap_if_stays (nat_lt 4294967295 code) trap.UnsupportedCallbackCode (code_kind_row l n (held_by_flag (instance_of n s) s) s (code % 16) (code / 16)) (code_kind_row_stays l n (held_by_flag (instance_of n s) s) q (code % 16) (code / 16))
 
 pub kind_exit_row_stays : (a0 : ℕ) (a1 : Option ℕ) {s : Core} → Traced s → (a3 : ExportKind) → Stays (kind_exit_row a0 a1 s a3)
 kind_exit_row_stays n w {s = s} q kind.Sync = sync_exit_row_stays n w q
 kind_exit_row_stays n w {s = s} q kind.Blocking = blocking_exit_row_stays n w q
-kind_exit_row_stays n w {s = s} q kind.Stackful = leave_row_stays n q
+kind_exit_row_stays n w {s = s} q kind.Stackful = thread_exit_row_stays n q
 kind_exit_row_stays n w {s = s} q kind.Callback = code_row_stays (exit_label n None) n q 0
 
 pub implicit_exit_row_stays : (a0 : ℕ) (a1 : Option ℕ) {s : Core} → Traced s → (a3 : Bool) → Stays (implicit_exit_row a0 a1 s a3)
@@ -279,7 +279,7 @@ implicit_exit_row_stays n w {s = s} q true = direct_exit_row_stays n q
 implicit_exit_row_stays n w {s = s} q false = kind_exit_row_stays n w q (kind_of (task_of n s) s)
 
 pub exit_row_for_stays : (a0 : ℕ) (a1 : Option ℕ) {s : Core} → Traced s → (a3 : Bool) → Stays (exit_row_for a0 a1 s a3)
-exit_row_for_stays n w {s = s} q true = leave_row_stays n q
+exit_row_for_stays n w {s = s} q true = thread_exit_row_stays n q
 exit_row_for_stays n w {s = s} q false = implicit_exit_row_stays n w q (is_direct (goal_of (task_of n s) s))
 
 pub exit_row_stays : (a0 : ℕ) (a1 : Option ℕ) {s : Core} → Traced s → Stays (exit_row a0 a1 s)
@@ -295,32 +295,32 @@ ret_row_stays n v w {s = s} q = trap_if_stays (has_ended (task_of n s) s) trap.T
 pub ret_bad_row_stays : (a0 : ℕ) {s : Core} → Traced s → Stays (ret_bad_row a0 s)
 ret_bad_row_stays n {s = s} q = trap_if_stays (has_ended (task_of n s) s) trap.TaskCancelOrReturnTwice (Traps trap.TaskReturnInvalid) tt
 
-pub cancel_done_traced : (a0 : ℕ) (a1 : Option ℕ) {s : Core} → Traced s → Traced (cancel_done a0 a1 s)
-unfolding cancel_done
-cancel_done_traced n w {s = s} q = advanced_traced n (cancelled_traced (task_of n s) w q)
+pub task_cancel_done_traced : (a0 : ℕ) (a1 : Option ℕ) {s : Core} → Traced s → Traced (task_cancel_done a0 a1 s)
+unfolding task_cancel_done
+task_cancel_done_traced n w {s = s} q = advanced_traced n (cancelled_traced (task_of n s) w q)
 
 pub task_cancel_row_stays : (a0 : ℕ) (a1 : Option ℕ) {s : Core} → Traced s → Stays (task_cancel_row a0 a1 s)
-task_cancel_row_stays n w {s = s} q = trap_if_stays (not (cancel_was_delivered (task_of n s) s)) trap.TaskCancelNotCancelled (trap_if (has_ended (task_of n s) s) trap.TaskCancelOrReturnTwice (may (may_tell (task_of n s) w s) (Goes (task_cancel_label n w) (cancel_done n w s) n))) (trap_if_stays (has_ended (task_of n s) s) trap.TaskCancelOrReturnTwice (may (may_tell (task_of n s) w s) (Goes (task_cancel_label n w) (cancel_done n w s) n)) (may_stays (may_tell (task_of n s) w s) (Goes (task_cancel_label n w) (cancel_done n w s) n) (cancel_done_traced n w q)))
+task_cancel_row_stays n w {s = s} q = trap_if_stays (not (cancel_was_delivered (task_of n s) s)) trap.TaskCancelNotCancelled (trap_if (has_ended (task_of n s) s) trap.TaskCancelOrReturnTwice (may (may_tell (task_of n s) w s) (Goes (task_cancel_label n w) (task_cancel_done n w s) n))) (trap_if_stays (has_ended (task_of n s) s) trap.TaskCancelOrReturnTwice (may (may_tell (task_of n s) w s) (Goes (task_cancel_label n w) (task_cancel_done n w s) n)) (may_stays (may_tell (task_of n s) w s) (Goes (task_cancel_label n w) (task_cancel_done n w s) n) (task_cancel_done_traced n w q)))
 
-pub raised_traced : (a0 : ℕ) {s : Core} → Traced s → Traced (raised a0 s)
-unfolding raised
-raised_traced n {s = s} q = let i = instance_of n s in advanced_traced n (set_backpressure_traced i (backpressure_of i s + 1) q)
+pub inc_raises_traced : (a0 : ℕ) {s : Core} → Traced s → Traced (inc_raises a0 s)
+unfolding inc_raises
+inc_raises_traced n {s = s} q = let i = instance_of n s in advanced_traced n (set_backpressure_traced i (backpressure_of i s + 1) q)
 
 pub inc_row_stays : (a0 : ℕ) {s : Core} → Traced s → Stays (inc_row a0 s)
-inc_row_stays n {s = s} q = trap_if_stays (nat_le 65535 (backpressure_of (instance_of n s) s)) trap.BackpressureOverflow (Goes (label.Task (task_label.BpInc n)) (raised n s) n) (raised_traced n q)
+inc_row_stays n {s = s} q = trap_if_stays (nat_le 65535 (backpressure_of (instance_of n s) s)) trap.BackpressureOverflow (Goes (label.Task (task_label.BpInc n)) (inc_raises n s) n) (inc_raises_traced n q)
 
-pub lowered_traced : (a0 : ℕ) {s : Core} → Traced s → Traced (lowered a0 s)
-unfolding lowered
-lowered_traced n {s = s} q = let i = instance_of n s in advanced_traced n (set_backpressure_traced i (backpressure_of i s - 1) q)
+pub dec_lowers_traced : (a0 : ℕ) {s : Core} → Traced s → Traced (dec_lowers a0 s)
+unfolding dec_lowers
+dec_lowers_traced n {s = s} q = let i = instance_of n s in advanced_traced n (set_backpressure_traced i (backpressure_of i s - 1) q)
 
-pub opened_traced : (a0 : ℕ) (a1 : List ℕ) {s : Core} → Traced s → Traced (opened a0 a1 s)
-unfolding opened
-opened_traced n order {s = s} q = advanced_traced n (released_traced order (set_backpressure_traced (instance_of n s) 0 q))
+pub dec_opens_traced : (a0 : ℕ) (a1 : List ℕ) {s : Core} → Traced s → Traced (dec_opens a0 a1 s)
+unfolding dec_opens
+dec_opens_traced n order {s = s} q = advanced_traced n (released_traced order (set_backpressure_traced (instance_of n s) 0 q))
 
 pub dec_from_stays : (a0 : ℕ) {s : Core} → Traced s → (a2 : ℕ) → Stays (dec_from a0 s a2)
 dec_from_stays n {s = s} q zero = tt
-dec_from_stays n {s = s} q (suc zero) = λ order. opened_traced n order q
-dec_from_stays n {s = s} q (suc (suc b)) = lowered_traced n q
+dec_from_stays n {s = s} q (suc zero) = λ order. dec_opens_traced n order q
+dec_from_stays n {s = s} q (suc (suc b)) = dec_lowers_traced n q
 
 pub dec_row_stays : (a0 : ℕ) {s : Core} → Traced s → Stays (dec_row a0 s)
 dec_row_stays n {s = s} q = dec_from_stays n q (backpressure_of (instance_of n s) s)
@@ -361,19 +361,19 @@ pub received_traced : (a0 : ℕ) (a1 : ℕ) (a2 : Gift) (a3 : Given) {s : Core} 
 unfolding received
 received_traced n r g v {s = s} q = advanced_traced n (set_given_traced n r v (taken_traced g (task_of n s) q))
 
-pub waiting_traced : (a0 : ℕ) (a1 : ℕ) {s : Core} → Traced s → Traced (waiting a0 a1 s)
-unfolding waiting
-waiting_traced n x {s = s} q = set_plain_traced n (how_far.Waits x) refl (stopped_at_traced n (place.Waiting x false) q)
+pub wait_stops_traced : (a0 : ℕ) (a1 : ℕ) {s : Core} → Traced s → Traced (wait_stops a0 a1 s)
+unfolding wait_stops
+wait_stops_traced n x {s = s} q = set_plain_traced n (how_far.Waits x) refl (stopped_at_traced n (place.Waiting x false) q)
 
-pub begun_waiting_traced : (a0 : ℕ) (a1 : ℕ) {s : Core} → Traced s → Traced (begun_waiting a0 a1 s)
-unfolding begun_waiting
-begun_waiting_traced n x {s = s} q = waiting_traced n x (checked_traced (instance_of n s) q)
+pub wait_stops_checked_traced : (a0 : ℕ) (a1 : ℕ) {s : Core} → Traced s → Traced (wait_stops_checked a0 a1 s)
+unfolding wait_stops_checked
+wait_stops_checked_traced n x {s = s} q = wait_stops_traced n x (checked_traced (instance_of n s) q)
 
 pub wait_takes_stays : (a0 : ℕ) (a1 : ℕ) (a2 : Choice) {s : Core} → Traced s → (a4 : Gift) → Stays (wait_takes a0 a1 a2 s a4)
 wait_takes_stays n r ch {s = s} q g = let v = handed_out ch s g in received_traced n r g v q
 
 pub wait_begins_stays : (a0 : ℕ) (a1 : ℕ) (a2 : Choice) {s : Core} → Traced s → (a4 : ℕ) (a5 : Bool) → Stays (wait_begins a0 a1 a2 s a4 a5)
-wait_begins_stays n r ch {s = s} q x true = trap_if_stays (not (passes_check (instance_of n s) s)) trap.CannotBlockSyncTask (Stops (label.Thread (thread_label.Pauses n)) (begun_waiting n x s)) (begun_waiting_traced n x q)
+wait_begins_stays n r ch {s = s} q x true = trap_if_stays (not (passes_check (instance_of n s) s)) trap.CannotBlockSyncTask (Stops (label.Thread (thread_label.Pauses n)) (wait_stops_checked n x s)) (wait_stops_checked_traced n x q)
 wait_begins_stays n r ch {s = s} q x false = or_never_stays (gift false (task_of n s) x (chosen n ch s) s) (wait_takes n r ch s) (λ got. wait_takes_stays n r ch q got)
 
 pub received_woken_traced : (a0 : ℕ) (a1 : ℕ) (a2 : ℕ) (a3 : Option ℕ) (a4 : Gift) (a5 : Given) {s : Core} → Traced s → Traced (received_woken a0 a1 a2 a3 a4 a5 s)
@@ -381,7 +381,7 @@ unfolding received_woken
 received_woken_traced n x r w g v {s = s} q = received_traced n r g v (handed_on_traced x g w q)
 
 pub wait_goes_on_stays : (a0 : ℕ) (a1 : ℕ) (a2 : ℕ) (a3 : Choice) {s : Core} → Traced s → (a5 : Gift) → Stays (wait_goes_on a0 a1 a2 a3 s a5)
-wait_goes_on_stays n x r ch {s = s} q NoGift = waiting_traced n x q
+wait_goes_on_stays n x r ch {s = s} q NoGift = wait_stops_traced n x q
 wait_goes_on_stays n x r ch {s = s} q g = let v = handed_out ch s g in may_stays (may_hand_on x g ch.woken s) (Goes (wait_label n v ch.woken) (received_woken n x r ch.woken g v s) n) (received_woken_traced n x r ch.woken g v q)
 
 pub wait_row_stays : (a0 : ℕ) (a1 : ℕ) (a2 : ℕ) (a3 : Choice) {s : Core} → Traced s → (a5 : HowFar) → Stays (wait_row a0 a1 a2 a3 s a5)
@@ -419,30 +419,30 @@ set_row_stays n {s = s} q ch (set_op.Wait r x) = wait_row_stays n r (value_of n 
 set_row_stays n {s = s} q ch (set_op.Poll r x) = poll_row_stays n r (value_of n s x) ch q
 set_row_stays n {s = s} q ch (set_op.Join x y) = join_row_stays n (value_of n s x) (value_of n s y) ch.woken q
 
-pub suspending_traced : (a0 : ℕ) (a1 : ℕ) (a2 : ExportKind) {s : Core} → Traced s → Traced (suspending a0 a1 a2 s)
-suspending_traced n j kind.Sync {s = s} q = q
-suspending_traced n j x {s = s} q = set_do_not_suspend_traced j false (set_saved_callee_traced n (Some (may_not_suspend j s)) q)
+pub call_clears_flag_traced : (a0 : ℕ) (a1 : ℕ) (a2 : ExportKind) {s : Core} → Traced s → Traced (call_clears_flag a0 a1 a2 s)
+call_clears_flag_traced n j kind.Sync {s = s} q = q
+call_clears_flag_traced n j x {s = s} q = set_do_not_suspend_traced j false (set_saved_callee_traced n (Some (may_not_suspend j s)) q)
 
-pub called_traced : (n : ℕ) (e : Callee) (x : ExportKind) (g : Goal) (words : List ℕ) {s : Core} → Traced s → Traced (called n e x g words s)
-unfolding called
-called_traced n e x g words {s = s} q =
+pub call_queues_traced : (n : ℕ) (e : Callee) (x : ExportKind) (g : Goal) (words : List ℕ) {s : Core} → Traced s → Traced (call_queues n e x g words s)
+unfolding call_queues
+call_queues_traced n e x g words {s = s} q =
     let m = next_thread s in
     let a = call_made (caller.Thread n) e x g (thread_group n s) words s in
     let b = put_switch m why.Start a in
-    let c = suspending n e.instance x b in
-    let u : Steady a (behind m (n ∷ []) c) = after all_steady (put_switch_keeps all_steady m why.Start a) (after all_steady (suspending_keeps all_steady n e.instance x b) (behind_keeps all_steady m (n ∷ []) c)) in
-    set_how_far_traced n (how_far.Calls (subtask.Guest m)) (known_later (subtask.Guest m) u (made_known (caller.Thread n) e x g (thread_group n s) words s)) (behind_traced m (n ∷ []) (suspending_traced n e.instance x (put_switch_traced m why.Start (call_made_traced (caller.Thread n) e x g (thread_group n s) words q))))
+    let c = call_clears_flag n e.instance x b in
+    let u : Steady a (behind m (n ∷ []) c) = after all_steady (put_switch_keeps all_steady m why.Start a) (after all_steady (call_clears_flag_keeps all_steady n e.instance x b) (behind_keeps all_steady m (n ∷ []) c)) in
+    set_how_far_traced n (how_far.Calls (subtask.Guest m)) (known_later (subtask.Guest m) u (made_known (caller.Thread n) e x g (thread_group n s) words s)) (behind_traced m (n ∷ []) (call_clears_flag_traced n e.instance x (put_switch_traced m why.Start (call_made_traced (caller.Thread n) e x g (thread_group n s) words q))))
 
 pub call_begins_stays : (a0 : Component) (a1 : ℕ) (a2 : Callee) (a3 : Goal) (a4 : List ℕ) {s : Core} → Traced s → Stays (call_begins a0 a1 a2 a3 a4 s)
-call_begins_stays c n e g words {s = s} q = trap_if_stays (not (fits 3 s)) trap.TableFull (Stops (label.Call (call_label.Calls n (next_thread s))) (called n e (export_kind c e) g words s)) (called_traced n e (export_kind c e) g words q)
+call_begins_stays c n e g words {s = s} q = trap_if_stays (not (fits 3 s)) trap.TableFull (Stops (label.Call (call_label.Calls n (next_thread s))) (call_queues n e (export_kind c e) g words s)) (call_queues_traced n e (export_kind c e) g words q)
 
 pub put_back_traced : (a0 : Option Bool) (a1 : ℕ) {s : Core} → Traced s → Traced (put_back a0 a1 s)
 put_back_traced None j {s = s} q = q
 put_back_traced (Some b) j {s = s} q = set_do_not_suspend_traced j b q
 
-pub called_back_traced : (a0 : ℕ) (a1 : ℕ) {s : Core} → Traced s → Traced (called_back a0 a1 s)
-unfolding called_back
-called_back_traced n k {s = s} q = set_event_traced (subtask.Guest k) None (put_back_traced (saved_callee_of n s) (call_instance k s) q)
+pub call_resumes_traced : (a0 : ℕ) (a1 : ℕ) {s : Core} → Traced s → Traced (call_resumes a0 a1 s)
+unfolding call_resumes
+call_resumes_traced n k {s = s} q = set_event_traced (subtask.Guest k) None (put_back_traced (saved_callee_of n s) (call_instance k s) q)
 
 pub answered_traced : (a0 : ℕ) (a1 : ℕ) (a2 : ℕ) {s : Core} → Traced s → Traced (answered a0 a1 a2 s)
 unfolding answered
@@ -450,7 +450,7 @@ answered_traced n r v {s = s} q = assigned_traced n r v (set_saved_callee_traced
 
 pub call_returned_traced : (a0 : ℕ) (a1 : ℕ) (a2 : ℕ) {s : Core} → Traced s → Traced (call_returned a0 a1 a2 s)
 unfolding call_returned
-call_returned_traced n r k {s = s} q = answered_traced n r 2 (call_settled_traced k (called_back_traced n k q))
+call_returned_traced n r k {s = s} q = answered_traced n r 2 (call_settled_traced k (call_resumes_traced n k q))
 
 pub with_handle_traced : (i : ℕ) (sub : Subtask) {s : Core} → Known sub s → Traced s → Traced (with_handle i sub s)
 unfolding with_handle
@@ -458,7 +458,7 @@ with_handle_traced i sub {s = s} known q = set_subtask_handle_traced sub (Some (
 
 pub call_pending_traced : (n r k v : ℕ) {s : Core} → Known (subtask.Guest k) s → Traced s → Traced (call_pending n r k v s)
 unfolding call_pending
-call_pending_traced n r k v {s = s} known q = answered_traced n r v (with_handle_traced (instance_of n s) (subtask.Guest k) (known_later (subtask.Guest k) (called_back_keeps all_steady n k s) known) (called_back_traced n k q))
+call_pending_traced n r k v {s = s} known q = answered_traced n r v (with_handle_traced (instance_of n s) (subtask.Guest k) (known_later (subtask.Guest k) (call_resumes_keeps all_steady n k s) known) (call_resumes_traced n k q))
 
 pub call_status_stays : (a0 : ℕ) (a1 : ℕ) (a2 : ℕ) {s : Core} → Known (subtask.Guest a2) s → Traced s → (a4 : Status) → Stays (call_status a0 a1 a2 s a4)
 call_status_stays n r k {s = s} known q status.Returned = call_returned_traced n r k q
@@ -470,42 +470,42 @@ call_row_stays c n r to e words {s = s} q u1 is = call_begins_stays c n e (goal.
 
 pub call_answered_traced : (a0 : ℕ) (a1 : ℕ) (a2 : ℕ) {s : Core} → Traced s → Traced (call_answered a0 a1 a2 s)
 unfolding call_answered
-call_answered_traced n r k {s = s} q = answered_traced n r (result_of k s) (call_settled_traced k (set_result_traced k None (called_back_traced n k q)))
+call_answered_traced n r k {s = s} q = answered_traced n r (result_of k s) (call_settled_traced k (set_result_traced k None (call_resumes_traced n k q)))
 
-pub blocked_traced : (a0 : ℕ) (a1 : Subtask) {s : Core} → Known a1 s → Traced s → Traced (blocked a0 a1 s)
-unfolding blocked
-blocked_traced n sub {s = s} known q = set_how_far_traced n (how_far.Calls sub) (known_later sub (stopped_at_keeps all_steady n (place.Blocked sub) s) known) (stopped_at_traced n (place.Blocked sub) q)
+pub call_stops_traced : (a0 : ℕ) (a1 : Subtask) {s : Core} → Known a1 s → Traced s → Traced (call_stops a0 a1 s)
+unfolding call_stops
+call_stops_traced n sub {s = s} known q = set_how_far_traced n (how_far.Calls sub) (known_later sub (stopped_at_keeps all_steady n (place.Blocked sub) s) known) (stopped_at_traced n (place.Blocked sub) q)
 
-pub call_blocked_traced : (a0 : ℕ) (a1 : ℕ) {s : Core} → Known (subtask.Guest a1) s → Traced s → Traced (call_blocked a0 a1 s)
-unfolding call_blocked
-call_blocked_traced n k {s = s} known q = blocked_traced n (subtask.Guest k) (known_later (subtask.Guest k) (after all_steady (called_back_keeps all_steady n k s) (checked_keeps all_steady (instance_of n s) (called_back n k s))) known) (checked_traced (instance_of n s) (called_back_traced n k q))
+pub call_sync_stops_traced : (a0 : ℕ) (a1 : ℕ) {s : Core} → Known (subtask.Guest a1) s → Traced s → Traced (call_sync_stops a0 a1 s)
+unfolding call_sync_stops
+call_sync_stops_traced n k {s = s} known q = call_stops_traced n (subtask.Guest k) (known_later (subtask.Guest k) (after all_steady (call_resumes_keeps all_steady n k s) (checked_keeps all_steady (instance_of n s) (call_resumes n k s))) known) (checked_traced (instance_of n s) (call_resumes_traced n k q))
 
 pub call_sync_status_stays : (a0 : ℕ) (a1 : ℕ) (a2 : ℕ) {s : Core} → Known (subtask.Guest a2) s → Traced s → (a4 : Status) → Stays (call_sync_status a0 a1 a2 s a4)
 call_sync_status_stays n r k {s = s} known q status.Returned = call_answered_traced n r k q
-call_sync_status_stays n r k {s = s} known q e = trap_if_stays (not (passes_check (instance_of n s) (called_back n k s))) trap.CannotBlockSyncTask (Stops (label.Thread (thread_label.Pauses n)) (call_blocked n k s)) (call_blocked_traced n k known q)
+call_sync_status_stays n r k {s = s} known q e = trap_if_stays (not (passes_check (instance_of n s) (call_resumes n k s))) trap.CannotBlockSyncTask (Stops (label.Thread (thread_label.Pauses n)) (call_sync_stops n k s)) (call_sync_stops_traced n k known q)
 
-pub forbidding_traced : (a0 : ℕ) (a1 : ℕ) (a2 : ExportKind) {s : Core} → Traced s → Traced (forbidding a0 a1 a2 s)
-forbidding_traced m j kind.Sync {s = s} q = set_do_not_suspend_traced j true (set_saved_own_traced m (Some (may_not_suspend j s)) q)
-forbidding_traced m j x {s = s} q = q
+pub sync_sets_flag_traced : (a0 : ℕ) (a1 : ℕ) (a2 : ExportKind) {s : Core} → Traced s → Traced (sync_sets_flag a0 a1 a2 s)
+sync_sets_flag_traced m j kind.Sync {s = s} q = set_do_not_suspend_traced j true (set_saved_own_traced m (Some (may_not_suspend j s)) q)
+sync_sets_flag_traced m j x {s = s} q = q
 
 pub with_thread_handle_traced : (a0 : ℕ) (a1 : ℕ) {s : Core} → Traced s → Traced (with_thread_handle a0 a1 s)
 unfolding with_thread_handle
 with_thread_handle_traced i m {s = s} q = set_thread_handle_traced m (Some (new_thread_handle i s)) (give_thread_handle_traced i m q)
 
-pub entered_traced : (n : ℕ) (e : Callee) (x : ExportKind) (words : List ℕ) {s : Core} → Traced s → Traced (entered n e x words s)
-unfolding entered
-entered_traced n e x words {s = s} q =
+pub enter_runs_traced : (n : ℕ) (e : Callee) (x : ExportKind) (words : List ℕ) {s : Core} → Traced s → Traced (enter_runs n e x words s)
+unfolding enter_runs
+enter_runs_traced n e x words {s = s} q =
     let m = next_thread s in
     let a = call_made (caller.Thread n) e x goal.Direct (thread_group n s) words s in
     let b = with_thread_handle e.instance m a in
     let c = set_started m b in
-    let d = forbidding m e.instance x c in
+    let d = sync_sets_flag m e.instance x c in
     let g = set_place m place.Running d in
-    let u : Steady a (set_place n (place.Under m) g) = after all_steady (with_thread_handle_keeps all_steady e.instance m a) (after all_steady (set_started_keeps all_steady m b) (after all_steady (forbidding_keeps all_steady m e.instance x c) (after all_steady (set_place_keeps all_steady m place.Running d) (set_place_keeps all_steady n (place.Under m) g)))) in
-    set_how_far_traced n (how_far.Calls (subtask.Guest m)) (known_later (subtask.Guest m) u (made_known (caller.Thread n) e x goal.Direct (thread_group n s) words s)) (set_place_traced n (place.Under m) (set_place_traced m place.Running (forbidding_traced m e.instance x (set_started_traced m (with_thread_handle_traced e.instance m (call_made_traced (caller.Thread n) e x goal.Direct (thread_group n s) words q))))))
+    let u : Steady a (set_place n (place.Under m) g) = after all_steady (with_thread_handle_keeps all_steady e.instance m a) (after all_steady (set_started_keeps all_steady m b) (after all_steady (sync_sets_flag_keeps all_steady m e.instance x c) (after all_steady (set_place_keeps all_steady m place.Running d) (set_place_keeps all_steady n (place.Under m) g)))) in
+    set_how_far_traced n (how_far.Calls (subtask.Guest m)) (known_later (subtask.Guest m) u (made_known (caller.Thread n) e x goal.Direct (thread_group n s) words s)) (set_place_traced n (place.Under m) (set_place_traced m place.Running (sync_sets_flag_traced m e.instance x (set_started_traced m (with_thread_handle_traced e.instance m (call_made_traced (caller.Thread n) e x goal.Direct (thread_group n s) words q))))))
 
 pub enter_row_stays : (a0 : ℕ) (a1 : Callee) (a2 : ExportKind) (a3 : List ℕ) {s : Core} → Traced s → Stays (enter_row a0 a1 a2 a3 s)
-enter_row_stays n e x words {s = s} q = trap_if_stays (not (fits 3 s)) trap.TableFull (trap_if (at_handle_limit s) trap.HandleLimit (Goes (label.Call (call_label.Enters n (next_thread s))) (entered n e x words s) (next_thread s))) (trap_if_stays (at_handle_limit s) trap.HandleLimit (Goes (label.Call (call_label.Enters n (next_thread s))) (entered n e x words s) (next_thread s)) (entered_traced n e x words q))
+enter_row_stays n e x words {s = s} q = trap_if_stays (not (fits 3 s)) trap.TableFull (trap_if (at_handle_limit s) trap.HandleLimit (Goes (label.Call (call_label.Enters n (next_thread s))) (enter_runs n e x words s) (next_thread s))) (trap_if_stays (at_handle_limit s) trap.HandleLimit (Goes (label.Call (call_label.Enters n (next_thread s))) (enter_runs n e x words s) (next_thread s)) (enter_runs_traced n e x words q))
 
 pub call_sync_begins_stays : (a0 : Component) (a1 : ℕ) (a2 : Callee) (a3 : List ℕ) {s : Core} → Traced s → (a5 : Bool) → Stays (call_sync_begins a0 a1 a2 a3 s a5)
 call_sync_begins_stays c n e words {s = s} q true = call_begins_stays c n e goal.Answer words q
@@ -536,14 +536,14 @@ pub host_answered_traced : (a0 : ℕ) (a1 : ℕ) (a2 : ℕ) {s : Core} → Trace
 unfolding host_answered
 host_answered_traced n r v {s = s} q = assigned_traced n r v (count_work_traced q)
 
-pub host_blocked_traced : (a0 : ℕ) (a1 : HostDef) {s : Core} → Traced s → Traced (host_blocked a0 a1 s)
-unfolding host_blocked
-host_blocked_traced n host {s = s} q = blocked_traced n (subtask.Host (next_work s)) (λ k e. no_way (ap (λ o. is_some o) e)) (work_queued_traced (work_caller.Sync n) host (Some (thread_group n s)) (checked_traced (instance_of n s) q))
+pub call_sync_host_stops_traced : (a0 : ℕ) (a1 : HostDef) {s : Core} → Traced s → Traced (call_sync_host_stops a0 a1 s)
+unfolding call_sync_host_stops
+call_sync_host_stops_traced n host {s = s} q = call_stops_traced n (subtask.Host (next_work s)) (λ k e. no_way (ap (λ o. is_some o) e)) (work_queued_traced (work_caller.Sync n) host (Some (thread_group n s)) (checked_traced (instance_of n s) q))
 
 pub call_sync_host_polled_stays : (a0 : ℕ) (a1 : ℕ) {s : Core} → Traced s → (a3 : FirstPoll) → Stays (call_sync_host_polled a0 a1 s a3)
 call_sync_host_polled_stays n r {s = s} q (AtOnce v) = host_answered_traced n r v q
 call_sync_host_polled_stays n r {s = s} q Failing = tt
-call_sync_host_polled_stays n r {s = s} q (Later host) = trap_if_stays (not (fits 1 s)) trap.TableFull (trap_if (not (passes_check (instance_of n s) s)) trap.CannotBlockSyncTask (Stops (label.Call (call_label.PausesPolls n (next_work s))) (host_blocked n host s))) (trap_if_stays (not (passes_check (instance_of n s) s)) trap.CannotBlockSyncTask (Stops (label.Call (call_label.PausesPolls n (next_work s))) (host_blocked n host s)) (host_blocked_traced n host q))
+call_sync_host_polled_stays n r {s = s} q (Later host) = trap_if_stays (not (fits 1 s)) trap.TableFull (trap_if (not (passes_check (instance_of n s) s)) trap.CannotBlockSyncTask (Stops (label.Call (call_label.PausesPolls n (next_work s))) (call_sync_host_stops n host s))) (trap_if_stays (not (passes_check (instance_of n s) s)) trap.CannotBlockSyncTask (Stops (label.Call (call_label.PausesPolls n (next_work s))) (call_sync_host_stops n host s)) (call_sync_host_stops_traced n host q))
 
 pub settle_group_of_traced : (a0 : Option ℕ) {s : Core} → Traced s → Traced (settle_group_of a0 s)
 settle_group_of_traced None {s = s} q = q
@@ -561,56 +561,56 @@ pub call_sync_host_row_stays : (a0 : Component) (a1 : ℕ) (a2 : ℕ) (a3 : ℕ)
 call_sync_host_row_stays c n r h {s = s} q (how_far.Calls (subtask.Host i)) = work_answered_traced n r i q
 call_sync_host_row_stays c n r h {s = s} q u1 = call_sync_host_polled_stays n r q (first_poll (host_at c h))
 
-pub end_taken_traced : (a0 : ℕ) (a1 : ℕ) (a2 : Subtask) (a3 : Status) {s : Core} → Traced s → Traced (end_taken a0 a1 a2 a3 s)
-unfolding end_taken
-end_taken_traced n r sub e {s = s} q = answered_traced n r (status_code e) (set_event_traced sub None q)
+pub cancel_takes_end_traced : (a0 : ℕ) (a1 : ℕ) (a2 : Subtask) (a3 : Status) {s : Core} → Traced s → Traced (cancel_takes_end a0 a1 a2 a3 s)
+unfolding cancel_takes_end
+cancel_takes_end_traced n r sub e {s = s} q = answered_traced n r (status_code e) (set_event_traced sub None q)
 
-pub ended_row_stays : (a0 : Mode) (a1 : ℕ) (a2 : ℕ) (a3 : Subtask) {s : Core} → Traced s → (a5 : Option Status) → Stays (ended_row a0 a1 a2 a3 s a5)
-ended_row_stays mode n r sub {s = s} q None = tt
-ended_row_stays mode n r sub {s = s} q (Some e) = end_taken_traced n r sub e q
+pub cancel_ended_row_stays : (a0 : Mode) (a1 : ℕ) (a2 : ℕ) (a3 : Subtask) {s : Core} → Traced s → (a5 : Option Status) → Stays (cancel_ended_row a0 a1 a2 a3 s a5)
+cancel_ended_row_stays mode n r sub {s = s} q None = tt
+cancel_ended_row_stays mode n r sub {s = s} q (Some e) = cancel_takes_end_traced n r sub e q
 
-pub awaiting_traced : (n : ℕ) (sub : Subtask) {s : Core} → Known sub s → Traced s → Traced (awaiting n sub s)
-unfolding awaiting
-awaiting_traced n sub {s = s} known q =
+pub cancel_stops_traced : (n : ℕ) (sub : Subtask) {s : Core} → Known sub s → Traced s → Traced (cancel_stops n sub s)
+unfolding cancel_stops
+cancel_stops_traced n sub {s = s} known q =
     let a = set_saved_callee n None s in
     let b = set_join sub (join.Watched n) a in
     let c = checked (instance_of n s) b in
     let u : Steady s (stopped_at n (place.Blocked sub) c) = after all_steady (set_saved_callee_keeps all_steady n None s) (after all_steady (set_join_keeps all_steady sub (join.Watched n) a) (after all_steady (checked_keeps all_steady (instance_of n s) b) (stopped_at_keeps all_steady n (place.Blocked sub) c))) in
     set_how_far_traced n (how_far.AwaitsEnd sub) (known_later sub u known) (stopped_at_traced n (place.Blocked sub) (checked_traced (instance_of n s) (set_join_traced sub (join.Watched n) (set_saved_callee_traced n None q))))
 
-pub not_ended_row_stays : (a0 : Mode) (a1 : ℕ) (a2 : ℕ) (a3 : Subtask) {s : Core} → Known a3 s → Traced s → Stays (not_ended_row a0 a1 a2 a3 s)
-not_ended_row_stays Async n r sub {s = s} known q = answered_traced n r blocked_code q
-not_ended_row_stays Sync n r sub {s = s} known q = trap_if_stays (not (passes_check (instance_of n s) s)) trap.CannotBlockSyncTask (Stops (pauses n) (awaiting n sub s)) (awaiting_traced n sub known q)
+pub cancel_unended_row_stays : (a0 : Mode) (a1 : ℕ) (a2 : ℕ) (a3 : Subtask) {s : Core} → Known a3 s → Traced s → Stays (cancel_unended_row a0 a1 a2 a3 s)
+cancel_unended_row_stays Async n r sub {s = s} known q = answered_traced n r blocked_code q
+cancel_unended_row_stays Sync n r sub {s = s} known q = trap_if_stays (not (passes_check (instance_of n s) s)) trap.CannotBlockSyncTask (Stops (pauses n) (cancel_stops n sub s)) (cancel_stops_traced n sub known q)
 
-pub by_end_stays : (a0 : Mode) (a1 : ℕ) (a2 : ℕ) (a3 : Subtask) {s : Core} → Known a3 s → Traced s → (a5 : Bool) → Stays (by_end a0 a1 a2 a3 s a5)
-by_end_stays mode n r sub {s = s} known q true = ended_row_stays mode n r sub q (undelivered_end (event_of sub s))
-by_end_stays mode n r sub {s = s} known q false = not_ended_row_stays mode n r sub known q
+pub cancel_by_end_stays : (a0 : Mode) (a1 : ℕ) (a2 : ℕ) (a3 : Subtask) {s : Core} → Known a3 s → Traced s → (a5 : Bool) → Stays (cancel_by_end a0 a1 a2 a3 s a5)
+cancel_by_end_stays mode n r sub {s = s} known q true = cancel_ended_row_stays mode n r sub q (undelivered_end (event_of sub s))
+cancel_by_end_stays mode n r sub {s = s} known q false = cancel_unended_row_stays mode n r sub known q
 
 pub after_cancel_stays : (a0 : Mode) (a1 : ℕ) (a2 : ℕ) (a3 : Subtask) {s : Core} → Known a3 s → Traced s → Stays (after_cancel a0 a1 a2 a3 s)
-after_cancel_stays mode n r sub {s = s} known q = by_end_stays mode n r sub known q (subtask_ended sub s)
+after_cancel_stays mode n r sub {s = s} known q = cancel_by_end_stays mode n r sub known q (subtask_ended sub s)
 
-pub host_cancelled_traced : (a0 : ℕ) {s : Core} → Traced s → Traced (host_cancelled a0 s)
-unfolding host_cancelled
-host_cancelled_traced i {s = s} q = set_cancelled_traced i (set_phase_traced i (aborted_phase (phase_of i s)) q)
+pub cancel_aborts_host_traced : (a0 : ℕ) {s : Core} → Traced s → Traced (cancel_aborts_host a0 s)
+unfolding cancel_aborts_host
+cancel_aborts_host_traced i {s = s} q = set_cancelled_traced i (set_phase_traced i (aborted_phase (phase_of i s)) q)
 
 pub cancel_host_stays : (a0 : Mode) (a1 : ℕ) (a2 : ℕ) (a3 : ℕ) {s : Core} → Traced s → Stays (cancel_host a0 a1 a2 a3 s)
-cancel_host_stays mode n r i {s = s} q = trap_if_stays (was_cancelled i s) trap.SubtaskCancelAfterTerminal (after_cancel mode n r (subtask.Host i) (host_cancelled i s)) (after_cancel_stays mode n r (subtask.Host i) (λ k e. no_way (ap (λ o. is_some o) e)) (host_cancelled_traced i q))
+cancel_host_stays mode n r i {s = s} q = trap_if_stays (was_cancelled i s) trap.SubtaskCancelAfterTerminal (after_cancel mode n r (subtask.Host i) (cancel_aborts_host i s)) (after_cancel_stays mode n r (subtask.Host i) (λ k e. no_way (ap (λ o. is_some o) e)) (cancel_aborts_host_traced i q))
 
-pub start_withdrawn_traced : (a0 : ℕ) (a1 : ℕ) (a2 : ℕ) {s : Core} → Traced s → Traced (start_withdrawn a0 a1 a2 s)
-unfolding start_withdrawn
-start_withdrawn_traced n r k {s = s} q = answered_traced n r 3 (withdrawn_traced k q)
+pub cancel_withdraws_traced : (a0 : ℕ) (a1 : ℕ) (a2 : ℕ) {s : Core} → Traced s → Traced (cancel_withdraws a0 a1 a2 s)
+unfolding cancel_withdraws
+cancel_withdraws_traced n r k {s = s} q = answered_traced n r 3 (withdrawn_traced k q)
 
-pub asked_traced : (a0 : ℕ) {s : Core} → Traced s → Traced (asked a0 s)
-unfolding asked
-asked_traced k {s = s} q = set_own_event_traced k (Some own.Cancelled) q
+pub cancel_asks_traced : (a0 : ℕ) {s : Core} → Traced s → Traced (cancel_asks a0 s)
+unfolding cancel_asks
+cancel_asks_traced k {s = s} q = set_own_event_traced k (Some own.Cancelled) q
 
 pub behind_switch_traced : (a0 : ℕ) (a1 : Option ℕ) {s : Core} → Traced s → Traced (behind_switch a0 a1 s)
 behind_switch_traced n None {s = s} q = q
 behind_switch_traced n (Some m) {s = s} q = behind_traced (foot_of m s) (n ∷ []) q
 
-pub lets_go_on_traced : (n k : ℕ) {s : Core} → Known (subtask.Guest k) s → Traced s → Traced (lets_go_on n k s)
-unfolding lets_go_on
-lets_go_on_traced n k {s = s} known q =
+pub cancel_goes_behind_traced : (n k : ℕ) {s : Core} → Known (subtask.Guest k) s → Traced s → Traced (cancel_goes_behind n k s)
+unfolding cancel_goes_behind
+cancel_goes_behind_traced n k {s = s} known q =
     let j = call_instance k s in
     let a = set_saved_callee n (Some (may_not_suspend j s)) s in
     let b = set_do_not_suspend j false a in
@@ -618,29 +618,23 @@ lets_go_on_traced n k {s = s} known q =
     let u : Steady s (behind_switch n s.queues.switch c) = after all_steady (set_saved_callee_keeps all_steady n (Some (may_not_suspend j s)) s) (after all_steady (set_do_not_suspend_keeps all_steady j false a) (after all_steady (set_join_keeps all_steady (subtask.Guest k) (join.Watched n) b) (behind_switch_keeps all_steady n s.queues.switch c))) in
     set_how_far_traced n (how_far.Cancels (subtask.Guest k)) (known_later (subtask.Guest k) u known) (behind_switch_traced n s.queues.switch (set_join_traced (subtask.Guest k) (join.Watched n) (set_do_not_suspend_traced j false (set_saved_callee_traced n (Some (may_not_suspend j s)) q))))
 
-pub cancel_delivered_to_traced : (a0 : ℕ) (a1 : ℕ) {s : Core} → Known (subtask.Guest a1) s → Traced s → Traced (cancel_delivered_to a0 a1 s)
-unfolding cancel_delivered_to
-cancel_delivered_to_traced n k {s = s} known q = lets_go_on_traced n k (known_later (subtask.Guest k) (after all_steady (asked_keeps all_steady k s) (put_switch_keeps all_steady k (why.Delivery delivery.Cancel) (asked k s))) known) (put_switch_traced k (why.Delivery delivery.Cancel) (asked_traced k q))
+pub cancel_wakes_callback_traced : (a0 : ℕ) (a1 : ℕ) {s : Core} → Known (subtask.Guest a1) s → Traced s → Traced (cancel_wakes_callback a0 a1 s)
+unfolding cancel_wakes_callback
+cancel_wakes_callback_traced n k {s = s} known q = cancel_goes_behind_traced n k (known_later (subtask.Guest k) (after all_steady (cancel_asks_keeps all_steady k s) (put_switch_keeps all_steady k (why.Delivery delivery.Cancel) (cancel_asks k s))) known) (put_switch_traced k (why.Delivery delivery.Cancel) (cancel_asks_traced k q))
 
-pub yield_cancelled_traced : (a0 : ℕ) (a1 : ℕ) {s : Core} → Known (subtask.Guest a1) s → Traced s → Traced (yield_cancelled a0 a1 s)
-unfolding yield_cancelled
-yield_cancelled_traced n k {s = s} known q = lets_go_on_traced n k (known_later (subtask.Guest k) (after all_steady (asked_keeps all_steady k s) (promoted_unless_keeps all_steady k (asked k s))) known) (promoted_unless_traced k (asked_traced k q))
+pub cancel_promotes_yield_traced : (a0 : ℕ) (a1 : ℕ) {s : Core} → Known (subtask.Guest a1) s → Traced s → Traced (cancel_promotes_yield a0 a1 s)
+unfolding cancel_promotes_yield
+cancel_promotes_yield_traced n k {s = s} known q = cancel_goes_behind_traced n k (known_later (subtask.Guest k) (after all_steady (cancel_asks_keeps all_steady k s) (promoted_unless_keeps all_steady k (cancel_asks k s))) known) (promoted_unless_traced k (cancel_asks_traced k q))
 
-pub cancel_yield_stays : (a0 : Mode) (a1 : ℕ) (a2 : ℕ) (a3 : ℕ) {s : Core} → Known (subtask.Guest a3) s → Traced s → (a5 : Bool) → Stays (cancel_yield a0 a1 a2 a3 s a5)
-cancel_yield_stays mode n r k {s = s} known q true = yield_cancelled_traced n k known q
-cancel_yield_stays mode n r k {s = s} known q false = after_cancel_stays mode n r (subtask.Guest k) (known_later (subtask.Guest k) (asked_keeps all_steady k s) known) (asked_traced k q)
-
-pub cancel_running_stays : (a0 : Mode) (a1 : ℕ) (a2 : ℕ) (a3 : ℕ) {s : Core} → Known (subtask.Guest a3) s → Traced s → (a5 : Bool) (a6 : Bool) → Stays (cancel_running a0 a1 a2 a3 s a5 a6)
-cancel_running_stays mode n r k {s = s} known q true yields = cancel_delivered_to_traced n k known q
-cancel_running_stays mode n r k {s = s} known q false yields = cancel_yield_stays mode n r k known q yields
-
-pub cancel_guest_stays : (a0 : Mode) (a1 : ℕ) (a2 : ℕ) (a3 : ℕ) {s : Core} → Known (subtask.Guest a3) s → Traced s → (a5 : Bool) (a6 : Bool) → Stays (cancel_guest a0 a1 a2 a3 s a5 a6)
-cancel_guest_stays mode n r k {s = s} known q true started = ended_row_stays mode n r (subtask.Guest k) q (undelivered_end (event_of (subtask.Guest k) s))
-cancel_guest_stays mode n r k {s = s} known q false true = cancel_running_stays mode n r k known q (is_at k s is_callback_wait) (is_at k s is_callback_yield)
-cancel_guest_stays mode n r k {s = s} known q false false = start_withdrawn_traced n r k q
+pub cancel_guest_stays : (a0 : Mode) (a1 : ℕ) (a2 : ℕ) (a3 : ℕ) {s : Core} → Known (subtask.Guest a3) s → Traced s → (a5 : CancelCase) → Stays (cancel_guest a0 a1 a2 a3 s a5)
+cancel_guest_stays mode n r k {s = s} known q AlreadyEnded = cancel_ended_row_stays mode n r (subtask.Guest k) q (undelivered_end (event_of (subtask.Guest k) s))
+cancel_guest_stays mode n r k {s = s} known q StartNotRun = cancel_withdraws_traced n r k q
+cancel_guest_stays mode n r k {s = s} known q CallbackWaits = cancel_wakes_callback_traced n k known q
+cancel_guest_stays mode n r k {s = s} known q CallbackYields = cancel_promotes_yield_traced n k known q
+cancel_guest_stays mode n r k {s = s} known q OtherwiseRuns = after_cancel_stays mode n r (subtask.Guest k) (known_later (subtask.Guest k) (cancel_asks_keeps all_steady k s) known) (cancel_asks_traced k q)
 
 pub cancel_subtask_stays : (a0 : Mode) (a1 : ℕ) (a2 : ℕ) {s : Core} → Traced s → (a4 : Subtask) → Known a4 s → Stays (cancel_subtask a0 a1 a2 s a4)
-cancel_subtask_stays mode n r {s = s} q (subtask.Guest k) known = cancel_guest_stays mode n r k known q (has_ended k s) (was_started k s)
+cancel_subtask_stays mode n r {s = s} q (subtask.Guest k) known = cancel_guest_stays mode n r k known q (cancel_case k s)
 cancel_subtask_stays mode n r {s = s} q (subtask.Host i) known = cancel_host_stays mode n r i q
 
 pub cancel_found_stays : (a0 : Mode) (a1 : ℕ) (a2 : ℕ) {s : Core} → Traced s → (a4 : Subtask) → Known a4 s → Stays (cancel_found a0 a1 a2 s a4)
@@ -652,7 +646,7 @@ cancel_resumed_traced n sub {s = s} q = set_join_traced sub join.Nowhere (set_sa
 
 pub cancel_row_stays : (a0 : Mode) (a1 : ℕ) (a2 : ℕ) (a3 : ℕ) {s : Core} → Traced s → (a5 : HowFar) → how_far_of a1 s ≡ a5 → Stays (cancel_row a0 a1 a2 a3 s a5)
 cancel_row_stays mode n r h {s = s} q (how_far.Cancels sub) is = after_cancel_stays mode n r sub (known_later sub (cancel_resumed_keeps all_steady n sub s) (known_op n (how_far.Cancels sub) sub refl is q)) (cancel_resumed_traced n sub q)
-cancel_row_stays mode n r h {s = s} q (how_far.AwaitsEnd sub) is = ended_row_stays mode n r sub (set_join_traced sub join.Nowhere q) (undelivered_end (event_of sub (set_join sub join.Nowhere s)))
+cancel_row_stays mode n r h {s = s} q (how_far.AwaitsEnd sub) is = cancel_ended_row_stays mode n r sub (set_join_traced sub join.Nowhere q) (undelivered_end (event_of sub (set_join sub join.Nowhere s)))
 cancel_row_stays mode n r h {s = s} q u1 is = or_trap_when (subtask_at (instance_of n s) h s) trap.BadHandle (cancel_found mode n r s) (λ got at. cancel_found_stays mode n r q got (known_named (instance_of n s) h got at q))
 
 pub subtask_settled_traced : (a0 : Subtask) {s : Core} → Traced s → Traced (subtask_settled a0 s)

@@ -1,7 +1,7 @@
 -- What is kept by takings and main: a subtask that is named is of a call that was made.
 use Rattle.std.specs.Prelude.{Bool, List, None, Option, Some, false, true, ℕ, ◌+◌}
 use Rattle.task_places.proofs.TracedFields.{Traced, add_group_traced, call_made_traced, push_high_traced, set_course_traced, set_do_not_enter_traced, set_high_traced, set_low_traced, set_phase_traced, set_place_traced, set_register_traced, set_script_traced, set_stage_traced, set_started_traced, set_starting_published_traced, set_switch_traced, set_trapped_traced, work_queued_traced}
-use Rattle.task_places.proofs.TracedRows.{Stays, data_row_stays, forbidding_traced, may_stays, moved_to_traced, or_never_stays, set_given_traced, set_row_stays, subtask_row_stays, task_row_stays, thread_row_stays, told_traced, trap_if_stays, with_thread_handle_traced}
+use Rattle.task_places.proofs.TracedRows.{Stays, data_row_stays, sync_sets_flag_traced, may_stays, moved_to_traced, or_never_stays, set_given_traced, set_row_stays, subtask_row_stays, task_row_stays, thread_row_stays, told_traced, trap_if_stays, with_thread_handle_traced}
 use Rattle.task_places.proofs.TracedWords.{handed_on_traced, if_traced, published_traced, put_high_traced, remove_threads_traced, stopped_at_traced, taken_traced, unblocked_traced}
 use Rattle.task_machine.specs.Core.{Core}
 use Rattle.task_machine.specs.Labels.{Choice, event_label, held_label, host_label, take_label}
@@ -28,8 +28,8 @@ use Rattle.task_rules.specs.Progress.{Goes, Stops, may}
 use Rattle.task_rules.specs.Scripts.{export_kind, host_at}
 use Rattle.task_rules.specs.Sets.{chosen, handed_out}
 use Rattle.task_rules.specs.Step.{op_row, struck}
-use Rattle.task_rules.specs.Takes.{activated, activated_woken, awaits_again, delivered, delivery_row, enters, held, host_done, host_result, host_row, host_status, may_tell_starting, own_delivered, popped, pushed, rest_of, running, set_delivered, start_admitted, start_held, start_row, started, starting_is_published, starting_told, take_row, thread_taken, thread_taken_for}
-use Rattle.task_rules.specs.Works.{course_for, followed, pended, work_ended}
+use Rattle.task_rules.specs.Takes.{activated, activated_woken, wait_again, delivered, delivery_row, start_sets_flags, take_holds, host_done, host_result, host_row, host_status, may_tell_starting, own_delivered, popped, pushed, rest_of, running, set_delivered, start_admitted, start_holds, start_row, start_begins, starting_is_published, starting_told, take_row, thread_taken, thread_taken_for}
+use Rattle.task_rules.specs.Works.{course_for, followed, poll_pends, poll_ends}
 use Rattle.task_machine.specs.declared.records.Caller.TheVariants as caller
 use Rattle.task_machine.specs.declared.records.Course.TheVariants as course
 use Rattle.task_machine.specs.declared.records.Delivery.TheVariants as delivery
@@ -73,22 +73,22 @@ pub starting_told_traced : (a0 : ℕ) (a1 : Option ℕ) {s : Core} → Traced s 
 unfolding starting_told
 starting_told_traced k w {s = s} q = if_traced (starting_is_published k s) s (told k status.Starting w (set_starting_published k s)) q (told_traced k status.Starting w (set_starting_published_traced k q))
 
-pub held_traced : (a0 : ℕ) (a1 : Why) {s : Core} → Traced s → Traced (held a0 a1 s)
-unfolding held
-held_traced n w {s = s} q = stopped_at_traced n (place.Held w) q
+pub take_holds_traced : (a0 : ℕ) (a1 : Why) {s : Core} → Traced s → Traced (take_holds a0 a1 s)
+unfolding take_holds
+take_holds_traced n w {s = s} q = stopped_at_traced n (place.Held w) q
 
-pub start_held_traced : (a0 : ℕ) (a1 : Option ℕ) {s : Core} → Traced s → Traced (start_held a0 a1 s)
-unfolding start_held
-start_held_traced n w {s = s} q = held_traced n why.Start (starting_told_traced (task_of n s) w q)
+pub start_holds_traced : (a0 : ℕ) (a1 : Option ℕ) {s : Core} → Traced s → Traced (start_holds a0 a1 s)
+unfolding start_holds
+start_holds_traced n w {s = s} q = take_holds_traced n why.Start (starting_told_traced (task_of n s) w q)
 
-pub enters_traced : (a0 : ℕ) (a1 : ExportKind) {s : Core} → Traced s → Traced (enters a0 a1 s)
-enters_traced n kind.Sync {s = s} q = forbidding_traced n (instance_of n s) kind.Sync q
-enters_traced n kind.Stackful {s = s} q = q
-enters_traced n x {s = s} q = set_do_not_enter_traced (instance_of n s) true q
+pub start_sets_flags_traced : (a0 : ℕ) (a1 : ExportKind) {s : Core} → Traced s → Traced (start_sets_flags a0 a1 s)
+start_sets_flags_traced n kind.Sync {s = s} q = sync_sets_flag_traced n (instance_of n s) kind.Sync q
+start_sets_flags_traced n kind.Stackful {s = s} q = q
+start_sets_flags_traced n x {s = s} q = set_do_not_enter_traced (instance_of n s) true q
 
-pub started_traced : (a0 : ℕ) (a1 : Option ℕ) {s : Core} → Traced s → Traced (started a0 a1 s)
-unfolding started
-started_traced n w {s = s} q = let k = task_of n s in set_place_traced n place.Running (enters_traced n (kind_of k s) (told_traced k status.Started w (set_started_traced k (with_thread_handle_traced (instance_of n s) n q))))
+pub start_begins_traced : (a0 : ℕ) (a1 : Option ℕ) {s : Core} → Traced s → Traced (start_begins a0 a1 s)
+unfolding start_begins
+start_begins_traced n w {s = s} q = let k = task_of n s in set_place_traced n place.Running (start_sets_flags_traced n (kind_of k s) (told_traced k status.Started w (set_started_traced k (with_thread_handle_traced (instance_of n s) n q))))
 
 pub running_traced : (a0 : ℕ) {s : Core} → Traced s → Traced (running a0 s)
 unfolding running
@@ -96,11 +96,11 @@ running_traced n {s = s} q = set_place_traced n place.Running q
 
 pub start_admitted_stays : (a0 : Mark) (a1 : ℕ) (a2 : Option ℕ) {s : Core} → Traced s → (a4 : Bool) → Stays (start_admitted a0 a1 a2 s a4)
 start_admitted_stays m n w {s = s} q true = running_traced n q
-start_admitted_stays m n w {s = s} q false = trap_if_stays (at_handle_limit s) trap.HandleLimit (may (may_tell (task_of n s) w s) (Goes (take_label m n w) (started n w s) n)) (may_stays (may_tell (task_of n s) w s) (Goes (take_label m n w) (started n w s) n) (started_traced n w q))
+start_admitted_stays m n w {s = s} q false = trap_if_stays (at_handle_limit s) trap.HandleLimit (may (may_tell (task_of n s) w s) (Goes (take_label m n w) (start_begins n w s) n)) (may_stays (may_tell (task_of n s) w s) (Goes (take_label m n w) (start_begins n w s) n) (start_begins_traced n w q))
 
 pub start_row_stays : (a0 : Mark) (a1 : ℕ) (a2 : Option ℕ) {s : Core} → Traced s → (a4 : Bool) → Stays (start_row a0 a1 a2 s a4)
 start_row_stays m n w {s = s} q true = start_admitted_stays m n w q (is_explicit n s)
-start_row_stays m n w {s = s} q false = may_stays (may_tell_starting (task_of n s) w s) (Stops (held_label m n w) (start_held n w s)) (start_held_traced n w q)
+start_row_stays m n w {s = s} q false = may_stays (may_tell_starting (task_of n s) w s) (Stops (held_label m n w) (start_holds n w s)) (start_holds_traced n w q)
 
 pub activated_traced : (a0 : ℕ) (a1 : Gift) (a2 : Given) {s : Core} → Traced s → Traced (activated a0 a1 a2 s)
 unfolding activated
@@ -110,12 +110,12 @@ pub activated_woken_traced : (a0 : ℕ) (a1 : ℕ) (a2 : Option ℕ) (a3 : Gift)
 unfolding activated_woken
 activated_woken_traced n x w g v {s = s} q = activated_traced n g v (handed_on_traced x g w q)
 
-pub awaits_again_traced : (a0 : ℕ) (a1 : ℕ) {s : Core} → Traced s → Traced (awaits_again a0 a1 s)
-unfolding awaits_again
-awaits_again_traced n x {s = s} q = stopped_at_traced n (place.Waiting x true) q
+pub wait_again_traced : (a0 : ℕ) (a1 : ℕ) {s : Core} → Traced s → Traced (wait_again a0 a1 s)
+unfolding wait_again
+wait_again_traced n x {s = s} q = stopped_at_traced n (place.Waiting x true) q
 
 pub set_delivered_stays : (a0 : Mark) (a1 : ℕ) (a2 : ℕ) (a3 : Choice) {s : Core} → Traced s → (a5 : Gift) → Stays (set_delivered a0 a1 a2 a3 s a5)
-set_delivered_stays m n x ch {s = s} q NoGift = awaits_again_traced n x q
+set_delivered_stays m n x ch {s = s} q NoGift = wait_again_traced n x q
 set_delivered_stays m n x ch {s = s} q g = let v = handed_out ch s g in may_stays (may_hand_on x g ch.woken s) (Goes (event_label m n v ch.woken) (activated_woken n x ch.woken g v s) n) (activated_woken_traced n x ch.woken g v q)
 
 pub own_delivered_stays : (a0 : Mark) (a1 : ℕ) {s : Core} → Traced s → (a3 : Gift) → Stays (own_delivered a0 a1 s a3)
@@ -127,7 +127,7 @@ delivered_stays m n ch {s = s} q d = own_delivered_stays m n q (own_gift_only (t
 
 pub delivery_row_stays : (a0 : Mark) (a1 : ℕ) (a2 : Choice) {s : Core} → Traced s → (a4 : Delivery) (a5 : Bool) → Stays (delivery_row a0 a1 a2 s a4 a5)
 delivery_row_stays m n ch {s = s} q d true = delivered_stays m n ch q d
-delivery_row_stays m n ch {s = s} q d false = held_traced n (why.Delivery d) q
+delivery_row_stays m n ch {s = s} q d false = take_holds_traced n (why.Delivery d) q
 
 pub thread_taken_for_stays : (a0 : Mark) (a1 : ℕ) (a2 : Choice) {s : Core} → Traced s → (a4 : Why) → Stays (thread_taken_for a0 a1 a2 s a4)
 thread_taken_for_stays m n ch {s = s} q why.Start = start_row_stays m n ch.woken q (admits n s why.Start)
@@ -143,18 +143,18 @@ take_row_stays m ch {s = s} q (entry.Thread n) = thread_taken_stays m n ch q (pl
 take_row_stays m ch {s = s} q (entry.Push i) = pushed_traced i q
 take_row_stays m ch {s = s} q (entry.Host i) = host_row_stays m i ch.woken q
 
-pub pended_traced : (a0 : ℕ) (a1 : HostDef) {s : Core} → Traced s → Traced (pended a0 a1 s)
-unfolding pended
-pended_traced i host {s = s} q = set_course_traced i (course.Goes host) q
+pub poll_pends_traced : (a0 : ℕ) (a1 : HostDef) {s : Core} → Traced s → Traced (poll_pends a0 a1 s)
+unfolding poll_pends
+poll_pends_traced i host {s = s} q = set_course_traced i (course.Goes host) q
 
 pub followed_traced : (a0 : WorkCaller) (a1 : ℕ) {s : Core} → Traced s → Traced (followed a0 a1 s)
 followed_traced work_caller.Spawn i {s = s} q = set_stage_traced i stage.Ended q
 followed_traced (work_caller.Async n to) i {s = s} q = push_high_traced (entry.Host i) (set_stage_traced i stage.Finishing q)
 followed_traced (work_caller.Sync n) i {s = s} q = unblocked_traced (blocked_on (subtask.Host i) s) (set_stage_traced i stage.Ended q)
 
-pub work_ended_traced : (a0 : ℕ) (a1 : Option ℕ) {s : Core} → Traced s → Traced (work_ended a0 a1 s)
-unfolding work_ended
-work_ended_traced i v {s = s} q = followed_traced (work_caller_of i s) i (set_phase_traced i phase.Complete (set_course_traced i (course_for v) q))
+pub poll_ends_traced : (a0 : ℕ) (a1 : Option ℕ) {s : Core} → Traced s → Traced (poll_ends a0 a1 s)
+unfolding poll_ends
+poll_ends_traced i v {s = s} q = followed_traced (work_caller_of i s) i (set_phase_traced i phase.Complete (set_course_traced i (course_for v) q))
 
 pub main_started_traced : (a0 : Component) (a1 : Callee) (a2 : List ℕ) {s : Core} → Traced s → Traced (main_started a0 a1 a2 s)
 unfolding main_started

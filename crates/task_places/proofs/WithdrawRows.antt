@@ -10,7 +10,7 @@ use Rattle.task_machine.specs.declared.op.CallOp.{CallOp}
 use Rattle.task_machine.specs.declared.records.HowFar.{HowFar}
 use Rattle.task_machine.specs.declared.records.Subtask.{Subtask}
 use Rattle.task_rules.specs.Calls.{first_poll}
-use Rattle.task_rules.specs.Cancels.{Async, Mode, Sync, cancel_found, cancel_guest, cancel_resumed, cancel_row, cancel_subtask, drop_found, dropped, is_callback_wait, start_withdrawn, subtask_row}
+use Rattle.task_rules.specs.Cancels.{AlreadyEnded, CallbackWaits, CallbackYields, CancelCase, OtherwiseRuns, StartNotRun, cancel_case, Async, Mode, Sync, cancel_found, cancel_guest, cancel_resumed, cancel_row, cancel_subtask, drop_found, dropped, is_callback_wait, cancel_withdraws, subtask_row}
 use Rattle.task_rules.specs.Progress.{Goes, or_trap}
 use Rattle.task_rules.specs.Scripts.{host_at, value_of, values_in}
 use Rattle.task_machine.specs.declared.records.CallEnd.TheVariants as call_end
@@ -23,6 +23,7 @@ use Rattle.task_machine.specs.declared.records.Place.TheVariants as place
 use Rattle.task_machine.specs.declared.records.Subtask.TheVariants as subtask
 use Rattle.task_machine.specs.declared.trap.Trap.TheVariants as trap
 use Rattle.task_places.proofs.EntryLemmas.{Shorter, none_stands, one_place, one_stands, shorter_kept, shorter_loose, shorter_still}
+use Rattle.task_rules.proofs.CancelLemmas.{CaseSays, case_says}
 use Rattle.task_rules.proofs.UntouchedLemmas.{untouched_after, set_end_untouched, set_exited_untouched, set_uninteresting_untouched, set_join_untouched, answered_untouched, cancel_resumed_untouched, dropped_untouched}
 use Rattle.task_rules.proofs.StandLemmas.{Loose, gain, plus_none, plus_one, entries-less, loose_gone, by_number, is_eq_of, not_eq}
 use Rattle.task_rules.specs.Places.{entries, is_at_high, is_at_low, is_at_switch, is_behind_of, says, switch_entries, times, HasPlace, one_if}
@@ -34,7 +35,7 @@ use Rattle.task_machine.specs.Read.{callers_of, is_entry_of, place_of}
 use Rattle.task_machine.specs.Moves.{has_entry, less, less_switch, unqueued, withdrawn}
 use Rattle.task_places.proofs.RunRows.{Stays, data_row_stays, or_trap_stays, quiet_runs, task_row_stays, trap_if_stays, quiet_goes}
 use Rattle.task_places.proofs.OpRows.{Unused, call_row_stays, set_row_stays}
-use Rattle.task_places.proofs.CallRows.{after_cancel_stays, call_host_polled_stays, call_sync_host_row_stays, call_sync_row_stays, cancel_host_stays, cancel_running_stays, ended_row_stays, thread_row_stays}
+use Rattle.task_places.proofs.CallRows.{after_cancel_stays, call_host_polled_stays, call_sync_host_row_stays, call_sync_row_stays, cancel_host_stays, cancel_runs_stays, cancel_waits_stays, cancel_yields_stays, cancel_ended_row_stays, thread_row_stays}
 use Rattle.task_machine.specs.declared.records.Entry.{Entry}
 use Rattle.task_machine.specs.declared.records.Thread.{Thread}
 use Rattle.task_machine.specs.declared.op.Op.{Op}
@@ -197,17 +198,19 @@ module _ {base : Core} where
         fresh = fresher_after base s (remove_thread k (unqueued_switch_of k s)) r.fresh (fresher_after s (unqueued_switch_of k s) (remove_thread k (unqueued_switch_of k s)) (λ j f. ap is_fresh (w.places j) ∙ f) (removed_fresher k (unqueued_switch_of k s)));
       }
 
-  start_withdrawn_goes : (n r k : ℕ) (s : Core) → is_fresh (place_of k s) ≡ true → Runs base n s → Going base n (start_withdrawn n r k s)
-  unfolding start_withdrawn
-  start_withdrawn_goes n r k s h q = quiet_goes n (withdrawn k s) _ (answered_untouched n r 3 (withdrawn k s)) (withdrawn_runs n k s h q)
+  cancel_withdraws_goes : (n r k : ℕ) (s : Core) → is_fresh (place_of k s) ≡ true → Runs base n s → Going base n (cancel_withdraws n r k s)
+  unfolding cancel_withdraws
+  cancel_withdraws_goes n r k s h q = quiet_goes n (withdrawn k s) _ (answered_untouched n r 3 (withdrawn k s)) (withdrawn_runs n k s h q)
 
-  cancel_guest_stays : (mode : Mode) (n r k : ℕ) (s : Core) → Runs base n s → (a b : Bool) → was_started k s ≡ b → (was_started k s ≡ false → is_fresh (place_of k s) ≡ true) → Stays base (cancel_guest mode n r k s a b)
-  cancel_guest_stays mode n r k s q true b f h = ended_row_stays mode n r (subtask.Guest k) s q (undelivered_end (event_of (subtask.Guest k) s))
-  cancel_guest_stays mode n r k s q false true f h = cancel_running_stays mode n r k s q (is_at k s is_callback_wait) refl
-  cancel_guest_stays mode n r k s q false false f h = start_withdrawn_goes n r k s (h f) q
+  cancel_guest_stays : (mode : Mode) (n r k : ℕ) (s : Core) → Runs base n s → (x : CancelCase) → CaseSays k s x → (was_started k s ≡ false → is_fresh (place_of k s) ≡ true) → Stays base (cancel_guest mode n r k s x)
+  cancel_guest_stays mode n r k s q AlreadyEnded f h = cancel_ended_row_stays mode n r (subtask.Guest k) s q (undelivered_end (event_of (subtask.Guest k) s))
+  cancel_guest_stays mode n r k s q StartNotRun f h = cancel_withdraws_goes n r k s (h f.1) q
+  cancel_guest_stays mode n r k s q CallbackWaits f h = cancel_waits_stays mode n r k s q f
+  cancel_guest_stays mode n r k s q CallbackYields f h = cancel_yields_stays mode n r k s q f
+  cancel_guest_stays mode n r k s q OtherwiseRuns f h = cancel_runs_stays mode n r k s q
 
   cancel_subtask_stays : (mode : Mode) (n r : ℕ) (s : Core) → Withdrawable s → Runs base n s → (i h : ℕ) (sub : Subtask) → subtask_at i h s ≡ Some sub → Stays base (cancel_subtask mode n r s sub)
-  cancel_subtask_stays mode n r s may_be q i h (subtask.Guest k) e = cancel_guest_stays mode n r k s q (has_ended k s) (was_started k s) refl (may_be i h k e)
+  cancel_subtask_stays mode n r s may_be q i h (subtask.Guest k) e = cancel_guest_stays mode n r k s q (cancel_case k s) (case_says k s) (may_be i h k e)
   cancel_subtask_stays mode n r s may_be q i h (subtask.Host j) e = cancel_host_stays mode n r j s q
 
   cancel_begins_stays : (mode : Mode) (n r h : ℕ) (s : Core) → Withdrawable s → Runs base n s → Stays base (or_trap (subtask_at (instance_of n s) h s) trap.BadHandle (cancel_found mode n r s))
@@ -215,7 +218,7 @@ module _ {base : Core} where
 
   cancel_row_stays : (mode : Mode) (n r h : ℕ) (s : Core) → Withdrawable s → Runs base n s → (f : HowFar) → Stays base (cancel_row mode n r h s f)
   cancel_row_stays mode n r h s may_be q (how_far.Cancels sub) = after_cancel_stays mode n r sub (cancel_resumed n sub s) (quiet_runs n s _ (cancel_resumed_untouched n sub s) q)
-  cancel_row_stays mode n r h s may_be q (how_far.AwaitsEnd sub) = ended_row_stays mode n r sub (set_join sub join.Nowhere s) (quiet_runs n s _ (set_join_untouched sub join.Nowhere s) q) (undelivered_end (event_of sub (set_join sub join.Nowhere s)))
+  cancel_row_stays mode n r h s may_be q (how_far.AwaitsEnd sub) = cancel_ended_row_stays mode n r sub (set_join sub join.Nowhere s) (quiet_runs n s _ (set_join_untouched sub join.Nowhere s) q) (undelivered_end (event_of sub (set_join sub join.Nowhere s)))
   cancel_row_stays mode n r h s may_be q _ = cancel_begins_stays mode n r h s may_be q
 
   drop_found_stays : (n h : ℕ) (s : Core) → Runs base n s → (sub : Subtask) → Stays base (drop_found n h s sub)

@@ -20,7 +20,7 @@ use Rattle.task_machine.specs.Maps.{Records, change, get, numbers}
 use Rattle.task_machine.specs.Moves.{behind, behind_one, displaced, first_entry, first_low, held_why_of, newest, older, passed_on, passes_check, put_high, put_switch, released, released_one, resumed_all, resumed_callers, stand, stopped, why_of}
 use Rattle.task_machine.specs.Read.{admits, admitted_held, callers_of, entry_thread, first_in, foot_of, instance_of, is_entry_in, is_held_admitted, is_nil, may_not_suspend, no_callee, task_of}
 use Rattle.task_machine.specs.Write.{on_instance, on_thread, push_high, push_high_first, set_callers, set_do_not_enter, set_place, set_switch}
-use Rattle.task_rules.specs.Ends.{deactivated, held_out, let_in, passes_after_stop}
+use Rattle.task_rules.specs.Ends.{code_stops, held_by_flag, end_reopens, passes_after_stop}
 use Rattle.task_rules.specs.Laws.{CallbackCheckIsAfter}
 
 -- ---- What the moves leave alone
@@ -282,8 +282,8 @@ high_callers : (e : Entry) (s : Core) → (push_high e s).callers ≡ s.callers
 unfolding push_high
 high_callers e s = refl
 
-let_in_callers : (i : ℕ) (order : List ℕ) (s : Core) → (let_in i order s).callers ≡ s.callers
-unfolding let_in
+let_in_callers : (i : ℕ) (order : List ℕ) (s : Core) → (end_reopens i order s).callers ≡ s.callers
+unfolding end_reopens
 let_in_callers i order s = released_leaves (λ c. c.callers) place_callers high_callers order (set_do_not_enter i false s) ∙ enter_callers i false s
 
 -- ---- The held threads are of the instance
@@ -327,7 +327,7 @@ same_nil (x ∷ xs) [] e = absurd (no_suc (length xs) e)
     no_suc j h = omega (arith, h)
 
 pub callback_check : CallbackCheckIsAfter
-unfolding deactivated let_in held_out passes_after_stop
+unfolding code_stops end_reopens held_by_flag passes_after_stop
 callback_check n s order perm =
     let i = instance_of n s in
     let v = set_do_not_enter i false s in

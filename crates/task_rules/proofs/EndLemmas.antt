@@ -59,21 +59,21 @@ use Rattle.task_machine.specs.Maps.{get}
 use Rattle.task_machine.specs.Moves.{Gift, NoGift, checked, ended, gift, given_for, may_hand_on, may_publish, own_gift_only, passes_check}
 use Rattle.task_machine.specs.Read.{admits, at_handle_limit, backpressure_of, cancel_was_delivered, event_of, fits, foot_of, goal_of, has_ended, has_member, has_waiters, how_far_of, instance_of, is_async_lifted, is_at, is_callback_yield, is_direct, is_explicit, is_joined, is_watched, join_of, kind_of, new_handle, place_of, register_of, registers_of, set_at, subtask_at, subtask_ended, task_of, thread_at, thread_handle_of, undelivered_end, under_of, was_cancelled, was_started, word_of}
 use Rattle.task_machine.specs.Write.{set_join}
-use Rattle.task_rules.specs.Calls.{AtOnce, Failing, FirstPoll, Later, call_begins, call_blocked, call_host_polled, call_host_row, call_pending, call_row, call_status, call_sync_begins, call_sync_host_polled, call_sync_host_row, call_sync_row, call_sync_status, called, called_back, enter_row, entered, first_poll, host_blocked, host_pending, next_thread, next_work, status_found}
+use Rattle.task_rules.specs.Calls.{AtOnce, Failing, FirstPoll, Later, call_begins, call_sync_stops, call_host_polled, call_host_row, call_pending, call_row, call_status, call_sync_begins, call_sync_host_polled, call_sync_host_row, call_sync_row, call_sync_status, call_queues, call_resumes, enter_row, enter_runs, first_poll, call_sync_host_stops, host_pending, next_thread, next_work, status_found}
 use Rattle.task_machine.specs.Statuses.{packed}
-use Rattle.task_rules.specs.Cancels.{Async, Mode, Sync, after_cancel, asked, awaiting, blocked_code, by_end, cancel_found, cancel_guest, cancel_host, cancel_label, cancel_resumed, cancel_row, cancel_running, cancel_subtask, cancel_yield, drop_found, drop_row, dropped, ended_row, host_cancelled, is_callback_wait, not_ended_row, pauses, subtask_row}
+use Rattle.task_rules.specs.Cancels.{AlreadyEnded, CallbackWaits, CallbackYields, CancelCase, OtherwiseRuns, StartNotRun, cancel_case, Async, Mode, Sync, after_cancel, cancel_asks, cancel_stops, blocked_code, cancel_by_end, cancel_found, cancel_guest, cancel_host, cancel_label, cancel_resumed, cancel_row, cancel_subtask, drop_found, drop_row, dropped, cancel_ended_row, cancel_aborts_host, is_callback_wait, cancel_unended_row, pauses, subtask_row}
 use Rattle.task_rules.specs.Data.{data_row, skip_row}
-use Rattle.task_rules.specs.Ends.{blocking_exit_row, blocking_left, code_row, direct_exit_row, direct_exit_to, direct_left, exit_row, exit_row_for, finished, has_event_for, held_out, implicit_exit_row, kind_end, kind_exit_row, leave_row, leaves_no_result, left, may_tell, passes_after_return, passes_after_stop, sync_exit_row, sync_left, wait_end}
+use Rattle.task_rules.specs.Ends.{blocking_exit_row, blocking_exits, code_row, direct_exit_row, direct_exit_to, direct_exits, exit_row, exit_row_for, code_exits, has_event_for, held_by_flag, implicit_exit_row, code_kind_row, kind_exit_row, thread_exit_row, leaves_no_result, exit_stops, may_tell, passes_after_return, passes_after_stop, sync_exit_row, sync_exits, code_wait_row}
 use Rattle.task_rules.specs.MainOps.{Abort, Answer, Answers, Await, Does, Finish, MainAct, MainProgress, Pends, Quiet, Ready, Spawn, Start, act_of, finish_act, finish_result, line_of, main_row, op_at, start_act, start_refusal, unless_pending}
 use Rattle.task_rules.specs.Outcome.{main_outcome, outcome_of_label}
 use Rattle.task_rules.specs.Progress.{Fails, Goes, Never, Ordered, Progress, Stops, Traps, may, or_never, or_trap, trap_if}
 use Rattle.task_rules.specs.Scripts.{export_kind, host_at, op_of, slot_at, value_of, values_in}
-use Rattle.task_rules.specs.Sets.{begun_waiting, chosen, finds_nothing, handed_out, join_done, join_row, join_to, joined, may_wake_new, poll_row, poll_takes, received_woken, set_drop_found, set_drop_row, set_dropped, set_made, set_new_row, set_row, wait_begins, wait_goes_on, wait_row, wait_takes}
+use Rattle.task_rules.specs.Sets.{wait_stops_checked, chosen, finds_nothing, handed_out, join_done, join_row, join_to, joined, may_wake_new, poll_row, poll_takes, received_woken, set_drop_found, set_drop_row, set_dropped, set_made, set_new_row, set_row, wait_begins, wait_goes_on, wait_row, wait_takes}
 use Rattle.task_machine.specs.Statuses.{status_code}
 use Rattle.task_rules.specs.Stalled.{Setting}
 use Rattle.task_rules.specs.Step.{DeadlockStep, EmptyFor, FuturesStep, MainProgresses, MainStep, OpenProgresses, OpenStep, Polled, Progresses, RestStep, ScriptStep, Step, TakeStep, TurnStep, did, op_row}
-use Rattle.task_rules.specs.Takes.{activated_woken, delivered, delivery_row, held, host_done, host_row, may_tell_starting, own_delivered, popped, set_delivered, start_admitted, start_held, start_row, started, take_row, thread_taken, thread_taken_for}
-use Rattle.task_rules.specs.Task.{cancel_done, dec_from, dec_row, inc_row, raised, ret_bad_row, ret_done, ret_row, task_cancel_row, task_row}
+use Rattle.task_rules.specs.Takes.{activated_woken, delivered, delivery_row, take_holds, host_done, host_row, may_tell_starting, own_delivered, popped, set_delivered, start_admitted, start_holds, start_row, start_begins, take_row, thread_taken, thread_taken_for}
+use Rattle.task_rules.specs.Task.{task_cancel_done, dec_from, dec_row, inc_row, inc_raises, ret_bad_row, ret_done, ret_row, task_cancel_row, task_row}
 use Rattle.task_rules.specs.Threads.{Halt, Suspension, Yielding, by_how_far, halt_row, halted_resuming, halting, halts, has_yielded, resume_later_found, resume_later_row, resume_why, resumed_later, then_promote, then_promote_found, then_promote_row, then_resume_found, then_resume_row, thread_index_row, thread_made, thread_new_label, thread_new_row, thread_row}
 use Rattle.task_rules.specs.Turns.{at_turn}
 use Rattle.task_rules.specs.Works.{Ends, FailsNow, Poll, StillPends, poll_of}
@@ -155,40 +155,40 @@ data_row_opens c n s (data_op.Load r w) = let v = word_of (instance_of n s) w s 
 data_row_opens c n s (data_op.Store w x) = let v = value_of n s x in refl
 data_row_opens c n s (data_op.SkipEq x y ops) = skip_row_opens c n ops s (value_of n s x == value_of n s y)
 
-leave_row_opens : (a0 : ℕ) (a1 : Core) → Opens (leave_row a0 a1)
-leave_row_opens n s = trap_if_opens (not (passes_check (instance_of n s) s)) trap.CannotBlockSyncTask (trap_if (leaves_no_result n s) trap.NoAsyncResult (Stops (exit_label n None) (left n s))) (trap_if_opens (leaves_no_result n s) trap.NoAsyncResult (Stops (exit_label n None) (left n s)) (exit_label-open n None))
+thread_exit_row_opens : (a0 : ℕ) (a1 : Core) → Opens (thread_exit_row a0 a1)
+thread_exit_row_opens n s = trap_if_opens (not (passes_check (instance_of n s) s)) trap.CannotBlockSyncTask (trap_if (leaves_no_result n s) trap.NoAsyncResult (Stops (exit_label n None) (exit_stops n s))) (trap_if_opens (leaves_no_result n s) trap.NoAsyncResult (Stops (exit_label n None) (exit_stops n s)) (exit_label-open n None))
 
 sync_exit_row_opens : (a0 : ℕ) (a1 : Option ℕ) (a2 : Core) → Opens (sync_exit_row a0 a1 a2)
-sync_exit_row_opens n w s = may_opens (may_tell (task_of n s) w s) (Stops (exit_label n w) (sync_left n w s)) (exit_label-open n w)
+sync_exit_row_opens n w s = may_opens (may_tell (task_of n s) w s) (Stops (exit_label n w) (sync_exits n w s)) (exit_label-open n w)
 
 blocking_exit_row_opens : (a0 : ℕ) (a1 : Option ℕ) (a2 : Core) → Opens (blocking_exit_row a0 a1 a2)
-blocking_exit_row_opens n w s = let held = held_out (instance_of n s) s in trap_if_opens (not (passes_after_return (instance_of n s) (task_of n s) held s)) trap.CannotBlockSyncTask (may (may_tell (task_of n s) w s) (Ordered held (λ order. Stops (exit_label n w) (blocking_left n w order s)))) (may_opens (may_tell (task_of n s) w s) (Ordered held (λ order. Stops (exit_label n w) (blocking_left n w order s))) (λ order. exit_label-open n w))
+blocking_exit_row_opens n w s = let held = held_by_flag (instance_of n s) s in trap_if_opens (not (passes_after_return (instance_of n s) (task_of n s) held s)) trap.CannotBlockSyncTask (may (may_tell (task_of n s) w s) (Ordered held (λ order. Stops (exit_label n w) (blocking_exits n w order s)))) (may_opens (may_tell (task_of n s) w s) (Ordered held (λ order. Stops (exit_label n w) (blocking_exits n w order s))) (λ order. exit_label-open n w))
 
 direct_exit_to_opens : (a0 : ℕ) (a1 : ExportKind) (a2 : Core) (a3 : Option ℕ) → Opens (direct_exit_to a0 a1 a2 a3)
 direct_exit_to_opens n x s None = tt
 direct_exit_to_opens n kind.Sync s (Some m) = exit_label-open n None
-direct_exit_to_opens n x s (Some m) = trap_if_opens (not (passes_check (instance_of n s) s)) trap.CannotBlockSyncTask (Goes (exit_label n None) (direct_left n m (register_of n 0 s) (checked (instance_of n s) s)) m) (exit_label-open n None)
+direct_exit_to_opens n x s (Some m) = trap_if_opens (not (passes_check (instance_of n s) s)) trap.CannotBlockSyncTask (Goes (exit_label n None) (direct_exits n m (register_of n 0 s) (checked (instance_of n s) s)) m) (exit_label-open n None)
 
 direct_exit_row_opens : (a0 : ℕ) (a1 : Core) → Opens (direct_exit_row a0 a1)
 direct_exit_row_opens n s = direct_exit_to_opens n (kind_of (task_of n s) s) s (under_of n s)
 
-wait_end_opens : (a0 : Label) (a1 : ℕ) (a2 : ℕ) (a3 : List ℕ) (a4 : Core) (a5 : Bool) → outcome_of_label a0 ≡ None → Opens (wait_end a0 a1 a2 a3 a4 a5)
-wait_end_opens l n x held s true quiet = λ order. quiet
-wait_end_opens l n x held s false quiet = λ order. quiet
+code_wait_row_opens : (a0 : Label) (a1 : ℕ) (a2 : ℕ) (a3 : List ℕ) (a4 : Core) (a5 : Bool) → outcome_of_label a0 ≡ None → Opens (code_wait_row a0 a1 a2 a3 a4 a5)
+code_wait_row_opens l n x held s true quiet = λ order. quiet
+code_wait_row_opens l n x held s false quiet = λ order. quiet
 
-kind_end_opens : (a0 : Label) (a1 : ℕ) (a2 : List ℕ) (a3 : Core) (a4 : ℕ) (a5 : ℕ) → outcome_of_label a0 ≡ None → Opens (kind_end a0 a1 a2 a3 a4 a5)
-kind_end_opens l n held s zero rest quiet = trap_if_opens (not (passes_after_stop (instance_of n s) (foot_of n s) held s)) trap.CannotBlockSyncTask (trap_if (leaves_no_result n s) trap.NoAsyncResult (Ordered held (λ order. Stops l (finished n order s)))) (trap_if_opens (leaves_no_result n s) trap.NoAsyncResult (Ordered held (λ order. Stops l (finished n order s))) (λ order. quiet))
-kind_end_opens l n held s (suc zero) rest quiet = λ order. quiet
-kind_end_opens l n held s (suc (suc zero)) rest quiet = or_trap_opens (set_at (instance_of n s) rest s) trap.BadHandle (λ x. wait_end l n x held s (has_event_for (task_of n s) x s)) (λ x. wait_end_opens l n x held s (has_event_for (task_of n s) x s) (quiet))
-kind_end_opens l n held s u1 rest quiet = tt
+code_kind_row_opens : (a0 : Label) (a1 : ℕ) (a2 : List ℕ) (a3 : Core) (a4 : ℕ) (a5 : ℕ) → outcome_of_label a0 ≡ None → Opens (code_kind_row a0 a1 a2 a3 a4 a5)
+code_kind_row_opens l n held s zero rest quiet = trap_if_opens (not (passes_after_stop (instance_of n s) (foot_of n s) held s)) trap.CannotBlockSyncTask (trap_if (leaves_no_result n s) trap.NoAsyncResult (Ordered held (λ order. Stops l (code_exits n order s)))) (trap_if_opens (leaves_no_result n s) trap.NoAsyncResult (Ordered held (λ order. Stops l (code_exits n order s))) (λ order. quiet))
+code_kind_row_opens l n held s (suc zero) rest quiet = λ order. quiet
+code_kind_row_opens l n held s (suc (suc zero)) rest quiet = or_trap_opens (set_at (instance_of n s) rest s) trap.BadHandle (λ x. code_wait_row l n x held s (has_event_for (task_of n s) x s)) (λ x. code_wait_row_opens l n x held s (has_event_for (task_of n s) x s) (quiet))
+code_kind_row_opens l n held s u1 rest quiet = tt
 
 code_row_opens : (a0 : Label) (a1 : ℕ) (a2 : Core) (a3 : ℕ) → outcome_of_label a0 ≡ None → Opens (code_row a0 a1 a2 a3)
-code_row_opens l n s code quiet = trap_if_opens (nat_lt 4294967295 code) trap.UnsupportedCallbackCode (kind_end l n (held_out (instance_of n s) s) s (code % 16) (code / 16)) (kind_end_opens l n (held_out (instance_of n s) s) s (code % 16) (code / 16) (quiet))
+code_row_opens l n s code quiet = trap_if_opens (nat_lt 4294967295 code) trap.UnsupportedCallbackCode (code_kind_row l n (held_by_flag (instance_of n s) s) s (code % 16) (code / 16)) (code_kind_row_opens l n (held_by_flag (instance_of n s) s) s (code % 16) (code / 16) (quiet))
 
 kind_exit_row_opens : (a0 : ℕ) (a1 : Option ℕ) (a2 : Core) (a3 : ExportKind) → Opens (kind_exit_row a0 a1 a2 a3)
 kind_exit_row_opens n w s kind.Sync = sync_exit_row_opens n w s
 kind_exit_row_opens n w s kind.Blocking = blocking_exit_row_opens n w s
-kind_exit_row_opens n w s kind.Stackful = leave_row_opens n s
+kind_exit_row_opens n w s kind.Stackful = thread_exit_row_opens n s
 kind_exit_row_opens n w s kind.Callback = code_row_opens (exit_label n None) n s 0 (exit_label-open n None)
 
 implicit_exit_row_opens : (a0 : ℕ) (a1 : Option ℕ) (a2 : Core) (a3 : Bool) → Opens (implicit_exit_row a0 a1 a2 a3)
@@ -196,7 +196,7 @@ implicit_exit_row_opens n w s true = direct_exit_row_opens n s
 implicit_exit_row_opens n w s false = kind_exit_row_opens n w s (kind_of (task_of n s) s)
 
 exit_row_for_opens : (a0 : ℕ) (a1 : Option ℕ) (a2 : Core) (a3 : Bool) → Opens (exit_row_for a0 a1 a2 a3)
-exit_row_for_opens n w s true = leave_row_opens n s
+exit_row_for_opens n w s true = thread_exit_row_opens n s
 exit_row_for_opens n w s false = implicit_exit_row_opens n w s (is_direct (goal_of (task_of n s) s))
 
 exit_row_opens : (a0 : ℕ) (a1 : Option ℕ) (a2 : Core) → Opens (exit_row a0 a1 a2)
@@ -209,10 +209,10 @@ ret_bad_row_opens : (a0 : ℕ) (a1 : Core) → Opens (ret_bad_row a0 a1)
 ret_bad_row_opens n s = trap_if_opens (has_ended (task_of n s) s) trap.TaskCancelOrReturnTwice (Traps trap.TaskReturnInvalid) (tt)
 
 task_cancel_row_opens : (a0 : ℕ) (a1 : Option ℕ) (a2 : Core) → Opens (task_cancel_row a0 a1 a2)
-task_cancel_row_opens n w s = trap_if_opens (not (cancel_was_delivered (task_of n s) s)) trap.TaskCancelNotCancelled (trap_if (has_ended (task_of n s) s) trap.TaskCancelOrReturnTwice (may (may_tell (task_of n s) w s) (Goes (task_cancel_label n w) (cancel_done n w s) n))) (trap_if_opens (has_ended (task_of n s) s) trap.TaskCancelOrReturnTwice (may (may_tell (task_of n s) w s) (Goes (task_cancel_label n w) (cancel_done n w s) n)) (may_opens (may_tell (task_of n s) w s) (Goes (task_cancel_label n w) (cancel_done n w s) n) (task_cancel_label-open n w)))
+task_cancel_row_opens n w s = trap_if_opens (not (cancel_was_delivered (task_of n s) s)) trap.TaskCancelNotCancelled (trap_if (has_ended (task_of n s) s) trap.TaskCancelOrReturnTwice (may (may_tell (task_of n s) w s) (Goes (task_cancel_label n w) (task_cancel_done n w s) n))) (trap_if_opens (has_ended (task_of n s) s) trap.TaskCancelOrReturnTwice (may (may_tell (task_of n s) w s) (Goes (task_cancel_label n w) (task_cancel_done n w s) n)) (may_opens (may_tell (task_of n s) w s) (Goes (task_cancel_label n w) (task_cancel_done n w s) n) (task_cancel_label-open n w)))
 
 inc_row_opens : (a0 : ℕ) (a1 : Core) → Opens (inc_row a0 a1)
-inc_row_opens n s = trap_if_opens (nat_le 65535 (backpressure_of (instance_of n s) s)) trap.BackpressureOverflow (Goes (label.Task (task_label.BpInc n)) (raised n s) n) (refl)
+inc_row_opens n s = trap_if_opens (nat_le 65535 (backpressure_of (instance_of n s) s)) trap.BackpressureOverflow (Goes (label.Task (task_label.BpInc n)) (inc_raises n s) n) (refl)
 
 dec_from_opens : (a0 : ℕ) (a1 : Core) (a2 : ℕ) → Opens (dec_from a0 a1 a2)
 dec_from_opens n s zero = tt
@@ -246,7 +246,7 @@ wait_takes_opens : (a0 : ℕ) (a1 : ℕ) (a2 : Choice) (a3 : Core) (a4 : Gift) �
 wait_takes_opens n r ch s g = let v = handed_out ch s g in refl
 
 wait_begins_opens : (a0 : ℕ) (a1 : ℕ) (a2 : Choice) (a3 : Core) (a4 : ℕ) (a5 : Bool) → Opens (wait_begins a0 a1 a2 a3 a4 a5)
-wait_begins_opens n r ch s x true = trap_if_opens (not (passes_check (instance_of n s) s)) trap.CannotBlockSyncTask (Stops (label.Thread (thread_label.Pauses n)) (begun_waiting n x s)) (refl)
+wait_begins_opens n r ch s x true = trap_if_opens (not (passes_check (instance_of n s) s)) trap.CannotBlockSyncTask (Stops (label.Thread (thread_label.Pauses n)) (wait_stops_checked n x s)) (refl)
 wait_begins_opens n r ch s x false = or_never_opens (gift false (task_of n s) x (chosen n ch s) s) (wait_takes n r ch s) (λ got. wait_takes_opens n r ch s got)
 
 wait_goes_on_opens : (a0 : ℕ) (a1 : ℕ) (a2 : ℕ) (a3 : Choice) (a4 : Core) (a5 : Gift) → Opens (wait_goes_on a0 a1 a2 a3 a4 a5)
@@ -281,7 +281,7 @@ set_row_opens n s ch (set_op.Poll r x) = poll_row_opens n r (value_of n s x) ch 
 set_row_opens n s ch (set_op.Join x y) = join_row_opens n (value_of n s x) (value_of n s y) ch.woken s
 
 call_begins_opens : (a0 : Component) (a1 : ℕ) (a2 : Callee) (a3 : Goal) (a4 : List ℕ) (a5 : Core) → Opens (call_begins a0 a1 a2 a3 a4 a5)
-call_begins_opens c n e g words s = trap_if_opens (not (fits 3 s)) trap.TableFull (Stops (label.Call (call_label.Calls n (next_thread s))) (called n e (export_kind c e) g words s)) (refl)
+call_begins_opens c n e g words s = trap_if_opens (not (fits 3 s)) trap.TableFull (Stops (label.Call (call_label.Calls n (next_thread s))) (call_queues n e (export_kind c e) g words s)) (refl)
 
 call_status_opens : (a0 : ℕ) (a1 : ℕ) (a2 : ℕ) (a3 : Core) (a4 : Status) → Opens (call_status a0 a1 a2 a3 a4)
 call_status_opens n r k s status.Returned = refl
@@ -293,10 +293,10 @@ call_row_opens c n r q e words s u1 = call_begins_opens c n e (goal.Register q) 
 
 call_sync_status_opens : (a0 : ℕ) (a1 : ℕ) (a2 : ℕ) (a3 : Core) (a4 : Status) → Opens (call_sync_status a0 a1 a2 a3 a4)
 call_sync_status_opens n r k s status.Returned = refl
-call_sync_status_opens n r k s e = trap_if_opens (not (passes_check (instance_of n s) (called_back n k s))) trap.CannotBlockSyncTask (Stops (label.Thread (thread_label.Pauses n)) (call_blocked n k s)) (refl)
+call_sync_status_opens n r k s e = trap_if_opens (not (passes_check (instance_of n s) (call_resumes n k s))) trap.CannotBlockSyncTask (Stops (label.Thread (thread_label.Pauses n)) (call_sync_stops n k s)) (refl)
 
 enter_row_opens : (a0 : ℕ) (a1 : Callee) (a2 : ExportKind) (a3 : List ℕ) (a4 : Core) → Opens (enter_row a0 a1 a2 a3 a4)
-enter_row_opens n e x words s = trap_if_opens (not (fits 3 s)) trap.TableFull (trap_if (at_handle_limit s) trap.HandleLimit (Goes (label.Call (call_label.Enters n (next_thread s))) (entered n e x words s) (next_thread s))) (trap_if_opens (at_handle_limit s) trap.HandleLimit (Goes (label.Call (call_label.Enters n (next_thread s))) (entered n e x words s) (next_thread s)) (refl))
+enter_row_opens n e x words s = trap_if_opens (not (fits 3 s)) trap.TableFull (trap_if (at_handle_limit s) trap.HandleLimit (Goes (label.Call (call_label.Enters n (next_thread s))) (enter_runs n e x words s) (next_thread s))) (trap_if_opens (at_handle_limit s) trap.HandleLimit (Goes (label.Call (call_label.Enters n (next_thread s))) (enter_runs n e x words s) (next_thread s)) (refl))
 
 call_sync_begins_opens : (a0 : Component) (a1 : ℕ) (a2 : Callee) (a3 : List ℕ) (a4 : Core) (a5 : Bool) → Opens (call_sync_begins a0 a1 a2 a3 a4 a5)
 call_sync_begins_opens c n e words s true = call_begins_opens c n e goal.Answer words s
@@ -318,45 +318,39 @@ call_host_row_opens c n r q h s = call_host_polled_opens n r q s (first_poll (ho
 call_sync_host_polled_opens : (a0 : ℕ) (a1 : ℕ) (a2 : Core) (a3 : FirstPoll) → Opens (call_sync_host_polled a0 a1 a2 a3)
 call_sync_host_polled_opens n r s (AtOnce v) = refl
 call_sync_host_polled_opens n r s Failing = tt
-call_sync_host_polled_opens n r s (Later host) = trap_if_opens (not (fits 1 s)) trap.TableFull (trap_if (not (passes_check (instance_of n s) s)) trap.CannotBlockSyncTask (Stops (label.Call (call_label.PausesPolls n (next_work s))) (host_blocked n host s))) (trap_if_opens (not (passes_check (instance_of n s) s)) trap.CannotBlockSyncTask (Stops (label.Call (call_label.PausesPolls n (next_work s))) (host_blocked n host s)) (refl))
+call_sync_host_polled_opens n r s (Later host) = trap_if_opens (not (fits 1 s)) trap.TableFull (trap_if (not (passes_check (instance_of n s) s)) trap.CannotBlockSyncTask (Stops (label.Call (call_label.PausesPolls n (next_work s))) (call_sync_host_stops n host s))) (trap_if_opens (not (passes_check (instance_of n s) s)) trap.CannotBlockSyncTask (Stops (label.Call (call_label.PausesPolls n (next_work s))) (call_sync_host_stops n host s)) (refl))
 
 call_sync_host_row_opens : (a0 : Component) (a1 : ℕ) (a2 : ℕ) (a3 : ℕ) (a4 : Core) (a5 : HowFar) → Opens (call_sync_host_row a0 a1 a2 a3 a4 a5)
 call_sync_host_row_opens c n r h s (how_far.Calls (subtask.Host i)) = refl
 call_sync_host_row_opens c n r h s u1 = call_sync_host_polled_opens n r s (first_poll (host_at c h))
 
-ended_row_opens : (a0 : Mode) (a1 : ℕ) (a2 : ℕ) (a3 : Subtask) (a4 : Core) (a5 : Option Status) → Opens (ended_row a0 a1 a2 a3 a4 a5)
-ended_row_opens mode n r sub s None = tt
-ended_row_opens mode n r sub s (Some e) = cancel_label-open mode n (status_code e)
+cancel_ended_row_opens : (a0 : Mode) (a1 : ℕ) (a2 : ℕ) (a3 : Subtask) (a4 : Core) (a5 : Option Status) → Opens (cancel_ended_row a0 a1 a2 a3 a4 a5)
+cancel_ended_row_opens mode n r sub s None = tt
+cancel_ended_row_opens mode n r sub s (Some e) = cancel_label-open mode n (status_code e)
 
-not_ended_row_opens : (a0 : Mode) (a1 : ℕ) (a2 : ℕ) (a3 : Subtask) (a4 : Core) → Opens (not_ended_row a0 a1 a2 a3 a4)
-not_ended_row_opens Async n r sub s = cancel_label-open Async n blocked_code
-not_ended_row_opens Sync n r sub s = trap_if_opens (not (passes_check (instance_of n s) s)) trap.CannotBlockSyncTask (Stops (pauses n) (awaiting n sub s)) (refl)
+cancel_unended_row_opens : (a0 : Mode) (a1 : ℕ) (a2 : ℕ) (a3 : Subtask) (a4 : Core) → Opens (cancel_unended_row a0 a1 a2 a3 a4)
+cancel_unended_row_opens Async n r sub s = cancel_label-open Async n blocked_code
+cancel_unended_row_opens Sync n r sub s = trap_if_opens (not (passes_check (instance_of n s) s)) trap.CannotBlockSyncTask (Stops (pauses n) (cancel_stops n sub s)) (refl)
 
-by_end_opens : (a0 : Mode) (a1 : ℕ) (a2 : ℕ) (a3 : Subtask) (a4 : Core) (a5 : Bool) → Opens (by_end a0 a1 a2 a3 a4 a5)
-by_end_opens mode n r sub s true = ended_row_opens mode n r sub s (undelivered_end (event_of sub s))
-by_end_opens mode n r sub s false = not_ended_row_opens mode n r sub s
+cancel_by_end_opens : (a0 : Mode) (a1 : ℕ) (a2 : ℕ) (a3 : Subtask) (a4 : Core) (a5 : Bool) → Opens (cancel_by_end a0 a1 a2 a3 a4 a5)
+cancel_by_end_opens mode n r sub s true = cancel_ended_row_opens mode n r sub s (undelivered_end (event_of sub s))
+cancel_by_end_opens mode n r sub s false = cancel_unended_row_opens mode n r sub s
 
 after_cancel_opens : (a0 : Mode) (a1 : ℕ) (a2 : ℕ) (a3 : Subtask) (a4 : Core) → Opens (after_cancel a0 a1 a2 a3 a4)
-after_cancel_opens mode n r sub s = by_end_opens mode n r sub s (subtask_ended sub s)
+after_cancel_opens mode n r sub s = cancel_by_end_opens mode n r sub s (subtask_ended sub s)
 
 cancel_host_opens : (a0 : Mode) (a1 : ℕ) (a2 : ℕ) (a3 : ℕ) (a4 : Core) → Opens (cancel_host a0 a1 a2 a3 a4)
-cancel_host_opens mode n r i s = trap_if_opens (was_cancelled i s) trap.SubtaskCancelAfterTerminal (after_cancel mode n r (subtask.Host i) (host_cancelled i s)) (after_cancel_opens mode n r (subtask.Host i) (host_cancelled i s))
+cancel_host_opens mode n r i s = trap_if_opens (was_cancelled i s) trap.SubtaskCancelAfterTerminal (after_cancel mode n r (subtask.Host i) (cancel_aborts_host i s)) (after_cancel_opens mode n r (subtask.Host i) (cancel_aborts_host i s))
 
-cancel_yield_opens : (a0 : Mode) (a1 : ℕ) (a2 : ℕ) (a3 : ℕ) (a4 : Core) (a5 : Bool) → Opens (cancel_yield a0 a1 a2 a3 a4 a5)
-cancel_yield_opens mode n r k s true = refl
-cancel_yield_opens mode n r k s false = after_cancel_opens mode n r (subtask.Guest k) (asked k s)
-
-cancel_running_opens : (a0 : Mode) (a1 : ℕ) (a2 : ℕ) (a3 : ℕ) (a4 : Core) (a5 : Bool) (a6 : Bool) → Opens (cancel_running a0 a1 a2 a3 a4 a5 a6)
-cancel_running_opens mode n r k s true yields = refl
-cancel_running_opens mode n r k s false yields = cancel_yield_opens mode n r k s yields
-
-cancel_guest_opens : (a0 : Mode) (a1 : ℕ) (a2 : ℕ) (a3 : ℕ) (a4 : Core) (a5 : Bool) (a6 : Bool) → Opens (cancel_guest a0 a1 a2 a3 a4 a5 a6)
-cancel_guest_opens mode n r k s true started = ended_row_opens mode n r (subtask.Guest k) s (undelivered_end (event_of (subtask.Guest k) s))
-cancel_guest_opens mode n r k s false true = cancel_running_opens mode n r k s (is_at k s is_callback_wait) (is_at k s is_callback_yield)
-cancel_guest_opens mode n r k s false false = cancel_label-open mode n 3
+cancel_guest_opens : (a0 : Mode) (a1 : ℕ) (a2 : ℕ) (a3 : ℕ) (a4 : Core) (a5 : CancelCase) → Opens (cancel_guest a0 a1 a2 a3 a4 a5)
+cancel_guest_opens mode n r k s AlreadyEnded = cancel_ended_row_opens mode n r (subtask.Guest k) s (undelivered_end (event_of (subtask.Guest k) s))
+cancel_guest_opens mode n r k s StartNotRun = cancel_label-open mode n 3
+cancel_guest_opens mode n r k s CallbackWaits = refl
+cancel_guest_opens mode n r k s CallbackYields = refl
+cancel_guest_opens mode n r k s OtherwiseRuns = after_cancel_opens mode n r (subtask.Guest k) (cancel_asks k s)
 
 cancel_subtask_opens : (a0 : Mode) (a1 : ℕ) (a2 : ℕ) (a3 : Core) (a4 : Subtask) → Opens (cancel_subtask a0 a1 a2 a3 a4)
-cancel_subtask_opens mode n r s (subtask.Guest k) = cancel_guest_opens mode n r k s (has_ended k s) (was_started k s)
+cancel_subtask_opens mode n r s (subtask.Guest k) = cancel_guest_opens mode n r k s (cancel_case k s)
 cancel_subtask_opens mode n r s (subtask.Host i) = cancel_host_opens mode n r i s
 
 cancel_found_opens : (a0 : Mode) (a1 : ℕ) (a2 : ℕ) (a3 : Core) (a4 : Subtask) → Opens (cancel_found a0 a1 a2 a3 a4)
@@ -364,7 +358,7 @@ cancel_found_opens mode n r s sub = trap_if_opens (is_joined (join_of sub s)) tr
 
 cancel_row_opens : (a0 : Mode) (a1 : ℕ) (a2 : ℕ) (a3 : ℕ) (a4 : Core) (a5 : HowFar) → Opens (cancel_row a0 a1 a2 a3 a4 a5)
 cancel_row_opens mode n r h s (how_far.Cancels sub) = after_cancel_opens mode n r sub (cancel_resumed n sub s)
-cancel_row_opens mode n r h s (how_far.AwaitsEnd sub) = ended_row_opens mode n r sub (set_join sub join.Nowhere s) (undelivered_end (event_of sub (set_join sub join.Nowhere s)))
+cancel_row_opens mode n r h s (how_far.AwaitsEnd sub) = cancel_ended_row_opens mode n r sub (set_join sub join.Nowhere s) (undelivered_end (event_of sub (set_join sub join.Nowhere s)))
 cancel_row_opens mode n r h s u1 = or_trap_opens (subtask_at (instance_of n s) h s) trap.BadHandle (cancel_found mode n r s) (λ got. cancel_found_opens mode n r s got)
 
 drop_found_opens : (a0 : ℕ) (a1 : ℕ) (a2 : Core) (a3 : Subtask) → Opens (drop_found a0 a1 a2 a3)
@@ -444,11 +438,11 @@ host_row_opens m i w s = may_opens (may_publish (subtask.Host i) w s) (Stops (ho
 
 start_admitted_opens : (a0 : Mark) (a1 : ℕ) (a2 : Option ℕ) (a3 : Core) (a4 : Bool) → Opens (start_admitted a0 a1 a2 a3 a4)
 start_admitted_opens m n w s true = take_label-open m n None
-start_admitted_opens m n w s false = trap_if_opens (at_handle_limit s) trap.HandleLimit (may (may_tell (task_of n s) w s) (Goes (take_label m n w) (started n w s) n)) (may_opens (may_tell (task_of n s) w s) (Goes (take_label m n w) (started n w s) n) (take_label-open m n w))
+start_admitted_opens m n w s false = trap_if_opens (at_handle_limit s) trap.HandleLimit (may (may_tell (task_of n s) w s) (Goes (take_label m n w) (start_begins n w s) n)) (may_opens (may_tell (task_of n s) w s) (Goes (take_label m n w) (start_begins n w s) n) (take_label-open m n w))
 
 start_row_opens : (a0 : Mark) (a1 : ℕ) (a2 : Option ℕ) (a3 : Core) (a4 : Bool) → Opens (start_row a0 a1 a2 a3 a4)
 start_row_opens m n w s true = start_admitted_opens m n w s (is_explicit n s)
-start_row_opens m n w s false = may_opens (may_tell_starting (task_of n s) w s) (Stops (held_label m n w) (start_held n w s)) (held_label-open m n w)
+start_row_opens m n w s false = may_opens (may_tell_starting (task_of n s) w s) (Stops (held_label m n w) (start_holds n w s)) (held_label-open m n w)
 
 set_delivered_opens : (a0 : Mark) (a1 : ℕ) (a2 : ℕ) (a3 : Choice) (a4 : Core) (a5 : Gift) → Opens (set_delivered a0 a1 a2 a3 a4 a5)
 set_delivered_opens m n x ch s NoGift = refl

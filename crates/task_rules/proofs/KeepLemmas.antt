@@ -44,7 +44,7 @@ use Rattle.task_machine.specs.Maps.{get}
 use Rattle.task_machine.specs.Moves.{Gift, NoGift, ended, gift, given_for, handed_on, may_hand_on, may_publish, own_gift_only, published, taken}
 use Rattle.task_machine.specs.Read.{admits, at_handle_limit, blocked_on, course_of, course_value, instance_of, is_explicit, kind_of, phase_of, place_of, strand_of, task_of, work_caller_of}
 use Rattle.task_machine.specs.Write.{add_group, remove_threads, set_course, set_do_not_enter, set_phase, set_script, set_stage, set_started, set_starting_published}
-use Rattle.task_rules.proofs.KeepRows.{data_row_keeps, forbidding_keeps, moved_to_keeps, set_given_keeps, set_row_keeps, subtask_row_keeps, task_row_keeps, thread_row_keeps, told_keeps, with_thread_handle_keeps}
+use Rattle.task_rules.proofs.KeepRows.{data_row_keeps, sync_sets_flag_keeps, moved_to_keeps, set_given_keeps, set_row_keeps, subtask_row_keeps, task_row_keeps, thread_row_keeps, told_keeps, with_thread_handle_keeps}
 use Rattle.task_rules.proofs.KeepWords.{add_group_keeps, after, call_made_keeps, handed_on_keeps, if_keeps, may_keeps, or_never_keeps, published_keeps, push_high_keeps, put_high_keeps, remove_threads_keeps, same, set_course_keeps, set_do_not_enter_keeps, set_high_keeps, set_low_keeps, set_phase_keeps, set_place_keeps, set_register_keeps, set_script_keeps, set_stage_keeps, set_started_keeps, set_starting_published_keeps, set_switch_keeps, set_trapped_keeps, stopped_at_keeps, take_result_keeps, taken_keeps, trap_if_keeps, unblocked_keeps, work_queued_keeps}
 use Rattle.task_rules.specs.Calls.{call_made, next_thread, with_thread_handle}
 use Rattle.task_rules.specs.Cancels.{aborted_phase}
@@ -57,9 +57,9 @@ use Rattle.task_rules.specs.Scripts.{export_kind, host_at, op_of}
 use Rattle.task_rules.specs.Sets.{chosen, handed_out, set_given}
 use Rattle.task_rules.specs.Stalled.{Setting}
 use Rattle.task_rules.specs.Step.{DeadlockStep, EmptyFor, FuturesStep, MainProgresses, MainStep, OpenProgresses, OpenStep, Polled, Progresses, RestStep, ScriptStep, Step, TakeStep, TurnStep, did, op_row, struck}
-use Rattle.task_rules.specs.Takes.{activated, activated_woken, awaits_again, delivered, delivery_row, enters, held, host_done, host_result, host_row, host_status, may_tell_starting, own_delivered, popped, pushed, rest_of, running, set_delivered, start_admitted, start_held, start_row, started, starting_is_published, starting_told, take_row, thread_taken, thread_taken_for}
+use Rattle.task_rules.specs.Takes.{activated, activated_woken, wait_again, delivered, delivery_row, start_sets_flags, take_holds, host_done, host_result, host_row, host_status, may_tell_starting, own_delivered, popped, pushed, rest_of, running, set_delivered, start_admitted, start_holds, start_row, start_begins, starting_is_published, starting_told, take_row, thread_taken, thread_taken_for}
 use Rattle.task_rules.specs.Turns.{at_turn}
-use Rattle.task_rules.specs.Works.{Ends, FailsNow, Poll, StillPends, course_for, followed, pended, poll_of, work_ended}
+use Rattle.task_rules.specs.Works.{Ends, FailsNow, Poll, StillPends, course_for, followed, poll_pends, poll_of, poll_ends}
 
 module _ {R : Core → Core → Type 0} (E : Elementary R) where
   popped_keeps : (a0 : Mark) (s : Core) → R s (popped a0 s)
@@ -87,22 +87,22 @@ module _ {R : Core → Core → Type 0} (E : Elementary R) where
   unfolding starting_told
   starting_told_keeps k w s = if_keeps E s (starting_is_published k s) s (told k status.Starting w (set_starting_published k s)) (same E s) (after E (set_starting_published_keeps E k s) (told_keeps E k status.Starting w (set_starting_published k s)))
 
-  held_keeps : (a0 : ℕ) (a1 : Why) (s : Core) → R s (held a0 a1 s)
-  unfolding held
-  held_keeps n w s = stopped_at_keeps E n (place.Held w) s
+  take_holds_keeps : (a0 : ℕ) (a1 : Why) (s : Core) → R s (take_holds a0 a1 s)
+  unfolding take_holds
+  take_holds_keeps n w s = stopped_at_keeps E n (place.Held w) s
 
-  start_held_keeps : (a0 : ℕ) (a1 : Option ℕ) (s : Core) → R s (start_held a0 a1 s)
-  unfolding start_held
-  start_held_keeps n w s = after E (starting_told_keeps (task_of n s) w s) (held_keeps n why.Start (starting_told (task_of n s) w s))
+  start_holds_keeps : (a0 : ℕ) (a1 : Option ℕ) (s : Core) → R s (start_holds a0 a1 s)
+  unfolding start_holds
+  start_holds_keeps n w s = after E (starting_told_keeps (task_of n s) w s) (take_holds_keeps n why.Start (starting_told (task_of n s) w s))
 
-  enters_keeps : (a0 : ℕ) (a1 : ExportKind) (s : Core) → R s (enters a0 a1 s)
-  enters_keeps n kind.Sync s = forbidding_keeps E n (instance_of n s) kind.Sync s
-  enters_keeps n kind.Stackful s = same E s
-  enters_keeps n x s = set_do_not_enter_keeps E (instance_of n s) true s
+  start_sets_flags_keeps : (a0 : ℕ) (a1 : ExportKind) (s : Core) → R s (start_sets_flags a0 a1 s)
+  start_sets_flags_keeps n kind.Sync s = sync_sets_flag_keeps E n (instance_of n s) kind.Sync s
+  start_sets_flags_keeps n kind.Stackful s = same E s
+  start_sets_flags_keeps n x s = set_do_not_enter_keeps E (instance_of n s) true s
 
-  started_keeps : (a0 : ℕ) (a1 : Option ℕ) (s : Core) → R s (started a0 a1 s)
-  unfolding started
-  started_keeps n w s = let k = task_of n s in after E (after E (after E (after E (with_thread_handle_keeps E (instance_of n s) n s) (set_started_keeps E k (with_thread_handle (instance_of n s) n s))) (told_keeps E k status.Started w (set_started k (with_thread_handle (instance_of n s) n s)))) (enters_keeps n (kind_of k s) (told k status.Started w (set_started k (with_thread_handle (instance_of n s) n s))))) (set_place_keeps E n place.Running (enters n (kind_of k s) (told k status.Started w (set_started k (with_thread_handle (instance_of n s) n s)))))
+  start_begins_keeps : (a0 : ℕ) (a1 : Option ℕ) (s : Core) → R s (start_begins a0 a1 s)
+  unfolding start_begins
+  start_begins_keeps n w s = let k = task_of n s in after E (after E (after E (after E (with_thread_handle_keeps E (instance_of n s) n s) (set_started_keeps E k (with_thread_handle (instance_of n s) n s))) (told_keeps E k status.Started w (set_started k (with_thread_handle (instance_of n s) n s)))) (start_sets_flags_keeps n (kind_of k s) (told k status.Started w (set_started k (with_thread_handle (instance_of n s) n s))))) (set_place_keeps E n place.Running (start_sets_flags n (kind_of k s) (told k status.Started w (set_started k (with_thread_handle (instance_of n s) n s)))))
 
   running_keeps : (a0 : ℕ) (s : Core) → R s (running a0 s)
   unfolding running
@@ -110,11 +110,11 @@ module _ {R : Core → Core → Type 0} (E : Elementary R) where
 
   start_admitted_keeps : (a0 : Mark) (a1 : ℕ) (a2 : Option ℕ) (s : Core) (a4 : Bool) → Keeps R s (start_admitted a0 a1 a2 s a4)
   start_admitted_keeps m n w s true = running_keeps n s
-  start_admitted_keeps m n w s false = trap_if_keeps E s (at_handle_limit s) trap.HandleLimit (may (may_tell (task_of n s) w s) (Goes (take_label m n w) (started n w s) n)) (may_keeps E s (may_tell (task_of n s) w s) (Goes (take_label m n w) (started n w s) n) (started_keeps n w s))
+  start_admitted_keeps m n w s false = trap_if_keeps E s (at_handle_limit s) trap.HandleLimit (may (may_tell (task_of n s) w s) (Goes (take_label m n w) (start_begins n w s) n)) (may_keeps E s (may_tell (task_of n s) w s) (Goes (take_label m n w) (start_begins n w s) n) (start_begins_keeps n w s))
 
   start_row_keeps : (a0 : Mark) (a1 : ℕ) (a2 : Option ℕ) (s : Core) (a4 : Bool) → Keeps R s (start_row a0 a1 a2 s a4)
   start_row_keeps m n w s true = start_admitted_keeps m n w s (is_explicit n s)
-  start_row_keeps m n w s false = may_keeps E s (may_tell_starting (task_of n s) w s) (Stops (held_label m n w) (start_held n w s)) (start_held_keeps n w s)
+  start_row_keeps m n w s false = may_keeps E s (may_tell_starting (task_of n s) w s) (Stops (held_label m n w) (start_holds n w s)) (start_holds_keeps n w s)
 
   activated_keeps : (a0 : ℕ) (a1 : Gift) (a2 : Given) (s : Core) → R s (activated a0 a1 a2 s)
   unfolding activated
@@ -124,12 +124,12 @@ module _ {R : Core → Core → Type 0} (E : Elementary R) where
   unfolding activated_woken
   activated_woken_keeps n x w g v s = after E (handed_on_keeps E x g w s) (activated_keeps n g v (handed_on x g w s))
 
-  awaits_again_keeps : (a0 : ℕ) (a1 : ℕ) (s : Core) → R s (awaits_again a0 a1 s)
-  unfolding awaits_again
-  awaits_again_keeps n x s = stopped_at_keeps E n (place.Waiting x true) s
+  wait_again_keeps : (a0 : ℕ) (a1 : ℕ) (s : Core) → R s (wait_again a0 a1 s)
+  unfolding wait_again
+  wait_again_keeps n x s = stopped_at_keeps E n (place.Waiting x true) s
 
   set_delivered_keeps : (a0 : Mark) (a1 : ℕ) (a2 : ℕ) (a3 : Choice) (s : Core) (a5 : Gift) → Keeps R s (set_delivered a0 a1 a2 a3 s a5)
-  set_delivered_keeps m n x ch s NoGift = awaits_again_keeps n x s
+  set_delivered_keeps m n x ch s NoGift = wait_again_keeps n x s
   set_delivered_keeps m n x ch s g = let v = handed_out ch s g in may_keeps E s (may_hand_on x g ch.woken s) (Goes (event_label m n v ch.woken) (activated_woken n x ch.woken g v s) n) (activated_woken_keeps n x ch.woken g v s)
 
   own_delivered_keeps : (a0 : Mark) (a1 : ℕ) (s : Core) (a3 : Gift) → Keeps R s (own_delivered a0 a1 s a3)
@@ -141,7 +141,7 @@ module _ {R : Core → Core → Type 0} (E : Elementary R) where
 
   delivery_row_keeps : (a0 : Mark) (a1 : ℕ) (a2 : Choice) (s : Core) (a4 : Delivery) (a5 : Bool) → Keeps R s (delivery_row a0 a1 a2 s a4 a5)
   delivery_row_keeps m n ch s d true = delivered_keeps m n ch s d
-  delivery_row_keeps m n ch s d false = held_keeps n (why.Delivery d) s
+  delivery_row_keeps m n ch s d false = take_holds_keeps n (why.Delivery d) s
 
   thread_taken_for_keeps : (a0 : Mark) (a1 : ℕ) (a2 : Choice) (s : Core) (a4 : Why) → Keeps R s (thread_taken_for a0 a1 a2 s a4)
   thread_taken_for_keeps m n ch s why.Start = start_row_keeps m n ch.woken s (admits n s why.Start)
@@ -157,18 +157,18 @@ module _ {R : Core → Core → Type 0} (E : Elementary R) where
   take_row_keeps m ch s (entry.Push i) = pushed_keeps i s
   take_row_keeps m ch s (entry.Host i) = host_row_keeps m i ch.woken s
 
-  pended_keeps : (a0 : ℕ) (a1 : HostDef) (s : Core) → R s (pended a0 a1 s)
-  unfolding pended
-  pended_keeps i host s = set_course_keeps E i (course.Goes host) s
+  poll_pends_keeps : (a0 : ℕ) (a1 : HostDef) (s : Core) → R s (poll_pends a0 a1 s)
+  unfolding poll_pends
+  poll_pends_keeps i host s = set_course_keeps E i (course.Goes host) s
 
   followed_keeps : (a0 : WorkCaller) (a1 : ℕ) (s : Core) → R s (followed a0 a1 s)
   followed_keeps work_caller.Spawn i s = set_stage_keeps E i stage.Ended s
   followed_keeps (work_caller.Async n q) i s = after E (set_stage_keeps E i stage.Finishing s) (push_high_keeps E (entry.Host i) (set_stage i stage.Finishing s))
   followed_keeps (work_caller.Sync n) i s = after E (set_stage_keeps E i stage.Ended s) (unblocked_keeps E (blocked_on (subtask.Host i) s) (set_stage i stage.Ended s))
 
-  work_ended_keeps : (a0 : ℕ) (a1 : Option ℕ) (s : Core) → R s (work_ended a0 a1 s)
-  unfolding work_ended
-  work_ended_keeps i v s = after E (after E (set_course_keeps E i (course_for v) s) (set_phase_keeps E i phase.Complete (set_course i (course_for v) s))) (followed_keeps (work_caller_of i s) i (set_phase i phase.Complete (set_course i (course_for v) s)))
+  poll_ends_keeps : (a0 : ℕ) (a1 : Option ℕ) (s : Core) → R s (poll_ends a0 a1 s)
+  unfolding poll_ends
+  poll_ends_keeps i v s = after E (after E (set_course_keeps E i (course_for v) s) (set_phase_keeps E i phase.Complete (set_course i (course_for v) s))) (followed_keeps (work_caller_of i s) i (set_phase i phase.Complete (set_course i (course_for v) s)))
 
   main_started_keeps : (a0 : Component) (a1 : Callee) (a2 : List ℕ) (s : Core) → R s (main_started a0 a1 a2 s)
   unfolding main_started
@@ -273,8 +273,8 @@ module _ {R : Core → Core → Type 0} (E : Elementary R) where
 
   polled_keeps : (s : State) (i : ℕ) (p : Poll) (l : Label) (t : State) → Polled s i p l t → R s.core t.core
   unfolding at_turn
-  polled_keeps s i (StillPends host) l t is = core_is s.core t _ is.1 (pended_keeps i host s.core)
-  polled_keeps s i (Ends v) l t is = core_is s.core t _ is.1 (work_ended_keeps i v s.core)
+  polled_keeps s i (StillPends host) l t is = core_is s.core t _ is.1 (poll_pends_keeps i host s.core)
+  polled_keeps s i (Ends v) l t is = core_is s.core t _ is.1 (poll_ends_keeps i v s.core)
   polled_keeps s i FailsNow l t is = core_is s.core t _ is.1 (set_trapped_keeps E s.core)
 
   futures_keeps : (s : State) (o : Option ℕ) (l : Label) (t : State) → FuturesStep s o l t → R s.core t.core

@@ -52,18 +52,18 @@ use Rattle.task_machine.specs.Moves.{Gift, NoGift, behind, call_settled, checked
 use Rattle.task_machine.specs.Read.{at_handle_limit, backpressure_of, call_instance, caller_of, cancel_was_delivered, event_of, fits, foot_of, goal_of, has_ended, has_member, has_waiters, how_far_of, instance_of, is_async_lifted, is_at, is_callback_yield, is_direct, is_explicit, is_joined, is_watched, join_of, kind_of, may_not_suspend, new_handle, new_thread_handle, own_event_of, phase_of, position_of, register_of, registers_of, result_of, saved_callee_of, saved_own_of, set_at, subtask_at, subtask_ended, task_of, thread_at, thread_group, thread_handle_of, undelivered_end, under_of, was_cancelled, was_started, word_of}
 use Rattle.task_machine.specs.Write.{add_set, add_thread, count_work, free_handle, give_handle, give_thread_handle, remove_set, remove_work, set_backpressure, set_do_not_enter, set_do_not_suspend, set_end, set_event, set_join, set_own_event, set_phase, set_place, set_position, set_register, set_result, set_saved_callee, set_saved_own, set_started, set_subtask_handle, set_word}
 use Rattle.task_rules.proofs.KeepWords.{add_set_keeps, add_thread_keeps, after, behind_keeps, call_made_keeps, call_settled_keeps, checked_keeps, count_work_keeps, ended_keeps, free_handle_keeps, give_handle_keeps, give_result_keeps, give_thread_handle_keeps, group_settled_keeps, handed_on_keeps, if_keeps, later, may_keeps, or_never_keeps, or_trap_keeps, promoted_unless_keeps, published_keeps, put_high_keeps, put_low_keeps, put_switch_keeps, released_keeps, remove_set_keeps, remove_work_keeps, same, set_backpressure_keeps, set_cancelled_keeps, set_do_not_enter_keeps, set_do_not_suspend_keeps, set_end_keeps, set_event_keeps, set_how_far_keeps, set_join_keeps, set_own_event_keeps, set_phase_keeps, set_place_keeps, set_position_keeps, set_register_keeps, set_result_keeps, set_saved_callee_keeps, set_saved_own_keeps, set_started_keeps, set_subtask_handle_keeps, set_thread_handle_keeps, set_word_keeps, stopped_at_keeps, stopped_keeps, taken_keeps, trap_if_keeps, wake_keeps, withdrawn_keeps, work_queued_keeps}
-use Rattle.task_rules.specs.Calls.{AtOnce, Failing, FirstPoll, Later, answered, blocked, call_answered, call_begins, call_blocked, call_host_polled, call_host_row, call_made, call_pending, call_returned, call_row, call_status, call_sync_begins, call_sync_host_polled, call_sync_host_row, call_sync_row, call_sync_status, called, called_back, enter_row, entered, first_poll, forbidding, host_answered, host_blocked, host_pending, host_ready, new_thread, next_thread, next_work, put_back, settle_group_of, status_found, suspending, with_handle, with_thread_handle, work_answered, work_deleted, work_group, work_queued, work_value}
+use Rattle.task_rules.specs.Calls.{AtOnce, Failing, FirstPoll, Later, answered, call_stops, call_answered, call_begins, call_sync_stops, call_host_polled, call_host_row, call_made, call_pending, call_returned, call_row, call_status, call_sync_begins, call_sync_host_polled, call_sync_host_row, call_sync_row, call_sync_status, call_queues, call_resumes, enter_row, enter_runs, first_poll, sync_sets_flag, host_answered, call_sync_host_stops, host_pending, host_ready, new_thread, next_thread, next_work, put_back, settle_group_of, status_found, call_clears_flag, with_handle, with_thread_handle, work_answered, work_deleted, work_group, work_queued, work_value}
 use Rattle.task_machine.specs.Statuses.{packed}
-use Rattle.task_rules.specs.Cancels.{Async, Mode, Sync, aborted_phase, after_cancel, asked, awaiting, behind_switch, blocked_code, by_end, cancel_delivered_to, cancel_found, cancel_guest, cancel_host, cancel_resumed, cancel_row, cancel_running, cancel_subtask, cancel_yield, drop_found, drop_row, dropped, end_taken, ended_row, host_cancelled, is_callback_wait, lets_go_on, not_ended_row, pauses, start_withdrawn, subtask_instance, subtask_row, subtask_settled, yield_cancelled}
+use Rattle.task_rules.specs.Cancels.{AlreadyEnded, CallbackWaits, CallbackYields, CancelCase, OtherwiseRuns, StartNotRun, cancel_case, Async, Mode, Sync, aborted_phase, after_cancel, cancel_asks, cancel_stops, behind_switch, blocked_code, cancel_by_end, cancel_wakes_callback, cancel_found, cancel_guest, cancel_host, cancel_resumed, cancel_row, cancel_subtask, drop_found, drop_row, dropped, cancel_takes_end, cancel_ended_row, cancel_aborts_host, is_callback_wait, cancel_goes_behind, cancel_unended_row, pauses, cancel_withdraws, subtask_instance, subtask_row, subtask_settled, cancel_promotes_yield}
 use Rattle.task_rules.specs.Data.{advanced, assigned, data_row, moved_to, skip_row, skipped, stored}
-use Rattle.task_rules.specs.Ends.{awaited, blocking_exit_row, blocking_left, cancelled, code_row, deactivated, direct_exit_row, direct_exit_to, direct_left, exit_row, exit_row_for, finished, found, has_event_for, held_out, implicit_exit_row, is_told, kind_end, kind_exit_row, leave_row, leaves_no_result, left, let_in, may_tell, own_or_none, passes_after_return, passes_after_stop, restored, result_given, returned, sync_exit_row, sync_left, told, wait_end, yielded}
+use Rattle.task_rules.specs.Ends.{code_waits, blocking_exit_row, blocking_exits, cancelled, code_row, code_stops, direct_exit_row, direct_exit_to, direct_exits, exit_row, exit_row_for, code_exits, code_finds, has_event_for, held_by_flag, implicit_exit_row, is_told, code_kind_row, kind_exit_row, thread_exit_row, leaves_no_result, exit_stops, end_reopens, may_tell, own_or_none, passes_after_return, passes_after_stop, exit_restores, result_given, returned, sync_exit_row, sync_exits, told, code_wait_row, code_yields}
 use Rattle.task_rules.specs.Keeps.{Elementary, Keeps}
 use Rattle.task_rules.specs.Progress.{Goes, Ordered, Progress, Stops, Traps, may, or_never, or_trap, trap_if}
 use Rattle.task_rules.specs.Scripts.{export_kind, host_at, registers_for, script_of, slot_at, value_of, values_in}
-use Rattle.task_rules.specs.Sets.{begun_waiting, chosen, finds_nothing, given_code, given_handle, given_result, handed_out, join_done, join_row, join_to, joined, joins, may_wake_new, poll_row, poll_takes, received, received_woken, set_drop_found, set_drop_row, set_dropped, set_given, set_made, set_new_row, set_row, wait_begins, wait_goes_on, wait_row, wait_takes, waiting, wakes_joined}
+use Rattle.task_rules.specs.Sets.{wait_stops_checked, chosen, finds_nothing, given_code, given_handle, given_result, handed_out, join_done, join_row, join_to, joined, joins, may_wake_new, poll_row, poll_takes, received, received_woken, set_drop_found, set_drop_row, set_dropped, set_given, set_made, set_new_row, set_row, wait_begins, wait_goes_on, wait_row, wait_takes, wait_stops, wakes_joined}
 use Rattle.task_machine.specs.Statuses.{status_code}
-use Rattle.task_rules.specs.Takes.{held, started}
-use Rattle.task_rules.specs.Task.{cancel_done, dec_from, dec_row, inc_row, lowered, opened, raised, ret_bad_row, ret_done, ret_row, task_cancel_row, task_row}
+use Rattle.task_rules.specs.Takes.{take_holds, start_begins}
+use Rattle.task_rules.specs.Task.{task_cancel_done, dec_from, dec_row, inc_row, dec_lowers, dec_opens, inc_raises, ret_bad_row, ret_done, ret_row, task_cancel_row, task_row}
 use Rattle.task_rules.specs.Threads.{Halt, Suspension, Yielding, by_how_far, halt_row, halted, halted_checked, halted_promoting, halted_resuming, halting, halts, has_yielded, resume_later_found, resume_later_row, resume_why, resumed_later, then_promote, then_promote_found, then_promote_row, then_resume_found, then_resume_row, thread_index_row, thread_made, thread_new_label, thread_new_row, thread_row}
 
 module _ {R : Core → Core → Type 0} (E : Elementary R) where
@@ -117,84 +117,84 @@ module _ {R : Core → Core → Type 0} (E : Elementary R) where
   unfolding cancelled
   cancelled_keeps k w s = after E (set_end_keeps E k call_end.ReturnCancelled s) (told_keeps k status.ReturnCancelled w (set_end k call_end.ReturnCancelled s))
 
-  pub let_in_keeps : (a0 : ℕ) (a1 : List ℕ) (s : Core) → R s (let_in a0 a1 s)
-  unfolding let_in
-  let_in_keeps i order s = after E (set_do_not_enter_keeps E i false s) (released_keeps E order (set_do_not_enter i false s))
+  pub end_reopens_keeps : (a0 : ℕ) (a1 : List ℕ) (s : Core) → R s (end_reopens a0 a1 s)
+  unfolding end_reopens
+  end_reopens_keeps i order s = after E (set_do_not_enter_keeps E i false s) (released_keeps E order (set_do_not_enter i false s))
 
-  pub restored_keeps : (a0 : ℕ) (s : Core) → R s (restored a0 s)
-  unfolding restored
-  restored_keeps n s = set_do_not_suspend_keeps E (instance_of n s) (unwrap_or (saved_own_of n s) false) s
+  pub exit_restores_keeps : (a0 : ℕ) (s : Core) → R s (exit_restores a0 s)
+  unfolding exit_restores
+  exit_restores_keeps n s = set_do_not_suspend_keeps E (instance_of n s) (unwrap_or (saved_own_of n s) false) s
 
-  pub left_keeps : (a0 : ℕ) (s : Core) → R s (left a0 s)
-  unfolding left
-  left_keeps n s = after E (after E (checked_keeps E (instance_of n s) s) (stopped_keeps E (foot_of n s) (checked (instance_of n s) s))) (ended_keeps E n (stopped (foot_of n s) (checked (instance_of n s) s)))
+  pub exit_stops_keeps : (a0 : ℕ) (s : Core) → R s (exit_stops a0 s)
+  unfolding exit_stops
+  exit_stops_keeps n s = after E (after E (checked_keeps E (instance_of n s) s) (stopped_keeps E (foot_of n s) (checked (instance_of n s) s))) (ended_keeps E n (stopped (foot_of n s) (checked (instance_of n s) s)))
 
-  pub leave_row_keeps : (a0 : ℕ) (s : Core) → Keeps R s (leave_row a0 s)
-  leave_row_keeps n s = trap_if_keeps E s (not (passes_check (instance_of n s) s)) trap.CannotBlockSyncTask (trap_if (leaves_no_result n s) trap.NoAsyncResult (Stops (exit_label n None) (left n s))) (trap_if_keeps E s (leaves_no_result n s) trap.NoAsyncResult (Stops (exit_label n None) (left n s)) (left_keeps n s))
+  pub thread_exit_row_keeps : (a0 : ℕ) (s : Core) → Keeps R s (thread_exit_row a0 s)
+  thread_exit_row_keeps n s = trap_if_keeps E s (not (passes_check (instance_of n s) s)) trap.CannotBlockSyncTask (trap_if (leaves_no_result n s) trap.NoAsyncResult (Stops (exit_label n None) (exit_stops n s))) (trap_if_keeps E s (leaves_no_result n s) trap.NoAsyncResult (Stops (exit_label n None) (exit_stops n s)) (exit_stops_keeps n s))
 
-  pub sync_left_keeps : (a0 : ℕ) (a1 : Option ℕ) (s : Core) → R s (sync_left a0 a1 s)
-  unfolding sync_left
-  sync_left_keeps n w s = after E (after E (after E (restored_keeps n s) (returned_keeps (task_of n s) (register_of n 0 s) w (restored n s))) (stopped_keeps E (foot_of n s) (returned (task_of n s) (register_of n 0 s) w (restored n s)))) (ended_keeps E n (stopped (foot_of n s) (returned (task_of n s) (register_of n 0 s) w (restored n s))))
+  pub sync_exits_keeps : (a0 : ℕ) (a1 : Option ℕ) (s : Core) → R s (sync_exits a0 a1 s)
+  unfolding sync_exits
+  sync_exits_keeps n w s = after E (after E (after E (exit_restores_keeps n s) (returned_keeps (task_of n s) (register_of n 0 s) w (exit_restores n s))) (stopped_keeps E (foot_of n s) (returned (task_of n s) (register_of n 0 s) w (exit_restores n s)))) (ended_keeps E n (stopped (foot_of n s) (returned (task_of n s) (register_of n 0 s) w (exit_restores n s))))
 
   pub sync_exit_row_keeps : (a0 : ℕ) (a1 : Option ℕ) (s : Core) → Keeps R s (sync_exit_row a0 a1 s)
-  sync_exit_row_keeps n w s = may_keeps E s (may_tell (task_of n s) w s) (Stops (exit_label n w) (sync_left n w s)) (sync_left_keeps n w s)
+  sync_exit_row_keeps n w s = may_keeps E s (may_tell (task_of n s) w s) (Stops (exit_label n w) (sync_exits n w s)) (sync_exits_keeps n w s)
 
-  pub blocking_left_keeps : (a0 : ℕ) (a1 : Option ℕ) (a2 : List ℕ) (s : Core) → R s (blocking_left a0 a1 a2 s)
-  unfolding blocking_left
-  blocking_left_keeps n w order s = after E (after E (let_in_keeps (instance_of n s) order s) (returned_keeps (task_of n s) (register_of n 0 s) w (let_in (instance_of n s) order s))) (left_keeps n (returned (task_of n s) (register_of n 0 s) w (let_in (instance_of n s) order s)))
+  pub blocking_exits_keeps : (a0 : ℕ) (a1 : Option ℕ) (a2 : List ℕ) (s : Core) → R s (blocking_exits a0 a1 a2 s)
+  unfolding blocking_exits
+  blocking_exits_keeps n w order s = after E (after E (end_reopens_keeps (instance_of n s) order s) (returned_keeps (task_of n s) (register_of n 0 s) w (end_reopens (instance_of n s) order s))) (exit_stops_keeps n (returned (task_of n s) (register_of n 0 s) w (end_reopens (instance_of n s) order s)))
 
   pub blocking_exit_row_keeps : (a0 : ℕ) (a1 : Option ℕ) (s : Core) → Keeps R s (blocking_exit_row a0 a1 s)
-  blocking_exit_row_keeps n w s = let held = held_out (instance_of n s) s in trap_if_keeps E s (not (passes_after_return (instance_of n s) (task_of n s) held s)) trap.CannotBlockSyncTask (may (may_tell (task_of n s) w s) (Ordered held (λ order. Stops (exit_label n w) (blocking_left n w order s)))) (may_keeps E s (may_tell (task_of n s) w s) (Ordered held (λ order. Stops (exit_label n w) (blocking_left n w order s))) (λ order. blocking_left_keeps n w order s))
+  blocking_exit_row_keeps n w s = let held = held_by_flag (instance_of n s) s in trap_if_keeps E s (not (passes_after_return (instance_of n s) (task_of n s) held s)) trap.CannotBlockSyncTask (may (may_tell (task_of n s) w s) (Ordered held (λ order. Stops (exit_label n w) (blocking_exits n w order s)))) (may_keeps E s (may_tell (task_of n s) w s) (Ordered held (λ order. Stops (exit_label n w) (blocking_exits n w order s))) (λ order. blocking_exits_keeps n w order s))
 
-  pub direct_left_keeps : (a0 : ℕ) (a1 : ℕ) (a2 : ℕ) (s : Core) → R s (direct_left a0 a1 a2 s)
-  unfolding direct_left
-  direct_left_keeps n m v s = after E (after E (after E (set_end_keeps E (task_of n s) call_end.Returned s) (ended_keeps E n (set_end (task_of n s) call_end.Returned s))) (set_place_keeps E m place.Running (ended n (set_end (task_of n s) call_end.Returned s)))) (set_how_far_keeps E m (how_far.Answered v) (set_place m place.Running (ended n (set_end (task_of n s) call_end.Returned s))))
+  pub direct_exits_keeps : (a0 : ℕ) (a1 : ℕ) (a2 : ℕ) (s : Core) → R s (direct_exits a0 a1 a2 s)
+  unfolding direct_exits
+  direct_exits_keeps n m v s = after E (after E (after E (set_end_keeps E (task_of n s) call_end.Returned s) (ended_keeps E n (set_end (task_of n s) call_end.Returned s))) (set_place_keeps E m place.Running (ended n (set_end (task_of n s) call_end.Returned s)))) (set_how_far_keeps E m (how_far.Answered v) (set_place m place.Running (ended n (set_end (task_of n s) call_end.Returned s))))
 
   pub direct_exit_to_keeps : (a0 : ℕ) (a1 : ExportKind) (s : Core) (a3 : Option ℕ) → Keeps R s (direct_exit_to a0 a1 s a3)
   direct_exit_to_keeps n x s None = tt
-  direct_exit_to_keeps n kind.Sync s (Some m) = after E (restored_keeps n s) (direct_left_keeps n m (register_of n 0 s) (restored n s))
-  direct_exit_to_keeps n x s (Some m) = trap_if_keeps E s (not (passes_check (instance_of n s) s)) trap.CannotBlockSyncTask (Goes (exit_label n None) (direct_left n m (register_of n 0 s) (checked (instance_of n s) s)) m) (after E (checked_keeps E (instance_of n s) s) (direct_left_keeps n m (register_of n 0 s) (checked (instance_of n s) s)))
+  direct_exit_to_keeps n kind.Sync s (Some m) = after E (exit_restores_keeps n s) (direct_exits_keeps n m (register_of n 0 s) (exit_restores n s))
+  direct_exit_to_keeps n x s (Some m) = trap_if_keeps E s (not (passes_check (instance_of n s) s)) trap.CannotBlockSyncTask (Goes (exit_label n None) (direct_exits n m (register_of n 0 s) (checked (instance_of n s) s)) m) (after E (checked_keeps E (instance_of n s) s) (direct_exits_keeps n m (register_of n 0 s) (checked (instance_of n s) s)))
 
   pub direct_exit_row_keeps : (a0 : ℕ) (s : Core) → Keeps R s (direct_exit_row a0 s)
   direct_exit_row_keeps n s = direct_exit_to_keeps n (kind_of (task_of n s) s) s (under_of n s)
 
-  pub deactivated_keeps : (a0 : ℕ) (a1 : List ℕ) (s : Core) → R s (deactivated a0 a1 s)
-  unfolding deactivated
-  deactivated_keeps n order s = after E (let_in_keeps (instance_of n s) order s) (stopped_keeps E (foot_of n s) (let_in (instance_of n s) order s))
+  pub code_stops_keeps : (a0 : ℕ) (a1 : List ℕ) (s : Core) → R s (code_stops a0 a1 s)
+  unfolding code_stops
+  code_stops_keeps n order s = after E (end_reopens_keeps (instance_of n s) order s) (stopped_keeps E (foot_of n s) (end_reopens (instance_of n s) order s))
 
-  pub finished_keeps : (a0 : ℕ) (a1 : List ℕ) (s : Core) → R s (finished a0 a1 s)
-  unfolding finished
-  finished_keeps n order s = after E (after E (deactivated_keeps n order s) (checked_keeps E (instance_of n s) (deactivated n order s))) (ended_keeps E n (checked (instance_of n s) (deactivated n order s)))
+  pub code_exits_keeps : (a0 : ℕ) (a1 : List ℕ) (s : Core) → R s (code_exits a0 a1 s)
+  unfolding code_exits
+  code_exits_keeps n order s = after E (after E (code_stops_keeps n order s) (checked_keeps E (instance_of n s) (code_stops n order s))) (ended_keeps E n (checked (instance_of n s) (code_stops n order s)))
 
-  pub yielded_keeps : (a0 : ℕ) (a1 : List ℕ) (s : Core) → R s (yielded a0 a1 s)
-  unfolding yielded
-  yielded_keeps n order s = let k = task_of n s in after E (after E (deactivated_keeps n order s) (set_own_event_keeps E k (own_or_none (own_event_of k s)) (deactivated n order s))) (put_low_keeps E n (why.Delivery delivery.Yield) (set_own_event k (own_or_none (own_event_of k s)) (deactivated n order s)))
+  pub code_yields_keeps : (a0 : ℕ) (a1 : List ℕ) (s : Core) → R s (code_yields a0 a1 s)
+  unfolding code_yields
+  code_yields_keeps n order s = let k = task_of n s in after E (after E (code_stops_keeps n order s) (set_own_event_keeps E k (own_or_none (own_event_of k s)) (code_stops n order s))) (put_low_keeps E n (why.Delivery delivery.Yield) (set_own_event k (own_or_none (own_event_of k s)) (code_stops n order s)))
 
-  pub found_keeps : (a0 : ℕ) (a1 : ℕ) (a2 : List ℕ) (s : Core) → R s (found a0 a1 a2 s)
-  unfolding found
-  found_keeps n x order s = after E (deactivated_keeps n order s) (put_high_keeps E n (why.Delivery (delivery.Set x)) (deactivated n order s))
+  pub code_finds_keeps : (a0 : ℕ) (a1 : ℕ) (a2 : List ℕ) (s : Core) → R s (code_finds a0 a1 a2 s)
+  unfolding code_finds
+  code_finds_keeps n x order s = after E (code_stops_keeps n order s) (put_high_keeps E n (why.Delivery (delivery.Set x)) (code_stops n order s))
 
-  pub awaited_keeps : (a0 : ℕ) (a1 : ℕ) (a2 : List ℕ) (s : Core) → R s (awaited a0 a1 a2 s)
-  unfolding awaited
-  awaited_keeps n x order s = after E (deactivated_keeps n order s) (set_place_keeps E n (place.Waiting x true) (deactivated n order s))
+  pub code_waits_keeps : (a0 : ℕ) (a1 : ℕ) (a2 : List ℕ) (s : Core) → R s (code_waits a0 a1 a2 s)
+  unfolding code_waits
+  code_waits_keeps n x order s = after E (code_stops_keeps n order s) (set_place_keeps E n (place.Waiting x true) (code_stops n order s))
 
-  pub wait_end_keeps : (a0 : Label) (a1 : ℕ) (a2 : ℕ) (a3 : List ℕ) (s : Core) (a5 : Bool) → Keeps R s (wait_end a0 a1 a2 a3 s a5)
-  wait_end_keeps l n x held s true = λ order. found_keeps n x order s
-  wait_end_keeps l n x held s false = λ order. awaited_keeps n x order s
+  pub code_wait_row_keeps : (a0 : Label) (a1 : ℕ) (a2 : ℕ) (a3 : List ℕ) (s : Core) (a5 : Bool) → Keeps R s (code_wait_row a0 a1 a2 a3 s a5)
+  code_wait_row_keeps l n x held s true = λ order. code_finds_keeps n x order s
+  code_wait_row_keeps l n x held s false = λ order. code_waits_keeps n x order s
 
-  pub kind_end_keeps : (a0 : Label) (a1 : ℕ) (a2 : List ℕ) (s : Core) (a4 : ℕ) (a5 : ℕ) → Keeps R s (kind_end a0 a1 a2 s a4 a5)
-  kind_end_keeps l n held s zero rest = trap_if_keeps E s (not (passes_after_stop (instance_of n s) (foot_of n s) held s)) trap.CannotBlockSyncTask (trap_if (leaves_no_result n s) trap.NoAsyncResult (Ordered held (λ order. Stops l (finished n order s)))) (trap_if_keeps E s (leaves_no_result n s) trap.NoAsyncResult (Ordered held (λ order. Stops l (finished n order s))) (λ order. finished_keeps n order s))
-  kind_end_keeps l n held s (suc zero) rest = λ order. yielded_keeps n order s
-  kind_end_keeps l n held s (suc (suc zero)) rest = or_trap_keeps E s (set_at (instance_of n s) rest s) trap.BadHandle (λ x. wait_end l n x held s (has_event_for (task_of n s) x s)) (λ x. wait_end_keeps l n x held s (has_event_for (task_of n s) x s))
-  kind_end_keeps l n held s u1 rest = tt
+  pub code_kind_row_keeps : (a0 : Label) (a1 : ℕ) (a2 : List ℕ) (s : Core) (a4 : ℕ) (a5 : ℕ) → Keeps R s (code_kind_row a0 a1 a2 s a4 a5)
+  code_kind_row_keeps l n held s zero rest = trap_if_keeps E s (not (passes_after_stop (instance_of n s) (foot_of n s) held s)) trap.CannotBlockSyncTask (trap_if (leaves_no_result n s) trap.NoAsyncResult (Ordered held (λ order. Stops l (code_exits n order s)))) (trap_if_keeps E s (leaves_no_result n s) trap.NoAsyncResult (Ordered held (λ order. Stops l (code_exits n order s))) (λ order. code_exits_keeps n order s))
+  code_kind_row_keeps l n held s (suc zero) rest = λ order. code_yields_keeps n order s
+  code_kind_row_keeps l n held s (suc (suc zero)) rest = or_trap_keeps E s (set_at (instance_of n s) rest s) trap.BadHandle (λ x. code_wait_row l n x held s (has_event_for (task_of n s) x s)) (λ x. code_wait_row_keeps l n x held s (has_event_for (task_of n s) x s))
+  code_kind_row_keeps l n held s u1 rest = tt
 
   pub code_row_keeps : (a0 : Label) (a1 : ℕ) (s : Core) (a3 : ℕ) → Keeps R s (code_row a0 a1 s a3)
-  code_row_keeps l n s code = trap_if_keeps E s (nat_lt 4294967295 code) trap.UnsupportedCallbackCode (kind_end l n (held_out (instance_of n s) s) s (code % 16) (code / 16)) (kind_end_keeps l n (held_out (instance_of n s) s) s (code % 16) (code / 16))
+  code_row_keeps l n s code = trap_if_keeps E s (nat_lt 4294967295 code) trap.UnsupportedCallbackCode (code_kind_row l n (held_by_flag (instance_of n s) s) s (code % 16) (code / 16)) (code_kind_row_keeps l n (held_by_flag (instance_of n s) s) s (code % 16) (code / 16))
 
   pub kind_exit_row_keeps : (a0 : ℕ) (a1 : Option ℕ) (s : Core) (a3 : ExportKind) → Keeps R s (kind_exit_row a0 a1 s a3)
   kind_exit_row_keeps n w s kind.Sync = sync_exit_row_keeps n w s
   kind_exit_row_keeps n w s kind.Blocking = blocking_exit_row_keeps n w s
-  kind_exit_row_keeps n w s kind.Stackful = leave_row_keeps n s
+  kind_exit_row_keeps n w s kind.Stackful = thread_exit_row_keeps n s
   kind_exit_row_keeps n w s kind.Callback = code_row_keeps (exit_label n None) n s 0
 
   pub implicit_exit_row_keeps : (a0 : ℕ) (a1 : Option ℕ) (s : Core) (a3 : Bool) → Keeps R s (implicit_exit_row a0 a1 s a3)
@@ -202,7 +202,7 @@ module _ {R : Core → Core → Type 0} (E : Elementary R) where
   implicit_exit_row_keeps n w s false = kind_exit_row_keeps n w s (kind_of (task_of n s) s)
 
   pub exit_row_for_keeps : (a0 : ℕ) (a1 : Option ℕ) (s : Core) (a3 : Bool) → Keeps R s (exit_row_for a0 a1 s a3)
-  exit_row_for_keeps n w s true = leave_row_keeps n s
+  exit_row_for_keeps n w s true = thread_exit_row_keeps n s
   exit_row_for_keeps n w s false = implicit_exit_row_keeps n w s (is_direct (goal_of (task_of n s) s))
 
   pub exit_row_keeps : (a0 : ℕ) (a1 : Option ℕ) (s : Core) → Keeps R s (exit_row a0 a1 s)
@@ -218,32 +218,32 @@ module _ {R : Core → Core → Type 0} (E : Elementary R) where
   pub ret_bad_row_keeps : (a0 : ℕ) (s : Core) → Keeps R s (ret_bad_row a0 s)
   ret_bad_row_keeps n s = trap_if_keeps E s (has_ended (task_of n s) s) trap.TaskCancelOrReturnTwice (Traps trap.TaskReturnInvalid) (tt)
 
-  pub cancel_done_keeps : (a0 : ℕ) (a1 : Option ℕ) (s : Core) → R s (cancel_done a0 a1 s)
-  unfolding cancel_done
-  cancel_done_keeps n w s = after E (cancelled_keeps (task_of n s) w s) (advanced_keeps n (cancelled (task_of n s) w s))
+  pub task_cancel_done_keeps : (a0 : ℕ) (a1 : Option ℕ) (s : Core) → R s (task_cancel_done a0 a1 s)
+  unfolding task_cancel_done
+  task_cancel_done_keeps n w s = after E (cancelled_keeps (task_of n s) w s) (advanced_keeps n (cancelled (task_of n s) w s))
 
   pub task_cancel_row_keeps : (a0 : ℕ) (a1 : Option ℕ) (s : Core) → Keeps R s (task_cancel_row a0 a1 s)
-  task_cancel_row_keeps n w s = trap_if_keeps E s (not (cancel_was_delivered (task_of n s) s)) trap.TaskCancelNotCancelled (trap_if (has_ended (task_of n s) s) trap.TaskCancelOrReturnTwice (may (may_tell (task_of n s) w s) (Goes (task_cancel_label n w) (cancel_done n w s) n))) (trap_if_keeps E s (has_ended (task_of n s) s) trap.TaskCancelOrReturnTwice (may (may_tell (task_of n s) w s) (Goes (task_cancel_label n w) (cancel_done n w s) n)) (may_keeps E s (may_tell (task_of n s) w s) (Goes (task_cancel_label n w) (cancel_done n w s) n) (cancel_done_keeps n w s)))
+  task_cancel_row_keeps n w s = trap_if_keeps E s (not (cancel_was_delivered (task_of n s) s)) trap.TaskCancelNotCancelled (trap_if (has_ended (task_of n s) s) trap.TaskCancelOrReturnTwice (may (may_tell (task_of n s) w s) (Goes (task_cancel_label n w) (task_cancel_done n w s) n))) (trap_if_keeps E s (has_ended (task_of n s) s) trap.TaskCancelOrReturnTwice (may (may_tell (task_of n s) w s) (Goes (task_cancel_label n w) (task_cancel_done n w s) n)) (may_keeps E s (may_tell (task_of n s) w s) (Goes (task_cancel_label n w) (task_cancel_done n w s) n) (task_cancel_done_keeps n w s)))
 
-  pub raised_keeps : (a0 : ℕ) (s : Core) → R s (raised a0 s)
-  unfolding raised
-  raised_keeps n s = let i = instance_of n s in after E (set_backpressure_keeps E i (backpressure_of i s + 1) s) (advanced_keeps n (set_backpressure i (backpressure_of i s + 1) s))
+  pub inc_raises_keeps : (a0 : ℕ) (s : Core) → R s (inc_raises a0 s)
+  unfolding inc_raises
+  inc_raises_keeps n s = let i = instance_of n s in after E (set_backpressure_keeps E i (backpressure_of i s + 1) s) (advanced_keeps n (set_backpressure i (backpressure_of i s + 1) s))
 
   pub inc_row_keeps : (a0 : ℕ) (s : Core) → Keeps R s (inc_row a0 s)
-  inc_row_keeps n s = trap_if_keeps E s (nat_le 65535 (backpressure_of (instance_of n s) s)) trap.BackpressureOverflow (Goes (label.Task (task_label.BpInc n)) (raised n s) n) (raised_keeps n s)
+  inc_row_keeps n s = trap_if_keeps E s (nat_le 65535 (backpressure_of (instance_of n s) s)) trap.BackpressureOverflow (Goes (label.Task (task_label.BpInc n)) (inc_raises n s) n) (inc_raises_keeps n s)
 
-  pub lowered_keeps : (a0 : ℕ) (s : Core) → R s (lowered a0 s)
-  unfolding lowered
-  lowered_keeps n s = let i = instance_of n s in after E (set_backpressure_keeps E i (backpressure_of i s - 1) s) (advanced_keeps n (set_backpressure i (backpressure_of i s - 1) s))
+  pub dec_lowers_keeps : (a0 : ℕ) (s : Core) → R s (dec_lowers a0 s)
+  unfolding dec_lowers
+  dec_lowers_keeps n s = let i = instance_of n s in after E (set_backpressure_keeps E i (backpressure_of i s - 1) s) (advanced_keeps n (set_backpressure i (backpressure_of i s - 1) s))
 
-  pub opened_keeps : (a0 : ℕ) (a1 : List ℕ) (s : Core) → R s (opened a0 a1 s)
-  unfolding opened
-  opened_keeps n order s = after E (after E (set_backpressure_keeps E (instance_of n s) 0 s) (released_keeps E order (set_backpressure (instance_of n s) 0 s))) (advanced_keeps n (released order (set_backpressure (instance_of n s) 0 s)))
+  pub dec_opens_keeps : (a0 : ℕ) (a1 : List ℕ) (s : Core) → R s (dec_opens a0 a1 s)
+  unfolding dec_opens
+  dec_opens_keeps n order s = after E (after E (set_backpressure_keeps E (instance_of n s) 0 s) (released_keeps E order (set_backpressure (instance_of n s) 0 s))) (advanced_keeps n (released order (set_backpressure (instance_of n s) 0 s)))
 
   pub dec_from_keeps : (a0 : ℕ) (s : Core) (a2 : ℕ) → Keeps R s (dec_from a0 s a2)
   dec_from_keeps n s zero = tt
-  dec_from_keeps n s (suc zero) = λ order. opened_keeps n order s
-  dec_from_keeps n s (suc (suc b)) = lowered_keeps n s
+  dec_from_keeps n s (suc zero) = λ order. dec_opens_keeps n order s
+  dec_from_keeps n s (suc (suc b)) = dec_lowers_keeps n s
 
   pub dec_row_keeps : (a0 : ℕ) (s : Core) → Keeps R s (dec_row a0 s)
   dec_row_keeps n s = dec_from_keeps n s (backpressure_of (instance_of n s) s)
@@ -284,19 +284,19 @@ module _ {R : Core → Core → Type 0} (E : Elementary R) where
   unfolding received
   received_keeps n r g v s = after E (after E (taken_keeps E g (task_of n s) s) (set_given_keeps n r v (taken g (task_of n s) s))) (advanced_keeps n (set_given n r v (taken g (task_of n s) s)))
 
-  pub waiting_keeps : (a0 : ℕ) (a1 : ℕ) (s : Core) → R s (waiting a0 a1 s)
-  unfolding waiting
-  waiting_keeps n x s = after E (stopped_at_keeps E n (place.Waiting x false) s) (set_how_far_keeps E n (how_far.Waits x) (stopped_at n (place.Waiting x false) s))
+  pub wait_stops_keeps : (a0 : ℕ) (a1 : ℕ) (s : Core) → R s (wait_stops a0 a1 s)
+  unfolding wait_stops
+  wait_stops_keeps n x s = after E (stopped_at_keeps E n (place.Waiting x false) s) (set_how_far_keeps E n (how_far.Waits x) (stopped_at n (place.Waiting x false) s))
 
-  pub begun_waiting_keeps : (a0 : ℕ) (a1 : ℕ) (s : Core) → R s (begun_waiting a0 a1 s)
-  unfolding begun_waiting
-  begun_waiting_keeps n x s = after E (checked_keeps E (instance_of n s) s) (waiting_keeps n x (checked (instance_of n s) s))
+  pub wait_stops_checked_keeps : (a0 : ℕ) (a1 : ℕ) (s : Core) → R s (wait_stops_checked a0 a1 s)
+  unfolding wait_stops_checked
+  wait_stops_checked_keeps n x s = after E (checked_keeps E (instance_of n s) s) (wait_stops_keeps n x (checked (instance_of n s) s))
 
   pub wait_takes_keeps : (a0 : ℕ) (a1 : ℕ) (a2 : Choice) (s : Core) (a4 : Gift) → Keeps R s (wait_takes a0 a1 a2 s a4)
   wait_takes_keeps n r ch s g = let v = handed_out ch s g in received_keeps n r g v s
 
   pub wait_begins_keeps : (a0 : ℕ) (a1 : ℕ) (a2 : Choice) (s : Core) (a4 : ℕ) (a5 : Bool) → Keeps R s (wait_begins a0 a1 a2 s a4 a5)
-  wait_begins_keeps n r ch s x true = trap_if_keeps E s (not (passes_check (instance_of n s) s)) trap.CannotBlockSyncTask (Stops (label.Thread (thread_label.Pauses n)) (begun_waiting n x s)) (begun_waiting_keeps n x s)
+  wait_begins_keeps n r ch s x true = trap_if_keeps E s (not (passes_check (instance_of n s) s)) trap.CannotBlockSyncTask (Stops (label.Thread (thread_label.Pauses n)) (wait_stops_checked n x s)) (wait_stops_checked_keeps n x s)
   wait_begins_keeps n r ch s x false = or_never_keeps E s (gift false (task_of n s) x (chosen n ch s) s) (wait_takes n r ch s) (λ got. wait_takes_keeps n r ch s got)
 
   pub received_woken_keeps : (a0 : ℕ) (a1 : ℕ) (a2 : ℕ) (a3 : Option ℕ) (a4 : Gift) (a5 : Given) (s : Core) → R s (received_woken a0 a1 a2 a3 a4 a5 s)
@@ -304,7 +304,7 @@ module _ {R : Core → Core → Type 0} (E : Elementary R) where
   received_woken_keeps n x r w g v s = after E (handed_on_keeps E x g w s) (received_keeps n r g v (handed_on x g w s))
 
   pub wait_goes_on_keeps : (a0 : ℕ) (a1 : ℕ) (a2 : ℕ) (a3 : Choice) (s : Core) (a5 : Gift) → Keeps R s (wait_goes_on a0 a1 a2 a3 s a5)
-  wait_goes_on_keeps n x r ch s NoGift = waiting_keeps n x s
+  wait_goes_on_keeps n x r ch s NoGift = wait_stops_keeps n x s
   wait_goes_on_keeps n x r ch s g = let v = handed_out ch s g in may_keeps E s (may_hand_on x g ch.woken s) (Goes (wait_label n v ch.woken) (received_woken n x r ch.woken g v s) n) (received_woken_keeps n x r ch.woken g v s)
 
   pub wait_row_keeps : (a0 : ℕ) (a1 : ℕ) (a2 : ℕ) (a3 : Choice) (s : Core) (a5 : HowFar) → Keeps R s (wait_row a0 a1 a2 a3 s a5)
@@ -342,24 +342,24 @@ module _ {R : Core → Core → Type 0} (E : Elementary R) where
   set_row_keeps n s ch (set_op.Poll r x) = poll_row_keeps n r (value_of n s x) ch s
   set_row_keeps n s ch (set_op.Join x y) = join_row_keeps n (value_of n s x) (value_of n s y) ch.woken s
 
-  pub suspending_keeps : (a0 : ℕ) (a1 : ℕ) (a2 : ExportKind) (s : Core) → R s (suspending a0 a1 a2 s)
-  suspending_keeps n j kind.Sync s = same E s
-  suspending_keeps n j x s = after E (set_saved_callee_keeps E n (Some (may_not_suspend j s)) s) (set_do_not_suspend_keeps E j false (set_saved_callee n (Some (may_not_suspend j s)) s))
+  pub call_clears_flag_keeps : (a0 : ℕ) (a1 : ℕ) (a2 : ExportKind) (s : Core) → R s (call_clears_flag a0 a1 a2 s)
+  call_clears_flag_keeps n j kind.Sync s = same E s
+  call_clears_flag_keeps n j x s = after E (set_saved_callee_keeps E n (Some (may_not_suspend j s)) s) (set_do_not_suspend_keeps E j false (set_saved_callee n (Some (may_not_suspend j s)) s))
 
-  pub called_keeps : (a0 : ℕ) (a1 : Callee) (a2 : ExportKind) (a3 : Goal) (a4 : List ℕ) (s : Core) → R s (called a0 a1 a2 a3 a4 s)
-  unfolding called
-  called_keeps n e x g words s = let m = next_thread s in after E (after E (after E (after E (call_made_keeps E (caller.Thread n) e x g (thread_group n s) words s) (put_switch_keeps E m why.Start (call_made (caller.Thread n) e x g (thread_group n s) words s))) (suspending_keeps n e.instance x (put_switch m why.Start (call_made (caller.Thread n) e x g (thread_group n s) words s)))) (behind_keeps E m (n ∷ []) (suspending n e.instance x (put_switch m why.Start (call_made (caller.Thread n) e x g (thread_group n s) words s))))) (set_how_far_keeps E n (how_far.Calls (subtask.Guest m)) (behind m (n ∷ []) (suspending n e.instance x (put_switch m why.Start (call_made (caller.Thread n) e x g (thread_group n s) words s)))))
+  pub call_queues_keeps : (a0 : ℕ) (a1 : Callee) (a2 : ExportKind) (a3 : Goal) (a4 : List ℕ) (s : Core) → R s (call_queues a0 a1 a2 a3 a4 s)
+  unfolding call_queues
+  call_queues_keeps n e x g words s = let m = next_thread s in after E (after E (after E (after E (call_made_keeps E (caller.Thread n) e x g (thread_group n s) words s) (put_switch_keeps E m why.Start (call_made (caller.Thread n) e x g (thread_group n s) words s))) (call_clears_flag_keeps n e.instance x (put_switch m why.Start (call_made (caller.Thread n) e x g (thread_group n s) words s)))) (behind_keeps E m (n ∷ []) (call_clears_flag n e.instance x (put_switch m why.Start (call_made (caller.Thread n) e x g (thread_group n s) words s))))) (set_how_far_keeps E n (how_far.Calls (subtask.Guest m)) (behind m (n ∷ []) (call_clears_flag n e.instance x (put_switch m why.Start (call_made (caller.Thread n) e x g (thread_group n s) words s)))))
 
   pub call_begins_keeps : (a0 : Component) (a1 : ℕ) (a2 : Callee) (a3 : Goal) (a4 : List ℕ) (s : Core) → Keeps R s (call_begins a0 a1 a2 a3 a4 s)
-  call_begins_keeps c n e g words s = trap_if_keeps E s (not (fits 3 s)) trap.TableFull (Stops (label.Call (call_label.Calls n (next_thread s))) (called n e (export_kind c e) g words s)) (called_keeps n e (export_kind c e) g words s)
+  call_begins_keeps c n e g words s = trap_if_keeps E s (not (fits 3 s)) trap.TableFull (Stops (label.Call (call_label.Calls n (next_thread s))) (call_queues n e (export_kind c e) g words s)) (call_queues_keeps n e (export_kind c e) g words s)
 
   pub put_back_keeps : (a0 : Option Bool) (a1 : ℕ) (s : Core) → R s (put_back a0 a1 s)
   put_back_keeps None j s = same E s
   put_back_keeps (Some b) j s = set_do_not_suspend_keeps E j b s
 
-  pub called_back_keeps : (a0 : ℕ) (a1 : ℕ) (s : Core) → R s (called_back a0 a1 s)
-  unfolding called_back
-  called_back_keeps n k s = after E (put_back_keeps (saved_callee_of n s) (call_instance k s) s) (set_event_keeps E (subtask.Guest k) None (put_back (saved_callee_of n s) (call_instance k s) s))
+  pub call_resumes_keeps : (a0 : ℕ) (a1 : ℕ) (s : Core) → R s (call_resumes a0 a1 s)
+  unfolding call_resumes
+  call_resumes_keeps n k s = after E (put_back_keeps (saved_callee_of n s) (call_instance k s) s) (set_event_keeps E (subtask.Guest k) None (put_back (saved_callee_of n s) (call_instance k s) s))
 
   pub answered_keeps : (a0 : ℕ) (a1 : ℕ) (a2 : ℕ) (s : Core) → R s (answered a0 a1 a2 s)
   unfolding answered
@@ -367,7 +367,7 @@ module _ {R : Core → Core → Type 0} (E : Elementary R) where
 
   pub call_returned_keeps : (a0 : ℕ) (a1 : ℕ) (a2 : ℕ) (s : Core) → R s (call_returned a0 a1 a2 s)
   unfolding call_returned
-  call_returned_keeps n r k s = after E (after E (called_back_keeps n k s) (call_settled_keeps E k (called_back n k s))) (answered_keeps n r 2 (call_settled k (called_back n k s)))
+  call_returned_keeps n r k s = after E (after E (call_resumes_keeps n k s) (call_settled_keeps E k (call_resumes n k s))) (answered_keeps n r 2 (call_settled k (call_resumes n k s)))
 
   pub with_handle_keeps : (a0 : ℕ) (a1 : Subtask) (s : Core) → R s (with_handle a0 a1 s)
   unfolding with_handle
@@ -375,7 +375,7 @@ module _ {R : Core → Core → Type 0} (E : Elementary R) where
 
   pub call_pending_keeps : (a0 : ℕ) (a1 : ℕ) (a2 : ℕ) (a3 : ℕ) (s : Core) → R s (call_pending a0 a1 a2 a3 s)
   unfolding call_pending
-  call_pending_keeps n r k v s = after E (after E (called_back_keeps n k s) (with_handle_keeps (instance_of n s) (subtask.Guest k) (called_back n k s))) (answered_keeps n r v (with_handle (instance_of n s) (subtask.Guest k) (called_back n k s)))
+  call_pending_keeps n r k v s = after E (after E (call_resumes_keeps n k s) (with_handle_keeps (instance_of n s) (subtask.Guest k) (call_resumes n k s))) (answered_keeps n r v (with_handle (instance_of n s) (subtask.Guest k) (call_resumes n k s)))
 
   pub call_status_keeps : (a0 : ℕ) (a1 : ℕ) (a2 : ℕ) (s : Core) (a4 : Status) → Keeps R s (call_status a0 a1 a2 s a4)
   call_status_keeps n r k s status.Returned = call_returned_keeps n r k s
@@ -387,34 +387,34 @@ module _ {R : Core → Core → Type 0} (E : Elementary R) where
 
   pub call_answered_keeps : (a0 : ℕ) (a1 : ℕ) (a2 : ℕ) (s : Core) → R s (call_answered a0 a1 a2 s)
   unfolding call_answered
-  call_answered_keeps n r k s = after E (after E (after E (called_back_keeps n k s) (set_result_keeps E k None (called_back n k s))) (call_settled_keeps E k (set_result k None (called_back n k s)))) (answered_keeps n r (result_of k s) (call_settled k (set_result k None (called_back n k s))))
+  call_answered_keeps n r k s = after E (after E (after E (call_resumes_keeps n k s) (set_result_keeps E k None (call_resumes n k s))) (call_settled_keeps E k (set_result k None (call_resumes n k s)))) (answered_keeps n r (result_of k s) (call_settled k (set_result k None (call_resumes n k s))))
 
-  pub blocked_keeps : (a0 : ℕ) (a1 : Subtask) (s : Core) → R s (blocked a0 a1 s)
-  unfolding blocked
-  blocked_keeps n sub s = after E (stopped_at_keeps E n (place.Blocked sub) s) (set_how_far_keeps E n (how_far.Calls sub) (stopped_at n (place.Blocked sub) s))
+  pub call_stops_keeps : (a0 : ℕ) (a1 : Subtask) (s : Core) → R s (call_stops a0 a1 s)
+  unfolding call_stops
+  call_stops_keeps n sub s = after E (stopped_at_keeps E n (place.Blocked sub) s) (set_how_far_keeps E n (how_far.Calls sub) (stopped_at n (place.Blocked sub) s))
 
-  pub call_blocked_keeps : (a0 : ℕ) (a1 : ℕ) (s : Core) → R s (call_blocked a0 a1 s)
-  unfolding call_blocked
-  call_blocked_keeps n k s = after E (after E (called_back_keeps n k s) (checked_keeps E (instance_of n s) (called_back n k s))) (blocked_keeps n (subtask.Guest k) (checked (instance_of n s) (called_back n k s)))
+  pub call_sync_stops_keeps : (a0 : ℕ) (a1 : ℕ) (s : Core) → R s (call_sync_stops a0 a1 s)
+  unfolding call_sync_stops
+  call_sync_stops_keeps n k s = after E (after E (call_resumes_keeps n k s) (checked_keeps E (instance_of n s) (call_resumes n k s))) (call_stops_keeps n (subtask.Guest k) (checked (instance_of n s) (call_resumes n k s)))
 
   pub call_sync_status_keeps : (a0 : ℕ) (a1 : ℕ) (a2 : ℕ) (s : Core) (a4 : Status) → Keeps R s (call_sync_status a0 a1 a2 s a4)
   call_sync_status_keeps n r k s status.Returned = call_answered_keeps n r k s
-  call_sync_status_keeps n r k s e = trap_if_keeps E s (not (passes_check (instance_of n s) (called_back n k s))) trap.CannotBlockSyncTask (Stops (label.Thread (thread_label.Pauses n)) (call_blocked n k s)) (call_blocked_keeps n k s)
+  call_sync_status_keeps n r k s e = trap_if_keeps E s (not (passes_check (instance_of n s) (call_resumes n k s))) trap.CannotBlockSyncTask (Stops (label.Thread (thread_label.Pauses n)) (call_sync_stops n k s)) (call_sync_stops_keeps n k s)
 
-  pub forbidding_keeps : (a0 : ℕ) (a1 : ℕ) (a2 : ExportKind) (s : Core) → R s (forbidding a0 a1 a2 s)
-  forbidding_keeps m j kind.Sync s = after E (set_saved_own_keeps E m (Some (may_not_suspend j s)) s) (set_do_not_suspend_keeps E j true (set_saved_own m (Some (may_not_suspend j s)) s))
-  forbidding_keeps m j x s = same E s
+  pub sync_sets_flag_keeps : (a0 : ℕ) (a1 : ℕ) (a2 : ExportKind) (s : Core) → R s (sync_sets_flag a0 a1 a2 s)
+  sync_sets_flag_keeps m j kind.Sync s = after E (set_saved_own_keeps E m (Some (may_not_suspend j s)) s) (set_do_not_suspend_keeps E j true (set_saved_own m (Some (may_not_suspend j s)) s))
+  sync_sets_flag_keeps m j x s = same E s
 
   pub with_thread_handle_keeps : (a0 : ℕ) (a1 : ℕ) (s : Core) → R s (with_thread_handle a0 a1 s)
   unfolding with_thread_handle
   with_thread_handle_keeps i m s = after E (give_thread_handle_keeps E i m s) (set_thread_handle_keeps E m (Some (new_thread_handle i s)) (give_thread_handle i m s))
 
-  pub entered_keeps : (a0 : ℕ) (a1 : Callee) (a2 : ExportKind) (a3 : List ℕ) (s : Core) → R s (entered a0 a1 a2 a3 s)
-  unfolding entered
-  entered_keeps n e x words s = let m = next_thread s in after E (after E (after E (after E (after E (after E (call_made_keeps E (caller.Thread n) e x goal.Direct (thread_group n s) words s) (with_thread_handle_keeps e.instance m (call_made (caller.Thread n) e x goal.Direct (thread_group n s) words s))) (set_started_keeps E m (with_thread_handle e.instance m (call_made (caller.Thread n) e x goal.Direct (thread_group n s) words s)))) (forbidding_keeps m e.instance x (set_started m (with_thread_handle e.instance m (call_made (caller.Thread n) e x goal.Direct (thread_group n s) words s))))) (set_place_keeps E m place.Running (forbidding m e.instance x (set_started m (with_thread_handle e.instance m (call_made (caller.Thread n) e x goal.Direct (thread_group n s) words s)))))) (set_place_keeps E n (place.Under m) (set_place m place.Running (forbidding m e.instance x (set_started m (with_thread_handle e.instance m (call_made (caller.Thread n) e x goal.Direct (thread_group n s) words s))))))) (set_how_far_keeps E n (how_far.Calls (subtask.Guest m)) (set_place n (place.Under m) (set_place m place.Running (forbidding m e.instance x (set_started m (with_thread_handle e.instance m (call_made (caller.Thread n) e x goal.Direct (thread_group n s) words s)))))))
+  pub enter_runs_keeps : (a0 : ℕ) (a1 : Callee) (a2 : ExportKind) (a3 : List ℕ) (s : Core) → R s (enter_runs a0 a1 a2 a3 s)
+  unfolding enter_runs
+  enter_runs_keeps n e x words s = let m = next_thread s in after E (after E (after E (after E (after E (after E (call_made_keeps E (caller.Thread n) e x goal.Direct (thread_group n s) words s) (with_thread_handle_keeps e.instance m (call_made (caller.Thread n) e x goal.Direct (thread_group n s) words s))) (set_started_keeps E m (with_thread_handle e.instance m (call_made (caller.Thread n) e x goal.Direct (thread_group n s) words s)))) (sync_sets_flag_keeps m e.instance x (set_started m (with_thread_handle e.instance m (call_made (caller.Thread n) e x goal.Direct (thread_group n s) words s))))) (set_place_keeps E m place.Running (sync_sets_flag m e.instance x (set_started m (with_thread_handle e.instance m (call_made (caller.Thread n) e x goal.Direct (thread_group n s) words s)))))) (set_place_keeps E n (place.Under m) (set_place m place.Running (sync_sets_flag m e.instance x (set_started m (with_thread_handle e.instance m (call_made (caller.Thread n) e x goal.Direct (thread_group n s) words s))))))) (set_how_far_keeps E n (how_far.Calls (subtask.Guest m)) (set_place n (place.Under m) (set_place m place.Running (sync_sets_flag m e.instance x (set_started m (with_thread_handle e.instance m (call_made (caller.Thread n) e x goal.Direct (thread_group n s) words s)))))))
 
   pub enter_row_keeps : (a0 : ℕ) (a1 : Callee) (a2 : ExportKind) (a3 : List ℕ) (s : Core) → Keeps R s (enter_row a0 a1 a2 a3 s)
-  enter_row_keeps n e x words s = trap_if_keeps E s (not (fits 3 s)) trap.TableFull (trap_if (at_handle_limit s) trap.HandleLimit (Goes (label.Call (call_label.Enters n (next_thread s))) (entered n e x words s) (next_thread s))) (trap_if_keeps E s (at_handle_limit s) trap.HandleLimit (Goes (label.Call (call_label.Enters n (next_thread s))) (entered n e x words s) (next_thread s)) (entered_keeps n e x words s))
+  enter_row_keeps n e x words s = trap_if_keeps E s (not (fits 3 s)) trap.TableFull (trap_if (at_handle_limit s) trap.HandleLimit (Goes (label.Call (call_label.Enters n (next_thread s))) (enter_runs n e x words s) (next_thread s))) (trap_if_keeps E s (at_handle_limit s) trap.HandleLimit (Goes (label.Call (call_label.Enters n (next_thread s))) (enter_runs n e x words s) (next_thread s)) (enter_runs_keeps n e x words s))
 
   pub call_sync_begins_keeps : (a0 : Component) (a1 : ℕ) (a2 : Callee) (a3 : List ℕ) (s : Core) (a5 : Bool) → Keeps R s (call_sync_begins a0 a1 a2 a3 s a5)
   call_sync_begins_keeps c n e words s true = call_begins_keeps c n e goal.Answer words s
@@ -445,14 +445,14 @@ module _ {R : Core → Core → Type 0} (E : Elementary R) where
   unfolding host_answered
   host_answered_keeps n r v s = after E (count_work_keeps E s) (assigned_keeps n r v (count_work s))
 
-  pub host_blocked_keeps : (a0 : ℕ) (a1 : HostDef) (s : Core) → R s (host_blocked a0 a1 s)
-  unfolding host_blocked
-  host_blocked_keeps n host s = after E (after E (checked_keeps E (instance_of n s) s) (work_queued_keeps E (work_caller.Sync n) host (Some (thread_group n s)) (checked (instance_of n s) s))) (blocked_keeps n (subtask.Host (next_work s)) (work_queued (work_caller.Sync n) host (Some (thread_group n s)) (checked (instance_of n s) s)))
+  pub call_sync_host_stops_keeps : (a0 : ℕ) (a1 : HostDef) (s : Core) → R s (call_sync_host_stops a0 a1 s)
+  unfolding call_sync_host_stops
+  call_sync_host_stops_keeps n host s = after E (after E (checked_keeps E (instance_of n s) s) (work_queued_keeps E (work_caller.Sync n) host (Some (thread_group n s)) (checked (instance_of n s) s))) (call_stops_keeps n (subtask.Host (next_work s)) (work_queued (work_caller.Sync n) host (Some (thread_group n s)) (checked (instance_of n s) s)))
 
   pub call_sync_host_polled_keeps : (a0 : ℕ) (a1 : ℕ) (s : Core) (a3 : FirstPoll) → Keeps R s (call_sync_host_polled a0 a1 s a3)
   call_sync_host_polled_keeps n r s (AtOnce v) = host_answered_keeps n r v s
   call_sync_host_polled_keeps n r s Failing = tt
-  call_sync_host_polled_keeps n r s (Later host) = trap_if_keeps E s (not (fits 1 s)) trap.TableFull (trap_if (not (passes_check (instance_of n s) s)) trap.CannotBlockSyncTask (Stops (label.Call (call_label.PausesPolls n (next_work s))) (host_blocked n host s))) (trap_if_keeps E s (not (passes_check (instance_of n s) s)) trap.CannotBlockSyncTask (Stops (label.Call (call_label.PausesPolls n (next_work s))) (host_blocked n host s)) (host_blocked_keeps n host s))
+  call_sync_host_polled_keeps n r s (Later host) = trap_if_keeps E s (not (fits 1 s)) trap.TableFull (trap_if (not (passes_check (instance_of n s) s)) trap.CannotBlockSyncTask (Stops (label.Call (call_label.PausesPolls n (next_work s))) (call_sync_host_stops n host s))) (trap_if_keeps E s (not (passes_check (instance_of n s) s)) trap.CannotBlockSyncTask (Stops (label.Call (call_label.PausesPolls n (next_work s))) (call_sync_host_stops n host s)) (call_sync_host_stops_keeps n host s))
 
   pub settle_group_of_keeps : (a0 : Option ℕ) (s : Core) → R s (settle_group_of a0 s)
   settle_group_of_keeps None s = same E s
@@ -470,75 +470,69 @@ module _ {R : Core → Core → Type 0} (E : Elementary R) where
   call_sync_host_row_keeps c n r h s (how_far.Calls (subtask.Host i)) = work_answered_keeps n r i s
   call_sync_host_row_keeps c n r h s u1 = call_sync_host_polled_keeps n r s (first_poll (host_at c h))
 
-  pub end_taken_keeps : (a0 : ℕ) (a1 : ℕ) (a2 : Subtask) (a3 : Status) (s : Core) → R s (end_taken a0 a1 a2 a3 s)
-  unfolding end_taken
-  end_taken_keeps n r sub e s = after E (set_event_keeps E sub None s) (answered_keeps n r (status_code e) (set_event sub None s))
+  pub cancel_takes_end_keeps : (a0 : ℕ) (a1 : ℕ) (a2 : Subtask) (a3 : Status) (s : Core) → R s (cancel_takes_end a0 a1 a2 a3 s)
+  unfolding cancel_takes_end
+  cancel_takes_end_keeps n r sub e s = after E (set_event_keeps E sub None s) (answered_keeps n r (status_code e) (set_event sub None s))
 
-  pub ended_row_keeps : (a0 : Mode) (a1 : ℕ) (a2 : ℕ) (a3 : Subtask) (s : Core) (a5 : Option Status) → Keeps R s (ended_row a0 a1 a2 a3 s a5)
-  ended_row_keeps mode n r sub s None = tt
-  ended_row_keeps mode n r sub s (Some e) = end_taken_keeps n r sub e s
+  pub cancel_ended_row_keeps : (a0 : Mode) (a1 : ℕ) (a2 : ℕ) (a3 : Subtask) (s : Core) (a5 : Option Status) → Keeps R s (cancel_ended_row a0 a1 a2 a3 s a5)
+  cancel_ended_row_keeps mode n r sub s None = tt
+  cancel_ended_row_keeps mode n r sub s (Some e) = cancel_takes_end_keeps n r sub e s
 
-  pub awaiting_keeps : (a0 : ℕ) (a1 : Subtask) (s : Core) → R s (awaiting a0 a1 s)
-  unfolding awaiting
-  awaiting_keeps n sub s = after E (after E (after E (after E (set_saved_callee_keeps E n None s) (set_join_keeps E sub (join.Watched n) (set_saved_callee n None s))) (checked_keeps E (instance_of n s) (set_join sub (join.Watched n) (set_saved_callee n None s)))) (stopped_at_keeps E n (place.Blocked sub) (checked (instance_of n s) (set_join sub (join.Watched n) (set_saved_callee n None s))))) (set_how_far_keeps E n (how_far.AwaitsEnd sub) (stopped_at n (place.Blocked sub) (checked (instance_of n s) (set_join sub (join.Watched n) (set_saved_callee n None s)))))
+  pub cancel_stops_keeps : (a0 : ℕ) (a1 : Subtask) (s : Core) → R s (cancel_stops a0 a1 s)
+  unfolding cancel_stops
+  cancel_stops_keeps n sub s = after E (after E (after E (after E (set_saved_callee_keeps E n None s) (set_join_keeps E sub (join.Watched n) (set_saved_callee n None s))) (checked_keeps E (instance_of n s) (set_join sub (join.Watched n) (set_saved_callee n None s)))) (stopped_at_keeps E n (place.Blocked sub) (checked (instance_of n s) (set_join sub (join.Watched n) (set_saved_callee n None s))))) (set_how_far_keeps E n (how_far.AwaitsEnd sub) (stopped_at n (place.Blocked sub) (checked (instance_of n s) (set_join sub (join.Watched n) (set_saved_callee n None s)))))
 
-  pub not_ended_row_keeps : (a0 : Mode) (a1 : ℕ) (a2 : ℕ) (a3 : Subtask) (s : Core) → Keeps R s (not_ended_row a0 a1 a2 a3 s)
-  not_ended_row_keeps Async n r sub s = answered_keeps n r blocked_code s
-  not_ended_row_keeps Sync n r sub s = trap_if_keeps E s (not (passes_check (instance_of n s) s)) trap.CannotBlockSyncTask (Stops (pauses n) (awaiting n sub s)) (awaiting_keeps n sub s)
+  pub cancel_unended_row_keeps : (a0 : Mode) (a1 : ℕ) (a2 : ℕ) (a3 : Subtask) (s : Core) → Keeps R s (cancel_unended_row a0 a1 a2 a3 s)
+  cancel_unended_row_keeps Async n r sub s = answered_keeps n r blocked_code s
+  cancel_unended_row_keeps Sync n r sub s = trap_if_keeps E s (not (passes_check (instance_of n s) s)) trap.CannotBlockSyncTask (Stops (pauses n) (cancel_stops n sub s)) (cancel_stops_keeps n sub s)
 
-  pub by_end_keeps : (a0 : Mode) (a1 : ℕ) (a2 : ℕ) (a3 : Subtask) (s : Core) (a5 : Bool) → Keeps R s (by_end a0 a1 a2 a3 s a5)
-  by_end_keeps mode n r sub s true = ended_row_keeps mode n r sub s (undelivered_end (event_of sub s))
-  by_end_keeps mode n r sub s false = not_ended_row_keeps mode n r sub s
+  pub cancel_by_end_keeps : (a0 : Mode) (a1 : ℕ) (a2 : ℕ) (a3 : Subtask) (s : Core) (a5 : Bool) → Keeps R s (cancel_by_end a0 a1 a2 a3 s a5)
+  cancel_by_end_keeps mode n r sub s true = cancel_ended_row_keeps mode n r sub s (undelivered_end (event_of sub s))
+  cancel_by_end_keeps mode n r sub s false = cancel_unended_row_keeps mode n r sub s
 
   pub after_cancel_keeps : (a0 : Mode) (a1 : ℕ) (a2 : ℕ) (a3 : Subtask) (s : Core) → Keeps R s (after_cancel a0 a1 a2 a3 s)
-  after_cancel_keeps mode n r sub s = by_end_keeps mode n r sub s (subtask_ended sub s)
+  after_cancel_keeps mode n r sub s = cancel_by_end_keeps mode n r sub s (subtask_ended sub s)
 
-  pub host_cancelled_keeps : (a0 : ℕ) (s : Core) → R s (host_cancelled a0 s)
-  unfolding host_cancelled
-  host_cancelled_keeps i s = after E (set_phase_keeps E i (aborted_phase (phase_of i s)) s) (set_cancelled_keeps E i (set_phase i (aborted_phase (phase_of i s)) s))
+  pub cancel_aborts_host_keeps : (a0 : ℕ) (s : Core) → R s (cancel_aborts_host a0 s)
+  unfolding cancel_aborts_host
+  cancel_aborts_host_keeps i s = after E (set_phase_keeps E i (aborted_phase (phase_of i s)) s) (set_cancelled_keeps E i (set_phase i (aborted_phase (phase_of i s)) s))
 
   pub cancel_host_keeps : (a0 : Mode) (a1 : ℕ) (a2 : ℕ) (a3 : ℕ) (s : Core) → Keeps R s (cancel_host a0 a1 a2 a3 s)
-  cancel_host_keeps mode n r i s = trap_if_keeps E s (was_cancelled i s) trap.SubtaskCancelAfterTerminal (after_cancel mode n r (subtask.Host i) (host_cancelled i s)) (later E (host_cancelled_keeps i s) (after_cancel mode n r (subtask.Host i) (host_cancelled i s)) (after_cancel_keeps mode n r (subtask.Host i) (host_cancelled i s)))
+  cancel_host_keeps mode n r i s = trap_if_keeps E s (was_cancelled i s) trap.SubtaskCancelAfterTerminal (after_cancel mode n r (subtask.Host i) (cancel_aborts_host i s)) (later E (cancel_aborts_host_keeps i s) (after_cancel mode n r (subtask.Host i) (cancel_aborts_host i s)) (after_cancel_keeps mode n r (subtask.Host i) (cancel_aborts_host i s)))
 
-  pub start_withdrawn_keeps : (a0 : ℕ) (a1 : ℕ) (a2 : ℕ) (s : Core) → R s (start_withdrawn a0 a1 a2 s)
-  unfolding start_withdrawn
-  start_withdrawn_keeps n r k s = after E (withdrawn_keeps E k s) (answered_keeps n r 3 (withdrawn k s))
+  pub cancel_withdraws_keeps : (a0 : ℕ) (a1 : ℕ) (a2 : ℕ) (s : Core) → R s (cancel_withdraws a0 a1 a2 s)
+  unfolding cancel_withdraws
+  cancel_withdraws_keeps n r k s = after E (withdrawn_keeps E k s) (answered_keeps n r 3 (withdrawn k s))
 
-  pub asked_keeps : (a0 : ℕ) (s : Core) → R s (asked a0 s)
-  unfolding asked
-  asked_keeps k s = set_own_event_keeps E k (Some own.Cancelled) s
+  pub cancel_asks_keeps : (a0 : ℕ) (s : Core) → R s (cancel_asks a0 s)
+  unfolding cancel_asks
+  cancel_asks_keeps k s = set_own_event_keeps E k (Some own.Cancelled) s
 
   pub behind_switch_keeps : (a0 : ℕ) (a1 : Option ℕ) (s : Core) → R s (behind_switch a0 a1 s)
   behind_switch_keeps n None s = same E s
   behind_switch_keeps n (Some m) s = behind_keeps E (foot_of m s) (n ∷ []) s
 
-  pub lets_go_on_keeps : (a0 : ℕ) (a1 : ℕ) (s : Core) → R s (lets_go_on a0 a1 s)
-  unfolding lets_go_on
-  lets_go_on_keeps n k s = let j = call_instance k s in after E (after E (after E (after E (set_saved_callee_keeps E n (Some (may_not_suspend j s)) s) (set_do_not_suspend_keeps E j false (set_saved_callee n (Some (may_not_suspend j s)) s))) (set_join_keeps E (subtask.Guest k) (join.Watched n) (set_do_not_suspend j false (set_saved_callee n (Some (may_not_suspend j s)) s)))) (behind_switch_keeps n s.queues.switch (set_join (subtask.Guest k) (join.Watched n) (set_do_not_suspend j false (set_saved_callee n (Some (may_not_suspend j s)) s))))) (set_how_far_keeps E n (how_far.Cancels (subtask.Guest k)) (behind_switch n s.queues.switch (set_join (subtask.Guest k) (join.Watched n) (set_do_not_suspend j false (set_saved_callee n (Some (may_not_suspend j s)) s)))))
+  pub cancel_goes_behind_keeps : (a0 : ℕ) (a1 : ℕ) (s : Core) → R s (cancel_goes_behind a0 a1 s)
+  unfolding cancel_goes_behind
+  cancel_goes_behind_keeps n k s = let j = call_instance k s in after E (after E (after E (after E (set_saved_callee_keeps E n (Some (may_not_suspend j s)) s) (set_do_not_suspend_keeps E j false (set_saved_callee n (Some (may_not_suspend j s)) s))) (set_join_keeps E (subtask.Guest k) (join.Watched n) (set_do_not_suspend j false (set_saved_callee n (Some (may_not_suspend j s)) s)))) (behind_switch_keeps n s.queues.switch (set_join (subtask.Guest k) (join.Watched n) (set_do_not_suspend j false (set_saved_callee n (Some (may_not_suspend j s)) s))))) (set_how_far_keeps E n (how_far.Cancels (subtask.Guest k)) (behind_switch n s.queues.switch (set_join (subtask.Guest k) (join.Watched n) (set_do_not_suspend j false (set_saved_callee n (Some (may_not_suspend j s)) s)))))
 
-  pub cancel_delivered_to_keeps : (a0 : ℕ) (a1 : ℕ) (s : Core) → R s (cancel_delivered_to a0 a1 s)
-  unfolding cancel_delivered_to
-  cancel_delivered_to_keeps n k s = after E (after E (asked_keeps k s) (put_switch_keeps E k (why.Delivery delivery.Cancel) (asked k s))) (lets_go_on_keeps n k (put_switch k (why.Delivery delivery.Cancel) (asked k s)))
+  pub cancel_wakes_callback_keeps : (a0 : ℕ) (a1 : ℕ) (s : Core) → R s (cancel_wakes_callback a0 a1 s)
+  unfolding cancel_wakes_callback
+  cancel_wakes_callback_keeps n k s = after E (after E (cancel_asks_keeps k s) (put_switch_keeps E k (why.Delivery delivery.Cancel) (cancel_asks k s))) (cancel_goes_behind_keeps n k (put_switch k (why.Delivery delivery.Cancel) (cancel_asks k s)))
 
-  pub yield_cancelled_keeps : (a0 : ℕ) (a1 : ℕ) (s : Core) → R s (yield_cancelled a0 a1 s)
-  unfolding yield_cancelled
-  yield_cancelled_keeps n k s = after E (after E (asked_keeps k s) (promoted_unless_keeps E k (asked k s))) (lets_go_on_keeps n k (promoted_unless k (asked k s)))
+  pub cancel_promotes_yield_keeps : (a0 : ℕ) (a1 : ℕ) (s : Core) → R s (cancel_promotes_yield a0 a1 s)
+  unfolding cancel_promotes_yield
+  cancel_promotes_yield_keeps n k s = after E (after E (cancel_asks_keeps k s) (promoted_unless_keeps E k (cancel_asks k s))) (cancel_goes_behind_keeps n k (promoted_unless k (cancel_asks k s)))
 
-  pub cancel_yield_keeps : (a0 : Mode) (a1 : ℕ) (a2 : ℕ) (a3 : ℕ) (s : Core) (a5 : Bool) → Keeps R s (cancel_yield a0 a1 a2 a3 s a5)
-  cancel_yield_keeps mode n r k s true = yield_cancelled_keeps n k s
-  cancel_yield_keeps mode n r k s false = later E (asked_keeps k s) (after_cancel mode n r (subtask.Guest k) (asked k s)) (after_cancel_keeps mode n r (subtask.Guest k) (asked k s))
-
-  pub cancel_running_keeps : (a0 : Mode) (a1 : ℕ) (a2 : ℕ) (a3 : ℕ) (s : Core) (a5 : Bool) (a6 : Bool) → Keeps R s (cancel_running a0 a1 a2 a3 s a5 a6)
-  cancel_running_keeps mode n r k s true yields = cancel_delivered_to_keeps n k s
-  cancel_running_keeps mode n r k s false yields = cancel_yield_keeps mode n r k s yields
-
-  pub cancel_guest_keeps : (a0 : Mode) (a1 : ℕ) (a2 : ℕ) (a3 : ℕ) (s : Core) (a5 : Bool) (a6 : Bool) → Keeps R s (cancel_guest a0 a1 a2 a3 s a5 a6)
-  cancel_guest_keeps mode n r k s true started = ended_row_keeps mode n r (subtask.Guest k) s (undelivered_end (event_of (subtask.Guest k) s))
-  cancel_guest_keeps mode n r k s false true = cancel_running_keeps mode n r k s (is_at k s is_callback_wait) (is_at k s is_callback_yield)
-  cancel_guest_keeps mode n r k s false false = start_withdrawn_keeps n r k s
+  pub cancel_guest_keeps : (a0 : Mode) (a1 : ℕ) (a2 : ℕ) (a3 : ℕ) (s : Core) (a5 : CancelCase) → Keeps R s (cancel_guest a0 a1 a2 a3 s a5)
+  cancel_guest_keeps mode n r k s AlreadyEnded = cancel_ended_row_keeps mode n r (subtask.Guest k) s (undelivered_end (event_of (subtask.Guest k) s))
+  cancel_guest_keeps mode n r k s StartNotRun = cancel_withdraws_keeps n r k s
+  cancel_guest_keeps mode n r k s CallbackWaits = cancel_wakes_callback_keeps n k s
+  cancel_guest_keeps mode n r k s CallbackYields = cancel_promotes_yield_keeps n k s
+  cancel_guest_keeps mode n r k s OtherwiseRuns = later E (cancel_asks_keeps k s) (after_cancel mode n r (subtask.Guest k) (cancel_asks k s)) (after_cancel_keeps mode n r (subtask.Guest k) (cancel_asks k s))
 
   pub cancel_subtask_keeps : (a0 : Mode) (a1 : ℕ) (a2 : ℕ) (s : Core) (a4 : Subtask) → Keeps R s (cancel_subtask a0 a1 a2 s a4)
-  cancel_subtask_keeps mode n r s (subtask.Guest k) = cancel_guest_keeps mode n r k s (has_ended k s) (was_started k s)
+  cancel_subtask_keeps mode n r s (subtask.Guest k) = cancel_guest_keeps mode n r k s (cancel_case k s)
   cancel_subtask_keeps mode n r s (subtask.Host i) = cancel_host_keeps mode n r i s
 
   pub cancel_found_keeps : (a0 : Mode) (a1 : ℕ) (a2 : ℕ) (s : Core) (a4 : Subtask) → Keeps R s (cancel_found a0 a1 a2 s a4)
@@ -550,7 +544,7 @@ module _ {R : Core → Core → Type 0} (E : Elementary R) where
 
   pub cancel_row_keeps : (a0 : Mode) (a1 : ℕ) (a2 : ℕ) (a3 : ℕ) (s : Core) (a5 : HowFar) → Keeps R s (cancel_row a0 a1 a2 a3 s a5)
   cancel_row_keeps mode n r h s (how_far.Cancels sub) = later E (cancel_resumed_keeps n sub s) (after_cancel mode n r sub (cancel_resumed n sub s)) (after_cancel_keeps mode n r sub (cancel_resumed n sub s))
-  cancel_row_keeps mode n r h s (how_far.AwaitsEnd sub) = later E (set_join_keeps E sub join.Nowhere s) (ended_row mode n r sub (set_join sub join.Nowhere s) (undelivered_end (event_of sub (set_join sub join.Nowhere s)))) (ended_row_keeps mode n r sub (set_join sub join.Nowhere s) (undelivered_end (event_of sub (set_join sub join.Nowhere s))))
+  cancel_row_keeps mode n r h s (how_far.AwaitsEnd sub) = later E (set_join_keeps E sub join.Nowhere s) (cancel_ended_row mode n r sub (set_join sub join.Nowhere s) (undelivered_end (event_of sub (set_join sub join.Nowhere s)))) (cancel_ended_row_keeps mode n r sub (set_join sub join.Nowhere s) (undelivered_end (event_of sub (set_join sub join.Nowhere s))))
   cancel_row_keeps mode n r h s u1 = or_trap_keeps E s (subtask_at (instance_of n s) h s) trap.BadHandle (cancel_found mode n r s) (λ got. cancel_found_keeps mode n r s got)
 
   pub subtask_settled_keeps : (a0 : Subtask) (s : Core) → R s (subtask_settled a0 s)

@@ -10,3 +10,4 @@ pub mod StopLemmas
 pub mod MoveLemmas
 pub mod UntouchedLemmas
 pub mod ReturnLemmas
+pub mod CancelLemmas

@@ -38,7 +38,7 @@ use Rattle.task_machine.specs.Read.{admitted_held, blocked_on, caller_of, first_
 use Rattle.task_machine.specs.Write.{give_result, on_call, on_instance, on_thread, push_high, set_do_not_enter, set_end, set_event, set_place, set_register, set_result}
 use Rattle.task_rules.proofs.CheckLemmas.{any_in, any_in-append, any_in_is, enter_passes, first_in_is, high_instance, map_or, or_true_right, ordered_first, place_calls, place_instance, put_high_high, put_high_instance, release_passes, released_leaves, same_nil}
 use Rattle.task_rules.proofs.StandLemmas.{by_number, place_kept, place_written}
-use Rattle.task_rules.specs.Ends.{held_out, is_in_instance, is_told, let_in, may_tell, passes_after_return, result_given, returned, told, wakes_in}
+use Rattle.task_rules.specs.Ends.{held_by_flag, is_in_instance, is_told, end_reopens, may_tell, passes_after_return, result_given, returned, told, wakes_in}
 use Rattle.task_rules.specs.Laws.{BlockingCheckIsAfter, WaitsAtHome}
 use Rattle.std.specs.FinMap.Entries.{find as seek}
 
@@ -300,8 +300,8 @@ high_calls : (e : Entry) (s : Core) → (push_high e s).calls ≡ s.calls
 unfolding push_high
 high_calls e s = refl
 
-tells_let_in : (k i : ℕ) (order : List ℕ) (s : Core) → Tells k s (let_in i order s)
-unfolding let_in set_do_not_enter on_instance blocked_on
+tells_let_in : (k i : ℕ) (order : List ℕ) (s : Core) → Tells k s (end_reopens i order s)
+unfolding end_reopens set_do_not_enter on_instance blocked_on
 tells_let_in k i order s =
     let v = set_do_not_enter i false s in
     let calls = released_leaves (λ c. c.calls) place_calls high_calls order v in
@@ -413,7 +413,7 @@ told_lawful i k w s true home h = ap (λ c. is_in_instance i s (blocked_on (subt
 told_lawful i k w s false home h = refl
 
 pub blocking_check : BlockingCheckIsAfter
-unfolding set_do_not_enter on_instance returned told let_in held_out passes_after_return may_tell
+unfolding set_do_not_enter on_instance returned told end_reopens held_by_flag passes_after_return may_tell
 blocking_check n v w s order home lawful perm =
     let i = instance_of n s in
     let k = task_of n s in

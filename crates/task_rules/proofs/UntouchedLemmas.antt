@@ -43,17 +43,17 @@ use Rattle.task_machine.specs.Moves.{Gift, MemberGift, NoGift, OwnGift, call_set
 use Rattle.task_machine.specs.Read.{backpressure_of, call_group, call_instance, instance_of, may_not_suspend, new_handle, new_thread_handle, phase_of, position_of, result_of, saved_callee_of, saved_own_of, task_of}
 use Rattle.task_machine.specs.Write.{add_call, add_group, add_set, add_work, count_work, free_handle, free_thread_handle, give_handle, give_result, give_thread_handle, on_call, on_instance, on_thread, on_work, remove_call, remove_group, remove_set, remove_work, set_backpressure, set_cancel_delivered, set_cancelled, set_course, set_do_not_enter, set_do_not_suspend, set_end, set_event, set_exited, set_how_far, set_join, set_own_event, set_phase, set_position, set_register, set_result, set_saved_callee, set_saved_own, set_script, set_stage, set_started, set_starting_published, set_subtask_handle, set_thread_handle, set_trapped, set_uninteresting, set_word, take_result}
 use Rattle.task_rules.proofs.StopLemmas.{Untouched}
-use Rattle.task_rules.specs.Calls.{answered, call_answered, call_pending, call_returned, called_back, forbidding, host_answered, host_ready, put_back, settle_group_of, suspending, with_handle, with_thread_handle, work_answered, work_deleted, work_group, work_value}
-use Rattle.task_rules.specs.Cancels.{aborted_phase, asked, cancel_resumed, dropped, end_taken, host_cancelled, subtask_instance, subtask_settled}
+use Rattle.task_rules.specs.Calls.{answered, call_answered, call_pending, call_returned, call_resumes, sync_sets_flag, host_answered, host_ready, put_back, settle_group_of, call_clears_flag, with_handle, with_thread_handle, work_answered, work_deleted, work_group, work_value}
+use Rattle.task_rules.specs.Cancels.{aborted_phase, cancel_asks, cancel_resumed, dropped, cancel_takes_end, cancel_aborts_host, subtask_instance, subtask_settled}
 use Rattle.task_rules.specs.Data.{advanced, assigned, moved_to, skipped, stored}
-use Rattle.task_rules.specs.Ends.{restored, result_given}
+use Rattle.task_rules.specs.Ends.{exit_restores, result_given}
 use Rattle.task_rules.specs.MainOps.{main_aborted}
 use Rattle.task_rules.specs.Scripts.{script_of}
 use Rattle.task_rules.specs.Sets.{given_code, given_handle, given_result, received, set_dropped, set_given, set_made}
 use Rattle.task_machine.specs.Statuses.{status_code}
-use Rattle.task_rules.specs.Takes.{enters, host_result, pushed}
-use Rattle.task_rules.specs.Task.{lowered, raised}
-use Rattle.task_rules.specs.Works.{pended}
+use Rattle.task_rules.specs.Takes.{start_sets_flags, host_result, pushed}
+use Rattle.task_rules.specs.Task.{dec_lowers, inc_raises}
+use Rattle.task_rules.specs.Works.{poll_pends}
 
 untouched_same : (s : Core) → Untouched s s
 untouched_same s = record { places = λ k. refl; queues = refl; callers = refl }
@@ -303,17 +303,17 @@ result_given_untouched (goal.Register r) (caller.Thread n) k v s = set_register_
 result_given_untouched goal.Answer f k v s = set_result_untouched k (Some v) s
 result_given_untouched u1 f k v s = untouched_same s
 
-pub restored_untouched : (a0 : ℕ) (s : Core) → Untouched s (restored a0 s)
-unfolding restored
-restored_untouched n s = set_do_not_suspend_untouched (instance_of n s) (unwrap_or (saved_own_of n s) false) s
+pub exit_restores_untouched : (a0 : ℕ) (s : Core) → Untouched s (exit_restores a0 s)
+unfolding exit_restores
+exit_restores_untouched n s = set_do_not_suspend_untouched (instance_of n s) (unwrap_or (saved_own_of n s) false) s
 
-pub raised_untouched : (a0 : ℕ) (s : Core) → Untouched s (raised a0 s)
-unfolding raised
-raised_untouched n s = let i = instance_of n s in untouched_after (set_backpressure_untouched i (backpressure_of i s + 1) s) (advanced_untouched n (set_backpressure i (backpressure_of i s + 1) s))
+pub inc_raises_untouched : (a0 : ℕ) (s : Core) → Untouched s (inc_raises a0 s)
+unfolding inc_raises
+inc_raises_untouched n s = let i = instance_of n s in untouched_after (set_backpressure_untouched i (backpressure_of i s + 1) s) (advanced_untouched n (set_backpressure i (backpressure_of i s + 1) s))
 
-pub lowered_untouched : (a0 : ℕ) (s : Core) → Untouched s (lowered a0 s)
-unfolding lowered
-lowered_untouched n s = let i = instance_of n s in untouched_after (set_backpressure_untouched i (backpressure_of i s - 1) s) (advanced_untouched n (set_backpressure i (backpressure_of i s - 1) s))
+pub dec_lowers_untouched : (a0 : ℕ) (s : Core) → Untouched s (dec_lowers a0 s)
+unfolding dec_lowers
+dec_lowers_untouched n s = let i = instance_of n s in untouched_after (set_backpressure_untouched i (backpressure_of i s - 1) s) (advanced_untouched n (set_backpressure i (backpressure_of i s - 1) s))
 
 pub set_made_untouched : (a0 : ℕ) (a1 : ℕ) (s : Core) → Untouched s (set_made a0 a1 s)
 unfolding set_made
@@ -331,17 +331,17 @@ pub received_untouched : (a0 : ℕ) (a1 : ℕ) (a2 : Gift) (a3 : Given) (s : Cor
 unfolding received
 received_untouched n r g v s = untouched_after (untouched_after (taken_untouched g (task_of n s) s) (set_given_untouched n r v (taken g (task_of n s) s))) (advanced_untouched n (set_given n r v (taken g (task_of n s) s)))
 
-pub suspending_untouched : (a0 : ℕ) (a1 : ℕ) (a2 : ExportKind) (s : Core) → Untouched s (suspending a0 a1 a2 s)
-suspending_untouched n j kind.Sync s = untouched_same s
-suspending_untouched n j x s = untouched_after (set_saved_callee_untouched n (Some (may_not_suspend j s)) s) (set_do_not_suspend_untouched j false (set_saved_callee n (Some (may_not_suspend j s)) s))
+pub call_clears_flag_untouched : (a0 : ℕ) (a1 : ℕ) (a2 : ExportKind) (s : Core) → Untouched s (call_clears_flag a0 a1 a2 s)
+call_clears_flag_untouched n j kind.Sync s = untouched_same s
+call_clears_flag_untouched n j x s = untouched_after (set_saved_callee_untouched n (Some (may_not_suspend j s)) s) (set_do_not_suspend_untouched j false (set_saved_callee n (Some (may_not_suspend j s)) s))
 
 pub put_back_untouched : (a0 : Option Bool) (a1 : ℕ) (s : Core) → Untouched s (put_back a0 a1 s)
 put_back_untouched None j s = untouched_same s
 put_back_untouched (Some b) j s = set_do_not_suspend_untouched j b s
 
-pub called_back_untouched : (a0 : ℕ) (a1 : ℕ) (s : Core) → Untouched s (called_back a0 a1 s)
-unfolding called_back
-called_back_untouched n k s = untouched_after (put_back_untouched (saved_callee_of n s) (call_instance k s) s) (set_event_untouched (subtask.Guest k) None (put_back (saved_callee_of n s) (call_instance k s) s))
+pub call_resumes_untouched : (a0 : ℕ) (a1 : ℕ) (s : Core) → Untouched s (call_resumes a0 a1 s)
+unfolding call_resumes
+call_resumes_untouched n k s = untouched_after (put_back_untouched (saved_callee_of n s) (call_instance k s) s) (set_event_untouched (subtask.Guest k) None (put_back (saved_callee_of n s) (call_instance k s) s))
 
 pub answered_untouched : (a0 : ℕ) (a1 : ℕ) (a2 : ℕ) (s : Core) → Untouched s (answered a0 a1 a2 s)
 unfolding answered
@@ -349,7 +349,7 @@ answered_untouched n r v s = untouched_after (set_saved_callee_untouched n None 
 
 pub call_returned_untouched : (a0 : ℕ) (a1 : ℕ) (a2 : ℕ) (s : Core) → Untouched s (call_returned a0 a1 a2 s)
 unfolding call_returned
-call_returned_untouched n r k s = untouched_after (untouched_after (called_back_untouched n k s) (call_settled_untouched k (called_back n k s))) (answered_untouched n r 2 (call_settled k (called_back n k s)))
+call_returned_untouched n r k s = untouched_after (untouched_after (call_resumes_untouched n k s) (call_settled_untouched k (call_resumes n k s))) (answered_untouched n r 2 (call_settled k (call_resumes n k s)))
 
 pub with_handle_untouched : (a0 : ℕ) (a1 : Subtask) (s : Core) → Untouched s (with_handle a0 a1 s)
 unfolding with_handle
@@ -357,15 +357,15 @@ with_handle_untouched i sub s = untouched_after (give_handle_untouched i (named.
 
 pub call_pending_untouched : (a0 : ℕ) (a1 : ℕ) (a2 : ℕ) (a3 : ℕ) (s : Core) → Untouched s (call_pending a0 a1 a2 a3 s)
 unfolding call_pending
-call_pending_untouched n r k v s = untouched_after (untouched_after (called_back_untouched n k s) (with_handle_untouched (instance_of n s) (subtask.Guest k) (called_back n k s))) (answered_untouched n r v (with_handle (instance_of n s) (subtask.Guest k) (called_back n k s)))
+call_pending_untouched n r k v s = untouched_after (untouched_after (call_resumes_untouched n k s) (with_handle_untouched (instance_of n s) (subtask.Guest k) (call_resumes n k s))) (answered_untouched n r v (with_handle (instance_of n s) (subtask.Guest k) (call_resumes n k s)))
 
 pub call_answered_untouched : (a0 : ℕ) (a1 : ℕ) (a2 : ℕ) (s : Core) → Untouched s (call_answered a0 a1 a2 s)
 unfolding call_answered
-call_answered_untouched n r k s = untouched_after (untouched_after (untouched_after (called_back_untouched n k s) (set_result_untouched k None (called_back n k s))) (call_settled_untouched k (set_result k None (called_back n k s)))) (answered_untouched n r (result_of k s) (call_settled k (set_result k None (called_back n k s))))
+call_answered_untouched n r k s = untouched_after (untouched_after (untouched_after (call_resumes_untouched n k s) (set_result_untouched k None (call_resumes n k s))) (call_settled_untouched k (set_result k None (call_resumes n k s)))) (answered_untouched n r (result_of k s) (call_settled k (set_result k None (call_resumes n k s))))
 
-pub forbidding_untouched : (a0 : ℕ) (a1 : ℕ) (a2 : ExportKind) (s : Core) → Untouched s (forbidding a0 a1 a2 s)
-forbidding_untouched m j kind.Sync s = untouched_after (set_saved_own_untouched m (Some (may_not_suspend j s)) s) (set_do_not_suspend_untouched j true (set_saved_own m (Some (may_not_suspend j s)) s))
-forbidding_untouched m j x s = untouched_same s
+pub sync_sets_flag_untouched : (a0 : ℕ) (a1 : ℕ) (a2 : ExportKind) (s : Core) → Untouched s (sync_sets_flag a0 a1 a2 s)
+sync_sets_flag_untouched m j kind.Sync s = untouched_after (set_saved_own_untouched m (Some (may_not_suspend j s)) s) (set_do_not_suspend_untouched j true (set_saved_own m (Some (may_not_suspend j s)) s))
+sync_sets_flag_untouched m j x s = untouched_same s
 
 pub with_thread_handle_untouched : (a0 : ℕ) (a1 : ℕ) (s : Core) → Untouched s (with_thread_handle a0 a1 s)
 unfolding with_thread_handle
@@ -391,17 +391,17 @@ pub work_answered_untouched : (a0 : ℕ) (a1 : ℕ) (a2 : ℕ) (s : Core) → Un
 unfolding work_answered
 work_answered_untouched n r i s = untouched_after (work_deleted_untouched i s) (assigned_untouched n r (work_value i s) (work_deleted i s))
 
-pub end_taken_untouched : (a0 : ℕ) (a1 : ℕ) (a2 : Subtask) (a3 : Status) (s : Core) → Untouched s (end_taken a0 a1 a2 a3 s)
-unfolding end_taken
-end_taken_untouched n r sub e s = untouched_after (set_event_untouched sub None s) (answered_untouched n r (status_code e) (set_event sub None s))
+pub cancel_takes_end_untouched : (a0 : ℕ) (a1 : ℕ) (a2 : Subtask) (a3 : Status) (s : Core) → Untouched s (cancel_takes_end a0 a1 a2 a3 s)
+unfolding cancel_takes_end
+cancel_takes_end_untouched n r sub e s = untouched_after (set_event_untouched sub None s) (answered_untouched n r (status_code e) (set_event sub None s))
 
-pub host_cancelled_untouched : (a0 : ℕ) (s : Core) → Untouched s (host_cancelled a0 s)
-unfolding host_cancelled
-host_cancelled_untouched i s = untouched_after (set_phase_untouched i (aborted_phase (phase_of i s)) s) (set_cancelled_untouched i (set_phase i (aborted_phase (phase_of i s)) s))
+pub cancel_aborts_host_untouched : (a0 : ℕ) (s : Core) → Untouched s (cancel_aborts_host a0 s)
+unfolding cancel_aborts_host
+cancel_aborts_host_untouched i s = untouched_after (set_phase_untouched i (aborted_phase (phase_of i s)) s) (set_cancelled_untouched i (set_phase i (aborted_phase (phase_of i s)) s))
 
-pub asked_untouched : (a0 : ℕ) (s : Core) → Untouched s (asked a0 s)
-unfolding asked
-asked_untouched k s = set_own_event_untouched k (Some own.Cancelled) s
+pub cancel_asks_untouched : (a0 : ℕ) (s : Core) → Untouched s (cancel_asks a0 s)
+unfolding cancel_asks
+cancel_asks_untouched k s = set_own_event_untouched k (Some own.Cancelled) s
 
 pub cancel_resumed_untouched : (a0 : ℕ) (a1 : Subtask) (s : Core) → Untouched s (cancel_resumed a0 a1 s)
 unfolding cancel_resumed
@@ -423,14 +423,14 @@ pub host_result_untouched : (a0 : WorkCaller) (a1 : Option ℕ) (s : Core) → U
 host_result_untouched (work_caller.Async n q) (Some v) s = set_register_untouched n q v s
 host_result_untouched u1 u2 s = untouched_same s
 
-pub enters_untouched : (a0 : ℕ) (a1 : ExportKind) (s : Core) → Untouched s (enters a0 a1 s)
-enters_untouched n kind.Sync s = forbidding_untouched n (instance_of n s) kind.Sync s
-enters_untouched n kind.Stackful s = untouched_same s
-enters_untouched n x s = set_do_not_enter_untouched (instance_of n s) true s
+pub start_sets_flags_untouched : (a0 : ℕ) (a1 : ExportKind) (s : Core) → Untouched s (start_sets_flags a0 a1 s)
+start_sets_flags_untouched n kind.Sync s = sync_sets_flag_untouched n (instance_of n s) kind.Sync s
+start_sets_flags_untouched n kind.Stackful s = untouched_same s
+start_sets_flags_untouched n x s = set_do_not_enter_untouched (instance_of n s) true s
 
-pub pended_untouched : (a0 : ℕ) (a1 : HostDef) (s : Core) → Untouched s (pended a0 a1 s)
-unfolding pended
-pended_untouched i host s = set_course_untouched i (course.Goes host) s
+pub poll_pends_untouched : (a0 : ℕ) (a1 : HostDef) (s : Core) → Untouched s (poll_pends a0 a1 s)
+unfolding poll_pends
+poll_pends_untouched i host s = set_course_untouched i (course.Goes host) s
 
 pub main_aborted_untouched : (a0 : ℕ) (s : Core) → Untouched s (main_aborted a0 s)
 unfolding main_aborted

@@ -87,33 +87,41 @@ next_thread s = s.made.threads + 1
 
 -- a call and its thread are made, with these words
 unfoldable pub call_made : Caller → Callee → ExportKind → Goal → ℕ → List ℕ → Core → Core
-call_made f e x g group words s = add_thread (new_thread (next_thread s) false script.Start (registers_for words) None) (add_call (next_thread s) (new_call f e x g group) s)
+call_made f e x g group words s =
+    let k = next_thread s in
+    let thread = new_thread k false script.Start (registers_for words) None in
+    add_thread thread (add_call k (new_call f e x g group) s)
 
 -- ---- A call that queues its start
 
 -- the flag of the callee's instance is saved and cleared
-abbrev pub suspending : ℕ → ℕ → ExportKind → Core → Core
-suspending n j kind.Sync s = s
-suspending n j x s = set_do_not_suspend j false (set_saved_callee n (Some (may_not_suspend j s)) s)
+abbrev pub call_clears_flag : ℕ → ℕ → ExportKind → Core → Core
+call_clears_flag n j kind.Sync s = s
+call_clears_flag n j x s = set_do_not_suspend j false (set_saved_callee n (Some (may_not_suspend j s)) s)
 
 -- the call is made, its start becomes the switch entry, and the calling thread goes behind it
-unfoldable pub called : ℕ → Callee → ExportKind → Goal → List ℕ → Core → Core
-called n e x g words s =
+unfoldable pub call_queues : ℕ → Callee → ExportKind → Goal → List ℕ → Core → Core
+call_queues n e x g words s =
     let m = next_thread s in
-    set_how_far n (how_far.Calls (subtask.Guest m)) (behind m (n ∷ []) (suspending n e.instance x (put_switch m why.Start (call_made (caller.Thread n) e x g (thread_group n s) words s))))
+    let made = call_made (caller.Thread n) e x g (thread_group n s) words s in
+    let queued = put_switch m why.Start made in
+    set_how_far n (how_far.Calls (subtask.Guest m)) (behind m (n ∷ []) (call_clears_flag n e.instance x queued))
 
+-- trap 18 (TableFull) where 3 entries don't fit
 abbrev pub call_begins : Component → ℕ → Callee → Goal → List ℕ → Core → Progress
-call_begins c n e g words s = trap_if (not (fits 3 s)) trap.TableFull (Stops (label.Call (call_label.Calls n (next_thread s))) (called n e (export_kind c e) g words s))
+call_begins c n e g words s =
+    trap_if (not (fits 3 s)) trap.TableFull (
+    Stops (label.Call (call_label.Calls n (next_thread s))) (call_queues n e (export_kind c e) g words s))
 
 abbrev pub put_back : Option Bool → ℕ → Core → Core
 put_back None j s = s
 put_back (Some b) j s = set_do_not_suspend j b s
 
 -- the calling thread is resumed: the saved flag is written back, and the callee's event is taken
-unfoldable pub called_back : ℕ → ℕ → Core → Core
-called_back n k s = set_event (subtask.Guest k) None (put_back (saved_callee_of n s) (call_instance k s) s)
+unfoldable pub call_resumes : ℕ → ℕ → Core → Core
+call_resumes n k s = set_event (subtask.Guest k) None (put_back (saved_callee_of n s) (call_instance k s) s)
 
--- the call's status that the calling thread finds
+-- the call's status that the calling thread finds; default: no event
 abbrev pub status_found : ℕ → Core → Status
 status_found k s = unwrap_or (event_of (subtask.Guest k) s) status.Starting
 
@@ -122,59 +130,75 @@ unfoldable pub answered : ℕ → ℕ → ℕ → Core → Core
 answered n r v s = assigned n r v (set_saved_callee n None s)
 
 unfoldable pub call_returned : ℕ → ℕ → ℕ → Core → Core
-call_returned n r k s = answered n r 2 (call_settled k (called_back n k s))
+call_returned n r k s = answered n r 2 (call_settled k (call_resumes n k s))
 
 -- the subtask has a handle from now on
 unfoldable pub with_handle : ℕ → Subtask → Core → Core
 with_handle i sub s = set_subtask_handle sub (Some (new_handle i s)) (give_handle i (named.Subtask sub) s)
 
 unfoldable pub call_pending : ℕ → ℕ → ℕ → ℕ → Core → Core
-call_pending n r k v s = answered n r v (with_handle (instance_of n s) (subtask.Guest k) (called_back n k s))
+call_pending n r k v s = answered n r v (with_handle (instance_of n s) (subtask.Guest k) (call_resumes n k s))
 
+-- Returned is answered as 2; another status with a new handle: trap 17 (HandleLimit) where none may be given
 abbrev pub call_status : ℕ → ℕ → ℕ → Core → Status → Progress
 call_status n r k s status.Returned = Goes (label.Call (call_label.Call 2 n)) (call_returned n r k s) n
-call_status n r k s e = let v = packed (new_handle (instance_of n s) s) e in trap_if (at_handle_limit s) trap.HandleLimit (Goes (label.Call (call_label.Call v n)) (call_pending n r k v s) n)
+call_status n r k s e =
+    let v = packed (new_handle (instance_of n s) s) e in
+    trap_if (at_handle_limit s) trap.HandleLimit (
+    Goes (label.Call (call_label.Call v n)) (call_pending n r k v s) n)
 
--- `call R Q F X*`, by how far it has come
+-- `call R Q F X*`, by how far it has come; default: inside another op
 abbrev pub call_row : Component → ℕ → ℕ → ℕ → Callee → List ℕ → Core → HowFar → Progress
 call_row c n r q e words s (how_far.Calls (subtask.Guest k)) = call_status n r k s (status_found k s)
 call_row c n r q e words s _ = call_begins c n e (goal.Register q) words s
 
 -- the result is taken, too
 unfoldable pub call_answered : ℕ → ℕ → ℕ → Core → Core
-call_answered n r k s = answered n r (result_of k s) (call_settled k (set_result k None (called_back n k s)))
+call_answered n r k s = answered n r (result_of k s) (call_settled k (set_result k None (call_resumes n k s)))
 
 -- the strand stops, and its top is blocked on the subtask of its call
-unfoldable pub blocked : ℕ → Subtask → Core → Core
-blocked n sub s = set_how_far n (how_far.Calls sub) (stopped_at n (place.Blocked sub) s)
+unfoldable pub call_stops : ℕ → Subtask → Core → Core
+call_stops n sub s = set_how_far n (how_far.Calls sub) (stopped_at n (place.Blocked sub) s)
 
-unfoldable pub call_blocked : ℕ → ℕ → Core → Core
-call_blocked n k s = blocked n (subtask.Guest k) (checked (instance_of n s) (called_back n k s))
+unfoldable pub call_sync_stops : ℕ → ℕ → Core → Core
+call_sync_stops n k s = call_stops n (subtask.Guest k) (checked (instance_of n s) (call_resumes n k s))
 
+-- Returned is answered by the result; another status stops the strand, after a check:
+-- trap 9 (CannotBlockSyncTask) where it fails
 abbrev pub call_sync_status : ℕ → ℕ → ℕ → Core → Status → Progress
 call_sync_status n r k s status.Returned = Goes (label.Call (call_label.CallSync n (result_of k s))) (call_answered n r k s) n
-call_sync_status n r k s e = trap_if (not (passes_check (instance_of n s) (called_back n k s))) trap.CannotBlockSyncTask (Stops (label.Thread (thread_label.Pauses n)) (call_blocked n k s))
+call_sync_status n r k s e =
+    trap_if (not (passes_check (instance_of n s) (call_resumes n k s))) trap.CannotBlockSyncTask (
+    Stops (label.Thread (thread_label.Pauses n)) (call_sync_stops n k s))
 
 -- ---- A direct call
 
 -- the flag of the callee's instance is saved and set
-abbrev pub forbidding : ℕ → ℕ → ExportKind → Core → Core
-forbidding m j kind.Sync s = set_do_not_suspend j true (set_saved_own m (Some (may_not_suspend j s)) s)
-forbidding m j x s = s
+abbrev pub sync_sets_flag : ℕ → ℕ → ExportKind → Core → Core
+sync_sets_flag m j kind.Sync s = set_do_not_suspend j true (set_saved_own m (Some (may_not_suspend j s)) s)
+sync_sets_flag m j x s = s
 
 -- the thread has a thread handle from now on
 unfoldable pub with_thread_handle : ℕ → ℕ → Core → Core
 with_thread_handle i m s = set_thread_handle m (Some (new_thread_handle i s)) (give_thread_handle i m s)
 
 -- the call is made, and its thread runs on top of the calling one
-unfoldable pub entered : ℕ → Callee → ExportKind → List ℕ → Core → Core
-entered n e x words s =
+unfoldable pub enter_runs : ℕ → Callee → ExportKind → List ℕ → Core → Core
+enter_runs n e x words s =
     let m = next_thread s in
-    set_how_far n (how_far.Calls (subtask.Guest m)) (set_place n (place.Under m) (set_place m place.Running (forbidding m e.instance x (set_started m (with_thread_handle e.instance m (call_made (caller.Thread n) e x goal.Direct (thread_group n s) words s))))))
+    let made = call_made (caller.Thread n) e x goal.Direct (thread_group n s) words s in
+    let begun = set_started m (with_thread_handle e.instance m made) in
+    let on_top = set_place m place.Running (sync_sets_flag m e.instance x begun) in
+    set_how_far n (how_far.Calls (subtask.Guest m)) (set_place n (place.Under m) on_top)
 
+-- trap 18 (TableFull) where 3 entries don't fit, trap 17 (HandleLimit) where no handle may be given
 abbrev pub enter_row : ℕ → Callee → ExportKind → List ℕ → Core → Progress
-enter_row n e x words s = trap_if (not (fits 3 s)) trap.TableFull (trap_if (at_handle_limit s) trap.HandleLimit (Goes (label.Call (call_label.Enters n (next_thread s))) (entered n e x words s) (next_thread s)))
+enter_row n e x words s =
+    trap_if (not (fits 3 s)) trap.TableFull (
+    trap_if (at_handle_limit s) trap.HandleLimit (
+    Goes (label.Call (call_label.Enters n (next_thread s))) (enter_runs n e x words s) (next_thread s)))
 
+-- by whether the export is async-lifted: its start is queued, or it is called directly
 abbrev pub call_sync_begins : Component → ℕ → Callee → List ℕ → Core → Bool → Progress
 call_sync_begins c n e words s true = call_begins c n e goal.Answer words s
 call_sync_begins c n e words s false = enter_row n e (export_kind c e) words s
@@ -231,14 +255,20 @@ unfoldable pub host_ready : ℕ → ℕ → ℕ → ℕ → Core → Core
 host_ready n r q v s = assigned n r 2 (set_register n q v (count_work s))
 
 unfoldable pub host_pending : ℕ → ℕ → ℕ → ℕ → HostDef → Core → Core
-host_pending n r q v host s = assigned n r v (with_handle (instance_of n s) (subtask.Host (next_work s)) (work_queued (work_caller.Async n q) host (Some (thread_group n s)) s))
+host_pending n r q v host s =
+    let made = work_queued (work_caller.Async n q) host (Some (thread_group n s)) s in
+    assigned n r v (with_handle (instance_of n s) (subtask.Host (next_work s)) made)
 
+-- a value at once; a failure, which ends the run; or a pending work:
+-- trap 18 (TableFull) where 1 entry doesn't fit, trap 17 (HandleLimit) where no handle may be given
 abbrev pub call_host_polled : ℕ → ℕ → ℕ → Core → FirstPoll → Progress
 call_host_polled n r q s (AtOnce v) = Goes (label.Call (call_label.CallPolls 2 n (next_work s))) (host_ready n r q v s) n
 call_host_polled n r q s Failing = Fails (next_work s)
 call_host_polled n r q s (Later host) =
     let v = packed (new_handle (instance_of n s) s) status.Started in
-    trap_if (not (fits 1 s)) trap.TableFull (trap_if (at_handle_limit s) trap.HandleLimit (Goes (label.Call (call_label.CallPolls v n (next_work s))) (host_pending n r q v host s) n))
+    trap_if (not (fits 1 s)) trap.TableFull (
+    trap_if (at_handle_limit s) trap.HandleLimit (
+    Goes (label.Call (call_label.CallPolls v n (next_work s))) (host_pending n r q v host s) n))
 
 -- `call R Q H`
 abbrev pub call_host_row : Component → ℕ → ℕ → ℕ → ℕ → Core → Progress
@@ -247,13 +277,20 @@ call_host_row c n r q h s = call_host_polled n r q s (first_poll (host_at c h))
 unfoldable pub host_answered : ℕ → ℕ → ℕ → Core → Core
 host_answered n r v s = assigned n r v (count_work s)
 
-unfoldable pub host_blocked : ℕ → HostDef → Core → Core
-host_blocked n host s = blocked n (subtask.Host (next_work s)) (work_queued (work_caller.Sync n) host (Some (thread_group n s)) (checked (instance_of n s) s))
+unfoldable pub call_sync_host_stops : ℕ → HostDef → Core → Core
+call_sync_host_stops n host s =
+    let made = work_queued (work_caller.Sync n) host (Some (thread_group n s)) (checked (instance_of n s) s) in
+    call_stops n (subtask.Host (next_work s)) made
 
+-- a value at once; a failure, which ends the run; or a pending work, which stops the strand after a check:
+-- trap 18 (TableFull) where 1 entry doesn't fit, trap 9 (CannotBlockSyncTask) where the check fails
 abbrev pub call_sync_host_polled : ℕ → ℕ → Core → FirstPoll → Progress
 call_sync_host_polled n r s (AtOnce v) = Goes (label.CallSyncPolls n v (next_work s)) (host_answered n r v s) n
 call_sync_host_polled n r s Failing = Fails (next_work s)
-call_sync_host_polled n r s (Later host) = trap_if (not (fits 1 s)) trap.TableFull (trap_if (not (passes_check (instance_of n s) s)) trap.CannotBlockSyncTask (Stops (label.Call (call_label.PausesPolls n (next_work s))) (host_blocked n host s)))
+call_sync_host_polled n r s (Later host) =
+    trap_if (not (fits 1 s)) trap.TableFull (
+    trap_if (not (passes_check (instance_of n s) s)) trap.CannotBlockSyncTask (
+    Stops (label.Call (call_label.PausesPolls n (next_work s))) (call_sync_host_stops n host s)))
 
 abbrev pub settle_group_of : Option ℕ → Core → Core
 settle_group_of None s = s
@@ -266,6 +303,7 @@ work_group i s = option_and_then (λ w. w.group) (get s.works i)
 unfoldable pub work_deleted : ℕ → Core → Core
 work_deleted i s = settle_group_of (work_group i s) (remove_work i s)
 
+-- what the sync host call ended with; default: no value
 abbrev pub work_value : ℕ → Core → ℕ
 work_value i s = unwrap_or (course_value (course_of i s)) 0
 
@@ -274,5 +312,6 @@ work_answered n r i s = assigned n r (work_value i s) (work_deleted i s)
 
 -- `call_sync R H`, by how far it has come
 abbrev pub call_sync_host_row : Component → ℕ → ℕ → ℕ → Core → HowFar → Progress
-call_sync_host_row c n r h s (how_far.Calls (subtask.Host i)) = Goes (label.Call (call_label.CallSync n (work_value i s))) (work_answered n r i s) n
+call_sync_host_row c n r h s (how_far.Calls (subtask.Host i)) =
+    Goes (label.Call (call_label.CallSync n (work_value i s))) (work_answered n r i s) n
 call_sync_host_row c n r h s _ = call_sync_host_polled n r s (first_poll (host_at c h))

@@ -1,5 +1,5 @@
 -- Cancelling and dropping a subtask.
-use Rattle.std.specs.Prelude.{Bool, None, Option, Some, [], false, is_some, not, true, ℕ, ◌∷◌}
+use Rattle.std.specs.Prelude.{Bool, None, Option, Some, [], false, if◌then◌else◌, is_some, not, true, ℕ, ◌∷◌}
 use Rattle.task_machine.specs.declared.op.CallOp.{CallOp}
 use Rattle.task_machine.specs.declared.component.Component.{Component}
 use Rattle.task_machine.specs.declared.records.HowFar.{HowFar}
@@ -46,12 +46,13 @@ pauses n = label.Thread (thread_label.Pauses n)
 -- ---- An ended subtask
 
 -- the undelivered end is taken and answered
-unfoldable pub end_taken : ℕ → ℕ → Subtask → Status → Core → Core
-end_taken n r sub e s = answered n r (status_code e) (set_event sub None s)
+unfoldable pub cancel_takes_end : ℕ → ℕ → Subtask → Status → Core → Core
+cancel_takes_end n r sub e s = answered n r (status_code e) (set_event sub None s)
 
-abbrev pub ended_row : Mode → ℕ → ℕ → Subtask → Core → Option Status → Progress
-ended_row mode n r sub s None = Traps trap.SubtaskCancelAfterTerminal
-ended_row mode n r sub s (Some e) = Goes (cancel_label mode n (status_code e)) (end_taken n r sub e s) n
+-- trap 5 (SubtaskCancelAfterTerminal) where the end was handed out before
+abbrev pub cancel_ended_row : Mode → ℕ → ℕ → Subtask → Core → Option Status → Progress
+cancel_ended_row mode n r sub s None = Traps trap.SubtaskCancelAfterTerminal
+cancel_ended_row mode n r sub s (Some e) = Goes (cancel_label mode n (status_code e)) (cancel_takes_end n r sub e s) n
 
 -- ---- A subtask that hasn't ended
 
@@ -60,20 +61,26 @@ abbrev pub blocked_code : ℕ
 blocked_code = 4294967295
 
 -- the subtask joins the thread's own set, and the thread waits for its end
-unfoldable pub awaiting : ℕ → Subtask → Core → Core
-awaiting n sub s = set_how_far n (how_far.AwaitsEnd sub) (stopped_at n (place.Blocked sub) (checked (instance_of n s) (set_join sub (join.Watched n) (set_saved_callee n None s))))
+unfoldable pub cancel_stops : ℕ → Subtask → Core → Core
+cancel_stops n sub s =
+    let watched = set_join sub (join.Watched n) (set_saved_callee n None s) in
+    set_how_far n (how_far.AwaitsEnd sub) (stopped_at n (place.Blocked sub) (checked (instance_of n s) watched))
 
-abbrev pub not_ended_row : Mode → ℕ → ℕ → Subtask → Core → Progress
-not_ended_row Async n r sub s = Goes (cancel_label Async n blocked_code) (answered n r blocked_code s) n
-not_ended_row Sync n r sub s = trap_if (not (passes_check (instance_of n s) s)) trap.CannotBlockSyncTask (Stops (pauses n) (awaiting n sub s))
+-- `cancel` answers that it is blocked; `cancel_sync` stops the strand after a check:
+-- trap 9 (CannotBlockSyncTask) where it fails
+abbrev pub cancel_unended_row : Mode → ℕ → ℕ → Subtask → Core → Progress
+cancel_unended_row Async n r sub s = Goes (cancel_label Async n blocked_code) (answered n r blocked_code s) n
+cancel_unended_row Sync n r sub s =
+    trap_if (not (passes_check (instance_of n s) s)) trap.CannotBlockSyncTask (
+    Stops (pauses n) (cancel_stops n sub s))
 
-abbrev pub by_end : Mode → ℕ → ℕ → Subtask → Core → Bool → Progress
-by_end mode n r sub s true = ended_row mode n r sub s (undelivered_end (event_of sub s))
-by_end mode n r sub s false = not_ended_row mode n r sub s
+abbrev pub cancel_by_end : Mode → ℕ → ℕ → Subtask → Core → Bool → Progress
+cancel_by_end mode n r sub s true = cancel_ended_row mode n r sub s (undelivered_end (event_of sub s))
+cancel_by_end mode n r sub s false = cancel_unended_row mode n r sub s
 
 -- it has ended or not
 abbrev pub after_cancel : Mode → ℕ → ℕ → Subtask → Core → Progress
-after_cancel mode n r sub s = by_end mode n r sub s (subtask_ended sub s)
+after_cancel mode n r sub s = cancel_by_end mode n r sub s (subtask_ended sub s)
 
 -- ---- The cancel of a host call
 
@@ -83,68 +90,92 @@ aborted_phase phase.Running = phase.AbortRequested
 aborted_phase p = p
 
 -- the work is marked cancelled; one that runs is aborted
-unfoldable pub host_cancelled : ℕ → Core → Core
-host_cancelled i s = set_cancelled i (set_phase i (aborted_phase (phase_of i s)) s)
+unfoldable pub cancel_aborts_host : ℕ → Core → Core
+cancel_aborts_host i s = set_cancelled i (set_phase i (aborted_phase (phase_of i s)) s)
 
+-- trap 5 (SubtaskCancelAfterTerminal) where the work was cancelled before
 abbrev pub cancel_host : Mode → ℕ → ℕ → ℕ → Core → Progress
-cancel_host mode n r i s = trap_if (was_cancelled i s) trap.SubtaskCancelAfterTerminal (after_cancel mode n r (subtask.Host i) (host_cancelled i s))
+cancel_host mode n r i s =
+    trap_if (was_cancelled i s) trap.SubtaskCancelAfterTerminal (
+    after_cancel mode n r (subtask.Host i) (cancel_aborts_host i s))
 
 -- ---- The cancel of a guest call
 
 -- its start is withdrawn
-unfoldable pub start_withdrawn : ℕ → ℕ → ℕ → Core → Core
-start_withdrawn n r k s = answered n r 3 (withdrawn k s)
+unfoldable pub cancel_withdraws : ℕ → ℕ → ℕ → Core → Core
+cancel_withdraws n r k s = answered n r 3 (withdrawn k s)
 
 -- the task finds Cancelled as its own event
-unfoldable pub asked : ℕ → Core → Core
-asked k s = set_own_event k (Some own.Cancelled) s
+unfoldable pub cancel_asks : ℕ → Core → Core
+cancel_asks k s = set_own_event k (Some own.Cancelled) s
 
--- the canceller goes behind the entry at switch
+-- the canceller goes behind the entry at switch; default: nothing at switch
 abbrev pub behind_switch : ℕ → Option ℕ → Core → Core
 behind_switch n None s = s
 behind_switch n (Some m) s = behind (foot_of m s) (n ∷ []) s
 
 -- the callee's flag is saved and cleared, the subtask joins the canceller's set, and the canceller goes behind the entry at switch
-unfoldable pub lets_go_on : ℕ → ℕ → Core → Core
-lets_go_on n k s =
+unfoldable pub cancel_goes_behind : ℕ → ℕ → Core → Core
+cancel_goes_behind n k s =
     let j = call_instance k s in
-    set_how_far n (how_far.Cancels (subtask.Guest k)) (behind_switch n s.queues.switch (set_join (subtask.Guest k) (join.Watched n) (set_do_not_suspend j false (set_saved_callee n (Some (may_not_suspend j s)) s))))
+    let cleared = set_do_not_suspend j false (set_saved_callee n (Some (may_not_suspend j s)) s) in
+    let watched = set_join (subtask.Guest k) (join.Watched n) cleared in
+    set_how_far n (how_far.Cancels (subtask.Guest k)) (behind_switch n s.queues.switch watched)
 
 -- the waiting callback becomes the switch entry
-unfoldable pub cancel_delivered_to : ℕ → ℕ → Core → Core
-cancel_delivered_to n k s = lets_go_on n k (put_switch k (why.Delivery delivery.Cancel) (asked k s))
+unfoldable pub cancel_wakes_callback : ℕ → ℕ → Core → Core
+cancel_wakes_callback n k s = cancel_goes_behind n k (put_switch k (why.Delivery delivery.Cancel) (cancel_asks k s))
 
 -- the callback's yield moves to switch, unless an entry stands there
-unfoldable pub yield_cancelled : ℕ → ℕ → Core → Core
-yield_cancelled n k s = lets_go_on n k (promoted_unless k (asked k s))
+unfoldable pub cancel_promotes_yield : ℕ → ℕ → Core → Core
+cancel_promotes_yield n k s = cancel_goes_behind n k (promoted_unless k (cancel_asks k s))
 
 abbrev pub is_callback_wait : Place → Bool
 is_callback_wait (place.Waiting x by_callback) = by_callback
 is_callback_wait _ = false
 
-abbrev pub cancel_yield : Mode → ℕ → ℕ → ℕ → Core → Bool → Progress
-cancel_yield mode n r k s true = Stops (pauses n) (yield_cancelled n k s)
-cancel_yield mode n r k s false = after_cancel mode n r (subtask.Guest k) (asked k s)
+-- What a cancel finds of a guest call.
+pub data CancelCase : Type 0 where
+  -- the call has ended
+  AlreadyEnded : CancelCase
+  -- its start hasn't run
+  StartNotRun : CancelCase
+  -- its callback waits on a set
+  CallbackWaits : CancelCase
+  -- its callback has yielded, and the entry is queued
+  CallbackYields : CancelCase
+  -- it runs, or is anywhere else
+  OtherwiseRuns : CancelCase
 
-abbrev pub cancel_running : Mode → ℕ → ℕ → ℕ → Core → Bool → Bool → Progress
-cancel_running mode n r k s true yields = Stops (pauses n) (cancel_delivered_to n k s)
-cancel_running mode n r k s false yields = cancel_yield mode n r k s yields
+-- the first of them that holds
+abbrev pub cancel_case : ℕ → Core → CancelCase
+cancel_case k s =
+    if has_ended k s then AlreadyEnded else
+    if not (was_started k s) then StartNotRun else
+    if is_at k s is_callback_wait then CallbackWaits else
+    if is_at k s is_callback_yield then CallbackYields else OtherwiseRuns
 
--- by whether the call has ended, and whether its start has run
-abbrev pub cancel_guest : Mode → ℕ → ℕ → ℕ → Core → Bool → Bool → Progress
-cancel_guest mode n r k s true started = ended_row mode n r (subtask.Guest k) s (undelivered_end (event_of (subtask.Guest k) s))
-cancel_guest mode n r k s false true = cancel_running mode n r k s (is_at k s is_callback_wait) (is_at k s is_callback_yield)
-cancel_guest mode n r k s false false = Goes (cancel_label mode n 3) (start_withdrawn n r k s) n
+-- the table of the cancel
+abbrev pub cancel_guest : Mode → ℕ → ℕ → ℕ → Core → CancelCase → Progress
+cancel_guest mode n r k s AlreadyEnded = cancel_ended_row mode n r (subtask.Guest k) s (undelivered_end (event_of (subtask.Guest k) s))
+cancel_guest mode n r k s StartNotRun = Goes (cancel_label mode n 3) (cancel_withdraws n r k s) n
+cancel_guest mode n r k s CallbackWaits = Stops (pauses n) (cancel_wakes_callback n k s)
+cancel_guest mode n r k s CallbackYields = Stops (pauses n) (cancel_promotes_yield n k s)
+cancel_guest mode n r k s OtherwiseRuns = after_cancel mode n r (subtask.Guest k) (cancel_asks k s)
 
 -- ---- The ops
 
 abbrev pub cancel_subtask : Mode → ℕ → ℕ → Core → Subtask → Progress
-cancel_subtask mode n r s (subtask.Guest k) = cancel_guest mode n r k s (has_ended k s) (was_started k s)
+cancel_subtask mode n r s (subtask.Guest k) = cancel_guest mode n r k s (cancel_case k s)
 cancel_subtask mode n r s (subtask.Host i) = cancel_host mode n r i s
 
+-- trap 7 (WaitableSyncAndAsync) where the subtask stands in any set
 abbrev pub cancel_found : Mode → ℕ → ℕ → Core → Subtask → Progress
-cancel_found mode n r s sub = trap_if (is_joined (join_of sub s)) trap.WaitableSyncAndAsync (cancel_subtask mode n r s sub)
+cancel_found mode n r s sub =
+    trap_if (is_joined (join_of sub s)) trap.WaitableSyncAndAsync (
+    cancel_subtask mode n r s sub)
 
+-- the callee's instance; default: host behind
 abbrev pub subtask_instance : Subtask → Core → ℕ
 subtask_instance (subtask.Guest k) s = call_instance k s
 subtask_instance (subtask.Host i) s = 0
@@ -153,10 +184,13 @@ subtask_instance (subtask.Host i) s = 0
 unfoldable pub cancel_resumed : ℕ → Subtask → Core → Core
 cancel_resumed n sub s = set_join sub join.Nowhere (set_saved_callee n None (put_back (saved_callee_of n s) (subtask_instance sub s) s))
 
--- `cancel R X` and `cancel_sync R X`, by how far it has come
+-- `cancel R X` and `cancel_sync R X`: resumed behind the callee; resumed once the end was told; or as it begins:
+-- trap 16 (BadHandle) where X names no subtask
 abbrev pub cancel_row : Mode → ℕ → ℕ → ℕ → Core → HowFar → Progress
 cancel_row mode n r h s (how_far.Cancels sub) = after_cancel mode n r sub (cancel_resumed n sub s)
-cancel_row mode n r h s (how_far.AwaitsEnd sub) = let t = set_join sub join.Nowhere s in ended_row mode n r sub t (undelivered_end (event_of sub t))
+cancel_row mode n r h s (how_far.AwaitsEnd sub) =
+    let t = set_join sub join.Nowhere s in
+    cancel_ended_row mode n r sub t (undelivered_end (event_of sub t))
 cancel_row mode n r h s _ = or_trap (subtask_at (instance_of n s) h s) trap.BadHandle (cancel_found mode n r s)
 
 -- ---- Dropping
@@ -167,12 +201,20 @@ subtask_settled (subtask.Host i) s = work_deleted i s
 
 -- the subtask leaves its set, and the handle is gone
 unfoldable pub dropped : ℕ → ℕ → Subtask → Core → Core
-dropped n h sub s = advanced n (subtask_settled sub (free_handle (instance_of n s) h (set_subtask_handle sub None (set_join sub join.Nowhere s))))
+dropped n h sub s =
+    let parted = set_subtask_handle sub None (set_join sub join.Nowhere s) in
+    advanced n (subtask_settled sub (free_handle (instance_of n s) h parted))
 
+-- trap 7 (WaitableSyncAndAsync) where the subtask stands in a thread's own set,
+-- trap 6 (SubtaskDropNotResolved) where it hasn't ended, and where its event wasn't handed out
 abbrev pub drop_found : ℕ → ℕ → Core → Subtask → Progress
-drop_found n h s sub = trap_if (is_watched (join_of sub s)) trap.WaitableSyncAndAsync (trap_if (not (subtask_ended sub s)) trap.SubtaskDropNotResolved (trap_if (is_some (event_of sub s)) trap.SubtaskDropNotResolved (Goes (label.Call (call_label.Drop n)) (dropped n h sub s) n)))
+drop_found n h s sub =
+    trap_if (is_watched (join_of sub s)) trap.WaitableSyncAndAsync (
+    trap_if (not (subtask_ended sub s)) trap.SubtaskDropNotResolved (
+    trap_if (is_some (event_of sub s)) trap.SubtaskDropNotResolved (
+    Goes (label.Call (call_label.Drop n)) (dropped n h sub s) n)))
 
--- `drop X`
+-- `drop X`: trap 16 (BadHandle) where X names no subtask
 abbrev pub drop_row : ℕ → ℕ → Core → Progress
 drop_row n h s = or_trap (subtask_at (instance_of n s) h s) trap.BadHandle (drop_found n h s)
 

@@ -37,7 +37,9 @@ skip_row c n ops s false = Goes (label.Data (data_label.SkipEq n)) (advanced n s
 
 abbrev pub data_row : Component → ℕ → Core → DataOp → Progress
 data_row c n s (data_op.Set r x) = let v = value_of n s x in Goes (label.Data (data_label.Set n v)) (assigned n r v s) n
-data_row c n s (data_op.Add r x) = let v = (register_of n r s + value_of n s x) % 2 ^ 64 in Goes (label.Data (data_label.Add n v)) (assigned n r v s) n
+data_row c n s (data_op.Add r x) =
+    let v = (register_of n r s + value_of n s x) % 2 ^ 64 in
+    Goes (label.Data (data_label.Add n v)) (assigned n r v s) n
 data_row c n s (data_op.Handle r x) = let v = value_of n s x / 16 in Goes (label.Data (data_label.Handle n v)) (assigned n r v s) n
 data_row c n s (data_op.Load r w) = let v = word_of (instance_of n s) w s in Goes (label.Data (data_label.Load n v)) (assigned n r v s) n
 data_row c n s (data_op.Store w x) = let v = value_of n s x in Goes (label.Data (data_label.Store n v)) (stored n w v s) n

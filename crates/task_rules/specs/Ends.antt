@@ -29,7 +29,7 @@ use Rattle.task_rules.specs.Progress.{Goes, Never, Ordered, Progress, Stops, Tra
 
 -- ---- The end of a task
 
--- the result goes where the call says; to a thread that is gone it goes nowhere
+-- the result goes where the call says; to a thread that is gone it goes nowhere; default: no goal
 abbrev pub result_given : Goal → Caller → ℕ → ℕ → Core → Core
 result_given goal.Main f k v s = give_result k v s
 result_given (goal.Register r) (caller.Thread n) k v s = set_register n r v s
@@ -48,7 +48,9 @@ may_tell k w s = if is_told k s then may_publish (subtask.Guest k) w s else is_n
 
 -- the task ends as Returned with v
 unfoldable pub returned : ℕ → ℕ → Option ℕ → Core → Core
-returned k v w s = told k status.Returned w (result_given (goal_of k s) (caller_of k s) k v (set_end k call_end.Returned s))
+returned k v w s =
+    let over = set_end k call_end.Returned s in
+    told k status.Returned w (result_given (goal_of k s) (caller_of k s) k v over)
 
 -- the task ends as ReturnCancelled
 unfoldable pub cancelled : ℕ → Option ℕ → Core → Core
@@ -87,49 +89,62 @@ passes_after_return i k held s = passes_check i s || (not (is_nil held) || tells
 -- ---- The ends of threads
 
 -- the instance lets entries in again, and these held threads of it are released
-unfoldable pub let_in : ℕ → List ℕ → Core → Core
-let_in i order s = released order (set_do_not_enter i false s)
+unfoldable pub end_reopens : ℕ → List ℕ → Core → Core
+end_reopens i order s = released order (set_do_not_enter i false s)
 
 -- the held threads that are admitted once the instance lets entries in
-unfoldable pub held_out : ℕ → Core → List ℕ
-held_out i s = admitted_held i (set_do_not_enter i false s)
+unfoldable pub held_by_flag : ℕ → Core → List ℕ
+held_by_flag i s = admitted_held i (set_do_not_enter i false s)
 
--- the flag of the instance that the thread's start saved is written back
-unfoldable pub restored : ℕ → Core → Core
-restored n s = set_do_not_suspend (instance_of n s) (unwrap_or (saved_own_of n s) false) s
+-- the flag of the instance that the thread's start saved is written back; default: no saved flag
+unfoldable pub exit_restores : ℕ → Core → Core
+exit_restores n s = set_do_not_suspend (instance_of n s) (unwrap_or (saved_own_of n s) false) s
 
 -- after a check the strand stops, and the thread ends
-unfoldable pub left : ℕ → Core → Core
-left n s = ended n (stopped (foot_of n s) (checked (instance_of n s) s))
+unfoldable pub exit_stops : ℕ → Core → Core
+exit_stops n s = ended n (stopped (foot_of n s) (checked (instance_of n s) s))
 
--- a stackful export's exit, and an explicit thread's
-abbrev pub leave_row : ℕ → Core → Progress
-leave_row n s = trap_if (not (passes_check (instance_of n s) s)) trap.CannotBlockSyncTask (trap_if (leaves_no_result n s) trap.NoAsyncResult (Stops (exit_label n None) (left n s)))
+-- a stackful export's exit, and an explicit thread's: trap 9 (CannotBlockSyncTask) where the check fails,
+-- trap 4 (NoAsyncResult) where no thread is left and the task hasn't ended
+abbrev pub thread_exit_row : ℕ → Core → Progress
+thread_exit_row n s =
+    trap_if (not (passes_check (instance_of n s) s)) trap.CannotBlockSyncTask (
+    trap_if (leaves_no_result n s) trap.NoAsyncResult (
+    Stops (exit_label n None) (exit_stops n s)))
 
 -- a sync export's task returns r0
-unfoldable pub sync_left : ℕ → Option ℕ → Core → Core
-sync_left n w s = ended n (stopped (foot_of n s) (returned (task_of n s) (register_of n 0 s) w (restored n s)))
+unfoldable pub sync_exits : ℕ → Option ℕ → Core → Core
+sync_exits n w s = ended n (stopped (foot_of n s) (returned (task_of n s) (register_of n 0 s) w (exit_restores n s)))
 
+-- a sync export's exit
 abbrev pub sync_exit_row : ℕ → Option ℕ → Core → Progress
-sync_exit_row n w s = may (may_tell (task_of n s) w s) (Stops (exit_label n w) (sync_left n w s))
+sync_exit_row n w s = may (may_tell (task_of n s) w s) (Stops (exit_label n w) (sync_exits n w s))
 
 -- a blocking export's task returns r0
-unfoldable pub blocking_left : ℕ → Option ℕ → List ℕ → Core → Core
-blocking_left n w order s = left n (returned (task_of n s) (register_of n 0 s) w (let_in (instance_of n s) order s))
+unfoldable pub blocking_exits : ℕ → Option ℕ → List ℕ → Core → Core
+blocking_exits n w order s = exit_stops n (returned (task_of n s) (register_of n 0 s) w (end_reopens (instance_of n s) order s))
 
+-- a blocking export's exit: trap 9 (CannotBlockSyncTask) where the check after the release and the return fails
 abbrev pub blocking_exit_row : ℕ → Option ℕ → Core → Progress
 blocking_exit_row n w s =
-    let held = held_out (instance_of n s) s in
-    trap_if (not (passes_after_return (instance_of n s) (task_of n s) held s)) trap.CannotBlockSyncTask (may (may_tell (task_of n s) w s) (Ordered held (λ order. Stops (exit_label n w) (blocking_left n w order s))))
+    let held = held_by_flag (instance_of n s) s in
+    trap_if (not (passes_after_return (instance_of n s) (task_of n s) held s)) trap.CannotBlockSyncTask (
+    may (may_tell (task_of n s) w s) (
+    Ordered held (λ order. Stops (exit_label n w) (blocking_exits n w order s))))
 
 -- a direct call's task returns v; the thread under it goes on
-unfoldable pub direct_left : ℕ → ℕ → ℕ → Core → Core
-direct_left n m v s = set_how_far m (how_far.Answered v) (set_place m place.Running (ended n (set_end (task_of n s) call_end.Returned s)))
+unfoldable pub direct_exits : ℕ → ℕ → ℕ → Core → Core
+direct_exits n m v s = set_how_far m (how_far.Answered v) (set_place m place.Running (ended n (set_end (task_of n s) call_end.Returned s)))
 
+-- of a sync export the flag is written back; of a blocking one a check: trap 9 (CannotBlockSyncTask) where it fails;
+-- default: nobody under
 abbrev pub direct_exit_to : ℕ → ExportKind → Core → Option ℕ → Progress
 direct_exit_to n x s None = Never
-direct_exit_to n kind.Sync s (Some m) = Goes (exit_label n None) (direct_left n m (register_of n 0 s) (restored n s)) m
-direct_exit_to n x s (Some m) = trap_if (not (passes_check (instance_of n s) s)) trap.CannotBlockSyncTask (Goes (exit_label n None) (direct_left n m (register_of n 0 s) (checked (instance_of n s) s)) m)
+direct_exit_to n kind.Sync s (Some m) =
+    Goes (exit_label n None) (direct_exits n m (register_of n 0 s) (exit_restores n s)) m
+direct_exit_to n x s (Some m) =
+    trap_if (not (passes_check (instance_of n s) s)) trap.CannotBlockSyncTask (
+    Goes (exit_label n None) (direct_exits n m (register_of n 0 s) (checked (instance_of n s) s)) m)
 
 abbrev pub direct_exit_row : ℕ → Core → Progress
 direct_exit_row n s = direct_exit_to n (kind_of (task_of n s) s) s (under_of n s)
@@ -137,65 +152,79 @@ direct_exit_row n s = direct_exit_to n (kind_of (task_of n s) s) s (under_of n s
 -- ---- The ends of activations
 
 -- the instance lets entries in, and the strand stops
-unfoldable pub deactivated : ℕ → List ℕ → Core → Core
-deactivated n order s = stopped (foot_of n s) (let_in (instance_of n s) order s)
+unfoldable pub code_stops : ℕ → List ℕ → Core → Core
+code_stops n order s = stopped (foot_of n s) (end_reopens (instance_of n s) order s)
 
 -- code 0: the thread ends
-unfoldable pub finished : ℕ → List ℕ → Core → Core
-finished n order s = ended n (checked (instance_of n s) (deactivated n order s))
+unfoldable pub code_exits : ℕ → List ℕ → Core → Core
+code_exits n order s = ended n (checked (instance_of n s) (code_stops n order s))
 
 abbrev pub own_or_none : Option OwnEvent → Option OwnEvent
 own_or_none None = Some own.None
 own_or_none (Some e) = Some e
 
 -- code 1: the thread's turn comes again
-unfoldable pub yielded : ℕ → List ℕ → Core → Core
-yielded n order s =
+unfoldable pub code_yields : ℕ → List ℕ → Core → Core
+code_yields n order s =
     let k = task_of n s in
-    put_low n (why.Delivery delivery.Yield) (set_own_event k (own_or_none (own_event_of k s)) (deactivated n order s))
+    put_low n (why.Delivery delivery.Yield) (set_own_event k (own_or_none (own_event_of k s)) (code_stops n order s))
 
 -- code 2: an event is there
-unfoldable pub found : ℕ → ℕ → List ℕ → Core → Core
-found n x order s = put_high n (why.Delivery (delivery.Set x)) (deactivated n order s)
+unfoldable pub code_finds : ℕ → ℕ → List ℕ → Core → Core
+code_finds n x order s = put_high n (why.Delivery (delivery.Set x)) (code_stops n order s)
 
 -- code 2: no event is there
-unfoldable pub awaited : ℕ → ℕ → List ℕ → Core → Core
-awaited n x order s = set_place n (place.Waiting x true) (deactivated n order s)
+unfoldable pub code_waits : ℕ → ℕ → List ℕ → Core → Core
+code_waits n x order s = set_place n (place.Waiting x true) (code_stops n order s)
 
 -- the task's own event, or a ready member of the set, is there
 unfoldable pub has_event_for : ℕ → ℕ → Core → Bool
 has_event_for k x s = is_some (own_event_of k s) || has_ready_member x s
 
-abbrev pub wait_end : Label → ℕ → ℕ → List ℕ → Core → Bool → Progress
-wait_end l n x held s true = Ordered held (λ order. Stops l (found n x order s))
-wait_end l n x held s false = Ordered held (λ order. Stops l (awaited n x order s))
+-- by whether an event is there
+abbrev pub code_wait_row : Label → ℕ → ℕ → List ℕ → Core → Bool → Progress
+code_wait_row l n x held s true = Ordered held (λ order. Stops l (code_finds n x order s))
+code_wait_row l n x held s false = Ordered held (λ order. Stops l (code_waits n x order s))
 
--- by the low four bits of the code, and the rest of it
-abbrev pub kind_end : Label → ℕ → List ℕ → Core → ℕ → ℕ → Progress
-kind_end l n held s zero rest = trap_if (not (passes_after_stop (instance_of n s) (foot_of n s) held s)) trap.CannotBlockSyncTask (trap_if (leaves_no_result n s) trap.NoAsyncResult (Ordered held (λ order. Stops l (finished n order s))))
-kind_end l n held s (suc zero) rest = Ordered held (λ order. Stops l (yielded n order s))
-kind_end l n held s (suc (suc zero)) rest = or_trap (set_at (instance_of n s) rest s) trap.BadHandle (λ x. wait_end l n x held s (has_event_for (task_of n s) x s))
-kind_end l n held s _ rest = Traps trap.UnsupportedCallbackCode
+-- By the low four bits of the code, and the rest of it.
+-- 0: trap 9 (CannotBlockSyncTask) where the check after the release and the stop fails, trap 4 (NoAsyncResult) where no thread is
+-- left and the task hasn't ended. 1: the callback yields. 2: trap 16 (BadHandle) where the rest names no set.
+-- Else trap 12 (UnsupportedCallbackCode)
+abbrev pub code_kind_row : Label → ℕ → List ℕ → Core → ℕ → ℕ → Progress
+code_kind_row l n held s zero rest =
+    trap_if (not (passes_after_stop (instance_of n s) (foot_of n s) held s)) trap.CannotBlockSyncTask (
+    trap_if (leaves_no_result n s) trap.NoAsyncResult (
+    Ordered held (λ order. Stops l (code_exits n order s))))
+code_kind_row l n held s (suc zero) rest = Ordered held (λ order. Stops l (code_yields n order s))
+code_kind_row l n held s (suc (suc zero)) rest =
+    or_trap (set_at (instance_of n s) rest s) trap.BadHandle (
+    λ x. code_wait_row l n x held s (has_event_for (task_of n s) x s))
+code_kind_row l n held s _ rest = Traps trap.UnsupportedCallbackCode
 
--- a callback activation ends with the code
+-- a callback activation ends with the code: trap 12 (UnsupportedCallbackCode) where it is above 4294967295
 abbrev pub code_row : Label → ℕ → Core → ℕ → Progress
-code_row l n s code = trap_if (nat_lt 4294967295 code) trap.UnsupportedCallbackCode (kind_end l n (held_out (instance_of n s) s) s (code % 16) (code / 16))
+code_row l n s code =
+    trap_if (nat_lt 4294967295 code) trap.UnsupportedCallbackCode (
+    code_kind_row l n (held_by_flag (instance_of n s) s) s (code % 16) (code / 16))
 
 -- ---- Exit
 
 abbrev pub kind_exit_row : ℕ → Option ℕ → Core → ExportKind → Progress
 kind_exit_row n w s kind.Sync = sync_exit_row n w s
 kind_exit_row n w s kind.Blocking = blocking_exit_row n w s
-kind_exit_row n w s kind.Stackful = leave_row n s
+kind_exit_row n w s kind.Stackful = thread_exit_row n s
 kind_exit_row n w s kind.Callback = code_row (exit_label n None) n s 0
 
+-- of a call's first thread, by whether the call is direct
 abbrev pub implicit_exit_row : ℕ → Option ℕ → Core → Bool → Progress
 implicit_exit_row n w s true = direct_exit_row n s
 implicit_exit_row n w s false = kind_exit_row n w s (kind_of (task_of n s) s)
 
+-- by whether the thread is explicit
 abbrev pub exit_row_for : ℕ → Option ℕ → Core → Bool → Progress
-exit_row_for n w s true = leave_row n s
+exit_row_for n w s true = thread_exit_row n s
 exit_row_for n w s false = implicit_exit_row n w s (is_direct (goal_of (task_of n s) s))
 
+-- `exit`, and a script's end
 abbrev pub exit_row : ℕ → Option ℕ → Core → Progress
 exit_row n w s = exit_row_for n w s (is_explicit n s)

@@ -15,7 +15,7 @@ use Rattle.task_machine.specs.Maps.{get}
 use Rattle.task_machine.specs.Moves.{checked, has_entry, may_wake, passes_check, promoted_unless, released, stopped, wake}
 use Rattle.task_machine.specs.Read.{foot_of, instance_of, is_waiter, place_of, set_instance, task_of}
 use Rattle.task_machine.specs.Write.{remove_thread, set_place}
-use Rattle.task_rules.specs.Ends.{deactivated, held_out, let_in, may_tell, passes_after_return, passes_after_stop, returned}
+use Rattle.task_rules.specs.Ends.{code_stops, held_by_flag, end_reopens, may_tell, passes_after_return, passes_after_stop, returned}
 use Rattle.task_rules.specs.Outcome.{outcome_of_label}
 use Rattle.task_rules.specs.Places.{HasPlace}
 use Rattle.task_rules.specs.Run.{Run}
@@ -49,7 +49,8 @@ pub record SameThread (t u : Thread) : Type 0 where
   pub call : t.call ≡ u.call
   pub explicit : t.explicit ≡ u.explicit
 
--- the call is of the same export for the same caller, and what has happened to it stays so: its start has run, Starting was published, a cancel was delivered, it has exited
+-- the call is of the same export for the same caller, and what has happened to it stays so: its start has run, Starting was
+-- published, a cancel was delivered, it has exited
 pub record LaterCall (c d : Call) : Type 0 where
   pub caller : c.caller ≡ d.caller
   pub callee : c.callee ≡ d.callee
@@ -76,7 +77,9 @@ pub record Steady (s t : Core) : Type 0 where
 
 -- a label that gives an outcome ends the turns
 abbrev pub OutcomeEnds : Type 0
-OutcomeEnds = (x : Setting) (s : State) (l : Label) (t : State) → Step x s l t → (o : Outcome) → outcome_of_label l ≡ Some o → t.turn ≡ turn.Over
+OutcomeEnds =
+    (x : Setting) (s : State) (l : Label) (t : State) → Step x s l t →
+    (o : Outcome) → outcome_of_label l ≡ Some o → t.turn ≡ turn.Over
 
 -- once the turns are over, no label is lawful
 abbrev pub OverIsLast : Type 0
@@ -86,11 +89,15 @@ OverIsLast = (x : Setting) (s : State) (l : Label) (t : State) → s.turn ≡ tu
 
 -- a run goes on by one step
 abbrev pub RunGoesOn : Type 0
-RunGoesOn = (x : Setting) (s : State) (ls : List Label) (m : State) (l : Label) (t : State) → Run x s ls m → Step x m l t → Run x s (ls ++ l ∷ []) t
+RunGoesOn =
+    (x : Setting) (s : State) (ls : List Label) (m : State) (l : Label) (t : State) →
+    Run x s ls m → Step x m l t → Run x s (ls ++ l ∷ []) t
 
 -- two runs make one
 abbrev pub RunsJoin : Type 0
-RunsJoin = (x : Setting) (s : State) (ls : List Label) (m : State) (ks : List Label) (t : State) → Run x s ls m → Run x m ks t → Run x s (ls ++ ks) t
+RunsJoin =
+    (x : Setting) (s : State) (ls : List Label) (m : State) (ks : List Label) (t : State) →
+    Run x s ls m → Run x m ks t → Run x s (ls ++ ks) t
 
 -- what each step keeps, a run keeps
 abbrev pub KeptByRuns : (Core → Core → Type 0) → Type 0
@@ -98,7 +105,9 @@ KeptByRuns R = (x : Setting) (s : State) (ls : List Label) (t : State) → Run x
 
 -- before the last label of a run no label gives an outcome
 abbrev pub OutcomeIsLast : Type 0
-OutcomeIsLast = (x : Setting) (s : State) (ls : List Label) (l : Label) (k : Label) (t : State) → Run x s (ls ++ l ∷ k ∷ []) t → outcome_of_label l ≡ None
+OutcomeIsLast =
+    (x : Setting) (s : State) (ls : List Label) (l : Label) (k : Label) (t : State) →
+    Run x s (ls ++ l ∷ k ∷ []) t → outcome_of_label l ≡ None
 
 -- ---- Promotions
 
@@ -121,15 +130,17 @@ CheckMovesOne = (i : ℕ) (s : Core) → (checked i s ≡ s) ⊎ ((n : ℕ) × P
 
 -- the promotion of a thread's entry moves nothing, or that one
 abbrev pub PromotionMovesOne : Type 0
-PromotionMovesOne = (n : ℕ) (s : Core) → (has_entry n s.queues.high || has_entry n s.queues.low) ≡ true → (promoted_unless n s ≡ s) ⊎ Promotes n s (promoted_unless n s)
+PromotionMovesOne =
+    (n : ℕ) (s : Core) → (has_entry n s.queues.high || has_entry n s.queues.low) ≡ true →
+    (promoted_unless n s ≡ s) ⊎ Promotes n s (promoted_unless n s)
 
 -- ---- Tests on the state before
 
 -- the test of a callback's end on the state before is the check that its sentence has after the release and the stop
 abbrev pub CallbackCheckIsAfter : Type 0
 CallbackCheckIsAfter =
-    (n : ℕ) (s : Core) (order : List ℕ) → IsPermutation (held_out (instance_of n s) s) order →
-    passes_check (instance_of n s) (deactivated n order s) ≡ passes_after_stop (instance_of n s) (foot_of n s) (held_out (instance_of n s) s) s
+    (n : ℕ) (s : Core) (order : List ℕ) → IsPermutation (held_by_flag (instance_of n s) s) order →
+    passes_check (instance_of n s) (code_stops n order s) ≡ passes_after_stop (instance_of n s) (foot_of n s) (held_by_flag (instance_of n s) s) s
 
 -- ---- The moves of a running thread, in a state in which each thread has its place
 
@@ -166,5 +177,5 @@ WaitsAtHome s = (x m : ℕ) → is_waiter x m s ≡ true → instance_of m s ≡
 -- the test of a blocking export's exit on the state before is the check that its sentence has after the release and the return
 abbrev pub BlockingCheckIsAfter : Type 0
 BlockingCheckIsAfter =
-    (n v : ℕ) (w : Option ℕ) (s : Core) (order : List ℕ) → WaitsAtHome s → may_tell (task_of n s) w s ≡ true → IsPermutation (held_out (instance_of n s) s) order →
-    passes_check (instance_of n s) (returned (task_of n s) v w (let_in (instance_of n s) order s)) ≡ passes_after_return (instance_of n s) (task_of n s) (held_out (instance_of n s) s) s
+    (n v : ℕ) (w : Option ℕ) (s : Core) (order : List ℕ) → WaitsAtHome s → may_tell (task_of n s) w s ≡ true → IsPermutation (held_by_flag (instance_of n s) s) order →
+    passes_check (instance_of n s) (returned (task_of n s) v w (end_reopens (instance_of n s) order s)) ≡ passes_after_return (instance_of n s) (task_of n s) (held_by_flag (instance_of n s) s) s

@@ -35,7 +35,7 @@ pub data MainAct : Type 0 where
   Ready : (instance : ℕ) → MainAct
   Answer : (value : ℕ) → MainAct
 
--- What such an op comes to.
+-- What such an op results in.
 pub data MainProgress : Type 0 where
   Does : (label : MainLabel) → (new : Core) → MainProgress
   Pends : MainProgress
@@ -104,9 +104,11 @@ main_row c k s (Answer v) = Answers v
 
 -- ---- Main's script
 
+-- default: absent start or spawn
 abbrev pub started_at : MainPlace → ℕ → Started
 started_at p k = unwrap_or (slice_get p.starts (k - 1)) (Began 0)
 
+-- default: absent start or spawn
 abbrev pub spawned_at : MainPlace → ℕ → ℕ
 spawned_at p k = unwrap_or (slice_get p.spawns (k - 1)) 0
 

@@ -68,7 +68,9 @@ of_live gs ns = filter (λ n. is_in gs n.group) ns
 abbrev pub moment_notices : Moment → List Notice
 moment_notices m =
     start_notices m.label m.after.core
-    ++ of_live m.before.core.groups (switch_notices (running_group m.before.core m.before.turn) (running_group m.after.core m.after.turn) ++ work_notices m.label m.before.core)
+    ++ of_live m.before.core.groups (
+    switch_notices (running_group m.before.core m.before.turn) (running_group m.after.core m.after.turn)
+    ++ work_notices m.label m.before.core)
     ++ finish_notices m.before.core.groups m.after.core.groups
 
 -- the notices of a run, in order

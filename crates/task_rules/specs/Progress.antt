@@ -1,4 +1,4 @@
--- What a step of a thread, or the taking of an entry, comes to.
+-- What a step of a thread, or the taking of an entry, results in.
 use Rattle.std.specs.Prelude.{ℕ, Bool, true, false, Option, Some, None, List}
 use Rattle.task_machine.specs.declared.trap.Trap.{Trap}
 use Rattle.task_machine.specs.declared.label.Label.{Label}

@@ -18,7 +18,12 @@ main_opening = record { position = 0; registers = replicate 16 0; starts = []; s
 
 -- the state in which nothing was made, with this many instances and these limits, and main's turn
 abbrev pub opening : (instances handle_limit capacity : ℕ) → Main → State
-opening instances handle_limit capacity main = record { version = One; core = fresh instances handle_limit capacity; main = main; turn = turn.Main }
+opening instances handle_limit capacity main = record {
+  version = One;
+  core = fresh instances handle_limit capacity;
+  main = main;
+  turn = turn.Main;
+}
 
 -- the opening state of a scenario
 unfoldable pub opens : ScenarioDef → State

@@ -38,7 +38,7 @@ values_in registers xs = map (value_in registers) xs
 abbrev pub registers_for : List ℕ → List ℕ
 registers_for words = words ++ replicate (16 - length words) 0
 
--- ---- A component's parts
+-- ---- A component's parts, with the default "absent part"
 
 abbrev pub export_at : Component → Callee → Option ExportDef
 export_at c f = option_and_then (λ d. slice_get d.exports f.export) (slice_get c.instances f.instance)
@@ -55,7 +55,7 @@ never_host = record { polls = None; value = None }
 abbrev pub host_at : Component → ℕ → HostDef
 host_at c h = unwrap_or (slice_get c.hosts h) never_host
 
--- ---- A thread's script
+-- ---- A thread's script, with the defaults "absent part" and "absent thread"
 
 abbrev pub slot_script : Slot → List Op
 slot_script (slot.Script ops) = ops

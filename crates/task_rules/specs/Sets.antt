@@ -35,18 +35,26 @@ set_made n r s =
     let h = new_handle i s in
     assigned n r h (give_handle i (named.Set (s.made.sets + 1)) (add_set (record { instance = i }) s))
 
--- `set_new R`
+-- `set_new R`: trap 18 (TableFull) where 1 entry doesn't fit, trap 17 (HandleLimit) where no handle may be given
 abbrev pub set_new_row : ℕ → ℕ → Core → Progress
-set_new_row n r s = trap_if (not (fits 1 s)) trap.TableFull (trap_if (at_handle_limit s) trap.HandleLimit (Goes (label.Set (set_label.New (new_handle (instance_of n s) s) n)) (set_made n r s) n))
+set_new_row n r s =
+    trap_if (not (fits 1 s)) trap.TableFull (
+    trap_if (at_handle_limit s) trap.HandleLimit (
+    Goes (label.Set (set_label.New (new_handle (instance_of n s) s) n)) (set_made n r s) n))
 
 -- the set x and its handle h are gone
 unfoldable pub set_dropped : ℕ → ℕ → ℕ → Core → Core
 set_dropped n h x s = advanced n (remove_set x (free_handle (instance_of n s) h s))
 
+-- trap 8 (WaitableSetDropHasWaiters) where a thread waits on the set or has an entry for it,
+-- trap 25 (TableHasChildren) where a member is left
 abbrev pub set_drop_found : ℕ → ℕ → Core → ℕ → Progress
-set_drop_found n h s x = trap_if (has_waiters x s) trap.WaitableSetDropHasWaiters (trap_if (has_member x s) trap.TableHasChildren (Goes (label.Set (set_label.Drop n)) (set_dropped n h x s) n))
+set_drop_found n h s x =
+    trap_if (has_waiters x s) trap.WaitableSetDropHasWaiters (
+    trap_if (has_member x s) trap.TableHasChildren (
+    Goes (label.Set (set_label.Drop n)) (set_dropped n h x s) n))
 
--- `set_drop X`
+-- `set_drop X`: trap 16 (BadHandle) where X names no set
 abbrev pub set_drop_row : ℕ → ℕ → Core → Progress
 set_drop_row n h s = or_trap (set_at (instance_of n s) h s) trap.BadHandle (set_drop_found n h s)
 
@@ -56,7 +64,7 @@ set_drop_row n h s = or_trap (set_at (instance_of n s) h s) trap.BadHandle (set_
 abbrev pub chosen : ℕ → Choice → Core → Option Subtask
 chosen n ch s = option_and_then (λ h. subtask_at (instance_of n s) h s) ch.member
 
--- what the gift hands out
+-- what the gift hands out; default: no member chosen
 abbrev pub handed_out : Choice → Core → Gift → Given
 handed_out ch s g = given_for g (unwrap_or ch.member 0) s
 
@@ -75,49 +83,72 @@ given_result _ = 0
 
 -- code, handle and result are in r and the two registers after it
 unfoldable pub set_given : ℕ → ℕ → Given → Core → Core
-set_given n r v s = set_register n (r + 2) (given_result v) (set_register n (r + 1) (given_handle v) (set_register n r (given_code v) s))
+set_given n r v s =
+    let first = set_register n r (given_code v) s in
+    set_register n (r + 2) (given_result v) (set_register n (r + 1) (given_handle v) first)
 
 -- the gift is taken, and what it hands out is in r and the two registers after it
 unfoldable pub received : ℕ → ℕ → Gift → Given → Core → Core
 received n r g v s = advanced n (set_given n r v (taken g (task_of n s) s))
 
 -- the strand stops, and its top waits on x
-unfoldable pub waiting : ℕ → ℕ → Core → Core
-waiting n x s = set_how_far n (how_far.Waits x) (stopped_at n (place.Waiting x false) s)
+unfoldable pub wait_stops : ℕ → ℕ → Core → Core
+wait_stops n x s = set_how_far n (how_far.Waits x) (stopped_at n (place.Waiting x false) s)
 
-unfoldable pub begun_waiting : ℕ → ℕ → Core → Core
-begun_waiting n x s = waiting n x (checked (instance_of n s) s)
+unfoldable pub wait_stops_checked : ℕ → ℕ → Core → Core
+wait_stops_checked n x s = wait_stops n x (checked (instance_of n s) s)
 
 -- neither the own event, as far as the thread may take it, nor a ready member is there
 unfoldable pub finds_nothing : ℕ → ℕ → Core → Bool
 finds_nothing n x s = is_none (own_gift_of false (task_of n s) s) && not (has_ready_member x s)
 
 abbrev pub wait_takes : ℕ → ℕ → Choice → Core → Gift → Progress
-wait_takes n r ch s g = let v = handed_out ch s g in Goes (label.Set (set_label.Wait v n)) (received n r g v s) n
+wait_takes n r ch s g =
+    let v = handed_out ch s g in
+    Goes (label.Set (set_label.Wait v n)) (received n r g v s) n
 
+-- where nothing is there, a check: trap 9 (CannotBlockSyncTask) where it fails, else the strand stops; where something is there,
+-- it is taken at once
 abbrev pub wait_begins : ℕ → ℕ → Choice → Core → ℕ → Bool → Progress
-wait_begins n r ch s x true = trap_if (not (passes_check (instance_of n s) s)) trap.CannotBlockSyncTask (Stops (label.Thread (thread_label.Pauses n)) (begun_waiting n x s))
-wait_begins n r ch s x false = or_never (gift false (task_of n s) x (chosen n ch s) s) (wait_takes n r ch s)
+wait_begins n r ch s x true =
+    trap_if (not (passes_check (instance_of n s) s)) trap.CannotBlockSyncTask (
+    Stops (label.Thread (thread_label.Pauses n)) (wait_stops_checked n x s))
+wait_begins n r ch s x false =
+    or_never (gift false (task_of n s) x (chosen n ch s) s) (
+    wait_takes n r ch s)
 
 -- the wake is handed on where the gift is the own event
 unfoldable pub received_woken : ℕ → ℕ → ℕ → Option ℕ → Gift → Given → Core → Core
 received_woken n x r w g v s = received n r g v (handed_on x g w s)
 
+-- the resumed thread waits again, without a check, where nothing is there any more; else it takes what is there
 abbrev pub wait_goes_on : ℕ → ℕ → ℕ → Choice → Core → Gift → Progress
-wait_goes_on n x r ch s NoGift = Stops (label.Thread (thread_label.Pauses n)) (waiting n x s)
-wait_goes_on n x r ch s g = let v = handed_out ch s g in may (may_hand_on x g ch.woken s) (Goes (wait_label n v ch.woken) (received_woken n x r ch.woken g v s) n)
+wait_goes_on n x r ch s NoGift = Stops (label.Thread (thread_label.Pauses n)) (wait_stops n x s)
+wait_goes_on n x r ch s g =
+    let v = handed_out ch s g in
+    may (may_hand_on x g ch.woken s) (
+    Goes (wait_label n v ch.woken) (received_woken n x r ch.woken g v s) n)
 
--- `wait R X`, by how far it has come
+-- `wait R X`: resumed inside it, or as it begins: trap 16 (BadHandle) where X names no set
 abbrev pub wait_row : ℕ → ℕ → ℕ → Choice → Core → HowFar → Progress
-wait_row n r h ch s (how_far.Waits x) = or_never (gift false (task_of n s) x (chosen n ch s) s) (wait_goes_on n x r ch s)
-wait_row n r h ch s _ = or_trap (set_at (instance_of n s) h s) trap.BadHandle (λ x. wait_begins n r ch s x (finds_nothing n x s))
+wait_row n r h ch s (how_far.Waits x) =
+    or_never (gift false (task_of n s) x (chosen n ch s) s) (
+    wait_goes_on n x r ch s)
+wait_row n r h ch s _ =
+    or_trap (set_at (instance_of n s) h s) trap.BadHandle (
+    λ x. wait_begins n r ch s x (finds_nothing n x s))
 
 abbrev pub poll_takes : ℕ → ℕ → Choice → Core → Gift → Progress
-poll_takes n r ch s g = let v = handed_out ch s g in Goes (label.Set (set_label.Poll v n)) (received n r g v s) n
+poll_takes n r ch s g =
+    let v = handed_out ch s g in
+    Goes (label.Set (set_label.Poll v n)) (received n r g v s) n
 
--- `poll R X`
+-- `poll R X`: trap 16 (BadHandle) where X names no set; else what is there is taken, and 0 0 0 where nothing is
 abbrev pub poll_row : ℕ → ℕ → ℕ → Choice → Core → Progress
-poll_row n r h ch s = or_trap (set_at (instance_of n s) h s) trap.BadHandle (λ x. or_never (gift false (task_of n s) x (chosen n ch s) s) (poll_takes n r ch s))
+poll_row n r h ch s =
+    or_trap (set_at (instance_of n s) h s) trap.BadHandle (
+    λ x. or_never (gift false (task_of n s) x (chosen n ch s) s) (
+    poll_takes n r ch s))
 
 -- ---- Joining
 
@@ -138,15 +169,19 @@ may_wake_new _ _ w s = is_none w
 unfoldable pub joined : ℕ → Subtask → Option ℕ → Option ℕ → Core → Core
 joined n sub x w s = advanced n (wakes_joined (event_of sub s) x w (set_join sub (joins x) s))
 
+-- trap 7 (WaitableSyncAndAsync) where the subtask stands in a thread's own set
 abbrev pub join_done : ℕ → Subtask → Option ℕ → Core → Option ℕ → Progress
-join_done n sub w s x = trap_if (is_watched (join_of sub s)) trap.WaitableSyncAndAsync (may (may_wake_new (event_of sub s) x w s) (Goes (join_label n w) (joined n sub x w s) n))
+join_done n sub w s x =
+    trap_if (is_watched (join_of sub s)) trap.WaitableSyncAndAsync (
+    may (may_wake_new (event_of sub s) x w s) (
+    Goes (join_label n w) (joined n sub x w s) n))
 
--- the set that the handle names; 0 is for none
+-- 0 is for no set; else trap 16 (BadHandle) where the handle names none
 abbrev pub join_to : ℕ → ℕ → Option ℕ → Core → Subtask → Progress
 join_to n zero w s sub = join_done n sub w s None
 join_to n (suc h) w s sub = or_trap (set_at (instance_of n s) (suc h) s) trap.BadHandle (λ x. join_done n sub w s (Some x))
 
--- `join X Y`
+-- `join X Y`: trap 16 (BadHandle) where X names no subtask
 abbrev pub join_row : ℕ → ℕ → ℕ → Option ℕ → Core → Progress
 join_row n h y w s = or_trap (subtask_at (instance_of n s) h s) trap.BadHandle (join_to n y w s)
 

@@ -31,7 +31,7 @@ use Rattle.task_rules.specs.Takes.{popped, take_row}
 use Rattle.task_rules.specs.Task.{task_row}
 use Rattle.task_rules.specs.Threads.{thread_row}
 use Rattle.task_rules.specs.Turns.{at_turn, goes_to}
-use Rattle.task_rules.specs.Works.{Ends, FailsNow, Poll, StillPends, has_moving_work, next_polled, pended, poll_of, work_ended}
+use Rattle.task_rules.specs.Works.{Ends, FailsNow, Poll, StillPends, has_moving_work, next_polled, poll_pends, poll_of, poll_ends}
 
 -- ---- What runs
 
@@ -43,7 +43,7 @@ op_row c n s ch (op.Set o) = set_row n s ch o
 op_row c n s ch (op.Call o) = subtask_row c n s o
 op_row c n s ch (op.Thread o) = thread_row c n s o
 
--- what the next step of the running thread comes to, where it chooses so
+-- what the next step of the running thread results in, where it chooses so
 unfoldable pub did : Component → ℕ → Core → Choice → Progress
 did c n s ch = op_row c n s ch (op_of c n s)
 
@@ -91,8 +91,8 @@ MainStep x s Unscripted l t = OpenStep x s l t
 
 -- a live work is polled
 abbrev pub Polled : State → ℕ → Poll → Label → State → Type 0
-Polled s i (StillPends host) l t = (l ≡ label.Loop (loop_label.FuturePends i)) × (t ≡ goes_to s (pended i host s.core) (turn.Futures i))
-Polled s i (Ends v) l t = (l ≡ label.Loop (loop_label.FutureEnds i)) × (t ≡ goes_to s (work_ended i v s.core) (turn.Take true))
+Polled s i (StillPends host) l t = (l ≡ label.Loop (loop_label.FuturePends i)) × (t ≡ goes_to s (poll_pends i host s.core) (turn.Futures i))
+Polled s i (Ends v) l t = (l ≡ label.Loop (loop_label.FutureEnds i)) × (t ≡ goes_to s (poll_ends i v s.core) (turn.Take true))
 Polled s i FailsNow l t = (l ≡ label.Loop (loop_label.FutureFails i)) × (t ≡ goes_to s (set_trapped s.core) turn.Over)
 
 abbrev pub FuturesStep : State → Option ℕ → Label → State → Type 0

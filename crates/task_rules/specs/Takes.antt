@@ -30,7 +30,7 @@ use Rattle.task_machine.specs.Maps.{get}
 use Rattle.task_machine.specs.Moves.{Gift, NoGift, gift, given_for, handed_on, may_hand_on, may_publish, own_gift_only, published, stopped_at, taken}
 use Rattle.task_machine.specs.Read.{admits, at_handle_limit, course_of, course_value, instance_of, is_explicit, kind_of, place_of, task_of, work_caller_of}
 use Rattle.task_machine.specs.Write.{set_do_not_enter, set_high, set_low, set_place, set_register, set_script, set_stage, set_started, set_starting_published, set_switch}
-use Rattle.task_rules.specs.Calls.{forbidding, with_thread_handle}
+use Rattle.task_rules.specs.Calls.{sync_sets_flag, with_thread_handle}
 use Rattle.task_rules.specs.Data.{moved_to}
 use Rattle.task_rules.specs.Ends.{may_tell, told}
 use Rattle.task_rules.specs.Progress.{Goes, Never, Progress, Stops, may, or_never, trap_if}
@@ -53,11 +53,12 @@ popped mark.Low s = set_low (rest_of s.queues.low) s
 unfoldable pub pushed : ℕ → Core → Core
 pushed i s = set_stage i stage.Live s
 
--- what the host call came to is told
+-- what the host call resulted in is told
 abbrev pub host_status : Option ℕ → Status
 host_status None = status.ReturnCancelled
 host_status (Some v) = status.Returned
 
+-- default: host entry of another work
 abbrev pub host_result : WorkCaller → Option ℕ → Core → Core
 host_result (work_caller.Async n q) (Some v) s = set_register n q v s
 host_result _ _ s = s
@@ -84,61 +85,83 @@ unfoldable pub may_tell_starting : ℕ → Option ℕ → Core → Bool
 may_tell_starting k w s = if starting_is_published k s then is_none w else may_tell k w s
 
 -- the thread is held with its entry, and its strand stops
-unfoldable pub held : ℕ → Why → Core → Core
-held n w s = stopped_at n (place.Held w) s
+unfoldable pub take_holds : ℕ → Why → Core → Core
+take_holds n w s = stopped_at n (place.Held w) s
 
-unfoldable pub start_held : ℕ → Option ℕ → Core → Core
-start_held n w s = held n why.Start (starting_told (task_of n s) w s)
+unfoldable pub start_holds : ℕ → Option ℕ → Core → Core
+start_holds n w s = take_holds n why.Start (starting_told (task_of n s) w s)
 
-abbrev pub enters : ℕ → ExportKind → Core → Core
-enters n kind.Sync s = forbidding n (instance_of n s) kind.Sync s
-enters n kind.Stackful s = s
-enters n x s = set_do_not_enter (instance_of n s) true s
+-- a sync export saves and sets `do_not_suspend`; a blocking one and a callback set `do_not_enter`
+abbrev pub start_sets_flags : ℕ → ExportKind → Core → Core
+start_sets_flags n kind.Sync s = sync_sets_flag n (instance_of n s) kind.Sync s
+start_sets_flags n kind.Stackful s = s
+start_sets_flags n x s = set_do_not_enter (instance_of n s) true s
 
 -- the call's first thread has its handle, Started is told, and the flags of its kind are set
-unfoldable pub started : ℕ → Option ℕ → Core → Core
-started n w s =
+unfoldable pub start_begins : ℕ → Option ℕ → Core → Core
+start_begins n w s =
     let k = task_of n s in
-    set_place n place.Running (enters n (kind_of k s) (told k status.Started w (set_started k (with_thread_handle (instance_of n s) n s))))
+    let begun = set_started k (with_thread_handle (instance_of n s) n s) in
+    set_place n place.Running (start_sets_flags n (kind_of k s) (told k status.Started w begun))
 
 unfoldable pub running : ℕ → Core → Core
 running n s = set_place n place.Running s
 
+-- an explicit thread goes on; a call's first thread begins: trap 17 (HandleLimit) where no thread handle may be given
 abbrev pub start_admitted : Mark → ℕ → Option ℕ → Core → Bool → Progress
 start_admitted m n w s true = Goes (take_label m n None) (running n s) n
-start_admitted m n w s false = trap_if (at_handle_limit s) trap.HandleLimit (may (may_tell (task_of n s) w s) (Goes (take_label m n w) (started n w s) n))
+start_admitted m n w s false =
+    trap_if (at_handle_limit s) trap.HandleLimit (
+    may (may_tell (task_of n s) w s) (
+    Goes (take_label m n w) (start_begins n w s) n))
 
+-- by whether the start is admitted
 abbrev pub start_row : Mark → ℕ → Option ℕ → Core → Bool → Progress
 start_row m n w s true = start_admitted m n w s (is_explicit n s)
-start_row m n w s false = may (may_tell_starting (task_of n s) w s) (Stops (held_label m n w) (start_held n w s))
+start_row m n w s false =
+    may (may_tell_starting (task_of n s) w s) (
+    Stops (held_label m n w) (start_holds n w s))
 
 -- ---- Deliveries
 
 -- what it hands out is in r0, r1 and r2, and the react script runs
 unfoldable pub activated : ℕ → Gift → Given → Core → Core
-activated n g v s = set_place n place.Running (moved_to n 0 (set_script n script.React (set_do_not_enter (instance_of n s) true (set_given n 0 v (taken g (task_of n s) s)))))
+activated n g v s =
+    let given = set_given n 0 v (taken g (task_of n s) s) in
+    let shut = set_do_not_enter (instance_of n s) true given in
+    set_place n place.Running (moved_to n 0 (set_script n script.React shut))
 
 unfoldable pub activated_woken : ℕ → ℕ → Option ℕ → Gift → Given → Core → Core
 activated_woken n x w g v s = activated n g v (handed_on x g w s)
 
 -- it found nothing, and waits again
-unfoldable pub awaits_again : ℕ → ℕ → Core → Core
-awaits_again n x s = stopped_at n (place.Waiting x true) s
+unfoldable pub wait_again : ℕ → ℕ → Core → Core
+wait_again n x s = stopped_at n (place.Waiting x true) s
 
+-- the callback waits again where nothing is there; else it is given what is there
 abbrev pub set_delivered : Mark → ℕ → ℕ → Choice → Core → Gift → Progress
-set_delivered m n x ch s NoGift = Stops (label.Take (take.Again m n)) (awaits_again n x s)
-set_delivered m n x ch s g = let v = handed_out ch s g in may (may_hand_on x g ch.woken s) (Goes (event_label m n v ch.woken) (activated_woken n x ch.woken g v s) n)
+set_delivered m n x ch s NoGift = Stops (label.Take (take.Again m n)) (wait_again n x s)
+set_delivered m n x ch s g =
+    let v = handed_out ch s g in
+    may (may_hand_on x g ch.woken s) (
+    Goes (event_label m n v ch.woken) (activated_woken n x ch.woken g v s) n)
 
+-- of a yield and of a cancel: the own event alone, and 0 0 0 where none is there
 abbrev pub own_delivered : Mark → ℕ → Core → Gift → Progress
-own_delivered m n s g = let v = given_for g 0 s in Goes (event_label m n v None) (activated n g v s) n
+own_delivered m n s g =
+    let v = given_for g 0 s in
+    Goes (event_label m n v None) (activated n g v s) n
 
 abbrev pub delivered : Mark → ℕ → Choice → Core → Delivery → Progress
-delivered m n ch s (delivery.Set x) = or_never (gift true (task_of n s) x (chosen n ch s) s) (set_delivered m n x ch s)
+delivered m n ch s (delivery.Set x) =
+    or_never (gift true (task_of n s) x (chosen n ch s) s) (
+    set_delivered m n x ch s)
 delivered m n ch s d = own_delivered m n s (own_gift_only (task_of n s) s)
 
+-- by whether the delivery is admitted
 abbrev pub delivery_row : Mark → ℕ → Choice → Core → Delivery → Bool → Progress
 delivery_row m n ch s d true = delivered m n ch s d
-delivery_row m n ch s d false = Stops (held_label m n None) (held n (why.Delivery d) s)
+delivery_row m n ch s d false = Stops (held_label m n None) (take_holds n (why.Delivery d) s)
 
 -- ---- Taking
 
@@ -147,12 +170,12 @@ thread_taken_for m n ch s why.Start = start_row m n ch.woken s (admits n s why.S
 thread_taken_for m n ch s (why.Delivery d) = delivery_row m n ch s d (admits n s (why.Delivery d))
 thread_taken_for m n ch s why.Resumption = Goes (take_label m n None) (running n s) n
 
--- only a thread whose entry stands at a mark is taken
+-- only a thread whose entry is queued is taken; default: not queued
 abbrev pub thread_taken : Mark → ℕ → Choice → Core → Option Place → Progress
 thread_taken m n ch s (Some (place.Ready x w)) = thread_taken_for m n ch s w
 thread_taken m n ch s _ = Never
 
--- the entry, which stood at the mark, is taken
+-- the entry, which was queued at the mark, is taken
 abbrev pub take_row : Mark → Choice → Core → Entry → Progress
 take_row m ch s (entry.Thread n) = thread_taken m n ch s (place_of n s)
 take_row m ch s (entry.Push i) = Stops (label.Take (take.Push m i)) (pushed i s)

@@ -18,43 +18,60 @@ use Rattle.task_rules.specs.Scripts.{value_of}
 unfoldable pub ret_done : ℕ → ℕ → Option ℕ → Core → Core
 ret_done n v w s = advanced n (returned (task_of n s) v w s)
 
--- `ret X`
+-- `ret X`: trap 1 (TaskCancelOrReturnTwice) where the task has ended, trap 3 (TaskReturnInvalid) where it isn't async-lifted;
+-- else it ends as Returned with X
 abbrev pub ret_row : ℕ → ℕ → Option ℕ → Core → Progress
-ret_row n v w s = trap_if (has_ended (task_of n s) s) trap.TaskCancelOrReturnTwice (trap_if (not (is_async_lifted (kind_of (task_of n s) s))) trap.TaskReturnInvalid (may (may_tell (task_of n s) w s) (Goes (ret_label n v w) (ret_done n v w s) n)))
+ret_row n v w s =
+    trap_if (has_ended (task_of n s) s) trap.TaskCancelOrReturnTwice (
+    trap_if (not (is_async_lifted (kind_of (task_of n s) s))) trap.TaskReturnInvalid (
+    may (may_tell (task_of n s) w s) (
+    Goes (ret_label n v w) (ret_done n v w s) n)))
 
--- `ret_bad X`
+-- `ret_bad X`: trap 1 (TaskCancelOrReturnTwice) where the task has ended, else trap 3 (TaskReturnInvalid)
 abbrev pub ret_bad_row : ℕ → Core → Progress
-ret_bad_row n s = trap_if (has_ended (task_of n s) s) trap.TaskCancelOrReturnTwice (Traps trap.TaskReturnInvalid)
+ret_bad_row n s =
+    trap_if (has_ended (task_of n s) s) trap.TaskCancelOrReturnTwice (
+    Traps trap.TaskReturnInvalid)
 
-unfoldable pub cancel_done : ℕ → Option ℕ → Core → Core
-cancel_done n w s = advanced n (cancelled (task_of n s) w s)
+unfoldable pub task_cancel_done : ℕ → Option ℕ → Core → Core
+task_cancel_done n w s = advanced n (cancelled (task_of n s) w s)
 
--- `task_cancel`
+-- `task_cancel`: trap 2 (TaskCancelNotCancelled) where no cancel was delivered, trap 1 (TaskCancelOrReturnTwice) where the task
+-- has ended; else it ends as ReturnCancelled
 abbrev pub task_cancel_row : ℕ → Option ℕ → Core → Progress
-task_cancel_row n w s = trap_if (not (cancel_was_delivered (task_of n s) s)) trap.TaskCancelNotCancelled (trap_if (has_ended (task_of n s) s) trap.TaskCancelOrReturnTwice (may (may_tell (task_of n s) w s) (Goes (task_cancel_label n w) (cancel_done n w s) n)))
+task_cancel_row n w s =
+    trap_if (not (cancel_was_delivered (task_of n s) s)) trap.TaskCancelNotCancelled (
+    trap_if (has_ended (task_of n s) s) trap.TaskCancelOrReturnTwice (
+    may (may_tell (task_of n s) w s) (
+    Goes (task_cancel_label n w) (task_cancel_done n w s) n)))
 
-unfoldable pub raised : ℕ → Core → Core
-raised n s = let i = instance_of n s in advanced n (set_backpressure i (backpressure_of i s + 1) s)
+unfoldable pub inc_raises : ℕ → Core → Core
+inc_raises n s = let i = instance_of n s in advanced n (set_backpressure i (backpressure_of i s + 1) s)
 
--- `bp_inc`
+-- `bp_inc`: trap 10 (BackpressureOverflow) where the counter is at 65535
 abbrev pub inc_row : ℕ → Core → Progress
-inc_row n s = trap_if (nat_le 65535 (backpressure_of (instance_of n s) s)) trap.BackpressureOverflow (Goes (label.Task (task_label.BpInc n)) (raised n s) n)
+inc_row n s =
+    trap_if (nat_le 65535 (backpressure_of (instance_of n s) s)) trap.BackpressureOverflow (
+    Goes (label.Task (task_label.BpInc n)) (inc_raises n s) n)
 
-unfoldable pub lowered : ℕ → Core → Core
-lowered n s = let i = instance_of n s in advanced n (set_backpressure i (backpressure_of i s - 1) s)
+unfoldable pub dec_lowers : ℕ → Core → Core
+dec_lowers n s = let i = instance_of n s in advanced n (set_backpressure i (backpressure_of i s - 1) s)
 
 -- the counter falls to 0, and these held threads of the instance are released
-unfoldable pub opened : ℕ → List ℕ → Core → Core
-opened n order s = advanced n (released order (set_backpressure (instance_of n s) 0 s))
+unfoldable pub dec_opens : ℕ → List ℕ → Core → Core
+dec_opens n order s = advanced n (released order (set_backpressure (instance_of n s) 0 s))
 
 -- the held threads that are admitted once the counter is 0
-unfoldable pub held_back : ℕ → Core → List ℕ
-held_back i s = admitted_held i (set_backpressure i 0 s)
+unfoldable pub held_by_counter : ℕ → Core → List ℕ
+held_by_counter i s = admitted_held i (set_backpressure i 0 s)
 
+-- trap 10 (BackpressureOverflow) where the counter is 0; falling to 0 releases the instance
 abbrev pub dec_from : ℕ → Core → ℕ → Progress
 dec_from n s zero = Traps trap.BackpressureOverflow
-dec_from n s (suc zero) = Ordered (held_back (instance_of n s) s) (λ order. Goes (label.Task (task_label.BpDec n)) (opened n order s) n)
-dec_from n s (suc (suc b)) = Goes (label.Task (task_label.BpDec n)) (lowered n s) n
+dec_from n s (suc zero) =
+    Ordered (held_by_counter (instance_of n s) s) (
+    λ order. Goes (label.Task (task_label.BpDec n)) (dec_opens n order s) n)
+dec_from n s (suc (suc b)) = Goes (label.Task (task_label.BpDec n)) (dec_lowers n s) n
 
 -- `bp_dec`
 abbrev pub dec_row : ℕ → Core → Progress

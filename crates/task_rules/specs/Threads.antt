@@ -35,18 +35,24 @@ unfoldable pub thread_made : ℕ → ℕ → ℕ → ℕ → Core → Core
 thread_made n r x v s =
     let i = instance_of n s in
     let h = new_thread_handle i s in
-    assigned n r h (with_thread_handle i (next_thread s) (add_thread (new_thread (task_of n s) true (script.Slot x) (registers_for (v ∷ [])) None) s))
+    let thread = new_thread (task_of n s) true (script.Slot x) (registers_for (v ∷ [])) None in
+    assigned n r h (with_thread_handle i (next_thread s) (add_thread thread s))
 
 abbrev pub thread_new_label : ℕ → Core → Label
 thread_new_label n s = label.Thread (thread_label.New (new_thread_handle (instance_of n s) s) n (next_thread s))
 
--- `thread_new R S X`
+-- `thread_new R S X`: trap 13 (ThreadNewIndirectUninitialized) where the slot has no line,
+-- trap 14 (ThreadNewIndirectInvalidType) where it is bad,
+-- trap 18 (TableFull) where 2 entries don't fit, trap 17 (HandleLimit) where no handle may be given
 abbrev pub thread_new_row : ℕ → ℕ → ℕ → ℕ → Core → Slot → Progress
 thread_new_row n r x v s slot.Empty = Traps trap.ThreadNewIndirectUninitialized
 thread_new_row n r x v s slot.Bad = Traps trap.ThreadNewIndirectInvalidType
-thread_new_row n r x v s (slot.Script ops) = trap_if (not (fits 2 s)) trap.TableFull (trap_if (at_handle_limit s) trap.HandleLimit (Goes (thread_new_label n s) (thread_made n r x v s) n))
+thread_new_row n r x v s (slot.Script ops) =
+    trap_if (not (fits 2 s)) trap.TableFull (
+    trap_if (at_handle_limit s) trap.HandleLimit (
+    Goes (thread_new_label n s) (thread_made n r x v s) n))
 
--- `thread_index R`
+-- `thread_index R`; default: no handle of its own
 abbrev pub thread_index_row : ℕ → ℕ → Core → Progress
 thread_index_row n r s = let h = unwrap_or (thread_handle_of n s) 0 in Goes (label.Thread (thread_label.Index h n)) (assigned n r h s) n
 
@@ -64,10 +70,14 @@ resume_why m s = option_and_then (resume_at (is_explicit m s)) (place_of m s)
 unfoldable pub resumed_later : ℕ → ℕ → Why → Core → Core
 resumed_later n m w s = advanced n (put_low m w s)
 
+-- trap 11 (CannotResumeThread) where it is this thread, or neither an explicit one that wasn't started nor suspended
 abbrev pub resume_later_found : ℕ → Core → ℕ → Progress
-resume_later_found n s m = trap_if (m == n) trap.CannotResumeThread (or_trap (resume_why m s) trap.CannotResumeThread (λ w. Goes (label.Thread (thread_label.ResumeLater n)) (resumed_later n m w s) n))
+resume_later_found n s m =
+    trap_if (m == n) trap.CannotResumeThread (
+    or_trap (resume_why m s) trap.CannotResumeThread (
+    λ w. Goes (label.Thread (thread_label.ResumeLater n)) (resumed_later n m w s) n))
 
--- `resume_later X`
+-- `resume_later X`: trap 16 (BadHandle) where X names no thread
 abbrev pub resume_later_row : ℕ → ℕ → Core → Progress
 resume_later_row n h s = or_trap (thread_at (instance_of n s) h s) trap.BadHandle (resume_later_found n s)
 
@@ -86,38 +96,49 @@ halted Yielding n s = set_how_far n how_far.Yields (put_low n why.Resumption (st
 unfoldable pub halted_checked : Halt → ℕ → Core → Core
 halted_checked x n s = halted x n (checked (instance_of n s) s)
 
+-- by whether the check passes: where it fails, trap 9 (CannotBlockSyncTask) for a suspension, and a yield is done at once
 abbrev pub halts : Halt → ℕ → Label → Core → Bool → Progress
 halts x n l s true = Stops (pauses n) (halted_checked x n s)
 halts Suspension n l s false = Traps trap.CannotBlockSyncTask
 halts Yielding n l s false = Goes l (advanced n s) n
 
--- the plain op: it checks; where that fails a suspension traps and a yield is done at once
+-- `suspend`, `yield`: a check, then Stop
 abbrev pub halt_row : Halt → ℕ → Label → Core → Progress
 halt_row x n l s = halts x n l s (passes_check (instance_of n s) s)
 
 unfoldable pub halted_resuming : Halt → ℕ → ℕ → Why → Core → Core
 halted_resuming x n m w s = halted x n (put_switch m w s)
 
+-- trap 11 (CannotResumeThread), as in `resume_later`; no check
 abbrev pub then_resume_found : Halt → ℕ → Core → ℕ → Progress
-then_resume_found x n s m = trap_if (m == n) trap.CannotResumeThread (or_trap (resume_why m s) trap.CannotResumeThread (λ w. Stops (pauses n) (halted_resuming x n m w s)))
+then_resume_found x n s m =
+    trap_if (m == n) trap.CannotResumeThread (
+    or_trap (resume_why m s) trap.CannotResumeThread (
+    λ w. Stops (pauses n) (halted_resuming x n m w s)))
 
+-- `suspend_then_resume X`, `yield_then_resume X`: trap 16 (BadHandle) where X names no thread
 abbrev pub then_resume_row : Halt → ℕ → ℕ → Core → Progress
 then_resume_row x n h s = or_trap (thread_at (instance_of n s) h s) trap.BadHandle (then_resume_found x n s)
 
--- the thread has yielded, and its entry stands at a mark
+-- the thread has yielded, and its entry is queued
 unfoldable pub has_yielded : ℕ → Core → Bool
 has_yielded m s = option_map_or is_ready_to_resume (place_of m s) false && is_yielded (how_far_of m s)
 
 unfoldable pub halted_promoting : Halt → ℕ → ℕ → Core → Core
 halted_promoting x n m s = halted x n (promoted_unless m s)
 
+-- where the other thread has yielded its entry moves to switch, without a check; else the plain op
 abbrev pub then_promote : Halt → ℕ → Label → Core → ℕ → Bool → Progress
 then_promote x n l s m true = Stops (pauses n) (halted_promoting x n m s)
 then_promote x n l s m false = halt_row x n l s
 
+-- trap 11 (CannotResumeThread) where it is this thread
 abbrev pub then_promote_found : Halt → ℕ → Label → Core → ℕ → Progress
-then_promote_found x n l s m = trap_if (m == n) trap.CannotResumeThread (then_promote x n l s m (has_yielded m s))
+then_promote_found x n l s m =
+    trap_if (m == n) trap.CannotResumeThread (
+    then_promote x n l s m (has_yielded m s))
 
+-- `suspend_then_promote X`, `yield_then_promote X`: trap 16 (BadHandle) where X names no thread
 abbrev pub then_promote_row : Halt → ℕ → ℕ → Label → Core → Progress
 then_promote_row x n h l s = or_trap (thread_at (instance_of n s) h s) trap.BadHandle (then_promote_found x n l s)
 
@@ -136,7 +157,11 @@ thread_row c n s (thread_op.Index r) = thread_index_row n r s
 thread_row c n s (thread_op.ResumeLater x) = resume_later_row n (value_of n s x) s
 thread_row c n s thread_op.Suspend = halting n s (thread_label.Suspend n) (λ l. halt_row Suspension n l s)
 thread_row c n s thread_op.Yield = halting n s (thread_label.Yield n) (λ l. halt_row Yielding n l s)
-thread_row c n s (thread_op.SuspendThenResume x) = halting n s (thread_label.SuspendThenResume n) (λ l. then_resume_row Suspension n (value_of n s x) s)
-thread_row c n s (thread_op.YieldThenResume x) = halting n s (thread_label.YieldThenResume n) (λ l. then_resume_row Yielding n (value_of n s x) s)
-thread_row c n s (thread_op.SuspendThenPromote x) = halting n s (thread_label.SuspendThenPromote n) (λ l. then_promote_row Suspension n (value_of n s x) l s)
-thread_row c n s (thread_op.YieldThenPromote x) = halting n s (thread_label.YieldThenPromote n) (λ l. then_promote_row Yielding n (value_of n s x) l s)
+thread_row c n s (thread_op.SuspendThenResume x) =
+    halting n s (thread_label.SuspendThenResume n) (λ l. then_resume_row Suspension n (value_of n s x) s)
+thread_row c n s (thread_op.YieldThenResume x) =
+    halting n s (thread_label.YieldThenResume n) (λ l. then_resume_row Yielding n (value_of n s x) s)
+thread_row c n s (thread_op.SuspendThenPromote x) =
+    halting n s (thread_label.SuspendThenPromote n) (λ l. then_promote_row Suspension n (value_of n s x) l s)
+thread_row c n s (thread_op.YieldThenPromote x) =
+    halting n s (thread_label.YieldThenPromote n) (λ l. then_promote_row Yielding n (value_of n s x) l s)

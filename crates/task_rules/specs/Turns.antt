@@ -7,7 +7,7 @@ use Rattle.task_machine.specs.Moves.{ended}
 use Rattle.task_machine.specs.Read.{next_entry}
 use Rattle.task_rules.specs.Works.{next_polled}
 
--- nothing stands at a mark
+-- nothing is queued
 abbrev pub nothing_stands : Core → Bool
 nothing_stands s = is_none (next_entry s)
 

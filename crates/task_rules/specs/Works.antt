@@ -60,8 +60,8 @@ unfoldable pub poll_of : ℕ → Core → Poll
 poll_of i s = polled_in (phase_of i s) (course_of i s)
 
 -- one poll fewer is left
-unfoldable pub pended : ℕ → HostDef → Core → Core
-pended i host s = set_course i (course.Goes host) s
+unfoldable pub poll_pends : ℕ → HostDef → Core → Core
+poll_pends i host s = set_course i (course.Goes host) s
 
 abbrev pub course_for : Option ℕ → Course
 course_for None = course.NoValue
@@ -74,8 +74,8 @@ followed (work_caller.Async n q) i s = push_high (entry.Host i) (set_stage i sta
 followed (work_caller.Sync n) i s = unblocked (blocked_on (subtask.Host i) s) (set_stage i stage.Ended s)
 
 -- the work ends with this value, or without one
-unfoldable pub work_ended : ℕ → Option ℕ → Core → Core
-work_ended i v s = followed (work_caller_of i s) i (set_phase i phase.Complete (set_course i (course_for v) s))
+unfoldable pub poll_ends : ℕ → Option ℕ → Core → Core
+poll_ends i v s = followed (work_caller_of i s) i (set_phase i phase.Complete (set_course i (course_for v) s))
 
 -- some live work is polled to no end: it isn't never, or it is aborted
 abbrev pub is_moving : Work → Bool

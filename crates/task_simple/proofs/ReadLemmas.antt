@@ -23,7 +23,7 @@ use Rattle.task_machine.specs.Maps.{empty, get, size}
 use Rattle.task_machine.specs.Moves.{checked, passes_check, passed_on, stopped, stopped_at}
 use Rattle.task_machine.specs.Read.{admits, admitted_held, backpressure_of, call_instance, caller_of, callers_of, first_of, foot_from, foot_of, goal_of, has_ended, held_why, instance_of, is_at, is_direct, is_explicit, is_held_admitted, is_last_thread, is_nil, is_under, kind_of, may_not_enter, may_not_suspend, next_entry, or_first, place_of, strand_from, strand_of, task_of, under_of}
 use Rattle.task_machine.specs.Write.{on_instance, set_callers, set_do_not_enter, set_place}
-use Rattle.task_rules.specs.Ends.{held_out, is_told, leaves_no_result, may_tell, passes_after_stop, told}
+use Rattle.task_rules.specs.Ends.{held_by_flag, is_told, leaves_no_result, may_tell, passes_after_stop, told}
 use Rattle.task_rules.specs.MainOps.{has_interesting, is_ready_for_call}
 use Rattle.task_rules.specs.Stalled.{Setting, deadlock_trap, is_idle, is_idle_trap, may_deadlock, works_rest, is_unended_take, main_pends}
 use Rattle.task_rules.specs.Turns.{nothing_stands, settled_futures, settled_turn}
@@ -206,8 +206,8 @@ module _ (s : Core) (plain : IsPlain s) where
   held_admitted_not i q p m (inr (inr (inr e))) h = ap (λ p. is_held_admitted i m q (held_why p)) e
 
   -- where nothing of the instance is held, nothing is released
-  pub held_out_none : (i : ℕ) → ((m : ℕ) (u : Thread) → get s.threads m ≡ Some u → u.place ≡ held_start → call_instance m s ≢ i) → held_out i s ≡ []
-  unfolding held_out admitted_held set_do_not_enter on_instance
+  pub held_out_none : (i : ℕ) → ((m : ℕ) (u : Thread) → get s.threads m ≡ Some u → u.place ≡ held_start → call_instance m s ≢ i) → held_by_flag i s ≡ []
+  unfolding held_by_flag admitted_held set_do_not_enter on_instance
   held_out_none i h =
       let m = set_do_not_enter i false s in
       filter_none s.threads (λ n. is_held_admitted i m n (option_and_then held_why (place_of n m))) (λ q x is.

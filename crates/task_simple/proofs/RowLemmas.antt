@@ -26,12 +26,12 @@ use Rattle.task_machine.specs.Write.{add_group, free_thread_handle, give_result,
 use Rattle.task_machine.proofs.MapLemmas.{get-change_same, get-remove_other, get-remove_same}
 use Rattle.task_rules.specs.Calls.{call_made, with_thread_handle}
 use Rattle.task_rules.specs.Data.{advanced, moved_to}
-use Rattle.task_rules.specs.Ends.{deactivated, exit_row, may_tell, finished, held_out, let_in, result_given, returned, told}
+use Rattle.task_rules.specs.Ends.{code_stops, exit_row, may_tell, code_exits, held_by_flag, end_reopens, result_given, returned, told}
 use Rattle.task_rules.specs.MainOps.{Does, Pends, finish_act, main_started, refusal, start_act, start_refusal}
 use Rattle.task_rules.specs.Progress.{Goes, Ordered, Stops, Traps}
 use Rattle.task_rules.specs.Scripts.{export_kind}
 use Rattle.task_rules.specs.Step.{struck}
-use Rattle.task_rules.specs.Takes.{enters, held, may_tell_starting, start_held, start_row, started, starting_is_published, starting_told, thread_taken}
+use Rattle.task_rules.specs.Takes.{start_sets_flags, take_holds, may_tell_starting, start_holds, start_row, start_begins, starting_is_published, starting_told, thread_taken}
 use Rattle.task_rules.specs.Task.{ret_done, ret_row}
 use Rattle.task_simple.specs.Forms.{call_started, exit_done, return_done, start_done, start_put_off, trap_done}
 use Rattle.task_simple.specs.Simple.{IsMains, IsPlain, held_start, ready_start}
@@ -101,13 +101,13 @@ module _ (s : Core) (plain : IsPlain s) (n : ℕ) (t : Thread) (found : get s.th
   direct_not runs = ap (λ k. is_direct (goal_of k s)) (task_of_is s plain n t found) ∙ is_direct_not s plain n (running_begun runs)
 
   pub exit_early : (w : Option ℕ) → has_ended n s ≡ false → t.place ≡ place.Running → exit_row n w s ≡ Traps trap.NoAsyncResult
-  exit_early w h runs = rw (is_explicit_not s plain n, direct_not runs, kind_of_task s plain n (running_begun runs), passes_after_stop_is s plain (instance_of n s) (foot_of n s) (held_out (instance_of n s) s), leaves_no_result_is s plain n t found, h) refl
+  exit_early w h runs = rw (is_explicit_not s plain n, direct_not runs, kind_of_task s plain n (running_begun runs), passes_after_stop_is s plain (instance_of n s) (foot_of n s) (held_by_flag (instance_of n s) s), leaves_no_result_is s plain n t found, h) refl
 
-  held_out_here : t.place ≡ place.Running → held_out (instance_of n s) s ≡ []
+  held_out_here : t.place ≡ place.Running → held_by_flag (instance_of n s) s ≡ []
   held_out_here runs = held_out_none s plain (instance_of n s) (λ m u is at same. plain.apart n m t u found runs is at (sym (same ∙ instance_of_is s plain n t found)))
 
-  pub exit_after_return : (w : Option ℕ) → has_ended n s ≡ true → t.place ≡ place.Running → exit_row n w s ≡ Ordered [] (λ order. Stops (exit_label n None) (finished n order s))
-  exit_after_return w h runs = rw (is_explicit_not s plain n, direct_not runs, kind_of_task s plain n (running_begun runs), passes_after_stop_is s plain (instance_of n s) (foot_of n s) (held_out (instance_of n s) s), leaves_no_result_is s plain n t found, h, held_out_here runs) refl
+  pub exit_after_return : (w : Option ℕ) → has_ended n s ≡ true → t.place ≡ place.Running → exit_row n w s ≡ Ordered [] (λ order. Stops (exit_label n None) (code_exits n order s))
+  exit_after_return w h runs = rw (is_explicit_not s plain n, direct_not runs, kind_of_task s plain n (running_begun runs), passes_after_stop_is s plain (instance_of n s) (foot_of n s) (held_by_flag (instance_of n s) s), leaves_no_result_is s plain n t found, h, held_out_here runs) refl
 
   -- ---- Exit: the core
 
@@ -119,8 +119,8 @@ module _ (s : Core) (plain : IsPlain s) (n : ℕ) (t : Thread) (found : get s.th
   unfolding set_do_not_enter on_instance
   no_callers_then = plain.no_callers n t found
 
-  let_in_is : deactivated n [] s ≡ set_do_not_enter (instance_of n s) false s
-  unfolding deactivated let_in released
+  let_in_is : code_stops n [] s ≡ set_do_not_enter (instance_of n s) false s
+  unfolding code_stops end_reopens released
   let_in_is = ap (λ f. stopped f (set_do_not_enter (instance_of n s) false s)) (foot_of_is s plain n) ∙ stopped_where n _ no_switch_then no_callers_then
 
   instance_then : (i : ℕ) (b : Bool) (o : Option Instance) → get s.instances i ≡ o → option_map_or (λ r. r.do_not_suspend) (option_map {T = Instance} (λ r. record r { do_not_enter = b }) o) false ≡ false
@@ -131,8 +131,8 @@ module _ (s : Core) (plain : IsPlain s) (n : ℕ) (t : Thread) (found : get s.th
   unfolding set_do_not_enter on_instance
   may_suspend_then i b = ap (λ o. option_map_or (λ r. r.do_not_suspend) o false) (get-change_same s.instances i (λ r. record r { do_not_enter = b })) ∙ instance_then i b (get s.instances i) refl
 
-  finished_is_ended : finished n [] s ≡ ended n (set_do_not_enter (instance_of n s) false s)
-  unfolding finished
+  finished_is_ended : code_exits n [] s ≡ ended n (set_do_not_enter (instance_of n s) false s)
+  unfolding code_exits
   finished_is_ended = ap (λ x. ended n (checked (instance_of n s) x)) let_in_is ∙ ap (ended n) (checked_where (instance_of n s) _ (may_suspend_then (instance_of n s) false))
 
   -- the end of the thread, once its instance lets others in
@@ -211,7 +211,7 @@ module _ (s : Core) (plain : IsPlain s) (n : ℕ) (t : Thread) (found : get s.th
     task_then = task_of_is s plain n t found
 
     -- the core after an exit
-    pub finished_is : finished n [] s ≡ exit_done n h s
+    pub finished_is : code_exits n [] s ≡ exit_done n h s
     unfolding ended
     finished_is =
         finished_is_ended
@@ -267,8 +267,8 @@ module _ (s : Core) (plain : IsPlain s) (n : ℕ) (t : Thread) (found : get s.th
   unfolding set_starting_published on_call
   callers_still = plain.no_callers n t found
 
-  pub start_held_is : t.place ≢ place.New → start_held n None s ≡ start_put_off n s
-  unfolding start_held held start_put_off
+  pub start_held_is : t.place ≢ place.New → start_holds n None s ≡ start_put_off n s
+  unfolding start_holds take_holds start_put_off
   start_held_is ne =
       ap (λ k. stopped_at n held_start (starting_told k None s)) (task_of_is s plain n t found)
       ∙ ap (stopped_at n held_start) (published_by ne (starting_is_published n s) refl)
@@ -308,14 +308,14 @@ module _ (s : Core) (plain : IsPlain s) (n : ℕ) (t : Thread) (found : get s.th
   begun_caller : t.place ≢ place.New → caller_of n begun ≡ caller.Main
   begun_caller ne = ap (λ o. option_map_or (λ c. c.caller) o caller.Main) begun_call ∙ (mains_now ne).by_main
 
-  started_is_begun : t.place ≢ place.New → started n None s ≡ set_place n place.Running (set_do_not_enter (instance_of n s) true begun)
-  unfolding started
+  started_is_begun : t.place ≢ place.New → start_begins n None s ≡ set_place n place.Running (set_do_not_enter (instance_of n s) true begun)
+  unfolding start_begins
   started_is_begun ne =
-      ap (λ k. set_place n place.Running (enters n (kind_of k s) (told k status.Started None (set_started k (with_thread_handle (instance_of n s) n s))))) (task_of_is s plain n t found)
-      ∙ ap₂ (λ x y. set_place n place.Running (enters n x y)) (kind_of_is s plain n (begun_now ne)) (told_where n status.Started None begun (begun_caller ne))
+      ap (λ k. set_place n place.Running (start_sets_flags n (kind_of k s) (told k status.Started None (set_started k (with_thread_handle (instance_of n s) n s))))) (task_of_is s plain n t found)
+      ∙ ap₂ (λ x y. set_place n place.Running (start_sets_flags n x y)) (kind_of_is s plain n (begun_now ne)) (told_where n status.Started None begun (begun_caller ne))
       ∙ ap (λ i. set_place n place.Running (set_do_not_enter i true begun)) begun_instance
 
-  pub started_is : t.place ≢ place.New → started n None s ≡ start_done n s
+  pub started_is : t.place ≢ place.New → start_begins n None s ≡ start_done n s
   unfolding start_done with_thread_handle
   started_is ne = started_is_begun ne
 

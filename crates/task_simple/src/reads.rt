@@ -7,7 +7,7 @@ ghost use Rattle.task_machine.specs.Moves.{checked, is_group_done, passes_check,
 ghost use Rattle.task_machine.specs.Read.{admits, call_instance, callers_of, first_of, foot_of, has_ended, instance_of, is_last_thread, is_nil, may_not_enter, next_entry, place_of, position_of, strand_of, task_of, thread_handle_of};
 ghost use Rattle.task_machine.specs.Write.{give_result, set_end, set_place, set_position, set_register, set_word};
 ghost use Rattle.task_rules.specs.Data.{assigned, moved_to, stored};
-ghost use Rattle.task_rules.specs.Ends.{held_out, leaves_no_result, may_tell, told};
+ghost use Rattle.task_rules.specs.Ends.{held_by_flag, leaves_no_result, may_tell, told};
 ghost use Rattle.task_rules.specs.MainOps.{has_interesting, is_ready_for_call};
 ghost use Rattle.task_rules.specs.Scripts.{op_of, script_in, value_in, value_of};
 ghost use Rattle.task_rules.specs.Stalled.{Setting, deadlock_trap, is_idle, is_idle_trap, main_pends, may_deadlock};
@@ -72,7 +72,7 @@ pub fn starts_are_admitted()
 /// Where nothing of an instance is held, nothing is released once it lets others in.
 #[tactic(auto, using(crate::proofs::ReadLemmas::held_out_none))]
 pub fn nothing_is_released()
-    ensures { (s : Core) → IsPlain s → (i : ℕ) → ((m : ℕ) (u : Thread) → get s.threads m ≡ Some u → u.place ≡ held_start → call_instance m s ≢ i) → held_out i s ≡ [] }
+    ensures { (s : Core) → IsPlain s → (i : ℕ) → ((m : ℕ) (u : Thread) → get s.threads m ≡ Some u → u.place ≡ held_start → call_instance m s ≢ i) → held_by_flag i s ≡ [] }
 {}
 
 /// No work is there, so none moves or is polled.

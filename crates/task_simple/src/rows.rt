@@ -6,7 +6,7 @@ ghost use Rattle.task_machine.specs.Labels.{Choice, exit_label, held_label, ret_
 ghost use Rattle.task_machine.specs.Maps.{get};
 ghost use Rattle.task_machine.specs.Read.{at_handle_limit, fits, has_ended, instance_of, may_not_enter, place_of};
 ghost use Rattle.task_machine.specs.Write.{set_trapped, take_result};
-ghost use Rattle.task_rules.specs.Ends.{exit_row, finished};
+ghost use Rattle.task_rules.specs.Ends.{exit_row, code_exits};
 ghost use Rattle.task_rules.specs.MainOps.{Does, Pends, finish_act, main_started, start_act, start_refusal};
 ghost use Rattle.task_rules.specs.Progress.{Goes, Ordered, Stops, Traps};
 ghost use Rattle.task_rules.specs.Scripts.{export_kind};
@@ -29,8 +29,8 @@ pub fn returns_come_down()
 #[tactic(auto, using(crate::proofs::RowLemmas::rows))]
 pub fn exits_come_down()
     ensures early { (s : Core) → IsPlain s → (n : ℕ) (t : Thread) → get s.threads n ≡ Some t → (c : Call) → get s.calls n ≡ Some c → (w : Option ℕ) → has_ended n s ≡ false → t.place ≡ Place.Running → exit_row n w s ≡ Traps Trap.NoAsyncResult }
-    ensures row { (s : Core) → IsPlain s → (n : ℕ) (t : Thread) → get s.threads n ≡ Some t → (c : Call) → get s.calls n ≡ Some c → (w : Option ℕ) → has_ended n s ≡ true → t.place ≡ Place.Running → exit_row n w s ≡ Ordered [] (λ order. Stops (exit_label n None) (finished n order s)) }
-    ensures core { (s : Core) → IsPlain s → (n : ℕ) (t : Thread) → get s.threads n ≡ Some t → (c : Call) → get s.calls n ≡ Some c → (h : ℕ) → t.handle ≡ Some h → has_ended n s ≡ true → finished n [] s ≡ exit_done n h s }
+    ensures row { (s : Core) → IsPlain s → (n : ℕ) (t : Thread) → get s.threads n ≡ Some t → (c : Call) → get s.calls n ≡ Some c → (w : Option ℕ) → has_ended n s ≡ true → t.place ≡ Place.Running → exit_row n w s ≡ Ordered [] (λ order. Stops (exit_label n None) (code_exits n order s)) }
+    ensures core { (s : Core) → IsPlain s → (n : ℕ) (t : Thread) → get s.threads n ≡ Some t → (c : Call) → get s.calls n ≡ Some c → (h : ℕ) → t.handle ≡ Some h → has_ended n s ≡ true → code_exits n [] s ≡ exit_done n h s }
 {}
 
 /// A start that is taken is held, traps for want of a handle, or runs.
