@@ -247,7 +247,9 @@ fn returns<T, H>(
     match instance.task_return(component, store, 0, 0, 0, value) {
         Ok(()) => Ok(Made {
             label: Label::Task(TaskLabel::Ret(running.number, value)),
-            turn: Turn::Run { thread: running.number },
+            turn: Turn::Run {
+                thread: running.number,
+            },
         }),
         Err(TaskError::Trap(trap)) => Ok(traps(store, running, trap)),
         Err(TaskError::NoMemory) => Err(NoMemory),
