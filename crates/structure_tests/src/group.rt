@@ -101,8 +101,9 @@ fn notices_in_order(rt: HostRuntime) -> Result<(), Fail> {
     groups.keep_notices(6).ok().ok_or("memory")?;
     assert_eq!(rt; make(&rt, &mut groups), Some(1));
     assert_eq!(rt; make(&rt, &mut groups), Some(2));
-    assert!(rt; groups.count(id(1)) == 1);
-    groups.increment(id(1));
+    let first = id(1);
+    assert!(rt; groups.count(first) == 1);
+    groups.increment(first);
     for (old, new) in [
         (None, Some(id(1))),
         (Some(id(1)), Some(id(1))),
