@@ -7,6 +7,7 @@ pub mod CameLemmas
 pub mod StrandLemmas
 pub mod WaitLemmas
 pub mod SceneLemmas
+pub mod HousedLemmas
 pub mod CountLemmas
 pub mod CallsCame
 pub mod CallsLaw

@@ -1,6 +1,6 @@
 -- What is known of the thread that runs or is taken, as a step begins.
 use Rattle.std.proofs.Common.{T, ap, arith, refl, subst, sym, ◌∙◌}
-use Rattle.std.specs.Prelude.{Bool, List, None, Option, Some, [], false, is_some, true, unwrap_or, ℕ, ◌+◌, ◌∷◌, ◌≡◌, ◌≤◌}
+use Rattle.std.specs.Prelude.{Bool, List, None, Option, Some, [], is_some, true, unwrap_or, ℕ, ◌+◌, ◌∷◌, ◌≡◌, ◌≤◌}
 use Rattle.task_laws.specs.Order.{InPlace}
 use Rattle.task_machine.specs.Core.{Core, State}
 use Rattle.task_machine.specs.Read.{entry_thread, is_entry_of, next_entry, or_high, place_of}
@@ -9,31 +9,36 @@ use Rattle.task_machine.specs.declared.label.Label.{Label}
 use Rattle.task_machine.specs.declared.records.Entry.{Entry}
 use Rattle.task_machine.specs.declared.records.Entry.TheVariants as entry
 use Rattle.task_machine.specs.declared.records.Place.{Place}
-use Rattle.task_machine.specs.declared.records.Place.TheVariants as place
 use Rattle.task_machine.specs.declared.records.Turn.{Turn}
 use Rattle.task_machine.specs.declared.records.Turn.TheVariants as turn
 use Rattle.task_machine.specs.declared.words.Mark.{Mark}
 use Rattle.task_machine.specs.declared.words.Mark.TheVariants as mark
-use Rattle.task_rules.proofs.StandLemmas.{eq_refl, zero_one}
+use Rattle.task_rules.proofs.StandLemmas.{eq_refl}
 use Rattle.task_rules.specs.Allowed.{IsRunner}
-use Rattle.task_rules.specs.Places.{HasPlace, Placed, entries, is_there, one_if, says, switch_entries}
-use Rattle.task_rules.specs.Scenes.{Scene, base_at, base_without, runner_at, scene_of, thread_of_entry}
+use Rattle.task_rules.specs.Places.{HasPlace, entries, is_there, one_if, says, switch_entries}
+use Rattle.task_rules.specs.Scenes.{base_at, base_without, runner_at, scene_of, thread_of_entry}
 use Rattle.task_rules.specs.Stalled.{Setting}
 use Rattle.task_rules.specs.Takes.{popped}
 
 -- ---- The core that a row reads
 
--- a reading that marks don't change is the same in it
-pub popped_reads : {X : Type 0} (f : Core → X) → ((m : Mark) (s : Core) → f (popped m s) ≡ f s) → (u : Turn) (s : Core) → f (base_at u s) ≡ f s
-popped_reads f same (turn.Take ended) s = go (next_entry s)
+popped_is : (m : Mark) (s : Core) → popped m s ≡ record s { queues = (popped m s).queues }
+unfolding popped set_switch set_high set_low
+popped_is mark.Switch s = refl
+popped_is mark.High s = refl
+popped_is mark.Low s = refl
+
+-- it is that of the step, but for its marks
+pub base_is : (u : Turn) (s : Core) → base_at u s ≡ record s { queues = (base_at u s).queues }
+base_is (turn.Take ended) s = go (next_entry s)
   where
-    go : (o : Option (Mark × Entry)) → f (base_without o s) ≡ f s
+    go : (o : Option (Mark × Entry)) → base_without o s ≡ record s { queues = (base_without o s).queues }
     go None = refl
-    go (Some e) = same e.0 s
-popped_reads f same turn.Main s = refl
-popped_reads f same (turn.Futures n) s = refl
-popped_reads f same (turn.Run n) s = refl
-popped_reads f same turn.Over s = refl
+    go (Some e) = popped_is e.0 s
+base_is turn.Main s = refl
+base_is (turn.Futures n) s = refl
+base_is (turn.Run n) s = refl
+base_is turn.Over s = refl
 
 -- ---- Who runs or is taken is there
 

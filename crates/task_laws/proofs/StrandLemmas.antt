@@ -1,15 +1,13 @@
 -- Who is under whom, along the words of a step.
-use Rattle.std.proofs.Common.{T, ap, arith, le_refl, le_trans, refl, subst, sym, ◌∙◌}
-use Rattle.std.specs.Prelude.{Bool, None, Option, Some, is_some, true, unwrap_or, ℕ, ◌+◌, ◌≡◌, ◌≤◌, ◌⊎◌}
+use Rattle.std.proofs.Common.{T, ap, arith, le_trans, refl, subst, sym, ◌∙◌}
+use Rattle.std.specs.Prelude.{None, Option, Some, is_some, true, unwrap_or, ℕ, ◌+◌, ◌≡◌, ◌≤◌, ◌⊎◌}
 use Rattle.std.proofs.Common.{inl, inr}
-use Rattle.task_laws.proofs.CameLemmas.{Came, Comes, Entered, Enters, Follows, IsMade, Keeps, Leaves, MayStand, Moves, Shifts, Stands, Stays, came_word, moves_there}
+use Rattle.task_laws.proofs.CameLemmas.{Came, Comes, Entered, Enters, Follows, IsMade, Keeps, Leaves, Shifts, Stands, Stays, came_word, moves_there}
 use Rattle.task_laws.proofs.CountLemmas.{made_threads_word}
-use Rattle.task_laws.specs.Order.{Strands}
 use Rattle.task_machine.specs.Core.{Core}
 use Rattle.task_machine.specs.Read.{place_of}
 use Rattle.task_machine.specs.declared.records.Place.{Place}
 use Rattle.task_machine.specs.declared.records.Place.TheVariants as place
-use Rattle.task_machine.specs.declared.records.Why.{Why}
 use Rattle.task_rules.specs.Allowed.{Allowed, AwaitsEvent, Blocks, Holds, IsRunner, MayMove, Runs, Suspends, Uncovers, Waits, WaitsAgain}
 use Rattle.task_rules.specs.Calls.{next_thread}
 use Rattle.task_rules.specs.Places.{is_there}

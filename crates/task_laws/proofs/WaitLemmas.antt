@@ -1,8 +1,8 @@
 -- Of which instance the sets are that threads wait on, along the words of a step.
-use Rattle.std.proofs.Common.{T, ap, arith, cond, inl, inr, le_refl, le_trans, refl, subst, sym, ◌∙◌}
+use Rattle.std.proofs.Common.{T, ap, arith, cond, inl, inr, refl, subst, sym, ◌∙◌}
 use Rattle.std.specs.Option.{option_map_or}
 use Rattle.std.specs.Prelude.{Bool, None, Option, Some, false, is_some, option_and_then, option_map, slice_set, true, unwrap_or, ℕ, ◌+◌, ◌==◌, ◌≡◌, ◌≤◌, ◌⊎◌}
-use Rattle.task_laws.proofs.CameLemmas.{Came, Comes, Entered, Enters, Follows, IsMade, Keeps, Leaves, MayStand, Moves, Shifts, Stands, Stays, came_word}
+use Rattle.task_laws.proofs.CameLemmas.{Came, Comes, Entered, Enters, Follows, IsMade, Keeps, Leaves, MayStand, Shifts, Stands, Stays, came_word}
 use Rattle.task_laws.proofs.EachLemmas.{change_read}
 use Rattle.task_laws.specs.Order.{IsOf, SetsNamed, WaitsAtHome, set_of_op, set_of_place, set_of_why}
 use Rattle.task_machine.proofs.CommuteLemmas.{get-change}

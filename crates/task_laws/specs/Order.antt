@@ -1,5 +1,4 @@
 -- A state in order: what is so of every opening state and kept by every step, whatever the state was reached by.
-use Rattle.std.specs.Option.{option_map_or}
 use Rattle.std.specs.Prelude.{Bool, None, Option, Some, false, is_none, is_some, option_and_then, option_map, true, ℕ, ◌+◌, ◌≡◌, ◌≤◌}
 use Rattle.task_laws.specs.Settings.{CodesInCallbacks}
 use Rattle.task_machine.specs.Core.{Core, Main, State}
@@ -41,17 +40,20 @@ pub record Strands (s : Core) : Type 0 where
 
 -- ---- Numbers
 
--- A thread's number and that of its call were given. A first thread has its call's number, and the call is there; the number of another thread names no call.
+-- A thread's number and that of its call were given. A first thread has its call's number; the number of another thread names no call.
 pub record ThreadNumbered (s : Core) (n : ℕ) (t : Thread) : Type 0 where
   pub number : n ≤ s.made.threads
   pub call : t.call ≤ s.made.threads
   pub own : t.explicit ≡ false → t.call ≡ n
-  pub there : t.explicit ≡ false → is_some (get s.calls t.call) ≡ true
   pub nameless : t.explicit ≡ true → is_none (get s.calls n) ≡ true
 
 pub record Numbered (s : Core) : Type 0 where
   pub threads : (n : ℕ) (t : Thread) → get s.threads n ≡ Some t → ThreadNumbered s n t
   pub calls : (k : ℕ) (c : Call) → get s.calls k ≡ Some c → (1 ≤ k) × (k ≤ s.made.threads)
+
+-- the call of each thread is there
+abbrev pub CallsThere : Core → Type 0
+CallsThere s = (n k : ℕ) → option_map (λ (t : Thread). t.call) (get s.threads n) ≡ Some k → is_some (get s.calls k) ≡ true
 
 -- the number was given, and not to a thread that a task made beside its first one
 pub record WasCall (s : Core) (k : ℕ) : Type 0 where
@@ -156,15 +158,21 @@ pub record MakesFew (s t : Core) : Type 0 where
   pub sets : t.made.sets ≤ s.made.sets + 1
   pub groups : t.made.groups ≤ s.made.groups + 1
 
+abbrev pub StepsMakeFew : Type 0
+StepsMakeFew = (x : Setting) (s : State) (l : Label) (t : State) → Step x s l t → MakesFew s.core t.core
+
 -- ---- All of it
 
 -- What every step keeps of a state, of a component whose codes stand in callbacks.
 pub record InOrder (c : Component) (s : State) : Type 0 where
   pub codes : CodesInCallbacks c
   pub in_place : InPlace s
+  pub strands : Strands s.core
   pub numbered : Numbered s.core
+  pub calls_there : CallsThere s.core
   pub calls_named : CallsNamed s.core
   pub sets_named : SetsNamed s.core
+  pub waits : WaitsAtHome s.core
   pub kinds : CallKinds c s.core
   pub deliveries : DeliveredByCallback s.core
   pub starts : StartsAwaited s.core

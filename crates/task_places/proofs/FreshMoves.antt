@@ -4,12 +4,10 @@ use Rattle.std.proofs.Common.{ap, arith, cond, refl, subst, sym, ◌∙◌, is_s
 use Rattle.std.specs.Prelude.{if◌then◌else◌, ◌||◌, Bool, List, None, Option, Some, [], false, option_and_then, option_map, true, ℕ, ◌+◌, ◌==◌, ◌∷◌, ◌≡◌, ◌≤◌}
 use Rattle.task_laws.specs.Order.{is_fresh, is_start}
 use Rattle.task_machine.specs.Core.{Core}
-use Rattle.task_machine.specs.Maps.{get}
 use Rattle.task_machine.specs.Moves.{behind, behind_one, displaced, held_why_of, put_high, put_low, ready_why, released, released_one, resumed_all, why_of, put_switch, promoted, promoted_unless, first_entry, checked, newest, resumed_callers, passed_on, stopped, stand, unqueued, promoted_first, older}
 use Rattle.task_machine.specs.Read.{callers_of, held_why, place_of, foot_of, may_not_suspend}
-use Rattle.task_machine.specs.Write.{on_thread, push_high, push_high_first, push_low, set_callers, set_place, set_switch}
+use Rattle.task_machine.specs.Write.{push_high, push_high_first, push_low, set_callers, set_place, set_switch}
 use Rattle.task_machine.specs.declared.records.Place.{Place}
-use Rattle.task_machine.specs.declared.records.Thread.{Thread}
 use Rattle.task_machine.specs.declared.records.Why.{Why}
 use Rattle.task_places.proofs.EntryLemmas.{Listed, entry_listed, listed_says, no_both_of, no_switch, one_place, unqueued_place}
 use Rattle.task_rules.proofs.StandLemmas.{Stand, by_number, callers_say, set_place_is, set_place_there, eq_refl, is_eq_of, times-newest}

@@ -16,7 +16,6 @@ use Rattle.task_rules.specs.Data.{advanced, assigned, data_row, skip_row}
 use Rattle.task_rules.specs.Ends.{code_waits, blocking_exit_row, blocking_exits, code_row, code_stops, direct_exit_to, direct_exits, exit_row_for, code_exits, code_finds, has_event_for, held_by_flag, implicit_exit_row, code_kind_row, kind_exit_row, thread_exit_row, leaves_no_result, exit_stops, end_reopens, may_tell, own_or_none, passes_after_return, passes_after_stop, exit_restores, sync_exit_row, sync_exits, code_wait_row, code_yields}
 use Rattle.task_rules.specs.Progress.{Fails, Goes, Never, Ordered, Progress, Stops, Traps, may, or_never, or_trap, trap_if}
 use Rattle.task_rules.specs.Scripts.{value_of}
-use Rattle.task_rules.specs.Takes.{take_holds}
 use Rattle.task_rules.specs.Task.{task_cancel_done, dec_from, dec_opens, inc_raises, ret_done, ret_row, task_cancel_row, task_row}
 use Rattle.task_machine.specs.declared.records.CallEnd.TheVariants as call_end
 use Rattle.task_machine.specs.declared.op.DataOp.TheVariants as data_op

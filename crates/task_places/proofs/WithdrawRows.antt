@@ -3,14 +3,14 @@ use Rattle.std.proofs.Common.{T, ap, arith, cond, le_refl, refl, subst, sym, ◌
 use Rattle.std.specs.Prelude.{Bool, ◌||◌, ◌≤◌, List, None, Option, Some, [], false, is_some, not, true, ℕ, ◌+◌, ◌==◌, ◌∷◌, ◌≡◌}
 use Rattle.task_machine.specs.Core.{Core}
 use Rattle.task_machine.specs.Labels.{Choice}
-use Rattle.task_machine.specs.Read.{event_of, has_ended, how_far_of, instance_of, is_at, is_joined, is_watched, join_of, registers_of, subtask_at, subtask_ended, undelivered_end, was_started}
+use Rattle.task_machine.specs.Read.{event_of, how_far_of, instance_of, is_joined, is_watched, join_of, registers_of, subtask_at, subtask_ended, undelivered_end, was_started}
 use Rattle.task_machine.specs.Write.{set_join}
 use Rattle.task_machine.specs.declared.component.Component.{Component}
 use Rattle.task_machine.specs.declared.op.CallOp.{CallOp}
 use Rattle.task_machine.specs.declared.records.HowFar.{HowFar}
 use Rattle.task_machine.specs.declared.records.Subtask.{Subtask}
 use Rattle.task_rules.specs.Calls.{first_poll}
-use Rattle.task_rules.specs.Cancels.{AlreadyEnded, CallbackWaits, CallbackYields, CancelCase, OtherwiseRuns, StartNotRun, cancel_case, Async, Mode, Sync, cancel_found, cancel_guest, cancel_resumed, cancel_row, cancel_subtask, drop_found, dropped, is_callback_wait, cancel_withdraws, subtask_row}
+use Rattle.task_rules.specs.Cancels.{AlreadyEnded, CallbackWaits, CallbackYields, CancelCase, OtherwiseRuns, StartNotRun, cancel_case, Async, Mode, Sync, cancel_found, cancel_guest, cancel_resumed, cancel_row, cancel_subtask, drop_found, dropped, cancel_withdraws, subtask_row}
 use Rattle.task_rules.specs.Progress.{Goes, or_trap}
 use Rattle.task_rules.specs.Scripts.{host_at, value_of, values_in}
 use Rattle.task_machine.specs.declared.records.CallEnd.TheVariants as call_end

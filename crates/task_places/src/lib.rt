@@ -5,5 +5,5 @@
 mod order;
 mod places;
 
-pub use order::{opening_in_order, reached_in_order, step_in_order};
+pub use order::{opening_in_order, reached_in_order, step_in_order, steps_make_few};
 pub use places::{reached_are_placed, steps_keep_places};

@@ -1,4 +1,4 @@
-ghost use Rattle.task_laws.specs.Order.{OpeningInOrder, StepInOrder};
+ghost use Rattle.task_laws.specs.Order.{OpeningInOrder, StepInOrder, StepsMakeFew};
 ghost use Rattle.task_places.specs.Kept.{ReachedInOrder};
 
 /// Each opening state of a component is in order.
@@ -14,4 +14,9 @@ pub fn step_in_order()
 /// So each state that a run comes to is in order.
 pub fn reached_in_order()
     ensures { ReachedInOrder }
+{}
+
+/// A step makes at most one thread, one work, one set and one group.
+pub fn steps_make_few()
+    ensures { StepsMakeFew }
 {}
