@@ -1,5 +1,5 @@
 -- Each step as a chain of words: host works, main, the loop and all turns.
-use Rattle.std.proofs.Common.{T, ap, ap₂, cond, inl, inr, length, refl, subst, suc, sym, ◌∙◌, ◌⊎◌}
+use Rattle.std.proofs.Common.{T, ap, ap₂, cond, inl, inr, length, refl, subst, suc, sym, take, ◌∙◌, ◌⊎◌}
 use Rattle.std.specs.Option.{option_map_or}
 use Rattle.std.specs.Prelude.{Bool, List, None, Option, Some, [], false, not, option_map, slice_set, true, unwrap_or, zero, ℕ, ◌+◌, ◌==◌, ◌∷◌, ◌≡◌}
 use Rattle.task_machine.proofs.CommuteLemmas.{change-change_same}
@@ -28,6 +28,7 @@ use Rattle.task_machine.specs.declared.scenario.MainOpDef.{MainOpDef}
 use Rattle.task_machine.specs.declared.trap.Trap.{Trap}
 use Rattle.task_machine.specs.declared.words.Mark.{Mark}
 use Rattle.task_machine.specs.declared.words.Status.{Status}
+use Rattle.task_rules.proofs.ChainLemmas.{join}
 use Rattle.task_rules.proofs.PlacingLemmas.{placed, popped_shifted}
 use Rattle.task_rules.proofs.WalkMoves.{blocked_at, chosen_in_of, published_work, shifted, unblocked_shifts, word}
 use Rattle.task_rules.proofs.WalkOps.{Born, born_explicit, born_goal, born_place, call_born, set_row_leads, subtask_row_leads, thread_row_leads}
@@ -36,7 +37,7 @@ use Rattle.task_rules.proofs.WalkTask.{Leads, data_row_leads, none_is_some, not_
 use Rattle.task_rules.specs.Allowed.{ByProgram, ByScript, Falls, IsRunner, MayCall, Starts, is_async_work}
 use Rattle.task_rules.specs.Calls.{call_made, next_thread}
 use Rattle.task_rules.specs.Cancels.{aborted_phase}
-use Rattle.task_rules.specs.Chains.{LastWords, NoWord, Shifts, StepsAreWalks, Walk, is_take}
+use Rattle.task_rules.specs.Chains.{LastWords, NoWord, SameMain, Shifts, StepsAreWalks, Walk, is_take}
 use Rattle.task_rules.specs.Laws.{is_free}
 use Rattle.task_rules.specs.MainOps.{Abort, Answer, Answers, Await, Does, Finish, MainAct, MainProgress, Pends, Quiet, Ready, Spawn, Start, act_of, advanced_main, finish_act, finish_result, has_interesting, is_complete, is_ready_for_call, line_of, main_aborted, main_row, main_spawned, main_started, may_act, op_at, start_act, start_refusal, unless_pending}
 use Rattle.task_rules.specs.Once.{begun_holder}
@@ -252,25 +253,33 @@ struck_words a n is over begun = record {
 -- ---- What a step owes
 
 -- the step leads to a turn, and is a chain of words in the scene of that turn
-record WalkedBy (at : Turn → Scene) (b : Core) (t : State) : Type 0 where
+record WalkedBy (at : Turn → Scene) (b : Core) (was : Main) (t : State) : Type 0 where
+  pub main : SameMain was t.main
   pub next : Turn
   pub turn : t.turn ≡ settled_turn t.core next
   pub walk : Walk (at next) b t.core
   pub words : LastWords (at next) t.core
 
-landed : (at : Turn → Scene) (b : Core) (s : State) (new : Core) (m : Main) (u : Turn) (t : State) → t ≡ at_turn s new m u → Walk (at u) b new × LastWords (at u) new → WalkedBy at b t
+same_main : (m : Main) → SameMain m m
+same_main (Scripted p) = tt
+same_main Unscripted = tt
+
+arrives : (at : Turn → Scene) (b : Core) (s : State) (new : Core) (m : Main) (u : Turn) (t : State) → SameMain s.main m → t ≡ at_turn s new m u → Walk (at u) b new × LastWords (at u) new → WalkedBy at b s.main t
 unfolding at_turn
-landed at b s new m u t is c = subst (λ (v : State). WalkedBy at b v) (sym is) (record { next = u; turn = refl; walk = c.0; words = c.1 })
+arrives at b s new m u t same is c = subst (λ (v : State). WalkedBy at b s.main v) (sym is) (record { main = same; next = u; turn = refl; walk = c.0; words = c.1 })
+
+landed : (at : Turn → Scene) (b : Core) (s : State) (new : Core) (u : Turn) (t : State) → t ≡ goes_to s new u → Walk (at u) b new × LastWords (at u) new → WalkedBy at b s.main t
+landed at b s new u t is c = arrives at b s new s.main u t (same_main s.main) is c
 
 trap_begins : (s : Core) (n : ℕ) (t : Trap) → begun_holder s (trap_label n t) ≡ None
 trap_begins s n t = refl
 
 -- of a row, by where it leads
-progresses_walk : (at : Turn → Scene) (b : Core) (s : State) (base : Core) (n : ℕ) (p : Progress) (l : Label) (t : State) → ((u : Turn) → (at u).label ≡ l) → ((u : Turn) → (at u).next ≡ u) → ((u : Turn) → Leads (at u) b p) → (begun_holder base l ≡ None → Walk (at turn.Over) b (struck n base) × LastWords (at turn.Over) (struck n base)) → Progresses s base n p l t → WalkedBy at b t
-progresses_walk at b s base n (Goes k new m) l t labels nexts leads falls is = landed at b s new s.main (turn.Run m) t is.1 (leads (turn.Run m) (labels (turn.Run m) ∙ is.0) (nexts (turn.Run m)))
-progresses_walk at b s base n (Stops k new) l t labels nexts leads falls is = landed at b s new s.main turn.Main t is.1 (leads turn.Main (labels turn.Main ∙ is.0) (nexts turn.Main))
-progresses_walk at b s base n (Traps trap) l t labels nexts leads falls is = landed at b s (struck n base) s.main turn.Over t is.1 (falls (ap (λ k. begun_holder base k) is.0))
-progresses_walk at b s base n (Fails i) l t labels nexts leads falls is = landed at b s (struck n base) s.main turn.Over t is.1 (falls (ap (λ k. begun_holder base k) is.0))
+progresses_walk : (at : Turn → Scene) (b : Core) (s : State) (base : Core) (n : ℕ) (p : Progress) (l : Label) (t : State) → ((u : Turn) → (at u).label ≡ l) → ((u : Turn) → (at u).next ≡ u) → ((u : Turn) → Leads (at u) b p) → (begun_holder base l ≡ None → Walk (at turn.Over) b (struck n base) × LastWords (at turn.Over) (struck n base)) → Progresses s base n p l t → WalkedBy at b s.main t
+progresses_walk at b s base n (Goes k new m) l t labels nexts leads falls is = landed at b s new (turn.Run m) t is.1 (leads (turn.Run m) (labels (turn.Run m) ∙ is.0) (nexts (turn.Run m)))
+progresses_walk at b s base n (Stops k new) l t labels nexts leads falls is = landed at b s new turn.Main t is.1 (leads turn.Main (labels turn.Main ∙ is.0) (nexts turn.Main))
+progresses_walk at b s base n (Traps trap) l t labels nexts leads falls is = landed at b s (struck n base) turn.Over t is.1 (falls (ap (λ k. begun_holder base k) is.0))
+progresses_walk at b s base n (Fails i) l t labels nexts leads falls is = landed at b s (struck n base) turn.Over t is.1 (falls (ap (λ k. begun_holder base k) is.0))
 progresses_walk at b s base n Never l t labels nexts leads falls is = absurd is
 progresses_walk at b s base n (Ordered ns next) l t labels nexts leads falls is = progresses_walk at b s base n (next is.0) l t labels nexts (λ u. leads u is.0) falls is.1.1
 
@@ -365,19 +374,19 @@ module _ (x : Setting) (s : State) (l : Label) where
   main_row_leads u k (Ready i) may = unless_pending_leads u (is_ready_for_call i s.core) main_label.Ready refl
   main_row_leads u k (Answer v) may = tt
 
-  pends_here : (u : Turn) (t : State) → l ≡ label.Loop loop_label.MainPends → t ≡ goes_to s s.core (turn.Futures 0) → WalkedBy (scene_at u None) s.core t
-  pends_here u t is at = landed (scene_at u None) s.core s s.core s.main (turn.Futures 0) t at (NoWord, idle_words (scene_at u None (turn.Futures 0)) s.core refl (λ m f. not_futures 0 m f) (λ o f. none_is_some o (sym (ap outcome_of_label is) ∙ f)) (ap (λ y. begun_holder s.core y) is))
+  pends_here : (u : Turn) (t : State) → l ≡ label.Loop loop_label.MainPends → t ≡ goes_to s s.core (turn.Futures 0) → WalkedBy (scene_at u None) s.core s.main t
+  pends_here u t is at = landed (scene_at u None) s.core s s.core (turn.Futures 0) t at (NoWord, idle_words (scene_at u None (turn.Futures 0)) s.core refl (λ m f. not_futures 0 m f) (λ o f. none_is_some o (sym (ap outcome_of_label is) ∙ f)) (ap (λ y. begun_holder s.core y) is))
 
-  does_here : (u : Turn) (m : Main) (k : MainLabel) (new : Core) (t : State) → (main_outcome k ≡ None) × Walk (scene_at u None turn.Main) s.core new → l ≡ label.Main k → t ≡ at_turn s new m turn.Main → WalkedBy (scene_at u None) s.core t
-  does_here u m k new t c is at = landed (scene_at u None) s.core s new m turn.Main t at (main_here u turn.Main k new is (inl c.0) (λ j f. not_main j f) c.1)
+  does_here : (u : Turn) (m : Main) (k : MainLabel) (new : Core) (t : State) → SameMain s.main m → (main_outcome k ≡ None) × Walk (scene_at u None turn.Main) s.core new → l ≡ label.Main k → t ≡ at_turn s new m turn.Main → WalkedBy (scene_at u None) s.core s.main t
+  does_here u m k new t same c is at = arrives (scene_at u None) s.core s new m turn.Main t same at (main_here u turn.Main k new is (inl c.0) (λ j f. not_main j f) c.1)
 
-  answers_here : (u : Turn) (v : ℕ) (t : State) → l ≡ label.Main (main_label.Answer v) → t ≡ goes_to s s.core turn.Over → WalkedBy (scene_at u None) s.core t
-  answers_here u v t is at = landed (scene_at u None) s.core s s.core s.main turn.Over t at (main_here u turn.Over (main_label.Answer v) s.core is (inr refl) (λ j f. not_over j f) NoWord)
+  answers_here : (u : Turn) (v : ℕ) (t : State) → l ≡ label.Main (main_label.Answer v) → t ≡ goes_to s s.core turn.Over → WalkedBy (scene_at u None) s.core s.main t
+  answers_here u v t is at = landed (scene_at u None) s.core s s.core turn.Over t at (main_here u turn.Over (main_label.Answer v) s.core is (inr refl) (λ j f. not_over j f) NoWord)
 
-  main_progresses_walk : (u : Turn) (p : MainPlace) (o : MainOpDef) (q : MainProgress) (t : State) → LeadsMain u q → MainProgresses s p o q l t → WalkedBy (scene_at u None) s.core t
-  main_progresses_walk u p o (Does k new) t c is = does_here u (Scripted (advanced_main o k p)) k new t c is.0 is.1
-  main_progresses_walk u p o Pends t c is = pends_here u t is.0 is.1
-  main_progresses_walk u p o (Answers v) t c is = answers_here u v t is.0 is.1
+  main_progresses_walk : (u : Turn) (p : MainPlace) (o : MainOpDef) (q : MainProgress) (t : State) → s.main ≡ Scripted p → LeadsMain u q → MainProgresses s p o q l t → WalkedBy (scene_at u None) s.core s.main t
+  main_progresses_walk u p o (Does k new) t at c is = does_here u (Scripted (advanced_main o k p)) k new t (subst (λ (m : Main). SameMain m (Scripted (advanced_main o k p))) (sym at) tt) c is.0 is.1
+  main_progresses_walk u p o Pends t at c is = pends_here u t is.0 is.1
+  main_progresses_walk u p o (Answers v) t at c is = answers_here u v t is.0 is.1
 
   script_call : (u : Turn) (p : MainPlace) (o : MainOpDef) → s.main ≡ Scripted p → op_at x.script p ≡ Some o → (e : Callee) (words : List ℕ) → act_of p o ≡ Start e words → MayCall (scene_at u None turn.Main) caller.Main e (s.core.made.groups + 1) (add_group s.core)
   unfolding add_group
@@ -397,16 +406,16 @@ module _ (x : Setting) (s : State) (l : Label) where
       names (main_op.Ready f) h = ap is_start_act h
       names (main_op.Answer v) h = ap is_start_act h
 
-  script_step_walks : (u : Turn) (p : MainPlace) (o : Option MainOpDef) (t : State) → s.main ≡ Scripted p → op_at x.script p ≡ o → ScriptStep x s p o l t → WalkedBy (scene_at u None) s.core t
+  script_step_walks : (u : Turn) (p : MainPlace) (o : Option MainOpDef) (t : State) → s.main ≡ Scripted p → op_at x.script p ≡ o → ScriptStep x s p o l t → WalkedBy (scene_at u None) s.core s.main t
   script_step_walks u p None t scripted at is = pends_here u t is.0 is.1
-  script_step_walks u p (Some o) t scripted at is = main_progresses_walk u p o (main_row x.component (line_of p o) s.core (act_of p o)) t (main_row_leads u (line_of p o) (act_of p o) (λ e words h. script_call u p o scripted at e words h)) is
+  script_step_walks u p (Some o) t scripted at is = main_progresses_walk u p o (main_row x.component (line_of p o) s.core (act_of p o)) t scripted (main_row_leads u (line_of p o) (act_of p o) (λ e words h. script_call u p o scripted at e words h)) is
 
-  open_progresses_walk : (u : Turn) (q : MainProgress) (t : State) → LeadsMain u q → OpenProgresses s q l t → WalkedBy (scene_at u None) s.core t
-  open_progresses_walk u (Does k new) t c is = does_here u s.main k new t c is.0 is.1
+  open_progresses_walk : (u : Turn) (q : MainProgress) (t : State) → LeadsMain u q → OpenProgresses s q l t → WalkedBy (scene_at u None) s.core s.main t
+  open_progresses_walk u (Does k new) t c is = does_here u s.main k new t (same_main s.main) c is.0 is.1
   open_progresses_walk u Pends t c is = absurd is
   open_progresses_walk u (Answers v) t c is = answers_here u v t is.0 is.1
 
-  open_act_walks : (u : Turn) (k : ℕ) (act : MainAct) (t : State) → s.main ≡ Unscripted → OpenAct x s k act l t → WalkedBy (scene_at u None) s.core t
+  open_act_walks : (u : Turn) (k : ℕ) (act : MainAct) (t : State) → s.main ≡ Unscripted → OpenAct x s k act l t → WalkedBy (scene_at u None) s.core s.main t
   unfolding add_group
   open_act_walks u k act t open_main h = open_progresses_walk u (main_row x.component k s.core act) t (main_row_leads u k act (λ e words at. ByProgram (length words) open_main (sym (ap (λ y. may_act x.component s.core y) at) ∙ h.0) refl refl)) h.1
 
@@ -421,43 +430,43 @@ module _ (x : Setting) (s : State) (l : Label) where
       by_caller (work_caller.Async m q) is = word (FinishWork i (course_for v)) ((n, (refl, at)), ap (λ f. is_async_work f) is) NoWord
       by_caller (work_caller.Sync m) is = shifted (sync_ended_shifts i v s.core) (word (EndWork i (course_for v)) ((n, (refl, at)), ap (λ f. is_async_work f) is) NoWord)
 
-  polled_walks : (n i : ℕ) (p : Poll) (t : State) → next_polled n s.core ≡ Some i → Polled s i p l t → WalkedBy (scene_at (turn.Futures n) None) s.core t
+  polled_walks : (n i : ℕ) (p : Poll) (t : State) → next_polled n s.core ≡ Some i → Polled s i p l t → WalkedBy (scene_at (turn.Futures n) None) s.core s.main t
   unfolding poll_ends
-  polled_walks n i (StillPends host) t at is = landed (scene_at (turn.Futures n) None) s.core s (poll_pends i host s.core) s.main (turn.Futures i) t is.1 (word (Pend i host) (n, (refl, at)) NoWord, idle_words (scene_at (turn.Futures n) None (turn.Futures i)) (poll_pends i host s.core) refl (λ m f. not_futures i m f) (λ o f. none_is_some o (sym (ap outcome_of_label is.0) ∙ f)) (ap (λ y. begun_holder s.core y) is.0))
-  polled_walks n i (Ends v) t at is = landed (scene_at (turn.Futures n) None) s.core s (poll_ends i v s.core) s.main (turn.Take true) t is.1 (followed_walks n i v at, idle_words (scene_at (turn.Futures n) None (turn.Take true)) (poll_ends i v s.core) refl (λ m f. not_take true m f) (λ o f. none_is_some o (sym (ap outcome_of_label is.0) ∙ f)) (ap (λ y. begun_holder s.core y) is.0))
-  polled_walks n i FailsNow t at is = landed (scene_at (turn.Futures n) None) s.core s (set_trapped s.core) s.main turn.Over t is.1 (word SetTrapped tt NoWord, idle_words (scene_at (turn.Futures n) None turn.Over) (set_trapped s.core) refl (λ m f. not_over m f) (λ o f. refl) (ap (λ y. begun_holder s.core y) is.0))
+  polled_walks n i (StillPends host) t at is = landed (scene_at (turn.Futures n) None) s.core s (poll_pends i host s.core) (turn.Futures i) t is.1 (word (Pend i host) (n, (refl, at)) NoWord, idle_words (scene_at (turn.Futures n) None (turn.Futures i)) (poll_pends i host s.core) refl (λ m f. not_futures i m f) (λ o f. none_is_some o (sym (ap outcome_of_label is.0) ∙ f)) (ap (λ y. begun_holder s.core y) is.0))
+  polled_walks n i (Ends v) t at is = landed (scene_at (turn.Futures n) None) s.core s (poll_ends i v s.core) (turn.Take true) t is.1 (followed_walks n i v at, idle_words (scene_at (turn.Futures n) None (turn.Take true)) (poll_ends i v s.core) refl (λ m f. not_take true m f) (λ o f. none_is_some o (sym (ap outcome_of_label is.0) ∙ f)) (ap (λ y. begun_holder s.core y) is.0))
+  polled_walks n i FailsNow t at is = landed (scene_at (turn.Futures n) None) s.core s (set_trapped s.core) turn.Over t is.1 (word SetTrapped tt NoWord, idle_words (scene_at (turn.Futures n) None turn.Over) (set_trapped s.core) refl (λ m f. not_over m f) (λ o f. refl) (ap (λ y. begun_holder s.core y) is.0))
 
-  futures_walk : (n : ℕ) (o : Option ℕ) (t : State) → next_polled n s.core ≡ o → FuturesStep s o l t → WalkedBy (scene_at (turn.Futures n) None) s.core t
+  futures_walk : (n : ℕ) (o : Option ℕ) (t : State) → next_polled n s.core ≡ o → FuturesStep s o l t → WalkedBy (scene_at (turn.Futures n) None) s.core s.main t
   futures_walk n None t at is = absurd is
   futures_walk n (Some i) t at is = polled_walks n i (poll_of i s.core) t at is
 
   -- ---- Takings
 
-  empty_walks : (ended : Bool) (b : Bool) (t : State) → EmptyFor x s b l t → WalkedBy (scene_at (turn.Take ended) None) s.core t
+  empty_walks : (ended : Bool) (b : Bool) (t : State) → EmptyFor x s b l t → WalkedBy (scene_at (turn.Take ended) None) s.core s.main t
   empty_walks ended true t is = rests (is_unended_take s.turn) is
     where
-      rests : (c : Bool) → RestStep s c l t → WalkedBy (scene_at (turn.Take ended) None) s.core t
-      rests true h = landed (scene_at (turn.Take ended) None) s.core s s.core s.main turn.Main t h.1 (NoWord, idle_words (scene_at (turn.Take ended) None turn.Main) s.core refl (λ m f. not_main m f) (λ o f. none_is_some o (sym (ap outcome_of_label h.0) ∙ f)) (ap (λ y. begun_holder s.core y) h.0))
+      rests : (c : Bool) → RestStep s c l t → WalkedBy (scene_at (turn.Take ended) None) s.core s.main t
+      rests true h = landed (scene_at (turn.Take ended) None) s.core s s.core turn.Main t h.1 (NoWord, idle_words (scene_at (turn.Take ended) None turn.Main) s.core refl (λ m f. not_main m f) (λ o f. none_is_some o (sym (ap outcome_of_label h.0) ∙ f)) (ap (λ y. begun_holder s.core y) h.0))
       rests false h = absurd h
   empty_walks ended false t is = dies (may_deadlock x s) is
     where
-      dies : (c : Bool) → DeadlockStep s c l t → WalkedBy (scene_at (turn.Take ended) None) s.core t
-      dies true h = landed (scene_at (turn.Take ended) None) s.core s (set_trapped s.core) s.main turn.Over t h.1 (word SetTrapped tt NoWord, idle_words (scene_at (turn.Take ended) None turn.Over) (set_trapped s.core) refl (λ m f. not_over m f) (λ o f. refl) (ap (λ y. begun_holder s.core y) h.0))
+      dies : (c : Bool) → DeadlockStep s c l t → WalkedBy (scene_at (turn.Take ended) None) s.core s.main t
+      dies true h = landed (scene_at (turn.Take ended) None) s.core s (set_trapped s.core) turn.Over t h.1 (word SetTrapped tt NoWord, idle_words (scene_at (turn.Take ended) None turn.Over) (set_trapped s.core) refl (λ m f. not_over m f) (λ o f. refl) (ap (λ y. begun_holder s.core y) h.0))
       dies false h = absurd h
 
   push_walks : (ended : Bool) (m : Mark) (i : ℕ) → next_entry s.core ≡ Some (m, entry.Push i) → Walk (scene_at (turn.Take ended) (Some (m, entry.Push i)) turn.Main) s.core (pushed i (popped m s.core))
   unfolding pushed
   push_walks ended m i at = subst (λ (t : Core). Walk (scene_at (turn.Take ended) (Some (m, entry.Push i)) turn.Main) s.core (set_stage i stage.Live t)) (popped_shifted m s.core).only (word (TakePush m i) at NoWord)
 
-  host_entry_walks : (ended : Bool) (m : Mark) (i : ℕ) (t : State) → next_entry s.core ≡ Some (m, entry.Host i) → (b : Bool) → may_publish (subtask.Host i) (woken_of l) (popped m s.core) ≡ b → Progresses s (popped m s.core) i (may b (Stops (host_label m i (woken_of l)) (host_done i (woken_of l) (popped m s.core)))) l t → WalkedBy (scene_at (turn.Take ended) (Some (m, entry.Host i))) s.core t
+  host_entry_walks : (ended : Bool) (m : Mark) (i : ℕ) (t : State) → next_entry s.core ≡ Some (m, entry.Host i) → (b : Bool) → may_publish (subtask.Host i) (woken_of l) (popped m s.core) ≡ b → Progresses s (popped m s.core) i (may b (Stops (host_label m i (woken_of l)) (host_done i (woken_of l) (popped m s.core)))) l t → WalkedBy (scene_at (turn.Take ended) (Some (m, entry.Host i))) s.core s.main t
   host_entry_walks ended m i t at true may is =
       let base = popped m s.core in
       let a = scene_at (turn.Take ended) (Some (m, entry.Host i)) turn.Main in
       let taken_first : Walk a s.core (set_stage i stage.Ended base) = subst (λ (u : Core). Walk a s.core (set_stage i stage.Ended u)) (popped_shifted m s.core).only (word (TakeHost m i) at NoWord) in
-      landed (scene_at (turn.Take ended) (Some (m, entry.Host i))) s.core s (host_done i (woken_of l) base) s.main turn.Main t is.1 (host_done_walks i (woken_of l) base may taken_first, idle_words a (host_done i (woken_of l) base) refl (λ j f. not_main j f) (λ o f. none_is_some o (sym (ap outcome_of_label is.0 ∙ host_quiet m i (woken_of l)) ∙ f)) (ap (λ y. begun_holder base y) is.0 ∙ host_begins m i (woken_of l) base))
+      landed (scene_at (turn.Take ended) (Some (m, entry.Host i))) s.core s (host_done i (woken_of l) base) turn.Main t is.1 (host_done_walks i (woken_of l) base may taken_first, idle_words a (host_done i (woken_of l) base) refl (λ j f. not_main j f) (λ o f. none_is_some o (sym (ap outcome_of_label is.0 ∙ host_quiet m i (woken_of l)) ∙ f)) (ap (λ y. begun_holder base y) is.0 ∙ host_begins m i (woken_of l) base))
   host_entry_walks ended m i t at false may is = absurd is
 
-  entry_walks : (ended : Bool) (m : Mark) (e : Entry) (t : State) → next_entry s.core ≡ Some (m, e) → Progresses s (popped m s.core) (entry_number e) (take_row m (choice_of l) (popped m s.core) e) l t → WalkedBy (scene_at (turn.Take ended) (Some (m, e))) s.core t
+  entry_walks : (ended : Bool) (m : Mark) (e : Entry) (t : State) → next_entry s.core ≡ Some (m, e) → Progresses s (popped m s.core) (entry_number e) (take_row m (choice_of l) (popped m s.core) e) l t → WalkedBy (scene_at (turn.Take ended) (Some (m, e))) s.core s.main t
   entry_walks ended m (entry.Thread n) t at is =
       let base = popped m s.core in
       let start : (u : Turn) → Walk (scene_at (turn.Take ended) (Some (m, entry.Thread n)) u) s.core base = λ u. placed (Pop m) (inr (n, (refl, at))) NoWord in
@@ -465,10 +474,10 @@ module _ (x : Setting) (s : State) (l : Label) where
       (λ u. thread_taken_leads x s.main ended base n l u s.core (start u) m (choice_of l) (place_of n base) refl)
       (λ none. (struck_walks refl n refl (start turn.Over), struck_words (scene_at (turn.Take ended) (Some (m, entry.Thread n)) turn.Over) n refl refl none)) is
   entry_walks ended m (entry.Push i) t at is =
-      landed (scene_at (turn.Take ended) (Some (m, entry.Push i))) s.core s (pushed i (popped m s.core)) s.main turn.Main t is.1 (push_walks ended m i at, idle_words (scene_at (turn.Take ended) (Some (m, entry.Push i)) turn.Main) (pushed i (popped m s.core)) refl (λ j f. not_main j f) (λ o f. none_is_some o (sym (ap outcome_of_label is.0) ∙ f)) (ap (λ y. begun_holder (popped m s.core) y) is.0))
+      landed (scene_at (turn.Take ended) (Some (m, entry.Push i))) s.core s (pushed i (popped m s.core)) turn.Main t is.1 (push_walks ended m i at, idle_words (scene_at (turn.Take ended) (Some (m, entry.Push i)) turn.Main) (pushed i (popped m s.core)) refl (λ j f. not_main j f) (λ o f. none_is_some o (sym (ap outcome_of_label is.0) ∙ f)) (ap (λ y. begun_holder (popped m s.core) y) is.0))
   entry_walks ended m (entry.Host i) t at is = host_entry_walks ended m i t at (may_publish (subtask.Host i) (woken_of l) (popped m s.core)) refl is
 
-  take_step_walks : (ended : Bool) (o : Option (Mark × Entry)) (t : State) → next_entry s.core ≡ o → TakeStep x s o l t → WalkedBy (scene_at (turn.Take ended) o) s.core t
+  take_step_walks : (ended : Bool) (o : Option (Mark × Entry)) (t : State) → next_entry s.core ≡ o → TakeStep x s o l t → WalkedBy (scene_at (turn.Take ended) o) s.core s.main t
   take_step_walks ended None t at is = empty_walks ended (has_moving_work s.core) t is
   take_step_walks ended (Some (m, e)) t at is = entry_walks ended m e t at is
 
@@ -485,12 +494,12 @@ did_leads : (x : Setting) (main : Main) (s : Core) (n : ℕ) (l : Label) (next :
 unfolding did
 did_leads x main s n l next ch = op_row_leads x main s n l next ch (op_of x.component n s) refl
 
-run_walks : (x : Setting) (s : State) (n : ℕ) (l : Label) (t : State) → Progresses s s.core n (did x.component n s.core (choice_of l)) l t → WalkedBy (λ next. running_scene x s.main s.core n l next) s.core t
+run_walks : (x : Setting) (s : State) (n : ℕ) (l : Label) (t : State) → Progresses s s.core n (did x.component n s.core (choice_of l)) l t → WalkedBy (λ next. running_scene x s.main s.core n l next) s.core s.main t
 run_walks x s n l t is =
     progresses_walk (λ next. running_scene x s.main s.core n l next) s.core s s.core n (did x.component n s.core (choice_of l)) l t (λ u. refl) (λ u. refl) (λ u. did_leads x s.main s.core n l u (choice_of l))
     (λ none. (struck_walks refl n refl NoWord, struck_words (running_scene x s.main s.core n l turn.Over) n refl refl none)) is
 
-main_step_walks : (x : Setting) (s : State) (l : Label) (u : Turn) (m : Main) (t : State) → s.main ≡ m → MainStep x s m l t → WalkedBy (scene_at x s l u None) s.core t
+main_step_walks : (x : Setting) (s : State) (l : Label) (u : Turn) (m : Main) (t : State) → s.main ≡ m → MainStep x s m l t → WalkedBy (scene_at x s l u None) s.core s.main t
 main_step_walks x s l u (Scripted p) t at is = script_step_walks x s l u p (op_at x.script p) t at refl is
 main_step_walks x s (label.Loop loop_label.MainPends) u Unscripted t at is = pends_here x s (label.Loop loop_label.MainPends) u t refl is
 main_step_walks x s l u Unscripted t at is = open_act_walks x s l u is.0 is.1.0 t at is.1.1
@@ -499,7 +508,7 @@ main_step_walks x s l u Unscripted t at is = open_act_walks x s l u is.0 is.1.0 
 abbrev scene_at_turn : Setting → State → Label → Turn → Turn → Scene
 scene_at_turn x s l u next = record { setting = x; main = s.main; turn = u; base = base_at u s.core; runner = runner_at u s.core; label = l; next = next }
 
-turn_step_walks : (x : Setting) (s : State) (u : Turn) (l : Label) (t : State) → TurnStep x s u l t → WalkedBy (scene_at_turn x s l u) s.core t
+turn_step_walks : (x : Setting) (s : State) (u : Turn) (l : Label) (t : State) → TurnStep x s u l t → WalkedBy (scene_at_turn x s l u) s.core s.main t
 turn_step_walks x s turn.Main l t is = main_step_walks x s l turn.Main s.main t refl is
 turn_step_walks x s (turn.Futures n) l t is = futures_walk x s l n (next_polled n s.core) t refl is
 turn_step_walks x s (turn.Take ended) l t is = take_step_walks x s l ended (next_entry s.core) t refl is
@@ -509,4 +518,4 @@ turn_step_walks x s turn.Over l t is = absurd is
 -- each step is a chain of words
 pub step_walks : StepsAreWalks
 unfolding Step
-step_walks x s l t is = let c = turn_step_walks x s s.turn l t is in record { next = c.next; turn = c.turn; walk = c.walk; ends = c.words }
+step_walks x s l t is = let c = turn_step_walks x s s.turn l t is in record { next = c.next; turn = c.turn; main = c.main; walk = c.walk; ends = c.words }

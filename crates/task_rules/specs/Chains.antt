@@ -1,7 +1,7 @@
 -- Each step as a chain of words.
 use Rattle.std.specs.Option.{option_map_or}
 use Rattle.std.specs.Prelude.{Bool, None, Some, false, is_some, true, ℕ, ◌≡◌, ◌⊎◌}
-use Rattle.task_machine.specs.Core.{Core, State}
+use Rattle.task_machine.specs.Core.{Core, Main, Scripted, State, Unscripted}
 use Rattle.task_machine.specs.Maps.{get}
 use Rattle.task_machine.specs.Moves.{ended}
 use Rattle.task_machine.specs.Read.{may_not_enter, place_of}
@@ -13,6 +13,7 @@ use Rattle.task_rules.specs.Allowed.{Allowed, IsRunner, MayShift, is_exit}
 use Rattle.task_rules.specs.Laws.{is_free}
 use Rattle.task_rules.specs.Once.{begun_holder}
 use Rattle.task_rules.specs.Outcome.{outcome_of_label}
+use Rattle.task_rules.specs.Progress.{may}
 use Rattle.task_rules.specs.Scenes.{Scene, scene_of}
 use Rattle.task_rules.specs.Stalled.{Setting}
 use Rattle.task_rules.specs.Step.{Step}
@@ -59,10 +60,17 @@ pub record LastWords (a : Scene) (t : Core) : Type 0 where
   -- a holding entry that begins to run finds its instance open, and shuts it
   pub shut : (i : ℕ) → begun_holder a.base a.label ≡ Some i → (may_not_enter i a.base ≡ false) × (is_some (get t.instances i) ≡ true → may_not_enter i t ≡ true)
 
+-- a main that is a script stays one, and so does one that isn't
+abbrev pub SameMain : Main → Main → Type 0
+SameMain (Scripted p) (Scripted q) = Unit {0}
+SameMain Unscripted Unscripted = Unit {0}
+SameMain _ _ = ⊥
+
 -- A step seen as a chain.
 pub record Walked (x : Setting) (s : State) (l : Label) (t : State) : Type 0 where
   pub next : Turn
   pub turn : t.turn ≡ settled_turn t.core next
+  pub main : SameMain s.main t.main
   pub walk : Walk (scene_of x s l next) s.core t.core
   pub ends : LastWords (scene_of x s l next) t.core
 
