@@ -3,7 +3,7 @@ use Rattle.task_laws.proofs.Basics.{above, no_way, same_number, too_high, true_i
 use Rattle.std.proofs.Common.{T, ap, arith, cond, eqb→eq, inl, inr, refl, subst, sym, ◌∙◌, ◌≤◌, ◌⊎◌}
 use Rattle.std.specs.Option.{option_map_or}
 use Rattle.std.specs.Prelude.{Bool, None, Option, Some, false, is_some, option_and_then, option_map, true, unwrap_or, ℕ, ◌+◌, ◌==◌, ◌≡◌}
-use Rattle.task_laws.proofs.ReachLemmas.{filled_with, reached_kept, step_kept}
+use Rattle.task_laws.proofs.ReachLemmas.{filled_with, reached_kept}
 use Rattle.task_laws.specs.Handles.{SetsNamedAtHome, SetsNamedOnce}
 use Rattle.task_laws.specs.Settings.{Reached}
 use Rattle.task_machine.proofs.CommuteLemmas.{get-change}
@@ -12,7 +12,6 @@ use Rattle.task_machine.specs.Core.{Core, State, Table, filled, fresh, no_handle
 use Rattle.task_machine.specs.Maps.{Records, change, get, get-empty, get-insert, get-remove, insert, remove}
 use Rattle.task_machine.specs.Read.{as_set, handle_of_table, named_by, next_handle}
 use Rattle.task_machine.specs.Write.{add_call, add_group, add_set, add_thread, add_work, count_work, free_handle, free_thread_handle, give_handle, give_result, give_thread_handle, giving, on_call, on_instance, on_thread, on_work, push_high, remove_call, remove_group, remove_set, remove_thread, remove_work, set_backpressure, set_cancel_delivered, set_cancelled, set_course, set_do_not_enter, set_do_not_suspend, set_end, set_event, set_exited, set_how_far, set_join, set_own_event, set_phase, set_position, set_register, set_result, set_saved_callee, set_saved_own, set_script, set_stage, set_started, set_starting_published, set_subtask_handle, set_thread_handle, set_trapped, set_uninteresting, set_word, take_result, taking}
-use Rattle.task_machine.specs.declared.label.Label.{Label}
 use Rattle.task_machine.specs.declared.records.Named.{Named}
 use Rattle.task_machine.specs.declared.records.Set.{Set}
 use Rattle.task_machine.specs.declared.records.Subtask.{Subtask}
@@ -21,7 +20,6 @@ use Rattle.task_rules.specs.Allowed.{Allowed}
 use Rattle.task_rules.specs.Calls.{call_made, with_handle, with_thread_handle, work_queued}
 use Rattle.task_rules.specs.Scenes.{Scene}
 use Rattle.task_rules.specs.Stalled.{Setting}
-use Rattle.task_rules.specs.Step.{Step}
 use Rattle.task_rules.specs.Words.{CloseSet, NameCall, NameWork, OpenSet, UnnameCall, UnnameWork, Word, after_word}
 use Rattle.task_rules.specs.Works.{poll_pends}
 use Rattle.task_machine.specs.declared.records.Named.TheVariants as named
@@ -159,7 +157,7 @@ set_closed i h x {handles = handles} {sets = sets} named q = record {
         let home : j ≡ i = one_set (sym (q.homes j g x too) ∙ q.homes i h x named) in
         k.1 home (q.apart i g h x (subst (λ (n : ℕ). Names handles n g x) home too) named))) ∙ q.homes j g y k.0
 
-tidy_word : (a : Scene) (w : Word) (s : Core) → Allowed a w s → IsTidy s → IsTidy (after_word w s)
+pub tidy_word : (a : Scene) (w : Word) (s : Core) → Allowed a w s → IsTidy s → IsTidy (after_word w s)
 unfolding add_call add_group add_set add_thread add_work call_made count_work free_handle free_thread_handle give_handle give_result give_thread_handle on_call on_instance on_thread on_work poll_pends push_high remove_call remove_group remove_set remove_thread remove_work set_backpressure set_cancel_delivered set_cancelled set_course set_do_not_enter set_do_not_suspend set_end set_event set_exited set_how_far set_join set_own_event set_phase set_position set_register set_result set_saved_callee set_saved_own set_script set_stage set_started set_starting_published set_subtask_handle set_thread_handle set_trapped set_uninteresting set_word take_result with_handle with_thread_handle work_queued
 tidy_word a (NameCall i k) s ok q = subtask_named i (subtask.Guest k) q
 tidy_word a (NameWork i w) s ok q = subtask_named i (subtask.Host w) q
@@ -185,9 +183,6 @@ opening_tidy instances handle_limit capacity = record {
 
     none_named : (n i h x : ℕ) {A : Type 0} → Names (filled no_handles n) i h x → A
     none_named n i h x k = no_handle (get (filled no_handles n) i) h x (λ t is. filled_with n i t is) k
-
-pub step_tidy : (x : Setting) (s : State) (l : Label) (t : State) → Step x s l t → IsTidy s.core → IsTidy t.core
-step_tidy x s l t step q = step_kept IsTidy tidy_word x s l t step q
 
 pub reached_tidy : {x : Setting} {s : State} → Reached x s → IsTidy s.core
 reached_tidy r = reached_kept IsTidy opening_tidy tidy_word r

@@ -10,17 +10,18 @@ use Rattle.task_laws.proofs.StrandLemmas.{Layered, RunnerGiven, layered_word}
 use Rattle.task_laws.proofs.SceneLemmas.{base_is, runner_there}
 use Rattle.task_laws.proofs.HousedLemmas.{RunnerHoused, housed_word}
 use Rattle.task_laws.proofs.CountLemmas.{few_word}
-use Rattle.std.proofs.Common.{T, ap, arith, refl, subst, sym, ◌∙◌, inl}
+use Rattle.std.proofs.Common.{T, ap, arith, le_refl, refl, subst, sym, ◌∙◌, inl}
 use Rattle.std.specs.Option.{option_map_or}
 use Rattle.std.specs.Prelude.{Bool, List, None, Option, Some, [], false, if◌then◌else◌, is_none, is_some, not, option_and_then, option_map, true, unwrap_or, ℕ, ◌∷◌, ◌≡◌, ◌≤◌, ◌+◌}
-use Rattle.task_laws.proofs.EachLemmas.{Each, EachAt}
-use Rattle.task_laws.proofs.SetHandles.{IsTidy, opening_tidy, step_tidy}
+use Rattle.task_laws.proofs.EachLemmas.{Each, EachAt, each_get}
+use Rattle.task_laws.proofs.SetHandles.{IsTidy, opening_tidy, tidy_word}
 use Rattle.task_laws.proofs.CallsLaw.{CallsHold}
 use Rattle.task_laws.proofs.CallsSteps.{opening_holds, step_goes}
-use Rattle.task_laws.specs.Order.{CallsNamed, InOrder, InPlace, Numbered, OpeningInOrder, SetsNamed, StartsAwaited, StepInOrder, WasCall, is_fresh, under_way, CallsThere, IsOf, MakesFew, Strands, WaitsAtHome, set_of_op, set_of_place, StepsMakeFew}
+use Rattle.task_laws.specs.Order.{CallKinds, CallsNamed, DeliveredByCallback, InOrder, InPlace, Numbered, OpeningInOrder, SetsNamed, StartsAwaited, StepInOrder, WasCall, is_fresh, under_way, CallsThere, IsOf, MakesFew, Strands, WaitsAtHome, set_of_op, set_of_place, StepsMakeFew}
 use Rattle.task_machine.specs.Core.{Core, Main, State, fresh}
 use Rattle.task_machine.specs.Maps.{Records, empty, get, get-empty}
 use Rattle.task_machine.specs.Read.{as_subtask, named_by, place_of, set_at, instance_of, no_callee, call_instance, task_of}
+use Rattle.task_machine.specs.declared.component.Component.{Component}
 use Rattle.task_machine.specs.declared.label.Label.{Label}
 use Rattle.task_machine.specs.declared.records.Call.{Call}
 use Rattle.task_machine.specs.declared.records.HowFar.{HowFar}
@@ -346,7 +347,7 @@ step_in_order x s l t h step =
       calls_there = calls_kept x s l t h w;
       calls_named = named_of t.core r;
       waits = waits_kept x s l t h w (steady x s l t step);
-      sets_named = sets_of t.core (step_tidy x s l t step (tidy s.core h.sets_named));
+      sets_named = sets_of t.core (along IsTidy (tidy_word (scene_of x s l w.next)) (tidy s.core h.sets_named) w.walk);
       kinds = q.kinds;
       deliveries = q.deliveries;
       starts = starts_kept s.core t.core t.turn k (waited s.core t.core h.in_place.placed (steady x s l t step) h.starts);
