@@ -11,6 +11,7 @@ pub mod ThreadsShown
 pub mod StrandsShown
 pub mod ChecksShown
 pub mod SubtasksShown
+pub mod UnplacedShown
 pub mod Generated1Shown
 pub mod Generated2Shown
 pub mod Generated3Shown
@@ -21,3 +22,7 @@ pub mod Generated7Shown
 pub mod Generated8Shown
 pub mod Generated9Shown
 pub mod Generated10Shown
+pub mod Generated11Shown
+pub mod Generated12Shown
+pub mod Generated13Shown
+pub mod WrongShown

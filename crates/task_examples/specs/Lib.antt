@@ -12,6 +12,7 @@ pub mod Threads
 pub mod Strands
 pub mod Checks
 pub mod Subtasks
+pub mod Unplaced
 pub mod Generated1
 pub mod Generated2
 pub mod Generated3
@@ -22,3 +23,7 @@ pub mod Generated7
 pub mod Generated8
 pub mod Generated9
 pub mod Generated10
+pub mod Generated11
+pub mod Generated12
+pub mod Generated13
+pub mod Wrong

@@ -1,14 +1,13 @@
 -- The end of a call, and that of a host work, is written at most once.
+use Rattle.task_laws.proofs.Basics.{no_way, same_number, true_is_not_false}
 use Rattle.std.proofs.Common.{ap, arith, le_trans, refl, subst, ◌∙◌}
 use Rattle.std.proofs.lemmas.List.Recursion.{is_count_by}
 use Rattle.std.specs.Prelude.{Bool, List, None, Option, Some, [], count_by, false, if◌then◌else◌, is_some, not, option_map, true, ℕ, ◌&&◌, ◌+◌, ◌==◌, ◌∷◌, ◌≡◌, ◌≤◌}
 use Rattle.task_laws.proofs.EachLemmas.{each_get}
-use Rattle.task_laws.proofs.SoundFields.{no_way}
-use Rattle.task_laws.proofs.SoundLemmas.{CallSound, Sound, same_number, true_is_not_false}
-use Rattle.task_laws.proofs.SoundSteps.{Settled, reached_settled, renewed, step_sound}
-use Rattle.task_laws.proofs.SpunFields.{Spun, WorkRises, has_end}
-use Rattle.task_laws.proofs.SpunLemmas.{run_calm, step_spun}
-use Rattle.task_laws.proofs.SpunSteps.{Calm, calmed, opening_calm}
+use Rattle.task_laws.proofs.CallsLaw.{CallsHold}
+use Rattle.task_laws.proofs.CallsSteps.{reached_holds, step_goes}
+use Rattle.task_laws.proofs.HostWorks.{Calm, Spun, WorkRises, calmed, has_end, opening_calm, run_calm, step_spun}
+use Rattle.task_rules.proofs.LawLemmas.{never_fewer}
 use Rattle.task_laws.specs.Rises.{Rises}
 use Rattle.task_laws.specs.Settings.{CodesInCallbacks, Reached}
 use Rattle.task_laws.specs.Written.{EndsWrittenOnce}
@@ -21,7 +20,7 @@ use Rattle.task_machine.specs.declared.records.Course.{Course}
 use Rattle.task_machine.specs.declared.records.Work.{Work}
 use Rattle.task_rules.specs.History.{Moment, history}
 use Rattle.task_rules.specs.Laws.{LaterBy}
-use Rattle.task_rules.specs.Once.{call_end_code, course_code, is_written, writes_end}
+use Rattle.task_rules.specs.Once.{call_end_code, course_code, is_written, changes_end}
 use Rattle.task_rules.specs.Run.{Run, opening}
 use Rattle.task_rules.specs.Stalled.{Setting}
 use Rattle.task_machine.specs.declared.records.CallEnd.TheVariants as call_end
@@ -101,26 +100,26 @@ counted_is : (p : Moment → Bool) (ms : List Moment) → counted p ms ≡ count
 counted_is p ms = is_count_by (counted p) p refl (λ m ms. refl) ms
 
 module _ (x : Setting) (grammar : CodesInCallbacks x.component) (k : ℕ) where
-  none_written : (s : State) → Settled x.component s.core → k ≤ s.core.made.threads → is_over (get s.core.calls k) ≡ true → (ls : List Label) (t : State) → (run : Run x s ls t) → counted (writes_end (subtask.Guest k)) (history x s ls t run) ≡ 0
+  none_written : (s : State) → CallsHold x.component s.core → k ≤ s.core.made.threads → is_over (get s.core.calls k) ≡ true → (ls : List Label) (t : State) → (run : Run x s ls t) → counted (changes_end (subtask.Guest k)) (history x s ls t run) ≡ 0
   none_written s q below over [] t run = refl
   none_written s q below over (l ∷ ls) t run =
-      let h : Sound x.component s.core 0 run.0.core = step_sound x grammar s q l run.0 run.1.0 in
-      let later : LaterBy Rises (get s.core.calls k) (get run.0.core.calls k) = h.later k below in
+      let h = step_goes x s l run.0 grammar q run.1.0 in
+      let later : LaterBy Rises (get s.core.calls k) (get run.0.core.calls k) = h.1 k below in
       none_more (is_written (code_of (get s.core.calls k)) (code_of (get run.0.core.calls k))) _
       (not_written (get s.core.calls k) (get run.0.core.calls k) later over)
-      (none_written run.0 (renewed h) (le_trans below h.counted) (over_stays (get s.core.calls k) (get run.0.core.calls k) later over) ls t run.1.1)
+      (none_written run.0 h.0 (le_trans below (never_fewer x s l run.0 run.1.0).threads) (over_stays (get s.core.calls k) (get run.0.core.calls k) later over) ls t run.1.1)
 
-  once_written : (s : State) → Settled x.component s.core → (ls : List Label) (t : State) → (run : Run x s ls t) → counted (writes_end (subtask.Guest k)) (history x s ls t run) ≤ 1
+  once_written : (s : State) → CallsHold x.component s.core → (ls : List Label) (t : State) → (run : Run x s ls t) → counted (changes_end (subtask.Guest k)) (history x s ls t run) ≤ 1
   once_written s q [] t run = omega arith
   once_written s q (l ∷ ls) t run =
-      let h : Sound x.component s.core 0 run.0.core = step_sound x grammar s q l run.0 run.1.0 in
+      let h = step_goes x s l run.0 grammar q run.1.0 in
       one_at_most (is_written (code_of (get s.core.calls k)) (code_of (get run.0.core.calls k))) _
-      (once_written run.0 (renewed h) ls t run.1.1)
-      (λ w. none_written run.0 (renewed h) (le_trans (made_of q (get s.core.calls k) refl (get run.0.core.calls k) w) h.counted) (unwritten (get s.core.calls k) (get run.0.core.calls k) w) ls t run.1.1)
+      (once_written run.0 h.0 ls t run.1.1)
+      (λ w. none_written run.0 h.0 (le_trans (made_of q (get s.core.calls k) refl (get run.0.core.calls k) w) (never_fewer x s l run.0 run.1.0).threads) (unwritten (get s.core.calls k) (get run.0.core.calls k) w) ls t run.1.1)
     where
-      made_of : Settled x.component s.core → (o : Option Call) → get s.core.calls k ≡ o → (p : Option Call) → is_written (code_of o) (code_of p) ≡ true → k ≤ s.core.made.threads
+      made_of : CallsHold x.component s.core → (o : Option Call) → get s.core.calls k ≡ o → (p : Option Call) → is_written (code_of o) (code_of p) ≡ true → k ≤ s.core.made.threads
       made_of q None at p w = no_way w
-      made_of q (Some c) at p w = (each_get (CallSound x.component s.core.made.threads) s.core.calls q.calls k c at).number
+      made_of q (Some c) at p w = (q.numbered.calls k c at).1
 
 -- ---- Host works
 
@@ -158,26 +157,26 @@ work_unwritten (Some c) None w = refl
 work_unwritten (Some c) (Some d) w = course_over d.course (course_code c.course) w
 
 module _ (x : Setting) (i : ℕ) where
-  none_written_work : (s : State) → Calm s.core → i ≤ s.core.made.works → is_work_over (get s.core.works i) ≡ true → (ls : List Label) (t : State) → (run : Run x s ls t) → counted (writes_end (subtask.Host i)) (history x s ls t run) ≡ 0
+  none_written_work : (s : State) → Calm s.core → i ≤ s.core.made.works → is_work_over (get s.core.works i) ≡ true → (ls : List Label) (t : State) → (run : Run x s ls t) → counted (changes_end (subtask.Host i)) (history x s ls t run) ≡ 0
   none_written_work s q below over [] t run = refl
   none_written_work s q below over (l ∷ ls) t run =
       let h : Spun s.core run.0.core = step_spun x s q l run.0 run.1.0 in
       let later : LaterBy WorkRises (get s.core.works i) (get run.0.core.works i) = h.later i below in
       none_more (is_written (work_code (get s.core.works i)) (work_code (get run.0.core.works i))) _
       (work_not_written (get s.core.works i) (get run.0.core.works i) later over)
-      (none_written_work run.0 (calmed h) (le_trans below h.counted) (work_over_stays (get s.core.works i) (get run.0.core.works i) later over) ls t run.1.1)
+      (none_written_work run.0 (calmed s.core run.0.core h) (le_trans below h.counted) (work_over_stays (get s.core.works i) (get run.0.core.works i) later over) ls t run.1.1)
 
-  work_made : {s : Core} → Calm s → (o : Option Work) → get s.works i ≡ o → (p : Option Work) → is_written (work_code o) (work_code p) ≡ true → i ≤ s.made.works
-  work_made q None at p w = no_way w
-  work_made {s = s} q (Some c) at p w = each_get (λ j v. j ≤ s.made.works) s.works q.numbers i c at
+  work_made : (s : Core) → Calm s → (o : Option Work) → get s.works i ≡ o → (p : Option Work) → is_written (work_code o) (work_code p) ≡ true → i ≤ s.made.works
+  work_made s q None at p w = no_way w
+  work_made s q (Some c) at p w = each_get (λ j v. j ≤ s.made.works) s.works q.numbers i c at
 
-  once_written_work : (s : State) → Calm s.core → (ls : List Label) (t : State) → (run : Run x s ls t) → counted (writes_end (subtask.Host i)) (history x s ls t run) ≤ 1
+  once_written_work : (s : State) → Calm s.core → (ls : List Label) (t : State) → (run : Run x s ls t) → counted (changes_end (subtask.Host i)) (history x s ls t run) ≤ 1
   once_written_work s q [] t run = omega arith
   once_written_work s q (l ∷ ls) t run =
       let h : Spun s.core run.0.core = step_spun x s q l run.0 run.1.0 in
       one_at_most (is_written (work_code (get s.core.works i)) (work_code (get run.0.core.works i))) _
-      (once_written_work run.0 (calmed h) ls t run.1.1)
-      (λ w. none_written_work run.0 (calmed h) (le_trans (work_made q (get s.core.works i) refl (get run.0.core.works i) w) h.counted) (work_unwritten (get s.core.works i) (get run.0.core.works i) w) ls t run.1.1)
+      (once_written_work run.0 (calmed s.core run.0.core h) ls t run.1.1)
+      (λ w. none_written_work run.0 (calmed s.core run.0.core h) (le_trans (work_made s.core q (get s.core.works i) refl (get run.0.core.works i) w) h.counted) (work_unwritten (get s.core.works i) (get run.0.core.works i) w) ls t run.1.1)
 
 -- ---- The law
 
@@ -185,5 +184,5 @@ reached_calm : {x : Setting} {s : State} → Reached x s → Calm s.core
 reached_calm {x = x} {s = s} r = run_calm x (opening r.instances r.handle_limit r.capacity r.main) (opening_calm r.instances r.handle_limit r.capacity) r.labels s r.run
 
 pub ends_written_once : EndsWrittenOnce
-ends_written_once x s ls t r run (subtask.Guest k) = subst (λ (n : ℕ). n ≤ 1) (counted_is (writes_end (subtask.Guest k)) (history x s ls t run)) (once_written x r.scripts k s (reached_settled r) ls t run)
-ends_written_once x s ls t r run (subtask.Host i) = subst (λ (n : ℕ). n ≤ 1) (counted_is (writes_end (subtask.Host i)) (history x s ls t run)) (once_written_work x i s (reached_calm r) ls t run)
+ends_written_once x s ls t r run (subtask.Guest k) = subst (λ (n : ℕ). n ≤ 1) (counted_is (changes_end (subtask.Guest k)) (history x s ls t run)) (once_written x r.scripts k s (reached_holds r) ls t run)
+ends_written_once x s ls t r run (subtask.Host i) = subst (λ (n : ℕ). n ≤ 1) (counted_is (changes_end (subtask.Host i)) (history x s ls t run)) (once_written_work x i s (reached_calm r) ls t run)

@@ -1,34 +1,17 @@
 -- At most one holding entry of an instance runs at a time.
-use Rattle.std.specs.Prelude.{List, None, Option, Some, slice_get, ℕ, ◌<◌, ◌≡◌}
+use Rattle.std.specs.Prelude.{List, Some, slice_get, ℕ, ◌<◌, ◌≡◌}
 use Rattle.task_machine.specs.declared.component.Callee.{Callee}
 use Rattle.task_machine.specs.declared.label.Label.{Label}
-use Rattle.task_machine.specs.declared.op.CallOp.{CallOp}
-use Rattle.task_machine.specs.declared.op.CallOp.TheVariants as call_op
 use Rattle.task_machine.specs.declared.op.Op.{Op}
-use Rattle.task_machine.specs.declared.op.Op.TheVariants as op
 use Rattle.task_machine.specs.declared.records.Script.{Script}
 use Rattle.task_machine.specs.declared.scenario.MainOpDef.{MainOpDef}
-use Rattle.task_machine.specs.declared.scenario.MainOpDef.TheVariants as main_op
 use Rattle.task_machine.specs.Core.{MainPlace, Scripted, State}
 use Rattle.task_rules.specs.History.{history}
+use Rattle.task_rules.specs.OpParts.{callee_of_main_op, callee_of_op}
 use Rattle.task_rules.specs.Once.{OneHolder}
 use Rattle.task_rules.specs.Run.{Run, opening}
 use Rattle.task_rules.specs.Scripts.{script_in}
 use Rattle.task_rules.specs.Stalled.{Setting}
-
--- the export that an op calls
-abbrev pub callee_of_call : CallOp → Option Callee
-callee_of_call (call_op.Call r q e xs) = Some e
-callee_of_call (call_op.CallSync r e xs) = Some e
-callee_of_call _ = None
-
-abbrev pub callee_of_op : Op → Option Callee
-callee_of_op (op.Call o) = callee_of_call o
-callee_of_op _ = None
-
-abbrev pub callee_of_main_op : MainOpDef → Option Callee
-callee_of_main_op (main_op.Start e xs) = Some e
-callee_of_main_op _ = None
 
 -- There are this many instances, one at least, and each export that is called or started is of one of them.
 pub record CalleesExist (x : Setting) (instances : ℕ) : Type 0 where

@@ -3,3 +3,4 @@ pub mod Rises
 pub mod Holders
 pub mod Written
 pub mod Handles
+pub mod Order

@@ -1,29 +1,16 @@
 -- What the grammar of scenarios says of scripts: the ops that end an activation stand in the scripts of callback exports alone.
-use Rattle.std.specs.Prelude.{Bool, List, Some, false, slice_get, true, ℕ, ◌≡◌}
+use Rattle.std.specs.Prelude.{List, Some, false, slice_get, ℕ, ◌≡◌}
 use Rattle.task_machine.specs.declared.component.Callee.{Callee}
 use Rattle.task_machine.specs.declared.component.Component.{Component}
 use Rattle.task_machine.specs.declared.component.ExportDef.{ExportDef}
 use Rattle.task_machine.specs.declared.label.Label.{Label}
 use Rattle.task_machine.specs.declared.op.Op.{Op}
-use Rattle.task_machine.specs.declared.op.Op.TheVariants as op
-use Rattle.task_machine.specs.declared.op.TaskOp.{TaskOp}
-use Rattle.task_machine.specs.declared.op.TaskOp.TheVariants as task_op
 use Rattle.task_machine.specs.Core.{Main, State}
 use Rattle.task_machine.specs.Read.{is_callback}
+use Rattle.task_rules.specs.OpParts.{ends_activation}
 use Rattle.task_rules.specs.Run.{Run, opening}
 use Rattle.task_rules.specs.Scripts.{export_at, slot_at, slot_script}
 use Rattle.task_rules.specs.Stalled.{Setting}
-
--- the ops that end a callback's activation with a code
-abbrev pub is_code_op : TaskOp → Bool
-is_code_op task_op.CbYield = true
-is_code_op (task_op.CbWait x) = true
-is_code_op (task_op.Code x) = true
-is_code_op _ = false
-
-abbrev pub ends_activation : Op → Bool
-ends_activation (op.Task o) = is_code_op o
-ends_activation _ = false
 
 -- no op of the script ends an activation
 abbrev pub HasNoCode : List Op → Type 0

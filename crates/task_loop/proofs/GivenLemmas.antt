@@ -76,7 +76,7 @@ main_few x s (Scripted p) l t step = at_op (op_at x.script p) step
     at_op : (o : Option MainOpDef) → ScriptStep x s p o (label.Main l) t → given t.core ≤ given s.core + 2
     at_op None none = absurd (cc)
     at_op (Some o) some = script_few s p o _ (label.Main l) t (row_few x.component (line_of p o) s.core (act_of p o)) some
-main_few x s Unscripted l t step = open_few s _ (label.Main l) t (row_few x.component step.0 s.core step.1.0) step.1.1
+main_few x s Unscripted l t step = open_few s _ (label.Main l) t (row_few x.component step.0 s.core step.1.0) step.1.1.1
 
 -- a start of main makes a thread and a group
 pub given-main_started : (c : Component) (e : Callee) (words : List ℕ) (s : Core) → given (main_started c e words s) ≡ given s + 2

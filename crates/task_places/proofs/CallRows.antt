@@ -5,7 +5,7 @@ use Rattle.task_machine.proofs.MapLemmas.{get-change_same}
 use Rattle.task_machine.specs.declared.component.ExportKind.TheVariants as kind
 use Rattle.task_machine.specs.Maps.{Records, get}
 use Rattle.task_machine.specs.declared.records.Call.{Call}
-use Rattle.task_machine.specs.Core.{Core}
+use Rattle.task_machine.specs.Core.{Core, Queues}
 use Rattle.task_machine.specs.Moves.{passes_check}
 use Rattle.task_machine.specs.Read.{at_handle_limit, call_instance, event_of, fits, foot_of, how_far_of, instance_of, is_async_lifted, is_at, is_callback_yield, is_explicit, may_not_suspend, new_thread_handle, subtask_ended, task_of, thread_at, thread_group, undelivered_end, was_cancelled}
 use Rattle.task_machine.specs.Write.{set_join, on_call, on_instance, set_how_far, set_saved_own, on_thread}
@@ -43,14 +43,15 @@ use Rattle.task_machine.specs.declared.trap.Trap.TheVariants as trap
 use Rattle.task_machine.specs.declared.records.Why.TheVariants as why
 use Rattle.task_machine.specs.declared.records.WorkCaller.TheVariants as work_caller
 use Rattle.task_places.proofs.EntryLemmas.{ready_listed, no_both_of}
-use Rattle.task_places.proofs.FreshMoves.{is_fresh, is_start}
+use Rattle.task_laws.specs.Order.{is_fresh, is_start}
 use Rattle.task_places.proofs.FreshStand.{All, Going, Kept, Runs, Standing, all_of, behind_all, checked_stand, is_starting, may_go, not_fresh, promoted_unless_stand, put_low_all, put_low_good, put_switch_good, quiet_stand, stopped_stand}
-use Rattle.task_places.proofs.PlaceWords.{added_stand, free_moved, pushed_stand}
+use Rattle.task_places.proofs.PlaceWords.{added_stand, free_moved, pushed_stand, Unused}
 use Rattle.task_rules.proofs.UntouchedLemmas.{untouched_after, set_how_far_untouched, set_saved_callee_untouched, count_work_untouched, add_work_untouched, set_started_untouched, set_join_untouched, set_do_not_suspend_untouched, answered_untouched, with_handle_untouched, sync_sets_flag_untouched, with_thread_handle_untouched, host_ready_untouched, host_answered_untouched, work_answered_untouched, cancel_takes_end_untouched, cancel_aborts_host_untouched, cancel_asks_untouched}
 use Rattle.task_rules.proofs.MoveLemmas as moves
 use Rattle.task_rules.proofs.MoveLemmas.{is_parked}
 use Rattle.task_rules.proofs.StandLemmas.{by_number, place_kept, is_eq_of, not_eq, place_written}
 use Rattle.task_rules.proofs.StopLemmas as stops
+use Rattle.task_rules.proofs.StopLemmas.{foot_there, switch_there}
 use Rattle.task_rules.specs.Places.{one_if}
 use Rattle.task_machine.specs.declared.records.Place.{Place}
 use Rattle.std.specs.Option.{option_map_or}
@@ -59,7 +60,7 @@ use Rattle.task_machine.specs.Read.{place_of}
 use Rattle.task_machine.specs.Moves.{promoted_unless}
 use Rattle.task_rules.specs.Calls.{call_made}
 use Rattle.task_places.proofs.RunRows.{Stays, advanced_goes, assigned_goes, quiet_goes, how_far_all, or_trap_stays, quiet_runs, stopped_all, trap_if_stays}
-use Rattle.task_places.proofs.OpRows.{Unused, call_stops_all, call_begins_stays, call_sync_status_stays, made_place, made_stand}
+use Rattle.task_places.proofs.OpRows.{call_stops_all, call_begins_stays, call_sync_status_stays, made_place, made_stand}
 use Rattle.task_machine.specs.declared.records.Entry.TheVariants as entry
 use Rattle.task_machine.specs.declared.records.WorkCaller.{WorkCaller}
 use Rattle.task_machine.specs.declared.words.Mark.{Mark}
@@ -215,9 +216,9 @@ module _ {base : Core} where
   pub cancel_host_stays : (mode : Mode) (n r i : ℕ) (s : Core) → Runs base n s → Stays base (cancel_host mode n r i s)
   cancel_host_stays mode n r i s q = trap_if_stays base (was_cancelled i s) trap.SubtaskCancelAfterTerminal _ (λ e. after_cancel_stays mode n r (subtask.Host i) (cancel_aborts_host i s) (quiet_runs n s _ (cancel_aborts_host_untouched i s) q))
 
-  behind_switch_all : (n : ℕ) (o : Option ℕ) (s : Core) → Runs base n s → Kept base (behind_switch n o s)
-  behind_switch_all n None s r = all_of n place.Running s refl r
-  behind_switch_all n (Some m) s r = behind_all n place.Running refl (foot_of m s) s refl r
+  behind_switch_all : (n : ℕ) (o : Option ℕ) (s : Core) → s.queues.switch ≡ o → Runs base n s → Kept base (behind_switch n o s)
+  behind_switch_all n None s e r = all_of n place.Running s refl r
+  behind_switch_all n (Some m) s e r = behind_all n place.Running refl (foot_of m s) s (foot_there m s (switch_there n place.Running [] s r.stand m e)) refl r
 
   cancel_goes_behind_all : (n k : ℕ) (s : Core) → Runs base n s → Kept base (cancel_goes_behind n k s)
   unfolding cancel_goes_behind
@@ -227,7 +228,7 @@ module _ {base : Core} where
       let b = set_do_not_suspend j false a in
       let c = set_join (subtask.Guest k) (join.Watched n) b in
       let u = untouched_after (set_saved_callee_untouched n (Some (may_not_suspend j s)) s) (untouched_after (set_do_not_suspend_untouched j false a) (set_join_untouched (subtask.Guest k) (join.Watched n) b)) in
-      how_far_all n (how_far.Cancels (subtask.Guest k)) _ (behind_switch_all n s.queues.switch c (quiet_runs n s c u r))
+      how_far_all n (how_far.Cancels (subtask.Guest k)) _ (behind_switch_all n s.queues.switch c (ap (λ (q : Queues). q.switch) u.queues) (quiet_runs n s c u r))
 
 waits_by : (o : Option Place) → option_map_or is_callback_wait o false ≡ true → (y : ℕ) × ((b : Bool) × (o ≡ Some (place.Waiting y b)))
 waits_by None h = absurd (subst T (sym h) tt)

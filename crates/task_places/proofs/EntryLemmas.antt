@@ -1,5 +1,5 @@
 -- A thread's entry is promoted: each thread has its place.
-use Rattle.std.proofs.Common.{T, ap, arith, cond, refl, subst, sym, ◌∙◌}
+use Rattle.std.proofs.Common.{T, ap, ap₂, arith, cond, le_refl, le_trans, refl, subst, sym, ◌∙◌}
 use Rattle.std.specs.Prelude.{Bool, is_none, List, None, Option, Some, [], false, find, if◌then◌else◌, is_some, not, option_and_then, true, unwrap_or, ℕ, ◌+◌, ◌==◌, ◌||◌, ◌∷◌, ◌≡◌, ◌≤◌}
 use Rattle.task_machine.specs.Core.{Core}
 use Rattle.task_machine.specs.Maps.{get}
@@ -10,9 +10,9 @@ use Rattle.task_machine.specs.declared.records.Entry.{Entry}
 use Rattle.task_machine.specs.declared.records.Place.{Place}
 use Rattle.task_machine.specs.declared.records.Why.{Why}
 use Rattle.task_machine.specs.declared.words.Mark.{Mark}
-use Rattle.task_rules.proofs.StandLemmas.{Loose, Stand, by_number, entries-less, eq_refl, gain, is_eq_of, place_kept, plus_none, plus_one}
+use Rattle.task_rules.proofs.StandLemmas.{Loose, Stand, by_number, entries-less, eq_refl, gain, is_eq_of, none_there, place_kept, plus_none, plus_one}
 use Rattle.task_rules.proofs.StopLemmas.{put_switch_stand}
-use Rattle.task_rules.specs.Places.{HasPlace, entries, is_at_high, is_at_low, is_at_switch, is_behind_of, one_if, says, switch_entries, times}
+use Rattle.task_rules.specs.Places.{HasPlace, entries, is_at_high, is_at_low, is_at_switch, is_behind_of, is_there, one_if, says, switch_entries, times}
 use Rattle.task_machine.specs.declared.records.Entry.TheVariants as entry
 use Rattle.task_machine.specs.declared.words.Mark.TheVariants as mark
 use Rattle.task_machine.specs.declared.records.Place.TheVariants as place
@@ -68,6 +68,7 @@ one_place (Some place.Suspended) = record { one = omega arith; apart = λ f. ome
 pub record Shorter (m a b c : ℕ) (s t : Core) : Type 0 where
   pub places : (k : ℕ) → place_of k t ≡ place_of k s
   pub callers : t.callers ≡ s.callers
+  pub made : s.made.threads ≤ t.made.threads
   pub high : (k : ℕ) → entries k t.queues.high + gain k m a ≡ entries k s.queues.high
   pub low : (k : ℕ) → entries k t.queues.low + gain k m b ≡ entries k s.queues.low
   pub switch : (k : ℕ) → switch_entries k t.queues.switch + gain k m c ≡ switch_entries k s.queues.switch
@@ -84,6 +85,9 @@ less_both x y g a e f = omega (arith, e, f)
 same_callers : (s t : Core) → t.callers ≡ s.callers → (k f : ℕ) → times k (callers_of f t) ≡ times k (callers_of f s)
 same_callers s t e k f = ap (λ c. times k (unwrap_or (get c f) [])) e
 
+shorter_there : (m a b c : ℕ) (s t : Core) → Shorter m a b c s t → (k : ℕ) → is_there k t ≡ is_there k s
+shorter_there m a b c s t w k = ap (λ (o : Option Place). is_some o) (w.places k)
+
 -- the thread itself has no entry left
 pub shorter_loose : (m a b c : ℕ) (s t : Core) → a + b + c ≡ says is_at_high (place_of m s) + says is_at_low (place_of m s) + says is_at_switch (place_of m s) → ((f : ℕ) → says (is_behind_of f) (place_of m s) ≡ 0) → Shorter m a b c s t → HasPlace m s → Loose m t
 shorter_loose m a b c s t sum free w h =
@@ -94,10 +98,11 @@ shorter_loose m a b c s t sum free w h =
     let hy = h.low in
     let hz = h.switch in
     record {
+      number = λ e. le_trans (h.number (sym (shorter_there m a b c s t w m) ∙ e)) w.made;
       switch = omega (arith, x, y, z, hx, hy, hz, sum);
       high = omega (arith, x, y, z, hx, hy, hz, sum);
       low = omega (arith, x, y, z, hx, hy, hz, sum);
-      callers = λ f. let u = h.callers f in let v = free f in let r = same_callers s t w.callers m f in omega (arith, u, v, r);
+      callers = λ f. same_callers s t w.callers m f ∙ (h.callers f ∙ none_there (is_there f s) _ (free f));
     }
 
 no_gain : (x y g : ℕ) → x + g ≡ y → g ≡ 0 → x ≡ y
@@ -106,10 +111,12 @@ no_gain x y g e f = omega (arith, e, f)
 -- each other thread has its place
 pub shorter_kept : (k m a b c : ℕ) (s t : Core) → (k == m) ≡ false → Shorter m a b c s t → HasPlace k s → HasPlace k t
 shorter_kept k m a b c s t e w h = record {
+  number = λ g. le_trans (h.number (sym (shorter_there m a b c s t w k) ∙ g)) w.made;
+  behind = λ f g. le_trans (h.behind f (sym (ap (says (is_behind_of f)) (w.places k)) ∙ g)) w.made;
   switch = no_gain _ _ _ (w.switch k) (gain_other k m c e) ∙ (h.switch ∙ ap (says is_at_switch) (sym (w.places k)));
   high = no_gain _ _ _ (w.high k) (gain_other k m a e) ∙ (h.high ∙ ap (says is_at_high) (sym (w.places k)));
   low = no_gain _ _ _ (w.low k) (gain_other k m b e) ∙ (h.low ∙ ap (says is_at_low) (sym (w.places k)));
-  callers = λ f. subst (λ (o : Option Place). times k (callers_of f t) ≤ says (is_behind_of f) o) (sym (w.places k)) (subst (λ (x : ℕ). x ≤ says (is_behind_of f) (place_of k s)) (sym (same_callers s t w.callers k f)) (h.callers f));
+  callers = λ f. same_callers s t w.callers k f ∙ (h.callers f ∙ ap₂ (λ (x : Bool) (o : Option Place). if x then says (is_behind_of f) o else 0) (sym (shorter_there m a b c s t w f)) (sym (w.places k)));
 }
 
 pub shorter_still : (n m a b c : ℕ) (s t : Core) → Shorter m a b c s t → Loose n s → Loose n t
@@ -121,6 +128,7 @@ shorter_still n m a b c s t w l =
     let ly = l.low in
     let lz = l.switch in
     record {
+      number = λ e. le_trans (l.number (sym (shorter_there m a b c s t w n) ∙ e)) w.made;
       switch = omega (arith, z, lz);
       high = omega (arith, x, lx);
       low = omega (arith, y, ly);
@@ -143,8 +151,8 @@ unqueued_shorter m s h = go (has_entry m s.queues.high) refl h
     one k es g = let e = entries-less k m es g in sym (plus_one k m (entries k (less m es)) (entries k es) (sym e))
 
     go : (b : Bool) → has_entry m s.queues.high ≡ b → (b || has_entry m s.queues.low) ≡ true → (x : ℕ) × ((y : ℕ) × ((x + y ≡ 1) × Shorter m x y 0 s (if b then set_high (less m s.queues.high) s else set_low (less m s.queues.low) s)))
-    go true e g = (1, (0, (omega arith, record { places = λ k. refl; callers = refl; high = λ k. one k s.queues.high e; low = λ k. zero k _; switch = λ k. zero k _ })))
-    go false e g = (0, (1, (omega arith, record { places = λ k. refl; callers = refl; high = λ k. zero k _; low = λ k. one k s.queues.low g; switch = λ k. zero k _ })))
+    go true e g = (1, (0, (omega arith, record { places = λ k. refl; callers = refl; made = le_refl _; high = λ k. one k s.queues.high e; low = λ k. zero k _; switch = λ k. zero k _ })))
+    go false e g = (0, (1, (omega arith, record { places = λ k. refl; callers = refl; made = le_refl _; high = λ k. zero k _; low = λ k. one k s.queues.low g; switch = λ k. zero k _ })))
 
 -- ---- The promotion
 

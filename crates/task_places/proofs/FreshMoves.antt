@@ -2,34 +2,20 @@
 use Rattle.std.specs.Option.{option_map_or}
 use Rattle.std.proofs.Common.{ap, arith, cond, refl, subst, sym, ◌∙◌, is_some, not}
 use Rattle.std.specs.Prelude.{if◌then◌else◌, ◌||◌, Bool, List, None, Option, Some, [], false, option_and_then, option_map, true, ℕ, ◌+◌, ◌==◌, ◌∷◌, ◌≡◌, ◌≤◌}
-use Rattle.task_machine.proofs.CommuteLemmas.{get-change}
+use Rattle.task_laws.specs.Order.{is_fresh, is_start}
 use Rattle.task_machine.specs.Core.{Core}
-use Rattle.task_machine.specs.Maps.{get}
 use Rattle.task_machine.specs.Moves.{behind, behind_one, displaced, held_why_of, put_high, put_low, ready_why, released, released_one, resumed_all, why_of, put_switch, promoted, promoted_unless, first_entry, checked, newest, resumed_callers, passed_on, stopped, stand, unqueued, promoted_first, older}
 use Rattle.task_machine.specs.Read.{callers_of, held_why, place_of, foot_of, may_not_suspend}
-use Rattle.task_machine.specs.Write.{on_thread, push_high, push_high_first, push_low, set_callers, set_place, set_switch}
+use Rattle.task_machine.specs.Write.{push_high, push_high_first, push_low, set_callers, set_place, set_switch}
 use Rattle.task_machine.specs.declared.records.Place.{Place}
-use Rattle.task_machine.specs.declared.records.Thread.{Thread}
 use Rattle.task_machine.specs.declared.records.Why.{Why}
 use Rattle.task_places.proofs.EntryLemmas.{Listed, entry_listed, listed_says, no_both_of, no_switch, one_place, unqueued_place}
-use Rattle.task_rules.proofs.StandLemmas.{Stand, by_number, eq_refl, is_eq_of, times-newest}
+use Rattle.task_rules.proofs.StandLemmas.{Stand, by_number, callers_say, set_place_is, set_place_there, eq_refl, is_eq_of, times-newest}
 use Rattle.task_rules.proofs.StopLemmas.{Untouched}
-use Rattle.task_rules.specs.Places.{is_at_high, is_at_low, is_at_switch, is_behind_of, one_if, says, switch_entries, times}
+use Rattle.task_rules.specs.Places.{is_at_high, is_at_low, is_at_switch, is_behind_of, is_there, one_if, says, switch_entries, times}
 use Rattle.task_machine.specs.declared.records.Place.TheVariants as place
 use Rattle.task_machine.specs.declared.records.Why.TheVariants as why
 use Rattle.task_machine.specs.declared.words.Mark.TheVariants as mark
-
-abbrev pub is_start : Why → Bool
-is_start why.Start = true
-is_start _ = false
-
--- the thread is gone, or waits for its start
-abbrev pub is_fresh : Option Place → Bool
-is_fresh None = true
-is_fresh (Some place.New) = true
-is_fresh (Some (place.Ready m w)) = is_start w
-is_fresh (Some (place.Held w)) = is_start w
-is_fresh _ = false
 
 -- what waits for its start in s does so in t, or is gone
 abbrev pub Fresher : Core → Core → Type 0
@@ -44,14 +30,14 @@ fresher_after s m t f g k h = g k (f k h)
 pub fresher_quiet : (s t : Core) → Untouched s t → Fresher s t
 fresher_quiet s t u k h = ap is_fresh (u.places k) ∙ h
 
-set_place_is : (k m : ℕ) (p : Place) (s : Core) → place_of k (set_place m p s) ≡ cond (k == m) (option_map (λ (q : Place). p) (place_of k s)) (place_of k s)
-unfolding set_place on_thread
-set_place_is k m p s = ap (option_map (λ (t : Thread). t.place)) (get-change m (λ t. record t { place = p }) s.threads k) ∙ go (k == m) (get s.threads k)
+-- a put takes no thread away
+pub put_switch_there : (k m : ℕ) (w : Why) (s : Core) → is_there k (put_switch m w s) ≡ is_there k s
+unfolding put_switch set_switch push_high_first
+put_switch_there k m w s = set_place_there k m (place.Ready mark.Switch w) (displaced s.queues.switch s) ∙ go s.queues.switch
   where
-    go : (b : Bool) (o : Option Thread) → option_map (λ (t : Thread). t.place) (cond b (option_map (λ (t : Thread). record t { place = p }) o) o) ≡ cond b (option_map (λ (q : Place). p) (option_map (λ (t : Thread). t.place) o)) (option_map (λ (t : Thread). t.place) o)
-    go true None = refl
-    go true (Some t) = refl
-    go false o = refl
+    go : (o : Option ℕ) → is_there k (displaced o s) ≡ is_there k s
+    go None = refl
+    go (Some j) = set_place_there k j (place.Ready mark.High (why_of j s)) s
 
 -- a thread comes to a place, where others have moved before: if it waited for its start, so it does there
 pub over_fresher : (m : ℕ) (p : Place) (s t : Core) → Fresher s t → (is_fresh (place_of m s) ≡ true → is_fresh (Some p) ≡ true) → Fresher s (set_place m p t)
@@ -180,7 +166,7 @@ module _ (n : ℕ) (q : Place) where
 
   -- callers are behind another thread
   callers_begun : (f : ℕ) (s : Core) → Stand n q [] s → Begun (callers_of f s) s
-  callers_begun f s st k h = by_number k n (is_fresh (place_of k s) ≡ false) (λ e. absurd (none_listed (subst (λ (j : ℕ). 1 ≤ times j (callers_of f s)) e h) ((st.loose n own_times).callers f))) (λ e. behind_is_begun f (place_of k s) (le_both h ((st.placed k (no_times k e)).callers f)))
+  callers_begun f s st k h = by_number k n (is_fresh (place_of k s) ≡ false) (λ e. absurd (none_listed (subst (λ (j : ℕ). 1 ≤ times j (callers_of f s)) e h) ((st.loose n own_times).callers f))) (λ e. behind_is_begun f (place_of k s) (le_both h (callers_say k f s (st.placed k (no_times k e)))))
 
   -- ---- What stands at a mark
 

@@ -14,14 +14,15 @@ use Rattle.task_machine.specs.Moves.{behind_one, checked, promoted_unless, put_h
 use Rattle.task_machine.specs.Write.{remove_thread, set_place, set_callers}
 use Rattle.task_places.proofs.EntryLemmas.{Listed}
 use Rattle.task_places.proofs.EntryLemmas as entry_lemmas
-use Rattle.task_places.proofs.FreshMoves.{Fresher, checked_fresher, fresher_after, fresher_quiet, high_fresher, is_fresh, is_start, low_fresher, placed_fresher, promoted_unless_fresher, put_switch_fresher, released_fresher, stopped_fresher}
+use Rattle.task_places.proofs.FreshMoves.{Fresher, checked_fresher, fresher_after, fresher_quiet, high_fresher, low_fresher, placed_fresher, promoted_unless_fresher, put_switch_fresher, released_fresher, stopped_fresher}
+use Rattle.task_laws.specs.Order.{is_fresh, is_start}
 use Rattle.task_rules.proofs.MoveLemmas as moves
 use Rattle.task_rules.proofs.MoveLemmas.{is_busy, is_parked}
 use Rattle.task_rules.proofs.StandLemmas.{Stand}
 use Rattle.task_rules.proofs.StopLemmas as stops
 use Rattle.task_rules.proofs.StopLemmas.{Untouched}
 use Rattle.task_rules.specs.Laws.{is_free}
-use Rattle.task_rules.specs.Places.{HasPlace}
+use Rattle.task_rules.specs.Places.{HasPlace, is_there}
 
 -- ---- What is kept
 
@@ -140,8 +141,8 @@ module _ {base : Core} (n : ℕ) (q : Place) (busy : is_busy q ≡ true) where
   unfolding behind_one set_callers
   behind_one_fresher g s h st = placed_fresher n (place.Behind g) s (λ f. comes n q (place.Behind g) s st.stand.here h f)
 
-  pub behind_all : (g : ℕ) (s : Core) → may_come q (place.Behind g) ≡ true → Standing base n q s → Kept base (behind_one g n s)
-  behind_all g s h st = record { each = moves.behind_all n q busy g s st.stand; fresh = fresher_after base s (behind_one g n s) st.fresh (behind_one_fresher g s h st) }
+  pub behind_all : (g : ℕ) (s : Core) → is_there g s ≡ true → may_come q (place.Behind g) ≡ true → Standing base n q s → Kept base (behind_one g n s)
+  behind_all g s there h st = record { each = moves.behind_all n q busy g s there st.stand; fresh = fresher_after base s (behind_one g n s) st.fresh (behind_one_fresher g s h st) }
 
   pub removed_all : (s : Core) → Standing base n q s → Kept base (remove_thread n s)
   removed_all s st = record { each = moves.removed_all n q busy s st.stand; fresh = fresher_after base s (remove_thread n s) st.fresh (removed_fresher n s) }

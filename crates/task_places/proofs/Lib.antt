@@ -6,7 +6,7 @@ pub mod CallRows
 pub mod WithdrawRows
 pub mod TakeRows
 pub mod PlaceSteps
-pub mod ReachedPlaces
+pub mod OrderLemmas
 pub mod FreshMoves
 pub mod FreshStand
 pub mod TracedFields

@@ -1,6 +1,6 @@
 -- What is kept by the ops on sets, subtasks and threads: each thread has its place.
-use Rattle.std.proofs.Common.{refl}
-use Rattle.std.specs.Prelude.{Bool, List, None, Option, Some, false, not, suc, true, zero, ℕ, ◌≡◌}
+use Rattle.std.proofs.Common.{ap, refl, ◌∙◌}
+use Rattle.std.specs.Prelude.{Bool, List, None, Option, Some, false, is_some, not, suc, true, zero, ℕ, ◌≡◌}
 use Rattle.task_machine.specs.Core.{Core}
 use Rattle.task_machine.specs.Labels.{Choice, join_label}
 use Rattle.task_machine.specs.Moves.{Gift, NoGift, gift, may_hand_on, passes_check}
@@ -33,14 +33,15 @@ use Rattle.task_machine.specs.declared.records.Subtask.TheVariants as subtask
 use Rattle.task_machine.specs.declared.label.ThreadLabel.TheVariants as thread_label
 use Rattle.task_machine.specs.declared.trap.Trap.TheVariants as trap
 use Rattle.task_machine.specs.declared.records.Why.TheVariants as why
-use Rattle.task_places.proofs.PlaceWords.{added_here, added_stand, handed_on_stand, wake_stand, waits_of, waits_quiet}
+use Rattle.task_places.proofs.PlaceWords.{Unused, added_here, added_stand, handed_on_stand, wake_stand, waits_of, waits_quiet}
+use Rattle.task_places.proofs.FreshMoves.{put_switch_there}
 use Rattle.task_places.proofs.FreshStand.{Going, Kept, Runs, Standing, behind_all, checked_stand, put_switch_good, quiet_stand}
 use Rattle.task_rules.proofs.UntouchedLemmas.{add_call_untouched, set_join_untouched, set_made_untouched, set_dropped_untouched, received_untouched, call_clears_flag_untouched, call_resumes_untouched, call_returned_untouched, call_pending_untouched, call_answered_untouched}
-use Rattle.task_rules.proofs.StopLemmas.{Untouched}
+use Rattle.task_rules.proofs.StopLemmas.{Untouched, untouched_there}
 use Rattle.task_machine.specs.declared.records.Place.{Place}
 use Rattle.task_machine.specs.Write.{add_call}
-use Rattle.task_machine.specs.Read.{place_of}
 use Rattle.task_machine.specs.Moves.{put_switch}
+use Rattle.task_machine.specs.Read.{place_of}
 use Rattle.task_rules.specs.Calls.{call_made}
 use Rattle.task_places.proofs.RunRows.{Stays, advanced_goes, quiet_goes, how_far_all, may_stays, or_never_stays, or_trap_stays, quiet_runs, stopped_all, trap_if_stays}
 use Rattle.task_machine.specs.Moves.{MemberGift, OwnGift}
@@ -110,10 +111,6 @@ module _ {base : Core} where
   set_row_stays n s q ch (set_op.Join x y) = or_trap_stays base (subtask_at (instance_of n s) (value_of n s x) s) trap.BadHandle (join_to n (value_of n s y) ch.woken s) (λ sub e. join_to_stays n (value_of n s y) ch.woken s q sub)
   -- ---- Calls
 
--- the next thread's number names no thread
-abbrev pub Unused : Core → Type 0
-Unused s = place_of (next_thread s) s ≡ None
-
 module _ {base : Core} where
   pub made_stand : (n : ℕ) (p : Place) (f : Caller) (e : Callee) (x : ExportKind) (g : Goal) (group : ℕ) (words : List ℕ) (s : Core) → Unused s → Standing base n p s → Standing base n p (call_made f e x g group words s)
   unfolding call_made add_call
@@ -130,7 +127,7 @@ module _ {base : Core} where
       let m = next_thread s in
       let a = call_made (caller.Thread n) e x g (thread_group n s) words s in
       let b = put_switch m why.Start a in
-      how_far_all n (how_far.Calls (subtask.Guest m)) _ (behind_all n place.Running refl m _ refl (quiet_runs n b _ (call_clears_flag_untouched n e.instance x b) (put_switch_good n place.Running refl m why.Start place.New a (made_place (caller.Thread n) e x g (thread_group n s) words s) refl refl (made_stand n place.Running (caller.Thread n) e x g (thread_group n s) words s none r))))
+      how_far_all n (how_far.Calls (subtask.Guest m)) _ (behind_all n place.Running refl m _ (untouched_there b _ (call_clears_flag_untouched n e.instance x b) m ∙ (put_switch_there m m why.Start a ∙ ap (λ (o : Option Place). is_some o) (made_place (caller.Thread n) e x g (thread_group n s) words s))) refl (quiet_runs n b _ (call_clears_flag_untouched n e.instance x b) (put_switch_good n place.Running refl m why.Start place.New a (made_place (caller.Thread n) e x g (thread_group n s) words s) refl refl (made_stand n place.Running (caller.Thread n) e x g (thread_group n s) words s none r))))
 
   pub call_begins_stays : (c : Component) (n : ℕ) (e : Callee) (g : Goal) (words : List ℕ) (s : Core) → Unused s → Runs base n s → Stays base (call_begins c n e g words s)
   call_begins_stays c n e g words s none r = trap_if_stays base (not (fits 3 s)) trap.TableFull (Stops (label.Call (call_label.Calls n (next_thread s))) (call_queues n e (export_kind c e) g words s)) (λ h. call_queues_all n e (export_kind c e) g words s none r)

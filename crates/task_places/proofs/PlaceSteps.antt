@@ -1,5 +1,5 @@
 -- Each thread has its place: what each step keeps.
-use Rattle.std.proofs.Common.{T, ap, arith, refl, subst, sym, ◌∙◌}
+use Rattle.std.proofs.Common.{T, ap, refl, subst, sym, ◌∙◌}
 use Rattle.std.specs.Prelude.{Bool, List, None, Option, Some, [], false, not, suc, true, zero, ℕ, ◌+◌, ◌==◌, ◌∷◌, ◌≡◌}
 use Rattle.task_machine.specs.Core.{Began, Core, Main, MainPlace, Refused, Scripted, Started, State, Unscripted}
 use Rattle.task_machine.specs.Labels.{Choice, choice_of}
@@ -14,26 +14,27 @@ use Rattle.task_rules.specs.Calls.{call_made, new_call, new_work, next_thread, n
 use Rattle.task_rules.specs.Progress.{Fails, Goes, Never, Ordered, Progress, Stops, Traps, may}
 use Rattle.task_rules.specs.Scripts.{export_kind, host_at, op_of}
 use Rattle.task_rules.specs.Takes.{popped, take_row, thread_taken}
-use Rattle.task_places.proofs.PlaceWords.{added_all, added_here, pushed_all}
-use Rattle.task_places.proofs.FreshMoves.{Fresher, fresher_after, fresher_quiet, fresher_same, is_fresh}
+use Rattle.task_places.proofs.PlaceWords.{Unused, added_all, added_here, pushed_all}
+use Rattle.task_places.proofs.FreshMoves.{Fresher, fresher_after, fresher_quiet, fresher_same}
+use Rattle.task_laws.specs.Order.{is_fresh}
 use Rattle.task_places.proofs.FreshStand.{All, Going, Kept, Runs, Standing, is_starting, quiet_all, removed_fresher, stand_of}
 use Rattle.task_rules.proofs.UntouchedLemmas.{add_call_untouched, add_group_untouched, add_work_untouched, count_work_untouched, main_aborted_untouched, poll_pends_untouched, pushed_untouched, set_course_untouched, set_phase_untouched, set_stage_untouched, set_trapped_untouched, take_result_untouched, untouched_after}
 use Rattle.task_rules.proofs.MoveLemmas.{all_of}
-use Rattle.task_rules.proofs.StandLemmas.{Loose, Stand, by_number, eq_refl, is_eq_of}
+use Rattle.task_rules.proofs.StandLemmas.{Loose, Stand, none_there, by_number, eq_refl, is_eq_of}
 use Rattle.task_rules.proofs.StopLemmas.{quiet_placed}
-use Rattle.task_rules.specs.Places.{HasPlace, is_at_high, is_at_low, is_at_switch, is_behind_of, one_if, says, times}
+use Rattle.task_rules.specs.Places.{HasPlace, is_at_high, is_at_low, is_at_switch, is_behind_of, is_there, one_if, says, times}
 use Rattle.task_machine.specs.declared.records.Place.{Place}
 use Rattle.std.specs.Option.{option_map_or}
 use Rattle.task_machine.specs.Maps.{get, size}
 use Rattle.task_places.proofs.RunRows.{Stays, under_place}
-use Rattle.task_places.proofs.OpRows.{Unused}
 use Rattle.task_machine.specs.declared.records.WorkCaller.{WorkCaller}
 use Rattle.task_machine.specs.declared.words.Mark.{Mark}
 use Rattle.task_machine.specs.declared.records.Entry.{Entry}
-use Rattle.task_rules.specs.Step.{DeadlockStep, EmptyFor, FuturesStep, MainProgresses, MainStep, OpenProgresses, OpenStep, Polled, Progresses, RestStep, ScriptStep, TakeStep, TurnStep, did, entry_number, struck}
+use Rattle.task_rules.specs.Step.{DeadlockStep, EmptyFor, FuturesStep, MainProgresses, MainStep, OpenAct, OpenProgresses, OpenStep, Polled, Progresses, RestStep, ScriptStep, TakeStep, TurnStep, did, entry_number, struck}
 use Rattle.task_rules.specs.MainOps.{Abort, Answer, Answers, Await, Does, Finish, MainAct, MainProgress, Pends, Quiet, Ready, Spawn, Start, act_of, finish_act, finish_result, has_interesting, is_complete, is_ready_for_call, line_of, main_row, main_spawned, main_started, op_at, start_act, start_refusal, unless_pending}
 use Rattle.task_rules.specs.Works.{Ends, FailsNow, Poll, StillPends, course_for, followed, next_polled, poll_pends, poll_of, poll_ends}
-use Rattle.task_places.proofs.WithdrawRows.{Withdrawable, gone_place, op_row_stays, other_place, removed_gone, removed_kept}
+use Rattle.task_places.proofs.WithdrawRows.{Withdrawable, op_row_stays}
+use Rattle.task_rules.proofs.MoveLemmas.{all_of, gone_place, other_place, removed_gone, removed_placed}
 use Rattle.task_machine.specs.declared.label.MainLabel.{MainLabel}
 use Rattle.task_machine.specs.declared.records.Turn.{Turn}
 use Rattle.task_machine.specs.declared.scenario.MainOpDef.{MainOpDef}
@@ -61,10 +62,10 @@ abbrev pub Idle : Option Place → Type 0
 Idle o = (says is_at_high o ≡ 0) × ((says is_at_low o ≡ 0) × ((says is_at_switch o ≡ 0) × ((f : ℕ) → says (is_behind_of f) o ≡ 0)))
 
 idle_loose : (m : ℕ) (s : Core) → Idle (place_of m s) → HasPlace m s → Loose m s
-idle_loose m s i h = record { switch = h.switch ∙ i.1.1.0; high = h.high ∙ i.0; low = h.low ∙ i.1.0; callers = λ f. let x = h.callers f in let y = i.1.1.1 f in omega (arith, x, y) }
+idle_loose m s i h = record { number = h.number; switch = h.switch ∙ i.1.1.0; high = h.high ∙ i.0; low = h.low ∙ i.1.0; callers = λ f. h.callers f ∙ none_there (is_there f s) _ (i.1.1.1 f) }
 
 loose_removed : (m : ℕ) (s : Core) → Loose m s → ((k : ℕ) → (k == m) ≡ false → HasPlace k s) → All (remove_thread m s)
-loose_removed m s l rest k = by_number k m (HasPlace k (remove_thread m s)) (λ e. subst (λ (j : ℕ). HasPlace j (remove_thread m s)) (sym e) (removed_gone m s l)) (λ e. removed_kept k m s e (rest k e))
+loose_removed m s l rest k = by_number k m (HasPlace k (remove_thread m s)) (λ e. subst (λ (j : ℕ). HasPlace j (remove_thread m s)) (sym e) (removed_gone m s l)) (λ e. removed_placed k m s e (rest k e))
 
 idle_removed : (m k : ℕ) (s : Core) → Idle (place_of k s) → Idle (place_of k (remove_thread m s))
 idle_removed m k s i = by_number k m (Idle (place_of k (remove_thread m s))) (λ e. subst Idle (sym (ap (λ (j : ℕ). place_of j (remove_thread m s)) e ∙ gone_place m s)) (refl, (refl, (refl, λ f. refl)))) (λ e. subst Idle (sym (other_place k m s e)) i)
@@ -328,8 +329,8 @@ module _ {base : Core} (x : Setting) where
   script_step_lands s none all p None l t is = pends_land s all t is.1
   script_step_lands s none all p (Some o) l t is = main_progresses_land s all p o _ l t (main_row_keeps x.component (line_of p o) s.core none all (act_of p o)) is
 
-  open_act_lands : (s : State) → Unused s.core → Kept base s.core → (l : Label) (t : State) → (k : ℕ) × ((act : MainAct) × OpenProgresses s (main_row x.component k s.core act) l t) → Lands base t.core t.turn
-  open_act_lands s none all l t h = open_progresses_land s all _ l t (main_row_keeps x.component h.0 s.core none all h.1.0) h.1.1
+  open_act_lands : (s : State) → Unused s.core → Kept base s.core → (l : Label) (t : State) → (k : ℕ) × ((act : MainAct) × OpenAct x s k act l t) → Lands base t.core t.turn
+  open_act_lands s none all l t h = open_progresses_land s all _ l t (main_row_keeps x.component h.0 s.core none all h.1.0) h.1.1.1
 
   open_step_lands : (s : State) → Unused s.core → Kept base s.core → (l : Label) (t : State) → OpenStep x s l t → Lands base t.core t.turn
   open_step_lands s none all (label.Loop loop_label.MainPends) t is = pends_land s all t is

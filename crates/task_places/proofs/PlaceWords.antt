@@ -1,7 +1,7 @@
 -- What is kept by the words of the machine: each thread has its place.
-use Rattle.std.proofs.Common.{T, ap, arith, cond, refl, subst, sym, ◌∙◌}
+use Rattle.std.proofs.Common.{T, ap, ap₂, arith, cond, le_refl, le_trans, refl, subst, sym, ◌∙◌}
 use Rattle.std.specs.Option.{option_map_or}
-use Rattle.std.specs.Prelude.{Bool, List, None, Option, Some, [], false, find, if◌then◌else◌, is_none, option_and_then, option_map, true, unwrap_or, ℕ, ◌++◌, ◌+◌, ◌==◌, ◌∷◌, ◌≡◌, ◌≤◌}
+use Rattle.std.specs.Prelude.{Bool, List, None, Option, Some, [], false, if◌then◌else◌, is_none, is_some, option_and_then, option_map, true, unwrap_or, ℕ, ◌++◌, ◌+◌, ◌==◌, ◌∷◌, ◌≡◌, ◌≤◌}
 use Rattle.task_machine.proofs.MapLemmas.{get-insert_other, get-insert_same}
 use Rattle.task_machine.specs.Core.{Core}
 use Rattle.task_machine.specs.Maps.{get, get-insert, numbers}
@@ -15,16 +15,17 @@ use Rattle.task_machine.specs.declared.records.Subtask.{Subtask}
 use Rattle.task_machine.specs.declared.records.Thread.{Thread}
 use Rattle.task_machine.specs.declared.records.Why.{Why}
 use Rattle.task_machine.specs.declared.words.Status.{Status}
-use Rattle.task_places.proofs.FreshMoves.{Fresher, fresher_after, is_fresh}
+use Rattle.task_places.proofs.FreshMoves.{Fresher, fresher_after}
+use Rattle.task_laws.specs.Order.{is_fresh}
 use Rattle.task_places.proofs.FreshStand.{All, Kept, Standing, put_high_good, quiet_all, quiet_stand, released_good, removed_all}
 use Rattle.task_rules.proofs.MoveLemmas as moves
 use Rattle.task_rules.proofs.MoveLemmas.{is_busy}
-use Rattle.task_rules.proofs.StandLemmas.{Loose, Stand, adds_all, by_number, entries-append, is_eq_of, not_eq, place_kept, set_place_adds}
-use Rattle.task_rules.proofs.StopLemmas.{Untouched}
+use Rattle.task_rules.proofs.StandLemmas.{Loose, Stand, adds_all, by_number, entries-append, is_eq_of, none_there, not_eq, place_kept, set_place_adds, zero_one}
+use Rattle.task_rules.proofs.StopLemmas.{Untouched, find_passes}
 use Rattle.task_rules.proofs.UntouchedLemmas.{call_settled_untouched, exited_if_untouched, freed_thread_handle_untouched, interest_settled_untouched, result_given_untouched, set_do_not_enter_untouched, set_end_untouched, set_event_untouched, untouched_after}
 use Rattle.task_rules.specs.Ends.{cancelled, is_told, end_reopens, may_tell, result_given, returned, told}
 use Rattle.task_rules.specs.Laws.{is_free}
-use Rattle.task_rules.specs.Places.{HasPlace, entries, is_at_high, is_at_low, is_at_switch, is_behind_of, one_if, says, times}
+use Rattle.task_rules.specs.Places.{HasPlace, entries, is_at_high, is_at_low, is_at_switch, is_behind_of, is_there, one_if, says, times}
 use Rattle.task_machine.specs.declared.records.CallEnd.TheVariants as call_end
 use Rattle.task_machine.specs.declared.records.Delivery.TheVariants as delivery
 use Rattle.task_machine.specs.declared.records.Join.TheVariants as join
@@ -102,14 +103,6 @@ waits_high (Some m) j p v s at isnt h = (h.0, (h.1.0, high_kept m j v s (apart (
     apart false e = e
     apart true e = absurd (subst T (ap (λ (o : Option Place). option_map_or is_wait o false) (sym h.1.1 ∙ (ap (λ (i : ℕ). place_of i s) (is_eq_of m j e) ∙ at)) ∙ isnt) tt)
 
-find_passes : (test : ℕ → Bool) (ns : List ℕ) (m : ℕ) → find test ns ≡ Some m → test m ≡ true
-find_passes test [] m h = absurd (no_both_of h)
-find_passes test (n ∷ ns) m h = go (test n) refl (find_passes test ns m) h
-  where
-    go : (b : Bool) → test n ≡ b → (find test ns ≡ Some m → test m ≡ true) → cond b (Some n) (find test ns) ≡ Some m → test m ≡ true
-    go true e rest g = subst (λ (k : ℕ). test k ≡ true) (ap (λ (o : Option ℕ). unwrap_or o n) g) e
-    go false e rest g = rest g
-
 blocked_at : (sub : Subtask) (o : Option Place) → option_map_or (is_blocked_on sub) o false ≡ true → (on : Subtask) × (o ≡ Some (place.Blocked on))
 blocked_at sub None h = absurd (subst T (sym h) tt)
 blocked_at sub (Some (place.Blocked on)) h = (on, refl)
@@ -152,11 +145,6 @@ waits_released w [] s h = h
 waits_released w (m ∷ ns) s h = waits_released w ns (released_one m (held_why_of m s) s) (waits_one w m (held_why_of m s) s refl h)
 
 -- ---- Words that move others, beside a thread that runs or is being taken
-
--- ---- Two places at which one is looked for
-
-pub passes_found : (test : ℕ → Bool) (ns : List ℕ) (m : ℕ) → find test ns ≡ Some m → test m ≡ true
-passes_found test ns m h = find_passes test ns m h
 
 module _ {base : Core} (n : ℕ) (q : Place) (busy : is_busy q ≡ true) where
   pub wake_stand : (x : ℕ) (w : Option ℕ) (s : Core) → Waits w s → Standing base n q s → Standing base n q (wake x w s)
@@ -238,11 +226,11 @@ no_entry_last k es e h = let x = entries-append k es e in let y = ap one_if h in
 
 pushed_placed : (k : ℕ) (e : Entry) (s : Core) → is_entry_of k e ≡ false → HasPlace k s → HasPlace k (push_high e s)
 unfolding push_high
-pushed_placed k e s isnt h = record { switch = h.switch; high = no_entry_last k s.queues.high e isnt ∙ h.high; low = h.low; callers = h.callers }
+pushed_placed k e s isnt h = record { number = h.number; behind = h.behind; switch = h.switch; high = no_entry_last k s.queues.high e isnt ∙ h.high; low = h.low; callers = h.callers }
 
 pushed_loose : (k : ℕ) (e : Entry) (s : Core) → is_entry_of k e ≡ false → Loose k s → Loose k (push_high e s)
 unfolding push_high
-pushed_loose k e s isnt h = record { switch = h.switch; high = no_entry_last k s.queues.high e isnt ∙ h.high; low = h.low; callers = h.callers }
+pushed_loose k e s isnt h = record { number = h.number; switch = h.switch; high = no_entry_last k s.queues.high e isnt ∙ h.high; low = h.low; callers = h.callers }
 
 pushed_is : (n : ℕ) (q : Place) (e : Entry) (s : Core) → ((k : ℕ) → is_entry_of k e ≡ false) → Stand n q [] s → Stand n q [] (push_high e s)
 unfolding push_high
@@ -281,49 +269,93 @@ added_callers s t k f = subst (λ (c : ℕ). c ≤ times k (callers_of f s)) (sy
     fewer true = omega arith
     fewer false = omega arith
 
-both_le : {a b c : ℕ} → a ≤ b → b ≤ c → a ≤ c
-both_le x y = omega (arith, x, y)
-
 zero_le : {a b : ℕ} → a ≤ b → b ≡ 0 → a ≡ 0
 zero_le x y = omega (arith, x, y)
 
-added_placed : (s : Core) (t : Thread) → t.place ≡ place.New → place_of (s.made.threads + 1) s ≡ None → (k : ℕ) → HasPlace k s → HasPlace k (add_thread t s)
+one_above : (n : ℕ) → n ≤ n + 1
+one_above n = omega arith
+
+-- the next number is of no thread, and none is behind it
+abbrev pub Unused : Core → Type 0
+Unused s = (place_of (s.made.threads + 1) s ≡ None) × ((k : ℕ) → says (is_behind_of (s.made.threads + 1)) (place_of k s) ≡ 0)
+
+pub unused_quiet : (s t : Core) → Untouched s t → t.made.threads ≡ s.made.threads → Unused s → Unused t
+unused_quiet s t u same h = (
+  subst (λ (j : ℕ). place_of (j + 1) t ≡ None) (sym same) (u.places (s.made.threads + 1) ∙ h.0),
+  λ k. subst (λ (j : ℕ). says (is_behind_of (j + 1)) (place_of k t) ≡ 0) (sym same) (ap (says (is_behind_of (s.made.threads + 1))) (u.places k) ∙ h.1 k),
+)
+
+-- where each thread has its place, so it is
+pub unused : (s : Core) → All s → Unused s
+unused s all = (free (place_of (s.made.threads + 1) s) (λ e. (all (s.made.threads + 1)).number e), λ k. unsaid (place_of k s) ((all k).behind (s.made.threads + 1)))
+  where
+    too_many : s.made.threads + 1 ≤ s.made.threads → ⊥
+    too_many h = omega (arith, h)
+
+    free : (o : Option Place) → (is_some o ≡ true → s.made.threads + 1 ≤ s.made.threads) → o ≡ None
+    free None h = refl
+    free (Some p) h = absurd (too_many (h refl))
+
+    unsaid : (o : Option Place) → (says (is_behind_of (s.made.threads + 1)) o ≡ 1 → s.made.threads + 1 ≤ s.made.threads) → says (is_behind_of (s.made.threads + 1)) o ≡ 0
+    unsaid None h = refl
+    unsaid (Some p) h = by_test (is_behind_of (s.made.threads + 1) p) h
+      where
+        by_test : (b : Bool) → (one_if b ≡ 1 → s.made.threads + 1 ≤ s.made.threads) → one_if b ≡ 0
+        by_test true g = absurd (too_many (g refl))
+        by_test false g = refl
+
+added_placed : (s : Core) (t : Thread) → t.place ≡ place.New → Unused s → (k : ℕ) → HasPlace k s → HasPlace k (add_thread t s)
 unfolding add_thread
-added_placed s t new none k h = by_number k (s.made.threads + 1) (HasPlace k (add_thread t s)) (λ e. own e) (λ e. still e)
+added_placed s t new next k h = by_number k (s.made.threads + 1) (HasPlace k (add_thread t s)) (λ e. own e) (λ e. still e)
   where
     u : Core
     u = add_thread t s
 
-    still : (k == s.made.threads + 1) ≡ false → HasPlace k u
-    still e = record {
-      switch = h.switch ∙ ap (says is_at_switch) (sym (added_gone s t k e));
-      high = h.high ∙ ap (says is_at_high) (sym (added_gone s t k e));
-      low = h.low ∙ ap (says is_at_low) (sym (added_gone s t k e));
-      callers = λ f. both_le (added_callers s t k f) (subst (λ (o : Option Place). times k (callers_of f s) ≤ says (is_behind_of f) o) (sym (added_gone s t k e)) (h.callers f));
-    }
+    number_of : (j : ℕ) → j ≤ s.made.threads → j ≤ s.made.threads + 1
+    number_of j b = le_trans b (one_above s.made.threads)
 
     before : k ≡ s.made.threads + 1 → place_of k s ≡ None
-    before e = ap (λ (j : ℕ). place_of j s) e ∙ none
+    before e = ap (λ (j : ℕ). place_of j s) e ∙ next.0
 
     after : k ≡ s.made.threads + 1 → place_of k u ≡ Some place.New
     after e = ap (λ (j : ℕ). place_of j u) e ∙ (added_here s t ∙ ap (λ (p : Place). Some p) new)
 
+    -- what k's place says of callers stays, whoever f is
+    by_caller : (f : ℕ) → says (is_behind_of f) (place_of k u) ≡ says (is_behind_of f) (place_of k s) → (b : Bool) → (f == s.made.threads + 1) ≡ b → times k (unwrap_or (cond b (Some []) (get s.callers f)) []) ≡ (if is_there f u then says (is_behind_of f) (place_of k u) else 0)
+    by_caller f same true e = sym (none_there (is_there f u) _ (same ∙ (ap (λ (j : ℕ). says (is_behind_of j) (place_of k s)) (is_eq_of f (s.made.threads + 1) e) ∙ next.1 k)))
+    by_caller f same false e = h.callers f ∙ ap₂ (λ (b : Bool) (x : ℕ). if b then x else 0) (sym (ap (λ (o : Option Place). is_some o) (added_gone s t f e))) (sym same)
+
+    callers_so : (f : ℕ) → says (is_behind_of f) (place_of k u) ≡ says (is_behind_of f) (place_of k s) → times k (callers_of f u) ≡ (if is_there f u then says (is_behind_of f) (place_of k u) else 0)
+    callers_so f same = ap (λ (o : Option (List ℕ)). times k (unwrap_or o [])) (get-insert s.callers (s.made.threads + 1) [] f) ∙ by_caller f same (f == s.made.threads + 1) refl
+
+    still : (k == s.made.threads + 1) ≡ false → HasPlace k u
+    still e = record {
+      number = λ g. number_of k (h.number (sym (ap (λ (o : Option Place). is_some o) (added_gone s t k e)) ∙ g));
+      behind = λ f g. number_of f (h.behind f (sym (ap (says (is_behind_of f)) (added_gone s t k e)) ∙ g));
+      switch = h.switch ∙ ap (says is_at_switch) (sym (added_gone s t k e));
+      high = h.high ∙ ap (says is_at_high) (sym (added_gone s t k e));
+      low = h.low ∙ ap (says is_at_low) (sym (added_gone s t k e));
+      callers = λ f. callers_so f (ap (says (is_behind_of f)) (added_gone s t k e));
+    }
+
     own : k ≡ s.made.threads + 1 → HasPlace k u
     own e = record {
+      number = λ g. subst (λ (j : ℕ). k ≤ j) e (le_refl k);
+      behind = λ f g. zero_one (ap (says (is_behind_of f)) (after e)) g;
       switch = h.switch ∙ (ap (says is_at_switch) (before e) ∙ sym (ap (says is_at_switch) (after e)));
       high = h.high ∙ (ap (says is_at_high) (before e) ∙ sym (ap (says is_at_high) (after e)));
       low = h.low ∙ (ap (says is_at_low) (before e) ∙ sym (ap (says is_at_low) (after e)));
-      callers = λ f. both_le (added_callers s t k f) (subst (λ (c : ℕ). times k (callers_of f s) ≤ c) (ap (says (is_behind_of f)) (before e) ∙ sym (ap (says (is_behind_of f)) (after e))) (h.callers f));
+      callers = λ f. callers_so f (ap (says (is_behind_of f)) (after e) ∙ sym (ap (says (is_behind_of f)) (before e)));
     }
 
-added_is : (n : ℕ) (q : Place) (t : Thread) (s : Core) → t.place ≡ place.New → place_of (s.made.threads + 1) s ≡ None → Stand n q [] s → Stand n q [] (add_thread t s)
+added_is : (n : ℕ) (q : Place) (t : Thread) (s : Core) → t.place ≡ place.New → Unused s → Stand n q [] s → Stand n q [] (add_thread t s)
 unfolding add_thread
-added_is n q t s new none st = record {
+added_is n q t s new next st = record {
   here = added_gone s t n apart ∙ st.here;
   once = st.once;
   loose = λ k h. still k (st.loose k h);
   there = λ k h. absurd (no_one h);
-  placed = λ k h. added_placed s t new none k (st.placed k h);
+  placed = λ k h. added_placed s t new next k (st.placed k h);
 }
   where
     no_one : ◌≡◌ {A = ℕ} 0 1 → ⊥
@@ -334,10 +366,14 @@ added_is n q t s new none st = record {
       where
         go : (b : Bool) → (n == s.made.threads + 1) ≡ b → (n == s.made.threads + 1) ≡ false
         go false e = e
-        go true e = no_both_of (sym none ∙ (ap (λ (j : ℕ). place_of j s) (sym (is_eq_of n (s.made.threads + 1) e)) ∙ st.here))
+        go true e = no_both_of (sym next.0 ∙ (ap (λ (j : ℕ). place_of j s) (sym (is_eq_of n (s.made.threads + 1) e)) ∙ st.here))
 
     still : (k : ℕ) → Loose k s → Loose k (add_thread t s)
-    still k l = record { switch = l.switch; high = l.high; low = l.low; callers = λ f. zero_le (added_callers s t k f) (l.callers f) }
+    still k l = record { number = λ g. number_of (k == s.made.threads + 1) refl g; switch = l.switch; high = l.high; low = l.low; callers = λ f. zero_le (added_callers s t k f) (l.callers f) }
+      where
+        number_of : (b : Bool) → (k == s.made.threads + 1) ≡ b → is_there k (add_thread t s) ≡ true → k ≤ s.made.threads + 1
+        number_of true e g = subst (λ (j : ℕ). k ≤ j) (is_eq_of k (s.made.threads + 1) e) (le_refl k)
+        number_of false e g = le_trans (l.number (sym (ap (λ (o : Option Place). is_some o) (added_gone s t k e)) ∙ g)) (one_above s.made.threads)
 
 fresh_put : (b : Bool) (t : Thread) (o : Option Thread) → t.place ≡ place.New → is_fresh (option_map (λ (r : Thread). r.place) o) ≡ true → is_fresh (option_map (λ (r : Thread). r.place) (cond b (Some t) o)) ≡ true
 fresh_put true t o new f = ap (λ (p : Place). is_fresh (Some p)) new
@@ -347,8 +383,8 @@ added_fresher : (t : Thread) (s : Core) → t.place ≡ place.New → Fresher s 
 unfolding add_thread
 added_fresher t s new k f = ap (λ (o : Option Thread). is_fresh (option_map (λ (r : Thread). r.place) o)) (get-insert s.threads (s.made.threads + 1) t k) ∙ fresh_put (k == s.made.threads + 1) t (get s.threads k) new f
 
-pub added_stand : {base : Core} (n : ℕ) (q : Place) (t : Thread) (s : Core) → t.place ≡ place.New → place_of (s.made.threads + 1) s ≡ None → Standing base n q s → Standing base n q (add_thread t s)
-added_stand {base = base} n q t s new none st = record { stand = added_is n q t s new none st.stand; fresh = fresher_after base s (add_thread t s) st.fresh (added_fresher t s new) }
+pub added_stand : {base : Core} (n : ℕ) (q : Place) (t : Thread) (s : Core) → t.place ≡ place.New → Unused s → Standing base n q s → Standing base n q (add_thread t s)
+added_stand {base = base} n q t s new next st = record { stand = added_is n q t s new next st.stand; fresh = fresher_after base s (add_thread t s) st.fresh (added_fresher t s new) }
 
-pub added_all : {base : Core} (t : Thread) (s : Core) → t.place ≡ place.New → place_of (s.made.threads + 1) s ≡ None → Kept base s → Kept base (add_thread t s)
-added_all {base = base} t s new none h = record { each = λ k. added_placed s t new none k (h.each k); fresh = fresher_after base s (add_thread t s) h.fresh (added_fresher t s new) }
+pub added_all : {base : Core} (t : Thread) (s : Core) → t.place ≡ place.New → Unused s → Kept base s → Kept base (add_thread t s)
+added_all {base = base} t s new next h = record { each = λ k. added_placed s t new next k (h.each k); fresh = fresher_after base s (add_thread t s) h.fresh (added_fresher t s new) }

@@ -16,7 +16,6 @@ use Rattle.task_rules.specs.Data.{advanced, assigned, data_row, skip_row}
 use Rattle.task_rules.specs.Ends.{code_waits, blocking_exit_row, blocking_exits, code_row, code_stops, direct_exit_to, direct_exits, exit_row_for, code_exits, code_finds, has_event_for, held_by_flag, implicit_exit_row, code_kind_row, kind_exit_row, thread_exit_row, leaves_no_result, exit_stops, end_reopens, may_tell, own_or_none, passes_after_return, passes_after_stop, exit_restores, sync_exit_row, sync_exits, code_wait_row, code_yields}
 use Rattle.task_rules.specs.Progress.{Fails, Goes, Never, Ordered, Progress, Stops, Traps, may, or_never, or_trap, trap_if}
 use Rattle.task_rules.specs.Scripts.{value_of}
-use Rattle.task_rules.specs.Takes.{take_holds}
 use Rattle.task_rules.specs.Task.{task_cancel_done, dec_from, dec_opens, inc_raises, ret_done, ret_row, task_cancel_row, task_row}
 use Rattle.task_machine.specs.declared.records.CallEnd.TheVariants as call_end
 use Rattle.task_machine.specs.declared.op.DataOp.TheVariants as data_op
@@ -30,14 +29,15 @@ use Rattle.task_machine.specs.declared.op.TaskOp.TheVariants as task_op
 use Rattle.task_machine.specs.declared.trap.Trap.TheVariants as trap
 use Rattle.task_machine.specs.declared.records.Why.TheVariants as why
 use Rattle.task_places.proofs.EntryLemmas.{checked_place}
-use Rattle.task_places.proofs.PlaceWords.{Waits, cancelled_stand, ended_all, free_moved, let_in_stand, passes_found, returned_stand, waits_quiet, waits_released, waits_told}
+use Rattle.task_places.proofs.PlaceWords.{Waits, cancelled_stand, ended_all, free_moved, let_in_stand, returned_stand, waits_quiet, waits_released, waits_told}
 use Rattle.task_rules.proofs.UntouchedLemmas.{untouched_after, set_how_far_untouched, set_end_untouched, set_own_event_untouched, set_backpressure_untouched, set_do_not_enter_untouched, call_settled_untouched, interest_settled_untouched, freed_thread_handle_untouched, exited_if_untouched, advanced_untouched, assigned_untouched, stored_untouched, skipped_untouched, exit_restores_untouched, inc_raises_untouched, dec_lowers_untouched}
 use Rattle.task_rules.proofs.MoveLemmas as moves
 use Rattle.task_rules.proofs.MoveLemmas.{is_busy}
-use Rattle.task_places.proofs.FreshMoves.{fresher_after, is_fresh, placed_fresher}
+use Rattle.task_places.proofs.FreshMoves.{fresher_after, placed_fresher}
+use Rattle.task_laws.specs.Order.{is_fresh}
 use Rattle.task_places.proofs.FreshStand.{Going, Kept, Runs, checked_stand, going, put_high_all, put_low_all, quiet_all, quiet_stand, released_good, set_place_all, stopped_stand}
 use Rattle.task_rules.proofs.StandLemmas.{free_loose, is_eq_of, not_eq, place_written}
-use Rattle.task_rules.proofs.StopLemmas.{Untouched}
+use Rattle.task_rules.proofs.StopLemmas.{find_passes, Untouched}
 use Rattle.task_rules.specs.Laws.{is_free}
 use Rattle.task_rules.specs.Places.{one_if}
 use Rattle.task_machine.proofs.MapLemmas.{get-remove_other}
@@ -155,7 +155,7 @@ module _ {base : Core} where
 
   blocking_exit_row_stays : (n : ℕ) (w : Option ℕ) (s : Core) → Runs base n s → Stays base (blocking_exit_row n w s)
   blocking_exit_row_stays n w s r =
-      trap_if_stays base (not (passes_after_return (instance_of n s) (task_of n s) (held_by_flag (instance_of n s) s) s)) trap.CannotBlockSyncTask _
+      trap_if_stays base (not (passes_after_return n w s)) trap.CannotBlockSyncTask _
       (λ e. may_stays base (may_tell (task_of n s) w s) (Ordered (held_by_flag (instance_of n s) s) (λ order. Stops (exit_label n w) (blocking_exits n w order s))) (λ f. λ order. blocking_exits_all n w order s (waits_told (task_of n s) w s f) r))
 
   deactivated_runs : (n : ℕ) (order : List ℕ) (s : Core) → Runs base n s → Runs base n (code_stops n order s)
@@ -210,7 +210,7 @@ under_at n (Some place.Suspended) h = absurd (subst T (sym h) tt)
 
 pub under_place : (n m : ℕ) (s : Core) → under_of n s ≡ Some m → place_of m s ≡ Some (place.Under n)
 unfolding under_of
-under_place n m s h = under_at n (place_of m s) (passes_found (λ k. is_at k s (is_under n)) (numbers s.threads) m h)
+under_place n m s h = under_at n (place_of m s) (find_passes (λ k. is_at k s (is_under n)) (numbers s.threads) m h)
 
 ended_place : (n m : ℕ) (s : Core) → (m == n) ≡ false → place_of m (ended n s) ≡ place_of m s
 unfolding ended remove_thread

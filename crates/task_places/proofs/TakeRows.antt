@@ -1,5 +1,5 @@
 -- What is kept by takings, by works and by main: each thread has its place.
-use Rattle.std.proofs.Common.{T, ap, arith, le_trans, refl, subst, sym, ◌∙◌}
+use Rattle.std.proofs.Common.{T, ap, arith, le_refl, le_trans, refl, subst, sym, ◌∙◌}
 use Rattle.std.specs.Prelude.{IsTrue, not, ◌||◌, is_none, Bool, List, None, Option, Some, [], false, if◌then◌else◌, true, unwrap_or, ℕ, ◌+◌, ◌==◌, ◌∷◌, ◌≡◌, ◌≤◌}
 use Rattle.task_machine.specs.Core.{Core}
 use Rattle.task_machine.specs.Labels.{Choice, held_label, take_label}
@@ -18,7 +18,8 @@ use Rattle.task_rules.specs.Takes.{activated, activated_woken, wait_again, deliv
 use Rattle.task_places.proofs.EntryLemmas.{Shorter, gain_own, less_both, no_both_of, one_place, shorter_kept, shorter_loose}
 use Rattle.task_places.proofs.PlaceWords.{Waits, blocked_place, handed_on_stand, none_waits, told_stand, waits_published, waits_quiet, waits_told, waits_unblocked}
 use Rattle.task_places.proofs.CallRows.{sync_sets_flag_calls, started_begun}
-use Rattle.task_places.proofs.FreshMoves.{Fresher, fresher_after, high_fresher, is_fresh}
+use Rattle.task_places.proofs.FreshMoves.{Fresher, fresher_after, high_fresher}
+use Rattle.task_laws.specs.Order.{is_fresh}
 use Rattle.task_places.proofs.FreshStand.{All, Going, Kept, Standing, goes, is_starting, may_come, may_go, not_fresh, quiet_all, quiet_stand, set_place_all, stopped_stand}
 use Rattle.task_rules.proofs.KeepRows.{told_keeps, with_thread_handle_keeps}
 use Rattle.task_rules.proofs.KeepWords.{after, set_started_keeps}
@@ -139,9 +140,9 @@ entry_number_of _ = 0
 
 popped_shorter : (m : Mark) (n : ℕ) (s : Core) → Front s.queues.switch s.queues.high s.queues.low m (entry.Thread n) → (a : ℕ) × ((b : ℕ) × ((c : ℕ) × ((a + b + c ≡ 1) × Shorter n a b c s (popped m s))))
 unfolding popped set_switch set_high set_low
-popped_shorter mark.Switch n s f = (0, (0, (1, (omega arith, record { places = λ k. refl; callers = refl; high = λ k. none_more k n _; low = λ k. none_more k n _; switch = λ k. switch_gone k n s.queues.switch (f.1.0 ∙ ap (λ (e : Entry). Some (entry_number_of e)) (sym f.1.1)) }))))
-popped_shorter mark.High n s f = (1, (0, (0, (omega arith, record { places = λ k. refl; callers = refl; high = λ k. first_gone k n s.queues.high f; low = λ k. none_more k n _; switch = λ k. none_more k n _ }))))
-popped_shorter mark.Low n s f = (0, (1, (0, (omega arith, record { places = λ k. refl; callers = refl; high = λ k. none_more k n _; low = λ k. first_gone k n s.queues.low f; switch = λ k. none_more k n _ }))))
+popped_shorter mark.Switch n s f = (0, (0, (1, (omega arith, record { places = λ k. refl; callers = refl; made = le_refl _; high = λ k. none_more k n _; low = λ k. none_more k n _; switch = λ k. switch_gone k n s.queues.switch (f.1.0 ∙ ap (λ (e : Entry). Some (entry_number_of e)) (sym f.1.1)) }))))
+popped_shorter mark.High n s f = (1, (0, (0, (omega arith, record { places = λ k. refl; callers = refl; made = le_refl _; high = λ k. first_gone k n s.queues.high f; low = λ k. none_more k n _; switch = λ k. none_more k n _ }))))
+popped_shorter mark.Low n s f = (0, (1, (0, (omega arith, record { places = λ k. refl; callers = refl; made = le_refl _; high = λ k. none_more k n _; low = λ k. first_gone k n s.queues.low f; switch = λ k. none_more k n _ }))))
 
 -- the taken thread is loose, and all others have their places
 popped_is : (m : Mark) (n : ℕ) (p : Place) (s : Core) → Front s.queues.switch s.queues.high s.queues.low m (entry.Thread n) → place_of n (popped m s) ≡ Some p → All s → Stand n p [] (popped m s)
@@ -198,8 +199,8 @@ rest_entries k e es isnt is = let x = ap (entries k) is in let y = ap one_if isn
 popped_placed : (m : Mark) (e : Entry) (s : Core) → ((k : ℕ) → is_entry_of k e ≡ false) → Front s.queues.switch s.queues.high s.queues.low m e → All s → All (popped m s)
 unfolding popped set_switch set_high set_low
 popped_placed mark.Switch e s isnt f all k = absurd (subst T (sym (sym (isnt f.0) ∙ (ap (is_entry_of f.0) f.1.1 ∙ eq_refl f.0))) tt)
-popped_placed mark.High e s isnt f all k = let h = all k in record { switch = h.switch; high = rest_entries k e s.queues.high (isnt k) f ∙ h.high; low = h.low; callers = h.callers }
-popped_placed mark.Low e s isnt f all k = let h = all k in record { switch = h.switch; high = h.high; low = rest_entries k e s.queues.low (isnt k) f ∙ h.low; callers = h.callers }
+popped_placed mark.High e s isnt f all k = let h = all k in record { number = h.number; behind = h.behind; switch = h.switch; high = rest_entries k e s.queues.high (isnt k) f ∙ h.high; low = h.low; callers = h.callers }
+popped_placed mark.Low e s isnt f all k = let h = all k in record { number = h.number; behind = h.behind; switch = h.switch; high = h.high; low = rest_entries k e s.queues.low (isnt k) f ∙ h.low; callers = h.callers }
 
 popped_fresher : (m : Mark) (base s : Core) → Fresher base s → Fresher base (popped m s)
 unfolding popped set_switch set_high set_low

@@ -1,13 +1,10 @@
 -- What is kept by each word of the machine: a subtask that is named is of a call that was made, and the call of an implicit thread is there.
-use Rattle.std.proofs.Common.{ap, cond, inl, inr, refl, sym, ◌∙◌, ◌∷◌}
-use Rattle.std.specs.FinMap.Entries.{find as seek}
-use Rattle.std.specs.List.{list_any}
+use Rattle.task_laws.proofs.Basics.{above, no_way, too_high, true_is_not_false}
+use Rattle.std.proofs.Common.{ap, cond, inl, inr, refl, sym, ◌∙◌}
 use Rattle.std.specs.Option.{option_map_or}
-use Rattle.std.specs.Ordering.{eq_by_cmp, nat_cmp}
-use Rattle.std.specs.Prelude.{Bool, List, [], None, Option, Some, false, is_none, is_some, option_and_then, option_map, ◌||◌, slice_set, true, unwrap_or, ℕ, ◌+◌, ◌==◌, ◌≡◌, ◌≤◌, ◌⊎◌}
+use Rattle.std.specs.Prelude.{Bool, List, None, Option, Some, false, is_none, is_some, option_and_then, option_map, slice_set, true, ℕ, ◌+◌, ◌==◌, ◌≡◌, ◌≤◌, ◌⊎◌}
+use Rattle.task_laws.proofs.CallsLaw.{no_thread_of}
 use Rattle.task_laws.proofs.EachLemmas.{Each, change_none, change_read, each_change, each_insert, each_map, each_remove}
-use Rattle.task_laws.proofs.SoundFields.{no_way}
-use Rattle.task_laws.proofs.SoundLemmas.{above, too_high, true_is_not_false}
 use Rattle.task_machine.proofs.CommuteLemmas.{get-change}
 use Rattle.task_machine.proofs.MapLemmas.{get-insert_other, get-insert_same}
 use Rattle.task_machine.specs.Core.{Core, Table}
@@ -238,20 +235,6 @@ call_touched k f {s = s} q = record {
   under_way = q.under_way;
   housed = each_map (Housed s.calls) (Housed (change k f s.calls)) s.threads (λ n t is h implicit. change_none s.calls k f t.call ∙ h implicit) q.housed;
 }
-
-any_found : {X : Type 0} (test : X → Bool) (q : ℕ) (x : X) (es : List (ℕ × X)) → seek nat_cmp q es ≡ Some x → list_any (λ e. test e.1) es ≡ false → test x ≡ false
-any_found test q x [] h none = no_way (ap (λ p. is_some p) h)
-any_found test q x (e ∷ es) h none = go (eq_by_cmp nat_cmp q e.0) h (any_found test q x es) (test e.1) refl none
-  where
-    go : (b : Bool) → cond b (Some e.1) (seek nat_cmp q es) ≡ Some x → (seek nat_cmp q es ≡ Some x → list_any (λ d. test d.1) es ≡ false → test x ≡ false) → (c : Bool) → test e.1 ≡ c → (c || list_any (λ d. test d.1) es) ≡ false → test x ≡ false
-    go b g rest true is none = absurd (true_is_not_false none)
-    go true g rest false is none = ap test (sym (ap (λ o. unwrap_or o e.1) g)) ∙ is
-    go false g rest false is none = rest g none
-
--- no thread of the call is left
-no_thread_of : (k n : ℕ) (t : Thread) (s : Core) → has_thread k s ≡ false → get s.threads n ≡ Some t → (t.call == k) ≡ false
-unfolding has_thread get
-no_thread_of k n t s none is = any_found (λ (r : Thread). r.call == k) n t s.threads.list is none
 
 call_cut : (b : Bool) (o : Option Call) → b ≡ false → is_none o ≡ false → is_none (cond b None o) ≡ false
 call_cut true o e h = absurd (true_is_not_false e)

@@ -1,11 +1,11 @@
 -- A subtask that is named is of a call that was made: what each step and each run keeps.
+use Rattle.task_laws.proofs.Basics.{no_way}
 use Rattle.std.proofs.Common.{ap, cond, refl, subst, sym, ◌∙◌}
 use Rattle.std.specs.Option.{option_map_or}
 use Rattle.std.specs.Prelude.{Bool, List, None, Option, Some, [], false, is_some, not, option_and_then, true, ℕ, ◌==◌, ◌∷◌, ◌≡◌}
 use Rattle.task_places.proofs.TracedFields.{Housed, Traced, guest_in, guest_named, guest_under_way, set_trapped_traced, take_result_traced}
 use Rattle.task_places.proofs.TracedRows.{Stays}
 use Rattle.task_places.proofs.TracedTakes.{main_aborted_traced, main_spawned_traced, main_started_traced, op_row_stays, poll_pends_traced, popped_traced, struck_traced, take_row_stays, poll_ends_traced}
-use Rattle.task_laws.proofs.SoundFields.{no_way}
 use Rattle.task_laws.specs.Settings.{Reached}
 use Rattle.task_machine.specs.Core.{Began, Core, Main, MainPlace, Refused, Scripted, Started, State, Table, Unscripted, filled, fresh, no_handles}
 use Rattle.task_machine.specs.Labels.{Choice, choice_of}
@@ -30,7 +30,7 @@ use Rattle.task_rules.specs.Progress.{Fails, Goes, Never, Ordered, Progress, Sto
 use Rattle.task_rules.specs.Run.{Run, opening}
 use Rattle.task_rules.specs.Scripts.{op_of}
 use Rattle.task_rules.specs.Stalled.{Setting}
-use Rattle.task_rules.specs.Step.{DeadlockStep, EmptyFor, FuturesStep, MainProgresses, MainStep, OpenProgresses, OpenStep, Polled, Progresses, RestStep, ScriptStep, Step, TakeStep, TurnStep, did}
+use Rattle.task_rules.specs.Step.{DeadlockStep, EmptyFor, FuturesStep, MainProgresses, MainStep, OpenAct, OpenProgresses, OpenStep, Polled, Progresses, RestStep, ScriptStep, Step, TakeStep, TurnStep, did}
 use Rattle.task_rules.specs.Takes.{popped}
 use Rattle.task_rules.specs.Turns.{at_turn}
 use Rattle.task_rules.specs.Works.{Ends, FailsNow, Poll, StillPends, next_polled, poll_of}
@@ -126,8 +126,8 @@ module _ (x : Setting) where
   script_step_traced s q p None l t is = traced_is t _ is.1 q
   script_step_traced s q p (Some o) l t is = main_progresses_traced s q p o _ l t (main_row_stays x.component (line_of p o) q (act_of p o)) is
 
-  open_act_traced : (s : State) → Traced s.core → (l : Label) (t : State) → (k : ℕ) × ((act : MainAct) × OpenProgresses s (main_row x.component k s.core act) l t) → Traced t.core
-  open_act_traced s q l t h = open_progresses_traced s q _ l t (main_row_stays x.component h.0 q h.1.0) h.1.1
+  open_act_traced : (s : State) → Traced s.core → (l : Label) (t : State) → (k : ℕ) × ((act : MainAct) × OpenAct x s k act l t) → Traced t.core
+  open_act_traced s q l t h = open_progresses_traced s q _ l t (main_row_stays x.component h.0 q h.1.0) h.1.1.1
 
   open_step_traced : (s : State) → Traced s.core → (l : Label) (t : State) → OpenStep x s l t → Traced t.core
   unfolding at_turn
@@ -173,7 +173,7 @@ no_guest_named : (n i h k : ℕ) {A : Type 0} → guest_in (filled no_handles n)
 no_guest_named ℕ.zero i h k is = no_way (ap (λ o. is_some o) (sym (ap (λ o. option_and_then guest_named (option_and_then (λ (t : Table Named). get t.live h) o)) (get-empty i)) ∙ is))
 no_guest_named (ℕ.suc n) i h k is = no_guest_next n i h k (λ r. no_guest_named n i h k r) (i == n) refl is
 
-opening_traced : (instances handle_limit capacity : ℕ) → Traced (fresh instances handle_limit capacity)
+pub opening_traced : (instances handle_limit capacity : ℕ) → Traced (fresh instances handle_limit capacity)
 unfolding fresh
 opening_traced instances handle_limit capacity = record {
   named = λ i h k is. no_guest_named instances i h k is;

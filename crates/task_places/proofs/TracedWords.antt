@@ -1,13 +1,13 @@
 -- What is kept by the moves of the machine: a subtask that is named is of a call that was made.
-use Rattle.std.proofs.Common.{refl, sym}
+use Rattle.std.proofs.Common.{refl}
 use Rattle.std.specs.Option.{option_map_or}
-use Rattle.std.specs.Prelude.{Bool, List, None, Option, Some, [], false, if◌then◌else◌, is_some, not, true, ℕ, ◌++◌, ◌||◌, ◌∷◌, ◌&&◌, ◌≡◌}
+use Rattle.std.specs.Prelude.{Bool, List, None, Option, Some, [], false, if◌then◌else◌, is_some, not, true, ℕ, ◌++◌, ◌||◌, ◌∷◌, ◌≡◌}
+use Rattle.task_laws.proofs.HousedLemmas.{no_thread_left}
 use Rattle.task_places.proofs.TracedFields.{Traced, free_thread_handle_traced, push_high_first_traced, push_high_traced, push_low_traced, remove_call_traced, remove_group_traced, remove_thread_traced, set_callers_traced, set_cancel_delivered_traced, set_end_traced, set_event_traced, set_exited_traced, set_high_traced, set_low_traced, set_own_event_traced, set_place_traced, set_switch_traced, set_uninteresting_traced}
-use Rattle.task_laws.proofs.SoundFields.{no_way}
 use Rattle.task_machine.specs.Core.{Core}
 use Rattle.task_machine.specs.Maps.{get}
-use Rattle.task_machine.specs.Moves.{Gift, MemberGift, NoGift, OwnGift, behind, behind_one, call_settled, checked, departed, displaced, ended, exited_if, first_entry, freed_thread_handle, group_settled, handed_on, hands_on, has_entry, held_why_of, interest_settled, is_callback_waiter, is_deletable, is_finished, is_group_done, less, less_switch, newest, older, passed_on, promoted, promoted_first, promoted_unless, published, put_high, put_low, put_switch, released, released_one, resumed_all, resumed_callers, stand, stopped, stopped_at, taken, taken_own, unblocked, unqueued, wake, wake_joined, waken_by, why_of, withdrawn, is_deletable_call}
-use Rattle.task_machine.specs.Read.{blocked_on, call_group, callers_of, foot_of, instance_of, is_explicit, join_of, may_not_suspend, task_of, thread_handle_of, has_thread}
+use Rattle.task_machine.specs.Moves.{Gift, MemberGift, NoGift, OwnGift, behind, behind_one, call_settled, checked, departed, displaced, ended, exited_if, first_entry, freed_thread_handle, group_settled, handed_on, hands_on, has_entry, held_why_of, interest_settled, is_callback_waiter, is_deletable, is_finished, is_group_done, less, less_switch, newest, older, passed_on, promoted, promoted_first, promoted_unless, published, put_high, put_low, put_switch, released, released_one, resumed_all, resumed_callers, stand, stopped, stopped_at, taken, taken_own, unblocked, unqueued, wake, wake_joined, waken_by, why_of, withdrawn}
+use Rattle.task_machine.specs.Read.{blocked_on, call_group, callers_of, foot_of, instance_of, is_explicit, join_of, may_not_suspend, task_of, thread_handle_of}
 use Rattle.task_machine.specs.Write.{remove_call, remove_group, remove_threads, set_exited, set_high, set_low, set_places, set_uninteresting}
 use Rattle.task_machine.specs.declared.records.Join.{Join}
 use Rattle.task_machine.specs.declared.records.Place.{Place}
@@ -150,15 +150,6 @@ released_traced (n ∷ ns) {s = s} q = released_traced ns (released_one_traced n
 pub group_settled_traced : (a0 : ℕ) {s : Core} → Traced s → Traced (group_settled a0 s)
 unfolding group_settled
 group_settled_traced g {s = s} q = if_traced (is_group_done g s) (remove_group g s) s (remove_group_traced g q) q
-
-and_not : (a b : Bool) → (a && not b) ≡ true → b ≡ false
-and_not true true h = sym h
-and_not true false h = refl
-and_not false b h = no_way h
-
-no_thread_left : (k : ℕ) (s : Core) → is_deletable k s ≡ true → has_thread k s ≡ false
-unfolding is_deletable
-no_thread_left k s h = and_not (option_map_or is_deletable_call (get s.calls k) false) (has_thread k s) h
 
 pub call_settled_traced : (a0 : ℕ) {s : Core} → Traced s → Traced (call_settled a0 s)
 unfolding call_settled

@@ -1,16 +1,16 @@
 -- What is kept where a start is withdrawn: each thread has its place.
-use Rattle.std.proofs.Common.{T, ap, arith, cond, refl, subst, sym, ◌∙◌}
-use Rattle.std.specs.Prelude.{Bool, ◌||◌, ◌≤◌, option_map, List, None, Option, Some, [], false, is_some, not, true, unwrap_or, ℕ, ◌+◌, ◌==◌, ◌∷◌, ◌≡◌}
+use Rattle.std.proofs.Common.{T, ap, arith, cond, le_refl, refl, subst, sym, ◌∙◌}
+use Rattle.std.specs.Prelude.{Bool, ◌||◌, ◌≤◌, List, None, Option, Some, [], false, is_some, not, true, ℕ, ◌+◌, ◌==◌, ◌∷◌, ◌≡◌}
 use Rattle.task_machine.specs.Core.{Core}
 use Rattle.task_machine.specs.Labels.{Choice}
-use Rattle.task_machine.specs.Read.{event_of, has_ended, how_far_of, instance_of, is_at, is_joined, is_watched, join_of, registers_of, subtask_at, subtask_ended, undelivered_end, was_started}
+use Rattle.task_machine.specs.Read.{event_of, how_far_of, instance_of, is_joined, is_watched, join_of, registers_of, subtask_at, subtask_ended, undelivered_end, was_started}
 use Rattle.task_machine.specs.Write.{set_join}
 use Rattle.task_machine.specs.declared.component.Component.{Component}
 use Rattle.task_machine.specs.declared.op.CallOp.{CallOp}
 use Rattle.task_machine.specs.declared.records.HowFar.{HowFar}
 use Rattle.task_machine.specs.declared.records.Subtask.{Subtask}
 use Rattle.task_rules.specs.Calls.{first_poll}
-use Rattle.task_rules.specs.Cancels.{AlreadyEnded, CallbackWaits, CallbackYields, CancelCase, OtherwiseRuns, StartNotRun, cancel_case, Async, Mode, Sync, cancel_found, cancel_guest, cancel_resumed, cancel_row, cancel_subtask, drop_found, dropped, is_callback_wait, cancel_withdraws, subtask_row}
+use Rattle.task_rules.specs.Cancels.{AlreadyEnded, CallbackWaits, CallbackYields, CancelCase, OtherwiseRuns, StartNotRun, cancel_case, Async, Mode, Sync, cancel_found, cancel_guest, cancel_resumed, cancel_row, cancel_subtask, drop_found, dropped, cancel_withdraws, subtask_row}
 use Rattle.task_rules.specs.Progress.{Goes, or_trap}
 use Rattle.task_rules.specs.Scripts.{host_at, value_of, values_in}
 use Rattle.task_machine.specs.declared.records.CallEnd.TheVariants as call_end
@@ -22,24 +22,24 @@ use Rattle.task_machine.specs.declared.label.Label.TheVariants as label
 use Rattle.task_machine.specs.declared.records.Place.TheVariants as place
 use Rattle.task_machine.specs.declared.records.Subtask.TheVariants as subtask
 use Rattle.task_machine.specs.declared.trap.Trap.TheVariants as trap
+use Rattle.task_places.proofs.PlaceWords.{Unused}
 use Rattle.task_places.proofs.EntryLemmas.{Shorter, none_stands, one_place, one_stands, shorter_kept, shorter_loose, shorter_still}
 use Rattle.task_rules.proofs.CancelLemmas.{CaseSays, case_says}
 use Rattle.task_rules.proofs.UntouchedLemmas.{untouched_after, set_end_untouched, set_exited_untouched, set_uninteresting_untouched, set_join_untouched, answered_untouched, cancel_resumed_untouched, dropped_untouched}
-use Rattle.task_rules.proofs.StandLemmas.{Loose, gain, plus_none, plus_one, entries-less, loose_gone, by_number, is_eq_of, not_eq}
-use Rattle.task_rules.specs.Places.{entries, is_at_high, is_at_low, is_at_switch, is_behind_of, says, switch_entries, times, HasPlace, one_if}
-use Rattle.task_machine.proofs.MapLemmas.{get-remove_same, get-remove_other}
+use Rattle.task_rules.proofs.StandLemmas.{gain, plus_none, plus_one, entries-less, by_number, is_eq_of, not_eq}
+use Rattle.task_rules.proofs.MoveLemmas.{other_place, removed_gone, removed_loose, removed_placed}
+use Rattle.task_rules.specs.Places.{entries, is_at_high, is_at_low, is_at_switch, is_behind_of, says, switch_entries, HasPlace, one_if}
 use Rattle.task_machine.specs.declared.records.Place.{Place}
-use Rattle.task_machine.specs.Maps.{get, get-remove}
 use Rattle.task_machine.specs.Write.{set_exited, set_high, set_low, set_switch, set_join, remove_thread, set_end}
-use Rattle.task_machine.specs.Read.{callers_of, is_entry_of, place_of}
+use Rattle.task_machine.specs.Read.{is_entry_of, place_of}
 use Rattle.task_machine.specs.Moves.{has_entry, less, less_switch, unqueued, withdrawn}
 use Rattle.task_places.proofs.RunRows.{Stays, data_row_stays, or_trap_stays, quiet_runs, task_row_stays, trap_if_stays, quiet_goes}
-use Rattle.task_places.proofs.OpRows.{Unused, call_row_stays, set_row_stays}
+use Rattle.task_places.proofs.OpRows.{call_row_stays, set_row_stays}
 use Rattle.task_places.proofs.CallRows.{after_cancel_stays, call_host_polled_stays, call_sync_host_row_stays, call_sync_row_stays, cancel_host_stays, cancel_runs_stays, cancel_waits_stays, cancel_yields_stays, cancel_ended_row_stays, thread_row_stays}
 use Rattle.task_machine.specs.declared.records.Entry.{Entry}
-use Rattle.task_machine.specs.declared.records.Thread.{Thread}
 use Rattle.task_machine.specs.declared.op.Op.{Op}
-use Rattle.task_places.proofs.FreshMoves.{fresher_after, is_fresh}
+use Rattle.task_places.proofs.FreshMoves.{fresher_after}
+use Rattle.task_laws.specs.Order.{is_fresh}
 use Rattle.task_places.proofs.FreshStand.{Going, Runs, removed_fresher}
 use Rattle.task_machine.specs.declared.op.Op.TheVariants as op
 use Rattle.task_rules.specs.Step.{op_row}
@@ -82,49 +82,9 @@ gone_shorter m s h = go (has_entry m s.queues.high) (has_entry m s.queues.low) r
     w = (one_place (place_of m s)).one
 
     go : (x y : Bool) → has_entry m s.queues.high ≡ x → has_entry m s.queues.low ≡ y → (a : ℕ) × ((b : ℕ) × ((c : ℕ) × ((a + b + c ≡ says is_at_high (place_of m s) + says is_at_low (place_of m s) + says is_at_switch (place_of m s)) × Shorter m a b c s (set_switch (less_switch m s.queues.switch) (cond x (set_high (less m s.queues.high) s) (set_low (less m s.queues.low) s))))))
-    go true y e f = (1, (0, (switch_entries m s.queues.switch, (let u = one_stands m s.queues.high e in let hh = h.high in let hl = h.low in let hs = h.switch in let v = w in omega (arith, u, hh, hl, hs, v), record { places = λ k. refl; callers = refl; high = λ k. one_of k m s.queues.high e; low = λ k. none_more k m _; switch = λ k. less_switch_is k m s.queues.switch }))))
-    go false true e f = (0, (1, (switch_entries m s.queues.switch, (let u = one_stands m s.queues.low f in let z = none_stands m s.queues.high e in let hh = h.high in let hl = h.low in let hs = h.switch in let v = w in omega (arith, u, z, hh, hl, hs, v), record { places = λ k. refl; callers = refl; high = λ k. none_more k m _; low = λ k. one_of k m s.queues.low f; switch = λ k. less_switch_is k m s.queues.switch }))))
-    go false false e f = (0, (0, (switch_entries m s.queues.switch, (let u = none_stands m s.queues.low f in let z = none_stands m s.queues.high e in let hh = h.high in let hl = h.low in let hs = h.switch in omega (arith, u, z, hh, hl, hs), record { places = λ k. refl; callers = refl; high = λ k. none_more k m _; low = λ k. ap (λ l. entries k l + gain k m 0) (less_same m s.queues.low f) ∙ none_more k m _; switch = λ k. less_switch_is k m s.queues.switch }))))
-
--- ---- A loose thread is gone
-
-pub gone_place : (m : ℕ) (s : Core) → place_of m (remove_thread m s) ≡ None
-unfolding remove_thread
-gone_place m s = ap (option_map (λ (t : Thread). t.place)) (get-remove_same s.threads m)
-
-pub other_place : (k m : ℕ) (s : Core) → (k == m) ≡ false → place_of k (remove_thread m s) ≡ place_of k s
-unfolding remove_thread
-other_place k m s e = ap (option_map (λ (t : Thread). t.place)) (get-remove_other s.threads m k (not_eq k m e))
-
-fewer_callers : (k f m : ℕ) (s : Core) → times k (callers_of f (remove_thread m s)) ≤ times k (callers_of f s)
-unfolding remove_thread
-fewer_callers k f m s = subst (λ (c : ℕ). c ≤ times k (callers_of f s)) (sym (ap (λ (o : Option (List ℕ)). times k (unwrap_or o [])) (get-remove s.callers m f))) (fewer (f == m))
-  where
-    fewer : (b : Bool) → times k (unwrap_or (cond b None (get s.callers f)) []) ≤ times k (callers_of f s)
-    fewer true = omega arith
-    fewer false = omega arith
-
-le_both : {a b c : ℕ} → a ≤ b → b ≤ c → a ≤ c
-le_both x y = omega (arith, x, y)
-
-le_zero : {a b : ℕ} → a ≤ b → b ≡ 0 → a ≡ 0
-le_zero x y = omega (arith, x, y)
-
-pub removed_kept : (k m : ℕ) (s : Core) → (k == m) ≡ false → HasPlace k s → HasPlace k (remove_thread m s)
-unfolding remove_thread
-removed_kept k m s e h = record {
-  switch = h.switch ∙ ap (says is_at_switch) (sym (other_place k m s e));
-  high = h.high ∙ ap (says is_at_high) (sym (other_place k m s e));
-  low = h.low ∙ ap (says is_at_low) (sym (other_place k m s e));
-  callers = λ f. le_both (fewer_callers k f m s) (subst (λ (o : Option Place). times k (callers_of f s) ≤ says (is_behind_of f) o) (sym (other_place k m s e)) (h.callers f));
-}
-
-pub removed_still : (k m : ℕ) (s : Core) → Loose k s → Loose k (remove_thread m s)
-unfolding remove_thread
-removed_still k m s l = record { switch = l.switch; high = l.high; low = l.low; callers = λ f. le_zero (fewer_callers k f m s) (l.callers f) }
-
-pub removed_gone : (m : ℕ) (s : Core) → Loose m s → HasPlace m (remove_thread m s)
-removed_gone m s l = loose_gone m (remove_thread m s) (gone_place m s) (removed_still m m s l)
+    go true y e f = (1, (0, (switch_entries m s.queues.switch, (let u = one_stands m s.queues.high e in let hh = h.high in let hl = h.low in let hs = h.switch in let v = w in omega (arith, u, hh, hl, hs, v), record { places = λ k. refl; callers = refl; made = le_refl _; high = λ k. one_of k m s.queues.high e; low = λ k. none_more k m _; switch = λ k. less_switch_is k m s.queues.switch }))))
+    go false true e f = (0, (1, (switch_entries m s.queues.switch, (let u = one_stands m s.queues.low f in let z = none_stands m s.queues.high e in let hh = h.high in let hl = h.low in let hs = h.switch in let v = w in omega (arith, u, z, hh, hl, hs, v), record { places = λ k. refl; callers = refl; made = le_refl _; high = λ k. none_more k m _; low = λ k. one_of k m s.queues.low f; switch = λ k. less_switch_is k m s.queues.switch }))))
+    go false false e f = (0, (0, (switch_entries m s.queues.switch, (let u = none_stands m s.queues.low f in let z = none_stands m s.queues.high e in let hh = h.high in let hl = h.low in let hs = h.switch in omega (arith, u, z, hh, hl, hs), record { places = λ k. refl; callers = refl; made = le_refl _; high = λ k. none_more k m _; low = λ k. ap (λ l. entries k l + gain k m 0) (less_same m s.queues.low f) ∙ none_more k m _; switch = λ k. less_switch_is k m s.queues.switch }))))
 
 -- ---- The withdrawal
 
@@ -189,11 +149,11 @@ module _ {base : Core} where
         stand = record {
           here = other_place n k _ flip ∙ (w.places n ∙ r.stand.here);
           once = r.stand.once;
-          loose = λ j e. removed_still j k _ (shorter_still j k g.0 g.1.0 g.1.1.0 s _ w (r.stand.loose j e));
+          loose = λ j e. removed_loose j k _ (shorter_still j k g.0 g.1.0 g.1.1.0 s _ w (r.stand.loose j e));
           there = λ j e. absurd (no_one e);
           placed = λ j e. by_number j k (HasPlace j (remove_thread k (unqueued_switch_of k s)))
               (λ same. subst (λ (i : ℕ). HasPlace i (remove_thread k (unqueued_switch_of k s))) (sym same) (removed_gone k _ (shorter_loose k g.0 g.1.0 g.1.1.0 s _ g.1.1.1.0 (fresh_free (place_of k s) h) w p)))
-              (λ other. removed_kept j k _ other (shorter_kept j k g.0 g.1.0 g.1.1.0 s _ other w (r.stand.placed j e)));
+              (λ other. removed_placed j k _ other (shorter_kept j k g.0 g.1.0 g.1.1.0 s _ other w (r.stand.placed j e)));
         };
         fresh = fresher_after base s (remove_thread k (unqueued_switch_of k s)) r.fresh (fresher_after s (unqueued_switch_of k s) (remove_thread k (unqueued_switch_of k s)) (λ j f. ap is_fresh (w.places j) ∙ f) (removed_fresher k (unqueued_switch_of k s)));
       }

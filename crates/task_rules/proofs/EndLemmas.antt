@@ -57,11 +57,11 @@ use Rattle.task_machine.specs.Core.{Began, Core, Main, MainPlace, Refused, Scrip
 use Rattle.task_machine.specs.Labels.{Choice, choice_of, event_label, exit_label, held_label, host_label, join_label, ret_label, take_label, task_cancel_label, wait_label}
 use Rattle.task_machine.specs.Maps.{get}
 use Rattle.task_machine.specs.Moves.{Gift, NoGift, checked, ended, gift, given_for, may_hand_on, may_publish, own_gift_only, passes_check}
-use Rattle.task_machine.specs.Read.{admits, at_handle_limit, backpressure_of, cancel_was_delivered, event_of, fits, foot_of, goal_of, has_ended, has_member, has_waiters, how_far_of, instance_of, is_async_lifted, is_at, is_callback_yield, is_direct, is_explicit, is_joined, is_watched, join_of, kind_of, new_handle, place_of, register_of, registers_of, set_at, subtask_at, subtask_ended, task_of, thread_at, thread_handle_of, undelivered_end, under_of, was_cancelled, was_started, word_of}
+use Rattle.task_machine.specs.Read.{admits, at_handle_limit, backpressure_of, cancel_was_delivered, event_of, fits, foot_of, goal_of, has_ended, has_member, has_waiters, how_far_of, instance_of, is_async_lifted, is_direct, is_explicit, is_joined, is_watched, join_of, kind_of, new_handle, place_of, register_of, registers_of, set_at, subtask_at, subtask_ended, task_of, thread_at, thread_handle_of, undelivered_end, under_of, was_cancelled, word_of}
 use Rattle.task_machine.specs.Write.{set_join}
 use Rattle.task_rules.specs.Calls.{AtOnce, Failing, FirstPoll, Later, call_begins, call_sync_stops, call_host_polled, call_host_row, call_pending, call_row, call_status, call_sync_begins, call_sync_host_polled, call_sync_host_row, call_sync_row, call_sync_status, call_queues, call_resumes, enter_row, enter_runs, first_poll, call_sync_host_stops, host_pending, next_thread, next_work, status_found}
 use Rattle.task_machine.specs.Statuses.{packed}
-use Rattle.task_rules.specs.Cancels.{AlreadyEnded, CallbackWaits, CallbackYields, CancelCase, OtherwiseRuns, StartNotRun, cancel_case, Async, Mode, Sync, after_cancel, cancel_asks, cancel_stops, blocked_code, cancel_by_end, cancel_found, cancel_guest, cancel_host, cancel_label, cancel_resumed, cancel_row, cancel_subtask, drop_found, drop_row, dropped, cancel_ended_row, cancel_aborts_host, is_callback_wait, cancel_unended_row, pauses, subtask_row}
+use Rattle.task_rules.specs.Cancels.{AlreadyEnded, CallbackWaits, CallbackYields, CancelCase, OtherwiseRuns, StartNotRun, cancel_case, Async, Mode, Sync, after_cancel, cancel_asks, cancel_stops, blocked_code, cancel_by_end, cancel_found, cancel_guest, cancel_host, cancel_label, cancel_resumed, cancel_row, cancel_subtask, drop_found, drop_row, dropped, cancel_ended_row, cancel_aborts_host, cancel_unended_row, pauses, subtask_row}
 use Rattle.task_rules.specs.Data.{data_row, skip_row}
 use Rattle.task_rules.specs.Ends.{blocking_exit_row, blocking_exits, code_row, direct_exit_row, direct_exit_to, direct_exits, exit_row, exit_row_for, code_exits, has_event_for, held_by_flag, implicit_exit_row, code_kind_row, kind_exit_row, thread_exit_row, leaves_no_result, exit_stops, may_tell, passes_after_return, passes_after_stop, sync_exit_row, sync_exits, code_wait_row}
 use Rattle.task_rules.specs.MainOps.{Abort, Answer, Answers, Await, Does, Finish, MainAct, MainProgress, Pends, Quiet, Ready, Spawn, Start, act_of, finish_act, finish_result, line_of, main_row, op_at, start_act, start_refusal, unless_pending}
@@ -71,8 +71,8 @@ use Rattle.task_rules.specs.Scripts.{export_kind, host_at, op_of, slot_at, value
 use Rattle.task_rules.specs.Sets.{wait_stops_checked, chosen, finds_nothing, handed_out, join_done, join_row, join_to, joined, may_wake_new, poll_row, poll_takes, received_woken, set_drop_found, set_drop_row, set_dropped, set_made, set_new_row, set_row, wait_begins, wait_goes_on, wait_row, wait_takes}
 use Rattle.task_machine.specs.Statuses.{status_code}
 use Rattle.task_rules.specs.Stalled.{Setting}
-use Rattle.task_rules.specs.Step.{DeadlockStep, EmptyFor, FuturesStep, MainProgresses, MainStep, OpenProgresses, OpenStep, Polled, Progresses, RestStep, ScriptStep, Step, TakeStep, TurnStep, did, op_row}
-use Rattle.task_rules.specs.Takes.{activated_woken, delivered, delivery_row, take_holds, host_done, host_row, may_tell_starting, own_delivered, popped, set_delivered, start_admitted, start_holds, start_row, start_begins, take_row, thread_taken, thread_taken_for}
+use Rattle.task_rules.specs.Step.{DeadlockStep, EmptyFor, FuturesStep, MainProgresses, MainStep, OpenAct, OpenProgresses, OpenStep, Polled, Progresses, RestStep, ScriptStep, Step, TakeStep, TurnStep, did, op_row}
+use Rattle.task_rules.specs.Takes.{activated_woken, delivered, delivery_row, host_done, host_row, may_tell_starting, own_delivered, popped, set_delivered, start_admitted, start_holds, start_row, start_begins, take_row, thread_taken, thread_taken_for}
 use Rattle.task_rules.specs.Task.{task_cancel_done, dec_from, dec_row, inc_row, inc_raises, ret_bad_row, ret_done, ret_row, task_cancel_row, task_row}
 use Rattle.task_rules.specs.Threads.{Halt, Suspension, Yielding, by_how_far, halt_row, halted_resuming, halting, halts, has_yielded, resume_later_found, resume_later_row, resume_why, resumed_later, then_promote, then_promote_found, then_promote_row, then_resume_found, then_resume_row, thread_index_row, thread_made, thread_new_label, thread_new_row, thread_row}
 use Rattle.task_rules.specs.Turns.{at_turn}
@@ -162,7 +162,7 @@ sync_exit_row_opens : (a0 : ℕ) (a1 : Option ℕ) (a2 : Core) → Opens (sync_e
 sync_exit_row_opens n w s = may_opens (may_tell (task_of n s) w s) (Stops (exit_label n w) (sync_exits n w s)) (exit_label-open n w)
 
 blocking_exit_row_opens : (a0 : ℕ) (a1 : Option ℕ) (a2 : Core) → Opens (blocking_exit_row a0 a1 a2)
-blocking_exit_row_opens n w s = let held = held_by_flag (instance_of n s) s in trap_if_opens (not (passes_after_return (instance_of n s) (task_of n s) held s)) trap.CannotBlockSyncTask (may (may_tell (task_of n s) w s) (Ordered held (λ order. Stops (exit_label n w) (blocking_exits n w order s)))) (may_opens (may_tell (task_of n s) w s) (Ordered held (λ order. Stops (exit_label n w) (blocking_exits n w order s))) (λ order. exit_label-open n w))
+blocking_exit_row_opens n w s = let held = held_by_flag (instance_of n s) s in trap_if_opens (not (passes_after_return n w s)) trap.CannotBlockSyncTask (may (may_tell (task_of n s) w s) (Ordered held (λ order. Stops (exit_label n w) (blocking_exits n w order s)))) (may_opens (may_tell (task_of n s) w s) (Ordered held (λ order. Stops (exit_label n w) (blocking_exits n w order s))) (λ order. exit_label-open n w))
 
 direct_exit_to_opens : (a0 : ℕ) (a1 : ExportKind) (a2 : Core) (a3 : Option ℕ) → Opens (direct_exit_to a0 a1 a2 a3)
 direct_exit_to_opens n x s None = tt
@@ -554,8 +554,8 @@ open_progresses_end s (Does m new) l t k is = silent t is.0 k
 open_progresses_end s Pends l t k is = absurd is
 open_progresses_end s (Answers v) l t k is = over_is l is.1 refl
 
-open_act_ends : (x : Setting) (s : State) (l : Label) (t : State) → (k : ℕ) × ((act : MainAct) × OpenProgresses s (main_row x.component k s.core act) l t) → IsLast l t
-open_act_ends x s l t h = open_progresses_end s _ l t (main_row_opens x.component h.0 s.core h.1.0) h.1.1
+open_act_ends : (x : Setting) (s : State) (l : Label) (t : State) → (k : ℕ) × ((act : MainAct) × OpenAct x s k act l t) → IsLast l t
+open_act_ends x s l t h = open_progresses_end s _ l t (main_row_opens x.component h.0 s.core h.1.0) h.1.1.1
 
 open_step_ends : (x : Setting) (s : State) (l : Label) (t : State) → OpenStep x s l t → IsLast l t
 open_step_ends x s (label.Loop loop_label.MainPends) t is = silent {l = label.Loop loop_label.MainPends} t refl refl

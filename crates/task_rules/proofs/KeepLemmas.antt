@@ -56,7 +56,7 @@ use Rattle.task_rules.specs.Progress.{Fails, Goes, Never, Ordered, Progress, Sto
 use Rattle.task_rules.specs.Scripts.{export_kind, host_at, op_of}
 use Rattle.task_rules.specs.Sets.{chosen, handed_out, set_given}
 use Rattle.task_rules.specs.Stalled.{Setting}
-use Rattle.task_rules.specs.Step.{DeadlockStep, EmptyFor, FuturesStep, MainProgresses, MainStep, OpenProgresses, OpenStep, Polled, Progresses, RestStep, ScriptStep, Step, TakeStep, TurnStep, did, op_row, struck}
+use Rattle.task_rules.specs.Step.{DeadlockStep, EmptyFor, FuturesStep, MainProgresses, MainStep, OpenAct, OpenProgresses, OpenStep, Polled, Progresses, RestStep, ScriptStep, Step, TakeStep, TurnStep, did, op_row, struck}
 use Rattle.task_rules.specs.Takes.{activated, activated_woken, wait_again, delivered, delivery_row, start_sets_flags, take_holds, host_done, host_result, host_row, host_status, may_tell_starting, own_delivered, popped, pushed, rest_of, running, set_delivered, start_admitted, start_holds, start_row, start_begins, starting_is_published, starting_told, take_row, thread_taken, thread_taken_for}
 use Rattle.task_rules.specs.Turns.{at_turn}
 use Rattle.task_rules.specs.Works.{Ends, FailsNow, Poll, StillPends, course_for, followed, poll_pends, poll_of, poll_ends}
@@ -259,8 +259,8 @@ module _ {R : Core → Core → Type 0} (E : Elementary R) where
   open_progresses_keeps s Pends l t k is = absurd is
   open_progresses_keeps s (Answers v) l t k is = core_is s.core t _ is.1 (same E s.core)
 
-  open_act_keeps : (x : Setting) (s : State) (l : Label) (t : State) → (k : ℕ) × ((act : MainAct) × OpenProgresses s (main_row x.component k s.core act) l t) → R s.core t.core
-  open_act_keeps x s l t h = open_progresses_keeps s _ l t (main_row_keeps x.component h.0 s.core h.1.0) h.1.1
+  open_act_keeps : (x : Setting) (s : State) (l : Label) (t : State) → (k : ℕ) × ((act : MainAct) × OpenAct x s k act l t) → R s.core t.core
+  open_act_keeps x s l t h = open_progresses_keeps s _ l t (main_row_keeps x.component h.0 s.core h.1.0) h.1.1.1
 
   open_step_keeps : (x : Setting) (s : State) (l : Label) (t : State) → OpenStep x s l t → R s.core t.core
   unfolding at_turn

@@ -49,12 +49,12 @@ use Rattle.task_machine.specs.declared.records.WorkCaller.TheVariants as work_ca
 use Rattle.task_machine.specs.Core.{Core}
 use Rattle.task_machine.specs.Labels.{Choice, exit_label, join_label, ret_label, task_cancel_label, wait_label}
 use Rattle.task_machine.specs.Moves.{Gift, NoGift, behind, call_settled, checked, ended, gift, handed_on, may_hand_on, passes_check, promoted_unless, published, put_low, put_switch, released, stopped, stopped_at, taken, withdrawn}
-use Rattle.task_machine.specs.Read.{at_handle_limit, backpressure_of, call_instance, caller_of, cancel_was_delivered, event_of, fits, foot_of, goal_of, has_ended, has_member, has_waiters, how_far_of, instance_of, is_async_lifted, is_at, is_callback_yield, is_direct, is_explicit, is_joined, is_watched, join_of, kind_of, may_not_suspend, new_handle, new_thread_handle, own_event_of, phase_of, position_of, register_of, registers_of, result_of, saved_callee_of, saved_own_of, set_at, subtask_at, subtask_ended, task_of, thread_at, thread_group, thread_handle_of, undelivered_end, under_of, was_cancelled, was_started, word_of}
+use Rattle.task_machine.specs.Read.{at_handle_limit, backpressure_of, call_instance, caller_of, cancel_was_delivered, event_of, fits, foot_of, goal_of, has_ended, has_member, has_waiters, how_far_of, instance_of, is_async_lifted, is_direct, is_explicit, is_joined, is_watched, join_of, kind_of, may_not_suspend, new_handle, new_thread_handle, own_event_of, phase_of, position_of, register_of, registers_of, result_of, saved_callee_of, saved_own_of, set_at, subtask_at, subtask_ended, task_of, thread_at, thread_group, thread_handle_of, undelivered_end, under_of, was_cancelled, word_of}
 use Rattle.task_machine.specs.Write.{add_set, add_thread, count_work, free_handle, give_handle, give_thread_handle, remove_set, remove_work, set_backpressure, set_do_not_enter, set_do_not_suspend, set_end, set_event, set_join, set_own_event, set_phase, set_place, set_position, set_register, set_result, set_saved_callee, set_saved_own, set_started, set_subtask_handle, set_word}
 use Rattle.task_rules.proofs.KeepWords.{add_set_keeps, add_thread_keeps, after, behind_keeps, call_made_keeps, call_settled_keeps, checked_keeps, count_work_keeps, ended_keeps, free_handle_keeps, give_handle_keeps, give_result_keeps, give_thread_handle_keeps, group_settled_keeps, handed_on_keeps, if_keeps, later, may_keeps, or_never_keeps, or_trap_keeps, promoted_unless_keeps, published_keeps, put_high_keeps, put_low_keeps, put_switch_keeps, released_keeps, remove_set_keeps, remove_work_keeps, same, set_backpressure_keeps, set_cancelled_keeps, set_do_not_enter_keeps, set_do_not_suspend_keeps, set_end_keeps, set_event_keeps, set_how_far_keeps, set_join_keeps, set_own_event_keeps, set_phase_keeps, set_place_keeps, set_position_keeps, set_register_keeps, set_result_keeps, set_saved_callee_keeps, set_saved_own_keeps, set_started_keeps, set_subtask_handle_keeps, set_thread_handle_keeps, set_word_keeps, stopped_at_keeps, stopped_keeps, taken_keeps, trap_if_keeps, wake_keeps, withdrawn_keeps, work_queued_keeps}
 use Rattle.task_rules.specs.Calls.{AtOnce, Failing, FirstPoll, Later, answered, call_stops, call_answered, call_begins, call_sync_stops, call_host_polled, call_host_row, call_made, call_pending, call_returned, call_row, call_status, call_sync_begins, call_sync_host_polled, call_sync_host_row, call_sync_row, call_sync_status, call_queues, call_resumes, enter_row, enter_runs, first_poll, sync_sets_flag, host_answered, call_sync_host_stops, host_pending, host_ready, new_thread, next_thread, next_work, put_back, settle_group_of, status_found, call_clears_flag, with_handle, with_thread_handle, work_answered, work_deleted, work_group, work_queued, work_value}
 use Rattle.task_machine.specs.Statuses.{packed}
-use Rattle.task_rules.specs.Cancels.{AlreadyEnded, CallbackWaits, CallbackYields, CancelCase, OtherwiseRuns, StartNotRun, cancel_case, Async, Mode, Sync, aborted_phase, after_cancel, cancel_asks, cancel_stops, behind_switch, blocked_code, cancel_by_end, cancel_wakes_callback, cancel_found, cancel_guest, cancel_host, cancel_resumed, cancel_row, cancel_subtask, drop_found, drop_row, dropped, cancel_takes_end, cancel_ended_row, cancel_aborts_host, is_callback_wait, cancel_goes_behind, cancel_unended_row, pauses, cancel_withdraws, subtask_instance, subtask_row, subtask_settled, cancel_promotes_yield}
+use Rattle.task_rules.specs.Cancels.{AlreadyEnded, CallbackWaits, CallbackYields, CancelCase, OtherwiseRuns, StartNotRun, cancel_case, Async, Mode, Sync, aborted_phase, after_cancel, cancel_asks, cancel_stops, behind_switch, blocked_code, cancel_by_end, cancel_wakes_callback, cancel_found, cancel_guest, cancel_host, cancel_resumed, cancel_row, cancel_subtask, drop_found, drop_row, dropped, cancel_takes_end, cancel_ended_row, cancel_aborts_host, cancel_goes_behind, cancel_unended_row, pauses, cancel_withdraws, subtask_instance, subtask_row, subtask_settled, cancel_promotes_yield}
 use Rattle.task_rules.specs.Data.{advanced, assigned, data_row, moved_to, skip_row, skipped, stored}
 use Rattle.task_rules.specs.Ends.{code_waits, blocking_exit_row, blocking_exits, cancelled, code_row, code_stops, direct_exit_row, direct_exit_to, direct_exits, exit_row, exit_row_for, code_exits, code_finds, has_event_for, held_by_flag, implicit_exit_row, is_told, code_kind_row, kind_exit_row, thread_exit_row, leaves_no_result, exit_stops, end_reopens, may_tell, own_or_none, passes_after_return, passes_after_stop, exit_restores, result_given, returned, sync_exit_row, sync_exits, told, code_wait_row, code_yields}
 use Rattle.task_rules.specs.Keeps.{Elementary, Keeps}
@@ -62,7 +62,6 @@ use Rattle.task_rules.specs.Progress.{Goes, Ordered, Progress, Stops, Traps, may
 use Rattle.task_rules.specs.Scripts.{export_kind, host_at, registers_for, script_of, slot_at, value_of, values_in}
 use Rattle.task_rules.specs.Sets.{wait_stops_checked, chosen, finds_nothing, given_code, given_handle, given_result, handed_out, join_done, join_row, join_to, joined, joins, may_wake_new, poll_row, poll_takes, received, received_woken, set_drop_found, set_drop_row, set_dropped, set_given, set_made, set_new_row, set_row, wait_begins, wait_goes_on, wait_row, wait_takes, wait_stops, wakes_joined}
 use Rattle.task_machine.specs.Statuses.{status_code}
-use Rattle.task_rules.specs.Takes.{take_holds, start_begins}
 use Rattle.task_rules.specs.Task.{task_cancel_done, dec_from, dec_row, inc_row, dec_lowers, dec_opens, inc_raises, ret_bad_row, ret_done, ret_row, task_cancel_row, task_row}
 use Rattle.task_rules.specs.Threads.{Halt, Suspension, Yielding, by_how_far, halt_row, halted, halted_checked, halted_promoting, halted_resuming, halting, halts, has_yielded, resume_later_found, resume_later_row, resume_why, resumed_later, then_promote, then_promote_found, then_promote_row, then_resume_found, then_resume_row, thread_index_row, thread_made, thread_new_label, thread_new_row, thread_row}
 
@@ -144,7 +143,7 @@ module _ {R : Core → Core → Type 0} (E : Elementary R) where
   blocking_exits_keeps n w order s = after E (after E (end_reopens_keeps (instance_of n s) order s) (returned_keeps (task_of n s) (register_of n 0 s) w (end_reopens (instance_of n s) order s))) (exit_stops_keeps n (returned (task_of n s) (register_of n 0 s) w (end_reopens (instance_of n s) order s)))
 
   pub blocking_exit_row_keeps : (a0 : ℕ) (a1 : Option ℕ) (s : Core) → Keeps R s (blocking_exit_row a0 a1 s)
-  blocking_exit_row_keeps n w s = let held = held_by_flag (instance_of n s) s in trap_if_keeps E s (not (passes_after_return (instance_of n s) (task_of n s) held s)) trap.CannotBlockSyncTask (may (may_tell (task_of n s) w s) (Ordered held (λ order. Stops (exit_label n w) (blocking_exits n w order s)))) (may_keeps E s (may_tell (task_of n s) w s) (Ordered held (λ order. Stops (exit_label n w) (blocking_exits n w order s))) (λ order. blocking_exits_keeps n w order s))
+  blocking_exit_row_keeps n w s = let held = held_by_flag (instance_of n s) s in trap_if_keeps E s (not (passes_after_return n w s)) trap.CannotBlockSyncTask (may (may_tell (task_of n s) w s) (Ordered held (λ order. Stops (exit_label n w) (blocking_exits n w order s)))) (may_keeps E s (may_tell (task_of n s) w s) (Ordered held (λ order. Stops (exit_label n w) (blocking_exits n w order s))) (λ order. blocking_exits_keeps n w order s))
 
   pub direct_exits_keeps : (a0 : ℕ) (a1 : ℕ) (a2 : ℕ) (s : Core) → R s (direct_exits a0 a1 a2 s)
   unfolding direct_exits

@@ -4,6 +4,14 @@ pub mod KeepLemmas
 pub mod EndLemmas
 pub mod LawLemmas
 pub mod PromotionLemmas
+pub mod ChainLemmas
+pub mod WalkSteps
+pub mod WalkTakes
+pub mod WalkOps
+pub mod WalkTask
+pub mod WalkEnds
+pub mod WalkMoves
+pub mod PlacingLemmas
 pub mod CheckLemmas
 pub mod StandLemmas
 pub mod StopLemmas

@@ -1,7 +1,7 @@
 -- Moves beside a thread that runs or is taken: they leave each other thread its place.
-use Rattle.std.proofs.Common.{◌∙◌, T, ap, arith, cond, refl, subst, sym}
+use Rattle.std.proofs.Common.{◌∙◌, T, ap, ap₂, arith, cond, refl, subst, sym}
 use Rattle.std.specs.Option.{option_map_or}
-use Rattle.std.specs.Prelude.{Bool, List, None, Option, Some, [], false, find, option_and_then, option_map, true, unwrap_or, ℕ, ◌+◌, ◌==◌, ◌∷◌, ◌≡◌, ◌≤◌}
+use Rattle.std.specs.Prelude.{Bool, List, None, Option, Some, [], false, if◌then◌else◌, is_some, option_and_then, option_map, true, unwrap_or, ℕ, ◌+◌, ◌==◌, ◌∷◌, ◌≡◌, ◌≤◌}
 use Rattle.task_machine.specs.declared.records.Place.{Place}
 use Rattle.task_machine.specs.declared.records.Subtask.{Subtask}
 use Rattle.task_machine.specs.declared.records.Thread.{Thread}
@@ -16,10 +16,10 @@ use Rattle.task_machine.specs.Maps.{get, get-remove, numbers}
 use Rattle.task_machine.specs.Moves.{behind_one, held_why_of, is_callback_waiter, may_wake, put_high, put_low, put_switch, released, released_one, stopped, unblocked, wake, waken_by}
 use Rattle.task_machine.specs.Read.{blocked_on, callers_of, held_why, is_at, is_blocked_on, is_waiting_on, place_of}
 use Rattle.task_machine.specs.Write.{remove_thread, set_place}
-use Rattle.task_rules.proofs.StandLemmas.{Loose, Stand, adds_all, by_number, eq_refl, free_loose, loose_free, loose_gone, loosened, not_eq, put_high_adds, put_low_adds, set_place_adds}
-use Rattle.task_rules.proofs.StopLemmas.{behind_adds, put_high_stand, put_low_stand, put_switch_stand, stopped_stand}
+use Rattle.task_rules.proofs.StandLemmas.{Loose, Stand, adds_all, by_number, eq_refl, free_loose, is_eq_of, loose_free, loose_gone, loosened, not_eq, put_high_adds, put_low_adds, set_place_adds}
+use Rattle.task_rules.proofs.StopLemmas.{behind_adds, find_passes, given_there, put_high_stand, put_low_stand, put_switch_stand, stopped_stand}
 use Rattle.task_rules.specs.Laws.{ReleaseKeepsPlaces, RemovalKeepsPlaces, StopKeepsPlaces, WakeKeepsPlaces, is_free}
-use Rattle.task_rules.specs.Places.{HasPlace, is_at_high, is_at_low, is_at_switch, is_behind_of, one_if, says, times}
+use Rattle.task_rules.specs.Places.{HasPlace, is_at_high, is_at_low, is_at_switch, is_behind_of, is_there, one_if, says, times}
 
 -- ---- Where other threads are
 
@@ -60,19 +60,51 @@ at_place : (test : Place → Bool) (o : Option Place) → option_map_or test o f
 at_place test None h = absurd (subst T (sym h) tt)
 at_place test (Some p) h = (p, refl, h)
 
-find_passes : (test : ℕ → Bool) (ns : List ℕ) (m : ℕ) → find test ns ≡ Some m → test m ≡ true
-find_passes test [] m h = absurd (no_both h)
-  where
-    no_both : None ≡ Some m → ⊥
-    no_both e = cc
-find_passes test (n ∷ ns) m h = go (test n) refl (find_passes test ns m) h
-  where
-    some_is : Some n ≡ Some m → n ≡ m
-    some_is e = ap (λ (o : Option ℕ). unwrap_or o n) e
+-- ---- A thread is gone
 
-    go : (b : Bool) → test n ≡ b → (find test ns ≡ Some m → test m ≡ true) → cond b (Some n) (find test ns) ≡ Some m → test m ≡ true
-    go true e rest g = subst (λ (k : ℕ). test k ≡ true) (some_is g) e
-    go false e rest g = rest g
+pub gone_place : (n : ℕ) (s : Core) → place_of n (remove_thread n s) ≡ None
+unfolding remove_thread
+gone_place n s = ap (option_map (λ (t : Thread). t.place)) (get-remove_same s.threads n)
+
+pub other_place : (k n : ℕ) (s : Core) → (k == n) ≡ false → place_of k (remove_thread n s) ≡ place_of k s
+unfolding remove_thread
+other_place k n s e = ap (option_map (λ (t : Thread). t.place)) (get-remove_other s.threads n k (not_eq k n e))
+
+still_there : (k n : ℕ) (s : Core) → is_there k (remove_thread n s) ≡ true → is_there k s ≡ true
+still_there k n s g = by_number k n (is_there k s ≡ true) (λ e. absurd (subst T (sym g ∙ ap (λ (o : Option Place). is_some o) (ap (λ (j : ℕ). place_of j (remove_thread n s)) e ∙ gone_place n s)) tt)) (λ e. sym (ap (λ (o : Option Place). is_some o) (other_place k n s e)) ∙ g)
+
+fewer_callers : (k f n : ℕ) (s : Core) → times k (callers_of f s) ≡ 0 → times k (callers_of f (remove_thread n s)) ≡ 0
+unfolding remove_thread
+fewer_callers k f n s h = ap (λ (o : Option (List ℕ)). times k (unwrap_or o [])) (get-remove s.callers n f) ∙ fewer (f == n)
+  where
+    fewer : (b : Bool) → times k (unwrap_or (cond b None (get s.callers f)) []) ≡ 0
+    fewer true = refl
+    fewer false = h
+
+pub removed_loose : (k n : ℕ) (s : Core) → Loose k s → Loose k (remove_thread n s)
+unfolding remove_thread
+removed_loose k n s l = record { number = λ e. l.number (still_there k n s e); switch = l.switch; high = l.high; low = l.low; callers = λ f. fewer_callers k f n s (l.callers f) }
+
+pub removed_gone : (n : ℕ) (s : Core) → Loose n s → HasPlace n (remove_thread n s)
+removed_gone n s l = loose_gone n (remove_thread n s) (gone_place n s) (removed_loose n n s l)
+
+pub removed_placed : (k n : ℕ) (s : Core) → (k == n) ≡ false → HasPlace k s → HasPlace k (remove_thread n s)
+unfolding remove_thread
+removed_placed k n s e h = record {
+  number = λ g. h.number (still_there k n s g);
+  behind = λ f g. h.behind f (sym (ap (says (is_behind_of f)) (other_place k n s e)) ∙ g);
+  switch = h.switch ∙ ap (says is_at_switch) (sym (other_place k n s e));
+  high = h.high ∙ ap (says is_at_high) (sym (other_place k n s e));
+  low = h.low ∙ ap (says is_at_low) (sym (other_place k n s e));
+  callers = λ f. ap (λ (o : Option (List ℕ)). times k (unwrap_or o [])) (get-remove s.callers n f) ∙ by_caller f (f == n) refl;
+}
+  where
+    t : Core
+    t = remove_thread n s
+
+    by_caller : (f : ℕ) (b : Bool) → (f == n) ≡ b → times k (unwrap_or (cond b None (get s.callers f)) []) ≡ (if is_there f t then says (is_behind_of f) (place_of k t) else 0)
+    by_caller f true g = sym (ap (λ (c : Bool). if c then says (is_behind_of f) (place_of k t) else 0) (ap (λ (j : ℕ). is_there j t) (is_eq_of f n g) ∙ ap (λ (o : Option Place). is_some o) (gone_place n s)))
+    by_caller f false g = h.callers f ∙ ap₂ (λ (c : Bool) (o : Option Place). if c then says (is_behind_of f) o else 0) (sym (ap (λ (o : Option Place). is_some o) (other_place f n s g))) (sym (other_place k n s e))
 
 -- ---- Moves beside a busy thread
 
@@ -186,49 +218,14 @@ module _ (n : ℕ) (q : Place) (busy : is_busy q ≡ true) where
   pub put_high_all : (w : Why) (s : Core) → Stand n q [] s → (k : ℕ) → HasPlace k (put_high n w s)
   put_high_all w s st k = adds_all n q (place.Ready mark.High w) s (put_high n w s) (put_high_adds n w q s st.here) st k
 
-  pub behind_all : (g : ℕ) (s : Core) → Stand n q [] s → (k : ℕ) → HasPlace k (behind_one g n s)
-  behind_all g s st k = adds_all n q (place.Behind g) s (behind_one g n s) (behind_adds g n q s st.here) st k
-
-  removed_callers : (k f : ℕ) (s : Core) → times k (callers_of f (remove_thread n s)) ≤ times k (callers_of f s)
-  unfolding remove_thread
-  removed_callers k f s = subst (λ (c : ℕ). c ≤ times k (callers_of f s)) (sym (ap (λ (o : Option (List ℕ)). times k (unwrap_or o [])) (get-remove s.callers n f))) (fewer (f == n))
-    where
-      fewer : (b : Bool) → times k (unwrap_or (cond b None (get s.callers f)) []) ≤ times k (callers_of f s)
-      fewer true = omega arith
-      fewer false = omega arith
-
-  removed_gone : (s : Core) → place_of n (remove_thread n s) ≡ None
-  unfolding remove_thread
-  removed_gone s = ap (option_map (λ (t : Thread). t.place)) (get-remove_same s.threads n)
-
-  removed_other : (k : ℕ) (s : Core) → (k == n) ≡ false → place_of k (remove_thread n s) ≡ place_of k s
-  unfolding remove_thread
-  removed_other k s e = ap (option_map (λ (t : Thread). t.place)) (get-remove_other s.threads n k (not_eq k n e))
-
-  removed_loose : (s : Core) → Loose n s → Loose n (remove_thread n s)
-  unfolding remove_thread
-  removed_loose s l = record { switch = l.switch; high = l.high; low = l.low; callers = λ f. zero_of (removed_callers n f s) (l.callers f) }
-    where
-      zero_of : {a b : ℕ} → a ≤ b → b ≡ 0 → a ≡ 0
-      zero_of x y = omega (arith, x, y)
-
-  removed_placed : (k : ℕ) (s : Core) → (k == n) ≡ false → HasPlace k s → HasPlace k (remove_thread n s)
-  unfolding remove_thread
-  removed_placed k s e h = record {
-    switch = h.switch ∙ ap (says is_at_switch) (sym (removed_other k s e));
-    high = h.high ∙ ap (says is_at_high) (sym (removed_other k s e));
-    low = h.low ∙ ap (says is_at_low) (sym (removed_other k s e));
-    callers = λ f. both (removed_callers k f s) (subst (λ (o : Option Place). times k (callers_of f s) ≤ says (is_behind_of f) o) (sym (removed_other k s e)) (h.callers f));
-  }
-    where
-      both : {a b c : ℕ} → a ≤ b → b ≤ c → a ≤ c
-      both x y = omega (arith, x, y)
+  pub behind_all : (g : ℕ) (s : Core) → is_there g s ≡ true → Stand n q [] s → (k : ℕ) → HasPlace k (behind_one g n s)
+  behind_all g s is st k = adds_all n q (place.Behind g) s (behind_one g n s) (behind_adds g n q s (given_there n q [] s st g is) st.here) st k
 
   pub removed_all : (s : Core) → Stand n q [] s → (k : ℕ) → HasPlace k (remove_thread n s)
   removed_all s st k =
       by_number k n (HasPlace k (remove_thread n s))
-      (λ e. subst (λ (j : ℕ). HasPlace j (remove_thread n s)) (sym e) (loose_gone n (remove_thread n s) (removed_gone s) (removed_loose s (st.loose n (own_times (eq_refl n))))))
-      (λ e. removed_placed k s e (st.placed k (no_times e)))
+      (λ e. subst (λ (j : ℕ). HasPlace j (remove_thread n s)) (sym e) (removed_gone n s (st.loose n (own_times (eq_refl n)))))
+      (λ e. removed_placed k n s e (st.placed k (no_times e)))
     where
       own_times : (n == n) ≡ true → times n (n ∷ []) ≡ 1
       own_times e = ap (λ b. one_if b + 0) e

@@ -93,7 +93,7 @@ first_low_is : (i : ℕ) (s : Core) (n : ℕ) (o : Option ℕ) → first_in i s 
 first_low_is i s n None is h = or_true (has_entry n s.queues.high) (has_entry n s.queues.low) (first_is_entry i s n s.queues.low h)
 first_low_is i s n (Some m) is h = or_left (has_entry n s.queues.high) (has_entry n s.queues.low) (first_is_entry i s n s.queues.high (is ∙ h))
 
-first_has_entry : (i : ℕ) (s : Core) (n : ℕ) → first_entry i s ≡ Some n → (has_entry n s.queues.high || has_entry n s.queues.low) ≡ true
+pub first_has_entry : (i : ℕ) (s : Core) (n : ℕ) → first_entry i s ≡ Some n → (has_entry n s.queues.high || has_entry n s.queues.low) ≡ true
 unfolding first_entry
 first_has_entry i s n h = first_low_is i s n (first_in i s s.queues.high) refl h
 

@@ -1,13 +1,13 @@
--- A check after a return, told on the state before.
+-- A check after a return, by its parts on the state before.
 use Rattle.std.proofs.Common.{◌∙◌, T, ap, ap₂, cond, refl, subst, sym}
-use Rattle.std.proofs.lemmas.List.Sorted.{length_permutation}
+use Rattle.std.proofs.lemmas.List.Sorted.{IsPermutation-refl, length_permutation}
 use Rattle.std.specs.Cmp.{nat_cmp_total}
 use Rattle.std.specs.FinMap.{nat_cmp-IsAntisymmetric}
 use Rattle.std.specs.FinMap.Entries.{below_all, is_sorted, same_entries}
 use Rattle.std.specs.List.{list_any}
 use Rattle.std.specs.Option.{option_map_or}
 use Rattle.std.specs.Ordering.{eq_by_cmp, is_lt, nat_cmp}
-use Rattle.std.specs.Prelude.{Bool, List, None, Option, Some, [], false, find, if◌then◌else◌, is_none, is_some, map, not, option_and_then, option_map, slice_set, true, unwrap_or, ℕ, ◌&&◌, ◌==◌, ◌||◌, ◌∷◌, ◌≡◌}
+use Rattle.std.specs.Prelude.{Bool, IsPermutation, List, None, Option, Some, [], false, find, if◌then◌else◌, is_none, is_some, map, not, option_and_then, option_map, slice_set, true, unwrap_or, ℕ, ◌&&◌, ◌==◌, ◌||◌, ◌∷◌, ◌≡◌}
 use Rattle.task_machine.specs.declared.records.Call.{Call}
 use Rattle.task_machine.specs.declared.records.CallEnd.{CallEnd}
 use Rattle.task_machine.specs.declared.component.Callee.{Callee}
@@ -34,12 +34,12 @@ use Rattle.task_machine.proofs.MapLemmas.{change-field}
 use Rattle.task_machine.specs.Core.{Core, Queues}
 use Rattle.task_machine.specs.Maps.{Records, change, get, numbers}
 use Rattle.task_machine.specs.Moves.{first_entry, first_low, held_why_of, is_callback_waiter, may_publish, may_wake, may_wake_joined, passes_check, published, put_high, released, released_one, unblocked, wake, wake_joined, waken_by}
-use Rattle.task_machine.specs.Read.{admitted_held, blocked_on, caller_of, first_at, first_in, goal_of, has_waiter, held_why, instance_of, is_at, is_blocked_on, is_direct, is_guest_call, is_nil, is_waiter, is_waiting_on, join_of, may_not_suspend, no_callee, place_of, set_instance, task_of}
+use Rattle.task_machine.specs.Read.{admitted_held, blocked_on, caller_of, first_at, first_in, goal_of, has_waiter, held_why, instance_of, is_at, is_blocked_on, is_direct, is_guest_call, is_nil, is_waiter, is_waiting_on, join_of, may_not_suspend, no_callee, place_of, register_of, task_of}
 use Rattle.task_machine.specs.Write.{give_result, on_call, on_instance, on_thread, push_high, set_do_not_enter, set_end, set_event, set_place, set_register, set_result}
 use Rattle.task_rules.proofs.CheckLemmas.{any_in, any_in-append, any_in_is, enter_passes, first_in_is, high_instance, map_or, or_true_right, ordered_first, place_calls, place_instance, put_high_high, put_high_instance, release_passes, released_leaves, same_nil}
 use Rattle.task_rules.proofs.StandLemmas.{by_number, place_kept, place_written}
-use Rattle.task_rules.specs.Ends.{held_by_flag, is_in_instance, is_told, end_reopens, may_tell, passes_after_return, result_given, returned, told, wakes_in}
-use Rattle.task_rules.specs.Laws.{BlockingCheckIsAfter, WaitsAtHome}
+use Rattle.task_rules.specs.Ends.{blocking_returned, first_waiter, held_by_flag, is_told, end_reopens, may_tell, passes_after_return, result_given, returned, told, waiter_told}
+use Rattle.task_rules.specs.Laws.{BlockingCheckIsAfter}
 use Rattle.std.specs.FinMap.Entries.{find as seek}
 
 -- ---- What passes a check, entry by entry
@@ -321,6 +321,11 @@ or_none : (a : Bool) → a ≡ (a || false)
 or_none true = refl
 or_none false = refl
 
+-- the thread, if there is one, is of the instance
+abbrev is_in_instance : ℕ → Core → Option ℕ → Bool
+is_in_instance i s None = false
+is_in_instance i s (Some n) = instance_of n s == i
+
 unblocked_passes : (i : ℕ) (o : Option ℕ) (s : Core) → passes_check i (unblocked o s) ≡ (passes_check i s || is_in_instance i s o)
 unblocked_passes i None s = or_none (passes_check i s)
 unblocked_passes i (Some m) s = put_high_passes i m why.Resumption s
@@ -369,7 +374,7 @@ published_passes i k e w s =
     (woken_in_is i s (unblocked b x) (λ m. unblocked_instance b x m ∙ same.instances m) (join_of (subtask.Guest k) s) w)
     ∙ or_assoc_right (passes_check i s) (is_in_instance i s b) (woken_in i s (join_of (subtask.Guest k) s) w))
 
--- ---- The chosen waiter is of the set's instance
+-- ---- The waiter that is told
 
 any_found : {X : Type 0} (test : X → Bool) (q : ℕ) (x : X) (es : List (ℕ × X)) → seek nat_cmp q es ≡ Some x → test x ≡ true → list_any (λ e. test e.1) es ≡ true
 any_found test q x [] h on = absurd (subst (λ (o : Option _). T (is_none o)) h tt)
@@ -391,15 +396,29 @@ not_true : (b : Bool) → not b ≡ true → b ≡ false
 not_true true h = sym h
 not_true false h = refl
 
-waker_in : (i x : ℕ) (w : Option ℕ) (s : Core) → WaitsAtHome s → may_wake x w s ≡ true → is_in_instance i s w ≡ (has_waiter x s && (set_instance x s == i))
-unfolding may_wake
-waker_in i x None s home h = sym (ap (λ b. b && (set_instance x s == i)) (not_true (has_waiter x s) h))
-waker_in i x (Some m) s home h = ap (λ k. k == i) (home x m h) ∙ sym (ap (λ b. b && (set_instance x s == i)) (waiter_is_there x m s h))
+found_passes : (test : ℕ → Bool) (ns : List ℕ) (m : ℕ) → find test ns ≡ Some m → test m ≡ true
+found_passes test [] m h = absurd (subst (λ (o : Option ℕ). T (is_none o)) h tt)
+found_passes test (n ∷ ns) m h = go (test n) refl h (found_passes test ns m)
+  where
+    go : (b : Bool) → test n ≡ b → cond b (Some n) (find test ns) ≡ Some m → (find test ns ≡ Some m → test m ≡ true) → test m ≡ true
+    go true is g rest = ap (λ o. test (unwrap_or o n)) (sym g) ∙ is
+    go false is g rest = rest g
 
-wakes_in_is : (i : ℕ) (j : Join) (w : Option ℕ) (s : Core) → WaitsAtHome s → may_wake_joined j w s ≡ true → woken_in i s j w ≡ wakes_in i s j
-wakes_in_is i (join.Set x) w s home h = waker_in i x w s home h
-wakes_in_is i join.Nowhere w s home h = refl
-wakes_in_is i (join.Watched n) w s home h = refl
+-- a set without a waiter has no first one
+no_first : (x : ℕ) (s : Core) → not (has_waiter x s) ≡ true → first_at (is_waiting_on x) s ≡ None
+no_first x s none = go (first_at (is_waiting_on x) s) refl
+  where
+    go : (o : Option ℕ) → first_at (is_waiting_on x) s ≡ o → o ≡ None
+    go None is = refl
+    go (Some m) is = absurd (subst T (sym (waiter_is_there x m s (found_passes (λ n. is_at n s (is_waiting_on x)) (numbers s.threads) m is)) ∙ not_true (has_waiter x s) none) tt)
+
+-- the waiter that is told is the one chosen, where the choice is lawful
+told_in : (i k : ℕ) (w : Option ℕ) (s : Core) (j : Join) → join_of (subtask.Guest k) s ≡ j → may_wake_joined j w s ≡ true → woken_in i s j (waiter_told k w s) ≡ woken_in i s j w
+unfolding may_wake
+told_in i k (Some m) s j at h = refl
+told_in i k None s (join.Set x) at h = ap (λ (o : Join). is_in_instance i s (first_waiter o s)) at ∙ ap (is_in_instance i s) (no_first x s h)
+told_in i k None s join.Nowhere at h = refl
+told_in i k None s (join.Watched n) at h = refl
 
 -- ---- The whole
 
@@ -407,16 +426,22 @@ told_passes : (i k : ℕ) (e : Status) (w : Option ℕ) (s : Core) (b : Bool) �
 told_passes i k e w s true = published_passes i k e w s
 told_passes i k e w s false = or_none (passes_check i s)
 
-told_lawful : (i k : ℕ) (w : Option ℕ) (s : Core) (b : Bool) → WaitsAtHome s → (if b then may_publish (subtask.Guest k) w s else is_none w) ≡ true → (b && (is_in_instance i s (blocked_on (subtask.Guest k) s) || woken_in i s (join_of (subtask.Guest k) s) w)) ≡ (b && (is_in_instance i s (blocked_on (subtask.Guest k) s) || wakes_in i s (join_of (subtask.Guest k) s)))
-unfolding may_publish
-told_lawful i k w s true home h = ap (λ c. is_in_instance i s (blocked_on (subtask.Guest k) s) || c) (wakes_in_is i (join_of (subtask.Guest k) s) w s home h)
-told_lawful i k w s false home h = refl
+-- what gives an entry to a thread of the instance, as the call's end is told
+abbrev TellsIn : ℕ → ℕ → Option ℕ → Core → Bool → Bool
+TellsIn i k w s b = b && (is_in_instance i s (blocked_on (subtask.Guest k) s) || woken_in i s (join_of (subtask.Guest k) s) w)
 
-pub blocking_check : BlockingCheckIsAfter
-unfolding set_do_not_enter on_instance returned told end_reopens held_by_flag passes_after_return may_tell
-blocking_check n v w s order home lawful perm =
+told_lawful : (i k : ℕ) (w : Option ℕ) (s : Core) (b : Bool) → (if b then may_publish (subtask.Guest k) w s else is_none w) ≡ true → TellsIn i k (waiter_told k w s) s b ≡ TellsIn i k w s b
+unfolding may_publish
+told_lawful i k w s true h = ap (λ c. is_in_instance i s (blocked_on (subtask.Guest k) s) || c) (told_in i k w s (join_of (subtask.Guest k) s) refl h)
+told_lawful i k w s false h = refl
+
+-- the check after the release, in any order, and the return
+returned_passes : (n : ℕ) (w : Option ℕ) (s : Core) (order : List ℕ) → IsPermutation (held_by_flag (instance_of n s) s) order → passes_check (instance_of n s) (blocking_returned n w order s) ≡ ((passes_check (instance_of n s) s || not (is_nil (held_by_flag (instance_of n s) s))) || TellsIn (instance_of n s) (task_of n s) w s (is_told (task_of n s) s))
+unfolding set_do_not_enter on_instance returned told end_reopens held_by_flag
+returned_passes n w s order perm =
     let i = instance_of n s in
     let k = task_of n s in
+    let v = register_of n 0 s in
     let d = set_do_not_enter i false s in
     let u = released order d in
     let e = set_end k call_end.Returned u in
@@ -425,14 +450,21 @@ blocking_check n v w s order home lawful perm =
     let tells = tells_trans k s u t (tells_let_in k i order s) (tells_trans k u e t (tells_end k k call_end.Returned u) (tells_given k (goal_of k u) (caller_of k u) k v e)) in
     let at_home : (m : ℕ) → instance_of m t ≡ instance_of m s = λ m. same.instances m ∙ (released_leaves (instance_of m) (place_instance m) (high_instance m) order d ∙ enter_instance i m s) in
     told_passes i k status.Returned w t (is_told k t)
-    ∙ (ap₂ (λ (p q : Bool). p || q)
+    ∙ ap₂ (λ (p q : Bool). p || q)
     (same_passes_too i k u t same ∙ (release_passes i order d (ordered_first i d order perm) ∙ ap₂ (λ (a b : Bool). a || not b) (enter_passes i false s) (same_nil (admitted_held i d) order (length_permutation (admitted_held i d) order perm))))
     (ap₂ (λ (a b : Bool). a && b) tells.told
     (ap₂ (λ (a b : Bool). a || b)
     (in_instance_is i s t at_home (blocked_on (subtask.Guest k) t) ∙ ap (is_in_instance i s) tells.blocked)
-    (woken_in_is i s t at_home (join_of (subtask.Guest k) t) w ∙ ap (λ j. woken_in i s j w) tells.joins))
-    ∙ told_lawful i k w s (is_told k s) home lawful)
-    ∙ or_assoc_right (passes_check i s) (not (is_nil (admitted_held i d))) (is_told k s && (is_in_instance i s (blocked_on (subtask.Guest k) s) || wakes_in i s (join_of (subtask.Guest k) s))))
+    (woken_in_is i s t at_home (join_of (subtask.Guest k) t) w ∙ ap (λ j. woken_in i s j w) tells.joins)))
   where
     enter_instance : (j m : ℕ) (c : Core) → instance_of m (set_do_not_enter j false c) ≡ instance_of m c
     enter_instance j m c = refl
+
+pub blocking_check : BlockingCheckIsAfter
+unfolding passes_after_return may_tell
+blocking_check n w s order lawful perm =
+    let i = instance_of n s in
+    let k = task_of n s in
+    returned_passes n w s order perm
+    ∙ (ap (λ (b : Bool). (passes_check i s || not (is_nil (held_by_flag i s))) || b) (sym (told_lawful i k w s (is_told k s) lawful))
+    ∙ sym (returned_passes n (waiter_told k w s) s (held_by_flag i s) (IsPermutation-refl (held_by_flag i s))))

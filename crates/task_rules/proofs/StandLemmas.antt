@@ -1,6 +1,6 @@
 -- Threads and their entries, counted; what the words that put a thread do to them.
-use Rattle.std.proofs.Common.{◌∙◌, T, ap, arith, cond, eqb→eq, refl, subst, sym}
-use Rattle.std.specs.Prelude.{Bool, List, None, Option, Some, [], false, if◌then◌else◌, option_map, true, ℕ, ◌++◌, ◌+◌, ◌==◌, ◌||◌, ◌∷◌, ◌≡◌, ◌≢◌, ◌≤◌}
+use Rattle.std.proofs.Common.{◌∙◌, T, ap, ap₂, arith, cond, eqb→eq, refl, subst, sym}
+use Rattle.std.specs.Prelude.{Bool, List, None, Option, Some, [], false, if◌then◌else◌, is_some, option_map, true, ℕ, ◌++◌, ◌+◌, ◌==◌, ◌||◌, ◌∷◌, ◌≡◌, ◌≢◌, ◌≤◌}
 use Rattle.task_machine.specs.declared.records.Entry.{Entry}
 use Rattle.task_machine.specs.declared.records.Place.{Place}
 use Rattle.task_machine.specs.declared.records.Thread.{Thread}
@@ -8,6 +8,7 @@ use Rattle.task_machine.specs.declared.records.Why.{Why}
 use Rattle.task_machine.specs.declared.records.Entry.TheVariants as entry
 use Rattle.task_machine.specs.declared.words.Mark.TheVariants as mark
 use Rattle.task_machine.specs.declared.records.Place.TheVariants as place
+use Rattle.task_machine.proofs.CommuteLemmas.{get-change}
 use Rattle.task_machine.proofs.MapLemmas.{get-change_other, get-change_same}
 use Rattle.task_machine.specs.Core.{Core}
 use Rattle.task_machine.specs.Maps.{get}
@@ -15,7 +16,7 @@ use Rattle.task_machine.specs.Moves.{has_entry, less, newest, older, put_high, p
 use Rattle.task_machine.specs.Read.{callers_of, is_entry_of, place_of}
 use Rattle.task_machine.specs.Write.{on_thread, push_high, push_low, set_place}
 use Rattle.task_rules.specs.Laws.{is_free}
-use Rattle.task_rules.specs.Places.{HasPlace, entries, is_at_high, is_at_low, is_at_switch, is_behind_of, one_if, says, switch_entries, times}
+use Rattle.task_rules.specs.Places.{HasPlace, entries, is_at_high, is_at_low, is_at_switch, is_behind_of, is_there, one_if, says, switch_entries, times}
 
 -- ---- Numbers and lists
 
@@ -81,9 +82,27 @@ pub place_kept : (k m : ℕ) (p : Place) (s : Core) → (k == m) ≡ false → p
 unfolding set_place on_thread
 place_kept k m p s h = ap (option_map (λ (t : Thread). t.place)) (get-change_other s.threads m (λ t. record t { place = p }) k (not_eq k m h))
 
+pub set_place_is : (k m : ℕ) (p : Place) (s : Core) → place_of k (set_place m p s) ≡ cond (k == m) (option_map (λ (q : Place). p) (place_of k s)) (place_of k s)
+unfolding set_place on_thread
+set_place_is k m p s = ap (option_map (λ (t : Thread). t.place)) (get-change m (λ t. record t { place = p }) s.threads k) ∙ go (k == m) (get s.threads k)
+  where
+    go : (b : Bool) (o : Option Thread) → option_map (λ (t : Thread). t.place) (cond b (option_map (λ (t : Thread). record t { place = p }) o) o) ≡ cond b (option_map (λ (q : Place). p) (option_map (λ (t : Thread). t.place) o)) (option_map (λ (t : Thread). t.place) o)
+    go true None = refl
+    go true (Some t) = refl
+    go false o = refl
+
+pub set_place_there : (k m : ℕ) (p : Place) (s : Core) → is_there k (set_place m p s) ≡ is_there k s
+set_place_there k m p s = ap (λ (o : Option Place). is_some o) (set_place_is k m p s) ∙ go (k == m) (place_of k s)
+  where
+    go : (b : Bool) (o : Option Place) → is_some (cond b (option_map (λ (q : Place). p) o) o) ≡ is_some o
+    go true None = refl
+    go true (Some q) = refl
+    go false o = refl
+
 -- ---- Threads that have no entry and are among no callers
 
 pub record Loose (n : ℕ) (s : Core) : Type 0 where
+  pub number : is_there n s ≡ true → n ≤ s.made.threads
   pub switch : switch_entries n s.queues.switch ≡ 0
   pub high : entries n s.queues.high ≡ 0
   pub low : entries n s.queues.low ≡ 0
@@ -94,18 +113,30 @@ free_says (place.Ready m w) h = absurd (subst T (sym h) tt)
 free_says (place.Behind f) h = absurd (subst T (sym h) tt)
 free_says _ h = (refl, refl, refl, λ f. refl)
 
-none_below : (n : ℕ) → n ≤ 0 → n ≡ 0
-none_below n h = omega (arith, h)
+-- what is said of the callers of a thread that may be gone
+pub none_there : (b : Bool) (x : ℕ) → x ≡ 0 → (if b then x else 0) ≡ 0
+none_there true x h = h
+none_there false x h = refl
+
+pub says_gone : (test : Place → Bool) (o : Option Place) → o ≡ None → says test o ≡ 0
+says_gone test o e = ap (says test) e
+
+pub zero_one : {A : Type 0} {x : ℕ} → x ≡ 0 → x ≡ 1 → A
+zero_one {A = A} h g = absurd (no_one h g)
+  where
+    no_one : {x : ℕ} → x ≡ 0 → x ≡ 1 → ⊥
+    no_one y z = omega (arith, y, z)
 
 -- a thread whose place says nothing is loose
 pub free_loose : (n : ℕ) (p : Place) (s : Core) → place_of n s ≡ Some p → is_free p ≡ true → HasPlace n s → Loose n s
 free_loose n p s is free h =
     let f = free_says p free in
     record {
+      number = h.number;
       switch = h.switch ∙ (ap (says is_at_switch) is ∙ f.0);
       high = h.high ∙ (ap (says is_at_high) is ∙ f.1);
       low = h.low ∙ (ap (says is_at_low) is ∙ f.2);
-      callers = λ g. none_below _ (subst (λ (k : ℕ). times n (callers_of g s) ≤ k) (ap (says (is_behind_of g)) is ∙ f.3 g) (h.callers g));
+      callers = λ g. h.callers g ∙ none_there (is_there g s) _ (ap (says (is_behind_of g)) is ∙ f.3 g);
     }
 
 -- a loose thread has its place, if that says nothing
@@ -113,20 +144,32 @@ pub loose_free : (n : ℕ) (p : Place) (s : Core) → place_of n s ≡ Some p �
 loose_free n p s is free h =
     let f = free_says p free in
     record {
+      number = h.number;
+      behind = λ g e. zero_one (ap (says (is_behind_of g)) is ∙ f.3 g) e;
       switch = h.switch ∙ sym (ap (says is_at_switch) is ∙ f.0);
       high = h.high ∙ sym (ap (says is_at_high) is ∙ f.1);
       low = h.low ∙ sym (ap (says is_at_low) is ∙ f.2);
-      callers = λ g. let z = h.callers g in omega (arith, z);
+      callers = λ g. h.callers g ∙ sym (none_there (is_there g s) _ (ap (says (is_behind_of g)) is ∙ f.3 g));
     }
 
 -- a loose thread that is gone has its place
 pub loose_gone : (n : ℕ) (s : Core) → place_of n s ≡ None → Loose n s → HasPlace n s
 loose_gone n s is h = record {
+  number = h.number;
+  behind = λ g e. zero_one (ap (says (is_behind_of g)) is) e;
   switch = h.switch ∙ sym (ap (says is_at_switch) is);
   high = h.high ∙ sym (ap (says is_at_high) is);
   low = h.low ∙ sym (ap (says is_at_low) is);
-  callers = λ g. let z = h.callers g in omega (arith, z);
+  callers = λ g. h.callers g ∙ sym (none_there (is_there g s) _ (ap (says (is_behind_of g)) is));
 }
+
+-- who is among the callers of f is behind f
+pub callers_say : (n f : ℕ) (s : Core) → HasPlace n s → times n (callers_of f s) ≤ says (is_behind_of f) (place_of n s)
+callers_say n f s h = only (is_there f s) (h.callers f)
+  where
+    only : (b : Bool) → times n (callers_of f s) ≡ (if b then says (is_behind_of f) (place_of n s) else 0) → times n (callers_of f s) ≤ says (is_behind_of f) (place_of n s)
+    only true e = omega (arith, e)
+    only false e = omega (arith, e)
 
 -- ---- A state in which n and some others are loose, and all the rest have their places
 
@@ -141,10 +184,17 @@ pub record Stand (n : ℕ) (q : Place) (xs : List ℕ) (s : Core) : Type 0 where
 abbrev pub gain : ℕ → ℕ → ℕ → ℕ
 gain k m x = if k == m then x else 0
 
--- From s to t the thread m comes to the place p, with just what p says, and all else stays.
+-- there is a thread with the number, which was given
+abbrev pub Given : ℕ → Core → Type 0
+Given f s = (is_there f s ≡ true) × (f ≤ s.made.threads)
+
+-- From s to t the thread m comes to the place p, with just what p says, and all else stays. Whom it is put behind is there.
 pub record Adds (m : ℕ) (p : Place) (s t : Core) : Type 0 where
+  pub made : s.made.threads ≡ t.made.threads
+  pub was : is_there m s ≡ true
   pub own : place_of m t ≡ Some p
   pub other : (k : ℕ) → (k == m) ≡ false → place_of k t ≡ place_of k s
+  pub behind : (f : ℕ) → is_behind_of f p ≡ true → Given f s
   pub switch : (k : ℕ) → switch_entries k t.queues.switch ≡ switch_entries k s.queues.switch + gain k m (one_if (is_at_switch p))
   pub high : (k : ℕ) → entries k t.queues.high ≡ entries k s.queues.high + gain k m (one_if (is_at_high p))
   pub low : (k : ℕ) → entries k t.queues.low ≡ entries k s.queues.low + gain k m (one_if (is_at_low p))
@@ -162,32 +212,54 @@ from_none a b c x e f g = omega (arith, e, f, g)
 no_more : (a b c x : ℕ) → a ≡ b + c → b ≡ x → c ≡ 0 → a ≡ x
 no_more a b c x e f g = omega (arith, e, f, g)
 
-at_most : (a b c x : ℕ) → a ≡ b + c → b ≤ x → c ≡ 0 → a ≤ x
-at_most a b c x e f g = omega (arith, e, f, g)
+-- the same threads are there
+pub adds_there : (m : ℕ) (p : Place) (s t : Core) → Adds m p s t → (k : ℕ) → is_there k t ≡ is_there k s
+adds_there m p s t a k =
+    by_number k m (is_there k t ≡ is_there k s)
+    (λ e. ap (λ (j : ℕ). is_there j t) e ∙ (ap (λ (o : Option Place). is_some o) a.own ∙ (sym a.was ∙ ap (λ (j : ℕ). is_there j s) (sym e))))
+    (λ e. ap (λ (o : Option Place). is_some o) (a.other k e))
+
+pub adds_given : (m : ℕ) (p : Place) (s t : Core) → Adds m p s t → (f : ℕ) → Given f s → Given f t
+adds_given m p s t a f g = (adds_there m p s t a f ∙ g.0, subst (λ (c : ℕ). f ≤ c) a.made g.1)
+
+only_there : (b c : Bool) → (b ≡ true → c ≡ true) → one_if b ≡ (if c then one_if b else 0)
+only_there b true h = refl
+only_there false false h = refl
+only_there true false h = absurd (subst T (sym (h refl)) tt)
+
+is_one : (b : Bool) → one_if b ≡ 1 → b ≡ true
+is_one true h = refl
+is_one false h = zero_one refl h
 
 -- the moved thread has its place
 pub adds_own : (m : ℕ) (p : Place) (s t : Core) → Adds m p s t → Loose m s → HasPlace m t
 adds_own m p s t a l = record {
+  number = λ h. subst (λ (c : ℕ). m ≤ c) a.made (l.number a.was);
+  behind = λ f h. (adds_given m p s t a f (a.behind f (is_one (is_behind_of f p) (sym (ap (says (is_behind_of f)) a.own) ∙ h)))).1;
   switch = from_none _ _ _ _ (a.switch m) l.switch (gain_own m _) ∙ sym (ap (says is_at_switch) a.own);
   high = from_none _ _ _ _ (a.high m) l.high (gain_own m _) ∙ sym (ap (says is_at_high) a.own);
   low = from_none _ _ _ _ (a.low m) l.low (gain_own m _) ∙ sym (ap (says is_at_low) a.own);
-  callers = λ f. subst (λ (k : ℕ). times m (callers_of f t) ≤ k) (sym (ap (says (is_behind_of f)) a.own)) (le_of_eq (from_none _ _ _ _ (a.callers m f) (l.callers f) (gain_own m _)));
+  callers =
+      λ f. from_none _ _ _ _ (a.callers m f) (l.callers f) (gain_own m _)
+      ∙ (only_there (is_behind_of f p) (is_there f t) (λ h. adds_there m p s t a f ∙ (a.behind f h).0) ∙ ap (λ (o : Option Place). if is_there f t then says (is_behind_of f) o else 0) (sym a.own));
 }
-  where
-    le_of_eq : {x y : ℕ} → x ≡ y → x ≤ y
-    le_of_eq e = omega (arith, e)
 
 -- the others keep what they had
 pub adds_other : (k m : ℕ) (p : Place) (s t : Core) → (k == m) ≡ false → Adds m p s t → HasPlace k s → HasPlace k t
 adds_other k m p s t ne a h = record {
+  number = λ e. subst (λ (c : ℕ). k ≤ c) a.made (h.number (sym (adds_there m p s t a k) ∙ e));
+  behind = λ f e. subst (λ (c : ℕ). f ≤ c) a.made (h.behind f (sym (ap (says (is_behind_of f)) (a.other k ne)) ∙ e));
   switch = no_more _ _ _ _ (a.switch k) h.switch (gain_other k m _ ne) ∙ sym (ap (says is_at_switch) (a.other k ne));
   high = no_more _ _ _ _ (a.high k) h.high (gain_other k m _ ne) ∙ sym (ap (says is_at_high) (a.other k ne));
   low = no_more _ _ _ _ (a.low k) h.low (gain_other k m _ ne) ∙ sym (ap (says is_at_low) (a.other k ne));
-  callers = λ f. subst (λ (j : ℕ). times k (callers_of f t) ≤ j) (sym (ap (says (is_behind_of f)) (a.other k ne))) (at_most _ _ _ _ (a.callers k f) (h.callers f) (gain_other k m _ ne));
+  callers =
+      λ f. no_more _ _ _ _ (a.callers k f) (h.callers f) (gain_other k m _ ne)
+      ∙ ap₂ (λ (b : Bool) (o : Option Place). if b then says (is_behind_of f) o else 0) (sym (adds_there m p s t a f)) (sym (a.other k ne));
 }
 
 pub adds_loose : (k m : ℕ) (p : Place) (s t : Core) → (k == m) ≡ false → Adds m p s t → Loose k s → Loose k t
 adds_loose k m p s t ne a l = record {
+  number = λ e. subst (λ (c : ℕ). k ≤ c) a.made (l.number (sym (adds_there m p s t a k) ∙ e));
   switch = no_more _ _ _ _ (a.switch k) l.switch (gain_other k m _ ne);
   high = no_more _ _ _ _ (a.high k) l.high (gain_other k m _ ne);
   low = no_more _ _ _ _ (a.low k) l.low (gain_other k m _ ne);
@@ -294,6 +366,9 @@ plus_one k m x y h = h ∙ ap (λ z. x + z) (one_is (k == m))
 pub put_high_adds : (m : ℕ) (w : Why) (r : Place) (s : Core) → place_of m s ≡ Some r → Adds m (place.Ready mark.High w) s (put_high m w s)
 unfolding put_high push_high set_place on_thread
 put_high_adds m w r s is = record {
+  made = refl;
+  was = ap (λ (o : Option Place). is_some o) is;
+  behind = λ f h. absurd (subst T (sym h) tt);
   own = place_written m (place.Ready mark.High w) r s is;
   other = λ k e. place_kept k m (place.Ready mark.High w) s e;
   switch = λ k. plus_none k m _;
@@ -305,6 +380,9 @@ put_high_adds m w r s is = record {
 pub put_low_adds : (m : ℕ) (w : Why) (r : Place) (s : Core) → place_of m s ≡ Some r → Adds m (place.Ready mark.Low w) s (put_low m w s)
 unfolding put_low push_low set_place on_thread
 put_low_adds m w r s is = record {
+  made = refl;
+  was = ap (λ (o : Option Place). is_some o) is;
+  behind = λ f h. absurd (subst T (sym h) tt);
   own = place_written m (place.Ready mark.Low w) r s is;
   other = λ k e. place_kept k m (place.Ready mark.Low w) s e;
   switch = λ k. plus_none k m _;
@@ -318,6 +396,9 @@ unfolding set_place on_thread
 set_place_adds m p r s free is =
     let f = free_says p free in
     record {
+      made = refl;
+      was = ap (λ (o : Option Place). is_some o) is;
+      behind = λ g h. zero_one (f.3 g) (ap one_if h);
       own = place_written m p r s is;
       other = λ k e. place_kept k m p s e;
       switch = λ k. plus_none k m _ ∙ ap (λ z. switch_entries k s.queues.switch + gain k m z) (sym f.0);

@@ -1,18 +1,19 @@
 -- What the moves that put threads, and a stop, do to places and entries.
-use Rattle.std.proofs.Common.{◌∙◌, T, ap, arith, cond, refl, subst, sym}
-use Rattle.std.specs.Prelude.{Bool, List, None, Option, Some, [], false, suc, true, unwrap_or, zero, ℕ, ◌++◌, ◌+◌, ◌==◌, ◌∷◌, ◌≡◌, ◌≤◌}
+use Rattle.std.proofs.Common.{◌∙◌, T, ap, ap₂, arith, cond, le_refl, le_trans, refl, subst, sym}
+use Rattle.std.specs.Option.{option_map_or}
+use Rattle.std.specs.Prelude.{Bool, List, None, Option, Some, [], false, find, if◌then◌else◌, is_some, suc, true, unwrap_or, zero, ℕ, ◌++◌, ◌+◌, ◌==◌, ◌∷◌, ◌≡◌, ◌≤◌}
 use Rattle.task_machine.specs.declared.records.Place.{Place}
 use Rattle.task_machine.specs.declared.records.Why.{Why}
 use Rattle.task_machine.specs.declared.words.Mark.TheVariants as mark
 use Rattle.task_machine.specs.declared.records.Place.TheVariants as place
 use Rattle.task_machine.specs.declared.records.Why.TheVariants as why
 use Rattle.task_machine.specs.Core.{Core, Queues}
-use Rattle.task_machine.specs.Maps.{Records, get, get-insert, insert}
+use Rattle.task_machine.specs.Maps.{Records, get, get-insert, insert, numbers, size}
 use Rattle.task_machine.specs.Moves.{behind, behind_one, displaced, newest, older, passed_on, put_high, put_low, put_switch, resumed_all, resumed_callers, stand, stopped, why_of}
-use Rattle.task_machine.specs.Read.{callers_of, foot_of, place_of}
+use Rattle.task_machine.specs.Read.{callers_of, foot_from, foot_of, is_at, is_under, place_of, under_of}
 use Rattle.task_machine.specs.Write.{on_thread, push_high_first, set_callers, set_place, set_switch}
-use Rattle.task_rules.proofs.StandLemmas.{Adds, Loose, Stand, adds_stand, by_number, eq_refl, gain, is_eq_of, place_kept, place_written, plus_none, plus_one, put_high_adds, put_low_adds, times-append, times-newest}
-use Rattle.task_rules.specs.Places.{HasPlace, entries, is_at_high, is_at_low, is_at_switch, is_behind_of, one_if, says, switch_entries, times}
+use Rattle.task_rules.proofs.StandLemmas.{Adds, Given, Loose, Stand, adds_given, adds_stand, by_number, callers_say, none_there, zero_one, eq_refl, gain, is_eq_of, place_kept, place_written, plus_none, plus_one, put_high_adds, put_low_adds, times-append, times-newest}
+use Rattle.task_rules.specs.Places.{HasPlace, entries, is_at_high, is_at_low, is_at_switch, is_behind_of, is_there, one_if, says, switch_entries, times}
 
 -- ---- What leaves every place and every entry alone
 
@@ -20,17 +21,26 @@ pub record Untouched (s t : Core) : Type 0 where
   pub places : (k : ℕ) → place_of k t ≡ place_of k s
   pub queues : t.queues ≡ s.queues
   pub callers : t.callers ≡ s.callers
+  pub made : s.made.threads ≤ t.made.threads
+
+pub untouched_there : (s t : Core) → Untouched s t → (k : ℕ) → is_there k t ≡ is_there k s
+untouched_there s t q k = ap (λ (o : Option Place). is_some o) (q.places k)
 
 pub quiet_placed : (k : ℕ) (s t : Core) → Untouched s t → HasPlace k s → HasPlace k t
 quiet_placed k s t q h = record {
+  number = λ e. le_trans (h.number (sym (untouched_there s t q k) ∙ e)) q.made;
+  behind = λ f e. le_trans (h.behind f (sym (ap (says (is_behind_of f)) (q.places k)) ∙ e)) q.made;
   switch = ap (λ (x : Queues). switch_entries k x.switch) q.queues ∙ (h.switch ∙ ap (says is_at_switch) (sym (q.places k)));
   high = ap (λ (x : Queues). entries k x.high) q.queues ∙ (h.high ∙ ap (says is_at_high) (sym (q.places k)));
   low = ap (λ (x : Queues). entries k x.low) q.queues ∙ (h.low ∙ ap (says is_at_low) (sym (q.places k)));
-  callers = λ f. subst (λ (m : Records (List ℕ)). times k (unwrap_or (get m f) []) ≤ says (is_behind_of f) (place_of k t)) (sym q.callers) (subst (λ (o : Option Place). times k (callers_of f s) ≤ says (is_behind_of f) o) (sym (q.places k)) (h.callers f));
+  callers =
+      λ f. ap (λ (m : Records (List ℕ)). times k (unwrap_or (get m f) [])) q.callers
+      ∙ (h.callers f ∙ ap₂ (λ (b : Bool) (o : Option Place). if b then says (is_behind_of f) o else 0) (sym (untouched_there s t q f)) (sym (q.places k)));
 }
 
 pub quiet_loose : (k : ℕ) (s t : Core) → Untouched s t → Loose k s → Loose k t
 quiet_loose k s t q l = record {
+  number = λ e. le_trans (l.number (sym (untouched_there s t q k) ∙ e)) q.made;
   switch = ap (λ (x : Queues). switch_entries k x.switch) q.queues ∙ l.switch;
   high = ap (λ (x : Queues). entries k x.high) q.queues ∙ l.high;
   low = ap (λ (x : Queues). entries k x.low) q.queues ∙ l.low;
@@ -55,9 +65,12 @@ insert_get f g ns m = ap (λ o. unwrap_or o []) (get-insert m g ns f) ∙ unwrap
     unwrap_cond true = refl
     unwrap_cond false = refl
 
-pub behind_adds : (g m : ℕ) (r : Place) (s : Core) → place_of m s ≡ Some r → Adds m (place.Behind g) s (behind_one g m s)
+pub behind_adds : (g m : ℕ) (r : Place) (s : Core) → Given g s → place_of m s ≡ Some r → Adds m (place.Behind g) s (behind_one g m s)
 unfolding behind_one set_callers set_place on_thread
-behind_adds g m r s is = record {
+behind_adds g m r s given is = record {
+  made = refl;
+  was = ap (λ (o : Option Place). is_some o) is;
+  behind = λ f e. subst (λ (j : ℕ). Given j s) (sym (is_eq_of f g e)) given;
   own = place_written m (place.Behind g) r s is;
   other = λ k e. place_kept k m (place.Behind g) s e;
   switch = λ k. plus_none k m _;
@@ -89,6 +102,9 @@ put_switch_is m w s = refl
 switch_adds : (m : ℕ) (w : Why) (r : Place) (s : Core) → s.queues.switch ≡ None → place_of m s ≡ Some r → Adds m (place.Ready mark.Switch w) s (set_switch (Some m) (stand m mark.Switch w s))
 unfolding set_switch set_place on_thread
 switch_adds m w r s none is = record {
+  made = refl;
+  was = ap (λ (o : Option Place). is_some o) is;
+  behind = λ f h. absurd (subst T (sym h) tt);
   own = place_written m (place.Ready mark.Switch w) r s is;
   other = λ k e. place_kept k m (place.Ready mark.Switch w) s e;
   switch = λ k. plus_one k m _ _ (refl ∙ (sym (zero_add (one_if (k == m))) ∙ ap (λ (o : Option ℕ). switch_entries k o + one_if (k == m)) (sym none)));
@@ -112,7 +128,7 @@ unfolding set_switch push_high_first set_place on_thread
 displaced_stand n q xs s None is st = quiet_stand n q xs s _ (no_change s is) st
   where
     no_change : (u : Core) → u.queues.switch ≡ None → Untouched u (set_switch None u)
-    no_change u e = record { places = λ k. refl; queues = ap (λ (x : Option ℕ). record { switch = x; high = u.queues.high; low = u.queues.low }) (sym e); callers = refl }
+    no_change u e = record { places = λ k. refl; queues = ap (λ (x : Option ℕ). record { switch = x; high = u.queues.high; low = u.queues.low }) (sym e); callers = refl; made = le_refl _ }
 displaced_stand n q xs s (Some j) is st = record {
   here = kept n (apart n (st.once n) n_one) ∙ st.here;
   once = st.once;
@@ -158,17 +174,6 @@ displaced_stand n q xs s (Some j) is st = record {
     kept : (k : ℕ) → (k == j) ≡ false → place_of k t ≡ place_of k s
     kept k e = place_kept k j _ s e
 
-    stays : (k : ℕ) → (k == j) ≡ false → HasPlace k s → HasPlace k t
-    stays k e h = record {
-      switch = sym (ap one_if e) ∙ (ap (switch_entries k) (sym is) ∙ (h.switch ∙ ap (says is_at_switch) (sym (kept k e))));
-      high = front_none (k == j) _ _ e (h.high ∙ ap (says is_at_high) (sym (kept k e)));
-      low = h.low ∙ ap (says is_at_low) (sym (kept k e));
-      callers = λ f. subst (λ (o : Option Place). times k (callers_of f s) ≤ says (is_behind_of f) o) (sym (kept k e)) (h.callers f);
-    }
-
-    stays_loose : (k : ℕ) → (k == j) ≡ false → Loose k s → Loose k t
-    stays_loose k e l = record { switch = refl; high = front_none (k == j) _ _ e l.high; low = l.low; callers = l.callers }
-
     -- what stood at switch is ready there
     ready : HasPlace j s → (w : Why) × (place_of j s ≡ Some (place.Ready mark.Switch w))
     ready h = of_place (place_of j s) refl (sym (ap one_if (eq_refl j)) ∙ (ap (switch_entries j) (sym is) ∙ h.switch))
@@ -190,19 +195,39 @@ displaced_stand n q xs s (Some j) is st = record {
         of_place (Some (place.Held x)) e z = absurd (one_zero z)
         of_place (Some place.Suspended) e z = absurd (one_zero z)
 
+    -- the same threads are there
+    same_there : (k : ℕ) → is_there k t ≡ is_there k s
+    same_there k =
+        let w = ready (st.placed j j_none) in
+        by_number k j (is_there k t ≡ is_there k s)
+        (λ e. ap (λ (i : ℕ). is_there i t) e ∙ (ap (λ (o : Option Place). is_some o) (place_written j (place.Ready mark.High (why_of j s)) _ s w.1) ∙ (sym (ap (λ (o : Option Place). is_some o) w.1) ∙ ap (λ (i : ℕ). is_there i s) (sym e))))
+        (λ e. ap (λ (o : Option Place). is_some o) (kept k e))
+
+    stays : (k : ℕ) → (k == j) ≡ false → HasPlace k s → HasPlace k t
+    stays k e h = record {
+      number = λ g. h.number (sym (same_there k) ∙ g);
+      behind = λ f g. h.behind f (sym (ap (says (is_behind_of f)) (kept k e)) ∙ g);
+      switch = sym (ap one_if e) ∙ (ap (switch_entries k) (sym is) ∙ (h.switch ∙ ap (says is_at_switch) (sym (kept k e))));
+      high = front_none (k == j) _ _ e (h.high ∙ ap (says is_at_high) (sym (kept k e)));
+      low = h.low ∙ ap (says is_at_low) (sym (kept k e));
+      callers = λ f. h.callers f ∙ ap₂ (λ (b : Bool) (o : Option Place). if b then says (is_behind_of f) o else 0) (sym (same_there f)) (sym (kept k e));
+    }
+
+    stays_loose : (k : ℕ) → (k == j) ≡ false → Loose k s → Loose k t
+    stays_loose k e l = record { number = λ g. l.number (sym (same_there k) ∙ g); switch = refl; high = front_none (k == j) _ _ e l.high; low = l.low; callers = l.callers }
+
     at_front : HasPlace j s → HasPlace j t
     at_front h =
         let w = ready h in
         let own = place_written j (place.Ready mark.High (why_of j s)) _ s w.1 in
         record {
+          number = λ g. h.number (sym (same_there j) ∙ g);
+          behind = λ f g. zero_one (ap (says (is_behind_of f)) own) g;
           switch = sym (ap (says is_at_switch) own);
           high = front_one (j == j) _ (eq_refl j) (h.high ∙ ap (says is_at_high) w.1) ∙ sym (ap (says is_at_high) own);
           low = h.low ∙ (ap (says is_at_low) w.1 ∙ sym (ap (says is_at_low) own));
-          callers = λ f. none_still f (subst (λ (o : Option Place). times j (callers_of f s) ≤ says (is_behind_of f) o) w.1 (h.callers f));
+          callers = λ f. (h.callers f ∙ none_there (is_there f s) _ (ap (says (is_behind_of f)) w.1)) ∙ sym (none_there (is_there f t) _ (ap (says (is_behind_of f)) own));
         }
-      where
-        none_still : (f : ℕ) → times j (callers_of f s) ≤ 0 → times j (callers_of f s) ≤ says (is_behind_of f) (place_of j t)
-        none_still f z = omega (arith, z)
 
 pub put_switch_stand : (n : ℕ) (q : Place) (m : ℕ) (xs : List ℕ) (w : Why) (s : Core) → times m xs ≡ 0 → Stand n q (m ∷ xs) s → Stand n q xs (put_switch m w s)
 unfolding set_switch
@@ -233,10 +258,10 @@ put_low_stand n q m xs w s none st =
     once_there : times m xs ≡ 0 → times m (m ∷ xs) ≡ 1
     once_there z = let x = ap one_if (eq_refl m) in omega (arith, x, z)
 
-pub behind_stand : (n : ℕ) (q : Place) (g m : ℕ) (xs : List ℕ) (s : Core) → times m xs ≡ 0 → Stand n q (m ∷ xs) s → Stand n q xs (behind_one g m s)
-behind_stand n q g m xs s none st =
+pub behind_stand : (n : ℕ) (q : Place) (g m : ℕ) (xs : List ℕ) (s : Core) → Given g s → times m xs ≡ 0 → Stand n q (m ∷ xs) s → Stand n q xs (behind_one g m s)
+behind_stand n q g m xs s given none st =
     let p = st.there m (once_there none) in
-    adds_stand n q m xs (place.Behind g) s _ (behind_adds g m p.0 s p.1) st
+    adds_stand n q m xs (place.Behind g) s _ (behind_adds g m p.0 s given p.1) st
   where
     once_there : times m xs ≡ 0 → times m (m ∷ xs) ≡ 1
     once_there z = let x = ap one_if (eq_refl m) in omega (arith, x, z)
@@ -260,9 +285,15 @@ resumed_all_stand : (n : ℕ) (q : Place) (xs : List ℕ) (s : Core) → Stand n
 resumed_all_stand n q [] s st = st
 resumed_all_stand n q (m ∷ xs) s st = resumed_all_stand n q xs (put_high m why.Resumption s) (put_high_stand n q m xs why.Resumption s (head_none n q m xs s st) st)
 
-behind_all_stand : (n : ℕ) (q : Place) (g : ℕ) (xs : List ℕ) (s : Core) → Stand n q xs s → Stand n q [] (behind g xs s)
-behind_all_stand n q g [] s st = st
-behind_all_stand n q g (m ∷ xs) s st = behind_all_stand n q g xs (behind_one g m s) (behind_stand n q g m xs s (head_none n q m xs s st) st)
+behind_all_stand : (n : ℕ) (q : Place) (g : ℕ) (xs : List ℕ) (s : Core) → Given g s → Stand n q xs s → Stand n q [] (behind g xs s)
+behind_all_stand n q g [] s given st = st
+behind_all_stand n q g (m ∷ xs) s given st =
+    let none = head_none n q m xs s st in
+    let p = st.there m (own_one m xs none) in
+    behind_all_stand n q g xs (behind_one g m s) (adds_given m (place.Behind g) s (behind_one g m s) (behind_adds g m p.0 s given p.1) g given) (behind_stand n q g m xs s given none st)
+  where
+    own_one : (m : ℕ) (xs : List ℕ) → times m xs ≡ 0 → times m (m ∷ xs) ≡ 1
+    own_one m xs z = let x = ap one_if (eq_refl m) in omega (arith, x, z)
 
 resumed_callers_stand : (n : ℕ) (q : Place) (xs : List ℕ) (s : Core) → Stand n q xs s → Stand n q [] (resumed_callers xs s)
 resumed_callers_stand n q [] s st = st
@@ -273,9 +304,72 @@ resumed_callers_stand n q (m ∷ xs) s st =
     swap_sum : (a b : ℕ) → a + b ≡ b + a
     swap_sum a b = omega arith
 
-passed_on_stand : (n : ℕ) (q : Place) (o : Option ℕ) (xs : List ℕ) (s : Core) → Stand n q xs s → Stand n q [] (passed_on o xs s)
-passed_on_stand n q (Some m) xs s st = behind_all_stand n q (foot_of m s) xs s st
-passed_on_stand n q None xs s st = resumed_callers_stand n q xs s st
+-- a thread is loose or has its place, so its number was given
+pub given_there : (n : ℕ) (q : Place) (xs : List ℕ) (s : Core) → Stand n q xs s → (k : ℕ) → is_there k s ≡ true → Given k s
+given_there n q xs s st k h = (h, by_times (times k (n ∷ xs)) refl (st.once k))
+  where
+    by_times : (c : ℕ) → times k (n ∷ xs) ≡ c → c ≤ 1 → k ≤ s.made.threads
+    by_times zero e g = (st.placed k e).number h
+    by_times (suc zero) e g = (st.loose k e).number h
+    by_times (suc (suc c)) e g = absurd (too_many g)
+      where
+        too_many : suc (suc c) ≤ 1 → ⊥
+        too_many y = omega (arith, y)
+
+-- what stands at switch is there
+pub switch_there : (n : ℕ) (q : Place) (xs : List ℕ) (s : Core) → Stand n q xs s → (m : ℕ) → s.queues.switch ≡ Some m → is_there m s ≡ true
+switch_there n q xs s st m e = by_times (times m (n ∷ xs)) refl (st.once m)
+  where
+    stands : switch_entries m s.queues.switch ≡ 1
+    stands = ap (switch_entries m) e ∙ ap one_if (eq_refl m)
+
+    somewhere : (o : Option Place) → says is_at_switch o ≡ 1 → is_some o ≡ true
+    somewhere None h = zero_one refl h
+    somewhere (Some p) h = refl
+
+    by_times : (c : ℕ) → times m (n ∷ xs) ≡ c → c ≤ 1 → is_there m s ≡ true
+    by_times zero d g = somewhere (place_of m s) (sym (st.placed m d).switch ∙ stands)
+    by_times (suc zero) d g = zero_one (st.loose m d).switch stands
+    by_times (suc (suc c)) d g = absurd (too_many g)
+      where
+        too_many : suc (suc c) ≤ 1 → ⊥
+        too_many y = omega (arith, y)
+
+pub find_passes : (test : ℕ → Bool) (ns : List ℕ) (m : ℕ) → find test ns ≡ Some m → test m ≡ true
+find_passes test [] m h = absurd (no_both h)
+  where
+    no_both : None ≡ Some m → ⊥
+    no_both e = cc
+find_passes test (n ∷ ns) m h = go (test n) refl (find_passes test ns m) h
+  where
+    go : (b : Bool) → test n ≡ b → (find test ns ≡ Some m → test m ≡ true) → cond b (Some n) (find test ns) ≡ Some m → test m ≡ true
+    go true e rest g = subst (λ (k : ℕ). test k ≡ true) (ap (λ (o : Option ℕ). unwrap_or o n) g) e
+    go false e rest g = rest g
+
+-- down a strand all are there
+under_there : (n m : ℕ) (s : Core) → under_of n s ≡ Some m → is_there m s ≡ true
+unfolding under_of
+under_there n m s h = somewhere (place_of m s) (find_passes (λ k. is_at k s (is_under n)) (numbers s.threads) m h)
+  where
+    somewhere : (o : Option Place) → option_map_or (is_under n) o false ≡ true → is_some o ≡ true
+    somewhere None g = absurd (subst T (sym g) tt)
+    somewhere (Some p) g = refl
+
+foot_from_there : (k : ℕ) (s : Core) (n : ℕ) → is_there n s ≡ true → is_there (foot_from k s n) s ≡ true
+foot_from_there zero s n h = h
+foot_from_there (suc k) s n h = go (λ m g. foot_from_there k s m g) (under_of n s) refl
+  where
+    go : ((m : ℕ) → is_there m s ≡ true → is_there (foot_from k s m) s ≡ true) → (o : Option ℕ) → under_of n s ≡ o → is_there (option_map_or (foot_from k s) o n) s ≡ true
+    go below None e = h
+    go below (Some m) e = below m (under_there n m s e)
+
+pub foot_there : (n : ℕ) (s : Core) → is_there n s ≡ true → is_there (foot_of n s) s ≡ true
+unfolding foot_of
+foot_there n s h = foot_from_there (size s.threads) s n h
+
+passed_on_stand : (n : ℕ) (q : Place) (o : Option ℕ) (xs : List ℕ) (s : Core) → s.queues.switch ≡ o → Stand n q xs s → Stand n q [] (passed_on o xs s)
+passed_on_stand n q (Some m) xs s e st = behind_all_stand n q (foot_of m s) xs s (given_there n q xs s st (foot_of m s) (foot_there m s (switch_there n q xs s st m e))) st
+passed_on_stand n q None xs s e st = resumed_callers_stand n q xs s st
 
 -- the callers of f are taken out, and are loose
 detached : (n : ℕ) (q : Place) (f : ℕ) (s : Core) → Stand n q [] s → Stand n q (callers_of f s) (set_callers f [] s)
@@ -285,7 +379,7 @@ detached n q f s st = record {
   once = λ k. by_number k n (times k (n ∷ callers_of f s) ≤ 1) (λ e. own_once k e (st.loose n n_one)) (λ e. other_once k e (st.placed k (no_one k e)));
   loose = λ k h. by_number k n (Loose k t) (λ e. subst (λ (j : ℕ). Loose j t) (sym e) (still_loose n (st.loose n n_one))) (λ e. now_loose k (listed k e h) (st.placed k (no_one k e)));
   there = λ k h. by_number k n ((p : Place) × (place_of k s ≡ Some p)) (λ e. (q, (ap (λ (j : ℕ). place_of j s) e ∙ st.here))) (λ e. behind_there k h (st.placed k (no_one k e)));
-  placed = λ k h. still k (st.placed k (none_left k h));
+  placed = λ k h. still k (none_here k h) (st.placed k (none_left k h));
 }
   where
     t : Core
@@ -299,6 +393,9 @@ detached n q f s st = record {
 
     none_left : (k : ℕ) → times k (n ∷ callers_of f s) ≡ 0 → times k (n ∷ []) ≡ 0
     none_left k h = omega (arith, h)
+
+    none_here : (k : ℕ) → times k (n ∷ callers_of f s) ≡ 0 → times k (callers_of f s) ≡ 0
+    none_here k h = omega (arith, h)
 
     listed : (k : ℕ) → (k == n) ≡ false → times k (n ∷ callers_of f s) ≡ 1 → times k (callers_of f s) ≡ 1
     listed k e h = let x = ap one_if e in omega (arith, x, h)
@@ -315,7 +412,7 @@ detached n q f s st = record {
     own_once k e l = subst (λ (j : ℕ). times j (n ∷ callers_of f s) ≤ 1) (sym e) (let x = ap one_if (eq_refl n) in let y = l.callers f in omega (arith, x, y))
 
     other_once : (k : ℕ) → (k == n) ≡ false → HasPlace k s → times k (n ∷ callers_of f s) ≤ 1
-    other_once k e h = let x = ap one_if e in let y = h.callers f in let z = says_one (is_behind_of f) (place_of k s) in omega (arith, x, y, z)
+    other_once k e h = let x = ap one_if e in let y = callers_say k f s h in let z = says_one (is_behind_of f) (place_of k s) in omega (arith, x, y, z)
 
     less_callers : (k g : ℕ) → times k (callers_of g t) ≤ times k (callers_of g s)
     less_callers k g = subst (λ (c : ℕ). c ≤ times k (callers_of g s)) (sym (ap (times k) (insert_get g f [] s.callers))) (fewer (g == f))
@@ -324,31 +421,33 @@ detached n q f s st = record {
         fewer true = omega arith
         fewer false = omega arith
 
-    still : (k : ℕ) → HasPlace k s → HasPlace k t
-    still k h = record { switch = h.switch; high = h.high; low = h.low; callers = λ g. both (less_callers k g) (h.callers g) }
+    -- who isn't behind f keeps its callers
+    still : (k : ℕ) → times k (callers_of f s) ≡ 0 → HasPlace k s → HasPlace k t
+    still k none h = record { number = h.number; behind = h.behind; switch = h.switch; high = h.high; low = h.low; callers = λ g. ap (times k) (insert_get g f [] s.callers) ∙ by_caller g (g == f) refl }
       where
-        both : {a b c : ℕ} → a ≤ b → b ≤ c → a ≤ c
-        both x y = omega (arith, x, y)
+        by_caller : (g : ℕ) (b : Bool) → (g == f) ≡ b → times k (cond b [] (callers_of g s)) ≡ (if is_there g s then says (is_behind_of g) (place_of k s) else 0)
+        by_caller g true e = sym none ∙ (ap (λ (j : ℕ). times k (callers_of j s)) (sym (is_eq_of g f e)) ∙ h.callers g)
+        by_caller g false e = h.callers g
 
     still_loose : (k : ℕ) → Loose k s → Loose k t
-    still_loose k l = record { switch = l.switch; high = l.high; low = l.low; callers = λ g. zero_of (less_callers k g) (l.callers g) }
+    still_loose k l = record { number = l.number; switch = l.switch; high = l.high; low = l.low; callers = λ g. zero_of (less_callers k g) (l.callers g) }
       where
         zero_of : {a b : ℕ} → a ≤ b → b ≡ 0 → a ≡ 0
         zero_of x y = omega (arith, x, y)
 
     -- a listed caller is behind f
     behind_f : (k : ℕ) → times k (callers_of f s) ≡ 1 → HasPlace k s → (g : ℕ) × ((f == g) ≡ true) × (place_of k s ≡ Some (place.Behind g))
-    behind_f k h p = of_place (place_of k s) refl (subst (λ (c : ℕ). c ≤ says (is_behind_of f) (place_of k s)) h (p.callers f))
+    behind_f k h p = of_place (place_of k s) refl (subst (λ (c : ℕ). c ≤ says (is_behind_of f) (place_of k s)) h (callers_say k f s p))
       where
         not_one : 1 ≤ 0 → ⊥
         not_one y = omega (arith, y)
 
-        is_one : (b : Bool) → 1 ≤ one_if b → b ≡ true
-        is_one true y = refl
-        is_one false y = absurd (not_one y)
+        one_of : (b : Bool) → 1 ≤ one_if b → b ≡ true
+        one_of true y = refl
+        one_of false y = absurd (not_one y)
 
         of_place : (o : Option Place) → place_of k s ≡ o → 1 ≤ says (is_behind_of f) o → (g : ℕ) × ((f == g) ≡ true) × (place_of k s ≡ Some (place.Behind g))
-        of_place (Some (place.Behind g)) e y = (g, is_one (f == g) y, e)
+        of_place (Some (place.Behind g)) e y = (g, one_of (f == g) y, e)
         of_place None e y = absurd (not_one y)
         of_place (Some place.New) e y = absurd (not_one y)
         of_place (Some (place.Ready m w)) e y = absurd (not_one y)
@@ -366,6 +465,7 @@ detached n q f s st = record {
     now_loose k h p =
         let b = behind_f k h p in
         record {
+          number = p.number;
           switch = p.switch ∙ ap (says is_at_switch) b.2;
           high = p.high ∙ ap (says is_at_high) b.2;
           low = p.low ∙ ap (says is_at_low) b.2;
@@ -374,11 +474,15 @@ detached n q f s st = record {
       where
         none_in : (g : ℕ) (c : Bool) → (g == f) ≡ c → (b : (j : ℕ) × ((f == j) ≡ true) × (place_of k s ≡ Some (place.Behind j))) → times k (cond c [] (callers_of g s)) ≡ 0
         none_in g true e b = refl
-        none_in g false e b = zero_of (subst (λ (o : Option Place). times k (callers_of g s) ≤ says (is_behind_of g) o) b.2 (p.callers g)) (ap one_if (subst (λ (j : ℕ). (g == j) ≡ false) (is_eq_of f b.0 b.1) e))
+        none_in g false e b = zero_of (subst (λ (o : Option Place). times k (callers_of g s) ≤ says (is_behind_of g) o) b.2 (callers_say k g s p)) (ap one_if (subst (λ (j : ℕ). (g == j) ≡ false) (is_eq_of f b.0 b.1) e))
           where
             zero_of : {x y : ℕ} → x ≤ y → y ≡ 0 → x ≡ 0
             zero_of u v = omega (arith, u, v)
 
+same_switch : (f : ℕ) (s : Core) → (set_callers f [] s).queues.switch ≡ s.queues.switch
+unfolding set_callers
+same_switch f s = refl
+
 pub stopped_stand : (n : ℕ) (q : Place) (f : ℕ) (s : Core) → Stand n q [] s → Stand n q [] (stopped f s)
 unfolding stopped
-stopped_stand n q f s st = passed_on_stand n q s.queues.switch (callers_of f s) (set_callers f [] s) (detached n q f s st)
+stopped_stand n q f s st = passed_on_stand n q s.queues.switch (callers_of f s) (set_callers f [] s) (same_switch f s) (detached n q f s st)

@@ -1,5 +1,5 @@
 -- The words that leave places, entries and callers alone.
-use Rattle.std.proofs.Common.{◌∙◌, refl}
+use Rattle.std.proofs.Common.{◌∙◌, le_refl, le_trans, refl}
 use Rattle.std.specs.Option.{option_map_or}
 use Rattle.std.specs.Prelude.{Bool, None, Option, Some, false, if◌then◌else◌, length, min, slice_set, true, unwrap_or, ℕ, ◌+◌, ◌-◌}
 use Rattle.task_machine.specs.declared.records.Call.{Call}
@@ -56,10 +56,10 @@ use Rattle.task_rules.specs.Task.{dec_lowers, inc_raises}
 use Rattle.task_rules.specs.Works.{poll_pends}
 
 untouched_same : (s : Core) → Untouched s s
-untouched_same s = record { places = λ k. refl; queues = refl; callers = refl }
+untouched_same s = record { places = λ k. refl; queues = refl; callers = refl; made = le_refl _ }
 
 pub untouched_after : {s m t : Core} → Untouched s m → Untouched m t → Untouched s t
-untouched_after a b = record { places = λ k. b.places k ∙ a.places k; queues = b.queues ∙ a.queues; callers = b.callers ∙ a.callers }
+untouched_after a b = record { places = λ k. b.places k ∙ a.places k; queues = b.queues ∙ a.queues; callers = b.callers ∙ a.callers; made = le_trans a.made b.made }
 
 untouched_if : (s : Core) (b : Bool) (x y : Core) → Untouched s x → Untouched s y → Untouched s (if b then x else y)
 untouched_if s true x y p q = p
@@ -67,107 +67,107 @@ untouched_if s false x y p q = q
 
 pub set_register_untouched : (a0 : ℕ) (a1 : ℕ) (a2 : ℕ) (s : Core) → Untouched s (set_register a0 a1 a2 s)
 unfolding set_register on_thread
-set_register_untouched a0 a1 a2 s = record { places = λ k. change-field (λ (t : Thread). t.place) a0 (λ t. record t { registers = slice_set t.registers a1 a2 }) (λ t. refl) s.threads k; queues = refl; callers = refl }
+set_register_untouched a0 a1 a2 s = record { places = λ k. change-field (λ (t : Thread). t.place) a0 (λ t. record t { registers = slice_set t.registers a1 a2 }) (λ t. refl) s.threads k; queues = refl; callers = refl; made = le_refl _ }
 
 pub set_position_untouched : (a0 : ℕ) (a1 : ℕ) (s : Core) → Untouched s (set_position a0 a1 s)
 unfolding set_position on_thread
-set_position_untouched a0 a1 s = record { places = λ k. change-field (λ (t : Thread). t.place) a0 (λ t. record t { position = a1 }) (λ t. refl) s.threads k; queues = refl; callers = refl }
+set_position_untouched a0 a1 s = record { places = λ k. change-field (λ (t : Thread). t.place) a0 (λ t. record t { position = a1 }) (λ t. refl) s.threads k; queues = refl; callers = refl; made = le_refl _ }
 
 pub set_how_far_untouched : (a0 : ℕ) (a1 : HowFar) (s : Core) → Untouched s (set_how_far a0 a1 s)
 unfolding set_how_far on_thread
-set_how_far_untouched a0 a1 s = record { places = λ k. change-field (λ (t : Thread). t.place) a0 (λ t. record t { how_far = a1 }) (λ t. refl) s.threads k; queues = refl; callers = refl }
+set_how_far_untouched a0 a1 s = record { places = λ k. change-field (λ (t : Thread). t.place) a0 (λ t. record t { how_far = a1 }) (λ t. refl) s.threads k; queues = refl; callers = refl; made = le_refl _ }
 
 pub set_script_untouched : (a0 : ℕ) (a1 : Script) (s : Core) → Untouched s (set_script a0 a1 s)
 unfolding set_script on_thread
-set_script_untouched a0 a1 s = record { places = λ k. change-field (λ (t : Thread). t.place) a0 (λ t. record t { script = a1 }) (λ t. refl) s.threads k; queues = refl; callers = refl }
+set_script_untouched a0 a1 s = record { places = λ k. change-field (λ (t : Thread). t.place) a0 (λ t. record t { script = a1 }) (λ t. refl) s.threads k; queues = refl; callers = refl; made = le_refl _ }
 
 pub set_thread_handle_untouched : (a0 : ℕ) (a1 : Option ℕ) (s : Core) → Untouched s (set_thread_handle a0 a1 s)
 unfolding set_thread_handle on_thread
-set_thread_handle_untouched a0 a1 s = record { places = λ k. change-field (λ (t : Thread). t.place) a0 (λ t. record t { handle = a1 }) (λ t. refl) s.threads k; queues = refl; callers = refl }
+set_thread_handle_untouched a0 a1 s = record { places = λ k. change-field (λ (t : Thread). t.place) a0 (λ t. record t { handle = a1 }) (λ t. refl) s.threads k; queues = refl; callers = refl; made = le_refl _ }
 
 pub set_saved_own_untouched : (a0 : ℕ) (a1 : Option Bool) (s : Core) → Untouched s (set_saved_own a0 a1 s)
 unfolding set_saved_own on_thread
-set_saved_own_untouched a0 a1 s = record { places = λ k. change-field (λ (t : Thread). t.place) a0 (λ t. record t { saved_own = a1 }) (λ t. refl) s.threads k; queues = refl; callers = refl }
+set_saved_own_untouched a0 a1 s = record { places = λ k. change-field (λ (t : Thread). t.place) a0 (λ t. record t { saved_own = a1 }) (λ t. refl) s.threads k; queues = refl; callers = refl; made = le_refl _ }
 
 pub set_saved_callee_untouched : (a0 : ℕ) (a1 : Option Bool) (s : Core) → Untouched s (set_saved_callee a0 a1 s)
 unfolding set_saved_callee on_thread
-set_saved_callee_untouched a0 a1 s = record { places = λ k. change-field (λ (t : Thread). t.place) a0 (λ t. record t { saved_callee = a1 }) (λ t. refl) s.threads k; queues = refl; callers = refl }
+set_saved_callee_untouched a0 a1 s = record { places = λ k. change-field (λ (t : Thread). t.place) a0 (λ t. record t { saved_callee = a1 }) (λ t. refl) s.threads k; queues = refl; callers = refl; made = le_refl _ }
 
 pub on_call_untouched : (a0 : ℕ) (a1 : (Call → Call)) (s : Core) → Untouched s (on_call a0 a1 s)
 unfolding on_call
-on_call_untouched a0 a1 s = record { places = λ k. refl; queues = refl; callers = refl }
+on_call_untouched a0 a1 s = record { places = λ k. refl; queues = refl; callers = refl; made = le_refl _ }
 
 pub add_call_untouched : (a0 : ℕ) (a1 : Call) (s : Core) → Untouched s (add_call a0 a1 s)
 unfolding add_call
-add_call_untouched a0 a1 s = record { places = λ k. refl; queues = refl; callers = refl }
+add_call_untouched a0 a1 s = record { places = λ k. refl; queues = refl; callers = refl; made = le_refl _ }
 
 pub remove_call_untouched : (a0 : ℕ) (s : Core) → Untouched s (remove_call a0 s)
 unfolding remove_call
-remove_call_untouched a0 s = record { places = λ k. refl; queues = refl; callers = refl }
+remove_call_untouched a0 s = record { places = λ k. refl; queues = refl; callers = refl; made = le_refl _ }
 
 pub on_work_untouched : (a0 : ℕ) (a1 : (Work → Work)) (s : Core) → Untouched s (on_work a0 a1 s)
 unfolding on_work
-on_work_untouched a0 a1 s = record { places = λ k. refl; queues = refl; callers = refl }
+on_work_untouched a0 a1 s = record { places = λ k. refl; queues = refl; callers = refl; made = le_refl _ }
 
 pub count_work_untouched : (s : Core) → Untouched s (count_work s)
 unfolding count_work
-count_work_untouched s = record { places = λ k. refl; queues = refl; callers = refl }
+count_work_untouched s = record { places = λ k. refl; queues = refl; callers = refl; made = le_refl _ }
 
 pub add_work_untouched : (a0 : ℕ) (a1 : Work) (s : Core) → Untouched s (add_work a0 a1 s)
 unfolding add_work
-add_work_untouched a0 a1 s = record { places = λ k. refl; queues = refl; callers = refl }
+add_work_untouched a0 a1 s = record { places = λ k. refl; queues = refl; callers = refl; made = le_refl _ }
 
 pub remove_work_untouched : (a0 : ℕ) (s : Core) → Untouched s (remove_work a0 s)
 unfolding remove_work
-remove_work_untouched a0 s = record { places = λ k. refl; queues = refl; callers = refl }
+remove_work_untouched a0 s = record { places = λ k. refl; queues = refl; callers = refl; made = le_refl _ }
 
 pub add_set_untouched : (a0 : Set) (s : Core) → Untouched s (add_set a0 s)
 unfolding add_set
-add_set_untouched a0 s = record { places = λ k. refl; queues = refl; callers = refl }
+add_set_untouched a0 s = record { places = λ k. refl; queues = refl; callers = refl; made = le_refl _ }
 
 pub remove_set_untouched : (a0 : ℕ) (s : Core) → Untouched s (remove_set a0 s)
 unfolding remove_set
-remove_set_untouched a0 s = record { places = λ k. refl; queues = refl; callers = refl }
+remove_set_untouched a0 s = record { places = λ k. refl; queues = refl; callers = refl; made = le_refl _ }
 
 pub on_instance_untouched : (a0 : ℕ) (a1 : (Instance → Instance)) (s : Core) → Untouched s (on_instance a0 a1 s)
 unfolding on_instance
-on_instance_untouched a0 a1 s = record { places = λ k. refl; queues = refl; callers = refl }
+on_instance_untouched a0 a1 s = record { places = λ k. refl; queues = refl; callers = refl; made = le_refl _ }
 
 pub give_handle_untouched : (a0 : ℕ) (a1 : Named) (s : Core) → Untouched s (give_handle a0 a1 s)
 unfolding give_handle
-give_handle_untouched a0 a1 s = record { places = λ k. refl; queues = refl; callers = refl }
+give_handle_untouched a0 a1 s = record { places = λ k. refl; queues = refl; callers = refl; made = le_refl _ }
 
 pub free_handle_untouched : (a0 : ℕ) (a1 : ℕ) (s : Core) → Untouched s (free_handle a0 a1 s)
 unfolding free_handle
-free_handle_untouched a0 a1 s = record { places = λ k. refl; queues = refl; callers = refl }
+free_handle_untouched a0 a1 s = record { places = λ k. refl; queues = refl; callers = refl; made = le_refl _ }
 
 pub give_thread_handle_untouched : (a0 : ℕ) (a1 : ℕ) (s : Core) → Untouched s (give_thread_handle a0 a1 s)
 unfolding give_thread_handle
-give_thread_handle_untouched a0 a1 s = record { places = λ k. refl; queues = refl; callers = refl }
+give_thread_handle_untouched a0 a1 s = record { places = λ k. refl; queues = refl; callers = refl; made = le_refl _ }
 
 pub free_thread_handle_untouched : (a0 : ℕ) (a1 : ℕ) (s : Core) → Untouched s (free_thread_handle a0 a1 s)
 unfolding free_thread_handle
-free_thread_handle_untouched a0 a1 s = record { places = λ k. refl; queues = refl; callers = refl }
+free_thread_handle_untouched a0 a1 s = record { places = λ k. refl; queues = refl; callers = refl; made = le_refl _ }
 
 pub give_result_untouched : (a0 : ℕ) (a1 : ℕ) (s : Core) → Untouched s (give_result a0 a1 s)
 unfolding give_result
-give_result_untouched a0 a1 s = record { places = λ k. refl; queues = refl; callers = refl }
+give_result_untouched a0 a1 s = record { places = λ k. refl; queues = refl; callers = refl; made = le_refl _ }
 
 pub take_result_untouched : (a0 : ℕ) (s : Core) → Untouched s (take_result a0 s)
 unfolding take_result
-take_result_untouched a0 s = record { places = λ k. refl; queues = refl; callers = refl }
+take_result_untouched a0 s = record { places = λ k. refl; queues = refl; callers = refl; made = le_refl _ }
 
 pub add_group_untouched : (s : Core) → Untouched s (add_group s)
 unfolding add_group
-add_group_untouched s = record { places = λ k. refl; queues = refl; callers = refl }
+add_group_untouched s = record { places = λ k. refl; queues = refl; callers = refl; made = le_refl _ }
 
 pub remove_group_untouched : (a0 : ℕ) (s : Core) → Untouched s (remove_group a0 s)
 unfolding remove_group
-remove_group_untouched a0 s = record { places = λ k. refl; queues = refl; callers = refl }
+remove_group_untouched a0 s = record { places = λ k. refl; queues = refl; callers = refl; made = le_refl _ }
 
 pub set_trapped_untouched : (s : Core) → Untouched s (set_trapped s)
 unfolding set_trapped
-set_trapped_untouched s = record { places = λ k. refl; queues = refl; callers = refl }
+set_trapped_untouched s = record { places = λ k. refl; queues = refl; callers = refl; made = le_refl _ }
 
 pub set_started_untouched : (a0 : ℕ) (s : Core) → Untouched s (set_started a0 s)
 unfolding set_started

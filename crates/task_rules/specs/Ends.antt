@@ -1,5 +1,5 @@
 -- The end of a task, and the ends of threads and activations.
-use Rattle.std.specs.Prelude.{Bool, List, None, Option, Some, false, if◌then◌else◌, is_none, is_some, nat_lt, not, suc, true, unwrap_or, zero, ℕ, ◌%◌, ◌&&◌, ◌/◌, ◌==◌, ◌||◌}
+use Rattle.std.specs.Prelude.{Bool, List, None, Option, Some, false, if◌then◌else◌, is_none, is_some, nat_lt, not, suc, true, unwrap_or, zero, ℕ, ◌%◌, ◌&&◌, ◌/◌, ◌||◌}
 use Rattle.task_machine.specs.declared.records.Caller.{Caller}
 use Rattle.task_machine.specs.declared.component.ExportKind.{ExportKind}
 use Rattle.task_machine.specs.declared.records.Goal.{Goal}
@@ -23,7 +23,7 @@ use Rattle.task_machine.specs.declared.records.Why.TheVariants as why
 use Rattle.task_machine.specs.Core.{Core}
 use Rattle.task_machine.specs.Labels.{exit_label}
 use Rattle.task_machine.specs.Moves.{checked, ended, may_publish, passes_check, published, put_high, put_low, released, stopped}
-use Rattle.task_machine.specs.Read.{admitted_held, blocked_on, caller_of, callers_of, foot_of, goal_of, has_ended, has_ready_member, has_waiter, instance_of, is_direct, is_explicit, is_guest_call, is_last_thread, is_nil, join_of, kind_of, own_event_of, register_of, saved_own_of, set_at, set_instance, task_of, under_of}
+use Rattle.task_machine.specs.Read.{admitted_held, caller_of, callers_of, first_at, foot_of, goal_of, has_ended, has_ready_member, instance_of, is_direct, is_explicit, is_guest_call, is_last_thread, is_nil, is_waiting_on, join_of, kind_of, own_event_of, register_of, saved_own_of, set_at, task_of, under_of}
 use Rattle.task_machine.specs.Write.{give_result, set_do_not_enter, set_do_not_suspend, set_end, set_how_far, set_own_event, set_place, set_register, set_result}
 use Rattle.task_rules.specs.Progress.{Goes, Never, Ordered, Progress, Stops, Traps, may, or_trap, trap_if}
 
@@ -68,24 +68,6 @@ leaves_no_result n s = is_last_thread n s && not (has_ended (task_of n s) s)
 unfoldable pub passes_after_stop : ℕ → ℕ → List ℕ → Core → Bool
 passes_after_stop i f held s = passes_check i s || (not (is_nil (callers_of f s)) || not (is_nil held))
 
--- the thread, if there is one, is of the instance
-abbrev pub is_in_instance : ℕ → Core → Option ℕ → Bool
-is_in_instance i s None = false
-is_in_instance i s (Some n) = instance_of n s == i
-
--- the subtask is in a set of the instance on which some thread waits
-abbrev pub wakes_in : ℕ → Core → Join → Bool
-wakes_in i s (join.Set x) = has_waiter x s && (set_instance x s == i)
-wakes_in i s _ = false
-
--- telling an end of the call gives an entry to a thread of the instance
-abbrev pub tells_in : ℕ → ℕ → Core → Bool
-tells_in i k s = is_told k s && (is_in_instance i s (blocked_on (subtask.Guest k) s) || wakes_in i s (join_of (subtask.Guest k) s))
-
--- a check of the instance passes once these held threads of it are released and the call's end is told
-unfoldable pub passes_after_return : ℕ → ℕ → List ℕ → Core → Bool
-passes_after_return i k held s = passes_check i s || (not (is_nil held) || tells_in i k s)
-
 -- ---- The ends of threads
 
 -- the instance lets entries in again, and these held threads of it are released
@@ -95,6 +77,28 @@ end_reopens i order s = released order (set_do_not_enter i false s)
 -- the held threads that are admitted once the instance lets entries in
 unfoldable pub held_by_flag : ℕ → Core → List ℕ
 held_by_flag i s = admitted_held i (set_do_not_enter i false s)
+
+-- ---- A check after the return
+
+-- the first thread that waits on the set
+abbrev pub first_waiter : Join → Core → Option ℕ
+first_waiter (join.Set x) s = first_at (is_waiting_on x) s
+first_waiter _ s = None
+
+-- the waiter that telling an end of the call wakes: the chosen one; where a label shows none, as that of a trap, the first one
+abbrev pub waiter_told : ℕ → Option ℕ → Core → Option ℕ
+waiter_told k None s = first_waiter (join_of (subtask.Guest k) s) s
+waiter_told k (Some w) s = Some w
+
+-- the instance lets entries in, these held threads of it are released, and the blocking export's task returns r0
+abbrev pub blocking_returned : ℕ → Option ℕ → List ℕ → Core → Core
+blocking_returned n w order s = returned (task_of n s) (register_of n 0 s) w (end_reopens (instance_of n s) order s)
+
+-- a check of the instance passes after that
+unfoldable pub passes_after_return : ℕ → Option ℕ → Core → Bool
+passes_after_return n w s = let i = instance_of n s in passes_check i (blocking_returned n (waiter_told (task_of n s) w s) (held_by_flag i s) s)
+
+-- ---- The exits
 
 -- the flag of the instance that the thread's start saved is written back; default: no saved flag
 unfoldable pub exit_restores : ℕ → Core → Core
@@ -120,15 +124,15 @@ sync_exits n w s = ended n (stopped (foot_of n s) (returned (task_of n s) (regis
 abbrev pub sync_exit_row : ℕ → Option ℕ → Core → Progress
 sync_exit_row n w s = may (may_tell (task_of n s) w s) (Stops (exit_label n w) (sync_exits n w s))
 
--- a blocking export's task returns r0
+-- after the release and the return a blocking export's thread leaves
 unfoldable pub blocking_exits : ℕ → Option ℕ → List ℕ → Core → Core
-blocking_exits n w order s = exit_stops n (returned (task_of n s) (register_of n 0 s) w (end_reopens (instance_of n s) order s))
+blocking_exits n w order s = exit_stops n (blocking_returned n w order s)
 
 -- a blocking export's exit: trap 9 (CannotBlockSyncTask) where the check after the release and the return fails
 abbrev pub blocking_exit_row : ℕ → Option ℕ → Core → Progress
 blocking_exit_row n w s =
     let held = held_by_flag (instance_of n s) s in
-    trap_if (not (passes_after_return (instance_of n s) (task_of n s) held s)) trap.CannotBlockSyncTask (
+    trap_if (not (passes_after_return n w s)) trap.CannotBlockSyncTask (
     may (may_tell (task_of n s) w s) (
     Ordered held (λ order. Stops (exit_label n w) (blocking_exits n w order s))))
 

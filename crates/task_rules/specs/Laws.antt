@@ -13,9 +13,9 @@ use Rattle.task_machine.specs.declared.records.Turn.TheVariants as turn
 use Rattle.task_machine.specs.Core.{Core, State}
 use Rattle.task_machine.specs.Maps.{get}
 use Rattle.task_machine.specs.Moves.{checked, has_entry, may_wake, passes_check, promoted_unless, released, stopped, wake}
-use Rattle.task_machine.specs.Read.{foot_of, instance_of, is_waiter, place_of, set_instance, task_of}
+use Rattle.task_machine.specs.Read.{foot_of, instance_of, place_of, task_of}
 use Rattle.task_machine.specs.Write.{remove_thread, set_place}
-use Rattle.task_rules.specs.Ends.{code_stops, held_by_flag, end_reopens, may_tell, passes_after_return, passes_after_stop, returned}
+use Rattle.task_rules.specs.Ends.{blocking_returned, code_stops, held_by_flag, may_tell, passes_after_return, passes_after_stop}
 use Rattle.task_rules.specs.Outcome.{outcome_of_label}
 use Rattle.task_rules.specs.Places.{HasPlace}
 use Rattle.task_rules.specs.Run.{Run}
@@ -170,12 +170,8 @@ RemovalKeepsPlaces = (n : ℕ) (s : Core) → place_of n s ≡ Some place.Runnin
 
 -- ---- The exit of a blocking export
 
--- each thread that waits on a set is of the set's instance
-abbrev pub WaitsAtHome : Core → Type 0
-WaitsAtHome s = (x m : ℕ) → is_waiter x m s ≡ true → instance_of m s ≡ set_instance x s
-
--- the test of a blocking export's exit on the state before is the check that its sentence has after the release and the return
+-- the test of a blocking export's exit is the check on the state that the release and the return leave, whatever the order of the release
 abbrev pub BlockingCheckIsAfter : Type 0
 BlockingCheckIsAfter =
-    (n v : ℕ) (w : Option ℕ) (s : Core) (order : List ℕ) → WaitsAtHome s → may_tell (task_of n s) w s ≡ true → IsPermutation (held_by_flag (instance_of n s) s) order →
-    passes_check (instance_of n s) (returned (task_of n s) v w (end_reopens (instance_of n s) order s)) ≡ passes_after_return (instance_of n s) (task_of n s) (held_by_flag (instance_of n s) s) s
+    (n : ℕ) (w : Option ℕ) (s : Core) (order : List ℕ) → may_tell (task_of n s) w s ≡ true → IsPermutation (held_by_flag (instance_of n s) s) order →
+    passes_check (instance_of n s) (blocking_returned n w order s) ≡ passes_after_return n w s

@@ -17,8 +17,14 @@ pub mod Run
 pub mod Outcome
 pub mod Texts
 pub mod History
+pub mod SubtaskEnds
 pub mod Once
 pub mod Notices
+pub mod Words
+pub mod Scenes
+pub mod OpParts
+pub mod Allowed
+pub mod Chains
 pub mod Keeps
 pub mod Laws
 pub mod Places

@@ -1,12 +1,14 @@
 -- The ops of main.
 use Rattle.std.specs.List.{list_any}
-use Rattle.std.specs.Prelude.{Bool, List, None, Option, Some, [], false, length, not, slice_get, slice_set, true, unwrap_or, ℕ, ◌&&◌, ◌++◌, ◌+◌, ◌-◌, ◌==◌, ◌∷◌}
+use Rattle.std.specs.Option.{option_map_or}
+use Rattle.std.specs.Prelude.{Bool, List, None, Option, Some, [], false, is_some, length, not, slice_get, slice_set, true, unwrap_or, ℕ, ◌&&◌, ◌++◌, ◌+◌, ◌-◌, ◌==◌, ◌∷◌}
 use Rattle.task_machine.specs.declared.component.Callee.{Callee}
 use Rattle.task_machine.specs.declared.component.Component.{Component}
 use Rattle.task_machine.specs.declared.label.MainLabel.{MainLabel}
 use Rattle.task_machine.specs.declared.scenario.MainOpDef.{MainOpDef}
 use Rattle.task_machine.specs.declared.words.Phase.{Phase}
 use Rattle.task_machine.specs.declared.trap.Trap.{Trap}
+use Rattle.task_machine.specs.declared.records.WorkCaller.{WorkCaller}
 use Rattle.task_machine.specs.declared.records.Caller.TheVariants as caller
 use Rattle.task_machine.specs.declared.records.Goal.TheVariants as goal
 use Rattle.task_machine.specs.declared.label.MainLabel.TheVariants as main_label
@@ -22,7 +24,7 @@ use Rattle.task_machine.specs.Read.{backpressure_of, fits, may_not_enter, phase_
 use Rattle.task_machine.specs.Write.{add_group, set_phase, set_trapped, take_result}
 use Rattle.task_rules.specs.Calls.{call_made, next_thread, next_work, work_queued}
 use Rattle.task_rules.specs.Cancels.{aborted_phase}
-use Rattle.task_rules.specs.Scripts.{export_kind, host_at, value_in, values_in}
+use Rattle.task_rules.specs.Scripts.{export_at, export_kind, host_at, value_in, values_in}
 
 -- What an op of main is about, its operands read: the call, the work or the instance that it names.
 pub data MainAct : Type 0 where
@@ -101,6 +103,36 @@ main_row c k s (Await i) = unless_pending (is_complete (phase_of i s)) (main_lab
 main_row c k s Quiet = unless_pending (not (has_interesting s)) main_label.Quiet s
 main_row c k s (Ready i) = unless_pending (is_ready_for_call i s) main_label.Ready s
 main_row c k s (Answer v) = Answers v
+
+-- ---- What a main may do
+
+-- the component has the export, which takes this many words
+abbrev pub takes_words : Component → Callee → ℕ → Bool
+takes_words c e n = option_map_or (λ d. d.params == n) (export_at c e) false
+
+abbrev pub is_refusal : Trap → Bool
+is_refusal trap.CannotEnterComponent = true
+is_refusal trap.TableFull = true
+is_refusal _ = false
+
+abbrev pub is_spawn_caller : WorkCaller → Bool
+is_spawn_caller work_caller.Spawn = true
+is_spawn_caller _ = false
+
+abbrev pub is_spawn : ℕ → Core → Bool
+is_spawn i s = option_map_or (λ w. is_spawn_caller w.caller) (get s.works i) false
+
+-- what a main names is there: the export that it starts, with its words, a host, a spawn, an instance; a start that was refused has trapped the store
+abbrev pub may_act : Component → Core → MainAct → Bool
+may_act c s (Start e words) = takes_words c e (length words)
+may_act c s (Finish (Began n)) = true
+may_act c s (Finish (Refused t)) = s.trapped && is_refusal t
+may_act c s (Spawn h) = is_some (slice_get c.hosts h)
+may_act c s (Abort i) = is_spawn i s
+may_act c s (Await i) = is_spawn i s
+may_act c s Quiet = true
+may_act c s (Ready i) = is_some (slice_get c.instances i)
+may_act c s (Answer v) = true
 
 -- ---- Main's script
 

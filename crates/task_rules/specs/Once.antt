@@ -1,46 +1,30 @@
 -- What happens at most once in a run.
 use Rattle.std.specs.List.{list_any}
 use Rattle.std.specs.Option.{option_map_or}
-use Rattle.std.specs.Prelude.{Bool, IsTrue, List, None, Option, Some, [], count_by, false, filter, if◌then◌else◌, nat_le, not, option_map, true, ℕ, ◌&&◌, ◌==◌, ◌∷◌, ◌≤◌}
+use Rattle.std.specs.Prelude.{Bool, IsTrue, List, None, Option, Some, [], count_by, false, filter, if◌then◌else◌, not, option_map, true, ℕ, ◌&&◌, ◌==◌, ◌||◌, ◌∷◌, ◌≤◌}
 use Rattle.task_machine.specs.declared.records.CallEnd.{CallEnd}
-use Rattle.task_machine.specs.declared.label.CallLabel.{CallLabel}
 use Rattle.task_machine.specs.declared.component.Component.{Component}
 use Rattle.task_machine.specs.declared.records.Course.{Course}
-use Rattle.task_machine.specs.declared.words.Given.{Given}
-use Rattle.task_machine.specs.declared.records.HowFar.{HowFar}
 use Rattle.task_machine.specs.declared.label.Label.{Label}
-use Rattle.task_machine.specs.declared.label.MainLabel.{MainLabel}
-use Rattle.task_machine.specs.declared.op.Op.{Op}
 use Rattle.task_machine.specs.declared.records.Place.{Place}
-use Rattle.task_machine.specs.declared.label.SetLabel.{SetLabel}
 use Rattle.task_machine.specs.declared.words.Status.{Status}
 use Rattle.task_machine.specs.declared.records.Subtask.{Subtask}
-use Rattle.task_machine.specs.declared.label.TakeLabel.{TakeLabel}
-use Rattle.task_machine.specs.declared.label.TaskLabel.{TaskLabel}
 use Rattle.task_machine.specs.declared.records.CallEnd.TheVariants as call_end
-use Rattle.task_machine.specs.declared.label.CallLabel.TheVariants as call_label
-use Rattle.task_machine.specs.declared.op.CallOp.TheVariants as call_op
 use Rattle.task_machine.specs.declared.records.Course.TheVariants as course
-use Rattle.task_machine.specs.declared.words.Given.TheVariants as given
-use Rattle.task_machine.specs.declared.records.HowFar.TheVariants as how_far
 use Rattle.task_machine.specs.declared.label.Label.TheVariants as label
-use Rattle.task_machine.specs.declared.label.MainLabel.TheVariants as main_label
-use Rattle.task_machine.specs.declared.op.Op.TheVariants as op
 use Rattle.task_machine.specs.declared.records.Place.TheVariants as place
-use Rattle.task_machine.specs.declared.label.SetLabel.TheVariants as set_label
-use Rattle.task_machine.specs.declared.words.Status.TheVariants as status
 use Rattle.task_machine.specs.declared.records.Subtask.TheVariants as subtask
 use Rattle.task_machine.specs.declared.label.TakeLabel.TheVariants as take
 use Rattle.task_machine.specs.declared.label.TaskLabel.TheVariants as task_label
 use Rattle.task_machine.specs.declared.records.Why.TheVariants as why
-use Rattle.task_machine.specs.Core.{Began, Core, Main, Refused, Scripted, Started, State}
+use Rattle.task_machine.specs.Core.{Core}
 use Rattle.task_machine.specs.Maps.{get}
-use Rattle.task_machine.specs.Read.{goal_of, how_far_of, instance_of, is_direct, is_explicit, is_holding, kind_of, place_of, same_subtask, subtask_at, task_of}
+use Rattle.task_machine.specs.Read.{event_of, goal_of, instance_of, is_direct, is_explicit, is_holding, kind_of, place_of, same_subtask, task_of, undelivered_end}
+use Rattle.task_machine.specs.Statuses.{status_code}
 use Rattle.task_rules.specs.History.{Moment}
-use Rattle.task_rules.specs.MainOps.{started_at}
-use Rattle.task_rules.specs.Scripts.{op_of, value_of}
+use Rattle.task_rules.specs.SubtaskEnds.{SubtaskEnd, handed_by, written_by}
 
--- ---- The ends of subtasks
+-- ---- The end in a subtask's record
 
 abbrev pub call_end_code : Option CallEnd → ℕ
 call_end_code None = 0
@@ -64,87 +48,57 @@ is_written None after = false
 is_written (Some before) None = before == 0
 is_written (Some before) (Some after) = not (after == 0) && not (after == before)
 
--- the step writes the subtask's end
-abbrev pub writes_end : Subtask → Moment → Bool
-writes_end sub m = is_written (end_code sub m.before.core) (end_code sub m.after.core)
+-- the end in the subtask's record is a new one, or another one
+abbrev pub changes_end : Subtask → Moment → Bool
+changes_end sub m = is_written (end_code sub m.before.core) (end_code sub m.after.core)
 
--- ---- Handing an end out
+abbrev pub is_other : Option Status → Option Status → Bool
+is_other (Some e) (Some x) = not (status_code e == status_code x)
+is_other _ _ = false
 
-abbrev pub is_handed_end : Status → Bool
-is_handed_end status.Returned = true
-is_handed_end status.ReturnCancelled = true
-is_handed_end _ = false
+-- an end that was not handed out gives way to another one
+abbrev pub covers_end : Subtask → Moment → Bool
+covers_end sub m = is_other (undelivered_end (event_of sub m.before.core)) (undelivered_end (event_of sub m.after.core))
 
--- by an event with status 2 or 4
-abbrev pub handed_by_event : ℕ → Core → Given → Option Subtask
-handed_by_event n s (given.Subtask e h) = if is_handed_end e then subtask_at (instance_of n s) h s else None
-handed_by_event n s _ = None
+-- ---- Once
 
-abbrev pub call_of_op : HowFar → Option Subtask
-call_of_op (how_far.Calls sub) = Some sub
-call_of_op _ = None
+abbrev pub written : Component → Moment → Option SubtaskEnd
+written c m = written_by c m.before.core m.label m.after.core
 
--- the subtask that a cancel names by its handle
-abbrev pub cancel_target : ℕ → Core → Op → Option Subtask
-cancel_target n s (op.Call (call_op.Cancel r x)) = subtask_at (instance_of n s) (value_of n s x) s
-cancel_target n s (op.Call (call_op.CancelSync r x)) = subtask_at (instance_of n s) (value_of n s x) s
-cancel_target n s _ = None
+abbrev pub handed : Component → Moment → Option SubtaskEnd
+handed c m = handed_by c m.before m.label m.after.core
 
-abbrev pub cancelled_of_op : Component → ℕ → Core → HowFar → Option Subtask
-cancelled_of_op c n s (how_far.Cancels sub) = Some sub
-cancelled_of_op c n s (how_far.AwaitsEnd sub) = Some sub
-cancelled_of_op c n s _ = cancel_target n s (op_of c n s)
+abbrev pub is_end_of : Subtask → Option SubtaskEnd → Bool
+is_end_of sub e = option_map_or (λ x. same_subtask sub x.subtask) e false
 
--- by a cancel that answers 2, 3 or 4
-abbrev pub handed_by_cancel : Component → ℕ → Core → ℕ → Option Subtask
-handed_by_cancel c n s answer = if nat_le 2 answer && nat_le answer 4 then cancelled_of_op c n s (how_far_of n s) else None
-
-abbrev pub handed_by_call : Component → Core → CallLabel → Option Subtask
-handed_by_call c s (call_label.Call answer n) = if answer == 2 then call_of_op (how_far_of n s) else None
-handed_by_call c s (call_label.CallSync n v) = call_of_op (how_far_of n s)
-handed_by_call c s (call_label.Cancel answer n) = handed_by_cancel c n s answer
-handed_by_call c s (call_label.CancelSync answer n) = handed_by_cancel c n s answer
-handed_by_call c s _ = None
-
-abbrev pub handed_by_take : Core → TakeLabel → Option Subtask
-handed_by_take s (take.Event m g n) = handed_by_event n s g
-handed_by_take s _ = None
-
-abbrev pub handed_by_set : Core → SetLabel → Option Subtask
-handed_by_set s (set_label.Wait g n) = handed_by_event n s g
-handed_by_set s (set_label.Poll g n) = handed_by_event n s g
-handed_by_set s _ = None
-
-abbrev pub handed_start : Started → Option Subtask
-handed_start (Began k) = Some (subtask.Guest k)
-handed_start (Refused t) = None
-
--- by `main finish` of a main that is a script
-abbrev pub handed_by_main : Main → MainLabel → Option Subtask
-handed_by_main (Scripted p) (main_label.Finish k v) = handed_start (started_at p k)
-handed_by_main _ _ = None
-
--- the end of a direct call goes to the thread under it when it exits
-abbrev pub handed_by_exit : Core → TaskLabel → Option Subtask
-handed_by_exit s (task_label.Exit n) = if not (is_explicit n s) && is_direct (goal_of (task_of n s) s) then Some (subtask.Guest (task_of n s)) else None
-handed_by_exit s _ = None
-
--- the subtask whose end the step hands out
-abbrev pub handed : Component → State → Label → Option Subtask
-handed c s (label.Main l) = handed_by_main s.main l
-handed c s (label.Take l) = handed_by_take s.core l
-handed c s (label.Task l) = handed_by_exit s.core l
-handed c s (label.Set l) = handed_by_set s.core l
-handed c s (label.Call l) = handed_by_call c s.core l
-handed c s _ = None
+-- the step writes an end of the subtask: its label says so, or what the state keeps of it changes so
+abbrev pub writes_end : Component → Subtask → Moment → Bool
+writes_end c sub m = is_end_of sub (written c m) || (changes_end sub m || covers_end sub m)
 
 abbrev pub hands_out : Component → Subtask → Moment → Bool
-hands_out c sub m = option_map_or (same_subtask sub) (handed c m.before m.label) false
+hands_out c sub m = is_end_of sub (handed c m)
 
--- Each end is written at most once, and at most one step hands it out.
+abbrev pub same_end : SubtaskEnd → SubtaskEnd → Bool
+same_end x y = same_subtask x.subtask y.subtask && (status_code x.status == status_code y.status)
+
+abbrev pub with_end : Option SubtaskEnd → List SubtaskEnd → List SubtaskEnd
+with_end None ends = ends
+with_end (Some e) ends = e ∷ ends
+
+abbrev pub is_known : List SubtaskEnd → Option SubtaskEnd → Bool
+is_known ends None = true
+is_known ends (Some e) = list_any (same_end e) ends
+
+-- after these ends, what a step hands out is an end that it or a step before it wrote, with the same status
+abbrev pub hands_out_written : Component → List SubtaskEnd → List Moment → Bool
+hands_out_written c ends [] = true
+hands_out_written c ends (m ∷ ms) = let known = with_end (written c m) ends in is_known known (handed c m) && hands_out_written c known ms
+
+-- Each end is written at most once, and at most one step hands it out, with the status with which it was written.
 pub record EndsOnce (c : Component) (ms : List Moment) : Type 0 where
-  pub written : (sub : Subtask) → count_by (writes_end sub) ms ≤ 1
-  pub handed_out : (sub : Subtask) → count_by (hands_out c sub) ms ≤ 1
+  pub written_once : (sub : Subtask) → count_by (writes_end c sub) ms ≤ 1
+  pub handed_once : (sub : Subtask) → count_by (hands_out c sub) ms ≤ 1
+  pub as_written : IsTrue (hands_out_written c [] ms)
 
 -- ---- Holders
 

@@ -1,11 +1,10 @@
 -- One place for each thread: an entry exactly where its place says so.
-use Rattle.std.specs.Prelude.{Bool, List, None, Option, Some, [], false, is_some, true, ℕ, ◌+◌, ◌==◌, ◌∷◌, ◌≡◌, ◌≤◌}
+use Rattle.std.specs.Prelude.{Bool, List, None, Option, Some, [], false, if◌then◌else◌, is_some, true, ℕ, ◌+◌, ◌==◌, ◌∷◌, ◌≡◌, ◌≤◌}
 use Rattle.task_machine.specs.declared.records.Entry.{Entry}
 use Rattle.task_machine.specs.declared.records.Place.{Place}
 use Rattle.task_machine.specs.declared.words.Mark.TheVariants as mark
 use Rattle.task_machine.specs.declared.records.Place.TheVariants as place
 use Rattle.task_machine.specs.Core.{Core}
-use Rattle.task_machine.specs.Maps.{get}
 use Rattle.task_machine.specs.Read.{callers_of, is_entry_of, place_of}
 
 abbrev pub one_if : Bool → ℕ
@@ -49,18 +48,19 @@ abbrev pub says : (Place → Bool) → Option Place → ℕ
 says test None = 0
 says test (Some p) = one_if (test p)
 
--- The thread has its entry just where its place says, once, and none elsewhere; it is among the callers of none but that one which it is behind, and once.
+-- some thread has the number
+abbrev pub is_there : ℕ → Core → Bool
+is_there n s = is_some (place_of n s)
+
+-- A thread's number was given, and so was the number of the one that it is behind. It has its entry just where its place says so, once, and none elsewhere. It is among the callers of another thread exactly where it is behind that one, once; one that is gone has no callers.
 pub record HasPlace (n : ℕ) (s : Core) : Type 0 where
+  pub number : is_there n s ≡ true → n ≤ s.made.threads
+  pub behind : (f : ℕ) → says (is_behind_of f) (place_of n s) ≡ 1 → f ≤ s.made.threads
   pub switch : switch_entries n s.queues.switch ≡ says is_at_switch (place_of n s)
   pub high : entries n s.queues.high ≡ says is_at_high (place_of n s)
   pub low : entries n s.queues.low ≡ says is_at_low (place_of n s)
-  pub callers : (f : ℕ) → times n (callers_of f s) ≤ says (is_behind_of f) (place_of n s)
-
--- every number of a thread was given
-abbrev pub Numbered : Core → Type 0
-Numbered s = (n : ℕ) → is_some (get s.threads n) ≡ true → n ≤ s.made.threads
+  pub callers : (f : ℕ) → times n (callers_of f s) ≡ (if is_there f s then says (is_behind_of f) (place_of n s) else 0)
 
 -- Each thread has its place.
-pub record Placed (s : Core) : Type 0 where
-  pub numbered : Numbered s
-  pub each : (n : ℕ) → HasPlace n s
+abbrev pub Placed : Core → Type 0
+Placed s = (n : ℕ) → HasPlace n s

@@ -22,7 +22,7 @@ use Rattle.task_machine.specs.Read.{next_entry, strand_of}
 use Rattle.task_machine.specs.Write.{remove_threads, set_trapped}
 use Rattle.task_rules.specs.Cancels.{subtask_row}
 use Rattle.task_rules.specs.Data.{data_row}
-use Rattle.task_rules.specs.MainOps.{Answers, Does, MainAct, MainProgress, Pends, act_of, advanced_main, line_of, main_row, op_at}
+use Rattle.task_rules.specs.MainOps.{Answers, Does, MainAct, MainProgress, Pends, act_of, advanced_main, line_of, main_row, may_act, op_at}
 use Rattle.task_rules.specs.Progress.{Fails, Goes, Never, Ordered, Progress, Stops, Traps}
 use Rattle.task_rules.specs.Scripts.{op_of}
 use Rattle.task_rules.specs.Sets.{set_row}
@@ -65,7 +65,7 @@ Progresses s base n (Ordered ns next) l t = (order : List ℕ) × (IsPermutation
 
 -- ---- The turns
 
--- the ops of main: of a script the op at its place, else any op that the core allows
+-- the ops of main: of a script the op at its place, else any act that a main may do
 abbrev pub MainProgresses : State → MainPlace → MainOpDef → MainProgress → Label → State → Type 0
 MainProgresses s p o (Does l new) x t = (x ≡ label.Main l) × (t ≡ at_turn s new (Scripted (advanced_main o l p)) turn.Main)
 MainProgresses s p o Pends x t = (x ≡ label.Loop loop_label.MainPends) × (t ≡ goes_to s s.core (turn.Futures 0))
@@ -80,10 +80,14 @@ OpenProgresses s (Does l new) x t = (x ≡ label.Main l) × (t ≡ goes_to s new
 OpenProgresses s Pends x t = ⊥
 OpenProgresses s (Answers v) x t = (x ≡ label.Main (main_label.Answer v)) × (t ≡ goes_to s s.core turn.Over)
 
--- a main that is no script may pend, or do any op that the core allows
+-- a main that is no script does such an act, in an op that is the k-th of its kind or names it
+abbrev pub OpenAct : Setting → State → ℕ → MainAct → Label → State → Type 0
+OpenAct x s k act l t = (may_act x.component s.core act ≡ true) × OpenProgresses s (main_row x.component k s.core act) l t
+
+-- it may pend, or do any act that a main may do in this core
 abbrev pub OpenStep : Setting → State → Label → State → Type 0
 OpenStep x s (label.Loop loop_label.MainPends) t = t ≡ goes_to s s.core (turn.Futures 0)
-OpenStep x s l t = (k : ℕ) × ((act : MainAct) × OpenProgresses s (main_row x.component k s.core act) l t)
+OpenStep x s l t = (k : ℕ) × ((act : MainAct) × OpenAct x s k act l t)
 
 abbrev pub MainStep : Setting → State → Main → Label → State → Type 0
 MainStep x s (Scripted p) l t = ScriptStep x s p (op_at x.script p) l t

@@ -109,8 +109,8 @@ pub fn runs_are_steady()
     ensures { KeptByRuns Steady }
 {}
 
-/// Whether a blocking export may leave is told on the state before: it is the check after the
-/// release and the return, where each thread that waits on a set is of the set's instance.
+/// Whether a blocking export may leave is the check on the state that the release and the return
+/// leave, in whatever order its held threads are released.
 pub fn blocking_check_is_after()
     ensures { BlockingCheckIsAfter }
 {}

@@ -1,5 +1,5 @@
 -- The steps of the machine from simple states.
-use Rattle.std.proofs.Common.{ap, refl, subst, sym, ◌∙◌}
+use Rattle.std.proofs.Common.{ap, length, refl, subst, sym, ◌∙◌}
 use Rattle.std.specs.Prelude.{Bool, List, None, Option, Some, [], false, option_and_then, true, ℕ, ◌+◌, ◌≡◌, ◌≢◌}
 use Rattle.task_machine.specs.declared.component.Callee.{Callee}
 use Rattle.task_machine.specs.declared.label.Label.{Label}
@@ -25,7 +25,7 @@ use Rattle.task_machine.specs.Labels.{choice_of, exit_label, held_label, ret_lab
 use Rattle.task_machine.specs.Maps.{get}
 use Rattle.task_machine.specs.Read.{at_handle_limit, fits, has_ended, instance_of, may_not_enter, next_entry, place_of, thread_handle_of}
 use Rattle.task_machine.specs.Write.{set_trapped, take_result}
-use Rattle.task_rules.specs.MainOps.{Answer, Answers, Does, Finish, Pends, act_of, advanced_main, line_of, op_at, Start, main_row}
+use Rattle.task_rules.specs.MainOps.{Answer, Answers, Does, Finish, Pends, act_of, advanced_main, line_of, op_at, Start, main_row, takes_words}
 use Rattle.task_rules.specs.Data.{data_row}
 use Rattle.task_rules.specs.Progress.{Goes, Traps, trap_if}
 use Rattle.task_rules.specs.Scripts.{export_kind, op_of, value_of}
@@ -177,32 +177,32 @@ module _ (x : Setting) (s : State) (turn_is : s.turn ≡ turn.Main) (unscripted 
   pub main_pends : Step x s (label.Loop loop_label.MainPends) (goes_to s s.core (turn.Futures 0))
   main_pends = mains _ _ refl
 
-  pub main_starts : (k : ℕ) (e : Callee) (words : List ℕ) → s.core.trapped ≡ false → fits 4 s.core ≡ true → Step x s (label.Main (main_label.Start k (s.core.made.threads + 1))) (goes_to s (call_started e (export_kind x.component e) words s.core) turn.Main)
-  main_starts k e words untrapped room =
+  pub main_starts : (k : ℕ) (e : Callee) (words : List ℕ) → takes_words x.component e (length words) ≡ true → s.core.trapped ≡ false → fits 4 s.core ≡ true → Step x s (label.Main (main_label.Start k (s.core.made.threads + 1))) (goes_to s (call_started e (export_kind x.component e) words s.core) turn.Main)
+  main_starts k e words there untrapped room =
       let l = label.Main (main_label.Start k (s.core.made.threads + 1)) in
       let t = goes_to s (call_started e (export_kind x.component e) words s.core) turn.Main in
-      mains l t (k, (Start e words, subst (λ p. OpenProgresses s p l t) (sym (start_act_begun x.component k e words s.core untrapped room)) (refl, refl)))
+      mains l t (k, (Start e words, (there, subst (λ p. OpenProgresses s p l t) (sym (start_act_begun x.component k e words s.core untrapped room)) (refl, refl))))
 
-  pub main_start_trapped : (k : ℕ) (e : Callee) (words : List ℕ) → s.core.trapped ≡ true → Step x s (label.Main (main_label.StartRefused trap.CannotEnterComponent k)) (goes_to s (set_trapped s.core) turn.Main)
-  main_start_trapped k e words trapped =
+  pub main_start_trapped : (k : ℕ) (e : Callee) (words : List ℕ) → takes_words x.component e (length words) ≡ true → s.core.trapped ≡ true → Step x s (label.Main (main_label.StartRefused trap.CannotEnterComponent k)) (goes_to s (set_trapped s.core) turn.Main)
+  main_start_trapped k e words there trapped =
       let l = label.Main (main_label.StartRefused trap.CannotEnterComponent k) in
       let t = goes_to s (set_trapped s.core) turn.Main in
-      mains l t (k, (Start e words, subst (λ p. OpenProgresses s p l t) (sym (start_act_trapped x.component k e words s.core trapped)) (refl, refl)))
+      mains l t (k, (Start e words, (there, subst (λ p. OpenProgresses s p l t) (sym (start_act_trapped x.component k e words s.core trapped)) (refl, refl))))
 
-  pub main_start_full : (k : ℕ) (e : Callee) (words : List ℕ) → s.core.trapped ≡ false → fits 4 s.core ≡ false → Step x s (label.Main (main_label.StartRefused trap.TableFull k)) (goes_to s (set_trapped s.core) turn.Main)
-  main_start_full k e words untrapped full =
+  pub main_start_full : (k : ℕ) (e : Callee) (words : List ℕ) → takes_words x.component e (length words) ≡ true → s.core.trapped ≡ false → fits 4 s.core ≡ false → Step x s (label.Main (main_label.StartRefused trap.TableFull k)) (goes_to s (set_trapped s.core) turn.Main)
+  main_start_full k e words there untrapped full =
       let l = label.Main (main_label.StartRefused trap.TableFull k) in
       let t = goes_to s (set_trapped s.core) turn.Main in
-      mains l t (k, (Start e words, subst (λ p. OpenProgresses s p l t) (sym (start_act_full x.component k e words s.core untrapped full)) (refl, refl)))
+      mains l t (k, (Start e words, (there, subst (λ p. OpenProgresses s p l t) (sym (start_act_full x.component k e words s.core untrapped full)) (refl, refl))))
 
   pub main_finishes : (k n v : ℕ) → get s.core.results n ≡ Some v → Step x s (label.Main (main_label.Finish k v)) (goes_to s (take_result n s.core) turn.Main)
   main_finishes k n v given =
       let l = label.Main (main_label.Finish k v) in
       let t = goes_to s (take_result n s.core) turn.Main in
-      mains l t (k, (Finish (Began n), subst (λ p. OpenProgresses s p l t) (sym (finish_act_given k n v s.core given)) (refl, refl)))
+      mains l t (k, (Finish (Began n), (refl, subst (λ p. OpenProgresses s p l t) (sym (finish_act_given k n v s.core given)) (refl, refl))))
 
   pub main_answers : (v : ℕ) → Step x s (label.Main (main_label.Answer v)) (goes_to s s.core turn.Over)
-  main_answers v = mains _ _ (0, (Answer v, (refl, refl)))
+  main_answers v = mains _ _ (0, (Answer v, (refl, (refl, refl))))
 
 -- ---- Main, which is a script
 

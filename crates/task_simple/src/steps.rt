@@ -1,13 +1,13 @@
 //! The steps of the machine from simple states. Each function is the statement of its clauses.
 
-ghost use Rattle.std.specs.Prelude.{Bool, List, None, Some, [], false, true, ℕ, ◌+◌, ◌≡◌};
+ghost use Rattle.std.specs.Prelude.{Bool, List, None, Some, [], false, length, true, ℕ, ◌+◌, ◌≡◌};
 ghost use Rattle.task_machine.specs.Core.{Core, MainPlace, Scripted, State, Unscripted};
 ghost use Rattle.task_machine.specs.Labels.{exit_label, held_label, ret_label, take_label};
 ghost use Rattle.task_machine.specs.Maps.{get};
 ghost use Rattle.task_machine.specs.Read.{at_handle_limit, fits, has_ended, instance_of, may_not_enter, next_entry, place_of, thread_handle_of};
 ghost use Rattle.task_machine.specs.Write.{set_trapped, take_result};
 ghost use Rattle.task_rules.specs.Data.{data_row};
-ghost use Rattle.task_rules.specs.MainOps.{Answers, Does, Pends, act_of, advanced_main, line_of, main_row, op_at};
+ghost use Rattle.task_rules.specs.MainOps.{Answers, Does, Pends, act_of, advanced_main, line_of, main_row, op_at, takes_words};
 ghost use Rattle.task_rules.specs.Progress.{Goes};
 ghost use Rattle.task_rules.specs.Scripts.{export_kind, op_of, value_of};
 ghost use Rattle.task_rules.specs.Stalled.{Setting, main_pends};
@@ -68,9 +68,9 @@ pub fn thread_exits()
 /// A main that is no script starts calls, finishes them, pends and answers.
 #[tactic(auto, using(crate::proofs::StepLemmas::main_starts, crate::proofs::StepLemmas::main_start_trapped, crate::proofs::StepLemmas::main_start_full, crate::proofs::StepLemmas::main_finishes, crate::proofs::StepLemmas::main_pends, crate::proofs::StepLemmas::main_answers))]
 pub fn main_acts()
-    ensures starts { (x : Setting) (s : State) → s.turn ≡ Turn.Main → s.main ≡ Unscripted → (k : ℕ) (e : Callee) (words : List ℕ) → s.core.trapped ≡ false → fits 4 s.core ≡ true → Step x s (Label.Main (MainLabel.Start k (s.core.made.threads + 1))) (goes_to s (call_started e (export_kind x.component e) words s.core) Turn.Main) }
-    ensures trapped { (x : Setting) (s : State) → s.turn ≡ Turn.Main → s.main ≡ Unscripted → (k : ℕ) (e : Callee) (words : List ℕ) → s.core.trapped ≡ true → Step x s (Label.Main (MainLabel.StartRefused Trap.CannotEnterComponent k)) (goes_to s (set_trapped s.core) Turn.Main) }
-    ensures full { (x : Setting) (s : State) → s.turn ≡ Turn.Main → s.main ≡ Unscripted → (k : ℕ) (e : Callee) (words : List ℕ) → s.core.trapped ≡ false → fits 4 s.core ≡ false → Step x s (Label.Main (MainLabel.StartRefused Trap.TableFull k)) (goes_to s (set_trapped s.core) Turn.Main) }
+    ensures starts { (x : Setting) (s : State) → s.turn ≡ Turn.Main → s.main ≡ Unscripted → (k : ℕ) (e : Callee) (words : List ℕ) → takes_words x.component e (length words) ≡ true → s.core.trapped ≡ false → fits 4 s.core ≡ true → Step x s (Label.Main (MainLabel.Start k (s.core.made.threads + 1))) (goes_to s (call_started e (export_kind x.component e) words s.core) Turn.Main) }
+    ensures trapped { (x : Setting) (s : State) → s.turn ≡ Turn.Main → s.main ≡ Unscripted → (k : ℕ) (e : Callee) (words : List ℕ) → takes_words x.component e (length words) ≡ true → s.core.trapped ≡ true → Step x s (Label.Main (MainLabel.StartRefused Trap.CannotEnterComponent k)) (goes_to s (set_trapped s.core) Turn.Main) }
+    ensures full { (x : Setting) (s : State) → s.turn ≡ Turn.Main → s.main ≡ Unscripted → (k : ℕ) (e : Callee) (words : List ℕ) → takes_words x.component e (length words) ≡ true → s.core.trapped ≡ false → fits 4 s.core ≡ false → Step x s (Label.Main (MainLabel.StartRefused Trap.TableFull k)) (goes_to s (set_trapped s.core) Turn.Main) }
     ensures finishes { (x : Setting) (s : State) → s.turn ≡ Turn.Main → s.main ≡ Unscripted → (k n v : ℕ) → get s.core.results n ≡ Some v → Step x s (Label.Main (MainLabel.Finish k v)) (goes_to s (take_result n s.core) Turn.Main) }
     ensures pends { (x : Setting) (s : State) → s.turn ≡ Turn.Main → s.main ≡ Unscripted → Step x s (Label.Loop LoopLabel.MainPends) (goes_to s s.core (Turn.Futures 0)) }
     ensures answers { (x : Setting) (s : State) → s.turn ≡ Turn.Main → s.main ≡ Unscripted → (v : ℕ) → Step x s (Label.Main (MainLabel.Answer v)) (goes_to s s.core Turn.Over) }

@@ -1,4 +1,4 @@
-use Rattle.task_laws.proofs.ShelvedLemmas as lemmas
+use Rattle.task_laws.proofs.SetHandles as lemmas
 use Rattle.task_laws.proofs.handles.sets_are_named_at_home.Goals as goal
 
 pub returns : goal.returns

@@ -1,4 +1,4 @@
-use Rattle.task_laws.proofs.HolderLemmas as lemmas
+use Rattle.task_laws.proofs.OneHolder as lemmas
 use Rattle.task_laws.proofs.holders.one_entry_holds.Goals as goal
 
 pub returns : goal.returns

@@ -1,4 +1,4 @@
-use Rattle.task_laws.proofs.SoundSteps as steps
+use Rattle.task_laws.proofs.CallsSteps as steps
 use Rattle.task_laws.proofs.rises.explicit_thread_names_no_call.Goals as goal
 
 pub returns : goal.returns

@@ -1,4 +1,4 @@
-use Rattle.task_laws.proofs.SoundSteps as steps
+use Rattle.task_laws.proofs.CallsSteps as steps
 use Rattle.task_laws.proofs.rises.sync_end_is_last.Goals as goal
 
 pub returns : goal.returns

@@ -1,4 +1,4 @@
-use Rattle.task_places.proofs.ReachedPlaces as lemmas
+use Rattle.task_places.proofs.OrderLemmas as lemmas
 use Rattle.task_places.proofs.places.steps_keep_places.Goals as goal
 
 pub returns : goal.returns

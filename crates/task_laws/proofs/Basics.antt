@@ -1,0 +1,21 @@
+-- Booleans and numbers that can't be.
+use Rattle.std.proofs.Common.{T, arith, subst, sym}
+use Rattle.std.specs.Prelude.{false, true, ℕ, ◌+◌, ◌==◌, ◌≡◌, ◌≤◌}
+
+pub true_is_not_false : true ≡ false → ⊥
+true_is_not_false h = subst T h tt
+
+pub no_way : {A : Type 0} → false ≡ true → A
+no_way h = absurd (true_is_not_false (sym h))
+
+pub same_number : (n : ℕ) → (n == n) ≡ true
+same_number n = grind arith
+
+pub too_low : 1 ≤ 0 → ⊥
+too_low h = omega (h, arith)
+
+pub too_high : {q n : ℕ} → q ≡ n + 1 → q ≤ n → ⊥
+too_high e h = omega (e, h, arith)
+
+pub above : {n m : ℕ} → n ≤ m → n ≤ m + 1
+above h = omega (h, arith)

@@ -1,0 +1,186 @@
+-- A state in order: what is so of every opening state and kept by every step, whatever the state was reached by.
+use Rattle.std.specs.Prelude.{Bool, None, Option, Some, false, is_none, is_some, option_and_then, option_map, true, ℕ, ◌+◌, ◌≡◌, ◌≤◌}
+use Rattle.task_laws.specs.Settings.{CodesInCallbacks}
+use Rattle.task_machine.specs.Core.{Core, Main, State}
+use Rattle.task_machine.specs.Maps.{get}
+use Rattle.task_machine.specs.Read.{how_far_of, instance_of, is_async_lifted, is_callback, is_direct, is_explicit, kind_of, place_of, set_at, subtask_at}
+use Rattle.task_machine.specs.declared.component.Component.{Component}
+use Rattle.task_machine.specs.declared.label.Label.{Label}
+use Rattle.task_machine.specs.declared.records.Call.{Call}
+use Rattle.task_machine.specs.declared.records.Delivery.TheVariants as delivery
+use Rattle.task_machine.specs.declared.records.HowFar.{HowFar}
+use Rattle.task_machine.specs.declared.records.HowFar.TheVariants as how_far
+use Rattle.task_machine.specs.declared.records.Place.{Place}
+use Rattle.task_machine.specs.declared.records.Place.TheVariants as place
+use Rattle.task_machine.specs.declared.records.Set.{Set}
+use Rattle.task_machine.specs.declared.records.Subtask.{Subtask}
+use Rattle.task_machine.specs.declared.records.Subtask.TheVariants as subtask
+use Rattle.task_machine.specs.declared.records.Thread.{Thread}
+use Rattle.task_machine.specs.declared.records.Turn.TheVariants as turn
+use Rattle.task_machine.specs.declared.records.Why.{Why}
+use Rattle.task_machine.specs.declared.records.Why.TheVariants as why
+use Rattle.task_rules.specs.Places.{Placed}
+use Rattle.task_rules.specs.Run.{opening}
+use Rattle.task_rules.specs.Scripts.{export_kind}
+use Rattle.task_rules.specs.Stalled.{Setting}
+use Rattle.task_rules.specs.Step.{Step}
+
+-- ---- Places
+
+-- Each thread has its place, and a thread whose turn it is runs.
+pub record InPlace (s : State) : Type 0 where
+  pub placed : Placed s.core
+  pub runs : (n : ℕ) → s.turn ≡ turn.Run n → place_of n s.core ≡ Some place.Running
+
+-- A thread that is under another has a smaller number than that one, whose number was given; and it is under it alone.
+pub record Strands (s : Core) : Type 0 where
+  pub below : (n m : ℕ) → place_of n s ≡ Some (place.Under m) → n + 1 ≤ m
+  pub made : (n m : ℕ) → place_of n s ≡ Some (place.Under m) → m ≤ s.made.threads
+  pub alone : (n k m : ℕ) → place_of n s ≡ Some (place.Under m) → place_of k s ≡ Some (place.Under m) → n ≡ k
+
+-- ---- Numbers
+
+-- A thread's number and that of its call were given. A first thread has its call's number; the number of another thread names no call.
+pub record ThreadNumbered (s : Core) (n : ℕ) (t : Thread) : Type 0 where
+  pub number : n ≤ s.made.threads
+  pub call : t.call ≤ s.made.threads
+  pub own : t.explicit ≡ false → t.call ≡ n
+  pub nameless : t.explicit ≡ true → is_none (get s.calls n) ≡ true
+
+pub record Numbered (s : Core) : Type 0 where
+  pub threads : (n : ℕ) (t : Thread) → get s.threads n ≡ Some t → ThreadNumbered s n t
+  pub calls : (k : ℕ) (c : Call) → get s.calls k ≡ Some c → (1 ≤ k) × (k ≤ s.made.threads)
+
+-- the call of each thread is there
+abbrev pub CallsThere : Core → Type 0
+CallsThere s = (n k : ℕ) → option_map (λ (t : Thread). t.call) (get s.threads n) ≡ Some k → is_some (get s.calls k) ≡ true
+
+-- the number was given, and not to a thread that a task made beside its first one
+pub record WasCall (s : Core) (k : ℕ) : Type 0 where
+  pub number : k ≤ s.made.threads
+  pub first : is_explicit k s ≡ false
+
+-- the subtask that an op under way is about
+abbrev pub under_way : HowFar → Option Subtask
+under_way (how_far.Calls sub) = Some sub
+under_way (how_far.Cancels sub) = Some sub
+under_way (how_far.AwaitsEnd sub) = Some sub
+under_way _ = None
+
+-- Each call that a handle names, or that an op under way is about, was made as a call.
+pub record CallsNamed (s : Core) : Type 0 where
+  pub by_handle : (i h k : ℕ) → subtask_at i h s ≡ Some (subtask.Guest k) → WasCall s k
+  pub by_op : (n k : ℕ) → under_way (how_far_of n s) ≡ Some (subtask.Guest k) → WasCall s k
+
+-- A handle of a set names a set of its own instance, which was made, and no other handle names it.
+pub record SetsNamed (s : Core) : Type 0 where
+  pub number : (i h x : ℕ) → set_at i h s ≡ Some x → x ≤ s.made.sets
+  pub home : (i h x : ℕ) → set_at i h s ≡ Some x → option_map (λ (r : Set). r.instance) (get s.sets x) ≡ Some i
+  pub once : (i j h g x : ℕ) → set_at i h s ≡ Some x → set_at j g s ≡ Some x → (i ≡ j) × (h ≡ g)
+
+-- ---- Waiting on sets
+
+abbrev pub set_of_why : Why → Option ℕ
+set_of_why (why.Delivery (delivery.Set x)) = Some x
+set_of_why _ = None
+
+-- the set on which the thread waits, or for which a delivery stands or is held
+abbrev pub set_of_place : Place → Option ℕ
+set_of_place (place.Waiting x by_callback) = Some x
+set_of_place (place.Ready m w) = set_of_why w
+set_of_place (place.Held w) = set_of_why w
+set_of_place _ = None
+
+-- the set inside a wait on which the thread is
+abbrev pub set_of_op : HowFar → Option ℕ
+set_of_op (how_far.Waits x) = Some x
+set_of_op _ = None
+
+-- the set was made, and if it is there, it is of the instance
+pub record IsOf (i x : ℕ) (s : Core) : Type 0 where
+  pub made : x ≤ s.made.sets
+  pub home : (r : Set) → get s.sets x ≡ Some r → r.instance ≡ i
+
+-- A thread that waits on a set, has a delivery for it or is inside a wait on it is of the set's instance.
+pub record WaitsAtHome (s : Core) : Type 0 where
+  pub by_place : (n x : ℕ) → option_and_then set_of_place (place_of n s) ≡ Some x → IsOf (instance_of n s) x s
+  pub by_op : (n x : ℕ) → set_of_op (how_far_of n s) ≡ Some x → IsOf (instance_of n s) x s
+
+-- ---- Calls
+
+-- A call has the kind of its export. A direct one is of a sync or a blocking export. Where it is of such an export no cancel request is delivered to it, and once it has ended its first thread is gone.
+pub record CallKind (c : Component) (s : Core) (k : ℕ) (x : Call) : Type 0 where
+  pub kind : x.kind ≡ export_kind c x.callee
+  pub direct : is_direct x.goal ≡ true → is_async_lifted x.kind ≡ false
+  pub uncancelled : is_async_lifted x.kind ≡ false → x.cancel_delivered ≡ false
+  pub gone : is_async_lifted x.kind ≡ false → is_some x.«end» ≡ true → is_none (get s.threads k) ≡ true
+
+abbrev pub CallKinds : Component → Core → Type 0
+CallKinds c s = (k : ℕ) (x : Call) → get s.calls k ≡ Some x → CallKind c s k x
+
+abbrev pub is_delivery : Why → Bool
+is_delivery (why.Delivery d) = true
+is_delivery _ = false
+
+-- the thread waits by callback, or a delivery for it stands at a mark or is held
+abbrev pub is_delivered : Place → Bool
+is_delivered (place.Ready m w) = is_delivery w
+is_delivered (place.Held w) = is_delivery w
+is_delivered (place.Waiting x by_callback) = by_callback
+is_delivered _ = false
+
+-- deliveries are for threads of callback exports
+abbrev pub DeliveredByCallback : Core → Type 0
+DeliveredByCallback s = (n : ℕ) (t : Thread) → get s.threads n ≡ Some t → is_delivered t.place ≡ true → is_callback (kind_of t.call s) ≡ true
+
+abbrev pub is_start : Why → Bool
+is_start why.Start = true
+is_start _ = false
+
+-- the thread is gone, or waits for its start
+abbrev pub is_fresh : Option Place → Bool
+is_fresh None = true
+is_fresh (Some place.New) = true
+is_fresh (Some (place.Ready m w)) = is_start w
+is_fresh (Some (place.Held w)) = is_start w
+is_fresh _ = false
+
+-- the first thread of a call whose start hasn't run waits for it, or is gone
+abbrev pub StartsAwaited : Core → Type 0
+StartsAwaited s = (k : ℕ) (c : Call) → get s.calls k ≡ Some c → c.started ≡ false → is_fresh (place_of k s) ≡ true
+
+-- ---- Counts
+
+-- From s to t at most one thread is made, one work, one set and one group.
+pub record MakesFew (s t : Core) : Type 0 where
+  pub threads : t.made.threads ≤ s.made.threads + 1
+  pub works : t.made.works ≤ s.made.works + 1
+  pub sets : t.made.sets ≤ s.made.sets + 1
+  pub groups : t.made.groups ≤ s.made.groups + 1
+
+abbrev pub StepsMakeFew : Type 0
+StepsMakeFew = (x : Setting) (s : State) (l : Label) (t : State) → Step x s l t → MakesFew s.core t.core
+
+-- ---- All of it
+
+-- What every step keeps of a state, of a component whose codes stand in callbacks.
+pub record InOrder (c : Component) (s : State) : Type 0 where
+  pub codes : CodesInCallbacks c
+  pub in_place : InPlace s
+  pub strands : Strands s.core
+  pub numbered : Numbered s.core
+  pub calls_there : CallsThere s.core
+  pub calls_named : CallsNamed s.core
+  pub sets_named : SetsNamed s.core
+  pub waits : WaitsAtHome s.core
+  pub kinds : CallKinds c s.core
+  pub deliveries : DeliveredByCallback s.core
+  pub starts : StartsAwaited s.core
+
+-- each opening state is in order
+abbrev pub OpeningInOrder : Type 0
+OpeningInOrder = (c : Component) → CodesInCallbacks c → (instances handle_limit capacity : ℕ) (main : Main) → InOrder c (opening instances handle_limit capacity main)
+
+-- each step from a state in order leads to one
+abbrev pub StepInOrder : Type 0
+StepInOrder = (x : Setting) (s : State) (l : Label) (t : State) → InOrder x.component s → Step x s l t → InOrder x.component t

@@ -1,0 +1,22 @@
+ghost use Rattle.task_laws.specs.Order.{OpeningInOrder, StepInOrder, StepsMakeFew};
+ghost use Rattle.task_places.specs.Kept.{ReachedInOrder};
+
+/// Each opening state of a component is in order.
+pub fn opening_in_order()
+    ensures { OpeningInOrder }
+{}
+
+/// Each step from a state in order leads to a state in order.
+pub fn step_in_order()
+    ensures { StepInOrder }
+{}
+
+/// So each state that a run comes to is in order.
+pub fn reached_in_order()
+    ensures { ReachedInOrder }
+{}
+
+/// A step makes at most one thread, one work, one set and one group.
+pub fn steps_make_few()
+    ensures { StepsMakeFew }
+{}

@@ -1,0 +1,135 @@
+-- The end of a task as a chain of words.
+use Rattle.std.proofs.Common.{T, ap, ap₂, refl, subst, sym, ◌∙◌}
+use Rattle.std.specs.Option.{option_map_or}
+use Rattle.std.specs.Prelude.{None, Option, Some, false, not, option_and_then, option_map, slice_set, true, ℕ, ◌&&◌, ◌≡◌}
+use Rattle.task_machine.proofs.MapLemmas.{change-field, get-change_same}
+use Rattle.task_machine.specs.Core.{Core}
+use Rattle.task_machine.specs.Maps.{get}
+use Rattle.task_machine.specs.Read.{caller_of, end_of, goal_of, is_direct, is_guest_call, is_waiting_on, join_of, place_of}
+use Rattle.task_machine.specs.Write.{give_result, on_call, on_thread, set_end, set_register, set_result}
+use Rattle.task_machine.specs.declared.records.Call.{Call}
+use Rattle.task_machine.specs.declared.records.CallEnd.{CallEnd}
+use Rattle.task_machine.specs.declared.records.Caller.{Caller}
+use Rattle.task_machine.specs.declared.records.Goal.{Goal}
+use Rattle.task_rules.proofs.WalkMoves.{Chosen, ToldTo, told_walks, word}
+use Rattle.task_rules.specs.Allowed.{MayEnd, SaysEnd}
+use Rattle.task_rules.specs.Chains.{Walk}
+use Rattle.task_rules.specs.Ends.{cancelled, is_told, result_given, returned, told}
+use Rattle.task_rules.specs.Scenes.{Scene}
+use Rattle.task_rules.specs.Words.{GiveResult, SetEnd, SetRegister, SetResult}
+use Rattle.task_machine.specs.declared.records.CallEnd.TheVariants as call_end
+use Rattle.task_machine.specs.declared.records.Caller.TheVariants as caller
+use Rattle.task_machine.specs.declared.records.Goal.TheVariants as goal
+use Rattle.task_machine.specs.declared.records.Join.TheVariants as join
+use Rattle.task_machine.specs.declared.records.Subtask.TheVariants as subtask
+use Rattle.task_machine.specs.declared.words.Status.TheVariants as status
+
+-- ---- What an end and a result leave of a call
+
+-- the record of a call but for how far it has come, its end and its result
+abbrev pub unanswered : Call → Call
+unanswered c = record c { started = false; starting_published = false; «end» = None; result = None }
+
+-- the record of a call but for its result
+abbrev unresulted : Call → Call
+unresulted c = record c { result = None }
+
+pub read_by : {X A : Type 0} (g : X → X) (f : X → A) (none : A) → ((c : X) → f (g c) ≡ f c) → (o p : Option X) → option_map g o ≡ option_map g p → option_map_or f o none ≡ option_map_or f p none
+read_by {X = X} g f none same o p e = sym (at o) ∙ (ap (λ q. option_map_or f q none) e ∙ at p)
+  where
+    at : (q : Option X) → option_map_or f (option_map g q) none ≡ option_map_or f q none
+    at None = refl
+    at (Some c) = same c
+
+-- from s to t the call has at most come to an end and a result
+abbrev pub SameCall : ℕ → Core → Core → Type 0
+SameCall k s t = option_map unanswered (get t.calls k) ≡ option_map unanswered (get s.calls k)
+
+module _ (k : ℕ) (s t : Core) (h : SameCall k s t) where
+  same_told : is_told k t ≡ is_told k s
+  same_told = ap₂ (λ f g. is_guest_call f && not (is_direct g)) (read_by unanswered (λ c. c.caller) caller.Main (λ c. refl) (get t.calls k) (get s.calls k) h) (read_by unanswered (λ c. c.goal) goal.Nowhere (λ c. refl) (get t.calls k) (get s.calls k) h)
+
+  same_join : join_of (subtask.Guest k) t ≡ join_of (subtask.Guest k) s
+  same_join = read_by unanswered (λ c. c.join) join.Nowhere (λ c. refl) (get t.calls k) (get s.calls k) h
+
+  -- the chosen thread is the same
+  pub still_told_to : (w : Option ℕ) → ((x : ℕ) → Chosen x w s → Chosen x w t) → ToldTo k w s → ToldTo k w t
+  still_told_to w keeps to told x is = keeps x (to (sym same_told ∙ told) x (sym same_join ∙ is))
+
+end_same : (k : ℕ) (e : CallEnd) (s : Core) → SameCall k s (set_end k e s)
+unfolding set_end on_call
+end_same k e s = change-field unanswered k (λ c. record c { «end» = Some e }) (λ c. refl) s.calls k
+
+end_places : (k : ℕ) (e : CallEnd) (s : Core) (n : ℕ) → place_of n (set_end k e s) ≡ place_of n s
+unfolding set_end on_call
+end_places k e s n = refl
+
+result_resulted : (g : Goal) (f : Caller) (k v : ℕ) (s : Core) → option_map unresulted (get (result_given g f k v s).calls k) ≡ option_map unresulted (get s.calls k)
+unfolding give_result set_register on_thread set_result on_call
+result_resulted goal.Main f k v s = refl
+result_resulted (goal.Register r) (caller.Thread n) k v s = refl
+result_resulted (goal.Register r) caller.Main k v s = refl
+result_resulted goal.Answer f k v s = change-field unresulted k (λ c. record c { result = Some v }) (λ c. refl) s.calls k
+result_resulted goal.Nowhere f k v s = refl
+result_resulted goal.Direct f k v s = refl
+
+unanswer : (o p : Option Call) → option_map unresulted o ≡ option_map unresulted p → option_map unanswered o ≡ option_map unanswered p
+unanswer o p e = sym (at o) ∙ (ap (option_map unanswered) e ∙ at p)
+  where
+    at : (q : Option Call) → option_map unanswered (option_map unresulted q) ≡ option_map unanswered q
+    at None = refl
+    at (Some c) = refl
+
+result_places : (g : Goal) (f : Caller) (k v : ℕ) (s : Core) (m : ℕ) → place_of m (result_given g f k v s) ≡ place_of m s
+unfolding give_result set_register on_thread set_result on_call
+result_places goal.Main f k v s m = refl
+result_places (goal.Register r) (caller.Thread n) k v s m = change-field (λ t. t.place) n (λ t. record t { registers = slice_set t.registers r v }) (λ t. refl) s.threads m
+result_places (goal.Register r) caller.Main k v s m = refl
+result_places goal.Answer f k v s m = refl
+result_places goal.Nowhere f k v s m = refl
+result_places goal.Direct f k v s m = refl
+
+-- a told call is there
+told_end : (k : ℕ) (e : CallEnd) (o p : Option Call) → option_map unresulted p ≡ option_map unresulted (option_map (λ (c : Call). record c { «end» = Some e }) o) → (is_guest_call (option_map_or (λ c. c.caller) o caller.Main) && not (is_direct (option_map_or (λ c. c.goal) o goal.Nowhere))) ≡ true → option_and_then (λ c. c.«end») p ≡ Some e
+told_end k e None p same told = absurd (subst T (sym told) tt)
+told_end k e (Some c) p same told = sym (at p) ∙ ap (option_and_then (λ d. d.«end»)) same
+  where
+    at : (q : Option Call) → option_and_then (λ d. d.«end») (option_map unresulted q) ≡ option_and_then (λ d. d.«end») q
+    at None = refl
+    at (Some d) = refl
+
+told_ends : (k : ℕ) (e : CallEnd) (s t : Core) → option_map unresulted (get t.calls k) ≡ option_map unresulted (get (set_end k e s).calls k) → is_told k t ≡ true → end_of k t ≡ Some e
+unfolding set_end on_call
+told_ends k e s t same told =
+    let there = same ∙ ap (option_map unresulted) (get-change_same s.calls k (λ (c : Call). record c { «end» = Some e })) in
+    told_end k e (get s.calls k) (get t.calls k) there (sym (same_told k s t (unanswer (get t.calls k) (get (set_end k e s).calls k) same ∙ end_same k e s)) ∙ told)
+
+module _ {a : Scene} {b : Core} where
+  result_given_walks : (g : Goal) (f : Caller) (k v : ℕ) {s : Core} → SaysEnd a k status.Returned → Walk a b s → Walk a b (result_given g f k v s)
+  result_given_walks goal.Main f k v says c = word (GiveResult k v) says c
+  result_given_walks (goal.Register r) (caller.Thread n) k v says c = word (SetRegister n r v) tt c
+  result_given_walks (goal.Register r) caller.Main k v says c = c
+  result_given_walks goal.Answer f k v says c = word (SetResult k (Some v)) tt c
+  result_given_walks goal.Nowhere f k v says c = c
+  result_given_walks goal.Direct f k v says c = c
+
+  pub returned_walks : (k v : ℕ) (w : Option ℕ) {s : Core} → MayEnd a k call_end.Returned s → SaysEnd a k status.Returned → ToldTo k w s → Walk a b s → Walk a b (returned k v w s)
+  unfolding returned
+  returned_walks k v w {s = s} ok says to c =
+      let m = set_end k call_end.Returned s in
+      let t = result_given (goal_of k s) (caller_of k s) k v m in
+      let same : option_map unresulted (get t.calls k) ≡ option_map unresulted (get m.calls k) = result_resulted (goal_of k s) (caller_of k s) k v m in
+      told_walks k status.Returned w (λ told. told_ends k call_end.Returned s t same told) (λ e. says)
+      (still_told_to k s t (unanswer (get t.calls k) (get m.calls k) same ∙ end_same k call_end.Returned s) w (λ x chosen n is. ap (λ p. option_map_or (is_waiting_on x) p false) (places n) ∙ chosen n is) to)
+      (result_given_walks (goal_of k s) (caller_of k s) k v says (word (SetEnd k call_end.Returned) (ok, says) c))
+    where
+      places : (n : ℕ) → place_of n (result_given (goal_of k s) (caller_of k s) k v (set_end k call_end.Returned s)) ≡ place_of n s
+      places n = result_places (goal_of k s) (caller_of k s) k v (set_end k call_end.Returned s) n ∙ end_places k call_end.Returned s n
+
+  pub cancelled_walks : (k : ℕ) (w : Option ℕ) {s : Core} → MayEnd a k call_end.ReturnCancelled s → SaysEnd a k status.ReturnCancelled → ToldTo k w s → Walk a b s → Walk a b (cancelled k w s)
+  unfolding cancelled
+  cancelled_walks k w {s = s} ok says to c =
+      let t = set_end k call_end.ReturnCancelled s in
+      told_walks k status.ReturnCancelled w (λ told. told_ends k call_end.ReturnCancelled s t refl told) (λ e. says)
+      (still_told_to k s t (end_same k call_end.ReturnCancelled s) w (λ x chosen n is. ap (λ p. option_map_or (is_waiting_on x) p false) (end_places k call_end.ReturnCancelled s n) ∙ chosen n is) to)
+      (word (SetEnd k call_end.ReturnCancelled) (ok, says) c)

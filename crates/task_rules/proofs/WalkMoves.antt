@@ -1,0 +1,327 @@
+-- The moves of the machine as chains of words.
+use Rattle.std.proofs.Common.{T, ap, cond, inl, inr, refl, subst, sym, ◌∙◌}
+use Rattle.std.specs.Option.{option_map_or}
+use Rattle.std.specs.Prelude.{Bool, List, None, Option, Some, [], false, if◌then◌else◌, is_none, is_some, not, option_and_then, true, unwrap_or, ℕ, ◌||◌, ◌∷◌, ◌≡◌}
+use Rattle.task_machine.proofs.MapLemmas.{get-remove_same}
+use Rattle.task_machine.specs.Core.{Core}
+use Rattle.task_machine.specs.Maps.{Records, get, numbers, remove}
+use Rattle.task_machine.specs.Moves.{Gift, MemberGift, NoGift, OwnGift, call_settled, checked, ended, exited_if, first_entry, freed_thread_handle, group_settled, handed_on, hands_on, held_why_of, interest_settled, is_callback_waiter, is_deletable, is_finished, is_group_done, may_hand_on, may_publish, may_wake, may_wake_joined, promoted, promoted_first, promoted_unless, published, put_high, released, released_one, stopped, taken, unblocked, wake, wake_joined, waken_by}
+use Rattle.task_machine.specs.Read.{blocked_on, call_group, held_why, instance_of, is_at, is_blocked_on, is_explicit, is_waiter, is_waiting_on, is_watched, join_of, may_not_suspend, place_of, same_subtask, task_of, thread_handle_of, is_end}
+use Rattle.task_machine.specs.Write.{free_thread_handle, on_call, on_work, push_high, remove_call, remove_group, remove_thread, set_event, set_exited, set_place, set_uninteresting}
+use Rattle.task_machine.specs.declared.records.Join.{Join}
+use Rattle.task_machine.specs.declared.records.Place.{Place}
+use Rattle.task_machine.specs.declared.records.Subtask.{Subtask}
+use Rattle.task_machine.specs.declared.records.Thread.{Thread}
+use Rattle.task_machine.specs.declared.records.Why.{Why}
+use Rattle.task_machine.specs.declared.words.Mark.{Mark}
+use Rattle.task_machine.specs.declared.words.Status.{Status}
+use Rattle.task_rules.proofs.ChainLemmas.{join, shifts_walk}
+use Rattle.task_rules.proofs.StopLemmas.{find_passes}
+use Rattle.task_rules.proofs.PlacingLemmas.{placed}
+use Rattle.task_rules.proofs.PromotionLemmas.{first_has_entry}
+use Rattle.task_rules.proofs.StandLemmas.{by_number, is_eq_of, place_kept}
+use Rattle.task_rules.specs.Allowed.{Allowed, HasEntry, IsOwn, IsRunner, MayDeliver, MayGo, MayLeave, MayPut, MayTell, MayTellWork, Releases, Tells, Unblocks, Wakes, wake_why, SaysEnd}
+use Rattle.task_rules.specs.Chains.{NoWord, Shifts, Then, Walk}
+use Rattle.task_rules.specs.Ends.{is_told, may_tell, told}
+use Rattle.task_rules.specs.Scenes.{Scene}
+use Rattle.task_rules.specs.Sets.{chosen}
+use Rattle.task_rules.specs.Words.{FreeThreadHandle, Placing, Promote, Put, RemoveCall, RemoveGroup, RemoveThread, SetCallEvent, SetCancelDelivered, SetExited, SetOwnEvent, SetUninteresting, SetWorkEvent, Stop, Word, after_placing, after_word, put_at}
+use Rattle.task_machine.specs.declared.records.Delivery.TheVariants as delivery
+use Rattle.task_machine.specs.declared.records.Join.TheVariants as join
+use Rattle.task_machine.specs.declared.records.Place.TheVariants as place
+use Rattle.task_machine.specs.declared.records.Subtask.TheVariants as subtask
+use Rattle.task_machine.specs.declared.records.Why.TheVariants as why
+use Rattle.task_machine.specs.declared.words.Mark.TheVariants as mark
+use Rattle.task_machine.specs.declared.words.OwnEvent.TheVariants as own
+
+-- ---- What other threads come to
+
+shifts_if : {s : Core} (b : Bool) (t u : Core) → (b ≡ true → Shifts s t) → (b ≡ false → Shifts s u) → Shifts s (if b then t else u)
+shifts_if true t u p q = p refl
+shifts_if false t u p q = q refl
+
+put_shifts : (m : Mark) (n : ℕ) (w : Why) (s : Core) → MayPut n w s → Shifts s (put_at m n w s)
+put_shifts m n w s ok = placed (Put m n w) ok NoWord
+
+none_stands : (b : Bool) (o : Option ℕ) → (b || is_some o) ≡ false → o ≡ None
+none_stands b None e = refl
+none_stands true (Some m) e = absurd (subst T e tt)
+none_stands false (Some m) e = absurd (subst T e tt)
+
+first_shifts : (i : ℕ) (s : Core) (o : Option ℕ) → first_entry i s ≡ o → s.queues.switch ≡ None → Shifts s (promoted_first o s)
+first_shifts i s None e none = NoWord
+first_shifts i s (Some n) e none = placed (Promote n) (none, inl (first_has_entry i s n e)) NoWord
+
+pub checked_shifts : (i : ℕ) (s : Core) → Shifts s (checked i s)
+unfolding checked
+checked_shifts i s =
+    shifts_if (not (may_not_suspend i s) || is_some s.queues.switch) s (promoted_first (first_entry i s) s) (λ e. NoWord)
+    (λ e. first_shifts i s (first_entry i s) refl (none_stands (not (may_not_suspend i s)) s.queues.switch e))
+
+pub promoted_unless_shifts : (n : ℕ) (s : Core) → HasEntry n s → Shifts s (promoted_unless n s)
+unfolding promoted_unless
+promoted_unless_shifts n s has = shifts_if (is_some s.queues.switch) s (promoted n s) (λ e. NoWord) (λ e. placed (Promote n) (none_stands false s.queues.switch e, has) NoWord)
+
+pub stopped_shifts : (f : ℕ) (s : Core) → Shifts s (stopped f s)
+stopped_shifts f s = placed (Stop f) tt NoWord
+
+released_one_shifts : (n : ℕ) (o : Option Why) (s : Core) → held_why_of n s ≡ o → Shifts s (released_one n o s)
+released_one_shifts n None s e = NoWord
+released_one_shifts n (Some w) s e = put_shifts mark.High n w s (Releases (held_at (place_of n s) w e))
+  where
+    held_at : (o : Option Place) (v : Why) → option_and_then held_why o ≡ Some v → o ≡ Some (place.Held v)
+    held_at (Some (place.Held u)) v h = ap (λ x. option_and_then (λ y. Some (place.Held y)) x) h
+    held_at None v h = absurd (subst T (ap (λ (x : Option Why). is_none x) h) tt)
+    held_at (Some place.New) v h = absurd (subst T (ap (λ (x : Option Why). is_none x) h) tt)
+    held_at (Some place.Running) v h = absurd (subst T (ap (λ (x : Option Why). is_none x) h) tt)
+    held_at (Some (place.Ready m u)) v h = absurd (subst T (ap (λ (x : Option Why). is_none x) h) tt)
+    held_at (Some (place.Under c)) v h = absurd (subst T (ap (λ (x : Option Why). is_none x) h) tt)
+    held_at (Some (place.Behind c)) v h = absurd (subst T (ap (λ (x : Option Why). is_none x) h) tt)
+    held_at (Some (place.Waiting y b)) v h = absurd (subst T (ap (λ (x : Option Why). is_none x) h) tt)
+    held_at (Some (place.Blocked c)) v h = absurd (subst T (ap (λ (x : Option Why). is_none x) h) tt)
+    held_at (Some place.Suspended) v h = absurd (subst T (ap (λ (x : Option Why). is_none x) h) tt)
+
+pub released_shifts : (ns : List ℕ) (s : Core) → Shifts s (released ns s)
+unfolding released
+released_shifts [] s = NoWord
+released_shifts (n ∷ ns) s = join (released_one_shifts n (held_why_of n s) s refl) (released_shifts ns (released_one n (held_why_of n s) s))
+
+waken_shifts : (x n : ℕ) (s : Core) (b : Bool) → is_callback_waiter n s ≡ b → is_waiter x n s ≡ true → Shifts s (waken_by b x n s)
+waken_shifts x n s true e h = put_shifts mark.High n (why.Delivery (delivery.Set x)) s (Wakes x h (ap (λ b. wake_why x b) (sym e)))
+waken_shifts x n s false e h = put_shifts mark.High n why.Resumption s (Wakes x h (ap (λ b. wake_why x b) (sym e)))
+
+-- the chosen thread, if there is one, waits on the set
+abbrev pub Chosen : ℕ → Option ℕ → Core → Type 0
+Chosen x w s = (n : ℕ) → w ≡ Some n → is_waiter x n s ≡ true
+
+pub wake_shifts : (x : ℕ) (w : Option ℕ) (s : Core) → Chosen x w s → Shifts s (wake x w s)
+unfolding wake
+wake_shifts x None s h = NoWord
+wake_shifts x (Some n) s h = waken_shifts x n s (is_callback_waiter n s) refl (h n refl)
+
+pub chosen_of : (x : ℕ) (w : Option ℕ) (s : Core) → may_wake x w s ≡ true → Chosen x w s
+unfolding may_wake
+chosen_of x None s h n is = absurd (subst T (ap (λ (o : Option ℕ). is_none o) is) tt)
+chosen_of x (Some m) s h n is = subst (λ (k : ℕ). is_waiter x k s ≡ true) (ap (λ (o : Option ℕ). unwrap_or o 0) is) h
+
+-- the chosen thread waits on the set that the subtask is in
+abbrev pub ChosenIn : Join → Option ℕ → Core → Type 0
+ChosenIn j w s = (x : ℕ) → j ≡ join.Set x → Chosen x w s
+
+pub chosen_in_of : (j : Join) (w : Option ℕ) (s : Core) → may_wake_joined j w s ≡ true → ChosenIn j w s
+chosen_in_of (join.Set y) w s h x is = subst (λ (z : ℕ). Chosen z w s) (ap set_in is) (chosen_of y w s h)
+  where
+    set_in : Join → ℕ
+    set_in (join.Set z) = z
+    set_in _ = 0
+chosen_in_of join.Nowhere w s h x is = absurd (subst T (ap is_nowhere is) tt)
+  where
+    is_nowhere : Join → Bool
+    is_nowhere join.Nowhere = true
+    is_nowhere _ = false
+chosen_in_of (join.Watched n) w s h x is = absurd (subst T (ap (λ (j : Join). is_watched j) is) tt)
+
+wake_joined_shifts : (j : Join) (w : Option ℕ) (s : Core) → ChosenIn j w s → Shifts s (wake_joined j w s)
+wake_joined_shifts (join.Set x) w s h = wake_shifts x w s (h x refl)
+wake_joined_shifts join.Nowhere w s h = NoWord
+wake_joined_shifts (join.Watched n) w s h = NoWord
+
+-- a thread elsewhere gets an entry: who waits on x still does
+waiter_put : (x n m : ℕ) (w : Why) (p : Place) (s : Core) → place_of m s ≡ Some p → is_waiting_on x p ≡ false → is_waiter x n s ≡ true → is_waiter x n (put_high m w s) ≡ true
+unfolding put_high push_high
+waiter_put x n m w p s at other h =
+    by_number n m (is_waiter x n (set_place m (place.Ready mark.High w) s) ≡ true)
+    (λ e. absurd (subst T (sym (ap (λ (o : Option Place). option_map_or (is_waiting_on x) o false) (ap (λ (k : ℕ). place_of k s) (sym e)) ∙ h) ∙ (ap (λ (o : Option Place). option_map_or (is_waiting_on x) o false) at ∙ other)) tt))
+    (λ e. ap (λ (o : Option Place). option_map_or (is_waiting_on x) o false) (place_kept n m (place.Ready mark.High w) s e) ∙ h)
+
+-- ---- A blocked thread
+
+same_subtask_is : (sub other : Subtask) → same_subtask sub other ≡ true → sub ≡ other
+same_subtask_is (subtask.Guest k) (subtask.Guest q) h = ap (λ (j : ℕ). subtask.Guest j) (is_eq_of k q h)
+same_subtask_is (subtask.Host i) (subtask.Host j) h = ap (λ (k : ℕ). subtask.Host k) (is_eq_of i j h)
+same_subtask_is (subtask.Guest k) (subtask.Host j) h = absurd (subst T (sym h) tt)
+same_subtask_is (subtask.Host i) (subtask.Guest q) h = absurd (subst T (sym h) tt)
+
+blocked_place : (sub : Subtask) (o : Option Place) → option_map_or (is_blocked_on sub) o false ≡ true → o ≡ Some (place.Blocked sub)
+blocked_place sub (Some (place.Blocked on)) h = ap (λ (x : Subtask). Some (place.Blocked x)) (sym (same_subtask_is sub on h))
+blocked_place sub None h = absurd (subst T (sym h) tt)
+blocked_place sub (Some place.New) h = absurd (subst T (sym h) tt)
+blocked_place sub (Some place.Running) h = absurd (subst T (sym h) tt)
+blocked_place sub (Some (place.Ready m u)) h = absurd (subst T (sym h) tt)
+blocked_place sub (Some (place.Under c)) h = absurd (subst T (sym h) tt)
+blocked_place sub (Some (place.Behind c)) h = absurd (subst T (sym h) tt)
+blocked_place sub (Some (place.Waiting y b)) h = absurd (subst T (sym h) tt)
+blocked_place sub (Some (place.Held c)) h = absurd (subst T (sym h) tt)
+blocked_place sub (Some place.Suspended) h = absurd (subst T (sym h) tt)
+
+pub blocked_at : (sub : Subtask) (s : Core) (m : ℕ) → blocked_on sub s ≡ Some m → place_of m s ≡ Some (place.Blocked sub)
+unfolding blocked_on
+blocked_at sub s m h = blocked_place sub (place_of m s) (find_passes (λ k. is_at k s (is_blocked_on sub)) (numbers s.threads) m h)
+
+-- the thread is blocked on the subtask
+abbrev pub IsBlocked : Subtask → Option ℕ → Core → Type 0
+IsBlocked sub o s = (m : ℕ) → o ≡ Some m → place_of m s ≡ Some (place.Blocked sub)
+
+pub unblocked_shifts : (sub : Subtask) (o : Option ℕ) (s : Core) → IsBlocked sub o s → Shifts s (unblocked o s)
+unblocked_shifts sub None s h = NoWord
+unblocked_shifts sub (Some m) s h = put_shifts mark.High m why.Resumption s (Unblocks sub (h m refl) refl)
+
+chosen_unblocked : (sub : Subtask) (o : Option ℕ) (x : ℕ) (w : Option ℕ) (s : Core) → IsBlocked sub o s → Chosen x w s → Chosen x w (unblocked o s)
+chosen_unblocked sub None x w s h c = c
+chosen_unblocked sub (Some m) x w s h c = λ n is. waiter_put x n m why.Resumption (place.Blocked sub) s (h m refl) refl (c n is)
+
+chosen_released_one : (n : ℕ) (o : Option Why) (x : ℕ) (w : Option ℕ) (s : Core) → held_why_of n s ≡ o → Chosen x w s → Chosen x w (released_one n o s)
+chosen_released_one n None x w s e c = c
+chosen_released_one n (Some v) x w s e c = λ k is. held_put (place_of n s) refl e k (c k is)
+  where
+    held_put : (o : Option Place) → place_of n s ≡ o → option_and_then held_why o ≡ Some v → (k : ℕ) → is_waiter x k s ≡ true → is_waiter x k (put_high n v s) ≡ true
+    held_put (Some (place.Held u)) at h k c = waiter_put x k n v (place.Held u) s at refl c
+    held_put None at h k c = absurd (subst T (ap (λ (x : Option Why). is_none x) h) tt)
+    held_put (Some place.New) at h k c = waiter_put x k n v place.New s at refl c
+    held_put (Some place.Running) at h k c = waiter_put x k n v place.Running s at refl c
+    held_put (Some (place.Ready m u)) at h k c = waiter_put x k n v (place.Ready m u) s at refl c
+    held_put (Some (place.Under m)) at h k c = waiter_put x k n v (place.Under m) s at refl c
+    held_put (Some (place.Behind m)) at h k c = waiter_put x k n v (place.Behind m) s at refl c
+    held_put (Some (place.Waiting y b)) at h k c = absurd (subst T (ap (λ (x : Option Why). is_none x) h) tt)
+    held_put (Some (place.Blocked m)) at h k c = waiter_put x k n v (place.Blocked m) s at refl c
+    held_put (Some place.Suspended) at h k c = waiter_put x k n v place.Suspended s at refl c
+
+pub chosen_released : (ns : List ℕ) (x : ℕ) (w : Option ℕ) (s : Core) → Chosen x w s → Chosen x w (released ns s)
+unfolding released
+chosen_released [] x w s c = c
+chosen_released (n ∷ ns) x w s c = chosen_released ns x w (released_one n (held_why_of n s) s) (chosen_released_one n (held_why_of n s) x w s refl c)
+
+-- ---- Chains of all words
+
+module _ {a : Scene} {b : Core} where
+  pub word : (w : Word) {s : Core} → Allowed a w s → Walk a b s → Walk a b (after_word w s)
+  word w {s = s} ok c = Then s w c ok
+
+  pub shifted : {s t : Core} → Shifts s t → Walk a b s → Walk a b t
+  shifted d c = join c (shifts_walk d)
+
+  -- where the running thread comes to
+  pub moved : (p : Placing) {s : Core} → MayLeave a p s → Walk a b s → Walk a b (after_placing p s)
+  moved p ok c = placed p (inr ok) c
+
+  pub walk_if : (c : Bool) (t u : Core) → (c ≡ true → Walk a b t) → (c ≡ false → Walk a b u) → Walk a b (if c then t else u)
+  walk_if true t u p q = p refl
+  walk_if false t u p q = q refl
+
+-- ---- Published
+
+published_shifts : (sub : Subtask) (w : Option ℕ) (s t : Core) → ((m : ℕ) → place_of m t ≡ place_of m s) → ChosenIn (join_of sub s) w s → Shifts t (wake_joined (join_of sub s) w (unblocked (blocked_on sub s) t))
+published_shifts sub w s t same chosen =
+    let o = blocked_on sub s in
+    let at : IsBlocked sub o t = λ m is. same m ∙ blocked_at sub s m is in
+    let there : ChosenIn (join_of sub s) w t = λ x is n by. ap (λ p. option_map_or (is_waiting_on x) p false) (same n) ∙ chosen x is n by in
+    join (unblocked_shifts sub o t at) (wake_joined_shifts (join_of sub s) w (unblocked o t) (λ x is. chosen_unblocked sub o x w t at (there x is)))
+
+pub published_call_shifts : (k : ℕ) (e : Status) (w : Option ℕ) (s : Core) → ChosenIn (join_of (subtask.Guest k) s) w s → Shifts (set_event (subtask.Guest k) (Some e) s) (published (subtask.Guest k) e w s)
+unfolding published set_event on_call
+published_call_shifts k e w s chosen = published_shifts (subtask.Guest k) w s (set_event (subtask.Guest k) (Some e) s) (λ m. refl) chosen
+
+published_work_shifts : (i : ℕ) (e : Status) (w : Option ℕ) (s : Core) → ChosenIn (join_of (subtask.Host i) s) w s → Shifts (set_event (subtask.Host i) (Some e) s) (published (subtask.Host i) e w s)
+unfolding published set_event on_work
+published_work_shifts i e w s chosen = published_shifts (subtask.Host i) w s (set_event (subtask.Host i) (Some e) s) (λ m. refl) chosen
+
+module _ {a : Scene} {b : Core} where
+  published_call : (k : ℕ) (e : Status) (w : Option ℕ) {s : Core} → MayTell a k (Some e) s → ChosenIn (join_of (subtask.Guest k) s) w s → Walk a b s → Walk a b (published (subtask.Guest k) e w s)
+  published_call k e w {s = s} ok chosen c = shifted (published_call_shifts k e w s chosen) (word (SetCallEvent k (Some e)) ok c)
+
+  pub published_work : (i : ℕ) (e : Status) (w : Option ℕ) {s : Core} → MayTellWork a i (Some e) s → ChosenIn (join_of (subtask.Host i) s) w s → Walk a b s → Walk a b (published (subtask.Host i) e w s)
+  published_work i e w {s = s} ok chosen c = shifted (published_work_shifts i e w s chosen) (word (SetWorkEvent i (Some e)) ok c)
+
+-- the thread chosen where the call's status is told
+abbrev pub ToldTo : ℕ → Option ℕ → Core → Type 0
+ToldTo k w s = is_told k s ≡ true → ChosenIn (join_of (subtask.Guest k) s) w s
+
+pub told_to : (k : ℕ) (w : Option ℕ) (s : Core) → may_tell k w s ≡ true → ToldTo k w s
+unfolding may_tell may_publish
+told_to k w s h told = chosen_in_of (join_of (subtask.Guest k) s) w s (sym (ap (λ c. cond c (may_wake_joined (join_of (subtask.Guest k) s) w s) (is_none w)) told) ∙ h)
+
+module _ {a : Scene} {b : Core} where
+  pub told_walks : (k : ℕ) (e : Status) (w : Option ℕ) {s : Core} → (is_told k s ≡ true → Tells e k s) → (is_end e ≡ true → SaysEnd a k e) → ToldTo k w s → Walk a b s → Walk a b (told k e w s)
+  unfolding told
+  told_walks k e w {s = s} tells says to c = walk_if (is_told k s) (published (subtask.Guest k) e w s) s (λ is. published_call k e w (is, (tells is, says)) (to is) c) (λ is. c)
+
+-- ---- Given and handed on
+
+pub handed_on_shifts : (x : ℕ) (g : Gift) (w : Option ℕ) (s : Core) → may_hand_on x g w s ≡ true → Shifts s (handed_on x g w s)
+unfolding handed_on may_hand_on
+handed_on_shifts x g w s h = shifts_if (hands_on x g s) (wake x w s) s (λ e. wake_shifts x w s (chosen_of x w s (sym (ap (λ c. cond c (may_wake x w s) (is_none w)) e) ∙ h))) (λ e. NoWord)
+
+-- what the running thread's task may take
+abbrev pub MayTake : Scene → ℕ → Gift → Type 0
+MayTake a k (OwnGift e) = ((n : ℕ) × (IsRunner a n × (k ≡ task_of n a.base))) × (e ≡ own.Cancelled → MayDeliver a k)
+MayTake a k (MemberGift sub) = IsOwn a sub
+MayTake a k NoGift = Unit {0}
+
+module _ {a : Scene} {b : Core} where
+  pub taken_walks : (g : Gift) (k : ℕ) {s : Core} → MayTake a k g → Walk a b s → Walk a b (taken g k s)
+  unfolding taken
+  taken_walks (OwnGift own.None) k ok c = word (SetOwnEvent k None) ok.0 c
+  taken_walks (OwnGift own.Cancelled) k ok c = word (SetCancelDelivered k) (ok.1 refl) (word (SetOwnEvent k None) ok.0 c)
+  taken_walks (MemberGift (subtask.Guest q)) k ok c = word (SetCallEvent q None) ok c
+  taken_walks (MemberGift (subtask.Host i)) k ok c = word (SetWorkEvent i None) ok c
+  taken_walks NoGift k ok c = c
+
+  -- ---- Settled
+
+  pub group_settled_walks : (g : ℕ) {s : Core} → Walk a b s → Walk a b (group_settled g s)
+  unfolding group_settled
+  group_settled_walks g {s = s} c = walk_if (is_group_done g s) (remove_group g s) s (λ e. word (RemoveGroup g) e c) (λ e. c)
+
+  pub call_settled_walks : (k : ℕ) {s : Core} → Walk a b s → Walk a b (call_settled k s)
+  unfolding call_settled
+  call_settled_walks k {s = s} c = walk_if (is_deletable k s) (group_settled (call_group k s) (remove_call k s)) s (λ e. group_settled_walks (call_group k s) (word (RemoveCall k) e c)) (λ e. c)
+
+  interest_settled_walks : (k : ℕ) {s : Core} → Walk a b s → Walk a b (interest_settled k s)
+  unfolding interest_settled
+  interest_settled_walks k {s = s} c = walk_if (option_map_or is_finished (get s.calls k) false) (set_uninteresting k s) s (λ e. word (SetUninteresting k) tt c) (λ e. c)
+
+  freed_thread_handle_walks : (i : ℕ) (o : Option ℕ) {s : Core} → Walk a b s → Walk a b (freed_thread_handle i o s)
+  freed_thread_handle_walks i None c = c
+  freed_thread_handle_walks i (Some h) c = word (FreeThreadHandle i h) tt c
+
+  exited_if_walks : (explicit : Bool) (k : ℕ) {s : Core} → Walk a b s → Walk a b (exited_if explicit k s)
+  exited_if_walks true k c = c
+  exited_if_walks false k c = word (SetExited k) tt c
+
+  pub ended_walks : (n : ℕ) {s : Core} → MayGo a n → Walk a b s → Walk a b (ended n s)
+  unfolding ended
+  ended_walks n {s = s} go c = call_settled_walks (task_of n s) (interest_settled_walks (task_of n s) (word (RemoveThread n) go (freed_thread_handle_walks (instance_of n s) (thread_handle_of n s) (exited_if_walks (is_explicit n s) (task_of n s) c))))
+
+threads_if : (c : Bool) (s t u : Core) → t.threads ≡ s.threads → u.threads ≡ s.threads → (if c then t else u).threads ≡ s.threads
+threads_if true s t u p q = p
+threads_if false s t u p q = q
+
+settled_threads : (k : ℕ) (s : Core) → (call_settled k s).threads ≡ s.threads
+unfolding call_settled group_settled remove_group remove_call
+settled_threads k s = threads_if (is_deletable k s) s (group_settled (call_group k s) (remove_call k s)) s (threads_if (is_group_done (call_group k s) (remove_call k s)) s (remove_group (call_group k s) (remove_call k s)) (remove_call k s) refl refl) refl
+
+interest_threads : (k : ℕ) (s : Core) → (interest_settled k s).threads ≡ s.threads
+unfolding interest_settled set_uninteresting on_call
+interest_threads k s = threads_if (option_map_or is_finished (get s.calls k) false) s (set_uninteresting k s) s refl refl
+
+freed_threads : (i : ℕ) (o : Option ℕ) (s : Core) → (freed_thread_handle i o s).threads ≡ s.threads
+unfolding free_thread_handle
+freed_threads i None s = refl
+freed_threads i (Some h) s = refl
+
+exited_threads : (explicit : Bool) (k : ℕ) (s : Core) → (exited_if explicit k s).threads ≡ s.threads
+unfolding set_exited on_call
+exited_threads true k s = refl
+exited_threads false k s = refl
+
+-- who ends is gone, and the other threads stay
+pub ended_threads : (n : ℕ) (s : Core) → (ended n s).threads ≡ remove s.threads n
+unfolding ended remove_thread
+ended_threads n s =
+    let x = exited_if (is_explicit n s) (task_of n s) s in
+    let f = freed_thread_handle (instance_of n s) (thread_handle_of n s) x in
+    let t = interest_settled (task_of n s) (remove_thread n f) in
+    settled_threads (task_of n s) t ∙ (interest_threads (task_of n s) (remove_thread n f) ∙ ap (λ (m : Records Thread). remove m n) (freed_threads (instance_of n s) (thread_handle_of n s) x ∙ exited_threads (is_explicit n s) (task_of n s) s))
+
+pub ended_gone : (n : ℕ) (s : Core) → get (ended n s).threads n ≡ None
+ended_gone n s = ap (λ (m : Records Thread). get m n) (ended_threads n s) ∙ get-remove_same s.threads n

@@ -1,0 +1,521 @@
+-- Each step as a chain of words: host works, main, the loop and all turns.
+use Rattle.std.proofs.Common.{T, ap, ap₂, cond, inl, inr, length, refl, subst, suc, sym, take, ◌∙◌, ◌⊎◌}
+use Rattle.std.specs.Option.{option_map_or}
+use Rattle.std.specs.Prelude.{Bool, List, None, Option, Some, [], false, not, option_map, slice_set, true, unwrap_or, zero, ℕ, ◌+◌, ◌==◌, ◌∷◌, ◌≡◌}
+use Rattle.task_machine.proofs.CommuteLemmas.{change-change_same}
+use Rattle.task_machine.proofs.MapLemmas.{change-field, get-change_same, get-remove_same}
+use Rattle.task_machine.specs.Core.{Began, Core, Main, MainPlace, Refused, Scripted, Started, State, Unscripted}
+use Rattle.task_machine.specs.Labels.{Choice, choice_of, host_label, woken_of}
+use Rattle.task_machine.specs.Maps.{Records, change, get, get-remove, size}
+use Rattle.task_machine.specs.Moves.{ended, is_callback_waiter, may_publish, published, put_high, unblocked, wake, wake_joined, waken_by}
+use Rattle.task_machine.specs.Read.{blocked_on, course_of, course_value, is_direct, is_stage_ended, is_waiting_on, join_of, next_entry, phase_of, place_of, stage_of, strand_from, strand_of, under_of, work_caller_of}
+use Rattle.task_machine.specs.Write.{add_group, on_thread, on_work, push_high, remove_thread, remove_threads, set_course, set_event, set_phase, set_place, set_register, set_stage, set_trapped}
+use Rattle.task_machine.specs.declared.component.Callee.{Callee}
+use Rattle.task_machine.specs.declared.label.Label.{Label}
+use Rattle.task_machine.specs.declared.label.MainLabel.{MainLabel}
+use Rattle.task_machine.specs.declared.op.Op.{Op}
+use Rattle.task_machine.specs.declared.outcome.Outcome.{Outcome}
+use Rattle.task_machine.specs.declared.records.Course.{Course}
+use Rattle.task_machine.specs.declared.records.Entry.{Entry}
+use Rattle.task_machine.specs.declared.records.Goal.{Goal}
+use Rattle.task_machine.specs.declared.records.Join.{Join}
+use Rattle.task_machine.specs.declared.records.Thread.{Thread}
+use Rattle.task_machine.specs.declared.records.Turn.{Turn}
+use Rattle.task_machine.specs.declared.records.Why.{Why}
+use Rattle.task_machine.specs.declared.records.Work.{Work}
+use Rattle.task_machine.specs.declared.records.WorkCaller.{WorkCaller}
+use Rattle.task_machine.specs.declared.scenario.MainOpDef.{MainOpDef}
+use Rattle.task_machine.specs.declared.trap.Trap.{Trap}
+use Rattle.task_machine.specs.declared.words.Mark.{Mark}
+use Rattle.task_machine.specs.declared.words.Status.{Status}
+use Rattle.task_rules.proofs.ChainLemmas.{join}
+use Rattle.task_rules.proofs.PlacingLemmas.{placed, popped_shifted}
+use Rattle.task_rules.proofs.WalkMoves.{blocked_at, chosen_in_of, published_work, shifted, unblocked_shifts, word}
+use Rattle.task_rules.proofs.WalkOps.{Born, born_explicit, born_goal, born_place, call_born, set_row_leads, subtask_row_leads, thread_row_leads}
+use Rattle.task_rules.proofs.WalkTakes.{host_begins, host_quiet, thread_taken_leads}
+use Rattle.task_rules.proofs.WalkTask.{Leads, data_row_leads, none_is_some, not_main, running_scene, task_row_leads, under_place}
+use Rattle.task_rules.specs.Allowed.{ByProgram, ByScript, Falls, IsRunner, MayCall, Starts, is_async_work}
+use Rattle.task_rules.specs.Calls.{call_made, next_thread}
+use Rattle.task_rules.specs.Cancels.{aborted_phase}
+use Rattle.task_rules.specs.Chains.{LastWords, NoWord, SameMain, Shifts, StepsAreWalks, Walk, is_take}
+use Rattle.task_rules.specs.Laws.{is_free}
+use Rattle.task_rules.specs.MainOps.{Abort, Answer, Answers, Await, Does, Finish, MainAct, MainProgress, Pends, Quiet, Ready, Spawn, Start, act_of, advanced_main, finish_act, finish_result, has_interesting, is_complete, is_ready_for_call, line_of, main_aborted, main_row, main_spawned, main_started, may_act, op_at, start_act, start_refusal, unless_pending}
+use Rattle.task_rules.specs.Once.{begun_holder}
+use Rattle.task_rules.specs.OpParts.{callee_of_main_op}
+use Rattle.task_rules.specs.Outcome.{main_outcome, outcome_of_label}
+use Rattle.task_rules.specs.Progress.{Fails, Goes, Never, Ordered, Progress, Stops, Traps, may}
+use Rattle.task_rules.specs.Scenes.{Scene, base_at, base_without, runner_at, thread_of_entry}
+use Rattle.task_rules.specs.Scripts.{export_kind, host_at, op_of}
+use Rattle.task_rules.specs.Stalled.{Setting, is_unended_take, may_deadlock}
+use Rattle.task_rules.specs.Step.{DeadlockStep, EmptyFor, FuturesStep, MainProgresses, MainStep, OpenAct, OpenProgresses, Polled, Progresses, RestStep, ScriptStep, Step, TakeStep, TurnStep, did, entry_number, op_row, struck, trap_label}
+use Rattle.task_rules.specs.Takes.{host_done, host_result, host_status, popped, pushed, take_row}
+use Rattle.task_rules.specs.Turns.{at_turn, goes_to, settled_turn}
+use Rattle.task_rules.specs.Words.{AddGroup, EndWork, FinishWork, MakeCall, Pend, Pop, Put, QueueWork, RemoveThread, SetPhase, SetRegister, SetTrapped, TakeHost, TakePush, TakeResult}
+use Rattle.task_rules.specs.Works.{Ends, FailsNow, Poll, StillPends, course_for, followed, has_moving_work, next_polled, poll_ends, poll_of, poll_pends}
+use Rattle.task_machine.specs.declared.label.Label.TheVariants as label
+use Rattle.task_machine.specs.declared.label.LoopLabel.TheVariants as loop_label
+use Rattle.task_machine.specs.declared.label.MainLabel.TheVariants as main_label
+use Rattle.task_machine.specs.declared.op.Op.TheVariants as op
+use Rattle.task_machine.specs.declared.records.Caller.TheVariants as caller
+use Rattle.task_machine.specs.declared.records.Course.TheVariants as course
+use Rattle.task_machine.specs.declared.records.Delivery.TheVariants as delivery
+use Rattle.task_machine.specs.declared.records.Entry.TheVariants as entry
+use Rattle.task_machine.specs.declared.records.Goal.TheVariants as goal
+use Rattle.task_machine.specs.declared.records.Join.TheVariants as join
+use Rattle.task_machine.specs.declared.records.Place.TheVariants as place
+use Rattle.task_machine.specs.declared.records.Stage.TheVariants as stage
+use Rattle.task_machine.specs.declared.records.Subtask.TheVariants as subtask
+use Rattle.task_machine.specs.declared.records.Turn.TheVariants as turn
+use Rattle.task_machine.specs.declared.records.Why.TheVariants as why
+use Rattle.task_machine.specs.declared.records.WorkCaller.TheVariants as work_caller
+use Rattle.task_machine.specs.declared.scenario.MainOpDef.TheVariants as main_op
+use Rattle.task_machine.specs.declared.words.Mark.TheVariants as mark
+use Rattle.task_machine.specs.declared.words.Phase.TheVariants as phase
+
+-- ---- What is read
+
+work_read : {A : Type 0} (f : Work → A) (none : A) (i : ℕ) (g : Work → Work) → ((w : Work) → f (g w) ≡ f w) → (m : Records Work) → option_map_or f (get (change i g m) i) none ≡ option_map_or f (get m i) none
+work_read f none i g keeps m = ap (λ o. option_map_or f o none) (get-change_same m i g) ∙ at (get m i)
+  where
+    at : (o : Option Work) → option_map_or f (option_map g o) none ≡ option_map_or f o none
+    at None = refl
+    at (Some w) = keeps w
+
+removed_still : (n m : ℕ) (s : Core) → get s.threads n ≡ None → get (remove_thread m s).threads n ≡ None
+unfolding remove_thread
+removed_still n m s h = get-remove s.threads m n ∙ at (n == m) (get s.threads n) h
+  where
+    at : (b : Bool) (o : Option Thread) → o ≡ None → cond b None o ≡ None
+    at true o e = refl
+    at false o e = e
+
+-- ---- A host call whose entry is taken
+
+set_stage_same : (i : ℕ) (n : ℕ) (w : Why) (t : Core) → set_stage i stage.Ended (put_high n w t) ≡ put_high n w (set_stage i stage.Ended t)
+unfolding set_stage on_work put_high push_high set_place on_thread
+set_stage_same i n w t = refl
+
+ended_unblocked : (i : ℕ) (o : Option ℕ) (t : Core) → set_stage i stage.Ended (unblocked o t) ≡ unblocked o (set_stage i stage.Ended t)
+ended_unblocked i None t = refl
+ended_unblocked i (Some n) t = set_stage_same i n why.Resumption t
+
+ended_waiter : (i n : ℕ) (t : Core) → is_callback_waiter n (set_stage i stage.Ended t) ≡ is_callback_waiter n t
+unfolding set_stage on_work
+ended_waiter i n t = refl
+
+ended_waken : (i : ℕ) (b : Bool) (x n : ℕ) (t : Core) → set_stage i stage.Ended (waken_by b x n t) ≡ waken_by b x n (set_stage i stage.Ended t)
+ended_waken i true x n t = set_stage_same i n (why.Delivery (delivery.Set x)) t
+ended_waken i false x n t = set_stage_same i n why.Resumption t
+
+ended_wake : (i x : ℕ) (w : Option ℕ) (t : Core) → set_stage i stage.Ended (wake x w t) ≡ wake x w (set_stage i stage.Ended t)
+unfolding wake
+ended_wake i x None t = refl
+ended_wake i x (Some n) t = ended_waken i (is_callback_waiter n t) x n t ∙ ap (λ b. waken_by b x n (set_stage i stage.Ended t)) (sym (ended_waiter i n t))
+
+ended_joined : (i : ℕ) (j : Join) (w : Option ℕ) (t : Core) → set_stage i stage.Ended (wake_joined j w t) ≡ wake_joined j w (set_stage i stage.Ended t)
+ended_joined i (join.Set x) w t = ended_wake i x w t
+ended_joined i join.Nowhere w t = refl
+ended_joined i (join.Watched n) w t = refl
+
+ended_event : (i : ℕ) (e : Option Status) (t : Core) → set_stage i stage.Ended (set_event (subtask.Host i) e t) ≡ set_event (subtask.Host i) e (set_stage i stage.Ended t)
+unfolding set_stage set_event on_work
+ended_event i e t =
+    ap (λ (m : Records Work). record t { works = m }) (change-change_same t.works i (λ (w : Work). record w { stage = stage.Ended }) (λ (w : Work). record w { event = e }) ∙ sym (change-change_same t.works i (λ (w : Work). record w { event = e }) (λ (w : Work). record w { stage = stage.Ended })))
+
+ended_join : (i : ℕ) (t : Core) → join_of (subtask.Host i) (set_stage i stage.Ended t) ≡ join_of (subtask.Host i) t
+unfolding set_stage on_work
+ended_join i t = work_read (λ w. w.join) join.Nowhere i (λ w. record w { stage = stage.Ended }) (λ w. refl) t.works
+
+ended_blocked : (i : ℕ) (t : Core) → blocked_on (subtask.Host i) (set_stage i stage.Ended t) ≡ blocked_on (subtask.Host i) t
+unfolding set_stage on_work blocked_on
+ended_blocked i t = refl
+
+ended_published : (i : ℕ) (e : Status) (w : Option ℕ) (t : Core) → set_stage i stage.Ended (published (subtask.Host i) e w t) ≡ published (subtask.Host i) e w (set_stage i stage.Ended t)
+unfolding published
+ended_published i e w t =
+    let sub = subtask.Host i in
+    let u = set_event sub (Some e) t in
+    ended_joined i (join_of sub t) w (unblocked (blocked_on sub t) u)
+    ∙ (ap₂ (λ j (v : Core). wake_joined j w v) (sym (ended_join i t)) (ended_unblocked i (blocked_on sub t) u ∙ ap₂ (λ o (v : Core). unblocked o v) (sym (ended_blocked i t)) (ended_event i (Some e) t)))
+
+ended_result : (i : ℕ) (f : WorkCaller) (v : Option ℕ) (t : Core) → set_stage i stage.Ended (host_result f v t) ≡ host_result f v (set_stage i stage.Ended t)
+unfolding set_stage on_work set_register on_thread
+ended_result i (work_caller.Async n q) (Some v) t = refl
+ended_result i (work_caller.Async n q) None t = refl
+ended_result i work_caller.Spawn v t = refl
+ended_result i (work_caller.Sync n) v t = refl
+
+-- the work's end may come first
+done_first : (i : ℕ) (w : Option ℕ) (s : Core) → published (subtask.Host i) (host_status (course_value (course_of i s))) w (host_result (work_caller_of i s) (course_value (course_of i s)) (set_stage i stage.Ended s)) ≡ host_done i w s
+unfolding host_done
+done_first i w s =
+    let v = course_value (course_of i s) in
+    let f = work_caller_of i s in
+    ap (λ (t : Core). published (subtask.Host i) (host_status v) w t) (sym (ended_result i f v s)) ∙ sym (ended_published i (host_status v) w (host_result f v s))
+
+result_works : (f : WorkCaller) (v : Option ℕ) (t : Core) → (host_result f v t).works ≡ t.works
+unfolding set_register on_thread
+result_works (work_caller.Async n q) (Some v) t = refl
+result_works (work_caller.Async n q) None t = refl
+result_works work_caller.Spawn v t = refl
+result_works (work_caller.Sync n) v t = refl
+
+host_places : (f : WorkCaller) (v : Option ℕ) (t : Core) (m : ℕ) → place_of m (host_result f v t) ≡ place_of m t
+unfolding set_register on_thread
+host_places (work_caller.Async n q) (Some v) t m = change-field (λ r. r.place) n (λ r. record r { registers = slice_set r.registers q v }) (λ r. refl) t.threads m
+host_places (work_caller.Async n q) None t m = refl
+host_places work_caller.Spawn v t m = refl
+host_places (work_caller.Sync n) v t m = refl
+
+ended_places : (i : ℕ) (t : Core) (m : ℕ) → place_of m (set_stage i stage.Ended t) ≡ place_of m t
+unfolding set_stage on_work
+ended_places i t m = refl
+
+ended_stage : (i : ℕ) (t : Core) → is_stage_ended (stage_of i (set_stage i stage.Ended t)) ≡ true
+unfolding set_stage on_work
+ended_stage i t = ap (λ (o : Option Work). is_stage_ended (option_map_or (λ w. w.stage) o stage.Ended)) (get-change_same t.works i (λ (w : Work). record w { stage = stage.Ended })) ∙ at (get t.works i)
+  where
+    at : (o : Option Work) → is_stage_ended (option_map_or (λ w. w.stage) (option_map (λ (w : Work). record w { stage = stage.Ended }) o) stage.Ended) ≡ true
+    at None = refl
+    at (Some w) = refl
+
+ended_course : (i : ℕ) (t : Core) → course_of i (set_stage i stage.Ended t) ≡ course_of i t
+unfolding set_stage on_work
+ended_course i t = work_read (λ w. w.course) course.NoValue i (λ w. record w { stage = stage.Ended }) (λ w. refl) t.works
+
+module _ {a : Scene} {b : Core} where
+  host_result_walks : (f : WorkCaller) (v : Option ℕ) {t : Core} → Walk a b t → Walk a b (host_result f v t)
+  host_result_walks (work_caller.Async n q) (Some v) c = word (SetRegister n q v) tt c
+  host_result_walks (work_caller.Async n q) None c = c
+  host_result_walks work_caller.Spawn v c = c
+  host_result_walks (work_caller.Sync n) v c = c
+
+  host_done_walks : (i : ℕ) (w : Option ℕ) (s : Core) → may_publish (subtask.Host i) w s ≡ true → Walk a b (set_stage i stage.Ended s) → Walk a b (host_done i w s)
+  unfolding may_publish
+  host_done_walks i w s may c =
+      let v = course_value (course_of i s) in
+      let f = work_caller_of i s in
+      let e = set_stage i stage.Ended s in
+      let t = host_result f v e in
+      let works : t.works ≡ e.works = result_works f v e in
+      subst (λ (u : Core). Walk a b u) (done_first i w s) (published_work i (host_status v) w
+      (ap (λ (m : Records Work). is_stage_ended (option_map_or (λ (r : Work). r.stage) (get m i) stage.Ended)) works ∙ ended_stage i s, ap (λ (y : Course). host_status (course_value y)) (sym (ended_course i s) ∙ ap (λ (m : Records Work). option_map_or (λ (r : Work). r.course) (get m i) course.NoValue) (sym works)))
+      (λ y is m at. ap (λ p. option_map_or (is_waiting_on y) p false) (host_places f v e m ∙ ended_places i s m) ∙ chosen_in_of (join_of (subtask.Host i) s) w s may y (sym (ended_join i s) ∙ (ap (λ (m : Records Work). option_map_or (λ (r : Work). r.join) (get m i) join.Nowhere) (sym works) ∙ is)) m at)
+      (host_result_walks f v c))
+
+-- ---- A strand that falls
+
+struck_gone : (n : ℕ) (ns : List ℕ) (s : Core) → get s.threads n ≡ None → get (remove_threads ns s).threads n ≡ None
+struck_gone n [] s h = h
+struck_gone n (m ∷ ns) s h = struck_gone n ns (remove_thread m s) (removed_still n m s h)
+
+first_gone : (k n : ℕ) (s : Core) → get (remove_threads (strand_from k s n) s).threads n ≡ None
+unfolding remove_thread
+first_gone zero n s = get-remove_same s.threads n
+first_gone (suc k) n s = struck_gone n (option_map_or (strand_from k s) (under_of n s) []) (remove_thread n s) (get-remove_same s.threads n)
+
+not_over : {A : Type 0} (n : ℕ) → turn.Over ≡ turn.Run n → A
+not_over n e = absurd (subst T (ap is_over e) tt)
+  where
+    is_over : Turn → Bool
+    is_over turn.Over = true
+    is_over _ = false
+
+module _ {a : Scene} {b : Core} (over : a.next ≡ turn.Over) where
+  falls_walks : (k n : ℕ) {t : Core} → IsRunner a n ⊎ ((m : ℕ) × (place_of n a.base ≡ Some (place.Under m))) → Walk a b t → Walk a b (remove_threads (strand_from k a.base n) t)
+  falls_walks zero n may c = word (RemoveThread n) (Falls over may) c
+  falls_walks (suc k) n {t = t} may c = below (λ m under d. falls_walks k m (inr (n, under)) d) (under_of n a.base) refl (word (RemoveThread n) (Falls over may) c)
+    where
+      below : ((m : ℕ) → place_of m a.base ≡ Some (place.Under n) → Walk a b (remove_thread n t) → Walk a b (remove_threads (strand_from k a.base m) (remove_thread n t))) → (o : Option ℕ) → under_of n a.base ≡ o → Walk a b (remove_thread n t) → Walk a b (remove_threads (option_map_or (strand_from k a.base) o []) (remove_thread n t))
+      below more None is d = d
+      below more (Some m) is d = more m (under_place n m a.base is) d
+
+  struck_walks : (n : ℕ) → IsRunner a n → Walk a b a.base → Walk a b (struck n a.base)
+  unfolding struck strand_of
+  struck_walks n is c = word SetTrapped tt (falls_walks (size a.base.threads) n (inl is) c)
+
+struck_thread : (n : ℕ) (s : Core) → get (struck n s).threads n ≡ None
+unfolding struck strand_of set_trapped
+struck_thread n s = first_gone (size s.threads) n s
+
+struck_words : (a : Scene) (n : ℕ) → IsRunner a n → a.next ≡ turn.Over → begun_holder a.base a.label ≡ None → LastWords a (struck n a.base)
+struck_words a n is over begun = record {
+  laid = λ m at take. subst (λ (j : ℕ). option_map_or is_free (place_of j (struck n a.base)) true ≡ true) (one is at) (ap (λ (o : Option Thread). option_map_or is_free (option_map (λ r. r.place) o) true) (struck_thread n a.base));
+  runs = λ m at. not_over m (sym over ∙ at);
+  outcome = λ o at. over;
+  gone = λ m at exit. subst (λ (j : ℕ). get (struck n a.base).threads j ≡ None) (one is at) (struck_thread n a.base);
+  shut = λ i at. none_is_some i (sym begun ∙ at);
+}
+  where
+    one : {m : ℕ} → a.runner ≡ Some n → a.runner ≡ Some m → n ≡ m
+    one p q = ap (λ (o : Option ℕ). unwrap_or o 0) (sym p ∙ q)
+
+-- ---- What a step owes
+
+-- the step leads to a turn, and is a chain of words in the scene of that turn
+record WalkedBy (at : Turn → Scene) (b : Core) (was : Main) (t : State) : Type 0 where
+  pub main : SameMain was t.main
+  pub next : Turn
+  pub turn : t.turn ≡ settled_turn t.core next
+  pub walk : Walk (at next) b t.core
+  pub words : LastWords (at next) t.core
+
+same_main : (m : Main) → SameMain m m
+same_main (Scripted p) = tt
+same_main Unscripted = tt
+
+arrives : (at : Turn → Scene) (b : Core) (s : State) (new : Core) (m : Main) (u : Turn) (t : State) → SameMain s.main m → t ≡ at_turn s new m u → Walk (at u) b new × LastWords (at u) new → WalkedBy at b s.main t
+unfolding at_turn
+arrives at b s new m u t same is c = subst (λ (v : State). WalkedBy at b s.main v) (sym is) (record { main = same; next = u; turn = refl; walk = c.0; words = c.1 })
+
+landed : (at : Turn → Scene) (b : Core) (s : State) (new : Core) (u : Turn) (t : State) → t ≡ goes_to s new u → Walk (at u) b new × LastWords (at u) new → WalkedBy at b s.main t
+landed at b s new u t is c = arrives at b s new s.main u t (same_main s.main) is c
+
+trap_begins : (s : Core) (n : ℕ) (t : Trap) → begun_holder s (trap_label n t) ≡ None
+trap_begins s n t = refl
+
+-- of a row, by where it leads
+progresses_walk : (at : Turn → Scene) (b : Core) (s : State) (base : Core) (n : ℕ) (p : Progress) (l : Label) (t : State) → ((u : Turn) → (at u).label ≡ l) → ((u : Turn) → (at u).next ≡ u) → ((u : Turn) → Leads (at u) b p) → (begun_holder base l ≡ None → Walk (at turn.Over) b (struck n base) × LastWords (at turn.Over) (struck n base)) → Progresses s base n p l t → WalkedBy at b s.main t
+progresses_walk at b s base n (Goes k new m) l t labels nexts leads falls is = landed at b s new (turn.Run m) t is.1 (leads (turn.Run m) (labels (turn.Run m) ∙ is.0) (nexts (turn.Run m)))
+progresses_walk at b s base n (Stops k new) l t labels nexts leads falls is = landed at b s new turn.Main t is.1 (leads turn.Main (labels turn.Main ∙ is.0) (nexts turn.Main))
+progresses_walk at b s base n (Traps trap) l t labels nexts leads falls is = landed at b s (struck n base) turn.Over t is.1 (falls (ap (λ k. begun_holder base k) is.0))
+progresses_walk at b s base n (Fails i) l t labels nexts leads falls is = landed at b s (struck n base) turn.Over t is.1 (falls (ap (λ k. begun_holder base k) is.0))
+progresses_walk at b s base n Never l t labels nexts leads falls is = absurd is
+progresses_walk at b s base n (Ordered ns next) l t labels nexts leads falls is = progresses_walk at b s base n (next is.0) l t labels nexts (λ u. leads u is.0) falls is.1.1
+
+-- a step of no thread leaves little: it begins nothing, nothing runs, and an outcome ends the turns
+abbrev is_idle_label : Label → Bool
+is_idle_label (label.Main k) = true
+is_idle_label (label.Loop k) = true
+is_idle_label (label.Take k) = true
+is_idle_label _ = false
+
+idle_words : (a : Scene) (t : Core) → a.runner ≡ None → ((m : ℕ) → a.next ≡ turn.Run m → ⊥) → ((o : Outcome) → outcome_of_label a.label ≡ Some o → a.next ≡ turn.Over) → begun_holder a.base a.label ≡ None → LastWords a t
+idle_words a t none stills outcome begun = record {
+  laid = λ m at take. none_is_some m (sym none ∙ at);
+  runs = λ m at. absurd (stills m at);
+  outcome = outcome;
+  gone = λ m at exit. none_is_some m (sym none ∙ at);
+  shut = λ i at. none_is_some i (sym begun ∙ at);
+}
+
+not_futures : {A : Type 0} (i n : ℕ) → turn.Futures i ≡ turn.Run n → A
+not_futures i n e = absurd (subst T (ap is_futures e) tt)
+  where
+    is_futures : Turn → Bool
+    is_futures (turn.Futures k) = true
+    is_futures _ = false
+
+not_take : {A : Type 0} (ended : Bool) (n : ℕ) → turn.Take ended ≡ turn.Run n → A
+not_take ended n e = absurd (subst T (ap is_take e) tt)
+
+main_outcome_begins : (s : Core) (k : MainLabel) → begun_holder s (label.Main k) ≡ None
+main_outcome_begins s k = refl
+
+sync_ended_shifts : (i : ℕ) (v : Option ℕ) (t : Core) → Shifts (set_stage i stage.Ended (set_phase i phase.Complete (set_course i (course_for v) t))) (followed (work_caller.Sync 0) i (set_phase i phase.Complete (set_course i (course_for v) t)))
+unfolding set_stage set_phase set_course on_work
+sync_ended_shifts i v t =
+    let u = set_phase i phase.Complete (set_course i (course_for v) t) in
+    unblocked_shifts (subtask.Host i) (blocked_on (subtask.Host i) u) (set_stage i stage.Ended u) (λ m is. blocked_at (subtask.Host i) u m is)
+
+module _ (x : Setting) (s : State) (l : Label) where
+  -- the scene of this step, whose turn and entry are these
+  abbrev scene_at : Turn → Option (Mark × Entry) → Turn → Scene
+  scene_at u o next = record { setting = x; main = s.main; turn = u; base = base_without o s.core; runner = thread_of_entry o; label = l; next = next }
+
+  -- ---- Main
+
+  main_here : (u : Turn) (next : Turn) (k : MainLabel) (t : Core) → l ≡ label.Main k → main_outcome k ≡ None ⊎ (next ≡ turn.Over) → ((m : ℕ) → next ≡ turn.Run m → ⊥) → Walk (scene_at u None next) s.core t → Walk (scene_at u None next) s.core t × LastWords (scene_at u None next) t
+  main_here u next k t is quiet stills c = (c, idle_words (scene_at u None next) t refl stills (λ o at. ends quiet o (sym (ap outcome_of_label is) ∙ at)) (ap (λ y. begun_holder s.core y) is))
+    where
+      ends : main_outcome k ≡ None ⊎ (next ≡ turn.Over) → (o : Outcome) → main_outcome k ≡ Some o → next ≡ turn.Over
+      ends (inl none) o at = none_is_some o (sym none ∙ at)
+      ends (inr over) o at = over
+
+  -- what an op of main does
+  abbrev LeadsMain : Turn → MainProgress → Type 0
+  LeadsMain u (Does k new) = (main_outcome k ≡ None) × Walk (scene_at u None turn.Main) s.core new
+  LeadsMain u Pends = Unit {0}
+  LeadsMain u (Answers v) = Unit {0}
+
+  started_walks : (u : Turn) (e : Callee) (words : List ℕ) → MayCall (scene_at u None turn.Main) caller.Main e (s.core.made.groups + 1) (add_group s.core) → Walk (scene_at u None turn.Main) s.core (main_started x.component e words s.core)
+  unfolding main_started add_group
+  started_walks u e words may =
+      let k = next_thread s.core in
+      let g = add_group s.core in
+      let h : Born k goal.Main (call_made caller.Main e (export_kind x.component e) goal.Main (s.core.made.groups + 1) words g) = call_born caller.Main e (export_kind x.component e) goal.Main (s.core.made.groups + 1) words g in
+      placed (Put mark.High k why.Start) (inl (Starts (born_place h) (born_explicit h) (ap (λ (y : Goal). is_direct y) (born_goal h)) refl))
+      (word (MakeCall caller.Main e (export_kind x.component e) goal.Main (s.core.made.groups + 1) words) (may, (refl, (refl, λ d. absurd (subst T (sym d) tt)))) (word AddGroup refl NoWord))
+
+  start_act_leads : (u : Turn) (k : ℕ) (e : Callee) (words : List ℕ) (o : Option Trap) → MayCall (scene_at u None turn.Main) caller.Main e (s.core.made.groups + 1) (add_group s.core) → LeadsMain u (start_act x.component k e words s.core o)
+  start_act_leads u k e words None may = (refl, started_walks u e words may)
+  start_act_leads u k e words (Some t) may = (refl, word SetTrapped tt NoWord)
+
+  finish_result_leads : (u : Turn) (k n : ℕ) (o : Option ℕ) → LeadsMain u (finish_result k n s.core o)
+  finish_result_leads u k n None = tt
+  finish_result_leads u k n (Some v) = (refl, word (TakeResult n) tt NoWord)
+
+  finish_act_leads : (u : Turn) (k : ℕ) (y : Started) → LeadsMain u (finish_act k s.core y)
+  finish_act_leads u k (Began n) = finish_result_leads u k n (get s.core.results n)
+  finish_act_leads u k (Refused t) = (refl, NoWord)
+
+  unless_pending_leads : (u : Turn) (b : Bool) (k : MainLabel) → main_outcome k ≡ None → LeadsMain u (unless_pending b k s.core)
+  unless_pending_leads u true k quiet = (quiet, NoWord)
+  unless_pending_leads u false k quiet = tt
+
+  main_row_leads : (u : Turn) (k : ℕ) (act : MainAct) → ((e : Callee) (words : List ℕ) → act ≡ Start e words → MayCall (scene_at u None turn.Main) caller.Main e (s.core.made.groups + 1) (add_group s.core)) → LeadsMain u (main_row x.component k s.core act)
+  unfolding main_spawned main_aborted
+  main_row_leads u k (Start e words) may = start_act_leads u k e words (start_refusal s.core) (may e words refl)
+  main_row_leads u k (Finish y) may = finish_act_leads u k y
+  main_row_leads u k (Spawn h) may = (refl, word (QueueWork work_caller.Spawn (host_at x.component h) None) (refl, refl) NoWord)
+  main_row_leads u k (Abort i) may = (refl, word (SetPhase i (aborted_phase (phase_of i s.core))) refl NoWord)
+  main_row_leads u k (Await i) may = unless_pending_leads u (is_complete (phase_of i s.core)) (main_label.Await k) refl
+  main_row_leads u k Quiet may = unless_pending_leads u (not (has_interesting s.core)) main_label.Quiet refl
+  main_row_leads u k (Ready i) may = unless_pending_leads u (is_ready_for_call i s.core) main_label.Ready refl
+  main_row_leads u k (Answer v) may = tt
+
+  pends_here : (u : Turn) (t : State) → l ≡ label.Loop loop_label.MainPends → t ≡ goes_to s s.core (turn.Futures 0) → WalkedBy (scene_at u None) s.core s.main t
+  pends_here u t is at = landed (scene_at u None) s.core s s.core (turn.Futures 0) t at (NoWord, idle_words (scene_at u None (turn.Futures 0)) s.core refl (λ m f. not_futures 0 m f) (λ o f. none_is_some o (sym (ap outcome_of_label is) ∙ f)) (ap (λ y. begun_holder s.core y) is))
+
+  does_here : (u : Turn) (m : Main) (k : MainLabel) (new : Core) (t : State) → SameMain s.main m → (main_outcome k ≡ None) × Walk (scene_at u None turn.Main) s.core new → l ≡ label.Main k → t ≡ at_turn s new m turn.Main → WalkedBy (scene_at u None) s.core s.main t
+  does_here u m k new t same c is at = arrives (scene_at u None) s.core s new m turn.Main t same at (main_here u turn.Main k new is (inl c.0) (λ j f. not_main j f) c.1)
+
+  answers_here : (u : Turn) (v : ℕ) (t : State) → l ≡ label.Main (main_label.Answer v) → t ≡ goes_to s s.core turn.Over → WalkedBy (scene_at u None) s.core s.main t
+  answers_here u v t is at = landed (scene_at u None) s.core s s.core turn.Over t at (main_here u turn.Over (main_label.Answer v) s.core is (inr refl) (λ j f. not_over j f) NoWord)
+
+  main_progresses_walk : (u : Turn) (p : MainPlace) (o : MainOpDef) (q : MainProgress) (t : State) → s.main ≡ Scripted p → LeadsMain u q → MainProgresses s p o q l t → WalkedBy (scene_at u None) s.core s.main t
+  main_progresses_walk u p o (Does k new) t at c is = does_here u (Scripted (advanced_main o k p)) k new t (subst (λ (m : Main). SameMain m (Scripted (advanced_main o k p))) (sym at) tt) c is.0 is.1
+  main_progresses_walk u p o Pends t at c is = pends_here u t is.0 is.1
+  main_progresses_walk u p o (Answers v) t at c is = answers_here u v t is.0 is.1
+
+  script_call : (u : Turn) (p : MainPlace) (o : MainOpDef) → s.main ≡ Scripted p → op_at x.script p ≡ Some o → (e : Callee) (words : List ℕ) → act_of p o ≡ Start e words → MayCall (scene_at u None turn.Main) caller.Main e (s.core.made.groups + 1) (add_group s.core)
+  unfolding add_group
+  script_call u p o scripted is e words at = ByScript p o scripted is (names o at) refl refl
+    where
+      is_start_act : MainAct → Option Callee
+      is_start_act (Start f ws) = Some f
+      is_start_act _ = None
+
+      names : (q : MainOpDef) → act_of p q ≡ Start e words → callee_of_main_op q ≡ Some e
+      names (main_op.Start f xs) h = ap is_start_act h
+      names (main_op.Finish k r) h = ap is_start_act h
+      names (main_op.Spawn k) h = ap is_start_act h
+      names (main_op.Abort k) h = ap is_start_act h
+      names (main_op.Await k) h = ap is_start_act h
+      names main_op.Quiet h = ap is_start_act h
+      names (main_op.Ready f) h = ap is_start_act h
+      names (main_op.Answer v) h = ap is_start_act h
+
+  script_step_walks : (u : Turn) (p : MainPlace) (o : Option MainOpDef) (t : State) → s.main ≡ Scripted p → op_at x.script p ≡ o → ScriptStep x s p o l t → WalkedBy (scene_at u None) s.core s.main t
+  script_step_walks u p None t scripted at is = pends_here u t is.0 is.1
+  script_step_walks u p (Some o) t scripted at is = main_progresses_walk u p o (main_row x.component (line_of p o) s.core (act_of p o)) t scripted (main_row_leads u (line_of p o) (act_of p o) (λ e words h. script_call u p o scripted at e words h)) is
+
+  open_progresses_walk : (u : Turn) (q : MainProgress) (t : State) → LeadsMain u q → OpenProgresses s q l t → WalkedBy (scene_at u None) s.core s.main t
+  open_progresses_walk u (Does k new) t c is = does_here u s.main k new t (same_main s.main) c is.0 is.1
+  open_progresses_walk u Pends t c is = absurd is
+  open_progresses_walk u (Answers v) t c is = answers_here u v t is.0 is.1
+
+  open_act_walks : (u : Turn) (k : ℕ) (act : MainAct) (t : State) → s.main ≡ Unscripted → OpenAct x s k act l t → WalkedBy (scene_at u None) s.core s.main t
+  unfolding add_group
+  open_act_walks u k act t open_main h = open_progresses_walk u (main_row x.component k s.core act) t (main_row_leads u k act (λ e words at. ByProgram (length words) open_main (sym (ap (λ y. may_act x.component s.core y) at) ∙ h.0) refl refl)) h.1
+
+  -- ---- Works
+
+  followed_walks : (n i : ℕ) (v : Option ℕ) → next_polled n s.core ≡ Some i → Walk (scene_at (turn.Futures n) None (turn.Take true)) s.core (poll_ends i v s.core)
+  unfolding poll_ends
+  followed_walks n i v at = by_caller (work_caller_of i s.core) refl
+    where
+      by_caller : (f : WorkCaller) → work_caller_of i s.core ≡ f → Walk (scene_at (turn.Futures n) None (turn.Take true)) s.core (followed f i (set_phase i phase.Complete (set_course i (course_for v) s.core)))
+      by_caller work_caller.Spawn is = word (EndWork i (course_for v)) ((n, (refl, at)), ap (λ f. is_async_work f) is) NoWord
+      by_caller (work_caller.Async m q) is = word (FinishWork i (course_for v)) ((n, (refl, at)), ap (λ f. is_async_work f) is) NoWord
+      by_caller (work_caller.Sync m) is = shifted (sync_ended_shifts i v s.core) (word (EndWork i (course_for v)) ((n, (refl, at)), ap (λ f. is_async_work f) is) NoWord)
+
+  polled_walks : (n i : ℕ) (p : Poll) (t : State) → next_polled n s.core ≡ Some i → Polled s i p l t → WalkedBy (scene_at (turn.Futures n) None) s.core s.main t
+  unfolding poll_ends
+  polled_walks n i (StillPends host) t at is = landed (scene_at (turn.Futures n) None) s.core s (poll_pends i host s.core) (turn.Futures i) t is.1 (word (Pend i host) (n, (refl, at)) NoWord, idle_words (scene_at (turn.Futures n) None (turn.Futures i)) (poll_pends i host s.core) refl (λ m f. not_futures i m f) (λ o f. none_is_some o (sym (ap outcome_of_label is.0) ∙ f)) (ap (λ y. begun_holder s.core y) is.0))
+  polled_walks n i (Ends v) t at is = landed (scene_at (turn.Futures n) None) s.core s (poll_ends i v s.core) (turn.Take true) t is.1 (followed_walks n i v at, idle_words (scene_at (turn.Futures n) None (turn.Take true)) (poll_ends i v s.core) refl (λ m f. not_take true m f) (λ o f. none_is_some o (sym (ap outcome_of_label is.0) ∙ f)) (ap (λ y. begun_holder s.core y) is.0))
+  polled_walks n i FailsNow t at is = landed (scene_at (turn.Futures n) None) s.core s (set_trapped s.core) turn.Over t is.1 (word SetTrapped tt NoWord, idle_words (scene_at (turn.Futures n) None turn.Over) (set_trapped s.core) refl (λ m f. not_over m f) (λ o f. refl) (ap (λ y. begun_holder s.core y) is.0))
+
+  futures_walk : (n : ℕ) (o : Option ℕ) (t : State) → next_polled n s.core ≡ o → FuturesStep s o l t → WalkedBy (scene_at (turn.Futures n) None) s.core s.main t
+  futures_walk n None t at is = absurd is
+  futures_walk n (Some i) t at is = polled_walks n i (poll_of i s.core) t at is
+
+  -- ---- Takings
+
+  empty_walks : (ended : Bool) (b : Bool) (t : State) → EmptyFor x s b l t → WalkedBy (scene_at (turn.Take ended) None) s.core s.main t
+  empty_walks ended true t is = rests (is_unended_take s.turn) is
+    where
+      rests : (c : Bool) → RestStep s c l t → WalkedBy (scene_at (turn.Take ended) None) s.core s.main t
+      rests true h = landed (scene_at (turn.Take ended) None) s.core s s.core turn.Main t h.1 (NoWord, idle_words (scene_at (turn.Take ended) None turn.Main) s.core refl (λ m f. not_main m f) (λ o f. none_is_some o (sym (ap outcome_of_label h.0) ∙ f)) (ap (λ y. begun_holder s.core y) h.0))
+      rests false h = absurd h
+  empty_walks ended false t is = dies (may_deadlock x s) is
+    where
+      dies : (c : Bool) → DeadlockStep s c l t → WalkedBy (scene_at (turn.Take ended) None) s.core s.main t
+      dies true h = landed (scene_at (turn.Take ended) None) s.core s (set_trapped s.core) turn.Over t h.1 (word SetTrapped tt NoWord, idle_words (scene_at (turn.Take ended) None turn.Over) (set_trapped s.core) refl (λ m f. not_over m f) (λ o f. refl) (ap (λ y. begun_holder s.core y) h.0))
+      dies false h = absurd h
+
+  push_walks : (ended : Bool) (m : Mark) (i : ℕ) → next_entry s.core ≡ Some (m, entry.Push i) → Walk (scene_at (turn.Take ended) (Some (m, entry.Push i)) turn.Main) s.core (pushed i (popped m s.core))
+  unfolding pushed
+  push_walks ended m i at = subst (λ (t : Core). Walk (scene_at (turn.Take ended) (Some (m, entry.Push i)) turn.Main) s.core (set_stage i stage.Live t)) (popped_shifted m s.core).only (word (TakePush m i) at NoWord)
+
+  host_entry_walks : (ended : Bool) (m : Mark) (i : ℕ) (t : State) → next_entry s.core ≡ Some (m, entry.Host i) → (b : Bool) → may_publish (subtask.Host i) (woken_of l) (popped m s.core) ≡ b → Progresses s (popped m s.core) i (may b (Stops (host_label m i (woken_of l)) (host_done i (woken_of l) (popped m s.core)))) l t → WalkedBy (scene_at (turn.Take ended) (Some (m, entry.Host i))) s.core s.main t
+  host_entry_walks ended m i t at true may is =
+      let base = popped m s.core in
+      let a = scene_at (turn.Take ended) (Some (m, entry.Host i)) turn.Main in
+      let taken_first : Walk a s.core (set_stage i stage.Ended base) = subst (λ (u : Core). Walk a s.core (set_stage i stage.Ended u)) (popped_shifted m s.core).only (word (TakeHost m i) at NoWord) in
+      landed (scene_at (turn.Take ended) (Some (m, entry.Host i))) s.core s (host_done i (woken_of l) base) turn.Main t is.1 (host_done_walks i (woken_of l) base may taken_first, idle_words a (host_done i (woken_of l) base) refl (λ j f. not_main j f) (λ o f. none_is_some o (sym (ap outcome_of_label is.0 ∙ host_quiet m i (woken_of l)) ∙ f)) (ap (λ y. begun_holder base y) is.0 ∙ host_begins m i (woken_of l) base))
+  host_entry_walks ended m i t at false may is = absurd is
+
+  entry_walks : (ended : Bool) (m : Mark) (e : Entry) (t : State) → next_entry s.core ≡ Some (m, e) → Progresses s (popped m s.core) (entry_number e) (take_row m (choice_of l) (popped m s.core) e) l t → WalkedBy (scene_at (turn.Take ended) (Some (m, e))) s.core s.main t
+  entry_walks ended m (entry.Thread n) t at is =
+      let base = popped m s.core in
+      let start : (u : Turn) → Walk (scene_at (turn.Take ended) (Some (m, entry.Thread n)) u) s.core base = λ u. placed (Pop m) (inr (n, (refl, at))) NoWord in
+      progresses_walk (scene_at (turn.Take ended) (Some (m, entry.Thread n))) s.core s base n (take_row m (choice_of l) base (entry.Thread n)) l t (λ u. refl) (λ u. refl)
+      (λ u. thread_taken_leads x s.main ended base n l u s.core (start u) m (choice_of l) (place_of n base) refl)
+      (λ none. (struck_walks refl n refl (start turn.Over), struck_words (scene_at (turn.Take ended) (Some (m, entry.Thread n)) turn.Over) n refl refl none)) is
+  entry_walks ended m (entry.Push i) t at is =
+      landed (scene_at (turn.Take ended) (Some (m, entry.Push i))) s.core s (pushed i (popped m s.core)) turn.Main t is.1 (push_walks ended m i at, idle_words (scene_at (turn.Take ended) (Some (m, entry.Push i)) turn.Main) (pushed i (popped m s.core)) refl (λ j f. not_main j f) (λ o f. none_is_some o (sym (ap outcome_of_label is.0) ∙ f)) (ap (λ y. begun_holder (popped m s.core) y) is.0))
+  entry_walks ended m (entry.Host i) t at is = host_entry_walks ended m i t at (may_publish (subtask.Host i) (woken_of l) (popped m s.core)) refl is
+
+  take_step_walks : (ended : Bool) (o : Option (Mark × Entry)) (t : State) → next_entry s.core ≡ o → TakeStep x s o l t → WalkedBy (scene_at (turn.Take ended) o) s.core s.main t
+  take_step_walks ended None t at is = empty_walks ended (has_moving_work s.core) t is
+  take_step_walks ended (Some (m, e)) t at is = entry_walks ended m e t at is
+
+-- ---- Steps
+
+op_row_leads : (x : Setting) (main : Main) (s : Core) (n : ℕ) (l : Label) (next : Turn) (ch : Choice) (o : Op) → op_of x.component n s ≡ o → Leads (running_scene x main s n l next) s (op_row x.component n s ch o)
+op_row_leads x main s n l next ch (op.Data o) is = data_row_leads x main s n l next x.component o
+op_row_leads x main s n l next ch (op.Task o) is = task_row_leads x main s n l next ch o is
+op_row_leads x main s n l next ch (op.Set o) is = set_row_leads x main s n l next ch o
+op_row_leads x main s n l next ch (op.Call o) is = subtask_row_leads x main s n l next o is
+op_row_leads x main s n l next ch (op.Thread o) is = thread_row_leads x main s n l next o
+
+did_leads : (x : Setting) (main : Main) (s : Core) (n : ℕ) (l : Label) (next : Turn) (ch : Choice) → Leads (running_scene x main s n l next) s (did x.component n s ch)
+unfolding did
+did_leads x main s n l next ch = op_row_leads x main s n l next ch (op_of x.component n s) refl
+
+run_walks : (x : Setting) (s : State) (n : ℕ) (l : Label) (t : State) → Progresses s s.core n (did x.component n s.core (choice_of l)) l t → WalkedBy (λ next. running_scene x s.main s.core n l next) s.core s.main t
+run_walks x s n l t is =
+    progresses_walk (λ next. running_scene x s.main s.core n l next) s.core s s.core n (did x.component n s.core (choice_of l)) l t (λ u. refl) (λ u. refl) (λ u. did_leads x s.main s.core n l u (choice_of l))
+    (λ none. (struck_walks refl n refl NoWord, struck_words (running_scene x s.main s.core n l turn.Over) n refl refl none)) is
+
+main_step_walks : (x : Setting) (s : State) (l : Label) (u : Turn) (m : Main) (t : State) → s.main ≡ m → MainStep x s m l t → WalkedBy (scene_at x s l u None) s.core s.main t
+main_step_walks x s l u (Scripted p) t at is = script_step_walks x s l u p (op_at x.script p) t at refl is
+main_step_walks x s (label.Loop loop_label.MainPends) u Unscripted t at is = pends_here x s (label.Loop loop_label.MainPends) u t refl is
+main_step_walks x s l u Unscripted t at is = open_act_walks x s l u is.0 is.1.0 t at is.1.1
+
+-- the scene of the step, at its turn
+abbrev scene_at_turn : Setting → State → Label → Turn → Turn → Scene
+scene_at_turn x s l u next = record { setting = x; main = s.main; turn = u; base = base_at u s.core; runner = runner_at u s.core; label = l; next = next }
+
+turn_step_walks : (x : Setting) (s : State) (u : Turn) (l : Label) (t : State) → TurnStep x s u l t → WalkedBy (scene_at_turn x s l u) s.core s.main t
+turn_step_walks x s turn.Main l t is = main_step_walks x s l turn.Main s.main t refl is
+turn_step_walks x s (turn.Futures n) l t is = futures_walk x s l n (next_polled n s.core) t refl is
+turn_step_walks x s (turn.Take ended) l t is = take_step_walks x s l ended (next_entry s.core) t refl is
+turn_step_walks x s (turn.Run n) l t is = run_walks x s n l t is
+turn_step_walks x s turn.Over l t is = absurd is
+
+-- each step is a chain of words
+pub step_walks : StepsAreWalks
+unfolding Step
+step_walks x s l t is = let c = turn_step_walks x s s.turn l t is in record { next = c.next; turn = c.turn; main = c.main; walk = c.walk; ends = c.words }

@@ -1,0 +1,392 @@
+-- The takings of entries as chains of words.
+use Rattle.std.proofs.Common.{T, ap, cond, inl, inr, refl, subst, sym, ◌∙◌}
+use Rattle.std.specs.Option.{option_map_or}
+use Rattle.std.specs.Prelude.{Bool, None, Option, Some, false, if◌then◌else◌, is_none, is_some, not, option_map, true, unwrap_or, ℕ, ◌&&◌, ◌==◌, ◌||◌, ◌≡◌}
+use Rattle.task_machine.proofs.MapLemmas.{change-field, get-change_same}
+use Rattle.task_machine.specs.Core.{Core, Main}
+use Rattle.task_machine.specs.Labels.{Choice, event_label, held_label, host_label, take_label}
+use Rattle.task_machine.specs.Maps.{change, get}
+use Rattle.task_machine.specs.Moves.{Gift, MemberGift, NoGift, OwnGift, gift, given_for, handed_on, may_hand_on, own_gift_of, own_gift_only, own_or_nothing, published, stopped, taken}
+use Rattle.task_machine.specs.Read.{admits, at_handle_limit, backpressure_of, call_instance, foot_of, instance_of, is_direct, is_explicit, is_guest_call, is_holding, is_sync, is_waiting_on, kind_of, may_not_enter, new_thread_handle, no_callee, place_of, task_of, was_started}
+use Rattle.task_machine.specs.Write.{give_thread_handle, on_call, on_instance, on_thread, set_do_not_enter, set_event, set_how_far, set_place, set_position, set_script, set_started, set_starting_published, set_thread_handle, taking}
+use Rattle.task_machine.specs.declared.component.Callee.{Callee}
+use Rattle.task_machine.specs.declared.component.ExportKind.{ExportKind}
+use Rattle.task_machine.specs.declared.label.Label.{Label}
+use Rattle.task_machine.specs.declared.records.Call.{Call}
+use Rattle.task_machine.specs.declared.records.Delivery.{Delivery}
+use Rattle.task_machine.specs.declared.records.Instance.{Instance}
+use Rattle.task_machine.specs.declared.records.Place.{Place}
+use Rattle.task_machine.specs.declared.records.Thread.{Thread}
+use Rattle.task_machine.specs.declared.records.Turn.{Turn}
+use Rattle.task_machine.specs.declared.records.Why.{Why}
+use Rattle.task_machine.specs.declared.words.Given.{Given}
+use Rattle.task_machine.specs.declared.words.Mark.{Mark}
+use Rattle.task_machine.specs.declared.words.OwnEvent.{OwnEvent}
+use Rattle.task_machine.specs.declared.words.Status.{Status}
+use Rattle.task_rules.proofs.PlacingLemmas.{shifted_instance, shifted_task, shifts_shifted}
+use Rattle.task_rules.proofs.WalkEnds.{SameCall, still_told_to, unanswered}
+use Rattle.task_rules.proofs.WalkMoves.{Chosen, MayTake, ToldTo, handed_on_shifts, moved, published_call_shifts, shifted, stopped_shifts, taken_walks, told_to, told_walks, walk_if, word}
+use Rattle.task_rules.proofs.WalkOps.{gift_is, set_given_walks, sync_sets_flag_walks}
+use Rattle.task_rules.proofs.WalkTask.{Leads, may_leads, moved_to_walks, none_is_some, not_main, one_runner, or_never_leads, running_moved, seen, trap_if_leads}
+use Rattle.task_rules.specs.Allowed.{Holds, Leaves, MayDeliver, MayMove, Runs, WaitsAgain, WasReady, is_exit}
+use Rattle.task_rules.specs.Calls.{with_thread_handle}
+use Rattle.task_rules.specs.Chains.{LastWords, Walk, is_running}
+use Rattle.task_rules.specs.Data.{moved_to}
+use Rattle.task_rules.specs.Ends.{is_told, may_tell, told}
+use Rattle.task_rules.specs.Laws.{is_free}
+use Rattle.task_rules.specs.Once.{begun_holder, holder_at_start, is_start}
+use Rattle.task_rules.specs.Outcome.{outcome_of_label}
+use Rattle.task_rules.specs.Progress.{Goes, Stops, may}
+use Rattle.task_rules.specs.Scenes.{Scene}
+use Rattle.task_rules.specs.Sets.{chosen, handed_out, set_given}
+use Rattle.task_rules.specs.Stalled.{Setting}
+use Rattle.task_rules.specs.Takes.{activated, activated_woken, delivered, delivery_row, may_tell_starting, own_delivered, running, set_delivered, start_admitted, start_begins, start_holds, start_row, start_sets_flags, starting_is_published, starting_told, take_holds, thread_taken, wait_again}
+use Rattle.task_rules.specs.Words.{Move, NameThread, SetDoNotEnter, SetScript, SetStarted, SetStartingPublished}
+use Rattle.task_machine.specs.declared.component.ExportKind.TheVariants as kind
+use Rattle.task_machine.specs.declared.label.Label.TheVariants as label
+use Rattle.task_machine.specs.declared.label.TakeLabel.TheVariants as take
+use Rattle.task_machine.specs.declared.records.Caller.TheVariants as caller
+use Rattle.task_machine.specs.declared.records.Delivery.TheVariants as delivery
+use Rattle.task_machine.specs.declared.records.Goal.TheVariants as goal
+use Rattle.task_machine.specs.declared.records.Place.TheVariants as place
+use Rattle.task_machine.specs.declared.records.Script.TheVariants as script
+use Rattle.task_machine.specs.declared.records.Subtask.TheVariants as subtask
+use Rattle.task_machine.specs.declared.records.Turn.TheVariants as turn
+use Rattle.task_machine.specs.declared.records.Why.TheVariants as why
+use Rattle.task_machine.specs.declared.trap.Trap.TheVariants as trap
+use Rattle.task_machine.specs.declared.words.Status.TheVariants as status
+
+-- ---- What is read
+
+abbrev is_taking : Label → Bool
+is_taking (label.Take k) = true
+is_taking _ = false
+
+taking_outcome : (k : Label) → is_taking k ≡ true → outcome_of_label k ≡ None
+taking_outcome (label.Take k) h = refl
+taking_outcome (label.Main k) h = absurd (subst T (sym h) tt)
+taking_outcome (label.Loop k) h = absurd (subst T (sym h) tt)
+taking_outcome (label.Call k) h = absurd (subst T (sym h) tt)
+taking_outcome _ h = refl
+
+taking_exit : (k : Label) → is_taking k ≡ true → is_exit k ≡ false
+taking_exit (label.Take k) h = refl
+taking_exit (label.Task k) h = absurd (subst T (sym h) tt)
+taking_exit _ h = refl
+
+take_taking : (m : Mark) (n : ℕ) (w : Option ℕ) → is_taking (take_label m n w) ≡ true
+take_taking m n None = refl
+take_taking m n (Some w) = refl
+
+take_begins : (m : Mark) (n : ℕ) (w : Option ℕ) (s : Core) → begun_holder s (take_label m n w) ≡ holder_at_start n s
+take_begins m n None s = refl
+take_begins m n (Some w) s = refl
+
+held_taking : (m : Mark) (n : ℕ) (w : Option ℕ) → is_taking (held_label m n w) ≡ true
+held_taking m n None = refl
+held_taking m n (Some w) = refl
+
+held_begins : (m : Mark) (n : ℕ) (w : Option ℕ) (s : Core) → begun_holder s (held_label m n w) ≡ None
+held_begins m n None s = refl
+held_begins m n (Some w) s = refl
+
+event_taking : (m : Mark) (n : ℕ) (v : Given) (w : Option ℕ) → is_taking (event_label m n v w) ≡ true
+event_taking m n v None = refl
+event_taking m n v (Some w) = refl
+
+event_begins : (m : Mark) (n : ℕ) (v : Given) (w : Option ℕ) (s : Core) → begun_holder s (event_label m n v w) ≡ Some (instance_of n s)
+event_begins m n v None s = refl
+event_begins m n v (Some w) s = refl
+
+host_taking : (m : Mark) (i : ℕ) (w : Option ℕ) → is_taking (host_label m i w) ≡ true
+host_taking m i None = refl
+host_taking m i (Some w) = refl
+
+pub host_quiet : (m : Mark) (i : ℕ) (w : Option ℕ) → outcome_of_label (host_label m i w) ≡ None
+host_quiet m i None = refl
+host_quiet m i (Some w) = refl
+
+pub host_begins : (m : Mark) (i : ℕ) (w : Option ℕ) (s : Core) → begun_holder s (host_label m i w) ≡ None
+host_begins m i None s = refl
+host_begins m i (Some w) s = refl
+
+free_moved : (n : ℕ) (p : Place) (t : Core) → is_free p ≡ true → option_map_or is_free (place_of n (set_place n p t)) true ≡ true
+unfolding set_place on_thread
+free_moved n p t free = ap (λ o. option_map_or is_free (option_map (λ (r : Thread). r.place) o) true) (get-change_same t.threads n (λ r. record r { place = p })) ∙ at (get t.threads n)
+  where
+    at : (o : Option Thread) → option_map_or is_free (option_map (λ (r : Thread). r.place) (option_map (λ (r : Thread). record r { place = p }) o)) true ≡ true
+    at None = refl
+    at (Some r) = free
+
+-- the instance is shut, if it is there
+shut_here : (i : ℕ) (t : Core) → is_some (get (set_do_not_enter i true t).instances i) ≡ true → may_not_enter i (set_do_not_enter i true t) ≡ true
+unfolding set_do_not_enter on_instance
+shut_here i t there = shut_at (get t.instances i) (get-change_same t.instances i (λ (r : Instance). record r { do_not_enter = true })) there
+  where
+    shut_at : (o : Option Instance) → get (change i (λ (r : Instance). record r { do_not_enter = true }) t.instances) i ≡ option_map (λ (r : Instance). record r { do_not_enter = true }) o → is_some (get (change i (λ (r : Instance). record r { do_not_enter = true }) t.instances) i) ≡ true → option_map_or (λ (r : Instance). r.do_not_enter) (get (change i (λ (r : Instance). record r { do_not_enter = true }) t.instances) i) false ≡ true
+    shut_at None e h = absurd (subst T (sym h ∙ ap (λ o. is_some o) e) tt)
+    shut_at (Some r) e h = ap (λ o. option_map_or (λ (q : Instance). q.do_not_enter) o false) e
+
+started_shut : (n : ℕ) (p : Place) (t : Core) (i : ℕ) → is_some (get (set_place n p (set_do_not_enter i true t)).instances i) ≡ true → may_not_enter i (set_place n p (set_do_not_enter i true t)) ≡ true
+unfolding set_place on_thread
+started_shut n p t i there = shut_here i t there
+
+activated_shut : (n : ℕ) (g : Gift) (v : Given) (t : Core) → is_some (get (activated n g v t).instances (instance_of n t)) ≡ true → may_not_enter (instance_of n t) (activated n g v t) ≡ true
+unfolding activated set_place on_thread moved_to set_how_far set_position set_script
+activated_shut n g v t there = shut_here (instance_of n t) (set_given n 0 v (taken g (task_of n t) t)) there
+
+-- an admitted start of a holding entry finds its instance open
+open_start : (e : Bool) (k : ExportKind) (m z : Bool) → e ≡ false → is_holding k ≡ true → (e || (is_sync k || (not m && z))) ≡ true → m ≡ false
+open_start true k m z e h a = absurd (subst T e tt)
+open_start false kind.Sync m z e h a = absurd (subst T (sym h) tt)
+open_start false kind.Stackful m z e h a = absurd (subst T (sym h) tt)
+open_start false kind.Blocking true z e h a = absurd (subst T (sym a) tt)
+open_start false kind.Blocking false z e h a = refl
+open_start false kind.Callback true z e h a = absurd (subst T (sym a) tt)
+open_start false kind.Callback false z e h a = refl
+
+holder_parts : (e h p : Bool) (j i : ℕ) → (if not e && (h && p) then Some j else None) ≡ Some i → (e ≡ false) × ((h ≡ true) × ((p ≡ true) × (j ≡ i)))
+holder_parts true h p j i is = none_is_some i is
+holder_parts false false p j i is = none_is_some i is
+holder_parts false true false j i is = none_is_some i is
+holder_parts false true true j i is = (refl, (refl, (refl, ap (λ (o : Option ℕ). unwrap_or o 0) is)))
+
+unnot_true : (c : Bool) → not c ≡ true → c ≡ false
+unnot_true true h = absurd (subst T (sym h) tt)
+unnot_true false h = refl
+
+-- ---- Whose instance it is
+
+same_instance : (n : ℕ) (s t : Core) → task_of n t ≡ task_of n s → ((k : ℕ) → option_map (λ (c : Call). c.callee) (get t.calls k) ≡ option_map (λ (c : Call). c.callee) (get s.calls k)) → instance_of n t ≡ instance_of n s
+same_instance n s t task calls = ap (λ (k : ℕ). call_instance k t) task ∙ ap (λ (e : Callee). e.instance) (callee_by (get t.calls (task_of n s)) (get s.calls (task_of n s)) (calls (task_of n s)))
+  where
+    callee_by : (o p : Option Call) → option_map (λ (c : Call). c.callee) o ≡ option_map (λ (c : Call). c.callee) p → option_map_or (λ (c : Call). c.callee) o no_callee ≡ option_map_or (λ (c : Call). c.callee) p no_callee
+    callee_by o p e = sym (at o) ∙ (ap (λ (q : Option Callee). unwrap_or q no_callee) e ∙ at p)
+      where
+        at : (q : Option Call) → unwrap_or (option_map (λ (c : Call). c.callee) q) no_callee ≡ option_map_or (λ (c : Call). c.callee) q no_callee
+        at None = refl
+        at (Some c) = refl
+
+on_call_instance : (n k : ℕ) (f : Call → Call) (s : Core) → ((c : Call) → (f c).callee ≡ c.callee) → instance_of n (on_call k f s) ≡ instance_of n s
+unfolding on_call
+on_call_instance n k f s keeps = same_instance n s (record s { calls = change k f s.calls }) refl (λ q. change-field (λ (c : Call). c.callee) k f keeps s.calls q)
+
+named_instance : (i m n : ℕ) (s : Core) → instance_of n (with_thread_handle i m s) ≡ instance_of n s
+unfolding with_thread_handle set_thread_handle on_thread give_thread_handle
+named_instance i m n s = same_instance n s (set_thread_handle m (Some (new_thread_handle i s)) (give_thread_handle i m s)) (task_by (get (change m (λ (r : Thread). record r { handle = Some (new_thread_handle i s) }) s.threads) n) (get s.threads n) (change-field (λ (r : Thread). r.call) m (λ (r : Thread). record r { handle = Some (new_thread_handle i s) }) (λ r. refl) s.threads n)) (λ k. refl)
+  where
+    task_by : (o p : Option Thread) → option_map (λ (r : Thread). r.call) o ≡ option_map (λ (r : Thread). r.call) p → option_map_or (λ (r : Thread). r.call) o 0 ≡ option_map_or (λ (r : Thread). r.call) p 0
+    task_by o p e = sym (at o) ∙ (ap (λ (q : Option ℕ). unwrap_or q 0) e ∙ at p)
+      where
+        at : (q : Option Thread) → unwrap_or (option_map (λ (r : Thread). r.call) q) 0 ≡ option_map_or (λ (r : Thread). r.call) q 0
+        at None = refl
+        at (Some r) = refl
+
+started_instance : (k n : ℕ) (s : Core) → instance_of n (set_started k s) ≡ instance_of n s
+unfolding set_started
+started_instance k n s = on_call_instance n k (λ c. record c { started = true }) s (λ c. refl)
+
+event_instance : (k : ℕ) (e : Option Status) (n : ℕ) (s : Core) → instance_of n (set_event (subtask.Guest k) e s) ≡ instance_of n s
+unfolding set_event
+event_instance k e n s = on_call_instance n k (λ c. record c { event = e }) s (λ c. refl)
+
+told_instance : (k : ℕ) (e : Status) (w : Option ℕ) (n : ℕ) (s : Core) → ToldTo k w s → instance_of n (told k e w s) ≡ instance_of n s
+unfolding told
+told_instance k e w n s to = by_told (is_told k s) refl
+  where
+    by_told : (b : Bool) → is_told k s ≡ b → instance_of n (if b then published (subtask.Guest k) e w s else s) ≡ instance_of n s
+    by_told true is = shifted_instance (shifts_shifted (published_call_shifts k e w s (to is))) n ∙ event_instance k (Some e) n s
+    by_told false is = refl
+
+-- ---- A start that is told
+
+begun_at : ℕ → Core → Core
+begun_at n s = set_started (task_of n s) (with_thread_handle (instance_of n s) n s)
+
+begun_instance : (n : ℕ) (s : Core) → instance_of n (begun_at n s) ≡ instance_of n s
+unfolding begun_at
+begun_instance n s = started_instance (task_of n s) n (with_thread_handle (instance_of n s) n s) ∙ named_instance (instance_of n s) n n s
+
+begun_same : (n : ℕ) (s : Core) → SameCall (task_of n s) s (begun_at n s)
+unfolding begun_at set_started on_call with_thread_handle set_thread_handle give_thread_handle on_thread
+begun_same n s = change-field unanswered (task_of n s) (λ (c : Call). record c { started = true }) (λ c. refl) s.calls (task_of n s)
+
+begun_chosen : (n x : ℕ) (w : Option ℕ) (s : Core) → Chosen x w s → Chosen x w (begun_at n s)
+unfolding begun_at set_started on_call with_thread_handle set_thread_handle give_thread_handle on_thread
+begun_chosen n x w s h m is = ap (λ p. option_map_or (is_waiting_on x) p false) (change-field (λ (r : Thread). r.place) n (λ (r : Thread). record r { handle = Some (new_thread_handle (instance_of n s) s) }) (λ r. refl) s.threads m) ∙ h m is
+
+begun_started : (n : ℕ) (s : Core) → is_told (task_of n s) (begun_at n s) ≡ true → was_started (task_of n s) (begun_at n s) ≡ true
+unfolding begun_at set_started on_call with_thread_handle set_thread_handle give_thread_handle on_thread
+begun_started n s told = at (get s.calls (task_of n s)) (get-change_same s.calls (task_of n s) (λ (c : Call). record c { started = true })) told
+  where
+    at : (o : Option Call) → get (change (task_of n s) (λ (c : Call). record c { started = true }) s.calls) (task_of n s) ≡ option_map (λ (c : Call). record c { started = true }) o → is_told (task_of n s) (record s { calls = change (task_of n s) (λ (c : Call). record c { started = true }) s.calls }) ≡ true → option_map_or (λ (c : Call). c.started) (get (change (task_of n s) (λ (c : Call). record c { started = true }) s.calls) (task_of n s)) false ≡ true
+    at None e told = absurd (subst T (sym told ∙ ap (λ (o : Option Call). is_guest_call (option_map_or (λ c. c.caller) o caller.Main) && not (is_direct (option_map_or (λ c. c.goal) o goal.Nowhere))) e) tt)
+    at (Some c) e told = ap (λ (o : Option Call). option_map_or (λ c. c.started) o false) e
+
+published_same : (k : ℕ) (s : Core) → SameCall k s (set_starting_published k s)
+unfolding set_starting_published on_call
+published_same k s = change-field unanswered k (λ (c : Call). record c { starting_published = true }) (λ c. refl) s.calls k
+
+published_chosen : (k x : ℕ) (w : Option ℕ) (s : Core) → Chosen x w s → Chosen x w (set_starting_published k s)
+unfolding set_starting_published on_call
+published_chosen k x w s h = h
+
+-- ---- The thread that is taken
+
+module _ (x : Setting) (main : Main) (ended : Bool) (s : Core) (n : ℕ) (l : Label) (next : Turn) (b : Core) where
+  abbrev pub taking_scene : Scene
+  taking_scene = seen x main (turn.Take ended) s n l next
+
+  -- a holding entry that begins to run finds its instance open, and shuts it
+  abbrev Shuts : Label → Core → Type 0
+  Shuts k t = (i : ℕ) → begun_holder s k ≡ Some i → (may_not_enter i s ≡ false) × (is_some (get t.instances i) ≡ true → may_not_enter i t ≡ true)
+
+  taken_ends : (k : Label) (p : Place) (t : Core) → l ≡ k → is_taking k ≡ true → is_free p ≡ true → ((m : ℕ) → next ≡ turn.Run m → (m ≡ n) × (p ≡ place.Running)) → Shuts k (set_place n p t) → LastWords taking_scene (set_place n p t)
+  taken_ends k p t is taking free to shuts = record {
+    laid = λ m at take. subst (λ (j : ℕ). option_map_or is_free (place_of j (set_place n p t)) true ≡ true) (ap (λ (o : Option ℕ). unwrap_or o 0) at) (free_moved n p t free);
+    runs = λ m at. let r = to m at in inr (subst (λ (j : ℕ). option_map_or is_running (place_of j (set_place n p t)) true ≡ true) (sym r.0) (subst (λ (q : Place). option_map_or is_running (place_of n (set_place n q t)) true ≡ true) (sym r.1) (running_moved n t)));
+    outcome = λ o at. none_is_some o (sym (ap outcome_of_label is ∙ taking_outcome k taking) ∙ at);
+    gone = λ m at exit. absurd (subst T (sym exit ∙ (ap is_exit is ∙ taking_exit k taking)) tt);
+    shut = λ i begun. shuts i (ap (λ (y : Label). begun_holder s y) (sym is) ∙ begun);
+  }
+
+  runs_taken : (k : Label) (t : Core) → is_taking k ≡ true → Shuts k (set_place n place.Running t) → (next ≡ turn.Run n → Walk taking_scene b t) → Leads taking_scene b (Goes k (set_place n place.Running t) n)
+  runs_taken k t taking shuts c is to = (moved (Move n place.Running) (Runs refl to refl) (c to), taken_ends k place.Running t is taking refl (λ m at. (one_runner m n (sym at ∙ to), refl)) shuts)
+
+  lays_taken : (k : Label) (p : Place) (t : Core) → is_taking k ≡ true → is_free p ≡ true → ((i : ℕ) → begun_holder s k ≡ Some i → ⊥) → (Leaves taking_scene n → MayMove taking_scene n p t) → Walk taking_scene b t → Leads taking_scene b (Stops k (set_place n p t))
+  lays_taken k p t taking free none may c is to = (moved (Move n p) (may (refl, to)) c, taken_ends k p t is taking free (λ m at. not_main m (sym to ∙ at)) (λ i begun. absurd (none i begun)))
+
+  holds_leads : (k : Label) (w : Why) (t : Core) → is_taking k ≡ true → begun_holder s k ≡ None → WasReady taking_scene n w → Walk taking_scene b t → Leads taking_scene b (Stops k (take_holds n w t))
+  unfolding take_holds
+  holds_leads k w t taking none ready c = lays_taken k (place.Held w) (stopped (foot_of n t) t) taking refl (λ i begun. none_is_some i (sym none ∙ begun)) (λ leave. Holds w leave ready refl) (shifted (stopped_shifts (foot_of n t) t) c)
+
+  -- ---- Starts
+
+  abbrev told_start : Option ℕ → Core
+  told_start w = told (task_of n s) status.Started w (begun_at n s)
+
+  told_home : (w : Option ℕ) → may_tell (task_of n s) w s ≡ true → instance_of n (told_start w) ≡ instance_of n s
+  told_home w may = told_instance (task_of n s) status.Started w n (begun_at n s) (still_told_to (task_of n s) s (begun_at n s) (begun_same n s) w (λ y h. begun_chosen n y w s h) (told_to (task_of n s) w s may)) ∙ begun_instance n s
+
+  holder_is : (m : Mark) (w : Option ℕ) (i : ℕ) → begun_holder s (take_label m n w) ≡ Some i → (is_explicit n s ≡ false) × ((is_holding (kind_of (task_of n s) s) ≡ true) × ((option_map_or is_start (place_of n s) false ≡ true) × (instance_of n s ≡ i)))
+  holder_is m w i begun = holder_parts (is_explicit n s) (is_holding (kind_of (task_of n s) s)) (option_map_or is_start (place_of n s) false) (instance_of n s) i (sym (take_begins m n w s) ∙ begun)
+
+  none_holds : (m : Mark) (w : Option ℕ) (q : ExportKind) → kind_of (task_of n s) s ≡ q → is_holding q ≡ false → (i : ℕ) → begun_holder s (take_label m n w) ≡ Some i → {A : Type 0} → A
+  none_holds m w q at no_hold i begun = absurd (subst T (sym (holder_is m w i begun).1.0 ∙ (ap (λ y. is_holding y) at ∙ no_hold)) tt)
+
+  module _ (start : Walk taking_scene b s) where
+    starts_walks : (w : Option ℕ) → WasReady taking_scene n why.Start → may_tell (task_of n s) w s ≡ true → Walk taking_scene b (told_start w)
+    unfolding begun_at
+    starts_walks w ready may =
+        let k = task_of n s in
+        told_walks k status.Started w (begun_started n s) (λ e. absurd (subst T (sym e) tt)) (still_told_to k s (begun_at n s) (begun_same n s) w (λ y h. begun_chosen n y w s h) (told_to k w s may))
+        (word (SetStarted k) (inl (n, (refl, (ready, refl)))) (word (NameThread (instance_of n s) n) tt start))
+
+    barred_leads : (m : Mark) (w : Option ℕ) → WasReady taking_scene n why.Start → is_explicit n s ≡ false → admits n s why.Start ≡ true → may_tell (task_of n s) w s ≡ true → (q : ExportKind) → kind_of (task_of n s) s ≡ q → is_holding q ≡ true → Leads taking_scene b (Goes (take_label m n w) (set_place n place.Running (set_do_not_enter (instance_of n (told_start w)) true (told_start w))) n)
+    barred_leads m w ready implicit admitted may q at holding =
+        let home = told_home w may in
+        let open_at : may_not_enter (instance_of n s) s ≡ false = open_start (is_explicit n s) (kind_of (task_of n s) s) (may_not_enter (instance_of n s) s) (backpressure_of (instance_of n s) s == 0) implicit (ap (λ y. is_holding y) at ∙ holding) admitted in
+        runs_taken (take_label m n w) (set_do_not_enter (instance_of n (told_start w)) true (told_start w)) (take_taking m n w) (λ i begun.
+        let same : instance_of n s ≡ i = (holder_is m w i begun).1.1.1 in (
+          subst (λ (j : ℕ). may_not_enter j s ≡ false) same open_at,
+          subst (λ (j : ℕ). is_some (get (set_place n place.Running (set_do_not_enter (instance_of n (told_start w)) true (told_start w))).instances j) ≡ true → may_not_enter j (set_place n place.Running (set_do_not_enter (instance_of n (told_start w)) true (told_start w))) ≡ true) (home ∙ same) (started_shut n place.Running (told_start w) (instance_of n (told_start w))),
+        ))
+        (λ to. word (SetDoNotEnter (instance_of n (told_start w)) true) (ap (λ (j : ℕ). may_not_enter j s) home ∙ open_at) (starts_walks w ready may))
+
+    begins_leads : (m : Mark) (w : Option ℕ) → WasReady taking_scene n why.Start → is_explicit n s ≡ false → admits n s why.Start ≡ true → may_tell (task_of n s) w s ≡ true → (q : ExportKind) → kind_of (task_of n s) s ≡ q → Leads taking_scene b (Goes (take_label m n w) (set_place n place.Running (start_sets_flags n q (told_start w))) n)
+    begins_leads m w ready implicit admitted may kind.Sync at = runs_taken (take_label m n w) _ (take_taking m n w) (λ i begun. none_holds m w kind.Sync at refl i begun) (λ to. sync_sets_flag_walks n refl n (instance_of n (told_start w)) kind.Sync (starts_walks w ready may))
+    begins_leads m w ready implicit admitted may kind.Stackful at = runs_taken (take_label m n w) _ (take_taking m n w) (λ i begun. none_holds m w kind.Stackful at refl i begun) (λ to. starts_walks w ready may)
+    begins_leads m w ready implicit admitted may kind.Blocking at = barred_leads m w ready implicit admitted may kind.Blocking at refl
+    begins_leads m w ready implicit admitted may kind.Callback at = barred_leads m w ready implicit admitted may kind.Callback at refl
+
+    -- a thread that was started runs on
+    resumes_leads : (m : Mark) → ((i : ℕ) → begun_holder s (take_label m n None) ≡ Some i → ⊥) → Leads taking_scene b (Goes (take_label m n None) (running n s) n)
+    unfolding running
+    resumes_leads m none = runs_taken (take_label m n None) s refl (λ i begun. absurd (none i begun)) (λ to. start)
+
+    start_admitted_leads : (m : Mark) (w : Option ℕ) (c : Bool) → is_explicit n s ≡ c → WasReady taking_scene n why.Start → admits n s why.Start ≡ true → Leads taking_scene b (start_admitted m n w s c)
+    unfolding start_begins begun_at
+    start_admitted_leads m w true explicit ready admitted = resumes_leads m (λ i begun. subst T (sym explicit ∙ (holder_is m None i begun).0) tt)
+    start_admitted_leads m w false implicit ready admitted =
+        trap_if_leads taking_scene b (at_handle_limit s) trap.HandleLimit _ (λ e.
+        may_leads taking_scene b (may_tell (task_of n s) w s) _ (λ may.
+        begins_leads m w ready implicit admitted may (kind_of (task_of n s) s) refl))
+
+    starting_walks : (w : Option ℕ) → may_tell_starting (task_of n s) w s ≡ true → Walk taking_scene b (starting_told (task_of n s) w s)
+    unfolding starting_told may_tell_starting
+    starting_walks w may =
+        let k = task_of n s in
+        walk_if (starting_is_published k s) s (told k status.Starting w (set_starting_published k s)) (λ e. start) (λ e.
+        told_walks k status.Starting w (λ told. tt) (λ e. absurd (subst T (sym e) tt)) (still_told_to k s (set_starting_published k s) (published_same k s) w (λ y h. published_chosen k y w s h) (told_to k w s (sym (ap (λ c. cond c (is_none w) (may_tell k w s)) e) ∙ may)))
+        (word (SetStartingPublished k) tt start))
+
+    start_row_leads : (m : Mark) (w : Option ℕ) (c : Bool) → admits n s why.Start ≡ c → WasReady taking_scene n why.Start → Leads taking_scene b (start_row m n w s c)
+    unfolding start_holds
+    start_row_leads m w true admitted ready = start_admitted_leads m w (is_explicit n s) refl ready admitted
+    start_row_leads m w false admitted ready =
+        may_leads taking_scene b (may_tell_starting (task_of n s) w s) _ (λ may.
+        holds_leads (held_label m n w) why.Start (starting_told (task_of n s) w s) (held_taking m n w) (held_begins m n w s) ready (starting_walks w may))
+
+    -- ---- Deliveries
+
+    activated_goes : (m : Mark) (g : Gift) (v : Given) (w : Option ℕ) (t : Core) → instance_of n t ≡ instance_of n s → MayTake taking_scene (task_of n t) g → may_not_enter (instance_of n s) s ≡ false → Walk taking_scene b t → Leads taking_scene b (Goes (event_label m n v w) (activated n g v t) n)
+    unfolding activated
+    activated_goes m g v w t home may open_at c =
+        runs_taken (event_label m n v w) (moved_to n 0 (set_script n script.React (set_do_not_enter (instance_of n t) true (set_given n 0 v (taken g (task_of n t) t))))) (event_taking m n v w) (λ i begun.
+        let same : instance_of n s ≡ i = ap (λ (o : Option ℕ). unwrap_or o 0) (sym (event_begins m n v w s) ∙ begun) in (
+          subst (λ (j : ℕ). may_not_enter j s ≡ false) same open_at,
+          subst (λ (j : ℕ). is_some (get (activated n g v t).instances j) ≡ true → may_not_enter j (activated n g v t) ≡ true) (home ∙ same) (activated_shut n g v t),
+        ))
+        (λ to. moved_to_walks n refl 0 (word (SetScript n script.React) tt (word (SetDoNotEnter (instance_of n t) true) (ap (λ (j : ℕ). may_not_enter j s) home ∙ open_at) (set_given_walks n refl 0 v (taken_walks g (task_of n t) may c)))))
+
+    woken_goes : (m : Mark) (y : ℕ) (ch : Choice) (g : Gift) → MayTake taking_scene (task_of n s) g → may_not_enter (instance_of n s) s ≡ false → Leads taking_scene b (may (may_hand_on y g ch.woken s) (Goes (event_label m n (handed_out ch s g) ch.woken) (activated_woken n y ch.woken g (handed_out ch s g) s) n))
+    unfolding activated_woken
+    woken_goes m y ch g ok open_at =
+        may_leads taking_scene b (may_hand_on y g ch.woken s) _ (λ may.
+        let d = handed_on_shifts y g ch.woken s may in
+        let h = shifts_shifted d in
+        activated_goes m g (handed_out ch s g) ch.woken (handed_on y g ch.woken s) (shifted_instance h n) (subst (λ (k : ℕ). MayTake taking_scene k g) (sym (shifted_task h n)) ok) open_at (shifted d start))
+
+    set_delivered_leads : (m : Mark) (y : ℕ) (ch : Choice) (g : Gift) → WasReady taking_scene n (why.Delivery (delivery.Set y)) → MayTake taking_scene (task_of n s) g → may_not_enter (instance_of n s) s ≡ false → Leads taking_scene b (set_delivered m n y ch s g)
+    unfolding wait_again
+    set_delivered_leads m y ch NoGift ready ok open_at = lays_taken (label.Take (take.Again m n)) (place.Waiting y true) (stopped (foot_of n s) s) refl refl (λ i begun. none_is_some i begun) (λ leave. WaitsAgain y leave ready refl) (shifted (stopped_shifts (foot_of n s) s) start)
+    set_delivered_leads m y ch (OwnGift v) ready ok open_at = woken_goes m y ch (OwnGift v) ok open_at
+    set_delivered_leads m y ch (MemberGift sub) ready ok open_at = woken_goes m y ch (MemberGift sub) ok open_at
+
+    delivers : (d : Delivery) → WasReady taking_scene n (why.Delivery d) → MayDeliver taking_scene (task_of n s)
+    delivers d ready = (n, (refl, (refl, (d, ready))))
+
+    own_taken : (d : Delivery) → WasReady taking_scene n (why.Delivery d) → (o : Option OwnEvent) → MayTake taking_scene (task_of n s) (own_or_nothing o)
+    own_taken d ready None = tt
+    own_taken d ready (Some e) = ((n, (refl, refl)), λ c. delivers d ready)
+
+    own_delivered_leads : (m : Mark) (d : Delivery) → WasReady taking_scene n (why.Delivery d) → may_not_enter (instance_of n s) s ≡ false → Leads taking_scene b (own_delivered m n s (own_gift_only (task_of n s) s))
+    unfolding own_gift_only
+    own_delivered_leads m d ready open_at =
+        let g = own_gift_only (task_of n s) s in
+        activated_goes m g (given_for g 0 s) None s refl (own_taken d ready (own_gift_of true (task_of n s) s)) open_at start
+
+    delivered_leads : (m : Mark) (ch : Choice) (d : Delivery) → WasReady taking_scene n (why.Delivery d) → may_not_enter (instance_of n s) s ≡ false → Leads taking_scene b (delivered m n ch s d)
+    delivered_leads m ch (delivery.Set y) ready open_at =
+        or_never_leads taking_scene b (gift true (task_of n s) y (chosen n ch s) s) _ (λ g e.
+        set_delivered_leads m y ch g ready (gift_is taking_scene n true y ch g refl (λ t. delivers (delivery.Set y) ready) e) open_at)
+    delivered_leads m ch delivery.Yield ready open_at = own_delivered_leads m delivery.Yield ready open_at
+    delivered_leads m ch delivery.Cancel ready open_at = own_delivered_leads m delivery.Cancel ready open_at
+
+    delivery_row_leads : (m : Mark) (ch : Choice) (d : Delivery) (c : Bool) → admits n s (why.Delivery d) ≡ c → WasReady taking_scene n (why.Delivery d) → Leads taking_scene b (delivery_row m n ch s d c)
+    delivery_row_leads m ch d true admitted ready = delivered_leads m ch d ready (unnot_true (may_not_enter (instance_of n s) s) admitted)
+    delivery_row_leads m ch d false admitted ready = holds_leads (held_label m n None) (why.Delivery d) s refl refl ready start
+
+    pub thread_taken_leads : (m : Mark) (ch : Choice) (o : Option Place) → place_of n s ≡ o → Leads taking_scene b (thread_taken m n ch s o)
+    thread_taken_leads m ch (Some (place.Ready y why.Start)) at = start_row_leads m ch.woken (admits n s why.Start) refl (y, at)
+    thread_taken_leads m ch (Some (place.Ready y (why.Delivery d))) at = delivery_row_leads m ch d (admits n s (why.Delivery d)) refl (y, at)
+    thread_taken_leads m ch (Some (place.Ready y why.Resumption)) at = resumes_leads m (λ i begun. subst T (sym (holder_is m None i begun).1.1.0 ∙ ap (λ o. option_map_or is_start o false) at) tt)
+    thread_taken_leads m ch None at = tt
+    thread_taken_leads m ch (Some place.New) at = tt
+    thread_taken_leads m ch (Some place.Running) at = tt
+    thread_taken_leads m ch (Some (place.Under c)) at = tt
+    thread_taken_leads m ch (Some (place.Behind c)) at = tt
+    thread_taken_leads m ch (Some (place.Waiting y c)) at = tt
+    thread_taken_leads m ch (Some (place.Blocked c)) at = tt
+    thread_taken_leads m ch (Some (place.Held c)) at = tt
+    thread_taken_leads m ch (Some place.Suspended) at = tt

@@ -1,0 +1,543 @@
+-- The rows of ops as chains of words: what a row owes, the ops on registers and words, and the ops that end a task or an activation.
+use Rattle.task_rules.specs.SubtaskEnds.{task_end, written_by, written_by_exit}
+use Rattle.task_machine.specs.declared.words.Status.TheVariants as status
+use Rattle.std.proofs.Common.{T, ap, cond, inl, inr, length, refl, subst, suc, sym, ◌-◌, ◌∙◌, ◌⊎◌}
+use Rattle.std.specs.Option.{option_map_or}
+use Rattle.std.specs.Prelude.{Bool, List, None, Option, Some, false, if◌then◌else◌, is_none, min, nat_le, nat_lt, not, option_map, true, unwrap_or, zero, ℕ, ◌%◌, ◌&&◌, ◌*◌, ◌+◌, ◌/◌, ◌==◌, ◌≡◌, ◌||◌}
+use Rattle.task_machine.proofs.CommuteLemmas.{get-change}
+use Rattle.task_machine.proofs.MapLemmas.{change-field, get-change_same}
+use Rattle.task_machine.specs.Core.{Core, Main}
+use Rattle.task_machine.specs.Labels.{Choice, exit_label, ret_label, task_cancel_label}
+use Rattle.task_machine.specs.Maps.{Records, change, get, numbers}
+use Rattle.task_machine.specs.Moves.{checked, ended, passes_check, stopped}
+use Rattle.task_machine.specs.Read.{backpressure_of, cancel_was_delivered, foot_of, goal_of, has_ended, instance_of, is_async_lifted, is_at, is_direct, is_explicit, is_holding, is_under, kind_of, own_event_of, place_of, position_of, register_of, saved_own_of, set_at, task_of, under_of}
+use Rattle.task_machine.specs.Write.{on_instance, on_thread, set_backpressure, set_do_not_enter, set_do_not_suspend, set_end, set_how_far, set_place}
+use Rattle.task_machine.specs.declared.component.Component.{Component}
+use Rattle.task_machine.specs.declared.component.ExportKind.{ExportKind}
+use Rattle.task_machine.specs.declared.label.Label.{Label}
+use Rattle.task_machine.specs.declared.op.DataOp.{DataOp}
+use Rattle.task_machine.specs.declared.op.TaskOp.{TaskOp}
+use Rattle.task_machine.specs.declared.records.Call.{Call}
+use Rattle.task_machine.specs.declared.records.Place.{Place}
+use Rattle.task_machine.specs.declared.records.Thread.{Thread}
+use Rattle.task_machine.specs.declared.records.Turn.{Turn}
+use Rattle.task_machine.specs.declared.trap.Trap.{Trap}
+use Rattle.task_machine.specs.declared.words.OwnEvent.{OwnEvent}
+use Rattle.task_rules.proofs.StopLemmas.{find_passes}
+use Rattle.task_rules.proofs.PlacingLemmas.{Shifted, shifted_calls, shifted_task, shifts_shifted}
+use Rattle.task_rules.proofs.StandLemmas.{is_eq_of}
+use Rattle.task_rules.proofs.WalkEnds.{SameCall, cancelled_walks, returned_walks, still_told_to, unanswered}
+use Rattle.task_rules.proofs.WalkMoves.{Chosen, ToldTo, checked_shifts, chosen_released, ended_gone, ended_walks, moved, released_shifts, shifted, stopped_shifts, told_to, word}
+use Rattle.task_rules.specs.Allowed.{AwaitsEvent, BySetHandle, ComesAgain, Departs, EndsActivation, EndsOver, Exits, FindsEvent, GivesUp, HasSet, IsRunner, Leaves, MayBar, MayEnd, MayGo, MayOwe, ReturnsNow, Uncovers, is_exit, SaysEnd}
+use Rattle.task_rules.specs.Calls.{answered}
+use Rattle.task_rules.specs.Chains.{LastWords, NoWord, Walk, is_running}
+use Rattle.task_rules.specs.Data.{advanced, assigned, data_row, moved_to, skip_row, skipped, stored}
+use Rattle.task_rules.specs.Ends.{blocking_exit_row, blocking_exits, code_exits, code_finds, code_kind_row, code_row, code_stops, code_wait_row, code_waits, code_yields, direct_exit_to, direct_exits, end_reopens, exit_restores, exit_row_for, exit_stops, has_event_for, held_by_flag, implicit_exit_row, kind_exit_row, leaves_no_result, may_tell, own_or_none, passes_after_return, passes_after_stop, returned, sync_exit_row, sync_exits, thread_exit_row}
+use Rattle.task_rules.specs.Once.{begun_holder, holder_at_exit, returned_holder}
+use Rattle.task_rules.specs.OpParts.{ends_activation, is_code_op}
+use Rattle.task_rules.specs.Outcome.{outcome_of_label}
+use Rattle.task_rules.specs.Progress.{Fails, Goes, Never, Ordered, Progress, Stops, Traps, may, or_never, or_trap, trap_if}
+use Rattle.task_rules.specs.Scenes.{Scene, op_in}
+use Rattle.task_rules.specs.Scripts.{script_of, value_of}
+use Rattle.task_rules.specs.Stalled.{Setting}
+use Rattle.task_rules.specs.Task.{dec_from, dec_lowers, dec_opens, inc_raises, inc_row, ret_done, ret_row, task_cancel_done, task_cancel_row, task_row}
+use Rattle.task_rules.specs.Words.{Move, Put, SetBackpressure, SetDoNotEnter, SetDoNotSuspend, SetEnd, SetHowFar, SetOwnEvent, SetPosition, SetRegister, SetSavedCallee, SetWord}
+use Rattle.task_machine.specs.declared.component.ExportKind.TheVariants as kind
+use Rattle.task_machine.specs.declared.label.CallLabel.TheVariants as call_label
+use Rattle.task_machine.specs.declared.label.DataLabel.TheVariants as data_label
+use Rattle.task_machine.specs.declared.label.Label.TheVariants as label
+use Rattle.task_machine.specs.declared.label.TaskLabel.TheVariants as task_label
+use Rattle.task_machine.specs.declared.op.DataOp.TheVariants as data_op
+use Rattle.task_machine.specs.declared.op.Op.TheVariants as op
+use Rattle.task_machine.specs.declared.op.TaskOp.TheVariants as task_op
+use Rattle.task_machine.specs.declared.records.CallEnd.TheVariants as call_end
+use Rattle.task_machine.specs.declared.records.Delivery.TheVariants as delivery
+use Rattle.task_machine.specs.declared.records.HowFar.TheVariants as how_far
+use Rattle.task_machine.specs.declared.records.Place.TheVariants as place
+use Rattle.task_machine.specs.declared.records.Turn.TheVariants as turn
+use Rattle.task_machine.specs.declared.records.Why.TheVariants as why
+use Rattle.task_machine.specs.declared.trap.Trap.TheVariants as trap
+use Rattle.task_machine.specs.declared.words.Mark.TheVariants as mark
+
+-- ---- What a row owes
+
+-- the scene of a step of the thread n, which runs or was taken
+abbrev pub seen : Setting → Main → Turn → Core → ℕ → Label → Turn → Scene
+seen x main u s n l next = record { setting = x; main = main; turn = u; base = s; runner = Some n; label = l; next = next }
+
+-- From b a chain of words leads to what the row comes to, where that shows the scene's label and leads to its turn.
+abbrev pub Leads : Scene → Core → Progress → Type 0
+Leads a b (Goes l new m) = a.label ≡ l → a.next ≡ turn.Run m → Walk a b new × LastWords a new
+Leads a b (Stops l new) = a.label ≡ l → a.next ≡ turn.Main → Walk a b new × LastWords a new
+Leads a b (Traps t) = Unit {0}
+Leads a b (Fails i) = Unit {0}
+Leads a b Never = Unit {0}
+Leads a b (Ordered ns next) = (order : List ℕ) → Leads a b (next order)
+
+module _ (a : Scene) (b : Core) where
+  pub trap_if_leads : (c : Bool) (t : Trap) (p : Progress) → (c ≡ false → Leads a b p) → Leads a b (trap_if c t p)
+  trap_if_leads true t p k = tt
+  trap_if_leads false t p k = k refl
+
+  pub may_leads : (c : Bool) (p : Progress) → (c ≡ true → Leads a b p) → Leads a b (may c p)
+  may_leads true p k = k refl
+  may_leads false p k = tt
+
+  pub or_trap_leads : {X : Type 0} (o : Option X) (t : Trap) (next : X → Progress) → ((y : X) → o ≡ Some y → Leads a b (next y)) → Leads a b (or_trap o t next)
+  or_trap_leads None t next k = tt
+  or_trap_leads (Some y) t next k = k y refl
+
+  pub or_never_leads : {X : Type 0} (o : Option X) (next : X → Progress) → ((y : X) → o ≡ Some y → Leads a b (next y)) → Leads a b (or_never o next)
+  or_never_leads None next k = tt
+  or_never_leads (Some y) next k = k y refl
+
+-- ---- Labels
+
+-- a label of a running thread that gives no outcome
+abbrev pub is_quiet : Label → Bool
+is_quiet (label.Main l) = false
+is_quiet (label.Take l) = false
+is_quiet (label.Loop l) = false
+is_quiet (label.Call (call_label.Fails n i)) = false
+is_quiet _ = true
+
+-- and not that of an exit
+abbrev pub is_plain : Label → Bool
+is_plain l = is_quiet l && not (is_exit l)
+
+quiet_outcome : (l : Label) → is_quiet l ≡ true → outcome_of_label l ≡ None
+quiet_outcome (label.Main l) h = absurd (subst T (sym h) tt)
+quiet_outcome (label.Take l) h = absurd (subst T (sym h) tt)
+quiet_outcome (label.Loop l) h = absurd (subst T (sym h) tt)
+quiet_outcome (label.Call (call_label.Fails n i)) h = absurd (subst T (sym h) tt)
+quiet_outcome _ h = refl
+
+quiet_begins : (s : Core) (l : Label) → is_quiet l ≡ true → begun_holder s l ≡ None
+quiet_begins s (label.Take l) h = absurd (subst T (sym h) tt)
+quiet_begins s _ h = refl
+
+plain_quiet : (q e : Bool) → (q && not e) ≡ true → (q ≡ true) × (e ≡ false)
+plain_quiet true false h = (refl, refl)
+plain_quiet true true h = absurd (subst T (sym h) tt)
+plain_quiet false e h = absurd (subst T (sym h) tt)
+
+ret_plain : (n v : ℕ) (w : Option ℕ) → is_plain (ret_label n v w) ≡ true
+ret_plain n v None = refl
+ret_plain n v (Some w) = refl
+
+task_cancel_plain : (n : ℕ) (w : Option ℕ) → is_plain (task_cancel_label n w) ≡ true
+task_cancel_plain n None = refl
+task_cancel_plain n (Some w) = refl
+
+ret_writes : (c : Component) (n v : ℕ) (w : Option ℕ) (s : Core) → written_by c s (ret_label n v w) s ≡ task_end n status.Returned s
+ret_writes c n v None s = refl
+ret_writes c n v (Some y) s = refl
+
+task_cancel_writes : (c : Component) (n : ℕ) (w : Option ℕ) (s : Core) → written_by c s (task_cancel_label n w) s ≡ task_end n status.ReturnCancelled s
+task_cancel_writes c n None s = refl
+task_cancel_writes c n (Some y) s = refl
+
+exit_quiet : (n : ℕ) (w : Option ℕ) → is_quiet (exit_label n w) ≡ true
+exit_quiet n None = refl
+exit_quiet n (Some w) = refl
+
+exit_is : (n : ℕ) (w : Option ℕ) → is_exit (exit_label n w) ≡ true
+exit_is n None = refl
+exit_is n (Some w) = refl
+
+exit_returns : (n : ℕ) (w : Option ℕ) (s : Core) → returned_holder s (exit_label n w) ≡ holder_at_exit n s
+exit_returns n None s = refl
+exit_returns n (Some w) s = refl
+
+pub none_is_some : {X : Type 0} {A : Type 0} (x : X) → None ≡ Some x → A
+none_is_some {X = X} x h = absurd (subst T (ap (λ (o : Option X). is_none o) h) tt)
+
+pub one_runner : (n m : ℕ) → turn.Run n ≡ turn.Run m → n ≡ m
+one_runner n m e = ap runner e
+  where
+    runner : Turn → ℕ
+    runner (turn.Run k) = k
+    runner _ = 0
+
+pub not_main : {A : Type 0} (n : ℕ) → turn.Main ≡ turn.Run n → A
+not_main n e = absurd (subst T (ap is_main e) tt)
+  where
+    is_main : Turn → Bool
+    is_main turn.Main = true
+    is_main _ = false
+
+pub unnot : (c : Bool) → not c ≡ false → c ≡ true
+unnot true h = refl
+unnot false h = absurd (subst T h tt)
+
+pub running_moved : (m : ℕ) (t : Core) → option_map_or is_running (place_of m (set_place m place.Running t)) true ≡ true
+unfolding set_place on_thread
+running_moved m t = ap (λ o. option_map_or is_running (option_map (λ (r : Thread). r.place) o) true) (get-change_same t.threads m (λ r. record r { place = place.Running })) ∙ at (get t.threads m)
+  where
+    at : (o : Option Thread) → option_map_or is_running (option_map (λ (r : Thread). r.place) (option_map (λ (r : Thread). record r { place = place.Running }) o)) true ≡ true
+    at None = refl
+    at (Some r) = refl
+
+-- ---- The running thread
+
+module _ (x : Setting) (main : Main) (s : Core) (n : ℕ) (l : Label) (next : Turn) where
+  abbrev pub running_scene : Scene
+  running_scene = seen x main (turn.Run n) s n l next
+
+  quiet_ends : {t : Core} → is_quiet l ≡ true → ((m : ℕ) → next ≡ turn.Run m → (turn.Run n ≡ turn.Run m) ⊎ (option_map_or is_running (place_of m t) true ≡ true)) → (is_exit l ≡ true → get t.threads n ≡ None) → LastWords running_scene t
+  quiet_ends {t = t} quiet runs gone = record {
+    laid = λ m is take. absurd (subst T (sym take) tt);
+    runs = runs;
+    outcome = λ o is. none_is_some o (sym (quiet_outcome l quiet) ∙ is);
+    gone = λ m is exit. subst (λ (k : ℕ). get t.threads k ≡ None) (ap (λ (o : Option ℕ). unwrap_or o 0) is) (gone exit);
+    shut = λ i begun. none_is_some i (sym (quiet_begins s l quiet) ∙ begun);
+  }
+
+  -- n goes on, as the label says
+  pub goes_on_saying : (k : Label) (t : Core) → is_plain k ≡ true → (l ≡ k → Walk running_scene s t) → Leads running_scene s (Goes k t n)
+  goes_on_saying k t plain c is to =
+      let p = plain_quiet (is_quiet k) (is_exit k) plain in
+      (c is, quiet_ends (ap is_quiet is ∙ p.0) (λ m at. inl (sym to ∙ at)) (λ exit. absurd (subst T (sym exit ∙ (ap is_exit is ∙ p.1)) tt)))
+
+  -- n goes on
+  pub goes_on : (k : Label) (t : Core) → is_plain k ≡ true → Walk running_scene s t → Leads running_scene s (Goes k t n)
+  goes_on k t plain c = goes_on_saying k t plain (λ is. c)
+
+  -- no thread goes on
+  pub stops_here : (k : Label) (t : Core) → is_plain k ≡ true → (Leaves running_scene n → Walk running_scene s t) → Leads running_scene s (Stops k t)
+  stops_here k t plain c is to =
+      let p = plain_quiet (is_quiet k) (is_exit k) plain in
+      (c (refl, to), quiet_ends (ap is_quiet is ∙ p.0) (λ m at. not_main m (sym to ∙ at)) (λ exit. absurd (subst T (sym exit ∙ (ap is_exit is ∙ p.1)) tt)))
+
+  -- n is gone
+  gone_here : (k : Label) (t : Core) → is_quiet k ≡ true → get t.threads n ≡ None → (l ≡ k → Leaves running_scene n → Walk running_scene s t) → Leads running_scene s (Stops k t)
+  gone_here k t quiet gone c is to = (c is (refl, to), quiet_ends (ap is_quiet is ∙ quiet) (λ m at. not_main m (sym to ∙ at)) (λ exit. gone))
+
+  -- another thread, which runs now, goes on
+  pub goes_over : (k : Label) (m : ℕ) (t : Core) → is_quiet k ≡ true → (is_exit k ≡ true → get t.threads n ≡ None) → (turn.Run n ≡ turn.Run m) ⊎ (option_map_or is_running (place_of m t) true ≡ true) → (l ≡ k → next ≡ turn.Run m → Walk running_scene s t) → Leads running_scene s (Goes k t m)
+  goes_over k m t quiet gone runs c is to =
+      (c is to, quiet_ends (ap is_quiet is ∙ quiet) (λ j at. subst (λ (i : ℕ). (turn.Run n ≡ turn.Run i) ⊎ (option_map_or is_running (place_of i t) true ≡ true)) (one_runner m j (sym to ∙ at)) runs) (λ exit. gone (sym (ap is_exit is) ∙ exit)))
+
+module _ {a : Scene} {b : Core} (n : ℕ) (is : IsRunner a n) where
+  -- ---- Registers and words
+
+  pub moved_to_walks : (p : ℕ) {t : Core} → Walk a b t → Walk a b (moved_to n p t)
+  unfolding moved_to
+  moved_to_walks p c = word (SetHowFar n how_far.Fresh) is (word (SetPosition n p) tt c)
+
+  pub advanced_walks : {t : Core} → Walk a b t → Walk a b (advanced n t)
+  unfolding advanced
+  advanced_walks {t = t} c = moved_to_walks (position_of n t + 1) c
+
+  pub assigned_walks : (r v : ℕ) {t : Core} → Walk a b t → Walk a b (assigned n r v t)
+  unfolding assigned
+  assigned_walks r v c = advanced_walks (word (SetRegister n r v) tt c)
+
+  pub answered_walks : (r v : ℕ) {t : Core} → Walk a b t → Walk a b (answered n r v t)
+  unfolding answered
+  answered_walks r v c = assigned_walks r v (word (SetSavedCallee n None) tt c)
+
+  -- ---- Ends
+
+  reopens_walks : (i : ℕ) (order : List ℕ) {t : Core} → MayBar a i false → Walk a b t → Walk a b (end_reopens i order t)
+  unfolding end_reopens
+  reopens_walks i order {t = t} ok c = shifted (released_shifts order (set_do_not_enter i false t)) (word (SetDoNotEnter i false) ok c)
+
+  exit_stops_walks : {t : Core} → MayGo a n → Walk a b t → Walk a b (exit_stops n t)
+  unfolding exit_stops
+  exit_stops_walks {t = t} go c = ended_walks n go (shifted (stopped_shifts (foot_of n t) (checked (instance_of n t) t)) (shifted (checked_shifts (instance_of n t) t) c))
+
+  sync_exits_walks : (w : Option ℕ) {t : Core} → MayEnd a (task_of n t) call_end.Returned (exit_restores n t) → SaysEnd a (task_of n t) status.Returned → ToldTo (task_of n t) w (exit_restores n t) → MayGo a n → Walk a b t → Walk a b (sync_exits n w t)
+  unfolding sync_exits exit_restores
+  sync_exits_walks w {t = t} ok says to go c =
+      let r = returned (task_of n t) (register_of n 0 t) w (exit_restores n t) in
+      ended_walks n go (shifted (stopped_shifts (foot_of n t) r) (returned_walks (task_of n t) (register_of n 0 t) w ok says to (word (SetDoNotSuspend (instance_of n t) (unwrap_or (saved_own_of n t) false)) tt c)))
+
+  blocking_exits_walks : (w : Option ℕ) (order : List ℕ) {t : Core} → MayBar a (instance_of n t) false → MayEnd a (task_of n t) call_end.Returned (end_reopens (instance_of n t) order t) → SaysEnd a (task_of n t) status.Returned → ToldTo (task_of n t) w (end_reopens (instance_of n t) order t) → MayGo a n → Walk a b t → Walk a b (blocking_exits n w order t)
+  unfolding blocking_exits
+  blocking_exits_walks w order {t = t} bar ok says to go c = exit_stops_walks go (returned_walks (task_of n t) (register_of n 0 t) w ok says to (reopens_walks (instance_of n t) order bar c))
+
+  -- the thread m goes on, under which n ran
+  direct_exits_walks : (m v : ℕ) {t : Core} → MayEnd a (task_of n t) call_end.Returned t → SaysEnd a (task_of n t) status.Returned → a.next ≡ turn.Run m → place_of m a.base ≡ Some (place.Under n) → Walk a b t → Walk a b (direct_exits n m v t)
+  unfolding direct_exits
+  direct_exits_walks m v {t = t} ok says to under c =
+      let u = set_end (task_of n t) call_end.Returned t in
+      let gone : is_none (get (ended n u).threads n) ≡ true = ap (λ (o : Option Thread). is_none o) (ended_gone n u) in
+      word (SetHowFar m (how_far.Answered v)) (n, (is, (to, under))) (moved (Move m place.Running) (Uncovers n is to under gone refl) (ended_walks n (EndsOver m is to under) (word (SetEnd (task_of n t) call_end.Returned) (ok, says) c)))
+
+  code_stops_walks : (order : List ℕ) {t : Core} → MayBar a (instance_of n t) false → Walk a b t → Walk a b (code_stops n order t)
+  unfolding code_stops
+  code_stops_walks order {t = t} bar c = shifted (stopped_shifts (foot_of n t) (end_reopens (instance_of n t) order t)) (reopens_walks (instance_of n t) order bar c)
+
+  code_exits_walks : (order : List ℕ) {t : Core} → MayBar a (instance_of n t) false → MayGo a n → Walk a b t → Walk a b (code_exits n order t)
+  unfolding code_exits
+  code_exits_walks order {t = t} bar go c = ended_walks n go (shifted (checked_shifts (instance_of n t) (code_stops n order t)) (code_stops_walks order bar c))
+
+  code_yields_walks : (order : List ℕ) {t : Core} → MayBar a (instance_of n t) false → Leaves a n → EndsActivation a n → MayOwe a (task_of n t) (own_or_none (own_event_of (task_of n t) t)) (code_stops n order t) → Walk a b t → Walk a b (code_yields n order t)
+  unfolding code_yields
+  code_yields_walks order {t = t} bar leave ends owes c = moved (Put mark.Low n (why.Delivery delivery.Yield)) (ComesAgain leave ends refl) (word (SetOwnEvent (task_of n t) (own_or_none (own_event_of (task_of n t) t))) owes (code_stops_walks order bar c))
+
+  code_finds_walks : (y : ℕ) (order : List ℕ) {t : Core} → MayBar a (instance_of n t) false → Leaves a n → EndsActivation a n → HasSet a n y → Walk a b t → Walk a b (code_finds n y order t)
+  unfolding code_finds
+  code_finds_walks y order bar leave ends has c = moved (Put mark.High n (why.Delivery (delivery.Set y))) (FindsEvent y leave ends has refl) (code_stops_walks order bar c)
+
+  code_waits_walks : (y : ℕ) (order : List ℕ) {t : Core} → MayBar a (instance_of n t) false → Leaves a n → EndsActivation a n → HasSet a n y → Walk a b t → Walk a b (code_waits n y order t)
+  unfolding code_waits
+  code_waits_walks y order bar leave ends has c = moved (Move n (place.Waiting y true)) (AwaitsEvent y leave ends has refl) (code_stops_walks order bar c)
+
+exit_stops_gone : (n : ℕ) (t : Core) → get (exit_stops n t).threads n ≡ None
+unfolding exit_stops
+exit_stops_gone n t = ended_gone n (stopped (foot_of n t) (checked (instance_of n t) t))
+
+-- the calls after held threads are released
+reopened_calls : (i : ℕ) (order : List ℕ) (s : Core) → (end_reopens i order s).calls ≡ s.calls
+unfolding end_reopens set_do_not_enter on_instance
+reopened_calls i order s = shifted_calls (shifts_shifted (released_shifts order (set_do_not_enter i false s)))
+
+reopened_chosen : (i : ℕ) (order : List ℕ) (x : ℕ) (w : Option ℕ) (s : Core) → Chosen x w s → Chosen x w (end_reopens i order s)
+unfolding end_reopens set_do_not_enter on_instance
+reopened_chosen i order x w s h = chosen_released order x w (set_do_not_enter i false s) h
+
+restored_calls : (n : ℕ) (s : Core) → (exit_restores n s).calls ≡ s.calls
+unfolding exit_restores set_do_not_suspend on_instance
+restored_calls n s = refl
+
+restored_threads : (n : ℕ) (s : Core) → (exit_restores n s).threads ≡ s.threads
+unfolding exit_restores set_do_not_suspend on_instance
+restored_threads n s = refl
+
+restored_task : (n : ℕ) (s : Core) → task_of n (exit_restores n s) ≡ task_of n s
+restored_task n s = ap (λ (m : Records Thread). option_map_or (λ t. t.call) (get m n) 0) (restored_threads n s)
+
+restored_chosen : (n y : ℕ) (w : Option ℕ) (s : Core) → Chosen y w s → Chosen y w (exit_restores n s)
+unfolding exit_restores set_do_not_suspend on_instance
+restored_chosen n y w s h = h
+
+restores_walks : {a : Scene} (n : ℕ) (s : Core) → Walk a s (exit_restores n s)
+unfolding exit_restores
+restores_walks n s = word (SetDoNotSuspend (instance_of n s) (unwrap_or (saved_own_of n s) false)) tt NoWord
+
+same_call : (k : ℕ) (s t : Core) → t.calls ≡ s.calls → SameCall k s t
+same_call k s t e = ap (λ (m : Records Call). option_map unanswered (get m k)) e
+
+sync_exits_gone : (n : ℕ) (w : Option ℕ) (s : Core) → get (sync_exits n w s).threads n ≡ None
+unfolding sync_exits
+sync_exits_gone n w s = ended_gone n (stopped (foot_of n s) (returned (task_of n s) (register_of n 0 s) w (exit_restores n s)))
+
+blocking_exits_gone : (n : ℕ) (w : Option ℕ) (order : List ℕ) (s : Core) → get (blocking_exits n w order s).threads n ≡ None
+unfolding blocking_exits
+blocking_exits_gone n w order s = exit_stops_gone n (returned (task_of n s) (register_of n 0 s) w (end_reopens (instance_of n s) order s))
+
+code_exits_gone : (n : ℕ) (order : List ℕ) (s : Core) → get (code_exits n order s).threads n ≡ None
+unfolding code_exits
+code_exits_gone n order s = ended_gone n (checked (instance_of n s) (code_stops n order s))
+
+-- the thread that is under n
+pub under_place : (n m : ℕ) (s : Core) → under_of n s ≡ Some m → place_of m s ≡ Some (place.Under n)
+unfolding under_of
+under_place n m s h = at (place_of m s) (find_passes (λ k. is_at k s (is_under n)) (numbers s.threads) m h)
+  where
+    at : (o : Option Place) → option_map_or (is_under n) o false ≡ true → o ≡ Some (place.Under n)
+    at None e = absurd (subst T (sym e) tt)
+    at (Some (place.Under c)) e = ap (λ (j : ℕ). Some (place.Under j)) (is_eq_of c n e)
+    at (Some place.New) e = absurd (subst T (sym e) tt)
+    at (Some place.Running) e = absurd (subst T (sym e) tt)
+    at (Some (place.Ready y w)) e = absurd (subst T (sym e) tt)
+    at (Some (place.Waiting y w)) e = absurd (subst T (sym e) tt)
+    at (Some (place.Behind c)) e = absurd (subst T (sym e) tt)
+    at (Some (place.Blocked c)) e = absurd (subst T (sym e) tt)
+    at (Some (place.Held c)) e = absurd (subst T (sym e) tt)
+    at (Some place.Suspended) e = absurd (subst T (sym e) tt)
+
+none_changed : {X : Type 0} (m : Records X) (n k : ℕ) (f : X → X) → get m k ≡ None → get (change n f m) k ≡ None
+none_changed {X = X} m n k f h = get-change n f m k ∙ at (k == n) (get m k) h
+  where
+    at : (b : Bool) (o : Option X) → o ≡ None → cond b (option_map f o) o ≡ None
+    at true o e = ap (option_map f) e
+    at false o e = e
+
+direct_exits_gone : (n m v : ℕ) (t : Core) → get (direct_exits n m v t).threads n ≡ None
+unfolding direct_exits set_how_far set_place on_thread
+direct_exits_gone n m v t =
+    let e = ended n (set_end (task_of n t) call_end.Returned t) in
+    none_changed (set_place m place.Running e).threads m n (λ r. record r { how_far = how_far.Answered v }) (none_changed e.threads m n (λ r. record r { place = place.Running }) (ended_gone n (set_end (task_of n t) call_end.Returned t)))
+
+direct_exits_runs : (n m v : ℕ) (t : Core) → option_map_or is_running (place_of m (direct_exits n m v t)) true ≡ true
+unfolding direct_exits set_how_far on_thread
+direct_exits_runs n m v t =
+    let u = set_place m place.Running (ended n (set_end (task_of n t) call_end.Returned t)) in
+    ap (λ (o : Option Place). option_map_or is_running o true) (change-field (λ r. r.place) m (λ r. record r { how_far = how_far.Answered v }) (λ r. refl) u.threads m) ∙ running_moved m (ended n (set_end (task_of n t) call_end.Returned t))
+
+module _ (x : Setting) (main : Main) (s : Core) (n : ℕ) (l : Label) (next : Turn) where
+  abbrev a : Scene
+  a = running_scene x main s n l next
+
+  go_saying : (k : Label) (t : Core) → is_plain k ≡ true → (l ≡ k → Walk a s t) → Leads a s (Goes k t n)
+  go_saying k t plain c = goes_on_saying x main s n l next k t plain c
+
+  go : (k : Label) (t : Core) → is_plain k ≡ true → Walk a s t → Leads a s (Goes k t n)
+  go k t plain c = goes_on x main s n l next k t plain c
+
+  -- ---- The ops on registers and words
+
+  skip_row_leads : (c : Component) (ops : ℕ) (b : Bool) → Leads a s (skip_row c n ops s b)
+  unfolding skipped
+  skip_row_leads c ops true = go (label.Data (data_label.SkipEq n)) (skipped c n ops s) refl (moved_to_walks n refl (min (position_of n s + 1 + ops) (length (script_of c n s))) NoWord)
+  skip_row_leads c ops false = go (label.Data (data_label.SkipEq n)) (advanced n s) refl (advanced_walks n refl NoWord)
+
+  pub data_row_leads : (c : Component) (o : DataOp) → Leads a s (data_row c n s o)
+  unfolding stored
+  data_row_leads c (data_op.Set r y) = go _ _ refl (assigned_walks n refl r _ NoWord)
+  data_row_leads c (data_op.Add r y) = go _ _ refl (assigned_walks n refl r _ NoWord)
+  data_row_leads c (data_op.Handle r y) = go _ _ refl (assigned_walks n refl r _ NoWord)
+  data_row_leads c (data_op.Load r w) = go _ _ refl (assigned_walks n refl r _ NoWord)
+  data_row_leads c (data_op.Store w y) = go _ _ refl (advanced_walks n refl (word (SetWord (instance_of n s) w (value_of n s y)) tt NoWord))
+  data_row_leads c (data_op.SkipEq y z ops) = skip_row_leads c ops (value_of n s y == value_of n s z)
+
+  -- ---- Exits
+
+  thread_exit_row_leads : Leads a s (thread_exit_row n s)
+  thread_exit_row_leads =
+      trap_if_leads a s (not (passes_check (instance_of n s) s)) trap.CannotBlockSyncTask _ (λ e.
+      trap_if_leads a s (leaves_no_result n s) trap.NoAsyncResult _ (λ f.
+      gone_here x main s n l next (exit_label n None) (exit_stops n s) refl (exit_stops_gone n s) (λ is leave. exit_stops_walks n refl (Departs leave) NoWord)))
+
+  exits : (w : Option ℕ) (t : Core) → l ≡ exit_label n w → is_explicit n s ≡ false → (is_direct (goal_of (task_of n s) s) ≡ true) ⊎ (is_async_lifted (kind_of (task_of n s) s) ≡ false) → t.calls ≡ s.calls → MayEnd a (task_of n s) call_end.Returned t
+  exits w t is implicit kind same = Exits n refl (ap is_exit is ∙ exit_is n w) refl implicit kind (ap (λ (m : Records Call). get m (task_of n s)) same) refl
+
+  exit_says : (w : Option ℕ) → l ≡ exit_label n w → is_explicit n s ≡ false → (is_direct (goal_of (task_of n s) s) ≡ true) ⊎ (is_async_lifted (kind_of (task_of n s) s) ≡ false) → SaysEnd a (task_of n s) status.Returned
+  exit_says w is implicit kind = ap (λ (k : Label). written_by x.component s k s) is ∙ (exit_writes w ∙ ap (λ b. if b then task_end n status.Returned s else None) (ends (is_explicit n s) (is_direct (goal_of (task_of n s) s)) (is_async_lifted (kind_of (task_of n s) s)) implicit kind))
+    where
+      exit_writes : (v : Option ℕ) → written_by x.component s (exit_label n v) s ≡ written_by_exit n s
+      exit_writes None = refl
+      exit_writes (Some y) = refl
+
+      ends : (e d h : Bool) → e ≡ false → (d ≡ true) ⊎ (h ≡ false) → (not e && (d || not h)) ≡ true
+      ends false true h i k = refl
+      ends false false false i k = refl
+      ends true d h i k = absurd (subst T i tt)
+      ends false false true i (inl k) = absurd (subst T (sym k) tt)
+      ends false false true i (inr k) = absurd (subst T k tt)
+
+  sync_exit_row_leads : (w : Option ℕ) → is_explicit n s ≡ false → is_async_lifted (kind_of (task_of n s) s) ≡ false → Leads a s (sync_exit_row n w s)
+  sync_exit_row_leads w implicit kind =
+      may_leads a s (may_tell (task_of n s) w s) _ (λ may.
+      gone_here x main s n l next (exit_label n w) (sync_exits n w s) (exit_quiet n w) (sync_exits_gone n w s) (λ is leave.
+      sync_exits_walks n refl w (exits w (exit_restores n s) is implicit (inr kind) (restored_calls n s)) (exit_says w is implicit (inr kind))
+      (still_told_to (task_of n s) s (exit_restores n s) (same_call (task_of n s) s (exit_restores n s) (restored_calls n s)) w (λ y chosen. restored_chosen n y w s chosen) (told_to (task_of n s) w s may)) (Departs leave) NoWord))
+
+  -- where a holding entry returns
+  bars : (w : Option ℕ) → l ≡ exit_label n w → is_explicit n s ≡ false → is_holding (kind_of (task_of n s) s) ≡ true → is_direct (goal_of (task_of n s) s) ≡ false → MayBar a (instance_of n s) false
+  bars w is implicit holding direct = ap (λ k. returned_holder s k) is ∙ (exit_returns n w s ∙ ap (λ b. if b then Some (instance_of n s) else None) (all_three (is_explicit n s) (is_holding (kind_of (task_of n s) s)) (is_direct (goal_of (task_of n s) s)) implicit holding direct))
+    where
+      all_three : (e h d : Bool) → e ≡ false → h ≡ true → d ≡ false → (not e && (h && not d)) ≡ true
+      all_three false true false p q r = refl
+      all_three true h d p q r = absurd (subst T p tt)
+      all_three false false d p q r = absurd (subst T (sym q) tt)
+      all_three false true true p q r = absurd (subst T r tt)
+
+  blocking_exit_row_leads : (w : Option ℕ) → is_explicit n s ≡ false → kind_of (task_of n s) s ≡ kind.Blocking → is_direct (goal_of (task_of n s) s) ≡ false → Leads a s (blocking_exit_row n w s)
+  blocking_exit_row_leads w implicit kind direct =
+      trap_if_leads a s (not (passes_after_return n w s)) trap.CannotBlockSyncTask _ (λ e.
+      may_leads a s (may_tell (task_of n s) w s) _ (λ may order.
+      gone_here x main s n l next (exit_label n w) (blocking_exits n w order s) (exit_quiet n w) (blocking_exits_gone n w order s) (λ is leave.
+      let i = instance_of n s in
+      let k = task_of n s in
+      let t = end_reopens i order s in
+      blocking_exits_walks n refl w order (bars w is implicit (ap (λ y. is_holding y) kind) direct) (exits w t is implicit (inr (ap (λ y. is_async_lifted y) kind)) (reopened_calls i order s)) (exit_says w is implicit (inr (ap (λ y. is_async_lifted y) kind)))
+      (still_told_to k s t (same_call k s t (reopened_calls i order s)) w (λ y chosen. reopened_chosen i order y w s chosen) (told_to k w s may)) (Departs leave) NoWord)))
+
+  direct_leads : (m : ℕ) (t : Core) → under_of n s ≡ Some m → is_explicit n s ≡ false → is_direct (goal_of (task_of n s) s) ≡ true → task_of n t ≡ task_of n s → t.calls ≡ s.calls → Walk a s t → Leads a s (Goes (exit_label n None) (direct_exits n m (register_of n 0 s) t) m)
+  direct_leads m t under implicit direct task calls c =
+      let v = register_of n 0 s in
+      goes_over x main s n l next (exit_label n None) m (direct_exits n m v t) refl (λ e. direct_exits_gone n m v t) (inr (direct_exits_runs n m v t)) (λ is to.
+      direct_exits_walks n refl m v (subst (λ (k : ℕ). MayEnd a k call_end.Returned t) (sym task) (exits None t is implicit (inl direct) calls)) (subst (λ (k : ℕ). SaysEnd a k status.Returned) (sym task) (exit_says None is implicit (inl direct))) to (under_place n m s under) c)
+
+  direct_exit_to_leads : (k : ExportKind) (o : Option ℕ) → under_of n s ≡ o → is_explicit n s ≡ false → is_direct (goal_of (task_of n s) s) ≡ true → Leads a s (direct_exit_to n k s o)
+  direct_exit_to_leads k None under implicit direct = tt
+  direct_exit_to_leads kind.Sync (Some m) under implicit direct = direct_leads m (exit_restores n s) under implicit direct (restored_task n s) (restored_calls n s) (restores_walks n s)
+  direct_exit_to_leads k (Some m) under implicit direct =
+      let h : Shifted s (checked (instance_of n s) s) = shifts_shifted (checked_shifts (instance_of n s) s) in
+      trap_if_leads a s (not (passes_check (instance_of n s) s)) trap.CannotBlockSyncTask _ (λ e.
+      direct_leads m (checked (instance_of n s) s) under implicit direct (shifted_task h n) (shifted_calls h) (shifted (checked_shifts (instance_of n s) s) NoWord))
+
+  -- ---- The ends of activations
+
+  owes : (o : Option OwnEvent) → own_event_of (task_of n s) s ≡ o → EndsActivation a n → (t : Core) → MayOwe a (task_of n s) (own_or_none o) t
+  owes None has ends t = inr (n, (ends, (refl, ap own_or_none has)))
+  owes (Some e) has ends t = inr (n, (ends, (refl, ap own_or_none has)))
+
+  code_wait_row_leads : (k : Label) (y : ℕ) (held : List ℕ) (b : Bool) → is_plain k ≡ true → (l ≡ k → MayBar a (instance_of n s) false) → EndsActivation a n → HasSet a n y → Leads a s (code_wait_row k n y held s b)
+  code_wait_row_leads k y held true plain bar ends has = λ order is to. stops_here x main s n l next k (code_finds n y order s) plain (λ leave. code_finds_walks n refl y order (bar is) leave ends has NoWord) is to
+  code_wait_row_leads k y held false plain bar ends has = λ order is to. stops_here x main s n l next k (code_waits n y order s) plain (λ leave. code_waits_walks n refl y order (bar is) leave ends has NoWord) is to
+
+  code_exits_leads : (k : Label) (held : List ℕ) → is_quiet k ≡ true → (l ≡ k → MayBar a (instance_of n s) false) → (rest : ℕ) → Leads a s (code_kind_row k n held s zero rest)
+  code_exits_leads k held quiet bar rest =
+      trap_if_leads a s (not (passes_after_stop (instance_of n s) (foot_of n s) held s)) trap.CannotBlockSyncTask _ (λ e.
+      trap_if_leads a s (leaves_no_result n s) trap.NoAsyncResult _ (λ f order.
+      gone_here x main s n l next k (code_exits n order s) quiet (code_exits_gone n order s) (λ is leave. code_exits_walks n refl order (bar is) (Departs leave) NoWord)))
+
+  code_kind_row_leads : (k : Label) (held : List ℕ) (low rest : ℕ) → is_plain k ≡ true → (l ≡ k → MayBar a (instance_of n s) false) → EndsActivation a n → Leads a s (code_kind_row k n held s low rest)
+  code_kind_row_leads k held zero rest plain bar ends = code_exits_leads k held (plain_quiet (is_quiet k) (is_exit k) plain).0 bar rest
+  code_kind_row_leads k held (suc zero) rest plain bar ends = λ order is to. stops_here x main s n l next k (code_yields n order s) plain (λ leave. code_yields_walks n refl order (bar is) leave ends (owes (own_event_of (task_of n s) s) refl ends (code_stops n order s)) NoWord) is to
+  code_kind_row_leads k held (suc (suc zero)) rest plain bar ends = or_trap_leads a s (set_at (instance_of n s) rest s) trap.BadHandle _ (λ y named. code_wait_row_leads k y held (has_event_for (task_of n s) y s) plain bar ends (BySetHandle rest named))
+  code_kind_row_leads k held (suc (suc (suc low))) rest plain bar ends = tt
+
+  code_row_leads : (k : Label) (code : ℕ) → is_plain k ≡ true → (l ≡ k → MayBar a (instance_of n s) false) → EndsActivation a n → Leads a s (code_row k n s code)
+  code_row_leads k code plain bar ends = trap_if_leads a s (nat_lt 4294967295 code) trap.UnsupportedCallbackCode _ (λ e. code_kind_row_leads k (held_by_flag (instance_of n s) s) (code % 16) (code / 16) plain bar ends)
+
+  kind_exit_row_leads : (w : Option ℕ) (k : ExportKind) → kind_of (task_of n s) s ≡ k → is_explicit n s ≡ false → is_direct (goal_of (task_of n s) s) ≡ false → Leads a s (kind_exit_row n w s k)
+  kind_exit_row_leads w kind.Sync kind implicit direct = sync_exit_row_leads w implicit (ap (λ y. is_async_lifted y) kind)
+  kind_exit_row_leads w kind.Blocking kind implicit direct = blocking_exit_row_leads w implicit kind direct
+  kind_exit_row_leads w kind.Stackful kind implicit direct = thread_exit_row_leads
+  kind_exit_row_leads w kind.Callback kind implicit direct = code_exits_leads (exit_label n None) (held_by_flag (instance_of n s) s) refl (λ is. bars None is implicit (ap (λ y. is_holding y) kind) direct) 0
+
+  implicit_exit_row_leads : (w : Option ℕ) (b : Bool) → is_direct (goal_of (task_of n s) s) ≡ b → is_explicit n s ≡ false → Leads a s (implicit_exit_row n w s b)
+  implicit_exit_row_leads w true direct implicit = direct_exit_to_leads (kind_of (task_of n s) s) (under_of n s) refl implicit direct
+  implicit_exit_row_leads w false direct implicit = kind_exit_row_leads w (kind_of (task_of n s) s) refl implicit direct
+
+  exit_row_for_leads : (w : Option ℕ) (b : Bool) → is_explicit n s ≡ b → Leads a s (exit_row_for n w s b)
+  exit_row_for_leads w true explicit = thread_exit_row_leads
+  exit_row_for_leads w false explicit = implicit_exit_row_leads w (is_direct (goal_of (task_of n s) s)) refl explicit
+
+  -- ---- The task and backpressure
+
+  ret_row_leads : (v : ℕ) (w : Option ℕ) → Leads a s (ret_row n v w s)
+  unfolding ret_done
+  ret_row_leads v w =
+      trap_if_leads a s (has_ended (task_of n s) s) trap.TaskCancelOrReturnTwice _ (λ unended.
+      trap_if_leads a s (not (is_async_lifted (kind_of (task_of n s) s))) trap.TaskReturnInvalid _ (λ lifted.
+      may_leads a s (may_tell (task_of n s) w s) _ (λ may.
+      go_saying (ret_label n v w) (ret_done n v w s) (ret_plain n v w) (λ is. advanced_walks n refl (returned_walks (task_of n s) v w (ReturnsNow n refl refl unended (unnot (is_async_lifted (kind_of (task_of n s) s)) lifted) refl) (ap (λ (k : Label). written_by x.component s k s) is ∙ ret_writes x.component n v w s) (told_to (task_of n s) w s may) NoWord)))))
+
+  task_cancel_row_leads : (w : Option ℕ) → Leads a s (task_cancel_row n w s)
+  unfolding task_cancel_done
+  task_cancel_row_leads w =
+      trap_if_leads a s (not (cancel_was_delivered (task_of n s) s)) trap.TaskCancelNotCancelled _ (λ delivered.
+      trap_if_leads a s (has_ended (task_of n s) s) trap.TaskCancelOrReturnTwice _ (λ unended.
+      may_leads a s (may_tell (task_of n s) w s) _ (λ may.
+      go_saying (task_cancel_label n w) (task_cancel_done n w s) (task_cancel_plain n w) (λ is. advanced_walks n refl (cancelled_walks (task_of n s) w (GivesUp n refl refl unended (unnot (cancel_was_delivered (task_of n s) s) delivered) refl) (ap (λ (k : Label). written_by x.component s k s) is ∙ task_cancel_writes x.component n w s) (told_to (task_of n s) w s may) NoWord)))))
+
+  dec_from_leads : (b : ℕ) → Leads a s (dec_from n s b)
+  unfolding dec_lowers dec_opens
+  dec_from_leads zero = tt
+  dec_from_leads (suc zero) = λ order. go (label.Task (task_label.BpDec n)) (dec_opens n order s) refl (advanced_walks n refl (shifted (released_shifts order (set_backpressure (instance_of n s) 0 s)) (word (SetBackpressure (instance_of n s) 0) tt NoWord)))
+  dec_from_leads (suc (suc b)) = go (label.Task (task_label.BpDec n)) (dec_lowers n s) refl (advanced_walks n refl (word (SetBackpressure (instance_of n s) (backpressure_of (instance_of n s) s - 1)) tt NoWord))
+
+  inc_row_leads : Leads a s (inc_row n s)
+  unfolding inc_raises
+  inc_row_leads = trap_if_leads a s (nat_le 65535 (backpressure_of (instance_of n s) s)) trap.BackpressureOverflow _ (λ e. go (label.Task (task_label.BpInc n)) (inc_raises n s) refl (advanced_walks n refl (word (SetBackpressure (instance_of n s) (backpressure_of (instance_of n s) s + 1)) tt NoWord)))
+
+  ends_by : (o : TaskOp) → op_in a n ≡ op.Task o → is_code_op o ≡ true → EndsActivation a n
+  ends_by o is code = (refl, ap (λ p. ends_activation p) is ∙ code)
+
+  pub task_row_leads : (ch : Choice) (o : TaskOp) → op_in a n ≡ op.Task o → Leads a s (task_row n s ch o)
+  task_row_leads ch (task_op.Ret v) is = ret_row_leads (value_of n s v) ch.woken
+  task_row_leads ch (task_op.RetBad v) is = trap_if_leads a s (has_ended (task_of n s) s) trap.TaskCancelOrReturnTwice _ (λ e. tt)
+  task_row_leads ch task_op.TaskCancel is = task_cancel_row_leads ch.woken
+  task_row_leads ch task_op.Exit is = exit_row_for_leads ch.woken (is_explicit n s) refl
+  task_row_leads ch task_op.CbYield is = code_row_leads (label.Task (task_label.CbYield n)) 1 refl (λ shows. ap (λ k. returned_holder s k) shows) (ends_by task_op.CbYield is refl)
+  task_row_leads ch (task_op.CbWait v) is = code_row_leads (label.Task (task_label.CbWait n)) (16 * value_of n s v + 2) refl (λ shows. ap (λ k. returned_holder s k) shows) (ends_by (task_op.CbWait v) is refl)
+  task_row_leads ch (task_op.Code v) is = code_row_leads (label.Task (task_label.Code n)) (value_of n s v) refl (λ shows. ap (λ k. returned_holder s k) shows) (ends_by (task_op.Code v) is refl)
+  task_row_leads ch task_op.BpInc is = inc_row_leads
+  task_row_leads ch task_op.BpDec is = dec_from_leads (backpressure_of (instance_of n s) s)

@@ -1,0 +1,357 @@
+-- Where a step does a word: what its row has tested or done before, and what is known of the thread that runs or was taken.
+use Rattle.std.specs.Prelude.{Bool, None, Option, Some, [], false, is_none, true, ℕ, ◌||◌, ◌∷◌, ◌≡◌, ◌⊎◌}
+use Rattle.task_machine.specs.Core.{Core, MainPlace, Scripted, Unscripted}
+use Rattle.task_machine.specs.Maps.{get}
+use Rattle.task_machine.specs.Moves.{has_entry, is_callback_waiter, is_deletable, is_group_done}
+use Rattle.task_machine.specs.Read.{cancel_was_delivered, course_of, course_value, end_of, goal_of, has_ended, has_member, has_waiters, how_far_of, instance_of, is_async_lifted, is_at, is_direct, is_end, is_explicit, is_joined, is_stage_ended, is_waiter, join_of, kind_of, may_not_enter, next_entry, own_event_of, phase_of, place_of, set_at, stage_of, subtask_at, subtask_ended, subtask_handle, task_of, thread_group, was_started, work_caller_of}
+use Rattle.task_machine.specs.declared.component.Callee.{Callee}
+use Rattle.task_machine.specs.declared.component.ExportKind.{ExportKind}
+use Rattle.task_machine.specs.declared.label.Label.{Label}
+use Rattle.task_machine.specs.declared.records.CallEnd.{CallEnd}
+use Rattle.task_machine.specs.declared.records.Caller.{Caller}
+use Rattle.task_machine.specs.declared.records.Delivery.{Delivery}
+use Rattle.task_machine.specs.declared.records.Goal.{Goal}
+use Rattle.task_machine.specs.declared.records.HowFar.{HowFar}
+use Rattle.task_machine.specs.declared.records.Join.{Join}
+use Rattle.task_machine.specs.declared.records.Place.{Place}
+use Rattle.task_machine.specs.declared.records.Subtask.{Subtask}
+use Rattle.task_machine.specs.declared.records.Thread.{Thread}
+use Rattle.task_machine.specs.declared.records.Why.{Why}
+use Rattle.task_machine.specs.declared.records.WorkCaller.{WorkCaller}
+use Rattle.task_machine.specs.declared.scenario.MainOpDef.{MainOpDef}
+use Rattle.task_machine.specs.declared.words.Mark.{Mark}
+use Rattle.task_machine.specs.declared.words.OwnEvent.{OwnEvent}
+use Rattle.task_machine.specs.declared.words.Status.{Status}
+use Rattle.task_rules.specs.Calls.{new_thread, next_thread, next_work}
+use Rattle.task_rules.specs.Cancels.{aborted_phase, is_callback_wait}
+use Rattle.task_rules.specs.Ends.{is_told, own_or_none}
+use Rattle.task_rules.specs.MainOps.{op_at, takes_words}
+use Rattle.task_rules.specs.Once.{returned_holder}
+use Rattle.task_rules.specs.OpParts.{callee_of_main_op, callee_of_op, ends_activation}
+use Rattle.task_rules.specs.Scenes.{Scene, component_of, op_in}
+use Rattle.task_rules.specs.Scripts.{export_kind, registers_for}
+use Rattle.task_rules.specs.Takes.{host_status}
+use Rattle.task_rules.specs.Threads.{resume_why}
+use Rattle.task_rules.specs.Words.{AddGroup, CloseSet, CountWork, EndWork, Enter, FinishWork, GoBehind, MakeCall, MakeThread, Move, NameCall, NameWork, OpenSet, Pend, Places, Placing, Pop, Promote, Put, QueueWork, RemoveCall, RemoveGroup, RemoveThread, RemoveWork, SetCallEvent, SetCallJoin, SetCancelDelivered, SetCancelled, SetDoNotEnter, SetEnd, SetHowFar, SetOwnEvent, SetPhase, SetStarted, SetWorkEvent, SetWorkJoin, Stop, TakeHost, TakePush, UnnameCall, UnnameWork, Withdraw, Word, GiveResult}
+use Rattle.task_rules.specs.Works.{next_polled}
+use Rattle.task_rules.specs.SubtaskEnds.{end_for, written_by}
+use Rattle.task_machine.specs.declared.label.Label.TheVariants as label
+use Rattle.task_machine.specs.declared.label.TaskLabel.TheVariants as task_label
+use Rattle.task_machine.specs.declared.records.CallEnd.TheVariants as call_end
+use Rattle.task_machine.specs.declared.records.Caller.TheVariants as caller
+use Rattle.task_machine.specs.declared.records.Delivery.TheVariants as delivery
+use Rattle.task_machine.specs.declared.records.Entry.TheVariants as entry
+use Rattle.task_machine.specs.declared.records.HowFar.TheVariants as how_far
+use Rattle.task_machine.specs.declared.records.Join.TheVariants as join
+use Rattle.task_machine.specs.declared.records.Place.TheVariants as place
+use Rattle.task_machine.specs.declared.records.Script.TheVariants as script
+use Rattle.task_machine.specs.declared.records.Subtask.TheVariants as subtask
+use Rattle.task_machine.specs.declared.records.Turn.TheVariants as turn
+use Rattle.task_machine.specs.declared.records.Why.TheVariants as why
+use Rattle.task_machine.specs.declared.records.WorkCaller.TheVariants as work_caller
+use Rattle.task_machine.specs.declared.words.OwnEvent.TheVariants as own
+use Rattle.task_machine.specs.declared.words.Status.TheVariants as status
+
+-- ---- The thread that runs or was taken
+
+abbrev pub IsRunner : Scene → ℕ → Type 0
+IsRunner a n = a.runner ≡ Some n
+
+-- it was taken with an entry that stood for this
+abbrev pub WasReady : Scene → ℕ → Why → Type 0
+WasReady a n w = (m : Mark) × (place_of n a.base ≡ Some (place.Ready m w))
+
+-- its op ends an activation
+abbrev pub EndsActivation : Scene → ℕ → Type 0
+EndsActivation a n = IsRunner a n × (ends_activation (op_in a n) ≡ true)
+
+-- the step leaves it, and no thread runs on
+abbrev pub Leaves : Scene → ℕ → Type 0
+Leaves a n = IsRunner a n × (a.next ≡ turn.Main)
+
+-- the thread's exit
+abbrev pub is_exit : Label → Bool
+is_exit (label.Task (task_label.Exit n)) = true
+is_exit (label.Task (task_label.ExitWakes n w)) = true
+is_exit _ = false
+
+-- What makes the set one of the thread's instance: a handle names it there, or the thread was inside a wait on it, or was taken with a delivery for it.
+pub data HasSet (a : Scene) (n x : ℕ) : Type 0 where
+  BySetHandle : (h : ℕ) → set_at (instance_of n a.base) h a.base ≡ Some x → HasSet a n x
+  ByWait : how_far_of n a.base ≡ how_far.Waits x → HasSet a n x
+  ByDelivery : WasReady a n (why.Delivery (delivery.Set x)) → HasSet a n x
+
+-- the subtask that an op under way is about
+abbrev pub subtask_under_way : HowFar → Option Subtask
+subtask_under_way (how_far.Calls sub) = Some sub
+subtask_under_way (how_far.Cancels sub) = Some sub
+subtask_under_way (how_far.AwaitsEnd sub) = Some sub
+subtask_under_way _ = None
+
+-- What makes the subtask one of the thread's: a handle of its instance names it, or its op is about it.
+pub data HasSubtask (a : Scene) (n : ℕ) (sub : Subtask) : Type 0 where
+  ByHandle : (h : ℕ) → subtask_at (instance_of n a.base) h a.base ≡ Some sub → HasSubtask a n sub
+  ByOp : subtask_under_way (how_far_of n a.base) ≡ Some sub → HasSubtask a n sub
+
+-- this step has made the call, with its thread, or the work
+abbrev pub IsNew : Scene → Subtask → Core → Type 0
+IsNew a (subtask.Guest k) s = (k ≡ next_thread a.base) × ((s.made.threads ≡ k) × (is_explicit k s ≡ false))
+IsNew a (subtask.Host i) s = (i ≡ next_work a.base) × (s.made.works ≡ i)
+
+-- ---- Where other threads come to
+
+abbrev pub wake_why : ℕ → Bool → Why
+wake_why x true = why.Delivery (delivery.Set x)
+wake_why x false = why.Resumption
+
+-- Why a thread that doesn't run gets an entry.
+pub data MayPut (n : ℕ) (w : Why) (s : Core) : Type 0 where
+  -- it is the first one of a call that was just made, and not a direct one
+  Starts : place_of n s ≡ Some place.New → is_explicit n s ≡ false → is_direct (goal_of (task_of n s) s) ≡ false → w ≡ why.Start → MayPut n w s
+  -- another thread resumes it
+  Resumes : resume_why n s ≡ Some w → MayPut n w s
+  -- an event of its set has come
+  Wakes : (x : ℕ) → is_waiter x n s ≡ true → w ≡ wake_why x (is_callback_waiter n s) → MayPut n w s
+  -- its subtask has a status, or is done
+  Unblocks : (sub : Subtask) → place_of n s ≡ Some (place.Blocked sub) → w ≡ why.Resumption → MayPut n w s
+  -- it was held with this
+  Releases : place_of n s ≡ Some (place.Held w) → MayPut n w s
+  -- it waits by callback, and is cancelled
+  Cancels : is_at n s is_callback_wait ≡ true → w ≡ why.Delivery delivery.Cancel → MayPut n w s
+
+-- the thread has an entry, as the queues or its place say
+abbrev pub HasEntry : ℕ → Core → Type 0
+HasEntry n s = ((has_entry n s.queues.high || has_entry n s.queues.low) ≡ true) ⊎ ((m : Mark) × ((w : Why) × (place_of n s ≡ Some (place.Ready m w))))
+
+-- What a step does to other threads than the one that runs.
+abbrev pub MayShift : Placing → Core → Type 0
+MayShift (Put m n w) s = MayPut n w s
+MayShift (Promote n) s = (s.queues.switch ≡ None) × HasEntry n s
+MayShift (Stop f) s = Unit {0}
+MayShift _ s = ⊥
+
+-- ---- Where the running thread comes to
+
+-- Why the running thread gets an entry.
+pub data MayYield (a : Scene) (n : ℕ) (w : Why) : Type 0 where
+  Yields : Leaves a n → w ≡ why.Resumption → MayYield a n w
+  -- its activation ends, and its turn comes again
+  ComesAgain : Leaves a n → EndsActivation a n → w ≡ why.Delivery delivery.Yield → MayYield a n w
+  -- its activation ends, and an event is there
+  FindsEvent : (x : ℕ) → Leaves a n → EndsActivation a n → HasSet a n x → w ≡ why.Delivery (delivery.Set x) → MayYield a n w
+
+-- Why the running thread, or the one under it, comes to a place that says nothing of entries.
+pub data MayMove (a : Scene) (n : ℕ) (p : Place) (s : Core) : Type 0 where
+  -- it was taken, and runs
+  Runs : IsRunner a n → a.next ≡ turn.Run n → p ≡ place.Running → MayMove a n p s
+  -- it was taken, and is held
+  Holds : (w : Why) → Leaves a n → WasReady a n w → p ≡ place.Held w → MayMove a n p s
+  -- it was taken, found nothing, and waits again
+  WaitsAgain : (x : ℕ) → Leaves a n → WasReady a n (why.Delivery (delivery.Set x)) → p ≡ place.Waiting x true → MayMove a n p s
+  -- its activation ends, and it waits for an event
+  AwaitsEvent : (x : ℕ) → Leaves a n → EndsActivation a n → HasSet a n x → p ≡ place.Waiting x true → MayMove a n p s
+  Waits : (x : ℕ) → Leaves a n → HasSet a n x → p ≡ place.Waiting x false → MayMove a n p s
+  -- its op waits for a subtask of its own, or for a new one
+  Blocks : (sub : Subtask) → Leaves a n → HasSubtask a n sub ⊎ IsNew a sub s → p ≡ place.Blocked sub → MayMove a n p s
+  Suspends : Leaves a n → p ≡ place.Suspended → MayMove a n p s
+  -- its direct callee m ran, and is gone
+  Uncovers : (m : ℕ) → IsRunner a m → a.next ≡ turn.Run n → place_of n a.base ≡ Some (place.Under m) → is_none (get s.threads m) ≡ true → p ≡ place.Running → MayMove a n p s
+
+abbrev pub MayLeave : Scene → Placing → Core → Type 0
+-- the entry of the thread that is taken
+MayLeave a (Pop m) s = (n : ℕ) × (IsRunner a n × (next_entry s ≡ Some (m, entry.Thread n)))
+MayLeave a (Put m n w) s = MayYield a n w
+MayLeave a (GoBehind f n) s = Leaves a n
+MayLeave a (Move n p) s = MayMove a n p s
+-- by a direct call that was just made
+MayLeave a (Enter n m) s = IsRunner a n × ((a.next ≡ turn.Run m) × ((m ≡ next_thread a.base) × ((place_of m s ≡ Some place.New) × (is_direct (goal_of (task_of m s) s) ≡ true))))
+MayLeave a _ s = ⊥
+
+-- ---- Threads
+
+-- how far an op comes: it waits on a set of its instance, or is about a subtask of its own or a new one
+abbrev pub MayCome : Scene → ℕ → HowFar → Core → Type 0
+MayCome a n (how_far.Waits x) s = IsRunner a n × HasSet a n x
+MayCome a n (how_far.Calls sub) s = IsRunner a n × (HasSubtask a n sub ⊎ IsNew a sub s)
+MayCome a n (how_far.Cancels sub) s = IsRunner a n × HasSubtask a n sub
+MayCome a n (how_far.AwaitsEnd sub) s = IsRunner a n × HasSubtask a n sub
+-- its direct callee, which ran, has come to a value
+MayCome a n (how_far.Answered v) s = (m : ℕ) × (IsRunner a m × ((a.next ≡ turn.Run n) × (place_of n a.base ≡ Some (place.Under m))))
+MayCome a n h s = IsRunner a n
+
+-- a thread beside the first one of its task, by an op that names a script
+abbrev pub MayMake : Scene → Thread → Core → Type 0
+MayMake a t s = (n : ℕ) × (IsRunner a n × ((s.made.threads ≡ a.base.made.threads) × ((x : ℕ) × ((v : ℕ) × ((t ≡ new_thread (task_of n a.base) true (script.Slot x) (registers_for (v ∷ [])) None) × (s.calls ≡ a.base.calls))))))
+
+-- Who is gone.
+pub data MayGo (a : Scene) (n : ℕ) : Type 0 where
+  -- the running thread
+  Departs : Leaves a n → MayGo a n
+  -- the running thread, and the one under it goes on
+  EndsOver : (m : ℕ) → IsRunner a n → a.next ≡ turn.Run m → place_of m a.base ≡ Some (place.Under n) → MayGo a n
+  -- the strand that trapped: the thread that ran or was taken, and those that were under others
+  Falls : a.next ≡ turn.Over → IsRunner a n ⊎ ((m : ℕ) × (place_of n a.base ≡ Some (place.Under m))) → MayGo a n
+
+-- the start of a call of the running thread's, which hasn't begun or ended
+abbrev pub MayWithdraw : Scene → ℕ → Core → Type 0
+MayWithdraw a k s = (n : ℕ) × (IsRunner a n × (HasSubtask a n (subtask.Guest k) × ((was_started k s ≡ false) × (has_ended k s ≡ false))))
+
+-- ---- Calls
+
+-- Who calls the export: main's op, or that of the running thread.
+pub data MayCall (a : Scene) (f : Caller) (e : Callee) (group : ℕ) (s : Core) : Type 0 where
+  ByScript : (p : MainPlace) (o : MainOpDef) → a.main ≡ Scripted p → op_at a.setting.script p ≡ Some o → callee_of_main_op o ≡ Some e → f ≡ caller.Main → group ≡ s.made.groups → MayCall a f e group s
+  ByProgram : (words : ℕ) → a.main ≡ Unscripted → takes_words (component_of a) e words ≡ true → f ≡ caller.Main → group ≡ s.made.groups → MayCall a f e group s
+  ByThread : (n : ℕ) → IsRunner a n → callee_of_op (op_in a n) ≡ Some e → f ≡ caller.Thread n → group ≡ thread_group n a.base → MayCall a f e group s
+
+-- a direct call isn't of an async-lifted export
+abbrev pub MayMakeCall : Scene → Caller → Callee → ExportKind → Goal → ℕ → Core → Type 0
+MayMakeCall a f e x g group s = MayCall a f e group s × ((s.made.threads ≡ a.base.made.threads) × ((x ≡ export_kind (component_of a) e) × (is_direct g ≡ true → is_async_lifted x ≡ false)))
+
+-- the call of the thread that was taken to start, or a new direct one
+abbrev pub MayStart : Scene → ℕ → Core → Type 0
+MayStart a k s = ((n : ℕ) × (IsRunner a n × (WasReady a n why.Start × (k ≡ task_of n a.base)))) ⊎ IsNew a (subtask.Guest k) s
+
+-- Why the call comes to the end.
+pub data MayEnd (a : Scene) (k : ℕ) (e : CallEnd) (s : Core) : Type 0 where
+  ReturnsNow : (n : ℕ) → IsRunner a n → k ≡ task_of n a.base → has_ended k s ≡ false → is_async_lifted (kind_of k s) ≡ true → e ≡ call_end.Returned → MayEnd a k e s
+  -- a cancel was delivered
+  GivesUp : (n : ℕ) → IsRunner a n → k ≡ task_of n a.base → has_ended k s ≡ false → cancel_was_delivered k s ≡ true → e ≡ call_end.ReturnCancelled → MayEnd a k e s
+  -- the first thread of a call exits that is direct or not of an async-lifted export; nothing was done to the call before
+  Exits : (n : ℕ) → IsRunner a n → is_exit a.label ≡ true → k ≡ task_of n a.base → is_explicit n a.base ≡ false → (is_direct (goal_of k a.base) ≡ true) ⊎ (is_async_lifted (kind_of k a.base) ≡ false) → get s.calls k ≡ get a.base.calls k → e ≡ call_end.Returned → MayEnd a k e s
+  -- its start is withdrawn, and its thread is gone
+  IsWithdrawn : MayWithdraw a k s → is_none (get s.threads k) ≡ true → e ≡ call_end.StartCancelled → MayEnd a k e s
+
+abbrev pub status_of_end : CallEnd → Status
+status_of_end call_end.Returned = status.Returned
+status_of_end call_end.StartCancelled = status.StartCancelled
+status_of_end call_end.ReturnCancelled = status.ReturnCancelled
+
+-- the label says that the step writes this end of the call
+abbrev pub SaysEnd : Scene → ℕ → Status → Type 0
+SaysEnd a k e = written_by (component_of a) a.base a.label a.base ≡ Some (end_for e (subtask.Guest k))
+
+-- the call has come to where this status says
+abbrev pub Tells : Status → ℕ → Core → Type 0
+Tells status.Starting k s = Unit {0}
+Tells status.Started k s = was_started k s ≡ true
+Tells status.Returned k s = end_of k s ≡ Some call_end.Returned
+Tells status.ReturnCancelled k s = end_of k s ≡ Some call_end.ReturnCancelled
+Tells status.StartCancelled k s = ⊥
+
+-- a subtask of the running thread
+abbrev pub IsOwn : Scene → Subtask → Type 0
+IsOwn a sub = (n : ℕ) × (IsRunner a n × HasSubtask a n sub)
+
+-- the call's status is told to the calling thread, or the running thread takes it
+abbrev pub MayTell : Scene → ℕ → Option Status → Core → Type 0
+MayTell a k (Some e) s = (is_told k s ≡ true) × (Tells e k s × (is_end e ≡ true → SaysEnd a k e))
+MayTell a k None s = IsOwn a (subtask.Guest k)
+
+-- Cancelled comes to a task that is started and hasn't ended; to one that yields comes what it has, or None; what is there is taken by the running thread
+abbrev pub MayOwe : Scene → ℕ → Option OwnEvent → Core → Type 0
+MayOwe a k (Some e) s =
+    ((e ≡ own.Cancelled) × (IsOwn a (subtask.Guest k) × ((was_started k s ≡ true) × (has_ended k s ≡ false))))
+    ⊎ ((n : ℕ) × (EndsActivation a n × ((k ≡ task_of n a.base) × (own_or_none (own_event_of k a.base) ≡ Some e))))
+MayOwe a k None s = (n : ℕ) × (IsRunner a n × (k ≡ task_of n a.base))
+
+-- a thread that was taken with a delivery finds its task's own event
+abbrev pub MayDeliver : Scene → ℕ → Type 0
+MayDeliver a k = (n : ℕ) × (IsRunner a n × ((k ≡ task_of n a.base) × ((d : Delivery) × WasReady a n (why.Delivery d))))
+
+-- ---- Subtasks
+
+-- a join finds the subtask and the set by handles of the running thread's instance; a cancel joins a subtask that is in no set to the thread's own
+abbrev pub MayJoin : Scene → Subtask → Join → Type 0
+MayJoin a sub join.Nowhere = IsOwn a sub
+MayJoin a sub (join.Set x) = (n : ℕ) × ((h : ℕ) × ((g : ℕ) × (IsRunner a n × ((subtask_at (instance_of n a.base) h a.base ≡ Some sub) × (set_at (instance_of n a.base) g a.base ≡ Some x)))))
+MayJoin a sub (join.Watched n) = IsRunner a n × (HasSubtask a n sub × ((is_joined (join_of sub a.base) ≡ false) ⊎ (how_far_of n a.base ≡ how_far.Cancels sub)))
+
+-- the running thread's instance gets a handle of its subtask, or of a new one
+abbrev pub MayName : Scene → ℕ → Subtask → Core → Type 0
+MayName a i sub s = (n : ℕ) × (IsRunner a n × ((i ≡ instance_of n a.base) × (HasSubtask a n sub ⊎ IsNew a sub s)))
+
+-- the handle names the subtask, which is in no set any more
+abbrev pub MayUnname : Scene → ℕ → ℕ → Subtask → Core → Type 0
+MayUnname a i h sub s = (n : ℕ) × (IsRunner a n × ((i ≡ instance_of n a.base) × ((subtask_at i h a.base ≡ Some sub) × (is_joined (join_of sub s) ≡ false))))
+
+-- ---- Works
+
+-- main's op spawns it, or the op of the running thread calls it
+abbrev pub MayQueue : Scene → WorkCaller → Option ℕ → Type 0
+MayQueue a work_caller.Spawn group = group ≡ None
+MayQueue a (work_caller.Async n q) group = IsRunner a n × (group ≡ Some (thread_group n a.base))
+MayQueue a (work_caller.Sync n) group = IsRunner a n × (group ≡ Some (thread_group n a.base))
+
+abbrev pub is_async_work : WorkCaller → Bool
+is_async_work (work_caller.Async n q) = true
+is_async_work _ = false
+
+-- the work is the next to be polled
+abbrev pub IsPolled : Scene → ℕ → Core → Type 0
+IsPolled a i s = (n : ℕ) × ((a.turn ≡ turn.Futures n) × (next_polled n s ≡ Some i))
+
+-- what a host work came to is told once its entry is taken, or the running thread takes it
+abbrev pub MayTellWork : Scene → ℕ → Option Status → Core → Type 0
+MayTellWork a i (Some e) s = (is_stage_ended (stage_of i s) ≡ true) × (e ≡ host_status (course_value (course_of i s)))
+MayTellWork a i None s = IsOwn a (subtask.Host i)
+
+-- the sync call of the running thread is answered, or its ended subtask is dropped
+abbrev pub MayRemoveWork : Scene → ℕ → Core → Type 0
+MayRemoveWork a i s = (n : ℕ) × (IsRunner a n × ((how_far_of n a.base ≡ how_far.Calls (subtask.Host i)) ⊎ ((subtask_ended (subtask.Host i) a.base ≡ true) × (subtask_handle (subtask.Host i) s ≡ None))))
+
+-- ---- Sets and instances
+
+abbrev pub MayOpen : Scene → ℕ → Core → Type 0
+MayOpen a i s = (s.made.sets ≡ a.base.made.sets) × ((n : ℕ) × (IsRunner a n × (i ≡ instance_of n a.base)))
+
+-- the handle names it, and nobody waits on it or is in it
+abbrev pub MayClose : Scene → ℕ → ℕ → ℕ → Core → Type 0
+MayClose a i h x s = (set_at i h s ≡ Some x) × ((has_waiters x s ≡ false) × ((has_member x s ≡ false) × ((n : ℕ) × (IsRunner a n × (i ≡ instance_of n a.base)))))
+
+-- a holding entry begins in an instance that is open, and one that returns opens its instance
+abbrev pub MayBar : Scene → ℕ → Bool → Type 0
+MayBar a i true = may_not_enter i a.base ≡ false
+MayBar a i false = returned_holder a.base a.label ≡ Some i
+
+-- ---- All words
+
+-- Where the word is done in this step, right after s.
+abbrev pub Allowed : Scene → Word → Core → Type 0
+Allowed a (Places p) s = MayShift p s ⊎ MayLeave a p s
+Allowed a (SetHowFar n h) s = MayCome a n h s
+Allowed a (MakeThread t) s = MayMake a t s
+Allowed a (RemoveThread n) s = MayGo a n
+Allowed a (Withdraw k) s = MayWithdraw a k s
+Allowed a (MakeCall f e x g group words) s = MayMakeCall a f e x g group s
+Allowed a (SetStarted k) s = MayStart a k s
+Allowed a (SetEnd k e) s = MayEnd a k e s × SaysEnd a k (status_of_end e)
+Allowed a (SetOwnEvent k e) s = MayOwe a k e s
+Allowed a (SetCancelDelivered k) s = MayDeliver a k
+Allowed a (RemoveCall k) s = is_deletable k s ≡ true
+Allowed a (SetCallEvent k e) s = MayTell a k e s
+Allowed a (SetCallJoin k j) s = MayJoin a (subtask.Guest k) j
+Allowed a (NameCall i k) s = MayName a i (subtask.Guest k) s
+Allowed a (UnnameCall i h k) s = MayUnname a i h (subtask.Guest k) s
+Allowed a CountWork s = s.made.works ≡ a.base.made.works
+Allowed a (QueueWork f host group) s = (s.made.works ≡ a.base.made.works) × MayQueue a f group
+Allowed a (TakePush m i) s = next_entry s ≡ Some (m, entry.Push i)
+Allowed a (Pend i host) s = IsPolled a i s
+Allowed a (EndWork i c) s = IsPolled a i s × (is_async_work (work_caller_of i s) ≡ false)
+Allowed a (FinishWork i c) s = IsPolled a i s × (is_async_work (work_caller_of i s) ≡ true)
+Allowed a (TakeHost m i) s = next_entry s ≡ Some (m, entry.Host i)
+-- an abort is asked for
+Allowed a (SetPhase i p) s = p ≡ aborted_phase (phase_of i s)
+Allowed a (SetCancelled i) s = IsOwn a (subtask.Host i)
+Allowed a (SetWorkEvent i e) s = MayTellWork a i e s
+Allowed a (SetWorkJoin i j) s = MayJoin a (subtask.Host i) j
+Allowed a (NameWork i w) s = MayName a i (subtask.Host w) s
+Allowed a (UnnameWork i h w) s = MayUnname a i h (subtask.Host w) s
+Allowed a (RemoveWork i) s = MayRemoveWork a i s
+Allowed a (OpenSet i) s = MayOpen a i s
+Allowed a (CloseSet i h x) s = MayClose a i h x s
+Allowed a (SetDoNotEnter i b) s = MayBar a i b
+Allowed a (GiveResult k v) s = SaysEnd a k status.Returned
+Allowed a AddGroup s = s.made.groups ≡ a.base.made.groups
+Allowed a (RemoveGroup g) s = is_group_done g s ≡ true
+Allowed a _ s = Unit {0}

@@ -1,0 +1,79 @@
+-- Each step as a chain of words.
+use Rattle.std.specs.Option.{option_map_or}
+use Rattle.std.specs.Prelude.{Bool, None, Some, false, is_some, true, ℕ, ◌≡◌, ◌⊎◌}
+use Rattle.task_machine.specs.Core.{Core, Main, Scripted, State, Unscripted}
+use Rattle.task_machine.specs.Maps.{get}
+use Rattle.task_machine.specs.Moves.{ended}
+use Rattle.task_machine.specs.Read.{may_not_enter, place_of}
+use Rattle.task_machine.specs.declared.label.Label.{Label}
+use Rattle.task_machine.specs.declared.outcome.Outcome.{Outcome}
+use Rattle.task_machine.specs.declared.records.Place.{Place}
+use Rattle.task_machine.specs.declared.records.Turn.{Turn}
+use Rattle.task_rules.specs.Allowed.{Allowed, IsRunner, MayShift, is_exit}
+use Rattle.task_rules.specs.Laws.{is_free}
+use Rattle.task_rules.specs.Once.{begun_holder}
+use Rattle.task_rules.specs.Outcome.{outcome_of_label}
+use Rattle.task_rules.specs.Progress.{may}
+use Rattle.task_rules.specs.Scenes.{Scene, scene_of}
+use Rattle.task_rules.specs.Stalled.{Setting}
+use Rattle.task_rules.specs.Step.{Step}
+use Rattle.task_rules.specs.Turns.{settled_turn}
+use Rattle.task_rules.specs.Words.{Places, Word, after_word}
+use Rattle.task_machine.specs.declared.records.Place.TheVariants as place
+use Rattle.task_machine.specs.declared.records.Turn.TheVariants as turn
+
+-- From b one word after another, each where it may be done.
+pub data Chain (may : Word → Core → Type 0) (b : Core) : Core → Type 0 where
+  NoWord : Chain may b b
+  Then : (s : Core) → (w : Word) → Chain may b s → may w s → Chain may b (after_word w s)
+
+-- the words of a step
+abbrev pub Walk : Scene → Core → Core → Type 0
+Walk a b t = Chain (Allowed a) b t
+
+-- only changes of where other threads are
+abbrev pub IsShift : Word → Core → Type 0
+IsShift (Places p) s = MayShift p s
+IsShift _ s = ⊥
+
+abbrev pub Shifts : Core → Core → Type 0
+Shifts b t = Chain IsShift b t
+
+abbrev pub is_running : Place → Bool
+is_running place.Running = true
+is_running _ = false
+
+abbrev pub is_take : Turn → Bool
+is_take (turn.Take ended) = true
+is_take _ = false
+
+-- What the last words of a step leave.
+pub record LastWords (a : Scene) (t : Core) : Type 0 where
+  -- a thread that was taken is at a place that says nothing of entries, or gone
+  pub laid : (n : ℕ) → IsRunner a n → is_take a.turn ≡ true → option_map_or is_free (place_of n t) true ≡ true
+  -- a thread whose turn comes was running already, or runs now
+  pub runs : (n : ℕ) → a.next ≡ turn.Run n → (a.turn ≡ turn.Run n) ⊎ (option_map_or is_running (place_of n t) true ≡ true)
+  -- a label that gives an outcome ends the turns
+  pub outcome : (o : Outcome) → outcome_of_label a.label ≡ Some o → a.next ≡ turn.Over
+  -- a thread that exits is gone
+  pub gone : (n : ℕ) → IsRunner a n → is_exit a.label ≡ true → get t.threads n ≡ None
+  -- a holding entry that begins to run finds its instance open, and shuts it
+  pub shut : (i : ℕ) → begun_holder a.base a.label ≡ Some i → (may_not_enter i a.base ≡ false) × (is_some (get t.instances i) ≡ true → may_not_enter i t ≡ true)
+
+-- a main that is a script stays one, and so does one that isn't
+abbrev pub SameMain : Main → Main → Type 0
+SameMain (Scripted p) (Scripted q) = Unit {0}
+SameMain Unscripted Unscripted = Unit {0}
+SameMain _ _ = ⊥
+
+-- A step seen as a chain.
+pub record Walked (x : Setting) (s : State) (l : Label) (t : State) : Type 0 where
+  pub next : Turn
+  pub turn : t.turn ≡ settled_turn t.core next
+  pub main : SameMain s.main t.main
+  pub walk : Walk (scene_of x s l next) s.core t.core
+  pub ends : LastWords (scene_of x s l next) t.core
+
+-- each step is a chain of words, each where it may be done
+abbrev pub StepsAreWalks : Type 0
+StepsAreWalks = (x : Setting) (s : State) (l : Label) (t : State) → Step x s l t → Walked x s l t
