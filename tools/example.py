@@ -377,7 +377,7 @@ def exchanges_term(exchanges):
 
 def definitions(name, scenario, labels):
     """The piece for a file of specs/."""
-    return (f'-- {scenario.summary()}\nabbrev pub {name} : Scenario\n'
+    return (f'-- {scenario.summary()}\nabbrev pub {name} : ScenarioDef\n'
             + filled(f'{name} = {scenario.term()}') + '\n\n'
             + f'abbrev pub {name}_labels : List Label\n'
             + filled(f'{name}_labels = {" ∷ ".join([*labels, "[]"])}') + '\n')

@@ -18,15 +18,15 @@ use Rattle.task_rules.specs.Turns.{at_turn}
 use Rattle.task_loop.specs.declared.call.FuncCallConcurrent.{FuncCallConcurrent}
 use Rattle.task_loop.specs.Calls.{Starts}
 use Rattle.task_loop.specs.Main.{Answers, Did, Pends, state_at}
-use Rattle.task_state.specs.Seen.{Seen}
+use Rattle.task_state.specs.StepView.{StepView}
 
 -- ---- A start
 
-module _ (c : Component) (e : Callee) (words : List ℕ) (s t : Seen) (k : ℕ) where
+module _ (c : Component) (e : Callee) (words : List ℕ) (s t : StepView) (k : ℕ) where
   started_in : (o : Option Trap) (call : FuncCallConcurrent) → Starts c e words s o (Ok call) t
       → OpenProgresses (state_at s.core Unscripted turn.Main) (start_act c k e words s.core o) (label.Main (main_label.Start k call.thread)) (state_at t.core Unscripted turn.Main)
   unfolding at_turn
-  started_in None call h = (ap (λ n. label.Main (main_label.Start k n)) h.0, ap (λ (u : Seen). state_at u.core Unscripted turn.Main) h.1)
+  started_in None call h = (ap (λ n. label.Main (main_label.Start k n)) h.0, ap (λ (u : StepView). state_at u.core Unscripted turn.Main) h.1)
   started_in (Some why) call h = absurd (let clash = h.0 in cc)
 
   refused_in : (o : Option Trap) (why : Trap) → Starts c e words s o (Err (task_error.Trap why)) t
@@ -36,7 +36,7 @@ module _ (c : Component) (e : Callee) (words : List ℕ) (s t : Seen) (k : ℕ) 
   refused_in (Some other) why h =
       let is = h.0 in
       let same : why ≡ other = cc in
-      (ap (λ w. label.Main (main_label.StartRefused w k)) same, ap (λ (u : Seen). state_at u.core Unscripted turn.Main) h.1)
+      (ap (λ w. label.Main (main_label.StartRefused w k)) same, ap (λ (u : StepView). state_at u.core Unscripted turn.Main) h.1)
 
   pub did_start : (call : FuncCallConcurrent) → Starts c e words s (start_refusal s.core) (Ok call) t → Did c [] Unscripted s.core (label.Main (main_label.Start k call.thread)) Unscripted t.core
   did_start call h = record { op = tt; step = (k, (row.Start e words, started_in (start_refusal s.core) call h)) }

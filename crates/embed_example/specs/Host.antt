@@ -6,7 +6,7 @@ use Rattle.task_machine.specs.declared.component.InstanceDef.{InstanceDef}
 use Rattle.task_rules.specs.Scripts.{export_at}
 use Rattle.task_loop.specs.declared.call.Func.{Func}
 use Rattle.task_loop.specs.Calls.{callee_of}
-use Rattle.task_loop.specs.Fit.{IsFirstExport}
+use Rattle.task_loop.specs.Fit.{IsPlainExport}
 
 -- the export is there, and takes one word
 abbrev pub TakesOne : Component → Func → Type 0
@@ -14,4 +14,4 @@ TakesOne c f = IsSome (export_at c (callee_of f)) × IfSome (export_at c (callee
 
 -- the instance has one export, of today's kind, which takes one word
 abbrev pub HasOneExport : InstanceDef → Type 0
-HasOneExport d = (e : ExportDef) × ((d.exports ≡ e ∷ []) × (IsFirstExport e × (e.params ≡ 1)))
+HasOneExport d = (e : ExportDef) × ((d.exports ≡ e ∷ []) × (IsPlainExport e × (e.params ≡ 1)))

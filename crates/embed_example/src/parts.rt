@@ -1,7 +1,7 @@
 //! What is run: two instances with an export each.
 ghost use Rattle.std.specs.Prelude.{◌≡◌, ◌∷◌, [], length, IfOk};
 ghost use Rattle.task_machine.specs.declared.component.ExportDef.{ExportDef};
-ghost use Rattle.task_loop.specs.Fit.{IsFirstComponent, IsFirstExport};
+ghost use Rattle.task_loop.specs.Fit.{HasPlainExports, IsPlainExport};
 ghost use Rattle.embed_example.specs.Host.{HasOneExport, TakesOne};
 
 use std::alloc::{AllocError, Global};
@@ -44,7 +44,7 @@ fn adder(alloc: Global, more: Operand) -> Result<InstanceDef, AllocError>
 
 /// The instance of `DOUBLE`, and that of `NEXT`.
 pub fn component(alloc: Global) -> Result<Component, AllocError>
-    ensures first { IfOk result IsFirstComponent }
+    ensures plain { IfOk result HasPlainExports }
     ensures double { IfOk result (λ c. TakesOne c DOUBLE) }
     ensures next { IfOk result (λ c. TakesOne c NEXT) }
     ensures two { IfOk result (λ c. length c.instances ≡ 2) }

@@ -2,7 +2,7 @@
 ghost use Rattle.std.specs.Prelude.{◌≡◌, ◌+◌, ◌<◌, ◌^◌, [], IfErr, IfOk, OnOk};
 ghost use Rattle.task_machine.specs.Core.{Unscripted};
 ghost use Rattle.task_core.specs.declared.error.TaskError.TheVariants as task_error;
-ghost use Rattle.task_loop.specs.Fit.{Fits, IsFirstComponent, given};
+ghost use Rattle.task_loop.specs.Fit.{Fits, HasPlainExports, given};
 ghost use Rattle.task_loop.specs.Main.{Steps};
 ghost use Rattle.task_state.specs.State.{running_of};
 ghost use Rattle.embed_example.specs.Host.{TakesOne};
@@ -41,7 +41,7 @@ fn start(
     component: &Component,
     func: Func,
 ) -> Result<MainStep, TaskError>
-    requires first { IsFirstComponent component.now }
+    requires plain { HasPlainExports component.now }
     requires fits { Fits component.now access.old.store.now.state.core }
     requires takes { TakesOne component.now func }
     requires given { given access.old.store.now.state.core + 4 < 2 ^ 61 }

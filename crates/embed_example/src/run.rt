@@ -3,10 +3,10 @@ ghost use Rattle.std.specs.Prelude.{◌≡◌, [], length, true, false, IfOk};
 ghost use Rattle.task_machine.specs.Core.{State, Unscripted, fresh};
 ghost use Rattle.task_machine.specs.declared.records.Turn.TheVariants as turn;
 ghost use Rattle.task_loop.specs.Drive.{Drives};
-ghost use Rattle.task_loop.specs.Fit.{IsFirstComponent};
+ghost use Rattle.task_loop.specs.Fit.{HasPlainExports};
 ghost use Rattle.task_loop.specs.Main.{state_at};
 ghost use Rattle.task_loop.specs.Turn.{setting_of};
-ghost use Rattle.task_core.specs.Shown.{nothing, with_core};
+ghost use Rattle.task_core.specs.StateView.{nothing, with_core};
 ghost use Rattle.embed_example.specs.Host.{TakesOne};
 
 use crate::parts::{DOUBLE, NEXT};
@@ -36,7 +36,7 @@ pub fn relayed(
     component: &Component,
     word: u64,
 ) -> Result<(Trace, Outcome), NoMemory>
-    requires first { IsFirstComponent component.now }
+    requires plain { HasPlainExports component.now }
     requires double { TakesOne component.now DOUBLE }
     requires next { TakesOne component.now NEXT }
     requires two { length component.now.instances ≡ 2 }

@@ -6,6 +6,3 @@ mod page;
 mod piece;
 
 pub use page::{PAGE, Page};
-
-#[cfg(test)]
-mod tests;

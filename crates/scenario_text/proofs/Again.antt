@@ -28,7 +28,7 @@ use Rattle.scenario_text.specs.declared.tree.MainOpText.TheVariants as main
 use Rattle.scenario_text.specs.declared.tree.ScenarioText.{ScenarioText}
 use Rattle.scenario_text.specs.Words.{◌>>=◌, is_name}
 use Rattle.scenario_text.specs.Spelling.{Lines, title_words, handles_words, table_words, idle_words, head_lines, op_words, export_words, export_lines, instance_words, instance_lines, body_lines, exports_of, instance_name, export_name, main_op_words, main_words, main_lines, answer_words, end_words, lines_of}
-use Rattle.scenario_text.specs.Stands.{EachStands, idle_fits, handles_fit, table_fits, OpStands, export_count, ExportStands, InstanceStands, main_has_room, is_start, finishes, start_count, params_of, MainOpStands, IsWellFormed}
+use Rattle.scenario_text.specs.Placement.{EachStands, idle_fits, handles_fit, table_fits, OpStands, export_count, ExportStands, InstanceStands, main_has_room, is_start, finishes, start_count, params_of, MainOpStands, IsWellFormed}
 use Rattle.scenario_text.specs.State.{with_instance, with_export, script_closed, instance_closed, main_open, after_title, after_handles, after_table, after_idle, after_head, after_instance, after_export, after_part, with_op, after_op, after_main, small, callee_of, start_of, finish_of, main_op_of, after_main_op, after_answer, after_end, after, after_words, read_from, scenario_of}
 use Rattle.scenario_text.proofs.LineLaws.{named_words, named_fits, line_words, line_fits, line_again}
 use Rattle.scenario_text.proofs.StandingLaws.{stands_at, place_again, bytes_same, some_map, few_after}

@@ -9,7 +9,7 @@ use Rattle.scenario_text.specs.declared.state.State.{State}
 use Rattle.scenario_text.specs.declared.state.State.TheVariants as state
 use Rattle.scenario_text.specs.declared.tree.MainOpText.{MainOpText}
 use Rattle.scenario_text.specs.Spelling.{Lines, title_words, handles_words, table_words, idle_words, head_lines, main_lines, answer_words, end_words, lines_of}
-use Rattle.scenario_text.specs.Stands.{handles_fit, table_fits}
+use Rattle.scenario_text.specs.Placement.{handles_fit, table_fits}
 use Rattle.scenario_text.specs.Grammar.{Begins}
 use Rattle.scenario_text.specs.State.{with_instance, with_export, export_from, script_closed, instance_closed, whole}
 use Rattle.scenario_text.proofs.StateLaws.{front, so_far, BodyFits, MainFits, AnswerFits, IsSound, closes_instance, well_formed}

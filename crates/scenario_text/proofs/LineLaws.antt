@@ -40,7 +40,7 @@ use Rattle.scenario_text.specs.Words.{◌>>=◌, bounded_at, register_at, operan
 use Rattle.scenario_text.specs.Keyword.{head_word, part_word, data_word, task_word, main_word, keyword_text, keywords, keyword_at}
 use Rattle.scenario_text.specs.Line.{head_after, instance_after, export_after, part_after, target_after, load_after, store_after, skip_after, data_op_after, task_op_after, operands_at, callee_at, start_after, finish_after, main_after, line_after, line_at}
 use Rattle.scenario_text.specs.Spelling.{register_word, operand_word, kind_word, callee_word, title_words, handles_words, table_words, idle_words, data_op_words, task_op_words, op_words, export_words, instance_words, main_words, answer_words, end_words}
-use Rattle.scenario_text.specs.Stands.{operand_fits, idle_fits, kind_fits, data_op_fits, task_op_fits, op_fits}
+use Rattle.scenario_text.specs.Placement.{operand_fits, idle_fits, kind_fits, data_op_fits, task_op_fits, op_fits}
 use Rattle.scenario_text.proofs.Numbers.{guarded}
 use Rattle.scenario_text.proofs.Position.{position_head, position_tail}
 use Rattle.scenario_text.proofs.WordLaws.{bind_some, some_is, Reads, registers, operands, bounded, idles, kinds}

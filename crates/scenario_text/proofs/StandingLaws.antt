@@ -7,7 +7,7 @@ use Rattle.std.specs.Str.{bytes_eq}
 use Rattle.std.proofs.lemmas.Bool.{or_parts}
 use Rattle.std.proofs.lemmas.List.{append-nil}
 use Rattle.std.proofs.lemmas.Slice.Eq.{bytes_eq-Decides}
-use Rattle.scenario_text.specs.Stands.{EachStands}
+use Rattle.scenario_text.specs.Placement.{EachStands}
 use Rattle.scenario_text.proofs.Position.{position_head, position_tail}
 use Rattle.scenario_text.proofs.WordLaws.{some_is}
 

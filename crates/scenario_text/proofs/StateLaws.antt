@@ -29,7 +29,7 @@ use Rattle.scenario_text.specs.declared.tree.MainOpText.{MainOpText}
 use Rattle.scenario_text.specs.declared.tree.MainOpText.TheVariants as main
 use Rattle.scenario_text.specs.Words.{◌>>=◌, is_name}
 use Rattle.scenario_text.specs.Spelling.{Lines, operand_word, callee_word, title_words, handles_words, table_words, idle_words, head_lines, op_words, export_words, export_lines, instance_words, instance_lines, body_lines, exports_of, export_name, name_of, main_op_words, main_words, main_lines, answer_words, end_words, lines_of}
-use Rattle.scenario_text.specs.Stands.{EachStands, operand_fits, idle_fits, kind_fits, handles_fit, table_fits, op_fits, has_room_for_op, OpStands, export_opens, ExportStands, instance_opens, InstanceStands, start_opens, finish_opens, params_of, MainOpStands, IsWellFormed}
+use Rattle.scenario_text.specs.Placement.{EachStands, operand_fits, idle_fits, kind_fits, handles_fit, table_fits, op_fits, has_room_for_op, OpStands, export_opens, ExportStands, instance_opens, InstanceStands, start_opens, finish_opens, params_of, MainOpStands, IsWellFormed}
 use Rattle.scenario_text.specs.State.{with_instance, with_export, export_from, script_closed, instance_closed, main_open, after_title, handles_taken, after_handles, table_taken, after_table, after_idle, after_head, after_instance, after_export, after_part, with_op, after_op, after_main, small, instance_place, export_place, callee_of, start_of, finish_of, main_op_of, after_main_op, after_answer, whole, after_end, after}
 use Rattle.scenario_text.proofs.Numbers.{guarded}
 use Rattle.scenario_text.proofs.WordLaws.{bind_some, some_is, passed}

@@ -9,7 +9,7 @@ use Rattle.scenario_text.specs.declared.state.State.{State}
 use Rattle.scenario_text.specs.declared.state.State.TheVariants as state
 use Rattle.scenario_text.specs.Line.{line_at}
 use Rattle.scenario_text.specs.Spelling.{Lines, lines_of}
-use Rattle.scenario_text.specs.Stands.{IsWellFormed}
+use Rattle.scenario_text.specs.Placement.{IsWellFormed}
 use Rattle.scenario_text.specs.Grammar.{lines, words, spelled, IsTextOf, Begins, IsBadLine}
 use Rattle.scenario_text.specs.State.{after, after_words, read_from, go_on, end_at, scenario_of, ReadsAs}
 use Rattle.scenario_text.specs.Answers.{Answers}

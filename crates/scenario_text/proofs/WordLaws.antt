@@ -14,7 +14,7 @@ use Rattle.task_machine.specs.declared.component.ExportKind.{ExportKind}
 use Rattle.task_machine.specs.declared.component.ExportKind.TheVariants as kind
 use Rattle.scenario_text.specs.Words.{◌>>=◌, number_at, bounded_at, register_at, operand_at, or_number, idle_at, kind_at}
 use Rattle.scenario_text.specs.Spelling.{register_word, operand_word, idle_word, kind_word}
-use Rattle.scenario_text.specs.Stands.{operand_fits, idle_fits, kind_fits}
+use Rattle.scenario_text.specs.Placement.{operand_fits, idle_fits, kind_fits}
 use Rattle.scenario_text.proofs.Numbers.{digits_model, guarded, number_takes, number_again}
 
 -- ---- Steps that gave a value

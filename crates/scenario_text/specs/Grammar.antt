@@ -3,7 +3,7 @@ use Rattle.std.specs.Prelude.{◌≡◌, ℕ, ◌+◌, ◌≤◌, ◌-◌, List,
 use Rattle.std.specs.List.{onto_first, slice_split}
 use Rattle.scenario_text.specs.declared.tree.ScenarioText.{ScenarioText}
 use Rattle.scenario_text.specs.Spelling.{Lines, lines_of}
-use Rattle.scenario_text.specs.Stands.{IsWellFormed}
+use Rattle.scenario_text.specs.Placement.{IsWellFormed}
 
 -- the lines of a text: each ends at a line feed, which the last may lack
 abbrev pub lines : List ℕ → List (List ℕ)

@@ -3,7 +3,7 @@ pub mod Words
 pub mod Line
 pub mod Gives
 pub mod Spelling
-pub mod Stands
+pub mod Placement
 pub mod Grammar
 pub mod State
 pub mod Answers

@@ -27,7 +27,7 @@ use Rattle.scenario_text.specs.declared.tree.ScenarioText.{ScenarioText}
 use Rattle.scenario_text.specs.Words.{◌>>=◌}
 use Rattle.scenario_text.specs.Line.{line_at}
 use Rattle.scenario_text.specs.Spelling.{Lines, exports_of}
-use Rattle.scenario_text.specs.Stands.{handles_fit, table_fits, has_room_for_op, params_of, export_opens, instance_opens, start_opens, finish_opens}
+use Rattle.scenario_text.specs.Placement.{handles_fit, table_fits, has_room_for_op, params_of, export_opens, instance_opens, start_opens, finish_opens}
 
 abbrev pub with_instance : Body → InstanceText → Body
 with_instance b i = record b { instances = b.instances ++ i ∷ [] }

@@ -3,7 +3,7 @@ ghost use Rattle.std.specs.Prelude.{◌≡◌};
 ghost use Rattle.scenario_text.specs.Keyword.{head_word, part_word, data_word, task_word, main_word, keyword_text, keyword_at};
 
 /// A word of the text's head.
-#[derive(Clone, Copy, Debug, PartialEq, Eq)]
+#[derive(Clone, Copy)]
 pub enum HeadWord {
     Scenario,
     Handles,
@@ -12,14 +12,14 @@ pub enum HeadWord {
 }
 
 /// A word that opens a part of the component.
-#[derive(Clone, Copy, Debug, PartialEq, Eq)]
+#[derive(Clone, Copy)]
 pub enum PartWord {
     Instance,
     Export,
 }
 
 /// An op on registers and on the instance's words.
-#[derive(Clone, Copy, Debug, PartialEq, Eq)]
+#[derive(Clone, Copy)]
 pub enum DataWord {
     Set,
     Add,
@@ -30,7 +30,7 @@ pub enum DataWord {
 }
 
 /// An op that ends a task or an activation.
-#[derive(Clone, Copy, Debug, PartialEq, Eq)]
+#[derive(Clone, Copy)]
 pub enum TaskWord {
     Ret,
     RetBad,
@@ -38,7 +38,7 @@ pub enum TaskWord {
 }
 
 /// A word of main, or the text's last one.
-#[derive(Clone, Copy, Debug, PartialEq, Eq)]
+#[derive(Clone, Copy)]
 pub enum MainWord {
     Main,
     Start,
@@ -48,7 +48,7 @@ pub enum MainWord {
 }
 
 /// The word with which a line begins.
-#[derive(Clone, Copy, Debug, PartialEq, Eq)]
+#[derive(Clone, Copy)]
 pub enum Keyword {
     Head(HeadWord),
     Part(PartWord),

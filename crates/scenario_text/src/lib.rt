@@ -4,7 +4,7 @@
 mod keyword;
 mod line;
 mod read;
-mod stands;
+mod placement;
 mod state;
 mod tree;
 mod words;
@@ -12,6 +12,3 @@ mod words;
 pub use read::{TextError, one_tree, read_text};
 pub use tree::{ExportText, InstanceText, MainOpText, Name, ScenarioText};
 pub use words::number_up_to;
-
-#[cfg(test)]
-mod tests;

@@ -12,7 +12,7 @@ use std::alloc::{AllocError, Global};
 use task_machine::{DataOp, ExportKind, IdleLine, Op, Operand, Seq, TaskOp};
 
 /// A line of the text's head.
-#[derive(Debug, Drop)]
+#[derive(Drop)]
 pub enum HeadLine {
     Title,
     Handles(u32),
@@ -21,7 +21,7 @@ pub enum HeadLine {
 }
 
 /// A line that opens a part of the component.
-#[derive(Debug, Drop)]
+#[derive(Drop)]
 pub enum PartLine {
     Instance(Name),
     /// A name, a kind and a number of parameters.
@@ -29,14 +29,14 @@ pub enum PartLine {
 }
 
 /// An op of main whose callee is named by its instance and its export.
-#[derive(Debug, Drop)]
+#[derive(Drop)]
 pub enum NamedOp {
     Start(Name, Name, Seq<Operand>),
     Finish(u32, u8),
 }
 
 /// What a line says; names are unresolved.
-#[derive(Debug, Drop)]
+#[derive(Drop)]
 pub enum Line {
     Head(HeadLine),
     Part(PartLine),
@@ -48,7 +48,7 @@ pub enum Line {
 }
 
 /// Why no line was read.
-#[derive(Clone, Copy, Debug, PartialEq, Eq)]
+#[derive(Clone, Copy)]
 pub enum LineError {
     NoMemory,
     Bad,

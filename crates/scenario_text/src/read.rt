@@ -13,7 +13,7 @@ use memchr::memchr;
 use std::alloc::{AllocError, Global};
 
 /// Why a text gave no scenario.
-#[derive(Clone, Copy, Debug, PartialEq, Eq)]
+#[derive(Clone, Copy)]
 pub enum TextError {
     NoMemory,
     /// The first line with which the lines so far begin no scenario, from 1, or one past the last.

@@ -4,7 +4,7 @@ ghost use Rattle.scenario_text.specs.Gives.{Gives, Becomes};
 ghost use Rattle.scenario_text.specs.State.{with_op, start_of, finish_of, main_op_of};
 
 use crate::line::{HeadLine, Line, LineError, NamedOp, PartLine};
-use crate::stands::{
+use crate::placement::{
     OPS, callee_of, export_opens, finish_opens, handles_fit, instance_opens, params_of,
     start_opens, table_fits,
 };
@@ -14,7 +14,7 @@ use std::mem;
 use task_machine::{ExportKind, IdleLine, Op, Operand, Seq};
 
 /// The head, and the instances that are closed.
-#[derive(Debug, Drop)]
+#[derive(Drop)]
 pub struct Body {
     pub handles: u32,
     pub table: u32,
@@ -23,7 +23,7 @@ pub struct Body {
 }
 
 /// The line with which an export opens.
-#[derive(Debug, Drop)]
+#[derive(Drop)]
 pub struct Opening {
     pub name: Name,
     pub kind: ExportKind,
@@ -98,7 +98,7 @@ fn main_op_of(instances: &[InstanceText], before: &[MainOpText], op: NamedOp) ->
 }
 
 /// What the lines so far have said.
-#[derive(Debug, Drop)]
+#[derive(Drop)]
 pub enum State {
     Empty,
     Titled,
@@ -264,22 +264,6 @@ impl State {
         Ok(State::Main(body, Seq::new(alloc)))
     }
 
-    #[tactic(auto, unfolding(crate::specs::State::after_main_op, crate::specs::State::main_open))]
-    fn add_main_op(&mut self, op: NamedOp) -> Result<(), LineError>
-        ensures { Becomes self.new result (after_main_op self.old op) }
-    {
-        match self {
-            State::Main(body, ops) => {
-                let op = main_op_of(body.instances.as_slice(), ops.as_slice(), op).ok_or(
-                    LineError::Bad,
-                )?;
-                ops.push(op)?;
-                Ok(())
-            }
-            _ => Err(LineError::Bad),
-        }
-    }
-
     #[tactic(auto, unfolding(crate::specs::State::main_open))]
     fn open_main(self) -> Result<(Body, Seq<MainOpText>), LineError>
         ensures { Gives result (main_open self) }
@@ -288,6 +272,16 @@ impl State {
             State::Main(body, ops) => Ok((body, ops)),
             _ => Err(LineError::Bad),
         }
+    }
+
+    #[tactic(auto, unfolding(crate::specs::State::after_main_op))]
+    fn after_main_op(self, op: NamedOp) -> Result<State, LineError>
+        ensures { Gives result (after_main_op self op) }
+    {
+        let (body, mut ops) = self.open_main()?;
+        let op = main_op_of(body.instances.as_slice(), ops.as_slice(), op).ok_or(LineError::Bad)?;
+        ops.push(op)?;
+        Ok(State::Main(body, ops))
     }
 
     #[tactic(auto, unfolding(crate::specs::State::after_answer))]
@@ -321,21 +315,35 @@ impl State {
         mem::replace(self, State::Empty)
     }
 
+    fn after_op(self, op: Op) -> Result<State, LineError>
+        ensures { Gives result (after_op self op) }
+    {
+        let mut state = self;
+        state.add_op(op)?;
+        Ok(state)
+    }
+
+    #[tactic(auto, unfolding(crate::specs::State::after))]
+    fn after_line(self, alloc: Global, line: Line) -> Result<State, LineError>
+        ensures { Gives result (after self line) }
+    {
+        match line {
+            Line::Head(line) => self.after_head(alloc, line),
+            Line::Part(line) => self.after_part(alloc, line),
+            Line::Op(op) => self.after_op(op),
+            Line::Main => self.after_main(alloc),
+            Line::MainOp(op) => self.after_main_op(op),
+            Line::Answer(value) => self.after_answer(value),
+            Line::End => self.after_end(),
+        }
+    }
+
     // Adds any line. It stays out of line, so that the lines of scripts don't pay for its values.
     #[inline(never)]
-    #[tactic(auto, unfolding(crate::specs::State::after))]
     fn add_any(&mut self, alloc: Global, line: Line) -> Result<(), LineError>
         ensures { Becomes self.new result (after self.old line) }
     {
-        match line {
-            Line::Head(line) => *self = self.taken().after_head(alloc, line)?,
-            Line::Part(line) => *self = self.taken().after_part(alloc, line)?,
-            Line::Op(op) => self.add_op(op)?,
-            Line::Main => *self = self.taken().after_main(alloc)?,
-            Line::MainOp(op) => self.add_main_op(op)?,
-            Line::Answer(value) => *self = self.taken().after_answer(value)?,
-            Line::End => *self = self.taken().after_end()?,
-        }
+        *self = self.taken().after_line(alloc, line)?;
         Ok(())
     }
 

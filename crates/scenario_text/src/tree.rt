@@ -6,7 +6,7 @@ use task_machine::{Callee, ExportKind, IdleLine, Op, Operand, Seq};
 pub type Name = Seq<u8>;
 
 /// An `export` line, with its number of parameters, 0 to 16, and the script after it.
-#[derive(Debug, Drop)]
+#[derive(Drop)]
 pub struct ExportText {
     pub name: Name,
     pub kind: ExportKind,
@@ -15,14 +15,14 @@ pub struct ExportText {
 }
 
 /// An `instance` line, and the exports after it.
-#[derive(Debug, Drop)]
+#[derive(Drop)]
 pub struct InstanceText {
     pub name: Name,
     pub exports: Seq<ExportText>,
 }
 
 /// A line between `main` and `answer`. Starts are counted from 1.
-#[derive(Debug, Drop)]
+#[derive(Drop)]
 pub enum MainOpText {
     /// `start F X*`, F by the places of its instance and its export.
     Start(Callee, Seq<Operand>),
@@ -31,7 +31,7 @@ pub enum MainOpText {
 }
 
 /// A scenario text.
-#[derive(Debug, Drop)]
+#[derive(Drop)]
 pub struct ScenarioText {
     pub handles: u32,
     pub table: u32,

@@ -4,7 +4,7 @@ use Rattle.std.proofs.lemmas.List.{map-append}
 use mathlib.Core.Option.{some}
 use lib.ListN.{get_elem?}
 use Rattle.atomic_table.proofs.Lists.{at_longer}
-use Rattle.task_abort.specs.declared.log.Phase.{Phase}
+use Rattle.task_machine.specs.declared.words.Phase.{Phase}
 use Rattle.task_abort.specs.declared.log.PhaseCall.{PhaseCall}
 use Rattle.task_abort.specs.declared.log.PhaseCall.TheVariants.{Abort}
 use Rattle.task_abort.specs.declared.log.LogEntry.{LogEntry}

@@ -9,10 +9,6 @@ use futures::task::{Source, Waker};
 use std::alloc::Global;
 use std::sync::{Arc, Mutex};
 
-/// There was no memory.
-#[derive(Clone, Copy, Debug, PartialEq, Eq)]
-pub struct NoMemory;
-
 /// Who is woken by an abort, and who by a finish.
 #[derive(Drop)]
 pub struct Wakers {

@@ -8,7 +8,7 @@ ghost use Rattle.task_abort.specs.Rule.{HasMetAll, AllKnown};
 ghost use Rattle.task_abort.specs.Staged.{Aborter, Lists, OnlyAborted, LastRound, Numbered, all_aborts, aborts_of, any_abort, by_number, by_stages, entered, staged};
 ghost use Rattle.task_abort.specs.declared.log.CallMade.{CallMade};
 ghost use Rattle.task_abort.specs.declared.log.LogEntry.{LogEntry};
-ghost use Rattle.task_abort.specs.declared.log.Phase.TheVariants.{Running, Complete};
+ghost use Rattle.task_machine.specs.declared.words.Phase.TheVariants.{Running, Complete};
 ghost use Rattle.task_abort.specs.declared.log.PhaseCall.TheVariants.{Abort, Finish};
 
 use crate::cell::JoinPass;

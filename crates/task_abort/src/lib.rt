@@ -12,14 +12,13 @@ mod handle;
 mod laws;
 mod log;
 mod rule;
-#[cfg(test)]
-mod tests;
 mod wake;
 mod work;
 
-pub use cell::{Abortable, JoinHandle, JoinPass, NoMemory};
+pub use cell::{Abortable, JoinHandle, JoinPass};
 pub use laws::{
     known_callers, late_calls_stand_last, phases_of_seen_calls, staged_log_is_legal,
     staged_log_keeps_lists, unfinished_calls,
 };
-pub use log::{CallMade, Caller, LogEntry, Phase, PhaseCall, View};
+pub use log::{CallMade, Caller, LogEntry, PhaseCall, View};
+pub use task_machine::{NoMemory, Phase};

@@ -1,19 +1,9 @@
 //! Phases, calls and logs, and what a pass knows of them.
 use std::collections::LinkedList;
-
-/// How far a spawned work has come. It only rises, in this order.
-#[derive(Clone, Copy, Debug, PartialEq, Eq)]
-pub enum Phase {
-    /// The work may be polled.
-    Running,
-    /// Somebody has asked that it end, and it isn't polled again.
-    AbortRequested,
-    /// It is over.
-    Complete,
-}
+use task_machine::Phase;
 
 /// The four calls of a join handle that a log has.
-#[derive(Clone, Copy, Debug, PartialEq, Eq)]
+#[derive(Clone, Copy)]
 pub enum PhaseCall {
     /// Asks that the work end.
     Abort,
@@ -26,7 +16,7 @@ pub enum PhaseCall {
 }
 
 /// One call in a log, with the phase that it found.
-#[derive(Clone, Copy, Debug, PartialEq, Eq)]
+#[derive(Clone, Copy)]
 pub struct LogEntry<C> {
     /// Who made it: the name of a pass, or a number that the log's owner gives.
     pub caller: C,
@@ -35,7 +25,7 @@ pub struct LogEntry<C> {
 }
 
 /// A call as its caller can list it.
-#[derive(Clone, Copy, Debug, PartialEq, Eq)]
+#[derive(Clone, Copy)]
 pub struct CallMade {
     pub call: PhaseCall,
     /// The phase that the call found; none at a poll of the handle that answered `Pending`, which tells only that the

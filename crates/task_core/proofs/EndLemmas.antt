@@ -27,15 +27,15 @@ use Rattle.task_core.specs.declared.entry.Entry.TheVariants as entries
 use Rattle.task_core.specs.declared.entry.GuestTask.{GuestTask}
 use Rattle.task_core.specs.declared.entry.GuestThread.{GuestThread}
 use Rattle.task_core.specs.declared.entry.SyncSet.{SyncSet}
-use Rattle.task_core.specs.declared.entry.GuestTaskKey.{GuestTaskKey}
-use Rattle.task_core.specs.declared.entry.ThreadKey.{ThreadKey}
+use Rattle.task_wait.specs.declared.keys.GuestTaskKey.{GuestTaskKey}
+use Rattle.task_wait.specs.declared.keys.ThreadKey.{ThreadKey}
 use Rattle.task_core.specs.declared.entry.LiveGroup.{LiveGroup}
 use Rattle.task_core.specs.declared.instance.Queued.{Queued}
 use Rattle.task_core.specs.Entries.{task_in, thread_in, set_in, call_key, thread_key, callers_key, set_key, group_key}
 use Rattle.task_core.specs.EntryLaws.{no_other_task, no_other_thread}
 use Rattle.task_core.specs.Groups.{AreCounted, live_group, recounted}
 use Rattle.task_core.specs.Image.{Parts, core_of, image, numbers, tag_of}
-use Rattle.task_core.specs.Shown.{Shown, KeepsTagsBut, thread_number, call_number}
+use Rattle.task_core.specs.StateView.{StateView, KeepsTagsBut, thread_number, call_number}
 use Rattle.task_core.specs.Simple.{IsSimple}
 use Rattle.task_core.specs.Sound.{Sound, SoundTable, HaveSets, AreQueued, AreGroups, AreRising}
 use Rattle.task_core.proofs.CountLemmas.{counted_less, counted_one, recounted_groups, recounted_numbers, recounted_rising}
@@ -153,9 +153,9 @@ capacity_deleted t rep = refl
 
 -- ---- A call
 
-module _ (a : Parts) (s : Shown) (is : image a ≡ s) (sound : Sound a) (id : TableId GuestTaskKey) (live : 0 < call_number s.tags id) where
+module _ (a : Parts) (s : StateView) (is : image a ≡ s) (sound : Sound a) (id : TableId GuestTaskKey) (live : 0 < call_number s.tags id) where
   number_is : number_of call_key a.table id.rep id.serial ≡ call_number s.tags id
-  number_is = sym (call_shown a.table id) ∙ ap (λ (s : Shown). call_number s.tags id) is
+  number_is = sym (call_shown a.table id) ∙ ap (λ (s : StateView). call_number s.tags id) is
 
   one : (g : GuestTask) × (item_at task_in a.table id.rep id.serial ≡ Ok g)
   one = call_found a.table id (subst (λ n. 0 < n) (sym number_is) live)
@@ -208,10 +208,10 @@ module _ (a : Parts) (s : Shown) (is : image a ≡ s) (sound : Sound a) (id : Ta
         omega arith)
 
     none_here : get (core_of a).threads g.number ≡ None
-    none_here = subst (λ (s : Shown). get s.core.threads g.number ≡ None) (sym is) (ap (get s.core.threads) number ∙ none)
+    none_here = subst (λ (s : StateView). get s.core.threads g.number ≡ None) (sym is) (ap (get s.core.threads) number ∙ none)
 
     out_here : count_by (is_entry_of g.number) (core_of a).queues.high ≡ 0
-    out_here = subst (λ (s : Shown). count_by (is_entry_of g.number) s.core.queues.high ≡ 0) (sym is) (ap (λ n. count_by (is_entry_of n) s.core.queues.high) number ∙ out)
+    out_here = subst (λ (s : StateView). count_by (is_entry_of g.number) s.core.queues.high ≡ 0) (sym is) (ap (λ n. count_by (is_entry_of n) s.core.queues.high) number ∙ out)
 
     kept : {X : Type 0} (key : Entry → Option (ℕ × X)) (n : ℕ) → number_in (key (entries.Task g)) ≡ n → (r q : ℕ) → 0 < number_of key a.table r q → number_of key a.table r q ≢ n → number_of key t r q ≡ number_of key a.table r q
     kept key n same r q live_r other = number_of-deleted_apart key a.table id.rep r q (λ equal. other (equal ∙ ap (λ o. number_in (key_in key o)) there.1 ∙ ap (λ e. number_in (key e)) is_task ∙ same))
@@ -251,19 +251,19 @@ module _ (a : Parts) (s : Shown) (is : image a ≡ s) (sound : Sound a) (id : Ta
     }
 
     pub call_gone : core_of (record a { table = v; groups = es }) ≡ remove_call (call_number s.tags id) s.core
-    call_gone = core_gone ∙ ap (λ n. remove_call n (core_of a)) number ∙ ap (λ (u : Shown). remove_call (call_number s.tags id) u.core) is
+    call_gone = core_gone ∙ ap (λ n. remove_call n (core_of a)) number ∙ ap (λ (u : StateView). remove_call (call_number s.tags id) u.core) is
 
     pub call_gone_tags : KeepsTagsBut 0 (call_number s.tags id) s.tags (map tag_of v.places)
-    call_gone_tags = subst (λ (u : Shown). KeepsTagsBut 0 (call_number s.tags id) u.tags (map tag_of v.places)) is (rw gone (record {
+    call_gone_tags = subst (λ (u : StateView). KeepsTagsBut 0 (call_number s.tags id) u.tags (map tag_of v.places)) is (rw gone (record {
       threads = λ i live_i other. thread_shown t i ∙ kept_none thread_key refl i.rep i.serial (subst (λ n. 0 < n) (thread_shown a.table i) live_i) ∙ sym (thread_shown a.table i);
       calls = λ i live_i other. call_shown t i ∙ kept call_key g.number refl i.rep i.serial (subst (λ n. 0 < n) (call_shown a.table i) live_i) (λ same. other (call_shown a.table i ∙ same ∙ number)) ∙ sym (call_shown a.table i);
     }))
 
 -- ---- A thread
 
-module _ (a : Parts) (s : Shown) (is : image a ≡ s) (sound : Sound a) (id : TableId ThreadKey) (live : 0 < thread_number s.tags id) where
+module _ (a : Parts) (s : StateView) (is : image a ≡ s) (sound : Sound a) (id : TableId ThreadKey) (live : 0 < thread_number s.tags id) where
   thread_number_is : number_of thread_key a.table id.rep id.serial ≡ thread_number s.tags id
-  thread_number_is = sym (thread_shown a.table id) ∙ ap (λ (s : Shown). thread_number s.tags id) is
+  thread_number_is = sym (thread_shown a.table id) ∙ ap (λ (s : StateView). thread_number s.tags id) is
 
   the_one : (h : GuestThread) × (item_at thread_in a.table id.rep id.serial ≡ Ok h)
   the_one = thread_found a.table id (subst (λ n. 0 < n) (sym thread_number_is) live)
@@ -368,7 +368,7 @@ module _ (a : Parts) (s : Shown) (is : image a ≡ s) (sound : Sound a) (id : Ta
       kept_all key zero same r q live_r = kept_2 key zero 0 same r q live_r (λ equal. omega arith)
 
       out_thread : count_by (is_entry_of h.number) (core_of a).queues.high ≡ 0
-      out_thread = subst (λ (s : Shown). count_by (is_entry_of h.number) s.core.queues.high ≡ 0) (sym is) (ap (λ n. count_by (is_entry_of n) s.core.queues.high) thread_number_of ∙ out)
+      out_thread = subst (λ (s : StateView). count_by (is_entry_of h.number) s.core.queues.high ≡ 0) (sym is) (ap (λ n. count_by (is_entry_of n) s.core.queues.high) thread_number_of ∙ out)
 
       core_left : core_of (record a { table = v }) ≡ remove_thread h.number (core_of a)
       unfolding remove_thread
@@ -409,10 +409,10 @@ module _ (a : Parts) (s : Shown) (is : image a ≡ s) (sound : Sound a) (id : Ta
       }
 
       pub thread_gone : core_of (record a { table = v }) ≡ remove_thread (thread_number s.tags id) s.core
-      thread_gone = core_left ∙ ap (λ n. remove_thread n (core_of a)) thread_number_of ∙ ap (λ (u : Shown). remove_thread (thread_number s.tags id) u.core) is
+      thread_gone = core_left ∙ ap (λ n. remove_thread n (core_of a)) thread_number_of ∙ ap (λ (u : StateView). remove_thread (thread_number s.tags id) u.core) is
 
       pub thread_gone_tags : KeepsTagsBut (thread_number s.tags id) 0 s.tags (map tag_of v.places)
-      thread_gone_tags = subst (λ (u : Shown). KeepsTagsBut (thread_number s.tags id) 0 u.tags (map tag_of v.places)) is (rw gone_2 (record {
+      thread_gone_tags = subst (λ (u : StateView). KeepsTagsBut (thread_number s.tags id) 0 u.tags (map tag_of v.places)) is (rw gone_2 (record {
         threads = λ i live_i other. thread_shown t2 i ∙ kept_2 thread_key (ap number_in no_thread_2) h.number refl i.rep i.serial (subst (λ n. 0 < n) (thread_shown a.table i) live_i) (λ same. other (thread_shown a.table i ∙ same ∙ thread_number_of)) ∙ sym (thread_shown a.table i);
         calls = λ i live_i other. call_shown t2 i ∙ kept_all call_key (ap number_in no_call_2) refl i.rep i.serial (subst (λ n. 0 < n) (call_shown a.table i) live_i) ∙ sym (call_shown a.table i);
       }))

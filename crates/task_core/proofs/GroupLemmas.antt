@@ -29,7 +29,7 @@ use Rattle.task_core.specs.declared.entry.TaskGroup.{TaskGroup}
 use Rattle.task_core.specs.Entries.{group_in, call_key, thread_key, callers_key, set_key, group_key}
 use Rattle.task_core.specs.Groups.{AreCounted, calls_of, live_group}
 use Rattle.task_core.specs.Image.{Parts, core_of, image, tag_of, numbers}
-use Rattle.task_core.specs.Shown.{Tag, Shown, KeepsTags, IsClearing, without_groups}
+use Rattle.task_core.specs.StateView.{Tag, StateView, KeepsTags, IsClearing, without_groups}
 use Rattle.task_core.specs.Simple.{IsSimple}
 use Rattle.task_core.specs.Sound.{Sound, SoundTable, HaveSets, AreQueued, AreGroups, AreAbove, AreRising}
 use Rattle.task_core.proofs.CountLemmas.{counted_left, none_left}
@@ -121,7 +121,7 @@ unfolding remove_group
 counted_less_group s g es counted = counted
 
 -- where there is no such group, nothing is changed
-module _ (a : Parts) (s : Shown) (is : image a ≡ s) (sound : Sound a) (g : ℕ) (es : List (ℕ × LiveGroup)) (left_is : es ≡ remove_entry (is_at (nat_cmp g)) a.groups) where
+module _ (a : Parts) (s : StateView) (is : image a ≡ s) (sound : Sound a) (g : ℕ) (es : List (ℕ × LiveGroup)) (left_is : es ≡ remove_entry (is_at (nat_cmp g)) a.groups) where
   groups_of : numbers es ≡ filter (λ h. not (g == h)) (numbers a.groups)
   groups_of = ap numbers left_is ∙ left_numbers g a.groups sound.rising
 
@@ -130,10 +130,10 @@ module _ (a : Parts) (s : Shown) (is : image a ≡ s) (sound : Sound a) (g : ℕ
 
   pub none_gone : core_of (record a { groups = es }) ≡ remove_group g s.core
   unfolding remove_group
-  none_gone = subst (λ (s : Shown). core_of (record a { groups = es }) ≡ remove_group g s.core) is (rw groups_of refl)
+  none_gone = subst (λ (s : StateView). core_of (record a { groups = es }) ≡ remove_group g s.core) is (rw groups_of refl)
 
   pub none_tags : KeepsTags s.tags (map tag_of a.table.places)
-  none_tags = subst (λ (s : Shown). KeepsTags s.tags (map tag_of a.table.places)) is (record { threads = λ i live. refl; calls = λ i live. refl })
+  none_tags = subst (λ (s : StateView). KeepsTags s.tags (map tag_of a.table.places)) is (record { threads = λ i live. refl; calls = λ i live. refl })
 
   module _ (group : LiveGroup) (found : lookup (is_at (nat_cmp g)) a.groups ≡ Some group) (fewer : length es + 1 ≡ length a.groups) (result : Result TaskGroup ResourceTableError) (v : Table Entry) (answer : result ≡ deletion group_in a.table group.id.rep group.id.serial) (ok : OnOk result (v ≡ deleted group.id.rep a.table)) (after : IsTable v) where
     here : (number_of group_key a.table group.id.rep group.id.serial ≡ g) × (0 < g)
@@ -216,21 +216,21 @@ module _ (a : Parts) (s : Shown) (is : image a ≡ s) (sound : Sound a) (g : ℕ
     }
 
     pub group_gone : core_of (record a { table = v; groups = es }) ≡ remove_group g s.core
-    group_gone = core_gone ∙ ap (λ (s : Shown). remove_group g s.core) is
+    group_gone = core_gone ∙ ap (λ (s : StateView). remove_group g s.core) is
 
     pub group_gone_tags : KeepsTags s.tags (map tag_of v.places)
-    group_gone_tags = subst (λ (s : Shown). KeepsTags s.tags (map tag_of v.places)) is (rw gone (tags_keep a.table t (kept thread_key refl) (kept call_key refl)))
+    group_gone_tags = subst (λ (s : StateView). KeepsTags s.tags (map tag_of v.places)) is (rw gone (tags_keep a.table t (kept thread_key refl) (kept call_key refl)))
 
 -- ---- A group is settled
 
-module _ (a : Parts) (s : Shown) (is : image a ≡ s) (sound : Sound a) (g : ℕ) where
+module _ (a : Parts) (s : StateView) (is : image a ≡ s) (sound : Sound a) (g : ℕ) where
   done_is : is_group_done g (core_of a) ≡ (calls_of g (core_of a).calls == 0)
   done_is = group_done_counted g (core_of a) sound.simple.works
 
   -- a group that is there is done where its count is 0
   pub settled_there : (r : LiveGroup) → live_group g a.groups ≡ Some r → group_settled g s.core ≡ (if r.calls == 0 then remove_group g s.core else s.core)
   unfolding group_settled
-  settled_there r at = subst (λ (s : Shown). group_settled g s.core ≡ (if r.calls == 0 then remove_group g s.core else s.core)) is
+  settled_there r at = subst (λ (s : StateView). group_settled g s.core ≡ (if r.calls == 0 then remove_group g s.core else s.core)) is
       (ap (λ b. if b then remove_group g (core_of a) else core_of a) (done_is ∙ sym (ap (λ n. n == 0) (sound.counted.count g r at))))
 
   same_either : (b : Bool) → remove_group g (core_of a) ≡ core_of a → (if b then remove_group g (core_of a) else core_of a) ≡ core_of a
@@ -240,7 +240,7 @@ module _ (a : Parts) (s : Shown) (is : image a ≡ s) (sound : Sound a) (g : ℕ
   -- and one that isn't there isn't changed
   pub settled_none : live_group g a.groups ≡ None → group_settled g s.core ≡ s.core
   unfolding group_settled remove_group
-  settled_none none = subst (λ (s : Shown). group_settled g s.core ≡ s.core) is (same_either (is_group_done g (core_of a)) (rw (none_left g a.groups none) refl))
+  settled_none none = subst (λ (s : StateView). group_settled g s.core ≡ s.core) is (same_either (is_group_done g (core_of a)) (rw (none_left g a.groups none) refl))
 
 -- ---- All groups are finished
 
@@ -254,7 +254,7 @@ without_less : (g : ℕ) (s : Core) → without_groups (remove_group g s) ≡ wi
 unfolding remove_group
 without_less g s = refl
 
-pub clears : (old s t : Shown) (g : ℕ) → IsClearing old s → t.core ≡ remove_group g s.core → KeepsTags s.tags t.tags → t.current ≡ s.current → IsClearing old t
+pub clears : (old s t : StateView) (g : ℕ) → IsClearing old s → t.core ≡ remove_group g s.core → KeepsTags s.tags t.tags → t.current ≡ s.current → IsClearing old t
 clears old s t g so_far core tags current = record {
   core = ap without_groups core ∙ without_less g s.core ∙ so_far.core;
   tags = KeepsTags-trans old.tags s.tags t.tags so_far.tags tags;
@@ -276,10 +276,10 @@ fewer_groups g (e ∷ es) x is =
     ap (λ b. length (cond (not b) (e.0 ∷ filter (λ h. not (g == h)) (numbers es)) (filter (λ h. not (g == h)) (numbers es)))) (eq-eqb g e.0 (sym same)) in
     omega arith
 
-pub fewer : (a : Parts) (s t : Shown) (g : ℕ) (x : LiveGroup) → image a ≡ s → slice_get a.groups 0 ≡ Some (g, x) → t.core ≡ remove_group g s.core → length t.core.groups < length s.core.groups
+pub fewer : (a : Parts) (s t : StateView) (g : ℕ) (x : LiveGroup) → image a ≡ s → slice_get a.groups 0 ≡ Some (g, x) → t.core ≡ remove_group g s.core → length t.core.groups < length s.core.groups
 unfolding remove_group
 fewer a s t g x is first core =
-    subst (λ (c : Core). length c.groups < length s.core.groups) (sym core) (subst (λ (s : Shown). length (filter (λ h. not (g == h)) s.core.groups) < length s.core.groups) is (fewer_groups g a.groups x first))
+    subst (λ (c : Core). length c.groups < length s.core.groups) (sym core) (subst (λ (s : StateView). length (filter (λ h. not (g == h)) s.core.groups) < length s.core.groups) is (fewer_groups g a.groups x first))
 
 -- the flag alone
 pub trapped_soundly : (a : Parts) → Sound a → Sound (record a { trapped = true })

@@ -21,7 +21,7 @@ use Rattle.task_simple.proofs.RecordLemmas.{sum-insert_old}
 use Rattle.task_core.specs.declared.instance.InstanceRecord.{InstanceRecord}
 use Rattle.task_core.specs.Image.{Parts, core_of, image}
 use Rattle.task_core.specs.Instances.{by_place, records_by, handle_table, named_of, thread_of}
-use Rattle.task_core.specs.Shown.{Shown, with_core}
+use Rattle.task_core.specs.StateView.{StateView, with_core}
 use Rattle.task_core.specs.Sound.{Sound}
 use Rattle.task_core.proofs.HandleLemmas.{get-records_by, size-records_by, records_by-insert, records_by-remove}
 use Rattle.task_core.proofs.InstanceLemmas.{get-by_place, by_place-set}
@@ -92,7 +92,7 @@ module _ (a : Parts) (i : ℕ) (x : InstanceRecord) (at : slice_get a.instances 
     put_sound live sound = sound_instances a put c live (λ j r is. sound.simple.suspends j r (ap (λ ys. get (by_place ys) j) (sym same_instances) ∙ is)) sound
 
 -- Of a state that contracts see as s.
-module _ (a : Parts) (s : Shown) (is : image a ≡ s) (sound : Sound a) (i : ℕ) (some : IsSome (get s.core.instances i)) (x : InstanceRecord) (read : x ≡ get_or a.instances i x) where
+module _ (a : Parts) (s : StateView) (is : image a ≡ s) (sound : Sound a) (i : ℕ) (some : IsSome (get s.core.instances i)) (x : InstanceRecord) (read : x ≡ get_or a.instances i x) where
   at : slice_get a.instances i ≡ Some x
   at = read_at a.instances i x (instance_within a s is sound i some) read
 
@@ -131,18 +131,18 @@ module _ (a : Parts) (s : Shown) (is : image a ≡ s) (sound : Sound a) (i : ℕ
         put_sound a i x at new c (ap (λ (k : Counter). k.limit) inserts.counter) (four ∙ sym (ap live_count given_core)) sound
 
     pub gives : image (record a { instances = set a.instances i (record x { thread_handles = new }); counter = c }) ≡ with_core (give_thread_handle i rep.serial s.core) s
-    gives = subst (λ (s : Shown). image (record a { instances = set a.instances i (record x { thread_handles = new }); counter = c }) ≡ with_core (give_thread_handle i rep.serial s.core) s) is (rw given_core refl)
+    gives = subst (λ (s : StateView). image (record a { instances = set a.instances i (record x { thread_handles = new }); counter = c }) ≡ with_core (give_thread_handle i rep.serial s.core) s) is (rw given_core refl)
 
     pub gives_handle : handle ≡ new_thread_handle i s.core
     unfolding new_thread_handle
     gives_handle =
-        subst (λ (s : Shown). handle ≡ option_map_or (λ (u : Table ℕ). next_handle u u.freed) (get s.core.thread_handles i) 1) is (
+        subst (λ (s : StateView). handle ≡ option_map_or (λ (u : Table ℕ). next_handle u u.freed) (get s.core.thread_handles i) 1) is (
         inserts.handle_is ∙ next_same x.thread_handles inserts.whole ∙ sym (ap (λ o. option_map_or (λ (u : Table ℕ). next_handle u u.freed) o 1) (table_at a i x at))
         )
 
   module _ (h : ℕ) (live : IsSome (thread_at i h s.core)) where
     live_here : IsSome (get t.live h)
-    live_here = subst (λ o. IsSome o) (ap (λ (s : Shown). thread_at i h s.core) (sym is) ∙ ap (option_and_then (λ (u : Table ℕ). get u.live h)) (table_at a i x at)) live
+    live_here = subst (λ o. IsSome o) (ap (λ (s : StateView). thread_at i h s.core) (sym is) ∙ ap (option_and_then (λ (u : Table ℕ). get u.live h)) (table_at a i x at)) live
 
     held : (r : Rep) × (held_by x.thread_handles h ≡ Some r)
     held = mapped_some (held_by x.thread_handles h) (subst (λ o. IsSome o) (get-records_by thread_of x.thread_handles.live h) live_here)
@@ -178,4 +178,4 @@ module _ (a : Parts) (s : Shown) (is : image a ≡ s) (sound : Sound a) (i : ℕ
           put_sound a i x at new c (ap (λ (k : Counter). k.limit) removes.counter) (four ∙ sym (ap live_count freed_core)) sound
 
       pub frees : image (record a { instances = set a.instances i (record x { thread_handles = new }); counter = c }) ≡ with_core (free_thread_handle i h s.core) s
-      frees = subst (λ (s : Shown). image (record a { instances = set a.instances i (record x { thread_handles = new }); counter = c }) ≡ with_core (free_thread_handle i h s.core) s) is (rw freed_core refl)
+      frees = subst (λ (s : StateView). image (record a { instances = set a.instances i (record x { thread_handles = new }); counter = c }) ≡ with_core (free_thread_handle i h s.core) s) is (rw freed_core refl)

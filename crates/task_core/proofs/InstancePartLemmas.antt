@@ -18,7 +18,7 @@ use Rattle.task_handles.specs.Counter.{Counter}
 use Rattle.task_core.specs.declared.instance.InstanceRecord.{InstanceRecord}
 use Rattle.task_core.specs.Image.{Parts, core_of, image}
 use Rattle.task_core.specs.Instances.{handle_table, named_of, thread_of}
-use Rattle.task_core.specs.Shown.{Shown, with_core}
+use Rattle.task_core.specs.StateView.{StateView, with_core}
 use Rattle.task_core.specs.Sound.{Sound}
 use Rattle.task_core.proofs.CoreLemmas.{inserted}
 use Rattle.task_core.proofs.InstanceLemmas.{get-by_place, by_place-set}
@@ -91,16 +91,16 @@ module _ (a : Parts) (i : ℕ) where
           ]) sound
 
 -- Of a state that contracts see as s.
-module _ (a : Parts) (s : Shown) (is : image a ≡ s) (sound : Sound a) (i : ℕ) (some : IsSome (get s.core.instances i)) where
+module _ (a : Parts) (s : StateView) (is : image a ≡ s) (sound : Sound a) (i : ℕ) (some : IsSome (get s.core.instances i)) where
   pub instance_within : i < length a.instances
-  instance_within = instance_there a i (subst (λ (s : Shown). IsSome (get s.core.instances i)) (sym is) some)
+  instance_within = instance_there a i (subst (λ (s : StateView). IsSome (get s.core.instances i)) (sym is) some)
 
   module _ (x : InstanceRecord) (read : x ≡ get_or a.instances i x) where
     at : slice_get a.instances i ≡ Some x
     at = read_at a.instances i x instance_within read
 
     pub reads_instance : get s.core.instances i ≡ Some x.instance
-    reads_instance = ap (λ (s : Shown). get s.core.instances i) (sym is) ∙ instance_is a i x at
+    reads_instance = ap (λ (s : StateView). get s.core.instances i) (sym is) ∙ instance_is a i x at
 
     pub reads_suspends : x.instance.do_not_suspend ≡ false
     reads_suspends = sound.simple.suspends i x.instance (instance_is a i x at)
@@ -109,7 +109,7 @@ module _ (a : Parts) (s : Shown) (is : image a ≡ s) (sound : Sound a) (i : ℕ
     puts_instance_soundly r suspends = instance_sound a i x at r suspends sound
 
     pub puts_instance : (r : Instance) → image (record a { instances = set a.instances i (record x { instance = r }) }) ≡ with_core (put_instance i r s.core) s
-    puts_instance r = subst (λ (s : Shown). image (record a { instances = set a.instances i (record x { instance = r }) }) ≡ with_core (put_instance i r s.core) s) is (rw (instance_core a i x at r) refl)
+    puts_instance r = subst (λ (s : StateView). image (record a { instances = set a.instances i (record x { instance = r }) }) ≡ with_core (put_instance i r s.core) s) is (rw (instance_core a i x at r) refl)
 
 -- ---- Moves
 

@@ -10,7 +10,7 @@ use Rattle.task_machine.proofs.SizeLemmas.{size-empty, size-insert_new}
 use Rattle.task_rules.specs.Calls.{call_made}
 use Rattle.task_rules.specs.MainOps.{main_started}
 use Rattle.task_rules.specs.Scripts.{export_kind, registers_for}
-use Rattle.task_core.specs.Shown.{with_instance}
+use Rattle.task_core.specs.StateView.{with_instance}
 use Rattle.task_core.specs.Start.{main_call_started}
 
 -- a start by main is what its row says

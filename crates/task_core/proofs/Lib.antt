@@ -9,7 +9,6 @@ pub mod PartLemmas
 pub mod InstanceLemmas
 pub mod InstancePartLemmas
 pub mod LiveLemmas
-pub mod TestLemmas
 pub mod HandleLemmas
 pub mod LimitLemmas
 pub mod TableChangeLemmas

@@ -17,7 +17,7 @@ use Rattle.task_core.specs.declared.entry.Entry.{Entry}
 use Rattle.task_core.specs.declared.instance.InstanceRecord.{InstanceRecord}
 use Rattle.task_core.specs.Image.{Parts, IsTableOf, core_of, image}
 use Rattle.task_core.specs.Instances.{by_place, handle_table, named_of, thread_of}
-use Rattle.task_core.specs.Shown.{Shown, with_core, with_instance, with_capacity}
+use Rattle.task_core.specs.StateView.{StateView, with_core, with_instance, with_capacity}
 use Rattle.task_core.specs.Sound.{Sound, SoundTable}
 use Rattle.task_table.proofs.NumberLemmas.{number_of-with_capacity}
 use Rattle.task_core.specs.Entries.{thread_key, call_key, set_key, group_key}
@@ -35,26 +35,26 @@ room_test n taken capacity len used most = grind (arith, nat_tests)
 no_room_test : (n taken capacity : ℕ) → capacity < n → nat_le n capacity ≡ nat_le (taken + n) capacity
 no_room_test n taken capacity more = grind (arith, nat_tests)
 
-module _ (a : Parts) (s : Shown) (is : image a ≡ s) (sound : Sound a) where
+module _ (a : Parts) (s : StateView) (is : image a ≡ s) (sound : Sound a) where
   pub has_room : (n : ℕ) → n ≤ a.table.capacity → nat_le (table_len a.table) (a.table.capacity - n) ≡ fits n s.core
   unfolding fits
-  has_room n most = room_test n (table_use (core_of a)) a.table.capacity (table_len a.table) sound.used most ∙ ap (λ (s : Shown). nat_le (table_use s.core + n) s.core.capacity) is
+  has_room n most = room_test n (table_use (core_of a)) a.table.capacity (table_len a.table) sound.used most ∙ ap (λ (s : StateView). nat_le (table_use s.core + n) s.core.capacity) is
 
   pub has_no_room : (n : ℕ) → a.table.capacity < n → nat_le n a.table.capacity ≡ fits n s.core
   unfolding fits
-  has_no_room n more = no_room_test n (table_use (core_of a)) a.table.capacity more ∙ ap (λ (s : Shown). nat_le (table_use s.core + n) s.core.capacity) is
+  has_no_room n more = no_room_test n (table_use (core_of a)) a.table.capacity more ∙ ap (λ (s : StateView). nat_le (table_use s.core + n) s.core.capacity) is
 
   pub at_limit : nat_le a.counter.limit a.counter.live ≡ at_handle_limit s.core
   unfolding at_handle_limit
-  at_limit = ap (nat_le a.counter.limit) sound.live ∙ ap (λ (s : Shown). nat_le s.core.handle_limit (live_count s.core)) is
+  at_limit = ap (nat_le a.counter.limit) sound.live ∙ ap (λ (s : StateView). nat_le s.core.handle_limit (live_count s.core)) is
 
   pub limits_soundly : (c : Counter) → c.live ≡ a.counter.live → Sound (record a { counter = c })
   unfolding live_count
   limits_soundly c live = sound_instances a a.instances c (live ∙ sound.live) (λ i r at. sound.simple.suspends i r at) sound
 
 -- the table itself
-pub table_is : (a : Parts) (s : Shown) → image a ≡ s → Sound a → IsTableOf s.core a.table
-table_is a s is sound = subst (λ (s : Shown). IsTableOf s.core a.table) is (record { used = sound.used; capacity = refl; calls = refl; threads = refl })
+pub table_is : (a : Parts) (s : StateView) → image a ≡ s → Sound a → IsTableOf s.core a.table
+table_is a s is sound = subst (λ (s : StateView). IsTableOf s.core a.table) is (record { used = sound.used; capacity = refl; calls = refl; threads = refl })
 
 -- ---- One instance more
 
@@ -101,21 +101,21 @@ module _ (a : Parts) where
     | inr old ↦ sound.simple.suspends i r old
   ]
 
-module _ (a : Parts) (s : Shown) (is : image a ≡ s) (sound : Sound a) (xs : List InstanceRecord) (pushed : xs ≡ instances_more a) where
+module _ (a : Parts) (s : StateView) (is : image a ≡ s) (sound : Sound a) (xs : List InstanceRecord) (pushed : xs ≡ instances_more a) where
   pub makes_soundly : Sound (record a { instances = xs })
   makes_soundly = subst (λ (ys : List InstanceRecord). Sound (record a { instances = ys })) (sym pushed) (
       sound_instances a (instances_more a) a.counter (sound.live ∙ sym (ap live_count (more_core a) ∙ live_more a))
       (λ i r at. suspends_more a sound i r (ap (λ (s : Core). get s.instances i) (sym (more_core a)) ∙ at)) sound)
 
   pub makes : image (record a { instances = xs }) ≡ with_core (with_instance s.core) s
-  makes = subst (λ (s : Shown). image (record a { instances = xs }) ≡ with_core (with_instance s.core) s) is (rw (pushed, more_core a) refl)
+  makes = subst (λ (s : StateView). image (record a { instances = xs }) ≡ with_core (with_instance s.core) s) is (rw (pushed, more_core a) refl)
 
-pub counts_instances : (a : Parts) (s : Shown) → image a ≡ s → length a.instances ≡ size s.core.instances
-counts_instances a s is = instance_count a ∙ ap (λ (s : Shown). size s.core.instances) is
+pub counts_instances : (a : Parts) (s : StateView) → image a ≡ s → length a.instances ≡ size s.core.instances
+counts_instances a s is = instance_count a ∙ ap (λ (s : StateView). size s.core.instances) is
 
 -- ---- The capacity
 
-module _ (a : Parts) (s : Shown) (is : image a ≡ s) (sound : Sound a) (n : ℕ) (most : n ≤ 4294967295) where
+module _ (a : Parts) (s : StateView) (is : image a ≡ s) (sound : Sound a) (n : ℕ) (most : n ≤ 4294967295) where
   capacity_table : SoundTable (table_with_capacity n a.table) a.made.threads
   unfolding table_with_capacity
   capacity_table = record {
@@ -152,12 +152,12 @@ module _ (a : Parts) (s : Shown) (is : image a ≡ s) (sound : Sound a) (n : ℕ
 
     pub capacity_is : image (record a { table = t }) ≡ with_core (with_capacity n s.core) s
     unfolding table_with_capacity
-    capacity_is = subst (λ (s : Shown). image (record a { table = t }) ≡ with_core (with_capacity n s.core) s) is (rw with refl)
+    capacity_is = subst (λ (s : StateView). image (record a { table = t }) ≡ with_core (with_capacity n s.core) s) is (rw with refl)
 
 -- nothing stands past the instances
-pub none_yet : (a : Parts) (s : Shown) → image a ≡ s → (n : ℕ) → n ≡ length a.instances → get s.core.instances n ≡ None
+pub none_yet : (a : Parts) (s : StateView) → image a ≡ s → (n : ℕ) → n ≡ length a.instances → get s.core.instances n ≡ None
 none_yet a s is n past =
-    ap (λ (s : Shown). get s.core.instances n) (sym is)
+    ap (λ (s : StateView). get s.core.instances n) (sym is)
     ∙ get-by_place n (map (λ (i : InstanceRecord). i.instance) a.instances)
     ∙ slice_get-map (λ (i : InstanceRecord). i.instance) a.instances n
     ∙ ap (option_map (λ (i : InstanceRecord). i.instance)) (slice_get_past a.instances n (omega (arith, past)))

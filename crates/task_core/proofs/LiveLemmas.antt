@@ -11,7 +11,7 @@ use Rattle.task_core.specs.declared.entry.GuestThread.{GuestThread}
 use Rattle.task_core.specs.declared.entry.QualifiedThreadId.{QualifiedThreadId}
 use Rattle.task_core.specs.Entries.{task_in, thread_in}
 use Rattle.task_core.specs.Image.{Parts, image}
-use Rattle.task_core.specs.Shown.{Shown, IsLive, thread_number, call_number}
+use Rattle.task_core.specs.StateView.{StateView, IsLive, thread_number, call_number}
 use Rattle.task_core.specs.Sound.{Sound}
 use Rattle.task_core.proofs.StateLemmas.{thread_there, call_there, reads_number, reads_call_number, thread_reads}
 
@@ -25,7 +25,7 @@ same_test m n same = grind (arith, nat_tests)
 pub never : {P : Type 0} → (P → ⊥) → IsTrue false ↔ P
 never none = ((λ is. absurd (false≢true is)), (λ holds. absurd (none holds)))
 
-module _ (a : Parts) (s : Shown) (is : image a ≡ s) (sound : Sound a) (id : QualifiedThreadId) where
+module _ (a : Parts) (s : StateView) (is : image a ≡ s) (sound : Sound a) (id : QualifiedThreadId) where
   -- the call has the thread's number
   one_number : IsLive s id → call_number s.tags id.task ≡ thread_number s.tags id.thread
   one_number live = live.task ∙ thread_reads a s is sound id.thread live.live

@@ -12,7 +12,7 @@ use Rattle.task_core.specs.declared.entry.LiveGroup.{LiveGroup}
 use Rattle.task_core.specs.Entries.{call_key, thread_key, callers_key}
 use Rattle.task_core.specs.Image.{Parts, image, core_of}
 use Rattle.task_core.specs.Instances.{by_place_from}
-use Rattle.task_core.specs.Shown.{nothing}
+use Rattle.task_core.specs.StateView.{nothing}
 use Rattle.task_core.specs.Simple.{IsSimple}
 use Rattle.task_core.specs.Sound.{Sound, SoundTable}
 

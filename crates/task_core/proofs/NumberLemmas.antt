@@ -14,12 +14,12 @@ use Rattle.task_core.specs.declared.entry.Entry.{Entry}
 use Rattle.task_core.specs.declared.entry.Entry.TheVariants as entries
 use Rattle.task_core.specs.declared.entry.GuestTask.{GuestTask}
 use Rattle.task_core.specs.declared.entry.GuestThread.{GuestThread}
-use Rattle.task_core.specs.declared.entry.GuestTaskKey.{GuestTaskKey}
-use Rattle.task_core.specs.declared.entry.ThreadKey.{ThreadKey}
+use Rattle.task_wait.specs.declared.keys.GuestTaskKey.{GuestTaskKey}
+use Rattle.task_wait.specs.declared.keys.ThreadKey.{ThreadKey}
 use Rattle.task_core.specs.Entries.{task_in, thread_in, call_key, thread_key}
 use Rattle.task_core.specs.EntryLaws.{no_other_task, no_other_thread}
 use Rattle.task_core.specs.Image.{tag_of}
-use Rattle.task_core.specs.Shown.{Tag, named, thread_number, call_number}
+use Rattle.task_core.specs.StateView.{Tag, named, thread_number, call_number}
 
 pub absent : {X Y : Type 0} (x : X) → ◌≡◌ {A = Option X} None (Some x) → Y
 absent x e = absurd (cc)

@@ -22,7 +22,7 @@ use Rattle.task_core.specs.declared.instance.Queued.{Queued}
 use Rattle.task_core.specs.Entries.{thread_key, call_key}
 use Rattle.task_core.specs.Image.{Parts, image}
 use Rattle.task_core.specs.Queue.{IsNext, TakesNext}
-use Rattle.task_core.specs.Shown.{Shown, IsLive, with_core, thread_number, call_number}
+use Rattle.task_core.specs.StateView.{StateView, IsLive, with_core, thread_number, call_number}
 use Rattle.task_core.specs.Sound.{Sound, AreQueued}
 use Rattle.task_core.proofs.NumberLemmas.{thread_shown, call_shown}
 use Rattle.task_core.proofs.StateLemmas.{thread_reads}
@@ -46,14 +46,14 @@ pub AreQueued-push : (t : Table Entry) (qs : List Queued) (q : Queued) → AreQu
 AreQueued-push t [] q queued new = new
 AreQueued-push t (p ∷ qs) q queued new = (queued.0, queued.1, queued.2, AreQueued-push t qs q queued.3 new)
 
-module _ (a : Parts) (s : Shown) (is : image a ≡ s) (sound : Sound a) where
+module _ (a : Parts) (s : StateView) (is : image a ≡ s) (sound : Sound a) where
   -- a live thread may be queued
   pub queues : (id : QualifiedThreadId) (n : ℕ) → n ≡ thread_number s.tags id.thread → IsLive s id → AreQueued a.table (record { id = id; number = n } ∷ [])
   queues id n number live =
       let live_a : IsLive (image a) id = subst (λ s. IsLive s id) (sym is) live in
-      let thread : number_of thread_key a.table id.thread.rep id.thread.serial ≡ n = sym (thread_shown a.table id.thread) ∙ ap (λ (s : Shown). thread_number s.tags id.thread) is ∙ sym number in
+      let thread : number_of thread_key a.table id.thread.rep id.thread.serial ≡ n = sym (thread_shown a.table id.thread) ∙ ap (λ (s : StateView). thread_number s.tags id.thread) is ∙ sym number in
       let call : number_of call_key a.table id.task.rep id.task.serial ≡ n =
-      sym (call_shown a.table id.task) ∙ ap (λ (s : Shown). call_number s.tags id.task) is ∙ live.task
+      sym (call_shown a.table id.task) ∙ ap (λ (s : StateView). call_number s.tags id.task) is ∙ live.task
       ∙ thread_reads a s is sound id.thread live.live ∙ sym number in
       (thread, call, subst (λ m. 0 < m) (sym number) live.live, tt)
 
@@ -64,7 +64,7 @@ module _ (a : Parts) (s : Shown) (is : image a ≡ s) (sound : Sound a) where
     pub pushes : image (record a { high = qs }) ≡ with_core (push_high (mark_entry.Thread (thread_number s.tags id.thread)) s.core) s
     unfolding push_high
     pushes =
-        subst (λ (s : Shown). image (record a { high = qs }) ≡ with_core (push_high (mark_entry.Thread n) s.core) s) is (rw (pushed, map_push) refl)
+        subst (λ (s : StateView). image (record a { high = qs }) ≡ with_core (push_high (mark_entry.Thread n) s.core) s) is (rw (pushed, map_push) refl)
         ∙ ap (λ m. with_core (push_high (mark_entry.Thread m) s.core) s) number
 
   module _ (q : Queued) (qs : List Queued) (first : a.high ≡ q ∷ qs) where
@@ -85,11 +85,11 @@ module _ (a : Parts) (s : Shown) (is : image a ≡ s) (sound : Sound a) where
 
     pub next_is : IsNext s q.id
     unfolding next_entry
-    next_is = subst (λ (s : Shown). IsNext s q.id) is (record { next = rw (first, thread_shown a.table q.id.thread, all.0) refl; live = live_there })
+    next_is = subst (λ (s : StateView). IsNext s q.id) is (record { next = rw (first, thread_shown a.table q.id.thread, all.0) refl; live = live_there })
 
     pub takes : TakesNext s (mark.High, q.id) (image (record a { high = qs }))
     unfolding popped next_entry set_high
-    takes = subst (λ (s : Shown). TakesNext s (mark.High, q.id) (image (record a { high = qs }))) is (record {
+    takes = subst (λ (s : StateView). TakesNext s (mark.High, q.id) (image (record a { high = qs }))) is (record {
       next = rw (first, thread_shown a.table q.id.thread, all.0) refl;
       new_is = rw first refl;
       live = live_there;
@@ -104,12 +104,12 @@ module _ (a : Parts) (s : Shown) (is : image a ≡ s) (sound : Sound a) where
       by_high (p ∷ ps) is some at = subst (λ (p : Queued). IsNext s p.id) (sym at) (next_is p ps is)
 
 -- where nothing stands, nothing is taken
-pub none_taken : (a : Parts) (s : Shown) → image a ≡ s → (qs : List Queued) → a.high ≡ qs → length a.high ≡ 0 → image (record a { high = qs }) ≡ with_core (popped mark.High s.core) s
+pub none_taken : (a : Parts) (s : StateView) → image a ≡ s → (qs : List Queued) → a.high ≡ qs → length a.high ≡ 0 → image (record a { high = qs }) ≡ with_core (popped mark.High s.core) s
 unfolding popped set_high
 none_taken a s is qs same len = by_high a.high refl same len
   where
     by_high : (ps : List Queued) → a.high ≡ ps → ps ≡ qs → length ps ≡ 0 → image (record a { high = qs }) ≡ with_core (popped mark.High s.core) s
-    by_high [] none same len = subst (λ (s : Shown). image (record a { high = qs }) ≡ with_core (popped mark.High s.core) s) is (rw (none, sym same) refl)
+    by_high [] none same len = subst (λ (s : StateView). image (record a { high = qs }) ≡ with_core (popped mark.High s.core) s) is (rw (none, sym same) refl)
     by_high (p ∷ ps) some same len = absurd (omega arith)
 
 -- ---- Results
@@ -150,14 +150,14 @@ sound_results a fs sound = record {
   simple = record { threads = sound.simple.threads; tasks = sound.simple.tasks; calls = sound.simple.calls; made = sound.simple.made; works = sound.simple.works; suspends = sound.simple.suspends };
 }
 
-module _ (a : Parts) (s : Shown) (is : image a ≡ s) (n : ℕ) where
+module _ (a : Parts) (s : StateView) (is : image a ≡ s) (n : ℕ) where
   pub reads_result : lookup (is_at (nat_cmp n)) a.results ≡ get s.core.results n
-  reads_result = sym (get-results a.results n) ∙ ap (λ (s : Shown). get s.core.results n) is
+  reads_result = sym (get-results a.results n) ∙ ap (λ (s : StateView). get s.core.results n) is
 
   pub gives_result : (v : ℕ) (fs : List (ℕ × ℕ)) → ((q : ℕ) → lookup (is_at (nat_cmp q)) fs ≡ cond (is_at (nat_cmp n) q) (Some v) (lookup (is_at (nat_cmp q)) a.results)) → image (record a { results = fs }) ≡ with_core (give_result n v s.core) s
   unfolding give_result
-  gives_result v fs h = subst (λ (s : Shown). image (record a { results = fs }) ≡ with_core (give_result n v s.core) s) is (rw (result_given a.results fs n v h) refl)
+  gives_result v fs h = subst (λ (s : StateView). image (record a { results = fs }) ≡ with_core (give_result n v s.core) s) is (rw (result_given a.results fs n v h) refl)
 
   pub takes_result : (fs : List (ℕ × ℕ)) → ((q : ℕ) → lookup (is_at (nat_cmp q)) fs ≡ cond (is_at (nat_cmp n) q) None (lookup (is_at (nat_cmp q)) a.results)) → image (record a { results = fs }) ≡ with_core (take_result n s.core) s
   unfolding take_result
-  takes_result fs h = subst (λ (s : Shown). image (record a { results = fs }) ≡ with_core (take_result n s.core) s) is (rw (result_taken a.results fs n h) refl)
+  takes_result fs h = subst (λ (s : StateView). image (record a { results = fs }) ≡ with_core (take_result n s.core) s) is (rw (result_taken a.results fs n h) refl)

@@ -12,10 +12,10 @@ use Rattle.task_machine.specs.Write.{add_group, add_call, remove_thread, remove_
 use Rattle.task_machine.proofs.MapLemmas.{get-insert_other, get-remove_same, get-remove_other}
 use Rattle.task_core.specs.declared.entry.Entry.{Entry}
 use Rattle.task_core.specs.declared.entry.LiveGroup.{LiveGroup}
-use Rattle.task_core.specs.declared.entry.GuestTaskKey.{GuestTaskKey}
-use Rattle.task_core.specs.declared.entry.ThreadKey.{ThreadKey}
+use Rattle.task_wait.specs.declared.keys.GuestTaskKey.{GuestTaskKey}
+use Rattle.task_wait.specs.declared.keys.ThreadKey.{ThreadKey}
 use Rattle.task_core.specs.Image.{Parts, core_of, image, numbers}
-use Rattle.task_core.specs.Shown.{Tag, Shown, KeepsTags, KeepsTagsBut, thread_number, call_number}
+use Rattle.task_core.specs.StateView.{Tag, StateView, KeepsTags, KeepsTagsBut, thread_number, call_number}
 use Rattle.task_core.specs.Simple.{IsNewGroup}
 use Rattle.task_core.specs.Sound.{Sound, AreGroups}
 use Rattle.task_core.specs.Start.{IsFree, thread_counted, thread_uncounted, group_taken_back, put_new_thread}
@@ -60,21 +60,21 @@ free_called k q c s free = record { live = free.live; last = free.last; threads 
 
 -- ---- A thread and a call are taken out again
 
-module _ (k : ℕ) (old : Core) (s t : Shown) (id : TableId ThreadKey) (x : Thread) (same : t ≡ s) (core : s.core ≡ put_new_thread k x old) (names : thread_number s.tags id ≡ k) (free : IsFree k old) where
+module _ (k : ℕ) (old : Core) (s t : StateView) (id : TableId ThreadKey) (x : Thread) (same : t ≡ s) (core : s.core ≡ put_new_thread k x old) (names : thread_number s.tags id ≡ k) (free : IsFree k old) where
   pub out_still : count_by (is_entry_of (thread_number t.tags id)) t.core.queues.high ≡ 0
   unfolding put_new_thread
   out_still =
-      subst (λ (t : Shown). count_by (is_entry_of (thread_number t.tags id)) t.core.queues.high ≡ 0) (sym same)
+      subst (λ (t : StateView). count_by (is_entry_of (thread_number t.tags id)) t.core.queues.high ≡ 0) (sym same)
       (ap (λ n. count_by (is_entry_of n) s.core.queues.high) names ∙ ap (λ (c : Core). count_by (is_entry_of k) c.queues.high) core ∙ free.out)
 
   pub thread_taken_back : remove_thread (thread_number t.tags id) t.core ≡ old
   thread_taken_back =
-      subst (λ (t : Shown). remove_thread (thread_number t.tags id) t.core ≡ old) (sym same) (ap (λ n. remove_thread n s.core) names ∙ ap (remove_thread k) core ∙ thread_back k x old free.threads free.callers)
+      subst (λ (t : StateView). remove_thread (thread_number t.tags id) t.core ≡ old) (sym same) (ap (λ n. remove_thread n s.core) names ∙ ap (remove_thread k) core ∙ thread_back k x old free.threads free.callers)
 
 pub still_named : (k : ℕ) (a b : List (Option Tag)) (id : TableId GuestTaskKey) → 0 < k → call_number a id ≡ k → KeepsTagsBut k 0 a b → call_number b id ≡ k
 still_named k a b id live names keeps = keeps.calls id (subst (λ n. 0 < n) (sym names) live) (λ zero. omega arith) ∙ names
 
-pub call_taken_back : (k : ℕ) (x : Call) (old : Core) (s t : Shown) (id : TableId GuestTaskKey) → s.core ≡ add_call k x old → t.core ≡ s.core → call_number t.tags id ≡ k → get old.calls k ≡ None → remove_call (call_number t.tags id) t.core ≡ old
+pub call_taken_back : (k : ℕ) (x : Call) (old : Core) (s t : StateView) (id : TableId GuestTaskKey) → s.core ≡ add_call k x old → t.core ≡ s.core → call_number t.tags id ≡ k → get old.calls k ≡ None → remove_call (call_number t.tags id) t.core ≡ old
 call_taken_back k x old s t id added same named none = ap (λ n. remove_call n t.core) named ∙ ap (remove_call k) (same ∙ added) ∙ call_back k x old none
 
 -- ---- A group
@@ -103,9 +103,9 @@ groups_below t made g (e ∷ es) last others groups =
     (groups.0, groups.1, omega arith, groups_below t made g es last others.1 groups.3)
 
 -- The group g, made last, was taken out of the table, and its number is taken back.
-module _ (a : Parts) (s : Shown) (is : image a ≡ s) (sound : Sound a) (old : Core) (g : ℕ) (gone : s.core ≡ remove_group g old) (last : g ≡ old.made.groups) (live : 0 < g) (empty : IsNewGroup g old) where
+module _ (a : Parts) (s : StateView) (is : image a ≡ s) (sound : Sound a) (old : Core) (g : ℕ) (gone : s.core ≡ remove_group g old) (last : g ≡ old.made.groups) (live : 0 < g) (empty : IsNewGroup g old) where
   core_is : core_of a ≡ remove_group g old
-  core_is = ap (λ (s : Shown). s.core) is ∙ gone
+  core_is = ap (λ (s : StateView). s.core) is ∙ gone
 
   made_is : a.made.groups ≡ g
   unfolding remove_group

@@ -15,7 +15,7 @@ use Rattle.task_machine.specs.Moves.{put_high}
 use Rattle.task_machine.specs.Read.{task_of}
 use Rattle.task_machine.specs.Write.{add_call, add_group, add_thread, push_high, set_place, on_thread}
 use Rattle.task_machine.proofs.MapLemmas.{get-insert_same, get-change_same}
-use Rattle.task_core.specs.Shown.{Tag, Shown, IsLive, with_core, KeepsTags, thread_number, call_number}
+use Rattle.task_core.specs.StateView.{Tag, StateView, IsLive, with_core, KeepsTags, thread_number, call_number}
 use Rattle.std.specs.Prelude.{[], replicate}
 use Rattle.task_machine.specs.declared.records.Caller.{Caller}
 use Rattle.task_machine.specs.declared.records.Goal.TheVariants as goal
@@ -59,19 +59,19 @@ unfolding put_new_thread
 task_new n t s = ap (λ o. option_map_or (λ (t : Thread). t.call) o 0) (get-insert_same s.threads n t)
 
 -- the new thread and its call are live
-pub lives_on : (s : Shown) (tags : List (Option Tag)) (id : QualifiedThreadId) (n : ℕ) → 0 < n → KeepsTags tags s.tags → call_number tags id.task ≡ n → thread_number s.tags id.thread ≡ n → task_of n s.core ≡ n → IsLive s id
+pub lives_on : (s : StateView) (tags : List (Option Tag)) (id : QualifiedThreadId) (n : ℕ) → 0 < n → KeepsTags tags s.tags → call_number tags id.task ≡ n → thread_number s.tags id.thread ≡ n → task_of n s.core ≡ n → IsLive s id
 lives_on s tags id n live keeps call thread task = record {
   live = subst (λ m. 0 < m) (sym thread) live;
   task = keeps.calls id.task (subst (λ m. 0 < m) (sym call) live) ∙ call ∙ sym task ∙ ap (λ m. task_of m s.core) (sym thread);
 }
 
 -- a live thread stays so in a queue
-pub lives_queued : (s t : Shown) (id : QualifiedThreadId) (e : Entry) → IsLive s id → t ≡ with_core (push_high e s.core) s → IsLive t id
-lives_queued s t id e live is = subst (λ (t : Shown). IsLive t id) (sym is) (record { live = live.live; task = live.task ∙ sym (task_queued (thread_number s.tags id.thread) e s.core) })
+pub lives_queued : (s t : StateView) (id : QualifiedThreadId) (e : Entry) → IsLive s id → t ≡ with_core (push_high e s.core) s → IsLive t id
+lives_queued s t id e live is = subst (λ (t : StateView). IsLive t id) (sym is) (record { live = live.live; task = live.task ∙ sym (task_queued (thread_number s.tags id.thread) e s.core) })
 
 -- and where its place is written
-pub lives_placed : (s t : Shown) (id : QualifiedThreadId) (p : Place) → IsLive s id → t ≡ with_core (set_place (thread_number s.tags id.thread) p s.core) s → IsLive t id
-lives_placed s t id p live is = subst (λ (t : Shown). IsLive t id) (sym is) (record { live = live.live; task = live.task ∙ sym (task_placed (thread_number s.tags id.thread) p s.core) })
+pub lives_placed : (s t : StateView) (id : QualifiedThreadId) (p : Place) → IsLive s id → t ≡ with_core (set_place (thread_number s.tags id.thread) p s.core) s → IsLive t id
+lives_placed s t id p live is = subst (λ (t : StateView). IsLive t id) (sym is) (record { live = live.live; task = live.task ∙ sym (task_placed (thread_number s.tags id.thread) p s.core) })
 
 -- ---- What the parts leave alone
 

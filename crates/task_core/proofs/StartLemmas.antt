@@ -26,17 +26,17 @@ use Rattle.task_simple.proofs.CountLemmas.{table_use-add_group, table_use-add_ca
 use Rattle.task_machine.proofs.SizeLemmas.{size-insert_new}
 use Rattle.task_core.specs.declared.entry.Entry.{Entry}
 use Rattle.task_core.specs.declared.entry.Entry.TheVariants as entries
-use Rattle.task_core.specs.declared.entry.GroupKey.{GroupKey}
+use Rattle.task_wait.specs.declared.keys.GroupKey.{GroupKey}
 use Rattle.task_core.specs.declared.entry.LiveGroup.{LiveGroup}
-use Rattle.task_core.specs.declared.entry.GuestTaskKey.{GuestTaskKey}
-use Rattle.task_core.specs.declared.entry.ThreadKey.{ThreadKey}
-use Rattle.task_core.specs.declared.entry.SetKey.{SetKey}
+use Rattle.task_wait.specs.declared.keys.GuestTaskKey.{GuestTaskKey}
+use Rattle.task_wait.specs.declared.keys.ThreadKey.{ThreadKey}
+use Rattle.task_wait.specs.declared.keys.SetKey.{SetKey}
 use Rattle.task_core.specs.declared.entry.GuestThread.{GuestThread}
 use Rattle.task_core.specs.Entries.{thread_in, call_key, thread_key, callers_key, set_key, group_key}
 use Rattle.task_core.specs.declared.instance.Queued.{Queued}
 use Rattle.task_core.specs.Groups.{AreCounted, live_group, recounted}
 use Rattle.task_core.specs.Image.{Parts, core_of, image, tag_of, numbers}
-use Rattle.task_core.specs.Shown.{Shown, KeepsTags, thread_number, call_number, with_core}
+use Rattle.task_core.specs.StateView.{StateView, KeepsTags, thread_number, call_number, with_core}
 use Rattle.task_core.specs.Simple.{IsSimple, IsPlainThread, IsPlainCall, IsNewGroup}
 use Rattle.task_core.specs.Sound.{Sound, SoundTable, AreQueued, AreGroups, AreAbove, AreRising}
 use Rattle.task_core.specs.Start.{IsFree, IsUnnamed, thread_counted, thread_uncounted, group_taken_back, put_new_thread}
@@ -120,17 +120,17 @@ module _ (a : Parts) (sound : Sound a) where
         omega arith;
   }
 
-pub counts : (a : Parts) (s : Shown) → image a ≡ s → image (record a { made = with_threads_made (a.made.threads + 1) a.made }) ≡ with_core (thread_counted s.core) s
+pub counts : (a : Parts) (s : StateView) → image a ≡ s → image (record a { made = with_threads_made (a.made.threads + 1) a.made }) ≡ with_core (thread_counted s.core) s
 unfolding thread_counted
-counts a s is = subst (λ (s : Shown). image (record a { made = with_threads_made (a.made.threads + 1) a.made }) ≡ with_core (thread_counted s.core) s) is refl
+counts a s is = subst (λ (s : StateView). image (record a { made = with_threads_made (a.made.threads + 1) a.made }) ≡ with_core (thread_counted s.core) s) is refl
 
 -- The number k, given last, is taken back.
-module _ (a : Parts) (s : Shown) (is : image a ≡ s) (sound : Sound a) (k : ℕ) (free : IsFree k s.core) (none : get s.core.calls k ≡ None) where
+module _ (a : Parts) (s : StateView) (is : image a ≡ s) (sound : Sound a) (k : ℕ) (free : IsFree k s.core) (none : get s.core.calls k ≡ None) where
   free_here : IsFree k (core_of a)
-  free_here = subst (λ (s : Shown). IsFree k s.core) (sym is) free
+  free_here = subst (λ (s : StateView). IsFree k s.core) (sym is) free
 
   none_of : get (core_of a).calls k ≡ None
-  none_of = subst (λ (s : Shown). get s.core.calls k ≡ None) (sym is) none
+  none_of = subst (λ (s : StateView). get s.core.calls k ≡ None) (sym is) none
 
   later_still : {X : Type 0} (key : Entry → Option (ℕ × X)) → get (records key a.table.places) k ≡ None → ((n : ℕ) → a.made.threads < n → found_record key n a.table.places ≡ None) → (n : ℕ) → k - 1 < n → found_record key n a.table.places ≡ None
   later_still key none_at later n more = elim (cases_eq n k) [
@@ -163,7 +163,7 @@ module _ (a : Parts) (s : Shown) (is : image a ≡ s) (sound : Sound a) (k : ℕ
 
   pub uncounted : image (record a { made = with_threads_made (k - 1) a.made }) ≡ with_core (thread_uncounted k s.core) s
   unfolding thread_uncounted
-  uncounted = subst (λ (s : Shown). image (record a { made = with_threads_made (k - 1) a.made }) ≡ with_core (thread_uncounted k s.core) s) is refl
+  uncounted = subst (λ (s : StateView). image (record a { made = with_threads_made (k - 1) a.made }) ≡ with_core (thread_uncounted k s.core) s) is refl
 
 -- ---- A group
 
@@ -293,8 +293,8 @@ module _ (a : Parts) (sound : Sound a) (u : Table Entry) (is : u ≡ pushed (gro
     group_new = subst (λ s. IsNewGroup (a.made.groups + 1) s) (sym group_core) (record { none = λ k c at same. let before = sound.simple.made k c at in omega arith })
 
 -- the same, of a state that contracts see as s
-pub group_tags_of : (a : Parts) (s : Shown) → image a ≡ s → (sound : Sound a) (u : Table Entry) (is : u ≡ pushed (group_entry (a.made.groups + 1)) a.table) (room : is_full a.table ≡ false) (table : IsTable u) → KeepsTags s.tags (map tag_of u.places)
-group_tags_of a s view sound u is room table = subst (λ (s : Shown). KeepsTags s.tags (map tag_of u.places)) view (group_tags a sound u is room table)
+pub group_tags_of : (a : Parts) (s : StateView) → image a ≡ s → (sound : Sound a) (u : Table Entry) (is : u ≡ pushed (group_entry (a.made.groups + 1)) a.table) (room : is_full a.table ≡ false) (table : IsTable u) → KeepsTags s.tags (map tag_of u.places)
+group_tags_of a s view sound u is room table = subst (λ (s : StateView). KeepsTags s.tags (map tag_of u.places)) view (group_tags a sound u is room table)
 
 AreGroups-left : (t u : Table Entry) (made : ℕ) (es : List (ℕ × LiveGroup)) → ((r s : ℕ) → 0 < number_of group_key t r s → number_of group_key t r s ≤ made → number_of group_key u r s ≡ number_of group_key t r s) → AreGroups t made es → AreGroups u made es
 AreGroups-left t u made [] keeps groups = tt
@@ -342,7 +342,7 @@ simple_call s k c plain made simple = record {
   suspends = simple.suspends;
 }
 
-module _ (a : Parts) (s : Shown) (is : image a ≡ s) (sound : Sound a) (k : ℕ) (c : Call) (made : k ≤ s.core.made.threads) (live : 0 < k) (none : get s.core.calls k ≡ None) (plain : IsPlainCall c) (group : c.group ≤ s.core.made.groups) (u : Table Entry) (pushes : u ≡ pushed (entries.Task (record { number = k; call = c })) a.table) (room : is_full a.table ≡ false) (table : IsTable u) (es : List (ℕ × LiveGroup)) (counts_up : es ≡ recounted (λ n. n + 1) c.group a.groups) where
+module _ (a : Parts) (s : StateView) (is : image a ≡ s) (sound : Sound a) (k : ℕ) (c : Call) (made : k ≤ s.core.made.threads) (live : 0 < k) (none : get s.core.calls k ≡ None) (plain : IsPlainCall c) (group : c.group ≤ s.core.made.groups) (u : Table Entry) (pushes : u ≡ pushed (entries.Task (record { number = k; call = c })) a.table) (room : is_full a.table ≡ false) (table : IsTable u) (es : List (ℕ × LiveGroup)) (counts_up : es ≡ recounted (λ n. n + 1) c.group a.groups) where
   abbrev call_entry : Entry
   call_entry = entries.Task (record { number = k; call = c })
 
@@ -350,10 +350,10 @@ module _ (a : Parts) (s : Shown) (is : image a ≡ s) (sound : Sound a) (k : ℕ
   call_table = subst (λ (t : Table Entry). IsTable t) pushes table
 
   made_here : k ≤ a.made.threads
-  made_here = subst (λ (s : Shown). k ≤ s.core.made.threads) (sym is) made
+  made_here = subst (λ (s : StateView). k ≤ s.core.made.threads) (sym is) made
 
   none_here : get (core_of a).calls k ≡ None
-  none_here = subst (λ (s : Shown). get s.core.calls k ≡ None) (sym is) none
+  none_here = subst (λ (s : StateView). get s.core.calls k ≡ None) (sym is) none
 
   new_here : found_record call_key k a.table.places ≡ None
   new_here = sym (get-records call_key a.table.places k) ∙ none_here
@@ -391,14 +391,14 @@ module _ (a : Parts) (s : Shown) (is : image a ≡ s) (sound : Sound a) (k : ℕ
     counted = subst (λ (c : Core). AreCounted c.calls es) (sym call_core) (counted_call (core_of a) k c es (subst (λ gs. AreCounted (insert (core_of a).calls k c) gs) (sym counts_up) (counted_more (core_of a).calls k c a.groups sound.rising none_here sound.counted)));
     used = call_len ∙ sym (ap table_use call_core);
     live = sound.live ∙ sym (ap live_count call_core ∙ live_count-add_call k c (core_of a));
-    simple = subst (λ s. IsSimple s) (sym call_core) (simple_call (core_of a) k c plain (subst (λ (s : Shown). c.group ≤ s.core.made.groups) (sym is) group) sound.simple);
+    simple = subst (λ s. IsSimple s) (sym call_core) (simple_call (core_of a) k c plain (subst (λ (s : StateView). c.group ≤ s.core.made.groups) (sym is) group) sound.simple);
   }
 
   pub adds_call : core_of (record a { table = u; groups = es }) ≡ add_call k c s.core
-  adds_call = call_core ∙ ap (λ (s : Shown). add_call k c s.core) is
+  adds_call = call_core ∙ ap (λ (s : StateView). add_call k c s.core) is
 
   pub call_tags : KeepsTags s.tags (map tag_of u.places)
-  call_tags = subst (λ (s : Shown). KeepsTags s.tags (map tag_of u.places)) is (subst (λ (t : Table Entry). KeepsTags (map tag_of a.table.places) (map tag_of t.places)) (sym pushes) (tags_keep a.table (pushed call_entry a.table) (call_keeps thread_key) (call_keeps call_key)))
+  call_tags = subst (λ (s : StateView). KeepsTags s.tags (map tag_of u.places)) is (subst (λ (t : Table Entry). KeepsTags (map tag_of a.table.places) (map tag_of t.places)) (sym pushes) (tags_keep a.table (pushed call_entry a.table) (call_keeps thread_key) (call_keeps call_key)))
 
   pub call_named : (id : TableId GuestTaskKey) → id.rep ≡ next_place a.table → id.serial ≡ a.table.given → call_number (map tag_of u.places) id ≡ k
   call_named id place serial = ap (λ (t : Table Entry). call_number (map tag_of t.places) id) pushes ∙ call_shown (pushed call_entry a.table) id ∙ number_new a.table call_entry sound.table.table id.rep id.serial place serial call_key
@@ -434,7 +434,7 @@ live_thread s n t = refl
 abbrev pub set_entry : ℕ → Entry
 set_entry n = entries.Set (record { number = n })
 
-module _ (a : Parts) (s : Shown) (is : image a ≡ s) (sound : Sound a) (n : ℕ) (x : ThreadRecord) (made : n ≤ s.core.made.threads) (live : 0 < n) (none : get s.core.threads n ≡ None) (none_behind : get s.core.callers n ≡ None) (task : IsSome (get s.core.calls n)) (plain : IsPlainThread n x) (u : Table Entry) (set_pushes : u ≡ pushed (set_entry n) a.table) (room : is_full a.table ≡ false) (table : IsTable u) (set : TableId SetKey) (place : set.rep ≡ next_place a.table) (serial : set.serial ≡ a.table.given) where
+module _ (a : Parts) (s : StateView) (is : image a ≡ s) (sound : Sound a) (n : ℕ) (x : ThreadRecord) (made : n ≤ s.core.made.threads) (live : 0 < n) (none : get s.core.threads n ≡ None) (none_behind : get s.core.callers n ≡ None) (task : IsSome (get s.core.calls n)) (plain : IsPlainThread n x) (u : Table Entry) (set_pushes : u ≡ pushed (set_entry n) a.table) (room : is_full a.table ≡ false) (table : IsTable u) (set : TableId SetKey) (place : set.rep ≡ next_place a.table) (serial : set.serial ≡ a.table.given) where
   set_table : IsTable (pushed (set_entry n) a.table)
   set_table = subst (λ (t : Table Entry). IsTable t) set_pushes table
 
@@ -448,10 +448,10 @@ module _ (a : Parts) (s : Shown) (is : image a ≡ s) (sound : Sound a) (n : ℕ
   set_keeps = number_pushed a.table a.made.threads sound.table (set_entry n) room set_table
 
   none_a : get (core_of a).threads n ≡ None
-  none_a = subst (λ (s : Shown). get s.core.threads n ≡ None) (sym is) none
+  none_a = subst (λ (s : StateView). get s.core.threads n ≡ None) (sym is) none
 
   behind_a : get (core_of a).callers n ≡ None
-  behind_a = subst (λ (s : Shown). get s.core.callers n ≡ None) (sym is) none_behind
+  behind_a = subst (λ (s : StateView). get s.core.callers n ≡ None) (sym is) none_behind
 
   -- no other thread has this number
   pub no_other : (r : ℕ) (q : Placed Entry) (g : GuestThread) → place_at a.table r ≡ Some q → thread_in q.entry ≡ Some g → g.number ≢ n
@@ -476,7 +476,7 @@ module _ (a : Parts) (s : Shown) (is : image a ≡ s) (sound : Sound a) (n : ℕ
     second_here = subst (λ (t : Table Entry). IsTable t) v_is second
 
     made_a : n ≤ a.made.threads
-    made_a = subst (λ (s : Shown). n ≤ s.core.made.threads) (sym is) made
+    made_a = subst (λ (s : StateView). n ≤ s.core.made.threads) (sym is) made
 
     new_thread : found_record thread_key n t1.places ≡ None
     new_thread = (other_threads a.table a.made.threads sound.table (set_entry n) room set_table refl refl refl refl).found n ∙ sym (get-records thread_key a.table.places n) ∙ none_a
@@ -524,14 +524,14 @@ module _ (a : Parts) (s : Shown) (is : image a ≡ s) (sound : Sound a) (n : ℕ
       counted = subst (λ (c : Core). AreCounted c.calls a.groups) (sym thread_core) (counted_thread (core_of a) n x a.groups sound.counted);
       used = thread_len ∙ sym (ap table_use thread_core);
       live = sound.live ∙ sym (ap live_count thread_core ∙ live_thread (core_of a) n x);
-      simple = subst (λ s. IsSimple s) (sym thread_core) (simple_thread (core_of a) n x plain (subst (λ (s : Shown). IsSome (get s.core.calls n)) (sym is) task) sound.simple);
+      simple = subst (λ s. IsSimple s) (sym thread_core) (simple_thread (core_of a) n x plain (subst (λ (s : StateView). IsSome (get s.core.calls n)) (sym is) task) sound.simple);
     }
 
     pub adds_thread : core_of (record a { table = v }) ≡ put_new_thread n x s.core
-    adds_thread = thread_core ∙ ap (λ (s : Shown). put_new_thread n x s.core) is
+    adds_thread = thread_core ∙ ap (λ (s : StateView). put_new_thread n x s.core) is
 
     pub thread_tags : KeepsTags s.tags (map tag_of v.places)
-    thread_tags = subst (λ (s : Shown). KeepsTags s.tags (map tag_of v.places)) is (subst (λ (t : Table Entry). KeepsTags (map tag_of a.table.places) (map tag_of t.places)) (sym v_is) (tags_keep a.table t2 (thread_keeps thread_key) (thread_keeps call_key)))
+    thread_tags = subst (λ (s : StateView). KeepsTags s.tags (map tag_of v.places)) is (subst (λ (t : Table Entry). KeepsTags (map tag_of a.table.places) (map tag_of t.places)) (sym v_is) (tags_keep a.table t2 (thread_keeps thread_key) (thread_keeps call_key)))
 
     pub thread_named : (id : TableId ThreadKey) → id.rep ≡ next_place u → id.serial ≡ u.given → thread_number (map tag_of v.places) id ≡ n
     thread_named id at given = ap (λ (t : Table Entry). thread_number (map tag_of t.places) id) v_is ∙ thread_shown t2 id
@@ -573,7 +573,7 @@ module _ (a : Parts) (sound : Sound a) (u : Table Entry) (is : u ≡ pushed (gro
   pub group_undone_tags : KeepsTags (map tag_of a.table.places) (map tag_of v.places)
   group_undone_tags = rw group_gone (undone_tags a sound (deleted id.rep (pushed group_e a.table)) group_e group_pushed_back not_live)
 
-module _ (a : Parts) (s : Shown) (is : image a ≡ s) (sound : Sound a) (n : ℕ) (none : get s.core.threads n ≡ None) (u : Table Entry) (set_pushes : u ≡ pushed (set_entry n) a.table) (room : is_full a.table ≡ false) (table : IsTable u) (set : TableId SetKey) (place : set.rep ≡ next_place a.table) (serial : set.serial ≡ a.table.given) (w : Table Entry) (stays : w ≡ u) (v : Table Entry) (result : Result SyncSet ResourceTableError) (answer : result ≡ deletion set_in w set.rep set.serial) (ok : OnOk result (v ≡ deleted set.rep w)) (after : IsTable v) where
+module _ (a : Parts) (s : StateView) (is : image a ≡ s) (sound : Sound a) (n : ℕ) (none : get s.core.threads n ≡ None) (u : Table Entry) (set_pushes : u ≡ pushed (set_entry n) a.table) (room : is_full a.table ≡ false) (table : IsTable u) (set : TableId SetKey) (place : set.rep ≡ next_place a.table) (serial : set.serial ≡ a.table.given) (w : Table Entry) (stays : w ≡ u) (v : Table Entry) (result : Result SyncSet ResourceTableError) (answer : result ≡ deletion set_in w set.rep set.serial) (ok : OnOk result (v ≡ deleted set.rep w)) (after : IsTable v) where
   abbrev set_e : Entry
   set_e = set_entry n
 
@@ -593,7 +593,7 @@ module _ (a : Parts) (s : Shown) (is : image a ≡ s) (sound : Sound a) (n : ℕ
       set_childless ∙ ap (deleted set.rep) w_is
 
   none_thread : get (core_of a).threads n ≡ None
-  none_thread = subst (λ (s : Shown). get s.core.threads n ≡ None) (sym is) none
+  none_thread = subst (λ (s : StateView). get s.core.threads n ≡ None) (sym is) none
 
   set_other : (r : ℕ) (q : Placed Entry) (g : GuestThread) → place_at a.table r ≡ Some q → thread_in q.entry ≡ Some g → g.number ≢ n
   set_other r q g at item same =
@@ -610,7 +610,7 @@ module _ (a : Parts) (s : Shown) (is : image a ≡ s) (sound : Sound a) (n : ℕ
   thread_undone = rw set_gone (undone_sound a sound (deleted set.rep (pushed set_e a.table)) set_e set_pushed_back no_group)
 
   pub thread_undone_core : core_of (record a { table = v }) ≡ s.core
-  thread_undone_core = rw set_gone (undone_core a sound (deleted set.rep (pushed set_e a.table)) set_e set_pushed_back no_group) ∙ ap (λ (s : Shown). s.core) is
+  thread_undone_core = rw set_gone (undone_core a sound (deleted set.rep (pushed set_e a.table)) set_e set_pushed_back no_group) ∙ ap (λ (s : StateView). s.core) is
 
   pub thread_undone_tags : KeepsTags s.tags (map tag_of v.places)
-  thread_undone_tags = subst (λ (s : Shown). KeepsTags s.tags (map tag_of v.places)) is (rw set_gone (undone_tags a sound (deleted set.rep (pushed set_e a.table)) set_e set_pushed_back no_group))
+  thread_undone_tags = subst (λ (s : StateView). KeepsTags s.tags (map tag_of v.places)) is (rw set_gone (undone_tags a sound (deleted set.rep (pushed set_e a.table)) set_e set_pushed_back no_group))

@@ -14,7 +14,7 @@ use Rattle.task_core.specs.declared.entry.Entry.{Entry}
 use Rattle.task_core.specs.declared.entry.GuestThread.{GuestThread}
 use Rattle.task_core.specs.Entries.{thread_in, call_key, thread_key, callers_key, set_key, group_key}
 use Rattle.task_core.specs.Image.{tag_of}
-use Rattle.task_core.specs.Shown.{KeepsTags}
+use Rattle.task_core.specs.StateView.{KeepsTags}
 use Rattle.task_core.specs.Sound.{SoundTable}
 use Rattle.task_core.proofs.NumberLemmas.{absent, thread_shown, call_shown}
 use Rattle.task_core.proofs.WriteLemmas.{KeepsNumbers}

@@ -22,13 +22,13 @@ use Rattle.task_core.specs.declared.entry.Entry.{Entry}
 use Rattle.task_core.specs.declared.entry.Entry.TheVariants as entries
 use Rattle.task_core.specs.declared.entry.GuestTask.{GuestTask}
 use Rattle.task_core.specs.declared.entry.GuestThread.{GuestThread}
-use Rattle.task_core.specs.declared.entry.GuestTaskKey.{GuestTaskKey}
-use Rattle.task_core.specs.declared.entry.ThreadKey.{ThreadKey}
+use Rattle.task_wait.specs.declared.keys.GuestTaskKey.{GuestTaskKey}
+use Rattle.task_wait.specs.declared.keys.ThreadKey.{ThreadKey}
 use Rattle.task_core.specs.declared.instance.Queued.{Queued}
 use Rattle.task_core.specs.Entries.{task_in, thread_in, call_key, thread_key, callers_key, set_key, group_key}
 use Rattle.task_core.specs.EntryLaws.{no_other_task, no_other_thread}
 use Rattle.task_core.specs.Image.{Parts, core_of, image, tag_of}
-use Rattle.task_core.specs.Shown.{with_core}
+use Rattle.task_core.specs.StateView.{with_core}
 use Rattle.task_machine.specs.Read.{table_use, live_count}
 use Rattle.task_core.specs.Simple.{IsSimple, IsPlainThread, IsPlainCall, HasGroup}
 use Rattle.task_core.specs.Sound.{Sound, SoundTable, HaveSets, AreQueued, AreGroups}

@@ -15,7 +15,7 @@ use Rattle.task_core.specs.declared.instance.InstanceRecord.{InstanceRecord}
 use Rattle.task_core.specs.declared.instance.Queued.{Queued}
 use Rattle.task_core.specs.Entries.{call_key, thread_key, callers_key}
 use Rattle.task_core.specs.Instances.{by_place, handle_table, named_of, thread_of}
-use Rattle.task_core.specs.Shown.{Tag, Shown}
+use Rattle.task_core.specs.StateView.{Tag, StateView}
 
 -- the fields of a state, as lists, tables and numbers
 pub record Parts : Type 0 where
@@ -56,7 +56,7 @@ core_of p = record {
   made = p.made;
 }
 
-abbrev pub image : Parts → Shown
+abbrev pub image : Parts → StateView
 image p = record { core = core_of p; tags = map tag_of p.table.places; current = p.current }
 
 -- The table has the calls and the threads of the core, its capacity, and as many entries.

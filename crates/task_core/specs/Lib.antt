@@ -1,6 +1,6 @@
 pub mod Entries
 pub mod EntryLaws
-pub mod Shown
+pub mod StateView
 pub mod Instances
 pub mod Groups
 pub mod Image

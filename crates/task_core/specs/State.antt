@@ -1,5 +1,5 @@
 -- What a `TaskCore` is seen as.
-use Rattle.task_core.specs.Shown.{Shown}
+use Rattle.task_core.specs.StateView.{StateView}
 use Rattle.task_core.specs.Image.{Parts, image}
 use Rattle.task_core.specs.Sound.{Sound}
 use Rattle.task_core.specs.declared.state.TaskCore.TheInside.{Inside}
@@ -17,7 +17,7 @@ parts a = record {
   trapped = a.trapped;
 }
 
-abbrev pub shown_state : Inside → Shown
+abbrev pub shown_state : Inside → StateView
 shown_state a = image (parts a)
 
 abbrev pub IsSound : Inside → Type 0

@@ -1,34 +1,23 @@
 use task_machine::{Call, Thread};
 use task_table::{Kind, TableId};
-
-/// The kind of an entry that is a call of an export.
-pub enum GuestTaskKey {}
-
-/// The kind of an entry that is a thread.
-pub enum ThreadKey {}
-
-/// The kind of an entry that is a waitable set.
-pub enum SetKey {}
-
-/// The kind of an entry that is a group of calls.
-pub enum GroupKey {}
+use task_wait::{GroupKey, GuestTaskKey, SetKey, ThreadKey};
 
 /// A thread and its call.
-#[derive(Clone, Copy, Debug, PartialEq, Eq, PartialOrd, Ord)]
+#[derive(Clone, Copy)]
 pub struct QualifiedThreadId {
     pub task: TableId<GuestTaskKey>,
     pub thread: TableId<ThreadKey>,
 }
 
 /// A call of an export, under the number of its first thread, by which the machine names it.
-#[derive(Clone, Copy, Debug)]
+#[derive(Clone, Copy)]
 pub struct GuestTask {
     pub(crate) number: u64,
     pub(crate) call: Call,
 }
 
 /// A thread, under its number.
-#[derive(Clone, Copy, Debug)]
+#[derive(Clone, Copy)]
 pub struct GuestThread {
     pub(crate) number: u64,
     // The set in which the subtasks of its sync calls are.
@@ -37,26 +26,26 @@ pub struct GuestThread {
 }
 
 /// The set of a thread's sync calls, under the thread's number.
-#[derive(Clone, Copy, Debug)]
+#[derive(Clone, Copy)]
 pub struct SyncSet {
     pub(crate) number: u64,
 }
 
 /// A group, under its number.
-#[derive(Clone, Copy, Debug)]
+#[derive(Clone, Copy)]
 pub struct TaskGroup {
     pub(crate) number: u64,
 }
 
 /// A live group: its entry, and how many calls are of it.
-#[derive(Clone, Copy, Debug)]
+#[derive(Clone, Copy)]
 pub(crate) struct LiveGroup {
     pub(crate) id: TableId<GroupKey>,
     pub(crate) calls: u64,
 }
 
 /// What stands in the resource table.
-#[derive(Clone, Copy, Debug)]
+#[derive(Clone, Copy)]
 pub enum Entry {
     Task(GuestTask),
     Thread(GuestThread),

@@ -2,12 +2,8 @@ use std::alloc::AllocError;
 use task_machine::Trap;
 use task_table::{PushError, ResourceTableError};
 
-/// Memory is wanting.
-#[derive(Clone, Copy, Debug, PartialEq, Eq)]
-pub struct NoMemory;
-
 /// Why a call of a task was refused.
-#[derive(Clone, Copy, Debug, PartialEq, Eq)]
+#[derive(Clone, Copy)]
 pub enum TaskError {
     NoMemory,
     Trap(Trap),

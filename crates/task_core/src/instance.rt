@@ -12,7 +12,7 @@ pub struct InstanceRecord {
 }
 
 /// An entry of a queue: a thread and its call, and the number that the machine names it by.
-#[derive(Clone, Copy, Debug, PartialEq, Eq)]
+#[derive(Clone, Copy)]
 pub struct Queued {
     pub id: QualifiedThreadId,
     pub number: u64,

@@ -8,14 +8,9 @@ mod instance;
 pub mod parts;
 mod state;
 
-pub use entry::{
-    Entry, GroupKey, GuestTask, GuestTaskKey, GuestThread, QualifiedThreadId, SetKey, SyncSet,
-    TaskGroup, ThreadKey,
-};
-pub use error::{NoMemory, TaskError};
+pub use entry::{Entry, GuestTask, GuestThread, QualifiedThreadId, SyncSet, TaskGroup};
+pub use error::TaskError;
 pub use instance::InstanceRecord;
 pub use state::TaskCore;
-pub use task_machine::{ExportKind, Mark};
-
-#[cfg(test)]
-mod tests;
+pub use task_machine::{ExportKind, Mark, NoMemory};
+pub use task_wait::{GroupKey, GuestTaskKey, SetKey, ThreadKey};

@@ -1,15 +1,14 @@
 ghost use Rattle.std.specs.Prelude.{◌≡◌, ◌+◌, ◌-◌, ◌^◌, ◌<◌, min, None, IfOk, OnOk, OnErr};
 ghost use Rattle.task_machine.specs.Maps.{get, size};
-ghost use Rattle.task_core.specs.Shown.{nothing, with_core, with_instance};
+ghost use Rattle.task_core.specs.StateView.{nothing, with_core, with_instance};
 
 use crate::entry::{Entry, LiveGroup, QualifiedThreadId};
-use crate::error::NoMemory;
 use crate::instance::{InstanceRecord, Queued};
 use std::alloc::{AllocError, Global};
 use std::collections::{BTreeMap, VecDeque};
 use std::marker::Model;
 use task_handles::{HandleCounter, HandleTable, ThreadHandleTable};
-use task_machine::{Instance, Made};
+use task_machine::{Instance, Made, NoMemory};
 use task_table::ResourceTable;
 
 /// The calls and threads of a store, its instances, and what is to be taken next.
@@ -32,11 +31,11 @@ pub struct TaskCore {
 }
 
 impl Model for TaskCore {
-    ghost use Rattle.task_core.specs.Shown.{Shown, shown_code};
+    ghost use Rattle.task_core.specs.StateView.{StateView, state_view_code};
 
-    ghost Value = { Shown };
+    ghost Value = { StateView };
 
-    ghost coded = { shown_code };
+    ghost coded = { state_view_code };
 
     ghost use Rattle.task_core.specs.State.{shown_state, IsSound};
 

@@ -4,10 +4,10 @@ use Rattle.std.specs.List.Sorted.{SwapsInRange, apply_swaps}
 use Rattle.std.specs.Prelude.{Bool, List, None, Option, Some, [], false, length, nat_lt, true, ℕ, ◌&&◌, ◌+◌, ◌∷◌, ◌≡◌}
 use Rattle.task_machine.specs.declared.records.Entry.{Entry}
 use Rattle.task_machine.specs.declared.label.Label.{Label}
-use Rattle.task_machine.specs.declared.scenario.MainOp.{MainOp}
+use Rattle.task_machine.specs.declared.scenario.MainOpDef.{MainOpDef}
 use Rattle.task_machine.specs.declared.words.Mark.{Mark}
 use Rattle.task_machine.specs.declared.outcome.Outcome.{Outcome}
-use Rattle.task_machine.specs.declared.scenario.Scenario.{Scenario}
+use Rattle.task_machine.specs.declared.scenario.ScenarioDef.{ScenarioDef}
 use Rattle.task_machine.specs.declared.records.Turn.{Turn}
 use Rattle.task_machine.specs.declared.records.Turn.TheVariants as turn
 use Rattle.task_examples.specs.Play.{Example, Next, Played, Swaps, deadlocked, empty_did, if_fits, if_shows, in_range, main_did, moved, on, play, polled, polled_next, ran, rested, same_choice, same_option, script_did, swaps_at, took, turned}
@@ -93,12 +93,12 @@ abbrev Meets : (Label → State → Type 0) → Next → Type 0
 Meets S None = Unit {0}
 Meets S (Some y) = S y.0 y.1
 
-main_is : (s : State) (p : MainPlace) (o : MainOp) (q : MainProgress) → Meets (MainProgresses s p o q) (main_did s p o q)
+main_is : (s : State) (p : MainPlace) (o : MainOpDef) (q : MainProgress) → Meets (MainProgresses s p o q) (main_did s p o q)
 main_is s p o (Does l new) = (refl, refl)
 main_is s p o Pends = (refl, refl)
 main_is s p o (Answers v) = (refl, refl)
 
-script_is : (x : Setting) (s : State) (p : MainPlace) (o : Option MainOp) → Meets (ScriptStep x s p o) (script_did x s p o)
+script_is : (x : Setting) (s : State) (p : MainPlace) (o : Option MainOpDef) → Meets (ScriptStep x s p o) (script_did x s p o)
 script_is x s p None = (refl, refl)
 script_is x s p (Some o) = main_is s p o (main_row x.component (line_of p o) s.core (act_of p o))
 
@@ -167,7 +167,7 @@ play_runs x os k [] s = refl
 play_runs x os k (l ∷ ls) s = on_runs x s (λ t. play x os (k + 1) ls t) (turned x s (choice_of l) (swaps_at k os) s.turn) (λ t. play_runs x os (k + 1) ls t) (to_makes x s (turned x s (choice_of l) (swaps_at k os) s.turn) (turned_is x s (choice_of l) (swaps_at k os) s.turn))
 
 -- an example is shown by what is played
-pub example : (x : Scenario) (os : List (ℕ × Swaps)) (steps : ℕ) (ls : List Label) (o : Outcome) → (play (setting_of x) os 0 ls (opens x)).labels ≡ ls → outcome_of (setting_of x) (play (setting_of x) os 0 ls (opens x)).last ls steps ≡ Some o → Example x steps ls o
+pub example : (x : ScenarioDef) (os : List (ℕ × Swaps)) (steps : ℕ) (ls : List Label) (o : Outcome) → (play (setting_of x) os 0 ls (opens x)).labels ≡ ls → outcome_of (setting_of x) (play (setting_of x) os 0 ls (opens x)).last ls steps ≡ Some o → Example x steps ls o
 example x os steps ls o labels ends =
     let p = play (setting_of x) os 0 ls (opens x) in
     record { last = p.last; run = subst (λ (ks : List Label). Run (setting_of x) (opens x) ks p.last) labels (play_runs (setting_of x) os 0 ls (opens x)); ends = ends }

@@ -1,13 +1,13 @@
 -- Scenarios, and the labels of their runs.
 use Rattle.std.specs.Prelude.{List, [], replicate, ◌∷◌}
 use Rattle.task_machine.specs.declared.label.Label.{Label}
-use Rattle.task_machine.specs.declared.scenario.Scenario.{Scenario}
+use Rattle.task_machine.specs.declared.scenario.ScenarioDef.{ScenarioDef}
 use Rattle.task_machine.specs.declared.scenario.IdleLine.TheVariants as idle_line
 use Rattle.task_machine.specs.declared.component.ExportKind.TheVariants as kind
 use Rattle.task_machine.specs.declared.label.Label.TheVariants as label
 use Rattle.task_machine.specs.declared.label.LoopLabel.TheVariants as loop_label
 use Rattle.task_machine.specs.declared.label.MainLabel.TheVariants as main_label
-use Rattle.task_machine.specs.declared.scenario.MainOp.TheVariants as main_op
+use Rattle.task_machine.specs.declared.scenario.MainOpDef.TheVariants as main_op
 use Rattle.task_machine.specs.declared.words.Mark.TheVariants as mark
 use Rattle.task_machine.specs.declared.op.Op.TheVariants as op
 use Rattle.task_machine.specs.declared.op.Operand.TheVariants as operand
@@ -18,7 +18,7 @@ use Rattle.task_machine.specs.declared.op.TaskOp.TheVariants as task_op
 use Rattle.task_machine.specs.declared.trap.Trap.TheVariants as trap
 
 -- a: f
-abbrev pub callback_returns_its_parameter : Scenario
+abbrev pub callback_returns_its_parameter : ScenarioDef
 callback_returns_its_parameter = record {
   handles = 100000;
   table = 1000000;
@@ -42,7 +42,7 @@ callback_returns_its_parameter_labels = label.Main (main_label.Start 1 1) ∷ la
     label.Task (task_label.Ret 1 7) ∷ label.Task (task_label.Exit 1) ∷ label.Main (main_label.Finish 1 7) ∷ label.Main (main_label.Answer 7) ∷ []
 
 -- a: f
-abbrev pub exit_without_return_traps : Scenario
+abbrev pub exit_without_return_traps : ScenarioDef
 exit_without_return_traps = record {
   handles = 100000;
   table = 1000000;
@@ -66,7 +66,7 @@ exit_without_return_traps_labels = label.Main (main_label.Start 1 1) ∷ label.L
     label.Loop (loop_label.Trap trap.NoAsyncResult 1) ∷ []
 
 -- a: f
-abbrev pub run_stops_when_steps_are_used_up : Scenario
+abbrev pub run_stops_when_steps_are_used_up : ScenarioDef
 run_stops_when_steps_are_used_up = record {
   handles = 100000;
   table = 1000000;
@@ -90,7 +90,7 @@ run_stops_when_steps_are_used_up_labels = label.Main (main_label.Start 1 1) ∷ 
     label.Task (task_label.Ret 1 7) ∷ label.Task (task_label.Exit 1) ∷ label.Main (main_label.Finish 1 7) ∷ []
 
 -- a: f
-abbrev pub second_return_traps : Scenario
+abbrev pub second_return_traps : ScenarioDef
 second_return_traps = record {
   handles = 100000;
   table = 1000000;
@@ -122,7 +122,7 @@ second_return_traps_labels = label.Main (main_label.Start 1 1) ∷ label.Loop lo
     label.Loop (loop_label.Trap trap.TaskCancelOrReturnTwice 1) ∷ []
 
 -- a: f
-abbrev pub return_of_the_wrong_type_traps : Scenario
+abbrev pub return_of_the_wrong_type_traps : ScenarioDef
 return_of_the_wrong_type_traps = record {
   handles = 100000;
   table = 1000000;
@@ -147,7 +147,7 @@ return_of_the_wrong_type_traps_labels = label.Main (main_label.Start 1 1) ∷ la
     label.Loop (loop_label.Trap trap.TaskReturnInvalid 1) ∷ []
 
 -- a: f
-abbrev pub return_of_the_wrong_type_after_an_end_traps : Scenario
+abbrev pub return_of_the_wrong_type_after_an_end_traps : ScenarioDef
 return_of_the_wrong_type_after_an_end_traps = record {
   handles = 100000;
   table = 1000000;

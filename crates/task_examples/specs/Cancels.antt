@@ -1,7 +1,7 @@
 -- Scenarios, and the labels of their runs.
 use Rattle.std.specs.Prelude.{List, [], replicate, ◌∷◌}
 use Rattle.task_machine.specs.declared.label.Label.{Label}
-use Rattle.task_machine.specs.declared.scenario.Scenario.{Scenario}
+use Rattle.task_machine.specs.declared.scenario.ScenarioDef.{ScenarioDef}
 use Rattle.task_machine.specs.declared.label.CallLabel.TheVariants as call_label
 use Rattle.task_machine.specs.declared.op.CallOp.TheVariants as call_op
 use Rattle.task_machine.specs.declared.words.Given.TheVariants as given
@@ -10,7 +10,7 @@ use Rattle.task_machine.specs.declared.component.ExportKind.TheVariants as kind
 use Rattle.task_machine.specs.declared.label.Label.TheVariants as label
 use Rattle.task_machine.specs.declared.label.LoopLabel.TheVariants as loop_label
 use Rattle.task_machine.specs.declared.label.MainLabel.TheVariants as main_label
-use Rattle.task_machine.specs.declared.scenario.MainOp.TheVariants as main_op
+use Rattle.task_machine.specs.declared.scenario.MainOpDef.TheVariants as main_op
 use Rattle.task_machine.specs.declared.words.Mark.TheVariants as mark
 use Rattle.task_machine.specs.declared.op.Op.TheVariants as op
 use Rattle.task_machine.specs.declared.op.Operand.TheVariants as operand
@@ -24,7 +24,7 @@ use Rattle.task_machine.specs.declared.label.ThreadLabel.TheVariants as thread_l
 use Rattle.task_machine.specs.declared.trap.Trap.TheVariants as trap
 
 -- a: f; b: g
-abbrev pub cancel_of_a_subtask_joined_to_a_set_traps : Scenario
+abbrev pub cancel_of_a_subtask_joined_to_a_set_traps : ScenarioDef
 cancel_of_a_subtask_joined_to_a_set_traps = record {
   handles = 100000;
   table = 1000000;
@@ -65,7 +65,7 @@ cancel_of_a_subtask_joined_to_a_set_traps_labels = label.Main (main_label.Start 
     label.Set (set_label.New 2 1) ∷ label.Set (set_label.Join 1) ∷ label.Loop (loop_label.Trap trap.WaitableSyncAndAsync 1) ∷ []
 
 -- a: up, down, f; b: g
-abbrev pub cancel_withdraws_a_held_start : Scenario
+abbrev pub cancel_withdraws_a_held_start : ScenarioDef
 cancel_withdraws_a_held_start = record {
   handles = 100000;
   table = 1000000;
@@ -124,7 +124,7 @@ cancel_withdraws_a_held_start_labels = label.Main (main_label.Start 1 1) ∷ lab
     label.Main (main_label.Answer 3) ∷ []
 
 -- a: f; b: g
-abbrev pub sync_cancel_of_a_waiting_callback : Scenario
+abbrev pub sync_cancel_of_a_waiting_callback : ScenarioDef
 sync_cancel_of_a_waiting_callback = record {
   handles = 100000;
   table = 1000000;
@@ -167,7 +167,7 @@ sync_cancel_of_a_waiting_callback_labels = label.Main (main_label.Start 1 1) ∷
     label.Main (main_label.Answer 4) ∷ []
 
 -- a: f
-abbrev pub task_cancel_without_a_request_traps : Scenario
+abbrev pub task_cancel_without_a_request_traps : ScenarioDef
 task_cancel_without_a_request_traps = record {
   handles = 100000;
   table = 1000000;

@@ -1,7 +1,7 @@
 -- Scenarios, and the labels of their runs.
 use Rattle.std.specs.Prelude.{List, [], replicate, ◌∷◌}
 use Rattle.task_machine.specs.declared.label.Label.{Label}
-use Rattle.task_machine.specs.declared.scenario.Scenario.{Scenario}
+use Rattle.task_machine.specs.declared.scenario.ScenarioDef.{ScenarioDef}
 use Rattle.task_machine.specs.declared.component.ExportKind.TheVariants as kind
 use Rattle.task_machine.specs.declared.component.Slot.TheVariants as slot
 use Rattle.task_machine.specs.declared.label.CallLabel.TheVariants as call_label
@@ -21,12 +21,12 @@ use Rattle.task_machine.specs.declared.op.SetOp.TheVariants as set_op
 use Rattle.task_machine.specs.declared.op.TaskOp.TheVariants as task_op
 use Rattle.task_machine.specs.declared.op.ThreadOp.TheVariants as thread_op
 use Rattle.task_machine.specs.declared.scenario.IdleLine.TheVariants as idle_line
-use Rattle.task_machine.specs.declared.scenario.MainOp.TheVariants as main_op
+use Rattle.task_machine.specs.declared.scenario.MainOpDef.TheVariants as main_op
 use Rattle.task_machine.specs.declared.trap.Trap.TheVariants as trap
 use Rattle.task_machine.specs.declared.words.Mark.TheVariants as mark
 
 -- a: s, w, x
-abbrev pub exit_of_a_stackful_export_with_nothing_to_promote_traps : Scenario
+abbrev pub exit_of_a_stackful_export_with_nothing_to_promote_traps : ScenarioDef
 exit_of_a_stackful_export_with_nothing_to_promote_traps = record {
   handles = 100000;
   table = 1000000;
@@ -68,7 +68,7 @@ exit_of_a_stackful_export_with_nothing_to_promote_traps_labels = label.Main (mai
     []
 
 -- a: s, w, f
-abbrev pub exit_of_a_blocking_export_with_nothing_to_promote_traps : Scenario
+abbrev pub exit_of_a_blocking_export_with_nothing_to_promote_traps : ScenarioDef
 exit_of_a_blocking_export_with_nothing_to_promote_traps = record {
   handles = 100000;
   table = 1000000;
@@ -106,7 +106,7 @@ exit_of_a_blocking_export_with_nothing_to_promote_traps_labels = label.Main (mai
     label.Loop loop_label.MainPends ∷ label.Take (take.Thread mark.High 3) ∷ label.Loop (loop_label.Trap trap.CannotBlockSyncTask 3) ∷ []
 
 -- a: s, w, f; b: d
-abbrev pub exit_of_a_direct_call_with_nothing_to_promote_traps : Scenario
+abbrev pub exit_of_a_direct_call_with_nothing_to_promote_traps : ScenarioDef
 exit_of_a_direct_call_with_nothing_to_promote_traps = record {
   handles = 100000;
   table = 1000000;
@@ -154,7 +154,7 @@ exit_of_a_direct_call_with_nothing_to_promote_traps_labels = label.Main (main_la
     []
 
 -- a: s, w, x
-abbrev pub suspend_with_nothing_to_promote_traps : Scenario
+abbrev pub suspend_with_nothing_to_promote_traps : ScenarioDef
 suspend_with_nothing_to_promote_traps = record {
   handles = 100000;
   table = 1000000;
@@ -182,7 +182,7 @@ suspend_with_nothing_to_promote_traps_labels = label.Main (main_label.Start 1 1)
     label.Loop loop_label.MainPends ∷ label.Take (take.Thread mark.High 3) ∷ label.Loop (loop_label.Trap trap.CannotBlockSyncTask 3) ∷ []
 
 -- a: h; b: s
-abbrev pub sync_call_of_a_waiting_callee_with_nothing_to_promote_traps : Scenario
+abbrev pub sync_call_of_a_waiting_callee_with_nothing_to_promote_traps : ScenarioDef
 sync_call_of_a_waiting_callee_with_nothing_to_promote_traps = record {
   handles = 100000;
   table = 1000000;
@@ -224,7 +224,7 @@ sync_call_of_a_waiting_callee_with_nothing_to_promote_traps_labels = label.Main 
     []
 
 -- a: h; b: s
-abbrev pub sync_cancel_with_nothing_to_promote_traps : Scenario
+abbrev pub sync_cancel_with_nothing_to_promote_traps : ScenarioDef
 sync_cancel_with_nothing_to_promote_traps = record {
   handles = 100000;
   table = 1000000;
@@ -267,7 +267,7 @@ sync_cancel_with_nothing_to_promote_traps_labels = label.Main (main_label.Start 
     label.Data (data_label.Handle 1 1) ∷ label.Loop (loop_label.Trap trap.CannotBlockSyncTask 1) ∷ []
 
 -- a: f
-abbrev pub callback_wait_on_no_set_traps : Scenario
+abbrev pub callback_wait_on_no_set_traps : ScenarioDef
 callback_wait_on_no_set_traps = record {
   handles = 100000;
   table = 1000000;

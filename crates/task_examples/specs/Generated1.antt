@@ -1,7 +1,7 @@
 -- Scenarios, and the labels of their runs.
 use Rattle.std.specs.Prelude.{List, None, Some, [], replicate, ◌∷◌}
 use Rattle.task_machine.specs.declared.label.Label.{Label}
-use Rattle.task_machine.specs.declared.scenario.Scenario.{Scenario}
+use Rattle.task_machine.specs.declared.scenario.ScenarioDef.{ScenarioDef}
 use Rattle.task_machine.specs.declared.label.CallLabel.TheVariants as call_label
 use Rattle.task_machine.specs.declared.op.CallOp.TheVariants as call_op
 use Rattle.task_machine.specs.declared.label.DataLabel.TheVariants as data_label
@@ -12,7 +12,7 @@ use Rattle.task_machine.specs.declared.component.ExportKind.TheVariants as kind
 use Rattle.task_machine.specs.declared.label.Label.TheVariants as label
 use Rattle.task_machine.specs.declared.label.LoopLabel.TheVariants as loop_label
 use Rattle.task_machine.specs.declared.label.MainLabel.TheVariants as main_label
-use Rattle.task_machine.specs.declared.scenario.MainOp.TheVariants as main_op
+use Rattle.task_machine.specs.declared.scenario.MainOpDef.TheVariants as main_op
 use Rattle.task_machine.specs.declared.words.Mark.TheVariants as mark
 use Rattle.task_machine.specs.declared.op.Op.TheVariants as op
 use Rattle.task_machine.specs.declared.op.Operand.TheVariants as operand
@@ -29,7 +29,7 @@ use Rattle.task_machine.specs.declared.op.ThreadOp.TheVariants as thread_op
 use Rattle.task_machine.specs.declared.trap.Trap.TheVariants as trap
 
 -- feed: log; up: a, n0, a93, m9, my0y_xba; feed90: xxa_x
-abbrev pub generated_01 : Scenario
+abbrev pub generated_01 : ScenarioDef
 generated_01 = record {
   handles = 100000;
   table = 1000000;
@@ -136,7 +136,7 @@ generated_01_labels = label.Main (main_label.Start 1 1) ∷ label.Loop loop_labe
     label.Loop loop_label.MainPends ∷ label.Loop (loop_label.FutureFails 1) ∷ []
 
 -- q: give, x1
-abbrev pub generated_02 : Scenario
+abbrev pub generated_02 : ScenarioDef
 generated_02 = record {
   handles = 11;
   table = 1000000;
@@ -194,7 +194,7 @@ generated_02_labels = label.Main (main_label.Start 1 1) ∷ label.Main (main_lab
     []
 
 -- up; q: do
-abbrev pub generated_03 : Scenario
+abbrev pub generated_03 : ScenarioDef
 generated_03 = record {
   handles = 100000;
   table = 1000000;
@@ -241,7 +241,7 @@ generated_03_labels = label.Main (main_label.Spawn 1 1) ∷ label.Loop loop_labe
     label.Take (take.Push mark.High 3) ∷ label.Loop loop_label.MainPends ∷ label.Loop (loop_label.FutureEnds 3) ∷ label.Loop loop_label.MainPends ∷ []
 
 -- r15: drop; f: down; iiqngrbnbxfpfxyt: d; x: load_it, join; req: edge
-abbrev pub generated_04 : Scenario
+abbrev pub generated_04 : ScenarioDef
 generated_04 = record {
   handles = 100000;
   table = 1000000;
@@ -349,7 +349,7 @@ generated_04_labels = label.Main (main_label.Start 1 1) ∷ label.Main (main_lab
     []
 
 -- db; y_2: join
-abbrev pub generated_05 : Scenario
+abbrev pub generated_05 : ScenarioDef
 generated_05 = record {
   handles = 100000;
   table = 1000000;
@@ -401,7 +401,7 @@ generated_05_labels = label.Main (main_label.Start 1 1) ∷ label.Main main_labe
     label.Main (main_label.Finish 1 0) ∷ label.Main (main_label.Answer 4) ∷ []
 
 -- down: rmcofngckeqhdfdk; d
-abbrev pub generated_06 : Scenario
+abbrev pub generated_06 : ScenarioDef
 generated_06 = record {
   handles = 100000;
   table = 1000000;
@@ -454,7 +454,7 @@ generated_06_labels = label.Main (main_label.Start 1 1) ∷ label.Loop loop_labe
     label.Loop (loop_label.FuturePends 4) ∷ label.Take (take.Thread mark.Low 4) ∷ label.Loop (loop_label.Trap trap.SubtaskCancelAfterTerminal 4) ∷ []
 
 -- feed: d_zx9ac, ky1c_y, ret, load_it
-abbrev pub generated_07 : Scenario
+abbrev pub generated_07 : ScenarioDef
 generated_07 = record {
   handles = 100000;
   table = 1000000;
@@ -524,7 +524,7 @@ generated_07_labels = label.Main (main_label.Start 1 1) ∷ label.Main (main_lab
     []
 
 -- net; log: do; give
-abbrev pub generated_08 : Scenario
+abbrev pub generated_08 : ScenarioDef
 generated_08 = record {
   handles = 100000;
   table = 1000000;

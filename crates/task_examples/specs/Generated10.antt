@@ -20,15 +20,15 @@ use Rattle.task_machine.specs.declared.op.SetOp.TheVariants as set_op
 use Rattle.task_machine.specs.declared.op.TaskOp.TheVariants as task_op
 use Rattle.task_machine.specs.declared.op.ThreadOp.TheVariants as thread_op
 use Rattle.task_machine.specs.declared.scenario.IdleLine.TheVariants as idle_line
-use Rattle.task_machine.specs.declared.scenario.MainOp.TheVariants as main_op
-use Rattle.task_machine.specs.declared.scenario.Scenario.{Scenario}
+use Rattle.task_machine.specs.declared.scenario.MainOpDef.TheVariants as main_op
+use Rattle.task_machine.specs.declared.scenario.ScenarioDef.{ScenarioDef}
 use Rattle.task_machine.specs.declared.trap.Trap.TheVariants as trap
 use Rattle.task_machine.specs.declared.words.Given.TheVariants as given
 use Rattle.task_machine.specs.declared.words.Mark.TheVariants as mark
 use Rattle.task_machine.specs.declared.words.Status.TheVariants as status
 
 -- load_it: h, go, thread, run; h: r15
-abbrev pub generated_29 : Scenario
+abbrev pub generated_29 : ScenarioDef
 generated_29 = record {
   handles = 100000;
   table = 1000000;
@@ -157,7 +157,7 @@ generated_29_labels = label.Main (main_label.Start 1 1) ∷ label.Loop loop_labe
     []
 
 -- p: end, n9_x, join, rzzc1, y_2; q: get
-abbrev pub generated_30 : Scenario
+abbrev pub generated_30 : ScenarioDef
 generated_30 = record {
   handles = 100000;
   table = 1000000;

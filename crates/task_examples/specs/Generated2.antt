@@ -1,7 +1,7 @@
 -- Scenarios, and the labels of their runs.
 use Rattle.std.specs.Prelude.{List, None, Some, [], replicate, ◌∷◌}
 use Rattle.task_machine.specs.declared.label.Label.{Label}
-use Rattle.task_machine.specs.declared.scenario.Scenario.{Scenario}
+use Rattle.task_machine.specs.declared.scenario.ScenarioDef.{ScenarioDef}
 use Rattle.task_machine.specs.declared.label.CallLabel.TheVariants as call_label
 use Rattle.task_machine.specs.declared.op.CallOp.TheVariants as call_op
 use Rattle.task_machine.specs.declared.label.DataLabel.TheVariants as data_label
@@ -12,7 +12,7 @@ use Rattle.task_machine.specs.declared.component.ExportKind.TheVariants as kind
 use Rattle.task_machine.specs.declared.label.Label.TheVariants as label
 use Rattle.task_machine.specs.declared.label.LoopLabel.TheVariants as loop_label
 use Rattle.task_machine.specs.declared.label.MainLabel.TheVariants as main_label
-use Rattle.task_machine.specs.declared.scenario.MainOp.TheVariants as main_op
+use Rattle.task_machine.specs.declared.scenario.MainOpDef.TheVariants as main_op
 use Rattle.task_machine.specs.declared.words.Mark.TheVariants as mark
 use Rattle.task_machine.specs.declared.op.Op.TheVariants as op
 use Rattle.task_machine.specs.declared.op.Operand.TheVariants as operand
@@ -28,7 +28,7 @@ use Rattle.task_machine.specs.declared.op.ThreadOp.TheVariants as thread_op
 use Rattle.task_machine.specs.declared.trap.Trap.TheVariants as trap
 
 -- f: edge; f43
-abbrev pub generated_09 : Scenario
+abbrev pub generated_09 : ScenarioDef
 generated_09 = record {
   handles = 11;
   table = 1000000;
@@ -87,7 +87,7 @@ generated_09_labels = label.Main (main_label.Start 1 1) ∷ label.Loop loop_labe
     label.Call (call_label.Fails 1 2) ∷ []
 
 -- wait: k; thread: thread, req, x1, work, e; thread2: s
-abbrev pub generated_10 : Scenario
+abbrev pub generated_10 : ScenarioDef
 generated_10 = record {
   handles = 100000;
   table = 1000000;
@@ -198,7 +198,7 @@ generated_10_labels = label.Main (main_label.Start 1 1) ∷ label.Main (main_lab
     label.Data (data_label.SkipEq 2) ∷ label.Task (task_label.Ret 2 8) ∷ label.Loop (loop_label.Trap trap.UnsupportedCallbackCode 2) ∷ []
 
 -- join: main; b: join; work: set
-abbrev pub generated_11 : Scenario
+abbrev pub generated_11 : ScenarioDef
 generated_11 = record {
   handles = 100000;
   table = 1000000;
@@ -277,7 +277,7 @@ generated_11_labels = label.Main (main_label.Start 1 1) ∷ label.Loop loop_labe
     label.Loop (loop_label.Trap trap.TaskReturnInvalid 4) ∷ []
 
 -- take; y_2: fkxeeifcxjkjdaly, net, export, r0, db, up, req
-abbrev pub generated_12 : Scenario
+abbrev pub generated_12 : ScenarioDef
 generated_12 = record {
   handles = 9;
   table = 1000000;
@@ -383,7 +383,7 @@ generated_12_labels = label.Main (main_label.Start 1 1) ∷ label.Main (main_lab
     label.Call (call_label.CallSync 8 121) ∷ label.Loop (loop_label.Trap trap.BadHandle 8) ∷ []
 
 -- req: r1; call: q; mk: t
-abbrev pub generated_13 : Scenario
+abbrev pub generated_13 : ScenarioDef
 generated_13 = record {
   handles = 100000;
   table = 1000000;
@@ -465,7 +465,7 @@ generated_13_labels = label.Main (main_label.Start 1 1) ∷ label.Main (main_lab
     []
 
 -- take; run: db
-abbrev pub generated_14 : Scenario
+abbrev pub generated_14 : ScenarioDef
 generated_14 = record {
   handles = 5;
   table = 1000000;

@@ -1,7 +1,7 @@
 -- Scenarios, and the labels of their runs.
 use Rattle.std.specs.Prelude.{List, None, Some, [], replicate, ◌∷◌}
 use Rattle.task_machine.specs.declared.label.Label.{Label}
-use Rattle.task_machine.specs.declared.scenario.Scenario.{Scenario}
+use Rattle.task_machine.specs.declared.scenario.ScenarioDef.{ScenarioDef}
 use Rattle.task_machine.specs.declared.label.CallLabel.TheVariants as call_label
 use Rattle.task_machine.specs.declared.op.CallOp.TheVariants as call_op
 use Rattle.task_machine.specs.declared.label.DataLabel.TheVariants as data_label
@@ -12,7 +12,7 @@ use Rattle.task_machine.specs.declared.component.ExportKind.TheVariants as kind
 use Rattle.task_machine.specs.declared.label.Label.TheVariants as label
 use Rattle.task_machine.specs.declared.label.LoopLabel.TheVariants as loop_label
 use Rattle.task_machine.specs.declared.label.MainLabel.TheVariants as main_label
-use Rattle.task_machine.specs.declared.scenario.MainOp.TheVariants as main_op
+use Rattle.task_machine.specs.declared.scenario.MainOpDef.TheVariants as main_op
 use Rattle.task_machine.specs.declared.words.Mark.TheVariants as mark
 use Rattle.task_machine.specs.declared.op.Op.TheVariants as op
 use Rattle.task_machine.specs.declared.op.Operand.TheVariants as operand
@@ -29,7 +29,7 @@ use Rattle.task_machine.specs.declared.op.ThreadOp.TheVariants as thread_op
 use Rattle.task_machine.specs.declared.trap.Trap.TheVariants as trap
 
 -- req; q: da, api, py_aa, react; work: db, thread, h, q; b
-abbrev pub generated_15 : Scenario
+abbrev pub generated_15 : ScenarioDef
 generated_15 = record {
   handles = 100000;
   table = 20;
@@ -161,7 +161,7 @@ generated_15_labels = label.Main main_label.Ready ∷ label.Main (main_label.Sta
     label.Loop loop_label.MainPends ∷ label.Take (take.Thread mark.High 7) ∷ label.Loop (loop_label.Trap trap.TableFull 7) ∷ []
 
 -- wait: y_2, load_it, call, net, s, put; q: y_2
-abbrev pub generated_16 : Scenario
+abbrev pub generated_16 : ScenarioDef
 generated_16 = record {
   handles = 100000;
   table = 1000000;
@@ -273,7 +273,7 @@ generated_16_labels = label.Main (main_label.Start 1 1) ∷ label.Main (main_lab
     label.Loop loop_label.MainPends ∷ label.Take (take.Thread mark.Switch 11) ∷ label.Loop (loop_label.Trap trap.BackpressureOverflow 11) ∷ []
 
 -- d: api, host, bad; work: wait, get, db
-abbrev pub generated_17 : Scenario
+abbrev pub generated_17 : ScenarioDef
 generated_17 = record {
   handles = 100000;
   table = 1000000;
@@ -393,7 +393,7 @@ generated_17_labels = label.Main (main_label.Start 1 1) ∷ label.Loop loop_labe
     []
 
 -- r0: e, y10y9cb, bad, mk, export, host, put, do; t: m; h: edge
-abbrev pub generated_18 : Scenario
+abbrev pub generated_18 : ScenarioDef
 generated_18 = record {
   handles = 100000;
   table = 1000000;

@@ -1,7 +1,7 @@
 -- Scenarios, and the labels of their runs.
 use Rattle.std.specs.Prelude.{List, None, Some, [], replicate, ◌∷◌}
 use Rattle.task_machine.specs.declared.label.Label.{Label}
-use Rattle.task_machine.specs.declared.scenario.Scenario.{Scenario}
+use Rattle.task_machine.specs.declared.scenario.ScenarioDef.{ScenarioDef}
 use Rattle.task_machine.specs.declared.label.CallLabel.TheVariants as call_label
 use Rattle.task_machine.specs.declared.op.CallOp.TheVariants as call_op
 use Rattle.task_machine.specs.declared.label.DataLabel.TheVariants as data_label
@@ -12,7 +12,7 @@ use Rattle.task_machine.specs.declared.component.ExportKind.TheVariants as kind
 use Rattle.task_machine.specs.declared.label.Label.TheVariants as label
 use Rattle.task_machine.specs.declared.label.LoopLabel.TheVariants as loop_label
 use Rattle.task_machine.specs.declared.label.MainLabel.TheVariants as main_label
-use Rattle.task_machine.specs.declared.scenario.MainOp.TheVariants as main_op
+use Rattle.task_machine.specs.declared.scenario.MainOpDef.TheVariants as main_op
 use Rattle.task_machine.specs.declared.words.Mark.TheVariants as mark
 use Rattle.task_machine.specs.declared.op.Op.TheVariants as op
 use Rattle.task_machine.specs.declared.op.Operand.TheVariants as operand
@@ -28,7 +28,7 @@ use Rattle.task_machine.specs.declared.op.ThreadOp.TheVariants as thread_op
 use Rattle.task_machine.specs.declared.trap.Trap.TheVariants as trap
 
 -- kay1a_; req: x1
-abbrev pub generated_19 : Scenario
+abbrev pub generated_19 : ScenarioDef
 generated_19 = record {
   handles = 100000;
   table = 1000000;
@@ -106,7 +106,7 @@ generated_19_labels = label.Main (main_label.Start 1 1) ∷ label.Loop loop_labe
     []
 
 -- ozzx_: b, u1_1xybc_, h, go, liujkdreeetmuqrj, a, q, get, host, f; ty_09: b; a
-abbrev pub generated_20 : Scenario
+abbrev pub generated_20 : ScenarioDef
 generated_20 = record {
   handles = 100000;
   table = 26;
@@ -264,7 +264,7 @@ generated_20_labels = label.Main (main_label.Start 1 1) ∷ label.Loop loop_labe
     label.Loop loop_label.MainPends ∷ label.Loop (loop_label.Deadlock trap.AsyncDeadlock) ∷ []
 
 -- z_: thread; f: get, work, disk, down, join; r0: zbwdnsoqglruhwmr, end; d: get, drop
-abbrev pub generated_21 : Scenario
+abbrev pub generated_21 : ScenarioDef
 generated_21 = record {
   handles = 100000;
   table = 1000000;

@@ -20,15 +20,15 @@ use Rattle.task_machine.specs.declared.op.SetOp.TheVariants as set_op
 use Rattle.task_machine.specs.declared.op.TaskOp.TheVariants as task_op
 use Rattle.task_machine.specs.declared.op.ThreadOp.TheVariants as thread_op
 use Rattle.task_machine.specs.declared.scenario.IdleLine.TheVariants as idle_line
-use Rattle.task_machine.specs.declared.scenario.MainOp.TheVariants as main_op
-use Rattle.task_machine.specs.declared.scenario.Scenario.{Scenario}
+use Rattle.task_machine.specs.declared.scenario.MainOpDef.TheVariants as main_op
+use Rattle.task_machine.specs.declared.scenario.ScenarioDef.{ScenarioDef}
 use Rattle.task_machine.specs.declared.trap.Trap.TheVariants as trap
 use Rattle.task_machine.specs.declared.words.Given.TheVariants as given
 use Rattle.task_machine.specs.declared.words.Mark.TheVariants as mark
 use Rattle.task_machine.specs.declared.words.Status.TheVariants as status
 
 -- db: tb1c11zz; c; api
-abbrev pub generated_27 : Scenario
+abbrev pub generated_27 : ScenarioDef
 generated_27 = record {
   handles = 100000;
   table = 1000000;
@@ -90,7 +90,7 @@ generated_27_labels = label.Main (main_label.Start 1 1) ∷ label.Loop loop_labe
     label.Thread (thread_label.Yield 4) ∷ label.Loop (loop_label.Trap trap.CannotBlockSyncTask 4) ∷ []
 
 -- wait: net, x1, p; call; join; db: c
-abbrev pub generated_28 : Scenario
+abbrev pub generated_28 : ScenarioDef
 generated_28 = record {
   handles = 100000;
   table = 1000000;

@@ -1,7 +1,7 @@
 -- Scenarios, and the labels of their runs.
 use Rattle.std.specs.Prelude.{List, [], replicate, ◌∷◌}
 use Rattle.task_machine.specs.declared.label.Label.{Label}
-use Rattle.task_machine.specs.declared.scenario.Scenario.{Scenario}
+use Rattle.task_machine.specs.declared.scenario.ScenarioDef.{ScenarioDef}
 use Rattle.task_machine.specs.declared.label.CallLabel.TheVariants as call_label
 use Rattle.task_machine.specs.declared.op.CallOp.TheVariants as call_op
 use Rattle.task_machine.specs.declared.label.DataLabel.TheVariants as data_label
@@ -11,7 +11,7 @@ use Rattle.task_machine.specs.declared.component.ExportKind.TheVariants as kind
 use Rattle.task_machine.specs.declared.label.Label.TheVariants as label
 use Rattle.task_machine.specs.declared.label.LoopLabel.TheVariants as loop_label
 use Rattle.task_machine.specs.declared.label.MainLabel.TheVariants as main_label
-use Rattle.task_machine.specs.declared.scenario.MainOp.TheVariants as main_op
+use Rattle.task_machine.specs.declared.scenario.MainOpDef.TheVariants as main_op
 use Rattle.task_machine.specs.declared.words.Mark.TheVariants as mark
 use Rattle.task_machine.specs.declared.op.Op.TheVariants as op
 use Rattle.task_machine.specs.declared.op.Operand.TheVariants as operand
@@ -25,7 +25,7 @@ use Rattle.task_machine.specs.declared.label.ThreadLabel.TheVariants as thread_l
 use Rattle.task_machine.specs.declared.trap.Trap.TheVariants as trap
 
 -- a: f
-abbrev pub backpressure_lowered_below_zero_traps : Scenario
+abbrev pub backpressure_lowered_below_zero_traps : ScenarioDef
 backpressure_lowered_below_zero_traps = record {
   handles = 100000;
   table = 1000000;
@@ -49,7 +49,7 @@ backpressure_lowered_below_zero_traps_labels = label.Main (main_label.Start 1 1)
     label.Loop (loop_label.Trap trap.BackpressureOverflow 1) ∷ []
 
 -- a: s; b: g
-abbrev pub direct_sync_call_answers_its_result : Scenario
+abbrev pub direct_sync_call_answers_its_result : ScenarioDef
 direct_sync_call_answers_its_result = record {
   handles = 100000;
   table = 1000000;
@@ -86,7 +86,7 @@ direct_sync_call_answers_its_result_labels = label.Main (main_label.Start 1 1) �
     label.Task (task_label.Ret 1 8) ∷ label.Task (task_label.Exit 1) ∷ label.Main (main_label.Finish 1 8) ∷ label.Main (main_label.Answer 8) ∷ []
 
 -- a: up, down, f; b: g
-abbrev pub held_start_runs_when_backpressure_falls_to_zero : Scenario
+abbrev pub held_start_runs_when_backpressure_falls_to_zero : ScenarioDef
 held_start_runs_when_backpressure_falls_to_zero = record {
   handles = 100000;
   table = 1000000;
@@ -145,7 +145,7 @@ held_start_runs_when_backpressure_falls_to_zero_labels = label.Main (main_label.
     label.Main (main_label.Answer 16) ∷ []
 
 -- a: s; b: g; c: m
-abbrev pub outer_caller_is_resumed_while_a_direct_callee_blocks : Scenario
+abbrev pub outer_caller_is_resumed_while_a_direct_callee_blocks : ScenarioDef
 outer_caller_is_resumed_while_a_direct_callee_blocks = record {
   handles = 100000;
   table = 1000000;

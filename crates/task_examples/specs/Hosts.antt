@@ -1,7 +1,7 @@
 -- Scenarios, and the labels of their runs.
 use Rattle.std.specs.Prelude.{List, None, Some, [], replicate, ◌∷◌}
 use Rattle.task_machine.specs.declared.label.Label.{Label}
-use Rattle.task_machine.specs.declared.scenario.Scenario.{Scenario}
+use Rattle.task_machine.specs.declared.scenario.ScenarioDef.{ScenarioDef}
 use Rattle.task_machine.specs.declared.label.CallLabel.TheVariants as call_label
 use Rattle.task_machine.specs.declared.op.CallOp.TheVariants as call_op
 use Rattle.task_machine.specs.declared.words.Given.TheVariants as given
@@ -10,7 +10,7 @@ use Rattle.task_machine.specs.declared.component.ExportKind.TheVariants as kind
 use Rattle.task_machine.specs.declared.label.Label.TheVariants as label
 use Rattle.task_machine.specs.declared.label.LoopLabel.TheVariants as loop_label
 use Rattle.task_machine.specs.declared.label.MainLabel.TheVariants as main_label
-use Rattle.task_machine.specs.declared.scenario.MainOp.TheVariants as main_op
+use Rattle.task_machine.specs.declared.scenario.MainOpDef.TheVariants as main_op
 use Rattle.task_machine.specs.declared.words.Mark.TheVariants as mark
 use Rattle.task_machine.specs.declared.op.Op.TheVariants as op
 use Rattle.task_machine.specs.declared.op.Operand.TheVariants as operand
@@ -26,7 +26,7 @@ use Rattle.task_machine.specs.declared.label.ThreadLabel.TheVariants as thread_l
 use Rattle.task_machine.specs.declared.trap.Trap.TheVariants as trap
 
 -- a: f
-abbrev pub async_host_calls_ready_at_once_and_later : Scenario
+abbrev pub async_host_calls_ready_at_once_and_later : ScenarioDef
 async_host_calls_ready_at_once_and_later = record {
   handles = 100000;
   table = 1000000;
@@ -64,7 +64,7 @@ async_host_calls_ready_at_once_and_later_labels = label.Main (main_label.Start 1
     label.Task (task_label.Ret 1 9) ∷ label.Task (task_label.Exit 1) ∷ label.Main (main_label.Finish 1 9) ∷ label.Main (main_label.Answer 9) ∷ []
 
 -- no instance
-abbrev pub awaited_never_ending_spawn_is_idle : Scenario
+abbrev pub awaited_never_ending_spawn_is_idle : ScenarioDef
 awaited_never_ending_spawn_is_idle = record {
   handles = 100000;
   table = 1000000;
@@ -84,7 +84,7 @@ awaited_never_ending_spawn_is_idle_labels = label.Main (main_label.Spawn 1 1) �
     label.Loop loop_label.MainPends ∷ label.Loop (loop_label.FuturePends 1) ∷ []
 
 -- no instance
-abbrev pub failing_spawn_fails_the_run : Scenario
+abbrev pub failing_spawn_fails_the_run : ScenarioDef
 failing_spawn_fails_the_run = record {
   handles = 100000;
   table = 1000000;
@@ -106,7 +106,7 @@ failing_spawn_fails_the_run_labels = label.Main (main_label.Spawn 1 1) ∷ label
     label.Loop loop_label.MainPends ∷ label.Loop (loop_label.FutureFails 1) ∷ []
 
 -- a: f
-abbrev pub live_never_ending_spawn_is_idle_under_idle_trap : Scenario
+abbrev pub live_never_ending_spawn_is_idle_under_idle_trap : ScenarioDef
 live_never_ending_spawn_is_idle_under_idle_trap = record {
   handles = 100000;
   table = 1000000;
@@ -141,7 +141,7 @@ live_never_ending_spawn_is_idle_under_idle_trap_labels = label.Main (main_label.
     []
 
 -- a: f
-abbrev pub live_never_ending_spawn_is_idle_under_idle_wait : Scenario
+abbrev pub live_never_ending_spawn_is_idle_under_idle_wait : ScenarioDef
 live_never_ending_spawn_is_idle_under_idle_wait = record {
   handles = 100000;
   table = 1000000;
@@ -176,7 +176,7 @@ live_never_ending_spawn_is_idle_under_idle_wait_labels = label.Main (main_label.
     []
 
 -- no instance
-abbrev pub main_aborts_a_never_ending_spawn : Scenario
+abbrev pub main_aborts_a_never_ending_spawn : ScenarioDef
 main_aborts_a_never_ending_spawn = record {
   handles = 100000;
   table = 1000000;
@@ -198,7 +198,7 @@ main_aborts_a_never_ending_spawn_labels = label.Main (main_label.Spawn 1 1) ∷ 
     label.Main (main_label.Answer 4) ∷ []
 
 -- a: f
-abbrev pub set_drop_with_a_member_and_no_waiter_traps : Scenario
+abbrev pub set_drop_with_a_member_and_no_waiter_traps : ScenarioDef
 set_drop_with_a_member_and_no_waiter_traps = record {
   handles = 100000;
   table = 1000000;

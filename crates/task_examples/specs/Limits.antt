@@ -1,13 +1,13 @@
 -- Scenarios, and the labels of their runs.
 use Rattle.std.specs.Prelude.{List, [], replicate, ◌∷◌}
 use Rattle.task_machine.specs.declared.label.Label.{Label}
-use Rattle.task_machine.specs.declared.scenario.Scenario.{Scenario}
+use Rattle.task_machine.specs.declared.scenario.ScenarioDef.{ScenarioDef}
 use Rattle.task_machine.specs.declared.scenario.IdleLine.TheVariants as idle_line
 use Rattle.task_machine.specs.declared.component.ExportKind.TheVariants as kind
 use Rattle.task_machine.specs.declared.label.Label.TheVariants as label
 use Rattle.task_machine.specs.declared.label.LoopLabel.TheVariants as loop_label
 use Rattle.task_machine.specs.declared.label.MainLabel.TheVariants as main_label
-use Rattle.task_machine.specs.declared.scenario.MainOp.TheVariants as main_op
+use Rattle.task_machine.specs.declared.scenario.MainOpDef.TheVariants as main_op
 use Rattle.task_machine.specs.declared.words.Mark.TheVariants as mark
 use Rattle.task_machine.specs.declared.op.Op.TheVariants as op
 use Rattle.task_machine.specs.declared.op.Operand.TheVariants as operand
@@ -18,7 +18,7 @@ use Rattle.task_machine.specs.declared.op.TaskOp.TheVariants as task_op
 use Rattle.task_machine.specs.declared.trap.Trap.TheVariants as trap
 
 -- a: f
-abbrev pub full_table_refuses_a_start_and_the_run_goes_on : Scenario
+abbrev pub full_table_refuses_a_start_and_the_run_goes_on : ScenarioDef
 full_table_refuses_a_start_and_the_run_goes_on = record {
   handles = 100000;
   table = 7;
@@ -46,7 +46,7 @@ full_table_refuses_a_start_and_the_run_goes_on_labels = label.Main (main_label.S
     label.Task (task_label.Ret 1 1) ∷ label.Task (task_label.Exit 1) ∷ label.Main (main_label.Finish 1 1) ∷ label.Main (main_label.Answer 1) ∷ []
 
 -- a: f
-abbrev pub handle_limit_one_suffices_for_one_thread : Scenario
+abbrev pub handle_limit_one_suffices_for_one_thread : ScenarioDef
 handle_limit_one_suffices_for_one_thread = record {
   handles = 1;
   table = 1000000;
@@ -70,7 +70,7 @@ handle_limit_one_suffices_for_one_thread_labels = label.Main (main_label.Start 1
     label.Task (task_label.Ret 1 7) ∷ label.Task (task_label.Exit 1) ∷ label.Main (main_label.Finish 1 7) ∷ label.Main (main_label.Answer 7) ∷ []
 
 -- a: f
-abbrev pub handle_limit_zero_traps_the_first_start : Scenario
+abbrev pub handle_limit_zero_traps_the_first_start : ScenarioDef
 handle_limit_zero_traps_the_first_start = record {
   handles = 0;
   table = 1000000;
@@ -94,7 +94,7 @@ handle_limit_zero_traps_the_first_start_labels = label.Main (main_label.Start 1 
     []
 
 -- a: f
-abbrev pub small_table_refuses_the_only_start : Scenario
+abbrev pub small_table_refuses_the_only_start : ScenarioDef
 small_table_refuses_the_only_start = record {
   handles = 100000;
   table = 3;

@@ -3,10 +3,10 @@ use Rattle.std.specs.List.Sorted.{apply_swaps}
 use Rattle.std.specs.Prelude.{Bool, List, None, Option, Some, [], false, if◌then◌else◌, length, nat_lt, true, ℕ, ◌&&◌, ◌+◌, ◌==◌, ◌∷◌}
 use Rattle.task_machine.specs.declared.records.Entry.{Entry}
 use Rattle.task_machine.specs.declared.label.Label.{Label}
-use Rattle.task_machine.specs.declared.scenario.MainOp.{MainOp}
+use Rattle.task_machine.specs.declared.scenario.MainOpDef.{MainOpDef}
 use Rattle.task_machine.specs.declared.words.Mark.{Mark}
 use Rattle.task_machine.specs.declared.outcome.Outcome.{Outcome}
-use Rattle.task_machine.specs.declared.scenario.Scenario.{Scenario}
+use Rattle.task_machine.specs.declared.scenario.ScenarioDef.{ScenarioDef}
 use Rattle.task_machine.specs.declared.records.Turn.{Turn}
 use Rattle.task_machine.specs.declared.label.CallLabel.TheVariants as call_label
 use Rattle.task_machine.specs.declared.label.Label.TheVariants as label
@@ -64,12 +64,12 @@ ran s base n ps (Fails i) = Some (label.Call (call_label.Fails n i), goes_to s (
 ran s base n ps Never = None
 ran s base n ps (Ordered ns next) = if_fits (in_range (length ns) ps) (ran s base n ps (next (apply_swaps ns ps)))
 
-abbrev pub main_did : State → MainPlace → MainOp → MainProgress → Next
+abbrev pub main_did : State → MainPlace → MainOpDef → MainProgress → Next
 main_did s p o (Does l new) = Some (label.Main l, at_turn s new (Scripted (advanced_main o l p)) turn.Main)
 main_did s p o Pends = Some (label.Loop loop_label.MainPends, goes_to s s.core (turn.Futures 0))
 main_did s p o (Answers v) = Some (label.Main (main_label.Answer v), goes_to s s.core turn.Over)
 
-abbrev pub script_did : Setting → State → MainPlace → Option MainOp → Next
+abbrev pub script_did : Setting → State → MainPlace → Option MainOpDef → Next
 script_did x s p None = Some (label.Loop loop_label.MainPends, goes_to s s.core (turn.Futures 0))
 script_did x s p (Some o) = main_did s p o (main_row x.component (line_of p o) s.core (act_of p o))
 
@@ -133,7 +133,7 @@ play x os k [] s = stays s
 play x os k (l ∷ ls) s = on s (λ t. play x os (k + 1) ls t) (turned x s (choice_of l) (swaps_at k os) s.turn)
 
 -- From the opening state of the scenario the machine may show these labels, and this is then what the run has come to.
-pub record Example (x : Scenario) (steps : ℕ) (labels : List Label) (o : Outcome) : Type 0 where
+pub record Example (x : ScenarioDef) (steps : ℕ) (labels : List Label) (o : Outcome) : Type 0 where
   pub last : State
   pub run : Run (setting_of x) (opens x) labels last
   pub ends : IsOutcome (setting_of x) last labels steps o

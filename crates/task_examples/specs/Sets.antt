@@ -1,13 +1,13 @@
 -- Scenarios, and the labels of their runs.
 use Rattle.std.specs.Prelude.{List, [], replicate, ◌∷◌}
 use Rattle.task_machine.specs.declared.label.Label.{Label}
-use Rattle.task_machine.specs.declared.scenario.Scenario.{Scenario}
+use Rattle.task_machine.specs.declared.scenario.ScenarioDef.{ScenarioDef}
 use Rattle.task_machine.specs.declared.scenario.IdleLine.TheVariants as idle_line
 use Rattle.task_machine.specs.declared.component.ExportKind.TheVariants as kind
 use Rattle.task_machine.specs.declared.label.Label.TheVariants as label
 use Rattle.task_machine.specs.declared.label.LoopLabel.TheVariants as loop_label
 use Rattle.task_machine.specs.declared.label.MainLabel.TheVariants as main_label
-use Rattle.task_machine.specs.declared.scenario.MainOp.TheVariants as main_op
+use Rattle.task_machine.specs.declared.scenario.MainOpDef.TheVariants as main_op
 use Rattle.task_machine.specs.declared.words.Mark.TheVariants as mark
 use Rattle.task_machine.specs.declared.op.Op.TheVariants as op
 use Rattle.task_machine.specs.declared.op.Operand.TheVariants as operand
@@ -20,7 +20,7 @@ use Rattle.task_machine.specs.declared.op.TaskOp.TheVariants as task_op
 use Rattle.task_machine.specs.declared.trap.Trap.TheVariants as trap
 
 -- a: f
-abbrev pub callback_wait_on_empty_set_deadlocks : Scenario
+abbrev pub callback_wait_on_empty_set_deadlocks : ScenarioDef
 callback_wait_on_empty_set_deadlocks = record {
   handles = 100000;
   table = 1000000;
@@ -50,7 +50,7 @@ callback_wait_on_empty_set_deadlocks_labels = label.Main (main_label.Start 1 1) 
     []
 
 -- a: f
-abbrev pub callback_wait_on_empty_set_is_idle_under_idle_wait : Scenario
+abbrev pub callback_wait_on_empty_set_is_idle_under_idle_wait : ScenarioDef
 callback_wait_on_empty_set_is_idle_under_idle_wait = record {
   handles = 100000;
   table = 1000000;
@@ -83,7 +83,7 @@ callback_wait_on_empty_set_is_idle_under_idle_wait_labels = label.Main (main_lab
     label.Set (set_label.New 1 1) ∷ label.Task (task_label.CbWait 1) ∷ label.Loop loop_label.MainPends ∷ []
 
 -- a: f
-abbrev pub freed_set_handle_is_given_again_up_to_the_limit : Scenario
+abbrev pub freed_set_handle_is_given_again_up_to_the_limit : ScenarioDef
 freed_set_handle_is_given_again_up_to_the_limit = record {
   handles = 2;
   table = 1000000;
@@ -114,7 +114,7 @@ freed_set_handle_is_given_again_up_to_the_limit_labels = label.Main (main_label.
     []
 
 -- a: f
-abbrev pub handle_limit_one_stops_the_first_set : Scenario
+abbrev pub handle_limit_one_stops_the_first_set : ScenarioDef
 handle_limit_one_stops_the_first_set = record {
   handles = 1;
   table = 1000000;
@@ -145,7 +145,7 @@ handle_limit_one_stops_the_first_set_labels = label.Main (main_label.Start 1 1) 
     label.Loop (loop_label.Trap trap.HandleLimit 1) ∷ []
 
 -- a: f
-abbrev pub handle_limit_zero_stops_the_start : Scenario
+abbrev pub handle_limit_zero_stops_the_start : ScenarioDef
 handle_limit_zero_stops_the_start = record {
   handles = 0;
   table = 1000000;
@@ -177,7 +177,7 @@ handle_limit_zero_stops_the_start_labels = label.Main (main_label.Start 1 1) ∷
     []
 
 -- a: f
-abbrev pub unknown_callback_code_traps : Scenario
+abbrev pub unknown_callback_code_traps : ScenarioDef
 unknown_callback_code_traps = record {
   handles = 100000;
   table = 1000000;

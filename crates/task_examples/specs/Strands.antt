@@ -1,7 +1,7 @@
 -- Scenarios, and the labels of their runs.
 use Rattle.std.specs.Prelude.{List, [], replicate, ◌∷◌}
 use Rattle.task_machine.specs.declared.label.Label.{Label}
-use Rattle.task_machine.specs.declared.scenario.Scenario.{Scenario}
+use Rattle.task_machine.specs.declared.scenario.ScenarioDef.{ScenarioDef}
 use Rattle.task_machine.specs.declared.label.DataLabel.TheVariants as data_label
 use Rattle.task_machine.specs.declared.op.DataOp.TheVariants as data_op
 use Rattle.task_machine.specs.declared.words.Given.TheVariants as given
@@ -10,7 +10,7 @@ use Rattle.task_machine.specs.declared.component.ExportKind.TheVariants as kind
 use Rattle.task_machine.specs.declared.label.Label.TheVariants as label
 use Rattle.task_machine.specs.declared.label.LoopLabel.TheVariants as loop_label
 use Rattle.task_machine.specs.declared.label.MainLabel.TheVariants as main_label
-use Rattle.task_machine.specs.declared.scenario.MainOp.TheVariants as main_op
+use Rattle.task_machine.specs.declared.scenario.MainOpDef.TheVariants as main_op
 use Rattle.task_machine.specs.declared.words.Mark.TheVariants as mark
 use Rattle.task_machine.specs.declared.op.Op.TheVariants as op
 use Rattle.task_machine.specs.declared.op.Operand.TheVariants as operand
@@ -24,7 +24,7 @@ use Rattle.task_machine.specs.declared.label.ThreadLabel.TheVariants as thread_l
 use Rattle.task_machine.specs.declared.trap.Trap.TheVariants as trap
 
 -- a: f
-abbrev pub return_in_a_sync_export_traps : Scenario
+abbrev pub return_in_a_sync_export_traps : ScenarioDef
 return_in_a_sync_export_traps = record {
   handles = 100000;
   table = 1000000;
@@ -49,7 +49,7 @@ return_in_a_sync_export_traps_labels = label.Main (main_label.Start 1 1) ∷ lab
     label.Loop (loop_label.Trap trap.TaskReturnInvalid 1) ∷ []
 
 -- a: f
-abbrev pub sync_export_answers_its_first_register : Scenario
+abbrev pub sync_export_answers_its_first_register : ScenarioDef
 sync_export_answers_its_first_register = record {
   handles = 100000;
   table = 1000000;
@@ -73,7 +73,7 @@ sync_export_answers_its_first_register_labels = label.Main (main_label.Start 1 1
     label.Data (data_label.Add 1 8) ∷ label.Task (task_label.Exit 1) ∷ label.Main (main_label.Finish 1 8) ∷ label.Main (main_label.Answer 8) ∷ []
 
 -- a: g, f
-abbrev pub sync_wait_promotes_a_yield_then_deadlock_nine : Scenario
+abbrev pub sync_wait_promotes_a_yield_then_deadlock_nine : ScenarioDef
 sync_wait_promotes_a_yield_then_deadlock_nine = record {
   handles = 100000;
   table = 1000000;
@@ -107,7 +107,7 @@ sync_wait_promotes_a_yield_then_deadlock_nine_labels = label.Main (main_label.St
     []
 
 -- a: g, f
-abbrev pub sync_wait_promotes_a_yield_whose_exit_then_traps : Scenario
+abbrev pub sync_wait_promotes_a_yield_whose_exit_then_traps : ScenarioDef
 sync_wait_promotes_a_yield_whose_exit_then_traps = record {
   handles = 100000;
   table = 1000000;
@@ -140,7 +140,7 @@ sync_wait_promotes_a_yield_whose_exit_then_traps_labels = label.Main (main_label
     label.Task (task_label.Ret 1 0) ∷ label.Loop (loop_label.Trap trap.CannotBlockSyncTask 1) ∷ []
 
 -- a: g, f
-abbrev pub wait_in_sync_export_with_nothing_to_promote_traps : Scenario
+abbrev pub wait_in_sync_export_with_nothing_to_promote_traps : ScenarioDef
 wait_in_sync_export_with_nothing_to_promote_traps = record {
   handles = 100000;
   table = 1000000;
@@ -171,7 +171,7 @@ wait_in_sync_export_with_nothing_to_promote_traps_labels = label.Main (main_labe
     label.Set (set_label.New 1 1) ∷ label.Loop (loop_label.Trap trap.CannotBlockSyncTask 1) ∷ []
 
 -- a: f
-abbrev pub wait_on_empty_set_deadlocks : Scenario
+abbrev pub wait_on_empty_set_deadlocks : ScenarioDef
 wait_on_empty_set_deadlocks = record {
   handles = 100000;
   table = 1000000;
@@ -205,7 +205,7 @@ wait_on_empty_set_deadlocks_labels = label.Main (main_label.Start 1 1) ∷ label
     []
 
 -- a: f
-abbrev pub wait_on_empty_set_is_idle_under_idle_wait : Scenario
+abbrev pub wait_on_empty_set_is_idle_under_idle_wait : ScenarioDef
 wait_on_empty_set_is_idle_under_idle_wait = record {
   handles = 100000;
   table = 1000000;

@@ -1,7 +1,7 @@
 -- Scenarios, and the labels of their runs.
 use Rattle.std.specs.Prelude.{List, Some, [], replicate, ◌∷◌}
 use Rattle.task_machine.specs.declared.label.Label.{Label}
-use Rattle.task_machine.specs.declared.scenario.Scenario.{Scenario}
+use Rattle.task_machine.specs.declared.scenario.ScenarioDef.{ScenarioDef}
 use Rattle.task_machine.specs.declared.component.ExportKind.TheVariants as kind
 use Rattle.task_machine.specs.declared.component.Slot.TheVariants as slot
 use Rattle.task_machine.specs.declared.label.CallLabel.TheVariants as call_label
@@ -21,14 +21,14 @@ use Rattle.task_machine.specs.declared.op.SetOp.TheVariants as set_op
 use Rattle.task_machine.specs.declared.op.TaskOp.TheVariants as task_op
 use Rattle.task_machine.specs.declared.op.ThreadOp.TheVariants as thread_op
 use Rattle.task_machine.specs.declared.scenario.IdleLine.TheVariants as idle_line
-use Rattle.task_machine.specs.declared.scenario.MainOp.TheVariants as main_op
+use Rattle.task_machine.specs.declared.scenario.MainOpDef.TheVariants as main_op
 use Rattle.task_machine.specs.declared.trap.Trap.TheVariants as trap
 use Rattle.task_machine.specs.declared.words.Given.TheVariants as given
 use Rattle.task_machine.specs.declared.words.Mark.TheVariants as mark
 use Rattle.task_machine.specs.declared.words.Status.TheVariants as status
 
 -- a: s, f, y; b: c, d
-abbrev pub cancel_of_a_yield_that_stands_at_switch : Scenario
+abbrev pub cancel_of_a_yield_that_stands_at_switch : ScenarioDef
 cancel_of_a_yield_that_stands_at_switch = record {
   handles = 100000;
   table = 1000000;
@@ -93,7 +93,7 @@ cancel_of_a_yield_that_stands_at_switch_labels = label.Main (main_label.Start 1 
     label.Task (task_label.Ret 4 4) ∷ label.Task (task_label.Exit 4) ∷ label.Main (main_label.Finish 4 4) ∷ label.Main (main_label.Answer 4) ∷ []
 
 -- a: s, f, y; b: c, d
-abbrev pub cancel_of_a_yield_that_stands_at_high : Scenario
+abbrev pub cancel_of_a_yield_that_stands_at_high : ScenarioDef
 cancel_of_a_yield_that_stands_at_high = record {
   handles = 100000;
   table = 1000000;
@@ -160,7 +160,7 @@ cancel_of_a_yield_that_stands_at_high_labels = label.Main (main_label.Start 1 1)
     label.Task (task_label.Exit 4) ∷ label.Main (main_label.Finish 4 4) ∷ label.Main (main_label.Answer 4) ∷ []
 
 -- a: f
-abbrev pub cancel_of_a_host_call_whose_entry_was_not_taken_leaves_its_value : Scenario
+abbrev pub cancel_of_a_host_call_whose_entry_was_not_taken_leaves_its_value : ScenarioDef
 cancel_of_a_host_call_whose_entry_was_not_taken_leaves_its_value = record {
   handles = 100000;
   table = 1000000;
@@ -204,7 +204,7 @@ cancel_of_a_host_call_whose_entry_was_not_taken_leaves_its_value_labels = label.
     label.Task (task_label.Ret 1 6) ∷ label.Task (task_label.Exit 1) ∷ label.Main (main_label.Finish 1 6) ∷ label.Main (main_label.Answer 6) ∷ []
 
 -- a: h; b: f
-abbrev pub cancel_after_the_end_was_taken_traps : Scenario
+abbrev pub cancel_after_the_end_was_taken_traps : ScenarioDef
 cancel_after_the_end_was_taken_traps = record {
   handles = 100000;
   table = 1000000;
@@ -253,7 +253,7 @@ cancel_after_the_end_was_taken_traps_labels = label.Main (main_label.Start 1 1) 
     label.Set (set_label.Join 1) ∷ label.Loop (loop_label.Trap trap.SubtaskCancelAfterTerminal 1) ∷ []
 
 -- a: h; b: f
-abbrev pub drop_before_the_end_was_taken_traps : Scenario
+abbrev pub drop_before_the_end_was_taken_traps : ScenarioDef
 drop_before_the_end_was_taken_traps = record {
   handles = 100000;
   table = 1000000;
@@ -299,7 +299,7 @@ drop_before_the_end_was_taken_traps_labels = label.Main (main_label.Start 1 1) �
     label.Loop (loop_label.Trap trap.SubtaskDropNotResolved 1) ∷ []
 
 -- a: h; b: f
-abbrev pub task_cancel_after_a_return_traps : Scenario
+abbrev pub task_cancel_after_a_return_traps : ScenarioDef
 task_cancel_after_a_return_traps = record {
   handles = 100000;
   table = 1000000;
@@ -340,7 +340,7 @@ task_cancel_after_a_return_traps_labels = label.Main (main_label.Start 1 1) ∷ 
     label.Task (task_label.Ret 2 1) ∷ label.Loop (loop_label.Trap trap.TaskCancelOrReturnTwice 2) ∷ []
 
 -- a: f
-abbrev pub set_drop_with_a_waiter_traps : Scenario
+abbrev pub set_drop_with_a_waiter_traps : ScenarioDef
 set_drop_with_a_waiter_traps = record {
   handles = 100000;
   table = 1000000;

@@ -1,7 +1,7 @@
 -- Scenarios, and the labels of their runs.
 use Rattle.std.specs.Prelude.{List, Some, [], replicate, ◌∷◌}
 use Rattle.task_machine.specs.declared.label.Label.{Label}
-use Rattle.task_machine.specs.declared.scenario.Scenario.{Scenario}
+use Rattle.task_machine.specs.declared.scenario.ScenarioDef.{ScenarioDef}
 use Rattle.task_machine.specs.declared.label.CallLabel.TheVariants as call_label
 use Rattle.task_machine.specs.declared.op.CallOp.TheVariants as call_op
 use Rattle.task_machine.specs.declared.words.Given.TheVariants as given
@@ -10,7 +10,7 @@ use Rattle.task_machine.specs.declared.component.ExportKind.TheVariants as kind
 use Rattle.task_machine.specs.declared.label.Label.TheVariants as label
 use Rattle.task_machine.specs.declared.label.LoopLabel.TheVariants as loop_label
 use Rattle.task_machine.specs.declared.label.MainLabel.TheVariants as main_label
-use Rattle.task_machine.specs.declared.scenario.MainOp.TheVariants as main_op
+use Rattle.task_machine.specs.declared.scenario.MainOpDef.TheVariants as main_op
 use Rattle.task_machine.specs.declared.words.Mark.TheVariants as mark
 use Rattle.task_machine.specs.declared.op.Op.TheVariants as op
 use Rattle.task_machine.specs.declared.op.Operand.TheVariants as operand
@@ -26,7 +26,7 @@ use Rattle.task_machine.specs.declared.op.ThreadOp.TheVariants as thread_op
 use Rattle.task_machine.specs.declared.trap.Trap.TheVariants as trap
 
 -- a: f; b: g
-abbrev pub join_of_a_subtask_under_sync_cancel_traps : Scenario
+abbrev pub join_of_a_subtask_under_sync_cancel_traps : ScenarioDef
 join_of_a_subtask_under_sync_cancel_traps = record {
   handles = 100000;
   table = 1000000;
@@ -74,7 +74,7 @@ join_of_a_subtask_under_sync_cancel_traps_labels = label.Main (main_label.Start 
     []
 
 -- a: g
-abbrev pub set_drop_with_a_woken_waiter_that_has_not_run_traps : Scenario
+abbrev pub set_drop_with_a_woken_waiter_that_has_not_run_traps : ScenarioDef
 set_drop_with_a_woken_waiter_that_has_not_run_traps = record {
   handles = 100000;
   table = 1000000;
@@ -113,7 +113,7 @@ set_drop_with_a_woken_waiter_that_has_not_run_traps_labels = label.Main (main_la
     label.Set (set_label.JoinWakes 1 2) ∷ label.Set (set_label.Join 1) ∷ label.Loop (loop_label.Trap trap.WaitableSetDropHasWaiters 1) ∷ []
 
 -- a: f
-abbrev pub thread_new_from_a_bad_slot_traps : Scenario
+abbrev pub thread_new_from_a_bad_slot_traps : ScenarioDef
 thread_new_from_a_bad_slot_traps = record {
   handles = 100000;
   table = 1000000;
@@ -144,7 +144,7 @@ thread_new_from_a_bad_slot_traps_labels = label.Main (main_label.Start 1 1) ∷ 
     label.Loop (loop_label.Trap trap.ThreadNewIndirectInvalidType 1) ∷ []
 
 -- a: f
-abbrev pub thread_new_from_a_slot_without_a_line_traps : Scenario
+abbrev pub thread_new_from_a_slot_without_a_line_traps : ScenarioDef
 thread_new_from_a_slot_without_a_line_traps = record {
   handles = 100000;
   table = 1000000;
@@ -174,7 +174,7 @@ thread_new_from_a_slot_without_a_line_traps_labels = label.Main (main_label.Star
     label.Loop (loop_label.Trap trap.ThreadNewIndirectUninitialized 1) ∷ []
 
 -- a: f
-abbrev pub thread_that_resumes_itself_traps : Scenario
+abbrev pub thread_that_resumes_itself_traps : ScenarioDef
 thread_that_resumes_itself_traps = record {
   handles = 100000;
   table = 1000000;
@@ -206,7 +206,7 @@ thread_that_resumes_itself_traps_labels = label.Main (main_label.Start 1 1) ∷ 
     label.Thread (thread_label.Index 1 1) ∷ label.Loop (loop_label.Trap trap.CannotResumeThread 1) ∷ []
 
 -- a: g
-abbrev pub woken_thread_whose_event_was_taken_waits_again : Scenario
+abbrev pub woken_thread_whose_event_was_taken_waits_again : ScenarioDef
 woken_thread_whose_event_was_taken_waits_again = record {
   handles = 100000;
   table = 1000000;
@@ -246,7 +246,7 @@ woken_thread_whose_event_was_taken_waits_again_labels = label.Main (main_label.S
     label.Loop loop_label.MainPends ∷ label.Loop (loop_label.Deadlock trap.AsyncDeadlock) ∷ []
 
 -- a: f
-abbrev pub yield_then_promote_of_an_unstarted_thread_is_a_plain_yield : Scenario
+abbrev pub yield_then_promote_of_an_unstarted_thread_is_a_plain_yield : ScenarioDef
 yield_then_promote_of_an_unstarted_thread_is_a_plain_yield = record {
   handles = 100000;
   table = 1000000;

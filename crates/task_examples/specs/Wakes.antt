@@ -1,7 +1,7 @@
 -- Scenarios, and the labels of their runs.
 use Rattle.std.specs.Prelude.{List, Some, [], replicate, ◌∷◌}
 use Rattle.task_machine.specs.declared.label.Label.{Label}
-use Rattle.task_machine.specs.declared.scenario.Scenario.{Scenario}
+use Rattle.task_machine.specs.declared.scenario.ScenarioDef.{ScenarioDef}
 use Rattle.task_machine.specs.declared.label.CallLabel.TheVariants as call_label
 use Rattle.task_machine.specs.declared.op.CallOp.TheVariants as call_op
 use Rattle.task_machine.specs.declared.words.Given.TheVariants as given
@@ -10,7 +10,7 @@ use Rattle.task_machine.specs.declared.component.ExportKind.TheVariants as kind
 use Rattle.task_machine.specs.declared.label.Label.TheVariants as label
 use Rattle.task_machine.specs.declared.label.LoopLabel.TheVariants as loop_label
 use Rattle.task_machine.specs.declared.label.MainLabel.TheVariants as main_label
-use Rattle.task_machine.specs.declared.scenario.MainOp.TheVariants as main_op
+use Rattle.task_machine.specs.declared.scenario.MainOpDef.TheVariants as main_op
 use Rattle.task_machine.specs.declared.words.Mark.TheVariants as mark
 use Rattle.task_machine.specs.declared.op.Op.TheVariants as op
 use Rattle.task_machine.specs.declared.op.Operand.TheVariants as operand
@@ -27,7 +27,7 @@ use Rattle.task_machine.specs.declared.op.ThreadOp.TheVariants as thread_op
 use Rattle.task_machine.specs.declared.trap.Trap.TheVariants as trap
 
 -- a: f, k; b: g
-abbrev pub cancelled_delivery_hands_its_wake_to_the_next_waiter : Scenario
+abbrev pub cancelled_delivery_hands_its_wake_to_the_next_waiter : ScenarioDef
 cancelled_delivery_hands_its_wake_to_the_next_waiter = record {
   handles = 100000;
   table = 1000000;
@@ -91,7 +91,7 @@ cancelled_delivery_hands_its_wake_to_the_next_waiter_labels = label.Main (main_l
     label.Task (task_label.Exit 3) ∷ label.Main main_label.Quiet ∷ label.Main (main_label.Answer 4294967295) ∷ []
 
 -- a: f, h; b: g
-abbrev pub held_yield_stays_held_under_a_cancel : Scenario
+abbrev pub held_yield_stays_held_under_a_cancel : ScenarioDef
 held_yield_stays_held_under_a_cancel = record {
   handles = 100000;
   table = 1000000;
@@ -139,7 +139,7 @@ held_yield_stays_held_under_a_cancel_labels = label.Main (main_label.Start 1 1) 
     label.Main (main_label.Finish 1 4294967295) ∷ label.Main (main_label.Answer 4294967295) ∷ []
 
 -- a: f; b: g
-abbrev pub cancel_leaves_a_stackful_wait_waiting : Scenario
+abbrev pub cancel_leaves_a_stackful_wait_waiting : ScenarioDef
 cancel_leaves_a_stackful_wait_waiting = record {
   handles = 100000;
   table = 1000000;
@@ -185,7 +185,7 @@ cancel_leaves_a_stackful_wait_waiting_labels = label.Main (main_label.Start 1 1)
     label.Thread (thread_label.Pauses 1) ∷ label.Loop loop_label.MainPends ∷ label.Loop (loop_label.Deadlock trap.AsyncDeadlock) ∷ []
 
 -- a: g
-abbrev pub least_waiter_is_woken : Scenario
+abbrev pub least_waiter_is_woken : ScenarioDef
 least_waiter_is_woken = record {
   handles = 100000;
   table = 1000000;
@@ -225,7 +225,7 @@ least_waiter_is_woken_labels = label.Main (main_label.Start 1 1) ∷ label.Loop 
     []
 
 -- a: g
-abbrev pub woken_thread_takes_its_event_and_the_other_waits_on : Scenario
+abbrev pub woken_thread_takes_its_event_and_the_other_waits_on : ScenarioDef
 woken_thread_takes_its_event_and_the_other_waits_on = record {
   handles = 100000;
   table = 1000000;

@@ -8,7 +8,7 @@ use Rattle.std.specs.FinMap as finite
 use Rattle.std.proofs.lemmas.Bool.Decides.{nat_tests}
 use Rattle.std.proofs.lemmas.Grind.{common_steps}
 use Rattle.std.proofs.lemmas.List.{length-take, map-append}
-use Rattle.task_group.specs.declared.notice.Notice.{Notice}
+use Rattle.task_machine.specs.declared.records.Notice.{Notice}
 use Rattle.task_group.specs.Listeners.{Listeners, told_of, Told}
 use Rattle.task_group.specs.Counts.{Counts}
 use Rattle.task_group.specs.Groups.{IsKnown, finish_number}

@@ -2,11 +2,11 @@
 use Rattle.std.specs.Prelude.{◌≡◌, ℕ, ◌<◌, List, [], ◌∷◌, ◌++◌, Option, Bool, false, IsTrue, refl}
 use Rattle.std.specs.Option.{option_map}
 use Rattle.std.specs.Coded.{Coded, code_by, coded×, coded_ℕ, coded_list, coded_option}
-use Rattle.task_group.specs.declared.notice.Notice.{Notice}
-use Rattle.task_group.specs.declared.notice.NoticeKind.{NoticeKind}
-use Rattle.task_group.specs.declared.notice.NoticeKind.TheVariants.{Start, Enter, Exit, Finish}
+use Rattle.task_machine.specs.declared.records.Notice.{Notice}
+use Rattle.task_machine.specs.declared.records.NoticeKind.{NoticeKind}
+use Rattle.task_machine.specs.declared.records.NoticeKind.TheVariants.{Start, Enter, Exit, Finish}
 use Rattle.task_group.specs.declared.notice.TaskGroupId.{TaskGroupId}
-use Rattle.task_group.specs.contracts.notice.Notice as notice
+use Rattle.task_machine.specs.contracts.records.Notice as notice
 
 -- the notices that a hook was told, where it tells that, and how many errors it answered
 pub record Heard : Type 0 where

@@ -8,9 +8,10 @@ ghost use Rattle.task_group.specs.Groups.{notice_at, finish_at, finish_all, same
 use crate::counts::Counts;
 use crate::hook::{NoHook, TaskGroupHook};
 use crate::listeners::Listeners;
-use crate::notice::{GroupError, NoMemory, Notice, NoticeKind, TaskGroupId};
+use crate::notice::{GroupError, TaskGroupId};
 use std::alloc::Global;
 use std::marker::Model;
+use task_machine::{NoMemory, Notice, NoticeKind};
 
 /// The live groups of a store, with the number of tasks in each, and who is told of them.
 ///

@@ -1,7 +1,8 @@
 ghost use Rattle.std.specs.Prelude.{is_ok, None};
 ghost use Rattle.task_group.specs.Heard.{Heard, Tells, notice_of, start_of, enter_of, exit_of, finish_of};
 
-use crate::notice::{HookError, NoticeKind, TaskGroupId};
+use crate::notice::{HookError, TaskGroupId};
+use task_machine::NoticeKind;
 
 /// What a store's owner hands in to be told of groups. An error that it answers refuses the call that told it.
 ///

@@ -6,9 +6,8 @@ mod groups;
 mod hook;
 mod listeners;
 mod notice;
-#[cfg(test)]
-mod tests;
 
 pub use groups::Groups;
 pub use hook::{NoHook, TaskGroupHook};
-pub use notice::{GroupError, HookError, NoMemory, Notice, NoticeKind, TaskGroupId};
+pub use notice::{GroupError, HookError, TaskGroupId};
+pub use task_machine::{NoMemory, Notice, NoticeKind};

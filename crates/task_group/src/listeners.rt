@@ -3,9 +3,10 @@ ghost use Rattle.task_group.specs.Heard.{notice_of};
 ghost use Rattle.task_group.specs.Listeners.{nobody, Told, AnsweredErr};
 
 use crate::hook::{TaskGroupHook, tell};
-use crate::notice::{HookError, NoMemory, Notice, NoticeKind, TaskGroupId};
+use crate::notice::{HookError, TaskGroupId};
 use std::alloc::Global;
 use std::marker::Model;
+use task_machine::{NoMemory, Notice, NoticeKind};
 
 /// Who is told of groups: a hook, if there is one, and a list that keeps as many notices as there is room for.
 #[derive(Drop)]

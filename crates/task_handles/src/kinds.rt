@@ -1,12 +1,12 @@
 /// What a handle stands for in the table of entries: the place of the entry, which is given again, and its serial, which isn't.
-#[derive(Clone, Copy, Debug, PartialEq, Eq)]
+#[derive(Clone, Copy)]
 pub struct Rep {
     pub id: u32,
     pub serial: u64,
 }
 
 /// What kind of thing can become ready and be waited for.
-#[derive(Clone, Copy, Debug, PartialEq, Eq)]
+#[derive(Clone, Copy)]
 pub enum WaitableKind {
     GuestSubtask,
     HostSubtask,
@@ -15,21 +15,21 @@ pub enum WaitableKind {
 }
 
 /// What kind of thing a handle of a `HandleTable` stands for.
-#[derive(Clone, Copy, Debug, PartialEq, Eq)]
+#[derive(Clone, Copy)]
 pub enum HandleKind {
     Waitable(WaitableKind),
     Set,
 }
 
 /// What a live handle of a `HandleTable` stands for.
-#[derive(Clone, Copy, Debug, PartialEq, Eq)]
+#[derive(Clone, Copy)]
 pub struct Held {
     pub kind: HandleKind,
     pub rep: Rep,
 }
 
 /// Why a call of a table of handles is refused.
-#[derive(Clone, Copy, Debug, PartialEq, Eq)]
+#[derive(Clone, Copy)]
 pub enum HandleError {
     /// There is no memory for one more handle.
     NoMemory,

@@ -8,8 +8,6 @@ mod counter;
 mod handle_table;
 mod kinds;
 mod slots;
-#[cfg(test)]
-mod tests;
 mod thread_handle_table;
 
 pub use counter::HandleCounter;

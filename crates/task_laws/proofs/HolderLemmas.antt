@@ -25,7 +25,7 @@ use Rattle.task_machine.specs.declared.op.Op.{Op}
 use Rattle.task_machine.specs.declared.records.Entry.{Entry}
 use Rattle.task_machine.specs.declared.records.Thread.{Thread}
 use Rattle.task_machine.specs.declared.records.Turn.{Turn}
-use Rattle.task_machine.specs.declared.scenario.MainOp.{MainOp}
+use Rattle.task_machine.specs.declared.scenario.MainOpDef.{MainOpDef}
 use Rattle.task_machine.specs.declared.trap.Trap.{Trap}
 use Rattle.task_machine.specs.declared.words.Mark.{Mark}
 use Rattle.task_rules.proofs.KeepWords.{same}
@@ -45,7 +45,7 @@ use Rattle.task_machine.specs.declared.label.CallLabel.TheVariants as call_label
 use Rattle.task_machine.specs.declared.label.Label.TheVariants as label
 use Rattle.task_machine.specs.declared.label.LoopLabel.TheVariants as loop_label
 use Rattle.task_machine.specs.declared.label.MainLabel.TheVariants as main_label
-use Rattle.task_machine.specs.declared.scenario.MainOp.TheVariants as main_op
+use Rattle.task_machine.specs.declared.scenario.MainOpDef.TheVariants as main_op
 use Rattle.task_machine.specs.declared.words.Mark.TheVariants as mark
 use Rattle.task_machine.specs.declared.op.Op.TheVariants as op
 use Rattle.task_machine.specs.declared.label.TakeLabel.TheVariants as take
@@ -221,7 +221,7 @@ module _ {x : Setting} {instances : ℕ} (exist : CalleesExist x instances) wher
   finish_act_holds k {s = s} h (Began n) = finish_result_holds k n h (get s.results n)
   finish_act_holds k h (Refused t) = unmoved None h
 
-  main_act_holds : (p : MainPlace) (o : MainOp) {s : Core} → Housed instances s → ((e : Callee) → callee_of_main_op o ≡ Some e → e.instance < instances) → HoldsMain s (main_row x.component (line_of p o) s (act_of p o))
+  main_act_holds : (p : MainPlace) (o : MainOpDef) {s : Core} → Housed instances s → ((e : Callee) → callee_of_main_op o ≡ Some e → e.instance < instances) → HoldsMain s (main_row x.component (line_of p o) s (act_of p o))
   main_act_holds p (main_op.Start e xs) {s = s} h below = start_act_holds (line_of p (main_op.Start e xs)) e (values_in p.registers xs) h (below e refl) (start_refusal s)
   main_act_holds p (main_op.Finish k r) {s = s} h below = finish_act_holds k h (started_at p k)
   main_act_holds p (main_op.Spawn k) {s = s} h below = main_spawned_barred x.component k (unmoved None h)
@@ -233,13 +233,13 @@ module _ {x : Setting} {instances : ℕ} (exist : CalleesExist x instances) wher
 
   -- ---- Steps
 
-  main_progresses_holds : (s : State) → Housed instances s.core → IsScripted s.main → (p : MainPlace) (o : MainOp) (r : MainProgress) (l : Label) (t : State) → HoldsMain s.core r → MainProgresses s p o r l t → StepHolds s l t
+  main_progresses_holds : (s : State) → Housed instances s.core → IsScripted s.main → (p : MainPlace) (o : MainOpDef) (r : MainProgress) (l : Label) (t : State) → HoldsMain s.core r → MainProgresses s p o r l t → StepHolds s l t
   unfolding at_turn
   main_progresses_holds s h m p o (Does k new) l t q is = step_holds s l (label.Main k) t (at_turn s new (Scripted (advanced_main o k p)) turn.Main) is.0 is.1 (quiet_step s (label.Main k) (at_turn s new (Scripted (advanced_main o k p)) turn.Main) refl q tt)
   main_progresses_holds s h m p o Pends l t q is = step_holds s l (label.Loop loop_label.MainPends) t (goes_to s s.core (turn.Futures 0)) is.0 is.1 (quiet_step s (label.Loop loop_label.MainPends) (goes_to s s.core (turn.Futures 0)) refl (unmoved None h) m)
   main_progresses_holds s h m p o (Answers v) l t q is = step_holds s l (label.Main (main_label.Answer v)) t (goes_to s s.core turn.Over) is.0 is.1 (quiet_step s (label.Main (main_label.Answer v)) (goes_to s s.core turn.Over) refl (unmoved None h) m)
 
-  script_step_holds : (s : State) → Housed instances s.core → IsScripted s.main → (p : MainPlace) (o : Option MainOp) → op_at x.script p ≡ o → (l : Label) (t : State) → ScriptStep x s p o l t → StepHolds s l t
+  script_step_holds : (s : State) → Housed instances s.core → IsScripted s.main → (p : MainPlace) (o : Option MainOpDef) → op_at x.script p ≡ o → (l : Label) (t : State) → ScriptStep x s p o l t → StepHolds s l t
   unfolding at_turn
   script_step_holds s h m p None at l t is = step_holds s l (label.Loop loop_label.MainPends) t (goes_to s s.core (turn.Futures 0)) is.0 is.1 (quiet_step s (label.Loop loop_label.MainPends) (goes_to s s.core (turn.Futures 0)) refl (unmoved None h) m)
   script_step_holds s h m p (Some o) at l t is = main_progresses_holds s h m p o (main_row x.component (line_of p o) s.core (act_of p o)) l t (main_act_holds p o h (λ e callee. exist.starts p.position o e at callee)) is

@@ -27,7 +27,7 @@ use Rattle.task_machine.specs.declared.records.Entry.{Entry}
 use Rattle.task_machine.specs.declared.records.Script.{Script}
 use Rattle.task_machine.specs.declared.records.Thread.{Thread}
 use Rattle.task_machine.specs.declared.records.Turn.{Turn}
-use Rattle.task_machine.specs.declared.scenario.MainOp.{MainOp}
+use Rattle.task_machine.specs.declared.scenario.MainOpDef.{MainOpDef}
 use Rattle.task_machine.specs.declared.trap.Trap.{Trap}
 use Rattle.task_machine.specs.declared.words.Mark.{Mark}
 use Rattle.task_rules.specs.Laws.{LaterBy}
@@ -185,7 +185,7 @@ module _ {component : Component} where
   main_row_kept k {s = s} q (Ready i) = unless_pending_kept (is_ready_for_call i s) main_label.Ready q
   main_row_kept k q (Answer v) = tt
 
-  main_progresses_sound : (s : State) → Settled component s.core → (p : MainPlace) (o : MainOp) (r : MainProgress) (l : Label) (t : State) → KeptMain component s.core r → MainProgresses s p o r l t → Sound component s.core 0 t.core
+  main_progresses_sound : (s : State) → Settled component s.core → (p : MainPlace) (o : MainOpDef) (r : MainProgress) (l : Label) (t : State) → KeptMain component s.core r → MainProgresses s p o r l t → Sound component s.core 0 t.core
   unfolding at_turn
   main_progresses_sound s q p o (Does m new) l t k is = core_is t _ is.1 k
   main_progresses_sound s q p o Pends l t k is = core_is t _ is.1 q
@@ -218,7 +218,7 @@ module _ {component : Component} where
   deadlock_sound s q false l t is = absurd is
 
 module _ (x : Setting) (grammar : CodesInCallbacks x.component) where
-  script_step_sound : (s : State) → Settled x.component s.core → (p : MainPlace) (o : Option MainOp) (l : Label) (t : State) → ScriptStep x s p o l t → Sound x.component s.core 0 t.core
+  script_step_sound : (s : State) → Settled x.component s.core → (p : MainPlace) (o : Option MainOpDef) (l : Label) (t : State) → ScriptStep x s p o l t → Sound x.component s.core 0 t.core
   unfolding at_turn
   script_step_sound s q p None l t is = core_is t _ is.1 q
   script_step_sound s q p (Some o) l t is = main_progresses_sound s q p o _ l t (main_row_kept (line_of p o) q (act_of p o)) is

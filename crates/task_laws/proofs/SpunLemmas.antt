@@ -28,7 +28,7 @@ use Rattle.task_machine.specs.declared.records.Stage.{Stage}
 use Rattle.task_machine.specs.declared.records.Turn.{Turn}
 use Rattle.task_machine.specs.declared.records.Work.{Work}
 use Rattle.task_machine.specs.declared.records.WorkCaller.{WorkCaller}
-use Rattle.task_machine.specs.declared.scenario.MainOp.{MainOp}
+use Rattle.task_machine.specs.declared.scenario.MainOpDef.{MainOpDef}
 use Rattle.task_machine.specs.declared.trap.Trap.{Trap}
 use Rattle.task_machine.specs.declared.words.Mark.{Mark}
 use Rattle.task_rules.specs.MainOps.{Abort, Answer, Answers, Await, Does, Finish, MainAct, MainProgress, Pends, Quiet, Ready, Spawn, Start, act_of, finish_act, finish_result, has_interesting, is_complete, is_ready_for_call, line_of, main_row, op_at, start_act, start_refusal, unless_pending}
@@ -193,7 +193,7 @@ main_row_spins c k {s = s} q Quiet = unless_pending_spins (not (has_interesting 
 main_row_spins c k {s = s} q (Ready i) = unless_pending_spins (is_ready_for_call i s) main_label.Ready q
 main_row_spins c k q (Answer v) = tt
 
-main_progresses_spun : (s : State) → Calm s.core → (p : MainPlace) (o : MainOp) (r : MainProgress) (l : Label) (t : State) → SpinsMain s.core r → MainProgresses s p o r l t → Spun s.core t.core
+main_progresses_spun : (s : State) → Calm s.core → (p : MainPlace) (o : MainOpDef) (r : MainProgress) (l : Label) (t : State) → SpinsMain s.core r → MainProgresses s p o r l t → Spun s.core t.core
 unfolding at_turn
 main_progresses_spun s q p o (Does m new) l t k is = spun_is t _ is.1 k
 main_progresses_spun s q p o Pends l t k is = spun_is t _ is.1 q
@@ -230,7 +230,7 @@ module _ (x : Setting) where
   unfolding did
   did_spins n {s = s} q ch = op_row_spins x.component n q ch (op_of x.component n s)
 
-  script_step_spun : (s : State) → Calm s.core → (p : MainPlace) (o : Option MainOp) (l : Label) (t : State) → ScriptStep x s p o l t → Spun s.core t.core
+  script_step_spun : (s : State) → Calm s.core → (p : MainPlace) (o : Option MainOpDef) (l : Label) (t : State) → ScriptStep x s p o l t → Spun s.core t.core
   unfolding at_turn
   script_step_spun s q p None l t is = spun_is t _ is.1 q
   script_step_spun s q p (Some o) l t is = main_progresses_spun s q p o _ l t (main_row_spins x.component (line_of p o) q (act_of p o)) is

@@ -7,8 +7,8 @@ use Rattle.task_machine.specs.declared.op.CallOp.TheVariants as call_op
 use Rattle.task_machine.specs.declared.op.Op.{Op}
 use Rattle.task_machine.specs.declared.op.Op.TheVariants as op
 use Rattle.task_machine.specs.declared.records.Script.{Script}
-use Rattle.task_machine.specs.declared.scenario.MainOp.{MainOp}
-use Rattle.task_machine.specs.declared.scenario.MainOp.TheVariants as main_op
+use Rattle.task_machine.specs.declared.scenario.MainOpDef.{MainOpDef}
+use Rattle.task_machine.specs.declared.scenario.MainOpDef.TheVariants as main_op
 use Rattle.task_machine.specs.Core.{MainPlace, Scripted, State}
 use Rattle.task_rules.specs.History.{history}
 use Rattle.task_rules.specs.Once.{OneHolder}
@@ -26,14 +26,14 @@ abbrev pub callee_of_op : Op → Option Callee
 callee_of_op (op.Call o) = callee_of_call o
 callee_of_op _ = None
 
-abbrev pub callee_of_main_op : MainOp → Option Callee
+abbrev pub callee_of_main_op : MainOpDef → Option Callee
 callee_of_main_op (main_op.Start e xs) = Some e
 callee_of_main_op _ = None
 
 -- There are this many instances, one at least, and each export that is called or started is of one of them.
 pub record CalleesExist (x : Setting) (instances : ℕ) : Type 0 where
   pub some : 0 < instances
-  pub starts : (p : ℕ) (o : MainOp) (e : Callee) → slice_get x.script p ≡ Some o → callee_of_main_op o ≡ Some e → e.instance < instances
+  pub starts : (p : ℕ) (o : MainOpDef) (e : Callee) → slice_get x.script p ≡ Some o → callee_of_main_op o ≡ Some e → e.instance < instances
   pub calls : (f : Callee) (w : Script) (p : ℕ) (o : Op) (e : Callee) → slice_get (script_in x.component f w) p ≡ Some o → callee_of_op o ≡ Some e → e.instance < instances
 
 -- in each run of a main that is a script, from an opening state

@@ -19,28 +19,28 @@ use Rattle.task_rules.specs.Scripts.{export_at, export_kind}
 use Rattle.task_simple.specs.Forms.{call_started}
 use Rattle.task_simple.specs.Simple.{IsPlain}
 use Rattle.task_simple.proofs.RowLemmas.{main_started_is}
-use Rattle.task_core.specs.Shown.{Shown}
-use Rattle.task_state.specs.Seen.{Seen, with_core}
-use Rattle.task_state.specs.State.{Becomes, seen}
+use Rattle.task_core.specs.StateView.{StateView}
+use Rattle.task_state.specs.StepView.{StepView, with_core}
+use Rattle.task_state.specs.State.{Becomes, step_view}
 use Rattle.task_loop.specs.declared.call.FuncCallConcurrent.{FuncCallConcurrent}
 use Rattle.task_loop.specs.Calls.{Starts}
-use Rattle.task_loop.specs.Fit.{Fits, IsFirstComponent, given}
+use Rattle.task_loop.specs.Fit.{Fits, HasPlainExports, given}
 use Rattle.task_loop.proofs.FitLemmas.{fits-call}
 use Rattle.task_loop.proofs.GivenLemmas.{given-main_started}
 
--- ---- Exports of the first grammar
+-- ---- Plain exports
 
-module _ (c : Component) (first : IsFirstComponent c) (e : Callee) (there : IsSome (export_at c e)) where
+module _ (c : Component) (plain : HasPlainExports c) (e : Callee) (there : IsSome (export_at c e)) where
   few_at : (n : ℕ) (o : Option ExportDef) → export_at c e ≡ o → IsSome o → IfSome o (λ d. n ≡ d.params) → n ≤ 16
   few_at n None is there as_many = absurd (false≢true there)
-  few_at n (Some d) is there as_many = let few = (first e d is).few_params in omega (arith, as_many)
+  few_at n (Some d) is there as_many = let few = (plain e d is).few_params in omega (arith, as_many)
 
   pub few_words : (n : ℕ) → IfSome (export_at c e) (λ d. n ≡ d.params) → n ≤ 16
   few_words n as_many = few_at n (export_at c e) refl there as_many
 
   kind_at : (o : Option ExportDef) → export_at c e ≡ o → IsSome o → option_map (λ d. d.kind) o ≡ Some kind.Callback
   kind_at None is there = absurd (false≢true there)
-  kind_at (Some d) is there = ap (λ k. Some k) (first e d is).called_back
+  kind_at (Some d) is there = ap (λ k. Some k) (plain e d is).called_back
 
   exported : option_map (λ d. d.kind) (export_at c e) ≡ Some kind.Callback
   exported = kind_at (export_at c e) refl there
@@ -60,46 +60,46 @@ module _ (c : Component) (first : IsFirstComponent c) (e : Callee) (there : IsSo
 
   -- ---- What a start comes to
 
-  module _ (words : List ℕ) (s : Seen) where
+  module _ (words : List ℕ) (s : StepView) where
     not_refused : s.core.trapped ≡ false → fits 4 s.core ≡ true → start_refusal s.core ≡ None
     unfolding start_refusal
     not_refused untrapped room = ap (λ b. refusal b (fits 4 s.core)) untrapped ∙ ap (refusal false) room
 
-    pub starts_trapped : s.core.trapped ≡ true → (r : TaskError) → r ≡ task_error.Trap trap.CannotEnterComponent → (t : Seen) → t ≡ with_core (set_trapped s.core) s → Starts c e words s (start_refusal s.core) (Err r) t
+    pub starts_trapped : s.core.trapped ≡ true → (r : TaskError) → r ≡ task_error.Trap trap.CannotEnterComponent → (t : StepView) → t ≡ with_core (set_trapped s.core) s → Starts c e words s (start_refusal s.core) (Err r) t
     unfolding start_refusal
     starts_trapped trapped r is t after = subst (λ b. Starts c e words s (refusal b (fits 4 s.core)) (Err r) t) (sym trapped) (ap (λ w. Err w) is, after)
 
-    pub starts_full : s.core.trapped ≡ false → fits 4 s.core ≡ false → (r : TaskError) → r ≡ task_error.Trap trap.TableFull → (t : Seen) → t ≡ with_core (set_trapped s.core) s → Starts c e words s (start_refusal s.core) (Err r) t
+    pub starts_full : s.core.trapped ≡ false → fits 4 s.core ≡ false → (r : TaskError) → r ≡ task_error.Trap trap.TableFull → (t : StepView) → t ≡ with_core (set_trapped s.core) s → Starts c e words s (start_refusal s.core) (Err r) t
     unfolding start_refusal
     starts_full untrapped full r is t after =
         let why : start_refusal s.core ≡ Some trap.TableFull = ap (λ b. refusal b (fits 4 s.core)) untrapped ∙ ap (refusal false) full in
         subst (λ o. Starts c e words s o (Err r) t) (sym why) (ap (λ w. Err w) is, after)
 
-    pub starts_now : IsPlain s.core → s.core.trapped ≡ false → fits 4 s.core ≡ true → (call : FuncCallConcurrent) → call.thread ≡ s.core.made.threads + 1 → (t : Seen) → t ≡ with_core (call_started e kind.Callback words s.core) s
+    pub starts_now : IsPlain s.core → s.core.trapped ≡ false → fits 4 s.core ≡ true → (call : FuncCallConcurrent) → call.thread ≡ s.core.made.threads + 1 → (t : StepView) → t ≡ with_core (call_started e kind.Callback words s.core) s
         → Starts c e words s (start_refusal s.core) (Ok call) t
     starts_now plain untrapped room call number t after =
         subst (λ o. Starts c e words s o (Ok call) t) (sym (not_refused untrapped room)) (number, after ∙ ap (λ w. with_core w s) (started_is s.core plain words))
 
-    pub starts_not : s.core.trapped ≡ false → fits 4 s.core ≡ true → (t : Seen) → t ≡ with_core (set_trapped s.core) s → Starts c e words s (start_refusal s.core) (Err task_error.NoMemory) t
+    pub starts_not : s.core.trapped ≡ false → fits 4 s.core ≡ true → (t : StepView) → t ≡ with_core (set_trapped s.core) s → Starts c e words s (start_refusal s.core) (Err task_error.NoMemory) t
     starts_not untrapped room t after = subst (λ o. Starts c e words s o (Err task_error.NoMemory) t) (sym (not_refused untrapped room)) (refl, after)
 
 -- ---- A start that is made
 
 -- what is seen of a state that has another core
-pub seen_becomes : (c : Core) (s t : Shown) → Becomes c s t → seen t ≡ with_core c (seen s)
+pub seen_becomes : (c : Core) (s t : StateView) → Becomes c s t → step_view t ≡ with_core c (step_view s)
 seen_becomes c s t becomes = rw (becomes.core, becomes.running) refl
 
 -- the same where it was as before in between
-pub seen_twice : (f : Core → Core) (s t u : Shown) → Becomes s.core s t → Becomes (f t.core) t u → seen u ≡ with_core (f s.core) (seen s)
-seen_twice f s t u first second = seen_becomes (f t.core) t u second ∙ ap (λ (w : Seen). with_core (f w.core) w) (seen_becomes s.core s t first)
+pub seen_twice : (f : Core → Core) (s t u : StateView) → Becomes s.core s t → Becomes (f t.core) t u → step_view u ≡ with_core (f s.core) (step_view s)
+seen_twice f s t u first second = seen_becomes (f t.core) t u second ∙ ap (λ (w : StepView). with_core (f w.core) w) (seen_becomes s.core s t first)
 
-module _ (c : Component) (e : Callee) (words : List ℕ) (s : Seen) (call : FuncCallConcurrent) (t : Seen) where
+module _ (c : Component) (e : Callee) (words : List ℕ) (s : StepView) (call : FuncCallConcurrent) (t : StepView) where
   pub started_core : (o : Option Trap) → Starts c e words s o (Ok call) t → t ≡ with_core (main_started c e words s.core) s
   started_core None h = h.1
   started_core (Some why) h = absurd (let clash = h.0 in cc)
 
   pub started_given : (o : Option Trap) → Starts c e words s o (Ok call) t → given t.core ≡ given s.core + 2
-  started_given o h = ap (λ (u : Seen). given u.core) (started_core o h) ∙ given-main_started c e words s.core
+  started_given o h = ap (λ (u : StepView). given u.core) (started_core o h) ∙ given-main_started c e words s.core
 
   pub started_current : (o : Option Trap) → Starts c e words s o (Ok call) t → t.running ≡ s.running
-  started_current o h = ap (λ (u : Seen). u.running) (started_core o h)
+  started_current o h = ap (λ (u : StepView). u.running) (started_core o h)

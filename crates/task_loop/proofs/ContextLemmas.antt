@@ -23,7 +23,7 @@ use Rattle.task_state.specs.declared.context.ThreadContext.{ThreadContext}
 use Rattle.task_state.specs.declared.state.Running.{Running}
 use Rattle.task_state.specs.Context.{in_context}
 use Rattle.task_state.specs.Moves.{IsAbout}
-use Rattle.task_state.specs.Seen.{Seen, with_core}
+use Rattle.task_state.specs.StepView.{StepView, with_core}
 use Rattle.task_loop.proofs.RunLemmas.{about_instance}
 
 word-context : (i w n p : ℕ) (rs : List ℕ) (s : Core) → word_of i w (with_context n p rs s) ≡ word_of i w s
@@ -31,7 +31,7 @@ unfolding with_context on_thread
 word-context i w n p rs s = refl
 
 -- a word that is written leaves the thread as it is
-about_word : (i w v : ℕ) (s : Seen) (r : Running) → IsAbout s r → IsAbout (with_core (set_word i w v s.core) s) r
+about_word : (i w v : ℕ) (s : StepView) (r : Running) → IsAbout s r → IsAbout (with_core (set_word i w v s.core) s) r
 unfolding set_word on_instance
 about_word i w v s r about = record {
   thread = about.thread;
@@ -44,10 +44,10 @@ about_word i w v s r about = record {
   ended = about.ended;
 }
 
-pub about_written : (i w v : ℕ) (s t : Seen) (r : Running) → IsAbout s r → t ≡ with_core (set_word i w v s.core) s → IsAbout t r
+pub about_written : (i w v : ℕ) (s t : StepView) (r : Running) → IsAbout s r → t ≡ with_core (set_word i w v s.core) s → IsAbout t r
 about_written i w v s t r about is = subst (λ t. IsAbout t r) (sym is) (about_word i w v s r about)
 
-module _ (s : Seen) (simple : IsSimple s.core) (r : Running) (about : IsAbout s r) (at : place_of r.number s.core ≡ Some place.Running) (x : ThreadContext) (c : Component) where
+module _ (s : StepView) (simple : IsSimple s.core) (r : Running) (about : IsAbout s r) (at : place_of r.number s.core ≡ Some place.Running) (x : ThreadContext) (c : Component) where
   abbrev n : ℕ
   n = r.number
 
@@ -90,14 +90,14 @@ module _ (s : Seen) (simple : IsSimple s.core) (r : Running) (about : IsAbout s 
       answers (data_label.Load n) to (word_of (instance_of n here) w here) v y
       (ap (λ i. word_of i w here) instance_is ∙ word-context r.callee.instance w n x.position x.registers s.core ∙ sym word) is
 
-  pub store_row : (w : ℕ) (o : Operand) (v : ℕ) (t : Seen) → v ≡ value_in x.registers o → t ≡ with_core (set_word r.callee.instance w v s.core) s
+  pub store_row : (w : ℕ) (o : Operand) (v : ℕ) (t : StepView) → v ≡ value_in x.registers o → t ≡ with_core (set_word r.callee.instance w v s.core) s
       → data_row c n here (data_op.Store w o) ≡ Goes (label.Data (data_label.Store n v)) (with_context n (x.position + 1) x.registers t.core) n
   store_row w o v t value is =
       ap (λ v. Goes (label.Data (data_label.Store n v)) (stored n w v here) n) (value_is o ∙ sym value)
       ∙ ap (λ new. Goes (label.Data (data_label.Store n v)) new n)
       (stored-context n s.core now x.position x.registers w v
       ∙ ap (λ i. with_context n (x.position + 1) x.registers (set_word i w v s.core)) (about_instance s simple r about)
-      ∙ ap (λ (t : Seen). with_context n (x.position + 1) x.registers t.core) (sym is))
+      ∙ ap (λ (t : StepView). with_context n (x.position + 1) x.registers t.core) (sym is))
 
   module _ (end : ℕ) (script : length (script_of c n here) ≡ end) (before : x.position < end) where
     abbrev passing : Bool → ℕ → ℕ

@@ -22,8 +22,7 @@ use Rattle.task_simple.specs.Simple.{IsSimple}
 use Rattle.task_simple.proofs.StepLemmas.{run_data}
 use Rattle.task_state.specs.declared.state.Running.{Running}
 use Rattle.task_state.specs.Moves.{IsAbout}
-use Rattle.task_state.specs.Seen.{Seen, with_core}
-use Rattle.task_loop.specs.declared.step.Phase.TheVariants as phase
+use Rattle.task_state.specs.StepView.{StepView, with_core}
 use Rattle.task_loop.specs.Fit.{Fits, given}
 use Rattle.task_loop.specs.Made.{IsData}
 use Rattle.task_loop.specs.Main.{state_at}
@@ -46,13 +45,13 @@ given-moved : (n p : ℕ) (s : Core) → given (moved_to n p s) ≡ given s
 unfolding moved_to set_how_far set_position on_thread
 given-moved n p s = refl
 
-module _ (s : Seen) (simple : IsSimple s.core) (r : Running) (about : IsAbout s r) (c : Component) (fits : Fits c s.core) where
+module _ (s : StepView) (simple : IsSimple s.core) (r : Running) (about : IsAbout s r) (c : Component) (fits : Fits c s.core) where
   abbrev n : ℕ
   n = r.number
 
   -- ---- The steps
 
-  computed : (l : DataLabel) (new : Core) → IsData c n s.core l new → Fits c new → given new ≡ given s.core → Makes c (phase.Run n) s (record { label = label.Data l; phase = phase.Run n }) (with_core new s)
+  computed : (l : DataLabel) (new : Core) → IsData c n s.core l new → Fits c new → given new ≡ given s.core → Makes c (turn.Run n) s (record { label = label.Data l; turn = turn.Run n }) (with_core new s)
   computed l new is fits_then same = record {
     step = λ x component m. let st = state_at s.core m (turn.Run n) in
         subst (Step x st (label.Data l)) (to_run s.core new m (turn.Run n) n)
@@ -65,19 +64,19 @@ module _ (s : Seen) (simple : IsSimple s.core) (r : Running) (about : IsAbout s 
   }
 
   module _ (at : place_of n s.core ≡ Some place.Running) where
-    pub assigned_makes : (k v : ℕ) (l : DataLabel) (t : Seen) → IsData c n s.core l (assigned n k v s.core) → t ≡ with_core (assigned n k v s.core) s → Makes c (phase.Run n) s (record { label = label.Data l; phase = phase.Run n }) t
+    pub assigned_makes : (k v : ℕ) (l : DataLabel) (t : StepView) → IsData c n s.core l (assigned n k v s.core) → t ≡ with_core (assigned n k v s.core) s → Makes c (turn.Run n) s (record { label = label.Data l; turn = turn.Run n }) t
     assigned_makes k v l t is after =
-        subst (Makes c (phase.Run n) s (record { label = label.Data l; phase = phase.Run n })) (sym after)
+        subst (Makes c (turn.Run n) s (record { label = label.Data l; turn = turn.Run n })) (sym after)
         (computed l (assigned n k v s.core) is (fits-assigned c s.core fits n simple at k v (before_data s simple r about c fits is.0 is.1.0)) (given-assigned n k v s.core))
 
-    pub stored_makes : (w v : ℕ) (l : DataLabel) (t : Seen) → IsData c n s.core l (stored n w v s.core) → t ≡ with_core (stored n w v s.core) s → Makes c (phase.Run n) s (record { label = label.Data l; phase = phase.Run n }) t
+    pub stored_makes : (w v : ℕ) (l : DataLabel) (t : StepView) → IsData c n s.core l (stored n w v s.core) → t ≡ with_core (stored n w v s.core) s → Makes c (turn.Run n) s (record { label = label.Data l; turn = turn.Run n }) t
     stored_makes w v l t is after =
-        subst (Makes c (phase.Run n) s (record { label = label.Data l; phase = phase.Run n })) (sym after)
+        subst (Makes c (turn.Run n) s (record { label = label.Data l; turn = turn.Run n })) (sym after)
         (computed l (stored n w v s.core) is (fits-stored c s.core fits n simple at w v (before_data s simple r about c fits is.0 is.1.0)) (given-stored n w v s.core))
 
-    pub moved_makes : (p : ℕ) (l : DataLabel) (t : Seen) → p ≤ length (script_in c r.callee script.Start) → IsData c n s.core l (moved_to n p s.core) → t ≡ with_core (moved_to n p s.core) s → Makes c (phase.Run n) s (record { label = label.Data l; phase = phase.Run n }) t
+    pub moved_makes : (p : ℕ) (l : DataLabel) (t : StepView) → p ≤ length (script_in c r.callee script.Start) → IsData c n s.core l (moved_to n p s.core) → t ≡ with_core (moved_to n p s.core) s → Makes c (turn.Run n) s (record { label = label.Data l; turn = turn.Run n }) t
     moved_makes p l t within is after =
-        subst (Makes c (phase.Run n) s (record { label = label.Data l; phase = phase.Run n })) (sym after)
+        subst (Makes c (turn.Run n) s (record { label = label.Data l; turn = turn.Run n })) (sym after)
         (computed l (moved_to n p s.core) is (fits-moved c s.core fits n simple at p (subst (λ m. p ≤ m) (sym script_is) within)) (given-moved n p s.core))
       where
         script_is : length (script_of c n s.core) ≡ length (script_in c r.callee script.Start)
@@ -108,10 +107,10 @@ module _ (s : Seen) (simple : IsSimple s.core) (r : Running) (about : IsAbout s 
 
   -- an op on registers and words makes the step that its row says
   module _ (at : place_of n s.core ≡ Some place.Running) where
-    assigned_as : (o : DataOp) → op_of c n s.core ≡ op.Data o → (l : DataLabel) (new : Core) → data_row c n s.core o ≡ Goes (label.Data l) new n → (k v : ℕ) → new ≡ assigned n k v s.core → Makes c (phase.Run n) s (record { label = label.Data l; phase = phase.Run n }) (with_core new s)
+    assigned_as : (o : DataOp) → op_of c n s.core ≡ op.Data o → (l : DataLabel) (new : Core) → data_row c n s.core o ≡ Goes (label.Data l) new n → (k v : ℕ) → new ≡ assigned n k v s.core → Makes c (turn.Run n) s (record { label = label.Data l; turn = turn.Run n }) (with_core new s)
     assigned_as o is l new row k v same = assigned_makes at k v l (with_core new s) (o, (is, row ∙ ap (λ w. Goes (label.Data l) w n) same)) (ap (λ w. with_core w s) same)
 
-    pub data_makes : (o : DataOp) → op_of c n s.core ≡ op.Data o → (l : DataLabel) (new : Core) → data_row c n s.core o ≡ Goes (label.Data l) new n → Makes c (phase.Run n) s (record { label = label.Data l; phase = phase.Run n }) (with_core new s)
+    pub data_makes : (o : DataOp) → op_of c n s.core ≡ op.Data o → (l : DataLabel) (new : Core) → data_row c n s.core o ≡ Goes (label.Data l) new n → Makes c (turn.Run n) s (record { label = label.Data l; turn = turn.Run n }) (with_core new s)
     data_makes (data_op.Set to x) is l new row = assigned_as (data_op.Set to x) is l new row to (value_of n s.core x) (cc row)
     data_makes (data_op.Add to x) is l new row = assigned_as (data_op.Add to x) is l new row to ((register_of n to s.core + value_of n s.core x) % 2 ^ 64) (cc row)
     data_makes (data_op.Handle to x) is l new row = assigned_as (data_op.Handle to x) is l new row to (value_of n s.core x / 16) (cc row)

@@ -18,12 +18,12 @@ use Rattle.task_rules.specs.Step.{Step}
 use Rattle.task_rules.specs.Run.{Run}
 use Rattle.task_rules.specs.Outcome.{call_outcome, last_outcome, loop_outcome, main_outcome, outcome_of_label, outcome_of, or_open, open_outcome, is_at_rest, IsOutcome}
 use Rattle.task_loop.specs.declared.step.Made.{Made}
-use Rattle.task_loop.specs.declared.step.Phase.{Phase}
+use Rattle.task_machine.specs.declared.records.Turn.{Turn}
 use Rattle.task_loop.specs.Drive.{Drives, Drove, Going, IsOn}
 use Rattle.task_loop.specs.Fit.{Fits, given}
 use Rattle.task_loop.specs.Main.{state_at}
-use Rattle.task_state.specs.Seen.{Seen}
-use Rattle.task_loop.specs.Turn.{PendsIn, Turned, Turns, goes_on, is_open, runs_in, turn_of}
+use Rattle.task_state.specs.StepView.{StepView}
+use Rattle.task_loop.specs.Turn.{PendsIn, Turned, Turns, goes_on, is_open, runs_in}
 
 -- a run and then one more step
 pub Run-more : (x : Setting) (s : State) (ls : List Label) (m : State) (l : Label) (t : State) → Run x s ls m → Step x m l t → Run x s (ls ++ l ∷ []) t
@@ -129,10 +129,10 @@ label_ends (label.Loop l) o is = loop_ends l o is
 label_ends (label.Call l) o is = call_ends l o is
 label_ends _ o is = absurd (cc)
 
-pub on_begins : (x : Setting) (before : List Label) (p : Phase) (m : Main) (t : Seen) → is_open p ≡ true → Fits x.component t.core → t.running ≡ runs_in p → PendsIn x t m p
-    → IsOn x (state_at t.core m (turn_of p)) before (given t.core) p m t before 0
+pub on_begins : (x : Setting) (before : List Label) (p : Turn) (m : Main) (t : StepView) → is_open p ≡ true → Fits x.component t.core → t.running ≡ runs_in p → PendsIn x t m p
+    → IsOn x (state_at t.core m p) before (given t.core) p m t before 0
 on_begins x before p m t unfinished fits running pends = record {
-  going = Going-none x (state_at t.core m (turn_of p)) before;
+  going = Going-none x (state_at t.core m p) before;
   unfinished = unfinished;
   fits = fits;
   few = omega arith;
@@ -140,12 +140,12 @@ on_begins x before p m t unfinished fits running pends = record {
   pends = pends;
 }
 
-module _ (x : Setting) (s : State) (before : List Label) (numbers : ℕ) (p : Phase) (m : Main) (t : Seen) (mid : List Label) (n : ℕ) (on : IsOn x s before numbers p m t mid n) where
-  module _ (made : Made) (m' : Main) (t' : Seen) (turns : Turns x p m t made m' t') (after : List Label) (pushed : after ≡ mid ++ made.label ∷ []) where
+module _ (x : Setting) (s : State) (before : List Label) (numbers : ℕ) (p : Turn) (m : Main) (t : StepView) (mid : List Label) (n : ℕ) (on : IsOn x s before numbers p m t mid n) where
+  module _ (made : Made) (m' : Main) (t' : StepView) (turns : Turns x p m t made m' t') (after : List Label) (pushed : after ≡ mid ++ made.label ∷ []) where
     -- the label gives no outcome
-    pub on_more : outcome_of_label made.label ≡ None → IsOn x s before numbers made.phase m' t' after (n + 1)
+    pub on_more : outcome_of_label made.label ≡ None → IsOn x s before numbers made.turn m' t' after (n + 1)
     on_more none = record {
-      going = Going-more x s before (state_at t.core m (turn_of p)) mid n made.label (state_at t'.core m' (turn_of made.phase)) after on.going turns.step pushed none;
+      going = Going-more x s before (state_at t.core m p) mid n made.label (state_at t'.core m' made.turn) after on.going turns.step pushed none;
       unfinished = sym turns.over ∙ ap is_none none;
       fits = turns.fits;
       few = let a = turns.few in let b = on.few in omega arith;
@@ -154,9 +154,9 @@ module _ (x : Setting) (s : State) (before : List Label) (numbers : ℕ) (p : Ph
     }
 
     -- the label gives the outcome
-    pub on_ends : (steps : ℕ) (o : Outcome) → n < steps → outcome_of_label made.label ≡ Some o → Drove x s before numbers made.phase m' t' after steps o
+    pub on_ends : (steps : ℕ) (o : Outcome) → n < steps → outcome_of_label made.label ≡ Some o → Drove x s before numbers made.turn m' t' after steps o
     on_ends steps o room some = record {
-      drives = Going-ends x s before (state_at t.core m (turn_of p)) mid n made.label (state_at t'.core m' (turn_of made.phase)) after on.going turns.step pushed steps o room some;
+      drives = Going-ends x s before (state_at t.core m p) mid n made.label (state_at t'.core m' made.turn) after on.going turns.step pushed steps o room some;
       unfinished = sym turns.over ∙ (ap is_none some ∙ sym (label_ends made.label o some));
       fits = turns.fits;
       few = let a = turns.few in let b = on.few in omega arith;
@@ -165,9 +165,9 @@ module _ (x : Setting) (s : State) (before : List Label) (numbers : ℕ) (p : Ph
     }
 
   -- nothing can go on, and that is no deadlock
-  pub on_rests : (steps : ℕ) → n ≤ steps → is_at_rest x (state_at t.core m (turn_of p)) ≡ true → Drove x s before numbers p m t mid steps outcome.Idle
+  pub on_rests : (steps : ℕ) → n ≤ steps → is_at_rest x (state_at t.core m p) ≡ true → Drove x s before numbers p m t mid steps outcome.Idle
   on_rests steps room rests = record {
-    drives = Going-rests x s before (state_at t.core m (turn_of p)) mid n steps on.going room rests;
+    drives = Going-rests x s before (state_at t.core m p) mid n steps on.going room rests;
     unfinished = on.unfinished;
     fits = on.fits;
     few = let b = on.few in omega arith;
@@ -176,9 +176,9 @@ module _ (x : Setting) (s : State) (before : List Label) (numbers : ℕ) (p : Ph
   }
 
   -- the steps are used up
-  pub on_out : is_at_rest x (state_at t.core m (turn_of p)) ≡ false → Drove x s before numbers p m t mid n outcome.OutOfSteps
+  pub on_out : is_at_rest x (state_at t.core m p) ≡ false → Drove x s before numbers p m t mid n outcome.OutOfSteps
   on_out moves = record {
-    drives = Going-out x s before (state_at t.core m (turn_of p)) mid n on.going moves;
+    drives = Going-out x s before (state_at t.core m p) mid n on.going moves;
     unfinished = on.unfinished;
     fits = on.fits;
     few = on.few;
@@ -187,12 +187,12 @@ module _ (x : Setting) (s : State) (before : List Label) (numbers : ℕ) (p : Ph
   }
 
 -- so many labels were added as there may be
-pub on_out_at : (x : Setting) (s : State) (before : List Label) (numbers : ℕ) (p : Phase) (m : Main) (t : Seen) (mid : List Label) (n steps : ℕ) → IsOn x s before numbers p m t mid n → n ≡ steps
-    → is_at_rest x (state_at t.core m (turn_of p)) ≡ false → Drove x s before numbers p m t mid steps outcome.OutOfSteps
+pub on_out_at : (x : Setting) (s : State) (before : List Label) (numbers : ℕ) (p : Turn) (m : Main) (t : StepView) (mid : List Label) (n steps : ℕ) → IsOn x s before numbers p m t mid n → n ≡ steps
+    → is_at_rest x (state_at t.core m p) ≡ false → Drove x s before numbers p m t mid steps outcome.OutOfSteps
 on_out_at x s before numbers p m t mid n steps on all moves = subst (λ k. Drove x s before numbers p m t mid k outcome.OutOfSteps) all (on_out x s before numbers p m t mid n on moves)
 
 -- nothing was changed where nothing can go on
-pub on_turned_none : (x : Setting) (s : State) (before : List Label) (numbers : ℕ) (p : Phase) (m m' : Main) (t t' : Seen) (mid : List Label) (n steps : ℕ) → IsOn x s before numbers p m t mid n → n ≤ steps
+pub on_turned_none : (x : Setting) (s : State) (before : List Label) (numbers : ℕ) (p : Turn) (m m' : Main) (t t' : StepView) (mid : List Label) (n steps : ℕ) → IsOn x s before numbers p m t mid n → n ≤ steps
     → Turned x p m t None m' t' → Drove x s before numbers p m' t' mid steps outcome.Idle
 on_turned_none x s before numbers p m m' t t' mid n steps on room h =
     subst (λ u. Drove x s before numbers p m' u mid steps outcome.Idle) (sym h.1.1)

@@ -8,7 +8,7 @@ use Rattle.task_machine.specs.declared.label.Label.TheVariants as label
 use Rattle.task_machine.specs.declared.label.MainLabel.{MainLabel}
 use Rattle.task_machine.specs.declared.label.MainLabel.TheVariants as main_label
 use Rattle.task_machine.specs.declared.trap.Trap.{Trap}
-use Rattle.task_machine.specs.declared.scenario.MainOp.{MainOp}
+use Rattle.task_machine.specs.declared.scenario.MainOpDef.{MainOpDef}
 use Rattle.task_machine.specs.Core.{Core, Main, MainPlace, Scripted, Unscripted, State, Started, Began, Refused}
 use Rattle.task_machine.specs.Moves.{put_high}
 use Rattle.task_machine.specs.Write.{add_group, add_call, add_thread, push_high, set_place, on_thread, set_trapped, take_result, set_phase, on_work, count_work, add_work}
@@ -57,7 +57,7 @@ row_few c k s (Answer v) = tt
 few_at : (s t u : State) → t ≡ u → given u.core ≤ given s.core + 2 → given t.core ≤ given s.core + 2
 few_at s t u is few = let same : given t.core ≡ given u.core = ap (λ w. given w.core) is in omega arith
 
-script_few : (s : State) (p : MainPlace) (o : MainOp) (q : MainProgress) (l : Label) (t : State) → Few s.core q → MainProgresses s p o q l t → given t.core ≤ given s.core + 2
+script_few : (s : State) (p : MainPlace) (o : MainOpDef) (q : MainProgress) (l : Label) (t : State) → Few s.core q → MainProgresses s p o q l t → given t.core ≤ given s.core + 2
 unfolding at_turn
 script_few s p o (Does l new) x t few step = few_at s t _ step.1 few
 script_few s p o Pends x t few step = few_at s t _ step.1 (omega arith)
@@ -73,7 +73,7 @@ open_few s (Answers v) x t few step = few_at s t _ step.1 (omega arith)
 pub main_few : (x : Setting) (s : State) (m : Main) (l : MainLabel) (t : State) → MainStep x s m (label.Main l) t → given t.core ≤ given s.core + 2
 main_few x s (Scripted p) l t step = at_op (op_at x.script p) step
   where
-    at_op : (o : Option MainOp) → ScriptStep x s p o (label.Main l) t → given t.core ≤ given s.core + 2
+    at_op : (o : Option MainOpDef) → ScriptStep x s p o (label.Main l) t → given t.core ≤ given s.core + 2
     at_op None none = absurd (cc)
     at_op (Some o) some = script_few s p o _ (label.Main l) t (row_few x.component (line_of p o) s.core (act_of p o)) some
 main_few x s Unscripted l t step = open_few s _ (label.Main l) t (row_few x.component step.0 s.core step.1.0) step.1.1

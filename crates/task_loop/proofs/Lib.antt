@@ -7,7 +7,6 @@ pub mod StepLemmas
 pub mod RunLemmas
 pub mod TurnLemmas
 pub mod CallLemmas
-pub mod TestLemmas
 pub mod ContextLemmas
 pub mod DataLemmas
 pub mod StretchLemmas

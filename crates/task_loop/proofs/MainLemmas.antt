@@ -8,7 +8,7 @@ use Rattle.task_machine.specs.declared.label.LoopLabel.TheVariants as loop_label
 use Rattle.task_machine.specs.declared.label.MainLabel.{MainLabel}
 use Rattle.task_machine.specs.declared.label.MainLabel.TheVariants as main_label
 use Rattle.task_machine.specs.declared.records.Turn.TheVariants as turn
-use Rattle.task_machine.specs.declared.scenario.MainOp.{MainOp}
+use Rattle.task_machine.specs.declared.scenario.MainOpDef.{MainOpDef}
 use Rattle.task_machine.specs.Core.{Core, Main, MainPlace, Scripted, Unscripted, State}
 use Rattle.task_rules.specs.MainOps.{MainAct, MainProgress, main_row, op_at, act_of, line_of}
 use Rattle.task_rules.specs.MainOps as row
@@ -21,11 +21,10 @@ use Rattle.task_simple.specs.Simple.{IsPlain}
 use Rattle.task_simple.proofs.ReadLemmas.{next_polled_none}
 use Rattle.task_loop.specs.declared.main_task.MainStep as main_step
 use Rattle.task_loop.specs.declared.main_task.MainStep.TheVariants as step
-use Rattle.task_loop.specs.declared.step.Phase.TheVariants as phase
 use Rattle.task_loop.specs.Fit.{Fits, given}
 use Rattle.task_loop.specs.Made.{made_by_main}
 use Rattle.task_loop.specs.Main.{Answers, Did, IsOpOfMain, Pends, Steps, state_at, main_setting}
-use Rattle.task_state.specs.Seen.{Seen}
+use Rattle.task_state.specs.StepView.{StepView}
 use Rattle.task_loop.specs.Turn.{Turns}
 use Rattle.task_loop.proofs.GivenLemmas.{main_few}
 
@@ -48,7 +47,7 @@ module _ (x : Setting) (m : Main) (s : Core) where
   unfolding Step
   Step-main l t step = step
 
-  pends_row : (p : MainPlace) (o : MainOp) (progress : MainProgress) → main_row x.component (line_of p o) s (act_of p o) ≡ progress → main_pends x s (Scripted p) ≡ true → op_at x.script p ≡ Some o → progress ≡ row.Pends
+  pends_row : (p : MainPlace) (o : MainOpDef) (progress : MainProgress) → main_row x.component (line_of p o) s (act_of p o) ≡ progress → main_pends x s (Scripted p) ≡ true → op_at x.script p ≡ Some o → progress ≡ row.Pends
   pends_row p o (row.Does l new) is pends at = cc
   pends_row p o row.Pends is pends at = refl
   pends_row p o (row.Answers v) is pends at = cc
@@ -58,7 +57,7 @@ module _ (x : Setting) (m : Main) (s : Core) where
   unfolding at_turn
   settled none = ap (λ o. state_at s m (settled_futures 0 s o)) (sym none)
 
-  pends_script : (p : MainPlace) (o : Option MainOp) (t : State) → op_at x.script p ≡ o → m ≡ Scripted p → main_pends x s (Scripted p) ≡ true → t ≡ goes_to (state_at s m turn.Main) s (turn.Futures 0)
+  pends_script : (p : MainPlace) (o : Option MainOpDef) (t : State) → op_at x.script p ≡ o → m ≡ Scripted p → main_pends x s (Scripted p) ≡ true → t ≡ goes_to (state_at s m turn.Main) s (turn.Futures 0)
       → ScriptStep x (state_at s m turn.Main) p o (label.Loop loop_label.MainPends) t
   pends_script p None t at is pends to = (refl, to)
   pends_script p (Some o) t at is pends to =
@@ -87,7 +86,7 @@ op_goes_on (main_label.Await k) op = refl
 op_goes_on main_label.Quiet op = refl
 op_goes_on main_label.Ready op = refl
 
-module _ (c : Component) (ops : List MainOp) (m : Main) (s : Seen) (current : s.running ≡ None) (m' : Main) (t : Seen) (kept : t.running ≡ s.running) (fits : Fits c t.core) (x : Setting) (component : x.component ≡ c) (script : x.script ≡ ops) where
+module _ (c : Component) (ops : List MainOpDef) (m : Main) (s : StepView) (current : s.running ≡ None) (m' : Main) (t : StepView) (kept : t.running ≡ s.running) (fits : Fits c t.core) (x : Setting) (component : x.component ≡ c) (script : x.script ≡ ops) where
   abbrev y : Setting
   y = main_setting c ops
 
@@ -97,7 +96,7 @@ module _ (c : Component) (ops : List MainOp) (m : Main) (s : Seen) (current : s.
   here : (l : Label) (u : State) → MainStep y (state_at s.core m turn.Main) m l u → MainStep x (state_at s.core m turn.Main) m l u
   here l u step = MainStep-idle y x (state_at s.core m turn.Main) m l u (sym component) (sym script) step
 
-  did_turns : (l : Label) → Did c ops m s.core l m' t.core → Turns x phase.Main m s (record { label = l; phase = phase.Main }) m' t
+  did_turns : (l : Label) → Did c ops m s.core l m' t.core → Turns x turn.Main m s (record { label = l; turn = turn.Main }) m' t
   did_turns (label.Main l) h = record {
     step = Step-main x m s.core (label.Main l) (state_at t.core m' turn.Main) (here (label.Main l) (state_at t.core m' turn.Main) h.step);
     running = kept ∙ current;
@@ -111,7 +110,7 @@ module _ (c : Component) (ops : List MainOp) (m : Main) (s : Seen) (current : s.
   same_pends : main_pends y s.core m ≡ true → main_pends x s.core m ≡ true
   same_pends = pends_like y x s.core m (sym component) (sym script)
 
-  pends_turns : IsPlain s.core → Pends c ops m s.core m' t.core → Turns x phase.Main m s (record { label = label.Loop loop_label.MainPends; phase = phase.Take }) m' t
+  pends_turns : IsPlain s.core → Pends c ops m s.core m' t.core → Turns x turn.Main m s (record { label = label.Loop loop_label.MainPends; turn = turn.Take false }) m' t
   pends_turns plain h =
       let there = same_pends h.pends in
       let l = label.Loop loop_label.MainPends in
@@ -125,7 +124,7 @@ module _ (c : Component) (ops : List MainOp) (m : Main) (s : Seen) (current : s.
         few = let same : given t.core ≡ given s.core = ap given h.core in omega arith;
       }
 
-  answers_turns : (v : ℕ) → Answers c ops m s.core v m' t.core → Turns x phase.Main m s (record { label = label.Main (main_label.Answer v); phase = phase.Over }) m' t
+  answers_turns : (v : ℕ) → Answers c ops m s.core v m' t.core → Turns x turn.Main m s (record { label = label.Main (main_label.Answer v); turn = turn.Over }) m' t
   answers_turns v h =
       let l = label.Main (main_label.Answer v) in
       record {
@@ -138,7 +137,7 @@ module _ (c : Component) (ops : List MainOp) (m : Main) (s : Seen) (current : s.
         few = let same : given t.core ≡ given s.core = ap given h.core in omega arith;
       }
 
-  pub main_turns : IsPlain s.core → (step : main_step.MainStep) → Steps c ops m s.core step m' t.core → Turns x phase.Main m s (made_by_main step) m' t
+  pub main_turns : IsPlain s.core → (step : main_step.MainStep) → Steps c ops m s.core step m' t.core → Turns x turn.Main m s (made_by_main step) m' t
   main_turns plain (step.Did l) h = did_turns l h
   main_turns plain step.Pends h = pends_turns plain h
   main_turns plain (step.Answer v) h = answers_turns v h

@@ -29,40 +29,40 @@ use Rattle.task_simple.specs.Simple.{IsSimple}
 use Rattle.task_simple.proofs.FoundLemmas.{end_found, instance_found, op_found, position_found}
 use Rattle.task_state.specs.declared.state.Running.{Running}
 use Rattle.task_loop.specs.declared.step.Made.{Made}
-use Rattle.task_loop.specs.declared.step.Phase.{Phase}
-use Rattle.task_loop.specs.declared.step.Phase.TheVariants as phase
+use Rattle.task_machine.specs.declared.records.Turn.{Turn}
+use Rattle.task_machine.specs.declared.records.Turn.TheVariants as turn
 use Rattle.task_loop.specs.Calls.{Returns, return_refusal}
-use Rattle.task_loop.specs.Fit.{Fits, IsFirstComponent, is_plain_op}
+use Rattle.task_loop.specs.Fit.{Fits, HasPlainExports, is_plain_op}
 use Rattle.task_loop.specs.Made.{IsReturn}
 use Rattle.task_state.specs.Moves.{Exits, IsAbout}
-use Rattle.task_state.specs.Seen.{Seen, stopped_with, with_core}
+use Rattle.task_state.specs.StepView.{StepView, stopped_with, with_core}
 use Rattle.task_loop.specs.Turn.{Makes}
 use Rattle.task_loop.proofs.FitLemmas.{fits-return}
 use Rattle.task_loop.proofs.StepLemmas.{exits_early, exits_now, returns_badly, returns_badly_twice, returns_now, returns_twice}
 
--- ---- Scripts of the first grammar
+-- ---- Scripts of plain ops
 
 list_all_at : {X : Type 0} (p : X → Bool) (xs : List X) (i : ℕ) (x : X) → list_all p xs ≡ true → slice_get xs i ≡ Some x → p x ≡ true
 list_all_at p xs i x all is = ap p (sym (get_or_from_slice_get xs i x x is)) ∙ AllPass-from_list_all p xs all i x (slice_get_within xs i x is)
 
-module _ (c : Component) (first : IsFirstComponent c) (f : Callee) where
+module _ (c : Component) (plain : HasPlainExports c) (f : Callee) where
   short_at : (o : Option ExportDef) → export_at c f ≡ o → length (option_map_or (λ d. d.start) o []) ≤ 4096
   short_at None is = omega arith
-  short_at (Some e) is = (first f e is).short
+  short_at (Some e) is = (plain f e is).short
 
   pub script_short : length (script_in c f script.Start) ≤ 4096
   script_short = short_at (export_at c f) refl
 
   plain_at : (i : ℕ) (x : Op) (o : Option ExportDef) → export_at c f ≡ o → slice_get (option_map_or (λ d. d.start) o []) i ≡ Some x → is_plain_op x ≡ true
   plain_at i x None is at = let within = slice_get_within [] i x at in absurd (omega arith)
-  plain_at i x (Some e) is at = list_all_at is_plain_op e.start i x (first f e is).ops at
+  plain_at i x (Some e) is at = list_all_at is_plain_op e.start i x (plain f e is).ops at
 
   pub is_plain_at : (i : ℕ) (x : Op) → slice_get (script_in c f script.Start) i ≡ Some x → is_plain_op x ≡ true
   is_plain_at i x at = plain_at i x (export_at c f) refl at
 
 -- ---- What is read of the running thread
 
-module _ (s : Seen) (simple : IsSimple s.core) (r : Running) (about : IsAbout s r) where
+module _ (s : StepView) (simple : IsSimple s.core) (r : Running) (about : IsAbout s r) where
   abbrev n : ℕ
   n = r.number
 
@@ -97,10 +97,10 @@ module _ (s : Seen) (simple : IsSimple s.core) (r : Running) (about : IsAbout s 
         let is = about_position in
         omega arith
 
-    pub about_short : IsFirstComponent c → position_of n s.core + 1 < 2 ^ 32
-    about_short first =
+    pub about_short : HasPlainExports c → position_of n s.core + 1 < 2 ^ 32
+    about_short plain =
         let a = about_placed in
-        let b = script_short c first about.call.callee in
+        let b = script_short c plain about.call.callee in
         omega arith
 
     -- after a return the store fits, where the thread wasn't at its script's end
@@ -130,43 +130,43 @@ module _ (s : Seen) (simple : IsSimple s.core) (r : Running) (about : IsAbout s 
     -- ---- What its op comes to
 
     module _ (at : place_of n s.core ≡ Some place.Running) where
-      returned_where : (b : Bool) → has_ended n s.core ≡ b → (v : ℕ) → IsReturn c n v s.core → (u : Unit {0}) (t : Seen) → Returns n v s (return_refusal b true) (Ok u) t
-          → Makes c (phase.Run n) s (record { label = ret_label n v None; phase = phase.Run n }) t
+      returned_where : (b : Bool) → has_ended n s.core ≡ b → (v : ℕ) → IsReturn c n v s.core → (u : Unit {0}) (t : StepView) → Returns n v s (return_refusal b true) (Ok u) t
+          → Makes c (turn.Run n) s (record { label = ret_label n v None; turn = turn.Run n }) t
       returned_where true is v ret u t h = absurd (let clash = h.0 in cc)
       returned_where false is v ret u t h =
           let fit = about_return (value_of n s.core ret.0) (before_end ret.0 ret.1.0) in
           let m = returns_now s simple c fits n at ret.0 ret.1.0 is about.runs fit in
-          let m' = subst (λ w. Makes c (phase.Run n) s (record { label = ret_label n w None; phase = phase.Run n }) (with_core (return_done n w s.core) s)) (sym ret.1.1) m in
-          subst (Makes c (phase.Run n) s (record { label = ret_label n v None; phase = phase.Run n })) (sym h) m'
+          let m' = subst (λ w. Makes c (turn.Run n) s (record { label = ret_label n w None; turn = turn.Run n }) (with_core (return_done n w s.core) s)) (sym ret.1.1) m in
+          subst (Makes c (turn.Run n) s (record { label = ret_label n v None; turn = turn.Run n })) (sym h) m'
 
-      pub returned : (v : ℕ) → IsReturn c n v s.core → (u : Unit {0}) (t : Seen) → Returns n v s (return_refusal (has_ended n s.core) true) (Ok u) t
-          → Makes c (phase.Run n) s (record { label = ret_label n v None; phase = phase.Run n }) t
+      pub returned : (v : ℕ) → IsReturn c n v s.core → (u : Unit {0}) (t : StepView) → Returns n v s (return_refusal (has_ended n s.core) true) (Ok u) t
+          → Makes c (turn.Run n) s (record { label = ret_label n v None; turn = turn.Run n }) t
       returned v ret u t h = returned_where (has_ended n s.core) refl v ret u t h
 
-      refused_where : (b : Bool) → has_ended n s.core ≡ b → (v : ℕ) → IsReturn c n v s.core → (q : Trap) (t : Seen) → Returns n v s (return_refusal b true) (Err (task_error.Trap q)) t
-          → Makes c (phase.Run n) s (record { label = trap_label n q; phase = phase.Over }) (stopped_with (trap_done n t.core))
+      refused_where : (b : Bool) → has_ended n s.core ≡ b → (v : ℕ) → IsReturn c n v s.core → (q : Trap) (t : StepView) → Returns n v s (return_refusal b true) (Err (task_error.Trap q)) t
+          → Makes c (turn.Run n) s (record { label = trap_label n q; turn = turn.Over }) (stopped_with (trap_done n t.core))
       refused_where true is v ret q t h =
           let m = returns_twice s simple c fits n at ret.0 ret.1.0 is in
           let why : q ≡ trap.TaskCancelOrReturnTwice = cc (h.0) in
-          subst (λ w. Makes c (phase.Run n) s (record { label = trap_label n w; phase = phase.Over }) (stopped_with (trap_done n t.core))) (sym why)
-          (subst (λ w. Makes c (phase.Run n) s (record { label = trap_label n trap.TaskCancelOrReturnTwice; phase = phase.Over }) (stopped_with (trap_done n w.core))) (sym h.1) m)
+          subst (λ w. Makes c (turn.Run n) s (record { label = trap_label n w; turn = turn.Over }) (stopped_with (trap_done n t.core))) (sym why)
+          (subst (λ w. Makes c (turn.Run n) s (record { label = trap_label n trap.TaskCancelOrReturnTwice; turn = turn.Over }) (stopped_with (trap_done n w.core))) (sym h.1) m)
       refused_where false is v ret q t h = absurd (let clash = h.0 in cc)
 
-      pub refused : (v : ℕ) → IsReturn c n v s.core → (q : Trap) (t : Seen) → Returns n v s (return_refusal (has_ended n s.core) true) (Err (task_error.Trap q)) t
-          → Makes c (phase.Run n) s (record { label = trap_label n q; phase = phase.Over }) (stopped_with (trap_done n t.core))
+      pub refused : (v : ℕ) → IsReturn c n v s.core → (q : Trap) (t : StepView) → Returns n v s (return_refusal (has_ended n s.core) true) (Err (task_error.Trap q)) t
+          → Makes c (turn.Run n) s (record { label = trap_label n q; turn = turn.Over }) (stopped_with (trap_done n t.core))
       refused v ret q t h = refused_where (has_ended n s.core) refl v ret q t h
 
-      pub returned_badly : (x : Operand) → op_of c n s.core ≡ op.Task (task.RetBad x) → r.ended ≡ false → Makes c (phase.Run n) s (record { label = trap_label n trap.TaskReturnInvalid; phase = phase.Over }) (stopped_with (trap_done n s.core))
+      pub returned_badly : (x : Operand) → op_of c n s.core ≡ op.Task (task.RetBad x) → r.ended ≡ false → Makes c (turn.Run n) s (record { label = trap_label n trap.TaskReturnInvalid; turn = turn.Over }) (stopped_with (trap_done n s.core))
       returned_badly x is unended = returns_badly s simple c fits n at x is (about_end ∙ unended)
 
-      pub returned_badly_twice : (x : Operand) → op_of c n s.core ≡ op.Task (task.RetBad x) → r.ended ≡ true → Makes c (phase.Run n) s (record { label = trap_label n trap.TaskCancelOrReturnTwice; phase = phase.Over }) (stopped_with (trap_done n s.core))
+      pub returned_badly_twice : (x : Operand) → op_of c n s.core ≡ op.Task (task.RetBad x) → r.ended ≡ true → Makes c (turn.Run n) s (record { label = trap_label n trap.TaskCancelOrReturnTwice; turn = turn.Over }) (stopped_with (trap_done n s.core))
       returned_badly_twice x is ended = returns_badly_twice s simple c fits n at x is (about_end ∙ ended)
 
-      pub exited : (t : Seen) → op_of c n s.core ≡ op.Task task.Exit → r.ended ≡ true → Exits n s t → Makes c (phase.Run n) s (record { label = exit_label n None; phase = phase.Main }) t
+      pub exited : (t : StepView) → op_of c n s.core ≡ op.Task task.Exit → r.ended ≡ true → Exits n s t → Makes c (turn.Run n) s (record { label = exit_label n None; turn = turn.Main }) t
       exited t is ended h =
-          subst (Makes c (phase.Run n) s (record { label = exit_label n None; phase = phase.Main })) (sym h.new_is) (exits_now s simple c fits n at h.handle is (about_end ∙ ended) h.handle_is)
+          subst (Makes c (turn.Run n) s (record { label = exit_label n None; turn = turn.Main })) (sym h.new_is) (exits_now s simple c fits n at h.handle is (about_end ∙ ended) h.handle_is)
 
-      pub exited_early : op_of c n s.core ≡ op.Task task.Exit → r.ended ≡ false → Makes c (phase.Run n) s (record { label = trap_label n trap.NoAsyncResult; phase = phase.Over }) (stopped_with (trap_done n s.core))
+      pub exited_early : op_of c n s.core ≡ op.Task task.Exit → r.ended ≡ false → Makes c (turn.Run n) s (record { label = trap_label n trap.NoAsyncResult; turn = turn.Over }) (stopped_with (trap_done n s.core))
       exited_early is unended = exits_early s simple c fits n at is (about_end ∙ unended)
 
 pub if_some : {X : Type 0} (P : X → Type 0) (o : Option X) (x : X) → o ≡ Some x → IfSome o P → P x
@@ -176,7 +176,7 @@ pub some_is : {X : Type 0} (P : X → Type 0) (o : Option X) (x : X) → o ≡ S
 some_is P o x is h = subst (λ o. IfSome o P) (sym is) h
 
 -- the same, of a step whose parts are these
-pub makes_same : (c : Component) (p : Phase) (s : Seen) (made made' : Made) (t t' : Seen) → made'.label ≡ made.label → made'.phase ≡ made.phase → t' ≡ t → Makes c p s made t → Makes c p s made' t'
-makes_same c p s made made' t t' label phase after m =
-    let parts : made' ≡ made = ap₂ (λ l q. let m : Made = record { label = l; phase = q } in m) label phase in
+pub makes_same : (c : Component) (p : Turn) (s : StepView) (made made' : Made) (t t' : StepView) → made'.label ≡ made.label → made'.turn ≡ made.turn → t' ≡ t → Makes c p s made t → Makes c p s made' t'
+makes_same c p s made made' t t' label next after m =
+    let parts : made' ≡ made = ap₂ (λ l q. let m : Made = record { label = l; turn = q } in m) label next in
     subst (λ w. Makes c p s w t') (sym parts) (subst (Makes c p s made) (sym after) m)

@@ -29,14 +29,13 @@ use Rattle.task_simple.specs.Forms.{exit_done, return_done, start_done, start_pu
 use Rattle.task_simple.specs.Simple.{IsPlain, IsSimple}
 use Rattle.task_simple.proofs.FrameLemmas.{made-exit_done}
 use Rattle.task_simple.proofs.StepLemmas.{run_exit, run_exit_early, run_return, run_return_bad, run_return_bad_twice, run_return_twice, take_deadlock_while, take_full, take_put_off, take_start}
-use Rattle.task_loop.specs.declared.step.Phase.TheVariants as phase
 use Rattle.task_state.specs.declared.taken.Taken.{Taken}
 use Rattle.task_state.specs.declared.taken.Taken.TheVariants as taken
 use Rattle.task_loop.specs.Fit.{Fits, given}
 use Rattle.task_loop.specs.Made.{Took, made_by}
 use Rattle.task_loop.specs.Main.{state_at}
 use Rattle.task_state.specs.Moves.{Takes}
-use Rattle.task_state.specs.Seen.{Seen, stopped_with, with_core}
+use Rattle.task_state.specs.StepView.{StepView, stopped_with, with_core}
 use Rattle.task_loop.specs.Turn.{Makes, Turns}
 use Rattle.task_loop.proofs.FitLemmas.{fits-exit, fits-popped, fits-put_off, fits-set_trapped, fits-start, fits-trap}
 
@@ -85,15 +84,15 @@ given-set_trapped s = refl
 
 -- ---- An entry is taken
 
-module _ (s : Seen) (simple : IsSimple s.core) (c : Component) (fits : Fits c s.core) (n : ℕ) where
+module _ (s : StepView) (simple : IsSimple s.core) (c : Component) (fits : Fits c s.core) (n : ℕ) where
   abbrev b : Core
   b = popped mark.High s.core
 
-  put_off : (t : Seen) → Takes s (taken.PutOff n) t → Makes c phase.Take s (record { label = held_label mark.High n None; phase = phase.Main }) t
+  put_off : (t : StepView) → Takes s (taken.PutOff n) t → Makes c (turn.Take false) s (record { label = held_label mark.High n None; turn = turn.Main }) t
   put_off t h =
       let new = start_put_off n b in
       let l = held_label mark.High n None in
-      subst (λ u. Makes c phase.Take s (record { label = l; phase = phase.Main }) u) (sym h.1.1) (record {
+      subst (λ u. Makes c (turn.Take false) s (record { label = l; turn = turn.Main }) u) (sym h.1.1) (record {
         step = λ x is m. let st = state_at s.core m (turn.Take false) in
             subst (Step x st l) (to_main s.core new m (turn.Take false)) (take_put_off x st simple false refl n h.0 h.1.0);
         running = refl;
@@ -103,11 +102,11 @@ module _ (s : Seen) (simple : IsSimple s.core) (c : Component) (fits : Fits c s.
         few = given-put_off n b ∙ given-popped s.core;
       })
 
-  no_handle : (t : Seen) → Takes s (taken.NoHandle n) t → Makes c phase.Take s (record { label = trap_label n trap.HandleLimit; phase = phase.Over }) t
+  no_handle : (t : StepView) → Takes s (taken.NoHandle n) t → Makes c (turn.Take false) s (record { label = trap_label n trap.HandleLimit; turn = turn.Over }) t
   no_handle t h =
       let new = trap_done n b in
       let l = trap_label n trap.HandleLimit in
-      subst (λ u. Makes c phase.Take s (record { label = l; phase = phase.Over }) u) (sym h.1.1.1) (record {
+      subst (λ u. Makes c (turn.Take false) s (record { label = l; turn = turn.Over }) u) (sym h.1.1.1) (record {
         step = λ x is m. let st = state_at s.core m (turn.Take false) in
             subst (Step x st l) (to_over s.core new m (turn.Take false)) (take_full x st simple false refl n h.0 h.1.0 h.1.1.0);
         running = refl;
@@ -117,11 +116,11 @@ module _ (s : Seen) (simple : IsSimple s.core) (c : Component) (fits : Fits c s.
         few = given-trap n b ∙ given-popped s.core;
       })
 
-  starts : (t : Seen) → Takes s (taken.Runs n) t → Makes c phase.Take s (record { label = take_label mark.High n None; phase = phase.Run n }) t
+  starts : (t : StepView) → Takes s (taken.Runs n) t → Makes c (turn.Take false) s (record { label = take_label mark.High n None; turn = turn.Run n }) t
   starts t h =
       let new = start_done n b in
       let l = take_label mark.High n None in
-      subst (λ u. Makes c phase.Take s (record { label = l; phase = phase.Run n }) u) (sym h.1.1.1) (record {
+      subst (λ u. Makes c (turn.Take false) s (record { label = l; turn = turn.Run n }) u) (sym h.1.1.1) (record {
         step = λ x is m. let st = state_at s.core m (turn.Take false) in
             subst (Step x st l) (to_run s.core new m (turn.Take false) n) (take_start x st simple false refl n h.0 h.1.0 h.1.1.0);
         running = refl;
@@ -131,7 +130,7 @@ module _ (s : Seen) (simple : IsSimple s.core) (c : Component) (fits : Fits c s.
         few = given-start n b ∙ given-popped s.core;
       })
 
-pub took : (s : Seen) → IsSimple s.core → (k : Taken) (t : Seen) → Takes s k t → Took s (made_by k) t
+pub took : (s : StepView) → IsSimple s.core → (k : Taken) (t : StepView) → Takes s k t → Took s (made_by k) t
 took s simple taken.Nothing t h = h
 took s simple (taken.PutOff n) t h = λ c fits. put_off s simple c fits n t h
 took s simple (taken.NoHandle n) t h = λ c fits. no_handle s simple c fits n t h
@@ -139,8 +138,8 @@ took s simple (taken.Runs n) t h = λ c fits. starts s simple c fits n t h
 
 -- ---- Nothing can go on
 
-pub deadlocked : (x : Setting) (s : Seen) → IsPlain s.core → s.core.queues.high ≡ [] → s.running ≡ None → x.idle ≡ idle_line.Trap → Fits x.component s.core → (m : Main) → main_pends x s.core m ≡ true
-    → Turns x phase.Take m s (record { label = label.Loop (loop_label.Deadlock trap.AsyncDeadlock); phase = phase.Over }) m (with_core (set_trapped s.core) s)
+pub deadlocked : (x : Setting) (s : StepView) → IsPlain s.core → s.core.queues.high ≡ [] → s.running ≡ None → x.idle ≡ idle_line.Trap → Fits x.component s.core → (m : Main) → main_pends x s.core m ≡ true
+    → Turns x (turn.Take false) m s (record { label = label.Loop (loop_label.Deadlock trap.AsyncDeadlock); turn = turn.Over }) m (with_core (set_trapped s.core) s)
 deadlocked x s plain none current traps fits m pends =
     let l = label.Loop (loop_label.Deadlock trap.AsyncDeadlock) in
     let st = state_at s.core m (turn.Take false) in
@@ -155,10 +154,10 @@ deadlocked x s plain none current traps fits m pends =
 
 -- ---- A thread runs
 
-module _ (s : Seen) (simple : IsSimple s.core) (c : Component) (fits : Fits c s.core) (n : ℕ) (at : place_of n s.core ≡ Some place.Running) where
+module _ (s : StepView) (simple : IsSimple s.core) (c : Component) (fits : Fits c s.core) (n : ℕ) (at : place_of n s.core ≡ Some place.Running) where
   -- its step traps
   strikes : (q : Trap) → ((x : Setting) → x.component ≡ c → (m : Main) → Step x (state_at s.core m (turn.Run n)) (trap_label n q) (goes_to (state_at s.core m (turn.Run n)) (trap_done n s.core) turn.Over))
-      → Makes c (phase.Run n) s (record { label = trap_label n q; phase = phase.Over }) (stopped_with (trap_done n s.core))
+      → Makes c (turn.Run n) s (record { label = trap_label n q; turn = turn.Over }) (stopped_with (trap_done n s.core))
   strikes q step = record {
     step = λ x is m. subst (Step x (state_at s.core m (turn.Run n)) (trap_label n q)) (to_over s.core (trap_done n s.core) m (turn.Run n)) (step x is m);
     running = refl;
@@ -171,20 +170,20 @@ module _ (s : Seen) (simple : IsSimple s.core) (c : Component) (fits : Fits c s.
   same_op : (x : Setting) → x.component ≡ c → (o : Op) → op_of c n s.core ≡ o → op_of x.component n s.core ≡ o
   same_op x is o op_is = ap (λ d. op_of d n s.core) is ∙ op_is
 
-  pub returns_twice : (o : Operand) → op_of c n s.core ≡ op.Task (task.Ret o) → has_ended n s.core ≡ true → Makes c (phase.Run n) s (record { label = trap_label n trap.TaskCancelOrReturnTwice; phase = phase.Over }) (stopped_with (trap_done n s.core))
+  pub returns_twice : (o : Operand) → op_of c n s.core ≡ op.Task (task.Ret o) → has_ended n s.core ≡ true → Makes c (turn.Run n) s (record { label = trap_label n trap.TaskCancelOrReturnTwice; turn = turn.Over }) (stopped_with (trap_done n s.core))
   returns_twice o op_is ended = strikes trap.TaskCancelOrReturnTwice (λ x is m. run_return_twice x (state_at s.core m (turn.Run n)) simple n refl at o (same_op x is _ op_is) ended)
 
-  pub returns_badly : (o : Operand) → op_of c n s.core ≡ op.Task (task.RetBad o) → has_ended n s.core ≡ false → Makes c (phase.Run n) s (record { label = trap_label n trap.TaskReturnInvalid; phase = phase.Over }) (stopped_with (trap_done n s.core))
+  pub returns_badly : (o : Operand) → op_of c n s.core ≡ op.Task (task.RetBad o) → has_ended n s.core ≡ false → Makes c (turn.Run n) s (record { label = trap_label n trap.TaskReturnInvalid; turn = turn.Over }) (stopped_with (trap_done n s.core))
   returns_badly o op_is unended = strikes trap.TaskReturnInvalid (λ x is m. run_return_bad x (state_at s.core m (turn.Run n)) simple n refl at o (same_op x is _ op_is) unended)
 
-  pub returns_badly_twice : (o : Operand) → op_of c n s.core ≡ op.Task (task.RetBad o) → has_ended n s.core ≡ true → Makes c (phase.Run n) s (record { label = trap_label n trap.TaskCancelOrReturnTwice; phase = phase.Over }) (stopped_with (trap_done n s.core))
+  pub returns_badly_twice : (o : Operand) → op_of c n s.core ≡ op.Task (task.RetBad o) → has_ended n s.core ≡ true → Makes c (turn.Run n) s (record { label = trap_label n trap.TaskCancelOrReturnTwice; turn = turn.Over }) (stopped_with (trap_done n s.core))
   returns_badly_twice o op_is ended = strikes trap.TaskCancelOrReturnTwice (λ x is m. run_return_bad_twice x (state_at s.core m (turn.Run n)) simple n refl at o (same_op x is _ op_is) ended)
 
-  pub exits_early : op_of c n s.core ≡ op.Task task.Exit → has_ended n s.core ≡ false → Makes c (phase.Run n) s (record { label = trap_label n trap.NoAsyncResult; phase = phase.Over }) (stopped_with (trap_done n s.core))
+  pub exits_early : op_of c n s.core ≡ op.Task task.Exit → has_ended n s.core ≡ false → Makes c (turn.Run n) s (record { label = trap_label n trap.NoAsyncResult; turn = turn.Over }) (stopped_with (trap_done n s.core))
   exits_early op_is unended = strikes trap.NoAsyncResult (λ x is m. run_exit_early x (state_at s.core m (turn.Run n)) simple n refl at (same_op x is _ op_is) unended)
 
   pub exits_now : (h : ℕ) → op_of c n s.core ≡ op.Task task.Exit → has_ended n s.core ≡ true → thread_handle_of n s.core ≡ Some h
-      → Makes c (phase.Run n) s (record { label = exit_label n None; phase = phase.Main }) (stopped_with (exit_done n h s.core))
+      → Makes c (turn.Run n) s (record { label = exit_label n None; turn = turn.Main }) (stopped_with (exit_done n h s.core))
   exits_now h op_is ended has =
       let l = exit_label n None in
       record {
@@ -198,7 +197,7 @@ module _ (s : Seen) (simple : IsSimple s.core) (c : Component) (fits : Fits c s.
       }
 
   pub returns_now : (o : Operand) → op_of c n s.core ≡ op.Task (task.Ret o) → has_ended n s.core ≡ false → s.running ≡ Some n → Fits c (return_done n (value_of n s.core o) s.core)
-      → Makes c (phase.Run n) s (record { label = ret_label n (value_of n s.core o) None; phase = phase.Run n }) (with_core (return_done n (value_of n s.core o) s.core) s)
+      → Makes c (turn.Run n) s (record { label = ret_label n (value_of n s.core o) None; turn = turn.Run n }) (with_core (return_done n (value_of n s.core o) s.core) s)
   returns_now o op_is unended current fits_then =
       let v = value_of n s.core o in
       let l = ret_label n v None in

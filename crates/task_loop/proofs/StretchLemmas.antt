@@ -23,10 +23,10 @@ use Rattle.task_state.specs.declared.context.ThreadContext.{ThreadContext}
 use Rattle.task_state.specs.declared.state.Running.{Running}
 use Rattle.task_state.specs.Context.{in_context}
 use Rattle.task_state.specs.Moves.{IsAbout}
-use Rattle.task_state.specs.Seen.{Seen, with_core}
+use Rattle.task_state.specs.StepView.{StepView, with_core}
 use Rattle.task_loop.specs.declared.step.Made.{Made}
-use Rattle.task_loop.specs.declared.step.Phase.{Phase}
-use Rattle.task_loop.specs.declared.step.Phase.TheVariants as phase
+use Rattle.task_machine.specs.declared.records.Turn.{Turn}
+use Rattle.task_machine.specs.declared.records.Turn.TheVariants as turn
 use Rattle.task_loop.specs.Drive.{KeepsOn}
 use Rattle.task_loop.specs.Fit.{Fits}
 use Rattle.task_loop.specs.Turn.{Makes}
@@ -36,10 +36,10 @@ use Rattle.task_loop.proofs.RunLemmas.{about_op, about_script}
 use Rattle.task_loop.proofs.TurnLemmas.{makes_turns}
 
 -- a store in which only the thread's context is another
-abbrev pub store_in : ℕ → ThreadContext → Seen → Seen
+abbrev pub store_in : ℕ → ThreadContext → StepView → StepView
 store_in n x s = with_core (in_context n x s.core) s
 
-module _ (s : Seen) (simple : IsSimple s.core) (r : Running) (about : IsAbout s r) (at : place_of r.number s.core ≡ Some place.Running) where
+module _ (s : StepView) (simple : IsSimple s.core) (r : Running) (about : IsAbout s r) (at : place_of r.number s.core ≡ Some place.Running) where
   abbrev n : ℕ
   n = r.number
 
@@ -54,7 +54,7 @@ module _ (s : Seen) (simple : IsSimple s.core) (r : Running) (about : IsAbout s 
       ∙ context_same n s.core about.thread about.thread_is
 
   module _ (x : ThreadContext) where
-    abbrev there : Seen
+    abbrev there : StepView
     there = store_in n x s
 
     abbrev on : Runs n there.core
@@ -81,26 +81,26 @@ module _ (s : Seen) (simple : IsSimple s.core) (r : Running) (about : IsAbout s 
     pub op_there : (c : Component) (o : Op) → slice_get (script_in c r.callee script.Start) x.position ≡ Some o → op_of c n there.core ≡ o
     op_there c o is = about_op there on.simple reading about_there c ∙ ap (λ p. unwrap_or p (op.Task task.Exit)) is
 
-    module _ (c : Component) (o : DataOp) (l : DataLabel) (y : ThreadContext) (t : Seen) (row : data_row c n there.core o ≡ Goes (label.Data l) (in_context n y t.core) n) (running : t.running ≡ s.running) where
-      abbrev after : Seen
+    module _ (c : Component) (o : DataOp) (l : DataLabel) (y : ThreadContext) (t : StepView) (row : data_row c n there.core o ≡ Goes (label.Data l) (in_context n y t.core) n) (running : t.running ≡ s.running) where
+      abbrev after : StepView
       after = store_in n y t
 
       abbrev made : Made
-      made = record { label = label.Data l; phase = phase.Run n }
+      made = record { label = label.Data l; turn = turn.Run n }
 
       after_is : with_core (in_context n y t.core) there ≡ after
-      after_is = ap (λ q. let u : Seen = record { core = in_context n y t.core; running = q } in u) (sym running)
+      after_is = ap (λ q. let u : StepView = record { core = in_context n y t.core; running = q } in u) (sym running)
 
-      pub makes_there : Fits c there.core → op_of c n there.core ≡ op.Data o → Makes c (phase.Run n) there made after
-      makes_there fits is = subst (Makes c (phase.Run n) there made) after_is (data_makes there on.simple reading about_there c fits on.runs o is l (in_context n y t.core) row)
+      pub makes_there : Fits c there.core → op_of c n there.core ≡ op.Data o → Makes c (turn.Run n) there made after
+      makes_there fits is = subst (Makes c (turn.Run n) there made) after_is (data_makes there on.simple reading about_there c fits on.runs o is l (in_context n y t.core) row)
 
       -- the op is done
-      pub keeps_on : op_of c n there.core ≡ op.Data o → (s₀ : Seen) (before mid : List Label) (added k : ℕ) → KeepsOn c (phase.Run n) s₀ before added there mid k → KeepsOn c (phase.Run n) s₀ before added after (mid ++ label.Data l ∷ []) (k + 1)
+      pub keeps_on : op_of c n there.core ≡ op.Data o → (s₀ : StepView) (before mid : List Label) (added k : ℕ) → KeepsOn c (turn.Run n) s₀ before added there mid k → KeepsOn c (turn.Run n) s₀ before added after (mid ++ label.Data l ∷ []) (k + 1)
       keeps_on is s₀ before mid added k kept z component first trace numbers m going =
           let there_on = kept z component first trace numbers m going in
           let makes = makes_there (subst (λ d. Fits d there.core) component there_on.fits) is in
-          on_more z first trace numbers (phase.Run n) m there mid k there_on made m after
-          (makes_turns z (phase.Run n) there made after (subst (λ d. Makes d (phase.Run n) there made after) (sym component) makes) m) (mid ++ label.Data l ∷ []) refl refl
+          on_more z first trace numbers (turn.Run n) m there mid k there_on made m after
+          (makes_turns z (turn.Run n) there made after (subst (λ d. Makes d (turn.Run n) there made after) (sym component) makes) m) (mid ++ label.Data l ∷ []) refl refl
 
-pub keeps_none : (c : Component) (p : Phase) (s : Seen) (before : List Label) (added : ℕ) → KeepsOn c p s before added s before added
+pub keeps_none : (c : Component) (p : Turn) (s : StepView) (before : List Label) (added : ℕ) → KeepsOn c p s before added s before added
 keeps_none c p s before added z component first trace numbers m going = going

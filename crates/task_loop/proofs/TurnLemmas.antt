@@ -4,7 +4,7 @@ use Rattle.std.specs.Prelude.{Bool, List, Option, [], ◌∷◌, ◌&&◌, ◌||
 use Rattle.task_machine.specs.declared.component.Component.{Component}
 use Rattle.task_machine.specs.declared.records.Entry.{Entry}
 use Rattle.task_machine.specs.declared.records.Turn.TheVariants as turn
-use Rattle.task_machine.specs.declared.scenario.MainOp.{MainOp}
+use Rattle.task_machine.specs.declared.scenario.MainOpDef.{MainOpDef}
 use Rattle.task_machine.specs.Core.{Main, State}
 use Rattle.task_machine.specs.Read.{is_nil}
 use Rattle.task_rules.specs.Outcome.{is_at_rest}
@@ -15,11 +15,10 @@ use Rattle.task_simple.specs.Simple.{IsPlain}
 use Rattle.task_simple.proofs.QueueLemmas.{next_entry_first}
 use Rattle.task_simple.proofs.ReadLemmas.{has_live_work_not, is_idle_while}
 use Rattle.task_loop.specs.declared.step.Made.{Made}
-use Rattle.task_loop.specs.declared.step.Phase.{Phase}
-use Rattle.task_loop.specs.declared.step.Phase.TheVariants as phase
+use Rattle.task_machine.specs.declared.records.Turn.{Turn}
 use Rattle.task_loop.specs.Main.{state_at}
-use Rattle.task_state.specs.Seen.{Seen}
-use Rattle.task_loop.specs.Turn.{Makes, PendsIn, Turned, Turns, idle_line_of, setting_of, turn_of}
+use Rattle.task_state.specs.StepView.{StepView}
+use Rattle.task_loop.specs.Turn.{Makes, PendsIn, Turned, Turns, idle_line_of, setting_of}
 
 -- ---- Where nothing can go on
 
@@ -35,7 +34,7 @@ and_true : (a : Bool) → (a && true) ≡ a
 and_true true = refl
 and_true false = refl
 
-module _ (x : Setting) (s : Seen) (plain : IsPlain s.core) (b : Bool) (idle : x.idle ≡ idle_line_of b) (m : Main) where
+module _ (x : Setting) (s : StepView) (plain : IsPlain s.core) (b : Bool) (idle : x.idle ≡ idle_line_of b) (m : Main) where
   -- a deadlock comes, or the run rests, by the idle line
   rest_where : (t : State) → t.core ≡ s.core → is_at_rest x t ≡ (is_idle x t && not b)
   unfolding is_at_rest
@@ -47,7 +46,7 @@ module _ (x : Setting) (s : Seen) (plain : IsPlain s.core) (b : Bool) (idle : x.
       or_none true = refl
       or_none false = refl
 
-  -- in another phase it isn't yet seen that nothing can go on
+  -- in another turn it isn't yet seen that nothing can go on
   elsewhere : (t : State) → t.core ≡ s.core → is_unended_take t.turn ≡ false → is_at_rest x t ≡ false
   unfolding is_idle
   elsewhere t core not_take = rest_where t core ∙ ap (λ v. ((v && main_pends x t.core t.main) && (nothing_stands t.core && works_rest t.core)) && not b) not_take
@@ -63,51 +62,59 @@ module _ (x : Setting) (s : Seen) (plain : IsPlain s.core) (b : Bool) (idle : x.
   pub rest_take : main_pends x s.core m ≡ true → is_at_rest x (state_at s.core m (turn.Take false)) ≡ (is_nil s.core.queues.high && not b)
   rest_take pends = rest_where (state_at s.core m (turn.Take false)) refl ∙ ap (λ v. v && not b) (stands_where s.core.queues.high refl pends)
 
-  -- the loop is idle in this phase
-  abbrev pub is_idle_in : Phase → Bool
-  is_idle_in phase.Take = is_nil s.core.queues.high && not b
+  -- the loop is idle in this turn
+  abbrev pub is_idle_in : Turn → Bool
+  is_idle_in (turn.Take false) = is_nil s.core.queues.high && not b
   is_idle_in _ = false
 
-  pub rest_in : (p : Phase) → PendsIn x s m p → is_at_rest x (state_at s.core m (turn_of p)) ≡ is_idle_in p
-  rest_in phase.Main pends = elsewhere (state_at s.core m turn.Main) refl refl
-  rest_in phase.Take pends = rest_take pends
-  rest_in (phase.Run n) pends = elsewhere (state_at s.core m (turn.Run n)) refl refl
-  rest_in phase.Over pends = elsewhere (state_at s.core m turn.Over) refl refl
+  pub rest_in : (p : Turn) → PendsIn x s m p → is_at_rest x (state_at s.core m p) ≡ is_idle_in p
+  rest_in turn.Main pends = elsewhere (state_at s.core m turn.Main) refl refl
+  rest_in (turn.Take false) pends = rest_take pends
+  rest_in (turn.Take true) pends = elsewhere (state_at s.core m (turn.Take true)) refl refl
+  rest_in (turn.Futures k) pends = elsewhere (state_at s.core m (turn.Futures k)) refl refl
+  rest_in (turn.Run n) pends = elsewhere (state_at s.core m (turn.Run n)) refl refl
+  rest_in turn.Over pends = elsewhere (state_at s.core m turn.Over) refl refl
 
-  pub rest_trap : (p : Phase) → PendsIn x s m p → b ≡ true → is_at_rest x (state_at s.core m (turn_of p)) ≡ false
-  rest_trap phase.Main pends traps = rest_in phase.Main pends
-  rest_trap phase.Take pends traps = rest_take pends ∙ (ap (λ v. is_nil s.core.queues.high && not v) traps ∙ and_false (is_nil s.core.queues.high))
-  rest_trap (phase.Run n) pends traps = rest_in (phase.Run n) pends
-  rest_trap phase.Over pends traps = rest_in phase.Over pends
+  pub rest_trap : (p : Turn) → PendsIn x s m p → b ≡ true → is_at_rest x (state_at s.core m p) ≡ false
+  rest_trap turn.Main pends traps = rest_in turn.Main pends
+  rest_trap (turn.Take false) pends traps = rest_take pends ∙ (ap (λ v. is_nil s.core.queues.high && not v) traps ∙ and_false (is_nil s.core.queues.high))
+  rest_trap (turn.Take true) pends traps = rest_in (turn.Take true) pends
+  rest_trap (turn.Futures k) pends traps = rest_in (turn.Futures k) pends
+  rest_trap (turn.Run n) pends traps = rest_in (turn.Run n) pends
+  rest_trap turn.Over pends traps = rest_in turn.Over pends
 
   pub rest_wait : main_pends x s.core m ≡ true → b ≡ false → is_at_rest x (state_at s.core m (turn.Take false)) ≡ is_nil s.core.queues.high
   rest_wait pends waits = rest_take pends ∙ (ap (λ v. is_nil s.core.queues.high && not v) waits ∙ and_true (is_nil s.core.queues.high))
 
-  pub rest_else : (p : Phase) → p ≢ phase.Take → is_at_rest x (state_at s.core m (turn_of p)) ≡ false
-  rest_else phase.Main ne = rest_in phase.Main tt
-  rest_else phase.Take ne = absurd (ne refl)
-  rest_else (phase.Run n) ne = rest_in (phase.Run n) tt
-  rest_else phase.Over ne = rest_in phase.Over tt
+  pub rest_else : (p : Turn) → p ≢ turn.Take false → is_at_rest x (state_at s.core m p) ≡ false
+  rest_else turn.Main ne = rest_in turn.Main tt
+  rest_else (turn.Take false) ne = absurd (ne refl)
+  rest_else (turn.Take true) ne = rest_in (turn.Take true) tt
+  rest_else (turn.Futures k) ne = rest_in (turn.Futures k) tt
+  rest_else (turn.Run n) ne = rest_in (turn.Run n) tt
+  rest_else turn.Over ne = rest_in turn.Over tt
 
 -- ---- A step in which main has no part
 
-pends_else : (x : Setting) (s : Seen) (m : Main) (p : Phase) → p ≢ phase.Take → PendsIn x s m p
-pends_else x s m phase.Main ne = tt
-pends_else x s m phase.Take ne = absurd (ne refl)
-pends_else x s m (phase.Run n) ne = tt
-pends_else x s m phase.Over ne = tt
+pends_else : (x : Setting) (s : StepView) (m : Main) (p : Turn) → p ≢ turn.Take false → PendsIn x s m p
+pends_else x s m turn.Main ne = tt
+pends_else x s m (turn.Take false) ne = absurd (ne refl)
+pends_else x s m (turn.Take true) ne = tt
+pends_else x s m (turn.Futures k) ne = tt
+pends_else x s m (turn.Run n) ne = tt
+pends_else x s m turn.Over ne = tt
 
-pub makes_turns : (x : Setting) (p : Phase) (s : Seen) (made : Made) (t : Seen) → Makes x.component p s made t → (m : Main) → Turns x p m s made m t
+pub makes_turns : (x : Setting) (p : Turn) (s : StepView) (made : Made) (t : StepView) → Makes x.component p s made t → (m : Main) → Turns x p m s made m t
 makes_turns x p s made t h m = record {
   step = h.step x refl m;
   running = h.running;
   over = h.over;
-  pends = pends_else x t m made.phase h.not_take;
+  pends = pends_else x t m made.turn h.not_take;
   fits = h.fits;
   few = let same = h.few in omega arith;
 }
 
 -- the same, in the same setting
-pub turned_same : (c : Component) (ops ops' : List MainOp) (b b' : Bool) (p : Phase) (m : Main) (s : Seen) (made : Option Made) (m' : Main) (t : Seen) → ops ≡ ops' → b ≡ b'
+pub turned_same : (c : Component) (ops ops' : List MainOpDef) (b b' : Bool) (p : Turn) (m : Main) (s : StepView) (made : Option Made) (m' : Main) (t : StepView) → ops ≡ ops' → b ≡ b'
     → Turned (setting_of c ops b) p m s made m' t → Turned (setting_of c ops' b') p m s made m' t
 turned_same c ops ops' b b' p m s made m' t script trap h = subst (λ v. Turned (setting_of c ops' v) p m s made m' t) trap (subst (λ o. Turned (setting_of c o b) p m s made m' t) script h)

@@ -14,19 +14,19 @@ use Rattle.task_rules.specs.MainOps.{main_started}
 use Rattle.task_simple.specs.Forms.{return_done}
 use Rattle.task_loop.specs.declared.call.Func.{Func}
 use Rattle.task_loop.specs.declared.call.FuncCallConcurrent.{FuncCallConcurrent}
-use Rattle.task_state.specs.Seen.{Seen, with_core}
+use Rattle.task_state.specs.StepView.{StepView, with_core}
 
 abbrev pub callee_of : Func → Callee
 callee_of f = record { instance = f.instance.index; export = f.export }
 
 -- A start with these words: refused for this cause, or memory is wanting, and then the store is trapped and nothing else is changed; else the call is made.
-abbrev pub Starts : Component → Callee → List ℕ → Seen → Option Trap → Result FuncCallConcurrent TaskError → Seen → Type 0
+abbrev pub Starts : Component → Callee → List ℕ → StepView → Option Trap → Result FuncCallConcurrent TaskError → StepView → Type 0
 Starts c e words s (Some why) r t = (r ≡ Err (task_error.Trap why)) × (t ≡ with_core (set_trapped s.core) s)
 Starts c e words s None (Ok call) t = (call.thread ≡ s.core.made.threads + 1) × (t ≡ with_core (main_started c e words s.core) s)
 Starts c e words s None (Err why) t = (why ≡ task_error.NoMemory) × (t ≡ with_core (set_trapped s.core) s)
 
 -- the call of this number is finished, where it has a result
-abbrev pub Finishes : ℕ → Seen → Poll ℕ → Seen → Type 0
+abbrev pub Finishes : ℕ → StepView → Poll ℕ → StepView → Type 0
 Finishes k s (Ready v) t = (get s.core.results k ≡ Some v) × (t ≡ with_core (take_result k s.core) s)
 Finishes k s Pending t = (get s.core.results k ≡ None) × (t ≡ s)
 
@@ -41,7 +41,7 @@ return_refusal false false = Some trap.TaskReturnInvalid
 return_refusal false true = None
 
 -- A return of v by the thread n: refused for this cause, and then nothing is changed; else done, or memory is wanting, and nothing is changed.
-abbrev pub Returns : (n v : ℕ) → Seen → Option Trap → Result (Unit {0}) TaskError → Seen → Type 0
+abbrev pub Returns : (n v : ℕ) → StepView → Option Trap → Result (Unit {0}) TaskError → StepView → Type 0
 Returns n v s (Some why) r t = (r ≡ Err (task_error.Trap why)) × (t ≡ s)
 Returns n v s None (Ok u) t = t ≡ with_core (return_done n v s.core) s
 Returns n v s None (Err why) t = (why ≡ task_error.NoMemory) × (t ≡ s)

@@ -7,11 +7,11 @@ use Rattle.task_machine.specs.Core.{Main, State}
 use Rattle.task_rules.specs.Stalled.{Setting}
 use Rattle.task_rules.specs.Run.{Run}
 use Rattle.task_rules.specs.Outcome.{last_outcome, IsOutcome}
-use Rattle.task_loop.specs.declared.step.Phase.{Phase}
+use Rattle.task_machine.specs.declared.records.Turn.{Turn}
 use Rattle.task_loop.specs.Fit.{Fits, given}
 use Rattle.task_loop.specs.Main.{state_at}
-use Rattle.task_state.specs.Seen.{Seen}
-use Rattle.task_loop.specs.Turn.{PendsIn, goes_on, is_open, runs_in, turn_of}
+use Rattle.task_state.specs.StepView.{StepView}
+use Rattle.task_loop.specs.Turn.{PendsIn, goes_on, is_open, runs_in}
 
 -- A run of n labels was added, of which the last gives no outcome.
 pub record Going (x : Setting) (s : State) (before : List Label) (t : State) (after : List Label) (n : ℕ) : Type 0 where
@@ -30,8 +30,8 @@ pub record Drives (x : Setting) (s : State) (before : List Label) (t : State) (a
   pub ends : IsOutcome x t added steps outcome
 
 -- What the turns came to: a run, and how the store stands then.
-pub record Drove (x : Setting) (s : State) (before : List Label) (numbers : ℕ) (p : Phase) (m : Main) (t : Seen) (after : List Label) (steps : ℕ) (outcome : Outcome) : Type 0 where
-  pub drives : Drives x s before (state_at t.core m (turn_of p)) after steps outcome
+pub record Drove (x : Setting) (s : State) (before : List Label) (numbers : ℕ) (p : Turn) (m : Main) (t : StepView) (after : List Label) (steps : ℕ) (outcome : Outcome) : Type 0 where
+  pub drives : Drives x s before (state_at t.core m p) after steps outcome
   pub unfinished : is_open p ≡ goes_on outcome
   pub fits : Fits x.component t.core
   pub few : given t.core ≤ numbers + 2 * steps
@@ -39,14 +39,14 @@ pub record Drove (x : Setting) (s : State) (before : List Label) (numbers : ℕ)
   pub pends : PendsIn x t m p
 
 -- The run has gone on for n labels, and the store stands so that it can go on.
-pub record IsOn (x : Setting) (s : State) (before : List Label) (numbers : ℕ) (p : Phase) (m : Main) (t : Seen) (after : List Label) (n : ℕ) : Type 0 where
-  pub going : Going x s before (state_at t.core m (turn_of p)) after n
+pub record IsOn (x : Setting) (s : State) (before : List Label) (numbers : ℕ) (p : Turn) (m : Main) (t : StepView) (after : List Label) (n : ℕ) : Type 0 where
+  pub going : Going x s before (state_at t.core m p) after n
   pub unfinished : is_open p ≡ true
   pub fits : Fits x.component t.core
   pub few : given t.core ≤ numbers + 2 * n
   pub running : t.running ≡ runs_in p
   pub pends : PendsIn x t m p
 
--- Where a run has gone on for so many labels in this phase, it goes on to this store and trace in the same phase, with main as it was.
-abbrev pub KeepsOn : Component → Phase → Seen → List Label → ℕ → Seen → List Label → ℕ → Type 0
+-- Where a run has gone on for so many labels in this turn, it goes on to this store and trace in the same turn, with main as it was.
+abbrev pub KeepsOn : Component → Turn → StepView → List Label → ℕ → StepView → List Label → ℕ → Type 0
 KeepsOn c p s before added t after k = (x : Setting) → x.component ≡ c → (o : State) (trace : List Label) (numbers : ℕ) (m : Main) → IsOn x o trace numbers p m s before added → IsOn x o trace numbers p m t after k

@@ -25,14 +25,14 @@ is_plain_op (op.Task task.Exit) = true
 is_plain_op _ = false
 
 -- A callback whose script has plain ops alone.
-pub record IsFirstExport (e : ExportDef) : Type 0 where
+pub record IsPlainExport (e : ExportDef) : Type 0 where
   pub called_back : e.kind ≡ kind.Callback
   pub few_params : e.params ≤ 16
   pub short : length e.start ≤ 4096
   pub ops : list_all is_plain_op e.start ≡ true
 
-abbrev pub IsFirstComponent : Component → Type 0
-IsFirstComponent c = (f : Callee) (e : ExportDef) → export_at c f ≡ Some e → IsFirstExport e
+abbrev pub HasPlainExports : Component → Type 0
+HasPlainExports c = (f : Callee) (e : ExportDef) → export_at c f ≡ Some e → IsPlainExport e
 
 -- The thread, of this call, is at a place in its script or at its end. A plain op is done in one step, so none has begun.
 pub record IsPlaced (c : Component) (x : Call) (t : Thread) : Type 0 where

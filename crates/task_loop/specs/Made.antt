@@ -23,28 +23,28 @@ use Rattle.task_loop.specs.declared.main_task.MainStep.TheVariants as main_step
 use Rattle.task_loop.specs.declared.step.Made.{Made}
 use Rattle.task_loop.specs.declared.step.Next.{Next}
 use Rattle.task_loop.specs.declared.step.Next.TheVariants as next
-use Rattle.task_loop.specs.declared.step.Phase.TheVariants as phase
+use Rattle.task_machine.specs.declared.records.Turn.TheVariants as turn
 use Rattle.task_state.specs.declared.taken.Taken.{Taken}
 use Rattle.task_state.specs.declared.taken.Taken.TheVariants as taken
 use Rattle.task_loop.specs.Fit.{Fits}
-use Rattle.task_state.specs.Seen.{Seen}
+use Rattle.task_state.specs.StepView.{StepView}
 use Rattle.task_loop.specs.Turn.{Makes}
 
 abbrev pub made_by_main : MainStep → Made
-made_by_main (main_step.Did l) = record { label = l; phase = phase.Main }
-made_by_main main_step.Pends = record { label = label.Loop loop_label.MainPends; phase = phase.Take }
-made_by_main (main_step.Answer v) = record { label = label.Main (main_label.Answer v); phase = phase.Over }
+made_by_main (main_step.Did l) = record { label = l; turn = turn.Main }
+made_by_main main_step.Pends = record { label = label.Loop loop_label.MainPends; turn = turn.Take false }
+made_by_main (main_step.Answer v) = record { label = label.Main (main_label.Answer v); turn = turn.Over }
 
 abbrev pub made_by : Taken → Option Made
 made_by taken.Nothing = None
-made_by (taken.PutOff n) = Some (record { label = held_label mark.High n None; phase = phase.Main })
-made_by (taken.NoHandle n) = Some (record { label = trap_label n trap.HandleLimit; phase = phase.Over })
-made_by (taken.Runs n) = Some (record { label = take_label mark.High n None; phase = phase.Run n })
+made_by (taken.PutOff n) = Some (record { label = held_label mark.High n None; turn = turn.Main })
+made_by (taken.NoHandle n) = Some (record { label = trap_label n trap.HandleLimit; turn = turn.Over })
+made_by (taken.Runs n) = Some (record { label = take_label mark.High n None; turn = turn.Run n })
 
 -- nothing was there to be taken, or a step was made
-abbrev pub Took : Seen → Option Made → Seen → Type 0
+abbrev pub Took : StepView → Option Made → StepView → Type 0
 Took s None t = (s.core.queues.high ≡ []) × (t ≡ s)
-Took s (Some made) t = (c : Component) → Fits c s.core → Makes c phase.Take s made t
+Took s (Some made) t = (c : Component) → Fits c s.core → Makes c (turn.Take false) s made t
 
 abbrev pub op_of_next : Next → Op
 op_of_next (next.Data o) = op.Data o

@@ -7,7 +7,7 @@ use Rattle.task_machine.specs.declared.label.MainLabel.TheVariants as main_label
 use Rattle.task_machine.specs.declared.records.Turn.{Turn}
 use Rattle.task_machine.specs.declared.records.Turn.TheVariants as turn
 use Rattle.task_machine.specs.declared.scenario.IdleLine.TheVariants as idle_line
-use Rattle.task_machine.specs.declared.scenario.MainOp.{MainOp}
+use Rattle.task_machine.specs.declared.scenario.MainOpDef.{MainOpDef}
 use Rattle.task_machine.specs.Core.{Core, Main, State, One}
 use Rattle.task_rules.specs.Stalled.{Setting, main_pends}
 use Rattle.task_rules.specs.Step as machine
@@ -19,7 +19,7 @@ abbrev pub state_at : Core → Main → Turn → State
 state_at s m x = record { version = One; core = s; main = m; turn = x }
 
 -- what a step of main is seen beside: the idle line is of no account
-abbrev pub main_setting : Component → List MainOp → Setting
+abbrev pub main_setting : Component → List MainOpDef → Setting
 main_setting c ops = record { component = c; script = ops; idle = idle_line.Trap }
 
 -- an op of main other than its answer
@@ -28,7 +28,7 @@ IsOpOfMain (label.Main (main_label.Answer v)) = ⊥
 IsOpOfMain (label.Main l) = Unit {0}
 IsOpOfMain _ = ⊥
 
-module _ (c : Component) (ops : List MainOp) (m : Main) (s : Core) where
+module _ (c : Component) (ops : List MainOpDef) (m : Main) (s : Core) where
   -- the op is done: its label is lawful, and main's part and the core are as it leaves them
   pub record Did (l : Label) (m' : Main) (s' : Core) : Type 0 where
     pub op : IsOpOfMain l

@@ -2,9 +2,9 @@ ghost use Rattle.std.specs.Prelude.{◌≡◌, ◌<◌, ◌≤◌, ◌^◌, leng
 ghost use Rattle.task_rules.specs.MainOps.{start_refusal};
 ghost use Rattle.task_rules.specs.Scripts.{export_at};
 ghost use Rattle.task_machine.specs.Write.{set_trapped};
-ghost use Rattle.task_core.specs.Shown.{KeepsTags};
-ghost use Rattle.task_state.specs.State.{Becomes, seen};
-ghost use Rattle.task_loop.specs.Fit.{IsFirstComponent, Fits, given};
+ghost use Rattle.task_core.specs.StateView.{KeepsTags};
+ghost use Rattle.task_state.specs.State.{Becomes, step_view};
+ghost use Rattle.task_loop.specs.Fit.{HasPlainExports, Fits, given};
 ghost use Rattle.task_loop.specs.Calls.{callee_of, Starts, Finishes};
 
 use crate::component::export_def;
@@ -15,14 +15,14 @@ use task_machine::{Callee, Component, Trap};
 use task_store::Store;
 
 /// Names an export by its instance and its place there, from 0.
-#[derive(Clone, Copy, Debug, PartialEq, Eq)]
+#[derive(Clone, Copy)]
 pub struct Func {
     pub instance: Instance,
     pub export: u32,
 }
 
 /// A call by the host that was started. It can be finished once.
-#[derive(Debug, Drop)]
+#[derive(Drop)]
 pub struct FuncCallConcurrent {
     thread: u64,
 }
@@ -77,12 +77,12 @@ impl Func {
         store: &mut Store<T, H>,
         params: &[u64],
     ) -> Result<FuncCallConcurrent, TaskError>
-        requires first { IsFirstComponent component.now }
+        requires exports { HasPlainExports component.now }
         requires there { IsSome (export_at component.now (callee_of self)) }
         requires params { IfSome (export_at component.now (callee_of self)) (λ e. length params.now ≡ e.params) }
         requires fits { Fits component.now store.old.state.core }
         requires given { given store.old.state.core < 2 ^ 61 }
-        ensures starts { Starts component.now (callee_of self) params.now (seen store.old.state) (start_refusal store.old.state.core) result (seen store.new.state) }
+        ensures starts { Starts component.now (callee_of self) params.now (step_view store.old.state) (start_refusal store.old.state.core) result (step_view store.new.state) }
         ensures fits { Fits component.now store.new.state.core }
         ensures tags { KeepsTags store.old.state.tags store.new.state.tags }
         ensures rest { store.new ≡ record store.old { state = store.new.state } }
@@ -111,7 +111,7 @@ impl Func {
         store: &mut Store<T, H>,
         call: &mut FuncCallConcurrent,
     ) -> Poll<u64>
-        ensures finishes { Finishes call.old.thread (seen store.old.state) result (seen store.new.state) }
+        ensures finishes { Finishes call.old.thread (step_view store.old.state) result (step_view store.new.state) }
         ensures call { call.new ≡ call.old }
         ensures fits { (c : Component) → Fits c store.old.state.core → Fits c store.new.state.core }
         ensures tags { store.new.state.tags ≡ store.old.state.tags }

@@ -5,19 +5,19 @@ ghost use Rattle.task_rules.specs.Progress.{Goes};
 ghost use Rattle.task_rules.specs.Scripts.{op_of, script_of, value_in, value_of};
 ghost use Rattle.task_state.specs.Context.{in_context};
 ghost use Rattle.task_state.specs.Moves.{IsAbout};
-ghost use Rattle.task_state.specs.State.{seen};
-ghost use Rattle.task_loop.specs.Fit.{IsFirstComponent, Fits};
+ghost use Rattle.task_state.specs.State.{step_view};
+ghost use Rattle.task_loop.specs.Fit.{HasPlainExports, Fits};
 ghost use Rattle.task_loop.specs.Turn.{Makes};
 
 use crate::component::{operand_value, start_script};
-use crate::step::{Made, Phase};
-use task_machine::{Component, DataLabel, DataOp, Label, Op, Operand};
+use crate::step::Made;
+use task_machine::{Component, DataLabel, DataOp, Label, Op, Operand, Turn};
 use task_state::{Running, ThreadContext};
 use task_store::Store;
 
 /// An operand's value for the running thread.
 pub(crate) fn value_now<T, H>(store: &Store<T, H>, running: &Running, operand: Operand) -> u64
-    requires { IsAbout (seen store.now.state) running.now }
+    requires { IsAbout (step_view store.now.state) running.now }
     ensures { result ≡ value_of running.now.number store.now.state.core operand }
 {
     let _running = running;
@@ -66,10 +66,10 @@ pub(crate) fn computes_in<T, H>(
     end: u32,
     op: DataOp,
 ) -> DataLabel
-    requires about { IsAbout (seen store.old.state) running.now }
+    requires about { IsAbout (step_view store.old.state) running.now }
     requires before { context.old.position < end }
     ensures row { (c : Component) → length (script_of c running.now.number (in_context running.now.number context.old store.old.state.core)) ≡ end → data_row c running.now.number (in_context running.now.number context.old store.old.state.core) op ≡ Goes (Label.Data result) (in_context running.now.number context.new store.new.state.core) running.now.number }
-    ensures about { IsAbout (seen store.new.state) running.now }
+    ensures about { IsAbout (step_view store.new.state) running.now }
 {
     store.state.is_whole();
     let number = running.number;
@@ -117,11 +117,11 @@ pub(crate) fn computes<T, H>(
     running: &Running,
     op: DataOp,
 ) -> Made
-    requires first { IsFirstComponent component.now }
+    requires exports { HasPlainExports component.now }
     requires fits { Fits component.now store.old.state.core }
-    requires about { IsAbout (seen store.old.state) running.now }
+    requires about { IsAbout (step_view store.old.state) running.now }
     requires op { op_of component.now running.now.number store.old.state.core ≡ Op.Data op }
-    ensures { Makes component.now (Phase.Run running.now.number) (seen store.old.state) result (seen store.new.state) }
+    ensures { Makes component.now (Turn.Run running.now.number) (step_view store.old.state) result (step_view store.new.state) }
 {
     store.state.is_whole();
     let end = start_script(component, running.callee).len() as u32;
@@ -131,6 +131,6 @@ pub(crate) fn computes<T, H>(
     store.state.set_context(&context);
     Made {
         label: Label::Data(label),
-        phase: Phase::Run(running.number),
+        turn: Turn::Run { thread: running.number },
     }
 }

@@ -1,16 +1,16 @@
 ghost use Rattle.std.specs.Prelude.{◌≡◌, ◌<◌, length, IsSome, IfSome};
 ghost use Rattle.task_machine.specs.Read.{has_ended, instance_of, position_of};
 ghost use Rattle.task_rules.specs.Scripts.{script_of};
-ghost use Rattle.task_loop.specs.Fit.{IsFirstComponent, Fits};
+ghost use Rattle.task_loop.specs.Fit.{HasPlainExports, Fits};
 ghost use Rattle.task_loop.specs.Calls.{Returns, is_own_type, return_refusal};
-ghost use Rattle.task_state.specs.State.{running_of, seen};
+ghost use Rattle.task_state.specs.State.{running_of, step_view};
 
 use task_core::TaskError;
 use task_machine::{Component, Trap};
 use task_store::Store;
 
 /// Names an instance by its place, from 0.
-#[derive(Clone, Copy, Debug, PartialEq, Eq)]
+#[derive(Clone, Copy)]
 pub struct Instance {
     pub index: u32,
 }
@@ -31,11 +31,11 @@ impl Instance {
         memory: u32,
         value: u64,
     ) -> Result<(), TaskError>
-        requires first { IsFirstComponent component.now }
+        requires exports { HasPlainExports component.now }
         requires fits { Fits component.now store.old.state.core }
         requires runs { IsSome (running_of store.old.state) }
         requires instance { IfSome (running_of store.old.state) (λ n. instance_of n store.old.state.core ≡ self.index) }
-        ensures returns { IfSome (running_of store.old.state) (λ n. Returns n value (seen store.old.state) (return_refusal (has_ended n store.old.state.core) (is_own_type ty encoding memory)) result (seen store.new.state)) }
+        ensures returns { IfSome (running_of store.old.state) (λ n. Returns n value (step_view store.old.state) (return_refusal (has_ended n store.old.state.core) (is_own_type ty encoding memory)) result (step_view store.new.state)) }
         ensures fits { IfSome (running_of store.old.state) (λ n. position_of n store.old.state.core < length (script_of component.now n store.old.state.core) → Fits component.now store.new.state.core) }
         ensures tags { store.new.state.tags ≡ store.old.state.tags }
         ensures rest { store.new ≡ record store.old { state = store.new.state } }

@@ -16,12 +16,9 @@ pub use component::{operand_value, script_op};
 pub use instance::Instance;
 pub use main_task::{MainStep, MainTask};
 pub use run::{RunConcurrent, run_concurrent};
-pub use step::{Made, Phase};
+pub use step::Made;
 pub use task_core::{NoMemory, TaskError};
 pub use task_machine::{
     Callee, Component, ExportDef, HostDef, InstanceDef, Label, Op, Operand, Outcome, Slot,
 };
 pub use trace::Trace;
-
-#[cfg(test)]
-mod tests;

@@ -1,8 +1,8 @@
 ghost use Rattle.std.specs.Prelude.{◌≡◌, ◌+◌, ◌<◌, ◌^◌, List, IfOk, IfErr, OnOk};
 ghost use Rattle.task_machine.specs.Core.{Main};
 ghost use Rattle.task_machine.specs.declared.component.Component.{Component};
-ghost use Rattle.task_machine.specs.declared.scenario.MainOp.{MainOp};
-ghost use Rattle.task_loop.specs.Fit.{IsFirstComponent, Fits, given};
+ghost use Rattle.task_machine.specs.declared.scenario.MainOpDef.{MainOpDef};
+ghost use Rattle.task_loop.specs.Fit.{HasPlainExports, Fits, given};
 ghost use Rattle.task_loop.specs.Main.{Steps};
 ghost use Rattle.task_state.specs.State.{running_of};
 
@@ -11,7 +11,7 @@ use task_machine::{Component, Label};
 use task_store::{Access, Whole};
 
 /// What main's next op came to.
-#[derive(Clone, Copy, Debug, PartialEq, Eq)]
+#[derive(Clone, Copy)]
 pub enum MainStep {
     /// The op is done, with this label.
     Did(Label),
@@ -28,7 +28,7 @@ pub trait MainTask<T, H> {
     ghost part: { Self → Main };
 
     // The ops, where main is a script.
-    ghost script: { Self → List MainOp };
+    ghost script: { Self → List MainOpDef };
 
     // What main needs of the component, as that the exports that a script names are there.
     ghost suits: { Self → Component → Type 0 };
@@ -42,7 +42,7 @@ pub trait MainTask<T, H> {
         access: &mut Access<'_, T, Whole, H>,
         component: &Component,
     ) -> Result<MainStep, TaskError>
-        requires first { IsFirstComponent component.now }
+        requires exports { HasPlainExports component.now }
         requires fits { Fits component.now access.old.store.now.state.core }
         requires suits { suits self.old component.now }
         requires given { given access.old.store.now.state.core + 4 < 2 ^ 61 }

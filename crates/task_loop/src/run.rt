@@ -3,23 +3,23 @@ ghost use Rattle.task_machine.specs.Core.{Main};
 ghost use Rattle.task_rules.specs.Outcome.{is_at_rest, outcome_of_label};
 ghost use Rattle.task_rules.specs.Stalled.{Setting};
 ghost use Rattle.task_loop.specs.Drive.{Drives, Drove, KeepsOn};
-ghost use Rattle.task_loop.specs.Fit.{IsFirstComponent, Fits, given};
+ghost use Rattle.task_loop.specs.Fit.{HasPlainExports, Fits, given};
 ghost use Rattle.task_loop.specs.Main.{state_at};
-ghost use Rattle.task_loop.specs.Turn.{PendsIn, Turned, goes_on, idle_line_of, is_open, runs_in, setting_of, turn_of};
-ghost use Rattle.task_state.specs.State.{running_of, seen};
+ghost use Rattle.task_loop.specs.Turn.{PendsIn, Turned, goes_on, idle_line_of, is_open, runs_in, setting_of};
+ghost use Rattle.task_state.specs.State.{running_of, step_view};
 
 use crate::main_task::MainTask;
-use crate::step::{Made, Phase, step_deadlock, step_main, step_run, step_take};
+use crate::step::{Made, step_deadlock, step_main, step_run, step_take};
 use crate::stretch::stretch;
 use crate::trace::Trace;
 use task_core::NoMemory;
-use task_machine::{CallLabel, Component, Label, LoopLabel, MainLabel, Outcome, Trap};
+use task_machine::{CallLabel, Component, Label, LoopLabel, MainLabel, Outcome, Trap, Turn};
 use task_store::Store;
 
 /// A run of the event loop on a store.
 #[derive(Drop)]
 pub struct RunConcurrent {
-    phase: Phase,
+    turn: Turn,
     trap_on_idle: bool,
 }
 
@@ -31,7 +31,7 @@ pub fn run_concurrent<T, H>(
     trap_on_idle: bool,
 ) -> Result<RunConcurrent, Trap>
     ensures refused { IfErr result (λ trap. (trap ≡ Trap.RecursiveRun) × (store.old.running ≡ true)) }
-    ensures begun { IfOk result (λ run. (run ≡ record { phase = Phase.Main; trap_on_idle = trap_on_idle }) × (store.old.running ≡ false)) }
+    ensures begun { IfOk result (λ run. (run ≡ record { turn = Turn.Main; trap_on_idle = trap_on_idle }) × (store.old.running ≡ false)) }
     ensures store { store.new ≡ record store.old { running = true } }
 {
     if store.running() {
@@ -39,7 +39,7 @@ pub fn run_concurrent<T, H>(
     }
     store.set_running(true);
     Ok(RunConcurrent {
-        phase: Phase::Main,
+        turn: Turn::Main,
         trap_on_idle,
     })
 }
@@ -76,22 +76,22 @@ impl RunConcurrent {
         steps: u32,
         trace: &mut Trace,
     ) -> Result<Outcome, NoMemory>
-        requires first { IsFirstComponent component.now }
+        requires exports { HasPlainExports component.now }
         requires fits { Fits component.now store.old.state.core }
         requires suits { M.suits main.old component.now }
         requires given { given store.old.state.core ≤ 2 ^ 60 }
-        requires current { running_of store.old.state ≡ runs_in self.old.phase }
-        requires unfinished { is_open self.old.phase ≡ true }
-        requires pends { PendsIn (setting_of component.now (M.script main.old) self.old.trap_on_idle) (seen store.old.state) (M.part main.old) self.old.phase }
+        requires current { running_of store.old.state ≡ runs_in self.old.turn }
+        requires unfinished { is_open self.old.turn ≡ true }
+        requires pends { PendsIn (setting_of component.now (M.script main.old) self.old.trap_on_idle) (step_view store.old.state) (M.part main.old) self.old.turn }
         ensures script { M.script main.new ≡ M.script main.old }
         ensures suits { OnOk result (M.suits main.new component.now) }
         ensures idle { self.new.trap_on_idle ≡ self.old.trap_on_idle }
-        ensures ok { IfOk result (λ outcome. Drives (setting_of component.now (M.script main.old) self.old.trap_on_idle) (state_at store.old.state.core (M.part main.old) (turn_of self.old.phase)) trace.old (state_at store.new.state.core (M.part main.new) (turn_of self.new.phase)) trace.new steps outcome) }
-        ensures unfinished { IfOk result (λ outcome. is_open self.new.phase ≡ goes_on outcome) }
+        ensures ok { IfOk result (λ outcome. Drives (setting_of component.now (M.script main.old) self.old.trap_on_idle) (state_at store.old.state.core (M.part main.old) self.old.turn) trace.old (state_at store.new.state.core (M.part main.new) self.new.turn) trace.new steps outcome) }
+        ensures unfinished { IfOk result (λ outcome. is_open self.new.turn ≡ goes_on outcome) }
         ensures fits { OnOk result (Fits component.now store.new.state.core) }
         ensures given { OnOk result (given store.new.state.core ≤ given store.old.state.core + 2 * steps) }
-        ensures current { OnOk result (running_of store.new.state ≡ runs_in self.new.phase) }
-        ensures pends { OnOk result (PendsIn (setting_of component.now (M.script main.old) self.old.trap_on_idle) (seen store.new.state) (M.part main.new) self.new.phase) }
+        ensures current { OnOk result (running_of store.new.state ≡ runs_in self.new.turn) }
+        ensures pends { OnOk result (PendsIn (setting_of component.now (M.script main.old) self.old.trap_on_idle) (step_view store.new.state) (M.part main.new) self.new.turn) }
         ensures err { OnErr result (store.new.state.core.trapped ≡ true) }
     {
         match self.go_on(component, store, main, steps, trace) {
@@ -112,24 +112,24 @@ impl RunConcurrent {
         steps: u32,
         trace: &mut Trace,
     ) -> Result<Outcome, NoMemory>
-        requires first { IsFirstComponent component.now }
+        requires exports { HasPlainExports component.now }
         requires fits { Fits component.now store.old.state.core }
         requires suits { M.suits main.old component.now }
         requires given { given store.old.state.core ≤ 2 ^ 60 }
-        requires current { running_of store.old.state ≡ runs_in self.old.phase }
-        requires unfinished { is_open self.old.phase ≡ true }
-        requires pends { PendsIn (setting_of component.now (M.script main.old) self.old.trap_on_idle) (seen store.old.state) (M.part main.old) self.old.phase }
+        requires current { running_of store.old.state ≡ runs_in self.old.turn }
+        requires unfinished { is_open self.old.turn ≡ true }
+        requires pends { PendsIn (setting_of component.now (M.script main.old) self.old.trap_on_idle) (step_view store.old.state) (M.part main.old) self.old.turn }
         ensures script { M.script main.new ≡ M.script main.old }
         ensures suits { OnOk result (M.suits main.new component.now) }
         ensures idle { self.new.trap_on_idle ≡ self.old.trap_on_idle }
-        ensures ok { IfOk result (λ outcome. Drove (setting_of component.now (M.script main.old) self.old.trap_on_idle) (state_at store.old.state.core (M.part main.old) (turn_of self.old.phase)) trace.old (given store.old.state.core) self.new.phase (M.part main.new) (seen store.new.state) trace.new steps outcome) }
+        ensures ok { IfOk result (λ outcome. Drove (setting_of component.now (M.script main.old) self.old.trap_on_idle) (state_at store.old.state.core (M.part main.old) self.old.turn) trace.old (given store.old.state.core) self.new.turn (M.part main.new) (step_view store.new.state) trace.new steps outcome) }
     {
         let mut added = 0;
         'turns: while added < steps {
             let Some(made) = self.turn(component, store, main)? else {
                 return Ok(Outcome::Idle);
             };
-            self.phase = made.phase;
+            self.turn = made.turn;
             let Ok(()) = trace.push(made.label) else {
                 return Err(NoMemory);
             };
@@ -153,28 +153,28 @@ impl RunConcurrent {
         added: u32,
         steps: u32,
     ) -> Result<u32, NoMemory>
-        requires first { IsFirstComponent component.now }
-        requires current { running_of store.old.state ≡ runs_in self.now.phase }
+        requires exports { HasPlainExports component.now }
+        requires current { running_of store.old.state ≡ runs_in self.now.turn }
         requires few { added ≤ steps }
         ensures few { IfOk result (λ k. (added ≤ k) × (k ≤ steps)) }
-        ensures on { IfOk result (λ k. KeepsOn component.now self.now.phase (seen store.old.state) trace.old added (seen store.new.state) trace.new k) }
+        ensures on { IfOk result (λ k. KeepsOn component.now self.now.turn (step_view store.old.state) trace.old added (step_view store.new.state) trace.new k) }
     {
-        match self.phase {
-            Phase::Run(_) => stretch(component, store, trace, added, steps),
+        match self.turn {
+            Turn::Run { thread: _ } => stretch(component, store, trace, added, steps),
             _ => Ok(added),
         }
     }
 
     // Whether nothing can go on and that is no deadlock.
     fn is_idle<T, H>(&self, store: &Store<T, H>) -> bool
-        ensures { (x : Setting) → x.idle ≡ idle_line_of self.now.trap_on_idle → (m : Main) → PendsIn x (seen store.now.state) m self.now.phase → is_at_rest x (state_at store.now.state.core m (turn_of self.now.phase)) ≡ result }
+        ensures { (x : Setting) → x.idle ≡ idle_line_of self.now.trap_on_idle → (m : Main) → PendsIn x (step_view store.now.state) m self.now.turn → is_at_rest x (state_at store.now.state.core m self.now.turn) ≡ result }
     {
         store.state.is_whole();
         if self.trap_on_idle {
             return false;
         }
-        match self.phase {
-            Phase::Take => store.state.is_drained(),
+        match self.turn {
+            Turn::Take { ended: false } => store.state.is_drained(),
             _ => false,
         }
     }
@@ -186,35 +186,37 @@ impl RunConcurrent {
         store: &mut Store<T, H>,
         main: &mut M,
     ) -> Result<Option<Made>, NoMemory>
-        requires first { IsFirstComponent component.now }
+        requires exports { HasPlainExports component.now }
         requires fits { Fits component.now store.old.state.core }
         requires suits { M.suits main.old component.now }
         requires given { given store.old.state.core + 4 < 2 ^ 61 }
-        requires current { running_of store.old.state ≡ runs_in self.now.phase }
-        requires unfinished { is_open self.now.phase ≡ true }
-        requires pends { PendsIn (setting_of component.now (M.script main.old) self.now.trap_on_idle) (seen store.old.state) (M.part main.old) self.now.phase }
+        requires current { running_of store.old.state ≡ runs_in self.now.turn }
+        requires unfinished { is_open self.now.turn ≡ true }
+        requires pends { PendsIn (setting_of component.now (M.script main.old) self.now.trap_on_idle) (step_view store.old.state) (M.part main.old) self.now.turn }
         ensures script { M.script main.new ≡ M.script main.old }
         ensures suits { OnOk result (M.suits main.new component.now) }
-        ensures turned { IfOk result (λ made. Turned (setting_of component.now (M.script main.old) self.now.trap_on_idle) self.now.phase (M.part main.old) (seen store.old.state) made (M.part main.new) (seen store.new.state)) }
+        ensures turned { IfOk result (λ made. Turned (setting_of component.now (M.script main.old) self.now.trap_on_idle) self.now.turn (M.part main.old) (step_view store.old.state) made (M.part main.new) (step_view store.new.state)) }
     {
-        match self.phase {
-            Phase::Main => match step_main(component, store, main) {
+        match self.turn {
+            Turn::Main => match step_main(component, store, main) {
                 Ok(made) => Ok(Some(made)),
                 Err(e) => Err(e),
             },
-            Phase::Take => self.take(store),
-            Phase::Run(_) => match step_run(component, store) {
+            Turn::Take { ended: false } => self.take(store),
+            Turn::Run { thread: _ } => match step_run(component, store) {
                 Ok(made) => Ok(Some(made)),
                 Err(e) => Err(e),
             },
-            Phase::Over => unreachable!(),
+            Turn::Take { ended: true } => unreachable!(),
+            Turn::Futures { polled: _ } => unreachable!(),
+            Turn::Over => unreachable!(),
         }
     }
 
     // Takes an entry, or else sees what it is that nothing can go on.
     fn take<T, H>(&self, store: &mut Store<T, H>) -> Result<Option<Made>, NoMemory>
         requires { running_of store.old.state ≡ None }
-        ensures { IfOk result (λ made. (x : Setting) → x.idle ≡ idle_line_of self.now.trap_on_idle → (m : Main) → Fits x.component store.old.state.core → PendsIn x (seen store.old.state) m Phase.Take → Turned x Phase.Take m (seen store.old.state) made m (seen store.new.state)) }
+        ensures { IfOk result (λ made. (x : Setting) → x.idle ≡ idle_line_of self.now.trap_on_idle → (m : Main) → Fits x.component store.old.state.core → PendsIn x (step_view store.old.state) m (Turn.Take false) → Turned x (Turn.Take false) m (step_view store.old.state) made m (step_view store.new.state)) }
     {
         store.state.is_whole();
         match step_take(store) {

@@ -5,13 +5,13 @@ ghost use Rattle.task_rules.specs.Scripts.{op_of, script_in};
 ghost use Rattle.task_rules.specs.Stalled.{Setting, main_pends};
 ghost use Rattle.task_rules.specs.Step.{trap_label};
 ghost use Rattle.task_simple.specs.Forms.{trap_done};
-ghost use Rattle.task_state.specs.Seen.{stopped_with};
+ghost use Rattle.task_state.specs.StepView.{stopped_with};
 ghost use Rattle.task_state.specs.Moves.{IsAbout};
-ghost use Rattle.task_loop.specs.Fit.{IsFirstComponent, Fits, given, is_plain_op};
+ghost use Rattle.task_loop.specs.Fit.{HasPlainExports, Fits, given, is_plain_op};
 ghost use Rattle.task_loop.specs.Main.{Steps};
 ghost use Rattle.task_loop.specs.Turn.{Makes, Turns};
 ghost use Rattle.task_loop.specs.Made.{made_by, made_by_main, op_of_next, IsReturn, Took};
-ghost use Rattle.task_state.specs.State.{running_of, seen};
+ghost use Rattle.task_state.specs.State.{running_of, step_view};
 
 use crate::component::script_op;
 use crate::data::{computes, value_now};
@@ -20,27 +20,16 @@ use crate::main_task::{MainStep, MainTask};
 use task_core::{NoMemory, TaskError};
 use task_machine::{
     Component, DataOp, IdleLine, Label, LoopLabel, MainLabel, Mark, Op, Operand, Script, TakeLabel,
-    TaskLabel, TaskOp, Trap,
+    TaskLabel, TaskOp, Trap, Turn,
 };
 use task_state::{Running, Taken};
 use task_store::{Access, Store};
 
-/// Whose turn it is.
-#[derive(Clone, Copy, Debug, PartialEq, Eq)]
-pub enum Phase {
-    Main,
-    /// Main has pended, and an entry is to be taken.
-    Take,
-    /// The thread of this number runs.
-    Run(u64),
-    Over,
-}
-
 /// A step that was made: its label, and whose turn it is then.
-#[derive(Clone, Copy, Debug, PartialEq, Eq)]
+#[derive(Clone, Copy)]
 pub struct Made {
     pub label: Label,
-    pub phase: Phase,
+    pub turn: Turn,
 }
 
 // What main's step shows.
@@ -50,15 +39,15 @@ fn made_of_main(step: MainStep) -> Made
     match step {
         MainStep::Did(label) => Made {
             label,
-            phase: Phase::Main,
+            turn: Turn::Main,
         },
         MainStep::Pends => Made {
             label: Label::Loop(LoopLabel::MainPends),
-            phase: Phase::Take,
+            turn: Turn::Take { ended: false },
         },
         MainStep::Answer(value) => Made {
             label: Label::Main(MainLabel::Answer(value)),
-            phase: Phase::Over,
+            turn: Turn::Over,
         },
     }
 }
@@ -69,14 +58,14 @@ pub fn step_main<T, H, M: MainTask<T, H>>(
     store: &mut Store<T, H>,
     main: &mut M,
 ) -> Result<Made, NoMemory>
-    requires first { IsFirstComponent component.now }
+    requires exports { HasPlainExports component.now }
     requires fits { Fits component.now store.old.state.core }
     requires suits { M.suits main.old component.now }
     requires given { given store.old.state.core + 4 < 2 ^ 61 }
     requires current { running_of store.old.state ≡ None }
     ensures script { M.script main.new ≡ M.script main.old }
     ensures suits { OnOk result (M.suits main.new component.now) }
-    ensures ok { IfOk result (λ made. (x : Setting) → x.component ≡ component.now → x.script ≡ M.script main.old → Turns x Phase.Main (M.part main.old) (seen store.old.state) made (M.part main.new) (seen store.new.state)) }
+    ensures ok { IfOk result (λ made. (x : Setting) → x.component ≡ component.now → x.script ≡ M.script main.old → Turns x Turn.Main (M.part main.old) (step_view store.old.state) made (M.part main.new) (step_view store.new.state)) }
 {
     store.state.is_whole();
     match ask_main(component, store, main) {
@@ -91,7 +80,7 @@ fn ask_main<T, H, M: MainTask<T, H>>(
     store: &mut Store<T, H>,
     main: &mut M,
 ) -> Result<MainStep, TaskError>
-    requires first { IsFirstComponent component.now }
+    requires exports { HasPlainExports component.now }
     requires fits { Fits component.now store.old.state.core }
     requires suits { M.suits main.old component.now }
     requires given { given store.old.state.core + 4 < 2 ^ 61 }
@@ -114,15 +103,15 @@ fn made_of(taken: Taken) -> Option<Made>
         Taken::Nothing => None,
         Taken::PutOff(thread) => Some(Made {
             label: Label::Take(TakeLabel::Held(Mark::High, thread)),
-            phase: Phase::Main,
+            turn: Turn::Main,
         }),
         Taken::NoHandle(thread) => Some(Made {
             label: Label::Loop(LoopLabel::Trap(Trap::HandleLimit, thread)),
-            phase: Phase::Over,
+            turn: Turn::Over,
         }),
         Taken::Runs(thread) => Some(Made {
             label: Label::Take(TakeLabel::Thread(Mark::High, thread)),
-            phase: Phase::Run(thread),
+            turn: Turn::Run { thread },
         }),
     }
 }
@@ -130,7 +119,7 @@ fn made_of(taken: Taken) -> Option<Made>
 /// The oldest entry of high is taken; none where nothing is there.
 pub fn step_take<T, H>(store: &mut Store<T, H>) -> Result<Option<Made>, NoMemory>
     requires { running_of store.old.state ≡ None }
-    ensures { IfOk result (λ made. Took (seen store.old.state) made (seen store.new.state)) }
+    ensures { IfOk result (λ made. Took (step_view store.old.state) made (step_view store.new.state)) }
 {
     store.state.is_whole();
     match store.state.take_start() {
@@ -143,22 +132,22 @@ pub fn step_take<T, H>(store: &mut Store<T, H>) -> Result<Option<Made>, NoMemory
 pub fn step_deadlock<T, H>(store: &mut Store<T, H>) -> Made
     requires high { store.old.state.core.queues.high ≡ [] }
     requires current { running_of store.old.state ≡ None }
-    ensures { (x : Setting) → x.idle ≡ IdleLine.Trap → Fits x.component store.old.state.core → (m : Main) → main_pends x store.old.state.core m ≡ true → Turns x Phase.Take m (seen store.old.state) result m (seen store.new.state) }
+    ensures { (x : Setting) → x.idle ≡ IdleLine.Trap → Fits x.component store.old.state.core → (m : Main) → main_pends x store.old.state.core m ≡ true → Turns x (Turn.Take false) m (step_view store.old.state) result m (step_view store.new.state) }
 {
     store.state.is_whole();
     store.set_trapped();
     Made {
         label: Label::Loop(LoopLabel::Deadlock(Trap::AsyncDeadlock)),
-        phase: Phase::Over,
+        turn: Turn::Over,
     }
 }
 
 /// The running thread takes its op.
 pub fn step_run<T, H>(component: &Component, store: &mut Store<T, H>) -> Result<Made, NoMemory>
-    requires first { IsFirstComponent component.now }
+    requires exports { HasPlainExports component.now }
     requires fits { Fits component.now store.old.state.core }
     requires runs { IsSome (running_of store.old.state) }
-    ensures { IfOk result (λ made. IfSome (running_of store.old.state) (λ n. Makes component.now (Phase.Run n) (seen store.old.state) made (seen store.new.state))) }
+    ensures { IfOk result (λ made. IfSome (running_of store.old.state) (λ n. Makes component.now (Turn.Run n) (step_view store.old.state) made (step_view store.new.state))) }
 {
     store.state.is_whole();
     let Some(running) = store.state.running() else {
@@ -171,7 +160,7 @@ pub fn step_run<T, H>(component: &Component, store: &mut Store<T, H>) -> Result<
 }
 
 // A plain op, to be done next.
-#[derive(Clone, Copy, Debug)]
+#[derive(Clone, Copy)]
 enum Next {
     Data(DataOp),
     Task(TaskOp),
@@ -190,7 +179,7 @@ fn next_of(op: &Op) -> Next
 
 // The op of the running thread. It exits at its script's end.
 fn next_op(component: &Component, running: &Running) -> Next
-    requires { IsFirstComponent component.now }
+    requires { HasPlainExports component.now }
     ensures op { op_of_next result ≡ unwrap_or (slice_get (script_in component.now running.now.callee Script.Start) running.now.position) (Op.Task TaskOp.Exit) }
     ensures plain { is_plain_op (op_of_next result) ≡ true }
 {
@@ -207,12 +196,12 @@ fn ends<T, H>(
     running: &Running,
     op: TaskOp,
 ) -> Result<Made, NoMemory>
-    requires first { IsFirstComponent component.now }
+    requires exports { HasPlainExports component.now }
     requires fits { Fits component.now store.old.state.core }
-    requires about { IsAbout (seen store.old.state) running.now }
+    requires about { IsAbout (step_view store.old.state) running.now }
     requires op { op_of component.now running.now.number store.old.state.core ≡ Op.Task op }
     requires plain { is_plain_op (Op.Task op) ≡ true }
-    ensures { IfOk result (λ made. Makes component.now (Phase.Run running.now.number) (seen store.old.state) made (seen store.new.state)) }
+    ensures { IfOk result (λ made. Makes component.now (Turn.Run running.now.number) (step_view store.old.state) made (step_view store.new.state)) }
 {
     store.state.is_whole();
     match op {
@@ -228,8 +217,8 @@ fn ends<T, H>(
 
 // `ret_bad X`
 fn returns_badly<T, H>(store: &mut Store<T, H>, running: &Running) -> Made
-    requires { IsAbout (seen store.old.state) running.now }
-    ensures { (c : Component) → Fits c store.old.state.core → (x : Operand) → op_of c running.now.number store.old.state.core ≡ Op.Task (TaskOp.RetBad x) → Makes c (Phase.Run running.now.number) (seen store.old.state) result (seen store.new.state) }
+    requires { IsAbout (step_view store.old.state) running.now }
+    ensures { (c : Component) → Fits c store.old.state.core → (x : Operand) → op_of c running.now.number store.old.state.core ≡ Op.Task (TaskOp.RetBad x) → Makes c (Turn.Run running.now.number) (step_view store.old.state) result (step_view store.new.state) }
 {
     store.state.is_whole();
     if running.ended {
@@ -245,11 +234,11 @@ fn returns<T, H>(
     running: &Running,
     value: u64,
 ) -> Result<Made, NoMemory>
-    requires first { IsFirstComponent component.now }
+    requires exports { HasPlainExports component.now }
     requires fits { Fits component.now store.old.state.core }
-    requires about { IsAbout (seen store.old.state) running.now }
+    requires about { IsAbout (step_view store.old.state) running.now }
     requires op { IsReturn component.now running.now.number value store.old.state.core }
-    ensures { IfOk result (λ made. Makes component.now (Phase.Run running.now.number) (seen store.old.state) made (seen store.new.state)) }
+    ensures { IfOk result (λ made. Makes component.now (Turn.Run running.now.number) (step_view store.old.state) made (step_view store.new.state)) }
 {
     store.state.is_whole();
     let instance = Instance {
@@ -258,7 +247,7 @@ fn returns<T, H>(
     match instance.task_return(component, store, 0, 0, 0, value) {
         Ok(()) => Ok(Made {
             label: Label::Task(TaskLabel::Ret(running.number, value)),
-            phase: Phase::Run(running.number),
+            turn: Turn::Run { thread: running.number },
         }),
         Err(TaskError::Trap(trap)) => Ok(traps(store, running, trap)),
         Err(TaskError::NoMemory) => Err(NoMemory),
@@ -268,8 +257,8 @@ fn returns<T, H>(
 
 // The activation ends.
 fn exits<T, H>(store: &mut Store<T, H>, running: &Running) -> Made
-    requires { IsAbout (seen store.old.state) running.now }
-    ensures { (c : Component) → Fits c store.old.state.core → op_of c running.now.number store.old.state.core ≡ Op.Task TaskOp.Exit → Makes c (Phase.Run running.now.number) (seen store.old.state) result (seen store.new.state) }
+    requires { IsAbout (step_view store.old.state) running.now }
+    ensures { (c : Component) → Fits c store.old.state.core → op_of c running.now.number store.old.state.core ≡ Op.Task TaskOp.Exit → Makes c (Turn.Run running.now.number) (step_view store.old.state) result (step_view store.new.state) }
 {
     store.state.is_whole();
     if !running.ended {
@@ -278,20 +267,20 @@ fn exits<T, H>(store: &mut Store<T, H>, running: &Running) -> Made
     store.state.exit();
     Made {
         label: Label::Task(TaskLabel::Exit(running.number)),
-        phase: Phase::Main,
+        turn: Turn::Main,
     }
 }
 
 // The step of the running thread trapped.
 fn traps<T, H>(store: &mut Store<T, H>, running: &Running, trap: Trap) -> Made
-    requires { IsAbout (seen store.old.state) running.now }
+    requires { IsAbout (step_view store.old.state) running.now }
     ensures label { result.label ≡ trap_label running.now.number trap }
-    ensures phase { result.phase ≡ Phase.Over }
-    ensures state { seen store.new.state ≡ stopped_with (trap_done running.now.number store.old.state.core) }
+    ensures turn { result.turn ≡ Turn.Over }
+    ensures state { step_view store.new.state ≡ stopped_with (trap_done running.now.number store.old.state.core) }
 {
-    store.state.strike();
+    store.state.trap_running();
     Made {
         label: Label::Loop(LoopLabel::Trap(trap, running.number)),
-        phase: Phase::Over,
+        turn: Turn::Over,
     }
 }

@@ -1,13 +1,12 @@
 //! A stretch of ops on registers and words, which the running thread does one after another. It works with the
 //! thread's context, which is written back in the end, so that no op looks the thread up.
 ghost use Rattle.std.specs.Prelude.{◌≡◌, ◌≤◌, IsSome, IfSome, IfOk};
-ghost use Rattle.task_state.specs.State.{running_of, seen};
+ghost use Rattle.task_state.specs.State.{running_of, step_view};
 ghost use Rattle.task_loop.specs.Drive.{KeepsOn};
-ghost use Rattle.task_loop.specs.Fit.{IsFirstComponent};
+ghost use Rattle.task_loop.specs.Fit.{HasPlainExports};
 
 use crate::component::{op_at, start_script};
 use crate::data::computes_in;
-use crate::step::Phase;
 use crate::trace::Trace;
 use task_core::NoMemory;
 use task_machine::{Component, Label, Op};
@@ -22,11 +21,11 @@ pub(crate) fn stretch<T, H>(
     added: u32,
     steps: u32,
 ) -> Result<u32, NoMemory>
-    requires first { IsFirstComponent component.now }
+    requires exports { HasPlainExports component.now }
     requires runs { IsSome (running_of store.old.state) }
     requires few { added ≤ steps }
     ensures few { IfOk result (λ k. (added ≤ k) × (k ≤ steps)) }
-    ensures on { IfOk result (λ k. IfSome (running_of store.old.state) (λ n. KeepsOn component.now (Phase.Run n) (seen store.old.state) trace.old added (seen store.new.state) trace.new k)) }
+    ensures on { IfOk result (λ k. IfSome (running_of store.old.state) (λ n. KeepsOn component.now (Turn.Run n) (step_view store.old.state) trace.old added (step_view store.new.state) trace.new k)) }
 {
     store.state.is_whole();
     let Some(running) = store.state.running() else {

@@ -2,7 +2,7 @@ use crate::op::Op;
 use crate::seq::Seq;
 
 /// How an export is typed and lifted.
-#[derive(Clone, Copy, Debug, PartialEq, Eq)]
+#[derive(Clone, Copy)]
 pub enum ExportKind {
     /// Sync-typed and sync-lifted: it may not block.
     Sync,
@@ -15,7 +15,7 @@ pub enum ExportKind {
 }
 
 /// An export, named by the place of its instance and its own place there, both from 0.
-#[derive(Clone, Copy, Debug, PartialEq, Eq)]
+#[derive(Clone, Copy)]
 pub struct Callee {
     pub instance: u32,
     pub export: u32,
@@ -23,7 +23,7 @@ pub struct Callee {
 
 /// What runs under one export: its kind, how many words it takes (0 to 16), the script that it
 /// starts with and, of a callback, the script that each event runs.
-#[derive(Debug, Drop)]
+#[derive(Drop)]
 pub struct ExportDef {
     pub kind: ExportKind,
     pub params: u32,
@@ -32,7 +32,7 @@ pub struct ExportDef {
 }
 
 /// What stands in one of an instance's 16 places for thread scripts.
-#[derive(Debug, Drop)]
+#[derive(Drop)]
 pub enum Slot {
     /// Nothing.
     Empty,
@@ -42,7 +42,7 @@ pub enum Slot {
 }
 
 /// An instance: its exports, and its 16 slots.
-#[derive(Debug, Drop)]
+#[derive(Drop)]
 pub struct InstanceDef {
     pub exports: Seq<ExportDef>,
     pub slots: Seq<Slot>,
@@ -50,14 +50,14 @@ pub struct InstanceDef {
 
 /// A host function: how many of its polls pend (none: it never ends), and the value that it ends
 /// with (none: it fails).
-#[derive(Clone, Copy, Debug, PartialEq, Eq)]
+#[derive(Clone, Copy)]
 pub struct HostDef {
     pub polls: Option<u32>,
     pub value: Option<u64>,
 }
 
 /// What is run: instances, each of which calls only earlier ones, and host functions.
-#[derive(Debug, Drop)]
+#[derive(Drop)]
 pub struct Component {
     pub instances: Seq<InstanceDef>,
     pub hosts: Seq<HostDef>,

@@ -7,7 +7,7 @@ use crate::trap::Trap;
 use crate::words::{Given, Mark, OwnEvent, Phase};
 
 /// One step of a run, by who speaks.
-#[derive(Clone, Copy, Debug, PartialEq, Eq)]
+#[derive(Clone, Copy)]
 pub enum Label {
     Main(MainLabel),
     Loop(LoopLabel),
@@ -24,7 +24,7 @@ pub enum Label {
 }
 
 /// An op of main is done.
-#[derive(Clone, Copy, Debug, PartialEq, Eq)]
+#[derive(Clone, Copy)]
 pub enum MainLabel {
     /// `main start K thread N`
     Start(u32, u64),
@@ -49,7 +49,7 @@ pub enum MainLabel {
 }
 
 /// The loop itself, a polled work, and a step that trapped.
-#[derive(Clone, Copy, Debug, PartialEq, Eq)]
+#[derive(Clone, Copy)]
 pub enum LoopLabel {
     /// `main pends`
     MainPends,
@@ -70,7 +70,7 @@ pub enum LoopLabel {
 }
 
 /// An entry is taken from its mark.
-#[derive(Clone, Copy, Debug, PartialEq, Eq)]
+#[derive(Clone, Copy)]
 pub enum TakeLabel {
     /// `take M thread N`
     Thread(Mark, u64),
@@ -95,7 +95,7 @@ pub enum TakeLabel {
 }
 
 /// An op on registers or words is done.
-#[derive(Clone, Copy, Debug, PartialEq, Eq)]
+#[derive(Clone, Copy)]
 pub enum DataLabel {
     /// `thread N set V`
     Set(u64, u64),
@@ -112,7 +112,7 @@ pub enum DataLabel {
 }
 
 /// A task, an activation or a thread ends, or the backpressure changes.
-#[derive(Clone, Copy, Debug, PartialEq, Eq)]
+#[derive(Clone, Copy)]
 pub enum TaskLabel {
     /// `thread N ret V`
     Ret(u64, u64),
@@ -137,7 +137,7 @@ pub enum TaskLabel {
 }
 
 /// An op on a waitable set is done.
-#[derive(Clone, Copy, Debug, PartialEq, Eq)]
+#[derive(Clone, Copy)]
 pub enum SetLabel {
     /// `thread N set_new H`
     New(u32, u64),
@@ -156,7 +156,7 @@ pub enum SetLabel {
 }
 
 /// An op on a subtask; `answer` is a packed status or an end.
-#[derive(Clone, Copy, Debug, PartialEq, Eq)]
+#[derive(Clone, Copy)]
 pub enum CallLabel {
     /// `thread N calls thread M`
     Calls(u64, u64),
@@ -181,7 +181,7 @@ pub enum CallLabel {
 }
 
 /// An op has stopped its strand, or an op on threads is done.
-#[derive(Clone, Copy, Debug, PartialEq, Eq)]
+#[derive(Clone, Copy)]
 pub enum ThreadLabel {
     /// `thread N pauses`
     Pauses(u64),

@@ -3,6 +3,7 @@
 
 mod component;
 mod label;
+mod memory;
 mod op;
 mod outcome;
 mod records;
@@ -15,16 +16,14 @@ pub use component::{Callee, Component, ExportDef, ExportKind, HostDef, InstanceD
 pub use label::{
     CallLabel, DataLabel, Label, LoopLabel, MainLabel, SetLabel, TakeLabel, TaskLabel, ThreadLabel,
 };
+pub use memory::NoMemory;
 pub use op::{CallOp, DataOp, Op, Operand, SetOp, TaskOp, ThreadOp};
 pub use outcome::Outcome;
 pub use records::{
     Call, CallEnd, Caller, Course, Delivery, Entry, Goal, HowFar, Instance, Join, Made, Named,
     Notice, NoticeKind, Place, Script, Set, Stage, Subtask, Thread, Turn, Why, Work, WorkCaller,
 };
-pub use scenario::{IdleLine, InstanceNames, MainOp, Scenario};
+pub use scenario::{IdleLine, MainOpDef, NamesDef, ScenarioDef};
 pub use seq::Seq;
 pub use trap::Trap;
 pub use words::{Given, Mark, OwnEvent, Phase, Status};
-
-#[cfg(test)]
-mod tests;

@@ -2,7 +2,7 @@ use crate::component::Callee;
 use crate::seq::Seq;
 
 /// A number, or what a register has.
-#[derive(Clone, Copy, Debug, PartialEq, Eq)]
+#[derive(Clone, Copy)]
 pub enum Operand {
     Number(u64),
     /// 0 to 15.
@@ -10,7 +10,7 @@ pub enum Operand {
 }
 
 /// An op of a guest's script.
-#[derive(Debug, Drop)]
+#[derive(Drop)]
 pub enum Op {
     Data(DataOp),
     Task(TaskOp),
@@ -20,7 +20,7 @@ pub enum Op {
 }
 
 /// An op on registers and on the instance's words; `to` is the register that is written.
-#[derive(Clone, Copy, Debug, PartialEq, Eq)]
+#[derive(Clone, Copy)]
 pub enum DataOp {
     /// `set R X`
     Set {
@@ -57,7 +57,7 @@ pub enum DataOp {
 
 /// An op that ends a task, an activation or a thread, or that says whether the instance takes
 /// calls.
-#[derive(Clone, Copy, Debug, PartialEq, Eq)]
+#[derive(Clone, Copy)]
 pub enum TaskOp {
     /// `ret X`
     Ret { value: Operand },
@@ -80,7 +80,7 @@ pub enum TaskOp {
 }
 
 /// An op on waitable sets; an event is written to `to` and the two registers after it.
-#[derive(Clone, Copy, Debug, PartialEq, Eq)]
+#[derive(Clone, Copy)]
 pub enum SetOp {
     /// `set_new R`
     New { to: u8 },
@@ -95,7 +95,7 @@ pub enum SetOp {
 }
 
 /// An op on subtasks: calls of earlier instances' exports and of hosts, cancels and drops.
-#[derive(Debug, Drop)]
+#[derive(Drop)]
 pub enum CallOp {
     /// `call R Q F X*`
     Call {
@@ -138,7 +138,7 @@ pub enum CallOp {
 }
 
 /// An op on the task's own threads.
-#[derive(Clone, Copy, Debug, PartialEq, Eq)]
+#[derive(Clone, Copy)]
 pub enum ThreadOp {
     /// `thread_new R S X`, S a slot, 0 to 15
     New { to: u8, slot: u8, context: Operand },

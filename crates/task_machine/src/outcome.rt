@@ -1,7 +1,7 @@
 use crate::trap::Trap;
 
 /// How a run ended.
-#[derive(Clone, Copy, Debug, PartialEq, Eq)]
+#[derive(Clone, Copy)]
 pub enum Outcome {
     /// `done V`: main answered.
     Done(u64),

@@ -5,7 +5,7 @@ use crate::component::{Callee, ExportKind, HostDef};
 use crate::words::{Mark, OwnEvent, Phase, Status};
 
 /// What a thread may wait for, and what a handle of a subtask names.
-#[derive(Clone, Copy, Debug, PartialEq, Eq)]
+#[derive(Clone, Copy)]
 pub enum Subtask {
     /// A call of an export.
     Guest { call: u64 },
@@ -14,14 +14,14 @@ pub enum Subtask {
 }
 
 /// What a handle of an instance's table names.
-#[derive(Clone, Copy, Debug, PartialEq, Eq)]
+#[derive(Clone, Copy)]
 pub enum Named {
     Subtask { subtask: Subtask },
     Set { set: u64 },
 }
 
 /// What a delivery is for.
-#[derive(Clone, Copy, Debug, PartialEq, Eq)]
+#[derive(Clone, Copy)]
 pub enum Delivery {
     /// An event of the set, or of the task.
     Set { set: u64 },
@@ -32,7 +32,7 @@ pub enum Delivery {
 }
 
 /// Why a thread is to be taken.
-#[derive(Clone, Copy, Debug, PartialEq, Eq)]
+#[derive(Clone, Copy)]
 pub enum Why {
     Start,
     Delivery { delivery: Delivery },
@@ -40,7 +40,7 @@ pub enum Why {
 }
 
 /// Where a thread is: at exactly one place.
-#[derive(Clone, Copy, Debug, PartialEq, Eq)]
+#[derive(Clone, Copy)]
 pub enum Place {
     /// Not started, and without an entry.
     New,
@@ -60,7 +60,7 @@ pub enum Place {
 }
 
 /// What stands at a mark.
-#[derive(Clone, Copy, Debug, PartialEq, Eq)]
+#[derive(Clone, Copy)]
 pub enum Entry {
     Thread { thread: u64 },
     /// A host work that becomes live.
@@ -70,7 +70,7 @@ pub enum Entry {
 }
 
 /// How far the op at a thread's position has come.
-#[derive(Clone, Copy, Debug, PartialEq, Eq)]
+#[derive(Clone, Copy)]
 pub enum HowFar {
     /// It hasn't begun.
     Fresh,
@@ -91,7 +91,7 @@ pub enum HowFar {
 }
 
 /// Which script a thread runs.
-#[derive(Clone, Copy, Debug, PartialEq, Eq)]
+#[derive(Clone, Copy)]
 pub enum Script {
     /// The start script of its call's export.
     Start,
@@ -102,7 +102,7 @@ pub enum Script {
 }
 
 /// The record of a thread.
-#[derive(Clone, Copy, Debug, PartialEq, Eq)]
+#[derive(Clone, Copy)]
 pub struct Thread {
     pub call: u64,
     /// Made by a `thread_new`, and not the first of its call.
@@ -122,14 +122,14 @@ pub struct Thread {
 }
 
 /// Who made a call.
-#[derive(Clone, Copy, Debug, PartialEq, Eq)]
+#[derive(Clone, Copy)]
 pub enum Caller {
     Main,
     Thread { thread: u64 },
 }
 
 /// Where the result of a call goes.
-#[derive(Clone, Copy, Debug, PartialEq, Eq)]
+#[derive(Clone, Copy)]
 pub enum Goal {
     /// Nowhere yet.
     Nowhere,
@@ -144,7 +144,7 @@ pub enum Goal {
 }
 
 /// How a call ended.
-#[derive(Clone, Copy, Debug, PartialEq, Eq)]
+#[derive(Clone, Copy)]
 pub enum CallEnd {
     Returned,
     StartCancelled,
@@ -152,7 +152,7 @@ pub enum CallEnd {
 }
 
 /// In which set a subtask is.
-#[derive(Clone, Copy, Debug, PartialEq, Eq)]
+#[derive(Clone, Copy)]
 pub enum Join {
     Nowhere,
     /// A set that a guest made.
@@ -162,7 +162,7 @@ pub enum Join {
 }
 
 /// The record of a call.
-#[derive(Clone, Copy, Debug, PartialEq, Eq)]
+#[derive(Clone, Copy)]
 pub struct Call {
     pub caller: Caller,
     pub callee: Callee,
@@ -189,7 +189,7 @@ pub struct Call {
 }
 
 /// Who made a host work.
-#[derive(Clone, Copy, Debug, PartialEq, Eq)]
+#[derive(Clone, Copy)]
 pub enum WorkCaller {
     /// A spawn.
     Spawn,
@@ -200,7 +200,7 @@ pub enum WorkCaller {
 }
 
 /// What a host work comes to.
-#[derive(Clone, Copy, Debug, PartialEq, Eq)]
+#[derive(Clone, Copy)]
 pub enum Course {
     /// It goes on: the polls left, and what it ends with.
     Goes { host: HostDef },
@@ -211,7 +211,7 @@ pub enum Course {
 }
 
 /// Where a host work is on its way.
-#[derive(Clone, Copy, Debug, PartialEq, Eq)]
+#[derive(Clone, Copy)]
 pub enum Stage {
     FirstPoll,
     /// Its push stands at a mark.
@@ -224,7 +224,7 @@ pub enum Stage {
 }
 
 /// The record of a host work. A spawn has no group, event, join or handle.
-#[derive(Clone, Copy, Debug, PartialEq, Eq)]
+#[derive(Clone, Copy)]
 pub struct Work {
     pub caller: WorkCaller,
     pub course: Course,
@@ -239,13 +239,13 @@ pub struct Work {
 }
 
 /// The record of a waitable set.
-#[derive(Clone, Copy, Debug, PartialEq, Eq)]
+#[derive(Clone, Copy)]
 pub struct Set {
     pub instance: u32,
 }
 
 /// What an instance has beside its handles.
-#[derive(Clone, Copy, Debug, PartialEq, Eq)]
+#[derive(Clone, Copy)]
 pub struct Instance {
     pub backpressure: u16,
     /// While an entry of the instance holds it: no start but a sync one and no delivery may begin.
@@ -256,7 +256,7 @@ pub struct Instance {
 }
 
 /// How many threads, works, sets and groups were made.
-#[derive(Clone, Copy, Debug, PartialEq, Eq)]
+#[derive(Clone, Copy)]
 pub struct Made {
     pub threads: u64,
     pub works: u64,
@@ -265,7 +265,7 @@ pub struct Made {
 }
 
 /// Whose turn it is in a run.
-#[derive(Clone, Copy, Debug, PartialEq, Eq)]
+#[derive(Clone, Copy)]
 pub enum Turn {
     Main,
     /// The live works are polled; those with numbers up to this one were, in this turn.
@@ -276,17 +276,21 @@ pub enum Turn {
     Over,
 }
 
-/// What a group is told.
-#[derive(Clone, Copy, Debug, PartialEq, Eq)]
+/// What a group does.
+#[derive(Clone, Copy)]
 pub enum NoticeKind {
+    /// The group is made, with its first task.
     Start,
+    /// A thread of the group begins to run, or goes on.
     Enter,
+    /// The thread of the group that ran has stopped.
     Exit,
+    /// The last task of the group has ended.
     Finish,
 }
 
-/// A notice of a group: of a call by main or the host, and of all that came of it.
-#[derive(Clone, Copy, Debug, PartialEq, Eq)]
+/// What the host is told of a group, which is a call by main or the host and all that came of it.
+#[derive(Clone, Copy)]
 pub struct Notice {
     pub kind: NoticeKind,
     pub group: u64,

@@ -3,7 +3,7 @@ use crate::op::Operand;
 use crate::seq::Seq;
 
 /// What happens where nothing can go on and no host work is live: `idle trap` or `idle wait`.
-#[derive(Clone, Copy, Debug, PartialEq, Eq)]
+#[derive(Clone, Copy)]
 pub enum IdleLine {
     /// The run ends as a deadlock.
     Trap,
@@ -12,8 +12,8 @@ pub enum IdleLine {
 }
 
 /// An op of main's script. Starts and spawns are named by their lines, counted apart from 1.
-#[derive(Debug, Drop)]
-pub enum MainOp {
+#[derive(Drop)]
+pub enum MainOpDef {
     /// `start F X*`
     Start(Callee, Seq<Operand>),
     /// `finish K R`
@@ -33,23 +33,23 @@ pub enum MainOp {
 }
 
 /// The names that a text gives to an instance and its exports.
-#[derive(Debug, Drop)]
-pub struct InstanceNames {
+#[derive(Drop)]
+pub struct NamesDef {
     pub instance: Seq<u8>,
     pub exports: Seq<Seq<u8>>,
 }
 
 /// A scenario: the limits, what is run, and what main does.
-#[derive(Debug, Drop)]
-pub struct Scenario {
+#[derive(Drop)]
+pub struct ScenarioDef {
     /// How many handles may be live at once.
     pub handles: u32,
     /// How many entries the resource table has room for.
     pub table: u32,
     pub idle: IdleLine,
     pub component: Component,
-    pub names: Seq<InstanceNames>,
-    pub main: Seq<MainOp>,
+    pub names: Seq<NamesDef>,
+    pub main: Seq<MainOpDef>,
     /// The spawns that each aborter aborts beside a run.
     pub aborters: Seq<Seq<u32>>,
 }

@@ -2,7 +2,7 @@ use std::alloc::{AllocError, Global};
 use std::marker::Model;
 
 /// A list that contracts see as one: a `Vec` without its room.
-#[derive(Debug, Drop)]
+#[derive(Drop)]
 pub struct Seq<T>(Vec<T>);
 
 impl<T> Model for Seq<T> {

@@ -1,6 +1,6 @@
 /// Where an entry stands that is to be taken: it is taken from switch first, then from high, then
 /// from low.
-#[derive(Clone, Copy, Debug, PartialEq, Eq)]
+#[derive(Clone, Copy)]
 pub enum Mark {
     Switch,
     High,
@@ -8,7 +8,7 @@ pub enum Mark {
 }
 
 /// How far a subtask has come.
-#[derive(Clone, Copy, Debug, PartialEq, Eq)]
+#[derive(Clone, Copy)]
 pub enum Status {
     Starting,
     Started,
@@ -50,16 +50,19 @@ impl Status {
     }
 }
 
-/// The phase of a join handle.
-#[derive(Clone, Copy, Debug, PartialEq, Eq)]
+/// How far a spawned work has come, as its join handle tells. It only rises, in this order.
+#[derive(Clone, Copy)]
 pub enum Phase {
+    /// The work may be polled.
     Running,
+    /// Somebody has asked that it end, and it isn't polled again.
     AbortRequested,
+    /// It is over.
     Complete,
 }
 
 /// The event that a task has for itself.
-#[derive(Clone, Copy, Debug, PartialEq, Eq)]
+#[derive(Clone, Copy)]
 pub enum OwnEvent {
     /// Its turn came again after a yield.
     None,
@@ -68,7 +71,7 @@ pub enum OwnEvent {
 }
 
 /// What a wait, a poll or a delivery hands out: an event's code, handle and result.
-#[derive(Clone, Copy, Debug, PartialEq, Eq)]
+#[derive(Clone, Copy)]
 pub enum Given {
     /// 0 0 0
     Nothing,

@@ -36,7 +36,7 @@ use Rattle.task_rules.specs.Works.{Ends, FailsNow, Poll, StillPends, course_for,
 use Rattle.task_places.proofs.WithdrawRows.{Withdrawable, gone_place, op_row_stays, other_place, removed_gone, removed_kept}
 use Rattle.task_machine.specs.declared.label.MainLabel.{MainLabel}
 use Rattle.task_machine.specs.declared.records.Turn.{Turn}
-use Rattle.task_machine.specs.declared.scenario.MainOp.{MainOp}
+use Rattle.task_machine.specs.declared.scenario.MainOpDef.{MainOpDef}
 use Rattle.task_rules.specs.Stalled.{Setting}
 use Rattle.task_rules.specs.Turns.{at_turn, goes_to, nothing_stands, settled_futures, settled_take}
 use Rattle.task_places.proofs.TakeRows.{Front, Owned, owned_popped, high_all, host_done_all, next_front, popped_all, popped_stand, taken_for_stays, unblocked_all}
@@ -309,7 +309,7 @@ module _ {base : Core} where
   unfolding at_turn
   pends_land s all t is = lands_is t _ is (lands_still s.core (settled_futures 0 s.core (next_polled 0 s.core)) (futures_still 0 s.core (next_polled 0 s.core)) all)
 
-  main_progresses_land : (s : State) → Kept base s.core → (p : MainPlace) (o : MainOp) (r : MainProgress) (l : Label) (t : State) → KeepsMain base r → MainProgresses s p o r l t → Lands base t.core t.turn
+  main_progresses_land : (s : State) → Kept base s.core → (p : MainPlace) (o : MainOpDef) (r : MainProgress) (l : Label) (t : State) → KeepsMain base r → MainProgresses s p o r l t → Lands base t.core t.turn
   unfolding at_turn
   main_progresses_land s all p o (Does m new) l t k is = lands_is t _ is.1 (lands_still new turn.Main refl k)
   main_progresses_land s all p o Pends l t k is = pends_land s all t is.1
@@ -324,7 +324,7 @@ module _ {base : Core} where
 -- ---- Steps
 
 module _ {base : Core} (x : Setting) where
-  script_step_lands : (s : State) → Unused s.core → Kept base s.core → (p : MainPlace) (o : Option MainOp) (l : Label) (t : State) → ScriptStep x s p o l t → Lands base t.core t.turn
+  script_step_lands : (s : State) → Unused s.core → Kept base s.core → (p : MainPlace) (o : Option MainOpDef) (l : Label) (t : State) → ScriptStep x s p o l t → Lands base t.core t.turn
   script_step_lands s none all p None l t is = pends_land s all t is.1
   script_step_lands s none all p (Some o) l t is = main_progresses_land s all p o _ l t (main_row_keeps x.component (line_of p o) s.core none all (act_of p o)) is
 

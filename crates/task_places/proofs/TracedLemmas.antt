@@ -22,7 +22,7 @@ use Rattle.task_machine.specs.declared.label.MainLabel.{MainLabel}
 use Rattle.task_machine.specs.declared.records.Entry.{Entry}
 use Rattle.task_machine.specs.declared.records.Named.{Named}
 use Rattle.task_machine.specs.declared.records.Turn.{Turn}
-use Rattle.task_machine.specs.declared.scenario.MainOp.{MainOp}
+use Rattle.task_machine.specs.declared.scenario.MainOpDef.{MainOpDef}
 use Rattle.task_machine.specs.declared.trap.Trap.{Trap}
 use Rattle.task_machine.specs.declared.words.Mark.{Mark}
 use Rattle.task_rules.specs.MainOps.{Abort, Answer, Answers, Await, Does, Finish, MainAct, MainProgress, Pends, Quiet, Ready, Spawn, Start, act_of, finish_act, finish_result, has_interesting, is_complete, is_ready_for_call, line_of, main_row, op_at, start_act, start_refusal, unless_pending}
@@ -84,7 +84,7 @@ main_row_stays c k {s = s} q Quiet = unless_pending_stays (not (has_interesting 
 main_row_stays c k {s = s} q (Ready i) = unless_pending_stays (is_ready_for_call i s) main_label.Ready q
 main_row_stays c k q (Answer v) = tt
 
-main_progresses_traced : (s : State) → Traced s.core → (p : MainPlace) (o : MainOp) (r : MainProgress) (l : Label) (t : State) → StaysMain r → MainProgresses s p o r l t → Traced t.core
+main_progresses_traced : (s : State) → Traced s.core → (p : MainPlace) (o : MainOpDef) (r : MainProgress) (l : Label) (t : State) → StaysMain r → MainProgresses s p o r l t → Traced t.core
 unfolding at_turn
 main_progresses_traced s q p o (Does m new) l t k is = traced_is t _ is.1 k
 main_progresses_traced s q p o Pends l t k is = traced_is t _ is.1 q
@@ -121,7 +121,7 @@ module _ (x : Setting) where
   unfolding did
   did_stays n {s = s} q ch = op_row_stays x.component n q ch (op_of x.component n s)
 
-  script_step_traced : (s : State) → Traced s.core → (p : MainPlace) (o : Option MainOp) (l : Label) (t : State) → ScriptStep x s p o l t → Traced t.core
+  script_step_traced : (s : State) → Traced s.core → (p : MainPlace) (o : Option MainOpDef) (l : Label) (t : State) → ScriptStep x s p o l t → Traced t.core
   unfolding at_turn
   script_step_traced s q p None l t is = traced_is t _ is.1 q
   script_step_traced s q p (Some o) l t is = main_progresses_traced s q p o _ l t (main_row_stays x.component (line_of p o) q (act_of p o)) is

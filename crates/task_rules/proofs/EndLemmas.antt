@@ -13,7 +13,7 @@ use Rattle.task_machine.specs.declared.records.Goal.{Goal}
 use Rattle.task_machine.specs.declared.records.HowFar.{HowFar}
 use Rattle.task_machine.specs.declared.label.Label.{Label}
 use Rattle.task_machine.specs.declared.label.MainLabel.{MainLabel}
-use Rattle.task_machine.specs.declared.scenario.MainOp.{MainOp}
+use Rattle.task_machine.specs.declared.scenario.MainOpDef.{MainOpDef}
 use Rattle.task_machine.specs.declared.words.Mark.{Mark}
 use Rattle.task_machine.specs.declared.op.Op.{Op}
 use Rattle.task_machine.specs.declared.outcome.Outcome.{Outcome}
@@ -544,13 +544,13 @@ main_row_opens c k s Quiet = unless_pending_opens _ _ s refl
 main_row_opens c k s (Ready i) = unless_pending_opens _ _ s refl
 main_row_opens c k s (Answer v) = tt
 
-main_progresses_end : (s : State) (p : MainPlace) (o : MainOp) (q : MainProgress) (l : Label) (t : State) → OpensMain q → MainProgresses s p o q l t → IsLast l t
+main_progresses_end : (s : State) (p : MainPlace) (o : MainOpDef) (q : MainProgress) (l : Label) (t : State) → OpensMain q → MainProgresses s p o q l t → IsLast l t
 unfolding at_turn
 main_progresses_end s p o (Does m new) l t k is = silent t is.0 k
 main_progresses_end s p o Pends l t k is = silent t is.0 refl
 main_progresses_end s p o (Answers v) l t k is = over_is l is.1 refl
 
-script_step_ends : (x : Setting) (s : State) (p : MainPlace) (o : Option MainOp) (l : Label) (t : State) → ScriptStep x s p o l t → IsLast l t
+script_step_ends : (x : Setting) (s : State) (p : MainPlace) (o : Option MainOpDef) (l : Label) (t : State) → ScriptStep x s p o l t → IsLast l t
 script_step_ends x s p None l t is = silent t is.0 refl
 script_step_ends x s p (Some o) l t is = main_progresses_end s p o _ l t (main_row_opens x.component (line_of p o) s.core (act_of p o)) is
 

@@ -10,7 +10,7 @@ use Rattle.task_machine.specs.declared.words.Given.{Given}
 use Rattle.task_machine.specs.declared.component.HostDef.{HostDef}
 use Rattle.task_machine.specs.declared.label.Label.{Label}
 use Rattle.task_machine.specs.declared.label.MainLabel.{MainLabel}
-use Rattle.task_machine.specs.declared.scenario.MainOp.{MainOp}
+use Rattle.task_machine.specs.declared.scenario.MainOpDef.{MainOpDef}
 use Rattle.task_machine.specs.declared.words.Mark.{Mark}
 use Rattle.task_machine.specs.declared.op.Op.{Op}
 use Rattle.task_machine.specs.declared.records.Place.{Place}
@@ -242,13 +242,13 @@ module _ {R : Core → Core → Type 0} (E : Elementary R) where
   main_row_keeps c k s (Ready i) = unless_pending_keeps _ _ s
   main_row_keeps c k s (Answer v) = tt
 
-  main_progresses_keeps : (s : State) (p : MainPlace) (o : MainOp) (q : MainProgress) (l : Label) (t : State) → KeepsMain s.core q → MainProgresses s p o q l t → R s.core t.core
+  main_progresses_keeps : (s : State) (p : MainPlace) (o : MainOpDef) (q : MainProgress) (l : Label) (t : State) → KeepsMain s.core q → MainProgresses s p o q l t → R s.core t.core
   unfolding at_turn
   main_progresses_keeps s p o (Does m new) l t k is = core_is s.core t _ is.1 k
   main_progresses_keeps s p o Pends l t k is = core_is s.core t _ is.1 (same E s.core)
   main_progresses_keeps s p o (Answers v) l t k is = core_is s.core t _ is.1 (same E s.core)
 
-  script_step_keeps : (x : Setting) (s : State) (p : MainPlace) (o : Option MainOp) (l : Label) (t : State) → ScriptStep x s p o l t → R s.core t.core
+  script_step_keeps : (x : Setting) (s : State) (p : MainPlace) (o : Option MainOpDef) (l : Label) (t : State) → ScriptStep x s p o l t → R s.core t.core
   unfolding at_turn
   script_step_keeps x s p None l t is = core_is s.core t _ is.1 (same E s.core)
   script_step_keeps x s p (Some o) l t is = main_progresses_keeps s p o _ l t (main_row_keeps x.component (line_of p o) s.core (act_of p o)) is

@@ -4,13 +4,13 @@ use Rattle.std.specs.Prelude.{Bool, List, None, Option, Some, [], false, length,
 use Rattle.task_machine.specs.declared.component.Callee.{Callee}
 use Rattle.task_machine.specs.declared.component.Component.{Component}
 use Rattle.task_machine.specs.declared.label.MainLabel.{MainLabel}
-use Rattle.task_machine.specs.declared.scenario.MainOp.{MainOp}
+use Rattle.task_machine.specs.declared.scenario.MainOpDef.{MainOpDef}
 use Rattle.task_machine.specs.declared.words.Phase.{Phase}
 use Rattle.task_machine.specs.declared.trap.Trap.{Trap}
 use Rattle.task_machine.specs.declared.records.Caller.TheVariants as caller
 use Rattle.task_machine.specs.declared.records.Goal.TheVariants as goal
 use Rattle.task_machine.specs.declared.label.MainLabel.TheVariants as main_label
-use Rattle.task_machine.specs.declared.scenario.MainOp.TheVariants as main_op
+use Rattle.task_machine.specs.declared.scenario.MainOpDef.TheVariants as main_op
 use Rattle.task_machine.specs.declared.words.Phase.TheVariants as phase
 use Rattle.task_machine.specs.declared.trap.Trap.TheVariants as trap
 use Rattle.task_machine.specs.declared.records.Why.TheVariants as why
@@ -110,7 +110,7 @@ started_at p k = unwrap_or (slice_get p.starts (k - 1)) (Began 0)
 abbrev pub spawned_at : MainPlace → ℕ → ℕ
 spawned_at p k = unwrap_or (slice_get p.spawns (k - 1)) 0
 
-abbrev pub act_of : MainPlace → MainOp → MainAct
+abbrev pub act_of : MainPlace → MainOpDef → MainAct
 act_of p (main_op.Start e xs) = Start e (values_in p.registers xs)
 act_of p (main_op.Finish k r) = Finish (started_at p k)
 act_of p (main_op.Spawn h) = Spawn h
@@ -121,7 +121,7 @@ act_of p (main_op.Ready e) = Ready e.instance
 act_of p (main_op.Answer x) = Answer (value_in p.registers x)
 
 -- the K of the op: that which it names, else the next one of its kind
-abbrev pub line_of : MainPlace → MainOp → ℕ
+abbrev pub line_of : MainPlace → MainOpDef → ℕ
 line_of p (main_op.Start e xs) = length p.starts + 1
 line_of p (main_op.Finish k r) = k
 line_of p (main_op.Spawn h) = length p.spawns + 1
@@ -132,12 +132,12 @@ line_of p _ = 0
 abbrev pub after_op : MainPlace → MainPlace
 after_op p = record p { position = p.position + 1 }
 
-abbrev pub finished_into : MainOp → ℕ → MainPlace → MainPlace
+abbrev pub finished_into : MainOpDef → ℕ → MainPlace → MainPlace
 finished_into (main_op.Finish k r) v p = record p { registers = slice_set p.registers r v }
 finished_into _ v p = p
 
 -- what the label of an op leaves in main's part
-abbrev pub noted : MainOp → MainLabel → MainPlace → MainPlace
+abbrev pub noted : MainOpDef → MainLabel → MainPlace → MainPlace
 noted op (main_label.Start k n) p = record p { starts = p.starts ++ Began n ∷ [] }
 noted op (main_label.StartRefused t k) p = record p { starts = p.starts ++ Refused t ∷ [] }
 noted op (main_label.Finish k v) p = finished_into op v p
@@ -145,9 +145,9 @@ noted op (main_label.Spawn k i) p = record p { spawns = p.spawns ++ i ∷ [] }
 noted op _ p = p
 
 -- main's part, once its op has shown the label
-abbrev pub advanced_main : MainOp → MainLabel → MainPlace → MainPlace
+abbrev pub advanced_main : MainOpDef → MainLabel → MainPlace → MainPlace
 advanced_main op l p = after_op (noted op l p)
 
 -- main's op; past the script's end there is none, and nothing is lawful but to pend
-abbrev pub op_at : List MainOp → MainPlace → Option MainOp
+abbrev pub op_at : List MainOpDef → MainPlace → Option MainOpDef
 op_at ops p = slice_get ops p.position

@@ -1,7 +1,7 @@
 -- Runs, and the states that they begin in.
 use Rattle.std.specs.Prelude.{List, [], length, replicate, ℕ, ◌∷◌, ◌≡◌}
 use Rattle.task_machine.specs.declared.label.Label.{Label}
-use Rattle.task_machine.specs.declared.scenario.Scenario.{Scenario}
+use Rattle.task_machine.specs.declared.scenario.ScenarioDef.{ScenarioDef}
 use Rattle.task_machine.specs.declared.records.Turn.TheVariants as turn
 use Rattle.task_machine.specs.Core.{Main, MainPlace, One, Scripted, State, fresh}
 use Rattle.task_rules.specs.Stalled.{Setting}
@@ -21,5 +21,5 @@ abbrev pub opening : (instances handle_limit capacity : ℕ) → Main → State
 opening instances handle_limit capacity main = record { version = One; core = fresh instances handle_limit capacity; main = main; turn = turn.Main }
 
 -- the opening state of a scenario
-unfoldable pub opens : Scenario → State
+unfoldable pub opens : ScenarioDef → State
 opens x = opening (length x.component.instances) x.handles x.table (Scripted main_opening)

@@ -3,9 +3,9 @@ use Rattle.std.specs.List.{list_any}
 use Rattle.std.specs.Prelude.{Bool, IsTrue, List, None, Option, Some, false, if◌then◌else◌, is_some, not, true, ℕ, ◌&&◌}
 use Rattle.task_machine.specs.declared.component.Component.{Component}
 use Rattle.task_machine.specs.declared.scenario.IdleLine.{IdleLine}
-use Rattle.task_machine.specs.declared.scenario.MainOp.{MainOp}
+use Rattle.task_machine.specs.declared.scenario.MainOpDef.{MainOpDef}
 use Rattle.task_machine.specs.declared.records.Place.{Place}
-use Rattle.task_machine.specs.declared.scenario.Scenario.{Scenario}
+use Rattle.task_machine.specs.declared.scenario.ScenarioDef.{ScenarioDef}
 use Rattle.task_machine.specs.declared.records.Stage.{Stage}
 use Rattle.task_machine.specs.declared.trap.Trap.{Trap}
 use Rattle.task_machine.specs.declared.records.Turn.{Turn}
@@ -24,11 +24,11 @@ use Rattle.task_rules.specs.Works.{has_live_work, has_moving_work}
 -- What the steps of a state are seen beside: the component, main's script and the idle line.
 pub record Setting : Type 0 where
   pub component : Component
-  pub script : List MainOp
+  pub script : List MainOpDef
   pub idle : IdleLine
 
 -- the setting of a scenario
-abbrev pub setting_of : Scenario → Setting
+abbrev pub setting_of : ScenarioDef → Setting
 setting_of x = record { component = x.component; script = x.main; idle = x.idle }
 
 -- ---- Main's op
@@ -38,7 +38,7 @@ is_pending Pends = true
 is_pending _ = false
 
 -- past the script's end main pends for ever
-abbrev pub pends_at : Setting → Core → MainPlace → Option MainOp → Bool
+abbrev pub pends_at : Setting → Core → MainPlace → Option MainOpDef → Bool
 pends_at x s p None = true
 pends_at x s p (Some o) = is_pending (main_row x.component (line_of p o) s (act_of p o))
 

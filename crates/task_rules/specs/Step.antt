@@ -3,7 +3,7 @@ use Rattle.std.specs.Prelude.{Bool, IsPermutation, List, None, Option, Some, fal
 use Rattle.task_machine.specs.declared.component.Component.{Component}
 use Rattle.task_machine.specs.declared.records.Entry.{Entry}
 use Rattle.task_machine.specs.declared.label.Label.{Label}
-use Rattle.task_machine.specs.declared.scenario.MainOp.{MainOp}
+use Rattle.task_machine.specs.declared.scenario.MainOpDef.{MainOpDef}
 use Rattle.task_machine.specs.declared.words.Mark.{Mark}
 use Rattle.task_machine.specs.declared.op.Op.{Op}
 use Rattle.task_machine.specs.declared.trap.Trap.{Trap}
@@ -66,12 +66,12 @@ Progresses s base n (Ordered ns next) l t = (order : List ℕ) × (IsPermutation
 -- ---- The turns
 
 -- the ops of main: of a script the op at its place, else any op that the core allows
-abbrev pub MainProgresses : State → MainPlace → MainOp → MainProgress → Label → State → Type 0
+abbrev pub MainProgresses : State → MainPlace → MainOpDef → MainProgress → Label → State → Type 0
 MainProgresses s p o (Does l new) x t = (x ≡ label.Main l) × (t ≡ at_turn s new (Scripted (advanced_main o l p)) turn.Main)
 MainProgresses s p o Pends x t = (x ≡ label.Loop loop_label.MainPends) × (t ≡ goes_to s s.core (turn.Futures 0))
 MainProgresses s p o (Answers v) x t = (x ≡ label.Main (main_label.Answer v)) × (t ≡ goes_to s s.core turn.Over)
 
-abbrev pub ScriptStep : Setting → State → MainPlace → Option MainOp → Label → State → Type 0
+abbrev pub ScriptStep : Setting → State → MainPlace → Option MainOpDef → Label → State → Type 0
 ScriptStep x s p None l t = (l ≡ label.Loop loop_label.MainPends) × (t ≡ goes_to s s.core (turn.Futures 0))
 ScriptStep x s p (Some o) l t = MainProgresses s p o (main_row x.component (line_of p o) s.core (act_of p o)) l t
 

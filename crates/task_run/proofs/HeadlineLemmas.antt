@@ -4,29 +4,29 @@ use Rattle.std.specs.Prelude.{◌≤◌, codes, decimal, length, IfOk, Result, O
 use Rattle.task_machine.specs.declared.label.Label.{Label}
 use Rattle.task_machine.specs.declared.outcome.Outcome.{Outcome}
 use Rattle.task_machine.specs.declared.records.Turn.TheVariants as turn
-use Rattle.task_machine.specs.declared.scenario.Scenario.{Scenario as MachineScenario}
+use Rattle.task_machine.specs.declared.scenario.ScenarioDef.{ScenarioDef}
 use Rattle.task_machine.specs.Core.{Core, State, Scripted, fresh}
 use Rattle.task_rules.specs.Outcome.{IsOutcome}
 use Rattle.task_rules.specs.Run.{Run, main_opening, opens}
 use Rattle.task_rules.specs.Stalled.{Setting, setting_of}
 use Rattle.task_loop.specs.Drive.{Drives}
 use Rattle.task_loop.specs.Main.{state_at}
-use Rattle.task_run.specs.First.{IsFirstScenario}
+use Rattle.task_run.specs.Runnable.{IsRunnable}
 use Rattle.task_run.specs.Lower.{Reads}
 use Rattle.task_run.specs.Tool.{IsRun}
 use Rattle.std.proofs.lemmas.Fmt.{decimal_injective}
 use Rattle.std.proofs.Common.{◌∷◌, ◌∙◌, arith}
-use Rattle.task_run.proofs.FirstLemmas.{first_scenario}
+use Rattle.task_run.proofs.RunnableLemmas.{runnable_scenario}
 use Rattle.task_run.specs.Headline.{IsRunOf, machine_scenario}
 use Rattle.task_run.specs.declared.scenario.Scenario.{Scenario}
 
-module _ (x : Scenario) (first : IsFirstScenario x) where
+module _ (x : Scenario) (runnable : IsRunnable x) where
   -- the opening state is that of a new store with main at its first op
   pub opens_is : state_at (fresh (length x.component.instances) x.handles x.table) (Scripted main_opening) turn.Main ≡ opens (machine_scenario x)
   unfolding opens
   opens_is = refl
 
-pub headline : (x : MachineScenario) (y : Setting) (s t : State) (before after : List Label) (steps : ℕ) (o : Outcome) (core : Core) → y ≡ setting_of x → s ≡ opens x → before ≡ [] → core ≡ t.core → Drives y s before t after steps o → IsRunOf x steps after o core
+pub headline : (x : ScenarioDef) (y : Setting) (s t : State) (before after : List Label) (steps : ℕ) (o : Outcome) (core : Core) → y ≡ setting_of x → s ≡ opens x → before ≡ [] → core ≡ t.core → Drives y s before t after steps o → IsRunOf x steps after o core
 headline x y s t before after steps o core setting start none image drives =
     let one : Drives (setting_of x) s before t after steps o = subst (λ (y : Setting). Drives y s before t after steps o) setting drives in
     let two : Drives (setting_of x) (opens x) before t after steps o = subst (λ (s : State). Drives (setting_of x) s before t after steps o) start one in
@@ -39,9 +39,9 @@ headline x y s t before after steps o core setting start none image drives =
       image = image;
     }
 
--- a scenario that a text stands for is one of the first grammar
-pub first_read : (text : List ℕ) (x : Scenario) → Reads text x → IsFirstScenario x
-first_read text x reads = subst (λ (x : Scenario). IsFirstScenario x) (sym reads.2) (first_scenario reads.0 reads.1.well_formed)
+-- a run has what it needs of a scenario that a text stands for
+pub runnable_read : (text : List ℕ) (x : Scenario) → Reads text x → IsRunnable x
+runnable_read text x reads = subst (λ (x : Scenario). IsRunnable x) (sym reads.2) (runnable_scenario reads.0 reads.1.well_formed)
 
 -- what holds of a value holds with what follows from it
 pub more_ok : {X E : Type 0} {P Q : X → Type 0} (r : Result X E) → ((x : X) → P x → Q x) → IfOk r P → IfOk r Q

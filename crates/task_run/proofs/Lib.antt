@@ -2,7 +2,7 @@ pub mod Appending
 pub mod Fronts
 pub mod Says
 pub mod ScriptLemmas
-pub mod FirstLemmas
+pub mod RunnableLemmas
 pub mod StoreLemmas
 pub mod HeadlineLemmas
 pub mod ToolLemmas

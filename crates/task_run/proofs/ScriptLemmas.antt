@@ -6,7 +6,7 @@ use Rattle.task_machine.specs.declared.label.Label.TheVariants as label
 use Rattle.task_machine.specs.declared.label.MainLabel.{MainLabel}
 use Rattle.task_machine.specs.declared.label.MainLabel.TheVariants as main_label
 use Rattle.task_machine.specs.declared.records.Turn.TheVariants as turn
-use Rattle.task_machine.specs.declared.scenario.MainOp.{MainOp as Machine}
+use Rattle.task_machine.specs.declared.scenario.MainOpDef.{MainOpDef}
 use Rattle.task_machine.specs.Core.{Core, MainPlace, Scripted}
 use Rattle.task_rules.specs.MainOps.{Answers, Does, Pends, act_of, advanced_main, line_of, main_row, op_at}
 use Rattle.task_rules.specs.Step.{MainProgresses, ScriptStep}
@@ -20,14 +20,14 @@ use Rattle.task_machine.specs.declared.trap.Trap.{Trap}
 use Rattle.task_rules.specs.MainOps.{start_act}
 use Rattle.task_loop.specs.declared.call.FuncCallConcurrent.{FuncCallConcurrent}
 use Rattle.task_loop.specs.Calls.{Starts}
-use Rattle.task_state.specs.Seen.{Seen}
+use Rattle.task_state.specs.StepView.{StepView}
 use Rattle.std.proofs.Common.{false}
 use Rattle.task_run.specs.declared.scenario.MainOp.{MainOp}
-use Rattle.task_run.specs.Script.{SuitsOps, is_first_op}
+use Rattle.task_run.specs.Script.{SuitsOps, is_start_finish_or_answer}
 use Rattle.task_loop.specs.Main as main
 use Rattle.task_loop.specs.Main.{IsOpOfMain, main_setting, state_at}
 
-module _ (c : Component) (ops : List Machine) (p : MainPlace) (s : Core) (o : Machine) (at : op_at ops p ≡ Some o) where
+module _ (c : Component) (ops : List MainOpDef) (p : MainPlace) (s : Core) (o : MainOpDef) (at : op_at ops p ≡ Some o) where
   -- the op is done
   pub did_by_row : (l : MainLabel) (new : Core) → main_row c (line_of p o) s (act_of p o) ≡ Does l new → IsOpOfMain (label.Main l) → main.Did c ops (Scripted p) s (label.Main l) (Scripted (advanced_main o l p)) new
   unfolding at_turn
@@ -58,14 +58,14 @@ module _ (c : Component) (ops : List Machine) (p : MainPlace) (s : Core) (o : Ma
   }
 
 -- past the script's end main waits for ever
-pub pends_past : (c : Component) (ops : List Machine) (p : MainPlace) (s : Core) → op_at ops p ≡ None → main.Pends c ops (Scripted p) s (Scripted p) s
+pub pends_past : (c : Component) (ops : List MainOpDef) (p : MainPlace) (s : Core) → op_at ops p ≡ None → main.Pends c ops (Scripted p) s (Scripted p) s
 pends_past c ops p s none = record { part = refl; core = refl; pends = ap (pends_at (main_setting c ops) s p) none }
 
 -- ---- What a start came to, in the words of its row
 
-module _ (c : Component) (e : Callee) (words : List ℕ) (s t : Seen) (k : ℕ) where
+module _ (c : Component) (e : Callee) (words : List ℕ) (s t : StepView) (k : ℕ) where
   pub started_row : (o : Option Trap) (call : FuncCallConcurrent) → Starts c e words s o (Ok call) t → start_act c k e words s.core o ≡ Does (main_label.Start k call.thread) t.core
-  started_row None call starts = ap₂ (λ n new. Does (main_label.Start k n) new) (sym starts.0) (ap (λ (u : Seen). u.core) (sym starts.1))
+  started_row None call starts = ap₂ (λ n new. Does (main_label.Start k n) new) (sym starts.0) (ap (λ (u : StepView). u.core) (sym starts.1))
   started_row (Some why) call starts = let no : Ok call ≡ Err (task_error.Trap why) = starts.0 in absurd (cc)
 
   pub refused_row : (o : Option Trap) (why : Trap) → Starts c e words s o (Err (task_error.Trap why)) t → start_act c k e words s.core o ≡ Does (main_label.StartRefused why k) t.core
@@ -73,16 +73,16 @@ module _ (c : Component) (e : Callee) (words : List ℕ) (s t : Seen) (k : ℕ) 
   refused_row (Some other) why starts =
       let same : Path (Result FuncCallConcurrent TaskError) (Err (task_error.Trap why)) (Err (task_error.Trap other)) = starts.0 in
       let equal : other ≡ why = cc in
-      ap₂ (λ w new. Does (main_label.StartRefused w k) new) equal (ap (λ (u : Seen). u.core) (sym starts.1))
+      ap₂ (λ w new. Does (main_label.StartRefused w k) new) equal (ap (λ (u : StepView). u.core) (sym starts.1))
 
   pub started_running : (o : Option Trap) (call : FuncCallConcurrent) → Starts c e words s o (Ok call) t → t.running ≡ s.running
-  started_running None call starts = ap (λ (u : Seen). u.running) starts.1
+  started_running None call starts = ap (λ (u : StepView). u.running) starts.1
   started_running (Some why) call starts = let no : Ok call ≡ Err (task_error.Trap why) = starts.0 in absurd (cc)
 
   pub refused_running : (o : Option Trap) (why : Trap) → Starts c e words s o (Err (task_error.Trap why)) t → t.running ≡ s.running
   refused_running None why starts = let no : task_error.Trap why ≡ task_error.NoMemory = starts.0 in absurd (cc)
-  refused_running (Some other) why starts = ap (λ (u : Seen). u.running) starts.1
+  refused_running (Some other) why starts = ap (λ (u : StepView). u.running) starts.1
 
--- no other op stands in a script of the first grammar
-pub not_first : (ops : List MainOp) (c : Component) → SuitsOps ops c → (i : ℕ) (o : MainOp) → slice_get ops i ≡ Some o → is_first_op o ≡ false → ⊥
-not_first ops c suits i o at not = let first : is_first_op o ≡ true = suits.first i o at in cc
+-- no other op stands in such a script
+pub no_other_op : (ops : List MainOp) (c : Component) → SuitsOps ops c → (i : ℕ) (o : MainOp) → slice_get ops i ≡ Some o → is_start_finish_or_answer o ≡ false → ⊥
+no_other_op ops c suits i o at not = let only : is_start_finish_or_answer o ≡ true = suits.only i o at in cc

@@ -1,6 +1,6 @@
 -- The limits of a new store.
 use Rattle.std.proofs.Common.{◌≡◌, ℕ, refl}
-use Rattle.task_core.specs.Shown.{with_capacity, with_handle_limit}
+use Rattle.task_core.specs.StateView.{with_capacity, with_handle_limit}
 use Rattle.task_machine.specs.Core.{fresh}
 
 -- the limits of a new store may be set at once

@@ -2,8 +2,8 @@
 use Rattle.std.specs.Prelude.{◌≡◌, ℕ, ◌≤◌, List, length, map}
 use Rattle.task_machine.specs.declared.label.Label.{Label}
 use Rattle.task_machine.specs.declared.outcome.Outcome.{Outcome}
-use Rattle.task_machine.specs.declared.scenario.InstanceNames.{InstanceNames as MachineNames}
-use Rattle.task_machine.specs.declared.scenario.Scenario.{Scenario as MachineScenario}
+use Rattle.task_machine.specs.declared.scenario.NamesDef.{NamesDef}
+use Rattle.task_machine.specs.declared.scenario.ScenarioDef.{ScenarioDef}
 use Rattle.task_machine.specs.Core.{Core, State}
 use Rattle.task_rules.specs.Outcome.{IsOutcome}
 use Rattle.task_rules.specs.Run.{Run, opens}
@@ -14,11 +14,11 @@ use Rattle.task_run.specs.declared.scenario.Scenario.{Scenario}
 use Rattle.task_run.specs.Lower.{Reads}
 use Rattle.task_run.specs.Script.{machine_ops}
 
-abbrev pub machine_names : InstanceNames → MachineNames
+abbrev pub machine_names : InstanceNames → NamesDef
 machine_names n = record { instance = n.instance; exports = n.exports }
 
 -- the scenario as the machine has it
-abbrev pub machine_scenario : Scenario → MachineScenario
+abbrev pub machine_scenario : Scenario → ScenarioDef
 machine_scenario x = record {
   handles = x.handles;
   table = x.table;
@@ -30,7 +30,7 @@ machine_scenario x = record {
 }
 
 -- Some run of the scenario with at most so many steps shows these labels, has come to this, and its last state has this core.
-pub record IsRunOf (x : MachineScenario) (steps : ℕ) (trace : List Label) (outcome : Outcome) (core : Core) : Type 0 where
+pub record IsRunOf (x : ScenarioDef) (steps : ℕ) (trace : List Label) (outcome : Outcome) (core : Core) : Type 0 where
   pub last : State
   pub run : Run (setting_of x) (opens x) trace last
   pub few : length trace ≤ steps

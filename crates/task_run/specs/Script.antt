@@ -1,8 +1,8 @@
 -- Main as a script.
 use Rattle.std.specs.Prelude.{◌≡◌, ℕ, Bool, true, false, List, [], Some, Result, Ok, Err, map, length, slice_get}
 use Rattle.task_machine.specs.declared.component.Component.{Component}
-use Rattle.task_machine.specs.declared.scenario.MainOp.{MainOp as Machine}
-use Rattle.task_machine.specs.declared.scenario.MainOp.TheVariants as machine
+use Rattle.task_machine.specs.declared.scenario.MainOpDef.{MainOpDef}
+use Rattle.task_machine.specs.declared.scenario.MainOpDef.TheVariants as machine
 use Rattle.task_machine.specs.declared.component.ExportDef.{ExportDef}
 use Rattle.task_machine.specs.declared.op.Operand.{Operand}
 use Rattle.task_machine.specs.declared.trap.Trap.{Trap}
@@ -17,7 +17,7 @@ use Rattle.task_run.specs.declared.main_script.Start.TheVariants as start
 use Rattle.task_loop.specs.Calls.{callee_of}
 
 -- the machine's op
-abbrev pub machine_op : MainOp → Machine
+abbrev pub machine_op : MainOp → MainOpDef
 machine_op (op.Start f xs) = machine.Start (callee_of f) xs
 machine_op (op.Finish k r) = machine.Finish k r
 machine_op (op.Spawn h) = machine.Spawn h
@@ -28,19 +28,19 @@ machine_op (op.Ready f) = machine.Ready (callee_of f)
 machine_op (op.Answer x) = machine.Answer x
 
 -- the op as the machine has it, at each place
-abbrev pub machine_ops : List MainOp → List Machine
+abbrev pub machine_ops : List MainOp → List MainOpDef
 machine_ops ops = map machine_op ops
 
 -- a start, a finish or an answer
-abbrev pub is_first_op : MainOp → Bool
-is_first_op (op.Start f xs) = true
-is_first_op (op.Finish k r) = true
-is_first_op (op.Answer x) = true
-is_first_op _ = false
+abbrev pub is_start_finish_or_answer : MainOp → Bool
+is_start_finish_or_answer (op.Start f xs) = true
+is_start_finish_or_answer (op.Finish k r) = true
+is_start_finish_or_answer (op.Answer x) = true
+is_start_finish_or_answer _ = false
 
--- The script has ops of the first grammar alone. Each export that it calls is the component's, and takes as many words.
+-- The script starts, finishes and answers alone. Each export that it calls is the component's, and takes as many words.
 pub record SuitsOps (ops : List MainOp) (c : Component) : Type 0 where
-  pub first : (i : ℕ) (o : MainOp) → slice_get ops i ≡ Some o → is_first_op o ≡ true
+  pub only : (i : ℕ) (o : MainOp) → slice_get ops i ≡ Some o → is_start_finish_or_answer o ≡ true
   pub starts : (i : ℕ) (f : Func) (xs : List Operand) → slice_get ops i ≡ Some (op.Start f xs) → (e : ExportDef) × ((export_at c (callee_of f) ≡ Some e) × (length xs ≡ e.params))
 
 abbrev pub started_of : Start → Started
@@ -54,7 +54,7 @@ place_of m = record { position = m.at; registers = m.registers; starts = map sta
 abbrev pub part_of : ScriptMain → Main
 part_of m = Scripted (place_of m)
 
-abbrev pub script_of : ScriptMain → List Machine
+abbrev pub script_of : ScriptMain → List MainOpDef
 script_of m = machine_ops m.ops.now
 
 abbrev pub Suits : ScriptMain → Component → Type 0

@@ -4,11 +4,11 @@ ghost use Rattle.task_run.specs.Lower.{export_def, instance_def, names_of, func_
 ghost use Rattle.task_run.specs.declared.scenario.Scenario.{Scenario};
 
 use crate::copy::copy_component;
-use crate::scenario::{InstanceNames, MainOp, NoMemory, RunError, Scenario};
+use crate::scenario::{InstanceNames, MainOp, RunError, Scenario};
 use scenario_text::{ExportText, InstanceText, MainOpText, ScenarioText, TextError, read_text};
 use std::alloc::{AllocError, Global};
 use task_loop::{Func, Instance};
-use task_machine::{Callee, Component, ExportDef, InstanceDef, Operand, Seq, Slot};
+use task_machine::{Callee, Component, ExportDef, InstanceDef, NoMemory, Operand, Seq, Slot};
 
 fn empty_slots(alloc: Global) -> Result<Seq<Slot>, AllocError>
     ensures { IfOk result (λ slots. slots ≡ replicate 16 Slot.Empty) }

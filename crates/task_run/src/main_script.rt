@@ -6,7 +6,7 @@ ghost use Rattle.task_rules.specs.Scripts.{export_at, values_in};
 ghost use Rattle.task_core.specs.declared.error.TaskError.TheVariants as task_error;
 ghost use Rattle.task_run.specs.declared.scenario.MainOp.TheVariants as main_op;
 ghost use Rattle.task_loop.specs.Calls.{callee_of};
-ghost use Rattle.task_loop.specs.Fit.{Fits, IsFirstComponent, given};
+ghost use Rattle.task_loop.specs.Fit.{Fits, HasPlainExports, given};
 ghost use Rattle.task_loop.specs.Main.{Steps};
 ghost use Rattle.task_run.specs.Script.{Suits, part_of, place_of, script_of, started};
 ghost use Rattle.task_state.specs.State.{running_of};
@@ -19,7 +19,7 @@ use task_state::TaskError;
 use task_store::{Access, Whole};
 
 // A start by main: the number of its call, or why it was refused.
-#[derive(Clone, Copy, Debug)]
+#[derive(Clone, Copy)]
 pub enum Start {
     Called(u64),
     Refused(Trap),
@@ -128,7 +128,7 @@ fn make_start<T, H>(
     func: Func,
     params: &[Operand],
 ) -> Result<MainStep, TaskError>
-    requires first { IsFirstComponent component.now }
+    requires exports { HasPlainExports component.now }
     requires fits { Fits component.now access.old.store.now.state.core }
     requires given { given access.old.store.now.state.core + 4 < 2 ^ 61 }
     requires op { slice_get main.old.ops.now main.old.at ≡ Some (main_op.Start func params.now) }
@@ -222,7 +222,7 @@ impl<T, H> MainTask<T, H> for ScriptMain<'_> {
             Some(MainOp::Answer(value)) => {
                 Ok(MainStep::Answer(operand_value(&self.registers, *value)))
             }
-            // The first grammar has no other ops.
+            // Such a script has no other ops.
             Some(MainOp::Spawn(_)) => unreachable!(),
             Some(MainOp::Abort(_)) => unreachable!(),
             Some(MainOp::Await(_)) => unreachable!(),

@@ -2,8 +2,8 @@ ghost use Rattle.std.specs.Prelude.{◌≡◌, ◌<◌, ◌≤◌, ◌++◌, [],
 ghost use Rattle.task_run.specs.Outside.{HasRisen, IsWritten};
 
 use crate::outside::{Read, Sink, Source, Wrote};
-use crate::scenario::NoMemory;
 use std::alloc::Global;
+use task_machine::NoMemory;
 
 /// A source over memory, which gives at most `piece` bytes a call and fails at chosen calls.
 #[derive(Drop)]

@@ -2,7 +2,7 @@ ghost use Rattle.std.specs.Prelude.{◌≡◌, ℕ, ◌<◌, ◌≤◌, List, Op
 ghost use Rattle.task_run.specs.Outside.{HasRisen, IsRead, IsWritten};
 
 /// What a read gave.
-#[derive(Clone, Copy, Debug, PartialEq, Eq)]
+#[derive(Clone, Copy)]
 pub enum Read {
     /// So many bytes, at the front of the buffer.
     Got(usize),
@@ -12,7 +12,7 @@ pub enum Read {
 }
 
 /// What a write took.
-#[derive(Clone, Copy, Debug, PartialEq, Eq)]
+#[derive(Clone, Copy)]
 pub enum Wrote {
     /// So many bytes from the front of the piece.
     Took(usize),

@@ -29,7 +29,7 @@ pub struct ToolEnd {
 }
 
 /// How a call ended, where it ran nothing.
-#[derive(Clone, Copy, Debug, PartialEq, Eq)]
+#[derive(Clone, Copy)]
 enum End {
     NoMemory,
     WrongWords,

@@ -9,7 +9,7 @@ use std::alloc::{AllocError, Global};
 pub const LIMIT: usize = 1_048_576;
 
 /// Why a source gave no text.
-#[derive(Clone, Copy, Debug, PartialEq, Eq)]
+#[derive(Clone, Copy)]
 pub enum ReadFault {
     NoMemory,
     Failed,

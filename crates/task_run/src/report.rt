@@ -2,8 +2,8 @@ ghost use Rattle.std.specs.Prelude.{◌≡◌, ◌<◌, ◌≤◌, ◌++◌, ℕ
 ghost use Rattle.scenario_text.specs.Grammar.{IsBadLine};
 ghost use Rattle.task_machine.specs.Core.{fresh};
 ghost use Rattle.task_loop.specs.Turn.{idle_line_of};
-ghost use Rattle.task_core.specs.Shown.{nothing, with_core};
-ghost use Rattle.task_run.specs.First.{IsFirstScenario};
+ghost use Rattle.task_core.specs.StateView.{nothing, with_core};
+ghost use Rattle.task_run.specs.Runnable.{IsRunnable};
 ghost use Rattle.task_run.specs.Headline.{IsReportOf, IsRunOf, machine_scenario};
 ghost use Rattle.task_run.specs.Lower.{Reads};
 ghost use Rattle.task_run.specs.declared.scenario.Scenario.{Scenario};
@@ -11,11 +11,11 @@ ghost use Rattle.task_rules.specs.Texts.{label_text, outcome_text, line_text, te
 
 use crate::lower::read_scenario;
 use crate::main_script::ScriptMain;
-use crate::scenario::{NoMemory, RunError, Scenario};
+use crate::scenario::{RunError, Scenario};
 use report_text::Page;
 use std::alloc::{AllocError, Global};
 use task_loop::{Outcome, Trace, run_concurrent};
-use task_machine::IdleLine;
+use task_machine::{IdleLine, NoMemory};
 use task_store::Store;
 
 /// The host works of a scenario.
@@ -70,7 +70,7 @@ fn traps_on_idle(idle: IdleLine) -> bool
 
 // Runs a scenario in a new store.
 fn run(alloc: Global, scenario: &Scenario, steps: u32) -> Result<Report, NoMemory>
-    requires { IsFirstScenario scenario.now }
+    requires { IsRunnable scenario.now }
     ensures { IfOk result (λ r. IsRunOf (machine_scenario scenario.now) steps r.trace r.outcome r.store.state.core) }
 {
     let mut store = new_store(

@@ -1,20 +1,9 @@
-use std::alloc::AllocError;
 use task_loop::Func;
 use task_machine::{Component, IdleLine, Operand, Seq};
 use thiserror::Error;
 
-/// Memory is wanting.
-#[derive(Clone, Copy, Debug, PartialEq, Eq)]
-pub struct NoMemory;
-
-impl From<AllocError> for NoMemory {
-    fn from(_e: AllocError) -> NoMemory {
-        NoMemory
-    }
-}
-
 /// Why a text wasn't run.
-#[derive(Clone, Copy, Debug, PartialEq, Eq, Error)]
+#[derive(Clone, Copy, Debug, Error)]
 pub enum RunError {
     #[error("out of memory")]
     NoMemory,
@@ -25,14 +14,14 @@ pub enum RunError {
 }
 
 /// The names that a text gives to an instance and its exports.
-#[derive(Debug, Drop)]
+#[derive(Drop)]
 pub struct InstanceNames {
     pub instance: Seq<u8>,
     pub exports: Seq<Seq<u8>>,
 }
 
 /// An op of main. Starts and spawns are counted apart, from 1, in the order of their ops.
-#[derive(Debug, Drop)]
+#[derive(Drop)]
 pub enum MainOp {
     /// `start F X*`
     Start(Func, Seq<Operand>),
@@ -53,7 +42,7 @@ pub enum MainOp {
 }
 
 /// A scenario: what a text says, in the order of its lines.
-#[derive(Debug, Drop)]
+#[derive(Drop)]
 pub struct Scenario {
     /// How many handles may be live at once, at most 268,435,455.
     pub handles: u32,

@@ -3,8 +3,8 @@ ghost use Rattle.std.specs.Prelude.{◌≡◌, ◌<◌, ◌≤◌, ◌++◌, [],
 ghost use Rattle.task_run.specs.Outside.{HasRisen, IsWritten, kept_told};
 
 use crate::outside::{Read, Sink, Source, Wrote};
-use crate::scenario::NoMemory;
 use std::alloc::Global;
+use task_machine::NoMemory;
 
 /// A source over memory, which gives at most `piece` bytes a call and never fails.
 #[derive(Drop)]

@@ -7,7 +7,7 @@ use Rattle.task_machine.specs.declared.label.Label.TheVariants as label
 use Rattle.task_machine.specs.declared.label.LoopLabel.TheVariants as loop_label
 use Rattle.task_machine.specs.declared.label.MainLabel.{MainLabel}
 use Rattle.task_machine.specs.declared.label.MainLabel.TheVariants as main_label
-use Rattle.task_machine.specs.declared.scenario.MainOp.{MainOp}
+use Rattle.task_machine.specs.declared.scenario.MainOpDef.{MainOpDef}
 use Rattle.task_machine.specs.declared.op.DataOp.{DataOp}
 use Rattle.task_machine.specs.declared.op.Op.TheVariants as op
 use Rattle.task_machine.specs.declared.op.Operand.{Operand}
@@ -207,7 +207,7 @@ module _ (x : Setting) (s : State) (turn_is : s.turn ≡ turn.Main) (unscripted 
 -- ---- Main, which is a script
 
 module _ (x : Setting) (s : State) (turn_is : s.turn ≡ turn.Main) (p : MainPlace) (scripted : s.main ≡ Scripted p) where
-  at_op : (o : Option MainOp) → op_at x.script p ≡ o → (l : Label) (t : State) → ScriptStep x s p o l t → Step x s l t
+  at_op : (o : Option MainOpDef) → op_at x.script p ≡ o → (l : Label) (t : State) → ScriptStep x s p o l t → Step x s l t
   unfolding Step
   at_op o is l t h = subst (λ u. TurnStep x s u l t) (sym turn_is) (subst (λ m. MainStep x s m l t) (sym scripted) (subst (λ q. ScriptStep x s p q l t) (sym is) h))
 
@@ -216,18 +216,18 @@ module _ (x : Setting) (s : State) (turn_is : s.turn ≡ turn.Main) (p : MainPla
   script_ends is = at_op None is _ _ (refl, refl)
 
   -- its op does what its row says
-  pub script_does : (o : MainOp) (l : MainLabel) (new : Core) → op_at x.script p ≡ Some o → main_row x.component (line_of p o) s.core (act_of p o) ≡ Does l new → Step x s (label.Main l) (at_turn s new (Scripted (advanced_main o l p)) turn.Main)
+  pub script_does : (o : MainOpDef) (l : MainLabel) (new : Core) → op_at x.script p ≡ Some o → main_row x.component (line_of p o) s.core (act_of p o) ≡ Does l new → Step x s (label.Main l) (at_turn s new (Scripted (advanced_main o l p)) turn.Main)
   script_does o l new is row =
       let t = at_turn s new (Scripted (advanced_main o l p)) turn.Main in
       at_op (Some o) is (label.Main l) t (subst (λ q. MainProgresses s p o q (label.Main l) t) (sym row) (refl, refl))
 
-  pub script_pends : (o : MainOp) → op_at x.script p ≡ Some o → main_row x.component (line_of p o) s.core (act_of p o) ≡ Pends → Step x s (label.Loop loop_label.MainPends) (goes_to s s.core (turn.Futures 0))
+  pub script_pends : (o : MainOpDef) → op_at x.script p ≡ Some o → main_row x.component (line_of p o) s.core (act_of p o) ≡ Pends → Step x s (label.Loop loop_label.MainPends) (goes_to s s.core (turn.Futures 0))
   script_pends o is row =
       let l = label.Loop loop_label.MainPends in
       let t = goes_to s s.core (turn.Futures 0) in
       at_op (Some o) is l t (subst (λ q. MainProgresses s p o q l t) (sym row) (refl, refl))
 
-  pub script_answers : (o : MainOp) (v : ℕ) → op_at x.script p ≡ Some o → main_row x.component (line_of p o) s.core (act_of p o) ≡ Answers v → Step x s (label.Main (main_label.Answer v)) (goes_to s s.core turn.Over)
+  pub script_answers : (o : MainOpDef) (v : ℕ) → op_at x.script p ≡ Some o → main_row x.component (line_of p o) s.core (act_of p o) ≡ Answers v → Step x s (label.Main (main_label.Answer v)) (goes_to s s.core turn.Over)
   script_answers o v is row =
       let l = label.Main (main_label.Answer v) in
       let t = goes_to s s.core turn.Over in

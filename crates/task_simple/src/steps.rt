@@ -18,8 +18,8 @@ ghost use Rattle.task_simple.specs.Forms.{call_started, exit_done, return_done, 
 ghost use Rattle.task_simple.specs.Simple.{IsPlain, IsSimple};
 
 use task_machine::{
-    Callee, DataOp, Entry, IdleLine, Label, LoopLabel, MainLabel, MainOp, Mark, Op, Operand, Place,
-    TaskOp, Trap, Turn,
+    Callee, DataOp, Entry, IdleLine, Label, LoopLabel, MainLabel, MainOpDef, Mark, Op, Operand,
+    Place, TaskOp, Trap, Turn,
 };
 
 /// The first entry is taken: its start is held while its instance lets in no other, traps where no handle is left, or runs.
@@ -79,8 +79,8 @@ pub fn main_acts()
 /// A main that is a script does what the row of its op says, and past its end pends for ever.
 #[tactic(auto, using(crate::proofs::StepLemmas::script_does, crate::proofs::StepLemmas::script_pends, crate::proofs::StepLemmas::script_answers, crate::proofs::StepLemmas::script_ends))]
 pub fn script_acts()
-    ensures does { (x : Setting) (s : State) → s.turn ≡ Turn.Main → (p : MainPlace) → s.main ≡ Scripted p → (o : MainOp) (l : MainLabel) (new : Core) → op_at x.script p ≡ Some o → main_row x.component (line_of p o) s.core (act_of p o) ≡ Does l new → Step x s (Label.Main l) (at_turn s new (Scripted (advanced_main o l p)) Turn.Main) }
-    ensures pends { (x : Setting) (s : State) → s.turn ≡ Turn.Main → (p : MainPlace) → s.main ≡ Scripted p → (o : MainOp) → op_at x.script p ≡ Some o → main_row x.component (line_of p o) s.core (act_of p o) ≡ Pends → Step x s (Label.Loop LoopLabel.MainPends) (goes_to s s.core (Turn.Futures 0)) }
-    ensures answers { (x : Setting) (s : State) → s.turn ≡ Turn.Main → (p : MainPlace) → s.main ≡ Scripted p → (o : MainOp) (v : ℕ) → op_at x.script p ≡ Some o → main_row x.component (line_of p o) s.core (act_of p o) ≡ Answers v → Step x s (Label.Main (MainLabel.Answer v)) (goes_to s s.core Turn.Over) }
+    ensures does { (x : Setting) (s : State) → s.turn ≡ Turn.Main → (p : MainPlace) → s.main ≡ Scripted p → (o : MainOpDef) (l : MainLabel) (new : Core) → op_at x.script p ≡ Some o → main_row x.component (line_of p o) s.core (act_of p o) ≡ Does l new → Step x s (Label.Main l) (at_turn s new (Scripted (advanced_main o l p)) Turn.Main) }
+    ensures pends { (x : Setting) (s : State) → s.turn ≡ Turn.Main → (p : MainPlace) → s.main ≡ Scripted p → (o : MainOpDef) → op_at x.script p ≡ Some o → main_row x.component (line_of p o) s.core (act_of p o) ≡ Pends → Step x s (Label.Loop LoopLabel.MainPends) (goes_to s s.core (Turn.Futures 0)) }
+    ensures answers { (x : Setting) (s : State) → s.turn ≡ Turn.Main → (p : MainPlace) → s.main ≡ Scripted p → (o : MainOpDef) (v : ℕ) → op_at x.script p ≡ Some o → main_row x.component (line_of p o) s.core (act_of p o) ≡ Answers v → Step x s (Label.Main (MainLabel.Answer v)) (goes_to s s.core Turn.Over) }
     ensures ends { (x : Setting) (s : State) → s.turn ≡ Turn.Main → (p : MainPlace) → s.main ≡ Scripted p → op_at x.script p ≡ None → Step x s (Label.Loop LoopLabel.MainPends) (goes_to s s.core (Turn.Futures 0)) }
 {}

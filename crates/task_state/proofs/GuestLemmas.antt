@@ -17,7 +17,7 @@ use Rattle.task_machine.specs.Read.{place_of, task_of, thread_group}
 use Rattle.task_machine.specs.Write.{add_call, add_group, add_thread, set_trapped, with_groups_made}
 use Rattle.task_machine.proofs.MapLemmas.{get-insert_same}
 use Rattle.task_rules.specs.Calls.{call_made, next_thread}
-use Rattle.task_core.specs.Shown.{IsLive, KeepsTags, Shown, call_number, number_of}
+use Rattle.task_core.specs.StateView.{IsLive, KeepsTags, StateView, call_number, number_of}
 use Rattle.task_core.specs.declared.entry.QualifiedThreadId.{QualifiedThreadId}
 use Rattle.task_simple.specs.Forms.{task_made}
 use Rattle.task_simple.specs.Simple.{IsPlain, IsSimple, IsSimpleCall, NoneRuns}
@@ -37,7 +37,7 @@ on_ok (Ok a) holds after = after holds
 on_ok (Err e) holds after = holds
 
 -- a call of a thread is in the group of the thread's call
-pub from_is : (s : Shown) (id : QualifiedThreadId) (x : ExportKind) (i : ℕ) (c : Call) (number : ℕ) (t : Core) → IsLive s id → number ≡ number_of s.tags id → get s.core.calls (call_number s.tags id.task) ≡ Some c
+pub from_is : (s : StateView) (id : QualifiedThreadId) (x : ExportKind) (i : ℕ) (c : Call) (number : ℕ) (t : Core) → IsLive s id → number ≡ number_of s.tags id → get s.core.calls (call_number s.tags id.task) ≡ Some c
     → t ≡ call_made (caller.Thread number) (record { instance = i; export = 0 }) x goal.Nowhere c.group [] s.core → t ≡ task_begun x i (Some id) s
 from_is s id x i c number t live is read made =
     let n = number_of s.tags id in
@@ -67,7 +67,7 @@ trapped_made : (f : Caller) (x : ExportKind) (i g : ℕ) (s : Core) → (task_ma
 unfolding task_made call_made add_thread add_call add_group
 trapped_made f x i g s = refl
 
-pub alone_is : (s : Shown) (x : ExportKind) (i : ℕ) (m t : Core) → m ≡ call_made caller.Main (record { instance = i; export = 0 }) x goal.Nowhere (s.core.made.groups + 1) [] (add_group s.core) → t ≡ (if m.trapped then set_trapped m else m) → t ≡ task_begun x i None s
+pub alone_is : (s : StateView) (x : ExportKind) (i : ℕ) (m t : Core) → m ≡ call_made caller.Main (record { instance = i; export = 0 }) x goal.Nowhere (s.core.made.groups + 1) [] (add_group s.core) → t ≡ (if m.trapped then set_trapped m else m) → t ≡ task_begun x i None s
 alone_is s x i m t made finished =
     let g = s.core.made.groups + 1 in
     let n : Core = task_made caller.Main x i g (add_group s.core) in
@@ -84,7 +84,7 @@ unfolding call_made add_thread add_call add_group
 task_of_made f e x g s = ap (λ o. option_map_or (λ (t : Thread). t.call) o 0) (get-insert_same s.threads (s.made.threads + 1) _)
 
 -- its id names it still once the groups are finished
-pub live_finished : (s m t : Shown) (id : QualifiedThreadId) (f : Caller) (e : Callee) (x : ExportKind) (g : ℕ) → m.core ≡ call_made f e x goal.Nowhere g [] (add_group s.core) → IsLive m id → number_of m.tags id ≡ next_thread s.core → KeepsTags m.tags t.tags → t.core.threads ≡ m.core.threads → IsLive t id
+pub live_finished : (s m t : StateView) (id : QualifiedThreadId) (f : Caller) (e : Callee) (x : ExportKind) (g : ℕ) → m.core ≡ call_made f e x goal.Nowhere g [] (add_group s.core) → IsLive m id → number_of m.tags id ≡ next_thread s.core → KeepsTags m.tags t.tags → t.core.threads ≡ m.core.threads → IsLive t id
 live_finished s m t id f e x g core live number tags threads =
     let n = number_of m.tags id in
     let same : number_of t.tags id ≡ n = tags.threads id.thread live.live in
@@ -183,7 +183,7 @@ there : {X : Type 0} (o : Option X) → IsSome o → (x : X) × (o ≡ Some x)
 there None is = absurd (cc)
 there (Some x) is = (x, refl)
 
-module _ (s u : Shown) (x : ExportKind) (i : ℕ) (whole : IsWhole s) (tags : KeepsTags s.tags u.tags) (current : u.current ≡ s.current) (here : is_some (get s.core.instances i) ≡ true) (tabled : is_some (get s.core.thread_handles i) ≡ true) where
+module _ (s u : StateView) (x : ExportKind) (i : ℕ) (whole : IsWhole s) (tags : KeepsTags s.tags u.tags) (current : u.current ≡ s.current) (here : is_some (get s.core.instances i) ≡ true) (tabled : is_some (get s.core.thread_handles i) ≡ true) where
   pub whole_from : (id : QualifiedThreadId) → IsSome (get s.core.calls (task_of (number_of s.tags id) s.core)) → u.core ≡ task_begun x i (Some id) s → IsWhole u
   whole_from id called core =
       let n = number_of s.tags id in

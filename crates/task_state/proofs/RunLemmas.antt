@@ -14,8 +14,8 @@ use Rattle.task_machine.specs.Read.{call_group, instance_of, is_entry_of, place_
 use Rattle.task_machine.specs.Write.{free_thread_handle, give_result, on_call, on_instance, remove_call, remove_thread, set_do_not_enter, set_end, set_position, set_trapped}
 use Rattle.task_machine.proofs.CommuteLemmas.{get-change}
 use Rattle.task_machine.proofs.MapLemmas.{get-remove_same}
-use Rattle.task_core.specs.Shown.{IsLive, KeepsTags, KeepsTagsBut, Shown, Tag, call_number, number_of, thread_number, with_core}
-use Rattle.task_core.specs.declared.entry.GuestTaskKey.{GuestTaskKey}
+use Rattle.task_core.specs.StateView.{IsLive, KeepsTags, KeepsTagsBut, StateView, Tag, call_number, number_of, thread_number, with_core}
+use Rattle.task_wait.specs.declared.keys.GuestTaskKey.{GuestTaskKey}
 use Rattle.task_core.specs.declared.entry.QualifiedThreadId.{QualifiedThreadId}
 use Rattle.task_table.specs.declared.id.TableId.{TableId}
 use Rattle.task_simple.specs.Forms.{exit_done, return_done, trap_done}
@@ -25,14 +25,14 @@ use Rattle.task_simple.proofs.FrameLemmas.{made-exit_done, made-return_done, mad
 use Rattle.task_simple.proofs.ReadLemmas.{instance_of_is, task_of_is}
 use Rattle.task_simple.proofs.SimpleLemmas.{exit_none_runs, exit_simple, return_runs, return_simple, thread_there, trap_none_runs, trap_simple}
 use Rattle.task_state.specs.Moves.{Exits}
-use Rattle.task_state.specs.Seen.{stopped_with}
-use Rattle.task_state.specs.State.{IsWhole, Runs, running_of, seen}
+use Rattle.task_state.specs.StepView.{stopped_with}
+use Rattle.task_state.specs.State.{IsWhole, Runs, running_of, step_view}
 use Rattle.task_state.proofs.TakenLemmas.{few_made, seen_stopped, whole_stopped}
 
 -- ---- What ids name still
 
 -- the core alone is another
-shown_is : (s u : Shown) (c : Core) → u.core ≡ c → u.tags ≡ s.tags → u.current ≡ s.current → u ≡ with_core c s
+shown_is : (s u : StateView) (c : Core) → u.core ≡ c → u.tags ≡ s.tags → u.current ≡ s.current → u ≡ with_core c s
 shown_is s u c core tags current =
     ap (λ (d : Core). record u { core = d }) core ∙ ap (λ (g : List (Option Tag)). record u { core = c; tags = g }) tags ∙ ap (λ (o : Option QualifiedThreadId). record s { core = c; current = o }) current
 
@@ -55,7 +55,7 @@ but_both n k a b c first second = record {
 
 -- ---- The thread that runs
 
-module _ (s : Shown) (whole : IsWhole s) (id : QualifiedThreadId) (now : Some id ≡ s.current) where
+module _ (s : StateView) (whole : IsWhole s) (id : QualifiedThreadId) (now : Some id ≡ s.current) where
   abbrev n : ℕ
   n = number_of s.tags id
 
@@ -132,9 +132,9 @@ module _ (s : Shown) (whole : IsWhole s) (id : QualifiedThreadId) (now : Some id
     past_result k s = refl
 
     -- its next place fits, where that was required
-    pub position_fits : (w : Shown) → s ≡ w → IfSome (running_of w) (λ m. position_of m w.core + 1 < 2 ^ 32) → t.position + 1 < 2 ^ 32
+    pub position_fits : (w : StateView) → s ≡ w → IfSome (running_of w) (λ m. position_of m w.core + 1 < 2 ^ 32) → t.position + 1 < 2 ^ 32
     position_fits w is fits =
-        let here : IfSome (running_of s) (λ m. position_of m s.core + 1 < 2 ^ 32) = subst (λ (w : Shown). IfSome (running_of w) (λ m. position_of m w.core + 1 < 2 ^ 32)) (sym is) fits in
+        let here : IfSome (running_of s) (λ m. position_of m s.core + 1 < 2 ^ 32) = subst (λ (w : StateView). IfSome (running_of w) (λ m. position_of m w.core + 1 < 2 ^ 32)) (sym is) fits in
         let mine : position_of n s.core + 1 < 2 ^ 32 = subst (λ o. IfSome o (λ m. position_of m s.core + 1 < 2 ^ 32)) running_now here in
         subst (λ p. p + 1 < 2 ^ 32) (position_found s.core n t found) mine
 
@@ -145,7 +145,7 @@ module _ (s : Shown) (whole : IsWhole s) (id : QualifiedThreadId) (now : Some id
         ∙ ap (λ p. set_position n (p + 1) (give_result n v (set_end n call_end.Returned s.core))) (sym (position_found s.core n t found))
         ∙ sym (return_done_is v s.core whole.simple.plain n t found)
 
-  module _ (u : Shown) (v : ℕ) (core : u.core ≡ return_done n v s.core) (tags : u.tags ≡ s.tags) (current : u.current ≡ s.current) where
+  module _ (u : StateView) (v : ℕ) (core : u.core ≡ return_done n v s.core) (tags : u.tags ≡ s.tags) (current : u.current ≡ s.current) where
     simple_returned : IsSimple u.core
     simple_returned = subst (λ c. IsSimple c) (sym core) (return_simple s.core whole.simple n place_now v)
 
@@ -175,7 +175,7 @@ module _ (s : Shown) (whole : IsWhole s) (id : QualifiedThreadId) (now : Some id
   unfolding trap_done
   trap_is m s = refl
 
-  module _ (u : Shown) (core : u.core ≡ set_trapped (remove_thread n s.core)) (current : u.current ≡ None) where
+  module _ (u : StateView) (core : u.core ≡ set_trapped (remove_thread n s.core)) (current : u.current ≡ None) where
     struck : u.core ≡ trap_done n s.core
     struck = core ∙ trap_is n s.core
 
@@ -186,12 +186,12 @@ module _ (s : Shown) (whole : IsWhole s) (id : QualifiedThreadId) (now : Some id
         (few_made u.core s.core (ap (λ (c : Core). c.made) struck ∙ made-trap_done n s.core) whole.few)
         current
 
-    pub seen_struck : seen u ≡ stopped_with (trap_done n (seen s).core)
+    pub seen_struck : step_view u ≡ stopped_with (trap_done n (step_view s).core)
     seen_struck = seen_stopped u _ struck current
 
   -- ---- An exit
 
-  module _ (u : Shown) (h : ℕ) (has : thread_handle_of n s.core ≡ Some h) (core : u.core ≡ exit_done n h s.core) (current : u.current ≡ None) where
+  module _ (u : StateView) (h : ℕ) (has : thread_handle_of n s.core ≡ Some h) (core : u.core ≡ exit_done n h s.core) (current : u.current ≡ None) where
     pub whole_exited : IsWhole u
     whole_exited = whole_stopped u
         (subst (λ c. IsSimple c) (sym core) (exit_simple s.core whole.simple n place_now h has))
@@ -199,7 +199,7 @@ module _ (s : Shown) (whole : IsWhole s) (id : QualifiedThreadId) (now : Some id
         (few_made u.core s.core (ap (λ (c : Core). c.made) core ∙ made-exit_done n h s.core) whole.few)
         current
 
-    pub exits_is : Exits n (seen s) (seen u)
+    pub exits_is : Exits n (step_view s) (step_view u)
     exits_is = record { handle = h; handle_is = has; new_is = seen_stopped u _ core current }
 
 -- what was removed beside keeps the call's id
@@ -241,11 +241,11 @@ exit_is n i g h s at of = rw (sym at, sym of) refl
 
 -- ---- The writes of an exit, one after another
 
-module _ (s : Shown) (whole : IsWhole s) (id : QualifiedThreadId) (now : Some id ≡ s.current) (c : Call) (read : get s.core.calls (call_number s.tags id.task) ≡ Some c) (t : Thread) (found : get s.core.threads (number_of s.tags id) ≡ Some t) (h : ℕ) (has : t.handle ≡ Some h) where
+module _ (s : StateView) (whole : IsWhole s) (id : QualifiedThreadId) (now : Some id ≡ s.current) (c : Call) (read : get s.core.calls (call_number s.tags id.task) ≡ Some c) (t : Thread) (found : get s.core.threads (number_of s.tags id) ≡ Some t) (h : ℕ) (has : t.handle ≡ Some h) where
   abbrev k : ℕ
   k = number_of s.tags id
 
-  module _ (a f : Shown) (one : a ≡ with_core (set_do_not_enter c.callee.instance false s.core) s) (two : f ≡ with_core (free_thread_handle c.callee.instance h a.core) a) where
+  module _ (a f : StateView) (one : a ≡ with_core (set_do_not_enter c.callee.instance false s.core) s) (two : f ≡ with_core (free_thread_handle c.callee.instance h a.core) a) where
     pub instance_let_in : IsSome (get a.core.instances c.callee.instance)
     instance_let_in = rw one (instance_entered c.callee.instance c.callee.instance false s.core (instance_there s whole id now c read))
 
@@ -261,7 +261,7 @@ module _ (s : Shown) (whole : IsWhole s) (id : QualifiedThreadId) (now : Some id
     pub out_freed : count_by (is_entry_of (thread_number f.tags id.thread)) f.core.queues.high ≡ 0
     out_freed = rw (tags_freed, core_freed, high_freed c.callee.instance h c.callee.instance false s.core) (out_now s whole id now)
 
-    module _ (r : Shown) (three : r.core ≡ remove_thread (thread_number f.tags id.thread) f.core) (tags : KeepsTagsBut (thread_number f.tags id.thread) 0 f.tags r.tags) where
+    module _ (r : StateView) (three : r.core ≡ remove_thread (thread_number f.tags id.thread) f.core) (tags : KeepsTagsBut (thread_number f.tags id.thread) 0 f.tags r.tags) where
       core_removed : r.core ≡ remove_thread k (free_thread_handle c.callee.instance h (set_do_not_enter c.callee.instance false s.core))
       core_removed = rw (three, tags_freed, core_freed) refl
 

@@ -16,7 +16,7 @@ use Rattle.task_machine.specs.Read.{call_instance, no_callee, place_of, task_of}
 use Rattle.task_machine.specs.Write.{add_call, add_group, add_thread, on_thread, push_high, set_place, set_trapped, take_result}
 use Rattle.task_machine.proofs.MapLemmas.{get-change_other, get-insert_other}
 use Rattle.task_rules.specs.Scripts.{registers_for}
-use Rattle.task_core.specs.Shown.{KeepsTags, Shown, nothing, number_of, with_capacity, with_handle_limit, with_instance}
+use Rattle.task_core.specs.StateView.{KeepsTags, StateView, nothing, number_of, with_capacity, with_handle_limit, with_instance}
 use Rattle.task_core.specs.Start.{main_call_started}
 use Rattle.task_core.specs.declared.entry.QualifiedThreadId.{QualifiedThreadId}
 use Rattle.task_simple.specs.Forms.{call_started}
@@ -32,7 +32,7 @@ use Rattle.task_state.proofs.TakenLemmas.{few_made, whole_stopped}
 
 -- ---- A state in which the same thread runs
 
-module _ (s u : Shown) (whole : IsWhole s) (tags : KeepsTags s.tags u.tags) (current : u.current ≡ s.current) where
+module _ (s u : StateView) (whole : IsWhole s) (tags : KeepsTags s.tags u.tags) (current : u.current ≡ s.current) where
   module _ (simple : IsSimple u.core) (none : NoneRuns s.core → NoneRuns u.core) (places : (n : ℕ) → place_of n s.core ≡ Some place.Running → place_of n u.core ≡ Some place.Running) (few : HasFewGroups s.core → HasFewGroups u.core) where
     runs_still : (o : Option QualifiedThreadId) → Runs s o → Runs u o
     runs_still None quiet = none quiet
@@ -60,7 +60,7 @@ module _ (s u : Shown) (whole : IsWhole s) (tags : KeepsTags s.tags u.tags) (cur
   becomes c core = record { core = core; running = rw (current, running_still s.current whole.runs) refl; current = current; tags = tags }
 
 -- ids that stand for what they stood for
-pub keeps_tags : (s : Shown) → KeepsTags s.tags s.tags
+pub keeps_tags : (s : StateView) → KeepsTags s.tags s.tags
 keeps_tags s = record { threads = λ id live. refl; calls = λ id live. refl }
 
 -- ---- A new state
@@ -69,13 +69,13 @@ few_new : HasFewGroups (fresh 0 100000 1000000)
 unfolding fresh
 few_new = omega arith
 
-pub whole_new : (t : Shown) → t ≡ nothing → IsWhole t
+pub whole_new : (t : StateView) → t ≡ nothing → IsWhole t
 whole_new t is = subst (λ t. IsWhole t) (sym is) (whole_stopped nothing (fresh_simple 0 100000 1000000) (fresh_none_runs 0 100000 1000000) few_new refl)
 
 -- ---- A trap, a limit, a result taken
 
 -- with the same core all is the same
-pub whole_same : (s u : Shown) → IsWhole s → KeepsTags s.tags u.tags → u.current ≡ s.current → u.core ≡ s.core → IsWhole u
+pub whole_same : (s u : StateView) → IsWhole s → KeepsTags s.tags u.tags → u.current ≡ s.current → u.core ≡ s.core → IsWhole u
 whole_same s u whole tags current core = whole_still s u whole tags current (subst (λ c. IsSimple c) (sym core) whole.simple) (λ none. subst (λ c. NoneRuns c) (sym core) none) (λ n at. ap (place_of n) core ∙ at) (λ few. few_made u.core s.core (ap (λ (c : Core). c.made) core) few)
 
 made_trapped : (s : Core) → (set_trapped s).made ≡ s.made
@@ -86,7 +86,7 @@ place_trapped : (n : ℕ) (s : Core) → place_of n (set_trapped s) ≡ place_of
 unfolding set_trapped
 place_trapped n s = refl
 
-pub whole_trapped : (s u : Shown) → IsWhole s → KeepsTags s.tags u.tags → u.current ≡ s.current → u.core ≡ set_trapped s.core → IsWhole u
+pub whole_trapped : (s u : StateView) → IsWhole s → KeepsTags s.tags u.tags → u.current ≡ s.current → u.core ≡ set_trapped s.core → IsWhole u
 whole_trapped s u whole tags current core = whole_still s u whole tags current
     (subst (λ c. IsSimple c) (sym core) (trapped_simple s.core whole.simple))
     (λ none. subst (λ c. NoneRuns c) (sym core) (trapped_none_runs s.core none))
@@ -101,7 +101,7 @@ place_taken : (n k : ℕ) (s : Core) → place_of n (take_result k s) ≡ place_
 unfolding take_result
 place_taken n k s = refl
 
-pub whole_taken : (s u : Shown) (k : ℕ) → IsWhole s → u.tags ≡ s.tags → u.current ≡ s.current → u.core ≡ take_result k s.core → IsWhole u
+pub whole_taken : (s u : StateView) (k : ℕ) → IsWhole s → u.tags ≡ s.tags → u.current ≡ s.current → u.core ≡ take_result k s.core → IsWhole u
 whole_taken s u k whole tags current core = whole_still s u whole (subst (λ g. KeepsTags s.tags g) (sym tags) (keeps_tags s)) current
     (subst (λ c. IsSimple c) (sym core) (result_taken_simple k s.core whole.simple))
     (λ none. subst (λ c. NoneRuns c) (sym core) (result_taken_none_runs k s.core none))
@@ -136,7 +136,7 @@ limited_plain h s plain = record {
 limited_simple : (h : ℕ) (s : Core) → IsSimple s → IsSimple (with_handle_limit h s)
 limited_simple h s simple = record { plain = limited_plain h s simple.plain; of_threads = simple.of_threads; queued = simple.queued }
 
-pub whole_limited : (s u : Shown) (h : ℕ) → IsWhole s → u.tags ≡ s.tags → u.current ≡ s.current → u.core ≡ with_handle_limit h s.core → IsWhole u
+pub whole_limited : (s u : StateView) (h : ℕ) → IsWhole s → u.tags ≡ s.tags → u.current ≡ s.current → u.core ≡ with_handle_limit h s.core → IsWhole u
 whole_limited s u h whole tags current core = whole_still s u whole (subst (λ g. KeepsTags s.tags g) (sym tags) (keeps_tags s)) current
     (subst (λ c. IsSimple c) (sym core) (limited_simple h s.core whole.simple))
     (λ none. subst (λ c. NoneRuns c) (sym core) none)
@@ -171,7 +171,7 @@ widened_plain h s plain = record {
 widened_simple : (h : ℕ) (s : Core) → IsSimple s → IsSimple (with_capacity h s)
 widened_simple h s simple = record { plain = widened_plain h s simple.plain; of_threads = simple.of_threads; queued = simple.queued }
 
-pub whole_widened : (s u : Shown) (h : ℕ) → IsWhole s → u.tags ≡ s.tags → u.current ≡ s.current → u.core ≡ with_capacity h s.core → IsWhole u
+pub whole_widened : (s u : StateView) (h : ℕ) → IsWhole s → u.tags ≡ s.tags → u.current ≡ s.current → u.core ≡ with_capacity h s.core → IsWhole u
 whole_widened s u h whole tags current core = whole_still s u whole (subst (λ g. KeepsTags s.tags g) (sym tags) (keeps_tags s)) current
     (subst (λ c. IsSimple c) (sym core) (widened_simple h s.core whole.simple))
     (λ none. subst (λ c. NoneRuns c) (sym core) none)
@@ -257,7 +257,7 @@ none_runs_more : (s : Core) → NoneRuns s → NoneRuns (with_instance s)
 unfolding with_instance
 none_runs_more s none = none
 
-pub whole_more : (s u : Shown) → IsWhole s → get s.core.instances (size s.core.instances) ≡ None → u.tags ≡ s.tags → u.current ≡ s.current → u.core ≡ with_instance s.core → IsWhole u
+pub whole_more : (s u : StateView) → IsWhole s → get s.core.instances (size s.core.instances) ≡ None → u.tags ≡ s.tags → u.current ≡ s.current → u.core ≡ with_instance s.core → IsWhole u
 whole_more s u whole new tags current core = whole_still s u whole (subst (λ g. KeepsTags s.tags g) (sym tags) (keeps_tags s)) current
     (subst (λ c. IsSimple c) (sym core) (simple_more s.core whole.simple new))
     (λ none. subst (λ c. NoneRuns c) (sym core) (none_runs_more s.core none))
@@ -282,7 +282,7 @@ few_started : (e : Callee) (words : List ℕ) (s : Core) → HasFewGroups s → 
 unfolding call_started push_high set_place on_thread add_thread add_call add_group
 few_started e words s few = omega arith
 
-pub whole_started : (s u : Shown) (e : Callee) (words : List ℕ) → IsWhole s → KeepsTags s.tags u.tags → u.current ≡ s.current → s.core.trapped ≡ false → is_some (get s.core.instances e.instance) ≡ true → is_some (get s.core.thread_handles e.instance) ≡ true → u.core ≡ call_started e kind.Callback words s.core → IsWhole u
+pub whole_started : (s u : StateView) (e : Callee) (words : List ℕ) → IsWhole s → KeepsTags s.tags u.tags → u.current ≡ s.current → s.core.trapped ≡ false → is_some (get s.core.instances e.instance) ≡ true → is_some (get s.core.thread_handles e.instance) ≡ true → u.core ≡ call_started e kind.Callback words s.core → IsWhole u
 whole_started s u e words whole tags current untrapped there tabled core = whole_still s u whole tags current
     (subst (λ c. IsSimple c) (sym core) (call_started_simple s.core e words whole.simple untrapped there tabled))
     (λ none. subst (λ c. NoneRuns c) (sym core) (call_started_none_runs s.core e words none))
@@ -290,8 +290,8 @@ whole_started s u e words whole tags current untrapped there tabled core = whole
     (λ few. subst (λ c. HasFewGroups c) (sym core) (few_started e words s.core few))
 
 -- an instance that is seen is there
-pub true_there : (s w : Shown) (i : ℕ) → s ≡ w → IsSome (get w.core.instances i) → is_some (get s.core.instances i) ≡ true
-true_there s w i is there = some_true (get s.core.instances i) (subst (λ (w : Shown). IsSome (get w.core.instances i)) (sym is) there)
+pub true_there : (s w : StateView) (i : ℕ) → s ≡ w → IsSome (get w.core.instances i) → is_some (get s.core.instances i) ≡ true
+true_there s w i is there = some_true (get s.core.instances i) (subst (λ (w : StateView). IsSome (get w.core.instances i)) (sym is) there)
   where
     some_true : {X : Type 0} (o : Option X) → IsSome o → is_some o ≡ true
     some_true None is = absurd (cc)

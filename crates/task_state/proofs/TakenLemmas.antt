@@ -17,7 +17,7 @@ use Rattle.task_machine.proofs.MapLemmas.{get-remove_same}
 use Rattle.task_rules.specs.Calls.{with_thread_handle}
 use Rattle.task_rules.specs.Takes.{popped}
 use Rattle.task_core.specs.Queue.{IsNext}
-use Rattle.task_core.specs.Shown.{IsLive, Shown, call_number, number_of}
+use Rattle.task_core.specs.StateView.{IsLive, StateView, call_number, number_of}
 use Rattle.task_core.specs.declared.entry.QualifiedThreadId.{QualifiedThreadId}
 use Rattle.task_simple.specs.Forms.{start_done, start_put_off, trap_done}
 use Rattle.task_simple.specs.Simple.{IsSimple, NoneRuns, stands}
@@ -27,8 +27,8 @@ use Rattle.task_simple.proofs.QueueLemmas.{first_ready, high_is}
 use Rattle.task_simple.proofs.ReadLemmas.{task_of_is}
 use Rattle.task_simple.proofs.SimpleLemmas.{call_there, put_off_none_runs, put_off_simple, start_runs, start_simple, thread_there, trap_taken_none_runs, trap_taken_simple}
 use Rattle.task_state.specs.Moves.{Takes, IsFirst}
-use Rattle.task_state.specs.Seen.{stopped_with}
-use Rattle.task_state.specs.State.{HasFewGroups, IsWhole, Runs, running_of, seen}
+use Rattle.task_state.specs.StepView.{stopped_with}
+use Rattle.task_state.specs.State.{HasFewGroups, IsWhole, Runs, running_of, step_view}
 use Rattle.task_state.specs.declared.taken.Taken.TheVariants as taken
 
 -- ---- The thread, its call and its instance
@@ -68,7 +68,7 @@ module _ (s : Core) (simple : IsSimple s) (n : ℕ) (next : IsFirst n s) where
 
 -- ---- The same of an id
 
-module _ (s : Shown) (simple : IsSimple s.core) (id : QualifiedThreadId) (next : IsNext s id) where
+module _ (s : StateView) (simple : IsSimple s.core) (id : QualifiedThreadId) (next : IsNext s id) where
   abbrev n : ℕ
   n = number_of s.tags id
 
@@ -105,12 +105,12 @@ instances_begun k i m j s is = is
 
 -- ---- What is seen of it
 
-none_running : (s : Shown) (o : Option QualifiedThreadId) → s.current ≡ o → Runs s o → option_map (λ (id : QualifiedThreadId). number_of s.tags id) o ≡ None → (s.current ≡ None) × NoneRuns s.core
+none_running : (s : StateView) (o : Option QualifiedThreadId) → s.current ≡ o → Runs s o → option_map (λ (id : QualifiedThreadId). number_of s.tags id) o ≡ None → (s.current ≡ None) × NoneRuns s.core
 none_running s None is runs none = (is, runs)
 none_running s (Some id) is runs none = absurd (cc)
 
 -- where no thread runs, none is current
-pub stopped_is : (s : Shown) → IsWhole s → running_of s ≡ None → (s.current ≡ None) × NoneRuns s.core
+pub stopped_is : (s : StateView) → IsWhole s → running_of s ≡ None → (s.current ≡ None) × NoneRuns s.core
 stopped_is s whole none = none_running s s.current refl whole.runs none
 
 -- where nothing was made the groups are as few
@@ -118,13 +118,13 @@ pub few_made : (c d : Core) → c.made ≡ d.made → HasFewGroups d → HasFewG
 few_made c d same few = subst (λ (m : Made). m.groups ≤ m.threads) (sym same) few
 
 -- a state in which none runs
-pub whole_stopped : (t : Shown) → IsSimple t.core → NoneRuns t.core → HasFewGroups t.core → t.current ≡ None → IsWhole t
+pub whole_stopped : (t : StateView) → IsSimple t.core → NoneRuns t.core → HasFewGroups t.core → t.current ≡ None → IsWhole t
 whole_stopped t simple none few is = record { simple = simple; few = few; runs = subst (λ o. Runs t o) (sym is) none }
 
-pub seen_stopped : (t : Shown) (c : Core) → t.core ≡ c → t.current ≡ None → seen t ≡ stopped_with c
+pub seen_stopped : (t : StateView) (c : Core) → t.core ≡ c → t.current ≡ None → step_view t ≡ stopped_with c
 seen_stopped t c core current = rw (core, current) refl
 
-module _ (s : Shown) (whole : IsWhole s) (none : running_of s ≡ None) (id : QualifiedThreadId) (next : IsNext s id) where
+module _ (s : StateView) (whole : IsWhole s) (none : running_of s ≡ None) (id : QualifiedThreadId) (next : IsNext s id) where
   abbrev m : ℕ
   m = number_of s.tags id
 
@@ -140,7 +140,7 @@ module _ (s : Shown) (whole : IsWhole s) (none : running_of s ≡ None) (id : Qu
   pub instance_next : (c : Call) → get s.core.calls (call_number s.tags id.task) ≡ Some c → instance_of m s.core ≡ c.callee.instance
   instance_next c at = instance_first s.core whole.simple m next.next c (ap (get s.core.calls) (sym (call_next s whole.simple id next)) ∙ at)
 
-  module _ (t : Shown) (i : ℕ) (at : instance_of m s.core ≡ i) (current : t.current ≡ s.current) where
+  module _ (t : StateView) (i : ℕ) (at : instance_of m s.core ≡ i) (current : t.current ≡ s.current) where
     stopped : t.current ≡ None
     stopped = current ∙ (stopped_is s whole none).0
 
@@ -152,7 +152,7 @@ module _ (s : Shown) (whole : IsWhole s) (none : running_of s ≡ None) (id : Qu
           (few_made t.core s.core (ap (λ (c : Core). c.made) core ∙ made-start_put_off m b ∙ made-popped_high s.core) whole.few)
           stopped
 
-      pub takes_put_off : Takes (seen s) (taken.PutOff m) (seen t)
+      pub takes_put_off : Takes (step_view s) (taken.PutOff m) (step_view t)
       takes_put_off = (next.next, (shut_is i true at shut, seen_stopped t _ core stopped))
 
     module _ (enters : may_not_enter i s.core ≡ false) (full : at_handle_limit s.core ≡ true) (core : t.core ≡ trap_done m b) where
@@ -163,10 +163,10 @@ module _ (s : Shown) (whole : IsWhole s) (none : running_of s ≡ None) (id : Qu
           (few_made t.core s.core (ap (λ (c : Core). c.made) core ∙ made-trap_done m b ∙ made-popped_high s.core) whole.few)
           stopped
 
-      pub takes_refused : Takes (seen s) (taken.NoHandle m) (seen t)
+      pub takes_refused : Takes (step_view s) (taken.NoHandle m) (step_view t)
       takes_refused = (next.next, (shut_is i false at enters, (at_handle_limit-popped_high s.core ∙ full, seen_stopped t _ core stopped)))
 
-  module _ (t : Shown) (i : ℕ) (at : instance_of m s.core ≡ i) (enters : may_not_enter i s.core ≡ false) (room : at_handle_limit s.core ≡ false) (core : t.core ≡ start_done m b) (tags : t.tags ≡ s.tags) (current : t.current ≡ Some id) where
+  module _ (t : StateView) (i : ℕ) (at : instance_of m s.core ≡ i) (enters : may_not_enter i s.core ≡ false) (room : at_handle_limit s.core ≡ false) (core : t.core ≡ start_done m b) (tags : t.tags ≡ s.tags) (current : t.current ≡ Some id) where
     simple_begun : IsSimple t.core
     simple_begun = subst (λ c. IsSimple c) (sym core) (start_simple s.core whole.simple m next.next quiet (shut_is i false at enters))
 
@@ -187,8 +187,8 @@ module _ (s : Shown) (whole : IsWhole s) (none : running_of s ≡ None) (id : Qu
     pub whole_begun : IsWhole t
     whole_begun = record { simple = simple_begun; few = few_made t.core s.core (ap (λ (c : Core). c.made) core ∙ made-start_done m b ∙ made-popped_high s.core) whole.few; runs = subst (λ o. Runs t o) (sym current) (live_begun, ap (λ k. place_of k t.core) number_begun ∙ runs_begun) }
 
-    seen_begun : seen t ≡ record { core = start_done m b; running = Some m }
+    seen_begun : step_view t ≡ record { core = start_done m b; running = Some m }
     seen_begun = rw (current, core, tags) refl
 
-    pub takes_begun : Takes (seen s) (taken.Runs m) (seen t)
+    pub takes_begun : Takes (step_view s) (taken.Runs m) (step_view t)
     takes_begun = (next.next, (shut_is i false at enters, (at_handle_limit-popped_high s.core ∙ room, seen_begun)))

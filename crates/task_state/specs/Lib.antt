@@ -1,4 +1,4 @@
-pub mod Seen
+pub mod StepView
 pub mod Context
 pub mod State
 pub mod Moves

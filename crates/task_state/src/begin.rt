@@ -1,7 +1,7 @@
 //! How a call begins, and what becomes of a start that was taken.
 ghost use Rattle.std.specs.Prelude.{◌≡◌, ◌≤◌, length, Some, IsSome, false, OnOk, OnErr};
 ghost use Rattle.task_core.specs.Queue.{IsNext};
-ghost use Rattle.task_core.specs.Shown.{IsLive, KeepsTags, KeepsTagsBut, number_of, thread_number, call_number};
+ghost use Rattle.task_core.specs.StateView.{IsLive, KeepsTags, KeepsTagsBut, number_of, thread_number, call_number};
 ghost use Rattle.task_machine.specs.declared.words.Mark.TheVariants as mark;
 ghost use Rattle.task_machine.specs.Read.{at_handle_limit, instance_of};
 ghost use Rattle.task_rules.specs.Scripts.{registers_for};

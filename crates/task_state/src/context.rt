@@ -3,14 +3,14 @@ ghost use Rattle.task_machine.specs.Maps.{get};
 ghost use Rattle.task_machine.specs.Read.{position_of, registers_of, word_of};
 ghost use Rattle.task_machine.specs.Write.{set_word};
 ghost use Rattle.task_state.specs.Context.{in_context};
-ghost use Rattle.task_core.specs.Shown.{with_core};
+ghost use Rattle.task_core.specs.StateView.{with_core};
 ghost use Rattle.task_state.specs.State.{running_of};
 
 use crate::state::ConcurrentState;
 
 /// A thread's context: its place in its script, from 0, and its registers. A loop over ops works
 /// with it apart from the thread's record, and writes it back in the end.
-#[derive(Clone, Copy, Debug)]
+#[derive(Clone, Copy)]
 pub struct ThreadContext {
     pub position: u32,
     pub registers: [u64; 16],

@@ -4,7 +4,7 @@ ghost use Rattle.task_machine.specs.Maps.{get};
 ghost use Rattle.task_machine.specs.Read.{fits, task_of};
 ghost use Rattle.task_machine.specs.Write.{set_trapped};
 ghost use Rattle.task_rules.specs.Calls.{next_thread};
-ghost use Rattle.task_core.specs.Shown.{IsLive, KeepsTags, number_of};
+ghost use Rattle.task_core.specs.StateView.{IsLive, KeepsTags, number_of};
 ghost use Rattle.task_state.specs.Guest.{Begins, entries_of, task_begun};
 
 use crate::state::ConcurrentState;

@@ -12,6 +12,3 @@ pub use state::{ConcurrentState, Running};
 pub use taken::Taken;
 pub use task_core::{NoMemory, QualifiedThreadId, TaskError};
 pub use task_machine::{ExportKind, Mark};
-
-#[cfg(test)]
-mod tests;

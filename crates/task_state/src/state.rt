@@ -7,11 +7,11 @@ ghost use Rattle.task_machine.specs.Write.{set_trapped, take_result};
 ghost use Rattle.task_rules.specs.Data.{assigned, moved_to, stored};
 ghost use Rattle.task_rules.specs.Scripts.{value_of};
 ghost use Rattle.task_core.specs.Image.{IsTableOf};
-ghost use Rattle.task_core.specs.Shown.{KeepsTagsBut, nothing, with_capacity, with_core, with_handle_limit, with_instance};
+ghost use Rattle.task_core.specs.StateView.{KeepsTagsBut, nothing, with_capacity, with_core, with_handle_limit, with_instance};
 ghost use Rattle.task_simple.specs.Forms.{call_started, exit_done, return_done, trap_done};
 ghost use Rattle.task_simple.specs.Simple.{IsSimple, NoneRuns};
-ghost use Rattle.task_state.specs.Seen.{stopped_with};
-ghost use Rattle.task_state.specs.State.{Becomes, running_of, seen};
+ghost use Rattle.task_state.specs.StepView.{stopped_with};
+ghost use Rattle.task_state.specs.State.{Becomes, running_of, step_view};
 ghost use Rattle.task_state.specs.Moves.{IsAbout, Takes, Exits, NamesAfter};
 
 use crate::begin::{begin, put_off, refuse, registers_of};
@@ -29,11 +29,11 @@ pub struct ConcurrentState {
 }
 
 impl Model for ConcurrentState {
-    ghost use Rattle.task_core.specs.Shown.{Shown, shown_code};
+    ghost use Rattle.task_core.specs.StateView.{StateView, state_view_code};
 
-    ghost Value = { Shown };
+    ghost Value = { StateView };
 
-    ghost coded = { shown_code };
+    ghost coded = { state_view_code };
 
     ghost use Rattle.task_state.specs.State.{IsWhole};
 
@@ -44,7 +44,7 @@ impl Model for ConcurrentState {
 
 /// What the running thread is about to do: its number, its task's export, its place in the script,
 /// and whether its task has ended.
-#[derive(Clone, Copy, Debug)]
+#[derive(Clone, Copy)]
 pub struct Running {
     pub number: u64,
     pub callee: Callee,
@@ -180,7 +180,7 @@ impl ConcurrentState {
     /// memory is wanting, the state is as before.
     pub fn take_start(&mut self) -> Result<Taken, NoMemory>
         requires { running_of self.old ≡ None }
-        ensures ok { IfOk result (λ taken. Takes (seen self.old) taken (seen self.new)) }
+        ensures ok { IfOk result (λ taken. Takes (step_view self.old) taken (step_view self.new)) }
         ensures tags { IfOk result (λ taken. NamesAfter taken self.old.tags self.new.tags) }
         ensures err { OnErr result (self.new ≡ self.old) }
     {
@@ -214,7 +214,7 @@ impl ConcurrentState {
     /// What the running thread is about to do, if one runs.
     pub fn running(&self) -> Option<Running>
         ensures none { IfNone result (running_of self.now ≡ None) }
-        ensures some { IfSome result (λ r. IsAbout (seen self.now) r) }
+        ensures some { IfSome result (λ r. IsAbout (step_view self.now) r) }
     {
         let id = self.core.current()?;
         let thread = self.core.thread(id.thread);
@@ -267,7 +267,7 @@ impl ConcurrentState {
     /// its call are gone, and its group where no other call is of it.
     pub fn exit(&mut self)
         requires runs { IsSome (running_of self.old) }
-        ensures exits { IfSome (running_of self.old) (λ n. Exits n (seen self.old) (seen self.new)) }
+        ensures exits { IfSome (running_of self.old) (λ n. Exits n (step_view self.old) (step_view self.new)) }
         ensures tags { IfSome (running_of self.old) (λ n. KeepsTagsBut n n self.old.tags self.new.tags) }
     {
         let Some(id) = self.core.current() else {
@@ -287,9 +287,9 @@ impl ConcurrentState {
 
     /// The step of the running thread trapped: its strand, which today is the thread alone, is
     /// gone, and the store is trapped.
-    pub fn strike(&mut self)
+    pub fn trap_running(&mut self)
         requires runs { IsSome (running_of self.old) }
-        ensures state { IfSome (running_of self.old) (λ n. seen self.new ≡ stopped_with (trap_done n self.old.core)) }
+        ensures state { IfSome (running_of self.old) (λ n. step_view self.new ≡ stopped_with (trap_done n self.old.core)) }
         ensures tags { IfSome (running_of self.old) (λ n. KeepsTagsBut n 0 self.old.tags self.new.tags) }
     {
         let Some(id) = self.core.current() else {

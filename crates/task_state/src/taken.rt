@@ -1,5 +1,5 @@
 /// What came of the taking of an entry. A thread is named by its number.
-#[derive(Clone, Copy, Debug, PartialEq, Eq)]
+#[derive(Clone, Copy)]
 pub enum Taken {
     /// No entry stands.
     Nothing,

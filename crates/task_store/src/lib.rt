@@ -7,6 +7,3 @@ mod store;
 pub use access::{Access, Project, Whole};
 pub use store::{ComponentInstanceId, Store};
 pub use task_state::NoMemory;
-
-#[cfg(test)]
-mod tests;

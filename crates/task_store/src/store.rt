@@ -2,7 +2,7 @@ ghost use Rattle.std.specs.Prelude.{◌≡◌, ◌+◌, ◌-◌, ◌<◌, ◌≤
 ghost use Rattle.task_machine.specs.Maps.{size};
 ghost use Rattle.task_machine.specs.Write.{set_trapped};
 ghost use Rattle.task_core.specs.Image.{IsTableOf};
-ghost use Rattle.task_core.specs.Shown.{nothing, with_capacity, with_core, with_handle_limit, with_instance};
+ghost use Rattle.task_core.specs.StateView.{nothing, with_capacity, with_core, with_handle_limit, with_instance};
 ghost use Rattle.task_state.specs.State.{Becomes};
 
 use std::alloc::Global;
@@ -11,7 +11,7 @@ use task_state::{ConcurrentState, NoMemory};
 use task_table::ResourceTable;
 
 /// Names an instance by its number, from 0.
-#[derive(Clone, Copy, Debug, PartialEq, Eq)]
+#[derive(Clone, Copy)]
 pub struct ComponentInstanceId(pub u32);
 
 /// A store of a host's value `T` and host works of the type `H`.

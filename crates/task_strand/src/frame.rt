@@ -1,5 +1,5 @@
 /// How far the op at a frame's place has come.
-#[derive(Clone, Copy, Debug, PartialEq, Eq)]
+#[derive(Clone, Copy)]
 pub enum Half {
     /// The op hasn't begun.
     Fresh,
@@ -10,7 +10,7 @@ pub enum Half {
 }
 
 /// One frame of a strand: where a thread stands in its script. The registers stand in the thread's entry.
-#[derive(Clone, Copy, Debug, PartialEq, Eq)]
+#[derive(Clone, Copy)]
 pub struct Frame {
     /// The thread's number, which is never given again.
     pub thread: u64,
@@ -23,12 +23,8 @@ pub struct Frame {
 }
 
 /// Whether a strand that stops keeps the store or gives it back.
-#[derive(Clone, Copy, Debug, PartialEq, Eq)]
+#[derive(Clone, Copy)]
 pub enum StoreFiberYield {
     KeepStore,
     ReleaseStore,
 }
-
-/// There is no memory for one more frame.
-#[derive(Clone, Copy, Debug, PartialEq, Eq)]
-pub struct NoMemory;

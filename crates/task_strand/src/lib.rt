@@ -3,8 +3,7 @@
 
 mod frame;
 mod strand;
-#[cfg(test)]
-mod tests;
 
-pub use frame::{Frame, Half, NoMemory, StoreFiberYield};
+pub use frame::{Frame, Half, StoreFiberYield};
 pub use strand::{MAX_FRAMES, Strand};
+pub use task_machine::NoMemory;

@@ -3,9 +3,10 @@ ghost use Rattle.std.specs.Option.{option_to_list, option_copied_mut};
 ghost use Rattle.std.specs.Borrow.{sem};
 ghost use Rattle.task_strand.specs.Strand.{top_of, foot_of};
 
-use crate::frame::{Frame, NoMemory};
+use crate::frame::Frame;
 use std::alloc::Global;
 use std::marker::Model;
+use task_machine::NoMemory;
 
 /// How many frames a strand may have.
 pub const MAX_FRAMES: u32 = 4_294_967_295;

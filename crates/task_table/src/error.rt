@@ -1,5 +1,5 @@
 /// Why a call of a `ResourceTable` is refused. A refused call leaves the table as it was.
-#[derive(Clone, Copy, Debug, PartialEq, Eq)]
+#[derive(Clone, Copy)]
 pub enum ResourceTableError {
     /// There was no memory.
     NoMemory,
@@ -14,7 +14,7 @@ pub enum ResourceTableError {
 }
 
 /// A refused `push`: the item comes back.
-#[derive(Debug, Drop)]
+#[derive(Drop)]
 pub struct PushError<I> {
     /// What was to be pushed.
     pub item: I,

@@ -5,7 +5,7 @@ use std::marker::PhantomData;
 /// Names an entry of the kind `K`: its place in the table, which is given again once the entry is deleted, and a serial, which is not.
 ///
 /// Ids are ordered by place, then by serial, whatever their kind.
-#[derive_where(Clone, Copy, Debug, PartialEq, Eq, PartialOrd, Ord)]
+#[derive_where(Clone, Copy, PartialEq, Eq, PartialOrd, Ord)]
 pub struct TableId<K> {
     /// The entry's place, from 0.
     pub rep: u32,

@@ -9,8 +9,6 @@ mod iter;
 mod kind;
 mod place;
 mod table;
-#[cfg(test)]
-mod tests;
 
 pub use error::{PushError, ResourceTableError};
 pub use id::TableId;

@@ -15,7 +15,7 @@ pub enum ThreadKey {}
 pub enum GroupKey {}
 
 /// What an event can come from. Waitables are ordered by their kind, as written here, then by their id.
-#[derive(Clone, Copy, Debug, PartialEq, Eq, PartialOrd, Ord)]
+#[derive(Clone, Copy, PartialEq, Eq, PartialOrd, Ord)]
 pub enum Waitable {
     /// A host work.
     Host(TableId<HostTaskKey>),
@@ -26,7 +26,7 @@ pub enum Waitable {
 }
 
 /// What every waitable has, whatever its kind.
-#[derive(Clone, Copy, Debug, PartialEq, Eq)]
+#[derive(Clone, Copy)]
 pub struct WaitableCommon {
     /// The event that wasn't handed out yet.
     pub event: Option<Event>,
@@ -37,7 +37,7 @@ pub struct WaitableCommon {
 }
 
 /// A thread that waits at a set. Waiters are ordered by the place of their task, then of their thread, then by the thread's serial.
-#[derive(Clone, Copy, Debug, PartialEq, Eq, PartialOrd, Ord)]
+#[derive(Clone, Copy, PartialEq, Eq, PartialOrd, Ord)]
 pub struct WaiterKey {
     /// The place of the task in the table.
     pub task: u32,

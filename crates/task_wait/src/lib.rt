@@ -8,8 +8,6 @@ mod keys;
 mod laws;
 mod links;
 mod set;
-#[cfg(test)]
-mod tests;
 
 pub use codes::{BLOCKED, EXIT, Event, WAIT, YIELD, unpack_callback_code};
 pub use keys::{
@@ -20,6 +18,6 @@ pub use laws::{
     callback_code_unpacks, others_stay, packed_status_unpacks, waitables_by_kind_and_id,
     waiters_by_task_and_thread,
 };
-pub use links::{Links, NoMemory, Node};
+pub use links::{Links, Node};
 pub use set::WaitableSet;
-pub use task_machine::Status;
+pub use task_machine::{NoMemory, Status};

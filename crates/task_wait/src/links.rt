@@ -5,13 +5,10 @@ ghost use Rattle.task_wait.specs.Rings.{HasRoom, IsSound, entry_at, shown, new_s
 
 use std::alloc::{AllocError, Global};
 use std::marker::Model;
-
-/// There was no memory for a new chain or node.
-#[derive(Clone, Copy, Debug, PartialEq, Eq)]
-pub struct NoMemory;
+use task_machine::NoMemory;
 
 /// Names a node, which is a place in a chain that its owner made before.
-#[derive(Clone, Copy, Debug, PartialEq, Eq)]
+#[derive(Clone, Copy)]
 pub struct Node {
     /// The node's number.
     pub index: usize,

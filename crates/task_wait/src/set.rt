@@ -5,7 +5,8 @@ ghost use Rattle.task_wait.specs.Sets.{IsAscending, IsLeast, is_in, placed, plac
 ghost use Rattle.std.specs.Ordering.{is_lt};
 
 use crate::keys::{Waitable, WaiterKey};
-use crate::links::{Links, NoMemory, Node};
+use crate::links::{Links, Node};
+use task_machine::NoMemory;
 
 /// A waitable set: the members that are ready, the threads that wait at it, and whether it is a sync one.
 ///

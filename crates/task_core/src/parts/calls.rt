@@ -5,13 +5,14 @@ ghost use Rattle.task_rules.specs.Ends.{leaves_no_result};
 ghost use Rattle.task_machine.specs.Maps.{get};
 ghost use Rattle.task_machine.specs.Write.{set_started, set_starting_published, set_end};
 ghost use Rattle.task_machine.proofs.FieldLemmas.{put_call};
-ghost use Rattle.task_core.specs.Shown.{IsLive, number_of, call_number, with_core};
+ghost use Rattle.task_core.specs.StateView.{IsLive, number_of, call_number, with_core};
 ghost use Rattle.task_core.specs.Simple.{IsPlainCall, HasGroup, IsSimple};
 
-use crate::entry::{GuestTaskKey, QualifiedThreadId};
+use crate::entry::QualifiedThreadId;
 use crate::state::TaskCore;
 use task_machine::{Call, CallEnd, ExportKind};
 use task_table::TableId;
+use task_wait::GuestTaskKey;
 
 impl TaskCore {
     /// The record of a call.

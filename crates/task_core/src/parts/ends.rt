@@ -4,14 +4,15 @@ ghost use Rattle.task_machine.specs.Read.{is_entry_of, strand_of};
 ghost use Rattle.task_machine.specs.Moves.{group_settled};
 ghost use Rattle.task_machine.specs.Write.{remove_thread, remove_call, remove_group, set_trapped};
 ghost use Rattle.task_rules.specs.Step.{struck};
-ghost use Rattle.task_core.specs.Shown.{IsLive, KeepsTags, KeepsTagsBut, number_of, thread_number, call_number, with_core, without_groups};
+ghost use Rattle.task_core.specs.StateView.{IsLive, KeepsTags, KeepsTagsBut, number_of, thread_number, call_number, with_core, without_groups};
 ghost use Rattle.task_core.specs.Simple.{HasHandle, IsHandle};
 
-use crate::entry::{GuestTaskKey, QualifiedThreadId, ThreadKey};
+use crate::entry::QualifiedThreadId;
 use crate::parts::groups::count_down;
 use crate::state::TaskCore;
 use std::alloc::AllocError;
 use task_table::TableId;
+use task_wait::{GuestTaskKey, ThreadKey};
 
 impl TaskCore {
     /// Takes a thread, which stands in no queue, and its sync-call set out of the table.

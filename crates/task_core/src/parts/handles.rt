@@ -3,13 +3,13 @@ ghost use Rattle.task_machine.specs.Maps.{get};
 ghost use Rattle.task_machine.specs.Read.{at_handle_limit, new_thread_handle, thread_at};
 ghost use Rattle.task_machine.specs.Write.{give_thread_handle, free_thread_handle, set_thread_handle};
 ghost use Rattle.task_rules.specs.Calls.{with_thread_handle};
-ghost use Rattle.task_core.specs.Shown.{thread_number, with_core};
+ghost use Rattle.task_core.specs.StateView.{thread_number, with_core};
 
-use crate::entry::ThreadKey;
 use crate::state::TaskCore;
 use std::alloc::AllocError;
 use task_handles::Rep;
 use task_table::TableId;
+use task_wait::ThreadKey;
 
 impl TaskCore {
     // Gives the next thread handle of an instance.

@@ -1,5 +1,5 @@
 ghost use Rattle.std.specs.Prelude.{◌↔◌, IsTrue};
-ghost use Rattle.task_core.specs.Shown.{IsLive};
+ghost use Rattle.task_core.specs.StateView.{IsLive};
 
 use crate::entry::QualifiedThreadId;
 use crate::state::TaskCore;

@@ -3,7 +3,7 @@ ghost use Rattle.task_machine.specs.Maps.{get};
 ghost use Rattle.task_machine.specs.Read.{may_not_enter, word_of};
 ghost use Rattle.task_machine.specs.Write.{set_do_not_enter, set_word};
 ghost use Rattle.task_machine.proofs.FieldLemmas.{put_instance};
-ghost use Rattle.task_core.specs.Shown.{with_core};
+ghost use Rattle.task_core.specs.StateView.{with_core};
 
 use crate::parts::words::{put_word, word_in};
 use crate::state::TaskCore;

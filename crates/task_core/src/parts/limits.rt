@@ -1,7 +1,7 @@
 ghost use Rattle.std.specs.Prelude.{◌≡◌, ◌≤◌};
 ghost use Rattle.task_machine.specs.Read.{fits, at_handle_limit};
 ghost use Rattle.task_core.specs.Image.{IsTableOf};
-ghost use Rattle.task_core.specs.Shown.{with_core, with_capacity, with_handle_limit};
+ghost use Rattle.task_core.specs.StateView.{with_core, with_capacity, with_handle_limit};
 
 use crate::entry::Entry;
 use crate::state::TaskCore;

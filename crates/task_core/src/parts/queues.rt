@@ -4,7 +4,7 @@ ghost use Rattle.task_machine.specs.declared.words.Mark.TheVariants as mark;
 ghost use Rattle.task_machine.specs.Maps.{get};
 ghost use Rattle.task_rules.specs.Takes.{popped};
 ghost use Rattle.task_machine.specs.Write.{push_high, give_result, take_result};
-ghost use Rattle.task_core.specs.Shown.{IsLive, number_of, with_core, with_current};
+ghost use Rattle.task_core.specs.StateView.{IsLive, number_of, with_core, with_current};
 ghost use Rattle.task_core.specs.Queue.{IsNext, TakesNext};
 
 use crate::entry::QualifiedThreadId;

@@ -5,14 +5,11 @@ ghost use Rattle.task_machine.specs.declared.records.Script.TheVariants as scrip
 ghost use Rattle.task_machine.specs.Maps.{get};
 ghost use Rattle.task_machine.specs.Write.{add_group, add_call};
 ghost use Rattle.task_rules.specs.Calls.{new_call, new_thread, next_thread};
-ghost use Rattle.task_core.specs.Shown.{IsLive, KeepsTags, KeepsTagsBut, number_of, call_number, thread_number, with_core};
+ghost use Rattle.task_core.specs.StateView.{IsLive, KeepsTags, KeepsTagsBut, number_of, call_number, thread_number, with_core};
 ghost use Rattle.task_core.specs.Simple.{IsPlainCall, IsPlainThread, IsNewGroup};
 ghost use Rattle.task_core.specs.Start.{IsFree, IsUnnamed, thread_counted, thread_uncounted, group_taken_back, put_new_thread, thread_started, counted_call_started, main_call_started};
 
-use crate::entry::{
-    GroupKey, GuestTask, GuestTaskKey, GuestThread, LiveGroup, QualifiedThreadId, SetKey, SyncSet,
-    TaskGroup, ThreadKey,
-};
+use crate::entry::{GuestTask, GuestThread, LiveGroup, QualifiedThreadId, SyncSet, TaskGroup};
 use crate::parts::groups::count_up;
 use crate::state::TaskCore;
 use std::alloc::AllocError;
@@ -20,6 +17,7 @@ use task_machine::{
     Call, Callee, Caller, ExportKind, Goal, HowFar, Join, Mark, Place, Script, Thread, Why,
 };
 use task_table::TableId;
+use task_wait::{GroupKey, GuestTaskKey, SetKey, ThreadKey};
 
 // A call by main of an export, which has not begun.
 fn call_by_main(callee: Callee, kind: ExportKind, group: u64) -> Call

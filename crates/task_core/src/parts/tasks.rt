@@ -4,16 +4,17 @@ ghost use Rattle.task_machine.specs.declared.records.Script.TheVariants as scrip
 ghost use Rattle.task_machine.specs.Maps.{get};
 ghost use Rattle.task_machine.specs.Write.{add_group};
 ghost use Rattle.task_rules.specs.Calls.{call_made, new_call, new_thread, next_thread};
-ghost use Rattle.task_core.specs.Shown.{IsLive, KeepsTags, KeepsTagsBut, number_of, call_number};
+ghost use Rattle.task_core.specs.StateView.{IsLive, KeepsTags, KeepsTagsBut, number_of, call_number};
 ghost use Rattle.task_core.specs.Simple.{IsPlainCall};
 ghost use Rattle.task_core.specs.Start.{IsFree, put_new_thread, counted_call_made};
 
-use crate::entry::{GuestTaskKey, QualifiedThreadId};
+use crate::entry::QualifiedThreadId;
 use crate::parts::starts::first_thread;
 use crate::state::TaskCore;
 use std::alloc::AllocError;
 use task_machine::{Call, Callee, Caller, ExportKind, Goal, Join};
 use task_table::TableId;
+use task_wait::GuestTaskKey;
 
 // A call of an export, which has not begun and whose result goes nowhere.
 fn new_task(caller: Caller, callee: Callee, kind: ExportKind, group: u64) -> Call

@@ -4,14 +4,14 @@ ghost use Rattle.task_machine.specs.Read.{register_of};
 ghost use Rattle.task_machine.specs.Write.{set_register, set_position, set_how_far, set_script, set_place};
 ghost use Rattle.task_machine.proofs.FieldLemmas.{put_thread};
 ghost use Rattle.task_core.specs.Context.{with_context};
-ghost use Rattle.task_core.specs.Shown.{thread_number, with_core};
+ghost use Rattle.task_core.specs.StateView.{thread_number, with_core};
 ghost use Rattle.task_core.specs.Simple.{IsPlainThread};
 
-use crate::entry::ThreadKey;
 use crate::parts::words::{put_word, word_in};
 use crate::state::TaskCore;
 use task_machine::{HowFar, Place, Script, Thread};
 use task_table::TableId;
+use task_wait::ThreadKey;
 
 impl TaskCore {
     /// The record of a thread.

@@ -9,10 +9,10 @@ use Rattle.task_machine.specs.declared.records.Script.TheVariants as script
 use Rattle.task_rules.specs.Scripts.{script_in}
 use Rattle.task_machine.specs.Read.{position_of, registers_of}
 use Rattle.task_state.specs.Context.{in_context}
-use Rattle.task_core.specs.Shown.{with_core as with_shown_core}
-use Rattle.task_state.specs.State.{seen}
-use Rattle.task_state.specs.Seen.{Seen, with_core}
-use Rattle.task_loop.specs.declared.step.Phase.TheVariants as phase
+use Rattle.task_core.specs.StateView.{with_core as with_shown_core}
+use Rattle.task_state.specs.State.{step_view}
+use Rattle.task_state.specs.StepView.{StepView, with_core}
+use Rattle.task_machine.specs.declared.records.Turn.TheVariants as turn
 use Rattle.task_loop.specs.Drive.{KeepsOn}
 use Rattle.task_loop.proofs.RunLemmas.{if_some, some_is}
 use Rattle.task_loop.proofs.StretchLemmas.{begins, keeps_none, keeps_on, op_there, script_there, store_in}
@@ -20,7 +20,7 @@ use Rattle.task_loop.proofs.stretch.stretch.Goals as goal
 
 pub ops-init : goal.ops-init
 ops-init g c =
-    let s = seen c.args.store.now.state in
+    let s = step_view c.args.store.now.state in
     let r = c.in-Some.running in
     let about = c.in-Some.ensures.some in
     let x = c.context-context.result in
@@ -29,40 +29,40 @@ ops-init g c =
     let same = begins s c.is_whole.ensures.simple r about (c.is_whole.ensures.some r.number about.runs) x position registers in
     record {
       about = about;
-      on = subst (λ d. KeepsOn c.args.component.now (phase.Run r.number) s c.args.trace.now c.args.added (with_core d s) c.args.trace.now c.args.added) (sym same) (keeps_none c.args.component.now (phase.Run r.number) s c.args.trace.now c.args.added);
+      on = subst (λ d. KeepsOn c.args.component.now (turn.Run r.number) s c.args.trace.now c.args.added (with_core d s) c.args.trace.now c.args.added) (sym same) (keeps_none c.args.component.now (turn.Run r.number) s c.args.trace.now c.args.added);
     }
 
 pub returns-in_default-op_at-2-clause-on : goal.returns-in_default-op_at-2-clause-on
 returns-in_default-op_at-2-clause-on g c =
-    let s = seen c.args.store.now.state in
+    let s = step_view c.args.store.now.state in
     let r = c.in-Some.running in
-    let t = seen c.ops.store.state in
-    let written = ap seen (if_some (λ n. c.set_context.new.self ≡ with_shown_core (in_context n c.ops.context t.core) c.ops.store.state) t.running r.number c.ops.invariant.about.runs c.set_context.ensures) in
-    some_is (λ n. KeepsOn c.args.component.now (phase.Run n) s c.args.trace.now c.args.added (seen c.set_context.new.self) c.ops.trace c.ops.count) s.running r.number c.in-Some.ensures.some.runs
-    (subst (λ (u : Seen). KeepsOn c.args.component.now (phase.Run r.number) s c.args.trace.now c.args.added u c.ops.trace c.ops.count) (sym written) c.ops.invariant.on)
+    let t = step_view c.ops.store.state in
+    let written = ap step_view (if_some (λ n. c.set_context.new.self ≡ with_shown_core (in_context n c.ops.context t.core) c.ops.store.state) t.running r.number c.ops.invariant.about.runs c.set_context.ensures) in
+    some_is (λ n. KeepsOn c.args.component.now (turn.Run n) s c.args.trace.now c.args.added (step_view c.set_context.new.self) c.ops.trace c.ops.count) s.running r.number c.in-Some.ensures.some.runs
+    (subst (λ (u : StepView). KeepsOn c.args.component.now (turn.Run r.number) s c.args.trace.now c.args.added u c.ops.trace c.ops.count) (sym written) c.ops.invariant.on)
 
 pub returns-clause-on : goal.returns-clause-on
 returns-clause-on g c =
-    let s = seen c.args.store.now.state in
+    let s = step_view c.args.store.now.state in
     let r = c.in-Some.running in
-    let t = seen c.ops.store.state in
+    let t = step_view c.ops.store.state in
     let all : c.ops.count ≡ c.args.steps = omega (arith, c.ops-test.false) in
-    let written = ap seen (if_some (λ n. c.set_context-2.new.self ≡ with_shown_core (in_context n c.ops.context t.core) c.ops.store.state) t.running r.number c.ops.invariant.about.runs c.set_context-2.ensures) in
-    some_is (λ n. KeepsOn c.args.component.now (phase.Run n) s c.args.trace.now c.args.added (seen c.set_context-2.new.self) c.ops.trace c.args.steps) s.running r.number c.in-Some.ensures.some.runs
-    (subst (λ k. KeepsOn c.args.component.now (phase.Run r.number) s c.args.trace.now c.args.added (seen c.set_context-2.new.self) c.ops.trace k) all
-    (subst (λ (u : Seen). KeepsOn c.args.component.now (phase.Run r.number) s c.args.trace.now c.args.added u c.ops.trace c.ops.count) (sym written) c.ops.invariant.on))
+    let written = ap step_view (if_some (λ n. c.set_context-2.new.self ≡ with_shown_core (in_context n c.ops.context t.core) c.ops.store.state) t.running r.number c.ops.invariant.about.runs c.set_context-2.ensures) in
+    some_is (λ n. KeepsOn c.args.component.now (turn.Run n) s c.args.trace.now c.args.added (step_view c.set_context-2.new.self) c.ops.trace c.args.steps) s.running r.number c.in-Some.ensures.some.runs
+    (subst (λ k. KeepsOn c.args.component.now (turn.Run r.number) s c.args.trace.now c.args.added (step_view c.set_context-2.new.self) c.ops.trace k) all
+    (subst (λ (u : StepView). KeepsOn c.args.component.now (turn.Run r.number) s c.args.trace.now c.args.added u c.ops.trace c.ops.count) (sym written) c.ops.invariant.on))
 
 pub ops-preserved : goal.ops-preserved
 ops-preserved g c =
-    let s = seen c.args.store.now.state in
+    let s = step_view c.args.store.now.state in
     let r = c.in-Some.running in
-    let t = seen c.ops.store.state in
+    let t = step_view c.ops.store.state in
     let about = c.ops.invariant.about in
     let simple = c.is_whole-in-ops.ensures.simple in
     let at = c.is_whole-in-ops.ensures.some r.number about.runs in
     let x = c.ops.context in
     let y = c.computes_in-label.new.context in
-    let u = seen c.computes_in-label.new.store.state in
+    let u = step_view c.computes_in-label.new.store.state in
     let l = c.computes_in-label.result in
     let ends = ap length (script_there t simple r about at x c.args.component.now ∙ sym c.start_script-script.ensures) in
     let row = c.computes_in-label.ensures.row c.args.component.now ends in
@@ -72,7 +72,7 @@ ops-preserved g c =
     let on = keeps_on t simple r about at x c.args.component.now c.in-Some-Data-op_at.op l y u row (c.computes_in-label.ensures.about.runs ∙ sym about.runs) at_op s c.args.trace.now c.ops.trace c.args.added c.ops.count c.ops.invariant.on in
     record {
       about = c.computes_in-label.ensures.about;
-      on = subst (λ (ls : List Label). KeepsOn c.args.component.now (phase.Run r.number) s c.args.trace.now c.args.added (store_in r.number y u) ls (c.ops.count + 1)) (sym c.in-Ok.ensures.ok) on;
+      on = subst (λ (ls : List Label). KeepsOn c.args.component.now (turn.Run r.number) s c.args.trace.now c.args.added (store_in r.number y u) ls (c.ops.count + 1)) (sym c.in-Ok.ensures.ok) on;
     }
 
 pub computes_in-label-requires-clause-before : goal.computes_in-label-requires-clause-before

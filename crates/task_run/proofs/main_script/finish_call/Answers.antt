@@ -2,7 +2,7 @@ use Rattle.std.proofs.Common.{◌∙◌, ap, refl, sym}
 use Rattle.std.specs.Option.{option_map}
 use Rattle.std.proofs.lemmas.Option.{slice_get-map}
 use Rattle.task_machine.specs.declared.label.MainLabel.TheVariants as main_label
-use Rattle.task_machine.specs.declared.scenario.MainOp.TheVariants as machine
+use Rattle.task_machine.specs.declared.scenario.MainOpDef.TheVariants as machine
 use Rattle.task_rules.specs.MainOps.{finish_act, finish_result}
 use Rattle.task_run.specs.Script.{machine_op, place_of, script_of}
 use Rattle.task_loop.proofs.FitLemmas.{fits-take_result}

@@ -1,5 +1,5 @@
 use Rattle.std.proofs.Common.{◌≡◌, ◌<◌, ◌≤◌, ◌+◌, ◌∙◌, suc, ap, arith}
-use Rattle.task_core.specs.Shown.{Shown, nothing, with_core, with_instance}
+use Rattle.task_core.specs.StateView.{StateView, nothing, with_core, with_instance}
 use Rattle.task_core.proofs.Laws.{fresh_more, size-fresh}
 use Rattle.task_machine.specs.Core.{fresh}
 use Rattle.task_machine.specs.Maps.{size}
@@ -9,7 +9,7 @@ use Rattle.task_run.proofs.report.new_store.Goals as goal
 
 pub add_instance-requires : goal.add_instance-requires
 add_instance-requires c =
-    let count : size c.loop-made.store.state.core.instances ≡ c.loop-made._made = ap (λ (s : Shown). size s.core.instances) c.loop-made.invariant.state ∙ size-fresh c.loop-made._made c.args.handles c.args.table in
+    let count : size c.loop-made.store.state.core.instances ≡ c.loop-made._made = ap (λ (s : StateView). size s.core.instances) c.loop-made.invariant.state ∙ size-fresh c.loop-made._made c.args.handles c.args.table in
     let few : c.args.instances ≤ 4294967295 = c.requires.instances in
     let below : c.loop-made._made < c.args.instances = c.loop-made-test.true in
     omega arith
@@ -20,7 +20,7 @@ loop-made-preserved c =
     record {
       state =
           rw c.in-Ok.ensures.ok
-          (ap (λ (s : Shown). with_core (with_instance s.core) s) c.loop-made.invariant.state
+          (ap (λ (s : StateView). with_core (with_instance s.core) s) c.loop-made.invariant.state
           ∙ ap (λ c. with_core c nothing) (fresh_more c.loop-made._made c.args.handles c.args.table ∙ ap (λ n. fresh n c.args.handles c.args.table) next));
       free = rw c.in-Ok.ensures.ok c.loop-made.invariant.free;
     }

@@ -25,7 +25,7 @@ returns c =
     (ap (λ (r : RunConcurrent). loop.setting_of c.args.scenario.now.component (script_of c.new-main.result) r.trap_on_idle) c.in-Ok.ensures.begun.0
     ∙ ap (λ i. record { component = c.args.scenario.now.component; script = script_of c.new-main.result; idle = i }) c.traps_on_idle.ensures
     ∙ ap (λ (ops : List MainOp). record { component = c.args.scenario.now.component; script = machine_ops ops; idle = c.args.scenario.now.idle }) (c.new-main.ensures.ops ∙ c.as_slice.ensures))
-    (ap (λ (r : RunConcurrent). state_at c.run_concurrent.new.store.state.core (part_of c.new-main.result) (loop.turn_of r.phase)) c.in-Ok.ensures.begun.0
+    (ap (λ (r : RunConcurrent). state_at c.run_concurrent.new.store.state.core (part_of c.new-main.result) r.turn) c.in-Ok.ensures.begun.0
     ∙ ap (λ p. state_at c.run_concurrent.new.store.state.core (Scripted p) turn.Main) c.new-main.ensures.place
     ∙ ap (λ s. state_at s (Scripted main_opening) turn.Main) (rw (c.run_concurrent.ensures.store, c.in_ok-store.ensures.state, c.len.ensures) refl)
     ∙ opens_is c.args.scenario.now c.requires)

@@ -1,5 +1,5 @@
 use Rattle.std.specs.Prelude.{length}
-use Rattle.task_core.specs.Shown.{IsClearing}
+use Rattle.task_core.specs.StateView.{IsClearing}
 use Rattle.task_core.proofs.state.TaskCore.clear_groups.Given as goal
 
 abbrev pub invariant-loop-number : goal.invariant-loop-number

@@ -1,7 +1,7 @@
 use Rattle.std.proofs.Common.{ap, sym, refl, ◌∙◌}
 use Rattle.task_machine.proofs.FieldLemmas.{on_thread_is}
 use Rattle.task_machine.specs.Core.{Core}
-use Rattle.task_core.specs.Shown.{thread_number, with_core}
+use Rattle.task_core.specs.StateView.{thread_number, with_core}
 use Rattle.task_core.specs.State.{parts}
 use Rattle.task_core.proofs.ContextLemmas.{context_is, in_context}
 use Rattle.task_core.proofs.StateLemmas.{thread_there, reads_thread, reads_plain, puts_thread, puts_thread_soundly}

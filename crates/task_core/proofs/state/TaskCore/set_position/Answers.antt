@@ -1,7 +1,7 @@
 use Rattle.std.proofs.Common.{ap, refl, sym, ◌∙◌}
 use Rattle.task_machine.proofs.FieldLemmas.{set_position_is}
 use Rattle.task_machine.specs.Core.{Core}
-use Rattle.task_core.specs.Shown.{thread_number, with_core}
+use Rattle.task_core.specs.StateView.{thread_number, with_core}
 use Rattle.task_core.specs.State.{parts}
 use Rattle.task_core.proofs.StateLemmas.{thread_there, reads_thread, reads_plain, puts_thread, puts_thread_soundly}
 use Rattle.task_core.proofs.state.TaskCore.set_position.Goals as goal

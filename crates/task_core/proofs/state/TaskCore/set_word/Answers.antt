@@ -1,7 +1,7 @@
 use Rattle.std.proofs.Common.{◌<◌, List, ℕ, ap, subst, sym, ◌∙◌}
 use Rattle.task_machine.proofs.FieldLemmas.{put_instance, set_word_is}
 use Rattle.task_machine.specs.Core.{Core}
-use Rattle.task_core.specs.Shown.{with_core}
+use Rattle.task_core.specs.StateView.{with_core}
 use Rattle.task_core.specs.State.{parts}
 use Rattle.task_core.proofs.InstancePartLemmas.{instance_within, puts_instance, puts_instance_soundly, reads_instance, reads_suspends}
 use Rattle.task_core.proofs.state.TaskCore.set_word.Goals as goal

@@ -4,7 +4,7 @@ use Rattle.task_machine.specs.Maps.{get}
 use Rattle.task_machine.specs.declared.records.Call.{Call}
 use Rattle.std.specs.Prelude.{count_by}
 use Rattle.task_machine.specs.Read.{is_entry_of}
-use Rattle.task_core.specs.Shown.{Shown}
+use Rattle.task_core.specs.StateView.{StateView}
 use Rattle.task_core.specs.Simple.{IsNewGroup}
 use Rattle.task_core.specs.Start.{IsFree, counted_call_started, group_taken_back}
 use Rattle.task_core.proofs.StartCoreLemmas as core
@@ -28,7 +28,7 @@ add_call-requires-clause-group_made c =
 pub take_back_group-requires-clause-last : goal.take_back_group-requires-clause-last
 take_back_group-requires-clause-last c =
     group_last c.args.self.now.core c.add_group.new.self.core c.in_ok-group.group c.in_ok-group.ensures.number c.in_ok-group.ensures.core
-    ∙ sym (ap (λ (s : Shown). s.core.made.groups) c.in_default.ensures.err)
+    ∙ sym (ap (λ (s : StateView). s.core.made.groups) c.in_default.ensures.err)
 
 pub start_thread-requires-clause-free : goal.start_thread-requires-clause-free
 start_thread-requires-clause-free c =

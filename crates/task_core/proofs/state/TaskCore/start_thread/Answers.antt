@@ -7,7 +7,7 @@ use Rattle.task_machine.specs.declared.records.Place.{Place}
 use Rattle.task_machine.specs.declared.records.Place.TheVariants as place
 use Rattle.task_machine.specs.declared.records.Why.TheVariants as why
 use Rattle.task_machine.specs.declared.words.Mark.TheVariants as mark
-use Rattle.task_core.specs.Shown.{Shown, thread_number}
+use Rattle.task_core.specs.StateView.{StateView, thread_number}
 use Rattle.task_core.specs.Start.{put_new_thread, thread_started}
 use Rattle.task_core.proofs.StartCoreLemmas as core
 use Rattle.task_core.proofs.RefusalLemmas.{out_still, thread_taken_back}
@@ -33,8 +33,8 @@ returns-in_default-clause-err c =
 pub returns-clause-core : goal.returns-clause-core
 unfolding thread_started
 returns-clause-core c =
-    ap (λ (u : Shown). u.core) c.set_place.ensures
-    ∙ ap (λ (t : Shown). set_place (thread_number t.tags c.in_ok-thread.thread) start_place t.core) c.in-Ok.ensures.ok
+    ap (λ (u : StateView). u.core) c.set_place.ensures
+    ∙ ap (λ (t : StateView). set_place (thread_number t.tags c.in_ok-thread.thread) start_place t.core) c.in-Ok.ensures.ok
     ∙ ap (λ n. set_place n start_place (push_high (mark_entry.Thread n) c.add_thread.new.self.core)) c.in_ok-thread.ensures.names
     ∙ ap (λ (s : Core). set_place c.args.number start_place (push_high (mark_entry.Thread c.args.number) s)) (c.in_ok-thread.ensures.core ∙ ap (λ t. put_new_thread c.args.number t c.args.self.now.core) c.first_thread.ensures.is)
 

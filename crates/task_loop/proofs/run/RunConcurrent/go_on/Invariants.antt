@@ -2,9 +2,9 @@
 use Rattle.std.proofs.Common.{◌≡◌, ◌≤◌, ◌-◌}
 use Rattle.task_loop.specs.Fit.{given}
 use Rattle.task_loop.specs.Main.{state_at}
-use Rattle.task_loop.specs.Turn.{setting_of, turn_of}
+use Rattle.task_loop.specs.Turn.{setting_of}
 use Rattle.task_loop.specs.Drive.{IsOn}
-use Rattle.task_state.specs.State.{seen}
+use Rattle.task_state.specs.State.{step_view}
 use Rattle.task_loop.proofs.run.RunConcurrent.go_on.Given as goal
 
 abbrev pub invariant-turns : goal.invariant-turns
@@ -12,7 +12,7 @@ invariant-turns g l = record {
   script : g.M.MainTask.script l.main ≡ g.M.MainTask.script l.initial.main;
   suits : g.M.MainTask.suits l.main l.component;
   idle : l.self.trap_on_idle ≡ l.initial.self.trap_on_idle;
-  on : IsOn (setting_of l.component (g.M.MainTask.script l.initial.main) l.initial.self.trap_on_idle) (state_at l.initial.store.state.core (g.M.MainTask.part l.initial.main) (turn_of l.initial.self.phase)) l.initial.trace (given l.initial.store.state.core) l.self.phase (g.M.MainTask.part l.main) (seen l.store.state) l.trace l.added;
+  on : IsOn (setting_of l.component (g.M.MainTask.script l.initial.main) l.initial.self.trap_on_idle) (state_at l.initial.store.state.core (g.M.MainTask.part l.initial.main) l.initial.self.turn) l.initial.trace (given l.initial.store.state.core) l.self.turn (g.M.MainTask.part l.main) (step_view l.store.state) l.trace l.added;
   few : l.added ≤ l.steps;
 }
 

@@ -1,8 +1,8 @@
 use Rattle.std.proofs.Common.{◌∙◌, refl, sym, ap, subst}
 use Rattle.std.specs.Prelude.{IfSome}
-use Rattle.task_core.specs.Shown.{KeepsTagsBut, Shown}
+use Rattle.task_core.specs.StateView.{KeepsTagsBut, StateView}
 use Rattle.task_state.specs.Moves.{Exits}
-use Rattle.task_state.specs.State.{running_of, seen}
+use Rattle.task_state.specs.State.{running_of, step_view}
 use Rattle.task_state.proofs.RunLemmas.{call_live, call_removed_live, exit_core, exit_tags, exits_is, handle_is, handle_let_in, handle_some, instance_let_in, instance_there, out_freed, out_removed, running_now, thread_removed, whole_exited}
 use Rattle.task_state.proofs.state.ConcurrentState.exit.Goals as goal
 
@@ -37,22 +37,22 @@ pub invariant_of-self : goal.invariant_of-self
 invariant_of-self c =
     whole_exited c.self.inside.core c.self.invariant c.in-Some.id c.in-Some.ensures c.set_current.new.self c.in-Some-handle.handle
     (handle_is c.self.inside.core c.self.invariant c.in-Some.id c.in-Some.ensures c.call-call.result c.call-call.ensures.value c.thread.result c.thread.ensures.value c.in-Some-handle.handle c.in-Some-handle.is)
-    (ap (λ (s : Shown). s.core) c.set_current.ensures
+    (ap (λ (s : StateView). s.core) c.set_current.ensures
     ∙ exit_core c.self.inside.core c.self.invariant c.in-Some.id c.in-Some.ensures c.call-call.result c.call-call.ensures.value c.thread.result c.thread.ensures.value c.in-Some-handle.handle c.in-Some-handle.is c.clear_do_not_enter.new.self c.free_thread_handle.new.self c.clear_do_not_enter.ensures c.free_thread_handle.ensures c.remove_thread.new.self c.remove_thread.ensures.core c.remove_thread.ensures.tags _ _ c.remove_call.ensures.core c.settle_group.ensures.core)
-    (ap (λ (s : Shown). s.current) c.set_current.ensures)
+    (ap (λ (s : StateView). s.current) c.set_current.ensures)
 
 pub returns-clause-exits : goal.returns-clause-exits
 returns-clause-exits c =
-    subst (λ (s : Shown). IfSome (running_of s) (λ n. Exits n (seen s) (seen c.set_current.new.self))) c.self.view_is
-    (subst (λ o. IfSome o (λ n. Exits n (seen c.self.inside.core) (seen c.set_current.new.self))) (sym (running_now c.self.inside.core c.self.invariant c.in-Some.id c.in-Some.ensures))
+    subst (λ (s : StateView). IfSome (running_of s) (λ n. Exits n (step_view s) (step_view c.set_current.new.self))) c.self.view_is
+    (subst (λ o. IfSome o (λ n. Exits n (step_view c.self.inside.core) (step_view c.set_current.new.self))) (sym (running_now c.self.inside.core c.self.invariant c.in-Some.id c.in-Some.ensures))
     (exits_is c.self.inside.core c.self.invariant c.in-Some.id c.in-Some.ensures c.set_current.new.self c.in-Some-handle.handle
     (handle_is c.self.inside.core c.self.invariant c.in-Some.id c.in-Some.ensures c.call-call.result c.call-call.ensures.value c.thread.result c.thread.ensures.value c.in-Some-handle.handle c.in-Some-handle.is)
-    (ap (λ (s : Shown). s.core) c.set_current.ensures
+    (ap (λ (s : StateView). s.core) c.set_current.ensures
     ∙ exit_core c.self.inside.core c.self.invariant c.in-Some.id c.in-Some.ensures c.call-call.result c.call-call.ensures.value c.thread.result c.thread.ensures.value c.in-Some-handle.handle c.in-Some-handle.is c.clear_do_not_enter.new.self c.free_thread_handle.new.self c.clear_do_not_enter.ensures c.free_thread_handle.ensures c.remove_thread.new.self c.remove_thread.ensures.core c.remove_thread.ensures.tags _ _ c.remove_call.ensures.core c.settle_group.ensures.core)
-    (ap (λ (s : Shown). s.current) c.set_current.ensures)))
+    (ap (λ (s : StateView). s.current) c.set_current.ensures)))
 
 pub returns-clause-tags : goal.returns-clause-tags
 returns-clause-tags c =
-    subst (λ (s : Shown). IfSome (running_of s) (λ n. KeepsTagsBut n n s.tags c.set_current.new.self.tags)) c.self.view_is
+    subst (λ (s : StateView). IfSome (running_of s) (λ n. KeepsTagsBut n n s.tags c.set_current.new.self.tags)) c.self.view_is
     (subst (λ o. IfSome o (λ n. KeepsTagsBut n n c.self.inside.core.tags c.set_current.new.self.tags)) (sym (running_now c.self.inside.core c.self.invariant c.in-Some.id c.in-Some.ensures))
-    (exit_tags c.self.inside.core c.self.invariant c.in-Some.id c.in-Some.ensures c.call-call.result c.call-call.ensures.value c.thread.result c.thread.ensures.value c.in-Some-handle.handle c.in-Some-handle.is c.clear_do_not_enter.new.self c.free_thread_handle.new.self c.clear_do_not_enter.ensures c.free_thread_handle.ensures c.remove_thread.new.self c.remove_thread.ensures.core c.remove_thread.ensures.tags c.remove_call.new.self.tags c.settle_group.new.self.tags c.set_current.new.self.tags c.remove_call.ensures.tags c.settle_group.ensures.tags (ap (λ (s : Shown). s.tags) c.set_current.ensures)))
+    (exit_tags c.self.inside.core c.self.invariant c.in-Some.id c.in-Some.ensures c.call-call.result c.call-call.ensures.value c.thread.result c.thread.ensures.value c.in-Some-handle.handle c.in-Some-handle.is c.clear_do_not_enter.new.self c.free_thread_handle.new.self c.clear_do_not_enter.ensures c.free_thread_handle.ensures c.remove_thread.new.self c.remove_thread.ensures.core c.remove_thread.ensures.tags c.remove_call.new.self.tags c.settle_group.new.self.tags c.set_current.new.self.tags c.remove_call.ensures.tags c.settle_group.ensures.tags (ap (λ (s : StateView). s.tags) c.set_current.ensures)))

@@ -1,0 +1,10 @@
+-- The call makes a thread and a group.
+use Rattle.std.proofs.Common.{arith, ◌∙◌}
+use Rattle.task_loop.proofs.CallLemmas.{started_current, started_given}
+use Rattle.run_tests.proofs.drive.called.Goals as goal
+
+pub returns-in-Ok-clause-given : goal.returns-in-Ok-clause-given
+returns-in-Ok-clause-given c = let more = started_given _ _ _ _ _ _ _ c.in-Ok.ensures.starts in let none = c.requires.given in omega (arith, more, none)
+
+pub returns-in-Ok-clause-current : goal.returns-in-Ok-clause-current
+returns-in-Ok-clause-current c = started_current _ _ _ _ _ _ _ c.in-Ok.ensures.starts ∙ c.requires.current

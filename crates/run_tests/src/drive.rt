@@ -1,0 +1,211 @@
+ghost use Rattle.std.specs.Prelude.{◌≡◌, ◌≤◌, [], true, IfOk, OnOk, None, length, IsSome, IfSome};
+ghost use Rattle.std.specs.List.{list_all};
+ghost use Rattle.task_machine.specs.Core.{Main, Unscripted};
+ghost use Rattle.task_rules.specs.Scripts.{export_at};
+ghost use Rattle.task_loop.specs.Calls.{callee_of};
+ghost use Rattle.task_loop.specs.Fit.{HasPlainExports, Fits, given, is_plain_op};
+ghost use Rattle.task_state.specs.State.{running_of};
+
+use futures::task::Poll;
+use std::alloc::Global;
+use std::test::Fail;
+use task_loop::{
+    Component, ExportDef, Func, FuncCallConcurrent, Instance, InstanceDef, Label, MainStep,
+    MainTask, Op, Operand, Outcome, TaskError, Trace, run_concurrent,
+};
+use task_machine::{DataOp, ExportKind, MainLabel, Seq, TaskOp, Trap};
+use task_store::{Access, Store, Whole};
+
+const CALLEE: Func = Func {
+    instance: Instance { index: 0 },
+    export: 0,
+};
+
+// Adds 2 to the first parameter, by way of the instance's words, and returns it.
+fn script(alloc: Global) -> Result<Seq<Op>, Fail>
+    ensures plain { IfOk result (λ ops. list_all is_plain_op ops ≡ true) }
+    ensures short { IfOk result (λ ops. length ops ≤ 4096) }
+{
+    let value = Operand::Register(2);
+    let mut ops = Seq::new(alloc);
+    ops.push(Op::Data(DataOp::Set {
+        to: 2,
+        value: Operand::Number(33),
+    }))?;
+    ops.push(Op::Data(DataOp::Handle { to: 2, value }))?;
+    ops.push(Op::Data(DataOp::Add { to: 0, value }))?;
+    let left = Operand::Register(0);
+    let right = Operand::Register(1);
+    ops.push(Op::Data(DataOp::Store {
+        word: 3,
+        value: left,
+    }))?;
+    ops.push(Op::Data(DataOp::Load { to: 1, word: 3 }))?;
+    let ops_over = 1;
+    ops.push(Op::Data(DataOp::SkipEq {
+        left,
+        right,
+        ops: ops_over,
+    }))?;
+    ops.push(Op::Task(TaskOp::RetBad { value }))?;
+    ops.push(Op::Task(TaskOp::Ret { value: right }))?;
+    Ok(ops)
+}
+
+// A component with one callback export, which has that script.
+fn component(alloc: Global) -> Result<Component, Fail>
+    ensures exports { IfOk result HasPlainExports }
+    ensures there { IfOk result (λ c. IsSome (export_at c (callee_of CALLEE))) }
+    ensures params { IfOk result (λ c. IfSome (export_at c (callee_of CALLEE)) (λ e. 1 ≡ e.params)) }
+    ensures one { IfOk result (λ c. length c.instances ≡ 1) }
+{
+    let start = script(alloc)?;
+    let mut exports = Seq::new(alloc);
+    exports.push(ExportDef {
+        kind: ExportKind::Callback,
+        params: 1,
+        start,
+        react: Seq::new(alloc),
+    })?;
+    let mut instances = Seq::new(alloc);
+    instances.push(InstanceDef {
+        exports,
+        slots: Seq::new(alloc),
+    })?;
+    Ok(Component {
+        instances,
+        hosts: Seq::new(alloc),
+    })
+}
+
+// A store with that component's one instance.
+fn store(alloc: Global) -> Result<Store<(), ()>, Fail>
+    ensures fits { IfOk result (λ s. (c : Component) → length c.instances ≡ 1 → Fits c s.state.core) }
+    ensures given { IfOk result (λ s. given s.state.core ≡ 0) }
+    ensures current { IfOk result (λ s. running_of s.state ≡ None) }
+{
+    let mut store: Store<(), ()> = Store::new(alloc, (), true, 1);
+    match store.add_instance() {
+        Ok(_) => Ok(store),
+        Err(_) => Err(Fail::from("memory")),
+    }
+}
+
+// A call of that export with 7, in a store in which nothing was made but the instance.
+fn called(component: &Component, store: &mut Store<(), ()>) -> Result<FuncCallConcurrent, Fail>
+    requires exports { HasPlainExports component.now }
+    requires there { IsSome (export_at component.now (callee_of CALLEE)) }
+    requires params { IfSome (export_at component.now (callee_of CALLEE)) (λ e. 1 ≡ e.params) }
+    requires fits { Fits component.now store.old.state.core }
+    requires given { given store.old.state.core ≡ 0 }
+    requires current { running_of store.old.state ≡ None }
+    ensures fits { OnOk result (Fits component.now store.new.state.core) }
+    ensures given { OnOk result (given store.new.state.core ≡ 2) }
+    ensures current { OnOk result (running_of store.new.state ≡ None) }
+{
+    match CALLEE.start_call_concurrent(component, store, &[7]) {
+        Ok(call) => Ok(call),
+        Err(_) => Err(Fail::from("a call")),
+    }
+}
+
+// A main that answers this, or else waits.
+#[derive(Drop)]
+struct Host {
+    answer: Option<u64>,
+}
+
+impl<T, H> MainTask<T, H> for Host {
+    ghost part = { λ _. Unscripted };
+
+    ghost script = { λ _. [] };
+
+    ghost suits = { λ _ _. Unit {0} };
+
+    fn step(
+        &mut self,
+        _access: &mut Access<'_, T, Whole, H>,
+        _component: &Component,
+    ) -> Result<MainStep, TaskError> {
+        match self.answer {
+            Some(value) => Ok(MainStep::Answer(value)),
+            None => Ok(MainStep::Pends),
+        }
+    }
+}
+
+#[test]
+fn a_call_runs_while_main_waits(rt: HostRuntime) -> Result<(), Fail> {
+    let component = component(rt.alloc())?;
+    assert_eq!(rt; CALLEE.param_count(&component), 1);
+    let mut store = store(rt.alloc())?;
+    let mut call = called(&component, &mut store)?;
+    assert_eq!(rt; call.thread(), 1);
+    let mut run = run_concurrent(&mut store, false).ok().ok_or("a run")?;
+    let again = run_concurrent(&mut store, false).err();
+    assert!(rt; matches!(again, Some(Trap::RecursiveRun)));
+    let mut main = Host { answer: None };
+    let mut trace = Trace::new(rt.alloc());
+    let outcome = run.drive(&component, &mut store, &mut main, 16, &mut trace);
+    assert!(rt; matches!(outcome, Ok(Outcome::Idle)));
+    assert_eq!(rt; trace.labels().len(), 11);
+    let result = CALLEE.finish_call_concurrent(&mut store, &mut call);
+    assert!(rt; matches!(result, Poll::Ready(9)));
+    run.end(&mut store);
+    assert!(rt; run_concurrent(&mut store, true).is_ok());
+    Ok(())
+}
+
+#[test]
+fn a_run_ends_where_main_answers_or_nothing_goes_on(rt: HostRuntime) -> Result<(), Fail> {
+    let component = component(rt.alloc())?;
+    for answer in [Some(5), None] {
+        let mut store = store(rt.alloc())?;
+        let mut run = run_concurrent(&mut store, true).ok().ok_or("a run")?;
+        let mut main = Host { answer };
+        let mut trace = Trace::new(rt.alloc());
+        let outcome = run.drive(&component, &mut store, &mut main, 9, &mut trace);
+        let first = trace.labels().first().copied();
+        match answer {
+            Some(_) => {
+                assert!(rt; matches!(outcome, Ok(Outcome::Done(5))));
+                assert!(rt; matches!(first, Some(Label::Main(MainLabel::Answer(5)))));
+            }
+            None => {
+                assert!(rt; matches!(outcome, Ok(Outcome::Deadlock(Trap::AsyncDeadlock))));
+                assert!(rt; trace.labels().len() == 2 && store.trapped());
+            }
+        }
+    }
+    Ok(())
+}
+
+// What the return of a thread that has just begun comes to, with this type.
+fn returned(alloc: Global, ty: u32) -> Result<Result<(), TaskError>, Fail> {
+    let component = component(alloc)?;
+    let mut store = store(alloc)?;
+    called(&component, &mut store)?;
+    let mut run = run_concurrent(&mut store, true).ok().ok_or("a run")?;
+    let mut main = Host { answer: None };
+    let mut trace = Trace::new(alloc);
+    let outcome = run.drive(&component, &mut store, &mut main, 2, &mut trace);
+    let Ok(Outcome::OutOfSteps) = outcome else {
+        return Err(Fail::from("a thread that runs"));
+    };
+    store.state.is_whole();
+    let Some(running) = store.state.running() else {
+        return Err(Fail::from("a thread"));
+    };
+    let instance = Instance {
+        index: running.callee.instance,
+    };
+    Ok(instance.task_return(&component, &mut store, ty, 0, 0, 7))
+}
+
+#[test]
+fn a_return_needs_the_task_s_own_type(rt: HostRuntime) -> Result<(), Fail> {
+    assert!(rt; returned(rt.alloc(), 0)?.is_ok());
+    let bad = returned(rt.alloc(), 1)?;
+    assert!(rt; matches!(bad, Err(TaskError::Trap(Trap::TaskReturnInvalid))));
+    Ok(())
+}

@@ -1,0 +1,19 @@
+//! Tests of the plain data and of the structures that the component's state is made of: tables, links, handles, strands, groups and join handles.
+//!
+//! They stand apart, so that those crates are proved without them.
+#![tactic(auto)]
+
+#[cfg(test)]
+mod abort;
+#[cfg(test)]
+mod group;
+#[cfg(test)]
+mod handles;
+#[cfg(test)]
+mod machine;
+#[cfg(test)]
+mod strand;
+#[cfg(test)]
+mod table;
+#[cfg(test)]
+mod wait;
