@@ -52,9 +52,12 @@ module _ (c : Component) (s : Core) where
   did_finish n k v there = record {
     op = tt;
     step = (
-      k, (
-      row.Finish (Began n),
-      subst (λ o. OpenProgresses (state_at s Unscripted turn.Main) (finish_result k n s o) (label.Main (main_label.Finish k v)) (state_at (take_result n s) Unscripted turn.Main)) (sym there) (refl, refl)));
+      k,
+      (
+        row.Finish (Began n),
+        subst (λ o. OpenProgresses (state_at s Unscripted turn.Main) (finish_result k n s o) (label.Main (main_label.Finish k v)) (state_at (take_result n s) Unscripted turn.Main)) (sym there) (refl, refl),
+      ),
+    );
   }
 
   pub pends_now : Pends c [] Unscripted s Unscripted s

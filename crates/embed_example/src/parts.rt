@@ -44,7 +44,7 @@ fn adder(alloc: Global, more: Operand) -> Result<InstanceDef, AllocError>
 
 /// The instance of `DOUBLE`, and that of `NEXT`.
 pub fn component(alloc: Global) -> Result<Component, AllocError>
-    ensures plain { IfOk result HasPlainExports }
+    ensures exports { IfOk result HasPlainExports }
     ensures double { IfOk result (λ c. TakesOne c DOUBLE) }
     ensures next { IfOk result (λ c. TakesOne c NEXT) }
     ensures two { IfOk result (λ c. length c.instances ≡ 2) }

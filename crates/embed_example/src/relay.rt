@@ -41,7 +41,7 @@ fn start(
     component: &Component,
     func: Func,
 ) -> Result<MainStep, TaskError>
-    requires plain { HasPlainExports component.now }
+    requires exports { HasPlainExports component.now }
     requires fits { Fits component.now access.old.store.now.state.core }
     requires takes { TakesOne component.now func }
     requires given { given access.old.store.now.state.core + 4 < 2 ^ 61 }

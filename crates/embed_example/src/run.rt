@@ -36,7 +36,7 @@ pub fn relayed(
     component: &Component,
     word: u64,
 ) -> Result<(Trace, Outcome), NoMemory>
-    requires plain { HasPlainExports component.now }
+    requires exports { HasPlainExports component.now }
     requires double { TakesOne component.now DOUBLE }
     requires next { TakesOne component.now NEXT }
     requires two { length component.now.instances ≡ 2 }
