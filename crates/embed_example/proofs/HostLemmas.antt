@@ -16,7 +16,8 @@ use Rattle.task_rules.specs.MainOps.{finish_result, start_act, start_refusal}
 use Rattle.task_rules.specs.Step.{OpenProgresses}
 use Rattle.task_rules.specs.Turns.{at_turn}
 use Rattle.task_loop.specs.declared.call.FuncCallConcurrent.{FuncCallConcurrent}
-use Rattle.task_loop.specs.Calls.{Starts}
+use Rattle.futures.specs.declared.task.Poll.TheVariants.{Pending, Ready}
+use Rattle.task_loop.specs.Calls.{Finishes, Starts}
 use Rattle.task_loop.specs.Main.{Answers, Did, Pends, state_at}
 use Rattle.task_state.specs.StepView.{StepView}
 
@@ -46,23 +47,29 @@ module _ (c : Component) (e : Callee) (words : List ℕ) (s t : StepView) (k : �
 
 -- ---- The other ops
 
-module _ (c : Component) (s : Core) where
-  pub did_finish : (n k v : ℕ) → get s.results n ≡ Some v → Did c [] Unscripted s (label.Main (main_label.Finish k v)) Unscripted (take_result n s)
+module _ (c : Component) (s t : StepView) where
+  finished_in : (n k v : ℕ) → get s.core.results n ≡ Some v → Did c [] Unscripted s.core (label.Main (main_label.Finish k v)) Unscripted (take_result n s.core)
   unfolding at_turn
-  did_finish n k v there = record {
+  finished_in n k v there = record {
     op = tt;
     step = (
-      k,
-      (
-        row.Finish (Began n),
-        subst (λ o. OpenProgresses (state_at s Unscripted turn.Main) (finish_result k n s o) (label.Main (main_label.Finish k v)) (state_at (take_result n s) Unscripted turn.Main)) (sym there) (refl, refl),
-      ),
-    );
+      k, (
+      row.Finish (Began n),
+      subst (λ o. OpenProgresses (state_at s.core Unscripted turn.Main) (finish_result k n s.core o) (label.Main (main_label.Finish k v)) (state_at (take_result n s.core) Unscripted turn.Main)) (sym there) (refl, refl)));
   }
 
-  pub pends_now : Pends c [] Unscripted s Unscripted s
-  pends_now = record { part = refl; core = refl; pends = refl }
+  pub did_finish : (n k v : ℕ) → Finishes n s (Ready v) t → Did c [] Unscripted s.core (label.Main (main_label.Finish k v)) Unscripted t.core
+  did_finish n k v h = subst (λ (u : StepView). Did c [] Unscripted s.core (label.Main (main_label.Finish k v)) Unscripted u.core) (sym h.1) (finished_in n k v h.0)
 
-  pub answers_now : (v : ℕ) → Answers c [] Unscripted s v Unscripted s
-  unfolding at_turn
-  answers_now v = record { part = refl; core = refl; step = (0, (row.Answer v, (refl, refl))) }
+  pub finish_keeps : (n v : ℕ) → Finishes n s (Ready v) t → t.running ≡ s.running
+  finish_keeps n v h = ap (λ (u : StepView). u.running) h.1
+
+  pub pends_in : (n : ℕ) → Finishes n s Pending t → Pends c [] Unscripted s.core Unscripted t.core
+  pends_in n h = record { part = refl; core = ap (λ (u : StepView). u.core) h.1; pends = refl }
+
+  pub pending_keeps : (n : ℕ) → Finishes n s Pending t → t.running ≡ s.running
+  pending_keeps n h = ap (λ (u : StepView). u.running) h.1
+
+pub answers_now : (c : Component) (s : Core) (v : ℕ) → Answers c [] Unscripted s v Unscripted s
+unfolding at_turn
+answers_now c s v = record { part = refl; core = refl; step = (0, (row.Answer v, (refl, refl))) }

@@ -80,7 +80,8 @@ impl MainTask<(), ()> for Relay {
         component: &Component,
     ) -> Result<MainStep, TaskError> {
         if let Some(call) = &mut self.call {
-            let Poll::Ready(value) = NEXT.finish_call_concurrent(access.store, call) else {
+            let func = if self.started == 1 { DOUBLE } else { NEXT };
+            let Poll::Ready(value) = func.finish_call_concurrent(access.store, call) else {
                 return Ok(MainStep::Pends);
             };
             self.word = value;
