@@ -1,23 +1,28 @@
 -- The steps of a main that is no script.
-use Rattle.std.proofs.Common.{ap, refl, subst, sym}
+use Rattle.std.proofs.Common.{ap, arith, refl, subst, sym, ◌∙◌, ◌<◌, ◌≤◌}
 use Rattle.std.specs.Prelude.{Err, List, None, Ok, Option, Some, [], ℕ, ◌≡◌}
 use Rattle.task_machine.specs.declared.component.Callee.{Callee}
 use Rattle.task_machine.specs.declared.component.Component.{Component}
+use Rattle.task_machine.specs.declared.label.Label.{Label}
 use Rattle.task_machine.specs.declared.label.Label.TheVariants as label
 use Rattle.task_machine.specs.declared.label.MainLabel.TheVariants as main_label
+use Rattle.task_machine.specs.declared.outcome.Outcome.{Outcome}
 use Rattle.task_machine.specs.declared.records.Turn.TheVariants as turn
 use Rattle.task_machine.specs.declared.trap.Trap.{Trap}
-use Rattle.task_machine.specs.Core.{Began, Core, Unscripted}
-use Rattle.task_machine.specs.Maps.{get}
+use Rattle.task_machine.specs.Core.{Began, Core, State, Unscripted, fresh}
+use Rattle.task_machine.specs.Maps.{get, size}
 use Rattle.task_machine.specs.Write.{take_result}
 use Rattle.task_core.specs.declared.error.TaskError.TheVariants as task_error
+use Rattle.task_core.proofs.Laws.{size-fresh}
 use Rattle.task_rules.specs.MainOps as row
 use Rattle.task_rules.specs.MainOps.{finish_result, start_act, start_refusal}
+use Rattle.task_rules.specs.Stalled.{Setting}
 use Rattle.task_rules.specs.Step.{OpenProgresses}
 use Rattle.task_rules.specs.Turns.{at_turn}
 use Rattle.task_loop.specs.declared.call.FuncCallConcurrent.{FuncCallConcurrent}
 use Rattle.futures.specs.declared.task.Poll.TheVariants.{Pending, Ready}
 use Rattle.task_loop.specs.Calls.{Finishes, Starts}
+use Rattle.task_loop.specs.Drive.{Drives}
 use Rattle.task_loop.specs.Main.{Answers, Did, Pends, state_at}
 use Rattle.task_state.specs.StepView.{StepView}
 
@@ -53,9 +58,12 @@ module _ (c : Component) (s t : StepView) where
   finished_in n k v there = record {
     op = tt;
     step = (
-      k, (
-      row.Finish (Began n),
-      subst (λ o. OpenProgresses (state_at s.core Unscripted turn.Main) (finish_result k n s.core o) (label.Main (main_label.Finish k v)) (state_at (take_result n s.core) Unscripted turn.Main)) (sym there) (refl, refl)));
+      k,
+      (
+        row.Finish (Began n),
+        subst (λ o. OpenProgresses (state_at s.core Unscripted turn.Main) (finish_result k n s.core o) (label.Main (main_label.Finish k v)) (state_at (take_result n s.core) Unscripted turn.Main)) (sym there) (refl, refl),
+      ),
+    );
   }
 
   pub did_finish : (n k v : ℕ) → Finishes n s (Ready v) t → Did c [] Unscripted s.core (label.Main (main_label.Finish k v)) Unscripted t.core
@@ -73,3 +81,14 @@ module _ (c : Component) (s t : StepView) where
 pub answers_now : (c : Component) (s : Core) (v : ℕ) → Answers c [] Unscripted s v Unscripted s
 unfolding at_turn
 answers_now c s v = record { part = refl; core = refl; step = (0, (row.Answer v, (refl, refl))) }
+
+-- ---- A new store
+
+-- its few instances can be counted
+pub is_few : (n : ℕ) (s : Core) → n ≤ 2 → s ≡ fresh n 100000 1000000 → size s.instances < 4294967295
+is_few n s few is = let count : size s.instances ≡ n = ap (λ (u : Core). size u.instances) is ∙ size-fresh n 100000 1000000 in omega (arith, count, few)
+
+-- what was driven, with its setting, its first state and its trace before named otherwise
+pub driven : (y x : Setting) (s o : State) (before : List Label) (t : State) (after : List Label) (steps : ℕ) (outcome : Outcome) → y ≡ x → s ≡ o → before ≡ [] → Drives y s before t after steps outcome → Drives x o [] t after steps outcome
+driven y x s o before t after steps outcome setting start none drives =
+    subst (λ (ls : List Label). Drives x o ls t after steps outcome) none (subst (λ (u : State). Drives x u before t after steps outcome) start (subst (λ (z : Setting). Drives z s before t after steps outcome) setting drives))

@@ -68,6 +68,8 @@ fn start(
 }
 
 impl MainTask<(), ()> for Relay {
+    ghost use Rattle.embed_example.specs.declared.parts.TheConstants.{DOUBLE, NEXT};
+
     ghost part = { λ _. Unscripted };
 
     ghost script = { λ _. [] };
