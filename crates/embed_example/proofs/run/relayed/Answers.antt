@@ -23,7 +23,7 @@ returns c =
       _,
       driven _ _ _ _ _ _ _ _ _
           (ap (λ (r : RunConcurrent). setting_of c.args.component.now [] r.trap_on_idle) begun)
-          (ap (λ (r : RunConcurrent). state_at c.run_concurrent.new.store.state.core Unscripted (r.turn)) begun
+          (ap (λ (r : RunConcurrent). state_at c.run_concurrent.new.store.state.core Unscripted r.turn) begun
           ∙ rw (c.run_concurrent.ensures.store, c.in_ok-store.ensures.state) refl)
           c.new-trace.ensures c.in_ok-outcome.ensures.ok,
     )
