@@ -10,7 +10,7 @@ use Rattle.task_scenario.specs.declared.scenario.MainOp.{MainOp}
 use Rattle.task_loop.specs.declared.run.RunConcurrent.{RunConcurrent}
 use Rattle.task_run.specs.Headline.{machine_scenario}
 use Rattle.task_run.proofs.HeadlineLemmas.{headline, opens_is}
-use Rattle.task_run.proofs.StoreLemmas.{fits_fresh, given_fresh}
+use Rattle.task_loop.proofs.FreshLemmas.{fits_fresh, given_fresh}
 use Rattle.task_run.proofs.report.run.Goals as goal
 
 pub drive-driven-requires-clause-fits : goal.drive-driven-requires-clause-fits
