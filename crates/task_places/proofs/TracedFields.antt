@@ -3,7 +3,7 @@ use Rattle.task_laws.proofs.Basics.{above, no_way, too_high, true_is_not_false}
 use Rattle.std.proofs.Common.{ap, cond, inl, inr, refl, sym, ◌∙◌}
 use Rattle.std.specs.Option.{option_map_or}
 use Rattle.std.specs.Prelude.{Bool, List, None, Option, Some, false, is_none, is_some, option_and_then, option_map, slice_set, true, ℕ, ◌+◌, ◌==◌, ◌≡◌, ◌≤◌, ◌⊎◌}
-use Rattle.task_laws.proofs.CallsLaw.{no_thread_of}
+use Rattle.task_laws.proofs.HousedLemmas.{no_thread_of}
 use Rattle.task_laws.proofs.EachLemmas.{Each, change_none, change_read, each_change, each_insert, each_map, each_remove}
 use Rattle.task_machine.proofs.CommuteLemmas.{get-change}
 use Rattle.task_machine.proofs.MapLemmas.{get-insert_other, get-insert_same}
