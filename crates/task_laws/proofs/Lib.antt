@@ -8,6 +8,7 @@ pub mod StrandLemmas
 pub mod WaitLemmas
 pub mod SceneLemmas
 pub mod HousedLemmas
+pub mod Subtasks
 pub mod CountLemmas
 pub mod CallsCame
 pub mod CallsLaw

@@ -1,4 +1,5 @@
 -- A state in order: what is so of every opening state and kept by every step, whatever the state was reached by.
+use Rattle.task_rules.specs.Allowed.{subtask_under_way}
 use Rattle.std.specs.Prelude.{Bool, None, Option, Some, false, is_none, is_some, option_and_then, option_map, true, ℕ, ◌+◌, ◌≡◌, ◌≤◌}
 use Rattle.task_laws.specs.Settings.{CodesInCallbacks}
 use Rattle.task_machine.specs.Core.{Core, Main, State}
@@ -13,7 +14,6 @@ use Rattle.task_machine.specs.declared.records.HowFar.TheVariants as how_far
 use Rattle.task_machine.specs.declared.records.Place.{Place}
 use Rattle.task_machine.specs.declared.records.Place.TheVariants as place
 use Rattle.task_machine.specs.declared.records.Set.{Set}
-use Rattle.task_machine.specs.declared.records.Subtask.{Subtask}
 use Rattle.task_machine.specs.declared.records.Subtask.TheVariants as subtask
 use Rattle.task_machine.specs.declared.records.Thread.{Thread}
 use Rattle.task_machine.specs.declared.records.Turn.TheVariants as turn
@@ -60,17 +60,10 @@ pub record WasCall (s : Core) (k : ℕ) : Type 0 where
   pub number : k ≤ s.made.threads
   pub first : is_explicit k s ≡ false
 
--- the subtask that an op under way is about
-abbrev pub under_way : HowFar → Option Subtask
-under_way (how_far.Calls sub) = Some sub
-under_way (how_far.Cancels sub) = Some sub
-under_way (how_far.AwaitsEnd sub) = Some sub
-under_way _ = None
-
 -- Each call that a handle names, or that an op under way is about, was made as a call.
 pub record CallsNamed (s : Core) : Type 0 where
   pub by_handle : (i h k : ℕ) → subtask_at i h s ≡ Some (subtask.Guest k) → WasCall s k
-  pub by_op : (n k : ℕ) → under_way (how_far_of n s) ≡ Some (subtask.Guest k) → WasCall s k
+  pub by_op : (n k : ℕ) → subtask_under_way (how_far_of n s) ≡ Some (subtask.Guest k) → WasCall s k
 
 -- A handle of a set names a set of its own instance, which was made, and no other handle names it.
 pub record SetsNamed (s : Core) : Type 0 where

@@ -9,8 +9,3 @@ pub mod PlaceSteps
 pub mod OrderLemmas
 pub mod FreshMoves
 pub mod FreshStand
-pub mod TracedFields
-pub mod TracedWords
-pub mod TracedRows
-pub mod TracedTakes
-pub mod TracedLemmas

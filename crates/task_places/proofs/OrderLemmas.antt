@@ -1,4 +1,5 @@
 -- A state in order: each opening state is, and each step leads from one to one.
+use Rattle.task_laws.proofs.Subtasks.{Traced, opening_named, traced_word}
 use Rattle.task_machine.specs.declared.component.Callee.{Callee}
 use Rattle.task_rules.specs.Scenes.{base_at, scene_of}
 use Rattle.task_rules.specs.Chains.{Walked}
@@ -10,27 +11,20 @@ use Rattle.task_laws.proofs.StrandLemmas.{Layered, RunnerGiven, layered_word}
 use Rattle.task_laws.proofs.SceneLemmas.{base_is, runner_there}
 use Rattle.task_laws.proofs.HousedLemmas.{RunnerHoused, housed_word}
 use Rattle.task_laws.proofs.CountLemmas.{few_word}
-use Rattle.std.proofs.Common.{T, ap, arith, le_refl, refl, subst, sym, ◌∙◌, inl}
+use Rattle.std.proofs.Common.{T, ap, arith, refl, subst, sym, ◌∙◌, inl}
 use Rattle.std.specs.Option.{option_map_or}
 use Rattle.std.specs.Prelude.{Bool, List, None, Option, Some, [], false, if◌then◌else◌, is_none, is_some, not, option_and_then, option_map, true, unwrap_or, ℕ, ◌∷◌, ◌≡◌, ◌≤◌, ◌+◌}
-use Rattle.task_laws.proofs.EachLemmas.{Each, EachAt, each_get}
 use Rattle.task_laws.proofs.SetHandles.{IsTidy, opening_tidy, tidy_word}
 use Rattle.task_laws.proofs.CallsLaw.{CallsHold}
 use Rattle.task_laws.proofs.CallsSteps.{opening_holds, step_goes}
-use Rattle.task_laws.specs.Order.{CallKinds, CallsNamed, DeliveredByCallback, InOrder, InPlace, Numbered, OpeningInOrder, SetsNamed, StartsAwaited, StepInOrder, WasCall, is_fresh, under_way, CallsThere, IsOf, MakesFew, Strands, WaitsAtHome, set_of_op, set_of_place, StepsMakeFew}
+use Rattle.task_laws.specs.Order.{CallsNamed, InOrder, InPlace, Numbered, OpeningInOrder, SetsNamed, StartsAwaited, StepInOrder, WasCall, is_fresh, CallsThere, IsOf, MakesFew, Strands, WaitsAtHome, set_of_op, set_of_place, StepsMakeFew}
 use Rattle.task_machine.specs.Core.{Core, Main, State, fresh}
-use Rattle.task_machine.specs.Maps.{Records, empty, get, get-empty}
-use Rattle.task_machine.specs.Read.{as_subtask, named_by, place_of, set_at, instance_of, no_callee, call_instance, task_of}
-use Rattle.task_machine.specs.declared.component.Component.{Component}
+use Rattle.task_machine.specs.Maps.{empty, get, get-empty}
+use Rattle.task_machine.specs.Read.{place_of, set_at, instance_of, no_callee, call_instance, task_of}
 use Rattle.task_machine.specs.declared.label.Label.{Label}
 use Rattle.task_machine.specs.declared.records.Call.{Call}
-use Rattle.task_machine.specs.declared.records.HowFar.{HowFar}
 use Rattle.task_machine.specs.declared.records.HowFar.TheVariants as how_far
-use Rattle.task_machine.specs.declared.records.Named.{Named}
-use Rattle.task_machine.specs.declared.records.Named.TheVariants as named
 use Rattle.task_machine.specs.declared.records.Place.{Place}
-use Rattle.task_machine.specs.declared.records.Subtask.{Subtask}
-use Rattle.task_machine.specs.declared.records.Subtask.TheVariants as subtask
 use Rattle.task_machine.specs.declared.records.Thread.{Thread}
 use Rattle.task_machine.specs.declared.records.Turn.{Turn}
 use Rattle.task_machine.specs.declared.records.Turn.TheVariants as turn
@@ -39,8 +33,6 @@ use Rattle.task_places.proofs.FreshStand.{is_starting}
 use Rattle.task_places.proofs.PlaceSteps.{AllOwned, Lands, is_turn_of, turn_step_lands}
 use Rattle.task_places.proofs.PlaceWords.{unused}
 use Rattle.task_places.proofs.TakeRows.{begun_later}
-use Rattle.task_places.proofs.TracedFields.{First, Housed, Traced, guest_named, guest_of, guest_under_way}
-use Rattle.task_places.proofs.TracedLemmas.{opening_traced, step_traced}
 use Rattle.task_places.proofs.WithdrawRows.{Withdrawable}
 use Rattle.task_places.specs.Kept.{ReachedInOrder, ReachedInPlace, StepsKeepPlaces}
 use Rattle.task_rules.proofs.LawLemmas.{steady}
@@ -56,78 +48,9 @@ no_way h = absurd (subst T (sym h) tt)
 
 -- ---- The facts of a core, and those that the walks keep
 
-none_not : {X : Type 0} (o : Option X) → is_some o ≡ true → is_none o ≡ false
-none_not None h = no_way h
-none_not (Some x) h = refl
-
 none_is : {X : Type 0} (o : Option X) → is_none o ≡ true → o ≡ None
 none_is None h = refl
 none_is (Some x) h = no_way h
-
--- what holds of each record
-each_of : {X : Type 0} (P : ℕ → X → Type 0) (m : Records X) → ((n : ℕ) (x : X) → get m n ≡ Some x → P n x) → Each P m
-each_of {X = X} P m h n = go (get m n) (h n)
-  where
-    go : (o : Option X) → ((x : X) → o ≡ Some x → P n x) → EachAt P n o
-    go None g = tt
-    go (Some x) g = g x refl
-
--- ---- Calls that were made
-
-guest_is : (sub : Subtask) (k : ℕ) → guest_of sub ≡ Some k → Some sub ≡ Some (subtask.Guest k)
-guest_is (subtask.Guest j) k h = ap (λ o. option_map (λ i. subtask.Guest i) o) h
-guest_is (subtask.Host j) k h = no_way (ap (λ o. is_some o) h)
-
-guest_at_handle : (o : Option Named) (k : ℕ) → option_and_then guest_named o ≡ Some k → option_and_then as_subtask o ≡ Some (subtask.Guest k)
-guest_at_handle None k h = no_way (ap (λ o. is_some o) h)
-guest_at_handle (Some (named.Subtask sub)) k h = guest_is sub k h
-guest_at_handle (Some (named.Set x)) k h = no_way (ap (λ o. is_some o) h)
-
-handle_of_guest : (o : Option Named) (k : ℕ) → option_and_then as_subtask o ≡ Some (subtask.Guest k) → option_and_then guest_named o ≡ Some k
-handle_of_guest None k h = no_way (ap (λ o. is_some o) h)
-handle_of_guest (Some (named.Subtask sub)) k h = ap (λ o. option_and_then guest_of o) h
-handle_of_guest (Some (named.Set x)) k h = no_way (ap (λ o. is_some o) h)
-
-guest_in_op : (f : HowFar) (k : ℕ) → guest_under_way f ≡ Some k → under_way f ≡ Some (subtask.Guest k)
-guest_in_op (how_far.Calls sub) k h = guest_is sub k h
-guest_in_op (how_far.Cancels sub) k h = guest_is sub k h
-guest_in_op (how_far.AwaitsEnd sub) k h = guest_is sub k h
-guest_in_op how_far.Fresh k h = no_way (ap (λ o. is_some o) h)
-guest_in_op (how_far.Waits x) k h = no_way (ap (λ o. is_some o) h)
-guest_in_op (how_far.Answered v) k h = no_way (ap (λ o. is_some o) h)
-guest_in_op how_far.Suspends k h = no_way (ap (λ o. is_some o) h)
-guest_in_op how_far.Yields k h = no_way (ap (λ o. is_some o) h)
-
-op_of_guest : (f : HowFar) (k : ℕ) → under_way f ≡ Some (subtask.Guest k) → guest_under_way f ≡ Some k
-op_of_guest (how_far.Calls sub) k h = ap (λ o. option_and_then guest_of o) h
-op_of_guest (how_far.Cancels sub) k h = ap (λ o. option_and_then guest_of o) h
-op_of_guest (how_far.AwaitsEnd sub) k h = ap (λ o. option_and_then guest_of o) h
-op_of_guest how_far.Fresh k h = no_way (ap (λ o. is_some o) h)
-op_of_guest (how_far.Waits x) k h = no_way (ap (λ o. is_some o) h)
-op_of_guest (how_far.Answered v) k h = no_way (ap (λ o. is_some o) h)
-op_of_guest how_far.Suspends k h = no_way (ap (λ o. is_some o) h)
-op_of_guest how_far.Yields k h = no_way (ap (λ o. is_some o) h)
-
-first_of : (s : Core) (k : ℕ) → WasCall s k → First s.threads s.made.threads k
-first_of s k h = record { number = h.number; implicit = h.first }
-
-was_call : (s : Core) (k : ℕ) → First s.threads s.made.threads k → WasCall s k
-was_call s k h = record { number = h.number; first = h.implicit }
-
-traced : (s : Core) → CallsThere s → CallsNamed s → Traced s
-traced s there h = record {
-  named = λ i g k e. first_of s k (h.by_handle i g k (guest_at_handle (named_by s.handles i g) k e));
-  under_way = λ n k e. first_of s k (h.by_op n k (guest_in_op (option_map_or (λ (t : Thread). t.how_far) (get s.threads n) how_far.Fresh) k e));
-  housed = each_of (Housed s.calls) s.threads (λ n t e first. none_not (get s.calls t.call) (there n t.call (ap (λ (o : Option Thread). option_map (λ (r : Thread). r.call) o) e)));
-}
-
--- ---- What the walks keep, as facts
-
-named_of : (s : Core) → Traced s → CallsNamed s
-named_of s q = record {
-  by_handle = λ i h k e. was_call s k (q.named i h k (handle_of_guest (named_by s.handles i h) k e));
-  by_op = λ n k e. was_call s k (q.under_way n k (op_of_guest (option_map_or (λ (t : Thread). t.how_far) (get s.threads n) how_far.Fresh) k e));
-}
 
 sets_of : (s : Core) → IsTidy s → SetsNamed s
 sets_of s q = record {
@@ -302,6 +225,16 @@ module _ (x : Setting) (s : State) (l : Label) (t : State) (h : InOrder x.compon
   pub calls_kept : CallsThere t.core
   calls_kept = along CallsThere (housed_word (scene_of x s l w.next) runner_housed) h.calls_there w.walk
 
+  pub named_kept : CallsNamed t.core
+  named_kept =
+      let a = scene_of x s l w.next in
+      let known : CallsNamed a.base = at_base CallsNamed (record { by_handle = λ i g k e. was (h.calls_named.by_handle i g k e); by_op = λ n k e. was (h.calls_named.by_op n k e) }) in
+      let first : Traced a s.core = record { was = λ k q. let r = from_base (λ (c : Core). WasCall c k) q in record { number = r.number; first = r.first }; named = h.calls_named } in
+      (along (Traced a) (λ v m ok q. traced_word a known m q v ok) first w.walk).named
+    where
+      was : {k : ℕ} → WasCall s.core k → WasCall (record s.core { queues = (base_at s.turn s.core).queues }) k
+      was q = record { number = q.number; first = q.first }
+
   known_home : KnownHome (scene_of x s l w.next)
   known_home = record {
     there = λ n is. at_base (λ (c : Core). is_there n c ≡ true) (runner n is);
@@ -338,14 +271,13 @@ step_in_order x s l t h step =
     let w = step_walks x s l t step in
     let k = lands x s l t h step in
     let q : CallsHold x.component t.core = (step_goes x s l t h.codes (record { numbered = h.numbered; kinds = h.kinds; deliveries = h.deliveries }) step).0 in
-    let r = step_traced x s (traced s.core h.calls_there h.calls_named) l t step in
     record {
       codes = h.codes;
       in_place = record { placed = k.each; runs = k.runs };
       strands = strands_kept x s l t h w;
       numbered = q.numbered;
       calls_there = calls_kept x s l t h w;
-      calls_named = named_of t.core r;
+      calls_named = named_kept x s l t h w;
       waits = waits_kept x s l t h w (steady x s l t step);
       sets_named = sets_of t.core (along IsTidy (tidy_word (scene_of x s l w.next)) (tidy s.core h.sets_named) w.walk);
       kinds = q.kinds;
@@ -410,7 +342,6 @@ opening_waits instances handle_limit capacity = record {
 pub opening_in_order : OpeningInOrder
 opening_in_order c codes instances handle_limit capacity main =
     let q : CallsHold c (fresh instances handle_limit capacity) = opening_holds c instances handle_limit capacity in
-    let r = opening_traced instances handle_limit capacity in
     let s = fresh instances handle_limit capacity in
     record {
       codes = codes;
@@ -419,7 +350,7 @@ opening_in_order c codes instances handle_limit capacity main =
       numbered = q.numbered;
       calls_there = opening_calls instances handle_limit capacity;
       waits = opening_waits instances handle_limit capacity;
-      calls_named = named_of s r;
+      calls_named = opening_named instances handle_limit capacity;
       sets_named = sets_of s (opening_tidy instances handle_limit capacity);
       kinds = q.kinds;
       deliveries = q.deliveries;

@@ -1,29 +1,58 @@
 -- The laws of steps and runs.
-use Rattle.std.proofs.Common.{◌∙◌, T, ap, arith, cond, eqb→eq, le_refl, le_trans, refl, subst, sym}
-use Rattle.std.specs.Prelude.{Bool, None, Option, Some, [], false, slice_set, true, ℕ, ◌+◌, ◌==◌, ◌∷◌, ◌≡◌, ◌≤◌}
-use Rattle.task_machine.specs.declared.records.Call.{Call}
-use Rattle.task_machine.specs.declared.records.Join.{Join}
-use Rattle.task_machine.specs.declared.label.Label.{Label}
-use Rattle.task_machine.specs.declared.outcome.Outcome.{Outcome}
-use Rattle.task_machine.specs.declared.words.Status.{Status}
-use Rattle.task_machine.specs.declared.records.Subtask.{Subtask}
-use Rattle.task_machine.specs.declared.records.Thread.{Thread}
-use Rattle.task_machine.specs.declared.records.Work.{Work}
-use Rattle.task_machine.specs.declared.records.Subtask.TheVariants as subtask
-use Rattle.task_machine.specs.declared.records.Turn.TheVariants as turn
+use Rattle.std.proofs.Common.{T, ap, arith, cond, eqb, eqb→eq, le_refl, le_trans, refl, subst, sym, ◌∙◌}
+use Rattle.std.specs.Option.{option_map_or}
+use Rattle.std.specs.Prelude.{Bool, IsTrue, None, Option, Some, [], false, is_some, option_map, position, slice_set, true, ℕ, ◌+◌, ◌==◌, ◌∷◌, ◌≡◌, ◌≤◌}
 use Rattle.task_machine.proofs.MapLemmas.{get-insert_other}
 use Rattle.task_machine.specs.Core.{Core, State}
 use Rattle.task_machine.specs.Maps.{Records, change, changed, get, get-insert, get-remove, insert, remove}
-use Rattle.task_machine.specs.Write.{add_call, add_group, add_set, add_thread, add_work, count_work, free_handle, free_thread_handle, give_handle, give_result, give_thread_handle, on_call, on_instance, on_thread, on_work, push_high, push_high_first, push_low, remove_call, remove_group, remove_set, remove_thread, remove_work, set_backpressure, set_callers, set_cancel_delivered, set_cancelled, set_course, set_do_not_enter, set_do_not_suspend, set_end, set_event, set_exited, set_high, set_how_far, set_join, set_low, set_own_event, set_phase, set_place, set_position, set_register, set_result, set_saved_callee, set_saved_own, set_script, set_stage, set_started, set_starting_published, set_subtask_handle, set_switch, set_thread_handle, set_trapped, set_uninteresting, set_word, take_result}
-use Rattle.task_rules.proofs.EndLemmas.{step_ends, step_over}
-use Rattle.task_rules.proofs.KeepLemmas.{step_keeps}
-use Rattle.task_rules.specs.Calls.{call_made, work_queued}
-use Rattle.task_rules.specs.Keeps.{EachStep, Elementary}
-use Rattle.task_rules.specs.Laws.{KeptByRuns, LaterBy, LaterCall, LaterWork, NeverFewer, OutcomeIsLast, RunGoesOn, RunsJoin, SameLimits, SameThread, Steady}
+use Rattle.task_machine.specs.Read.{new_handle, new_thread_handle}
+use Rattle.task_machine.specs.Write.{add_call, add_group, add_set, add_thread, add_work, count_work, free_handle, free_thread_handle, give_handle, give_result, give_thread_handle, on_call, on_instance, on_thread, on_work, push_high, remove_call, remove_group, remove_set, remove_thread, remove_work, set_backpressure, set_cancel_delivered, set_cancelled, set_course, set_do_not_enter, set_do_not_suspend, set_end, set_event, set_exited, set_how_far, set_join, set_own_event, set_phase, set_position, set_register, set_result, set_saved_callee, set_saved_own, set_script, set_stage, set_started, set_starting_published, set_subtask_handle, set_thread_handle, set_trapped, set_uninteresting, set_word, take_result}
+use Rattle.task_machine.specs.declared.label.Label.{Label}
+use Rattle.task_machine.specs.declared.outcome.Outcome.{Outcome}
+use Rattle.task_machine.specs.declared.records.Call.{Call}
+use Rattle.task_machine.specs.declared.records.Course.{Course}
+use Rattle.task_machine.specs.declared.records.Made.{Made}
+use Rattle.task_machine.specs.declared.records.Stage.{Stage}
+use Rattle.task_machine.specs.declared.records.Thread.{Thread}
+use Rattle.task_machine.specs.declared.records.Turn.{Turn}
+use Rattle.task_machine.specs.declared.records.Work.{Work}
+use Rattle.task_rules.proofs.ChainLemmas.{along, join}
+use Rattle.task_rules.proofs.PlacingLemmas.{Shifted, placing_shifted, popped_shifted, unplaced}
+use Rattle.task_rules.proofs.WalkSteps.{step_walks}
+use Rattle.task_rules.specs.Calls.{call_made, new_call, new_thread, new_work, next_thread, with_handle, with_thread_handle, work_queued}
+use Rattle.task_rules.specs.Chains.{Chain}
+use Rattle.task_rules.specs.Ends.{cancelled}
+use Rattle.task_rules.specs.Keeps.{EachStep}
+use Rattle.task_rules.specs.Laws.{KeptByRuns, LaterBy, LaterCall, LaterWork, NeverFewer, OutcomeEnds, OutcomeIsLast, OverIsLast, RunGoesOn, RunsJoin, SameLimits, SameThread, Steady}
 use Rattle.task_rules.specs.Outcome.{outcome_of_label}
+use Rattle.task_rules.specs.Progress.{may}
 use Rattle.task_rules.specs.Run.{Run}
+use Rattle.task_rules.specs.Scripts.{registers_for}
 use Rattle.task_rules.specs.Stalled.{Setting}
-use Rattle.task_rules.specs.Step.{Step}
+use Rattle.task_rules.specs.Step.{Step, TurnStep}
+use Rattle.task_rules.specs.Takes.{popped}
+use Rattle.task_rules.specs.Turns.{settled_turn}
+use Rattle.task_rules.specs.Words.{AddGroup, CountWork, EndWork, FinishWork, MakeCall, MakeThread, NameCall, NameThread, NameWork, OpenSet, Pend, Places, QueueWork, RemoveCall, RemoveThread, RemoveWork, SetCallEvent, SetCallJoin, SetCancelDelivered, SetCancelled, SetEnd, SetExited, SetHowFar, SetOwnEvent, SetPhase, SetPosition, SetRegister, SetResult, SetSavedCallee, SetSavedOwn, SetScript, SetStarted, SetStartingPublished, SetTrapped, SetUninteresting, SetWorkEvent, SetWorkJoin, TakeHost, TakePush, UnnameCall, UnnameWork, Withdraw, Word, after_placing, after_word}
+use Rattle.task_rules.specs.Works.{poll_pends}
+use Rattle.task_machine.specs.declared.records.Course.TheVariants as course
+use Rattle.task_machine.specs.declared.records.Script.TheVariants as script
+use Rattle.task_machine.specs.declared.records.Stage.TheVariants as stage
+use Rattle.task_machine.specs.declared.records.Turn.TheVariants as turn
+use Rattle.task_machine.specs.declared.words.Phase.TheVariants as phase
+
+-- ---- The end
+
+-- a label that gives an outcome ends the turns
+pub step_ends : OutcomeEnds
+step_ends x s l t step o is = let c = step_walks x s l t step in c.turn ∙ ap (λ (u : Turn). settled_turn t.core u) (c.ends.outcome o is)
+
+over_steps : (x : Setting) (s : State) (u : Turn) (l : Label) (t : State) → u ≡ turn.Over → TurnStep x s u l t → ⊥
+over_steps x s u l t is step = subst (λ (v : Turn). TurnStep x s v l t) is step
+
+-- nothing is lawful after that
+pub step_over : OverIsLast
+unfolding Step
+step_over x s l t is step = over_steps x s s.turn l t is step
 
 -- ---- Runs
 
@@ -35,9 +64,14 @@ pub runs_join : RunsJoin
 runs_join x s [] m ks t r q = subst (λ (y : State). Run x y ks t) r q
 runs_join x s (l ∷ ls) m ks t r q = (r.0, (r.1.0, runs_join x r.0 ls m ks t r.1.1 q))
 
-pub kept_by_runs : {R : Core → Core → Type 0} → Elementary R → KeptByRuns R
-kept_by_runs {R = R} E x s [] t r = subst (λ (y : State). R s.core y.core) (sym r) (E.same s.core)
-kept_by_runs {R = R} E x s (l ∷ ls) t r = E.after s.core r.0.core t.core (step_keeps E x s l r.0 r.1.0) (kept_by_runs E x r.0 ls t r.1.1)
+-- what each word keeps of the first core, each step and each run keeps
+module _ (R : Core → Core → Type 0) (same : (s : Core) → R s s) (kept : (b : Core) (w : Word) (s : Core) → R b s → R b (after_word w s)) where
+  pub step_kept : EachStep R
+  step_kept x s l t step = along (R s.core) (λ w u ok h. kept s.core w u h) (same s.core) (step_walks x s l t step).walk
+
+  pub kept_by_runs : ((s m t : Core) → R s m → R m t → R s t) → KeptByRuns R
+  kept_by_runs after x s [] t r = subst (λ (y : State). R s.core y.core) (sym r) (same s.core)
+  kept_by_runs after x s (l ∷ ls) t r = after s.core r.0.core t.core (step_kept x s l r.0 r.1.0) (kept_by_runs after x r.0 ls t r.1.1)
 
 not_last : (x : Setting) (m : State) (k : Label) (t : State) (o : Option Outcome) → ((p : Outcome) → o ≡ Some p → m.turn ≡ turn.Over) → Step x m k t → o ≡ None
 not_last x m k t None over step = refl
@@ -49,168 +83,75 @@ outcome_is_last x s (j ∷ js) l k t r = outcome_is_last x r.0 js l k t r.1.1
 
 -- ---- Counts and limits
 
-one_more : (n : ℕ) → n ≤ n + 1
-one_more n = omega arith
+one_more : {n m : ℕ} → n ≤ m → n ≤ m + 1
+one_more h = omega (arith, h)
 
-fewer_refl : (s : Core) → NeverFewer s s
-fewer_refl s = record { threads = le_refl _; works = le_refl _; sets = le_refl _; groups = le_refl _ }
+-- the counts have not fallen since
+record Counted (was now : Made) : Type 0 where
+  pub threads : was.threads ≤ now.threads
+  pub works : was.works ≤ now.works
+  pub sets : was.sets ≤ now.sets
+  pub groups : was.groups ≤ now.groups
 
-fewer_trans : (s m t : Core) → NeverFewer s m → NeverFewer m t → NeverFewer s t
-fewer_trans s m t a b = record { threads = le_trans a.threads b.threads; works = le_trans a.works b.works; sets = le_trans a.sets b.sets; groups = le_trans a.groups b.groups }
+thread_counted : {was now : Made} → Counted was now → Counted was (record now { threads = now.threads + 1 })
+thread_counted q = record { threads = one_more q.threads; works = q.works; sets = q.sets; groups = q.groups }
 
-limits_refl : (s : Core) → SameLimits s s
-limits_refl s = record { handle_limit = refl; capacity = refl; trapped = λ h. h }
+work_counted : {was now : Made} → Counted was now → Counted was (record now { works = now.works + 1 })
+work_counted q = record { threads = q.threads; works = one_more q.works; sets = q.sets; groups = q.groups }
 
-limits_trans : (s m t : Core) → SameLimits s m → SameLimits m t → SameLimits s t
-limits_trans s m t a b = record { handle_limit = a.handle_limit ∙ b.handle_limit; capacity = a.capacity ∙ b.capacity; trapped = λ h. b.trapped (a.trapped h) }
+counted_word : (b : Core) (w : Word) (s : Core) → Counted b.made s.made → Counted b.made (after_word w s).made
+unfolding add_call add_group add_set add_thread add_work call_made count_work free_handle free_thread_handle give_handle give_result give_thread_handle on_call on_instance on_thread on_work poll_pends push_high remove_call remove_group remove_set remove_thread remove_work set_backpressure set_cancel_delivered set_cancelled set_course set_do_not_enter set_do_not_suspend set_end set_event set_exited set_how_far set_join set_own_event set_phase set_position set_register set_result set_saved_callee set_saved_own set_script set_stage set_started set_starting_published set_subtask_handle set_thread_handle set_trapped set_uninteresting set_word take_result with_handle with_thread_handle work_queued
+counted_word b (MakeThread t) s q = thread_counted q
+counted_word b (MakeCall f e x g group words) s q = thread_counted q
+counted_word b CountWork s q = work_counted q
+counted_word b (QueueWork f host group) s q = work_counted q
+counted_word b (OpenSet i) s q = record { threads = q.threads; works = q.works; sets = one_more q.sets; groups = q.groups }
+counted_word b AddGroup s q = record { threads = q.threads; works = q.works; sets = q.sets; groups = one_more q.groups }
+counted_word b w s q = q
 
-fewer_set_event : (a0 : Subtask) (a1 : Option Status) (s : Core) → NeverFewer s (set_event a0 a1 s)
-unfolding set_register set_position set_how_far set_script set_thread_handle set_saved_own set_saved_callee set_place set_callers add_thread remove_thread set_started set_starting_published set_end set_own_event set_cancel_delivered set_exited set_uninteresting set_result remove_call set_event set_join set_subtask_handle count_work remove_work set_course set_phase set_stage set_cancelled add_set remove_set set_backpressure set_do_not_enter set_do_not_suspend set_word give_handle free_handle give_thread_handle free_thread_handle set_switch push_high push_high_first push_low set_high set_low give_result take_result add_group remove_group set_trapped call_made work_queued on_thread on_call on_work on_instance add_call add_work
-fewer_set_event (subtask.Guest k) a1 s = record { threads = le_refl _; works = le_refl _; sets = le_refl _; groups = le_refl _ }
-fewer_set_event (subtask.Host i) a1 s = record { threads = le_refl _; works = le_refl _; sets = le_refl _; groups = le_refl _ }
+fewer_of : {s t : Core} → Counted s.made t.made → NeverFewer s t
+fewer_of q = record { threads = q.threads; works = q.works; sets = q.sets; groups = q.groups }
 
-limits_set_event : (a0 : Subtask) (a1 : Option Status) (s : Core) → SameLimits s (set_event a0 a1 s)
-unfolding set_register set_position set_how_far set_script set_thread_handle set_saved_own set_saved_callee set_place set_callers add_thread remove_thread set_started set_starting_published set_end set_own_event set_cancel_delivered set_exited set_uninteresting set_result remove_call set_event set_join set_subtask_handle count_work remove_work set_course set_phase set_stage set_cancelled add_set remove_set set_backpressure set_do_not_enter set_do_not_suspend set_word give_handle free_handle give_thread_handle free_thread_handle set_switch push_high push_high_first push_low set_high set_low give_result take_result add_group remove_group set_trapped call_made work_queued on_thread on_call on_work on_instance add_call add_work
-limits_set_event (subtask.Guest k) a1 s = record { handle_limit = refl; capacity = refl; trapped = λ h. h }
-limits_set_event (subtask.Host i) a1 s = record { handle_limit = refl; capacity = refl; trapped = λ h. h }
+counted_same : (m : Made) → Counted m m
+counted_same m = record { threads = le_refl _; works = le_refl _; sets = le_refl _; groups = le_refl _ }
 
-fewer_set_join : (a0 : Subtask) (a1 : Join) (s : Core) → NeverFewer s (set_join a0 a1 s)
-unfolding set_register set_position set_how_far set_script set_thread_handle set_saved_own set_saved_callee set_place set_callers add_thread remove_thread set_started set_starting_published set_end set_own_event set_cancel_delivered set_exited set_uninteresting set_result remove_call set_event set_join set_subtask_handle count_work remove_work set_course set_phase set_stage set_cancelled add_set remove_set set_backpressure set_do_not_enter set_do_not_suspend set_word give_handle free_handle give_thread_handle free_thread_handle set_switch push_high push_high_first push_low set_high set_low give_result take_result add_group remove_group set_trapped call_made work_queued on_thread on_call on_work on_instance add_call add_work
-fewer_set_join (subtask.Guest k) a1 s = record { threads = le_refl _; works = le_refl _; sets = le_refl _; groups = le_refl _ }
-fewer_set_join (subtask.Host i) a1 s = record { threads = le_refl _; works = le_refl _; sets = le_refl _; groups = le_refl _ }
+counted_after : (k m n : Made) → Counted k m → Counted m n → Counted k n
+counted_after k m n a b = record { threads = le_trans a.threads b.threads; works = le_trans a.works b.works; sets = le_trans a.sets b.sets; groups = le_trans a.groups b.groups }
 
-limits_set_join : (a0 : Subtask) (a1 : Join) (s : Core) → SameLimits s (set_join a0 a1 s)
-unfolding set_register set_position set_how_far set_script set_thread_handle set_saved_own set_saved_callee set_place set_callers add_thread remove_thread set_started set_starting_published set_end set_own_event set_cancel_delivered set_exited set_uninteresting set_result remove_call set_event set_join set_subtask_handle count_work remove_work set_course set_phase set_stage set_cancelled add_set remove_set set_backpressure set_do_not_enter set_do_not_suspend set_word give_handle free_handle give_thread_handle free_thread_handle set_switch push_high push_high_first push_low set_high set_low give_result take_result add_group remove_group set_trapped call_made work_queued on_thread on_call on_work on_instance add_call add_work
-limits_set_join (subtask.Guest k) a1 s = record { handle_limit = refl; capacity = refl; trapped = λ h. h }
-limits_set_join (subtask.Host i) a1 s = record { handle_limit = refl; capacity = refl; trapped = λ h. h }
+counted_step : EachStep (λ s t. Counted s.made t.made)
+counted_step = step_kept (λ s t. Counted s.made t.made) (λ s. counted_same s.made) counted_word
 
-fewer_set_subtask_handle : (a0 : Subtask) (a1 : Option ℕ) (s : Core) → NeverFewer s (set_subtask_handle a0 a1 s)
-unfolding set_register set_position set_how_far set_script set_thread_handle set_saved_own set_saved_callee set_place set_callers add_thread remove_thread set_started set_starting_published set_end set_own_event set_cancel_delivered set_exited set_uninteresting set_result remove_call set_event set_join set_subtask_handle count_work remove_work set_course set_phase set_stage set_cancelled add_set remove_set set_backpressure set_do_not_enter set_do_not_suspend set_word give_handle free_handle give_thread_handle free_thread_handle set_switch push_high push_high_first push_low set_high set_low give_result take_result add_group remove_group set_trapped call_made work_queued on_thread on_call on_work on_instance add_call add_work
-fewer_set_subtask_handle (subtask.Guest k) a1 s = record { threads = le_refl _; works = le_refl _; sets = le_refl _; groups = le_refl _ }
-fewer_set_subtask_handle (subtask.Host i) a1 s = record { threads = le_refl _; works = le_refl _; sets = le_refl _; groups = le_refl _ }
+counted_run : KeptByRuns (λ s t. Counted s.made t.made)
+counted_run = kept_by_runs (λ s t. Counted s.made t.made) (λ s. counted_same s.made) counted_word (λ s m t. counted_after s.made m.made t.made)
 
-limits_set_subtask_handle : (a0 : Subtask) (a1 : Option ℕ) (s : Core) → SameLimits s (set_subtask_handle a0 a1 s)
-unfolding set_register set_position set_how_far set_script set_thread_handle set_saved_own set_saved_callee set_place set_callers add_thread remove_thread set_started set_starting_published set_end set_own_event set_cancel_delivered set_exited set_uninteresting set_result remove_call set_event set_join set_subtask_handle count_work remove_work set_course set_phase set_stage set_cancelled add_set remove_set set_backpressure set_do_not_enter set_do_not_suspend set_word give_handle free_handle give_thread_handle free_thread_handle set_switch push_high push_high_first push_low set_high set_low give_result take_result add_group remove_group set_trapped call_made work_queued on_thread on_call on_work on_instance add_call add_work
-limits_set_subtask_handle (subtask.Guest k) a1 s = record { handle_limit = refl; capacity = refl; trapped = λ h. h }
-limits_set_subtask_handle (subtask.Host i) a1 s = record { handle_limit = refl; capacity = refl; trapped = λ h. h }
+pub never_fewer : EachStep NeverFewer
+never_fewer x s l t step = fewer_of {s = s.core} {t = t.core} (counted_step x s l t step)
 
-pub fewer_elementary : Elementary NeverFewer
-unfolding set_register set_position set_how_far set_script set_thread_handle set_saved_own set_saved_callee set_place set_callers add_thread remove_thread set_started set_starting_published set_end set_own_event set_cancel_delivered set_exited set_uninteresting set_result remove_call set_event set_join set_subtask_handle count_work remove_work set_course set_phase set_stage set_cancelled add_set remove_set set_backpressure set_do_not_enter set_do_not_suspend set_word give_handle free_handle give_thread_handle free_thread_handle set_switch push_high push_high_first push_low set_high set_low give_result take_result add_group remove_group set_trapped call_made work_queued on_thread on_call on_work on_instance add_call add_work
-fewer_elementary = record {
-  same = fewer_refl;
-  after = fewer_trans;
-  set_register_kept = λ a0 a1 a2 s. record { threads = le_refl _; works = le_refl _; sets = le_refl _; groups = le_refl _ };
-  set_position_kept = λ a0 a1 s. record { threads = le_refl _; works = le_refl _; sets = le_refl _; groups = le_refl _ };
-  set_how_far_kept = λ a0 a1 s. record { threads = le_refl _; works = le_refl _; sets = le_refl _; groups = le_refl _ };
-  set_script_kept = λ a0 a1 s. record { threads = le_refl _; works = le_refl _; sets = le_refl _; groups = le_refl _ };
-  set_thread_handle_kept = λ a0 a1 s. record { threads = le_refl _; works = le_refl _; sets = le_refl _; groups = le_refl _ };
-  set_saved_own_kept = λ a0 a1 s. record { threads = le_refl _; works = le_refl _; sets = le_refl _; groups = le_refl _ };
-  set_saved_callee_kept = λ a0 a1 s. record { threads = le_refl _; works = le_refl _; sets = le_refl _; groups = le_refl _ };
-  set_place_kept = λ a0 a1 s. record { threads = le_refl _; works = le_refl _; sets = le_refl _; groups = le_refl _ };
-  set_callers_kept = λ a0 a1 s. record { threads = le_refl _; works = le_refl _; sets = le_refl _; groups = le_refl _ };
-  add_thread_kept = λ a0 s. record { threads = one_more _; works = le_refl _; sets = le_refl _; groups = le_refl _ };
-  remove_thread_kept = λ a0 s. record { threads = le_refl _; works = le_refl _; sets = le_refl _; groups = le_refl _ };
-  set_started_kept = λ a0 s. record { threads = le_refl _; works = le_refl _; sets = le_refl _; groups = le_refl _ };
-  set_starting_published_kept = λ a0 s. record { threads = le_refl _; works = le_refl _; sets = le_refl _; groups = le_refl _ };
-  set_end_kept = λ a0 a1 s. record { threads = le_refl _; works = le_refl _; sets = le_refl _; groups = le_refl _ };
-  set_own_event_kept = λ a0 a1 s. record { threads = le_refl _; works = le_refl _; sets = le_refl _; groups = le_refl _ };
-  set_cancel_delivered_kept = λ a0 s. record { threads = le_refl _; works = le_refl _; sets = le_refl _; groups = le_refl _ };
-  set_exited_kept = λ a0 s. record { threads = le_refl _; works = le_refl _; sets = le_refl _; groups = le_refl _ };
-  set_uninteresting_kept = λ a0 s. record { threads = le_refl _; works = le_refl _; sets = le_refl _; groups = le_refl _ };
-  set_result_kept = λ a0 a1 s. record { threads = le_refl _; works = le_refl _; sets = le_refl _; groups = le_refl _ };
-  remove_call_kept = λ a0 s. record { threads = le_refl _; works = le_refl _; sets = le_refl _; groups = le_refl _ };
-  set_event_kept = fewer_set_event;
-  set_join_kept = fewer_set_join;
-  set_subtask_handle_kept = fewer_set_subtask_handle;
-  count_work_kept = λ s. record { threads = le_refl _; works = one_more _; sets = le_refl _; groups = le_refl _ };
-  remove_work_kept = λ a0 s. record { threads = le_refl _; works = le_refl _; sets = le_refl _; groups = le_refl _ };
-  set_course_kept = λ a0 a1 s. record { threads = le_refl _; works = le_refl _; sets = le_refl _; groups = le_refl _ };
-  set_phase_kept = λ a0 a1 s. record { threads = le_refl _; works = le_refl _; sets = le_refl _; groups = le_refl _ };
-  set_stage_kept = λ a0 a1 s. record { threads = le_refl _; works = le_refl _; sets = le_refl _; groups = le_refl _ };
-  set_cancelled_kept = λ a0 s. record { threads = le_refl _; works = le_refl _; sets = le_refl _; groups = le_refl _ };
-  add_set_kept = λ a0 s. record { threads = le_refl _; works = le_refl _; sets = one_more _; groups = le_refl _ };
-  remove_set_kept = λ a0 s. record { threads = le_refl _; works = le_refl _; sets = le_refl _; groups = le_refl _ };
-  set_backpressure_kept = λ a0 a1 s. record { threads = le_refl _; works = le_refl _; sets = le_refl _; groups = le_refl _ };
-  set_do_not_enter_kept = λ a0 a1 s. record { threads = le_refl _; works = le_refl _; sets = le_refl _; groups = le_refl _ };
-  set_do_not_suspend_kept = λ a0 a1 s. record { threads = le_refl _; works = le_refl _; sets = le_refl _; groups = le_refl _ };
-  set_word_kept = λ a0 a1 a2 s. record { threads = le_refl _; works = le_refl _; sets = le_refl _; groups = le_refl _ };
-  give_handle_kept = λ a0 a1 s. record { threads = le_refl _; works = le_refl _; sets = le_refl _; groups = le_refl _ };
-  free_handle_kept = λ a0 a1 s. record { threads = le_refl _; works = le_refl _; sets = le_refl _; groups = le_refl _ };
-  give_thread_handle_kept = λ a0 a1 s. record { threads = le_refl _; works = le_refl _; sets = le_refl _; groups = le_refl _ };
-  free_thread_handle_kept = λ a0 a1 s. record { threads = le_refl _; works = le_refl _; sets = le_refl _; groups = le_refl _ };
-  set_switch_kept = λ a0 s. record { threads = le_refl _; works = le_refl _; sets = le_refl _; groups = le_refl _ };
-  push_high_kept = λ a0 s. record { threads = le_refl _; works = le_refl _; sets = le_refl _; groups = le_refl _ };
-  push_high_first_kept = λ a0 s. record { threads = le_refl _; works = le_refl _; sets = le_refl _; groups = le_refl _ };
-  push_low_kept = λ a0 s. record { threads = le_refl _; works = le_refl _; sets = le_refl _; groups = le_refl _ };
-  set_high_kept = λ a0 s. record { threads = le_refl _; works = le_refl _; sets = le_refl _; groups = le_refl _ };
-  set_low_kept = λ a0 s. record { threads = le_refl _; works = le_refl _; sets = le_refl _; groups = le_refl _ };
-  give_result_kept = λ a0 a1 s. record { threads = le_refl _; works = le_refl _; sets = le_refl _; groups = le_refl _ };
-  take_result_kept = λ a0 s. record { threads = le_refl _; works = le_refl _; sets = le_refl _; groups = le_refl _ };
-  add_group_kept = λ s. record { threads = le_refl _; works = le_refl _; sets = le_refl _; groups = one_more _ };
-  remove_group_kept = λ a0 s. record { threads = le_refl _; works = le_refl _; sets = le_refl _; groups = le_refl _ };
-  set_trapped_kept = λ s. record { threads = le_refl _; works = le_refl _; sets = le_refl _; groups = le_refl _ };
-  call_made_kept = λ a0 a1 a2 a3 a4 a5 s. record { threads = one_more _; works = le_refl _; sets = le_refl _; groups = le_refl _ };
-  work_queued_kept = λ a0 a1 a2 s. record { threads = le_refl _; works = one_more _; sets = le_refl _; groups = le_refl _ };
-}
+pub runs_never_fewer : KeptByRuns NeverFewer
+runs_never_fewer x s ls t run = fewer_of {s = s.core} {t = t.core} (counted_run x s ls t run)
 
-pub limits_elementary : Elementary SameLimits
-unfolding set_register set_position set_how_far set_script set_thread_handle set_saved_own set_saved_callee set_place set_callers add_thread remove_thread set_started set_starting_published set_end set_own_event set_cancel_delivered set_exited set_uninteresting set_result remove_call set_event set_join set_subtask_handle count_work remove_work set_course set_phase set_stage set_cancelled add_set remove_set set_backpressure set_do_not_enter set_do_not_suspend set_word give_handle free_handle give_thread_handle free_thread_handle set_switch push_high push_high_first push_low set_high set_low give_result take_result add_group remove_group set_trapped call_made work_queued on_thread on_call on_work on_instance add_call add_work
-limits_elementary = record {
-  same = limits_refl;
-  after = limits_trans;
-  set_register_kept = λ a0 a1 a2 s. record { handle_limit = refl; capacity = refl; trapped = λ h. h };
-  set_position_kept = λ a0 a1 s. record { handle_limit = refl; capacity = refl; trapped = λ h. h };
-  set_how_far_kept = λ a0 a1 s. record { handle_limit = refl; capacity = refl; trapped = λ h. h };
-  set_script_kept = λ a0 a1 s. record { handle_limit = refl; capacity = refl; trapped = λ h. h };
-  set_thread_handle_kept = λ a0 a1 s. record { handle_limit = refl; capacity = refl; trapped = λ h. h };
-  set_saved_own_kept = λ a0 a1 s. record { handle_limit = refl; capacity = refl; trapped = λ h. h };
-  set_saved_callee_kept = λ a0 a1 s. record { handle_limit = refl; capacity = refl; trapped = λ h. h };
-  set_place_kept = λ a0 a1 s. record { handle_limit = refl; capacity = refl; trapped = λ h. h };
-  set_callers_kept = λ a0 a1 s. record { handle_limit = refl; capacity = refl; trapped = λ h. h };
-  add_thread_kept = λ a0 s. record { handle_limit = refl; capacity = refl; trapped = λ h. h };
-  remove_thread_kept = λ a0 s. record { handle_limit = refl; capacity = refl; trapped = λ h. h };
-  set_started_kept = λ a0 s. record { handle_limit = refl; capacity = refl; trapped = λ h. h };
-  set_starting_published_kept = λ a0 s. record { handle_limit = refl; capacity = refl; trapped = λ h. h };
-  set_end_kept = λ a0 a1 s. record { handle_limit = refl; capacity = refl; trapped = λ h. h };
-  set_own_event_kept = λ a0 a1 s. record { handle_limit = refl; capacity = refl; trapped = λ h. h };
-  set_cancel_delivered_kept = λ a0 s. record { handle_limit = refl; capacity = refl; trapped = λ h. h };
-  set_exited_kept = λ a0 s. record { handle_limit = refl; capacity = refl; trapped = λ h. h };
-  set_uninteresting_kept = λ a0 s. record { handle_limit = refl; capacity = refl; trapped = λ h. h };
-  set_result_kept = λ a0 a1 s. record { handle_limit = refl; capacity = refl; trapped = λ h. h };
-  remove_call_kept = λ a0 s. record { handle_limit = refl; capacity = refl; trapped = λ h. h };
-  set_event_kept = limits_set_event;
-  set_join_kept = limits_set_join;
-  set_subtask_handle_kept = limits_set_subtask_handle;
-  count_work_kept = λ s. record { handle_limit = refl; capacity = refl; trapped = λ h. h };
-  remove_work_kept = λ a0 s. record { handle_limit = refl; capacity = refl; trapped = λ h. h };
-  set_course_kept = λ a0 a1 s. record { handle_limit = refl; capacity = refl; trapped = λ h. h };
-  set_phase_kept = λ a0 a1 s. record { handle_limit = refl; capacity = refl; trapped = λ h. h };
-  set_stage_kept = λ a0 a1 s. record { handle_limit = refl; capacity = refl; trapped = λ h. h };
-  set_cancelled_kept = λ a0 s. record { handle_limit = refl; capacity = refl; trapped = λ h. h };
-  add_set_kept = λ a0 s. record { handle_limit = refl; capacity = refl; trapped = λ h. h };
-  remove_set_kept = λ a0 s. record { handle_limit = refl; capacity = refl; trapped = λ h. h };
-  set_backpressure_kept = λ a0 a1 s. record { handle_limit = refl; capacity = refl; trapped = λ h. h };
-  set_do_not_enter_kept = λ a0 a1 s. record { handle_limit = refl; capacity = refl; trapped = λ h. h };
-  set_do_not_suspend_kept = λ a0 a1 s. record { handle_limit = refl; capacity = refl; trapped = λ h. h };
-  set_word_kept = λ a0 a1 a2 s. record { handle_limit = refl; capacity = refl; trapped = λ h. h };
-  give_handle_kept = λ a0 a1 s. record { handle_limit = refl; capacity = refl; trapped = λ h. h };
-  free_handle_kept = λ a0 a1 s. record { handle_limit = refl; capacity = refl; trapped = λ h. h };
-  give_thread_handle_kept = λ a0 a1 s. record { handle_limit = refl; capacity = refl; trapped = λ h. h };
-  free_thread_handle_kept = λ a0 a1 s. record { handle_limit = refl; capacity = refl; trapped = λ h. h };
-  set_switch_kept = λ a0 s. record { handle_limit = refl; capacity = refl; trapped = λ h. h };
-  push_high_kept = λ a0 s. record { handle_limit = refl; capacity = refl; trapped = λ h. h };
-  push_high_first_kept = λ a0 s. record { handle_limit = refl; capacity = refl; trapped = λ h. h };
-  push_low_kept = λ a0 s. record { handle_limit = refl; capacity = refl; trapped = λ h. h };
-  set_high_kept = λ a0 s. record { handle_limit = refl; capacity = refl; trapped = λ h. h };
-  set_low_kept = λ a0 s. record { handle_limit = refl; capacity = refl; trapped = λ h. h };
-  give_result_kept = λ a0 a1 s. record { handle_limit = refl; capacity = refl; trapped = λ h. h };
-  take_result_kept = λ a0 s. record { handle_limit = refl; capacity = refl; trapped = λ h. h };
-  add_group_kept = λ s. record { handle_limit = refl; capacity = refl; trapped = λ h. h };
-  remove_group_kept = λ a0 s. record { handle_limit = refl; capacity = refl; trapped = λ h. h };
-  set_trapped_kept = λ s. record { handle_limit = refl; capacity = refl; trapped = λ h. refl };
-  call_made_kept = λ a0 a1 a2 a3 a4 a5 s. record { handle_limit = refl; capacity = refl; trapped = λ h. h };
-  work_queued_kept = λ a0 a1 a2 s. record { handle_limit = refl; capacity = refl; trapped = λ h. h };
-}
+-- the limits are those, and what was trapped is
+record Limited (b : Core) (handle_limit capacity : ℕ) (trapped : Bool) : Type 0 where
+  pub handles : b.handle_limit ≡ handle_limit
+  pub room : b.capacity ≡ capacity
+  pub still : IsTrue b.trapped → IsTrue trapped
+
+limited_word : (b : Core) (w : Word) (s : Core) → Limited b s.handle_limit s.capacity s.trapped → Limited b (after_word w s).handle_limit (after_word w s).capacity (after_word w s).trapped
+unfolding add_call add_group add_set add_thread add_work call_made count_work free_handle free_thread_handle give_handle give_result give_thread_handle on_call on_instance on_thread on_work poll_pends push_high remove_call remove_group remove_set remove_thread remove_work set_backpressure set_cancel_delivered set_cancelled set_course set_do_not_enter set_do_not_suspend set_end set_event set_exited set_how_far set_join set_own_event set_phase set_position set_register set_result set_saved_callee set_saved_own set_script set_stage set_started set_starting_published set_subtask_handle set_thread_handle set_trapped set_uninteresting set_word take_result with_handle with_thread_handle work_queued
+limited_word b SetTrapped s q = record { handles = q.handles; room = q.room; still = λ h. refl }
+limited_word b w s q = q
+
+limits_of : {s t : Core} → Limited s t.handle_limit t.capacity t.trapped → SameLimits s t
+limits_of q = record { handle_limit = q.handles; capacity = q.room; trapped = q.still }
+
+limited_step : EachStep (λ s t. Limited s t.handle_limit t.capacity t.trapped)
+limited_step = step_kept (λ s t. Limited s t.handle_limit t.capacity t.trapped) (λ s. record { handles = refl; room = refl; still = λ h. h }) limited_word
+
+pub same_limits : EachStep SameLimits
+same_limits x s l t step = limits_of {s = s.core} {t = t.core} (limited_step x s l t step)
+
+pub runs_same_limits : KeptByRuns SameLimits
+runs_same_limits x s ls t run = limits_of {s = s.core} {t = t.core} (kept_by_runs (λ s t. Limited s t.handle_limit t.capacity t.trapped) (λ s. record { handles = refl; room = refl; still = λ h. h }) limited_word (λ s m t a b. record { handles = a.handles ∙ b.handles; room = a.room ∙ b.room; still = λ h. b.still (a.still h) }) x s ls t run)
 
 -- ---- Records
 
@@ -271,17 +212,110 @@ later_work_refl w = record { caller = refl; group = refl; cancelled = λ h. h }
 later_work_trans : (v w x : Work) → LaterWork v w → LaterWork w x → LaterWork v x
 later_work_trans v w x a b = record { caller = a.caller ∙ b.caller; group = a.group ∙ b.group; cancelled = λ h. b.cancelled (a.cancelled h) }
 
-threads_same : (o : Option Thread) → LaterBy SameThread o o
-threads_same o = later_refl SameThread same_thread_refl same_thread_trans o
+later_call_changed : (c d : Call) → c.caller ≡ d.caller → c.callee ≡ d.callee → c.kind ≡ d.kind → c.goal ≡ d.goal → c.group ≡ d.group → (IsTrue c.started → IsTrue d.started) → (IsTrue c.starting_published → IsTrue d.starting_published) → (IsTrue c.cancel_delivered → IsTrue d.cancel_delivered) → (IsTrue c.exited → IsTrue d.exited) → LaterCall c d
+later_call_changed c d a e k g h s p v x = record { caller = a; callee = e; kind = k; goal = g; group = h; started = s; starting_published = p; cancel_delivered = v; exited = x }
 
-calls_same : (o : Option Call) → LaterBy LaterCall o o
-calls_same o = later_refl LaterCall later_call_refl later_call_trans o
+-- Each record that was there is gone or later, of these records of which so many were made.
+record NowLater {X : Type 0} (P : X → X → Type 0) (was : Records X) (was_made : ℕ) (now : Records X) (made : ℕ) : Type 0 where
+  pub count : was_made ≤ made
+  pub each : (n : ℕ) → n ≤ was_made → LaterBy P (get was n) (get now n)
 
-works_same : (o : Option Work) → LaterBy LaterWork o o
-works_same o = later_refl LaterWork later_work_refl later_work_trans o
+module _ {X : Type 0} (P : X → X → Type 0) (p_refl : (x : X) → P x x) (p_trans : (x y z : X) → P x y → P y z → P x z) {was : Records X} {was_made : ℕ} where
+  still_later : {now : Records X} {made : ℕ} (more : Records X) (most : ℕ) → was_made ≤ most → ((n : ℕ) → n ≤ was_made → LaterBy P (get now n) (get more n)) → NowLater P was was_made now made → NowLater P was was_made more most
+  still_later {now = now} more most count later q = record { count = count; each = λ n below. later_trans P p_refl p_trans (get was n) (get now n) (get more n) (q.each n below) (later n below) }
+
+  changed_now : (n : ℕ) (f : X → X) {now : Records X} {made : ℕ} → ((x : X) → P x (f x)) → NowLater P was was_made now made → NowLater P was was_made (change n f now) made
+  changed_now n f {now = now} {made = made} keeps q = still_later (change n f now) made q.count (λ k below. change_later P p_refl p_trans now n f keeps k) q
+
+  removed_now : (n : ℕ) {now : Records X} {made : ℕ} → NowLater P was was_made now made → NowLater P was was_made (remove now n) made
+  removed_now n {now = now} {made = made} q = still_later (remove now n) made q.count (λ k below. remove_later P p_refl p_trans now n k) q
+
+  made_now : (x : X) {now : Records X} {made : ℕ} → NowLater P was was_made now made → NowLater P was was_made (insert now (made + 1) x) (made + 1)
+  made_now x {now = now} {made = made} q = still_later (insert now (made + 1) x) (made + 1) (one_more q.count) (λ k below. insert_later P p_refl p_trans now made x k (le_trans below q.count)) q
+
+module _ (b : Core) where
+  thread_changed : (n : ℕ) (f : Thread → Thread) {now : Records Thread} {made : ℕ} → ((t : Thread) → SameThread t (f t)) → NowLater SameThread b.threads b.made.threads now made → NowLater SameThread b.threads b.made.threads (change n f now) made
+  thread_changed n f keeps q = changed_now SameThread same_thread_refl same_thread_trans n f keeps q
+
+  -- where threads are doesn't matter
+  places_changed : (s t : Core) → Shifted s t → NowLater SameThread b.threads b.made.threads s.threads s.made.threads → NowLater SameThread b.threads b.made.threads t.threads s.made.threads
+  places_changed s t h q = still_later SameThread same_thread_refl same_thread_trans t.threads s.made.threads q.count (λ n below. unplaced_later (get s.threads n) (get t.threads n) (h.threads n)) q
+    where
+      unplaced_later : (o p : Option Thread) → option_map unplaced p ≡ option_map unplaced o → LaterBy SameThread o p
+      unplaced_later None None e = tt
+      unplaced_later None (Some u) e = absurd (subst T (ap (λ (q : Option Thread). is_some q) e) tt)
+      unplaced_later (Some t) None e = tt
+      unplaced_later (Some t) (Some u) e = record { call = ap (λ (q : Option Thread). option_map_or (λ r. r.call) q 0) (sym e); explicit = ap (λ (q : Option Thread). option_map_or (λ r. r.explicit) q false) (sym e) }
+
+  threads_word : (w : Word) (s : Core) → NowLater SameThread b.threads b.made.threads s.threads s.made.threads → NowLater SameThread b.threads b.made.threads (after_word w s).threads (after_word w s).made.threads
+  unfolding add_call add_group add_set add_thread add_work call_made count_work free_handle free_thread_handle give_handle give_result give_thread_handle on_call on_instance on_thread on_work poll_pends push_high remove_call remove_group remove_set remove_thread remove_work set_backpressure set_cancel_delivered set_cancelled set_course set_do_not_enter set_do_not_suspend set_end set_event set_exited set_how_far set_join set_own_event set_phase set_position set_register set_result set_saved_callee set_saved_own set_script set_stage set_started set_starting_published set_subtask_handle set_thread_handle set_trapped set_uninteresting set_word take_result with_handle with_thread_handle work_queued
+  threads_word (Places p) s q = places_changed s (after_placing p s) (placing_shifted p s) q
+  threads_word (TakePush m i) s q = places_changed s (popped m s) (popped_shifted m s) q
+  threads_word (TakeHost m i) s q = places_changed s (popped m s) (popped_shifted m s) q
+  threads_word (SetRegister n r v) s q = thread_changed n (λ t. record t { registers = slice_set t.registers r v }) (λ t. record { call = refl; explicit = refl }) q
+  threads_word (SetPosition n p) s q = thread_changed n (λ t. record t { position = p }) (λ t. record { call = refl; explicit = refl }) q
+  threads_word (SetHowFar n h) s q = thread_changed n (λ t. record t { how_far = h }) (λ t. record { call = refl; explicit = refl }) q
+  threads_word (SetScript n x) s q = thread_changed n (λ t. record t { script = x }) (λ t. record { call = refl; explicit = refl }) q
+  threads_word (SetSavedOwn n f) s q = thread_changed n (λ t. record t { saved_own = f }) (λ t. record { call = refl; explicit = refl }) q
+  threads_word (SetSavedCallee n f) s q = thread_changed n (λ t. record t { saved_callee = f }) (λ t. record { call = refl; explicit = refl }) q
+  threads_word (NameThread i n) s q = thread_changed n (λ t. record t { handle = Some (new_thread_handle i s) }) (λ t. record { call = refl; explicit = refl }) q
+  threads_word (MakeThread t) s q = made_now SameThread same_thread_refl same_thread_trans t q
+  threads_word (MakeCall f e x g group words) s q = made_now SameThread same_thread_refl same_thread_trans (new_thread (next_thread s) false script.Start (registers_for words) None) q
+  threads_word (RemoveThread n) s q = removed_now SameThread same_thread_refl same_thread_trans n q
+  threads_word (Withdraw k) s q = removed_now SameThread same_thread_refl same_thread_trans k q
+  threads_word w s q = q
+
+  call_changed : (k : ℕ) (f : Call → Call) {now : Records Call} {made : ℕ} → ((c : Call) → LaterCall c (f c)) → NowLater LaterCall b.calls b.made.threads now made → NowLater LaterCall b.calls b.made.threads (change k f now) made
+  call_changed k f keeps q = changed_now LaterCall later_call_refl later_call_trans k f keeps q
+
+  calls_word : (w : Word) (s : Core) → NowLater LaterCall b.calls b.made.threads s.calls s.made.threads → NowLater LaterCall b.calls b.made.threads (after_word w s).calls (after_word w s).made.threads
+  unfolding add_call add_group add_set add_thread add_work call_made count_work free_handle free_thread_handle give_handle give_result give_thread_handle on_call on_instance on_thread on_work poll_pends push_high remove_call remove_group remove_set remove_thread remove_work set_backpressure set_cancel_delivered set_cancelled set_course set_do_not_enter set_do_not_suspend set_end set_event set_exited set_how_far set_join set_own_event set_phase set_position set_register set_result set_saved_callee set_saved_own set_script set_stage set_started set_starting_published set_subtask_handle set_thread_handle set_trapped set_uninteresting set_word take_result with_handle with_thread_handle work_queued
+  calls_word (MakeThread t) s q = record { count = one_more q.count; each = q.each }
+  calls_word (MakeCall f e x g group words) s q = made_now LaterCall later_call_refl later_call_trans (new_call f e x g group) q
+  calls_word (RemoveCall k) s q = removed_now LaterCall later_call_refl later_call_trans k q
+  calls_word (SetStarted k) s q = call_changed k (λ c. record c { started = true }) (λ c. later_call_changed c (record c { started = true }) refl refl refl refl refl (λ h. refl) (λ h. h) (λ h. h) (λ h. h)) q
+  calls_word (SetStartingPublished k) s q = call_changed k (λ c. record c { starting_published = true }) (λ c. later_call_changed c (record c { starting_published = true }) refl refl refl refl refl (λ h. h) (λ h. refl) (λ h. h) (λ h. h)) q
+  calls_word (SetEnd k e) s q = call_changed k (λ c. record c { «end» = Some e }) (λ c. later_call_changed c (record c { «end» = Some e }) refl refl refl refl refl (λ h. h) (λ h. h) (λ h. h) (λ h. h)) q
+  calls_word (SetOwnEvent k e) s q = call_changed k (λ c. record c { own_event = e }) (λ c. later_call_changed c (record c { own_event = e }) refl refl refl refl refl (λ h. h) (λ h. h) (λ h. h) (λ h. h)) q
+  calls_word (SetCancelDelivered k) s q = call_changed k (λ c. record c { cancel_delivered = true }) (λ c. later_call_changed c (record c { cancel_delivered = true }) refl refl refl refl refl (λ h. h) (λ h. h) (λ h. refl) (λ h. h)) q
+  calls_word (SetExited k) s q = call_changed k (λ c. record c { exited = true }) (λ c. later_call_changed c (record c { exited = true }) refl refl refl refl refl (λ h. h) (λ h. h) (λ h. h) (λ h. refl)) q
+  calls_word (SetUninteresting k) s q = call_changed k (λ c. record c { interesting = false }) (λ c. later_call_changed c (record c { interesting = false }) refl refl refl refl refl (λ h. h) (λ h. h) (λ h. h) (λ h. h)) q
+  calls_word (SetResult k v) s q = call_changed k (λ c. record c { result = v }) (λ c. later_call_changed c (record c { result = v }) refl refl refl refl refl (λ h. h) (λ h. h) (λ h. h) (λ h. h)) q
+  calls_word (SetCallEvent k e) s q = call_changed k (λ c. record c { event = e }) (λ c. later_call_changed c (record c { event = e }) refl refl refl refl refl (λ h. h) (λ h. h) (λ h. h) (λ h. h)) q
+  calls_word (SetCallJoin k j) s q = call_changed k (λ c. record c { join = j }) (λ c. later_call_changed c (record c { join = j }) refl refl refl refl refl (λ h. h) (λ h. h) (λ h. h) (λ h. h)) q
+  calls_word (NameCall i k) s q = call_changed k (λ c. record c { handle = Some (new_handle i s) }) (λ c. later_call_changed c (record c { handle = Some (new_handle i s) }) refl refl refl refl refl (λ h. h) (λ h. h) (λ h. h) (λ h. h)) q
+  calls_word (UnnameCall i h k) s q = call_changed k (λ c. record c { handle = None }) (λ c. later_call_changed c (record c { handle = None }) refl refl refl refl refl (λ g. g) (λ g. g) (λ g. g) (λ g. g)) q
+  calls_word w s q = q
+
+  work_changed : (i : ℕ) (f : Work → Work) {now : Records Work} {made : ℕ} → ((w : Work) → LaterWork w (f w)) → NowLater LaterWork b.works b.made.works now made → NowLater LaterWork b.works b.made.works (change i f now) made
+  work_changed i f keeps q = changed_now LaterWork later_work_refl later_work_trans i f keeps q
+
+  stage_changed : (i : ℕ) (y : Stage) {now : Records Work} {made : ℕ} → NowLater LaterWork b.works b.made.works now made → NowLater LaterWork b.works b.made.works (change i (λ w. record w { stage = y }) now) made
+  stage_changed i y q = work_changed i (λ w. record w { stage = y }) (λ w. record { caller = refl; group = refl; cancelled = λ h. h }) q
+
+  settled_works : (i : ℕ) (c : Course) (y : Stage) {now : Records Work} {made : ℕ} → NowLater LaterWork b.works b.made.works now made → NowLater LaterWork b.works b.made.works (change i (λ w. record w { stage = y }) (change i (λ w. record w { phase = phase.Complete }) (change i (λ w. record w { course = c }) now))) made
+  settled_works i c y q = stage_changed i y (work_changed i (λ w. record w { phase = phase.Complete }) (λ w. record { caller = refl; group = refl; cancelled = λ h. h }) (work_changed i (λ w. record w { course = c }) (λ w. record { caller = refl; group = refl; cancelled = λ h. h }) q))
+
+  works_word : (w : Word) (s : Core) → NowLater LaterWork b.works b.made.works s.works s.made.works → NowLater LaterWork b.works b.made.works (after_word w s).works (after_word w s).made.works
+  unfolding add_call add_group add_set add_thread add_work call_made count_work free_handle free_thread_handle give_handle give_result give_thread_handle on_call on_instance on_thread on_work poll_pends push_high remove_call remove_group remove_set remove_thread remove_work set_backpressure set_cancel_delivered set_cancelled set_course set_do_not_enter set_do_not_suspend set_end set_event set_exited set_how_far set_join set_own_event set_phase set_position set_register set_result set_saved_callee set_saved_own set_script set_stage set_started set_starting_published set_subtask_handle set_thread_handle set_trapped set_uninteresting set_word take_result with_handle with_thread_handle work_queued
+  works_word CountWork s q = record { count = one_more q.count; each = q.each }
+  works_word (QueueWork f host group) s q = made_now LaterWork later_work_refl later_work_trans (new_work f host group) q
+  works_word (TakePush m i) s q = stage_changed i stage.Live q
+  works_word (TakeHost m i) s q = stage_changed i stage.Ended q
+  works_word (Pend i host) s q = work_changed i (λ w. record w { course = course.Goes host }) (λ w. record { caller = refl; group = refl; cancelled = λ h. h }) q
+  works_word (EndWork i c) s q = settled_works i c stage.Ended q
+  works_word (FinishWork i c) s q = settled_works i c stage.Finishing q
+  works_word (SetPhase i p) s q = work_changed i (λ w. record w { phase = p }) (λ w. record { caller = refl; group = refl; cancelled = λ h. h }) q
+  works_word (SetCancelled i) s q = work_changed i (λ w. record w { cancelled = true }) (λ w. record { caller = refl; group = refl; cancelled = λ h. refl }) q
+  works_word (SetWorkEvent i e) s q = work_changed i (λ w. record w { event = e }) (λ w. record { caller = refl; group = refl; cancelled = λ h. h }) q
+  works_word (SetWorkJoin i j) s q = work_changed i (λ w. record w { join = j }) (λ w. record { caller = refl; group = refl; cancelled = λ h. h }) q
+  works_word (NameWork i k) s q = work_changed k (λ w. record w { handle = Some (new_handle i s) }) (λ w. record { caller = refl; group = refl; cancelled = λ h. h }) q
+  works_word (UnnameWork i h k) s q = work_changed k (λ w. record w { handle = None }) (λ w. record { caller = refl; group = refl; cancelled = λ g. g }) q
+  works_word (RemoveWork i) s q = removed_now LaterWork later_work_refl later_work_trans i q
+  works_word w s q = q
 
 steady_refl : (s : Core) → Steady s s
-steady_refl s = record { threads_made = le_refl _; works_made = le_refl _; threads = λ n h. threads_same _; calls = λ k h. calls_same _; works = λ i h. works_same _ }
+steady_refl s = record { threads_made = le_refl _; works_made = le_refl _; threads = λ n h. later_refl SameThread same_thread_refl same_thread_trans (get s.threads n); calls = λ k h. later_refl LaterCall later_call_refl later_call_trans (get s.calls k); works = λ i h. later_refl LaterWork later_work_refl later_work_trans (get s.works i) }
 
 steady_trans : (s m t : Core) → Steady s m → Steady m t → Steady s t
 steady_trans s m t a b = record {
@@ -292,94 +326,19 @@ steady_trans s m t a b = record {
   works = λ i h. later_trans LaterWork later_work_refl later_work_trans (get s.works i) (get m.works i) (get t.works i) (a.works i h) (b.works i (le_trans h a.works_made));
 }
 
-steady_set_event : (a0 : Subtask) (a1 : Option Status) (s : Core) → Steady s (set_event a0 a1 s)
-unfolding set_register set_position set_how_far set_script set_thread_handle set_saved_own set_saved_callee set_place set_callers add_thread remove_thread set_started set_starting_published set_end set_own_event set_cancel_delivered set_exited set_uninteresting set_result remove_call set_event set_join set_subtask_handle count_work remove_work set_course set_phase set_stage set_cancelled add_set remove_set set_backpressure set_do_not_enter set_do_not_suspend set_word give_handle free_handle give_thread_handle free_thread_handle set_switch push_high push_high_first push_low set_high set_low give_result take_result add_group remove_group set_trapped call_made work_queued on_thread on_call on_work on_instance add_call add_work
-steady_set_event (subtask.Guest k) a1 s = record { threads_made = le_refl _; works_made = le_refl _; threads = λ n h. threads_same _; calls = λ j h. change_later LaterCall later_call_refl later_call_trans s.calls k (λ c. record c { event = a1 }) (λ x. record { caller = refl; callee = refl; kind = refl; goal = refl; group = refl; started = λ g. g; starting_published = λ g. g; cancel_delivered = λ g. g; exited = λ g. g }) j; works = λ i h. works_same _ }
-steady_set_event (subtask.Host i) a1 s = record { threads_made = le_refl _; works_made = le_refl _; threads = λ n h. threads_same _; calls = λ k h. calls_same _; works = λ j h. change_later LaterWork later_work_refl later_work_trans s.works i (λ w. record w { event = a1 }) (λ x. record { caller = refl; group = refl; cancelled = λ g. g }) j }
+steady_word : (b : Core) (w : Word) (s : Core) → Steady b s → Steady b (after_word w s)
+steady_word b w s q =
+    let t = threads_word b w s (record { count = q.threads_made; each = q.threads }) in
+    let c = calls_word b w s (record { count = q.threads_made; each = q.calls }) in
+    let v = works_word b w s (record { count = q.works_made; each = q.works }) in
+    record { threads_made = t.count; works_made = v.count; threads = t.each; calls = c.each; works = v.each }
 
-steady_set_join : (a0 : Subtask) (a1 : Join) (s : Core) → Steady s (set_join a0 a1 s)
-unfolding set_register set_position set_how_far set_script set_thread_handle set_saved_own set_saved_callee set_place set_callers add_thread remove_thread set_started set_starting_published set_end set_own_event set_cancel_delivered set_exited set_uninteresting set_result remove_call set_event set_join set_subtask_handle count_work remove_work set_course set_phase set_stage set_cancelled add_set remove_set set_backpressure set_do_not_enter set_do_not_suspend set_word give_handle free_handle give_thread_handle free_thread_handle set_switch push_high push_high_first push_low set_high set_low give_result take_result add_group remove_group set_trapped call_made work_queued on_thread on_call on_work on_instance add_call add_work
-steady_set_join (subtask.Guest k) a1 s = record { threads_made = le_refl _; works_made = le_refl _; threads = λ n h. threads_same _; calls = λ j h. change_later LaterCall later_call_refl later_call_trans s.calls k (λ c. record c { join = a1 }) (λ x. record { caller = refl; callee = refl; kind = refl; goal = refl; group = refl; started = λ g. g; starting_published = λ g. g; cancel_delivered = λ g. g; exited = λ g. g }) j; works = λ i h. works_same _ }
-steady_set_join (subtask.Host i) a1 s = record { threads_made = le_refl _; works_made = le_refl _; threads = λ n h. threads_same _; calls = λ k h. calls_same _; works = λ j h. change_later LaterWork later_work_refl later_work_trans s.works i (λ w. record w { join = a1 }) (λ x. record { caller = refl; group = refl; cancelled = λ g. g }) j }
-
-steady_set_subtask_handle : (a0 : Subtask) (a1 : Option ℕ) (s : Core) → Steady s (set_subtask_handle a0 a1 s)
-unfolding set_register set_position set_how_far set_script set_thread_handle set_saved_own set_saved_callee set_place set_callers add_thread remove_thread set_started set_starting_published set_end set_own_event set_cancel_delivered set_exited set_uninteresting set_result remove_call set_event set_join set_subtask_handle count_work remove_work set_course set_phase set_stage set_cancelled add_set remove_set set_backpressure set_do_not_enter set_do_not_suspend set_word give_handle free_handle give_thread_handle free_thread_handle set_switch push_high push_high_first push_low set_high set_low give_result take_result add_group remove_group set_trapped call_made work_queued on_thread on_call on_work on_instance add_call add_work
-steady_set_subtask_handle (subtask.Guest k) a1 s = record { threads_made = le_refl _; works_made = le_refl _; threads = λ n h. threads_same _; calls = λ j h. change_later LaterCall later_call_refl later_call_trans s.calls k (λ c. record c { handle = a1 }) (λ x. record { caller = refl; callee = refl; kind = refl; goal = refl; group = refl; started = λ g. g; starting_published = λ g. g; cancel_delivered = λ g. g; exited = λ g. g }) j; works = λ i h. works_same _ }
-steady_set_subtask_handle (subtask.Host i) a1 s = record { threads_made = le_refl _; works_made = le_refl _; threads = λ n h. threads_same _; calls = λ k h. calls_same _; works = λ j h. change_later LaterWork later_work_refl later_work_trans s.works i (λ w. record w { handle = a1 }) (λ x. record { caller = refl; group = refl; cancelled = λ g. g }) j }
-
-pub steady_elementary : Elementary Steady
-unfolding set_register set_position set_how_far set_script set_thread_handle set_saved_own set_saved_callee set_place set_callers add_thread remove_thread set_started set_starting_published set_end set_own_event set_cancel_delivered set_exited set_uninteresting set_result remove_call set_event set_join set_subtask_handle count_work remove_work set_course set_phase set_stage set_cancelled add_set remove_set set_backpressure set_do_not_enter set_do_not_suspend set_word give_handle free_handle give_thread_handle free_thread_handle set_switch push_high push_high_first push_low set_high set_low give_result take_result add_group remove_group set_trapped call_made work_queued on_thread on_call on_work on_instance add_call add_work
-steady_elementary = record {
-  same = steady_refl;
-  after = steady_trans;
-  set_register_kept = λ a0 a1 a2 s. record { threads_made = le_refl _; works_made = le_refl _; threads = λ n h. change_later SameThread same_thread_refl same_thread_trans s.threads a0 (λ t. record t { registers = slice_set t.registers a1 a2 }) (λ x. record { call = refl; explicit = refl }) n; calls = λ k h. calls_same _; works = λ i h. works_same _ };
-  set_position_kept = λ a0 a1 s. record { threads_made = le_refl _; works_made = le_refl _; threads = λ n h. change_later SameThread same_thread_refl same_thread_trans s.threads a0 (λ t. record t { position = a1 }) (λ x. record { call = refl; explicit = refl }) n; calls = λ k h. calls_same _; works = λ i h. works_same _ };
-  set_how_far_kept = λ a0 a1 s. record { threads_made = le_refl _; works_made = le_refl _; threads = λ n h. change_later SameThread same_thread_refl same_thread_trans s.threads a0 (λ t. record t { how_far = a1 }) (λ x. record { call = refl; explicit = refl }) n; calls = λ k h. calls_same _; works = λ i h. works_same _ };
-  set_script_kept = λ a0 a1 s. record { threads_made = le_refl _; works_made = le_refl _; threads = λ n h. change_later SameThread same_thread_refl same_thread_trans s.threads a0 (λ t. record t { script = a1 }) (λ x. record { call = refl; explicit = refl }) n; calls = λ k h. calls_same _; works = λ i h. works_same _ };
-  set_thread_handle_kept = λ a0 a1 s. record { threads_made = le_refl _; works_made = le_refl _; threads = λ n h. change_later SameThread same_thread_refl same_thread_trans s.threads a0 (λ t. record t { handle = a1 }) (λ x. record { call = refl; explicit = refl }) n; calls = λ k h. calls_same _; works = λ i h. works_same _ };
-  set_saved_own_kept = λ a0 a1 s. record { threads_made = le_refl _; works_made = le_refl _; threads = λ n h. change_later SameThread same_thread_refl same_thread_trans s.threads a0 (λ t. record t { saved_own = a1 }) (λ x. record { call = refl; explicit = refl }) n; calls = λ k h. calls_same _; works = λ i h. works_same _ };
-  set_saved_callee_kept = λ a0 a1 s. record { threads_made = le_refl _; works_made = le_refl _; threads = λ n h. change_later SameThread same_thread_refl same_thread_trans s.threads a0 (λ t. record t { saved_callee = a1 }) (λ x. record { call = refl; explicit = refl }) n; calls = λ k h. calls_same _; works = λ i h. works_same _ };
-  set_place_kept = λ a0 a1 s. record { threads_made = le_refl _; works_made = le_refl _; threads = λ n h. change_later SameThread same_thread_refl same_thread_trans s.threads a0 (λ t. record t { place = a1 }) (λ x. record { call = refl; explicit = refl }) n; calls = λ k h. calls_same _; works = λ i h. works_same _ };
-  set_callers_kept = λ a0 a1 s. record { threads_made = le_refl _; works_made = le_refl _; threads = λ n h. threads_same _; calls = λ k h. calls_same _; works = λ i h. works_same _ };
-  add_thread_kept = λ a0 s. record { threads_made = one_more _; works_made = le_refl _; threads = λ n h. insert_later SameThread same_thread_refl same_thread_trans s.threads s.made.threads _ n h; calls = λ k h. calls_same _; works = λ i h. works_same _ };
-  remove_thread_kept = λ a0 s. record { threads_made = le_refl _; works_made = le_refl _; threads = λ n h. remove_later SameThread same_thread_refl same_thread_trans s.threads a0 n; calls = λ k h. calls_same _; works = λ i h. works_same _ };
-  set_started_kept = λ a0 s. record { threads_made = le_refl _; works_made = le_refl _; threads = λ n h. threads_same _; calls = λ k h. change_later LaterCall later_call_refl later_call_trans s.calls a0 (λ c. record c { started = true }) (λ x. record { caller = refl; callee = refl; kind = refl; goal = refl; group = refl; started = λ g. refl; starting_published = λ g. g; cancel_delivered = λ g. g; exited = λ g. g }) k; works = λ i h. works_same _ };
-  set_starting_published_kept = λ a0 s. record { threads_made = le_refl _; works_made = le_refl _; threads = λ n h. threads_same _; calls = λ k h. change_later LaterCall later_call_refl later_call_trans s.calls a0 (λ c. record c { starting_published = true }) (λ x. record { caller = refl; callee = refl; kind = refl; goal = refl; group = refl; started = λ g. g; starting_published = λ g. refl; cancel_delivered = λ g. g; exited = λ g. g }) k; works = λ i h. works_same _ };
-  set_end_kept = λ a0 a1 s. record { threads_made = le_refl _; works_made = le_refl _; threads = λ n h. threads_same _; calls = λ k h. change_later LaterCall later_call_refl later_call_trans s.calls a0 (λ c. record c { «end» = Some a1 }) (λ x. record { caller = refl; callee = refl; kind = refl; goal = refl; group = refl; started = λ g. g; starting_published = λ g. g; cancel_delivered = λ g. g; exited = λ g. g }) k; works = λ i h. works_same _ };
-  set_own_event_kept = λ a0 a1 s. record { threads_made = le_refl _; works_made = le_refl _; threads = λ n h. threads_same _; calls = λ k h. change_later LaterCall later_call_refl later_call_trans s.calls a0 (λ c. record c { own_event = a1 }) (λ x. record { caller = refl; callee = refl; kind = refl; goal = refl; group = refl; started = λ g. g; starting_published = λ g. g; cancel_delivered = λ g. g; exited = λ g. g }) k; works = λ i h. works_same _ };
-  set_cancel_delivered_kept = λ a0 s. record { threads_made = le_refl _; works_made = le_refl _; threads = λ n h. threads_same _; calls = λ k h. change_later LaterCall later_call_refl later_call_trans s.calls a0 (λ c. record c { cancel_delivered = true }) (λ x. record { caller = refl; callee = refl; kind = refl; goal = refl; group = refl; started = λ g. g; starting_published = λ g. g; cancel_delivered = λ g. refl; exited = λ g. g }) k; works = λ i h. works_same _ };
-  set_exited_kept = λ a0 s. record { threads_made = le_refl _; works_made = le_refl _; threads = λ n h. threads_same _; calls = λ k h. change_later LaterCall later_call_refl later_call_trans s.calls a0 (λ c. record c { exited = true }) (λ x. record { caller = refl; callee = refl; kind = refl; goal = refl; group = refl; started = λ g. g; starting_published = λ g. g; cancel_delivered = λ g. g; exited = λ g. refl }) k; works = λ i h. works_same _ };
-  set_uninteresting_kept = λ a0 s. record { threads_made = le_refl _; works_made = le_refl _; threads = λ n h. threads_same _; calls = λ k h. change_later LaterCall later_call_refl later_call_trans s.calls a0 (λ c. record c { interesting = false }) (λ x. record { caller = refl; callee = refl; kind = refl; goal = refl; group = refl; started = λ g. g; starting_published = λ g. g; cancel_delivered = λ g. g; exited = λ g. g }) k; works = λ i h. works_same _ };
-  set_result_kept = λ a0 a1 s. record { threads_made = le_refl _; works_made = le_refl _; threads = λ n h. threads_same _; calls = λ k h. change_later LaterCall later_call_refl later_call_trans s.calls a0 (λ c. record c { result = a1 }) (λ x. record { caller = refl; callee = refl; kind = refl; goal = refl; group = refl; started = λ g. g; starting_published = λ g. g; cancel_delivered = λ g. g; exited = λ g. g }) k; works = λ i h. works_same _ };
-  remove_call_kept = λ a0 s. record { threads_made = le_refl _; works_made = le_refl _; threads = λ n h. threads_same _; calls = λ k h. remove_later LaterCall later_call_refl later_call_trans s.calls a0 k; works = λ i h. works_same _ };
-  set_event_kept = steady_set_event;
-  set_join_kept = steady_set_join;
-  set_subtask_handle_kept = steady_set_subtask_handle;
-  count_work_kept = λ s. record { threads_made = le_refl _; works_made = one_more _; threads = λ n h. threads_same _; calls = λ k h. calls_same _; works = λ i h. works_same _ };
-  remove_work_kept = λ a0 s. record { threads_made = le_refl _; works_made = le_refl _; threads = λ n h. threads_same _; calls = λ k h. calls_same _; works = λ i h. remove_later LaterWork later_work_refl later_work_trans s.works a0 i };
-  set_course_kept = λ a0 a1 s. record { threads_made = le_refl _; works_made = le_refl _; threads = λ n h. threads_same _; calls = λ k h. calls_same _; works = λ i h. change_later LaterWork later_work_refl later_work_trans s.works a0 (λ w. record w { course = a1 }) (λ x. record { caller = refl; group = refl; cancelled = λ g. g }) i };
-  set_phase_kept = λ a0 a1 s. record { threads_made = le_refl _; works_made = le_refl _; threads = λ n h. threads_same _; calls = λ k h. calls_same _; works = λ i h. change_later LaterWork later_work_refl later_work_trans s.works a0 (λ w. record w { phase = a1 }) (λ x. record { caller = refl; group = refl; cancelled = λ g. g }) i };
-  set_stage_kept = λ a0 a1 s. record { threads_made = le_refl _; works_made = le_refl _; threads = λ n h. threads_same _; calls = λ k h. calls_same _; works = λ i h. change_later LaterWork later_work_refl later_work_trans s.works a0 (λ w. record w { stage = a1 }) (λ x. record { caller = refl; group = refl; cancelled = λ g. g }) i };
-  set_cancelled_kept = λ a0 s. record { threads_made = le_refl _; works_made = le_refl _; threads = λ n h. threads_same _; calls = λ k h. calls_same _; works = λ i h. change_later LaterWork later_work_refl later_work_trans s.works a0 (λ w. record w { cancelled = true }) (λ x. record { caller = refl; group = refl; cancelled = λ g. refl }) i };
-  add_set_kept = λ a0 s. record { threads_made = le_refl _; works_made = le_refl _; threads = λ n h. threads_same _; calls = λ k h. calls_same _; works = λ i h. works_same _ };
-  remove_set_kept = λ a0 s. record { threads_made = le_refl _; works_made = le_refl _; threads = λ n h. threads_same _; calls = λ k h. calls_same _; works = λ i h. works_same _ };
-  set_backpressure_kept = λ a0 a1 s. record { threads_made = le_refl _; works_made = le_refl _; threads = λ n h. threads_same _; calls = λ k h. calls_same _; works = λ i h. works_same _ };
-  set_do_not_enter_kept = λ a0 a1 s. record { threads_made = le_refl _; works_made = le_refl _; threads = λ n h. threads_same _; calls = λ k h. calls_same _; works = λ i h. works_same _ };
-  set_do_not_suspend_kept = λ a0 a1 s. record { threads_made = le_refl _; works_made = le_refl _; threads = λ n h. threads_same _; calls = λ k h. calls_same _; works = λ i h. works_same _ };
-  set_word_kept = λ a0 a1 a2 s. record { threads_made = le_refl _; works_made = le_refl _; threads = λ n h. threads_same _; calls = λ k h. calls_same _; works = λ i h. works_same _ };
-  give_handle_kept = λ a0 a1 s. record { threads_made = le_refl _; works_made = le_refl _; threads = λ n h. threads_same _; calls = λ k h. calls_same _; works = λ i h. works_same _ };
-  free_handle_kept = λ a0 a1 s. record { threads_made = le_refl _; works_made = le_refl _; threads = λ n h. threads_same _; calls = λ k h. calls_same _; works = λ i h. works_same _ };
-  give_thread_handle_kept = λ a0 a1 s. record { threads_made = le_refl _; works_made = le_refl _; threads = λ n h. threads_same _; calls = λ k h. calls_same _; works = λ i h. works_same _ };
-  free_thread_handle_kept = λ a0 a1 s. record { threads_made = le_refl _; works_made = le_refl _; threads = λ n h. threads_same _; calls = λ k h. calls_same _; works = λ i h. works_same _ };
-  set_switch_kept = λ a0 s. record { threads_made = le_refl _; works_made = le_refl _; threads = λ n h. threads_same _; calls = λ k h. calls_same _; works = λ i h. works_same _ };
-  push_high_kept = λ a0 s. record { threads_made = le_refl _; works_made = le_refl _; threads = λ n h. threads_same _; calls = λ k h. calls_same _; works = λ i h. works_same _ };
-  push_high_first_kept = λ a0 s. record { threads_made = le_refl _; works_made = le_refl _; threads = λ n h. threads_same _; calls = λ k h. calls_same _; works = λ i h. works_same _ };
-  push_low_kept = λ a0 s. record { threads_made = le_refl _; works_made = le_refl _; threads = λ n h. threads_same _; calls = λ k h. calls_same _; works = λ i h. works_same _ };
-  set_high_kept = λ a0 s. record { threads_made = le_refl _; works_made = le_refl _; threads = λ n h. threads_same _; calls = λ k h. calls_same _; works = λ i h. works_same _ };
-  set_low_kept = λ a0 s. record { threads_made = le_refl _; works_made = le_refl _; threads = λ n h. threads_same _; calls = λ k h. calls_same _; works = λ i h. works_same _ };
-  give_result_kept = λ a0 a1 s. record { threads_made = le_refl _; works_made = le_refl _; threads = λ n h. threads_same _; calls = λ k h. calls_same _; works = λ i h. works_same _ };
-  take_result_kept = λ a0 s. record { threads_made = le_refl _; works_made = le_refl _; threads = λ n h. threads_same _; calls = λ k h. calls_same _; works = λ i h. works_same _ };
-  add_group_kept = λ s. record { threads_made = le_refl _; works_made = le_refl _; threads = λ n h. threads_same _; calls = λ k h. calls_same _; works = λ i h. works_same _ };
-  remove_group_kept = λ a0 s. record { threads_made = le_refl _; works_made = le_refl _; threads = λ n h. threads_same _; calls = λ k h. calls_same _; works = λ i h. works_same _ };
-  set_trapped_kept = λ s. record { threads_made = le_refl _; works_made = le_refl _; threads = λ n h. threads_same _; calls = λ k h. calls_same _; works = λ i h. works_same _ };
-  call_made_kept = λ a0 a1 a2 a3 a4 a5 s. record { threads_made = one_more _; works_made = le_refl _; threads = λ n h. insert_later SameThread same_thread_refl same_thread_trans s.threads s.made.threads _ n h; calls = λ k h. insert_later LaterCall later_call_refl later_call_trans s.calls s.made.threads _ k h; works = λ i h. works_same _ };
-  work_queued_kept = λ a0 a1 a2 s. record { threads_made = le_refl _; works_made = one_more _; threads = λ n h. threads_same _; calls = λ k h. calls_same _; works = λ i h. insert_later LaterWork later_work_refl later_work_trans s.works s.made.works _ i h };
-}
-
-pub never_fewer : EachStep NeverFewer
-never_fewer = step_keeps fewer_elementary
-
-pub same_limits : EachStep SameLimits
-same_limits = step_keeps limits_elementary
+-- what a chain of words leads to
+pub walk_steady : {may : Word → Core → Type 0} {b t : Core} → Chain may b t → Steady b t
+walk_steady {b = b} c = along (Steady b) (λ w s ok q. steady_word b w s q) (steady_refl b) c
 
 pub steady : EachStep Steady
-steady = step_keeps steady_elementary
+steady = step_kept Steady steady_refl steady_word
 
 pub runs_steady : KeptByRuns Steady
-runs_steady = kept_by_runs steady_elementary
-
-pub runs_never_fewer : KeptByRuns NeverFewer
-runs_never_fewer = kept_by_runs fewer_elementary
-
-pub runs_same_limits : KeptByRuns SameLimits
-runs_same_limits = kept_by_runs limits_elementary
+runs_steady = kept_by_runs Steady steady_refl steady_word steady_trans

@@ -26,13 +26,13 @@ pub fn runs_keep_limits()
 {}
 
 /// After `main answer`, a trap, a `fails` or a `deadlock` the turns are over.
-#[tactic(auto, using(crate::proofs::EndLemmas::step_ends))]
+#[tactic(auto, using(crate::proofs::LawLemmas::step_ends))]
 pub fn outcomes_end()
     ensures { OutcomeEnds }
 {}
 
 /// Once the turns are over no label is lawful.
-#[tactic(auto, using(crate::proofs::EndLemmas::step_over))]
+#[tactic(auto, using(crate::proofs::LawLemmas::step_over))]
 pub fn none_after_over()
     ensures { OverIsLast }
 {}
