@@ -20,7 +20,6 @@ pub use outside::{Read, Sink, Source, Wrote};
 pub use program::{ToolEnd, USAGE, tool};
 pub use report::{Report, ScriptedHost, print_report, run_scenario};
 pub use scenario::{InstanceNames, MainOp, RunError, Scenario};
-pub use task_machine::NoMemory;
 pub use std_io::{StdSink, StdSource};
 pub use sure::{SureSink, SureSource};
-pub use task_machine::{IdleLine, Operand, Seq};
+pub use task_machine::{IdleLine, NoMemory, Operand, Seq};
