@@ -35,15 +35,15 @@ fn nothing_stands_in_a_new_core(rt: HostRuntime) -> Result<(), Fail> {
 fn calls_are_made_in_groups(rt: HostRuntime) -> Result<(), Fail> {
     let mut core = TaskCore::new(rt.alloc());
     assert!(rt; core.given() < 9);
-    let started = core.start_call(CALLEE, ExportKind::Callback, [0; 16])?;
-    assert!(rt; core.is_live(started));
-    assert!(rt; core.given() < 9);
     let first = core.make_task_in_new_group(Caller::Main, CALLEE, ExportKind::Sync)?;
     assert!(rt; core.is_live(first));
     assert!(rt; core.given() < 9);
     let caller = Caller::Thread { thread: 1 };
     let second = core.make_task(caller, CALLEE, ExportKind::Callback, 1)?;
     assert!(rt; core.is_live(second));
+    assert!(rt; core.given() < 9);
+    let started = core.start_call(CALLEE, ExportKind::Callback, [0; 16])?;
+    assert!(rt; core.is_live(started));
     core.settle_group(1);
     assert_eq!(rt; core.table().len(), 11);
     Ok(())

@@ -3,8 +3,8 @@
 
 mod keyword;
 mod line;
-mod read;
 mod placement;
+mod read;
 mod state;
 mod tree;
 mod words;

@@ -158,11 +158,8 @@ impl State {
     fn after_handles(self, handles: u32) -> Result<State, LineError>
         ensures { Gives result (after_handles self handles) }
     {
-        if !handles_fit(handles) {
-            return Err(LineError::Bad);
-        }
         match self {
-            State::Titled => Ok(State::Handles(handles)),
+            State::Titled if handles_fit(handles) => Ok(State::Handles(handles)),
             _ => Err(LineError::Bad),
         }
     }
@@ -171,11 +168,8 @@ impl State {
     fn after_table(self, table: u32) -> Result<State, LineError>
         ensures { Gives result (after_table self table) }
     {
-        if !table_fits(table) {
-            return Err(LineError::Bad);
-        }
         match self {
-            State::Handles(handles) => Ok(State::Table(handles, table)),
+            State::Handles(handles) if table_fits(table) => Ok(State::Table(handles, table)),
             _ => Err(LineError::Bad),
         }
     }

@@ -101,10 +101,15 @@ fn notices_in_order(rt: HostRuntime) -> Result<(), Fail> {
     groups.keep_notices(6).ok().ok_or("memory")?;
     assert_eq!(rt; make(&rt, &mut groups), Some(1));
     assert_eq!(rt; make(&rt, &mut groups), Some(2));
-    assert!(rt; groups.count(id(1)) == 1);
-    groups.increment(id(1));
-    for (old, new) in [(None, Some(1)), (Some(1), Some(1)), (Some(1), Some(2))] {
-        assert!(rt; groups.switch(old.map(id), new.map(id)).is_ok());
+    let first = id(1);
+    assert!(rt; groups.count(first) == 1);
+    groups.increment(first);
+    for (old, new) in [
+        (None, Some(id(1))),
+        (Some(id(1)), Some(id(1))),
+        (Some(id(1)), Some(id(2))),
+    ] {
+        assert!(rt; groups.switch(old, new).is_ok());
     }
     for finished in [false, true, false] {
         assert_eq!(rt; groups.decrement(id(1)).ok(), Some(finished));
@@ -122,7 +127,7 @@ fn notices_in_order(rt: HostRuntime) -> Result<(), Fail> {
         ("exit", 2),
         ("finish", 2),
     ];
-    let heard = list.try_borrow().map_err(|_| "the list is in use")?;
+    let heard = list.try_borrow().ok().ok_or("the list is in use")?;
     assert_eq!(rt; heard.as_slice(), want.as_slice());
     assert_eq!(rt; groups.notices().len(), 6);
     Ok(())
@@ -144,7 +149,7 @@ fn failing_hooks(rt: HostRuntime) -> Result<(), Fail> {
         let switched = groups.switch(Some(id(1)), Some(id(2)));
         assert_eq!(rt; switched.is_ok(), switches, "{fails}");
         assert_eq!(rt; groups.decrement(id(1)).ok(), lowered, "{fails}");
-        let heard = list.try_borrow().map_err(|_| "the list is in use")?;
+        let heard = list.try_borrow().ok().ok_or("the list is in use")?;
         assert_eq!(rt; heard.len(), notices, "{fails}");
     }
     Ok(())

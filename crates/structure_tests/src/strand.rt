@@ -17,12 +17,19 @@ fn frames_are_pushed_read_and_taken(rt: HostRuntime) {
     if let Some(top) = strand.top_mut() {
         top.half = Half::Saved(9, Some(true));
     }
-    assert_eq!(rt; strand.foot().map(|foot| foot.thread), Some(1));
-    let half = strand.top().map(|top| top.half);
-    assert!(rt; matches!(half, Some(Half::Saved(9, Some(true)))));
-    assert_eq!(rt; strand.pop_frame().map(|top| top.thread), Some(2));
+    assert!(rt; matches!(strand.foot(), Some(Frame { thread: 1, .. })));
+    assert!(rt;
+        matches!(
+            strand.top(),
+            Some(Frame {
+                half: Half::Saved(9, Some(true)),
+                ..
+            })
+        )
+    );
+    assert!(rt; matches!(strand.pop_frame(), Some(Frame { thread: 2, .. })));
     assert!(rt; !strand.done());
-    assert_eq!(rt; strand.pop_frame().map(|top| top.thread), Some(1));
+    assert!(rt; matches!(strand.pop_frame(), Some(Frame { thread: 1, .. })));
     assert!(rt; strand.done());
     strand.finish();
     let other = Strand::new(rt.alloc(), frame(1)).ok();

@@ -2,38 +2,54 @@ use Call::{AddChild, Capacity, Delete, Push, RemoveChild};
 use std::test::Fail;
 use task_table::{Kind, ResourceTable, ResourceTableError, TableId};
 
-// The one kind of entry of a table of numbers.
+#[derive(Drop)]
+enum Entry {
+    Number(u64),
+    Flag(bool),
+}
+
+// The kind of the entries that are numbers.
 #[derive(Drop)]
 struct Number;
 
-impl Kind<u64> for Number {
-    ghost use Rattle.std.specs.Prelude.{Some, refl};
+impl Kind<Entry> for Number {
+    ghost use Rattle.std.specs.Prelude.{Some, None, refl};
+    ghost use Rattle.structure_tests.specs.declared.table.Entry.TheVariants.{Number, Flag};
 
     type Item = u64;
 
-    ghost entry_of = { λ n. n };
+    ghost entry_of = { Number };
 
-    ghost item_of = { λ n. Some n };
+    ghost item_of = { elim [ Number n ↦ Some n | Flag b ↦ None ] };
 
-    fn wrap(item: u64) -> u64 {
-        item
+    fn wrap(item: u64) -> Entry {
+        Entry::Number(item)
     }
 
-    fn view(entry: &u64) -> Option<&u64> {
-        Some(entry)
+    fn view(entry: &Entry) -> Option<&u64> {
+        match entry {
+            Entry::Number(number) => Some(number),
+            Entry::Flag(_) => None,
+        }
     }
 
-    fn view_mut(entry: &mut u64) -> Option<&mut u64> {
-        Some(entry)
+    fn view_mut(entry: &mut Entry) -> Option<&mut u64> {
+        match entry {
+            Entry::Number(number) => Some(number),
+            Entry::Flag(_) => None,
+        }
     }
 
-    fn unwrap(entry: u64) -> Result<u64, u64> {
-        Ok(entry)
+    fn unwrap(entry: Entry) -> Result<u64, Entry> {
+        match entry {
+            Entry::Number(number) => Ok(number),
+            Entry::Flag(flag) => Err(Entry::Flag(flag)),
+        }
     }
 
     ghost wrapped = { λ _. refl };
 
-    ghost no_other = { λ entry item found. Prim.cc };
+    ghost no_other = { elim [ Number n ↦ λ item found. Prim.cc | Flag b ↦ λ item found. Prim.cc ] };
 }
 
 // A call on a table. A number names the id that the push of this number, counted from 0, gave.
@@ -69,17 +85,20 @@ fn done<T: Drop>(answer: Result<T, ResourceTableError>) -> u32 {
     }
 }
 
+// The id that this push gave, or one that names nothing.
+fn id_at(ids: &Vec<TableId<Number>>, push: usize) -> TableId<Number> {
+    match ids.get(push) {
+        Some(id) => *id,
+        None => TableId::new(u32::MAX, u64::MAX),
+    }
+}
+
 // The place that a push gave, 0 for another call that was not refused, or the refusal.
 fn answer_of(
-    table: &mut ResourceTable<u64>,
+    table: &mut ResourceTable<Entry>,
     ids: &mut Vec<TableId<Number>>,
     call: Call,
 ) -> Result<u32, Fail> {
-    let id_at = |n: usize| -> TableId<Number> {
-        ids.get(n)
-            .copied()
-            .unwrap_or(TableId::new(u32::MAX, u64::MAX))
-    };
     let answer = match call {
         Call::Push => match table.push::<Number>(7) {
             Ok(id) => {
@@ -88,19 +107,22 @@ fn answer_of(
             }
             Err(back) => refused(back.why),
         },
-        Call::Delete(n) => done(table.delete(id_at(n))),
+        Call::Delete(n) => done(table.delete(id_at(ids, n))),
         Call::Capacity(n) => {
             table.set_max_capacity(n as usize);
             0
         }
         Call::AddChild(child, parent) => {
-            let child = id_at(child);
+            let child = id_at(ids, child);
             if table.has_parent(child) {
                 return Err(Fail::from("a child without a parent"));
             }
-            done(table.add_child(child, id_at(parent)))
+            done(table.add_child(child, id_at(ids, parent)))
         }
-        Call::RemoveChild(child, parent) => done(table.remove_child(id_at(child), id_at(parent))),
+        Call::RemoveChild(child, parent) => done(table.remove_child(
+            id_at(ids, child),
+            id_at(ids, parent),
+        )),
     };
     Ok(answer)
 }
@@ -172,7 +194,7 @@ fn table_entries(rt: HostRuntime) -> Result<(), Fail> {
 
 #[test]
 fn entries_are_counted_read_and_written(rt: HostRuntime) -> Result<(), Fail> {
-    let mut table: ResourceTable<u64> = ResourceTable::new(rt.alloc());
+    let mut table: ResourceTable<Entry> = ResourceTable::new(rt.alloc());
     assert!(rt; table.is_empty());
     assert_eq!(rt; table.max_capacity(), 1_000_000);
     for number in 0..10 {
@@ -185,7 +207,8 @@ fn entries_are_counted_read_and_written(rt: HostRuntime) -> Result<(), Fail> {
     }
     assert_eq!(rt; (table.len(), table.free()), (10, 999_990));
     for (number, (rep, entry)) in table.iter().enumerate() {
-        assert_eq!(rt; (rep as usize, *entry), (number, number as u64 / 2));
+        assert_eq!(rt; rep as usize, number);
+        assert!(rt; matches!(entry, Entry::Number(n) if *n == number as u64 / 2));
     }
     Ok(())
 }

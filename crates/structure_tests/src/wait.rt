@@ -49,93 +49,149 @@ fn made<T: Drop>(rt: &impl Abort, answer: Result<T, NoMemory>) -> T {
     }
 }
 
-// A node that is in no chain.
-fn node<P: Copy>(rt: &impl Abort, links: &mut Links<P>) -> Node {
-    made(rt, links.make_node())
+// The links of a set. Each call asks first what the set's call requires.
+#[derive(Drop)]
+struct Room {
+    ready: Links<Waitable>,
+    waiting: Links<WaiterKey>,
+}
+
+impl Room {
+    fn mark(&mut self, rt: &impl Abort, set: &mut WaitableSet, waitable: Waitable) -> Node {
+        let node = made(rt, self.ready.make_node());
+        assert!(rt; set.is_live(&self.ready, &self.waiting) && self.ready.is_free(node));
+        set.mark(&mut self.ready, node, waitable);
+        node
+    }
+
+    fn unmark(&mut self, rt: &impl Abort, set: &mut WaitableSet, node: Node) -> bool {
+        assert!(rt; set.is_live(&self.ready, &self.waiting) && self.ready.is_made(node));
+        set.unmark(&mut self.ready, node)
+    }
+
+    fn first_ready(&self, rt: &impl Abort, set: &WaitableSet) -> Option<Waitable> {
+        assert!(rt; set.is_live(&self.ready, &self.waiting));
+        set.first_ready(&self.ready)
+    }
+
+    fn add_waiter(&mut self, rt: &impl Abort, set: &mut WaitableSet, key: WaiterKey) -> Node {
+        let node = made(rt, self.waiting.make_node());
+        assert!(rt; set.is_live(&self.ready, &self.waiting) && self.waiting.is_free(node));
+        set.add_waiter(&mut self.waiting, node, key);
+        node
+    }
+
+    fn add_waiter_last(&mut self, rt: &impl Abort, set: &mut WaitableSet, key: WaiterKey) {
+        let node = made(rt, self.waiting.make_node());
+        assert!(rt; set.is_live(&self.ready, &self.waiting) && self.waiting.is_free(node));
+        set.add_waiter_last(&mut self.waiting, node, key);
+    }
+
+    fn take_first_waiter(&mut self, rt: &impl Abort, set: &mut WaitableSet) -> Option<WaiterKey> {
+        assert!(rt; set.is_live(&self.ready, &self.waiting) && set.has_waiters(&self.waiting));
+        set.take_first_waiter(&mut self.waiting)
+    }
+
+    fn remove_waiter(&mut self, rt: &impl Abort, set: &mut WaitableSet, node: Node) -> bool {
+        assert!(rt; set.is_live(&self.ready, &self.waiting) && self.waiting.is_made(node));
+        set.remove_waiter(&mut self.waiting, node)
+    }
+
+    fn close(&mut self, rt: &impl Abort, set: WaitableSet) {
+        assert!(rt; set.is_empty(&self.ready, &self.waiting));
+        set.close(&mut self.ready, &mut self.waiting);
+    }
 }
 
 #[test]
 fn the_least_of_a_set_comes_first(rt: HostRuntime) {
-    let mut ready = Links::new(rt.alloc());
-    let mut waiting = Links::new(rt.alloc());
-    let mut set = made(&rt, WaitableSet::new(false, &mut ready, &mut waiting));
-    let (second, first) = (node(&rt, &mut ready), node(&rt, &mut ready));
-    assert!(rt; set.is_live(&ready, &waiting) && !set.is_sync());
-    assert!(rt; ready.is_free(second));
-    set.mark(&mut ready, second, guest(2));
-    assert!(rt; set.is_live(&ready, &waiting) && ready.is_free(first));
-    set.mark(&mut ready, first, guest(1));
-    assert!(rt; set.is_live(&ready, &waiting) && ready.is_made(first));
-    assert!(rt; set.first_ready(&ready) == Some(guest(1)));
-    assert!(rt; set.unmark(&mut ready, first));
-    assert!(rt; set.is_live(&ready, &waiting) && ready.is_made(first));
-    assert!(rt; !set.unmark(&mut ready, first));
-    assert!(rt; set.is_live(&ready, &waiting) && ready.is_made(second));
-    assert!(rt; set.unmark(&mut ready, second));
-    assert!(rt; set.is_empty(&ready, &waiting));
-    set.close(&mut ready, &mut waiting);
+    let mut room = Room {
+        ready: Links::new(rt.alloc()),
+        waiting: Links::new(rt.alloc()),
+    };
+    let set = WaitableSet::new(true, &mut room.ready, &mut room.waiting);
+    let mut set = made(&rt, set);
+    assert!(rt; set.is_sync());
+    let second = room.mark(&rt, &mut set, guest(2));
+    let first = room.mark(&rt, &mut set, guest(1));
+    assert!(rt; room.first_ready(&rt, &set) == Some(guest(1)));
+    assert!(rt; room.unmark(&rt, &mut set, first) && !room.unmark(&rt, &mut set, first));
+    assert!(rt; room.unmark(&rt, &mut set, second));
+    let second = room.add_waiter(&rt, &mut set, waiter(2));
+    room.add_waiter(&rt, &mut set, waiter(1));
+    room.add_waiter_last(&rt, &mut set, waiter(0));
+    assert!(rt; room.take_first_waiter(&rt, &mut set) == Some(waiter(1)));
+    assert!(rt; room.remove_waiter(&rt, &mut set, second));
+    assert!(rt; room.take_first_waiter(&rt, &mut set) == Some(waiter(0)));
+    room.close(&rt, set);
     waitables_by_kind_and_id(guest(1), guest(2));
-}
-
-#[test]
-fn the_least_waiter_is_taken_first(rt: HostRuntime) {
-    let mut ready = Links::new(rt.alloc());
-    let mut waiting = Links::new(rt.alloc());
-    let mut set = made(&rt, WaitableSet::new(true, &mut ready, &mut waiting));
-    let (second, first) = (node(&rt, &mut waiting), node(&rt, &mut waiting));
-    let last = node(&rt, &mut waiting);
-    assert!(rt; set.is_live(&ready, &waiting) && set.is_sync());
-    assert!(rt; waiting.is_free(second));
-    set.add_waiter(&mut waiting, second, waiter(2));
-    assert!(rt; set.is_live(&ready, &waiting) && waiting.is_free(first));
-    set.add_waiter(&mut waiting, first, waiter(1));
-    assert!(rt; set.is_live(&ready, &waiting) && waiting.is_free(last));
-    set.add_waiter_last(&mut waiting, last, waiter(0));
-    assert!(rt; set.is_live(&ready, &waiting));
-    assert!(rt; set.take_first_waiter(&mut waiting) == Some(waiter(1)));
-    assert!(rt; set.is_live(&ready, &waiting) && waiting.is_made(second));
-    assert!(rt; set.remove_waiter(&mut waiting, second));
-    assert!(rt; set.is_live(&ready, &waiting));
-    assert!(rt; set.has_waiters(&waiting));
-    assert!(rt; set.take_first_waiter(&mut waiting) == Some(waiter(0)));
     waiters_by_task_and_thread(waiter(1), waiter(2));
 }
 
-// The node's number and value.
-fn shown(link: Option<(Node, u32)>) -> Option<(usize, u32)> {
-    let (node, value) = link?;
-    Some((node.index, value))
+// Puts the node into the chain, before its first or behind its last.
+fn push(rt: &impl Abort, links: &mut Links<u32>, chain: usize, node: Node, value: u32) {
+    assert!(rt; links.is_live(chain) && links.is_free(node));
+    if value < 2 {
+        links.push_front(chain, node, value);
+    } else {
+        links.push_back(chain, node, value);
+    }
+}
+
+fn remove(rt: &impl Abort, links: &mut Links<u32>, chain: usize, node: Node) {
+    assert!(rt; links.is_live(chain) && links.is_made(node));
+    links.no_node_is_twice();
+    others_stay(links, chain, node);
+    assert_eq!(rt; links.remove(node), Some((chain, 2)));
+}
+
+fn insert(rt: &impl Abort, links: &mut Links<u32>, at: Node, node: Node, value: u32) {
+    assert!(rt; links.is_made(at) && !links.is_free(at) && links.is_free(node));
+    links.insert_before(at, node, value);
+}
+
+fn drop_both(rt: &impl Abort, links: &mut Links<u32>, chain: usize, node: Node) {
+    assert!(rt; links.is_free(node));
+    links.drop_node(node);
+    assert!(rt; !links.is_made(node) && links.is_empty(chain));
+    links.drop_chain(chain);
+    assert!(rt; !links.is_live(chain));
+}
+
+// The values of the chain's first and last node, and of those beside this one.
+fn around(rt: &impl Abort, links: &Links<u32>, chain: usize, node: Node) -> [u32; 4] {
+    assert!(rt; links.is_live(chain) && links.is_made(node) && !links.is_free(node));
+    [
+        value_of(links.first(chain)),
+        value_of(links.previous(node)),
+        value_of(links.next(node)),
+        value_of(links.last(chain)),
+    ]
+}
+
+fn value_of(link: Option<(Node, u32)>) -> u32 {
+    match link {
+        Some((_, value)) => value,
+        None => u32::MAX,
+    }
 }
 
 #[test]
 fn links_are_lists_over_nodes(rt: HostRuntime) {
     let mut links: Links<u32> = Links::new(rt.alloc());
     let chain = made(&rt, links.make_chain());
-    let (a, b) = (node(&rt, &mut links), node(&rt, &mut links));
-    let c = node(&rt, &mut links);
-    assert!(rt; links.is_live(chain) && links.is_free(b));
-    links.push_back(chain, b, 2);
-    assert!(rt; links.is_live(chain) && links.is_free(c));
-    links.push_back(chain, c, 3);
-    assert!(rt; links.is_live(chain) && links.is_free(a));
-    links.push_front(chain, a, 1);
-    assert!(rt; links.is_live(chain) && links.is_made(b));
-    links.no_node_is_twice();
-    others_stay(&links, chain, b);
-    assert_eq!(rt; links.remove(b), Some((chain, 2)));
-    assert!(rt; links.is_made(c) && !links.is_free(c) && links.is_free(b));
-    links.insert_before(c, b, 5);
-    assert!(rt; links.is_live(chain) && links.is_made(b) && !links.is_free(b));
-    assert_eq!(rt; links.get(b), Some((chain, 5)));
-    assert_eq!(rt; shown(links.first(chain)), Some((a.index, 1)));
-    assert_eq!(rt; shown(links.last(chain)), Some((c.index, 3)));
-    assert_eq!(rt; shown(links.next(b)), Some((c.index, 3)));
-    assert_eq!(rt; shown(links.previous(b)), Some((a.index, 1)));
+    let first = made(&rt, links.make_node());
+    let middle = made(&rt, links.make_node());
+    let last = made(&rt, links.make_node());
+    push(&rt, &mut links, chain, middle, 2);
+    push(&rt, &mut links, chain, last, 3);
+    push(&rt, &mut links, chain, first, 1);
+    remove(&rt, &mut links, chain, middle);
+    insert(&rt, &mut links, last, middle, 5);
+    assert_eq!(rt; around(&rt, &links, chain, middle), [1, 1, 3, 3]);
+    assert!(rt; links.is_made(middle));
+    assert_eq!(rt; links.get(middle), Some((chain, 5)));
     let empty = made(&rt, links.make_chain());
-    let free = node(&rt, &mut links);
-    assert!(rt; links.is_free(free));
-    links.drop_node(free);
-    assert!(rt; !links.is_made(free) && links.is_empty(empty));
-    links.drop_chain(empty);
-    assert!(rt; !links.is_live(empty));
+    let free = made(&rt, links.make_node());
+    drop_both(&rt, &mut links, empty, free);
 }

@@ -10,10 +10,10 @@ ghost use Rattle.task_machine.specs.declared.words.Phase.{Phase};
 ghost use Rattle.task_machine.specs.declared.words.Phase.TheVariants.{Running};
 ghost use Rattle.task_abort.specs.declared.log.PhaseCall.TheVariants.{PollFuture, Finish};
 
-use atomic_table::Table;
 use crate::cell::{Abortable, Cell, JoinHandle, JoinPass, Wakers};
 use crate::handle::phase_of_word;
 use crate::rule::{Finishing, PollingFuture};
+use atomic_table::Table;
 use futures::Future;
 use futures::task::{Context, Poll, Source};
 use std::alloc::Global;

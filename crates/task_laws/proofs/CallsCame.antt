@@ -106,12 +106,12 @@ module _ {a : Scene} where
 
 -- ---- Threads
 
--- What the word does to the record of the thread n, where b threads are made after it, and the call of that number comes from c to d.
-pub data ThreadCame (a : Scene) (s : Core) (b n : ℕ) (c d : Option Call) (o p : Option Thread) : Type 0 where
+-- What the word does to the record of the thread n, where b threads are made after it, and calls come from c to d.
+pub data ThreadCame (a : Scene) (s : Core) (b n : ℕ) (c d : Records Call) (o p : Option Thread) : Type 0 where
   IsSame : (t u : Thread) → o ≡ Some t → p ≡ Some u → u.call ≡ t.call → u.explicit ≡ t.explicit → ThreadCame a s b n c d o p
   IsGone : p ≡ None → ThreadCame a s b n c d o p
   IsBeside : (t : Thread) → n ≡ next_thread s → n ≤ b → d ≡ c → MayMake a t s → p ≡ Some t → ThreadCame a s b n c d o p
-  IsFirst : (t : Thread) → n ≡ next_thread s → n ≤ b → is_some d ≡ true → t.explicit ≡ false → t.call ≡ n → p ≡ Some t → ThreadCame a s b n c d o p
+  IsFirst : (t : Thread) → n ≡ next_thread s → n ≤ b → is_some (get d n) ≡ true → t.explicit ≡ false → t.call ≡ n → p ≡ Some t → ThreadCame a s b n c d o p
 
 first_there : (m : Records Call) (k n : ℕ) (c : Call) → n ≡ k → is_some (get (insert m k c) n) ≡ true
 first_there m k n c e = ap (λ (o : Option Call). is_some o) (ap (λ (i : ℕ). get (insert m k c) i) e ∙ get-insert_same m k c)
@@ -121,37 +121,37 @@ abbrev role : Thread → ℕ × Bool
 role t = (t.call, t.explicit)
 
 module _ {a : Scene} where
-  same_role : {X : Type 0} (g : Thread → X) (back : X → ℕ × Bool) → ((t : Thread) → back (g t) ≡ role t) → (s : Core) (b n : ℕ) (c d : Option Call) (o p : Option Thread) → option_map g p ≡ option_map g o → ThreadCame a s b n c d o p
+  same_role : {X : Type 0} (g : Thread → X) (back : X → ℕ × Bool) → ((t : Thread) → back (g t) ≡ role t) → (s : Core) (b n : ℕ) (c d : Records Call) (o p : Option Thread) → option_map g p ≡ option_map g o → ThreadCame a s b n c d o p
   same_role g back is s b n c d o None e = IsGone refl
   same_role g back is s b n c d None (Some u) e = absurd (subst T (ap (λ r. is_some r) e) tt)
   same_role g back is s b n c d (Some t) (Some u) e =
       let at : role u ≡ role t = sym (is u) ∙ (ap (λ r. back (unwrap_or r (g t))) e ∙ is t) in
       IsSame t u refl refl (ap (λ r. r.0) at) (ap (λ r. r.1) at)
 
-  thread_stays : (s : Core) (b n : ℕ) (c d : Option Call) (o : Option Thread) → ThreadCame a s b n c d o o
+  thread_stays : (s : Core) (b n : ℕ) (c d : Records Call) (o : Option Thread) → ThreadCame a s b n c d o o
   thread_stays s b n c d o = same_role role (λ r. r) (λ t. refl) s b n c d o o refl
 
-  thread_changed : (j : ℕ) (f : Thread → Thread) → ((t : Thread) → role (f t) ≡ role t) → (s : Core) (n : ℕ) (c d : Option Call) → ThreadCame a s s.made.threads n c d (get s.threads n) (get (change j f s.threads) n)
+  thread_changed : (j : ℕ) (f : Thread → Thread) → ((t : Thread) → role (f t) ≡ role t) → (s : Core) (n : ℕ) (c d : Records Call) → ThreadCame a s s.made.threads n c d (get s.threads n) (get (change j f s.threads) n)
   thread_changed j f same s n c d = same_role role (λ r. r) (λ t. refl) s s.made.threads n c d (get s.threads n) (get (change j f s.threads) n) (change-field role j f same s.threads n)
 
-  thread_moved : (s : Core) (m : Records Thread) (n : ℕ) (c d : Option Call) → option_map unplaced (get m n) ≡ option_map unplaced (get s.threads n) → ThreadCame a s s.made.threads n c d (get s.threads n) (get m n)
+  thread_moved : (s : Core) (m : Records Thread) (n : ℕ) (c d : Records Call) → option_map unplaced (get m n) ≡ option_map unplaced (get s.threads n) → ThreadCame a s s.made.threads n c d (get s.threads n) (get m n)
   thread_moved s m n c d e = same_role unplaced role (λ r. refl) s s.made.threads n c d (get s.threads n) (get m n) e
 
-  thread_removed : (j : ℕ) (s : Core) (n : ℕ) (c d : Option Call) → ThreadCame a s s.made.threads n c d (get s.threads n) (get (remove s.threads j) n)
+  thread_removed : (j : ℕ) (s : Core) (n : ℕ) (c d : Records Call) → ThreadCame a s s.made.threads n c d (get s.threads n) (get (remove s.threads j) n)
   thread_removed j s n c d = subst (λ (p : Option Thread). ThreadCame a s s.made.threads n c d (get s.threads n) p) (sym (get-remove s.threads j n)) (go (n == j))
     where
       go : (y : Bool) → ThreadCame a s s.made.threads n c d (get s.threads n) (cond y None (get s.threads n))
       go true = IsGone refl
       go false = thread_stays s s.made.threads n c d (get s.threads n)
 
-  thread_added : (t : Thread) (s : Core) (n : ℕ) (c d : Option Call) → ((o : Option Thread) → n ≡ next_thread s → ThreadCame a s (s.made.threads + 1) n c d o (Some t)) → ThreadCame a s (s.made.threads + 1) n c d (get s.threads n) (get (insert s.threads (s.made.threads + 1) t) n)
+  thread_added : (t : Thread) (s : Core) (n : ℕ) (c d : Records Call) → ((o : Option Thread) → n ≡ next_thread s → ThreadCame a s (s.made.threads + 1) n c d o (Some t)) → ThreadCame a s (s.made.threads + 1) n c d (get s.threads n) (get (insert s.threads (s.made.threads + 1) t) n)
   thread_added t s n c d new = subst (λ (p : Option Thread). ThreadCame a s (s.made.threads + 1) n c d (get s.threads n) p) (sym (get-insert s.threads (s.made.threads + 1) t n)) (go (n == s.made.threads + 1) refl)
     where
       go : (y : Bool) → (n == s.made.threads + 1) ≡ y → ThreadCame a s (s.made.threads + 1) n c d (get s.threads n) (cond y (Some t) (get s.threads n))
       go true is = new (get s.threads n) (is_eq_of n (s.made.threads + 1) is)
       go false is = thread_stays s (s.made.threads + 1) n c d (get s.threads n)
 
-  pub thread_came : (w : Word) (s : Core) → Allowed a w s → (n : ℕ) → ThreadCame a s (after_word w s).made.threads n (get s.calls n) (get (after_word w s).calls n) (get s.threads n) (get (after_word w s).threads n)
+  pub thread_came : (w : Word) (s : Core) → Allowed a w s → (n : ℕ) → ThreadCame a s (after_word w s).made.threads n s.calls (after_word w s).calls (get s.threads n) (get (after_word w s).threads n)
   unfolding add_call add_group add_set add_thread add_work count_work free_handle free_thread_handle give_handle give_result give_thread_handle on_call on_instance on_thread on_work push_high remove_call remove_group remove_set remove_thread remove_work set_backpressure set_cancel_delivered set_cancelled set_course set_do_not_enter set_do_not_suspend set_end set_event set_exited set_how_far set_join set_own_event set_phase set_position set_register set_result set_saved_callee set_saved_own set_script set_stage set_started set_starting_published set_subtask_handle set_thread_handle set_trapped set_uninteresting set_word take_result call_made with_handle with_thread_handle work_queued poll_pends
   thread_came (Places p) s ok n = thread_moved s (after_placing p s).threads n _ _ ((placing_shifted p s).threads n)
   thread_came (TakePush m i) s ok n = thread_moved s (popped m s).threads n _ _ ((popped_shifted m s).threads n)

@@ -1,11 +1,8 @@
 -- Calls along the words of a step: a status only rises and an end stays, numbers name what they named, and what is delivered is for callbacks.
-use Rattle.std.proofs.Common.{T, ap, arith, cond, inl, inr, le_refl, le_trans, refl, subst, sym, ◌∙◌}
-use Rattle.std.specs.FinMap.Entries.{find}
-use Rattle.std.specs.List.{list_any}
+use Rattle.std.proofs.Common.{T, ap, arith, inl, inr, le_refl, le_trans, refl, subst, sym, ◌∙◌}
 use Rattle.std.specs.Option.{option_map_or}
-use Rattle.std.specs.Ordering.{eq_by_cmp, nat_cmp}
-use Rattle.std.specs.Prelude.{Bool, List, None, Option, Some, [], false, is_none, is_some, not, option_and_then, option_map, slice_get, true, unwrap_or, ℕ, ◌&&◌, ◌+◌, ◌==◌, ◌||◌, ◌∷◌, ◌≡◌, ◌≤◌, ◌⊎◌}
-use Rattle.task_laws.proofs.Basics.{no_way, same_number, too_high, too_low, true_is_not_false}
+use Rattle.std.specs.Prelude.{Bool, List, None, Option, Some, [], false, is_none, is_some, option_and_then, option_map, slice_get, true, unwrap_or, ℕ, ◌+◌, ◌≡◌, ◌≤◌, ◌⊎◌}
+use Rattle.task_laws.proofs.Basics.{no_way, too_high, too_low, true_is_not_false}
 use Rattle.task_laws.proofs.CallsCame.{Basis, CallCame, Delivers, Ends, Grown, Grows, IsBeside, IsFirst, IsGone, IsSame, Keeps, NewCall, NoCall, Starts, ThreadCame, basis}
 use Rattle.task_laws.proofs.CameLemmas.{Came, Comes, Entered, Enters, Follows, IsMade, Leaves, MayStand, Shifts, Stands, Stays, came_word}
 use Rattle.task_laws.proofs.CameLemmas as came
@@ -13,9 +10,9 @@ use Rattle.task_laws.specs.Order.{CallKinds, DeliveredByCallback, Numbered, is_d
 use Rattle.task_laws.specs.Rises.{Rises, rank, status_with}
 use Rattle.task_laws.specs.Settings.{CodesInCallbacks, HasNoCode}
 use Rattle.task_machine.specs.Core.{Core}
-use Rattle.task_machine.specs.Maps.{get}
-use Rattle.task_machine.specs.Moves.{is_callback_waiter, is_deletable, is_deletable_call}
-use Rattle.task_machine.specs.Read.{goal_of, has_ended, has_thread, is_async_lifted, is_callback, is_direct, is_explicit, kind_of, no_callee, place_of, task_of, waits_by_callback}
+use Rattle.task_machine.specs.Maps.{Records, get}
+use Rattle.task_machine.specs.Moves.{is_callback_waiter}
+use Rattle.task_machine.specs.Read.{goal_of, has_ended, is_async_lifted, is_callback, is_direct, is_explicit, kind_of, no_callee, place_of, task_of, waits_by_callback}
 use Rattle.task_machine.specs.declared.component.Callee.{Callee}
 use Rattle.task_machine.specs.declared.component.Component.{Component}
 use Rattle.task_machine.specs.declared.component.ExportDef.{ExportDef}
@@ -177,29 +174,6 @@ pub both : {X : Type 0} (o : Option X) → is_some o ≡ true → is_none o ≡ 
 both None h g = true_is_not_false (sym h)
 both (Some x) h g = true_is_not_false (sym g)
 
-any_found : {X : Type 0} (test : X → Bool) (q : ℕ) (x : X) (es : List (ℕ × X)) → find nat_cmp q es ≡ Some x → list_any (λ e. test e.1) es ≡ false → test x ≡ false
-any_found test q x [] h none = no_way (ap (λ p. is_some p) h)
-any_found test q x (e ∷ es) h none = go (eq_by_cmp nat_cmp q e.0) h (any_found test q x es) (test e.1) refl none
-  where
-    go : (b : Bool) → cond b (Some e.1) (find nat_cmp q es) ≡ Some x → (find nat_cmp q es ≡ Some x → list_any (λ d. test d.1) es ≡ false → test x ≡ false) → (c : Bool) → test e.1 ≡ c → (c || list_any (λ d. test d.1) es) ≡ false → test x ≡ false
-    go b g rest true is none = absurd (true_is_not_false none)
-    go true g rest false is none = ap test (sym (ap (λ o. unwrap_or o e.1) g)) ∙ is
-    go false g rest false is none = rest g none
-
-pub no_thread_of : (k n : ℕ) (t : Thread) (s : Core) → has_thread k s ≡ false → get s.threads n ≡ Some t → (t.call == k) ≡ false
-unfolding has_thread get
-no_thread_of k n t s none is = any_found (λ (r : Thread). r.call == k) n t s.threads.list is none
-
-not_right : (a b : Bool) → (a && not b) ≡ true → b ≡ false
-not_right true true h = sym h
-not_right true false h = refl
-not_right false b h = no_way h
-
--- no thread is left of a call that may go
-pub deletable_left : (k : ℕ) (s : Core) → is_deletable k s ≡ true → has_thread k s ≡ false
-unfolding is_deletable
-deletable_left k s h = not_right (option_map_or is_deletable_call (get s.calls k) false) (has_thread k s) h
-
 abbrev pub delivered_in : Option Place → Bool
 delivered_in o = option_map_or is_delivered o false
 
@@ -358,7 +332,7 @@ module _ (a : Scene) (codes : CodesInCallbacks (component_of a)) (h : CallsHold 
     call_goes b k p below (NoCall e r) = subst (LaterBy Goes (get s.calls k)) (sym e) (later_none Goes (get s.calls k))
     call_goes b k p below (NewCall f e x g group is l m at) = absurd (too_high is below)
 
-    pub thread_goes : (b n : ℕ) (c d : Option Call) (p : Option Thread) → n ≤ s.made.threads → ThreadCame a s b n c d (get s.threads n) p → LaterBy SameThread (get s.threads n) p
+    pub thread_goes : (b n : ℕ) (c d : Records Call) (p : Option Thread) → n ≤ s.made.threads → ThreadCame a s b n c d (get s.threads n) p → LaterBy SameThread (get s.threads n) p
     thread_goes b n c d p below (IsSame t u e f x y) = later_is SameThread (get s.threads n) p t u e f (record { call = sym x; explicit = sym y })
     thread_goes b n c d p below (IsGone e) = subst (LaterBy SameThread (get s.threads n)) (sym e) (later_none SameThread (get s.threads n))
     thread_goes b n c d p below (IsBeside t is l same m e) = absurd (too_high is below)

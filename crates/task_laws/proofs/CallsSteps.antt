@@ -7,26 +7,22 @@ use Rattle.task_laws.proofs.CallsCame.{Basis, CallCame, Delivers, Ends, Grown, G
 use Rattle.task_laws.proofs.CallsLaw.{CallsGo, CallsHold, Goes, GoneOr, KindHolds, base_task, both, call_goes, call_nameless, delivered_in, first_runner, goes_after, goes_of, is_positive, kept_callback, later_after, later_same, next_nameless, none_is, place_delivers, ready_delivered, rises_after, rises_same, same_after, same_some, some_none, there_number, thread_goes}
 use Rattle.task_laws.proofs.CameLemmas.{came_word}
 use Rattle.task_laws.proofs.CountLemmas.{made_threads_word}
+use Rattle.task_laws.proofs.SceneLemmas.{base_is}
 use Rattle.task_laws.specs.Order.{ThreadNumbered, is_delivered}
 use Rattle.task_laws.specs.Rises.{CallsRise, ExplicitNamesNoCall, Rises, RunsRise, StepsRise, SyncEndsLast, SyncNeverCancelled}
 use Rattle.task_laws.specs.Settings.{CodesInCallbacks, Reached}
 use Rattle.task_machine.specs.Core.{Core, State, fresh}
-use Rattle.task_machine.specs.Maps.{empty, get, get-empty}
-use Rattle.task_machine.specs.Read.{is_async_lifted, is_callback, is_direct, kind_of, next_entry, place_of}
-use Rattle.task_machine.specs.Write.{set_high, set_low, set_switch}
+use Rattle.task_machine.specs.Maps.{Records, empty, get, get-empty}
+use Rattle.task_machine.specs.Read.{is_async_lifted, is_callback, is_direct, kind_of, place_of}
 use Rattle.task_machine.specs.declared.component.Component.{Component}
 use Rattle.task_machine.specs.declared.component.ExportKind.{ExportKind}
 use Rattle.task_machine.specs.declared.component.ExportKind.TheVariants as kind
 use Rattle.task_machine.specs.declared.label.Label.{Label}
 use Rattle.task_machine.specs.declared.records.Call.{Call}
 use Rattle.task_machine.specs.declared.records.CallEnd.{CallEnd}
-use Rattle.task_machine.specs.declared.records.Entry.{Entry}
 use Rattle.task_machine.specs.declared.records.Thread.{Thread}
 use Rattle.task_machine.specs.declared.records.Turn.{Turn}
-use Rattle.task_machine.specs.declared.records.Turn.TheVariants as turn
 use Rattle.task_machine.specs.declared.records.Why.TheVariants as why
-use Rattle.task_machine.specs.declared.words.Mark.{Mark}
-use Rattle.task_machine.specs.declared.words.Mark.TheVariants as mark
 use Rattle.task_rules.proofs.ChainLemmas.{along}
 use Rattle.task_rules.proofs.LawLemmas.{never_fewer}
 use Rattle.task_rules.proofs.WalkSteps.{step_walks}
@@ -35,11 +31,10 @@ use Rattle.task_rules.specs.Allowed as may
 use Rattle.task_rules.specs.Chains.{LastWords, Walked}
 use Rattle.task_rules.specs.Laws.{LaterBy, SameThread}
 use Rattle.task_rules.specs.Run.{Run, opening}
-use Rattle.task_rules.specs.Scenes.{Scene, base_at, base_without, component_of, scene_of}
+use Rattle.task_rules.specs.Scenes.{Scene, base_at, component_of, scene_of}
 use Rattle.task_rules.specs.Scripts.{export_kind}
 use Rattle.task_rules.specs.Stalled.{Setting}
 use Rattle.task_rules.specs.Step.{Step}
-use Rattle.task_rules.specs.Takes.{popped}
 use Rattle.task_rules.specs.Words.{Word, after_word}
 
 callback_is_lifted : (k : ExportKind) → is_callback k ≡ true → is_async_lifted k ≡ true
@@ -55,7 +50,7 @@ module _ (a : Scene) (codes : CodesInCallbacks (component_of a)) (h : CallsHold 
     thread_numbered : (n : ℕ) (t : Thread) → get (after_word w s).threads n ≡ Some t → ThreadNumbered (after_word w s) n t
     thread_numbered n t at = go (thread_came w s ok n)
       where
-        go : ThreadCame a s (after_word w s).made.threads n (get s.calls n) (get (after_word w s).calls n) (get s.threads n) (get (after_word w s).threads n) → ThreadNumbered (after_word w s) n t
+        go : ThreadCame a s (after_word w s).made.threads n s.calls (after_word w s).calls (get s.threads n) (get (after_word w s).threads n) → ThreadNumbered (after_word w s) n t
         go (IsGone e) = some_none _ t at e
         go (IsSame r u e f x y) =
             let old : ThreadNumbered s n r = q.numbered.threads n r e in
@@ -69,7 +64,7 @@ module _ (a : Scene) (codes : CodesInCallbacks (component_of a)) (h : CallsHold 
           number = l;
           call = subst (λ (k : ℕ). k ≤ (after_word w s).made.threads) (sym (ap (λ (r : Thread). r.call) m.1.1.1.1.1.0)) (le_trans (base_task a codes h m.0) (le_trans q.counted (made_threads_word a w s)));
           own = λ z. absurd (true_is_not_false (sym (ap (λ (r : Thread). r.explicit) m.1.1.1.1.1.0) ∙ z));
-          nameless = λ z. ap (λ (o : Option Call). is_none o) same ∙ next_nameless a codes h q n is;
+          nameless = λ z. ap (λ (m : Records Call). is_none (get m n)) same ∙ next_nameless a codes h q n is;
         })
         go (IsFirst u is l there x y e) = subst (ThreadNumbered (after_word w s) n) (same_some _ u t e at) (record {
           number = l;
@@ -90,7 +85,7 @@ module _ (a : Scene) (codes : CodesInCallbacks (component_of a)) (h : CallsHold 
     gone_kept k below (inr r) = inr r
     gone_kept k below (inl none) = inl (go (thread_came w s ok k))
       where
-        go : ThreadCame a s (after_word w s).made.threads k (get s.calls k) (get (after_word w s).calls k) (get s.threads k) (get (after_word w s).threads k) → is_none (get (after_word w s).threads k) ≡ true
+        go : ThreadCame a s (after_word w s).made.threads k s.calls (after_word w s).calls (get s.threads k) (get (after_word w s).threads k) → is_none (get (after_word w s).threads k) ≡ true
         go (IsSame r u e f x y) = absurd (both _ (ap (λ (o : Option Thread). is_some o) e) none)
         go (IsGone e) = ap (λ (o : Option Thread). is_none o) e
         go (IsBeside u is l same m e) = absurd (too_high is below)
@@ -155,7 +150,7 @@ module _ (a : Scene) (codes : CodesInCallbacks (component_of a)) (h : CallsHold 
         before : (is_some (place_of n s) ≡ true) × (is_callback (kind_of (option_map_or (λ (r : Thread). r.call) (get s.threads n) 0) s) ≡ true)
         before = place_delivers a codes h q _ n (place_of n (after_word w s)) (came_word w s ok n) (ap (λ (o : Option Thread). delivered_in (option_map (λ (r : Thread). r.place) o)) at ∙ d)
 
-        go : ThreadCame a s (after_word w s).made.threads n (get s.calls n) (get (after_word w s).calls n) (get s.threads n) (get (after_word w s).threads n) → is_callback (kind_of t.call (after_word w s)) ≡ true
+        go : ThreadCame a s (after_word w s).made.threads n s.calls (after_word w s).calls (get s.threads n) (get (after_word w s).threads n) → is_callback (kind_of t.call (after_word w s)) ≡ true
         go (IsSame r u e f x y) =
             let old : is_callback (kind_of r.call s) ≡ true = ap (λ (o : Option Thread). is_callback (kind_of (option_map_or (λ (z : Thread). z.call) o 0) s)) (sym e) ∙ before.1 in
             subst (λ (k : ℕ). is_callback (kind_of k (after_word w s)) ≡ true) (sym x ∙ ap (λ (z : Thread). z.call) (same_some _ u t f at)) (callback_after r.call (q.numbered.threads n r e).call old)
@@ -187,23 +182,6 @@ module _ (a : Scene) (codes : CodesInCallbacks (component_of a)) (h : CallsHold 
       by_gone k (inr r) = ap (λ (o : Option Thread). is_none o) (l.gone k r.0 r.1)
 
 -- ---- The beginning of a step
-
-popped_is : (m : Mark) (s : Core) → popped m s ≡ record s { queues = (popped m s).queues }
-unfolding popped set_switch set_high set_low
-popped_is mark.Switch s = refl
-popped_is mark.High s = refl
-popped_is mark.Low s = refl
-
-base_is : (u : Turn) (s : Core) → base_at u s ≡ record s { queues = (base_at u s).queues }
-base_is (turn.Take ended) s = go (next_entry s)
-  where
-    go : (o : Option (Mark × Entry)) → base_without o s ≡ record s { queues = (base_without o s).queues }
-    go None = refl
-    go (Some e) = popped_is e.0 s
-base_is turn.Main s = refl
-base_is (turn.Futures n) s = refl
-base_is (turn.Run n) s = refl
-base_is turn.Over s = refl
 
 -- what holds beside the entries holds of the core that the row reads
 pub of_base : (P : Core → Type 0) (u : Turn) (s : Core) → P (record s { queues = (base_at u s).queues }) → P (base_at u s)

@@ -9,11 +9,9 @@ use Rattle.task_laws.proofs.CallsLaw.{same_some, some_none}
 use Rattle.task_laws.proofs.CallsSteps.{none_of_empty, of_base}
 use Rattle.task_laws.specs.Holders.{CalleesExist, RunsHoldOne}
 use Rattle.task_machine.proofs.MapLemmas.{get-change_other, get-change_same}
-use Rattle.task_machine.specs.Core.{Core, Main, MainPlace, Queues, Scripted, State, Unscripted, filled, fresh, untouched}
-use Rattle.task_machine.specs.Labels.{choice_of}
+use Rattle.task_machine.specs.Core.{Core, Main, Queues, Scripted, State, Unscripted, filled, fresh, untouched}
 use Rattle.task_machine.specs.Maps.{change, get, get-insert, insert}
-use Rattle.task_machine.specs.Moves.{ended}
-use Rattle.task_machine.specs.Read.{call_instance, callee_of, may_not_enter, next_entry, no_callee, task_of}
+use Rattle.task_machine.specs.Read.{call_instance, callee_of, may_not_enter, no_callee, task_of}
 use Rattle.task_machine.specs.Write.{add_call, add_group, add_set, add_thread, add_work, count_work, free_handle, free_thread_handle, give_handle, give_result, give_thread_handle, on_call, on_instance, on_thread, on_work, push_high, remove_call, remove_group, remove_set, remove_thread, remove_work, set_backpressure, set_cancel_delivered, set_cancelled, set_course, set_do_not_enter, set_do_not_suspend, set_end, set_event, set_exited, set_how_far, set_join, set_own_event, set_phase, set_position, set_register, set_result, set_saved_callee, set_saved_own, set_script, set_stage, set_started, set_starting_published, set_subtask_handle, set_thread_handle, set_trapped, set_uninteresting, set_word, take_result}
 use Rattle.task_machine.specs.declared.component.Callee.{Callee}
 use Rattle.task_machine.specs.declared.label.Label.{Label}
@@ -25,35 +23,26 @@ use Rattle.task_machine.specs.declared.op.Op.TheVariants as op
 use Rattle.task_machine.specs.declared.op.TaskOp.TheVariants as task_op
 use Rattle.task_machine.specs.declared.records.Call.{Call}
 use Rattle.task_machine.specs.declared.records.Caller.{Caller}
-use Rattle.task_machine.specs.declared.records.Entry.{Entry}
 use Rattle.task_machine.specs.declared.records.Instance.{Instance}
 use Rattle.task_machine.specs.declared.records.Thread.{Thread}
 use Rattle.task_machine.specs.declared.records.Turn.{Turn}
-use Rattle.task_machine.specs.declared.records.Turn.TheVariants as turn
-use Rattle.task_machine.specs.declared.scenario.MainOpDef.{MainOpDef}
-use Rattle.task_machine.specs.declared.words.Mark.{Mark}
 use Rattle.task_rules.proofs.ChainLemmas.{along}
 use Rattle.task_rules.proofs.StandLemmas.{is_eq_of, not_eq}
 use Rattle.task_rules.proofs.WalkSteps.{step_walks}
 use Rattle.task_rules.specs.Allowed.{Allowed, MayCall}
 use Rattle.task_rules.specs.Allowed as may
 use Rattle.task_rules.specs.Calls.{call_made, with_handle, with_thread_handle, work_queued}
-use Rattle.task_rules.specs.Chains.{Walked}
+use Rattle.task_rules.specs.Chains.{SameMain, Walked}
 use Rattle.task_rules.specs.History.{history}
-use Rattle.task_rules.specs.MainOps.{Answers, Does, MainProgress, Pends, act_of, line_of, main_row, op_at}
 use Rattle.task_rules.specs.Once.{begun_holder, holds_one, is_among, less_holder, returned_holder, with_holder}
 use Rattle.task_rules.specs.OpParts.{callee_of_op}
-use Rattle.task_rules.specs.Progress.{Fails, Goes, Never, Ordered, Progress, Stops, Traps}
 use Rattle.task_rules.specs.Run.{Run, opening}
 use Rattle.task_rules.specs.Scenes.{Scene, base_at, scene_of}
 use Rattle.task_rules.specs.Scripts.{op_of, script_of, script_of_thread}
-use Rattle.task_rules.specs.Stalled.{Setting, is_unended_take, may_deadlock}
-use Rattle.task_rules.specs.Step.{DeadlockStep, EmptyFor, FuturesStep, MainProgresses, MainStep, Polled, Progresses, RestStep, ScriptStep, Step, TakeStep, TurnStep, did, entry_number}
-use Rattle.task_rules.specs.Takes.{popped, take_row}
-use Rattle.task_rules.specs.Turns.{at_turn}
+use Rattle.task_rules.specs.Stalled.{Setting}
+use Rattle.task_rules.specs.Step.{Step}
 use Rattle.task_rules.specs.Words.{SetBackpressure, SetDoNotEnter, SetDoNotSuspend, SetWord, Word, after_word}
-use Rattle.task_rules.specs.Works.{FailsNow, Poll, StillPends, has_moving_work, next_polled, poll_of, poll_pends}
-use Rattle.task_rules.specs.Works as works
+use Rattle.task_rules.specs.Works.{poll_pends}
 
 -- ---- Instances
 
@@ -193,75 +182,13 @@ begun_there {s = s} some h (label.Take (take.Event m g n)) i e = subst (λ (j : 
 begun_there {s = s} some h (label.Take (take.EventWakes m v n w)) i e = subst (λ (j : ℕ). is_some (get s.instances j) ≡ true) (if_some true _ i e) (call_there (task_of n s) some h)
 begun_there some h _ i e = no_way (ap (λ o. is_some o) e)
 
--- ---- A script stays one
-
-main_is : (t u : State) → t ≡ u → IsScripted u.main → IsScripted t.main
-main_is t u is h = subst (λ (v : State). IsScripted v.main) (sym is) h
-
-module _ (x : Setting) (s : State) (m : IsScripted s.main) (l : Label) (t : State) where
-  progress_scripted : (base : Core) (n : ℕ) (p : Progress) → Progresses s base n p l t → IsScripted t.main
-  unfolding at_turn
-  progress_scripted base n (Goes k new r) is = main_is t _ is.1 m
-  progress_scripted base n (Stops k new) is = main_is t _ is.1 m
-  progress_scripted base n (Traps trap) is = main_is t _ is.1 m
-  progress_scripted base n (Fails i) is = main_is t _ is.1 m
-  progress_scripted base n Never is = absurd is
-  progress_scripted base n (Ordered ns next) is = progress_scripted base n (next is.0) is.1.1
-
-  main_scripted : (p : MainPlace) (o : MainOpDef) (r : MainProgress) → MainProgresses s p o r l t → IsScripted t.main
-  unfolding at_turn
-  main_scripted p o (Does k new) is = main_is t _ is.1 tt
-  main_scripted p o Pends is = main_is t _ is.1 m
-  main_scripted p o (Answers v) is = main_is t _ is.1 m
-
-  script_scripted : (c : Main) → IsScripted c → MainStep x s c l t → IsScripted t.main
-  unfolding at_turn
-  script_scripted Unscripted n is = absurd n
-  script_scripted (Scripted p) n is = go (op_at x.script p) is
-    where
-      go : (o : Option MainOpDef) → ScriptStep x s p o l t → IsScripted t.main
-      go None e = main_is t _ e.1 m
-      go (Some o) e = main_scripted p o (main_row x.component (line_of p o) s.core (act_of p o)) e
-
-  polled_scripted : (i : ℕ) (p : Poll) → Polled s i p l t → IsScripted t.main
-  unfolding at_turn
-  polled_scripted i (StillPends host) is = main_is t _ is.1 m
-  polled_scripted i (works.Ends v) is = main_is t _ is.1 m
-  polled_scripted i FailsNow is = main_is t _ is.1 m
-
-  empty_scripted : (b : Bool) → EmptyFor x s b l t → IsScripted t.main
-  unfolding at_turn
-  empty_scripted true is = go (is_unended_take s.turn) is
-    where
-      go : (b : Bool) → RestStep s b l t → IsScripted t.main
-      go true e = main_is t _ e.1 m
-      go false e = absurd e
-  empty_scripted false is = go (may_deadlock x s) is
-    where
-      go : (b : Bool) → DeadlockStep s b l t → IsScripted t.main
-      go true e = main_is t _ e.1 m
-      go false e = absurd e
-
-  turn_scripted : (u : Turn) → TurnStep x s u l t → IsScripted t.main
-  turn_scripted turn.Main is = script_scripted s.main m is
-  turn_scripted (turn.Futures n) is = go (next_polled n s.core) is
-    where
-      go : (o : Option ℕ) → FuturesStep s o l t → IsScripted t.main
-      go None e = absurd e
-      go (Some i) e = polled_scripted i (poll_of i s.core) e
-  turn_scripted (turn.Take ended) is = go (next_entry s.core) is
-    where
-      go : (o : Option (Mark × Entry)) → TakeStep x s o l t → IsScripted t.main
-      go None e = empty_scripted (has_moving_work s.core) e
-      go (Some y) e = progress_scripted (popped y.0 s.core) (entry_number y.1) (take_row y.0 (choice_of l) (popped y.0 s.core) y.1) e
-  turn_scripted (turn.Run n) is = progress_scripted s.core n (did x.component n s.core (choice_of l)) is
-  turn_scripted turn.Over is = absurd is
-
-  step_scripted : Step x s l t → IsScripted t.main
-  unfolding Step
-  step_scripted is = turn_scripted s.turn is
-
 -- ---- Steps
+
+-- a script stays one
+script_stays : (m n : Main) → SameMain m n → IsScripted m → IsScripted n
+script_stays (Scripted p) (Scripted q) same h = tt
+script_stays (Scripted p) Unscripted same h = absurd same
+script_stays Unscripted n same h = absurd h
 
 -- but for the instance of which a holding entry returns none is opened; one that begins to run finds its instance open, and shuts it
 record StepHolds (instances : ℕ) (s : State) (l : Label) (t : State) : Type 0 where
@@ -282,7 +209,7 @@ step_holds x instances exist s h m l t step =
       shut = λ i other e. g.shut i (λ f. other (sym (returned_base s.turn s.core l) ∙ f)) (flag_base s.turn s.core i ∙ e);
       begins = λ i e. let r = w.ends.shut i (begun_base s.turn s.core l ∙ e) in (sym (flag_base s.turn s.core i) ∙ r.0, r.1 (kept i (begun_there exist.some h l i e)));
       housed = record { there = λ i below. kept i (h.there i below); homes = g.homes };
-      main = step_scripted x s m l t step;
+      main = script_stays s.main t.main w.main m;
     }
 
 -- ---- Who is inside

@@ -10,8 +10,8 @@ use Rattle.task_laws.proofs.WaitLemmas.{HowFarCame, far_word}
 use Rattle.task_laws.specs.Order.{CallsNamed, WasCall}
 use Rattle.task_machine.proofs.CommuteLemmas.{get-change}
 use Rattle.task_machine.specs.Core.{Core, Table, filled, fresh, no_handles}
-use Rattle.task_machine.specs.Maps.{Records, change, get, get-empty, get-insert, get-remove, insert, remove}
-use Rattle.task_machine.specs.Read.{as_subtask, how_far_of, is_explicit, named_by, next_handle, subtask_at}
+use Rattle.task_machine.specs.Maps.{Records, change, get, get-empty, get-insert, get-remove}
+use Rattle.task_machine.specs.Read.{as_subtask, how_far_of, is_explicit, named_by, next_handle}
 use Rattle.task_machine.specs.Write.{add_call, add_group, add_set, add_thread, add_work, count_work, free_handle, free_thread_handle, give_handle, give_result, give_thread_handle, giving, on_call, on_instance, on_thread, on_work, push_high, remove_call, remove_group, remove_set, remove_thread, remove_work, set_backpressure, set_cancel_delivered, set_cancelled, set_course, set_do_not_enter, set_do_not_suspend, set_end, set_event, set_exited, set_how_far, set_join, set_own_event, set_phase, set_position, set_register, set_result, set_saved_callee, set_saved_own, set_script, set_stage, set_started, set_starting_published, set_subtask_handle, set_thread_handle, set_trapped, set_uninteresting, set_word, take_result, taking}
 use Rattle.task_machine.specs.declared.records.HowFar.{HowFar}
 use Rattle.task_machine.specs.declared.records.HowFar.TheVariants as how_far
@@ -20,7 +20,7 @@ use Rattle.task_machine.specs.declared.records.Named.TheVariants as named
 use Rattle.task_machine.specs.declared.records.Subtask.{Subtask}
 use Rattle.task_machine.specs.declared.records.Subtask.TheVariants as subtask
 use Rattle.task_machine.specs.declared.records.Thread.{Thread}
-use Rattle.task_rules.specs.Allowed.{Allowed, ByHandle, ByOp, HasSubtask, IsNew, MayCome, MayName, subtask_under_way}
+use Rattle.task_rules.specs.Allowed.{Allowed, ByHandle, ByOp, HasSubtask, IsNew, MayCome, subtask_under_way}
 use Rattle.task_rules.specs.Calls.{call_made, with_handle, with_thread_handle, work_queued}
 use Rattle.task_rules.specs.Scenes.{Scene}
 use Rattle.task_rules.specs.Words.{CloseSet, NameCall, NameWork, OpenSet, UnnameCall, UnnameWork, Word, after_word}
@@ -86,7 +86,7 @@ explicit_at o p e = ap (λ (q : Option Thread). option_map_or (λ (t : Thread). 
 was_word : (a : Scene) (w : Word) (s : Core) → Allowed a w s → (k : ℕ) → WasCall s k → WasCall (after_word w s) k
 was_word a w s ok k h = record { number = le_trans h.number (made_threads_word a w s); first = go (thread_came w s ok k) }
   where
-    go : ThreadCame a s (after_word w s).made.threads k (get s.calls k) (get (after_word w s).calls k) (get s.threads k) (get (after_word w s).threads k) → is_explicit k (after_word w s) ≡ false
+    go : ThreadCame a s (after_word w s).made.threads k s.calls (after_word w s).calls (get s.threads k) (get (after_word w s).threads k) → is_explicit k (after_word w s) ≡ false
     go (IsSame t u e f call explicit) = explicit_at _ (Some u) f ∙ (explicit ∙ (sym (explicit_at _ (Some t) e) ∙ h.first))
     go (IsGone e) = explicit_at _ None e
     go (IsBeside t is l same m e) = absurd (too_high is h.number)

@@ -1,4 +1,5 @@
 pub mod FitLemmas
+pub mod FreshLemmas
 pub mod MainLemmas
 pub mod GivenLemmas
 pub mod DriveLemmas

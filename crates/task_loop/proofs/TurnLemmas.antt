@@ -83,16 +83,12 @@ module _ (x : Setting) (s : StepView) (plain : IsPlain s.core) (b : Bool) (idle 
   rest_trap (turn.Run n) pends traps = rest_in (turn.Run n) pends
   rest_trap turn.Over pends traps = rest_in turn.Over pends
 
-  pub rest_wait : main_pends x s.core m ≡ true → b ≡ false → is_at_rest x (state_at s.core m (turn.Take false)) ≡ is_nil s.core.queues.high
-  rest_wait pends waits = rest_take pends ∙ (ap (λ v. is_nil s.core.queues.high && not v) waits ∙ and_true (is_nil s.core.queues.high))
+  pub rest_wait : (p : Turn) → is_unended_take p ≡ true → PendsIn x s m p → b ≡ false → is_at_rest x (state_at s.core m p) ≡ is_nil s.core.queues.high
+  rest_wait (turn.Take false) take pends waits = rest_take pends ∙ (ap (λ v. is_nil s.core.queues.high && not v) waits ∙ and_true (is_nil s.core.queues.high))
+  rest_wait p take pends waits = absurd (cc)
 
-  pub rest_else : (p : Turn) → p ≢ turn.Take false → is_at_rest x (state_at s.core m p) ≡ false
-  rest_else turn.Main ne = rest_in turn.Main tt
-  rest_else (turn.Take false) ne = absurd (ne refl)
-  rest_else (turn.Take true) ne = rest_in (turn.Take true) tt
-  rest_else (turn.Futures k) ne = rest_in (turn.Futures k) tt
-  rest_else (turn.Run n) ne = rest_in (turn.Run n) tt
-  rest_else turn.Over ne = rest_in turn.Over tt
+  pub rest_else : (p : Turn) → is_unended_take p ≡ false → is_at_rest x (state_at s.core m p) ≡ false
+  rest_else p no_take = elsewhere (state_at s.core m p) refl no_take
 
 -- ---- A step in which main has no part
 

@@ -131,6 +131,8 @@ pub(crate) fn computes<T, H>(
     store.state.set_context(&context);
     Made {
         label: Label::Data(label),
-        turn: Turn::Run { thread: running.number },
+        turn: Turn::Run {
+            thread: running.number,
+        },
     }
 }

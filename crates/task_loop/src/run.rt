@@ -1,7 +1,7 @@
 ghost use Rattle.std.specs.Prelude.{◌≡◌, ◌+◌, ◌*◌, ◌≤◌, ◌<◌, ◌^◌, None, true, false, IfOk, IfErr, OnOk, OnErr};
 ghost use Rattle.task_machine.specs.Core.{Main};
 ghost use Rattle.task_rules.specs.Outcome.{is_at_rest, outcome_of_label};
-ghost use Rattle.task_rules.specs.Stalled.{Setting};
+ghost use Rattle.task_rules.specs.Stalled.{Setting, is_unended_take};
 ghost use Rattle.task_loop.specs.Drive.{Drives, Drove, KeepsOn};
 ghost use Rattle.task_loop.specs.Fit.{HasPlainExports, Fits, given};
 ghost use Rattle.task_loop.specs.Main.{state_at};
@@ -56,6 +56,13 @@ fn outcome_of(label: Label) -> Option<Outcome>
         Label::Call(CallLabel::Fails(_, work)) => Some(Outcome::HostFailed(work)),
         _ => None,
     }
+}
+
+// Whether an entry is to be taken.
+fn is_take(turn: Turn) -> bool
+    ensures { result ≡ is_unended_take turn }
+{
+    matches!(turn, Turn::Take { ended: false })
 }
 
 impl RunConcurrent {
@@ -173,10 +180,10 @@ impl RunConcurrent {
         if self.trap_on_idle {
             return false;
         }
-        match self.turn {
-            Turn::Take { ended: false } => store.state.is_drained(),
-            _ => false,
+        if !is_take(self.turn) {
+            return false;
         }
+        store.state.is_drained()
     }
 
     // Makes a step; none where nothing can go on and that is no deadlock.

@@ -1,5 +1,5 @@
 //! One step: main takes an op, an entry is taken, or the running thread takes its op.
-ghost use Rattle.std.specs.Prelude.{◌≡◌, ◌+◌, ◌<◌, ◌^◌, ℕ, true, None, [], slice_get, unwrap_or, IsSome, IfSome, IfOk, IfErr, OnOk};
+ghost use Rattle.std.specs.Prelude.{◌≡◌, ◌+◌, ◌<◌, ◌^◌, ℕ, true, false, None, [], slice_get, unwrap_or, IsSome, IfSome, IfOk, IfErr, OnOk};
 ghost use Rattle.task_machine.specs.Core.{Main};
 ghost use Rattle.task_rules.specs.Scripts.{op_of, script_in};
 ghost use Rattle.task_rules.specs.Stalled.{Setting, main_pends};
@@ -247,7 +247,9 @@ fn returns<T, H>(
     match instance.task_return(component, store, 0, 0, 0, value) {
         Ok(()) => Ok(Made {
             label: Label::Task(TaskLabel::Ret(running.number, value)),
-            turn: Turn::Run { thread: running.number },
+            turn: Turn::Run {
+                thread: running.number,
+            },
         }),
         Err(TaskError::Trap(trap)) => Ok(traps(store, running, trap)),
         Err(TaskError::NoMemory) => Err(NoMemory),

@@ -9,7 +9,7 @@ use crate::component::{op_at, start_script};
 use crate::data::computes_in;
 use crate::trace::Trace;
 use task_core::NoMemory;
-use task_machine::{Component, Label, Op};
+use task_machine::{Component, Label, Op, Turn};
 use task_store::Store;
 
 /// The running thread does its ops on registers and words one after another, up to another op, to its script's end

@@ -7,9 +7,9 @@ use Rattle.std.proofs.lemmas.Grind.{flat_map-append}
 use Rattle.task_machine.specs.declared.label.Label.{Label}
 use Rattle.task_machine.specs.declared.outcome.Outcome.{Outcome}
 use Rattle.task_rules.specs.Texts.{text, label_text, line_text, outcome_text}
-use Rattle.task_run.specs.Outside.{Appends}
-use Rattle.task_run.specs.Pump.{IsFront}
-use Rattle.task_run.proofs.Appending.{behind}
+use Rattle.byte_streams.specs.Outside.{Appends}
+use Rattle.byte_streams.specs.Pump.{IsFront}
+use Rattle.byte_streams.proofs.Appending.{behind}
 
 abbrev pub line : Label → List ℕ
 line x = line_text (label_text x)

@@ -29,13 +29,13 @@ use Rattle.task_machine.specs.declared.op.TaskOp.{TaskOp}
 use Rattle.task_machine.specs.declared.op.TaskOp.TheVariants as task
 use Rattle.task_rules.specs.Scripts.{export_at}
 use Rattle.task_loop.specs.declared.call.Func.{Func}
-use Rattle.task_run.specs.declared.scenario.MainOp.{MainOp}
-use Rattle.task_run.specs.declared.scenario.MainOp.TheVariants as main_op
+use Rattle.task_scenario.specs.declared.scenario.MainOp.{MainOp}
+use Rattle.task_scenario.specs.declared.scenario.MainOp.TheVariants as main_op
 use Rattle.task_loop.specs.Fit as fit
 use Rattle.task_loop.specs.Fit.{HasPlainExports, IsPlainExport}
 use Rattle.task_run.specs.Runnable.{IsRunnable}
-use Rattle.task_run.specs.Lower as lower
-use Rattle.task_run.specs.Lower.{export_def, instance_def, scenario_of}
+use Rattle.task_scenario.specs.Lower as lower
+use Rattle.task_scenario.specs.Lower.{export_def, instance_def, scenario_of}
 use Rattle.task_loop.specs.Calls.{callee_of}
 use Rattle.task_run.specs.Script.{SuitsOps}
 use Rattle.task_run.specs.Script as script

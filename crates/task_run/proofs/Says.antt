@@ -3,8 +3,8 @@ use Rattle.std.proofs.Common.{◌≡◌, ℕ, List, inl, inr, sym, ◌∙◌}
 use Rattle.std.specs.Prelude.{Option}
 use Rattle.task_run.specs.declared.program.End.{End}
 use Rattle.task_run.specs.declared.program.End.TheVariants as ends
-use Rattle.task_run.specs.Outside.{Appends}
-use Rattle.task_run.specs.Pump.{IsFront}
+use Rattle.byte_streams.specs.Outside.{Appends}
+use Rattle.byte_streams.specs.Pump.{IsFront}
 use Rattle.task_run.specs.Tool.{SaysOrFails}
 
 -- the sink failed

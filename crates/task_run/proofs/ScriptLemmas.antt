@@ -22,7 +22,7 @@ use Rattle.task_loop.specs.declared.call.FuncCallConcurrent.{FuncCallConcurrent}
 use Rattle.task_loop.specs.Calls.{Starts}
 use Rattle.task_state.specs.StepView.{StepView}
 use Rattle.std.proofs.Common.{false}
-use Rattle.task_run.specs.declared.scenario.MainOp.{MainOp}
+use Rattle.task_scenario.specs.declared.scenario.MainOp.{MainOp}
 use Rattle.task_run.specs.Script.{SuitsOps, is_start_finish_or_answer}
 use Rattle.task_loop.specs.Main as main
 use Rattle.task_loop.specs.Main.{IsOpOfMain, main_setting, state_at}

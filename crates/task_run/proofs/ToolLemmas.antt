@@ -3,12 +3,12 @@ use Rattle.std.proofs.Common.{◌≡◌, ◌≢◌, ◌⊎◌, ◌∙◌, ◌+�
 use Rattle.std.specs.Prelude.{Option}
 use Rattle.task_run.specs.declared.program.End.{End}
 use Rattle.task_run.specs.declared.program.End.TheVariants as ends
-use Rattle.task_run.specs.declared.scenario.Scenario.{Scenario}
-use Rattle.task_run.specs.Lower.{Reads}
+use Rattle.task_scenario.specs.declared.scenario.Scenario.{Scenario}
+use Rattle.task_scenario.specs.Lower.{Reads}
 use Rattle.task_rules.specs.Texts.{text}
 use Rattle.task_run.specs.declared.report.Report.{Report}
 use Rattle.task_run.specs.Headline.{IsReportOf}
-use Rattle.task_run.specs.Pump.{IsFront, IsTooLong, IsWhole}
+use Rattle.byte_streams.specs.Pump.{IsFront, IsTooLong, IsWhole}
 use Rattle.task_run.specs.Tool.{IsHindered, IsReportCut, SaysBadLine, status_of}
 
 pub only_done : (e : End) → e ≢ ends.WrongWords → e ≢ ends.BadScenario → e ≢ ends.ReadFailed → e ≢ ends.WriteFailed → e ≢ ends.TooLong → (status_of e ≡ 0) ⊎ (status_of e ≡ 1)

@@ -1,6 +1,6 @@
 -- What a run needs of a scenario.
 use Rattle.std.specs.Prelude.{◌≤◌, length}
-use Rattle.task_run.specs.declared.scenario.Scenario.{Scenario}
+use Rattle.task_scenario.specs.declared.scenario.Scenario.{Scenario}
 use Rattle.task_loop.specs.Fit.{HasPlainExports}
 use Rattle.task_run.specs.Script.{SuitsOps}
 

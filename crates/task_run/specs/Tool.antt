@@ -7,12 +7,12 @@ use Rattle.task_machine.specs.declared.label.Label.{Label}
 use Rattle.task_machine.specs.declared.outcome.Outcome.{Outcome}
 use Rattle.task_rules.specs.Texts as texts
 use Rattle.task_run.specs.declared.report.Report.{Report}
-use Rattle.task_run.specs.declared.scenario.Scenario.{Scenario}
+use Rattle.task_scenario.specs.declared.scenario.Scenario.{Scenario}
 use Rattle.task_machine.specs.Core.{Core}
 use Rattle.task_run.specs.Headline.{IsReportOf, IsRunOf, machine_scenario}
-use Rattle.task_run.specs.Lower.{Reads}
-use Rattle.task_run.specs.Outside.{Appends}
-use Rattle.task_run.specs.Pump.{IsFront, IsTooLong, IsWhole}
+use Rattle.task_scenario.specs.Lower.{Reads}
+use Rattle.byte_streams.specs.Outside.{Appends}
+use Rattle.byte_streams.specs.Pump.{IsFront, IsTooLong, IsWhole}
 
 -- the words are `run N`, N from 1 to 1,000,000 in decimal without leading zeros
 abbrev pub IsRun : List (List ℕ) → ℕ → Type 0

@@ -4,17 +4,17 @@ ghost use Rattle.task_rules.specs.MainOps.{started_at};
 ghost use Rattle.task_rules.specs.Run.{main_opening};
 ghost use Rattle.task_rules.specs.Scripts.{export_at, values_in};
 ghost use Rattle.task_core.specs.declared.error.TaskError.TheVariants as task_error;
-ghost use Rattle.task_run.specs.declared.scenario.MainOp.TheVariants as main_op;
+ghost use Rattle.task_scenario.specs.declared.scenario.MainOp.TheVariants as main_op;
 ghost use Rattle.task_loop.specs.Calls.{callee_of};
 ghost use Rattle.task_loop.specs.Fit.{Fits, HasPlainExports, given};
 ghost use Rattle.task_loop.specs.Main.{Steps};
 ghost use Rattle.task_run.specs.Script.{Suits, part_of, place_of, script_of, started};
 ghost use Rattle.task_state.specs.State.{running_of};
 
-use crate::scenario::MainOp;
 use std::alloc::{AllocError, Global};
 use task_loop::{Func, MainStep, MainTask, operand_value};
 use task_machine::{Component, Label, MainLabel, Operand, Trap};
+use task_scenario::MainOp;
 use task_state::TaskError;
 use task_store::{Access, Whole};
 

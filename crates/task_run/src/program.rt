@@ -1,18 +1,17 @@
 ghost use Rattle.std.specs.Prelude.{◌≡◌, ◌≢◌, ◌⊎◌, ◌<◌, ◌≤◌, ℕ, List, Some, length, map, string_bytes, [], IfOk, IfErr, IfSome, IsErrOf, IsOk, OnOk, MatchOption};
-ghost use Rattle.task_run.specs.Outside.{Appends, HasRisen};
-ghost use Rattle.task_run.specs.Pump.{IsFront, IsTooLong};
-ghost use Rattle.task_run.specs.Lower.{Reads};
+ghost use Rattle.byte_streams.specs.Outside.{Appends, HasRisen};
+ghost use Rattle.byte_streams.specs.Pump.{IsFront, IsTooLong};
+ghost use Rattle.task_scenario.specs.Lower.{Reads};
 ghost use Rattle.task_rules.specs.Texts.{text};
 ghost use Rattle.task_run.specs.Tool.{IsCut, IsHindered, IsRun, IsScenario, Ran, SaysBadLine, SaysOrFails, bad_line_text, too_long_text, usage_text, status_of};
-ghost use Rattle.task_run.specs.declared.scenario.Scenario.{Scenario};
+ghost use Rattle.task_scenario.specs.declared.scenario.Scenario.{Scenario};
 
-use crate::outside::{Sink, Source};
-use crate::pump::{ReadFault, read_all, write_all};
 use crate::report::{Report, run_scenario};
-use crate::scenario::RunError;
+use byte_streams::{ReadFault, Sink, Source, read_all, write_all};
 use report_text::Page;
 use scenario_text::number_up_to;
 use std::alloc::{AllocError, Global};
+use task_scenario::RunError;
 
 /// What the program says of wrong words.
 pub const USAGE: &[u8] = b"usage: run STEPS, make NUMBER, big NUMBER STEPS, beside STEPS\n";

@@ -5,17 +5,16 @@ ghost use Rattle.task_loop.specs.Turn.{idle_line_of};
 ghost use Rattle.task_core.specs.StateView.{nothing, with_core};
 ghost use Rattle.task_run.specs.Runnable.{IsRunnable};
 ghost use Rattle.task_run.specs.Headline.{IsReportOf, IsRunOf, machine_scenario};
-ghost use Rattle.task_run.specs.Lower.{Reads};
-ghost use Rattle.task_run.specs.declared.scenario.Scenario.{Scenario};
+ghost use Rattle.task_scenario.specs.Lower.{Reads};
+ghost use Rattle.task_scenario.specs.declared.scenario.Scenario.{Scenario};
 ghost use Rattle.task_rules.specs.Texts.{label_text, outcome_text, line_text, text};
 
-use crate::lower::read_scenario;
 use crate::main_script::ScriptMain;
-use crate::scenario::{RunError, Scenario};
 use report_text::Page;
 use std::alloc::{AllocError, Global};
 use task_loop::{Outcome, Trace, run_concurrent};
 use task_machine::{IdleLine, NoMemory};
+use task_scenario::{RunError, Scenario, read_scenario};
 use task_store::Store;
 
 /// The host works of a scenario.

@@ -1,13 +1,11 @@
-//! Laws of codes and links that users of them rest on. The functions do nothing.
-ghost use Rattle.std.specs.Prelude.{◌≡◌, ◌+◌, ◌*◌, ◌<◌, ℕ, List, None, Some, IsSome, true};
+//! Laws of codes and keys that users of them rest on. The functions do nothing.
+ghost use Rattle.std.specs.Prelude.{◌≡◌, ◌+◌, ◌*◌, ◌<◌};
 ghost use Rattle.std.specs.Option.{unwrap_or};
 ghost use Rattle.task_machine.specs.Statuses.{packed_status, status_code};
 ghost use Rattle.task_wait.specs.Codes.{unpacked};
 ghost use Rattle.task_wait.specs.Keys.{waitable_order, waiter_order};
-ghost use Rattle.task_wait.specs.Links.{ChangesOnly, is_made, linked, list_of, unlinked};
 
 use crate::keys::{Waitable, WaiterKey};
-use crate::links::{Links, Node};
 use task_machine::Status;
 
 /// The law that what [`Status::pack`] gives comes apart by [`unpack_callback_code`](crate::unpack_callback_code), into
@@ -24,18 +22,6 @@ pub fn callback_code_unpacks(code: u32, rest: u32)
     ensures { unpacked (16 * rest + code) ≡ (code, rest) }
 {
     let _parts = (code, rest);
-}
-
-/// The law that a node which is put into a live chain, or taken out of it, changes that chain and its own link alone:
-/// every other chain keeps its list, and every other node its link, or stays free.
-pub fn others_stay<P: Copy>(links: &Links<P>, chain: usize, node: Node)
-    requires chain { IsSome (list_of links.now chain) }
-    requires made { is_made links.now node.index ≡ true }
-    ensures linked { (value : P) (list : List (ℕ × P)) → ChangesOnly links.now (linked chain node.index value list links.now) chain node.index list (Some (chain, value)) }
-    ensures unlinked { (list : List (ℕ × P)) → ChangesOnly links.now (unlinked chain node.index list links.now) chain node.index list None }
-{
-    let _links = links;
-    let _parts = (chain, node);
 }
 
 /// The law of the order of waiters: by the place of the task, then of the thread, then by the thread's serial.

@@ -1,4 +1,4 @@
-//! What waits and what wakes: the codes that a guest is given, links between entries that stand in lists, and waitable sets.
+//! What waits and what wakes: the codes that a guest is given, and waitable sets over links.
 //!
 //! A place in a list is a link that its owner made before, so that no wake and no wait takes memory.
 #![tactic(auto)]
@@ -6,7 +6,6 @@
 mod codes;
 mod keys;
 mod laws;
-mod links;
 mod set;
 
 pub use codes::{BLOCKED, EXIT, Event, WAIT, YIELD, unpack_callback_code};
@@ -15,9 +14,9 @@ pub use keys::{
     WaiterKey,
 };
 pub use laws::{
-    callback_code_unpacks, others_stay, packed_status_unpacks, waitables_by_kind_and_id,
+    callback_code_unpacks, packed_status_unpacks, waitables_by_kind_and_id,
     waiters_by_task_and_thread,
 };
-pub use links::{Links, Node};
 pub use set::WaitableSet;
+pub use task_links::{Links, Node, others_stay};
 pub use task_machine::{NoMemory, Status};

@@ -1,5 +1,5 @@
 -- Main waits, nothing stands, and that is to trap.
-use Rattle.std.proofs.Common.{subst, sym}
+use Rattle.std.proofs.Common.{false, subst, sym}
 use Rattle.task_machine.specs.declared.label.Label.TheVariants as label
 use Rattle.task_machine.specs.declared.label.LoopLabel.TheVariants as loop_label
 use Rattle.task_machine.specs.declared.trap.Trap.TheVariants as trap

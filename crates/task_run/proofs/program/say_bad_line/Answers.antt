@@ -1,7 +1,7 @@
 use Rattle.std.proofs.Common.{◌≡◌, ℕ, List, subst, ◌∙◌}
 use Rattle.task_run.specs.declared.program.End.TheVariants as ends
-use Rattle.task_run.specs.Outside.{Appends}
-use Rattle.task_run.specs.Pump.{IsFront}
+use Rattle.byte_streams.specs.Outside.{Appends}
+use Rattle.byte_streams.specs.Pump.{IsFront}
 use Rattle.task_run.specs.Tool.{bad_line_text}
 use Rattle.task_run.proofs.Says.{cut, said}
 use Rattle.task_run.proofs.program.say_bad_line.Goals as goal

@@ -7,8 +7,8 @@ use Rattle.std.proofs.lemmas.Grind.{flat_map-append}
 use Rattle.task_machine.specs.declared.label.Label.{Label}
 use Rattle.task_machine.specs.declared.outcome.Outcome.{Outcome}
 use Rattle.task_rules.specs.Texts.{text, line_text, outcome_text}
-use Rattle.task_run.specs.Outside.{Appends}
-use Rattle.task_run.proofs.Appending.{appends_none, appends_then, behind}
+use Rattle.byte_streams.specs.Outside.{Appends}
+use Rattle.byte_streams.proofs.Appending.{appends_none, appends_then, behind}
 use Rattle.task_run.proofs.Fronts.{line, piece_cut}
 use Rattle.task_run.proofs.program.write_report.Goals.{then-not-has_room+in_ok-flush, else-not-has_room}
 use Rattle.task_run.proofs.program.write_report.Goals as goal

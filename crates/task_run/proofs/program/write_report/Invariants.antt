@@ -1,7 +1,7 @@
 use Rattle.std.proofs.Common.{◌≡◌, ℕ, ◌≤◌, ◌++◌, List, length, take}
 use Rattle.std.specs.List.{flat_map}
 use Rattle.task_rules.specs.Texts.{label_text, line_text}
-use Rattle.task_run.specs.Outside.{Appends}
+use Rattle.byte_streams.specs.Outside.{Appends}
 use Rattle.task_run.proofs.program.write_report.Given as goal
 
 abbrev pub invariant-loop-label : goal.invariant-loop-label

@@ -3,7 +3,8 @@ use Rattle.task_core.specs.StateView.{StateView, nothing, with_core, with_instan
 use Rattle.task_core.proofs.Laws.{fresh_more, size-fresh}
 use Rattle.task_machine.specs.Core.{fresh}
 use Rattle.task_machine.specs.Maps.{size}
-use Rattle.task_run.proofs.StoreLemmas.{given_fresh, limits_set}
+use Rattle.task_loop.proofs.FreshLemmas.{given_fresh}
+use Rattle.task_run.proofs.StoreLemmas.{limits_set}
 use Rattle.task_run.proofs.report.new_store.Goals as goal
 
 pub add_instance-requires : goal.add_instance-requires

@@ -6,11 +6,11 @@ use Rattle.task_rules.specs.Run.{main_opening}
 use Rattle.task_loop.specs.Main.{state_at}
 use Rattle.task_loop.specs.Turn as loop
 use Rattle.task_run.specs.Script.{machine_ops, part_of, script_of}
-use Rattle.task_run.specs.declared.scenario.MainOp.{MainOp}
+use Rattle.task_scenario.specs.declared.scenario.MainOp.{MainOp}
 use Rattle.task_loop.specs.declared.run.RunConcurrent.{RunConcurrent}
 use Rattle.task_run.specs.Headline.{machine_scenario}
 use Rattle.task_run.proofs.HeadlineLemmas.{headline, opens_is}
-use Rattle.task_run.proofs.StoreLemmas.{fits_fresh, given_fresh}
+use Rattle.task_loop.proofs.FreshLemmas.{fits_fresh, given_fresh}
 use Rattle.task_run.proofs.report.run.Goals as goal
 
 pub drive-driven-requires-clause-fits : goal.drive-driven-requires-clause-fits

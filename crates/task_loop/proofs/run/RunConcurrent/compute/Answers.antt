@@ -20,5 +20,5 @@ returns-in-Run-clause-on g c =
     (λ k. KeepsOn c.args.component.now c.args.self.now.turn s c.args.trace.now c.args.added (step_view c.stretch.new.store.state) c.stretch.new.trace k)
     c.stretch.result
     (λ k h. subst (λ (p : Turn). KeepsOn c.args.component.now p s c.args.trace.now c.args.added (step_view c.stretch.new.store.state) c.stretch.new.trace k) (sym c.in-Run.is)
-    (if_some (λ n. KeepsOn c.args.component.now (turn.Run n) s c.args.trace.now c.args.added (step_view c.stretch.new.store.state) c.stretch.new.trace k) s.running c.in-Run.field-0 (c.requires.current ∙ ap runs_in c.in-Run.is) h))
+    (if_some (λ n. KeepsOn c.args.component.now (turn.Run n) s c.args.trace.now c.args.added (step_view c.stretch.new.store.state) c.stretch.new.trace k) s.running c.in-Run.thread (c.requires.current ∙ ap runs_in c.in-Run.is) h))
     c.stretch.ensures.on

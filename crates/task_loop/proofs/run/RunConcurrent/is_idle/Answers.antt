@@ -1,4 +1,5 @@
 -- The loop is idle where the machine is at rest.
+use Rattle.std.proofs.Common.{sym, ◌∙◌}
 use Rattle.task_loop.proofs.TurnLemmas.{rest_else, rest_trap, rest_wait}
 use Rattle.task_state.specs.State.{step_view}
 use Rattle.task_loop.proofs.run.RunConcurrent.is_idle.Goals as goal
@@ -6,10 +7,10 @@ use Rattle.task_loop.proofs.run.RunConcurrent.is_idle.Goals as goal
 pub returns-then-self : goal.returns-then-self
 returns-then-self g c = λ x idle m pends. rest_trap x (step_view c.args.store.now.state) c.is_whole.ensures.simple.plain c.args.self.now.trap_on_idle idle m c.args.self.now.turn pends c.if-self.true
 
-pub returns-in-Take : goal.returns-in-Take
-returns-in-Take g c = λ x idle m.
-    rw (c.in-Take.is, c.is_drained.ensures)
-    (λ pends. rest_wait x (step_view c.args.store.now.state) c.is_whole.ensures.simple.plain c.args.self.now.trap_on_idle idle m pends c.if-self.false)
+pub returns-then-not-is_take : goal.returns-then-not-is_take
+returns-then-not-is_take g c = λ x idle m pends. rest_else x (step_view c.args.store.now.state) c.is_whole.ensures.simple.plain c.args.self.now.trap_on_idle idle m c.args.self.now.turn (sym c.is_take.ensures ∙ c.if-not-is_take.true)
 
-pub returns-in_default : goal.returns-in_default
-returns-in_default g c = λ x idle m pends. rest_else x (step_view c.args.store.now.state) c.is_whole.ensures.simple.plain c.args.self.now.trap_on_idle idle m c.args.self.now.turn c.in_default.not-Take
+pub returns : goal.returns
+returns g c = λ x idle m pends.
+    rest_wait x (step_view c.args.store.now.state) c.is_whole.ensures.simple.plain c.args.self.now.trap_on_idle idle m c.args.self.now.turn (sym c.is_take.ensures ∙ c.if-not-is_take.false) pends c.if-self.false
+    ∙ sym c.is_drained.ensures

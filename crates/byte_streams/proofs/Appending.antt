@@ -1,0 +1,39 @@
+-- What was appended, step by step.
+use Rattle.std.proofs.Common.{◌≡◌, ℕ, true, false, List, [], ◌++◌, Some, None, append-nil, append_assoc, refl, sym, ap, ◌∙◌}
+use Rattle.std.specs.Prelude.{Bool, Option}
+use Rattle.std.proofs.lemmas.Option.{same_Some}
+use Rattle.byte_streams.specs.Outside.{Appends, kept_told}
+use Rattle.byte_streams.specs.Pump.{IsFront}
+
+pub appends_none : (o : Option (List ℕ)) → Appends o o []
+appends_none o now is = (now, (is, sym (append-nil now)))
+
+pub appends_then : (o m n : Option (List ℕ)) (a b : List ℕ) → Appends o m a → Appends m n b → Appends o n (a ++ b)
+appends_then o m n a b one two now is =
+    let second = two now is in
+    let first = one second.0 second.1.0 in
+    (first.0, (first.1.0, second.1.1 ∙ ap (λ (bs : List ℕ). bs ++ b) first.1.1 ∙ append_assoc first.0 a b))
+
+-- what keeps all that it takes
+pub appends_kept : (passed : Bool) (old new bytes : List ℕ) → new ≡ old ++ bytes → Appends (kept_told passed old) (kept_told passed new) bytes
+appends_kept true old new bytes e now is = absurd cc
+appends_kept false old new bytes e now is = (old, (refl, sym (same_Some _ _ is) ∙ e))
+
+pub appends_some : (old new bytes : List ℕ) → new ≡ old ++ bytes → Appends (Some old) (Some new) bytes
+appends_some old new bytes e = appends_kept false old new bytes e
+
+-- what tells nothing
+pub appends_untold : (old : Option (List ℕ)) (bytes : List ℕ) → Appends old None bytes
+appends_untold old bytes now is = absurd cc
+
+-- what was written before a front of a piece, and that front
+pub behind : (o m n : Option (List ℕ)) (front piece rest whole : List ℕ) → (front ++ piece) ++ rest ≡ whole → Appends o m front → IsFront m n piece → IsFront o n whole
+behind o m n front piece rest whole e before f = record {
+  front = front ++ f.front;
+  rest = f.rest ++ rest;
+  parts =
+      append_assoc front f.front (f.rest ++ rest)
+      ∙ ap (λ (bs : List ℕ). front ++ bs) (sym (append_assoc f.front f.rest rest) ∙ ap (λ (bs : List ℕ). bs ++ rest) f.parts)
+      ∙ sym (append_assoc front piece rest) ∙ e;
+  appended = appends_then o m n front f.front before f.appended;
+}

@@ -1,0 +1,37 @@
+-- What reading all and writing all come to, where what is left and what is held are told.
+use Rattle.std.specs.Prelude.{◌≡◌, ℕ, ◌≤◌, List, [], ◌++◌, length, Option, Some, Result, Ok, Err}
+use Rattle.std.specs.Global.{Vec}
+use Rattle.byte_streams.specs.declared.pump.ReadFault.{ReadFault}
+use Rattle.byte_streams.specs.declared.pump.ReadFault.TheVariants as fault
+use Rattle.byte_streams.specs.Outside.{Appends}
+
+-- these bytes were taken off the front of all, and the others are left
+pub record IsTaken (all taken : List ℕ) (left : Option (List ℕ)) : Type 0 where
+  pub rest : List ℕ
+  pub parts : taken ++ rest ≡ all
+  pub left_is : left ≡ Some rest
+
+-- all was read to its end, and has no more bytes than a text may have
+pub record IsWhole (all : List ℕ) (left : Option (List ℕ)) : Type 0 where
+  pub ended : left ≡ Some []
+  pub short : length all ≤ 1048576
+
+-- one byte more was taken than a text may have
+pub record IsTooLong (all : List ℕ) (left : Option (List ℕ)) : Type 0 where
+  pub taken : List ℕ
+  pub read : IsTaken all taken left
+  pub long : length taken ≡ 1048577
+
+-- The text is all that there was. Where no text is answered, a front was taken.
+abbrev pub ReadsAll : List ℕ → Option (List ℕ) → Result (Vec ℕ) ReadFault → Type 0
+ReadsAll all left (Ok text) = (text.items ≡ all) × IsWhole all left
+ReadsAll all left (Err fault.TooLong) = IsTooLong all left
+ReadsAll all left (Err fault.NoMemory) = (taken : List ℕ) × IsTaken all taken left
+ReadsAll all left (Err fault.Failed) = (taken : List ℕ) × IsTaken all taken left
+
+-- a front of the bytes was appended
+pub record IsFront (old new : Option (List ℕ)) (bytes : List ℕ) : Type 0 where
+  pub front : List ℕ
+  pub rest : List ℕ
+  pub parts : front ++ rest ≡ bytes
+  pub appended : Appends old new front

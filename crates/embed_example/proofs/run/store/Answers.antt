@@ -1,0 +1,17 @@
+-- Two instances were made.
+use Rattle.std.proofs.Common.{ap, arith, refl, ◌∙◌}
+use Rattle.task_core.specs.StateView.{nothing, with_core, with_instance}
+use Rattle.task_core.proofs.Laws.{fresh_more}
+use Rattle.embed_example.proofs.HostLemmas.{is_few}
+use Rattle.embed_example.proofs.run.store.Goals as goal
+
+pub add_instance-requires : goal.add_instance-requires
+add_instance-requires c = is_few 0 c.new-store.result.state.core (omega arith) (rw c.new-store.ensures.state refl)
+
+pub add_instance-requires-2 : goal.add_instance-requires-2
+add_instance-requires-2 c = is_few 1 c.add_instance.new.self.state.core (omega arith) (rw (c.in_ok-add_instance.ensures.ok, c.new-store.ensures.state) (fresh_more 0 100000 1000000))
+
+pub returns-clause-state : goal.returns-clause-state
+returns-clause-state c =
+    rw (c.in_ok-add_instance-2.ensures.ok, c.in_ok-add_instance.ensures.ok, c.new-store.ensures.state)
+    (ap (λ u. with_core u nothing) (ap with_instance (fresh_more 0 100000 1000000) ∙ fresh_more 1 100000 1000000))

@@ -1,0 +1,59 @@
+//! What is run: two instances with an export each.
+ghost use Rattle.std.specs.Prelude.{◌≡◌, ◌∷◌, [], length, IfOk};
+ghost use Rattle.task_machine.specs.declared.component.ExportDef.{ExportDef};
+ghost use Rattle.task_loop.specs.Fit.{HasPlainExports, IsPlainExport};
+ghost use Rattle.embed_example.specs.Host.{HasOneExport, TakesOne};
+
+use std::alloc::{AllocError, Global};
+use task_loop::{Component, ExportDef, Func, Instance, InstanceDef, Op, Operand};
+use task_machine::{DataOp, ExportKind, Seq, TaskOp};
+
+/// Answers twice its word.
+pub const DOUBLE: Func = Func {
+    instance: Instance { index: 0 },
+    export: 0,
+};
+
+/// Answers one more than its word.
+pub const NEXT: Func = Func {
+    instance: Instance { index: 1 },
+    export: 0,
+};
+
+// An instance whose one export answers its word plus this.
+fn adder(alloc: Global, more: Operand) -> Result<InstanceDef, AllocError>
+    ensures { IfOk result HasOneExport }
+{
+    let mut start = Seq::new(alloc);
+    start.push(Op::Data(DataOp::Add { to: 0, value: more }))?;
+    let value = Operand::Register(0);
+    start.push(Op::Task(TaskOp::Ret { value }))?;
+    start.push(Op::Task(TaskOp::Exit))?;
+    let mut exports = Seq::new(alloc);
+    exports.push(ExportDef {
+        kind: ExportKind::Callback,
+        params: 1,
+        start,
+        react: Seq::new(alloc),
+    })?;
+    Ok(InstanceDef {
+        exports,
+        slots: Seq::new(alloc),
+    })
+}
+
+/// The instance of `DOUBLE`, and that of `NEXT`.
+pub fn component(alloc: Global) -> Result<Component, AllocError>
+    ensures exports { IfOk result HasPlainExports }
+    ensures double { IfOk result (λ c. TakesOne c DOUBLE) }
+    ensures next { IfOk result (λ c. TakesOne c NEXT) }
+    ensures two { IfOk result (λ c. length c.instances ≡ 2) }
+{
+    let mut instances = Seq::new(alloc);
+    instances.push(adder(alloc, Operand::Register(0))?)?;
+    instances.push(adder(alloc, Operand::Number(1))?)?;
+    Ok(Component {
+        instances,
+        hosts: Seq::new(alloc),
+    })
+}

@@ -1,0 +1,99 @@
+//! The main: it doubles its word by one call, then adds one by another, and answers that.
+ghost use Rattle.std.specs.Prelude.{◌≡◌, ◌+◌, ◌<◌, ◌^◌, [], IfErr, IfOk, OnOk};
+ghost use Rattle.task_machine.specs.Core.{Unscripted};
+ghost use Rattle.task_core.specs.declared.error.TaskError.TheVariants as task_error;
+ghost use Rattle.task_loop.specs.Fit.{Fits, HasPlainExports, given};
+ghost use Rattle.task_loop.specs.Main.{Steps};
+ghost use Rattle.task_state.specs.State.{running_of};
+ghost use Rattle.embed_example.specs.Host.{TakesOne};
+
+use crate::parts::{DOUBLE, NEXT};
+use futures::task::Poll;
+use task_loop::{Component, Func, FuncCallConcurrent, Label, MainStep, MainTask, TaskError};
+use task_machine::MainLabel;
+use task_store::{Access, Whole};
+
+/// Where main is.
+#[derive(Drop)]
+pub struct Relay {
+    word: u64,
+    // How many calls were started.
+    started: u32,
+    // The one that it waits for.
+    call: Option<FuncCallConcurrent>,
+}
+
+impl Relay {
+    /// Main with a word, before its first call.
+    pub fn new(word: u64) -> Self {
+        Relay {
+            word,
+            started: 0,
+            call: None,
+        }
+    }
+}
+
+// Calls the export with main's word. Where the store refuses it, main has no further call.
+fn start(
+    relay: &mut Relay,
+    access: &mut Access<'_, (), Whole, ()>,
+    component: &Component,
+    func: Func,
+) -> Result<MainStep, TaskError>
+    requires exports { HasPlainExports component.now }
+    requires fits { Fits component.now access.old.store.now.state.core }
+    requires takes { TakesOne component.now func }
+    requires given { given access.old.store.now.state.core + 4 < 2 ^ 61 }
+    ensures same { access.new.store.ghost_name ≡ access.old.store.ghost_name }
+    ensures current { OnOk result (running_of access.new.store.now.state ≡ running_of access.old.store.now.state) }
+    ensures fits { OnOk result (Fits component.now access.new.store.now.state.core) }
+    ensures ok { IfOk result (λ step. Steps component.now [] Unscripted access.old.store.now.state.core step Unscripted access.new.store.now.state.core) }
+    ensures err { IfErr result (λ e. e ≡ task_error.NoMemory) }
+{
+    let number = relay.started.saturating_add(1);
+    match func.start_call_concurrent(component, access.store, &[relay.word]) {
+        Ok(call) => {
+            let thread = call.thread();
+            relay.call = Some(call);
+            relay.started = number;
+            Ok(MainStep::Did(Label::Main(MainLabel::Start(number, thread))))
+        }
+        Err(TaskError::Trap(trap)) => {
+            relay.started = 2;
+            Ok(MainStep::Did(Label::Main(MainLabel::StartRefused(trap, number))))
+        }
+        Err(_) => Err(TaskError::NoMemory),
+    }
+}
+
+impl MainTask<(), ()> for Relay {
+    ghost use Rattle.embed_example.specs.declared.parts.TheConstants.{DOUBLE, NEXT};
+
+    ghost part = { λ _. Unscripted };
+
+    ghost script = { λ _. [] };
+
+    ghost suits = { λ _ c. TakesOne c DOUBLE × TakesOne c NEXT };
+
+    fn step(
+        &mut self,
+        access: &mut Access<'_, (), Whole, ()>,
+        component: &Component,
+    ) -> Result<MainStep, TaskError> {
+        if let Some(call) = &mut self.call {
+            let func = if self.started == 1 { DOUBLE } else { NEXT };
+            let Poll::Ready(value) = func.finish_call_concurrent(access.store, call) else {
+                return Ok(MainStep::Pends);
+            };
+            self.word = value;
+            self.call = None;
+            return Ok(MainStep::Did(Label::Main(MainLabel::Finish(self.started, value))));
+        }
+        match self.started {
+            0 => start(self, access, component, DOUBLE),
+            1 => start(self, access, component, NEXT),
+            _ => Ok(MainStep::Answer(self.word)),
+        }
+    }
+}

@@ -1,0 +1,54 @@
+//! The store and the run.
+ghost use Rattle.std.specs.Prelude.{◌≡◌, [], length, true, false, IfOk};
+ghost use Rattle.task_machine.specs.Core.{State, Unscripted, fresh};
+ghost use Rattle.task_machine.specs.declared.records.Turn.TheVariants as turn;
+ghost use Rattle.task_loop.specs.Drive.{Drives};
+ghost use Rattle.task_loop.specs.Fit.{HasPlainExports};
+ghost use Rattle.task_loop.specs.Main.{state_at};
+ghost use Rattle.task_loop.specs.Turn.{setting_of};
+ghost use Rattle.task_core.specs.StateView.{nothing, with_core};
+ghost use Rattle.embed_example.specs.Host.{TakesOne};
+
+use crate::parts::{DOUBLE, NEXT};
+use crate::relay::Relay;
+use std::alloc::Global;
+use task_loop::{Component, NoMemory, Outcome, Trace, run_concurrent};
+use task_store::Store;
+
+// How many steps the run may take.
+const STEPS: u32 = 64;
+
+// A new store with two instances.
+fn store(alloc: Global) -> Result<Store<(), ()>, NoMemory>
+    ensures state { IfOk result (λ s. s.state ≡ with_core (fresh 2 100000 1000000) nothing) }
+    ensures free { IfOk result (λ s. s.running ≡ false) }
+{
+    let mut store = Store::new(alloc, (), true, 1);
+    store.add_instance()?;
+    store.add_instance()?;
+    Ok(store)
+}
+
+/// Drives a `Relay` with this word: what was added to an empty trace is a run of the component
+/// machine from a new store with two instances, and the outcome is what it has come to.
+pub fn relayed(
+    alloc: Global,
+    component: &Component,
+    word: u64,
+) -> Result<(Trace, Outcome), NoMemory>
+    requires exports { HasPlainExports component.now }
+    requires double { TakesOne component.now DOUBLE }
+    requires next { TakesOne component.now NEXT }
+    requires two { length component.now.instances ≡ 2 }
+    ensures { IfOk result (λ r. (t : State) × Drives (setting_of component.now [] true) (state_at (fresh 2 100000 1000000) Unscripted turn.Main) [] t r.0 STEPS r.1) }
+{
+    let mut store = store(alloc)?;
+    let Ok(mut run) = run_concurrent(&mut store, true) else {
+        unreachable!()
+    };
+    let mut main = Relay::new(word);
+    let mut trace = Trace::new(alloc);
+    let outcome = run.drive(component, &mut store, &mut main, STEPS, &mut trace)?;
+    run.end(&mut store);
+    Ok((trace, outcome))
+}

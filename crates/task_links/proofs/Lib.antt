@@ -1,0 +1,12 @@
+pub mod Spots
+pub mod Paths
+pub mod Splices
+pub mod Changes
+pub mod Removals
+pub mod Neighbours
+pub mod Sounds
+pub mod Calls
+pub mod Names
+pub mod Uses
+pub mod Seen
+pub mod ReadLemmas

@@ -1,0 +1,13 @@
+use Rattle.std.proofs.Common.{◌≡◌, ◌≤◌, ◌-◌, length}
+use Rattle.std.specs.Prelude.{replicate}
+use Rattle.task_machine.specs.declared.component.Slot.TheVariants as slot
+use Rattle.task_scenario.proofs.lower.empty_slots.Given as goal
+
+abbrev pub invariant-loop-slots : goal.invariant-loop-slots
+invariant-loop-slots l = record {
+  same : l.slots ≡ replicate (length l.slots) slot.Empty;
+  few : length l.slots ≤ 16;
+}
+
+abbrev pub decreases-loop-slots : goal.decreases-loop-slots
+decreases-loop-slots l = 16 - length l.slots

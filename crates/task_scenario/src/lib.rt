@@ -1,0 +1,10 @@
+//! Scenarios, and how they are read from a text.
+#![tactic(auto)]
+
+mod copy;
+mod lower;
+mod scenario;
+
+pub use lower::{component_of, read_scenario};
+pub use scenario::{InstanceNames, MainOp, RunError, Scenario};
+pub use task_machine::{IdleLine, Operand, Seq};

@@ -1,7 +1,0 @@
-use Rattle.std.proofs.Common.{◌∙◌, ap}
-use Rattle.task_wait.specs.Rings.{role_is_node}
-use Rattle.task_wait.proofs.Neighbours.{made_shown}
-use Rattle.task_wait.proofs.links.Links.is_made.Goals as goal
-
-pub returns : goal.returns
-returns g c = c.is_node.ensures ∙ (ap role_is_node c.role_of.ensures ∙ made_shown c.self.inside.next.items c.self.inside.roles.items c.args.self.now c.args.node.index c.self.view_is)

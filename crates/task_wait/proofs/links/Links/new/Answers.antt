@@ -1,7 +1,0 @@
-use Rattle.std.proofs.Common.{ap}
-use Rattle.task_wait.specs.Rings.{shown}
-use Rattle.task_wait.proofs.links.Links.new.Goals as goal
-
-pub returns : goal.returns
-unfolding shown
-returns g c = ap (λ roles. shown c.new.result.items roles) c.new-3.ensures.items
