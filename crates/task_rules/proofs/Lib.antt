@@ -8,6 +8,7 @@ pub mod ChainLemmas
 pub mod WalkSteps
 pub mod WalkTakes
 pub mod WalkOps
+pub mod WalkParts
 pub mod WalkTask
 pub mod WalkEnds
 pub mod WalkMoves

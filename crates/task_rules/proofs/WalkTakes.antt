@@ -26,7 +26,7 @@ use Rattle.task_machine.specs.declared.words.Status.{Status}
 use Rattle.task_rules.proofs.PlacingLemmas.{shifted_instance, shifted_task, shifts_shifted}
 use Rattle.task_rules.proofs.WalkEnds.{SameCall, still_told_to, unanswered}
 use Rattle.task_rules.proofs.WalkMoves.{Chosen, MayTake, ToldTo, handed_on_shifts, moved, published_call_shifts, shifted, stopped_shifts, taken_walks, told_to, told_walks, walk_if, word}
-use Rattle.task_rules.proofs.WalkOps.{gift_is, set_given_walks, sync_sets_flag_walks}
+use Rattle.task_rules.proofs.WalkParts.{gift_is, set_given_walks, sync_sets_flag_walks}
 use Rattle.task_rules.proofs.WalkTask.{Leads, may_leads, moved_to_walks, none_is_some, not_main, one_runner, or_never_leads, running_moved, seen, trap_if_leads}
 use Rattle.task_rules.specs.Allowed.{Holds, Leaves, MayDeliver, MayMove, Runs, WaitsAgain, WasReady, is_exit}
 use Rattle.task_rules.specs.Calls.{with_thread_handle}

@@ -1,0 +1,389 @@
+-- What the rows of the ops are made of, as chains of words: what is read, gifts, moves, and a new call.
+use Rattle.std.proofs.Common.{T, ap, inl, inr, refl, subst, sym, ◌∙◌, ◌⊎◌}
+use Rattle.std.specs.Option.{option_map_or}
+use Rattle.std.specs.Prelude.{Bool, List, None, Option, Some, [], false, if◌then◌else◌, is_none, option_and_then, option_map, true, unwrap_or, ℕ, ◌+◌, ◌==◌, ◌≡◌}
+use Rattle.task_machine.proofs.MapLemmas.{change-field, get-change_same, get-insert_same, get-remove_same}
+use Rattle.task_machine.specs.Core.{Core}
+use Rattle.task_machine.specs.Labels.{Choice, join_label, wait_label}
+use Rattle.task_machine.specs.Maps.{change, get}
+use Rattle.task_machine.specs.Moves.{Gift, MemberGift, NoGift, OwnGift, behind_one, checked, gift, gift_after_own, has_entry, less, less_switch, member_gift, own_gift, put_switch, stopped, unqueued, withdrawn}
+use Rattle.task_machine.specs.Read.{call_instance, foot_of, goal_of, has_ready_member, how_far_of, instance_of, is_direct, is_explicit, is_joined, is_ready_member, join_of, may_not_suspend, new_thread_handle, own_event_of, place_of, saved_callee_of, subtask_at, subtask_handle, task_of, thread_group}
+use Rattle.task_machine.specs.Statuses.{status_code}
+use Rattle.task_machine.specs.Write.{add_call, add_thread, free_handle, give_thread_handle, on_call, on_instance, on_thread, on_work, remove_thread, set_do_not_suspend, set_end, set_event, set_exited, set_high, set_how_far, set_join, set_low, set_place, set_saved_callee, set_saved_own, set_started, set_subtask_handle, set_switch, set_thread_handle, set_uninteresting, with_switch}
+use Rattle.task_machine.specs.declared.component.Callee.{Callee}
+use Rattle.task_machine.specs.declared.component.ExportKind.{ExportKind}
+use Rattle.task_machine.specs.declared.records.Call.{Call}
+use Rattle.task_machine.specs.declared.records.Caller.{Caller}
+use Rattle.task_machine.specs.declared.records.Entry.{Entry}
+use Rattle.task_machine.specs.declared.records.Goal.{Goal}
+use Rattle.task_machine.specs.declared.records.Join.{Join}
+use Rattle.task_machine.specs.declared.records.Made.{Made}
+use Rattle.task_machine.specs.declared.records.Place.{Place}
+use Rattle.task_machine.specs.declared.records.Subtask.{Subtask}
+use Rattle.task_machine.specs.declared.records.Thread.{Thread}
+use Rattle.task_machine.specs.declared.records.Work.{Work}
+use Rattle.task_machine.specs.declared.words.Given.{Given}
+use Rattle.task_machine.specs.declared.words.OwnEvent.{OwnEvent}
+use Rattle.task_machine.specs.declared.words.Status.{Status}
+use Rattle.task_rules.proofs.KeepWords.{same}
+use Rattle.task_rules.proofs.PlacingLemmas.{Shifted, placed, placing_shifted, shifted_after, shifted_explicit, shifted_made}
+use Rattle.task_rules.proofs.StandLemmas.{place_kept}
+use Rattle.task_rules.proofs.WalkMoves.{MayTake, checked_shifts, group_settled_walks, moved, shifted, stopped_shifts, taken_walks, word}
+use Rattle.task_rules.proofs.WalkTask.{advanced_walks, answered_walks, is_plain, running_moved}
+use Rattle.task_rules.specs.Allowed.{Blocks, ByHandle, HasSet, HasSubtask, IsNew, IsRunner, IsWithdrawn, Leaves, MayDeliver, MayJoin, MayMakeCall, MayRemoveWork, MayWithdraw, SaysEnd, Starts, Waits}
+use Rattle.task_rules.specs.Calls.{call_clears_flag, call_made, call_queues, call_resumes, call_stops, enter_runs, new_call, new_thread, next_thread, put_back, settle_group_of, sync_sets_flag, with_thread_handle, work_deleted, work_group}
+use Rattle.task_rules.specs.Cancels.{Async, Mode, Sync, behind_switch, cancel_goes_behind, cancel_label, cancel_stops, cancel_takes_end}
+use Rattle.task_rules.specs.Chains.{NoWord, Walk, is_running}
+use Rattle.task_rules.specs.Places.{says}
+use Rattle.task_rules.specs.Scenes.{Scene}
+use Rattle.task_rules.specs.Scripts.{registers_for}
+use Rattle.task_rules.specs.Sets.{chosen, given_code, given_handle, given_result, received, set_given, wait_stops}
+use Rattle.task_rules.specs.Words.{Enter, GoBehind, MakeCall, Move, NameThread, Put, RemoveWork, SetCallEvent, SetCallJoin, SetDoNotSuspend, SetEnd, SetExited, SetHowFar, SetRegister, SetSavedCallee, SetSavedOwn, SetStarted, SetUninteresting, SetWorkEvent, SetWorkJoin, Stop, Withdraw, after_word}
+use Rattle.task_machine.specs.declared.component.ExportKind.TheVariants as kind
+use Rattle.task_machine.specs.declared.records.CallEnd.TheVariants as call_end
+use Rattle.task_machine.specs.declared.records.Caller.TheVariants as caller
+use Rattle.task_machine.specs.declared.records.Goal.TheVariants as goal
+use Rattle.task_machine.specs.declared.records.HowFar.TheVariants as how_far
+use Rattle.task_machine.specs.declared.records.Join.TheVariants as join
+use Rattle.task_machine.specs.declared.records.Place.TheVariants as place
+use Rattle.task_machine.specs.declared.records.Script.TheVariants as script
+use Rattle.task_machine.specs.declared.records.Subtask.TheVariants as subtask
+use Rattle.task_machine.specs.declared.records.Turn.TheVariants as turn
+use Rattle.task_machine.specs.declared.records.Why.TheVariants as why
+use Rattle.task_machine.specs.declared.words.Mark.TheVariants as mark
+use Rattle.task_machine.specs.declared.words.OwnEvent.TheVariants as own
+use Rattle.task_machine.specs.declared.words.Status.TheVariants as status
+
+-- ---- What is read
+
+pub set_none_join : (sub : Subtask) (t : Core) → is_joined (join_of sub (set_join sub join.Nowhere t)) ≡ false
+unfolding set_join on_call on_work
+set_none_join (subtask.Guest k) t = ap (λ (o : Option Call). is_joined (option_map_or (λ c. c.join) o join.Nowhere)) (get-change_same t.calls k (λ c. record c { join = join.Nowhere })) ∙ at (get t.calls k)
+  where
+    at : (o : Option Call) → is_joined (option_map_or (λ c. c.join) (option_map (λ (c : Call). record c { join = join.Nowhere }) o) join.Nowhere) ≡ false
+    at None = refl
+    at (Some c) = refl
+set_none_join (subtask.Host i) t = ap (λ (o : Option Work). is_joined (option_map_or (λ w. w.join) o join.Nowhere)) (get-change_same t.works i (λ w. record w { join = join.Nowhere })) ∙ at (get t.works i)
+  where
+    at : (o : Option Work) → is_joined (option_map_or (λ w. w.join) (option_map (λ (w : Work). record w { join = join.Nowhere }) o) join.Nowhere) ≡ false
+    at None = refl
+    at (Some w) = refl
+
+pub work_unnamed : (i : ℕ) (t : Core) → subtask_handle (subtask.Host i) (set_subtask_handle (subtask.Host i) None t) ≡ None
+unfolding set_subtask_handle on_work
+work_unnamed i t = ap (λ (o : Option Work). option_and_then (λ w. w.handle) o) (get-change_same t.works i (λ w. record w { handle = None })) ∙ at (get t.works i)
+  where
+    at : (o : Option Work) → option_and_then (λ w. w.handle) (option_map (λ (w : Work). record w { handle = None }) o) ≡ None
+    at None = refl
+    at (Some w) = refl
+
+pub freed_named : (i h k : ℕ) (t : Core) → subtask_handle (subtask.Host k) (free_handle i h t) ≡ subtask_handle (subtask.Host k) t
+unfolding free_handle
+freed_named i h k t = refl
+
+pub join_plain : (n : ℕ) (w : Option ℕ) → is_plain (join_label n w) ≡ true
+join_plain n None = refl
+join_plain n (Some w) = refl
+
+pub wait_plain : (n : ℕ) (v : Given) (w : Option ℕ) → is_plain (wait_label n v w) ≡ true
+wait_plain n v None = refl
+wait_plain n v (Some w) = refl
+
+pub cancel_plain : (mode : Mode) (n v : ℕ) → is_plain (cancel_label mode n v) ≡ true
+cancel_plain Async n v = refl
+cancel_plain Sync n v = refl
+
+-- a chosen member is named by a handle
+chosen_named : (n : ℕ) (ch : Choice) (s : Core) (sub : Subtask) → chosen n ch s ≡ Some sub → (h : ℕ) × (subtask_at (instance_of n s) h s ≡ Some sub)
+chosen_named n ch s sub e = at ch.member e
+  where
+    at : (o : Option ℕ) → option_and_then (λ h. subtask_at (instance_of n s) h s) o ≡ Some sub → (h : ℕ) × (subtask_at (instance_of n s) h s ≡ Some sub)
+    at None f = absurd (subst T (ap (λ (o : Option Subtask). is_none o) f) tt)
+    at (Some h) f = (h, f)
+
+some_same : {X : Type 0} (x y : X) → Some x ≡ Some y → x ≡ y
+some_same x y e = ap (λ o. unwrap_or o x) e
+
+-- what a gift may be: a task takes Cancelled only by callback, and a member is the chosen one
+pub gift_is : (a : Scene) (n : ℕ) (by : Bool) (y : ℕ) (ch : Choice) (g : Gift) → IsRunner a n → (by ≡ true → MayDeliver a (task_of n a.base)) → gift by (task_of n a.base) y (chosen n ch a.base) a.base ≡ Some g → MayTake a (task_of n a.base) g
+unfolding gift
+gift_is a n by y ch g is delivers e = of_own (own_event_of (task_of n a.base) a.base) by refl e
+  where
+    k : ℕ
+    k = task_of n a.base
+
+    given : (g h : Gift) → Some g ≡ Some h → MayTake a k g → MayTake a k h
+    given g h same ok = subst (MayTake a k) (some_same g h same) ok
+
+    of_member : (o : Option Subtask) → chosen n ch a.base ≡ o → (b : Bool) → (if b then member_gift y o a.base else Some NoGift) ≡ Some g → MayTake a k g
+    of_member o at false f = given NoGift g f tt
+    of_member None at true f = absurd (subst T (ap (λ (r : Option Gift). is_none r) f) tt)
+    of_member (Some sub) at true f = by_test (is_ready_member y sub a.base) f
+      where
+        by_test : (b : Bool) → (if b then Some (MemberGift sub) else None) ≡ Some g → MayTake a k g
+        by_test true f = let c = chosen_named n ch a.base sub at in given (MemberGift sub) g f (n, (is, ByHandle c.0 c.1))
+        by_test false f = absurd (subst T (ap (λ (r : Option Gift). is_none r) f) tt)
+
+    not_cancelled : {A : Type 0} → own.None ≡ own.Cancelled → A
+    not_cancelled f = absurd (subst T (ap is_none_event f) tt)
+      where
+        is_none_event : OwnEvent → Bool
+        is_none_event own.None = true
+        is_none_event own.Cancelled = false
+
+    of_own : (o : Option OwnEvent) (b : Bool) → by ≡ b → gift_after_own (own_gift b o) y (chosen n ch a.base) a.base ≡ Some g → MayTake a k g
+    of_own None b at f = of_member (chosen n ch a.base) refl (has_ready_member y a.base) f
+    of_own (Some own.None) b at f = given (OwnGift own.None) g f ((n, (is, refl)), λ c. not_cancelled c)
+    of_own (Some own.Cancelled) true at f = given (OwnGift own.Cancelled) g f ((n, (is, refl)), λ c. delivers at)
+    of_own (Some own.Cancelled) false at f = of_member (chosen n ch a.base) refl (has_ready_member y a.base) f
+
+withdraws_by : (k : ℕ) (o : Option ℕ) (es fs : List Entry) (t : Core) (c : Bool) → remove_thread k (record t { queues = with_switch o (if c then set_high es t else set_low fs t).queues }) ≡ remove_thread k (set_switch o (if c then set_high es t else set_low fs t))
+unfolding set_switch set_high set_low
+withdraws_by k o es fs t true = refl
+withdraws_by k o es fs t false = refl
+
+withdraws : (k : ℕ) (t : Core) → after_word (Withdraw k) t ≡ remove_thread k (set_switch (less_switch k t.queues.switch) (unqueued k t))
+unfolding unqueued
+withdraws k t = withdraws_by k (less_switch k t.queues.switch) (less k t.queues.high) (less k t.queues.low) t (has_entry k t.queues.high)
+
+-- ---- The moves
+
+module _ {a : Scene} {b : Core} (n : ℕ) (is : IsRunner a n) where
+  pub set_given_walks : (r : ℕ) (v : Given) {t : Core} → Walk a b t → Walk a b (set_given n r v t)
+  unfolding set_given
+  set_given_walks r v c = word (SetRegister n (r + 2) (given_result v)) tt (word (SetRegister n (r + 1) (given_handle v)) tt (word (SetRegister n r (given_code v)) tt c))
+
+  pub received_walks : (r : ℕ) (g : Gift) (v : Given) {t : Core} → MayTake a (task_of n t) g → Walk a b t → Walk a b (received n r g v t)
+  unfolding received
+  received_walks r g v {t = t} ok c = advanced_walks n is (set_given_walks r v (taken_walks g (task_of n t) ok c))
+
+  pub stopped_walks : (t : Core) → Walk a b t → Walk a b (stopped (foot_of n t) t)
+  stopped_walks t c = shifted (stopped_shifts (foot_of n t) t) c
+
+  pub checked_walks : (i : ℕ) {t : Core} → Walk a b t → Walk a b (checked i t)
+  checked_walks i {t = t} c = shifted (checked_shifts i t) c
+
+  pub wait_stops_walks : (y : ℕ) {t : Core} → Leaves a n → HasSet a n y → Walk a b t → Walk a b (wait_stops n y t)
+  unfolding wait_stops
+  wait_stops_walks y {t = t} leave has c = word (SetHowFar n (how_far.Waits y)) (is, has) (moved (Move n (place.Waiting y false)) (Waits y leave has refl) (stopped_walks t c))
+
+  pub join_walks : (sub : Subtask) (j : Join) {t : Core} → MayJoin a sub j → Walk a b t → Walk a b (set_join sub j t)
+  join_walks (subtask.Guest k) j ok c = word (SetCallJoin k j) ok c
+  join_walks (subtask.Host i) j ok c = word (SetWorkJoin i j) ok c
+
+  event_taken_walks : (sub : Subtask) {t : Core} → HasSubtask a n sub → Walk a b t → Walk a b (set_event sub None t)
+  event_taken_walks (subtask.Guest k) has c = word (SetCallEvent k None) (n, (is, has)) c
+  event_taken_walks (subtask.Host i) has c = word (SetWorkEvent i None) (n, (is, has)) c
+
+  pub put_back_walks : (o : Option Bool) (j : ℕ) {t : Core} → Walk a b t → Walk a b (put_back o j t)
+  put_back_walks None j c = c
+  put_back_walks (Some f) j c = word (SetDoNotSuspend j f) tt c
+
+  pub call_resumes_walks : (k : ℕ) {t : Core} → HasSubtask a n (subtask.Guest k) → Walk a b t → Walk a b (call_resumes n k t)
+  unfolding call_resumes
+  call_resumes_walks k {t = t} has c = event_taken_walks (subtask.Guest k) has (put_back_walks (saved_callee_of n t) (call_instance k t) c)
+
+  pub call_stops_walks : (sub : Subtask) (t : Core) → Leaves a n → ((u : Core) → Shifted t u → HasSubtask a n sub ⊎ IsNew a sub u) → Walk a b t → Walk a b (call_stops n sub t)
+  unfolding call_stops
+  call_stops_walks sub t leave own c =
+      let u = stopped (foot_of n t) t in
+      let h : Shifted t u = placing_shifted (Stop (foot_of n t)) t in
+      word (SetHowFar n (how_far.Calls sub)) (is, own (set_place n (place.Blocked sub) u) (shifted_after h (placing_shifted (Move n (place.Blocked sub)) u)))
+      (moved (Move n (place.Blocked sub)) (Blocks sub leave (own u h) refl) (stopped_walks t c))
+
+  pub sync_sets_flag_walks : (m j : ℕ) (k : ExportKind) {t : Core} → Walk a b t → Walk a b (sync_sets_flag m j k t)
+  sync_sets_flag_walks m j kind.Sync {t = t} c = word (SetDoNotSuspend j true) tt (word (SetSavedOwn m (Some (may_not_suspend j t))) tt c)
+  sync_sets_flag_walks m j kind.Blocking c = c
+  sync_sets_flag_walks m j kind.Stackful c = c
+  sync_sets_flag_walks m j kind.Callback c = c
+
+  call_clears_flag_walks : (j : ℕ) (k : ExportKind) {t : Core} → Walk a b t → Walk a b (call_clears_flag n j k t)
+  call_clears_flag_walks j kind.Sync c = c
+  call_clears_flag_walks j kind.Blocking {t = t} c = word (SetDoNotSuspend j false) tt (word (SetSavedCallee n (Some (may_not_suspend j t))) tt c)
+  call_clears_flag_walks j kind.Stackful {t = t} c = word (SetDoNotSuspend j false) tt (word (SetSavedCallee n (Some (may_not_suspend j t))) tt c)
+  call_clears_flag_walks j kind.Callback {t = t} c = word (SetDoNotSuspend j false) tt (word (SetSavedCallee n (Some (may_not_suspend j t))) tt c)
+
+  settle_group_of_walks : (o : Option ℕ) {t : Core} → Walk a b t → Walk a b (settle_group_of o t)
+  settle_group_of_walks None c = c
+  settle_group_of_walks (Some g) c = group_settled_walks g c
+
+  pub work_deleted_walks : (i : ℕ) {t : Core} → MayRemoveWork a i t → Walk a b t → Walk a b (work_deleted i t)
+  unfolding work_deleted
+  work_deleted_walks i {t = t} ok c = settle_group_of_walks (work_group i t) (word (RemoveWork i) ok c)
+
+  pub cancel_takes_end_walks : (r : ℕ) (sub : Subtask) (e : Status) {t : Core} → HasSubtask a n sub → Walk a b t → Walk a b (cancel_takes_end n r sub e t)
+  unfolding cancel_takes_end
+  cancel_takes_end_walks r sub e has c = answered_walks n is r (status_code e) (event_taken_walks sub has c)
+
+  pub cancel_stops_walks : (sub : Subtask) {t : Core} → Leaves a n → HasSubtask a n sub → (is_joined (join_of sub a.base) ≡ false) ⊎ (how_far_of n a.base ≡ how_far.Cancels sub) → Walk a b t → Walk a b (cancel_stops n sub t)
+  unfolding cancel_stops
+  cancel_stops_walks sub {t = t} leave has free c =
+      let u = set_join sub (join.Watched n) (set_saved_callee n None t) in
+      word (SetHowFar n (how_far.AwaitsEnd sub)) (is, has) (moved (Move n (place.Blocked sub)) (Blocks sub leave (inl has) refl) (stopped_walks (checked (instance_of n t) u) (checked_walks (instance_of n t) (join_walks sub (join.Watched n) (is, (has, free)) (word (SetSavedCallee n None) tt c)))))
+
+  behind_switch_walks : (o : Option ℕ) {t : Core} → Leaves a n → Walk a b t → Walk a b (behind_switch n o t)
+  behind_switch_walks None leave c = c
+  behind_switch_walks (Some m) {t = t} leave c = moved (GoBehind (foot_of m t) n) leave c
+
+  pub cancel_goes_behind_walks : (k : ℕ) {t : Core} → Leaves a n → HasSubtask a n (subtask.Guest k) → is_joined (join_of (subtask.Guest k) a.base) ≡ false → Walk a b t → Walk a b (cancel_goes_behind n k t)
+  unfolding cancel_goes_behind
+  cancel_goes_behind_walks k {t = t} leave has free c =
+      let j = call_instance k t in
+      word (SetHowFar n (how_far.Cancels (subtask.Guest k))) (is, has) (behind_switch_walks t.queues.switch leave
+      (join_walks (subtask.Guest k) (join.Watched n) (is, (has, inl free)) (word (SetDoNotSuspend j false) tt (word (SetSavedCallee n (Some (may_not_suspend j t))) tt c))))
+
+  pub withdrawn_walks : (k : ℕ) {t : Core} → MayWithdraw a k t → SaysEnd a k status.StartCancelled → Walk a b t → Walk a b (withdrawn k t)
+  unfolding withdrawn remove_thread
+  withdrawn_walks k {t = t} ok says c =
+      subst (λ (v : Core). Walk a b (set_uninteresting k (set_exited k (set_end k call_end.StartCancelled v)))) (withdraws k t)
+      (word (SetUninteresting k) tt (word (SetExited k) tt (word (SetEnd k call_end.StartCancelled) (IsWithdrawn ok (ap (λ (o : Option Thread). is_none o) (get-remove_same t.threads k)) refl, says) (word (Withdraw k) ok c))))
+
+-- ---- A new call
+
+-- the record of a thread as it was made, but for its place and whose it is
+abbrev pub birth : Thread → Thread
+birth r = record {
+  call = r.call;
+  explicit = r.explicit;
+  script = script.Start;
+  position = 0;
+  how_far = how_far.Fresh;
+  registers = [];
+  handle = None;
+  saved_own = None;
+  saved_callee = None;
+  place = r.place;
+}
+
+-- The call was just made with this goal, with its thread.
+pub record Born (m : ℕ) (g : Goal) (t : Core) : Type 0 where
+  pub thread : option_map birth (get t.threads m) ≡ Some (birth (new_thread m false script.Start [] None))
+  pub goal : goal_of m t ≡ g
+  pub made : t.made.threads ≡ m
+
+born_read : {A : Type 0} (f : Thread → A) (none : A) → ((r : Thread) → f (birth r) ≡ f r) → (o : Option Thread) (r : Thread) → option_map birth o ≡ Some (birth r) → option_map_or f o none ≡ f r
+born_read f none same o r e = sym (at o) ∙ (ap (λ q. option_map_or f q none) e ∙ same r)
+  where
+    at : (q : Option Thread) → option_map_or f (option_map birth q) none ≡ option_map_or f q none
+    at None = refl
+    at (Some u) = same u
+
+born_place_at : (o : Option Thread) (r : Thread) → option_map birth o ≡ Some (birth r) → option_map (λ (u : Thread). u.place) o ≡ Some r.place
+born_place_at None r e = absurd (subst T (ap (λ (o : Option Thread). is_none o) e) tt)
+born_place_at (Some u) r e = ap (λ (o : Option Thread). option_map (λ (v : Thread). v.place) o) e
+
+module _ {m : ℕ} {g : Goal} {t : Core} (h : Born m g t) where
+  pub born_place : place_of m t ≡ Some place.New
+  born_place = born_place_at (get t.threads m) (new_thread m false script.Start [] None) h.thread
+
+  pub born_explicit : is_explicit m t ≡ false
+  born_explicit = born_read (λ r. r.explicit) false (λ r. refl) (get t.threads m) (new_thread m false script.Start [] None) h.thread
+
+  pub born_task : task_of m t ≡ m
+  born_task = born_read (λ r. r.call) 0 (λ r. refl) (get t.threads m) (new_thread m false script.Start [] None) h.thread
+
+  pub born_goal : goal_of (task_of m t) t ≡ g
+  born_goal = ap (λ (k : ℕ). goal_of k t) born_task ∙ h.goal
+
+pub call_born : (f : Caller) (e : Callee) (x : ExportKind) (g : Goal) (group : ℕ) (words : List ℕ) (s : Core) → Born (next_thread s) g (call_made f e x g group words s)
+unfolding call_made add_thread add_call
+call_born f e x g group words s =
+    let m = next_thread s in
+    record {
+      thread = ap (option_map birth) (get-insert_same s.threads m (new_thread m false script.Start (registers_for words) None));
+      goal = ap (λ (o : Option Call). option_map_or (λ c. c.goal) o goal.Nowhere) (get-insert_same s.calls m (new_call f e x g group));
+      made = refl;
+    }
+
+thread_born : (n m : ℕ) (g : Goal) (f : Thread → Thread) (t : Core) → ((r : Thread) → birth (f r) ≡ birth r) → Born m g t → Born m g (on_thread n f t)
+unfolding on_thread
+thread_born n m g f t keeps h = record { thread = change-field birth n f keeps t.threads m ∙ h.thread; goal = h.goal; made = h.made }
+
+handle_born : (i m : ℕ) (g : Goal) (t : Core) → Born m g t → Born m g (with_thread_handle i m t)
+unfolding with_thread_handle set_thread_handle give_thread_handle
+handle_born i m g t h = thread_born m m g (λ r. record r { handle = Some (new_thread_handle i t) }) (give_thread_handle i m t) (λ r. refl) (record { thread = h.thread; goal = h.goal; made = h.made })
+
+started_born : (k m : ℕ) (g : Goal) (t : Core) → Born m g t → Born m g (set_started k t)
+unfolding set_started on_call
+started_born k m g t h = record { thread = h.thread; goal = goal_same k m t ∙ h.goal; made = h.made }
+  where
+    goal_same : (k m : ℕ) (t : Core) → option_map_or (λ (c : Call). c.goal) (get (change k (λ (c : Call). record c { started = true }) t.calls) m) goal.Nowhere ≡ goal_of m t
+    goal_same k m t = map_or (get (change k (λ (c : Call). record c { started = true }) t.calls) m) (get t.calls m) (change-field (λ (c : Call). c.goal) k (λ (c : Call). record c { started = true }) (λ c. refl) t.calls m)
+      where
+        map_or : (o p : Option Call) → option_map (λ (c : Call). c.goal) o ≡ option_map (λ (c : Call). c.goal) p → option_map_or (λ (c : Call). c.goal) o goal.Nowhere ≡ option_map_or (λ (c : Call). c.goal) p goal.Nowhere
+        map_or o p e = sym (at o) ∙ (ap (λ (q : Option Goal). unwrap_or q goal.Nowhere) e ∙ at p)
+          where
+            at : (q : Option Call) → unwrap_or (option_map (λ (c : Call). c.goal) q) goal.Nowhere ≡ option_map_or (λ (c : Call). c.goal) q goal.Nowhere
+            at None = refl
+            at (Some c) = refl
+
+flag_born : (m j : ℕ) (k : ExportKind) (g : Goal) (t : Core) → Born m g t → Born m g (sync_sets_flag m j k t)
+unfolding set_do_not_suspend on_instance set_saved_own
+flag_born m j kind.Sync g t h = let u = thread_born m m g (λ r. record r { saved_own = Some (may_not_suspend j t) }) t (λ r. refl) h in record { thread = u.thread; goal = u.goal; made = u.made }
+flag_born m j kind.Blocking g t h = h
+flag_born m j kind.Stackful g t h = h
+flag_born m j kind.Callback g t h = h
+
+-- where the thread is put or goes no more is said than whose it is
+shifted_new : (a : Scene) (m : ℕ) (s t : Core) → m ≡ next_thread a.base → Shifted s t → (s.made.threads ≡ m) × (is_explicit m s ≡ false) → IsNew a (subtask.Guest m) t
+shifted_new a m s t is h e = (is, (ap (λ (d : Made). d.threads) (shifted_made h) ∙ e.0, shifted_explicit h m ∙ e.1))
+
+cleared_explicit : (n j : ℕ) (k : ExportKind) (m : ℕ) (t : Core) → (t.made.threads ≡ m) × (is_explicit m t ≡ false) → ((call_clears_flag n j k t).made.threads ≡ m) × (is_explicit m (call_clears_flag n j k t) ≡ false)
+unfolding set_do_not_suspend on_instance set_saved_callee on_thread
+cleared_explicit n j k m t e = by_kind k
+  where
+    explicit_same : (f : Option Bool) → is_explicit m (set_saved_callee n f t) ≡ is_explicit m t
+    explicit_same f = read_unplaced_by (get (set_saved_callee n f t).threads m) (get t.threads m) (change-field (λ (r : Thread). r.explicit) n (λ r. record r { saved_callee = f }) (λ r. refl) t.threads m)
+      where
+        read_unplaced_by : (o p : Option Thread) → option_map (λ (r : Thread). r.explicit) o ≡ option_map (λ (r : Thread). r.explicit) p → option_map_or (λ (r : Thread). r.explicit) o false ≡ option_map_or (λ (r : Thread). r.explicit) p false
+        read_unplaced_by o p f = sym (at o) ∙ (ap (λ (q : Option Bool). unwrap_or q false) f ∙ at p)
+          where
+            at : (q : Option Thread) → unwrap_or (option_map (λ (r : Thread). r.explicit) q) false ≡ option_map_or (λ (r : Thread). r.explicit) q false
+            at None = refl
+            at (Some r) = refl
+
+    by_kind : (k : ExportKind) → ((call_clears_flag n j k t).made.threads ≡ m) × (is_explicit m (call_clears_flag n j k t) ≡ false)
+    by_kind kind.Sync = e
+    by_kind kind.Blocking = (e.0, explicit_same (Some (may_not_suspend j t)) ∙ e.1)
+    by_kind kind.Stackful = (e.0, explicit_same (Some (may_not_suspend j t)) ∙ e.1)
+    by_kind kind.Callback = (e.0, explicit_same (Some (may_not_suspend j t)) ∙ e.1)
+
+module _ {a : Scene} (n : ℕ) (is : IsRunner a n) where
+  pub call_queues_walks : (e : Callee) (k : ExportKind) (g : Goal) (words : List ℕ) → Leaves a n → MayMakeCall a (caller.Thread n) e k g (thread_group n a.base) a.base → is_direct g ≡ false → Walk a a.base (call_queues n e k g words a.base)
+  unfolding call_queues
+  call_queues_walks e k g words leave ok plain =
+      let s = a.base in
+      let m = next_thread s in
+      let t = call_made (caller.Thread n) e k g (thread_group n s) words s in
+      let h : Born m g t = call_born (caller.Thread n) e k g (thread_group n s) words s in
+      let p = Put mark.Switch m why.Start in
+      let u = put_switch m why.Start t in
+      let d : Shifted t u = placing_shifted p t in
+      let v = call_clears_flag n e.instance k u in
+      let new : (v.made.threads ≡ m) × (is_explicit m v ≡ false) = cleared_explicit n e.instance k m u (ap (λ (r : Made). r.threads) (shifted_made d) ∙ h.made, shifted_explicit d m ∙ born_explicit h) in
+      word (SetHowFar n (how_far.Calls (subtask.Guest m))) (is, inr (shifted_new a m v (behind_one m n v) refl (placing_shifted (GoBehind m n) v) new))
+      (moved (GoBehind m n) leave (call_clears_flag_walks n is e.instance k
+      (placed p (inl (Starts (born_place h) (born_explicit h) (ap (λ (y : Goal). is_direct y) (born_goal h) ∙ plain) refl)) (word (MakeCall (caller.Thread n) e k g (thread_group n s) words) ok NoWord))))
+
+  pub enter_runs_walks : (e : Callee) (k : ExportKind) (words : List ℕ) → a.next ≡ turn.Run (next_thread a.base) → MayMakeCall a (caller.Thread n) e k goal.Direct (thread_group n a.base) a.base → Walk a a.base (enter_runs n e k words a.base)
+  unfolding enter_runs
+  enter_runs_walks e k words to ok =
+      let s = a.base in
+      let m = next_thread s in
+      let t = call_made (caller.Thread n) e k goal.Direct (thread_group n s) words s in
+      let t1 = with_thread_handle e.instance m t in
+      let h1 : Born m goal.Direct t1 = handle_born e.instance m goal.Direct t (call_born (caller.Thread n) e k goal.Direct (thread_group n s) words s) in
+      let h2 : Born m goal.Direct (set_started m t1) = started_born m m goal.Direct t1 h1 in
+      let u = sync_sets_flag m e.instance k (set_started m t1) in
+      let h : Born m goal.Direct u = flag_born m e.instance k goal.Direct (set_started m t1) h2 in
+      word (SetHowFar n (how_far.Calls (subtask.Guest m))) (is, inr (shifted_new a m u _ refl (placing_shifted (Enter n m) u) (h.made, born_explicit h)))
+      (moved (Enter n m) (is, (to, (refl, (born_place h, ap (λ (y : Goal). is_direct y) (born_goal h)))))
+      (sync_sets_flag_walks n is m e.instance k (word (SetStarted m) (inr (refl, (h1.made, born_explicit h1))) (word (NameThread e.instance m) tt (word (MakeCall (caller.Thread n) e k goal.Direct (thread_group n s) words) ok NoWord)))))
+
+pub enter_gives : (n : ℕ) (e : Callee) (k : ExportKind) (words : List ℕ) (s : Core) → (next_thread s == n) ≡ false → option_map_or is_running (place_of (next_thread s) (enter_runs n e k words s)) true ≡ true
+unfolding enter_runs set_how_far on_thread
+enter_gives n e k words s other =
+    let m = next_thread s in
+    let t = set_place m place.Running (sync_sets_flag m e.instance k (set_started m (with_thread_handle e.instance m (call_made (caller.Thread n) e k goal.Direct (thread_group n s) words s)))) in
+    let u = set_place n (place.Under m) t in
+    ap (λ (o : Option Place). option_map_or is_running o true) (change-field (λ r. r.place) n (λ r. record r { how_far = how_far.Calls (subtask.Guest m) }) (λ r. refl) u.threads m ∙ place_kept m n (place.Under m) t other) ∙ running_moved m _
