@@ -1,6 +1,11 @@
 -- The steps of a main that is no script.
 use Rattle.std.proofs.Common.{ap, arith, refl, subst, sym, ◌∙◌, ◌<◌, ◌≤◌}
-use Rattle.std.specs.Prelude.{Err, List, None, Ok, Option, Some, [], ℕ, ◌≡◌}
+use Rattle.std.specs.Prelude.{Err, IfSome, IsSome, List, None, Ok, Option, Some, [], false, length, true, ℕ, ◌==◌, ◌≡◌}
+use Rattle.std.specs.Option.{option_map_or}
+use Rattle.task_machine.specs.declared.component.ExportDef.{ExportDef}
+use Rattle.embed_example.specs.Host.{TakesOne}
+use Rattle.task_rules.specs.Scripts.{export_at}
+use Rattle.task_loop.specs.declared.call.Func.{Func}
 use Rattle.task_machine.specs.declared.component.Callee.{Callee}
 use Rattle.task_machine.specs.declared.component.Component.{Component}
 use Rattle.task_machine.specs.declared.label.Label.{Label}
@@ -15,18 +20,26 @@ use Rattle.task_machine.specs.Write.{take_result}
 use Rattle.task_core.specs.declared.error.TaskError.TheVariants as task_error
 use Rattle.task_core.proofs.Laws.{size-fresh}
 use Rattle.task_rules.specs.MainOps as row
-use Rattle.task_rules.specs.MainOps.{finish_result, start_act, start_refusal}
+use Rattle.task_rules.specs.MainOps.{finish_result, start_act, start_refusal, takes_words}
 use Rattle.task_rules.specs.Stalled.{Setting}
 use Rattle.task_rules.specs.Step.{OpenProgresses}
 use Rattle.task_rules.specs.Turns.{at_turn}
 use Rattle.task_loop.specs.declared.call.FuncCallConcurrent.{FuncCallConcurrent}
 use Rattle.futures.specs.declared.task.Poll.TheVariants.{Pending, Ready}
-use Rattle.task_loop.specs.Calls.{Finishes, Starts}
+use Rattle.task_loop.specs.Calls.{Finishes, Starts, callee_of}
 use Rattle.task_loop.specs.Drive.{Drives}
 use Rattle.task_loop.specs.Main.{Answers, Did, Pends, state_at}
 use Rattle.task_state.specs.StepView.{StepView}
 
 -- ---- A start
+
+takes_in : (o : Option ExportDef) → IsSome o → IfSome o (λ d. 1 ≡ d.params) → option_map_or (λ d. d.params == 1) o false ≡ true
+takes_in None some h = absurd (cc)
+takes_in (Some d) some h = ap (λ n. n == 1) (sym h)
+
+-- an export that takes one word may be started with one
+pub takes_one : (c : Component) (f : Func) → TakesOne c f → takes_words c (callee_of f) 1 ≡ true
+takes_one c f h = takes_in (export_at c (callee_of f)) h.0 h.1
 
 module _ (c : Component) (e : Callee) (words : List ℕ) (s t : StepView) (k : ℕ) where
   started_in : (o : Option Trap) (call : FuncCallConcurrent) → Starts c e words s o (Ok call) t
@@ -44,11 +57,11 @@ module _ (c : Component) (e : Callee) (words : List ℕ) (s t : StepView) (k : �
       let same : why ≡ other = cc in
       (ap (λ w. label.Main (main_label.StartRefused w k)) same, ap (λ (u : StepView). state_at u.core Unscripted turn.Main) h.1)
 
-  pub did_start : (call : FuncCallConcurrent) → Starts c e words s (start_refusal s.core) (Ok call) t → Did c [] Unscripted s.core (label.Main (main_label.Start k call.thread)) Unscripted t.core
-  did_start call h = record { op = tt; step = (k, (row.Start e words, started_in (start_refusal s.core) call h)) }
+  pub did_start : takes_words c e (length words) ≡ true → (call : FuncCallConcurrent) → Starts c e words s (start_refusal s.core) (Ok call) t → Did c [] Unscripted s.core (label.Main (main_label.Start k call.thread)) Unscripted t.core
+  did_start takes call h = record { op = tt; step = (k, (row.Start e words, (takes, started_in (start_refusal s.core) call h))) }
 
-  pub did_refuse : (why : Trap) → Starts c e words s (start_refusal s.core) (Err (task_error.Trap why)) t → Did c [] Unscripted s.core (label.Main (main_label.StartRefused why k)) Unscripted t.core
-  did_refuse why h = record { op = tt; step = (k, (row.Start e words, refused_in (start_refusal s.core) why h)) }
+  pub did_refuse : takes_words c e (length words) ≡ true → (why : Trap) → Starts c e words s (start_refusal s.core) (Err (task_error.Trap why)) t → Did c [] Unscripted s.core (label.Main (main_label.StartRefused why k)) Unscripted t.core
+  did_refuse takes why h = record { op = tt; step = (k, (row.Start e words, (takes, refused_in (start_refusal s.core) why h))) }
 
 -- ---- The other ops
 
@@ -61,7 +74,7 @@ module _ (c : Component) (s t : StepView) where
       k,
       (
         row.Finish (Began n),
-        subst (λ o. OpenProgresses (state_at s.core Unscripted turn.Main) (finish_result k n s.core o) (label.Main (main_label.Finish k v)) (state_at (take_result n s.core) Unscripted turn.Main)) (sym there) (refl, refl),
+        (refl, subst (λ o. OpenProgresses (state_at s.core Unscripted turn.Main) (finish_result k n s.core o) (label.Main (main_label.Finish k v)) (state_at (take_result n s.core) Unscripted turn.Main)) (sym there) (refl, refl)),
       ),
     );
   }
@@ -80,7 +93,7 @@ module _ (c : Component) (s t : StepView) where
 
 pub answers_now : (c : Component) (s : Core) (v : ℕ) → Answers c [] Unscripted s v Unscripted s
 unfolding at_turn
-answers_now c s v = record { part = refl; core = refl; step = (0, (row.Answer v, (refl, refl))) }
+answers_now c s v = record { part = refl; core = refl; step = (0, (row.Answer v, (refl, (refl, refl)))) }
 
 -- ---- A new store
 

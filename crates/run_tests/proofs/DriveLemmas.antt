@@ -51,7 +51,7 @@ given_one s is = ap given is
 -- a main that is no script may answer
 pub answers_now : (c : Component) (s : Core) (v : ℕ) → Answers c [] Unscripted s v Unscripted s
 unfolding at_turn
-answers_now c s v = record { part = refl; core = refl; step = (0, (row.Answer v, (refl, refl))) }
+answers_now c s v = record { part = refl; core = refl; step = (0, (row.Answer v, (refl, (refl, refl)))) }
 
 pub small : (s : Core) → s ≡ fresh 0 100000 1000000 → size s.instances < 4294967295
 unfolding fresh size empty
