@@ -25,7 +25,6 @@ use Rattle.task_machine.specs.declared.records.Work.{Work}
 use Rattle.task_machine.specs.declared.words.Given.{Given}
 use Rattle.task_machine.specs.declared.words.OwnEvent.{OwnEvent}
 use Rattle.task_machine.specs.declared.words.Status.{Status}
-use Rattle.task_rules.proofs.KeepWords.{same}
 use Rattle.task_rules.proofs.PlacingLemmas.{Shifted, placed, placing_shifted, shifted_after, shifted_explicit, shifted_made}
 use Rattle.task_rules.proofs.StandLemmas.{place_kept}
 use Rattle.task_rules.proofs.WalkMoves.{MayTake, checked_shifts, group_settled_walks, moved, shifted, stopped_shifts, taken_walks, word}
