@@ -1,6 +1,6 @@
 -- What was before the words: the law of steady records as it was.
-use Rattle.std.proofs.Common.{T, ap, arith, cond, eqb, eqb→eq, le_refl, le_trans, refl, subst, sym, ◌∙◌}
-use Rattle.std.specs.Prelude.{Bool, None, Option, Some, false, position, slice_set, true, ℕ, ◌+◌, ◌==◌, ◌≡◌, ◌≤◌}
+use Rattle.std.proofs.Common.{T, ap, arith, cond, eqb→eq, le_refl, le_trans, refl, subst, sym, ◌∙◌}
+use Rattle.std.specs.Prelude.{Bool, None, Option, Some, false, slice_set, true, ℕ, ◌+◌, ◌==◌, ◌≡◌, ◌≤◌}
 use Rattle.task_machine.proofs.MapLemmas.{get-insert_other}
 use Rattle.task_machine.specs.Core.{Core}
 use Rattle.task_machine.specs.Maps.{Records, change, changed, get, get-insert, get-remove, insert, remove}
@@ -11,10 +11,7 @@ use Rattle.task_machine.specs.declared.records.Subtask.{Subtask}
 use Rattle.task_machine.specs.declared.records.Thread.{Thread}
 use Rattle.task_machine.specs.declared.records.Work.{Work}
 use Rattle.task_machine.specs.declared.words.Status.{Status}
-use Rattle.task_rules.proofs.ChainLemmas.{join}
-use Rattle.task_rules.proofs.KeepWords.{after, same}
 use Rattle.task_rules.specs.Calls.{call_made, work_queued}
-use Rattle.task_rules.specs.Ends.{cancelled}
 use Rattle.task_rules.specs.Keeps.{Elementary}
 use Rattle.task_rules.specs.Laws.{LaterBy, LaterCall, LaterWork, SameThread, Steady}
 use Rattle.task_machine.specs.declared.records.Subtask.TheVariants as subtask

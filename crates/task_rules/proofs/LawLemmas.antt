@@ -1,7 +1,7 @@
 -- The laws of steps and runs.
-use Rattle.std.proofs.Common.{T, ap, arith, cond, eqb, eqb→eq, le_refl, le_trans, refl, subst, sym, ◌∙◌}
+use Rattle.std.proofs.Common.{T, ap, arith, cond, eqb→eq, le_refl, le_trans, refl, subst, sym, ◌∙◌}
 use Rattle.std.specs.Option.{option_map_or}
-use Rattle.std.specs.Prelude.{Bool, IsTrue, None, Option, Some, [], false, is_some, option_map, position, slice_set, true, ℕ, ◌+◌, ◌==◌, ◌∷◌, ◌≡◌, ◌≤◌}
+use Rattle.std.specs.Prelude.{Bool, IsTrue, None, Option, Some, [], false, is_some, option_map, slice_set, true, ℕ, ◌+◌, ◌==◌, ◌∷◌, ◌≡◌, ◌≤◌}
 use Rattle.task_machine.proofs.MapLemmas.{get-insert_other}
 use Rattle.task_machine.specs.Core.{Core, State}
 use Rattle.task_machine.specs.Maps.{Records, change, changed, get, get-insert, get-remove, insert, remove}
@@ -16,16 +16,14 @@ use Rattle.task_machine.specs.declared.records.Stage.{Stage}
 use Rattle.task_machine.specs.declared.records.Thread.{Thread}
 use Rattle.task_machine.specs.declared.records.Turn.{Turn}
 use Rattle.task_machine.specs.declared.records.Work.{Work}
-use Rattle.task_rules.proofs.ChainLemmas.{along, join}
+use Rattle.task_rules.proofs.ChainLemmas.{along}
 use Rattle.task_rules.proofs.PlacingLemmas.{Shifted, placing_shifted, popped_shifted, unplaced}
 use Rattle.task_rules.proofs.WalkSteps.{step_walks}
 use Rattle.task_rules.specs.Calls.{call_made, new_call, new_thread, new_work, next_thread, with_handle, with_thread_handle, work_queued}
 use Rattle.task_rules.specs.Chains.{Chain}
-use Rattle.task_rules.specs.Ends.{cancelled}
 use Rattle.task_rules.specs.Keeps.{EachStep}
 use Rattle.task_rules.specs.Laws.{KeptByRuns, LaterBy, LaterCall, LaterWork, NeverFewer, OutcomeEnds, OutcomeIsLast, OverIsLast, RunGoesOn, RunsJoin, SameLimits, SameThread, Steady}
 use Rattle.task_rules.specs.Outcome.{outcome_of_label}
-use Rattle.task_rules.specs.Progress.{may}
 use Rattle.task_rules.specs.Run.{Run}
 use Rattle.task_rules.specs.Scripts.{registers_for}
 use Rattle.task_rules.specs.Stalled.{Setting}

@@ -196,7 +196,7 @@ module _ {a : Scene} {b : Core} (n : ℕ) (is : IsRunner a n) where
   unfolding wait_stops
   wait_stops_walks y {t = t} leave has c = word (SetHowFar n (how_far.Waits y)) (is, has) (moved (Move n (place.Waiting y false)) (Waits y leave has refl) (stopped_walks t c))
 
-  join_walks : (sub : Subtask) (j : Join) {t : Core} → MayJoin a sub j → Walk a b t → Walk a b (set_join sub j t)
+  join_walks : (sub : Subtask) (j : Join) {t : Core} → MayJoin a sub j t → Walk a b t → Walk a b (set_join sub j t)
   join_walks (subtask.Guest k) j ok c = word (SetCallJoin k j) ok c
   join_walks (subtask.Host i) j ok c = word (SetWorkJoin i j) ok c
 
@@ -562,7 +562,7 @@ module _ (x : Setting) (main : Main) (s : Core) (n : ℕ) (l : Label) (next : Tu
   join_threads (subtask.Guest k) j = refl
   join_threads (subtask.Host i) j = refl
 
-  join_done_leads : (sub : Subtask) (w y : Option ℕ) → MayJoin a sub (joins y) → Leads a s (join_done n sub w s y)
+  join_done_leads : (sub : Subtask) (w y : Option ℕ) → MayJoin a sub (joins y) s → Leads a s (join_done n sub w s y)
   unfolding joined
   join_done_leads sub w y ok =
       trap_if_leads a s (is_watched (join_of sub s)) trap.WaitableSyncAndAsync _ (λ e.
@@ -750,7 +750,7 @@ module _ (x : Setting) (main : Main) (s : Core) (n : ℕ) (l : Label) (next : Tu
   -- ---- Dropping
 
   dropped_walks : (h : ℕ) (sub : Subtask) → subtask_at (instance_of n s) h s ≡ Some sub → subtask_ended sub s ≡ true → Walk a s (dropped n h sub s)
-  unfolding dropped
+  unfolding dropped set_join on_call on_work
   dropped_walks h (subtask.Guest k) named ended =
       let sub = subtask.Guest k in
       let t = set_join sub join.Nowhere s in

@@ -1,5 +1,5 @@
 -- Each step as a chain of words: host works, main, the loop and all turns.
-use Rattle.std.proofs.Common.{T, ap, ap₂, cond, inl, inr, length, refl, subst, suc, sym, take, ◌∙◌, ◌⊎◌}
+use Rattle.std.proofs.Common.{T, ap, ap₂, cond, inl, inr, length, refl, subst, suc, sym, ◌∙◌, ◌⊎◌}
 use Rattle.std.specs.Option.{option_map_or}
 use Rattle.std.specs.Prelude.{Bool, List, None, Option, Some, [], false, not, option_map, slice_set, true, unwrap_or, zero, ℕ, ◌+◌, ◌==◌, ◌∷◌, ◌≡◌}
 use Rattle.task_machine.proofs.CommuteLemmas.{change-change_same}
@@ -28,7 +28,6 @@ use Rattle.task_machine.specs.declared.scenario.MainOpDef.{MainOpDef}
 use Rattle.task_machine.specs.declared.trap.Trap.{Trap}
 use Rattle.task_machine.specs.declared.words.Mark.{Mark}
 use Rattle.task_machine.specs.declared.words.Status.{Status}
-use Rattle.task_rules.proofs.ChainLemmas.{join}
 use Rattle.task_rules.proofs.PlacingLemmas.{placed, popped_shifted}
 use Rattle.task_rules.proofs.WalkMoves.{blocked_at, chosen_in_of, published_work, shifted, unblocked_shifts, word}
 use Rattle.task_rules.proofs.WalkOps.{Born, born_explicit, born_goal, born_place, call_born, set_row_leads, subtask_row_leads, thread_row_leads}

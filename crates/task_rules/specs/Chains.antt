@@ -13,7 +13,6 @@ use Rattle.task_rules.specs.Allowed.{Allowed, IsRunner, MayShift, is_exit}
 use Rattle.task_rules.specs.Laws.{is_free}
 use Rattle.task_rules.specs.Once.{begun_holder}
 use Rattle.task_rules.specs.Outcome.{outcome_of_label}
-use Rattle.task_rules.specs.Progress.{may}
 use Rattle.task_rules.specs.Scenes.{Scene, scene_of}
 use Rattle.task_rules.specs.Stalled.{Setting}
 use Rattle.task_rules.specs.Step.{Step}
