@@ -30,6 +30,7 @@ use Rattle.task_machine.specs.declared.records.WorkCaller.{WorkCaller}
 use Rattle.task_machine.specs.declared.words.Mark.{Mark}
 use Rattle.task_machine.specs.declared.words.Status.{Status}
 use Rattle.task_rules.proofs.CancelLemmas.{CaseSays, case_says}
+use Rattle.task_rules.proofs.ChainLemmas.{join}
 use Rattle.task_rules.proofs.PlacingLemmas.{Shifted, placed, shifted_made, shifted_task, shifts_shifted}
 use Rattle.task_rules.proofs.StandLemmas.{by_number}
 use Rattle.task_rules.proofs.WalkMoves.{MayTake, call_settled_walks, checked_shifts, chosen_of, handed_on_shifts, moved, promoted_unless_shifts, shifted, wake_shifts, word}
@@ -219,7 +220,7 @@ module _ (x : Setting) (main : Main) (s : Core) (n : ℕ) (l : Label) (next : Tu
   join_threads (subtask.Guest k) j = refl
   join_threads (subtask.Host i) j = refl
 
-  join_done_leads : (sub : Subtask) (w y : Option ℕ) → MayJoin a sub (joins y) → Leads a s (join_done n sub w s y)
+  join_done_leads : (sub : Subtask) (w y : Option ℕ) → MayJoin a sub (joins y) s → Leads a s (join_done n sub w s y)
   unfolding joined
   join_done_leads sub w y ok =
       trap_if_leads a s (is_watched (join_of sub s)) trap.WaitableSyncAndAsync _ (λ e.
@@ -407,7 +408,7 @@ module _ (x : Setting) (main : Main) (s : Core) (n : ℕ) (l : Label) (next : Tu
   -- ---- Dropping
 
   dropped_walks : (h : ℕ) (sub : Subtask) → subtask_at (instance_of n s) h s ≡ Some sub → subtask_ended sub s ≡ true → Walk a s (dropped n h sub s)
-  unfolding dropped
+  unfolding dropped set_join on_call on_work
   dropped_walks h (subtask.Guest k) named ended =
       let sub = subtask.Guest k in
       let t = set_join sub join.Nowhere s in
