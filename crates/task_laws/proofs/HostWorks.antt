@@ -62,9 +62,6 @@ plus_none : (b : Bool) (n : ℕ) → b ≡ false → one_if b + n ≡ n
 plus_none true n h = absurd (true_is_not_false h)
 plus_none false n h = omega arith
 
-pub pushes_first : (i : ℕ) (es : List Entry) (e : Entry) → is_push_of i e ≡ false → pushes i (e ∷ es) ≡ pushes i es
-pushes_first i es e h = plus_none (is_push_of i e) (pushes i es) h
-
 pushes_append : (i : ℕ) (es : List Entry) (e : Entry) → pushes i (es ++ e ∷ []) ≡ pushes i es + one_if (is_push_of i e)
 pushes_append i [] e = omega arith
 pushes_append i (f ∷ fs) e = let h = pushes_append i fs e in omega (h, arith)
