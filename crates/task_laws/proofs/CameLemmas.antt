@@ -32,9 +32,6 @@ pub data Moves (may : Why → Type 0) (o p : Option Place) : Type 0 where
   Keeps : (m n : Mark) (w : Why) → o ≡ Some (place.Ready m w) → p ≡ Some (place.Ready n w) → Moves may o p
   Follows : (f : ℕ) → p ≡ Some (place.Behind f) → is_some o ≡ true → Moves may o p
 
-why_in : Option Place → Why
-why_in o = option_map_or ready_why o why.Resumption
-
 abbrev is_behind_place : Option Place → Bool
 is_behind_place (Some (place.Behind f)) = true
 is_behind_place _ = false

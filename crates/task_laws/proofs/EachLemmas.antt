@@ -1,7 +1,7 @@
 -- What each record of a map keeps where one record is changed, made or taken away.
 use Rattle.std.proofs.Common.{T, ap, cond, eqb→eq, refl, subst, sym, ◌∙◌}
 use Rattle.std.specs.Option.{option_map_or}
-use Rattle.std.specs.Prelude.{Bool, None, Option, Some, false, is_none, option_map, true, ℕ, ◌==◌, ◌≡◌}
+use Rattle.std.specs.Prelude.{Bool, None, Option, Some, false, option_map, true, ℕ, ◌==◌, ◌≡◌}
 use Rattle.task_machine.specs.Maps.{Records, change, changed, get, get-empty, get-insert, get-remove, insert, empty, remove}
 use Rattle.task_machine.proofs.MapLemmas.{change-field}
 
@@ -55,19 +55,9 @@ each_map P R m f h n = each_at P R n (get m n) (f n) (h n)
 -- ---- What is read at a number
 
 module _ {X : Type 0} where
-  none_of_map : {Y : Type 0} (g : X → Y) (o : Option X) → is_none (option_map g o) ≡ is_none o
-  none_of_map g None = refl
-  none_of_map g (Some x) = refl
-
   or_of_map : {Y : Type 0} (g : X → Y) (d : Y) (o : Option X) → option_map_or (λ (y : Y). y) (option_map g o) d ≡ option_map_or g o d
   or_of_map g d None = refl
   or_of_map g d (Some x) = refl
-
-  -- a change makes no record and takes none away
-  pub change_none : (m : Records X) (n : ℕ) (f : X → X) (q : ℕ) → is_none (get (change n f m) q) ≡ is_none (get m q)
-  change_none m n f q =
-      let whole : X → Unit {0} = λ x. tt in
-      sym (none_of_map whole (get (change n f m) q)) ∙ (ap (λ o. is_none o) (change-field whole n f (λ x. refl) m q) ∙ none_of_map whole (get m q))
 
   -- a field that the change leaves alone
   pub change_read : {Y : Type 0} (g : X → Y) (d : Y) (m : Records X) (n : ℕ) (f : X → X) → ((x : X) → g (f x) ≡ g x) → (q : ℕ) → option_map_or g (get (change n f m) q) d ≡ option_map_or g (get m q) d

@@ -22,7 +22,6 @@ use Rattle.task_machine.specs.declared.records.Stage.{Stage}
 use Rattle.task_machine.specs.declared.records.Work.{Work}
 use Rattle.task_machine.specs.declared.words.Mark.{Mark}
 use Rattle.task_rules.proofs.ChainLemmas.{along}
-use Rattle.task_rules.proofs.KeepWords.{after, same}
 use Rattle.task_rules.proofs.PlacingLemmas.{SameWorks, placing_works, unqueued_works, work_entries}
 use Rattle.task_rules.proofs.WalkSteps.{step_walks}
 use Rattle.task_rules.specs.Allowed.{Allowed}
@@ -62,9 +61,6 @@ zero_of h = omega (h, arith)
 plus_none : (b : Bool) (n : ℕ) → b ≡ false → one_if b + n ≡ n
 plus_none true n h = absurd (true_is_not_false h)
 plus_none false n h = omega arith
-
-pub pushes_first : (i : ℕ) (es : List Entry) (e : Entry) → is_push_of i e ≡ false → pushes i (e ∷ es) ≡ pushes i es
-pushes_first i es e h = plus_none (is_push_of i e) (pushes i es) h
 
 pushes_append : (i : ℕ) (es : List Entry) (e : Entry) → pushes i (es ++ e ∷ []) ≡ pushes i es + one_if (is_push_of i e)
 pushes_append i [] e = omega arith

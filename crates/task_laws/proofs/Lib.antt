@@ -9,6 +9,8 @@ pub mod WaitLemmas
 pub mod SceneLemmas
 pub mod HousedLemmas
 pub mod Subtasks
+pub mod HandleTables
+pub mod Joins
 pub mod CountLemmas
 pub mod CallsCame
 pub mod CallsLaw

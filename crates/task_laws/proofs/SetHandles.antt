@@ -15,7 +15,6 @@ use Rattle.task_machine.specs.Write.{add_call, add_group, add_set, add_thread, a
 use Rattle.task_machine.specs.declared.records.Named.{Named}
 use Rattle.task_machine.specs.declared.records.Set.{Set}
 use Rattle.task_machine.specs.declared.records.Subtask.{Subtask}
-use Rattle.task_rules.proofs.KeepWords.{same}
 use Rattle.task_rules.specs.Allowed.{Allowed}
 use Rattle.task_rules.specs.Calls.{call_made, with_handle, with_thread_handle, work_queued}
 use Rattle.task_rules.specs.Scenes.{Scene}

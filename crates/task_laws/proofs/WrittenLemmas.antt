@@ -36,10 +36,6 @@ abbrev is_over : Option Call → Bool
 is_over None = true
 is_over (Some c) = is_some c.«end»
 
-code_of_none : (o : Option CallEnd) → is_some o ≡ false → call_end_code o ≡ 0
-code_of_none None h = refl
-code_of_none (Some e) h = absurd (true_is_not_false h)
-
 end_there : (o p : Option CallEnd) → ((e : CallEnd) → o ≡ Some e → p ≡ Some e) → is_some o ≡ true → is_some p ≡ true
 end_there None p h over = no_way over
 end_there (Some e) p h over = ap (λ q. is_some q) (h e refl)

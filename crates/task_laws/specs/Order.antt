@@ -1,16 +1,19 @@
 -- A state in order: what is so of every opening state and kept by every step, whatever the state was reached by.
+use Rattle.task_machine.specs.declared.records.Subtask.{Subtask}
+use Rattle.task_machine.specs.declared.records.Named.{Named}
 use Rattle.task_rules.specs.Allowed.{subtask_under_way}
-use Rattle.std.specs.Prelude.{Bool, None, Option, Some, false, is_none, is_some, option_and_then, option_map, true, ℕ, ◌+◌, ◌≡◌, ◌≤◌}
+use Rattle.std.specs.Prelude.{Bool, None, Option, Some, false, is_none, is_some, option_and_then, option_map, true, ℕ, ◌+◌, ◌≡◌, ◌≤◌, length}
 use Rattle.task_laws.specs.Settings.{CodesInCallbacks}
-use Rattle.task_machine.specs.Core.{Core, Main, State}
-use Rattle.task_machine.specs.Maps.{get}
-use Rattle.task_machine.specs.Read.{how_far_of, instance_of, is_async_lifted, is_callback, is_direct, is_explicit, kind_of, place_of, set_at, subtask_at}
+use Rattle.task_machine.specs.Core.{Core, Main, State, Table}
+use Rattle.task_machine.specs.Maps.{get, size}
+use Rattle.task_machine.specs.Read.{how_far_of, instance_of, is_async_lifted, is_callback, is_direct, is_explicit, kind_of, place_of, set_at, subtask_at, join_of}
 use Rattle.task_machine.specs.declared.component.Component.{Component}
 use Rattle.task_machine.specs.declared.label.Label.{Label}
 use Rattle.task_machine.specs.declared.records.Call.{Call}
 use Rattle.task_machine.specs.declared.records.Delivery.TheVariants as delivery
 use Rattle.task_machine.specs.declared.records.HowFar.{HowFar}
 use Rattle.task_machine.specs.declared.records.HowFar.TheVariants as how_far
+use Rattle.task_machine.specs.declared.records.Join.TheVariants as join
 use Rattle.task_machine.specs.declared.records.Place.{Place}
 use Rattle.task_machine.specs.declared.records.Place.TheVariants as place
 use Rattle.task_machine.specs.declared.records.Set.{Set}
@@ -19,7 +22,7 @@ use Rattle.task_machine.specs.declared.records.Thread.{Thread}
 use Rattle.task_machine.specs.declared.records.Turn.TheVariants as turn
 use Rattle.task_machine.specs.declared.records.Why.{Why}
 use Rattle.task_machine.specs.declared.records.Why.TheVariants as why
-use Rattle.task_rules.specs.Places.{Placed}
+use Rattle.task_rules.specs.Places.{Placed, times}
 use Rattle.task_rules.specs.Run.{opening}
 use Rattle.task_rules.specs.Scripts.{export_kind}
 use Rattle.task_rules.specs.Stalled.{Setting}
@@ -70,6 +73,27 @@ pub record SetsNamed (s : Core) : Type 0 where
   pub number : (i h x : ℕ) → set_at i h s ≡ Some x → x ≤ s.made.sets
   pub home : (i h x : ℕ) → set_at i h s ≡ Some x → option_map (λ (r : Set). r.instance) (get s.sets x) ≡ Some i
   pub once : (i j h g x : ℕ) → set_at i h s ≡ Some x → set_at j g s ≡ Some x → (i ≡ j) × (h ≡ g)
+
+-- ---- Handles and joins
+
+-- Handles from 1 up to some number were made: each is live, or was freed and isn't given again.
+pub record TableKept {X : Type 0} (t : Table X) : Type 0 where
+  pub live : (h : ℕ) → is_some (get t.live h) ≡ true → h ≤ size t.live + length t.freed
+  pub freed : (h : ℕ) → 1 ≤ times h t.freed → (h ≤ size t.live + length t.freed) × (get t.live h ≡ None)
+  pub once : (h : ℕ) → times h t.freed ≤ 1
+
+-- The set is there, and a handle of its instance names the subtask.
+pub record JoinNamed (sub : Subtask) (x : ℕ) (s : Core) : Type 0 where
+  pub instance : ℕ
+  pub handle : ℕ
+  pub home : option_map (λ (r : Set). r.instance) (get s.sets x) ≡ Some instance
+  pub named : subtask_at instance handle s ≡ Some sub
+
+-- Each instance's table of handles is kept, each set's number was given, and a subtask that is joined to a set is named in the set's instance.
+pub record JoinsNamed (s : Core) : Type 0 where
+  pub tables : (i : ℕ) (t : Table Named) → get s.handles i ≡ Some t → TableKept t
+  pub sets : (x : ℕ) → is_some (get s.sets x) ≡ true → x ≤ s.made.sets
+  pub joins : (sub : Subtask) (x : ℕ) → join_of sub s ≡ join.Set x → JoinNamed sub x s
 
 -- ---- Waiting on sets
 
@@ -165,6 +189,7 @@ pub record InOrder (c : Component) (s : State) : Type 0 where
   pub calls_there : CallsThere s.core
   pub calls_named : CallsNamed s.core
   pub sets_named : SetsNamed s.core
+  pub joins_named : JoinsNamed s.core
   pub waits : WaitsAtHome s.core
   pub kinds : CallKinds c s.core
   pub deliveries : DeliveredByCallback s.core

@@ -1,4 +1,5 @@
 -- A state in order: each opening state is, and each step leads from one to one.
+use Rattle.task_laws.proofs.Joins.{joins_word, opening_joins}
 use Rattle.task_laws.proofs.Subtasks.{Traced, opening_named, traced_word}
 use Rattle.task_machine.specs.declared.component.Callee.{Callee}
 use Rattle.task_rules.specs.Scenes.{base_at, scene_of}
@@ -17,7 +18,7 @@ use Rattle.std.specs.Prelude.{Bool, List, None, Option, Some, [], false, if◌th
 use Rattle.task_laws.proofs.SetHandles.{IsTidy, opening_tidy, tidy_word}
 use Rattle.task_laws.proofs.CallsLaw.{CallsHold}
 use Rattle.task_laws.proofs.CallsSteps.{opening_holds, step_goes}
-use Rattle.task_laws.specs.Order.{CallsNamed, InOrder, InPlace, Numbered, OpeningInOrder, SetsNamed, StartsAwaited, StepInOrder, WasCall, is_fresh, CallsThere, IsOf, MakesFew, Strands, WaitsAtHome, set_of_op, set_of_place, StepsMakeFew}
+use Rattle.task_laws.specs.Order.{CallsNamed, InOrder, InPlace, Numbered, OpeningInOrder, SetsNamed, StartsAwaited, StepInOrder, WasCall, is_fresh, CallsThere, IsOf, MakesFew, Strands, WaitsAtHome, set_of_op, set_of_place, StepsMakeFew, JoinsNamed}
 use Rattle.task_machine.specs.Core.{Core, Main, State, fresh}
 use Rattle.task_machine.specs.Maps.{empty, get, get-empty}
 use Rattle.task_machine.specs.Read.{place_of, set_at, instance_of, no_callee, call_instance, task_of}
@@ -235,6 +236,10 @@ module _ (x : Setting) (s : State) (l : Label) (t : State) (h : InOrder x.compon
       was : {k : ℕ} → WasCall s.core k → WasCall (record s.core { queues = (base_at s.turn s.core).queues }) k
       was q = record { number = q.number; first = q.first }
 
+  -- handles of sets, and the joins to them
+  pub joined_kept : IsTidy t.core × JoinsNamed t.core
+  joined_kept = along (λ (c : Core). IsTidy c × JoinsNamed c) (λ v m ok q. (tidy_word (scene_of x s l w.next) v m ok q.0, joins_word (scene_of x s l w.next) m q.1 (sets_of m q.0) v ok)) (tidy s.core h.sets_named, h.joins_named) w.walk
+
   known_home : KnownHome (scene_of x s l w.next)
   known_home = record {
     there = λ n is. at_base (λ (c : Core). is_there n c ≡ true) (runner n is);
@@ -279,7 +284,8 @@ step_in_order x s l t h step =
       calls_there = calls_kept x s l t h w;
       calls_named = named_kept x s l t h w;
       waits = waits_kept x s l t h w (steady x s l t step);
-      sets_named = sets_of t.core (along IsTidy (tidy_word (scene_of x s l w.next)) (tidy s.core h.sets_named) w.walk);
+      sets_named = sets_of t.core (joined_kept x s l t h w).0;
+      joins_named = (joined_kept x s l t h w).1;
       kinds = q.kinds;
       deliveries = q.deliveries;
       starts = starts_kept s.core t.core t.turn k (waited s.core t.core h.in_place.placed (steady x s l t step) h.starts);
@@ -352,6 +358,7 @@ opening_in_order c codes instances handle_limit capacity main =
       waits = opening_waits instances handle_limit capacity;
       calls_named = opening_named instances handle_limit capacity;
       sets_named = sets_of s (opening_tidy instances handle_limit capacity);
+      joins_named = opening_joins instances handle_limit capacity;
       kinds = q.kinds;
       deliveries = q.deliveries;
       starts = opening_starts instances handle_limit capacity;

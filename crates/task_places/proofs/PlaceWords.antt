@@ -279,12 +279,6 @@ one_above n = omega arith
 abbrev pub Unused : Core → Type 0
 Unused s = (place_of (s.made.threads + 1) s ≡ None) × ((k : ℕ) → says (is_behind_of (s.made.threads + 1)) (place_of k s) ≡ 0)
 
-pub unused_quiet : (s t : Core) → Untouched s t → t.made.threads ≡ s.made.threads → Unused s → Unused t
-unused_quiet s t u same h = (
-  subst (λ (j : ℕ). place_of (j + 1) t ≡ None) (sym same) (u.places (s.made.threads + 1) ∙ h.0),
-  λ k. subst (λ (j : ℕ). says (is_behind_of (j + 1)) (place_of k t) ≡ 0) (sym same) (ap (says (is_behind_of (s.made.threads + 1))) (u.places k) ∙ h.1 k),
-)
-
 -- where each thread has its place, so it is
 pub unused : (s : Core) → All s → Unused s
 unused s all = (free (place_of (s.made.threads + 1) s) (λ e. (all (s.made.threads + 1)).number e), λ k. unsaid (place_of k s) ((all k).behind (s.made.threads + 1)))

@@ -5,13 +5,13 @@ use Rattle.task_machine.specs.Core.{Core}
 use Rattle.task_machine.specs.Labels.{Choice, held_label, take_label}
 use Rattle.task_machine.specs.Moves.{Gift, MemberGift, NoGift, OwnGift, gift, is_callback_waiter, may_hand_on, may_publish, own_gift_only, published, put_high, taken, unblocked, wake, wake_joined, waken_by}
 use Rattle.task_machine.specs.Read.{admits, at_handle_limit, blocked_on, course_of, course_value, foot_of, instance_of, is_entry_of, is_explicit, join_of, next_entry, or_high, place_of, task_of, work_caller_of, kind_of}
-use Rattle.task_machine.specs.Write.{set_do_not_enter, set_event, set_high, set_low, set_place, set_script, set_started, set_starting_published, set_switch, on_instance, on_thread}
+use Rattle.task_machine.specs.Write.{on_instance, on_thread, push_high, set_do_not_enter, set_event, set_high, set_low, set_place, set_script, set_started, set_starting_published, set_switch}
 use Rattle.task_machine.specs.declared.records.Subtask.{Subtask}
 use Rattle.task_machine.specs.declared.records.Why.{Why}
 use Rattle.task_machine.specs.declared.words.Given.{Given}
 use Rattle.task_machine.specs.declared.words.Status.{Status}
 use Rattle.task_rules.specs.Calls.{with_thread_handle}
-use Rattle.task_rules.specs.Ends.{may_tell, told}
+use Rattle.task_rules.specs.Ends.{is_told, may_tell, told}
 use Rattle.task_rules.specs.Progress.{Goes, Stops}
 use Rattle.task_rules.specs.Sets.{chosen, set_given}
 use Rattle.task_rules.specs.Takes.{activated, activated_woken, wait_again, delivered, delivery_row, take_holds, host_done, host_result, host_status, may_tell_starting, popped, rest_of, running, set_delivered, start_admitted, start_holds, start_row, start_begins, starting_is_published, starting_told, thread_taken_for, start_sets_flags}
@@ -21,9 +21,12 @@ use Rattle.task_places.proofs.CallRows.{sync_sets_flag_calls, started_begun}
 use Rattle.task_places.proofs.FreshMoves.{Fresher, fresher_after, high_fresher}
 use Rattle.task_laws.specs.Order.{is_fresh}
 use Rattle.task_places.proofs.FreshStand.{All, Going, Kept, Standing, goes, is_starting, may_come, may_go, not_fresh, quiet_all, quiet_stand, set_place_all, stopped_stand}
-use Rattle.task_rules.proofs.KeepRows.{told_keeps, with_thread_handle_keeps}
-use Rattle.task_rules.proofs.KeepWords.{after, set_started_keeps}
-use Rattle.task_rules.proofs.KeepLaws.{steady_elementary}
+use Rattle.task_rules.proofs.LawLemmas.{walk_steady}
+use Rattle.task_rules.specs.Chains.{Chain, NoWord, Then}
+use Rattle.task_rules.specs.Words.{NameThread, SetCallEvent, SetStarted, Word}
+use Rattle.task_machine.specs.declared.records.Join.{Join}
+use Rattle.task_machine.specs.declared.records.Join.TheVariants as join
+use Rattle.task_machine.specs.declared.records.Subtask.TheVariants as subtask
 use Rattle.task_rules.specs.Data.{moved_to}
 use Rattle.task_rules.specs.Laws.{LaterBy, LaterCall, Steady}
 use Rattle.task_machine.specs.Maps.{Records, get}
@@ -231,6 +234,40 @@ later_begun (Some c) (Some d) h e = go c.started d.started h.started e
 pub begun_later : (k : ℕ) (s t : Core) → Steady s t → k ≤ s.made.threads → is_starting k s ≡ false → is_starting k t ≡ false
 begun_later k s t u below h = later_begun (get s.calls k) (get t.calls k) (u.calls k below) h
 
+-- whatever words
+words_steady : {b t : Core} → Chain (λ (w : Word) (s : Core). Unit {0}) b t → Steady b t
+words_steady c = walk_steady c
+
+waken_calls : (b : Bool) (x n : ℕ) (s : Core) → (waken_by b x n s).calls ≡ s.calls
+unfolding put_high push_high set_high set_place on_thread
+waken_calls true x n s = refl
+waken_calls false x n s = refl
+
+woken_calls : (j : Join) (w : Option ℕ) (s : Core) → (wake_joined j w s).calls ≡ s.calls
+unfolding wake
+woken_calls (join.Set x) None s = refl
+woken_calls (join.Set x) (Some n) s = waken_calls (is_callback_waiter n s) x n s
+woken_calls join.Nowhere w s = refl
+woken_calls (join.Watched m) w s = refl
+
+unblocked_calls : (o : Option ℕ) (s : Core) → (unblocked o s).calls ≡ s.calls
+unfolding put_high push_high set_high set_place on_thread
+unblocked_calls None s = refl
+unblocked_calls (Some n) s = refl
+
+-- what is told begins no call
+told_begun : (n k : ℕ) (e : Status) (w : Option ℕ) (s : Core) → n ≤ s.made.threads → is_starting n s ≡ false → is_starting n (told k e w s) ≡ false
+unfolding told published
+told_begun n k e w s below h = go (is_told k s)
+  where
+    go : (b : Bool) → is_starting n (if b then published (subtask.Guest k) e w s else s) ≡ false
+    go false = h
+    go true =
+        let t = set_event (subtask.Guest k) (Some e) s in
+        let o = blocked_on (subtask.Guest k) s in
+        ap (λ (calls : Records Call). option_map_or (λ (c : Call). not c.started) (get calls n) false) (woken_calls (join_of (subtask.Guest k) s) w (unblocked o t) ∙ unblocked_calls o t)
+        ∙ begun_later n s t (words_steady (Then s (SetCallEvent k (Some e)) NoWord tt)) below h
+
 -- What is known of a thread that is taken: its number was given, an implicit one is the first of its call, and an explicit one's number names no call to be started.
 pub record Owned (n : ℕ) (s : Core) : Type 0 where
   pub number : n ≤ s.made.threads
@@ -299,9 +336,9 @@ module _ {base : Core} (n : ℕ) (x : Mark) where
       let u = untouched_after (with_thread_handle_untouched (instance_of n s) n s) (set_started_untouched k a) in
       let c = told k status.Started w b in
       let e = start_sets_flags n (kind_of k s) c in
-      let made : n ≤ b.made.threads = le_trans below (after steady_elementary (with_thread_handle_keeps steady_elementary (instance_of n s) n s) (set_started_keeps steady_elementary k a)).threads_made in
+      let made : n ≤ b.made.threads = le_trans below (words_steady (Then a (SetStarted k) (Then s (NameThread (instance_of n s) n) NoWord tt) tt)).threads_made in
       let ran : is_starting n b ≡ false = subst (λ (j : ℕ). is_starting j b ≡ false) own (started_begun k a) in
-      let begun : is_starting n c ≡ false = begun_later n b c (told_keeps steady_elementary k status.Started w b) made ran in
+      let begun : is_starting n c ≡ false = told_begun n k status.Started w b made ran in
       taken_to_run n (place.Ready x why.Start) refl e (λ f. ap (λ (calls : Records Call). option_map_or (λ (o : Call). not o.started) (get calls n) false) (start_sets_flags_calls n (kind_of k s) c) ∙ begun)
       (quiet_stand n (place.Ready x why.Start) c e (start_sets_flags_untouched n (kind_of k s) c) (told_stand n (place.Ready x why.Start) refl k status.Started w b (waits_quiet w s b u h) (quiet_stand n (place.Ready x why.Start) s b u st)))
 

@@ -70,34 +70,6 @@ module _ {X : Type 0} (p : Core → X) (at_place : (n : ℕ) (q : Place) (s : Co
     unfolding stopped
     stopped_leaves f s = passed_on_leaves s.queues.switch (callers_of f s) (set_callers f [] s) ∙ at_callers f [] s
 
-place_instances : (n : ℕ) (q : Place) (s : Core) → (set_place n q s).instances ≡ s.instances
-unfolding set_place on_thread
-place_instances n q s = refl
-
-high_instances : (e : Entry) (s : Core) → (push_high e s).instances ≡ s.instances
-unfolding push_high
-high_instances e s = refl
-
-first_instances : (e : Entry) (s : Core) → (push_high_first e s).instances ≡ s.instances
-unfolding push_high_first
-first_instances e s = refl
-
-switch_instances : (o : Option ℕ) (s : Core) → (set_switch o s).instances ≡ s.instances
-unfolding set_switch
-switch_instances o s = refl
-
-callers_instances : (n : ℕ) (ns : List ℕ) (s : Core) → (set_callers n ns s).instances ≡ s.instances
-unfolding set_callers
-callers_instances n ns s = refl
-
--- a stop leaves the flags of the instances alone
-stopped_suspends : (i f : ℕ) (s : Core) → may_not_suspend i (stopped f s) ≡ may_not_suspend i s
-stopped_suspends i f s =
-    ap (λ (m : Records Instance). option_map_or (λ r. r.do_not_suspend) (get m i) false) (stopped_leaves (λ c. c.instances) place_instances high_instances first_instances switch_instances callers_instances f s)
-
-released_suspends : (i : ℕ) (ns : List ℕ) (s : Core) → may_not_suspend i (released ns s) ≡ may_not_suspend i s
-released_suspends i ns s = ap (λ (m : Records Instance). option_map_or (λ r. r.do_not_suspend) (get m i) false) (released_leaves (λ c. c.instances) place_instances high_instances ns s)
-
 -- ---- A stop
 
 place_switch : (n : ℕ) (q : Place) (s : Core) → (set_place n q s).queues.switch ≡ s.queues.switch
@@ -281,10 +253,6 @@ place_callers n q s = refl
 high_callers : (e : Entry) (s : Core) → (push_high e s).callers ≡ s.callers
 unfolding push_high
 high_callers e s = refl
-
-let_in_callers : (i : ℕ) (order : List ℕ) (s : Core) → (end_reopens i order s).callers ≡ s.callers
-unfolding end_reopens
-let_in_callers i order s = released_leaves (λ c. c.callers) place_callers high_callers order (set_do_not_enter i false s) ∙ enter_callers i false s
 
 -- ---- The held threads are of the instance
 

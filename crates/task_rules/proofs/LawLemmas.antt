@@ -21,8 +21,7 @@ use Rattle.task_rules.proofs.PlacingLemmas.{Shifted, placing_shifted, popped_shi
 use Rattle.task_rules.proofs.WalkSteps.{step_walks}
 use Rattle.task_rules.specs.Calls.{call_made, new_call, new_thread, new_work, next_thread, with_handle, with_thread_handle, work_queued}
 use Rattle.task_rules.specs.Chains.{Chain}
-use Rattle.task_rules.specs.Keeps.{EachStep}
-use Rattle.task_rules.specs.Laws.{KeptByRuns, LaterBy, LaterCall, LaterWork, NeverFewer, OutcomeEnds, OutcomeIsLast, OverIsLast, RunGoesOn, RunsJoin, SameLimits, SameThread, Steady}
+use Rattle.task_rules.specs.Laws.{EachStep, KeptByRuns, LaterBy, LaterCall, LaterWork, NeverFewer, OutcomeEnds, OutcomeIsLast, OverIsLast, RunGoesOn, RunsJoin, SameLimits, SameThread, Steady}
 use Rattle.task_rules.specs.Outcome.{outcome_of_label}
 use Rattle.task_rules.specs.Run.{Run}
 use Rattle.task_rules.specs.Scripts.{registers_for}

@@ -1,7 +1,3 @@
-pub mod KeepWords
-pub mod KeepRows
-pub mod KeepLemmas
-pub mod KeepLaws
 pub mod LawLemmas
 pub mod PromotionLemmas
 pub mod ChainLemmas

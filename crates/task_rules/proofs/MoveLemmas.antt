@@ -13,7 +13,7 @@ use Rattle.task_machine.specs.declared.records.Why.TheVariants as why
 use Rattle.task_machine.proofs.MapLemmas.{get-remove_other, get-remove_same}
 use Rattle.task_machine.specs.Core.{Core}
 use Rattle.task_machine.specs.Maps.{get, get-remove, numbers}
-use Rattle.task_machine.specs.Moves.{behind_one, held_why_of, is_callback_waiter, may_wake, put_high, put_low, put_switch, released, released_one, stopped, unblocked, wake, waken_by}
+use Rattle.task_machine.specs.Moves.{behind_one, held_why_of, is_callback_waiter, may_wake, put_high, put_low, put_switch, released, released_one, stopped, wake, waken_by}
 use Rattle.task_machine.specs.Read.{blocked_on, callers_of, held_why, is_at, is_blocked_on, is_waiting_on, place_of}
 use Rattle.task_machine.specs.Write.{remove_thread, set_place}
 use Rattle.task_rules.proofs.StandLemmas.{Loose, Stand, adds_all, by_number, eq_refl, free_loose, is_eq_of, loose_free, loose_gone, loosened, not_eq, put_high_adds, put_low_adds, set_place_adds}
@@ -199,13 +199,6 @@ module _ (n : ℕ) (q : Place) (busy : is_busy q ≡ true) where
   blocked_at : (sub : Subtask) (s : Core) (m : ℕ) → blocked_on sub s ≡ Some m → (p : Place) × (place_of m s ≡ Some p) × (is_parked p ≡ true)
   unfolding blocked_on
   blocked_at sub s m h = let p = at_place (is_blocked_on sub) (place_of m s) (find_passes (λ k. is_at k s (is_blocked_on sub)) (numbers s.threads) m h) in (p.0, p.1, blocked_parked sub p.0 p.2)
-
-  unblocked_by : (sub : Subtask) (s t : Core) (o : Option ℕ) → blocked_on sub s ≡ o → ((k : ℕ) → place_of k t ≡ place_of k s) → Stand n q [] t → Stand n q [] (unblocked o t)
-  unblocked_by sub s t None is same st = st
-  unblocked_by sub s t (Some m) is same st = let p = blocked_at sub s m is in put_high_good m why.Resumption p.0 t (same m ∙ p.1) p.2 st
-
-  pub unblocked_good : (sub : Subtask) (s t : Core) → ((k : ℕ) → place_of k t ≡ place_of k s) → Stand n q [] t → Stand n q [] (unblocked (blocked_on sub s) t)
-  unblocked_good sub s t same st = unblocked_by sub s t (blocked_on sub s) refl same st
 
   -- ---- A thread more, and one less
 

@@ -118,9 +118,6 @@ pub none_there : (b : Bool) (x : ℕ) → x ≡ 0 → (if b then x else 0) ≡ 0
 none_there true x h = h
 none_there false x h = refl
 
-pub says_gone : (test : Place → Bool) (o : Option Place) → o ≡ None → says test o ≡ 0
-says_gone test o e = ap (says test) e
-
 pub zero_one : {A : Type 0} {x : ℕ} → x ≡ 0 → x ≡ 1 → A
 zero_one {A = A} h g = absurd (no_one h g)
   where

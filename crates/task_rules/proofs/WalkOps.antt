@@ -219,7 +219,7 @@ module _ (x : Setting) (main : Main) (s : Core) (n : ℕ) (l : Label) (next : Tu
   join_threads (subtask.Guest k) j = refl
   join_threads (subtask.Host i) j = refl
 
-  join_done_leads : (sub : Subtask) (w y : Option ℕ) → MayJoin a sub (joins y) → Leads a s (join_done n sub w s y)
+  join_done_leads : (sub : Subtask) (w y : Option ℕ) → MayJoin a sub (joins y) s → Leads a s (join_done n sub w s y)
   unfolding joined
   join_done_leads sub w y ok =
       trap_if_leads a s (is_watched (join_of sub s)) trap.WaitableSyncAndAsync _ (λ e.
@@ -407,7 +407,7 @@ module _ (x : Setting) (main : Main) (s : Core) (n : ℕ) (l : Label) (next : Tu
   -- ---- Dropping
 
   dropped_walks : (h : ℕ) (sub : Subtask) → subtask_at (instance_of n s) h s ≡ Some sub → subtask_ended sub s ≡ true → Walk a s (dropped n h sub s)
-  unfolding dropped
+  unfolding dropped set_join on_call on_work
   dropped_walks h (subtask.Guest k) named ended =
       let sub = subtask.Guest k in
       let t = set_join sub join.Nowhere s in

@@ -25,7 +25,6 @@ use Rattle.task_machine.specs.declared.records.Work.{Work}
 use Rattle.task_machine.specs.declared.words.Given.{Given}
 use Rattle.task_machine.specs.declared.words.OwnEvent.{OwnEvent}
 use Rattle.task_machine.specs.declared.words.Status.{Status}
-use Rattle.task_rules.proofs.KeepWords.{same}
 use Rattle.task_rules.proofs.PlacingLemmas.{Shifted, placed, placing_shifted, shifted_after, shifted_explicit, shifted_made}
 use Rattle.task_rules.proofs.StandLemmas.{place_kept}
 use Rattle.task_rules.proofs.WalkMoves.{MayTake, checked_shifts, group_settled_walks, moved, shifted, stopped_shifts, taken_walks, word}
@@ -167,7 +166,7 @@ module _ {a : Scene} {b : Core} (n : ℕ) (is : IsRunner a n) where
   unfolding wait_stops
   wait_stops_walks y {t = t} leave has c = word (SetHowFar n (how_far.Waits y)) (is, has) (moved (Move n (place.Waiting y false)) (Waits y leave has refl) (stopped_walks t c))
 
-  pub join_walks : (sub : Subtask) (j : Join) {t : Core} → MayJoin a sub j → Walk a b t → Walk a b (set_join sub j t)
+  pub join_walks : (sub : Subtask) (j : Join) {t : Core} → MayJoin a sub j t → Walk a b t → Walk a b (set_join sub j t)
   join_walks (subtask.Guest k) j ok c = word (SetCallJoin k j) ok c
   join_walks (subtask.Host i) j ok c = word (SetWorkJoin i j) ok c
 

@@ -47,7 +47,7 @@ use Rattle.task_rules.specs.Progress.{Fails, Goes, Never, Ordered, Progress, Sto
 use Rattle.task_rules.specs.Scenes.{Scene, base_at, base_without, runner_at, thread_of_entry}
 use Rattle.task_rules.specs.Scripts.{export_kind, host_at, op_of}
 use Rattle.task_rules.specs.Stalled.{Setting, is_unended_take, may_deadlock}
-use Rattle.task_rules.specs.Step.{DeadlockStep, EmptyFor, FuturesStep, MainProgresses, MainStep, OpenAct, OpenProgresses, Polled, Progresses, RestStep, ScriptStep, Step, TakeStep, TurnStep, did, entry_number, op_row, struck, trap_label}
+use Rattle.task_rules.specs.Step.{DeadlockStep, EmptyFor, FuturesStep, MainProgresses, MainStep, OpenAct, OpenProgresses, Polled, Progresses, RestStep, ScriptStep, Step, TakeStep, TurnStep, did, entry_number, op_row, struck}
 use Rattle.task_rules.specs.Takes.{host_done, host_result, host_status, popped, pushed, take_row}
 use Rattle.task_rules.specs.Turns.{at_turn, goes_to, settled_turn}
 use Rattle.task_rules.specs.Words.{AddGroup, EndWork, FinishWork, MakeCall, Pend, Pop, Put, QueueWork, RemoveThread, SetPhase, SetRegister, SetTrapped, TakeHost, TakePush, TakeResult}
@@ -271,9 +271,6 @@ arrives at b s new m u t same is c = subst (λ (v : State). WalkedBy at b s.main
 landed : (at : Turn → Scene) (b : Core) (s : State) (new : Core) (u : Turn) (t : State) → t ≡ goes_to s new u → Walk (at u) b new × LastWords (at u) new → WalkedBy at b s.main t
 landed at b s new u t is c = arrives at b s new s.main u t (same_main s.main) is c
 
-trap_begins : (s : Core) (n : ℕ) (t : Trap) → begun_holder s (trap_label n t) ≡ None
-trap_begins s n t = refl
-
 -- of a row, by where it leads
 progresses_walk : (at : Turn → Scene) (b : Core) (s : State) (base : Core) (n : ℕ) (p : Progress) (l : Label) (t : State) → ((u : Turn) → (at u).label ≡ l) → ((u : Turn) → (at u).next ≡ u) → ((u : Turn) → Leads (at u) b p) → (begun_holder base l ≡ None → Walk (at turn.Over) b (struck n base) × LastWords (at turn.Over) (struck n base)) → Progresses s base n p l t → WalkedBy at b s.main t
 progresses_walk at b s base n (Goes k new m) l t labels nexts leads falls is = landed at b s new (turn.Run m) t is.1 (leads (turn.Run m) (labels (turn.Run m) ∙ is.0) (nexts (turn.Run m)))
@@ -308,9 +305,6 @@ not_futures i n e = absurd (subst T (ap is_futures e) tt)
 
 not_take : {A : Type 0} (ended : Bool) (n : ℕ) → turn.Take ended ≡ turn.Run n → A
 not_take ended n e = absurd (subst T (ap is_take e) tt)
-
-main_outcome_begins : (s : Core) (k : MainLabel) → begun_holder s (label.Main k) ≡ None
-main_outcome_begins s k = refl
 
 sync_ended_shifts : (i : ℕ) (v : Option ℕ) (t : Core) → Shifts (set_stage i stage.Ended (set_phase i phase.Complete (set_course i (course_for v) t))) (followed (work_caller.Sync 0) i (set_phase i phase.Complete (set_course i (course_for v) t)))
 unfolding set_stage set_phase set_course on_work

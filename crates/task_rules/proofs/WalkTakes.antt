@@ -98,10 +98,6 @@ event_begins : (m : Mark) (n : ℕ) (v : Given) (w : Option ℕ) (s : Core) → 
 event_begins m n v None s = refl
 event_begins m n v (Some w) s = refl
 
-host_taking : (m : Mark) (i : ℕ) (w : Option ℕ) → is_taking (host_label m i w) ≡ true
-host_taking m i None = refl
-host_taking m i (Some w) = refl
-
 pub host_quiet : (m : Mark) (i : ℕ) (w : Option ℕ) → outcome_of_label (host_label m i w) ≡ None
 host_quiet m i None = refl
 host_quiet m i (Some w) = refl

@@ -262,10 +262,10 @@ MayDeliver a k = (n : ℕ) × (IsRunner a n × ((k ≡ task_of n a.base) × ((d 
 -- ---- Subtasks
 
 -- a join finds the subtask and the set by handles of the running thread's instance; a cancel joins a subtask that is in no set to the thread's own
-abbrev pub MayJoin : Scene → Subtask → Join → Type 0
-MayJoin a sub join.Nowhere = IsOwn a sub
-MayJoin a sub (join.Set x) = (n : ℕ) × ((h : ℕ) × ((g : ℕ) × (IsRunner a n × ((subtask_at (instance_of n a.base) h a.base ≡ Some sub) × (set_at (instance_of n a.base) g a.base ≡ Some x)))))
-MayJoin a sub (join.Watched n) = IsRunner a n × (HasSubtask a n sub × ((is_joined (join_of sub a.base) ≡ false) ⊎ (how_far_of n a.base ≡ how_far.Cancels sub)))
+abbrev pub MayJoin : Scene → Subtask → Join → Core → Type 0
+MayJoin a sub join.Nowhere s = IsOwn a sub
+MayJoin a sub (join.Set x) s = (n : ℕ) × ((h : ℕ) × ((g : ℕ) × (IsRunner a n × ((subtask_at (instance_of n a.base) h s ≡ Some sub) × (set_at (instance_of n a.base) g s ≡ Some x)))))
+MayJoin a sub (join.Watched n) s = IsRunner a n × (HasSubtask a n sub × ((is_joined (join_of sub a.base) ≡ false) ⊎ (how_far_of n a.base ≡ how_far.Cancels sub)))
 
 -- the running thread's instance gets a handle of its subtask, or of a new one
 abbrev pub MayName : Scene → ℕ → Subtask → Core → Type 0
@@ -273,7 +273,7 @@ MayName a i sub s = (n : ℕ) × (IsRunner a n × ((i ≡ instance_of n a.base) 
 
 -- the handle names the subtask, which is in no set any more
 abbrev pub MayUnname : Scene → ℕ → ℕ → Subtask → Core → Type 0
-MayUnname a i h sub s = (n : ℕ) × (IsRunner a n × ((i ≡ instance_of n a.base) × ((subtask_at i h a.base ≡ Some sub) × (is_joined (join_of sub s) ≡ false))))
+MayUnname a i h sub s = (n : ℕ) × (IsRunner a n × ((i ≡ instance_of n a.base) × ((subtask_at i h s ≡ Some sub) × (is_joined (join_of sub s) ≡ false))))
 
 -- ---- Works
 
@@ -330,7 +330,7 @@ Allowed a (SetOwnEvent k e) s = MayOwe a k e s
 Allowed a (SetCancelDelivered k) s = MayDeliver a k
 Allowed a (RemoveCall k) s = is_deletable k s ≡ true
 Allowed a (SetCallEvent k e) s = MayTell a k e s
-Allowed a (SetCallJoin k j) s = MayJoin a (subtask.Guest k) j
+Allowed a (SetCallJoin k j) s = MayJoin a (subtask.Guest k) j s
 Allowed a (NameCall i k) s = MayName a i (subtask.Guest k) s
 Allowed a (UnnameCall i h k) s = MayUnname a i h (subtask.Guest k) s
 Allowed a CountWork s = s.made.works ≡ a.base.made.works
@@ -344,7 +344,7 @@ Allowed a (TakeHost m i) s = next_entry s ≡ Some (m, entry.Host i)
 Allowed a (SetPhase i p) s = p ≡ aborted_phase (phase_of i s)
 Allowed a (SetCancelled i) s = IsOwn a (subtask.Host i)
 Allowed a (SetWorkEvent i e) s = MayTellWork a i e s
-Allowed a (SetWorkJoin i j) s = MayJoin a (subtask.Host i) j
+Allowed a (SetWorkJoin i j) s = MayJoin a (subtask.Host i) j s
 Allowed a (NameWork i w) s = MayName a i (subtask.Host w) s
 Allowed a (UnnameWork i h w) s = MayUnname a i h (subtask.Host w) s
 Allowed a (RemoveWork i) s = MayRemoveWork a i s

@@ -24,6 +24,10 @@ use Rattle.task_rules.specs.Step.{Step}
 
 -- ---- Every step
 
+-- each step leads to a core to which the core before it has the relation
+abbrev pub EachStep : (Core → Core → Type 0) → Type 0
+EachStep R = (x : Setting) (s : State) (l : Label) (t : State) → Step x s l t → R s.core t.core
+
 -- no number is given twice: the counts of what was made never fall
 pub record NeverFewer (s t : Core) : Type 0 where
   pub threads : s.made.threads ≤ t.made.threads

@@ -25,6 +25,5 @@ pub mod Scenes
 pub mod OpParts
 pub mod Allowed
 pub mod Chains
-pub mod Keeps
 pub mod Laws
 pub mod Places

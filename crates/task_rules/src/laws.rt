@@ -1,5 +1,4 @@
-ghost use Rattle.task_rules.specs.Keeps.{EachStep};
-ghost use Rattle.task_rules.specs.Laws.{NeverFewer, SameLimits, OutcomeEnds, OverIsLast, RunGoesOn, RunsJoin, KeptByRuns, OutcomeIsLast, CheckMovesOne, PromotionMovesOne, CallbackCheckIsAfter, StopKeepsPlaces, ReleaseKeepsPlaces, WakeKeepsPlaces, RemovalKeepsPlaces, Steady, BlockingCheckIsAfter};
+ghost use Rattle.task_rules.specs.Laws.{EachStep, NeverFewer, SameLimits, OutcomeEnds, OverIsLast, RunGoesOn, RunsJoin, KeptByRuns, OutcomeIsLast, CheckMovesOne, PromotionMovesOne, CallbackCheckIsAfter, StopKeepsPlaces, ReleaseKeepsPlaces, WakeKeepsPlaces, RemovalKeepsPlaces, Steady, BlockingCheckIsAfter};
 
 /// No number is given twice: no step lowers a count of what was made.
 #[tactic(auto, using(crate::proofs::LawLemmas::never_fewer))]
