@@ -5,6 +5,7 @@ pub mod EndLemmas
 pub mod LawLemmas
 pub mod PromotionLemmas
 pub mod ChainLemmas
+pub mod MuteLemmas
 pub mod WalkSteps
 pub mod WalkTakes
 pub mod WalkOps

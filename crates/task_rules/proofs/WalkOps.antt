@@ -42,7 +42,7 @@ use Rattle.task_rules.proofs.CancelLemmas.{CaseSays, case_says}
 use Rattle.task_rules.proofs.PlacingLemmas.{Shifted, placed, placing_shifted, shifted_after, shifted_explicit, shifted_made, shifted_task, shifts_shifted}
 use Rattle.task_rules.proofs.StandLemmas.{by_number, place_kept}
 use Rattle.task_rules.proofs.WalkMoves.{MayTake, call_settled_walks, checked_shifts, chosen_of, group_settled_walks, handed_on_shifts, moved, promoted_unless_shifts, shifted, stopped_shifts, taken_walks, wake_shifts, word}
-use Rattle.task_rules.proofs.WalkTask.{Leads, advanced_walks, answered_walks, assigned_walks, goes_on, goes_over, is_plain, may_leads, or_never_leads, or_trap_leads, running_moved, running_scene, stops_here, trap_if_leads, unnot, goes_on_saying}
+use Rattle.task_rules.proofs.WalkTask.{is_still, Leads, advanced_walks, answered_walks, assigned_walks, goes_on, goes_over, is_plain, may_leads, or_never_leads, or_trap_leads, running_moved, running_scene, stops_here, trap_if_leads, unnot, goes_on_saying}
 use Rattle.task_rules.specs.Allowed.{Blocks, ByHandle, ByOp, BySetHandle, ByThread, ByWait, Cancels, HasSet, HasSubtask, IsNew, IsRunner, IsWithdrawn, Leaves, MayDeliver, MayJoin, MayMakeCall, MayRemoveWork, MayWithdraw, Resumes, Starts, Suspends, Waits, Yields, subtask_under_way, SaysEnd}
 use Rattle.task_rules.specs.Calls.{AtOnce, Failing, FirstPoll, Later, answered, call_answered, call_begins, call_clears_flag, call_host_polled, call_made, call_pending, call_queues, call_resumes, call_returned, call_row, call_status, call_stops, call_sync_begins, call_sync_host_polled, call_sync_host_row, call_sync_host_stops, call_sync_row, call_sync_status, call_sync_stops, enter_row, enter_runs, first_poll, host_answered, host_pending, host_ready, new_call, new_thread, next_thread, next_work, put_back, settle_group_of, status_found, sync_sets_flag, with_thread_handle, work_answered, work_deleted, work_group, work_queued, work_value}
 use Rattle.task_rules.specs.Cancels.{AlreadyEnded, Async, CallbackWaits, CallbackYields, CancelCase, Mode, OtherwiseRuns, StartNotRun, Sync, aborted_phase, behind_switch, blocked_code, cancel_aborts_host, cancel_asks, cancel_by_end, cancel_case, cancel_ended_row, cancel_goes_behind, cancel_guest, cancel_label, cancel_promotes_yield, cancel_resumed, cancel_row, cancel_stops, cancel_subtask, cancel_takes_end, cancel_wakes_callback, cancel_withdraws, drop_row, dropped, is_callback_wait, pauses, subtask_instance, subtask_row}
@@ -110,7 +110,7 @@ freed_named : (i h k : ℕ) (t : Core) → subtask_handle (subtask.Host k) (free
 unfolding free_handle
 freed_named i h k t = refl
 
-join_plain : (n : ℕ) (w : Option ℕ) → is_plain (join_label n w) ≡ true
+join_plain : (n : ℕ) (w : Option ℕ) → is_still (join_label n w) ≡ true
 join_plain n None = refl
 join_plain n (Some w) = refl
 
@@ -492,10 +492,10 @@ module _ (x : Setting) (main : Main) (s : Core) (n : ℕ) (l : Label) (next : Tu
   abbrev a : Scene
   a = running_scene x main s n l next
 
-  go : (k : Label) (t : Core) → is_plain k ≡ true → Walk a s t → Leads a s (Goes k t n)
+  go : (k : Label) (t : Core) → is_still k ≡ true → Walk a s t → Leads a s (Goes k t n)
   go k t plain c = goes_on x main s n l next k t plain c
 
-  stop : (k : Label) (t : Core) → is_plain k ≡ true → (Leaves a n → Walk a s t) → Leads a s (Stops k t)
+  stop : (k : Label) (t : Core) → is_still k ≡ true → (Leaves a n → Walk a s t) → Leads a s (Stops k t)
   stop k t plain c = stops_here x main s n l next k t plain c
 
   -- ---- Sets
@@ -798,12 +798,12 @@ module _ (x : Setting) (main : Main) (s : Core) (n : ℕ) (l : Label) (next : Tu
   halted_checked_walks : (h : Halt) → Leaves a n → Walk a s (halted_checked h n s)
   halted_checked_walks h leave = subst (λ (t : Core). Walk a s t) (sym (halted_checked_is h n s)) (halted_walks h (checked (instance_of n s) s) leave (checked_walks n refl (instance_of n s) NoWord))
 
-  halts_leads : (h : Halt) (k : Label) (b : Bool) → is_plain k ≡ true → Leads a s (halts h n k s b)
+  halts_leads : (h : Halt) (k : Label) (b : Bool) → is_still k ≡ true → Leads a s (halts h n k s b)
   halts_leads h k true plain = stop (pauses n) (halted_checked h n s) refl (λ leave. halted_checked_walks h leave)
   halts_leads Suspension k false plain = tt
   halts_leads Yielding k false plain = go k (advanced n s) plain (advanced_walks n refl NoWord)
 
-  halt_row_leads : (h : Halt) (k : Label) → is_plain k ≡ true → Leads a s (halt_row h n k s)
+  halt_row_leads : (h : Halt) (k : Label) → is_still k ≡ true → Leads a s (halt_row h n k s)
   halt_row_leads h k plain = halts_leads h k (passes_check (instance_of n s) s) plain
 
   resume_later_row_leads : (h : ℕ) → Leads a s (resume_later_row n h s)
@@ -822,20 +822,20 @@ module _ (x : Setting) (main : Main) (s : Core) (n : ℕ) (l : Label) (next : Tu
       or_trap_leads a s (resume_why m s) trap.CannotResumeThread _ (λ w by.
       stop (pauses n) (halted_resuming y n m w s) refl (λ leave. halted_walks y (put_switch m w s) leave (placed (Put mark.Switch m w) (inl (Resumes by)) NoWord)))))
 
-  then_promote_leads : (y : Halt) (k : Label) (m : ℕ) (b : Bool) → is_plain k ≡ true → has_yielded m s ≡ b → Leads a s (then_promote y n k s m b)
+  then_promote_leads : (y : Halt) (k : Label) (m : ℕ) (b : Bool) → is_still k ≡ true → has_yielded m s ≡ b → Leads a s (then_promote y n k s m b)
   unfolding halted_promoting has_yielded
   then_promote_leads y k m true plain at =
       let ready = resumes_ready (place_of m s) (both_true (option_map_or is_ready_to_resume (place_of m s) false) (is_yielded (how_far_of m s)) at) in
       stop (pauses n) (halted_promoting y n m s) refl (λ leave. halted_walks y (promoted_unless m s) leave (shifted (promoted_unless_shifts m s (inr (ready_at (place_of m s) ready))) NoWord))
   then_promote_leads y k m false plain at = halt_row_leads y k plain
 
-  then_promote_row_leads : (y : Halt) (h : ℕ) (k : Label) → is_plain k ≡ true → Leads a s (then_promote_row y n h k s)
+  then_promote_row_leads : (y : Halt) (h : ℕ) (k : Label) → is_still k ≡ true → Leads a s (then_promote_row y n h k s)
   then_promote_row_leads y h k plain =
       or_trap_leads a s (thread_at (instance_of n s) h s) trap.BadHandle _ (λ m named.
       trap_if_leads a s (m == n) trap.CannotResumeThread _ (λ other.
       then_promote_leads y k m (has_yielded m s) plain refl))
 
-  halting_leads : (k : ThreadLabel) (row : Label → Progress) → is_plain (label.Thread k) ≡ true → Leads a s (row (label.Thread k)) → Leads a s (halting n s k row)
+  halting_leads : (k : ThreadLabel) (row : Label → Progress) → is_still (label.Thread k) ≡ true → Leads a s (row (label.Thread k)) → Leads a s (halting n s k row)
   halting_leads k row plain leads = by_far (how_far_of n s)
     where
       by_far : (f : HowFar) → Leads a s (by_how_far f n (label.Thread k) s (row (label.Thread k)))
