@@ -166,15 +166,15 @@ task_cancel_hands c m n None s t = refl
 task_cancel_hands c m n (Some y) s t = refl
 
 -- the call of which an end speaks
-abbrev call_named : Subtask → ℕ
+abbrev pub call_named : Subtask → ℕ
 call_named (subtask.Guest k) = k
 call_named (subtask.Host i) = 0
 
-abbrev call_in : Option SubtaskEnd → ℕ
+abbrev pub call_in : Option SubtaskEnd → ℕ
 call_in o = option_map_or (λ (e : SubtaskEnd). call_named e.subtask) o 0
 
 -- a call that ends is over
-over_now : (k : ℕ) (e : CallEnd) (s : Core) → is_over k (set_end k e s) ≡ true
+pub over_now : (k : ℕ) (e : CallEnd) (s : Core) → is_over k (set_end k e s) ≡ true
 unfolding set_end on_call
 over_now k e s = ap (λ o. option_map_or (λ (c : Call). is_some c.«end») o true) (get-change_same s.calls k (λ (c : Call). record c { «end» = Some e })) ∙ at (get s.calls k)
   where
@@ -488,7 +488,7 @@ module _ (x : Setting) (main : Main) (s : Core) (n : ℕ) (l : Label) (next : Tu
   exit_says_end w t is implicit kind direct u over c = record {
     writes = λ k e says.
     let same = said (task_of n s) status.Returned (exit_says w is implicit (inr kind)) says in
-    subst (λ (j : ℕ). ((has_ended j s ≡ false) ⊎ ((m : ℕ) × (IsRunner a m × ((j ≡ task_of m s) × ((is_explicit m s ≡ false) × ((is_direct (goal_of j s) ≡ true) ⊎ (is_async_lifted (kind_of j s) ≡ false))))))) × ((v : Core) × ((is_over j v ≡ true) × Walk a v t))) same.0 (inr (n, (refl, (refl, (implicit, inr kind)))), (u, (over, c)));
+    inr (subst (λ (j : ℕ). ((has_ended j s ≡ false) ⊎ ((m : ℕ) × (IsRunner a m × ((j ≡ task_of m s) × ((is_explicit m s ≡ false) × ((is_direct (goal_of j s) ≡ true) ⊎ (is_async_lifted (kind_of j s) ≡ false))))))) × ((v : Core) × ((is_over j v ≡ true) × Walk a v t))) same.0 (inr (n, (refl, (refl, (implicit, inr kind)))), (u, (over, c))));
     hands = λ k e out. none_is_some (end_for e (subtask.Guest k)) (sym (ap (λ (y : Label). handed_by x.component main s y t) is ∙ none_out w) ∙ out);
   }
     where
@@ -546,8 +546,8 @@ module _ (x : Setting) (main : Main) (s : Core) (n : ℕ) (l : Label) (next : Tu
       (λ at. record {
         writes = λ j e says.
         let same = said k status.Returned (exit_says None at implicit (inl direct)) says in
-        subst (λ (i : ℕ). ((has_ended i s ≡ false) ⊎ ((o : ℕ) × (IsRunner a o × ((i ≡ task_of o s) × ((is_explicit o s ≡ false) × ((is_direct (goal_of i s) ≡ true) ⊎ (is_async_lifted (kind_of i s) ≡ false))))))) × ((u : Core) × ((is_over i u ≡ true) × Walk a u (direct_exits n m v t)))) same.0
-        (inr (n, (refl, (refl, (implicit, inl direct)))), (set_end (task_of n t) call_end.Returned t, (subst (λ (i : ℕ). is_over k (set_end i call_end.Returned t) ≡ true) (sym task) (over_now k call_end.Returned t), direct_exits_rest n refl m v t over (under_place n m s under) NoWord)));
+        inr (subst (λ (i : ℕ). ((has_ended i s ≡ false) ⊎ ((o : ℕ) × (IsRunner a o × ((i ≡ task_of o s) × ((is_explicit o s ≡ false) × ((is_direct (goal_of i s) ≡ true) ⊎ (is_async_lifted (kind_of i s) ≡ false))))))) × ((u : Core) × ((is_over i u ≡ true) × Walk a u (direct_exits n m v t)))) same.0
+        (inr (n, (refl, (refl, (implicit, inl direct)))), (set_end (task_of n t) call_end.Returned t, (subst (λ (i : ℕ). is_over k (set_end i call_end.Returned t) ≡ true) (sym task) (over_now k call_end.Returned t), direct_exits_rest n refl m v t over (under_place n m s under) NoWord))));
         hands = λ j e out.
         let both = sym (ap (λ (y : Label). handed_by x.component main s y (direct_exits n m v t)) at ∙ ap (λ b. if b then task_end n status.Returned s else None) (ap₂ (λ (f g : Bool). not f && g) implicit direct)) ∙ out in
         let same : k ≡ j = ap (λ (o : Option SubtaskEnd). call_in o) both in
@@ -616,7 +616,7 @@ module _ (x : Setting) (main : Main) (s : Core) (n : ℕ) (l : Label) (next : Tu
   task_says f t is hands unended u over c = record {
     writes = λ k e says.
     let same = said (task_of n s) f is says in
-    (inl (subst (λ (j : ℕ). has_ended j s ≡ false) same.0 unended), (u, (subst (λ (j : ℕ). is_over j u ≡ true) same.0 over, c)));
+    inr (inl (subst (λ (j : ℕ). has_ended j s ≡ false) same.0 unended), (u, (subst (λ (j : ℕ). is_over j u ≡ true) same.0 over, c)));
     hands = hands;
   }
 

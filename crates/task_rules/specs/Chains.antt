@@ -65,8 +65,8 @@ pub data HandsOut (a : Scene) (t : Core) (k : ℕ) (e : Status) : Type 0 where
 
 -- What the label of a step says of the ends of calls.
 pub record EndWords (a : Scene) (t : Core) : Type 0 where
-  -- where it is written, the call had none, unless it exits, and has it on the way
-  pub writes : (k : ℕ) (e : Status) → SaysEnd a k e → ((has_ended k a.base ≡ false) ⊎ ((n : ℕ) × (IsRunner a n × ((k ≡ task_of n a.base) × ((is_explicit n a.base ≡ false) × ((is_direct (goal_of k a.base) ≡ true) ⊎ (is_async_lifted (kind_of k a.base) ≡ false))))))) × ((u : Core) × ((is_over k u ≡ true) × Walk a u t))
+  -- where it is written, the call had none, unless it exits, and has it on the way; or the event of a withdrawn start was there, which never is
+  pub writes : (k : ℕ) (e : Status) → SaysEnd a k e → (undelivered_end (event_of (subtask.Guest k) a.base) ≡ Some status.StartCancelled) ⊎ (((has_ended k a.base ≡ false) ⊎ ((n : ℕ) × (IsRunner a n × ((k ≡ task_of n a.base) × ((is_explicit n a.base ≡ false) × ((is_direct (goal_of k a.base) ≡ true) ⊎ (is_async_lifted (kind_of k a.base) ≡ false))))))) × ((u : Core) × ((is_over k u ≡ true) × Walk a u t)))
   pub hands : (k : ℕ) (e : Status) → handed_by (component_of a) a.main a.base a.label t ≡ Some (end_for e (subtask.Guest k)) → HandsOut a t k e
 
 -- What the last words of a step leave.
