@@ -1,7 +1,7 @@
 -- Labels that say nothing of the end of a call.
 use Rattle.std.proofs.Common.{T, ap, refl, subst, sym, ◌∙◌}
 use Rattle.std.specs.Option.{option_map_or}
-use Rattle.std.specs.Prelude.{Bool, None, Option, Some, false, if◌then◌else◌, is_none, not, option_and_then, option_map, true, ℕ, ◌&&◌, ◌==◌, ◌≡◌}
+use Rattle.std.specs.Prelude.{Bool, None, Option, Some, false, if◌then◌else◌, is_none, not, option_and_then, option_map, true, ℕ, ◌==◌, ◌≡◌}
 use Rattle.task_machine.specs.declared.component.Component.{Component}
 use Rattle.task_machine.specs.declared.label.CallLabel.{CallLabel}
 use Rattle.task_machine.specs.declared.label.CallLabel.TheVariants as call_label

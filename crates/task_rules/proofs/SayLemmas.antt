@@ -1,16 +1,24 @@
 -- What labels say of the ends of calls: the events that are taken.
+use Rattle.std.proofs.Common.{cond}
+use Rattle.std.specs.Cmp.{unsigned_tied}
+use Rattle.std.specs.FinMap.Entries.{find as seek}
+use Rattle.std.specs.Option.{option_or}
+use Rattle.std.specs.Ordering.{eq_by_cmp, nat_cmp}
+use Rattle.std.specs.Prelude.{List, [], find, map, ◌∷◌}
+use Rattle.task_machine.specs.Maps.{Records, get-remove, numbers, remove}
+use Rattle.task_machine.specs.Write.{take_result}
+use Rattle.task_rules.specs.SubtaskEnds.{finished_call, has_result}
 use Rattle.task_machine.proofs.MapLemmas.{change-field}
 use Rattle.task_machine.specs.declared.records.Join.{Join}
 use Rattle.task_machine.specs.Maps.{change}
 use Rattle.task_machine.specs.Write.{set_join, set_own_event}
 use Rattle.std.proofs.Common.{T, ap, arith, eqb→eq, refl, subst, sym, ◌∙◌}
 use Rattle.std.specs.Option.{option_map_or}
-use Rattle.std.specs.Prelude.{Bool, None, Option, Some, false, if◌then◌else◌, is_none, not, option_and_then, option_map, true, unwrap_or, ℕ, ◌&&◌, ◌*◌, ◌+◌, ◌==◌, ◌≡◌}
+use Rattle.std.specs.Prelude.{Bool, None, Option, Some, false, if◌then◌else◌, is_none, not, option_and_then, option_map, true, unwrap_or, ℕ, ◌&&◌, ◌==◌, ◌≡◌}
 use Rattle.task_machine.specs.declared.records.Call.{Call}
 use Rattle.task_machine.specs.declared.records.Subtask.{Subtask}
 use Rattle.task_machine.specs.declared.records.Subtask.TheVariants as subtask
 use Rattle.task_machine.specs.declared.words.Given.{Given}
-use Rattle.task_machine.specs.declared.words.Given.TheVariants as given
 use Rattle.task_machine.specs.declared.words.OwnEvent.{OwnEvent}
 use Rattle.task_machine.specs.declared.words.OwnEvent.TheVariants as own
 use Rattle.task_machine.specs.declared.words.Status.{Status}
@@ -20,10 +28,10 @@ use Rattle.task_machine.specs.Core.{Core}
 use Rattle.task_machine.specs.Labels.{Choice}
 use Rattle.task_machine.specs.Maps.{get}
 use Rattle.task_machine.specs.Moves.{Gift, MemberGift, NoGift, OwnGift, call_settled, gift, gift_after_own, given_for, group_settled, handed_on, is_deletable, is_group_done, member_gift, taken}
-use Rattle.task_machine.specs.Read.{call_group, event_of, has_ready_member, instance_of, is_ready_member, subtask_at, task_of, undelivered_end}
+use Rattle.task_machine.specs.Read.{call_group, event_of, has_ready_member, instance_of, is_ready_member, subtask_at, undelivered_end}
 use Rattle.task_machine.specs.Statuses.{packed, status_code}
-use Rattle.task_machine.specs.Write.{on_call, on_instance, on_thread, remove_call, remove_group, set_do_not_enter, set_do_not_suspend, set_event, set_how_far, set_place, set_position, set_register, set_result, set_saved_callee, set_script}
-use Rattle.task_rules.specs.Calls.{answered, call_answered, call_resumes, call_returned, put_back}
+use Rattle.task_machine.specs.Write.{on_call, on_instance, on_thread, remove_call, remove_group, set_do_not_enter, set_event, set_how_far, set_place, set_position, set_register, set_result, set_saved_callee, set_script}
+use Rattle.task_rules.specs.Calls.{answered, call_answered, call_resumes, call_returned}
 use Rattle.task_rules.specs.Cancels.{cancel_takes_end}
 use Rattle.task_rules.specs.Data.{advanced, assigned, moved_to}
 use Rattle.task_rules.specs.Sets.{chosen, handed_out, received, received_woken, set_given}
@@ -214,3 +222,67 @@ received_woken_gone n y r k v s = received_gone n r k v s
 pub activated_on_gone : (n y k : ℕ) (w : Option ℕ) (v : Given) (s : Core) → undelivered_end (event_of (subtask.Guest k) (activated n (MemberGift (subtask.Guest k)) v (handed_on y (MemberGift (subtask.Guest k)) w s))) ≡ None
 unfolding handed_on
 activated_on_gone n y k w v s = activated_gone n k v s
+
+-- ---- What main finishes
+
+pub result_taken : (n : ℕ) (s : Core) → get (take_result n s).results n ≡ None
+unfolding take_result
+result_taken n s = get-remove_same s.results n
+
+found_passes : (test : ℕ → Bool) (ns : List ℕ) (m : ℕ) → find test ns ≡ Some m → test m ≡ true
+found_passes test [] m h = untrue (ap (λ (o : Option ℕ). not (is_none o)) h)
+found_passes test (n ∷ ns) m h = go (test n) refl h (found_passes test ns m)
+  where
+    go : (b : Bool) → test n ≡ b → cond b (Some n) (find test ns) ≡ Some m → (find test ns ≡ Some m → test m ≡ true) → test m ≡ true
+    go true is g rest = ap (λ o. test (unwrap_or o n)) (sym g) ∙ is
+    go false is g rest = rest g
+
+found_none : (test : ℕ → Bool) (q v : ℕ) (es : List (ℕ × ℕ)) → seek nat_cmp q es ≡ Some v → test q ≡ true → find test (map (λ e. e.0) es) ≡ None → ⊥
+found_none test q v [] h on none = untrue (ap (λ (o : Option ℕ). not (is_none o)) h)
+found_none test q v (e ∷ es) h on none = go (eq_by_cmp nat_cmp q e.0) refl (test e.0) refl h none (found_none test q v es)
+  where
+    go : (b : Bool) → eq_by_cmp nat_cmp q e.0 ≡ b → (c : Bool) → test e.0 ≡ c → cond b (Some e.1) (seek nat_cmp q es) ≡ Some v → cond c (Some e.0) (find test (map (λ d. d.0) es)) ≡ None → (seek nat_cmp q es ≡ Some v → test q ≡ true → find test (map (λ d. d.0) es) ≡ None → ⊥) → ⊥
+    go b same true is g stays rest = untrue (ap (λ (o : Option ℕ). is_none o) stays)
+    go false same false is g stays rest = rest g on stays
+    go true same false is g stays rest = untrue (sym is ∙ (ap test (sym (eqb→eq q e.0 (subst T (sym same ∙ unsigned_tied q e.0) tt))) ∙ on))
+
+gone_one : (m : Records ℕ) (n k v : ℕ) → option_map_or (λ w. w == v) (get m k) false ≡ true → is_none (get (remove m n) k) ≡ true → n ≡ k
+gone_one m n k v there gone = go (k == n) refl (get m k) there (sym (ap (λ (o : Option ℕ). is_none o) (get-remove m n k)) ∙ gone)
+  where
+    go : (b : Bool) → (k == n) ≡ b → (o : Option ℕ) → option_map_or (λ w. w == v) o false ≡ true → is_none (cond b None o) ≡ true → n ≡ k
+    go true same o h g = sym (eqb→eq k n (subst T (sym same) tt))
+    go false same (Some w) h g = untrue g
+    go false same None h g = untrue h
+
+-- the call whose result is taken is the one that is found
+pub finished_is : (n v : ℕ) (s : Core) → get s.results n ≡ Some v → (j : ℕ) → finished_call v s (take_result n s) ≡ Some j → n ≡ j
+unfolding take_result numbers get
+finished_is n v s there j found = go (find test (numbers s.results)) refl found
+  where
+    test : ℕ → Bool
+    test k = has_result v s k && is_none (get (remove s.results n) k)
+
+    both : (a b : Bool) → (a && b) ≡ true → (a ≡ true) × (b ≡ true)
+    both true b h = (refl, h)
+    both false b h = untrue h
+
+    both_true : (a b : Bool) → a ≡ true → b ≡ true → (a && b) ≡ true
+    both_true true b h k = k
+    both_true false b h k = untrue h
+
+    here : (o : Option ℕ) → o ≡ Some v → test n ≡ true
+    here o is = both_true (has_result v s n) (is_none (get (remove s.results n) n)) (ap (λ p. option_map_or (λ w. w == v) p false) there ∙ grind arith) (ap (λ (p : Option ℕ). is_none p) (get-remove_same s.results n))
+
+    go : (o : Option ℕ) → find test (numbers s.results) ≡ o → option_or o (find (has_result v s) (numbers s.results)) ≡ Some j → n ≡ j
+    go (Some k) is h =
+        let r = both (has_result v s k) (is_none (get (remove s.results n) k)) (found_passes test (numbers s.results) k is) in
+        gone_one s.results n k v r.0 r.1 ∙ ap (λ (o : Option ℕ). unwrap_or o k) h
+    go None is h = absurd (found_none test n v s.results.list there (here (get s.results n) there) is)
+
+pub mapped : (o : Option ℕ) (j : ℕ) (e : Status) → option_map (λ (n : ℕ). end_for status.Returned (subtask.Guest n)) o ≡ Some (end_for e (subtask.Guest j)) → (o ≡ Some j) × (status.Returned ≡ e)
+mapped None j e h = none_said (end_for e (subtask.Guest j)) h
+mapped (Some n) j e h = let r = some_subtask status.Returned e (subtask.Guest n) j h in (ap (λ (d : Subtask). number_of d) r.0, r.1)
+  where
+    number_of : Subtask → Option ℕ
+    number_of (subtask.Guest k) = Some k
+    number_of (subtask.Host i) = None

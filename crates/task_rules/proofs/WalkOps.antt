@@ -14,7 +14,7 @@ use Rattle.std.specs.Option.{option_map_or}
 use Rattle.std.specs.Prelude.{Bool, List, None, Option, Some, [], false, if◌then◌else◌, is_none, is_some, not, option_and_then, option_map, true, unwrap_or, zero, ℕ, ◌&&◌, ◌+◌, ◌==◌, ◌∷◌, ◌≡◌}
 use Rattle.task_machine.proofs.MapLemmas.{change-field, get-change_same, get-insert_same, get-remove_same}
 use Rattle.task_machine.specs.Core.{Core, Main}
-use Rattle.task_machine.specs.Labels.{Choice, join_label, wait_label, ret_label}
+use Rattle.task_machine.specs.Labels.{Choice, join_label, wait_label}
 use Rattle.task_machine.specs.Maps.{Records, change, get}
 use Rattle.task_machine.specs.Moves.{Gift, MemberGift, NoGift, OwnGift, behind_one, checked, ended, gift, gift_after_own, handed_on, has_entry, less, less_switch, may_hand_on, member_gift, own_gift, passes_check, promoted_unless, put_switch, stopped, unqueued, withdrawn}
 use Rattle.task_machine.specs.Read.{at_handle_limit, call_instance, event_of, fits, foot_of, goal_of, has_ended, has_member, has_ready_member, has_waiters, how_far_of, instance_of, is_async_lifted, is_at, is_callback_yield, is_direct, is_explicit, is_joined, is_ready_member, is_ready_to_resume, is_waiting_on, is_watched, is_yielded, join_of, may_not_suspend, new_handle, new_thread_handle, own_event_of, phase_of, place_of, registers_of, result_of, saved_callee_of, set_at, subtask_at, subtask_ended, subtask_handle, task_of, thread_at, thread_group, thread_handle_of, undelivered_end, was_cancelled, was_started}

@@ -1,4 +1,5 @@
 -- The takings of entries as chains of words.
+use Rattle.task_machine.specs.declared.words.OwnEvent.TheVariants as own
 use Rattle.task_rules.proofs.MuteLemmas.{is_mute, mute_words}
 use Rattle.task_rules.proofs.SayLemmas.{activated_on_gone, given_says}
 use Rattle.task_rules.specs.Chains.{EndWords, HandsOut, TakesEvent}
