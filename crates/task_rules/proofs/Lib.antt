@@ -5,6 +5,8 @@ pub mod KeepLaws
 pub mod LawLemmas
 pub mod PromotionLemmas
 pub mod ChainLemmas
+pub mod MuteLemmas
+pub mod SayLemmas
 pub mod WalkSteps
 pub mod WalkTakes
 pub mod WalkOps

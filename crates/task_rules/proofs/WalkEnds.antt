@@ -113,23 +113,30 @@ module _ {a : Scene} {b : Core} where
   result_given_walks goal.Nowhere f k v says c = c
   result_given_walks goal.Direct f k v says c = c
 
-  pub returned_walks : (k v : ℕ) (w : Option ℕ) {s : Core} → MayEnd a k call_end.Returned s → SaysEnd a k status.Returned → ToldTo k w s → Walk a b s → Walk a b (returned k v w s)
+  -- after the end is written
+  pub returned_rest : (k v : ℕ) (w : Option ℕ) (s : Core) → SaysEnd a k status.Returned → ToldTo k w s → Walk a b (set_end k call_end.Returned s) → Walk a b (returned k v w s)
   unfolding returned
-  returned_walks k v w {s = s} ok says to c =
+  returned_rest k v w s says to c =
       let m = set_end k call_end.Returned s in
       let t = result_given (goal_of k s) (caller_of k s) k v m in
       let same : option_map unresulted (get t.calls k) ≡ option_map unresulted (get m.calls k) = result_resulted (goal_of k s) (caller_of k s) k v m in
       told_walks k status.Returned w (λ told. told_ends k call_end.Returned s t same told) (λ e. says)
       (still_told_to k s t (unanswer (get t.calls k) (get m.calls k) same ∙ end_same k call_end.Returned s) w (λ x chosen n is. ap (λ p. option_map_or (is_waiting_on x) p false) (places n) ∙ chosen n is) to)
-      (result_given_walks (goal_of k s) (caller_of k s) k v says (word (SetEnd k call_end.Returned) (ok, says) c))
+      (result_given_walks (goal_of k s) (caller_of k s) k v says c)
     where
       places : (n : ℕ) → place_of n (result_given (goal_of k s) (caller_of k s) k v (set_end k call_end.Returned s)) ≡ place_of n s
       places n = result_places (goal_of k s) (caller_of k s) k v (set_end k call_end.Returned s) n ∙ end_places k call_end.Returned s n
 
-  pub cancelled_walks : (k : ℕ) (w : Option ℕ) {s : Core} → MayEnd a k call_end.ReturnCancelled s → SaysEnd a k status.ReturnCancelled → ToldTo k w s → Walk a b s → Walk a b (cancelled k w s)
+  pub returned_walks : (k v : ℕ) (w : Option ℕ) {s : Core} → MayEnd a k call_end.Returned s → SaysEnd a k status.Returned → ToldTo k w s → Walk a b s → Walk a b (returned k v w s)
+  returned_walks k v w {s = s} ok says to c = returned_rest k v w s says to (word (SetEnd k call_end.Returned) (ok, says) c)
+
+  pub cancelled_rest : (k : ℕ) (w : Option ℕ) (s : Core) → SaysEnd a k status.ReturnCancelled → ToldTo k w s → Walk a b (set_end k call_end.ReturnCancelled s) → Walk a b (cancelled k w s)
   unfolding cancelled
-  cancelled_walks k w {s = s} ok says to c =
+  cancelled_rest k w s says to c =
       let t = set_end k call_end.ReturnCancelled s in
       told_walks k status.ReturnCancelled w (λ told. told_ends k call_end.ReturnCancelled s t refl told) (λ e. says)
       (still_told_to k s t (end_same k call_end.ReturnCancelled s) w (λ x chosen n is. ap (λ p. option_map_or (is_waiting_on x) p false) (end_places k call_end.ReturnCancelled s n) ∙ chosen n is) to)
-      (word (SetEnd k call_end.ReturnCancelled) (ok, says) c)
+      c
+
+  pub cancelled_walks : (k : ℕ) (w : Option ℕ) {s : Core} → MayEnd a k call_end.ReturnCancelled s → SaysEnd a k status.ReturnCancelled → ToldTo k w s → Walk a b s → Walk a b (cancelled k w s)
+  cancelled_walks k w {s = s} ok says to c = cancelled_rest k w s says to (word (SetEnd k call_end.ReturnCancelled) (ok, says) c)
