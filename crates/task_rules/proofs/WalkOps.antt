@@ -42,7 +42,7 @@ use Rattle.task_rules.proofs.StandLemmas.{by_number}
 use Rattle.task_rules.proofs.WalkMoves.{MayTake, call_settled_walks, checked_shifts, chosen_of, handed_on_shifts, moved, promoted_unless_shifts, shifted, wake_shifts, word}
 use Rattle.task_rules.proofs.WalkParts.{call_queues_walks, call_resumes_walks, call_stops_walks, cancel_goes_behind_walks, cancel_plain, cancel_stops_walks, cancel_takes_end_walks, checked_walks, enter_gives, enter_runs_walks, freed_named, gift_is, join_plain, join_walks, put_back_walks, received_walks, set_none_join, stopped_walks, wait_plain, wait_stops_walks, withdrawn_walks, work_deleted_walks, work_unnamed, withdraws}
 use Rattle.task_rules.proofs.WalkTask.{Leads, advanced_walks, answered_walks, assigned_walks, goes_on, goes_on_saying, goes_over, may_leads, or_never_leads, or_trap_leads, running_scene, stops_here, trap_if_leads, unnot, is_still, over_now, call_in, call_named, none_is_some}
-use Rattle.task_rules.specs.Allowed.{ByHandle, ByOp, BySetHandle, ByThread, ByWait, Cancels, HasSubtask, Leaves, MayJoin, MayMakeCall, Resumes, Suspends, Yields, subtask_under_way}
+use Rattle.task_rules.specs.Allowed.{ByHandle, ByOp, BySetHandle, ByThread, ByWait, Cancels, HasSubtask, Leaves, MayJoin, MayMakeCall, Resumes, Suspends, Yields, subtask_under_way, is_for_main}
 use Rattle.task_rules.specs.Calls.{AtOnce, Failing, FirstPoll, Later, answered, call_answered, call_begins, call_host_polled, call_pending, call_queues, call_resumes, call_returned, call_row, call_status, call_sync_begins, call_sync_host_polled, call_sync_host_row, call_sync_host_stops, call_sync_row, call_sync_status, call_sync_stops, enter_row, enter_runs, first_poll, host_answered, host_pending, host_ready, new_thread, next_thread, next_work, status_found, work_answered, work_queued, work_value, put_back}
 use Rattle.task_rules.specs.Cancels.{AlreadyEnded, Async, CallbackWaits, CallbackYields, CancelCase, Mode, OtherwiseRuns, StartNotRun, Sync, aborted_phase, blocked_code, cancel_aborts_host, cancel_asks, cancel_by_end, cancel_case, cancel_ended_row, cancel_guest, cancel_label, cancel_promotes_yield, cancel_resumed, cancel_row, cancel_stops, cancel_subtask, cancel_takes_end, cancel_wakes_callback, cancel_withdraws, drop_row, dropped, is_callback_wait, pauses, subtask_instance, subtask_row}
 use Rattle.task_rules.specs.Chains.{NoWord, Shifts, Walk}
@@ -307,16 +307,16 @@ module _ (x : Setting) (main : Main) (s : Core) (n : ℕ) (l : Label) (next : Tu
   -- ---- Calls
 
   -- what its op calls
-  makes_call : (e : Callee) (g : Goal) → callee_of_op (op_in a n) ≡ Some e → (is_direct g ≡ true → is_async_lifted (export_kind x.component e) ≡ false) → MayMakeCall a (caller.Thread n) e (export_kind x.component e) g (thread_group n s) s
-  makes_call e g callee lifted = (ByThread n refl callee refl refl, (refl, (refl, lifted)))
+  makes_call : (e : Callee) (g : Goal) → callee_of_op (op_in a n) ≡ Some e → (is_direct g ≡ true → is_async_lifted (export_kind x.component e) ≡ false) → is_for_main g ≡ false → MayMakeCall a (caller.Thread n) e (export_kind x.component e) g (thread_group n s) s
+  makes_call e g callee lifted other = (ByThread n refl callee refl refl, (refl, (refl, (lifted, other))))
 
   no_direct : {A : Type 0} → false ≡ true → A
   no_direct e = absurd (subst T (sym e) tt)
 
-  call_begins_leads : (e : Callee) (g : Goal) (words : List ℕ) → callee_of_op (op_in a n) ≡ Some e → is_direct g ≡ false → Leads a s (call_begins x.component n e g words s)
-  call_begins_leads e g words callee plain =
+  call_begins_leads : (e : Callee) (g : Goal) (words : List ℕ) → callee_of_op (op_in a n) ≡ Some e → is_direct g ≡ false → is_for_main g ≡ false → Leads a s (call_begins x.component n e g words s)
+  call_begins_leads e g words callee plain other =
       trap_if_leads a s (not (fits 3 s)) trap.TableFull _ (λ f.
-      stop _ (call_queues n e (export_kind x.component e) g words s) refl (λ leave. call_queues_walks n refl e (export_kind x.component e) g words leave (makes_call e g callee (λ d. no_direct (sym plain ∙ d))) plain))
+      stop _ (call_queues n e (export_kind x.component e) g words s) refl (λ leave. call_queues_walks n refl e (export_kind x.component e) g words leave (makes_call e g callee (λ d. no_direct (sym plain ∙ d)) other) plain))
 
   by_call : (sub : Subtask) → how_far_of n s ≡ how_far.Calls sub → HasSubtask a n sub
   by_call sub far = ByOp (ap (λ h. subtask_under_way h) far)
@@ -348,7 +348,7 @@ module _ (x : Setting) (main : Main) (s : Core) (n : ℕ) (l : Label) (next : Tu
 
   call_row_leads : (r q : ℕ) (e : Callee) (words : List ℕ) (f : HowFar) → callee_of_op (op_in a n) ≡ Some e → how_far_of n s ≡ f → Leads a s (call_row x.component n r q e words s f)
   call_row_leads r q e words (how_far.Calls (subtask.Guest k)) callee far = call_status_leads r k (status_found k s) far refl (by_call (subtask.Guest k) far)
-  call_row_leads r q e words _ callee far = call_begins_leads e (goal.Register q) words callee refl
+  call_row_leads r q e words _ callee far = call_begins_leads e (goal.Register q) words callee refl refl
 
   call_sync_pauses : (k : ℕ) → HasSubtask a n (subtask.Guest k) → Leads a s (trap_if (not (passes_check (instance_of n s) (call_resumes n k s))) trap.CannotBlockSyncTask (Stops (label.Thread (thread_label.Pauses n)) (call_sync_stops n k s)))
   unfolding call_sync_stops
@@ -373,7 +373,7 @@ module _ (x : Setting) (main : Main) (s : Core) (n : ℕ) (l : Label) (next : Tu
       trap_if_leads a s (at_handle_limit s) trap.HandleLimit _ (λ g.
       goes_over x main s n l next (label.Call (call_label.Enters n (next_thread s))) (next_thread s) (enter_runs n e (export_kind x.component e) words s) refl (λ h. no_direct h) (by_number (next_thread s) n _ (λ h. inl (ap (λ (i : ℕ). turn.Run i) (sym h))) (λ h. inr (enter_gives n e (export_kind x.component e) words s h)))
       (λ is. mute_words a _ (ap is_mute is))
-      (λ is to. enter_runs_walks n refl e (export_kind x.component e) words to (makes_call e goal.Direct callee (λ d. lifted)))))
+      (λ is to. enter_runs_walks n refl e (export_kind x.component e) words to (makes_call e goal.Direct callee (λ d. lifted) refl))))
 
   call_sync_row_leads : (r : ℕ) (e : Callee) (words : List ℕ) (f : HowFar) → callee_of_op (op_in a n) ≡ Some e → how_far_of n s ≡ f → Leads a s (call_sync_row x.component n r e words s f)
   call_sync_row_leads r e words (how_far.Answered v) callee far =
@@ -384,7 +384,7 @@ module _ (x : Setting) (main : Main) (s : Core) (n : ℕ) (l : Label) (next : Tu
   call_sync_row_leads r e words _ callee far = by_lift (is_async_lifted (export_kind x.component e)) refl
     where
       by_lift : (b : Bool) → is_async_lifted (export_kind x.component e) ≡ b → Leads a s (call_sync_begins x.component n e words s b)
-      by_lift true at = call_begins_leads e goal.Answer words callee refl
+      by_lift true at = call_begins_leads e goal.Answer words callee refl refl
       by_lift false at = enter_row_leads e words callee at
 
   -- ---- Calls of a host
