@@ -16,3 +16,4 @@ pub mod CallsSteps
 pub mod OneHolder
 pub mod WrittenLemmas
 pub mod OnceLemmas
+pub mod CallEnds
