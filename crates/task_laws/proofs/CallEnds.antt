@@ -1,14 +1,25 @@
 -- What calls tell of their ends along the words of a step, and the results that are there for main.
+use Rattle.task_rules.specs.Scripts.{op_of, script_of}
+use Rattle.task_rules.specs.Run.{Run, opening}
+use Rattle.task_rules.specs.Once.{is_other}
+use Rattle.task_machine.specs.declared.records.Subtask.{Subtask}
+use Rattle.task_machine.specs.declared.label.CallLabel.{CallLabel}
+use Rattle.task_machine.specs.declared.label.TaskLabel.{TaskLabel}
+use Rattle.task_machine.specs.declared.label.LoopLabel.{LoopLabel}
+use Rattle.task_machine.specs.declared.component.Component.{Component}
+use Rattle.task_machine.specs.Statuses.{status_code}
+use Rattle.task_laws.specs.Written.{EndsToldAsRecorded, NewEndsAreSaid, NewResultsAreSaid, NoEndIsCovered}
+use Rattle.task_laws.specs.Rises.{CallsRise, Rises}
 use Rattle.std.proofs.Common.{ap, cond, inl, inr, le_trans, refl, subst, sym, ◌∙◌}
 use Rattle.std.specs.Option.{option_map_or}
-use Rattle.std.specs.Prelude.{Bool, None, Option, Some, false, if◌then◌else◌, is_some, not, option_and_then, option_map, true, unwrap_or, ℕ, ◌&&◌, ◌+◌, ◌==◌, ◌≡◌, ◌≤◌, ◌⊎◌}
-use Rattle.task_laws.proofs.Basics.{no_way, too_high, true_is_not_false}
+use Rattle.std.specs.Prelude.{Bool, None, Option, Some, false, if◌then◌else◌, is_some, not, option_and_then, option_map, true, unwrap_or, ℕ, ◌&&◌, ◌+◌, ◌==◌, ◌≡◌, ◌≤◌, ◌⊎◌, List, [], ◌∷◌}
+use Rattle.task_laws.proofs.Basics.{no_way, too_high, true_is_not_false, same_number}
 use Rattle.task_laws.proofs.CallsLaw.{CallsGo, CallsHold, Goes}
-use Rattle.task_laws.proofs.CallsSteps.{calls_begin, of_base, word_goes}
+use Rattle.task_laws.proofs.CallsSteps.{calls_begin, of_base, word_goes, opening_holds, reached_holds, step_goes}
 use Rattle.task_laws.proofs.CountLemmas.{made_threads_word}
-use Rattle.task_laws.specs.Settings.{CodesInCallbacks}
+use Rattle.task_laws.specs.Settings.{CodesInCallbacks, Reached}
 use Rattle.task_machine.proofs.MapLemmas.{change-field, get-change_other, get-change_same}
-use Rattle.task_machine.specs.Core.{Core, State, fresh}
+use Rattle.task_machine.specs.Core.{Core, State, fresh, Queues}
 use Rattle.task_machine.specs.Maps.{change, get, get-empty, get-insert, get-remove, insert, remove}
 use Rattle.task_machine.specs.Read.{end_of, event_of, goal_of, is_direct, is_end, is_guest_call, new_handle, undelivered_end}
 use Rattle.task_machine.specs.Write.{add_call, add_group, add_set, add_thread, add_work, count_work, free_handle, free_thread_handle, give_handle, give_result, give_thread_handle, on_call, on_instance, on_thread, on_work, push_high, remove_call, remove_group, remove_set, remove_thread, remove_work, set_backpressure, set_cancel_delivered, set_cancelled, set_course, set_do_not_enter, set_do_not_suspend, set_end, set_event, set_exited, set_how_far, set_join, set_own_event, set_phase, set_position, set_register, set_result, set_saved_callee, set_saved_own, set_script, set_stage, set_started, set_starting_published, set_subtask_handle, set_thread_handle, set_trapped, set_uninteresting, set_word, take_result}
@@ -17,6 +28,7 @@ use Rattle.task_machine.specs.declared.records.Call.{Call}
 use Rattle.task_machine.specs.declared.records.CallEnd.{CallEnd}
 use Rattle.task_machine.specs.declared.records.Caller.{Caller}
 use Rattle.task_machine.specs.declared.records.Goal.{Goal}
+use Rattle.task_machine.specs.declared.records.Turn.{Turn}
 use Rattle.task_machine.specs.declared.words.Status.{Status}
 use Rattle.task_rules.proofs.ChainLemmas.{along}
 use Rattle.task_rules.proofs.StandLemmas.{is_eq_of, not_eq}
@@ -26,12 +38,14 @@ use Rattle.task_rules.specs.Calls.{call_made, new_call, next_thread, with_handle
 use Rattle.task_rules.specs.Chains.{Walked}
 use Rattle.task_rules.specs.Ends.{is_told}
 use Rattle.task_rules.specs.Laws.{LaterBy}
-use Rattle.task_rules.specs.Scenes.{Scene, component_of, scene_of}
+use Rattle.task_rules.specs.Scenes.{Scene, base_at, component_of, scene_of}
 use Rattle.task_rules.specs.Stalled.{Setting}
 use Rattle.task_rules.specs.Step.{Step}
-use Rattle.task_rules.specs.SubtaskEnds.{SubtaskEnd}
+use Rattle.task_rules.specs.SubtaskEnds.{SubtaskEnd, end_for, written_by, written_by_call, written_by_loop, written_by_task}
 use Rattle.task_rules.specs.Words.{GiveResult, MakeCall, NameCall, RemoveCall, SetCallEvent, SetCallJoin, SetCancelDelivered, SetEnd, SetExited, SetOwnEvent, SetResult, SetStarted, SetStartingPublished, SetUninteresting, TakeResult, UnnameCall, Word, after_word}
 use Rattle.task_rules.specs.Works.{poll_pends}
+use Rattle.task_machine.specs.declared.label.Label.TheVariants as label
+use Rattle.task_machine.specs.declared.label.LoopLabel.TheVariants as loop_label
 use Rattle.task_machine.specs.declared.records.CallEnd.TheVariants as call_end
 use Rattle.task_machine.specs.declared.records.Caller.TheVariants as caller
 use Rattle.task_machine.specs.declared.records.Goal.TheVariants as goal
@@ -305,8 +319,8 @@ module _ (a : Scene) (w : Word) (s : Core) (ok : Allowed a w s) (q : EndsGo a s)
 
 -- ---- Steps
 
--- Each step keeps it; and an end that is to be told after it, or a result that is there, was so before, or the label says that the step writes it.
-pub step_ends_told : (x : Setting) (s : State) (l : Label) (t : State) → CodesInCallbacks x.component → CallsHold x.component s.core → EndsTold s.core → Step x s l t → EndsTold t.core
+-- Each step keeps it.
+pub step_ends_told : (x : Setting) (s : State) (l : Label) (t : State) → CodesInCallbacks x.component → CallsHold x.component s.core → EndsTold s.core → Step x s l t → (next : Turn) × (EndsGo (scene_of x s l next) t.core × EndsTold t.core)
 step_ends_told x s l t codes p q step =
     let w : Walked x s l t = step_walks x s l t step in
     let a : Scene = scene_of x s l w.next in
@@ -318,7 +332,7 @@ step_ends_told x s l t codes p q step =
     }) in
     let told : EndsTold a.base = of_base EndsTold s.turn s.core (record { goals = q.goals; events = q.events; results = q.results }) in
     let g : CallsGo a t.core × EndsGo a t.core = along (λ u. CallsGo a u × EndsGo a u) (λ v u ok h. (word_goes a codes c.0 v u ok h.0, word_ends a v u ok h.1 (λ k there. call_number u h.0 k (get u.calls k) refl there))) (c.1, first) w.walk in
-    ends_told a c.0 told t.core g.0 g.1
+    (w.next, (g.1, ends_told a c.0 told t.core g.0 g.1))
   where
     call_number : {a : Scene} (u : Core) → CallsGo a u → (k : ℕ) (o : Option Call) → get u.calls k ≡ o → is_some o ≡ true → k ≤ u.made.threads
     call_number u h k None is there = no_way there
@@ -354,3 +368,111 @@ opening_ends_told instances handle_limit capacity = record {
   events = λ k e r at tells. no_telling _ r at (ap (option_map telling) (get-empty k));
   results = λ k there. no_way (ap (λ (o : Option ℕ). is_some o) (sym (get-empty k)) ∙ there);
 }
+
+-- ---- What the label says
+
+abbrev is_guest : Subtask → Bool
+is_guest (subtask.Guest k) = true
+is_guest (subtask.Host i) = false
+
+abbrev is_guest_end : Option SubtaskEnd → Bool
+is_guest_end o = option_map_or (λ (e : SubtaskEnd). is_guest e.subtask) o false
+
+-- it says so of the whole step
+says_at : (c : Component) (s : Core) (q : Queues) (t : Core) (l : Label) (k : ℕ) (e : Status) → written_by c (record s { queues = q }) l (record s { queues = q }) ≡ Some (end_for e (subtask.Guest k)) → written_by c s l t ≡ Some (end_for e (subtask.Guest k))
+unfolding op_of script_of
+says_at c s q t (label.Loop m) k e h = loop m h
+  where
+    loop : (m : LoopLabel) → written_by_loop (record s { queues = q }) m ≡ Some (end_for e (subtask.Guest k)) → written_by_loop t m ≡ Some (end_for e (subtask.Guest k))
+    loop (loop_label.FutureEnds i) f = no_way (ap is_guest_end f)
+    loop (loop_label.FutureAborted i) f = no_way (ap is_guest_end f)
+    loop m f = f
+says_at c s q t (label.Task m) k e h = task m h
+  where
+    task : (m : TaskLabel) → written_by_task (record s { queues = q }) m ≡ Some (end_for e (subtask.Guest k)) → written_by_task s m ≡ Some (end_for e (subtask.Guest k))
+    task m f = f
+says_at c s q t (label.Call m) k e h = call m h
+  where
+    call : (m : CallLabel) → written_by_call c (record s { queues = q }) m ≡ Some (end_for e (subtask.Guest k)) → written_by_call c s m ≡ Some (end_for e (subtask.Guest k))
+    call m f = f
+says_at c s q t l k e h = h
+
+said : (x : Setting) (s : State) (l : Label) (next : Turn) (t : Core) (k : ℕ) (e : Status) → SaysEnd (scene_of x s l next) k e → written_by x.component s.core l t ≡ Some (end_for e (subtask.Guest k))
+said x s l next t k e h = of_base (λ b. written_by x.component b l b ≡ Some (end_for e (subtask.Guest k)) → written_by x.component s.core l t ≡ Some (end_for e (subtask.Guest k))) s.turn s.core (says_at x.component s.core (base_at s.turn s.core).queues t l k e) h
+
+-- ---- The laws
+
+run_ends_told : (x : Setting) (s : State) → CodesInCallbacks x.component → CallsHold x.component s.core → EndsTold s.core → (ls : List Label) (t : State) → Run x s ls t → EndsTold t.core
+run_ends_told x s codes p q [] t r = subst (λ (y : State). EndsTold y.core) (sym r) q
+run_ends_told x s codes p q (l ∷ ls) t r = run_ends_told x r.0 codes (step_goes x s l r.0 codes p r.1.0).0 (step_ends_told x s l r.0 codes p q r.1.0).1.1 ls t r.1.1
+
+reached_ends_told : {x : Setting} {s : State} → Reached x s → EndsTold s.core
+reached_ends_told {x = x} {s = s} r = run_ends_told x (opening r.instances r.handle_limit r.capacity r.main) r.scripts (opening_holds x.component r.instances r.handle_limit r.capacity) (opening_ends_told r.instances r.handle_limit r.capacity) r.labels s r.run
+
+-- what an event tells is recorded
+recorded : (s : Core) → EndsTold s → (k : ℕ) (e : Status) → undelivered_end (event_of (subtask.Guest k) s) ≡ Some e → IsOfEnd e (end_of k s)
+recorded s q k e tells = go (get s.calls k) refl
+  where
+    go : (o : Option Call) → get s.calls k ≡ o → IsOfEnd e (end_of k s)
+    go None is = no_way (ap (λ (y : Option Status). is_some y) (ap (λ (y : Option Call). undelivered_end (option_and_then (λ (z : Call). z.event) y)) (sym is) ∙ tells))
+    go (Some c) is =
+        let at : telling_of k s ≡ Some (telling c) = ap (option_map telling) is in
+        subst (IsOfEnd e) (sym (end_is k s (telling c) at)) (q.events k e (telling c) at (ap undelivered_end (sym (event_is k s (telling c) at)) ∙ tells)).1
+
+pub told_as_recorded : EndsToldAsRecorded
+told_as_recorded x s r k e tells = let q = recorded s.core (reached_ends_told r) k e tells in (q.ends, (q.is, (q.status, λ w. true_is_not_false (sym (ap is_withdrawn w) ∙ q.ran))))
+
+pub new_ends_are_said : NewEndsAreSaid
+new_ends_are_said x s l t r step k e tells =
+    let g = step_ends_told x s l t r.scripts (reached_holds r) (reached_ends_told r) step in
+    go g.0 g.1.0 (get t.core.calls k) refl
+  where
+    by_case : (next : Turn) (o : Option CallEnd) → ToldOrWritten (scene_of x s l next) k e o → (undelivered_end (event_of (subtask.Guest k) s.core) ≡ Some e) ⊎ (written_by x.component s.core l t.core ≡ Some (end_for e (subtask.Guest k)))
+    by_case next o (inl before) = inl (of_base (λ b. undelivered_end (event_of (subtask.Guest k) b) ≡ Some e → undelivered_end (event_of (subtask.Guest k) s.core) ≡ Some e) s.turn s.core (λ h. h) before)
+    by_case next o (inr now) = inr (said x s l next t.core k e now.0)
+
+    go : (next : Turn) → EndsGo (scene_of x s l next) t.core → (o : Option Call) → get t.core.calls k ≡ o → (undelivered_end (event_of (subtask.Guest k) s.core) ≡ Some e) ⊎ (written_by x.component s.core l t.core ≡ Some (end_for e (subtask.Guest k)))
+    go next g None is = no_way (ap (λ (y : Option Status). is_some y) (ap (λ (y : Option Call). undelivered_end (option_and_then (λ (z : Call). z.event) y)) (sym is) ∙ tells))
+    go next g (Some c) is =
+        let at : telling_of k t.core ≡ Some (telling c) = ap (option_map telling) is in
+        by_case next c.«end» (g.events k e (telling c) at (ap undelivered_end (sym (event_is k t.core (telling c) at)) ∙ tells)).1
+
+pub new_results_are_said : NewResultsAreSaid
+new_results_are_said x s l t r step k there =
+    let g = step_ends_told x s l t r.scripts (reached_holds r) (reached_ends_told r) step in
+    by_case g.0 (g.1.0.results k there).1.1
+  where
+    by_case : (next : Turn) → (is_some (get (base_at s.turn s.core).results k) ≡ true) ⊎ SaysEnd (scene_of x s l next) k status.Returned → (is_some (get s.core.results k) ≡ true) ⊎ (written_by x.component s.core l t.core ≡ Some (end_for status.Returned (subtask.Guest k)))
+    by_case next (inl before) = inl (of_base (λ b. is_some (get b.results k) ≡ true → is_some (get s.core.results k) ≡ true) s.turn s.core (λ h. h) before)
+    by_case next (inr now) = inr (said x s l next t.core k status.Returned now)
+
+pub no_end_is_covered : NoEndIsCovered
+no_end_is_covered x s l t r step k = go (undelivered_end (event_of (subtask.Guest k) s.core)) (undelivered_end (event_of (subtask.Guest k) t.core)) refl refl
+  where
+    told : EndsTold s.core
+    told = reached_ends_told r
+
+    told_after : EndsTold t.core
+    told_after = (step_ends_told x s l t r.scripts (reached_holds r) told step).1.1
+
+    rises : CallsRise s.core t.core
+    rises = (step_goes x s l t r.scripts (reached_holds r) step).1
+
+    same_ends : (o p : Option Call) → LaterBy Rises o p → (u v : CallEnd) → option_and_then (λ (c : Call). c.«end») o ≡ Some u → option_and_then (λ (c : Call). c.«end») p ≡ Some v → u ≡ v
+    same_ends None p later u v a b = no_way (ap (λ (y : Option CallEnd). is_some y) a)
+    same_ends (Some c) None later u v a b = no_way (ap (λ (y : Option CallEnd). is_some y) b)
+    same_ends (Some c) (Some d) later u v a b = ap (λ (y : Option CallEnd). unwrap_or y u) (sym (later.end_stays u a) ∙ b)
+
+    there : (o : Option Call) → get s.core.calls k ≡ o → (u : CallEnd) → option_and_then (λ (c : Call). c.«end») o ≡ Some u → k ≤ s.core.made.threads
+    there None is u a = no_way (ap (λ (y : Option CallEnd). is_some y) a)
+    there (Some c) is u a = ((reached_holds r).numbered.calls k c is).1
+
+    go : (o p : Option Status) → undelivered_end (event_of (subtask.Guest k) s.core) ≡ o → undelivered_end (event_of (subtask.Guest k) t.core) ≡ p → is_other o p ≡ false
+    go None p a b = refl
+    go (Some e) None a b = refl
+    go (Some e) (Some f) a b =
+        let u = recorded s.core told k e a in
+        let v = recorded t.core told_after k f b in
+        let same : u.ends ≡ v.ends = same_ends (get s.core.calls k) (get t.core.calls k) (rises k (there (get s.core.calls k) refl u.ends u.is)) u.ends v.ends u.is v.is in
+        let one : e ≡ f = sym u.status ∙ (ap status_of_end same ∙ v.status) in
+        ap (λ (y : Status). not (status_code e == status_code y)) (sym one) ∙ ap not (same_number (status_code e))
