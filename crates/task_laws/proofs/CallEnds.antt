@@ -1,4 +1,7 @@
 -- What calls tell of their ends along the words of a step, and the results that are there for main.
+use Rattle.task_machine.specs.declared.label.SetLabel.{SetLabel}
+use Rattle.task_machine.specs.declared.label.TakeLabel.{TakeLabel}
+use Rattle.task_machine.specs.declared.label.MainLabel.{MainLabel}
 use Rattle.task_rules.specs.Scripts.{op_of, script_of}
 use Rattle.task_rules.specs.Run.{Run, opening}
 use Rattle.task_rules.specs.Once.{is_other}
@@ -8,7 +11,7 @@ use Rattle.task_machine.specs.declared.label.TaskLabel.{TaskLabel}
 use Rattle.task_machine.specs.declared.label.LoopLabel.{LoopLabel}
 use Rattle.task_machine.specs.declared.component.Component.{Component}
 use Rattle.task_machine.specs.Statuses.{status_code}
-use Rattle.task_laws.specs.Written.{EndsToldAsRecorded, NewEndsAreSaid, NewResultsAreSaid, NoEndIsCovered}
+use Rattle.task_laws.specs.Written.{EndsToldAsRecorded, NewEndsAreSaid, NewResultsAreSaid, NoEndIsCovered, EndsHandedAsTold}
 use Rattle.task_laws.specs.Rises.{CallsRise, Rises}
 use Rattle.std.proofs.Common.{ap, cond, inl, inr, le_trans, refl, subst, sym, ◌∙◌}
 use Rattle.std.specs.Option.{option_map_or}
@@ -19,7 +22,7 @@ use Rattle.task_laws.proofs.CallsSteps.{calls_begin, of_base, word_goes, opening
 use Rattle.task_laws.proofs.CountLemmas.{made_threads_word}
 use Rattle.task_laws.specs.Settings.{CodesInCallbacks, Reached}
 use Rattle.task_machine.proofs.MapLemmas.{change-field, get-change_other, get-change_same}
-use Rattle.task_machine.specs.Core.{Core, State, fresh, Queues}
+use Rattle.task_machine.specs.Core.{Core, State, fresh, Queues, Main, Scripted, Unscripted}
 use Rattle.task_machine.specs.Maps.{change, get, get-empty, get-insert, get-remove, insert, remove}
 use Rattle.task_machine.specs.Read.{end_of, event_of, goal_of, is_direct, is_end, is_guest_call, new_handle, undelivered_end}
 use Rattle.task_machine.specs.Write.{add_call, add_group, add_set, add_thread, add_work, count_work, free_handle, free_thread_handle, give_handle, give_result, give_thread_handle, on_call, on_instance, on_thread, on_work, push_high, remove_call, remove_group, remove_set, remove_thread, remove_work, set_backpressure, set_cancel_delivered, set_cancelled, set_course, set_do_not_enter, set_do_not_suspend, set_end, set_event, set_exited, set_how_far, set_join, set_own_event, set_phase, set_position, set_register, set_result, set_saved_callee, set_saved_own, set_script, set_stage, set_started, set_starting_published, set_subtask_handle, set_thread_handle, set_trapped, set_uninteresting, set_word, take_result}
@@ -35,13 +38,13 @@ use Rattle.task_rules.proofs.StandLemmas.{is_eq_of, not_eq}
 use Rattle.task_rules.proofs.WalkSteps.{step_walks}
 use Rattle.task_rules.specs.Allowed.{Allowed, MayTell, SaysEnd, Tells, is_for_main, status_of_end}
 use Rattle.task_rules.specs.Calls.{call_made, new_call, next_thread, with_handle, with_thread_handle, work_queued}
-use Rattle.task_rules.specs.Chains.{Walked}
+use Rattle.task_rules.specs.Chains.{Walked, HandsOut, TakesEvent, TakesResult, WritesToo}
 use Rattle.task_rules.specs.Ends.{is_told}
 use Rattle.task_rules.specs.Laws.{LaterBy}
 use Rattle.task_rules.specs.Scenes.{Scene, base_at, component_of, scene_of}
 use Rattle.task_rules.specs.Stalled.{Setting}
 use Rattle.task_rules.specs.Step.{Step}
-use Rattle.task_rules.specs.SubtaskEnds.{SubtaskEnd, end_for, written_by, written_by_call, written_by_loop, written_by_task}
+use Rattle.task_rules.specs.SubtaskEnds.{SubtaskEnd, end_for, written_by, written_by_call, written_by_loop, written_by_task, handed_by, handed_by_call, handed_by_exit, handed_by_main, handed_by_set, handed_by_take}
 use Rattle.task_rules.specs.Words.{GiveResult, MakeCall, NameCall, RemoveCall, SetCallEvent, SetCallJoin, SetCancelDelivered, SetEnd, SetExited, SetOwnEvent, SetResult, SetStarted, SetStartingPublished, SetUninteresting, TakeResult, UnnameCall, Word, after_word}
 use Rattle.task_rules.specs.Works.{poll_pends}
 use Rattle.task_machine.specs.declared.label.Label.TheVariants as label
@@ -476,3 +479,39 @@ no_end_is_covered x s l t r step k = go (undelivered_end (event_of (subtask.Gues
         let same : u.ends ≡ v.ends = same_ends (get s.core.calls k) (get t.core.calls k) (rises k (there (get s.core.calls k) refl u.ends u.is)) u.ends v.ends u.is v.is in
         let one : e ≡ f = sym u.status ∙ (ap status_of_end same ∙ v.status) in
         ap (λ (y : Status). not (status_code e == status_code y)) (sym one) ∙ ap not (same_number (status_code e))
+
+-- what the label hands out isn't read from the marks
+hands_at : (c : Component) (main : Main) (s : Core) (q : Queues) (t : Core) (l : Label) (o : Option SubtaskEnd) → handed_by c main s l t ≡ o → handed_by c main (record s { queues = q }) l t ≡ o
+unfolding op_of script_of
+hands_at c main s q t (label.Main m) o h = of_main main m h
+  where
+    of_main : (y : Main) (m : MainLabel) → handed_by_main y s m t ≡ o → handed_by_main y (record s { queues = q }) m t ≡ o
+    of_main (Scripted p) m f = f
+    of_main Unscripted m f = f
+hands_at c main s q t (label.Take m) o h = take m h
+  where
+    take : (m : TakeLabel) → handed_by_take s m ≡ o → handed_by_take (record s { queues = q }) m ≡ o
+    take m f = f
+hands_at c main s q t (label.Task m) o h = task m h
+  where
+    task : (m : TaskLabel) → handed_by_exit s m ≡ o → handed_by_exit (record s { queues = q }) m ≡ o
+    task m f = f
+hands_at c main s q t (label.Set m) o h = set m h
+  where
+    set : (m : SetLabel) → handed_by_set s m ≡ o → handed_by_set (record s { queues = q }) m ≡ o
+    set m f = f
+hands_at c main s q t (label.Call m) o h = call m h
+  where
+    call : (m : CallLabel) → handed_by_call c s m ≡ o → handed_by_call c (record s { queues = q }) m ≡ o
+    call m f = f
+hands_at c main s q t l o h = h
+
+pub ends_handed_as_told : EndsHandedAsTold
+ends_handed_as_told x s l t step k e out =
+    let w : Walked x s l t = step_walks x s l t step in
+    go w.next (w.ends.says.hands k e (of_base (λ b. handed_by x.component s.main b l t.core ≡ Some (end_for e (subtask.Guest k))) s.turn s.core (hands_at x.component s.main s.core (base_at s.turn s.core).queues t.core l (Some (end_for e (subtask.Guest k))) out)))
+  where
+    go : (next : Turn) → HandsOut (scene_of x s l next) t.core k e → ((undelivered_end (event_of (subtask.Guest k) s.core) ≡ Some e) × (undelivered_end (event_of (subtask.Guest k) t.core) ≡ None)) ⊎ (((is_some (get s.core.results k) ≡ true) × ((e ≡ status.Returned) × (get t.core.results k ≡ None))) ⊎ (written_by x.component s.core l t.core ≡ Some (end_for e (subtask.Guest k))))
+    go next (TakesEvent had gone) = inl (of_base (λ b. undelivered_end (event_of (subtask.Guest k) b) ≡ Some e → undelivered_end (event_of (subtask.Guest k) s.core) ≡ Some e) s.turn s.core (λ h. h) had, gone)
+    go next (TakesResult there is gone) = inr (inl (of_base (λ b. is_some (get b.results k) ≡ true → is_some (get s.core.results k) ≡ true) s.turn s.core (λ h. h) there, (is, gone)))
+    go next (WritesToo says why) = inr (inr (said x s l next t.core k e says))

@@ -1,12 +1,12 @@
 -- The end of each record is written at most once, and what a call has to hand out is that end.
-use Rattle.task_rules.specs.SubtaskEnds.{end_for, written_by}
+use Rattle.task_rules.specs.SubtaskEnds.{end_for, written_by, handed_by}
 use Rattle.task_rules.specs.Step.{Step}
 use Rattle.task_rules.specs.Allowed.{status_of_end}
 use Rattle.task_machine.specs.declared.words.Status.{Status}
 use Rattle.task_machine.specs.declared.records.CallEnd.{CallEnd}
 use Rattle.task_machine.specs.Read.{end_of, event_of, undelivered_end}
 use Rattle.task_machine.specs.Maps.{get}
-use Rattle.std.specs.Prelude.{List, count_by, ◌≤◌, Some, false, is_some, true, ◌≡◌, ◌⊎◌, ℕ}
+use Rattle.std.specs.Prelude.{List, count_by, ◌≤◌, Some, false, is_some, true, ◌≡◌, ◌⊎◌, ℕ, None}
 use Rattle.task_laws.specs.Settings.{Reached}
 use Rattle.task_machine.specs.Core.{State}
 use Rattle.task_machine.specs.declared.label.Label.{Label}
@@ -38,3 +38,7 @@ NewEndsAreSaid = (x : Setting) (s : State) (l : Label) (t : State) → Reached x
 -- So with a result that is there for main.
 abbrev pub NewResultsAreSaid : Type 0
 NewResultsAreSaid = (x : Setting) (s : State) (l : Label) (t : State) → Reached x s → Step x s l t → (k : ℕ) → is_some (get t.core.results k) ≡ true → (is_some (get s.core.results k) ≡ true) ⊎ (written_by x.component s.core l t.core ≡ Some (end_for status.Returned (subtask.Guest k)))
+
+-- An end of a call that a step hands out the call had to hand out, and has no more; or it was a result that was there for main, and is taken; or the label says that the step writes it.
+abbrev pub EndsHandedAsTold : Type 0
+EndsHandedAsTold = (x : Setting) (s : State) (l : Label) (t : State) → Step x s l t → (k : ℕ) (e : Status) → handed_by x.component s.main s.core l t.core ≡ Some (end_for e (subtask.Guest k)) → ((undelivered_end (event_of (subtask.Guest k) s.core) ≡ Some e) × (undelivered_end (event_of (subtask.Guest k) t.core) ≡ None)) ⊎ (((is_some (get s.core.results k) ≡ true) × ((e ≡ status.Returned) × (get t.core.results k ≡ None))) ⊎ (written_by x.component s.core l t.core ≡ Some (end_for e (subtask.Guest k))))

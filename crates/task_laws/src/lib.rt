@@ -16,6 +16,6 @@ pub use rises::{
     sync_is_never_cancelled,
 };
 pub use written::{
-    ends_are_told_as_recorded, ends_are_written_once, new_ends_are_said, new_results_are_said,
-    no_end_is_covered,
+    ends_are_handed_as_told, ends_are_told_as_recorded, ends_are_written_once, new_ends_are_said,
+    new_results_are_said, no_end_is_covered,
 };

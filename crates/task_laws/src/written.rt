@@ -1,4 +1,4 @@
-ghost use Rattle.task_laws.specs.Written.{EndsToldAsRecorded, EndsWrittenOnce, NewEndsAreSaid, NewResultsAreSaid, NoEndIsCovered};
+ghost use Rattle.task_laws.specs.Written.{EndsHandedAsTold, EndsToldAsRecorded, EndsWrittenOnce, NewEndsAreSaid, NewResultsAreSaid, NoEndIsCovered};
 
 /// In each run that goes on from a reached state the end in the record of a call, and in that of a
 /// host work, is written at most once.
@@ -26,4 +26,10 @@ pub fn new_ends_are_said()
 /// So does a result for main.
 pub fn new_results_are_said()
     ensures { NewResultsAreSaid }
+{}
+
+/// A step hands out an end of a call where the call had it to hand out, where its result was there
+/// for main, or where the label says that the step writes it; and it is there no more.
+pub fn ends_are_handed_as_told()
+    ensures { EndsHandedAsTold }
 {}
