@@ -11,20 +11,20 @@ use Rattle.task_machine.specs.declared.label.TaskLabel.{TaskLabel}
 use Rattle.task_machine.specs.declared.label.LoopLabel.{LoopLabel}
 use Rattle.task_machine.specs.declared.component.Component.{Component}
 use Rattle.task_machine.specs.Statuses.{status_code}
-use Rattle.task_laws.specs.Written.{EndsToldAsRecorded, NewEndsAreSaid, NewResultsAreSaid, NoEndIsCovered, EndsHandedAsTold}
+use Rattle.task_laws.specs.Written.{EndsToldAsRecorded, NewEndsAreSaid, NewResultsAreSaid, NoEndIsCovered, EndsHandedAsTold, WrittenEndsAreNew}
 use Rattle.task_laws.specs.Rises.{CallsRise, Rises}
 use Rattle.std.proofs.Common.{ap, cond, inl, inr, le_trans, refl, subst, sym, ◌∙◌}
 use Rattle.std.specs.Option.{option_map_or}
 use Rattle.std.specs.Prelude.{Bool, None, Option, Some, false, if◌then◌else◌, is_some, not, option_and_then, option_map, true, unwrap_or, ℕ, ◌&&◌, ◌+◌, ◌==◌, ◌≡◌, ◌≤◌, ◌⊎◌, List, [], ◌∷◌}
 use Rattle.task_laws.proofs.Basics.{no_way, too_high, true_is_not_false, same_number}
-use Rattle.task_laws.proofs.CallsLaw.{CallsGo, CallsHold, Goes}
+use Rattle.task_laws.proofs.CallsLaw.{CallsGo, CallsHold, Goes, exits_unended}
 use Rattle.task_laws.proofs.CallsSteps.{calls_begin, of_base, word_goes, opening_holds, reached_holds, step_goes}
 use Rattle.task_laws.proofs.CountLemmas.{made_threads_word}
 use Rattle.task_laws.specs.Settings.{CodesInCallbacks, Reached}
 use Rattle.task_machine.proofs.MapLemmas.{change-field, get-change_other, get-change_same}
 use Rattle.task_machine.specs.Core.{Core, State, fresh, Queues, Main, Scripted, Unscripted}
 use Rattle.task_machine.specs.Maps.{change, get, get-empty, get-insert, get-remove, insert, remove}
-use Rattle.task_machine.specs.Read.{end_of, event_of, goal_of, is_direct, is_end, is_guest_call, new_handle, undelivered_end}
+use Rattle.task_machine.specs.Read.{end_of, event_of, goal_of, is_direct, is_end, is_guest_call, new_handle, undelivered_end, has_ended, is_async_lifted, is_explicit, kind_of, task_of}
 use Rattle.task_machine.specs.Write.{add_call, add_group, add_set, add_thread, add_work, count_work, free_handle, free_thread_handle, give_handle, give_result, give_thread_handle, on_call, on_instance, on_thread, on_work, push_high, remove_call, remove_group, remove_set, remove_thread, remove_work, set_backpressure, set_cancel_delivered, set_cancelled, set_course, set_do_not_enter, set_do_not_suspend, set_end, set_event, set_exited, set_how_far, set_join, set_own_event, set_phase, set_position, set_register, set_result, set_saved_callee, set_saved_own, set_script, set_stage, set_started, set_starting_published, set_subtask_handle, set_thread_handle, set_trapped, set_uninteresting, set_word, take_result}
 use Rattle.task_machine.specs.declared.label.Label.{Label}
 use Rattle.task_machine.specs.declared.records.Call.{Call}
@@ -36,9 +36,9 @@ use Rattle.task_machine.specs.declared.words.Status.{Status}
 use Rattle.task_rules.proofs.ChainLemmas.{along}
 use Rattle.task_rules.proofs.StandLemmas.{is_eq_of, not_eq}
 use Rattle.task_rules.proofs.WalkSteps.{step_walks}
-use Rattle.task_rules.specs.Allowed.{Allowed, MayTell, SaysEnd, Tells, is_for_main, status_of_end}
+use Rattle.task_rules.specs.Allowed.{Allowed, MayTell, SaysEnd, Tells, is_for_main, status_of_end, IsRunner}
 use Rattle.task_rules.specs.Calls.{call_made, new_call, next_thread, with_handle, with_thread_handle, work_queued}
-use Rattle.task_rules.specs.Chains.{Walked, HandsOut, TakesEvent, TakesResult, WritesToo}
+use Rattle.task_rules.specs.Chains.{Walked, HandsOut, TakesEvent, TakesResult, WritesToo, EndWords, Walk, is_over}
 use Rattle.task_rules.specs.Ends.{is_told}
 use Rattle.task_rules.specs.Laws.{LaterBy}
 use Rattle.task_rules.specs.Scenes.{Scene, base_at, component_of, scene_of}
@@ -185,6 +185,10 @@ abbrev is_withdrawn : CallEnd → Bool
 is_withdrawn call_end.StartCancelled = true
 is_withdrawn _ = false
 
+abbrev is_start_cancelled : Status → Bool
+is_start_cancelled status.StartCancelled = true
+is_start_cancelled _ = false
+
 -- the status is that of this end, and not of a withdrawn start
 pub record IsOfEnd (e : Status) (o : Option CallEnd) : Type 0 where
   pub ends : CallEnd
@@ -246,10 +250,6 @@ ended_again e o x is q = record { ends = x; is = refl; status = is; ran = not_wi
     not_withdrawn call_end.ReturnCancelled y h r = refl
     not_withdrawn call_end.StartCancelled y h r = absurd (true_is_not_false (withdrawn_status y h ∙ r))
       where
-        is_start_cancelled : Status → Bool
-        is_start_cancelled status.StartCancelled = true
-        is_start_cancelled _ = false
-
         withdrawn_status : (y : CallEnd) → status.StartCancelled ≡ status_of_end y → true ≡ is_withdrawn y
         withdrawn_status call_end.Returned g = ap is_start_cancelled g
         withdrawn_status call_end.ReturnCancelled g = ap is_start_cancelled g
@@ -515,3 +515,50 @@ ends_handed_as_told x s l t step k e out =
     go next (TakesEvent had gone) = inl (of_base (λ b. undelivered_end (event_of (subtask.Guest k) b) ≡ Some e → undelivered_end (event_of (subtask.Guest k) s.core) ≡ Some e) s.turn s.core (λ h. h) had, gone)
     go next (TakesResult there is gone) = inr (inl (of_base (λ b. is_some (get b.results k) ≡ true → is_some (get s.core.results k) ≡ true) s.turn s.core (λ h. h) there, (is, gone)))
     go next (WritesToo says why) = inr (inr (said x s l next t.core k e says))
+
+written_at : (c : Component) (s : Core) (q : Queues) (t : Core) (l : Label) (k : ℕ) (e : Status) → written_by c s l t ≡ Some (end_for e (subtask.Guest k)) → written_by c (record s { queues = q }) l (record s { queues = q }) ≡ Some (end_for e (subtask.Guest k))
+unfolding op_of script_of
+written_at c s q t (label.Loop m) k e h = loop m h
+  where
+    loop : (m : LoopLabel) → written_by_loop t m ≡ Some (end_for e (subtask.Guest k)) → written_by_loop (record s { queues = q }) m ≡ Some (end_for e (subtask.Guest k))
+    loop (loop_label.FutureEnds i) f = no_way (ap is_guest_end f)
+    loop (loop_label.FutureAborted i) f = no_way (ap is_guest_end f)
+    loop m f = f
+written_at c s q t (label.Task m) k e h = task m h
+  where
+    task : (m : TaskLabel) → written_by_task s m ≡ Some (end_for e (subtask.Guest k)) → written_by_task (record s { queues = q }) m ≡ Some (end_for e (subtask.Guest k))
+    task m f = f
+written_at c s q t (label.Call m) k e h = call m h
+  where
+    call : (m : CallLabel) → written_by_call c s m ≡ Some (end_for e (subtask.Guest k)) → written_by_call c (record s { queues = q }) m ≡ Some (end_for e (subtask.Guest k))
+    call m f = f
+written_at c s q t l k e h = h
+
+pub written_ends_are_new : WrittenEndsAreNew
+written_ends_are_new x s l t r step k e is =
+    let w : Walked x s l t = step_walks x s l t step in
+    let says : SaysEnd (scene_of x s l w.next) k e = of_base (λ b. written_by x.component b l b ≡ Some (end_for e (subtask.Guest k))) s.turn s.core (written_at x.component s.core (base_at s.turn s.core).queues t.core l k e is) in
+    of_base (λ b. has_ended k b ≡ false → has_ended k s.core ≡ false) s.turn s.core (λ h. h) (go w.next w.ends.says says)
+  where
+    told : (u : Turn) → EndsTold (base_at u s.core)
+    told u = let q = reached_ends_told r in of_base EndsTold u s.core (record { goals = q.goals; events = q.events; results = q.results })
+
+    unended : (a : Scene) → component_of a ≡ x.component → CallsHold (component_of a) a.base → (n : ℕ) → k ≡ task_of n a.base → is_explicit n a.base ≡ false → (is_direct (goal_of k a.base) ≡ true) ⊎ (is_async_lifted (kind_of k a.base) ≡ false) → (o : Option Call) → get a.base.calls k ≡ o → has_ended k a.base ≡ false
+    unended a same base n at first exits None none = ap (λ (o : Option Call). is_some (option_and_then (λ (c : Call). c.«end») o)) none
+    unended a same base n at first exits (Some c) there = ap (λ (o : Option Call). is_some (option_and_then (λ (d : Call). d.«end») o)) there ∙ exits_unended a (subst CodesInCallbacks (sym same) r.scripts) base n k c at first exits there
+
+    no_withdrawal : (y : CallEnd) → status_of_end y ≡ status.StartCancelled → is_withdrawn y ≡ false → {A : Type 0} → A
+    no_withdrawal call_end.Returned g f = no_way (ap is_start_cancelled g)
+    no_withdrawal call_end.ReturnCancelled g f = no_way (ap is_start_cancelled g)
+    no_withdrawal call_end.StartCancelled g f = no_way (sym f)
+
+    go : (next : Turn) → EndWords (scene_of x s l next) t.core → SaysEnd (scene_of x s l next) k e → has_ended k (base_at s.turn s.core) ≡ false
+    go next words says = by_case (words.writes k e says)
+      where
+        withdrawn : undelivered_end (event_of (subtask.Guest k) (base_at s.turn s.core)) ≡ Some status.StartCancelled → has_ended k (base_at s.turn s.core) ≡ false
+        withdrawn h = let q = recorded (base_at s.turn s.core) (told s.turn) k status.StartCancelled h in no_withdrawal q.ends q.status q.ran
+
+        by_case : (undelivered_end (event_of (subtask.Guest k) (base_at s.turn s.core)) ≡ Some status.StartCancelled) ⊎ (((has_ended k (base_at s.turn s.core) ≡ false) ⊎ ((n : ℕ) × (IsRunner (scene_of x s l next) n × ((k ≡ task_of n (base_at s.turn s.core)) × ((is_explicit n (base_at s.turn s.core) ≡ false) × ((is_direct (goal_of k (base_at s.turn s.core)) ≡ true) ⊎ (is_async_lifted (kind_of k (base_at s.turn s.core)) ≡ false))))))) × ((u : Core) × ((is_over k u ≡ true) × Walk (scene_of x s l next) u t.core))) → has_ended k (base_at s.turn s.core) ≡ false
+        by_case (inl h) = withdrawn h
+        by_case (inr (inl h, rest)) = h
+        by_case (inr (inr h, rest)) = unended (scene_of x s l next) refl (calls_begin x s l next (reached_holds r)).0 h.0 h.1.1.0 h.1.1.1.0 h.1.1.1.1 (get (base_at s.turn s.core).calls k) refl

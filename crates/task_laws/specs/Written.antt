@@ -4,7 +4,7 @@ use Rattle.task_rules.specs.Step.{Step}
 use Rattle.task_rules.specs.Allowed.{status_of_end}
 use Rattle.task_machine.specs.declared.words.Status.{Status}
 use Rattle.task_machine.specs.declared.records.CallEnd.{CallEnd}
-use Rattle.task_machine.specs.Read.{end_of, event_of, undelivered_end}
+use Rattle.task_machine.specs.Read.{end_of, event_of, undelivered_end, has_ended}
 use Rattle.task_machine.specs.Maps.{get}
 use Rattle.std.specs.Prelude.{List, count_by, ◌≤◌, Some, false, is_some, true, ◌≡◌, ◌⊎◌, ℕ, None}
 use Rattle.task_laws.specs.Settings.{Reached}
@@ -42,3 +42,7 @@ NewResultsAreSaid = (x : Setting) (s : State) (l : Label) (t : State) → Reache
 -- An end of a call that a step hands out the call had to hand out, and has no more; or it was a result that was there for main, and is taken; or the label says that the step writes it.
 abbrev pub EndsHandedAsTold : Type 0
 EndsHandedAsTold = (x : Setting) (s : State) (l : Label) (t : State) → Step x s l t → (k : ℕ) (e : Status) → handed_by x.component s.main s.core l t.core ≡ Some (end_for e (subtask.Guest k)) → ((undelivered_end (event_of (subtask.Guest k) s.core) ≡ Some e) × (undelivered_end (event_of (subtask.Guest k) t.core) ≡ None)) ⊎ (((is_some (get s.core.results k) ≡ true) × ((e ≡ status.Returned) × (get t.core.results k ≡ None))) ⊎ (written_by x.component s.core l t.core ≡ Some (end_for e (subtask.Guest k))))
+
+-- A call of which the label says that the step writes its end had none before.
+abbrev pub WrittenEndsAreNew : Type 0
+WrittenEndsAreNew = (x : Setting) (s : State) (l : Label) (t : State) → Reached x s → Step x s l t → (k : ℕ) (e : Status) → written_by x.component s.core l t.core ≡ Some (end_for e (subtask.Guest k)) → has_ended k s.core ≡ false

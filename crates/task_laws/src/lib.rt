@@ -17,5 +17,5 @@ pub use rises::{
 };
 pub use written::{
     ends_are_handed_as_told, ends_are_told_as_recorded, ends_are_written_once, new_ends_are_said,
-    new_results_are_said, no_end_is_covered,
+    new_results_are_said, no_end_is_covered, written_ends_are_new,
 };

@@ -1,4 +1,4 @@
-ghost use Rattle.task_laws.specs.Written.{EndsHandedAsTold, EndsToldAsRecorded, EndsWrittenOnce, NewEndsAreSaid, NewResultsAreSaid, NoEndIsCovered};
+ghost use Rattle.task_laws.specs.Written.{EndsHandedAsTold, EndsToldAsRecorded, EndsWrittenOnce, NewEndsAreSaid, NewResultsAreSaid, NoEndIsCovered, WrittenEndsAreNew};
 
 /// In each run that goes on from a reached state the end in the record of a call, and in that of a
 /// host work, is written at most once.
@@ -32,4 +32,10 @@ pub fn new_results_are_said()
 /// for main, or where the label says that the step writes it; and it is there no more.
 pub fn ends_are_handed_as_told()
     ensures { EndsHandedAsTold }
+{}
+
+/// From a reached state a step whose label says that it writes the end of a call finds it without
+/// one.
+pub fn written_ends_are_new()
+    ensures { WrittenEndsAreNew }
 {}
