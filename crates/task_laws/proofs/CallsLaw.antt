@@ -232,7 +232,7 @@ module _ (a : Scene) (codes : CodesInCallbacks (component_of a)) (h : CallsHold 
       go (Some t) e i x = (i ∙ (h.numbered.threads n t e).own x, refl)
 
   -- the call of a thread that exits directly or of a sync-lifted export has not ended
-  exits_unended : (n k : ℕ) (c : Call) → k ≡ task_of n a.base → is_explicit n a.base ≡ false → (is_direct (goal_of k a.base) ≡ true) ⊎ (is_async_lifted (kind_of k a.base) ≡ false) → get a.base.calls k ≡ Some c → is_some c.«end» ≡ false
+  pub exits_unended : (n k : ℕ) (c : Call) → k ≡ task_of n a.base → is_explicit n a.base ≡ false → (is_direct (goal_of k a.base) ≡ true) ⊎ (is_async_lifted (kind_of k a.base) ≡ false) → get a.base.calls k ≡ Some c → is_some c.«end» ≡ false
   exits_unended n k c is first f at = by_test (is_some c.«end») refl
     where
       sync : (is_direct (goal_of k a.base) ≡ true) ⊎ (is_async_lifted (kind_of k a.base) ≡ false) → is_async_lifted c.kind ≡ false

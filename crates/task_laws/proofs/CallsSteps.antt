@@ -131,7 +131,7 @@ module _ (a : Scene) (codes : CodesInCallbacks (component_of a)) (h : CallsHold 
         go : CallCame a s (after_word w s).made.threads k (get s.calls k) (get (after_word w s).calls k) → KindHolds a (after_word w s) k x
         go (Grown c d e f g) = subst (KindHolds a (after_word w s) k) (same_some _ d x f at) (grown_kind k c d e g)
         go (NoCall e r) = some_none _ x at e
-        go (NewCall f e y g group is l m new) = subst (KindHolds a (after_word w s) k) (same_some _ _ x new at) (record { kind = m.1.1.0; direct = m.1.1.1; uncancelled = λ i. refl; gone = λ i j. no_way j })
+        go (NewCall f e y g group is l m new) = subst (KindHolds a (after_word w s) k) (same_some _ _ x new at) (record { kind = m.1.1.0; direct = m.1.1.1.0; uncancelled = λ i. refl; gone = λ i j. no_way j })
 
     callback_after : (k : ℕ) → k ≤ s.made.threads → is_callback (kind_of k s) ≡ true → is_callback (kind_of k (after_word w s)) ≡ true
     callback_after k below c = go (call_came w s ok k)
@@ -158,7 +158,7 @@ module _ (a : Scene) (codes : CodesInCallbacks (component_of a)) (h : CallsHold 
         go (IsBeside u is l same m e) = absurd (too_high is (there_number a codes h q n before.0))
         go (IsFirst u is l there x y e) = absurd (too_high is (there_number a codes h q n before.0))
 
-  word_goes : (w : Word) (s : Core) → Allowed a w s → CallsGo a s → CallsGo a (after_word w s)
+  pub word_goes : (w : Word) (s : Core) → Allowed a w s → CallsGo a s → CallsGo a (after_word w s)
   word_goes w s ok q = record {
     counted = le_trans q.counted (made_threads_word a w s);
     numbered = record { threads = thread_numbered w s ok q; calls = call_numbered w s ok q };
@@ -221,21 +221,27 @@ begins c u s p = of_base (Begins c s) u s (record {
 
 -- ---- Steps
 
+-- what is known as a step begins
+pub calls_begin : (x : Setting) (s : State) (l : Label) (next : Turn) → CallsHold x.component s.core → CallsHold x.component (base_at s.turn s.core) × CallsGo (scene_of x s l next) s.core
+calls_begin x s l next p = let b : Begins x.component s.core (base_at s.turn s.core) = begins x.component s.turn s.core p in (
+  b.holds,
+  record {
+    counted = b.counted;
+    numbered = p.numbered;
+    threads = b.threads;
+    calls = b.calls;
+    kinds = λ k y e. record { kind = (p.kinds k y e).kind; direct = (p.kinds k y e).direct; uncancelled = (p.kinds k y e).uncancelled; gone = λ i j. inl ((p.kinds k y e).gone i j) };
+    deliveries = p.deliveries;
+  },
+)
+
 pub step_goes : (x : Setting) (s : State) (l : Label) (t : State) → CodesInCallbacks x.component → CallsHold x.component s.core → Step x s l t → CallsHold x.component t.core × CallsRise s.core t.core
 step_goes x s l t codes p step =
     let w : Walked x s l t = step_walks x s l t step in
     let a : Scene = scene_of x s l w.next in
-    let b : Begins x.component s.core a.base = begins x.component s.turn s.core p in
-    let q : CallsGo a s.core = record {
-      counted = b.counted;
-      numbered = p.numbered;
-      threads = b.threads;
-      calls = b.calls;
-      kinds = λ k y e. record { kind = (p.kinds k y e).kind; direct = (p.kinds k y e).direct; uncancelled = (p.kinds k y e).uncancelled; gone = λ i j. inl ((p.kinds k y e).gone i j) };
-      deliveries = p.deliveries;
-    } in
-    let g : CallsGo a t.core = along (CallsGo a) (word_goes a codes b.holds) q w.walk in
-    (ended_holds a codes b.holds t.core g w.ends, of_base (λ c. CallsGo (record a { base = c }) t.core → CallsRise s.core t.core) s.turn s.core (λ h k below. risen (get s.core.calls k) (get t.core.calls k) (h.calls k below)) g)
+    let b = calls_begin x s l w.next p in
+    let g : CallsGo a t.core = along (CallsGo a) (word_goes a codes b.0) b.1 w.walk in
+    (ended_holds a codes b.0 t.core g w.ends, of_base (λ c. CallsGo (record a { base = c }) t.core → CallsRise s.core t.core) s.turn s.core (λ h k below. risen (get s.core.calls k) (get t.core.calls k) (h.calls k below)) g)
   where
     risen : (o p : Option Call) → LaterBy Goes o p → LaterBy Rises o p
     risen None None h = tt

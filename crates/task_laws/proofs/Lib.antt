@@ -18,3 +18,4 @@ pub mod CallsSteps
 pub mod OneHolder
 pub mod WrittenLemmas
 pub mod OnceLemmas
+pub mod CallEnds

@@ -1,6 +1,8 @@
 pub mod LawLemmas
 pub mod PromotionLemmas
 pub mod ChainLemmas
+pub mod MuteLemmas
+pub mod SayLemmas
 pub mod WalkSteps
 pub mod WalkTakes
 pub mod WalkOps

@@ -1,10 +1,10 @@
 -- The end of a task as a chain of words.
 use Rattle.std.proofs.Common.{T, ap, ap₂, refl, subst, sym, ◌∙◌}
 use Rattle.std.specs.Option.{option_map_or}
-use Rattle.std.specs.Prelude.{None, Option, Some, false, not, option_and_then, option_map, slice_set, true, ℕ, ◌&&◌, ◌≡◌}
+use Rattle.std.specs.Prelude.{None, Option, Some, false, not, option_and_then, option_map, slice_set, true, ℕ, ◌&&◌, ◌≡◌, unwrap_or}
 use Rattle.task_machine.proofs.MapLemmas.{change-field, get-change_same}
 use Rattle.task_machine.specs.Core.{Core}
-use Rattle.task_machine.specs.Maps.{get}
+use Rattle.task_machine.specs.Maps.{get, change}
 use Rattle.task_machine.specs.Read.{caller_of, end_of, goal_of, is_direct, is_guest_call, is_waiting_on, join_of, place_of}
 use Rattle.task_machine.specs.Write.{give_result, on_call, on_thread, set_end, set_register, set_result}
 use Rattle.task_machine.specs.declared.records.Call.{Call}
@@ -104,32 +104,47 @@ told_ends k e s t same told =
     let there = same ∙ ap (option_map unresulted) (get-change_same s.calls k (λ (c : Call). record c { «end» = Some e })) in
     told_end k e (get s.calls k) (get t.calls k) there (sym (same_told k s t (unanswer (get t.calls k) (get (set_end k e s).calls k) same ∙ end_same k e s)) ∙ told)
 
-module _ {a : Scene} {b : Core} where
-  result_given_walks : (g : Goal) (f : Caller) (k v : ℕ) {s : Core} → SaysEnd a k status.Returned → Walk a b s → Walk a b (result_given g f k v s)
-  result_given_walks goal.Main f k v says c = word (GiveResult k v) says c
-  result_given_walks (goal.Register r) (caller.Thread n) k v says c = word (SetRegister n r v) tt c
-  result_given_walks (goal.Register r) caller.Main k v says c = c
-  result_given_walks goal.Answer f k v says c = word (SetResult k (Some v)) tt c
-  result_given_walks goal.Nowhere f k v says c = c
-  result_given_walks goal.Direct f k v says c = c
+end_goal : (k : ℕ) (e : CallEnd) (s : Core) → goal_of k (set_end k e s) ≡ goal_of k s
+unfolding set_end on_call
+end_goal k e s = by_field (get (change k (λ (c : Call). record c { «end» = Some e }) s.calls) k) ∙ (ap (λ (o : Option Goal). unwrap_or o goal.Nowhere) (change-field (λ (c : Call). c.goal) k (λ (c : Call). record c { «end» = Some e }) (λ c. refl) s.calls k) ∙ sym (by_field (get s.calls k)))
+  where
+    by_field : (o : Option Call) → option_map_or (λ (c : Call). c.goal) o goal.Nowhere ≡ unwrap_or (option_map (λ (c : Call). c.goal) o) goal.Nowhere
+    by_field None = refl
+    by_field (Some c) = refl
 
-  pub returned_walks : (k v : ℕ) (w : Option ℕ) {s : Core} → MayEnd a k call_end.Returned s → SaysEnd a k status.Returned → ToldTo k w s → Walk a b s → Walk a b (returned k v w s)
+module _ {a : Scene} {b : Core} where
+  result_given_walks : (g : Goal) (f : Caller) (k v : ℕ) {s : Core} → goal_of k s ≡ g → SaysEnd a k status.Returned → Walk a b s → Walk a b (result_given g f k v s)
+  result_given_walks goal.Main f k v at says c = word (GiveResult k v) (says, at) c
+  result_given_walks (goal.Register r) (caller.Thread n) k v at says c = word (SetRegister n r v) tt c
+  result_given_walks (goal.Register r) caller.Main k v at says c = c
+  result_given_walks goal.Answer f k v at says c = word (SetResult k (Some v)) tt c
+  result_given_walks goal.Nowhere f k v at says c = c
+  result_given_walks goal.Direct f k v at says c = c
+
+  -- after the end is written
+  pub returned_rest : (k v : ℕ) (w : Option ℕ) (s : Core) → SaysEnd a k status.Returned → ToldTo k w s → Walk a b (set_end k call_end.Returned s) → Walk a b (returned k v w s)
   unfolding returned
-  returned_walks k v w {s = s} ok says to c =
+  returned_rest k v w s says to c =
       let m = set_end k call_end.Returned s in
       let t = result_given (goal_of k s) (caller_of k s) k v m in
       let same : option_map unresulted (get t.calls k) ≡ option_map unresulted (get m.calls k) = result_resulted (goal_of k s) (caller_of k s) k v m in
       told_walks k status.Returned w (λ told. told_ends k call_end.Returned s t same told) (λ e. says)
       (still_told_to k s t (unanswer (get t.calls k) (get m.calls k) same ∙ end_same k call_end.Returned s) w (λ x chosen n is. ap (λ p. option_map_or (is_waiting_on x) p false) (places n) ∙ chosen n is) to)
-      (result_given_walks (goal_of k s) (caller_of k s) k v says (word (SetEnd k call_end.Returned) (ok, says) c))
+      (result_given_walks (goal_of k s) (caller_of k s) k v (end_goal k call_end.Returned s) says c)
     where
       places : (n : ℕ) → place_of n (result_given (goal_of k s) (caller_of k s) k v (set_end k call_end.Returned s)) ≡ place_of n s
       places n = result_places (goal_of k s) (caller_of k s) k v (set_end k call_end.Returned s) n ∙ end_places k call_end.Returned s n
 
-  pub cancelled_walks : (k : ℕ) (w : Option ℕ) {s : Core} → MayEnd a k call_end.ReturnCancelled s → SaysEnd a k status.ReturnCancelled → ToldTo k w s → Walk a b s → Walk a b (cancelled k w s)
+  pub returned_walks : (k v : ℕ) (w : Option ℕ) {s : Core} → MayEnd a k call_end.Returned s → SaysEnd a k status.Returned → ToldTo k w s → Walk a b s → Walk a b (returned k v w s)
+  returned_walks k v w {s = s} ok says to c = returned_rest k v w s says to (word (SetEnd k call_end.Returned) (ok, says) c)
+
+  pub cancelled_rest : (k : ℕ) (w : Option ℕ) (s : Core) → SaysEnd a k status.ReturnCancelled → ToldTo k w s → Walk a b (set_end k call_end.ReturnCancelled s) → Walk a b (cancelled k w s)
   unfolding cancelled
-  cancelled_walks k w {s = s} ok says to c =
+  cancelled_rest k w s says to c =
       let t = set_end k call_end.ReturnCancelled s in
       told_walks k status.ReturnCancelled w (λ told. told_ends k call_end.ReturnCancelled s t refl told) (λ e. says)
       (still_told_to k s t (end_same k call_end.ReturnCancelled s) w (λ x chosen n is. ap (λ p. option_map_or (is_waiting_on x) p false) (end_places k call_end.ReturnCancelled s n) ∙ chosen n is) to)
-      (word (SetEnd k call_end.ReturnCancelled) (ok, says) c)
+      c
+
+  pub cancelled_walks : (k : ℕ) (w : Option ℕ) {s : Core} → MayEnd a k call_end.ReturnCancelled s → SaysEnd a k status.ReturnCancelled → ToldTo k w s → Walk a b s → Walk a b (cancelled k w s)
+  cancelled_walks k w {s = s} ok says to c = cancelled_rest k w s says to (word (SetEnd k call_end.ReturnCancelled) (ok, says) c)

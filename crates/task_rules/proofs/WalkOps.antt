@@ -1,14 +1,21 @@
 -- The rows of the ops on sets, subtasks and threads as chains of words.
-use Rattle.std.proofs.Common.{T, ap, inl, inr, refl, subst, suc, sym, zero, ◌∙◌, ◌⊎◌}
+use Rattle.task_machine.specs.declared.label.SetLabel.{SetLabel}
+use Rattle.task_machine.specs.declared.label.CallLabel.{CallLabel}
+use Rattle.task_machine.specs.declared.label.SetLabel.TheVariants as set_label
+use Rattle.task_rules.proofs.MuteLemmas.{is_mute, mute_words}
+use Rattle.task_rules.proofs.SayLemmas.{call_answered_gone, call_returned_gone, cancel_hands_of, cancel_taken_gone, cancel_writes_of, event_joined, event_owed, found_returned, given_says, packed_is_not_two, received_gone, received_woken_gone}
+use Rattle.task_rules.specs.Chains.{EndWords, HandsOut, TakesEvent, WritesToo, is_over}
+use Rattle.task_rules.specs.SubtaskEnds.{SubtaskEnd, call_of_op, handed_by, handed_by_call, handed_by_cancel, handed_by_event, handed_by_set, returned_of_op, written_by_call, written_by_cancel, cancel_target, cancelled_of_op, end_for, written_by}
+use Rattle.std.proofs.Common.{T, ap, inl, inr, refl, subst, suc, sym, ◌∙◌, ◌⊎◌, ap₂, zero}
 use Rattle.std.specs.Option.{option_map_or}
 use Rattle.std.specs.Prelude.{Bool, List, None, Option, Some, [], false, if◌then◌else◌, is_some, not, option_map, true, unwrap_or, ℕ, ◌&&◌, ◌+◌, ◌==◌, ◌∷◌, ◌≡◌}
 use Rattle.task_machine.specs.Core.{Core, Main}
 use Rattle.task_machine.specs.Labels.{Choice, join_label, wait_label}
 use Rattle.task_machine.specs.Maps.{Records, get}
-use Rattle.task_machine.specs.Moves.{Gift, MemberGift, NoGift, OwnGift, checked, ended, gift, handed_on, may_hand_on, passes_check, promoted_unless, put_switch}
+use Rattle.task_machine.specs.Moves.{Gift, MemberGift, NoGift, OwnGift, checked, ended, gift, handed_on, may_hand_on, passes_check, promoted_unless, put_switch, withdrawn}
 use Rattle.task_machine.specs.Read.{at_handle_limit, event_of, fits, has_ended, has_member, has_waiters, how_far_of, instance_of, is_async_lifted, is_at, is_callback_yield, is_direct, is_joined, is_ready_to_resume, is_waiting_on, is_watched, is_yielded, join_of, new_handle, new_thread_handle, phase_of, place_of, registers_of, result_of, saved_callee_of, set_at, subtask_at, subtask_ended, task_of, thread_at, thread_group, thread_handle_of, undelivered_end, was_cancelled, was_started}
 use Rattle.task_machine.specs.Statuses.{packed, status_code}
-use Rattle.task_machine.specs.Write.{add_work, count_work, on_call, on_work, push_high, set_join, set_own_event, set_subtask_handle}
+use Rattle.task_machine.specs.Write.{add_work, count_work, on_call, on_work, push_high, set_join, set_own_event, set_subtask_handle, set_do_not_suspend, set_saved_callee, on_instance, on_thread, remove_thread, set_end}
 use Rattle.task_machine.specs.declared.component.Callee.{Callee}
 use Rattle.task_machine.specs.declared.component.HostDef.{HostDef}
 use Rattle.task_machine.specs.declared.component.Slot.{Slot}
@@ -33,10 +40,10 @@ use Rattle.task_rules.proofs.CancelLemmas.{CaseSays, case_says}
 use Rattle.task_rules.proofs.PlacingLemmas.{Shifted, placed, shifted_made, shifted_task, shifts_shifted}
 use Rattle.task_rules.proofs.StandLemmas.{by_number}
 use Rattle.task_rules.proofs.WalkMoves.{MayTake, call_settled_walks, checked_shifts, chosen_of, handed_on_shifts, moved, promoted_unless_shifts, shifted, wake_shifts, word}
-use Rattle.task_rules.proofs.WalkParts.{call_queues_walks, call_resumes_walks, call_stops_walks, cancel_goes_behind_walks, cancel_plain, cancel_stops_walks, cancel_takes_end_walks, checked_walks, enter_gives, enter_runs_walks, freed_named, gift_is, join_plain, join_walks, put_back_walks, received_walks, set_none_join, stopped_walks, wait_plain, wait_stops_walks, withdrawn_walks, work_deleted_walks, work_unnamed}
-use Rattle.task_rules.proofs.WalkTask.{Leads, advanced_walks, answered_walks, assigned_walks, goes_on, goes_on_saying, goes_over, is_plain, may_leads, or_never_leads, or_trap_leads, running_scene, stops_here, trap_if_leads, unnot}
-use Rattle.task_rules.specs.Allowed.{ByHandle, ByOp, BySetHandle, ByThread, ByWait, Cancels, HasSubtask, Leaves, MayJoin, MayMakeCall, Resumes, Suspends, Yields, subtask_under_way}
-use Rattle.task_rules.specs.Calls.{AtOnce, Failing, FirstPoll, Later, answered, call_answered, call_begins, call_host_polled, call_pending, call_queues, call_resumes, call_returned, call_row, call_status, call_sync_begins, call_sync_host_polled, call_sync_host_row, call_sync_host_stops, call_sync_row, call_sync_status, call_sync_stops, enter_row, enter_runs, first_poll, host_answered, host_pending, host_ready, new_thread, next_thread, next_work, status_found, work_answered, work_queued, work_value}
+use Rattle.task_rules.proofs.WalkParts.{call_queues_walks, call_resumes_walks, call_stops_walks, cancel_goes_behind_walks, cancel_plain, cancel_stops_walks, cancel_takes_end_walks, checked_walks, enter_gives, enter_runs_walks, freed_named, gift_is, join_plain, join_walks, put_back_walks, received_walks, set_none_join, stopped_walks, wait_plain, wait_stops_walks, withdrawn_walks, work_deleted_walks, work_unnamed, withdraws}
+use Rattle.task_rules.proofs.WalkTask.{Leads, advanced_walks, answered_walks, assigned_walks, goes_on, goes_on_saying, goes_over, may_leads, or_never_leads, or_trap_leads, running_scene, stops_here, trap_if_leads, unnot, is_still, over_now, call_in, call_named, none_is_some}
+use Rattle.task_rules.specs.Allowed.{ByHandle, ByOp, BySetHandle, ByThread, ByWait, Cancels, HasSubtask, Leaves, MayJoin, MayMakeCall, Resumes, Suspends, Yields, subtask_under_way, is_for_main}
+use Rattle.task_rules.specs.Calls.{AtOnce, Failing, FirstPoll, Later, answered, call_answered, call_begins, call_host_polled, call_pending, call_queues, call_resumes, call_returned, call_row, call_status, call_sync_begins, call_sync_host_polled, call_sync_host_row, call_sync_host_stops, call_sync_row, call_sync_status, call_sync_stops, enter_row, enter_runs, first_poll, host_answered, host_pending, host_ready, new_thread, next_thread, next_work, status_found, work_answered, work_queued, work_value, put_back}
 use Rattle.task_rules.specs.Cancels.{AlreadyEnded, Async, CallbackWaits, CallbackYields, CancelCase, Mode, OtherwiseRuns, StartNotRun, Sync, aborted_phase, blocked_code, cancel_aborts_host, cancel_asks, cancel_by_end, cancel_case, cancel_ended_row, cancel_guest, cancel_label, cancel_promotes_yield, cancel_resumed, cancel_row, cancel_stops, cancel_subtask, cancel_takes_end, cancel_wakes_callback, cancel_withdraws, drop_row, dropped, is_callback_wait, pauses, subtask_instance, subtask_row}
 use Rattle.task_rules.specs.Chains.{NoWord, Shifts, Walk}
 use Rattle.task_rules.specs.Data.{advanced, assigned}
@@ -49,7 +56,7 @@ use Rattle.task_rules.specs.Sets.{chosen, finds_nothing, handed_out, join_done, 
 use Rattle.task_rules.specs.Stalled.{Setting}
 use Rattle.task_rules.specs.SubtaskEnds.{cancel_target, cancelled_of_op, end_for, written_by}
 use Rattle.task_rules.specs.Threads.{Halt, Suspension, Yielding, by_how_far, halt_row, halted, halted_checked, halted_promoting, halted_resuming, halting, halts, has_yielded, resume_later_row, resume_why, resumed_later, then_promote, then_promote_row, then_resume_row, thread_made, thread_new_row, thread_row}
-use Rattle.task_rules.specs.Words.{CloseSet, CountWork, MakeThread, Move, NameCall, NameThread, NameWork, OpenSet, Put, QueueWork, SetCancelled, SetHowFar, SetOwnEvent, SetPhase, SetRegister, SetResult, SetSavedCallee, UnnameCall, UnnameWork}
+use Rattle.task_rules.specs.Words.{CloseSet, CountWork, MakeThread, Move, NameCall, NameThread, NameWork, OpenSet, Put, QueueWork, SetCancelled, SetHowFar, SetOwnEvent, SetPhase, SetRegister, SetResult, SetSavedCallee, UnnameCall, UnnameWork, after_word, Withdraw, SetExited, SetUninteresting}
 use Rattle.task_machine.specs.declared.component.Slot.TheVariants as slot
 use Rattle.task_machine.specs.declared.label.CallLabel.TheVariants as call_label
 use Rattle.task_machine.specs.declared.label.Label.TheVariants as label
@@ -72,9 +79,40 @@ use Rattle.task_machine.specs.declared.records.WorkCaller.TheVariants as work_ca
 use Rattle.task_machine.specs.declared.trap.Trap.TheVariants as trap
 use Rattle.task_machine.specs.declared.words.Mark.TheVariants as mark
 use Rattle.task_machine.specs.declared.words.OwnEvent.TheVariants as own
+use Rattle.task_machine.specs.declared.records.CallEnd.TheVariants as call_end
 use Rattle.task_machine.specs.declared.words.Status.TheVariants as status
 
 -- ---- What the rows read
+
+no_way : {A : Type 0} → false ≡ true → A
+no_way h = absurd (subst T (sym h) tt)
+
+abbrev is_returned : Status → Bool
+is_returned status.Returned = true
+is_returned _ = false
+
+abbrev is_guest : Subtask → Bool
+is_guest (subtask.Guest k) = true
+is_guest (subtask.Host i) = false
+
+abbrev is_call_end : Option SubtaskEnd → Bool
+is_call_end o = option_map_or (λ (e : SubtaskEnd). is_guest e.subtask) o false
+
+flag_event : (k j : ℕ) (b : Bool) (s : Core) → event_of (subtask.Guest k) (set_do_not_suspend j b s) ≡ event_of (subtask.Guest k) s
+unfolding set_do_not_suspend on_instance
+flag_event k j b s = refl
+
+-- a cancel that is resumed finds the event as it was
+event_left : (k : ℕ) (sub : Subtask) → sub ≡ subtask.Guest k → (s : Core) → event_of (subtask.Guest k) (set_join sub join.Nowhere s) ≡ event_of (subtask.Guest k) s
+event_left k sub is s = ap (λ (d : Subtask). event_of (subtask.Guest k) (set_join d join.Nowhere s)) is ∙ event_joined k k join.Nowhere s
+
+event_resumed : (n k : ℕ) (sub : Subtask) → sub ≡ subtask.Guest k → (s : Core) → event_of (subtask.Guest k) (cancel_resumed n sub s) ≡ event_of (subtask.Guest k) s
+unfolding cancel_resumed set_saved_callee on_thread
+event_resumed n k sub is s = event_left k sub is _ ∙ put_back_event (saved_callee_of n s)
+  where
+    put_back_event : (o : Option Bool) → event_of (subtask.Guest k) (put_back o (subtask_instance sub s) s) ≡ event_of (subtask.Guest k) s
+    put_back_event None = refl
+    put_back_event (Some b) = flag_event k (subtask_instance sub s) b s
 
 pub queued_made : (f : WorkCaller) (host : HostDef) (group : Option ℕ) (t : Core) → (work_queued f host group t).made.works ≡ t.made.works + 1
 unfolding work_queued push_high add_work count_work
@@ -149,11 +187,31 @@ module _ (x : Setting) (main : Main) (s : Core) (n : ℕ) (l : Label) (next : Tu
   abbrev a : Scene
   a = running_scene x main s n l next
 
-  go : (k : Label) (t : Core) → is_plain k ≡ true → Walk a s t → Leads a s (Goes k t n)
+  go : (k : Label) (t : Core) → is_still k ≡ true → Walk a s t → Leads a s (Goes k t n)
   go k t plain c = goes_on x main s n l next k t plain c
 
-  stop : (k : Label) (t : Core) → is_plain k ≡ true → (Leaves a n → Walk a s t) → Leads a s (Stops k t)
+  stop : (k : Label) (t : Core) → is_still k ≡ true → (Leaves a n → Walk a s t) → Leads a s (Stops k t)
   stop k t plain c = stops_here x main s n l next k t plain c
+
+  -- a label of sets writes no end
+  set_says : (k : SetLabel) (t : Core) → l ≡ label.Set k → ((j : ℕ) (e : Status) → handed_by_set s k ≡ Some (end_for e (subtask.Guest j)) → HandsOut a t j e) → EndWords a t
+  set_says k t is hands = record {
+    writes = λ j e says. none_is_some (end_for e (subtask.Guest j)) (sym (ap (λ (y : Label). written_by x.component s y s) is) ∙ says);
+    hands = λ j e out. hands j e (sym (ap (λ (y : Label). handed_by x.component main s y t) is) ∙ out);
+  }
+
+  -- nor a label of calls but that of a cancel
+  call_says : (k : CallLabel) (t : Core) → written_by_call x.component s k ≡ None → l ≡ label.Call k → ((j : ℕ) (e : Status) → handed_by_call x.component s k ≡ Some (end_for e (subtask.Guest j)) → HandsOut a t j e) → EndWords a t
+  call_says k t none is hands = record {
+    writes = λ j e says. none_is_some (end_for e (subtask.Guest j)) (sym (ap (λ (y : Label). written_by x.component s y s) is ∙ none) ∙ says);
+    hands = λ j e out. hands j e (sym (ap (λ (y : Label). handed_by x.component main s y t) is) ∙ out);
+  }
+
+  -- what an op on a set hands out is the member's event
+  gift_out : (r y : ℕ) (ch : Choice) (g : Gift) → gift false (task_of n s) y (chosen n ch s) s ≡ Some g → (j : ℕ) (e : Status) → handed_by_event n s (handed_out ch s g) ≡ Some (end_for e (subtask.Guest j)) → HandsOut a (received n r g (handed_out ch s g) s) j e
+  gift_out r y ch g h j e out =
+      let q = given_says false n (task_of n s) y ch s g j e h out in
+      TakesEvent q.1 (subst (λ (f : Gift). undelivered_end (event_of (subtask.Guest j) (received n r f (handed_out ch s g) s)) ≡ None) (sym q.0) (received_gone n r j (handed_out ch s g) s))
 
   -- ---- Sets
 
@@ -183,15 +241,24 @@ module _ (x : Setting) (main : Main) (s : Core) (n : ℕ) (l : Label) (next : Tu
       stop _ (wait_stops_checked n y s) refl (λ leave. wait_stops_walks n refl y leave (BySetHandle h named) (checked_walks n refl (instance_of n s) NoWord)))
   wait_begins_leads r h ch y false named =
       or_never_leads a s (gift false (task_of n s) y (chosen n ch s) s) _ (λ g e.
-      go _ (received n r g (handed_out ch s g) s) refl (received_walks n refl r g (handed_out ch s g) (takes y ch g e) NoWord))
+      goes_on_saying x main s n l next (label.Set (set_label.Wait (handed_out ch s g) n)) (received n r g (handed_out ch s g) s) refl (λ is. set_says (set_label.Wait (handed_out ch s g) n) _ is (gift_out r y ch g e)) (λ is. received_walks n refl r g (handed_out ch s g) (takes y ch g e) NoWord))
 
   received_leads : (y r : ℕ) (ch : Choice) (g : Gift) → gift false (task_of n s) y (chosen n ch s) s ≡ Some g → Leads a s (may (may_hand_on y g ch.woken s) (Goes (wait_label n (handed_out ch s g) ch.woken) (received_woken n y r ch.woken g (handed_out ch s g) s) n))
   unfolding received_woken
   received_leads y r ch g e =
       may_leads a s (may_hand_on y g ch.woken s) _ (λ may.
       let d : Shifts s (handed_on y g ch.woken s) = handed_on_shifts y g ch.woken s may in
-      go (wait_label n (handed_out ch s g) ch.woken) (received_woken n y r ch.woken g (handed_out ch s g) s) (wait_plain n (handed_out ch s g) ch.woken)
-      (received_walks n refl r g (handed_out ch s g) (subst (λ (k : ℕ). MayTake a k g) (sym (shifted_task (shifts_shifted d) n)) (takes y ch g e)) (shifted d NoWord)))
+      goes_on_saying x main s n l next (wait_label n (handed_out ch s g) ch.woken) (received_woken n y r ch.woken g (handed_out ch s g) s) (wait_plain n (handed_out ch s g) ch.woken)
+      (says ch.woken)
+      (λ is. received_walks n refl r g (handed_out ch s g) (subst (λ (k : ℕ). MayTake a k g) (sym (shifted_task (shifts_shifted d) n)) (takes y ch g e)) (shifted d NoWord)))
+    where
+      -- only a wake that is handed on is shown
+      says : (w : Option ℕ) → l ≡ wait_label n (handed_out ch s g) w → EndWords a (received_woken n y r w g (handed_out ch s g) s)
+      says (Some z) is = mute_words a _ (ap is_mute is)
+      says None is =
+          set_says (set_label.Wait (handed_out ch s g) n) _ is (λ j f out.
+          let q = given_says false n (task_of n s) y ch s g j f e out in
+          TakesEvent q.1 (subst (λ (h : Gift). undelivered_end (event_of (subtask.Guest j) (received_woken n y r None h (handed_out ch s g) s)) ≡ None) (sym q.0) (received_woken_gone n y r j (handed_out ch s g) s)))
 
   wait_goes_on_leads : (y r : ℕ) (ch : Choice) (g : Gift) → how_far_of n s ≡ how_far.Waits y → gift false (task_of n s) y (chosen n ch s) s ≡ Some g → Leads a s (wait_goes_on n y r ch s g)
   wait_goes_on_leads y r ch NoGift far e = stop _ (wait_stops n y s) refl (λ leave. wait_stops_walks n refl y leave (ByWait far) NoWord)
@@ -206,7 +273,7 @@ module _ (x : Setting) (main : Main) (s : Core) (n : ℕ) (l : Label) (next : Tu
   poll_row_leads r h ch =
       or_trap_leads a s (set_at (instance_of n s) h s) trap.BadHandle _ (λ y named.
       or_never_leads a s (gift false (task_of n s) y (chosen n ch s) s) _ (λ g e.
-      go _ (received n r g (handed_out ch s g) s) refl (received_walks n refl r g (handed_out ch s g) (takes y ch g e) NoWord)))
+      goes_on_saying x main s n l next (label.Set (set_label.Poll (handed_out ch s g) n)) (received n r g (handed_out ch s g) s) refl (λ is. set_says (set_label.Poll (handed_out ch s g) n) _ is (gift_out r y ch g e)) (λ is. received_walks n refl r g (handed_out ch s g) (takes y ch g e) NoWord)))
 
   joined_walks : (sub : Subtask) (y w : Option ℕ) (o : Option Status) (t : Core) → t.threads ≡ s.threads → may_wake_new o y w s ≡ true → Walk a s t → Walk a s (wakes_joined o y w t)
   joined_walks sub (Some y) w (Some e) t same may c = shifted (wake_shifts y w t (λ m is. ap (λ (r : Records Thread). option_map_or (is_waiting_on y) (option_map (λ u. u.place) (get r m)) false) same ∙ chosen_of y w s may m is)) c
@@ -240,38 +307,48 @@ module _ (x : Setting) (main : Main) (s : Core) (n : ℕ) (l : Label) (next : Tu
   -- ---- Calls
 
   -- what its op calls
-  makes_call : (e : Callee) (g : Goal) → callee_of_op (op_in a n) ≡ Some e → (is_direct g ≡ true → is_async_lifted (export_kind x.component e) ≡ false) → MayMakeCall a (caller.Thread n) e (export_kind x.component e) g (thread_group n s) s
-  makes_call e g callee lifted = (ByThread n refl callee refl refl, (refl, (refl, lifted)))
+  makes_call : (e : Callee) (g : Goal) → callee_of_op (op_in a n) ≡ Some e → (is_direct g ≡ true → is_async_lifted (export_kind x.component e) ≡ false) → is_for_main g ≡ false → MayMakeCall a (caller.Thread n) e (export_kind x.component e) g (thread_group n s) s
+  makes_call e g callee lifted other = (ByThread n refl callee refl refl, (refl, (refl, (lifted, other))))
 
   no_direct : {A : Type 0} → false ≡ true → A
   no_direct e = absurd (subst T (sym e) tt)
 
-  call_begins_leads : (e : Callee) (g : Goal) (words : List ℕ) → callee_of_op (op_in a n) ≡ Some e → is_direct g ≡ false → Leads a s (call_begins x.component n e g words s)
-  call_begins_leads e g words callee plain =
+  call_begins_leads : (e : Callee) (g : Goal) (words : List ℕ) → callee_of_op (op_in a n) ≡ Some e → is_direct g ≡ false → is_for_main g ≡ false → Leads a s (call_begins x.component n e g words s)
+  call_begins_leads e g words callee plain other =
       trap_if_leads a s (not (fits 3 s)) trap.TableFull _ (λ f.
-      stop _ (call_queues n e (export_kind x.component e) g words s) refl (λ leave. call_queues_walks n refl e (export_kind x.component e) g words leave (makes_call e g callee (λ d. no_direct (sym plain ∙ d))) plain))
+      stop _ (call_queues n e (export_kind x.component e) g words s) refl (λ leave. call_queues_walks n refl e (export_kind x.component e) g words leave (makes_call e g callee (λ d. no_direct (sym plain ∙ d)) other) plain))
 
   by_call : (sub : Subtask) → how_far_of n s ≡ how_far.Calls sub → HasSubtask a n sub
   by_call sub far = ByOp (ap (λ h. subtask_under_way h) far)
 
-  call_pending_leads : (r k : ℕ) (e : Status) → HasSubtask a n (subtask.Guest k) → Leads a s (let v = packed (new_handle (instance_of n s) s) e in trap_if (at_handle_limit s) trap.HandleLimit (Goes (label.Call (call_label.Call v n)) (call_pending n r k v s) n))
+  call_pending_leads : (r k : ℕ) (e : Status) → (e ≡ status.Returned → ⊥) → HasSubtask a n (subtask.Guest k) → Leads a s (let v = packed (new_handle (instance_of n s) s) e in trap_if (at_handle_limit s) trap.HandleLimit (Goes (label.Call (call_label.Call v n)) (call_pending n r k v s) n))
   unfolding call_pending
-  call_pending_leads r k e has =
+  call_pending_leads r k e other has =
       trap_if_leads a s (at_handle_limit s) trap.HandleLimit _ (λ f.
       let v = packed (new_handle (instance_of n s) s) e in
-      go _ (call_pending n r k v s) refl (answered_walks n refl r v (word (NameCall (instance_of n s) k) (n, (refl, (refl, inl has))) (call_resumes_walks n refl k has NoWord))))
+      go _ (call_pending n r k v s) (packed_is_not_two (new_handle (instance_of n s) s) e other) (answered_walks n refl r v (word (NameCall (instance_of n s) k) (n, (refl, (refl, inl has))) (call_resumes_walks n refl k has NoWord))))
 
-  call_status_leads : (r k : ℕ) (e : Status) → HasSubtask a n (subtask.Guest k) → Leads a s (call_status n r k s e)
+  -- the op is about a call that has returned
+  returned_out : (k : ℕ) (t : Core) → how_far_of n s ≡ how_far.Calls (subtask.Guest k) → status_found k s ≡ status.Returned → undelivered_end (event_of (subtask.Guest k) t) ≡ None → (j : ℕ) (e : Status) → returned_of_op n s ≡ Some (end_for e (subtask.Guest j)) → HandsOut a t j e
+  returned_out k t far found gone j e out =
+      let both = sym (ap (λ (f : HowFar). option_map (end_for status.Returned) (call_of_op f)) far) ∙ out in
+      subst (λ (f : Status). HandsOut a t j f) (ap (λ (o : Option SubtaskEnd). option_map_or (λ y. y.status) o status.Starting) both)
+      (subst (λ (i : ℕ). HandsOut a t i status.Returned) (ap (λ (o : Option SubtaskEnd). call_in o) both) (TakesEvent (found_returned (event_of (subtask.Guest k) s) found) gone))
+
+  call_status_leads : (r k : ℕ) (e : Status) → how_far_of n s ≡ how_far.Calls (subtask.Guest k) → status_found k s ≡ e → HasSubtask a n (subtask.Guest k) → Leads a s (call_status n r k s e)
   unfolding call_returned
-  call_status_leads r k status.Returned has = go _ (call_returned n r k s) refl (answered_walks n refl r 2 (call_settled_walks k (call_resumes_walks n refl k has NoWord)))
-  call_status_leads r k status.Starting has = call_pending_leads r k status.Starting has
-  call_status_leads r k status.Started has = call_pending_leads r k status.Started has
-  call_status_leads r k status.StartCancelled has = call_pending_leads r k status.StartCancelled has
-  call_status_leads r k status.ReturnCancelled has = call_pending_leads r k status.ReturnCancelled has
+  call_status_leads r k status.Returned far found has =
+      goes_on_saying x main s n l next (label.Call (call_label.Call 2 n)) (call_returned n r k s) refl
+      (λ is. call_says (call_label.Call 2 n) _ refl is (returned_out k (call_returned n r k s) far found (call_returned_gone n r k s)))
+      (λ is. answered_walks n refl r 2 (call_settled_walks k (call_resumes_walks n refl k has NoWord)))
+  call_status_leads r k status.Starting far found has = call_pending_leads r k status.Starting (λ h. no_way (ap is_returned h)) has
+  call_status_leads r k status.Started far found has = call_pending_leads r k status.Started (λ h. no_way (ap is_returned h)) has
+  call_status_leads r k status.StartCancelled far found has = call_pending_leads r k status.StartCancelled (λ h. no_way (ap is_returned h)) has
+  call_status_leads r k status.ReturnCancelled far found has = call_pending_leads r k status.ReturnCancelled (λ h. no_way (ap is_returned h)) has
 
   call_row_leads : (r q : ℕ) (e : Callee) (words : List ℕ) (f : HowFar) → callee_of_op (op_in a n) ≡ Some e → how_far_of n s ≡ f → Leads a s (call_row x.component n r q e words s f)
-  call_row_leads r q e words (how_far.Calls (subtask.Guest k)) callee far = call_status_leads r k (status_found k s) (by_call (subtask.Guest k) far)
-  call_row_leads r q e words _ callee far = call_begins_leads e (goal.Register q) words callee refl
+  call_row_leads r q e words (how_far.Calls (subtask.Guest k)) callee far = call_status_leads r k (status_found k s) far refl (by_call (subtask.Guest k) far)
+  call_row_leads r q e words _ callee far = call_begins_leads e (goal.Register q) words callee refl refl
 
   call_sync_pauses : (k : ℕ) → HasSubtask a n (subtask.Guest k) → Leads a s (trap_if (not (passes_check (instance_of n s) (call_resumes n k s))) trap.CannotBlockSyncTask (Stops (label.Thread (thread_label.Pauses n)) (call_sync_stops n k s)))
   unfolding call_sync_stops
@@ -279,28 +356,35 @@ module _ (x : Setting) (main : Main) (s : Core) (n : ℕ) (l : Label) (next : Tu
       trap_if_leads a s (not (passes_check (instance_of n s) (call_resumes n k s))) trap.CannotBlockSyncTask _ (λ f.
       stop _ (call_sync_stops n k s) refl (λ leave. call_stops_walks n refl (subtask.Guest k) (checked (instance_of n s) (call_resumes n k s)) leave (λ u d. inl has) (checked_walks n refl (instance_of n s) (call_resumes_walks n refl k has NoWord))))
 
-  call_sync_status_leads : (r k : ℕ) (e : Status) → HasSubtask a n (subtask.Guest k) → Leads a s (call_sync_status n r k s e)
+  call_sync_status_leads : (r k : ℕ) (e : Status) → how_far_of n s ≡ how_far.Calls (subtask.Guest k) → status_found k s ≡ e → HasSubtask a n (subtask.Guest k) → Leads a s (call_sync_status n r k s e)
   unfolding call_answered
-  call_sync_status_leads r k status.Returned has = go _ (call_answered n r k s) refl (answered_walks n refl r (result_of k s) (call_settled_walks k (word (SetResult k None) tt (call_resumes_walks n refl k has NoWord))))
-  call_sync_status_leads r k status.Starting has = call_sync_pauses k has
-  call_sync_status_leads r k status.Started has = call_sync_pauses k has
-  call_sync_status_leads r k status.StartCancelled has = call_sync_pauses k has
-  call_sync_status_leads r k status.ReturnCancelled has = call_sync_pauses k has
+  call_sync_status_leads r k status.Returned far found has =
+      goes_on_saying x main s n l next (label.Call (call_label.CallSync n (result_of k s))) (call_answered n r k s) refl
+      (λ is. call_says (call_label.CallSync n (result_of k s)) _ refl is (returned_out k (call_answered n r k s) far found (call_answered_gone n r k s)))
+      (λ is. answered_walks n refl r (result_of k s) (call_settled_walks k (word (SetResult k None) tt (call_resumes_walks n refl k has NoWord))))
+  call_sync_status_leads r k status.Starting far found has = call_sync_pauses k has
+  call_sync_status_leads r k status.Started far found has = call_sync_pauses k has
+  call_sync_status_leads r k status.StartCancelled far found has = call_sync_pauses k has
+  call_sync_status_leads r k status.ReturnCancelled far found has = call_sync_pauses k has
 
   enter_row_leads : (e : Callee) (words : List ℕ) → callee_of_op (op_in a n) ≡ Some e → is_async_lifted (export_kind x.component e) ≡ false → Leads a s (enter_row n e (export_kind x.component e) words s)
   enter_row_leads e words callee lifted =
       trap_if_leads a s (not (fits 3 s)) trap.TableFull _ (λ f.
       trap_if_leads a s (at_handle_limit s) trap.HandleLimit _ (λ g.
       goes_over x main s n l next (label.Call (call_label.Enters n (next_thread s))) (next_thread s) (enter_runs n e (export_kind x.component e) words s) refl (λ h. no_direct h) (by_number (next_thread s) n _ (λ h. inl (ap (λ (i : ℕ). turn.Run i) (sym h))) (λ h. inr (enter_gives n e (export_kind x.component e) words s h)))
-      (λ is to. enter_runs_walks n refl e (export_kind x.component e) words to (makes_call e goal.Direct callee (λ d. lifted)))))
+      (λ is. mute_words a _ (ap is_mute is))
+      (λ is to. enter_runs_walks n refl e (export_kind x.component e) words to (makes_call e goal.Direct callee (λ d. lifted) refl))))
 
   call_sync_row_leads : (r : ℕ) (e : Callee) (words : List ℕ) (f : HowFar) → callee_of_op (op_in a n) ≡ Some e → how_far_of n s ≡ f → Leads a s (call_sync_row x.component n r e words s f)
-  call_sync_row_leads r e words (how_far.Answered v) callee far = go _ (assigned n r v s) refl (assigned_walks n refl r v NoWord)
-  call_sync_row_leads r e words (how_far.Calls (subtask.Guest k)) callee far = call_sync_status_leads r k (status_found k s) (by_call (subtask.Guest k) far)
+  call_sync_row_leads r e words (how_far.Answered v) callee far =
+      goes_on_saying x main s n l next (label.Call (call_label.CallSync n v)) (assigned n r v s) refl
+      (λ is. call_says (call_label.CallSync n v) _ refl is (λ j f out. none_is_some (end_for f (subtask.Guest j)) (sym (ap (λ (h : HowFar). option_map (end_for status.Returned) (call_of_op h)) far) ∙ out)))
+      (λ is. assigned_walks n refl r v NoWord)
+  call_sync_row_leads r e words (how_far.Calls (subtask.Guest k)) callee far = call_sync_status_leads r k (status_found k s) far refl (by_call (subtask.Guest k) far)
   call_sync_row_leads r e words _ callee far = by_lift (is_async_lifted (export_kind x.component e)) refl
     where
       by_lift : (b : Bool) → is_async_lifted (export_kind x.component e) ≡ b → Leads a s (call_sync_begins x.component n e words s b)
-      by_lift true at = call_begins_leads e goal.Answer words callee refl
+      by_lift true at = call_begins_leads e goal.Answer words callee refl refl
       by_lift false at = enter_row_leads e words callee at
 
   -- ---- Calls of a host
@@ -338,7 +422,10 @@ module _ (x : Setting) (main : Main) (s : Core) (n : ℕ) (l : Label) (next : Tu
 
   call_sync_host_row_leads : (r h : ℕ) (f : HowFar) → how_far_of n s ≡ f → Leads a s (call_sync_host_row x.component n r h s f)
   unfolding work_answered
-  call_sync_host_row_leads r h (how_far.Calls (subtask.Host i)) far = go _ (work_answered n r i s) refl (assigned_walks n refl r (work_value i s) (work_deleted_walks n refl i (n, (refl, inl far)) NoWord))
+  call_sync_host_row_leads r h (how_far.Calls (subtask.Host i)) far =
+      goes_on_saying x main s n l next (label.Call (call_label.CallSync n (work_value i s))) (work_answered n r i s) refl
+      (λ is. call_says (call_label.CallSync n (work_value i s)) _ refl is (λ j f out. no_way (ap (λ (o : Option SubtaskEnd). is_call_end o) (sym (ap (λ (y : HowFar). option_map (end_for status.Returned) (call_of_op y)) far) ∙ out))))
+      (λ is. assigned_walks n refl r (work_value i s) (work_deleted_walks n refl i (n, (refl, inl far)) NoWord))
   call_sync_host_row_leads r h _ far = call_sync_host_polled_leads r (first_poll (host_at x.component h))
 
   -- ---- Cancels
@@ -347,14 +434,33 @@ module _ (x : Setting) (main : Main) (s : Core) (n : ℕ) (l : Label) (next : Tu
   abbrev IsFree : Subtask → Type 0
   IsFree sub = (is_joined (join_of sub s) ≡ false) ⊎ (how_far_of n s ≡ how_far.Cancels sub)
 
-  cancel_ended_row_leads : (mode : Mode) (r : ℕ) (sub : Subtask) (t : Core) (o : Option Status) → HasSubtask a n sub → Walk a s t → Leads a s (cancel_ended_row mode n r sub t o)
-  cancel_ended_row_leads mode r sub t None has c = tt
-  cancel_ended_row_leads mode r sub t (Some e) has c = go (cancel_label mode n (status_code e)) (cancel_takes_end n r sub e t) (cancel_plain mode n (status_code e)) (cancel_takes_end_walks n refl r sub e has c)
+  -- a cancel that takes an end of its subtask
+  cancel_says : (mode : Mode) (r : ℕ) (sub : Subtask) (t : Core) (e : Status) → cancelled_of_op x.component n s (how_far_of n s) ≡ Some sub → ((k : ℕ) → sub ≡ subtask.Guest k → undelivered_end (event_of (subtask.Guest k) s) ≡ Some e) → l ≡ cancel_label mode n (status_code e) → EndWords a (cancel_takes_end n r sub e t)
+  cancel_says mode r sub t e target found is = record {
+    writes = λ j f says.
+        let q = cancel_writes_of e (cancelled_of_op x.component n s (how_far_of n s)) sub j f target (sym (writes_at mode) ∙ (sym (ap (λ (y : Label). written_by x.component s y s) is) ∙ says)) in
+        inl (found j q.0 ∙ ap (λ (g : Status). Some g) q.1);
+    hands = λ j f out.
+        let q = cancel_hands_of e (cancelled_of_op x.component n s (how_far_of n s)) sub j f target (sym (hands_at mode) ∙ (sym (ap (λ (y : Label). handed_by x.component main s y (cancel_takes_end n r sub e t)) is) ∙ out)) in
+        TakesEvent (found j q.0 ∙ ap (λ (g : Status). Some g) q.1) (subst (λ (d : Subtask). undelivered_end (event_of (subtask.Guest j) (cancel_takes_end n r d e t)) ≡ None) (sym q.0) (cancel_taken_gone n r j e t));
+  }
+    where
+      writes_at : (m : Mode) → written_by x.component s (cancel_label m n (status_code e)) s ≡ written_by_cancel x.component n s (status_code e)
+      writes_at Async = refl
+      writes_at Sync = refl
 
-  cancel_by_end_leads : (mode : Mode) (r : ℕ) (sub : Subtask) (t : Core) (b : Bool) → HasSubtask a n sub → IsFree sub → Walk a s t → Leads a s (cancel_by_end mode n r sub t b)
-  cancel_by_end_leads mode r sub t true has free c = cancel_ended_row_leads mode r sub t (undelivered_end (event_of sub t)) has c
-  cancel_by_end_leads Async r sub t false has free c = go (cancel_label Async n blocked_code) (answered n r blocked_code t) refl (answered_walks n refl r blocked_code c)
-  cancel_by_end_leads Sync r sub t false has free c =
+      hands_at : (m : Mode) → handed_by x.component main s (cancel_label m n (status_code e)) (cancel_takes_end n r sub e t) ≡ handed_by_cancel x.component n s (status_code e)
+      hands_at Async = refl
+      hands_at Sync = refl
+
+  cancel_ended_row_leads : (mode : Mode) (r : ℕ) (sub : Subtask) (t : Core) (o : Option Status) → cancelled_of_op x.component n s (how_far_of n s) ≡ Some sub → ((k : ℕ) → sub ≡ subtask.Guest k → undelivered_end (event_of (subtask.Guest k) s) ≡ o) → HasSubtask a n sub → Walk a s t → Leads a s (cancel_ended_row mode n r sub t o)
+  cancel_ended_row_leads mode r sub t None target found has c = tt
+  cancel_ended_row_leads mode r sub t (Some e) target found has c = goes_on_saying x main s n l next (cancel_label mode n (status_code e)) (cancel_takes_end n r sub e t) (cancel_plain mode n (status_code e)) (λ is. cancel_says mode r sub t e target found is) (λ is. cancel_takes_end_walks n refl r sub e has c)
+
+  cancel_by_end_leads : (mode : Mode) (r : ℕ) (sub : Subtask) (t : Core) (b : Bool) → cancelled_of_op x.component n s (how_far_of n s) ≡ Some sub → ((k : ℕ) → sub ≡ subtask.Guest k → event_of (subtask.Guest k) t ≡ event_of (subtask.Guest k) s) → HasSubtask a n sub → IsFree sub → Walk a s t → Leads a s (cancel_by_end mode n r sub t b)
+  cancel_by_end_leads mode r sub t true target same has free c = cancel_ended_row_leads mode r sub t (undelivered_end (event_of sub t)) target (λ k is. ap (λ o. undelivered_end o) (sym (same k is)) ∙ ap (λ (d : Subtask). undelivered_end (event_of d t)) (sym is)) has c
+  cancel_by_end_leads Async r sub t false target same has free c = go (cancel_label Async n blocked_code) (answered n r blocked_code t) refl (answered_walks n refl r blocked_code c)
+  cancel_by_end_leads Sync r sub t false target same has free c =
       trap_if_leads a s (not (passes_check (instance_of n t) t)) trap.CannotBlockSyncTask _ (λ e.
       stop (pauses n) (cancel_stops n sub t) refl (λ leave. cancel_stops_walks n refl sub leave has free c))
 
@@ -366,12 +472,36 @@ module _ (x : Setting) (main : Main) (s : Core) (n : ℕ) (l : Label) (next : Tu
   cancel_writes Async = refl
   cancel_writes Sync = refl
 
+  -- a start that is withdrawn is an end, and handed out
+  withdraw_says : (mode : Mode) (r k : ℕ) → l ≡ cancel_label mode n 3 → cancelled_of_op x.component n s (how_far_of n s) ≡ Some (subtask.Guest k) → has_ended k s ≡ false → EndWords a (cancel_withdraws n r k s)
+  unfolding cancel_withdraws withdrawn remove_thread
+  withdraw_says mode r k at target unended =
+      let v : Core = after_word (Withdraw k) s in
+      let u : Core = set_end k call_end.StartCancelled v in
+      let rest : Walk a u (cancel_withdraws n r k s) = subst (λ (w : Core). Walk a (set_end k call_end.StartCancelled w) (cancel_withdraws n r k s)) (sym (withdraws k s)) (answered_walks n refl r 3 (word (SetUninteresting k) tt (word (SetExited k) tt NoWord))) in
+      record {
+        writes = λ j f says.
+            let q = cancel_writes_of status.StartCancelled (cancelled_of_op x.component n s (how_far_of n s)) (subtask.Guest k) j f target (sym (cancel_writes mode) ∙ (sym (ap (λ (y : Label). written_by x.component s y s) at) ∙ says)) in
+            let same : k ≡ j = ap (λ (d : Subtask). call_named d) q.0 in
+            inr (inl (subst (λ (i : ℕ). has_ended i s ≡ false) same unended), (u, (subst (λ (i : ℕ). is_over i u ≡ true) same (over_now k call_end.StartCancelled v), rest)));
+        hands = λ j f out.
+            let both = sym (ap (λ (y : Label). handed_by x.component main s y (cancel_withdraws n r k s)) at) ∙ out in
+            let q = cancel_hands_of status.StartCancelled (cancelled_of_op x.component n s (how_far_of n s)) (subtask.Guest k) j f target (sym (withdraw_hands mode) ∙ both) in
+            WritesToo (ap (λ (y : Label). written_by x.component s y s) at ∙ (cancel_writes mode ∙ (ap (option_map (end_for status.StartCancelled)) target ∙ ap₂ (λ (g : Status) (d : Subtask). Some (end_for g d)) q.1 q.0))) (inr (sym q.1));
+      }
+    where
+      withdraw_hands : (m : Mode) → handed_by x.component main s (cancel_label m n 3) (cancel_withdraws n r k s) ≡ handed_by_cancel x.component n s 3
+      withdraw_hands Async = refl
+      withdraw_hands Sync = refl
+
   cancel_guest_leads : (mode : Mode) (r k : ℕ) (y : CancelCase) → cancelled_of_op x.component n s (how_far_of n s) ≡ Some (subtask.Guest k) → cancel_case k s ≡ y → HasSubtask a n (subtask.Guest k) → is_joined (join_of (subtask.Guest k) s) ≡ false → Leads a s (cancel_guest mode n r k s y)
   unfolding cancel_withdraws cancel_wakes_callback cancel_promotes_yield cancel_asks set_own_event on_call
-  cancel_guest_leads mode r k AlreadyEnded target is has free = cancel_ended_row_leads mode r (subtask.Guest k) s (undelivered_end (event_of (subtask.Guest k) s)) has NoWord
+  cancel_guest_leads mode r k AlreadyEnded target is has free = cancel_ended_row_leads mode r (subtask.Guest k) s (undelivered_end (event_of (subtask.Guest k) s)) target (λ j at. ap (λ (d : Subtask). undelivered_end (event_of d s)) (sym at)) has NoWord
   cancel_guest_leads mode r k StartNotRun target is has free =
       let says = subst (CaseSays k s) is (case_says k s) in
-      goes_on_saying x main s n l next (cancel_label mode n 3) (cancel_withdraws n r k s) (cancel_plain mode n 3) (λ at. answered_walks n refl r 3 (withdrawn_walks n refl k (n, (refl, (has, (says.1, says.0)))) (ap (λ (y : Label). written_by x.component s y s) at ∙ (cancel_writes mode ∙ ap (option_map (end_for status.StartCancelled)) target)) NoWord))
+      goes_on_saying x main s n l next (cancel_label mode n 3) (cancel_withdraws n r k s) (cancel_plain mode n 3)
+      (λ at. withdraw_says mode r k at target says.0)
+      (λ at. answered_walks n refl r 3 (withdrawn_walks n refl k (n, (refl, (has, (says.1, says.0)))) (ap (λ (y : Label). written_by x.component s y s) at ∙ (cancel_writes mode ∙ ap (option_map (end_for status.StartCancelled)) target)) NoWord))
   cancel_guest_leads mode r k CallbackWaits target is has free =
       let asks = asks_walks k has (goes_on_case k s CallbackWaits is refl) in
       stop (pauses n) (cancel_wakes_callback n k s) refl (λ leave. cancel_goes_behind_walks n refl k leave has free
@@ -380,25 +510,25 @@ module _ (x : Setting) (main : Main) (s : Core) (n : ℕ) (l : Label) (next : Tu
       let asks = asks_walks k has (goes_on_case k s CallbackYields is refl) in
       stop (pauses n) (cancel_promotes_yield n k s) refl (λ leave. cancel_goes_behind_walks n refl k leave has free
       (shifted (promoted_unless_shifts k (cancel_asks k s) (inr (ready_at (place_of k s) (yields_ready (place_of k s) (subst (CaseSays k s) is (case_says k s)))))) asks))
-  cancel_guest_leads mode r k OtherwiseRuns target is has free = cancel_by_end_leads mode r (subtask.Guest k) (cancel_asks k s) (subtask_ended (subtask.Guest k) (cancel_asks k s)) has (inl free) (asks_walks k has (goes_on_case k s OtherwiseRuns is refl))
+  cancel_guest_leads mode r k OtherwiseRuns target is has free = cancel_by_end_leads mode r (subtask.Guest k) (cancel_asks k s) (subtask_ended (subtask.Guest k) (cancel_asks k s)) target (λ j at. event_owed j k (Some own.Cancelled) s) has (inl free) (asks_walks k has (goes_on_case k s OtherwiseRuns is refl))
 
   cancel_subtask_leads : (mode : Mode) (r : ℕ) (sub : Subtask) → cancelled_of_op x.component n s (how_far_of n s) ≡ Some sub → HasSubtask a n sub → is_joined (join_of sub s) ≡ false → Leads a s (cancel_subtask mode n r s sub)
   unfolding cancel_aborts_host
   cancel_subtask_leads mode r (subtask.Guest k) target has free = cancel_guest_leads mode r k (cancel_case k s) target refl has free
   cancel_subtask_leads mode r (subtask.Host i) target has free =
       trap_if_leads a s (was_cancelled i s) trap.SubtaskCancelAfterTerminal _ (λ e.
-      cancel_by_end_leads mode r (subtask.Host i) (cancel_aborts_host i s) (subtask_ended (subtask.Host i) (cancel_aborts_host i s)) has (inl free) (word (SetCancelled i) (n, (refl, has)) (word (SetPhase i (aborted_phase (phase_of i s))) refl NoWord)))
+      cancel_by_end_leads mode r (subtask.Host i) (cancel_aborts_host i s) (subtask_ended (subtask.Host i) (cancel_aborts_host i s)) target (λ k at. no_way (ap (λ (d : Subtask). is_guest d) at)) has (inl free) (word (SetCancelled i) (n, (refl, has)) (word (SetPhase i (aborted_phase (phase_of i s))) refl NoWord)))
 
   cancel_row_leads : (mode : Mode) (r h : ℕ) (f : HowFar) → cancel_target n s (op_of x.component n s) ≡ subtask_at (instance_of n s) h s → how_far_of n s ≡ f → Leads a s (cancel_row mode n r h s f)
   unfolding cancel_resumed
   cancel_row_leads mode r h (how_far.Cancels sub) target far =
       let has : HasSubtask a n sub = ByOp (ap (λ y. subtask_under_way y) far) in
-      cancel_by_end_leads mode r sub (cancel_resumed n sub s) (subtask_ended sub (cancel_resumed n sub s)) has (inr far)
+      cancel_by_end_leads mode r sub (cancel_resumed n sub s) (subtask_ended sub (cancel_resumed n sub s)) (ap (cancelled_of_op x.component n s) far) (λ k at. event_resumed n k sub at s) has (inr far)
       (join_walks n refl sub join.Nowhere (n, (refl, has)) (word (SetSavedCallee n None) tt (put_back_walks n refl (saved_callee_of n s) (subtask_instance sub s) NoWord)))
   cancel_row_leads mode r h (how_far.AwaitsEnd sub) target far =
       let has : HasSubtask a n sub = ByOp (ap (λ y. subtask_under_way y) far) in
       let t = set_join sub join.Nowhere s in
-      cancel_ended_row_leads mode r sub t (undelivered_end (event_of sub t)) has (join_walks n refl sub join.Nowhere (n, (refl, has)) NoWord)
+      cancel_ended_row_leads mode r sub t (undelivered_end (event_of sub t)) (ap (cancelled_of_op x.component n s) far) (λ k at. ap (λ o. undelivered_end o) (sym (event_left k sub at s)) ∙ ap (λ (d : Subtask). undelivered_end (event_of d t)) (sym at)) has (join_walks n refl sub join.Nowhere (n, (refl, has)) NoWord)
   cancel_row_leads mode r h f target far =
       or_trap_leads a s (subtask_at (instance_of n s) h s) trap.BadHandle _ (λ sub named.
       trap_if_leads a s (is_joined (join_of sub s)) trap.WaitableSyncAndAsync _ (λ free.
@@ -455,12 +585,12 @@ module _ (x : Setting) (main : Main) (s : Core) (n : ℕ) (l : Label) (next : Tu
   halted_checked_walks : (h : Halt) → Leaves a n → Walk a s (halted_checked h n s)
   halted_checked_walks h leave = subst (λ (t : Core). Walk a s t) (sym (halted_checked_is h n s)) (halted_walks h (checked (instance_of n s) s) leave (checked_walks n refl (instance_of n s) NoWord))
 
-  halts_leads : (h : Halt) (k : Label) (b : Bool) → is_plain k ≡ true → Leads a s (halts h n k s b)
+  halts_leads : (h : Halt) (k : Label) (b : Bool) → is_still k ≡ true → Leads a s (halts h n k s b)
   halts_leads h k true plain = stop (pauses n) (halted_checked h n s) refl (λ leave. halted_checked_walks h leave)
   halts_leads Suspension k false plain = tt
   halts_leads Yielding k false plain = go k (advanced n s) plain (advanced_walks n refl NoWord)
 
-  halt_row_leads : (h : Halt) (k : Label) → is_plain k ≡ true → Leads a s (halt_row h n k s)
+  halt_row_leads : (h : Halt) (k : Label) → is_still k ≡ true → Leads a s (halt_row h n k s)
   halt_row_leads h k plain = halts_leads h k (passes_check (instance_of n s) s) plain
 
   resume_later_row_leads : (h : ℕ) → Leads a s (resume_later_row n h s)
@@ -479,20 +609,20 @@ module _ (x : Setting) (main : Main) (s : Core) (n : ℕ) (l : Label) (next : Tu
       or_trap_leads a s (resume_why m s) trap.CannotResumeThread _ (λ w by.
       stop (pauses n) (halted_resuming y n m w s) refl (λ leave. halted_walks y (put_switch m w s) leave (placed (Put mark.Switch m w) (inl (Resumes by)) NoWord)))))
 
-  then_promote_leads : (y : Halt) (k : Label) (m : ℕ) (b : Bool) → is_plain k ≡ true → has_yielded m s ≡ b → Leads a s (then_promote y n k s m b)
+  then_promote_leads : (y : Halt) (k : Label) (m : ℕ) (b : Bool) → is_still k ≡ true → has_yielded m s ≡ b → Leads a s (then_promote y n k s m b)
   unfolding halted_promoting has_yielded
   then_promote_leads y k m true plain at =
       let ready = resumes_ready (place_of m s) (both_true (option_map_or is_ready_to_resume (place_of m s) false) (is_yielded (how_far_of m s)) at) in
       stop (pauses n) (halted_promoting y n m s) refl (λ leave. halted_walks y (promoted_unless m s) leave (shifted (promoted_unless_shifts m s (inr (ready_at (place_of m s) ready))) NoWord))
   then_promote_leads y k m false plain at = halt_row_leads y k plain
 
-  then_promote_row_leads : (y : Halt) (h : ℕ) (k : Label) → is_plain k ≡ true → Leads a s (then_promote_row y n h k s)
+  then_promote_row_leads : (y : Halt) (h : ℕ) (k : Label) → is_still k ≡ true → Leads a s (then_promote_row y n h k s)
   then_promote_row_leads y h k plain =
       or_trap_leads a s (thread_at (instance_of n s) h s) trap.BadHandle _ (λ m named.
       trap_if_leads a s (m == n) trap.CannotResumeThread _ (λ other.
       then_promote_leads y k m (has_yielded m s) plain refl))
 
-  halting_leads : (k : ThreadLabel) (row : Label → Progress) → is_plain (label.Thread k) ≡ true → Leads a s (row (label.Thread k)) → Leads a s (halting n s k row)
+  halting_leads : (k : ThreadLabel) (row : Label → Progress) → is_still (label.Thread k) ≡ true → Leads a s (row (label.Thread k)) → Leads a s (halting n s k row)
   halting_leads k row plain leads = by_far (how_far_of n s)
     where
       by_far : (f : HowFar) → Leads a s (by_how_far f n (label.Thread k) s (row (label.Thread k)))

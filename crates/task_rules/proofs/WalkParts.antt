@@ -28,7 +28,7 @@ use Rattle.task_machine.specs.declared.words.Status.{Status}
 use Rattle.task_rules.proofs.PlacingLemmas.{Shifted, placed, placing_shifted, shifted_after, shifted_explicit, shifted_made}
 use Rattle.task_rules.proofs.StandLemmas.{place_kept}
 use Rattle.task_rules.proofs.WalkMoves.{MayTake, checked_shifts, group_settled_walks, moved, shifted, stopped_shifts, taken_walks, word}
-use Rattle.task_rules.proofs.WalkTask.{advanced_walks, answered_walks, is_plain, running_moved}
+use Rattle.task_rules.proofs.WalkTask.{advanced_walks, answered_walks, is_plain, is_still, running_moved}
 use Rattle.task_rules.specs.Allowed.{Blocks, ByHandle, HasSet, HasSubtask, IsNew, IsRunner, IsWithdrawn, Leaves, MayDeliver, MayJoin, MayMakeCall, MayRemoveWork, MayWithdraw, SaysEnd, Starts, Waits}
 use Rattle.task_rules.specs.Calls.{call_clears_flag, call_made, call_queues, call_resumes, call_stops, enter_runs, new_call, new_thread, next_thread, put_back, settle_group_of, sync_sets_flag, with_thread_handle, work_deleted, work_group}
 use Rattle.task_rules.specs.Cancels.{Async, Mode, Sync, behind_switch, cancel_goes_behind, cancel_label, cancel_stops, cancel_takes_end}
@@ -80,7 +80,7 @@ pub freed_named : (i h k : ℕ) (t : Core) → subtask_handle (subtask.Host k) (
 unfolding free_handle
 freed_named i h k t = refl
 
-pub join_plain : (n : ℕ) (w : Option ℕ) → is_plain (join_label n w) ≡ true
+pub join_plain : (n : ℕ) (w : Option ℕ) → is_still (join_label n w) ≡ true
 join_plain n None = refl
 join_plain n (Some w) = refl
 
@@ -141,7 +141,7 @@ unfolding set_switch set_high set_low
 withdraws_by k o es fs t true = refl
 withdraws_by k o es fs t false = refl
 
-withdraws : (k : ℕ) (t : Core) → after_word (Withdraw k) t ≡ remove_thread k (set_switch (less_switch k t.queues.switch) (unqueued k t))
+pub withdraws : (k : ℕ) (t : Core) → after_word (Withdraw k) t ≡ remove_thread k (set_switch (less_switch k t.queues.switch) (unqueued k t))
 unfolding unqueued
 withdraws k t = withdraws_by k (less_switch k t.queues.switch) (less k t.queues.high) (less k t.queues.low) t (has_entry k t.queues.high)
 

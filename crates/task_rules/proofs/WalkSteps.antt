@@ -1,5 +1,16 @@
 -- Each step as a chain of words: host works, main, the loop and all turns.
-use Rattle.std.proofs.Common.{T, ap, ap₂, cond, inl, inr, length, refl, subst, suc, sym, ◌∙◌, ◌⊎◌}
+use Rattle.task_rules.proofs.MuteLemmas.{is_mute, is_mute_main, mute_words}
+use Rattle.task_rules.proofs.SayLemmas.{finished_is, mapped, result_taken}
+use Rattle.task_rules.proofs.WalkTask.{call_in}
+use Rattle.task_rules.specs.Chains.{EndWords, HandsOut, TakesResult}
+use Rattle.task_rules.specs.SubtaskEnds.{SubtaskEnd, end_for, finished_call, handed_by, handed_by_main, started_end, written_by}
+use Rattle.task_machine.specs.declared.records.Subtask.TheVariants as subtask
+use Rattle.task_machine.specs.declared.words.Status.{Status}
+use Rattle.task_machine.specs.declared.words.Status.TheVariants as status
+use Rattle.task_machine.specs.Core.{Main}
+use Rattle.task_machine.specs.Write.{take_result}
+use Rattle.task_rules.specs.MainOps.{started_at}
+use Rattle.std.proofs.Common.{T, ap, ap₂, cond, inl, inr, length, refl, subst, suc, sym, ◌∙◌, ◌⊎◌, is_some}
 use Rattle.std.specs.Option.{option_map_or}
 use Rattle.std.specs.Prelude.{Bool, List, None, Option, Some, [], false, not, option_map, slice_set, true, unwrap_or, zero, ℕ, ◌+◌, ◌==◌, ◌∷◌, ◌≡◌}
 use Rattle.task_machine.proofs.CommuteLemmas.{change-change_same}
@@ -238,12 +249,13 @@ struck_thread : (n : ℕ) (s : Core) → get (struck n s).threads n ≡ None
 unfolding struck strand_of set_trapped
 struck_thread n s = first_gone (size s.threads) n s
 
-struck_words : (a : Scene) (n : ℕ) → IsRunner a n → a.next ≡ turn.Over → begun_holder a.base a.label ≡ None → LastWords a (struck n a.base)
-struck_words a n is over begun = record {
+struck_words : (a : Scene) (n : ℕ) → IsRunner a n → a.next ≡ turn.Over → begun_holder a.base a.label ≡ None → is_mute a.label ≡ true → LastWords a (struck n a.base)
+struck_words a n is over begun mute = record {
   laid = λ m at take. subst (λ (j : ℕ). option_map_or is_free (place_of j (struck n a.base)) true ≡ true) (one is at) (ap (λ (o : Option Thread). option_map_or is_free (option_map (λ r. r.place) o) true) (struck_thread n a.base));
   runs = λ m at. not_over m (sym over ∙ at);
   outcome = λ o at. over;
   gone = λ m at exit. subst (λ (j : ℕ). get (struck n a.base).threads j ≡ None) (one is at) (struck_thread n a.base);
+  says = mute_words a (struck n a.base) mute;
   shut = λ i at. none_is_some i (sym begun ∙ at);
 }
   where
@@ -272,11 +284,11 @@ landed : (at : Turn → Scene) (b : Core) (s : State) (new : Core) (u : Turn) (t
 landed at b s new u t is c = arrives at b s new s.main u t (same_main s.main) is c
 
 -- of a row, by where it leads
-progresses_walk : (at : Turn → Scene) (b : Core) (s : State) (base : Core) (n : ℕ) (p : Progress) (l : Label) (t : State) → ((u : Turn) → (at u).label ≡ l) → ((u : Turn) → (at u).next ≡ u) → ((u : Turn) → Leads (at u) b p) → (begun_holder base l ≡ None → Walk (at turn.Over) b (struck n base) × LastWords (at turn.Over) (struck n base)) → Progresses s base n p l t → WalkedBy at b s.main t
+progresses_walk : (at : Turn → Scene) (b : Core) (s : State) (base : Core) (n : ℕ) (p : Progress) (l : Label) (t : State) → ((u : Turn) → (at u).label ≡ l) → ((u : Turn) → (at u).next ≡ u) → ((u : Turn) → Leads (at u) b p) → (begun_holder base l ≡ None → is_mute l ≡ true → Walk (at turn.Over) b (struck n base) × LastWords (at turn.Over) (struck n base)) → Progresses s base n p l t → WalkedBy at b s.main t
 progresses_walk at b s base n (Goes k new m) l t labels nexts leads falls is = landed at b s new (turn.Run m) t is.1 (leads (turn.Run m) (labels (turn.Run m) ∙ is.0) (nexts (turn.Run m)))
 progresses_walk at b s base n (Stops k new) l t labels nexts leads falls is = landed at b s new turn.Main t is.1 (leads turn.Main (labels turn.Main ∙ is.0) (nexts turn.Main))
-progresses_walk at b s base n (Traps trap) l t labels nexts leads falls is = landed at b s (struck n base) turn.Over t is.1 (falls (ap (λ k. begun_holder base k) is.0))
-progresses_walk at b s base n (Fails i) l t labels nexts leads falls is = landed at b s (struck n base) turn.Over t is.1 (falls (ap (λ k. begun_holder base k) is.0))
+progresses_walk at b s base n (Traps trap) l t labels nexts leads falls is = landed at b s (struck n base) turn.Over t is.1 (falls (ap (λ k. begun_holder base k) is.0) (ap is_mute is.0))
+progresses_walk at b s base n (Fails i) l t labels nexts leads falls is = landed at b s (struck n base) turn.Over t is.1 (falls (ap (λ k. begun_holder base k) is.0) (ap is_mute is.0))
 progresses_walk at b s base n Never l t labels nexts leads falls is = absurd is
 progresses_walk at b s base n (Ordered ns next) l t labels nexts leads falls is = progresses_walk at b s base n (next is.0) l t labels nexts (λ u. leads u is.0) falls is.1.1
 
@@ -287,12 +299,13 @@ is_idle_label (label.Loop k) = true
 is_idle_label (label.Take k) = true
 is_idle_label _ = false
 
-idle_words : (a : Scene) (t : Core) → a.runner ≡ None → ((m : ℕ) → a.next ≡ turn.Run m → ⊥) → ((o : Outcome) → outcome_of_label a.label ≡ Some o → a.next ≡ turn.Over) → begun_holder a.base a.label ≡ None → LastWords a t
-idle_words a t none stills outcome begun = record {
+idle_words : (a : Scene) (t : Core) → a.runner ≡ None → ((m : ℕ) → a.next ≡ turn.Run m → ⊥) → ((o : Outcome) → outcome_of_label a.label ≡ Some o → a.next ≡ turn.Over) → begun_holder a.base a.label ≡ None → EndWords a t → LastWords a t
+idle_words a t none stills outcome begun says = record {
   laid = λ m at take. none_is_some m (sym none ∙ at);
   runs = λ m at. absurd (stills m at);
   outcome = outcome;
   gone = λ m at exit. none_is_some m (sym none ∙ at);
+  says = says;
   shut = λ i at. none_is_some i (sym begun ∙ at);
 }
 
@@ -312,6 +325,42 @@ sync_ended_shifts i v t =
     let u = set_phase i phase.Complete (set_course i (course_for v) t) in
     unblocked_shifts (subtask.Host i) (blocked_on (subtask.Host i) u) (set_stage i stage.Ended u) (λ m is. blocked_at (subtask.Host i) u m is)
 
+host_mute : (m : Mark) (i : ℕ) (w : Option ℕ) → is_mute (host_label m i w) ≡ true
+host_mute m i None = refl
+host_mute m i (Some z) = refl
+
+abbrev is_unscripted : Main → Bool
+is_unscripted Unscripted = true
+is_unscripted (Scripted p) = false
+
+one_place : (p q : MainPlace) → Scripted p ≡ Scripted q → p ≡ q
+one_place p q h = ap place_in h
+  where
+    place_in : Main → MainPlace
+    place_in (Scripted r) = r
+    place_in Unscripted = p
+
+-- what an op of a script finishes is the start that it names
+script_names : (p : MainPlace) (o : MainOpDef) (y : Started) → act_of p o ≡ Finish y → started_at p (line_of p o) ≡ y
+script_names p o y h = names o h
+  where
+    finish_of : MainAct → Option Started
+    finish_of (Finish z) = Some z
+    finish_of _ = None
+
+    none : {A : Type 0} → None ≡ Some y → A
+    none g = none_is_some y g
+
+    names : (q : MainOpDef) → act_of p q ≡ Finish y → started_at p (line_of p q) ≡ y
+    names (main_op.Finish k r) g = ap (λ (o : Option Started). unwrap_or o y) (ap finish_of g)
+    names (main_op.Start f xs) g = none (ap finish_of g)
+    names (main_op.Spawn k) g = none (ap finish_of g)
+    names (main_op.Abort k) g = none (ap finish_of g)
+    names (main_op.Await k) g = none (ap finish_of g)
+    names main_op.Quiet g = none (ap finish_of g)
+    names (main_op.Ready f) g = none (ap finish_of g)
+    names (main_op.Answer v) g = none (ap finish_of g)
+
 module _ (x : Setting) (s : State) (l : Label) where
   -- the scene of this step, whose turn and entry are these
   abbrev scene_at : Turn → Option (Mark × Entry) → Turn → Scene
@@ -319,8 +368,8 @@ module _ (x : Setting) (s : State) (l : Label) where
 
   -- ---- Main
 
-  main_here : (u : Turn) (next : Turn) (k : MainLabel) (t : Core) → l ≡ label.Main k → main_outcome k ≡ None ⊎ (next ≡ turn.Over) → ((m : ℕ) → next ≡ turn.Run m → ⊥) → Walk (scene_at u None next) s.core t → Walk (scene_at u None next) s.core t × LastWords (scene_at u None next) t
-  main_here u next k t is quiet stills c = (c, idle_words (scene_at u None next) t refl stills (λ o at. ends quiet o (sym (ap outcome_of_label is) ∙ at)) (ap (λ y. begun_holder s.core y) is))
+  main_here : (u : Turn) (next : Turn) (k : MainLabel) (t : Core) → l ≡ label.Main k → main_outcome k ≡ None ⊎ (next ≡ turn.Over) → ((m : ℕ) → next ≡ turn.Run m → ⊥) → EndWords (scene_at u None next) t → Walk (scene_at u None next) s.core t → Walk (scene_at u None next) s.core t × LastWords (scene_at u None next) t
+  main_here u next k t is quiet stills says c = (c, idle_words (scene_at u None next) t refl stills (λ o at. ends quiet o (sym (ap outcome_of_label is) ∙ at)) (ap (λ y. begun_holder s.core y) is) says)
     where
       ends : main_outcome k ≡ None ⊎ (next ≡ turn.Over) → (o : Outcome) → main_outcome k ≡ Some o → next ≡ turn.Over
       ends (inl none) o at = none_is_some o (sym none ∙ at)
@@ -328,7 +377,7 @@ module _ (x : Setting) (s : State) (l : Label) where
 
   -- what an op of main does
   abbrev LeadsMain : Turn → MainProgress → Type 0
-  LeadsMain u (Does k new) = (main_outcome k ≡ None) × Walk (scene_at u None turn.Main) s.core new
+  LeadsMain u (Does k new) = (main_outcome k ≡ None) × ((l ≡ label.Main k → EndWords (scene_at u None turn.Main) new) × Walk (scene_at u None turn.Main) s.core new)
   LeadsMain u Pends = Unit {0}
   LeadsMain u (Answers v) = Unit {0}
 
@@ -339,43 +388,64 @@ module _ (x : Setting) (s : State) (l : Label) where
       let g = add_group s.core in
       let h : Born k goal.Main (call_made caller.Main e (export_kind x.component e) goal.Main (s.core.made.groups + 1) words g) = call_born caller.Main e (export_kind x.component e) goal.Main (s.core.made.groups + 1) words g in
       placed (Put mark.High k why.Start) (inl (Starts (born_place h) (born_explicit h) (ap (λ (y : Goal). is_direct y) (born_goal h)) refl))
-      (word (MakeCall caller.Main e (export_kind x.component e) goal.Main (s.core.made.groups + 1) words) (may, (refl, (refl, λ d. absurd (subst T (sym d) tt)))) (word AddGroup refl NoWord))
+      (word (MakeCall caller.Main e (export_kind x.component e) goal.Main (s.core.made.groups + 1) words) (may, (refl, (refl, (λ d. absurd (subst T (sym d) tt), refl)))) (word AddGroup refl NoWord))
 
   start_act_leads : (u : Turn) (k : ℕ) (e : Callee) (words : List ℕ) (o : Option Trap) → MayCall (scene_at u None turn.Main) caller.Main e (s.core.made.groups + 1) (add_group s.core) → LeadsMain u (start_act x.component k e words s.core o)
-  start_act_leads u k e words None may = (refl, started_walks u e words may)
-  start_act_leads u k e words (Some t) may = (refl, word SetTrapped tt NoWord)
+  start_act_leads u k e words None may = (refl, (λ is. mute_words _ _ (ap is_mute is), started_walks u e words may))
+  start_act_leads u k e words (Some t) may = (refl, (λ is. mute_words _ _ (ap is_mute is), word SetTrapped tt NoWord))
 
-  finish_result_leads : (u : Turn) (k n : ℕ) (o : Option ℕ) → LeadsMain u (finish_result k n s.core o)
-  finish_result_leads u k n None = tt
-  finish_result_leads u k n (Some v) = (refl, word (TakeResult n) tt NoWord)
+  -- the K of a script's finish names what the op finishes
+  abbrev Names : ℕ → Started → Type 0
+  Names k y = (p : MainPlace) → s.main ≡ Scripted p → started_at p k ≡ y
 
-  finish_act_leads : (u : Turn) (k : ℕ) (y : Started) → LeadsMain u (finish_act k s.core y)
-  finish_act_leads u k (Began n) = finish_result_leads u k n (get s.core.results n)
-  finish_act_leads u k (Refused t) = (refl, NoWord)
+  finish_says : (u : Turn) (k n v : ℕ) → Names k (Began n) → get s.core.results n ≡ Some v → l ≡ label.Main (main_label.Finish k v) → EndWords (scene_at u None turn.Main) (take_result n s.core)
+  finish_says u k n v names there is = record {
+    writes = λ j e says. none_is_some (end_for e (subtask.Guest j)) (sym (ap (λ (y : Label). written_by x.component s.core y s.core) is) ∙ says);
+    hands = λ j e out. by_main s.main refl j e (sym (ap (λ (y : Label). handed_by x.component s.main s.core y (take_result n s.core)) is) ∙ out);
+  }
+    where
+      taken : (j : ℕ) (e : Status) → n ≡ j → status.Returned ≡ e → HandsOut (scene_at u None turn.Main) (take_result n s.core) j e
+      taken j e same ends = subst (λ (f : Status). HandsOut (scene_at u None turn.Main) (take_result n s.core) j f) ends (subst (λ (i : ℕ). HandsOut (scene_at u None turn.Main) (take_result n s.core) i status.Returned) same (TakesResult (ap (λ (o : Option ℕ). is_some o) there) refl (result_taken n s.core)))
 
-  unless_pending_leads : (u : Turn) (b : Bool) (k : MainLabel) → main_outcome k ≡ None → LeadsMain u (unless_pending b k s.core)
-  unless_pending_leads u true k quiet = (quiet, NoWord)
-  unless_pending_leads u false k quiet = tt
+      by_main : (m : Main) → s.main ≡ m → (j : ℕ) (e : Status) → handed_by_main m s.core (main_label.Finish k v) (take_result n s.core) ≡ Some (end_for e (subtask.Guest j)) → HandsOut (scene_at u None turn.Main) (take_result n s.core) j e
+      by_main (Scripted p) at j e out =
+          let both = sym (ap (λ (y : Started). started_end y) (names p at)) ∙ out in
+          taken j e (ap (λ (o : Option SubtaskEnd). call_in o) both) (ap (λ (o : Option SubtaskEnd). option_map_or (λ y. y.status) o status.Starting) both)
+      by_main Unscripted at j e out =
+          let q = mapped (finished_call v s.core (take_result n s.core)) j e out in
+          taken j e (finished_is n v s.core there j q.0) q.1
 
-  main_row_leads : (u : Turn) (k : ℕ) (act : MainAct) → ((e : Callee) (words : List ℕ) → act ≡ Start e words → MayCall (scene_at u None turn.Main) caller.Main e (s.core.made.groups + 1) (add_group s.core)) → LeadsMain u (main_row x.component k s.core act)
+  finish_result_leads : (u : Turn) (k n : ℕ) (o : Option ℕ) → Names k (Began n) → get s.core.results n ≡ o → LeadsMain u (finish_result k n s.core o)
+  finish_result_leads u k n None names there = tt
+  finish_result_leads u k n (Some v) names there = (refl, (finish_says u k n v names there, word (TakeResult n) tt NoWord))
+
+  finish_act_leads : (u : Turn) (k : ℕ) (y : Started) → Names k y → LeadsMain u (finish_act k s.core y)
+  finish_act_leads u k (Began n) names = finish_result_leads u k n (get s.core.results n) names refl
+  finish_act_leads u k (Refused t) names = (refl, (λ is. mute_words _ _ (ap is_mute is), NoWord))
+
+  unless_pending_leads : (u : Turn) (b : Bool) (k : MainLabel) → main_outcome k ≡ None → is_mute_main k ≡ true → LeadsMain u (unless_pending b k s.core)
+  unless_pending_leads u true k quiet mute = (quiet, (λ is. mute_words _ _ (ap is_mute is ∙ mute), NoWord))
+  unless_pending_leads u false k quiet mute = tt
+
+  main_row_leads : (u : Turn) (k : ℕ) (act : MainAct) → ((e : Callee) (words : List ℕ) → act ≡ Start e words → MayCall (scene_at u None turn.Main) caller.Main e (s.core.made.groups + 1) (add_group s.core)) → ((y : Started) → act ≡ Finish y → Names k y) → LeadsMain u (main_row x.component k s.core act)
   unfolding main_spawned main_aborted
-  main_row_leads u k (Start e words) may = start_act_leads u k e words (start_refusal s.core) (may e words refl)
-  main_row_leads u k (Finish y) may = finish_act_leads u k y
-  main_row_leads u k (Spawn h) may = (refl, word (QueueWork work_caller.Spawn (host_at x.component h) None) (refl, refl) NoWord)
-  main_row_leads u k (Abort i) may = (refl, word (SetPhase i (aborted_phase (phase_of i s.core))) refl NoWord)
-  main_row_leads u k (Await i) may = unless_pending_leads u (is_complete (phase_of i s.core)) (main_label.Await k) refl
-  main_row_leads u k Quiet may = unless_pending_leads u (not (has_interesting s.core)) main_label.Quiet refl
-  main_row_leads u k (Ready i) may = unless_pending_leads u (is_ready_for_call i s.core) main_label.Ready refl
-  main_row_leads u k (Answer v) may = tt
+  main_row_leads u k (Start e words) may names = start_act_leads u k e words (start_refusal s.core) (may e words refl)
+  main_row_leads u k (Finish y) may names = finish_act_leads u k y (names y refl)
+  main_row_leads u k (Spawn h) may names = (refl, (λ is. mute_words _ _ (ap is_mute is), word (QueueWork work_caller.Spawn (host_at x.component h) None) (refl, refl) NoWord))
+  main_row_leads u k (Abort i) may names = (refl, (λ is. mute_words _ _ (ap is_mute is), word (SetPhase i (aborted_phase (phase_of i s.core))) refl NoWord))
+  main_row_leads u k (Await i) may names = unless_pending_leads u (is_complete (phase_of i s.core)) (main_label.Await k) refl refl
+  main_row_leads u k Quiet may names = unless_pending_leads u (not (has_interesting s.core)) main_label.Quiet refl refl
+  main_row_leads u k (Ready i) may names = unless_pending_leads u (is_ready_for_call i s.core) main_label.Ready refl refl
+  main_row_leads u k (Answer v) may names = tt
 
   pends_here : (u : Turn) (t : State) → l ≡ label.Loop loop_label.MainPends → t ≡ goes_to s s.core (turn.Futures 0) → WalkedBy (scene_at u None) s.core s.main t
-  pends_here u t is at = landed (scene_at u None) s.core s s.core (turn.Futures 0) t at (NoWord, idle_words (scene_at u None (turn.Futures 0)) s.core refl (λ m f. not_futures 0 m f) (λ o f. none_is_some o (sym (ap outcome_of_label is) ∙ f)) (ap (λ y. begun_holder s.core y) is))
+  pends_here u t is at = landed (scene_at u None) s.core s s.core (turn.Futures 0) t at (NoWord, idle_words (scene_at u None (turn.Futures 0)) s.core refl (λ m f. not_futures 0 m f) (λ o f. none_is_some o (sym (ap outcome_of_label is) ∙ f)) (ap (λ y. begun_holder s.core y) is) (mute_words _ _ (ap is_mute is)))
 
-  does_here : (u : Turn) (m : Main) (k : MainLabel) (new : Core) (t : State) → SameMain s.main m → (main_outcome k ≡ None) × Walk (scene_at u None turn.Main) s.core new → l ≡ label.Main k → t ≡ at_turn s new m turn.Main → WalkedBy (scene_at u None) s.core s.main t
-  does_here u m k new t same c is at = arrives (scene_at u None) s.core s new m turn.Main t same at (main_here u turn.Main k new is (inl c.0) (λ j f. not_main j f) c.1)
+  does_here : (u : Turn) (m : Main) (k : MainLabel) (new : Core) (t : State) → SameMain s.main m → (main_outcome k ≡ None) × ((l ≡ label.Main k → EndWords (scene_at u None turn.Main) new) × Walk (scene_at u None turn.Main) s.core new) → l ≡ label.Main k → t ≡ at_turn s new m turn.Main → WalkedBy (scene_at u None) s.core s.main t
+  does_here u m k new t same c is at = arrives (scene_at u None) s.core s new m turn.Main t same at (main_here u turn.Main k new is (inl c.0) (λ j f. not_main j f) (c.1.0 is) c.1.1)
 
   answers_here : (u : Turn) (v : ℕ) (t : State) → l ≡ label.Main (main_label.Answer v) → t ≡ goes_to s s.core turn.Over → WalkedBy (scene_at u None) s.core s.main t
-  answers_here u v t is at = landed (scene_at u None) s.core s s.core turn.Over t at (main_here u turn.Over (main_label.Answer v) s.core is (inr refl) (λ j f. not_over j f) NoWord)
+  answers_here u v t is at = landed (scene_at u None) s.core s s.core turn.Over t at (main_here u turn.Over (main_label.Answer v) s.core is (inr refl) (λ j f. not_over j f) (mute_words _ _ (ap is_mute is)) NoWord)
 
   main_progresses_walk : (u : Turn) (p : MainPlace) (o : MainOpDef) (q : MainProgress) (t : State) → s.main ≡ Scripted p → LeadsMain u q → MainProgresses s p o q l t → WalkedBy (scene_at u None) s.core s.main t
   main_progresses_walk u p o (Does k new) t at c is = does_here u (Scripted (advanced_main o k p)) k new t (subst (λ (m : Main). SameMain m (Scripted (advanced_main o k p))) (sym at) tt) c is.0 is.1
@@ -402,7 +472,7 @@ module _ (x : Setting) (s : State) (l : Label) where
 
   script_step_walks : (u : Turn) (p : MainPlace) (o : Option MainOpDef) (t : State) → s.main ≡ Scripted p → op_at x.script p ≡ o → ScriptStep x s p o l t → WalkedBy (scene_at u None) s.core s.main t
   script_step_walks u p None t scripted at is = pends_here u t is.0 is.1
-  script_step_walks u p (Some o) t scripted at is = main_progresses_walk u p o (main_row x.component (line_of p o) s.core (act_of p o)) t scripted (main_row_leads u (line_of p o) (act_of p o) (λ e words h. script_call u p o scripted at e words h)) is
+  script_step_walks u p (Some o) t scripted at is = main_progresses_walk u p o (main_row x.component (line_of p o) s.core (act_of p o)) t scripted (main_row_leads u (line_of p o) (act_of p o) (λ e words h. script_call u p o scripted at e words h) (λ y h p2 at2. ap (λ q. started_at q (line_of p o)) (sym (one_place p p2 (sym scripted ∙ at2))) ∙ script_names p o y h)) is
 
   open_progresses_walk : (u : Turn) (q : MainProgress) (t : State) → LeadsMain u q → OpenProgresses s q l t → WalkedBy (scene_at u None) s.core s.main t
   open_progresses_walk u (Does k new) t c is = does_here u s.main k new t (same_main s.main) c is.0 is.1
@@ -411,7 +481,7 @@ module _ (x : Setting) (s : State) (l : Label) where
 
   open_act_walks : (u : Turn) (k : ℕ) (act : MainAct) (t : State) → s.main ≡ Unscripted → OpenAct x s k act l t → WalkedBy (scene_at u None) s.core s.main t
   unfolding add_group
-  open_act_walks u k act t open_main h = open_progresses_walk u (main_row x.component k s.core act) t (main_row_leads u k act (λ e words at. ByProgram (length words) open_main (sym (ap (λ y. may_act x.component s.core y) at) ∙ h.0) refl refl)) h.1
+  open_act_walks u k act t open_main h = open_progresses_walk u (main_row x.component k s.core act) t (main_row_leads u k act (λ e words at. ByProgram (length words) open_main (sym (ap (λ y. may_act x.component s.core y) at) ∙ h.0) refl refl) (λ y at p at2. absurd (subst T (ap is_unscripted (sym open_main ∙ at2)) tt))) h.1
 
   -- ---- Works
 
@@ -426,9 +496,9 @@ module _ (x : Setting) (s : State) (l : Label) where
 
   polled_walks : (n i : ℕ) (p : Poll) (t : State) → next_polled n s.core ≡ Some i → Polled s i p l t → WalkedBy (scene_at (turn.Futures n) None) s.core s.main t
   unfolding poll_ends
-  polled_walks n i (StillPends host) t at is = landed (scene_at (turn.Futures n) None) s.core s (poll_pends i host s.core) (turn.Futures i) t is.1 (word (Pend i host) (n, (refl, at)) NoWord, idle_words (scene_at (turn.Futures n) None (turn.Futures i)) (poll_pends i host s.core) refl (λ m f. not_futures i m f) (λ o f. none_is_some o (sym (ap outcome_of_label is.0) ∙ f)) (ap (λ y. begun_holder s.core y) is.0))
-  polled_walks n i (Ends v) t at is = landed (scene_at (turn.Futures n) None) s.core s (poll_ends i v s.core) (turn.Take true) t is.1 (followed_walks n i v at, idle_words (scene_at (turn.Futures n) None (turn.Take true)) (poll_ends i v s.core) refl (λ m f. not_take true m f) (λ o f. none_is_some o (sym (ap outcome_of_label is.0) ∙ f)) (ap (λ y. begun_holder s.core y) is.0))
-  polled_walks n i FailsNow t at is = landed (scene_at (turn.Futures n) None) s.core s (set_trapped s.core) turn.Over t is.1 (word SetTrapped tt NoWord, idle_words (scene_at (turn.Futures n) None turn.Over) (set_trapped s.core) refl (λ m f. not_over m f) (λ o f. refl) (ap (λ y. begun_holder s.core y) is.0))
+  polled_walks n i (StillPends host) t at is = landed (scene_at (turn.Futures n) None) s.core s (poll_pends i host s.core) (turn.Futures i) t is.1 (word (Pend i host) (n, (refl, at)) NoWord, idle_words (scene_at (turn.Futures n) None (turn.Futures i)) (poll_pends i host s.core) refl (λ m f. not_futures i m f) (λ o f. none_is_some o (sym (ap outcome_of_label is.0) ∙ f)) (ap (λ y. begun_holder s.core y) is.0) (mute_words _ _ (ap is_mute is.0)))
+  polled_walks n i (Ends v) t at is = landed (scene_at (turn.Futures n) None) s.core s (poll_ends i v s.core) (turn.Take true) t is.1 (followed_walks n i v at, idle_words (scene_at (turn.Futures n) None (turn.Take true)) (poll_ends i v s.core) refl (λ m f. not_take true m f) (λ o f. none_is_some o (sym (ap outcome_of_label is.0) ∙ f)) (ap (λ y. begun_holder s.core y) is.0) (mute_words _ _ (ap is_mute is.0)))
+  polled_walks n i FailsNow t at is = landed (scene_at (turn.Futures n) None) s.core s (set_trapped s.core) turn.Over t is.1 (word SetTrapped tt NoWord, idle_words (scene_at (turn.Futures n) None turn.Over) (set_trapped s.core) refl (λ m f. not_over m f) (λ o f. refl) (ap (λ y. begun_holder s.core y) is.0) (mute_words _ _ (ap is_mute is.0)))
 
   futures_walk : (n : ℕ) (o : Option ℕ) (t : State) → next_polled n s.core ≡ o → FuturesStep s o l t → WalkedBy (scene_at (turn.Futures n) None) s.core s.main t
   futures_walk n None t at is = absurd is
@@ -440,12 +510,12 @@ module _ (x : Setting) (s : State) (l : Label) where
   empty_walks ended true t is = rests (is_unended_take s.turn) is
     where
       rests : (c : Bool) → RestStep s c l t → WalkedBy (scene_at (turn.Take ended) None) s.core s.main t
-      rests true h = landed (scene_at (turn.Take ended) None) s.core s s.core turn.Main t h.1 (NoWord, idle_words (scene_at (turn.Take ended) None turn.Main) s.core refl (λ m f. not_main m f) (λ o f. none_is_some o (sym (ap outcome_of_label h.0) ∙ f)) (ap (λ y. begun_holder s.core y) h.0))
+      rests true h = landed (scene_at (turn.Take ended) None) s.core s s.core turn.Main t h.1 (NoWord, idle_words (scene_at (turn.Take ended) None turn.Main) s.core refl (λ m f. not_main m f) (λ o f. none_is_some o (sym (ap outcome_of_label h.0) ∙ f)) (ap (λ y. begun_holder s.core y) h.0) (mute_words _ _ (ap is_mute h.0)))
       rests false h = absurd h
   empty_walks ended false t is = dies (may_deadlock x s) is
     where
       dies : (c : Bool) → DeadlockStep s c l t → WalkedBy (scene_at (turn.Take ended) None) s.core s.main t
-      dies true h = landed (scene_at (turn.Take ended) None) s.core s (set_trapped s.core) turn.Over t h.1 (word SetTrapped tt NoWord, idle_words (scene_at (turn.Take ended) None turn.Over) (set_trapped s.core) refl (λ m f. not_over m f) (λ o f. refl) (ap (λ y. begun_holder s.core y) h.0))
+      dies true h = landed (scene_at (turn.Take ended) None) s.core s (set_trapped s.core) turn.Over t h.1 (word SetTrapped tt NoWord, idle_words (scene_at (turn.Take ended) None turn.Over) (set_trapped s.core) refl (λ m f. not_over m f) (λ o f. refl) (ap (λ y. begun_holder s.core y) h.0) (mute_words _ _ (ap is_mute h.0)))
       dies false h = absurd h
 
   push_walks : (ended : Bool) (m : Mark) (i : ℕ) → next_entry s.core ≡ Some (m, entry.Push i) → Walk (scene_at (turn.Take ended) (Some (m, entry.Push i)) turn.Main) s.core (pushed i (popped m s.core))
@@ -457,7 +527,7 @@ module _ (x : Setting) (s : State) (l : Label) where
       let base = popped m s.core in
       let a = scene_at (turn.Take ended) (Some (m, entry.Host i)) turn.Main in
       let taken_first : Walk a s.core (set_stage i stage.Ended base) = subst (λ (u : Core). Walk a s.core (set_stage i stage.Ended u)) (popped_shifted m s.core).only (word (TakeHost m i) at NoWord) in
-      landed (scene_at (turn.Take ended) (Some (m, entry.Host i))) s.core s (host_done i (woken_of l) base) turn.Main t is.1 (host_done_walks i (woken_of l) base may taken_first, idle_words a (host_done i (woken_of l) base) refl (λ j f. not_main j f) (λ o f. none_is_some o (sym (ap outcome_of_label is.0 ∙ host_quiet m i (woken_of l)) ∙ f)) (ap (λ y. begun_holder base y) is.0 ∙ host_begins m i (woken_of l) base))
+      landed (scene_at (turn.Take ended) (Some (m, entry.Host i))) s.core s (host_done i (woken_of l) base) turn.Main t is.1 (host_done_walks i (woken_of l) base may taken_first, idle_words a (host_done i (woken_of l) base) refl (λ j f. not_main j f) (λ o f. none_is_some o (sym (ap outcome_of_label is.0 ∙ host_quiet m i (woken_of l)) ∙ f)) (ap (λ y. begun_holder base y) is.0 ∙ host_begins m i (woken_of l) base) (mute_words a _ (ap is_mute is.0 ∙ host_mute m i (woken_of l))))
   host_entry_walks ended m i t at false may is = absurd is
 
   entry_walks : (ended : Bool) (m : Mark) (e : Entry) (t : State) → next_entry s.core ≡ Some (m, e) → Progresses s (popped m s.core) (entry_number e) (take_row m (choice_of l) (popped m s.core) e) l t → WalkedBy (scene_at (turn.Take ended) (Some (m, e))) s.core s.main t
@@ -466,9 +536,9 @@ module _ (x : Setting) (s : State) (l : Label) where
       let start : (u : Turn) → Walk (scene_at (turn.Take ended) (Some (m, entry.Thread n)) u) s.core base = λ u. placed (Pop m) (inr (n, (refl, at))) NoWord in
       progresses_walk (scene_at (turn.Take ended) (Some (m, entry.Thread n))) s.core s base n (take_row m (choice_of l) base (entry.Thread n)) l t (λ u. refl) (λ u. refl)
       (λ u. thread_taken_leads x s.main ended base n l u s.core (start u) m (choice_of l) (place_of n base) refl)
-      (λ none. (struck_walks refl n refl (start turn.Over), struck_words (scene_at (turn.Take ended) (Some (m, entry.Thread n)) turn.Over) n refl refl none)) is
+      (λ none mute. (struck_walks refl n refl (start turn.Over), struck_words (scene_at (turn.Take ended) (Some (m, entry.Thread n)) turn.Over) n refl refl none mute)) is
   entry_walks ended m (entry.Push i) t at is =
-      landed (scene_at (turn.Take ended) (Some (m, entry.Push i))) s.core s (pushed i (popped m s.core)) turn.Main t is.1 (push_walks ended m i at, idle_words (scene_at (turn.Take ended) (Some (m, entry.Push i)) turn.Main) (pushed i (popped m s.core)) refl (λ j f. not_main j f) (λ o f. none_is_some o (sym (ap outcome_of_label is.0) ∙ f)) (ap (λ y. begun_holder (popped m s.core) y) is.0))
+      landed (scene_at (turn.Take ended) (Some (m, entry.Push i))) s.core s (pushed i (popped m s.core)) turn.Main t is.1 (push_walks ended m i at, idle_words (scene_at (turn.Take ended) (Some (m, entry.Push i)) turn.Main) (pushed i (popped m s.core)) refl (λ j f. not_main j f) (λ o f. none_is_some o (sym (ap outcome_of_label is.0) ∙ f)) (ap (λ y. begun_holder (popped m s.core) y) is.0) (mute_words _ _ (ap is_mute is.0)))
   entry_walks ended m (entry.Host i) t at is = host_entry_walks ended m i t at (may_publish (subtask.Host i) (woken_of l) (popped m s.core)) refl is
 
   take_step_walks : (ended : Bool) (o : Option (Mark × Entry)) (t : State) → next_entry s.core ≡ o → TakeStep x s o l t → WalkedBy (scene_at (turn.Take ended) o) s.core s.main t
@@ -491,7 +561,7 @@ did_leads x main s n l next ch = op_row_leads x main s n l next ch (op_of x.comp
 run_walks : (x : Setting) (s : State) (n : ℕ) (l : Label) (t : State) → Progresses s s.core n (did x.component n s.core (choice_of l)) l t → WalkedBy (λ next. running_scene x s.main s.core n l next) s.core s.main t
 run_walks x s n l t is =
     progresses_walk (λ next. running_scene x s.main s.core n l next) s.core s s.core n (did x.component n s.core (choice_of l)) l t (λ u. refl) (λ u. refl) (λ u. did_leads x s.main s.core n l u (choice_of l))
-    (λ none. (struck_walks refl n refl NoWord, struck_words (running_scene x s.main s.core n l turn.Over) n refl refl none)) is
+    (λ none mute. (struck_walks refl n refl NoWord, struck_words (running_scene x s.main s.core n l turn.Over) n refl refl none mute)) is
 
 main_step_walks : (x : Setting) (s : State) (l : Label) (u : Turn) (m : Main) (t : State) → s.main ≡ m → MainStep x s m l t → WalkedBy (scene_at x s l u None) s.core s.main t
 main_step_walks x s l u (Scripted p) t at is = script_step_walks x s l u p (op_at x.script p) t at refl is

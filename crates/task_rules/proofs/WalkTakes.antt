@@ -1,4 +1,11 @@
 -- The takings of entries as chains of words.
+use Rattle.task_machine.specs.declared.words.OwnEvent.TheVariants as own
+use Rattle.task_rules.proofs.MuteLemmas.{is_mute, mute_words}
+use Rattle.task_rules.proofs.SayLemmas.{activated_on_gone, given_says}
+use Rattle.task_rules.specs.Chains.{EndWords, HandsOut, TakesEvent}
+use Rattle.task_rules.specs.SubtaskEnds.{end_for, handed_by, handed_by_event, written_by}
+use Rattle.task_machine.specs.declared.records.Subtask.TheVariants as subtask
+use Rattle.task_machine.specs.declared.words.Status.{Status}
 use Rattle.std.proofs.Common.{T, ap, cond, inl, inr, refl, subst, sym, ◌∙◌}
 use Rattle.std.specs.Option.{option_map_or}
 use Rattle.std.specs.Prelude.{Bool, None, Option, Some, false, if◌then◌else◌, is_none, is_some, not, option_map, true, unwrap_or, ℕ, ◌&&◌, ◌==◌, ◌||◌, ◌≡◌}
@@ -7,7 +14,7 @@ use Rattle.task_machine.specs.Core.{Core, Main}
 use Rattle.task_machine.specs.Labels.{Choice, event_label, held_label, host_label, take_label}
 use Rattle.task_machine.specs.Maps.{change, get}
 use Rattle.task_machine.specs.Moves.{Gift, MemberGift, NoGift, OwnGift, gift, given_for, handed_on, may_hand_on, own_gift_of, own_gift_only, own_or_nothing, published, stopped, taken}
-use Rattle.task_machine.specs.Read.{admits, at_handle_limit, backpressure_of, call_instance, foot_of, instance_of, is_direct, is_explicit, is_guest_call, is_holding, is_sync, is_waiting_on, kind_of, may_not_enter, new_thread_handle, no_callee, place_of, task_of, was_started}
+use Rattle.task_machine.specs.Read.{admits, at_handle_limit, backpressure_of, call_instance, foot_of, instance_of, is_direct, is_explicit, is_guest_call, is_holding, is_sync, is_waiting_on, kind_of, may_not_enter, new_thread_handle, no_callee, place_of, task_of, was_started, undelivered_end, event_of}
 use Rattle.task_machine.specs.Write.{give_thread_handle, on_call, on_instance, on_thread, set_do_not_enter, set_event, set_how_far, set_place, set_position, set_script, set_started, set_starting_published, set_thread_handle, taking}
 use Rattle.task_machine.specs.declared.component.Callee.{Callee}
 use Rattle.task_machine.specs.declared.component.ExportKind.{ExportKind}
@@ -229,6 +236,14 @@ published_chosen k x w s h = h
 
 -- ---- The thread that is taken
 
+take_mute : (m : Mark) (n : ℕ) (w : Option ℕ) → is_mute (take_label m n w) ≡ true
+take_mute m n None = refl
+take_mute m n (Some z) = refl
+
+held_mute : (m : Mark) (n : ℕ) (w : Option ℕ) → is_mute (held_label m n w) ≡ true
+held_mute m n None = refl
+held_mute m n (Some z) = refl
+
 module _ (x : Setting) (main : Main) (ended : Bool) (s : Core) (n : ℕ) (l : Label) (next : Turn) (b : Core) where
   abbrev pub taking_scene : Scene
   taking_scene = seen x main (turn.Take ended) s n l next
@@ -237,24 +252,25 @@ module _ (x : Setting) (main : Main) (ended : Bool) (s : Core) (n : ℕ) (l : La
   abbrev Shuts : Label → Core → Type 0
   Shuts k t = (i : ℕ) → begun_holder s k ≡ Some i → (may_not_enter i s ≡ false) × (is_some (get t.instances i) ≡ true → may_not_enter i t ≡ true)
 
-  taken_ends : (k : Label) (p : Place) (t : Core) → l ≡ k → is_taking k ≡ true → is_free p ≡ true → ((m : ℕ) → next ≡ turn.Run m → (m ≡ n) × (p ≡ place.Running)) → Shuts k (set_place n p t) → LastWords taking_scene (set_place n p t)
-  taken_ends k p t is taking free to shuts = record {
+  taken_ends : (k : Label) (p : Place) (t : Core) → l ≡ k → is_taking k ≡ true → is_free p ≡ true → ((m : ℕ) → next ≡ turn.Run m → (m ≡ n) × (p ≡ place.Running)) → (l ≡ k → EndWords taking_scene (set_place n p t)) → Shuts k (set_place n p t) → LastWords taking_scene (set_place n p t)
+  taken_ends k p t is taking free to says shuts = record {
     laid = λ m at take. subst (λ (j : ℕ). option_map_or is_free (place_of j (set_place n p t)) true ≡ true) (ap (λ (o : Option ℕ). unwrap_or o 0) at) (free_moved n p t free);
     runs = λ m at. let r = to m at in inr (subst (λ (j : ℕ). option_map_or is_running (place_of j (set_place n p t)) true ≡ true) (sym r.0) (subst (λ (q : Place). option_map_or is_running (place_of n (set_place n q t)) true ≡ true) (sym r.1) (running_moved n t)));
     outcome = λ o at. none_is_some o (sym (ap outcome_of_label is ∙ taking_outcome k taking) ∙ at);
     gone = λ m at exit. absurd (subst T (sym exit ∙ (ap is_exit is ∙ taking_exit k taking)) tt);
+    says = says is;
     shut = λ i begun. shuts i (ap (λ (y : Label). begun_holder s y) (sym is) ∙ begun);
   }
 
-  runs_taken : (k : Label) (t : Core) → is_taking k ≡ true → Shuts k (set_place n place.Running t) → (next ≡ turn.Run n → Walk taking_scene b t) → Leads taking_scene b (Goes k (set_place n place.Running t) n)
-  runs_taken k t taking shuts c is to = (moved (Move n place.Running) (Runs refl to refl) (c to), taken_ends k place.Running t is taking refl (λ m at. (one_runner m n (sym at ∙ to), refl)) shuts)
+  runs_taken : (k : Label) (t : Core) → is_taking k ≡ true → (l ≡ k → EndWords taking_scene (set_place n place.Running t)) → Shuts k (set_place n place.Running t) → (next ≡ turn.Run n → Walk taking_scene b t) → Leads taking_scene b (Goes k (set_place n place.Running t) n)
+  runs_taken k t taking says shuts c is to = (moved (Move n place.Running) (Runs refl to refl) (c to), taken_ends k place.Running t is taking refl (λ m at. (one_runner m n (sym at ∙ to), refl)) says shuts)
 
-  lays_taken : (k : Label) (p : Place) (t : Core) → is_taking k ≡ true → is_free p ≡ true → ((i : ℕ) → begun_holder s k ≡ Some i → ⊥) → (Leaves taking_scene n → MayMove taking_scene n p t) → Walk taking_scene b t → Leads taking_scene b (Stops k (set_place n p t))
-  lays_taken k p t taking free none may c is to = (moved (Move n p) (may (refl, to)) c, taken_ends k p t is taking free (λ m at. not_main m (sym to ∙ at)) (λ i begun. absurd (none i begun)))
+  lays_taken : (k : Label) (p : Place) (t : Core) → is_taking k ≡ true → is_mute k ≡ true → is_free p ≡ true → ((i : ℕ) → begun_holder s k ≡ Some i → ⊥) → (Leaves taking_scene n → MayMove taking_scene n p t) → Walk taking_scene b t → Leads taking_scene b (Stops k (set_place n p t))
+  lays_taken k p t taking mute free none may c is to = (moved (Move n p) (may (refl, to)) c, taken_ends k p t is taking free (λ m at. not_main m (sym to ∙ at)) (λ at. mute_words taking_scene _ (ap is_mute at ∙ mute)) (λ i begun. absurd (none i begun)))
 
-  holds_leads : (k : Label) (w : Why) (t : Core) → is_taking k ≡ true → begun_holder s k ≡ None → WasReady taking_scene n w → Walk taking_scene b t → Leads taking_scene b (Stops k (take_holds n w t))
+  holds_leads : (k : Label) (w : Why) (t : Core) → is_taking k ≡ true → is_mute k ≡ true → begun_holder s k ≡ None → WasReady taking_scene n w → Walk taking_scene b t → Leads taking_scene b (Stops k (take_holds n w t))
   unfolding take_holds
-  holds_leads k w t taking none ready c = lays_taken k (place.Held w) (stopped (foot_of n t) t) taking refl (λ i begun. none_is_some i (sym none ∙ begun)) (λ leave. Holds w leave ready refl) (shifted (stopped_shifts (foot_of n t) t) c)
+  holds_leads k w t taking mute none ready c = lays_taken k (place.Held w) (stopped (foot_of n t) t) taking mute refl (λ i begun. none_is_some i (sym none ∙ begun)) (λ leave. Holds w leave ready refl) (shifted (stopped_shifts (foot_of n t) t) c)
 
   -- ---- Starts
 
@@ -282,7 +298,7 @@ module _ (x : Setting) (main : Main) (ended : Bool) (s : Core) (n : ℕ) (l : La
     barred_leads m w ready implicit admitted may q at holding =
         let home = told_home w may in
         let open_at : may_not_enter (instance_of n s) s ≡ false = open_start (is_explicit n s) (kind_of (task_of n s) s) (may_not_enter (instance_of n s) s) (backpressure_of (instance_of n s) s == 0) implicit (ap (λ y. is_holding y) at ∙ holding) admitted in
-        runs_taken (take_label m n w) (set_do_not_enter (instance_of n (told_start w)) true (told_start w)) (take_taking m n w) (λ i begun.
+        runs_taken (take_label m n w) (set_do_not_enter (instance_of n (told_start w)) true (told_start w)) (take_taking m n w) (λ at. mute_words taking_scene _ (ap is_mute at ∙ take_mute m n w)) (λ i begun.
         let same : instance_of n s ≡ i = (holder_is m w i begun).1.1.1 in (
           subst (λ (j : ℕ). may_not_enter j s ≡ false) same open_at,
           subst (λ (j : ℕ). is_some (get (set_place n place.Running (set_do_not_enter (instance_of n (told_start w)) true (told_start w))).instances j) ≡ true → may_not_enter j (set_place n place.Running (set_do_not_enter (instance_of n (told_start w)) true (told_start w))) ≡ true) (home ∙ same) (started_shut n place.Running (told_start w) (instance_of n (told_start w))),
@@ -290,15 +306,15 @@ module _ (x : Setting) (main : Main) (ended : Bool) (s : Core) (n : ℕ) (l : La
         (λ to. word (SetDoNotEnter (instance_of n (told_start w)) true) (ap (λ (j : ℕ). may_not_enter j s) home ∙ open_at) (starts_walks w ready may))
 
     begins_leads : (m : Mark) (w : Option ℕ) → WasReady taking_scene n why.Start → is_explicit n s ≡ false → admits n s why.Start ≡ true → may_tell (task_of n s) w s ≡ true → (q : ExportKind) → kind_of (task_of n s) s ≡ q → Leads taking_scene b (Goes (take_label m n w) (set_place n place.Running (start_sets_flags n q (told_start w))) n)
-    begins_leads m w ready implicit admitted may kind.Sync at = runs_taken (take_label m n w) _ (take_taking m n w) (λ i begun. none_holds m w kind.Sync at refl i begun) (λ to. sync_sets_flag_walks n refl n (instance_of n (told_start w)) kind.Sync (starts_walks w ready may))
-    begins_leads m w ready implicit admitted may kind.Stackful at = runs_taken (take_label m n w) _ (take_taking m n w) (λ i begun. none_holds m w kind.Stackful at refl i begun) (λ to. starts_walks w ready may)
+    begins_leads m w ready implicit admitted may kind.Sync at = runs_taken (take_label m n w) _ (take_taking m n w) (λ at. mute_words taking_scene _ (ap is_mute at ∙ take_mute m n w)) (λ i begun. none_holds m w kind.Sync at refl i begun) (λ to. sync_sets_flag_walks n refl n (instance_of n (told_start w)) kind.Sync (starts_walks w ready may))
+    begins_leads m w ready implicit admitted may kind.Stackful at = runs_taken (take_label m n w) _ (take_taking m n w) (λ at. mute_words taking_scene _ (ap is_mute at ∙ take_mute m n w)) (λ i begun. none_holds m w kind.Stackful at refl i begun) (λ to. starts_walks w ready may)
     begins_leads m w ready implicit admitted may kind.Blocking at = barred_leads m w ready implicit admitted may kind.Blocking at refl
     begins_leads m w ready implicit admitted may kind.Callback at = barred_leads m w ready implicit admitted may kind.Callback at refl
 
     -- a thread that was started runs on
     resumes_leads : (m : Mark) → ((i : ℕ) → begun_holder s (take_label m n None) ≡ Some i → ⊥) → Leads taking_scene b (Goes (take_label m n None) (running n s) n)
     unfolding running
-    resumes_leads m none = runs_taken (take_label m n None) s refl (λ i begun. absurd (none i begun)) (λ to. start)
+    resumes_leads m none = runs_taken (take_label m n None) s refl (λ at. mute_words taking_scene _ (ap is_mute at)) (λ i begun. absurd (none i begun)) (λ to. start)
 
     start_admitted_leads : (m : Mark) (w : Option ℕ) (c : Bool) → is_explicit n s ≡ c → WasReady taking_scene n why.Start → admits n s why.Start ≡ true → Leads taking_scene b (start_admitted m n w s c)
     unfolding start_begins begun_at
@@ -321,33 +337,53 @@ module _ (x : Setting) (main : Main) (ended : Bool) (s : Core) (n : ℕ) (l : La
     start_row_leads m w true admitted ready = start_admitted_leads m w (is_explicit n s) refl ready admitted
     start_row_leads m w false admitted ready =
         may_leads taking_scene b (may_tell_starting (task_of n s) w s) _ (λ may.
-        holds_leads (held_label m n w) why.Start (starting_told (task_of n s) w s) (held_taking m n w) (held_begins m n w s) ready (starting_walks w may))
+        holds_leads (held_label m n w) why.Start (starting_told (task_of n s) w s) (held_taking m n w) (held_mute m n w) (held_begins m n w s) ready (starting_walks w may))
 
     -- ---- Deliveries
 
-    activated_goes : (m : Mark) (g : Gift) (v : Given) (w : Option ℕ) (t : Core) → instance_of n t ≡ instance_of n s → MayTake taking_scene (task_of n t) g → may_not_enter (instance_of n s) s ≡ false → Walk taking_scene b t → Leads taking_scene b (Goes (event_label m n v w) (activated n g v t) n)
+    -- what a delivery hands out shows only where no wake is handed on
+    event_says : (m : Mark) (v : Given) (w : Option ℕ) (t : Core) → (w ≡ None → (k : ℕ) (e : Status) → handed_by_event n s v ≡ Some (end_for e (subtask.Guest k)) → HandsOut taking_scene t k e) → l ≡ event_label m n v w → EndWords taking_scene t
+    event_says m v (Some z) t out is = mute_words taking_scene t (ap is_mute is)
+    event_says m v None t out is = record {
+      writes = λ k e says. none_is_some (end_for e (subtask.Guest k)) (sym (ap (λ (y : Label). written_by x.component s y s) is) ∙ says);
+      hands = λ k e h. out refl k e (sym (ap (λ (y : Label). handed_by x.component main s y t) is) ∙ h);
+    }
+
+    delivered_out : (y : ℕ) (ch : Choice) (g : Gift) (w : Option ℕ) → gift true (task_of n s) y (chosen n ch s) s ≡ Some g → w ≡ None → (k : ℕ) (e : Status) → handed_by_event n s (handed_out ch s g) ≡ Some (end_for e (subtask.Guest k)) → HandsOut taking_scene (activated n g (handed_out ch s g) (handed_on y g w s)) k e
+    delivered_out y ch g w h none k e out =
+        let q = given_says true n (task_of n s) y ch s g k e h out in
+        TakesEvent q.1 (subst (λ (f : Gift). undelivered_end (event_of (subtask.Guest k) (activated n f (handed_out ch s g) (handed_on y f w s))) ≡ None) (sym q.0) (activated_on_gone n y k w (handed_out ch s g) s))
+
+    -- the task's own event is no end of a subtask
+    own_says : (o : Option OwnEvent) (k : ℕ) (e : Status) {A : Type 0} → handed_by_event n s (given_for (own_or_nothing o) 0 s) ≡ Some (end_for e (subtask.Guest k)) → A
+    unfolding given_for
+    own_says None k e out = none_is_some (end_for e (subtask.Guest k)) out
+    own_says (Some own.None) k e out = none_is_some (end_for e (subtask.Guest k)) out
+    own_says (Some own.Cancelled) k e out = none_is_some (end_for e (subtask.Guest k)) out
+
+    activated_goes : (m : Mark) (g : Gift) (v : Given) (w : Option ℕ) (t : Core) → (l ≡ event_label m n v w → EndWords taking_scene (activated n g v t)) → instance_of n t ≡ instance_of n s → MayTake taking_scene (task_of n t) g → may_not_enter (instance_of n s) s ≡ false → Walk taking_scene b t → Leads taking_scene b (Goes (event_label m n v w) (activated n g v t) n)
     unfolding activated
-    activated_goes m g v w t home may open_at c =
-        runs_taken (event_label m n v w) (moved_to n 0 (set_script n script.React (set_do_not_enter (instance_of n t) true (set_given n 0 v (taken g (task_of n t) t))))) (event_taking m n v w) (λ i begun.
+    activated_goes m g v w t says home may open_at c =
+        runs_taken (event_label m n v w) (moved_to n 0 (set_script n script.React (set_do_not_enter (instance_of n t) true (set_given n 0 v (taken g (task_of n t) t))))) (event_taking m n v w) says (λ i begun.
         let same : instance_of n s ≡ i = ap (λ (o : Option ℕ). unwrap_or o 0) (sym (event_begins m n v w s) ∙ begun) in (
           subst (λ (j : ℕ). may_not_enter j s ≡ false) same open_at,
           subst (λ (j : ℕ). is_some (get (activated n g v t).instances j) ≡ true → may_not_enter j (activated n g v t) ≡ true) (home ∙ same) (activated_shut n g v t),
         ))
         (λ to. moved_to_walks n refl 0 (word (SetScript n script.React) tt (word (SetDoNotEnter (instance_of n t) true) (ap (λ (j : ℕ). may_not_enter j s) home ∙ open_at) (set_given_walks n refl 0 v (taken_walks g (task_of n t) may c)))))
 
-    woken_goes : (m : Mark) (y : ℕ) (ch : Choice) (g : Gift) → MayTake taking_scene (task_of n s) g → may_not_enter (instance_of n s) s ≡ false → Leads taking_scene b (may (may_hand_on y g ch.woken s) (Goes (event_label m n (handed_out ch s g) ch.woken) (activated_woken n y ch.woken g (handed_out ch s g) s) n))
+    woken_goes : (m : Mark) (y : ℕ) (ch : Choice) (g : Gift) → gift true (task_of n s) y (chosen n ch s) s ≡ Some g → MayTake taking_scene (task_of n s) g → may_not_enter (instance_of n s) s ≡ false → Leads taking_scene b (may (may_hand_on y g ch.woken s) (Goes (event_label m n (handed_out ch s g) ch.woken) (activated_woken n y ch.woken g (handed_out ch s g) s) n))
     unfolding activated_woken
-    woken_goes m y ch g ok open_at =
+    woken_goes m y ch g h0 ok open_at =
         may_leads taking_scene b (may_hand_on y g ch.woken s) _ (λ may.
         let d = handed_on_shifts y g ch.woken s may in
         let h = shifts_shifted d in
-        activated_goes m g (handed_out ch s g) ch.woken (handed_on y g ch.woken s) (shifted_instance h n) (subst (λ (k : ℕ). MayTake taking_scene k g) (sym (shifted_task h n)) ok) open_at (shifted d start))
+        activated_goes m g (handed_out ch s g) ch.woken (handed_on y g ch.woken s) (event_says m (handed_out ch s g) ch.woken _ (delivered_out y ch g ch.woken h0)) (shifted_instance h n) (subst (λ (k : ℕ). MayTake taking_scene k g) (sym (shifted_task h n)) ok) open_at (shifted d start))
 
-    set_delivered_leads : (m : Mark) (y : ℕ) (ch : Choice) (g : Gift) → WasReady taking_scene n (why.Delivery (delivery.Set y)) → MayTake taking_scene (task_of n s) g → may_not_enter (instance_of n s) s ≡ false → Leads taking_scene b (set_delivered m n y ch s g)
+    set_delivered_leads : (m : Mark) (y : ℕ) (ch : Choice) (g : Gift) → gift true (task_of n s) y (chosen n ch s) s ≡ Some g → WasReady taking_scene n (why.Delivery (delivery.Set y)) → MayTake taking_scene (task_of n s) g → may_not_enter (instance_of n s) s ≡ false → Leads taking_scene b (set_delivered m n y ch s g)
     unfolding wait_again
-    set_delivered_leads m y ch NoGift ready ok open_at = lays_taken (label.Take (take.Again m n)) (place.Waiting y true) (stopped (foot_of n s) s) refl refl (λ i begun. none_is_some i begun) (λ leave. WaitsAgain y leave ready refl) (shifted (stopped_shifts (foot_of n s) s) start)
-    set_delivered_leads m y ch (OwnGift v) ready ok open_at = woken_goes m y ch (OwnGift v) ok open_at
-    set_delivered_leads m y ch (MemberGift sub) ready ok open_at = woken_goes m y ch (MemberGift sub) ok open_at
+    set_delivered_leads m y ch NoGift h0 ready ok open_at = lays_taken (label.Take (take.Again m n)) (place.Waiting y true) (stopped (foot_of n s) s) refl refl refl (λ i begun. none_is_some i begun) (λ leave. WaitsAgain y leave ready refl) (shifted (stopped_shifts (foot_of n s) s) start)
+    set_delivered_leads m y ch (OwnGift v) h0 ready ok open_at = woken_goes m y ch (OwnGift v) h0 ok open_at
+    set_delivered_leads m y ch (MemberGift sub) h0 ready ok open_at = woken_goes m y ch (MemberGift sub) h0 ok open_at
 
     delivers : (d : Delivery) → WasReady taking_scene n (why.Delivery d) → MayDeliver taking_scene (task_of n s)
     delivers d ready = (n, (refl, (refl, (d, ready))))
@@ -360,18 +396,18 @@ module _ (x : Setting) (main : Main) (ended : Bool) (s : Core) (n : ℕ) (l : La
     unfolding own_gift_only
     own_delivered_leads m d ready open_at =
         let g = own_gift_only (task_of n s) s in
-        activated_goes m g (given_for g 0 s) None s refl (own_taken d ready (own_gift_of true (task_of n s) s)) open_at start
+        activated_goes m g (given_for g 0 s) None s (event_says m (given_for g 0 s) None _ (λ none k e out. own_says (own_gift_of true (task_of n s) s) k e out)) refl (own_taken d ready (own_gift_of true (task_of n s) s)) open_at start
 
     delivered_leads : (m : Mark) (ch : Choice) (d : Delivery) → WasReady taking_scene n (why.Delivery d) → may_not_enter (instance_of n s) s ≡ false → Leads taking_scene b (delivered m n ch s d)
     delivered_leads m ch (delivery.Set y) ready open_at =
         or_never_leads taking_scene b (gift true (task_of n s) y (chosen n ch s) s) _ (λ g e.
-        set_delivered_leads m y ch g ready (gift_is taking_scene n true y ch g refl (λ t. delivers (delivery.Set y) ready) e) open_at)
+        set_delivered_leads m y ch g e ready (gift_is taking_scene n true y ch g refl (λ t. delivers (delivery.Set y) ready) e) open_at)
     delivered_leads m ch delivery.Yield ready open_at = own_delivered_leads m delivery.Yield ready open_at
     delivered_leads m ch delivery.Cancel ready open_at = own_delivered_leads m delivery.Cancel ready open_at
 
     delivery_row_leads : (m : Mark) (ch : Choice) (d : Delivery) (c : Bool) → admits n s (why.Delivery d) ≡ c → WasReady taking_scene n (why.Delivery d) → Leads taking_scene b (delivery_row m n ch s d c)
     delivery_row_leads m ch d true admitted ready = delivered_leads m ch d ready (unnot_true (may_not_enter (instance_of n s) s) admitted)
-    delivery_row_leads m ch d false admitted ready = holds_leads (held_label m n None) (why.Delivery d) s refl refl ready start
+    delivery_row_leads m ch d false admitted ready = holds_leads (held_label m n None) (why.Delivery d) s refl refl refl ready start
 
     pub thread_taken_leads : (m : Mark) (ch : Choice) (o : Option Place) → place_of n s ≡ o → Leads taking_scene b (thread_taken m n ch s o)
     thread_taken_leads m ch (Some (place.Ready y why.Start)) at = start_row_leads m ch.woken (admits n s why.Start) refl (y, at)

@@ -1,7 +1,18 @@
 -- The rows of ops as chains of words: what a row owes, the ops on registers and words, and the ops that end a task or an activation.
+use Rattle.task_rules.proofs.MuteLemmas.{is_mute, mute_words}
+use Rattle.task_rules.proofs.WalkEnds.{cancelled_rest, returned_rest}
+use Rattle.task_rules.specs.Allowed.{SaysEnd}
+use Rattle.task_rules.specs.Chains.{EndWords, HandsOut, WritesToo, is_over}
+use Rattle.task_rules.specs.SubtaskEnds.{SubtaskEnd, end_for, handed_by, is_ending_exit}
+use Rattle.task_machine.specs.declared.records.Subtask.{Subtask}
+use Rattle.task_machine.specs.declared.records.Subtask.TheVariants as subtask
+use Rattle.task_machine.specs.declared.words.Status.{Status}
+use Rattle.task_machine.specs.declared.records.CallEnd.{CallEnd}
+use Rattle.task_machine.specs.Write.{set_end, on_call}
+use Rattle.task_machine.proofs.MapLemmas.{get-change_same}
 use Rattle.task_rules.specs.SubtaskEnds.{task_end, written_by, written_by_exit}
 use Rattle.task_machine.specs.declared.words.Status.TheVariants as status
-use Rattle.std.proofs.Common.{T, ap, cond, inl, inr, length, refl, subst, suc, sym, ◌-◌, ◌∙◌, ◌⊎◌}
+use Rattle.std.proofs.Common.{T, ap, cond, inl, inr, length, refl, subst, suc, sym, ◌-◌, ◌∙◌, ◌⊎◌, ap₂, is_some}
 use Rattle.std.specs.Option.{option_map_or}
 use Rattle.std.specs.Prelude.{Bool, List, None, Option, Some, false, if◌then◌else◌, is_none, min, nat_le, nat_lt, not, option_map, true, unwrap_or, zero, ℕ, ◌%◌, ◌&&◌, ◌*◌, ◌+◌, ◌/◌, ◌==◌, ◌≡◌, ◌||◌}
 use Rattle.task_machine.proofs.CommuteLemmas.{get-change}
@@ -105,6 +116,15 @@ is_quiet _ = true
 abbrev pub is_plain : Label → Bool
 is_plain l = is_quiet l && not (is_exit l)
 
+-- and says nothing of the end of a call
+abbrev pub is_still : Label → Bool
+is_still l = is_plain l && is_mute l
+
+still_parts : (p m : Bool) → (p && m) ≡ true → (p ≡ true) × (m ≡ true)
+still_parts true true h = (refl, refl)
+still_parts true false h = absurd (subst T (sym h) tt)
+still_parts false m h = absurd (subst T (sym h) tt)
+
 quiet_outcome : (l : Label) → is_quiet l ≡ true → outcome_of_label l ≡ None
 quiet_outcome (label.Main l) h = absurd (subst T (sym h) tt)
 quiet_outcome (label.Take l) h = absurd (subst T (sym h) tt)
@@ -136,6 +156,31 @@ ret_writes c n v (Some y) s = refl
 task_cancel_writes : (c : Component) (n : ℕ) (w : Option ℕ) (s : Core) → written_by c s (task_cancel_label n w) s ≡ task_end n status.ReturnCancelled s
 task_cancel_writes c n None s = refl
 task_cancel_writes c n (Some y) s = refl
+
+ret_hands : (c : Component) (m : Main) (n v : ℕ) (w : Option ℕ) (s t : Core) → handed_by c m s (ret_label n v w) t ≡ None
+ret_hands c m n v None s t = refl
+ret_hands c m n v (Some y) s t = refl
+
+task_cancel_hands : (c : Component) (m : Main) (n : ℕ) (w : Option ℕ) (s t : Core) → handed_by c m s (task_cancel_label n w) t ≡ None
+task_cancel_hands c m n None s t = refl
+task_cancel_hands c m n (Some y) s t = refl
+
+-- the call of which an end speaks
+abbrev pub call_named : Subtask → ℕ
+call_named (subtask.Guest k) = k
+call_named (subtask.Host i) = 0
+
+abbrev pub call_in : Option SubtaskEnd → ℕ
+call_in o = option_map_or (λ (e : SubtaskEnd). call_named e.subtask) o 0
+
+-- a call that ends is over
+pub over_now : (k : ℕ) (e : CallEnd) (s : Core) → is_over k (set_end k e s) ≡ true
+unfolding set_end on_call
+over_now k e s = ap (λ o. option_map_or (λ (c : Call). is_some c.«end») o true) (get-change_same s.calls k (λ (c : Call). record c { «end» = Some e })) ∙ at (get s.calls k)
+  where
+    at : (o : Option Call) → option_map_or (λ (c : Call). is_some c.«end») (option_map (λ (c : Call). record c { «end» = Some e }) o) true ≡ true
+    at None = refl
+    at (Some c) = refl
 
 exit_quiet : (n : ℕ) (w : Option ℕ) → is_quiet (exit_label n w) ≡ true
 exit_quiet n None = refl
@@ -184,39 +229,41 @@ module _ (x : Setting) (main : Main) (s : Core) (n : ℕ) (l : Label) (next : Tu
   abbrev pub running_scene : Scene
   running_scene = seen x main (turn.Run n) s n l next
 
-  quiet_ends : {t : Core} → is_quiet l ≡ true → ((m : ℕ) → next ≡ turn.Run m → (turn.Run n ≡ turn.Run m) ⊎ (option_map_or is_running (place_of m t) true ≡ true)) → (is_exit l ≡ true → get t.threads n ≡ None) → LastWords running_scene t
-  quiet_ends {t = t} quiet runs gone = record {
+  quiet_ends : {t : Core} → is_quiet l ≡ true → ((m : ℕ) → next ≡ turn.Run m → (turn.Run n ≡ turn.Run m) ⊎ (option_map_or is_running (place_of m t) true ≡ true)) → (is_exit l ≡ true → get t.threads n ≡ None) → EndWords running_scene t → LastWords running_scene t
+  quiet_ends {t = t} quiet runs gone says = record {
     laid = λ m is take. absurd (subst T (sym take) tt);
     runs = runs;
     outcome = λ o is. none_is_some o (sym (quiet_outcome l quiet) ∙ is);
     gone = λ m is exit. subst (λ (k : ℕ). get t.threads k ≡ None) (ap (λ (o : Option ℕ). unwrap_or o 0) is) (gone exit);
+    says = says;
     shut = λ i begun. none_is_some i (sym (quiet_begins s l quiet) ∙ begun);
   }
 
   -- n goes on, as the label says
-  pub goes_on_saying : (k : Label) (t : Core) → is_plain k ≡ true → (l ≡ k → Walk running_scene s t) → Leads running_scene s (Goes k t n)
-  goes_on_saying k t plain c is to =
+  pub goes_on_saying : (k : Label) (t : Core) → is_plain k ≡ true → (l ≡ k → EndWords running_scene t) → (l ≡ k → Walk running_scene s t) → Leads running_scene s (Goes k t n)
+  goes_on_saying k t plain says c is to =
       let p = plain_quiet (is_quiet k) (is_exit k) plain in
-      (c is, quiet_ends (ap is_quiet is ∙ p.0) (λ m at. inl (sym to ∙ at)) (λ exit. absurd (subst T (sym exit ∙ (ap is_exit is ∙ p.1)) tt)))
+      (c is, quiet_ends (ap is_quiet is ∙ p.0) (λ m at. inl (sym to ∙ at)) (λ exit. absurd (subst T (sym exit ∙ (ap is_exit is ∙ p.1)) tt)) (says is))
 
   -- n goes on
-  pub goes_on : (k : Label) (t : Core) → is_plain k ≡ true → Walk running_scene s t → Leads running_scene s (Goes k t n)
-  goes_on k t plain c = goes_on_saying k t plain (λ is. c)
+  pub goes_on : (k : Label) (t : Core) → is_still k ≡ true → Walk running_scene s t → Leads running_scene s (Goes k t n)
+  goes_on k t still c = let p = still_parts (is_plain k) (is_mute k) still in goes_on_saying k t p.0 (λ is. mute_words running_scene t (ap is_mute is ∙ p.1)) (λ is. c)
 
   -- no thread goes on
-  pub stops_here : (k : Label) (t : Core) → is_plain k ≡ true → (Leaves running_scene n → Walk running_scene s t) → Leads running_scene s (Stops k t)
-  stops_here k t plain c is to =
-      let p = plain_quiet (is_quiet k) (is_exit k) plain in
-      (c (refl, to), quiet_ends (ap is_quiet is ∙ p.0) (λ m at. not_main m (sym to ∙ at)) (λ exit. absurd (subst T (sym exit ∙ (ap is_exit is ∙ p.1)) tt)))
+  pub stops_here : (k : Label) (t : Core) → is_still k ≡ true → (Leaves running_scene n → Walk running_scene s t) → Leads running_scene s (Stops k t)
+  stops_here k t still c is to =
+      let r = still_parts (is_plain k) (is_mute k) still in
+      let p = plain_quiet (is_quiet k) (is_exit k) r.0 in
+      (c (refl, to), quiet_ends (ap is_quiet is ∙ p.0) (λ m at. not_main m (sym to ∙ at)) (λ exit. absurd (subst T (sym exit ∙ (ap is_exit is ∙ p.1)) tt)) (mute_words running_scene t (ap is_mute is ∙ r.1)))
 
   -- n is gone
-  gone_here : (k : Label) (t : Core) → is_quiet k ≡ true → get t.threads n ≡ None → (l ≡ k → Leaves running_scene n → Walk running_scene s t) → Leads running_scene s (Stops k t)
-  gone_here k t quiet gone c is to = (c is (refl, to), quiet_ends (ap is_quiet is ∙ quiet) (λ m at. not_main m (sym to ∙ at)) (λ exit. gone))
+  gone_here : (k : Label) (t : Core) → is_quiet k ≡ true → get t.threads n ≡ None → (l ≡ k → EndWords running_scene t) → (l ≡ k → Leaves running_scene n → Walk running_scene s t) → Leads running_scene s (Stops k t)
+  gone_here k t quiet gone says c is to = (c is (refl, to), quiet_ends (ap is_quiet is ∙ quiet) (λ m at. not_main m (sym to ∙ at)) (λ exit. gone) (says is))
 
   -- another thread, which runs now, goes on
-  pub goes_over : (k : Label) (m : ℕ) (t : Core) → is_quiet k ≡ true → (is_exit k ≡ true → get t.threads n ≡ None) → (turn.Run n ≡ turn.Run m) ⊎ (option_map_or is_running (place_of m t) true ≡ true) → (l ≡ k → next ≡ turn.Run m → Walk running_scene s t) → Leads running_scene s (Goes k t m)
-  goes_over k m t quiet gone runs c is to =
-      (c is to, quiet_ends (ap is_quiet is ∙ quiet) (λ j at. subst (λ (i : ℕ). (turn.Run n ≡ turn.Run i) ⊎ (option_map_or is_running (place_of i t) true ≡ true)) (one_runner m j (sym to ∙ at)) runs) (λ exit. gone (sym (ap is_exit is) ∙ exit)))
+  pub goes_over : (k : Label) (m : ℕ) (t : Core) → is_quiet k ≡ true → (is_exit k ≡ true → get t.threads n ≡ None) → (turn.Run n ≡ turn.Run m) ⊎ (option_map_or is_running (place_of m t) true ≡ true) → (l ≡ k → EndWords running_scene t) → (l ≡ k → next ≡ turn.Run m → Walk running_scene s t) → Leads running_scene s (Goes k t m)
+  goes_over k m t quiet gone runs says c is to =
+      (c is to, quiet_ends (ap is_quiet is ∙ quiet) (λ j at. subst (λ (i : ℕ). (turn.Run n ≡ turn.Run i) ⊎ (option_map_or is_running (place_of i t) true ≡ true)) (one_runner m j (sym to ∙ at)) runs) (λ exit. gone (sym (ap is_exit is) ∙ exit)) (says is))
 
 module _ {a : Scene} {b : Core} (n : ℕ) (is : IsRunner a n) where
   -- ---- Registers and words
@@ -247,23 +294,33 @@ module _ {a : Scene} {b : Core} (n : ℕ) (is : IsRunner a n) where
   unfolding exit_stops
   exit_stops_walks {t = t} go c = ended_walks n go (shifted (stopped_shifts (foot_of n t) (checked (instance_of n t) t)) (shifted (checked_shifts (instance_of n t) t) c))
 
-  sync_exits_walks : (w : Option ℕ) {t : Core} → MayEnd a (task_of n t) call_end.Returned (exit_restores n t) → SaysEnd a (task_of n t) status.Returned → ToldTo (task_of n t) w (exit_restores n t) → MayGo a n → Walk a b t → Walk a b (sync_exits n w t)
-  unfolding sync_exits exit_restores
-  sync_exits_walks w {t = t} ok says to go c =
+  sync_exits_rest : (w : Option ℕ) (t : Core) → SaysEnd a (task_of n t) status.Returned → ToldTo (task_of n t) w (exit_restores n t) → MayGo a n → Walk a b (set_end (task_of n t) call_end.Returned (exit_restores n t)) → Walk a b (sync_exits n w t)
+  unfolding sync_exits
+  sync_exits_rest w t says to go c =
       let r = returned (task_of n t) (register_of n 0 t) w (exit_restores n t) in
-      ended_walks n go (shifted (stopped_shifts (foot_of n t) r) (returned_walks (task_of n t) (register_of n 0 t) w ok says to (word (SetDoNotSuspend (instance_of n t) (unwrap_or (saved_own_of n t) false)) tt c)))
+      ended_walks n go (shifted (stopped_shifts (foot_of n t) r) (returned_rest (task_of n t) (register_of n 0 t) w (exit_restores n t) says to c))
+
+  sync_exits_walks : (w : Option ℕ) {t : Core} → MayEnd a (task_of n t) call_end.Returned (exit_restores n t) → SaysEnd a (task_of n t) status.Returned → ToldTo (task_of n t) w (exit_restores n t) → MayGo a n → Walk a b t → Walk a b (sync_exits n w t)
+  unfolding exit_restores
+  sync_exits_walks w {t = t} ok says to go c = sync_exits_rest w t says to go (word (SetEnd (task_of n t) call_end.Returned) (ok, says) (word (SetDoNotSuspend (instance_of n t) (unwrap_or (saved_own_of n t) false)) tt c))
+
+  blocking_exits_rest : (w : Option ℕ) (order : List ℕ) (t : Core) → SaysEnd a (task_of n t) status.Returned → ToldTo (task_of n t) w (end_reopens (instance_of n t) order t) → MayGo a n → Walk a b (set_end (task_of n t) call_end.Returned (end_reopens (instance_of n t) order t)) → Walk a b (blocking_exits n w order t)
+  unfolding blocking_exits
+  blocking_exits_rest w order t says to go c = exit_stops_walks go (returned_rest (task_of n t) (register_of n 0 t) w (end_reopens (instance_of n t) order t) says to c)
 
   blocking_exits_walks : (w : Option ℕ) (order : List ℕ) {t : Core} → MayBar a (instance_of n t) false → MayEnd a (task_of n t) call_end.Returned (end_reopens (instance_of n t) order t) → SaysEnd a (task_of n t) status.Returned → ToldTo (task_of n t) w (end_reopens (instance_of n t) order t) → MayGo a n → Walk a b t → Walk a b (blocking_exits n w order t)
-  unfolding blocking_exits
-  blocking_exits_walks w order {t = t} bar ok says to go c = exit_stops_walks go (returned_walks (task_of n t) (register_of n 0 t) w ok says to (reopens_walks (instance_of n t) order bar c))
+  blocking_exits_walks w order {t = t} bar ok says to go c = blocking_exits_rest w order t says to go (word (SetEnd (task_of n t) call_end.Returned) (ok, says) (reopens_walks (instance_of n t) order bar c))
 
   -- the thread m goes on, under which n ran
-  direct_exits_walks : (m v : ℕ) {t : Core} → MayEnd a (task_of n t) call_end.Returned t → SaysEnd a (task_of n t) status.Returned → a.next ≡ turn.Run m → place_of m a.base ≡ Some (place.Under n) → Walk a b t → Walk a b (direct_exits n m v t)
+  direct_exits_rest : (m v : ℕ) (t : Core) → a.next ≡ turn.Run m → place_of m a.base ≡ Some (place.Under n) → Walk a b (set_end (task_of n t) call_end.Returned t) → Walk a b (direct_exits n m v t)
   unfolding direct_exits
-  direct_exits_walks m v {t = t} ok says to under c =
+  direct_exits_rest m v t to under c =
       let u = set_end (task_of n t) call_end.Returned t in
       let gone : is_none (get (ended n u).threads n) ≡ true = ap (λ (o : Option Thread). is_none o) (ended_gone n u) in
-      word (SetHowFar m (how_far.Answered v)) (n, (is, (to, under))) (moved (Move m place.Running) (Uncovers n is to under gone refl) (ended_walks n (EndsOver m is to under) (word (SetEnd (task_of n t) call_end.Returned) (ok, says) c)))
+      word (SetHowFar m (how_far.Answered v)) (n, (is, (to, under))) (moved (Move m place.Running) (Uncovers n is to under gone refl) (ended_walks n (EndsOver m is to under) c))
+
+  direct_exits_walks : (m v : ℕ) {t : Core} → MayEnd a (task_of n t) call_end.Returned t → SaysEnd a (task_of n t) status.Returned → a.next ≡ turn.Run m → place_of m a.base ≡ Some (place.Under n) → Walk a b t → Walk a b (direct_exits n m v t)
+  direct_exits_walks m v {t = t} ok says to under c = direct_exits_rest m v t to under (word (SetEnd (task_of n t) call_end.Returned) (ok, says) c)
 
   code_stops_walks : (order : List ℕ) {t : Core} → MayBar a (instance_of n t) false → Walk a b t → Walk a b (code_stops n order t)
   unfolding code_stops
@@ -372,10 +429,10 @@ module _ (x : Setting) (main : Main) (s : Core) (n : ℕ) (l : Label) (next : Tu
   abbrev a : Scene
   a = running_scene x main s n l next
 
-  go_saying : (k : Label) (t : Core) → is_plain k ≡ true → (l ≡ k → Walk a s t) → Leads a s (Goes k t n)
-  go_saying k t plain c = goes_on_saying x main s n l next k t plain c
+  go_saying : (k : Label) (t : Core) → is_plain k ≡ true → (l ≡ k → EndWords a t) → (l ≡ k → Walk a s t) → Leads a s (Goes k t n)
+  go_saying k t plain says c = goes_on_saying x main s n l next k t plain says c
 
-  go : (k : Label) (t : Core) → is_plain k ≡ true → Walk a s t → Leads a s (Goes k t n)
+  go : (k : Label) (t : Core) → is_still k ≡ true → Walk a s t → Leads a s (Goes k t n)
   go k t plain c = goes_on x main s n l next k t plain c
 
   -- ---- The ops on registers and words
@@ -396,15 +453,6 @@ module _ (x : Setting) (main : Main) (s : Core) (n : ℕ) (l : Label) (next : Tu
 
   -- ---- Exits
 
-  thread_exit_row_leads : Leads a s (thread_exit_row n s)
-  thread_exit_row_leads =
-      trap_if_leads a s (not (passes_check (instance_of n s) s)) trap.CannotBlockSyncTask _ (λ e.
-      trap_if_leads a s (leaves_no_result n s) trap.NoAsyncResult _ (λ f.
-      gone_here x main s n l next (exit_label n None) (exit_stops n s) refl (exit_stops_gone n s) (λ is leave. exit_stops_walks n refl (Departs leave) NoWord)))
-
-  exits : (w : Option ℕ) (t : Core) → l ≡ exit_label n w → is_explicit n s ≡ false → (is_direct (goal_of (task_of n s) s) ≡ true) ⊎ (is_async_lifted (kind_of (task_of n s) s) ≡ false) → t.calls ≡ s.calls → MayEnd a (task_of n s) call_end.Returned t
-  exits w t is implicit kind same = Exits n refl (ap is_exit is ∙ exit_is n w) refl implicit kind (ap (λ (m : Records Call). get m (task_of n s)) same) refl
-
   exit_says : (w : Option ℕ) → l ≡ exit_label n w → is_explicit n s ≡ false → (is_direct (goal_of (task_of n s) s) ≡ true) ⊎ (is_async_lifted (kind_of (task_of n s) s) ≡ false) → SaysEnd a (task_of n s) status.Returned
   exit_says w is implicit kind = ap (λ (k : Label). written_by x.component s k s) is ∙ (exit_writes w ∙ ap (λ b. if b then task_end n status.Returned s else None) (ends (is_explicit n s) (is_direct (goal_of (task_of n s) s)) (is_async_lifted (kind_of (task_of n s) s)) implicit kind))
     where
@@ -419,12 +467,52 @@ module _ (x : Setting) (main : Main) (s : Core) (n : ℕ) (l : Label) (next : Tu
       ends false false true i (inl k) = absurd (subst T (sym k) tt)
       ends false false true i (inr k) = absurd (subst T k tt)
 
-  sync_exit_row_leads : (w : Option ℕ) → is_explicit n s ≡ false → is_async_lifted (kind_of (task_of n s) s) ≡ false → Leads a s (sync_exit_row n w s)
-  sync_exit_row_leads w implicit kind =
+  -- the end that the label says, where it says one
+  said : {k : ℕ} {e : Status} (j : ℕ) (f : Status) → written_by x.component s l s ≡ Some (end_for f (subtask.Guest j)) → SaysEnd a k e → (j ≡ k) × (f ≡ e)
+  said j f is says = let both = sym is ∙ says in (ap (λ (o : Option SubtaskEnd). call_in o) both, ap (λ (o : Option SubtaskEnd). option_map_or (λ y. y.status) o status.Starting) both)
+
+  -- an exit that ends no task
+  exit_is_none : (t : Core) → is_ending_exit n s ≡ false → l ≡ exit_label n None → EndWords a t
+  exit_is_none t none is = record {
+    writes = λ k e says. none_is_some (end_for e (subtask.Guest k)) (sym (ap (λ (y : Label). written_by x.component s y s) is ∙ ap (λ b. if b then task_end n status.Returned s else None) none) ∙ says);
+    hands = λ k e out. none_is_some (end_for e (subtask.Guest k)) (sym (ap (λ (y : Label). handed_by x.component main s y t) is ∙ ap (λ b. if b then task_end n status.Returned s else None) (not_direct (is_explicit n s) (is_direct (goal_of (task_of n s) s)) (is_async_lifted (kind_of (task_of n s) s)) none)) ∙ out);
+  }
+    where
+      not_direct : (e d h : Bool) → (not e && (d || not h)) ≡ false → (not e && d) ≡ false
+      not_direct true d h k = refl
+      not_direct false false h k = refl
+      not_direct false true h k = absurd (subst T k tt)
+
+  -- an exit that ends the task
+  exit_says_end : (w : Option ℕ) (t : Core) → l ≡ exit_label n w → is_explicit n s ≡ false → is_async_lifted (kind_of (task_of n s) s) ≡ false → is_direct (goal_of (task_of n s) s) ≡ false → (u : Core) → is_over (task_of n s) u ≡ true → Walk a u t → EndWords a t
+  exit_says_end w t is implicit kind direct u over c = record {
+    writes = λ k e says.
+        let same = said (task_of n s) status.Returned (exit_says w is implicit (inr kind)) says in
+        inr (subst (λ (j : ℕ). ((has_ended j s ≡ false) ⊎ ((m : ℕ) × (IsRunner a m × ((j ≡ task_of m s) × ((is_explicit m s ≡ false) × ((is_direct (goal_of j s) ≡ true) ⊎ (is_async_lifted (kind_of j s) ≡ false))))))) × ((v : Core) × ((is_over j v ≡ true) × Walk a v t))) same.0 (inr (n, (refl, (refl, (implicit, inr kind)))), (u, (over, c))));
+    hands = λ k e out. none_is_some (end_for e (subtask.Guest k)) (sym (ap (λ (y : Label). handed_by x.component main s y t) is ∙ none_out w) ∙ out);
+  }
+    where
+      none_out : (v : Option ℕ) → handed_by x.component main s (exit_label n v) t ≡ None
+      none_out None = ap (λ b. if b then task_end n status.Returned s else None) (ap₂ (λ e d. not e && d) implicit direct)
+      none_out (Some y) = refl
+
+  thread_exit_row_leads : is_ending_exit n s ≡ false → Leads a s (thread_exit_row n s)
+  thread_exit_row_leads none =
+      trap_if_leads a s (not (passes_check (instance_of n s) s)) trap.CannotBlockSyncTask _ (λ e.
+      trap_if_leads a s (leaves_no_result n s) trap.NoAsyncResult _ (λ f.
+      gone_here x main s n l next (exit_label n None) (exit_stops n s) refl (exit_stops_gone n s) (λ is. exit_is_none (exit_stops n s) none is) (λ is leave. exit_stops_walks n refl (Departs leave) NoWord)))
+
+  exits : (w : Option ℕ) (t : Core) → l ≡ exit_label n w → is_explicit n s ≡ false → (is_direct (goal_of (task_of n s) s) ≡ true) ⊎ (is_async_lifted (kind_of (task_of n s) s) ≡ false) → t.calls ≡ s.calls → MayEnd a (task_of n s) call_end.Returned t
+  exits w t is implicit kind same = Exits n refl (ap is_exit is ∙ exit_is n w) refl implicit kind (ap (λ (m : Records Call). get m (task_of n s)) same) refl
+
+  sync_exit_row_leads : (w : Option ℕ) → is_explicit n s ≡ false → is_async_lifted (kind_of (task_of n s) s) ≡ false → is_direct (goal_of (task_of n s) s) ≡ false → Leads a s (sync_exit_row n w s)
+  sync_exit_row_leads w implicit kind direct =
       may_leads a s (may_tell (task_of n s) w s) _ (λ may.
-      gone_here x main s n l next (exit_label n w) (sync_exits n w s) (exit_quiet n w) (sync_exits_gone n w s) (λ is leave.
-      sync_exits_walks n refl w (exits w (exit_restores n s) is implicit (inr kind) (restored_calls n s)) (exit_says w is implicit (inr kind))
-      (still_told_to (task_of n s) s (exit_restores n s) (same_call (task_of n s) s (exit_restores n s) (restored_calls n s)) w (λ y chosen. restored_chosen n y w s chosen) (told_to (task_of n s) w s may)) (Departs leave) NoWord))
+      let told = still_told_to (task_of n s) s (exit_restores n s) (same_call (task_of n s) s (exit_restores n s) (restored_calls n s)) w (λ y chosen. restored_chosen n y w s chosen) (told_to (task_of n s) w s may) in
+      λ is to.
+      gone_here x main s n l next (exit_label n w) (sync_exits n w s) (exit_quiet n w) (sync_exits_gone n w s)
+      (λ at. exit_says_end w (sync_exits n w s) at implicit kind direct (set_end (task_of n s) call_end.Returned (exit_restores n s)) (over_now (task_of n s) call_end.Returned (exit_restores n s)) (sync_exits_rest n refl w s (exit_says w at implicit (inr kind)) told (Departs (refl, to)) NoWord))
+      (λ at leave. sync_exits_walks n refl w (exits w (exit_restores n s) at implicit (inr kind) (restored_calls n s)) (exit_says w at implicit (inr kind)) told (Departs leave) NoWord) is to)
 
   -- where a holding entry returns
   bars : (w : Option ℕ) → l ≡ exit_label n w → is_explicit n s ≡ false → is_holding (kind_of (task_of n s) s) ≡ true → is_direct (goal_of (task_of n s) s) ≡ false → MayBar a (instance_of n s) false
@@ -439,19 +527,35 @@ module _ (x : Setting) (main : Main) (s : Core) (n : ℕ) (l : Label) (next : Tu
   blocking_exit_row_leads : (w : Option ℕ) → is_explicit n s ≡ false → kind_of (task_of n s) s ≡ kind.Blocking → is_direct (goal_of (task_of n s) s) ≡ false → Leads a s (blocking_exit_row n w s)
   blocking_exit_row_leads w implicit kind direct =
       trap_if_leads a s (not (passes_after_return n w s)) trap.CannotBlockSyncTask _ (λ e.
-      may_leads a s (may_tell (task_of n s) w s) _ (λ may order.
-      gone_here x main s n l next (exit_label n w) (blocking_exits n w order s) (exit_quiet n w) (blocking_exits_gone n w order s) (λ is leave.
+      may_leads a s (may_tell (task_of n s) w s) _ (λ may order is to.
       let i = instance_of n s in
       let k = task_of n s in
       let t = end_reopens i order s in
-      blocking_exits_walks n refl w order (bars w is implicit (ap (λ y. is_holding y) kind) direct) (exits w t is implicit (inr (ap (λ y. is_async_lifted y) kind)) (reopened_calls i order s)) (exit_says w is implicit (inr (ap (λ y. is_async_lifted y) kind)))
-      (still_told_to k s t (same_call k s t (reopened_calls i order s)) w (λ y chosen. reopened_chosen i order y w s chosen) (told_to k w s may)) (Departs leave) NoWord)))
+      let lifted : is_async_lifted (kind_of (task_of n s) s) ≡ false = ap (λ y. is_async_lifted y) kind in
+      let told = still_told_to k s t (same_call k s t (reopened_calls i order s)) w (λ y chosen. reopened_chosen i order y w s chosen) (told_to k w s may) in
+      gone_here x main s n l next (exit_label n w) (blocking_exits n w order s) (exit_quiet n w) (blocking_exits_gone n w order s)
+      (λ at. exit_says_end w (blocking_exits n w order s) at implicit lifted direct (set_end k call_end.Returned t) (over_now k call_end.Returned t) (blocking_exits_rest n refl w order s (exit_says w at implicit (inr lifted)) told (Departs (refl, to)) NoWord))
+      (λ at leave. blocking_exits_walks n refl w order (bars w at implicit (ap (λ y. is_holding y) kind) direct) (exits w t at implicit (inr lifted) (reopened_calls i order s)) (exit_says w at implicit (inr lifted)) told (Departs leave) NoWord) is to))
 
   direct_leads : (m : ℕ) (t : Core) → under_of n s ≡ Some m → is_explicit n s ≡ false → is_direct (goal_of (task_of n s) s) ≡ true → task_of n t ≡ task_of n s → t.calls ≡ s.calls → Walk a s t → Leads a s (Goes (exit_label n None) (direct_exits n m (register_of n 0 s) t) m)
   direct_leads m t under implicit direct task calls c =
       let v = register_of n 0 s in
-      goes_over x main s n l next (exit_label n None) m (direct_exits n m v t) refl (λ e. direct_exits_gone n m v t) (inr (direct_exits_runs n m v t)) (λ is to.
-      direct_exits_walks n refl m v (subst (λ (k : ℕ). MayEnd a k call_end.Returned t) (sym task) (exits None t is implicit (inl direct) calls)) (subst (λ (k : ℕ). SaysEnd a k status.Returned) (sym task) (exit_says None is implicit (inl direct))) to (under_place n m s under) c)
+      let k = task_of n s in
+      λ here over.
+      goes_over x main s n l next (exit_label n None) m (direct_exits n m v t) refl (λ e. direct_exits_gone n m v t) (inr (direct_exits_runs n m v t))
+      (λ at. record {
+        writes = λ j e says.
+            let same = said k status.Returned (exit_says None at implicit (inl direct)) says in
+            inr (subst (λ (i : ℕ). ((has_ended i s ≡ false) ⊎ ((o : ℕ) × (IsRunner a o × ((i ≡ task_of o s) × ((is_explicit o s ≡ false) × ((is_direct (goal_of i s) ≡ true) ⊎ (is_async_lifted (kind_of i s) ≡ false))))))) × ((u : Core) × ((is_over i u ≡ true) × Walk a u (direct_exits n m v t)))) same.0
+            (inr (n, (refl, (refl, (implicit, inl direct)))), (set_end (task_of n t) call_end.Returned t, (subst (λ (i : ℕ). is_over k (set_end i call_end.Returned t) ≡ true) (sym task) (over_now k call_end.Returned t), direct_exits_rest n refl m v t over (under_place n m s under) NoWord))));
+        hands = λ j e out.
+            let both = sym (ap (λ (y : Label). handed_by x.component main s y (direct_exits n m v t)) at ∙ ap (λ b. if b then task_end n status.Returned s else None) (ap₂ (λ (f g : Bool). not f && g) implicit direct)) ∙ out in
+            let same : k ≡ j = ap (λ (o : Option SubtaskEnd). call_in o) both in
+            let says : SaysEnd a j e = exit_says None at implicit (inl direct) ∙ both in
+            WritesToo says (inl (subst (λ (i : ℕ). is_direct (goal_of i s) ≡ true) same direct));
+      })
+      (λ is to.
+      direct_exits_walks n refl m v (subst (λ (k : ℕ). MayEnd a k call_end.Returned t) (sym task) (exits None t is implicit (inl direct) calls)) (subst (λ (k : ℕ). SaysEnd a k status.Returned) (sym task) (exit_says None is implicit (inl direct))) to (under_place n m s under) c) here over
 
   direct_exit_to_leads : (k : ExportKind) (o : Option ℕ) → under_of n s ≡ o → is_explicit n s ≡ false → is_direct (goal_of (task_of n s) s) ≡ true → Leads a s (direct_exit_to n k s o)
   direct_exit_to_leads k None under implicit direct = tt
@@ -467,40 +571,54 @@ module _ (x : Setting) (main : Main) (s : Core) (n : ℕ) (l : Label) (next : Tu
   owes None has ends t = inr (n, (ends, (refl, ap own_or_none has)))
   owes (Some e) has ends t = inr (n, (ends, (refl, ap own_or_none has)))
 
-  code_wait_row_leads : (k : Label) (y : ℕ) (held : List ℕ) (b : Bool) → is_plain k ≡ true → (l ≡ k → MayBar a (instance_of n s) false) → EndsActivation a n → HasSet a n y → Leads a s (code_wait_row k n y held s b)
+  code_wait_row_leads : (k : Label) (y : ℕ) (held : List ℕ) (b : Bool) → is_still k ≡ true → (l ≡ k → MayBar a (instance_of n s) false) → EndsActivation a n → HasSet a n y → Leads a s (code_wait_row k n y held s b)
   code_wait_row_leads k y held true plain bar ends has = λ order is to. stops_here x main s n l next k (code_finds n y order s) plain (λ leave. code_finds_walks n refl y order (bar is) leave ends has NoWord) is to
   code_wait_row_leads k y held false plain bar ends has = λ order is to. stops_here x main s n l next k (code_waits n y order s) plain (λ leave. code_waits_walks n refl y order (bar is) leave ends has NoWord) is to
 
-  code_exits_leads : (k : Label) (held : List ℕ) → is_quiet k ≡ true → (l ≡ k → MayBar a (instance_of n s) false) → (rest : ℕ) → Leads a s (code_kind_row k n held s zero rest)
-  code_exits_leads k held quiet bar rest =
+  code_exits_leads : (k : Label) (held : List ℕ) → is_quiet k ≡ true → ((t : Core) → l ≡ k → EndWords a t) → (l ≡ k → MayBar a (instance_of n s) false) → (rest : ℕ) → Leads a s (code_kind_row k n held s zero rest)
+  code_exits_leads k held quiet says bar rest =
       trap_if_leads a s (not (passes_after_stop (instance_of n s) (foot_of n s) held s)) trap.CannotBlockSyncTask _ (λ e.
       trap_if_leads a s (leaves_no_result n s) trap.NoAsyncResult _ (λ f order.
-      gone_here x main s n l next k (code_exits n order s) quiet (code_exits_gone n order s) (λ is leave. code_exits_walks n refl order (bar is) (Departs leave) NoWord)))
+      gone_here x main s n l next k (code_exits n order s) quiet (code_exits_gone n order s) (says (code_exits n order s)) (λ is leave. code_exits_walks n refl order (bar is) (Departs leave) NoWord)))
 
-  code_kind_row_leads : (k : Label) (held : List ℕ) (low rest : ℕ) → is_plain k ≡ true → (l ≡ k → MayBar a (instance_of n s) false) → EndsActivation a n → Leads a s (code_kind_row k n held s low rest)
-  code_kind_row_leads k held zero rest plain bar ends = code_exits_leads k held (plain_quiet (is_quiet k) (is_exit k) plain).0 bar rest
+  code_kind_row_leads : (k : Label) (held : List ℕ) (low rest : ℕ) → is_still k ≡ true → (l ≡ k → MayBar a (instance_of n s) false) → EndsActivation a n → Leads a s (code_kind_row k n held s low rest)
+  code_kind_row_leads k held zero rest plain bar ends =
+      let r = still_parts (is_plain k) (is_mute k) plain in
+      code_exits_leads k held (plain_quiet (is_quiet k) (is_exit k) r.0).0 (λ t is. mute_words a t (ap is_mute is ∙ r.1)) bar rest
   code_kind_row_leads k held (suc zero) rest plain bar ends = λ order is to. stops_here x main s n l next k (code_yields n order s) plain (λ leave. code_yields_walks n refl order (bar is) leave ends (owes (own_event_of (task_of n s) s) refl ends (code_stops n order s)) NoWord) is to
   code_kind_row_leads k held (suc (suc zero)) rest plain bar ends = or_trap_leads a s (set_at (instance_of n s) rest s) trap.BadHandle _ (λ y named. code_wait_row_leads k y held (has_event_for (task_of n s) y s) plain bar ends (BySetHandle rest named))
   code_kind_row_leads k held (suc (suc (suc low))) rest plain bar ends = tt
 
-  code_row_leads : (k : Label) (code : ℕ) → is_plain k ≡ true → (l ≡ k → MayBar a (instance_of n s) false) → EndsActivation a n → Leads a s (code_row k n s code)
+  code_row_leads : (k : Label) (code : ℕ) → is_still k ≡ true → (l ≡ k → MayBar a (instance_of n s) false) → EndsActivation a n → Leads a s (code_row k n s code)
   code_row_leads k code plain bar ends = trap_if_leads a s (nat_lt 4294967295 code) trap.UnsupportedCallbackCode _ (λ e. code_kind_row_leads k (held_by_flag (instance_of n s) s) (code % 16) (code / 16) plain bar ends)
 
+  not_ending : is_explicit n s ≡ false → is_direct (goal_of (task_of n s) s) ≡ false → is_async_lifted (kind_of (task_of n s) s) ≡ true → is_ending_exit n s ≡ false
+  not_ending implicit direct lifted = ap₂ (λ e d. not e && (d || not (is_async_lifted (kind_of (task_of n s) s)))) implicit direct ∙ ap (λ h. not h) lifted
+
   kind_exit_row_leads : (w : Option ℕ) (k : ExportKind) → kind_of (task_of n s) s ≡ k → is_explicit n s ≡ false → is_direct (goal_of (task_of n s) s) ≡ false → Leads a s (kind_exit_row n w s k)
-  kind_exit_row_leads w kind.Sync kind implicit direct = sync_exit_row_leads w implicit (ap (λ y. is_async_lifted y) kind)
+  kind_exit_row_leads w kind.Sync kind implicit direct = sync_exit_row_leads w implicit (ap (λ y. is_async_lifted y) kind) direct
   kind_exit_row_leads w kind.Blocking kind implicit direct = blocking_exit_row_leads w implicit kind direct
-  kind_exit_row_leads w kind.Stackful kind implicit direct = thread_exit_row_leads
-  kind_exit_row_leads w kind.Callback kind implicit direct = code_exits_leads (exit_label n None) (held_by_flag (instance_of n s) s) refl (λ is. bars None is implicit (ap (λ y. is_holding y) kind) direct) 0
+  kind_exit_row_leads w kind.Stackful kind implicit direct = thread_exit_row_leads (not_ending implicit direct (ap (λ y. is_async_lifted y) kind))
+  kind_exit_row_leads w kind.Callback kind implicit direct = code_exits_leads (exit_label n None) (held_by_flag (instance_of n s) s) refl (λ t is. exit_is_none t (not_ending implicit direct (ap (λ y. is_async_lifted y) kind)) is) (λ is. bars None is implicit (ap (λ y. is_holding y) kind) direct) 0
 
   implicit_exit_row_leads : (w : Option ℕ) (b : Bool) → is_direct (goal_of (task_of n s) s) ≡ b → is_explicit n s ≡ false → Leads a s (implicit_exit_row n w s b)
   implicit_exit_row_leads w true direct implicit = direct_exit_to_leads (kind_of (task_of n s) s) (under_of n s) refl implicit direct
   implicit_exit_row_leads w false direct implicit = kind_exit_row_leads w (kind_of (task_of n s) s) refl implicit direct
 
   exit_row_for_leads : (w : Option ℕ) (b : Bool) → is_explicit n s ≡ b → Leads a s (exit_row_for n w s b)
-  exit_row_for_leads w true explicit = thread_exit_row_leads
+  exit_row_for_leads w true explicit = thread_exit_row_leads (ap (λ e. not e && (is_direct (goal_of (task_of n s) s) || not (is_async_lifted (kind_of (task_of n s) s)))) explicit)
   exit_row_for_leads w false explicit = implicit_exit_row_leads w (is_direct (goal_of (task_of n s) s)) refl explicit
 
   -- ---- The task and backpressure
+
+  -- the task comes to an end that it hadn't
+  task_says : (f : Status) (t : Core) → written_by x.component s l s ≡ task_end n f s → ((k : ℕ) (e : Status) → handed_by x.component main s l t ≡ Some (end_for e (subtask.Guest k)) → HandsOut a t k e) → has_ended (task_of n s) s ≡ false → (u : Core) → is_over (task_of n s) u ≡ true → Walk a u t → EndWords a t
+  task_says f t is hands unended u over c = record {
+    writes = λ k e says.
+        let same = said (task_of n s) f is says in
+        inr (inl (subst (λ (j : ℕ). has_ended j s ≡ false) same.0 unended), (u, (subst (λ (j : ℕ). is_over j u ≡ true) same.0 over, c)));
+    hands = hands;
+  }
 
   ret_row_leads : (v : ℕ) (w : Option ℕ) → Leads a s (ret_row n v w s)
   unfolding ret_done
@@ -508,7 +626,10 @@ module _ (x : Setting) (main : Main) (s : Core) (n : ℕ) (l : Label) (next : Tu
       trap_if_leads a s (has_ended (task_of n s) s) trap.TaskCancelOrReturnTwice _ (λ unended.
       trap_if_leads a s (not (is_async_lifted (kind_of (task_of n s) s))) trap.TaskReturnInvalid _ (λ lifted.
       may_leads a s (may_tell (task_of n s) w s) _ (λ may.
-      go_saying (ret_label n v w) (ret_done n v w s) (ret_plain n v w) (λ is. advanced_walks n refl (returned_walks (task_of n s) v w (ReturnsNow n refl refl unended (unnot (is_async_lifted (kind_of (task_of n s) s)) lifted) refl) (ap (λ (k : Label). written_by x.component s k s) is ∙ ret_writes x.component n v w s) (told_to (task_of n s) w s may) NoWord)))))
+      go_saying (ret_label n v w) (ret_done n v w s) (ret_plain n v w)
+      (λ is. task_says status.Returned (ret_done n v w s) (ap (λ (k : Label). written_by x.component s k s) is ∙ ret_writes x.component n v w s) (λ k e out. none_is_some (end_for e (subtask.Guest k)) (sym (ap (λ (y : Label). handed_by x.component main s y (ret_done n v w s)) is ∙ ret_hands x.component main n v w s (ret_done n v w s)) ∙ out)) unended
+      (set_end (task_of n s) call_end.Returned s) (over_now (task_of n s) call_end.Returned s) (advanced_walks n refl (returned_rest (task_of n s) v w s (ap (λ (k : Label). written_by x.component s k s) is ∙ ret_writes x.component n v w s) (told_to (task_of n s) w s may) NoWord)))
+      (λ is. advanced_walks n refl (returned_walks (task_of n s) v w (ReturnsNow n refl refl unended (unnot (is_async_lifted (kind_of (task_of n s) s)) lifted) refl) (ap (λ (k : Label). written_by x.component s k s) is ∙ ret_writes x.component n v w s) (told_to (task_of n s) w s may) NoWord)))))
 
   task_cancel_row_leads : (w : Option ℕ) → Leads a s (task_cancel_row n w s)
   unfolding task_cancel_done
@@ -516,7 +637,10 @@ module _ (x : Setting) (main : Main) (s : Core) (n : ℕ) (l : Label) (next : Tu
       trap_if_leads a s (not (cancel_was_delivered (task_of n s) s)) trap.TaskCancelNotCancelled _ (λ delivered.
       trap_if_leads a s (has_ended (task_of n s) s) trap.TaskCancelOrReturnTwice _ (λ unended.
       may_leads a s (may_tell (task_of n s) w s) _ (λ may.
-      go_saying (task_cancel_label n w) (task_cancel_done n w s) (task_cancel_plain n w) (λ is. advanced_walks n refl (cancelled_walks (task_of n s) w (GivesUp n refl refl unended (unnot (cancel_was_delivered (task_of n s) s) delivered) refl) (ap (λ (k : Label). written_by x.component s k s) is ∙ task_cancel_writes x.component n w s) (told_to (task_of n s) w s may) NoWord)))))
+      go_saying (task_cancel_label n w) (task_cancel_done n w s) (task_cancel_plain n w)
+      (λ is. task_says status.ReturnCancelled (task_cancel_done n w s) (ap (λ (k : Label). written_by x.component s k s) is ∙ task_cancel_writes x.component n w s) (λ k e out. none_is_some (end_for e (subtask.Guest k)) (sym (ap (λ (y : Label). handed_by x.component main s y (task_cancel_done n w s)) is ∙ task_cancel_hands x.component main n w s (task_cancel_done n w s)) ∙ out)) unended
+      (set_end (task_of n s) call_end.ReturnCancelled s) (over_now (task_of n s) call_end.ReturnCancelled s) (advanced_walks n refl (cancelled_rest (task_of n s) w s (ap (λ (k : Label). written_by x.component s k s) is ∙ task_cancel_writes x.component n w s) (told_to (task_of n s) w s may) NoWord)))
+      (λ is. advanced_walks n refl (cancelled_walks (task_of n s) w (GivesUp n refl refl unended (unnot (cancel_was_delivered (task_of n s) s) delivered) refl) (ap (λ (k : Label). written_by x.component s k s) is ∙ task_cancel_writes x.component n w s) (told_to (task_of n s) w s may) NoWord)))))
 
   dec_from_leads : (b : ℕ) → Leads a s (dec_from n s b)
   unfolding dec_lowers dec_opens

@@ -1,9 +1,9 @@
 -- Where a step does a word: what its row has tested or done before, and what is known of the thread that runs or was taken.
-use Rattle.std.specs.Prelude.{Bool, None, Option, Some, [], false, is_none, true, ℕ, ◌||◌, ◌∷◌, ◌≡◌, ◌⊎◌}
+use Rattle.std.specs.Prelude.{Bool, None, Option, Some, [], false, is_none, true, ℕ, ◌||◌, ◌∷◌, ◌≡◌, ◌⊎◌, not}
 use Rattle.task_machine.specs.Core.{Core, MainPlace, Scripted, Unscripted}
 use Rattle.task_machine.specs.Maps.{get}
 use Rattle.task_machine.specs.Moves.{has_entry, is_callback_waiter, is_deletable, is_group_done}
-use Rattle.task_machine.specs.Read.{cancel_was_delivered, course_of, course_value, end_of, goal_of, has_ended, has_member, has_waiters, how_far_of, instance_of, is_async_lifted, is_at, is_direct, is_end, is_explicit, is_joined, is_stage_ended, is_waiter, join_of, kind_of, may_not_enter, next_entry, own_event_of, phase_of, place_of, set_at, stage_of, subtask_at, subtask_ended, subtask_handle, task_of, thread_group, was_started, work_caller_of}
+use Rattle.task_machine.specs.Read.{cancel_was_delivered, course_of, course_value, end_of, goal_of, has_ended, has_member, has_waiters, how_far_of, instance_of, is_async_lifted, is_at, is_direct, is_end, is_explicit, is_joined, is_stage_ended, is_waiter, join_of, kind_of, may_not_enter, next_entry, own_event_of, phase_of, place_of, set_at, stage_of, subtask_at, subtask_ended, subtask_handle, task_of, thread_group, was_started, work_caller_of, is_guest_call}
 use Rattle.task_machine.specs.declared.component.Callee.{Callee}
 use Rattle.task_machine.specs.declared.component.ExportKind.{ExportKind}
 use Rattle.task_machine.specs.declared.label.Label.{Label}
@@ -41,6 +41,7 @@ use Rattle.task_machine.specs.declared.records.CallEnd.TheVariants as call_end
 use Rattle.task_machine.specs.declared.records.Caller.TheVariants as caller
 use Rattle.task_machine.specs.declared.records.Delivery.TheVariants as delivery
 use Rattle.task_machine.specs.declared.records.Entry.TheVariants as entry
+use Rattle.task_machine.specs.declared.records.Goal.TheVariants as goal
 use Rattle.task_machine.specs.declared.records.HowFar.TheVariants as how_far
 use Rattle.task_machine.specs.declared.records.Join.TheVariants as join
 use Rattle.task_machine.specs.declared.records.Place.TheVariants as place
@@ -204,9 +205,13 @@ pub data MayCall (a : Scene) (f : Caller) (e : Callee) (group : ℕ) (s : Core) 
   ByProgram : (words : ℕ) → a.main ≡ Unscripted → takes_words (component_of a) e words ≡ true → f ≡ caller.Main → group ≡ s.made.groups → MayCall a f e group s
   ByThread : (n : ℕ) → IsRunner a n → callee_of_op (op_in a n) ≡ Some e → f ≡ caller.Thread n → group ≡ thread_group n a.base → MayCall a f e group s
 
--- a direct call isn't of an async-lifted export
+abbrev pub is_for_main : Goal → Bool
+is_for_main goal.Main = true
+is_for_main _ = false
+
+-- a direct call isn't of an async-lifted export; main's calls alone have results for main
 abbrev pub MayMakeCall : Scene → Caller → Callee → ExportKind → Goal → ℕ → Core → Type 0
-MayMakeCall a f e x g group s = MayCall a f e group s × ((s.made.threads ≡ a.base.made.threads) × ((x ≡ export_kind (component_of a) e) × (is_direct g ≡ true → is_async_lifted x ≡ false)))
+MayMakeCall a f e x g group s = MayCall a f e group s × ((s.made.threads ≡ a.base.made.threads) × ((x ≡ export_kind (component_of a) e) × ((is_direct g ≡ true → is_async_lifted x ≡ false) × (is_for_main g ≡ not (is_guest_call f)))))
 
 -- the call of the thread that was taken to start, or a new direct one
 abbrev pub MayStart : Scene → ℕ → Core → Type 0
@@ -351,7 +356,7 @@ Allowed a (RemoveWork i) s = MayRemoveWork a i s
 Allowed a (OpenSet i) s = MayOpen a i s
 Allowed a (CloseSet i h x) s = MayClose a i h x s
 Allowed a (SetDoNotEnter i b) s = MayBar a i b
-Allowed a (GiveResult k v) s = SaysEnd a k status.Returned
+Allowed a (GiveResult k v) s = SaysEnd a k status.Returned × (goal_of k s ≡ goal.Main)
 Allowed a AddGroup s = s.made.groups ≡ a.base.made.groups
 Allowed a (RemoveGroup g) s = is_group_done g s ≡ true
 Allowed a _ s = Unit {0}

@@ -1,19 +1,23 @@
 -- Each step as a chain of words.
+use Rattle.task_rules.specs.SubtaskEnds.{end_for, handed_by}
+use Rattle.task_machine.specs.declared.words.Status.{Status}
+use Rattle.task_machine.specs.declared.words.Status.TheVariants as status
+use Rattle.task_machine.specs.declared.records.Subtask.TheVariants as subtask
 use Rattle.std.specs.Option.{option_map_or}
 use Rattle.std.specs.Prelude.{Bool, None, Some, false, is_some, true, ℕ, ◌≡◌, ◌⊎◌}
 use Rattle.task_machine.specs.Core.{Core, Main, Scripted, State, Unscripted}
 use Rattle.task_machine.specs.Maps.{get}
 use Rattle.task_machine.specs.Moves.{ended}
-use Rattle.task_machine.specs.Read.{may_not_enter, place_of}
+use Rattle.task_machine.specs.Read.{event_of, goal_of, has_ended, is_async_lifted, is_direct, is_explicit, kind_of, may_not_enter, place_of, task_of, undelivered_end}
 use Rattle.task_machine.specs.declared.label.Label.{Label}
 use Rattle.task_machine.specs.declared.outcome.Outcome.{Outcome}
 use Rattle.task_machine.specs.declared.records.Place.{Place}
 use Rattle.task_machine.specs.declared.records.Turn.{Turn}
-use Rattle.task_rules.specs.Allowed.{Allowed, IsRunner, MayShift, is_exit}
+use Rattle.task_rules.specs.Allowed.{Allowed, IsRunner, MayShift, SaysEnd, is_exit}
 use Rattle.task_rules.specs.Laws.{is_free}
 use Rattle.task_rules.specs.Once.{begun_holder}
 use Rattle.task_rules.specs.Outcome.{outcome_of_label}
-use Rattle.task_rules.specs.Scenes.{Scene, scene_of}
+use Rattle.task_rules.specs.Scenes.{Scene, component_of, scene_of}
 use Rattle.task_rules.specs.Stalled.{Setting}
 use Rattle.task_rules.specs.Step.{Step}
 use Rattle.task_rules.specs.Turns.{settled_turn}
@@ -46,6 +50,25 @@ abbrev pub is_take : Turn → Bool
 is_take (turn.Take ended) = true
 is_take _ = false
 
+-- the call is gone, or has ended
+abbrev pub is_over : ℕ → Core → Bool
+is_over k s = option_map_or (λ c. is_some c.«end») (get s.calls k) true
+
+-- How a step comes to hand an end of a call out.
+pub data HandsOut (a : Scene) (t : Core) (k : ℕ) (e : Status) : Type 0 where
+  -- it takes the event
+  TakesEvent : undelivered_end (event_of (subtask.Guest k) a.base) ≡ Some e → undelivered_end (event_of (subtask.Guest k) t) ≡ None → HandsOut a t k e
+  -- main takes the result
+  TakesResult : is_some (get a.base.results k) ≡ true → e ≡ status.Returned → get t.results k ≡ None → HandsOut a t k e
+  -- it writes the end itself: of a direct call, or of a start that is withdrawn
+  WritesToo : SaysEnd a k e → (is_direct (goal_of k a.base) ≡ true) ⊎ (e ≡ status.StartCancelled) → HandsOut a t k e
+
+-- What the label of a step says of the ends of calls.
+pub record EndWords (a : Scene) (t : Core) : Type 0 where
+  -- where it is written, the call had none, unless it exits, and has it on the way; or the event of a withdrawn start was there, which never is
+  pub writes : (k : ℕ) (e : Status) → SaysEnd a k e → (undelivered_end (event_of (subtask.Guest k) a.base) ≡ Some status.StartCancelled) ⊎ (((has_ended k a.base ≡ false) ⊎ ((n : ℕ) × (IsRunner a n × ((k ≡ task_of n a.base) × ((is_explicit n a.base ≡ false) × ((is_direct (goal_of k a.base) ≡ true) ⊎ (is_async_lifted (kind_of k a.base) ≡ false))))))) × ((u : Core) × ((is_over k u ≡ true) × Walk a u t)))
+  pub hands : (k : ℕ) (e : Status) → handed_by (component_of a) a.main a.base a.label t ≡ Some (end_for e (subtask.Guest k)) → HandsOut a t k e
+
 -- What the last words of a step leave.
 pub record LastWords (a : Scene) (t : Core) : Type 0 where
   -- a thread that was taken is at a place that says nothing of entries, or gone
@@ -56,6 +79,8 @@ pub record LastWords (a : Scene) (t : Core) : Type 0 where
   pub outcome : (o : Outcome) → outcome_of_label a.label ≡ Some o → a.next ≡ turn.Over
   -- a thread that exits is gone
   pub gone : (n : ℕ) → IsRunner a n → is_exit a.label ≡ true → get t.threads n ≡ None
+  -- what the label says of ends is so
+  pub says : EndWords a t
   -- a holding entry that begins to run finds its instance open, and shuts it
   pub shut : (i : ℕ) → begun_holder a.base a.label ≡ Some i → (may_not_enter i a.base ≡ false) × (is_some (get t.instances i) ≡ true → may_not_enter i t ≡ true)
 

@@ -66,7 +66,7 @@ abbrev pub written : Component → Moment → Option SubtaskEnd
 written c m = written_by c m.before.core m.label m.after.core
 
 abbrev pub handed : Component → Moment → Option SubtaskEnd
-handed c m = handed_by c m.before m.label m.after.core
+handed c m = handed_by c m.before.main m.before.core m.label m.after.core
 
 abbrev pub is_end_of : Subtask → Option SubtaskEnd → Bool
 is_end_of sub e = option_map_or (λ x. same_subtask sub x.subtask) e false

@@ -27,7 +27,7 @@ use Rattle.task_machine.specs.declared.words.Status.TheVariants as status
 use Rattle.task_machine.specs.declared.records.Subtask.TheVariants as subtask
 use Rattle.task_machine.specs.declared.label.TakeLabel.TheVariants as take
 use Rattle.task_machine.specs.declared.label.TaskLabel.TheVariants as task_label
-use Rattle.task_machine.specs.Core.{Began, Core, Main, Refused, Scripted, Started, State, Unscripted}
+use Rattle.task_machine.specs.Core.{Began, Core, Main, Refused, Scripted, Started, Unscripted}
 use Rattle.task_machine.specs.Maps.{get, numbers}
 use Rattle.task_machine.specs.Read.{course_of, course_value, goal_of, how_far_of, instance_of, is_async_lifted, is_direct, is_explicit, kind_of, subtask_at, task_of}
 use Rattle.task_rules.specs.MainOps.{started_at}
@@ -175,11 +175,11 @@ handed_by_main Unscripted s (main_label.Finish k v) t = option_map (λ n. end_fo
 handed_by_main _ s _ t = None
 
 -- the end that a step from s to t hands out, by its label
-abbrev pub handed_by : Component → State → Label → Core → Option SubtaskEnd
-handed_by c s (label.Main l) t = handed_by_main s.main s.core l t
-handed_by c s (label.Take l) t = handed_by_take s.core l
-handed_by c s (label.Task l) t = handed_by_exit s.core l
-handed_by c s (label.Set l) t = handed_by_set s.core l
-handed_by c s (label.Call l) t = handed_by_call c s.core l
-handed_by c s (label.CallSyncPolls n v i) t = host_end i status.Returned
-handed_by c s _ t = None
+abbrev pub handed_by : Component → Main → Core → Label → Core → Option SubtaskEnd
+handed_by c main s (label.Main l) t = handed_by_main main s l t
+handed_by c main s (label.Take l) t = handed_by_take s l
+handed_by c main s (label.Task l) t = handed_by_exit s l
+handed_by c main s (label.Set l) t = handed_by_set s l
+handed_by c main s (label.Call l) t = handed_by_call c s l
+handed_by c main s (label.CallSyncPolls n v i) t = host_end i status.Returned
+handed_by c main s _ t = None
