@@ -11,4 +11,5 @@ SetsNamedAtHome = (x : Setting) (s : State) → Reached x s → (i h n : ℕ) �
 
 -- no two handles name one set
 abbrev pub SetsNamedOnce : Type 0
-SetsNamedOnce = (x : Setting) (s : State) → Reached x s → (i j h g n : ℕ) → set_at i h s.core ≡ Some n → set_at j g s.core ≡ Some n → (i ≡ j) × (h ≡ g)
+SetsNamedOnce = (x : Setting) (s : State) → Reached x s → (i j h g n : ℕ) → set_at i h s.core ≡ Some n → set_at j g s.core ≡ Some n →
+    (i ≡ j) × (h ≡ g)

@@ -17,10 +17,12 @@ use Rattle.task_rules.specs.Stalled.{Setting}
 pub record CalleesExist (x : Setting) (instances : ℕ) : Type 0 where
   pub some : 0 < instances
   pub starts : (p : ℕ) (o : MainOpDef) (e : Callee) → slice_get x.script p ≡ Some o → callee_of_main_op o ≡ Some e → e.instance < instances
-  pub calls : (f : Callee) (w : Script) (p : ℕ) (o : Op) (e : Callee) → slice_get (script_in x.component f w) p ≡ Some o → callee_of_op o ≡ Some e → e.instance < instances
+  pub calls : (f : Callee) (w : Script) (p : ℕ) (o : Op) (e : Callee) → slice_get (script_in x.component f w) p ≡ Some o →
+      callee_of_op o ≡ Some e → e.instance < instances
 
 -- in each run of a main that is a script, from an opening state
 abbrev pub RunsHoldOne : Type 0
 RunsHoldOne =
     (x : Setting) (instances handle_limit capacity : ℕ) (p : MainPlace) (ls : List Label) (t : State) → CalleesExist x instances →
-    (run : Run x (opening instances handle_limit capacity (Scripted p)) ls t) → OneHolder (history x (opening instances handle_limit capacity (Scripted p)) ls t run)
+    (run : Run x (opening instances handle_limit capacity (Scripted p)) ls t) →
+    OneHolder (history x (opening instances handle_limit capacity (Scripted p)) ls t run)

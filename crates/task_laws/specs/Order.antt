@@ -89,7 +89,8 @@ pub record JoinNamed (sub : Subtask) (x : ℕ) (s : Core) : Type 0 where
   pub home : option_map (λ (r : Set). r.instance) (get s.sets x) ≡ Some instance
   pub named : subtask_at instance handle s ≡ Some sub
 
--- Each instance's table of handles is kept, each set's number was given, and a subtask that is joined to a set is named in the set's instance.
+-- Each instance's table of handles is kept, each set's number was given, and a subtask that is joined to a set is named in the set's
+-- instance.
 pub record JoinsNamed (s : Core) : Type 0 where
   pub tables : (i : ℕ) (t : Table Named) → get s.handles i ≡ Some t → TableKept t
   pub sets : (x : ℕ) → is_some (get s.sets x) ≡ true → x ≤ s.made.sets
@@ -125,7 +126,8 @@ pub record WaitsAtHome (s : Core) : Type 0 where
 
 -- ---- Calls
 
--- A call has the kind of its export. A direct one is of a sync or a blocking export. Where it is of such an export no cancel request is delivered to it, and once it has ended its first thread is gone.
+-- A call has the kind of its export. A direct one is of a sync or a blocking export. Where it is of such an export no cancel request is
+-- delivered to it, and once it has ended its first thread is gone.
 pub record CallKind (c : Component) (s : Core) (k : ℕ) (x : Call) : Type 0 where
   pub kind : x.kind ≡ export_kind c x.callee
   pub direct : is_direct x.goal ≡ true → is_async_lifted x.kind ≡ false
@@ -148,7 +150,8 @@ is_delivered _ = false
 
 -- deliveries are for threads of callback exports
 abbrev pub DeliveredByCallback : Core → Type 0
-DeliveredByCallback s = (n : ℕ) (t : Thread) → get s.threads n ≡ Some t → is_delivered t.place ≡ true → is_callback (kind_of t.call s) ≡ true
+DeliveredByCallback s = (n : ℕ) (t : Thread) → get s.threads n ≡ Some t → is_delivered t.place ≡ true →
+    is_callback (kind_of t.call s) ≡ true
 
 abbrev pub is_start : Why → Bool
 is_start why.Start = true
@@ -197,7 +200,8 @@ pub record InOrder (c : Component) (s : State) : Type 0 where
 
 -- each opening state is in order
 abbrev pub OpeningInOrder : Type 0
-OpeningInOrder = (c : Component) → CodesInCallbacks c → (instances handle_limit capacity : ℕ) (main : Main) → InOrder c (opening instances handle_limit capacity main)
+OpeningInOrder = (c : Component) → CodesInCallbacks c → (instances handle_limit capacity : ℕ) (main : Main) →
+    InOrder c (opening instances handle_limit capacity main)
 
 -- each step from a state in order leads to one
 abbrev pub StepInOrder : Type 0

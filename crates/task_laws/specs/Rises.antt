@@ -38,7 +38,8 @@ rank status.Starting = 0
 rank status.Started = 1
 rank _ = 2
 
--- From c to d the end stays, a start that has run has run, the status is the same or a higher one, and a call whose start has run doesn't come to StartCancelled.
+-- From c to d the end stays, a start that has run has run, the status is the same or a higher one, and a call whose start has run doesn't
+-- come to StartCancelled.
 pub record Rises (c d : Call) : Type 0 where
   pub end_stays : (e : CallEnd) → c.«end» ≡ Some e → d.«end» ≡ Some e
   pub start_stays : c.started ≡ true → d.started ≡ true
@@ -61,12 +62,15 @@ RunsRise = (x : Setting) (s : State) (ls : List Label) (t : State) → Reached x
 
 -- a task of a sync-lifted export has no cancel request delivered
 abbrev pub SyncNeverCancelled : Type 0
-SyncNeverCancelled = (x : Setting) (s : State) → Reached x s → (k : ℕ) (c : Call) → get s.core.calls k ≡ Some c → is_async_lifted c.kind ≡ false → c.cancel_delivered ≡ false
+SyncNeverCancelled = (x : Setting) (s : State) → Reached x s → (k : ℕ) (c : Call) → get s.core.calls k ≡ Some c →
+    is_async_lifted c.kind ≡ false → c.cancel_delivered ≡ false
 
 -- once such a task has ended its first thread is gone
 abbrev pub SyncEndsLast : Type 0
-SyncEndsLast = (x : Setting) (s : State) → Reached x s → (k : ℕ) (c : Call) → get s.core.calls k ≡ Some c → is_async_lifted c.kind ≡ false → (e : CallEnd) → c.«end» ≡ Some e → get s.core.threads k ≡ None
+SyncEndsLast = (x : Setting) (s : State) → Reached x s → (k : ℕ) (c : Call) → get s.core.calls k ≡ Some c → is_async_lifted c.kind ≡ false →
+    (e : CallEnd) → c.«end» ≡ Some e → get s.core.threads k ≡ None
 
 -- a thread that isn't the first of its call has a number that names no call
 abbrev pub ExplicitNamesNoCall : Type 0
-ExplicitNamesNoCall = (x : Setting) (s : State) → Reached x s → (n : ℕ) (t : Thread) → get s.core.threads n ≡ Some t → t.explicit ≡ true → get s.core.calls n ≡ None
+ExplicitNamesNoCall = (x : Setting) (s : State) → Reached x s → (n : ℕ) (t : Thread) → get s.core.threads n ≡ Some t → t.explicit ≡ true →
+    get s.core.calls n ≡ None

@@ -76,7 +76,8 @@ is_exit (label.Task (task_label.Exit n)) = true
 is_exit (label.Task (task_label.ExitWakes n w)) = true
 is_exit _ = false
 
--- What makes the set one of the thread's instance: a handle names it there, or the thread was inside a wait on it, or was taken with a delivery for it.
+-- What makes the set one of the thread's instance: a handle names it there, or the thread was inside a wait on it, or was taken with a
+-- delivery for it.
 pub data HasSet (a : Scene) (n x : ℕ) : Type 0 where
   BySetHandle : (h : ℕ) → set_at (instance_of n a.base) h a.base ≡ Some x → HasSet a n x
   ByWait : how_far_of n a.base ≡ how_far.Waits x → HasSet a n x
@@ -108,7 +109,8 @@ wake_why x false = why.Resumption
 -- Why a thread that doesn't run gets an entry.
 pub data MayPut (n : ℕ) (w : Why) (s : Core) : Type 0 where
   -- it is the first one of a call that was just made, and not a direct one
-  Starts : place_of n s ≡ Some place.New → is_explicit n s ≡ false → is_direct (goal_of (task_of n s) s) ≡ false → w ≡ why.Start → MayPut n w s
+  Starts : place_of n s ≡ Some place.New → is_explicit n s ≡ false → is_direct (goal_of (task_of n s) s) ≡ false → w ≡ why.Start →
+      MayPut n w s
   -- another thread resumes it
   Resumes : resume_why n s ≡ Some w → MayPut n w s
   -- an event of its set has come
@@ -122,7 +124,8 @@ pub data MayPut (n : ℕ) (w : Why) (s : Core) : Type 0 where
 
 -- the thread has an entry, as the queues or its place say
 abbrev pub HasEntry : ℕ → Core → Type 0
-HasEntry n s = ((has_entry n s.queues.high || has_entry n s.queues.low) ≡ true) ⊎ ((m : Mark) × ((w : Why) × (place_of n s ≡ Some (place.Ready m w))))
+HasEntry n s = ((has_entry n s.queues.high || has_entry n s.queues.low) ≡ true) ⊎
+    ((m : Mark) × ((w : Why) × (place_of n s ≡ Some (place.Ready m w))))
 
 -- What a step does to other threads than the one that runs.
 abbrev pub MayShift : Placing → Core → Type 0
@@ -156,7 +159,8 @@ pub data MayMove (a : Scene) (n : ℕ) (p : Place) (s : Core) : Type 0 where
   Blocks : (sub : Subtask) → Leaves a n → HasSubtask a n sub ⊎ IsNew a sub s → p ≡ place.Blocked sub → MayMove a n p s
   Suspends : Leaves a n → p ≡ place.Suspended → MayMove a n p s
   -- its direct callee m ran, and is gone
-  Uncovers : (m : ℕ) → IsRunner a m → a.next ≡ turn.Run n → place_of n a.base ≡ Some (place.Under m) → is_none (get s.threads m) ≡ true → p ≡ place.Running → MayMove a n p s
+  Uncovers : (m : ℕ) → IsRunner a m → a.next ≡ turn.Run n → place_of n a.base ≡ Some (place.Under m) → is_none (get s.threads m) ≡ true →
+      p ≡ place.Running → MayMove a n p s
 
 abbrev pub MayLeave : Scene → Placing → Core → Type 0
 -- the entry of the thread that is taken
@@ -165,7 +169,8 @@ MayLeave a (Put m n w) s = MayYield a n w
 MayLeave a (GoBehind f n) s = Leaves a n
 MayLeave a (Move n p) s = MayMove a n p s
 -- by a direct call that was just made
-MayLeave a (Enter n m) s = IsRunner a n × ((a.next ≡ turn.Run m) × ((m ≡ next_thread a.base) × ((place_of m s ≡ Some place.New) × (is_direct (goal_of (task_of m s) s) ≡ true))))
+MayLeave a (Enter n m) s = IsRunner a n ×
+    ((a.next ≡ turn.Run m) × ((m ≡ next_thread a.base) × ((place_of m s ≡ Some place.New) × (is_direct (goal_of (task_of m s) s) ≡ true))))
 MayLeave a _ s = ⊥
 
 -- ---- Threads
@@ -182,7 +187,8 @@ MayCome a n h s = IsRunner a n
 
 -- a thread beside the first one of its task, by an op that names a script
 abbrev pub MayMake : Scene → Thread → Core → Type 0
-MayMake a t s = (n : ℕ) × (IsRunner a n × ((s.made.threads ≡ a.base.made.threads) × ((x : ℕ) × ((v : ℕ) × ((t ≡ new_thread (task_of n a.base) true (script.Slot x) (registers_for (v ∷ [])) None) × (s.calls ≡ a.base.calls))))))
+MayMake a t s = (n : ℕ) × (IsRunner a n × ((s.made.threads ≡ a.base.made.threads) × ((x : ℕ) × ((v : ℕ) ×
+    ((t ≡ new_thread (task_of n a.base) true (script.Slot x) (registers_for (v ∷ [])) None) × (s.calls ≡ a.base.calls))))))
 
 -- Who is gone.
 pub data MayGo (a : Scene) (n : ℕ) : Type 0 where
@@ -201,9 +207,12 @@ MayWithdraw a k s = (n : ℕ) × (IsRunner a n × (HasSubtask a n (subtask.Guest
 
 -- Who calls the export: main's op, or that of the running thread.
 pub data MayCall (a : Scene) (f : Caller) (e : Callee) (group : ℕ) (s : Core) : Type 0 where
-  ByScript : (p : MainPlace) (o : MainOpDef) → a.main ≡ Scripted p → op_at a.setting.script p ≡ Some o → callee_of_main_op o ≡ Some e → f ≡ caller.Main → group ≡ s.made.groups → MayCall a f e group s
-  ByProgram : (words : ℕ) → a.main ≡ Unscripted → takes_words (component_of a) e words ≡ true → f ≡ caller.Main → group ≡ s.made.groups → MayCall a f e group s
-  ByThread : (n : ℕ) → IsRunner a n → callee_of_op (op_in a n) ≡ Some e → f ≡ caller.Thread n → group ≡ thread_group n a.base → MayCall a f e group s
+  ByScript : (p : MainPlace) (o : MainOpDef) → a.main ≡ Scripted p → op_at a.setting.script p ≡ Some o → callee_of_main_op o ≡ Some e →
+      f ≡ caller.Main → group ≡ s.made.groups → MayCall a f e group s
+  ByProgram : (words : ℕ) → a.main ≡ Unscripted → takes_words (component_of a) e words ≡ true → f ≡ caller.Main → group ≡ s.made.groups →
+      MayCall a f e group s
+  ByThread : (n : ℕ) → IsRunner a n → callee_of_op (op_in a n) ≡ Some e → f ≡ caller.Thread n → group ≡ thread_group n a.base →
+      MayCall a f e group s
 
 abbrev pub is_for_main : Goal → Bool
 is_for_main goal.Main = true
@@ -211,7 +220,8 @@ is_for_main _ = false
 
 -- a direct call isn't of an async-lifted export; main's calls alone have results for main
 abbrev pub MayMakeCall : Scene → Caller → Callee → ExportKind → Goal → ℕ → Core → Type 0
-MayMakeCall a f e x g group s = MayCall a f e group s × ((s.made.threads ≡ a.base.made.threads) × ((x ≡ export_kind (component_of a) e) × ((is_direct g ≡ true → is_async_lifted x ≡ false) × (is_for_main g ≡ not (is_guest_call f)))))
+MayMakeCall a f e x g group s = MayCall a f e group s × ((s.made.threads ≡ a.base.made.threads) ×
+    ((x ≡ export_kind (component_of a) e) × ((is_direct g ≡ true → is_async_lifted x ≡ false) × (is_for_main g ≡ not (is_guest_call f)))))
 
 -- the call of the thread that was taken to start, or a new direct one
 abbrev pub MayStart : Scene → ℕ → Core → Type 0
@@ -219,11 +229,15 @@ MayStart a k s = ((n : ℕ) × (IsRunner a n × (WasReady a n why.Start × (k �
 
 -- Why the call comes to the end.
 pub data MayEnd (a : Scene) (k : ℕ) (e : CallEnd) (s : Core) : Type 0 where
-  ReturnsNow : (n : ℕ) → IsRunner a n → k ≡ task_of n a.base → has_ended k s ≡ false → is_async_lifted (kind_of k s) ≡ true → e ≡ call_end.Returned → MayEnd a k e s
+  ReturnsNow : (n : ℕ) → IsRunner a n → k ≡ task_of n a.base → has_ended k s ≡ false → is_async_lifted (kind_of k s) ≡ true →
+      e ≡ call_end.Returned → MayEnd a k e s
   -- a cancel was delivered
-  GivesUp : (n : ℕ) → IsRunner a n → k ≡ task_of n a.base → has_ended k s ≡ false → cancel_was_delivered k s ≡ true → e ≡ call_end.ReturnCancelled → MayEnd a k e s
+  GivesUp : (n : ℕ) → IsRunner a n → k ≡ task_of n a.base → has_ended k s ≡ false → cancel_was_delivered k s ≡ true →
+      e ≡ call_end.ReturnCancelled → MayEnd a k e s
   -- the first thread of a call exits that is direct or not of an async-lifted export; nothing was done to the call before
-  Exits : (n : ℕ) → IsRunner a n → is_exit a.label ≡ true → k ≡ task_of n a.base → is_explicit n a.base ≡ false → (is_direct (goal_of k a.base) ≡ true) ⊎ (is_async_lifted (kind_of k a.base) ≡ false) → get s.calls k ≡ get a.base.calls k → e ≡ call_end.Returned → MayEnd a k e s
+  Exits : (n : ℕ) → IsRunner a n → is_exit a.label ≡ true → k ≡ task_of n a.base → is_explicit n a.base ≡ false →
+      (is_direct (goal_of k a.base) ≡ true) ⊎ (is_async_lifted (kind_of k a.base) ≡ false) → get s.calls k ≡ get a.base.calls k →
+      e ≡ call_end.Returned → MayEnd a k e s
   -- its start is withdrawn, and its thread is gone
   IsWithdrawn : MayWithdraw a k s → is_none (get s.threads k) ≡ true → e ≡ call_end.StartCancelled → MayEnd a k e s
 
@@ -253,7 +267,8 @@ abbrev pub MayTell : Scene → ℕ → Option Status → Core → Type 0
 MayTell a k (Some e) s = (is_told k s ≡ true) × (Tells e k s × (is_end e ≡ true → SaysEnd a k e))
 MayTell a k None s = IsOwn a (subtask.Guest k)
 
--- Cancelled comes to a task that is started and hasn't ended; to one that yields comes what it has, or None; what is there is taken by the running thread
+-- Cancelled comes to a task that is started and hasn't ended; to one that yields comes what it has, or None; what is there is taken by the
+-- running thread
 abbrev pub MayOwe : Scene → ℕ → Option OwnEvent → Core → Type 0
 MayOwe a k (Some e) s =
     ((e ≡ own.Cancelled) × (IsOwn a (subtask.Guest k) × ((was_started k s ≡ true) × (has_ended k s ≡ false))))
@@ -266,11 +281,14 @@ MayDeliver a k = (n : ℕ) × (IsRunner a n × ((k ≡ task_of n a.base) × ((d 
 
 -- ---- Subtasks
 
--- a join finds the subtask and the set by handles of the running thread's instance; a cancel joins a subtask that is in no set to the thread's own
+-- a join finds the subtask and the set by handles of the running thread's instance; a cancel joins a subtask that is in no set to the
+-- thread's own
 abbrev pub MayJoin : Scene → Subtask → Join → Core → Type 0
 MayJoin a sub join.Nowhere s = IsOwn a sub
-MayJoin a sub (join.Set x) s = (n : ℕ) × ((h : ℕ) × ((g : ℕ) × (IsRunner a n × ((subtask_at (instance_of n a.base) h s ≡ Some sub) × (set_at (instance_of n a.base) g s ≡ Some x)))))
-MayJoin a sub (join.Watched n) s = IsRunner a n × (HasSubtask a n sub × ((is_joined (join_of sub a.base) ≡ false) ⊎ (how_far_of n a.base ≡ how_far.Cancels sub)))
+MayJoin a sub (join.Set x) s = (n : ℕ) × ((h : ℕ) × ((g : ℕ) ×
+    (IsRunner a n × ((subtask_at (instance_of n a.base) h s ≡ Some sub) × (set_at (instance_of n a.base) g s ≡ Some x)))))
+MayJoin a sub (join.Watched n) s = IsRunner a n ×
+    (HasSubtask a n sub × ((is_joined (join_of sub a.base) ≡ false) ⊎ (how_far_of n a.base ≡ how_far.Cancels sub)))
 
 -- the running thread's instance gets a handle of its subtask, or of a new one
 abbrev pub MayName : Scene → ℕ → Subtask → Core → Type 0
@@ -278,7 +296,8 @@ MayName a i sub s = (n : ℕ) × (IsRunner a n × ((i ≡ instance_of n a.base) 
 
 -- the handle names the subtask, which is in no set any more
 abbrev pub MayUnname : Scene → ℕ → ℕ → Subtask → Core → Type 0
-MayUnname a i h sub s = (n : ℕ) × (IsRunner a n × ((i ≡ instance_of n a.base) × ((subtask_at i h s ≡ Some sub) × (is_joined (join_of sub s) ≡ false))))
+MayUnname a i h sub s = (n : ℕ) ×
+    (IsRunner a n × ((i ≡ instance_of n a.base) × ((subtask_at i h s ≡ Some sub) × (is_joined (join_of sub s) ≡ false))))
 
 -- ---- Works
 
@@ -303,7 +322,8 @@ MayTellWork a i None s = IsOwn a (subtask.Host i)
 
 -- the sync call of the running thread is answered, or its ended subtask is dropped
 abbrev pub MayRemoveWork : Scene → ℕ → Core → Type 0
-MayRemoveWork a i s = (n : ℕ) × (IsRunner a n × ((how_far_of n a.base ≡ how_far.Calls (subtask.Host i)) ⊎ ((subtask_ended (subtask.Host i) a.base ≡ true) × (subtask_handle (subtask.Host i) s ≡ None))))
+MayRemoveWork a i s = (n : ℕ) × (IsRunner a n × ((how_far_of n a.base ≡ how_far.Calls (subtask.Host i)) ⊎
+    ((subtask_ended (subtask.Host i) a.base ≡ true) × (subtask_handle (subtask.Host i) s ≡ None))))
 
 -- ---- Sets and instances
 
@@ -312,7 +332,8 @@ MayOpen a i s = (s.made.sets ≡ a.base.made.sets) × ((n : ℕ) × (IsRunner a 
 
 -- the handle names it, and nobody waits on it or is in it
 abbrev pub MayClose : Scene → ℕ → ℕ → ℕ → Core → Type 0
-MayClose a i h x s = (set_at i h s ≡ Some x) × ((has_waiters x s ≡ false) × ((has_member x s ≡ false) × ((n : ℕ) × (IsRunner a n × (i ≡ instance_of n a.base)))))
+MayClose a i h x s = (set_at i h s ≡ Some x) ×
+    ((has_waiters x s ≡ false) × ((has_member x s ≡ false) × ((n : ℕ) × (IsRunner a n × (i ≡ instance_of n a.base)))))
 
 -- a holding entry begins in an instance that is open, and one that returns opens its instance
 abbrev pub MayBar : Scene → ℕ → Bool → Type 0

@@ -57,17 +57,27 @@ is_over k s = option_map_or (λ c. is_some c.«end») (get s.calls k) true
 -- How a step comes to hand an end of a call out.
 pub data HandsOut (a : Scene) (t : Core) (k : ℕ) (e : Status) : Type 0 where
   -- it takes the event
-  TakesEvent : undelivered_end (event_of (subtask.Guest k) a.base) ≡ Some e → undelivered_end (event_of (subtask.Guest k) t) ≡ None → HandsOut a t k e
+  TakesEvent : undelivered_end (event_of (subtask.Guest k) a.base) ≡ Some e → undelivered_end (event_of (subtask.Guest k) t) ≡ None →
+      HandsOut a t k e
   -- main takes the result
   TakesResult : is_some (get a.base.results k) ≡ true → e ≡ status.Returned → get t.results k ≡ None → HandsOut a t k e
   -- it writes the end itself: of a direct call, or of a start that is withdrawn
   WritesToo : SaysEnd a k e → (is_direct (goal_of k a.base) ≡ true) ⊎ (e ≡ status.StartCancelled) → HandsOut a t k e
 
+-- the call's first thread runs, and its exit ends the call
+abbrev pub ExitsCall : Scene → ℕ → Type 0
+ExitsCall a k = (n : ℕ) × (IsRunner a n × ((k ≡ task_of n a.base) × ((is_explicit n a.base ≡ false) ×
+    ((is_direct (goal_of k a.base) ≡ true) ⊎ (is_async_lifted (kind_of k a.base) ≡ false)))))
+
 -- What the label of a step says of the ends of calls.
 pub record EndWords (a : Scene) (t : Core) : Type 0 where
-  -- where it is written, the call had none, unless it exits, and has it on the way; or the event of a withdrawn start was there, which never is
-  pub writes : (k : ℕ) (e : Status) → SaysEnd a k e → (undelivered_end (event_of (subtask.Guest k) a.base) ≡ Some status.StartCancelled) ⊎ (((has_ended k a.base ≡ false) ⊎ ((n : ℕ) × (IsRunner a n × ((k ≡ task_of n a.base) × ((is_explicit n a.base ≡ false) × ((is_direct (goal_of k a.base) ≡ true) ⊎ (is_async_lifted (kind_of k a.base) ≡ false))))))) × ((u : Core) × ((is_over k u ≡ true) × Walk a u t)))
-  pub hands : (k : ℕ) (e : Status) → handed_by (component_of a) a.main a.base a.label t ≡ Some (end_for e (subtask.Guest k)) → HandsOut a t k e
+  -- where it is written, the call had none, unless it exits, and has it on the way; or the event of a withdrawn start was there, which
+  -- never is
+  pub writes : (k : ℕ) (e : Status) → SaysEnd a k e →
+      (undelivered_end (event_of (subtask.Guest k) a.base) ≡ Some status.StartCancelled) ⊎
+      (((has_ended k a.base ≡ false) ⊎ ExitsCall a k) × ((u : Core) × ((is_over k u ≡ true) × Walk a u t)))
+  pub hands : (k : ℕ) (e : Status) → handed_by (component_of a) a.main a.base a.label t ≡ Some (end_for e (subtask.Guest k)) →
+      HandsOut a t k e
 
 -- What the last words of a step leave.
 pub record LastWords (a : Scene) (t : Core) : Type 0 where
@@ -82,7 +92,8 @@ pub record LastWords (a : Scene) (t : Core) : Type 0 where
   -- what the label says of ends is so
   pub says : EndWords a t
   -- a holding entry that begins to run finds its instance open, and shuts it
-  pub shut : (i : ℕ) → begun_holder a.base a.label ≡ Some i → (may_not_enter i a.base ≡ false) × (is_some (get t.instances i) ≡ true → may_not_enter i t ≡ true)
+  pub shut : (i : ℕ) → begun_holder a.base a.label ≡ Some i → (may_not_enter i a.base ≡ false) ×
+      (is_some (get t.instances i) ≡ true → may_not_enter i t ≡ true)
 
 -- a main that is a script stays one, and so does one that isn't
 abbrev pub SameMain : Main → Main → Type 0

@@ -96,7 +96,8 @@ blocking_returned n w order s = returned (task_of n s) (register_of n 0 s) w (en
 
 -- a check of the instance passes after that
 unfoldable pub passes_after_return : ℕ → Option ℕ → Core → Bool
-passes_after_return n w s = let i = instance_of n s in passes_check i (blocking_returned n (waiter_told (task_of n s) w s) (held_by_flag i s) s)
+passes_after_return n w s =
+    let i = instance_of n s in passes_check i (blocking_returned n (waiter_told (task_of n s) w s) (held_by_flag i s) s)
 
 -- ---- The exits
 

@@ -126,7 +126,8 @@ pub record Takes (n : ℕ) (was now : List Entry) : Type 0 where
 pub record Promotes (n : ℕ) (s t : Core) : Type 0 where
   pub none_stood : s.queues.switch ≡ None
   pub stands : t.queues.switch ≡ Some n
-  pub moved : (Takes n s.queues.high t.queues.high × (t.queues.low ≡ s.queues.low)) ⊎ ((t.queues.high ≡ s.queues.high) × Takes n s.queues.low t.queues.low)
+  pub moved : (Takes n s.queues.high t.queues.high × (t.queues.low ≡ s.queues.low)) ⊎
+      ((t.queues.high ≡ s.queues.high) × Takes n s.queues.low t.queues.low)
 
 -- a check moves nothing, or one entry of the instance
 abbrev pub CheckMovesOne : Type 0
@@ -144,7 +145,8 @@ PromotionMovesOne =
 abbrev pub CallbackCheckIsAfter : Type 0
 CallbackCheckIsAfter =
     (n : ℕ) (s : Core) (order : List ℕ) → IsPermutation (held_by_flag (instance_of n s) s) order →
-    passes_check (instance_of n s) (code_stops n order s) ≡ passes_after_stop (instance_of n s) (foot_of n s) (held_by_flag (instance_of n s) s) s
+    passes_check (instance_of n s) (code_stops n order s) ≡
+    passes_after_stop (instance_of n s) (foot_of n s) (held_by_flag (instance_of n s) s) s
 
 -- ---- The moves of a running thread, in a state in which each thread has its place
 
@@ -157,25 +159,30 @@ is_free _ = true
 -- n stops at such a place: each thread has its place
 abbrev pub StopKeepsPlaces : Type 0
 StopKeepsPlaces =
-    (n f : ℕ) (p : Place) (s : Core) → is_free p ≡ true → place_of n s ≡ Some place.Running → ((k : ℕ) → HasPlace k s) → (k : ℕ) → HasPlace k (set_place n p (stopped f s))
+    (n f : ℕ) (p : Place) (s : Core) → is_free p ≡ true → place_of n s ≡ Some place.Running → ((k : ℕ) → HasPlace k s) → (k : ℕ) →
+    HasPlace k (set_place n p (stopped f s))
 
 -- held threads are released, in whatever order
 abbrev pub ReleaseKeepsPlaces : Type 0
-ReleaseKeepsPlaces = (n : ℕ) (ns : List ℕ) (s : Core) → place_of n s ≡ Some place.Running → ((k : ℕ) → HasPlace k s) → (k : ℕ) → HasPlace k (released ns s)
+ReleaseKeepsPlaces = (n : ℕ) (ns : List ℕ) (s : Core) → place_of n s ≡ Some place.Running → ((k : ℕ) → HasPlace k s) → (k : ℕ) →
+    HasPlace k (released ns s)
 
 -- a waiter is woken, whichever is chosen
 abbrev pub WakeKeepsPlaces : Type 0
 WakeKeepsPlaces =
-    (n x : ℕ) (w : Option ℕ) (s : Core) → may_wake x w s ≡ true → place_of n s ≡ Some place.Running → ((k : ℕ) → HasPlace k s) → (k : ℕ) → HasPlace k (wake x w s)
+    (n x : ℕ) (w : Option ℕ) (s : Core) → may_wake x w s ≡ true → place_of n s ≡ Some place.Running → ((k : ℕ) → HasPlace k s) → (k : ℕ) →
+    HasPlace k (wake x w s)
 
 -- the running thread is gone
 abbrev pub RemovalKeepsPlaces : Type 0
-RemovalKeepsPlaces = (n : ℕ) (s : Core) → place_of n s ≡ Some place.Running → ((k : ℕ) → HasPlace k s) → (k : ℕ) → HasPlace k (remove_thread n s)
+RemovalKeepsPlaces = (n : ℕ) (s : Core) → place_of n s ≡ Some place.Running → ((k : ℕ) → HasPlace k s) → (k : ℕ) →
+    HasPlace k (remove_thread n s)
 
 -- ---- The exit of a blocking export
 
 -- the test of a blocking export's exit is the check on the state that the release and the return leave, whatever the order of the release
 abbrev pub BlockingCheckIsAfter : Type 0
 BlockingCheckIsAfter =
-    (n : ℕ) (w : Option ℕ) (s : Core) (order : List ℕ) → may_tell (task_of n s) w s ≡ true → IsPermutation (held_by_flag (instance_of n s) s) order →
+    (n : ℕ) (w : Option ℕ) (s : Core) (order : List ℕ) → may_tell (task_of n s) w s ≡ true →
+    IsPermutation (held_by_flag (instance_of n s) s) order →
     passes_check (instance_of n s) (blocking_returned n w order s) ≡ passes_after_return n w s

@@ -122,7 +122,8 @@ is_spawn_caller _ = false
 abbrev pub is_spawn : ℕ → Core → Bool
 is_spawn i s = option_map_or (λ w. is_spawn_caller w.caller) (get s.works i) false
 
--- what a main names is there: the export that it starts, with its words, a host, a spawn, an instance; a start that was refused has trapped the store
+-- what a main names is there: the export that it starts, with its words, a host, a spawn, an instance; a start that was refused has trapped
+-- the store
 abbrev pub may_act : Component → Core → MainAct → Bool
 may_act c s (Start e words) = takes_words c e (length words)
 may_act c s (Finish (Began n)) = true

@@ -152,7 +152,8 @@ less_holder is (Some i) = filter (λ j. not (i == j)) is
 abbrev pub holds_one : List ℕ → List Moment → Bool
 holds_one is [] = true
 holds_one is (m ∷ ms) =
-    not (is_among is (begun_holder m.before.core m.label)) && holds_one (less_holder (with_holder is (begun_holder m.before.core m.label)) (returned_holder m.before.core m.label)) ms
+    not (is_among is (begun_holder m.before.core m.label)) &&
+    holds_one (less_holder (with_holder is (begun_holder m.before.core m.label)) (returned_holder m.before.core m.label)) ms
 
 -- From the label with which a holding entry begins to run to its return no other one of that instance begins to run.
 abbrev pub OneHolder : List Moment → Type 0

@@ -52,7 +52,8 @@ says test (Some p) = one_if (test p)
 abbrev pub is_there : ℕ → Core → Bool
 is_there n s = is_some (place_of n s)
 
--- A thread's number was given, and so was the number of the one that it is behind. It has its entry just where its place says so, once, and none elsewhere. It is among the callers of another thread exactly where it is behind that one, once; one that is gone has no callers.
+-- A thread's number was given, and so was the number of the one that it is behind. It has its entry just where its place says so, once, and
+-- none elsewhere. It is among the callers of another thread exactly where it is behind that one, once; one that is gone has no callers.
 pub record HasPlace (n : ℕ) (s : Core) : Type 0 where
   pub number : is_there n s ≡ true → n ≤ s.made.threads
   pub behind : (f : ℕ) → says (is_behind_of f) (place_of n s) ≡ 1 → f ≤ s.made.threads

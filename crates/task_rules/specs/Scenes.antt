@@ -14,7 +14,8 @@ use Rattle.task_rules.specs.Stalled.{Setting}
 use Rattle.task_rules.specs.Takes.{popped}
 use Rattle.task_machine.specs.declared.records.Turn.TheVariants as turn
 
--- A step as its row sees it: the core that the row reads, in which an entry that is taken has left its mark; the thread that runs or was taken; and the turn to which the step leads.
+-- A step as its row sees it: the core that the row reads, in which an entry that is taken has left its mark; the thread that runs or was
+-- taken; and the turn to which the step leads.
 pub record Scene : Type 0 where
   pub setting : Setting
   pub main : Main
@@ -48,7 +49,16 @@ runner_at _ s = None
 
 -- the scene of a step from s that shows the label and leads to the turn
 abbrev pub scene_of : Setting → State → Label → Turn → Scene
-scene_of x s l next = record { setting = x; main = s.main; turn = s.turn; base = base_at s.turn s.core; runner = runner_at s.turn s.core; label = l; next = next }
+scene_of x s l next =
+    record {
+      setting = x;
+      main = s.main;
+      turn = s.turn;
+      base = base_at s.turn s.core;
+      runner = runner_at s.turn s.core;
+      label = l;
+      next = next;
+    }
 
 -- the op of the running thread
 abbrev pub op_in : Scene → ℕ → Op

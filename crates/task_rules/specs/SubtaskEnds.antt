@@ -85,7 +85,8 @@ written_by_task s _ = None
 
 -- a cancel that answers 3 has withdrawn a start
 abbrev pub written_by_cancel : Component → ℕ → Core → ℕ → Option SubtaskEnd
-written_by_cancel c n s answer = if answer == 3 then option_map (end_for status.StartCancelled) (cancelled_of_op c n s (how_far_of n s)) else None
+written_by_cancel c n s answer =
+    if answer == 3 then option_map (end_for status.StartCancelled) (cancelled_of_op c n s (how_far_of n s)) else None
 
 -- a host was ready at its first poll
 abbrev pub ready_at_once : ℕ → ℕ → Option SubtaskEnd
@@ -135,7 +136,9 @@ handed_by_set s _ = None
 
 -- the end that the answer of a cancel stands for
 abbrev pub end_answered : ℕ → Option Status
-end_answered answer = if answer == 2 then Some status.Returned else (if answer == 3 then Some status.StartCancelled else (if answer == 4 then Some status.ReturnCancelled else None))
+end_answered answer =
+    if answer == 2 then Some status.Returned
+    else (if answer == 3 then Some status.StartCancelled else (if answer == 4 then Some status.ReturnCancelled else None))
 
 -- by a cancel that answers 2, 3 or 4
 abbrev pub handed_by_cancel : Component → ℕ → Core → ℕ → Option SubtaskEnd
@@ -154,7 +157,8 @@ handed_by_call c s _ = None
 
 -- the end of a direct call goes to the thread under it when it exits
 abbrev pub handed_by_exit : Core → TaskLabel → Option SubtaskEnd
-handed_by_exit s (task_label.Exit n) = if not (is_explicit n s) && is_direct (goal_of (task_of n s) s) then task_end n status.Returned s else None
+handed_by_exit s (task_label.Exit n) =
+    if not (is_explicit n s) && is_direct (goal_of (task_of n s) s) then task_end n status.Returned s else None
 handed_by_exit s _ = None
 
 abbrev pub started_end : Started → Option SubtaskEnd
@@ -166,7 +170,8 @@ has_result v s k = option_map_or (λ w. w == v) (get s.results k) false
 
 -- a call whose result is v, and is gone after the step if that holds of one
 abbrev pub finished_call : ℕ → Core → Core → Option ℕ
-finished_call v s t = option_or (find (λ k. has_result v s k && is_none (get t.results k)) (numbers s.results)) (find (has_result v s) (numbers s.results))
+finished_call v s t =
+    option_or (find (λ k. has_result v s k && is_none (get t.results k)) (numbers s.results)) (find (has_result v s) (numbers s.results))
 
 -- by `main finish`: of a script, the start that the op names; of another main, whose part isn't told, the call whose result it took
 abbrev pub handed_by_main : Main → Core → MainLabel → Core → Option SubtaskEnd
