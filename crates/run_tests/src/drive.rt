@@ -7,13 +7,13 @@ ghost use Rattle.task_loop.specs.Fit.{HasPlainExports, Fits, given, is_plain_op}
 ghost use Rattle.task_state.specs.State.{running_of};
 
 use futures::task::Poll;
-use std::alloc::Global;
-use std::test::Fail;
+use std::alloc::{AllocError, Global};
+use std::process::Abort;
 use task_loop::{
     Component, ExportDef, Func, FuncCallConcurrent, Instance, InstanceDef, Label, MainStep,
     MainTask, Op, Operand, Outcome, TaskError, Trace, run_concurrent,
 };
-use task_machine::{DataOp, ExportKind, MainLabel, Seq, TaskOp, Trap};
+use task_machine::{DataOp, ExportKind, LoopLabel, MainLabel, NoMemory, Seq, TaskOp, Trap};
 use task_store::{Access, Store, Whole};
 
 const CALLEE: Func = Func {
@@ -22,7 +22,7 @@ const CALLEE: Func = Func {
 };
 
 // Adds 2 to the first parameter, by way of the instance's words, and returns it.
-fn script(alloc: Global) -> Result<Seq<Op>, Fail>
+fn script(alloc: Global) -> Result<Seq<Op>, AllocError>
     ensures plain { IfOk result (λ ops. list_all is_plain_op ops ≡ true) }
     ensures short { IfOk result (λ ops. length ops ≤ 4096) }
 {
@@ -53,7 +53,7 @@ fn script(alloc: Global) -> Result<Seq<Op>, Fail>
 }
 
 // A component with one callback export, which has that script.
-fn component(alloc: Global) -> Result<Component, Fail>
+fn made_component(alloc: Global) -> Result<Component, AllocError>
     ensures exports { IfOk result HasPlainExports }
     ensures there { IfOk result (λ c. IsSome (export_at c (callee_of CALLEE))) }
     ensures params { IfOk result (λ c. IfSome (export_at c (callee_of CALLEE)) (λ e. 1 ≡ e.params)) }
@@ -78,34 +78,46 @@ fn component(alloc: Global) -> Result<Component, Fail>
     })
 }
 
+fn component(rt: &impl Abort, alloc: Global) -> Component
+    ensures exports { HasPlainExports result }
+    ensures there { IsSome (export_at result (callee_of CALLEE)) }
+    ensures params { IfSome (export_at result (callee_of CALLEE)) (λ e. 1 ≡ e.params) }
+    ensures one { length result.instances ≡ 1 }
+{
+    match made_component(alloc) {
+        Ok(component) => component,
+        Err(_) => panic!(rt; "no memory"),
+    }
+}
+
 // A store with that component's one instance.
-fn store(alloc: Global) -> Result<Store<(), ()>, Fail>
-    ensures fits { IfOk result (λ s. (c : Component) → length c.instances ≡ 1 → Fits c s.state.core) }
-    ensures given { IfOk result (λ s. given s.state.core ≡ 0) }
-    ensures current { IfOk result (λ s. running_of s.state ≡ None) }
+fn store(rt: &impl Abort, alloc: Global) -> Store<(), ()>
+    ensures fits { (c : Component) → length c.instances ≡ 1 → Fits c result.state.core }
+    ensures given { given result.state.core ≡ 0 }
+    ensures current { running_of result.state ≡ None }
 {
     let mut store: Store<(), ()> = Store::new(alloc, (), true, 1);
     match store.add_instance() {
-        Ok(_) => Ok(store),
-        Err(_) => Err(Fail::from("memory")),
+        Ok(_) => store,
+        Err(_) => panic!(rt; "no memory"),
     }
 }
 
 // A call of that export with 7, in a store in which nothing was made but the instance.
-fn called(component: &Component, store: &mut Store<(), ()>) -> Result<FuncCallConcurrent, Fail>
+fn called(rt: &impl Abort, component: &Component, store: &mut Store<(), ()>) -> FuncCallConcurrent
     requires exports { HasPlainExports component.now }
     requires there { IsSome (export_at component.now (callee_of CALLEE)) }
     requires params { IfSome (export_at component.now (callee_of CALLEE)) (λ e. 1 ≡ e.params) }
     requires fits { Fits component.now store.old.state.core }
     requires given { given store.old.state.core ≡ 0 }
     requires current { running_of store.old.state ≡ None }
-    ensures fits { OnOk result (Fits component.now store.new.state.core) }
-    ensures given { OnOk result (given store.new.state.core ≡ 2) }
-    ensures current { OnOk result (running_of store.new.state ≡ None) }
+    ensures fits { Fits component.now store.new.state.core }
+    ensures given { given store.new.state.core ≡ 2 }
+    ensures current { running_of store.new.state ≡ None }
 {
     match CALLEE.start_call_concurrent(component, store, &[7]) {
-        Ok(call) => Ok(call),
-        Err(_) => Err(Fail::from("a call")),
+        Ok(call) => call,
+        Err(_) => panic!(rt; "a call"),
     }
 }
 
@@ -134,78 +146,90 @@ impl<T, H> MainTask<T, H> for Host {
     }
 }
 
+fn is_recursive(store: &mut Store<(), ()>) -> bool
+    requires { store.old.running ≡ true }
+    ensures { store.new ≡ store.old }
+{
+    matches!(run_concurrent(store, false), Err(Trap::RecursiveRun))
+}
+
 #[test]
-fn a_call_runs_while_main_waits(rt: HostRuntime) -> Result<(), Fail> {
-    let component = component(rt.alloc())?;
-    assert_eq!(rt; CALLEE.param_count(&component), 1);
-    let mut store = store(rt.alloc())?;
-    let mut call = called(&component, &mut store)?;
-    assert_eq!(rt; call.thread(), 1);
-    let mut run = run_concurrent(&mut store, false).ok().ok_or("a run")?;
-    let again = run_concurrent(&mut store, false).err();
-    assert!(rt; matches!(again, Some(Trap::RecursiveRun)));
+fn a_call_runs_while_main_waits(rt: HostRuntime) {
+    let component = component(&rt, rt.alloc());
+    assert!(rt; CALLEE.param_count(&component) == 1);
+    let mut store = store(&rt, rt.alloc());
+    let mut call = called(&rt, &component, &mut store);
+    assert!(rt; call.thread() == 1);
+    let Ok(mut run) = run_concurrent(&mut store, false) else {
+        panic!(rt; "a run")
+    };
+    assert!(rt; is_recursive(&mut store));
     let mut main = Host { answer: None };
     let mut trace = Trace::new(rt.alloc());
     let outcome = run.drive(&component, &mut store, &mut main, 16, &mut trace);
     assert!(rt; matches!(outcome, Ok(Outcome::Idle)));
-    assert_eq!(rt; trace.labels().len(), 11);
+    assert!(rt; trace.labels().len() == 11);
     let result = CALLEE.finish_call_concurrent(&mut store, &mut call);
     assert!(rt; matches!(result, Poll::Ready(9)));
     run.end(&mut store);
     assert!(rt; run_concurrent(&mut store, true).is_ok());
-    Ok(())
+}
+
+// The first label and the outcome of a run without calls.
+fn ran(
+    rt: &impl Abort,
+    alloc: Global,
+    answer: Option<u64>,
+) -> (Option<Label>, Result<Outcome, NoMemory>) {
+    let component = component(rt, alloc);
+    let mut store = store(rt, alloc);
+    let Ok(mut run) = run_concurrent(&mut store, true) else {
+        panic!(rt; "a run")
+    };
+    let mut main = Host { answer };
+    let mut trace = Trace::new(alloc);
+    let outcome = run.drive(&component, &mut store, &mut main, 9, &mut trace);
+    assert!(rt; store.trapped() == answer.is_none());
+    (trace.labels().first().copied(), outcome)
 }
 
 #[test]
-fn a_run_ends_where_main_answers_or_nothing_goes_on(rt: HostRuntime) -> Result<(), Fail> {
-    let component = component(rt.alloc())?;
-    for answer in [Some(5), None] {
-        let mut store = store(rt.alloc())?;
-        let mut run = run_concurrent(&mut store, true).ok().ok_or("a run")?;
-        let mut main = Host { answer };
-        let mut trace = Trace::new(rt.alloc());
-        let outcome = run.drive(&component, &mut store, &mut main, 9, &mut trace);
-        let first = trace.labels().first().copied();
-        match answer {
-            Some(_) => {
-                assert!(rt; matches!(outcome, Ok(Outcome::Done(5))));
-                assert!(rt; matches!(first, Some(Label::Main(MainLabel::Answer(5)))));
-            }
-            None => {
-                assert!(rt; matches!(outcome, Ok(Outcome::Deadlock(Trap::AsyncDeadlock))));
-                assert!(rt; trace.labels().len() == 2 && store.trapped());
-            }
-        }
-    }
-    Ok(())
+fn a_run_ends_where_main_answers_or_nothing_goes_on(rt: HostRuntime) {
+    let (first, outcome) = ran(&rt, rt.alloc(), Some(5));
+    assert!(rt; matches!(outcome, Ok(Outcome::Done(5))));
+    assert!(rt; matches!(first, Some(Label::Main(MainLabel::Answer(5)))));
+    let (first, outcome) = ran(&rt, rt.alloc(), None);
+    assert!(rt; matches!(outcome, Ok(Outcome::Deadlock(Trap::AsyncDeadlock))));
+    assert!(rt; matches!(first, Some(Label::Loop(LoopLabel::MainPends))));
 }
 
 // What the return of a thread that has just begun comes to, with this type.
-fn returned(alloc: Global, ty: u32) -> Result<Result<(), TaskError>, Fail> {
-    let component = component(alloc)?;
-    let mut store = store(alloc)?;
-    called(&component, &mut store)?;
-    let mut run = run_concurrent(&mut store, true).ok().ok_or("a run")?;
+fn returned(rt: &impl Abort, alloc: Global, ty: u32) -> Result<(), TaskError> {
+    let component = component(rt, alloc);
+    let mut store = store(rt, alloc);
+    called(rt, &component, &mut store);
+    let Ok(mut run) = run_concurrent(&mut store, true) else {
+        panic!(rt; "a run")
+    };
     let mut main = Host { answer: None };
     let mut trace = Trace::new(alloc);
     let outcome = run.drive(&component, &mut store, &mut main, 2, &mut trace);
     let Ok(Outcome::OutOfSteps) = outcome else {
-        return Err(Fail::from("a thread that runs"));
+        panic!(rt; "a thread that runs")
     };
     store.state.is_whole();
     let Some(running) = store.state.running() else {
-        return Err(Fail::from("a thread"));
+        panic!(rt; "a thread")
     };
     let instance = Instance {
         index: running.callee.instance,
     };
-    Ok(instance.task_return(&component, &mut store, ty, 0, 0, 7))
+    instance.task_return(&component, &mut store, ty, 0, 0, 7)
 }
 
 #[test]
-fn a_return_needs_the_task_s_own_type(rt: HostRuntime) -> Result<(), Fail> {
-    assert!(rt; returned(rt.alloc(), 0)?.is_ok());
-    let bad = returned(rt.alloc(), 1)?;
+fn a_return_needs_the_task_s_own_type(rt: HostRuntime) {
+    assert!(rt; returned(&rt, rt.alloc(), 0).is_ok());
+    let bad = returned(&rt, rt.alloc(), 1);
     assert!(rt; matches!(bad, Err(TaskError::Trap(Trap::TaskReturnInvalid))));
-    Ok(())
 }

@@ -1,80 +1,80 @@
 use report_text::Page;
 use std::alloc::Global;
-use std::test::Fail;
+use std::process::Abort;
 use task_machine::{
     CallLabel, Given, Label, LoopLabel, MainLabel, Mark, Outcome, OwnEvent, Phase, SetLabel,
     Status, TakeLabel, ThreadLabel, Trap,
 };
 
-fn line_of(alloc: Global, label: Label) -> Result<Vec<u8>, Fail> {
-    let mut page = Page::new(alloc)?;
+// The label's line is this.
+fn prints(rt: &impl Abort, page: &mut Page, label: Label, text: &[u8]) {
+    page.clear();
     page.add_label(label);
-    Ok(Vec::from_slice(alloc, page.as_slice())?)
+    assert!(rt; page.as_slice() == text);
+}
+
+fn page(rt: &impl Abort, alloc: Global) -> Page {
+    match Page::new(alloc) {
+        Ok(page) => page,
+        Err(_) => panic!(rt; "no memory"),
+    }
 }
 
 #[test]
-fn prints_labels(rt: HostRuntime) -> Result<(), Fail> {
-    let (mark, thread, woken, work) = (Mark::Switch, 2, 3, 4);
+fn prints_labels(rt: HostRuntime) {
+    let mut page = page(&rt, rt.alloc());
+    let abort = Label::Main(MainLabel::Abort(Phase::AbortRequested, 1));
+    prints(&rt, &mut page, abort, b"main abort 1 requested\n");
+    let refused = Label::Main(MainLabel::StartRefused(Trap::TableFull, 2));
+    prints(&rt, &mut page, refused, b"main start 2 refused 18\n");
+    let ends = Label::Loop(LoopLabel::FutureEnds(4));
+    prints(&rt, &mut page, ends, b"future 4 ends\n");
+    let joins = Label::Set(SetLabel::JoinWakes(2, 3));
+    prints(&rt, &mut page, joins, b"thread 2 join wakes 3\n");
+    let calls = Label::Call(CallLabel::CallPolls(33, 2, 4));
+    prints(&rt, &mut page, calls, b"thread 2 call 33 future 4\n");
+}
+
+#[test]
+fn prints_labels_of_threads(rt: HostRuntime) {
+    let mut page = page(&rt, rt.alloc());
     let subtask = Given::Subtask {
         status: Status::Returned,
         handle: 5,
     };
-    let labels: [(Label, &[u8]); 9] = [
-        (
-            Label::Main(MainLabel::Abort(Phase::AbortRequested, 1)),
-            b"main abort 1 requested\n",
-        ),
-        (
-            Label::Main(MainLabel::StartRefused(Trap::TableFull, 2)),
-            b"main start 2 refused 18\n",
-        ),
-        (Label::Loop(LoopLabel::FutureEnds(work)), b"future 4 ends\n"),
-        (
-            Label::Take(TakeLabel::Event(mark, subtask, thread)),
-            b"take switch thread 2 event 1 5 2\n",
-        ),
-        (
-            Label::Take(TakeLabel::EventWakes(mark, OwnEvent::Cancelled, thread, woken)),
-            b"take switch thread 2 event 6 0 0 wakes 3\n",
-        ),
-        (
-            Label::Set(SetLabel::JoinWakes(thread, woken)),
-            b"thread 2 join wakes 3\n",
-        ),
-        (
-            Label::Call(CallLabel::CallPolls(33, thread, work)),
-            b"thread 2 call 33 future 4\n",
-        ),
-        (
-            Label::Thread(ThreadLabel::New(2, thread, 6)),
-            b"thread 2 thread_new 2 thread 6\n",
-        ),
-        (
-            Label::RetWakes(thread, 7, woken),
-            b"thread 2 ret 7 wakes 3\n",
-        ),
-    ];
-    for (label, text) in labels {
-        assert_eq!(rt; line_of(rt.alloc(), label)?.as_slice(), text);
-    }
-    Ok(())
+    let event = Label::Take(TakeLabel::Event(Mark::Switch, subtask, 2));
+    prints(&rt, &mut page, event, b"take switch thread 2 event 1 5 2\n");
+    let cancelled = TakeLabel::EventWakes(Mark::Switch, OwnEvent::Cancelled, 2, 3);
+    let text = b"take switch thread 2 event 6 0 0 wakes 3\n";
+    prints(&rt, &mut page, Label::Take(cancelled), text);
+    let new = Label::Thread(ThreadLabel::New(2, 2, 6));
+    prints(&rt, &mut page, new, b"thread 2 thread_new 2 thread 6\n");
+    let wakes = Label::RetWakes(2, 7, 3);
+    prints(&rt, &mut page, wakes, b"thread 2 ret 7 wakes 3\n");
+}
+
+// The outcome's line is this.
+fn prints_outcome(rt: &impl Abort, page: &mut Page, outcome: Outcome, text: &[u8]) {
+    page.clear();
+    page.add_outcome(outcome);
+    assert!(rt; page.as_slice() == text);
 }
 
 #[test]
-fn prints_outcomes(rt: HostRuntime) -> Result<(), Fail> {
-    let outcomes: [(Outcome, &[u8]); 7] = [
-        (Outcome::Done(7), b"done 7\n"),
-        (Outcome::Done(10), b"done 10\n"),
-        (Outcome::Done(305), b"done 305\n"),
-        (Outcome::HostFailed(6_789), b"host failed 6789\n"),
-        (Outcome::Done(u64::MAX), b"done 18446744073709551615\n"),
-        (Outcome::Deadlock(Trap::AsyncDeadlock), b"deadlock 15\n"),
-        (Outcome::OutOfSteps, b"out of steps\n"),
-    ];
-    for (outcome, text) in outcomes {
-        let mut page = Page::new(rt.alloc())?;
-        page.add_outcome(outcome);
-        assert_eq!(rt; page.as_slice(), text);
-    }
-    Ok(())
+fn prints_outcomes(rt: HostRuntime) {
+    let mut page = page(&rt, rt.alloc());
+    prints_outcome(&rt, &mut page, Outcome::Done(7), b"done 7\n");
+    prints_outcome(&rt, &mut page, Outcome::Done(10), b"done 10\n");
+    prints_outcome(&rt, &mut page, Outcome::Done(305), b"done 305\n");
+    prints_outcome(
+        &rt,
+        &mut page,
+        Outcome::HostFailed(6_789),
+        b"host failed 6789\n",
+    );
+    let most = Outcome::Done(u64::MAX);
+    prints_outcome(&rt, &mut page, most, b"done 18446744073709551615\n");
+    let deadlock = Outcome::Deadlock(Trap::AsyncDeadlock);
+    prints_outcome(&rt, &mut page, deadlock, b"deadlock 15\n");
+    prints_outcome(&rt, &mut page, Outcome::OutOfSteps, b"out of steps\n");
 }

@@ -1,5 +1,8 @@
-use scenario_text::{MainOpText, TextError, number_up_to, one_tree, read_text};
-use std::test::Fail;
+use scenario_text::{
+    InstanceText, MainOpText, ScenarioText, TextError, number_up_to, one_tree, read_text,
+};
+use std::alloc::Global;
+use std::process::Abort;
 use task_machine::{Callee, DataOp, Op, Operand};
 
 const ONE_CALL: &[u8] =
@@ -10,55 +13,78 @@ const TWO_INSTANCES: &[u8] =
 
 const NOTHING: &[u8] = b"scenario 1\nhandles 0\ntable 0\nidle trap\nmain\nanswer 0\nend\n";
 
-#[test]
-fn reads_one_call(rt: HostRuntime) -> Result<(), Fail> {
-    for text in [ONE_CALL, &ONE_CALL[..ONE_CALL.len() - 1]] {
-        let tree = read_text(rt.alloc(), text).ok().ok_or("a scenario")?;
-        assert_eq!(rt; tree.handles, 100_000);
-        assert_eq!(rt; tree.instances.len(), 1);
-        assert_eq!(rt; tree.main.len(), 2);
+fn read(rt: &impl Abort, alloc: Global, text: &[u8]) -> ScenarioText {
+    assert!(rt; text.len() <= 1_048_576);
+    match read_text(alloc, text) {
+        Ok(tree) => tree,
+        Err(_) => panic!(rt; "a scenario"),
     }
-    one_tree();
-    Ok(())
+}
+
+// The text with or without its last newline has one instance.
+fn has_one_instance(rt: &impl Abort, alloc: Global, text: &[u8]) {
+    let tree = read(rt, alloc, text);
+    assert!(rt; tree.handles == 100_000);
+    assert!(rt; tree.instances.len() == 1 && tree.main.len() == 2);
 }
 
 #[test]
-fn reads_many_instances(rt: HostRuntime) -> Result<(), Fail> {
-    let tree = read_text(rt.alloc(), TWO_INSTANCES)
-        .ok()
-        .ok_or("a scenario")?;
-    assert_eq!(rt; tree.instances.len(), 3);
-    let instance = tree.instances.as_slice().get(0).ok_or("an instance")?;
-    assert_eq!(rt; instance.exports.len(), 2);
-    let export = instance.exports.as_slice().get(0).ok_or("an export")?;
-    assert_eq!(rt; export.start.len(), 7);
-    let op = export.start.as_slice().get(5).ok_or("an op")?;
-    assert!(rt;
-        matches!(
-            op,
-            Op::Data(DataOp::SkipEq {
-                left: Operand::Register(3),
-                right: Operand::Number(0),
-                ops: 4096,
-            })
-        )
-    );
-    let start = tree.main.as_slice().get(1).ok_or("a start")?;
-    assert!(rt;
-        matches!(
-            start,
-            MainOpText::Start(Callee { instance: 0, export: 0 }, params) if params.len() == 2
-        )
-    );
+fn reads_one_call(rt: HostRuntime) {
+    has_one_instance(&rt, rt.alloc(), ONE_CALL);
+    has_one_instance(&rt, rt.alloc(), &ONE_CALL[..ONE_CALL.len() - 1]);
     assert!(rt; read_text(rt.alloc(), NOTHING).is_ok());
-    Ok(())
+    one_tree();
+}
+
+fn skips(op: &Op) -> bool {
+    matches!(
+        op,
+        Op::Data(DataOp::SkipEq {
+            left: Operand::Register(3),
+            right: Operand::Number(0),
+            ops: 4096,
+        })
+    )
+}
+
+fn starts(op: &MainOpText) -> bool {
+    matches!(
+        op,
+        MainOpText::Start(Callee { instance: 0, export: 0 }, params) if params.len() == 2
+    )
+}
+
+// The first instance has two exports, of which the first has seven ops.
+fn has_two_exports(rt: &impl Abort, instance: &InstanceText) {
+    assert!(rt; instance.exports.len() == 2);
+    let Some(export) = instance.exports.as_slice().first() else {
+        panic!(rt; "an export")
+    };
+    assert!(rt; export.start.len() == 7);
+    let Some(op) = export.start.as_slice().get(5) else {
+        panic!(rt; "an op")
+    };
+    assert!(rt; skips(op));
+}
+
+#[test]
+fn reads_many_instances(rt: HostRuntime) {
+    let tree = read(&rt, rt.alloc(), TWO_INSTANCES);
+    assert!(rt; tree.instances.len() == 3);
+    let Some(instance) = tree.instances.as_slice().first() else {
+        panic!(rt; "an instance")
+    };
+    has_two_exports(&rt, instance);
+    let Some(op) = tree.main.as_slice().get(1) else {
+        panic!(rt; "a start")
+    };
+    assert!(rt; starts(op));
 }
 
 #[test]
 fn numbers_have_limits(rt: HostRuntime) {
-    assert_eq!(rt; number_up_to(b"40", 40), Some(40));
-    assert_eq!(rt; number_up_to(b"41", 40), None);
-    assert_eq!(rt; number_up_to(b"007", 40), None);
+    assert!(rt; matches!(number_up_to(b"40", 40), Some(40)));
+    assert!(rt; number_up_to(b"41", 40).is_none() && number_up_to(b"007", 40).is_none());
 }
 
 #[test]

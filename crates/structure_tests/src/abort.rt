@@ -1,5 +1,4 @@
 ghost use Rattle.std.specs.Prelude.{◌≡◌, [], ◌∷◌, Some, None};
-ghost use Rattle.std.specs.Option.{ForSome};
 ghost use Rattle.task_abort.specs.Cells.{handle_cell, pass_cell, work_cell};
 ghost use Rattle.task_abort.specs.PhaseLog.{entry};
 ghost use Rattle.task_abort.specs.Staged.{made, staged};
@@ -9,8 +8,10 @@ ghost use Rattle.task_abort.specs.declared.log.PhaseCall.TheVariants.{Abort, Pol
 use futures::Future;
 use futures::executor::block_on;
 use futures::task::{Context, Poll};
+use std::alloc::AllocGlobal;
+use std::process::Abort;
+use std::random::RandomSource;
 use std::sync::Wait;
-use std::test::Fail;
 use std::thread;
 use task_abort::{
     Abortable, JoinHandle, JoinPass, Phase, known_callers, late_calls_stand_last,
@@ -54,144 +55,79 @@ fn of_future(poll: Poll<Option<u8>>) -> u8 {
     }
 }
 
-/// A future that never ends.
+/// A future that has a value, or else never ends.
 #[derive(Drop)]
-struct Never {}
+struct Work {
+    value: Option<u8>,
+}
 
-impl Future for Never {
+impl Future for Work {
     type Output = u8;
 
     fn poll(&mut self, cx: &mut Context<'_>) -> Poll<u8> {
-        cx.yield_now()
+        match self.value {
+            Some(value) => Poll::Ready(value),
+            None => cx.yield_now(),
+        }
     }
 }
 
-/// A future with a value.
+/// Polls a work before and after an abort.
 #[derive(Drop)]
-struct Five {}
+struct Calling<'a> {
+    handle: &'a JoinHandle,
+    work: &'a mut Abortable<Work>,
+    pass: &'a mut JoinPass,
+    ghost passes: { pass_cell pass.now ≡ handle_cell handle.now },
+    ghost works: { work_cell work.now ≡ handle_cell handle.now },
+}
 
-impl Future for Five {
-    type Output = u8;
+impl Future for Calling<'_> {
+    type Output = [u8; 4];
 
-    fn poll(&mut self, _cx: &mut Context<'_>) -> Poll<u8> {
-        Poll::Ready(5)
+    fn poll(&mut self, cx: &mut Context<'_>) -> Poll<[u8; 4]> {
+        let polled = of_future(self.work.poll(self.pass, cx));
+        let waited = of_handle(self.handle.poll_handle(self.pass));
+        let aborted = found(self.handle.abort(self.pass));
+        let polled_again = of_future(self.work.poll(self.pass, cx));
+        Poll::Ready([polled, waited, aborted, polled_again])
     }
 }
 
-/// Makes the calls of one list in its first poll.
-#[derive(Drop)]
-struct Calling<F: Drop> {
-    handle: JoinHandle,
-    work: Option<Abortable<F>>,
-    pass: Option<JoinPass>,
-    ghost passes: { ForSome pass (λ p. pass_cell p ≡ handle_cell handle) },
-    ghost works: { ForSome work (λ w. work_cell w ≡ handle_cell handle) },
-}
-
-impl Future for Calling<Never> {
-    type Output = [u8; 8];
-
-    fn poll(&mut self, cx: &mut Context<'_>) -> Poll<[u8; 8]> {
-        let (Some(mut work), Some(mut pass)) = (self.work.take(), self.pass.take()) else {
-            return cx.yield_now();
-        };
-        let polled = of_future(work.poll(&mut pass, cx));
-        let waited = of_handle(self.handle.poll_handle(&mut pass));
-        let aborted = self.handle.abort(&mut pass);
-        let polled_again = of_future(work.poll(&mut pass, cx));
-        let waited_again = of_handle(self.handle.poll_handle(&mut pass));
-        let finished = work.finish(&mut pass);
-        let over = of_handle(self.handle.poll_handle(&mut pass));
-        let Ok(mut second) = self.handle.split_pass(&mut pass) else {
-            return cx.yield_now();
-        };
-        self.handle.meet(&mut second, pass);
-        let over_at_second = of_handle(self.handle.poll_handle(&mut second));
-        Poll::Ready([
-            polled,
-            waited,
-            found(aborted),
-            polled_again,
-            waited_again,
-            found(finished),
-            over,
-            over_at_second,
-        ])
-    }
-}
-
-impl Future for Calling<Five> {
-    type Output = [u8; 7];
-
-    fn poll(&mut self, cx: &mut Context<'_>) -> Poll<[u8; 7]> {
-        let (Some(mut work), Some(mut pass)) = (self.work.take(), self.pass.take()) else {
-            return cx.yield_now();
-        };
-        let waited = of_handle(self.handle.poll_handle(&mut pass));
-        let polled = of_future(work.poll(&mut pass, cx));
-        let waited_again = of_handle(self.handle.poll_handle(&mut pass));
-        let finished = work.finish(&mut pass);
-        let over = of_handle(self.handle.poll_handle(&mut pass));
-        let aborted = self.handle.abort(&mut pass);
-        let still_over = of_handle(self.handle.poll_handle(&mut pass));
-        Poll::Ready([
-            waited,
-            polled,
-            waited_again,
-            found(finished),
-            over,
-            found(aborted),
-            still_over,
-        ])
-    }
+fn called<R: Abort + Wait + RandomSource + AllocGlobal>(rt: &R, value: Option<u8>) -> [u8; 4] {
+    let Ok((handle, mut work, mut pass)) = JoinHandle::run(rt.alloc(), Work { value }) else {
+        panic!(rt; "no memory")
+    };
+    let calling = Calling {
+        handle: &handle,
+        work: &mut work,
+        pass: &mut pass,
+    };
+    let Ok(told) = block_on(rt, calling) else {
+        panic!(rt; "an executor")
+    };
+    told
 }
 
 #[test]
-fn join_handle_phases(rt: HostRuntime) -> Result<(), Fail> {
-    let Ok((handle, work, pass)) = JoinHandle::run(rt.alloc(), Never {}) else {
-        panic!(rt; "no memory")
-    };
-    let never_ends = Calling {
-        handle,
-        work: Some(work),
-        pass: Some(pass),
-    };
-    let told = block_on(&rt, never_ends)?;
-    assert_eq!(rt;
-        told,
-        [
-            PENDING,
-            PENDING,
-            RUNNING,
-            ABORTED,
-            PENDING,
-            ABORT_REQUESTED,
-            OVER,
-            OVER,
-        ]
-    );
-    let Ok((handle, work, pass)) = JoinHandle::run(rt.alloc(), Five {}) else {
-        panic!(rt; "no memory")
-    };
-    let gives_five = Calling {
-        handle,
-        work: Some(work),
-        pass: Some(pass),
-    };
-    let told = block_on(&rt, gives_five)?;
-    assert_eq!(rt; told, [PENDING, 5, PENDING, RUNNING, OVER, COMPLETE, OVER,]);
-    let Ok((handle, work, mut pass)) = JoinHandle::run(rt.alloc(), Never {}) else {
-        panic!(rt; "no memory")
-    };
-    assert!(rt; matches!(work.finish(&mut pass), Phase::Running));
-    assert!(rt; handle.poll_handle(&mut pass).is_ready());
-    assert!(rt; matches!(handle.abort(&mut pass), Phase::Complete));
-    assert!(rt; handle.poll_handle(&mut pass).is_ready());
-    Ok(())
+fn an_abort_ends_the_polls_of_a_work(rt: HostRuntime) {
+    assert!(rt; called(&rt, None) == [PENDING, PENDING, RUNNING, ABORTED]);
+    assert!(rt; called(&rt, Some(5)) == [5, PENDING, RUNNING, ABORTED]);
 }
 
 #[test]
-fn a_dropped_handle_changes_no_phase(rt: HostRuntime) -> Result<(), Fail> {
+fn a_finish_is_told_from_then_on(rt: HostRuntime) {
+    let Ok((handle, work, mut pass)) = JoinHandle::run(rt.alloc(), 7u8) else {
+        panic!(rt; "no memory")
+    };
+    assert!(rt; found(work.finish(&mut pass)) == RUNNING);
+    assert!(rt; of_handle(handle.poll_handle(&mut pass)) == OVER);
+    assert!(rt; found(handle.abort(&mut pass)) == COMPLETE);
+    assert!(rt; of_handle(handle.poll_handle(&mut pass)) == OVER);
+}
+
+#[test]
+fn a_dropped_handle_changes_no_phase(rt: HostRuntime) {
     let Ok((handle, mut work, mut pass)) = JoinHandle::run(rt.alloc(), 7u8) else {
         panic!(rt; "no memory")
     };
@@ -200,57 +136,26 @@ fn a_dropped_handle_changes_no_phase(rt: HostRuntime) -> Result<(), Fail> {
     };
     drop(handle);
     assert!(rt; matches!(work.running(&mut pass), Some(7)));
-    assert!(rt; matches!(other.abort(&mut pass), Phase::Running));
+    assert!(rt; found(other.abort(&mut pass)) == RUNNING);
     assert!(rt; work.running(&mut pass).is_none());
     drop(other);
-    assert!(rt; matches!(work.finish(&mut pass), Phase::AbortRequested));
-    Ok(())
-}
-
-/// The handle is shared by two threads, and the work and the passes are given to them.
-#[test]
-fn handles_works_and_passes_cross_threads(rt: HostRuntime) -> Result<(), Fail> {
-    let Ok((handle, work, mut pass)) = JoinHandle::run(rt.alloc(), Never {}) else {
-        panic!(rt; "no memory")
-    };
-    let Ok(mut other) = handle.split_pass(&mut pass) else {
-        panic!(rt; "no memory")
-    };
-    let shared = &handle;
-    let ((finished, mut pass), (aborted, other)) = thread::join(
-        &rt,
-        move || {
-            let _ = shared.poll_handle(&mut pass);
-            (work.finish(&mut pass), pass)
-        },
-        move || (shared.abort(&mut other), other),
-    );
-    let in_one_order = match finished {
-        Phase::Running => matches!(aborted, Phase::Complete),
-        Phase::AbortRequested => matches!(aborted, Phase::Running),
-        Phase::Complete => false,
-    };
-    assert!(rt; in_one_order);
-    handle.meet(&mut pass, other);
-    assert!(rt; handle.poll_handle(&mut pass).is_ready());
-    Ok(())
+    assert!(rt; found(work.finish(&mut pass)) == ABORT_REQUESTED);
 }
 
 /// Waits for the end of a work.
 #[derive(Drop)]
 struct Waiting<'a, R> {
     rt: &'a R,
-    handle: JoinHandle,
-    pass: JoinPass,
-    ghost one_cell: { pass_cell pass ≡ handle_cell handle },
+    handle: &'a JoinHandle,
+    pass: &'a mut JoinPass,
+    ghost one_cell: { pass_cell pass.now ≡ handle_cell handle.now },
 }
 
 impl<R: Wait> Future for Waiting<'_, R> {
     type Output = ();
 
     fn poll(&mut self, cx: &mut Context<'_>) -> Poll<()> {
-        self.handle
-            .poll_handle_registered(self.rt, &mut self.pass, cx)
+        self.handle.poll_handle_registered(self.rt, self.pass, cx)
     }
 }
 
@@ -258,22 +163,23 @@ impl<R: Wait> Future for Waiting<'_, R> {
 #[derive(Drop)]
 struct Polling<'a, R> {
     rt: &'a R,
-    work: Abortable<Never>,
-    pass: JoinPass,
-    ghost one_cell: { pass_cell pass ≡ work_cell work },
+    work: &'a mut Abortable<Work>,
+    pass: &'a mut JoinPass,
+    ghost one_cell: { pass_cell pass.now ≡ work_cell work.now },
 }
 
 impl<R: Wait> Future for Polling<'_, R> {
     type Output = Option<u8>;
 
     fn poll(&mut self, cx: &mut Context<'_>) -> Poll<Option<u8>> {
-        self.work.poll_registered(self.rt, &mut self.pass, cx)
+        self.work.poll_registered(self.rt, self.pass, cx)
     }
 }
 
+/// The handle and a pass are given to one thread, the work and another pass to the other.
 #[test]
-fn a_handle_completes_beside_another_thread(rt: HostRuntime) -> Result<(), Fail> {
-    let Ok((handle, work, mut pass)) = JoinHandle::run(rt.alloc(), Never {}) else {
+fn a_handle_completes_beside_another_thread(rt: HostRuntime) {
+    let Ok((handle, work, mut pass)) = JoinHandle::run(rt.alloc(), 7u8) else {
         panic!(rt; "no memory")
     };
     let Ok(mut other) = handle.split_pass(&mut pass) else {
@@ -281,22 +187,20 @@ fn a_handle_completes_beside_another_thread(rt: HostRuntime) -> Result<(), Fail>
     };
     let waiting = Waiting {
         rt: &rt,
-        handle,
-        pass,
+        handle: &handle,
+        pass: &mut pass,
     };
-    let (waited, found) = thread::join(
+    let (waited, phase) = thread::join(
         &rt,
-        || block_on(&rt, waiting),
-        || work.finish_and_wake(&rt, &mut other),
+        || block_on(&rt, waiting).is_ok(),
+        || found(work.finish_and_wake(&rt, &mut other)),
     );
-    waited?;
-    assert!(rt; matches!(found, Phase::Running));
-    Ok(())
+    assert!(rt; waited && phase == RUNNING);
 }
 
 #[test]
-fn a_handle_aborts_from_another_thread(rt: HostRuntime) -> Result<(), Fail> {
-    let Ok((handle, work, mut pass)) = JoinHandle::run(rt.alloc(), Never {}) else {
+fn a_handle_aborts_from_another_thread(rt: HostRuntime) {
+    let Ok((handle, mut work, mut pass)) = JoinHandle::run(rt.alloc(), Work { value: None }) else {
         panic!(rt; "no memory")
     };
     let Ok(mut other) = handle.split_pass(&mut pass) else {
@@ -304,22 +208,20 @@ fn a_handle_aborts_from_another_thread(rt: HostRuntime) -> Result<(), Fail> {
     };
     let polling = Polling {
         rt: &rt,
-        work,
-        pass,
+        work: &mut work,
+        pass: &mut pass,
     };
-    let (output, found) = thread::join(
+    let (aborted, phase) = thread::join(
         &rt,
-        || block_on(&rt, polling),
-        || handle.abort_and_wake(&rt, &mut other),
+        || matches!(block_on(&rt, polling), Ok(None)),
+        || found(handle.abort_and_wake(&rt, &mut other)),
     );
-    assert_eq!(rt; output?, None);
-    assert!(rt; matches!(found, Phase::Running));
-    Ok(())
+    assert!(rt; aborted && phase == RUNNING);
 }
 
 /// The laws' conditions are met by a pass that has met all others.
 #[test]
-fn a_pass_that_met_all_knows_all_callers(rt: HostRuntime) -> Result<(), Fail> {
+fn a_pass_that_met_all_knows_all_callers(rt: HostRuntime) {
     let Ok((handle, work, mut pass)) = JoinHandle::run(rt.alloc(), 7u8) else {
         panic!(rt; "no memory")
     };
@@ -336,9 +238,7 @@ fn a_pass_that_met_all_knows_all_callers(rt: HostRuntime) -> Result<(), Fail> {
     late_calls_stand_last(&pass);
     unfinished_calls(&pass);
     phases_of_seen_calls(&pass);
-    assert!(rt; matches!(aborted, Phase::Running));
-    assert!(rt; matches!(finished, Phase::AbortRequested));
-    Ok(())
+    assert!(rt; found(aborted) == RUNNING && found(finished) == ABORT_REQUESTED);
 }
 
 /// A log put together by stages: the pending poll before the last round is entered as one of a running work.

@@ -1,41 +1,45 @@
 ghost use Rattle.std.specs.Prelude.{is_ok, None};
 ghost use Rattle.task_group.specs.Heard.{Tells, notice_of};
 
-use std::alloc::{AllocError, Global};
-use std::cell::RefCell;
+use std::alloc::Global;
+use std::cell::Cell;
 use std::process::Abort;
-use std::rc::Rc;
-use std::test::Fail;
 use task_group::{GroupError, Groups, HookError, Notice, NoticeKind, TaskGroupHook, TaskGroupId};
 
-// Notices as they are written down: what happened to which group.
-type List = Rc<RefCell<Vec<(&'static str, u64)>>>;
+// What was told is written down as two digits for each notice: what happened, and to which group.
+const START: u64 = 1;
 
-fn written(kind: NoticeKind) -> &'static str {
+const ENTER: u64 = 2;
+
+const EXIT: u64 = 3;
+
+const FINISH: u64 = 4;
+
+fn written(kind: NoticeKind) -> u64 {
     match kind {
-        NoticeKind::Start => "start",
-        NoticeKind::Enter => "enter",
-        NoticeKind::Exit => "exit",
-        NoticeKind::Finish => "finish",
+        NoticeKind::Start => START,
+        NoticeKind::Enter => ENTER,
+        NoticeKind::Exit => EXIT,
+        NoticeKind::Finish => FINISH,
     }
 }
 
 // A hook that writes down what it is told, and answers each notice of one kind with an error.
 #[derive(Drop)]
-struct Recorder {
-    list: List,
-    fails: &'static str,
+struct Recorder<'a> {
+    told: &'a Cell<u64>,
+    fails: u64,
     errors: u64,
 }
 
-impl Recorder {
+impl Recorder<'_> {
     fn answer(&mut self, kind: NoticeKind, id: TaskGroupId) -> Result<(), HookError>
         ensures { Tells (notice_of kind id) (record { told = None; errors = self.old.errors }) (record { told = None; errors = self.new.errors }) (is_ok result) }
     {
         let kind = written(kind);
-        if let Ok(mut list) = self.list.try_borrow_mut() {
-            let _ = list.push((kind, id.number));
-        }
+        let notice = kind.wrapping_mul(10).wrapping_add(id.number);
+        let before = self.told.get().wrapping_mul(100);
+        self.told.set(before.wrapping_add(notice));
         if self.fails == kind && self.errors < u64::MAX {
             self.errors += 1;
             return Err(HookError);
@@ -44,7 +48,7 @@ impl Recorder {
     }
 }
 
-impl TaskGroupHook for Recorder {
+impl TaskGroupHook for Recorder<'_> {
     ghost heard = { λ r. record { told = None; errors = r.errors } };
 
     fn handle_start(&mut self, id: TaskGroupId) -> Result<(), HookError> {
@@ -64,112 +68,110 @@ impl TaskGroupHook for Recorder {
     }
 }
 
+type Watched<'a> = Groups<Box<Recorder<'a>>>;
+
 fn id(number: u64) -> TaskGroupId {
     TaskGroupId { number }
 }
 
-// Groups with a recorder as their hook, and its list.
-fn watched(
-    alloc: Global,
-    fails: &'static str,
-) -> Result<(Groups<Box<Recorder>>, List), AllocError> {
-    let list = Rc::new(alloc, RefCell::new(Vec::new(alloc)))?;
+// Groups whose hook writes to this cell and fails at notices of this kind.
+fn watched<'a>(rt: &impl Abort, alloc: Global, told: &'a Cell<u64>, fails: u64) -> Watched<'a> {
     let hook = Recorder {
-        list: list.clone()?,
+        told,
         fails,
         errors: 0,
     };
-    let mut groups: Groups<Box<Recorder>> = Groups::new(alloc);
-    groups.set_hook(Box::new(alloc, hook)?);
-    Ok((groups, list))
+    let Ok(hook) = Box::new(alloc, hook) else {
+        panic!(rt; "no memory")
+    };
+    let mut groups = Groups::new(alloc);
+    assert!(rt; groups.made() == 0 && groups.keep_notices(6).is_ok());
+    groups.set_hook(hook);
+    groups
 }
 
-// The number of a new group, or that the hook failed.
-fn make(rt: &impl Abort, groups: &mut Groups<Box<Recorder>>) -> Option<u64> {
+// A new group has this number; or, where that is 0, the hook failed.
+fn made(rt: &impl Abort, groups: &mut Watched<'_>, number: u64) {
     assert!(rt; groups.made() < 9);
     match groups.make() {
-        Ok(id) => Some(id.number),
-        Err(GroupError::HookFailed) => None,
-        Err(GroupError::NoMemory) => panic!(rt; "there was no memory"),
+        Ok(id) => assert!(rt; id.number == number),
+        Err(GroupError::HookFailed) => assert!(rt; number == 0),
+        Err(GroupError::NoMemory) => panic!(rt; "no memory"),
     }
 }
 
+// One more task in a group of one.
+fn raised(rt: &impl Abort, groups: &mut Watched<'_>, number: u64) {
+    let group = TaskGroupId { number };
+    assert!(rt; groups.count(group) == 1);
+    groups.increment(group);
+    assert!(rt; groups.count(group) == 2);
+}
+
+// Whether the hook took both notices.
+fn switches(groups: &mut Watched<'_>, old: Option<u64>, new: u64) -> bool {
+    let old = match old {
+        Some(old) => Some(id(old)),
+        None => None,
+    };
+    groups.switch(old, Some(id(new))).is_ok()
+}
+
+// Whether the group finished.
+fn lowers(groups: &mut Watched<'_>, number: u64) -> bool {
+    matches!(groups.decrement(id(number)), Ok(true))
+}
+
 #[test]
-fn notices_in_order(rt: HostRuntime) -> Result<(), Fail> {
-    let (mut groups, list) = watched(rt.alloc(), "")?;
-    assert!(rt; groups.made() == 0);
-    groups.keep_notices(6).ok().ok_or("memory")?;
-    assert_eq!(rt; make(&rt, &mut groups), Some(1));
-    assert_eq!(rt; make(&rt, &mut groups), Some(2));
-    let first = id(1);
-    assert!(rt; groups.count(first) == 1);
-    groups.increment(first);
-    for (old, new) in [
-        (None, Some(id(1))),
-        (Some(id(1)), Some(id(1))),
-        (Some(id(1)), Some(id(2))),
-    ] {
-        assert!(rt; groups.switch(old, new).is_ok());
-    }
-    for finished in [false, true, false] {
-        assert_eq!(rt; groups.decrement(id(1)).ok(), Some(finished));
-    }
-    assert!(rt; groups.switch(Some(id(2)), Some(id(1))).is_ok());
+fn notices_in_order(rt: HostRuntime) {
+    let told = Cell::new(0);
+    let mut groups = watched(&rt, rt.alloc(), &told, 0);
+    made(&rt, &mut groups, 1);
+    made(&rt, &mut groups, 2);
+    raised(&rt, &mut groups, 1);
+    assert!(rt; switches(&mut groups, None, 1) && switches(&mut groups, Some(1), 1));
+    assert!(rt; switches(&mut groups, Some(1), 2) && !lowers(&mut groups, 1));
+    assert!(rt; lowers(&mut groups, 1) && !lowers(&mut groups, 1));
+    assert!(rt; switches(&mut groups, Some(2), 1));
     groups.clean_up(Some(id(2)));
-    let want = [
-        ("start", 1),
-        ("start", 2),
-        ("enter", 1),
-        ("exit", 1),
-        ("enter", 2),
-        ("finish", 1),
-        ("exit", 2),
-        ("exit", 2),
-        ("finish", 2),
-    ];
-    let heard = list.try_borrow().ok().ok_or("the list is in use")?;
-    assert_eq!(rt; heard.as_slice(), want.as_slice());
-    assert_eq!(rt; groups.notices().len(), 6);
-    Ok(())
+    assert!(rt; told.get() == 11_12_21_31_22_41_32_32_42);
+    assert!(rt; groups.notices().len() == 6);
 }
 
-// A hook that fails at notices of one kind: what two makes, a switch and a decrement answer, and how many notices were told.
-#[test]
-fn failing_hooks(rt: HostRuntime) -> Result<(), Fail> {
-    let cases = [
-        ("start", None, true, Some(false), 2),
-        ("enter", Some(1), false, Some(true), 5),
-        ("exit", Some(1), false, Some(true), 4),
-        ("finish", Some(1), true, None, 5),
-    ];
-    for (fails, made, switches, lowered, notices) in cases {
-        let (mut groups, list) = watched(rt.alloc(), fails)?;
-        assert_eq!(rt; make(&rt, &mut groups), made, "{fails}");
-        assert_eq!(rt; make(&rt, &mut groups).is_some(), made.is_some(), "{fails}");
-        let switched = groups.switch(Some(id(1)), Some(id(2)));
-        assert_eq!(rt; switched.is_ok(), switches, "{fails}");
-        assert_eq!(rt; groups.decrement(id(1)).ok(), lowered, "{fails}");
-        let heard = list.try_borrow().ok().ok_or("the list is in use")?;
-        assert_eq!(rt; heard.len(), notices, "{fails}");
-    }
-    Ok(())
+// A hook that fails at notices of one kind: the first groups made, and then what is told.
+fn fails_at(rt: &impl Abort, alloc: Global, kind: u64, first: u64, want: u64) {
+    let told = Cell::new(0);
+    let mut groups = watched(rt, alloc, &told, kind);
+    made(rt, &mut groups, first);
+    made(rt, &mut groups, if first == 0 { 0 } else { 2 });
+    assert!(rt; switches(&mut groups, Some(1), 2) == (kind == START || kind == FINISH));
+    assert!(rt; lowers(&mut groups, 1) == (kind == ENTER || kind == EXIT));
+    assert!(rt; told.get() == want);
 }
 
 #[test]
-fn no_hook(rt: HostRuntime) -> Result<(), Fail> {
+fn failing_hooks(rt: HostRuntime) {
+    fails_at(&rt, rt.alloc(), START, 0, 11_11);
+    fails_at(&rt, rt.alloc(), ENTER, 1, 11_12_31_22_41);
+    fails_at(&rt, rt.alloc(), EXIT, 1, 11_12_31_41);
+    fails_at(&rt, rt.alloc(), FINISH, 1, 11_12_31_22_41);
+}
+
+#[test]
+fn no_hook(rt: HostRuntime) {
     let mut groups: Groups = Groups::new(rt.alloc());
-    groups.keep_notices(1).ok().ok_or("memory")?;
-    let made = groups.make().ok().ok_or("a group")?;
-    assert_eq!(rt; groups.decrement(made).ok(), Some(true));
-    let kept = groups.notices().first();
+    assert!(rt; groups.keep_notices(1).is_ok());
+    let Ok(made) = groups.make() else {
+        panic!(rt; "no memory")
+    };
+    assert!(rt; matches!(groups.decrement(made), Ok(true)));
     assert!(rt;
         matches!(
-            kept,
+            groups.notices().first(),
             Some(Notice {
                 kind: NoticeKind::Start,
                 group: 1
             })
         )
     );
-    Ok(())
 }

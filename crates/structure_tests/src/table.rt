@@ -1,5 +1,6 @@
 use Call::{AddChild, Capacity, Delete, Push, RemoveChild};
-use std::test::Fail;
+use std::alloc::Global;
+use std::process::Abort;
 use task_table::{Kind, ResourceTable, ResourceTableError, TableId};
 
 #[derive(Drop)]
@@ -95,14 +96,15 @@ fn id_at(ids: &Vec<TableId<Number>>, push: usize) -> TableId<Number> {
 
 // The place that a push gave, 0 for another call that was not refused, or the refusal.
 fn answer_of(
+    rt: &impl Abort,
     table: &mut ResourceTable<Entry>,
     ids: &mut Vec<TableId<Number>>,
     call: Call,
-) -> Result<u32, Fail> {
-    let answer = match call {
+) -> u32 {
+    match call {
         Call::Push => match table.push::<Number>(7) {
             Ok(id) => {
-                ids.push(id)?;
+                assert!(rt; ids.push(id).is_ok());
                 id.rep()
             }
             Err(back) => refused(back.why),
@@ -114,101 +116,99 @@ fn answer_of(
         }
         Call::AddChild(child, parent) => {
             let child = id_at(ids, child);
-            if table.has_parent(child) {
-                return Err(Fail::from("a child without a parent"));
-            }
+            assert!(rt; !table.has_parent(child));
             done(table.add_child(child, id_at(ids, parent)))
         }
         Call::RemoveChild(child, parent) => done(table.remove_child(
             id_at(ids, child),
             id_at(ids, parent),
         )),
+    }
+}
+
+// Makes the calls on a new table, and compares the answers.
+fn answers(rt: &impl Abort, alloc: Global, capacity: u32, calls: &[(Call, u32)]) {
+    let mut table = ResourceTable::new(alloc);
+    table.set_max_capacity(capacity as usize);
+    let mut ids = Vec::new(alloc);
+    for (call, want) in calls {
+        let answer = answer_of(rt, &mut table, &mut ids, *call);
+        assert!(rt; answer == *want);
+    }
+}
+
+#[test]
+fn the_place_freed_last_is_the_next_one_given(rt: HostRuntime) {
+    let calls = [
+        (Push, 0),
+        (Push, 1),
+        (Delete(0), 0),
+        (Push, 0),
+        (Delete(2), 0),
+        (Delete(1), 0),
+        (Push, 1),
+        (Push, 0),
+        (Push, 2),
+        (Delete(0), ABSENT),
+    ];
+    answers(&rt, rt.alloc(), 10, &calls);
+}
+
+#[test]
+fn a_lowered_capacity_gives_free_places_again(rt: HostRuntime) {
+    answers(&rt, rt.alloc(), 0, &[(Push, FULL)]);
+    let calls = [
+        (Push, 0),
+        (Push, FULL),
+        (Capacity(0), 0),
+        (Push, FULL),
+        (Delete(0), 0),
+        (Push, 0),
+        (Push, FULL),
+    ];
+    answers(&rt, rt.alloc(), 1, &calls);
+}
+
+#[test]
+fn a_parent_is_deleted_after_its_children(rt: HostRuntime) {
+    let calls = [
+        (Push, 0),
+        (Push, 1),
+        (AddChild(1, 0), 0),
+        (Delete(0), CHILDREN),
+        (RemoveChild(0, 1), ABSENT),
+        (RemoveChild(1, 0), 0),
+        (RemoveChild(1, 0), ABSENT),
+        (Delete(0), 0),
+        (AddChild(1, 0), ABSENT),
+    ];
+    answers(&rt, rt.alloc(), 10, &calls);
+}
+
+// Pushes the number to the place of that number, and writes its half over it.
+fn pushed(rt: &impl Abort, table: &mut ResourceTable<Entry>, number: u32) {
+    let Ok(id) = table.push::<Number>(number as u64) else {
+        panic!(rt; "no memory")
     };
-    Ok(answer)
-}
-
-// What a case shows, the capacity, and the calls with their answers.
-type Case = (&'static str, u32, &'static [(Call, u32)]);
-
-const CASES: [Case; 4] = [
-    (
-        "the place freed last is the next one given",
-        10,
-        &[
-            (Push, 0),
-            (Push, 1),
-            (Delete(0), 0),
-            (Push, 0),
-            (Delete(2), 0),
-            (Delete(1), 0),
-            (Push, 1),
-            (Push, 0),
-            (Push, 2),
-            (Delete(0), ABSENT),
-        ],
-    ),
-    ("capacity 0", 0, &[(Push, FULL)]),
-    (
-        "a lowered capacity gives free places again",
-        1,
-        &[
-            (Push, 0),
-            (Push, FULL),
-            (Capacity(0), 0),
-            (Push, FULL),
-            (Delete(0), 0),
-            (Push, 0),
-            (Push, FULL),
-        ],
-    ),
-    (
-        "a parent is deleted after its children",
-        10,
-        &[
-            (Push, 0),
-            (Push, 1),
-            (AddChild(1, 0), 0),
-            (Delete(0), CHILDREN),
-            (RemoveChild(0, 1), ABSENT),
-            (RemoveChild(1, 0), 0),
-            (RemoveChild(1, 0), ABSENT),
-            (Delete(0), 0),
-            (AddChild(1, 0), ABSENT),
-        ],
-    ),
-];
-
-#[test]
-fn table_entries(rt: HostRuntime) -> Result<(), Fail> {
-    for (shows, capacity, calls) in CASES {
-        let mut table = ResourceTable::new(rt.alloc());
-        table.set_max_capacity(capacity as usize);
-        let mut ids = Vec::new(rt.alloc());
-        for (call, want) in calls {
-            let answer = answer_of(&mut table, &mut ids, *call)?;
-            assert_eq!(rt; answer, *want, "{shows}");
-        }
+    assert!(rt; id.rep() == number && id.serial() == number as u64);
+    if let Ok(item) = table.get_mut(id) {
+        *item = number as u64 / 2;
     }
-    Ok(())
+    assert!(rt; matches!(table.get(id), Ok(item) if *item == number as u64 / 2));
 }
 
 #[test]
-fn entries_are_counted_read_and_written(rt: HostRuntime) -> Result<(), Fail> {
+fn entries_are_counted_read_and_written(rt: HostRuntime) {
     let mut table: ResourceTable<Entry> = ResourceTable::new(rt.alloc());
-    assert!(rt; table.is_empty());
-    assert_eq!(rt; table.max_capacity(), 1_000_000);
-    for number in 0..10 {
-        let id = table.push::<Number>(number).ok().ok_or("a push")?;
-        assert_eq!(rt; (id.rep() as u64, id.serial()), (number, number));
-        if let Ok(item) = table.get_mut(id) {
-            *item = number / 2;
-        }
-        assert_eq!(rt; table.get(id).ok().copied(), Some(number / 2));
+    assert!(rt; table.is_empty() && table.max_capacity() == 1_000_000);
+    pushed(&rt, &mut table, 0);
+    pushed(&rt, &mut table, 1);
+    pushed(&rt, &mut table, 2);
+    assert!(rt; table.len() == 3 && table.free() == 999_997);
+    let mut seen = 0;
+    for (rep, entry) in table.iter() {
+        assert!(rt; rep == seen && matches!(entry, Entry::Number(n) if *n == seen as u64 / 2));
+        seen = rep.wrapping_add(1);
     }
-    assert_eq!(rt; (table.len(), table.free()), (10, 999_990));
-    for (number, (rep, entry)) in table.iter().enumerate() {
-        assert_eq!(rt; rep as usize, number);
-        assert!(rt; matches!(entry, Entry::Number(n) if *n == number as u64 / 2));
-    }
-    Ok(())
+    assert!(rt; seen == 3);
 }

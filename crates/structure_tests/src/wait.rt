@@ -7,25 +7,23 @@ use task_wait::{
     waitables_by_kind_and_id, waiters_by_task_and_thread,
 };
 
+fn unpacks(code: u32, what: u32, set: u32) -> bool {
+    unpack_callback_code(code) == (what, set)
+}
+
+fn has_parts(event: Event, first: u32, second: u32) -> bool {
+    event.parts() == (first, second)
+}
+
 #[test]
 fn codes_are_the_stated_numbers(rt: HostRuntime) {
-    assert_eq!(rt; Status::Started.pack(Some(5)), 81);
-    assert_eq!(rt; Status::Returned.pack(None), 2);
-    assert_eq!(rt; Status::StartCancelled.pack(Some(1)), 19);
-    let unpacked = [(18, (WAIT, 1)), (0, (EXIT, 0)), (1, (YIELD, 0))];
-    for (code, parts) in unpacked {
-        assert_eq!(rt; unpack_callback_code(code), parts);
-    }
-    let events = [
-        (Event::Subtask(Status::Started), (1, 1)),
-        (Event::Subtask(Status::ReturnCancelled), (1, 4)),
-        (Event::Cancelled, (6, 0)),
-        (Event::None, (0, 0)),
-    ];
-    for (event, parts) in events {
-        assert_eq!(rt; event.parts(), parts);
-    }
-    assert_eq!(rt; BLOCKED, u32::MAX);
+    assert!(rt; Status::Started.pack(Some(5)) == 81 && Status::Returned.pack(None) == 2);
+    assert!(rt; Status::StartCancelled.pack(Some(1)) == 19);
+    assert!(rt; unpacks(18, WAIT, 1) && unpacks(0, EXIT, 0) && unpacks(1, YIELD, 0));
+    assert!(rt; has_parts(Event::Subtask(Status::Started), 1, 1));
+    assert!(rt; has_parts(Event::Subtask(Status::ReturnCancelled), 1, 4));
+    assert!(rt; has_parts(Event::Cancelled, 6, 0) && has_parts(Event::None, 0, 0));
+    assert!(rt; BLOCKED == u32::MAX);
     packed_status_unpacks(Status::Started, Some(5));
     callback_code_unpacks(WAIT, 1);
 }
@@ -142,7 +140,7 @@ fn remove(rt: &impl Abort, links: &mut Links<u32>, chain: usize, node: Node) {
     assert!(rt; links.is_live(chain) && links.is_made(node));
     links.no_node_is_twice();
     others_stay(links, chain, node);
-    assert_eq!(rt; links.remove(node), Some((chain, 2)));
+    assert!(rt; matches!(links.remove(node), Some((from, 2)) if from == chain));
 }
 
 fn insert(rt: &impl Abort, links: &mut Links<u32>, at: Node, node: Node, value: u32) {
@@ -188,9 +186,9 @@ fn links_are_lists_over_nodes(rt: HostRuntime) {
     push(&rt, &mut links, chain, first, 1);
     remove(&rt, &mut links, chain, middle);
     insert(&rt, &mut links, last, middle, 5);
-    assert_eq!(rt; around(&rt, &links, chain, middle), [1, 1, 3, 3]);
+    assert!(rt; around(&rt, &links, chain, middle) == [1, 1, 3, 3]);
     assert!(rt; links.is_made(middle));
-    assert_eq!(rt; links.get(middle), Some((chain, 5)));
+    assert!(rt; matches!(links.get(middle), Some((at, 5)) if at == chain));
     let empty = made(&rt, links.make_chain());
     let free = made(&rt, links.make_node());
     drop_both(&rt, &mut links, empty, free);

@@ -1,6 +1,5 @@
 use std::alloc::AllocError;
 use task_machine::Trap;
-use task_table::{PushError, ResourceTableError};
 
 /// Why a call of a task was refused.
 #[derive(Clone, Copy)]
@@ -19,14 +18,5 @@ impl From<AllocError> for TaskError {
 
     fn from(_e: AllocError) -> TaskError {
         TaskError::NoMemory
-    }
-}
-
-impl<I: Drop> From<PushError<I>> for TaskError {
-    fn from(e: PushError<I>) -> TaskError {
-        match e.why {
-            ResourceTableError::NoMemory => TaskError::NoMemory,
-            _ => TaskError::Trap(Trap::TableFull),
-        }
     }
 }

@@ -3,8 +3,8 @@ use Rattle.std.proofs.Common.{arith, ◌∙◌}
 use Rattle.task_loop.proofs.CallLemmas.{started_current, started_given}
 use Rattle.run_tests.proofs.drive.called.Goals as goal
 
-pub returns-in-Ok-clause-given : goal.returns-in-Ok-clause-given
-returns-in-Ok-clause-given c = let more = started_given _ _ _ _ _ _ _ c.in-Ok.ensures.starts in let none = c.requires.given in omega (arith, more, none)
+pub returns-clause-given : goal.returns-clause-given
+returns-clause-given g c = let more = started_given _ _ _ _ _ _ _ c.in-Ok.ensures.starts in let none = c.requires.given in omega (arith, more, none)
 
-pub returns-in-Ok-clause-current : goal.returns-in-Ok-clause-current
-returns-in-Ok-clause-current c = started_current _ _ _ _ _ _ _ c.in-Ok.ensures.starts ∙ c.requires.current
+pub returns-clause-current : goal.returns-clause-current
+returns-clause-current g c = started_current _ _ _ _ _ _ _ c.in-Ok.ensures.starts ∙ c.requires.current

@@ -6,7 +6,7 @@ use Rattle.task_state.specs.State.{step_view}
 use Rattle.run_tests.proofs.drive.returned.Goals as goal
 
 pub task_return-requires-clause-instance : goal.task_return-requires-clause-instance
-task_return-requires-clause-instance c =
+task_return-requires-clause-instance g c =
     let s = (step_view c.drive-outcome.new.store.state) in
     let r = c.in-Some.running in
     let about = c.in-Some.ensures.some in
