@@ -1,9 +1,8 @@
 -- Moves beside a thread that runs or is taken: they leave each other thread its place.
-use Rattle.std.proofs.Common.{◌∙◌, T, ap, ap₂, arith, cond, refl, subst, sym}
+use Rattle.std.proofs.Common.{◌∙◌, ap, arith, cond, refl, subst, sym}
 use Rattle.std.specs.Option.{option_map_or}
 use Rattle.std.specs.Prelude.{Bool, List, None, Option, Some, [], false, if◌then◌else◌, is_some, option_and_then, option_map, true, unwrap_or, ℕ, ◌+◌, ◌==◌, ◌∷◌, ◌≡◌, ◌≤◌}
 use Rattle.task_machine.specs.declared.records.Place.{Place}
-use Rattle.task_machine.specs.declared.records.Subtask.{Subtask}
 use Rattle.task_machine.specs.declared.records.Thread.{Thread}
 use Rattle.task_machine.specs.declared.records.Why.{Why}
 use Rattle.task_machine.specs.declared.records.Delivery.TheVariants as delivery
@@ -12,14 +11,14 @@ use Rattle.task_machine.specs.declared.records.Place.TheVariants as place
 use Rattle.task_machine.specs.declared.records.Why.TheVariants as why
 use Rattle.task_machine.proofs.MapLemmas.{get-remove_other, get-remove_same}
 use Rattle.task_machine.specs.Core.{Core}
-use Rattle.task_machine.specs.Maps.{get, get-remove, numbers}
+use Rattle.task_machine.specs.Maps.{get, get-remove}
 use Rattle.task_machine.specs.Moves.{behind_one, held_why_of, is_callback_waiter, may_wake, put_high, put_low, put_switch, released, released_one, stopped, wake, waken_by}
-use Rattle.task_machine.specs.Read.{blocked_on, callers_of, held_why, is_at, is_blocked_on, is_waiting_on, place_of}
+use Rattle.task_machine.specs.Read.{held_why, is_waiting_on, place_of}
 use Rattle.task_machine.specs.Write.{remove_thread, set_place}
-use Rattle.task_rules.proofs.StandLemmas.{Loose, Stand, adds_all, by_number, eq_refl, free_loose, is_eq_of, loose_free, loose_gone, loosened, not_eq, put_high_adds, put_low_adds, set_place_adds}
-use Rattle.task_rules.proofs.StopLemmas.{behind_adds, find_passes, given_there, put_high_stand, put_low_stand, put_switch_stand, stopped_stand}
+use Rattle.task_rules.proofs.StandLemmas.{AtHigh, AtLow, AtSwitch, BehindOf, Loose, Spot, Stand, StandsAs, adds_all, by_count, by_number, count, free_loose, free_mute, is_eq_of, is_open, loose_placed, loosened, not_eq, of_loose, of_placed, put_high_adds, put_low_adds, said, set_place_adds, to_loose, to_placed}
+use Rattle.task_rules.proofs.StopLemmas.{behind_adds, given_there, put_stand, put_switch_stand, stopped_stand}
 use Rattle.task_rules.specs.Laws.{ReleaseKeepsPlaces, RemovalKeepsPlaces, StopKeepsPlaces, WakeKeepsPlaces, is_free}
-use Rattle.task_rules.specs.Places.{HasPlace, is_at_high, is_at_low, is_at_switch, is_behind_of, is_there, one_if, says, times}
+use Rattle.task_rules.specs.Places.{HasPlace, is_behind_of, is_there, one_if, says, times}
 
 -- ---- Where other threads are
 
@@ -37,27 +36,16 @@ is_parked (place.Behind f) = false
 is_parked _ = true
 
 parked_free : (p : Place) → is_parked p ≡ true → is_free p ≡ true
-parked_free place.Running h = refl
-parked_free (place.Ready m w) h = h
-parked_free (place.Behind f) h = h
-parked_free _ h = refl
+parked_free p h = grind arith
 
 not_both : (p : Place) → is_parked p ≡ true → is_busy p ≡ true → ⊥
-not_both place.Running h b = subst T (sym h) tt
-not_both (place.Ready m w) h b = subst T (sym h) tt
-not_both (place.Behind f) h b = subst T (sym h) tt
-not_both place.New h b = subst T (sym b) tt
-not_both (place.Under c) h b = subst T (sym b) tt
-not_both (place.Waiting x c) h b = subst T (sym b) tt
-not_both (place.Blocked x) h b = subst T (sym b) tt
-not_both (place.Held x) h b = subst T (sym b) tt
-not_both place.Suspended h b = subst T (sym b) tt
+not_both p h b = grind arith
 
 same_place : (p q : Place) → Some p ≡ Some q → p ≡ q
-same_place p q e = ap (λ o. unwrap_or o p) e
+same_place p q e = cc
 
 at_place : (test : Place → Bool) (o : Option Place) → option_map_or test o false ≡ true → (p : Place) × (o ≡ Some p) × (test p ≡ true)
-at_place test None h = absurd (subst T (sym h) tt)
+at_place test None h = absurd (grind arith)
 at_place test (Some p) h = (p, refl, h)
 
 -- ---- A thread is gone
@@ -70,135 +58,96 @@ pub other_place : (k n : ℕ) (s : Core) → (k == n) ≡ false → place_of k (
 unfolding remove_thread
 other_place k n s e = ap (option_map (λ (t : Thread). t.place)) (get-remove_other s.threads n k (not_eq k n e))
 
-still_there : (k n : ℕ) (s : Core) → is_there k (remove_thread n s) ≡ true → is_there k s ≡ true
-still_there k n s g = by_number k n (is_there k s ≡ true) (λ e. absurd (subst T (sym g ∙ ap (λ (o : Option Place). is_some o) (ap (λ (j : ℕ). place_of j (remove_thread n s)) e ∙ gone_place n s)) tt)) (λ e. sym (ap (λ (o : Option Place). is_some o) (other_place k n s e)) ∙ g)
-
-fewer_callers : (k f n : ℕ) (s : Core) → times k (callers_of f s) ≡ 0 → times k (callers_of f (remove_thread n s)) ≡ 0
+-- each other one stands where it stood
+removed_stands : (o : Option Place) (k n : ℕ) (s : Core) → StandsAs o k s → StandsAs o k (remove_thread n s)
 unfolding remove_thread
-fewer_callers k f n s h = ap (λ (o : Option (List ℕ)). times k (unwrap_or o [])) (get-remove s.callers n f) ∙ fewer (f == n)
-  where
-    fewer : (b : Bool) → times k (unwrap_or (cond b None (get s.callers f)) []) ≡ 0
-    fewer true = refl
-    fewer false = h
-
-pub removed_loose : (k n : ℕ) (s : Core) → Loose k s → Loose k (remove_thread n s)
-unfolding remove_thread
-removed_loose k n s l = record { number = λ e. l.number (still_there k n s e); switch = l.switch; high = l.high; low = l.low; callers = λ f. fewer_callers k f n s (l.callers f) }
-
-pub removed_gone : (n : ℕ) (s : Core) → Loose n s → HasPlace n (remove_thread n s)
-removed_gone n s l = loose_gone n (remove_thread n s) (gone_place n s) (removed_loose n n s l)
-
-pub removed_placed : (k n : ℕ) (s : Core) → (k == n) ≡ false → HasPlace k s → HasPlace k (remove_thread n s)
-unfolding remove_thread
-removed_placed k n s e h = record {
-  number = λ g. h.number (still_there k n s g);
-  behind = λ f g. h.behind f (sym (ap (says (is_behind_of f)) (other_place k n s e)) ∙ g);
-  switch = h.switch ∙ ap (says is_at_switch) (sym (other_place k n s e));
-  high = h.high ∙ ap (says is_at_high) (sym (other_place k n s e));
-  low = h.low ∙ ap (says is_at_low) (sym (other_place k n s e));
-  callers = λ f. ap (λ (o : Option (List ℕ)). times k (unwrap_or o [])) (get-remove s.callers n f) ∙ by_caller f (f == n) refl;
-}
+removed_stands o k n s h = record { number = λ e. h.number (still_there e); behind = h.behind; counts = counts }
   where
     t : Core
     t = remove_thread n s
 
-    by_caller : (f : ℕ) (b : Bool) → (f == n) ≡ b → times k (unwrap_or (cond b None (get s.callers f)) []) ≡ (if is_there f t then says (is_behind_of f) (place_of k t) else 0)
-    by_caller f true g = sym (ap (λ (c : Bool). if c then says (is_behind_of f) (place_of k t) else 0) (ap (λ (j : ℕ). is_there j t) (is_eq_of f n g) ∙ ap (λ (o : Option Place). is_some o) (gone_place n s)))
-    by_caller f false g = h.callers f ∙ ap₂ (λ (c : Bool) (o : Option Place). if c then says (is_behind_of f) o else 0) (sym (ap (λ (o : Option Place). is_some o) (other_place f n s g))) (sym (other_place k n s e))
+    gone : (f : ℕ) → f ≡ n → is_there f t ≡ false
+    gone f e = ap (λ (j : ℕ). is_there j t) e ∙ ap (λ (p : Option Place). is_some p) (gone_place n s)
+
+    other : (f : ℕ) → (f == n) ≡ false → is_there f t ≡ is_there f s
+    other f e = ap (λ (p : Option Place). is_some p) (other_place f n s e)
+
+    still_there : is_there k t ≡ true → is_there k s ≡ true
+    still_there g = by_number k n (is_there k s ≡ true) (λ e. absurd (grind (arith, gone k e))) (λ e. sym (other k e) ∙ g)
+
+    by_caller : (f : ℕ) (b : Bool) → (f == n) ≡ b →
+        times k (unwrap_or (cond b None (get s.callers f)) []) ≡ (if is_there f t then says (is_behind_of f) o else 0)
+    by_caller f true e = sym (ap (λ (c : Bool). if c then says (is_behind_of f) o else 0) (gone f (is_eq_of f n e)))
+    by_caller f false e = h.counts (BehindOf f) ∙ ap (λ (c : Bool). if c then says (is_behind_of f) o else 0) (sym (other f e))
+
+    counts : (x : Spot) → count k t x ≡ (if is_open t x then says (said x) o else 0)
+    counts AtSwitch = h.counts AtSwitch
+    counts AtHigh = h.counts AtHigh
+    counts AtLow = h.counts AtLow
+    counts (BehindOf f) = ap (λ (c : Option (List ℕ)). times k (unwrap_or c [])) (get-remove s.callers n f) ∙ by_caller f (f == n) refl
+
+pub removed_loose : (k n : ℕ) (s : Core) → Loose k s → Loose k (remove_thread n s)
+removed_loose k n s l = to_loose k (remove_thread n s) None (λ x. refl) (removed_stands None k n s (of_loose k s l))
+
+pub removed_gone : (n : ℕ) (s : Core) → Loose n s → HasPlace n (remove_thread n s)
+removed_gone n s l = loose_placed n None (remove_thread n s) (gone_place n s) (λ x. refl) (removed_loose n n s l)
+
+pub removed_placed : (k n : ℕ) (s : Core) → (k == n) ≡ false → HasPlace k s → HasPlace k (remove_thread n s)
+removed_placed k n s e h =
+    to_placed k (remove_thread n s) (place_of k s) (other_place k n s e) (removed_stands (place_of k s) k n s (of_placed k s h))
 
 -- ---- Moves beside a busy thread
 
 module _ (n : ℕ) (q : Place) (busy : is_busy q ≡ true) where
-  apart : (m : ℕ) (p : Place) (s : Core) → place_of m s ≡ Some p → is_parked p ≡ true → Stand n q [] s → times m (n ∷ []) ≡ 0
-  apart m p s is parked st = by_number m n (times m (n ∷ []) ≡ 0) (λ e. absurd (not_both p parked (subst (λ (r : Place). is_busy r ≡ true) (same_place q p (sym st.here ∙ (ap (λ (k : ℕ). place_of k s) (sym e) ∙ is))) busy))) (λ e. no_times e)
+  -- a parked thread may be taken up
+  taken_up : (m : ℕ) (p : Place) (s : Core) → place_of m s ≡ Some p → is_parked p ≡ true → Stand n q [] s → Stand n q (m ∷ []) s
+  taken_up m p s is parked st = loosened n q m p [] s is (parked_free p parked) (by_count m n (times m (n ∷ []) ≡ 0) (λ e x. absurd (both e)) (λ e x. omega arith)) st
     where
-      no_times : (m == n) ≡ false → times m (n ∷ []) ≡ 0
-      no_times e = ap (λ b. one_if b + 0) e
+      both : m ≡ n → ⊥
+      both e = not_both p parked (subst (λ (r : Place). is_busy r ≡ true) (same_place q p (sym st.here ∙ (ap (λ (k : ℕ). place_of k s) (sym e) ∙ is))) busy)
 
   pub put_high_good : (m : ℕ) (w : Why) (p : Place) (s : Core) → place_of m s ≡ Some p → is_parked p ≡ true → Stand n q [] s → Stand n q [] (put_high m w s)
-  put_high_good m w p s is parked st = put_high_stand n q m [] w s refl (loosened n q m p [] s is (parked_free p parked) (apart m p s is parked st) st)
+  put_high_good m w p s is parked st =
+      put_stand n q m [] (place.Ready mark.High w) s _ (λ r at. put_high_adds m w r s at) (taken_up m p s is parked st)
 
   pub put_low_good : (m : ℕ) (w : Why) (p : Place) (s : Core) → place_of m s ≡ Some p → is_parked p ≡ true → Stand n q [] s → Stand n q [] (put_low m w s)
-  put_low_good m w p s is parked st = put_low_stand n q m [] w s refl (loosened n q m p [] s is (parked_free p parked) (apart m p s is parked st) st)
+  put_low_good m w p s is parked st =
+      put_stand n q m [] (place.Ready mark.Low w) s _ (λ r at. put_low_adds m w r s at) (taken_up m p s is parked st)
 
   pub put_switch_good : (m : ℕ) (w : Why) (p : Place) (s : Core) → place_of m s ≡ Some p → is_parked p ≡ true → Stand n q [] s → Stand n q [] (put_switch m w s)
-  put_switch_good m w p s is parked st = put_switch_stand n q m [] w s refl (loosened n q m p [] s is (parked_free p parked) (apart m p s is parked st) st)
+  put_switch_good m w p s is parked st = put_switch_stand n q m [] w s refl (taken_up m p s is parked st)
 
   -- ---- A release
 
   held_is : (p : Place) (w : Why) → held_why p ≡ Some w → is_parked p ≡ true
-  held_is (place.Held v) w h = refl
-  held_is place.New w h = refl
-  held_is (place.Under c) w h = refl
-  held_is (place.Waiting x c) w h = refl
-  held_is (place.Blocked x) w h = refl
-  held_is place.Suspended w h = refl
-  held_is place.Running w h = absurd (no_both h)
-    where
-      no_both : None ≡ Some w → ⊥
-      no_both e = cc
-  held_is (place.Ready m v) w h = absurd (no_both h)
-    where
-      no_both : None ≡ Some w → ⊥
-      no_both e = cc
-  held_is (place.Behind f) w h = absurd (no_both h)
-    where
-      no_both : None ≡ Some w → ⊥
-      no_both e = cc
+  held_is p w h = grind arith
 
-  held_at : (o : Option Place) (w : Why) → option_and_then held_why o ≡ Some w → (p : Place) × (o ≡ Some p) × (is_parked p ≡ true)
-  held_at None w h = absurd (no_both h)
-    where
-      no_both : None ≡ Some w → ⊥
-      no_both e = cc
-  held_at (Some p) w h = (p, refl, held_is p w h)
-
-  released_one_good : (m : ℕ) (o : Option Why) (s : Core) → held_why_of m s ≡ o → Stand n q [] s → Stand n q [] (released_one m o s)
+  released_one_good : (m : ℕ) (o : Option Place) (s : Core) → place_of m s ≡ o → Stand n q [] s → Stand n q [] (released_one m (option_and_then held_why o) s)
   released_one_good m None s is st = st
-  released_one_good m (Some w) s is st = let p = held_at (place_of m s) w is in put_high_good m w p.0 s p.1 p.2 st
+  released_one_good m (Some p) s is st = by_why (held_why p) refl
+    where
+      by_why : (o : Option Why) → held_why p ≡ o → Stand n q [] (released_one m o s)
+      by_why None e = st
+      by_why (Some w) e = put_high_good m w p s is (held_is p w e) st
 
   pub released_good : (ns : List ℕ) (s : Core) → Stand n q [] s → Stand n q [] (released ns s)
   unfolding released
   released_good [] s st = st
-  released_good (m ∷ ns) s st = released_good ns (released_one m (held_why_of m s) s) (released_one_good m (held_why_of m s) s refl st)
+  released_good (m ∷ ns) s st = released_good ns (released_one m (held_why_of m s) s) (released_one_good m (place_of m s) s refl st)
 
-  -- ---- Publishing and waking
+  -- ---- A wake
 
   waiting_parked : (x : ℕ) (p : Place) → is_waiting_on x p ≡ true → is_parked p ≡ true
-  waiting_parked x (place.Waiting y c) h = refl
-  waiting_parked x place.New h = refl
-  waiting_parked x (place.Under c) h = refl
-  waiting_parked x (place.Held v) h = refl
-  waiting_parked x (place.Blocked y) h = refl
-  waiting_parked x place.Suspended h = refl
-  waiting_parked x place.Running h = h
-  waiting_parked x (place.Ready m v) h = h
-  waiting_parked x (place.Behind f) h = h
-
-  blocked_parked : (sub : Subtask) (p : Place) → is_blocked_on sub p ≡ true → is_parked p ≡ true
-  blocked_parked sub (place.Blocked y) h = refl
-  blocked_parked sub (place.Waiting y c) h = refl
-  blocked_parked sub place.New h = refl
-  blocked_parked sub (place.Under c) h = refl
-  blocked_parked sub (place.Held v) h = refl
-  blocked_parked sub place.Suspended h = refl
-  blocked_parked sub place.Running h = h
-  blocked_parked sub (place.Ready m v) h = h
-  blocked_parked sub (place.Behind f) h = h
-
-  waken_good : (b : Bool) (x m : ℕ) (p : Place) (s : Core) → place_of m s ≡ Some p → is_parked p ≡ true → Stand n q [] s → Stand n q [] (waken_by b x m s)
-  waken_good true x m p s is parked st = put_high_good m (why.Delivery (delivery.Set x)) p s is parked st
-  waken_good false x m p s is parked st = put_high_good m why.Resumption p s is parked st
+  waiting_parked x p h = grind arith
 
   pub wake_good : (x : ℕ) (w : Option ℕ) (s : Core) → may_wake x w s ≡ true → Stand n q [] s → Stand n q [] (wake x w s)
   unfolding wake may_wake
   wake_good x None s h st = st
-  wake_good x (Some m) s h st = let p = at_place (is_waiting_on x) (place_of m s) h in waken_good (is_callback_waiter m s) x m p.0 s p.1 (waiting_parked x p.0 p.2) st
-
-  -- the blocked thread, as far as there is one, is parked
-  blocked_at : (sub : Subtask) (s : Core) (m : ℕ) → blocked_on sub s ≡ Some m → (p : Place) × (place_of m s ≡ Some p) × (is_parked p ≡ true)
-  unfolding blocked_on
-  blocked_at sub s m h = let p = at_place (is_blocked_on sub) (place_of m s) (find_passes (λ k. is_at k s (is_blocked_on sub)) (numbers s.threads) m h) in (p.0, p.1, blocked_parked sub p.0 p.2)
+  wake_good x (Some m) s h st = let p = at_place (is_waiting_on x) (place_of m s) h in by_callback p.0 p.1 (waiting_parked x p.0 p.2) (is_callback_waiter m s)
+    where
+      by_callback : (p : Place) → place_of m s ≡ Some p → is_parked p ≡ true → (b : Bool) → Stand n q [] (waken_by b x m s)
+      by_callback p is parked true = put_high_good m (why.Delivery (delivery.Set x)) p s is parked st
+      by_callback p is parked false = put_high_good m why.Resumption p s is parked st
 
   -- ---- A thread more, and one less
 
@@ -216,15 +165,9 @@ module _ (n : ℕ) (q : Place) (busy : is_busy q ≡ true) where
 
   pub removed_all : (s : Core) → Stand n q [] s → (k : ℕ) → HasPlace k (remove_thread n s)
   removed_all s st k =
-      by_number k n (HasPlace k (remove_thread n s))
-      (λ e. subst (λ (j : ℕ). HasPlace j (remove_thread n s)) (sym e) (removed_gone n s (st.loose n (own_times (eq_refl n)))))
-      (λ e. removed_placed k n s e (st.placed k (no_times e)))
-    where
-      own_times : (n == n) ≡ true → times n (n ∷ []) ≡ 1
-      own_times e = ap (λ b. one_if b + 0) e
-
-      no_times : (k == n) ≡ false → times k (n ∷ []) ≡ 0
-      no_times e = ap (λ b. one_if b + 0) e
+      by_count k n (HasPlace k (remove_thread n s))
+      (λ e x. subst (λ (j : ℕ). Loose j s → HasPlace j (remove_thread n s)) (sym e) (removed_gone n s) (st.loose k (omega arith)))
+      (λ e x. removed_placed k n s e (st.placed k (omega arith)))
 
 -- ---- The moves, where all threads have their places
 
@@ -232,29 +175,19 @@ pub stand_of : (n : ℕ) (q : Place) (s : Core) → place_of n s ≡ Some q → 
 stand_of n q s is free all = record {
   here = is;
   once = λ k. at_most_one (k == n);
-  loose = λ k h. by_number k n (Loose k s) (λ e. subst (λ (j : ℕ). Loose j s) (sym e) (free_loose n q s is free (all n))) (λ e. absurd (zero_one e h));
-  there = λ k h. absurd (no_one h);
+  loose = λ k h. by_count k n (Loose k s) (λ e x. subst (λ (j : ℕ). Loose j s) (sym e) (free_loose n q s is free (all n))) (λ e x. absurd (omega arith));
+  there = λ k h. absurd (omega arith);
   placed = λ k h. all k;
 }
   where
     at_most_one : (b : Bool) → one_if b + 0 ≤ 1
-    at_most_one true = omega arith
-    at_most_one false = omega arith
-
-    zero_one : {b : Bool} → b ≡ false → one_if b + 0 ≡ 1 → ⊥
-    zero_one e h = let x = ap one_if e in omega (arith, x, h)
-
-    no_one : ◌≡◌ {A = ℕ} 0 1 → ⊥
-    no_one h = omega (arith, h)
+    at_most_one b = grind arith
 
 pub all_of : (n : ℕ) (q : Place) (s : Core) → is_free q ≡ true → Stand n q [] s → (k : ℕ) → HasPlace k s
-all_of n q s free st k = by_number k n (HasPlace k s) (λ e. subst (λ (j : ℕ). HasPlace j s) (sym e) (loose_free n q s st.here free (st.loose n (own_times (eq_refl n))))) (λ e. st.placed k (no_times e))
-  where
-    own_times : (n == n) ≡ true → times n (n ∷ []) ≡ 1
-    own_times e = ap (λ b. one_if b + 0) e
-
-    no_times : (k == n) ≡ false → times k (n ∷ []) ≡ 0
-    no_times e = ap (λ b. one_if b + 0) e
+all_of n q s free st k =
+    by_count k n (HasPlace k s)
+    (λ e x. subst (λ (j : ℕ). Loose j s → HasPlace j s) (sym e) (loose_placed n (Some q) s st.here (free_mute q free)) (st.loose k (omega arith)))
+    (λ e x. st.placed k (omega arith))
 
 pub stop_keeps_places : StopKeepsPlaces
 stop_keeps_places n f p s free is all =

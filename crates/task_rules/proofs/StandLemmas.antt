@@ -1,5 +1,6 @@
 -- Threads and their entries, counted; what the words that put a thread do to them.
-use Rattle.std.proofs.Common.{◌∙◌, T, ap, ap₂, arith, cond, eqb→eq, refl, subst, sym}
+use Rattle.std.proofs.Common.{◌∙◌, ap, ap₂, arith, cond, le_trans, refl, subst, sym, ◌⊎◌}
+use Rattle.std.proofs.lemmas.Bool.{eq-eqb, eqb-false, eqb-true}
 use Rattle.std.specs.Prelude.{Bool, List, None, Option, Some, [], false, if◌then◌else◌, is_some, option_map, true, ℕ, ◌++◌, ◌+◌, ◌==◌, ◌||◌, ◌∷◌, ◌≡◌, ◌≢◌, ◌≤◌}
 use Rattle.task_machine.specs.declared.records.Entry.{Entry}
 use Rattle.task_machine.specs.declared.records.Place.{Place}
@@ -9,9 +10,8 @@ use Rattle.task_machine.specs.declared.records.Entry.TheVariants as entry
 use Rattle.task_machine.specs.declared.words.Mark.TheVariants as mark
 use Rattle.task_machine.specs.declared.records.Place.TheVariants as place
 use Rattle.task_machine.proofs.CommuteLemmas.{get-change}
-use Rattle.task_machine.proofs.MapLemmas.{get-change_other, get-change_same}
-use Rattle.task_machine.specs.Core.{Core}
-use Rattle.task_machine.specs.Maps.{get}
+use Rattle.task_machine.specs.Core.{Core, Queues}
+use Rattle.task_machine.specs.Maps.{Records, get}
 use Rattle.task_machine.specs.Moves.{has_entry, less, newest, older, put_high, put_low}
 use Rattle.task_machine.specs.Read.{callers_of, is_entry_of, place_of}
 use Rattle.task_machine.specs.Write.{on_thread, push_high, push_low, set_place}
@@ -21,13 +21,13 @@ use Rattle.task_rules.specs.Places.{HasPlace, entries, is_at_high, is_at_low, is
 -- ---- Numbers and lists
 
 pub eq_refl : (n : ℕ) → (n == n) ≡ true
-eq_refl n = grind arith
+eq_refl n = eq-eqb n n refl
 
 pub not_eq : (n m : ℕ) → (n == m) ≡ false → n ≢ m
-not_eq n m e is = absurd (subst T (sym (eq_refl n) ∙ subst (λ (k : ℕ). (n == k) ≡ false) (sym is) e) tt)
+not_eq n m e = eqb-false n m e
 
 pub is_eq_of : (n m : ℕ) → (n == m) ≡ true → n ≡ m
-is_eq_of n m e = eqb→eq n m (subst T (sym e) tt)
+is_eq_of n m e = eqb-true n m e
 
 -- what holds where the numbers are one, and where they are two
 pub by_number : (n m : ℕ) (P : Type 0) → (n ≡ m → P) → ((n == m) ≡ false → P) → P
@@ -37,50 +37,41 @@ by_number n m P same other = go (n == m) refl
     go true e = same (is_eq_of n m e)
     go false e = other e
 
+-- likewise, with what each says of a count
+pub by_count : (n m : ℕ) (P : Type 0) → (n ≡ m → one_if (n == m) ≡ 1 → P) → ((n == m) ≡ false → one_if (n == m) ≡ 0 → P) → P
+by_count n m P same other = by_number n m P (λ e. same e (ap (λ k. one_if (n == k)) (sym e) ∙ ap one_if (eq_refl n))) (λ e. other e (ap one_if e))
+
+pub once_or_not : (n : ℕ) → n ≤ 1 → (n ≡ 0) ⊎ (n ≡ 1)
+once_or_not n h = grind arith
+
 pub entries-append : (n : ℕ) (es : List Entry) (e : Entry) → entries n (es ++ e ∷ []) ≡ entries n es + one_if (is_entry_of n e)
 entries-append n [] e = omega arith
-entries-append n (d ∷ es) e = let ih = entries-append n es e in omega (arith, ih)
+entries-append n (d ∷ es) e = omega (arith, entries-append n es e)
 
 pub times-append : (n : ℕ) (ms : List ℕ) (m : ℕ) → times n (ms ++ m ∷ []) ≡ times n ms + one_if (n == m)
 times-append n [] m = omega arith
-times-append n (k ∷ ms) m = let ih = times-append n ms m in omega (arith, ih)
+times-append n (k ∷ ms) m = omega (arith, times-append n ms m)
 
 pub times-newest : (k n : ℕ) (ns : List ℕ) → times k (n ∷ ns) ≡ times k (older n ns) + one_if (k == newest n ns)
 times-newest k n [] = omega arith
-times-newest k n (m ∷ ns) = let ih = times-newest k m ns in omega (arith, ih)
+times-newest k n (m ∷ ns) = omega (arith, times-newest k m ns)
 
 -- the entries without the first one of n
 pub entries-less : (k n : ℕ) (es : List Entry) → has_entry n es ≡ true → entries k (less n es) + one_if (k == n) ≡ entries k es
-entries-less k n [] h = absurd (subst T (sym h) tt)
+entries-less k n [] h = absurd (grind arith)
 entries-less k n (e ∷ es) h = go (is_entry_of n e) refl (entries-less k n es) h
   where
     same_entry : (d : Entry) → is_entry_of n d ≡ true → is_entry_of k d ≡ (k == n)
     same_entry (entry.Thread m) i = ap (λ j. k == j) (sym (is_eq_of n m i))
-    same_entry (entry.Push j) i = absurd (subst T (sym i) tt)
-    same_entry (entry.Host j) i = absurd (subst T (sym i) tt)
+    same_entry (entry.Push j) i = grind arith
+    same_entry (entry.Host j) i = grind arith
 
-    go : (b : Bool) → is_entry_of n e ≡ b → (has_entry n es ≡ true → entries k (less n es) + one_if (k == n) ≡ entries k es) → (b || has_entry n es) ≡ true → entries k (cond b es (e ∷ less n es)) + one_if (k == n) ≡ one_if (is_entry_of k e) + entries k es
-    go true i rest g = let q = ap one_if (same_entry e i) in omega (arith, q)
-    go false i rest g = let ih = rest g in omega (arith, ih)
+    go : (b : Bool) → is_entry_of n e ≡ b → (has_entry n es ≡ true → entries k (less n es) + one_if (k == n) ≡ entries k es) →
+        (b || has_entry n es) ≡ true → entries k (cond b es (e ∷ less n es)) + one_if (k == n) ≡ one_if (is_entry_of k e) + entries k es
+    go true i rest g = omega (arith, ap one_if (same_entry e i))
+    go false i rest g = omega (arith, rest g)
 
 -- ---- Places after a write
-
-map_some : {X Y : Type 0} (g : X → Y) (o : Option X) (y : Y) → option_map g o ≡ Some y → (x : X) × (o ≡ Some x)
-map_some g None y h = absurd (no_both h)
-  where
-    no_both : None ≡ Some y → ⊥
-    no_both e = cc
-map_some g (Some x) y h = (x, refl)
-
-pub place_written : (m : ℕ) (p q : Place) (s : Core) → place_of m s ≡ Some q → place_of m (set_place m p s) ≡ Some p
-unfolding set_place on_thread
-place_written m p q s h =
-    let x = map_some (λ (t : Thread). t.place) (get s.threads m) q h in
-    ap (option_map (λ (t : Thread). t.place)) (get-change_same s.threads m (λ t. record t { place = p }) ∙ ap (option_map (λ (t : Thread). record t { place = p })) x.1)
-
-pub place_kept : (k m : ℕ) (p : Place) (s : Core) → (k == m) ≡ false → place_of k (set_place m p s) ≡ place_of k s
-unfolding set_place on_thread
-place_kept k m p s h = ap (option_map (λ (t : Thread). t.place)) (get-change_other s.threads m (λ t. record t { place = p }) k (not_eq k m h))
 
 pub set_place_is : (k m : ℕ) (p : Place) (s : Core) → place_of k (set_place m p s) ≡ cond (k == m) (option_map (λ (q : Place). p) (place_of k s)) (place_of k s)
 unfolding set_place on_thread
@@ -91,6 +82,12 @@ set_place_is k m p s = ap (option_map (λ (t : Thread). t.place)) (get-change m 
     go true (Some t) = refl
     go false o = refl
 
+pub place_written : (m : ℕ) (p q : Place) (s : Core) → place_of m s ≡ Some q → place_of m (set_place m p s) ≡ Some p
+place_written m p q s h = set_place_is m m p s ∙ ap₂ (λ (b : Bool) (o : Option Place). cond b (option_map (λ (r : Place). p) o) o) (eq_refl m) h
+
+pub place_kept : (k m : ℕ) (p : Place) (s : Core) → (k == m) ≡ false → place_of k (set_place m p s) ≡ place_of k s
+place_kept k m p s h = set_place_is k m p s ∙ ap (λ b. cond b (option_map (λ (r : Place). p) (place_of k s)) (place_of k s)) h
+
 pub set_place_there : (k m : ℕ) (p : Place) (s : Core) → is_there k (set_place m p s) ≡ is_there k s
 set_place_there k m p s = ap (λ (o : Option Place). is_some o) (set_place_is k m p s) ∙ go (k == m) (place_of k s)
   where
@@ -98,6 +95,54 @@ set_place_there k m p s = ap (λ (o : Option Place). is_some o) (set_place_is k 
     go true None = refl
     go true (Some q) = refl
     go false o = refl
+
+-- ---- Where a thread stands
+
+-- Where an entry of a thread may stand, and where it may be itself, behind another.
+pub data Spot : Type 0 where
+  AtSwitch : Spot
+  AtHigh : Spot
+  AtLow : Spot
+  BehindOf : (foot : ℕ) → Spot
+
+-- how often it is there
+abbrev pub count : ℕ → Core → Spot → ℕ
+count k s AtSwitch = switch_entries k s.queues.switch
+count k s AtHigh = entries k s.queues.high
+count k s AtLow = entries k s.queues.low
+count k s (BehindOf f) = times k (callers_of f s)
+
+-- the place says that it is there
+abbrev pub said : Spot → Place → Bool
+said AtSwitch p = is_at_switch p
+said AtHigh p = is_at_high p
+said AtLow p = is_at_low p
+said (BehindOf f) p = is_behind_of f p
+
+-- one that is gone has no callers
+abbrev pub is_open : Core → Spot → Bool
+is_open s (BehindOf f) = is_there f s
+is_open s _ = true
+
+-- The thread stands just where the place says.
+pub record StandsAs (o : Option Place) (k : ℕ) (s : Core) : Type 0 where
+  pub number : is_there k s ≡ true → k ≤ s.made.threads
+  pub behind : (f : ℕ) → says (is_behind_of f) o ≡ 1 → f ≤ s.made.threads
+  pub counts : (x : Spot) → count k s x ≡ (if is_open s x then says (said x) o else 0)
+
+pub of_placed : (k : ℕ) (s : Core) → HasPlace k s → StandsAs (place_of k s) k s
+of_placed k s h = record { number = h.number; behind = h.behind; counts = counts }
+  where
+    counts : (x : Spot) → count k s x ≡ (if is_open s x then says (said x) (place_of k s) else 0)
+    counts AtSwitch = h.switch
+    counts AtHigh = h.high
+    counts AtLow = h.low
+    counts (BehindOf f) = h.callers f
+
+pub to_placed : (k : ℕ) (s : Core) (o : Option Place) → place_of k s ≡ o → StandsAs o k s → HasPlace k s
+to_placed k s o is h =
+    let g = subst (λ (p : Option Place). StandsAs p k s) (sym is) h in
+    record { number = g.number; behind = g.behind; switch = g.counts AtSwitch; high = g.counts AtHigh; low = g.counts AtLow; callers = λ f. g.counts (BehindOf f) }
 
 -- ---- Threads that have no entry and are among no callers
 
@@ -108,65 +153,88 @@ pub record Loose (n : ℕ) (s : Core) : Type 0 where
   pub low : entries n s.queues.low ≡ 0
   pub callers : (f : ℕ) → times n (callers_of f s) ≡ 0
 
-free_says : (p : Place) → is_free p ≡ true → (one_if (is_at_switch p) ≡ 0) × (one_if (is_at_high p) ≡ 0) × (one_if (is_at_low p) ≡ 0) × ((f : ℕ) → one_if (is_behind_of f p) ≡ 0)
-free_says (place.Ready m w) h = absurd (subst T (sym h) tt)
-free_says (place.Behind f) h = absurd (subst T (sym h) tt)
-free_says _ h = (refl, refl, refl, λ f. refl)
-
 -- what is said of the callers of a thread that may be gone
 pub none_there : (b : Bool) (x : ℕ) → x ≡ 0 → (if b then x else 0) ≡ 0
 none_there true x h = h
 none_there false x h = refl
 
 pub zero_one : {A : Type 0} {x : ℕ} → x ≡ 0 → x ≡ 1 → A
-zero_one {A = A} h g = absurd (no_one h g)
+zero_one {A = A} h g = absurd (omega (arith, h, g))
+
+pub of_loose : (k : ℕ) (s : Core) → Loose k s → StandsAs None k s
+of_loose k s l = record { number = l.number; behind = λ f e. zero_one refl e; counts = λ x. counts x ∙ sym (none_there (is_open s x) 0 refl) }
   where
-    no_one : {x : ℕ} → x ≡ 0 → x ≡ 1 → ⊥
-    no_one y z = omega (arith, y, z)
+    counts : (x : Spot) → count k s x ≡ 0
+    counts AtSwitch = l.switch
+    counts AtHigh = l.high
+    counts AtLow = l.low
+    counts (BehindOf f) = l.callers f
+
+-- the place, if there is one, says nothing
+abbrev pub Mute : Option Place → Type 0
+Mute o = (x : Spot) → says (said x) o ≡ 0
+
+pub to_loose : (k : ℕ) (s : Core) (o : Option Place) → Mute o → StandsAs o k s → Loose k s
+to_loose k s o mute h = record { number = h.number; switch = none AtSwitch; high = none AtHigh; low = none AtLow; callers = λ f. none (BehindOf f) }
+  where
+    none : (x : Spot) → count k s x ≡ 0
+    none x = h.counts x ∙ none_there (is_open s x) _ (mute x)
+
+pub free_mute : (p : Place) → is_free p ≡ true → Mute (Some p)
+free_mute (place.Ready m w) h x = grind arith
+free_mute (place.Behind f) h x = grind arith
+free_mute _ h AtSwitch = refl
+free_mute _ h AtHigh = refl
+free_mute _ h AtLow = refl
+free_mute _ h (BehindOf f) = refl
 
 -- a thread whose place says nothing is loose
 pub free_loose : (n : ℕ) (p : Place) (s : Core) → place_of n s ≡ Some p → is_free p ≡ true → HasPlace n s → Loose n s
-free_loose n p s is free h =
-    let f = free_says p free in
-    record {
-      number = h.number;
-      switch = h.switch ∙ (ap (says is_at_switch) is ∙ f.0);
-      high = h.high ∙ (ap (says is_at_high) is ∙ f.1);
-      low = h.low ∙ (ap (says is_at_low) is ∙ f.2);
-      callers = λ g. h.callers g ∙ none_there (is_there g s) _ (ap (says (is_behind_of g)) is ∙ f.3 g);
-    }
+free_loose n p s is free h = to_loose n s (Some p) (free_mute p free) (subst (λ (o : Option Place). StandsAs o n s) is (of_placed n s h))
 
 -- a loose thread has its place, if that says nothing
-pub loose_free : (n : ℕ) (p : Place) (s : Core) → place_of n s ≡ Some p → is_free p ≡ true → Loose n s → HasPlace n s
-loose_free n p s is free h =
-    let f = free_says p free in
-    record {
+pub loose_placed : (n : ℕ) (o : Option Place) (s : Core) → place_of n s ≡ o → Mute o → Loose n s → HasPlace n s
+loose_placed n o s is mute l =
+    let h = of_loose n s l in
+    to_placed n s o is (record {
       number = h.number;
-      behind = λ g e. zero_one (ap (says (is_behind_of g)) is ∙ f.3 g) e;
-      switch = h.switch ∙ sym (ap (says is_at_switch) is ∙ f.0);
-      high = h.high ∙ sym (ap (says is_at_high) is ∙ f.1);
-      low = h.low ∙ sym (ap (says is_at_low) is ∙ f.2);
-      callers = λ g. h.callers g ∙ sym (none_there (is_there g s) _ (ap (says (is_behind_of g)) is ∙ f.3 g));
-    }
-
--- a loose thread that is gone has its place
-pub loose_gone : (n : ℕ) (s : Core) → place_of n s ≡ None → Loose n s → HasPlace n s
-loose_gone n s is h = record {
-  number = h.number;
-  behind = λ g e. zero_one (ap (says (is_behind_of g)) is) e;
-  switch = h.switch ∙ sym (ap (says is_at_switch) is);
-  high = h.high ∙ sym (ap (says is_at_high) is);
-  low = h.low ∙ sym (ap (says is_at_low) is);
-  callers = λ g. h.callers g ∙ sym (none_there (is_there g s) _ (ap (says (is_behind_of g)) is));
-}
+      behind = λ f e. zero_one (mute (BehindOf f)) e;
+      counts = λ x. h.counts x ∙ ap (λ c. if is_open s x then c else 0) (sym (mute x));
+    })
 
 -- who is among the callers of f is behind f
 pub callers_say : (n f : ℕ) (s : Core) → HasPlace n s → times n (callers_of f s) ≤ says (is_behind_of f) (place_of n s)
 callers_say n f s h = only (is_there f s) (h.callers f)
   where
-    only : (b : Bool) → times n (callers_of f s) ≡ (if b then says (is_behind_of f) (place_of n s) else 0) → times n (callers_of f s) ≤ says (is_behind_of f) (place_of n s)
+    only : (b : Bool) → times n (callers_of f s) ≡ (if b then says (is_behind_of f) (place_of n s) else 0) →
+        times n (callers_of f s) ≤ says (is_behind_of f) (place_of n s)
     only true e = omega (arith, e)
     only false e = omega (arith, e)
+
+-- ---- Who stays
+
+-- From s to t the thread k stands where it stood, and the same threads are there.
+pub record Left (k : ℕ) (s t : Core) : Type 0 where
+  pub made : s.made.threads ≤ t.made.threads
+  pub there : (f : ℕ) → is_there f t ≡ is_there f s
+  pub counts : (x : Spot) → count k t x ≡ count k s x
+
+open_still : (s t : Core) → ((f : ℕ) → is_there f t ≡ is_there f s) → (x : Spot) → is_open t x ≡ is_open s x
+open_still s t there (BehindOf f) = there f
+open_still s t there _ = refl
+
+pub left_stands : (k : ℕ) (s t : Core) (o : Option Place) → Left k s t → StandsAs o k s → StandsAs o k t
+left_stands k s t o q h = record {
+  number = λ e. le_trans (h.number (sym (q.there k) ∙ e)) q.made;
+  behind = λ f e. le_trans (h.behind f e) q.made;
+  counts = λ x. q.counts x ∙ (h.counts x ∙ ap (λ b. if b then says (said x) o else 0) (sym (open_still s t q.there x)));
+}
+
+pub left_placed : (k : ℕ) (s t : Core) → Left k s t → place_of k t ≡ place_of k s → HasPlace k s → HasPlace k t
+left_placed k s t q is h = to_placed k t (place_of k s) is (left_stands k s t (place_of k s) q (of_placed k s h))
+
+pub left_loose : (k : ℕ) (s t : Core) → Left k s t → Loose k s → Loose k t
+left_loose k s t q l = to_loose k t None (λ x. refl) (left_stands k s t None q (of_loose k s l))
 
 -- ---- A state in which n and some others are loose, and all the rest have their places
 
@@ -197,209 +265,185 @@ pub record Adds (m : ℕ) (p : Place) (s t : Core) : Type 0 where
   pub low : (k : ℕ) → entries k t.queues.low ≡ entries k s.queues.low + gain k m (one_if (is_at_low p))
   pub callers : (k f : ℕ) → times k (callers_of f t) ≡ times k (callers_of f s) + gain k m (one_if (is_behind_of f p))
 
-gain_own : (m x : ℕ) → gain m m x ≡ x
-gain_own m x = ap (λ b. cond b x 0) (eq_refl m)
+module _ (m : ℕ) (p : Place) (s t : Core) (a : Adds m p s t) where
+  gained : (k : ℕ) (x : Spot) → count k t x ≡ count k s x + gain k m (one_if (said x p))
+  gained k AtSwitch = a.switch k
+  gained k AtHigh = a.high k
+  gained k AtLow = a.low k
+  gained k (BehindOf f) = a.callers k f
 
-gain_other : (k m x : ℕ) → (k == m) ≡ false → gain k m x ≡ 0
-gain_other k m x e = ap (λ b. cond b x 0) e
+  -- the same threads are there
+  adds_there : (k : ℕ) → is_there k t ≡ is_there k s
+  adds_there k =
+      by_number k m (is_there k t ≡ is_there k s)
+      (λ e. subst (λ (j : ℕ). is_there j t ≡ is_there j s) (sym e) (ap (λ (o : Option Place). is_some o) a.own ∙ sym a.was))
+      (λ e. ap (λ (o : Option Place). is_some o) (a.other k e))
 
-from_none : (a b c x : ℕ) → a ≡ b + c → b ≡ 0 → c ≡ x → a ≡ x
-from_none a b c x e f g = omega (arith, e, f, g)
+  pub adds_given : (f : ℕ) → Given f s → Given f t
+  adds_given f g = (adds_there f ∙ g.0, subst (λ (c : ℕ). f ≤ c) a.made g.1)
 
-no_more : (a b c x : ℕ) → a ≡ b + c → b ≡ x → c ≡ 0 → a ≡ x
-no_more a b c x e f g = omega (arith, e, f, g)
+  -- the others stay
+  adds_left : (k : ℕ) → (k == m) ≡ false → Left k s t
+  adds_left k e = record { made = omega (arith, a.made); there = adds_there; counts = λ x. gained k x ∙ none (gain k m (one_if (said x p))) (ap (λ b. cond b (one_if (said x p)) 0) e) }
+    where
+      none : {c : ℕ} (d : ℕ) → d ≡ 0 → c + d ≡ c
+      none d h = omega (arith, h)
 
--- the same threads are there
-pub adds_there : (m : ℕ) (p : Place) (s t : Core) → Adds m p s t → (k : ℕ) → is_there k t ≡ is_there k s
-adds_there m p s t a k =
-    by_number k m (is_there k t ≡ is_there k s)
-    (λ e. ap (λ (j : ℕ). is_there j t) e ∙ (ap (λ (o : Option Place). is_some o) a.own ∙ (sym a.was ∙ ap (λ (j : ℕ). is_there j s) (sym e))))
-    (λ e. ap (λ (o : Option Place). is_some o) (a.other k e))
+  -- the moved thread has its place
+  adds_own : Loose m s → HasPlace m t
+  adds_own l = to_placed m t (Some p) a.own (record {
+    number = λ h. subst (λ (c : ℕ). m ≤ c) a.made (l.number a.was);
+    behind = λ f h. (adds_given f (a.behind f (is_one (is_behind_of f p) h))).1;
+    counts = λ x. gained m x ∙ (sums (count m s x) _ _ (none_loose x) (ap (λ b. cond b (one_if (said x p)) 0) (eq_refl m)) ∙ only_there (said x p) (is_open t x) (opens x));
+  })
+    where
+      is_one : (b : Bool) → one_if b ≡ 1 → b ≡ true
+      is_one b h = grind arith
 
-pub adds_given : (m : ℕ) (p : Place) (s t : Core) → Adds m p s t → (f : ℕ) → Given f s → Given f t
-adds_given m p s t a f g = (adds_there m p s t a f ∙ g.0, subst (λ (c : ℕ). f ≤ c) a.made g.1)
+      none_loose : (x : Spot) → count m s x ≡ 0
+      none_loose x = (of_loose m s l).counts x ∙ none_there (is_open s x) 0 refl
 
-only_there : (b c : Bool) → (b ≡ true → c ≡ true) → one_if b ≡ (if c then one_if b else 0)
-only_there b true h = refl
-only_there false false h = refl
-only_there true false h = absurd (subst T (sym (h refl)) tt)
+      sums : (c d e : ℕ) → c ≡ 0 → d ≡ e → c + d ≡ e
+      sums c d e f g = omega (arith, f, g)
 
-is_one : (b : Bool) → one_if b ≡ 1 → b ≡ true
-is_one true h = refl
-is_one false h = zero_one refl h
+      opens : (x : Spot) → said x p ≡ true → is_open t x ≡ true
+      opens (BehindOf f) h = (adds_given f (a.behind f h)).0
+      opens _ h = refl
 
--- the moved thread has its place
-pub adds_own : (m : ℕ) (p : Place) (s t : Core) → Adds m p s t → Loose m s → HasPlace m t
-adds_own m p s t a l = record {
-  number = λ h. subst (λ (c : ℕ). m ≤ c) a.made (l.number a.was);
-  behind = λ f h. (adds_given m p s t a f (a.behind f (is_one (is_behind_of f p) (sym (ap (says (is_behind_of f)) a.own) ∙ h)))).1;
-  switch = from_none _ _ _ _ (a.switch m) l.switch (gain_own m _) ∙ sym (ap (says is_at_switch) a.own);
-  high = from_none _ _ _ _ (a.high m) l.high (gain_own m _) ∙ sym (ap (says is_at_high) a.own);
-  low = from_none _ _ _ _ (a.low m) l.low (gain_own m _) ∙ sym (ap (says is_at_low) a.own);
-  callers =
-      λ f. from_none _ _ _ _ (a.callers m f) (l.callers f) (gain_own m _)
-      ∙ (only_there (is_behind_of f p) (is_there f t) (λ h. adds_there m p s t a f ∙ (a.behind f h).0) ∙ ap (λ (o : Option Place). if is_there f t then says (is_behind_of f) o else 0) (sym a.own));
-}
+      only_there : (b c : Bool) → (b ≡ true → c ≡ true) → one_if b ≡ (if c then one_if b else 0)
+      only_there b true h = refl
+      only_there false false h = refl
+      only_there true false h = absurd (grind (arith, h refl))
 
--- the others keep what they had
-pub adds_other : (k m : ℕ) (p : Place) (s t : Core) → (k == m) ≡ false → Adds m p s t → HasPlace k s → HasPlace k t
-adds_other k m p s t ne a h = record {
-  number = λ e. subst (λ (c : ℕ). k ≤ c) a.made (h.number (sym (adds_there m p s t a k) ∙ e));
-  behind = λ f e. subst (λ (c : ℕ). f ≤ c) a.made (h.behind f (sym (ap (says (is_behind_of f)) (a.other k ne)) ∙ e));
-  switch = no_more _ _ _ _ (a.switch k) h.switch (gain_other k m _ ne) ∙ sym (ap (says is_at_switch) (a.other k ne));
-  high = no_more _ _ _ _ (a.high k) h.high (gain_other k m _ ne) ∙ sym (ap (says is_at_high) (a.other k ne));
-  low = no_more _ _ _ _ (a.low k) h.low (gain_other k m _ ne) ∙ sym (ap (says is_at_low) (a.other k ne));
-  callers =
-      λ f. no_more _ _ _ _ (a.callers k f) (h.callers f) (gain_other k m _ ne)
-      ∙ ap₂ (λ (b : Bool) (o : Option Place). if b then says (is_behind_of f) o else 0) (sym (adds_there m p s t a f)) (sym (a.other k ne));
-}
+  adds_other : (k : ℕ) → (k == m) ≡ false → HasPlace k s → HasPlace k t
+  adds_other k e h = left_placed k s t (adds_left k e) (a.other k e) h
 
-pub adds_loose : (k m : ℕ) (p : Place) (s t : Core) → (k == m) ≡ false → Adds m p s t → Loose k s → Loose k t
-adds_loose k m p s t ne a l = record {
-  number = λ e. subst (λ (c : ℕ). k ≤ c) a.made (l.number (sym (adds_there m p s t a k) ∙ e));
-  switch = no_more _ _ _ _ (a.switch k) l.switch (gain_other k m _ ne);
-  high = no_more _ _ _ _ (a.high k) l.high (gain_other k m _ ne);
-  low = no_more _ _ _ _ (a.low k) l.low (gain_other k m _ ne);
-  callers = λ f. no_more _ _ _ _ (a.callers k f) (l.callers f) (gain_other k m _ ne);
-}
-
--- a loose thread is put at a place
-pub adds_stand : (n : ℕ) (q : Place) (m : ℕ) (xs : List ℕ) (p : Place) (s t : Core) → Adds m p s t → Stand n q (m ∷ xs) s → Stand n q xs t
-adds_stand n q m xs p s t a st = record {
-  here = a.other n n_other ∙ st.here;
-  once = λ k. fewer k (st.once k);
-  loose = λ k h. by_number k m (Loose k t) (λ e. absurd (not_loose k e h (st.once k))) (λ e. adds_loose k m p s t e a (st.loose k (same_times k e 1 h)));
-  there = λ k h. by_number k m ((r : Place) × (place_of k t ≡ Some r)) (λ e. absurd (not_there k e h (st.once k))) (λ e. there_still k e (st.there k (same_rest k e 1 h)));
-  placed = λ k h. by_number k m (HasPlace k t) (λ e. subst (λ (j : ℕ). HasPlace j t) (sym e) (adds_own m p s t a (st.loose m (own_times k e h (st.once m))))) (λ e. adds_other k m p s t e a (st.placed k (same_times k e 0 h)));
-}
-  where
-    one_of : (k : ℕ) → k ≡ m → one_if (k == m) ≡ 1
-    one_of k e = ap one_if (ap (λ (j : ℕ). j == m) e ∙ eq_refl m)
-
-    none_of : (k : ℕ) → (k == m) ≡ false → one_if (k == m) ≡ 0
-    none_of k e = ap one_if e
-
-    n_other : (n == m) ≡ false
-    n_other = by_number n m ((n == m) ≡ false) (λ e. absurd (both (one_of n e) (ap one_if (eq_refl n)) (st.once n))) (λ e. e)
-      where
-        both : one_if (n == m) ≡ 1 → one_if (n == n) ≡ 1 → times n (n ∷ m ∷ xs) ≤ 1 → ⊥
-        both x y z = omega (arith, x, y, z)
-
-    fewer : (k : ℕ) → times k (n ∷ m ∷ xs) ≤ 1 → times k (n ∷ xs) ≤ 1
-    fewer k h = omega (arith, h)
-
-    not_loose : (k : ℕ) → k ≡ m → times k (n ∷ xs) ≡ 1 → times k (n ∷ m ∷ xs) ≤ 1 → ⊥
-    not_loose k e h g = let x = one_of k e in omega (arith, x, h, g)
-
-    not_there : (k : ℕ) → k ≡ m → times k xs ≡ 1 → times k (n ∷ m ∷ xs) ≤ 1 → ⊥
-    not_there k e h g = let x = one_of k e in omega (arith, x, h, g)
-
-    same_times : (k : ℕ) → (k == m) ≡ false → (c : ℕ) → times k (n ∷ xs) ≡ c → times k (n ∷ m ∷ xs) ≡ c
-    same_times k e c h = let x = none_of k e in omega (arith, x, h)
-
-    same_rest : (k : ℕ) → (k == m) ≡ false → (c : ℕ) → times k xs ≡ c → times k (m ∷ xs) ≡ c
-    same_rest k e c h = let x = none_of k e in omega (arith, x, h)
-
-    there_still : (k : ℕ) → (k == m) ≡ false → (r : Place) × (place_of k s ≡ Some r) → (r : Place) × (place_of k t ≡ Some r)
-    there_still k e r = (r.0, (a.other k e ∙ r.1))
-
-    own_times : (k : ℕ) → k ≡ m → times k (n ∷ xs) ≡ 0 → times m (n ∷ m ∷ xs) ≤ 1 → times m (n ∷ m ∷ xs) ≡ 1
-    own_times k e h g = let x = one_of m refl in let y = ap (λ (j : ℕ). times j (n ∷ xs)) (sym e) ∙ h in omega (arith, x, y, g)
+  -- a loose thread is put at a place
+  pub adds_stand : (n : ℕ) (q : Place) (xs : List ℕ) → Stand n q (m ∷ xs) s → Stand n q xs t
+  adds_stand n q xs st = record {
+    here = a.other n (by_count n m ((n == m) ≡ false) (λ e x. absurd (omega (arith, st.once n, own n))) (λ e x. e)) ∙ st.here;
+    once = λ k. omega (arith, st.once k);
+    loose = λ k h. by_count k m (Loose k t) (λ e x. absurd (omega (arith, st.once k))) (λ e x. left_loose k s t (adds_left k e) (st.loose k (omega arith)));
+    there = λ k h. by_count k m ((r : Place) × (place_of k t ≡ Some r)) (λ e x. absurd (omega (arith, st.once k))) (λ e x. let r = st.there k (omega arith) in (r.0, a.other k e ∙ r.1));
+    placed = λ k h. by_count k m (HasPlace k t)
+        (λ e x. subst (λ (j : ℕ). Loose j s → HasPlace j t) (sym e) adds_own (st.loose k (omega (arith, st.once k))))
+        (λ e x. adds_other k e (st.placed k (omega arith)));
+  }
+    where
+      own : (k : ℕ) → one_if (k == k) ≡ 1
+      own k = ap one_if (eq_refl k)
 
 -- the thread n itself is put at a place, and each thread has its place
 pub adds_all : (n : ℕ) (q p : Place) (s t : Core) → Adds n p s t → Stand n q [] s → (k : ℕ) → HasPlace k t
 adds_all n q p s t a st k =
-    by_number k n (HasPlace k t)
-    (λ e. subst (λ (j : ℕ). HasPlace j t) (sym e) (adds_own n p s t a (st.loose n (own_times (eq_refl n)))))
-    (λ e. adds_other k n p s t e a (st.placed k (no_times e)))
-  where
-    own_times : (n == n) ≡ true → times n (n ∷ []) ≡ 1
-    own_times e = ap (λ b. one_if b + 0) e
+    by_count k n (HasPlace k t) (λ e x. subst (λ (j : ℕ). Loose j s → HasPlace j t) (sym e) (adds_own n p s t a) (st.loose k (omega arith)))
+    (λ e x. adds_other n p s t a k e (st.placed k (omega arith)))
 
-    no_times : (k == n) ≡ false → times k (n ∷ []) ≡ 0
-    no_times e = ap (λ b. one_if b + 0) e
+-- From s to t the thread m isn't any more where the place p says, and all else stays.
+pub record Drops (m : ℕ) (p : Place) (s t : Core) : Type 0 where
+  pub made : s.made.threads ≡ t.made.threads
+  pub places : (k : ℕ) → place_of k t ≡ place_of k s
+  pub counts : (k : ℕ) (x : Spot) → count k s x ≡ count k t x + gain k m (one_if (said x p))
 
--- a thread with a free place may be taken up
-pub loosened : (n : ℕ) (q : Place) (m : ℕ) (r : Place) (xs : List ℕ) (s : Core) → place_of m s ≡ Some r → is_free r ≡ true → times m (n ∷ xs) ≡ 0 → Stand n q xs s → Stand n q (m ∷ xs) s
-loosened n q m r xs s is free none st = record {
-  here = st.here;
-  once = λ k. by_number k m (times k (n ∷ m ∷ xs) ≤ 1) (λ e. one_more k e none) (λ e. no_other k e (st.once k));
-  loose = λ k h. by_number k m (Loose k s) (λ e. subst (λ (j : ℕ). Loose j s) (sym e) (free_loose m r s is free (st.placed m none))) (λ e. st.loose k (less_one k e 1 h));
-  there = λ k h. by_number k m ((p : Place) × (place_of k s ≡ Some p)) (λ e. (r, (ap (λ (j : ℕ). place_of j s) e ∙ is))) (λ e. st.there k (less_rest k e h));
-  placed = λ k h. st.placed k (none_left k h);
+-- a thread may be taken up from its place
+pub drops_stand : (n : ℕ) (q : Place) (m : ℕ) (p : Place) (xs : List ℕ) (s t : Core) → Drops m p s t → place_of m s ≡ Some p →
+    times m (n ∷ xs) ≡ 0 → Stand n q xs s → Stand n q (m ∷ xs) t
+drops_stand n q m p xs s t d is none st = record {
+  here = d.places n ∙ st.here;
+  once = λ k. by_count k m (times k (n ∷ m ∷ xs) ≤ 1) (λ e x. omega (arith, subst (λ (j : ℕ). times j (n ∷ xs) ≡ 0) (sym e) none)) (λ e x. omega (arith, st.once k));
+  loose = λ k h. by_count k m (Loose k t) (λ e x. subst (λ (j : ℕ). Loose j t) (sym e) own) (λ e x. left_loose k s t (left k e) (st.loose k (omega arith)));
+  there = λ k h. by_count k m ((r : Place) × (place_of k t ≡ Some r)) (λ e x. (p, d.places k ∙ (ap (λ (j : ℕ). place_of j s) e ∙ is))) (λ e x. let r = st.there k (omega arith) in (r.0, d.places k ∙ r.1));
+  placed = λ k h. by_count k m (HasPlace k t) (λ e x. absurd (omega arith)) (λ e x. left_placed k s t (left k e) (d.places k) (st.placed k (omega arith)));
 }
   where
-    one_more : (k : ℕ) → k ≡ m → times m (n ∷ xs) ≡ 0 → times k (n ∷ m ∷ xs) ≤ 1
-    one_more k e z = subst (λ (j : ℕ). times j (n ∷ m ∷ xs) ≤ 1) (sym e) (let x = ap one_if (eq_refl m) in omega (arith, x, z))
+    there : (k : ℕ) → is_there k t ≡ is_there k s
+    there k = ap (λ (o : Option Place). is_some o) (d.places k)
 
-    no_other : (k : ℕ) → (k == m) ≡ false → times k (n ∷ xs) ≤ 1 → times k (n ∷ m ∷ xs) ≤ 1
-    no_other k e z = let x = ap one_if e in omega (arith, x, z)
+    left : (k : ℕ) → (k == m) ≡ false → Left k s t
+    left k e = record { made = omega (arith, d.made); there = there; counts = λ x. same (d.counts k x) (ap (λ b. cond b (one_if (said x p)) 0) e) }
+      where
+        same : {a b c : ℕ} → a ≡ b + c → c ≡ 0 → b ≡ a
+        same f g = omega (arith, f, g)
 
-    less_one : (k : ℕ) → (k == m) ≡ false → (c : ℕ) → times k (n ∷ m ∷ xs) ≡ c → times k (n ∷ xs) ≡ c
-    less_one k e c z = let x = ap one_if e in omega (arith, x, z)
+    none_left : (x : Spot) → count m t x ≡ 0
+    none_left x =
+        at_most (is_open s x) (d.counts m x) (ap (λ b. cond b (one_if (said x p)) 0) (eq_refl m))
+        ((of_placed m s (st.placed m none)).counts x ∙ ap (λ o. if is_open s x then says (said x) o else 0) is)
+      where
+        at_most : {a b c y : ℕ} (o : Bool) → a ≡ b + c → c ≡ y → a ≡ (if o then y else 0) → b ≡ 0
+        at_most true f g h = omega (arith, f, g, h)
+        at_most false f g h = omega (arith, f, g, h)
 
-    less_rest : (k : ℕ) → (k == m) ≡ false → times k (m ∷ xs) ≡ 1 → times k xs ≡ 1
-    less_rest k e z = let x = ap one_if e in omega (arith, x, z)
+    own : Loose m t
+    own = record {
+      number = λ e. subst (λ (c : ℕ). m ≤ c) d.made ((st.placed m none).number (sym (there m) ∙ e));
+      switch = none_left AtSwitch;
+      high = none_left AtHigh;
+      low = none_left AtLow;
+      callers = λ f. none_left (BehindOf f);
+    }
 
-    none_left : (k : ℕ) → times k (n ∷ m ∷ xs) ≡ 0 → times k (n ∷ xs) ≡ 0
-    none_left k z = omega (arith, z)
+pub plus_none : (k m x : ℕ) → x ≡ x + gain k m 0
+plus_none k m x = grind arith
+
+pub plus_one : (k m x y : ℕ) → y ≡ x + one_if (k == m) → y ≡ x + gain k m 1
+plus_one k m x y h = grind arith
+
+-- nothing is there more, if the place says nothing
+plus_mute : (p : Place) → is_free p ≡ true → (k m : ℕ) (s : Core) (x : Spot) → count k s x ≡ count k s x + gain k m (one_if (said x p))
+plus_mute p free k m s x = plus_none k m _ ∙ ap (λ z. count k s x + gain k m z) (sym (free_mute p free x))
+
+-- so may one with a free place
+pub loosened : (n : ℕ) (q : Place) (m : ℕ) (r : Place) (xs : List ℕ) (s : Core) → place_of m s ≡ Some r → is_free r ≡ true →
+    times m (n ∷ xs) ≡ 0 → Stand n q xs s → Stand n q (m ∷ xs) s
+loosened n q m r xs s is free none st =
+    drops_stand n q m r xs s s (record { made = refl; places = λ k. refl; counts = λ k x. plus_mute r free k m s x }) is none st
 
 -- ---- The words that put a thread
 
-pub plus_none : (k m x : ℕ) → x ≡ x + gain k m 0
-plus_none k m x = go (k == m)
-  where
-    go : (b : Bool) → x ≡ x + cond b 0 0
-    go true = omega arith
-    go false = omega arith
+-- m at the place p, with such entries and callers
+abbrev pub moved : ℕ → Place → Queues → Records (List ℕ) → Core → Core
+moved m p q cs s = record (set_place m p s) { queues = q; callers = cs }
 
-pub plus_one : (k m x y : ℕ) → y ≡ x + one_if (k == m) → y ≡ x + gain k m 1
-plus_one k m x y h = h ∙ ap (λ z. x + z) (one_is (k == m))
-  where
-    one_is : (b : Bool) → one_if b ≡ cond b 1 0
-    one_is true = refl
-    one_is false = refl
+pub moved_adds : (m : ℕ) (p r : Place) (q : Queues) (cs : Records (List ℕ)) (s : Core) → place_of m s ≡ Some r →
+    ((f : ℕ) → is_behind_of f p ≡ true → Given f s) →
+    ((k : ℕ) (x : Spot) → count k (moved m p q cs s) x ≡ count k s x + gain k m (one_if (said x p))) → Adds m p s (moved m p q cs s)
+unfolding set_place on_thread
+moved_adds m p r q cs s is given counts = record {
+  made = refl;
+  was = ap (λ (o : Option Place). is_some o) is;
+  behind = given;
+  own = place_written m p r s is;
+  other = λ k e. place_kept k m p s e;
+  switch = λ k. counts k AtSwitch;
+  high = λ k. counts k AtHigh;
+  low = λ k. counts k AtLow;
+  callers = λ k f. counts k (BehindOf f);
+}
 
 pub put_high_adds : (m : ℕ) (w : Why) (r : Place) (s : Core) → place_of m s ≡ Some r → Adds m (place.Ready mark.High w) s (put_high m w s)
 unfolding put_high push_high set_place on_thread
-put_high_adds m w r s is = record {
-  made = refl;
-  was = ap (λ (o : Option Place). is_some o) is;
-  behind = λ f h. absurd (subst T (sym h) tt);
-  own = place_written m (place.Ready mark.High w) r s is;
-  other = λ k e. place_kept k m (place.Ready mark.High w) s e;
-  switch = λ k. plus_none k m _;
-  high = λ k. plus_one k m _ _ (entries-append k s.queues.high (entry.Thread m));
-  low = λ k. plus_none k m _;
-  callers = λ k f. plus_none k m _;
-}
+put_high_adds m w r s is = moved_adds m (place.Ready mark.High w) r _ _ s is (λ f h. absurd (grind arith)) counts
+  where
+    counts : (k : ℕ) (x : Spot) → count k (put_high m w s) x ≡ count k s x + gain k m (one_if (said x (place.Ready mark.High w)))
+    counts k AtHigh = plus_one k m _ _ (entries-append k s.queues.high (entry.Thread m))
+    counts k _ = plus_none k m _
 
 pub put_low_adds : (m : ℕ) (w : Why) (r : Place) (s : Core) → place_of m s ≡ Some r → Adds m (place.Ready mark.Low w) s (put_low m w s)
 unfolding put_low push_low set_place on_thread
-put_low_adds m w r s is = record {
-  made = refl;
-  was = ap (λ (o : Option Place). is_some o) is;
-  behind = λ f h. absurd (subst T (sym h) tt);
-  own = place_written m (place.Ready mark.Low w) r s is;
-  other = λ k e. place_kept k m (place.Ready mark.Low w) s e;
-  switch = λ k. plus_none k m _;
-  high = λ k. plus_none k m _;
-  low = λ k. plus_one k m _ _ (entries-append k s.queues.low (entry.Thread m));
-  callers = λ k f. plus_none k m _;
-}
+put_low_adds m w r s is = moved_adds m (place.Ready mark.Low w) r _ _ s is (λ f h. absurd (grind arith)) counts
+  where
+    counts : (k : ℕ) (x : Spot) → count k (put_low m w s) x ≡ count k s x + gain k m (one_if (said x (place.Ready mark.Low w)))
+    counts k AtLow = plus_one k m _ _ (entries-append k s.queues.low (entry.Thread m))
+    counts k _ = plus_none k m _
 
 pub set_place_adds : (m : ℕ) (p r : Place) (s : Core) → is_free p ≡ true → place_of m s ≡ Some r → Adds m p s (set_place m p s)
 unfolding set_place on_thread
 set_place_adds m p r s free is =
-    let f = free_says p free in
-    record {
-      made = refl;
-      was = ap (λ (o : Option Place). is_some o) is;
-      behind = λ g h. zero_one (f.3 g) (ap one_if h);
-      own = place_written m p r s is;
-      other = λ k e. place_kept k m p s e;
-      switch = λ k. plus_none k m _ ∙ ap (λ z. switch_entries k s.queues.switch + gain k m z) (sym f.0);
-      high = λ k. plus_none k m _ ∙ ap (λ z. entries k s.queues.high + gain k m z) (sym f.1);
-      low = λ k. plus_none k m _ ∙ ap (λ z. entries k s.queues.low + gain k m z) (sym f.2);
-      callers = λ k g. plus_none k m _ ∙ ap (λ z. times k (callers_of g s) + gain k m z) (sym (f.3 g));
-    }
+    moved_adds m p r s.queues s.callers s is (λ f h. zero_one (free_mute p free (BehindOf f)) (ap one_if h)) counts
+  where
+    counts : (k : ℕ) (x : Spot) → count k (set_place m p s) x ≡ count k s x + gain k m (one_if (said x p))
+    counts k AtSwitch = plus_mute p free k m s AtSwitch
+    counts k AtHigh = plus_mute p free k m s AtHigh
+    counts k AtLow = plus_mute p free k m s AtLow
+    counts k (BehindOf f) = plus_mute p free k m s (BehindOf f)
