@@ -1,7 +1,6 @@
 -- What a map has after a change of one record, and when two changes are one.
 use Rattle.std.proofs.Common.{arith, ◌≡◌, ◌≢◌, ℕ, refl, sym, ap, ◌∙◌, Bool, true, false, cond, T, subst, eqb→eq}
-use Rattle.std.specs.Option.{option_map_or}
-use Rattle.std.specs.Prelude.{Option, Some, None, ◌==◌, option_map, unwrap_or}
+use Rattle.std.specs.Prelude.{Option, Some, None, ◌==◌, option_map}
 use Rattle.task_machine.specs.Maps.{Records, change, changed, get, insert, remove, get-insert, get-remove, same_map}
 
 same_number : (n : ℕ) → (n == n) ≡ true
@@ -69,11 +68,3 @@ module _ {X Y : Type 0} (g : X → Y) (n : ℕ) (f : X → X) (keeps : (x : X) �
   pub change-field : (m : Records X) (q : ℕ) → option_map g (get (change n f m) q) ≡ option_map g (get m q)
   unfolding change
   change-field m q = changed-field m q (get m n) refl (q == n) refl
-
-  -- so it is read as before
-  pub change-read : (none : Y) (m : Records X) (q : ℕ) → option_map_or g (get (change n f m) q) none ≡ option_map_or g (get m q) none
-  change-read none m q = sym (read (get (change n f m) q)) ∙ (ap (λ o. unwrap_or o none) (change-field m q) ∙ read (get m q))
-    where
-      read : (o : Option X) → unwrap_or (option_map g o) none ≡ option_map_or g o none
-      read None = refl
-      read (Some x) = refl

@@ -1,17 +1,16 @@
--- A check after a release and a stop, told on the state before.
-use Rattle.std.proofs.Common.{◌∙◌, T, ap, ap₂, arith, cond, refl, subst, sym}
+-- Checks after other moves: after a release and a stop, told on the state before, and after a return.
+use Rattle.std.proofs.Common.{◌∙◌, ap, ap₂, arith, cond, refl, subst, sym}
 use Rattle.std.proofs.Math.Bool.{or-false}
-use Rattle.std.proofs.lemmas.Bool.{and_parts}
+use Rattle.std.proofs.lemmas.Bool.{and_parts, not-true}
 use Rattle.std.proofs.lemmas.Bool.Decides.{nat_tests}
 use Rattle.std.proofs.lemmas.List.Elements.{filter_passes}
 use Rattle.std.proofs.lemmas.List.Folds.{list_any-append}
 use Rattle.std.proofs.lemmas.List.Sorted.{All-permutation, length_permutation, list_any-IsPermutation}
 use Rattle.std.specs.List.{list_any}
 use Rattle.std.specs.Option.{option_map_or}
-use Rattle.std.specs.Prelude.{All, Bool, IsPermutation, List, None, Option, Some, [], false, find, is_some, length, not, option_and_then, option_map, true, unwrap_or, ℕ, ◌&&◌, ◌==◌, ◌||◌, ◌∷◌, ◌≡◌}
+use Rattle.std.specs.Prelude.{All, Bool, IsPermutation, List, None, Option, Some, [], false, find, is_some, length, not, option_map, true, unwrap_or, ℕ, ◌&&◌, ◌==◌, ◌||◌, ◌∷◌, ◌≡◌, if◌then◌else◌}
 use Rattle.task_machine.specs.declared.records.Call.{Call}
 use Rattle.task_machine.specs.declared.records.Entry.{Entry}
-use Rattle.task_machine.specs.declared.records.Instance.{Instance}
 use Rattle.task_machine.specs.declared.records.Place.{Place}
 use Rattle.task_machine.specs.declared.records.Thread.{Thread}
 use Rattle.task_machine.specs.declared.records.Why.{Why}
@@ -19,16 +18,28 @@ use Rattle.task_machine.specs.declared.records.Entry.TheVariants as entry
 use Rattle.task_machine.specs.declared.records.Place.TheVariants as place
 use Rattle.task_machine.specs.declared.records.Why.TheVariants as why
 use Rattle.task_machine.specs.declared.words.Mark.TheVariants as mark
-use Rattle.task_machine.proofs.CommuteLemmas.{get-change, insert-present}
-use Rattle.task_machine.proofs.MapLemmas.{change-read}
+use Rattle.task_machine.proofs.CommuteLemmas.{get-change}
 use Rattle.task_machine.specs.Core.{Core}
-use Rattle.task_machine.specs.Maps.{Records, change, changed, get, insert, numbers, same_map}
-use Rattle.task_machine.specs.Moves.{behind, behind_one, first_entry, first_low, held_why_of, newest, older, passed_on, passes_check, put_high, put_switch, released, released_one, resumed_all, resumed_callers, stopped}
-use Rattle.task_machine.specs.Read.{admits, admitted_held, callers_of, entry_thread, first_in, foot_of, held_why, instance_of, is_entry_in, is_held_admitted, is_nil, may_not_suspend, no_callee, place_of}
-use Rattle.task_machine.specs.Write.{on_instance, on_thread, push_high, set_callers, set_do_not_enter, set_place, set_switch, with_high}
+use Rattle.task_machine.specs.Maps.{Records, get, numbers, same_map}
+use Rattle.task_machine.specs.Moves.{behind, behind_one, first_entry, held_why_of, newest, older, passed_on, passes_check, put_high, put_switch, released, released_one, resumed_all, resumed_callers, stopped, is_callback_waiter, may_publish, may_wake, may_wake_joined, published, unblocked, wake, wake_joined, waken_by}
+use Rattle.task_machine.specs.Read.{admits, admitted_held, callers_of, first_in, foot_of, instance_of, is_entry_in, is_held_admitted, is_nil, may_not_suspend, no_callee, blocked_on, caller_of, first_at, goal_of, has_waiter, is_at, is_waiting_on, join_of, register_of, task_of}
+use Rattle.task_machine.specs.Write.{on_instance, on_thread, push_high, set_callers, set_do_not_enter, set_place, set_switch, with_high, give_result, on_call, set_end, set_event, set_register, set_result}
 use Rattle.task_rules.proofs.StandLemmas.{set_place_is}
-use Rattle.task_rules.specs.Ends.{code_stops, end_reopens, held_by_flag, passes_after_stop}
-use Rattle.task_rules.specs.Laws.{CallbackCheckIsAfter}
+use Rattle.task_rules.specs.Ends.{code_stops, end_reopens, held_by_flag, passes_after_stop, first_waiter, is_told, may_tell, passes_after_return, result_given, returned, told, waiter_told}
+use Rattle.task_rules.specs.Laws.{CallbackCheckIsAfter, BlockingCheckIsAfter}
+use Rattle.std.specs.FinMap.Entries.{find as seek}
+use Rattle.std.specs.Ordering.{nat_cmp}
+use Rattle.task_machine.specs.declared.records.Caller.{Caller}
+use Rattle.task_machine.specs.declared.records.Goal.{Goal}
+use Rattle.task_machine.specs.declared.records.Join.{Join}
+use Rattle.task_machine.specs.declared.words.Status.{Status}
+use Rattle.task_machine.specs.declared.records.CallEnd.TheVariants as call_end
+use Rattle.task_machine.specs.declared.records.Caller.TheVariants as caller
+use Rattle.task_machine.specs.declared.records.Delivery.TheVariants as delivery
+use Rattle.task_machine.specs.declared.records.Goal.TheVariants as goal
+use Rattle.task_machine.specs.declared.records.Join.TheVariants as join
+use Rattle.task_machine.specs.declared.records.Subtask.TheVariants as subtask
+use Rattle.task_machine.specs.declared.words.Status.TheVariants as status
 
 -- ---- A release, in any order
 
@@ -51,20 +62,14 @@ let_go p = p
 abbrev freed : Thread → Thread
 freed t = record t { place = let_go t.place }
 
-one_freed : (n : ℕ) (s : Core) → (released_one n (held_why_of n s) s).threads ≡ change n freed s.threads
-unfolding put_high push_high set_place on_thread change
-one_freed n s = by_thread (get s.threads n) refl
-  where
-    by_place : (t : Thread) (p : Place) → t.place ≡ p → get s.threads n ≡ Some t →
-        (released_one n (held_why p) s).threads ≡ insert s.threads n (record t { place = let_go p })
-    by_place t (place.Held w) is found = ap (changed s.threads n (λ u. record u { place = place.Ready mark.High w })) found
-    by_place t p is found =
-        sym (insert-present s.threads n (record t { place = p }) (found ∙ ap (λ q. Some (record t { place = q })) is))
+one_freed : (k n : ℕ) (s : Core) →
+    get (released_one n (held_why_of n s) s).threads k ≡ cond (k == n) (option_map freed (get s.threads k)) (get s.threads k)
+unfolding put_high push_high set_place on_thread
+one_freed k n s = grind (arith, nat_tests, get-change)
 
-    by_thread : (o : Option Thread) → get s.threads n ≡ o →
-        (released_one n (option_and_then held_why (option_map (λ t. t.place) o)) s).threads ≡ changed s.threads n freed o
-    by_thread None found = refl
-    by_thread (Some t) found = by_place t t.place refl found
+twice : (a b : Bool) (o : Option Thread) →
+    cond b (option_map freed (cond a (option_map freed o) o)) (cond a (option_map freed o) o) ≡ cond (a || b) (option_map freed o) o
+twice a b o = grind arith
 
 released_threads : (k : ℕ) (ns : List ℕ) (s : Core) →
     get (released ns s).threads k ≡ cond (list_any (λ n. k == n) ns) (option_map freed (get s.threads k)) (get s.threads k)
@@ -72,20 +77,8 @@ unfolding released
 released_threads k [] s = refl
 released_threads k (n ∷ ns) s =
     released_threads k ns (released_one n (held_why_of n s) s)
-    ∙ (ap (λ o. cond (list_any (λ m. k == m) ns) (option_map freed o) o)
-    (ap (λ m. get m k) (one_freed n s) ∙ get-change n freed s.threads k)
+    ∙ (ap (λ o. cond (list_any (λ m. k == m) ns) (option_map freed o) o) (one_freed k n s)
     ∙ twice (k == n) (list_any (λ m. k == m) ns) (get s.threads k))
-  where
-    once : (p : Place) → let_go (let_go p) ≡ let_go p
-    once (place.Held w) = refl
-    once _ = refl
-
-    twice : (a b : Bool) (o : Option Thread) →
-        cond b (option_map freed (cond a (option_map freed o) o)) (cond a (option_map freed o) o) ≡ cond (a || b) (option_map freed o) o
-    twice true true (Some t) = ap (λ p. Some (record t { place = p })) (once t.place)
-    twice true true None = refl
-    twice true false o = refl
-    twice false b o = refl
 
 any_released : (p : Entry → Bool) (ns : List ℕ) (s : Core) → any_high p (released ns s) ≡ (any_high p s || any_held p s ns)
 unfolding released put_high push_high set_place on_thread
@@ -95,19 +88,9 @@ any_released p (n ∷ ns) s = by_why (held_why_of n s) (λ t. any_released p ns 
     put : Why → Core
     put w = put_high n w s
 
-    off : (b : Bool) (w : Why) (o : Option Place) →
-        is_some (option_and_then held_why (cond b (option_map (λ (q : Place). place.Ready mark.High w) o) o)) ≡
-        (not b && is_some (option_and_then held_why o))
-    off true w None = refl
-    off true w (Some q) = refl
-    off false w o = refl
-
     alike : (w : Why) (m : ℕ) → p (entry.Thread n) ≡ false →
         (is_held (put w) m && p (entry.Thread m)) ≡ (is_held s m && p (entry.Thread m))
-    alike w m e =
-        let moved = set_place_is m n (place.Ready mark.High w) s in
-        let h = ap (λ o. is_some (option_and_then held_why o)) moved ∙ off (m == n) w (place_of m s) in
-        grind (arith, nat_tests)
+    alike w m e = grind (arith, nat_tests, set_place_is m n (place.Ready mark.High w) s)
 
     mixed : (b : Bool) (w : Why) → p (entry.Thread n) ≡ b →
         ((any_high p s || (b || false)) || any_held p (put w) ns) ≡ (any_high p s || (b || any_held p s ns))
@@ -167,26 +150,13 @@ any_in i s es = list_any (is_entry_in i s) es
 
 first_in_is : (i : ℕ) (s : Core) (es : List Entry) → is_some (first_in i s es) ≡ any_in i s es
 first_in_is i s [] = refl
-first_in_is i s (entry.Push j ∷ es) = first_in_is i s es
-first_in_is i s (entry.Host j ∷ es) = first_in_is i s es
-first_in_is i s (entry.Thread n ∷ es) = by_test (instance_of n s == i) (first_in_is i s es)
-  where
-    by_test : (b : Bool) → is_some (first_in i s es) ≡ any_in i s es →
-        is_some (option_and_then entry_thread (cond b (Some (entry.Thread n)) (find (is_entry_in i s) es))) ≡ (b || any_in i s es)
-    by_test true rest = refl
-    by_test false rest = rest
+first_in_is i s (e ∷ es) = grind (arith, first_in_is i s es)
 
 pub passes_is : (i : ℕ) (s : Core) →
     passes_check i s ≡
     (not (may_not_suspend i s) || (is_some s.queues.switch || (any_in i s s.queues.high || any_in i s s.queues.low)))
 unfolding passes_check first_entry
-passes_is i s =
-    ap (λ b. not (may_not_suspend i s) || (is_some s.queues.switch || b))
-    (by_first (first_in i s s.queues.high) ∙ ap (λ b. b || any_in i s s.queues.low) (first_in_is i s s.queues.high))
-  where
-    by_first : (o : Option ℕ) → is_some (first_low i s o) ≡ (is_some o || any_in i s s.queues.low)
-    by_first None = first_in_is i s s.queues.low
-    by_first (Some n) = refl
+passes_is i s = grind (arith, first_in_is i s s.queues.high, first_in_is i s s.queues.low)
 
 or_true : (b : Bool) → (b || true) ≡ true
 or_true b = grind arith
@@ -237,9 +207,7 @@ released_instance m ns s =
   where
     same_call : (b : Bool) (o : Option Thread) →
         option_map_or (λ (t : Thread). t.call) (cond b (option_map freed o) o) 0 ≡ option_map_or (λ t. t.call) o 0
-    same_call true None = refl
-    same_call true (Some t) = refl
-    same_call false o = refl
+    same_call b o = grind arith
 
 -- after the release of admitted threads a check passes
 release_passes : (i : ℕ) (ns : List ℕ) (s : Core) → All (λ n. is_held_admitted i s n (held_why_of n s) ≡ true) ns →
@@ -254,16 +222,14 @@ release_passes i (n ∷ ns) s all =
     passes_is i t ∙ grind (arith, head.0, here, high)
   where
     by_why : (o : Option Why) → is_held_admitted i s n o ≡ true → (is_some o ≡ true) × ((instance_of n s == i) ≡ true)
-    by_why None h = absurd (subst T (sym h) tt)
+    by_why None h = absurd (grind arith)
     by_why (Some w) h = (refl, (and_parts (instance_of n s == i) (admits n s w) h).0)
 
 -- ---- A callback's end
 
 enter_passes : (i : ℕ) (b : Bool) (s : Core) → passes_check i (set_do_not_enter i b s) ≡ passes_check i s
 unfolding passes_check first_entry set_do_not_enter on_instance
-enter_passes i b s =
-    ap (λ c. not c || (is_some s.queues.switch || is_some (first_entry i s)))
-    (change-read (λ (r : Instance). r.do_not_suspend) i (λ r. record r { do_not_enter = b }) (λ r. refl) false s.instances i)
+enter_passes i b s = grind (arith, nat_tests, get-change)
 
 same_nil : (xs ys : List ℕ) → length ys ≡ length xs → is_nil ys ≡ is_nil xs
 same_nil xs ys e = grind arith
@@ -285,3 +251,123 @@ callback_check n s order perm =
   where
     swapped : (a b c : Bool) → ((a || b) || c) ≡ (a || (c || b))
     swapped a b c = grind arith
+
+-- ---- The order at high
+
+abbrev at_high : List Entry → Core → Core
+at_high hs s = record s { queues = with_high hs s.queues }
+
+-- What f makes of cores that differ in the order at high differs in that alone.
+abbrev Follows : (Core → Core) → Type 0
+Follows f = (s : Core) (hs : List Entry) → ((p : Entry → Bool) → list_any p hs ≡ list_any p s.queues.high) →
+    Reordered (f s) (f (at_high hs s))
+
+carried : {f : Core → Core} → Follows f → (s t : Core) → Reordered s t → Reordered (f s) (f t)
+carried {f = f} h s t q = subst (λ c. Reordered (f s) (f c)) (sym q.only) (h s t.queues.high q.any)
+
+put_follows : (n : ℕ) (w : Why) → Follows (put_high n w)
+unfolding put_high push_high set_place on_thread
+put_follows n w s hs any = record {
+  only = refl;
+  any = λ p. list_any-append p hs _ ∙ (ap (λ b. b || list_any p (entry.Thread n ∷ [])) (any p) ∙ sym (list_any-append p s.queues.high _));
+}
+
+unblocked_follows : (o : Option ℕ) → Follows (unblocked o)
+unblocked_follows None s hs any = record { only = refl; any = any }
+unblocked_follows (Some n) s hs any = put_follows n why.Resumption s hs any
+
+wake_follows : (j : Join) (w : Option ℕ) → Follows (wake_joined j w)
+unfolding wake
+wake_follows (join.Set x) (Some n) s hs any = by_callback (is_callback_waiter n s)
+  where
+    by_callback : (b : Bool) → Reordered (waken_by b x n s) (waken_by b x n (at_high hs s))
+    by_callback true = put_follows n (why.Delivery (delivery.Set x)) s hs any
+    by_callback false = put_follows n why.Resumption s hs any
+wake_follows (join.Set x) None s hs any = record { only = refl; any = any }
+wake_follows _ w s hs any = record { only = refl; any = any }
+
+told_follows : (k : ℕ) (e : Status) (w : Option ℕ) → Follows (told k e w)
+unfolding told published set_event on_call blocked_on
+told_follows k e w s hs any = by_told (is_told k s)
+  where
+    tell : Core → Core
+    tell t = published (subtask.Guest k) e w t
+
+    by_told : (b : Bool) → Reordered (if b then tell s else s) (if b then tell (at_high hs s) else at_high hs s)
+    by_told true =
+        let x = set_event (subtask.Guest k) (Some e) s in
+        carried (wake_follows (join_of (subtask.Guest k) s) w) _ _ (unblocked_follows (blocked_on (subtask.Guest k) s) x hs any)
+    by_told false = record { only = refl; any = any }
+
+given_follows : (g : Goal) (f : Caller) (k v : ℕ) → Follows (result_given g f k v)
+unfolding give_result set_register on_thread set_result on_call
+given_follows (goal.Register r) (caller.Thread n) k v s hs any = record { only = refl; any = any }
+given_follows (goal.Register r) caller.Main k v s hs any = record { only = refl; any = any }
+given_follows _ f k v s hs any = record { only = refl; any = any }
+
+returned_follows : (k v : ℕ) (w : Option ℕ) → Follows (returned k v w)
+unfolding returned set_end on_call
+returned_follows k v w s hs any =
+    carried (told_follows k status.Returned w) _ _ (given_follows (goal_of k s) (caller_of k s) k v (set_end k call_end.Returned s) hs any)
+
+reordered_passes : (i : ℕ) (s t : Core) → Reordered s t → passes_check i t ≡ passes_check i s
+reordered_passes i s t h =
+    ap (λ c. passes_check i c) h.only
+    ∙ (passes_is i (at_high t.queues.high s)
+    ∙ (ap₂ (λ (p : Entry → Bool) (b : Bool). not (may_not_suspend i s) || (is_some s.queues.switch || (b || list_any p s.queues.low)))
+    (λ j e. same_in e j) (ap (λ p. list_any p t.queues.high) (λ j e. same_in e j) ∙ h.any (is_entry_in i s))
+    ∙ sym (passes_is i s)))
+  where
+    same_in : (e : Entry) → is_entry_in i (at_high t.queues.high s) e ≡ is_entry_in i s e
+    same_in e = grind arith
+
+-- ---- The first waiter
+
+returned_told : (g : Goal) (f : Caller) (k v : ℕ) (s : Core) →
+    is_told k (result_given g f k v (set_end k call_end.Returned s)) ≡ is_told k s
+unfolding give_result set_register on_thread set_result on_call set_end
+returned_told g f k v s = grind (arith, nat_tests, get-change)
+
+-- where no entry passes, none is found that does
+unmet : {X Y : Type 0} (g : X → Y) (test : Y → Bool) (q : ℕ) (es : List (ℕ × X)) → list_any (λ e. test (g e.1)) es ≡ false →
+    option_map_or test (option_map g (seek nat_cmp q es)) false ≡ false
+unmet g test q [] h = refl
+unmet g test q (e ∷ es) h = grind (arith, unmet g test q es)
+
+none_passes : (test : ℕ → Bool) → ((n : ℕ) → test n ≡ false) → (ns : List ℕ) → find test ns ≡ None
+none_passes test off [] = refl
+none_passes test off (n ∷ ns) = grind (arith, off n, none_passes test off ns)
+
+-- a set without a waiter has no first one
+no_first : (x : ℕ) (s : Core) → not (has_waiter x s) ≡ true → first_at (is_waiting_on x) s ≡ None
+unfolding has_waiter get
+no_first x s none =
+    none_passes (λ n. is_at n s (is_waiting_on x))
+    (λ n. unmet (λ (t : Thread). t.place) (is_waiting_on x) n s.threads.list (not-true (has_waiter x s) none)) (numbers s.threads)
+
+-- it's all the same which waiter stands for the one that a lawful choice shows
+told_first : (k : ℕ) (e : Status) (w : Option ℕ) (s t : Core) → may_tell k w s ≡ true → is_told k t ≡ is_told k s →
+    told k e (waiter_told k w s) t ≡ told k e w t
+unfolding told may_tell may_publish may_wake
+told_first k e (Some m) s t lawful same = refl
+told_first k e None s t lawful same = by_join (join_of (subtask.Guest k) s) (is_told k s) same lawful
+  where
+    by_join : (j : Join) (b : Bool) → is_told k t ≡ b → (if b then may_wake_joined j None s else true) ≡ true →
+        told k e (first_waiter j s) t ≡ told k e None t
+    by_join (join.Set x) true is may = ap (λ w. told k e w t) (no_first x s may)
+    by_join (join.Set x) false is may = grind arith
+    by_join _ b is may = refl
+
+pub blocking_check : BlockingCheckIsAfter
+unfolding passes_after_return end_reopens held_by_flag returned set_do_not_enter on_instance set_end
+blocking_check n w s order lawful perm =
+    let i = instance_of n s in
+    let k = task_of n s in
+    let v = register_of n 0 s in
+    let d = set_do_not_enter i false s in
+    let held = held_by_flag i s in
+    let u = released held d in
+    let e = set_end k call_end.Returned u in
+    let same = returned_told (goal_of k u) (caller_of k u) k v u ∙ ap (λ c. is_told k c) (released_only held d) in
+    reordered_passes i _ _ (carried (returned_follows k v w) u (released order d) (release_reordered held order d perm))
+    ∙ sym (ap (λ c. passes_check i c) (told_first k status.Returned w s (result_given (goal_of k u) (caller_of k u) k v e) lawful same))

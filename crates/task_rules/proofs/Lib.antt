@@ -16,5 +16,4 @@ pub mod StandLemmas
 pub mod StopLemmas
 pub mod MoveLemmas
 pub mod UntouchedLemmas
-pub mod ReturnLemmas
 pub mod CancelLemmas

@@ -1,7 +1,8 @@
 -- Moves beside a thread that runs or is taken: they leave each other thread its place.
-use Rattle.std.proofs.Common.{◌∙◌, ap, arith, cond, refl, subst, sym}
+use Rattle.std.proofs.Common.{◌∙◌, ap, arith, refl, subst, sym}
+use Rattle.std.proofs.lemmas.Bool.Decides.{nat_tests}
 use Rattle.std.specs.Option.{option_map_or}
-use Rattle.std.specs.Prelude.{Bool, List, None, Option, Some, [], false, if◌then◌else◌, is_some, option_and_then, option_map, true, unwrap_or, ℕ, ◌+◌, ◌==◌, ◌∷◌, ◌≡◌, ◌≤◌}
+use Rattle.std.specs.Prelude.{Bool, List, None, Option, Some, [], false, if◌then◌else◌, is_some, option_and_then, option_map, true, ℕ, ◌+◌, ◌==◌, ◌∷◌, ◌≡◌, ◌≤◌}
 use Rattle.task_machine.specs.declared.records.Place.{Place}
 use Rattle.task_machine.specs.declared.records.Thread.{Thread}
 use Rattle.task_machine.specs.declared.records.Why.{Why}
@@ -11,14 +12,14 @@ use Rattle.task_machine.specs.declared.records.Place.TheVariants as place
 use Rattle.task_machine.specs.declared.records.Why.TheVariants as why
 use Rattle.task_machine.proofs.MapLemmas.{get-remove_other, get-remove_same}
 use Rattle.task_machine.specs.Core.{Core}
-use Rattle.task_machine.specs.Maps.{get, get-remove}
+use Rattle.task_machine.specs.Maps.{get-remove}
 use Rattle.task_machine.specs.Moves.{behind_one, held_why_of, is_callback_waiter, may_wake, put_high, put_low, put_switch, released, released_one, stopped, wake, waken_by}
 use Rattle.task_machine.specs.Read.{held_why, is_waiting_on, place_of}
 use Rattle.task_machine.specs.Write.{remove_thread, set_place}
-use Rattle.task_rules.proofs.StandLemmas.{AtHigh, AtLow, AtSwitch, BehindOf, Loose, Spot, Stand, StandsAs, adds_all, by_count, by_number, count, free_loose, free_mute, is_eq_of, is_open, loose_placed, loosened, not_eq, of_loose, of_placed, put_high_adds, put_low_adds, said, set_place_adds, to_loose, to_placed}
+use Rattle.task_rules.proofs.StandLemmas.{spots, AtHigh, AtLow, AtSwitch, BehindOf, Loose, Spot, Stand, StandsAs, adds_all, by_count, by_number, count, free_loose, free_mute, is_open, loose_placed, loosened, not_eq, of_loose, of_placed, put_high_adds, put_low_adds, said, set_place_adds, to_loose, to_placed}
 use Rattle.task_rules.proofs.StopLemmas.{behind_adds, given_there, put_stand, put_switch_stand, stopped_stand}
 use Rattle.task_rules.specs.Laws.{ReleaseKeepsPlaces, RemovalKeepsPlaces, StopKeepsPlaces, WakeKeepsPlaces, is_free}
-use Rattle.task_rules.specs.Places.{HasPlace, is_behind_of, is_there, one_if, says, times}
+use Rattle.task_rules.specs.Places.{HasPlace, is_there, one_if, says}
 
 -- ---- Where other threads are
 
@@ -75,16 +76,10 @@ removed_stands o k n s h = record { number = λ e. h.number (still_there e); beh
     still_there : is_there k t ≡ true → is_there k s ≡ true
     still_there g = by_number k n (is_there k s ≡ true) (λ e. absurd (grind (arith, gone k e))) (λ e. sym (other k e) ∙ g)
 
-    by_caller : (f : ℕ) (b : Bool) → (f == n) ≡ b →
-        times k (unwrap_or (cond b None (get s.callers f)) []) ≡ (if is_there f t then says (is_behind_of f) o else 0)
-    by_caller f true e = sym (ap (λ (c : Bool). if c then says (is_behind_of f) o else 0) (gone f (is_eq_of f n e)))
-    by_caller f false e = h.counts (BehindOf f) ∙ ap (λ (c : Bool). if c then says (is_behind_of f) o else 0) (sym (other f e))
-
     counts : (x : Spot) → count k t x ≡ (if is_open t x then says (said x) o else 0)
-    counts AtSwitch = h.counts AtSwitch
-    counts AtHigh = h.counts AtHigh
-    counts AtLow = h.counts AtLow
-    counts (BehindOf f) = ap (λ (c : Option (List ℕ)). times k (unwrap_or c [])) (get-remove s.callers n f) ∙ by_caller f (f == n) refl
+    counts = spots _ (h.counts AtSwitch) (h.counts AtHigh) (h.counts AtLow)
+        (λ f. by_number f n _ (λ e. grind (arith, nat_tests, get-remove, gone f e))
+        (λ e. grind (arith, nat_tests, get-remove, other f e, h.counts (BehindOf f))))
 
 pub removed_loose : (k n : ℕ) (s : Core) → Loose k s → Loose k (remove_thread n s)
 removed_loose k n s l = to_loose k (remove_thread n s) None (λ x. refl) (removed_stands None k n s (of_loose k s l))
@@ -101,34 +96,32 @@ removed_placed k n s e h =
 module _ (n : ℕ) (q : Place) (busy : is_busy q ≡ true) where
   -- a parked thread may be taken up
   taken_up : (m : ℕ) (p : Place) (s : Core) → place_of m s ≡ Some p → is_parked p ≡ true → Stand n q [] s → Stand n q (m ∷ []) s
-  taken_up m p s is parked st = loosened n q m p [] s is (parked_free p parked) (by_count m n (times m (n ∷ []) ≡ 0) (λ e x. absurd (both e)) (λ e x. omega arith)) st
+  taken_up m p s is parked st =
+      loosened n q m p [] s is (parked_free p parked) (by_count m n _ (λ e x. absurd (both e)) (λ e x. omega arith)) st
     where
       both : m ≡ n → ⊥
-      both e = not_both p parked (subst (λ (r : Place). is_busy r ≡ true) (same_place q p (sym st.here ∙ (ap (λ (k : ℕ). place_of k s) (sym e) ∙ is))) busy)
+      both e = not_both p parked (grind (arith, is, st.here, busy))
 
-  pub put_high_good : (m : ℕ) (w : Why) (p : Place) (s : Core) → place_of m s ≡ Some p → is_parked p ≡ true → Stand n q [] s → Stand n q [] (put_high m w s)
+  pub put_high_good : (m : ℕ) (w : Why) (p : Place) (s : Core) → place_of m s ≡ Some p → is_parked p ≡ true → Stand n q [] s →
+      Stand n q [] (put_high m w s)
   put_high_good m w p s is parked st =
       put_stand n q m [] (place.Ready mark.High w) s _ (λ r at. put_high_adds m w r s at) (taken_up m p s is parked st)
 
-  pub put_low_good : (m : ℕ) (w : Why) (p : Place) (s : Core) → place_of m s ≡ Some p → is_parked p ≡ true → Stand n q [] s → Stand n q [] (put_low m w s)
+  pub put_low_good : (m : ℕ) (w : Why) (p : Place) (s : Core) → place_of m s ≡ Some p → is_parked p ≡ true → Stand n q [] s →
+      Stand n q [] (put_low m w s)
   put_low_good m w p s is parked st =
       put_stand n q m [] (place.Ready mark.Low w) s _ (λ r at. put_low_adds m w r s at) (taken_up m p s is parked st)
 
-  pub put_switch_good : (m : ℕ) (w : Why) (p : Place) (s : Core) → place_of m s ≡ Some p → is_parked p ≡ true → Stand n q [] s → Stand n q [] (put_switch m w s)
+  pub put_switch_good : (m : ℕ) (w : Why) (p : Place) (s : Core) → place_of m s ≡ Some p → is_parked p ≡ true → Stand n q [] s →
+      Stand n q [] (put_switch m w s)
   put_switch_good m w p s is parked st = put_switch_stand n q m [] w s refl (taken_up m p s is parked st)
 
   -- ---- A release
 
-  held_is : (p : Place) (w : Why) → held_why p ≡ Some w → is_parked p ≡ true
-  held_is p w h = grind arith
-
-  released_one_good : (m : ℕ) (o : Option Place) (s : Core) → place_of m s ≡ o → Stand n q [] s → Stand n q [] (released_one m (option_and_then held_why o) s)
-  released_one_good m None s is st = st
-  released_one_good m (Some p) s is st = by_why (held_why p) refl
-    where
-      by_why : (o : Option Why) → held_why p ≡ o → Stand n q [] (released_one m o s)
-      by_why None e = st
-      by_why (Some w) e = put_high_good m w p s is (held_is p w e) st
+  released_one_good : (m : ℕ) (o : Option Place) (s : Core) → place_of m s ≡ o → Stand n q [] s →
+      Stand n q [] (released_one m (option_and_then held_why o) s)
+  released_one_good m (Some (place.Held w)) s is st = put_high_good m w (place.Held w) s is refl st
+  released_one_good m _ s is st = st
 
   pub released_good : (ns : List ℕ) (s : Core) → Stand n q [] s → Stand n q [] (released ns s)
   unfolding released
@@ -137,14 +130,15 @@ module _ (n : ℕ) (q : Place) (busy : is_busy q ≡ true) where
 
   -- ---- A wake
 
-  waiting_parked : (x : ℕ) (p : Place) → is_waiting_on x p ≡ true → is_parked p ≡ true
-  waiting_parked x p h = grind arith
-
   pub wake_good : (x : ℕ) (w : Option ℕ) (s : Core) → may_wake x w s ≡ true → Stand n q [] s → Stand n q [] (wake x w s)
   unfolding wake may_wake
   wake_good x None s h st = st
-  wake_good x (Some m) s h st = let p = at_place (is_waiting_on x) (place_of m s) h in by_callback p.0 p.1 (waiting_parked x p.0 p.2) (is_callback_waiter m s)
+  wake_good x (Some m) s h st =
+      let p = at_place (is_waiting_on x) (place_of m s) h in by_callback p.0 p.1 (waiting_parked p.0 p.2) (is_callback_waiter m s)
     where
+      waiting_parked : (p : Place) → is_waiting_on x p ≡ true → is_parked p ≡ true
+      waiting_parked p h = grind arith
+
       by_callback : (p : Place) → place_of m s ≡ Some p → is_parked p ≡ true → (b : Bool) → Stand n q [] (waken_by b x m s)
       by_callback p is parked true = put_high_good m (why.Delivery (delivery.Set x)) p s is parked st
       by_callback p is parked false = put_high_good m why.Resumption p s is parked st
@@ -175,7 +169,8 @@ pub stand_of : (n : ℕ) (q : Place) (s : Core) → place_of n s ≡ Some q → 
 stand_of n q s is free all = record {
   here = is;
   once = λ k. at_most_one (k == n);
-  loose = λ k h. by_count k n (Loose k s) (λ e x. subst (λ (j : ℕ). Loose j s) (sym e) (free_loose n q s is free (all n))) (λ e x. absurd (omega arith));
+  loose = λ k h. by_count k n _ (λ e x. subst (λ (j : ℕ). Loose j s) (sym e) (free_loose n q s is free (all n)))
+      (λ e x. absurd (omega arith));
   there = λ k h. absurd (omega arith);
   placed = λ k h. all k;
 }
@@ -186,7 +181,7 @@ stand_of n q s is free all = record {
 pub all_of : (n : ℕ) (q : Place) (s : Core) → is_free q ≡ true → Stand n q [] s → (k : ℕ) → HasPlace k s
 all_of n q s free st k =
     by_count k n (HasPlace k s)
-    (λ e x. subst (λ (j : ℕ). Loose j s → HasPlace j s) (sym e) (loose_placed n (Some q) s st.here (free_mute q free)) (st.loose k (omega arith)))
+    (λ e x. loose_placed k (Some q) s (ap (λ (j : ℕ). place_of j s) e ∙ st.here) (free_mute q free) (st.loose k (omega arith)))
     (λ e x. st.placed k (omega arith))
 
 pub stop_keeps_places : StopKeepsPlaces

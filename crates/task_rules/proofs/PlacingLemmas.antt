@@ -1,10 +1,10 @@
 -- A change of where threads are leaves all else.
 use Rattle.std.proofs.Common.{ap, arith, ap₂, inl, inr, refl, subst, sym, ◌++◌, ◌∙◌, ◌⊎◌}
 use Rattle.std.specs.Option.{option_map_or}
-use Rattle.std.specs.Prelude.{Bool, List, None, Option, Some, [], false, if◌then◌else◌, option_map, true, ℕ, ◌==◌, ◌∷◌, ◌≡◌}
+use Rattle.std.specs.Prelude.{Bool, List, None, Option, Some, [], false, if◌then◌else◌, option_map, true, ℕ, ◌∷◌, ◌≡◌}
 use Rattle.task_machine.proofs.MapLemmas.{change-field}
 use Rattle.task_machine.specs.Core.{Core}
-use Rattle.task_machine.specs.Maps.{Records, get}
+use Rattle.task_machine.specs.Maps.{get}
 use Rattle.task_machine.specs.Moves.{behind, behind_one, displaced, has_entry, less, newest, older, passed_on, promoted, put_high, put_low, put_switch, resumed_all, stopped, unqueued, why_of}
 use Rattle.task_machine.specs.Read.{callers_of, foot_of, instance_of, is_explicit, next_entry, no_callee, or_high, task_of}
 use Rattle.task_machine.specs.Write.{on_thread, push_high, push_high_first, push_low, set_callers, set_high, set_low, set_place, set_switch}
@@ -36,12 +36,12 @@ pub record Shifted (s t : Core) : Type 0 where
   pub threads : (k : ℕ) → option_map unplaced (get t.threads k) ≡ option_map unplaced (get s.threads k)
 
 -- what is read of a thread beside its place
-pub read_unplaced : {A : Type 0} (f : Thread → A) (none : A) → ((t : Thread) → f (unplaced t) ≡ f t) → (o p : Option Thread) → option_map unplaced o ≡ option_map unplaced p → option_map_or f o none ≡ option_map_or f p none
-read_unplaced f none same o p e = sym (at o) ∙ (ap (λ q. option_map_or f q none) e ∙ at p)
-  where
-    at : (q : Option Thread) → option_map_or f (option_map unplaced q) none ≡ option_map_or f q none
-    at None = refl
-    at (Some t) = same t
+pub read_unplaced : {A : Type 0} (f : Thread → A) (none : A) → ((t : Thread) → f (unplaced t) ≡ f t) → (o p : Option Thread) →
+    option_map unplaced o ≡ option_map unplaced p → option_map_or f o none ≡ option_map_or f p none
+read_unplaced f none same None None e = refl
+read_unplaced f none same (Some t) (Some u) e = sym (same t) ∙ (ap (λ o. option_map_or f o none) e ∙ same u)
+read_unplaced f none same None (Some u) e = cc
+read_unplaced f none same (Some t) None e = cc
 
 module _ {s t : Core} (h : Shifted s t) where
   pub shifted_task : (n : ℕ) → task_of n t ≡ task_of n s
@@ -57,7 +57,7 @@ module _ {s t : Core} (h : Shifted s t) where
   shifted_made = sym (ap (λ (c : Core). c.made) h.only)
 
   pub shifted_instance : (n : ℕ) → instance_of n t ≡ instance_of n s
-  shifted_instance n = ap₂ (λ (k : ℕ) (m : Records Call). (option_map_or (λ (c : Call). c.callee) (get m k) no_callee).instance) (shifted_task n) shifted_calls
+  shifted_instance n = ap₂ (λ k m. (option_map_or (λ (c : Call). c.callee) (get m k) no_callee).instance) (shifted_task n) shifted_calls
 
 pub shifted_same : (s : Core) → Shifted s s
 shifted_same s = record { only = refl; threads = λ k. refl }
@@ -139,7 +139,8 @@ placing_shifted p s =
 
 -- so it is with a chain of them
 word_shifted : {b : Core} (w : Word) (s : Core) → IsShift w s → Shifted b s → Shifted b (after_word w s)
-word_shifted {b = b} (Places p) s ok h = subst (λ (c : Core). Shifted b c) (sym (placing_shifted p s).only) (shifted_after h (placing_shifted p s))
+word_shifted {b = b} (Places p) s ok h =
+    subst (λ (c : Core). Shifted b c) (sym (placing_shifted p s).only) (shifted_after h (placing_shifted p s))
 word_shifted {b = b} _ s ok h = absurd ok
 
 pub shifts_shifted : {b t : Core} → Shifts b t → Shifted b t
@@ -160,19 +161,11 @@ work_entries (entry.Host i ∷ es) = entry.Host i ∷ work_entries es
 
 pub work_entries-append : (es : List Entry) (n : ℕ) → work_entries (es ++ entry.Thread n ∷ []) ≡ work_entries es
 work_entries-append [] n = refl
-work_entries-append (entry.Thread m ∷ es) n = work_entries-append es n
-work_entries-append (entry.Push i ∷ es) n = ap (λ (r : List Entry). entry.Push i ∷ r) (work_entries-append es n)
-work_entries-append (entry.Host i ∷ es) n = ap (λ (r : List Entry). entry.Host i ∷ r) (work_entries-append es n)
+work_entries-append (e ∷ es) n = grind (arith, work_entries-append es n)
 
 work_entries-less : (n : ℕ) (es : List Entry) → work_entries (less n es) ≡ work_entries es
 work_entries-less n [] = refl
-work_entries-less n (entry.Thread m ∷ es) = by_test (n == m) (work_entries-less n es)
-  where
-    by_test : (b : Bool) → work_entries (less n es) ≡ work_entries es → work_entries (if b then es else entry.Thread m ∷ less n es) ≡ work_entries es
-    by_test true h = refl
-    by_test false h = h
-work_entries-less n (entry.Push i ∷ es) = ap (λ (r : List Entry). entry.Push i ∷ r) (work_entries-less n es)
-work_entries-less n (entry.Host i ∷ es) = ap (λ (r : List Entry). entry.Host i ∷ r) (work_entries-less n es)
+work_entries-less n (e ∷ es) = grind (arith, work_entries-less n es)
 
 -- the entries of works are the same in both
 pub record SameWorks (s t : Core) : Type 0 where
@@ -201,21 +194,12 @@ popped_works mark.High n s h = record { high = head_high s.queues.switch s.queue
   where
     head_high : (q : Option ℕ) (hs ls : List Entry) → or_high q hs ls ≡ Some (mark.High, entry.Thread n) →
         work_entries (rest_of hs) ≡ work_entries hs
-    head_high q [] ls h = refl
-    head_high q (entry.Thread k ∷ hs) ls h = refl
-    head_high (Some k) (e ∷ hs) ls h = grind arith
-    head_high None (entry.Push i ∷ hs) ls h = grind arith
-    head_high None (entry.Host i ∷ hs) ls h = grind arith
+    head_high q hs ls h = grind arith
 popped_works mark.Low n s h = record { high = refl; low = head_low s.queues.switch s.queues.high s.queues.low h }
   where
     head_low : (q : Option ℕ) (hs ls : List Entry) → or_high q hs ls ≡ Some (mark.Low, entry.Thread n) →
         work_entries (rest_of ls) ≡ work_entries ls
-    head_low q hs [] h = refl
-    head_low q hs (entry.Thread k ∷ ls) h = refl
-    head_low (Some k) hs (e ∷ ls) h = grind arith
-    head_low None (d ∷ hs) (e ∷ ls) h = grind arith
-    head_low None [] (entry.Push i ∷ ls) h = grind arith
-    head_low None [] (entry.Host i ∷ ls) h = grind arith
+    head_low q hs ls h = grind arith
 
 -- where threads come to, the entries of works stay
 pub placing_works : (a : Scene) (p : Placing) (s : Core) → MayShift p s ⊎ MayLeave a p s → SameWorks s (after_placing p s)

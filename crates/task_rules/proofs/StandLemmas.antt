@@ -1,17 +1,17 @@
 -- Threads and their entries, counted; what the words that put a thread do to them.
-use Rattle.std.proofs.Common.{◌∙◌, ap, ap₂, arith, cond, le_trans, refl, subst, sym, ◌⊎◌}
+use Rattle.std.proofs.Common.{◌∙◌, ap, arith, cond, le_trans, refl, subst, sym, ◌⊎◌}
 use Rattle.std.proofs.lemmas.Bool.{eq-eqb, eqb-false, eqb-true}
-use Rattle.std.specs.Prelude.{Bool, List, None, Option, Some, [], false, if◌then◌else◌, is_some, option_map, true, ℕ, ◌++◌, ◌+◌, ◌==◌, ◌||◌, ◌∷◌, ◌≡◌, ◌≢◌, ◌≤◌}
+use Rattle.std.proofs.lemmas.Bool.Decides.{nat_tests}
+use Rattle.std.specs.Prelude.{Bool, List, None, Option, Some, [], false, if◌then◌else◌, is_some, option_map, true, ℕ, ◌++◌, ◌+◌, ◌==◌, ◌∷◌, ◌≡◌, ◌≢◌, ◌≤◌}
 use Rattle.task_machine.specs.declared.records.Entry.{Entry}
 use Rattle.task_machine.specs.declared.records.Place.{Place}
-use Rattle.task_machine.specs.declared.records.Thread.{Thread}
 use Rattle.task_machine.specs.declared.records.Why.{Why}
 use Rattle.task_machine.specs.declared.records.Entry.TheVariants as entry
 use Rattle.task_machine.specs.declared.words.Mark.TheVariants as mark
 use Rattle.task_machine.specs.declared.records.Place.TheVariants as place
 use Rattle.task_machine.proofs.CommuteLemmas.{get-change}
 use Rattle.task_machine.specs.Core.{Core, Queues}
-use Rattle.task_machine.specs.Maps.{Records, get}
+use Rattle.task_machine.specs.Maps.{Records}
 use Rattle.task_machine.specs.Moves.{has_entry, less, newest, older, put_high, put_low}
 use Rattle.task_machine.specs.Read.{callers_of, is_entry_of, place_of}
 use Rattle.task_machine.specs.Write.{on_thread, push_high, push_low, set_place}
@@ -39,7 +39,8 @@ by_number n m P same other = go (n == m) refl
 
 -- likewise, with what each says of a count
 pub by_count : (n m : ℕ) (P : Type 0) → (n ≡ m → one_if (n == m) ≡ 1 → P) → ((n == m) ≡ false → one_if (n == m) ≡ 0 → P) → P
-by_count n m P same other = by_number n m P (λ e. same e (ap (λ k. one_if (n == k)) (sym e) ∙ ap one_if (eq_refl n))) (λ e. other e (ap one_if e))
+by_count n m P same other =
+    by_number n m P (λ e. same e (ap (λ k. one_if (n == k)) (sym e) ∙ ap one_if (eq_refl n))) (λ e. other e (ap one_if e))
 
 pub once_or_not : (n : ℕ) → n ≤ 1 → (n ≡ 0) ⊎ (n ≡ 1)
 once_or_not n h = grind arith
@@ -59,42 +60,23 @@ times-newest k n (m ∷ ns) = omega (arith, times-newest k m ns)
 -- the entries without the first one of n
 pub entries-less : (k n : ℕ) (es : List Entry) → has_entry n es ≡ true → entries k (less n es) + one_if (k == n) ≡ entries k es
 entries-less k n [] h = absurd (grind arith)
-entries-less k n (e ∷ es) h = go (is_entry_of n e) refl (entries-less k n es) h
-  where
-    same_entry : (d : Entry) → is_entry_of n d ≡ true → is_entry_of k d ≡ (k == n)
-    same_entry (entry.Thread m) i = ap (λ j. k == j) (sym (is_eq_of n m i))
-    same_entry (entry.Push j) i = grind arith
-    same_entry (entry.Host j) i = grind arith
-
-    go : (b : Bool) → is_entry_of n e ≡ b → (has_entry n es ≡ true → entries k (less n es) + one_if (k == n) ≡ entries k es) →
-        (b || has_entry n es) ≡ true → entries k (cond b es (e ∷ less n es)) + one_if (k == n) ≡ one_if (is_entry_of k e) + entries k es
-    go true i rest g = omega (arith, ap one_if (same_entry e i))
-    go false i rest g = omega (arith, rest g)
+entries-less k n (e ∷ es) h = grind (arith, nat_tests, entries-less k n es)
 
 -- ---- Places after a write
 
-pub set_place_is : (k m : ℕ) (p : Place) (s : Core) → place_of k (set_place m p s) ≡ cond (k == m) (option_map (λ (q : Place). p) (place_of k s)) (place_of k s)
+pub set_place_is : (k m : ℕ) (p : Place) (s : Core) →
+    place_of k (set_place m p s) ≡ cond (k == m) (option_map (λ (q : Place). p) (place_of k s)) (place_of k s)
 unfolding set_place on_thread
-set_place_is k m p s = ap (option_map (λ (t : Thread). t.place)) (get-change m (λ t. record t { place = p }) s.threads k) ∙ go (k == m) (get s.threads k)
-  where
-    go : (b : Bool) (o : Option Thread) → option_map (λ (t : Thread). t.place) (cond b (option_map (λ (t : Thread). record t { place = p }) o) o) ≡ cond b (option_map (λ (q : Place). p) (option_map (λ (t : Thread). t.place) o)) (option_map (λ (t : Thread). t.place) o)
-    go true None = refl
-    go true (Some t) = refl
-    go false o = refl
+set_place_is k m p s = grind (arith, nat_tests, get-change)
 
 pub place_written : (m : ℕ) (p q : Place) (s : Core) → place_of m s ≡ Some q → place_of m (set_place m p s) ≡ Some p
-place_written m p q s h = set_place_is m m p s ∙ ap₂ (λ (b : Bool) (o : Option Place). cond b (option_map (λ (r : Place). p) o) o) (eq_refl m) h
+place_written m p q s h = grind (arith, nat_tests, set_place_is m m p s)
 
 pub place_kept : (k m : ℕ) (p : Place) (s : Core) → (k == m) ≡ false → place_of k (set_place m p s) ≡ place_of k s
-place_kept k m p s h = set_place_is k m p s ∙ ap (λ b. cond b (option_map (λ (r : Place). p) (place_of k s)) (place_of k s)) h
+place_kept k m p s h = grind (arith, set_place_is k m p s)
 
 pub set_place_there : (k m : ℕ) (p : Place) (s : Core) → is_there k (set_place m p s) ≡ is_there k s
-set_place_there k m p s = ap (λ (o : Option Place). is_some o) (set_place_is k m p s) ∙ go (k == m) (place_of k s)
-  where
-    go : (b : Bool) (o : Option Place) → is_some (cond b (option_map (λ (q : Place). p) o) o) ≡ is_some o
-    go true None = refl
-    go true (Some q) = refl
-    go false o = refl
+set_place_there k m p s = grind (arith, set_place_is k m p s)
 
 -- ---- Where a thread stands
 
@@ -104,6 +86,13 @@ pub data Spot : Type 0 where
   AtHigh : Spot
   AtLow : Spot
   BehindOf : (foot : ℕ) → Spot
+
+-- what holds at each
+pub spots : (P : Spot → Type 0) → P AtSwitch → P AtHigh → P AtLow → ((f : ℕ) → P (BehindOf f)) → (x : Spot) → P x
+spots P switch high low behind AtSwitch = switch
+spots P switch high low behind AtHigh = high
+spots P switch high low behind AtLow = low
+spots P switch high low behind (BehindOf f) = behind f
 
 -- how often it is there
 abbrev pub count : ℕ → Core → Spot → ℕ
@@ -131,18 +120,19 @@ pub record StandsAs (o : Option Place) (k : ℕ) (s : Core) : Type 0 where
   pub counts : (x : Spot) → count k s x ≡ (if is_open s x then says (said x) o else 0)
 
 pub of_placed : (k : ℕ) (s : Core) → HasPlace k s → StandsAs (place_of k s) k s
-of_placed k s h = record { number = h.number; behind = h.behind; counts = counts }
-  where
-    counts : (x : Spot) → count k s x ≡ (if is_open s x then says (said x) (place_of k s) else 0)
-    counts AtSwitch = h.switch
-    counts AtHigh = h.high
-    counts AtLow = h.low
-    counts (BehindOf f) = h.callers f
+of_placed k s h = record { number = h.number; behind = h.behind; counts = spots _ h.switch h.high h.low h.callers }
 
 pub to_placed : (k : ℕ) (s : Core) (o : Option Place) → place_of k s ≡ o → StandsAs o k s → HasPlace k s
 to_placed k s o is h =
     let g = subst (λ (p : Option Place). StandsAs p k s) (sym is) h in
-    record { number = g.number; behind = g.behind; switch = g.counts AtSwitch; high = g.counts AtHigh; low = g.counts AtLow; callers = λ f. g.counts (BehindOf f) }
+    record {
+      number = g.number;
+      behind = g.behind;
+      switch = g.counts AtSwitch;
+      high = g.counts AtHigh;
+      low = g.counts AtLow;
+      callers = λ f. g.counts (BehindOf f);
+    }
 
 -- ---- Threads that have no entry and are among no callers
 
@@ -155,38 +145,31 @@ pub record Loose (n : ℕ) (s : Core) : Type 0 where
 
 -- what is said of the callers of a thread that may be gone
 pub none_there : (b : Bool) (x : ℕ) → x ≡ 0 → (if b then x else 0) ≡ 0
-none_there true x h = h
-none_there false x h = refl
+none_there b x h = grind arith
 
 pub zero_one : {A : Type 0} {x : ℕ} → x ≡ 0 → x ≡ 1 → A
 zero_one {A = A} h g = absurd (omega (arith, h, g))
 
 pub of_loose : (k : ℕ) (s : Core) → Loose k s → StandsAs None k s
-of_loose k s l = record { number = l.number; behind = λ f e. zero_one refl e; counts = λ x. counts x ∙ sym (none_there (is_open s x) 0 refl) }
-  where
-    counts : (x : Spot) → count k s x ≡ 0
-    counts AtSwitch = l.switch
-    counts AtHigh = l.high
-    counts AtLow = l.low
-    counts (BehindOf f) = l.callers f
+of_loose k s l = record {
+  number = l.number;
+  behind = λ f e. zero_one refl e;
+  counts = λ x. spots (λ y. count k s y ≡ 0) l.switch l.high l.low l.callers x ∙ sym (none_there (is_open s x) 0 refl);
+}
 
 -- the place, if there is one, says nothing
 abbrev pub Mute : Option Place → Type 0
 Mute o = (x : Spot) → says (said x) o ≡ 0
 
 pub to_loose : (k : ℕ) (s : Core) (o : Option Place) → Mute o → StandsAs o k s → Loose k s
-to_loose k s o mute h = record { number = h.number; switch = none AtSwitch; high = none AtHigh; low = none AtLow; callers = λ f. none (BehindOf f) }
+to_loose k s o mute h =
+    record { number = h.number; switch = none AtSwitch; high = none AtHigh; low = none AtLow; callers = λ f. none (BehindOf f) }
   where
     none : (x : Spot) → count k s x ≡ 0
     none x = h.counts x ∙ none_there (is_open s x) _ (mute x)
 
 pub free_mute : (p : Place) → is_free p ≡ true → Mute (Some p)
-free_mute (place.Ready m w) h x = grind arith
-free_mute (place.Behind f) h x = grind arith
-free_mute _ h AtSwitch = refl
-free_mute _ h AtHigh = refl
-free_mute _ h AtLow = refl
-free_mute _ h (BehindOf f) = refl
+free_mute p free x = grind arith
 
 -- a thread whose place says nothing is loose
 pub free_loose : (n : ℕ) (p : Place) (s : Core) → place_of n s ≡ Some p → is_free p ≡ true → HasPlace n s → Loose n s
@@ -204,12 +187,7 @@ loose_placed n o s is mute l =
 
 -- who is among the callers of f is behind f
 pub callers_say : (n f : ℕ) (s : Core) → HasPlace n s → times n (callers_of f s) ≤ says (is_behind_of f) (place_of n s)
-callers_say n f s h = only (is_there f s) (h.callers f)
-  where
-    only : (b : Bool) → times n (callers_of f s) ≡ (if b then says (is_behind_of f) (place_of n s) else 0) →
-        times n (callers_of f s) ≤ says (is_behind_of f) (place_of n s)
-    only true e = omega (arith, e)
-    only false e = omega (arith, e)
+callers_say n f s h = grind (arith, h.callers f)
 
 -- ---- Who stays
 
@@ -220,8 +198,7 @@ pub record Left (k : ℕ) (s t : Core) : Type 0 where
   pub counts : (x : Spot) → count k t x ≡ count k s x
 
 open_still : (s t : Core) → ((f : ℕ) → is_there f t ≡ is_there f s) → (x : Spot) → is_open t x ≡ is_open s x
-open_still s t there (BehindOf f) = there f
-open_still s t there _ = refl
+open_still s t there x = grind arith
 
 pub left_stands : (k : ℕ) (s t : Core) (o : Option Place) → Left k s t → StandsAs o k s → StandsAs o k t
 left_stands k s t o q h = record {
@@ -267,53 +244,36 @@ pub record Adds (m : ℕ) (p : Place) (s t : Core) : Type 0 where
 
 module _ (m : ℕ) (p : Place) (s t : Core) (a : Adds m p s t) where
   gained : (k : ℕ) (x : Spot) → count k t x ≡ count k s x + gain k m (one_if (said x p))
-  gained k AtSwitch = a.switch k
-  gained k AtHigh = a.high k
-  gained k AtLow = a.low k
-  gained k (BehindOf f) = a.callers k f
+  gained k = spots _ (a.switch k) (a.high k) (a.low k) (a.callers k)
 
   -- the same threads are there
   adds_there : (k : ℕ) → is_there k t ≡ is_there k s
-  adds_there k =
-      by_number k m (is_there k t ≡ is_there k s)
-      (λ e. subst (λ (j : ℕ). is_there j t ≡ is_there j s) (sym e) (ap (λ (o : Option Place). is_some o) a.own ∙ sym a.was))
-      (λ e. ap (λ (o : Option Place). is_some o) (a.other k e))
+  adds_there k = grind (arith, nat_tests, a.other k, a.own, a.was)
 
   pub adds_given : (f : ℕ) → Given f s → Given f t
   adds_given f g = (adds_there f ∙ g.0, subst (λ (c : ℕ). f ≤ c) a.made g.1)
 
   -- the others stay
   adds_left : (k : ℕ) → (k == m) ≡ false → Left k s t
-  adds_left k e = record { made = omega (arith, a.made); there = adds_there; counts = λ x. gained k x ∙ none (gain k m (one_if (said x p))) (ap (λ b. cond b (one_if (said x p)) 0) e) }
-    where
-      none : {c : ℕ} (d : ℕ) → d ≡ 0 → c + d ≡ c
-      none d h = omega (arith, h)
+  adds_left k e = record { made = omega (arith, a.made); there = adds_there; counts = λ x. grind (arith, gained k x) }
 
   -- the moved thread has its place
   adds_own : Loose m s → HasPlace m t
   adds_own l = to_placed m t (Some p) a.own (record {
     number = λ h. subst (λ (c : ℕ). m ≤ c) a.made (l.number a.was);
     behind = λ f h. (adds_given f (a.behind f (is_one (is_behind_of f p) h))).1;
-    counts = λ x. gained m x ∙ (sums (count m s x) _ _ (none_loose x) (ap (λ b. cond b (one_if (said x p)) 0) (eq_refl m)) ∙ only_there (said x p) (is_open t x) (opens x));
+    counts = λ x. sums x (gained m x) ((of_loose m s l).counts x) (opens x);
   })
     where
       is_one : (b : Bool) → one_if b ≡ 1 → b ≡ true
       is_one b h = grind arith
 
-      none_loose : (x : Spot) → count m s x ≡ 0
-      none_loose x = (of_loose m s l).counts x ∙ none_there (is_open s x) 0 refl
-
-      sums : (c d e : ℕ) → c ≡ 0 → d ≡ e → c + d ≡ e
-      sums c d e f g = omega (arith, f, g)
-
       opens : (x : Spot) → said x p ≡ true → is_open t x ≡ true
-      opens (BehindOf f) h = (adds_given f (a.behind f h)).0
-      opens _ h = refl
+      opens = spots _ (λ h. refl) (λ h. refl) (λ h. refl) (λ f h. (adds_given f (a.behind f h)).0)
 
-      only_there : (b c : Bool) → (b ≡ true → c ≡ true) → one_if b ≡ (if c then one_if b else 0)
-      only_there b true h = refl
-      only_there false false h = refl
-      only_there true false h = absurd (grind (arith, h refl))
+      sums : (x : Spot) → count m t x ≡ count m s x + gain m m (one_if (said x p)) → count m s x ≡ (if is_open s x then 0 else 0) →
+          (said x p ≡ true → is_open t x ≡ true) → count m t x ≡ (if is_open t x then one_if (said x p) else 0)
+      sums x e z o = grind (arith, nat_tests)
 
   adds_other : (k : ℕ) → (k == m) ≡ false → HasPlace k s → HasPlace k t
   adds_other k e h = left_placed k s t (adds_left k e) (a.other k e) h
@@ -323,8 +283,10 @@ module _ (m : ℕ) (p : Place) (s t : Core) (a : Adds m p s t) where
   adds_stand n q xs st = record {
     here = a.other n (by_count n m ((n == m) ≡ false) (λ e x. absurd (omega (arith, st.once n, own n))) (λ e x. e)) ∙ st.here;
     once = λ k. omega (arith, st.once k);
-    loose = λ k h. by_count k m (Loose k t) (λ e x. absurd (omega (arith, st.once k))) (λ e x. left_loose k s t (adds_left k e) (st.loose k (omega arith)));
-    there = λ k h. by_count k m ((r : Place) × (place_of k t ≡ Some r)) (λ e x. absurd (omega (arith, st.once k))) (λ e x. let r = st.there k (omega arith) in (r.0, a.other k e ∙ r.1));
+    loose = λ k h. by_count k m _ (λ e x. absurd (omega (arith, st.once k)))
+        (λ e x. left_loose k s t (adds_left k e) (st.loose k (omega arith)));
+    there = λ k h. by_count k m _ (λ e x. absurd (omega (arith, st.once k)))
+        (λ e x. let r = st.there k (omega arith) in (r.0, a.other k e ∙ r.1));
     placed = λ k h. by_count k m (HasPlace k t)
         (λ e x. subst (λ (j : ℕ). Loose j s → HasPlace j t) (sym e) adds_own (st.loose k (omega (arith, st.once k))))
         (λ e x. adds_other k e (st.placed k (omega arith)));
@@ -336,7 +298,7 @@ module _ (m : ℕ) (p : Place) (s t : Core) (a : Adds m p s t) where
 -- the thread n itself is put at a place, and each thread has its place
 pub adds_all : (n : ℕ) (q p : Place) (s t : Core) → Adds n p s t → Stand n q [] s → (k : ℕ) → HasPlace k t
 adds_all n q p s t a st k =
-    by_count k n (HasPlace k t) (λ e x. subst (λ (j : ℕ). Loose j s → HasPlace j t) (sym e) (adds_own n p s t a) (st.loose k (omega arith)))
+    by_count k n _ (λ e x. subst (λ (j : ℕ). Loose j s → HasPlace j t) (sym e) (adds_own n p s t a) (st.loose k (omega arith)))
     (λ e x. adds_other n p s t a k e (st.placed k (omega arith)))
 
 -- From s to t the thread m isn't any more where the place p says, and all else stays.
@@ -350,29 +312,28 @@ pub drops_stand : (n : ℕ) (q : Place) (m : ℕ) (p : Place) (xs : List ℕ) (s
     times m (n ∷ xs) ≡ 0 → Stand n q xs s → Stand n q (m ∷ xs) t
 drops_stand n q m p xs s t d is none st = record {
   here = d.places n ∙ st.here;
-  once = λ k. by_count k m (times k (n ∷ m ∷ xs) ≤ 1) (λ e x. omega (arith, subst (λ (j : ℕ). times j (n ∷ xs) ≡ 0) (sym e) none)) (λ e x. omega (arith, st.once k));
-  loose = λ k h. by_count k m (Loose k t) (λ e x. subst (λ (j : ℕ). Loose j t) (sym e) own) (λ e x. left_loose k s t (left k e) (st.loose k (omega arith)));
-  there = λ k h. by_count k m ((r : Place) × (place_of k t ≡ Some r)) (λ e x. (p, d.places k ∙ (ap (λ (j : ℕ). place_of j s) e ∙ is))) (λ e x. let r = st.there k (omega arith) in (r.0, d.places k ∙ r.1));
-  placed = λ k h. by_count k m (HasPlace k t) (λ e x. absurd (omega arith)) (λ e x. left_placed k s t (left k e) (d.places k) (st.placed k (omega arith)));
+  once = λ k. by_count k m _ (λ e x. omega (arith, subst (λ (j : ℕ). times j (n ∷ xs) ≡ 0) (sym e) none)) (λ e x. omega (arith, st.once k));
+  loose = λ k h. by_count k m _ (λ e x. subst (λ (j : ℕ). Loose j t) (sym e) own)
+      (λ e x. left_loose k s t (left k e) (st.loose k (omega arith)));
+  there = λ k h. by_count k m _ (λ e x. (p, d.places k ∙ (ap (λ (j : ℕ). place_of j s) e ∙ is)))
+      (λ e x. let r = st.there k (omega arith) in (r.0, d.places k ∙ r.1));
+  placed = λ k h. by_count k m _ (λ e x. absurd (omega arith))
+      (λ e x. left_placed k s t (left k e) (d.places k) (st.placed k (omega arith)));
 }
   where
     there : (k : ℕ) → is_there k t ≡ is_there k s
     there k = ap (λ (o : Option Place). is_some o) (d.places k)
 
     left : (k : ℕ) → (k == m) ≡ false → Left k s t
-    left k e = record { made = omega (arith, d.made); there = there; counts = λ x. same (d.counts k x) (ap (λ b. cond b (one_if (said x p)) 0) e) }
-      where
-        same : {a b c : ℕ} → a ≡ b + c → c ≡ 0 → b ≡ a
-        same f g = omega (arith, f, g)
+    left k e = record { made = omega (arith, d.made); there = there; counts = λ x. grind (arith, d.counts k x) }
 
     none_left : (x : Spot) → count m t x ≡ 0
     none_left x =
-        at_most (is_open s x) (d.counts m x) (ap (λ b. cond b (one_if (said x p)) 0) (eq_refl m))
-        ((of_placed m s (st.placed m none)).counts x ∙ ap (λ o. if is_open s x then says (said x) o else 0) is)
+        zero (d.counts m x) ((of_placed m s (st.placed m none)).counts x ∙ ap (λ o. if is_open s x then says (said x) o else 0) is)
       where
-        at_most : {a b c y : ℕ} (o : Bool) → a ≡ b + c → c ≡ y → a ≡ (if o then y else 0) → b ≡ 0
-        at_most true f g h = omega (arith, f, g, h)
-        at_most false f g h = omega (arith, f, g, h)
+        zero : count m s x ≡ count m t x + gain m m (one_if (said x p)) → count m s x ≡ (if is_open s x then one_if (said x p) else 0) →
+            count m t x ≡ 0
+        zero e z = grind (arith, nat_tests)
 
     own : Loose m t
     own = record {
@@ -423,27 +384,21 @@ moved_adds m p r q cs s is given counts = record {
 
 pub put_high_adds : (m : ℕ) (w : Why) (r : Place) (s : Core) → place_of m s ≡ Some r → Adds m (place.Ready mark.High w) s (put_high m w s)
 unfolding put_high push_high set_place on_thread
-put_high_adds m w r s is = moved_adds m (place.Ready mark.High w) r _ _ s is (λ f h. absurd (grind arith)) counts
-  where
-    counts : (k : ℕ) (x : Spot) → count k (put_high m w s) x ≡ count k s x + gain k m (one_if (said x (place.Ready mark.High w)))
-    counts k AtHigh = plus_one k m _ _ (entries-append k s.queues.high (entry.Thread m))
-    counts k _ = plus_none k m _
+put_high_adds m w r s is =
+    moved_adds m (place.Ready mark.High w) r _ _ s is (λ f h. absurd (grind arith))
+    (λ k. spots _ (plus_none k m _) (plus_one k m _ _ (entries-append k s.queues.high (entry.Thread m))) (plus_none k m _)
+    (λ f. plus_none k m _))
 
 pub put_low_adds : (m : ℕ) (w : Why) (r : Place) (s : Core) → place_of m s ≡ Some r → Adds m (place.Ready mark.Low w) s (put_low m w s)
 unfolding put_low push_low set_place on_thread
-put_low_adds m w r s is = moved_adds m (place.Ready mark.Low w) r _ _ s is (λ f h. absurd (grind arith)) counts
-  where
-    counts : (k : ℕ) (x : Spot) → count k (put_low m w s) x ≡ count k s x + gain k m (one_if (said x (place.Ready mark.Low w)))
-    counts k AtLow = plus_one k m _ _ (entries-append k s.queues.low (entry.Thread m))
-    counts k _ = plus_none k m _
+put_low_adds m w r s is =
+    moved_adds m (place.Ready mark.Low w) r _ _ s is (λ f h. absurd (grind arith))
+    (λ k. spots _ (plus_none k m _) (plus_none k m _) (plus_one k m _ _ (entries-append k s.queues.low (entry.Thread m)))
+    (λ f. plus_none k m _))
 
 pub set_place_adds : (m : ℕ) (p r : Place) (s : Core) → is_free p ≡ true → place_of m s ≡ Some r → Adds m p s (set_place m p s)
 unfolding set_place on_thread
 set_place_adds m p r s free is =
-    moved_adds m p r s.queues s.callers s is (λ f h. zero_one (free_mute p free (BehindOf f)) (ap one_if h)) counts
-  where
-    counts : (k : ℕ) (x : Spot) → count k (set_place m p s) x ≡ count k s x + gain k m (one_if (said x p))
-    counts k AtSwitch = plus_mute p free k m s AtSwitch
-    counts k AtHigh = plus_mute p free k m s AtHigh
-    counts k AtLow = plus_mute p free k m s AtLow
-    counts k (BehindOf f) = plus_mute p free k m s (BehindOf f)
+    let mute = λ (k : ℕ). plus_mute p free k m s in
+    moved_adds m p r s.queues s.callers s is (λ f h. zero_one (free_mute p free (BehindOf f)) (ap one_if h))
+    (λ k. spots _ (mute k AtSwitch) (mute k AtHigh) (mute k AtLow) (λ f. mute k (BehindOf f)))

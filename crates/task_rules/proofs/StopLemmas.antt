@@ -1,19 +1,18 @@
 -- What the moves that put threads, and a stop, do to places and entries.
-use Rattle.std.proofs.Common.{◌∙◌, ap, arith, cond, le_refl, inl, inr, refl, subst, sym, ◌⊎◌}
+use Rattle.std.proofs.Common.{◌∙◌, ap, arith, le_refl, inl, inr, refl, subst, sym, ◌⊎◌}
 use Rattle.std.proofs.lemmas.Bool.Decides.{nat_tests}
-use Rattle.std.specs.Option.{option_map_or}
-use Rattle.std.specs.Prelude.{Bool, List, None, Option, Some, [], false, find, is_some, suc, true, unwrap_or, zero, ℕ, ◌++◌, ◌+◌, ◌==◌, ◌∷◌, ◌≡◌, ◌≤◌}
+use Rattle.std.specs.Prelude.{Bool, List, None, Option, Some, [], find, is_some, suc, true, unwrap_or, zero, ℕ, ◌+◌, ◌==◌, ◌∷◌, ◌≡◌, ◌≤◌}
 use Rattle.task_machine.specs.declared.records.Place.{Place}
 use Rattle.task_machine.specs.declared.records.Why.{Why}
 use Rattle.task_machine.specs.declared.words.Mark.TheVariants as mark
 use Rattle.task_machine.specs.declared.records.Place.TheVariants as place
 use Rattle.task_machine.specs.declared.records.Why.TheVariants as why
 use Rattle.task_machine.specs.Core.{Core, Queues}
-use Rattle.task_machine.specs.Maps.{Records, get, get-insert, insert, numbers, size}
+use Rattle.task_machine.specs.Maps.{Records, get, get-insert, numbers, size}
 use Rattle.task_machine.specs.Moves.{behind, behind_one, displaced, newest, older, passed_on, put_high, put_switch, resumed_all, resumed_callers, stopped, why_of}
 use Rattle.task_machine.specs.Read.{callers_of, foot_from, foot_of, is_at, is_under, place_of, under_of}
 use Rattle.task_machine.specs.Write.{on_thread, push_high_first, set_callers, set_place, set_switch}
-use Rattle.task_rules.proofs.StandLemmas.{Adds, AtHigh, AtLow, AtSwitch, BehindOf, Given, Left, Loose, Spot, Stand, StandsAs, adds_given, adds_stand, by_count, callers_say, count, drops_stand, eq_refl, gain, is_eq_of, left_loose, left_placed, moved_adds, none_there, of_placed, once_or_not, plus_none, plus_one, put_high_adds, said, times-append, times-newest, zero_one}
+use Rattle.task_rules.proofs.StandLemmas.{spots, Drops, Adds, AtHigh, AtLow, AtSwitch, BehindOf, Given, Left, Loose, Stand, StandsAs, adds_given, adds_stand, by_count, callers_say, count, drops_stand, eq_refl, gain, is_eq_of, left_loose, left_placed, moved_adds, of_placed, once_or_not, plus_none, plus_one, put_high_adds, said, times-append, times-newest, zero_one}
 use Rattle.task_rules.specs.Places.{HasPlace, entries, is_at_switch, is_behind_of, is_there, one_if, says, switch_entries, times}
 
 -- ---- What leaves every place and every entry alone
@@ -28,13 +27,12 @@ pub untouched_there : (s t : Core) → Untouched s t → (k : ℕ) → is_there 
 untouched_there s t q k = ap (λ (o : Option Place). is_some o) (q.places k)
 
 untouched_left : (k : ℕ) (s t : Core) → Untouched s t → Left k s t
-untouched_left k s t q = record { made = q.made; there = untouched_there s t q; counts = counts }
-  where
-    counts : (x : Spot) → count k t x ≡ count k s x
-    counts AtSwitch = ap (λ (x : Queues). switch_entries k x.switch) q.queues
-    counts AtHigh = ap (λ (x : Queues). entries k x.high) q.queues
-    counts AtLow = ap (λ (x : Queues). entries k x.low) q.queues
-    counts (BehindOf f) = ap (λ (m : Records (List ℕ)). times k (unwrap_or (get m f) [])) q.callers
+untouched_left k s t q = record {
+  made = q.made;
+  there = untouched_there s t q;
+  counts = spots _ (ap (λ (x : Queues). switch_entries k x.switch) q.queues) (ap (λ (x : Queues). entries k x.high) q.queues)
+      (ap (λ (x : Queues). entries k x.low) q.queues) (λ f. ap (λ (m : Records (List ℕ)). times k (unwrap_or (get m f) [])) q.callers);
+}
 
 pub quiet_placed : (k : ℕ) (s t : Core) → Untouched s t → HasPlace k s → HasPlace k t
 quiet_placed k s t q h = left_placed k s t (untouched_left k s t q) (q.places k) h
@@ -59,49 +57,50 @@ pub put_stand : (n : ℕ) (q : Place) (m : ℕ) (xs : List ℕ) (p : Place) (s t
 put_stand n q m xs p s t adds st =
     let r = st.there m (own_times m xs (omega (arith, st.once m))) in adds_stand m p s t (adds r.0 r.1) n q xs st
 
-insert_get : (f g : ℕ) (ns : List ℕ) (m : Records (List ℕ)) → unwrap_or (get (insert m g ns) f) [] ≡ cond (f == g) ns (unwrap_or (get m f) [])
-insert_get f g ns m = grind (arith, nat_tests, get-insert)
-
 pub behind_adds : (g m : ℕ) (r : Place) (s : Core) → Given g s → place_of m s ≡ Some r → Adds m (place.Behind g) s (behind_one g m s)
 unfolding behind_one set_callers set_place on_thread
-behind_adds g m r s given is = moved_adds m (place.Behind g) r _ _ s is (λ f e. subst (λ (j : ℕ). Given j s) (sym (is_eq_of f g e)) given) counts
-  where
-    by_caller : (k f : ℕ) (b : Bool) → (f == g) ≡ b →
-        times k (cond b (callers_of g s ++ m ∷ []) (callers_of f s)) ≡ times k (callers_of f s) + gain k m (one_if b)
-    by_caller k f true e =
-        plus_one k m _ _ (times-append k (callers_of g s) m) ∙ ap (λ (j : ℕ). times k (callers_of j s) + gain k m 1) (sym (is_eq_of f g e))
-    by_caller k f false e = plus_none k m _
-
-    counts : (k : ℕ) (x : Spot) → count k (behind_one g m s) x ≡ count k s x + gain k m (one_if (said x (place.Behind g)))
-    counts k (BehindOf f) = ap (times k) (insert_get f g (callers_of g s ++ m ∷ []) s.callers) ∙ by_caller k f (f == g) refl
-    counts k _ = plus_none k m _
+behind_adds g m r s given is =
+    moved_adds m (place.Behind g) r _ _ s is (λ f e. subst (λ (j : ℕ). Given j s) (sym (is_eq_of f g e)) given)
+    (λ k. spots _ (plus_none k m _) (plus_none k m _) (plus_none k m _)
+    (λ f. grind (arith, nat_tests, get-insert, times-append k (callers_of g s) m)))
 
 -- ---- The entry at switch gives way
 
 switch_adds : (m : ℕ) (w : Why) (r : Place) (s : Core) → place_of m s ≡ Some r →
     Adds m (place.Ready mark.Switch w) (set_switch None s) (set_switch (Some m) (set_place m (place.Ready mark.Switch w) s))
 unfolding set_switch set_place on_thread
-switch_adds m w r s is = moved_adds m (place.Ready mark.Switch w) r _ _ (set_switch None s) is (λ f h. absurd (grind arith)) counts
-  where
-    counts : (k : ℕ) (x : Spot) →
-        count k (set_switch (Some m) (set_place m (place.Ready mark.Switch w) s)) x ≡
-        count k (set_switch None s) x + gain k m (one_if (said x (place.Ready mark.Switch w)))
-    counts k AtSwitch = plus_one k m 0 _ (omega arith)
-    counts k _ = plus_none k m _
+switch_adds m w r s is =
+    moved_adds m (place.Ready mark.Switch w) r _ _ (set_switch None s) is (λ f h. absurd (grind arith))
+    (λ k. spots _ (plus_one k m 0 _ (omega arith)) (plus_none k m _) (plus_none k m _) (λ f. plus_none k m _))
 
 -- where a thread stands at switch, and is put at the front of high
 displaced_stand : (n : ℕ) (q : Place) (xs : List ℕ) (s : Core) (o : Option ℕ) → s.queues.switch ≡ o → Stand n q xs s →
     Stand n q xs (set_switch None (displaced o s))
 unfolding set_switch push_high_first set_place on_thread
 displaced_stand n q xs s None is st =
-    quiet_stand n q xs s _ (record { places = λ k. refl; queues = ap (λ (x : Option ℕ). record s.queues { switch = x }) (sym is); callers = refl; made = le_refl _ }) st
+    let same : s.queues ≡ record s.queues { switch = None } = ap (λ (x : Option ℕ). record s.queues { switch = x }) is in
+    quiet_stand n q xs s _ (record { places = λ k. refl; queues = sym same; callers = refl; made = le_refl _ }) st
 displaced_stand n q xs s (Some j) is st =
     let w = ready (place_of j s) refl (sym stands ∙ (st.placed j j_none).switch) in
-    let adds = moved_adds j (place.Ready mark.High (why_of j s)) (place.Ready mark.Switch w.0) _ _ u w.1 (λ f h. absurd (grind arith)) more in
-    adds_stand j (place.Ready mark.High (why_of j s)) u _ adds n q xs (drops_stand n q j (place.Ready mark.Switch w.0) xs s u (record { made = refl; places = λ k. refl; counts = less w.0 }) w.1 j_none st)
+    let off : Drops j (place.Ready mark.Switch w.0) s u = record {
+      made = refl;
+      places = λ k. refl;
+      counts = λ k. spots _ (ap (switch_entries k) is ∙ plus_one k j 0 _ (omega arith)) (plus_none k j _) (plus_none k j _)
+          (λ f. plus_none k j _);
+    } in
+    let more = λ (k : ℕ). spots (λ x. count k t x ≡ count k u x + gain k j (one_if (said x high))) (plus_none k j _)
+    (plus_one k j _ _ (omega arith)) (plus_none k j _) (λ f. plus_none k j _) in
+    adds_stand j high u t (moved_adds j high (place.Ready mark.Switch w.0) _ _ u w.1 (λ f h. absurd (grind arith)) more) n q xs
+    (drops_stand n q j (place.Ready mark.Switch w.0) xs s u off w.1 j_none st)
   where
     u : Core
     u = set_switch None s
+
+    t : Core
+    t = set_switch None (displaced (Some j) s)
+
+    high : Place
+    high = place.Ready mark.High (why_of j s)
 
     stands : switch_entries j s.queues.switch ≡ 1
     stands = ap (switch_entries j) is ∙ ap one_if (eq_refl j)
@@ -114,18 +113,12 @@ displaced_stand n q xs s (Some j) is st =
     ready (Some (place.Ready mark.Switch w)) e z = (w, e)
     ready _ e z = absurd (omega (arith, z))
 
-    less : (w : Why) (k : ℕ) (x : Spot) → count k s x ≡ count k u x + gain k j (one_if (said x (place.Ready mark.Switch w)))
-    less w k AtSwitch = ap (switch_entries k) is ∙ plus_one k j 0 _ (omega arith)
-    less w k _ = plus_none k j _
-
-    more : (k : ℕ) (x : Spot) → count k (set_switch None (displaced (Some j) s)) x ≡ count k u x + gain k j (one_if (said x (place.Ready mark.High (why_of j s))))
-    more k AtHigh = plus_one k j _ _ (omega arith)
-    more k _ = plus_none k j _
-
-pub put_switch_stand : (n : ℕ) (q : Place) (m : ℕ) (xs : List ℕ) (w : Why) (s : Core) → times m xs ≡ 0 → Stand n q (m ∷ xs) s → Stand n q xs (put_switch m w s)
+pub put_switch_stand : (n : ℕ) (q : Place) (m : ℕ) (xs : List ℕ) (w : Why) (s : Core) → times m xs ≡ 0 → Stand n q (m ∷ xs) s →
+    Stand n q xs (put_switch m w s)
 unfolding put_switch set_switch set_place on_thread
 put_switch_stand n q m xs w s none st =
-    put_stand n q m xs (place.Ready mark.Switch w) _ _ (λ r is. switch_adds m w r (displaced s.queues.switch s) is) (displaced_stand n q (m ∷ xs) s s.queues.switch refl st)
+    put_stand n q m xs (place.Ready mark.Switch w) _ _ (λ r is. switch_adds m w r (displaced s.queues.switch s) is)
+    (displaced_stand n q (m ∷ xs) s s.queues.switch refl st)
 
 -- ---- A stop
 
@@ -185,35 +178,25 @@ switch_there n q xs s st m e = by_times (once_or_not (times m (n ∷ xs)) (st.on
 
 pub find_passes : (test : ℕ → Bool) (ns : List ℕ) (m : ℕ) → find test ns ≡ Some m → test m ≡ true
 find_passes test [] m h = grind arith
-find_passes test (n ∷ ns) m h = go (test n) refl (find_passes test ns m) h
-  where
-    go : (b : Bool) → test n ≡ b → (find test ns ≡ Some m → test m ≡ true) → cond b (Some n) (find test ns) ≡ Some m → test m ≡ true
-    go true e rest g = subst (λ (k : ℕ). test k ≡ true) (ap (λ (o : Option ℕ). unwrap_or o n) g) e
-    go false e rest g = rest g
+find_passes test (n ∷ ns) m h = grind (arith, find_passes test ns m)
 
 -- down a strand all are there
 under_there : (n m : ℕ) (s : Core) → under_of n s ≡ Some m → is_there m s ≡ true
 unfolding under_of
-under_there n m s h = somewhere (place_of m s) (find_passes (λ k. is_at k s (is_under n)) (numbers s.threads) m h)
-  where
-    somewhere : (o : Option Place) → option_map_or (is_under n) o false ≡ true → is_some o ≡ true
-    somewhere None g = g
-    somewhere (Some p) g = refl
+under_there n m s h = grind (arith, find_passes (λ k. is_at k s (is_under n)) (numbers s.threads) m)
 
 foot_from_there : (k : ℕ) (s : Core) (n : ℕ) → is_there n s ≡ true → is_there (foot_from k s n) s ≡ true
 foot_from_there zero s n h = h
-foot_from_there (suc k) s n h = go (λ m g. foot_from_there k s m g) (under_of n s) refl
-  where
-    go : ((m : ℕ) → is_there m s ≡ true → is_there (foot_from k s m) s ≡ true) → (o : Option ℕ) → under_of n s ≡ o → is_there (option_map_or (foot_from k s) o n) s ≡ true
-    go below None e = h
-    go below (Some m) e = below m (under_there n m s e)
+foot_from_there (suc k) s n h = grind (arith, under_there n, foot_from_there k s)
 
 pub foot_there : (n : ℕ) (s : Core) → is_there n s ≡ true → is_there (foot_of n s) s ≡ true
 unfolding foot_of
 foot_there n s h = foot_from_there (size s.threads) s n h
 
-passed_on_stand : (n : ℕ) (q : Place) (o : Option ℕ) (xs : List ℕ) (s : Core) → s.queues.switch ≡ o → Stand n q xs s → Stand n q [] (passed_on o xs s)
-passed_on_stand n q (Some m) xs s e st = behind_all_stand n q (foot_of m s) xs s (given_there n q xs s st (foot_of m s) (foot_there m s (switch_there n q xs s st m e))) st
+passed_on_stand : (n : ℕ) (q : Place) (o : Option ℕ) (xs : List ℕ) (s : Core) → s.queues.switch ≡ o → Stand n q xs s →
+    Stand n q [] (passed_on o xs s)
+passed_on_stand n q (Some m) xs s e st =
+    behind_all_stand n q (foot_of m s) xs s (given_there n q xs s st (foot_of m s) (foot_there m s (switch_there n q xs s st m e))) st
 passed_on_stand n q None xs s e st = resumed_callers_stand n q xs s st
 
 -- the callers of f are taken out, and are loose
@@ -224,9 +207,9 @@ detached n q f s st = record {
   once = λ k. by_count k n (times k (n ∷ callers_of f s) ≤ 1)
       (λ e x. omega (arith, (st.loose k (omega arith)).callers f))
       (λ e x. omega (arith, callers_say k f s (st.placed k (omega arith)), says_one (is_behind_of f) (place_of k s)));
-  loose = λ k h. by_count k n (Loose k t) (λ e x. left_loose k s t (stays k (omega arith)) (st.loose k (omega arith)))
+  loose = λ k h. by_count k n _ (λ e x. left_loose k s t (stays k (omega arith)) (st.loose k (omega arith)))
       (λ e x. comes_loose k (omega arith) (st.placed k (omega arith)));
-  there = λ k h. by_count k n ((p : Place) × (place_of k s ≡ Some p)) (λ e x. (q, (ap (λ (j : ℕ). place_of j s) e ∙ st.here)))
+  there = λ k h. by_count k n _ (λ e x. (q, (ap (λ (j : ℕ). place_of j s) e ∙ st.here)))
       (λ e x. (place.Behind f, behind_f k h (st.placed k (omega arith))));
   placed = λ k h. left_placed k s t (stays k (omega arith)) refl (st.placed k (omega arith));
 }
@@ -239,15 +222,8 @@ detached n q f s st = record {
 
     -- who isn't among them stays
     stays : (k : ℕ) → times k (callers_of f s) ≡ 0 → Left k s t
-    stays k none = record { made = le_refl _; there = λ g. refl; counts = counts }
-      where
-        by_caller : (g : ℕ) (b : Bool) → (g == f) ≡ b → times k (cond b [] (callers_of g s)) ≡ times k (callers_of g s)
-        by_caller g true e = sym (ap (λ (j : ℕ). times k (callers_of j s)) (is_eq_of g f e) ∙ none)
-        by_caller g false e = refl
-
-        counts : (x : Spot) → count k t x ≡ count k s x
-        counts (BehindOf g) = ap (times k) (insert_get g f [] s.callers) ∙ by_caller g (g == f) refl
-        counts _ = refl
+    stays k none =
+        record { made = le_refl _; there = λ g. refl; counts = spots _ refl refl refl (λ g. grind (arith, nat_tests, get-insert)) }
 
     behind_f : (k : ℕ) → times k (callers_of f s) ≡ 1 → HasPlace k s → place_of k s ≡ Some (place.Behind f)
     behind_f k h p = of_place (place_of k s) (omega (arith, h, callers_say k f s p))
@@ -267,12 +243,8 @@ detached n q f s st = record {
           switch = c.counts AtSwitch;
           high = c.counts AtHigh;
           low = c.counts AtLow;
-          callers = λ g. ap (times k) (insert_get g f [] s.callers) ∙ by_caller g (g == f) refl (c.counts (BehindOf g));
+          callers = λ g. grind (arith, nat_tests, get-insert, c.counts (BehindOf g));
         }
-      where
-        by_caller : (g : ℕ) (b : Bool) → (g == f) ≡ b → times k (callers_of g s) ≡ cond (is_there g s) (one_if (g == f)) 0 → times k (cond b [] (callers_of g s)) ≡ 0
-        by_caller g true e z = refl
-        by_caller g false e z = z ∙ none_there (is_there g s) _ (ap one_if e)
 
 pub stopped_stand : (n : ℕ) (q : Place) (f : ℕ) (s : Core) → Stand n q [] s → Stand n q [] (stopped f s)
 unfolding stopped set_callers
