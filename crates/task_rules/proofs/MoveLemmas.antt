@@ -2,7 +2,7 @@
 use Rattle.std.proofs.Common.{◌∙◌, ap, arith, refl, subst, sym}
 use Rattle.std.proofs.lemmas.Bool.Decides.{nat_tests}
 use Rattle.std.specs.Option.{option_map_or}
-use Rattle.std.specs.Prelude.{Bool, List, None, Option, Some, [], false, if◌then◌else◌, is_some, option_and_then, option_map, true, ℕ, ◌+◌, ◌==◌, ◌∷◌, ◌≡◌, ◌≤◌}
+use Rattle.std.specs.Prelude.{Bool, List, None, Option, Some, [], false, option_and_then, option_map, true, ℕ, ◌+◌, ◌==◌, ◌∷◌, ◌≡◌, ◌≤◌}
 use Rattle.task_machine.specs.declared.records.Place.{Place}
 use Rattle.task_machine.specs.declared.records.Thread.{Thread}
 use Rattle.task_machine.specs.declared.records.Why.{Why}
@@ -16,10 +16,10 @@ use Rattle.task_machine.specs.Maps.{get-remove}
 use Rattle.task_machine.specs.Moves.{behind_one, held_why_of, is_callback_waiter, may_wake, put_high, put_low, put_switch, released, released_one, stopped, wake, waken_by}
 use Rattle.task_machine.specs.Read.{held_why, is_waiting_on, place_of}
 use Rattle.task_machine.specs.Write.{remove_thread, set_place}
-use Rattle.task_rules.proofs.StandLemmas.{spots, AtHigh, AtLow, AtSwitch, BehindOf, Loose, Spot, Stand, StandsAs, adds_all, by_count, by_number, count, free_loose, free_mute, is_open, loose_placed, loosened, not_eq, of_loose, of_placed, put_high_adds, put_low_adds, said, set_place_adds, to_loose, to_placed}
+use Rattle.task_rules.proofs.StandLemmas.{Loose, Stand, adds_all, by_count, free_loose, loose_free, loose_gone, loosened, not_eq, put_high_adds, put_low_adds, set_place_adds}
 use Rattle.task_rules.proofs.StopLemmas.{behind_adds, given_there, put_stand, put_switch_stand, stopped_stand}
 use Rattle.task_rules.specs.Laws.{ReleaseKeepsPlaces, RemovalKeepsPlaces, StopKeepsPlaces, WakeKeepsPlaces, is_free}
-use Rattle.task_rules.specs.Places.{HasPlace, is_there, one_if, says}
+use Rattle.task_rules.specs.Places.{HasPlace, is_there, one_if}
 
 -- ---- Where other threads are
 
@@ -59,37 +59,23 @@ pub other_place : (k n : ℕ) (s : Core) → (k == n) ≡ false → place_of k (
 unfolding remove_thread
 other_place k n s e = ap (option_map (λ (t : Thread). t.place)) (get-remove_other s.threads n k (not_eq k n e))
 
--- each other one stands where it stood
-removed_stands : (o : Option Place) (k n : ℕ) (s : Core) → StandsAs o k s → StandsAs o k (remove_thread n s)
-unfolding remove_thread
-removed_stands o k n s h = record { number = λ e. h.number (still_there e); behind = h.behind; counts = counts }
-  where
-    t : Core
-    t = remove_thread n s
-
-    gone : (f : ℕ) → f ≡ n → is_there f t ≡ false
-    gone f e = ap (λ (j : ℕ). is_there j t) e ∙ ap (λ (p : Option Place). is_some p) (gone_place n s)
-
-    other : (f : ℕ) → (f == n) ≡ false → is_there f t ≡ is_there f s
-    other f e = ap (λ (p : Option Place). is_some p) (other_place f n s e)
-
-    still_there : is_there k t ≡ true → is_there k s ≡ true
-    still_there g = by_number k n (is_there k s ≡ true) (λ e. absurd (grind (arith, gone k e))) (λ e. sym (other k e) ∙ g)
-
-    counts : (x : Spot) → count k t x ≡ (if is_open t x then says (said x) o else 0)
-    counts = spots _ (h.counts AtSwitch) (h.counts AtHigh) (h.counts AtLow)
-        (λ f. by_number f n _ (λ e. grind (arith, nat_tests, get-remove, gone f e))
-        (λ e. grind (arith, nat_tests, get-remove, other f e, h.counts (BehindOf f))))
-
 pub removed_loose : (k n : ℕ) (s : Core) → Loose k s → Loose k (remove_thread n s)
-removed_loose k n s l = to_loose k (remove_thread n s) None (λ x. refl) (removed_stands None k n s (of_loose k s l))
+unfolding remove_thread
+removed_loose k n s l = grind (arith, nat_tests, get-remove)
 
 pub removed_gone : (n : ℕ) (s : Core) → Loose n s → HasPlace n (remove_thread n s)
-removed_gone n s l = loose_placed n None (remove_thread n s) (gone_place n s) (λ x. refl) (removed_loose n n s l)
+removed_gone n s l = loose_gone n (remove_thread n s) (gone_place n s) (removed_loose n n s l)
 
 pub removed_placed : (k n : ℕ) (s : Core) → (k == n) ≡ false → HasPlace k s → HasPlace k (remove_thread n s)
-removed_placed k n s e h =
-    to_placed k (remove_thread n s) (place_of k s) (other_place k n s e) (removed_stands (place_of k s) k n s (of_placed k s h))
+unfolding remove_thread
+removed_placed k n s e h = record {
+  number = grind (arith, other_place k n s e, h.number);
+  behind = λ f g. grind (arith, other_place k n s e, h.behind f);
+  switch = grind (arith, other_place k n s e);
+  high = grind (arith, other_place k n s e);
+  low = grind (arith, other_place k n s e);
+  callers = λ f. grind (arith, nat_tests, get-remove, h.callers f);
+}
 
 -- ---- Moves beside a busy thread
 
@@ -155,7 +141,8 @@ module _ (n : ℕ) (q : Place) (busy : is_busy q ≡ true) where
   put_high_all w s st k = adds_all n q (place.Ready mark.High w) s (put_high n w s) (put_high_adds n w q s st.here) st k
 
   pub behind_all : (g : ℕ) (s : Core) → is_there g s ≡ true → Stand n q [] s → (k : ℕ) → HasPlace k (behind_one g n s)
-  behind_all g s is st k = adds_all n q (place.Behind g) s (behind_one g n s) (behind_adds g n q s (given_there n q [] s st g is) st.here) st k
+  behind_all g s is st k =
+      adds_all n q (place.Behind g) s (behind_one g n s) (behind_adds g n q s (given_there n q [] s st g is) st.here) st k
 
   pub removed_all : (s : Core) → Stand n q [] s → (k : ℕ) → HasPlace k (remove_thread n s)
   removed_all s st k =
@@ -181,7 +168,7 @@ stand_of n q s is free all = record {
 pub all_of : (n : ℕ) (q : Place) (s : Core) → is_free q ≡ true → Stand n q [] s → (k : ℕ) → HasPlace k s
 all_of n q s free st k =
     by_count k n (HasPlace k s)
-    (λ e x. loose_placed k (Some q) s (ap (λ (j : ℕ). place_of j s) e ∙ st.here) (free_mute q free) (st.loose k (omega arith)))
+    (λ e x. loose_free k q s (ap (λ (j : ℕ). place_of j s) e ∙ st.here) free (st.loose k (omega arith)))
     (λ e x. st.placed k (omega arith))
 
 pub stop_keeps_places : StopKeepsPlaces
@@ -189,10 +176,12 @@ stop_keeps_places n f p s free is all =
     set_place_all n place.Running refl p (stopped f s) free (stopped_stand n place.Running f s (stand_of n place.Running s is refl all))
 
 pub release_keeps_places : ReleaseKeepsPlaces
-release_keeps_places n ns s is all = all_of n place.Running (released ns s) refl (released_good n place.Running refl ns s (stand_of n place.Running s is refl all))
+release_keeps_places n ns s is all =
+    all_of n place.Running (released ns s) refl (released_good n place.Running refl ns s (stand_of n place.Running s is refl all))
 
 pub wake_keeps_places : WakeKeepsPlaces
-wake_keeps_places n x w s may_be is all = all_of n place.Running (wake x w s) refl (wake_good n place.Running refl x w s may_be (stand_of n place.Running s is refl all))
+wake_keeps_places n x w s may_be is all =
+    all_of n place.Running (wake x w s) refl (wake_good n place.Running refl x w s may_be (stand_of n place.Running s is refl all))
 
 pub removal_keeps_places : RemovalKeepsPlaces
 removal_keeps_places n s is all = removed_all n place.Running refl s (stand_of n place.Running s is refl all)

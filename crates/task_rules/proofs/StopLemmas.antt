@@ -1,19 +1,19 @@
 -- What the moves that put threads, and a stop, do to places and entries.
 use Rattle.std.proofs.Common.{◌∙◌, ap, arith, le_refl, inl, inr, refl, subst, sym, ◌⊎◌}
 use Rattle.std.proofs.lemmas.Bool.Decides.{nat_tests}
-use Rattle.std.specs.Prelude.{Bool, List, None, Option, Some, [], find, is_some, suc, true, unwrap_or, zero, ℕ, ◌+◌, ◌==◌, ◌∷◌, ◌≡◌, ◌≤◌}
+use Rattle.std.specs.Prelude.{Bool, List, None, Option, Some, [], find, is_some, suc, true, zero, ℕ, ◌==◌, ◌∷◌, ◌≡◌, ◌≤◌}
 use Rattle.task_machine.specs.declared.records.Place.{Place}
 use Rattle.task_machine.specs.declared.records.Why.{Why}
 use Rattle.task_machine.specs.declared.words.Mark.TheVariants as mark
 use Rattle.task_machine.specs.declared.records.Place.TheVariants as place
 use Rattle.task_machine.specs.declared.records.Why.TheVariants as why
-use Rattle.task_machine.specs.Core.{Core, Queues}
-use Rattle.task_machine.specs.Maps.{Records, get, get-insert, numbers, size}
+use Rattle.task_machine.specs.Core.{Core}
+use Rattle.task_machine.specs.Maps.{get-insert, numbers, size}
 use Rattle.task_machine.specs.Moves.{behind, behind_one, displaced, newest, older, passed_on, put_high, put_switch, resumed_all, resumed_callers, stopped, why_of}
 use Rattle.task_machine.specs.Read.{callers_of, foot_from, foot_of, is_at, is_under, place_of, under_of}
 use Rattle.task_machine.specs.Write.{on_thread, push_high_first, set_callers, set_place, set_switch}
-use Rattle.task_rules.proofs.StandLemmas.{spots, Drops, Adds, AtHigh, AtLow, AtSwitch, BehindOf, Given, Left, Loose, Stand, StandsAs, adds_given, adds_stand, by_count, callers_say, count, drops_stand, eq_refl, gain, is_eq_of, left_loose, left_placed, moved_adds, of_placed, once_or_not, plus_none, plus_one, put_high_adds, said, times-append, times-newest, zero_one}
-use Rattle.task_rules.specs.Places.{HasPlace, entries, is_at_switch, is_behind_of, is_there, one_if, says, switch_entries, times}
+use Rattle.task_rules.proofs.StandLemmas.{Adds, Drops, Given, Left, Loose, Stand, adds_given, adds_stand, by_count, callers_say, drops_stand, eq_refl, is_eq_of, left_loose, left_placed, moved_adds, once_or_not, plus_none, plus_one, put_high_adds, times-append, times-newest, zero_one}
+use Rattle.task_rules.specs.Places.{HasPlace, is_at_switch, is_behind_of, is_there, one_if, says, switch_entries, times}
 
 -- ---- What leaves every place and every entry alone
 
@@ -27,12 +27,7 @@ pub untouched_there : (s t : Core) → Untouched s t → (k : ℕ) → is_there 
 untouched_there s t q k = ap (λ (o : Option Place). is_some o) (q.places k)
 
 untouched_left : (k : ℕ) (s t : Core) → Untouched s t → Left k s t
-untouched_left k s t q = record {
-  made = q.made;
-  there = untouched_there s t q;
-  counts = spots _ (ap (λ (x : Queues). switch_entries k x.switch) q.queues) (ap (λ (x : Queues). entries k x.high) q.queues)
-      (ap (λ (x : Queues). entries k x.low) q.queues) (λ f. ap (λ (m : Records (List ℕ)). times k (unwrap_or (get m f) [])) q.callers);
-}
+untouched_left k s t q = grind (arith, untouched_there s t q)
 
 pub quiet_placed : (k : ℕ) (s t : Core) → Untouched s t → HasPlace k s → HasPlace k t
 quiet_placed k s t q h = left_placed k s t (untouched_left k s t q) (q.places k) h
@@ -60,9 +55,8 @@ put_stand n q m xs p s t adds st =
 pub behind_adds : (g m : ℕ) (r : Place) (s : Core) → Given g s → place_of m s ≡ Some r → Adds m (place.Behind g) s (behind_one g m s)
 unfolding behind_one set_callers set_place on_thread
 behind_adds g m r s given is =
-    moved_adds m (place.Behind g) r _ _ s is (λ f e. subst (λ (j : ℕ). Given j s) (sym (is_eq_of f g e)) given)
-    (λ k. spots _ (plus_none k m _) (plus_none k m _) (plus_none k m _)
-    (λ f. grind (arith, nat_tests, get-insert, times-append k (callers_of g s) m)))
+    moved_adds m (place.Behind g) r _ _ s is (λ f e. subst (λ (j : ℕ). Given j s) (sym (is_eq_of f g e)) given) (λ k. plus_none k m _)
+    (λ k. plus_none k m _) (λ k. plus_none k m _) (λ k f. grind (arith, nat_tests, get-insert, times-append k (callers_of g s) m))
 
 -- ---- The entry at switch gives way
 
@@ -71,7 +65,7 @@ switch_adds : (m : ℕ) (w : Why) (r : Place) (s : Core) → place_of m s ≡ So
 unfolding set_switch set_place on_thread
 switch_adds m w r s is =
     moved_adds m (place.Ready mark.Switch w) r _ _ (set_switch None s) is (λ f h. absurd (grind arith))
-    (λ k. spots _ (plus_one k m 0 _ (omega arith)) (plus_none k m _) (plus_none k m _) (λ f. plus_none k m _))
+    (λ k. plus_one k m 0 _ (omega arith)) (λ k. plus_none k m _) (λ k. plus_none k m _) (λ k f. plus_none k m _)
 
 -- where a thread stands at switch, and is put at the front of high
 displaced_stand : (n : ℕ) (q : Place) (xs : List ℕ) (s : Core) (o : Option ℕ) → s.queues.switch ≡ o → Stand n q xs s →
@@ -85,19 +79,18 @@ displaced_stand n q xs s (Some j) is st =
     let off : Drops j (place.Ready mark.Switch w.0) s u = record {
       made = refl;
       places = λ k. refl;
-      counts = λ k. spots _ (ap (switch_entries k) is ∙ plus_one k j 0 _ (omega arith)) (plus_none k j _) (plus_none k j _)
-          (λ f. plus_none k j _);
+      switch = λ k. ap (switch_entries k) is ∙ plus_one k j 0 _ (omega arith);
+      high = λ k. plus_none k j _;
+      low = λ k. plus_none k j _;
+      callers = λ k f. plus_none k j _;
     } in
-    let more = λ (k : ℕ). spots (λ x. count k t x ≡ count k u x + gain k j (one_if (said x high))) (plus_none k j _)
-    (plus_one k j _ _ (omega arith)) (plus_none k j _) (λ f. plus_none k j _) in
-    adds_stand j high u t (moved_adds j high (place.Ready mark.Switch w.0) _ _ u w.1 (λ f h. absurd (grind arith)) more) n q xs
+    let adds = moved_adds j high (place.Ready mark.Switch w.0) _ _ u w.1 (λ f h. absurd (grind arith)) (λ k. plus_none k j _)
+    (λ k. plus_one k j _ _ (omega arith)) (λ k. plus_none k j _) (λ k f. plus_none k j _) in
+    adds_stand j high u (set_switch None (displaced (Some j) s)) adds n q xs
     (drops_stand n q j (place.Ready mark.Switch w.0) xs s u off w.1 j_none st)
   where
     u : Core
     u = set_switch None s
-
-    t : Core
-    t = set_switch None (displaced (Some j) s)
 
     high : Place
     high = place.Ready mark.High (why_of j s)
@@ -222,8 +215,7 @@ detached n q f s st = record {
 
     -- who isn't among them stays
     stays : (k : ℕ) → times k (callers_of f s) ≡ 0 → Left k s t
-    stays k none =
-        record { made = le_refl _; there = λ g. refl; counts = spots _ refl refl refl (λ g. grind (arith, nat_tests, get-insert)) }
+    stays k none = grind (arith, nat_tests, get-insert)
 
     behind_f : (k : ℕ) → times k (callers_of f s) ≡ 1 → HasPlace k s → place_of k s ≡ Some (place.Behind f)
     behind_f k h p = of_place (place_of k s) (omega (arith, h, callers_say k f s p))
@@ -236,15 +228,10 @@ detached n q f s st = record {
         of_place _ y = absurd (omega (arith, y))
 
     comes_loose : (k : ℕ) → times k (callers_of f s) ≡ 1 → HasPlace k s → Loose k t
-    comes_loose k h p =
-        let c : StandsAs (Some (place.Behind f)) k s = subst (λ (o : Option Place). StandsAs o k s) (behind_f k h p) (of_placed k s p) in
-        record {
-          number = p.number;
-          switch = c.counts AtSwitch;
-          high = c.counts AtHigh;
-          low = c.counts AtLow;
-          callers = λ g. grind (arith, nat_tests, get-insert, c.counts (BehindOf g));
-        }
+    comes_loose k h p = by_place (behind_f k h p) p
+      where
+        by_place : place_of k s ≡ Some (place.Behind f) → HasPlace k s → Loose k t
+        by_place is p = grind (arith, nat_tests, get-insert)
 
 pub stopped_stand : (n : ℕ) (q : Place) (f : ℕ) (s : Core) → Stand n q [] s → Stand n q [] (stopped f s)
 unfolding stopped set_callers
