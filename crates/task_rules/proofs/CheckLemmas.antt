@@ -1,15 +1,14 @@
 -- Checks after other moves: after a release and a stop, told on the state before, and after a return.
-use Rattle.std.proofs.Common.{◌∙◌, ap, ap₂, arith, cond, refl, subst, sym}
+use Rattle.std.proofs.Common.{◌∙◌, ap, arith, cond, refl, subst, sym}
 use Rattle.std.proofs.Math.Bool.{or-false}
-use Rattle.std.proofs.lemmas.Bool.{and_parts, not-true}
+use Rattle.std.proofs.lemmas.Bool.{not-true}
 use Rattle.std.proofs.lemmas.Bool.Decides.{nat_tests}
 use Rattle.std.proofs.lemmas.List.Elements.{filter_passes}
 use Rattle.std.proofs.lemmas.List.Folds.{list_any-append}
 use Rattle.std.proofs.lemmas.List.Sorted.{All-permutation, length_permutation, list_any-IsPermutation}
 use Rattle.std.specs.List.{list_any}
 use Rattle.std.specs.Option.{option_map_or}
-use Rattle.std.specs.Prelude.{All, Bool, IsPermutation, List, None, Option, Some, [], false, find, is_some, length, not, option_map, true, unwrap_or, ℕ, ◌&&◌, ◌==◌, ◌||◌, ◌∷◌, ◌≡◌, if◌then◌else◌}
-use Rattle.task_machine.specs.declared.records.Call.{Call}
+use Rattle.std.specs.Prelude.{All, Bool, IsPermutation, List, None, Option, Some, [], false, find, is_some, length, not, option_map, true, ℕ, ◌&&◌, ◌==◌, ◌||◌, ◌∷◌, ◌≡◌, if◌then◌else◌}
 use Rattle.task_machine.specs.declared.records.Entry.{Entry}
 use Rattle.task_machine.specs.declared.records.Place.{Place}
 use Rattle.task_machine.specs.declared.records.Thread.{Thread}
@@ -20,9 +19,9 @@ use Rattle.task_machine.specs.declared.records.Why.TheVariants as why
 use Rattle.task_machine.specs.declared.words.Mark.TheVariants as mark
 use Rattle.task_machine.proofs.CommuteLemmas.{get-change}
 use Rattle.task_machine.specs.Core.{Core}
-use Rattle.task_machine.specs.Maps.{Records, get, numbers, same_map}
-use Rattle.task_machine.specs.Moves.{behind, behind_one, first_entry, held_why_of, newest, older, passed_on, passes_check, put_high, put_switch, released, released_one, resumed_all, resumed_callers, stopped, is_callback_waiter, may_publish, may_wake, may_wake_joined, published, unblocked, wake, wake_joined, waken_by}
-use Rattle.task_machine.specs.Read.{admits, admitted_held, callers_of, first_in, foot_of, instance_of, is_entry_in, is_held_admitted, is_nil, may_not_suspend, no_callee, blocked_on, caller_of, first_at, goal_of, has_waiter, is_at, is_waiting_on, join_of, register_of, task_of}
+use Rattle.task_machine.specs.Maps.{get, numbers, same_map}
+use Rattle.task_machine.specs.Moves.{behind, behind_one, first_entry, held_why_of, newest, older, passed_on, passes_check, put_high, put_switch, released, released_one, resumed_all, stopped, is_callback_waiter, may_publish, may_wake, may_wake_joined, published, unblocked, wake, wake_joined, waken_by}
+use Rattle.task_machine.specs.Read.{admitted_held, callers_of, first_in, foot_of, instance_of, is_entry_in, is_held_admitted, is_nil, may_not_suspend, blocked_on, caller_of, first_at, goal_of, has_waiter, is_at, is_waiting_on, join_of, register_of, task_of}
 use Rattle.task_machine.specs.Write.{on_instance, on_thread, push_high, set_callers, set_do_not_enter, set_place, set_switch, with_high, give_result, on_call, set_end, set_event, set_register, set_result}
 use Rattle.task_rules.proofs.StandLemmas.{set_place_is}
 use Rattle.task_rules.specs.Ends.{code_stops, end_reopens, held_by_flag, passes_after_stop, first_waiter, is_told, may_tell, passes_after_return, result_given, returned, told, waiter_told}
@@ -67,43 +66,24 @@ one_freed : (k n : ℕ) (s : Core) →
 unfolding put_high push_high set_place on_thread
 one_freed k n s = grind (arith, nat_tests, get-change)
 
-twice : (a b : Bool) (o : Option Thread) →
-    cond b (option_map freed (cond a (option_map freed o) o)) (cond a (option_map freed o) o) ≡ cond (a || b) (option_map freed o) o
-twice a b o = grind arith
-
 released_threads : (k : ℕ) (ns : List ℕ) (s : Core) →
     get (released ns s).threads k ≡ cond (list_any (λ n. k == n) ns) (option_map freed (get s.threads k)) (get s.threads k)
 unfolding released
 released_threads k [] s = refl
-released_threads k (n ∷ ns) s =
-    released_threads k ns (released_one n (held_why_of n s) s)
-    ∙ (ap (λ o. cond (list_any (λ m. k == m) ns) (option_map freed o) o) (one_freed k n s)
-    ∙ twice (k == n) (list_any (λ m. k == m) ns) (get s.threads k))
+released_threads k (n ∷ ns) s = grind (arith, released_threads k ns (released_one n (held_why_of n s) s), one_freed k n s)
+
+-- one that is held is so after another's release, if the test can't tell
+held_still : (p : Entry → Bool) (n : ℕ) (w : Why) (ns : List ℕ) (s : Core) → p (entry.Thread n) ≡ false →
+    any_held p (put_high n w s) ns ≡ any_held p s ns
+unfolding put_high push_high set_place on_thread
+held_still p n w [] s off = refl
+held_still p n w (m ∷ ns) s off = grind (arith, nat_tests, set_place_is m n (place.Ready mark.High w) s, held_still p n w ns s off)
 
 any_released : (p : Entry → Bool) (ns : List ℕ) (s : Core) → any_high p (released ns s) ≡ (any_high p s || any_held p s ns)
 unfolding released put_high push_high set_place on_thread
 any_released p [] s = sym (or-false (any_high p s))
-any_released p (n ∷ ns) s = by_why (held_why_of n s) (λ t. any_released p ns t)
-  where
-    put : Why → Core
-    put w = put_high n w s
-
-    alike : (w : Why) (m : ℕ) → p (entry.Thread n) ≡ false →
-        (is_held (put w) m && p (entry.Thread m)) ≡ (is_held s m && p (entry.Thread m))
-    alike w m e = grind (arith, nat_tests, set_place_is m n (place.Ready mark.High w) s)
-
-    mixed : (b : Bool) (w : Why) → p (entry.Thread n) ≡ b →
-        ((any_high p s || (b || false)) || any_held p (put w) ns) ≡ (any_high p s || (b || any_held p s ns))
-    mixed true w e = grind arith
-    mixed false w e =
-        ap₂ (λ (a c : Bool). a || c) (or-false (any_high p s)) (ap (λ (f : ℕ → Bool). list_any f ns) (λ i m. alike w m e i))
-
-    by_why : (o : Option Why) → ((t : Core) → any_high p (released ns t) ≡ (any_high p t || any_held p t ns)) →
-        any_high p (released ns (released_one n o s)) ≡ (any_high p s || ((is_some o && p (entry.Thread n)) || any_held p s ns))
-    by_why None rest = rest s
-    by_why (Some w) rest =
-        rest (put w)
-        ∙ (ap (λ c. c || any_held p (put w) ns) (list_any-append p s.queues.high (entry.Thread n ∷ [])) ∙ mixed (p (entry.Thread n)) w refl)
+any_released p (n ∷ ns) s =
+    grind (arith, any_released p ns (released_one n (held_why_of n s) s), list_any-append p s.queues.high (entry.Thread n ∷ []), held_still p n)
 
 -- From s to t only the order at high changes.
 pub record Reordered (s t : Core) : Type 0 where
@@ -131,16 +111,14 @@ release_reordered ms ns s perm = record {
       released_only ns s
       ∙ (ap (λ m. record s { threads = m; queues = with_high (released ns s).queues.high s.queues }) (same_map _ _ same_at)
       ∙ sym (ap (λ (c : Core). record c { queues = with_high (released ns s).queues.high c.queues }) (released_only ms s)));
-  any = λ p. any_released p ns s ∙ (ap (λ b. any_high p s || b) (any (λ n. is_held s n && p (entry.Thread n))) ∙ sym (any_released p ms s));
+  any = λ p. grind (arith, any_released p ns s, any_released p ms s, any (λ n. is_held s n && p (entry.Thread n)));
 }
   where
     any : (test : ℕ → Bool) → list_any test ns ≡ list_any test ms
     any test = sym (list_any-IsPermutation test ms ns perm)
 
     same_at : (k : ℕ) → get (released ns s).threads k ≡ get (released ms s).threads k
-    same_at k =
-        released_threads k ns s
-        ∙ (ap (λ b. cond b (option_map freed (get s.threads k)) (get s.threads k)) (any (λ n. k == n)) ∙ sym (released_threads k ms s))
+    same_at k = grind (arith, released_threads k ns s, released_threads k ms s, any (λ n. k == n))
 
 -- ---- What passes a check
 
@@ -180,34 +158,17 @@ stop_passes i f s = by_switch s.queues.switch (callers_of f s) refl
     t : Core
     t = set_callers f [] s
 
-    same : passes_check i t ≡ (passes_check i s || false)
-    same = sym (or-false (passes_check i s))
-
-    stands : (u : Core) (m : ℕ) → u.queues.switch ≡ Some m → passes_check i u ≡ (passes_check i s || true)
-    stands u m e =
-        ap (λ (o : Option ℕ). not (may_not_suspend i u) || (is_some o || is_some (first_entry i u))) e
-        ∙ (or_true (not (may_not_suspend i u)) ∙ sym (or_true (passes_check i s)))
-
     by_switch : (o : Option ℕ) (ns : List ℕ) → t.queues.switch ≡ o →
         passes_check i (passed_on o ns t) ≡ (passes_check i s || not (is_nil ns))
-    by_switch (Some m) [] e = same
-    by_switch None [] e = same
-    by_switch (Some m) (n ∷ ns) e = stands (behind (foot_of m t) (n ∷ ns) t) m (behind_switch (foot_of m t) (n ∷ ns) t ∙ e)
-    by_switch None (n ∷ ns) e =
-        stands (resumed_callers (n ∷ ns) t) (newest n ns) (resumed_switch (older n ns) (put_switch (newest n ns) why.Resumption t))
+    by_switch (Some m) [] e = grind arith
+    by_switch None [] e = grind arith
+    by_switch (Some m) (n ∷ ns) e = grind (arith, behind_switch (foot_of m t) (n ∷ ns) t)
+    by_switch None (n ∷ ns) e = grind (arith, resumed_switch (older n ns) (put_switch (newest n ns) why.Resumption t))
 
 -- ---- A release
 
 released_instance : (m : ℕ) (ns : List ℕ) (s : Core) → instance_of m (released ns s) ≡ instance_of m s
-released_instance m ns s =
-    ap₂ (λ (k : ℕ) (cs : Records Call). (option_map_or (λ c. c.callee) (get cs k) no_callee).instance)
-    (ap (λ o. option_map_or (λ (t : Thread). t.call) o 0) (released_threads m ns s)
-    ∙ same_call (list_any (λ n. m == n) ns) (get s.threads m))
-    (ap (λ (c : Core). c.calls) (released_only ns s))
-  where
-    same_call : (b : Bool) (o : Option Thread) →
-        option_map_or (λ (t : Thread). t.call) (cond b (option_map freed o) o) 0 ≡ option_map_or (λ t. t.call) o 0
-    same_call b o = grind arith
+released_instance m ns s = grind (arith, released_threads m ns s, ap (λ (c : Core). c.calls) (released_only ns s))
 
 -- after the release of admitted threads a check passes
 release_passes : (i : ℕ) (ns : List ℕ) (s : Core) → All (λ n. is_held_admitted i s n (held_why_of n s) ≡ true) ns →
@@ -216,14 +177,7 @@ unfolding released
 release_passes i [] s all = sym (or-false (passes_check i s))
 release_passes i (n ∷ ns) s all =
     let t = released (n ∷ ns) s in
-    let head = by_why (held_why_of n s) (all 0 0 (omega arith)) in
-    let here = ap (λ k. k == i) (released_instance n (n ∷ ns) s) ∙ head.1 in
-    let high = any_released (is_entry_in i t) (n ∷ ns) s in
-    passes_is i t ∙ grind (arith, head.0, here, high)
-  where
-    by_why : (o : Option Why) → is_held_admitted i s n o ≡ true → (is_some o ≡ true) × ((instance_of n s == i) ≡ true)
-    by_why None h = absurd (grind arith)
-    by_why (Some w) h = (refl, (and_parts (instance_of n s == i) (admits n s w) h).0)
+    grind (arith, passes_is i t, all 0 0 (omega arith), released_instance n (n ∷ ns) s, any_released (is_entry_in i t) (n ∷ ns) s)
 
 -- ---- A callback's end
 
@@ -242,15 +196,14 @@ callback_check n s order perm =
     let held = admitted_held i v in
     let test : ℕ → Bool = λ m. is_held_admitted i v m (held_why_of m v) in
     let all = All-permutation (λ m. test m ≡ true) held order perm (filter_passes test (numbers v.threads)) in
-    let nil = same_nil held order (length_permutation held order perm) in
-    stop_passes i (foot_of n s) (released order v)
-    ∙ (ap₂ (λ (a : Bool) (cs : Records (List ℕ)). a || not (is_nil (unwrap_or (get cs (foot_of n s)) [])))
-    (release_passes i order v all ∙ ap₂ (λ (a b : Bool). a || not b) (enter_passes i false s) nil)
-    (ap (λ (c : Core). c.callers) (released_only order v))
-    ∙ swapped (passes_check i s) (not (is_nil held)) (not (is_nil (callers_of (foot_of n s) s))))
-  where
-    swapped : (a b c : Bool) → ((a || b) || c) ≡ (a || (c || b))
-    swapped a b c = grind arith
+    grind (
+      arith,
+      stop_passes i (foot_of n s) (released order v),
+      release_passes i order v all,
+      enter_passes i false s,
+      same_nil held order (length_permutation held order perm),
+      ap (λ (c : Core). c.callers) (released_only order v),
+    )
 
 -- ---- The order at high
 
@@ -267,10 +220,9 @@ carried {f = f} h s t q = subst (λ c. Reordered (f s) (f c)) (sym q.only) (h s 
 
 put_follows : (n : ℕ) (w : Why) → Follows (put_high n w)
 unfolding put_high push_high set_place on_thread
-put_follows n w s hs any = record {
-  only = refl;
-  any = λ p. list_any-append p hs _ ∙ (ap (λ b. b || list_any p (entry.Thread n ∷ [])) (any p) ∙ sym (list_any-append p s.queues.high _));
-}
+put_follows n w s hs any =
+    let more = entry.Thread n ∷ [] in
+    record { only = refl; any = λ p. grind (arith, list_any-append p hs more, list_any-append p s.queues.high more, any p) }
 
 unblocked_follows : (o : Option ℕ) → Follows (unblocked o)
 unblocked_follows None s hs any = record { only = refl; any = any }
@@ -313,13 +265,20 @@ returned_follows k v w s hs any =
 reordered_passes : (i : ℕ) (s t : Core) → Reordered s t → passes_check i t ≡ passes_check i s
 reordered_passes i s t h =
     ap (λ c. passes_check i c) h.only
-    ∙ (passes_is i (at_high t.queues.high s)
-    ∙ (ap₂ (λ (p : Entry → Bool) (b : Bool). not (may_not_suspend i s) || (is_some s.queues.switch || (b || list_any p s.queues.low)))
-    (λ j e. same_in e j) (ap (λ p. list_any p t.queues.high) (λ j e. same_in e j) ∙ h.any (is_entry_in i s))
-    ∙ sym (passes_is i s)))
+    ∙ grind (
+      arith,
+      passes_is i (at_high t.queues.high s),
+      passes_is i s,
+      h.any (is_entry_in i s),
+      ap (λ p. list_any p t.queues.high) same,
+      ap (λ p. list_any p s.queues.low) same,
+    )
   where
     same_in : (e : Entry) → is_entry_in i (at_high t.queues.high s) e ≡ is_entry_in i s e
     same_in e = grind arith
+
+    same : is_entry_in i (at_high t.queues.high s) ≡ is_entry_in i s
+    same = λ j e. same_in e j
 
 -- ---- The first waiter
 

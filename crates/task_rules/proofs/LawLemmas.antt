@@ -1,6 +1,5 @@
 -- The laws of steps and runs.
 use Rattle.std.proofs.Common.{ap, arith, cond, le_refl, le_trans, refl, subst, sym, ◌∙◌}
-use Rattle.std.specs.Option.{option_map_or}
 use Rattle.std.specs.Prelude.{Bool, IsTrue, None, Option, Some, [], false, option_map, true, ℕ, ◌+◌, ◌==◌, ◌∷◌, ◌≡◌, ◌≤◌}
 use Rattle.task_machine.proofs.CommuteLemmas.{get-change}
 use Rattle.task_machine.proofs.MapLemmas.{get-insert_other}
@@ -123,11 +122,7 @@ same_limits x s l t step =
 pub runs_same_limits : KeptByRuns SameLimits
 runs_same_limits =
     runs_keep SameLimits (λ s. assumption)
-    (λ s m t a b. record {
-      handle_limit = a.handle_limit ∙ b.handle_limit;
-      capacity = a.capacity ∙ b.capacity;
-      trapped = λ h. b.trapped (a.trapped h);
-    })
+    (λ s m t a b. grind arith)
     same_limits
 
 -- ---- Records
@@ -165,18 +160,18 @@ module _ {X : Type 0} {P : X → X → Type 0} (o : Order P) where
         still_later (change n f now) made q.count (λ k below. subst (LaterBy P (get now k)) (sym (get-change n f now k)) (at (k == n) (get now k)))
       where
         at : (b : Bool) (x : Option X) → LaterBy P x (cond b (option_map f x) x)
-        at true None = tt
+        at b None = grind arith
         at true (Some x) = keeps x
-        at false x = later_same x
+        at false (Some x) = o.same x
 
     removed_now : (n : ℕ) → NowLater P was was_made (remove now n) made
     removed_now n =
         still_later (remove now n) made q.count (λ k below. subst (LaterBy P (get now k)) (sym (get-remove now n k)) (at (k == n) (get now k)))
       where
         at : (b : Bool) (x : Option X) → LaterBy P x (cond b None x)
-        at true None = tt
+        at b None = grind arith
         at true (Some x) = tt
-        at false x = later_same x
+        at false (Some x) = o.same x
 
     made_now : (x : X) → NowLater P was was_made (insert now (made + 1) x) (made + 1)
     made_now x =
@@ -184,29 +179,13 @@ module _ {X : Type 0} {P : X → X → Type 0} (o : Order P) where
         (λ k below. subst (LaterBy P (get now k)) (sym (get-insert_other now (made + 1) x k (omega (arith, below, q.count)))) (later_same (get now k)))
 
 same_thread : Order SameThread
-same_thread = record { same = λ t. assumption; after = λ t u v a b. record { call = a.call ∙ b.call; explicit = a.explicit ∙ b.explicit } }
+same_thread = record { same = λ t. assumption; after = λ t u v a b. grind arith }
 
 later_call : Order LaterCall
-later_call = record {
-  same = λ c. assumption;
-  after = λ c d e a b. record {
-    caller = a.caller ∙ b.caller;
-    callee = a.callee ∙ b.callee;
-    kind = a.kind ∙ b.kind;
-    goal = a.goal ∙ b.goal;
-    group = a.group ∙ b.group;
-    started = λ h. b.started (a.started h);
-    starting_published = λ h. b.starting_published (a.starting_published h);
-    cancel_delivered = λ h. b.cancel_delivered (a.cancel_delivered h);
-    exited = λ h. b.exited (a.exited h);
-  };
-}
+later_call = record { same = λ c. assumption; after = λ c d e a b. grind arith }
 
 later_work : Order LaterWork
-later_work = record {
-  same = λ w. assumption;
-  after = λ v w x a b. record { caller = a.caller ∙ b.caller; group = a.group ∙ b.group; cancelled = λ h. b.cancelled (a.cancelled h) };
-}
+later_work = record { same = λ w. assumption; after = λ v w x a b. grind arith }
 
 module _ (b : Core) where
   -- where threads are doesn't matter
@@ -216,13 +195,9 @@ module _ (b : Core) where
       still_later same_thread q t.threads s.made.threads q.count (λ n below. unplaced_later (get s.threads n) (get t.threads n) (h.threads n))
     where
       unplaced_later : (o p : Option Thread) → option_map unplaced p ≡ option_map unplaced o → LaterBy SameThread o p
-      unplaced_later None None e = tt
-      unplaced_later None (Some u) e = absurd (grind arith)
+      unplaced_later None p e = grind arith
       unplaced_later (Some t) None e = tt
-      unplaced_later (Some t) (Some u) e = record {
-        call = ap (λ (q : Option Thread). option_map_or (λ r. r.call) q 0) (sym e);
-        explicit = ap (λ (q : Option Thread). option_map_or (λ r. r.explicit) q false) (sym e);
-      }
+      unplaced_later (Some t) (Some u) e = grind arith
 
   threads_word : (w : Word) (s : Core) → NowLater SameThread b.threads b.made.threads s.threads s.made.threads →
       NowLater SameThread b.threads b.made.threads (after_word w s).threads (after_word w s).made.threads

@@ -1,5 +1,5 @@
 -- What the moves that put threads, and a stop, do to places and entries.
-use Rattle.std.proofs.Common.{◌∙◌, ap, arith, le_refl, inl, inr, refl, subst, sym, ◌⊎◌}
+use Rattle.std.proofs.Common.{◌∙◌, ap, arith, le_refl, refl, subst, sym}
 use Rattle.std.proofs.lemmas.Bool.Decides.{nat_tests}
 use Rattle.std.specs.Prelude.{Bool, List, None, Option, Some, [], find, is_some, suc, true, zero, ℕ, ◌==◌, ◌∷◌, ◌≡◌, ◌≤◌}
 use Rattle.task_machine.specs.declared.records.Place.{Place}
@@ -148,26 +148,11 @@ resumed_callers_stand n q (m ∷ xs) s st =
 
 -- a thread is loose or has its place, so its number was given
 pub given_there : (n : ℕ) (q : Place) (xs : List ℕ) (s : Core) → Stand n q xs s → (k : ℕ) → is_there k s ≡ true → Given k s
-given_there n q xs s st k h = (h, by_times (once_or_not (times k (n ∷ xs)) (st.once k)))
-  where
-    by_times : (times k (n ∷ xs) ≡ 0) ⊎ (times k (n ∷ xs) ≡ 1) → k ≤ s.made.threads
-    by_times (inl e) = (st.placed k e).number h
-    by_times (inr e) = (st.loose k e).number h
+given_there n q xs s st k h = (h, grind (arith, once_or_not (times k (n ∷ xs)) (st.once k), st.placed k, st.loose k))
 
 -- what stands at switch is there
 pub switch_there : (n : ℕ) (q : Place) (xs : List ℕ) (s : Core) → Stand n q xs s → (m : ℕ) → s.queues.switch ≡ Some m → is_there m s ≡ true
-switch_there n q xs s st m e = by_times (once_or_not (times m (n ∷ xs)) (st.once m))
-  where
-    stands : switch_entries m s.queues.switch ≡ 1
-    stands = ap (switch_entries m) e ∙ ap one_if (eq_refl m)
-
-    somewhere : (o : Option Place) → says is_at_switch o ≡ 1 → is_some o ≡ true
-    somewhere None h = zero_one refl h
-    somewhere (Some p) h = refl
-
-    by_times : (times m (n ∷ xs) ≡ 0) ⊎ (times m (n ∷ xs) ≡ 1) → is_there m s ≡ true
-    by_times (inl d) = somewhere (place_of m s) (sym (st.placed m d).switch ∙ stands)
-    by_times (inr d) = zero_one (st.loose m d).switch stands
+switch_there n q xs s st m e = grind (arith, nat_tests, once_or_not (times m (n ∷ xs)) (st.once m), st.placed m, st.loose m)
 
 pub find_passes : (test : ℕ → Bool) (ns : List ℕ) (m : ℕ) → find test ns ≡ Some m → test m ≡ true
 find_passes test [] m h = grind arith
