@@ -1,14 +1,14 @@
 -- What holds along a chain of words.
+use Rattle.task_machine.specs.declared.words.Mark.TheVariants as mark
 use Rattle.task_machine.specs.declared.records.Place.TheVariants as place
 use Rattle.task_machine.specs.declared.records.HowFar.TheVariants as how_far
 use Rattle.std.specs.Prelude.{ℕ}
-use Rattle.task_machine.specs.declared.records.HowFar.{HowFar}
 use Rattle.std.proofs.Common.{inl, inr}
 use Rattle.task_machine.specs.Core.{Core}
 use Rattle.task_rules.specs.Allowed.{Allowed, Stays, IsSettling, IsFall, MayGo, MayLand, Departs, EndsOver}
-use Rattle.task_rules.specs.Chains.{Chain, IsShift, NoWord, Shifts, Then, Walk, Stay, Trip, Remains, Lands, Settles, LandsAt, Quits, GoesBack, Collapses}
+use Rattle.task_rules.specs.Chains.{Chain, IsShift, NoWord, Then, Walk, Stay, Trip, Remains, Lands, Settles, LandsAt, Quits, GoesBack, Collapses}
 use Rattle.task_rules.specs.Scenes.{Scene}
-use Rattle.task_rules.specs.Words.{Places, Word, after_word, Placing, Promote, SetUninteresting, RemoveThread, Pop, SetTrapped, RemoveCall, RemoveGroup, SetHowFar, Move}
+use Rattle.task_rules.specs.Words.{Places, Word, after_word, Placing, Promote, SetUninteresting, RemoveThread, Pop, SetTrapped, RemoveCall, RemoveGroup, SetHowFar, Move, Put}
 
 module _ {may : Word → Core → Type 0} where
   -- what holds at first and is kept by each word holds at last
@@ -36,6 +36,7 @@ stays_allowed a _ s ok = ok
 land_allowed : (a : Scene) (p : Placing) (s : Core) → MayLand a p s → Allowed a (Places p) s
 land_allowed a (Pop m) s ok = absurd ok
 land_allowed a (Promote k) s ok = absurd ok
+land_allowed a (Put mark.Switch n w) s ok = absurd ok
 land_allowed a _ s ok = inr ok
 
 pub shift_stays : (a : Scene) (w : Word) (s : Core) → IsShift w s → Stays a w s
@@ -62,7 +63,7 @@ module _ {a : Scene} {b : Core} where
   gone_walk {s = s} n c go d = join (Then s (RemoveThread n) (stay_walk c) go) (weaken (λ w u ok. stays_allowed a w u (settle_stays a w u ok)) d)
 
   pub trip_walk : {t : Core} → Trip a b t → Walk a b t
-  trip_walk (Remains t c) = stay_walk c
+  trip_walk (Remains t c still) = stay_walk c
   trip_walk (Lands s p c ok) = Then s (Places p) (stay_walk c) (land_allowed a p s ok)
   trip_walk (LandsAt s p n h c ok comes) = Then (after_word (Places p) s) (SetHowFar n h) (Then s (Places p) (stay_walk c) (land_allowed a p s ok)) comes
   trip_walk (Quits s t n c leave d) = gone_walk n c (Departs leave) d

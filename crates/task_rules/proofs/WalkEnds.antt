@@ -13,7 +13,7 @@ use Rattle.task_machine.specs.declared.records.Caller.{Caller}
 use Rattle.task_machine.specs.declared.records.Goal.{Goal}
 use Rattle.task_rules.proofs.WalkMoves.{Chosen, ToldTo, told_walks, word}
 use Rattle.task_rules.specs.Allowed.{MayEnd, SaysEnd}
-use Rattle.task_rules.specs.Chains.{Stay, Trip, Walk}
+use Rattle.task_rules.specs.Chains.{Stay}
 use Rattle.task_rules.specs.Ends.{cancelled, is_told, result_given, returned, told}
 use Rattle.task_rules.specs.Scenes.{Scene}
 use Rattle.task_rules.specs.Words.{GiveResult, SetEnd, SetRegister, SetResult}

@@ -57,7 +57,7 @@ use Rattle.task_rules.specs.Sets.{chosen, finds_nothing, handed_out, join_done, 
 use Rattle.task_rules.specs.Stalled.{Setting}
 use Rattle.task_rules.specs.SubtaskEnds.{cancel_target, cancelled_of_op, end_for, written_by}
 use Rattle.task_rules.specs.Threads.{Halt, Suspension, Yielding, by_how_far, halt_row, halted, halted_checked, halted_promoting, halted_resuming, halting, halts, has_yielded, resume_later_row, resume_why, resumed_later, then_promote, then_promote_row, then_resume_row, thread_made, thread_new_row, thread_row}
-use Rattle.task_rules.specs.Words.{CloseSet, CountWork, MakeThread, Move, NameCall, NameThread, NameWork, OpenSet, Put, QueueWork, SetCancelled, SetHowFar, SetOwnEvent, SetPhase, SetRegister, SetResult, SetSavedCallee, UnnameCall, UnnameWork, after_word, Withdraw, SetExited, SetUninteresting}
+use Rattle.task_rules.specs.Words.{CloseSet, CountWork, MakeThread, Move, NameCall, NameThread, NameWork, OpenSet, Put, QueueWork, SetCancelled, SetOwnEvent, SetPhase, SetRegister, SetResult, SetSavedCallee, UnnameCall, UnnameWork, after_word, Withdraw, SetExited, SetUninteresting}
 use Rattle.task_machine.specs.declared.component.Slot.TheVariants as slot
 use Rattle.task_machine.specs.declared.label.CallLabel.TheVariants as call_label
 use Rattle.task_machine.specs.declared.label.Label.TheVariants as label

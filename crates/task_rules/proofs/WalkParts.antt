@@ -1,8 +1,9 @@
 -- What the rows of the ops are made of, as chains of words: what is read, gifts, moves, and a new call.
+use Rattle.task_rules.proofs.MoveLemmas.{put_place}
 use Rattle.task_machine.specs.declared.records.HowFar.{HowFar}
 use Rattle.std.proofs.Common.{T, ap, inl, inr, refl, subst, sym, ◌∙◌, ◌⊎◌}
 use Rattle.std.specs.Option.{option_map_or}
-use Rattle.std.specs.Prelude.{Bool, List, None, Option, Some, [], false, if◌then◌else◌, is_none, option_and_then, option_map, true, unwrap_or, ℕ, ◌+◌, ◌==◌, ◌≡◌}
+use Rattle.std.specs.Prelude.{Bool, List, None, Option, Some, [], false, if◌then◌else◌, is_none, option_and_then, option_map, true, unwrap_or, ℕ, ◌+◌, ◌==◌, ◌≡◌, is_some}
 use Rattle.task_machine.proofs.MapLemmas.{change-field, get-change_same, get-insert_same, get-remove_same}
 use Rattle.task_machine.specs.Core.{Core}
 use Rattle.task_machine.specs.Labels.{Choice, join_label, wait_label}
@@ -29,11 +30,11 @@ use Rattle.task_machine.specs.declared.words.Status.{Status}
 use Rattle.task_rules.proofs.PlacingLemmas.{Shifted, placed, placing_shifted, shifted_after, shifted_explicit, shifted_made}
 use Rattle.task_rules.proofs.StandLemmas.{place_kept}
 use Rattle.task_rules.proofs.WalkMoves.{MayTake, checked_shifts, group_settled_walks, lands_at, shifted, stopped_shifts, taken_walks, word}
-use Rattle.task_rules.proofs.WalkTask.{advanced_walks, answered_walks, is_plain, is_still, running_moved}
+use Rattle.task_rules.proofs.WalkTask.{advanced_walks, answered_walks, is_plain, is_still, running_moved, not_main}
 use Rattle.task_rules.specs.Allowed.{Blocks, ByHandle, HasSet, HasSubtask, IsNew, IsRunner, IsWithdrawn, Leaves, MayDeliver, MayJoin, MayMakeCall, MayRemoveWork, MayWithdraw, SaysEnd, Starts, Waits, is_begun, MayCome}
 use Rattle.task_rules.specs.Calls.{call_clears_flag, call_made, call_queues, call_resumes, call_stops, enter_runs, new_call, new_thread, next_thread, put_back, settle_group_of, sync_sets_flag, with_thread_handle, work_deleted, work_group}
 use Rattle.task_rules.specs.Cancels.{Async, Mode, Sync, behind_switch, cancel_goes_behind, cancel_label, cancel_stops, cancel_takes_end}
-use Rattle.task_rules.specs.Chains.{NoWord, Stay, Trip, Walk, is_running, Remains}
+use Rattle.task_rules.specs.Chains.{NoWord, Stay, Trip, is_running, Remains}
 use Rattle.task_rules.specs.Places.{says}
 use Rattle.task_rules.specs.Scenes.{Scene}
 use Rattle.task_rules.specs.Scripts.{registers_for}
@@ -220,15 +221,15 @@ module _ {a : Scene} {b : Core} (n : ℕ) (is : IsRunner a n) where
       let u = set_join sub (join.Watched n) (set_saved_callee n None t) in
       lands_at (Move n (place.Blocked sub)) n (how_far.AwaitsEnd sub) (Blocks sub leave (inl has) refl) (is, has) (stopped_walks (checked (instance_of n t) u) (checked_walks (instance_of n t) (join_walks sub (join.Watched n) (is, (has, free)) (word (SetSavedCallee n None) tt c))))
 
-  behind_switch_walks : (o : Option ℕ) (h : HowFar) {t : Core} → Leaves a n → ((u : Core) → MayCome a n h u) → Stay a b t → Trip a b (set_how_far n h (behind_switch n o t))
-  behind_switch_walks None h {t = t} leave comes c = Remains (set_how_far n h t) (word (SetHowFar n h) (comes t) c)
-  behind_switch_walks (Some m) h {t = t} leave comes c = lands_at (GoBehind (foot_of m t) n) n h leave (comes (after_placing (GoBehind (foot_of m t) n) t)) c
+  behind_switch_walks : (o : Option ℕ) (h : HowFar) {t : Core} → t.queues.switch ≡ o → Leaves a n → ((u : Core) → MayCome a n h u) → Stay a b t → Trip a b (set_how_far n h (behind_switch n o t))
+  behind_switch_walks None h {t = t} at leave comes c = Remains (set_how_far n h t) (word (SetHowFar n h) (comes t) c) (λ m to. not_main m (sym leave.1.0 ∙ to))
+  behind_switch_walks (Some m) h {t = t} at leave comes c = lands_at (GoBehind (foot_of m t) n) n h (leave, inr (m, (at, refl))) (comes (after_placing (GoBehind (foot_of m t) n) t)) c
 
   pub cancel_goes_behind_walks : (k : ℕ) {t : Core} → Leaves a n → HasSubtask a n (subtask.Guest k) → is_joined (join_of (subtask.Guest k) a.base) ≡ false → Stay a b t → Trip a b (cancel_goes_behind n k t)
-  unfolding cancel_goes_behind
+  unfolding cancel_goes_behind set_join on_call set_do_not_suspend on_instance set_saved_callee on_thread
   cancel_goes_behind_walks k {t = t} leave has free c =
       let j = call_instance k t in
-      behind_switch_walks t.queues.switch (how_far.Cancels (subtask.Guest k)) leave (λ u. (is, has))
+      behind_switch_walks t.queues.switch (how_far.Cancels (subtask.Guest k)) refl leave (λ u. (is, has))
       (join_walks (subtask.Guest k) (join.Watched n) (is, (has, inl free)) (word (SetDoNotSuspend j false) tt (word (SetSavedCallee n (Some (may_not_suspend j t))) tt c)))
 
   pub withdrawn_walks : (k : ℕ) {t : Core} → MayWithdraw a k t → SaysEnd a k status.StartCancelled → Stay a b t → Stay a b (withdrawn k t)
@@ -363,6 +364,19 @@ cleared_explicit n j k m t e = by_kind k
     by_kind kind.Stackful = (e.0, explicit_same (Some (may_not_suspend j t)) ∙ e.1)
     by_kind kind.Callback = (e.0, explicit_same (Some (may_not_suspend j t)) ∙ e.1)
 
+cleared_there : (n j : ℕ) (k : ExportKind) (m : ℕ) (t : Core) → is_some (place_of m (call_clears_flag n j k t)) ≡ is_some (place_of m t)
+unfolding set_do_not_suspend on_instance set_saved_callee on_thread
+cleared_there n j k m t = by_kind k
+  where
+    same : (f : Option Bool) → is_some (place_of m (set_saved_callee n f t)) ≡ is_some (place_of m t)
+    same f = ap (λ (o : Option Place). is_some o) (change-field (λ (r : Thread). r.place) n (λ r. record r { saved_callee = f }) (λ r. refl) t.threads m)
+
+    by_kind : (k : ExportKind) → is_some (place_of m (call_clears_flag n j k t)) ≡ is_some (place_of m t)
+    by_kind kind.Sync = refl
+    by_kind kind.Blocking = same (Some (may_not_suspend j t))
+    by_kind kind.Stackful = same (Some (may_not_suspend j t))
+    by_kind kind.Callback = same (Some (may_not_suspend j t))
+
 module _ {a : Scene} (n : ℕ) (is : IsRunner a n) where
   pub call_queues_walks : (e : Callee) (k : ExportKind) (g : Goal) (words : List ℕ) → Leaves a n → MayMakeCall a (caller.Thread n) e k g (thread_group n a.base) a.base → is_direct g ≡ false → Trip a a.base (call_queues n e k g words a.base)
   unfolding call_queues
@@ -376,7 +390,7 @@ module _ {a : Scene} (n : ℕ) (is : IsRunner a n) where
       let d : Shifted t u = placing_shifted p t in
       let v = call_clears_flag n e.instance k u in
       let new : (v.made.threads ≡ m) × (is_explicit m v ≡ false) = cleared_explicit n e.instance k m u (ap (λ (r : Made). r.threads) (shifted_made d) ∙ h.made, shifted_explicit d m ∙ born_explicit h) in
-      lands_at (GoBehind m n) n (how_far.Calls (subtask.Guest m)) leave (is, inr (shifted_new a m v (behind_one m n v) refl (placing_shifted (GoBehind m n) v) new)) (call_clears_flag_walks n is e.instance k
+      lands_at (GoBehind m n) n (how_far.Calls (subtask.Guest m)) (leave, inl (cleared_there n e.instance k m u ∙ ap (λ (o : Option Place). is_some o) (put_place mark.Switch m why.Start t (ap (λ (o : Option Place). is_some o) (born_place h))))) (is, inr (shifted_new a m v (behind_one m n v) refl (placing_shifted (GoBehind m n) v) new)) (call_clears_flag_walks n is e.instance k
       (placed p (inl (Starts (born_place h) (born_explicit h) (ap (λ (y : Goal). is_direct y) (born_goal h) ∙ plain) refl)) (word (MakeCall (caller.Thread n) e k g (thread_group n s) words) ok NoWord)))
 
   pub enter_runs_walks : (e : Callee) (k : ExportKind) (words : List ℕ) → a.turn ≡ turn.Run n → a.next ≡ turn.Run (next_thread a.base) → MayMakeCall a (caller.Thread n) e k goal.Direct (thread_group n a.base) a.base → Trip a a.base (enter_runs n e k words a.base)

@@ -376,7 +376,7 @@ module _ (x : Setting) (s : State) (l : Label) where
   -- ---- Main
 
   main_here : (u : Turn) (next : Turn) (k : MainLabel) (t : Core) → l ≡ label.Main k → main_outcome k ≡ None ⊎ (next ≡ turn.Over) → ((m : ℕ) → next ≡ turn.Run m → ⊥) → EndWords (scene_at u None next) t → Stay (scene_at u None next) s.core t → Trip (scene_at u None next) s.core t × LastWords (scene_at u None next) t
-  main_here u next k t is quiet stills says c = (Remains t c, idle_words (scene_at u None next) t refl stills (λ o at. ends quiet o (sym (ap outcome_of_label is) ∙ at)) (ap (λ y. begun_holder s.core y) is) says)
+  main_here u next k t is quiet stills says c = (Remains t c (λ m at. absurd (stills m at)), idle_words (scene_at u None next) t refl stills (λ o at. ends quiet o (sym (ap outcome_of_label is) ∙ at)) (ap (λ y. begun_holder s.core y) is) says)
     where
       ends : main_outcome k ≡ None ⊎ (next ≡ turn.Over) → (o : Outcome) → main_outcome k ≡ Some o → next ≡ turn.Over
       ends (inl none) o at = none_is_some o (sym none ∙ at)
@@ -446,7 +446,7 @@ module _ (x : Setting) (s : State) (l : Label) where
   main_row_leads u k (Answer v) may names = tt
 
   pends_here : (u : Turn) (t : State) → l ≡ label.Loop loop_label.MainPends → t ≡ goes_to s s.core (turn.Futures 0) → WalkedBy (scene_at u None) s.core s.main t
-  pends_here u t is at = landed (scene_at u None) s.core (λ v. NoWord) s s.core (turn.Futures 0) t at (Remains _ NoWord, idle_words (scene_at u None (turn.Futures 0)) s.core refl (λ m f. not_futures 0 m f) (λ o f. none_is_some o (sym (ap outcome_of_label is) ∙ f)) (ap (λ y. begun_holder s.core y) is) (mute_words _ _ (ap is_mute is)))
+  pends_here u t is at = landed (scene_at u None) s.core (λ v. NoWord) s s.core (turn.Futures 0) t at (Remains _ NoWord (λ m f. not_futures 0 m f), idle_words (scene_at u None (turn.Futures 0)) s.core refl (λ m f. not_futures 0 m f) (λ o f. none_is_some o (sym (ap outcome_of_label is) ∙ f)) (ap (λ y. begun_holder s.core y) is) (mute_words _ _ (ap is_mute is)))
 
   does_here : (u : Turn) (m : Main) (k : MainLabel) (new : Core) (t : State) → SameMain s.main m → (main_outcome k ≡ None) × ((l ≡ label.Main k → EndWords (scene_at u None turn.Main) new) × Stay (scene_at u None turn.Main) s.core new) → l ≡ label.Main k → t ≡ at_turn s new m turn.Main → WalkedBy (scene_at u None) s.core s.main t
   does_here u m k new t same c is at = arrives (scene_at u None) s.core (λ v. NoWord) s new m turn.Main t same at (main_here u turn.Main k new is (inl c.0) (λ j f. not_main j f) (c.1.0 is) c.1.1)
@@ -503,9 +503,9 @@ module _ (x : Setting) (s : State) (l : Label) where
 
   polled_walks : (n i : ℕ) (p : Poll) (t : State) → next_polled n s.core ≡ Some i → Polled s i p l t → WalkedBy (scene_at (turn.Futures n) None) s.core s.main t
   unfolding poll_ends
-  polled_walks n i (StillPends host) t at is = landed (scene_at (turn.Futures n) None) s.core (λ v. NoWord) s (poll_pends i host s.core) (turn.Futures i) t is.1 (Remains _ (word (Pend i host) (n, (refl, at)) NoWord), idle_words (scene_at (turn.Futures n) None (turn.Futures i)) (poll_pends i host s.core) refl (λ m f. not_futures i m f) (λ o f. none_is_some o (sym (ap outcome_of_label is.0) ∙ f)) (ap (λ y. begun_holder s.core y) is.0) (mute_words _ _ (ap is_mute is.0)))
-  polled_walks n i (Ends v) t at is = landed (scene_at (turn.Futures n) None) s.core (λ v. NoWord) s (poll_ends i v s.core) (turn.Take true) t is.1 (Remains _ (followed_walks n i v at), idle_words (scene_at (turn.Futures n) None (turn.Take true)) (poll_ends i v s.core) refl (λ m f. not_take true m f) (λ o f. none_is_some o (sym (ap outcome_of_label is.0) ∙ f)) (ap (λ y. begun_holder s.core y) is.0) (mute_words _ _ (ap is_mute is.0)))
-  polled_walks n i FailsNow t at is = landed (scene_at (turn.Futures n) None) s.core (λ v. NoWord) s (set_trapped s.core) turn.Over t is.1 (Remains _ (word SetTrapped tt NoWord), idle_words (scene_at (turn.Futures n) None turn.Over) (set_trapped s.core) refl (λ m f. not_over m f) (λ o f. refl) (ap (λ y. begun_holder s.core y) is.0) (mute_words _ _ (ap is_mute is.0)))
+  polled_walks n i (StillPends host) t at is = landed (scene_at (turn.Futures n) None) s.core (λ v. NoWord) s (poll_pends i host s.core) (turn.Futures i) t is.1 (Remains _ (word (Pend i host) (n, (refl, at)) NoWord) (λ m f. not_futures i m f), idle_words (scene_at (turn.Futures n) None (turn.Futures i)) (poll_pends i host s.core) refl (λ m f. not_futures i m f) (λ o f. none_is_some o (sym (ap outcome_of_label is.0) ∙ f)) (ap (λ y. begun_holder s.core y) is.0) (mute_words _ _ (ap is_mute is.0)))
+  polled_walks n i (Ends v) t at is = landed (scene_at (turn.Futures n) None) s.core (λ v. NoWord) s (poll_ends i v s.core) (turn.Take true) t is.1 (Remains _ (followed_walks n i v at) (λ m f. not_take true m f), idle_words (scene_at (turn.Futures n) None (turn.Take true)) (poll_ends i v s.core) refl (λ m f. not_take true m f) (λ o f. none_is_some o (sym (ap outcome_of_label is.0) ∙ f)) (ap (λ y. begun_holder s.core y) is.0) (mute_words _ _ (ap is_mute is.0)))
+  polled_walks n i FailsNow t at is = landed (scene_at (turn.Futures n) None) s.core (λ v. NoWord) s (set_trapped s.core) turn.Over t is.1 (Remains _ (word SetTrapped tt NoWord) (λ m f. not_over m f), idle_words (scene_at (turn.Futures n) None turn.Over) (set_trapped s.core) refl (λ m f. not_over m f) (λ o f. refl) (ap (λ y. begun_holder s.core y) is.0) (mute_words _ _ (ap is_mute is.0)))
 
   futures_walk : (n : ℕ) (o : Option ℕ) (t : State) → next_polled n s.core ≡ o → FuturesStep s o l t → WalkedBy (scene_at (turn.Futures n) None) s.core s.main t
   futures_walk n None t at is = absurd is
@@ -517,12 +517,12 @@ module _ (x : Setting) (s : State) (l : Label) where
   empty_walks ended true t is = rests (is_unended_take s.turn) is
     where
       rests : (c : Bool) → RestStep s c l t → WalkedBy (scene_at (turn.Take ended) None) s.core s.main t
-      rests true h = landed (scene_at (turn.Take ended) None) s.core (λ v. NoWord) s s.core turn.Main t h.1 (Remains _ NoWord, idle_words (scene_at (turn.Take ended) None turn.Main) s.core refl (λ m f. not_main m f) (λ o f. none_is_some o (sym (ap outcome_of_label h.0) ∙ f)) (ap (λ y. begun_holder s.core y) h.0) (mute_words _ _ (ap is_mute h.0)))
+      rests true h = landed (scene_at (turn.Take ended) None) s.core (λ v. NoWord) s s.core turn.Main t h.1 (Remains _ NoWord (λ m f. not_main m f), idle_words (scene_at (turn.Take ended) None turn.Main) s.core refl (λ m f. not_main m f) (λ o f. none_is_some o (sym (ap outcome_of_label h.0) ∙ f)) (ap (λ y. begun_holder s.core y) h.0) (mute_words _ _ (ap is_mute h.0)))
       rests false h = absurd h
   empty_walks ended false t is = dies (may_deadlock x s) is
     where
       dies : (c : Bool) → DeadlockStep s c l t → WalkedBy (scene_at (turn.Take ended) None) s.core s.main t
-      dies true h = landed (scene_at (turn.Take ended) None) s.core (λ v. NoWord) s (set_trapped s.core) turn.Over t h.1 (Remains _ (word SetTrapped tt NoWord), idle_words (scene_at (turn.Take ended) None turn.Over) (set_trapped s.core) refl (λ m f. not_over m f) (λ o f. refl) (ap (λ y. begun_holder s.core y) h.0) (mute_words _ _ (ap is_mute h.0)))
+      dies true h = landed (scene_at (turn.Take ended) None) s.core (λ v. NoWord) s (set_trapped s.core) turn.Over t h.1 (Remains _ (word SetTrapped tt NoWord) (λ m f. not_over m f), idle_words (scene_at (turn.Take ended) None turn.Over) (set_trapped s.core) refl (λ m f. not_over m f) (λ o f. refl) (ap (λ y. begun_holder s.core y) h.0) (mute_words _ _ (ap is_mute h.0)))
       dies false h = absurd h
 
   push_walks : (ended : Bool) (m : Mark) (i : ℕ) → next_entry s.core ≡ Some (m, entry.Push i) → Stay (scene_at (turn.Take ended) (Some (m, entry.Push i)) turn.Main) s.core (pushed i (popped m s.core))
@@ -534,7 +534,7 @@ module _ (x : Setting) (s : State) (l : Label) where
       let base = popped m s.core in
       let a = scene_at (turn.Take ended) (Some (m, entry.Host i)) turn.Main in
       let taken_first : Stay a s.core (set_stage i stage.Ended base) = subst (λ (u : Core). Stay a s.core (set_stage i stage.Ended u)) (popped_shifted m s.core).only (word (TakeHost m i) at NoWord) in
-      landed (scene_at (turn.Take ended) (Some (m, entry.Host i))) s.core (λ v. NoWord) s (host_done i (woken_of l) base) turn.Main t is.1 (Remains _ (host_done_walks i (woken_of l) base may taken_first), idle_words a (host_done i (woken_of l) base) refl (λ j f. not_main j f) (λ o f. none_is_some o (sym (ap outcome_of_label is.0 ∙ host_quiet m i (woken_of l)) ∙ f)) (ap (λ y. begun_holder base y) is.0 ∙ host_begins m i (woken_of l) base) (mute_words a _ (ap is_mute is.0 ∙ host_mute m i (woken_of l))))
+      landed (scene_at (turn.Take ended) (Some (m, entry.Host i))) s.core (λ v. NoWord) s (host_done i (woken_of l) base) turn.Main t is.1 (Remains _ (host_done_walks i (woken_of l) base may taken_first) (λ j f. not_main j f), idle_words a (host_done i (woken_of l) base) refl (λ j f. not_main j f) (λ o f. none_is_some o (sym (ap outcome_of_label is.0 ∙ host_quiet m i (woken_of l)) ∙ f)) (ap (λ y. begun_holder base y) is.0 ∙ host_begins m i (woken_of l) base) (mute_words a _ (ap is_mute is.0 ∙ host_mute m i (woken_of l))))
   host_entry_walks ended m i t at false may is = absurd is
 
   entry_walks : (ended : Bool) (m : Mark) (e : Entry) (t : State) → next_entry s.core ≡ Some (m, e) → Progresses s (popped m s.core) (entry_number e) (take_row m (choice_of l) (popped m s.core) e) l t → WalkedBy (scene_at (turn.Take ended) (Some (m, e))) s.core s.main t
@@ -545,7 +545,7 @@ module _ (x : Setting) (s : State) (l : Label) where
       (λ u. thread_taken_leads x s.main ended base n l u m (choice_of l) (place_of n base) refl)
       (λ none mute. (struck_trip refl n refl, struck_words (scene_at (turn.Take ended) (Some (m, entry.Thread n)) turn.Over) n refl refl none mute)) is
   entry_walks ended m (entry.Push i) t at is =
-      landed (scene_at (turn.Take ended) (Some (m, entry.Push i))) s.core (λ v. NoWord) s (pushed i (popped m s.core)) turn.Main t is.1 (Remains _ (push_walks ended m i at), idle_words (scene_at (turn.Take ended) (Some (m, entry.Push i)) turn.Main) (pushed i (popped m s.core)) refl (λ j f. not_main j f) (λ o f. none_is_some o (sym (ap outcome_of_label is.0) ∙ f)) (ap (λ y. begun_holder (popped m s.core) y) is.0) (mute_words _ _ (ap is_mute is.0)))
+      landed (scene_at (turn.Take ended) (Some (m, entry.Push i))) s.core (λ v. NoWord) s (pushed i (popped m s.core)) turn.Main t is.1 (Remains _ (push_walks ended m i at) (λ j f. not_main j f), idle_words (scene_at (turn.Take ended) (Some (m, entry.Push i)) turn.Main) (pushed i (popped m s.core)) refl (λ j f. not_main j f) (λ o f. none_is_some o (sym (ap outcome_of_label is.0) ∙ f)) (ap (λ y. begun_holder (popped m s.core) y) is.0) (mute_words _ _ (ap is_mute is.0)))
   entry_walks ended m (entry.Host i) t at is = host_entry_walks ended m i t at (may_publish (subtask.Host i) (woken_of l) (popped m s.core)) refl is
 
   take_step_walks : (ended : Bool) (o : Option (Mark × Entry)) (t : State) → next_entry s.core ≡ o → TakeStep x s o l t → WalkedBy (scene_at (turn.Take ended) o) s.core s.main t

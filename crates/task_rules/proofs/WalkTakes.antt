@@ -35,9 +35,9 @@ use Rattle.task_rules.proofs.WalkEnds.{SameCall, still_told_to, unanswered}
 use Rattle.task_rules.proofs.WalkMoves.{Chosen, MayTake, ToldTo, handed_on_shifts, lands, published_call_shifts, shifted, stopped_shifts, taken_walks, told_to, told_walks, walk_if, word}
 use Rattle.task_rules.proofs.WalkParts.{gift_is, set_given_walks, sync_sets_flag_walks, started_begun, flag_calls}
 use Rattle.task_rules.proofs.WalkTask.{Leads, may_leads, moved_to_walks, none_is_some, not_main, one_runner, or_never_leads, running_moved, seen, trap_if_leads}
-use Rattle.task_rules.specs.Allowed.{Holds, Leaves, MayDeliver, MayMove, Runs, WaitsAgain, WasReady, is_exit, IsLaid, is_begun}
+use Rattle.task_rules.specs.Allowed.{Holds, MayDeliver, MayMove, Runs, WaitsAgain, WasReady, is_exit, IsLaid, is_begun}
 use Rattle.task_rules.specs.Calls.{with_thread_handle}
-use Rattle.task_rules.specs.Chains.{LastWords, Stay, Trip, Walk, is_running}
+use Rattle.task_rules.specs.Chains.{LastWords, Stay, is_running}
 use Rattle.task_rules.specs.Data.{moved_to}
 use Rattle.task_rules.specs.Ends.{is_told, may_tell, told}
 use Rattle.task_rules.specs.Laws.{is_free}

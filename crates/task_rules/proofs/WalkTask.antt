@@ -40,7 +40,7 @@ use Rattle.task_rules.proofs.PlacingLemmas.{Shifted, shifted_calls, shifted_task
 use Rattle.task_rules.proofs.StandLemmas.{is_eq_of}
 use Rattle.task_rules.proofs.WalkEnds.{SameCall, cancelled_walks, returned_walks, still_told_to, unanswered}
 use Rattle.task_rules.proofs.WalkMoves.{Chosen, ToldTo, checked_shifts, chosen_released, ended_gone, ended_walks, exits_trip, lands, released_shifts, shifted, stopped_shifts, told_to, word}
-use Rattle.task_rules.specs.Allowed.{AwaitsEvent, BySetHandle, ComesAgain, Departs, EndsActivation, EndsOver, Exits, FindsEvent, GivesUp, HasSet, IsRunner, Leaves, MayBar, MayEnd, MayGo, MayOwe, ReturnsNow, Uncovers, is_exit, SaysEnd}
+use Rattle.task_rules.specs.Allowed.{AwaitsEvent, BySetHandle, ComesAgain, EndsActivation, Exits, FindsEvent, GivesUp, HasSet, IsRunner, Leaves, MayBar, MayEnd, MayOwe, ReturnsNow, Uncovers, is_exit, SaysEnd}
 use Rattle.task_rules.specs.Calls.{answered}
 use Rattle.task_rules.specs.Chains.{LastWords, NoWord, Stay, Trip, Walk, is_running}
 use Rattle.task_rules.specs.Data.{advanced, assigned, data_row, moved_to, skip_row, skipped, stored}
@@ -244,7 +244,7 @@ module _ (x : Setting) (main : Main) (s : Core) (n : ℕ) (l : Label) (next : Tu
   pub goes_on_saying : (k : Label) (t : Core) → is_plain k ≡ true → (l ≡ k → EndWords running_scene t) → (l ≡ k → Stay running_scene s t) → Leads running_scene s (Goes k t n)
   goes_on_saying k t plain says c is to =
       let p = plain_quiet (is_quiet k) (is_exit k) plain in
-      (Remains t (c is), quiet_ends (ap is_quiet is ∙ p.0) (λ m at. inl (sym to ∙ at)) (λ exit. absurd (subst T (sym exit ∙ (ap is_exit is ∙ p.1)) tt)) (says is))
+      (Remains t (c is) (λ m at. sym to ∙ at), quiet_ends (ap is_quiet is ∙ p.0) (λ m at. inl (sym to ∙ at)) (λ exit. absurd (subst T (sym exit ∙ (ap is_exit is ∙ p.1)) tt)) (says is))
 
   -- n goes on
   pub goes_on : (k : Label) (t : Core) → is_still k ≡ true → Stay running_scene s t → Leads running_scene s (Goes k t n)

@@ -1,10 +1,10 @@
 -- Where a step does a word: what its row has tested or done before, and what is known of the thread that runs or was taken.
 use Rattle.std.specs.Option.{option_map_or}
-use Rattle.std.specs.Prelude.{Bool, None, Option, Some, [], false, is_none, true, ℕ, ◌||◌, ◌∷◌, ◌≡◌, ◌⊎◌, not}
+use Rattle.std.specs.Prelude.{Bool, None, Option, Some, [], false, is_none, is_some, true, ℕ, ◌||◌, ◌∷◌, ◌≡◌, ◌⊎◌, not}
 use Rattle.task_machine.specs.Core.{Core, MainPlace, Scripted, Unscripted}
 use Rattle.task_machine.specs.Maps.{get}
 use Rattle.task_machine.specs.Moves.{has_entry, is_callback_waiter, is_deletable, is_group_done}
-use Rattle.task_machine.specs.Read.{cancel_was_delivered, course_of, course_value, end_of, goal_of, has_ended, has_member, has_waiters, how_far_of, instance_of, is_async_lifted, is_at, is_direct, is_end, is_explicit, is_joined, is_stage_ended, is_waiter, join_of, kind_of, may_not_enter, next_entry, own_event_of, phase_of, place_of, set_at, stage_of, subtask_at, subtask_ended, subtask_handle, task_of, thread_group, was_started, work_caller_of, is_guest_call}
+use Rattle.task_machine.specs.Read.{foot_of, cancel_was_delivered, course_of, course_value, end_of, goal_of, has_ended, has_member, has_waiters, how_far_of, instance_of, is_async_lifted, is_at, is_direct, is_end, is_explicit, is_joined, is_stage_ended, is_waiter, join_of, kind_of, may_not_enter, next_entry, own_event_of, phase_of, place_of, set_at, stage_of, subtask_at, subtask_ended, subtask_handle, task_of, thread_group, was_started, work_caller_of, is_guest_call}
 use Rattle.task_machine.specs.declared.component.Callee.{Callee}
 use Rattle.task_machine.specs.declared.component.ExportKind.{ExportKind}
 use Rattle.task_machine.specs.declared.label.Label.{Label}
@@ -21,6 +21,7 @@ use Rattle.task_machine.specs.declared.records.Why.{Why}
 use Rattle.task_machine.specs.declared.records.WorkCaller.{WorkCaller}
 use Rattle.task_machine.specs.declared.scenario.MainOpDef.{MainOpDef}
 use Rattle.task_machine.specs.declared.words.Mark.{Mark}
+use Rattle.task_machine.specs.declared.words.Mark.TheVariants as mark
 use Rattle.task_machine.specs.declared.words.OwnEvent.{OwnEvent}
 use Rattle.task_machine.specs.declared.words.Status.{Status}
 use Rattle.task_rules.specs.Calls.{new_thread, next_thread, next_work}
@@ -177,10 +178,16 @@ pub data MayMove (a : Scene) (n : ℕ) (p : Place) (s : Core) : Type 0 where
   Uncovers : (m : ℕ) → IsRunner a m → a.next ≡ turn.Run n → place_of n a.base ≡ Some (place.Under m) → is_none (get s.threads m) ≡ true →
       p ≡ place.Running → MayMove a n p s
 
+-- whom a thread goes behind: one that is there, or the foot of the strand at switch
+abbrev pub IsFoot : ℕ → Core → Type 0
+IsFoot f s = (is_some (place_of f s) ≡ true) ⊎ ((m : ℕ) × ((s.queues.switch ≡ Some m) × (f ≡ foot_of m s)))
+
 -- where it comes to at last
 abbrev pub MayLand : Scene → Placing → Core → Type 0
-MayLand a (Put m n w) s = MayYield a n w
-MayLand a (GoBehind f n) s = Leaves a n
+MayLand a (Put mark.Switch n w) s = ⊥
+MayLand a (Put mark.High n w) s = MayYield a n w
+MayLand a (Put mark.Low n w) s = MayYield a n w
+MayLand a (GoBehind f n) s = Leaves a n × IsFoot f s
 MayLand a (Move n p) s = MayMove a n p s
 -- by a direct call that was just made, and has begun
 MayLand a (Enter n m) s = IsRunner a n ×

@@ -45,7 +45,7 @@ Settles b t = Chain IsSettling b t
 
 -- The running thread, or the one that was taken, stays and then comes to one place, or is gone.
 pub data Trip (a : Scene) (b : Core) : Core → Type 0 where
-  Remains : (t : Core) → Stay a b t → Trip a b t
+  Remains : (t : Core) → Stay a b t → ((m : ℕ) → a.next ≡ turn.Run m → a.turn ≡ turn.Run m) → Trip a b t
   Lands : (s : Core) → (p : Placing) → Stay a b s → MayLand a p s → Trip a b (after_word (Places p) s)
   -- and its op has come that far
   LandsAt : (s : Core) → (p : Placing) → (n : ℕ) → (h : HowFar) → Stay a b s → MayLand a p s → MayCome a n h (after_word (Places p) s) →
