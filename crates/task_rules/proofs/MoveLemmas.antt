@@ -1,11 +1,12 @@
 -- Moves beside a thread that runs or is taken: they leave each other thread its place.
-use Rattle.std.proofs.Common.{◌∙◌, ap, arith, refl, subst, sym}
+use Rattle.std.proofs.Common.{◌∙◌, ap, arith, cond, refl, subst, sym}
 use Rattle.std.proofs.lemmas.Bool.Decides.{nat_tests}
 use Rattle.std.specs.Option.{option_map_or}
-use Rattle.std.specs.Prelude.{Bool, List, None, Option, Some, [], false, option_and_then, option_map, true, ℕ, ◌+◌, ◌==◌, ◌∷◌, ◌≡◌, ◌≤◌}
+use Rattle.std.specs.Prelude.{Bool, List, None, Option, Some, [], false, if◌then◌else◌, is_some, option_and_then, option_map, true, ℕ, ◌+◌, ◌==◌, ◌∷◌, ◌≡◌, ◌≤◌}
 use Rattle.task_machine.specs.declared.records.Place.{Place}
 use Rattle.task_machine.specs.declared.records.Thread.{Thread}
 use Rattle.task_machine.specs.declared.records.Why.{Why}
+use Rattle.task_machine.specs.declared.words.Mark.{Mark}
 use Rattle.task_machine.specs.declared.records.Delivery.TheVariants as delivery
 use Rattle.task_machine.specs.declared.words.Mark.TheVariants as mark
 use Rattle.task_machine.specs.declared.records.Place.TheVariants as place
@@ -13,37 +14,39 @@ use Rattle.task_machine.specs.declared.records.Why.TheVariants as why
 use Rattle.task_machine.proofs.MapLemmas.{get-remove_other, get-remove_same}
 use Rattle.task_machine.specs.Core.{Core}
 use Rattle.task_machine.specs.Maps.{get-remove}
-use Rattle.task_machine.specs.Moves.{behind_one, held_why_of, is_callback_waiter, may_wake, put_high, put_low, put_switch, released, released_one, stopped, wake, waken_by}
+use Rattle.task_machine.specs.Moves.{displaced, held_why_of, is_callback_waiter, may_wake, put_high, put_low, put_switch, released, released_one, stopped, wake, waken_by, why_of}
 use Rattle.task_machine.specs.Read.{held_why, is_waiting_on, place_of}
-use Rattle.task_machine.specs.Write.{remove_thread, set_place}
-use Rattle.task_rules.proofs.StandLemmas.{Loose, Stand, adds_all, by_count, free_loose, loose_free, loose_gone, loosened, not_eq, put_high_adds, put_low_adds, set_place_adds}
-use Rattle.task_rules.proofs.StopLemmas.{behind_adds, given_there, put_stand, put_switch_stand, stopped_stand}
+use Rattle.task_machine.specs.Write.{push_high, push_high_first, push_low, remove_thread, set_place, set_switch}
+pub use Rattle.task_rules.proofs.StandLemmas.{nobody}
+use Rattle.task_rules.proofs.StandLemmas.{Loose, Nothing, Stand, Watch, adds_all, by_count, by_number, eq_refl, is_so, is_watched, loose_gone, loosened, not_eq, put_high_adds, put_low_adds, set_place_adds, set_place_is, set_place_there, watching, zero_one}
+use Rattle.task_rules.proofs.StopLemmas.{comes_stand, put_switch_stand, stopped_stand}
 use Rattle.task_rules.specs.Laws.{ReleaseKeepsPlaces, RemovalKeepsPlaces, StopKeepsPlaces, WakeKeepsPlaces, is_free}
-use Rattle.task_rules.specs.Places.{HasPlace, is_there, one_if}
+use Rattle.task_rules.specs.Places.{HasPlace, is_there, one_if, times}
+use Rattle.task_rules.specs.Words.{put_at}
 
 -- ---- Where other threads are
 
--- the thread runs, or its entry is being taken
-abbrev pub is_busy : Place → Bool
-is_busy place.Running = true
-is_busy (place.Ready m w) = true
+-- there is no such thread, or it runs, is under another, or its entry is being taken
+abbrev pub is_busy : Option Place → Bool
+is_busy None = true
+is_busy (Some place.Running) = true
+is_busy (Some (place.Ready m w)) = true
+is_busy (Some (place.Under m)) = true
 is_busy _ = false
 
--- the thread neither runs, nor has an entry, nor is behind another
+-- the thread neither runs nor is under another, nor has an entry, nor is behind another
 abbrev pub is_parked : Place → Bool
 is_parked place.Running = false
 is_parked (place.Ready m w) = false
+is_parked (place.Under m) = false
 is_parked (place.Behind f) = false
 is_parked _ = true
 
 parked_free : (p : Place) → is_parked p ≡ true → is_free p ≡ true
 parked_free p h = grind arith
 
-not_both : (p : Place) → is_parked p ≡ true → is_busy p ≡ true → ⊥
+not_both : (p : Place) → is_parked p ≡ true → is_busy (Some p) ≡ true → ⊥
 not_both p h b = grind arith
-
-same_place : (p q : Place) → Some p ≡ Some q → p ≡ q
-same_place p q e = cc
 
 at_place : (test : Place → Bool) (o : Option Place) → option_map_or test o false ≡ true → (p : Place) × (o ≡ Some p) × (test p ≡ true)
 at_place test None h = absurd (grind arith)
@@ -79,109 +82,154 @@ removed_placed k n s e h = record {
 
 -- ---- Moves beside a busy thread
 
-module _ (n : ℕ) (q : Place) (busy : is_busy q ≡ true) where
-  -- a parked thread may be taken up
-  taken_up : (m : ℕ) (p : Place) (s : Core) → place_of m s ≡ Some p → is_parked p ≡ true → Stand n q [] s → Stand n q (m ∷ []) s
-  taken_up m p s is parked st =
-      loosened n q m p [] s is (parked_free p parked) (by_count m n _ (λ e x. absurd (both e)) (λ e x. omega arith)) st
-    where
-      both : m ≡ n → ⊥
-      both e = not_both p parked (grind (arith, is, st.here, busy))
+there_moved : (m : ℕ) (p : Place) (s : Core) → is_there m s ≡ true → place_of m (set_place m p s) ≡ Some p
+there_moved m p s h = grind (arith, nat_tests, set_place_is m m p s)
 
-  pub put_high_good : (m : ℕ) (w : Why) (p : Place) (s : Core) → place_of m s ≡ Some p → is_parked p ≡ true → Stand n q [] s →
-      Stand n q [] (put_high m w s)
-  put_high_good m w p s is parked st =
-      put_stand n q m [] (place.Ready mark.High w) s _ (λ r at. put_high_adds m w r s at) (taken_up m p s is parked st)
+displaced_there : (m : ℕ) (o : Option ℕ) (s : Core) → is_there m (displaced o s) ≡ is_there m s
+unfolding push_high_first
+displaced_there m None s = refl
+displaced_there m (Some j) s = set_place_there m j (place.Ready mark.High (why_of j s)) s
 
-  pub put_low_good : (m : ℕ) (w : Why) (p : Place) (s : Core) → place_of m s ≡ Some p → is_parked p ≡ true → Stand n q [] s →
-      Stand n q [] (put_low m w s)
-  put_low_good m w p s is parked st =
-      put_stand n q m [] (place.Ready mark.Low w) s _ (λ r at. put_low_adds m w r s at) (taken_up m p s is parked st)
+-- who is put stands there
+pub put_place : (x : Mark) (m : ℕ) (w : Why) (s : Core) → is_there m s ≡ true → place_of m (put_at x m w s) ≡ Some (place.Ready x w)
+unfolding put_switch set_switch put_high push_high put_low push_low
+put_place mark.Switch m w s h = there_moved m (place.Ready mark.Switch w) (displaced s.queues.switch s) (displaced_there m s.queues.switch s ∙ h)
+put_place mark.High m w s h = there_moved m (place.Ready mark.High w) s h
+put_place mark.Low m w s h = there_moved m (place.Ready mark.Low w) s h
 
-  pub put_switch_good : (m : ℕ) (w : Why) (p : Place) (s : Core) → place_of m s ≡ Some p → is_parked p ≡ true → Stand n q [] s →
-      Stand n q [] (put_switch m w s)
-  put_switch_good m w p s is parked st = put_switch_stand n q m [] w s refl (taken_up m p s is parked st)
+-- of m nothing is watched
+abbrev pub others : (ℕ → Watch) → ℕ → ℕ → Watch
+others P m k = if k == m then Nothing else P k
 
-  -- ---- A release
+pub unwatched : (P : ℕ → Watch) (m : ℕ) → is_watched (others P m m) ≡ false
+unwatched P m = grind (arith, nat_tests)
 
-  released_one_good : (m : ℕ) (o : Option Place) (s : Core) → place_of m s ≡ o → Stand n q [] s →
-      Stand n q [] (released_one m (option_and_then held_why o) s)
-  released_one_good m (Some (place.Held w)) s is st = put_high_good m w (place.Held w) s is refl st
-  released_one_good m _ s is st = st
+-- who is watched beside m is another one, of which the same is watched
+pub other_so : (P : ℕ → Watch) (m k : ℕ) (s : Core) → is_watched (others P m k) ≡ true →
+    ((k == m) ≡ false → is_watched (P k) ≡ true → is_so (P k) (place_of k s) ≡ true) →
+    ((k == m) ≡ false) × (is_so (others P m k) (place_of k s) ≡ true)
+other_so P m k s h so = grind arith
 
-  pub released_good : (ns : List ℕ) (s : Core) → Stand n q [] s → Stand n q [] (released ns s)
-  unfolding released
-  released_good [] s st = st
-  released_good (m ∷ ns) s st = released_good ns (released_one m (held_why_of m s) s) (released_one_good m (place_of m s) s refl st)
+-- a loose thread is put
+pub put_back : {P : ℕ → Watch} (n : ℕ) (q : Option Place) (x : Mark) (m : ℕ) (w : Why) (s : Core) → is_there m s ≡ true →
+    (is_watched (P m) ≡ true → is_so (P m) (Some (place.Ready x w)) ≡ true) → Stand (others P m) n q (m ∷ []) s →
+    Stand P n q [] (put_at x m w s)
+put_back {P = P} n q x m w s there fits st = watching n q [] (put_at x m w s) (λ k h. (refl, so k h)) (put x)
+  where
+    put : (y : Mark) → Stand (others P m) n q [] (put_at y m w s)
+    put mark.Switch = put_switch_stand n q m [] w s refl st
+    put mark.High = comes_stand n q m [] (place.Ready mark.High w) s _ (λ r is. put_high_adds m w r s is) st
+    put mark.Low = comes_stand n q m [] (place.Ready mark.Low w) s _ (λ r is. put_low_adds m w r s is) st
 
-  -- ---- A wake
+    so : (k : ℕ) → is_watched (P k) ≡ true → is_so (P k) (place_of k (put_at x m w s)) ≡ true
+    so k h =
+        by_number k m _ (λ e. grind (arith, e, h, ap P e, fits, put_place x m w s there, ap (λ (j : ℕ). place_of j (put_at x m w s)) e))
+        (λ e. let other = ap (λ b. cond b Nothing (P k)) e in
+        subst (λ v. is_so v (place_of k (put_at x m w s)) ≡ true) other ((put x).kept k (ap is_watched other ∙ h)).1)
 
-  pub wake_good : (x : ℕ) (w : Option ℕ) (s : Core) → may_wake x w s ≡ true → Stand n q [] s → Stand n q [] (wake x w s)
-  unfolding wake may_wake
-  wake_good x None s h st = st
-  wake_good x (Some m) s h st =
-      let p = at_place (is_waiting_on x) (place_of m s) h in by_callback p.0 p.1 (waiting_parked p.0 p.2) (is_callback_waiter m s)
-    where
-      waiting_parked : (p : Place) → is_waiting_on x p ≡ true → is_parked p ≡ true
-      waiting_parked p h = grind arith
+-- a parked thread is put
+pub put_stand : {P : ℕ → Watch} (n : ℕ) (q : Option Place) → is_busy q ≡ true → (x : Mark) (m : ℕ) (w : Why) (p : Place) (s : Core) →
+    place_of m s ≡ Some p → is_parked p ≡ true → (is_watched (P m) ≡ true → is_so (P m) (Some (place.Ready x w)) ≡ true) →
+    Stand P n q [] s → Stand P n q [] (put_at x m w s)
+put_stand {P = P} n q busy x m w p s is parked fits st =
+    let before = watching n q [] s (λ k h. (refl, (other_so P m k s h (λ e w. (st.kept k w).1)).1)) st in
+    put_back n q x m w s (ap (λ (o : Option Place). is_some o) is) fits
+    (loosened n q m p [] s (unwatched P m) is (parked_free p parked) (by_count m n _ (λ e x. absurd (both e)) (λ e x. omega arith)) before)
+  where
+    both : m ≡ n → ⊥
+    both e = not_both p parked (subst (λ (o : Option Place). is_busy o ≡ true) (sym st.here ∙ (ap (λ (k : ℕ). place_of k s) (sym e) ∙ is)) busy)
 
-      by_callback : (p : Place) → place_of m s ≡ Some p → is_parked p ≡ true → (b : Bool) → Stand n q [] (waken_by b x m s)
-      by_callback p is parked true = put_high_good m (why.Delivery (delivery.Set x)) p s is parked st
-      by_callback p is parked false = put_high_good m why.Resumption p s is parked st
+-- ---- The thread itself
 
-  -- ---- A thread more, and one less
+abbrev pub All : Core → Type 0
+All s = (k : ℕ) → HasPlace k s
 
-  pub set_place_all : (p : Place) (s : Core) → is_free p ≡ true → Stand n q [] s → (k : ℕ) → HasPlace k (set_place n p s)
-  set_place_all p s free st k = adds_all n q p s (set_place n p s) (set_place_adds n p q s free st.here) st k
+-- a thread's place says nothing, or it is gone
+abbrev pub is_idle : Option Place → Bool
+is_idle o = option_map_or is_free o true
 
-  pub put_low_all : (w : Why) (s : Core) → Stand n q [] s → (k : ℕ) → HasPlace k (put_low n w s)
-  put_low_all w s st k = adds_all n q (place.Ready mark.Low w) s (put_low n w s) (put_low_adds n w q s st.here) st k
+pub idle_loose : (n : ℕ) (o : Option Place) (s : Core) → place_of n s ≡ o → is_idle o ≡ true → HasPlace n s → Loose n s
+idle_loose n o s is idle h = grind arith
 
-  pub put_high_all : (w : Why) (s : Core) → Stand n q [] s → (k : ℕ) → HasPlace k (put_high n w s)
-  put_high_all w s st k = adds_all n q (place.Ready mark.High w) s (put_high n w s) (put_high_adds n w q s st.here) st k
+pub loose_idle : (n : ℕ) (o : Option Place) (s : Core) → place_of n s ≡ o → is_idle o ≡ true → Loose n s → HasPlace n s
+loose_idle n o s is idle l = grind arith
 
-  pub behind_all : (g : ℕ) (s : Core) → is_there g s ≡ true → Stand n q [] s → (k : ℕ) → HasPlace k (behind_one g n s)
-  behind_all g s is st k =
-      adds_all n q (place.Behind g) s (behind_one g n s) (behind_adds g n q s (given_there n q [] s st g is) st.here) st k
+pub one_time : (n : ℕ) → times n (n ∷ []) ≡ 1
+one_time n = ap (λ b. one_if b + 0) (eq_refl n)
 
-  pub removed_all : (s : Core) → Stand n q [] s → (k : ℕ) → HasPlace k (remove_thread n s)
-  removed_all s st k =
-      by_count k n (HasPlace k (remove_thread n s))
-      (λ e x. subst (λ (j : ℕ). Loose j s → HasPlace j (remove_thread n s)) (sym e) (removed_gone n s) (st.loose k (omega arith)))
-      (λ e x. removed_placed k n s e (st.placed k (omega arith)))
+pub no_time : (k n : ℕ) → (k == n) ≡ false → times k (n ∷ []) ≡ 0
+no_time k n e = ap (λ b. one_if b + 0) e
 
--- ---- The moves, where all threads have their places
-
-pub stand_of : (n : ℕ) (q : Place) (s : Core) → place_of n s ≡ Some q → is_free q ≡ true → ((k : ℕ) → HasPlace k s) → Stand n q [] s
-stand_of n q s is free all = record {
+-- where each thread has its place, each that is at no entry may be taken as n
+pub stand_of : {P : ℕ → Watch} (n : ℕ) (q : Option Place) (s : Core) → place_of n s ≡ q → is_idle q ≡ true →
+    ((k : ℕ) → is_watched (P k) ≡ true → is_so (P k) (place_of k s) ≡ true) → All s → Stand P n q [] s
+stand_of n q s is idle so all = record {
   here = is;
   once = λ k. at_most_one (k == n);
-  loose = λ k h. by_count k n _ (λ e x. subst (λ (j : ℕ). Loose j s) (sym e) (free_loose n q s is free (all n)))
-      (λ e x. absurd (omega arith));
-  there = λ k h. absurd (omega arith);
+  loose = λ k h. by_count k n _ (λ e x. subst (λ (j : ℕ). Loose j s) (sym e) (idle_loose n q s is idle (all n))) (λ e x. absurd (omega arith));
+  there = λ k h. zero_one refl h;
   placed = λ k h. all k;
+  kept = λ k h. (refl, so k h);
 }
   where
     at_most_one : (b : Bool) → one_if b + 0 ≤ 1
     at_most_one b = grind arith
 
-pub all_of : (n : ℕ) (q : Place) (s : Core) → is_free q ≡ true → Stand n q [] s → (k : ℕ) → HasPlace k s
-all_of n q s free st k =
-    by_count k n (HasPlace k s)
-    (λ e x. loose_free k q s (ap (λ (j : ℕ). place_of j s) e ∙ st.here) free (st.loose k (omega arith)))
+pub all_of : {P : ℕ → Watch} (n : ℕ) (q : Option Place) (s : Core) → is_idle q ≡ true → Stand P n q [] s → All s
+all_of n q s idle st k =
+    by_count k n _ (λ e x. loose_idle k q s (ap (λ (j : ℕ). place_of j s) e ∙ st.here) idle (st.loose k (omega arith)))
     (λ e x. st.placed k (omega arith))
+
+pub removed_all : {P : ℕ → Watch} (n : ℕ) (q : Option Place) (s : Core) → Stand P n q [] s → All (remove_thread n s)
+removed_all n q s st k =
+    by_count k n _ (λ e x. subst (λ (j : ℕ). Loose j s → HasPlace j (remove_thread n s)) (sym e) (removed_gone n s) (st.loose k (omega arith)))
+    (λ e x. removed_placed k n s e (st.placed k (omega arith)))
+
+-- ---- The moves, where all threads have their places
+
+-- beside n, which runs, each has its place
+abbrev Runs : ℕ → Core → Type 0
+Runs n s = Stand nobody n (Some place.Running) [] s
+
+runs : (n : ℕ) (s : Core) → place_of n s ≡ Some place.Running → All s → Runs n s
+runs n s is all = stand_of n (Some place.Running) s is refl (λ k h. absurd (grind arith)) all
+
+put_keeps : (n m : ℕ) (w : Why) (p : Place) (s : Core) → place_of m s ≡ Some p → is_parked p ≡ true → Runs n s → Runs n (put_high m w s)
+put_keeps n m w p s is parked st = put_stand n (Some place.Running) refl mark.High m w p s is parked (λ h. absurd (grind arith)) st
+
+release_one : (n m : ℕ) (o : Option Place) (s : Core) → place_of m s ≡ o → Runs n s → Runs n (released_one m (option_and_then held_why o) s)
+release_one n m (Some (place.Held w)) s is st = put_keeps n m w (place.Held w) s is refl st
+release_one n m _ s is st = st
+
+release_stand : (n : ℕ) (ns : List ℕ) (s : Core) → Runs n s → Runs n (released ns s)
+unfolding released
+release_stand n [] s st = st
+release_stand n (m ∷ ns) s st = release_stand n ns (released_one m (held_why_of m s) s) (release_one n m (place_of m s) s refl st)
+
+wake_stand : (n x : ℕ) (w : Option ℕ) (s : Core) → may_wake x w s ≡ true → Runs n s → Runs n (wake x w s)
+unfolding wake may_wake
+wake_stand n x None s h st = st
+wake_stand n x (Some m) s h st =
+    let p = at_place (is_waiting_on x) (place_of m s) h in by_callback p.0 p.1 (waits_parked p.0 p.2) (is_callback_waiter m s)
+  where
+    waits_parked : (p : Place) → is_waiting_on x p ≡ true → is_parked p ≡ true
+    waits_parked p h = grind arith
+
+    by_callback : (p : Place) → place_of m s ≡ Some p → is_parked p ≡ true → (b : Bool) → Runs n (waken_by b x m s)
+    by_callback p is parked true = put_keeps n m (why.Delivery (delivery.Set x)) p s is parked st
+    by_callback p is parked false = put_keeps n m why.Resumption p s is parked st
 
 pub stop_keeps_places : StopKeepsPlaces
 stop_keeps_places n f p s free is all =
-    set_place_all n place.Running refl p (stopped f s) free (stopped_stand n place.Running f s (stand_of n place.Running s is refl all))
+    let st = stopped_stand n (Some place.Running) f s (runs n s is all) in
+    adds_all n (Some place.Running) p (stopped f s) (set_place n p (stopped f s)) (set_place_adds n p place.Running (stopped f s) free st.here) st
 
 pub release_keeps_places : ReleaseKeepsPlaces
-release_keeps_places n ns s is all =
-    all_of n place.Running (released ns s) refl (released_good n place.Running refl ns s (stand_of n place.Running s is refl all))
+release_keeps_places n ns s is all = all_of n (Some place.Running) (released ns s) refl (release_stand n ns s (runs n s is all))
 
 pub wake_keeps_places : WakeKeepsPlaces
 wake_keeps_places n x w s may_be is all =
-    all_of n place.Running (wake x w s) refl (wake_good n place.Running refl x w s may_be (stand_of n place.Running s is refl all))
+    all_of n (Some place.Running) (wake x w s) refl (wake_stand n x w s may_be (runs n s is all))
 
 pub removal_keeps_places : RemovalKeepsPlaces
-removal_keeps_places n s is all = removed_all n place.Running refl s (stand_of n place.Running s is refl all)
+removal_keeps_places n s is all = removed_all n (Some place.Running) s (runs n s is all)

@@ -2,6 +2,7 @@
 use Rattle.std.proofs.Common.{◌∙◌, ap, arith, cond, le_trans, refl, subst, sym, ◌⊎◌}
 use Rattle.std.proofs.lemmas.Bool.{eq-eqb, eqb-false, eqb-true}
 use Rattle.std.proofs.lemmas.Bool.Decides.{nat_tests}
+use Rattle.std.specs.Option.{option_map_or}
 use Rattle.std.specs.Prelude.{Bool, List, None, Option, Some, [], false, if◌then◌else◌, is_some, option_map, true, unwrap_or, ℕ, ◌++◌, ◌+◌, ◌==◌, ◌∷◌, ◌≡◌, ◌≢◌, ◌≤◌}
 use Rattle.task_machine.specs.declared.records.Entry.{Entry}
 use Rattle.task_machine.specs.declared.records.Place.{Place}
@@ -13,10 +14,10 @@ use Rattle.task_machine.proofs.CommuteLemmas.{get-change}
 use Rattle.task_machine.specs.Core.{Core, Queues}
 use Rattle.task_machine.specs.Maps.{Records, get}
 use Rattle.task_machine.specs.Moves.{has_entry, less, newest, older, put_high, put_low}
-use Rattle.task_machine.specs.Read.{callers_of, is_entry_of, place_of}
+use Rattle.task_machine.specs.Read.{callers_of, is_entry_of, place_of, is_under}
 use Rattle.task_machine.specs.Write.{on_thread, push_high, push_low, set_place}
 use Rattle.task_rules.specs.Laws.{is_free}
-use Rattle.task_rules.specs.Places.{HasPlace, entries, is_at_high, is_at_low, is_at_switch, is_behind_of, is_there, one_if, says, switch_entries, times}
+use Rattle.task_rules.specs.Places.{HasPlace, entries, is_at_high, is_at_low, is_at_switch, is_behind_of, is_there, one_if, says, switch_entries, times, is_fresh}
 
 -- ---- Numbers and lists
 
@@ -136,12 +137,38 @@ left_loose k s t q l = grind arith
 
 -- ---- A state in which n and some others are loose, and all the rest have their places
 
-pub record Stand (n : ℕ) (q : Place) (xs : List ℕ) (s : Core) : Type 0 where
-  pub here : place_of n s ≡ Some q
+-- what is watched of a thread: nothing, that it waits for its start or is gone, or that it is under that one
+pub data Watch : Type 0 where
+  Nothing : Watch
+  Awaits : Watch
+  Covered : (over : ℕ) → Watch
+
+abbrev pub is_watched : Watch → Bool
+is_watched Nothing = false
+is_watched _ = true
+
+abbrev pub is_so : Watch → Option Place → Bool
+is_so Nothing o = true
+is_so Awaits o = is_fresh o
+is_so (Covered m) o = option_map_or (is_under m) o false
+
+-- n is at q, or there is no such thread; what is watched is so
+pub record Stand (P : ℕ → Watch) (n : ℕ) (q : Option Place) (xs : List ℕ) (s : Core) : Type 0 where
+  pub here : place_of n s ≡ q
   pub once : (k : ℕ) → times k (n ∷ xs) ≤ 1
   pub loose : (k : ℕ) → times k (n ∷ xs) ≡ 1 → Loose k s
   pub there : (k : ℕ) → times k xs ≡ 1 → (p : Place) × (place_of k s ≡ Some p)
   pub placed : (k : ℕ) → times k (n ∷ xs) ≡ 0 → HasPlace k s
+  pub kept : (k : ℕ) → is_watched (P k) ≡ true → (times k xs ≡ 0) × (is_so (P k) (place_of k s) ≡ true)
+
+-- other threads may be watched
+pub watching : {P Q : ℕ → Watch} (n : ℕ) (q : Option Place) (xs : List ℕ) (s : Core) →
+    ((k : ℕ) → is_watched (Q k) ≡ true → (times k xs ≡ 0) × (is_so (Q k) (place_of k s) ≡ true)) → Stand P n q xs s → Stand Q n q xs s
+watching n q xs s kept st =
+    record { here = st.here; once = st.once; loose = st.loose; there = st.there; placed = st.placed; kept = kept }
+
+abbrev pub nobody : ℕ → Watch
+nobody k = Nothing
 
 -- x where the numbers are one, else nothing
 abbrev pub gain : ℕ → ℕ → ℕ → ℕ
@@ -190,8 +217,8 @@ module _ (m : ℕ) (p : Place) (s t : Core) (a : Adds m p s t) where
   adds_other k e h = left_placed k s t (adds_left k e) (a.other k e) h
 
   -- a loose thread is put at a place
-  pub adds_stand : (n : ℕ) (q : Place) (xs : List ℕ) → Stand n q (m ∷ xs) s → Stand n q xs t
-  adds_stand n q xs st = record {
+  pub adds_stand : {P : ℕ → Watch} (n : ℕ) (q : Option Place) (xs : List ℕ) → Stand P n q (m ∷ xs) s → Stand P n q xs t
+  adds_stand {P = P} n q xs st = record {
     here = a.other n (by_count n m ((n == m) ≡ false) (λ e x. absurd (omega (arith, st.once n, own n))) (λ e x. e)) ∙ st.here;
     once = λ k. omega (arith, st.once k);
     loose = λ k h. by_count k m _ (λ e x. absurd (omega (arith, st.once k)))
@@ -201,13 +228,15 @@ module _ (m : ℕ) (p : Place) (s t : Core) (a : Adds m p s t) where
     placed = λ k h. by_count k m (HasPlace k t)
         (λ e x. subst (λ (j : ℕ). Loose j s → HasPlace j t) (sym e) adds_own (st.loose k (omega (arith, st.once k))))
         (λ e x. adds_other k e (st.placed k (omega arith)));
+    kept = λ k h. by_count k m _ (λ e x. absurd (omega (arith, (st.kept k h).0)))
+        (λ e x. (omega (arith, (st.kept k h).0), ap (is_so (P k)) (a.other k e) ∙ (st.kept k h).1));
   }
     where
       own : (k : ℕ) → one_if (k == k) ≡ 1
       own k = ap one_if (eq_refl k)
 
 -- the thread n itself is put at a place, and each thread has its place
-pub adds_all : (n : ℕ) (q p : Place) (s t : Core) → Adds n p s t → Stand n q [] s → (k : ℕ) → HasPlace k t
+pub adds_all : {P : ℕ → Watch} (n : ℕ) (q : Option Place) (p : Place) (s t : Core) → Adds n p s t → Stand P n q [] s → (k : ℕ) → HasPlace k t
 adds_all n q p s t a st k =
     by_count k n _ (λ e x. subst (λ (j : ℕ). Loose j s → HasPlace j t) (sym e) (adds_own n p s t a) (st.loose k (omega arith)))
     (λ e x. adds_other n p s t a k e (st.placed k (omega arith)))
@@ -222,9 +251,9 @@ pub record Drops (m : ℕ) (p : Place) (s t : Core) : Type 0 where
   pub callers : (k f : ℕ) → times k (callers_of f s) ≡ times k (callers_of f t) + gain k m (one_if (is_behind_of f p))
 
 -- a thread may be taken up from its place
-pub drops_stand : (n : ℕ) (q : Place) (m : ℕ) (p : Place) (xs : List ℕ) (s t : Core) → Drops m p s t → place_of m s ≡ Some p →
-    times m (n ∷ xs) ≡ 0 → Stand n q xs s → Stand n q (m ∷ xs) t
-drops_stand n q m p xs s t d is none st = record {
+pub drops_stand : {P : ℕ → Watch} (n : ℕ) (q : Option Place) (m : ℕ) (p : Place) (xs : List ℕ) (s t : Core) → is_watched (P m) ≡ false →
+    Drops m p s t → place_of m s ≡ Some p → times m (n ∷ xs) ≡ 0 → Stand P n q xs s → Stand P n q (m ∷ xs) t
+drops_stand {P = P} n q m p xs s t unwatched d is none st = record {
   here = d.places n ∙ st.here;
   once = λ k. by_count k m _ (λ e x. omega (arith, subst (λ (j : ℕ). times j (n ∷ xs) ≡ 0) (sym e) none)) (λ e x. omega (arith, st.once k));
   loose = λ k h. by_count k m _ (λ e x. subst (λ (j : ℕ). Loose j t) (sym e) own)
@@ -233,6 +262,8 @@ drops_stand n q m p xs s t d is none st = record {
       (λ e x. let r = st.there k (omega arith) in (r.0, d.places k ∙ r.1));
   placed = λ k h. by_count k m _ (λ e x. absurd (omega arith))
       (λ e x. left_placed k s t (left k e) (d.places k) (st.placed k (omega arith)));
+  kept = λ k h. by_count k m _ (λ e x. absurd (grind (arith, h, ap P e, unwatched)))
+      (λ e x. (omega (arith, (st.kept k h).0), ap (is_so (P k)) (d.places k) ∙ (st.kept k h).1));
 }
   where
     left : (k : ℕ) → (k == m) ≡ false → Left k s t
@@ -257,10 +288,9 @@ pub plus_one : (k m x y : ℕ) → y ≡ x + one_if (k == m) → y ≡ x + gain 
 plus_one k m x y h = grind arith
 
 -- so may one with a free place
-pub loosened : (n : ℕ) (q : Place) (m : ℕ) (r : Place) (xs : List ℕ) (s : Core) → place_of m s ≡ Some r → is_free r ≡ true →
-    times m (n ∷ xs) ≡ 0 → Stand n q xs s → Stand n q (m ∷ xs) s
-loosened n q m r xs s is free none st =
-    drops_stand n q m r xs s s nothing is none st
+pub loosened : {P : ℕ → Watch} (n : ℕ) (q : Option Place) (m : ℕ) (r : Place) (xs : List ℕ) (s : Core) → is_watched (P m) ≡ false →
+    place_of m s ≡ Some r → is_free r ≡ true → times m (n ∷ xs) ≡ 0 → Stand P n q xs s → Stand P n q (m ∷ xs) s
+loosened n q m r xs s unwatched is free none st = drops_stand n q m r xs s s unwatched nothing is none st
   where
     nothing : Drops m r s s
     nothing = grind arith

@@ -1,4 +1,5 @@
 -- What the moves that put threads, and a stop, do to places and entries.
+use Rattle.task_machine.specs.declared.words.Mark.{Mark}
 use Rattle.std.proofs.Common.{◌∙◌, ap, arith, le_refl, refl, subst, sym}
 use Rattle.std.proofs.lemmas.Bool.Decides.{nat_tests}
 use Rattle.std.specs.Prelude.{Bool, List, None, Option, Some, [], find, is_some, suc, true, zero, ℕ, ◌==◌, ◌∷◌, ◌≡◌, ◌≤◌}
@@ -12,14 +13,16 @@ use Rattle.task_machine.specs.Maps.{get-insert, numbers, size}
 use Rattle.task_machine.specs.Moves.{behind, behind_one, displaced, newest, older, passed_on, put_high, put_switch, resumed_all, resumed_callers, stopped, why_of}
 use Rattle.task_machine.specs.Read.{callers_of, foot_from, foot_of, is_at, is_under, place_of, under_of}
 use Rattle.task_machine.specs.Write.{on_thread, push_high_first, set_callers, set_place, set_switch}
-use Rattle.task_rules.proofs.StandLemmas.{Adds, Drops, Given, Left, Loose, Stand, adds_given, adds_stand, by_count, callers_say, drops_stand, eq_refl, is_eq_of, left_loose, left_placed, moved_adds, once_or_not, plus_none, plus_one, put_high_adds, times-append, times-newest, zero_one}
-use Rattle.task_rules.specs.Places.{HasPlace, is_at_switch, is_behind_of, is_there, one_if, says, switch_entries, times}
+use Rattle.task_rules.proofs.StandLemmas.{Adds, Drops, Given, Left, Loose, Stand, adds_given, adds_stand, by_count, callers_say, drops_stand, eq_refl, is_eq_of, left_loose, left_placed, moved_adds, once_or_not, plus_none, plus_one, put_high_adds, times-append, times-newest, zero_one, Watch, nobody, watching, is_so, is_watched, by_number, place_written, place_kept}
+use Rattle.task_rules.specs.Places.{HasPlace, is_at_switch, is_behind_of, is_there, one_if, says, switch_entries, times, entries, is_fresh}
 
--- ---- What leaves every place and every entry alone
+-- ---- What leaves every place and every entry of a thread alone
 
 pub record Untouched (s t : Core) : Type 0 where
   pub places : (k : ℕ) → place_of k t ≡ place_of k s
-  pub queues : t.queues ≡ s.queues
+  pub switch : (k : ℕ) → switch_entries k t.queues.switch ≡ switch_entries k s.queues.switch
+  pub high : (k : ℕ) → entries k t.queues.high ≡ entries k s.queues.high
+  pub low : (k : ℕ) → entries k t.queues.low ≡ entries k s.queues.low
   pub callers : t.callers ≡ s.callers
   pub made : s.made.threads ≤ t.made.threads
 
@@ -27,18 +30,19 @@ pub untouched_there : (s t : Core) → Untouched s t → (k : ℕ) → is_there 
 untouched_there s t q k = ap (λ (o : Option Place). is_some o) (q.places k)
 
 untouched_left : (k : ℕ) (s t : Core) → Untouched s t → Left k s t
-untouched_left k s t q = grind (arith, untouched_there s t q)
+untouched_left k s t q = grind (arith, untouched_there s t q, q.switch k, q.high k, q.low k)
 
 pub quiet_placed : (k : ℕ) (s t : Core) → Untouched s t → HasPlace k s → HasPlace k t
 quiet_placed k s t q h = left_placed k s t (untouched_left k s t q) (q.places k) h
 
-pub quiet_stand : (n : ℕ) (r : Place) (xs : List ℕ) (s t : Core) → Untouched s t → Stand n r xs s → Stand n r xs t
-quiet_stand n r xs s t q st = record {
+pub quiet_stand : {P : ℕ → Watch} (n : ℕ) (r : Option Place) (xs : List ℕ) (s t : Core) → Untouched s t → Stand P n r xs s → Stand P n r xs t
+quiet_stand {P = P} n r xs s t q st = record {
   here = q.places n ∙ st.here;
   once = st.once;
   loose = λ k h. left_loose k s t (untouched_left k s t q) (st.loose k h);
   there = λ k h. let p = st.there k h in (p.0, (q.places k ∙ p.1));
   placed = λ k h. quiet_placed k s t q (st.placed k h);
+  kept = λ k h. let f = st.kept k h in (f.0, ap (is_so (P k)) (q.places k) ∙ f.1);
 }
 
 -- ---- A loose thread comes to a place
@@ -47,9 +51,9 @@ own_times : (m : ℕ) (xs : List ℕ) → times m (m ∷ xs) ≤ 1 → times m (
 own_times m xs h = omega (arith, h, ap one_if (eq_refl m))
 
 -- the one that is listed first
-pub put_stand : (n : ℕ) (q : Place) (m : ℕ) (xs : List ℕ) (p : Place) (s t : Core) → ((r : Place) → place_of m s ≡ Some r → Adds m p s t) →
-    Stand n q (m ∷ xs) s → Stand n q xs t
-put_stand n q m xs p s t adds st =
+pub comes_stand : {P : ℕ → Watch} (n : ℕ) (q : Option Place) (m : ℕ) (xs : List ℕ) (p : Place) (s t : Core) → ((r : Place) → place_of m s ≡ Some r → Adds m p s t) →
+    Stand P n q (m ∷ xs) s → Stand P n q xs t
+comes_stand n q m xs p s t adds st =
     let r = st.there m (own_times m xs (omega (arith, st.once m))) in adds_stand m p s t (adds r.0 r.1) n q xs st
 
 pub behind_adds : (g m : ℕ) (r : Place) (s : Core) → Given g s → place_of m s ≡ Some r → Adds m (place.Behind g) s (behind_one g m s)
@@ -67,14 +71,19 @@ switch_adds m w r s is =
     moved_adds m (place.Ready mark.Switch w) r _ _ (set_switch None s) is (λ f h. absurd (grind arith))
     (λ k. plus_one k m 0 _ (omega arith)) (λ k. plus_none k m _) (λ k. plus_none k m _) (λ k f. plus_none k m _)
 
+-- an entry's mark is not watched
+pub so_again : (v : Watch) (x y : Mark) (w : Why) → is_so v (Some (place.Ready x w)) ≡ is_so v (Some (place.Ready y w))
+so_again v x y w = grind arith
+
 -- where a thread stands at switch, and is put at the front of high
-displaced_stand : (n : ℕ) (q : Place) (xs : List ℕ) (s : Core) (o : Option ℕ) → s.queues.switch ≡ o → Stand n q xs s →
-    Stand n q xs (set_switch None (displaced o s))
+displaced_stand : {P : ℕ → Watch} (n : ℕ) (q : Option Place) (xs : List ℕ) (s : Core) (o : Option ℕ) → s.queues.switch ≡ o → Stand P n q xs s →
+    Stand P n q xs (set_switch None (displaced o s))
 unfolding set_switch push_high_first set_place on_thread
 displaced_stand n q xs s None is st =
-    let same : s.queues ≡ record s.queues { switch = None } = ap (λ (x : Option ℕ). record s.queues { switch = x }) is in
-    quiet_stand n q xs s _ (record { places = λ k. refl; queues = sym same; callers = refl; made = le_refl _ }) st
-displaced_stand n q xs s (Some j) is st =
+    let off = λ (k : ℕ). ap (switch_entries k) (sym is) in
+    quiet_stand n q xs s _
+    (record { places = λ k. refl; switch = off; high = λ k. refl; low = λ k. refl; callers = refl; made = le_refl _ }) st
+displaced_stand {P = P} n q xs s (Some j) is st =
     let w = ready (place_of j s) refl (sym stands ∙ (st.placed j j_none).switch) in
     let off : Drops j (place.Ready mark.Switch w.0) s u = record {
       made = refl;
@@ -84,13 +93,17 @@ displaced_stand n q xs s (Some j) is st =
       low = λ k. plus_none k j _;
       callers = λ k f. plus_none k j _;
     } in
-    let adds = moved_adds j high (place.Ready mark.Switch w.0) _ _ u w.1 (λ f h. absurd (grind arith)) (λ k. plus_none k j _)
+    let adds : Adds j high u t = moved_adds j high (place.Ready mark.Switch w.0) _ _ u w.1 (λ f h. absurd (grind arith)) (λ k. plus_none k j _)
     (λ k. plus_one k j _ _ (omega arith)) (λ k. plus_none k j _) (λ k f. plus_none k j _) in
-    adds_stand j high u (set_switch None (displaced (Some j) s)) adds n q xs
-    (drops_stand n q j (place.Ready mark.Switch w.0) xs s u off w.1 j_none st)
+    let bare : Stand nobody n q xs s = watching n q xs s (λ k h. absurd (grind arith)) st in
+    watching n q xs t (λ k h. ((st.kept k h).0, still_so w (P k) k (st.kept k h).1))
+    (adds_stand j high u t adds n q xs (drops_stand n q j (place.Ready mark.Switch w.0) xs s u refl off w.1 j_none bare))
   where
     u : Core
     u = set_switch None s
+
+    t : Core
+    t = set_switch None (displaced (Some j) s)
 
     high : Place
     high = place.Ready mark.High (why_of j s)
@@ -106,32 +119,40 @@ displaced_stand n q xs s (Some j) is st =
     ready (Some (place.Ready mark.Switch w)) e z = (w, e)
     ready _ e z = absurd (omega (arith, z))
 
-pub put_switch_stand : (n : ℕ) (q : Place) (m : ℕ) (xs : List ℕ) (w : Why) (s : Core) → times m xs ≡ 0 → Stand n q (m ∷ xs) s →
-    Stand n q xs (put_switch m w s)
+    -- it stands for what it stood for
+    still_so : ((w : Why) × (place_of j s ≡ Some (place.Ready mark.Switch w))) → (v : Watch) (k : ℕ) → is_so v (place_of k s) ≡ true →
+        is_so v (place_of k t) ≡ true
+    still_so w v k f =
+        by_number k j _ (λ e. grind (arith, so_again v mark.High mark.Switch w.0, w.1, place_written j high (place.Ready mark.Switch w.0) s w.1))
+        (λ e. ap (is_so v) (place_kept k j high s e) ∙ f)
+
+pub put_switch_stand : {P : ℕ → Watch} (n : ℕ) (q : Option Place) (m : ℕ) (xs : List ℕ) (w : Why) (s : Core) → times m xs ≡ 0 → Stand P n q (m ∷ xs) s →
+    Stand P n q xs (put_switch m w s)
 unfolding put_switch set_switch set_place on_thread
 put_switch_stand n q m xs w s none st =
-    put_stand n q m xs (place.Ready mark.Switch w) _ _ (λ r is. switch_adds m w r (displaced s.queues.switch s) is)
+    comes_stand n q m xs (place.Ready mark.Switch w) _ _ (λ r is. switch_adds m w r (displaced s.queues.switch s) is)
     (displaced_stand n q (m ∷ xs) s s.queues.switch refl st)
 
 -- ---- A stop
 
 -- the loose ones may be listed otherwise
-pub stand_as : (n : ℕ) (q : Place) (xs ys : List ℕ) (s : Core) → ((k : ℕ) → times k xs ≡ times k ys) → Stand n q xs s → Stand n q ys s
+pub stand_as : {P : ℕ → Watch} (n : ℕ) (q : Option Place) (xs ys : List ℕ) (s : Core) → ((k : ℕ) → times k xs ≡ times k ys) → Stand P n q xs s → Stand P n q ys s
 stand_as n q xs ys s same st = record {
   here = st.here;
   once = λ k. omega (arith, same k, st.once k);
   loose = λ k h. st.loose k (omega (arith, same k, h));
   there = λ k h. st.there k (same k ∙ h);
   placed = λ k h. st.placed k (omega (arith, same k, h));
+  kept = λ k h. let f = st.kept k h in (sym (same k) ∙ f.0, f.1);
 }
 
-resumed_all_stand : (n : ℕ) (q : Place) (xs : List ℕ) (s : Core) → Stand n q xs s → Stand n q [] (resumed_all xs s)
+resumed_all_stand : {P : ℕ → Watch} (n : ℕ) (q : Option Place) (xs : List ℕ) (s : Core) → Stand P n q xs s → Stand P n q [] (resumed_all xs s)
 resumed_all_stand n q [] s st = st
 resumed_all_stand n q (m ∷ xs) s st =
     resumed_all_stand n q xs (put_high m why.Resumption s)
-    (put_stand n q m xs (place.Ready mark.High why.Resumption) s _ (λ r is. put_high_adds m why.Resumption r s is) st)
+    (comes_stand n q m xs (place.Ready mark.High why.Resumption) s _ (λ r is. put_high_adds m why.Resumption r s is) st)
 
-behind_all_stand : (n : ℕ) (q : Place) (g : ℕ) (xs : List ℕ) (s : Core) → Given g s → Stand n q xs s → Stand n q [] (behind g xs s)
+behind_all_stand : {P : ℕ → Watch} (n : ℕ) (q : Option Place) (g : ℕ) (xs : List ℕ) (s : Core) → Given g s → Stand P n q xs s → Stand P n q [] (behind g xs s)
 behind_all_stand n q g [] s given st = st
 behind_all_stand n q g (m ∷ xs) s given st =
     let r = st.there m (own_times m xs (omega (arith, st.once m))) in
@@ -139,7 +160,7 @@ behind_all_stand n q g (m ∷ xs) s given st =
     behind_all_stand n q g xs (behind_one g m s) (adds_given m (place.Behind g) s (behind_one g m s) adds g given)
     (adds_stand m (place.Behind g) s (behind_one g m s) adds n q xs st)
 
-resumed_callers_stand : (n : ℕ) (q : Place) (xs : List ℕ) (s : Core) → Stand n q xs s → Stand n q [] (resumed_callers xs s)
+resumed_callers_stand : {P : ℕ → Watch} (n : ℕ) (q : Option Place) (xs : List ℕ) (s : Core) → Stand P n q xs s → Stand P n q [] (resumed_callers xs s)
 resumed_callers_stand n q [] s st = st
 resumed_callers_stand n q (m ∷ xs) s st =
     let u = stand_as n q (m ∷ xs) (newest m xs ∷ older m xs) s (λ k. omega (arith, times-newest k m xs)) st in
@@ -147,11 +168,11 @@ resumed_callers_stand n q (m ∷ xs) s st =
     resumed_all_stand n q (older m xs) _ (put_switch_stand n q (newest m xs) (older m xs) why.Resumption s none u)
 
 -- a thread is loose or has its place, so its number was given
-pub given_there : (n : ℕ) (q : Place) (xs : List ℕ) (s : Core) → Stand n q xs s → (k : ℕ) → is_there k s ≡ true → Given k s
+pub given_there : {P : ℕ → Watch} (n : ℕ) (q : Option Place) (xs : List ℕ) (s : Core) → Stand P n q xs s → (k : ℕ) → is_there k s ≡ true → Given k s
 given_there n q xs s st k h = (h, grind (arith, once_or_not (times k (n ∷ xs)) (st.once k), st.placed k, st.loose k))
 
 -- what stands at switch is there
-pub switch_there : (n : ℕ) (q : Place) (xs : List ℕ) (s : Core) → Stand n q xs s → (m : ℕ) → s.queues.switch ≡ Some m → is_there m s ≡ true
+pub switch_there : {P : ℕ → Watch} (n : ℕ) (q : Option Place) (xs : List ℕ) (s : Core) → Stand P n q xs s → (m : ℕ) → s.queues.switch ≡ Some m → is_there m s ≡ true
 switch_there n q xs s st m e = grind (arith, nat_tests, once_or_not (times m (n ∷ xs)) (st.once m), st.placed m, st.loose m)
 
 pub find_passes : (test : ℕ → Bool) (ns : List ℕ) (m : ℕ) → find test ns ≡ Some m → test m ≡ true
@@ -171,25 +192,37 @@ pub foot_there : (n : ℕ) (s : Core) → is_there n s ≡ true → is_there (fo
 unfolding foot_of
 foot_there n s h = foot_from_there (size s.threads) s n h
 
-passed_on_stand : (n : ℕ) (q : Place) (o : Option ℕ) (xs : List ℕ) (s : Core) → s.queues.switch ≡ o → Stand n q xs s →
-    Stand n q [] (passed_on o xs s)
+passed_on_stand : {P : ℕ → Watch} (n : ℕ) (q : Option Place) (o : Option ℕ) (xs : List ℕ) (s : Core) → s.queues.switch ≡ o → Stand P n q xs s →
+    Stand P n q [] (passed_on o xs s)
 passed_on_stand n q (Some m) xs s e st =
     behind_all_stand n q (foot_of m s) xs s (given_there n q xs s st (foot_of m s) (foot_there m s (switch_there n q xs s st m e))) st
 passed_on_stand n q None xs s e st = resumed_callers_stand n q xs s st
 
+pub fresh_apart : (o : Option Place) → is_fresh o ≡ true → (f : ℕ) → says (is_behind_of f) o ≡ 0
+fresh_apart o h f = grind arith
+
+so_apart : (v : Watch) (o : Option Place) → is_watched v ≡ true → is_so v o ≡ true → (f : ℕ) → says (is_behind_of f) o ≡ 0
+so_apart v o w h f = grind arith
+
 -- the callers of f are taken out, and are loose
-detached : (n : ℕ) (q : Place) (f : ℕ) (s : Core) → Stand n q [] s → Stand n q (callers_of f s) (set_callers f [] s)
+detached : {P : ℕ → Watch} (n : ℕ) (q : Option Place) (f : ℕ) (s : Core) → Stand P n q [] s → Stand P n q (callers_of f s) (set_callers f [] s)
 unfolding set_callers
-detached n q f s st = record {
+detached {P = P} n q f s st = record {
   here = st.here;
   once = λ k. by_count k n (times k (n ∷ callers_of f s) ≤ 1)
       (λ e x. omega (arith, (st.loose k (omega arith)).callers f))
       (λ e x. omega (arith, callers_say k f s (st.placed k (omega arith)), says_one (is_behind_of f) (place_of k s)));
   loose = λ k h. by_count k n _ (λ e x. left_loose k s t (stays k (omega arith)) (st.loose k (omega arith)))
       (λ e x. comes_loose k (omega arith) (st.placed k (omega arith)));
-  there = λ k h. by_count k n _ (λ e x. (q, (ap (λ (j : ℕ). place_of j s) e ∙ st.here)))
+  there = λ k h. by_count k n _ (λ e x. zero_one ((st.loose k (omega arith)).callers f) h)
       (λ e x. (place.Behind f, behind_f k h (st.placed k (omega arith))));
   placed = λ k h. left_placed k s t (stays k (omega arith)) refl (st.placed k (omega arith));
+  -- who is watched is behind none
+  kept = λ k h. (
+    by_count k n _ (λ e x. (st.loose k (omega arith)).callers f)
+        (λ e x. omega (arith, callers_say k f s (st.placed k (omega arith)), so_apart (P k) (place_of k s) h (st.kept k h).1 f)),
+    (st.kept k h).1,
+  );
 }
   where
     t : Core
@@ -218,6 +251,6 @@ detached n q f s st = record {
         by_place : place_of k s ≡ Some (place.Behind f) → HasPlace k s → Loose k t
         by_place is p = grind (arith, nat_tests, get-insert)
 
-pub stopped_stand : (n : ℕ) (q : Place) (f : ℕ) (s : Core) → Stand n q [] s → Stand n q [] (stopped f s)
+pub stopped_stand : {P : ℕ → Watch} (n : ℕ) (q : Option Place) (f : ℕ) (s : Core) → Stand P n q [] s → Stand P n q [] (stopped f s)
 unfolding stopped set_callers
 stopped_stand n q f s st = passed_on_stand n q s.queues.switch (callers_of f s) (set_callers f [] s) refl (detached n q f s st)
