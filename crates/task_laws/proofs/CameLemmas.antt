@@ -6,11 +6,12 @@ use Rattle.std.specs.Prelude.{List, None, Option, Some, [], is_some, option_map,
 use Rattle.task_laws.proofs.CallsCame.{IsBeside, IsFirst, IsGone, IsSame, ThreadAfter, thread_came}
 use Rattle.task_laws.proofs.EachLemmas.{at_test}
 use Rattle.task_laws.proofs.SceneLemmas.{popped_threads}
+use Rattle.task_machine.proofs.MapLemmas.{change-field}
 use Rattle.task_machine.specs.Core.{Core}
 use Rattle.task_machine.specs.Maps.{insert}
 use Rattle.task_machine.specs.Moves.{behind, behind_one, displaced, newest, older, passed_on, promoted, put_high, put_low, put_switch, ready_why, resumed_all, resumed_callers, stand, stopped, unqueued, why_of}
 use Rattle.task_machine.specs.Read.{callers_of, foot_of, place_of}
-use Rattle.task_machine.specs.Write.{push_high, push_high_first, push_low, set_callers, set_high, set_low, set_place, set_switch}
+use Rattle.task_machine.specs.Write.{on_thread, push_high, push_high_first, push_low, set_callers, set_high, set_low, set_place, set_switch}
 use Rattle.task_machine.specs.declared.records.Place.{Place}
 use Rattle.task_machine.specs.declared.records.Place.TheVariants as place
 use Rattle.task_machine.specs.declared.records.Thread.{Thread}
@@ -39,6 +40,10 @@ Moved may o p = p ≡ o
 unqueued_same : (k n : ℕ) (s : Core) → place_of k (unqueued n s) ≡ place_of k s
 unfolding unqueued set_high set_low
 unqueued_same k n s = grind arith
+
+pub read_same : (n : ℕ) (f : Thread → Thread) → ((t : Thread) → (f t).place ≡ t.place) → (k : ℕ) (s : Core) → place_of k (on_thread n f s) ≡ place_of k s
+unfolding on_thread
+read_same n f same k s = change-field (λ (t : Thread). t.place) n f same s.threads k
 
 module _ (may : ℕ → Why → Type 0) where
   -- nobody comes or goes
@@ -160,7 +165,9 @@ module _ {a : Scene} where
   came_by : (x : Placing) (s : Core) → Allowed a (Places x) s → (k : ℕ) → PlaceAfter a (Places x) s k
   came_by (Pop m) s ok k = rw (popped_threads m s) (stays (place_of k s))
   came_by (Put m n w) s (inl ok) k = Shifts (put_shifted (MayStand a s) (λ j. inl refl) m n w s (inr (inl ok)) k)
-  came_by (Put m n w) s (inr ok) k = Shifts (put_shifted (MayStand a s) (λ j. inl refl) m n w s (inr (inr ok)) k)
+  came_by (Put mark.Switch n w) s (inr ok) k = absurd ok
+  came_by (Put mark.High n w) s (inr ok) k = Shifts (put_shifted (MayStand a s) (λ j. inl refl) mark.High n w s (inr (inr ok)) k)
+  came_by (Put mark.Low n w) s (inr ok) k = Shifts (put_shifted (MayStand a s) (λ j. inl refl) mark.Low n w s (inr (inr ok)) k)
   came_by (Promote n) s ok k = Shifts (promoted_shifted (MayStand a s) (λ j. inl refl) n s k)
   came_by (Stop f) s ok k = Shifts (stopped_shifted (MayStand a s) (λ j. inl refl) f s k)
   came_by (GoBehind f n) s ok k = Shifts (behind_shifted (MayStand a s) f n s k)

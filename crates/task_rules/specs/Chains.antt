@@ -13,7 +13,9 @@ use Rattle.task_machine.specs.declared.label.Label.{Label}
 use Rattle.task_machine.specs.declared.outcome.Outcome.{Outcome}
 use Rattle.task_machine.specs.declared.records.Place.{Place}
 use Rattle.task_machine.specs.declared.records.Turn.{Turn}
-use Rattle.task_rules.specs.Allowed.{Allowed, IsRunner, MayShift, SaysEnd, is_exit}
+use Rattle.task_rules.specs.Allowed.{Allowed, IsFall, IsRunner, IsSettling, Leaves, MayCome, MayLand, MayMove, MayShift, SaysEnd, Stays, is_exit}
+use Rattle.task_machine.specs.declared.records.HowFar.{HowFar}
+use Rattle.task_machine.specs.declared.records.HowFar.TheVariants as how_far
 use Rattle.task_rules.specs.Laws.{is_free}
 use Rattle.task_rules.specs.Once.{begun_holder}
 use Rattle.task_rules.specs.Outcome.{outcome_of_label}
@@ -21,7 +23,7 @@ use Rattle.task_rules.specs.Scenes.{Scene, component_of, scene_of}
 use Rattle.task_rules.specs.Stalled.{Setting}
 use Rattle.task_rules.specs.Step.{Step}
 use Rattle.task_rules.specs.Turns.{settled_turn}
-use Rattle.task_rules.specs.Words.{Places, Word, after_word}
+use Rattle.task_rules.specs.Words.{Move, Places, Placing, RemoveThread, SetHowFar, Word, after_word}
 use Rattle.task_machine.specs.declared.records.Place.TheVariants as place
 use Rattle.task_machine.specs.declared.records.Turn.TheVariants as turn
 
@@ -33,6 +35,31 @@ pub data Chain (may : Word → Core → Type 0) (b : Core) : Core → Type 0 whe
 -- the words of a step
 abbrev pub Walk : Scene → Core → Core → Type 0
 Walk a b t = Chain (Allowed a) b t
+
+-- its words while the running thread stays where it is
+abbrev pub Stay : Scene → Core → Core → Type 0
+Stay a b t = Chain (Stays a) b t
+
+abbrev pub Settles : Core → Core → Type 0
+Settles b t = Chain IsSettling b t
+
+-- The running thread, or the one that was taken, stays and then comes to one place, or is gone.
+pub data Trip (a : Scene) (b : Core) : Core → Type 0 where
+  Remains : (t : Core) → Stay a b t → ((m : ℕ) → a.next ≡ turn.Run m → a.turn ≡ turn.Run m) → Trip a b t
+  Lands : (s : Core) → (p : Placing) → Stay a b s → MayLand a p s → Trip a b (after_word (Places p) s)
+  -- and its op has come that far
+  LandsAt : (s : Core) → (p : Placing) → (n : ℕ) → (h : HowFar) → Stay a b s → MayLand a p s → MayCome a n h (after_word (Places p) s) →
+      Trip a b (after_word (SetHowFar n h) (after_word (Places p) s))
+  Quits : (s t : Core) → (n : ℕ) → Stay a b s → Leaves a n → Settles (after_word (RemoveThread n) s) t → Trip a b t
+  -- a direct callee exits, and the thread under it goes on
+  GoesBack : (s t : Core) → (n m v : ℕ) → Stay a b s → IsRunner a n → a.turn ≡ turn.Run n → a.next ≡ turn.Run m →
+      place_of m a.base ≡ Some (place.Under n) → Settles (after_word (RemoveThread n) s) t → MayMove a m place.Running t →
+      Trip a b (after_word (SetHowFar m (how_far.Answered v)) (after_word (Places (Move m place.Running)) t))
+  Collapses : (t : Core) → a.next ≡ turn.Over → Chain (IsFall a) b t → Trip a b t
+
+-- the core in which the thread runs or has been taken; where there is none, that of the step
+abbrev pub start_of : Scene → Core → Core
+start_of a s = option_map_or (λ n. a.base) a.runner s
 
 -- only changes of where other threads are
 abbrev pub IsShift : Word → Core → Type 0
@@ -107,6 +134,7 @@ pub record Walked (x : Setting) (s : State) (l : Label) (t : State) : Type 0 whe
   pub turn : t.turn ≡ settled_turn t.core next
   pub main : SameMain s.main t.main
   pub walk : Walk (scene_of x s l next) s.core t.core
+  pub trip : Trip (scene_of x s l next) (start_of (scene_of x s l next) s.core) t.core
   pub ends : LastWords (scene_of x s l next) t.core
 
 -- each step is a chain of words, each where it may be done
