@@ -1,5 +1,5 @@
 -- Calls along the words of a step, along steps and along runs.
-use Rattle.std.proofs.Common.{ap, arith, le_refl, le_trans, refl, sym, ◌∙◌}
+use Rattle.std.proofs.Common.{ap, arith, le_refl, le_trans, refl, subst, sym, ◌∙◌}
 use Rattle.std.specs.Prelude.{List, Option, Some, [], false, option_map, true, ℕ, ◌∷◌, ◌≡◌, ◌≤◌}
 use Rattle.task_laws.proofs.Basics.{some_none, too_high}
 use Rattle.task_laws.proofs.CallsCame.{CallAfter, Grown, NewCall, NoCall, ThreadAfter, call_came, thread_came}
@@ -107,6 +107,10 @@ module _ (a : Scene) (codes : CodesInCallbacks (component_of a)) (h : CallsHold 
 -- what holds beside the entries holds of the core that the row reads
 pub of_base : (P : Core → Type 0) (u : Turn) (s : Core) → P (record s { queues = (base_at u s).queues }) → P (base_at u s)
 of_base P u s p = rw (base_is u s) p
+
+-- and the other way
+pub base_out : (P : Core → Type 0) (u : Turn) (s : Core) → P (base_at u s) → P (record s { queues = (base_at u s).queues })
+base_out P u s p = subst P (base_is u s) p
 
 -- from the state s on the row reads a core with its calls and threads
 begins : (c : Component) (q : Queues) (s : Core) → CallsHold c s → CallsHold c (record s { queues = q })
