@@ -21,7 +21,6 @@ use Rattle.task_machine.specs.declared.records.CallEnd.TheVariants as call_end
 use Rattle.task_machine.specs.declared.records.Join.{Join}
 use Rattle.task_machine.specs.declared.records.Place.{Place}
 use Rattle.task_machine.specs.declared.records.Script.{Script}
-use Rattle.task_machine.specs.declared.records.Thread.{Thread}
 use Rattle.task_machine.specs.declared.records.Why.{Why}
 use Rattle.task_rules.specs.Allowed.{EndsActivation, IsRunner, MayEnd, MayMove, WasReady, is_exit}
 use Rattle.task_rules.specs.Laws.{LaterBy, SameThread}
@@ -58,9 +57,6 @@ module _ {X : Type 0} (P : X → X → Type 0) where
 
   pub later_after : ((x y z : X) → P x y → P y z → P x z) → (o p q : Option X) → LaterBy P o p → LaterBy P p q → LaterBy P o q
   later_after after o p q g h = grind (arith, after)
-
-pub same_after : (t u v : Thread) → SameThread t u → SameThread u v → SameThread t v
-same_after t u v p q = grind arith
 
 -- ---- What is said
 

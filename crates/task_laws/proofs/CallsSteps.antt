@@ -3,7 +3,7 @@ use Rattle.std.proofs.Common.{ap, arith, le_refl, le_trans, refl, subst, sym, �
 use Rattle.std.specs.Prelude.{List, Option, Some, [], false, option_map, true, ℕ, ◌∷◌, ◌≡◌, ◌≤◌}
 use Rattle.task_laws.proofs.Basics.{some_none, too_high}
 use Rattle.task_laws.proofs.CallsCame.{CallAfter, Grown, NewCall, NoCall, ThreadAfter, call_came, thread_came}
-use Rattle.task_laws.proofs.CallsLaw.{CallsGo, CallsHold, Goes, GoneOr, KindHolds, base_task, delivered_in, goes_after, goes_of, goes_same, kept_callback, kind_kept, later_after, later_none, later_same, place_delivers, ready_delivered, rises_after, rises_same, same_after}
+use Rattle.task_laws.proofs.CallsLaw.{CallsGo, CallsHold, Goes, GoneOr, KindHolds, base_task, delivered_in, goes_after, goes_of, goes_same, kept_callback, kind_kept, later_after, later_none, later_same, place_delivers, ready_delivered, rises_after, rises_same}
 use Rattle.task_laws.proofs.CameLemmas.{came_word}
 use Rattle.task_laws.proofs.CountLemmas.{made_threads_word}
 use Rattle.task_laws.proofs.SceneLemmas.{base_is}
@@ -35,8 +35,8 @@ module _ (a : Scene) (codes : CodesInCallbacks (component_of a)) (h : CallsHold 
   -- ---- One word
 
   module _ (w : Word) (s : Core) (ok : Allowed a w s) (q : CallsGo a s) where
-    thread_later : (n : ℕ) → n ≤ s.made.threads → LaterBy SameThread (get s.threads n) (get (after_word w s).threads n)
-    thread_later n below = let i : ThreadAfter a w s n = thread_came w s ok n in grind arith
+    thread_since : (n : ℕ) → n ≤ a.base.made.threads → LaterBy SameThread (get a.base.threads n) (get (after_word w s).threads n)
+    thread_since n below = let i : ThreadAfter a w s n = thread_came w s ok n in let b = q.counted in grind (arith, q.threads n)
 
     call_later : (k : ℕ) → k ≤ s.made.threads → LaterBy Goes (get s.calls k) (get (after_word w s).calls k)
     call_later k below = go (call_came w s ok k)
@@ -91,7 +91,7 @@ module _ (a : Scene) (codes : CodesInCallbacks (component_of a)) (h : CallsHold 
   word_goes w s ok q = record {
     counted = le_trans q.counted (made_threads_word a w s);
     numbered = record { threads = thread_numbered w s ok q; calls = call_numbered w s ok q };
-    threads = λ n below. later_after SameThread same_after _ _ _ (q.threads n below) (thread_later w s ok q n (le_trans below q.counted));
+    threads = thread_since w s ok q;
     calls = λ k below. later_after Goes goes_after _ _ _ (q.calls k below) (call_later w s ok q k (le_trans below q.counted));
     kinds = kind_after w s ok q;
     deliveries = delivery_after w s ok q;

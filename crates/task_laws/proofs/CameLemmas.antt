@@ -1,7 +1,6 @@
 -- What one word does to the place of a thread.
 use Rattle.std.proofs.Common.{ap, arith, cond, inl, inr, refl, sym, ◌∙◌}
 use Rattle.std.proofs.lemmas.Bool.Decides.{nat_tests}
-use Rattle.std.specs.Option.{option_map_or}
 use Rattle.std.specs.Prelude.{List, None, Option, Some, [], is_some, option_map, true, ℕ, ◌∷◌, ◌≡◌, ◌≤◌, ◌⊎◌}
 use Rattle.task_laws.proofs.CallsCame.{IsBeside, IsFirst, IsGone, IsSame, ThreadAfter, thread_came}
 use Rattle.task_laws.proofs.EachLemmas.{at_test}
@@ -9,7 +8,7 @@ use Rattle.task_laws.proofs.SceneLemmas.{popped_threads}
 use Rattle.task_machine.proofs.MapLemmas.{change-field}
 use Rattle.task_machine.specs.Core.{Core}
 use Rattle.task_machine.specs.Maps.{insert}
-use Rattle.task_machine.specs.Moves.{behind, behind_one, displaced, newest, older, passed_on, promoted, put_high, put_low, put_switch, ready_why, resumed_all, resumed_callers, stand, stopped, unqueued, why_of}
+use Rattle.task_machine.specs.Moves.{behind, behind_one, displaced, newest, older, passed_on, promoted, put_high, put_low, put_switch, resumed_all, resumed_callers, stand, stopped, unqueued, why_of}
 use Rattle.task_machine.specs.Read.{callers_of, foot_of, place_of}
 use Rattle.task_machine.specs.Write.{on_thread, push_high, push_high_first, push_low, set_callers, set_high, set_low, set_place, set_switch}
 use Rattle.task_machine.specs.declared.records.Place.{Place}
@@ -59,37 +58,29 @@ module _ (may : ℕ → Why → Type 0) where
   abbrev Shifted : Core → Core → Type 0
   Shifted s t = (k : ℕ) → Moved (may k) (place_of k s) (place_of k t)
 
-  moved_by : (j : ℕ) (r : Place) (s : Core) → Moved (may j) (place_of j s) (option_map (λ (q : Place). r) (place_of j s)) → Shifted s (set_place j r s)
-  moved_by j r s h k = grind (arith, nat_tests, set_place_is, moved_same)
+  moved_by : (j : ℕ) (r : Place) (s : Core) → ((o : Option Place) → place_of j s ≡ o → Moved (may j) o (option_map (λ (q : Place). r) o)) →
+      Shifted s (set_place j r s)
+  moved_by j r s own k = let moves = own (place_of j s) refl in grind (arith, nat_tests, set_place_is, moved_same)
 
   shifted_after : (s m t : Core) → Shifted s m → Shifted m t → Shifted s t
   shifted_after s m t f g k = moved_after k _ _ _ (f k) (g k)
 
-  stands_there : (n : ℕ) (m : Mark) (w : Why) → may n w → (o : Option Place) → Moved (may n) o (option_map (λ (q : Place). place.Ready m w) o)
-  stands_there n m w ok o = grind arith
-
   stand_shifted : (n : ℕ) (m : Mark) (w : Why) (s : Core) → may n w → Shifted s (stand n m w s)
-  stand_shifted n m w s ok = moved_by n (place.Ready m w) s (stands_there n m w ok (place_of n s))
-
-  follows_there : (n f : ℕ) (o : Option Place) → Moved (may n) o (option_map (λ (q : Place). place.Behind f) o)
-  follows_there n f o = grind arith
+  stand_shifted n m w s ok = moved_by n (place.Ready m w) s (λ o is. grind arith)
 
   behind_shifted : (f n : ℕ) (s : Core) → Shifted s (behind_one f n s)
   unfolding behind_one set_callers
-  behind_shifted f n s = moved_by n (place.Behind f) s (follows_there n f (place_of n s))
+  behind_shifted f n s = moved_by n (place.Behind f) s (λ o is. grind arith)
 
   all_behind_shifted : (f : ℕ) (ns : List ℕ) (s : Core) → Shifted s (behind f ns s)
   all_behind_shifted f [] s = λ k. moved_same k _
-  all_behind_shifted f (n ∷ ns) s = shifted_after s (behind_one f n s) (behind f ns (behind_one f n s)) (behind_shifted f n s) (all_behind_shifted f ns (behind_one f n s))
+  all_behind_shifted f (n ∷ ns) s = let m = behind_one f n s in
+      shifted_after s m (behind f ns m) (behind_shifted f n s) (all_behind_shifted f ns m)
 
   module _ (resumes : (k : ℕ) → may k why.Resumption) where
     -- an entry moves to another mark
-    again_there : (n : ℕ) (m : Mark) (o : Option Place) →
-        Moved (may n) o (option_map (λ (q : Place). place.Ready m (option_map_or (λ p. ready_why p) o why.Resumption)) o)
-    again_there n m o = grind (arith, resumes n)
-
     again_shifted : (n : ℕ) (m : Mark) (s : Core) → Shifted s (stand n m (why_of n s) s)
-    again_shifted n m s = moved_by n (place.Ready m (why_of n s)) s (again_there n m (place_of n s))
+    again_shifted n m s = moved_by n (place.Ready m (why_of n s)) s (λ o is. grind (arith, resumes n))
 
     displaced_shifted : (o : Option ℕ) (s : Core) → Shifted s (displaced o s)
     unfolding push_high_first
@@ -105,8 +96,8 @@ module _ (may : ℕ → Why → Type 0) where
 
     promoted_shifted : (n : ℕ) (s : Core) → Shifted s (promoted n s)
     unfolding promoted set_switch
-    promoted_shifted n s k = rw (← (unqueued_same k n s))
-        (moved_by n (place.Ready mark.Switch (why_of n s)) (unqueued n s) (rw (unqueued_same n n s) (again_there n mark.Switch (place_of n s))) k)
+    promoted_shifted n s k = let moves = again_shifted n mark.Switch (unqueued n s) k in
+        rw (← (unqueued_same k n s)) (rw (unqueued_same n n s) at moves)
 
     resumed_shifted : (ns : List ℕ) (s : Core) → Shifted s (resumed_all ns s)
     resumed_shifted [] s = λ k. moved_same k _

@@ -7,16 +7,17 @@ use Rattle.std.specs.FinMap.Entries.{find}
 use Rattle.std.specs.List.{list_any}
 use Rattle.std.specs.Option.{option_map_or}
 use Rattle.std.specs.Ordering.{nat_cmp}
-use Rattle.std.specs.Prelude.{Bool, List, None, Option, Some, [], false, is_some, map, option_and_then, option_map, true, ℕ, ◌+◌, ◌∷◌, ◌≡◌, ◌≤◌, ◌⊎◌}
+use Rattle.std.specs.Prelude.{Bool, List, None, Option, Some, [], false, is_some, map, option_and_then, true, ℕ, ◌+◌, ◌∷◌, ◌≡◌, ◌≤◌, ◌⊎◌}
 use Rattle.task_laws.proofs.CallsCame.{CallAfter, Grown, NewCall, NoCall, call_came}
 use Rattle.task_laws.proofs.EachLemmas.{each_change, each_get, each_of}
 use Rattle.task_laws.proofs.HandleTables.{giving_kept, next_dead, taking_kept}
 use Rattle.task_laws.proofs.ReachLemmas.{filled_with}
+use Rattle.task_laws.proofs.SetHandles.{home_in, subtask_in}
 use Rattle.task_laws.specs.Order.{JoinNamed, JoinsNamed, SetsNamed, TableKept}
 use Rattle.task_machine.proofs.CommuteLemmas.{get-change}
 use Rattle.task_machine.specs.Core.{Core, Table, fresh, no_handles}
 use Rattle.task_machine.specs.Maps.{Records, change, get, get-empty, get-insert, get-remove, insert, numbers, remove}
-use Rattle.task_machine.specs.Read.{as_set, as_subtask, has_member, instance_of, is_joined, is_member, join_of, named_by, next_handle, set_at, subtask_at}
+use Rattle.task_machine.specs.Read.{as_set, as_subtask, has_member, instance_of, is_joined, is_member, join_of, named_by, next_handle, subtask_at}
 use Rattle.task_machine.specs.Write.{add_call, add_group, add_set, add_thread, add_work, count_work, free_handle, free_thread_handle, give_handle, give_result, give_thread_handle, giving, on_call, on_instance, on_thread, on_work, push_high, remove_call, remove_group, remove_set, remove_thread, remove_work, set_backpressure, set_cancel_delivered, set_cancelled, set_course, set_do_not_enter, set_do_not_suspend, set_end, set_event, set_exited, set_how_far, set_join, set_own_event, set_phase, set_position, set_register, set_result, set_saved_callee, set_saved_own, set_script, set_stage, set_started, set_starting_published, set_subtask_handle, set_thread_handle, set_trapped, set_uninteresting, set_word, take_result, taking}
 use Rattle.task_machine.specs.declared.records.Call.{Call}
 use Rattle.task_machine.specs.declared.records.Join.{Join}
@@ -47,23 +48,21 @@ module _ (tables : Records (Table Named)) (i : ℕ) where
 
   -- what was named stays named as another handle is given
   given_stays : (nm : Named) (j g : ℕ) (sub : Subtask) → ((t : Table Named) → get tables i ≡ Some t → TableKept t) →
-      option_and_then as_subtask (named_by tables j g) ≡ Some sub → option_and_then as_subtask (named_by (change i (giving nm) tables) j g) ≡ Some sub
+      subtask_in tables j g ≡ Some sub → subtask_in (change i (giving nm) tables) j g ≡ Some sub
   given_stays nm j g sub kept e =
       let dead : (t : Table Named) → get tables i ≡ Some t → get t.live (next_handle t t.freed) ≡ None = λ t at. next_dead t (kept t at) in
       grind (arith, nat_tests, get-change, get-insert)
 
   -- or as one that isn't it is taken back
   freed_stays : (h j g : ℕ) (sub : Subtask) → (j ≡ i → g ≡ h → ⊥) →
-      option_and_then as_subtask (named_by tables j g) ≡ Some sub → option_and_then as_subtask (named_by (change i (taking h) tables) j g) ≡ Some sub
+      subtask_in tables j g ≡ Some sub → subtask_in (change i (taking h) tables) j g ≡ Some sub
   freed_stays h j g sub other e = grind (arith, nat_tests, get-change, get-remove)
 
-  -- a handle that names something is live
-  subtask_live : (h : ℕ) (sub : Subtask) → option_and_then as_subtask (named_by tables i h) ≡ Some sub → (t : Table Named) → get tables i ≡ Some t →
-      get t.live h ≡ Some (named.Subtask sub)
-  subtask_live h sub e t at = grind arith
+names_subtask : (o : Option Named) (sub : Subtask) → option_and_then as_subtask o ≡ Some sub → o ≡ Some (named.Subtask sub)
+names_subtask o sub h = grind arith
 
-  set_live : (h x : ℕ) → option_and_then as_set (named_by tables i h) ≡ Some x → (t : Table Named) → get tables i ≡ Some t → get t.live h ≡ Some (named.Set x)
-  set_live h x e t at = grind arith
+names_set : (o : Option Named) (x : ℕ) → option_and_then as_set o ≡ Some x → o ≡ Some (named.Set x)
+names_set o x h = grind arith
 
 -- ---- Members
 
@@ -138,71 +137,72 @@ host_joined a w s ok k x h = inl h
 
 -- ---- The law
 
+-- Each table of these is kept, and who is joined to a set stays named.
+record HandlesKept (s : Core) (handles : Records (Table Named)) : Type 0 where
+  tables : (i : ℕ) (t : Table Named) → get handles i ≡ Some t → TableKept t
+  names : (sub : Subtask) (x i h : ℕ) → join_of sub s ≡ join.Set x → subtask_at i h s ≡ Some sub → subtask_in handles i h ≡ Some sub
+
+-- These sets have numbers that were given, and the set to which a subtask is joined stays where it is.
+record SetsKept (s : Core) (sets : Records Set) (made : ℕ) : Type 0 where
+  numbers : (x : ℕ) → is_some (get sets x) ≡ true → x ≤ made
+  homes : (sub : Subtask) (x i : ℕ) → join_of sub s ≡ join.Set x → home_in s.sets x ≡ Some i → home_in sets x ≡ Some i
+
 module _ (a : Scene) (s : Core) (q : JoinsNamed s) where
-  opened_home : (j x i : ℕ) → option_map (λ (r : Set). r.instance) (get s.sets x) ≡ Some i →
-      option_map (λ (r : Set). r.instance) (get (insert s.sets (s.made.sets + 1) (record { instance = j })) x) ≡ Some i
-  opened_home j x i home = grind (arith, nat_tests, get-insert, q.sets x)
+  given_kept : (j : ℕ) (nm : Named) → HandlesKept s (change j (giving nm) s.handles)
+  given_kept j nm = record {
+    tables = tables_changed s.handles j (giving nm) (λ t e. giving_kept nm t) q.tables;
+    names = λ sub x i h at e. given_stays s.handles j nm i h sub (q.tables j) e;
+  }
 
-  closed_home : (y x i : ℕ) (sub : Subtask) → has_member y s ≡ false → has_member x s ≡ true → option_map (λ (r : Set). r.instance) (get s.sets x) ≡ Some i →
-      option_map (λ (r : Set). r.instance) (get (remove s.sets y) x) ≡ Some i
-  closed_home y x i sub empty member home = grind (arith, nat_tests, get-remove)
+  -- the handle that is taken back names none that is joined to a set
+  freed_kept : (j g : ℕ) (nm : Named) → named_by s.handles j g ≡ Some nm →
+      ((sub : Subtask) (x : ℕ) → join_of sub s ≡ join.Set x → nm ≡ named.Subtask sub → ⊥) → HandlesKept s (change j (taking g) s.handles)
+  freed_kept j g nm at unjoined = record {
+    tables = tables_changed s.handles j (taking g) (λ t e. taking_kept g t nm (cc)) q.tables;
+    names = λ sub x i h to e. freed_stays s.handles j g i h sub (λ same again. unjoined sub x to (one sub i h e same again)) e;
+  }
+    where
+      one : (sub : Subtask) (i h : ℕ) → subtask_at i h s ≡ Some sub → i ≡ j → h ≡ g → nm ≡ named.Subtask sub
+      one sub i h e same again = grind arith
 
-  -- where a member's set is stays so, and who is named stays named
-  home_stays : (w : Word) → Allowed a w s → (sub : Subtask) (x i : ℕ) → join_of sub s ≡ join.Set x →
-      option_map (λ (r : Set). r.instance) (get s.sets x) ≡ Some i → option_map (λ (r : Set). r.instance) (get (after_word w s).sets x) ≡ Some i
+  unnamed_kept : (j g : ℕ) (sub : Subtask) → subtask_at j g s ≡ Some sub → is_joined (join_of sub s) ≡ false → HandlesKept s (change j (taking g) s.handles)
+  unnamed_kept j g sub at unjoined = freed_kept j g (named.Subtask sub) (names_subtask (named_by s.handles j g) sub at) (λ other x to is. let same : sub ≡ other = cc in absurd (cc))
+
+  handles_word : (w : Word) → Allowed a w s → HandlesKept s (after_word w s).handles
   unfolding on_thread add_group add_set add_work count_work free_handle free_thread_handle give_handle give_result give_thread_handle on_call on_instance on_work push_high remove_call remove_group remove_set remove_work remove_thread set_backpressure set_cancel_delivered set_cancelled set_course set_do_not_enter set_do_not_suspend set_end set_event set_exited set_how_far set_join set_own_event set_phase set_position set_register set_result set_saved_callee set_saved_own set_script set_stage set_started set_starting_published set_subtask_handle set_thread_handle set_trapped set_uninteresting set_word take_result call_made add_call add_thread with_handle with_thread_handle work_queued poll_pends
-  home_stays (OpenSet j) ok sub x i at home = opened_home j x i home
-  home_stays (CloseSet j g y) ok sub x i at home = closed_home y x i sub ok.1.1.0 (member_of sub x s at) home
-  home_stays w ok sub x i at home = home
+  handles_word (NameCall j k) ok = given_kept j _
+  handles_word (NameWork j k) ok = given_kept j _
+  handles_word (OpenSet j) ok = given_kept j _
+  handles_word (UnnameCall j g k) ok = unnamed_kept j g _ ok.1.1.1.0 ok.1.1.1.1
+  handles_word (UnnameWork j g k) ok = unnamed_kept j g _ ok.1.1.1.0 ok.1.1.1.1
+  handles_word (CloseSet j g y) ok = freed_kept j g (named.Set y) (names_set (named_by s.handles j g) y ok.0) (λ sub x to is. absurd (cc))
+  handles_word w ok = record { tables = q.tables; names = λ sub x i h at e. e }
 
-  -- the handle of a subtask that is in no set names none that is in one
-  unjoined_other : (sub other : Subtask) (x j g i h : ℕ) → join_of sub s ≡ join.Set x → subtask_at i h s ≡ Some sub → subtask_at j g s ≡ Some other →
-      is_joined (join_of other s) ≡ false → i ≡ j → h ≡ g → ⊥
-  unjoined_other sub other x j g i h at e f free same again = let one : sub ≡ other = cc in absurd (cc)
+  opened_kept : (j : ℕ) → SetsKept s (insert s.sets (s.made.sets + 1) (record { instance = j })) (s.made.sets + 1)
+  opened_kept j = record {
+    numbers = λ x h. grind (arith, nat_tests, get-insert, q.sets x);
+    homes = λ sub x i at home. grind (arith, nat_tests, get-insert, q.sets x);
+  }
 
-  set_other : (sub : Subtask) (x j g i h : ℕ) → subtask_at i h s ≡ Some sub → set_at j g s ≡ Some x → i ≡ j → h ≡ g → ⊥
-  set_other sub x j g i h e f same again = grind arith
+  closed_kept : (y : ℕ) → has_member y s ≡ false → SetsKept s (remove s.sets y) s.made.sets
+  closed_kept y empty = record {
+    numbers = λ x h. grind (arith, nat_tests, get-remove, q.sets x);
+    homes = λ sub x i at home. let member = member_of sub x s at in grind (arith, nat_tests, get-remove);
+  }
 
-  name_stays : (w : Word) → Allowed a w s → (sub : Subtask) (x i h : ℕ) → join_of sub s ≡ join.Set x → subtask_at i h s ≡ Some sub →
-      subtask_at i h (after_word w s) ≡ Some sub
+  sets_word : (w : Word) → Allowed a w s → SetsKept s (after_word w s).sets (after_word w s).made.sets
   unfolding on_thread add_group add_set add_work count_work free_handle free_thread_handle give_handle give_result give_thread_handle on_call on_instance on_work push_high remove_call remove_group remove_set remove_work remove_thread set_backpressure set_cancel_delivered set_cancelled set_course set_do_not_enter set_do_not_suspend set_end set_event set_exited set_how_far set_join set_own_event set_phase set_position set_register set_result set_saved_callee set_saved_own set_script set_stage set_started set_starting_published set_subtask_handle set_thread_handle set_trapped set_uninteresting set_word take_result call_made add_call add_thread with_handle with_thread_handle work_queued poll_pends
-  name_stays (NameCall j k) ok sub x i h at e = given_stays s.handles j _ i h sub (q.tables j) e
-  name_stays (NameWork j k) ok sub x i h at e = given_stays s.handles j _ i h sub (q.tables j) e
-  name_stays (OpenSet j) ok sub x i h at e = given_stays s.handles j _ i h sub (q.tables j) e
-  name_stays (UnnameCall j g k) ok sub x i h at e = freed_stays s.handles j g i h sub (unjoined_other sub _ x j g i h at e ok.1.1.1.0 ok.1.1.1.1) e
-  name_stays (UnnameWork j g k) ok sub x i h at e = freed_stays s.handles j g i h sub (unjoined_other sub _ x j g i h at e ok.1.1.1.0 ok.1.1.1.1) e
-  name_stays (CloseSet j g y) ok sub x i h at e = freed_stays s.handles j g i h sub (set_other sub y j g i h e ok.0) e
-  name_stays w ok sub x i h at e = e
-
-  tables_word : (w : Word) → Allowed a w s → (j : ℕ) (t : Table Named) → get (after_word w s).handles j ≡ Some t → TableKept t
-  unfolding on_thread add_group add_set add_work count_work free_handle free_thread_handle give_handle give_result give_thread_handle on_call on_instance on_work push_high remove_call remove_group remove_set remove_work remove_thread set_backpressure set_cancel_delivered set_cancelled set_course set_do_not_enter set_do_not_suspend set_end set_event set_exited set_how_far set_join set_own_event set_phase set_position set_register set_result set_saved_callee set_saved_own set_script set_stage set_started set_starting_published set_subtask_handle set_thread_handle set_trapped set_uninteresting set_word take_result call_made add_call add_thread with_handle with_thread_handle work_queued poll_pends
-  tables_word (NameCall i k) ok = tables_changed s.handles i _ (λ t e. giving_kept _ t) q.tables
-  tables_word (NameWork i k) ok = tables_changed s.handles i _ (λ t e. giving_kept _ t) q.tables
-  tables_word (OpenSet i) ok = tables_changed s.handles i _ (λ t e. giving_kept _ t) q.tables
-  tables_word (UnnameCall i h k) ok = tables_changed s.handles i _ (λ t e. taking_kept h t _ (subtask_live s.handles i h _ ok.1.1.1.0 t e)) q.tables
-  tables_word (UnnameWork i h k) ok = tables_changed s.handles i _ (λ t e. taking_kept h t _ (subtask_live s.handles i h _ ok.1.1.1.0 t e)) q.tables
-  tables_word (CloseSet i h x) ok = tables_changed s.handles i _ (λ t e. taking_kept h t _ (set_live s.handles i h _ ok.0 t e)) q.tables
-  tables_word w ok = q.tables
-
-  opened_set : (i x : ℕ) → is_some (get (insert s.sets (s.made.sets + 1) (record { instance = i })) x) ≡ true → x ≤ s.made.sets + 1
-  opened_set i x h = grind (arith, nat_tests, get-insert, q.sets x)
-
-  closed_set : (y x : ℕ) → is_some (get (remove s.sets y) x) ≡ true → x ≤ s.made.sets
-  closed_set y x h = grind (arith, nat_tests, get-remove, q.sets x)
-
-  sets_word : (w : Word) → Allowed a w s → (x : ℕ) → is_some (get (after_word w s).sets x) ≡ true → x ≤ (after_word w s).made.sets
-  unfolding on_thread add_group add_set add_work count_work free_handle free_thread_handle give_handle give_result give_thread_handle on_call on_instance on_work push_high remove_call remove_group remove_set remove_work remove_thread set_backpressure set_cancel_delivered set_cancelled set_course set_do_not_enter set_do_not_suspend set_end set_event set_exited set_how_far set_join set_own_event set_phase set_position set_register set_result set_saved_callee set_saved_own set_script set_stage set_started set_starting_published set_subtask_handle set_thread_handle set_trapped set_uninteresting set_word take_result call_made add_call add_thread with_handle with_thread_handle work_queued poll_pends
-  sets_word (OpenSet i) ok x h = opened_set i x h
-  sets_word (CloseSet i g y) ok x h = closed_set y x h
-  sets_word w ok x h = q.sets x h
+  sets_word (OpenSet j) ok = opened_kept j
+  sets_word (CloseSet j g y) ok = closed_kept y ok.1.1.0
+  sets_word w ok = record { numbers = q.sets; homes = λ sub x i at home. home }
 
   module _ (tidy : SetsNamed s) (w : Word) (ok : Allowed a w s) where
     joined_kept : (sub : Subtask) (x : ℕ) → join_of sub s ≡ join.Set x → JoinNamed sub x (after_word w s)
     joined_kept sub x at = let n = q.joins sub x at in record {
       instance = n.instance;
       handle = n.handle;
-      home = home_stays w ok sub x n.instance at n.home;
-      named = name_stays w ok sub x n.instance n.handle at n.named;
+      home = (sets_word w ok).homes sub x n.instance at n.home;
+      named = (handles_word w ok).names sub x n.instance n.handle at n.named;
     }
 
     -- a subtask that is joined now is named beside its set
@@ -219,7 +219,7 @@ module _ (a : Scene) (s : Core) (q : JoinsNamed s) where
     named_joins (subtask.Host k) x h = ⊎_elim (joined_kept (subtask.Host k) x) (joined_now (subtask.Host k) x) (host_joined a w s ok k x h)
 
     pub joins_word : JoinsNamed (after_word w s)
-    joins_word = record { tables = tables_word w ok; sets = sets_word w ok; joins = named_joins }
+    joins_word = record { tables = (handles_word w ok).tables; sets = (sets_word w ok).numbers; joins = named_joins }
 
 -- ---- The first state
 

@@ -8,7 +8,7 @@ use Rattle.task_laws.specs.Settings.{Reached}
 use Rattle.task_machine.proofs.CommuteLemmas.{get-change}
 use Rattle.task_machine.specs.Core.{Core, State, Table, filled, fresh, no_handles}
 use Rattle.task_machine.specs.Maps.{Records, change, get, get-empty, get-insert, get-remove, insert, remove}
-use Rattle.task_machine.specs.Read.{as_set, handle_of_table, named_by}
+use Rattle.task_machine.specs.Read.{as_set, as_subtask, handle_of_table, named_by}
 use Rattle.task_machine.specs.Write.{add_call, add_group, add_set, add_thread, add_work, count_work, free_handle, free_thread_handle, give_handle, give_result, give_thread_handle, giving, on_call, on_instance, on_thread, on_work, push_high, remove_call, remove_group, remove_set, remove_thread, remove_work, set_backpressure, set_cancel_delivered, set_cancelled, set_course, set_do_not_enter, set_do_not_suspend, set_end, set_event, set_exited, set_how_far, set_join, set_own_event, set_phase, set_position, set_register, set_result, set_saved_callee, set_saved_own, set_script, set_stage, set_started, set_starting_published, set_subtask_handle, set_thread_handle, set_trapped, set_uninteresting, set_word, take_result, taking}
 use Rattle.task_machine.specs.declared.records.Named.{Named}
 use Rattle.task_machine.specs.declared.records.Named.TheVariants as named
@@ -21,6 +21,16 @@ use Rattle.task_rules.specs.Scenes.{Scene}
 use Rattle.task_rules.specs.Stalled.{Setting}
 use Rattle.task_rules.specs.Words.{CloseSet, NameCall, NameWork, OpenSet, UnnameCall, UnnameWork, Word, after_word}
 use Rattle.task_rules.specs.Works.{poll_pends}
+
+-- what a handle names, and of which instance a set is, in these tables
+abbrev pub set_in : Records (Table Named) → ℕ → ℕ → Option ℕ
+set_in tables i h = option_and_then as_set (named_by tables i h)
+
+abbrev pub subtask_in : Records (Table Named) → ℕ → ℕ → Option Subtask
+subtask_in tables i h = option_and_then as_subtask (named_by tables i h)
+
+abbrev pub home_in : Records Set → ℕ → Option ℕ
+home_in sets x = option_map (λ (r : Set). r.instance) (get sets x)
 
 -- ---- A handle more, or less
 
@@ -40,9 +50,9 @@ module _ {X : Type 0} (read : Named → Option X) where
 
 -- Of these handles and sets, of which so many were made.
 pub record Tidy (handles : Records (Table Named)) (sets : Records Set) (made : ℕ) : Type 0 where
-  pub numbers : (i h x : ℕ) → option_and_then as_set (named_by handles i h) ≡ Some x → x ≤ made
-  pub homes : (i h x : ℕ) → option_and_then as_set (named_by handles i h) ≡ Some x → option_map (λ (r : Set). r.instance) (get sets x) ≡ Some i
-  pub apart : (i h g x : ℕ) → option_and_then as_set (named_by handles i h) ≡ Some x → option_and_then as_set (named_by handles i g) ≡ Some x → h ≡ g
+  pub numbers : (i h x : ℕ) → set_in handles i h ≡ Some x → x ≤ made
+  pub homes : (i h x : ℕ) → set_in handles i h ≡ Some x → home_in sets x ≡ Some i
+  pub apart : (i h g x : ℕ) → set_in handles i h ≡ Some x → set_in handles i g ≡ Some x → h ≡ g
 
 abbrev pub IsTidy : Core → Type 0
 IsTidy s = Tidy s.handles s.sets s.made.sets
@@ -55,8 +65,8 @@ module _ (i : ℕ) {handles : Records (Table Named)} {sets : Records Set} {made 
     apart = λ j g f x k l. let n = old j g x k in let m = old j f x l in grind (arith, q.apart j g f x);
   }
     where
-      old : (j g x : ℕ) → option_and_then as_set (named_by (change i (giving (named.Subtask sub)) handles) j g) ≡ Some x →
-          option_and_then as_set (named_by handles j g) ≡ Some x
+      old : (j g x : ℕ) → set_in (change i (giving (named.Subtask sub)) handles) j g ≡ Some x →
+          set_in handles j g ≡ Some x
       old j g x k = let n = given_names as_set handles i (named.Subtask sub) j g x k in grind arith
 
   handle_freed : (h : ℕ) → Tidy (change i (taking h) handles) sets made
@@ -66,7 +76,7 @@ module _ (i : ℕ) {handles : Records (Table Named)} {sets : Records Set} {made 
     apart = λ j g f x k l. q.apart j g f x (old j g x k) (old j f x l);
   }
     where
-      old : (j g x : ℕ) → option_and_then as_set (named_by (change i (taking h) handles) j g) ≡ Some x → option_and_then as_set (named_by handles j g) ≡ Some x
+      old : (j g x : ℕ) → set_in (change i (taking h) handles) j g ≡ Some x → set_in handles j g ≡ Some x
       old j g x k = (freed_names as_set handles i h j g x k).0
 
   -- a set is made, and the instance's next handle names it
@@ -77,12 +87,12 @@ module _ (i : ℕ) {handles : Records (Table Named)} {sets : Records Set} {made 
     apart = λ j g f x k l. let n = new j g x k in let m = new j f x l in grind (arith, q.numbers j g x, q.numbers j f x, q.apart j g f x);
   }
     where
-      new : (j g x : ℕ) → option_and_then as_set (named_by (change i (giving (named.Set (made + 1))) handles) j g) ≡ Some x →
-          (option_and_then as_set (named_by handles j g) ≡ Some x) ⊎ ((Some (made + 1) ≡ Some x) × ((j ≡ i) × (g ≡ handle_of_table handles i)))
+      new : (j g x : ℕ) → set_in (change i (giving (named.Set (made + 1))) handles) j g ≡ Some x →
+          (set_in handles j g ≡ Some x) ⊎ ((Some (made + 1) ≡ Some x) × ((j ≡ i) × (g ≡ handle_of_table handles i)))
       new j g x k = given_names as_set handles i (named.Set (made + 1)) j g x k
 
   -- a set is gone with the handle that names it
-  set_closed : (h x : ℕ) → option_and_then as_set (named_by handles i h) ≡ Some x → Tidy (change i (taking h) handles) (remove sets x) made
+  set_closed : (h x : ℕ) → set_in handles i h ≡ Some x → Tidy (change i (taking h) handles) (remove sets x) made
   set_closed h x at = record {
     numbers = (handle_freed h).numbers;
     homes = λ j g y k. let n = freed_names as_set handles i h j g y k in
