@@ -4,30 +4,19 @@ use Rattle.std.specs.Option.{option_map_or}
 use Rattle.std.specs.Prelude.{Bool, List, None, Option, Some, false, is_none, is_some, slice_get, true, unwrap_or, ℕ, ◌≡◌, ◌≤◌, ◌⊎◌}
 use Rattle.task_laws.proofs.CallsCame.{Grew, Grows}
 use Rattle.task_laws.proofs.CameLemmas.{Came, Comes, Moved, Shifts, Turned, Turns, MayStand}
+use Rattle.task_laws.proofs.Machine.{Call, Callee, CallEnd, component_of, Core, get, goal_of, has_ended, is_async_lifted, is_callback, is_direct, is_explicit, Join, kind_of, Op, Place, place_of, Scene, task_of, Why, Word}
 use Rattle.task_laws.specs.Order.{CallKinds, DeliveredByCallback, Numbered, is_delivered, is_delivery}
 use Rattle.task_laws.specs.Rises.{Rises}
 use Rattle.task_laws.specs.Settings.{CodesInCallbacks, HasNoCode}
-use Rattle.task_machine.specs.Core.{Core}
-use Rattle.task_machine.specs.Maps.{get}
-use Rattle.task_machine.specs.Read.{goal_of, has_ended, is_async_lifted, is_callback, is_direct, is_explicit, kind_of, place_of, task_of}
-use Rattle.task_machine.specs.declared.component.Callee.{Callee}
 use Rattle.task_machine.specs.declared.component.Component.{Component}
-use Rattle.task_machine.specs.declared.op.Op.{Op}
 use Rattle.task_machine.specs.declared.op.Op.TheVariants as op
 use Rattle.task_machine.specs.declared.op.TaskOp.TheVariants as task_op
-use Rattle.task_machine.specs.declared.records.Call.{Call}
-use Rattle.task_machine.specs.declared.records.CallEnd.{CallEnd}
 use Rattle.task_machine.specs.declared.records.CallEnd.TheVariants as call_end
-use Rattle.task_machine.specs.declared.records.Join.{Join}
-use Rattle.task_machine.specs.declared.records.Place.{Place}
 use Rattle.task_machine.specs.declared.records.Script.{Script}
-use Rattle.task_machine.specs.declared.records.Why.{Why}
 use Rattle.task_rules.specs.Allowed.{EndsActivation, IsRunner, MayEnd, MayMove, WasReady, is_exit}
 use Rattle.task_rules.specs.Laws.{LaterBy, SameThread}
 use Rattle.task_rules.specs.OpParts.{ends_activation}
-use Rattle.task_rules.specs.Scenes.{Scene, component_of}
 use Rattle.task_rules.specs.Scripts.{export_kind, op_of, script_in, script_of}
-use Rattle.task_rules.specs.Words.{Word}
 
 -- ---- Statuses
 

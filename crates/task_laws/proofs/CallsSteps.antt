@@ -6,19 +6,12 @@ use Rattle.task_laws.proofs.CallsCame.{CallAfter, Grown, NewCall, NoCall, Thread
 use Rattle.task_laws.proofs.CallsLaw.{CallsGo, CallsHold, Goes, GoneOr, KindHolds, base_task, delivered_in, goes_after, goes_of, goes_same, kept_callback, kind_kept, later_after, later_none, later_same, place_delivers, ready_delivered, rises_after, rises_same}
 use Rattle.task_laws.proofs.CameLemmas.{came_word}
 use Rattle.task_laws.proofs.CountLemmas.{made_threads_word}
+use Rattle.task_laws.proofs.Machine.{after_word, base_at, Call, CallEnd, component_of, Core, fresh, get, get-empty, is_async_lifted, is_callback, kind_of, Label, place_of, Queues, Scene, scene_of, Setting, State, task_of, Thread, Turn, Word}
 use Rattle.task_laws.proofs.SceneLemmas.{base_is}
 use Rattle.task_laws.specs.Order.{ThreadNumbered, is_delivered}
 use Rattle.task_laws.specs.Rises.{CallsRise, ExplicitNamesNoCall, Rises, RunsRise, StepsRise, SyncEndsLast, SyncNeverCancelled}
 use Rattle.task_laws.specs.Settings.{CodesInCallbacks, Reached}
-use Rattle.task_machine.specs.Core.{Core, Queues, State, fresh}
-use Rattle.task_machine.specs.Maps.{get, get-empty}
-use Rattle.task_machine.specs.Read.{is_async_lifted, is_callback, kind_of, place_of, task_of}
 use Rattle.task_machine.specs.declared.component.Component.{Component}
-use Rattle.task_machine.specs.declared.label.Label.{Label}
-use Rattle.task_machine.specs.declared.records.Call.{Call}
-use Rattle.task_machine.specs.declared.records.CallEnd.{CallEnd}
-use Rattle.task_machine.specs.declared.records.Thread.{Thread}
-use Rattle.task_machine.specs.declared.records.Turn.{Turn}
 use Rattle.task_rules.proofs.ChainLemmas.{along}
 use Rattle.task_rules.proofs.LawLemmas.{never_fewer}
 use Rattle.task_rules.proofs.WalkSteps.{step_walks}
@@ -26,10 +19,7 @@ use Rattle.task_rules.specs.Allowed.{Allowed, MayDeliver, MayEnd}
 use Rattle.task_rules.specs.Chains.{LastWords, Walked}
 use Rattle.task_rules.specs.Laws.{LaterBy, SameThread}
 use Rattle.task_rules.specs.Run.{Run, opening}
-use Rattle.task_rules.specs.Scenes.{Scene, base_at, component_of, scene_of}
-use Rattle.task_rules.specs.Stalled.{Setting}
 use Rattle.task_rules.specs.Step.{Step}
-use Rattle.task_rules.specs.Words.{Word, after_word}
 
 module _ (a : Scene) (codes : CodesInCallbacks (component_of a)) (h : CallsHold (component_of a) a.base) where
   -- ---- One word

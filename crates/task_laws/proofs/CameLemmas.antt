@@ -4,25 +4,14 @@ use Rattle.std.proofs.lemmas.Bool.Decides.{nat_tests}
 use Rattle.std.specs.Prelude.{List, None, Option, Some, [], is_some, option_map, true, ℕ, ◌∷◌, ◌≡◌, ◌≤◌, ◌⊎◌}
 use Rattle.task_laws.proofs.CallsCame.{IsBeside, IsFirst, IsGone, IsSame, ThreadAfter, thread_came}
 use Rattle.task_laws.proofs.EachLemmas.{at_test}
+use Rattle.task_laws.proofs.Machine.{after_word, behind, behind_one, callers_of, Core, displaced, Enter, foot_of, GoBehind, insert, Mark, Move, newest, next_thread, older, on_thread, passed_on, Place, place_of, Places, Placing, Pop, Promote, promoted, push_high, push_high_first, push_low, Put, put_at, put_high, put_low, put_switch, resumed_all, resumed_callers, Scene, set_callers, set_high, set_low, set_place, set_switch, stand, Stop, stopped, Thread, unqueued, Why, why_of, Word}
 use Rattle.task_laws.proofs.SceneLemmas.{popped_threads}
 use Rattle.task_machine.proofs.MapLemmas.{change-field}
-use Rattle.task_machine.specs.Core.{Core}
-use Rattle.task_machine.specs.Maps.{insert}
-use Rattle.task_machine.specs.Moves.{behind, behind_one, displaced, newest, older, passed_on, promoted, put_high, put_low, put_switch, resumed_all, resumed_callers, stand, stopped, unqueued, why_of}
-use Rattle.task_machine.specs.Read.{callers_of, foot_of, place_of}
-use Rattle.task_machine.specs.Write.{on_thread, push_high, push_high_first, push_low, set_callers, set_high, set_low, set_place, set_switch}
-use Rattle.task_machine.specs.declared.records.Place.{Place}
 use Rattle.task_machine.specs.declared.records.Place.TheVariants as place
-use Rattle.task_machine.specs.declared.records.Thread.{Thread}
-use Rattle.task_machine.specs.declared.records.Why.{Why}
 use Rattle.task_machine.specs.declared.records.Why.TheVariants as why
-use Rattle.task_machine.specs.declared.words.Mark.{Mark}
 use Rattle.task_machine.specs.declared.words.Mark.TheVariants as mark
 use Rattle.task_rules.proofs.StandLemmas.{set_place_is, set_place_there}
 use Rattle.task_rules.specs.Allowed.{Allowed, IsRunner, MayMove, MayPut, MayYield}
-use Rattle.task_rules.specs.Calls.{next_thread}
-use Rattle.task_rules.specs.Scenes.{Scene}
-use Rattle.task_rules.specs.Words.{Enter, GoBehind, Move, Places, Placing, Pop, Promote, Put, Stop, Word, after_word, put_at}
 
 -- ---- Moves of other threads
 

@@ -2,12 +2,9 @@
 use Rattle.std.proofs.Common.{arith, refl}
 use Rattle.std.proofs.lemmas.Bool.Decides.{nat_tests}
 use Rattle.std.specs.Prelude.{List, None, Some, [], ℕ, ◌+◌, ◌∷◌, ◌≡◌}
+use Rattle.task_laws.proofs.Machine.{get, get-insert, get-remove, giving, insert, less_one, next_handle, size, Table, taking}
 use Rattle.task_laws.specs.Order.{TableKept}
 use Rattle.task_machine.proofs.SizeLemmas.{size-insert_new, size-remove_present}
-use Rattle.task_machine.specs.Core.{Table}
-use Rattle.task_machine.specs.Maps.{get, get-insert, get-remove, insert, size}
-use Rattle.task_machine.specs.Read.{next_handle}
-use Rattle.task_machine.specs.Write.{giving, less_one, taking}
 
 module _ {X : Type 0} where
   -- the next handle isn't live

@@ -11,28 +11,16 @@ use Rattle.std.specs.Prelude.{Bool, List, None, Option, Some, [], false, is_some
 use Rattle.task_laws.proofs.CallsCame.{CallAfter, Grown, NewCall, NoCall, call_came}
 use Rattle.task_laws.proofs.EachLemmas.{each_change, each_get, each_of}
 use Rattle.task_laws.proofs.HandleTables.{giving_kept, next_dead, taking_kept}
+use Rattle.task_laws.proofs.Machine.{add_call, add_group, add_set, add_thread, add_work, after_word, as_set, as_subtask, Call, call_made, change, CloseSet, Core, count_work, EndWork, FinishWork, free_handle, free_thread_handle, fresh, get, get-empty, get-insert, get-remove, give_handle, give_result, give_thread_handle, giving, has_member, insert, instance_of, is_joined, is_member, Join, join_of, NameCall, Named, named_by, NameWork, new_work, next_handle, no_handles, numbers, on_call, on_instance, on_thread, on_work, OpenSet, Pend, poll_pends, push_high, QueueWork, Records, remove, remove_call, remove_group, remove_set, remove_thread, remove_work, RemoveWork, Scene, Set, set_backpressure, set_cancel_delivered, set_cancelled, set_course, set_do_not_enter, set_do_not_suspend, set_end, set_event, set_exited, set_how_far, set_join, set_own_event, set_phase, set_position, set_register, set_result, set_saved_callee, set_saved_own, set_script, set_stage, set_started, set_starting_published, set_subtask_handle, set_thread_handle, set_trapped, set_uninteresting, set_word, SetCallJoin, SetCancelled, SetPhase, SetWorkEvent, SetWorkJoin, Subtask, subtask_at, Table, take_result, TakeHost, TakePush, taking, UnnameCall, UnnameWork, with_handle, with_thread_handle, Word, work_queued}
 use Rattle.task_laws.proofs.ReachLemmas.{filled_with}
 use Rattle.task_laws.proofs.SetHandles.{home_in, subtask_in}
 use Rattle.task_laws.specs.Order.{JoinNamed, JoinsNamed, SetsNamed, TableKept}
 use Rattle.task_machine.proofs.CommuteLemmas.{get-change}
-use Rattle.task_machine.specs.Core.{Core, Table, fresh, no_handles}
-use Rattle.task_machine.specs.Maps.{Records, change, get, get-empty, get-insert, get-remove, insert, numbers, remove}
-use Rattle.task_machine.specs.Read.{as_set, as_subtask, has_member, instance_of, is_joined, is_member, join_of, named_by, next_handle, subtask_at}
-use Rattle.task_machine.specs.Write.{add_call, add_group, add_set, add_thread, add_work, count_work, free_handle, free_thread_handle, give_handle, give_result, give_thread_handle, giving, on_call, on_instance, on_thread, on_work, push_high, remove_call, remove_group, remove_set, remove_thread, remove_work, set_backpressure, set_cancel_delivered, set_cancelled, set_course, set_do_not_enter, set_do_not_suspend, set_end, set_event, set_exited, set_how_far, set_join, set_own_event, set_phase, set_position, set_register, set_result, set_saved_callee, set_saved_own, set_script, set_stage, set_started, set_starting_published, set_subtask_handle, set_thread_handle, set_trapped, set_uninteresting, set_word, take_result, taking}
-use Rattle.task_machine.specs.declared.records.Call.{Call}
-use Rattle.task_machine.specs.declared.records.Join.{Join}
 use Rattle.task_machine.specs.declared.records.Join.TheVariants as join
-use Rattle.task_machine.specs.declared.records.Named.{Named}
 use Rattle.task_machine.specs.declared.records.Named.TheVariants as named
-use Rattle.task_machine.specs.declared.records.Set.{Set}
-use Rattle.task_machine.specs.declared.records.Subtask.{Subtask}
 use Rattle.task_machine.specs.declared.records.Subtask.TheVariants as subtask
 use Rattle.task_machine.specs.declared.records.Work.{Work}
 use Rattle.task_rules.specs.Allowed.{Allowed, MayJoin}
-use Rattle.task_rules.specs.Calls.{call_made, new_work, with_handle, with_thread_handle, work_queued}
-use Rattle.task_rules.specs.Scenes.{Scene}
-use Rattle.task_rules.specs.Words.{CloseSet, EndWork, FinishWork, NameCall, NameWork, OpenSet, Pend, QueueWork, RemoveWork, SetCallJoin, SetCancelled, SetPhase, SetWorkEvent, SetWorkJoin, TakeHost, TakePush, UnnameCall, UnnameWork, Word, after_word}
-use Rattle.task_rules.specs.Works.{poll_pends}
 
 -- ---- Tables
 

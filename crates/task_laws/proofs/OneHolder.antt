@@ -8,38 +8,24 @@ use Rattle.task_laws.proofs.Basics.{no_way}
 use Rattle.task_laws.proofs.CallsCame.{CallAfter, Grown, NewCall, NoCall, call_came}
 use Rattle.task_laws.proofs.CallsSteps.{of_base}
 use Rattle.task_laws.proofs.EachLemmas.{after_change}
+use Rattle.task_laws.proofs.Machine.{add_call, add_group, add_set, add_thread, add_work, after_word, base_at, Call, call_instance, call_made, Callee, callee_of, change, Core, count_work, filled, free_handle, free_thread_handle, fresh, get, get-empty, get-insert, give_handle, give_result, give_thread_handle, Label, Main, may_not_enter, on_call, on_instance, on_thread, on_work, Op, poll_pends, push_high, Queues, remove_call, remove_group, remove_set, remove_thread, remove_work, Scene, scene_of, Scripted, set_backpressure, set_cancel_delivered, set_cancelled, set_course, set_do_not_enter, set_do_not_suspend, set_end, set_event, set_exited, set_how_far, set_join, set_own_event, set_phase, set_position, set_register, set_result, set_saved_callee, set_saved_own, set_script, set_stage, set_started, set_starting_published, set_subtask_handle, set_thread_handle, set_trapped, set_uninteresting, set_word, SetBackpressure, SetDoNotEnter, SetDoNotSuspend, Setting, SetWord, State, take_result, Thread, Turn, Unscripted, untouched, with_handle, with_thread_handle, Word, work_queued}
 use Rattle.task_laws.specs.Holders.{CalleesExist, RunsHoldOne}
-use Rattle.task_machine.specs.Core.{Core, Main, Queues, Scripted, State, Unscripted, filled, fresh, untouched}
-use Rattle.task_machine.specs.Maps.{change, get, get-empty, get-insert}
-use Rattle.task_machine.specs.Read.{call_instance, callee_of, may_not_enter}
-use Rattle.task_machine.specs.Write.{add_call, add_group, add_set, add_thread, add_work, count_work, free_handle, free_thread_handle, give_handle, give_result, give_thread_handle, on_call, on_instance, on_thread, on_work, push_high, remove_call, remove_group, remove_set, remove_thread, remove_work, set_backpressure, set_cancel_delivered, set_cancelled, set_course, set_do_not_enter, set_do_not_suspend, set_end, set_event, set_exited, set_how_far, set_join, set_own_event, set_phase, set_position, set_register, set_result, set_saved_callee, set_saved_own, set_script, set_stage, set_started, set_starting_published, set_subtask_handle, set_thread_handle, set_trapped, set_uninteresting, set_word, take_result}
-use Rattle.task_machine.specs.declared.component.Callee.{Callee}
-use Rattle.task_machine.specs.declared.label.Label.{Label}
 use Rattle.task_machine.specs.declared.label.Label.TheVariants as label
-use Rattle.task_machine.specs.declared.op.Op.{Op}
 use Rattle.task_machine.specs.declared.op.Op.TheVariants as op
 use Rattle.task_machine.specs.declared.op.TaskOp.TheVariants as task_op
-use Rattle.task_machine.specs.declared.records.Call.{Call}
 use Rattle.task_machine.specs.declared.records.Caller.{Caller}
 use Rattle.task_machine.specs.declared.records.Instance.{Instance}
-use Rattle.task_machine.specs.declared.records.Thread.{Thread}
-use Rattle.task_machine.specs.declared.records.Turn.{Turn}
 use Rattle.task_rules.proofs.ChainLemmas.{along}
 use Rattle.task_rules.proofs.WalkSteps.{step_walks}
 use Rattle.task_rules.specs.Allowed.{Allowed, MayCall}
 use Rattle.task_rules.specs.Allowed as may
-use Rattle.task_rules.specs.Calls.{call_made, with_handle, with_thread_handle, work_queued}
 use Rattle.task_rules.specs.Chains.{SameMain, Walked}
 use Rattle.task_rules.specs.History.{history}
 use Rattle.task_rules.specs.Once.{begun_holder, holds_one, is_among, less_holder, returned_holder, with_holder}
 use Rattle.task_rules.specs.OpParts.{callee_of_op}
 use Rattle.task_rules.specs.Run.{Run, opening}
-use Rattle.task_rules.specs.Scenes.{Scene, base_at, scene_of}
 use Rattle.task_rules.specs.Scripts.{op_of, script_of, script_of_thread}
-use Rattle.task_rules.specs.Stalled.{Setting}
 use Rattle.task_rules.specs.Step.{Step}
-use Rattle.task_rules.specs.Words.{SetBackpressure, SetDoNotEnter, SetDoNotSuspend, SetWord, Word, after_word}
-use Rattle.task_rules.specs.Works.{poll_pends}
 
 -- ---- Instances
 

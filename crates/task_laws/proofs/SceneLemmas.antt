@@ -2,20 +2,13 @@
 use Rattle.std.proofs.Common.{ap, arith, refl}
 use Rattle.std.proofs.lemmas.Bool.Decides.{nat_tests}
 use Rattle.std.specs.Prelude.{List, None, Option, Some, true, ℕ, ◌≡◌, ◌≤◌, ◌⊎◌}
+use Rattle.task_laws.proofs.Machine.{base_at, base_without, Core, Label, Mark, next_entry, or_high, scene_of, set_high, set_low, set_switch, Setting, State, thread_of_entry, Turn}
 use Rattle.task_laws.specs.Order.{InPlace}
-use Rattle.task_machine.specs.Core.{Core, State}
-use Rattle.task_machine.specs.Read.{next_entry, or_high}
-use Rattle.task_machine.specs.Write.{set_high, set_low, set_switch}
-use Rattle.task_machine.specs.declared.label.Label.{Label}
 use Rattle.task_machine.specs.declared.records.Entry.{Entry}
-use Rattle.task_machine.specs.declared.records.Turn.{Turn}
 use Rattle.task_machine.specs.declared.records.Turn.TheVariants as turn
-use Rattle.task_machine.specs.declared.words.Mark.{Mark}
 use Rattle.task_machine.specs.declared.words.Mark.TheVariants as mark
 use Rattle.task_rules.specs.Allowed.{IsRunner}
 use Rattle.task_rules.specs.Places.{HasPlace, entries, is_there, switch_entries}
-use Rattle.task_rules.specs.Scenes.{base_at, base_without, scene_of, thread_of_entry}
-use Rattle.task_rules.specs.Stalled.{Setting}
 use Rattle.task_rules.specs.Takes.{popped}
 
 -- ---- The core that a row reads

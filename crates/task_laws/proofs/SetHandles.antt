@@ -2,25 +2,14 @@
 use Rattle.std.proofs.Common.{arith, refl}
 use Rattle.std.proofs.lemmas.Bool.Decides.{nat_tests}
 use Rattle.std.specs.Prelude.{None, Option, Some, option_and_then, option_map, ℕ, ◌+◌, ◌≡◌, ◌≤◌, ◌⊎◌}
+use Rattle.task_laws.proofs.Machine.{add_call, add_group, add_set, add_thread, add_work, after_word, as_set, as_subtask, call_made, change, CloseSet, Core, count_work, filled, free_handle, free_thread_handle, fresh, get, get-empty, get-insert, get-remove, give_handle, give_result, give_thread_handle, giving, handle_of_table, insert, NameCall, Named, named_by, NameWork, no_handles, on_call, on_instance, on_thread, on_work, OpenSet, poll_pends, push_high, Records, remove, remove_call, remove_group, remove_set, remove_thread, remove_work, Scene, Set, set_backpressure, set_cancel_delivered, set_cancelled, set_course, set_do_not_enter, set_do_not_suspend, set_end, set_event, set_exited, set_how_far, set_join, set_own_event, set_phase, set_position, set_register, set_result, set_saved_callee, set_saved_own, set_script, set_stage, set_started, set_starting_published, set_subtask_handle, set_thread_handle, set_trapped, set_uninteresting, set_word, Setting, State, Subtask, Table, take_result, taking, UnnameCall, UnnameWork, with_handle, with_thread_handle, Word, work_queued}
 use Rattle.task_laws.proofs.ReachLemmas.{filled_with, reached_kept}
 use Rattle.task_laws.specs.Handles.{SetsNamedAtHome, SetsNamedOnce}
 use Rattle.task_laws.specs.Settings.{Reached}
 use Rattle.task_machine.proofs.CommuteLemmas.{get-change}
-use Rattle.task_machine.specs.Core.{Core, State, Table, filled, fresh, no_handles}
-use Rattle.task_machine.specs.Maps.{Records, change, get, get-empty, get-insert, get-remove, insert, remove}
-use Rattle.task_machine.specs.Read.{as_set, as_subtask, handle_of_table, named_by}
-use Rattle.task_machine.specs.Write.{add_call, add_group, add_set, add_thread, add_work, count_work, free_handle, free_thread_handle, give_handle, give_result, give_thread_handle, giving, on_call, on_instance, on_thread, on_work, push_high, remove_call, remove_group, remove_set, remove_thread, remove_work, set_backpressure, set_cancel_delivered, set_cancelled, set_course, set_do_not_enter, set_do_not_suspend, set_end, set_event, set_exited, set_how_far, set_join, set_own_event, set_phase, set_position, set_register, set_result, set_saved_callee, set_saved_own, set_script, set_stage, set_started, set_starting_published, set_subtask_handle, set_thread_handle, set_trapped, set_uninteresting, set_word, take_result, taking}
-use Rattle.task_machine.specs.declared.records.Named.{Named}
 use Rattle.task_machine.specs.declared.records.Named.TheVariants as named
-use Rattle.task_machine.specs.declared.records.Set.{Set}
-use Rattle.task_machine.specs.declared.records.Subtask.{Subtask}
 use Rattle.task_machine.specs.declared.records.Subtask.TheVariants as subtask
 use Rattle.task_rules.specs.Allowed.{Allowed}
-use Rattle.task_rules.specs.Calls.{call_made, with_handle, with_thread_handle, work_queued}
-use Rattle.task_rules.specs.Scenes.{Scene}
-use Rattle.task_rules.specs.Stalled.{Setting}
-use Rattle.task_rules.specs.Words.{CloseSet, NameCall, NameWork, OpenSet, UnnameCall, UnnameWork, Word, after_word}
-use Rattle.task_rules.specs.Works.{poll_pends}
 
 -- what a handle names, and of which instance a set is, in these tables
 abbrev pub set_in : Records (Table Named) → ℕ → ℕ → Option ℕ
