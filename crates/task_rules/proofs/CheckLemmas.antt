@@ -86,7 +86,7 @@ any_released p (n ∷ ns) s =
     grind (arith, any_released p ns (released_one n (held_why_of n s) s), list_any-append p s.queues.high (entry.Thread n ∷ []), held_still p n)
 
 -- From s to t only the order at high changes.
-pub record Reordered (s t : Core) : Type 0 where
+record Reordered (s t : Core) : Type 0 where
   pub only : t ≡ record s { queues = with_high t.queues.high s.queues }
   pub any : (p : Entry → Bool) → any_high p t ≡ any_high p s
 
@@ -95,7 +95,7 @@ abbrev as_in : Core → Core → Core
 as_in t s = record s { threads = t.threads; queues = with_high t.queues.high s.queues }
 
 -- all else a release leaves
-pub released_only : (ns : List ℕ) (s : Core) → released ns s ≡ as_in (released ns s) s
+released_only : (ns : List ℕ) (s : Core) → released ns s ≡ as_in (released ns s) s
 unfolding released put_high push_high set_place on_thread
 released_only [] s = refl
 released_only (n ∷ ns) s = by_why (held_why_of n s) (λ t. released_only ns t)
@@ -105,7 +105,7 @@ released_only (n ∷ ns) s = by_why (held_why_of n s) (λ t. released_only ns t)
     by_why None rest = rest s
     by_why (Some w) rest = rest (put_high n w s)
 
-pub release_reordered : (ms ns : List ℕ) (s : Core) → IsPermutation ms ns → Reordered (released ms s) (released ns s)
+release_reordered : (ms ns : List ℕ) (s : Core) → IsPermutation ms ns → Reordered (released ms s) (released ns s)
 release_reordered ms ns s perm = record {
   only =
       released_only ns s
@@ -123,21 +123,18 @@ release_reordered ms ns s perm = record {
 -- ---- What passes a check
 
 -- some entry of the list is of the instance
-abbrev pub any_in : ℕ → Core → List Entry → Bool
+abbrev any_in : ℕ → Core → List Entry → Bool
 any_in i s es = list_any (is_entry_in i s) es
 
 first_in_is : (i : ℕ) (s : Core) (es : List Entry) → is_some (first_in i s es) ≡ any_in i s es
 first_in_is i s [] = refl
 first_in_is i s (e ∷ es) = grind (arith, first_in_is i s es)
 
-pub passes_is : (i : ℕ) (s : Core) →
+passes_is : (i : ℕ) (s : Core) →
     passes_check i s ≡
     (not (may_not_suspend i s) || (is_some s.queues.switch || (any_in i s s.queues.high || any_in i s s.queues.low)))
 unfolding passes_check first_entry
 passes_is i s = grind (arith, first_in_is i s s.queues.high, first_in_is i s s.queues.low)
-
-or_true : (b : Bool) → (b || true) ≡ true
-or_true b = grind arith
 
 -- ---- A stop
 
@@ -196,14 +193,10 @@ callback_check n s order perm =
     let held = admitted_held i v in
     let test : ℕ → Bool = λ m. is_held_admitted i v m (held_why_of m v) in
     let all = All-permutation (λ m. test m ≡ true) held order perm (filter_passes test (numbers v.threads)) in
-    grind (
-      arith,
-      stop_passes i (foot_of n s) (released order v),
-      release_passes i order v all,
-      enter_passes i false s,
-      same_nil held order (length_permutation held order perm),
-      ap (λ (c : Core). c.callers) (released_only order v),
-    )
+    let stops = stop_passes i (foot_of n s) (released order v) in
+    let passes = release_passes i order v all in
+    let nil = same_nil held order (length_permutation held order perm) in
+    grind (arith, enter_passes i false s, ap (λ (c : Core). c.callers) (released_only order v))
 
 -- ---- The order at high
 
@@ -264,21 +257,13 @@ returned_follows k v w s hs any =
 
 reordered_passes : (i : ℕ) (s t : Core) → Reordered s t → passes_check i t ≡ passes_check i s
 reordered_passes i s t h =
-    ap (λ c. passes_check i c) h.only
-    ∙ grind (
-      arith,
-      passes_is i (at_high t.queues.high s),
-      passes_is i s,
-      h.any (is_entry_in i s),
-      ap (λ p. list_any p t.queues.high) same,
-      ap (λ p. list_any p s.queues.low) same,
-    )
+    let same : is_entry_in i (at_high t.queues.high s) ≡ is_entry_in i s = λ j e. same_in e j in
+    let high = ap (λ p. list_any p t.queues.high) same ∙ h.any (is_entry_in i s) in
+    let low = ap (λ p. list_any p s.queues.low) same in
+    ap (λ c. passes_check i c) h.only ∙ grind (arith, passes_is i (at_high t.queues.high s), passes_is i s)
   where
     same_in : (e : Entry) → is_entry_in i (at_high t.queues.high s) e ≡ is_entry_in i s e
     same_in e = grind arith
-
-    same : is_entry_in i (at_high t.queues.high s) ≡ is_entry_in i s
-    same = λ j e. same_in e j
 
 -- ---- The first waiter
 

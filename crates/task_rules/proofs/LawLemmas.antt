@@ -15,7 +15,6 @@ use Rattle.task_rules.proofs.ChainLemmas.{along}
 use Rattle.task_rules.proofs.PlacingLemmas.{Shifted, placing_shifted, popped_shifted, unplaced}
 use Rattle.task_rules.proofs.WalkSteps.{step_walks}
 use Rattle.task_rules.specs.Calls.{call_made, with_handle, with_thread_handle, work_queued}
-use Rattle.task_rules.specs.Chains.{Chain}
 use Rattle.task_rules.specs.Laws.{EachStep, KeptByRuns, LaterBy, LaterCall, LaterWork, NeverFewer, OutcomeEnds, OutcomeIsLast, OverIsLast, RunGoesOn, RunsJoin, SameLimits, SameThread, Steady}
 use Rattle.task_rules.specs.Outcome.{outcome_of_label}
 use Rattle.task_rules.specs.Run.{Run}
@@ -281,10 +280,6 @@ steady_word b w s q =
     let c = calls_word b w s (record { count = q.threads_made; each = q.calls }) in
     let v = works_word b w s (record { count = q.works_made; each = q.works }) in
     record { threads_made = t.count; works_made = v.count; threads = t.each; calls = c.each; works = v.each }
-
--- what a chain of words leads to
-pub walk_steady : {may : Word → Core → Type 0} {b t : Core} → Chain may b t → Steady b t
-walk_steady {b = b} c = along (Steady b) (λ w s ok q. steady_word b w s q) (steady_same b) c
 
 pub steady : EachStep Steady
 steady = step_kept Steady steady_same steady_word

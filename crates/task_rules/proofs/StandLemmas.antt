@@ -95,15 +95,7 @@ none_there b x h = grind arith
 pub zero_one : {A : Type 0} {x : ℕ} → x ≡ 0 → x ≡ 1 → A
 zero_one {A = A} h g = absurd (omega (arith, h, g))
 
--- a thread whose place says nothing is loose
-pub free_loose : (n : ℕ) (p : Place) (s : Core) → place_of n s ≡ Some p → is_free p ≡ true → HasPlace n s → Loose n s
-free_loose n p s is free h = grind arith
-
--- a loose thread has its place, if that says nothing
-pub loose_free : (n : ℕ) (p : Place) (s : Core) → place_of n s ≡ Some p → is_free p ≡ true → Loose n s → HasPlace n s
-loose_free n p s is free l = grind arith
-
--- so it is if it's gone
+-- a loose thread that is gone has its place
 pub loose_gone : (n : ℕ) (s : Core) → place_of n s ≡ None → Loose n s → HasPlace n s
 loose_gone n s is l = grind arith
 
