@@ -131,7 +131,7 @@ module _ (a : Scene) (codes : CodesInCallbacks (component_of a)) (h : CallsHold 
         go : CallCame a s (after_word w s).made.threads k (get s.calls k) (get (after_word w s).calls k) → KindHolds a (after_word w s) k x
         go (Grown c d e f g) = subst (KindHolds a (after_word w s) k) (same_some _ d x f at) (grown_kind k c d e g)
         go (NoCall e r) = some_none _ x at e
-        go (NewCall f e y g group is l m new) = subst (KindHolds a (after_word w s) k) (same_some _ _ x new at) (record { kind = m.1.1.0; direct = m.1.1.1.0; uncancelled = λ i. refl; gone = λ i j. no_way j })
+        go (NewCall f e y g group is l m new) = subst (KindHolds a (after_word w s) k) (same_some _ _ x new at) (record { kind = m.1.1.0; direct = λ d. (m.1.1.1.0 d).0; uncancelled = λ i. refl; gone = λ i j. no_way j })
 
     callback_after : (k : ℕ) → k ≤ s.made.threads → is_callback (kind_of k s) ≡ true → is_callback (kind_of k (after_word w s)) ≡ true
     callback_after k below c = go (call_came w s ok k)

@@ -17,10 +17,10 @@ use Rattle.task_machine.specs.declared.records.Thread.{Thread}
 use Rattle.task_machine.specs.declared.records.Why.{Why}
 use Rattle.task_machine.specs.declared.words.Mark.{Mark}
 use Rattle.task_machine.specs.declared.words.Mark.TheVariants as mark
-use Rattle.task_rules.proofs.MoveLemmas.{no_time, others, put_back, removed_gone, removed_loose, removed_placed, other_place, unwatched, gone_place, other_so}
-use Rattle.task_rules.proofs.StandLemmas.{Loose, Stand, by_number, entries-append, entries-less, eq_refl, is_eq_of, none_there, not_eq, zero_one, Watch, Nothing, Awaits, Covered, is_so, is_watched}
+use Rattle.task_rules.proofs.MoveLemmas.{no_time, others, put_back, removed_gone, removed_loose, removed_placed, other_place, gone_place, other_so}
+use Rattle.task_rules.proofs.StandLemmas.{Loose, Stand, by_number, entries-append, entries-less, eq_refl, is_eq_of, none_there, not_eq, zero_one, Watch, Nothing, Awaits, Covered, is_so}
 use Rattle.task_rules.proofs.StopLemmas.{Untouched, fresh_apart, so_again}
-use Rattle.task_rules.specs.Places.{HasPlace, entries, is_at_high, is_at_low, is_at_switch, is_behind_of, is_for_start, is_fresh, is_there, one_if, says, switch_entries, times}
+use Rattle.task_rules.specs.Places.{HasPlace, entries, is_at_high, is_at_low, is_at_switch, is_behind_of, is_fresh, is_there, one_if, says, switch_entries, times}
 use Rattle.task_rules.specs.Takes.{popped, rest_of}
 
 -- ---- At most one entry of a thread stands

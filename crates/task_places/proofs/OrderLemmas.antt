@@ -1,4 +1,5 @@
 -- A state in order: each opening state is, and each step leads from one to one.
+use Rattle.task_places.proofs.Directs.{DirectsRun, directs_on_top, directs_word}
 use Rattle.task_machine.specs.declared.records.Subtask.TheVariants as subtask
 use Rattle.task_laws.proofs.Joins.{joins_word, opening_joins}
 use Rattle.task_laws.proofs.Subtasks.{Traced, opening_named, traced_word}
@@ -19,10 +20,10 @@ use Rattle.std.specs.Prelude.{Bool, List, None, Option, Some, [], false, if◌th
 use Rattle.task_laws.proofs.SetHandles.{IsTidy, opening_tidy, tidy_word}
 use Rattle.task_laws.proofs.CallsLaw.{CallsHold}
 use Rattle.task_laws.proofs.CallsSteps.{opening_holds, step_goes}
-use Rattle.task_laws.specs.Order.{CallsNamed, InOrder, InPlace, Numbered, OpeningInOrder, SetsNamed, StartsAwaited, StepInOrder, WasCall, CallsThere, IsOf, MakesFew, Strands, WaitsAtHome, set_of_op, set_of_place, StepsMakeFew, JoinsNamed, ThreadNumbered}
+use Rattle.task_laws.specs.Order.{CallsNamed, InOrder, InPlace, Numbered, OpeningInOrder, SetsNamed, StartsAwaited, StepInOrder, WasCall, CallsThere, IsOf, MakesFew, Strands, WaitsAtHome, set_of_op, set_of_place, StepsMakeFew, JoinsNamed, ThreadNumbered, DirectsOnTop}
 use Rattle.task_machine.specs.Core.{Core, Main, State, fresh}
 use Rattle.task_machine.specs.Maps.{empty, get, get-empty}
-use Rattle.task_machine.specs.Read.{place_of, set_at, instance_of, no_callee, call_instance, task_of, was_started, is_explicit}
+use Rattle.task_machine.specs.Read.{place_of, set_at, instance_of, no_callee, call_instance, task_of, was_started, is_explicit, goal_of, is_direct}
 use Rattle.task_machine.specs.declared.label.Label.{Label}
 use Rattle.task_machine.specs.declared.records.Call.{Call}
 use Rattle.task_machine.specs.declared.records.HowFar.TheVariants as how_far
@@ -223,6 +224,12 @@ module _ (x : Setting) (s : State) (l : Label) (t : State) (h : InOrder x.compon
       by (inr (inr b)) = still_unbegun b
       by (inr (inl b)) = let q = from_base (λ (u : Core). (is_there k u ≡ true) × (is_explicit k u ≡ false → is_begun (task_of k u) t.core ≡ true)) b in by_thread (get s.core.threads k) refl q.0 q.1
 
+  pub directs_kept : Steady s.core t.core → Numbered t.core → DirectsOnTop t.core
+  directs_kept steady after =
+      let a = scene_of x s l w.next in
+      directs_on_top a s.core t.core steady h.numbered after arrives (λ k. at_base (λ (c : Core). place_of k c ≡ place_of k s.core) refl) (λ k. at_base (λ (c : Core). goal_of k c ≡ goal_of k s.core) refl) h.directs
+      (along (DirectsRun a) (directs_word a) (λ k d. inl (at_base (λ (c : Core). is_direct (goal_of k c) ≡ true) d)) w.walk)
+
   -- handles of sets, and the joins to them
   pub joined_kept : IsTidy t.core × JoinsNamed t.core
   joined_kept = along (λ (c : Core). IsTidy c × JoinsNamed c) (λ v m ok q. (tidy_word (scene_of x s l w.next) v m ok q.0, joins_word (scene_of x s l w.next) m q.1 (sets_of m q.0) v ok)) (tidy s.core h.sets_named, h.joins_named) w.walk
@@ -266,6 +273,7 @@ step_in_order x s l t h step =
       codes = h.codes;
       in_place = in_place x s l t w (arrives x s l t h w);
       strands = strands_kept x s l t h w;
+      directs = directs_kept x s l t h w (steady x s l t step) q.numbered;
       numbered = q.numbered;
       calls_there = calls_kept x s l t h w;
       calls_named = named_kept x s l t h w;
@@ -320,6 +328,10 @@ opening_strands instances handle_limit capacity = record { below = λ n m e. nob
     nobody : (n : ℕ) {p : Place} {A : Type 0} → option_map (λ (t : Thread). t.place) (get empty n) ≡ Some p → A
     nobody n e = no_way (ap (λ (o : Option Thread). is_some (option_map (λ (t : Thread). t.place) o)) (sym (get-empty n)) ∙ ap (λ (o : Option Place). is_some o) e)
 
+opening_directs : (instances handle_limit capacity : ℕ) → DirectsOnTop (fresh instances handle_limit capacity)
+unfolding fresh
+opening_directs instances handle_limit capacity m there implicit direct = no_way (ap (λ (o : Option Thread). is_some (option_map (λ (t : Thread). t.place) o)) (sym (get-empty m)) ∙ there)
+
 opening_calls : (instances handle_limit capacity : ℕ) → CallsThere (fresh instances handle_limit capacity)
 unfolding fresh
 opening_calls instances handle_limit capacity n k e = no_way (ap (λ (o : Option Thread). is_some (option_map (λ (t : Thread). t.call) o)) (sym (get-empty n)) ∙ ap (λ (o : Option ℕ). is_some o) e)
@@ -339,6 +351,7 @@ opening_in_order c codes instances handle_limit capacity main =
       codes = codes;
       in_place = opening_in_place instances handle_limit capacity main;
       strands = opening_strands instances handle_limit capacity;
+      directs = opening_directs instances handle_limit capacity;
       numbered = q.numbered;
       calls_there = opening_calls instances handle_limit capacity;
       waits = opening_waits instances handle_limit capacity;

@@ -509,9 +509,13 @@ module _ {a : Scene} {b : Core} {n : ℕ} {q : Option Place} (f : Frame a b n q)
   -- the thread exits
   exits : (s t : Core) → IsRunner a n → Stand (watch a) n q [] s → Settles (after_word (RemoveThread n) s) t → All t × (((k : ℕ) → waits a k ≡ true → is_fresh (place_of k t) ≡ true) × ((k m : ℕ) → place_of k a.base ≡ Some (place.Under m) → place_of k t ≡ Some (place.Under m)))
   exits s t is st d =
-      let u = settles_quiet d in
-      (λ k. quiet_placed k (remove_thread n s) t u (removed_all n q s st k), (λ k w. ap is_fresh (u.places k) ∙ removed_fresh k n s (fresh_still a st k w),
-      λ k m at. by_number k n (place_of k t ≡ Some (place.Under m)) (λ e. no_cover k m (subst (IsRunner a) (sym e) is) at) (λ e. u.places k ∙ (other_place k n s e ∙ covered_still a st k m at))))
+      let u = settles_quiet d in (
+        λ k. quiet_placed k (remove_thread n s) t u (removed_all n q s st k),
+        (
+          λ k w. ap is_fresh (u.places k) ∙ removed_fresh k n s (fresh_still a st k w),
+          λ k m at. by_number k n (place_of k t ≡ Some (place.Under m)) (λ e. no_cover k m (subst (IsRunner a) (sym e) is) at) (λ e. u.places k ∙ (other_place k n s e ∙ covered_still a st k m at)),
+        ),
+      )
 
   -- and the one under it goes on
   goes_back : (s t : Core) (m v : ℕ) → Stay a b s → IsRunner a n → a.turn ≡ turn.Run n → a.next ≡ turn.Run m → place_of m a.base ≡ Some (place.Under n) → Settles (after_word (RemoveThread n) s) t → Arrives a (set_how_far m (how_far.Answered v) (set_place m place.Running t))

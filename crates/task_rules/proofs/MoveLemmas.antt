@@ -159,8 +159,11 @@ put_back {P = P} n q x m w s there fits st =
       loose = u.loose;
       there = u.there;
       placed = u.placed;
-      kept = λ k h. (refl, by_number k m (is_so (P k) (place_of k (put_at x m w s)) ≡ true) (λ e. subst (λ (j : ℕ). is_so (P j) (place_of j (put_at x m w s)) ≡ true) (sym e) (ap (is_so (P m)) (put_place x m w s there) ∙ fits (ap (λ (j : ℕ). is_watched (P j)) (sym e) ∙ h)))
-          (λ e. let g = other_watch P m k e in ap (λ v. is_so v (place_of k (put_at x m w s))) (sym g) ∙ (u.kept k (ap is_watched g ∙ h)).1));
+      kept = λ k h. (
+        refl,
+        by_number k m (is_so (P k) (place_of k (put_at x m w s)) ≡ true) (λ e. subst (λ (j : ℕ). is_so (P j) (place_of j (put_at x m w s)) ≡ true) (sym e) (ap (is_so (P m)) (put_place x m w s there) ∙ fits (ap (λ (j : ℕ). is_watched (P j)) (sym e) ∙ h)))
+            (λ e. let g = other_watch P m k e in ap (λ v. is_so v (place_of k (put_at x m w s))) (sym g) ∙ (u.kept k (ap is_watched g ∙ h)).1),
+      );
     }
 
 -- a parked thread is put
