@@ -22,7 +22,8 @@ module _ (a : Scene) (s : Core) where
       option_and_then as_subtask (named_by (change j (giving nm) s.handles) i h) ≡ Some sub → (subtask_at i h s ≡ Some sub) ⊎ Known a s sub
   given_known j nm i h sub ok e = ⊎_elim (λ e. inl e) (λ e. inr (rw e.0 at ok)) (given_names as_subtask s.handles j nm i h sub e)
 
-  handle_known : (w : Word) → Allowed a w s → (i h : ℕ) (sub : Subtask) → subtask_at i h (after_word w s) ≡ Some sub → (subtask_at i h s ≡ Some sub) ⊎ Known a s sub
+  handle_known : (w : Word) → Allowed a w s → (i h : ℕ) (sub : Subtask) → subtask_at i h (after_word w s) ≡ Some sub →
+      (subtask_at i h s ≡ Some sub) ⊎ Known a s sub
   unfolding on_thread add_group add_set add_work count_work free_handle free_thread_handle give_handle give_result give_thread_handle on_call on_instance on_work push_high remove_call remove_group remove_set remove_work remove_thread set_backpressure set_cancel_delivered set_cancelled set_course set_do_not_enter set_do_not_suspend set_end set_event set_exited set_how_far set_join set_own_event set_phase set_position set_register set_result set_saved_callee set_saved_own set_script set_stage set_started set_starting_published set_subtask_handle set_thread_handle set_trapped set_uninteresting set_word take_result call_made add_call add_thread with_handle with_thread_handle work_queued poll_pends
   handle_known (NameCall j k) ok i h sub e = given_known j (named.Subtask (subtask.Guest k)) i h sub (ok.0, ok.1.1.1) e
   handle_known (NameWork j k) ok i h sub e = given_known j (named.Subtask (subtask.Host k)) i h sub (ok.0, ok.1.1.1) e
@@ -61,8 +62,9 @@ module _ (a : Scene) (known : CallsNamed a.base) (s : Core) (q : Traced a s) whe
   traced_word w ok = record {
     was = λ k h. was_word a w s ok k (q.was k h);
     named = record {
-      by_handle = λ i h k e. was_word a w s ok k (⊎_elim (q.named.by_handle i h k) (known_made k) (handle_known a s w ok i h (subtask.Guest k) e));
-      by_op = λ n k e. was_word a w s ok k (⊎_elim (q.named.by_op n k) (λ g. known_made k (rw g.1.1 at (come_known a s n g.0 g.1.0))) (op_came (λ f. subtask_under_way f) (subtask.Guest k) w s ok n refl e));
+      by_handle = λ i h k e. was_word a w s ok k (⊎_elim (q.named.by_handle i h k) (known_made k) (handle_known a s w ok i h _ e));
+      by_op = λ n k e. was_word a w s ok k (⊎_elim (q.named.by_op n k) (λ g. known_made k (rw g.1.1 at (come_known a s n g.0 g.1.0)))
+          (op_came (λ f. subtask_under_way f) (subtask.Guest k) w s ok n refl e));
     };
   }
 
