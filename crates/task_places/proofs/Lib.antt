@@ -1,4 +1,6 @@
 pub mod Entries
 pub mod PlaceLaw
 pub mod PlaceSteps
+pub mod Directs
+pub mod WorksQueued
 pub mod OrderLemmas

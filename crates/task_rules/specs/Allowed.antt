@@ -247,10 +247,11 @@ abbrev pub is_for_main : Goal → Bool
 is_for_main goal.Main = true
 is_for_main _ = false
 
--- a direct call isn't of an async-lifted export; main's calls alone have results for main
+-- a direct call isn't of an async-lifted export, and its thread runs next; main's calls alone have results for main
 abbrev pub MayMakeCall : Scene → Caller → Callee → ExportKind → Goal → ℕ → Core → Type 0
 MayMakeCall a f e x g group s = MayCall a f e group s × ((s.made.threads ≡ a.base.made.threads) ×
-    ((x ≡ export_kind (component_of a) e) × ((is_direct g ≡ true → is_async_lifted x ≡ false) × (is_for_main g ≡ not (is_guest_call f)))))
+    ((x ≡ export_kind (component_of a) e) ×
+    ((is_direct g ≡ true → (is_async_lifted x ≡ false) × (a.next ≡ turn.Run (next_thread a.base))) × (is_for_main g ≡ not (is_guest_call f)))))
 
 -- the call of the thread that was taken to start, or a new direct one
 abbrev pub MayStart : Scene → ℕ → Core → Type 0
