@@ -29,7 +29,7 @@ use Rattle.task_rules.specs.Stalled.{Setting}
 use Rattle.task_rules.specs.Step.{Step, TurnStep}
 use Rattle.task_rules.specs.Takes.{popped}
 use Rattle.task_rules.specs.Turns.{settled_turn}
-use Rattle.task_rules.specs.Words.{AddGroup, CountWork, EndWork, FinishWork, MakeCall, MakeThread, NameCall, NameThread, NameWork, OpenSet, Pend, Places, QueueWork, RemoveCall, RemoveThread, RemoveWork, SetCallEvent, SetCallJoin, SetCancelDelivered, SetCancelled, SetEnd, SetExited, SetHowFar, SetOwnEvent, SetPhase, SetPosition, SetRegister, SetResult, SetSavedCallee, SetSavedOwn, SetScript, SetStarted, SetStartingPublished, SetTrapped, SetUninteresting, SetWorkEvent, SetWorkJoin, TakeHost, TakePush, UnnameCall, UnnameWork, Withdraw, Word, after_placing, after_word}
+use Rattle.task_rules.specs.Words.{AddGroup, CountWork, EndWork, FinishWork, MakeCall, MakeThread, NameCall, NameThread, NameWork, OpenSet, Pend, Places, QueueWork, RemoveCall, RemoveThread, RemoveWork, SetCallEvent, SetCallJoin, SetCancelDelivered, SetCancelled, SetEnd, SetExited, SetHowFar, SetOwnEvent, SetPhase, SetPosition, SetRegister, SetResult, SetSavedCallee, SetSavedOwn, SetScript, SetStarted, SetStartingPublished, SetTrapped, SetUninteresting, TakeWorkEvent, SetWorkJoin, TakeHost, TakePush, UnnameCall, UnnameWork, Withdraw, Word, after_placing, after_word}
 use Rattle.task_rules.specs.Works.{poll_pends}
 use Rattle.task_machine.specs.declared.records.Course.TheVariants as course
 use Rattle.task_machine.specs.declared.records.Script.TheVariants as script
@@ -298,13 +298,13 @@ module _ (b : Core) where
   works_word CountWork s q = record { count = one_more q.count; each = q.each }
   works_word (QueueWork f host group) s q = made_now LaterWork later_work_refl later_work_trans (new_work f host group) q
   works_word (TakePush m i) s q = stage_changed i stage.Live q
-  works_word (TakeHost m i) s q = stage_changed i stage.Ended q
+  works_word (TakeHost m i) s q = work_changed i (λ w. record w { event = _ }) (λ w. record { caller = refl; group = refl; cancelled = λ h. h }) (stage_changed i stage.Ended q)
   works_word (Pend i host) s q = work_changed i (λ w. record w { course = course.Goes host }) (λ w. record { caller = refl; group = refl; cancelled = λ h. h }) q
   works_word (EndWork i c) s q = settled_works i c stage.Ended q
   works_word (FinishWork i c) s q = settled_works i c stage.Finishing q
   works_word (SetPhase i p) s q = work_changed i (λ w. record w { phase = p }) (λ w. record { caller = refl; group = refl; cancelled = λ h. h }) q
   works_word (SetCancelled i) s q = work_changed i (λ w. record w { cancelled = true }) (λ w. record { caller = refl; group = refl; cancelled = λ h. refl }) q
-  works_word (SetWorkEvent i e) s q = work_changed i (λ w. record w { event = e }) (λ w. record { caller = refl; group = refl; cancelled = λ h. h }) q
+  works_word (TakeWorkEvent i) s q = work_changed i (λ w. record w { event = None }) (λ w. record { caller = refl; group = refl; cancelled = λ h. h }) q
   works_word (SetWorkJoin i j) s q = work_changed i (λ w. record w { join = j }) (λ w. record { caller = refl; group = refl; cancelled = λ h. h }) q
   works_word (NameWork i k) s q = work_changed k (λ w. record w { handle = Some (new_handle i s) }) (λ w. record { caller = refl; group = refl; cancelled = λ h. h }) q
   works_word (UnnameWork i h k) s q = work_changed k (λ w. record w { handle = None }) (λ w. record { caller = refl; group = refl; cancelled = λ g. g }) q

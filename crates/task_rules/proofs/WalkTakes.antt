@@ -1,7 +1,8 @@
 -- The takings of entries as chains of words.
+use Rattle.task_machine.specs.declared.records.Subtask.{Subtask}
 use Rattle.task_machine.specs.declared.words.OwnEvent.TheVariants as own
-use Rattle.task_rules.proofs.MuteLemmas.{is_mute, mute_words}
-use Rattle.task_rules.proofs.SayLemmas.{activated_on_gone, given_says}
+use Rattle.task_rules.proofs.MuteLemmas.{is_mute, mute_words, none_said}
+use Rattle.task_rules.proofs.SayLemmas.{activated_on_gone, given_says, HasNoEnd}
 use Rattle.task_rules.specs.Chains.{EndWords, HandsOut, TakesEvent}
 use Rattle.task_rules.specs.SubtaskEnds.{end_for, handed_by, handed_by_event, written_by}
 use Rattle.task_machine.specs.declared.records.Subtask.TheVariants as subtask
@@ -342,24 +343,24 @@ module _ (x : Setting) (main : Main) (ended : Bool) (s : Core) (n : ℕ) (l : La
     -- ---- Deliveries
 
     -- what a delivery hands out shows only where no wake is handed on
-    event_says : (m : Mark) (v : Given) (w : Option ℕ) (t : Core) → (w ≡ None → (k : ℕ) (e : Status) → handed_by_event n s v ≡ Some (end_for e (subtask.Guest k)) → HandsOut taking_scene t k e) → l ≡ event_label m n v w → EndWords taking_scene t
+    event_says : (m : Mark) (v : Given) (w : Option ℕ) (t : Core) → (w ≡ None → (sub : Subtask) (e : Status) → handed_by_event n s v ≡ Some (end_for e sub) → HandsOut taking_scene t sub e) → l ≡ event_label m n v w → EndWords taking_scene t
     event_says m v (Some z) t out is = mute_words taking_scene t (ap is_mute is)
     event_says m v None t out is = record {
-      writes = λ k e says. none_is_some (end_for e (subtask.Guest k)) (sym (ap (λ (y : Label). written_by x.component s y s) is) ∙ says);
-      hands = λ k e h. out refl k e (sym (ap (λ (y : Label). handed_by x.component main s y t) is) ∙ h);
+      writes = λ sub e says. none_said (ap (λ (y : Label). written_by x.component s y t) is) says;
+      hands = λ sub e h. out refl sub e (sym (ap (λ (y : Label). handed_by x.component main s y t) is) ∙ h);
     }
 
-    delivered_out : (y : ℕ) (ch : Choice) (g : Gift) (w : Option ℕ) → gift true (task_of n s) y (chosen n ch s) s ≡ Some g → w ≡ None → (k : ℕ) (e : Status) → handed_by_event n s (handed_out ch s g) ≡ Some (end_for e (subtask.Guest k)) → HandsOut taking_scene (activated n g (handed_out ch s g) (handed_on y g w s)) k e
-    delivered_out y ch g w h none k e out =
-        let q = given_says true n (task_of n s) y ch s g k e h out in
-        TakesEvent q.1 (subst (λ (f : Gift). undelivered_end (event_of (subtask.Guest k) (activated n f (handed_out ch s g) (handed_on y f w s))) ≡ None) (sym q.0) (activated_on_gone n y k w (handed_out ch s g) s))
+    delivered_out : (y : ℕ) (ch : Choice) (g : Gift) (w : Option ℕ) → gift true (task_of n s) y (chosen n ch s) s ≡ Some g → w ≡ None → (sub : Subtask) (e : Status) → handed_by_event n s (handed_out ch s g) ≡ Some (end_for e sub) → HandsOut taking_scene (activated n g (handed_out ch s g) (handed_on y g w s)) sub e
+    delivered_out y ch g w h none sub e out =
+        let q = given_says true n (task_of n s) y ch s g sub e h out in
+        TakesEvent sub e q.1 (subst (λ (f : Gift). HasNoEnd sub (activated n f (handed_out ch s g) (handed_on y f w s))) (sym q.0) (activated_on_gone n y sub w (handed_out ch s g) s))
 
     -- the task's own event is no end of a subtask
-    own_says : (o : Option OwnEvent) (k : ℕ) (e : Status) {A : Type 0} → handed_by_event n s (given_for (own_or_nothing o) 0 s) ≡ Some (end_for e (subtask.Guest k)) → A
+    own_says : (o : Option OwnEvent) (sub : Subtask) (e : Status) {A : Type 0} → handed_by_event n s (given_for (own_or_nothing o) 0 s) ≡ Some (end_for e sub) → A
     unfolding given_for
-    own_says None k e out = none_is_some (end_for e (subtask.Guest k)) out
-    own_says (Some own.None) k e out = none_is_some (end_for e (subtask.Guest k)) out
-    own_says (Some own.Cancelled) k e out = none_is_some (end_for e (subtask.Guest k)) out
+    own_says None sub e out = none_is_some (end_for e sub) out
+    own_says (Some own.None) sub e out = none_is_some (end_for e sub) out
+    own_says (Some own.Cancelled) sub e out = none_is_some (end_for e sub) out
 
     activated_goes : (m : Mark) (g : Gift) (v : Given) (w : Option ℕ) (t : Core) → (l ≡ event_label m n v w → EndWords taking_scene (activated n g v t)) → instance_of n t ≡ instance_of n s → MayTake taking_scene (task_of n t) g → may_not_enter (instance_of n s) s ≡ false → Walk taking_scene b t → Leads taking_scene b (Goes (event_label m n v w) (activated n g v t) n)
     unfolding activated
@@ -396,7 +397,7 @@ module _ (x : Setting) (main : Main) (ended : Bool) (s : Core) (n : ℕ) (l : La
     unfolding own_gift_only
     own_delivered_leads m d ready open_at =
         let g = own_gift_only (task_of n s) s in
-        activated_goes m g (given_for g 0 s) None s (event_says m (given_for g 0 s) None _ (λ none k e out. own_says (own_gift_of true (task_of n s) s) k e out)) refl (own_taken d ready (own_gift_of true (task_of n s) s)) open_at start
+        activated_goes m g (given_for g 0 s) None s (event_says m (given_for g 0 s) None _ (λ none sub e out. own_says (own_gift_of true (task_of n s) s) sub e out)) refl (own_taken d ready (own_gift_of true (task_of n s) s)) open_at start
 
     delivered_leads : (m : Mark) (ch : Choice) (d : Delivery) → WasReady taking_scene n (why.Delivery d) → may_not_enter (instance_of n s) s ≡ false → Leads taking_scene b (delivered m n ch s d)
     delivered_leads m ch (delivery.Set y) ready open_at =
