@@ -481,7 +481,7 @@ no_end_is_covered x s l t r step k = go (undelivered_end (event_of (subtask.Gues
         ap (λ (y : Status). not (status_code e == status_code y)) (sym one) ∙ ap not (same_number (status_code e))
 
 -- what the label hands out isn't read from the marks
-hands_at : (c : Component) (main : Main) (s : Core) (q : Queues) (t : Core) (l : Label) (o : Option SubtaskEnd) → handed_by c main s l t ≡ o → handed_by c main (record s { queues = q }) l t ≡ o
+pub hands_at : (c : Component) (main : Main) (s : Core) (q : Queues) (t : Core) (l : Label) (o : Option SubtaskEnd) → handed_by c main s l t ≡ o → handed_by c main (record s { queues = q }) l t ≡ o
 unfolding op_of script_of
 hands_at c main s q t (label.Main m) o h = of_main main m h
   where

@@ -356,7 +356,7 @@ module _ (a : Scene) (codes : CodesInCallbacks (component_of a)) (h : CallsHold 
 
     put_delivers : (n : ℕ) (w : Why) → MayPut n w s → is_delivery w ≡ true → delivered_in (place_of n s) ≡ true
     put_delivers n w (may.Starts i f g is) d = no_way (sym (ap is_delivery is) ∙ d)
-    put_delivers n w (may.Unblocks sub i is) d = no_way (sym (ap is_delivery is) ∙ d)
+    put_delivers n w (may.Unblocks sub i done is) d = no_way (sym (ap is_delivery is) ∙ d)
     put_delivers n w (may.Releases i) d = ap delivered_in i ∙ d
     put_delivers n w (may.Cancels i is) d = waits (place_of n s) i
       where

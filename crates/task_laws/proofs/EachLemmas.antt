@@ -1,4 +1,5 @@
 -- What each record of a map keeps where one record is changed, made or taken away.
+use Rattle.task_machine.proofs.CommuteLemmas.{get-change}
 use Rattle.std.proofs.Common.{T, ap, cond, eqb→eq, refl, subst, sym, ◌∙◌}
 use Rattle.std.specs.Option.{option_map_or}
 use Rattle.std.specs.Prelude.{Bool, None, Option, Some, false, option_map, true, ℕ, ◌==◌, ◌≡◌}
@@ -62,3 +63,27 @@ module _ {X : Type 0} where
   -- a field that the change leaves alone
   pub change_read : {Y : Type 0} (g : X → Y) (d : Y) (m : Records X) (n : ℕ) (f : X → X) → ((x : X) → g (f x) ≡ g x) → (q : ℕ) → option_map_or g (get (change n f m) q) d ≡ option_map_or g (get m q) d
   change_read g d m n f keeps q = sym (or_of_map g d (get (change n f m) q)) ∙ (ap (λ o. option_map_or (λ y. y) o d) (change-field g n f keeps m q) ∙ or_of_map g d (get m q))
+
+-- ---- What comes at each number
+
+-- whatever a map's change at one number does there, if it does nothing to others
+module _ {X Y : Type 0} (g : X → Y) (P : ℕ → Option Y → Option Y → Type 0) (same : (k : ℕ) (o : Option Y) → P k o o) (m : Records X) (j : ℕ) where
+  at_number : (p : Option X) → P j (option_map g (get m j)) (option_map g p) → (k : ℕ) → P k (option_map g (get m k)) (option_map g (cond (k == j) p (get m k)))
+  at_number p own k = go (k == j) refl
+    where
+      go : (b : Bool) → (k == j) ≡ b → P k (option_map g (get m k)) (option_map g (cond b p (get m k)))
+      go true e = subst (λ (i : ℕ). P i (option_map g (get m i)) (option_map g p)) (sym (eqb→eq k j (subst T (sym e) tt))) own
+      go false e = same k (option_map g (get m k))
+
+  pub at_changed : (f : X → X) → P j (option_map g (get m j)) (option_map g (option_map f (get m j))) → (k : ℕ) → P k (option_map g (get m k)) (option_map g (get (change j f m) k))
+  at_changed f own k = subst (λ (r : Option X). P k (option_map g (get m k)) (option_map g r)) (sym (get-change j f m k)) (subst (λ (r : Option X). P k (option_map g (get m k)) (option_map g r)) (changed_is (k == j) refl) (at_number (option_map f (get m j)) own k))
+    where
+      changed_is : (b : Bool) → (k == j) ≡ b → cond b (option_map f (get m j)) (get m k) ≡ cond b (option_map f (get m k)) (get m k)
+      changed_is true e = ap (λ i. option_map f (get m i)) (sym (eqb→eq k j (subst T (sym e) tt)))
+      changed_is false e = refl
+
+  pub at_removed : P j (option_map g (get m j)) None → (k : ℕ) → P k (option_map g (get m k)) (option_map g (get (remove m j) k))
+  at_removed own k = subst (λ (r : Option X). P k (option_map g (get m k)) (option_map g r)) (sym (get-remove m j k)) (at_number None own k)
+
+  pub at_inserted : (x : X) → P j (option_map g (get m j)) (Some (g x)) → (k : ℕ) → P k (option_map g (get m k)) (option_map g (get (insert m j x) k))
+  at_inserted x own k = subst (λ (r : Option X). P k (option_map g (get m k)) (option_map g r)) (sym (get-insert m j x k)) (at_number (Some x) own k)

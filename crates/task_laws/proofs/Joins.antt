@@ -34,7 +34,7 @@ use Rattle.task_rules.proofs.StandLemmas.{is_eq_of}
 use Rattle.task_rules.specs.Allowed.{Allowed, MayJoin}
 use Rattle.task_rules.specs.Calls.{call_made, with_handle, with_thread_handle, work_queued, new_call, new_work}
 use Rattle.task_rules.specs.Scenes.{Scene}
-use Rattle.task_rules.specs.Words.{CloseSet, EndWork, FinishWork, MakeCall, NameCall, NameWork, OpenSet, Pend, QueueWork, RemoveCall, RemoveWork, SetCallEvent, SetCallJoin, SetCancelDelivered, SetCancelled, SetEnd, SetExited, SetOwnEvent, SetPhase, SetResult, SetStarted, SetStartingPublished, SetUninteresting, SetWorkEvent, SetWorkJoin, TakeHost, TakePush, UnnameCall, UnnameWork, Word, after_word}
+use Rattle.task_rules.specs.Words.{CloseSet, EndWork, FinishWork, MakeCall, NameCall, NameWork, OpenSet, Pend, QueueWork, RemoveCall, RemoveWork, SetCallEvent, SetCallJoin, SetCancelDelivered, SetCancelled, SetEnd, SetExited, SetOwnEvent, SetPhase, SetResult, SetStarted, SetStartingPublished, SetUninteresting, TakeWorkEvent, SetWorkJoin, TakeHost, TakePush, UnnameCall, UnnameWork, Word, after_word}
 use Rattle.task_rules.specs.Works.{poll_pends}
 
 -- ---- Tables
@@ -175,13 +175,13 @@ module _ (a : Scene) (s : Core) where
       go false = inl refl
   host_join (SetWorkJoin n j) ok k = joined_at (after_word (SetWorkJoin n j) s) (λ (w : Work). w.join) (λ (i : ℕ). subtask.Host i) s.works n (λ w. record w { join = j }) j (λ w. refl) ok refl refl k
   host_join (TakePush m i) ok k = inl (work_join s.works i _ (λ w. refl) k)
-  host_join (TakeHost m i) ok k = inl (work_join s.works i _ (λ w. refl) k)
+  host_join (TakeHost m i) ok k = inl (work_join (change i (λ w. record w { stage = stage.Ended }) s.works) i _ (λ w. refl) k ∙ work_join s.works i _ (λ w. refl) k)
   host_join (Pend i host) ok k = inl (work_join s.works i _ (λ w. refl) k)
   host_join (EndWork i c) ok k = inl (settled_join stage.Ended i c k)
   host_join (FinishWork i c) ok k = inl (settled_join stage.Finishing i c k)
   host_join (SetPhase i p) ok k = inl (work_join s.works i _ (λ w. refl) k)
   host_join (SetCancelled i) ok k = inl (work_join s.works i _ (λ w. refl) k)
-  host_join (SetWorkEvent i e) ok k = inl (work_join s.works i _ (λ w. refl) k)
+  host_join (TakeWorkEvent i) ok k = inl (work_join s.works i _ (λ w. refl) k)
   host_join (NameWork i n) ok k = inl (work_join s.works n _ (λ w. refl) k)
   host_join (UnnameWork i g n) ok k = inl (work_join s.works n _ (λ w. refl) k)
   host_join w ok k = inl refl

@@ -16,6 +16,9 @@ pub mod CallsCame
 pub mod CallsLaw
 pub mod CallsSteps
 pub mod OneHolder
+pub mod PolledWorks
+pub mod Works
 pub mod WrittenLemmas
 pub mod OnceLemmas
+pub mod HostEnds
 pub mod CallEnds

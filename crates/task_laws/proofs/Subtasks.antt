@@ -117,7 +117,8 @@ module _ (a : Scene) (known : CallsNamed a.base) (s : Core) (q : Traced a s) whe
   may_made n k (inr h) = new_made k h
 
   come_made : (n k : ℕ) (f : HowFar) → MayCome a n f s → subtask_under_way f ≡ Some (subtask.Guest k) → WasCall s k
-  come_made n k (how_far.Calls sub) ok e = may_made n k (subst (λ (x : Subtask). HasSubtask a n x ⊎ IsNew a x s) (same_sub sub k e) ok.1)
+  come_made n k (how_far.Calls (subtask.Guest j)) ok e = may_made n k (subst (λ (x : Subtask). HasSubtask a n x ⊎ IsNew a x s) (same_sub (subtask.Guest j) k e) ok.1)
+  come_made n k (how_far.Calls (subtask.Host i)) ok e = no_guest (named.Subtask (subtask.Host i)) k refl (ap (λ (o : Option Subtask). named.Subtask (unwrap_or o (subtask.Host i))) e)
   come_made n k (how_far.Cancels sub) ok e = has_made n k (subst (HasSubtask a n) (same_sub sub k e) ok.1)
   come_made n k (how_far.AwaitsEnd sub) ok e = has_made n k (subst (HasSubtask a n) (same_sub sub k e) ok.1)
   come_made n k how_far.Fresh ok e = no_way (ap (λ o. is_some o) e)

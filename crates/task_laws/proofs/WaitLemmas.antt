@@ -206,7 +206,7 @@ module _ (a : Scene) (known : KnownHome a) where
     put_home n x w (Starts p e d v) h = no_why n x w why.Start v refl h
     put_home n x w (Resumes e) h = none_some (sym (resumes_none (is_explicit n s) (place_of n s) w e) ∙ h)
     put_home n x w (Wakes y e v) h = why_of_wake n x y (is_callback_waiter n s) e (sym (ap set_of_why v) ∙ h)
-    put_home n x w (Unblocks sub e v) h = no_why n x w why.Resumption v refl h
+    put_home n x w (Unblocks sub e d v) h = no_why n x w why.Resumption v refl h
     put_home n x w (Releases e) h = q.by_place n x (ap (λ o. option_and_then set_of_place o) e ∙ h)
     put_home n x w (Cancels e v) h = no_why n x w (why.Delivery delivery.Cancel) v refl h
 

@@ -44,7 +44,7 @@ use Rattle.task_rules.proofs.StandLemmas.{by_number}
 use Rattle.task_rules.proofs.WalkMoves.{MayTake, call_settled_walks, checked_shifts, chosen_of, handed_on_shifts, moved, promoted_unless_shifts, shifted, wake_shifts, word}
 use Rattle.task_rules.proofs.WalkParts.{call_queues_walks, call_resumes_walks, call_stops_walks, cancel_goes_behind_walks, cancel_plain, cancel_stops_walks, cancel_takes_end_walks, checked_walks, enter_gives, enter_runs_walks, freed_named, gift_is, join_plain, join_walks, put_back_walks, received_walks, set_none_join, stopped_walks, wait_plain, wait_stops_walks, withdrawn_walks, work_deleted_walks, work_unnamed, withdraws, answered_first, far_fresh}
 use Rattle.task_rules.proofs.WalkTask.{Leads, advanced_walks, answered_walks, assigned_walks, goes_on, goes_on_saying, goes_over, may_leads, or_never_leads, or_trap_leads, running_scene, stops_here, trap_if_leads, unnot, is_still, over_now}
-use Rattle.task_rules.specs.Allowed.{ByHandle, ByOp, BySetHandle, ByThread, ByWait, Cancels, HasSubtask, Leaves, MayJoin, MayMakeCall, Resumes, Suspends, Yields, subtask_under_way, is_for_main, AbortsOwn, is_async_work, IsNew}
+use Rattle.task_rules.specs.Allowed.{ByHandle, ByOp, BySetHandle, ByThread, ByWait, Cancels, HasSubtask, Leaves, MayJoin, MayMakeCall, Resumes, Suspends, Yields, subtask_under_way, is_for_main, AbortsOwn, is_async_work, IsNew, IsNamed}
 use Rattle.task_rules.specs.Calls.{AtOnce, Failing, FirstPoll, Later, answered, call_answered, call_begins, call_host_polled, call_pending, call_queues, call_resumes, call_returned, call_row, call_status, call_sync_begins, call_sync_host_polled, call_sync_host_row, call_sync_host_stops, call_sync_row, call_sync_status, call_sync_stops, enter_row, enter_runs, first_poll, host_answered, host_pending, host_ready, new_thread, next_thread, next_work, status_found, work_answered, work_queued, work_value, put_back, work_deleted, settle_group_of, work_group, new_work}
 use Rattle.task_rules.specs.Cancels.{AlreadyEnded, Async, CallbackWaits, CallbackYields, CancelCase, Mode, OtherwiseRuns, StartNotRun, Sync, aborted_phase, blocked_code, cancel_aborts_host, cancel_asks, cancel_by_end, cancel_case, cancel_ended_row, cancel_guest, cancel_label, cancel_promotes_yield, cancel_resumed, cancel_row, cancel_stops, cancel_subtask, cancel_takes_end, cancel_wakes_callback, cancel_withdraws, drop_row, dropped, is_callback_wait, pauses, subtask_instance, subtask_row}
 use Rattle.task_rules.specs.Chains.{NoWord, Shifts, Walk}
@@ -242,7 +242,7 @@ module _ (x : Setting) (main : Main) (s : Core) (n : ℕ) (l : Label) (next : Tu
   at_once_says : (k : Label) (t : Core) → written_by x.component s k t ≡ host_end (next_work s) status.Returned → handed_by x.component main s k t ≡ host_end (next_work s) status.Returned → IsReadyAtOnce a t (next_work s) → l ≡ k → EndWords a t
   at_once_says k t w h ready is = record {
     writes = λ sub e says. said_is (λ d g. Writes a t d) (sym (ap (λ (y : Label). written_by x.component s y t) is ∙ w) ∙ says) (WritesAtOnce (next_work s) ready);
-    hands = λ sub e out. said_is (HandsOut a t) (sym (ap (λ (y : Label). handed_by x.component main s y t) is ∙ h) ∙ out) (HandsAtOnce (next_work s) ready);
+    hands = λ sub e out. said_is (HandsOut a t) (sym (ap (λ (y : Label). handed_by x.component main s y t) is ∙ h) ∙ out) (HandsAtOnce (next_work s) ready (ap (λ (y : Label). written_by x.component s y t) is ∙ w));
   }
 
   -- what an op on a set hands out is the member's event
@@ -516,16 +516,16 @@ module _ (x : Setting) (main : Main) (s : Core) (n : ℕ) (l : Label) (next : Tu
   cancel_writes Sync t = refl
 
   -- a start that is withdrawn is an end, and handed out
-  withdraw_says : (mode : Mode) (r k : ℕ) → l ≡ cancel_label mode n 3 → cancelled_of_op x.component n s (how_far_of n s) ≡ Some (subtask.Guest k) → HasSubtask a n (subtask.Guest k) → has_ended k s ≡ false → EndWords a (cancel_withdraws n r k s)
+  withdraw_says : (mode : Mode) (r k : ℕ) → l ≡ cancel_label mode n 3 → cancelled_of_op x.component n s (how_far_of n s) ≡ Some (subtask.Guest k) → IsNamed a (subtask.Guest k) → has_ended k s ≡ false → EndWords a (cancel_withdraws n r k s)
   unfolding cancel_withdraws withdrawn remove_thread
-  withdraw_says mode r k at target has unended =
+  withdraw_says mode r k at target named unended =
       let t = cancel_withdraws n r k s in
       let writes : written_by x.component s l t ≡ Some (end_for status.StartCancelled (subtask.Guest k)) = ap (λ (y : Label). written_by x.component s y t) at ∙ (cancel_writes mode t ∙ ap (option_map (end_for status.StartCancelled)) target) in
       let v : Core = after_word (Withdraw k) s in
       let u : Core = set_end k call_end.StartCancelled v in
       let rest : Walk a u (cancel_withdraws n r k s) = subst (λ (w : Core). Walk a (set_end k call_end.StartCancelled w) (cancel_withdraws n r k s)) (sym (withdraws k s)) (answered_walks n refl r 3 (word (SetUninteresting k) tt (word (SetExited k) tt NoWord))) in
       record {
-        writes = λ to f says. said_is (λ d g. Writes a t d) (sym writes ∙ says) (WritesCall k u (EndsSubtask (n, (refl, has)) unended) (over_now k call_end.StartCancelled v) rest);
+        writes = λ to f says. said_is (λ d g. Writes a t d) (sym writes ∙ says) (WritesCall k u (EndsSubtask named unended) (over_now k call_end.StartCancelled v) rest);
         hands = λ to f out. said_is (HandsOut a t) (sym (ap (λ (y : Label). handed_by x.component main s y t) at ∙ (withdraw_hands mode ∙ ap (option_map (end_for status.StartCancelled)) target)) ∙ out) (WritesToo k status.StartCancelled (ap (λ (y : Label). written_by x.component s y s) at ∙ (cancel_writes mode s ∙ ap (option_map (end_for status.StartCancelled)) target)) (inr refl));
       }
     where
@@ -533,31 +533,31 @@ module _ (x : Setting) (main : Main) (s : Core) (n : ℕ) (l : Label) (next : Tu
       withdraw_hands Async = refl
       withdraw_hands Sync = refl
 
-  cancel_guest_leads : (mode : Mode) (r k : ℕ) (y : CancelCase) → cancelled_of_op x.component n s (how_far_of n s) ≡ Some (subtask.Guest k) → cancel_case k s ≡ y → HasSubtask a n (subtask.Guest k) → is_joined (join_of (subtask.Guest k) s) ≡ false → Leads a s (cancel_guest mode n r k s y)
+  cancel_guest_leads : (mode : Mode) (r h k : ℕ) (y : CancelCase) → cancelled_of_op x.component n s (how_far_of n s) ≡ Some (subtask.Guest k) → cancel_case k s ≡ y → subtask_at (instance_of n s) h s ≡ Some (subtask.Guest k) → is_joined (join_of (subtask.Guest k) s) ≡ false → Leads a s (cancel_guest mode n r k s y)
   unfolding cancel_withdraws cancel_wakes_callback cancel_promotes_yield cancel_asks set_own_event on_call
-  cancel_guest_leads mode r k AlreadyEnded target is has free = cancel_ended_row_leads mode r (subtask.Guest k) s (undelivered_end (event_of (subtask.Guest k) s)) target refl has NoWord
-  cancel_guest_leads mode r k StartNotRun target is has free =
+  cancel_guest_leads mode r h k AlreadyEnded target is named free = cancel_ended_row_leads mode r (subtask.Guest k) s (undelivered_end (event_of (subtask.Guest k) s)) target refl (ByHandle h named) NoWord
+  cancel_guest_leads mode r h k StartNotRun target is named free =
       let says = subst (CaseSays k s) is (case_says k s) in
       goes_on_saying x main s n l next (cancel_label mode n 3) (cancel_withdraws n r k s) (cancel_plain mode n 3)
-      (λ at. withdraw_says mode r k at target has says.0)
-      (λ at. answered_walks n refl r 3 (withdrawn_walks n refl k (n, (refl, (has, (says.1, says.0)))) (ap (λ (y : Label). written_by x.component s y s) at ∙ (cancel_writes mode s ∙ ap (option_map (end_for status.StartCancelled)) target)) NoWord))
-  cancel_guest_leads mode r k CallbackWaits target is has free =
-      let asks = asks_walks k has (goes_on_case k s CallbackWaits is refl) in
-      stop (pauses n) (cancel_wakes_callback n k s) refl (λ leave. cancel_goes_behind_walks n refl k leave has free
+      (λ at. withdraw_says mode r k at target (n, (h, (refl, named))) says.0)
+      (λ at. answered_walks n refl r 3 (withdrawn_walks n refl k (n, (refl, (ByHandle h named, (says.1, says.0)))) (ap (λ (y : Label). written_by x.component s y s) at ∙ (cancel_writes mode s ∙ ap (option_map (end_for status.StartCancelled)) target)) NoWord))
+  cancel_guest_leads mode r h k CallbackWaits target is named free =
+      let asks = asks_walks k (ByHandle h named) (goes_on_case k s CallbackWaits is refl) in
+      stop (pauses n) (cancel_wakes_callback n k s) refl (λ leave. cancel_goes_behind_walks n refl k leave (ByHandle h named) free
       (placed (Put mark.Switch k (why.Delivery delivery.Cancel)) (inl (Cancels (subst (CaseSays k s) is (case_says k s)) refl)) asks))
-  cancel_guest_leads mode r k CallbackYields target is has free =
-      let asks = asks_walks k has (goes_on_case k s CallbackYields is refl) in
-      stop (pauses n) (cancel_promotes_yield n k s) refl (λ leave. cancel_goes_behind_walks n refl k leave has free
+  cancel_guest_leads mode r h k CallbackYields target is named free =
+      let asks = asks_walks k (ByHandle h named) (goes_on_case k s CallbackYields is refl) in
+      stop (pauses n) (cancel_promotes_yield n k s) refl (λ leave. cancel_goes_behind_walks n refl k leave (ByHandle h named) free
       (shifted (promoted_unless_shifts k (cancel_asks k s) (inr (ready_at (place_of k s) (yields_ready (place_of k s) (subst (CaseSays k s) is (case_says k s)))))) asks))
-  cancel_guest_leads mode r k OtherwiseRuns target is has free = cancel_by_end_leads mode r (subtask.Guest k) (cancel_asks k s) (subtask_ended (subtask.Guest k) (cancel_asks k s)) target (event_owed k (Some own.Cancelled) s) has (inl free) (asks_walks k has (goes_on_case k s OtherwiseRuns is refl))
+  cancel_guest_leads mode r h k OtherwiseRuns target is named free = cancel_by_end_leads mode r (subtask.Guest k) (cancel_asks k s) (subtask_ended (subtask.Guest k) (cancel_asks k s)) target (event_owed k (Some own.Cancelled) s) (ByHandle h named) (inl free) (asks_walks k (ByHandle h named) (goes_on_case k s OtherwiseRuns is refl))
 
   cancel_subtask_leads : (mode : Mode) (r h : ℕ) (sub : Subtask) → cancelled_of_op x.component n s (how_far_of n s) ≡ Some sub → subtask_at (instance_of n s) h s ≡ Some sub → is_joined (join_of sub s) ≡ false → Leads a s (cancel_subtask mode n r s sub)
   unfolding cancel_aborts_host
-  cancel_subtask_leads mode r h (subtask.Guest k) target named free = cancel_guest_leads mode r k (cancel_case k s) target refl (ByHandle h named) free
+  cancel_subtask_leads mode r h (subtask.Guest k) target named free = cancel_guest_leads mode r h k (cancel_case k s) target refl named free
   cancel_subtask_leads mode r h (subtask.Host i) target named free =
       let has : HasSubtask a n (subtask.Host i) = ByHandle h named in
       trap_if_leads a s (was_cancelled i s) trap.SubtaskCancelAfterTerminal _ (λ e.
-      cancel_by_end_leads mode r (subtask.Host i) (cancel_aborts_host i s) (subtask_ended (subtask.Host i) (cancel_aborts_host i s)) target (event_aborted i s) has (inl free) (word (SetCancelled i) (n, (refl, has)) (word (SetPhase i (aborted_phase (phase_of i s))) (AbortsOwn n h refl named, refl) NoWord)))
+      cancel_by_end_leads mode r (subtask.Host i) (cancel_aborts_host i s) (subtask_ended (subtask.Host i) (cancel_aborts_host i s)) target (event_aborted i s) has (inl free) (word (SetCancelled i) (n, (refl, has)) (word (SetPhase i (aborted_phase (phase_of i s))) (AbortsOwn (n, (h, (refl, named))), refl) NoWord)))
 
   cancel_row_leads : (mode : Mode) (r h : ℕ) (f : HowFar) → cancel_target n s (op_of x.component n s) ≡ subtask_at (instance_of n s) h s → how_far_of n s ≡ f → Leads a s (cancel_row mode n r h s f)
   unfolding cancel_resumed

@@ -98,6 +98,10 @@ pub data HasSubtask (a : Scene) (n : ℕ) (sub : Subtask) : Type 0 where
   ByHandle : (h : ℕ) → subtask_at (instance_of n a.base) h a.base ≡ Some sub → HasSubtask a n sub
   ByOp : subtask_under_way (how_far_of n a.base) ≡ Some sub → HasSubtask a n sub
 
+-- a handle of the running thread's instance names it
+abbrev pub IsNamed : Scene → Subtask → Type 0
+IsNamed a sub = (n : ℕ) × ((h : ℕ) × (IsRunner a n × (subtask_at (instance_of n a.base) h a.base ≡ Some sub)))
+
 -- this step has made the call, with its thread, or the work
 abbrev pub IsNew : Scene → Subtask → Core → Type 0
 IsNew a (subtask.Guest k) s = (k ≡ next_thread a.base) × ((s.made.threads ≡ k) × (is_explicit k s ≡ false))
@@ -339,7 +343,7 @@ MayFinish a i c s = IsPolled a i s × ((a.label ≡ label.Loop (loop_label.Futur
 -- Why an abort is asked for.
 pub data MayAbort (a : Scene) (i : ℕ) : Type 0 where
   -- a handle of the running thread's instance names the work
-  AbortsOwn : (n h : ℕ) → IsRunner a n → subtask_at (instance_of n a.base) h a.base ≡ Some (subtask.Host i) → MayAbort a i
+  AbortsOwn : IsNamed a (subtask.Host i) → MayAbort a i
   -- main names it
   ScriptAborts : (p : MainPlace) (k : ℕ) → a.main ≡ Scripted p → i ≡ spawned_at p k → MayAbort a i
   ProgramAborts : a.main ≡ Unscripted → is_spawn i a.base ≡ true → MayAbort a i

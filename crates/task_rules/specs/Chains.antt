@@ -19,7 +19,7 @@ use Rattle.task_machine.specs.declared.label.Label.{Label}
 use Rattle.task_machine.specs.declared.outcome.Outcome.{Outcome}
 use Rattle.task_machine.specs.declared.records.Place.{Place}
 use Rattle.task_machine.specs.declared.records.Turn.{Turn}
-use Rattle.task_rules.specs.Allowed.{Allowed, IsRunner, MayShift, SaysEnd, is_exit, IsOwn, IsPolled}
+use Rattle.task_rules.specs.Allowed.{Allowed, IsRunner, MayShift, SaysEnd, is_exit, IsOwn, IsPolled, IsNamed}
 use Rattle.task_rules.specs.Laws.{is_free}
 use Rattle.task_rules.specs.Once.{begun_holder}
 use Rattle.task_rules.specs.Outcome.{outcome_of_label}
@@ -70,8 +70,8 @@ pub data EndsCall (a : Scene) (k : ℕ) : Type 0 where
   -- that of the running thread, which has none
   EndsOwn : (n : ℕ) → IsRunner a n → k ≡ task_of n a.base → has_ended k a.base ≡ false → EndsCall a k
   EndsByExit : ExitsCall a k → EndsCall a k
-  -- a subtask of the running thread, which has none
-  EndsSubtask : IsOwn a (subtask.Guest k) → has_ended k a.base ≡ false → EndsCall a k
+  -- a subtask that a handle names, which has none
+  EndsSubtask : IsNamed a (subtask.Guest k) → has_ended k a.base ≡ false → EndsCall a k
 
 -- the work, which is the next one, is made, but not kept
 abbrev pub IsReadyAtOnce : Scene → Core → ℕ → Type 0
@@ -100,7 +100,8 @@ pub data HandsOut (a : Scene) (t : Core) : Subtask → Status → Type 0 where
   WritesToo : (k : ℕ) (e : Status) → SaysEnd a k e → (is_direct (goal_of k a.base) ≡ true) ⊎ (e ≡ status.StartCancelled) →
       HandsOut a t (subtask.Guest k) e
   -- a host is ready at its first poll
-  HandsAtOnce : (i : ℕ) → IsReadyAtOnce a t i → HandsOut a t (subtask.Host i) status.Returned
+  HandsAtOnce : (i : ℕ) → IsReadyAtOnce a t i →
+      written_by (component_of a) a.base a.label t ≡ Some (end_for status.Returned (subtask.Host i)) → HandsOut a t (subtask.Host i) status.Returned
   -- the sync call of a host is answered
   Answers : (n i : ℕ) → IsRunner a n → how_far_of n a.base ≡ how_far.Calls (subtask.Host i) → get t.works i ≡ None →
       HandsOut a t (subtask.Host i) status.Returned
