@@ -1,5 +1,5 @@
 -- What a step owes of the end of a host work.
-use Rattle.task_laws.proofs.CallEnds.{hands_at}
+use Rattle.task_laws.proofs.SaidEnds.{hands_at, said_at, written_at}
 use Rattle.task_machine.specs.declared.records.WorkCaller.{WorkCaller}
 use Rattle.task_machine.specs.declared.records.Stage.{Stage}
 use Rattle.task_machine.specs.declared.records.Subtask.{Subtask}
@@ -96,7 +96,7 @@ course_over (course.Goes host) n h = no_way h
 course_over (course.Value v) n h = refl
 course_over course.NoValue n h = refl
 
-and_not_same : (b : Bool) (n : ℕ) → (b && not (n == n)) ≡ false
+pub and_not_same : (b : Bool) (n : ℕ) → (b && not (n == n)) ≡ false
 and_not_same true n = ap (λ c. not c) (same_number n)
 and_not_same false n = refl
 
@@ -107,25 +107,11 @@ code_is i s = go (get s.works i)
     go None = refl
     go (Some w) = refl
 
-either : (a b c : Bool) → (a || (b || c)) ≡ true → (a ≡ true) ⊎ ((b ≡ true) ⊎ (c ≡ true))
+pub either : (a b c : Bool) → (a || (b || c)) ≡ true → (a ≡ true) ⊎ ((b ≡ true) ⊎ (c ≡ true))
 either true b c h = inl refl
 either false true c h = inr (inl refl)
 either false false true h = inr (inr refl)
 either false false false h = no_way h
-
--- the label reads no marks
-pub said_at : (c : Component) (s : Core) (q : Queues) (t : Core) (l : Label) (o : Option SubtaskEnd) → written_by c (record s { queues = q }) l t ≡ o → written_by c s l t ≡ o
-unfolding op_of script_of
-said_at c s q t (label.Task m) o h = task m h
-  where
-    task : (m : TaskLabel) → written_by_task (record s { queues = q }) m ≡ o → written_by_task s m ≡ o
-    task m f = f
-said_at c s q t (label.Call m) o h = call m h
-  where
-    call : (m : CallLabel) → written_by_call c (record s { queues = q }) m ≡ o → written_by_call c s m ≡ o
-    call m f = f
-said_at c s q t (label.Loop m) o h = h
-said_at c s q t l o h = h
 
 ended_awaits : (x : Stage) → is_stage_ended x ≡ true → awaits false x ≡ true → ⊥
 ended_awaits stage.Ended e h = no_way h
@@ -145,19 +131,6 @@ sync_due (Some x) f b c h k = refl
 sync_due None true b c h k = refl
 sync_due None false true c h k = k
 sync_due None false false c h k = no_way h
-
-pub written_at : (c : Component) (s : Core) (q : Queues) (t : Core) (l : Label) (o : Option SubtaskEnd) → written_by c s l t ≡ o → written_by c (record s { queues = q }) l t ≡ o
-unfolding op_of script_of
-written_at c s q t (label.Task m) o h = task m h
-  where
-    task : (m : TaskLabel) → written_by_task s m ≡ o → written_by_task (record s { queues = q }) m ≡ o
-    task m f = f
-written_at c s q t (label.Call m) o h = call m h
-  where
-    call : (m : CallLabel) → written_by_call c s m ≡ o → written_by_call c (record s { queues = q }) m ≡ o
-    call m f = f
-written_at c s q t (label.Loop m) o h = h
-written_at c s q t l o h = h
 
 value_returns : (o : Option ℕ) → is_some o ≡ true → status.Returned ≡ host_status o
 value_returns None h = no_way h

@@ -1,7 +1,6 @@
 pub mod Basics
 pub mod EachLemmas
 pub mod ReachLemmas
-pub mod HostWorks
 pub mod SetHandles
 pub mod CameLemmas
 pub mod StrandLemmas
@@ -18,7 +17,8 @@ pub mod CallsSteps
 pub mod OneHolder
 pub mod PolledWorks
 pub mod Works
-pub mod WrittenLemmas
+pub mod SaidEnds
+pub mod CallEnds
 pub mod OnceLemmas
 pub mod HostEnds
-pub mod CallEnds
+pub mod GuestEnds
