@@ -314,7 +314,7 @@ module _ (a : Scene) (codes : CodesInCallbacks (component_of a)) (h : CallsHold 
         go (may.ReturnsNow n r i u l is) = (unended u, not_withdrawal e call_end.Returned refl is)
         go (may.GivesUp n r i u d is) = (unended u, not_withdrawal e call_end.ReturnCancelled refl is)
         go (may.Exits n r x i f l same is) = (exits_unended n k c i f l (sym same ∙ at), not_withdrawal e call_end.Returned refl is)
-        go (may.IsWithdrawn w none is) = (unended w.1.1.1.1, λ y. ap (λ (o : Option Call). option_map_or (λ (z : Call). z.started) o false) (sym at) ∙ w.1.1.1.0)
+        go (may.IsWithdrawn w none is) = (unended w.1.1.1.1.0, λ y. ap (λ (o : Option Call). option_map_or (λ (z : Call). z.started) o false) (sym at) ∙ w.1.1.1.0)
 
     pub goes_of : (k : ℕ) (c d : Call) → get s.calls k ≡ Some c → Grows a s k c d → Goes c d
     goes_of k c d at (Keeps e) = goes_by c d (basis c) e refl (λ x y. y, (λ y. y, (le_refl _, λ y z. z)))
@@ -393,7 +393,7 @@ module _ (a : Scene) (codes : CodesInCallbacks (component_of a)) (h : CallsHold 
     yield_delivers n w (may.FindsEvent x l e i is) d = code_delivers n e
 
     move_delivers : (n : ℕ) (p : Place) → MayMove a n p s → is_delivered p ≡ true → IsCallback n s
-    move_delivers n p (may.Runs r g is) d = no_way (sym (ap is_delivered is) ∙ d)
+    move_delivers n p (may.Runs r g b is) d = no_way (sym (ap is_delivered is) ∙ d)
     move_delivers n p (may.Holds w l was is) d = callback_since n (ready_delivered n w was (sym (ap is_delivered is) ∙ d))
     move_delivers n p (may.WaitsAgain x l was is) d = callback_since n (ready_delivered n _ was refl)
     move_delivers n p (may.AwaitsEvent x l e i is) d = code_delivers n e

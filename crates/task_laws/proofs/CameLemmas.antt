@@ -191,7 +191,7 @@ after_set k n r s P stays comes = subst P (sym (set_place_is k n r s)) (go (k ==
 le_of_eq : {x y : ℕ} → x ≡ y → x ≤ y
 le_of_eq e = omega (arith, e)
 
-read_same : (n : ℕ) (f : Thread → Thread) → ((t : Thread) → (f t).place ≡ t.place) → (k : ℕ) (s : Core) → place_of k (on_thread n f s) ≡ place_of k s
+pub read_same : (n : ℕ) (f : Thread → Thread) → ((t : Thread) → (f t).place ≡ t.place) → (k : ℕ) (s : Core) → place_of k (on_thread n f s) ≡ place_of k s
 unfolding on_thread
 read_same n f same k s = change-field (λ (t : Thread). t.place) n f same s.threads k
 
@@ -227,7 +227,9 @@ module _ {a : Scene} where
   came_by : (p : Placing) (s : Core) → Allowed a (Places p) s → (k : ℕ) → Came a s s.made.threads k (place_of k s) (place_of k (after_placing p s))
   came_by (Pop m) s ok k = Shifts (Stays (popped_same k m s))
   came_by (Put m n w) s (inl ok) k = Shifts (put_shifted m n w s (inr (inl ok)) k)
-  came_by (Put m n w) s (inr ok) k = Shifts (put_shifted m n w s (inr (inr ok)) k)
+  came_by (Put mark.Switch n w) s (inr ok) k = absurd ok
+  came_by (Put mark.High n w) s (inr ok) k = Shifts (put_shifted mark.High n w s (inr (inr ok)) k)
+  came_by (Put mark.Low n w) s (inr ok) k = Shifts (put_shifted mark.Low n w s (inr (inr ok)) k)
   came_by (Promote n) s ok k = Shifts (promoted_shifted (MayStand a s) (λ k. inl refl) n s k)
   came_by (Stop f) s ok k = Shifts (stopped_shifted (MayStand a s) (λ k. inl refl) f s k)
   came_by (GoBehind f n) s ok k = Shifts (behind_shifted (MayStand a s) f n s k)

@@ -35,7 +35,7 @@ no_place_under m o e f = absurd (no_both (ap under_in (sym e ∙ f)))
 
 -- a place that the running thread comes to isn't under another
 comes_not_under : (a : Scene) (k : ℕ) (q : Place) (s : Core) → MayMove a k q s → under_in (Some q) ≡ None
-comes_not_under a k q s (Runs h g e) = ap (λ (p : Place). under_in (Some p)) e
+comes_not_under a k q s (Runs h g b e) = ap (λ (p : Place). under_in (Some p)) e
 comes_not_under a k q s (Holds w h g e) = ap (λ (p : Place). under_in (Some p)) e
 comes_not_under a k q s (WaitsAgain x h g e) = ap (λ (p : Place). under_in (Some p)) e
 comes_not_under a k q s (AwaitsEvent x h g i e) = ap (λ (p : Place). under_in (Some p)) e

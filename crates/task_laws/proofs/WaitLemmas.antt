@@ -225,7 +225,7 @@ module _ (a : Scene) (known : KnownHome a) where
     no_set n x p r e none h = none_some (sym (ap set_of_place e ∙ none) ∙ h)
 
     move_home : (n x : ℕ) (p : Place) → MayMove a n p s → set_of_place p ≡ Some x → Home n x
-    move_home n x p (Runs r l e) h = no_set n x p place.Running e refl h
+    move_home n x p (Runs r l g e) h = no_set n x p place.Running e refl h
     move_home n x p (Holds w l r e) h = (q.homes (instance_of n a.base) x (known.waits.by_place n x (ap (λ o. option_and_then set_of_place o) r.1 ∙ (sym (ap set_of_place e) ∙ h))), known.there n l.0)
     move_home n x p (WaitsAgain y l r e) h = from_set n x l.0 (subst (HasSet a n) (same_some (sym (ap set_of_place e) ∙ h)) (ByDelivery r))
     move_home n x p (AwaitsEvent y l g r e) h = from_set n x l.0 (subst (HasSet a n) (same_some (sym (ap set_of_place e) ∙ h)) r)

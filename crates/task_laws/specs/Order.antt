@@ -22,7 +22,7 @@ use Rattle.task_machine.specs.declared.records.Thread.{Thread}
 use Rattle.task_machine.specs.declared.records.Turn.TheVariants as turn
 use Rattle.task_machine.specs.declared.records.Why.{Why}
 use Rattle.task_machine.specs.declared.records.Why.TheVariants as why
-use Rattle.task_rules.specs.Places.{Placed, times}
+use Rattle.task_rules.specs.Places.{Placed, is_fresh, times}
 use Rattle.task_rules.specs.Run.{opening}
 use Rattle.task_rules.specs.Scripts.{export_kind}
 use Rattle.task_rules.specs.Stalled.{Setting}
@@ -152,18 +152,6 @@ is_delivered _ = false
 abbrev pub DeliveredByCallback : Core → Type 0
 DeliveredByCallback s = (n : ℕ) (t : Thread) → get s.threads n ≡ Some t → is_delivered t.place ≡ true →
     is_callback (kind_of t.call s) ≡ true
-
-abbrev pub is_start : Why → Bool
-is_start why.Start = true
-is_start _ = false
-
--- the thread is gone, or waits for its start
-abbrev pub is_fresh : Option Place → Bool
-is_fresh None = true
-is_fresh (Some place.New) = true
-is_fresh (Some (place.Ready m w)) = is_start w
-is_fresh (Some (place.Held w)) = is_start w
-is_fresh _ = false
 
 -- the first thread of a call whose start hasn't run waits for it, or is gone
 abbrev pub StartsAwaited : Core → Type 0

@@ -1,10 +1,11 @@
 -- A state in order: each opening state is, and each step leads from one to one.
+use Rattle.task_machine.specs.declared.records.Subtask.TheVariants as subtask
 use Rattle.task_laws.proofs.Joins.{joins_word, opening_joins}
 use Rattle.task_laws.proofs.Subtasks.{Traced, opening_named, traced_word}
 use Rattle.task_machine.specs.declared.component.Callee.{Callee}
-use Rattle.task_rules.specs.Scenes.{base_at, scene_of}
+use Rattle.task_rules.specs.Scenes.{base_at, scene_of, Scene}
 use Rattle.task_rules.specs.Chains.{Walked}
-use Rattle.task_rules.specs.Allowed.{IsRunner}
+use Rattle.task_rules.specs.Allowed.{IsRunner, HasSubtask, ByHandle, ByOp, is_begun}
 use Rattle.task_rules.proofs.WalkSteps.{step_walks}
 use Rattle.task_rules.proofs.ChainLemmas.{along}
 use Rattle.task_laws.proofs.WaitLemmas.{Homed, KnownHome, homed_word}
@@ -12,16 +13,16 @@ use Rattle.task_laws.proofs.StrandLemmas.{Layered, RunnerGiven, layered_word}
 use Rattle.task_laws.proofs.SceneLemmas.{base_is, runner_there}
 use Rattle.task_laws.proofs.HousedLemmas.{RunnerHoused, housed_word}
 use Rattle.task_laws.proofs.CountLemmas.{few_word}
-use Rattle.std.proofs.Common.{T, ap, arith, refl, subst, sym, ◌∙◌, inl}
+use Rattle.std.proofs.Common.{ap, arith, refl, subst, sym, ◌∙◌, inl, inr}
 use Rattle.std.specs.Option.{option_map_or}
-use Rattle.std.specs.Prelude.{Bool, List, None, Option, Some, [], false, if◌then◌else◌, is_none, is_some, not, option_and_then, option_map, true, unwrap_or, ℕ, ◌∷◌, ◌≡◌, ◌≤◌, ◌+◌}
+use Rattle.std.specs.Prelude.{Bool, List, None, Option, Some, [], false, if◌then◌else◌, is_none, is_some, option_and_then, option_map, true, unwrap_or, ℕ, ◌∷◌, ◌≡◌, ◌≤◌, ◌+◌, ◌⊎◌}
 use Rattle.task_laws.proofs.SetHandles.{IsTidy, opening_tidy, tidy_word}
 use Rattle.task_laws.proofs.CallsLaw.{CallsHold}
 use Rattle.task_laws.proofs.CallsSteps.{opening_holds, step_goes}
-use Rattle.task_laws.specs.Order.{CallsNamed, InOrder, InPlace, Numbered, OpeningInOrder, SetsNamed, StartsAwaited, StepInOrder, WasCall, is_fresh, CallsThere, IsOf, MakesFew, Strands, WaitsAtHome, set_of_op, set_of_place, StepsMakeFew, JoinsNamed}
+use Rattle.task_laws.specs.Order.{CallsNamed, InOrder, InPlace, Numbered, OpeningInOrder, SetsNamed, StartsAwaited, StepInOrder, WasCall, CallsThere, IsOf, MakesFew, Strands, WaitsAtHome, set_of_op, set_of_place, StepsMakeFew, JoinsNamed, ThreadNumbered}
 use Rattle.task_machine.specs.Core.{Core, Main, State, fresh}
 use Rattle.task_machine.specs.Maps.{empty, get, get-empty}
-use Rattle.task_machine.specs.Read.{place_of, set_at, instance_of, no_callee, call_instance, task_of}
+use Rattle.task_machine.specs.Read.{place_of, set_at, instance_of, no_callee, call_instance, task_of, was_started, is_explicit}
 use Rattle.task_machine.specs.declared.label.Label.{Label}
 use Rattle.task_machine.specs.declared.records.Call.{Call}
 use Rattle.task_machine.specs.declared.records.HowFar.TheVariants as how_far
@@ -29,23 +30,15 @@ use Rattle.task_machine.specs.declared.records.Place.{Place}
 use Rattle.task_machine.specs.declared.records.Thread.{Thread}
 use Rattle.task_machine.specs.declared.records.Turn.{Turn}
 use Rattle.task_machine.specs.declared.records.Turn.TheVariants as turn
-use Rattle.task_places.proofs.FreshMoves.{fresher_same}
-use Rattle.task_places.proofs.FreshStand.{is_starting}
-use Rattle.task_places.proofs.PlaceSteps.{AllOwned, Lands, is_turn_of, turn_step_lands}
-use Rattle.task_places.proofs.PlaceWords.{unused}
-use Rattle.task_places.proofs.TakeRows.{begun_later}
-use Rattle.task_places.proofs.WithdrawRows.{Withdrawable}
+use Rattle.task_places.proofs.PlaceLaw.{Arrives, Begun, no_way}
+use Rattle.task_places.proofs.PlaceSteps.{Withdrawable, in_place, step_arrives}
 use Rattle.task_places.specs.Kept.{ReachedInOrder, ReachedInPlace, StepsKeepPlaces}
 use Rattle.task_rules.proofs.LawLemmas.{steady}
 use Rattle.task_rules.proofs.StandLemmas.{zero_one}
 use Rattle.task_rules.specs.Laws.{Steady, LaterBy, LaterCall, SameThread}
-use Rattle.task_rules.specs.Places.{Placed, is_at_high, is_at_low, is_at_switch, is_behind_of, says, times, is_there}
+use Rattle.task_rules.specs.Places.{Placed, is_at_high, is_at_low, is_at_switch, is_behind_of, says, times, is_there, is_fresh}
 use Rattle.task_rules.specs.Run.{Run, opening}
 use Rattle.task_rules.specs.Stalled.{Setting}
-use Rattle.task_rules.specs.Step.{Step}
-
-no_way : {A : Type 0} → false ≡ true → A
-no_way h = absurd (subst T (sym h) tt)
 
 -- ---- The facts of a core, and those that the walks keep
 
@@ -65,84 +58,35 @@ tidy s h = record { numbers = h.number; homes = h.home; apart = λ i a b x e f. 
 
 -- ---- Starts
 
-starting_call : (o : Option Call) → option_map_or (λ (c : Call). not c.started) o false ≡ true → (c : Call) × ((o ≡ Some c) × (c.started ≡ false))
-starting_call None h = no_way h
-starting_call (Some c) h = (c, (refl, unstarted c.started h))
+-- where a call's start hasn't run, its first thread waits for it, or is gone
+call_awaited : (s : Core) → Numbered s → CallsThere s → StartsAwaited s → (k : ℕ) → WasCall s k → was_started k s ≡ false → is_fresh (place_of k s) ≡ true
+call_awaited s numbered there starts k first unstarted = by_call (get s.calls k) refl
   where
-    unstarted : (b : Bool) → not b ≡ true → b ≡ false
-    unstarted true g = no_way g
-    unstarted false g = refl
-
-is_starting_of : (k : ℕ) (s : Core) (c : Call) → get s.calls k ≡ Some c → c.started ≡ false → is_starting k s ≡ true
-is_starting_of k s c e h = ap (λ (o : Option Call). option_map_or (λ (c : Call). not c.started) o false) e ∙ ap (λ b. not b) h
-
-awaited : (s : Core) → StartsAwaited s → (k : ℕ) → is_starting k s ≡ true → is_fresh (place_of k s) ≡ true
-awaited s h k e = let c = starting_call (get s.calls k) e in h k c.0 c.1.0 c.1.1
-
--- a thread whose call is gone is gone too, or a task made it beside its first one
-withdrawable : (s : Core) → Numbered s → CallsThere s → CallsNamed s → StartsAwaited s → Withdrawable s
-withdrawable s numbered there named waits i h k at unstarted = by_call (get s.calls k) refl
-  where
-    first : WasCall s k
-    first = named.by_handle i h k at
-
     no_thread : (o : Option Thread) → get s.threads k ≡ o → get s.calls k ≡ None → is_fresh (option_map (λ (t : Thread). t.place) o) ≡ true
     no_thread None e gone = refl
     no_thread (Some t) e gone =
         let implicit : t.explicit ≡ false = sym (ap (λ (o : Option Thread). option_map_or (λ (t : Thread). t.explicit) o false) e) ∙ first.first in
-        let q = numbered.threads k t e in
-        no_way (ap (λ (o : Option Call). is_some o) (sym gone) ∙ there k k (ap (λ (o : Option Thread). option_map (λ (r : Thread). r.call) o) e ∙ ap (λ (j : ℕ). Some j) (q.own implicit)))
+        no_way (ap (λ (o : Option Call). is_some o) (sym gone) ∙ there k k (ap (λ (o : Option Thread). option_map (λ (r : Thread). r.call) o) e ∙ ap (λ (j : ℕ). Some j) ((numbered.threads k t e).own implicit)))
 
     by_call : (o : Option Call) → get s.calls k ≡ o → is_fresh (place_of k s) ≡ true
     by_call None e = no_thread (get s.threads k) refl e
-    by_call (Some c) e = waits k c e (sym (ap (λ (o : Option Call). option_map_or (λ (c : Call). c.started) o false) e) ∙ unstarted)
+    by_call (Some c) e = starts k c e (sym (ap (λ (o : Option Call). option_map_or (λ (c : Call). c.started) o false) e) ∙ unstarted)
 
--- ---- A step
-
-thread_there : (n : ℕ) (s : Core) (p : Place) → place_of n s ≡ Some p → (t : Thread) × (get s.threads n ≡ Some t)
-thread_there n s p h = go (get s.threads n) refl h
+-- who waits for its start after a step did so before it
+was_awaited : (s t : Core) → Placed s → Steady s t → StartsAwaited s → (k : ℕ) (c : Call) → get t.calls k ≡ Some c → c.started ≡ false → is_fresh (place_of k s) ≡ true
+was_awaited s t placed steady starts k c at e = by_place (place_of k s) refl
   where
-    go : (o : Option Thread) → get s.threads n ≡ o → option_map (λ (t : Thread). t.place) o ≡ Some p → (t : Thread) × (get s.threads n ≡ Some t)
-    go None e at = no_way (ap (λ o. is_some o) at)
-    go (Some t) e at = (t, e)
-
-no_call : (o : Option Call) → o ≡ None → option_map_or (λ (c : Call). not c.started) o false ≡ false
-no_call o e = ap (λ (o : Option Call). option_map_or (λ (c : Call). not c.started) o false) e
-
-owned : (s : Core) → Numbered s → AllOwned s
-owned s numbered n p at =
-    let there = thread_there n s p at in
-    let h = numbered.threads n there.0 there.1 in
-    record {
-      number = h.number;
-      implicit = λ e. ap (λ (o : Option Thread). option_map_or (λ (t : Thread). t.call) o 0) there.1 ∙ h.own (sym (ap (λ (o : Option Thread). option_map_or (λ (t : Thread). t.explicit) o false) there.1) ∙ e);
-      explicit = λ e. no_call (get s.calls n) (none_is (get s.calls n) (h.nameless (sym (ap (λ (o : Option Thread). option_map_or (λ (t : Thread). t.explicit) o false) there.1) ∙ e)));
-    }
-
-lands : (x : Setting) (s : State) (l : Label) (t : State) → InOrder x.component s → Step x s l t → Lands s.core t.core t.turn
-unfolding Step
-lands x s l t h step = turn_step_lands x s (unused s.core h.in_place.placed) (owned s.core h.numbered) (withdrawable s.core h.numbered h.calls_there h.calls_named h.starts) (record { each = h.in_place.placed; fresh = fresher_same s.core }) s.turn h.in_place.runs l t step
-
-waited : (s t : Core) → Placed s → Steady s t → StartsAwaited s → (k : ℕ) → is_starting k t ≡ true → is_fresh (place_of k s) ≡ true
-waited s t placed u waits k e = by_place (place_of k s) refl
-  where
-    by_start : k ≤ s.made.threads → (b : Bool) → is_starting k s ≡ b → is_fresh (place_of k s) ≡ true
-    by_start below true f = awaited s waits k f
-    by_start below false f = no_way (sym (begun_later k s t u below f) ∙ e)
+    by_call : (o : Option Call) → get s.calls k ≡ o → LaterBy LaterCall o (Some c) → is_fresh (place_of k s) ≡ true
+    by_call None f later = absurd later
+    by_call (Some d) f later = starts k d f (unstarted d.started refl)
+      where
+        unstarted : (b : Bool) → d.started ≡ b → d.started ≡ false
+        unstarted false g = g
+        unstarted true g = no_way (sym e ∙ later.started g)
 
     by_place : (o : Option Place) → place_of k s ≡ o → is_fresh (place_of k s) ≡ true
     by_place None f = ap is_fresh f
-    by_place (Some p) f = by_start ((placed k).number (ap (λ o. is_some o) f)) (is_starting k s) refl
-
-starts_kept : (s t : Core) (u : Turn) → Lands s t u → ((k : ℕ) → is_starting k t ≡ true → is_fresh (place_of k s) ≡ true) → StartsAwaited t
-starts_kept s t u h waits k c at e = by_turn (is_turn_of k u) refl
-  where
-    starting : is_starting k t ≡ true
-    starting = is_starting_of k t c at e
-
-    by_turn : (b : Bool) → is_turn_of k u ≡ b → is_fresh (place_of k t) ≡ true
-    by_turn true f = no_way (sym (h.begun k f (waits k starting)) ∙ starting)
-    by_turn false f = h.fresh k f (waits k starting)
+    by_place (Some p) f = by_call (get s.calls k) refl (subst (λ (o : Option Call). LaterBy LaterCall (get s.calls k) o) at (steady.calls k ((placed k).number (ap (λ o. is_some o) f))))
 
 -- ---- Who is there
 
@@ -236,6 +180,49 @@ module _ (x : Setting) (s : State) (l : Label) (t : State) (h : InOrder x.compon
       was : {k : ℕ} → WasCall s.core k → WasCall (record s.core { queues = (base_at s.turn s.core).queues }) k
       was q = record { number = q.number; first = q.first }
 
+  -- a call's start that the running thread may withdraw
+  withdrawable : Withdrawable (scene_of x s l w.next)
+  withdrawable m k is has unstarted = at_base (λ (c : Core). (j : ℕ) → WasCall c j → was_started j c ≡ false → is_fresh (place_of j c) ≡ true) (λ j q u. call_awaited s.core h.numbered h.calls_there h.starts j (record { number = q.number; first = q.first }) u) k (named has) unstarted
+    where
+      renumbered : {j : ℕ} → WasCall s.core j → WasCall (record s.core { queues = (base_at s.turn s.core).queues }) j
+      renumbered q = record { number = q.number; first = q.first }
+
+      known : CallsNamed (base_at s.turn s.core)
+      known = at_base CallsNamed (record { by_handle = λ i g j e. renumbered (h.calls_named.by_handle i g j e); by_op = λ n j e. renumbered (h.calls_named.by_op n j e) })
+
+      named : HasSubtask (scene_of x s l w.next) m (subtask.Guest k) → WasCall (base_at s.turn s.core) k
+      named (ByHandle g e) = known.by_handle _ g k e
+      named (ByOp e) = known.by_op m k e
+
+  pub arrives : Arrives (scene_of x s l w.next) t.core
+  arrives = step_arrives x s l t w h.in_place withdrawable
+
+  pub starts_kept : Steady s.core t.core → StartsAwaited t.core
+  starts_kept steady k c at e = by (arrives.fresh k (at_base (λ (b : Core). is_fresh (place_of k b) ≡ true) (was_awaited s.core t.core h.in_place.placed steady h.starts k c at e)))
+    where
+      a : Scene
+      a = scene_of x s l w.next
+
+      still_unbegun : is_begun k t.core ≡ true → {A : Type 0} → A
+      still_unbegun b = no_way (sym (ap (λ (o : Option Call). option_map_or (λ (d : Call). d.started) o true) at ∙ e) ∙ b)
+
+      -- a thread that is there, and was no call's first
+      by_thread : (o : Option Thread) → get s.core.threads k ≡ o → is_there k s.core ≡ true → (is_explicit k s.core ≡ false → is_begun (task_of k s.core) t.core ≡ true) → is_fresh (place_of k t.core) ≡ true
+      by_thread None f there b = no_way (sym (ap (λ (o : Option Thread). is_some (option_map (λ (r : Thread). r.place) o)) f) ∙ there)
+      by_thread (Some r) f there b = by_kind r.explicit refl
+        where
+          n : ThreadNumbered s.core k r
+          n = h.numbered.threads k r f
+
+          by_kind : (i : Bool) → r.explicit ≡ i → is_fresh (place_of k t.core) ≡ true
+          by_kind false i = still_unbegun (subst (λ (j : ℕ). is_begun j t.core ≡ true) (ap (λ (o : Option Thread). option_map_or (λ (u : Thread). u.call) o 0) f ∙ n.own i) (b (ap (λ (o : Option Thread). option_map_or (λ (u : Thread). u.explicit) o false) f ∙ i)))
+          by_kind true i = absurd (subst (λ (o : Option Call). LaterBy LaterCall o (Some c)) (none_is (get s.core.calls k) (n.nameless i)) (subst (λ (o : Option Call). LaterBy LaterCall (get s.core.calls k) o) at (steady.calls k n.number)))
+
+      by : (is_fresh (place_of k t.core) ≡ true) ⊎ Begun (scene_of x s l w.next) k t.core → is_fresh (place_of k t.core) ≡ true
+      by (inl f) = f
+      by (inr (inr b)) = still_unbegun b
+      by (inr (inl b)) = let q = from_base (λ (u : Core). (is_there k u ≡ true) × (is_explicit k u ≡ false → is_begun (task_of k u) t.core ≡ true)) b in by_thread (get s.core.threads k) refl q.0 q.1
+
   -- handles of sets, and the joins to them
   pub joined_kept : IsTidy t.core × JoinsNamed t.core
   joined_kept = along (λ (c : Core). IsTidy c × JoinsNamed c) (λ v m ok q. (tidy_word (scene_of x s l w.next) v m ok q.0, joins_word (scene_of x s l w.next) m q.1 (sets_of m q.0) v ok)) (tidy s.core h.sets_named, h.joins_named) w.walk
@@ -274,11 +261,10 @@ module _ (x : Setting) (s : State) (l : Label) (t : State) (h : InOrder x.compon
 pub step_in_order : StepInOrder
 step_in_order x s l t h step =
     let w = step_walks x s l t step in
-    let k = lands x s l t h step in
     let q : CallsHold x.component t.core = (step_goes x s l t h.codes (record { numbered = h.numbered; kinds = h.kinds; deliveries = h.deliveries }) step).0 in
     record {
       codes = h.codes;
-      in_place = record { placed = k.each; runs = k.runs };
+      in_place = in_place x s l t w (arrives x s l t h w);
       strands = strands_kept x s l t h w;
       numbered = q.numbered;
       calls_there = calls_kept x s l t h w;
@@ -288,7 +274,7 @@ step_in_order x s l t h step =
       joins_named = (joined_kept x s l t h w).1;
       kinds = q.kinds;
       deliveries = q.deliveries;
-      starts = starts_kept s.core t.core t.turn k (waited s.core t.core h.in_place.placed (steady x s l t step) h.starts);
+      starts = starts_kept x s l t h w (steady x s l t step);
     }
 
 -- ---- The first state

@@ -1,9 +1,10 @@
 -- Moves beside a thread that runs or is taken: they leave each other thread its place.
+use Rattle.task_machine.specs.declared.words.Mark.{Mark}
+use Rattle.task_rules.specs.Words.{put_at}
 use Rattle.std.proofs.Common.{◌∙◌, T, ap, ap₂, arith, cond, refl, subst, sym}
 use Rattle.std.specs.Option.{option_map_or}
-use Rattle.std.specs.Prelude.{Bool, List, None, Option, Some, [], false, if◌then◌else◌, is_some, option_and_then, option_map, true, unwrap_or, ℕ, ◌+◌, ◌==◌, ◌∷◌, ◌≡◌, ◌≤◌}
+use Rattle.std.specs.Prelude.{Bool, List, None, Option, Some, [], false, if◌then◌else◌, is_some, option_and_then, option_map, true, unwrap_or, ℕ, ◌+◌, ◌==◌, ◌∷◌, ◌≡◌, ◌≤◌, not, is_none, ◌&&◌}
 use Rattle.task_machine.specs.declared.records.Place.{Place}
-use Rattle.task_machine.specs.declared.records.Subtask.{Subtask}
 use Rattle.task_machine.specs.declared.records.Thread.{Thread}
 use Rattle.task_machine.specs.declared.records.Why.{Why}
 use Rattle.task_machine.specs.declared.records.Delivery.TheVariants as delivery
@@ -12,49 +13,44 @@ use Rattle.task_machine.specs.declared.records.Place.TheVariants as place
 use Rattle.task_machine.specs.declared.records.Why.TheVariants as why
 use Rattle.task_machine.proofs.MapLemmas.{get-remove_other, get-remove_same}
 use Rattle.task_machine.specs.Core.{Core}
-use Rattle.task_machine.specs.Maps.{get, get-remove, numbers}
-use Rattle.task_machine.specs.Moves.{behind_one, held_why_of, is_callback_waiter, may_wake, put_high, put_low, put_switch, released, released_one, stopped, wake, waken_by}
-use Rattle.task_machine.specs.Read.{blocked_on, callers_of, held_why, is_at, is_blocked_on, is_waiting_on, place_of}
-use Rattle.task_machine.specs.Write.{remove_thread, set_place}
-use Rattle.task_rules.proofs.StandLemmas.{Loose, Stand, adds_all, by_number, eq_refl, free_loose, is_eq_of, loose_free, loose_gone, loosened, not_eq, put_high_adds, put_low_adds, set_place_adds}
-use Rattle.task_rules.proofs.StopLemmas.{behind_adds, find_passes, given_there, put_high_stand, put_low_stand, put_switch_stand, stopped_stand}
+use Rattle.task_machine.specs.Maps.{get, get-remove}
+use Rattle.task_machine.specs.Moves.{held_why_of, is_callback_waiter, may_wake, put_high, put_low, put_switch, released, released_one, stopped, wake, waken_by, displaced, why_of}
+use Rattle.task_machine.specs.Read.{callers_of, held_why, is_waiting_on, place_of}
+use Rattle.task_machine.specs.Write.{remove_thread, set_place, push_high, push_low, push_high_first, set_switch}
+use Rattle.task_rules.proofs.StandLemmas.{Loose, Stand, adds_all, by_number, eq_refl, free_loose, is_eq_of, loose_free, loose_gone, loosened, not_eq, set_place_adds, none_there, zero_one, set_place_is, set_place_there}
+use Rattle.task_rules.proofs.StopLemmas.{put_high_stand, put_low_stand, put_switch_stand, stopped_stand}
 use Rattle.task_rules.specs.Laws.{ReleaseKeepsPlaces, RemovalKeepsPlaces, StopKeepsPlaces, WakeKeepsPlaces, is_free}
-use Rattle.task_rules.specs.Places.{HasPlace, is_at_high, is_at_low, is_at_switch, is_behind_of, is_there, one_if, says, times}
+use Rattle.task_rules.specs.Places.{HasPlace, is_at_high, is_at_low, is_at_switch, is_behind_of, is_there, one_if, says, times, is_fresh, is_for_start}
 
 -- ---- Where other threads are
 
--- the thread runs, or its entry is being taken
-abbrev pub is_busy : Place → Bool
-is_busy place.Running = true
-is_busy (place.Ready m w) = true
+-- there is no such thread, or it runs, is under another, or its entry is being taken
+abbrev pub is_busy : Option Place → Bool
+is_busy None = true
+is_busy (Some place.Running) = true
+is_busy (Some (place.Ready m w)) = true
+is_busy (Some (place.Under m)) = true
 is_busy _ = false
 
--- the thread neither runs, nor has an entry, nor is behind another
+-- the thread neither runs nor is under another, nor has an entry, nor is behind another
 abbrev pub is_parked : Place → Bool
 is_parked place.Running = false
 is_parked (place.Ready m w) = false
+is_parked (place.Under m) = false
 is_parked (place.Behind f) = false
 is_parked _ = true
 
 parked_free : (p : Place) → is_parked p ≡ true → is_free p ≡ true
-parked_free place.Running h = refl
 parked_free (place.Ready m w) h = h
 parked_free (place.Behind f) h = h
 parked_free _ h = refl
 
-not_both : (p : Place) → is_parked p ≡ true → is_busy p ≡ true → ⊥
+not_both : (p : Place) → is_parked p ≡ true → is_busy (Some p) ≡ true → ⊥
 not_both place.Running h b = subst T (sym h) tt
 not_both (place.Ready m w) h b = subst T (sym h) tt
+not_both (place.Under m) h b = subst T (sym h) tt
 not_both (place.Behind f) h b = subst T (sym h) tt
-not_both place.New h b = subst T (sym b) tt
-not_both (place.Under c) h b = subst T (sym b) tt
-not_both (place.Waiting x c) h b = subst T (sym b) tt
-not_both (place.Blocked x) h b = subst T (sym b) tt
-not_both (place.Held x) h b = subst T (sym b) tt
-not_both place.Suspended h b = subst T (sym b) tt
-
-same_place : (p q : Place) → Some p ≡ Some q → p ≡ q
-same_place p q e = ap (λ o. unwrap_or o p) e
+not_both _ h b = subst T (sym b) tt
 
 at_place : (test : Place → Bool) (o : Option Place) → option_map_or test o false ≡ true → (p : Place) × (o ≡ Some p) × (test p ≡ true)
 at_place test None h = absurd (subst T (sym h) tt)
@@ -108,163 +104,176 @@ removed_placed k n s e h = record {
 
 -- ---- Moves beside a busy thread
 
-module _ (n : ℕ) (q : Place) (busy : is_busy q ≡ true) where
-  apart : (m : ℕ) (p : Place) (s : Core) → place_of m s ≡ Some p → is_parked p ≡ true → Stand n q [] s → times m (n ∷ []) ≡ 0
-  apart m p s is parked st = by_number m n (times m (n ∷ []) ≡ 0) (λ e. absurd (not_both p parked (subst (λ (r : Place). is_busy r ≡ true) (same_place q p (sym st.here ∙ (ap (λ (k : ℕ). place_of k s) (sym e) ∙ is))) busy))) (λ e. no_times e)
-    where
-      no_times : (m == n) ≡ false → times m (n ∷ []) ≡ 0
-      no_times e = ap (λ b. one_if b + 0) e
+set_there : (m : ℕ) (p : Place) (u : Core) → is_there m u ≡ true → place_of m (set_place m p u) ≡ Some p
+set_there m p u h = set_place_is m m p u ∙ go (m == m) (eq_refl m) (place_of m u) h
+  where
+    go : (b : Bool) → b ≡ true → (o : Option Place) → is_some o ≡ true → cond b (option_map (λ (q : Place). p) o) o ≡ Some p
+    go true e (Some q) g = refl
+    go true e None g = absurd (subst T (sym g) tt)
+    go false e o g = absurd (subst T (sym e) tt)
 
-  pub put_high_good : (m : ℕ) (w : Why) (p : Place) (s : Core) → place_of m s ≡ Some p → is_parked p ≡ true → Stand n q [] s → Stand n q [] (put_high m w s)
-  put_high_good m w p s is parked st = put_high_stand n q m [] w s refl (loosened n q m p [] s is (parked_free p parked) (apart m p s is parked st) st)
+displaced_there : (m : ℕ) (o : Option ℕ) (s : Core) → is_there m (displaced o s) ≡ is_there m s
+unfolding push_high_first
+displaced_there m None s = refl
+displaced_there m (Some j) s = set_place_there m j (place.Ready mark.High (why_of j s)) s
 
-  pub put_low_good : (m : ℕ) (w : Why) (p : Place) (s : Core) → place_of m s ≡ Some p → is_parked p ≡ true → Stand n q [] s → Stand n q [] (put_low m w s)
-  put_low_good m w p s is parked st = put_low_stand n q m [] w s refl (loosened n q m p [] s is (parked_free p parked) (apart m p s is parked st) st)
+-- who is put stands there
+pub put_place : (x : Mark) (m : ℕ) (w : Why) (s : Core) → is_there m s ≡ true → place_of m (put_at x m w s) ≡ Some (place.Ready x w)
+unfolding put_switch set_switch put_high push_high put_low push_low
+put_place mark.Switch m w s h = set_there m (place.Ready mark.Switch w) (displaced s.queues.switch s) (displaced_there m s.queues.switch s ∙ h)
+put_place mark.High m w s h = set_there m (place.Ready mark.High w) s h
+put_place mark.Low m w s h = set_there m (place.Ready mark.Low w) s h
 
-  pub put_switch_good : (m : ℕ) (w : Why) (p : Place) (s : Core) → place_of m s ≡ Some p → is_parked p ≡ true → Stand n q [] s → Stand n q [] (put_switch m w s)
-  put_switch_good m w p s is parked st = put_switch_stand n q m [] w s refl (loosened n q m p [] s is (parked_free p parked) (apart m p s is parked st) st)
+module _ {P : ℕ → Bool} (n : ℕ) (q : Option Place) where
+  apart : (m : ℕ) (p : Place) (s : Core) → is_busy q ≡ true → place_of m s ≡ Some p → is_parked p ≡ true → Stand P n q [] s → times m (n ∷ []) ≡ 0
+  apart m p s busy is parked st = by_number m n (times m (n ∷ []) ≡ 0) (λ e. absurd (not_both p parked (subst (λ (o : Option Place). is_busy o ≡ true) (sym st.here ∙ (ap (λ (k : ℕ). place_of k s) (sym e) ∙ is)) busy))) (λ e. ap (λ b. one_if b + 0) e)
 
-  -- ---- A release
+  put_loose : (x : Mark) (m : ℕ) (w : Why) (s : Core) → Stand P n q (m ∷ []) s → Stand P n q [] (put_at x m w s)
+  put_loose mark.Switch m w s st = put_switch_stand n q m [] w s refl st
+  put_loose mark.High m w s st = put_high_stand n q m [] w s refl st
+  put_loose mark.Low m w s st = put_low_stand n q m [] w s refl st
 
-  held_is : (p : Place) (w : Why) → held_why p ≡ Some w → is_parked p ≡ true
-  held_is (place.Held v) w h = refl
-  held_is place.New w h = refl
-  held_is (place.Under c) w h = refl
-  held_is (place.Waiting x c) w h = refl
-  held_is (place.Blocked x) w h = refl
-  held_is place.Suspended w h = refl
-  held_is place.Running w h = absurd (no_both h)
-    where
-      no_both : None ≡ Some w → ⊥
-      no_both e = cc
-  held_is (place.Ready m v) w h = absurd (no_both h)
-    where
-      no_both : None ≡ Some w → ⊥
-      no_both e = cc
-  held_is (place.Behind f) w h = absurd (no_both h)
-    where
-      no_both : None ≡ Some w → ⊥
-      no_both e = cc
+-- all in P but m
+abbrev pub others : (ℕ → Bool) → ℕ → ℕ → Bool
+others P m k = P k && not (k == m)
 
-  held_at : (o : Option Place) (w : Why) → option_and_then held_why o ≡ Some w → (p : Place) × (o ≡ Some p) × (is_parked p ≡ true)
-  held_at None w h = absurd (no_both h)
-    where
-      no_both : None ≡ Some w → ⊥
-      no_both e = cc
-  held_at (Some p) w h = (p, refl, held_is p w h)
+pub unwatched : (P : ℕ → Bool) (m : ℕ) → others P m m ≡ false
+unwatched P m = ap (λ b. P m && not b) (eq_refl m) ∙ and_false (P m)
+  where
+    and_false : (a : Bool) → (a && false) ≡ false
+    and_false true = refl
+    and_false false = refl
 
-  released_one_good : (m : ℕ) (o : Option Why) (s : Core) → held_why_of m s ≡ o → Stand n q [] s → Stand n q [] (released_one m o s)
-  released_one_good m None s is st = st
-  released_one_good m (Some w) s is st = let p = held_at (place_of m s) w is in put_high_good m w p.0 s p.1 p.2 st
+pub watched : (P : ℕ → Bool) (m k : ℕ) → others P m k ≡ true → P k ≡ true
+watched P m k h = first_of (P k) (not (k == m)) h
+  where
+    first_of : (a b : Bool) → (a && b) ≡ true → a ≡ true
+    first_of true b h = refl
+    first_of false b h = absurd (subst T (sym h) tt)
 
-  pub released_good : (ns : List ℕ) (s : Core) → Stand n q [] s → Stand n q [] (released ns s)
-  unfolding released
-  released_good [] s st = st
-  released_good (m ∷ ns) s st = released_good ns (released_one m (held_why_of m s) s) (released_one_good m (held_why_of m s) s refl st)
+-- a loose thread is put; one that waited for its start still does
+pub put_back : {P : ℕ → Bool} (n : ℕ) (q : Option Place) (x : Mark) (m : ℕ) (w : Why) (s : Core) → is_there m s ≡ true → (P m ≡ true → is_for_start w ≡ true) → Stand (others P m) n q (m ∷ []) s → Stand P n q [] (put_at x m w s)
+put_back {P = P} n q x m w s there starts st =
+    let u : Stand (others P m) n q [] (put_at x m w s) = put_loose n q x m w s st in
+    record {
+      here = u.here;
+      once = u.once;
+      loose = u.loose;
+      there = u.there;
+      placed = u.placed;
+      fresh = λ k h. (refl, by_number k m (is_fresh (place_of k (put_at x m w s)) ≡ true) (λ e. ap (λ (j : ℕ). is_fresh (place_of j (put_at x m w s))) e ∙ (ap is_fresh (put_place x m w s there) ∙ starts (ap P (sym e) ∙ h))) (λ e. (u.fresh k (ap₂ (λ (b c : Bool). b && not c) h e)).1));
+    }
 
-  -- ---- Publishing and waking
+-- a parked thread is put
+pub put_stand : {P : ℕ → Bool} (n : ℕ) (q : Option Place) → is_busy q ≡ true → (x : Mark) (m : ℕ) (w : Why) (p : Place) (s : Core) → place_of m s ≡ Some p → is_parked p ≡ true → (P m ≡ true → is_for_start w ≡ true) → Stand P n q [] s → Stand P n q [] (put_at x m w s)
+put_stand {P = P} n q busy x m w p s is parked starts st =
+    put_back n q x m w s (ap (λ (o : Option Place). is_some o) is) starts (loosened n q m p [] s (unwatched P m) is (parked_free p parked) (apart n q m p s busy is parked before) before)
+  where
+    before : Stand (others P m) n q [] s
+    before = record { here = st.here; once = st.once; loose = st.loose; there = st.there; placed = st.placed; fresh = λ k h. st.fresh k (watched P m k h) }
 
-  waiting_parked : (x : ℕ) (p : Place) → is_waiting_on x p ≡ true → is_parked p ≡ true
-  waiting_parked x (place.Waiting y c) h = refl
-  waiting_parked x place.New h = refl
-  waiting_parked x (place.Under c) h = refl
-  waiting_parked x (place.Held v) h = refl
-  waiting_parked x (place.Blocked y) h = refl
-  waiting_parked x place.Suspended h = refl
-  waiting_parked x place.Running h = h
-  waiting_parked x (place.Ready m v) h = h
-  waiting_parked x (place.Behind f) h = h
+-- ---- The thread itself
 
-  blocked_parked : (sub : Subtask) (p : Place) → is_blocked_on sub p ≡ true → is_parked p ≡ true
-  blocked_parked sub (place.Blocked y) h = refl
-  blocked_parked sub (place.Waiting y c) h = refl
-  blocked_parked sub place.New h = refl
-  blocked_parked sub (place.Under c) h = refl
-  blocked_parked sub (place.Held v) h = refl
-  blocked_parked sub place.Suspended h = refl
-  blocked_parked sub place.Running h = h
-  blocked_parked sub (place.Ready m v) h = h
-  blocked_parked sub (place.Behind f) h = h
+abbrev pub All : Core → Type 0
+All s = (k : ℕ) → HasPlace k s
 
-  waken_good : (b : Bool) (x m : ℕ) (p : Place) (s : Core) → place_of m s ≡ Some p → is_parked p ≡ true → Stand n q [] s → Stand n q [] (waken_by b x m s)
-  waken_good true x m p s is parked st = put_high_good m (why.Delivery (delivery.Set x)) p s is parked st
-  waken_good false x m p s is parked st = put_high_good m why.Resumption p s is parked st
+-- a thread's place says nothing, or it is gone
+abbrev pub is_idle : Option Place → Bool
+is_idle o = option_map_or is_free o true
 
-  pub wake_good : (x : ℕ) (w : Option ℕ) (s : Core) → may_wake x w s ≡ true → Stand n q [] s → Stand n q [] (wake x w s)
-  unfolding wake may_wake
-  wake_good x None s h st = st
-  wake_good x (Some m) s h st = let p = at_place (is_waiting_on x) (place_of m s) h in waken_good (is_callback_waiter m s) x m p.0 s p.1 (waiting_parked x p.0 p.2) st
+pub idle_loose : (n : ℕ) (o : Option Place) (s : Core) → place_of n s ≡ o → is_idle o ≡ true → HasPlace n s → Loose n s
+idle_loose n (Some p) s is idle h = free_loose n p s is idle h
+idle_loose n None s is idle h = record { number = h.number; switch = h.switch ∙ ap (says is_at_switch) is; high = h.high ∙ ap (says is_at_high) is; low = h.low ∙ ap (says is_at_low) is; callers = λ f. h.callers f ∙ none_there (is_there f s) _ (ap (says (is_behind_of f)) is) }
 
-  -- the blocked thread, as far as there is one, is parked
-  blocked_at : (sub : Subtask) (s : Core) (m : ℕ) → blocked_on sub s ≡ Some m → (p : Place) × (place_of m s ≡ Some p) × (is_parked p ≡ true)
-  unfolding blocked_on
-  blocked_at sub s m h = let p = at_place (is_blocked_on sub) (place_of m s) (find_passes (λ k. is_at k s (is_blocked_on sub)) (numbers s.threads) m h) in (p.0, p.1, blocked_parked sub p.0 p.2)
+pub loose_idle : (n : ℕ) (o : Option Place) (s : Core) → place_of n s ≡ o → is_idle o ≡ true → Loose n s → HasPlace n s
+loose_idle n (Some p) s is idle l = loose_free n p s is idle l
+loose_idle n None s is idle l = loose_gone n s is l
 
-  -- ---- A thread more, and one less
+pub one_time : (n : ℕ) → times n (n ∷ []) ≡ 1
+one_time n = ap (λ b. one_if b + 0) (eq_refl n)
 
-  pub set_place_all : (p : Place) (s : Core) → is_free p ≡ true → Stand n q [] s → (k : ℕ) → HasPlace k (set_place n p s)
-  set_place_all p s free st k = adds_all n q p s (set_place n p s) (set_place_adds n p q s free st.here) st k
+pub no_time : (k n : ℕ) → (k == n) ≡ false → times k (n ∷ []) ≡ 0
+no_time k n e = ap (λ b. one_if b + 0) e
 
-  pub put_low_all : (w : Why) (s : Core) → Stand n q [] s → (k : ℕ) → HasPlace k (put_low n w s)
-  put_low_all w s st k = adds_all n q (place.Ready mark.Low w) s (put_low n w s) (put_low_adds n w q s st.here) st k
-
-  pub put_high_all : (w : Why) (s : Core) → Stand n q [] s → (k : ℕ) → HasPlace k (put_high n w s)
-  put_high_all w s st k = adds_all n q (place.Ready mark.High w) s (put_high n w s) (put_high_adds n w q s st.here) st k
-
-  pub behind_all : (g : ℕ) (s : Core) → is_there g s ≡ true → Stand n q [] s → (k : ℕ) → HasPlace k (behind_one g n s)
-  behind_all g s is st k = adds_all n q (place.Behind g) s (behind_one g n s) (behind_adds g n q s (given_there n q [] s st g is) st.here) st k
-
-  pub removed_all : (s : Core) → Stand n q [] s → (k : ℕ) → HasPlace k (remove_thread n s)
-  removed_all s st k =
-      by_number k n (HasPlace k (remove_thread n s))
-      (λ e. subst (λ (j : ℕ). HasPlace j (remove_thread n s)) (sym e) (removed_gone n s (st.loose n (own_times (eq_refl n)))))
-      (λ e. removed_placed k n s e (st.placed k (no_times e)))
-    where
-      own_times : (n == n) ≡ true → times n (n ∷ []) ≡ 1
-      own_times e = ap (λ b. one_if b + 0) e
-
-      no_times : (k == n) ≡ false → times k (n ∷ []) ≡ 0
-      no_times e = ap (λ b. one_if b + 0) e
-
--- ---- The moves, where all threads have their places
-
-pub stand_of : (n : ℕ) (q : Place) (s : Core) → place_of n s ≡ Some q → is_free q ≡ true → ((k : ℕ) → HasPlace k s) → Stand n q [] s
-stand_of n q s is free all = record {
+-- where each thread has its place, each that is at no entry may be taken as n
+pub stand_of : {P : ℕ → Bool} (n : ℕ) (q : Option Place) (s : Core) → place_of n s ≡ q → is_idle q ≡ true → ((k : ℕ) → P k ≡ true → is_fresh (place_of k s) ≡ true) → All s → Stand P n q [] s
+stand_of n q s is idle waits all = record {
   here = is;
   once = λ k. at_most_one (k == n);
-  loose = λ k h. by_number k n (Loose k s) (λ e. subst (λ (j : ℕ). Loose j s) (sym e) (free_loose n q s is free (all n))) (λ e. absurd (zero_one e h));
-  there = λ k h. absurd (no_one h);
+  loose = λ k h. by_number k n (Loose k s) (λ e. subst (λ (j : ℕ). Loose j s) (sym e) (idle_loose n q s is idle (all n))) (λ e. zero_one (no_time k n e) h);
+  there = λ k h. zero_one refl h;
   placed = λ k h. all k;
+  fresh = λ k h. (refl, waits k h);
 }
   where
     at_most_one : (b : Bool) → one_if b + 0 ≤ 1
     at_most_one true = omega arith
     at_most_one false = omega arith
 
-    zero_one : {b : Bool} → b ≡ false → one_if b + 0 ≡ 1 → ⊥
-    zero_one e h = let x = ap one_if e in omega (arith, x, h)
+pub all_of : {P : ℕ → Bool} (n : ℕ) (q : Option Place) (s : Core) → is_idle q ≡ true → Stand P n q [] s → All s
+all_of n q s idle st k = by_number k n (HasPlace k s) (λ e. subst (λ (j : ℕ). HasPlace j s) (sym e) (loose_idle n q s st.here idle (st.loose n (one_time n)))) (λ e. st.placed k (no_time k n e))
 
-    no_one : ◌≡◌ {A = ℕ} 0 1 → ⊥
-    no_one h = omega (arith, h)
+pub removed_all : {P : ℕ → Bool} (n : ℕ) (q : Option Place) (s : Core) → Stand P n q [] s → All (remove_thread n s)
+removed_all n q s st k =
+    by_number k n (HasPlace k (remove_thread n s))
+    (λ e. subst (λ (j : ℕ). HasPlace j (remove_thread n s)) (sym e) (removed_gone n s (st.loose n (one_time n))))
+    (λ e. removed_placed k n s e (st.placed k (no_time k n e)))
 
-pub all_of : (n : ℕ) (q : Place) (s : Core) → is_free q ≡ true → Stand n q [] s → (k : ℕ) → HasPlace k s
-all_of n q s free st k = by_number k n (HasPlace k s) (λ e. subst (λ (j : ℕ). HasPlace j s) (sym e) (loose_free n q s st.here free (st.loose n (own_times (eq_refl n))))) (λ e. st.placed k (no_times e))
+-- ---- The moves, where all threads have their places
+
+abbrev nobody : ℕ → Bool
+nobody k = false
+
+runs : (n : ℕ) (s : Core) → place_of n s ≡ Some place.Running → All s → Stand nobody n (Some place.Running) [] s
+runs n s is all = stand_of n (Some place.Running) s is refl (λ k h. absurd (subst T (sym h) tt)) all
+
+put_keeps : (n m : ℕ) (w : Why) (p : Place) (s : Core) → place_of m s ≡ Some p → is_parked p ≡ true → Stand nobody n (Some place.Running) [] s → Stand nobody n (Some place.Running) [] (put_high m w s)
+put_keeps n m w p s is parked st = put_stand n (Some place.Running) refl mark.High m w p s is parked (λ h. absurd (subst T (sym h) tt)) st
+
+held_at : (o : Option Place) (w : Why) → option_and_then held_why o ≡ Some w → (v : Why) × (o ≡ Some (place.Held v))
+held_at (Some (place.Held v)) w h = (v, refl)
+held_at None w h = absurd (subst T (ap (λ (x : Option Why). is_none x) h) tt)
+held_at (Some _) w h = absurd (subst T (ap (λ (x : Option Why). is_none x) h) tt)
+
+release_stand : (n : ℕ) (ns : List ℕ) (s : Core) → Stand nobody n (Some place.Running) [] s → Stand nobody n (Some place.Running) [] (released ns s)
+unfolding released
+release_stand n [] s st = st
+release_stand n (m ∷ ns) s st = release_stand n ns (released_one m (held_why_of m s) s) (one (held_why_of m s) refl)
   where
-    own_times : (n == n) ≡ true → times n (n ∷ []) ≡ 1
-    own_times e = ap (λ b. one_if b + 0) e
+    one : (o : Option Why) → held_why_of m s ≡ o → Stand nobody n (Some place.Running) [] (released_one m o s)
+    one None e = st
+    one (Some w) e = let v = held_at (place_of m s) w e in put_keeps n m w (place.Held v.0) s v.1 refl st
 
-    no_times : (k == n) ≡ false → times k (n ∷ []) ≡ 0
-    no_times e = ap (λ b. one_if b + 0) e
+waits_parked : (x : ℕ) (p : Place) → is_waiting_on x p ≡ true → is_parked p ≡ true
+waits_parked x (place.Waiting y c) h = refl
+waits_parked x place.Running h = h
+waits_parked x (place.Ready m v) h = h
+waits_parked x (place.Under c) h = h
+waits_parked x (place.Behind f) h = h
+waits_parked x _ h = refl
+
+wake_stand : (n x : ℕ) (w : Option ℕ) (s : Core) → may_wake x w s ≡ true → Stand nobody n (Some place.Running) [] s → Stand nobody n (Some place.Running) [] (wake x w s)
+unfolding wake may_wake
+wake_stand n x None s h st = st
+wake_stand n x (Some m) s h st = by (is_callback_waiter m s)
+  where
+    p : (p : Place) × (place_of m s ≡ Some p) × (is_waiting_on x p ≡ true)
+    p = at_place (is_waiting_on x) (place_of m s) h
+
+    by : (b : Bool) → Stand nobody n (Some place.Running) [] (waken_by b x m s)
+    by true = put_keeps n m (why.Delivery (delivery.Set x)) p.0 s p.1 (waits_parked x p.0 p.2) st
+    by false = put_keeps n m why.Resumption p.0 s p.1 (waits_parked x p.0 p.2) st
 
 pub stop_keeps_places : StopKeepsPlaces
 stop_keeps_places n f p s free is all =
-    set_place_all n place.Running refl p (stopped f s) free (stopped_stand n place.Running f s (stand_of n place.Running s is refl all))
+    let st = stopped_stand n (Some place.Running) f s (runs n s is all) in
+    adds_all n (Some place.Running) p (stopped f s) (set_place n p (stopped f s)) (set_place_adds n p place.Running (stopped f s) free st.here) st
 
 pub release_keeps_places : ReleaseKeepsPlaces
-release_keeps_places n ns s is all = all_of n place.Running (released ns s) refl (released_good n place.Running refl ns s (stand_of n place.Running s is refl all))
+release_keeps_places n ns s is all = all_of n (Some place.Running) (released ns s) refl (release_stand n ns s (runs n s is all))
 
 pub wake_keeps_places : WakeKeepsPlaces
-wake_keeps_places n x w s may_be is all = all_of n place.Running (wake x w s) refl (wake_good n place.Running refl x w s may_be (stand_of n place.Running s is refl all))
+wake_keeps_places n x w s may_be is all = all_of n (Some place.Running) (wake x w s) refl (wake_stand n x w s may_be (runs n s is all))
 
 pub removal_keeps_places : RemovalKeepsPlaces
-removal_keeps_places n s is all = removed_all n place.Running refl s (stand_of n place.Running s is refl all)
+removal_keeps_places n s is all = removed_all n (Some place.Running) s (runs n s is all)

@@ -7,19 +7,21 @@ use Rattle.task_machine.specs.declared.records.Why.{Why}
 use Rattle.task_machine.specs.declared.words.Mark.TheVariants as mark
 use Rattle.task_machine.specs.declared.records.Place.TheVariants as place
 use Rattle.task_machine.specs.declared.records.Why.TheVariants as why
-use Rattle.task_machine.specs.Core.{Core, Queues}
+use Rattle.task_machine.specs.Core.{Core}
 use Rattle.task_machine.specs.Maps.{Records, get, get-insert, insert, numbers, size}
-use Rattle.task_machine.specs.Moves.{behind, behind_one, displaced, newest, older, passed_on, put_high, put_low, put_switch, resumed_all, resumed_callers, stand, stopped, why_of}
+use Rattle.task_machine.specs.Moves.{behind, behind_one, displaced, newest, older, passed_on, put_high, put_low, put_switch, resumed_all, resumed_callers, stand, stopped, why_of, ready_why}
 use Rattle.task_machine.specs.Read.{callers_of, foot_from, foot_of, is_at, is_under, place_of, under_of}
 use Rattle.task_machine.specs.Write.{on_thread, push_high_first, set_callers, set_place, set_switch}
 use Rattle.task_rules.proofs.StandLemmas.{Adds, Given, Loose, Stand, adds_given, adds_stand, by_number, callers_say, none_there, zero_one, eq_refl, gain, is_eq_of, place_kept, place_written, plus_none, plus_one, put_high_adds, put_low_adds, times-append, times-newest}
-use Rattle.task_rules.specs.Places.{HasPlace, entries, is_at_high, is_at_low, is_at_switch, is_behind_of, is_there, one_if, says, switch_entries, times}
+use Rattle.task_rules.specs.Places.{HasPlace, entries, is_at_high, is_at_low, is_at_switch, is_behind_of, is_there, one_if, says, switch_entries, times, is_fresh, is_for_start}
 
--- ---- What leaves every place and every entry alone
+-- ---- What leaves every place and every entry of a thread alone
 
 pub record Untouched (s t : Core) : Type 0 where
   pub places : (k : ℕ) → place_of k t ≡ place_of k s
-  pub queues : t.queues ≡ s.queues
+  pub switch : (k : ℕ) → switch_entries k t.queues.switch ≡ switch_entries k s.queues.switch
+  pub high : (k : ℕ) → entries k t.queues.high ≡ entries k s.queues.high
+  pub low : (k : ℕ) → entries k t.queues.low ≡ entries k s.queues.low
   pub callers : t.callers ≡ s.callers
   pub made : s.made.threads ≤ t.made.threads
 
@@ -30,9 +32,9 @@ pub quiet_placed : (k : ℕ) (s t : Core) → Untouched s t → HasPlace k s →
 quiet_placed k s t q h = record {
   number = λ e. le_trans (h.number (sym (untouched_there s t q k) ∙ e)) q.made;
   behind = λ f e. le_trans (h.behind f (sym (ap (says (is_behind_of f)) (q.places k)) ∙ e)) q.made;
-  switch = ap (λ (x : Queues). switch_entries k x.switch) q.queues ∙ (h.switch ∙ ap (says is_at_switch) (sym (q.places k)));
-  high = ap (λ (x : Queues). entries k x.high) q.queues ∙ (h.high ∙ ap (says is_at_high) (sym (q.places k)));
-  low = ap (λ (x : Queues). entries k x.low) q.queues ∙ (h.low ∙ ap (says is_at_low) (sym (q.places k)));
+  switch = q.switch k ∙ (h.switch ∙ ap (says is_at_switch) (sym (q.places k)));
+  high = q.high k ∙ (h.high ∙ ap (says is_at_high) (sym (q.places k)));
+  low = q.low k ∙ (h.low ∙ ap (says is_at_low) (sym (q.places k)));
   callers =
       λ f. ap (λ (m : Records (List ℕ)). times k (unwrap_or (get m f) [])) q.callers
       ∙ (h.callers f ∙ ap₂ (λ (b : Bool) (o : Option Place). if b then says (is_behind_of f) o else 0) (sym (untouched_there s t q f)) (sym (q.places k)));
@@ -41,19 +43,20 @@ quiet_placed k s t q h = record {
 pub quiet_loose : (k : ℕ) (s t : Core) → Untouched s t → Loose k s → Loose k t
 quiet_loose k s t q l = record {
   number = λ e. le_trans (l.number (sym (untouched_there s t q k) ∙ e)) q.made;
-  switch = ap (λ (x : Queues). switch_entries k x.switch) q.queues ∙ l.switch;
-  high = ap (λ (x : Queues). entries k x.high) q.queues ∙ l.high;
-  low = ap (λ (x : Queues). entries k x.low) q.queues ∙ l.low;
+  switch = q.switch k ∙ l.switch;
+  high = q.high k ∙ l.high;
+  low = q.low k ∙ l.low;
   callers = λ f. ap (λ (m : Records (List ℕ)). times k (unwrap_or (get m f) [])) q.callers ∙ l.callers f;
 }
 
-pub quiet_stand : (n : ℕ) (r : Place) (xs : List ℕ) (s t : Core) → Untouched s t → Stand n r xs s → Stand n r xs t
+pub quiet_stand : {P : ℕ → Bool} (n : ℕ) (r : Option Place) (xs : List ℕ) (s t : Core) → Untouched s t → Stand P n r xs s → Stand P n r xs t
 quiet_stand n r xs s t q st = record {
   here = q.places n ∙ st.here;
   once = st.once;
   loose = λ k h. quiet_loose k s t q (st.loose k h);
   there = λ k h. let p = st.there k h in (p.0, (q.places k ∙ p.1));
   placed = λ k h. quiet_placed k s t q (st.placed k h);
+  fresh = λ k h. let f = st.fresh k h in (f.0, ap is_fresh (q.places k) ∙ f.1);
 }
 
 -- ---- Going behind a thread
@@ -123,18 +126,19 @@ front_one : (b : Bool) (x : ℕ) → b ≡ true → x ≡ 0 → one_if b + x ≡
 front_one b x e h = let z = ap one_if e in omega (arith, z, h)
 
 -- where a thread stands at switch, and is put at the front of high
-displaced_stand : (n : ℕ) (q : Place) (xs : List ℕ) (s : Core) (o : Option ℕ) → s.queues.switch ≡ o → Stand n q xs s → Stand n q xs (set_switch None (displaced o s))
+displaced_stand : {P : ℕ → Bool} (n : ℕ) (q : Option Place) (xs : List ℕ) (s : Core) (o : Option ℕ) → s.queues.switch ≡ o → Stand P n q xs s → Stand P n q xs (set_switch None (displaced o s))
 unfolding set_switch push_high_first set_place on_thread
 displaced_stand n q xs s None is st = quiet_stand n q xs s _ (no_change s is) st
   where
     no_change : (u : Core) → u.queues.switch ≡ None → Untouched u (set_switch None u)
-    no_change u e = record { places = λ k. refl; queues = ap (λ (x : Option ℕ). record { switch = x; high = u.queues.high; low = u.queues.low }) (sym e); callers = refl; made = le_refl _ }
+    no_change u e = record { places = λ k. refl; switch = λ k. ap (switch_entries k) (sym e); high = λ k. refl; low = λ k. refl; callers = refl; made = le_refl _ }
 displaced_stand n q xs s (Some j) is st = record {
   here = kept n (apart n (st.once n) n_one) ∙ st.here;
   once = st.once;
   loose = λ k h. stays_loose k (apart k (st.once k) h) (st.loose k h);
   there = λ k h. let p = st.there k h in (p.0, (kept k (apart k (st.once k) (one_more k h (st.once k))) ∙ p.1));
   placed = λ k h. by_number k j (HasPlace k t) (λ e. subst (λ (i : ℕ). HasPlace i t) (sym e) (at_front (st.placed j j_none))) (λ e. stays k e (st.placed k h));
+  fresh = λ k h. let f = st.fresh k h in (f.0, by_number k j (is_fresh (place_of k t) ≡ true) (λ e. subst (λ (i : ℕ). is_fresh (place_of i t) ≡ true) (sym e) (still_fresh (subst (λ (i : ℕ). is_fresh (place_of i s) ≡ true) e f.1))) (λ e. ap is_fresh (kept k e) ∙ f.1));
 }
   where
     t : Core
@@ -195,6 +199,12 @@ displaced_stand n q xs s (Some j) is st = record {
         of_place (Some (place.Held x)) e z = absurd (one_zero z)
         of_place (Some place.Suspended) e z = absurd (one_zero z)
 
+    -- it stands for what it stood for
+    still_fresh : is_fresh (place_of j s) ≡ true → is_fresh (place_of j t) ≡ true
+    still_fresh f =
+        let w = ready (st.placed j j_none) in
+        ap is_fresh (place_written j (place.Ready mark.High (why_of j s)) _ s w.1) ∙ (ap (λ (o : Option Place). is_for_start (option_map_or ready_why o why.Resumption)) w.1 ∙ (ap is_fresh (sym w.1) ∙ f))
+
     -- the same threads are there
     same_there : (k : ℕ) → is_there k t ≡ is_there k s
     same_there k =
@@ -229,12 +239,12 @@ displaced_stand n q xs s (Some j) is st = record {
           callers = λ f. (h.callers f ∙ none_there (is_there f s) _ (ap (says (is_behind_of f)) w.1)) ∙ sym (none_there (is_there f t) _ (ap (says (is_behind_of f)) own));
         }
 
-pub put_switch_stand : (n : ℕ) (q : Place) (m : ℕ) (xs : List ℕ) (w : Why) (s : Core) → times m xs ≡ 0 → Stand n q (m ∷ xs) s → Stand n q xs (put_switch m w s)
+pub put_switch_stand : {P : ℕ → Bool} (n : ℕ) (q : Option Place) (m : ℕ) (xs : List ℕ) (w : Why) (s : Core) → times m xs ≡ 0 → Stand P n q (m ∷ xs) s → Stand P n q xs (put_switch m w s)
 unfolding set_switch
-put_switch_stand n q m xs w s none st =
+put_switch_stand {P = P} n q m xs w s none st =
     let u = displaced_stand n q (m ∷ xs) s s.queues.switch refl st in
     let p = u.there m (once_there none) in
-    subst (Stand n q xs) (sym (put_switch_is m w s)) (adds_stand n q m xs (place.Ready mark.Switch w) (unswitched s) _ (switch_adds m w p.0 (unswitched s) (no_switch s) p.1) u)
+    subst (Stand P n q xs) (sym (put_switch_is m w s)) (adds_stand n q m xs (place.Ready mark.Switch w) (unswitched s) _ (switch_adds m w p.0 (unswitched s) (no_switch s) p.1) u)
   where
     once_there : times m xs ≡ 0 → times m (m ∷ xs) ≡ 1
     once_there z = let x = ap one_if (eq_refl m) in omega (arith, x, z)
@@ -242,7 +252,7 @@ put_switch_stand n q m xs w s none st =
     no_switch : (c : Core) → (unswitched c).queues.switch ≡ None
     no_switch c = refl
 
-pub put_high_stand : (n : ℕ) (q : Place) (m : ℕ) (xs : List ℕ) (w : Why) (s : Core) → times m xs ≡ 0 → Stand n q (m ∷ xs) s → Stand n q xs (put_high m w s)
+pub put_high_stand : {P : ℕ → Bool} (n : ℕ) (q : Option Place) (m : ℕ) (xs : List ℕ) (w : Why) (s : Core) → times m xs ≡ 0 → Stand P n q (m ∷ xs) s → Stand P n q xs (put_high m w s)
 put_high_stand n q m xs w s none st =
     let p = st.there m (once_there none) in
     adds_stand n q m xs (place.Ready mark.High w) s _ (put_high_adds m w p.0 s p.1) st
@@ -250,7 +260,7 @@ put_high_stand n q m xs w s none st =
     once_there : times m xs ≡ 0 → times m (m ∷ xs) ≡ 1
     once_there z = let x = ap one_if (eq_refl m) in omega (arith, x, z)
 
-pub put_low_stand : (n : ℕ) (q : Place) (m : ℕ) (xs : List ℕ) (w : Why) (s : Core) → times m xs ≡ 0 → Stand n q (m ∷ xs) s → Stand n q xs (put_low m w s)
+pub put_low_stand : {P : ℕ → Bool} (n : ℕ) (q : Option Place) (m : ℕ) (xs : List ℕ) (w : Why) (s : Core) → times m xs ≡ 0 → Stand P n q (m ∷ xs) s → Stand P n q xs (put_low m w s)
 put_low_stand n q m xs w s none st =
     let p = st.there m (once_there none) in
     adds_stand n q m xs (place.Ready mark.Low w) s _ (put_low_adds m w p.0 s p.1) st
@@ -258,7 +268,7 @@ put_low_stand n q m xs w s none st =
     once_there : times m xs ≡ 0 → times m (m ∷ xs) ≡ 1
     once_there z = let x = ap one_if (eq_refl m) in omega (arith, x, z)
 
-pub behind_stand : (n : ℕ) (q : Place) (g m : ℕ) (xs : List ℕ) (s : Core) → Given g s → times m xs ≡ 0 → Stand n q (m ∷ xs) s → Stand n q xs (behind_one g m s)
+pub behind_stand : {P : ℕ → Bool} (n : ℕ) (q : Option Place) (g m : ℕ) (xs : List ℕ) (s : Core) → Given g s → times m xs ≡ 0 → Stand P n q (m ∷ xs) s → Stand P n q xs (behind_one g m s)
 behind_stand n q g m xs s given none st =
     let p = st.there m (once_there none) in
     adds_stand n q m xs (place.Behind g) s _ (behind_adds g m p.0 s given p.1) st
@@ -269,23 +279,24 @@ behind_stand n q g m xs s given none st =
 -- ---- A stop
 
 -- the loose ones may be listed otherwise
-pub stand_as : (n : ℕ) (q : Place) (xs ys : List ℕ) (s : Core) → ((k : ℕ) → times k xs ≡ times k ys) → Stand n q xs s → Stand n q ys s
+pub stand_as : {P : ℕ → Bool} (n : ℕ) (q : Option Place) (xs ys : List ℕ) (s : Core) → ((k : ℕ) → times k xs ≡ times k ys) → Stand P n q xs s → Stand P n q ys s
 stand_as n q xs ys s same st = record {
   here = st.here;
   once = λ k. subst (λ c. one_if (k == n) + c ≤ 1) (same k) (st.once k);
   loose = λ k h. st.loose k (ap (λ c. one_if (k == n) + c) (same k) ∙ h);
   there = λ k h. st.there k (same k ∙ h);
   placed = λ k h. st.placed k (ap (λ c. one_if (k == n) + c) (same k) ∙ h);
+  fresh = λ k h. let f = st.fresh k h in (sym (same k) ∙ f.0, f.1);
 }
 
-head_none : (n : ℕ) (q : Place) (m : ℕ) (xs : List ℕ) (s : Core) → Stand n q (m ∷ xs) s → times m xs ≡ 0
+head_none : {P : ℕ → Bool} (n : ℕ) (q : Option Place) (m : ℕ) (xs : List ℕ) (s : Core) → Stand P n q (m ∷ xs) s → times m xs ≡ 0
 head_none n q m xs s st = let x = ap one_if (eq_refl m) in let y = st.once m in omega (arith, x, y)
 
-resumed_all_stand : (n : ℕ) (q : Place) (xs : List ℕ) (s : Core) → Stand n q xs s → Stand n q [] (resumed_all xs s)
+resumed_all_stand : {P : ℕ → Bool} (n : ℕ) (q : Option Place) (xs : List ℕ) (s : Core) → Stand P n q xs s → Stand P n q [] (resumed_all xs s)
 resumed_all_stand n q [] s st = st
 resumed_all_stand n q (m ∷ xs) s st = resumed_all_stand n q xs (put_high m why.Resumption s) (put_high_stand n q m xs why.Resumption s (head_none n q m xs s st) st)
 
-behind_all_stand : (n : ℕ) (q : Place) (g : ℕ) (xs : List ℕ) (s : Core) → Given g s → Stand n q xs s → Stand n q [] (behind g xs s)
+behind_all_stand : {P : ℕ → Bool} (n : ℕ) (q : Option Place) (g : ℕ) (xs : List ℕ) (s : Core) → Given g s → Stand P n q xs s → Stand P n q [] (behind g xs s)
 behind_all_stand n q g [] s given st = st
 behind_all_stand n q g (m ∷ xs) s given st =
     let none = head_none n q m xs s st in
@@ -295,7 +306,7 @@ behind_all_stand n q g (m ∷ xs) s given st =
     own_one : (m : ℕ) (xs : List ℕ) → times m xs ≡ 0 → times m (m ∷ xs) ≡ 1
     own_one m xs z = let x = ap one_if (eq_refl m) in omega (arith, x, z)
 
-resumed_callers_stand : (n : ℕ) (q : Place) (xs : List ℕ) (s : Core) → Stand n q xs s → Stand n q [] (resumed_callers xs s)
+resumed_callers_stand : {P : ℕ → Bool} (n : ℕ) (q : Option Place) (xs : List ℕ) (s : Core) → Stand P n q xs s → Stand P n q [] (resumed_callers xs s)
 resumed_callers_stand n q [] s st = st
 resumed_callers_stand n q (m ∷ xs) s st =
     let u = stand_as n q (m ∷ xs) (newest m xs ∷ older m xs) s (λ k. times-newest k m xs ∙ swap_sum (times k (older m xs)) (one_if (k == newest m xs))) st in
@@ -305,7 +316,7 @@ resumed_callers_stand n q (m ∷ xs) s st =
     swap_sum a b = omega arith
 
 -- a thread is loose or has its place, so its number was given
-pub given_there : (n : ℕ) (q : Place) (xs : List ℕ) (s : Core) → Stand n q xs s → (k : ℕ) → is_there k s ≡ true → Given k s
+pub given_there : {P : ℕ → Bool} (n : ℕ) (q : Option Place) (xs : List ℕ) (s : Core) → Stand P n q xs s → (k : ℕ) → is_there k s ≡ true → Given k s
 given_there n q xs s st k h = (h, by_times (times k (n ∷ xs)) refl (st.once k))
   where
     by_times : (c : ℕ) → times k (n ∷ xs) ≡ c → c ≤ 1 → k ≤ s.made.threads
@@ -317,7 +328,7 @@ given_there n q xs s st k h = (h, by_times (times k (n ∷ xs)) refl (st.once k)
         too_many y = omega (arith, y)
 
 -- what stands at switch is there
-pub switch_there : (n : ℕ) (q : Place) (xs : List ℕ) (s : Core) → Stand n q xs s → (m : ℕ) → s.queues.switch ≡ Some m → is_there m s ≡ true
+pub switch_there : {P : ℕ → Bool} (n : ℕ) (q : Option Place) (xs : List ℕ) (s : Core) → Stand P n q xs s → (m : ℕ) → s.queues.switch ≡ Some m → is_there m s ≡ true
 switch_there n q xs s st m e = by_times (times m (n ∷ xs)) refl (st.once m)
   where
     stands : switch_entries m s.queues.switch ≡ 1
@@ -367,19 +378,25 @@ pub foot_there : (n : ℕ) (s : Core) → is_there n s ≡ true → is_there (fo
 unfolding foot_of
 foot_there n s h = foot_from_there (size s.threads) s n h
 
-passed_on_stand : (n : ℕ) (q : Place) (o : Option ℕ) (xs : List ℕ) (s : Core) → s.queues.switch ≡ o → Stand n q xs s → Stand n q [] (passed_on o xs s)
+passed_on_stand : {P : ℕ → Bool} (n : ℕ) (q : Option Place) (o : Option ℕ) (xs : List ℕ) (s : Core) → s.queues.switch ≡ o → Stand P n q xs s → Stand P n q [] (passed_on o xs s)
 passed_on_stand n q (Some m) xs s e st = behind_all_stand n q (foot_of m s) xs s (given_there n q xs s st (foot_of m s) (foot_there m s (switch_there n q xs s st m e))) st
 passed_on_stand n q None xs s e st = resumed_callers_stand n q xs s st
 
+pub fresh_apart : (o : Option Place) → is_fresh o ≡ true → (f : ℕ) → says (is_behind_of f) o ≡ 0
+fresh_apart None h f = refl
+fresh_apart (Some (place.Behind c)) h f = absurd (subst T (sym h) tt)
+fresh_apart (Some _) h f = refl
+
 -- the callers of f are taken out, and are loose
-detached : (n : ℕ) (q : Place) (f : ℕ) (s : Core) → Stand n q [] s → Stand n q (callers_of f s) (set_callers f [] s)
+detached : {P : ℕ → Bool} (n : ℕ) (q : Option Place) (f : ℕ) (s : Core) → Stand P n q [] s → Stand P n q (callers_of f s) (set_callers f [] s)
 unfolding set_callers
 detached n q f s st = record {
   here = st.here;
   once = λ k. by_number k n (times k (n ∷ callers_of f s) ≤ 1) (λ e. own_once k e (st.loose n n_one)) (λ e. other_once k e (st.placed k (no_one k e)));
   loose = λ k h. by_number k n (Loose k t) (λ e. subst (λ (j : ℕ). Loose j t) (sym e) (still_loose n (st.loose n n_one))) (λ e. now_loose k (listed k e h) (st.placed k (no_one k e)));
-  there = λ k h. by_number k n ((p : Place) × (place_of k s ≡ Some p)) (λ e. (q, (ap (λ (j : ℕ). place_of j s) e ∙ st.here))) (λ e. behind_there k h (st.placed k (no_one k e)));
+  there = λ k h. by_number k n ((p : Place) × (place_of k s ≡ Some p)) (λ e. zero_one ((st.loose n n_one).callers f) (subst (λ (j : ℕ). times j (callers_of f s) ≡ 1) e h)) (λ e. behind_there k h (st.placed k (no_one k e)));
   placed = λ k h. still k (none_here k h) (st.placed k (none_left k h));
+  fresh = λ k h. let r = st.fresh k h in (by_number k n (times k (callers_of f s) ≡ 0) (λ e. subst (λ (j : ℕ). times j (callers_of f s) ≡ 0) (sym e) ((st.loose n n_one).callers f)) (λ e. none_behind k (st.placed k (no_one k e)) r.1), r.1);
 }
   where
     t : Core
@@ -399,6 +416,10 @@ detached n q f s st = record {
 
     listed : (k : ℕ) → (k == n) ≡ false → times k (n ∷ callers_of f s) ≡ 1 → times k (callers_of f s) ≡ 1
     listed k e h = let x = ap one_if e in omega (arith, x, h)
+
+    -- who waits for its start is behind none
+    none_behind : (k : ℕ) → HasPlace k s → is_fresh (place_of k s) ≡ true → times k (callers_of f s) ≡ 0
+    none_behind k h g = let x = callers_say k f s h in let y = fresh_apart (place_of k s) g f in omega (arith, x, y)
 
     says_one : (test : Place → Bool) (o : Option Place) → says test o ≤ 1
     says_one test None = omega arith
@@ -483,6 +504,6 @@ same_switch : (f : ℕ) (s : Core) → (set_callers f [] s).queues.switch ≡ s.
 unfolding set_callers
 same_switch f s = refl
 
-pub stopped_stand : (n : ℕ) (q : Place) (f : ℕ) (s : Core) → Stand n q [] s → Stand n q [] (stopped f s)
+pub stopped_stand : {P : ℕ → Bool} (n : ℕ) (q : Option Place) (f : ℕ) (s : Core) → Stand P n q [] s → Stand P n q [] (stopped f s)
 unfolding stopped
 stopped_stand n q f s st = passed_on_stand n q s.queues.switch (callers_of f s) (set_callers f [] s) (same_switch f s) (detached n q f s st)

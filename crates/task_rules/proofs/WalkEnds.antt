@@ -13,7 +13,7 @@ use Rattle.task_machine.specs.declared.records.Caller.{Caller}
 use Rattle.task_machine.specs.declared.records.Goal.{Goal}
 use Rattle.task_rules.proofs.WalkMoves.{Chosen, ToldTo, told_walks, word}
 use Rattle.task_rules.specs.Allowed.{MayEnd, SaysEnd}
-use Rattle.task_rules.specs.Chains.{Walk}
+use Rattle.task_rules.specs.Chains.{Stay}
 use Rattle.task_rules.specs.Ends.{cancelled, is_told, result_given, returned, told}
 use Rattle.task_rules.specs.Scenes.{Scene}
 use Rattle.task_rules.specs.Words.{GiveResult, SetEnd, SetRegister, SetResult}
@@ -113,7 +113,7 @@ end_goal k e s = by_field (get (change k (λ (c : Call). record c { «end» = So
     by_field (Some c) = refl
 
 module _ {a : Scene} {b : Core} where
-  result_given_walks : (g : Goal) (f : Caller) (k v : ℕ) {s : Core} → goal_of k s ≡ g → SaysEnd a k status.Returned → Walk a b s → Walk a b (result_given g f k v s)
+  result_given_walks : (g : Goal) (f : Caller) (k v : ℕ) {s : Core} → goal_of k s ≡ g → SaysEnd a k status.Returned → Stay a b s → Stay a b (result_given g f k v s)
   result_given_walks goal.Main f k v at says c = word (GiveResult k v) (says, at) c
   result_given_walks (goal.Register r) (caller.Thread n) k v at says c = word (SetRegister n r v) tt c
   result_given_walks (goal.Register r) caller.Main k v at says c = c
@@ -122,7 +122,7 @@ module _ {a : Scene} {b : Core} where
   result_given_walks goal.Direct f k v at says c = c
 
   -- after the end is written
-  pub returned_rest : (k v : ℕ) (w : Option ℕ) (s : Core) → SaysEnd a k status.Returned → ToldTo k w s → Walk a b (set_end k call_end.Returned s) → Walk a b (returned k v w s)
+  pub returned_rest : (k v : ℕ) (w : Option ℕ) (s : Core) → SaysEnd a k status.Returned → ToldTo k w s → Stay a b (set_end k call_end.Returned s) → Stay a b (returned k v w s)
   unfolding returned
   returned_rest k v w s says to c =
       let m = set_end k call_end.Returned s in
@@ -135,10 +135,10 @@ module _ {a : Scene} {b : Core} where
       places : (n : ℕ) → place_of n (result_given (goal_of k s) (caller_of k s) k v (set_end k call_end.Returned s)) ≡ place_of n s
       places n = result_places (goal_of k s) (caller_of k s) k v (set_end k call_end.Returned s) n ∙ end_places k call_end.Returned s n
 
-  pub returned_walks : (k v : ℕ) (w : Option ℕ) {s : Core} → MayEnd a k call_end.Returned s → SaysEnd a k status.Returned → ToldTo k w s → Walk a b s → Walk a b (returned k v w s)
+  pub returned_walks : (k v : ℕ) (w : Option ℕ) {s : Core} → MayEnd a k call_end.Returned s → SaysEnd a k status.Returned → ToldTo k w s → Stay a b s → Stay a b (returned k v w s)
   returned_walks k v w {s = s} ok says to c = returned_rest k v w s says to (word (SetEnd k call_end.Returned) (ok, says) c)
 
-  pub cancelled_rest : (k : ℕ) (w : Option ℕ) (s : Core) → SaysEnd a k status.ReturnCancelled → ToldTo k w s → Walk a b (set_end k call_end.ReturnCancelled s) → Walk a b (cancelled k w s)
+  pub cancelled_rest : (k : ℕ) (w : Option ℕ) (s : Core) → SaysEnd a k status.ReturnCancelled → ToldTo k w s → Stay a b (set_end k call_end.ReturnCancelled s) → Stay a b (cancelled k w s)
   unfolding cancelled
   cancelled_rest k w s says to c =
       let t = set_end k call_end.ReturnCancelled s in
@@ -146,5 +146,5 @@ module _ {a : Scene} {b : Core} where
       (still_told_to k s t (end_same k call_end.ReturnCancelled s) w (λ x chosen n is. ap (λ p. option_map_or (is_waiting_on x) p false) (end_places k call_end.ReturnCancelled s n) ∙ chosen n is) to)
       c
 
-  pub cancelled_walks : (k : ℕ) (w : Option ℕ) {s : Core} → MayEnd a k call_end.ReturnCancelled s → SaysEnd a k status.ReturnCancelled → ToldTo k w s → Walk a b s → Walk a b (cancelled k w s)
+  pub cancelled_walks : (k : ℕ) (w : Option ℕ) {s : Core} → MayEnd a k call_end.ReturnCancelled s → SaysEnd a k status.ReturnCancelled → ToldTo k w s → Stay a b s → Stay a b (cancelled k w s)
   cancelled_walks k w {s = s} ok says to c = cancelled_rest k w s says to (word (SetEnd k call_end.ReturnCancelled) (ok, says) c)

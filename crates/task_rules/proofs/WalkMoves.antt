@@ -1,6 +1,7 @@
 -- The moves of the machine as chains of words.
 use Rattle.task_machine.specs.declared.records.Work.{Work}
 use Rattle.std.proofs.Common.{T, ap, cond, inl, inr, refl, subst, sym, ◌∙◌}
+use Rattle.task_machine.specs.declared.records.HowFar.{HowFar}
 use Rattle.std.specs.Option.{option_map_or}
 use Rattle.std.specs.Prelude.{Bool, List, None, Option, Some, [], false, if◌then◌else◌, is_none, is_some, not, option_and_then, true, unwrap_or, ℕ, ◌||◌, ◌∷◌, ◌≡◌, option_map}
 use Rattle.task_machine.proofs.MapLemmas.{get-remove_same, get-change_same}
@@ -8,7 +9,7 @@ use Rattle.task_machine.specs.Core.{Core}
 use Rattle.task_machine.specs.Maps.{Records, get, numbers, remove, change}
 use Rattle.task_machine.specs.Moves.{Gift, MemberGift, NoGift, OwnGift, call_settled, checked, ended, exited_if, first_entry, freed_thread_handle, group_settled, handed_on, hands_on, held_why_of, interest_settled, is_callback_waiter, is_deletable, is_finished, is_group_done, may_hand_on, may_publish, may_wake, may_wake_joined, promoted, promoted_first, promoted_unless, published, put_high, released, released_one, stopped, taken, unblocked, wake, wake_joined, waken_by}
 use Rattle.task_machine.specs.Read.{blocked_on, call_group, held_why, instance_of, is_at, is_blocked_on, is_explicit, is_waiter, is_waiting_on, is_watched, join_of, may_not_suspend, place_of, same_subtask, task_of, thread_handle_of, is_end, is_stage_ended, stage_of}
-use Rattle.task_machine.specs.Write.{free_thread_handle, on_call, on_work, push_high, remove_call, remove_group, remove_thread, set_event, set_exited, set_place, set_uninteresting}
+use Rattle.task_machine.specs.Write.{free_thread_handle, on_call, on_work, push_high, remove_call, remove_group, remove_thread, set_event, set_exited, set_place, set_uninteresting, set_how_far}
 use Rattle.task_machine.specs.declared.records.Join.{Join}
 use Rattle.task_machine.specs.declared.records.Place.{Place}
 use Rattle.task_machine.specs.declared.records.Subtask.{Subtask}
@@ -16,17 +17,18 @@ use Rattle.task_machine.specs.declared.records.Thread.{Thread}
 use Rattle.task_machine.specs.declared.records.Why.{Why}
 use Rattle.task_machine.specs.declared.words.Mark.{Mark}
 use Rattle.task_machine.specs.declared.words.Status.{Status}
-use Rattle.task_rules.proofs.ChainLemmas.{join, shifts_walk}
+use Rattle.task_rules.proofs.ChainLemmas.{join, weaken, shift_stays, settle_stays}
 use Rattle.task_rules.proofs.StopLemmas.{find_passes}
-use Rattle.task_rules.proofs.PlacingLemmas.{placed}
+use Rattle.task_rules.proofs.PlacingLemmas.{placed, placing_shifted}
 use Rattle.task_rules.proofs.PromotionLemmas.{first_has_entry}
 use Rattle.task_rules.proofs.StandLemmas.{by_number, is_eq_of, place_kept}
-use Rattle.task_rules.specs.Allowed.{Allowed, HasEntry, IsOwn, IsRunner, MayDeliver, MayGo, MayLeave, MayPut, MayTell, Releases, Tells, Unblocks, Wakes, wake_why, SaysEnd, is_done_host}
-use Rattle.task_rules.specs.Chains.{NoWord, Shifts, Then, Walk}
+use Rattle.task_rules.specs.Allowed.{Allowed, HasEntry, IsOwn, IsRunner, MayDeliver, MayGo, MayLeave, MayPut, MayTell, Releases, Tells, Unblocks, Wakes, wake_why, SaysEnd, is_done_host, Leaves, MayLand, Stays, MayCome}
+use Rattle.task_rules.specs.Chains.{NoWord, Shifts, Then, Walk, Stay, Trip, Settles, Quits, Lands, LandsAt}
 use Rattle.task_rules.specs.Ends.{is_told, may_tell, told}
 use Rattle.task_rules.specs.Scenes.{Scene}
 use Rattle.task_rules.specs.Sets.{chosen}
 use Rattle.task_rules.specs.Words.{FreeThreadHandle, Placing, Promote, Put, RemoveCall, RemoveGroup, RemoveThread, SetCallEvent, SetCancelDelivered, SetExited, SetOwnEvent, SetUninteresting, TakeWorkEvent, Stop, Word, after_placing, after_word, put_at}
+use Rattle.task_machine.specs.declared.records.Turn.TheVariants as turn
 use Rattle.task_machine.specs.declared.records.Delivery.TheVariants as delivery
 use Rattle.task_machine.specs.declared.records.Join.TheVariants as join
 use Rattle.task_machine.specs.declared.records.Place.TheVariants as place
@@ -52,17 +54,13 @@ none_stands false (Some m) e = absurd (subst T e tt)
 
 first_shifts : (i : ℕ) (s : Core) (o : Option ℕ) → first_entry i s ≡ o → s.queues.switch ≡ None → Shifts s (promoted_first o s)
 first_shifts i s None e none = NoWord
-first_shifts i s (Some n) e none = placed (Promote n) (none, inl (first_has_entry i s n e)) NoWord
+first_shifts i s (Some n) e none = placed (Promote n) (none, first_has_entry i s n e) NoWord
 
 pub checked_shifts : (i : ℕ) (s : Core) → Shifts s (checked i s)
 unfolding checked
 checked_shifts i s =
     shifts_if (not (may_not_suspend i s) || is_some s.queues.switch) s (promoted_first (first_entry i s) s) (λ e. NoWord)
     (λ e. first_shifts i s (first_entry i s) refl (none_stands (not (may_not_suspend i s)) s.queues.switch e))
-
-pub promoted_unless_shifts : (n : ℕ) (s : Core) → HasEntry n s → Shifts s (promoted_unless n s)
-unfolding promoted_unless
-promoted_unless_shifts n s has = shifts_if (is_some s.queues.switch) s (promoted n s) (λ e. NoWord) (λ e. placed (Promote n) (none_stands false s.queues.switch e, has) NoWord)
 
 pub stopped_shifts : (f : ℕ) (s : Core) → Shifts s (stopped f s)
 stopped_shifts f s = placed (Stop f) tt NoWord
@@ -196,19 +194,32 @@ chosen_released (n ∷ ns) x w s c = chosen_released ns x w (released_one n (hel
 -- ---- Chains of all words
 
 module _ {a : Scene} {b : Core} where
-  pub word : (w : Word) {s : Core} → Allowed a w s → Walk a b s → Walk a b (after_word w s)
+  pub word : (w : Word) {s : Core} → Stays a w s → Stay a b s → Stay a b (after_word w s)
   word w {s = s} ok c = Then s w c ok
 
-  pub shifted : {s t : Core} → Shifts s t → Walk a b s → Walk a b t
-  shifted d c = join c (shifts_walk d)
+  pub shifted : {s t : Core} → Shifts s t → Stay a b s → Stay a b t
+  shifted d c = join c (weaken (shift_stays a) d)
+
+  settled : {s t : Core} → Settles s t → Stay a b s → Stay a b t
+  settled d c = join c (weaken (settle_stays a) d)
 
   -- where the running thread comes to
-  pub moved : (p : Placing) {s : Core} → MayLeave a p s → Walk a b s → Walk a b (after_placing p s)
-  moved p ok c = placed p (inr ok) c
+  pub lands : (p : Placing) {s : Core} → MayLand a p s → Stay a b s → Trip a b (after_placing p s)
+  lands p {s = s} ok c = subst (λ (t : Core). Trip a b t) (placing_shifted p s).only (Lands s p c ok)
 
-  pub walk_if : (c : Bool) (t u : Core) → (c ≡ true → Walk a b t) → (c ≡ false → Walk a b u) → Walk a b (if c then t else u)
+  pub lands_at : (p : Placing) (n : ℕ) (h : HowFar) {s : Core} → MayLand a p s → MayCome a n h (after_placing p s) → Stay a b s → Trip a b (set_how_far n h (after_placing p s))
+  lands_at p n h {s = s} ok comes c =
+      let is = (placing_shifted p s).only in
+      subst (λ (t : Core). Trip a b (set_how_far n h t)) is (LandsAt s p n h c ok (subst (λ (t : Core). MayCome a n h t) (sym is) comes))
+
+  pub walk_if : (c : Bool) (t u : Core) → (c ≡ true → Stay a b t) → (c ≡ false → Stay a b u) → Stay a b (if c then t else u)
   walk_if true t u p q = p refl
   walk_if false t u p q = q refl
+
+-- an entry whose place says that it is there is promoted beside a running thread
+pub promoted_walks : {a : Scene} {b : Core} (m n : ℕ) {s : Core} → a.turn ≡ turn.Run m → (x : Mark) × ((w : Why) × (place_of n s ≡ Some (place.Ready x w))) → Stay a b s → Stay a b (promoted_unless n s)
+unfolding promoted_unless
+promoted_walks m n {s = s} runs ready c = walk_if (is_some s.queues.switch) s (promoted n s) (λ e. c) (λ e. placed (Promote n) (inr (none_stands false s.queues.switch e, (m, (runs, ready)))) c)
 
 -- ---- Published
 
@@ -236,7 +247,7 @@ unfolding published set_event on_work
 published_work_shifts i e w s done chosen = published_shifts (subtask.Host i) w s (set_event (subtask.Host i) (Some e) s) (ap (λ x. is_stage_ended x) (work_read (λ r. r.stage) stage.Ended i (λ r. record r { event = Some e }) (λ r. refl) s.works) ∙ done) (λ m. refl) chosen
 
 module _ {a : Scene} {b : Core} where
-  published_call : (k : ℕ) (e : Status) (w : Option ℕ) {s : Core} → MayTell a k (Some e) s → ChosenIn (join_of (subtask.Guest k) s) w s → Walk a b s → Walk a b (published (subtask.Guest k) e w s)
+  published_call : (k : ℕ) (e : Status) (w : Option ℕ) {s : Core} → MayTell a k (Some e) s → ChosenIn (join_of (subtask.Guest k) s) w s → Stay a b s → Stay a b (published (subtask.Guest k) e w s)
   published_call k e w {s = s} ok chosen c = shifted (published_call_shifts k e w s chosen) (word (SetCallEvent k (Some e)) ok c)
 
 -- the thread chosen where the call's status is told
@@ -248,7 +259,7 @@ unfolding may_tell may_publish
 told_to k w s h told = chosen_in_of (join_of (subtask.Guest k) s) w s (sym (ap (λ c. cond c (may_wake_joined (join_of (subtask.Guest k) s) w s) (is_none w)) told) ∙ h)
 
 module _ {a : Scene} {b : Core} where
-  pub told_walks : (k : ℕ) (e : Status) (w : Option ℕ) {s : Core} → (is_told k s ≡ true → Tells e k s) → (is_end e ≡ true → SaysEnd a k e) → ToldTo k w s → Walk a b s → Walk a b (told k e w s)
+  pub told_walks : (k : ℕ) (e : Status) (w : Option ℕ) {s : Core} → (is_told k s ≡ true → Tells e k s) → (is_end e ≡ true → SaysEnd a k e) → ToldTo k w s → Stay a b s → Stay a b (told k e w s)
   unfolding told
   told_walks k e w {s = s} tells says to c = walk_if (is_told k s) (published (subtask.Guest k) e w s) s (λ is. published_call k e w (is, (tells is, says)) (to is) c) (λ is. c)
 
@@ -265,7 +276,7 @@ MayTake a k (MemberGift sub) = IsOwn a sub
 MayTake a k NoGift = Unit {0}
 
 module _ {a : Scene} {b : Core} where
-  pub taken_walks : (g : Gift) (k : ℕ) {s : Core} → MayTake a k g → Walk a b s → Walk a b (taken g k s)
+  pub taken_walks : (g : Gift) (k : ℕ) {s : Core} → MayTake a k g → Stay a b s → Stay a b (taken g k s)
   unfolding taken
   taken_walks (OwnGift own.None) k ok c = word (SetOwnEvent k None) ok.0 c
   taken_walks (OwnGift own.Cancelled) k ok c = word (SetCancelDelivered k) (ok.1 refl) (word (SetOwnEvent k None) ok.0 c)
@@ -273,31 +284,58 @@ module _ {a : Scene} {b : Core} where
   taken_walks (MemberGift (subtask.Host i)) k ok c = word (TakeWorkEvent i) ok c
   taken_walks NoGift k ok c = c
 
-  -- ---- Settled
+-- ---- Settled
 
-  pub group_settled_walks : (g : ℕ) {s : Core} → Walk a b s → Walk a b (group_settled g s)
-  unfolding group_settled
-  group_settled_walks g {s = s} c = walk_if (is_group_done g s) (remove_group g s) s (λ e. word (RemoveGroup g) e c) (λ e. c)
+settles_if : {s : Core} (b : Bool) (t u : Core) → (b ≡ true → Settles s t) → (b ≡ false → Settles s u) → Settles s (if b then t else u)
+settles_if true t u p q = p refl
+settles_if false t u p q = q refl
 
-  pub call_settled_walks : (k : ℕ) {s : Core} → Walk a b s → Walk a b (call_settled k s)
-  unfolding call_settled
-  call_settled_walks k {s = s} c = walk_if (is_deletable k s) (group_settled (call_group k s) (remove_call k s)) s (λ e. group_settled_walks (call_group k s) (word (RemoveCall k) e c)) (λ e. c)
+group_settles : (g : ℕ) (s : Core) → Settles s (group_settled g s)
+unfolding group_settled
+group_settles g s = settles_if (is_group_done g s) (remove_group g s) s (λ e. Then s (RemoveGroup g) NoWord e) (λ e. NoWord)
 
-  interest_settled_walks : (k : ℕ) {s : Core} → Walk a b s → Walk a b (interest_settled k s)
-  unfolding interest_settled
-  interest_settled_walks k {s = s} c = walk_if (option_map_or is_finished (get s.calls k) false) (set_uninteresting k s) s (λ e. word (SetUninteresting k) tt c) (λ e. c)
+call_settles : (k : ℕ) (s : Core) → Settles s (call_settled k s)
+unfolding call_settled
+call_settles k s = settles_if (is_deletable k s) (group_settled (call_group k s) (remove_call k s)) s (λ e. join (Then s (RemoveCall k) NoWord e) (group_settles (call_group k s) (remove_call k s))) (λ e. NoWord)
 
-  freed_thread_handle_walks : (i : ℕ) (o : Option ℕ) {s : Core} → Walk a b s → Walk a b (freed_thread_handle i o s)
+interest_settles : (k : ℕ) (s : Core) → Settles s (interest_settled k s)
+unfolding interest_settled
+interest_settles k s = settles_if (option_map_or is_finished (get s.calls k) false) (set_uninteresting k s) s (λ e. Then s (SetUninteresting k) NoWord tt) (λ e. NoWord)
+
+-- the thread is gone, and what becomes of its call
+pub record Left (a : Scene) (b : Core) (n : ℕ) (t : Core) : Type 0 where
+  pub before : Core
+  pub stays : Stay a b before
+  pub settles : Settles (after_word (RemoveThread n) before) t
+
+module _ {a : Scene} {b : Core} where
+  pub group_settled_walks : (g : ℕ) {s : Core} → Stay a b s → Stay a b (group_settled g s)
+  group_settled_walks g {s = s} c = settled (group_settles g s) c
+
+  pub call_settled_walks : (k : ℕ) {s : Core} → Stay a b s → Stay a b (call_settled k s)
+  call_settled_walks k {s = s} c = settled (call_settles k s) c
+
+  freed_thread_handle_walks : (i : ℕ) (o : Option ℕ) {s : Core} → Stay a b s → Stay a b (freed_thread_handle i o s)
   freed_thread_handle_walks i None c = c
   freed_thread_handle_walks i (Some h) c = word (FreeThreadHandle i h) tt c
 
-  exited_if_walks : (explicit : Bool) (k : ℕ) {s : Core} → Walk a b s → Walk a b (exited_if explicit k s)
+  exited_if_walks : (explicit : Bool) (k : ℕ) {s : Core} → Stay a b s → Stay a b (exited_if explicit k s)
   exited_if_walks true k c = c
   exited_if_walks false k c = word (SetExited k) tt c
 
-  pub ended_walks : (n : ℕ) {s : Core} → MayGo a n → Walk a b s → Walk a b (ended n s)
+  pub ended_walks : (n : ℕ) {s : Core} → Stay a b s → Left a b n (ended n s)
   unfolding ended
-  ended_walks n {s = s} go c = call_settled_walks (task_of n s) (interest_settled_walks (task_of n s) (word (RemoveThread n) go (freed_thread_handle_walks (instance_of n s) (thread_handle_of n s) (exited_if_walks (is_explicit n s) (task_of n s) c))))
+  ended_walks n {s = s} c =
+      let f = freed_thread_handle (instance_of n s) (thread_handle_of n s) (exited_if (is_explicit n s) (task_of n s) s) in
+      let r = remove_thread n f in
+      record {
+        before = f;
+        stays = freed_thread_handle_walks (instance_of n s) (thread_handle_of n s) (exited_if_walks (is_explicit n s) (task_of n s) c);
+        settles = join (interest_settles (task_of n s) r) (call_settles (task_of n s) (interest_settled (task_of n s) r));
+      }
+
+  pub exits_trip : (n : ℕ) {t : Core} → Leaves a n → Left a b n t → Trip a b t
+  exits_trip n {t = t} leave e = Quits e.before t n e.stays leave e.settles
 
 threads_if : (c : Bool) (s t u : Core) → t.threads ≡ s.threads → u.threads ≡ s.threads → (if c then t else u).threads ≡ s.threads
 threads_if true s t u p q = p

@@ -1,12 +1,12 @@
 -- The rows of the ops on sets, subtasks and threads as chains of words.
 use Rattle.task_machine.proofs.MapLemmas.{get-insert_same, get-remove_same}
 use Rattle.task_machine.specs.declared.records.Work.{Work}
+use Rattle.task_rules.proofs.ChainLemmas.{stay_walk}
 use Rattle.task_machine.specs.declared.label.SetLabel.{SetLabel}
 use Rattle.task_machine.specs.declared.label.CallLabel.{CallLabel}
-use Rattle.task_machine.specs.declared.label.SetLabel.TheVariants as set_label
 use Rattle.task_rules.proofs.MuteLemmas.{is_mute, mute_words, none_said}
 use Rattle.task_rules.proofs.SayLemmas.{call_answered_gone, call_returned_gone, cancel_hands_of, cancel_taken_gone, cancel_writes_of, event_joined, event_owed, found_returned, given_says, packed_is_not_two, received_gone, received_woken_gone, HasNoEnd, event_aborted, said_is}
-use Rattle.task_rules.specs.Chains.{EndWords, HandsOut, TakesEvent, WritesToo, is_over, Answers, EndsSubtask, HandsAtOnce, IsReadyAtOnce, Writes, WritesAtOnce, WritesCall, WritesNever}
+use Rattle.task_rules.specs.Chains.{EndWords, HandsOut, TakesEvent, WritesToo, is_over, Answers, EndsSubtask, HandsAtOnce, IsReadyAtOnce, Writes, WritesAtOnce, WritesCall, WritesNever, NoWord, Shifts, Walk, Stay, Trip}
 use Rattle.task_rules.specs.SubtaskEnds.{SubtaskEnd, call_of_op, handed_by, handed_by_call, handed_by_cancel, handed_by_event, handed_by_set, returned_of_op, written_by_call, written_by_cancel, cancel_target, cancelled_of_op, end_for, written_by, host_end}
 use Rattle.std.proofs.Common.{T, ap, inl, inr, refl, subst, suc, sym, ◌∙◌, ◌⊎◌, ap₂, zero}
 use Rattle.std.specs.Option.{option_map_or}
@@ -41,13 +41,12 @@ use Rattle.task_machine.specs.declared.words.Status.{Status}
 use Rattle.task_rules.proofs.CancelLemmas.{CaseSays, case_says}
 use Rattle.task_rules.proofs.PlacingLemmas.{Shifted, placed, shifted_made, shifted_task, shifts_shifted}
 use Rattle.task_rules.proofs.StandLemmas.{by_number}
-use Rattle.task_rules.proofs.WalkMoves.{MayTake, call_settled_walks, checked_shifts, chosen_of, handed_on_shifts, moved, promoted_unless_shifts, shifted, wake_shifts, word}
+use Rattle.task_rules.proofs.WalkMoves.{MayTake, call_settled_walks, checked_shifts, chosen_of, handed_on_shifts, shifted, wake_shifts, word, lands_at, promoted_walks}
 use Rattle.task_rules.proofs.WalkParts.{call_queues_walks, call_resumes_walks, call_stops_walks, cancel_goes_behind_walks, cancel_plain, cancel_stops_walks, cancel_takes_end_walks, checked_walks, enter_gives, enter_runs_walks, freed_named, gift_is, join_plain, join_walks, put_back_walks, received_walks, set_none_join, stopped_walks, wait_plain, wait_stops_walks, withdrawn_walks, work_deleted_walks, work_unnamed, withdraws, answered_first, far_fresh}
 use Rattle.task_rules.proofs.WalkTask.{Leads, advanced_walks, answered_walks, assigned_walks, goes_on, goes_on_saying, goes_over, may_leads, or_never_leads, or_trap_leads, running_scene, stops_here, trap_if_leads, unnot, is_still, over_now}
 use Rattle.task_rules.specs.Allowed.{ByHandle, ByOp, BySetHandle, ByThread, ByWait, Cancels, HasSubtask, Leaves, MayJoin, MayMakeCall, Resumes, Suspends, Yields, subtask_under_way, is_for_main, AbortsOwn, is_async_work, IsNew, IsNamed}
 use Rattle.task_rules.specs.Calls.{AtOnce, Failing, FirstPoll, Later, answered, call_answered, call_begins, call_host_polled, call_pending, call_queues, call_resumes, call_returned, call_row, call_status, call_sync_begins, call_sync_host_polled, call_sync_host_row, call_sync_host_stops, call_sync_row, call_sync_status, call_sync_stops, enter_row, enter_runs, first_poll, host_answered, host_pending, host_ready, new_thread, next_thread, next_work, status_found, work_answered, work_queued, work_value, put_back, work_deleted, settle_group_of, work_group, new_work}
 use Rattle.task_rules.specs.Cancels.{AlreadyEnded, Async, CallbackWaits, CallbackYields, CancelCase, Mode, OtherwiseRuns, StartNotRun, Sync, aborted_phase, blocked_code, cancel_aborts_host, cancel_asks, cancel_by_end, cancel_case, cancel_ended_row, cancel_guest, cancel_label, cancel_promotes_yield, cancel_resumed, cancel_row, cancel_stops, cancel_subtask, cancel_takes_end, cancel_wakes_callback, cancel_withdraws, drop_row, dropped, is_callback_wait, pauses, subtask_instance, subtask_row}
-use Rattle.task_rules.specs.Chains.{NoWord, Shifts, Walk}
 use Rattle.task_rules.specs.Data.{advanced, assigned, moved_to}
 use Rattle.task_rules.specs.OpParts.{callee_of_op}
 use Rattle.task_rules.specs.Places.{says}
@@ -56,9 +55,9 @@ use Rattle.task_rules.specs.Scenes.{Scene, op_in}
 use Rattle.task_rules.specs.Scripts.{export_kind, host_at, op_of, registers_for, slot_at, value_of, values_in}
 use Rattle.task_rules.specs.Sets.{chosen, finds_nothing, handed_out, join_done, join_to, joined, joins, may_wake_new, poll_row, received, received_woken, set_drop_row, set_dropped, set_made, set_new_row, set_row, wait_begins, wait_goes_on, wait_row, wait_stops, wait_stops_checked, wakes_joined}
 use Rattle.task_rules.specs.Stalled.{Setting}
-use Rattle.task_rules.specs.SubtaskEnds.{cancel_target, cancelled_of_op, end_for, written_by}
 use Rattle.task_rules.specs.Threads.{Halt, Suspension, Yielding, by_how_far, halt_row, halted, halted_checked, halted_promoting, halted_resuming, halting, halts, has_yielded, resume_later_row, resume_why, resumed_later, then_promote, then_promote_row, then_resume_row, thread_made, thread_new_row, thread_row}
-use Rattle.task_rules.specs.Words.{CloseSet, CountWork, MakeThread, Move, NameCall, NameThread, NameWork, OpenSet, Put, QueueWork, SetCancelled, SetHowFar, SetOwnEvent, SetPhase, SetRegister, SetResult, SetSavedCallee, UnnameCall, UnnameWork, after_word, Withdraw, SetExited, SetUninteresting}
+use Rattle.task_rules.specs.Words.{CloseSet, CountWork, MakeThread, Move, NameCall, NameThread, NameWork, OpenSet, Put, QueueWork, SetCancelled, SetOwnEvent, SetPhase, SetRegister, SetResult, SetSavedCallee, UnnameCall, UnnameWork, after_word, Withdraw, SetExited, SetUninteresting}
+use Rattle.task_machine.specs.declared.label.SetLabel.TheVariants as set_label
 use Rattle.task_machine.specs.declared.component.Slot.TheVariants as slot
 use Rattle.task_machine.specs.declared.label.CallLabel.TheVariants as call_label
 use Rattle.task_machine.specs.declared.label.Label.TheVariants as label
@@ -218,10 +217,10 @@ module _ (x : Setting) (main : Main) (s : Core) (n : ℕ) (l : Label) (next : Tu
   abbrev a : Scene
   a = running_scene x main s n l next
 
-  go : (k : Label) (t : Core) → is_still k ≡ true → Walk a s t → Leads a s (Goes k t n)
+  go : (k : Label) (t : Core) → is_still k ≡ true → Stay a s t → Leads a s (Goes k t n)
   go k t plain c = goes_on x main s n l next k t plain c
 
-  stop : (k : Label) (t : Core) → is_still k ≡ true → (Leaves a n → Walk a s t) → Leads a s (Stops k t)
+  stop : (k : Label) (t : Core) → is_still k ≡ true → (Leaves a n → Trip a s t) → Leads a s (Stops k t)
   stop k t plain c = stops_here x main s n l next k t plain c
 
   -- a label of sets writes no end
@@ -313,7 +312,7 @@ module _ (x : Setting) (main : Main) (s : Core) (n : ℕ) (l : Label) (next : Tu
       or_never_leads a s (gift false (task_of n s) y (chosen n ch s) s) _ (λ g e.
       goes_on_saying x main s n l next (label.Set (set_label.Poll (handed_out ch s g) n)) (received n r g (handed_out ch s g) s) refl (λ is. set_says (set_label.Poll (handed_out ch s g) n) _ is (gift_out r y ch g e)) (λ is. received_walks n refl r g (handed_out ch s g) (takes y ch g e) NoWord)))
 
-  joined_walks : (sub : Subtask) (y w : Option ℕ) (o : Option Status) (t : Core) → t.threads ≡ s.threads → may_wake_new o y w s ≡ true → Walk a s t → Walk a s (wakes_joined o y w t)
+  joined_walks : (sub : Subtask) (y w : Option ℕ) (o : Option Status) (t : Core) → t.threads ≡ s.threads → may_wake_new o y w s ≡ true → Stay a s t → Stay a s (wakes_joined o y w t)
   joined_walks sub (Some y) w (Some e) t same may c = shifted (wake_shifts y w t (λ m is. ap (λ (r : Records Thread). option_map_or (is_waiting_on y) (option_map (λ u. u.place) (get r m)) false) same ∙ chosen_of y w s may m is)) c
   joined_walks sub None w (Some e) t same may c = c
   joined_walks sub (Some y) w None t same may c = c
@@ -408,7 +407,7 @@ module _ (x : Setting) (main : Main) (s : Core) (n : ℕ) (l : Label) (next : Tu
       trap_if_leads a s (at_handle_limit s) trap.HandleLimit _ (λ g.
       goes_over x main s n l next (label.Call (call_label.Enters n (next_thread s))) (next_thread s) (enter_runs n e (export_kind x.component e) words s) refl (λ h. no_direct h) (by_number (next_thread s) n _ (λ h. inl (ap (λ (i : ℕ). turn.Run i) (sym h))) (λ h. inr (enter_gives n e (export_kind x.component e) words s h)))
       (λ is. mute_words a _ (ap is_mute is))
-      (λ is to. enter_runs_walks n refl e (export_kind x.component e) words to (makes_call e goal.Direct callee (λ d. lifted) refl))))
+      (λ is to. enter_runs_walks n refl e (export_kind x.component e) words refl to (makes_call e goal.Direct callee (λ d. lifted) refl))))
 
   call_sync_row_leads : (r : ℕ) (e : Callee) (words : List ℕ) (f : HowFar) → callee_of_op (op_in a n) ≡ Some e → how_far_of n s ≡ f → Leads a s (call_sync_row x.component n r e words s f)
   call_sync_row_leads r e words (how_far.Answered v) callee far =
@@ -438,7 +437,7 @@ module _ (x : Setting) (main : Main) (s : Core) (n : ℕ) (l : Label) (next : Tu
       go _ (host_pending n r q v host s) (packed_is_not_two (new_handle (instance_of n s) s) status.Started (λ h. no_way (ap is_returned h))) (assigned_walks n refl r v (word (NameWork (instance_of n s) (next_work s)) ((n, (refl, (refl, inr (refl, queued_made (work_caller.Async n q) host (Some (thread_group n s)) s)))), ap (λ f. is_async_work f) (queued_caller (work_caller.Async n q) host (Some (thread_group n s)) s))
       (word (QueueWork (work_caller.Async n q) host (Some (thread_group n s))) (refl, (refl, refl)) NoWord)))))
 
-  host_stops_walks : (host : HostDef) → Leaves a n → Walk a s (call_sync_host_stops n host s)
+  host_stops_walks : (host : HostDef) → Leaves a n → Trip a s (call_sync_host_stops n host s)
   unfolding call_sync_host_stops
   host_stops_walks host leave =
       let t = checked (instance_of n s) s in
@@ -468,7 +467,7 @@ module _ (x : Setting) (main : Main) (s : Core) (n : ℕ) (l : Label) (next : Tu
   call_sync_host_row_leads r h (how_far.Calls (subtask.Host i)) far =
       goes_on_saying x main s n l next (label.Call (call_label.CallSync n (work_value i s))) (work_answered n r i s) refl
       (λ is. call_says (call_label.CallSync n (work_value i s)) _ refl is (λ sub f out. said_is (HandsOut a (work_answered n r i s)) (sym (ap (λ (y : HowFar). option_map (end_for status.Returned) (call_of_op y)) far) ∙ out) (Answers n i refl far (work_gone n r i s))))
-      (λ is. subst (λ (t : Core). Walk a s t) (answered_first n r (work_value i s) i s) (work_deleted_walks n refl i (n, (refl, inl (far, assigned_fresh n r (work_value i s) s))) (assigned_walks n refl r (work_value i s) NoWord)))
+      (λ is. subst (λ (t : Core). Stay a s t) (answered_first n r (work_value i s) i s) (work_deleted_walks n refl i (n, (refl, inl (far, assigned_fresh n r (work_value i s) s))) (assigned_walks n refl r (work_value i s) NoWord)))
   call_sync_host_row_leads r h _ far = call_sync_host_polled_leads r (first_poll (host_at x.component h))
 
   -- ---- Cancels
@@ -496,18 +495,18 @@ module _ (x : Setting) (main : Main) (s : Core) (n : ℕ) (l : Label) (next : Tu
       hands_at Async = refl
       hands_at Sync = refl
 
-  cancel_ended_row_leads : (mode : Mode) (r : ℕ) (sub : Subtask) (t : Core) (o : Option Status) → cancelled_of_op x.component n s (how_far_of n s) ≡ Some sub → undelivered_end (event_of sub s) ≡ o → HasSubtask a n sub → Walk a s t → Leads a s (cancel_ended_row mode n r sub t o)
+  cancel_ended_row_leads : (mode : Mode) (r : ℕ) (sub : Subtask) (t : Core) (o : Option Status) → cancelled_of_op x.component n s (how_far_of n s) ≡ Some sub → undelivered_end (event_of sub s) ≡ o → HasSubtask a n sub → Stay a s t → Leads a s (cancel_ended_row mode n r sub t o)
   cancel_ended_row_leads mode r sub t None target found has c = tt
   cancel_ended_row_leads mode r sub t (Some e) target found has c = goes_on_saying x main s n l next (cancel_label mode n (status_code e)) (cancel_takes_end n r sub e t) (cancel_plain mode n (status_code e)) (λ is. cancel_says mode r sub t e target found is) (λ is. cancel_takes_end_walks n refl r sub e has c)
 
-  cancel_by_end_leads : (mode : Mode) (r : ℕ) (sub : Subtask) (t : Core) (b : Bool) → cancelled_of_op x.component n s (how_far_of n s) ≡ Some sub → event_of sub t ≡ event_of sub s → HasSubtask a n sub → IsFree sub → Walk a s t → Leads a s (cancel_by_end mode n r sub t b)
+  cancel_by_end_leads : (mode : Mode) (r : ℕ) (sub : Subtask) (t : Core) (b : Bool) → cancelled_of_op x.component n s (how_far_of n s) ≡ Some sub → event_of sub t ≡ event_of sub s → HasSubtask a n sub → IsFree sub → Stay a s t → Leads a s (cancel_by_end mode n r sub t b)
   cancel_by_end_leads mode r sub t true target same has free c = cancel_ended_row_leads mode r sub t (undelivered_end (event_of sub t)) target (ap (λ o. undelivered_end o) (sym same)) has c
   cancel_by_end_leads Async r sub t false target same has free c = go (cancel_label Async n blocked_code) (answered n r blocked_code t) refl (answered_walks n refl r blocked_code c)
   cancel_by_end_leads Sync r sub t false target same has free c =
       trap_if_leads a s (not (passes_check (instance_of n t) t)) trap.CannotBlockSyncTask _ (λ e.
       stop (pauses n) (cancel_stops n sub t) refl (λ leave. cancel_stops_walks n refl sub leave has free c))
 
-  asks_walks : (k : ℕ) → HasSubtask a n (subtask.Guest k) → (has_ended k s ≡ false) × (was_started k s ≡ true) → Walk a s (cancel_asks k s)
+  asks_walks : (k : ℕ) → HasSubtask a n (subtask.Guest k) → (has_ended k s ≡ false) × (was_started k s ≡ true) → Stay a s (cancel_asks k s)
   unfolding cancel_asks
   asks_walks k has says = word (SetOwnEvent k (Some own.Cancelled)) (inl (refl, ((n, (refl, has)), (says.1, says.0)))) NoWord
 
@@ -523,7 +522,7 @@ module _ (x : Setting) (main : Main) (s : Core) (n : ℕ) (l : Label) (next : Tu
       let writes : written_by x.component s l t ≡ Some (end_for status.StartCancelled (subtask.Guest k)) = ap (λ (y : Label). written_by x.component s y t) at ∙ (cancel_writes mode t ∙ ap (option_map (end_for status.StartCancelled)) target) in
       let v : Core = after_word (Withdraw k) s in
       let u : Core = set_end k call_end.StartCancelled v in
-      let rest : Walk a u (cancel_withdraws n r k s) = subst (λ (w : Core). Walk a (set_end k call_end.StartCancelled w) (cancel_withdraws n r k s)) (sym (withdraws k s)) (answered_walks n refl r 3 (word (SetUninteresting k) tt (word (SetExited k) tt NoWord))) in
+      let rest : Walk a u (cancel_withdraws n r k s) = subst (λ (w : Core). Walk a (set_end k call_end.StartCancelled w) (cancel_withdraws n r k s)) (sym (withdraws k s)) (stay_walk (answered_walks n refl r 3 (word (SetUninteresting k) tt (word (SetExited k) tt NoWord)))) in
       record {
         writes = λ to f says. said_is (λ d g. Writes a t d) (sym writes ∙ says) (WritesCall k u (EndsSubtask named unended) (over_now k call_end.StartCancelled v) rest);
         hands = λ to f out. said_is (HandsOut a t) (sym (ap (λ (y : Label). handed_by x.component main s y t) at ∙ (withdraw_hands mode ∙ ap (option_map (end_for status.StartCancelled)) target)) ∙ out) (WritesToo k status.StartCancelled (ap (λ (y : Label). written_by x.component s y s) at ∙ (cancel_writes mode s ∙ ap (option_map (end_for status.StartCancelled)) target)) (inr refl));
@@ -540,7 +539,7 @@ module _ (x : Setting) (main : Main) (s : Core) (n : ℕ) (l : Label) (next : Tu
       let says = subst (CaseSays k s) is (case_says k s) in
       goes_on_saying x main s n l next (cancel_label mode n 3) (cancel_withdraws n r k s) (cancel_plain mode n 3)
       (λ at. withdraw_says mode r k at target (n, (h, (refl, named))) says.0)
-      (λ at. answered_walks n refl r 3 (withdrawn_walks n refl k (n, (refl, (ByHandle h named, (says.1, says.0)))) (ap (λ (y : Label). written_by x.component s y s) at ∙ (cancel_writes mode s ∙ ap (option_map (end_for status.StartCancelled)) target)) NoWord))
+      (λ at. answered_walks n refl r 3 (withdrawn_walks n refl k (n, (refl, (ByHandle h named, (says.1, (says.0, (refl, says.1)))))) (ap (λ (y : Label). written_by x.component s y s) at ∙ (cancel_writes mode s ∙ ap (option_map (end_for status.StartCancelled)) target)) NoWord))
   cancel_guest_leads mode r h k CallbackWaits target is named free =
       let asks = asks_walks k (ByHandle h named) (goes_on_case k s CallbackWaits is refl) in
       stop (pauses n) (cancel_wakes_callback n k s) refl (λ leave. cancel_goes_behind_walks n refl k leave (ByHandle h named) free
@@ -548,7 +547,7 @@ module _ (x : Setting) (main : Main) (s : Core) (n : ℕ) (l : Label) (next : Tu
   cancel_guest_leads mode r h k CallbackYields target is named free =
       let asks = asks_walks k (ByHandle h named) (goes_on_case k s CallbackYields is refl) in
       stop (pauses n) (cancel_promotes_yield n k s) refl (λ leave. cancel_goes_behind_walks n refl k leave (ByHandle h named) free
-      (shifted (promoted_unless_shifts k (cancel_asks k s) (inr (ready_at (place_of k s) (yields_ready (place_of k s) (subst (CaseSays k s) is (case_says k s)))))) asks))
+      (promoted_walks n k refl (ready_at (place_of k s) (yields_ready (place_of k s) (subst (CaseSays k s) is (case_says k s)))) asks))
   cancel_guest_leads mode r h k OtherwiseRuns target is named free = cancel_by_end_leads mode r (subtask.Guest k) (cancel_asks k s) (subtask_ended (subtask.Guest k) (cancel_asks k s)) target (event_owed k (Some own.Cancelled) s) (ByHandle h named) (inl free) (asks_walks k (ByHandle h named) (goes_on_case k s OtherwiseRuns is refl))
 
   cancel_subtask_leads : (mode : Mode) (r h : ℕ) (sub : Subtask) → cancelled_of_op x.component n s (how_far_of n s) ≡ Some sub → subtask_at (instance_of n s) h s ≡ Some sub → is_joined (join_of sub s) ≡ false → Leads a s (cancel_subtask mode n r s sub)
@@ -576,7 +575,7 @@ module _ (x : Setting) (main : Main) (s : Core) (n : ℕ) (l : Label) (next : Tu
 
   -- ---- Dropping
 
-  dropped_walks : (h : ℕ) (sub : Subtask) → subtask_at (instance_of n s) h s ≡ Some sub → subtask_ended sub s ≡ true → Walk a s (dropped n h sub s)
+  dropped_walks : (h : ℕ) (sub : Subtask) → subtask_at (instance_of n s) h s ≡ Some sub → subtask_ended sub s ≡ true → Stay a s (dropped n h sub s)
   unfolding dropped set_join on_call on_work
   dropped_walks h (subtask.Guest k) named ended =
       let sub = subtask.Guest k in
@@ -617,13 +616,13 @@ module _ (x : Setting) (main : Main) (s : Core) (n : ℕ) (l : Label) (next : Tu
       go _ (thread_made n r y v s) refl (assigned_walks n refl r (new_thread_handle (instance_of n s) s) (word (NameThread (instance_of n s) (next_thread s)) tt
       (word (MakeThread (new_thread (task_of n s) true (script.Slot y) (registers_for (v ∷ [])) None)) (n, (refl, (refl, (y, (v, (refl, refl)))))) NoWord)))))
 
-  halted_walks : (h : Halt) (t : Core) → Leaves a n → Walk a s t → Walk a s (halted h n t)
+  halted_walks : (h : Halt) (t : Core) → Leaves a n → Stay a s t → Trip a s (halted h n t)
   unfolding halted
-  halted_walks Suspension t leave c = word (SetHowFar n how_far.Suspends) refl (moved (Move n place.Suspended) (Suspends leave refl) (stopped_walks n refl t c))
-  halted_walks Yielding t leave c = word (SetHowFar n how_far.Yields) refl (moved (Put mark.Low n why.Resumption) (Yields leave refl) (stopped_walks n refl t c))
+  halted_walks Suspension t leave c = lands_at (Move n place.Suspended) n how_far.Suspends (Suspends leave refl) refl (stopped_walks n refl t c)
+  halted_walks Yielding t leave c = lands_at (Put mark.Low n why.Resumption) n how_far.Yields (Yields leave refl) refl (stopped_walks n refl t c)
 
-  halted_checked_walks : (h : Halt) → Leaves a n → Walk a s (halted_checked h n s)
-  halted_checked_walks h leave = subst (λ (t : Core). Walk a s t) (sym (halted_checked_is h n s)) (halted_walks h (checked (instance_of n s) s) leave (checked_walks n refl (instance_of n s) NoWord))
+  halted_checked_walks : (h : Halt) → Leaves a n → Trip a s (halted_checked h n s)
+  halted_checked_walks h leave = subst (λ (t : Core). Trip a s t) (sym (halted_checked_is h n s)) (halted_walks h (checked (instance_of n s) s) leave (checked_walks n refl (instance_of n s) NoWord))
 
   halts_leads : (h : Halt) (k : Label) (b : Bool) → is_still k ≡ true → Leads a s (halts h n k s b)
   halts_leads h k true plain = stop (pauses n) (halted_checked h n s) refl (λ leave. halted_checked_walks h leave)
@@ -653,7 +652,7 @@ module _ (x : Setting) (main : Main) (s : Core) (n : ℕ) (l : Label) (next : Tu
   unfolding halted_promoting has_yielded
   then_promote_leads y k m true plain at =
       let ready = resumes_ready (place_of m s) (both_true (option_map_or is_ready_to_resume (place_of m s) false) (is_yielded (how_far_of m s)) at) in
-      stop (pauses n) (halted_promoting y n m s) refl (λ leave. halted_walks y (promoted_unless m s) leave (shifted (promoted_unless_shifts m s (inr (ready_at (place_of m s) ready))) NoWord))
+      stop (pauses n) (halted_promoting y n m s) refl (λ leave. halted_walks y (promoted_unless m s) leave (promoted_walks n m refl (ready_at (place_of m s) ready) NoWord))
   then_promote_leads y k m false plain at = halt_row_leads y k plain
 
   then_promote_row_leads : (y : Halt) (h : ℕ) (k : Label) → is_still k ≡ true → Leads a s (then_promote_row y n h k s)

@@ -1,12 +1,14 @@
 -- What the rows of the ops are made of, as chains of words: what is read, gifts, moves, and a new call.
 use Rattle.task_rules.specs.Data.{assigned, advanced, moved_to}
+use Rattle.task_rules.proofs.MoveLemmas.{put_place}
+use Rattle.task_machine.specs.declared.records.HowFar.{HowFar}
 use Rattle.std.proofs.Common.{T, ap, inl, inr, refl, subst, sym, ◌∙◌, ◌⊎◌}
 use Rattle.std.specs.Option.{option_map_or}
-use Rattle.std.specs.Prelude.{Bool, List, None, Option, Some, [], false, if◌then◌else◌, is_none, option_and_then, option_map, true, unwrap_or, ℕ, ◌+◌, ◌==◌, ◌≡◌}
+use Rattle.std.specs.Prelude.{Bool, List, None, Option, Some, [], false, if◌then◌else◌, is_none, option_and_then, option_map, true, unwrap_or, ℕ, ◌+◌, ◌==◌, ◌≡◌, is_some}
 use Rattle.task_machine.proofs.MapLemmas.{change-field, get-change_same, get-insert_same, get-remove_same}
 use Rattle.task_machine.specs.Core.{Core}
 use Rattle.task_machine.specs.Labels.{Choice, join_label, wait_label}
-use Rattle.task_machine.specs.Maps.{change, get}
+use Rattle.task_machine.specs.Maps.{change, get, Records}
 use Rattle.task_machine.specs.Moves.{Gift, MemberGift, NoGift, OwnGift, behind_one, checked, gift, gift_after_own, has_entry, less, less_switch, member_gift, own_gift, put_switch, stopped, unqueued, withdrawn, is_group_done, group_settled}
 use Rattle.task_machine.specs.Read.{call_instance, foot_of, goal_of, has_ready_member, how_far_of, instance_of, is_direct, is_explicit, is_joined, is_ready_member, join_of, may_not_suspend, new_thread_handle, own_event_of, place_of, saved_callee_of, subtask_at, subtask_handle, task_of, thread_group, is_blocked_on}
 use Rattle.task_machine.specs.Statuses.{status_code}
@@ -28,17 +30,17 @@ use Rattle.task_machine.specs.declared.words.OwnEvent.{OwnEvent}
 use Rattle.task_machine.specs.declared.words.Status.{Status}
 use Rattle.task_rules.proofs.PlacingLemmas.{Shifted, placed, placing_shifted, shifted_after, shifted_explicit, shifted_made}
 use Rattle.task_rules.proofs.StandLemmas.{place_kept, eq_refl}
-use Rattle.task_rules.proofs.WalkMoves.{MayTake, checked_shifts, group_settled_walks, moved, shifted, stopped_shifts, taken_walks, word}
-use Rattle.task_rules.proofs.WalkTask.{advanced_walks, answered_walks, is_plain, is_still, running_moved, moved_passes}
-use Rattle.task_rules.specs.Allowed.{Blocks, ByHandle, HasSet, HasSubtask, IsNew, IsRunner, IsWithdrawn, Leaves, MayDeliver, MayJoin, MayMakeCall, MayRemoveWork, MayWithdraw, SaysEnd, Starts, Waits, MayCome}
+use Rattle.task_rules.proofs.WalkMoves.{MayTake, checked_shifts, group_settled_walks, shifted, stopped_shifts, taken_walks, word, lands_at}
+use Rattle.task_rules.proofs.WalkTask.{advanced_walks, answered_walks, is_plain, is_still, running_moved, moved_passes, not_main}
+use Rattle.task_rules.specs.Allowed.{Blocks, ByHandle, HasSet, HasSubtask, IsNew, IsRunner, IsWithdrawn, Leaves, MayDeliver, MayJoin, MayMakeCall, MayRemoveWork, MayWithdraw, SaysEnd, Starts, Waits, MayCome, is_begun}
 use Rattle.task_rules.specs.Calls.{call_clears_flag, call_made, call_queues, call_resumes, call_stops, enter_runs, new_call, new_thread, next_thread, put_back, settle_group_of, sync_sets_flag, with_thread_handle, work_deleted, work_group}
 use Rattle.task_rules.specs.Cancels.{Async, Mode, Sync, behind_switch, cancel_goes_behind, cancel_label, cancel_stops, cancel_takes_end}
-use Rattle.task_rules.specs.Chains.{NoWord, Walk, is_running}
+use Rattle.task_rules.specs.Chains.{NoWord, Stay, Trip, is_running, Remains}
 use Rattle.task_rules.specs.Places.{says}
 use Rattle.task_rules.specs.Scenes.{Scene}
 use Rattle.task_rules.specs.Scripts.{registers_for}
 use Rattle.task_rules.specs.Sets.{chosen, given_code, given_handle, given_result, received, set_given, wait_stops}
-use Rattle.task_rules.specs.Words.{Enter, GoBehind, MakeCall, Move, NameThread, Put, RemoveWork, SetCallEvent, SetCallJoin, SetDoNotSuspend, SetEnd, SetExited, SetHowFar, SetRegister, SetSavedCallee, SetSavedOwn, SetStarted, SetUninteresting, TakeWorkEvent, SetWorkJoin, Stop, Withdraw, after_word}
+use Rattle.task_rules.specs.Words.{Enter, GoBehind, MakeCall, Move, NameThread, Put, RemoveWork, SetCallEvent, SetCallJoin, SetDoNotSuspend, SetEnd, SetExited, SetHowFar, SetRegister, SetSavedCallee, SetSavedOwn, SetStarted, SetUninteresting, TakeWorkEvent, SetWorkJoin, Stop, Withdraw, after_word, after_placing}
 use Rattle.task_machine.specs.declared.component.ExportKind.TheVariants as kind
 use Rattle.task_machine.specs.declared.records.CallEnd.TheVariants as call_end
 use Rattle.task_machine.specs.declared.records.Caller.TheVariants as caller
@@ -174,93 +176,92 @@ withdraws k t = withdraws_by k (less_switch k t.queues.switch) (less k t.queues.
 -- ---- The moves
 
 module _ {a : Scene} {b : Core} (n : ℕ) (is : IsRunner a n) where
-  pub set_given_walks : (r : ℕ) (v : Given) {t : Core} → Walk a b t → Walk a b (set_given n r v t)
+  pub set_given_walks : (r : ℕ) (v : Given) {t : Core} → Stay a b t → Stay a b (set_given n r v t)
   unfolding set_given
   set_given_walks r v c = word (SetRegister n (r + 2) (given_result v)) tt (word (SetRegister n (r + 1) (given_handle v)) tt (word (SetRegister n r (given_code v)) tt c))
 
-  pub received_walks : (r : ℕ) (g : Gift) (v : Given) {t : Core} → MayTake a (task_of n t) g → Walk a b t → Walk a b (received n r g v t)
+  pub received_walks : (r : ℕ) (g : Gift) (v : Given) {t : Core} → MayTake a (task_of n t) g → Stay a b t → Stay a b (received n r g v t)
   unfolding received
   received_walks r g v {t = t} ok c = advanced_walks n is (set_given_walks r v (taken_walks g (task_of n t) ok c))
 
-  pub stopped_walks : (t : Core) → Walk a b t → Walk a b (stopped (foot_of n t) t)
+  pub stopped_walks : (t : Core) → Stay a b t → Stay a b (stopped (foot_of n t) t)
   stopped_walks t c = shifted (stopped_shifts (foot_of n t) t) c
 
-  pub checked_walks : (i : ℕ) {t : Core} → Walk a b t → Walk a b (checked i t)
+  pub checked_walks : (i : ℕ) {t : Core} → Stay a b t → Stay a b (checked i t)
   checked_walks i {t = t} c = shifted (checked_shifts i t) c
 
-  pub wait_stops_walks : (y : ℕ) {t : Core} → Leaves a n → HasSet a n y → Walk a b t → Walk a b (wait_stops n y t)
+  pub wait_stops_walks : (y : ℕ) {t : Core} → Leaves a n → HasSet a n y → Stay a b t → Trip a b (wait_stops n y t)
   unfolding wait_stops
-  wait_stops_walks y {t = t} leave has c = word (SetHowFar n (how_far.Waits y)) (is, has) (moved (Move n (place.Waiting y false)) (Waits y leave has refl) (stopped_walks t c))
+  wait_stops_walks y {t = t} leave has c = lands_at (Move n (place.Waiting y false)) n (how_far.Waits y) (Waits y leave has refl) (is, has) (stopped_walks t c)
 
-  pub join_walks : (sub : Subtask) (j : Join) {t : Core} → MayJoin a sub j t → Walk a b t → Walk a b (set_join sub j t)
+  pub join_walks : (sub : Subtask) (j : Join) {t : Core} → MayJoin a sub j t → Stay a b t → Stay a b (set_join sub j t)
   join_walks (subtask.Guest k) j ok c = word (SetCallJoin k j) ok c
   join_walks (subtask.Host i) j ok c = word (SetWorkJoin i j) ok c
 
-  event_taken_walks : (sub : Subtask) {t : Core} → HasSubtask a n sub → Walk a b t → Walk a b (set_event sub None t)
+  event_taken_walks : (sub : Subtask) {t : Core} → HasSubtask a n sub → Stay a b t → Stay a b (set_event sub None t)
   event_taken_walks (subtask.Guest k) has c = word (SetCallEvent k None) (n, (is, has)) c
   event_taken_walks (subtask.Host i) has c = word (TakeWorkEvent i) (n, (is, has)) c
 
-  pub put_back_walks : (o : Option Bool) (j : ℕ) {t : Core} → Walk a b t → Walk a b (put_back o j t)
+  pub put_back_walks : (o : Option Bool) (j : ℕ) {t : Core} → Stay a b t → Stay a b (put_back o j t)
   put_back_walks None j c = c
   put_back_walks (Some f) j c = word (SetDoNotSuspend j f) tt c
 
-  pub call_resumes_walks : (k : ℕ) {t : Core} → HasSubtask a n (subtask.Guest k) → Walk a b t → Walk a b (call_resumes n k t)
+  pub call_resumes_walks : (k : ℕ) {t : Core} → HasSubtask a n (subtask.Guest k) → Stay a b t → Stay a b (call_resumes n k t)
   unfolding call_resumes
   call_resumes_walks k {t = t} has c = event_taken_walks (subtask.Guest k) has (put_back_walks (saved_callee_of n t) (call_instance k t) c)
 
-  pub call_stops_walks : (sub : Subtask) (t : Core) → Leaves a n → ((u : Core) → Shifted t u → HasSubtask a n sub ⊎ IsNew a sub u) → ((u : Core) → Shifted t u → option_map_or (is_blocked_on sub) (place_of n u) true ≡ true → MayCome a n (how_far.Calls sub) u) → Walk a b t → Walk a b (call_stops n sub t)
+  pub call_stops_walks : (sub : Subtask) (t : Core) → Leaves a n → ((u : Core) → Shifted t u → HasSubtask a n sub ⊎ IsNew a sub u) → ((u : Core) → Shifted t u → option_map_or (is_blocked_on sub) (place_of n u) true ≡ true → MayCome a n (how_far.Calls sub) u) → Stay a b t → Trip a b (call_stops n sub t)
   unfolding call_stops
   call_stops_walks sub t leave own come c =
       let u = stopped (foot_of n t) t in
       let h : Shifted t u = placing_shifted (Stop (foot_of n t)) t in
-      word (SetHowFar n (how_far.Calls sub)) (come (set_place n (place.Blocked sub) u) (shifted_after h (placing_shifted (Move n (place.Blocked sub)) u)) (moved_passes (is_blocked_on sub) (place.Blocked sub) (blocked_itself sub) n u))
-      (moved (Move n (place.Blocked sub)) (Blocks sub leave (own u h) refl) (stopped_walks t c))
+      lands_at (Move n (place.Blocked sub)) n (how_far.Calls sub) (Blocks sub leave (own u h) refl) (come (set_place n (place.Blocked sub) u) (shifted_after h (placing_shifted (Move n (place.Blocked sub)) u)) (moved_passes (is_blocked_on sub) (place.Blocked sub) (blocked_itself sub) n u)) (stopped_walks t c)
 
-  pub sync_sets_flag_walks : (m j : ℕ) (k : ExportKind) {t : Core} → Walk a b t → Walk a b (sync_sets_flag m j k t)
+  pub sync_sets_flag_walks : (m j : ℕ) (k : ExportKind) {t : Core} → Stay a b t → Stay a b (sync_sets_flag m j k t)
   sync_sets_flag_walks m j kind.Sync {t = t} c = word (SetDoNotSuspend j true) tt (word (SetSavedOwn m (Some (may_not_suspend j t))) tt c)
   sync_sets_flag_walks m j kind.Blocking c = c
   sync_sets_flag_walks m j kind.Stackful c = c
   sync_sets_flag_walks m j kind.Callback c = c
 
-  call_clears_flag_walks : (j : ℕ) (k : ExportKind) {t : Core} → Walk a b t → Walk a b (call_clears_flag n j k t)
+  call_clears_flag_walks : (j : ℕ) (k : ExportKind) {t : Core} → Stay a b t → Stay a b (call_clears_flag n j k t)
   call_clears_flag_walks j kind.Sync c = c
   call_clears_flag_walks j kind.Blocking {t = t} c = word (SetDoNotSuspend j false) tt (word (SetSavedCallee n (Some (may_not_suspend j t))) tt c)
   call_clears_flag_walks j kind.Stackful {t = t} c = word (SetDoNotSuspend j false) tt (word (SetSavedCallee n (Some (may_not_suspend j t))) tt c)
   call_clears_flag_walks j kind.Callback {t = t} c = word (SetDoNotSuspend j false) tt (word (SetSavedCallee n (Some (may_not_suspend j t))) tt c)
 
-  settle_group_of_walks : (o : Option ℕ) {t : Core} → Walk a b t → Walk a b (settle_group_of o t)
+  settle_group_of_walks : (o : Option ℕ) {t : Core} → Stay a b t → Stay a b (settle_group_of o t)
   settle_group_of_walks None c = c
   settle_group_of_walks (Some g) c = group_settled_walks g c
 
-  pub work_deleted_walks : (i : ℕ) {t : Core} → MayRemoveWork a i t → Walk a b t → Walk a b (work_deleted i t)
+  pub work_deleted_walks : (i : ℕ) {t : Core} → MayRemoveWork a i t → Stay a b t → Stay a b (work_deleted i t)
   unfolding work_deleted
   work_deleted_walks i {t = t} ok c = settle_group_of_walks (work_group i t) (word (RemoveWork i) ok c)
 
-  pub cancel_takes_end_walks : (r : ℕ) (sub : Subtask) (e : Status) {t : Core} → HasSubtask a n sub → Walk a b t → Walk a b (cancel_takes_end n r sub e t)
+  pub cancel_takes_end_walks : (r : ℕ) (sub : Subtask) (e : Status) {t : Core} → HasSubtask a n sub → Stay a b t → Stay a b (cancel_takes_end n r sub e t)
   unfolding cancel_takes_end
   cancel_takes_end_walks r sub e has c = answered_walks n is r (status_code e) (event_taken_walks sub has c)
 
-  pub cancel_stops_walks : (sub : Subtask) {t : Core} → Leaves a n → HasSubtask a n sub → (is_joined (join_of sub a.base) ≡ false) ⊎ (how_far_of n a.base ≡ how_far.Cancels sub) → Walk a b t → Walk a b (cancel_stops n sub t)
+  pub cancel_stops_walks : (sub : Subtask) {t : Core} → Leaves a n → HasSubtask a n sub → (is_joined (join_of sub a.base) ≡ false) ⊎ (how_far_of n a.base ≡ how_far.Cancels sub) → Stay a b t → Trip a b (cancel_stops n sub t)
   unfolding cancel_stops
   cancel_stops_walks sub {t = t} leave has free c =
       let u = set_join sub (join.Watched n) (set_saved_callee n None t) in
-      word (SetHowFar n (how_far.AwaitsEnd sub)) (is, has) (moved (Move n (place.Blocked sub)) (Blocks sub leave (inl has) refl) (stopped_walks (checked (instance_of n t) u) (checked_walks (instance_of n t) (join_walks sub (join.Watched n) (is, (has, free)) (word (SetSavedCallee n None) tt c)))))
+      lands_at (Move n (place.Blocked sub)) n (how_far.AwaitsEnd sub) (Blocks sub leave (inl has) refl) (is, has) (stopped_walks (checked (instance_of n t) u) (checked_walks (instance_of n t) (join_walks sub (join.Watched n) (is, (has, free)) (word (SetSavedCallee n None) tt c))))
 
-  behind_switch_walks : (o : Option ℕ) {t : Core} → Leaves a n → Walk a b t → Walk a b (behind_switch n o t)
-  behind_switch_walks None leave c = c
-  behind_switch_walks (Some m) {t = t} leave c = moved (GoBehind (foot_of m t) n) leave c
+  behind_switch_walks : (o : Option ℕ) (h : HowFar) {t : Core} → t.queues.switch ≡ o → Leaves a n → ((u : Core) → MayCome a n h u) → Stay a b t → Trip a b (set_how_far n h (behind_switch n o t))
+  behind_switch_walks None h {t = t} at leave comes c = Remains (set_how_far n h t) (word (SetHowFar n h) (comes t) c) (λ m to. not_main m (sym leave.1.0 ∙ to))
+  behind_switch_walks (Some m) h {t = t} at leave comes c = lands_at (GoBehind (foot_of m t) n) n h (leave, inr (m, (at, refl))) (comes (after_placing (GoBehind (foot_of m t) n) t)) c
 
-  pub cancel_goes_behind_walks : (k : ℕ) {t : Core} → Leaves a n → HasSubtask a n (subtask.Guest k) → is_joined (join_of (subtask.Guest k) a.base) ≡ false → Walk a b t → Walk a b (cancel_goes_behind n k t)
-  unfolding cancel_goes_behind
+  pub cancel_goes_behind_walks : (k : ℕ) {t : Core} → Leaves a n → HasSubtask a n (subtask.Guest k) → is_joined (join_of (subtask.Guest k) a.base) ≡ false → Stay a b t → Trip a b (cancel_goes_behind n k t)
+  unfolding cancel_goes_behind set_join on_call set_do_not_suspend on_instance set_saved_callee on_thread
   cancel_goes_behind_walks k {t = t} leave has free c =
       let j = call_instance k t in
-      word (SetHowFar n (how_far.Cancels (subtask.Guest k))) (is, has) (behind_switch_walks t.queues.switch leave
-      (join_walks (subtask.Guest k) (join.Watched n) (is, (has, inl free)) (word (SetDoNotSuspend j false) tt (word (SetSavedCallee n (Some (may_not_suspend j t))) tt c))))
+      behind_switch_walks t.queues.switch (how_far.Cancels (subtask.Guest k)) refl leave (λ u. (is, has))
+      (join_walks (subtask.Guest k) (join.Watched n) (is, (has, inl free)) (word (SetDoNotSuspend j false) tt (word (SetSavedCallee n (Some (may_not_suspend j t))) tt c)))
 
-  pub withdrawn_walks : (k : ℕ) {t : Core} → MayWithdraw a k t → SaysEnd a k status.StartCancelled → Walk a b t → Walk a b (withdrawn k t)
+  pub withdrawn_walks : (k : ℕ) {t : Core} → MayWithdraw a k t → SaysEnd a k status.StartCancelled → Stay a b t → Stay a b (withdrawn k t)
   unfolding withdrawn remove_thread
   withdrawn_walks k {t = t} ok says c =
-      subst (λ (v : Core). Walk a b (set_uninteresting k (set_exited k (set_end k call_end.StartCancelled v)))) (withdraws k t)
+      subst (λ (v : Core). Stay a b (set_uninteresting k (set_exited k (set_end k call_end.StartCancelled v)))) (withdraws k t)
       (word (SetUninteresting k) tt (word (SetExited k) tt (word (SetEnd k call_end.StartCancelled) (IsWithdrawn ok (ap (λ (o : Option Thread). is_none o) (get-remove_same t.threads k)) refl, says) (word (Withdraw k) ok c))))
 
 -- ---- A new call
@@ -349,6 +350,22 @@ flag_born m j kind.Blocking g t h = h
 flag_born m j kind.Stackful g t h = h
 flag_born m j kind.Callback g t h = h
 
+-- a call whose start runs has begun
+pub started_begun : (k : ℕ) (t : Core) → is_begun k (set_started k t) ≡ true
+unfolding set_started on_call
+started_begun k t = ap (λ (o : Option Call). option_map_or (λ c. c.started) o true) (get-change_same t.calls k (λ c. record c { started = true })) ∙ at (get t.calls k)
+  where
+    at : (o : Option Call) → option_map_or (λ c. c.started) (option_map (λ (c : Call). record c { started = true }) o) true ≡ true
+    at None = refl
+    at (Some c) = refl
+
+pub flag_calls : (m j : ℕ) (k : ExportKind) (t : Core) → (sync_sets_flag m j k t).calls ≡ t.calls
+unfolding set_do_not_suspend on_instance set_saved_own on_thread
+flag_calls m j kind.Sync t = refl
+flag_calls m j kind.Blocking t = refl
+flag_calls m j kind.Stackful t = refl
+flag_calls m j kind.Callback t = refl
+
 -- where the thread is put or goes no more is said than whose it is
 shifted_new : (a : Scene) (m : ℕ) (s t : Core) → m ≡ next_thread a.base → Shifted s t → (s.made.threads ≡ m) × (is_explicit m s ≡ false) → IsNew a (subtask.Guest m) t
 shifted_new a m s t is h e = (is, (ap (λ (d : Made). d.threads) (shifted_made h) ∙ e.0, shifted_explicit h m ∙ e.1))
@@ -373,8 +390,21 @@ cleared_explicit n j k m t e = by_kind k
     by_kind kind.Stackful = (e.0, explicit_same (Some (may_not_suspend j t)) ∙ e.1)
     by_kind kind.Callback = (e.0, explicit_same (Some (may_not_suspend j t)) ∙ e.1)
 
+cleared_there : (n j : ℕ) (k : ExportKind) (m : ℕ) (t : Core) → is_some (place_of m (call_clears_flag n j k t)) ≡ is_some (place_of m t)
+unfolding set_do_not_suspend on_instance set_saved_callee on_thread
+cleared_there n j k m t = by_kind k
+  where
+    same : (f : Option Bool) → is_some (place_of m (set_saved_callee n f t)) ≡ is_some (place_of m t)
+    same f = ap (λ (o : Option Place). is_some o) (change-field (λ (r : Thread). r.place) n (λ r. record r { saved_callee = f }) (λ r. refl) t.threads m)
+
+    by_kind : (k : ExportKind) → is_some (place_of m (call_clears_flag n j k t)) ≡ is_some (place_of m t)
+    by_kind kind.Sync = refl
+    by_kind kind.Blocking = same (Some (may_not_suspend j t))
+    by_kind kind.Stackful = same (Some (may_not_suspend j t))
+    by_kind kind.Callback = same (Some (may_not_suspend j t))
+
 module _ {a : Scene} (n : ℕ) (is : IsRunner a n) where
-  pub call_queues_walks : (e : Callee) (k : ExportKind) (g : Goal) (words : List ℕ) → Leaves a n → MayMakeCall a (caller.Thread n) e k g (thread_group n a.base) a.base → is_direct g ≡ false → Walk a a.base (call_queues n e k g words a.base)
+  pub call_queues_walks : (e : Callee) (k : ExportKind) (g : Goal) (words : List ℕ) → Leaves a n → MayMakeCall a (caller.Thread n) e k g (thread_group n a.base) a.base → is_direct g ≡ false → Trip a a.base (call_queues n e k g words a.base)
   unfolding call_queues
   call_queues_walks e k g words leave ok plain =
       let s = a.base in
@@ -386,13 +416,12 @@ module _ {a : Scene} (n : ℕ) (is : IsRunner a n) where
       let d : Shifted t u = placing_shifted p t in
       let v = call_clears_flag n e.instance k u in
       let new : (v.made.threads ≡ m) × (is_explicit m v ≡ false) = cleared_explicit n e.instance k m u (ap (λ (r : Made). r.threads) (shifted_made d) ∙ h.made, shifted_explicit d m ∙ born_explicit h) in
-      word (SetHowFar n (how_far.Calls (subtask.Guest m))) (is, inr (shifted_new a m v (behind_one m n v) refl (placing_shifted (GoBehind m n) v) new))
-      (moved (GoBehind m n) leave (call_clears_flag_walks n is e.instance k
-      (placed p (inl (Starts (born_place h) (born_explicit h) (ap (λ (y : Goal). is_direct y) (born_goal h) ∙ plain) refl)) (word (MakeCall (caller.Thread n) e k g (thread_group n s) words) ok NoWord))))
+      lands_at (GoBehind m n) n (how_far.Calls (subtask.Guest m)) (leave, inl (cleared_there n e.instance k m u ∙ ap (λ (o : Option Place). is_some o) (put_place mark.Switch m why.Start t (ap (λ (o : Option Place). is_some o) (born_place h))))) (is, inr (shifted_new a m v (behind_one m n v) refl (placing_shifted (GoBehind m n) v) new)) (call_clears_flag_walks n is e.instance k
+      (placed p (inl (Starts (born_place h) (born_explicit h) (ap (λ (y : Goal). is_direct y) (born_goal h) ∙ plain) refl)) (word (MakeCall (caller.Thread n) e k g (thread_group n s) words) ok NoWord)))
 
-  pub enter_runs_walks : (e : Callee) (k : ExportKind) (words : List ℕ) → a.next ≡ turn.Run (next_thread a.base) → MayMakeCall a (caller.Thread n) e k goal.Direct (thread_group n a.base) a.base → Walk a a.base (enter_runs n e k words a.base)
+  pub enter_runs_walks : (e : Callee) (k : ExportKind) (words : List ℕ) → a.turn ≡ turn.Run n → a.next ≡ turn.Run (next_thread a.base) → MayMakeCall a (caller.Thread n) e k goal.Direct (thread_group n a.base) a.base → Trip a a.base (enter_runs n e k words a.base)
   unfolding enter_runs
-  enter_runs_walks e k words to ok =
+  enter_runs_walks e k words runs to ok =
       let s = a.base in
       let m = next_thread s in
       let t = call_made (caller.Thread n) e k goal.Direct (thread_group n s) words s in
@@ -401,9 +430,9 @@ module _ {a : Scene} (n : ℕ) (is : IsRunner a n) where
       let h2 : Born m goal.Direct (set_started m t1) = started_born m m goal.Direct t1 h1 in
       let u = sync_sets_flag m e.instance k (set_started m t1) in
       let h : Born m goal.Direct u = flag_born m e.instance k goal.Direct (set_started m t1) h2 in
-      word (SetHowFar n (how_far.Calls (subtask.Guest m))) (is, inr (shifted_new a m u _ refl (placing_shifted (Enter n m) u) (h.made, born_explicit h)))
-      (moved (Enter n m) (is, (to, (refl, (born_place h, ap (λ (y : Goal). is_direct y) (born_goal h)))))
-      (sync_sets_flag_walks n is m e.instance k (word (SetStarted m) (inr (refl, (h1.made, born_explicit h1))) (word (NameThread e.instance m) tt (word (MakeCall (caller.Thread n) e k goal.Direct (thread_group n s) words) ok NoWord)))))
+      let begun : is_begun m u ≡ true = ap (λ (r : Records Call). option_map_or (λ c. c.started) (get r m) true) (flag_calls m e.instance k (set_started m t1)) ∙ started_begun m t1 in
+      lands_at (Enter n m) n (how_far.Calls (subtask.Guest m)) (is, (to, (refl, (born_place h, (ap (λ (y : Goal). is_direct y) (born_goal h), (runs, begun)))))) (is, inr (shifted_new a m u _ refl (placing_shifted (Enter n m) u) (h.made, born_explicit h)))
+      (sync_sets_flag_walks n is m e.instance k (word (SetStarted m) (inr (refl, (h1.made, born_explicit h1))) (word (NameThread e.instance m) tt (word (MakeCall (caller.Thread n) e k goal.Direct (thread_group n s) words) ok NoWord))))
 
 pub enter_gives : (n : ℕ) (e : Callee) (k : ExportKind) (words : List ℕ) (s : Core) → (next_thread s == n) ≡ false → option_map_or is_running (place_of (next_thread s) (enter_runs n e k words s)) true ≡ true
 unfolding enter_runs set_how_far on_thread

@@ -5,25 +5,23 @@ use Rattle.task_machine.specs.declared.records.Stage.{Stage}
 use Rattle.task_machine.specs.declared.records.Subtask.{Subtask}
 use Rattle.task_rules.proofs.MuteLemmas.{is_mute, is_mute_main, mute_words, none_said}
 use Rattle.task_rules.proofs.SayLemmas.{finished_is, result_taken, said_is}
-use Rattle.task_rules.specs.Chains.{EndWords, HandsOut, TakesResult, Writes, WritesPolled}
+use Rattle.task_rules.specs.Chains.{EndWords, HandsOut, TakesResult, Writes, WritesPolled, start_of, Remains, Collapses, Chain, Then, LastWords, NoWord, SameMain, Shifts, StepsAreWalks, Stay, Trip, Walk, is_take}
+use Rattle.task_rules.proofs.ChainLemmas.{join, trip_walk}
+use Rattle.task_rules.proofs.WalkTask.{Leads, data_row_leads, none_is_some, not_main, running_scene, task_row_leads, under_place}
 use Rattle.task_rules.specs.SubtaskEnds.{SubtaskEnd, end_for, finished_call, handed_by, handed_by_main, started_end, written_by}
-use Rattle.task_machine.specs.declared.records.Subtask.TheVariants as subtask
 use Rattle.task_machine.specs.declared.words.Status.{Status}
-use Rattle.task_machine.specs.declared.words.Status.TheVariants as status
-use Rattle.task_machine.specs.Core.{Main}
-use Rattle.task_machine.specs.Write.{take_result}
-use Rattle.task_rules.specs.MainOps.{started_at, spawned_at}
+use Rattle.task_machine.specs.Core.{Main, Began, Core, MainPlace, Refused, Scripted, Started, State, Unscripted}
+use Rattle.task_machine.specs.Write.{take_result, add_group, on_thread, on_work, push_high, remove_thread, remove_threads, set_course, set_event, set_phase, set_place, set_register, set_stage, set_trapped}
+use Rattle.task_rules.specs.MainOps.{started_at, spawned_at, Abort, Answer, Answers, Await, Does, Finish, MainAct, MainProgress, Pends, Quiet, Ready, Spawn, Start, act_of, advanced_main, finish_act, finish_result, has_interesting, is_complete, is_ready_for_call, line_of, main_aborted, main_row, main_spawned, main_started, may_act, op_at, start_act, start_refusal, unless_pending}
 use Rattle.std.proofs.Common.{T, ap, ap₂, cond, inl, inr, length, refl, subst, suc, sym, ◌∙◌, ◌⊎◌, is_some}
 use Rattle.std.specs.Option.{option_map_or}
 use Rattle.std.specs.Prelude.{Bool, List, None, Option, Some, [], false, not, option_map, slice_set, true, unwrap_or, zero, ℕ, ◌+◌, ◌==◌, ◌∷◌, ◌≡◌, suc, is_none}
 use Rattle.task_machine.proofs.CommuteLemmas.{change-change_same}
 use Rattle.task_machine.proofs.MapLemmas.{change-field, get-change_same, get-remove_same}
-use Rattle.task_machine.specs.Core.{Began, Core, Main, MainPlace, Refused, Scripted, Started, State, Unscripted}
 use Rattle.task_machine.specs.Labels.{Choice, choice_of, host_label, woken_of}
 use Rattle.task_machine.specs.Maps.{Records, change, get, get-remove, size}
 use Rattle.task_machine.specs.Moves.{ended, is_callback_waiter, may_publish, published, put_high, unblocked, wake, wake_joined, waken_by}
 use Rattle.task_machine.specs.Read.{blocked_on, course_of, course_value, is_direct, is_stage_ended, is_waiting_on, join_of, next_entry, phase_of, place_of, stage_of, strand_from, strand_of, under_of, work_caller_of, is_aborted}
-use Rattle.task_machine.specs.Write.{add_group, on_thread, on_work, push_high, remove_thread, remove_threads, set_course, set_event, set_phase, set_place, set_register, set_stage, set_trapped}
 use Rattle.task_machine.specs.declared.component.Callee.{Callee}
 use Rattle.task_machine.specs.declared.label.Label.{Label}
 use Rattle.task_machine.specs.declared.label.MainLabel.{MainLabel}
@@ -41,19 +39,15 @@ use Rattle.task_machine.specs.declared.records.WorkCaller.{WorkCaller}
 use Rattle.task_machine.specs.declared.scenario.MainOpDef.{MainOpDef}
 use Rattle.task_machine.specs.declared.trap.Trap.{Trap}
 use Rattle.task_machine.specs.declared.words.Mark.{Mark}
-use Rattle.task_machine.specs.declared.words.Status.{Status}
 use Rattle.task_rules.proofs.PlacingLemmas.{placed, popped_shifted}
 use Rattle.task_rules.proofs.WalkMoves.{blocked_at, chosen_in_of, published_work_shifts, shifted, unblocked_shifts, word, work_read}
 use Rattle.task_rules.proofs.WalkOps.{set_row_leads, subtask_row_leads, thread_row_leads}
 use Rattle.task_rules.proofs.WalkParts.{Born, born_explicit, born_goal, born_place, call_born}
 use Rattle.task_rules.proofs.WalkTakes.{host_begins, host_quiet, thread_taken_leads}
-use Rattle.task_rules.proofs.WalkTask.{Leads, data_row_leads, none_is_some, not_main, running_scene, task_row_leads, under_place}
-use Rattle.task_rules.specs.Allowed.{ByProgram, ByScript, Falls, IsRunner, MayCall, Starts, is_async_work, MayAbort, MayFinish, ProgramAborts, ScriptAborts}
+use Rattle.task_rules.specs.Allowed.{ByProgram, ByScript, Falls, IsRunner, MayCall, Starts, is_async_work, MayAbort, MayFinish, ProgramAborts, ScriptAborts, IsFall}
 use Rattle.task_rules.specs.Calls.{call_made, next_thread}
 use Rattle.task_rules.specs.Cancels.{aborted_phase}
-use Rattle.task_rules.specs.Chains.{LastWords, NoWord, SameMain, Shifts, StepsAreWalks, Walk, is_take}
 use Rattle.task_rules.specs.Laws.{is_free}
-use Rattle.task_rules.specs.MainOps.{Abort, Answer, Answers, Await, Does, Finish, MainAct, MainProgress, Pends, Quiet, Ready, Spawn, Start, act_of, advanced_main, finish_act, finish_result, has_interesting, is_complete, is_ready_for_call, line_of, main_aborted, main_row, main_spawned, main_started, may_act, op_at, start_act, start_refusal, unless_pending}
 use Rattle.task_rules.specs.Once.{begun_holder}
 use Rattle.task_rules.specs.OpParts.{callee_of_main_op}
 use Rattle.task_rules.specs.Outcome.{main_outcome, outcome_of_label}
@@ -66,6 +60,8 @@ use Rattle.task_rules.specs.Takes.{host_done, host_result, host_status, popped, 
 use Rattle.task_rules.specs.Turns.{at_turn, goes_to, settled_turn}
 use Rattle.task_rules.specs.Words.{AddGroup, EndWork, FinishWork, MakeCall, Pend, Pop, Put, QueueWork, RemoveThread, SetPhase, SetRegister, SetTrapped, TakeHost, TakePush, TakeResult}
 use Rattle.task_rules.specs.Works.{Ends, FailsNow, Poll, StillPends, course_for, followed, has_moving_work, next_polled, poll_ends, poll_of, poll_pends, has_end, ends_with, polled_again, polled_course, polled_in}
+use Rattle.task_machine.specs.declared.records.Subtask.TheVariants as subtask
+use Rattle.task_machine.specs.declared.words.Status.TheVariants as status
 use Rattle.task_machine.specs.declared.label.Label.TheVariants as label
 use Rattle.task_machine.specs.declared.label.LoopLabel.TheVariants as loop_label
 use Rattle.task_machine.specs.declared.label.MainLabel.TheVariants as main_label
@@ -78,7 +74,6 @@ use Rattle.task_machine.specs.declared.records.Goal.TheVariants as goal
 use Rattle.task_machine.specs.declared.records.Join.TheVariants as join
 use Rattle.task_machine.specs.declared.records.Place.TheVariants as place
 use Rattle.task_machine.specs.declared.records.Stage.TheVariants as stage
-use Rattle.task_machine.specs.declared.records.Subtask.TheVariants as subtask
 use Rattle.task_machine.specs.declared.records.Turn.TheVariants as turn
 use Rattle.task_machine.specs.declared.records.Why.TheVariants as why
 use Rattle.task_machine.specs.declared.records.WorkCaller.TheVariants as work_caller
@@ -229,13 +224,13 @@ abbrev told_end : ℕ → Core → Core
 told_end i s = set_event (subtask.Host i) (Some (host_status (course_value (course_of i s)))) (set_stage i stage.Ended s)
 
 module _ {a : Scene} {b : Core} where
-  host_result_walks : (f : WorkCaller) (v : Option ℕ) {t : Core} → Walk a b t → Walk a b (host_result f v t)
+  host_result_walks : (f : WorkCaller) (v : Option ℕ) {t : Core} → Stay a b t → Stay a b (host_result f v t)
   host_result_walks (work_caller.Async n q) (Some v) c = word (SetRegister n q v) tt c
   host_result_walks (work_caller.Async n q) None c = c
   host_result_walks work_caller.Spawn v c = c
   host_result_walks (work_caller.Sync n) v c = c
 
-  host_done_walks : (i : ℕ) (w : Option ℕ) (s : Core) → may_publish (subtask.Host i) w s ≡ true → Walk a b (told_end i s) → Walk a b (host_done i w s)
+  host_done_walks : (i : ℕ) (w : Option ℕ) (s : Core) → may_publish (subtask.Host i) w s ≡ true → Stay a b (told_end i s) → Stay a b (host_done i w s)
   unfolding may_publish
   host_done_walks i w s may c =
       let v = course_value (course_of i s) in
@@ -243,10 +238,10 @@ module _ {a : Scene} {b : Core} where
       let e = set_stage i stage.Ended s in
       let t = host_result f v e in
       let works : t.works ≡ e.works = result_works f v e in
-      subst (λ (u : Core). Walk a b u) (done_first i w s) (shifted (published_work_shifts i (host_status v) w t
+      subst (λ (u : Core). Stay a b u) (done_first i w s) (shifted (published_work_shifts i (host_status v) w t
       (ap (λ (m : Records Work). is_stage_ended (option_map_or (λ (r : Work). r.stage) (get m i) stage.Ended)) works ∙ ended_stage i s)
       (λ y is m at. ap (λ p. option_map_or (is_waiting_on y) p false) (host_places f v e m ∙ ended_places i s m) ∙ chosen_in_of (join_of (subtask.Host i) s) w s may y (sym (ended_join i s) ∙ (ap (λ (m : Records Work). option_map_or (λ (r : Work). r.join) (get m i) join.Nowhere) (sym works) ∙ is)) m at))
-      (subst (λ (u : Core). Walk a b u) (sym (event_result i f v (Some (host_status v)) e)) (host_result_walks f v c)))
+      (subst (λ (u : Core). Stay a b u) (sym (event_result i f v (Some (host_status v)) e)) (host_result_walks f v c)))
 
 -- ---- A strand that falls
 
@@ -266,18 +261,21 @@ not_over n e = absurd (subst T (ap is_over e) tt)
     is_over turn.Over = true
     is_over _ = false
 
-module _ {a : Scene} {b : Core} (over : a.next ≡ turn.Over) where
-  falls_walks : (k n : ℕ) {t : Core} → IsRunner a n ⊎ ((m : ℕ) × (place_of n a.base ≡ Some (place.Under m))) → Walk a b t → Walk a b (remove_threads (strand_from k a.base n) t)
-  falls_walks zero n may c = word (RemoveThread n) (Falls over may) c
-  falls_walks (suc k) n {t = t} may c = below (λ m under d. falls_walks k m (inr (n, under)) d) (under_of n a.base) refl (word (RemoveThread n) (Falls over may) c)
+abbrev Fall : Scene → Core → Type 0
+Fall a t = Chain (IsFall a) a.base t
+
+module _ {a : Scene} (over : a.next ≡ turn.Over) where
+  falls : (k n : ℕ) {t : Core} → IsRunner a n ⊎ ((m : ℕ) × (place_of n a.base ≡ Some (place.Under m))) → Fall a t → Fall a (remove_threads (strand_from k a.base n) t)
+  falls zero n {t = t} may c = Then t (RemoveThread n) c (Falls over may)
+  falls (suc k) n {t = t} may c = below (λ m under d. falls k m (inr (n, under)) d) (under_of n a.base) refl (Then t (RemoveThread n) c (Falls over may))
     where
-      below : ((m : ℕ) → place_of m a.base ≡ Some (place.Under n) → Walk a b (remove_thread n t) → Walk a b (remove_threads (strand_from k a.base m) (remove_thread n t))) → (o : Option ℕ) → under_of n a.base ≡ o → Walk a b (remove_thread n t) → Walk a b (remove_threads (option_map_or (strand_from k a.base) o []) (remove_thread n t))
+      below : ((m : ℕ) → place_of m a.base ≡ Some (place.Under n) → Fall a (remove_thread n t) → Fall a (remove_threads (strand_from k a.base m) (remove_thread n t))) → (o : Option ℕ) → under_of n a.base ≡ o → Fall a (remove_thread n t) → Fall a (remove_threads (option_map_or (strand_from k a.base) o []) (remove_thread n t))
       below more None is d = d
       below more (Some m) is d = more m (under_place n m a.base is) d
 
-  struck_walks : (n : ℕ) → IsRunner a n → Walk a b a.base → Walk a b (struck n a.base)
+  struck_trip : (n : ℕ) → IsRunner a n → Trip a a.base (struck n a.base)
   unfolding struck strand_of
-  struck_walks n is c = word SetTrapped tt (falls_walks (size a.base.threads) n (inl is) c)
+  struck_trip n is = let r = remove_threads (strand_from (size a.base.threads) a.base n) a.base in Collapses (set_trapped r) over (Then r SetTrapped (falls (size a.base.threads) n (inl is) NoWord) tt)
 
 struck_thread : (n : ℕ) (s : Core) → get (struck n s).threads n ≡ None
 unfolding struck strand_of set_trapped
@@ -298,33 +296,36 @@ struck_words a n is over begun mute = record {
 
 -- ---- What a step owes
 
--- the step leads to a turn, and is a chain of words in the scene of that turn
+-- the step leads to a turn, and is a trip in the scene of that turn, whose words are all those of the step
 record WalkedBy (at : Turn → Scene) (b : Core) (was : Main) (t : State) : Type 0 where
   pub main : SameMain was t.main
   pub next : Turn
   pub turn : t.turn ≡ settled_turn t.core next
   pub walk : Walk (at next) b t.core
+  pub trip : Trip (at next) (start_of (at next) b) t.core
   pub words : LastWords (at next) t.core
 
 same_main : (m : Main) → SameMain m m
 same_main (Scripted p) = tt
 same_main Unscripted = tt
 
-arrives : (at : Turn → Scene) (b : Core) (s : State) (new : Core) (m : Main) (u : Turn) (t : State) → SameMain s.main m → t ≡ at_turn s new m u → Walk (at u) b new × LastWords (at u) new → WalkedBy at b s.main t
-unfolding at_turn
-arrives at b s new m u t same is c = subst (λ (v : State). WalkedBy at b s.main v) (sym is) (record { main = same; next = u; turn = refl; walk = c.0; words = c.1 })
+-- a thread that is taken leaves its entry first
+module _ (at : Turn → Scene) (b : Core) (starts : (u : Turn) → Walk (at u) b (start_of (at u) b)) where
+  arrives : (s : State) (new : Core) (m : Main) (u : Turn) (t : State) → SameMain s.main m → t ≡ at_turn s new m u → Trip (at u) (start_of (at u) b) new × LastWords (at u) new → WalkedBy at b s.main t
+  unfolding at_turn
+  arrives s new m u t same is c = subst (λ (v : State). WalkedBy at b s.main v) (sym is) (record { main = same; next = u; turn = refl; walk = join (starts u) (trip_walk c.0); trip = c.0; words = c.1 })
 
-landed : (at : Turn → Scene) (b : Core) (s : State) (new : Core) (u : Turn) (t : State) → t ≡ goes_to s new u → Walk (at u) b new × LastWords (at u) new → WalkedBy at b s.main t
-landed at b s new u t is c = arrives at b s new s.main u t (same_main s.main) is c
+  landed : (s : State) (new : Core) (u : Turn) (t : State) → t ≡ goes_to s new u → Trip (at u) (start_of (at u) b) new × LastWords (at u) new → WalkedBy at b s.main t
+  landed s new u t is c = arrives s new s.main u t (same_main s.main) is c
 
--- of a row, by where it leads
-progresses_walk : (at : Turn → Scene) (b : Core) (s : State) (base : Core) (n : ℕ) (p : Progress) (l : Label) (t : State) → ((u : Turn) → (at u).label ≡ l) → ((u : Turn) → (at u).next ≡ u) → ((u : Turn) → Leads (at u) b p) → (begun_holder base l ≡ None → is_mute l ≡ true → Walk (at turn.Over) b (struck n base) × LastWords (at turn.Over) (struck n base)) → Progresses s base n p l t → WalkedBy at b s.main t
-progresses_walk at b s base n (Goes k new m) l t labels nexts leads falls is = landed at b s new (turn.Run m) t is.1 (leads (turn.Run m) (labels (turn.Run m) ∙ is.0) (nexts (turn.Run m)))
-progresses_walk at b s base n (Stops k new) l t labels nexts leads falls is = landed at b s new turn.Main t is.1 (leads turn.Main (labels turn.Main ∙ is.0) (nexts turn.Main))
-progresses_walk at b s base n (Traps trap) l t labels nexts leads falls is = landed at b s (struck n base) turn.Over t is.1 (falls (ap (λ k. begun_holder base k) is.0) (ap is_mute is.0))
-progresses_walk at b s base n (Fails i) l t labels nexts leads falls is = landed at b s (struck n base) turn.Over t is.1 (falls (ap (λ k. begun_holder base k) is.0) (ap is_mute is.0))
-progresses_walk at b s base n Never l t labels nexts leads falls is = absurd is
-progresses_walk at b s base n (Ordered ns next) l t labels nexts leads falls is = progresses_walk at b s base n (next is.0) l t labels nexts (λ u. leads u is.0) falls is.1.1
+  -- of a row, by where it leads
+  progresses_walk : (s : State) (base : Core) (n : ℕ) (p : Progress) (l : Label) (t : State) → ((u : Turn) → (at u).label ≡ l) → ((u : Turn) → (at u).next ≡ u) → ((u : Turn) → Leads (at u) (start_of (at u) b) p) → (begun_holder base l ≡ None → is_mute l ≡ true → Trip (at turn.Over) (start_of (at turn.Over) b) (struck n base) × LastWords (at turn.Over) (struck n base)) → Progresses s base n p l t → WalkedBy at b s.main t
+  progresses_walk s base n (Goes k new m) l t labels nexts leads falls is = landed s new (turn.Run m) t is.1 (leads (turn.Run m) (labels (turn.Run m) ∙ is.0) (nexts (turn.Run m)))
+  progresses_walk s base n (Stops k new) l t labels nexts leads falls is = landed s new turn.Main t is.1 (leads turn.Main (labels turn.Main ∙ is.0) (nexts turn.Main))
+  progresses_walk s base n (Traps trap) l t labels nexts leads falls is = landed s (struck n base) turn.Over t is.1 (falls (ap (λ k. begun_holder base k) is.0) (ap is_mute is.0))
+  progresses_walk s base n (Fails i) l t labels nexts leads falls is = landed s (struck n base) turn.Over t is.1 (falls (ap (λ k. begun_holder base k) is.0) (ap is_mute is.0))
+  progresses_walk s base n Never l t labels nexts leads falls is = absurd is
+  progresses_walk s base n (Ordered ns next) l t labels nexts leads falls is = progresses_walk s base n (next is.0) l t labels nexts (λ u. leads u is.0) falls is.1.1
 
 -- a step of no thread leaves little: it begins nothing, nothing runs, and an outcome ends the turns
 abbrev is_idle_label : Label → Bool
@@ -452,8 +453,8 @@ module _ (x : Setting) (s : State) (l : Label) where
 
   -- ---- Main
 
-  main_here : (u : Turn) (next : Turn) (k : MainLabel) (t : Core) → l ≡ label.Main k → main_outcome k ≡ None ⊎ (next ≡ turn.Over) → ((m : ℕ) → next ≡ turn.Run m → ⊥) → EndWords (scene_at u None next) t → Walk (scene_at u None next) s.core t → Walk (scene_at u None next) s.core t × LastWords (scene_at u None next) t
-  main_here u next k t is quiet stills says c = (c, idle_words (scene_at u None next) t refl stills (λ o at. ends quiet o (sym (ap outcome_of_label is) ∙ at)) (ap (λ y. begun_holder s.core y) is) says)
+  main_here : (u : Turn) (next : Turn) (k : MainLabel) (t : Core) → l ≡ label.Main k → main_outcome k ≡ None ⊎ (next ≡ turn.Over) → ((m : ℕ) → next ≡ turn.Run m → ⊥) → EndWords (scene_at u None next) t → Stay (scene_at u None next) s.core t → Trip (scene_at u None next) s.core t × LastWords (scene_at u None next) t
+  main_here u next k t is quiet stills says c = (Remains t c (λ m at. absurd (stills m at)), idle_words (scene_at u None next) t refl stills (λ o at. ends quiet o (sym (ap outcome_of_label is) ∙ at)) (ap (λ y. begun_holder s.core y) is) says)
     where
       ends : main_outcome k ≡ None ⊎ (next ≡ turn.Over) → (o : Outcome) → main_outcome k ≡ Some o → next ≡ turn.Over
       ends (inl none) o at = none_is_some o (sym none ∙ at)
@@ -461,11 +462,11 @@ module _ (x : Setting) (s : State) (l : Label) where
 
   -- what an op of main does
   abbrev LeadsMain : Turn → MainProgress → Type 0
-  LeadsMain u (Does k new) = (main_outcome k ≡ None) × ((l ≡ label.Main k → EndWords (scene_at u None turn.Main) new) × Walk (scene_at u None turn.Main) s.core new)
+  LeadsMain u (Does k new) = (main_outcome k ≡ None) × ((l ≡ label.Main k → EndWords (scene_at u None turn.Main) new) × Stay (scene_at u None turn.Main) s.core new)
   LeadsMain u Pends = Unit {0}
   LeadsMain u (Answers v) = Unit {0}
 
-  started_walks : (u : Turn) (e : Callee) (words : List ℕ) → MayCall (scene_at u None turn.Main) caller.Main e (s.core.made.groups + 1) (add_group s.core) → Walk (scene_at u None turn.Main) s.core (main_started x.component e words s.core)
+  started_walks : (u : Turn) (e : Callee) (words : List ℕ) → MayCall (scene_at u None turn.Main) caller.Main e (s.core.made.groups + 1) (add_group s.core) → Stay (scene_at u None turn.Main) s.core (main_started x.component e words s.core)
   unfolding main_started add_group
   started_walks u e words may =
       let k = next_thread s.core in
@@ -526,13 +527,13 @@ module _ (x : Setting) (s : State) (l : Label) where
   main_row_leads u k (Answer v) may names aborts = tt
 
   pends_here : (u : Turn) (t : State) → l ≡ label.Loop loop_label.MainPends → t ≡ goes_to s s.core (turn.Futures 0) → WalkedBy (scene_at u None) s.core s.main t
-  pends_here u t is at = landed (scene_at u None) s.core s s.core (turn.Futures 0) t at (NoWord, idle_words (scene_at u None (turn.Futures 0)) s.core refl (λ m f. not_futures 0 m f) (λ o f. none_is_some o (sym (ap outcome_of_label is) ∙ f)) (ap (λ y. begun_holder s.core y) is) (mute_words _ _ (ap is_mute is)))
+  pends_here u t is at = landed (scene_at u None) s.core (λ v. NoWord) s s.core (turn.Futures 0) t at (Remains _ NoWord (λ m f. not_futures 0 m f), idle_words (scene_at u None (turn.Futures 0)) s.core refl (λ m f. not_futures 0 m f) (λ o f. none_is_some o (sym (ap outcome_of_label is) ∙ f)) (ap (λ y. begun_holder s.core y) is) (mute_words _ _ (ap is_mute is)))
 
-  does_here : (u : Turn) (m : Main) (k : MainLabel) (new : Core) (t : State) → SameMain s.main m → (main_outcome k ≡ None) × ((l ≡ label.Main k → EndWords (scene_at u None turn.Main) new) × Walk (scene_at u None turn.Main) s.core new) → l ≡ label.Main k → t ≡ at_turn s new m turn.Main → WalkedBy (scene_at u None) s.core s.main t
-  does_here u m k new t same c is at = arrives (scene_at u None) s.core s new m turn.Main t same at (main_here u turn.Main k new is (inl c.0) (λ j f. not_main j f) (c.1.0 is) c.1.1)
+  does_here : (u : Turn) (m : Main) (k : MainLabel) (new : Core) (t : State) → SameMain s.main m → (main_outcome k ≡ None) × ((l ≡ label.Main k → EndWords (scene_at u None turn.Main) new) × Stay (scene_at u None turn.Main) s.core new) → l ≡ label.Main k → t ≡ at_turn s new m turn.Main → WalkedBy (scene_at u None) s.core s.main t
+  does_here u m k new t same c is at = arrives (scene_at u None) s.core (λ v. NoWord) s new m turn.Main t same at (main_here u turn.Main k new is (inl c.0) (λ j f. not_main j f) (c.1.0 is) c.1.1)
 
   answers_here : (u : Turn) (v : ℕ) (t : State) → l ≡ label.Main (main_label.Answer v) → t ≡ goes_to s s.core turn.Over → WalkedBy (scene_at u None) s.core s.main t
-  answers_here u v t is at = landed (scene_at u None) s.core s s.core turn.Over t at (main_here u turn.Over (main_label.Answer v) s.core is (inr refl) (λ j f. not_over j f) (mute_words _ _ (ap is_mute is)) NoWord)
+  answers_here u v t is at = landed (scene_at u None) s.core (λ v. NoWord) s s.core turn.Over t at (main_here u turn.Over (main_label.Answer v) s.core is (inr refl) (λ j f. not_over j f) (mute_words _ _ (ap is_mute is)) NoWord)
 
   main_progresses_walk : (u : Turn) (p : MainPlace) (o : MainOpDef) (q : MainProgress) (t : State) → s.main ≡ Scripted p → LeadsMain u q → MainProgresses s p o q l t → WalkedBy (scene_at u None) s.core s.main t
   main_progresses_walk u p o (Does k new) t at c is = does_here u (Scripted (advanced_main o k p)) k new t (subst (λ (m : Main). SameMain m (Scripted (advanced_main o k p))) (sym at) tt) c is.0 is.1
@@ -572,14 +573,14 @@ module _ (x : Setting) (s : State) (l : Label) where
 
   -- ---- Works
 
-  followed_walks : (n i : ℕ) (v : Option ℕ) → next_polled n s.core ≡ Some i → l ≡ label.Loop (loop_label.FutureEnds i) → poll_of i s.core ≡ Ends v → Walk (scene_at (turn.Futures n) None (turn.Take true)) s.core (poll_ends i v s.core)
+  followed_walks : (n i : ℕ) (v : Option ℕ) → next_polled n s.core ≡ Some i → l ≡ label.Loop (loop_label.FutureEnds i) → poll_of i s.core ≡ Ends v → Stay (scene_at (turn.Futures n) None (turn.Take true)) s.core (poll_ends i v s.core)
   unfolding poll_ends poll_of
   followed_walks n i v at is poll = by_caller (work_caller_of i s.core) refl
     where
       may : MayFinish (scene_at (turn.Futures n) None (turn.Take true)) i (course_for v) s.core
       may = ((n, (refl, at)), (is, (course_ended v, λ none. ends_valueless (phase_of i s.core) (course_of i s.core) v poll none)))
 
-      by_caller : (f : WorkCaller) → work_caller_of i s.core ≡ f → Walk (scene_at (turn.Futures n) None (turn.Take true)) s.core (followed f i (set_phase i phase.Complete (set_course i (course_for v) s.core)))
+      by_caller : (f : WorkCaller) → work_caller_of i s.core ≡ f → Stay (scene_at (turn.Futures n) None (turn.Take true)) s.core (followed f i (set_phase i phase.Complete (set_course i (course_for v) s.core)))
       by_caller work_caller.Spawn same = word (EndWork i (course_for v)) (may, ap (λ f. is_async_work f) same) NoWord
       by_caller (work_caller.Async m q) same = word (FinishWork i (course_for v)) (may, ap (λ f. is_async_work f) same) NoWord
       by_caller (work_caller.Sync m) same = shifted (sync_ended_shifts i v s.core) (word (EndWork i (course_for v)) (may, ap (λ f. is_async_work f) same) NoWord)
@@ -595,9 +596,9 @@ module _ (x : Setting) (s : State) (l : Label) where
 
   polled_walks : (n i : ℕ) (p : Poll) (t : State) → next_polled n s.core ≡ Some i → poll_of i s.core ≡ p → Polled s i p l t → WalkedBy (scene_at (turn.Futures n) None) s.core s.main t
   unfolding poll_ends
-  polled_walks n i (StillPends host) t at poll is = landed (scene_at (turn.Futures n) None) s.core s (poll_pends i host s.core) (turn.Futures i) t is.1 (word (Pend i host) (n, (refl, at)) NoWord, idle_words (scene_at (turn.Futures n) None (turn.Futures i)) (poll_pends i host s.core) refl (λ m f. not_futures i m f) (λ o f. none_is_some o (sym (ap outcome_of_label is.0) ∙ f)) (ap (λ y. begun_holder s.core y) is.0) (mute_words _ _ (ap is_mute is.0)))
-  polled_walks n i (Ends v) t at poll is = landed (scene_at (turn.Futures n) None) s.core s (poll_ends i v s.core) (turn.Take true) t is.1 (followed_walks n i v at is.0 poll, idle_words (scene_at (turn.Futures n) None (turn.Take true)) (poll_ends i v s.core) refl (λ m f. not_take true m f) (λ o f. none_is_some o (sym (ap outcome_of_label is.0) ∙ f)) (ap (λ y. begun_holder s.core y) is.0) (polled_says n i v at is.0))
-  polled_walks n i FailsNow t at poll is = landed (scene_at (turn.Futures n) None) s.core s (set_trapped s.core) turn.Over t is.1 (word SetTrapped tt NoWord, idle_words (scene_at (turn.Futures n) None turn.Over) (set_trapped s.core) refl (λ m f. not_over m f) (λ o f. refl) (ap (λ y. begun_holder s.core y) is.0) (mute_words _ _ (ap is_mute is.0)))
+  polled_walks n i (StillPends host) t at poll is = landed (scene_at (turn.Futures n) None) s.core (λ v. NoWord) s (poll_pends i host s.core) (turn.Futures i) t is.1 (Remains _ (word (Pend i host) (n, (refl, at)) NoWord) (λ m f. not_futures i m f), idle_words (scene_at (turn.Futures n) None (turn.Futures i)) (poll_pends i host s.core) refl (λ m f. not_futures i m f) (λ o f. none_is_some o (sym (ap outcome_of_label is.0) ∙ f)) (ap (λ y. begun_holder s.core y) is.0) (mute_words _ _ (ap is_mute is.0)))
+  polled_walks n i (Ends v) t at poll is = landed (scene_at (turn.Futures n) None) s.core (λ v. NoWord) s (poll_ends i v s.core) (turn.Take true) t is.1 (Remains _ (followed_walks n i v at is.0 poll) (λ m f. not_take true m f), idle_words (scene_at (turn.Futures n) None (turn.Take true)) (poll_ends i v s.core) refl (λ m f. not_take true m f) (λ o f. none_is_some o (sym (ap outcome_of_label is.0) ∙ f)) (ap (λ y. begun_holder s.core y) is.0) (polled_says n i v at is.0))
+  polled_walks n i FailsNow t at poll is = landed (scene_at (turn.Futures n) None) s.core (λ v. NoWord) s (set_trapped s.core) turn.Over t is.1 (Remains _ (word SetTrapped tt NoWord) (λ m f. not_over m f), idle_words (scene_at (turn.Futures n) None turn.Over) (set_trapped s.core) refl (λ m f. not_over m f) (λ o f. refl) (ap (λ y. begun_holder s.core y) is.0) (mute_words _ _ (ap is_mute is.0)))
 
   futures_walk : (n : ℕ) (o : Option ℕ) (t : State) → next_polled n s.core ≡ o → FuturesStep s o l t → WalkedBy (scene_at (turn.Futures n) None) s.core s.main t
   futures_walk n None t at is = absurd is
@@ -609,36 +610,36 @@ module _ (x : Setting) (s : State) (l : Label) where
   empty_walks ended true t is = rests (is_unended_take s.turn) is
     where
       rests : (c : Bool) → RestStep s c l t → WalkedBy (scene_at (turn.Take ended) None) s.core s.main t
-      rests true h = landed (scene_at (turn.Take ended) None) s.core s s.core turn.Main t h.1 (NoWord, idle_words (scene_at (turn.Take ended) None turn.Main) s.core refl (λ m f. not_main m f) (λ o f. none_is_some o (sym (ap outcome_of_label h.0) ∙ f)) (ap (λ y. begun_holder s.core y) h.0) (mute_words _ _ (ap is_mute h.0)))
+      rests true h = landed (scene_at (turn.Take ended) None) s.core (λ v. NoWord) s s.core turn.Main t h.1 (Remains _ NoWord (λ m f. not_main m f), idle_words (scene_at (turn.Take ended) None turn.Main) s.core refl (λ m f. not_main m f) (λ o f. none_is_some o (sym (ap outcome_of_label h.0) ∙ f)) (ap (λ y. begun_holder s.core y) h.0) (mute_words _ _ (ap is_mute h.0)))
       rests false h = absurd h
   empty_walks ended false t is = dies (may_deadlock x s) is
     where
       dies : (c : Bool) → DeadlockStep s c l t → WalkedBy (scene_at (turn.Take ended) None) s.core s.main t
-      dies true h = landed (scene_at (turn.Take ended) None) s.core s (set_trapped s.core) turn.Over t h.1 (word SetTrapped tt NoWord, idle_words (scene_at (turn.Take ended) None turn.Over) (set_trapped s.core) refl (λ m f. not_over m f) (λ o f. refl) (ap (λ y. begun_holder s.core y) h.0) (mute_words _ _ (ap is_mute h.0)))
+      dies true h = landed (scene_at (turn.Take ended) None) s.core (λ v. NoWord) s (set_trapped s.core) turn.Over t h.1 (Remains _ (word SetTrapped tt NoWord) (λ m f. not_over m f), idle_words (scene_at (turn.Take ended) None turn.Over) (set_trapped s.core) refl (λ m f. not_over m f) (λ o f. refl) (ap (λ y. begun_holder s.core y) h.0) (mute_words _ _ (ap is_mute h.0)))
       dies false h = absurd h
 
-  push_walks : (ended : Bool) (m : Mark) (i : ℕ) → next_entry s.core ≡ Some (m, entry.Push i) → Walk (scene_at (turn.Take ended) (Some (m, entry.Push i)) turn.Main) s.core (pushed i (popped m s.core))
+  push_walks : (ended : Bool) (m : Mark) (i : ℕ) → next_entry s.core ≡ Some (m, entry.Push i) → Stay (scene_at (turn.Take ended) (Some (m, entry.Push i)) turn.Main) s.core (pushed i (popped m s.core))
   unfolding pushed
-  push_walks ended m i at = subst (λ (t : Core). Walk (scene_at (turn.Take ended) (Some (m, entry.Push i)) turn.Main) s.core (set_stage i stage.Live t)) (popped_shifted m s.core).only (word (TakePush m i) at NoWord)
+  push_walks ended m i at = subst (λ (t : Core). Stay (scene_at (turn.Take ended) (Some (m, entry.Push i)) turn.Main) s.core (set_stage i stage.Live t)) (popped_shifted m s.core).only (word (TakePush m i) at NoWord)
 
   host_entry_walks : (ended : Bool) (m : Mark) (i : ℕ) (t : State) → next_entry s.core ≡ Some (m, entry.Host i) → (b : Bool) → may_publish (subtask.Host i) (woken_of l) (popped m s.core) ≡ b → Progresses s (popped m s.core) i (may b (Stops (host_label m i (woken_of l)) (host_done i (woken_of l) (popped m s.core)))) l t → WalkedBy (scene_at (turn.Take ended) (Some (m, entry.Host i))) s.core s.main t
   host_entry_walks ended m i t at true may is =
       let base = popped m s.core in
       let a = scene_at (turn.Take ended) (Some (m, entry.Host i)) turn.Main in
-      let taken_first : Walk a s.core (told_end i base) = subst (λ (u : Core). Walk a s.core (told_end i u)) (popped_shifted m s.core).only (word (TakeHost m i) at NoWord) in
-      landed (scene_at (turn.Take ended) (Some (m, entry.Host i))) s.core s (host_done i (woken_of l) base) turn.Main t is.1 (host_done_walks i (woken_of l) base may taken_first, idle_words a (host_done i (woken_of l) base) refl (λ j f. not_main j f) (λ o f. none_is_some o (sym (ap outcome_of_label is.0 ∙ host_quiet m i (woken_of l)) ∙ f)) (ap (λ y. begun_holder base y) is.0 ∙ host_begins m i (woken_of l) base) (mute_words a _ (ap is_mute is.0 ∙ host_mute m i (woken_of l))))
+      let taken_first : Stay a s.core (told_end i base) = subst (λ (u : Core). Stay a s.core (told_end i u)) (popped_shifted m s.core).only (word (TakeHost m i) at NoWord) in
+      landed (scene_at (turn.Take ended) (Some (m, entry.Host i))) s.core (λ v. NoWord) s (host_done i (woken_of l) base) turn.Main t is.1 (Remains _ (host_done_walks i (woken_of l) base may taken_first) (λ j f. not_main j f), idle_words a (host_done i (woken_of l) base) refl (λ j f. not_main j f) (λ o f. none_is_some o (sym (ap outcome_of_label is.0 ∙ host_quiet m i (woken_of l)) ∙ f)) (ap (λ y. begun_holder base y) is.0 ∙ host_begins m i (woken_of l) base) (mute_words a _ (ap is_mute is.0 ∙ host_mute m i (woken_of l))))
   host_entry_walks ended m i t at false may is = absurd is
 
 
   entry_walks : (ended : Bool) (m : Mark) (e : Entry) (t : State) → next_entry s.core ≡ Some (m, e) → Progresses s (popped m s.core) (entry_number e) (take_row m (choice_of l) (popped m s.core) e) l t → WalkedBy (scene_at (turn.Take ended) (Some (m, e))) s.core s.main t
   entry_walks ended m (entry.Thread n) t at is =
       let base = popped m s.core in
-      let start : (u : Turn) → Walk (scene_at (turn.Take ended) (Some (m, entry.Thread n)) u) s.core base = λ u. placed (Pop m) (inr (n, (refl, at))) NoWord in
-      progresses_walk (scene_at (turn.Take ended) (Some (m, entry.Thread n))) s.core s base n (take_row m (choice_of l) base (entry.Thread n)) l t (λ u. refl) (λ u. refl)
-      (λ u. thread_taken_leads x s.main ended base n l u s.core (start u) m (choice_of l) (place_of n base) refl)
-      (λ none mute. (struck_walks refl n refl (start turn.Over), struck_words (scene_at (turn.Take ended) (Some (m, entry.Thread n)) turn.Over) n refl refl none mute)) is
+      let starts : (u : Turn) → Walk (scene_at (turn.Take ended) (Some (m, entry.Thread n)) u) s.core base = λ u. placed (Pop m) (inr (n, (refl, at))) NoWord in
+      progresses_walk (scene_at (turn.Take ended) (Some (m, entry.Thread n))) s.core starts s base n (take_row m (choice_of l) base (entry.Thread n)) l t (λ u. refl) (λ u. refl)
+      (λ u. thread_taken_leads x s.main ended base n l u m (choice_of l) (place_of n base) refl)
+      (λ none mute. (struck_trip refl n refl, struck_words (scene_at (turn.Take ended) (Some (m, entry.Thread n)) turn.Over) n refl refl none mute)) is
   entry_walks ended m (entry.Push i) t at is =
-      landed (scene_at (turn.Take ended) (Some (m, entry.Push i))) s.core s (pushed i (popped m s.core)) turn.Main t is.1 (push_walks ended m i at, idle_words (scene_at (turn.Take ended) (Some (m, entry.Push i)) turn.Main) (pushed i (popped m s.core)) refl (λ j f. not_main j f) (λ o f. none_is_some o (sym (ap outcome_of_label is.0) ∙ f)) (ap (λ y. begun_holder (popped m s.core) y) is.0) (mute_words _ _ (ap is_mute is.0)))
+      landed (scene_at (turn.Take ended) (Some (m, entry.Push i))) s.core (λ v. NoWord) s (pushed i (popped m s.core)) turn.Main t is.1 (Remains _ (push_walks ended m i at) (λ j f. not_main j f), idle_words (scene_at (turn.Take ended) (Some (m, entry.Push i)) turn.Main) (pushed i (popped m s.core)) refl (λ j f. not_main j f) (λ o f. none_is_some o (sym (ap outcome_of_label is.0) ∙ f)) (ap (λ y. begun_holder (popped m s.core) y) is.0) (mute_words _ _ (ap is_mute is.0)))
   entry_walks ended m (entry.Host i) t at is = host_entry_walks ended m i t at (may_publish (subtask.Host i) (woken_of l) (popped m s.core)) refl is
 
   take_step_walks : (ended : Bool) (o : Option (Mark × Entry)) (t : State) → next_entry s.core ≡ o → TakeStep x s o l t → WalkedBy (scene_at (turn.Take ended) o) s.core s.main t
@@ -660,8 +661,8 @@ did_leads x main s n l next ch = op_row_leads x main s n l next ch (op_of x.comp
 
 run_walks : (x : Setting) (s : State) (n : ℕ) (l : Label) (t : State) → Progresses s s.core n (did x.component n s.core (choice_of l)) l t → WalkedBy (λ next. running_scene x s.main s.core n l next) s.core s.main t
 run_walks x s n l t is =
-    progresses_walk (λ next. running_scene x s.main s.core n l next) s.core s s.core n (did x.component n s.core (choice_of l)) l t (λ u. refl) (λ u. refl) (λ u. did_leads x s.main s.core n l u (choice_of l))
-    (λ none mute. (struck_walks refl n refl NoWord, struck_words (running_scene x s.main s.core n l turn.Over) n refl refl none mute)) is
+    progresses_walk (λ next. running_scene x s.main s.core n l next) s.core (λ u. NoWord) s s.core n (did x.component n s.core (choice_of l)) l t (λ u. refl) (λ u. refl) (λ u. did_leads x s.main s.core n l u (choice_of l))
+    (λ none mute. (struck_trip refl n refl, struck_words (running_scene x s.main s.core n l turn.Over) n refl refl none mute)) is
 
 main_step_walks : (x : Setting) (s : State) (l : Label) (u : Turn) (m : Main) (t : State) → s.main ≡ m → MainStep x s m l t → WalkedBy (scene_at x s l u None) s.core s.main t
 main_step_walks x s l u (Scripted p) t at is = script_step_walks x s l u p (op_at x.script p) t at refl is
@@ -682,4 +683,4 @@ turn_step_walks x s turn.Over l t is = absurd is
 -- each step is a chain of words
 pub step_walks : StepsAreWalks
 unfolding Step
-step_walks x s l t is = let c = turn_step_walks x s s.turn l t is in record { next = c.next; turn = c.turn; main = c.main; walk = c.walk; ends = c.words }
+step_walks x s l t is = let c = turn_step_walks x s s.turn l t is in record { next = c.next; turn = c.turn; main = c.main; walk = c.walk; trip = c.trip; ends = c.words }

@@ -1,11 +1,11 @@
 -- Where a step does a word: what its row has tested or done before, and what is known of the thread that runs or was taken.
 use Rattle.task_machine.specs.declared.records.Course.{Course}
 use Rattle.std.specs.Option.{option_map_or}
-use Rattle.std.specs.Prelude.{Bool, None, Option, Some, [], false, is_none, true, ℕ, ◌||◌, ◌∷◌, ◌≡◌, ◌⊎◌, not}
+use Rattle.std.specs.Prelude.{Bool, None, Option, Some, [], false, is_none, true, ℕ, ◌||◌, ◌∷◌, ◌≡◌, ◌⊎◌, not, is_some}
 use Rattle.task_machine.specs.Core.{Core, MainPlace, Scripted, Unscripted}
 use Rattle.task_machine.specs.Maps.{get}
 use Rattle.task_machine.specs.Moves.{has_entry, is_callback_waiter, is_deletable, is_group_done}
-use Rattle.task_machine.specs.Read.{cancel_was_delivered, course_of, course_value, end_of, goal_of, has_ended, has_member, has_waiters, how_far_of, instance_of, is_async_lifted, is_at, is_direct, is_end, is_explicit, is_joined, is_stage_ended, is_waiter, join_of, kind_of, may_not_enter, next_entry, own_event_of, phase_of, place_of, set_at, stage_of, subtask_at, subtask_ended, subtask_handle, task_of, thread_group, was_started, work_caller_of, is_guest_call, is_aborted, is_blocked_on}
+use Rattle.task_machine.specs.Read.{cancel_was_delivered, course_of, course_value, end_of, goal_of, has_ended, has_member, has_waiters, how_far_of, instance_of, is_async_lifted, is_at, is_direct, is_end, is_explicit, is_joined, is_stage_ended, is_waiter, join_of, kind_of, may_not_enter, next_entry, own_event_of, phase_of, place_of, set_at, stage_of, subtask_at, subtask_ended, subtask_handle, task_of, thread_group, was_started, work_caller_of, is_guest_call, is_aborted, is_blocked_on, foot_of}
 use Rattle.task_machine.specs.declared.component.Callee.{Callee}
 use Rattle.task_machine.specs.declared.component.ExportKind.{ExportKind}
 use Rattle.task_machine.specs.declared.label.Label.{Label}
@@ -34,9 +34,10 @@ use Rattle.task_rules.specs.Scenes.{Scene, component_of, op_in}
 use Rattle.task_rules.specs.Scripts.{export_kind, registers_for}
 use Rattle.task_rules.specs.Takes.{host_status}
 use Rattle.task_rules.specs.Threads.{resume_why}
-use Rattle.task_rules.specs.Words.{AddGroup, CloseSet, CountWork, EndWork, Enter, FinishWork, GoBehind, MakeCall, MakeThread, Move, NameCall, NameWork, OpenSet, Pend, Places, Placing, Pop, Promote, Put, QueueWork, RemoveCall, RemoveGroup, RemoveThread, RemoveWork, SetCallEvent, SetCallJoin, SetCancelDelivered, SetCancelled, SetDoNotEnter, SetEnd, SetHowFar, SetOwnEvent, SetPhase, SetStarted, TakeWorkEvent, SetWorkJoin, Stop, TakeHost, TakePush, UnnameCall, UnnameWork, Withdraw, Word, GiveResult}
+use Rattle.task_rules.specs.Words.{AddGroup, CloseSet, CountWork, EndWork, Enter, FinishWork, GoBehind, MakeCall, MakeThread, Move, NameCall, NameWork, OpenSet, Pend, Places, Placing, Pop, Promote, Put, QueueWork, RemoveCall, RemoveGroup, RemoveThread, RemoveWork, SetCallEvent, SetCallJoin, SetCancelDelivered, SetCancelled, SetDoNotEnter, SetEnd, SetHowFar, SetOwnEvent, SetPhase, SetStarted, TakeWorkEvent, SetWorkJoin, Stop, TakeHost, TakePush, UnnameCall, UnnameWork, Withdraw, Word, GiveResult, SetUninteresting, SetTrapped}
 use Rattle.task_rules.specs.Works.{next_polled, has_end}
 use Rattle.task_rules.specs.SubtaskEnds.{end_for, written_by}
+use Rattle.task_machine.specs.declared.words.Mark.TheVariants as mark
 use Rattle.task_machine.specs.declared.label.Label.TheVariants as label
 use Rattle.task_machine.specs.declared.label.LoopLabel.TheVariants as loop_label
 use Rattle.task_machine.specs.declared.label.TaskLabel.TheVariants as task_label
@@ -69,9 +70,17 @@ WasReady a n w = (m : Mark) × (place_of n a.base ≡ Some (place.Ready m w))
 abbrev pub EndsActivation : Scene → ℕ → Type 0
 EndsActivation a n = IsRunner a n × (ends_activation (op_in a n) ≡ true)
 
--- the step leaves it, and no thread runs on
+-- the step leaves the running thread, and no thread runs on
 abbrev pub Leaves : Scene → ℕ → Type 0
-Leaves a n = IsRunner a n × (a.next ≡ turn.Main)
+Leaves a n = IsRunner a n × ((a.next ≡ turn.Main) × (a.turn ≡ turn.Run n))
+
+-- the thread that was taken doesn't run
+abbrev pub IsLaid : Scene → ℕ → Type 0
+IsLaid a n = IsRunner a n × (a.next ≡ turn.Main)
+
+-- the call is gone, or its start has run
+abbrev pub is_begun : ℕ → Core → Bool
+is_begun k s = option_map_or (λ c. c.started) (get s.calls k) true
 
 -- the thread's exit
 abbrev pub is_exit : Label → Bool
@@ -134,10 +143,9 @@ pub data MayPut (n : ℕ) (w : Why) (s : Core) : Type 0 where
   -- it waits by callback, and is cancelled
   Cancels : is_at n s is_callback_wait ≡ true → w ≡ why.Delivery delivery.Cancel → MayPut n w s
 
--- the thread has an entry, as the queues or its place say
+-- the thread has an entry
 abbrev pub HasEntry : ℕ → Core → Type 0
-HasEntry n s = ((has_entry n s.queues.high || has_entry n s.queues.low) ≡ true) ⊎
-    ((m : Mark) × ((w : Why) × (place_of n s ≡ Some (place.Ready m w))))
+HasEntry n s = (has_entry n s.queues.high || has_entry n s.queues.low) ≡ true
 
 -- What a step does to other threads than the one that runs.
 abbrev pub MayShift : Placing → Core → Type 0
@@ -145,6 +153,12 @@ MayShift (Put m n w) s = MayPut n w s
 MayShift (Promote n) s = (s.queues.switch ≡ None) × HasEntry n s
 MayShift (Stop f) s = Unit {0}
 MayShift _ s = ⊥
+
+-- beside a running thread the entry of another one may be promoted where its place alone says that there is one
+abbrev pub MayHasten : Scene → Placing → Core → Type 0
+MayHasten a (Promote k) s = (s.queues.switch ≡ None) ×
+    ((n : ℕ) × ((a.turn ≡ turn.Run n) × ((m : Mark) × ((w : Why) × (place_of k s ≡ Some (place.Ready m w))))))
+MayHasten a _ s = ⊥
 
 -- ---- Where the running thread comes to
 
@@ -158,12 +172,13 @@ pub data MayYield (a : Scene) (n : ℕ) (w : Why) : Type 0 where
 
 -- Why the running thread, or the one under it, comes to a place that says nothing of entries.
 pub data MayMove (a : Scene) (n : ℕ) (p : Place) (s : Core) : Type 0 where
-  -- it was taken, and runs
-  Runs : IsRunner a n → a.next ≡ turn.Run n → p ≡ place.Running → MayMove a n p s
+  -- it was taken, and runs; a call that it was to start has begun
+  Runs : IsRunner a n → a.next ≡ turn.Run n → (is_explicit n a.base ≡ false → WasReady a n why.Start → is_begun (task_of n a.base) s ≡ true) →
+      p ≡ place.Running → MayMove a n p s
   -- it was taken, and is held
-  Holds : (w : Why) → Leaves a n → WasReady a n w → p ≡ place.Held w → MayMove a n p s
+  Holds : (w : Why) → IsLaid a n → WasReady a n w → p ≡ place.Held w → MayMove a n p s
   -- it was taken, found nothing, and waits again
-  WaitsAgain : (x : ℕ) → Leaves a n → WasReady a n (why.Delivery (delivery.Set x)) → p ≡ place.Waiting x true → MayMove a n p s
+  WaitsAgain : (x : ℕ) → IsLaid a n → WasReady a n (why.Delivery (delivery.Set x)) → p ≡ place.Waiting x true → MayMove a n p s
   -- its activation ends, and it waits for an event
   AwaitsEvent : (x : ℕ) → Leaves a n → EndsActivation a n → HasSet a n x → p ≡ place.Waiting x true → MayMove a n p s
   Waits : (x : ℕ) → Leaves a n → HasSet a n x → p ≡ place.Waiting x false → MayMove a n p s
@@ -174,16 +189,28 @@ pub data MayMove (a : Scene) (n : ℕ) (p : Place) (s : Core) : Type 0 where
   Uncovers : (m : ℕ) → IsRunner a m → a.next ≡ turn.Run n → place_of n a.base ≡ Some (place.Under m) → is_none (get s.threads m) ≡ true →
       p ≡ place.Running → MayMove a n p s
 
+-- whom a thread goes behind: one that is there, or the foot of the strand at switch
+abbrev pub IsFoot : ℕ → Core → Type 0
+IsFoot f s = (is_some (place_of f s) ≡ true) ⊎ ((m : ℕ) × ((s.queues.switch ≡ Some m) × (f ≡ foot_of m s)))
+
+-- where it comes to at last
+abbrev pub MayLand : Scene → Placing → Core → Type 0
+MayLand a (Put mark.Switch n w) s = ⊥
+MayLand a (Put mark.High n w) s = MayYield a n w
+MayLand a (Put mark.Low n w) s = MayYield a n w
+MayLand a (GoBehind f n) s = Leaves a n × IsFoot f s
+MayLand a (Move n p) s = MayMove a n p s
+-- by a direct call that was just made, and has begun
+MayLand a (Enter n m) s = IsRunner a n ×
+    ((a.next ≡ turn.Run m) × ((m ≡ next_thread a.base) × ((place_of m s ≡ Some place.New) × ((is_direct (goal_of (task_of m s) s) ≡ true) ×
+    ((a.turn ≡ turn.Run n) × (is_begun m s ≡ true))))))
+MayLand a _ s = ⊥
+
 abbrev pub MayLeave : Scene → Placing → Core → Type 0
 -- the entry of the thread that is taken
 MayLeave a (Pop m) s = (n : ℕ) × (IsRunner a n × (next_entry s ≡ Some (m, entry.Thread n)))
-MayLeave a (Put m n w) s = MayYield a n w
-MayLeave a (GoBehind f n) s = Leaves a n
-MayLeave a (Move n p) s = MayMove a n p s
--- by a direct call that was just made
-MayLeave a (Enter n m) s = IsRunner a n ×
-    ((a.next ≡ turn.Run m) × ((m ≡ next_thread a.base) × ((place_of m s ≡ Some place.New) × (is_direct (goal_of (task_of m s) s) ≡ true))))
-MayLeave a _ s = ⊥
+MayLeave a (Promote k) s = MayHasten a (Promote k) s
+MayLeave a p s = MayLand a p s
 
 -- ---- Threads
 
@@ -215,7 +242,8 @@ pub data MayGo (a : Scene) (n : ℕ) : Type 0 where
 
 -- the start of a call of the running thread's, which hasn't begun or ended
 abbrev pub MayWithdraw : Scene → ℕ → Core → Type 0
-MayWithdraw a k s = (n : ℕ) × (IsRunner a n × (HasSubtask a n (subtask.Guest k) × ((was_started k s ≡ false) × (has_ended k s ≡ false))))
+MayWithdraw a k s = (n : ℕ) × (IsRunner a n × (HasSubtask a n (subtask.Guest k) × ((was_started k s ≡ false) × ((has_ended k s ≡ false) ×
+    ((a.turn ≡ turn.Run n) × (was_started k a.base ≡ false))))))
 
 -- ---- Calls
 
@@ -404,3 +432,24 @@ Allowed a (GiveResult k v) s = SaysEnd a k status.Returned × (goal_of k s ≡ g
 Allowed a AddGroup s = s.made.groups ≡ a.base.made.groups
 Allowed a (RemoveGroup g) s = is_group_done g s ≡ true
 Allowed a _ s = Unit {0}
+
+-- ---- While the running thread stays
+
+-- The words of a step before that thread comes to where it goes, or is gone.
+abbrev pub Stays : Scene → Word → Core → Type 0
+Stays a (Places p) s = MayShift p s ⊎ MayHasten a p s
+Stays a (RemoveThread n) s = ⊥
+Stays a w s = Allowed a w s
+
+-- What becomes of a call whose thread is gone.
+abbrev pub IsSettling : Word → Core → Type 0
+IsSettling (SetUninteresting k) s = Unit {0}
+IsSettling (RemoveCall k) s = is_deletable k s ≡ true
+IsSettling (RemoveGroup g) s = is_group_done g s ≡ true
+IsSettling _ s = ⊥
+
+-- a strand falls, and the store is trapped
+abbrev pub IsFall : Scene → Word → Core → Type 0
+IsFall a (RemoveThread n) s = MayGo a n
+IsFall a SetTrapped s = Unit {0}
+IsFall a _ s = ⊥

@@ -4,11 +4,6 @@ use Rattle.task_rules.specs.Works.{has_end}
 use Rattle.task_rules.specs.Calls.{next_work}
 use Rattle.task_rules.specs.SubtaskEnds.{end_for, handed_by, written_by}
 use Rattle.task_machine.specs.declared.words.Status.{Status}
-use Rattle.task_machine.specs.declared.words.Status.TheVariants as status
-use Rattle.task_machine.specs.declared.records.Subtask.TheVariants as subtask
-use Rattle.task_machine.specs.declared.records.HowFar.TheVariants as how_far
-use Rattle.task_machine.specs.declared.label.Label.TheVariants as label
-use Rattle.task_machine.specs.declared.label.LoopLabel.TheVariants as loop_label
 use Rattle.std.specs.Option.{option_map_or}
 use Rattle.std.specs.Prelude.{Bool, None, Some, false, is_some, true, ℕ, ◌≡◌, ◌⊎◌}
 use Rattle.task_machine.specs.Core.{Core, Main, Scripted, State, Unscripted}
@@ -19,7 +14,8 @@ use Rattle.task_machine.specs.declared.label.Label.{Label}
 use Rattle.task_machine.specs.declared.outcome.Outcome.{Outcome}
 use Rattle.task_machine.specs.declared.records.Place.{Place}
 use Rattle.task_machine.specs.declared.records.Turn.{Turn}
-use Rattle.task_rules.specs.Allowed.{Allowed, IsRunner, MayShift, SaysEnd, is_exit, IsOwn, IsPolled, IsNamed}
+use Rattle.task_rules.specs.Allowed.{Allowed, IsRunner, MayShift, SaysEnd, is_exit, IsOwn, IsPolled, IsNamed, IsFall, IsSettling, Leaves, MayCome, MayLand, MayMove, Stays}
+use Rattle.task_machine.specs.declared.records.HowFar.{HowFar}
 use Rattle.task_rules.specs.Laws.{is_free}
 use Rattle.task_rules.specs.Once.{begun_holder}
 use Rattle.task_rules.specs.Outcome.{outcome_of_label}
@@ -27,7 +23,12 @@ use Rattle.task_rules.specs.Scenes.{Scene, component_of, scene_of}
 use Rattle.task_rules.specs.Stalled.{Setting}
 use Rattle.task_rules.specs.Step.{Step}
 use Rattle.task_rules.specs.Turns.{settled_turn}
-use Rattle.task_rules.specs.Words.{Places, Word, after_word}
+use Rattle.task_rules.specs.Words.{Move, Places, Placing, RemoveThread, SetHowFar, Word, after_word}
+use Rattle.task_machine.specs.declared.words.Status.TheVariants as status
+use Rattle.task_machine.specs.declared.records.Subtask.TheVariants as subtask
+use Rattle.task_machine.specs.declared.records.HowFar.TheVariants as how_far
+use Rattle.task_machine.specs.declared.label.Label.TheVariants as label
+use Rattle.task_machine.specs.declared.label.LoopLabel.TheVariants as loop_label
 use Rattle.task_machine.specs.declared.records.Place.TheVariants as place
 use Rattle.task_machine.specs.declared.records.Turn.TheVariants as turn
 
@@ -39,6 +40,31 @@ pub data Chain (may : Word → Core → Type 0) (b : Core) : Core → Type 0 whe
 -- the words of a step
 abbrev pub Walk : Scene → Core → Core → Type 0
 Walk a b t = Chain (Allowed a) b t
+
+-- its words while the running thread stays where it is
+abbrev pub Stay : Scene → Core → Core → Type 0
+Stay a b t = Chain (Stays a) b t
+
+abbrev pub Settles : Core → Core → Type 0
+Settles b t = Chain IsSettling b t
+
+-- The running thread, or the one that was taken, stays and then comes to one place, or is gone.
+pub data Trip (a : Scene) (b : Core) : Core → Type 0 where
+  Remains : (t : Core) → Stay a b t → ((m : ℕ) → a.next ≡ turn.Run m → a.turn ≡ turn.Run m) → Trip a b t
+  Lands : (s : Core) → (p : Placing) → Stay a b s → MayLand a p s → Trip a b (after_word (Places p) s)
+  -- and its op has come that far
+  LandsAt : (s : Core) → (p : Placing) → (n : ℕ) → (h : HowFar) → Stay a b s → MayLand a p s → MayCome a n h (after_word (Places p) s) →
+      Trip a b (after_word (SetHowFar n h) (after_word (Places p) s))
+  Quits : (s t : Core) → (n : ℕ) → Stay a b s → Leaves a n → Settles (after_word (RemoveThread n) s) t → Trip a b t
+  -- a direct callee exits, and the thread under it goes on
+  GoesBack : (s t : Core) → (n m v : ℕ) → Stay a b s → IsRunner a n → a.turn ≡ turn.Run n → a.next ≡ turn.Run m →
+      place_of m a.base ≡ Some (place.Under n) → Settles (after_word (RemoveThread n) s) t → MayMove a m place.Running t →
+      Trip a b (after_word (SetHowFar m (how_far.Answered v)) (after_word (Places (Move m place.Running)) t))
+  Collapses : (t : Core) → a.next ≡ turn.Over → Chain (IsFall a) b t → Trip a b t
+
+-- the core in which the thread runs or has been taken; where there is none, that of the step
+abbrev pub start_of : Scene → Core → Core
+start_of a s = option_map_or (λ n. a.base) a.runner s
 
 -- only changes of where other threads are
 abbrev pub IsShift : Word → Core → Type 0
@@ -139,6 +165,7 @@ pub record Walked (x : Setting) (s : State) (l : Label) (t : State) : Type 0 whe
   pub turn : t.turn ≡ settled_turn t.core next
   pub main : SameMain s.main t.main
   pub walk : Walk (scene_of x s l next) s.core t.core
+  pub trip : Trip (scene_of x s l next) (start_of (scene_of x s l next) s.core) t.core
   pub ends : LastWords (scene_of x s l next) t.core
 
 -- each step is a chain of words, each where it may be done

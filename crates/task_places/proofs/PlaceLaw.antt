@@ -1,0 +1,469 @@
+-- Where each thread is along the words of a step: each has its place, and one that waits for its start still does, or its call has begun.
+use Rattle.task_machine.specs.declared.records.HowFar.TheVariants as how_far
+use Rattle.task_machine.specs.declared.records.HowFar.{HowFar}
+use Rattle.task_rules.specs.Laws.{is_free}
+use Rattle.task_machine.specs.declared.records.Script.TheVariants as script
+use Rattle.task_rules.specs.Scripts.{registers_for}
+use Rattle.task_machine.specs.declared.records.Call.{Call}
+use Rattle.task_rules.specs.Cancels.{is_callback_wait}
+use Rattle.std.proofs.Common.{T, ap, arith, inl, inr, le_refl, refl, subst, sym, ◌∙◌}
+use Rattle.std.specs.Option.{option_map_or}
+use Rattle.std.specs.Prelude.{Bool, None, Option, Some, [], false, is_none, is_some, option_and_then, slice_set, true, unwrap_or, ℕ, ◌+◌, ◌==◌, ◌||◌, ◌∷◌, ◌≡◌, ◌≤◌, ◌⊎◌, option_map}
+use Rattle.task_machine.specs.Core.{Core}
+use Rattle.task_machine.specs.Maps.{get}
+use Rattle.task_machine.specs.Moves.{has_entry, promoted, put_high, put_low, behind_one}
+use Rattle.task_machine.specs.Read.{is_explicit, is_waiting_on, new_thread_handle, place_of, task_of, was_started}
+use Rattle.task_machine.specs.Write.{add_call, add_group, add_set, add_work, count_work, free_handle, free_thread_handle, give_handle, give_result, give_thread_handle, on_call, on_instance, on_thread, on_work, push_high, remove_call, remove_group, remove_set, remove_thread, remove_work, set_backpressure, set_cancel_delivered, set_cancelled, set_course, set_do_not_enter, set_do_not_suspend, set_end, set_event, set_exited, set_how_far, set_join, set_own_event, set_phase, set_place, set_position, set_register, set_result, set_saved_callee, set_saved_own, set_script, set_stage, set_started, set_starting_published, set_subtask_handle, set_thread_handle, set_trapped, set_uninteresting, set_word, take_result}
+use Rattle.task_machine.specs.declared.records.Entry.TheVariants as entry
+use Rattle.task_machine.specs.declared.records.Place.{Place}
+use Rattle.task_machine.specs.declared.records.Place.TheVariants as place
+use Rattle.task_machine.specs.declared.records.Subtask.TheVariants as subtask
+use Rattle.task_machine.specs.declared.records.Thread.{Thread}
+use Rattle.task_machine.specs.declared.records.Turn.{Turn}
+use Rattle.task_machine.specs.declared.records.Turn.TheVariants as turn
+use Rattle.task_machine.specs.declared.records.Why.{Why}
+use Rattle.task_machine.specs.declared.records.Why.TheVariants as why
+use Rattle.task_machine.specs.declared.words.Mark.{Mark}
+use Rattle.task_machine.specs.declared.words.Mark.TheVariants as mark
+use Rattle.task_places.proofs.Entries.{added_stand, has_stands, next_first, popped_quiet, promoted_stand, pushed_same, removed_fresh, withdrawn_stand, flipped}
+use Rattle.task_laws.proofs.CameLemmas.{read_same}
+use Rattle.task_rules.proofs.ChainLemmas.{along}
+use Rattle.task_rules.proofs.MoveLemmas.{All, all_of, idle_loose, is_busy, is_idle, is_parked, loose_idle, put_stand, removed_all, no_time, one_time, stand_of, removed_gone, removed_placed, removed_loose, gone_place, other_place}
+use Rattle.task_rules.proofs.PlacingLemmas.{placing_shifted}
+use Rattle.task_rules.proofs.StandLemmas.{Adds, adds_all, Loose, Stand, by_number, put_high_adds, put_low_adds, set_place_adds, place_kept, place_written, Given}
+use Rattle.task_rules.proofs.StopLemmas.{Untouched, behind_adds, foot_there, given_there, quiet_placed, quiet_stand, stopped_stand, switch_there}
+use Rattle.task_rules.proofs.WalkParts.{withdraws}
+use Rattle.task_rules.proofs.WalkTask.{not_main, one_runner}
+use Rattle.task_rules.specs.Allowed.{Cancels, HasSubtask, IsRunner, MayLand, MayMove, MayPut, MayYield, Releases, Resumes, Starts, Stays, Unblocks, Wakes, is_begun, Leaves, IsFoot, Yields, ComesAgain, FindsEvent, Runs, Holds, WaitsAgain, AwaitsEvent, Waits, Blocks, Suspends, Uncovers, Departs, EndsOver, Falls, MayGo, IsFall, IsSettling}
+use Rattle.task_rules.specs.Calls.{call_made, new_call, next_thread, with_handle, with_thread_handle, work_queued, new_thread}
+use Rattle.task_rules.specs.Chains.{LastWords, Settles, Stay, Trip, Remains, Lands, LandsAt, Quits, GoesBack, Collapses}
+use Rattle.task_rules.specs.Places.{HasPlace, entries, is_at_high, is_at_low, is_at_switch, is_for_start, is_fresh, is_there, says, switch_entries, times}
+use Rattle.task_rules.specs.Scenes.{Scene}
+use Rattle.task_rules.specs.Threads.{resume_at}
+use Rattle.task_rules.specs.Words.{FinishWork, MakeCall, MakeThread, NameThread, Places, Placing, Promote, Put, QueueWork, RemoveThread, SetHowFar, SetPosition, SetRegister, SetSavedCallee, SetSavedOwn, SetScript, Stop, TakeHost, TakePush, Withdraw, Word, after_placing, after_word, Pop, GoBehind, Move, Enter, SetUninteresting, RemoveCall, RemoveGroup, SetTrapped}
+use Rattle.task_rules.specs.Works.{poll_pends}
+
+pub no_way : {A : Type 0} → false ≡ true → A
+no_way h = absurd (subst T (sym h) tt)
+
+-- ---- Why a thread is put
+
+-- It was parked; one that waited for its start still does.
+record Parked (m : ℕ) (w : Why) (s : Core) : Type 0 where
+  pub place : Place
+  pub at : place_of m s ≡ Some place
+  pub parked : is_parked place ≡ true
+  pub starts : is_fresh (Some place) ≡ true → is_for_start w ≡ true
+
+resumes : (m : ℕ) (w : Why) (s : Core) (b : Bool) (o : Option Place) → place_of m s ≡ o → option_and_then (resume_at b) o ≡ Some w → Parked m w s
+resumes m w s true (Some place.New) at h = record { place = place.New; at = at; parked = refl; starts = λ g. ap (λ (o : Option Why). is_for_start (unwrap_or o w)) (sym h) }
+resumes m w s true (Some place.Suspended) at h = record { place = place.Suspended; at = at; parked = refl; starts = λ g. no_way g }
+resumes m w s false (Some place.Suspended) at h = record { place = place.Suspended; at = at; parked = refl; starts = λ g. no_way g }
+resumes m w s b o at h = no_way (ap (λ (o : Option Why). is_some o) h)
+
+waiting : (x m : ℕ) (w : Why) (s : Core) (o : Option Place) → place_of m s ≡ o → option_map_or (is_waiting_on x) o false ≡ true → Parked m w s
+waiting x m w s (Some (place.Waiting y b)) at h = record { place = place.Waiting y b; at = at; parked = refl; starts = λ g. no_way g }
+waiting x m w s None at h = no_way h
+waiting x m w s (Some _) at h = no_way h
+
+called_back : (m : ℕ) (w : Why) (s : Core) (o : Option Place) → place_of m s ≡ o → option_map_or is_callback_wait o false ≡ true → Parked m w s
+called_back m w s (Some (place.Waiting y b)) at h = record { place = place.Waiting y b; at = at; parked = refl; starts = λ g. no_way g }
+called_back m w s None at h = no_way h
+called_back m w s (Some _) at h = no_way h
+
+parked_at : (m : ℕ) (w : Why) (s : Core) → MayPut m w s → Parked m w s
+parked_at m w s (Starts at explicit direct e) = record { place = place.New; at = at; parked = refl; starts = λ g. ap is_for_start e }
+parked_at m w s (Resumes by) = resumes m w s (is_explicit m s) (place_of m s) refl by
+parked_at m w s (Wakes x h e) = waiting x m w s (place_of m s) refl h
+parked_at m w s (Unblocks sub at done e) = record { place = place.Blocked sub; at = at; parked = refl; starts = λ g. no_way g }
+parked_at m w s (Releases at) = record { place = place.Held w; at = at; parked = refl; starts = λ g. g }
+parked_at m w s (Cancels h e) = called_back m w s (place_of m s) refl h
+
+-- ---- Who has an entry
+
+abbrev pub ReadyAt : Option Place → Type 0
+ReadyAt o = (x : Mark) × ((w : Why) × (o ≡ Some (place.Ready x w)))
+
+too_low : {A : Type 0} → 1 ≤ 0 → A
+too_low h = absurd (no h)
+  where
+    no : 1 ≤ 0 → ⊥
+    no g = omega (arith, g)
+
+ready_of : (o : Option Place) → 1 ≤ says is_at_switch o + says is_at_high o + says is_at_low o → ReadyAt o
+ready_of (Some (place.Ready x w)) h = (x, (w, refl))
+ready_of None h = too_low h
+ready_of (Some _) h = too_low h
+
+-- a thread that has its place and an entry
+pub entry_ready : (m : ℕ) (s : Core) → HasPlace m s → 1 ≤ switch_entries m s.queues.switch + entries m s.queues.high + entries m s.queues.low → ReadyAt (place_of m s)
+entry_ready m s h one = ready_of (place_of m s) (let a = h.switch in let b = h.high in let c = h.low in omega (arith, a, b, c, one))
+
+listed : (m : ℕ) (s : Core) → (has_entry m s.queues.high || has_entry m s.queues.low) ≡ true → 1 ≤ switch_entries m s.queues.switch + entries m s.queues.high + entries m s.queues.low
+listed m s h = go (has_entry m s.queues.high) (has_entry m s.queues.low) refl refl h
+  where
+    go : (a b : Bool) → has_entry m s.queues.high ≡ a → has_entry m s.queues.low ≡ b → (a || b) ≡ true → 1 ≤ switch_entries m s.queues.switch + entries m s.queues.high + entries m s.queues.low
+    go true b e f g = let x = has_stands m s.queues.high e in omega (arith, x)
+    go false true e f g = let x = has_stands m s.queues.low f in omega (arith, x)
+    go false false e f g = no_way g
+
+-- ---- Beside a thread that stays
+
+-- who waits for its start, or is gone, as the step begins
+abbrev pub waits : Scene → ℕ → Bool
+waits a k = is_fresh (place_of k a.base)
+
+-- From b on the thread n stays at q, so nobody puts it; nor is it a call's that is withdrawn, or made.
+pub record Follows (a : Scene) (b : Core) (n : ℕ) (q : Option Place) : Type 0 where
+  pub busy : is_busy q ≡ true
+  pub runs : (m : ℕ) → a.turn ≡ turn.Run m → (is_idle q ≡ true) × (is_fresh q ≡ false)
+  pub apart : (n == a.base.made.threads + 1) ≡ false
+  pub withdraws : (m k : ℕ) → IsRunner a m → HasSubtask a m (subtask.Guest k) → was_started k a.base ≡ false → waits a k ≡ true
+  pub start : Stand (waits a) n q [] b
+
+thread_untouched : (n : ℕ) (f : Thread → Thread) (s : Core) → ((t : Thread) → (f t).place ≡ t.place) → Untouched s (on_thread n f s)
+unfolding on_thread
+thread_untouched n f s same = record { places = λ k. read_same n f same k s; switch = λ k. refl; high = λ k. refl; low = λ k. refl; callers = refl; made = le_refl _ }
+
+calls_untouched : (k : ℕ) (c : Call) (s : Core) → Untouched s (add_call k c s)
+unfolding add_call
+calls_untouched k c s = record { places = λ k. refl; switch = λ k. refl; high = λ k. refl; low = λ k. refl; callers = refl; made = le_refl _ }
+
+module _ {a : Scene} {b : Core} {n : ℕ} {q : Option Place} (f : Follows a b n q) where
+  not_here : (m : ℕ) (s : Core) → Stand (waits a) n q [] s → (place_of n s ≡ place_of m s → place_of m s ≡ q → ⊥) → (m == n) ≡ false
+  not_here m s st differs = by_number m n ((m == n) ≡ false) (λ e. let same = ap (λ (j : ℕ). place_of j s) (sym e) in absurd (differs same (sym same ∙ st.here))) (λ e. e)
+
+  promotes : (m : ℕ) (s : Core) → (m == n) ≡ false → s.queues.switch ≡ None → ReadyAt (place_of m s) → Stand (waits a) n q [] s → Stand (waits a) n q [] (promoted m s)
+  promotes m s apart none r st = promoted_stand n q m r.0 r.1.0 s apart r.1.1 none st
+
+  stay_placing : (p : Placing) (s : Core) → Stays a (Places p) s → Stand (waits a) n q [] s → Stand (waits a) n q [] (after_placing p s)
+  stay_placing (Put x m w) s (inl ok) st = let r = parked_at m w s ok in put_stand n q f.busy x m w r.place s r.at r.parked (λ h. r.starts (ap is_fresh (sym r.at) ∙ (st.fresh m h).1)) st
+  stay_placing (Promote m) s (inl ok) st =
+      let one = listed m s ok.1 in
+      let apart : (m == n) ≡ false = by_number m n ((m == n) ≡ false) (λ e. absurd (none_listed m e one)) (λ e. e) in
+      promotes m s apart ok.0 (entry_ready m s (st.placed m (no_time m n apart)) one) st
+    where
+      none_listed : (m : ℕ) → m ≡ n → 1 ≤ switch_entries m s.queues.switch + entries m s.queues.high + entries m s.queues.low → ⊥
+      none_listed m e h = let l = st.loose m (subst (λ (j : ℕ). times j (n ∷ []) ≡ 1) (sym e) (one_time n)) in let x = l.switch in let y = l.high in let z = l.low in omega (arith, x, y, z, h)
+  stay_placing (Promote m) s (inr ok) st =
+      promotes m s (not_here m s st (λ same at. subst T (sym (f.runs ok.1.0 ok.1.1.0).0 ∙ (ap is_idle (sym at) ∙ ap is_idle ok.1.1.1.1.1)) tt)) ok.0 ok.1.1.1 st
+  stay_placing (Stop g) s (inl ok) st = stopped_stand n q g s st
+  stay_placing p s (inl ok) st = absurd ok
+  stay_placing p s (inr ok) st = absurd ok
+
+  next_apart : (s : Core) → s.made.threads ≡ a.base.made.threads → (n == s.made.threads + 1) ≡ false
+  next_apart s e = ap (λ (c : ℕ). n == c + 1) e ∙ f.apart
+
+  pub stay_word : (w : Word) (s : Core) → Stays a w s → Stand (waits a) n q [] s → Stand (waits a) n q [] (after_word w s)
+  unfolding add_call add_group add_set add_work count_work free_handle free_thread_handle give_handle give_result give_thread_handle on_call on_instance on_work push_high remove_call remove_group remove_set remove_work set_backpressure set_cancel_delivered set_cancelled set_course set_do_not_enter set_do_not_suspend set_end set_event set_exited set_how_far set_join set_own_event set_phase set_position set_register set_result set_saved_callee set_saved_own set_script set_stage set_started set_starting_published set_subtask_handle set_thread_handle set_trapped set_uninteresting set_word take_result call_made with_handle with_thread_handle work_queued poll_pends
+  stay_word (Places p) s ok st = subst (λ (t : Core). Stand (waits a) n q [] t) (sym (placing_shifted p s).only) (stay_placing p s ok st)
+  stay_word (SetRegister m r v) s ok st = quiet_stand n q [] s _ (thread_untouched m (λ t. record t { registers = slice_set t.registers r v }) s (λ t. refl)) st
+  stay_word (SetPosition m p) s ok st = quiet_stand n q [] s _ (thread_untouched m (λ t. record t { position = p }) s (λ t. refl)) st
+  stay_word (SetHowFar m h) s ok st = quiet_stand n q [] s _ (thread_untouched m (λ t. record t { how_far = h }) s (λ t. refl)) st
+  stay_word (SetScript m x) s ok st = quiet_stand n q [] s _ (thread_untouched m (λ t. record t { script = x }) s (λ t. refl)) st
+  stay_word (SetSavedOwn m c) s ok st = quiet_stand n q [] s _ (thread_untouched m (λ t. record t { saved_own = c }) s (λ t. refl)) st
+  stay_word (SetSavedCallee m c) s ok st = quiet_stand n q [] s _ (thread_untouched m (λ t. record t { saved_callee = c }) s (λ t. refl)) st
+  stay_word (NameThread i m) s ok st = let u = thread_untouched m (λ t. record t { handle = Some (new_thread_handle i s) }) (give_thread_handle i m s) (λ t. refl) in quiet_stand n q [] s _ (record { places = u.places; switch = u.switch; high = u.high; low = u.low; callers = u.callers; made = u.made }) st
+  stay_word (MakeThread t) s ok st = added_stand n q t s (next_apart s ok.1.1.0) (ap (λ (r : Thread). r.place) ok.1.1.1.1.1.0) st
+  stay_word (MakeCall g e x goal group words) s ok st = added_stand n q (new_thread (next_thread s) false script.Start (registers_for words) None) (add_call (next_thread s) (new_call g e x goal group) s) (next_apart s ok.1.0) refl (quiet_stand n q [] s _ (calls_untouched (next_thread s) (new_call g e x goal group) s) st)
+  stay_word (Withdraw k) s ok st =
+      let fresh = (st.fresh k (f.withdraws ok.0 k ok.1.0 ok.1.1.0 ok.1.1.1.1.1.1)).1 in
+      subst (λ (t : Core). Stand (waits a) n q [] t) (sym (withdraws k s)) (withdrawn_stand n q k s (not_here k s st (λ same at. subst T (sym fresh ∙ (ap is_fresh at ∙ (f.runs ok.0 ok.1.1.1.1.1.0).1)) tt)) fresh st)
+  stay_word (RemoveThread m) s ok st = absurd ok
+  stay_word (QueueWork g host group) s ok st = quiet_stand n q [] s _ (record { places = λ k. refl; switch = λ k. refl; high = λ k. pushed_same k s.queues.high _ refl; low = λ k. refl; callers = refl; made = le_refl _ }) st
+  stay_word (FinishWork i c) s ok st = quiet_stand n q [] s _ (record { places = λ k. refl; switch = λ k. refl; high = λ k. pushed_same k s.queues.high (entry.Host i) refl; low = λ k. refl; callers = refl; made = le_refl _ }) st
+  stay_word (TakePush x i) s ok st = let u = popped_quiet x (entry.Push i) s (next_first s x (entry.Push i) ok) (λ k. refl) in quiet_stand n q [] s _ (record { places = u.places; switch = u.switch; high = u.high; low = u.low; callers = u.callers; made = le_refl _ }) st
+  stay_word (TakeHost x i) s ok st = let u = popped_quiet x (entry.Host i) s (next_first s x (entry.Host i) ok) (λ k. refl) in quiet_stand n q [] s _ (record { places = u.places; switch = u.switch; high = u.high; low = u.low; callers = u.callers; made = le_refl _ }) st
+  stay_word w s ok st = quiet_stand n q [] s _ (record { places = λ k. refl; switch = λ k. refl; high = λ k. refl; low = λ k. refl; callers = refl; made = le_refl _ }) st
+
+  pub stay_stand : {t : Core} → Stay a b t → Stand (waits a) n q [] t
+  stay_stand c = along (λ (t : Core). Stand (waits a) n q [] t) stay_word f.start c
+
+-- ---- Where a step comes to
+
+-- the thread's call has begun, if it is the first of one
+abbrev pub Begun : Scene → ℕ → Core → Type 0
+Begun a k t = ((is_there k a.base ≡ true) × (is_explicit k a.base ≡ false → is_begun (task_of k a.base) t ≡ true)) ⊎ (is_begun k t ≡ true)
+
+-- Each thread has its place, the one whose turn comes runs, and who waited for its start still does, or its call has begun.
+pub record Arrives (a : Scene) (t : Core) : Type 0 where
+  pub placed : All t
+  pub runs : (m : ℕ) → a.next ≡ turn.Run m → place_of m t ≡ Some place.Running
+  pub fresh : (k : ℕ) → waits a k ≡ true → (is_fresh (place_of k t) ≡ true) ⊎ Begun a k t
+
+far_arrives : (a : Scene) (n : ℕ) (h : HowFar) (s : Core) → Arrives a s → Arrives a (set_how_far n h s)
+unfolding set_how_far on_thread
+far_arrives a n h s r =
+    let u = thread_untouched n (λ t. record t { how_far = h }) s (λ t. refl) in
+    record {
+      placed = λ k. quiet_placed k s _ u (r.placed k);
+      runs = λ m to. u.places m ∙ r.runs m to;
+      fresh = λ k w. still k (r.fresh k w);
+    }
+  where
+    still : (k : ℕ) → (is_fresh (place_of k s) ≡ true) ⊎ Begun a k s → (is_fresh (place_of k (on_thread n (λ t. record t { how_far = h }) s)) ≡ true) ⊎ Begun a k (on_thread n (λ t. record t { how_far = h }) s)
+    still k (inl e) = inl (ap is_fresh (read_same n (λ t. record t { how_far = h }) (λ t. refl) k s) ∙ e)
+    still k (inr e) = inr e
+
+-- ---- The thread itself comes to a place
+
+-- who is taken and waits for its start is taken for it
+fresh_ready : (p : Place) → is_busy (Some p) ≡ true → is_fresh (Some p) ≡ true → (x : Mark) × (p ≡ place.Ready x why.Start)
+fresh_ready (place.Ready x why.Start) b h = (x, refl)
+fresh_ready (place.Ready x (why.Delivery d)) b h = no_way h
+fresh_ready (place.Ready x why.Resumption) b h = no_way h
+fresh_ready (place.Held w) b h = no_way b
+fresh_ready place.New b h = no_way b
+fresh_ready _ b h = no_way h
+
+abbrev pub is_run : Turn → Bool
+is_run (turn.Run n) = true
+is_run _ = false
+
+placeless : (o : Option Thread) → is_none o ≡ true → is_some (option_map (λ (t : Thread). t.place) o) ≡ false
+placeless None h = refl
+placeless (Some t) h = no_way h
+
+yield_runner : {a : Scene} (k : ℕ) (w : Why) → MayYield a k w → IsRunner a k
+yield_runner k w (Yields l e) = l.0
+yield_runner k w (ComesAgain l d e) = l.0
+yield_runner k w (FindsEvent x l d h e) = l.0
+
+move_runner : {a : Scene} (k : ℕ) (r : Place) (s : Core) → MayMove a k r s → IsRunner a k ⊎ ((m : ℕ) × (IsRunner a m × (is_none (get s.threads m) ≡ true)))
+move_runner k r s (Runs i to h e) = inl i
+move_runner k r s (Holds w l h e) = inl l.0
+move_runner k r s (WaitsAgain x l h e) = inl l.0
+move_runner k r s (AwaitsEvent x l d h e) = inl l.0
+move_runner k r s (Waits x l h e) = inl l.0
+move_runner k r s (Blocks sub l h e) = inl l.0
+move_runner k r s (Suspends l e) = inl l.0
+move_runner k r s (Uncovers m i to under none e) = inr (m, (i, none))
+
+module _ {a : Scene} {b : Core} (n : ℕ) (p : Place) (f : Follows a b n (Some p)) (is : IsRunner a n) (home : place_of n a.base ≡ Some p) where
+  one : (m : ℕ) → IsRunner a m → m ≡ n
+  one m e = ap (λ (o : Option ℕ). unwrap_or o m) (sym e ∙ is)
+
+  comes : (r : Place) (s t : Core) → Adds n r s t → Stand (waits a) n (Some p) [] s → ((m : ℕ) → a.next ≡ turn.Run m → (m ≡ n) × (r ≡ place.Running)) → (waits a n ≡ true → (is_fresh (Some r) ≡ true) ⊎ Begun a n t) → Arrives a t
+  comes r s t adds st runs fresh = record {
+    placed = adds_all n (Some p) r s t adds st;
+    runs = λ m to. let e = runs m to in ap (λ (j : ℕ). place_of j t) e.0 ∙ (adds.own ∙ ap (λ (x : Place). Some x) e.1);
+    fresh = λ k h. by_number k n ((is_fresh (place_of k t) ≡ true) ⊎ Begun a k t) (λ e. subst (λ (j : ℕ). (is_fresh (place_of j t) ≡ true) ⊎ Begun a j t) (sym e) (own (fresh (ap (waits a) (sym e) ∙ h)))) (λ e. inl (ap is_fresh (adds.other k e) ∙ (st.fresh k h).1));
+  }
+    where
+      own : (is_fresh (Some r) ≡ true) ⊎ Begun a n t → (is_fresh (place_of n t) ≡ true) ⊎ Begun a n t
+      own (inl e) = inl (ap is_fresh adds.own ∙ e)
+      own (inr e) = inr e
+
+  -- a running thread waits for no start
+  begun : (s : Core) {A : Type 0} → a.turn ≡ turn.Run n → waits a n ≡ true → A
+  begun s runs h = no_way (sym (f.runs n runs).1 ∙ (ap is_fresh (sym home) ∙ h))
+
+  left : (r : Place) (s t : Core) → Leaves a n → Adds n r s t → Stand (waits a) n (Some p) [] s → Arrives a t
+  left r s t leave adds st = comes r s t adds st (λ m to. not_main m (sym leave.1.0 ∙ to)) (λ h. begun s leave.1.1 h)
+
+  yield_leaves : (w : Why) → MayYield a n w → Leaves a n
+  yield_leaves w (Yields l e) = l
+  yield_leaves w (ComesAgain l d e) = l
+  yield_leaves w (FindsEvent x l d h e) = l
+
+  move_lands : (r : Place) (s : Core) → MayMove a n r s → Stand (waits a) n (Some p) [] s → Arrives a (set_place n r s)
+  unfolding set_place on_thread
+  move_lands r s ok st = go ok
+    where
+      adds : is_free r ≡ true → Adds n r s (set_place n r s)
+      adds free = set_place_adds n r p s free st.here
+
+      go : MayMove a n r s → Arrives a (set_place n r s)
+      go (Runs e to starts at) =
+          comes r s (set_place n r s) (adds (ap is_free at)) st (λ m next. (one_runner m n (sym next ∙ to), at))
+          (λ h. inr (inl (ap (λ (o : Option Place). is_some o) home, λ implicit. let x = fresh_ready p f.busy (ap is_fresh (sym home) ∙ h) in still (starts implicit (x.0, home ∙ ap (λ (y : Place). Some y) x.1)))))
+        where
+          still : is_begun (task_of n a.base) s ≡ true → is_begun (task_of n a.base) (set_place n r s) ≡ true
+          still h = h
+      go (Holds w l was at) = comes r s (set_place n r s) (adds (ap is_free at)) st (λ m next. not_main m (sym l.1 ∙ next)) (λ h. inl (ap (λ (y : Place). is_fresh (Some y)) at ∙ (ap is_fresh (sym was.1) ∙ h)))
+      go (WaitsAgain x l was at) = comes r s (set_place n r s) (adds (ap is_free at)) st (λ m next. not_main m (sym l.1 ∙ next)) (λ h. no_way (ap is_fresh (sym was.1) ∙ h))
+      go (AwaitsEvent x l d h at) = left r s (set_place n r s) l (adds (ap is_free at)) st
+      go (Waits x l h at) = left r s (set_place n r s) l (adds (ap is_free at)) st
+      go (Blocks sub l h at) = left r s (set_place n r s) l (adds (ap is_free at)) st
+      go (Suspends l at) = left r s (set_place n r s) l (adds (ap is_free at)) st
+      go (Uncovers m e to under none at) = no_way (sym (placeless (get s.threads m) none) ∙ ap (λ (o : Option Place). is_some o) (ap (λ (j : ℕ). place_of j s) (one m e) ∙ st.here))
+
+  -- by a direct call it is under the new thread
+  enters : (m : ℕ) (s : Core) → MayLand a (Enter n m) s → Stand (waits a) n (Some p) [] s → Arrives a (set_place n (place.Under m) (set_place m place.Running s))
+  unfolding set_place on_thread
+  enters m s ok st =
+      let r = f.runs n ok.1.1.1.1.1.0 in
+      let new = ok.1.1.1.0 in
+      let u = set_place m place.Running s in
+      let all : All u = adds_all m (Some place.New) place.Running s u (set_place_adds m place.Running place.New s refl new) (stand_of {P = waits a} m (Some place.New) s new refl (λ k h. (st.fresh k h).1) (all_of n (Some p) s r.0 st)) in
+      let at : place_of n u ≡ Some p = place_kept n m place.Running s (flipped n m apart) ∙ st.here in
+      let t = set_place n (place.Under m) u in
+      let here : place_of m t ≡ Some place.Running = place_kept m n (place.Under m) u apart ∙ place_written m place.Running place.New s new in
+      record {
+        placed = adds_all n (Some p) (place.Under m) u t (set_place_adds n (place.Under m) p u refl at) (stand_of {P = λ k. false} n (Some p) u at r.0 (λ k h. no_way h) all);
+        runs = λ k to. ap (λ (j : ℕ). place_of j t) (one_runner k m (sym to ∙ ok.1.0)) ∙ here;
+        fresh = λ k h. by_number k m ((is_fresh (place_of k t) ≡ true) ⊎ Begun a k t) (λ e. inr (subst (λ (j : ℕ). Begun a j t) (sym e) (started ok.1.1.1.1.1.1)))
+            (λ e. by_number k n ((is_fresh (place_of k t) ≡ true) ⊎ Begun a k t) (λ g. begun s ok.1.1.1.1.1.0 (ap (waits a) (sym g) ∙ h)) (λ g. inl (ap is_fresh (place_kept k n (place.Under m) u g ∙ place_kept k m place.Running s e) ∙ (st.fresh k h).1)));
+      }
+    where
+      apart : (m == n) ≡ false
+      apart = by_number m n ((m == n) ≡ false) (λ e. no_way (sym (ap is_busy (sym (ap (λ (j : ℕ). place_of j s) e ∙ st.here) ∙ ok.1.1.1.0)) ∙ f.busy)) (λ e. e)
+
+      started : is_begun m s ≡ true → Begun a m (set_place n (place.Under m) (set_place m place.Running s))
+      started h = inr h
+
+  foot_given : (g : ℕ) (s : Core) → IsFoot g s → Stand (waits a) n (Some p) [] s → Given g s
+  foot_given g s (inl there) st = given_there n (Some p) [] s st g there
+  foot_given g s (inr h) st = given_there n (Some p) [] s st g (ap (λ (j : ℕ). is_there j s) h.1.1 ∙ foot_there h.0 s (switch_there n (Some p) [] s st h.0 h.1.0))
+
+  lands_at : (x : Placing) (s : Core) → MayLand a x s → Stand (waits a) n (Some p) [] s → Arrives a (after_placing x s)
+  lands_at (Put mark.High k w) s ok st = let e = one k (yield_runner k w ok) in subst (λ (j : ℕ). Arrives a (put_high j w s)) (sym e) (left (place.Ready mark.High w) s (put_high n w s) (yield_leaves w (subst (λ (j : ℕ). MayYield a j w) e ok)) (put_high_adds n w p s st.here) st)
+  lands_at (Put mark.Low k w) s ok st = let e = one k (yield_runner k w ok) in subst (λ (j : ℕ). Arrives a (put_low j w s)) (sym e) (left (place.Ready mark.Low w) s (put_low n w s) (yield_leaves w (subst (λ (j : ℕ). MayYield a j w) e ok)) (put_low_adds n w p s st.here) st)
+  lands_at (Put mark.Switch k w) s ok st = absurd ok
+  lands_at (GoBehind g k) s ok st = let e = one k ok.0.0 in subst (λ (j : ℕ). Arrives a (behind_one g j s)) (sym e) (left (place.Behind g) s (behind_one g n s) (subst (Leaves a) e ok.0) (behind_adds g n p s (foot_given g s ok.1 st) st.here) st)
+  lands_at (Move k r) s ok st = moves (move_runner k r s ok)
+    where
+      moves : IsRunner a k ⊎ ((m : ℕ) × (IsRunner a m × (is_none (get s.threads m) ≡ true))) → Arrives a (set_place k r s)
+      moves (inl i) = let e = one k i in subst (λ (j : ℕ). Arrives a (set_place j r s)) (sym e) (move_lands r s (subst (λ (j : ℕ). MayMove a j r s) e ok) st)
+      moves (inr m) = no_way (sym (placeless (get s.threads m.0) m.1.1) ∙ ap (λ (o : Option Place). is_some o) (ap (λ (j : ℕ). place_of j s) (one m.0 m.1.0) ∙ st.here))
+  lands_at (Enter k m) s ok st = let e = one k ok.0 in subst (λ (j : ℕ). Arrives a (after_placing (Enter j m) s)) (sym e) (enters m s (subst (λ (j : ℕ). MayLand a (Enter j m) s) e ok) st)
+  lands_at (Pop m) s ok st = absurd ok
+  lands_at (Promote m) s ok st = absurd ok
+  lands_at (Stop g) s ok st = absurd ok
+
+-- ---- The thread is gone
+
+settles_quiet : {s t : Core} → Settles s t → Untouched s t
+unfolding set_uninteresting on_call remove_call remove_group
+settles_quiet {s = s} c = along (Untouched s) settle_quiet (record { places = λ k. refl; switch = λ k. refl; high = λ k. refl; low = λ k. refl; callers = refl; made = le_refl _ }) c
+  where
+    settle_quiet : (w : Word) (u : Core) → IsSettling w u → Untouched s u → Untouched s (after_word w u)
+    settle_quiet (SetUninteresting k) u ok q = record { places = q.places; switch = q.switch; high = q.high; low = q.low; callers = q.callers; made = q.made }
+    settle_quiet (RemoveCall k) u ok q = record { places = q.places; switch = q.switch; high = q.high; low = q.low; callers = q.callers; made = q.made }
+    settle_quiet (RemoveGroup g) u ok q = record { places = q.places; switch = q.switch; high = q.high; low = q.low; callers = q.callers; made = q.made }
+    settle_quiet _ u ok q = absurd ok
+
+-- What is so while a strand falls.
+record Falling (a : Scene) (n : ℕ) (s : Core) : Type 0 where
+  pub others : (k : ℕ) → (k == n) ≡ false → HasPlace k s
+  pub own : Loose n s
+  pub idle : (k : ℕ) → is_idle (place_of k a.base) ≡ true → is_idle (place_of k s) ≡ true
+  pub fresh : (k : ℕ) → waits a k ≡ true → is_fresh (place_of k s) ≡ true
+
+-- How the words begin and end beside the thread n, which runs or was taken; or there is no such thread.
+pub record Frame (a : Scene) (b : Core) (n : ℕ) (q : Option Place) : Type 0 where
+  pub follows : Follows a b n q
+  pub home : (k : ℕ) → place_of k b ≡ place_of k a.base
+  pub one : (m : ℕ) → IsRunner a m → m ≡ n
+  pub there : (m : ℕ) → IsRunner a m → (p : Place) × (q ≡ Some p)
+  pub running : (m : ℕ) → a.turn ≡ turn.Run m → (m ≡ n) × (q ≡ Some place.Running)
+  pub rests : (t : Core) → LastWords a t → (is_idle (place_of n a.base) ≡ true → is_idle (place_of n t) ≡ true) → is_idle (place_of n t) ≡ true
+  pub covered : (m : ℕ) → IsRunner a n → a.turn ≡ turn.Run n → place_of m a.base ≡ Some (place.Under n) → Follows a b m (Some (place.Under n))
+
+abbrev is_under_place : Option Place → Bool
+is_under_place (Some (place.Under m)) = true
+is_under_place _ = false
+
+land_runner : (a : Scene) (p : Placing) (s : Core) → MayLand a p s → (k : ℕ) × IsRunner a k
+land_runner a (Put mark.High k w) s ok = (k, yield_runner k w ok)
+land_runner a (Put mark.Low k w) s ok = (k, yield_runner k w ok)
+land_runner a (Put mark.Switch k w) s ok = absurd ok
+land_runner a (GoBehind g k) s ok = (k, ok.0.0)
+land_runner a (Move k r) s ok = go (move_runner k r s ok)
+  where
+    go : IsRunner a k ⊎ ((m : ℕ) × (IsRunner a m × (is_none (get s.threads m) ≡ true))) → (j : ℕ) × IsRunner a j
+    go (inl i) = (k, i)
+    go (inr m) = (m.0, m.1.0)
+land_runner a (Enter k m) s ok = (k, ok.0)
+land_runner a (Pop m) s ok = absurd ok
+land_runner a (Promote m) s ok = absurd ok
+land_runner a (Stop g) s ok = absurd ok
+
+module _ {a : Scene} {b : Core} {n : ℕ} {q : Option Place} (f : Frame a b n q) where
+  fall_word : (w : Word) (s : Core) → IsFall a w s → Falling a n s → Falling a n (after_word w s)
+  unfolding set_trapped
+  fall_word (RemoveThread j) s ok h = record {
+    others = λ k e. by_number k j (HasPlace k (remove_thread j s)) (λ g. subst (λ (i : ℕ). HasPlace i (remove_thread j s)) (sym g) (removed_gone j s loose)) (λ g. removed_placed k j s g (h.others k e));
+    own = removed_loose n j s h.own;
+    idle = λ k i. by_number k j (is_idle (place_of k (remove_thread j s)) ≡ true) (λ e. ap (λ (m : ℕ). is_idle (place_of m (remove_thread j s))) e ∙ ap is_idle (gone_place j s)) (λ e. ap is_idle (other_place k j s e) ∙ h.idle k i);
+    fresh = λ k w. removed_fresh k j s (h.fresh k w);
+  }
+    where
+      runner : IsRunner a j → Loose j s
+      runner i = subst (λ (m : ℕ). Loose m s) (sym (f.one j i)) h.own
+
+      loose : Loose j s
+      loose = go ok
+        where
+          go : MayGo a j → Loose j s
+          go (Departs l) = runner l.0
+          go (EndsOver m i to under) = runner i
+          go (Falls over (inl i)) = runner i
+          go (Falls over (inr u)) = by_number j n (Loose j s) (λ e. subst (λ (m : ℕ). Loose m s) (sym e) h.own) (λ e. idle_loose j (place_of j s) s refl (h.idle j (ap is_idle u.1)) (h.others j e))
+  fall_word SetTrapped s ok h = record {
+    others = λ k e. let p = h.others k e in record { number = p.number; behind = p.behind; switch = p.switch; high = p.high; low = p.low; callers = p.callers };
+    own = record { number = h.own.number; switch = h.own.switch; high = h.own.high; low = h.own.low; callers = h.own.callers };
+    idle = h.idle;
+    fresh = h.fresh;
+  }
+  fall_word _ s ok h = absurd ok
+
+  falling : Falling a n b
+  falling =
+      let st = f.follows.start in
+      record { others = λ k e. st.placed k (no_time k n e); own = st.loose n (one_time n); idle = λ k i. ap is_idle (f.home k) ∙ i; fresh = λ k w. (st.fresh k w).1 }
+
+  -- the thread exits
+  exits : (s t : Core) → Stand (waits a) n q [] s → Settles (after_word (RemoveThread n) s) t → (All t) × ((k : ℕ) → waits a k ≡ true → is_fresh (place_of k t) ≡ true)
+  exits s t st d =
+      let u = settles_quiet d in
+      (λ k. quiet_placed k (remove_thread n s) t u (removed_all n q s st k), λ k w. ap is_fresh (u.places k) ∙ removed_fresh k n s (st.fresh k w).1)
+
+  -- and the one under it goes on
+  goes_back : (s t : Core) (m v : ℕ) → Stay a b s → IsRunner a n → a.turn ≡ turn.Run n → a.next ≡ turn.Run m → place_of m a.base ≡ Some (place.Under n) → Settles (after_word (RemoveThread n) s) t → Arrives a (set_how_far m (how_far.Answered v) (set_place m place.Running t))
+  goes_back s t m v c is runs to under d =
+      let st = stay_stand f.follows c in
+      let below = stay_stand (f.covered m is runs under) c in
+      let e = exits s t st d in
+      let at : place_of m t ≡ Some (place.Under n) = (settles_quiet d).places m ∙ (other_place m n s (apart st.here below.here) ∙ below.here) in
+      let u = set_place m place.Running t in
+      far_arrives a m (how_far.Answered v) u (record {
+        placed = adds_all m (Some (place.Under n)) place.Running t u (set_place_adds m place.Running (place.Under n) t refl at) (stand_of {P = λ k. false} m (Some (place.Under n)) t at refl (λ k h. no_way h) e.0);
+        runs = λ k next. ap (λ (j : ℕ). place_of j u) (one_runner k m (sym next ∙ to)) ∙ place_written m place.Running (place.Under n) t at;
+        fresh = λ k h. by_number k m ((is_fresh (place_of k u) ≡ true) ⊎ Begun a k u) (λ g. no_way (ap is_fresh (sym under) ∙ (ap (waits a) (sym g) ∙ h))) (λ g. inl (ap is_fresh (place_kept k m place.Running t g) ∙ e.1 k h));
+      })
+    where
+      apart : place_of n s ≡ q → place_of m s ≡ Some (place.Under n) → (m == n) ≡ false
+      apart here low = by_number m n ((m == n) ≡ false) (λ g. no_way (ap is_under_place (sym (f.running n runs).1 ∙ (sym here ∙ (ap (λ (j : ℕ). place_of j s) (sym g) ∙ low))))) (λ g. g)
+
+  lands : (p : Placing) (s : Core) → MayLand a p s → Stay a b s → Arrives a (after_placing p s)
+  lands p s ok c =
+      let is = land_runner a p s ok in
+      let x = f.there is.0 is.1 in
+      let f2 : Follows a b n (Some x.0) = subst (Follows a b n) x.1 f.follows in
+      lands_at n x.0 f2 (subst (IsRunner a) (f.one is.0 is.1) is.1) (sym (f.home n) ∙ f2.start.here) p s ok (stay_stand f2 c)
+
+  pub trip_arrives : {t : Core} → Trip a b t → LastWords a t → Arrives a t
+  trip_arrives (Remains t c still) w =
+      let st = stay_stand f.follows c in
+      record {
+        placed = all_of n q t (sym (ap is_idle st.here) ∙ f.rests t w (λ i. ap is_idle (st.here ∙ (sym f.follows.start.here ∙ f.home n)) ∙ i)) st;
+        runs = λ m to. let r = f.running m (still m to) in ap (λ (j : ℕ). place_of j t) r.0 ∙ (st.here ∙ r.1);
+        fresh = λ k h. inl (st.fresh k h).1;
+      }
+  trip_arrives (Lands s p c ok) w = subst (λ (t : Core). Arrives a t) (sym (placing_shifted p s).only) (lands p s ok c)
+  trip_arrives (LandsAt s p m h c ok comes) w = far_arrives a m h _ (subst (λ (t : Core). Arrives a t) (sym (placing_shifted p s).only) (lands p s ok c))
+  trip_arrives (Quits s t k c leave d) w =
+      let e = exits s t (stay_stand f.follows c) (subst (λ (j : ℕ). Settles (after_word (RemoveThread j) s) t) (f.one k leave.0) d) in
+      record { placed = e.0; runs = λ m to. not_main m (sym leave.1.0 ∙ to); fresh = λ k h. inl (e.1 k h) }
+  trip_arrives (GoesBack s t k m v c is runs to under d ok) w =
+      let e = f.one k is in
+      subst (λ (y : Core). Arrives a (set_how_far m (how_far.Answered v) y)) (sym (placing_shifted (Move m place.Running) t).only)
+      (goes_back s t m v c (subst (IsRunner a) e is) (subst (λ (j : ℕ). a.turn ≡ turn.Run j) e runs) to (subst (λ (j : ℕ). place_of m a.base ≡ Some (place.Under j)) e under) (subst (λ (j : ℕ). Settles (after_word (RemoveThread j) s) t) e d))
+  trip_arrives (Collapses t over c) w =
+      let h = along (Falling a n) fall_word falling c in
+      record {
+        placed = λ k. by_number k n (HasPlace k t) (λ e. subst (λ (j : ℕ). HasPlace j t) (sym e) (loose_idle n (place_of n t) t refl (f.rests t w (h.idle n)) h.own)) (λ e. h.others k e);
+        runs = λ m to. no_way (ap is_run (sym over ∙ to));
+        fresh = λ k g. inl (h.fresh k g);
+      }
