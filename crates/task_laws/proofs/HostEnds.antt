@@ -1,4 +1,5 @@
 -- What a step owes of the end of a host work.
+use Rattle.task_laws.specs.Ends.{is_sync_work}
 use Rattle.task_laws.proofs.SaidEnds.{hands_at, said_at, written_at}
 use Rattle.task_machine.specs.declared.records.WorkCaller.{WorkCaller}
 use Rattle.task_machine.specs.declared.records.Stage.{Stage}
@@ -11,7 +12,7 @@ use Rattle.std.specs.Option.{option_map_or}
 use Rattle.std.specs.Prelude.{Bool, None, Option, Some, false, if◌then◌else◌, is_some, not, option_and_then, option_map, true, unwrap_or, ℕ, ◌&&◌, ◌+◌, ◌==◌, ◌||◌, ◌≡◌, ◌≤◌, ◌⊎◌}
 use Rattle.task_laws.proofs.Basics.{no_way, same_number, too_high, true_is_not_false}
 use Rattle.task_laws.proofs.OnceLemmas.{Due, EndStep, Out, Over, end_there}
-use Rattle.task_laws.proofs.Works.{AbortsNoSync, Doing, WorkHolds, WorksGo, WorksHold, WorkWas, awaits, doing, doing_of, is_due, is_late, is_sync_work, works_word, High, WasDue, clash, due_parts, stage_ended, stage_live}
+use Rattle.task_laws.proofs.Works.{AbortsNoSync, Doing, WorkHolds, WorksGo, WorksHold, WorkWas, awaits, doing, doing_of, is_due, is_late, works_word, High, WasDue, clash, due_parts, stage_ended, stage_live}
 use Rattle.task_machine.specs.Core.{Core, Queues, State}
 use Rattle.task_machine.specs.Maps.{get, Records}
 use Rattle.task_machine.specs.Read.{course_of, course_value, event_of, how_far_of, undelivered_end, is_live, is_stage_ended, is_stage_live}

@@ -104,6 +104,9 @@ module _ {c : Component} {m : Moment} {sub : Subtask} (q : EndStep c m sub) wher
       rest : Bool
       rest = changes_end sub m || covers_end sub m
 
+  pub written_over : (e : Status) → written c m ≡ Some (end_for e sub) → Over sub m.after.core
+  written_over e is = (q.writes (ap (λ (o : Option SubtaskEnd). is_end_of sub o || (changes_end sub m || covers_end sub m)) is ∙ ap (λ (b : Bool). b || (changes_end sub m || covers_end sub m)) (same_self sub))).1
+
   none_comes : Out sub m.before.core → (e : Status) → Due sub e m.before.core ⊎ (written c m ≡ Some (end_for e sub)) → ⊥
   none_comes out e (inl due) = out.1 e due
   none_comes out e (inr is) = not_over e is out.0

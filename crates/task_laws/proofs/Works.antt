@@ -1,4 +1,5 @@
 -- What host works come to along the words of a step: their ends, their entries, and what they have to hand out.
+use Rattle.task_laws.specs.Ends.{is_sync_work}
 use Rattle.task_laws.proofs.CountLemmas.{made_works_word}
 use Rattle.task_rules.specs.Run.{Run}
 use Rattle.task_rules.specs.Scenes.{Scene, scene_of}
@@ -67,10 +68,6 @@ abbrev pub is_late : Stage → Bool
 is_late stage.Finishing = true
 is_late stage.Ended = true
 is_late _ = false
-
-abbrev pub is_sync_work : WorkCaller → Bool
-is_sync_work (work_caller.Sync n) = true
-is_sync_work _ = false
 
 -- its push is awaited, or its host entry
 abbrev pub awaits : Bool → Stage → Bool

@@ -137,13 +137,13 @@ steps_make_few x s l t step =
 
 module _ (x : Setting) (s : State) (l : Label) (t : State) (h : InOrder x.component s) (w : Walked x s l t) where
   -- what is read beside the marks is as before the step
-  at_base : (P : Core → Type 0) → P (record s.core { queues = (base_at s.turn s.core).queues }) → P (base_at s.turn s.core)
+  pub at_base : (P : Core → Type 0) → P (record s.core { queues = (base_at s.turn s.core).queues }) → P (base_at s.turn s.core)
   at_base P p = subst P (sym (base_is s.turn s.core)) p
 
-  from_base : (P : Core → Type 0) → P (base_at s.turn s.core) → P (record s.core { queues = (base_at s.turn s.core).queues })
+  pub from_base : (P : Core → Type 0) → P (base_at s.turn s.core) → P (record s.core { queues = (base_at s.turn s.core).queues })
   from_base P p = subst P (base_is s.turn s.core) p
 
-  runner : (n : ℕ) → IsRunner (scene_of x s l w.next) n → is_there n s.core ≡ true
+  pub runner : (n : ℕ) → IsRunner (scene_of x s l w.next) n → is_there n s.core ≡ true
   runner n is = runner_there x s l w.next h.in_place n is
 
   pub strands_kept : Strands t.core
@@ -160,7 +160,7 @@ module _ (x : Setting) (s : State) (l : Label) (t : State) (h : InOrder x.compon
       let q : Layered a t.core = along (Layered a) (layered_word a given) first w.walk in
       record { below = q.below; made = q.made; alone = q.alone }
 
-  runner_housed : RunnerHoused (scene_of x s l w.next)
+  pub runner_housed : RunnerHoused (scene_of x s l w.next)
   runner_housed n is = at_base (λ (c : Core). is_some (get c.calls (task_of n c)) ≡ true) (go (get s.core.threads n) refl (runner n is))
     where
       go : (o : Option Thread) → get s.core.threads n ≡ o → is_some (option_map (λ (r : Thread). r.place) (get s.core.threads n)) ≡ true → is_some (get s.core.calls (task_of n s.core)) ≡ true

@@ -1,0 +1,229 @@
+-- Each step owes of the ends what it should, and so each run has each end once.
+use Rattle.task_rules.specs.Once.{written, handed}
+use Rattle.task_machine.specs.declared.records.Subtask.{Subtask}
+use Rattle.std.proofs.Common.{ap, refl, subst, sym, ◌∙◌, inl, inr, le_refl, ◌++◌}
+use Rattle.std.specs.Option.{option_map_or}
+use Rattle.std.specs.Prelude.{Bool, None, Option, Some, false, is_some, option_and_then, option_map, true, ℕ, ◌+◌, ◌≡◌, ◌≤◌, ◌⊎◌, ◌∷◌, unwrap_or, []}
+use Rattle.task_laws.proofs.Basics.{no_way}
+use Rattle.task_laws.proofs.CallsLaw.{CallsGo, CallsHold}
+use Rattle.task_laws.proofs.CallsSteps.{of_base, step_goes, calls_begin}
+use Rattle.task_laws.specs.Settings.{Reached}
+use Rattle.task_machine.specs.Core.{Core, State, fresh}
+use Rattle.task_machine.specs.Maps.{get, empty, get-empty}
+use Rattle.task_machine.specs.Read.{undelivered_end, how_far_of, is_stage_ended, next_entry, work_caller_of, place_of, instance_of, stage_of, subtask_at}
+use Rattle.task_machine.specs.declared.label.Label.{Label}
+use Rattle.task_machine.specs.declared.records.Call.{Call}
+use Rattle.task_machine.specs.declared.records.Turn.{Turn}
+use Rattle.task_machine.specs.declared.words.Status.{Status}
+use Rattle.task_rules.proofs.ChainLemmas.{along}
+use Rattle.task_rules.specs.Allowed.{IsRunner, AbortsOwn, ProgramAborts, ScriptAborts}
+use Rattle.task_rules.specs.Chains.{Walked}
+use Rattle.task_rules.specs.Scenes.{Scene, base_at, scene_of, runner_at, thread_of_entry}
+use Rattle.task_rules.specs.Stalled.{Setting}
+use Rattle.task_rules.specs.SubtaskEnds.{end_for}
+use Rattle.task_laws.proofs.CallEnds.{EndsGo, EndsTold, ends_go, opening_ends_told}
+use Rattle.task_laws.proofs.OnceLemmas.{Due, Over, EndStep, ends_once, written_over}
+use Rattle.task_laws.proofs.HostEnds.{Answered, Before, host_step}
+use Rattle.task_laws.proofs.SceneLemmas.{base_is}
+use Rattle.task_laws.specs.Ends.{is_sync_work, EndsFound, MayBeAborted, Waited}
+use Rattle.task_machine.specs.declared.records.WorkCaller.{WorkCaller}
+use Rattle.task_laws.proofs.Works.{AbortsNoSync, Doing, WorksGo, WorksHold, doing, doing_of, is_late, works_word, stage_ended, opening_works}
+use Rattle.task_machine.specs.declared.records.Work.{Work}
+use Rattle.task_rules.specs.Run.{opening}
+use Rattle.task_rules.specs.Step.{Step}
+use Rattle.task_machine.specs.declared.records.Entry.{Entry}
+use Rattle.task_machine.specs.declared.words.Mark.{Mark}
+use Rattle.task_rules.proofs.WalkSteps.{step_walks}
+use Rattle.task_laws.specs.Order.{InOrder}
+use Rattle.task_machine.specs.declared.records.Place.{Place}
+use Rattle.task_places.proofs.PlaceLaw.{entry_ready}
+use Rattle.task_rules.proofs.LawLemmas.{never_fewer, run_goes_on}
+use Rattle.task_places.proofs.Entries.{next_first, popped_cleared}
+use Rattle.task_laws.proofs.GuestEnds.{CallsFound, guest_step}
+use Rattle.task_places.specs.Once.{RunsAreOnce}
+use Rattle.task_places.proofs.OrderLemmas.{opening_in_order, runner_housed, step_in_order}
+use Rattle.task_rules.specs.MainOps.{is_spawn, is_spawn_caller, spawned_at}
+use Rattle.task_machine.specs.declared.records.Subtask.TheVariants as subtask
+use Rattle.task_machine.specs.declared.records.HowFar.TheVariants as how_far
+use Rattle.task_machine.specs.declared.records.Stage.TheVariants as stage
+use Rattle.task_machine.specs.declared.records.WorkCaller.TheVariants as work_caller
+use Rattle.task_machine.specs.declared.records.Entry.TheVariants as entry
+use Rattle.task_machine.specs.declared.records.Turn.TheVariants as turn
+use Rattle.task_machine.specs.declared.records.Place.TheVariants as place
+
+-- ---- What is known before a step
+
+-- what is to be handed out has ended
+abbrev DueOver : Core → Type 0
+DueOver s = (sub : Subtask) (e : Status) → Due sub e s → Over sub s
+
+record Known (x : Setting) (s : State) : Type 0 where
+  reached : Reached x s
+  order : InOrder x.component s
+  told : EndsTold s.core
+  works : WorksHold s.core
+  over : DueOver s.core
+
+reached_step : (x : Setting) (s : State) (l : Label) (t : State) → Reached x s → Step x s l t → Reached x t
+reached_step x s l t r step = record {
+  scripts = r.scripts;
+  instances = r.instances;
+  handle_limit = r.handle_limit;
+  capacity = r.capacity;
+  main = r.main;
+  labels = r.labels ++ l ∷ [];
+  run = run_goes_on x (opening r.instances r.handle_limit r.capacity r.main) r.labels s l t r.run step;
+}
+
+held_of : (x : Setting) (s : State) → InOrder x.component s → CallsHold x.component s.core
+held_of x s h = record { numbered = h.numbered; kinds = h.kinds; deliveries = h.deliveries }
+
+spawn_other : (i : ℕ) (s : Core) → is_spawn i s ≡ true → (v : Doing) × ((doing_of i s ≡ Some v) × (is_sync_work v.caller ≡ false))
+spawn_other i s h = at (get s.works i) refl h
+  where
+    other : (f : WorkCaller) → is_spawn_caller f ≡ true → is_sync_work f ≡ false
+    other work_caller.Spawn g = refl
+    other (work_caller.Async n q) g = refl
+    other (work_caller.Sync n) g = no_way g
+
+    at : (o : Option Work) → get s.works i ≡ o → option_map_or (λ w. is_spawn_caller w.caller) o false ≡ true → (v : Doing) × ((doing_of i s ≡ Some v) × (is_sync_work v.caller ≡ false))
+    at None is g = no_way g
+    at (Some w) is g = (doing w, (ap (option_map doing) is, other w.caller g))
+
+caller_is : (i : ℕ) (s : Core) (v : Doing) → doing_of i s ≡ Some v → work_caller_of i s ≡ v.caller
+caller_is i s v is = at (get s.works i) is
+  where
+    at : (o : Option Work) → option_map doing o ≡ Some v → option_map_or (λ (w : Work). w.caller) o work_caller.Spawn ≡ v.caller
+    at None e = no_way (ap (λ (o : Option Doing). is_some o) e)
+    at (Some w) e = ap (λ (o : Option Doing). (unwrap_or o v).caller) e
+
+waited_there : (n i : ℕ) (s : Core) → work_caller_of i s ≡ work_caller.Sync n → is_stage_ended (stage_of i s) ≡ true → (v : Doing) × ((doing_of i s ≡ Some v) × ((is_sync_work v.caller ≡ true) × (is_late v.stage ≡ true)))
+waited_there n i s caller ended = at (get s.works i) refl caller ended
+  where
+    at : (o : Option Work) → get s.works i ≡ o → option_map_or (λ (w : Work). w.caller) o work_caller.Spawn ≡ work_caller.Sync n → is_stage_ended (option_map_or (λ (w : Work). w.stage) o stage.Ended) ≡ true → (v : Doing) × ((doing_of i s ≡ Some v) × ((is_sync_work v.caller ≡ true) × (is_late v.stage ≡ true)))
+    at None is c e = no_way (ap (λ f. is_sync_work f) c)
+    at (Some w) is c e = (doing w, (ap (option_map doing) is, (ap (λ f. is_sync_work f) c, stage_ended w.stage e)))
+
+abbrev is_blocked : Option Place → Bool
+is_blocked (Some (place.Blocked sub)) = true
+is_blocked _ = false
+
+module _ (x : Setting) (s : State) (l : Label) (t : State) (k : Known x s) (f : EndsFound s) (step : Step x s l t) where
+  w : Walked x s l t
+  w = step_walks x s l t step
+
+  abbrev a : Scene
+  a = scene_of x s l w.next
+
+  to_base : (P : Core → Type 0) → P (record s.core { queues = (base_at s.turn s.core).queues }) → P a.base
+  to_base P p = of_base P s.turn s.core p
+
+  from_base : (P : Core → Type 0) → P a.base → P (record s.core { queues = (base_at s.turn s.core).queues })
+  from_base P p = subst P (base_is s.turn s.core) p
+
+  before : Before a s.core
+  before = to_base (λ c. Before (record a { base = c }) s.core) (record { made = refl; same = λ i. refl })
+
+  -- nothing that is aborted is a sync call's
+  unsync : AbortsNoSync a
+  unsync i (AbortsOwn (n, (h, (runner, named)))) = of_found i (to_base (λ c. (j g : ℕ) → subtask_at j g c ≡ Some (subtask.Host i) → MayBeAborted c i) (λ j g e. again (f.works j g i e)) (instance_of n a.base) h named)
+    where
+      again : {i : ℕ} → MayBeAborted s.core i → MayBeAborted (record s.core { queues = (base_at s.turn s.core).queues }) i
+      again q = record { made = q.made; other = q.other }
+
+      of_found : (i : ℕ) → MayBeAborted a.base i → (i ≤ a.base.made.works) × ((u : Doing) → doing_of i a.base ≡ Some u → is_sync_work u.caller ≡ false)
+      of_found i q = (q.made, λ u e. ap (λ y. is_sync_work y) (sym (caller_is i a.base u e)) ∙ q.other)
+  unsync i (ScriptAborts p j main is) = subst (λ (n : ℕ). (n ≤ a.base.made.works) × ((u : Doing) → doing_of n a.base ≡ Some u → is_sync_work u.caller ≡ false)) (sym is) (to_base (λ c. (spawned_at p j ≤ c.made.works) × ((u : Doing) → doing_of (spawned_at p j) c ≡ Some u → is_sync_work u.caller ≡ false)) (let q = f.spawns p j main in (q.made, λ u e. ap (λ y. is_sync_work y) (sym (caller_is (spawned_at p j) s.core u e)) ∙ q.other)))
+  unsync i (ProgramAborts main is) = to_base (λ c. (i ≤ c.made.works) × ((u : Doing) → doing_of i c ≡ Some u → is_sync_work u.caller ≡ false)) (let r = spawn_other i s.core (from_base (λ c. is_spawn i c ≡ true) is) in ((k.works.works i r.0 r.1.0).number, λ u e. ap (λ (o : Option Doing). is_sync_work (unwrap_or o r.0).caller) (sym e ∙ r.1.0) ∙ r.1.1))
+
+  works_after : WorksGo a t.core
+  works_after = along (WorksGo a) (λ v u ok q. works_word unsync v u ok q) first w.walk
+    where
+      first : WorksGo a s.core
+      first = to_base (λ c. WorksGo (record a { base = c }) s.core) (record {
+        counted = le_refl _;
+        holds = k.works;
+        was = λ i v e below. record { before = v; there = e; caller = refl; stays = λ h. refl; ended = λ h. h };
+        due = λ i v e due. inl (v, (e, (due, refl)));
+      })
+
+  -- who runs or is taken isn't blocked
+  unblocked : (n : ℕ) → IsRunner a n → is_blocked (place_of n s.core) ≡ false
+  unblocked n runner = by_turn s.turn refl runner
+    where
+      by_turn : (u : Turn) → s.turn ≡ u → runner_at u s.core ≡ Some n → is_blocked (place_of n s.core) ≡ false
+      by_turn (turn.Run m) at is = ap is_blocked (k.order.in_place.runs n (at ∙ ap (λ (o : Option ℕ). turn.Run (unwrap_or o n)) is))
+      by_turn (turn.Take ended) at is = taken (next_entry s.core) refl is
+        where
+          taken : (o : Option (Mark × Entry)) → next_entry s.core ≡ o → thread_of_entry o ≡ Some n → is_blocked (place_of n s.core) ≡ false
+          taken (Some (y, entry.Thread m)) e g = subst (λ (j : ℕ). is_blocked (place_of j s.core) ≡ false) (ap (λ (o : Option ℕ). unwrap_or o n) g) (let r = entry_ready m s.core (k.order.in_place.placed m) (popped_cleared y m s.core (next_first s.core y (entry.Thread m) e) (k.order.in_place.placed m)).1 in ap is_blocked r.1.1)
+          taken (Some (y, entry.Push i)) e g = no_way (ap (λ (o : Option ℕ). is_some o) g)
+          taken (Some (y, entry.Host i)) e g = no_way (ap (λ (o : Option ℕ). is_some o) g)
+          taken None e g = no_way (ap (λ (o : Option ℕ). is_some o) g)
+      by_turn turn.Main at is = no_way (ap (λ (o : Option ℕ). is_some o) is)
+      by_turn (turn.Futures m) at is = no_way (ap (λ (o : Option ℕ). is_some o) is)
+      by_turn turn.Over at is = no_way (ap (λ (o : Option ℕ). is_some o) is)
+
+  answered : Answered a
+  answered n i runner far = to_base (λ c. (v : Doing) × ((doing_of i c ≡ Some v) × ((is_sync_work v.caller ≡ true) × (is_late v.stage ≡ true)))) (by (f.answers n i (from_base (λ c. how_far_of n c ≡ how_far.Calls (subtask.Host i)) far)))
+    where
+      by : Waited s.core n i → (v : Doing) × ((doing_of i s.core ≡ Some v) × ((is_sync_work v.caller ≡ true) × (is_late v.stage ≡ true)))
+      by q = at q.waits
+        where
+          at : (place_of n s.core ≡ Some (place.Blocked (subtask.Host i))) ⊎ (is_stage_ended (stage_of i s.core) ≡ true) → (v : Doing) × ((doing_of i s.core ≡ Some v) × ((is_sync_work v.caller ≡ true) × (is_late v.stage ≡ true)))
+          at (inl blocked) = no_way (sym (unblocked n runner) ∙ ap is_blocked blocked)
+          at (inr ended) = waited_there n i s.core q.caller ended
+
+  holds : CallsHold x.component s.core
+  holds = held_of x s k.order
+
+  found : CallsFound a
+  found = record {
+    own = λ n runner. runner_housed x s l t k.order w n runner;
+    named = λ j named. to_base (λ c. (i h : ℕ) → subtask_at i h c ≡ Some (subtask.Guest j) → is_some (get c.calls j) ≡ true) (λ i h e. f.calls i h j e) (instance_of named.0 a.base) named.1.0 named.1.1.1;
+  }
+
+  told_base : EndsTold a.base
+  told_base = to_base EndsTold (record { goals = k.told.goals; events = k.told.events; results = k.told.results })
+
+  goes : CallsGo a t.core × (EndsGo a t.core × EndsTold t.core)
+  goes = ends_go k.order.codes holds k.told w
+
+  end_step : (sub : Subtask) → EndStep x.component (record { before = s; label = l; after = t }) sub
+  end_step (subtask.Guest j) =
+      guest_step x s l t w.next k.order.codes (calls_begin x s l w.next holds).0 told_base holds goes.0 goes.1.0 goes.1.1
+      (step_goes x s l t k.order.codes holds step).1 (never_fewer x s l t step).threads w.ends.says found (λ i e due. k.over (subtask.Guest i) e due) j
+  end_step (subtask.Host i) = host_step x s l t w.next before k.works works_after w.ends.says answered i
+
+  known_after : Known x t
+  known_after = record {
+    reached = reached_step x s l t k.reached step;
+    order = step_in_order x s l t k.order step;
+    told = goes.1.1;
+    works = works_after.holds;
+    over = λ sub e due. by sub e ((end_step sub).comes e due);
+  }
+    where
+      by : (sub : Subtask) (e : Status) → Due sub e s.core ⊎ (written x.component (record { before = s; label = l; after = t }) ≡ Some (end_for e sub)) → Over sub t.core
+      by sub e (inl due) = (end_step sub).stays (k.over sub e due)
+      by sub e (inr is) = written_over (end_step sub) e is
+
+-- ---- Runs
+
+none_due : (instances handle_limit capacity : ℕ) (sub : Subtask) (e : Status) → Due sub e (fresh instances handle_limit capacity) → ⊥
+unfolding fresh
+none_due instances handle_limit capacity (subtask.Guest j) e (inl tells) = absurd (no_way (ap (λ (o : Option Status). is_some o) (sym (ap (λ (o : Option Call). undelivered_end (option_and_then (λ (c : Call). c.event) o)) (get-empty j)) ∙ tells)))
+none_due instances handle_limit capacity (subtask.Guest j) e (inr (is, there)) = no_way (ap (λ (o : Option ℕ). is_some o) (sym (get-empty j)) ∙ there)
+none_due instances handle_limit capacity (subtask.Host i) e (v, (at, due)) = no_way (ap (λ (o : Option Doing). is_some o) (sym (ap (option_map doing) (get-empty i)) ∙ at))
+
+pub runs_are_once : RunsAreOnce
+runs_are_once x codes found instances handle_limit capacity main ls t run =
+    let s : State = opening instances handle_limit capacity main in
+    ends_once x (Known x) (λ s l t k step. known_after x s l t k (found s k.reached) step) (λ s l t k step sub. end_step x s l t k (found s k.reached) step sub) s
+    (record {
+      reached = record { scripts = codes; instances = instances; handle_limit = handle_limit; capacity = capacity; main = main; labels = []; run = refl };
+      order = opening_in_order x.component codes instances handle_limit capacity main;
+      told = opening_ends_told instances handle_limit capacity;
+      works = opening_works instances handle_limit capacity;
+      over = λ sub e due. absurd (none_due instances handle_limit capacity sub e due);
+    }) (λ sub e due. none_due instances handle_limit capacity sub e due) ls t run
