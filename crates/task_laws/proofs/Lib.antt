@@ -22,3 +22,4 @@ pub mod CallEnds
 pub mod OnceLemmas
 pub mod HostEnds
 pub mod GuestEnds
+pub mod WrittenLaws

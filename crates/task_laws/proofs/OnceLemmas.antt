@@ -122,28 +122,30 @@ module _ {c : Component} {m : Moment} {sub : Subtask} (q : EndStep c m sub) wher
 
 -- ---- Runs
 
+-- where each step for which p passes makes Q true, Q stays, and p passes for no step where Q holds, p passes at most once
+module _ (x : Setting) (Inv : State → Type 0) (inv_stays : (s : State) (l : Label) (t : State) → Inv s → Step x s l t → Inv t)
+    (p : Moment → Bool) (Q : Core → Type 0)
+    (comes : (s : State) (l : Label) (t : State) → Inv s → Step x s l t → p (record { before = s; label = l; after = t }) ≡ true → (Q s.core → ⊥) × Q t.core)
+    (kept : (s : State) (l : Label) (t : State) → Inv s → Step x s l t → Q s.core → Q t.core) where
+  passes_none : (s : State) → Inv s → Q s.core → (ls : List Label) (t : State) → (run : Run x s ls t) → counted p (history x s ls t run) ≡ 0
+  passes_none s inv is [] t run = refl
+  passes_none s inv is (l ∷ ls) t run =
+      none_more (p (record { before = s; label = l; after = run.0 })) _ (λ h. (comes s l run.0 inv run.1.0 h).0 is)
+      (passes_none run.0 (inv_stays s l run.0 inv run.1.0) (kept s l run.0 inv run.1.0 is) ls t run.1.1)
+
+  passes_once : (s : State) → Inv s → (ls : List Label) (t : State) → (run : Run x s ls t) → counted p (history x s ls t run) ≤ 1
+  passes_once s inv [] t run = omega arith
+  passes_once s inv (l ∷ ls) t run =
+      let next = inv_stays s l run.0 inv run.1.0 in
+      one_at_most (p (record { before = s; label = l; after = run.0 })) _ (passes_once run.0 next ls t run.1.1)
+      (λ h. passes_none run.0 next (comes s l run.0 inv run.1.0 h).1 ls t run.1.1)
+
+  pub counts_once : (s : State) → Inv s → (ls : List Label) (t : State) → (run : Run x s ls t) → count_by p (history x s ls t run) ≤ 1
+  counts_once s inv ls t run = subst (λ (n : ℕ). n ≤ 1) (counted_is p (history x s ls t run)) (passes_once s inv ls t run)
+
 module _ (x : Setting) (Inv : State → Type 0)
     (inv_stays : (s : State) (l : Label) (t : State) → Inv s → Step x s l t → Inv t)
     (facts : (s : State) (l : Label) (t : State) → Inv s → Step x s l t → (sub : Subtask) → EndStep x.component (record { before = s; label = l; after = t }) sub) where
-  -- where each step for which p passes makes Q true, Q stays, and p passes for no step where Q holds, p passes at most once
-  module _ (sub : Subtask) (p : Moment → Bool) (Q : Core → Type 0)
-      (comes : (m : Moment) → EndStep x.component m sub → p m ≡ true → Q m.after.core)
-      (kept : (m : Moment) → EndStep x.component m sub → Q m.before.core → Q m.after.core)
-      (none : (m : Moment) → EndStep x.component m sub → Q m.before.core → p m ≡ true → ⊥) where
-    passes_none : (s : State) → Inv s → Q s.core → (ls : List Label) (t : State) → (run : Run x s ls t) → counted p (history x s ls t run) ≡ 0
-    passes_none s inv is [] t run = refl
-    passes_none s inv is (l ∷ ls) t run =
-        let m : Moment = record { before = s; label = l; after = run.0 } in
-        let q = facts s l run.0 inv run.1.0 sub in
-        none_more (p m) _ (none m q is) (passes_none run.0 (inv_stays s l run.0 inv run.1.0) (kept m q is) ls t run.1.1)
-
-    passes_once : (s : State) → Inv s → (ls : List Label) (t : State) → (run : Run x s ls t) → counted p (history x s ls t run) ≤ 1
-    passes_once s inv [] t run = omega arith
-    passes_once s inv (l ∷ ls) t run =
-        let next = inv_stays s l run.0 inv run.1.0 in
-        one_at_most (p (record { before = s; label = l; after = run.0 })) _ (passes_once run.0 next ls t run.1.1)
-        (λ h. passes_none run.0 next (comes (record { before = s; label = l; after = run.0 }) (facts s l run.0 inv run.1.0 sub) h) ls t run.1.1)
-
   all_known : (ends : List SubtaskEnd) (s : State) → Inv s → ((sub : Subtask) (e : Status) → Due sub e s.core → is_known ends (Some (end_for e sub)) ≡ true) → (ls : List Label) (t : State) → (run : Run x s ls t) → hands_out_written x.component ends (history x s ls t run) ≡ true
   all_known ends s inv known [] t run = refl
   all_known ends s inv known (l ∷ ls) t run =
@@ -169,9 +171,7 @@ module _ (x : Setting) (Inv : State → Type 0)
 
   pub ends_once : (s : State) → Inv s → ((sub : Subtask) (e : Status) → Due sub e s.core → ⊥) → (ls : List Label) (t : State) → (run : Run x s ls t) → EndsOnce x.component (history x s ls t run)
   ends_once s inv none ls t run = record {
-    written_once = λ sub. subst (λ (n : ℕ). n ≤ 1) (counted_is (writes_end x.component sub) (history x s ls t run))
-        (passes_once sub (writes_end x.component sub) (Over sub) (λ m q h. (q.writes h).1) (λ m q. q.stays) (λ m q is h. (q.writes h).0 is) s inv ls t run);
-    handed_once = λ sub. subst (λ (n : ℕ). n ≤ 1) (counted_is (hands_out x.component sub) (history x s ls t run))
-        (passes_once sub (hands_out x.component sub) (Out sub) (λ m q. out_now q) (λ m q. out_stays q) (λ m q. none_out q) s inv ls t run);
+    written_once = λ sub. counts_once x Inv inv_stays (writes_end x.component sub) (Over sub) (λ s l t inv step h. (facts s l t inv step sub).writes h) (λ s l t inv step. (facts s l t inv step sub).stays) s inv ls t run;
+    handed_once = λ sub. counts_once x Inv inv_stays (hands_out x.component sub) (Out sub) (λ s l t inv step h. (λ out. none_out (facts s l t inv step sub) out h, out_now (facts s l t inv step sub) h)) (λ s l t inv step. out_stays (facts s l t inv step sub)) s inv ls t run;
     as_written = all_known [] s inv (λ sub e due. absurd (none sub e due)) ls t run;
   }

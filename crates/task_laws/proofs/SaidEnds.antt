@@ -1,4 +1,5 @@
 -- What a label says of ends is read beside the marks.
+use Rattle.task_laws.proofs.SceneLemmas.{base_is}
 use Rattle.task_machine.specs.declared.label.SetLabel.{SetLabel}
 use Rattle.task_machine.specs.declared.label.TakeLabel.{TakeLabel}
 use Rattle.task_machine.specs.declared.label.MainLabel.{MainLabel}
@@ -105,3 +106,23 @@ hands_at c main s q t (label.Call m) o h = call m h
     call : (m : CallLabel) → handed_by_call c s m ≡ o → handed_by_call c (record s { queues = q }) m ≡ o
     call m f = f
 hands_at c main s q t l o h = h
+
+-- an end of a call that the label says is written is so in the whole step
+pub said_now : (x : Setting) (s : State) (l : Label) (next : Turn) (t : Core) (k : ℕ) (e : Status) → SaysEnd (scene_of x s l next) k e → written_by x.component s.core l t ≡ Some (end_for e (subtask.Guest k))
+said_now x s l next t k e says = by_label l (subst (λ c. written_by x.component c l c ≡ Some (end_for e (subtask.Guest k))) (base_is s.turn s.core) says)
+  where
+    is_guest : Subtask → Bool
+    is_guest (subtask.Guest j) = true
+    is_guest (subtask.Host i) = false
+
+    is_guest_end : Option SubtaskEnd → Bool
+    is_guest_end o = option_map_or (λ (y : SubtaskEnd). is_guest y.subtask) o false
+
+    loop : (y : LoopLabel) → written_by_loop (record s.core { queues = (base_at s.turn s.core).queues }) y ≡ Some (end_for e (subtask.Guest k)) → written_by_loop t y ≡ Some (end_for e (subtask.Guest k))
+    loop (loop_label.FutureEnds i) f = no_way (ap is_guest_end f)
+    loop (loop_label.FutureAborted i) f = no_way (ap is_guest_end f)
+    loop y f = f
+
+    by_label : (y : Label) → written_by x.component (record s.core { queues = (base_at s.turn s.core).queues }) y (record s.core { queues = (base_at s.turn s.core).queues }) ≡ Some (end_for e (subtask.Guest k)) → written_by x.component s.core y t ≡ Some (end_for e (subtask.Guest k))
+    by_label (label.Loop y) f = loop y f
+    by_label y f = said_at x.component s.core (base_at s.turn s.core).queues t y (Some (end_for e (subtask.Guest k))) f

@@ -1,4 +1,7 @@
 -- What host works come to along the words of a step: their ends, their entries, and what they have to hand out.
+use Rattle.task_machine.specs.declared.records.Turn.{Turn}
+use Rattle.task_rules.specs.Chains.{Walked}
+use Rattle.task_laws.proofs.CallsSteps.{of_base}
 use Rattle.task_laws.specs.Ends.{is_sync_work}
 use Rattle.task_laws.proofs.CountLemmas.{made_works_word}
 use Rattle.task_rules.specs.Run.{Run}
@@ -295,20 +298,20 @@ module _ {a : Scene} (s : Core) where
 
 -- ---- What holds
 
--- What holds of a work: an end where its stage says so; one entry where it awaits one; an event of its own end, once it has ended; and a
--- sync one is never aborted, and ends with a value.
-pub record WorkHolds (h : Bool → ℕ) (made i : ℕ) (v : Doing) : Type 0 where
+-- What holds of a work: an end where its stage says so; one entry where it awaits one; an event of its own end, once it has ended; and,
+-- where S says that none is aborted, a sync one ends with a value.
+pub record WorkHolds (S : Type 0) (h : Bool → ℕ) (made i : ℕ) (v : Doing) : Type 0 where
   pub number : i ≤ made
   pub late : has_end v.course ≡ is_late v.stage
   pub one : (k : Bool) → h k ≤ one_if (awaits k v.stage)
   pub told : (e : Status) → undelivered_end v.event ≡ Some e → (is_stage_ended v.stage ≡ true) × ((is_async_work v.caller ≡ true) × (e ≡ host_status (course_value v.course)))
   pub finishing : awaits false v.stage ≡ true → is_async_work v.caller ≡ true
-  pub sync : is_sync_work v.caller ≡ true → (is_aborted v.phase ≡ false) × (has_end v.course ≡ true → is_some (course_value v.course) ≡ true)
+  pub sync : S → is_sync_work v.caller ≡ true → (is_aborted v.phase ≡ false) × (has_end v.course ≡ true → is_some (course_value v.course) ≡ true)
 
-pub record WorksHold (s : Core) : Type 0 where
+pub record WorksHold (S : Type 0) (s : Core) : Type 0 where
   pub low : (k : Bool) (i : ℕ) → stands k i s.queues.low ≡ 0
   pub given : (k : Bool) (i : ℕ) → 1 ≤ High s i k → i ≤ s.made.works
-  pub works : (i : ℕ) (v : Doing) → doing_of i s ≡ Some v → WorkHolds (High s i) s.made.works i v
+  pub works : (i : ℕ) (v : Doing) → doing_of i s ≡ Some v → WorkHolds S (High s i) s.made.works i v
 
 -- it was to be handed out before, or has come to its end in this step
 abbrev pub WasDue : Scene → ℕ → Doing → Type 0
@@ -323,9 +326,9 @@ pub record WorkWas (a : Scene) (i : ℕ) (v : Doing) : Type 0 where
   pub ended : is_stage_ended before.stage ≡ true → is_stage_ended v.stage ≡ true
 
 -- The same on the way of a step.
-pub record WorksGo (a : Scene) (s : Core) : Type 0 where
+pub record WorksGo (S : Type 0) (a : Scene) (s : Core) : Type 0 where
   pub counted : a.base.made.works ≤ s.made.works
-  pub holds : WorksHold s
+  pub holds : WorksHold S s
   pub was : (i : ℕ) (v : Doing) → doing_of i s ≡ Some v → i ≤ a.base.made.works → WorkWas a i v
   pub due : (i : ℕ) (v : Doing) → doing_of i s ≡ Some v → is_due v ≡ true → WasDue a i v
 
@@ -390,7 +393,7 @@ due_parts None false true h = inr (inr refl)
 due_parts None false false h = no_way h
 
 -- a work that has no end has none to hand out
-not_due : {h : Bool → ℕ} {made i : ℕ} {v : Doing} {A : Type 0} → WorkHolds h made i v → is_late v.stage ≡ false → is_due v ≡ true → A
+not_due : {S : Type 0} {h : Bool → ℕ} {made i : ℕ} {v : Doing} {A : Type 0} → WorkHolds S h made i v → is_late v.stage ≡ false → is_due v ≡ true → A
 not_due {v = v} q early due = go (due_parts (undelivered_end v.event) (awaits false v.stage) (has_end v.course && is_sync_work v.caller) due)
   where
     and_first : (b c : Bool) → (b && c) ≡ true → b ≡ true
@@ -415,7 +418,7 @@ none_given i made (suc n) same given = let h = given (omega arith) in absurd (om
 one_stands : (g h n : ℕ) → 1 ≤ g → g ≤ h + n → n ≡ 0 → 1 ≤ h
 one_stands g h n a b c = omega (a, b, c, arith)
 
-module _ {a : Scene} (unsync : AbortsNoSync a) (w : Word) (s : Core) (ok : Allowed a w s) (q : WorksGo a s) where
+module _ {S : Type 0} {a : Scene} (unsync : S → AbortsNoSync a) (w : Word) (s : Core) (ok : Allowed a w s) (q : WorksGo S a s) where
   abbrev pub t : Core
   t = after_word w s
 
@@ -430,7 +433,7 @@ module _ {a : Scene} (unsync : AbortsNoSync a) (w : Word) (s : Core) (ok : Allow
     gone : {A : Type 0} → doing_of i t ≡ None → A
     gone e = no_way (ap (λ (o : Option Doing). is_some o) (sym e ∙ at))
 
-    held : (u : Doing) → doing_of i s ≡ Some u → WorkHolds (High s i) s.made.works i u
+    held : (u : Doing) → doing_of i s ≡ Some u → WorkHolds S (High s i) s.made.works i u
     held u e = q.holds.works i u e
 
     by : (P : Doing → Type 0) (u : Doing) → doing_of i t ≡ Some u → P u → P v
@@ -440,7 +443,7 @@ module _ {a : Scene} (unsync : AbortsNoSync a) (w : Word) (s : Core) (ok : Allow
     less h g b fewer one k = le_trans (fewer k) (one k)
 
     -- where the stage stays
-    kept : (u x : Doing) → doing_of i s ≡ Some u → x.stage ≡ u.stage → x.caller ≡ u.caller → x.course ≡ u.course → ((e : Status) → undelivered_end x.event ≡ Some e → undelivered_end u.event ≡ Some e) → (is_sync_work u.caller ≡ true → is_aborted x.phase ≡ false) → ((k : Bool) → High t i k ≤ High s i k) → WorkHolds (High t i) t.made.works i x
+    kept : (u x : Doing) → doing_of i s ≡ Some u → x.stage ≡ u.stage → x.caller ≡ u.caller → x.course ≡ u.course → ((e : Status) → undelivered_end x.event ≡ Some e → undelivered_end u.event ≡ Some e) → (S → is_sync_work u.caller ≡ true → is_aborted x.phase ≡ false) → ((k : Bool) → High t i k ≤ High s i k) → WorkHolds S (High t i) t.made.works i x
     kept u x e st ca co ev ph fewer =
         let o = held u e in
         record {
@@ -449,7 +452,7 @@ module _ {a : Scene} (unsync : AbortsNoSync a) (w : Word) (s : Core) (ok : Allow
           one = λ k. subst (λ (y : Stage). High t i k ≤ one_if (awaits k y)) (sym st) (le_trans (fewer k) (o.one k));
           told = λ y h. let r = o.told y (ev y h) in (ap (λ z. is_stage_ended z) st ∙ r.0, (ap (λ z. is_async_work z) ca ∙ r.1.0, r.1.1 ∙ ap (λ c. host_status (course_value c)) (sym co)));
           finishing = λ h. ap (λ z. is_async_work z) ca ∙ o.finishing (ap (λ z. awaits false z) (sym st) ∙ h);
-          sync = λ h. let r = ap (λ z. is_sync_work z) (sym ca) ∙ h in (ph r, λ g. ap (λ c. is_some (course_value c)) co ∙ (o.sync r).1 (ap (λ c. has_end c) (sym co) ∙ g));
+          sync = λ y h. let r = ap (λ z. is_sync_work z) (sym ca) ∙ h in (ph y r, λ g. ap (λ c. is_some (course_value c)) co ∙ (o.sync y r).1 (ap (λ c. has_end c) (sym co) ∙ g));
         }
 
     -- a live one goes on, or comes to its end
@@ -460,16 +463,16 @@ module _ {a : Scene} (unsync : AbortsNoSync a) (w : Word) (s : Core) (ok : Allow
         go None f l = no_way l
         go (Some y) f l = ap (λ (o : Option Doing). is_stage_live (unwrap_or o u).stage) (sym f) ∙ l
 
-    holds_after : WorkCame a s t.made.works i (High s i) (High t i) (doing_of i s) (doing_of i t) → WorkHolds (High t i) t.made.works i v
-    holds_after (Same e fewer) = let p = sym e ∙ at in kept v v p refl refl refl (λ y h. h) (λ h. ((held v p).sync h).0) fewer
+    holds_after : WorkCame a s t.made.works i (High s i) (High t i) (doing_of i s) (doing_of i t) → WorkHolds S (High t i) t.made.works i v
+    holds_after (Same e fewer) = let p = sym e ∙ at in kept v v p refl refl refl (λ y h. h) (λ y h. ((held v p).sync y h).0) fewer
     holds_after (Gone e fewer) = gone e
-    holds_after (Made f host is below e more) = by (WorkHolds (High t i) t.made.works i) _ e (record {
+    holds_after (Made f host is below e more) = by (WorkHolds S (High t i) t.made.works i) _ e (record {
       number = below;
       late = refl;
       one = λ k. new_one k (more k);
       told = λ y h. no_way (ap (λ (o : Option Status). is_some o) h);
       finishing = λ h. no_way h;
-      sync = λ h. (refl, λ g. no_way g);
+      sync = λ y h. (refl, λ g. no_way g);
     })
       where
         none_yet : (k : Bool) → High s i k ≡ 0
@@ -481,24 +484,24 @@ module _ {a : Scene} (unsync : AbortsNoSync a) (w : Word) (s : Core) (ok : Allow
     holds_after (Pends u host e p f fewer) =
         let o = held u e in
         let l = stage_live u.stage (polled_stage u e p) in
-        by (WorkHolds (High t i) t.made.works i) _ f (record {
+        by (WorkHolds S (High t i) t.made.works i) _ f (record {
           number = le_trans o.number made_works;
           late = sym l.0;
           one = less (High s i) (High t i) (λ k. awaits k u.stage) fewer o.one;
           told = λ y h. clash (stage_ended u.stage (o.told y h).0) l.0;
           finishing = o.finishing;
-          sync = λ h. ((o.sync h).0, λ g. no_way g);
+          sync = λ y h. ((o.sync y h).0, λ g. no_way g);
         })
     holds_after (Ends u c x e may f late async more) =
         let o = held u e in
         let l = stage_live u.stage (polled_stage u e may.0) in
-        by (WorkHolds (High t i) t.made.works i) _ f (record {
+        by (WorkHolds S (High t i) t.made.works i) _ f (record {
           number = le_trans o.number made_works;
           late = may.1.1.0 ∙ sym late;
           one = λ k. let m = more k in let z = o.one k in let y = ap one_if (l.1 k) in omega (m, z, y, arith);
           told = λ y h. clash (stage_ended u.stage (o.told y h).0) l.0;
           finishing = async;
-          sync = λ h. (refl, λ g. valued (course_value c) refl (λ none. unlacking u e l.0 h (may.1.1.1 none)));
+          sync = λ y h. (refl, λ g. valued (course_value c) refl (λ none. unlacking u e l.0 y h (may.1.1.1 none)));
         })
       where
         valued : (o : Option ℕ) → course_value c ≡ o → (o ≡ None → ⊥) → is_some (course_value c) ≡ true
@@ -512,14 +515,14 @@ module _ {a : Scene} (unsync : AbortsNoSync a) (w : Word) (s : Core) (ok : Allow
             go None f = no_way (ap (λ (o : Option Doing). is_some o) f)
             go (Some y) f = (ap (λ (o : Option Doing). (unwrap_or o u).phase) f, ap (λ (o : Option Doing). (unwrap_or o u).course) f)
 
-        unlacking : (u : Doing) → doing_of i s ≡ Some u → is_late u.stage ≡ false → is_sync_work u.caller ≡ true → (is_aborted (phase_of i s) ≡ true) ⊎ (has_end (course_of i s) ≡ true) → ⊥
-        unlacking u e early h (inl p) = clash p (ap (λ y. is_aborted y) (doing_phase u e).0 ∙ ((held u e).sync h).0)
-        unlacking u e early h (inr p) = clash (ap (λ y. has_end y) (sym (doing_phase u e).1) ∙ p) ((held u e).late ∙ early)
+        unlacking : (u : Doing) → doing_of i s ≡ Some u → is_late u.stage ≡ false → S → is_sync_work u.caller ≡ true → (is_aborted (phase_of i s) ≡ true) ⊎ (has_end (course_of i s) ≡ true) → ⊥
+        unlacking u e early y h (inl p) = clash p (ap (λ y. is_aborted y) (doing_phase u e).0 ∙ ((held u e).sync y h).0)
+        unlacking u e early y h (inr p) = clash (ap (λ y. has_end y) (sym (doing_phase u e).1) ∙ p) ((held u e).late ∙ early)
     holds_after (Lives u e one f fewer) =
         let o = held u e in
         let r = stands_one (awaits true u.stage) (High s i true) (High t i true) one (o.one true) in
         let l = stage_early u.stage r.0 in
-        by (WorkHolds (High t i) t.made.works i) _ f (record {
+        by (WorkHolds S (High t i) t.made.works i) _ f (record {
           number = le_trans o.number made_works;
           late = o.late ∙ l.0;
           one = λ k. none_left k r.1 (le_trans (fewer false) (o.one false)) l.1;
@@ -535,7 +538,7 @@ module _ {a : Scene} (unsync : AbortsNoSync a) (w : Word) (s : Core) (ok : Allow
         let o = held u e in
         let r = stands_one (awaits false u.stage) (High s i false) (High t i false) one (o.one false) in
         let l = stage_finishing u.stage r.0 in
-        by (WorkHolds (High t i) t.made.works i) _ f (record {
+        by (WorkHolds S (High t i) t.made.works i) _ f (record {
           number = le_trans o.number made_works;
           late = o.late ∙ l.0;
           one = λ k. none_left k r.1 (le_trans (fewer true) (o.one true)) l.1;
@@ -547,11 +550,11 @@ module _ {a : Scene} (unsync : AbortsNoSync a) (w : Word) (s : Core) (ok : Allow
         none_left : {b : Bool} (k : Bool) → High t i false ≡ 0 → High t i true ≤ one_if b → b ≡ false → High t i k ≤ one_if (awaits k stage.Ended)
         none_left false z h e = omega (z, arith)
         none_left true z h e = let y = ap one_if e in omega (h, y, arith)
-    holds_after (Aborts u x e may f fewer) = by (WorkHolds (High t i) t.made.works i) _ f (kept u _ e refl refl refl (λ y h. h) (λ h. absurd (clash h (unsynced u e may))) fewer)
+    holds_after (Aborts u x e may f fewer) = by (WorkHolds S (High t i) t.made.works i) _ f (kept u _ e refl refl refl (λ y h. h) (λ y h. absurd (clash h (unsynced y u e may))) fewer)
       where
-        unsynced : (u : Doing) → doing_of i s ≡ Some u → MayAbort a i → is_sync_work u.caller ≡ false
-        unsynced u e may = let b = q.was i u e (unsync i may).0 in ap (λ z. is_sync_work z) b.caller ∙ (unsync i may).1 b.before b.there
-    holds_after (Takes u e f fewer) = by (WorkHolds (High t i) t.made.works i) _ f (kept u _ e refl refl refl (λ y h. no_way (ap (λ (o : Option Status). is_some o) h)) (λ h. ((held u e).sync h).0) fewer)
+        unsynced : S → (u : Doing) → doing_of i s ≡ Some u → MayAbort a i → is_sync_work u.caller ≡ false
+        unsynced y u e may = let b = q.was i u e (unsync y i may).0 in ap (λ z. is_sync_work z) b.caller ∙ (unsync y i may).1 b.before b.there
+    holds_after (Takes u e f fewer) = by (WorkHolds S (High t i) t.made.works i) _ f (kept u _ e refl refl refl (λ y h. no_way (ap (λ (o : Option Status). is_some o) h)) (λ y h. ((held u e).sync y h).0) fewer)
 
     was_after : i ≤ a.base.made.works → WorkCame a s t.made.works i (High s i) (High t i) (doing_of i s) (doing_of i t) → WorkWas a i v
     was_after below c = go c
@@ -624,7 +627,7 @@ module _ {a : Scene} (unsync : AbortsNoSync a) (w : Word) (s : Core) (ok : Allow
       go (Aborts u x e may f fewer) = number u e
       go (Takes u e f fewer) = number u e
 
-  pub works_word : WorksGo a t
+  pub works_word : WorksGo S a t
   works_word = record {
     counted = le_trans q.counted made_works;
     holds = record {
@@ -638,10 +641,32 @@ module _ {a : Scene} (unsync : AbortsNoSync a) (w : Word) (s : Core) (ok : Allow
 
 -- ---- The first state
 
-pub opening_works : (instances handle_limit capacity : ℕ) → WorksHold (fresh instances handle_limit capacity)
+pub opening_works : {S : Type 0} (instances handle_limit capacity : ℕ) → WorksHold S (fresh instances handle_limit capacity)
 unfolding fresh
 opening_works instances handle_limit capacity = record {
   low = λ k i. refl;
   given = λ k i h. absurd (omega (h, arith));
   works = λ i v at. no_way (ap (λ (o : Option Doing). is_some o) (sym (ap (option_map doing) (get-empty i)) ∙ at));
 }
+
+
+-- ---- A step
+
+-- what is so of the works before the step
+pub record Before (a : Scene) (s : Core) : Type 0 where
+  pub made : a.base.made.works ≡ s.made.works
+  pub same : (i : ℕ) → doing_of i a.base ≡ doing_of i s
+
+pub before_step : (x : Setting) (s : State) (l : Label) (next : Turn) → Before (scene_of x s l next) s.core
+before_step x s l next = of_base (λ c. Before (record (scene_of x s l next) { base = c }) s.core) s.turn s.core (record { made = refl; same = λ i. refl })
+
+pub works_go : {S : Type 0} (x : Setting) (s : State) (l : Label) (t : State) (w : Walked x s l t) → (S → AbortsNoSync (scene_of x s l w.next)) → WorksHold S s.core → WorksGo S (scene_of x s l w.next) t.core
+works_go {S = S} x s l t w unsync h = along (WorksGo S (scene_of x s l w.next)) (λ v u ok q. works_word unsync v u ok q) first w.walk
+  where
+    first : WorksGo S (scene_of x s l w.next) s.core
+    first = of_base (λ c. WorksGo S (record (scene_of x s l w.next) { base = c }) s.core) s.turn s.core (record {
+      counted = le_refl _;
+      holds = h;
+      was = λ i v e below. record { before = v; there = e; caller = refl; stays = λ h. refl; ended = λ h. h };
+      due = λ i v e due. inl (v, (e, (due, refl)));
+    })

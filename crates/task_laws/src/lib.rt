@@ -15,4 +15,7 @@ pub use rises::{
     explicit_thread_names_no_call, runs_rise, statuses_rise, sync_end_is_last,
     sync_is_never_cancelled,
 };
-pub use written::ends_are_told_as_recorded;
+pub use written::{
+    ends_are_handed_as_told, ends_are_told_as_recorded, ends_are_written_once, new_ends_are_said,
+    new_results_are_said, no_end_is_covered, written_ends_are_new,
+};

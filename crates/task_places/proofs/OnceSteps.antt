@@ -23,11 +23,11 @@ use Rattle.task_rules.specs.Stalled.{Setting}
 use Rattle.task_rules.specs.SubtaskEnds.{end_for}
 use Rattle.task_laws.proofs.CallEnds.{EndsGo, EndsTold, ends_go, opening_ends_told}
 use Rattle.task_laws.proofs.OnceLemmas.{Due, Over, EndStep, ends_once, written_over}
-use Rattle.task_laws.proofs.HostEnds.{Answered, Before, host_step}
+use Rattle.task_laws.proofs.HostEnds.{Answered, host_step}
 use Rattle.task_laws.proofs.SceneLemmas.{base_is}
 use Rattle.task_laws.specs.Ends.{is_sync_work, EndsFound, MayBeAborted, Waited}
 use Rattle.task_machine.specs.declared.records.WorkCaller.{WorkCaller}
-use Rattle.task_laws.proofs.Works.{AbortsNoSync, Doing, WorksGo, WorksHold, doing, doing_of, is_late, works_word, stage_ended, opening_works}
+use Rattle.task_laws.proofs.Works.{AbortsNoSync, Doing, WorksGo, WorksHold, doing, doing_of, is_late, stage_ended, opening_works, before_step, works_go}
 use Rattle.task_machine.specs.declared.records.Work.{Work}
 use Rattle.task_rules.specs.Run.{opening}
 use Rattle.task_rules.specs.Step.{Step}
@@ -61,7 +61,7 @@ record Known (x : Setting) (s : State) : Type 0 where
   reached : Reached x s
   order : InOrder x.component s
   told : EndsTold s.core
-  works : WorksHold s.core
+  works : WorksHold (Unit {0}) s.core
   over : DueOver s.core
 
 reached_step : (x : Setting) (s : State) (l : Label) (t : State) → Reached x s → Step x s l t → Reached x t
@@ -121,9 +121,6 @@ module _ (x : Setting) (s : State) (l : Label) (t : State) (k : Known x s) (f : 
   from_base : (P : Core → Type 0) → P a.base → P (record s.core { queues = (base_at s.turn s.core).queues })
   from_base P p = subst P (base_is s.turn s.core) p
 
-  before : Before a s.core
-  before = to_base (λ c. Before (record a { base = c }) s.core) (record { made = refl; same = λ i. refl })
-
   -- nothing that is aborted is a sync call's
   unsync : AbortsNoSync a
   unsync i (AbortsOwn (n, (h, (runner, named)))) = of_found i (to_base (λ c. (j g : ℕ) → subtask_at j g c ≡ Some (subtask.Host i) → MayBeAborted c i) (λ j g e. again (f.works j g i e)) (instance_of n a.base) h named)
@@ -136,16 +133,8 @@ module _ (x : Setting) (s : State) (l : Label) (t : State) (k : Known x s) (f : 
   unsync i (ScriptAborts p j main is) = subst (λ (n : ℕ). (n ≤ a.base.made.works) × ((u : Doing) → doing_of n a.base ≡ Some u → is_sync_work u.caller ≡ false)) (sym is) (to_base (λ c. (spawned_at p j ≤ c.made.works) × ((u : Doing) → doing_of (spawned_at p j) c ≡ Some u → is_sync_work u.caller ≡ false)) (let q = f.spawns p j main in (q.made, λ u e. ap (λ y. is_sync_work y) (sym (caller_is (spawned_at p j) s.core u e)) ∙ q.other)))
   unsync i (ProgramAborts main is) = to_base (λ c. (i ≤ c.made.works) × ((u : Doing) → doing_of i c ≡ Some u → is_sync_work u.caller ≡ false)) (let r = spawn_other i s.core (from_base (λ c. is_spawn i c ≡ true) is) in ((k.works.works i r.0 r.1.0).number, λ u e. ap (λ (o : Option Doing). is_sync_work (unwrap_or o r.0).caller) (sym e ∙ r.1.0) ∙ r.1.1))
 
-  works_after : WorksGo a t.core
-  works_after = along (WorksGo a) (λ v u ok q. works_word unsync v u ok q) first w.walk
-    where
-      first : WorksGo a s.core
-      first = to_base (λ c. WorksGo (record a { base = c }) s.core) (record {
-        counted = le_refl _;
-        holds = k.works;
-        was = λ i v e below. record { before = v; there = e; caller = refl; stays = λ h. refl; ended = λ h. h };
-        due = λ i v e due. inl (v, (e, (due, refl)));
-      })
+  works_after : WorksGo (Unit {0}) a t.core
+  works_after = works_go x s l t w (λ y. unsync) k.works
 
   -- who runs or is taken isn't blocked
   unblocked : (n : ℕ) → IsRunner a n → is_blocked (place_of n s.core) ≡ false
@@ -193,7 +182,7 @@ module _ (x : Setting) (s : State) (l : Label) (t : State) (k : Known x s) (f : 
   end_step (subtask.Guest j) =
       guest_step x s l t w.next k.order.codes (calls_begin x s l w.next holds).0 told_base holds goes.0 goes.1.0 goes.1.1
       (step_goes x s l t k.order.codes holds step).1 (never_fewer x s l t step).threads w.ends.says found (λ i e due. k.over (subtask.Guest i) e due) j
-  end_step (subtask.Host i) = host_step x s l t w.next before k.works works_after w.ends.says answered i
+  end_step (subtask.Host i) = host_step (Unit {0}) x s l t w.next (before_step x s l w.next) k.works works_after w.ends.says tt answered i
 
   known_after : Known x t
   known_after = record {
