@@ -181,7 +181,6 @@ module _ (S : Type 0) (x : Setting) (s : State) (l : Label) (t : State) (next : 
           let ends : has_end w.before.course ≡ true = ap (λ c. has_end c) (sym (course_is i s.core w.before (sym (b.same i) ∙ w.there))) ∙ over.1 in
           ap (λ c. has_end c) (course_is i t.core v at ∙ w.stays ends) ∙ ends
 
-
   -- what isn't there was made, or is no number of a work yet
   none_there : (i : ℕ) → i ≡ next_work a.base → doing_of i s.core ≡ None
   none_there i is = go (doing_or i s.core)
@@ -215,10 +214,10 @@ module _ (S : Type 0) (x : Setting) (s : State) (l : Label) (t : State) (next : 
       )
       go (inr (v, at)) (inr (u, now)) = (
         λ over.
-        let w = was i u over.0 now in
-        let same : v ≡ w.before = ap (λ (o : Option Doing). unwrap_or o v) (sym at ∙ (sym (b.same i) ∙ w.there)) in
-        let stays : u.course ≡ v.course = w.stays (ap (λ (y : Doing). has_end y.course) (sym same) ∙ (ap (λ c. has_end c) (sym (course_is i s.core v at)) ∙ over.1)) ∙ ap (λ (y : Doing). y.course) (sym same) in
-        true_is_not_false (sym (codes (Some v) (Some u) at now) ∙ (ap (λ c. not (course_code c == 0) && not (course_code c == course_code v.course)) stays ∙ and_not_same (not (course_code v.course == 0)) (course_code v.course))),
+            let w = was i u over.0 now in
+            let same : v ≡ w.before = ap (λ (o : Option Doing). unwrap_or o v) (sym at ∙ (sym (b.same i) ∙ w.there)) in
+            let stays : u.course ≡ v.course = w.stays (ap (λ (y : Doing). has_end y.course) (sym same) ∙ (ap (λ c. has_end c) (sym (course_is i s.core v at)) ∙ over.1)) ∙ ap (λ (y : Doing). y.course) (sym same) in
+            true_is_not_false (sym (codes (Some v) (Some u) at now) ∙ (ap (λ c. not (course_code c == 0) && not (course_code c == course_code v.course)) stays ∙ and_not_same (not (course_code v.course == 0)) (course_code v.course))),
         (le_trans (h.works i v at).number made_more, ap (λ c. has_end c) (course_is i t.core u now) ∙ course_over u.course (course_code v.course) (codes (Some v) (Some u) at now)),
       )
 

@@ -332,7 +332,6 @@ pub record WorksGo (S : Type 0) (a : Scene) (s : Core) : Type 0 where
   pub was : (i : ℕ) (v : Doing) → doing_of i s ≡ Some v → i ≤ a.base.made.works → WorkWas a i v
   pub due : (i : ℕ) (v : Doing) → doing_of i s ≡ Some v → is_due v ≡ true → WasDue a i v
 
-
 -- ---- Stages
 
 pub stage_live : (x : Stage) → is_stage_live x ≡ true → (is_late x ≡ false) × ((k : Bool) → awaits k x ≡ false)
@@ -648,7 +647,6 @@ opening_works instances handle_limit capacity = record {
   given = λ k i h. absurd (omega (h, arith));
   works = λ i v at. no_way (ap (λ (o : Option Doing). is_some o) (sym (ap (option_map doing) (get-empty i)) ∙ at));
 }
-
 
 -- ---- A step
 

@@ -630,7 +630,6 @@ module _ (x : Setting) (s : State) (l : Label) where
       landed (scene_at (turn.Take ended) (Some (m, entry.Host i))) s.core (λ v. NoWord) s (host_done i (woken_of l) base) turn.Main t is.1 (Remains _ (host_done_walks i (woken_of l) base may taken_first) (λ j f. not_main j f), idle_words a (host_done i (woken_of l) base) refl (λ j f. not_main j f) (λ o f. none_is_some o (sym (ap outcome_of_label is.0 ∙ host_quiet m i (woken_of l)) ∙ f)) (ap (λ y. begun_holder base y) is.0 ∙ host_begins m i (woken_of l) base) (mute_words a _ (ap is_mute is.0 ∙ host_mute m i (woken_of l))))
   host_entry_walks ended m i t at false may is = absurd is
 
-
   entry_walks : (ended : Bool) (m : Mark) (e : Entry) (t : State) → next_entry s.core ≡ Some (m, e) → Progresses s (popped m s.core) (entry_number e) (take_row m (choice_of l) (popped m s.core) e) l t → WalkedBy (scene_at (turn.Take ended) (Some (m, e))) s.core s.main t
   entry_walks ended m (entry.Thread n) t at is =
       let base = popped m s.core in
