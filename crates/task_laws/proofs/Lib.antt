@@ -23,3 +23,4 @@ pub mod OnceLemmas
 pub mod HostEnds
 pub mod GuestEnds
 pub mod WrittenLaws
+pub mod NamedWorks

@@ -40,7 +40,7 @@ given_at (Some t) nm y g h = by_test (g == next_handle t t.freed) (sym (get-inse
     by_test true e = inr (ap (λ (o : Option Named). unwrap_or o nm) e)
     by_test false e = inl e
 
-given_names : (tables : Records (Table Named)) (i : ℕ) (nm y : Named) (j g : ℕ) → named_by (change i (giving nm) tables) j g ≡ Some y → (named_by tables j g ≡ Some y) ⊎ (nm ≡ y)
+pub given_names : (tables : Records (Table Named)) (i : ℕ) (nm y : Named) (j g : ℕ) → named_by (change i (giving nm) tables) j g ≡ Some y → (named_by tables j g ≡ Some y) ⊎ (nm ≡ y)
 given_names tables i nm y j g h = by_test (j == i) (ap (λ o. in_table o g) (sym (get-change i (giving nm) tables j)) ∙ h)
   where
     by_test : (b : Bool) → in_table (cond b (option_map (giving nm) (get tables j)) (get tables j)) g ≡ Some y → (named_by tables j g ≡ Some y) ⊎ (nm ≡ y)
@@ -55,7 +55,7 @@ freed_at (Some t) h g y e = by_test (g == h) (sym (get-remove t.live h g) ∙ e)
     by_test true f = no_way (ap (λ (o : Option Named). is_some o) f)
     by_test false f = f
 
-freed_names : (tables : Records (Table Named)) (i h j g : ℕ) (y : Named) → named_by (change i (taking h) tables) j g ≡ Some y → named_by tables j g ≡ Some y
+pub freed_names : (tables : Records (Table Named)) (i h j g : ℕ) (y : Named) → named_by (change i (taking h) tables) j g ≡ Some y → named_by tables j g ≡ Some y
 freed_names tables i h j g y e = by_test (j == i) (ap (λ o. in_table o g) (sym (get-change i (taking h) tables j)) ∙ e)
   where
     by_test : (b : Bool) → in_table (cond b (option_map (taking h) (get tables j)) (get tables j)) g ≡ Some y → named_by tables j g ≡ Some y
@@ -63,7 +63,7 @@ freed_names tables i h j g y e = by_test (j == i) (ap (λ o. in_table o g) (sym 
     by_test false f = f
 
 -- a handle that names a subtask
-as_named : (o : Option Named) (sub : Subtask) → option_and_then as_subtask o ≡ Some sub → o ≡ Some (named.Subtask sub)
+pub as_named : (o : Option Named) (sub : Subtask) → option_and_then as_subtask o ≡ Some sub → o ≡ Some (named.Subtask sub)
 as_named None sub h = no_way (ap (λ o. is_some o) h)
 as_named (Some (named.Subtask s)) sub h = ap (λ (o : Option Subtask). option_map (λ (x : Subtask). named.Subtask x) o) h
 as_named (Some (named.Set x)) sub h = no_way (ap (λ o. is_some o) h)
@@ -168,16 +168,16 @@ module _ (a : Scene) (known : CallsNamed a.base) (s : Core) (q : Traced a s) whe
 
 -- ---- The first state
 
-pub opening_named : (instances handle_limit capacity : ℕ) → CallsNamed (fresh instances handle_limit capacity)
-unfolding fresh
-opening_named instances handle_limit capacity = record {
-  by_handle = λ i h k e. none_named i h k (as_named (named_by (filled no_handles instances) i h) (subtask.Guest k) e);
-  by_op = λ n k e. no_way (ap (λ (o : Option Thread). is_some (subtask_under_way (option_map_or (λ (t : Thread). t.how_far) o how_far.Fresh))) (sym (get-empty n)) ∙ ap (λ o. is_some o) e);
-}
+pub none_named : (instances i h : ℕ) (sub : Subtask) {A : Type 0} → named_by (filled no_handles instances) i h ≡ Some (named.Subtask sub) → A
+none_named instances i h sub e = no_handle (get (filled no_handles instances) i) h (named.Subtask sub) (λ t is. filled_with instances i t is) e
   where
     no_handle : (o : Option (Table Named)) (h : ℕ) (y : Named) {A : Type 0} → ((t : Table Named) → o ≡ Some t → t ≡ no_handles) → in_table o h ≡ Some y → A
     no_handle None h y none e = no_way (ap (λ (o : Option Named). is_some o) e)
     no_handle (Some t) h y none e = no_way (ap (λ (o : Option Named). is_some o) (sym (ap (λ (u : Table Named). get u.live h) (none t refl) ∙ get-empty h) ∙ e))
 
-    none_named : (i h k : ℕ) {A : Type 0} → named_by (filled no_handles instances) i h ≡ Some (named.Subtask (subtask.Guest k)) → A
-    none_named i h k e = no_handle (get (filled no_handles instances) i) h (named.Subtask (subtask.Guest k)) (λ t is. filled_with instances i t is) e
+pub opening_named : (instances handle_limit capacity : ℕ) → CallsNamed (fresh instances handle_limit capacity)
+unfolding fresh
+opening_named instances handle_limit capacity = record {
+  by_handle = λ i h k e. none_named instances i h (subtask.Guest k) (as_named (named_by (filled no_handles instances) i h) (subtask.Guest k) e);
+  by_op = λ n k e. no_way (ap (λ (o : Option Thread). is_some (subtask_under_way (option_map_or (λ (t : Thread). t.how_far) o how_far.Fresh))) (sym (get-empty n)) ∙ ap (λ o. is_some o) e);
+}

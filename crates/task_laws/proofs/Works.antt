@@ -658,13 +658,13 @@ pub record Before (a : Scene) (s : Core) : Type 0 where
 pub before_step : (x : Setting) (s : State) (l : Label) (next : Turn) → Before (scene_of x s l next) s.core
 before_step x s l next = of_base (λ c. Before (record (scene_of x s l next) { base = c }) s.core) s.turn s.core (record { made = refl; same = λ i. refl })
 
+pub first_works : {S : Type 0} (x : Setting) (s : State) (l : Label) (next : Turn) → WorksHold S s.core → WorksGo S (scene_of x s l next) s.core
+first_works {S = S} x s l next h = of_base (λ c. WorksGo S (record (scene_of x s l next) { base = c }) s.core) s.turn s.core (record {
+  counted = le_refl _;
+  holds = h;
+  was = λ i v e below. record { before = v; there = e; caller = refl; stays = λ h. refl; ended = λ h. h };
+  due = λ i v e due. inl (v, (e, (due, refl)));
+})
+
 pub works_go : {S : Type 0} (x : Setting) (s : State) (l : Label) (t : State) (w : Walked x s l t) → (S → AbortsNoSync (scene_of x s l w.next)) → WorksHold S s.core → WorksGo S (scene_of x s l w.next) t.core
-works_go {S = S} x s l t w unsync h = along (WorksGo S (scene_of x s l w.next)) (λ v u ok q. works_word unsync v u ok q) first w.walk
-  where
-    first : WorksGo S (scene_of x s l w.next) s.core
-    first = of_base (λ c. WorksGo S (record (scene_of x s l w.next) { base = c }) s.core) s.turn s.core (record {
-      counted = le_refl _;
-      holds = h;
-      was = λ i v e below. record { before = v; there = e; caller = refl; stays = λ h. refl; ended = λ h. h };
-      due = λ i v e due. inl (v, (e, (due, refl)));
-    })
+works_go {S = S} x s l t w unsync h = along (WorksGo S (scene_of x s l w.next)) (λ v u ok q. works_word unsync v u ok q) (first_works x s l w.next h) w.walk

@@ -5,19 +5,19 @@ use Rattle.task_machine.specs.declared.records.Stage.{Stage}
 use Rattle.task_machine.specs.declared.records.Subtask.{Subtask}
 use Rattle.task_rules.proofs.MuteLemmas.{is_mute, is_mute_main, mute_words, none_said}
 use Rattle.task_rules.proofs.SayLemmas.{finished_is, result_taken, said_is}
-use Rattle.task_rules.specs.Chains.{EndWords, HandsOut, TakesResult, Writes, WritesPolled, start_of, Remains, Collapses, Chain, Then, LastWords, NoWord, SameMain, Shifts, StepsAreWalks, Stay, Trip, Walk, is_take}
+use Rattle.task_rules.specs.Chains.{EndWords, HandsOut, TakesResult, Writes, WritesPolled, start_of, Remains, Collapses, Chain, Then, LastWords, NoWord, SameMain, Shifts, StepsAreWalks, Stay, Trip, Walk, is_take, SpawnsNamed}
 use Rattle.task_rules.proofs.ChainLemmas.{join, trip_walk}
 use Rattle.task_rules.proofs.WalkTask.{Leads, data_row_leads, none_is_some, not_main, running_scene, task_row_leads, under_place}
 use Rattle.task_rules.specs.SubtaskEnds.{SubtaskEnd, end_for, finished_call, handed_by, handed_by_main, started_end, written_by}
 use Rattle.task_machine.specs.declared.words.Status.{Status}
 use Rattle.task_machine.specs.Core.{Main, Began, Core, MainPlace, Refused, Scripted, Started, State, Unscripted}
-use Rattle.task_machine.specs.Write.{take_result, add_group, on_thread, on_work, push_high, remove_thread, remove_threads, set_course, set_event, set_phase, set_place, set_register, set_stage, set_trapped}
-use Rattle.task_rules.specs.MainOps.{started_at, spawned_at, Abort, Answer, Answers, Await, Does, Finish, MainAct, MainProgress, Pends, Quiet, Ready, Spawn, Start, act_of, advanced_main, finish_act, finish_result, has_interesting, is_complete, is_ready_for_call, line_of, main_aborted, main_row, main_spawned, main_started, may_act, op_at, start_act, start_refusal, unless_pending}
+use Rattle.task_machine.specs.Write.{take_result, add_group, on_thread, on_work, push_high, remove_thread, remove_threads, set_course, set_event, set_phase, set_place, set_register, set_stage, set_trapped, add_work, count_work}
+use Rattle.task_rules.specs.MainOps.{started_at, spawned_at, Abort, Answer, Answers, Await, Does, Finish, MainAct, MainProgress, Pends, Quiet, Ready, Spawn, Start, act_of, advanced_main, finish_act, finish_result, has_interesting, is_complete, is_ready_for_call, line_of, main_aborted, main_row, main_spawned, main_started, may_act, op_at, start_act, start_refusal, unless_pending, is_spawn, is_spawn_caller, finished_into}
 use Rattle.std.proofs.Common.{T, ap, ap₂, cond, inl, inr, length, refl, subst, suc, sym, ◌∙◌, ◌⊎◌, is_some}
 use Rattle.std.specs.Option.{option_map_or}
-use Rattle.std.specs.Prelude.{Bool, List, None, Option, Some, [], false, not, option_map, slice_set, true, unwrap_or, zero, ℕ, ◌+◌, ◌==◌, ◌∷◌, ◌≡◌, suc, is_none}
+use Rattle.std.specs.Prelude.{Bool, List, None, Option, Some, [], false, not, option_map, slice_set, true, unwrap_or, zero, ℕ, ◌+◌, ◌==◌, ◌∷◌, ◌≡◌, suc, is_none, ◌-◌, ◌++◌, slice_get}
 use Rattle.task_machine.proofs.CommuteLemmas.{change-change_same}
-use Rattle.task_machine.proofs.MapLemmas.{change-field, get-change_same, get-remove_same}
+use Rattle.task_machine.proofs.MapLemmas.{change-field, get-change_same, get-remove_same, get-insert_same}
 use Rattle.task_machine.specs.Labels.{Choice, choice_of, host_label, woken_of}
 use Rattle.task_machine.specs.Maps.{Records, change, get, get-remove, size}
 use Rattle.task_machine.specs.Moves.{ended, is_callback_waiter, may_publish, published, put_high, unblocked, wake, wake_joined, waken_by}
@@ -45,7 +45,7 @@ use Rattle.task_rules.proofs.WalkOps.{set_row_leads, subtask_row_leads, thread_r
 use Rattle.task_rules.proofs.WalkParts.{Born, born_explicit, born_goal, born_place, call_born}
 use Rattle.task_rules.proofs.WalkTakes.{host_begins, host_quiet, thread_taken_leads}
 use Rattle.task_rules.specs.Allowed.{ByProgram, ByScript, Falls, IsRunner, MayCall, Starts, is_async_work, MayAbort, MayFinish, ProgramAborts, ScriptAborts, IsFall}
-use Rattle.task_rules.specs.Calls.{call_made, next_thread}
+use Rattle.task_rules.specs.Calls.{call_made, next_thread, work_queued, next_work, new_work}
 use Rattle.task_rules.specs.Cancels.{aborted_phase}
 use Rattle.task_rules.specs.Laws.{is_free}
 use Rattle.task_rules.specs.Once.{begun_holder}
@@ -298,25 +298,55 @@ struck_words a n is over begun mute = record {
 
 -- the step leads to a turn, and is a trip in the scene of that turn, whose words are all those of the step
 record WalkedBy (at : Turn → Scene) (b : Core) (was : Main) (t : State) : Type 0 where
-  pub main : SameMain was t.main
+  pub main : SameMain was t.core t.main
   pub next : Turn
   pub turn : t.turn ≡ settled_turn t.core next
   pub walk : Walk (at next) b t.core
   pub trip : Trip (at next) (start_of (at next) b) t.core
   pub words : LastWords (at next) t.core
 
-same_main : (m : Main) → SameMain m m
-same_main (Scripted p) = tt
-same_main Unscripted = tt
+same_main : (m : Main) (t : Core) → SameMain m t m
+same_main (Scripted p) t = λ k. inl (k, refl)
+same_main Unscripted t = tt
+
+-- the work of a spawn's label
+abbrev spawn_in : MainLabel → Option ℕ
+spawn_in (main_label.Spawn k i) = Some i
+spawn_in _ = None
+
+abbrev SpawnTold : MainLabel → Core → Type 0
+SpawnTold k t = (i : ℕ) → spawn_in k ≡ Some i → is_spawn i t ≡ true
+
+at_end : (ss : List ℕ) (i n : ℕ) → (slice_get (ss ++ i ∷ []) n ≡ slice_get ss n) ⊎ (slice_get (ss ++ i ∷ []) n ≡ Some i)
+at_end [] i zero = inr refl
+at_end [] i (suc n) = inl refl
+at_end (s ∷ ss) i zero = inl refl
+at_end (s ∷ ss) i (suc n) = at_end ss i n
+
+same_spawns : (p : MainPlace) (t : Core) (q : MainPlace) → q.spawns ≡ p.spawns → SpawnsNamed p t q
+same_spawns p t q e k = inl (k, ap (λ (ss : List ℕ). unwrap_or (slice_get ss (k - 1)) 0) e)
+
+finished_spawns : (o : MainOpDef) (v : ℕ) (p : MainPlace) → (finished_into o v p).spawns ≡ p.spawns
+finished_spawns (main_op.Finish k r) v p = refl
+finished_spawns _ v p = refl
+
+advanced_spawns : (o : MainOpDef) (k : MainLabel) (p : MainPlace) (t : Core) → SpawnTold k t → SpawnsNamed p t (advanced_main o k p)
+advanced_spawns o (main_label.Spawn j i) p t told k = by (at_end p.spawns i (k - 1))
+  where
+    by : (slice_get (p.spawns ++ i ∷ []) (k - 1) ≡ slice_get p.spawns (k - 1)) ⊎ (slice_get (p.spawns ++ i ∷ []) (k - 1) ≡ Some i) → ((j : ℕ) × (unwrap_or (slice_get (p.spawns ++ i ∷ []) (k - 1)) 0 ≡ spawned_at p j)) ⊎ (is_spawn (unwrap_or (slice_get (p.spawns ++ i ∷ []) (k - 1)) 0) t ≡ true)
+    by (inl e) = inl (k, ap (λ (o : Option ℕ). unwrap_or o 0) e)
+    by (inr e) = inr (subst (λ (n : ℕ). is_spawn n t ≡ true) (ap (λ (o : Option ℕ). unwrap_or o 0) (sym e)) (told i refl))
+advanced_spawns o (main_label.Finish j v) p t told k = same_spawns p t (advanced_main o (main_label.Finish j v) p) (finished_spawns o v p) k
+advanced_spawns o l p t told k = same_spawns p t (advanced_main o l p) refl k
 
 -- a thread that is taken leaves its entry first
 module _ (at : Turn → Scene) (b : Core) (starts : (u : Turn) → Walk (at u) b (start_of (at u) b)) where
-  arrives : (s : State) (new : Core) (m : Main) (u : Turn) (t : State) → SameMain s.main m → t ≡ at_turn s new m u → Trip (at u) (start_of (at u) b) new × LastWords (at u) new → WalkedBy at b s.main t
+  arrives : (s : State) (new : Core) (m : Main) (u : Turn) (t : State) → SameMain s.main new m → t ≡ at_turn s new m u → Trip (at u) (start_of (at u) b) new × LastWords (at u) new → WalkedBy at b s.main t
   unfolding at_turn
   arrives s new m u t same is c = subst (λ (v : State). WalkedBy at b s.main v) (sym is) (record { main = same; next = u; turn = refl; walk = join (starts u) (trip_walk c.0); trip = c.0; words = c.1 })
 
   landed : (s : State) (new : Core) (u : Turn) (t : State) → t ≡ goes_to s new u → Trip (at u) (start_of (at u) b) new × LastWords (at u) new → WalkedBy at b s.main t
-  landed s new u t is c = arrives s new s.main u t (same_main s.main) is c
+  landed s new u t is c = arrives s new s.main u t (same_main s.main new) is c
 
   -- of a row, by where it leads
   progresses_walk : (s : State) (base : Core) (n : ℕ) (p : Progress) (l : Label) (t : State) → ((u : Turn) → (at u).label ≡ l) → ((u : Turn) → (at u).next ≡ u) → ((u : Turn) → Leads (at u) (start_of (at u) b) p) → (begun_holder base l ≡ None → is_mute l ≡ true → Trip (at turn.Over) (start_of (at turn.Over) b) (struck n base) × LastWords (at turn.Over) (struck n base)) → Progresses s base n p l t → WalkedBy at b s.main t
@@ -396,6 +426,10 @@ script_names p o y h = names o h
     names (main_op.Ready f) g = none (ap finish_of g)
     names (main_op.Answer v) g = none (ap finish_of g)
 
+queued_spawn : (host : HostDef) (t : Core) → is_spawn (next_work t) (work_queued work_caller.Spawn host None t) ≡ true
+unfolding work_queued push_high add_work count_work
+queued_spawn host t = ap (λ (o : Option Work). option_map_or (λ w. is_spawn_caller w.caller) o false) (get-insert_same t.works (t.made.works + 1) (new_work work_caller.Spawn host None))
+
 -- what an op of a script aborts is a work that it names
 script_aborts : (p : MainPlace) (o : MainOpDef) (i : ℕ) → act_of p o ≡ Abort i → (k : ℕ) × (i ≡ spawned_at p k)
 script_aborts p o i h = names o h
@@ -462,7 +496,7 @@ module _ (x : Setting) (s : State) (l : Label) where
 
   -- what an op of main does
   abbrev LeadsMain : Turn → MainProgress → Type 0
-  LeadsMain u (Does k new) = (main_outcome k ≡ None) × ((l ≡ label.Main k → EndWords (scene_at u None turn.Main) new) × Stay (scene_at u None turn.Main) s.core new)
+  LeadsMain u (Does k new) = (main_outcome k ≡ None) × ((l ≡ label.Main k → EndWords (scene_at u None turn.Main) new) × (Stay (scene_at u None turn.Main) s.core new × SpawnTold k new))
   LeadsMain u Pends = Unit {0}
   LeadsMain u (Answers v) = Unit {0}
 
@@ -476,8 +510,8 @@ module _ (x : Setting) (s : State) (l : Label) where
       (word (MakeCall caller.Main e (export_kind x.component e) goal.Main (s.core.made.groups + 1) words) (may, (refl, (refl, (λ d. absurd (subst T (sym d) tt), refl)))) (word AddGroup refl NoWord))
 
   start_act_leads : (u : Turn) (k : ℕ) (e : Callee) (words : List ℕ) (o : Option Trap) → MayCall (scene_at u None turn.Main) caller.Main e (s.core.made.groups + 1) (add_group s.core) → LeadsMain u (start_act x.component k e words s.core o)
-  start_act_leads u k e words None may = (refl, (λ is. mute_words _ _ (ap is_mute is), started_walks u e words may))
-  start_act_leads u k e words (Some t) may = (refl, (λ is. mute_words _ _ (ap is_mute is), word SetTrapped tt NoWord))
+  start_act_leads u k e words None may = (refl, (λ is. mute_words _ _ (ap is_mute is), (started_walks u e words may, λ i e. none_is_some i e)))
+  start_act_leads u k e words (Some t) may = (refl, (λ is. mute_words _ _ (ap is_mute is), (word SetTrapped tt NoWord, λ i e. none_is_some i e)))
 
   -- the K of a script's finish names what the op finishes
   abbrev Names : ℕ → Started → Type 0
@@ -505,38 +539,38 @@ module _ (x : Setting) (s : State) (l : Label) where
 
   finish_result_leads : (u : Turn) (k n : ℕ) (o : Option ℕ) → Names k (Began n) → get s.core.results n ≡ o → LeadsMain u (finish_result k n s.core o)
   finish_result_leads u k n None names there = tt
-  finish_result_leads u k n (Some v) names there = (refl, (finish_says u k n v names there, word (TakeResult n) tt NoWord))
+  finish_result_leads u k n (Some v) names there = (refl, (finish_says u k n v names there, (word (TakeResult n) tt NoWord, λ i e. none_is_some i e)))
 
   finish_act_leads : (u : Turn) (k : ℕ) (y : Started) → Names k y → LeadsMain u (finish_act k s.core y)
   finish_act_leads u k (Began n) names = finish_result_leads u k n (get s.core.results n) names refl
-  finish_act_leads u k (Refused t) names = (refl, (λ is. mute_words _ _ (ap is_mute is), NoWord))
+  finish_act_leads u k (Refused t) names = (refl, (λ is. mute_words _ _ (ap is_mute is), (NoWord, λ i e. none_is_some i e)))
 
-  unless_pending_leads : (u : Turn) (b : Bool) (k : MainLabel) → main_outcome k ≡ None → is_mute_main k ≡ true → LeadsMain u (unless_pending b k s.core)
-  unless_pending_leads u true k quiet mute = (quiet, (λ is. mute_words _ _ (ap is_mute is ∙ mute), NoWord))
-  unless_pending_leads u false k quiet mute = tt
+  unless_pending_leads : (u : Turn) (b : Bool) (k : MainLabel) → main_outcome k ≡ None → is_mute_main k ≡ true → spawn_in k ≡ None → LeadsMain u (unless_pending b k s.core)
+  unless_pending_leads u true k quiet mute none = (quiet, (λ is. mute_words _ _ (ap is_mute is ∙ mute), (NoWord, λ i e. none_is_some i (sym none ∙ e))))
+  unless_pending_leads u false k quiet mute none = tt
 
   main_row_leads : (u : Turn) (k : ℕ) (act : MainAct) → ((e : Callee) (words : List ℕ) → act ≡ Start e words → MayCall (scene_at u None turn.Main) caller.Main e (s.core.made.groups + 1) (add_group s.core)) → ((y : Started) → act ≡ Finish y → Names k y) → ((i : ℕ) → act ≡ Abort i → MayAbort (scene_at u None turn.Main) i) → LeadsMain u (main_row x.component k s.core act)
   unfolding main_spawned main_aborted
   main_row_leads u k (Start e words) may names aborts = start_act_leads u k e words (start_refusal s.core) (may e words refl)
   main_row_leads u k (Finish y) may names aborts = finish_act_leads u k y (names y refl)
-  main_row_leads u k (Spawn h) may names aborts = (refl, (λ is. mute_words _ _ (ap is_mute is), word (QueueWork work_caller.Spawn (host_at x.component h) None) (refl, refl) NoWord))
-  main_row_leads u k (Abort i) may names aborts = (refl, (λ is. mute_words _ _ (ap is_mute is), word (SetPhase i (aborted_phase (phase_of i s.core))) (aborts i refl, refl) NoWord))
-  main_row_leads u k (Await i) may names aborts = unless_pending_leads u (is_complete (phase_of i s.core)) (main_label.Await k) refl refl
-  main_row_leads u k Quiet may names aborts = unless_pending_leads u (not (has_interesting s.core)) main_label.Quiet refl refl
-  main_row_leads u k (Ready i) may names aborts = unless_pending_leads u (is_ready_for_call i s.core) main_label.Ready refl refl
+  main_row_leads u k (Spawn h) may names aborts = (refl, (λ is. mute_words _ _ (ap is_mute is), (word (QueueWork work_caller.Spawn (host_at x.component h) None) (refl, refl) NoWord, λ i e. subst (λ (n : ℕ). is_spawn n (work_queued work_caller.Spawn (host_at x.component h) None s.core) ≡ true) (ap (λ (o : Option ℕ). unwrap_or o 0) e) (queued_spawn (host_at x.component h) s.core))))
+  main_row_leads u k (Abort i) may names aborts = (refl, (λ is. mute_words _ _ (ap is_mute is), (word (SetPhase i (aborted_phase (phase_of i s.core))) (aborts i refl, refl) NoWord, λ i e. none_is_some i e)))
+  main_row_leads u k (Await i) may names aborts = unless_pending_leads u (is_complete (phase_of i s.core)) (main_label.Await k) refl refl refl
+  main_row_leads u k Quiet may names aborts = unless_pending_leads u (not (has_interesting s.core)) main_label.Quiet refl refl refl
+  main_row_leads u k (Ready i) may names aborts = unless_pending_leads u (is_ready_for_call i s.core) main_label.Ready refl refl refl
   main_row_leads u k (Answer v) may names aborts = tt
 
   pends_here : (u : Turn) (t : State) → l ≡ label.Loop loop_label.MainPends → t ≡ goes_to s s.core (turn.Futures 0) → WalkedBy (scene_at u None) s.core s.main t
   pends_here u t is at = landed (scene_at u None) s.core (λ v. NoWord) s s.core (turn.Futures 0) t at (Remains _ NoWord (λ m f. not_futures 0 m f), idle_words (scene_at u None (turn.Futures 0)) s.core refl (λ m f. not_futures 0 m f) (λ o f. none_is_some o (sym (ap outcome_of_label is) ∙ f)) (ap (λ y. begun_holder s.core y) is) (mute_words _ _ (ap is_mute is)))
 
-  does_here : (u : Turn) (m : Main) (k : MainLabel) (new : Core) (t : State) → SameMain s.main m → (main_outcome k ≡ None) × ((l ≡ label.Main k → EndWords (scene_at u None turn.Main) new) × Stay (scene_at u None turn.Main) s.core new) → l ≡ label.Main k → t ≡ at_turn s new m turn.Main → WalkedBy (scene_at u None) s.core s.main t
-  does_here u m k new t same c is at = arrives (scene_at u None) s.core (λ v. NoWord) s new m turn.Main t same at (main_here u turn.Main k new is (inl c.0) (λ j f. not_main j f) (c.1.0 is) c.1.1)
+  does_here : (u : Turn) (m : Main) (k : MainLabel) (new : Core) (t : State) → SameMain s.main new m → (main_outcome k ≡ None) × ((l ≡ label.Main k → EndWords (scene_at u None turn.Main) new) × (Stay (scene_at u None turn.Main) s.core new × SpawnTold k new)) → l ≡ label.Main k → t ≡ at_turn s new m turn.Main → WalkedBy (scene_at u None) s.core s.main t
+  does_here u m k new t same c is at = arrives (scene_at u None) s.core (λ v. NoWord) s new m turn.Main t same at (main_here u turn.Main k new is (inl c.0) (λ j f. not_main j f) (c.1.0 is) c.1.1.0)
 
   answers_here : (u : Turn) (v : ℕ) (t : State) → l ≡ label.Main (main_label.Answer v) → t ≡ goes_to s s.core turn.Over → WalkedBy (scene_at u None) s.core s.main t
   answers_here u v t is at = landed (scene_at u None) s.core (λ v. NoWord) s s.core turn.Over t at (main_here u turn.Over (main_label.Answer v) s.core is (inr refl) (λ j f. not_over j f) (mute_words _ _ (ap is_mute is)) NoWord)
 
   main_progresses_walk : (u : Turn) (p : MainPlace) (o : MainOpDef) (q : MainProgress) (t : State) → s.main ≡ Scripted p → LeadsMain u q → MainProgresses s p o q l t → WalkedBy (scene_at u None) s.core s.main t
-  main_progresses_walk u p o (Does k new) t at c is = does_here u (Scripted (advanced_main o k p)) k new t (subst (λ (m : Main). SameMain m (Scripted (advanced_main o k p))) (sym at) tt) c is.0 is.1
+  main_progresses_walk u p o (Does k new) t at c is = does_here u (Scripted (advanced_main o k p)) k new t (subst (λ (m : Main). SameMain m new (Scripted (advanced_main o k p))) (sym at) (advanced_spawns o k p new c.1.1.1)) c is.0 is.1
   main_progresses_walk u p o Pends t at c is = pends_here u t is.0 is.1
   main_progresses_walk u p o (Answers v) t at c is = answers_here u v t is.0 is.1
 
@@ -563,7 +597,7 @@ module _ (x : Setting) (s : State) (l : Label) where
   script_step_walks u p (Some o) t scripted at is = main_progresses_walk u p o (main_row x.component (line_of p o) s.core (act_of p o)) t scripted (main_row_leads u (line_of p o) (act_of p o) (λ e words h. script_call u p o scripted at e words h) (λ y h p2 at2. ap (λ q. started_at q (line_of p o)) (sym (one_place p p2 (sym scripted ∙ at2))) ∙ script_names p o y h) (λ i h. let r = script_aborts p o i h in ScriptAborts p r.0 scripted r.1)) is
 
   open_progresses_walk : (u : Turn) (q : MainProgress) (t : State) → LeadsMain u q → OpenProgresses s q l t → WalkedBy (scene_at u None) s.core s.main t
-  open_progresses_walk u (Does k new) t c is = does_here u s.main k new t (same_main s.main) c is.0 is.1
+  open_progresses_walk u (Does k new) t c is = does_here u s.main k new t (same_main s.main new) c is.0 is.1
   open_progresses_walk u Pends t c is = absurd is
   open_progresses_walk u (Answers v) t c is = answers_here u v t is.0 is.1
 

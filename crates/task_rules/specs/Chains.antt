@@ -1,4 +1,5 @@
 -- Each step as a chain of words.
+use Rattle.task_rules.specs.MainOps.{is_spawn, spawned_at}
 use Rattle.task_machine.specs.declared.records.Subtask.{Subtask}
 use Rattle.task_rules.specs.Works.{has_end}
 use Rattle.task_rules.specs.Calls.{next_work}
@@ -6,7 +7,7 @@ use Rattle.task_rules.specs.SubtaskEnds.{end_for, handed_by, written_by}
 use Rattle.task_machine.specs.declared.words.Status.{Status}
 use Rattle.std.specs.Option.{option_map_or}
 use Rattle.std.specs.Prelude.{Bool, None, Some, false, is_some, true, ℕ, ◌≡◌, ◌⊎◌}
-use Rattle.task_machine.specs.Core.{Core, Main, Scripted, State, Unscripted}
+use Rattle.task_machine.specs.Core.{Core, Main, Scripted, State, Unscripted, MainPlace}
 use Rattle.task_machine.specs.Maps.{get}
 use Rattle.task_machine.specs.Moves.{ended}
 use Rattle.task_machine.specs.Read.{event_of, goal_of, has_ended, is_async_lifted, is_direct, is_explicit, kind_of, may_not_enter, place_of, task_of, undelivered_end, course_of, how_far_of}
@@ -153,17 +154,21 @@ pub record LastWords (a : Scene) (t : Core) : Type 0 where
   pub shut : (i : ℕ) → begun_holder a.base a.label ≡ Some i → (may_not_enter i a.base ≡ false) ×
       (is_some (get t.instances i) ≡ true → may_not_enter i t ≡ true)
 
+-- what main's script names as a spawn it named so before the step to t, or it is one
+abbrev pub SpawnsNamed : MainPlace → Core → MainPlace → Type 0
+SpawnsNamed p t q = (k : ℕ) → ((j : ℕ) × (spawned_at q k ≡ spawned_at p j)) ⊎ (is_spawn (spawned_at q k) t ≡ true)
+
 -- a main that is a script stays one, and so does one that isn't
-abbrev pub SameMain : Main → Main → Type 0
-SameMain (Scripted p) (Scripted q) = Unit {0}
-SameMain Unscripted Unscripted = Unit {0}
-SameMain _ _ = ⊥
+abbrev pub SameMain : Main → Core → Main → Type 0
+SameMain (Scripted p) t (Scripted q) = SpawnsNamed p t q
+SameMain Unscripted t Unscripted = Unit {0}
+SameMain _ t _ = ⊥
 
 -- A step seen as a chain.
 pub record Walked (x : Setting) (s : State) (l : Label) (t : State) : Type 0 where
   pub next : Turn
   pub turn : t.turn ≡ settled_turn t.core next
-  pub main : SameMain s.main t.main
+  pub main : SameMain s.main t.core t.main
   pub walk : Walk (scene_of x s l next) s.core t.core
   pub trip : Trip (scene_of x s l next) (start_of (scene_of x s l next) s.core) t.core
   pub ends : LastWords (scene_of x s l next) t.core

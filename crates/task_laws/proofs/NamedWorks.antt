@@ -1,0 +1,120 @@
+-- Which works handles name: along the words of a step none of them is a sync call's.
+use Rattle.task_laws.proofs.Works.{Aborts, Doing, Done, Ends, Gone, Lives, Made, Pends, Same, Takes, WorkCame, WorksHold, doing, doing_of, work_came}
+use Rattle.task_laws.proofs.Subtasks.{as_named, freed_names, given_names, none_named}
+use Rattle.task_laws.specs.Ends.{MayBeAborted, is_sync_work}
+use Rattle.task_machine.specs.Read.{as_subtask, named_by, subtask_at, work_caller_of}
+use Rattle.std.proofs.Common.{inl, inr, ap, le_trans, refl, subst, sym, ◌∙◌}
+use Rattle.task_laws.proofs.CountLemmas.{made_works_word}
+use Rattle.task_rules.specs.Scenes.{Scene}
+use Rattle.task_laws.proofs.Basics.{no_way, too_high}
+use Rattle.std.specs.Option.{option_map_or}
+use Rattle.task_machine.specs.Core.{Core, fresh, filled, no_handles}
+use Rattle.task_machine.specs.Maps.{get}
+use Rattle.task_machine.specs.Write.{add_call, add_group, add_set, add_thread, add_work, count_work, free_handle, free_thread_handle, give_handle, give_result, give_thread_handle, on_call, on_instance, on_thread, on_work, push_high, remove_call, remove_group, remove_set, remove_thread, remove_work, set_backpressure, set_cancel_delivered, set_cancelled, set_course, set_do_not_enter, set_do_not_suspend, set_end, set_event, set_exited, set_how_far, set_join, set_own_event, set_phase, set_position, set_register, set_result, set_saved_callee, set_saved_own, set_script, set_stage, set_started, set_starting_published, set_subtask_handle, set_thread_handle, set_trapped, set_uninteresting, set_word, take_result}
+use Rattle.task_machine.specs.declared.records.Work.{Work}
+use Rattle.task_rules.proofs.ChainLemmas.{along}
+use Rattle.task_machine.specs.declared.records.WorkCaller.{WorkCaller}
+use Rattle.task_rules.specs.Allowed.{Allowed, is_async_work}
+use Rattle.task_rules.specs.Calls.{call_made, with_handle, with_thread_handle, work_queued}
+use Rattle.task_rules.specs.Works.{poll_pends}
+use Rattle.task_rules.specs.Words.{NameWork, UnnameWork, Word, after_word, CloseSet, NameCall, OpenSet, UnnameCall}
+use Rattle.std.specs.Prelude.{Bool, None, Option, Some, false, is_some, option_map, true, unwrap_or, ℕ, ◌+◌, ◌≡◌, ◌≤◌, ◌⊎◌, option_and_then}
+use Rattle.task_machine.specs.declared.records.Named.{Named}
+use Rattle.task_machine.specs.declared.records.Subtask.{Subtask}
+use Rattle.task_machine.specs.declared.records.WorkCaller.TheVariants as work_caller
+use Rattle.task_machine.specs.declared.records.Named.TheVariants as named
+use Rattle.task_machine.specs.declared.records.Subtask.TheVariants as subtask
+
+-- ---- What a handle comes to name
+
+-- this word names it
+abbrev NamedNow : Scene → Core → Subtask → Type 0
+NamedNow a s (subtask.Guest k) = (j : ℕ) × Allowed a (NameCall j k) s
+NamedNow a s (subtask.Host i) = (j : ℕ) × Allowed a (NameWork j i) s
+
+abbrev subtask_in : Named → Option Subtask
+subtask_in (named.Subtask sub) = Some sub
+subtask_in (named.Set x) = None
+
+named_came : (a : Scene) (w : Word) (s : Core) → Allowed a w s → (i h : ℕ) (sub : Subtask) → named_by (after_word w s).handles i h ≡ Some (named.Subtask sub) → (named_by s.handles i h ≡ Some (named.Subtask sub)) ⊎ NamedNow a s sub
+unfolding on_thread add_group add_set add_work count_work free_handle free_thread_handle give_handle give_result give_thread_handle on_call on_instance on_work push_high remove_call remove_group remove_set remove_work remove_thread set_backpressure set_cancel_delivered set_cancelled set_course set_do_not_enter set_do_not_suspend set_end set_event set_exited set_how_far set_join set_own_event set_phase set_position set_register set_result set_saved_callee set_saved_own set_script set_stage set_started set_starting_published set_subtask_handle set_thread_handle set_trapped set_uninteresting set_word take_result call_made add_call add_thread with_handle with_thread_handle work_queued poll_pends
+named_came a (NameCall j c) s ok i h sub e = go (given_names s.handles j _ _ i h e)
+  where
+    go : (named_by s.handles i h ≡ Some (named.Subtask sub)) ⊎ (named.Subtask (subtask.Guest c) ≡ named.Subtask sub) → (named_by s.handles i h ≡ Some (named.Subtask sub)) ⊎ NamedNow a s sub
+    go (inl f) = inl f
+    go (inr f) = inr (subst (NamedNow a s) (ap (λ (n : Named). unwrap_or (subtask_in n) sub) f) (j, ok))
+named_came a (NameWork j c) s ok i h sub e = go (given_names s.handles j _ _ i h e)
+  where
+    go : (named_by s.handles i h ≡ Some (named.Subtask sub)) ⊎ (named.Subtask (subtask.Host c) ≡ named.Subtask sub) → (named_by s.handles i h ≡ Some (named.Subtask sub)) ⊎ NamedNow a s sub
+    go (inl f) = inl f
+    go (inr f) = inr (subst (NamedNow a s) (ap (λ (n : Named). unwrap_or (subtask_in n) sub) f) (j, ok))
+named_came a (OpenSet j) s ok i h sub e = go (given_names s.handles j _ _ i h e)
+  where
+    go : (named_by s.handles i h ≡ Some (named.Subtask sub)) ⊎ (named.Set (s.made.sets + 1) ≡ named.Subtask sub) → (named_by s.handles i h ≡ Some (named.Subtask sub)) ⊎ NamedNow a s sub
+    go (inl f) = inl f
+    go (inr f) = no_way (ap (λ (n : Named). is_some (subtask_in n)) f)
+named_came a (UnnameCall j g c) s ok i h sub e = inl (freed_names s.handles j g i h _ e)
+named_came a (UnnameWork j g c) s ok i h sub e = inl (freed_names s.handles j g i h _ e)
+named_came a (CloseSet j g x) s ok i h sub e = inl (freed_names s.handles j g i h _ e)
+named_came a w s ok i h sub e = inl e
+
+-- ---- Works that aren't sync calls'
+
+caller_kept : {a : Scene} {s : Core} {b i : ℕ} {h g : Bool → ℕ} {o p : Option Doing} → WorkCame a s b i h g o p → i ≤ s.made.works → (v : Doing) → p ≡ Some v → (u : Doing) × ((o ≡ Some u) × (v.caller ≡ u.caller))
+caller_kept (Same e fewer) below v at = (v, (sym e ∙ at, refl))
+caller_kept (Gone e fewer) below v at = no_way (ap (λ (o : Option Doing). is_some o) (sym e ∙ at))
+caller_kept (Made f host is l e more) below v at = absurd (too_high is below)
+caller_kept (Pends u host e p f fewer) below v at = (u, (e, ap (λ (o : Option Doing). (unwrap_or o u).caller) (sym at ∙ f)))
+caller_kept (Ends u c x e may f late async more) below v at = (u, (e, ap (λ (o : Option Doing). (unwrap_or o u).caller) (sym at ∙ f)))
+caller_kept (Lives u e one f fewer) below v at = (u, (e, ap (λ (o : Option Doing). (unwrap_or o u).caller) (sym at ∙ f)))
+caller_kept (Done u e one f fewer) below v at = (u, (e, ap (λ (o : Option Doing). (unwrap_or o u).caller) (sym at ∙ f)))
+caller_kept (Aborts u x e may f fewer) below v at = (u, (e, ap (λ (o : Option Doing). (unwrap_or o u).caller) (sym at ∙ f)))
+caller_kept (Takes u e f fewer) below v at = (u, (e, ap (λ (o : Option Doing). (unwrap_or o u).caller) (sym at ∙ f)))
+
+pub caller_is : (i : ℕ) (s : Core) (v : Doing) → doing_of i s ≡ Some v → work_caller_of i s ≡ v.caller
+caller_is i s v is = at (get s.works i) is
+  where
+    at : (o : Option Work) → option_map doing o ≡ Some v → option_map_or (λ (w : Work). w.caller) o work_caller.Spawn ≡ v.caller
+    at None e = no_way (ap (λ (o : Option Doing). is_some o) e)
+    at (Some w) e = ap (λ (o : Option Doing). (unwrap_or o v).caller) e
+
+-- a work that isn't there is no sync call's
+other_of : (i : ℕ) (s : Core) → ((v : Doing) → doing_of i s ≡ Some v → is_sync_work v.caller ≡ false) → is_sync_work (work_caller_of i s) ≡ false
+other_of i s h = at (get s.works i) refl
+  where
+    at : (o : Option Work) → get s.works i ≡ o → is_sync_work (option_map_or (λ (w : Work). w.caller) o work_caller.Spawn) ≡ false
+    at None is = refl
+    at (Some w) is = h (doing w) (ap (option_map doing) is)
+
+pub abort_kept : {S : Type 0} (a : Scene) (w : Word) (s : Core) → Allowed a w s → WorksHold S s → (i : ℕ) → MayBeAborted s i → MayBeAborted (after_word w s) i
+abort_kept a w s ok h i q = record {
+  made = le_trans q.made (made_works_word a w s);
+  other = other_of i (after_word w s) (λ v at. let r = caller_kept (work_came s h.low w ok i) q.made v at in ap (λ y. is_sync_work y) (r.1.1 ∙ sym (caller_is i s r.0 r.1.0)) ∙ q.other);
+}
+
+-- no work that a handle names is a sync call's
+abbrev pub NamesNoSync : Core → Type 0
+NamesNoSync s = (i h j : ℕ) → subtask_at i h s ≡ Some (subtask.Host j) → MayBeAborted s j
+
+async_other : {S : Type 0} (j : ℕ) (s : Core) → WorksHold S s → is_async_work (work_caller_of j s) ≡ true → MayBeAborted s j
+async_other j s h async = at (get s.works j) refl async
+  where
+    other : (f : WorkCaller) → is_async_work f ≡ true → is_sync_work f ≡ false
+    other (work_caller.Async n q) g = refl
+    other work_caller.Spawn g = no_way g
+    other (work_caller.Sync n) g = no_way g
+
+    at : (o : Option Work) → get s.works j ≡ o → is_async_work (option_map_or (λ (w : Work). w.caller) o work_caller.Spawn) ≡ true → MayBeAborted s j
+    at None is g = no_way g
+    at (Some w) is g = record { made = (h.works j (doing w) (ap (option_map doing) is)).number; other = other (work_caller_of j s) async }
+
+pub names_word : {S : Type 0} (a : Scene) (w : Word) (s : Core) → Allowed a w s → WorksHold S s → NamesNoSync s → NamesNoSync (after_word w s)
+names_word a w s ok h q i g j e = abort_kept a w s ok h j (go (named_came a w s ok i g (subtask.Host j) (as_named _ (subtask.Host j) e)))
+  where
+    go : (named_by s.handles i g ≡ Some (named.Subtask (subtask.Host j))) ⊎ NamedNow a s (subtask.Host j) → MayBeAborted s j
+    go (inl f) = q i g j (ap (λ o. option_and_then as_subtask o) f)
+    go (inr now) = async_other j s h now.1.1
+
+pub opening_names : (instances handle_limit capacity : ℕ) → NamesNoSync (fresh instances handle_limit capacity)
+unfolding fresh
+opening_names instances handle_limit capacity i h j e = none_named instances i h (subtask.Host j) (as_named (named_by (filled no_handles instances) i h) (subtask.Host j) e)
