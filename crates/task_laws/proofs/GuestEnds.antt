@@ -23,7 +23,7 @@ use Rattle.task_machine.specs.declared.records.CallEnd.{CallEnd}
 use Rattle.task_machine.specs.declared.records.Turn.{Turn}
 use Rattle.task_machine.specs.declared.words.Status.{Status}
 use Rattle.task_rules.proofs.ChainLemmas.{along}
-use Rattle.task_rules.specs.Allowed.{Allowed, status_of_end, IsRunner, IsNamed, SaysEnd, is_for_main}
+use Rattle.task_rules.specs.Allowed.{Allowed, status_of_end, IsRunner, IsNamed, SaysEnd, is_for_main, MayEnd}
 use Rattle.task_rules.specs.Chains.{EndWords, Walk, is_over, Writes, WritesAtOnce, WritesCall, WritesNever, WritesPolled, EndsByExit, EndsCall, EndsOwn, EndsSubtask, ExitsCall, Answers, HandsAtOnce, HandsOut, TakesEvent, TakesResult, WritesToo}
 use Rattle.task_rules.specs.Laws.{LaterBy}
 use Rattle.task_rules.specs.Scenes.{Scene, base_at, scene_of}
@@ -35,7 +35,7 @@ use Rattle.task_laws.proofs.OnceLemmas.{Due, Over, EndStep, Out, end_there}
 use Rattle.task_rules.specs.History.{Moment}
 use Rattle.task_laws.proofs.HostEnds.{and_not_same, either}
 use Rattle.task_laws.proofs.SaidEnds.{written_at, said_at, hands_at, said_now}
-use Rattle.task_laws.proofs.CallsCame.{Basis, CallCame, Delivers, Ends, Grown, Grows, Keeps, NewCall, NoCall, Starts, call_came}
+use Rattle.task_laws.proofs.CallsCame.{Grown, Grows, NewCall, NoCall, call_came, CallAfter}
 use Rattle.task_laws.proofs.SceneLemmas.{base_is}
 use Rattle.task_machine.specs.declared.label.Label.TheVariants as label
 use Rattle.task_machine.specs.declared.label.LoopLabel.TheVariants as loop_label
@@ -68,13 +68,14 @@ over_stays (Some c) (Some d) h over = end_stays c.«end» d.«end» (λ e at. h.
 over_word : (a : Scene) (k : ℕ) → k ≤ a.base.made.threads → (w : Word) (s : Core) → Allowed a w s → is_over k s ≡ true → is_over k (after_word w s) ≡ true
 over_word a k below w s ok over = go (call_came w s ok k)
   where
-    ends_in : (c d : Call) → Grows a s k c d → is_some c.«end» ≡ true → is_some d.«end» ≡ true
-    ends_in c d (Keeps e) h = ap (λ (b : Basis). is_some b.ends) e ∙ h
-    ends_in c d (Starts m e) h = ap (λ (b : Basis). is_some b.ends) e ∙ h
-    ends_in c d (Ends x m e) h = ap (λ (b : Basis). is_some b.ends) e
-    ends_in c d (Delivers m e) h = ap (λ (b : Basis). is_some b.ends) e ∙ h
+    ends_in : (c d : Call) → Grows a w s k c d → is_some c.«end» ≡ true → is_some d.«end» ≡ true
+    ends_in c d g h = by g.ended
+      where
+        by : (d.«end» ≡ c.«end») ⊎ ((e : CallEnd) × ((d.«end» ≡ Some e) × MayEnd a k e s)) → is_some d.«end» ≡ true
+        by (inl same) = ap (λ (o : Option CallEnd). is_some o) same ∙ h
+        by (inr now) = ap (λ (o : Option CallEnd). is_some o) now.1.0
 
-    go : CallCame a s (after_word w s).made.threads k (get s.calls k) (get (after_word w s).calls k) → is_over k (after_word w s) ≡ true
+    go : CallAfter a w s k → is_over k (after_word w s) ≡ true
     go (Grown c d e f g) = ap (λ (o : Option Call). is_call_over o) f ∙ ends_in c d g (ap (λ (o : Option Call). is_call_over o) (sym e) ∙ over)
     go (NoCall e r) = ap (λ (o : Option Call). is_call_over o) e
     go (NewCall f e x g group is l m new) = absurd (too_high (is ∙ ap (λ (n : ℕ). n + 1) m.1.0) below)

@@ -1,3 +1,4 @@
+pub mod Machine
 pub mod Basics
 pub mod EachLemmas
 pub mod ReachLemmas

@@ -1,6 +1,7 @@
 -- Which works handles name: along the words of a step none of them is a sync call's.
+use Rattle.task_laws.proofs.SetHandles.{none_named}
+use Rattle.task_laws.proofs.Subtasks.{NamedNow, handle_named}
 use Rattle.task_laws.proofs.Works.{Aborts, Doing, Done, Ends, Gone, Lives, Made, Pends, Same, Takes, WorkCame, WorksHold, doing, doing_of, work_came}
-use Rattle.task_laws.proofs.Subtasks.{as_named, freed_names, given_names, none_named}
 use Rattle.task_laws.specs.Ends.{MayBeAborted, is_sync_work}
 use Rattle.task_machine.specs.Read.{as_subtask, named_by, subtask_at, work_caller_of}
 use Rattle.std.proofs.Common.{inl, inr, ap, le_trans, refl, subst, sym, ◌∙◌}
@@ -24,39 +25,6 @@ use Rattle.task_machine.specs.declared.records.Subtask.{Subtask}
 use Rattle.task_machine.specs.declared.records.WorkCaller.TheVariants as work_caller
 use Rattle.task_machine.specs.declared.records.Named.TheVariants as named
 use Rattle.task_machine.specs.declared.records.Subtask.TheVariants as subtask
-
--- ---- What a handle comes to name
-
--- this word names it
-abbrev NamedNow : Scene → Core → Subtask → Type 0
-NamedNow a s (subtask.Guest k) = (j : ℕ) × Allowed a (NameCall j k) s
-NamedNow a s (subtask.Host i) = (j : ℕ) × Allowed a (NameWork j i) s
-
-abbrev subtask_in : Named → Option Subtask
-subtask_in (named.Subtask sub) = Some sub
-subtask_in (named.Set x) = None
-
-named_came : (a : Scene) (w : Word) (s : Core) → Allowed a w s → (i h : ℕ) (sub : Subtask) → named_by (after_word w s).handles i h ≡ Some (named.Subtask sub) → (named_by s.handles i h ≡ Some (named.Subtask sub)) ⊎ NamedNow a s sub
-unfolding on_thread add_group add_set add_work count_work free_handle free_thread_handle give_handle give_result give_thread_handle on_call on_instance on_work push_high remove_call remove_group remove_set remove_work remove_thread set_backpressure set_cancel_delivered set_cancelled set_course set_do_not_enter set_do_not_suspend set_end set_event set_exited set_how_far set_join set_own_event set_phase set_position set_register set_result set_saved_callee set_saved_own set_script set_stage set_started set_starting_published set_subtask_handle set_thread_handle set_trapped set_uninteresting set_word take_result call_made add_call add_thread with_handle with_thread_handle work_queued poll_pends
-named_came a (NameCall j c) s ok i h sub e = go (given_names s.handles j _ _ i h e)
-  where
-    go : (named_by s.handles i h ≡ Some (named.Subtask sub)) ⊎ (named.Subtask (subtask.Guest c) ≡ named.Subtask sub) → (named_by s.handles i h ≡ Some (named.Subtask sub)) ⊎ NamedNow a s sub
-    go (inl f) = inl f
-    go (inr f) = inr (subst (NamedNow a s) (ap (λ (n : Named). unwrap_or (subtask_in n) sub) f) (j, ok))
-named_came a (NameWork j c) s ok i h sub e = go (given_names s.handles j _ _ i h e)
-  where
-    go : (named_by s.handles i h ≡ Some (named.Subtask sub)) ⊎ (named.Subtask (subtask.Host c) ≡ named.Subtask sub) → (named_by s.handles i h ≡ Some (named.Subtask sub)) ⊎ NamedNow a s sub
-    go (inl f) = inl f
-    go (inr f) = inr (subst (NamedNow a s) (ap (λ (n : Named). unwrap_or (subtask_in n) sub) f) (j, ok))
-named_came a (OpenSet j) s ok i h sub e = go (given_names s.handles j _ _ i h e)
-  where
-    go : (named_by s.handles i h ≡ Some (named.Subtask sub)) ⊎ (named.Set (s.made.sets + 1) ≡ named.Subtask sub) → (named_by s.handles i h ≡ Some (named.Subtask sub)) ⊎ NamedNow a s sub
-    go (inl f) = inl f
-    go (inr f) = no_way (ap (λ (n : Named). is_some (subtask_in n)) f)
-named_came a (UnnameCall j g c) s ok i h sub e = inl (freed_names s.handles j g i h _ e)
-named_came a (UnnameWork j g c) s ok i h sub e = inl (freed_names s.handles j g i h _ e)
-named_came a (CloseSet j g x) s ok i h sub e = inl (freed_names s.handles j g i h _ e)
-named_came a w s ok i h sub e = inl e
 
 -- ---- Works that aren't sync calls'
 
@@ -109,12 +77,12 @@ async_other j s h async = at (get s.works j) refl async
     at (Some w) is g = record { made = (h.works j (doing w) (ap (option_map doing) is)).number; other = other (work_caller_of j s) async }
 
 pub names_word : {S : Type 0} (a : Scene) (w : Word) (s : Core) → Allowed a w s → WorksHold S s → NamesNoSync s → NamesNoSync (after_word w s)
-names_word a w s ok h q i g j e = abort_kept a w s ok h j (go (named_came a w s ok i g (subtask.Host j) (as_named _ (subtask.Host j) e)))
+names_word a w s ok h q i g j e = abort_kept a w s ok h j (go (handle_named a s w ok i g (subtask.Host j) e))
   where
-    go : (named_by s.handles i g ≡ Some (named.Subtask (subtask.Host j))) ⊎ NamedNow a s (subtask.Host j) → MayBeAborted s j
-    go (inl f) = q i g j (ap (λ o. option_and_then as_subtask o) f)
+    go : (subtask_at i g s ≡ Some (subtask.Host j)) ⊎ NamedNow a s (subtask.Host j) → MayBeAborted s j
+    go (inl f) = q i g j f
     go (inr now) = async_other j s h now.1.1
 
 pub opening_names : (instances handle_limit capacity : ℕ) → NamesNoSync (fresh instances handle_limit capacity)
 unfolding fresh
-opening_names instances handle_limit capacity i h j e = none_named instances i h (subtask.Host j) (as_named (named_by (filled no_handles instances) i h) (subtask.Host j) e)
+opening_names instances handle_limit capacity i h j e = let n = none_named instances i h in absurd (cc)

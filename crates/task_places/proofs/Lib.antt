@@ -1,5 +1,7 @@
 pub mod Entries
 pub mod PlaceLaw
 pub mod PlaceSteps
+pub mod Directs
+pub mod WorksQueued
 pub mod OrderLemmas
 pub mod OnceSteps

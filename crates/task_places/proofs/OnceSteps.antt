@@ -2,7 +2,7 @@
 use Rattle.task_laws.proofs.NamedWorks.{NamesNoSync, abort_kept, caller_is, names_word, opening_names}
 use Rattle.task_rules.specs.Once.{written, handed}
 use Rattle.task_machine.specs.declared.records.Subtask.{Subtask}
-use Rattle.std.proofs.Common.{ap, refl, subst, sym, ◌∙◌, inl, inr, le_refl, ◌++◌}
+use Rattle.std.proofs.Common.{ap, refl, subst, sym, ◌∙◌, inl, inr, le_refl, ◌++◌, arith}
 use Rattle.std.specs.Option.{option_map_or}
 use Rattle.std.specs.Prelude.{Bool, None, Option, Some, false, is_some, option_and_then, option_map, true, ℕ, ◌+◌, ◌≡◌, ◌≤◌, ◌⊎◌, ◌∷◌, unwrap_or, [], slice_get, zero, suc, ◌-◌}
 use Rattle.task_laws.proofs.Basics.{no_way}
@@ -11,7 +11,7 @@ use Rattle.task_laws.proofs.CallsSteps.{of_base, step_goes, calls_begin}
 use Rattle.task_laws.specs.Settings.{Reached}
 use Rattle.task_machine.specs.Core.{Core, State, fresh, MainPlace, Scripted, Unscripted, Main}
 use Rattle.task_machine.specs.Maps.{get, empty, get-empty}
-use Rattle.task_machine.specs.Read.{undelivered_end, how_far_of, is_stage_ended, next_entry, work_caller_of, place_of, instance_of, stage_of, subtask_at}
+use Rattle.task_machine.specs.Read.{undelivered_end, how_far_of, is_stage_ended, next_entry, work_caller_of, place_of, instance_of, stage_of, subtask_at, task_of}
 use Rattle.task_machine.specs.declared.label.Label.{Label}
 use Rattle.task_machine.specs.declared.records.Call.{Call}
 use Rattle.task_machine.specs.declared.records.Turn.{Turn}
@@ -25,7 +25,7 @@ use Rattle.task_rules.specs.SubtaskEnds.{end_for}
 use Rattle.task_laws.proofs.CallEnds.{EndsGo, EndsTold, ends_go, opening_ends_told}
 use Rattle.task_laws.proofs.OnceLemmas.{Due, Over, EndStep, ends_once, written_over}
 use Rattle.task_laws.proofs.HostEnds.{Answered, host_step}
-use Rattle.task_laws.proofs.SceneLemmas.{base_is}
+use Rattle.task_laws.proofs.SceneLemmas.{base_is, runner_there}
 use Rattle.task_laws.specs.Ends.{is_sync_work, EndsFound, MayBeAborted, Waited, SyncUnnamed}
 use Rattle.task_machine.specs.declared.records.WorkCaller.{WorkCaller}
 use Rattle.task_laws.proofs.Works.{AbortsNoSync, Doing, WorksGo, WorksHold, doing, doing_of, is_late, stage_ended, opening_works, before_step, works_go, first_works, works_word}
@@ -42,7 +42,7 @@ use Rattle.task_rules.proofs.LawLemmas.{never_fewer, run_goes_on}
 use Rattle.task_places.proofs.Entries.{next_first, popped_cleared}
 use Rattle.task_laws.proofs.GuestEnds.{CallsFound, guest_step}
 use Rattle.task_places.specs.Once.{RunsAreOnce, IsUnbegun}
-use Rattle.task_places.proofs.OrderLemmas.{opening_in_order, runner_housed, step_in_order}
+use Rattle.task_places.proofs.OrderLemmas.{opening_in_order, step_in_order}
 use Rattle.task_rules.specs.MainOps.{is_spawn, is_spawn_caller, spawned_at}
 use Rattle.task_machine.specs.declared.records.Subtask.TheVariants as subtask
 use Rattle.task_machine.specs.declared.records.HowFar.TheVariants as how_far
@@ -191,7 +191,7 @@ module _ (x : Setting) (s : State) (l : Label) (t : State) (k : Known x s) (f : 
 
   found : CallsFound a
   found = record {
-    own = λ n runner. runner_housed x s l t k.order w n runner;
+    own = λ n runner. to_base (λ c. is_some (get c.calls (task_of n c)) ≡ true) (let there = runner_there x s l w.next k.order.in_place n runner in grind (arith, k.order.calls_there n (task_of n s.core)));
     named = λ j named. to_base (λ c. (i h : ℕ) → subtask_at i h c ≡ Some (subtask.Guest j) → is_some (get c.calls j) ≡ true) (λ i h e. f.calls i h j e) (instance_of named.0 a.base) named.1.0 named.1.1.1;
   }
 

@@ -13,7 +13,7 @@ use Rattle.task_machine.specs.declared.words.Status.{Status}
 use Rattle.task_machine.specs.Core.{Main, Began, Core, MainPlace, Refused, Scripted, Started, State, Unscripted}
 use Rattle.task_machine.specs.Write.{take_result, add_group, on_thread, on_work, push_high, remove_thread, remove_threads, set_course, set_event, set_phase, set_place, set_register, set_stage, set_trapped, add_work, count_work}
 use Rattle.task_rules.specs.MainOps.{started_at, spawned_at, Abort, Answer, Answers, Await, Does, Finish, MainAct, MainProgress, Pends, Quiet, Ready, Spawn, Start, act_of, advanced_main, finish_act, finish_result, has_interesting, is_complete, is_ready_for_call, line_of, main_aborted, main_row, main_spawned, main_started, may_act, op_at, start_act, start_refusal, unless_pending, is_spawn, is_spawn_caller, finished_into}
-use Rattle.std.proofs.Common.{T, ap, ap₂, cond, inl, inr, length, refl, subst, suc, sym, ◌∙◌, ◌⊎◌, is_some}
+use Rattle.std.proofs.Common.{T, ap, ap₂, cond, inl, inr, length, refl, subst, suc, sym, ◌∙◌, ◌⊎◌, is_some, is_none}
 use Rattle.std.specs.Option.{option_map_or}
 use Rattle.std.specs.Prelude.{Bool, List, None, Option, Some, [], false, not, option_map, slice_set, true, unwrap_or, zero, ℕ, ◌+◌, ◌==◌, ◌∷◌, ◌≡◌, suc, is_none, ◌-◌, ◌++◌, slice_get}
 use Rattle.task_machine.proofs.CommuteLemmas.{change-change_same}
@@ -60,8 +60,8 @@ use Rattle.task_rules.specs.Takes.{host_done, host_result, host_status, popped, 
 use Rattle.task_rules.specs.Turns.{at_turn, goes_to, settled_turn}
 use Rattle.task_rules.specs.Words.{AddGroup, EndWork, FinishWork, MakeCall, Pend, Pop, Put, QueueWork, RemoveThread, SetPhase, SetRegister, SetTrapped, TakeHost, TakePush, TakeResult}
 use Rattle.task_rules.specs.Works.{Ends, FailsNow, Poll, StillPends, course_for, followed, has_moving_work, next_polled, poll_ends, poll_of, poll_pends, has_end, ends_with, polled_again, polled_course, polled_in}
-use Rattle.task_machine.specs.declared.records.Subtask.TheVariants as subtask
 use Rattle.task_machine.specs.declared.words.Status.TheVariants as status
+use Rattle.task_machine.specs.declared.records.Subtask.TheVariants as subtask
 use Rattle.task_machine.specs.declared.label.Label.TheVariants as label
 use Rattle.task_machine.specs.declared.label.LoopLabel.TheVariants as loop_label
 use Rattle.task_machine.specs.declared.label.MainLabel.TheVariants as main_label
@@ -264,10 +264,14 @@ not_over n e = absurd (subst T (ap is_over e) tt)
 abbrev Fall : Scene → Core → Type 0
 Fall a t = Chain (IsFall a) a.base t
 
+removed_none : (n : ℕ) (t : Core) → is_none (get (remove_thread n t).threads n) ≡ true
+unfolding remove_thread
+removed_none n t = ap (λ (o : Option Thread). is_none o) (get-remove_same t.threads n)
+
 module _ {a : Scene} (over : a.next ≡ turn.Over) where
-  falls : (k n : ℕ) {t : Core} → IsRunner a n ⊎ ((m : ℕ) × (place_of n a.base ≡ Some (place.Under m))) → Fall a t → Fall a (remove_threads (strand_from k a.base n) t)
+  falls : (k n : ℕ) {t : Core} → IsRunner a n ⊎ ((m : ℕ) × ((place_of n a.base ≡ Some (place.Under m)) × (is_none (get t.threads m) ≡ true))) → Fall a t → Fall a (remove_threads (strand_from k a.base n) t)
   falls zero n {t = t} may c = Then t (RemoveThread n) c (Falls over may)
-  falls (suc k) n {t = t} may c = below (λ m under d. falls k m (inr (n, under)) d) (under_of n a.base) refl (Then t (RemoveThread n) c (Falls over may))
+  falls (suc k) n {t = t} may c = below (λ m under d. falls k m (inr (n, (under, removed_none n t))) d) (under_of n a.base) refl (Then t (RemoveThread n) c (Falls over may))
     where
       below : ((m : ℕ) → place_of m a.base ≡ Some (place.Under n) → Fall a (remove_thread n t) → Fall a (remove_threads (strand_from k a.base m) (remove_thread n t))) → (o : Option ℕ) → under_of n a.base ≡ o → Fall a (remove_thread n t) → Fall a (remove_threads (option_map_or (strand_from k a.base) o []) (remove_thread n t))
       below more None is d = d
