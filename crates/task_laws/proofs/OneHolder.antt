@@ -145,10 +145,10 @@ begun_there {s = s} some h l i e =
 -- ---- Steps
 
 -- a script stays one
-script_stays : (m n : Main) → SameMain m n → IsScripted m → IsScripted n
-script_stays (Scripted p) (Scripted q) same h = tt
-script_stays (Scripted p) Unscripted same h = absurd same
-script_stays Unscripted n same h = absurd h
+script_stays : (m : Main) (t : Core) (n : Main) → SameMain m t n → IsScripted m → IsScripted n
+script_stays (Scripted p) t (Scripted q) same h = tt
+script_stays (Scripted p) t Unscripted same h = absurd same
+script_stays Unscripted t n same h = absurd h
 
 -- but for the instance of which a holding entry returns none is opened; one that begins to run finds its instance open, and shuts it
 record StepHolds (instances : ℕ) (s : State) (l : Label) (t : State) : Type 0 where
@@ -173,7 +173,7 @@ step_holds x instances exist s h m l t step =
       begins = λ i e. let r = w.ends.shut i (rw (begun_base s.turn s.core l) e) in
           (rw (flag_base s.turn s.core i) at r.0, r.1 (kept i (begun_there exist.some h l i e)));
       housed = record { there = λ i below. kept i (h.there i below); homes = g.homes };
-      main = script_stays s.main t.main w.main m;
+      main = script_stays s.main t.core t.main w.main m;
     }
 
 -- ---- Who is inside

@@ -4,13 +4,13 @@ use Rattle.task_machine.specs.declared.records.Course.TheVariants as course
 use Rattle.task_machine.specs.declared.records.Course.{Course}
 use Rattle.task_rules.specs.Works.{poll_pends}
 use Rattle.task_rules.specs.Calls.{call_made, with_handle, with_thread_handle, work_queued, new_work}
-use Rattle.task_machine.specs.Read.{is_live, is_stage_live, new_handle}
+use Rattle.task_machine.specs.Read.{is_live, is_stage_live, new_handle, course_of, course_value}
 use Rattle.std.specs.Option.{option_map_or}
 use Rattle.task_machine.specs.Write.{set_switch, set_high, set_low, add_call, add_group, add_set, add_thread, add_work, count_work, free_handle, free_thread_handle, give_handle, give_result, give_thread_handle, on_call, on_instance, on_thread, on_work, push_high, remove_call, remove_group, remove_set, remove_thread, remove_work, set_backpressure, set_cancel_delivered, set_cancelled, set_course, set_do_not_enter, set_do_not_suspend, set_end, set_event, set_exited, set_how_far, set_join, set_own_event, set_phase, set_position, set_register, set_result, set_saved_callee, set_saved_own, set_script, set_stage, set_started, set_starting_published, set_subtask_handle, set_thread_handle, set_trapped, set_uninteresting, set_word, take_result}
 use Rattle.std.proofs.Common.{T, ap, arith, refl, subst, sym, ◌∙◌, le_refl, cond}
 use Rattle.std.specs.Prelude.{Bool, List, None, Option, Some, [], false, is_some, option_map, true, unwrap_or, ℕ, ◌++◌, ◌+◌, ◌==◌, ◌∷◌, ◌≡◌, ◌≤◌}
 use Rattle.task_laws.specs.Order.{WorkEntries, WorksQueued, is_finishing, is_host_of, is_push_of, is_queued, stands}
-use Rattle.task_laws.proofs.HostWorks.{polled_is_live}
+use Rattle.task_laws.proofs.PolledWorks.{polled_is_live}
 use Rattle.task_machine.proofs.MapLemmas.{get-change_other, get-change_same, get-insert_other, get-insert_same}
 use Rattle.task_machine.specs.Core.{Core}
 use Rattle.task_machine.specs.Maps.{Records, change, get, get-remove, insert, remove}
@@ -27,8 +27,8 @@ use Rattle.task_rules.proofs.StandLemmas.{by_number, eq_refl, not_eq}
 use Rattle.task_rules.specs.Allowed.{Allowed}
 use Rattle.task_rules.specs.Places.{one_if}
 use Rattle.task_rules.specs.Scenes.{Scene}
-use Rattle.task_rules.specs.Takes.{popped, rest_of}
-use Rattle.task_rules.specs.Words.{CountWork, EndWork, FinishWork, NameWork, Pend, Places, QueueWork, RemoveWork, SetCancelled, SetPhase, SetWorkEvent, SetWorkJoin, TakeHost, TakePush, UnnameWork, Withdraw, Word, after_word}
+use Rattle.task_rules.specs.Takes.{popped, rest_of, host_status}
+use Rattle.task_rules.specs.Words.{CountWork, EndWork, FinishWork, NameWork, Pend, Places, QueueWork, RemoveWork, SetCancelled, SetPhase, TakeWorkEvent, SetWorkJoin, TakeHost, TakePush, UnnameWork, Withdraw, Word, after_word, placed_as}
 
 -- ---- Lists
 
@@ -319,16 +319,16 @@ module _ (a : Scene) where
   works_word CountWork s ok q = record { each = λ i w at. let h = q.each i w at in record { push = h.push; host = h.host }; low = q.low; made = λ i there. within (q.made i there) (one_above _); ungiven = λ i above. q.ungiven i (less i _ _ (one_above _) above) }
   works_word (QueueWork f host group) s ok q = work_queued_after (new_work f host group) s _ refl refl refl refl refl q
   works_word (TakePush m j) s ok q = let h = head_taken m (entry.Push j) (is_push_of j) s (next_first s m (entry.Push j) ok) (λ n. refl) (eq_refl j) (q.low j).0 in push_taken j s _ h.0 h.1 refl refl q
-  works_word (TakeHost m j) s ok q = let h = head_taken m (entry.Host j) (is_host_of j) s (next_first s m (entry.Host j) ok) (λ n. refl) (eq_refl j) (q.low j).1 in host_taken j s _ h.0 h.1 refl refl q
+  works_word (TakeHost m j) s ok q = let h = head_taken m (entry.Host j) (is_host_of j) s (next_first s m (entry.Host j) ok) (λ n. refl) (eq_refl j) (q.low j).1 in let u : Core = set_stage j stage.Ended (placed_as (popped m s) s) in touched j (λ w. record w { event = Some (host_status (course_value (course_of j s))) }) u _ (λ w. refl) refl refl refl refl (host_taken j s u h.0 h.1 refl refl q)
   works_word (Pend i host) s ok q = touched i (λ w. record w { course = course.Goes host }) s _ (λ w. refl) refl refl refl refl q
   works_word (SetPhase i p) s ok q = touched i (λ w. record w { phase = p }) s _ (λ w. refl) refl refl refl refl q
   works_word (SetCancelled i) s ok q = touched i (λ w. record w { cancelled = true }) s _ (λ w. refl) refl refl refl refl q
-  works_word (SetWorkEvent i e) s ok q = touched i (λ w. record w { event = e }) s _ (λ w. refl) refl refl refl refl q
+  works_word (TakeWorkEvent i) s ok q = touched i (λ w. record w { event = None }) s _ (λ w. refl) refl refl refl refl q
   works_word (SetWorkJoin i j) s ok q = touched i (λ w. record w { join = j }) s _ (λ w. refl) refl refl refl refl q
   works_word (NameWork i j) s ok q = touched j (λ w. record w { handle = Some (new_handle i s) }) s _ (λ w. refl) refl refl refl refl q
   works_word (UnnameWork i h j) s ok q = touched j (λ w. record w { handle = None }) s _ (λ w. refl) refl refl refl refl q
-  works_word (EndWork i c) s ok q = work_ends i (set_phase i phase.Complete (set_course i c s)) _ (ended_live i c s (polled_is_live ok.0.0 s i ok.0.1.1)) refl refl refl refl (ended_course i c s q)
-  works_word (FinishWork i c) s ok q = work_finishes i (set_phase i phase.Complete (set_course i c s)) _ (ended_live i c s (polled_is_live ok.0.0 s i ok.0.1.1)) refl refl refl refl (ended_course i c s q)
+  works_word (EndWork i c) s ok q = work_ends i (set_phase i phase.Complete (set_course i c s)) _ (ended_live i c s (polled_is_live ok.0.0.0 s i ok.0.0.1.1)) refl refl refl refl (ended_course i c s q)
+  works_word (FinishWork i c) s ok q = work_finishes i (set_phase i phase.Complete (set_course i c s)) _ (ended_live i c s (polled_is_live ok.0.0.0 s i ok.0.0.1.1)) refl refl refl refl (ended_course i c s q)
   works_word (RemoveWork i) s ok q = record {
     each = λ j w at. let h = q.each j w (was_there i j w s.works at) in record { push = h.push; host = h.host };
     low = q.low;
