@@ -5,11 +5,10 @@ use Rattle.std.specs.List.{list_any}
 use Rattle.std.specs.Option.{option_map_or}
 use Rattle.std.specs.Prelude.{Bool, List, None, Option, Some, [], false, filter, is_some, not, slice_get, true, unwrap_or, ℕ, ◌<◌, ◌==◌, ◌∷◌, ◌≡◌, ◌⊎◌}
 use Rattle.task_laws.proofs.CallsCame.{CallAfter, Grown, NewCall, NoCall, call_came}
-use Rattle.task_laws.proofs.CallsSteps.{of_base}
+use Rattle.task_laws.proofs.CallsSteps.{plain, plain_scene}
 use Rattle.task_laws.proofs.EachLemmas.{after_change}
-use Rattle.task_laws.proofs.Machine.{add_call, add_group, add_set, add_thread, add_work, after_word, base_at, Call, call_instance, call_made, Callee, callee_of, change, Core, count_work, filled, free_handle, free_thread_handle, fresh, get, get-empty, get-insert, give_handle, give_result, give_thread_handle, Label, Main, may_not_enter, on_call, on_instance, on_thread, on_work, Op, poll_pends, push_high, Queues, remove_call, remove_group, remove_set, remove_thread, remove_work, Scene, scene_of, Scripted, set_backpressure, set_cancel_delivered, set_cancelled, set_course, set_do_not_enter, set_do_not_suspend, set_end, set_event, set_exited, set_how_far, set_join, set_own_event, set_phase, set_position, set_register, set_result, set_saved_callee, set_saved_own, set_script, set_stage, set_started, set_starting_published, set_subtask_handle, set_thread_handle, set_trapped, set_uninteresting, set_word, SetBackpressure, SetDoNotEnter, SetDoNotSuspend, Setting, SetWord, State, take_result, Thread, Turn, Unscripted, untouched, with_handle, with_thread_handle, Word, work_queued}
+use Rattle.task_laws.proofs.Machine.{add_call, add_group, add_set, add_thread, add_work, after_word, Call, call_instance, call_made, Callee, callee_of, change, Core, count_work, filled, free_handle, free_thread_handle, fresh, get, get-empty, get-insert, give_handle, give_result, give_thread_handle, Label, Main, may_not_enter, on_call, on_instance, on_thread, on_work, Op, poll_pends, push_high, Queues, remove_call, remove_group, remove_set, remove_thread, remove_work, Scene, Scripted, set_backpressure, set_cancel_delivered, set_cancelled, set_course, set_do_not_enter, set_do_not_suspend, set_end, set_event, set_exited, set_how_far, set_join, set_own_event, set_phase, set_position, set_register, set_result, set_saved_callee, set_saved_own, set_script, set_stage, set_started, set_starting_published, set_subtask_handle, set_thread_handle, set_trapped, set_uninteresting, set_word, SetBackpressure, SetDoNotEnter, SetDoNotSuspend, Setting, SetWord, State, take_result, Thread, Unscripted, untouched, with_handle, with_thread_handle, Word, work_queued}
 use Rattle.task_laws.specs.Holders.{CalleesExist, RunsHoldOne}
-use Rattle.task_machine.specs.declared.label.Label.TheVariants as label
 use Rattle.task_machine.specs.declared.op.Op.TheVariants as op
 use Rattle.task_machine.specs.declared.op.TaskOp.TheVariants as task_op
 use Rattle.task_machine.specs.declared.records.Caller.{Caller}
@@ -18,7 +17,7 @@ use Rattle.task_rules.proofs.ChainLemmas.{along}
 use Rattle.task_rules.proofs.WalkSteps.{step_walks}
 use Rattle.task_rules.specs.Allowed.{Allowed, MayCall}
 use Rattle.task_rules.specs.Allowed as may
-use Rattle.task_rules.specs.Chains.{SameMain, Walked}
+use Rattle.task_rules.specs.Chains.{LastWords, SameMain, Walk, Walked}
 use Rattle.task_rules.specs.History.{history}
 use Rattle.task_rules.specs.Once.{begun_holder, holds_one, is_among, less_holder, returned_holder, with_holder}
 use Rattle.task_rules.specs.OpParts.{callee_of_op}
@@ -112,26 +111,13 @@ module _ (a : Scene) (instances : ℕ) (exist : CalleesExist a.setting instances
       home k c at (NewCall f e x g group is l m new) = let same : c.callee ≡ e = cc in
           rw same ((instance_came w s ok e.instance).there (q.kept e.instance (b.there e.instance (callee_there f e group s m.0))))
 
--- ---- The core that the row reads
+-- ---- Who begins to run, whatever stands at the marks
 
-begun_base : (u : Turn) (s : Core) (l : Label) → begun_holder (base_at u s) l ≡ begun_holder s l
-begun_base u s l = of_base (λ b. begun_holder b l ≡ begun_holder s l) u s (same (base_at u s).queues l)
-  where
-    same : (q : Queues) (l : Label) → begun_holder (record s { queues = q }) l ≡ begun_holder s l
-    same q (label.Take t) = grind arith
-    same q _ = refl
+begun_same : (q : Queues) (s : Core) (l : Label) → begun_holder (record s { queues = q }) l ≡ begun_holder s l
+begun_same q s l = grind arith
 
-returned_base : (u : Turn) (s : Core) (l : Label) → returned_holder (base_at u s) l ≡ returned_holder s l
-returned_base u s l = of_base (λ b. returned_holder b l ≡ returned_holder s l) u s (same (base_at u s).queues l)
-  where
-    same : (q : Queues) (l : Label) → returned_holder (record s { queues = q }) l ≡ returned_holder s l
-    same q (label.Task t) = grind arith
-    same q _ = refl
-
-flag_base : (u : Turn) (s : Core) (i : ℕ) → may_not_enter i (base_at u s) ≡ may_not_enter i s
-flag_base u s i = of_base (λ b. may_not_enter i b ≡ may_not_enter i s) u s refl
-
--- ---- Who begins to run
+returned_same : (q : Queues) (s : Core) (l : Label) → returned_holder (record s { queues = q }) l ≡ returned_holder s l
+returned_same q s l = grind arith
 
 call_there : {instances : ℕ} (k : ℕ) {s : Core} → 0 < instances → Housed instances s → is_some (get s.instances (call_instance k s)) ≡ true
 call_there k {s = s} some h = grind (arith, h.there 0, h.homes k)
@@ -146,9 +132,7 @@ begun_there {s = s} some h l i e =
 
 -- a script stays one
 script_stays : (m n : Main) → SameMain m n → IsScripted m → IsScripted n
-script_stays (Scripted p) (Scripted q) same h = tt
-script_stays (Scripted p) Unscripted same h = absurd same
-script_stays Unscripted n same h = absurd h
+script_stays m n same h = grind arith
 
 -- but for the instance of which a holding entry returns none is opened; one that begins to run finds its instance open, and shuts it
 record StepHolds (instances : ℕ) (s : State) (l : Label) (t : State) : Type 0 where
@@ -161,18 +145,17 @@ step_holds : (x : Setting) (instances : ℕ) → CalleesExist x instances → (s
     (l : Label) (t : State) → Step x s l t → StepHolds instances s l t
 step_holds x instances exist s h m l t step =
     let w : Walked x s l t = step_walks x s l t step in
-    let a : Scene = scene_of x s l w.next in
-    let b : Housed instances a.base = of_base (Housed instances) s.turn s.core (record { there = h.there; homes = h.homes }) in
-    let q : HoldersGo a s.core = of_base (λ c. HoldersGo (record a { base = c }) s.core) s.turn s.core
-    (record { shut = λ i other e. e; kept = λ i e. e; homes = h.homes }) in
-    let g : HoldersGo a t.core = along (HoldersGo a) (word_holds a instances exist m b) q w.walk in
-    let kept : (i : ℕ) → is_some (get s.core.instances i) ≡ true → is_some (get t.core.instances i) ≡ true =
-    λ i e. g.kept i (of_base (λ c. is_some (get c.instances i) ≡ true) s.turn s.core e) in
+    let a : Scene = plain_scene x s l w.next in
+    let q = a.base.queues in
+    let b : Housed instances a.base = record { there = h.there; homes = h.homes } in
+    let first : HoldersGo a s.core = record { shut = λ i other e. e; kept = λ i e. e; homes = h.homes } in
+    let walk : Walk a s.core t.core = plain x s l w.next (λ c. Walk c s.core t.core) w.walk in
+    let ends : LastWords a t.core = plain x s l w.next (λ c. LastWords c t.core) w.ends in
+    let g : HoldersGo a t.core = along (HoldersGo a) (word_holds a instances exist m b) first walk in
     record {
-      shut = λ i other e. g.shut i (rw (returned_base s.turn s.core l) other) (rw (flag_base s.turn s.core i) e);
-      begins = λ i e. let r = w.ends.shut i (rw (begun_base s.turn s.core l) e) in
-          (rw (flag_base s.turn s.core i) at r.0, r.1 (kept i (begun_there exist.some h l i e)));
-      housed = record { there = λ i below. kept i (h.there i below); homes = g.homes };
+      shut = λ i other e. g.shut i (rw (returned_same q s.core l) other) e;
+      begins = λ i e. let r = ends.shut i (rw (begun_same q s.core l) e) in (r.0, r.1 (g.kept i (begun_there exist.some h l i e)));
+      housed = record { there = λ i below. g.kept i (h.there i below); homes = g.homes };
       main = script_stays s.main t.main w.main m;
     }
 
