@@ -6,7 +6,7 @@ use Rattle.std.specs.Prelude.{Bool, None, Option, Some, false, is_none, is_some,
 use Rattle.task_laws.specs.Settings.{CodesInCallbacks}
 use Rattle.task_machine.specs.Core.{Core, Main, State, Table}
 use Rattle.task_machine.specs.Maps.{get, size}
-use Rattle.task_machine.specs.Read.{how_far_of, instance_of, is_async_lifted, is_callback, is_direct, is_explicit, kind_of, place_of, set_at, subtask_at, join_of}
+use Rattle.task_machine.specs.Read.{how_far_of, instance_of, is_async_lifted, is_callback, is_direct, is_explicit, goal_of, kind_of, place_of, task_of, set_at, subtask_at, join_of}
 use Rattle.task_machine.specs.declared.component.Component.{Component}
 use Rattle.task_machine.specs.declared.label.Label.{Label}
 use Rattle.task_machine.specs.declared.records.Call.{Call}
@@ -157,6 +157,11 @@ DeliveredByCallback s = (n : ℕ) (t : Thread) → get s.threads n ≡ Some t �
 abbrev pub StartsAwaited : Core → Type 0
 StartsAwaited s = (k : ℕ) (c : Call) → get s.calls k ≡ Some c → c.started ≡ false → is_fresh (place_of k s) ≡ true
 
+-- under the first thread of a direct call there is another one
+abbrev pub DirectsOnTop : Core → Type 0
+DirectsOnTop s = (m : ℕ) → is_some (place_of m s) ≡ true → is_explicit m s ≡ false → is_direct (goal_of (task_of m s) s) ≡ true →
+    (n : ℕ) × (place_of n s ≡ Some (place.Under m))
+
 -- ---- Counts
 
 -- From s to t at most one thread is made, one work, one set and one group.
@@ -176,6 +181,7 @@ pub record InOrder (c : Component) (s : State) : Type 0 where
   pub codes : CodesInCallbacks c
   pub in_place : InPlace s
   pub strands : Strands s.core
+  pub directs : DirectsOnTop s.core
   pub numbered : Numbered s.core
   pub calls_there : CallsThere s.core
   pub calls_named : CallsNamed s.core

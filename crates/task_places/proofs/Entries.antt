@@ -17,10 +17,10 @@ use Rattle.task_machine.specs.declared.records.Thread.{Thread}
 use Rattle.task_machine.specs.declared.records.Why.{Why}
 use Rattle.task_machine.specs.declared.words.Mark.{Mark}
 use Rattle.task_machine.specs.declared.words.Mark.TheVariants as mark
-use Rattle.task_rules.proofs.MoveLemmas.{no_time, others, put_back, removed_gone, removed_loose, removed_placed, other_place, unwatched, watched, gone_place}
-use Rattle.task_rules.proofs.StandLemmas.{Loose, Stand, by_number, entries-append, entries-less, eq_refl, is_eq_of, none_there, not_eq, zero_one}
-use Rattle.task_rules.proofs.StopLemmas.{Untouched, fresh_apart}
-use Rattle.task_rules.specs.Places.{HasPlace, entries, is_at_high, is_at_low, is_at_switch, is_behind_of, is_for_start, is_fresh, is_there, one_if, says, switch_entries, times}
+use Rattle.task_rules.proofs.MoveLemmas.{no_time, others, put_back, removed_gone, removed_loose, removed_placed, other_place, gone_place, other_so}
+use Rattle.task_rules.proofs.StandLemmas.{Loose, Stand, by_number, entries-append, entries-less, eq_refl, is_eq_of, none_there, not_eq, zero_one, Watch, Nothing, Awaits, Covered, is_so}
+use Rattle.task_rules.proofs.StopLemmas.{Untouched, fresh_apart, so_again}
+use Rattle.task_rules.specs.Places.{HasPlace, entries, is_at_high, is_at_low, is_at_switch, is_behind_of, is_fresh, is_there, one_if, says, switch_entries, times}
 use Rattle.task_rules.specs.Takes.{popped, rest_of}
 
 -- ---- At most one entry of a thread stands
@@ -120,14 +120,14 @@ module _ {m : ℕ} {s t : Core} (w : Cleared m s t) where
       none_of false e = e
 
   -- beside a busy thread
-  cleared_stand : {P : ℕ → Bool} (n : ℕ) (q : Option Place) (p : Place) → (m == n) ≡ false → place_of m s ≡ Some p → ((f : ℕ) → says (is_behind_of f) (Some p) ≡ 0) → Stand P n q [] s → Stand (others P m) n q (m ∷ []) t
+  cleared_stand : {P : ℕ → Watch} (n : ℕ) (q : Option Place) (p : Place) → (m == n) ≡ false → place_of m s ≡ Some p → ((f : ℕ) → says (is_behind_of f) (Some p) ≡ 0) → Stand P n q [] s → Stand (others P m) n q (m ∷ []) t
   cleared_stand {P = P} n q p apart at free st = record {
     here = w.places n ∙ st.here;
     once = λ k. by_number k m (times k (n ∷ m ∷ []) ≤ 1) (λ e. one_m k (ap (λ (j : ℕ). one_if (j == n)) e ∙ ap one_if apart)) (λ e. one_n k (ap one_if e));
     loose = λ k h. by_number k m (Loose k t) (λ e. subst (λ (j : ℕ). Loose j t) (sym e) (cleared_loose (st.placed m (no_time m n apart)) (λ f. ap (says (is_behind_of f)) at ∙ free f))) (λ e. cleared_still k (st.loose k (less_m k (ap one_if e) h)));
     there = λ k h. by_number k m ((r : Place) × (place_of k t ≡ Some r)) (λ e. (p, ap (λ (j : ℕ). place_of j t) e ∙ (w.places m ∙ at))) (λ e. zero_one (less_none k (ap one_if e)) h);
     placed = λ k h. cleared_placed k (not_m (k == m) (none_m k h)) (st.placed k (none_n k h));
-    fresh = λ k h. (by_number k m (times k (m ∷ []) ≡ 0) (λ e. absurd (subst T (sym h ∙ (ap (others P m) e ∙ unwatched P m)) tt)) (λ e. less_none k (ap one_if e)), ap is_fresh (w.places k) ∙ (st.fresh k (watched P m k h)).1);
+    kept = λ k h. let o = other_so P m k s h (λ e g. (st.kept k g).1) in (less_none k (ap one_if o.0), ap (is_so (others P m k)) (w.places k) ∙ o.1);
   }
     where
       at_most : (b : Bool) → one_if b ≤ 1
@@ -304,12 +304,12 @@ promoted_is : (m : ℕ) (s : Core) → promoted m s ≡ put_switch m (why_of m s
 unfolding promoted put_switch set_switch set_place on_thread
 promoted_is m s = refl
 
-pub promoted_stand : {P : ℕ → Bool} (n : ℕ) (q : Option Place) (m : ℕ) (x : Mark) (w : Why) (s : Core) → (m == n) ≡ false → place_of m s ≡ Some (place.Ready x w) → s.queues.switch ≡ None → Stand P n q [] s → Stand P n q [] (promoted m s)
+pub promoted_stand : {P : ℕ → Watch} (n : ℕ) (q : Option Place) (m : ℕ) (x : Mark) (w : Why) (s : Core) → (m == n) ≡ false → place_of m s ≡ Some (place.Ready x w) → s.queues.switch ≡ None → Stand P n q [] s → Stand P n q [] (promoted m s)
 promoted_stand {P = P} n q m x w s apart at none st =
     let u = set_switch None (unqueued m s) in
     let c : Cleared m s u = subst (λ (o : Option ℕ). Cleared m s (set_switch o (unqueued m s))) (ap (less_switch m) none) (unqueued_cleared m s (st.placed m (no_time m n apart))) in
     subst (λ (t : Core). Stand P n q [] t) (sym (promoted_is m s)) (put_back n q mark.Switch m (why_of m s) u (ap (λ (o : Option Place). is_some o) (c.places m ∙ at))
-    (λ h. ap (λ (o : Option Place). is_for_start (option_map_or ready_why o why.Resumption)) at ∙ (ap is_fresh (sym at) ∙ (st.fresh m h).1)) (cleared_stand c n q (place.Ready x w) apart at (λ f. refl) st))
+    (λ h. ap (λ (o : Option Place). is_so (P m) (Some (place.Ready mark.Switch (option_map_or ready_why o why.Resumption)))) at ∙ (so_again (P m) mark.Switch x w ∙ (ap (is_so (P m)) (sym at) ∙ (st.kept m h).1))) (cleared_stand c n q (place.Ready x w) apart at (λ f. refl) st))
 
 -- ---- A start is withdrawn
 
@@ -319,14 +319,22 @@ flipped n m e = by_number n m ((n == m) ≡ false) (λ g. absurd (not_eq m n e (
 pub removed_fresh : (k m : ℕ) (s : Core) → is_fresh (place_of k s) ≡ true → is_fresh (place_of k (remove_thread m s)) ≡ true
 removed_fresh k m s h = by_number k m (is_fresh (place_of k (remove_thread m s)) ≡ true) (λ e. ap (λ (j : ℕ). is_fresh (place_of j (remove_thread m s))) e ∙ ap is_fresh (gone_place m s)) (λ e. ap is_fresh (other_place k m s e) ∙ h)
 
-pub withdrawn_stand : {P : ℕ → Bool} (n : ℕ) (q : Option Place) (m : ℕ) (s : Core) → (m == n) ≡ false → is_fresh (place_of m s) ≡ true → Stand P n q [] s → Stand P n q [] (remove_thread m (set_switch (less_switch m s.queues.switch) (unqueued m s)))
+-- who waits for its start may go
+so_gone : (v : Watch) (o : Option Place) → is_fresh o ≡ true → is_so v o ≡ true → is_so v None ≡ true
+so_gone Nothing o f h = refl
+so_gone Awaits o f h = refl
+so_gone (Covered m) (Some (place.Under c)) f h = absurd (subst T (sym f) tt)
+so_gone (Covered m) None f h = h
+so_gone (Covered m) (Some _) f h = h
+
+pub withdrawn_stand : {P : ℕ → Watch} (n : ℕ) (q : Option Place) (m : ℕ) (s : Core) → (m == n) ≡ false → is_fresh (place_of m s) ≡ true → Stand P n q [] s → Stand P n q [] (remove_thread m (set_switch (less_switch m s.queues.switch) (unqueued m s)))
 withdrawn_stand {P = P} n q m s apart fresh st = record {
   here = other_place n m u (flipped n m apart) ∙ (c.places n ∙ st.here);
   once = st.once;
   loose = λ k h. removed_loose k m u (cleared_still c k (st.loose k h));
   there = λ k h. zero_one refl h;
   placed = λ k h. by_number k m (HasPlace k (remove_thread m u)) (λ e. subst (λ (j : ℕ). HasPlace j (remove_thread m u)) (sym e) (removed_gone m u (cleared_loose c (st.placed m (no_time m n apart)) (fresh_apart (place_of m s) fresh)))) (λ e. removed_placed k m u e (cleared_placed c k e (st.placed k h)));
-  fresh = λ k h. (refl, removed_fresh k m u (ap is_fresh (c.places k) ∙ (st.fresh k h).1));
+  kept = λ k h. (refl, by_number k m (is_so (P k) (place_of k (remove_thread m u)) ≡ true) (λ e. ap (λ (j : ℕ). is_so (P k) (place_of j (remove_thread m u))) e ∙ (ap (is_so (P k)) (gone_place m u) ∙ so_gone (P k) (place_of m s) fresh (ap (λ (j : ℕ). is_so (P k) (place_of j s)) (sym e) ∙ (st.kept k h).1))) (λ e. ap (is_so (P k)) (other_place k m u e ∙ c.places k) ∙ (st.kept k h).1));
 }
   where
     u : Core
@@ -363,8 +371,13 @@ too_many n h = absurd (no h)
     no : n + 1 ≤ n → ⊥
     no g = omega (arith, g)
 
+so_new : (v : Watch) → is_so v None ≡ true → is_so v (Some place.New) ≡ true
+so_new Nothing h = refl
+so_new Awaits h = refl
+so_new (Covered m) h = h
+
 -- it has the next number, which was no thread's, and behind which nobody was
-pub added_stand : {P : ℕ → Bool} (n : ℕ) (q : Option Place) (t : Thread) (s : Core) → (n == s.made.threads + 1) ≡ false → t.place ≡ place.New → Stand P n q [] s → Stand P n q [] (add_thread t s)
+pub added_stand : {P : ℕ → Watch} (n : ℕ) (q : Option Place) (t : Thread) (s : Core) → (n == s.made.threads + 1) ≡ false → t.place ≡ place.New → Stand P n q [] s → Stand P n q [] (add_thread t s)
 unfolding add_thread
 added_stand {P = P} n q t s apart new st = record {
   here = added_other t s n apart ∙ st.here;
@@ -372,7 +385,7 @@ added_stand {P = P} n q t s apart new st = record {
   loose = λ k h. let l = st.loose k h in record { number = λ e. le_trans_one (loose_number k h e); switch = l.switch; high = l.high; low = l.low; callers = λ f. added_callers t s k f ∙ none_of (f == s.made.threads + 1) (l.callers f) };
   there = λ k h. zero_one refl h;
   placed = λ k h. by_number k (s.made.threads + 1) (HasPlace k u) (λ e. subst (λ (j : ℕ). HasPlace j u) (sym e) own) (λ e. other k e (st.placed k h));
-  fresh = λ k h. (refl, by_number k (s.made.threads + 1) (is_fresh (place_of k u) ≡ true) (λ e. ap (λ (j : ℕ). is_fresh (place_of j u)) e ∙ (ap is_fresh (added_here t s) ∙ ap (λ (p : Place). is_fresh (Some p)) new)) (λ e. ap is_fresh (added_other t s k e) ∙ (st.fresh k h).1));
+  kept = λ k h. (refl, by_number k (s.made.threads + 1) (is_so (P k) (place_of k u) ≡ true) (λ e. ap (λ (j : ℕ). is_so (P k) (place_of j u)) e ∙ (ap (is_so (P k)) here ∙ so_new (P k) (ap (is_so (P k)) (sym gone) ∙ (ap (λ (j : ℕ). is_so (P k) (place_of j s)) (sym e) ∙ (st.kept k h).1)))) (λ e. ap (is_so (P k)) (added_other t s k e) ∙ (st.kept k h).1));
 }
   where
     u : Core

@@ -1,4 +1,5 @@
 pub mod Entries
 pub mod PlaceLaw
 pub mod PlaceSteps
+pub mod Directs
 pub mod OrderLemmas

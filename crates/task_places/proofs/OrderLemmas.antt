@@ -1,4 +1,5 @@
 -- A state in order: each opening state is, and each step leads from one to one.
+use Rattle.task_places.proofs.Directs.{DirectsRun, directs_on_top, directs_word}
 use Rattle.task_machine.specs.declared.records.Subtask.TheVariants as subtask
 use Rattle.task_laws.proofs.Joins.{joins_word, opening_joins}
 use Rattle.task_laws.proofs.Subtasks.{Traced, opening_named, traced_word}
@@ -12,16 +13,16 @@ use Rattle.task_laws.proofs.StrandLemmas.{Layered, layered_word}
 use Rattle.task_laws.proofs.SceneLemmas.{runner_there}
 use Rattle.task_laws.proofs.HousedLemmas.{RunnerHoused, housed_word}
 use Rattle.task_laws.proofs.CountLemmas.{few_word}
-use Rattle.std.proofs.Common.{arith, inl}
+use Rattle.std.proofs.Common.{arith, inl, refl}
 use Rattle.std.specs.Option.{option_map_or}
 use Rattle.std.specs.Prelude.{List, None, Option, Some, [], false, is_some, option_and_then, option_map, true, ℕ, ◌∷◌, ◌≡◌, ◌≤◌}
 use Rattle.task_laws.proofs.SetHandles.{IsTidy, opening_tidy, tidy_word}
 use Rattle.task_laws.proofs.CallsLaw.{CallsHold}
 use Rattle.task_laws.proofs.CallsSteps.{base_out, of_base, opening_holds, step_goes}
-use Rattle.task_laws.specs.Order.{CallsNamed, InOrder, InPlace, Numbered, OpeningInOrder, SetsNamed, StartsAwaited, StepInOrder, WasCall, CallsThere, MakesFew, Strands, WaitsAtHome, set_of_op, set_of_place, StepsMakeFew, JoinsNamed}
+use Rattle.task_laws.specs.Order.{CallsNamed, InOrder, InPlace, Numbered, OpeningInOrder, SetsNamed, StartsAwaited, StepInOrder, WasCall, CallsThere, MakesFew, Strands, WaitsAtHome, set_of_op, set_of_place, StepsMakeFew, JoinsNamed, DirectsOnTop}
 use Rattle.task_machine.specs.Core.{Core, Main, State, fresh}
 use Rattle.task_machine.specs.Maps.{empty, get, get-empty}
-use Rattle.task_machine.specs.Read.{place_of, instance_of, call_instance, task_of, was_started}
+use Rattle.task_machine.specs.Read.{place_of, instance_of, call_instance, task_of, was_started, goal_of, is_direct}
 use Rattle.task_machine.specs.declared.label.Label.{Label}
 use Rattle.task_machine.specs.declared.records.Call.{Call}
 use Rattle.task_machine.specs.declared.records.HowFar.TheVariants as how_far
@@ -161,6 +162,12 @@ module _ (x : Setting) (s : State) (l : Label) (t : State) (h : InOrder x.compon
       let fresh = come.fresh k (was_awaited s.core t.core h.in_place.placed steady h.starts k c at e) in
       grind (arith, h.numbered.threads k, steady.calls k)
 
+  pub directs_kept : Steady s.core t.core → Numbered t.core → DirectsOnTop t.core
+  unfolding a
+  directs_kept steady after =
+      let goes = base_out (λ b. Arrives (record a { base = b }) t.core) s.turn s.core arrives in
+      directs_on_top a s.core t.core steady h.numbered after goes (λ k. refl) (λ k. refl) h.directs (along (DirectsRun a) (directs_word a) (λ k d. inl d) walk)
+
   -- handles of sets, and the joins to them
   pub joined_kept : IsTidy t.core × JoinsNamed t.core
   joined_kept = along (λ (c : Core). IsTidy c × JoinsNamed c)
@@ -206,6 +213,7 @@ step_in_order x s l t h step =
       codes = h.codes;
       in_place = in_place x s l t w (arrives x s l t h w);
       strands = strands_kept x s l t h w;
+      directs = directs_kept x s l t h w (steady x s l t step) q.numbered;
       numbered = q.numbered;
       calls_there = calls_kept x s l t h w;
       calls_named = named_kept x s l t h w;
@@ -246,6 +254,10 @@ opening_strands instances handle_limit capacity = record {
   alone = λ n k m e f. let o = get-empty {X = Thread} n in absurd (cc);
 }
 
+opening_directs : (instances handle_limit capacity : ℕ) → DirectsOnTop (fresh instances handle_limit capacity)
+unfolding fresh
+opening_directs instances handle_limit capacity m there implicit direct = let o = get-empty {X = Thread} m in absurd (cc)
+
 opening_calls : (instances handle_limit capacity : ℕ) → CallsThere (fresh instances handle_limit capacity)
 unfolding fresh
 opening_calls instances handle_limit capacity n k e = let o = get-empty {X = Thread} n in absurd (cc)
@@ -265,6 +277,7 @@ opening_in_order c codes instances handle_limit capacity main =
       codes = codes;
       in_place = opening_in_place instances handle_limit capacity main;
       strands = opening_strands instances handle_limit capacity;
+      directs = opening_directs instances handle_limit capacity;
       numbered = q.numbered;
       calls_there = opening_calls instances handle_limit capacity;
       waits = opening_waits instances handle_limit capacity;

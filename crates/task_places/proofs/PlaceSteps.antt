@@ -16,9 +16,9 @@ use Rattle.task_machine.specs.declared.records.Turn.{Turn}
 use Rattle.task_machine.specs.declared.records.Turn.TheVariants as turn
 use Rattle.task_machine.specs.declared.words.Mark.{Mark}
 use Rattle.task_places.proofs.Entries.{Cleared, First, cleared_loose, cleared_placed, next_first, popped_cleared}
-use Rattle.task_places.proofs.PlaceLaw.{Arrives, Follows, Frame, entry_ready, is_run, no_way, trip_arrives, waits, ReadyAt}
+use Rattle.task_places.proofs.PlaceLaw.{Arrives, Follows, Frame, entry_ready, is_run, no_way, trip_arrives, waits, ReadyAt, watch, so_self}
 use Rattle.task_rules.proofs.MoveLemmas.{All, is_busy, is_idle, no_time, stand_of}
-use Rattle.task_rules.proofs.StandLemmas.{Loose, Stand, by_number, zero_one}
+use Rattle.task_rules.proofs.StandLemmas.{Loose, Stand, by_number, zero_one, is_so}
 use Rattle.task_rules.specs.Allowed.{HasSubtask, IsRunner}
 use Rattle.task_rules.specs.Chains.{LastWords, Trip, Walked, is_take, start_of}
 use Rattle.task_rules.specs.Places.{HasPlace, is_fresh, one_if, says, is_behind_of}
@@ -55,14 +55,13 @@ nobody_frame a b none idle home made all = record {
     runs = λ m e. absurd (idle m e);
     apart = by_number (b.made.threads + 2) (a.base.made.threads + 1) ((b.made.threads + 2 == a.base.made.threads + 1) ≡ false) (λ e. absurd (differ made e)) (λ e. e);
     withdraws = λ m k is has unstarted. no_runner a m none is;
-    start = stand_of {P = waits a} (b.made.threads + 2) None b gone refl (λ k w. ap is_fresh (home k) ∙ w) all;
+    start = stand_of {P = watch a} (b.made.threads + 2) None b gone refl (λ k w. ap (is_so (watch a k)) (home k) ∙ so_self (place_of k a.base)) all;
   };
   home = home;
   one = λ m is. no_runner a m none is;
   there = λ m is. no_runner a m none is;
   running = λ m e. absurd (idle m e);
   rests = λ t w i. i (ap is_idle (sym (home (b.made.threads + 2)) ∙ gone));
-  covered = λ m is runs under. absurd (idle _ runs);
 }
   where
     differ : {x y : ℕ} → x ≡ y → x + 2 ≡ y + 1 → ⊥
@@ -82,7 +81,7 @@ follows_at a n p at busy idle unfresh may all = record {
   runs = λ m e. (idle, unfresh);
   apart = by_number n (a.base.made.threads + 1) ((n == a.base.made.threads + 1) ≡ false) (λ e. absurd (above e ((all n).number (ap (λ (o : Option Place). is_some o) at)))) (λ e. e);
   withdraws = may;
-  start = stand_of {P = waits a} n (Some p) a.base at idle (λ k w. w) all;
+  start = stand_of {P = watch a} n (Some p) a.base at idle (λ k w. so_self (place_of k a.base)) all;
 }
   where
     above : {x y : ℕ} → x ≡ y + 1 → x ≤ y → ⊥
@@ -93,10 +92,9 @@ running_frame a n is runs at may all = record {
   follows = follows_at a n place.Running at refl refl refl may all;
   home = λ k. refl;
   one = λ m e. same m e;
-  there = λ m e. (place.Running, refl);
+  there = λ m e. (place.Running, (refl, refl));
   running = λ m e. (ap (λ (u : Turn). number_in u) (sym e ∙ runs), refl);
   rests = λ t w i. i (ap is_idle at);
-  covered = λ m e r under. follows_at a m (place.Under n) under refl refl refl may all;
 }
   where
     same : (m : ℕ) → IsRunner a m → m ≡ n
@@ -117,21 +115,20 @@ taken_frame a x n s is idle take base first may all = (
       runs = λ m e. absurd (idle m e);
       apart = by_number n (a.base.made.threads + 1) ((n == a.base.made.threads + 1) ≡ false) (λ e. absurd (above (e ∙ ap (λ (k : ℕ). k + 1) (ap (λ (c : Core). c.made.threads) base ∙ c.made)) ((all n).number (ap (λ (o : Option Place). is_some o) r.1.1)))) (λ e. e);
       withdraws = may;
-      start = subst (λ (b : Core). Stand (waits a) n (Some (place.Ready r.0 r.1.0)) [] b) (sym base) (record {
+      start = subst (λ (b : Core). Stand (watch a) n (Some (place.Ready r.0 r.1.0)) [] b) (sym base) (record {
         here = c.places n ∙ r.1.1;
         once = λ k. at_most (k == n);
         loose = λ k h. by_number k n (Loose k (popped x s)) (λ e. subst (λ (j : ℕ). Loose j (popped x s)) (sym e) (cleared_loose c (all n) (λ f. ap (says (is_behind_of f)) r.1.1))) (λ e. zero_one (no_time k n e) h);
         there = λ k h. zero_one refl h;
         placed = λ k h. cleared_placed c k (apart_of (k == n) h) (all k);
-        fresh = λ k w. (refl, ap (λ (b : Core). is_fresh (place_of k b)) (sym base) ∙ w);
+        kept = λ k w. (refl, ap (λ (b : Core). is_so (watch a k) (place_of k b)) (sym base) ∙ so_self (place_of k a.base));
       });
     };
     home = λ k. refl;
     one = λ m e. ap (λ (o : Option ℕ). unwrap_or o m) (sym e ∙ is);
-    there = λ m e. (place.Ready r.0 r.1.0, refl);
+    there = λ m e. (place.Ready r.0 r.1.0, (refl, refl));
     running = λ m e. absurd (idle m e);
     rests = λ t w i. w.laid n is take;
-    covered = λ m e runs under. absurd (idle n runs);
   },
 )
   where

@@ -59,7 +59,7 @@ module _ {a : Scene} {b : Core} where
   pub stay_walk : {t : Core} → Stay a b t → Walk a b t
   stay_walk c = weaken (stays_allowed a) c
 
-  gone_walk : {s t : Core} (n : ℕ) → Stay a b s → MayGo a n → Settles (after_word (RemoveThread n) s) t → Walk a b t
+  gone_walk : {s t : Core} (n : ℕ) → Stay a b s → MayGo a n s → Settles (after_word (RemoveThread n) s) t → Walk a b t
   gone_walk {s = s} n c go d = join (Then s (RemoveThread n) (stay_walk c) go) (weaken (λ w u ok. stays_allowed a w u (settle_stays a w u ok)) d)
 
   pub trip_walk : {t : Core} → Trip a b t → Walk a b t

@@ -17,7 +17,7 @@ use Rattle.task_machine.specs.Maps.{get, get-remove}
 use Rattle.task_machine.specs.Moves.{held_why_of, is_callback_waiter, may_wake, put_high, put_low, put_switch, released, released_one, stopped, wake, waken_by, displaced, why_of}
 use Rattle.task_machine.specs.Read.{callers_of, held_why, is_waiting_on, place_of}
 use Rattle.task_machine.specs.Write.{remove_thread, set_place, push_high, push_low, push_high_first, set_switch}
-use Rattle.task_rules.proofs.StandLemmas.{Loose, Stand, adds_all, by_number, eq_refl, free_loose, is_eq_of, loose_free, loose_gone, loosened, not_eq, set_place_adds, none_there, zero_one, set_place_is, set_place_there}
+use Rattle.task_rules.proofs.StandLemmas.{Loose, Stand, adds_all, by_number, eq_refl, free_loose, is_eq_of, loose_free, loose_gone, loosened, not_eq, set_place_adds, none_there, zero_one, set_place_is, set_place_there, Watch, Nothing, is_watched, is_so}
 use Rattle.task_rules.proofs.StopLemmas.{put_high_stand, put_low_stand, put_switch_stand, stopped_stand}
 use Rattle.task_rules.specs.Laws.{ReleaseKeepsPlaces, RemovalKeepsPlaces, StopKeepsPlaces, WakeKeepsPlaces, is_free}
 use Rattle.task_rules.specs.Places.{HasPlace, is_at_high, is_at_low, is_at_switch, is_behind_of, is_there, one_if, says, times, is_fresh, is_for_start}
@@ -124,7 +124,7 @@ put_place mark.Switch m w s h = set_there m (place.Ready mark.Switch w) (displac
 put_place mark.High m w s h = set_there m (place.Ready mark.High w) s h
 put_place mark.Low m w s h = set_there m (place.Ready mark.Low w) s h
 
-module _ {P : ℕ → Bool} (n : ℕ) (q : Option Place) where
+module _ {P : ℕ → Watch} (n : ℕ) (q : Option Place) where
   apart : (m : ℕ) (p : Place) (s : Core) → is_busy q ≡ true → place_of m s ≡ Some p → is_parked p ≡ true → Stand P n q [] s → times m (n ∷ []) ≡ 0
   apart m p s busy is parked st = by_number m n (times m (n ∷ []) ≡ 0) (λ e. absurd (not_both p parked (subst (λ (o : Option Place). is_busy o ≡ true) (sym st.here ∙ (ap (λ (k : ℕ). place_of k s) (sym e) ∙ is)) busy))) (λ e. ap (λ b. one_if b + 0) e)
 
@@ -133,27 +133,25 @@ module _ {P : ℕ → Bool} (n : ℕ) (q : Option Place) where
   put_loose mark.High m w s st = put_high_stand n q m [] w s refl st
   put_loose mark.Low m w s st = put_low_stand n q m [] w s refl st
 
--- all in P but m
-abbrev pub others : (ℕ → Bool) → ℕ → ℕ → Bool
-others P m k = P k && not (k == m)
+-- of m nothing is watched
+abbrev pub others : (ℕ → Watch) → ℕ → ℕ → Watch
+others P m k = if k == m then Nothing else P k
 
-pub unwatched : (P : ℕ → Bool) (m : ℕ) → others P m m ≡ false
-unwatched P m = ap (λ b. P m && not b) (eq_refl m) ∙ and_false (P m)
-  where
-    and_false : (a : Bool) → (a && false) ≡ false
-    and_false true = refl
-    and_false false = refl
+pub unwatched : (P : ℕ → Watch) (m : ℕ) → is_watched (others P m m) ≡ false
+unwatched P m = ap (λ b. is_watched (cond b Nothing (P m))) (eq_refl m)
 
-pub watched : (P : ℕ → Bool) (m k : ℕ) → others P m k ≡ true → P k ≡ true
-watched P m k h = first_of (P k) (not (k == m)) h
-  where
-    first_of : (a b : Bool) → (a && b) ≡ true → a ≡ true
-    first_of true b h = refl
-    first_of false b h = absurd (subst T (sym h) tt)
+pub other_watch : (P : ℕ → Watch) (m k : ℕ) → (k == m) ≡ false → others P m k ≡ P k
+other_watch P m k e = ap (λ b. cond b Nothing (P k)) e
 
--- a loose thread is put; one that waited for its start still does
-pub put_back : {P : ℕ → Bool} (n : ℕ) (q : Option Place) (x : Mark) (m : ℕ) (w : Why) (s : Core) → is_there m s ≡ true → (P m ≡ true → is_for_start w ≡ true) → Stand (others P m) n q (m ∷ []) s → Stand P n q [] (put_at x m w s)
-put_back {P = P} n q x m w s there starts st =
+-- who is watched beside m is another one, of which the same is watched
+pub other_so : (P : ℕ → Watch) (m k : ℕ) (s : Core) → is_watched (others P m k) ≡ true → ((k == m) ≡ false → is_watched (P k) ≡ true → is_so (P k) (place_of k s) ≡ true) → ((k == m) ≡ false) × (is_so (others P m k) (place_of k s) ≡ true)
+other_so P m k s h so =
+    by_number k m (((k == m) ≡ false) × (is_so (others P m k) (place_of k s) ≡ true)) (λ e. absurd (subst T (sym h ∙ (ap (λ (j : ℕ). is_watched (others P m j)) e ∙ unwatched P m)) tt))
+    (λ e. let g = other_watch P m k e in (e, ap (λ v. is_so v (place_of k s)) g ∙ so e (ap is_watched (sym g) ∙ h)))
+
+-- a loose thread is put
+pub put_back : {P : ℕ → Watch} (n : ℕ) (q : Option Place) (x : Mark) (m : ℕ) (w : Why) (s : Core) → is_there m s ≡ true → (is_watched (P m) ≡ true → is_so (P m) (Some (place.Ready x w)) ≡ true) → Stand (others P m) n q (m ∷ []) s → Stand P n q [] (put_at x m w s)
+put_back {P = P} n q x m w s there fits st =
     let u : Stand (others P m) n q [] (put_at x m w s) = put_loose n q x m w s st in
     record {
       here = u.here;
@@ -161,16 +159,20 @@ put_back {P = P} n q x m w s there starts st =
       loose = u.loose;
       there = u.there;
       placed = u.placed;
-      fresh = λ k h. (refl, by_number k m (is_fresh (place_of k (put_at x m w s)) ≡ true) (λ e. ap (λ (j : ℕ). is_fresh (place_of j (put_at x m w s))) e ∙ (ap is_fresh (put_place x m w s there) ∙ starts (ap P (sym e) ∙ h))) (λ e. (u.fresh k (ap₂ (λ (b c : Bool). b && not c) h e)).1));
+      kept = λ k h. (
+        refl,
+        by_number k m (is_so (P k) (place_of k (put_at x m w s)) ≡ true) (λ e. subst (λ (j : ℕ). is_so (P j) (place_of j (put_at x m w s)) ≡ true) (sym e) (ap (is_so (P m)) (put_place x m w s there) ∙ fits (ap (λ (j : ℕ). is_watched (P j)) (sym e) ∙ h)))
+            (λ e. let g = other_watch P m k e in ap (λ v. is_so v (place_of k (put_at x m w s))) (sym g) ∙ (u.kept k (ap is_watched g ∙ h)).1),
+      );
     }
 
 -- a parked thread is put
-pub put_stand : {P : ℕ → Bool} (n : ℕ) (q : Option Place) → is_busy q ≡ true → (x : Mark) (m : ℕ) (w : Why) (p : Place) (s : Core) → place_of m s ≡ Some p → is_parked p ≡ true → (P m ≡ true → is_for_start w ≡ true) → Stand P n q [] s → Stand P n q [] (put_at x m w s)
-put_stand {P = P} n q busy x m w p s is parked starts st =
-    put_back n q x m w s (ap (λ (o : Option Place). is_some o) is) starts (loosened n q m p [] s (unwatched P m) is (parked_free p parked) (apart n q m p s busy is parked before) before)
+pub put_stand : {P : ℕ → Watch} (n : ℕ) (q : Option Place) → is_busy q ≡ true → (x : Mark) (m : ℕ) (w : Why) (p : Place) (s : Core) → place_of m s ≡ Some p → is_parked p ≡ true → (is_watched (P m) ≡ true → is_so (P m) (Some (place.Ready x w)) ≡ true) → Stand P n q [] s → Stand P n q [] (put_at x m w s)
+put_stand {P = P} n q busy x m w p s is parked fits st =
+    put_back n q x m w s (ap (λ (o : Option Place). is_some o) is) fits (loosened n q m p [] s (unwatched P m) is (parked_free p parked) (apart n q m p s busy is parked before) before)
   where
     before : Stand (others P m) n q [] s
-    before = record { here = st.here; once = st.once; loose = st.loose; there = st.there; placed = st.placed; fresh = λ k h. st.fresh k (watched P m k h) }
+    before = record { here = st.here; once = st.once; loose = st.loose; there = st.there; placed = st.placed; kept = λ k h. (refl, (other_so P m k s h (λ e w. (st.kept k w).1)).1) }
 
 -- ---- The thread itself
 
@@ -196,24 +198,24 @@ pub no_time : (k n : ℕ) → (k == n) ≡ false → times k (n ∷ []) ≡ 0
 no_time k n e = ap (λ b. one_if b + 0) e
 
 -- where each thread has its place, each that is at no entry may be taken as n
-pub stand_of : {P : ℕ → Bool} (n : ℕ) (q : Option Place) (s : Core) → place_of n s ≡ q → is_idle q ≡ true → ((k : ℕ) → P k ≡ true → is_fresh (place_of k s) ≡ true) → All s → Stand P n q [] s
-stand_of n q s is idle waits all = record {
+pub stand_of : {P : ℕ → Watch} (n : ℕ) (q : Option Place) (s : Core) → place_of n s ≡ q → is_idle q ≡ true → ((k : ℕ) → is_watched (P k) ≡ true → is_so (P k) (place_of k s) ≡ true) → All s → Stand P n q [] s
+stand_of n q s is idle so all = record {
   here = is;
   once = λ k. at_most_one (k == n);
   loose = λ k h. by_number k n (Loose k s) (λ e. subst (λ (j : ℕ). Loose j s) (sym e) (idle_loose n q s is idle (all n))) (λ e. zero_one (no_time k n e) h);
   there = λ k h. zero_one refl h;
   placed = λ k h. all k;
-  fresh = λ k h. (refl, waits k h);
+  kept = λ k h. (refl, so k h);
 }
   where
     at_most_one : (b : Bool) → one_if b + 0 ≤ 1
     at_most_one true = omega arith
     at_most_one false = omega arith
 
-pub all_of : {P : ℕ → Bool} (n : ℕ) (q : Option Place) (s : Core) → is_idle q ≡ true → Stand P n q [] s → All s
+pub all_of : {P : ℕ → Watch} (n : ℕ) (q : Option Place) (s : Core) → is_idle q ≡ true → Stand P n q [] s → All s
 all_of n q s idle st k = by_number k n (HasPlace k s) (λ e. subst (λ (j : ℕ). HasPlace j s) (sym e) (loose_idle n q s st.here idle (st.loose n (one_time n)))) (λ e. st.placed k (no_time k n e))
 
-pub removed_all : {P : ℕ → Bool} (n : ℕ) (q : Option Place) (s : Core) → Stand P n q [] s → All (remove_thread n s)
+pub removed_all : {P : ℕ → Watch} (n : ℕ) (q : Option Place) (s : Core) → Stand P n q [] s → All (remove_thread n s)
 removed_all n q s st k =
     by_number k n (HasPlace k (remove_thread n s))
     (λ e. subst (λ (j : ℕ). HasPlace j (remove_thread n s)) (sym e) (removed_gone n s (st.loose n (one_time n))))
@@ -221,8 +223,8 @@ removed_all n q s st k =
 
 -- ---- The moves, where all threads have their places
 
-abbrev nobody : ℕ → Bool
-nobody k = false
+abbrev pub nobody : ℕ → Watch
+nobody k = Nothing
 
 runs : (n : ℕ) (s : Core) → place_of n s ≡ Some place.Running → All s → Stand nobody n (Some place.Running) [] s
 runs n s is all = stand_of n (Some place.Running) s is refl (λ k h. absurd (subst T (sym h) tt)) all

@@ -1,4 +1,5 @@
 -- Threads and their entries, counted; what the words that put a thread do to them.
+use Rattle.std.specs.Option.{option_map_or}
 use Rattle.std.proofs.Common.{◌∙◌, T, ap, ap₂, arith, cond, eqb→eq, refl, subst, sym}
 use Rattle.std.specs.Prelude.{Bool, List, None, Option, Some, [], false, if◌then◌else◌, is_some, option_map, true, ℕ, ◌++◌, ◌+◌, ◌==◌, ◌||◌, ◌∷◌, ◌≡◌, ◌≢◌, ◌≤◌}
 use Rattle.task_machine.specs.declared.records.Entry.{Entry}
@@ -13,7 +14,7 @@ use Rattle.task_machine.proofs.MapLemmas.{get-change_other, get-change_same}
 use Rattle.task_machine.specs.Core.{Core}
 use Rattle.task_machine.specs.Maps.{get}
 use Rattle.task_machine.specs.Moves.{has_entry, less, newest, older, put_high, put_low}
-use Rattle.task_machine.specs.Read.{callers_of, is_entry_of, place_of}
+use Rattle.task_machine.specs.Read.{callers_of, is_entry_of, place_of, is_under}
 use Rattle.task_machine.specs.Write.{on_thread, push_high, push_low, set_place}
 use Rattle.task_rules.specs.Laws.{is_free}
 use Rattle.task_rules.specs.Places.{HasPlace, entries, is_at_high, is_at_low, is_at_switch, is_behind_of, is_there, one_if, says, switch_entries, times, is_fresh}
@@ -170,14 +171,29 @@ callers_say n f s h = only (is_there f s) (h.callers f)
 
 -- ---- A state in which n and some others are loose, and all the rest have their places
 
--- n is at q, or there is no such thread; those in P wait for their starts, or are gone
-pub record Stand (P : ℕ → Bool) (n : ℕ) (q : Option Place) (xs : List ℕ) (s : Core) : Type 0 where
+-- what is watched of a thread: nothing, that it waits for its start or is gone, or that it is under that one
+pub data Watch : Type 0 where
+  Nothing : Watch
+  Awaits : Watch
+  Covered : (over : ℕ) → Watch
+
+abbrev pub is_watched : Watch → Bool
+is_watched Nothing = false
+is_watched _ = true
+
+abbrev pub is_so : Watch → Option Place → Bool
+is_so Nothing o = true
+is_so Awaits o = is_fresh o
+is_so (Covered m) o = option_map_or (is_under m) o false
+
+-- n is at q, or there is no such thread; what is watched is so
+pub record Stand (P : ℕ → Watch) (n : ℕ) (q : Option Place) (xs : List ℕ) (s : Core) : Type 0 where
   pub here : place_of n s ≡ q
   pub once : (k : ℕ) → times k (n ∷ xs) ≤ 1
   pub loose : (k : ℕ) → times k (n ∷ xs) ≡ 1 → Loose k s
   pub there : (k : ℕ) → times k xs ≡ 1 → (p : Place) × (place_of k s ≡ Some p)
   pub placed : (k : ℕ) → times k (n ∷ xs) ≡ 0 → HasPlace k s
-  pub fresh : (k : ℕ) → P k ≡ true → (times k xs ≡ 0) × (is_fresh (place_of k s) ≡ true)
+  pub kept : (k : ℕ) → is_watched (P k) ≡ true → (times k xs ≡ 0) × (is_so (P k) (place_of k s) ≡ true)
 
 -- x where the numbers are one, else nothing
 abbrev pub gain : ℕ → ℕ → ℕ → ℕ
@@ -266,14 +282,14 @@ adds_loose k m p s t ne a l = record {
 }
 
 -- a loose thread is put at a place
-pub adds_stand : {P : ℕ → Bool} (n : ℕ) (q : Option Place) (m : ℕ) (xs : List ℕ) (p : Place) (s t : Core) → Adds m p s t → Stand P n q (m ∷ xs) s → Stand P n q xs t
-adds_stand n q m xs p s t a st = record {
+pub adds_stand : {P : ℕ → Watch} (n : ℕ) (q : Option Place) (m : ℕ) (xs : List ℕ) (p : Place) (s t : Core) → Adds m p s t → Stand P n q (m ∷ xs) s → Stand P n q xs t
+adds_stand {P = P} n q m xs p s t a st = record {
   here = a.other n n_other ∙ st.here;
   once = λ k. fewer k (st.once k);
   loose = λ k h. by_number k m (Loose k t) (λ e. absurd (not_loose k e h (st.once k))) (λ e. adds_loose k m p s t e a (st.loose k (same_times k e 1 h)));
   there = λ k h. by_number k m ((r : Place) × (place_of k t ≡ Some r)) (λ e. absurd (not_there k e h (st.once k))) (λ e. there_still k e (st.there k (same_rest k e 1 h)));
   placed = λ k h. by_number k m (HasPlace k t) (λ e. subst (λ (j : ℕ). HasPlace j t) (sym e) (adds_own m p s t a (st.loose m (own_times k e h (st.once m))))) (λ e. adds_other k m p s t e a (st.placed k (same_times k e 0 h)));
-  fresh = λ k h. let r = st.fresh k h in by_number k m ((times k xs ≡ 0) × (is_fresh (place_of k t) ≡ true)) (λ e. absurd (not_listed k e r.0)) (λ e. (fewer_none k r.0, ap is_fresh (a.other k e) ∙ r.1));
+  kept = λ k h. let r = st.kept k h in by_number k m ((times k xs ≡ 0) × (is_so (P k) (place_of k t) ≡ true)) (λ e. absurd (not_listed k e r.0)) (λ e. (fewer_none k r.0, ap (is_so (P k)) (a.other k e) ∙ r.1));
 }
   where
     one_of : (k : ℕ) → k ≡ m → one_if (k == m) ≡ 1
@@ -316,7 +332,7 @@ adds_stand n q m xs p s t a st = record {
     own_times k e h g = let x = one_of m refl in let y = ap (λ (j : ℕ). times j (n ∷ xs)) (sym e) ∙ h in omega (arith, x, y, g)
 
 -- the thread n itself is put at a place, and each thread has its place
-pub adds_all : {P : ℕ → Bool} (n : ℕ) (q : Option Place) (p : Place) (s t : Core) → Adds n p s t → Stand P n q [] s → (k : ℕ) → HasPlace k t
+pub adds_all : {P : ℕ → Watch} (n : ℕ) (q : Option Place) (p : Place) (s t : Core) → Adds n p s t → Stand P n q [] s → (k : ℕ) → HasPlace k t
 adds_all n q p s t a st k =
     by_number k n (HasPlace k t)
     (λ e. subst (λ (j : ℕ). HasPlace j t) (sym e) (adds_own n p s t a (st.loose n (own_times (eq_refl n)))))
@@ -329,14 +345,14 @@ adds_all n q p s t a st k =
     no_times e = ap (λ b. one_if b + 0) e
 
 -- a thread with a free place may be taken up
-pub loosened : {P : ℕ → Bool} (n : ℕ) (q : Option Place) (m : ℕ) (r : Place) (xs : List ℕ) (s : Core) → P m ≡ false → place_of m s ≡ Some r → is_free r ≡ true → times m (n ∷ xs) ≡ 0 → Stand P n q xs s → Stand P n q (m ∷ xs) s
+pub loosened : {P : ℕ → Watch} (n : ℕ) (q : Option Place) (m : ℕ) (r : Place) (xs : List ℕ) (s : Core) → is_watched (P m) ≡ false → place_of m s ≡ Some r → is_free r ≡ true → times m (n ∷ xs) ≡ 0 → Stand P n q xs s → Stand P n q (m ∷ xs) s
 loosened {P = P} n q m r xs s unwatched is free none st = record {
   here = st.here;
   once = λ k. by_number k m (times k (n ∷ m ∷ xs) ≤ 1) (λ e. one_more k e none) (λ e. no_other k e (st.once k));
   loose = λ k h. by_number k m (Loose k s) (λ e. subst (λ (j : ℕ). Loose j s) (sym e) (free_loose m r s is free (st.placed m none))) (λ e. st.loose k (less_one k e 1 h));
   there = λ k h. by_number k m ((p : Place) × (place_of k s ≡ Some p)) (λ e. (r, (ap (λ (j : ℕ). place_of j s) e ∙ is))) (λ e. st.there k (less_rest k e h));
   placed = λ k h. st.placed k (none_left k h);
-  fresh = λ k h. by_number k m ((times k (m ∷ xs) ≡ 0) × (is_fresh (place_of k s) ≡ true)) (λ e. absurd (subst T (sym h ∙ (ap P e ∙ unwatched)) tt)) (λ e. (one_other k e (st.fresh k h).0, (st.fresh k h).1));
+  kept = λ k h. by_number k m ((times k (m ∷ xs) ≡ 0) × (is_so (P k) (place_of k s) ≡ true)) (λ e. absurd (subst T (sym h ∙ (ap (λ (j : ℕ). is_watched (P j)) e ∙ unwatched)) tt)) (λ e. (one_other k e (st.kept k h).0, (st.kept k h).1));
 }
   where
     one_other : (k : ℕ) → (k == m) ≡ false → times k xs ≡ 0 → times k (m ∷ xs) ≡ 0

@@ -1,4 +1,5 @@
 -- What the moves that put threads, and a stop, do to places and entries.
+use Rattle.task_machine.specs.declared.words.Mark.{Mark}
 use Rattle.std.proofs.Common.{◌∙◌, T, ap, ap₂, arith, cond, le_refl, le_trans, refl, subst, sym}
 use Rattle.std.specs.Option.{option_map_or}
 use Rattle.std.specs.Prelude.{Bool, List, None, Option, Some, [], false, find, if◌then◌else◌, is_some, suc, true, unwrap_or, zero, ℕ, ◌++◌, ◌+◌, ◌==◌, ◌∷◌, ◌≡◌, ◌≤◌}
@@ -12,7 +13,7 @@ use Rattle.task_machine.specs.Maps.{Records, get, get-insert, insert, numbers, s
 use Rattle.task_machine.specs.Moves.{behind, behind_one, displaced, newest, older, passed_on, put_high, put_low, put_switch, resumed_all, resumed_callers, stand, stopped, why_of, ready_why}
 use Rattle.task_machine.specs.Read.{callers_of, foot_from, foot_of, is_at, is_under, place_of, under_of}
 use Rattle.task_machine.specs.Write.{on_thread, push_high_first, set_callers, set_place, set_switch}
-use Rattle.task_rules.proofs.StandLemmas.{Adds, Given, Loose, Stand, adds_given, adds_stand, by_number, callers_say, none_there, zero_one, eq_refl, gain, is_eq_of, place_kept, place_written, plus_none, plus_one, put_high_adds, put_low_adds, times-append, times-newest}
+use Rattle.task_rules.proofs.StandLemmas.{Adds, Given, Loose, Stand, adds_given, adds_stand, by_number, callers_say, none_there, zero_one, eq_refl, gain, is_eq_of, place_kept, place_written, plus_none, plus_one, put_high_adds, put_low_adds, times-append, times-newest, Watch, Nothing, Awaits, Covered, is_watched, is_so}
 use Rattle.task_rules.specs.Places.{HasPlace, entries, is_at_high, is_at_low, is_at_switch, is_behind_of, is_there, one_if, says, switch_entries, times, is_fresh, is_for_start}
 
 -- ---- What leaves every place and every entry of a thread alone
@@ -49,14 +50,14 @@ quiet_loose k s t q l = record {
   callers = λ f. ap (λ (m : Records (List ℕ)). times k (unwrap_or (get m f) [])) q.callers ∙ l.callers f;
 }
 
-pub quiet_stand : {P : ℕ → Bool} (n : ℕ) (r : Option Place) (xs : List ℕ) (s t : Core) → Untouched s t → Stand P n r xs s → Stand P n r xs t
-quiet_stand n r xs s t q st = record {
+pub quiet_stand : {P : ℕ → Watch} (n : ℕ) (r : Option Place) (xs : List ℕ) (s t : Core) → Untouched s t → Stand P n r xs s → Stand P n r xs t
+quiet_stand {P = P} n r xs s t q st = record {
   here = q.places n ∙ st.here;
   once = st.once;
   loose = λ k h. quiet_loose k s t q (st.loose k h);
   there = λ k h. let p = st.there k h in (p.0, (q.places k ∙ p.1));
   placed = λ k h. quiet_placed k s t q (st.placed k h);
-  fresh = λ k h. let f = st.fresh k h in (f.0, ap is_fresh (q.places k) ∙ f.1);
+  kept = λ k h. let f = st.kept k h in (f.0, ap (is_so (P k)) (q.places k) ∙ f.1);
 }
 
 -- ---- Going behind a thread
@@ -125,20 +126,26 @@ front_none b x y e h = let z = ap one_if e in omega (arith, z, h)
 front_one : (b : Bool) (x : ℕ) → b ≡ true → x ≡ 0 → one_if b + x ≡ 1
 front_one b x e h = let z = ap one_if e in omega (arith, z, h)
 
+-- an entry's mark is not watched
+pub so_again : (v : Watch) (x y : Mark) (w : Why) → is_so v (Some (place.Ready x w)) ≡ is_so v (Some (place.Ready y w))
+so_again Nothing x y w = refl
+so_again Awaits x y w = refl
+so_again (Covered m) x y w = refl
+
 -- where a thread stands at switch, and is put at the front of high
-displaced_stand : {P : ℕ → Bool} (n : ℕ) (q : Option Place) (xs : List ℕ) (s : Core) (o : Option ℕ) → s.queues.switch ≡ o → Stand P n q xs s → Stand P n q xs (set_switch None (displaced o s))
+displaced_stand : {P : ℕ → Watch} (n : ℕ) (q : Option Place) (xs : List ℕ) (s : Core) (o : Option ℕ) → s.queues.switch ≡ o → Stand P n q xs s → Stand P n q xs (set_switch None (displaced o s))
 unfolding set_switch push_high_first set_place on_thread
 displaced_stand n q xs s None is st = quiet_stand n q xs s _ (no_change s is) st
   where
     no_change : (u : Core) → u.queues.switch ≡ None → Untouched u (set_switch None u)
     no_change u e = record { places = λ k. refl; switch = λ k. ap (switch_entries k) (sym e); high = λ k. refl; low = λ k. refl; callers = refl; made = le_refl _ }
-displaced_stand n q xs s (Some j) is st = record {
+displaced_stand {P = P} n q xs s (Some j) is st = record {
   here = kept n (apart n (st.once n) n_one) ∙ st.here;
   once = st.once;
   loose = λ k h. stays_loose k (apart k (st.once k) h) (st.loose k h);
   there = λ k h. let p = st.there k h in (p.0, (kept k (apart k (st.once k) (one_more k h (st.once k))) ∙ p.1));
   placed = λ k h. by_number k j (HasPlace k t) (λ e. subst (λ (i : ℕ). HasPlace i t) (sym e) (at_front (st.placed j j_none))) (λ e. stays k e (st.placed k h));
-  fresh = λ k h. let f = st.fresh k h in (f.0, by_number k j (is_fresh (place_of k t) ≡ true) (λ e. subst (λ (i : ℕ). is_fresh (place_of i t) ≡ true) (sym e) (still_fresh (subst (λ (i : ℕ). is_fresh (place_of i s) ≡ true) e f.1))) (λ e. ap is_fresh (kept k e) ∙ f.1));
+  kept = λ k h. let f = st.kept k h in (f.0, by_number k j (is_so (P k) (place_of k t) ≡ true) (λ e. ap (λ (i : ℕ). is_so (P k) (place_of i t)) e ∙ still_so (P k) (ap (λ (i : ℕ). is_so (P k) (place_of i s)) (sym e) ∙ f.1)) (λ e. ap (is_so (P k)) (kept k e) ∙ f.1));
 }
   where
     t : Core
@@ -200,10 +207,11 @@ displaced_stand n q xs s (Some j) is st = record {
         of_place (Some place.Suspended) e z = absurd (one_zero z)
 
     -- it stands for what it stood for
-    still_fresh : is_fresh (place_of j s) ≡ true → is_fresh (place_of j t) ≡ true
-    still_fresh f =
+    still_so : (v : Watch) → is_so v (place_of j s) ≡ true → is_so v (place_of j t) ≡ true
+    still_so v f =
         let w = ready (st.placed j j_none) in
-        ap is_fresh (place_written j (place.Ready mark.High (why_of j s)) _ s w.1) ∙ (ap (λ (o : Option Place). is_for_start (option_map_or ready_why o why.Resumption)) w.1 ∙ (ap is_fresh (sym w.1) ∙ f))
+        ap (is_so v) (place_written j (place.Ready mark.High (why_of j s)) _ s w.1)
+        ∙ (ap (λ (o : Option Place). is_so v (Some (place.Ready mark.High (option_map_or ready_why o why.Resumption)))) w.1 ∙ (so_again v mark.High mark.Switch w.0 ∙ (ap (is_so v) (sym w.1) ∙ f)))
 
     -- the same threads are there
     same_there : (k : ℕ) → is_there k t ≡ is_there k s
@@ -239,7 +247,7 @@ displaced_stand n q xs s (Some j) is st = record {
           callers = λ f. (h.callers f ∙ none_there (is_there f s) _ (ap (says (is_behind_of f)) w.1)) ∙ sym (none_there (is_there f t) _ (ap (says (is_behind_of f)) own));
         }
 
-pub put_switch_stand : {P : ℕ → Bool} (n : ℕ) (q : Option Place) (m : ℕ) (xs : List ℕ) (w : Why) (s : Core) → times m xs ≡ 0 → Stand P n q (m ∷ xs) s → Stand P n q xs (put_switch m w s)
+pub put_switch_stand : {P : ℕ → Watch} (n : ℕ) (q : Option Place) (m : ℕ) (xs : List ℕ) (w : Why) (s : Core) → times m xs ≡ 0 → Stand P n q (m ∷ xs) s → Stand P n q xs (put_switch m w s)
 unfolding set_switch
 put_switch_stand {P = P} n q m xs w s none st =
     let u = displaced_stand n q (m ∷ xs) s s.queues.switch refl st in
@@ -252,7 +260,7 @@ put_switch_stand {P = P} n q m xs w s none st =
     no_switch : (c : Core) → (unswitched c).queues.switch ≡ None
     no_switch c = refl
 
-pub put_high_stand : {P : ℕ → Bool} (n : ℕ) (q : Option Place) (m : ℕ) (xs : List ℕ) (w : Why) (s : Core) → times m xs ≡ 0 → Stand P n q (m ∷ xs) s → Stand P n q xs (put_high m w s)
+pub put_high_stand : {P : ℕ → Watch} (n : ℕ) (q : Option Place) (m : ℕ) (xs : List ℕ) (w : Why) (s : Core) → times m xs ≡ 0 → Stand P n q (m ∷ xs) s → Stand P n q xs (put_high m w s)
 put_high_stand n q m xs w s none st =
     let p = st.there m (once_there none) in
     adds_stand n q m xs (place.Ready mark.High w) s _ (put_high_adds m w p.0 s p.1) st
@@ -260,7 +268,7 @@ put_high_stand n q m xs w s none st =
     once_there : times m xs ≡ 0 → times m (m ∷ xs) ≡ 1
     once_there z = let x = ap one_if (eq_refl m) in omega (arith, x, z)
 
-pub put_low_stand : {P : ℕ → Bool} (n : ℕ) (q : Option Place) (m : ℕ) (xs : List ℕ) (w : Why) (s : Core) → times m xs ≡ 0 → Stand P n q (m ∷ xs) s → Stand P n q xs (put_low m w s)
+pub put_low_stand : {P : ℕ → Watch} (n : ℕ) (q : Option Place) (m : ℕ) (xs : List ℕ) (w : Why) (s : Core) → times m xs ≡ 0 → Stand P n q (m ∷ xs) s → Stand P n q xs (put_low m w s)
 put_low_stand n q m xs w s none st =
     let p = st.there m (once_there none) in
     adds_stand n q m xs (place.Ready mark.Low w) s _ (put_low_adds m w p.0 s p.1) st
@@ -268,7 +276,7 @@ put_low_stand n q m xs w s none st =
     once_there : times m xs ≡ 0 → times m (m ∷ xs) ≡ 1
     once_there z = let x = ap one_if (eq_refl m) in omega (arith, x, z)
 
-pub behind_stand : {P : ℕ → Bool} (n : ℕ) (q : Option Place) (g m : ℕ) (xs : List ℕ) (s : Core) → Given g s → times m xs ≡ 0 → Stand P n q (m ∷ xs) s → Stand P n q xs (behind_one g m s)
+pub behind_stand : {P : ℕ → Watch} (n : ℕ) (q : Option Place) (g m : ℕ) (xs : List ℕ) (s : Core) → Given g s → times m xs ≡ 0 → Stand P n q (m ∷ xs) s → Stand P n q xs (behind_one g m s)
 behind_stand n q g m xs s given none st =
     let p = st.there m (once_there none) in
     adds_stand n q m xs (place.Behind g) s _ (behind_adds g m p.0 s given p.1) st
@@ -279,24 +287,24 @@ behind_stand n q g m xs s given none st =
 -- ---- A stop
 
 -- the loose ones may be listed otherwise
-pub stand_as : {P : ℕ → Bool} (n : ℕ) (q : Option Place) (xs ys : List ℕ) (s : Core) → ((k : ℕ) → times k xs ≡ times k ys) → Stand P n q xs s → Stand P n q ys s
+pub stand_as : {P : ℕ → Watch} (n : ℕ) (q : Option Place) (xs ys : List ℕ) (s : Core) → ((k : ℕ) → times k xs ≡ times k ys) → Stand P n q xs s → Stand P n q ys s
 stand_as n q xs ys s same st = record {
   here = st.here;
   once = λ k. subst (λ c. one_if (k == n) + c ≤ 1) (same k) (st.once k);
   loose = λ k h. st.loose k (ap (λ c. one_if (k == n) + c) (same k) ∙ h);
   there = λ k h. st.there k (same k ∙ h);
   placed = λ k h. st.placed k (ap (λ c. one_if (k == n) + c) (same k) ∙ h);
-  fresh = λ k h. let f = st.fresh k h in (sym (same k) ∙ f.0, f.1);
+  kept = λ k h. let f = st.kept k h in (sym (same k) ∙ f.0, f.1);
 }
 
-head_none : {P : ℕ → Bool} (n : ℕ) (q : Option Place) (m : ℕ) (xs : List ℕ) (s : Core) → Stand P n q (m ∷ xs) s → times m xs ≡ 0
+head_none : {P : ℕ → Watch} (n : ℕ) (q : Option Place) (m : ℕ) (xs : List ℕ) (s : Core) → Stand P n q (m ∷ xs) s → times m xs ≡ 0
 head_none n q m xs s st = let x = ap one_if (eq_refl m) in let y = st.once m in omega (arith, x, y)
 
-resumed_all_stand : {P : ℕ → Bool} (n : ℕ) (q : Option Place) (xs : List ℕ) (s : Core) → Stand P n q xs s → Stand P n q [] (resumed_all xs s)
+resumed_all_stand : {P : ℕ → Watch} (n : ℕ) (q : Option Place) (xs : List ℕ) (s : Core) → Stand P n q xs s → Stand P n q [] (resumed_all xs s)
 resumed_all_stand n q [] s st = st
 resumed_all_stand n q (m ∷ xs) s st = resumed_all_stand n q xs (put_high m why.Resumption s) (put_high_stand n q m xs why.Resumption s (head_none n q m xs s st) st)
 
-behind_all_stand : {P : ℕ → Bool} (n : ℕ) (q : Option Place) (g : ℕ) (xs : List ℕ) (s : Core) → Given g s → Stand P n q xs s → Stand P n q [] (behind g xs s)
+behind_all_stand : {P : ℕ → Watch} (n : ℕ) (q : Option Place) (g : ℕ) (xs : List ℕ) (s : Core) → Given g s → Stand P n q xs s → Stand P n q [] (behind g xs s)
 behind_all_stand n q g [] s given st = st
 behind_all_stand n q g (m ∷ xs) s given st =
     let none = head_none n q m xs s st in
@@ -306,7 +314,7 @@ behind_all_stand n q g (m ∷ xs) s given st =
     own_one : (m : ℕ) (xs : List ℕ) → times m xs ≡ 0 → times m (m ∷ xs) ≡ 1
     own_one m xs z = let x = ap one_if (eq_refl m) in omega (arith, x, z)
 
-resumed_callers_stand : {P : ℕ → Bool} (n : ℕ) (q : Option Place) (xs : List ℕ) (s : Core) → Stand P n q xs s → Stand P n q [] (resumed_callers xs s)
+resumed_callers_stand : {P : ℕ → Watch} (n : ℕ) (q : Option Place) (xs : List ℕ) (s : Core) → Stand P n q xs s → Stand P n q [] (resumed_callers xs s)
 resumed_callers_stand n q [] s st = st
 resumed_callers_stand n q (m ∷ xs) s st =
     let u = stand_as n q (m ∷ xs) (newest m xs ∷ older m xs) s (λ k. times-newest k m xs ∙ swap_sum (times k (older m xs)) (one_if (k == newest m xs))) st in
@@ -316,7 +324,7 @@ resumed_callers_stand n q (m ∷ xs) s st =
     swap_sum a b = omega arith
 
 -- a thread is loose or has its place, so its number was given
-pub given_there : {P : ℕ → Bool} (n : ℕ) (q : Option Place) (xs : List ℕ) (s : Core) → Stand P n q xs s → (k : ℕ) → is_there k s ≡ true → Given k s
+pub given_there : {P : ℕ → Watch} (n : ℕ) (q : Option Place) (xs : List ℕ) (s : Core) → Stand P n q xs s → (k : ℕ) → is_there k s ≡ true → Given k s
 given_there n q xs s st k h = (h, by_times (times k (n ∷ xs)) refl (st.once k))
   where
     by_times : (c : ℕ) → times k (n ∷ xs) ≡ c → c ≤ 1 → k ≤ s.made.threads
@@ -328,7 +336,7 @@ given_there n q xs s st k h = (h, by_times (times k (n ∷ xs)) refl (st.once k)
         too_many y = omega (arith, y)
 
 -- what stands at switch is there
-pub switch_there : {P : ℕ → Bool} (n : ℕ) (q : Option Place) (xs : List ℕ) (s : Core) → Stand P n q xs s → (m : ℕ) → s.queues.switch ≡ Some m → is_there m s ≡ true
+pub switch_there : {P : ℕ → Watch} (n : ℕ) (q : Option Place) (xs : List ℕ) (s : Core) → Stand P n q xs s → (m : ℕ) → s.queues.switch ≡ Some m → is_there m s ≡ true
 switch_there n q xs s st m e = by_times (times m (n ∷ xs)) refl (st.once m)
   where
     stands : switch_entries m s.queues.switch ≡ 1
@@ -378,7 +386,7 @@ pub foot_there : (n : ℕ) (s : Core) → is_there n s ≡ true → is_there (fo
 unfolding foot_of
 foot_there n s h = foot_from_there (size s.threads) s n h
 
-passed_on_stand : {P : ℕ → Bool} (n : ℕ) (q : Option Place) (o : Option ℕ) (xs : List ℕ) (s : Core) → s.queues.switch ≡ o → Stand P n q xs s → Stand P n q [] (passed_on o xs s)
+passed_on_stand : {P : ℕ → Watch} (n : ℕ) (q : Option Place) (o : Option ℕ) (xs : List ℕ) (s : Core) → s.queues.switch ≡ o → Stand P n q xs s → Stand P n q [] (passed_on o xs s)
 passed_on_stand n q (Some m) xs s e st = behind_all_stand n q (foot_of m s) xs s (given_there n q xs s st (foot_of m s) (foot_there m s (switch_there n q xs s st m e))) st
 passed_on_stand n q None xs s e st = resumed_callers_stand n q xs s st
 
@@ -387,16 +395,23 @@ fresh_apart None h f = refl
 fresh_apart (Some (place.Behind c)) h f = absurd (subst T (sym h) tt)
 fresh_apart (Some _) h f = refl
 
+so_apart : (v : Watch) (o : Option Place) → is_watched v ≡ true → is_so v o ≡ true → (f : ℕ) → says (is_behind_of f) o ≡ 0
+so_apart Nothing o w h f = absurd (subst T (sym w) tt)
+so_apart Awaits o w h f = fresh_apart o h f
+so_apart (Covered m) (Some (place.Behind c)) w h f = absurd (subst T (sym h) tt)
+so_apart (Covered m) None w h f = refl
+so_apart (Covered m) (Some _) w h f = refl
+
 -- the callers of f are taken out, and are loose
-detached : {P : ℕ → Bool} (n : ℕ) (q : Option Place) (f : ℕ) (s : Core) → Stand P n q [] s → Stand P n q (callers_of f s) (set_callers f [] s)
+detached : {P : ℕ → Watch} (n : ℕ) (q : Option Place) (f : ℕ) (s : Core) → Stand P n q [] s → Stand P n q (callers_of f s) (set_callers f [] s)
 unfolding set_callers
-detached n q f s st = record {
+detached {P = P} n q f s st = record {
   here = st.here;
   once = λ k. by_number k n (times k (n ∷ callers_of f s) ≤ 1) (λ e. own_once k e (st.loose n n_one)) (λ e. other_once k e (st.placed k (no_one k e)));
   loose = λ k h. by_number k n (Loose k t) (λ e. subst (λ (j : ℕ). Loose j t) (sym e) (still_loose n (st.loose n n_one))) (λ e. now_loose k (listed k e h) (st.placed k (no_one k e)));
   there = λ k h. by_number k n ((p : Place) × (place_of k s ≡ Some p)) (λ e. zero_one ((st.loose n n_one).callers f) (subst (λ (j : ℕ). times j (callers_of f s) ≡ 1) e h)) (λ e. behind_there k h (st.placed k (no_one k e)));
   placed = λ k h. still k (none_here k h) (st.placed k (none_left k h));
-  fresh = λ k h. let r = st.fresh k h in (by_number k n (times k (callers_of f s) ≡ 0) (λ e. subst (λ (j : ℕ). times j (callers_of f s) ≡ 0) (sym e) ((st.loose n n_one).callers f)) (λ e. none_behind k (st.placed k (no_one k e)) r.1), r.1);
+  kept = λ k h. let r = st.kept k h in (by_number k n (times k (callers_of f s) ≡ 0) (λ e. subst (λ (j : ℕ). times j (callers_of f s) ≡ 0) (sym e) ((st.loose n n_one).callers f)) (λ e. none_behind k (st.placed k (no_one k e)) h r.1), r.1);
 }
   where
     t : Core
@@ -417,9 +432,9 @@ detached n q f s st = record {
     listed : (k : ℕ) → (k == n) ≡ false → times k (n ∷ callers_of f s) ≡ 1 → times k (callers_of f s) ≡ 1
     listed k e h = let x = ap one_if e in omega (arith, x, h)
 
-    -- who waits for its start is behind none
-    none_behind : (k : ℕ) → HasPlace k s → is_fresh (place_of k s) ≡ true → times k (callers_of f s) ≡ 0
-    none_behind k h g = let x = callers_say k f s h in let y = fresh_apart (place_of k s) g f in omega (arith, x, y)
+    -- who is watched is behind none
+    none_behind : (k : ℕ) → HasPlace k s → is_watched (P k) ≡ true → is_so (P k) (place_of k s) ≡ true → times k (callers_of f s) ≡ 0
+    none_behind k h w g = let x = callers_say k f s h in let y = so_apart (P k) (place_of k s) w g f in omega (arith, x, y)
 
     says_one : (test : Place → Bool) (o : Option Place) → says test o ≤ 1
     says_one test None = omega arith
@@ -504,6 +519,6 @@ same_switch : (f : ℕ) (s : Core) → (set_callers f [] s).queues.switch ≡ s.
 unfolding set_callers
 same_switch f s = refl
 
-pub stopped_stand : {P : ℕ → Bool} (n : ℕ) (q : Option Place) (f : ℕ) (s : Core) → Stand P n q [] s → Stand P n q [] (stopped f s)
+pub stopped_stand : {P : ℕ → Watch} (n : ℕ) (q : Option Place) (f : ℕ) (s : Core) → Stand P n q [] s → Stand P n q [] (stopped f s)
 unfolding stopped
 stopped_stand n q f s st = passed_on_stand n q s.queues.switch (callers_of f s) (set_callers f [] s) (same_switch f s) (detached n q f s st)

@@ -308,7 +308,7 @@ module _ (x : Setting) (main : Main) (s : Core) (n : ℕ) (l : Label) (next : Tu
   -- ---- Calls
 
   -- what its op calls
-  makes_call : (e : Callee) (g : Goal) → callee_of_op (op_in a n) ≡ Some e → (is_direct g ≡ true → is_async_lifted (export_kind x.component e) ≡ false) → is_for_main g ≡ false → MayMakeCall a (caller.Thread n) e (export_kind x.component e) g (thread_group n s) s
+  makes_call : (e : Callee) (g : Goal) → callee_of_op (op_in a n) ≡ Some e → (is_direct g ≡ true → (is_async_lifted (export_kind x.component e) ≡ false) × (next ≡ turn.Run (next_thread s))) → is_for_main g ≡ false → MayMakeCall a (caller.Thread n) e (export_kind x.component e) g (thread_group n s) s
   makes_call e g callee lifted other = (ByThread n refl callee refl refl, (refl, (refl, (lifted, other))))
 
   no_direct : {A : Type 0} → false ≡ true → A
@@ -374,7 +374,7 @@ module _ (x : Setting) (main : Main) (s : Core) (n : ℕ) (l : Label) (next : Tu
       trap_if_leads a s (at_handle_limit s) trap.HandleLimit _ (λ g.
       goes_over x main s n l next (label.Call (call_label.Enters n (next_thread s))) (next_thread s) (enter_runs n e (export_kind x.component e) words s) refl (λ h. no_direct h) (by_number (next_thread s) n _ (λ h. inl (ap (λ (i : ℕ). turn.Run i) (sym h))) (λ h. inr (enter_gives n e (export_kind x.component e) words s h)))
       (λ is. mute_words a _ (ap is_mute is))
-      (λ is to. enter_runs_walks n refl e (export_kind x.component e) words refl to (makes_call e goal.Direct callee (λ d. lifted) refl))))
+      (λ is to. enter_runs_walks n refl e (export_kind x.component e) words refl to (makes_call e goal.Direct callee (λ d. (lifted, to)) refl))))
 
   call_sync_row_leads : (r : ℕ) (e : Callee) (words : List ℕ) (f : HowFar) → callee_of_op (op_in a n) ≡ Some e → how_far_of n s ≡ f → Leads a s (call_sync_row x.component n r e words s f)
   call_sync_row_leads r e words (how_far.Answered v) callee far =

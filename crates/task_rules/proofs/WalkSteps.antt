@@ -11,7 +11,7 @@ use Rattle.task_machine.specs.declared.words.Status.TheVariants as status
 use Rattle.task_machine.specs.Core.{Main}
 use Rattle.task_machine.specs.Write.{take_result}
 use Rattle.task_rules.specs.MainOps.{started_at}
-use Rattle.std.proofs.Common.{T, ap, ap₂, cond, inl, inr, length, refl, subst, suc, sym, ◌∙◌, ◌⊎◌, is_some}
+use Rattle.std.proofs.Common.{T, ap, ap₂, cond, inl, inr, length, refl, subst, suc, sym, ◌∙◌, ◌⊎◌, is_some, is_none}
 use Rattle.std.specs.Option.{option_map_or}
 use Rattle.std.specs.Prelude.{Bool, List, None, Option, Some, [], false, not, option_map, slice_set, true, unwrap_or, zero, ℕ, ◌+◌, ◌==◌, ◌∷◌, ◌≡◌}
 use Rattle.task_machine.proofs.CommuteLemmas.{change-change_same}
@@ -236,10 +236,14 @@ not_over n e = absurd (subst T (ap is_over e) tt)
 abbrev Fall : Scene → Core → Type 0
 Fall a t = Chain (IsFall a) a.base t
 
+removed_none : (n : ℕ) (t : Core) → is_none (get (remove_thread n t).threads n) ≡ true
+unfolding remove_thread
+removed_none n t = ap (λ (o : Option Thread). is_none o) (get-remove_same t.threads n)
+
 module _ {a : Scene} (over : a.next ≡ turn.Over) where
-  falls : (k n : ℕ) {t : Core} → IsRunner a n ⊎ ((m : ℕ) × (place_of n a.base ≡ Some (place.Under m))) → Fall a t → Fall a (remove_threads (strand_from k a.base n) t)
+  falls : (k n : ℕ) {t : Core} → IsRunner a n ⊎ ((m : ℕ) × ((place_of n a.base ≡ Some (place.Under m)) × (is_none (get t.threads m) ≡ true))) → Fall a t → Fall a (remove_threads (strand_from k a.base n) t)
   falls zero n {t = t} may c = Then t (RemoveThread n) c (Falls over may)
-  falls (suc k) n {t = t} may c = below (λ m under d. falls k m (inr (n, under)) d) (under_of n a.base) refl (Then t (RemoveThread n) c (Falls over may))
+  falls (suc k) n {t = t} may c = below (λ m under d. falls k m (inr (n, (under, removed_none n t))) d) (under_of n a.base) refl (Then t (RemoveThread n) c (Falls over may))
     where
       below : ((m : ℕ) → place_of m a.base ≡ Some (place.Under n) → Fall a (remove_thread n t) → Fall a (remove_threads (strand_from k a.base m) (remove_thread n t))) → (o : Option ℕ) → under_of n a.base ≡ o → Fall a (remove_thread n t) → Fall a (remove_threads (option_map_or (strand_from k a.base) o []) (remove_thread n t))
       below more None is d = d

@@ -219,13 +219,13 @@ MayMake a t s = (n : ℕ) × (IsRunner a n × ((s.made.threads ≡ a.base.made.t
     ((t ≡ new_thread (task_of n a.base) true (script.Slot x) (registers_for (v ∷ [])) None) × (s.calls ≡ a.base.calls))))))
 
 -- Who is gone.
-pub data MayGo (a : Scene) (n : ℕ) : Type 0 where
+pub data MayGo (a : Scene) (n : ℕ) (s : Core) : Type 0 where
   -- the running thread
-  Departs : Leaves a n → MayGo a n
+  Departs : Leaves a n → MayGo a n s
   -- the running thread, and the one under it goes on
-  EndsOver : (m : ℕ) → IsRunner a n → a.next ≡ turn.Run m → place_of m a.base ≡ Some (place.Under n) → MayGo a n
-  -- the strand that trapped: the thread that ran or was taken, and those that were under others
-  Falls : a.next ≡ turn.Over → IsRunner a n ⊎ ((m : ℕ) × (place_of n a.base ≡ Some (place.Under m))) → MayGo a n
+  EndsOver : (m : ℕ) → IsRunner a n → a.next ≡ turn.Run m → place_of m a.base ≡ Some (place.Under n) → MayGo a n s
+  -- the strand that trapped: the thread that ran or was taken, and those that were under ones that are gone
+  Falls : a.next ≡ turn.Over → IsRunner a n ⊎ ((m : ℕ) × ((place_of n a.base ≡ Some (place.Under m)) × (is_none (get s.threads m) ≡ true))) → MayGo a n s
 
 -- the start of a call of the running thread's, which hasn't begun or ended
 abbrev pub MayWithdraw : Scene → ℕ → Core → Type 0
@@ -247,10 +247,11 @@ abbrev pub is_for_main : Goal → Bool
 is_for_main goal.Main = true
 is_for_main _ = false
 
--- a direct call isn't of an async-lifted export; main's calls alone have results for main
+-- a direct call isn't of an async-lifted export, and its thread runs next; main's calls alone have results for main
 abbrev pub MayMakeCall : Scene → Caller → Callee → ExportKind → Goal → ℕ → Core → Type 0
 MayMakeCall a f e x g group s = MayCall a f e group s × ((s.made.threads ≡ a.base.made.threads) ×
-    ((x ≡ export_kind (component_of a) e) × ((is_direct g ≡ true → is_async_lifted x ≡ false) × (is_for_main g ≡ not (is_guest_call f)))))
+    ((x ≡ export_kind (component_of a) e) ×
+    ((is_direct g ≡ true → (is_async_lifted x ≡ false) × (a.next ≡ turn.Run (next_thread a.base))) × (is_for_main g ≡ not (is_guest_call f)))))
 
 -- the call of the thread that was taken to start, or a new direct one
 abbrev pub MayStart : Scene → ℕ → Core → Type 0
@@ -376,7 +377,7 @@ abbrev pub Allowed : Scene → Word → Core → Type 0
 Allowed a (Places p) s = MayShift p s ⊎ MayLeave a p s
 Allowed a (SetHowFar n h) s = MayCome a n h s
 Allowed a (MakeThread t) s = MayMake a t s
-Allowed a (RemoveThread n) s = MayGo a n
+Allowed a (RemoveThread n) s = MayGo a n s
 Allowed a (Withdraw k) s = MayWithdraw a k s
 Allowed a (MakeCall f e x g group words) s = MayMakeCall a f e x g group s
 Allowed a (SetStarted k) s = MayStart a k s
@@ -428,6 +429,6 @@ IsSettling _ s = ⊥
 
 -- a strand falls, and the store is trapped
 abbrev pub IsFall : Scene → Word → Core → Type 0
-IsFall a (RemoveThread n) s = MayGo a n
+IsFall a (RemoveThread n) s = MayGo a n s
 IsFall a SetTrapped s = Unit {0}
 IsFall a _ s = ⊥
