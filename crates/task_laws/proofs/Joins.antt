@@ -7,18 +7,15 @@ use Rattle.std.specs.FinMap.Entries.{find}
 use Rattle.std.specs.List.{list_any}
 use Rattle.std.specs.Option.{option_map_or}
 use Rattle.std.specs.Ordering.{nat_cmp}
-use Rattle.std.specs.Prelude.{Bool, List, None, Option, Some, [], false, is_some, map, option_and_then, true, ℕ, ◌+◌, ◌∷◌, ◌≡◌, ◌≤◌, ◌⊎◌}
+use Rattle.std.specs.Prelude.{Bool, List, None, Option, Some, [], false, is_some, map, option_and_then, true, ℕ, ◌∷◌, ◌≡◌, ◌≤◌, ◌⊎◌}
 use Rattle.task_laws.proofs.CallsCame.{CallAfter, Grown, NewCall, NoCall, call_came}
 use Rattle.task_laws.proofs.EachLemmas.{each_change, each_get, each_of}
 use Rattle.task_laws.proofs.HandleTables.{giving_kept, next_dead, taking_kept}
-use Rattle.task_laws.proofs.Machine.{add_call, add_group, add_set, add_thread, add_work, after_word, as_set, as_subtask, Call, call_made, change, CloseSet, Core, count_work, EndWork, FinishWork, free_handle, free_thread_handle, fresh, get, get-empty, get-insert, get-remove, give_handle, give_result, give_thread_handle, giving, has_member, insert, instance_of, is_joined, is_member, Join, join_of, NameCall, Named, named_by, NameWork, new_work, next_handle, no_handles, numbers, on_call, on_instance, on_thread, on_work, OpenSet, Pend, poll_pends, push_high, QueueWork, Records, remove, remove_call, remove_group, remove_set, remove_thread, remove_work, RemoveWork, Scene, Set, set_backpressure, set_cancel_delivered, set_cancelled, set_course, set_do_not_enter, set_do_not_suspend, set_end, set_event, set_exited, set_how_far, set_join, set_own_event, set_phase, set_position, set_register, set_result, set_saved_callee, set_saved_own, set_script, set_stage, set_started, set_starting_published, set_subtask_handle, set_thread_handle, set_trapped, set_uninteresting, set_word, SetCallJoin, SetCancelled, SetPhase, SetWorkEvent, SetWorkJoin, Subtask, subtask_at, Table, take_result, TakeHost, TakePush, taking, UnnameCall, UnnameWork, with_handle, with_thread_handle, Word, work_queued}
+use Rattle.task_laws.proofs.Machine.{add_call, add_group, add_set, add_thread, add_work, after_word, as_set, as_subtask, Call, call_made, change, CloseSet, Core, count_work, EndWork, FinishWork, free_handle, free_thread_handle, fresh, get, get-empty, get-insert, get-remove, give_handle, give_result, give_thread_handle, giving, has_member, instance_of, is_joined, is_member, Join, join_of, NameCall, Named, named_by, NameWork, next_handle, no_handles, numbers, on_call, on_instance, on_thread, on_work, OpenSet, Pend, poll_pends, push_high, QueueWork, Records, remove_call, remove_group, remove_set, remove_thread, remove_work, RemoveWork, Scene, Set, set_backpressure, set_cancel_delivered, set_cancelled, set_course, set_do_not_enter, set_do_not_suspend, set_end, set_event, set_exited, set_how_far, set_join, set_own_event, set_phase, set_position, set_register, set_result, set_saved_callee, set_saved_own, set_script, set_stage, set_started, set_starting_published, set_subtask_handle, set_thread_handle, set_trapped, set_uninteresting, set_word, SetCallJoin, SetCancelled, SetPhase, SetWorkEvent, SetWorkJoin, Subtask, subtask_at, Table, take_result, TakeHost, TakePush, taking, UnnameCall, UnnameWork, with_handle, with_thread_handle, Word, work_queued}
 use Rattle.task_laws.proofs.ReachLemmas.{filled_with}
 use Rattle.task_laws.proofs.SetHandles.{home_in, subtask_in}
 use Rattle.task_laws.specs.Order.{JoinNamed, JoinsNamed, SetsNamed, TableKept}
 use Rattle.task_machine.proofs.CommuteLemmas.{get-change}
-use Rattle.task_machine.specs.declared.records.Course.{Course}
-use Rattle.task_machine.specs.declared.records.Stage.{Stage}
-use Rattle.task_machine.specs.declared.words.Phase.TheVariants as phase
 use Rattle.task_machine.specs.declared.records.Join.TheVariants as join
 use Rattle.task_machine.specs.declared.records.Named.TheVariants as named
 use Rattle.task_machine.specs.declared.records.Subtask.TheVariants as subtask
@@ -76,26 +73,9 @@ member_of (subtask.Host i) x s h =
 abbrev work_join : Option Work → Join
 work_join o = option_map_or (λ (w : Work). w.join) o join.Nowhere
 
-module _ (works : Records Work) (k n x : ℕ) where
-  still_joined : (f : Work → Work) → ((w : Work) → (f w).join ≡ w.join) → work_join (get (change n f works) k) ≡ join.Set x →
-      work_join (get works k) ≡ join.Set x
-  still_joined f same h = grind (arith, nat_tests, get-change, same)
-
-  queued_unjoined : (v : Work) → v.join ≡ join.Nowhere → work_join (get (insert works n v) k) ≡ join.Set x →
-      work_join (get works k) ≡ join.Set x
-  queued_unjoined v new h = grind (arith, nat_tests, get-insert)
-
-  settled_joined : (c : Course) (y : Stage) → work_join (get (change n (λ w. record w { stage = y }) (change n
-      (λ w. record w { phase = phase.Complete }) (change n (λ w. record w { course = c }) works))) k) ≡ join.Set x →
-      work_join (get works k) ≡ join.Set x
-  settled_joined c y h = grind (arith, nat_tests, get-change)
-
-  left_joined : work_join (get (remove works n) k) ≡ join.Set x → work_join (get works k) ≡ join.Set x
-  left_joined h = grind (arith, nat_tests, get-remove)
-
-  joined : (j : Join) → work_join (get (change n (λ w. record w { join = j }) works) k) ≡ join.Set x →
-      (work_join (get works k) ≡ join.Set x) ⊎ ((k ≡ n) × (j ≡ join.Set x))
-  joined j h = grind (arith, nat_tests, get-change)
+joined : (works : Records Work) (k n x : ℕ) (j : Join) → work_join (get (change n (λ w. record w { join = j }) works) k) ≡ join.Set x →
+    (work_join (get works k) ≡ join.Set x) ⊎ ((k ≡ n) × (j ≡ join.Set x))
+joined works k n x j h = grind (arith, nat_tests, get-change)
 
 module _ (a : Scene) (w : Word) (s : Core) where
   -- the word joins the subtask to the set, and leaves handles and sets
@@ -122,20 +102,20 @@ moved_join a s n k x j same to m = rw same (rw to at m)
 host_joined : (a : Scene) (w : Word) (s : Core) → Allowed a w s → (k x : ℕ) → join_of (subtask.Host k) (after_word w s) ≡ join.Set x →
     (join_of (subtask.Host k) s ≡ join.Set x) ⊎ Joins a w s (subtask.Host k) x
 unfolding on_thread add_group add_set add_work count_work free_handle free_thread_handle give_handle give_result give_thread_handle on_call on_instance on_work push_high remove_call remove_group remove_set remove_work remove_thread set_backpressure set_cancel_delivered set_cancelled set_course set_do_not_enter set_do_not_suspend set_end set_event set_exited set_how_far set_join set_own_event set_phase set_position set_register set_result set_saved_callee set_saved_own set_script set_stage set_started set_starting_published set_subtask_handle set_thread_handle set_trapped set_uninteresting set_word take_result call_made add_call add_thread with_handle with_thread_handle work_queued poll_pends
-host_joined a (QueueWork f host group) s ok k x h = inl (queued_unjoined s.works k _ x (new_work f host group) refl h)
-host_joined a (RemoveWork n) s ok k x h = inl (left_joined s.works k n x h)
+host_joined a (QueueWork f host group) s ok k x h = inl (grind (arith, nat_tests, get-insert))
+host_joined a (RemoveWork n) s ok k x h = inl (grind (arith, nat_tests, get-remove))
 host_joined a (SetWorkJoin n j) s ok k x h =
     ⊎_elim (λ e. inl e) (λ e. inr (moved_join a s n k x j e.0 e.1 ok, (refl, refl))) (joined s.works k n x j h)
-host_joined a (TakePush m i) s ok k x h = inl (still_joined _ k i x _ (λ w. refl) h)
-host_joined a (TakeHost m i) s ok k x h = inl (still_joined _ k i x _ (λ w. refl) h)
-host_joined a (Pend i host) s ok k x h = inl (still_joined _ k i x _ (λ w. refl) h)
-host_joined a (EndWork i c) s ok k x h = inl (settled_joined s.works k i x c _ h)
-host_joined a (FinishWork i c) s ok k x h = inl (settled_joined s.works k i x c _ h)
-host_joined a (SetPhase i p) s ok k x h = inl (still_joined _ k i x _ (λ w. refl) h)
-host_joined a (SetCancelled i) s ok k x h = inl (still_joined _ k i x _ (λ w. refl) h)
-host_joined a (SetWorkEvent i e) s ok k x h = inl (still_joined _ k i x _ (λ w. refl) h)
-host_joined a (NameWork i n) s ok k x h = inl (still_joined _ k n x _ (λ w. refl) h)
-host_joined a (UnnameWork i g n) s ok k x h = inl (still_joined _ k n x _ (λ w. refl) h)
+host_joined a (TakePush m i) s ok k x h = inl (grind (arith, nat_tests, get-change))
+host_joined a (TakeHost m i) s ok k x h = inl (grind (arith, nat_tests, get-change))
+host_joined a (Pend i host) s ok k x h = inl (grind (arith, nat_tests, get-change))
+host_joined a (EndWork i c) s ok k x h = inl (grind (arith, nat_tests, get-change))
+host_joined a (FinishWork i c) s ok k x h = inl (grind (arith, nat_tests, get-change))
+host_joined a (SetPhase i p) s ok k x h = inl (grind (arith, nat_tests, get-change))
+host_joined a (SetCancelled i) s ok k x h = inl (grind (arith, nat_tests, get-change))
+host_joined a (SetWorkEvent i e) s ok k x h = inl (grind (arith, nat_tests, get-change))
+host_joined a (NameWork i n) s ok k x h = inl (grind (arith, nat_tests, get-change))
+host_joined a (UnnameWork i g n) s ok k x h = inl (grind (arith, nat_tests, get-change))
 host_joined a w s ok k x h = inl h
 
 -- ---- The law
@@ -183,22 +163,16 @@ module _ (a : Scene) (s : Core) (q : JoinsNamed s) where
   handles_word (CloseSet j g y) ok = freed_kept j g (named.Set y) (names_set (named_by s.handles j g) y ok.0) (λ sub x to is. absurd (cc))
   handles_word w ok = record { tables = q.tables; names = λ sub x i h at e. e }
 
-  opened_kept : (j : ℕ) → SetsKept s (insert s.sets (s.made.sets + 1) (record { instance = j })) (s.made.sets + 1)
-  opened_kept j = record {
+  sets_word : (w : Word) → Allowed a w s → SetsKept s (after_word w s).sets (after_word w s).made.sets
+  unfolding on_thread add_group add_set add_work count_work free_handle free_thread_handle give_handle give_result give_thread_handle on_call on_instance on_work push_high remove_call remove_group remove_set remove_work remove_thread set_backpressure set_cancel_delivered set_cancelled set_course set_do_not_enter set_do_not_suspend set_end set_event set_exited set_how_far set_join set_own_event set_phase set_position set_register set_result set_saved_callee set_saved_own set_script set_stage set_started set_starting_published set_subtask_handle set_thread_handle set_trapped set_uninteresting set_word take_result call_made add_call add_thread with_handle with_thread_handle work_queued poll_pends
+  sets_word (OpenSet j) ok = record {
     numbers = λ x h. grind (arith, nat_tests, get-insert, q.sets x);
     homes = λ sub x i at home. grind (arith, nat_tests, get-insert, q.sets x);
   }
-
-  closed_kept : (y : ℕ) → has_member y s ≡ false → SetsKept s (remove s.sets y) s.made.sets
-  closed_kept y empty = record {
+  sets_word (CloseSet j g y) ok = record {
     numbers = λ x h. grind (arith, nat_tests, get-remove, q.sets x);
     homes = λ sub x i at home. let member = member_of sub x s at in grind (arith, nat_tests, get-remove);
   }
-
-  sets_word : (w : Word) → Allowed a w s → SetsKept s (after_word w s).sets (after_word w s).made.sets
-  unfolding on_thread add_group add_set add_work count_work free_handle free_thread_handle give_handle give_result give_thread_handle on_call on_instance on_work push_high remove_call remove_group remove_set remove_work remove_thread set_backpressure set_cancel_delivered set_cancelled set_course set_do_not_enter set_do_not_suspend set_end set_event set_exited set_how_far set_join set_own_event set_phase set_position set_register set_result set_saved_callee set_saved_own set_script set_stage set_started set_starting_published set_subtask_handle set_thread_handle set_trapped set_uninteresting set_word take_result call_made add_call add_thread with_handle with_thread_handle work_queued poll_pends
-  sets_word (OpenSet j) ok = opened_kept j
-  sets_word (CloseSet j g y) ok = closed_kept y ok.1.1.0
   sets_word w ok = record { numbers = q.sets; homes = λ sub x i at home. home }
 
   module _ (tidy : SetsNamed s) (w : Word) (ok : Allowed a w s) where

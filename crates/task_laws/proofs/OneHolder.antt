@@ -6,8 +6,8 @@ use Rattle.std.specs.Option.{option_map_or}
 use Rattle.std.specs.Prelude.{Bool, List, None, Option, Some, [], false, filter, is_some, not, slice_get, true, unwrap_or, ℕ, ◌<◌, ◌==◌, ◌∷◌, ◌≡◌, ◌⊎◌}
 use Rattle.task_laws.proofs.CallsCame.{CallAfter, Grown, NewCall, NoCall, call_came}
 use Rattle.task_laws.proofs.CallsSteps.{plain, plain_scene}
-use Rattle.task_laws.proofs.EachLemmas.{after_change}
-use Rattle.task_laws.proofs.Machine.{add_call, add_group, add_set, add_thread, add_work, after_word, Call, call_instance, call_made, Callee, callee_of, change, Core, count_work, filled, free_handle, free_thread_handle, fresh, get, get-empty, get-insert, give_handle, give_result, give_thread_handle, Label, Main, may_not_enter, on_call, on_instance, on_thread, on_work, Op, poll_pends, push_high, Queues, remove_call, remove_group, remove_set, remove_thread, remove_work, Scene, Scripted, set_backpressure, set_cancel_delivered, set_cancelled, set_course, set_do_not_enter, set_do_not_suspend, set_end, set_event, set_exited, set_how_far, set_join, set_own_event, set_phase, set_position, set_register, set_result, set_saved_callee, set_saved_own, set_script, set_stage, set_started, set_starting_published, set_subtask_handle, set_thread_handle, set_trapped, set_uninteresting, set_word, SetBackpressure, SetDoNotEnter, SetDoNotSuspend, Setting, SetWord, State, take_result, Thread, Unscripted, untouched, with_handle, with_thread_handle, Word, work_queued}
+use Rattle.task_machine.proofs.CommuteLemmas.{get-change}
+use Rattle.task_laws.proofs.Machine.{add_call, add_group, add_set, add_thread, add_work, after_word, Call, call_instance, call_made, Callee, callee_of, Core, count_work, filled, free_handle, free_thread_handle, fresh, get, get-empty, get-insert, give_handle, give_result, give_thread_handle, Label, Main, may_not_enter, on_call, on_instance, on_thread, on_work, Op, poll_pends, push_high, Queues, remove_call, remove_group, remove_set, remove_thread, remove_work, Scene, Scripted, set_backpressure, set_cancel_delivered, set_cancelled, set_course, set_do_not_enter, set_do_not_suspend, set_end, set_event, set_exited, set_how_far, set_join, set_own_event, set_phase, set_position, set_register, set_result, set_saved_callee, set_saved_own, set_script, set_stage, set_started, set_starting_published, set_subtask_handle, set_thread_handle, set_trapped, set_uninteresting, set_word, SetBackpressure, SetDoNotEnter, SetDoNotSuspend, Setting, SetWord, State, take_result, Thread, Unscripted, untouched, with_handle, with_thread_handle, Word, work_queued}
 use Rattle.task_laws.specs.Holders.{CalleesExist, RunsHoldOne}
 use Rattle.task_machine.specs.declared.op.Op.TheVariants as op
 use Rattle.task_machine.specs.declared.op.TaskOp.TheVariants as task_op
@@ -35,24 +35,14 @@ record InstanceCame (a : Scene) (i : ℕ) (o p : Option Instance) : Type 0 where
   there : is_some o ≡ true → is_some p ≡ true
   shut : (returned_holder a.base a.label ≡ Some i → ⊥) → flag_in o ≡ true → flag_in p ≡ true
 
-module _ {a : Scene} where
-  instance_stays : {i : ℕ} (o : Option Instance) → InstanceCame a i o o
-  instance_stays o = record { there = λ h. h; shut = λ other h. h }
-
-  instance_changed : (j : ℕ) (f : Instance → Instance) (s : Core) (i : ℕ) →
-      ((r : Instance) → (returned_holder a.base a.label ≡ Some j → ⊥) → r.do_not_enter ≡ true → (f r).do_not_enter ≡ true) →
-      InstanceCame a i (get s.instances i) (get (change j f s.instances) i)
-  instance_changed j f s i keeps = after_change (InstanceCame a i) s.instances j i instance_stays f
-      (λ r is e. record { there = λ h. refl; shut = λ other h. keeps r (rw e at other) h })
-
-  instance_came : (w : Word) (s : Core) → Allowed a w s → (i : ℕ) → InstanceCame a i (get s.instances i) (get (after_word w s).instances i)
-  unfolding add_call add_group add_set add_thread add_work count_work free_handle free_thread_handle give_handle give_result give_thread_handle on_call on_instance on_thread on_work push_high remove_call remove_group remove_set remove_thread remove_work set_backpressure set_cancel_delivered set_cancelled set_course set_do_not_enter set_do_not_suspend set_end set_event set_exited set_how_far set_join set_own_event set_phase set_position set_register set_result set_saved_callee set_saved_own set_script set_stage set_started set_starting_published set_subtask_handle set_thread_handle set_trapped set_uninteresting set_word take_result call_made with_handle with_thread_handle work_queued poll_pends
-  instance_came (SetDoNotEnter j true) s ok i = instance_changed j _ s i (λ r other h. refl)
-  instance_came (SetDoNotEnter j false) s ok i = instance_changed j _ s i (λ r other h. absurd (other ok))
-  instance_came (SetBackpressure j n) s ok i = instance_changed j _ s i (λ r other h. h)
-  instance_came (SetDoNotSuspend j b) s ok i = instance_changed j _ s i (λ r other h. h)
-  instance_came (SetWord j w v) s ok i = instance_changed j _ s i (λ r other h. h)
-  instance_came w s ok i = instance_stays (get s.instances i)
+instance_came : (a : Scene) (w : Word) (s : Core) → Allowed a w s → (i : ℕ) → InstanceCame a i (get s.instances i) (get (after_word w s).instances i)
+unfolding add_call add_group add_set add_thread add_work count_work free_handle free_thread_handle give_handle give_result give_thread_handle on_call on_instance on_thread on_work push_high remove_call remove_group remove_set remove_thread remove_work set_backpressure set_cancel_delivered set_cancelled set_course set_do_not_enter set_do_not_suspend set_end set_event set_exited set_how_far set_join set_own_event set_phase set_position set_register set_result set_saved_callee set_saved_own set_script set_stage set_started set_starting_published set_subtask_handle set_thread_handle set_trapped set_uninteresting set_word take_result call_made with_handle with_thread_handle work_queued poll_pends
+instance_came a (SetDoNotEnter j true) s ok i = grind (arith, nat_tests, get-change)
+instance_came a (SetDoNotEnter j false) s ok i = grind (arith, nat_tests, get-change)
+instance_came a (SetBackpressure j n) s ok i = grind (arith, nat_tests, get-change)
+instance_came a (SetDoNotSuspend j b) s ok i = grind (arith, nat_tests, get-change)
+instance_came a (SetWord j w v) s ok i = grind (arith, nat_tests, get-change)
+instance_came a w s ok i = record { there = λ h. h; shut = λ other h. h }
 
 -- ---- What holds
 
@@ -98,18 +88,18 @@ module _ (a : Scene) (instances : ℕ) (exist : CalleesExist a.setting instances
 
   word_holds : (w : Word) (s : Core) → Allowed a w s → HoldersGo a s → HoldersGo a (after_word w s)
   word_holds w s ok q = record {
-    shut = λ i other h. (instance_came w s ok i).shut other (q.shut i other h);
-    kept = λ i h. (instance_came w s ok i).there (q.kept i h);
+    shut = λ i other h. (instance_came a w s ok i).shut other (q.shut i other h);
+    kept = λ i h. (instance_came a w s ok i).there (q.kept i h);
     homes = λ k c at. home k c at (call_came w s ok k);
   }
     where
       home : (k : ℕ) (c : Call) → get (after_word w s).calls k ≡ Some c → CallAfter a w s k →
           is_some (get (after_word w s).instances c.callee.instance) ≡ true
       home k c at (Grown d e f g h) = let same : c.callee ≡ d.callee = cc in
-          rw same ((instance_came w s ok d.callee.instance).there (q.homes k d f))
+          rw same ((instance_came a w s ok d.callee.instance).there (q.homes k d f))
       home k c at (NoCall e r) = absurd (cc)
       home k c at (NewCall f e x g group is l m new) = let same : c.callee ≡ e = cc in
-          rw same ((instance_came w s ok e.instance).there (q.kept e.instance (b.there e.instance (callee_there f e group s m.0))))
+          rw same ((instance_came a w s ok e.instance).there (q.kept e.instance (b.there e.instance (callee_there f e group s m.0))))
 
 -- ---- Who begins to run, whatever stands at the marks
 

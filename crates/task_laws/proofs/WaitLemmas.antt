@@ -1,11 +1,11 @@
 -- Of which instance the sets are that threads wait on, along the words of a step.
 use Rattle.std.proofs.Common.{ap, arith, inl, inr, refl, ⊎_elim}
 use Rattle.std.proofs.lemmas.Bool.Decides.{nat_tests}
-use Rattle.std.specs.Prelude.{IfSome, None, Option, Some, option_and_then, true, ℕ, ◌+◌, ◌≡◌, ◌⊎◌}
+use Rattle.std.specs.Prelude.{IfSome, None, Option, Some, option_and_then, true, ℕ, ◌≡◌, ◌⊎◌}
 use Rattle.task_laws.proofs.Basics.{above}
 use Rattle.task_laws.proofs.CallsCame.{op_came}
 use Rattle.task_laws.proofs.CameLemmas.{Came, Comes, MayStand, Moved, Shifts, Turned, Turns, came_word}
-use Rattle.task_laws.proofs.Machine.{add_call, add_group, add_set, add_thread, add_work, after_word, call_made, CloseSet, Core, count_work, free_handle, free_thread_handle, get, get-insert, get-remove, give_handle, give_result, give_thread_handle, how_far_of, HowFar, insert, instance_of, Mark, on_call, on_instance, on_thread, on_work, OpenSet, Place, place_of, poll_pends, push_high, remove, remove_call, remove_group, remove_set, remove_thread, remove_work, Scene, Set, set_backpressure, set_cancel_delivered, set_cancelled, set_course, set_do_not_enter, set_do_not_suspend, set_end, set_event, set_exited, set_how_far, set_join, set_own_event, set_phase, set_position, set_register, set_result, set_saved_callee, set_saved_own, set_script, set_stage, set_started, set_starting_published, set_subtask_handle, set_thread_handle, set_trapped, set_uninteresting, set_word, take_result, Why, with_handle, with_thread_handle, Word, work_queued}
+use Rattle.task_laws.proofs.Machine.{add_call, add_group, add_set, add_thread, add_work, after_word, call_made, CloseSet, Core, count_work, free_handle, free_thread_handle, get-insert, get-remove, give_handle, give_result, give_thread_handle, how_far_of, HowFar, instance_of, Mark, on_call, on_instance, on_thread, on_work, OpenSet, Place, place_of, poll_pends, push_high, remove_call, remove_group, remove_set, remove_thread, remove_work, Scene, set_backpressure, set_cancel_delivered, set_cancelled, set_course, set_do_not_enter, set_do_not_suspend, set_end, set_event, set_exited, set_how_far, set_join, set_own_event, set_phase, set_position, set_register, set_result, set_saved_callee, set_saved_own, set_script, set_stage, set_started, set_starting_published, set_subtask_handle, set_thread_handle, set_trapped, set_uninteresting, set_word, take_result, Why, with_handle, with_thread_handle, Word, work_queued}
 use Rattle.task_laws.specs.Order.{IsOf, SetsNamed, WaitsAtHome, set_of_op, set_of_place, set_of_why}
 use Rattle.task_machine.specs.declared.records.HowFar.TheVariants as how_far
 use Rattle.task_machine.specs.declared.records.Place.TheVariants as place
@@ -14,17 +14,10 @@ use Rattle.task_rules.specs.Places.{is_there}
 
 -- ---- Sets
 
-opened_of : (i x j : ℕ) (s : Core) → IsOf i x s → (r : Set) → get (insert s.sets (s.made.sets + 1) (record { instance = j })) x ≡ Some r →
-    r.instance ≡ i
-opened_of i x j s h r e = grind (arith, nat_tests, get-insert, h.home r)
-
-closed_of : (i x y : ℕ) (s : Core) → IsOf i x s → (r : Set) → get (remove s.sets y) x ≡ Some r → r.instance ≡ i
-closed_of i x y s h r e = grind (arith, nat_tests, get-remove, h.home r)
-
 of_word : (i x : ℕ) (w : Word) (s : Core) → IsOf i x s → IsOf i x (after_word w s)
 unfolding on_thread add_group add_set add_work count_work free_handle free_thread_handle give_handle give_result give_thread_handle on_call on_instance on_work push_high remove_call remove_group remove_set remove_work remove_thread set_backpressure set_cancel_delivered set_cancelled set_course set_do_not_enter set_do_not_suspend set_end set_event set_exited set_how_far set_join set_own_event set_phase set_position set_register set_result set_saved_callee set_saved_own set_script set_stage set_started set_starting_published set_subtask_handle set_thread_handle set_trapped set_uninteresting set_word take_result call_made add_call add_thread with_handle with_thread_handle work_queued poll_pends
-of_word i x (OpenSet j) s h = record { made = above h.made; home = opened_of i x j s h }
-of_word i x (CloseSet j g y) s h = record { made = h.made; home = closed_of i x y s h }
+of_word i x (OpenSet j) s h = record { made = above h.made; home = λ r e. grind (arith, nat_tests, get-insert, h.home r) }
+of_word i x (CloseSet j g y) s h = record { made = h.made; home = λ r e. grind (arith, nat_tests, get-remove, h.home r) }
 of_word i x w s h = record { made = h.made; home = h.home }
 
 -- ---- Threads

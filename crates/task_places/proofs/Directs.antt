@@ -1,7 +1,7 @@
 -- Under the first thread of a direct call there is another one, along the words of a step.
 use Rattle.std.proofs.Common.{ap, inl, inr, subst, sym, ◌∙◌, refl, arith}
 use Rattle.std.specs.Option.{option_map_or}
-use Rattle.std.specs.Prelude.{None, Option, Some, false, is_some, option_map, true, ℕ, ◌+◌, ◌≡◌, ◌≤◌, ◌⊎◌}
+use Rattle.std.specs.Prelude.{None, Option, Some, false, is_some, option_map, true, ℕ, ◌≡◌, ◌≤◌, ◌⊎◌}
 use Rattle.task_laws.proofs.CallsCame.{CallAfter, call_came}
 use Rattle.task_laws.specs.Order.{DirectsOnTop, Numbered}
 use Rattle.task_machine.specs.Core.{Core}
