@@ -1,8 +1,13 @@
 -- A state in order: what is so of every opening state and kept by every step, whatever the state was reached by.
+use Rattle.task_machine.specs.declared.records.Stage.TheVariants as stage
+use Rattle.task_machine.specs.declared.records.Entry.TheVariants as entry
+use Rattle.task_machine.specs.declared.records.Work.{Work}
+use Rattle.task_machine.specs.declared.records.Stage.{Stage}
+use Rattle.task_machine.specs.declared.records.Entry.{Entry}
 use Rattle.task_machine.specs.declared.records.Subtask.{Subtask}
 use Rattle.task_machine.specs.declared.records.Named.{Named}
 use Rattle.task_rules.specs.Allowed.{subtask_under_way}
-use Rattle.std.specs.Prelude.{Bool, None, Option, Some, false, is_none, is_some, option_and_then, option_map, true, ℕ, ◌+◌, ◌≡◌, ◌≤◌, length}
+use Rattle.std.specs.Prelude.{Bool, None, Option, Some, false, is_none, is_some, option_and_then, option_map, true, ℕ, ◌+◌, ◌≡◌, ◌≤◌, length, List, [], ◌∷◌, ◌==◌}
 use Rattle.task_laws.specs.Settings.{CodesInCallbacks}
 use Rattle.task_machine.specs.Core.{Core, Main, State, Table}
 use Rattle.task_machine.specs.Maps.{get, size}
@@ -22,7 +27,7 @@ use Rattle.task_machine.specs.declared.records.Thread.{Thread}
 use Rattle.task_machine.specs.declared.records.Turn.TheVariants as turn
 use Rattle.task_machine.specs.declared.records.Why.{Why}
 use Rattle.task_machine.specs.declared.records.Why.TheVariants as why
-use Rattle.task_rules.specs.Places.{Placed, is_fresh, times}
+use Rattle.task_rules.specs.Places.{Placed, is_fresh, times, one_if}
 use Rattle.task_rules.specs.Run.{opening}
 use Rattle.task_rules.specs.Scripts.{export_kind}
 use Rattle.task_rules.specs.Stalled.{Setting}
@@ -162,6 +167,41 @@ abbrev pub DirectsOnTop : Core → Type 0
 DirectsOnTop s = (m : ℕ) → is_some (place_of m s) ≡ true → is_explicit m s ≡ false → is_direct (goal_of (task_of m s) s) ≡ true →
     (n : ℕ) × (place_of n s ≡ Some (place.Under m))
 
+-- ---- Host works
+
+-- how many such entries stand in the list
+abbrev pub stands : (Entry → Bool) → List Entry → ℕ
+stands test [] = 0
+stands test (e ∷ es) = one_if (test e) + stands test es
+
+abbrev pub is_push_of : ℕ → Entry → Bool
+is_push_of i (entry.Push j) = i == j
+is_push_of i _ = false
+
+abbrev pub is_host_of : ℕ → Entry → Bool
+is_host_of i (entry.Host j) = i == j
+is_host_of i _ = false
+
+abbrev pub is_queued : Stage → Bool
+is_queued stage.Queued = true
+is_queued _ = false
+
+abbrev pub is_finishing : Stage → Bool
+is_finishing stage.Finishing = true
+is_finishing _ = false
+
+-- a work that is queued has its one push entry, one that is finishing its one host entry, and no other has such an entry
+pub record WorkEntries (s : Core) (i : ℕ) (w : Work) : Type 0 where
+  pub push : stands (is_push_of i) s.queues.high ≡ one_if (is_queued w.stage)
+  pub host : stands (is_host_of i) s.queues.high ≡ one_if (is_finishing w.stage)
+
+-- Each work that is there has its entries. None is at low, nor of a number that wasn't given.
+pub record WorksQueued (s : Core) : Type 0 where
+  pub each : (i : ℕ) (w : Work) → get s.works i ≡ Some w → WorkEntries s i w
+  pub low : (i : ℕ) → (stands (is_push_of i) s.queues.low ≡ 0) × (stands (is_host_of i) s.queues.low ≡ 0)
+  pub made : (i : ℕ) → is_some (get s.works i) ≡ true → i ≤ s.made.works
+  pub ungiven : (i : ℕ) → s.made.works + 1 ≤ i → (stands (is_push_of i) s.queues.high ≡ 0) × (stands (is_host_of i) s.queues.high ≡ 0)
+
 -- ---- Counts
 
 -- From s to t at most one thread is made, one work, one set and one group.
@@ -182,6 +222,7 @@ pub record InOrder (c : Component) (s : State) : Type 0 where
   pub in_place : InPlace s
   pub strands : Strands s.core
   pub directs : DirectsOnTop s.core
+  pub works : WorksQueued s.core
   pub numbered : Numbered s.core
   pub calls_there : CallsThere s.core
   pub calls_named : CallsNamed s.core

@@ -2,4 +2,5 @@ pub mod Entries
 pub mod PlaceLaw
 pub mod PlaceSteps
 pub mod Directs
+pub mod WorksQueued
 pub mod OrderLemmas
