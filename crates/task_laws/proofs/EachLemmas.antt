@@ -89,6 +89,3 @@ module _ {X Y : Type 0} (g : X → Y) (P : ℕ → Option Y → Option Y → Typ
 
   pub at_removed : P j (option_map g (get m j)) None → (k : ℕ) → P k (option_map g (get m k)) (option_map g (get (remove m j) k))
   at_removed own k = subst (λ (r : Option X). P k (option_map g (get m k)) (option_map g r)) (sym (get-remove m j k)) (at_number None own k)
-
-  pub at_inserted : (x : X) → P j (option_map g (get m j)) (Some (g x)) → (k : ℕ) → P k (option_map g (get m k)) (option_map g (get (insert m j x) k))
-  at_inserted x own k = subst (λ (r : Option X). P k (option_map g (get m k)) (option_map g r)) (sym (get-insert m j x k)) (at_number (Some x) own k)

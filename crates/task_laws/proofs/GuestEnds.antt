@@ -3,13 +3,12 @@ use Rattle.task_laws.specs.Order.{Numbered}
 use Rattle.task_machine.specs.Statuses.{status_code}
 use Rattle.task_machine.specs.declared.records.Goal.{Goal}
 use Rattle.task_machine.specs.declared.records.Caller.{Caller}
-use Rattle.task_machine.specs.declared.label.LoopLabel.{LoopLabel}
 use Rattle.task_rules.specs.Once.{changes_end, is_written, written, call_end_code, is_other, covers_end, is_end_of, handed, end_code}
 use Rattle.task_machine.specs.declared.records.Subtask.{Subtask}
 use Rattle.task_laws.specs.Rises.{CallsRise, Rises}
 use Rattle.std.proofs.Common.{ap, le_trans, refl, subst, sym, ◌∙◌, inl, inr}
 use Rattle.std.specs.Option.{option_map_or}
-use Rattle.std.specs.Prelude.{Bool, None, Option, Some, false, if◌then◌else◌, is_some, not, option_and_then, option_map, true, ℕ, ◌&&◌, ◌+◌, ◌==◌, ◌≡◌, ◌≤◌, ◌⊎◌, ◌∷◌, ◌||◌, unwrap_or}
+use Rattle.std.specs.Prelude.{Bool, None, Option, Some, false, is_some, not, option_and_then, option_map, true, ℕ, ◌&&◌, ◌+◌, ◌==◌, ◌≡◌, ◌≤◌, ◌⊎◌, unwrap_or}
 use Rattle.task_laws.proofs.Basics.{no_way, too_high, true_is_not_false, same_number}
 use Rattle.task_laws.proofs.CallsLaw.{CallsGo, CallsHold, exits_unended}
 use Rattle.task_laws.proofs.CallsSteps.{of_base}
@@ -28,17 +27,15 @@ use Rattle.task_rules.specs.Chains.{EndWords, Walk, is_over, Writes, WritesAtOnc
 use Rattle.task_rules.specs.Laws.{LaterBy}
 use Rattle.task_rules.specs.Scenes.{Scene, base_at, scene_of}
 use Rattle.task_rules.specs.Stalled.{Setting}
-use Rattle.task_rules.specs.SubtaskEnds.{end_for, written_by, SubtaskEnd, written_by_loop, handed_by}
+use Rattle.task_rules.specs.SubtaskEnds.{end_for, written_by, SubtaskEnd, handed_by}
 use Rattle.task_rules.specs.Words.{Word, after_word}
 use Rattle.task_laws.proofs.CallEnds.{EndsGo, EndsTold, is_start_cancelled, is_withdrawn, recorded, ResultCame, Telling, ToldOrWritten, telling, telling_of}
 use Rattle.task_laws.proofs.OnceLemmas.{Due, Over, EndStep, Out, end_there}
 use Rattle.task_rules.specs.History.{Moment}
 use Rattle.task_laws.proofs.HostEnds.{and_not_same, either}
-use Rattle.task_laws.proofs.SaidEnds.{written_at, said_at, hands_at, said_now}
+use Rattle.task_laws.proofs.SaidEnds.{written_at, hands_at, said_now}
 use Rattle.task_laws.proofs.CallsCame.{Grown, Grows, NewCall, NoCall, call_came, CallAfter}
 use Rattle.task_laws.proofs.SceneLemmas.{base_is}
-use Rattle.task_machine.specs.declared.label.Label.TheVariants as label
-use Rattle.task_machine.specs.declared.label.LoopLabel.TheVariants as loop_label
 use Rattle.task_machine.specs.declared.records.Caller.TheVariants as caller
 use Rattle.task_machine.specs.declared.records.Goal.TheVariants as goal
 use Rattle.task_machine.specs.declared.records.CallEnd.TheVariants as call_end

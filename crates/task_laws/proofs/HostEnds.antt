@@ -7,20 +7,17 @@ use Rattle.task_machine.specs.declared.records.Subtask.{Subtask}
 use Rattle.task_rules.specs.Calls.{next_work}
 use Rattle.task_laws.proofs.CallsSteps.{of_base}
 use Rattle.task_laws.proofs.PolledWorks.{polled_is_live}
-use Rattle.std.proofs.Common.{T, ap, arith, inl, inr, le_refl, le_trans, refl, subst, sym, ◌∙◌, ap₂}
+use Rattle.std.proofs.Common.{ap, inl, inr, le_refl, le_trans, refl, subst, sym, ◌∙◌, ap₂}
 use Rattle.std.specs.Option.{option_map_or}
-use Rattle.std.specs.Prelude.{Bool, None, Option, Some, false, if◌then◌else◌, is_some, not, option_and_then, option_map, true, unwrap_or, ℕ, ◌&&◌, ◌+◌, ◌==◌, ◌||◌, ◌≡◌, ◌≤◌, ◌⊎◌}
+use Rattle.std.specs.Prelude.{Bool, None, Option, Some, false, is_some, not, option_and_then, option_map, true, unwrap_or, ℕ, ◌&&◌, ◌+◌, ◌==◌, ◌||◌, ◌≡◌, ◌≤◌, ◌⊎◌}
 use Rattle.task_laws.proofs.Basics.{no_way, same_number, too_high, true_is_not_false}
 use Rattle.task_laws.proofs.OnceLemmas.{Due, EndStep, Out, Over, end_there}
-use Rattle.task_laws.proofs.Works.{AbortsNoSync, Doing, WorkHolds, WorksGo, WorksHold, WorkWas, awaits, doing, doing_of, is_due, is_late, works_word, High, WasDue, clash, due_parts, stage_ended, stage_live, Before}
-use Rattle.task_machine.specs.Core.{Core, Queues, State}
+use Rattle.task_laws.proofs.Works.{Doing, WorkHolds, WorksGo, WorksHold, WorkWas, awaits, doing, doing_of, is_due, is_late, High, WasDue, clash, due_parts, stage_ended, stage_live, Before}
+use Rattle.task_machine.specs.Core.{Core, State}
 use Rattle.task_machine.specs.Maps.{get, Records}
 use Rattle.task_machine.specs.Read.{course_of, course_value, event_of, how_far_of, undelivered_end, is_live, is_stage_ended, is_stage_live}
 use Rattle.task_machine.specs.Statuses.{status_code}
-use Rattle.task_machine.specs.declared.component.Component.{Component}
-use Rattle.task_machine.specs.declared.label.CallLabel.{CallLabel}
 use Rattle.task_machine.specs.declared.label.Label.{Label}
-use Rattle.task_machine.specs.declared.label.TaskLabel.{TaskLabel}
 use Rattle.task_machine.specs.declared.records.Course.{Course}
 use Rattle.task_machine.specs.declared.records.Turn.{Turn}
 use Rattle.task_machine.specs.declared.records.Work.{Work}
@@ -30,12 +27,10 @@ use Rattle.task_rules.specs.Chains.{EndWords, Answers, HandsAtOnce, HandsOut, Is
 use Rattle.task_rules.specs.History.{Moment}
 use Rattle.task_rules.specs.Once.{course_code, end_code, changes_end, covers_end, handed, is_end_of, is_other, is_written, written}
 use Rattle.task_rules.specs.Scenes.{Scene, scene_of, base_at}
-use Rattle.task_rules.specs.Scripts.{op_of, script_of}
 use Rattle.task_rules.specs.Stalled.{Setting}
-use Rattle.task_rules.specs.SubtaskEnds.{SubtaskEnd, end_for, written_by, written_by_call, written_by_task, handed_by}
+use Rattle.task_rules.specs.SubtaskEnds.{end_for, written_by, handed_by}
 use Rattle.task_rules.specs.Takes.{host_status}
 use Rattle.task_rules.specs.Works.{has_end}
-use Rattle.task_machine.specs.declared.label.Label.TheVariants as label
 use Rattle.task_machine.specs.declared.records.Course.TheVariants as course
 use Rattle.task_machine.specs.declared.records.HowFar.TheVariants as how_far
 use Rattle.task_machine.specs.declared.records.Subtask.TheVariants as subtask

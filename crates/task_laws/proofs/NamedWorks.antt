@@ -3,27 +3,20 @@ use Rattle.task_laws.proofs.SetHandles.{none_named}
 use Rattle.task_laws.proofs.Subtasks.{NamedNow, handle_named}
 use Rattle.task_laws.proofs.Works.{Aborts, Doing, Done, Ends, Gone, Lives, Made, Pends, Same, Takes, WorkCame, WorksHold, doing, doing_of, work_came}
 use Rattle.task_laws.specs.Ends.{MayBeAborted, is_sync_work}
-use Rattle.task_machine.specs.Read.{as_subtask, named_by, subtask_at, work_caller_of}
-use Rattle.std.proofs.Common.{inl, inr, ap, le_trans, refl, subst, sym, ◌∙◌}
+use Rattle.task_machine.specs.Read.{subtask_at, work_caller_of}
+use Rattle.std.proofs.Common.{inl, inr, ap, le_trans, refl, sym, ◌∙◌}
 use Rattle.task_laws.proofs.CountLemmas.{made_works_word}
 use Rattle.task_rules.specs.Scenes.{Scene}
 use Rattle.task_laws.proofs.Basics.{no_way, too_high}
 use Rattle.std.specs.Option.{option_map_or}
-use Rattle.task_machine.specs.Core.{Core, fresh, filled, no_handles}
+use Rattle.task_machine.specs.Core.{Core, fresh}
 use Rattle.task_machine.specs.Maps.{get}
-use Rattle.task_machine.specs.Write.{add_call, add_group, add_set, add_thread, add_work, count_work, free_handle, free_thread_handle, give_handle, give_result, give_thread_handle, on_call, on_instance, on_thread, on_work, push_high, remove_call, remove_group, remove_set, remove_thread, remove_work, set_backpressure, set_cancel_delivered, set_cancelled, set_course, set_do_not_enter, set_do_not_suspend, set_end, set_event, set_exited, set_how_far, set_join, set_own_event, set_phase, set_position, set_register, set_result, set_saved_callee, set_saved_own, set_script, set_stage, set_started, set_starting_published, set_subtask_handle, set_thread_handle, set_trapped, set_uninteresting, set_word, take_result}
 use Rattle.task_machine.specs.declared.records.Work.{Work}
-use Rattle.task_rules.proofs.ChainLemmas.{along}
 use Rattle.task_machine.specs.declared.records.WorkCaller.{WorkCaller}
 use Rattle.task_rules.specs.Allowed.{Allowed, is_async_work}
-use Rattle.task_rules.specs.Calls.{call_made, with_handle, with_thread_handle, work_queued}
-use Rattle.task_rules.specs.Works.{poll_pends}
-use Rattle.task_rules.specs.Words.{NameWork, UnnameWork, Word, after_word, CloseSet, NameCall, OpenSet, UnnameCall}
-use Rattle.std.specs.Prelude.{Bool, None, Option, Some, false, is_some, option_map, true, unwrap_or, ℕ, ◌+◌, ◌≡◌, ◌≤◌, ◌⊎◌, option_and_then}
-use Rattle.task_machine.specs.declared.records.Named.{Named}
-use Rattle.task_machine.specs.declared.records.Subtask.{Subtask}
+use Rattle.task_rules.specs.Words.{Word, after_word}
+use Rattle.std.specs.Prelude.{Bool, None, Option, Some, false, is_some, option_map, true, unwrap_or, ℕ, ◌≡◌, ◌≤◌, ◌⊎◌}
 use Rattle.task_machine.specs.declared.records.WorkCaller.TheVariants as work_caller
-use Rattle.task_machine.specs.declared.records.Named.TheVariants as named
 use Rattle.task_machine.specs.declared.records.Subtask.TheVariants as subtask
 
 -- ---- Works that aren't sync calls'

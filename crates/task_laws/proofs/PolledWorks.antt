@@ -1,45 +1,17 @@
 -- The work that is polled next is live.
-use Rattle.task_laws.proofs.Basics.{above, no_way, same_number, too_high, too_low, true_is_not_false}
-use Rattle.std.proofs.Common.{T, ap, ap₂, arith, cond, eqb→eq, le_refl, le_trans, refl, subst, suc, sym, ◌++◌, ◌∙◌}
+use Rattle.task_laws.proofs.Basics.{no_way, same_number}
+use Rattle.std.proofs.Common.{T, ap, ap₂, cond, eqb→eq, refl, subst, sym, ◌∙◌}
 use Rattle.std.proofs.lemmas.Cmp.{tied_itself}
 use Rattle.std.specs.Cmp.{nat_cmp_total, unsigned_tied}
 use Rattle.std.specs.FinMap.Entries.{below_all, find, is_sorted}
 use Rattle.std.specs.Option.{option_map_or}
 use Rattle.std.specs.Ordering.{eq_by_cmp, is_lt, nat_cmp}
-use Rattle.std.specs.Prelude.{Bool, List, None, Option, Some, [], false, if◌then◌else◌, is_some, nat_lt, true, unwrap_or, zero, ℕ, ◌&&◌, ◌+◌, ◌==◌, ◌||◌, ◌∷◌, ◌≡◌, ◌≤◌}
-use Rattle.task_laws.proofs.EachLemmas.{Each, each_change, each_empty, each_get, each_insert, each_map, each_remove}
-use Rattle.task_machine.proofs.CommuteLemmas.{change-change_same}
-use Rattle.task_machine.proofs.MapLemmas.{get-insert_other}
-use Rattle.task_machine.specs.Core.{Core, State, fresh}
-use Rattle.task_machine.specs.Maps.{Records, change, changed, empty, get, get-insert, get-remove, insert, remove}
-use Rattle.task_machine.specs.Moves.{less, unqueued}
-use Rattle.task_machine.specs.Read.{is_entry_of, is_live, is_stage_live, new_handle, next_entry, or_high}
-use Rattle.task_machine.specs.Write.{add_call, add_group, add_set, add_thread, add_work, count_work, free_handle, free_thread_handle, give_handle, give_result, give_thread_handle, on_call, on_instance, on_thread, on_work, push_high, remove_call, remove_group, remove_set, remove_thread, remove_work, set_backpressure, set_cancel_delivered, set_cancelled, set_course, set_do_not_enter, set_do_not_suspend, set_end, set_event, set_exited, set_high, set_how_far, set_join, set_low, set_own_event, set_phase, set_position, set_register, set_result, set_saved_callee, set_saved_own, set_script, set_stage, set_started, set_starting_published, set_subtask_handle, set_switch, set_thread_handle, set_trapped, set_uninteresting, set_word, take_result}
-use Rattle.task_machine.specs.declared.label.Label.{Label}
-use Rattle.task_machine.specs.declared.records.Course.{Course}
-use Rattle.task_machine.specs.declared.records.Entry.{Entry}
-use Rattle.task_machine.specs.declared.records.Stage.{Stage}
+use Rattle.std.specs.Prelude.{Bool, List, None, Option, Some, [], false, if◌then◌else◌, is_some, nat_lt, true, unwrap_or, ℕ, ◌&&◌, ◌==◌, ◌∷◌, ◌≡◌}
+use Rattle.task_machine.specs.Core.{Core}
+use Rattle.task_machine.specs.Maps.{get}
+use Rattle.task_machine.specs.Read.{is_live}
 use Rattle.task_machine.specs.declared.records.Work.{Work}
-use Rattle.task_machine.specs.declared.words.Mark.{Mark}
-use Rattle.task_rules.proofs.ChainLemmas.{along}
-use Rattle.task_rules.proofs.PlacingLemmas.{SameWorks, placing_works, unqueued_works, work_entries}
-use Rattle.task_rules.proofs.WalkSteps.{step_walks}
-use Rattle.task_rules.specs.Allowed.{Allowed}
-use Rattle.task_rules.specs.Calls.{call_made, new_work, with_handle, with_thread_handle, work_queued}
-use Rattle.task_rules.specs.Laws.{LaterBy}
-use Rattle.task_rules.specs.Places.{one_if}
-use Rattle.task_rules.specs.Run.{Run}
-use Rattle.task_rules.specs.Scenes.{Scene, scene_of}
-use Rattle.task_rules.specs.Stalled.{Setting}
-use Rattle.task_rules.specs.Step.{Step}
-use Rattle.task_rules.specs.Takes.{popped, rest_of}
-use Rattle.task_rules.specs.Words.{CountWork, EndWork, FinishWork, NameWork, Pend, Places, QueueWork, RemoveWork, SetCancelled, SetPhase, SetWorkJoin, TakeHost, TakePush, UnnameWork, Withdraw, Word, after_placing, after_word}
-use Rattle.task_rules.specs.Works.{first_number, live_after, next_polled, poll_pends}
-use Rattle.task_machine.specs.declared.records.Course.TheVariants as course
-use Rattle.task_machine.specs.declared.records.Entry.TheVariants as entry
-use Rattle.task_machine.specs.declared.records.Stage.TheVariants as stage
-use Rattle.task_machine.specs.declared.words.Mark.TheVariants as mark
-use Rattle.task_machine.specs.declared.words.Phase.TheVariants as phase
+use Rattle.task_rules.specs.Works.{first_number, live_after, next_polled}
 
 first : (a b : Bool) → T (a && b) → T a
 first true b p = tt

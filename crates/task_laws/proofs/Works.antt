@@ -4,18 +4,16 @@ use Rattle.task_rules.specs.Chains.{Walked}
 use Rattle.task_laws.proofs.CallsSteps.{of_base}
 use Rattle.task_laws.specs.Ends.{is_sync_work}
 use Rattle.task_laws.proofs.CountLemmas.{made_works_word}
-use Rattle.task_rules.specs.Run.{Run}
 use Rattle.task_rules.specs.Scenes.{Scene, scene_of}
 use Rattle.task_rules.specs.Stalled.{Setting}
-use Rattle.task_rules.specs.Step.{Step}
 use Rattle.task_machine.specs.declared.records.Course.TheVariants as course
 use Rattle.task_machine.specs.declared.records.Entry.TheVariants as entry
 use Rattle.task_machine.specs.declared.records.Stage.TheVariants as stage
 use Rattle.task_machine.specs.declared.words.Mark.TheVariants as mark
-use Rattle.task_laws.proofs.Basics.{above, no_way, same_number, too_high, too_low, true_is_not_false}
+use Rattle.task_laws.proofs.Basics.{no_way, same_number, too_high}
 use Rattle.std.specs.Option.{option_map_or}
 use Rattle.task_machine.specs.Core.{Core, State, fresh}
-use Rattle.task_machine.specs.Maps.{Records, change, changed, empty, get, get-insert, get-remove, insert, remove, get-empty}
+use Rattle.task_machine.specs.Maps.{Records, change, get, get-insert, insert, get-empty}
 use Rattle.task_machine.specs.Write.{add_call, add_group, add_set, add_thread, add_work, count_work, free_handle, free_thread_handle, give_handle, give_result, give_thread_handle, on_call, on_instance, on_thread, on_work, push_high, remove_call, remove_group, remove_set, remove_thread, remove_work, set_backpressure, set_cancel_delivered, set_cancelled, set_course, set_do_not_enter, set_do_not_suspend, set_end, set_event, set_exited, set_high, set_how_far, set_join, set_low, set_own_event, set_phase, set_position, set_register, set_result, set_saved_callee, set_saved_own, set_script, set_stage, set_started, set_starting_published, set_subtask_handle, set_switch, set_thread_handle, set_trapped, set_uninteresting, set_word, take_result}
 use Rattle.task_machine.specs.declared.label.Label.{Label}
 use Rattle.task_machine.specs.declared.records.Course.{Course}
@@ -24,9 +22,7 @@ use Rattle.task_machine.specs.declared.records.Stage.{Stage}
 use Rattle.task_machine.specs.declared.records.Work.{Work}
 use Rattle.task_machine.specs.declared.words.Mark.{Mark}
 use Rattle.task_rules.proofs.ChainLemmas.{along}
-use Rattle.task_rules.proofs.PlacingLemmas.{SameWorks, placing_works, unqueued_works, work_entries}
-use Rattle.task_rules.proofs.WalkSteps.{step_walks}
-use Rattle.task_rules.specs.Laws.{LaterBy}
+use Rattle.task_rules.proofs.PlacingLemmas.{placing_works, unqueued_works, work_entries}
 use Rattle.task_rules.specs.Places.{one_if}
 use Rattle.task_laws.proofs.EachLemmas.{at_changed, at_removed}
 use Rattle.task_laws.proofs.PolledWorks.{polled_is_live}
@@ -48,8 +44,8 @@ use Rattle.task_machine.specs.declared.records.WorkCaller.TheVariants as work_ca
 use Rattle.task_machine.specs.declared.words.Phase.TheVariants as phase
 use Rattle.task_machine.specs.declared.label.Label.TheVariants as label
 use Rattle.task_machine.specs.declared.label.LoopLabel.TheVariants as loop_label
-use Rattle.std.proofs.Common.{T, ap, arith, cond, inl, inr, le_refl, le_trans, refl, subst, sym, ◌++◌, ◌∙◌, suc}
-use Rattle.std.specs.Prelude.{Bool, List, None, Option, Some, [], false, if◌then◌else◌, is_some, option_map, true, unwrap_or, ℕ, ◌&&◌, ◌+◌, ◌==◌, ◌||◌, ◌∷◌, ◌≡◌, ◌≤◌, ◌⊎◌, zero, suc}
+use Rattle.std.proofs.Common.{ap, arith, cond, inl, inr, le_refl, le_trans, refl, subst, sym, ◌++◌, ◌∙◌, suc}
+use Rattle.std.specs.Prelude.{Bool, List, None, Option, Some, [], false, is_some, option_map, true, unwrap_or, ℕ, ◌&&◌, ◌+◌, ◌==◌, ◌||◌, ◌∷◌, ◌≡◌, ◌≤◌, ◌⊎◌, zero, suc}
 
 -- ---- What a work does
 
@@ -366,13 +362,6 @@ stage_ended stage.Queued h = no_way h
 stage_ended stage.Live h = no_way h
 stage_ended stage.Finishing h = no_way h
 
-late_awaits : (x : Stage) → is_late x ≡ true → awaits true x ≡ false
-late_awaits stage.Finishing h = refl
-late_awaits stage.Ended h = refl
-late_awaits stage.FirstPoll h = no_way h
-late_awaits stage.Queued h = no_way h
-late_awaits stage.Live h = no_way h
-
 pub clash : {A : Type 0} {b : Bool} → b ≡ true → b ≡ false → A
 clash p q = no_way (sym q ∙ p)
 
@@ -413,9 +402,6 @@ AbortsNoSync a = (i : ℕ) → MayAbort a i → (i ≤ a.base.made.works) × ((u
 none_given : (i made n : ℕ) → i ≡ made + 1 → (1 ≤ n → i ≤ made) → n ≡ 0
 none_given i made zero same given = refl
 none_given i made (suc n) same given = let h = given (omega arith) in absurd (omega (same, h, arith))
-
-one_stands : (g h n : ℕ) → 1 ≤ g → g ≤ h + n → n ≡ 0 → 1 ≤ h
-one_stands g h n a b c = omega (a, b, c, arith)
 
 module _ {S : Type 0} {a : Scene} (unsync : S → AbortsNoSync a) (w : Word) (s : Core) (ok : Allowed a w s) (q : WorksGo S a s) where
   abbrev pub t : Core

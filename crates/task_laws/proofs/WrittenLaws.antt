@@ -15,7 +15,7 @@ use Rattle.task_rules.specs.Chains.{Walked, Writes, WritesAtOnce, WritesCall, Wr
 use Rattle.task_rules.specs.Run.{Run, opening}
 use Rattle.task_rules.specs.Step.{Step}
 use Rattle.std.specs.Prelude.{List, [], ◌∷◌, Bool, None, Some, false, is_some, true, ℕ, ◌≡◌, ◌≤◌, ◌⊎◌}
-use Rattle.std.proofs.Common.{inl, inr, ap, refl, subst, sym, ◌∙◌}
+use Rattle.std.proofs.Common.{inl, inr, ap, refl, subst, sym}
 use Rattle.task_rules.specs.Once.{changes_end, covers_end}
 use Rattle.task_machine.specs.declared.records.Subtask.{Subtask}
 use Rattle.task_laws.specs.Rises.{CallsRise}

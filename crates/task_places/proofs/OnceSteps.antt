@@ -1,16 +1,16 @@
 -- Each step owes of the ends what it should, and so each run has each end once.
 use Rattle.task_laws.proofs.NamedWorks.{NamesNoSync, abort_kept, caller_is, names_word, opening_names}
-use Rattle.task_rules.specs.Once.{written, handed}
+use Rattle.task_rules.specs.Once.{written}
 use Rattle.task_machine.specs.declared.records.Subtask.{Subtask}
 use Rattle.std.proofs.Common.{ap, refl, subst, sym, ◌∙◌, inl, inr, le_refl, ◌++◌, arith}
 use Rattle.std.specs.Option.{option_map_or}
-use Rattle.std.specs.Prelude.{Bool, None, Option, Some, false, is_some, option_and_then, option_map, true, ℕ, ◌+◌, ◌≡◌, ◌≤◌, ◌⊎◌, ◌∷◌, unwrap_or, [], slice_get, zero, suc, ◌-◌}
+use Rattle.std.specs.Prelude.{Bool, None, Option, Some, false, is_some, option_and_then, option_map, true, ℕ, ◌≡◌, ◌≤◌, ◌⊎◌, ◌∷◌, unwrap_or, [], slice_get, zero, suc, ◌-◌}
 use Rattle.task_laws.proofs.Basics.{no_way}
 use Rattle.task_laws.proofs.CallsLaw.{CallsGo, CallsHold}
 use Rattle.task_laws.proofs.CallsSteps.{of_base, step_goes, calls_begin}
 use Rattle.task_laws.specs.Settings.{Reached}
 use Rattle.task_machine.specs.Core.{Core, State, fresh, MainPlace, Scripted, Unscripted, Main}
-use Rattle.task_machine.specs.Maps.{get, empty, get-empty}
+use Rattle.task_machine.specs.Maps.{get, get-empty}
 use Rattle.task_machine.specs.Read.{undelivered_end, how_far_of, is_stage_ended, next_entry, work_caller_of, place_of, instance_of, stage_of, subtask_at, task_of}
 use Rattle.task_machine.specs.declared.label.Label.{Label}
 use Rattle.task_machine.specs.declared.records.Call.{Call}
@@ -28,7 +28,7 @@ use Rattle.task_laws.proofs.HostEnds.{Answered, host_step}
 use Rattle.task_laws.proofs.SceneLemmas.{base_is, runner_there}
 use Rattle.task_laws.specs.Ends.{is_sync_work, EndsFound, MayBeAborted, Waited, SyncUnnamed}
 use Rattle.task_machine.specs.declared.records.WorkCaller.{WorkCaller}
-use Rattle.task_laws.proofs.Works.{AbortsNoSync, Doing, WorksGo, WorksHold, doing, doing_of, is_late, stage_ended, opening_works, before_step, works_go, first_works, works_word}
+use Rattle.task_laws.proofs.Works.{AbortsNoSync, Doing, WorksGo, WorksHold, doing, doing_of, is_late, stage_ended, opening_works, before_step, first_works, works_word}
 use Rattle.task_machine.specs.declared.records.Work.{Work}
 use Rattle.task_rules.specs.Run.{opening}
 use Rattle.task_rules.specs.Step.{Step}

@@ -3,7 +3,7 @@ use Rattle.task_machine.specs.declared.words.Mark.{Mark}
 use Rattle.task_rules.specs.Words.{put_at}
 use Rattle.std.proofs.Common.{◌∙◌, T, ap, ap₂, arith, cond, refl, subst, sym}
 use Rattle.std.specs.Option.{option_map_or}
-use Rattle.std.specs.Prelude.{Bool, List, None, Option, Some, [], false, if◌then◌else◌, is_some, option_and_then, option_map, true, unwrap_or, ℕ, ◌+◌, ◌==◌, ◌∷◌, ◌≡◌, ◌≤◌, not, is_none, ◌&&◌}
+use Rattle.std.specs.Prelude.{Bool, List, None, Option, Some, [], false, if◌then◌else◌, is_some, option_and_then, option_map, true, unwrap_or, ℕ, ◌+◌, ◌==◌, ◌∷◌, ◌≡◌, ◌≤◌, is_none}
 use Rattle.task_machine.specs.declared.records.Place.{Place}
 use Rattle.task_machine.specs.declared.records.Thread.{Thread}
 use Rattle.task_machine.specs.declared.records.Why.{Why}
@@ -20,7 +20,7 @@ use Rattle.task_machine.specs.Write.{remove_thread, set_place, push_high, push_l
 use Rattle.task_rules.proofs.StandLemmas.{Loose, Stand, adds_all, by_number, eq_refl, free_loose, is_eq_of, loose_free, loose_gone, loosened, not_eq, set_place_adds, none_there, zero_one, set_place_is, set_place_there, Watch, Nothing, is_watched, is_so}
 use Rattle.task_rules.proofs.StopLemmas.{put_high_stand, put_low_stand, put_switch_stand, stopped_stand}
 use Rattle.task_rules.specs.Laws.{ReleaseKeepsPlaces, RemovalKeepsPlaces, StopKeepsPlaces, WakeKeepsPlaces, is_free}
-use Rattle.task_rules.specs.Places.{HasPlace, is_at_high, is_at_low, is_at_switch, is_behind_of, is_there, one_if, says, times, is_fresh, is_for_start}
+use Rattle.task_rules.specs.Places.{HasPlace, is_at_high, is_at_low, is_at_switch, is_behind_of, is_there, one_if, says, times}
 
 -- ---- Where other threads are
 

@@ -1,7 +1,6 @@
 -- Labels that say nothing of the end of a call.
 use Rattle.std.proofs.Common.{T, ap, refl, subst, sym, ◌∙◌}
-use Rattle.std.specs.Option.{option_map_or}
-use Rattle.std.specs.Prelude.{Bool, None, Option, Some, false, if◌then◌else◌, is_none, not, option_and_then, option_map, true, ℕ, ◌==◌, ◌≡◌, is_some}
+use Rattle.std.specs.Prelude.{Bool, None, Option, Some, false, if◌then◌else◌, is_none, not, option_and_then, option_map, true, ◌==◌, ◌≡◌, is_some}
 use Rattle.task_machine.specs.declared.component.Component.{Component}
 use Rattle.task_machine.specs.declared.label.CallLabel.{CallLabel}
 use Rattle.task_machine.specs.declared.label.CallLabel.TheVariants as call_label
@@ -18,8 +17,6 @@ use Rattle.task_machine.specs.declared.label.TakeLabel.TheVariants as take
 use Rattle.task_machine.specs.declared.label.TaskLabel.{TaskLabel}
 use Rattle.task_machine.specs.declared.label.TaskLabel.TheVariants as task_label
 use Rattle.task_machine.specs.declared.records.Subtask.{Subtask}
-use Rattle.task_machine.specs.declared.records.Subtask.TheVariants as subtask
-use Rattle.task_machine.specs.declared.words.Status.{Status}
 use Rattle.task_machine.specs.declared.words.Status.TheVariants as status
 use Rattle.task_machine.specs.Core.{Core, Main, Scripted, Unscripted}
 use Rattle.task_rules.specs.Chains.{EndWords}

@@ -9,7 +9,6 @@ use Rattle.std.specs.Prelude.{List, [], find, map, ◌∷◌}
 use Rattle.task_machine.specs.Maps.{Records, get-remove, numbers, remove, change}
 use Rattle.task_machine.specs.Write.{take_result, on_work, set_cancelled, set_phase}
 use Rattle.task_rules.specs.SubtaskEnds.{finished_call, has_result}
-use Rattle.task_machine.proofs.MapLemmas.{change-field}
 use Rattle.task_machine.specs.declared.records.Join.{Join}
 use Rattle.task_machine.specs.Maps.{change}
 use Rattle.task_machine.specs.Write.{set_join, set_own_event}

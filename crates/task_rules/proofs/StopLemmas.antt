@@ -14,7 +14,7 @@ use Rattle.task_machine.specs.Moves.{behind, behind_one, displaced, newest, olde
 use Rattle.task_machine.specs.Read.{callers_of, foot_from, foot_of, is_at, is_under, place_of, under_of}
 use Rattle.task_machine.specs.Write.{on_thread, push_high_first, set_callers, set_place, set_switch}
 use Rattle.task_rules.proofs.StandLemmas.{Adds, Given, Loose, Stand, adds_given, adds_stand, by_number, callers_say, none_there, zero_one, eq_refl, gain, is_eq_of, place_kept, place_written, plus_none, plus_one, put_high_adds, put_low_adds, times-append, times-newest, Watch, Nothing, Awaits, Covered, is_watched, is_so}
-use Rattle.task_rules.specs.Places.{HasPlace, entries, is_at_high, is_at_low, is_at_switch, is_behind_of, is_there, one_if, says, switch_entries, times, is_fresh, is_for_start}
+use Rattle.task_rules.specs.Places.{HasPlace, entries, is_at_high, is_at_low, is_at_switch, is_behind_of, is_there, one_if, says, switch_entries, times, is_fresh}
 
 -- ---- What leaves every place and every entry of a thread alone
 

@@ -1,6 +1,6 @@
 -- The moves of the machine as chains of words.
 use Rattle.task_machine.specs.declared.records.Work.{Work}
-use Rattle.std.proofs.Common.{T, ap, cond, inl, inr, refl, subst, sym, ◌∙◌}
+use Rattle.std.proofs.Common.{T, ap, cond, inr, refl, subst, sym, ◌∙◌}
 use Rattle.task_machine.specs.declared.records.HowFar.{HowFar}
 use Rattle.std.specs.Option.{option_map_or}
 use Rattle.std.specs.Prelude.{Bool, List, None, Option, Some, [], false, if◌then◌else◌, is_none, is_some, not, option_and_then, true, unwrap_or, ℕ, ◌||◌, ◌∷◌, ◌≡◌, option_map}
@@ -22,8 +22,8 @@ use Rattle.task_rules.proofs.StopLemmas.{find_passes}
 use Rattle.task_rules.proofs.PlacingLemmas.{placed, placing_shifted}
 use Rattle.task_rules.proofs.PromotionLemmas.{first_has_entry}
 use Rattle.task_rules.proofs.StandLemmas.{by_number, is_eq_of, place_kept}
-use Rattle.task_rules.specs.Allowed.{Allowed, HasEntry, IsOwn, IsRunner, MayDeliver, MayGo, MayLeave, MayPut, MayTell, Releases, Tells, Unblocks, Wakes, wake_why, SaysEnd, is_done_host, Leaves, MayLand, Stays, MayCome}
-use Rattle.task_rules.specs.Chains.{NoWord, Shifts, Then, Walk, Stay, Trip, Settles, Quits, Lands, LandsAt}
+use Rattle.task_rules.specs.Allowed.{IsOwn, IsRunner, MayDeliver, MayPut, MayTell, Releases, Tells, Unblocks, Wakes, wake_why, SaysEnd, is_done_host, Leaves, MayLand, Stays, MayCome}
+use Rattle.task_rules.specs.Chains.{NoWord, Shifts, Then, Stay, Trip, Settles, Quits, Lands, LandsAt}
 use Rattle.task_rules.specs.Ends.{is_told, may_tell, told}
 use Rattle.task_rules.specs.Scenes.{Scene}
 use Rattle.task_rules.specs.Sets.{chosen}

@@ -6,9 +6,9 @@ use Rattle.task_machine.specs.declared.label.SetLabel.{SetLabel}
 use Rattle.task_machine.specs.declared.label.CallLabel.{CallLabel}
 use Rattle.task_rules.proofs.MuteLemmas.{is_mute, mute_words, none_said}
 use Rattle.task_rules.proofs.SayLemmas.{call_answered_gone, call_returned_gone, cancel_hands_of, cancel_taken_gone, cancel_writes_of, event_joined, event_owed, found_returned, given_says, packed_is_not_two, received_gone, received_woken_gone, HasNoEnd, event_aborted, said_is}
-use Rattle.task_rules.specs.Chains.{EndWords, HandsOut, TakesEvent, WritesToo, is_over, Answers, EndsSubtask, HandsAtOnce, IsReadyAtOnce, Writes, WritesAtOnce, WritesCall, WritesNever, NoWord, Shifts, Walk, Stay, Trip}
-use Rattle.task_rules.specs.SubtaskEnds.{SubtaskEnd, call_of_op, handed_by, handed_by_call, handed_by_cancel, handed_by_event, handed_by_set, returned_of_op, written_by_call, written_by_cancel, cancel_target, cancelled_of_op, end_for, written_by, host_end}
-use Rattle.std.proofs.Common.{T, ap, inl, inr, refl, subst, suc, sym, ◌∙◌, ◌⊎◌, ap₂, zero}
+use Rattle.task_rules.specs.Chains.{EndWords, HandsOut, TakesEvent, WritesToo, Answers, EndsSubtask, HandsAtOnce, IsReadyAtOnce, Writes, WritesAtOnce, WritesCall, WritesNever, NoWord, Shifts, Walk, Stay, Trip}
+use Rattle.task_rules.specs.SubtaskEnds.{call_of_op, handed_by, handed_by_call, handed_by_cancel, handed_by_event, handed_by_set, returned_of_op, written_by_call, written_by_cancel, cancel_target, cancelled_of_op, end_for, written_by, host_end}
+use Rattle.std.proofs.Common.{T, ap, inl, inr, refl, subst, suc, sym, ◌∙◌, ◌⊎◌, zero}
 use Rattle.std.specs.Option.{option_map_or}
 use Rattle.std.specs.Prelude.{Bool, List, None, Option, Some, [], false, if◌then◌else◌, is_some, not, option_map, true, unwrap_or, ℕ, ◌&&◌, ◌+◌, ◌==◌, ◌∷◌, ◌≡◌}
 use Rattle.task_machine.specs.Core.{Core, Main}

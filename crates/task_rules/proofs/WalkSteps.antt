@@ -8,7 +8,7 @@ use Rattle.task_rules.proofs.SayLemmas.{finished_is, result_taken, said_is}
 use Rattle.task_rules.specs.Chains.{EndWords, HandsOut, TakesResult, Writes, WritesPolled, start_of, Remains, Collapses, Chain, Then, LastWords, NoWord, SameMain, Shifts, StepsAreWalks, Stay, Trip, Walk, is_take, SpawnsNamed}
 use Rattle.task_rules.proofs.ChainLemmas.{join, trip_walk}
 use Rattle.task_rules.proofs.WalkTask.{Leads, data_row_leads, none_is_some, not_main, running_scene, task_row_leads, under_place}
-use Rattle.task_rules.specs.SubtaskEnds.{SubtaskEnd, end_for, finished_call, handed_by, handed_by_main, started_end, written_by}
+use Rattle.task_rules.specs.SubtaskEnds.{end_for, finished_call, handed_by, handed_by_main, started_end, written_by}
 use Rattle.task_machine.specs.declared.words.Status.{Status}
 use Rattle.task_machine.specs.Core.{Main, Began, Core, MainPlace, Refused, Scripted, Started, State, Unscripted}
 use Rattle.task_machine.specs.Write.{take_result, add_group, on_thread, on_work, push_high, remove_thread, remove_threads, set_course, set_event, set_phase, set_place, set_register, set_stage, set_trapped, add_work, count_work}

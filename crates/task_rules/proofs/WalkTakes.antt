@@ -15,7 +15,7 @@ use Rattle.task_machine.specs.Core.{Core, Main}
 use Rattle.task_machine.specs.Labels.{Choice, event_label, held_label, host_label, take_label}
 use Rattle.task_machine.specs.Maps.{change, get, Records}
 use Rattle.task_machine.specs.Moves.{Gift, MemberGift, NoGift, OwnGift, gift, given_for, handed_on, may_hand_on, own_gift_of, own_gift_only, own_or_nothing, published, stopped, taken}
-use Rattle.task_machine.specs.Read.{admits, at_handle_limit, backpressure_of, call_instance, foot_of, instance_of, is_direct, is_explicit, is_guest_call, is_holding, is_sync, is_waiting_on, kind_of, may_not_enter, new_thread_handle, no_callee, place_of, task_of, was_started, undelivered_end, event_of}
+use Rattle.task_machine.specs.Read.{admits, at_handle_limit, backpressure_of, call_instance, foot_of, instance_of, is_direct, is_explicit, is_guest_call, is_holding, is_sync, is_waiting_on, kind_of, may_not_enter, new_thread_handle, no_callee, place_of, task_of, was_started}
 use Rattle.task_machine.specs.Write.{give_thread_handle, on_call, on_instance, on_thread, set_do_not_enter, set_event, set_how_far, set_place, set_position, set_script, set_started, set_starting_published, set_thread_handle, taking}
 use Rattle.task_machine.specs.declared.component.Callee.{Callee}
 use Rattle.task_machine.specs.declared.component.ExportKind.{ExportKind}

@@ -5,7 +5,7 @@ use Rattle.task_rules.proofs.WalkEnds.{cancelled_rest, returned_rest, SameCall, 
 use Rattle.task_rules.specs.Allowed.{SaysEnd, AwaitsEvent, BySetHandle, ComesAgain, EndsActivation, Exits, FindsEvent, GivesUp, HasSet, IsRunner, Leaves, MayBar, MayEnd, MayOwe, ReturnsNow, Uncovers, is_exit}
 use Rattle.task_rules.specs.Chains.{EndWords, HandsOut, WritesToo, is_over, EndsByExit, EndsCall, EndsOwn, Writes, WritesCall, Remains, GoesBack, LastWords, NoWord, Stay, Trip, Walk, is_running}
 use Rattle.task_rules.proofs.ChainLemmas.{trip_walk, stay_walk}
-use Rattle.task_rules.specs.SubtaskEnds.{SubtaskEnd, end_for, handed_by, is_ending_exit, task_end, written_by, written_by_exit}
+use Rattle.task_rules.specs.SubtaskEnds.{end_for, handed_by, is_ending_exit, task_end, written_by, written_by_exit}
 use Rattle.task_machine.specs.declared.records.Subtask.{Subtask}
 use Rattle.task_machine.specs.declared.words.Status.{Status}
 use Rattle.task_machine.specs.declared.records.CallEnd.{CallEnd}
@@ -47,7 +47,6 @@ use Rattle.task_rules.specs.Scripts.{script_of, value_of}
 use Rattle.task_rules.specs.Stalled.{Setting}
 use Rattle.task_rules.specs.Task.{dec_from, dec_lowers, dec_opens, inc_raises, inc_row, ret_done, ret_row, task_cancel_done, task_cancel_row, task_row}
 use Rattle.task_rules.specs.Words.{Move, Put, SetBackpressure, SetDoNotEnter, SetDoNotSuspend, SetEnd, SetHowFar, SetOwnEvent, SetPosition, SetRegister, SetSavedCallee, SetWord}
-use Rattle.task_machine.specs.declared.records.Subtask.TheVariants as subtask
 use Rattle.task_machine.specs.declared.words.Status.TheVariants as status
 use Rattle.task_machine.specs.declared.component.ExportKind.TheVariants as kind
 use Rattle.task_machine.specs.declared.label.CallLabel.TheVariants as call_label

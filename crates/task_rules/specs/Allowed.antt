@@ -32,7 +32,6 @@ use Rattle.task_rules.specs.Once.{returned_holder}
 use Rattle.task_rules.specs.OpParts.{callee_of_main_op, callee_of_op, ends_activation}
 use Rattle.task_rules.specs.Scenes.{Scene, component_of, op_in}
 use Rattle.task_rules.specs.Scripts.{export_kind, registers_for}
-use Rattle.task_rules.specs.Takes.{host_status}
 use Rattle.task_rules.specs.Threads.{resume_why}
 use Rattle.task_rules.specs.Words.{AddGroup, CloseSet, CountWork, EndWork, Enter, FinishWork, GoBehind, MakeCall, MakeThread, Move, NameCall, NameWork, OpenSet, Pend, Places, Placing, Pop, Promote, Put, QueueWork, RemoveCall, RemoveGroup, RemoveThread, RemoveWork, SetCallEvent, SetCallJoin, SetCancelDelivered, SetCancelled, SetDoNotEnter, SetEnd, SetHowFar, SetOwnEvent, SetPhase, SetStarted, TakeWorkEvent, SetWorkJoin, Stop, TakeHost, TakePush, UnnameCall, UnnameWork, Withdraw, Word, GiveResult, SetUninteresting, SetTrapped}
 use Rattle.task_rules.specs.Works.{next_polled, has_end}
