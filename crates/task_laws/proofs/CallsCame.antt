@@ -45,7 +45,15 @@ record Basis : Type 0 where
   join : Join
 
 abbrev basis : Call → Basis
-basis c = record { kind = c.kind; callee = c.callee; goal = c.goal; ends = c.«end»; started = c.started; delivered = c.cancel_delivered; join = c.join }
+basis c = record {
+  kind = c.kind;
+  callee = c.callee;
+  goal = c.goal;
+  ends = c.«end»;
+  started = c.started;
+  delivered = c.cancel_delivered;
+  join = c.join;
+}
 
 -- the words on the record of a call
 data Touch (a : Scene) (w : Word) (s : Core) (k : ℕ) (c d : Call) : Type 0 where
@@ -73,7 +81,8 @@ module _ {a : Scene} where
   call_stays None = NoCall refl (inl refl)
   call_stays (Some c) = Grown c c refl refl (grows (Keeps refl))
 
-  call_changed : (w : Word) (j : ℕ) (f : Call → Call) (s t : Core) (k : ℕ) → ((c : Call) → Touch a w s j c (f c)) → CallCame a w s t k (get s.calls k) (get (change j f s.calls) k)
+  call_changed : (w : Word) (j : ℕ) (f : Call → Call) (s t : Core) (k : ℕ) → ((c : Call) → Touch a w s j c (f c)) →
+      CallCame a w s t k (get s.calls k) (get (change j f s.calls) k)
   call_changed w j f s t k touches =
       after_change (CallCame a w s t k) s.calls j k call_stays f (λ c is e. Grown c (f c) refl refl (rw e (grows (touches c))))
 
@@ -136,8 +145,8 @@ module _ {a : Scene} where
   thread_changed w j f s t n same = after_change (ThreadCame a w s t n) s.threads j n thread_stays f (λ r is e. let h = same r in
       IsSame r (f r) refl refl (ap (λ x. x.call) h) (ap (λ x. x.explicit) h) (inl (ap (λ x. x.how_far) h)) (inl (ap (λ x. x.place) h)))
 
-  thread_moved : (w : Word) (x : Placing) (s t : Core) (n : ℕ) (o p : Option Thread) → w ≡ Places x → option_map unplaced p ≡ option_map unplaced o →
-      ThreadCame a w s t n o p
+  thread_moved : (w : Word) (x : Placing) (s t : Core) (n : ℕ) (o p : Option Thread) → w ≡ Places x →
+      option_map unplaced p ≡ option_map unplaced o → ThreadCame a w s t n o p
   thread_moved w x s t n o None is e = IsGone refl
   thread_moved w x s t n None (Some u) is e = absurd (cc)
   thread_moved w x s t n (Some r) (Some u) is e = let h : unplaced u ≡ unplaced r = cc in
@@ -148,8 +157,10 @@ module _ {a : Scene} where
   thread_came (Places x) s ok n = thread_moved (Places x) x s _ n _ _ refl ((placing_shifted x s).threads n)
   thread_came (TakePush m i) s ok n = rw (popped_threads m s) (thread_stays (get s.threads n))
   thread_came (TakeHost m i) s ok n = rw (popped_threads m s) (thread_stays (get s.threads n))
-  thread_came (SetHowFar j h) s ok n = after_change (ThreadCame a _ s _ n) s.threads j n thread_stays _ (λ r is e. IsSame r _ refl refl refl refl (inr (rw e ok)) (inl refl))
-  thread_came (MakeThread u) s ok n = after_insert (ThreadCame a _ s _ n) s.threads _ n thread_stays u (λ at. IsBeside u at (at_most at) refl ok refl)
+  thread_came (SetHowFar j h) s ok n = after_change (ThreadCame a _ s _ n) s.threads j n thread_stays _
+      (λ r is e. IsSame r _ refl refl refl refl (inr (rw e ok)) (inl refl))
+  thread_came (MakeThread u) s ok n = after_insert (ThreadCame a _ s _ n) s.threads _ n thread_stays u
+      (λ at. IsBeside u at (at_most at) refl ok refl)
   thread_came (MakeCall f e x g group words) s ok n =
       after_insert (ThreadCame a _ s _ n) s.threads _ n thread_stays _
       (λ at. IsFirst _ at (at_most at) (rw at (rw get-insert_same refl)) refl (sym at) refl refl refl)
@@ -164,8 +175,9 @@ module _ {a : Scene} where
   thread_came w s ok n = thread_stays (get s.threads n)
 
 -- what is read of how far the thread's op has come, but nothing of an op that begins, was so before, or comes so now
-pub op_came : {X : Type 0} (read : HowFar → Option X) (x : X) {a : Scene} (w : Word) (s : Core) → Allowed a w s → (n : ℕ) → read how_far.Fresh ≡ None →
-    read (how_far_of n (after_word w s)) ≡ Some x → (read (how_far_of n s) ≡ Some x) ⊎ ((g : HowFar) × (MayCome a n g s × (read g ≡ Some x)))
+pub op_came : {X : Type 0} (read : HowFar → Option X) (x : X) {a : Scene} (w : Word) (s : Core) → Allowed a w s → (n : ℕ) →
+    read how_far.Fresh ≡ None → read (how_far_of n (after_word w s)) ≡ Some x →
+    (read (how_far_of n s) ≡ Some x) ⊎ ((g : HowFar) × (MayCome a n g s × (read g ≡ Some x)))
 op_came {X = X} read x {a = a} w s ok n none h = go (thread_came w s ok n)
   where
     go : ThreadAfter a w s n → (read (how_far_of n s) ≡ Some x) ⊎ ((g : HowFar) × (MayCome a n g s × (read g ≡ Some x)))

@@ -1,4 +1,4 @@
--- Calls along the words of a step: a status only rises and an end stays, numbers name what they named, and what is delivered is for callbacks.
+-- Calls along the words of a step: a status only rises, an end stays, numbers name what they named, deliveries are for callbacks.
 use Rattle.std.proofs.Common.{arith, inl, inr, ⊎_elim}
 use Rattle.std.specs.Option.{option_map_or}
 use Rattle.std.specs.Prelude.{Bool, List, None, Option, Some, false, is_none, is_some, slice_get, true, unwrap_or, ℕ, ◌≡◌, ◌≤◌, ◌⊎◌}
@@ -104,24 +104,29 @@ shifted_delivers may o p came d = grind arith
 turned_silent : {a : Scene} {s t : Core} {n : ℕ} {o p : Option Place} → Turned a s t n o p → delivered_in p ≡ true → ⊥
 turned_silent x d = grind arith
 
-module _ {starts delivers : Type 0} {ends : CallEnd → Type 0} {joins : Join → Type 0} {c d : Call} (g : Grew starts delivers ends joins c d) where
+module _ {starts delivers : Type 0} {ends : CallEnd → Type 0} {joins : Join → Type 0} {c d : Call}
+    (g : Grew starts delivers ends joins c d) where
   grew_goes : ((e : CallEnd) → ends e → (is_some c.«end» ≡ false) × (e ≡ call_end.StartCancelled → c.started ≡ false)) → Goes c d
   grew_goes first = grind arith
 
-  pub kind_kept : (a : Scene) (s t : Core) (k : ℕ) → KindHolds a s k c → (GoneOr a s k → GoneOr a t k) → (delivers → is_async_lifted c.kind ≡ true) →
-      ((e : CallEnd) → ends e → is_async_lifted c.kind ≡ false → GoneOr a s k) → KindHolds a t k d
+  pub kind_kept : (a : Scene) (s t : Core) (k : ℕ) → KindHolds a s k c → (GoneOr a s k → GoneOr a t k) →
+      (delivers → is_async_lifted c.kind ≡ true) → ((e : CallEnd) → ends e → is_async_lifted c.kind ≡ false → GoneOr a s k) →
+      KindHolds a t k d
   kind_kept a s t k q gone lifted ended = grind arith
+
+-- the exit of the call's first thread ends it
+abbrev ExitEnds : ℕ → Core → Type 0
+ExitEnds k s = (is_direct (goal_of k s) ≡ true) ⊎ (is_async_lifted (kind_of k s) ≡ false)
 
 -- ---- What is known as the step begins
 
 module _ (a : Scene) (codes : CodesInCallbacks (component_of a)) (h : CallsHold (component_of a) a.base) where
   -- who exits directly or from a sync-lifted export, once its call has ended, isn't the first thread
-  exits_explicit : (n : ℕ) → (is_direct (goal_of (task_of n a.base) a.base) ≡ true) ⊎ (is_async_lifted (kind_of (task_of n a.base) a.base) ≡ false) →
-      has_ended (task_of n a.base) a.base ≡ true → is_explicit n a.base ≡ true
+  exits_explicit : (n : ℕ) → ExitEnds (task_of n a.base) a.base → has_ended (task_of n a.base) a.base ≡ true → is_explicit n a.base ≡ true
   exits_explicit n f ended = grind (arith, h.numbered.threads n, h.numbered.calls (task_of n a.base), h.kinds (task_of n a.base))
 
-  pub exits_unended : (n k : ℕ) (c : Call) → k ≡ task_of n a.base → is_explicit n a.base ≡ false →
-      (is_direct (goal_of k a.base) ≡ true) ⊎ (is_async_lifted (kind_of k a.base) ≡ false) → get a.base.calls k ≡ Some c → is_some c.«end» ≡ false
+  pub exits_unended : (n k : ℕ) (c : Call) → k ≡ task_of n a.base → is_explicit n a.base ≡ false → ExitEnds k a.base →
+      get a.base.calls k ≡ Some c → is_some c.«end» ≡ false
   exits_unended n k c is first f at = let e = exits_explicit n in grind (arith, e)
 
   pub ready_delivered : (n : ℕ) (w : Why) → WasReady a n w → is_delivery w ≡ true → (n ≤ a.base.made.threads) × IsCallback n a.base

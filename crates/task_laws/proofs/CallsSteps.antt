@@ -1,6 +1,6 @@
 -- Calls along the words of a step, along steps and along runs.
-use Rattle.std.proofs.Common.{ap, arith, le_refl, le_trans, refl, subst, sym, ◌∙◌}
-use Rattle.std.specs.Prelude.{List, Option, Some, [], false, option_map, true, ℕ, ◌∷◌, ◌≡◌, ◌≤◌}
+use Rattle.std.proofs.Common.{arith, le_refl, le_trans, refl, subst, sym, ◌∙◌}
+use Rattle.std.specs.Prelude.{List, Option, Some, [], false, true, ℕ, ◌∷◌, ◌≡◌, ◌≤◌}
 use Rattle.task_laws.proofs.Basics.{some_none, too_high}
 use Rattle.task_laws.proofs.CallsCame.{CallAfter, Grown, NewCall, NoCall, ThreadAfter, call_came, thread_came}
 use Rattle.task_laws.proofs.CallsLaw.{CallsGo, CallsHold, Goes, GoneOr, KindHolds, base_task, delivered_in, goes_after, goes_of, goes_same, kept_callback, kind_kept, later_after, later_none, later_same, place_delivers, ready_delivered, rises_after, rises_same}
@@ -8,7 +8,7 @@ use Rattle.task_laws.proofs.CameLemmas.{came_word}
 use Rattle.task_laws.proofs.CountLemmas.{made_threads_word}
 use Rattle.task_laws.proofs.Machine.{after_word, base_at, Call, CallEnd, component_of, Core, fresh, get, get-empty, is_async_lifted, is_callback, kind_of, Label, place_of, Queues, Scene, scene_of, Setting, State, task_of, Thread, Turn, Word}
 use Rattle.task_laws.proofs.SceneLemmas.{base_is}
-use Rattle.task_laws.specs.Order.{ThreadNumbered, is_delivered}
+use Rattle.task_laws.specs.Order.{DeliveredByCallback, ThreadNumbered}
 use Rattle.task_laws.specs.Rises.{CallsRise, ExplicitNamesNoCall, Rises, RunsRise, StepsRise, SyncEndsLast, SyncNeverCancelled}
 use Rattle.task_laws.specs.Settings.{CodesInCallbacks, Reached}
 use Rattle.task_machine.specs.declared.component.Component.{Component}
@@ -55,7 +55,8 @@ module _ (a : Scene) (codes : CodesInCallbacks (component_of a)) (h : CallsHold 
     delivered_lifted : (k : ℕ) (c : Call) → get s.calls k ≡ Some c → MayDeliver a k → is_async_lifted c.kind ≡ true
     delivered_lifted k c at m =
         let r = ready_delivered a codes h m.0 _ m.1.1.1.1 refl in
-        let y : is_callback (kind_of (task_of m.0 a.base) s) ≡ true = kept_callback a codes h q (task_of m.0 a.base) (base_task a codes h m.0) r.1 in
+        let k = task_of m.0 a.base in
+        let y : is_callback (kind_of k s) ≡ true = kept_callback a codes h q k (base_task a codes h m.0) r.1 in
         grind arith
 
     end_gone : (k : ℕ) (c : Call) (e : CallEnd) → get s.calls k ≡ Some c → MayEnd a k e s → is_async_lifted c.kind ≡ false → GoneOr a s k
@@ -70,10 +71,11 @@ module _ (a : Scene) (codes : CodesInCallbacks (component_of a)) (h : CallsHold 
         go (NoCall e r) = some_none (sym at ∙ e)
         go (NewCall f e y g group is l m new) = grind arith
 
-    delivery_after : (n : ℕ) (t : Thread) → get (after_word w s).threads n ≡ Some t → is_delivered t.place ≡ true → is_callback (kind_of t.call (after_word w s)) ≡ true
+    delivery_after : DeliveredByCallback (after_word w s)
     delivery_after n t at d =
         let i : ThreadAfter a w s n = thread_came w s ok n in
-        let before = place_delivers a codes h q (after_word w s) n (place_of n s) (place_of n (after_word w s)) refl (came_word w s ok n) (ap (λ (o : Option Thread). delivered_in (option_map (λ (r : Thread). r.place) o)) at ∙ d) in
+        let now : delivered_in (place_of n (after_word w s)) ≡ true = cc in
+        let before = place_delivers a codes h q (after_word w s) n (place_of n s) _ refl (came_word w s ok n) now in
         let l = call_later (task_of n s) in
         grind (arith, q.numbered.threads n)
 
@@ -127,8 +129,8 @@ calls_begin x s l next p =
       },
     )
 
-pub step_goes : (x : Setting) (s : State) (l : Label) (t : State) → CodesInCallbacks x.component → CallsHold x.component s.core → Step x s l t →
-    CallsHold x.component t.core × CallsRise s.core t.core
+pub step_goes : (x : Setting) (s : State) (l : Label) (t : State) → CodesInCallbacks x.component → CallsHold x.component s.core →
+    Step x s l t → CallsHold x.component t.core × CallsRise s.core t.core
 step_goes x s l t codes p step =
     let w : Walked x s l t = step_walks x s l t step in
     let a : Scene = scene_of x s l w.next in
@@ -152,8 +154,8 @@ opening_holds c instances handle_limit capacity = record {
   deliveries = λ n t e. some_none (sym e ∙ get-empty n);
 }
 
-run_goes : (x : Setting) (s : State) → CodesInCallbacks x.component → CallsHold x.component s.core → (ls : List Label) (t : State) → Run x s ls t →
-    CallsHold x.component t.core × CallsRise s.core t.core
+run_goes : (x : Setting) (s : State) → CodesInCallbacks x.component → CallsHold x.component s.core → (ls : List Label) (t : State) →
+    Run x s ls t → CallsHold x.component t.core × CallsRise s.core t.core
 run_goes x s codes p [] t r = rw r (p, λ k below. later_same Rises rises_same (get s.core.calls k))
 run_goes x s codes p (l ∷ ls) t r =
     let g = step_goes x s l r.0 codes p r.1.0 in
@@ -164,7 +166,8 @@ run_goes x s codes p (l ∷ ls) t r =
 
 pub reached_holds : {x : Setting} {s : State} → Reached x s → CallsHold x.component s.core
 reached_holds {x = x} {s = s} r =
-    (run_goes x (opening r.instances r.handle_limit r.capacity r.main) r.scripts (opening_holds x.component r.instances r.handle_limit r.capacity) r.labels s r.run).0
+    let first = opening_holds x.component r.instances r.handle_limit r.capacity in
+    (run_goes x (opening r.instances r.handle_limit r.capacity r.main) r.scripts first r.labels s r.run).0
 
 pub steps_rise : StepsRise
 steps_rise x s l t r step = (step_goes x s l t r.scripts (reached_holds r) step).1

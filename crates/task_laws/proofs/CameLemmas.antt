@@ -29,7 +29,8 @@ unqueued_same : (k n : ℕ) (s : Core) → place_of k (unqueued n s) ≡ place_o
 unfolding unqueued set_high set_low
 unqueued_same k n s = grind arith
 
-pub read_same : (n : ℕ) (f : Thread → Thread) → ((t : Thread) → (f t).place ≡ t.place) → (k : ℕ) (s : Core) → place_of k (on_thread n f s) ≡ place_of k s
+pub read_same : (n : ℕ) (f : Thread → Thread) → ((t : Thread) → (f t).place ≡ t.place) → (k : ℕ) (s : Core) →
+    place_of k (on_thread n f s) ≡ place_of k s
 unfolding on_thread
 read_same n f same k s = change-field (λ (t : Thread). t.place) n f same s.threads k
 
@@ -96,7 +97,8 @@ module _ (may : ℕ → Why → Type 0) where
     callers_shifted : (ns : List ℕ) (s : Core) → Shifted s (resumed_callers ns s)
     callers_shifted [] s = λ k. moved_same k _
     callers_shifted (n ∷ ns) s = let i = newest n ns in let m = put_switch i why.Resumption s in
-        shifted_after s m (resumed_all (older n ns) m) (put_shifted mark.Switch i why.Resumption s (resumes i)) (resumed_shifted (older n ns) m)
+        let ms = older n ns in
+        shifted_after s m (resumed_all ms m) (put_shifted mark.Switch i why.Resumption s (resumes i)) (resumed_shifted ms m)
 
     passed_shifted : (o : Option ℕ) (ns : List ℕ) (s : Core) → Shifted s (passed_on o ns s)
     passed_shifted (Some m) ns s = all_behind_shifted (foot_of m s) ns s
@@ -129,10 +131,11 @@ pub data Came (a : Scene) (s t : Core) (k : ℕ) (o p : Option Place) : Type 0 w
 abbrev pub PlaceAfter : Scene → Word → Core → ℕ → Type 0
 PlaceAfter a w s k = Came a s (after_word w s) k (place_of k s) (place_of k (after_word w s))
 
-after_set : (k n : ℕ) (r : Place) (s : Core) (P : Option Place → Type 0) → P (place_of k s) → (k ≡ n → is_some (place_of k s) ≡ true → P (Some r)) →
-    P (place_of k (set_place n r s))
+after_set : (k n : ℕ) (r : Place) (s : Core) (P : Option Place → Type 0) → P (place_of k s) →
+    (k ≡ n → is_some (place_of k s) ≡ true → P (Some r)) → P (place_of k (set_place n r s))
 after_set k n r s P stays comes =
-    rw set_place_is (at_test k n (λ b. P (cond b (option_map (λ (q : Place). r) (place_of k s)) (place_of k s))) (λ e. go (place_of k s) refl e) stays)
+    let o = place_of k s in
+    rw set_place_is (at_test k n (λ b. P (cond b (option_map (λ (q : Place). r) o) o)) (λ e. go o refl e) stays)
   where
     go : (o : Option Place) → place_of k s ≡ o → k ≡ n → P (option_map (λ (q : Place). r) o)
     go None is e = rw is at stays
@@ -155,7 +158,8 @@ module _ {a : Scene} where
   came_by (Move n p) s (inr ok) k = after_set k n p s (Came a s _ k (place_of k s)) (stays _) (λ e t. Comes p (rw e ok) refl t)
   came_by (Enter n m) s (inl ok) k = absurd ok
   came_by (Enter n m) s (inr ok) k = let Q = Came a s (after_word (Places (Enter n m)) s) k (place_of k s) in
-      after_set k n (place.Under m) (set_place m place.Running s) Q (after_set k m place.Running s Q (stays _) (λ e t. Turns (Entered refl t)))
+      after_set k n (place.Under m) (set_place m place.Running s) Q
+      (after_set k m place.Running s Q (stays _) (λ e t. Turns (Entered refl t)))
       (λ e t. Turns (Enters m (rw e ok.0) ok.1.1.0 ok.1.1.1.0 refl (sym (set_place_there k m place.Running s) ∙ t)))
 
   placed_came : (x : Placing) (w : Word) (s : Core) → w ≡ Places x → Allowed a w s → (k : ℕ) → PlaceAfter a w s k

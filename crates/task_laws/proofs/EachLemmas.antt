@@ -32,7 +32,8 @@ module _ {X : Type 0} (P : Option X → Option X → Type 0) (m : Records X) (k 
   after_remove own = rw get-remove (at_test n k (λ b. P (get m n) (cond b None (get m n))) own (stays (get m n)))
 
   pub after_change : (f : X → X) → ((x : X) → get m n ≡ Some x → n ≡ k → P (Some x) (Some (f x))) → P (get m n) (get (change k f m) n)
-  after_change f own = rw get-change (at_test n k (λ b. P (get m n) (cond b (option_map f (get m n)) (get m n))) (λ e. go (get m n) refl e) (stays (get m n)))
+  after_change f own = let o = get m n in
+      rw get-change (at_test n k (λ b. P o (cond b (option_map f o) o)) (λ e. go o refl e) (stays o))
     where
       go : (o : Option X) → get m n ≡ o → n ≡ k → P o (option_map f o)
       go None is e = stays None
@@ -59,14 +60,16 @@ module _ {X : Type 0} (P : ℕ → X → Type 0) where
   pub each_insert : (m : Records X) (n : ℕ) (x : X) → Each P m → P n x → Each P (insert m n x)
   each_insert m n x h p q = after_insert (Keeps q) m n q (λ o h. h) x (λ e h. rw e p) (h q)
 
-  pub each_change : (m : Records X) (n : ℕ) (f : X → X) → Each P m → ((x : X) → get m n ≡ Some x → P n x → P n (f x)) → Each P (change n f m)
+  pub each_change : (m : Records X) (n : ℕ) (f : X → X) → Each P m → ((x : X) → get m n ≡ Some x → P n x → P n (f x)) →
+      Each P (change n f m)
   each_change m n f h keeps q = after_change (Keeps q) m n q (λ o h. h) f (λ x is e h. rw e (keeps x (rw e at is) (rw e at h))) (h q)
 
   pub each_remove : (m : Records X) (n : ℕ) → Each P m → Each P (remove m n)
   each_remove m n h q = after_remove (Keeps q) m n q (λ o h. h) (λ e h. tt) (h q)
 
 -- what follows for each record
-pub each_map : {X : Type 0} (P R : ℕ → X → Type 0) (m : Records X) → ((n : ℕ) (x : X) → get m n ≡ Some x → P n x → R n x) → Each P m → Each R m
+pub each_map : {X : Type 0} (P R : ℕ → X → Type 0) (m : Records X) → ((n : ℕ) (x : X) → get m n ≡ Some x → P n x → R n x) →
+    Each P m → Each R m
 each_map P R m f h = each_of R m (λ n x is. f n x is (each_get P m h n x is))
 
 -- ---- What comes at each number

@@ -17,7 +17,8 @@ any_found test q [] on = on
 any_found test q (e ∷ es) on = let rest = any_found test q es in grind arith
 
 -- a call that may be deleted has no thread
-no_thread_left : (k n : ℕ) (s : Core) → is_deletable k s ≡ true → option_map_or (λ (r : Thread). r.call == k) (get s.threads n) false ≡ true → ⊥
+no_thread_left : (k n : ℕ) (s : Core) → is_deletable k s ≡ true →
+    option_map_or (λ (r : Thread). r.call == k) (get s.threads n) false ≡ true → ⊥
 unfolding is_deletable has_thread get
 no_thread_left k n s h of = let found = any_found (λ (r : Thread). r.call == k) n s.threads.list of in grind arith
 

@@ -16,6 +16,9 @@ use Rattle.task_laws.proofs.ReachLemmas.{filled_with}
 use Rattle.task_laws.proofs.SetHandles.{home_in, subtask_in}
 use Rattle.task_laws.specs.Order.{JoinNamed, JoinsNamed, SetsNamed, TableKept}
 use Rattle.task_machine.proofs.CommuteLemmas.{get-change}
+use Rattle.task_machine.specs.declared.records.Course.{Course}
+use Rattle.task_machine.specs.declared.records.Stage.{Stage}
+use Rattle.task_machine.specs.declared.words.Phase.TheVariants as phase
 use Rattle.task_machine.specs.declared.records.Join.TheVariants as join
 use Rattle.task_machine.specs.declared.records.Named.TheVariants as named
 use Rattle.task_machine.specs.declared.records.Subtask.TheVariants as subtask
@@ -30,7 +33,8 @@ EachKept j t = TableKept t
 module _ (tables : Records (Table Named)) (i : ℕ) where
   -- each table is kept where one is changed
   tables_changed : (f : Table Named → Table Named) → ((t : Table Named) → get tables i ≡ Some t → TableKept t → TableKept (f t)) →
-      ((j : ℕ) (t : Table Named) → get tables j ≡ Some t → TableKept t) → (j : ℕ) (t : Table Named) → get (change i f tables) j ≡ Some t → TableKept t
+      ((j : ℕ) (t : Table Named) → get tables j ≡ Some t → TableKept t) →
+      (j : ℕ) (t : Table Named) → get (change i f tables) j ≡ Some t → TableKept t
   tables_changed f own kept =
       each_get EachKept (change i f tables) (each_change EachKept tables i f (each_of EachKept tables kept) own)
 
@@ -54,16 +58,18 @@ names_set o x h = grind arith
 
 -- ---- Members
 
-any_number : (p : Subtask → Bool) (wrap : ℕ → Subtask) (k : ℕ) {X : Type 0} (es : List (ℕ × X)) → is_some (find nat_cmp k es) ≡ true → p (wrap k) ≡ true →
-    list_any p (map wrap (map (λ e. e.0) es)) ≡ true
+any_number : (p : Subtask → Bool) (wrap : ℕ → Subtask) (k : ℕ) {X : Type 0} (es : List (ℕ × X)) → is_some (find nat_cmp k es) ≡ true →
+    p (wrap k) ≡ true → list_any p (map wrap (map (λ e. e.0) es)) ≡ true
 any_number p wrap k [] h is = absurd (cc)
 any_number p wrap k (e ∷ es) h is = let rest = any_number p wrap k es in let same = unsigned_tied k e.0 in grind (arith, nat_tests)
 
 -- who is joined to a set is a member of it
 member_of : (sub : Subtask) (x : ℕ) (s : Core) → join_of sub s ≡ join.Set x → has_member x s ≡ true
 unfolding has_member numbers get
-member_of (subtask.Guest k) x s h = let any = any_number (λ sub. is_member x sub s) (λ n. subtask.Guest n) k s.calls.list in grind (arith, nat_tests, list_any-append)
-member_of (subtask.Host i) x s h = let any = any_number (λ sub. is_member x sub s) (λ n. subtask.Host n) i s.works.list in grind (arith, nat_tests, list_any-append)
+member_of (subtask.Guest k) x s h =
+    let any = any_number (λ sub. is_member x sub s) (λ n. subtask.Guest n) k s.calls.list in grind (arith, nat_tests, list_any-append)
+member_of (subtask.Host i) x s h =
+    let any = any_number (λ sub. is_member x sub s) (λ n. subtask.Host n) i s.works.list in grind (arith, nat_tests, list_any-append)
 
 -- ---- Joins, word by word
 
@@ -71,11 +77,18 @@ abbrev work_join : Option Work → Join
 work_join o = option_map_or (λ (w : Work). w.join) o join.Nowhere
 
 module _ (works : Records Work) (k n x : ℕ) where
-  still_joined : (f : Work → Work) → ((w : Work) → (f w).join ≡ w.join) → work_join (get (change n f works) k) ≡ join.Set x → work_join (get works k) ≡ join.Set x
+  still_joined : (f : Work → Work) → ((w : Work) → (f w).join ≡ w.join) → work_join (get (change n f works) k) ≡ join.Set x →
+      work_join (get works k) ≡ join.Set x
   still_joined f same h = grind (arith, nat_tests, get-change, same)
 
-  queued_unjoined : (v : Work) → v.join ≡ join.Nowhere → work_join (get (insert works n v) k) ≡ join.Set x → work_join (get works k) ≡ join.Set x
+  queued_unjoined : (v : Work) → v.join ≡ join.Nowhere → work_join (get (insert works n v) k) ≡ join.Set x →
+      work_join (get works k) ≡ join.Set x
   queued_unjoined v new h = grind (arith, nat_tests, get-insert)
+
+  settled_joined : (c : Course) (y : Stage) → work_join (get (change n (λ w. record w { stage = y }) (change n
+      (λ w. record w { phase = phase.Complete }) (change n (λ w. record w { course = c }) works))) k) ≡ join.Set x →
+      work_join (get works k) ≡ join.Set x
+  settled_joined c y h = grind (arith, nat_tests, get-change)
 
   left_joined : work_join (get (remove works n) k) ≡ join.Set x → work_join (get works k) ≡ join.Set x
   left_joined h = grind (arith, nat_tests, get-remove)
@@ -102,7 +115,8 @@ module _ (a : Scene) (w : Word) (s : Core) where
       go (NoCall e r) = absurd (cc)
       go (NewCall f e y g group is l m new) = absurd (cc)
 
-moved_join : (a : Scene) (s : Core) (n k x : ℕ) (j : Join) → k ≡ n → j ≡ join.Set x → MayJoin a (subtask.Host n) j s → MayJoin a (subtask.Host k) (join.Set x) s
+moved_join : (a : Scene) (s : Core) (n k x : ℕ) (j : Join) → k ≡ n → j ≡ join.Set x → MayJoin a (subtask.Host n) j s →
+    MayJoin a (subtask.Host k) (join.Set x) s
 moved_join a s n k x j same to m = rw same (rw to at m)
 
 host_joined : (a : Scene) (w : Word) (s : Core) → Allowed a w s → (k x : ℕ) → join_of (subtask.Host k) (after_word w s) ≡ join.Set x →
@@ -110,12 +124,13 @@ host_joined : (a : Scene) (w : Word) (s : Core) → Allowed a w s → (k x : ℕ
 unfolding on_thread add_group add_set add_work count_work free_handle free_thread_handle give_handle give_result give_thread_handle on_call on_instance on_work push_high remove_call remove_group remove_set remove_work remove_thread set_backpressure set_cancel_delivered set_cancelled set_course set_do_not_enter set_do_not_suspend set_end set_event set_exited set_how_far set_join set_own_event set_phase set_position set_register set_result set_saved_callee set_saved_own set_script set_stage set_started set_starting_published set_subtask_handle set_thread_handle set_trapped set_uninteresting set_word take_result call_made add_call add_thread with_handle with_thread_handle work_queued poll_pends
 host_joined a (QueueWork f host group) s ok k x h = inl (queued_unjoined s.works k _ x (new_work f host group) refl h)
 host_joined a (RemoveWork n) s ok k x h = inl (left_joined s.works k n x h)
-host_joined a (SetWorkJoin n j) s ok k x h = ⊎_elim (λ e. inl e) (λ e. inr (moved_join a s n k x j e.0 e.1 ok, (refl, refl))) (joined s.works k n x j h)
+host_joined a (SetWorkJoin n j) s ok k x h =
+    ⊎_elim (λ e. inl e) (λ e. inr (moved_join a s n k x j e.0 e.1 ok, (refl, refl))) (joined s.works k n x j h)
 host_joined a (TakePush m i) s ok k x h = inl (still_joined _ k i x _ (λ w. refl) h)
 host_joined a (TakeHost m i) s ok k x h = inl (still_joined _ k i x _ (λ w. refl) (still_joined _ k i x _ (λ w. refl) h))
 host_joined a (Pend i host) s ok k x h = inl (still_joined _ k i x _ (λ w. refl) h)
-host_joined a (EndWork i c) s ok k x h = inl (still_joined _ k i x _ (λ w. refl) (still_joined _ k i x _ (λ w. refl) (still_joined _ k i x _ (λ w. refl) h)))
-host_joined a (FinishWork i c) s ok k x h = inl (still_joined _ k i x _ (λ w. refl) (still_joined _ k i x _ (λ w. refl) (still_joined _ k i x _ (λ w. refl) h)))
+host_joined a (EndWork i c) s ok k x h = inl (settled_joined s.works k i x c _ h)
+host_joined a (FinishWork i c) s ok k x h = inl (settled_joined s.works k i x c _ h)
 host_joined a (SetPhase i p) s ok k x h = inl (still_joined _ k i x _ (λ w. refl) h)
 host_joined a (SetCancelled i) s ok k x h = inl (still_joined _ k i x _ (λ w. refl) h)
 host_joined a (TakeWorkEvent i) s ok k x h = inl (still_joined _ k i x _ (λ w. refl) h)
@@ -153,8 +168,10 @@ module _ (a : Scene) (s : Core) (q : JoinsNamed s) where
       one : (sub : Subtask) (i h : ℕ) → subtask_at i h s ≡ Some sub → i ≡ j → h ≡ g → nm ≡ named.Subtask sub
       one sub i h e same again = grind arith
 
-  unnamed_kept : (j g : ℕ) (sub : Subtask) → subtask_at j g s ≡ Some sub → is_joined (join_of sub s) ≡ false → HandlesKept s (change j (taking g) s.handles)
-  unnamed_kept j g sub at unjoined = freed_kept j g (named.Subtask sub) (names_subtask (named_by s.handles j g) sub at) (λ other x to is. let same : sub ≡ other = cc in absurd (cc))
+  unnamed_kept : (j g : ℕ) (sub : Subtask) → subtask_at j g s ≡ Some sub → is_joined (join_of sub s) ≡ false →
+      HandlesKept s (change j (taking g) s.handles)
+  unnamed_kept j g sub at unjoined = freed_kept j g (named.Subtask sub) (names_subtask (named_by s.handles j g) sub at)
+      (λ other x to is. let same : sub ≡ other = cc in absurd (cc))
 
   handles_word : (w : Word) → Allowed a w s → HandlesKept s (after_word w s).handles
   unfolding on_thread add_group add_set add_work count_work free_handle free_thread_handle give_handle give_result give_thread_handle on_call on_instance on_work push_high remove_call remove_group remove_set remove_work remove_thread set_backpressure set_cancel_delivered set_cancelled set_course set_do_not_enter set_do_not_suspend set_end set_event set_exited set_how_far set_join set_own_event set_phase set_position set_register set_result set_saved_callee set_saved_own set_script set_stage set_started set_starting_published set_subtask_handle set_thread_handle set_trapped set_uninteresting set_word take_result call_made add_call add_thread with_handle with_thread_handle work_queued poll_pends
@@ -203,8 +220,8 @@ module _ (a : Scene) (s : Core) (q : JoinsNamed s) where
     }
 
     named_joins : (sub : Subtask) (x : ℕ) → join_of sub (after_word w s) ≡ join.Set x → JoinNamed sub x (after_word w s)
-    named_joins (subtask.Guest k) x h = ⊎_elim (joined_kept (subtask.Guest k) x) (joined_now (subtask.Guest k) x) (guest_joined a w s ok k x h)
-    named_joins (subtask.Host k) x h = ⊎_elim (joined_kept (subtask.Host k) x) (joined_now (subtask.Host k) x) (host_joined a w s ok k x h)
+    named_joins (subtask.Guest k) x h = ⊎_elim (joined_kept _ x) (joined_now _ x) (guest_joined a w s ok k x h)
+    named_joins (subtask.Host k) x h = ⊎_elim (joined_kept _ x) (joined_now _ x) (host_joined a w s ok k x h)
 
     pub joins_word : JoinsNamed (after_word w s)
     joins_word = record { tables = (handles_word w ok).tables; sets = (sets_word w ok).numbers; joins = named_joins }
@@ -220,8 +237,13 @@ opening_joins instances handle_limit capacity = record {
 }
   where
     none_made : TableKept {X = Named} no_handles
-    none_made = record { live = λ h e. let o = get-empty {X = Named} h in absurd (cc); freed = λ h l. absurd (omega arith); once = λ h. omega arith }
+    none_made = record {
+      live = λ h e. let o = get-empty {X = Named} h in absurd (cc);
+      freed = λ h l. absurd (omega arith);
+      once = λ h. omega arith;
+    }
 
-    unjoined : (sub : Subtask) (x : ℕ) → join_of sub (fresh instances handle_limit capacity) ≡ join.Set x → JoinNamed sub x (fresh instances handle_limit capacity)
+    unjoined : (sub : Subtask) (x : ℕ) → join_of sub (fresh instances handle_limit capacity) ≡ join.Set x →
+        JoinNamed sub x (fresh instances handle_limit capacity)
     unjoined (subtask.Guest k) x h = let o = get-empty {X = Call} k in absurd (cc)
     unjoined (subtask.Host i) x h = let o = get-empty {X = Work} i in absurd (cc)

@@ -4,7 +4,6 @@ use Rattle.std.proofs.lemmas.Bool.Decides.{nat_tests}
 use Rattle.std.specs.List.{list_any}
 use Rattle.std.specs.Option.{option_map_or}
 use Rattle.std.specs.Prelude.{Bool, List, None, Option, Some, [], false, filter, is_some, not, slice_get, true, unwrap_or, ℕ, ◌<◌, ◌==◌, ◌∷◌, ◌≡◌, ◌⊎◌}
-use Rattle.task_laws.proofs.Basics.{no_way}
 use Rattle.task_laws.proofs.CallsCame.{CallAfter, Grown, NewCall, NoCall, call_came}
 use Rattle.task_laws.proofs.CallsSteps.{of_base}
 use Rattle.task_laws.proofs.EachLemmas.{after_change}
@@ -23,7 +22,7 @@ use Rattle.task_rules.specs.Chains.{SameMain, Walked}
 use Rattle.task_rules.specs.History.{history}
 use Rattle.task_rules.specs.Once.{begun_holder, holds_one, is_among, less_holder, returned_holder, with_holder}
 use Rattle.task_rules.specs.OpParts.{callee_of_op}
-use Rattle.task_rules.specs.Run.{Run, opening}
+use Rattle.task_rules.specs.Run.{Run}
 use Rattle.task_rules.specs.Scripts.{op_of, script_of, script_of_thread}
 use Rattle.task_rules.specs.Step.{Step}
 
@@ -41,7 +40,8 @@ module _ {a : Scene} where
   instance_stays : {i : ℕ} (o : Option Instance) → InstanceCame a i o o
   instance_stays o = record { there = λ h. h; shut = λ other h. h }
 
-  instance_changed : (j : ℕ) (f : Instance → Instance) (s : Core) (i : ℕ) → ((r : Instance) → (returned_holder a.base a.label ≡ Some j → ⊥) → r.do_not_enter ≡ true → (f r).do_not_enter ≡ true) →
+  instance_changed : (j : ℕ) (f : Instance → Instance) (s : Core) (i : ℕ) →
+      ((r : Instance) → (returned_holder a.base a.label ≡ Some j → ⊥) → r.do_not_enter ≡ true → (f r).do_not_enter ≡ true) →
       InstanceCame a i (get s.instances i) (get (change j f s.instances) i)
   instance_changed j f s i keeps = after_change (InstanceCame a i) s.instances j i instance_stays f
       (λ r is e. record { there = λ h. refl; shut = λ other h. keeps r (rw e at other) h })
@@ -78,18 +78,23 @@ callee_at : (ops : List Op) (p : ℕ) (e : Callee) → callee_of_op (unwrap_or (
     (o : Op) × ((slice_get ops p ≡ Some o) × (callee_of_op o ≡ Some e))
 callee_at ops p e is = grind arith
 
-op_callee : {x : Setting} {instances : ℕ} → CalleesExist x instances → (n : ℕ) (s : Core) (e : Callee) → callee_of_op (op_of x.component n s) ≡ Some e → e.instance < instances
+op_callee : {x : Setting} {instances : ℕ} → CalleesExist x instances → (n : ℕ) (s : Core) (e : Callee) →
+    callee_of_op (op_of x.component n s) ≡ Some e → e.instance < instances
 unfolding op_of script_of
-op_callee {x = x} {instances = instances} exist n s e is = go (get s.threads n) (option_map_or (λ t. t.position) (get s.threads n) 0) is
+op_callee {x = x} {instances = instances} exist n s e is =
+    let p = option_map_or (λ (t : Thread). t.position) (get s.threads n) 0 in
+    let o = callee_at (script_of x.component n s) p e is in go (get s.threads n) p o.0 o.1.0 o.1.1
   where
-    go : (o : Option Thread) (p : ℕ) → callee_of_op (unwrap_or (slice_get (option_map_or (script_of_thread x.component s) o []) p) (op.Task task_op.Exit)) ≡ Some e → e.instance < instances
-    go None p f = absurd (cc)
-    go (Some t) p f = let o = callee_at (script_of_thread x.component s t) p e f in exist.calls (callee_of t.call s) t.script p o.0 e o.1.0 o.1.1
+    go : (t : Option Thread) (p : ℕ) (o : Op) → slice_get (option_map_or (script_of_thread x.component s) t []) p ≡ Some o →
+        callee_of_op o ≡ Some e → e.instance < instances
+    go None p o at f = absurd (cc)
+    go (Some t) p o at f = exist.calls (callee_of t.call s) t.script p o e at f
 
-module _ (a : Scene) (instances : ℕ) (exist : CalleesExist a.setting instances) (scripted : IsScripted a.main) (b : Housed instances a.base) where
+module _ (a : Scene) (instances : ℕ) (exist : CalleesExist a.setting instances) (main : IsScripted a.main)
+    (b : Housed instances a.base) where
   callee_there : (f : Caller) (e : Callee) (group : ℕ) (s : Core) → MayCall a f e group s → e.instance < instances
   callee_there f e group s (may.ByScript p o m at callee is same) = exist.starts p.position o e at callee
-  callee_there f e group s (may.ByProgram words m takes is same) = absurd (rw m at scripted)
+  callee_there f e group s (may.ByProgram words m takes is same) = absurd (rw m at main)
   callee_there f e group s (may.ByThread n r callee is same) = op_callee exist n a.base e callee
 
   word_holds : (w : Word) (s : Core) → Allowed a w s → HoldersGo a s → HoldersGo a (after_word w s)
@@ -99,8 +104,10 @@ module _ (a : Scene) (instances : ℕ) (exist : CalleesExist a.setting instances
     homes = λ k c at. home k c at (call_came w s ok k);
   }
     where
-      home : (k : ℕ) (c : Call) → get (after_word w s).calls k ≡ Some c → CallAfter a w s k → is_some (get (after_word w s).instances c.callee.instance) ≡ true
-      home k c at (Grown d e f g h) = let same : c.callee ≡ d.callee = cc in rw same ((instance_came w s ok d.callee.instance).there (q.homes k d f))
+      home : (k : ℕ) (c : Call) → get (after_word w s).calls k ≡ Some c → CallAfter a w s k →
+          is_some (get (after_word w s).instances c.callee.instance) ≡ true
+      home k c at (Grown d e f g h) = let same : c.callee ≡ d.callee = cc in
+          rw same ((instance_came w s ok d.callee.instance).there (q.homes k d f))
       home k c at (NoCall e r) = absurd (cc)
       home k c at (NewCall f e x g group is l m new) = let same : c.callee ≡ e = cc in
           rw same ((instance_came w s ok e.instance).there (q.kept e.instance (b.there e.instance (callee_there f e group s m.0))))
@@ -130,7 +137,8 @@ call_there : {instances : ℕ} (k : ℕ) {s : Core} → 0 < instances → Housed
 call_there k {s = s} some h = grind (arith, h.there 0, h.homes k)
 
 -- a holding entry that begins to run is of an instance that is there
-begun_there : {instances : ℕ} {s : Core} → 0 < instances → Housed instances s → (l : Label) (i : ℕ) → begun_holder s l ≡ Some i → is_some (get s.instances i) ≡ true
+begun_there : {instances : ℕ} {s : Core} → 0 < instances → Housed instances s → (l : Label) (i : ℕ) → begun_holder s l ≡ Some i →
+    is_some (get s.instances i) ≡ true
 begun_there {s = s} some h l i e =
     let there : (k : ℕ) → is_some (get s.instances (call_instance k s)) ≡ true = λ k. call_there k some h in grind (arith, there)
 
@@ -149,12 +157,14 @@ record StepHolds (instances : ℕ) (s : State) (l : Label) (t : State) : Type 0 
   housed : Housed instances t.core
   main : IsScripted t.main
 
-step_holds : (x : Setting) (instances : ℕ) → CalleesExist x instances → (s : State) → Housed instances s.core → IsScripted s.main → (l : Label) (t : State) → Step x s l t → StepHolds instances s l t
+step_holds : (x : Setting) (instances : ℕ) → CalleesExist x instances → (s : State) → Housed instances s.core → IsScripted s.main →
+    (l : Label) (t : State) → Step x s l t → StepHolds instances s l t
 step_holds x instances exist s h m l t step =
     let w : Walked x s l t = step_walks x s l t step in
     let a : Scene = scene_of x s l w.next in
     let b : Housed instances a.base = of_base (Housed instances) s.turn s.core (record { there = h.there; homes = h.homes }) in
-    let q : HoldersGo a s.core = of_base (λ c. HoldersGo (record a { base = c }) s.core) s.turn s.core (record { shut = λ i other e. e; kept = λ i e. e; homes = h.homes }) in
+    let q : HoldersGo a s.core = of_base (λ c. HoldersGo (record a { base = c }) s.core) s.turn s.core
+    (record { shut = λ i other e. e; kept = λ i e. e; homes = h.homes }) in
     let g : HoldersGo a t.core = along (HoldersGo a) (word_holds a instances exist m b) q w.walk in
     let kept : (i : ℕ) → is_some (get s.core.instances i) ≡ true → is_some (get t.core.instances i) ≡ true =
     λ i e. g.kept i (of_base (λ c. is_some (get c.instances i) ≡ true) s.turn s.core e) in
@@ -179,7 +189,8 @@ among_left : (ks : List ℕ) (i j : ℕ) → among j (less_one i ks) ≡ true �
 among_left [] i j h = absurd (cc)
 among_left (k ∷ ks) i j h = let rest = among_left ks i j in grind (arith, nat_tests)
 
-now_inside : (inside : List ℕ) (b : Option ℕ) (i : ℕ) → is_among (with_holder inside b) (Some i) ≡ true → (b ≡ Some i) ⊎ (is_among inside (Some i) ≡ true)
+now_inside : (inside : List ℕ) (b : Option ℕ) (i : ℕ) → is_among (with_holder inside b) (Some i) ≡ true →
+    (b ≡ Some i) ⊎ (is_among inside (Some i) ≡ true)
 now_inside inside b i h = grind (arith, nat_tests)
 
 left_inside : (inside : List ℕ) (b r : Option ℕ) (i : ℕ) → is_among (less_holder (with_holder inside b) r) (Some i) ≡ true →
@@ -191,7 +202,8 @@ left_inside inside b (Some j) i h = let r = among_left (with_holder inside b) j 
 abbrev AllShut : List ℕ → Core → Type 0
 AllShut inside s = (i : ℕ) → is_among inside (Some i) ≡ true → may_not_enter i s ≡ true
 
-none_inside : (s : Core) (inside : List ℕ) (o : Option ℕ) → AllShut inside s → ((i : ℕ) → o ≡ Some i → may_not_enter i s ≡ false) → not (is_among inside o) ≡ true
+none_inside : (s : Core) (inside : List ℕ) (o : Option ℕ) → AllShut inside s → ((i : ℕ) → o ≡ Some i → may_not_enter i s ≡ false) →
+    not (is_among inside o) ≡ true
 none_inside s inside o shut unshut = grind arith
 
 still_shut : {instances : ℕ} (s : State) (l : Label) (t : State) (inside : List ℕ) → StepHolds instances s l t → AllShut inside s.core →
@@ -208,15 +220,20 @@ filled_at x (ℕ.suc n) i below = let rest = filled_at x n i in grind (arith, na
 
 opening_housed : (instances handle_limit capacity : ℕ) → Housed instances (fresh instances handle_limit capacity)
 unfolding fresh
-opening_housed instances handle_limit capacity = record { there = λ i below. filled_at untouched instances i below; homes = λ k c e. let o = get-empty {X = Call} k in absurd (cc) }
+opening_housed instances handle_limit capacity = record {
+  there = λ i below. filled_at untouched instances i below;
+  homes = λ k c e. let o = get-empty {X = Call} k in absurd (cc);
+}
 
-run_holds : (x : Setting) (instances : ℕ) → CalleesExist x instances → (s : State) → Housed instances s.core → IsScripted s.main → (ls : List Label) (t : State) → (run : Run x s ls t) → (inside : List ℕ) → AllShut inside s.core → holds_one inside (history x s ls t run) ≡ true
+run_holds : (x : Setting) (instances : ℕ) → CalleesExist x instances → (s : State) → Housed instances s.core → IsScripted s.main →
+    (ls : List Label) (t : State) (run : Run x s ls t) (inside : List ℕ) → AllShut inside s.core →
+    holds_one inside (history x s ls t run) ≡ true
 run_holds x instances exist s h m [] t run inside shut = refl
 run_holds x instances exist s h m (l ∷ ls) t run inside shut =
     let k : StepHolds instances s l run.0 = step_holds x instances exist s h m l run.0 run.1.0 in
     let first = none_inside s.core inside (begun_holder s.core l) shut (λ i begun. (k.begins i begun).0) in
-    rw first (run_holds x instances exist run.0 k.housed k.main ls t run.1.1 (less_holder (with_holder inside (begun_holder s.core l)) (returned_holder s.core l)) (still_shut s l run.0 inside k shut))
+    rw first (run_holds x instances exist run.0 k.housed k.main ls t run.1.1 _ (still_shut s l run.0 inside k shut))
 
 pub runs_hold_one : RunsHoldOne
 runs_hold_one x instances handle_limit capacity p ls t exist run =
-    run_holds x instances exist (opening instances handle_limit capacity (Scripted p)) (opening_housed instances handle_limit capacity) tt ls t run [] (λ i h. no_way h)
+    run_holds x instances exist _ (opening_housed instances handle_limit capacity) tt ls t run [] (λ i h. absurd (cc))

@@ -37,15 +37,16 @@ base_is turn.Over s = refl
 -- ---- Who runs or is taken is there
 
 -- whose entry stands anywhere is there
-entry_there : (n : ℕ) (s : Core) → HasPlace n s → (1 ≤ switch_entries n s.queues.switch) ⊎ ((1 ≤ entries n s.queues.high) ⊎ (1 ≤ entries n s.queues.low)) →
-    is_there n s ≡ true
+entry_there : (n : ℕ) (s : Core) → HasPlace n s →
+    (1 ≤ switch_entries n s.queues.switch) ⊎ ((1 ≤ entries n s.queues.high) ⊎ (1 ≤ entries n s.queues.low)) → is_there n s ≡ true
 entry_there n s h stands = grind arith
 
 taken_stands : (n : ℕ) (o : Option ℕ) (hs ls : List Entry) → thread_of_entry (or_high o hs ls) ≡ Some n →
     (1 ≤ switch_entries n o) ⊎ ((1 ≤ entries n hs) ⊎ (1 ≤ entries n ls))
 taken_stands n o hs ls e = grind (arith, nat_tests)
 
-pub runner_there : (x : Setting) (s : State) (l : Label) (next : Turn) → InPlace s → (n : ℕ) → IsRunner (scene_of x s l next) n → is_there n s.core ≡ true
+pub runner_there : (x : Setting) (s : State) (l : Label) (next : Turn) → InPlace s → (n : ℕ) → IsRunner (scene_of x s l next) n →
+    is_there n s.core ≡ true
 unfolding next_entry
 runner_there x s l next h n e =
     let q = s.core.queues in

@@ -31,7 +31,8 @@ module _ {X : Type 0} (read : Named → Option X) where
   given_names tables i nm j g x h = grind (arith, nat_tests, get-change, get-insert)
 
   -- as it has taken the handle h back
-  pub freed_names : (tables : Records (Table Named)) (i h j g : ℕ) (x : X) → option_and_then read (named_by (change i (taking h) tables) j g) ≡ Some x →
+  pub freed_names : (tables : Records (Table Named)) (i h j g : ℕ) (x : X) →
+      option_and_then read (named_by (change i (taking h) tables) j g) ≡ Some x →
       (option_and_then read (named_by tables j g) ≡ Some x) × (j ≡ i → g ≡ h → ⊥)
   freed_names tables i h j g x e = grind (arith, nat_tests, get-change, get-remove)
 
@@ -104,7 +105,8 @@ tidy_word a w s ok q = q
 pub none_named : (n i h : ℕ) → named_by (filled (no_handles {X = Named}) n) i h ≡ None
 none_named n i h = go (get (filled no_handles n) i) (λ t is. filled_with n i t is)
   where
-    go : (o : Option (Table Named)) → ((t : Table Named) → o ≡ Some t → t ≡ no_handles) → option_and_then (λ (t : Table Named). get t.live h) o ≡ None
+    go : (o : Option (Table Named)) → ((t : Table Named) → o ≡ Some t → t ≡ no_handles) →
+        option_and_then (λ (t : Table Named). get t.live h) o ≡ None
     go None f = refl
     go (Some t) f = rw (f t refl) (get-empty h)
 

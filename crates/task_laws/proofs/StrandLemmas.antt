@@ -34,7 +34,8 @@ turned_under : (a : Scene) (s t : Core) (k m : ℕ) (o p : Option Place) → Tur
 turned_under a s t k m o p c h = grind arith
 
 -- a thread that is there was there before, or was just made
-there_came : (a : Scene) (s t : Core) (k : ℕ) (o p : Option Place) → Came a s t k o p → is_some p ≡ true → (is_some o ≡ true) ⊎ (k ≤ t.made.threads)
+there_came : (a : Scene) (s t : Core) (k : ℕ) (o p : Option Place) → Came a s t k o p → is_some p ≡ true →
+    (is_some o ≡ true) ⊎ (k ≤ t.made.threads)
 there_came a s t k o p c h = grind arith
 
 -- the thread was under that one before, or has come there now
@@ -50,7 +51,8 @@ module _ (a : Scene) (given : RunnerGiven a) (w : Word) (s : Core) (ok : Allowed
 
   pub layered_word : Layered a (after_word w s)
   layered_word = record {
-    numbered = λ n h. let c = there_came a s (after_word w s) n (place_of n s) _ (came_word w s ok n) h in let m = made_threads_word a w s in grind (arith, q.numbered n);
+    numbered = λ n h. let c = there_came a s _ n (place_of n s) _ (came_word w s ok n) h in let b = made_threads_word a w s in
+        grind (arith, q.numbered n);
     below = λ n m e. let c = came n m e in grind (arith, q.below n m, given n);
     made = λ n m e. let c = came n m e in let b = made_threads_word a w s in grind (arith, q.made n m, q.numbered m);
     fresh = λ n m e. let c = came n m e in grind (arith, q.fresh n m);

@@ -1,11 +1,12 @@
 -- Of which instance the sets are that threads wait on, along the words of a step.
 use Rattle.std.proofs.Common.{ap, arith, inl, inr, refl, ⊎_elim}
 use Rattle.std.proofs.lemmas.Bool.Decides.{nat_tests}
-use Rattle.std.specs.Prelude.{IfSome, None, Option, Some, option_and_then, option_map, true, ℕ, ◌+◌, ◌≡◌, ◌⊎◌}
+use Rattle.std.specs.Prelude.{IfSome, None, Option, Some, option_and_then, true, ℕ, ◌+◌, ◌≡◌, ◌⊎◌}
 use Rattle.task_laws.proofs.Basics.{above}
 use Rattle.task_laws.proofs.CallsCame.{op_came}
 use Rattle.task_laws.proofs.CameLemmas.{Came, Comes, MayStand, Moved, Shifts, Turned, Turns, came_word}
 use Rattle.task_laws.proofs.Machine.{add_call, add_group, add_set, add_thread, add_work, after_word, call_made, CloseSet, Core, count_work, free_handle, free_thread_handle, get, get-insert, get-remove, give_handle, give_result, give_thread_handle, how_far_of, HowFar, insert, instance_of, Mark, on_call, on_instance, on_thread, on_work, OpenSet, Place, place_of, poll_pends, push_high, remove, remove_call, remove_group, remove_set, remove_thread, remove_work, Scene, Set, set_backpressure, set_cancel_delivered, set_cancelled, set_course, set_do_not_enter, set_do_not_suspend, set_end, set_event, set_exited, set_how_far, set_join, set_own_event, set_phase, set_position, set_register, set_result, set_saved_callee, set_saved_own, set_script, set_stage, set_started, set_starting_published, set_subtask_handle, set_thread_handle, set_trapped, set_uninteresting, set_word, take_result, Why, with_handle, with_thread_handle, Word, work_queued}
+use Rattle.task_laws.proofs.SetHandles.{home_in}
 use Rattle.task_laws.specs.Order.{IsOf, SetsNamed, WaitsAtHome, set_of_op, set_of_place, set_of_why}
 use Rattle.task_machine.specs.declared.records.HowFar.TheVariants as how_far
 use Rattle.task_machine.specs.declared.records.Place.TheVariants as place
@@ -14,7 +15,8 @@ use Rattle.task_rules.specs.Places.{is_there}
 
 -- ---- Sets
 
-opened_of : (i x j : ℕ) (s : Core) → IsOf i x s → (r : Set) → get (insert s.sets (s.made.sets + 1) (record { instance = j })) x ≡ Some r → r.instance ≡ i
+opened_of : (i x j : ℕ) (s : Core) → IsOf i x s → (r : Set) → get (insert s.sets (s.made.sets + 1) (record { instance = j })) x ≡ Some r →
+    r.instance ≡ i
 opened_of i x j s h r e = grind (arith, nat_tests, get-insert, h.home r)
 
 closed_of : (i x y : ℕ) (s : Core) → IsOf i x s → (r : Set) → get (remove s.sets y) x ≡ Some r → r.instance ≡ i
@@ -46,7 +48,8 @@ yield_set a n w (Yields l e) = rw e tt
 yield_set a n w (ComesAgain l c e) = rw e tt
 yield_set a n w (FindsEvent x l c g e) = rw e (l.0, inl g)
 
-stand_set : (a : Scene) (s : Core) (n x : ℕ) (w : Why) → MayStand a s n w → set_of_why w ≡ Some x → (set_at_place (place_of n s) ≡ Some x) ⊎ Brings a n x
+stand_set : (a : Scene) (s : Core) (n x : ℕ) (w : Why) → MayStand a s n w → set_of_why w ≡ Some x →
+    (set_at_place (place_of n s) ≡ Some x) ⊎ Brings a n x
 stand_set a s n x w (inl e) h = absurd (cc)
 stand_set a s n x w (inr (inl ok)) h = inl (rw h at (put_set s n w ok))
 stand_set a s n x w (inr (inr ok)) h = inr (rw h at (yield_set a n w ok))
@@ -92,12 +95,13 @@ place_set a s t n x p (Turns c) h = absurd (turned_set a s t n x (place_of n s) 
 
 op_set : (a : Scene) (w : Word) (s : Core) → Allowed a w s → (n x : ℕ) → set_of_op (how_far_of n (after_word w s)) ≡ Some x →
     (set_of_op (how_far_of n s) ≡ Some x) ⊎ Brings a n x
-op_set a w s ok n x h = ⊎_elim (λ e. inl e) (λ g. inr (rw g.1.1 at (come_set a s n g.0 g.1.0))) (op_came (λ g. set_of_op g) x w s ok n refl h)
+op_set a w s ok n x h =
+    ⊎_elim (λ e. inl e) (λ g. inr (rw g.1.1 at (come_set a s n g.0 g.1.0))) (op_came (λ g. set_of_op g) x w s ok n refl h)
 
 -- On the way of a step: what threads wait on is of the instances that they had before it.
 pub record Homed (a : Scene) (s : Core) : Type 0 where
   pub homes : (i x : ℕ) → IsOf i x a.base → IsOf i x s
-  pub by_place : (n x : ℕ) → option_and_then set_of_place (place_of n s) ≡ Some x → IsOf (instance_of n a.base) x s × (is_there n a.base ≡ true)
+  pub by_place : (n x : ℕ) → set_at_place (place_of n s) ≡ Some x → IsOf (instance_of n a.base) x s × (is_there n a.base ≡ true)
   pub by_op : (n x : ℕ) → set_of_op (how_far_of n s) ≡ Some x → IsOf (instance_of n a.base) x s × (is_there n a.base ≡ true)
 
 -- What is known before it.
@@ -110,7 +114,8 @@ module _ (a : Scene) (known : KnownHome a) where
   brought : (n x : ℕ) → HasSet a n x ⊎ (set_at_place (place_of n a.base) ≡ Some x) → IsOf (instance_of n a.base) x a.base
   brought n x (inl (BySetHandle h e)) = record { made = known.sets.number _ h x e; home = λ r at. homed r at (known.sets.home _ h x e) }
     where
-      homed : (r : Set) → get a.base.sets x ≡ Some r → option_map (λ (r : Set). r.instance) (get a.base.sets x) ≡ Some (instance_of n a.base) → r.instance ≡ instance_of n a.base
+      homed : (r : Set) → get a.base.sets x ≡ Some r → home_in a.base.sets x ≡ Some (instance_of n a.base) →
+          r.instance ≡ instance_of n a.base
       homed r at h = cc
   brought n x (inl (ByWait e)) = known.waits.by_op n x (ap set_of_op e)
   brought n x (inl (ByDelivery r)) = known.waits.by_place n x (ap (λ o. option_and_then set_of_place o) r.1)
@@ -129,6 +134,6 @@ module _ (a : Scene) (known : KnownHome a) where
     pub homed_word : Homed a (after_word w s)
     homed_word = record {
       homes = λ i x h. of_word i x w s (q.homes i x h);
-      by_place = λ n x h. ⊎_elim (λ e. stays_home n x (q.by_place n x e)) (brings_home n x) (place_set a s (after_word w s) n x _ (came_word w s ok n) h);
+      by_place = λ n x h. ⊎_elim (λ e. stays_home n x (q.by_place n x e)) (brings_home n x) (place_set a s _ n x _ (came_word w s ok n) h);
       by_op = λ n x h. ⊎_elim (λ e. stays_home n x (q.by_op n x e)) (brings_home n x) (op_set a w s ok n x h);
     }

@@ -54,7 +54,8 @@ tidy s h = record { numbers = h.number; homes = h.home; apart = λ i a b x e f. 
 -- ---- Starts
 
 -- where a call's start hasn't run, its first thread waits for it, or is gone
-call_awaited : (s : Core) → Numbered s → CallsThere s → StartsAwaited s → (k : ℕ) → WasCall s k → was_started k s ≡ false → is_fresh (place_of k s) ≡ true
+call_awaited : (s : Core) → Numbered s → CallsThere s → StartsAwaited s → (k : ℕ) → WasCall s k → was_started k s ≡ false →
+    is_fresh (place_of k s) ≡ true
 call_awaited s numbered there starts k first unstarted =
     let awaited : (c : Call) → get s.calls k ≡ Some c → c.started ≡ false → is_fresh (place_of k s) ≡ true = starts k in
     grind (arith, numbered.threads k, there k k)
@@ -84,7 +85,8 @@ same_call s t steady numbered k was now = grind (arith, steady.calls k, numbered
 same_instance : (s t : Core) → Steady s t → Numbered s → CallsThere s → CallsThere t → (n : ℕ) → is_there n s ≡ true → is_there n t ≡ true →
     instance_of n t ≡ instance_of n s
 same_instance s t steady numbered before after n was now =
-    grind (arith, steady.threads n, numbered.threads n, before n (task_of n s), after n (task_of n t), same_call s t steady numbered (task_of n s))
+    let same = same_call s t steady numbered (task_of n s) in
+    grind (arith, steady.threads n, numbered.threads n, before n (task_of n s), after n (task_of n t))
 
 pub steps_make_few : StepsMakeFew
 steps_make_few x s l t step =
@@ -131,7 +133,10 @@ module _ (x : Setting) (s : State) (l : Label) (t : State) (h : InOrder x.compon
 
   known : CallsNamed a.base
   unfolding a
-  known = record { by_handle = λ i g k e. assumption (h.calls_named.by_handle i g k e); by_op = λ n k e. assumption (h.calls_named.by_op n k e) }
+  known = record {
+    by_handle = λ i g k e. assumption (h.calls_named.by_handle i g k e);
+    by_op = λ n k e. assumption (h.calls_named.by_op n k e);
+  }
 
   pub named_kept : CallsNamed t.core
   unfolding a
@@ -155,7 +160,8 @@ module _ (x : Setting) (s : State) (l : Label) (t : State) (h : InOrder x.compon
   pub starts_kept : Steady s.core t.core → StartsAwaited t.core
   unfolding a
   starts_kept steady k c at e =
-      let fresh = (base_out (λ b. Arrives (record a { base = b }) t.core) s.turn s.core arrives).fresh k (was_awaited s.core t.core h.in_place.placed steady h.starts k c at e) in
+      let come : Arrives a t.core = base_out (λ b. Arrives (record a { base = b }) t.core) s.turn s.core arrives in
+      let fresh = come.fresh k (was_awaited s.core t.core h.in_place.placed steady h.starts k c at e) in
       grind (arith, h.numbered.threads k, steady.calls k)
 
   pub directs_kept : Steady s.core t.core → Numbered t.core → DirectsOnTop t.core
@@ -169,7 +175,8 @@ module _ (x : Setting) (s : State) (l : Label) (t : State) (h : InOrder x.compon
 
   -- handles of sets, and the joins to them
   pub joined_kept : IsTidy t.core × JoinsNamed t.core
-  joined_kept = along (λ (c : Core). IsTidy c × JoinsNamed c) (λ v m ok q. (tidy_word a v m ok q.0, joins_word a m q.1 (sets_of m q.0) v ok)) (tidy s.core h.sets_named, h.joins_named) walk
+  joined_kept = along (λ (c : Core). IsTidy c × JoinsNamed c)
+      (λ v m ok q. (tidy_word a v m ok q.0, joins_word a m q.1 (sets_of m q.0) v ok)) (tidy s.core h.sets_named, h.joins_named) walk
 
   known_home : KnownHome a
   unfolding a
@@ -205,7 +212,8 @@ module _ (x : Setting) (s : State) (l : Label) (t : State) (h : InOrder x.compon
 pub step_in_order : StepInOrder
 step_in_order x s l t h step =
     let w = step_walks x s l t step in
-    let q : CallsHold x.component t.core = (step_goes x s l t h.codes (record { numbered = h.numbered; kinds = h.kinds; deliveries = h.deliveries }) step).0 in
+    let p : CallsHold x.component s.core = record { numbered = h.numbered; kinds = h.kinds; deliveries = h.deliveries } in
+    let q : CallsHold x.component t.core = (step_goes x s l t h.codes p step).0 in
     record {
       codes = h.codes;
       in_place = in_place x s l t w (arrives x s l t h w);
@@ -237,7 +245,8 @@ opening_placed instances handle_limit capacity n = record {
 }
 
 opening_in_place : (instances handle_limit capacity : ℕ) (main : Main) → InPlace (opening instances handle_limit capacity main)
-opening_in_place instances handle_limit capacity main = record { placed = opening_placed instances handle_limit capacity; runs = λ n e. absurd (cc) }
+opening_in_place instances handle_limit capacity main =
+    record { placed = opening_placed instances handle_limit capacity; runs = λ n e. absurd (cc) }
 
 opening_starts : (instances handle_limit capacity : ℕ) → StartsAwaited (fresh instances handle_limit capacity)
 unfolding fresh
@@ -298,7 +307,9 @@ run_in_order x s h [] t run = rw run h
 run_in_order x s h (l ∷ ls) t run = run_in_order x run.0 (step_in_order x s l run.0 h run.1.0) ls t run.1.1
 
 pub reached_in_order : ReachedInOrder
-reached_in_order x s r = run_in_order x (opening r.instances r.handle_limit r.capacity r.main) (opening_in_order x.component r.scripts r.instances r.handle_limit r.capacity r.main) r.labels s r.run
+reached_in_order x s r =
+    let first = opening_in_order x.component r.scripts r.instances r.handle_limit r.capacity r.main in
+    run_in_order x (opening r.instances r.handle_limit r.capacity r.main) first r.labels s r.run
 
 pub reached_in_place : ReachedInPlace
 reached_in_place x s r = (reached_in_order x s r).in_place

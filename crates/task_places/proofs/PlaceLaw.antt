@@ -1,8 +1,7 @@
 -- Where each thread is along the words of a step: each has its place, and one that waits for its start still does, or its call has begun.
-use Rattle.task_machine.specs.declared.records.HowFar.TheVariants as how_far
+use Rattle.std.proofs.lemmas.Bool.Decides.{nat_tests}
 use Rattle.task_machine.specs.declared.records.HowFar.{HowFar}
 use Rattle.task_rules.specs.Laws.{is_free}
-use Rattle.task_machine.specs.declared.records.Script.TheVariants as script
 use Rattle.task_rules.specs.Scripts.{registers_for}
 use Rattle.task_machine.specs.declared.records.Call.{Call}
 use Rattle.task_rules.specs.Cancels.{is_callback_wait}
@@ -14,17 +13,11 @@ use Rattle.task_machine.specs.Maps.{get}
 use Rattle.task_machine.specs.Moves.{has_entry, promoted, put_high, put_low, behind_one}
 use Rattle.task_machine.specs.Read.{is_explicit, is_waiting_on, new_thread_handle, place_of, task_of, was_started, is_under}
 use Rattle.task_machine.specs.Write.{add_call, add_group, add_set, add_work, count_work, free_handle, free_thread_handle, give_handle, give_result, give_thread_handle, on_call, on_instance, on_thread, on_work, push_high, remove_call, remove_group, remove_set, remove_thread, remove_work, set_backpressure, set_cancel_delivered, set_cancelled, set_course, set_do_not_enter, set_do_not_suspend, set_end, set_event, set_exited, set_how_far, set_join, set_own_event, set_phase, set_place, set_position, set_register, set_result, set_saved_callee, set_saved_own, set_script, set_stage, set_started, set_starting_published, set_subtask_handle, set_thread_handle, set_trapped, set_uninteresting, set_word, take_result}
-use Rattle.task_machine.specs.declared.records.Entry.TheVariants as entry
 use Rattle.task_machine.specs.declared.records.Place.{Place}
-use Rattle.task_machine.specs.declared.records.Place.TheVariants as place
-use Rattle.task_machine.specs.declared.records.Subtask.TheVariants as subtask
 use Rattle.task_machine.specs.declared.records.Thread.{Thread}
 use Rattle.task_machine.specs.declared.records.Turn.{Turn}
-use Rattle.task_machine.specs.declared.records.Turn.TheVariants as turn
 use Rattle.task_machine.specs.declared.records.Why.{Why}
-use Rattle.task_machine.specs.declared.records.Why.TheVariants as why
 use Rattle.task_machine.specs.declared.words.Mark.{Mark}
-use Rattle.task_machine.specs.declared.words.Mark.TheVariants as mark
 use Rattle.task_places.proofs.Entries.{added_stand, has_stands, next_first, popped_quiet, promoted_stand, pushed_same, removed_fresh, withdrawn_stand, flipped}
 use Rattle.task_laws.proofs.CameLemmas.{read_same}
 use Rattle.task_rules.proofs.ChainLemmas.{along}
@@ -42,70 +35,41 @@ use Rattle.task_rules.specs.Scenes.{Scene}
 use Rattle.task_rules.specs.Threads.{resume_at}
 use Rattle.task_rules.specs.Words.{FinishWork, MakeCall, MakeThread, NameThread, Places, Placing, Promote, Put, QueueWork, RemoveThread, SetHowFar, SetPosition, SetRegister, SetSavedCallee, SetSavedOwn, SetScript, Stop, TakeHost, TakePush, Withdraw, Word, after_placing, after_word, Pop, GoBehind, Move, Enter, SetUninteresting, RemoveCall, RemoveGroup, SetTrapped}
 use Rattle.task_rules.specs.Works.{poll_pends}
+use Rattle.task_machine.specs.declared.records.HowFar.TheVariants as how_far
+use Rattle.task_machine.specs.declared.records.Script.TheVariants as script
+use Rattle.task_machine.specs.declared.records.Entry.TheVariants as entry
+use Rattle.task_machine.specs.declared.records.Place.TheVariants as place
+use Rattle.task_machine.specs.declared.records.Subtask.TheVariants as subtask
+use Rattle.task_machine.specs.declared.records.Turn.TheVariants as turn
+use Rattle.task_machine.specs.declared.records.Why.TheVariants as why
+use Rattle.task_machine.specs.declared.words.Mark.TheVariants as mark
 
 pub no_way : {A : Type 0} → false ≡ true → A
 no_way h = absurd (subst T (sym h) tt)
 
--- ---- Why a thread is put
+-- ---- Who is put, and who has an entry
 
--- It was parked; one that waited for its start still does.
-record Parked (m : ℕ) (w : Why) (s : Core) : Type 0 where
-  pub place : Place
-  pub at : place_of m s ≡ Some place
-  pub parked : is_parked place ≡ true
-  pub starts : is_fresh (Some place) ≡ true → is_for_start w ≡ true
+-- who is put was parked; one that waited for its start still does
+parked_at : (m : ℕ) (w : Why) (s : Core) → MayPut m w s → (option_map_or is_parked (place_of m s) false ≡ true) × (is_fresh (place_of m s) ≡ true → is_for_start w ≡ true)
+parked_at m w s ok = (grind arith, λ h. grind arith)
 
-resumes : (m : ℕ) (w : Why) (s : Core) (b : Bool) (o : Option Place) → place_of m s ≡ o → option_and_then (resume_at b) o ≡ Some w → Parked m w s
-resumes m w s true (Some place.New) at h = record { place = place.New; at = at; parked = refl; starts = λ g. ap (λ (o : Option Why). is_for_start (unwrap_or o w)) (sym h) }
-resumes m w s true (Some place.Suspended) at h = record { place = place.Suspended; at = at; parked = refl; starts = λ g. no_way g }
-resumes m w s false (Some place.Suspended) at h = record { place = place.Suspended; at = at; parked = refl; starts = λ g. no_way g }
-resumes m w s b o at h = no_way (ap (λ (o : Option Why). is_some o) h)
-
-waiting : (x m : ℕ) (w : Why) (s : Core) (o : Option Place) → place_of m s ≡ o → option_map_or (is_waiting_on x) o false ≡ true → Parked m w s
-waiting x m w s (Some (place.Waiting y b)) at h = record { place = place.Waiting y b; at = at; parked = refl; starts = λ g. no_way g }
-waiting x m w s None at h = no_way h
-waiting x m w s (Some _) at h = no_way h
-
-called_back : (m : ℕ) (w : Why) (s : Core) (o : Option Place) → place_of m s ≡ o → option_map_or is_callback_wait o false ≡ true → Parked m w s
-called_back m w s (Some (place.Waiting y b)) at h = record { place = place.Waiting y b; at = at; parked = refl; starts = λ g. no_way g }
-called_back m w s None at h = no_way h
-called_back m w s (Some _) at h = no_way h
-
-parked_at : (m : ℕ) (w : Why) (s : Core) → MayPut m w s → Parked m w s
-parked_at m w s (Starts at explicit direct e) = record { place = place.New; at = at; parked = refl; starts = λ g. ap is_for_start e }
-parked_at m w s (Resumes by) = resumes m w s (is_explicit m s) (place_of m s) refl by
-parked_at m w s (Wakes x h e) = waiting x m w s (place_of m s) refl h
-parked_at m w s (Unblocks sub at done e) = record { place = place.Blocked sub; at = at; parked = refl; starts = λ g. no_way g }
-parked_at m w s (Releases at) = record { place = place.Held w; at = at; parked = refl; starts = λ g. g }
-parked_at m w s (Cancels h e) = called_back m w s (place_of m s) refl h
-
--- ---- Who has an entry
+place_at : (test : Place → Bool) (o : Option Place) → option_map_or test o false ≡ true → (p : Place) × ((o ≡ Some p) × (test p ≡ true))
+place_at test None h = no_way h
+place_at test (Some p) h = (p, (refl, h))
 
 abbrev pub ReadyAt : Option Place → Type 0
 ReadyAt o = (x : Mark) × ((w : Why) × (o ≡ Some (place.Ready x w)))
 
-too_low : {A : Type 0} → 1 ≤ 0 → A
-too_low h = absurd (no h)
-  where
-    no : 1 ≤ 0 → ⊥
-    no g = omega (arith, g)
-
 ready_of : (o : Option Place) → 1 ≤ says is_at_switch o + says is_at_high o + says is_at_low o → ReadyAt o
 ready_of (Some (place.Ready x w)) h = (x, (w, refl))
-ready_of None h = too_low h
-ready_of (Some _) h = too_low h
+ready_of o h = absurd (grind arith)
 
 -- a thread that has its place and an entry
 pub entry_ready : (m : ℕ) (s : Core) → HasPlace m s → 1 ≤ switch_entries m s.queues.switch + entries m s.queues.high + entries m s.queues.low → ReadyAt (place_of m s)
 entry_ready m s h one = ready_of (place_of m s) (let a = h.switch in let b = h.high in let c = h.low in omega (arith, a, b, c, one))
 
 listed : (m : ℕ) (s : Core) → (has_entry m s.queues.high || has_entry m s.queues.low) ≡ true → 1 ≤ switch_entries m s.queues.switch + entries m s.queues.high + entries m s.queues.low
-listed m s h = go (has_entry m s.queues.high) (has_entry m s.queues.low) refl refl h
-  where
-    go : (a b : Bool) → has_entry m s.queues.high ≡ a → has_entry m s.queues.low ≡ b → (a || b) ≡ true → 1 ≤ switch_entries m s.queues.switch + entries m s.queues.high + entries m s.queues.low
-    go true b e f g = let x = has_stands m s.queues.high e in omega (arith, x)
-    go false true e f g = let x = has_stands m s.queues.low f in omega (arith, x)
-    go false false e f g = no_way g
+listed m s h = grind (arith, has_stands m s.queues.high, has_stands m s.queues.low)
 
 -- ---- Beside a thread that stays
 
@@ -123,23 +87,13 @@ abbrev pub watch : Scene → ℕ → Watch
 watch a k = watch_of (place_of k a.base)
 
 fresh_watch : (o : Option Place) → is_fresh o ≡ true → watch_of o ≡ Awaits
-fresh_watch None h = refl
-fresh_watch (Some (place.Under m)) h = no_way h
-fresh_watch (Some _) h = ap (λ b. if b then Awaits else Nothing) h
+fresh_watch o h = grind arith
 
 pub so_self : (o : Option Place) → is_so (watch_of o) o ≡ true
-so_self None = refl
-so_self (Some (place.Under m)) = eq_refl m
-so_self (Some p) = go (is_fresh (Some p)) refl
-  where
-    go : (b : Bool) → is_fresh (Some p) ≡ b → is_so (if b then Awaits else Nothing) (Some p) ≡ true
-    go true e = e
-    go false e = refl
+so_self o = grind (arith, nat_tests)
 
 under_is : (m : ℕ) (o : Option Place) → option_map_or (is_under m) o false ≡ true → o ≡ Some (place.Under m)
-under_is m None h = no_way h
-under_is m (Some (place.Under c)) h = ap (λ (j : ℕ). Some (place.Under j)) (is_eq_of c m h)
-under_is m (Some _) h = no_way h
+under_is m o h = grind (arith, nat_tests)
 
 module _ (a : Scene) {n : ℕ} {q : Option Place} {s : Core} (st : Stand (watch a) n q [] s) where
   fresh_still : (k : ℕ) → waits a k ≡ true → is_fresh (place_of k s) ≡ true
@@ -150,10 +104,7 @@ module _ (a : Scene) {n : ℕ} {q : Option Place} {s : Core} (st : Stand (watch 
 
 -- a parked thread that is put
 so_put : (v : Watch) (p : Place) (x : Mark) (w : Why) → is_parked p ≡ true → (is_fresh (Some p) ≡ true → is_for_start w ≡ true) → is_so v (Some p) ≡ true → is_so v (Some (place.Ready x w)) ≡ true
-so_put Nothing p x w parked starts h = refl
-so_put Awaits p x w parked starts h = starts h
-so_put (Covered m) (place.Under c) x w parked starts h = no_way parked
-so_put (Covered m) _ x w parked starts h = h
+so_put v p x w parked starts h = grind arith
 
 -- From b on the thread n stays at q, so nobody puts it; nor is it a call's that is withdrawn, or made.
 pub record Follows (a : Scene) (b : Core) (n : ℕ) (q : Option Place) : Type 0 where
@@ -179,7 +130,7 @@ module _ {a : Scene} {b : Core} {n : ℕ} {q : Option Place} (f : Follows a b n 
   promotes m s apart none r st = promoted_stand n q m r.0 r.1.0 s apart r.1.1 none st
 
   stay_placing : (p : Placing) (s : Core) → Stays a (Places p) s → Stand (watch a) n q [] s → Stand (watch a) n q [] (after_placing p s)
-  stay_placing (Put x m w) s (inl ok) st = let r = parked_at m w s ok in put_stand n q f.busy x m w r.place s r.at r.parked (λ h. so_put (watch a m) r.place x w r.parked r.starts (ap (is_so (watch a m)) (sym r.at) ∙ (st.kept m h).1)) st
+  stay_placing (Put x m w) s (inl ok) st = let r = parked_at m w s ok in let p = place_at is_parked (place_of m s) r.0 in put_stand n q f.busy x m w p.0 s p.1.0 p.1.1 (λ h. so_put (watch a m) p.0 x w p.1.1 (λ g. r.1 (ap is_fresh p.1.0 ∙ g)) (ap (is_so (watch a m)) (sym p.1.0) ∙ (st.kept m h).1)) st
   stay_placing (Promote m) s (inl ok) st =
       let one = listed m s ok.1 in
       let apart : (m == n) ≡ false = by_number m n ((m == n) ≡ false) (λ e. absurd (none_listed m e one)) (λ e. e) in
@@ -264,11 +215,7 @@ far_arrives a n h s r =
 -- who is taken and waits for its start is taken for it
 fresh_ready : (p : Place) → is_busy (Some p) ≡ true → is_fresh (Some p) ≡ true → (x : Mark) × (p ≡ place.Ready x why.Start)
 fresh_ready (place.Ready x why.Start) b h = (x, refl)
-fresh_ready (place.Ready x (why.Delivery d)) b h = no_way h
-fresh_ready (place.Ready x why.Resumption) b h = no_way h
-fresh_ready (place.Held w) b h = no_way b
-fresh_ready place.New b h = no_way b
-fresh_ready _ b h = no_way h
+fresh_ready p b h = absurd (grind arith)
 
 abbrev pub is_run : Turn → Bool
 is_run (turn.Run n) = true
@@ -279,9 +226,7 @@ placeless None h = refl
 placeless (Some t) h = no_way h
 
 yield_runner : {a : Scene} (k : ℕ) (w : Why) → MayYield a k w → IsRunner a k
-yield_runner k w (Yields l e) = l.0
-yield_runner k w (ComesAgain l d e) = l.0
-yield_runner k w (FindsEvent x l d h e) = l.0
+yield_runner k w ok = grind arith
 
 move_runner : {a : Scene} (k : ℕ) (r : Place) (s : Core) → MayMove a k r s → IsRunner a k ⊎ ((m : ℕ) × (IsRunner a m × (is_none (get s.threads m) ≡ true)))
 move_runner k r s (Runs i to h e) = inl i
@@ -325,9 +270,7 @@ module _ {a : Scene} {b : Core} (n : ℕ) (p : Place) (f : Follows a b n (Some p
   left r s t leave adds st = comes r s t adds st (λ m to. not_main m (sym leave.1.0 ∙ to)) (λ h. begun s leave.1.1 h)
 
   yield_leaves : (w : Why) → MayYield a n w → Leaves a n
-  yield_leaves w (Yields l e) = l
-  yield_leaves w (ComesAgain l d e) = l
-  yield_leaves w (FindsEvent x l d h e) = l
+  yield_leaves w ok = grind arith
 
   move_lands : (r : Place) (s : Core) → MayMove a n r s → Stand (watch a) n (Some p) [] s → Arrives a (set_place n r s)
   unfolding set_place on_thread

@@ -15,10 +15,10 @@ use Rattle.task_machine.specs.declared.records.Subtask.TheVariants as subtask
 use Rattle.task_machine.specs.declared.records.Turn.{Turn}
 use Rattle.task_machine.specs.declared.records.Turn.TheVariants as turn
 use Rattle.task_machine.specs.declared.words.Mark.{Mark}
-use Rattle.task_places.proofs.Entries.{Cleared, First, cleared_loose, cleared_placed, next_first, popped_cleared}
+use Rattle.task_places.proofs.Entries.{Cleared, First, next_first, popped_cleared}
 use Rattle.task_places.proofs.PlaceLaw.{Arrives, Follows, Frame, entry_ready, is_run, no_way, trip_arrives, waits, ReadyAt, watch, so_self}
 use Rattle.task_rules.proofs.MoveLemmas.{All, is_busy, is_idle, no_time, stand_of}
-use Rattle.task_rules.proofs.StandLemmas.{Loose, Stand, by_number, zero_one, is_so}
+use Rattle.task_rules.proofs.StandLemmas.{Loose, Stand, by_number, zero_one, is_so, left_placed}
 use Rattle.task_rules.specs.Allowed.{HasSubtask, IsRunner}
 use Rattle.task_rules.specs.Chains.{LastWords, Trip, Walked, is_take, start_of}
 use Rattle.task_rules.specs.Places.{HasPlace, is_fresh, one_if, says, is_behind_of}
@@ -106,6 +106,12 @@ running_frame a n is runs at may all = record {
 
 -- ---- A thread is taken
 
+popped_same : (x : Mark) (s : Core) → ((k : ℕ) → place_of k s ≡ place_of k (popped x s)) × (s.made.threads ≡ (popped x s).made.threads)
+unfolding popped set_switch set_high set_low
+popped_same mark.Switch s = (λ k. refl, refl)
+popped_same mark.High s = (λ k. refl, refl)
+popped_same mark.Low s = (λ k. refl, refl)
+
 taken_frame : (a : Scene) (x : Mark) (n : ℕ) (s : Core) → a.runner ≡ Some n → ((m : ℕ) → a.turn ≡ turn.Run m → ⊥) → is_take a.turn ≡ true → a.base ≡ popped x s → First x (entry.Thread n) s → Withdrawable a → All s → (p : Place) × Frame a a.base n (Some p)
 taken_frame a x n s is idle take base first may all = (
   place.Ready r.0 r.1.0,
@@ -113,14 +119,14 @@ taken_frame a x n s is idle take base first may all = (
     follows = record {
       busy = refl;
       runs = λ m e. absurd (idle m e);
-      apart = by_number n (a.base.made.threads + 1) ((n == a.base.made.threads + 1) ≡ false) (λ e. absurd (above (e ∙ ap (λ (k : ℕ). k + 1) (ap (λ (c : Core). c.made.threads) base ∙ c.made)) ((all n).number (ap (λ (o : Option Place). is_some o) r.1.1)))) (λ e. e);
+      apart = by_number n (a.base.made.threads + 1) ((n == a.base.made.threads + 1) ≡ false) (λ e. absurd (above (e ∙ ap (λ (k : ℕ). k + 1) (ap (λ (c : Core). c.made.threads) base ∙ sym (popped_same x s).1)) ((all n).number (ap (λ (o : Option Place). is_some o) r.1.1)))) (λ e. e);
       withdraws = may;
       start = subst (λ (b : Core). Stand (watch a) n (Some (place.Ready r.0 r.1.0)) [] b) (sym base) (record {
         here = c.places n ∙ r.1.1;
         once = λ k. at_most (k == n);
-        loose = λ k h. by_number k n (Loose k (popped x s)) (λ e. subst (λ (j : ℕ). Loose j (popped x s)) (sym e) (cleared_loose c (all n) (λ f. ap (says (is_behind_of f)) r.1.1))) (λ e. zero_one (no_time k n e) h);
+        loose = λ k h. by_number k n (Loose k (popped x s)) (λ e. subst (λ (j : ℕ). Loose j (popped x s)) (sym e) (c.own (λ f. ap (says (is_behind_of f)) r.1.1))) (λ e. zero_one (no_time k n e) h);
         there = λ k h. zero_one refl h;
-        placed = λ k h. cleared_placed c k (apart_of (k == n) h) (all k);
+        placed = λ k h. left_placed k s (popped x s) (c.left k (apart_of (k == n) h)) (c.places k) (all k);
         kept = λ k w. (refl, ap (λ (b : Core). is_so (watch a k) (place_of k b)) (sym base) ∙ so_self (place_of k a.base));
       });
     };
@@ -150,12 +156,6 @@ taken_frame a x n s is idle take base first may all = (
     apart_of true h = zero_one h refl
 
 -- ---- A step
-
-popped_same : (x : Mark) (s : Core) → ((k : ℕ) → place_of k s ≡ place_of k (popped x s)) × (s.made.threads ≡ (popped x s).made.threads)
-unfolding popped set_switch set_high set_low
-popped_same mark.Switch s = (λ k. refl, refl)
-popped_same mark.High s = (λ k. refl, refl)
-popped_same mark.Low s = (λ k. refl, refl)
 
 module _ (x : Setting) (s : State) (l : Label) (next : Turn) (h : InPlace s) where
   abbrev at : Turn → Core → Option ℕ → Scene
