@@ -1,5 +1,6 @@
 -- What each record of a map keeps where one record is changed, made or taken away.
-use Rattle.std.proofs.Common.{cond, refl}
+use Rattle.task_machine.specs.Maps.{Records, change, get, get-insert, get-remove, insert, remove}
+use Rattle.std.proofs.Common.{cond, refl, T, subst, sym, eqb→eq, ap}
 use Rattle.std.specs.Prelude.{Bool, None, Option, Some, false, option_map, true, ℕ, ◌==◌, ◌≡◌}
 use Rattle.task_laws.proofs.Machine.{change, empty, get, get-empty, get-insert, get-remove, insert, Records, remove}
 use Rattle.task_machine.proofs.CommuteLemmas.{get-change}
@@ -70,3 +71,24 @@ module _ {X : Type 0} (P : ℕ → X → Type 0) where
 pub each_map : {X : Type 0} (P R : ℕ → X → Type 0) (m : Records X) → ((n : ℕ) (x : X) → get m n ≡ Some x → P n x → R n x) →
     Each P m → Each R m
 each_map P R m f h = each_of R m (λ n x is. f n x is (each_get P m h n x is))
+
+-- ---- What comes at each number
+
+-- whatever a map's change at one number does there, if it does nothing to others
+module _ {X Y : Type 0} (g : X → Y) (P : ℕ → Option Y → Option Y → Type 0) (same : (k : ℕ) (o : Option Y) → P k o o) (m : Records X) (j : ℕ) where
+  at_number : (p : Option X) → P j (option_map g (get m j)) (option_map g p) → (k : ℕ) → P k (option_map g (get m k)) (option_map g (cond (k == j) p (get m k)))
+  at_number p own k = go (k == j) refl
+    where
+      go : (b : Bool) → (k == j) ≡ b → P k (option_map g (get m k)) (option_map g (cond b p (get m k)))
+      go true e = subst (λ (i : ℕ). P i (option_map g (get m i)) (option_map g p)) (sym (eqb→eq k j (subst T (sym e) tt))) own
+      go false e = same k (option_map g (get m k))
+
+  pub at_changed : (f : X → X) → P j (option_map g (get m j)) (option_map g (option_map f (get m j))) → (k : ℕ) → P k (option_map g (get m k)) (option_map g (get (change j f m) k))
+  at_changed f own k = subst (λ (r : Option X). P k (option_map g (get m k)) (option_map g r)) (sym (get-change j f m k)) (subst (λ (r : Option X). P k (option_map g (get m k)) (option_map g r)) (changed_is (k == j) refl) (at_number (option_map f (get m j)) own k))
+    where
+      changed_is : (b : Bool) → (k == j) ≡ b → cond b (option_map f (get m j)) (get m k) ≡ cond b (option_map f (get m k)) (get m k)
+      changed_is true e = ap (λ i. option_map f (get m i)) (sym (eqb→eq k j (subst T (sym e) tt)))
+      changed_is false e = refl
+
+  pub at_removed : P j (option_map g (get m j)) None → (k : ℕ) → P k (option_map g (get m k)) (option_map g (get (remove m j) k))
+  at_removed own k = subst (λ (r : Option X). P k (option_map g (get m k)) (option_map g r)) (sym (get-remove m j k)) (at_number None own k)

@@ -28,5 +28,5 @@ pub use Rattle.task_rules.specs.Calls.{new_call, next_thread}
 unfoldable pub use Rattle.task_rules.specs.Calls.{call_made, with_handle, with_thread_handle, work_queued}
 pub use Rattle.task_rules.specs.Scenes.{base_at, base_without, component_of, Scene, scene_of, thread_of_entry}
 pub use Rattle.task_rules.specs.Stalled.{Setting}
-pub use Rattle.task_rules.specs.Words.{AddGroup, after_word, CloseSet, CountWork, EndWork, Enter, FinishWork, GoBehind, MakeCall, MakeThread, Move, NameCall, NameThread, NameWork, OpenSet, Pend, Places, Placing, Pop, Promote, Put, put_at, QueueWork, RemoveCall, RemoveThread, RemoveWork, SetBackpressure, SetCallEvent, SetCallJoin, SetCancelDelivered, SetCancelled, SetDoNotEnter, SetDoNotSuspend, SetEnd, SetExited, SetHowFar, SetOwnEvent, SetPhase, SetPosition, SetRegister, SetResult, SetSavedCallee, SetSavedOwn, SetScript, SetStarted, SetStartingPublished, SetUninteresting, SetWord, SetWorkEvent, SetWorkJoin, Stop, TakeHost, TakePush, UnnameCall, UnnameWork, Withdraw, Word}
+pub use Rattle.task_rules.specs.Words.{AddGroup, after_word, CloseSet, CountWork, EndWork, Enter, FinishWork, GoBehind, MakeCall, MakeThread, Move, NameCall, NameThread, NameWork, OpenSet, Pend, Places, Placing, Pop, Promote, Put, put_at, QueueWork, RemoveCall, RemoveThread, RemoveWork, SetBackpressure, SetCallEvent, SetCallJoin, SetCancelDelivered, SetCancelled, SetDoNotEnter, SetDoNotSuspend, SetEnd, SetExited, SetHowFar, SetOwnEvent, SetPhase, SetPosition, SetRegister, SetResult, SetSavedCallee, SetSavedOwn, SetScript, SetStarted, SetStartingPublished, SetUninteresting, SetWord, TakeWorkEvent, SetWorkJoin, Stop, TakeHost, TakePush, UnnameCall, UnnameWork, Withdraw, Word}
 unfoldable pub use Rattle.task_rules.specs.Works.{poll_pends}

@@ -121,8 +121,8 @@ begun_there {s = s} some h l i e =
 -- ---- Steps
 
 -- a script stays one
-script_stays : (m n : Main) → SameMain m n → IsScripted m → IsScripted n
-script_stays m n same h = grind arith
+script_stays : (m : Main) (t : Core) (n : Main) → SameMain m t n → IsScripted m → IsScripted n
+script_stays m t n same h = grind arith
 
 -- but for the instance of which a holding entry returns none is opened; one that begins to run finds its instance open, and shuts it
 record StepHolds (instances : ℕ) (s : State) (l : Label) (t : State) : Type 0 where
@@ -146,7 +146,7 @@ step_holds x instances exist s h m l t step =
       shut = λ i other e. g.shut i (rw (returned_same q s.core l) other) e;
       begins = λ i e. let r = ends.shut i (rw (begun_same q s.core l) e) in (r.0, r.1 (g.kept i (begun_there exist.some h l i e)));
       housed = record { there = λ i below. g.kept i (h.there i below); homes = g.homes };
-      main = script_stays s.main t.main w.main m;
+      main = script_stays s.main t.core t.main w.main m;
     }
 
 -- ---- Who is inside

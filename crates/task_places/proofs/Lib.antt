@@ -4,3 +4,4 @@ pub mod PlaceSteps
 pub mod Directs
 pub mod WorksQueued
 pub mod OrderLemmas
+pub mod OnceSteps

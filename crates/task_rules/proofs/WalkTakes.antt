@@ -1,7 +1,8 @@
 -- The takings of entries as chains of words.
+use Rattle.task_machine.specs.declared.records.Subtask.{Subtask}
 use Rattle.task_machine.specs.declared.words.OwnEvent.TheVariants as own
-use Rattle.task_rules.proofs.MuteLemmas.{is_mute, mute_words}
-use Rattle.task_rules.proofs.SayLemmas.{activated_on_gone, given_says}
+use Rattle.task_rules.proofs.MuteLemmas.{is_mute, mute_words, none_said}
+use Rattle.task_rules.proofs.SayLemmas.{activated_on_gone, given_says, HasNoEnd}
 use Rattle.task_rules.specs.Chains.{EndWords, HandsOut, TakesEvent, NoWord}
 use Rattle.task_rules.specs.SubtaskEnds.{end_for, handed_by, handed_by_event, written_by}
 use Rattle.task_machine.specs.declared.records.Subtask.TheVariants as subtask
@@ -14,7 +15,7 @@ use Rattle.task_machine.specs.Core.{Core, Main}
 use Rattle.task_machine.specs.Labels.{Choice, event_label, held_label, host_label, take_label}
 use Rattle.task_machine.specs.Maps.{change, get, Records}
 use Rattle.task_machine.specs.Moves.{Gift, MemberGift, NoGift, OwnGift, gift, given_for, handed_on, may_hand_on, own_gift_of, own_gift_only, own_or_nothing, published, stopped, taken}
-use Rattle.task_machine.specs.Read.{admits, at_handle_limit, backpressure_of, call_instance, foot_of, instance_of, is_direct, is_explicit, is_guest_call, is_holding, is_sync, is_waiting_on, kind_of, may_not_enter, new_thread_handle, no_callee, place_of, task_of, was_started, undelivered_end, event_of}
+use Rattle.task_machine.specs.Read.{admits, at_handle_limit, backpressure_of, call_instance, foot_of, instance_of, is_direct, is_explicit, is_guest_call, is_holding, is_sync, is_waiting_on, kind_of, may_not_enter, new_thread_handle, no_callee, place_of, task_of, was_started}
 use Rattle.task_machine.specs.Write.{give_thread_handle, on_call, on_instance, on_thread, set_do_not_enter, set_event, set_how_far, set_place, set_position, set_script, set_started, set_starting_published, set_thread_handle, taking}
 use Rattle.task_machine.specs.declared.component.Callee.{Callee}
 use Rattle.task_machine.specs.declared.component.ExportKind.{ExportKind}
@@ -366,24 +367,24 @@ module _ (x : Setting) (main : Main) (ended : Bool) (s : Core) (n : ℕ) (l : La
   -- ---- Deliveries
 
   -- what a delivery hands out shows only where no wake is handed on
-  event_says : (m : Mark) (v : Given) (w : Option ℕ) (t : Core) → (w ≡ None → (k : ℕ) (e : Status) → handed_by_event n s v ≡ Some (end_for e (subtask.Guest k)) → HandsOut taking_scene t k e) → l ≡ event_label m n v w → EndWords taking_scene t
+  event_says : (m : Mark) (v : Given) (w : Option ℕ) (t : Core) → (w ≡ None → (sub : Subtask) (e : Status) → handed_by_event n s v ≡ Some (end_for e sub) → HandsOut taking_scene t sub e) → l ≡ event_label m n v w → EndWords taking_scene t
   event_says m v (Some z) t out is = mute_words taking_scene t (ap is_mute is)
   event_says m v None t out is = record {
-    writes = λ k e says. none_is_some (end_for e (subtask.Guest k)) (sym (ap (λ (y : Label). written_by x.component s y s) is) ∙ says);
-    hands = λ k e h. out refl k e (sym (ap (λ (y : Label). handed_by x.component main s y t) is) ∙ h);
+    writes = λ sub e says. none_said (ap (λ (y : Label). written_by x.component s y t) is) says;
+    hands = λ sub e h. out refl sub e (sym (ap (λ (y : Label). handed_by x.component main s y t) is) ∙ h);
   }
 
-  delivered_out : (y : ℕ) (ch : Choice) (g : Gift) (w : Option ℕ) → gift true (task_of n s) y (chosen n ch s) s ≡ Some g → w ≡ None → (k : ℕ) (e : Status) → handed_by_event n s (handed_out ch s g) ≡ Some (end_for e (subtask.Guest k)) → HandsOut taking_scene (activated n g (handed_out ch s g) (handed_on y g w s)) k e
-  delivered_out y ch g w h none k e out =
-      let q = given_says true n (task_of n s) y ch s g k e h out in
-      TakesEvent q.1 (subst (λ (f : Gift). undelivered_end (event_of (subtask.Guest k) (activated n f (handed_out ch s g) (handed_on y f w s))) ≡ None) (sym q.0) (activated_on_gone n y k w (handed_out ch s g) s))
+  delivered_out : (y : ℕ) (ch : Choice) (g : Gift) (w : Option ℕ) → gift true (task_of n s) y (chosen n ch s) s ≡ Some g → w ≡ None → (sub : Subtask) (e : Status) → handed_by_event n s (handed_out ch s g) ≡ Some (end_for e sub) → HandsOut taking_scene (activated n g (handed_out ch s g) (handed_on y g w s)) sub e
+  delivered_out y ch g w h none sub e out =
+      let q = given_says true n (task_of n s) y ch s g sub e h out in
+      TakesEvent sub e q.1 (subst (λ (f : Gift). HasNoEnd sub (activated n f (handed_out ch s g) (handed_on y f w s))) (sym q.0) (activated_on_gone n y sub w (handed_out ch s g) s))
 
   -- the task's own event is no end of a subtask
-  own_says : (o : Option OwnEvent) (k : ℕ) (e : Status) {A : Type 0} → handed_by_event n s (given_for (own_or_nothing o) 0 s) ≡ Some (end_for e (subtask.Guest k)) → A
+  own_says : (o : Option OwnEvent) (sub : Subtask) (e : Status) {A : Type 0} → handed_by_event n s (given_for (own_or_nothing o) 0 s) ≡ Some (end_for e sub) → A
   unfolding given_for
-  own_says None k e out = none_is_some (end_for e (subtask.Guest k)) out
-  own_says (Some own.None) k e out = none_is_some (end_for e (subtask.Guest k)) out
-  own_says (Some own.Cancelled) k e out = none_is_some (end_for e (subtask.Guest k)) out
+  own_says None sub e out = none_is_some (end_for e sub) out
+  own_says (Some own.None) sub e out = none_is_some (end_for e sub) out
+  own_says (Some own.Cancelled) sub e out = none_is_some (end_for e sub) out
 
   activated_goes : (m : Mark) (d : Delivery) → WasReady taking_scene n (why.Delivery d) → (g : Gift) (v : Given) (w : Option ℕ) (t : Core) → (l ≡ event_label m n v w → EndWords taking_scene (activated n g v t)) → instance_of n t ≡ instance_of n s → MayTake taking_scene (task_of n t) g → may_not_enter (instance_of n s) s ≡ false → Stay taking_scene s t → Leads taking_scene s (Goes (event_label m n v w) (activated n g v t) n)
   unfolding activated
@@ -420,7 +421,7 @@ module _ (x : Setting) (main : Main) (ended : Bool) (s : Core) (n : ℕ) (l : La
   unfolding own_gift_only
   own_delivered_leads m d ready open_at =
       let g = own_gift_only (task_of n s) s in
-      activated_goes m d ready g (given_for g 0 s) None s (event_says m (given_for g 0 s) None _ (λ none k e out. own_says (own_gift_of true (task_of n s) s) k e out)) refl (own_taken d ready (own_gift_of true (task_of n s) s)) open_at NoWord
+      activated_goes m d ready g (given_for g 0 s) None s (event_says m (given_for g 0 s) None _ (λ none sub e out. own_says (own_gift_of true (task_of n s) s) sub e out)) refl (own_taken d ready (own_gift_of true (task_of n s) s)) open_at NoWord
 
   delivered_leads : (m : Mark) (ch : Choice) (d : Delivery) → WasReady taking_scene n (why.Delivery d) → may_not_enter (instance_of n s) s ≡ false → Leads taking_scene s (delivered m n ch s d)
   delivered_leads m ch (delivery.Set y) ready open_at =
