@@ -16,7 +16,7 @@ Each P m = (n : ℕ) → EachAt P n (get m n)
 
 -- ---- What is at a number before and after
 
-pub at_test : (n k : ℕ) (P : Bool → Type 0) → (n ≡ k → P true) → P false → P (n == k)
+at_test : (n k : ℕ) (P : Bool → Type 0) → (n ≡ k → P true) → P false → P (n == k)
 at_test n k P own rest = go (n == k) refl
   where
     go : (b : Bool) → (n == k) ≡ b → P b
@@ -92,6 +92,3 @@ module _ {X Y : Type 0} (g : X → Y) (P : ℕ → Option Y → Option Y → Typ
 
   pub at_removed : P j (option_map g (get m j)) None → (k : ℕ) → P k (option_map g (get m k)) (option_map g (get (remove m j) k))
   at_removed own k = subst (λ (r : Option X). P k (option_map g (get m k)) (option_map g r)) (sym (get-remove m j k)) (at_number None own k)
-
-  pub at_inserted : (x : X) → P j (option_map g (get m j)) (Some (g x)) → (k : ℕ) → P k (option_map g (get m k)) (option_map g (get (insert m j x) k))
-  at_inserted x own k = subst (λ (r : Option X). P k (option_map g (get m k)) (option_map g r)) (sym (get-insert m j x k)) (at_number (Some x) own k)

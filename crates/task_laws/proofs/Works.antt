@@ -362,13 +362,6 @@ stage_ended stage.Queued h = no_way h
 stage_ended stage.Live h = no_way h
 stage_ended stage.Finishing h = no_way h
 
-late_awaits : (x : Stage) → is_late x ≡ true → awaits true x ≡ false
-late_awaits stage.Finishing h = refl
-late_awaits stage.Ended h = refl
-late_awaits stage.FirstPoll h = no_way h
-late_awaits stage.Queued h = no_way h
-late_awaits stage.Live h = no_way h
-
 pub clash : {A : Type 0} {b : Bool} → b ≡ true → b ≡ false → A
 clash p q = no_way (sym q ∙ p)
 
@@ -409,9 +402,6 @@ AbortsNoSync a = (i : ℕ) → MayAbort a i → (i ≤ a.base.made.works) × ((u
 none_given : (i made n : ℕ) → i ≡ made + 1 → (1 ≤ n → i ≤ made) → n ≡ 0
 none_given i made zero same given = refl
 none_given i made (suc n) same given = let h = given (omega arith) in absurd (omega (same, h, arith))
-
-one_stands : (g h n : ℕ) → 1 ≤ g → g ≤ h + n → n ≡ 0 → 1 ≤ h
-one_stands g h n a b c = omega (a, b, c, arith)
 
 module _ {S : Type 0} {a : Scene} (unsync : S → AbortsNoSync a) (w : Word) (s : Core) (ok : Allowed a w s) (q : WorksGo S a s) where
   abbrev pub t : Core
