@@ -16,7 +16,7 @@ Each P m = (n : ℕ) → EachAt P n (get m n)
 
 -- ---- What is at a number before and after
 
-pub at_test : (n k : ℕ) (P : Bool → Type 0) → (n ≡ k → P true) → P false → P (n == k)
+at_test : (n k : ℕ) (P : Bool → Type 0) → (n ≡ k → P true) → P false → P (n == k)
 at_test n k P own rest = go (n == k) refl
   where
     go : (b : Bool) → (n == k) ≡ b → P b

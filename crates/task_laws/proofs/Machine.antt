@@ -3,11 +3,11 @@ pub use Rattle.task_machine.specs.Core.{Core, filled, Main, no_handles, Queues, 
 unfoldable pub use Rattle.task_machine.specs.Core.{fresh}
 pub use Rattle.task_machine.specs.Maps.{get-empty, get-insert, get-remove, Records}
 unfoldable pub use Rattle.task_machine.specs.Maps.{change, empty, get, insert, numbers, remove, size}
-pub use Rattle.task_machine.specs.Read.{as_set, as_subtask, call_instance, callee_of, callers_of, goal_of, handle_of_table, has_ended, how_far_of, instance_of, is_async_lifted, is_callback, is_direct, is_explicit, is_joined, is_member, join_of, kind_of, may_not_enter, named_by, next_handle, or_high, place_of, subtask_at, task_of}
+pub use Rattle.task_machine.specs.Read.{as_set, as_subtask, set_at, call_instance, callee_of, callers_of, goal_of, handle_of_table, has_ended, how_far_of, instance_of, is_async_lifted, is_callback, is_direct, is_explicit, is_joined, is_member, join_of, kind_of, may_not_enter, named_by, next_handle, or_high, place_of, subtask_at, task_of}
 unfoldable pub use Rattle.task_machine.specs.Read.{foot_of, has_member, has_thread, next_entry}
 pub use Rattle.task_machine.specs.Write.{giving, less_one, taking}
 unfoldable pub use Rattle.task_machine.specs.Write.{add_call, add_group, add_set, add_thread, add_work, count_work, free_handle, free_thread_handle, give_handle, give_result, give_thread_handle, on_call, on_instance, on_thread, on_work, push_high, push_high_first, push_low, remove_call, remove_group, remove_set, remove_thread, remove_work, set_backpressure, set_callers, set_cancel_delivered, set_cancelled, set_course, set_do_not_enter, set_do_not_suspend, set_end, set_event, set_exited, set_high, set_how_far, set_join, set_low, set_own_event, set_phase, set_place, set_position, set_register, set_result, set_saved_callee, set_saved_own, set_script, set_stage, set_started, set_starting_published, set_subtask_handle, set_switch, set_thread_handle, set_trapped, set_uninteresting, set_word, take_result}
-pub use Rattle.task_machine.specs.Moves.{behind, displaced, newest, older, passed_on, resumed_all, resumed_callers, stand, why_of}
+pub use Rattle.task_machine.specs.Moves.{behind, displaced, newest, older, passed_on, resumed_all, stand, why_of}
 unfoldable pub use Rattle.task_machine.specs.Moves.{behind_one, is_deletable, promoted, put_high, put_low, put_switch, stopped, unqueued}
 pub use Rattle.task_machine.specs.declared.records.Thread.{Thread}
 pub use Rattle.task_machine.specs.declared.records.Place.{Place}
@@ -24,7 +24,7 @@ pub use Rattle.task_machine.specs.declared.records.Turn.{Turn}
 pub use Rattle.task_machine.specs.declared.component.Callee.{Callee}
 pub use Rattle.task_machine.specs.declared.label.Label.{Label}
 pub use Rattle.task_machine.specs.declared.op.Op.{Op}
-pub use Rattle.task_rules.specs.Calls.{new_call, new_work, next_thread}
+pub use Rattle.task_rules.specs.Calls.{new_call, next_thread}
 unfoldable pub use Rattle.task_rules.specs.Calls.{call_made, with_handle, with_thread_handle, work_queued}
 pub use Rattle.task_rules.specs.Scenes.{base_at, base_without, component_of, Scene, scene_of, thread_of_entry}
 pub use Rattle.task_rules.specs.Stalled.{Setting}
