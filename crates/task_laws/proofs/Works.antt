@@ -24,7 +24,7 @@ use Rattle.task_machine.specs.declared.words.Mark.{Mark}
 use Rattle.task_rules.proofs.ChainLemmas.{along}
 use Rattle.task_rules.proofs.PlacingLemmas.{placing_works, unqueued_works, work_entries}
 use Rattle.task_rules.specs.Places.{one_if}
-use Rattle.task_laws.proofs.EachLemmas.{at_changed, at_removed}
+use Rattle.task_laws.proofs.EachLemmas.{after_change, after_remove, at_change, at_insert}
 use Rattle.task_laws.proofs.PolledWorks.{polled_is_live}
 use Rattle.task_machine.proofs.CommuteLemmas.{change-change_same, get-change}
 use Rattle.task_machine.proofs.MapLemmas.{change-field}
@@ -152,8 +152,8 @@ low_word a (TakePush m j) s ok k i = (popped_high m s i k).1
 low_word a (TakeHost m j) s ok k i = (popped_high m s i k).1
 low_word a w s ok k i = le_refl _
 
-other_entry : (k y : Bool) (i j : ℕ) (es : List Entry) → (i == j) ≡ false → stands y i (es ++ entry_for k j ∷ []) ≤ stands y i es
-other_entry k y i j es e = grind (arith, stands_last)
+other_entry : (k y : Bool) (i j : ℕ) (es : List Entry) → (i ≡ j → ⊥) → stands y i (es ++ entry_for k j ∷ []) ≤ stands y i es
+other_entry k y i j es e = grind (arith, nat_tests, stands_last)
 
 own_push : (y : Bool) (i j : ℕ) (es : List Entry) → stands y i (es ++ entry.Push j ∷ []) ≤ stands y i es + one_if y
 own_push y i j es = grind (arith, stands_last)
@@ -167,84 +167,62 @@ polled_there a s i polled = let live = polled_is_live polled.0 s i polled.1.1 in
 
 module _ {a : Scene} (s : Core) where
   -- the same entries stand, or fewer, and this word does that to the work j
-  module _ (j : ℕ) (h g : ℕ → Bool → ℕ) (fewer : (i : ℕ) (k : Bool) → g i k ≤ h i k) where
-    work_changed : (f : Work → Work) → ((o : Option Work) → get s.works j ≡ o → WorkCame a s s.made.works j (h j) (g j) (option_map doing o) (option_map doing (option_map f o))) → (i : ℕ) → WorkCame a s s.made.works i (h i) (g i) (doing_of i s) (option_map doing (get (change j f s.works) i))
-    work_changed f own i = at_changed doing (λ k o p. WorkCame a s s.made.works k (h k) (g k) o p) (λ k o. Same refl (fewer k)) s.works j f (own (get s.works j) refl) i
+  work_turned : (j : ℕ) (h g : ℕ → Bool → ℕ) → ((i : ℕ) (k : Bool) → g i k ≤ h i k) → (f : Work → Work) →
+      ((w : Work) → get s.works j ≡ Some w → WorkCame a s s.made.works j (h j) (g j) (Some (doing w)) (Some (doing (f w)))) →
+      (i : ℕ) → WorkCame a s s.made.works i (h i) (g i) (doing_of i s) (option_map doing (get (change j f s.works) i))
+  work_turned j h g fewer f own i = after_change (λ o p. WorkCame a s s.made.works i (h i) (g i) (option_map doing o) (option_map doing p)) s.works j i
+      (λ o. Same refl (fewer i)) f (λ w is e. rw e (own w (rw e at is)))
 
-    work_kept : (f : Work → Work) → ((w : Work) → doing (f w) ≡ doing w) → (i : ℕ) → WorkCame a s s.made.works i (h i) (g i) (doing_of i s) (option_map doing (get (change j f s.works) i))
-    work_kept f same i = Same (change-field doing j f same s.works i) (fewer i)
+  work_kept : (j : ℕ) (f : Work → Work) → ((w : Work) → doing (f w) ≡ doing w) → (i : ℕ) →
+      WorkCame a s s.made.works i (High s i) (High s i) (doing_of i s) (option_map doing (get (change j f s.works) i))
+  work_kept j f same = work_turned j (High s) (High s) (λ i k. le_refl _) f (λ w at. Same (ap (λ v. Some v) (same w)) (λ k. le_refl _))
 
-  work_queues : (f : WorkCaller) (host : HostDef) (group : Option ℕ) (i : ℕ) → WorkCame a s (s.made.works + 1) i (High s i) (λ k. stands k i (s.queues.high ++ entry.Push (s.made.works + 1) ∷ [])) (doing_of i s) (option_map doing (get (insert s.works (s.made.works + 1) (new_work f host group)) i))
-  work_queues f host group i = subst (λ (p : Option Work). WorkCame a s (s.made.works + 1) i (High s i) (λ k. stands k i (s.queues.high ++ entry.Push (s.made.works + 1) ∷ [])) (doing_of i s) (option_map doing p)) (sym (get-insert s.works (s.made.works + 1) (new_work f host group) i)) (go (i == s.made.works + 1) refl)
+  work_ends : (i : ℕ) (c : Course) (x : Stage) → MayFinish a i c s → is_late x ≡ true → (awaits false x ≡ true → is_async_work (work_caller_of i s) ≡ true) →
+      (g : ℕ → Bool → ℕ) → ((j : ℕ) (k : Bool) → (j ≡ i → ⊥) → g j k ≤ High s j k) → ((k : Bool) → g i k ≤ High s i k + one_if (awaits k x)) → (j : ℕ) →
+      WorkCame a s s.made.works j (High s j) (g j) (doing_of j s) (option_map doing (get (change i (λ w. record w { stage = x })
+      (change i (λ w. record w { phase = phase.Complete }) (change i (λ w. record w { course = c }) s.works))) j))
+  work_ends i c x may late async g others own j =
+      rw (change-change_same s.works i (λ w. record w { phase = phase.Complete }) (λ w. record w { course = c }))
+      (rw (change-change_same s.works i (λ w. record w { stage = x }) (λ w. record w { course = c; phase = phase.Complete }))
+      (at_change (λ o p. WorkCame a s s.made.works j (High s j) (g j) (option_map doing o) (option_map doing p)) s.works i j _
+      (λ e. rw e (own_work (get s.works i) refl (polled_there a s i may.0))) (λ e. Same refl (λ k. others j k e))))
     where
-      go : (b : Bool) → (i == s.made.works + 1) ≡ b → WorkCame a s (s.made.works + 1) i (High s i) (λ k. stands k i (s.queues.high ++ entry.Push (s.made.works + 1) ∷ [])) (doing_of i s) (option_map doing (cond b (Some (new_work f host group)) (get s.works i)))
-      go true e = let is = is_eq_of i (s.made.works + 1) e in Made f host is (omega (arith, is)) refl (λ k. own_push k i (s.made.works + 1) s.queues.high)
-      go false e = Same refl (λ k. other_entry true k i (s.made.works + 1) s.queues.high e)
-
-  work_ends : (i : ℕ) (c : Course) (x : Stage) → MayFinish a i c s → is_late x ≡ true → (awaits false x ≡ true → is_async_work (work_caller_of i s) ≡ true) → (g : ℕ → Bool → ℕ) → ((j : ℕ) (k : Bool) → (j == i) ≡ false → g j k ≤ High s j k) → ((k : Bool) → g i k ≤ High s i k + one_if (awaits k x)) → (j : ℕ) → WorkCame a s s.made.works j (High s j) (g j) (doing_of j s) (option_map doing (get (change i (λ w. record w { stage = x }) (change i (λ w. record w { phase = phase.Complete }) (change i (λ w. record w { course = c }) s.works))) j))
-  work_ends i c x may late async g others own j = subst (λ (m : Records Work). WorkCame a s s.made.works j (High s j) (g j) (doing_of j s) (option_map doing (get m j))) (sym one_change) (subst (λ (p : Option Work). WorkCame a s s.made.works j (High s j) (g j) (doing_of j s) (option_map doing p)) (sym (get-change i f s.works j)) (go (j == i) refl))
-    where
-      f : Work → Work
-      f w = record w { course = c; phase = phase.Complete; stage = x }
-
-      one_change : change i (λ w. record w { stage = x }) (change i (λ w. record w { phase = phase.Complete }) (change i (λ w. record w { course = c }) s.works)) ≡ change i f s.works
-      one_change = ap (change i (λ w. record w { stage = x })) (change-change_same s.works i (λ w. record w { phase = phase.Complete }) (λ w. record w { course = c })) ∙ change-change_same s.works i (λ w. record w { stage = x }) (λ w. record w { course = c; phase = phase.Complete })
-
-      own_work : (o : Option Work) → get s.works i ≡ o → is_some o ≡ true → WorkCame a s s.made.works i (High s i) (g i) (option_map doing o) (option_map doing (option_map f o))
+      own_work : (o : Option Work) → get s.works i ≡ o → is_some o ≡ true →
+          WorkCame a s s.made.works i (High s i) (g i) (option_map doing o)
+          (option_map doing (option_map (λ (w : Work). record w { course = c; phase = phase.Complete; stage = x }) o))
       own_work None is there = no_way there
-      own_work (Some w) is there = Ends (doing w) c x refl may refl late (λ e. ap (λ (o : Option Work). is_async_work (option_map_or (λ w. w.caller) o work_caller.Spawn)) (sym is) ∙ async e) own
+      own_work (Some w) is there = Ends (doing w) c x refl may refl late (λ e. let r = async e in grind arith) own
 
-      go : (b : Bool) → (j == i) ≡ b → WorkCame a s s.made.works j (High s j) (g j) (doing_of j s) (option_map doing (cond b (option_map f (get s.works j)) (get s.works j)))
-      go true e = subst (λ (k : ℕ). WorkCame a s s.made.works k (High s k) (g k) (doing_of k s) (option_map doing (option_map f (get s.works k)))) (sym (is_eq_of j i e)) (own_work (get s.works i) refl (polled_there a s i may.0))
-      go false e = Same refl (λ k. others j k e)
-
-  work_done : (m : Mark) (i : ℕ) → next_entry s ≡ Some (m, entry.Host i) → stands false i s.queues.low ≡ 0 → (j : ℕ) → WorkCame a s s.made.works j (High s j) (High (popped m s) j) (doing_of j s) (option_map doing (get (change i (λ w. record w { event = Some (host_status (course_value (course_of i s))) }) (change i (λ w. record w { stage = stage.Ended }) s.works)) j))
-  work_done m i is low j = subst (λ (r : Records Work). WorkCame a s s.made.works j (High s j) (High (popped m s) j) (doing_of j s) (option_map doing (get r j))) (sym (change-change_same s.works i (λ w. record w { event = e }) (λ w. record w { stage = stage.Ended }))) (work_changed i (High s) (High (popped m s)) (λ j k. (popped_high m s j k).0) (λ w. record w { event = e; stage = stage.Ended }) own j)
-    where
-      e : Option Status
-      e = Some (host_status (course_value (course_of i s)))
-
-      own : (o : Option Work) → get s.works i ≡ o → WorkCame a s s.made.works i (High s i) (High (popped m s) i) (option_map doing o) (option_map doing (option_map (λ (w : Work). record w { event = e; stage = stage.Ended }) o))
-      own None at = Same refl (λ k. (popped_high m s i k).0)
-      own (Some w) at = Done (doing w) refl (taken_high false m i s is low) (ap (λ (o : Option Work). Some (record (doing w) { stage = stage.Ended; event = Some (host_status (course_value (option_map_or (λ w. w.course) o course.NoValue))) })) at) (λ k. (popped_high m s i k).0)
-
-  pub work_came : ((k : Bool) (i : ℕ) → stands k i s.queues.low ≡ 0) → (w : Word) → Allowed a w s → (i : ℕ) → WorkCame a s (after_word w s).made.works i (High s i) (High (after_word w s) i) (doing_of i s) (doing_of i (after_word w s))
+  pub work_came : ((k : Bool) (i : ℕ) → stands k i s.queues.low ≡ 0) → (w : Word) → Allowed a w s → (i : ℕ) →
+      WorkCame a s (after_word w s).made.works i (High s i) (High (after_word w s) i) (doing_of i s) (doing_of i (after_word w s))
   unfolding add_call add_group add_set add_thread add_work count_work free_handle free_thread_handle give_handle give_result give_thread_handle on_call on_instance on_thread on_work push_high remove_call remove_group remove_set remove_thread remove_work set_backpressure set_cancel_delivered set_cancelled set_course set_do_not_enter set_do_not_suspend set_end set_event set_exited set_how_far set_join set_own_event set_phase set_position set_register set_result set_saved_callee set_saved_own set_script set_stage set_started set_starting_published set_subtask_handle set_thread_handle set_trapped set_uninteresting set_word take_result call_made with_handle with_thread_handle work_queued poll_pends
   work_came low (Places p) ok i = Same refl (λ k. same_stands k i s.queues.high (after_placing p s).queues.high (placing_works a p s ok).high)
   work_came low (Withdraw j) ok i = Same refl (λ k. same_stands k i s.queues.high (unqueued j s).queues.high (unqueued_works j s).high)
-  work_came low (QueueWork f host group) ok i = work_queues f host group i
-  work_came low (TakePush m j) ok i = work_changed j (High s) (High (popped m s)) (λ i k. (popped_high m s i k).0) (λ w. record w { stage = stage.Live }) own i
-    where
-      own : (o : Option Work) → get s.works j ≡ o → WorkCame a s s.made.works j (High s j) (High (popped m s) j) (option_map doing o) (option_map doing (option_map (λ (w : Work). record w { stage = stage.Live }) o))
-      own None at = Same refl (λ k. (popped_high m s j k).0)
-      own (Some w) at = Lives (doing w) refl (taken_high true m j s ok (low true j)) refl (λ k. (popped_high m s j k).0)
-  work_came low (TakeHost m j) ok i = work_done m j ok (low false j) i
-  work_came low (Pend j host) ok i = work_changed j (High s) (High s) (λ i k. le_refl _) (λ w. record w { course = course.Goes host }) own i
-    where
-      own : (o : Option Work) → get s.works j ≡ o → WorkCame a s s.made.works j (High s j) (High s j) (option_map doing o) (option_map doing (option_map (λ (w : Work). record w { course = course.Goes host }) o))
-      own None at = Same refl (λ k. le_refl _)
-      own (Some w) at = Pends (doing w) host refl ok refl (λ k. le_refl _)
-  work_came low (EndWork j c) ok i = work_ends j c stage.Ended ok.0 refl (λ e. no_way e) (High s) (λ i k e. le_refl _) (λ k. omega (arith, ended_none k)) i
-    where
-      ended_none : (k : Bool) → High s j k ≡ High s j k + one_if (awaits k stage.Ended)
-      ended_none true = omega arith
-      ended_none false = omega arith
-  work_came low (FinishWork j c) ok i = work_ends j c stage.Finishing ok.0 refl (λ e. ok.1) (λ i k. stands k i (s.queues.high ++ entry.Host j ∷ [])) (λ i k e. other_entry false k i j s.queues.high e) (λ k. own_host k j j s.queues.high) i
-  work_came low (SetPhase j x) ok i = work_changed j (High s) (High s) (λ i k. le_refl _) (λ w. record w { phase = x }) own i
-    where
-      own : (o : Option Work) → get s.works j ≡ o → WorkCame a s s.made.works j (High s j) (High s j) (option_map doing o) (option_map doing (option_map (λ (w : Work). record w { phase = x }) o))
-      own None at = Same refl (λ k. le_refl _)
-      own (Some w) at = Aborts (doing w) x refl ok.0 refl (λ k. le_refl _)
-  work_came low (TakeWorkEvent j) ok i = work_changed j (High s) (High s) (λ i k. le_refl _) (λ w. record w { event = None }) own i
-    where
-      own : (o : Option Work) → get s.works j ≡ o → WorkCame a s s.made.works j (High s j) (High s j) (option_map doing o) (option_map doing (option_map (λ (w : Work). record w { event = None }) o))
-      own None at = Same refl (λ k. le_refl _)
-      own (Some w) at = Takes (doing w) refl refl (λ k. le_refl _)
-  work_came low (RemoveWork j) ok i = at_removed doing (λ k o p. WorkCame a s s.made.works k (High s k) (High s k) o p) (λ k o. Same refl (λ y. le_refl _)) s.works j (Gone refl (λ y. le_refl _)) i
-  work_came low (SetCancelled j) ok i = work_kept j (High s) (High s) (λ i k. le_refl _) (λ w. record w { cancelled = true }) (λ w. refl) i
-  work_came low (SetWorkJoin j x) ok i = work_kept j (High s) (High s) (λ i k. le_refl _) (λ w. record w { join = x }) (λ w. refl) i
-  work_came low (NameWork n j) ok i = work_kept j (High s) (High s) (λ i k. le_refl _) (λ w. record w { handle = Some (new_handle n s) }) (λ w. refl) i
-  work_came low (UnnameWork n h j) ok i = work_kept j (High s) (High s) (λ i k. le_refl _) (λ w. record w { handle = None }) (λ w. refl) i
+  work_came low (QueueWork f host group) ok i = let j = s.made.works + 1 in
+      at_insert (λ o p. WorkCame a s j i (High s i) (λ k. stands k i (s.queues.high ++ entry.Push j ∷ [])) (option_map doing o) (option_map doing p)) s.works j i _
+      (λ is. Made f host is (omega (arith, is)) refl (λ k. own_push k i j s.queues.high)) (λ e. Same refl (λ k. other_entry true k i j s.queues.high e))
+  work_came low (TakePush m j) ok i = work_turned j (High s) (High (popped m s)) (λ i k. (popped_high m s i k).0) _
+      (λ w at. Lives (doing w) refl (taken_high true m j s ok (low true j)) refl (λ k. (popped_high m s j k).0)) i
+  work_came low (TakeHost m j) ok i =
+      rw (change-change_same s.works j (λ w. record w { event = Some (host_status (course_value (course_of j s))) }) (λ w. record w { stage = stage.Ended }))
+      (work_turned j (High s) (High (popped m s)) (λ i k. (popped_high m s i k).0) _
+      (λ w at. Done (doing w) refl (taken_high false m j s ok (low false j)) (rw at refl) (λ k. (popped_high m s j k).0)) i)
+  work_came low (Pend j host) ok i =
+      work_turned j (High s) (High s) (λ i k. le_refl _) _ (λ w at. Pends (doing w) host refl ok refl (λ k. le_refl _)) i
+  work_came low (EndWork j c) ok i = work_ends j c stage.Ended ok.0 refl (λ e. no_way e) (High s) (λ i k e. le_refl _) (λ k. grind arith) i
+  work_came low (FinishWork j c) ok i = work_ends j c stage.Finishing ok.0 refl (λ e. ok.1) (λ i k. stands k i (s.queues.high ++ entry.Host j ∷ []))
+      (λ i k e. other_entry false k i j s.queues.high e) (λ k. own_host k j j s.queues.high) i
+  work_came low (SetPhase j x) ok i =
+      work_turned j (High s) (High s) (λ i k. le_refl _) _ (λ w at. Aborts (doing w) x refl ok.0 refl (λ k. le_refl _)) i
+  work_came low (TakeWorkEvent j) ok i =
+      work_turned j (High s) (High s) (λ i k. le_refl _) _ (λ w at. Takes (doing w) refl refl (λ k. le_refl _)) i
+  work_came low (RemoveWork j) ok i =
+      after_remove (λ o p. WorkCame a s s.made.works i (High s i) (High s i) (option_map doing o) (option_map doing p)) s.works j i
+      (λ o. Same refl (λ k. le_refl _)) (λ e. Gone refl (λ k. le_refl _))
+  work_came low (SetCancelled j) ok i = work_kept j _ (λ w. refl) i
+  work_came low (SetWorkJoin j x) ok i = work_kept j _ (λ w. refl) i
+  work_came low (NameWork n j) ok i = work_kept j _ (λ w. refl) i
+  work_came low (UnnameWork n h j) ok i = work_kept j _ (λ w. refl) i
   work_came low w ok i = Same refl (λ k. le_refl _)
 
 -- ---- What holds
