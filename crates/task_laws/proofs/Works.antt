@@ -1,4 +1,5 @@
 -- What host works come to along the words of a step: their ends, their entries, and what they have to hand out.
+use Rattle.std.proofs.lemmas.Bool.Decides.{nat_tests}
 use Rattle.task_machine.specs.declared.records.Turn.{Turn}
 use Rattle.task_rules.specs.Chains.{Walked}
 use Rattle.task_laws.proofs.CallsSteps.{of_base}
@@ -131,8 +132,7 @@ entry_for true i = entry.Push i
 entry_for false i = entry.Host i
 
 of_itself : (k : Bool) (i : ℕ) → of_work k i (entry_for k i) ≡ true
-of_itself true i = same_number i
-of_itself false i = same_number i
+of_itself k i = grind (arith, nat_tests)
 
 abbrev entry_in : Option (Mark × Entry) → Entry
 entry_in None = entry.Thread 0
@@ -147,8 +147,7 @@ is_thread (entry.Thread n) = true
 is_thread _ = false
 
 no_thread : (k : Bool) (i : ℕ) → is_thread (entry_for k i) ≡ false
-no_thread true i = refl
-no_thread false i = refl
+no_thread k i = grind arith
 
 head_one : (k : Bool) (i : ℕ) (e : Entry) (es : List Entry) → e ≡ entry_for k i → stands k i (e ∷ es) ≡ 1 + stands k i es
 head_one k i e es is = ap (λ b. one_if b + stands k i es) (ap (of_work k i) is ∙ of_itself k i)
@@ -188,27 +187,21 @@ low_word a (TakeHost m j) s ok k i = (popped_high m s i k).1
 low_word a w s ok k i = le_refl _
 
 other_entry : (k y : Bool) (i j : ℕ) (es : List Entry) → (i == j) ≡ false → stands y i (es ++ entry_for k j ∷ []) ≤ stands y i es
-other_entry true true i j es e = let h = stands_last true i es (entry.Push j) in omega (h, ap one_if e, arith)
-other_entry false false i j es e = let h = stands_last false i es (entry.Host j) in omega (h, ap one_if e, arith)
-other_entry true false i j es e = let h = stands_last false i es (entry.Push j) in omega (h, arith)
-other_entry false true i j es e = let h = stands_last true i es (entry.Host j) in omega (h, arith)
+other_entry k y i j es e = let h = stands_last y i es (entry_for k j) in grind (arith, nat_tests)
 
 at_most : (b : Bool) → one_if b ≤ 1
 at_most true = omega arith
 at_most false = omega arith
 
 own_push : (y : Bool) (i j : ℕ) (es : List Entry) → stands y i (es ++ entry.Push j ∷ []) ≤ stands y i es + one_if y
-own_push true i j es = let h = stands_last true i es (entry.Push j) in let b = at_most (i == j) in omega (h, b, arith)
-own_push false i j es = let h = stands_last false i es (entry.Push j) in omega (h, arith)
+own_push y i j es = let h = stands_last y i es (entry.Push j) in grind (arith, nat_tests)
 
 own_host : (y : Bool) (i j : ℕ) (es : List Entry) → stands y i (es ++ entry.Host j ∷ []) ≤ stands y i es + one_if (awaits y stage.Finishing)
-own_host true i j es = let h = stands_last true i es (entry.Host j) in omega (h, arith)
-own_host false i j es = let h = stands_last false i es (entry.Host j) in let b = at_most (i == j) in omega (h, b, arith)
+own_host y i j es = let h = stands_last y i es (entry.Host j) in grind (arith, nat_tests)
 
 -- a polled work is there
 polled_there : (a : Scene) (s : Core) (i : ℕ) → IsPolled a i s → (o : Option Work) → get s.works i ≡ o → is_some o ≡ true
-polled_there a s i polled None is = no_way (ap (λ (o : Option Work). option_map_or is_live o false) (sym is) ∙ polled_is_live polled.0 s i polled.1.1)
-polled_there a s i polled (Some w) is = refl
+polled_there a s i polled o is = let live = polled_is_live polled.0 s i polled.1.1 in grind arith
 
 module _ {a : Scene} (s : Core) where
   -- the same entries stand, or fewer, and this word does that to the work j
@@ -331,54 +324,29 @@ pub record WorksGo (S : Type 0) (a : Scene) (s : Core) : Type 0 where
 -- ---- Stages
 
 pub stage_live : (x : Stage) → is_stage_live x ≡ true → (is_late x ≡ false) × ((k : Bool) → awaits k x ≡ false)
-stage_live stage.Live h = (refl, λ k. none k)
-  where
-    none : (k : Bool) → awaits k stage.Live ≡ false
-    none true = refl
-    none false = refl
-stage_live stage.FirstPoll h = no_way h
-stage_live stage.Queued h = no_way h
-stage_live stage.Finishing h = no_way h
-stage_live stage.Ended h = no_way h
+stage_live x h = (grind arith, λ k. grind arith)
 
 stage_early : (x : Stage) → awaits true x ≡ true → (is_late x ≡ false) × (awaits false x ≡ false)
-stage_early stage.FirstPoll h = (refl, refl)
-stage_early stage.Queued h = (refl, refl)
-stage_early stage.Live h = no_way h
-stage_early stage.Finishing h = no_way h
-stage_early stage.Ended h = no_way h
+stage_early x h = grind arith
 
 stage_finishing : (x : Stage) → awaits false x ≡ true → (is_late x ≡ true) × (awaits true x ≡ false)
-stage_finishing stage.Finishing h = (refl, refl)
-stage_finishing stage.FirstPoll h = no_way h
-stage_finishing stage.Queued h = no_way h
-stage_finishing stage.Live h = no_way h
-stage_finishing stage.Ended h = no_way h
+stage_finishing x h = grind arith
 
 pub stage_ended : (x : Stage) → is_stage_ended x ≡ true → is_late x ≡ true
-stage_ended stage.Ended h = refl
-stage_ended stage.FirstPoll h = no_way h
-stage_ended stage.Queued h = no_way h
-stage_ended stage.Live h = no_way h
-stage_ended stage.Finishing h = no_way h
+stage_ended x h = grind arith
 
 pub clash : {A : Type 0} {b : Bool} → b ≡ true → b ≡ false → A
 clash p q = no_way (sym q ∙ p)
 
 -- where an entry stands, it is awaited, and alone
 stands_one : (b : Bool) (m n : ℕ) → m ≡ 1 + n → m ≤ one_if b → (b ≡ true) × (n ≡ 0)
-stands_one true m n e h = (refl, omega (e, h, arith))
-stands_one false m n e h = absurd (omega (e, h, arith))
+stands_one b m n e h = grind arith
 
 status_is_end : (v : Option ℕ) → undelivered_end (Some (host_status v)) ≡ Some (host_status v)
-status_is_end None = refl
-status_is_end (Some n) = refl
+status_is_end v = grind arith
 
 pub due_parts : (e : Option Status) (b c : Bool) → (is_some e || (b || c)) ≡ true → ((x : Status) × (e ≡ Some x)) ⊎ ((b ≡ true) ⊎ (c ≡ true))
-due_parts (Some x) b c h = inl (x, refl)
-due_parts None true c h = inr (inl refl)
-due_parts None false true h = inr (inr refl)
-due_parts None false false h = no_way h
+due_parts e b c h = grind arith
 
 -- a work that has no end has none to hand out
 not_due : {S : Type 0} {h : Bool → ℕ} {made i : ℕ} {v : Doing} {A : Type 0} → WorkHolds S h made i v → is_late v.stage ≡ false → is_due v ≡ true → A
