@@ -122,9 +122,7 @@ begun_there {s = s} some h l i e =
 
 -- a script stays one
 script_stays : (m : Main) (t : Core) (n : Main) → SameMain m t n → IsScripted m → IsScripted n
-script_stays (Scripted p) t (Scripted q) same h = tt
-script_stays (Scripted p) t Unscripted same h = absurd same
-script_stays Unscripted t n same h = absurd h
+script_stays m t n same h = grind arith
 
 -- but for the instance of which a holding entry returns none is opened; one that begins to run finds its instance open, and shuts it
 record StepHolds (instances : ℕ) (s : State) (l : Label) (t : State) : Type 0 where
