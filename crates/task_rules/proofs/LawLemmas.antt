@@ -21,7 +21,7 @@ use Rattle.task_rules.specs.Stalled.{Setting}
 use Rattle.task_rules.specs.Step.{Step, TurnStep}
 use Rattle.task_rules.specs.Takes.{popped}
 use Rattle.task_rules.specs.Turns.{settled_turn}
-use Rattle.task_rules.specs.Words.{AddGroup, CountWork, EndWork, FinishWork, MakeCall, MakeThread, NameCall, NameThread, NameWork, OpenSet, Pend, Places, QueueWork, RemoveCall, RemoveThread, RemoveWork, SetCallEvent, SetCallJoin, SetCancelDelivered, SetCancelled, SetEnd, SetExited, SetHowFar, SetOwnEvent, SetPhase, SetPosition, SetRegister, SetResult, SetSavedCallee, SetSavedOwn, SetScript, SetStarted, SetStartingPublished, SetTrapped, SetUninteresting, TakeWorkEvent, SetWorkJoin, TakeHost, TakePush, UnnameCall, UnnameWork, Withdraw, Word, after_placing, after_word}
+use Rattle.task_rules.specs.Words.{AddGroup, CountWork, MakeThread, Places, SetTrapped, TakeHost, TakePush, Word, after_placing, after_word}
 use Rattle.task_rules.specs.Works.{poll_pends}
 use Rattle.task_machine.specs.declared.records.Turn.TheVariants as turn
 
