@@ -1,40 +1,22 @@
 -- What calls tell of their ends along the words of a step, and the results that are there for main.
-use Rattle.task_rules.specs.Run.{Run, opening}
+use Rattle.task_laws.proofs.Machine.{add_call, add_group, add_set, add_thread, add_work, after_word, Call, call_made, CallEnd, Caller, change, component_of, Core, count_work, end_of, event_of, free_handle, free_thread_handle, fresh, get, get-empty, get-insert, get-remove, give_handle, give_result, give_thread_handle, GiveResult, Goal, goal_of, insert, is_direct, is_end, is_guest_call, Label, LaterBy, MakeCall, NameCall, new_call, new_handle, next_thread, on_call, on_instance, on_thread, on_work, opening, poll_pends, push_high, remove, remove_call, remove_group, remove_set, remove_thread, remove_work, RemoveCall, Run, Scene, scene_of, set_backpressure, set_cancel_delivered, set_cancelled, set_course, set_do_not_enter, set_do_not_suspend, set_end, set_event, set_exited, set_how_far, set_join, set_own_event, set_phase, set_position, set_register, set_result, set_saved_callee, set_saved_own, set_script, set_stage, set_started, set_starting_published, set_subtask_handle, set_thread_handle, set_trapped, set_uninteresting, set_word, SetCallEvent, SetCallJoin, SetCancelDelivered, SetEnd, SetExited, SetOwnEvent, SetResult, SetStarted, SetStartingPublished, Setting, SetUninteresting, State, Status, SubtaskEnd, take_result, TakeResult, undelivered_end, UnnameCall, with_handle, with_thread_handle, Word, work_queued}
 use Rattle.task_laws.specs.Written.{EndsToldAsRecorded}
-use Rattle.std.proofs.Common.{ap, cond, inl, inr, le_trans, refl, subst, sym, ◌∙◌}
+use Rattle.std.proofs.Common.{ap, cond, inl, inr, le_trans, refl, subst, sym, ◌∙◌, arith}
 use Rattle.std.specs.Option.{option_map_or}
-use Rattle.std.specs.Prelude.{Bool, None, Option, Some, false, if◌then◌else◌, is_some, not, option_and_then, option_map, true, unwrap_or, ℕ, ◌&&◌, ◌+◌, ◌==◌, ◌≡◌, ◌≤◌, ◌⊎◌, List, [], ◌∷◌}
+use Rattle.std.specs.Prelude.{Bool, None, Option, Some, false, is_some, not, option_and_then, option_map, true, unwrap_or, ℕ, ◌&&◌, ◌+◌, ◌==◌, ◌≡◌, ◌≤◌, ◌⊎◌, List, [], ◌∷◌}
 use Rattle.task_laws.proofs.Basics.{no_way, too_high, true_is_not_false}
 use Rattle.task_laws.proofs.CallsLaw.{CallsGo, CallsHold, Goes}
 use Rattle.task_laws.proofs.CallsSteps.{calls_begin, of_base, word_goes, opening_holds, step_goes}
 use Rattle.task_laws.proofs.CountLemmas.{made_threads_word}
 use Rattle.task_laws.specs.Settings.{CodesInCallbacks, Reached}
 use Rattle.task_machine.proofs.MapLemmas.{change-field, get-change_other, get-change_same}
-use Rattle.task_machine.specs.Core.{Core, State, fresh}
-use Rattle.task_machine.specs.Maps.{change, get, get-empty, get-insert, get-remove, insert, remove}
-use Rattle.task_machine.specs.Read.{end_of, event_of, goal_of, is_direct, is_end, is_guest_call, new_handle, undelivered_end}
-use Rattle.task_machine.specs.Write.{add_call, add_group, add_set, add_thread, add_work, count_work, free_handle, free_thread_handle, give_handle, give_result, give_thread_handle, on_call, on_instance, on_thread, on_work, push_high, remove_call, remove_group, remove_set, remove_thread, remove_work, set_backpressure, set_cancel_delivered, set_cancelled, set_course, set_do_not_enter, set_do_not_suspend, set_end, set_event, set_exited, set_how_far, set_join, set_own_event, set_phase, set_position, set_register, set_result, set_saved_callee, set_saved_own, set_script, set_stage, set_started, set_starting_published, set_subtask_handle, set_thread_handle, set_trapped, set_uninteresting, set_word, take_result}
-use Rattle.task_machine.specs.declared.label.Label.{Label}
-use Rattle.task_machine.specs.declared.records.Call.{Call}
-use Rattle.task_machine.specs.declared.records.CallEnd.{CallEnd}
-use Rattle.task_machine.specs.declared.records.Caller.{Caller}
-use Rattle.task_machine.specs.declared.records.Goal.{Goal}
-use Rattle.task_machine.specs.declared.words.Status.{Status}
 use Rattle.task_rules.proofs.ChainLemmas.{along}
 use Rattle.task_rules.proofs.StandLemmas.{is_eq_of, not_eq}
 use Rattle.task_rules.proofs.WalkSteps.{step_walks}
 use Rattle.task_rules.specs.Allowed.{Allowed, MayTell, SaysEnd, Tells, is_for_main, status_of_end}
-use Rattle.task_rules.specs.Calls.{call_made, new_call, next_thread, with_handle, with_thread_handle, work_queued}
 use Rattle.task_rules.specs.Chains.{Walked}
 use Rattle.task_rules.specs.Ends.{is_told}
-use Rattle.task_rules.specs.Laws.{LaterBy}
-use Rattle.task_rules.specs.Scenes.{Scene, component_of, scene_of}
-use Rattle.task_rules.specs.Stalled.{Setting}
-use Rattle.task_rules.specs.SubtaskEnds.{SubtaskEnd}
-use Rattle.task_rules.specs.Words.{GiveResult, MakeCall, NameCall, RemoveCall, SetCallEvent, SetCallJoin, SetCancelDelivered, SetEnd, SetExited, SetOwnEvent, SetResult, SetStarted, SetStartingPublished, SetUninteresting, TakeResult, UnnameCall, Word, after_word}
-use Rattle.task_rules.specs.Works.{poll_pends}
 use Rattle.task_machine.specs.declared.records.CallEnd.TheVariants as call_end
-use Rattle.task_machine.specs.declared.records.Caller.TheVariants as caller
 use Rattle.task_machine.specs.declared.records.Goal.TheVariants as goal
 use Rattle.task_machine.specs.declared.records.Subtask.TheVariants as subtask
 use Rattle.task_machine.specs.declared.words.Status.TheVariants as status
@@ -58,32 +40,16 @@ abbrev pub is_for_guest : Telling → Bool
 is_for_guest r = is_guest_call r.caller && not (is_direct r.goal)
 
 pub event_is : (k : ℕ) (s : Core) (r : Telling) → telling_of k s ≡ Some r → event_of (subtask.Guest k) s ≡ r.event
-event_is k s r is = go (get s.calls k) ∙ ap (option_and_then (λ (q : Telling). q.event)) is
-  where
-    go : (o : Option Call) → option_and_then (λ (c : Call). c.event) o ≡ option_and_then (λ (q : Telling). q.event) (option_map telling o)
-    go None = refl
-    go (Some c) = refl
+event_is k s r is = grind arith
 
 pub end_is : (k : ℕ) (s : Core) (r : Telling) → telling_of k s ≡ Some r → end_of k s ≡ r.ends
-end_is k s r is = go (get s.calls k) ∙ ap (option_and_then (λ (q : Telling). q.ends)) is
-  where
-    go : (o : Option Call) → option_and_then (λ (c : Call). c.«end») o ≡ option_and_then (λ (q : Telling). q.ends) (option_map telling o)
-    go None = refl
-    go (Some c) = refl
+end_is k s r is = grind arith
 
 pub told_is : (k : ℕ) (s : Core) (r : Telling) → telling_of k s ≡ Some r → is_told k s ≡ is_for_guest r
-told_is k s r is = go (get s.calls k) ∙ ap (λ (o : Option Telling). option_map_or is_for_guest o false) is
-  where
-    go : (o : Option Call) → (is_guest_call (option_map_or (λ (c : Call). c.caller) o caller.Main) && not (is_direct (option_map_or (λ (c : Call). c.goal) o goal.Nowhere))) ≡ option_map_or is_for_guest (option_map telling o) false
-    go None = refl
-    go (Some c) = refl
+told_is k s r is = grind arith
 
 pub goal_is : (k : ℕ) (s : Core) (r : Telling) → telling_of k s ≡ Some r → goal_of k s ≡ r.goal
-goal_is k s r is = go (get s.calls k) ∙ ap (λ (o : Option Telling). option_map_or (λ (q : Telling). q.goal) o goal.Nowhere) is
-  where
-    go : (o : Option Call) → option_map_or (λ (c : Call). c.goal) o goal.Nowhere ≡ option_map_or (λ (q : Telling). q.goal) (option_map telling o) goal.Nowhere
-    go None = refl
-    go (Some c) = refl
+goal_is k s r is = grind arith
 
 -- What the word does to what the call k tells.
 data TellingCame (a : Scene) (s : Core) (k : ℕ) (o p : Option Telling) : Type 0 where
@@ -208,41 +174,21 @@ pub no_telling : (o : Option Telling) (r : Telling) → o ≡ Some r → o ≡ N
 no_telling o r e f = no_way (ap (λ (p : Option Telling). is_some p) (sym f ∙ e))
 
 call_there : (k : ℕ) (s : Core) → goal_of k s ≡ goal.Main → (c : Option Call) → get s.calls k ≡ c → is_some c ≡ true
-call_there k s main None is = no_way (ap is_for_main (ap (λ (o : Option Call). option_map_or (λ (c : Call). c.goal) o goal.Nowhere) (sym is) ∙ main))
-call_there k s main (Some c) is = refl
+call_there k s main c is = grind arith
 
 -- an end that is told is written so
 tells_end : (k : ℕ) (e : Status) (s : Core) → is_end e ≡ true → Tells e k s → IsOfEnd e (end_of k s)
-tells_end k status.Starting s h t = no_way h
-tells_end k status.Started s h t = no_way h
-tells_end k status.Returned s h t = record { ends = call_end.Returned; is = t; status = refl; ran = refl }
-tells_end k status.ReturnCancelled s h t = record { ends = call_end.ReturnCancelled; is = t; status = refl; ran = refl }
-tells_end k status.StartCancelled s h t = absurd t
+tells_end k e s h t = grind arith
 
 only_end : (o : Option Status) (e : Status) → undelivered_end o ≡ Some e → (x : Status) × ((o ≡ Some x) × ((is_end x ≡ true) × (x ≡ e)))
-only_end None e h = no_way (ap (λ (p : Option Status). is_some p) h)
-only_end (Some x) e h = go (is_end x) refl h
-  where
-    go : (b : Bool) → is_end x ≡ b → (if b then Some x else None) ≡ Some e → (y : Status) × ((Some x ≡ Some y) × ((is_end y ≡ true) × (y ≡ e)))
-    go true at f = (x, (refl, (at, ap (λ (p : Option Status). unwrap_or p x) f)))
-    go false at f = no_way (ap (λ (p : Option Status). is_some p) f)
+only_end o e h = grind arith
 
 one_status : (a : Scene) (k : ℕ) (e f : Status) → SaysEnd a k e → SaysEnd a k f → e ≡ f
 one_status a k e f p q = ap (λ (o : Option SubtaskEnd). option_map_or (λ (x : SubtaskEnd). x.status) o e) (sym p ∙ q)
 
 -- the same end is written again
 ended_again : (e : Status) (o : Option CallEnd) (x : CallEnd) → status_of_end x ≡ e → IsOfEnd e o → IsOfEnd e (Some x)
-ended_again e o x is q = record { ends = x; is = refl; status = is; ran = not_withdrawn x q.ends (is ∙ sym q.status) q.ran }
-  where
-    not_withdrawn : (x y : CallEnd) → status_of_end x ≡ status_of_end y → is_withdrawn y ≡ false → is_withdrawn x ≡ false
-    not_withdrawn call_end.Returned y h r = refl
-    not_withdrawn call_end.ReturnCancelled y h r = refl
-    not_withdrawn call_end.StartCancelled y h r = absurd (true_is_not_false (withdrawn_status y h ∙ r))
-      where
-        withdrawn_status : (y : CallEnd) → status.StartCancelled ≡ status_of_end y → true ≡ is_withdrawn y
-        withdrawn_status call_end.Returned g = ap is_start_cancelled g
-        withdrawn_status call_end.ReturnCancelled g = ap is_start_cancelled g
-        withdrawn_status call_end.StartCancelled g = refl
+ended_again e o x is q = grind arith
 
 -- ---- Each word
 

@@ -1,34 +1,19 @@
 -- What a step owes of the end of a call.
+use Rattle.task_laws.proofs.Machine.{after_word, base_at, Call, CallEnd, Caller, Core, end_for, end_of, event_of, get, Goal, goal_of, handed_by, has_ended, is_direct, is_guest_call, Label, LaterBy, Scene, scene_of, Setting, State, Status, Subtask, SubtaskEnd, task_of, Turn, undelivered_end, Word, written_by}
 use Rattle.task_laws.specs.Order.{Numbered}
 use Rattle.task_machine.specs.Statuses.{status_code}
-use Rattle.task_machine.specs.declared.records.Goal.{Goal}
-use Rattle.task_machine.specs.declared.records.Caller.{Caller}
 use Rattle.task_rules.specs.Once.{changes_end, is_written, written, call_end_code, is_other, covers_end, is_end_of, handed, end_code}
-use Rattle.task_machine.specs.declared.records.Subtask.{Subtask}
 use Rattle.task_laws.specs.Rises.{CallsRise, Rises}
-use Rattle.std.proofs.Common.{ap, le_trans, refl, subst, sym, ◌∙◌, inl, inr}
+use Rattle.std.proofs.Common.{ap, le_trans, refl, subst, sym, ◌∙◌, inl, inr, arith}
 use Rattle.std.specs.Option.{option_map_or}
 use Rattle.std.specs.Prelude.{Bool, None, Option, Some, false, is_some, not, option_and_then, option_map, true, ℕ, ◌&&◌, ◌+◌, ◌==◌, ◌≡◌, ◌≤◌, ◌⊎◌, unwrap_or}
 use Rattle.task_laws.proofs.Basics.{no_way, too_high, true_is_not_false, same_number}
 use Rattle.task_laws.proofs.CallsLaw.{CallsGo, CallsHold, exits_unended}
 use Rattle.task_laws.proofs.CallsSteps.{of_base}
 use Rattle.task_laws.specs.Settings.{CodesInCallbacks}
-use Rattle.task_machine.specs.Core.{Core, State}
-use Rattle.task_machine.specs.Maps.{get}
-use Rattle.task_machine.specs.Read.{event_of, undelivered_end, has_ended, task_of, is_direct, is_guest_call, end_of, goal_of}
-use Rattle.task_machine.specs.declared.label.Label.{Label}
-use Rattle.task_machine.specs.declared.records.Call.{Call}
-use Rattle.task_machine.specs.declared.records.CallEnd.{CallEnd}
-use Rattle.task_machine.specs.declared.records.Turn.{Turn}
-use Rattle.task_machine.specs.declared.words.Status.{Status}
 use Rattle.task_rules.proofs.ChainLemmas.{along}
 use Rattle.task_rules.specs.Allowed.{Allowed, status_of_end, IsRunner, IsNamed, SaysEnd, is_for_main, MayEnd}
 use Rattle.task_rules.specs.Chains.{EndWords, Walk, is_over, Writes, WritesAtOnce, WritesCall, WritesNever, WritesPolled, EndsByExit, EndsCall, EndsOwn, EndsSubtask, ExitsCall, Answers, HandsAtOnce, HandsOut, TakesEvent, TakesResult, WritesToo}
-use Rattle.task_rules.specs.Laws.{LaterBy}
-use Rattle.task_rules.specs.Scenes.{Scene, base_at, scene_of}
-use Rattle.task_rules.specs.Stalled.{Setting}
-use Rattle.task_rules.specs.SubtaskEnds.{end_for, written_by, SubtaskEnd, handed_by}
-use Rattle.task_rules.specs.Words.{Word, after_word}
 use Rattle.task_laws.proofs.CallEnds.{EndsGo, EndsTold, is_start_cancelled, is_withdrawn, recorded, ResultCame, Telling, ToldOrWritten, telling, telling_of}
 use Rattle.task_laws.proofs.OnceLemmas.{Due, Over, EndStep, Out, end_there}
 use Rattle.task_rules.specs.History.{Moment}
@@ -38,7 +23,6 @@ use Rattle.task_laws.proofs.CallsCame.{Grown, Grows, NewCall, NoCall, call_came,
 use Rattle.task_laws.proofs.SceneLemmas.{base_is}
 use Rattle.task_machine.specs.declared.records.Caller.TheVariants as caller
 use Rattle.task_machine.specs.declared.records.Goal.TheVariants as goal
-use Rattle.task_machine.specs.declared.records.CallEnd.TheVariants as call_end
 use Rattle.task_machine.specs.declared.records.Subtask.TheVariants as subtask
 use Rattle.task_machine.specs.declared.words.Status.TheVariants as status
 
@@ -52,14 +36,10 @@ abbrev is_call_over : Option Call → Bool
 is_call_over o = option_map_or (λ (c : Call). is_some c.«end») o true
 
 end_stays : (o p : Option CallEnd) → ((e : CallEnd) → o ≡ Some e → p ≡ Some e) → is_some o ≡ true → is_some p ≡ true
-end_stays None p h over = no_way over
-end_stays (Some e) p h over = ap (λ q. is_some q) (h e refl)
+end_stays o p h over = grind arith
 
 over_stays : (o p : Option Call) → LaterBy Rises o p → is_call_over o ≡ true → is_call_over p ≡ true
-over_stays None None h over = refl
-over_stays None (Some d) h over = absurd h
-over_stays (Some c) None h over = refl
-over_stays (Some c) (Some d) h over = end_stays c.«end» d.«end» (λ e at. h.end_stays e at) over
+over_stays o p h over = grind arith
 
 -- on the way too, of a call that was made before the step
 over_word : (a : Scene) (k : ℕ) → k ≤ a.base.made.threads → (w : Word) (s : Core) → Allowed a w s → is_over k s ≡ true → is_over k (after_word w s) ≡ true
@@ -84,14 +64,10 @@ same_code None p h over = no_way over
 same_code (Some e) p h over = ap (λ q. not (call_end_code q == 0) && not (call_end_code q == call_end_code (Some e))) (h e refl) ∙ and_not_same (not (call_end_code (Some e) == 0)) (call_end_code (Some e))
 
 end_nonzero : (o : Option CallEnd) → is_some o ≡ true → (call_end_code o == 0) ≡ false
-end_nonzero None h = no_way h
-end_nonzero (Some call_end.Returned) h = refl
-end_nonzero (Some call_end.StartCancelled) h = refl
-end_nonzero (Some call_end.ReturnCancelled) h = refl
+end_nonzero o h = grind arith
 
 some_end_of : (p : Option CallEnd) (n : ℕ) → (not (call_end_code p == 0) && not (call_end_code p == n)) ≡ true → is_some p ≡ true
-some_end_of None n h = no_way h
-some_end_of (Some e) n h = refl
+some_end_of p n h = grind arith
 
 -- what is over isn't written, and what is written is over
 not_written : (o p : Option Call) → LaterBy Rises o p → is_call_over o ≡ true → is_written (option_map (λ (c : Call). call_end_code c.«end») o) (option_map (λ (c : Call). call_end_code c.«end») p) ≡ false
@@ -100,14 +76,10 @@ not_written (Some c) None h over = end_nonzero c.«end» over
 not_written (Some c) (Some d) h over = same_code c.«end» d.«end» (λ e at. h.end_stays e at) over
 
 now_written : (o p : Option Call) → is_written (option_map (λ (c : Call). call_end_code c.«end») o) (option_map (λ (c : Call). call_end_code c.«end») p) ≡ true → (is_some o ≡ true) × (is_call_over p ≡ true)
-now_written None p w = no_way w
-now_written (Some c) None w = (refl, refl)
-now_written (Some c) (Some d) w = (refl, some_end_of d.«end» (call_end_code c.«end») w)
+now_written o p w = grind arith
 
 pub no_withdrawal : (y : CallEnd) → status_of_end y ≡ status.StartCancelled → is_withdrawn y ≡ false → {A : Type 0} → A
-no_withdrawal call_end.Returned g f = no_way (ap is_start_cancelled g)
-no_withdrawal call_end.ReturnCancelled g f = no_way (ap is_start_cancelled g)
-no_withdrawal call_end.StartCancelled g f = no_way (sym f)
+no_withdrawal y g f = grind arith
 
 -- ---- What calls keep and write
 

@@ -1,73 +1,40 @@
 -- What a step owes of the end of a host work.
+use Rattle.task_laws.proofs.Machine.{base_at, Core, Course, course_of, course_value, end_for, event_of, get, handed_by, has_end, how_far_of, is_live, is_stage_ended, is_stage_live, Label, next_work, Records, Scene, scene_of, Setting, Stage, State, Status, Subtask, Turn, undelivered_end, Work, written_by}
 use Rattle.task_laws.specs.Ends.{is_sync_work}
 use Rattle.task_laws.proofs.SaidEnds.{hands_at, said_at, written_at}
 use Rattle.task_machine.specs.declared.records.WorkCaller.{WorkCaller}
-use Rattle.task_machine.specs.declared.records.Stage.{Stage}
-use Rattle.task_machine.specs.declared.records.Subtask.{Subtask}
-use Rattle.task_rules.specs.Calls.{next_work}
 use Rattle.task_laws.proofs.CallsSteps.{of_base}
 use Rattle.task_laws.proofs.PolledWorks.{polled_is_live}
-use Rattle.std.proofs.Common.{ap, inl, inr, le_refl, le_trans, refl, subst, sym, ◌∙◌, ap₂}
+use Rattle.std.proofs.Common.{ap, inl, inr, le_refl, le_trans, refl, subst, sym, ◌∙◌, ap₂, arith}
 use Rattle.std.specs.Option.{option_map_or}
 use Rattle.std.specs.Prelude.{Bool, None, Option, Some, false, is_some, not, option_and_then, option_map, true, unwrap_or, ℕ, ◌&&◌, ◌+◌, ◌==◌, ◌||◌, ◌≡◌, ◌≤◌, ◌⊎◌}
 use Rattle.task_laws.proofs.Basics.{no_way, same_number, too_high, true_is_not_false}
 use Rattle.task_laws.proofs.OnceLemmas.{Due, EndStep, Out, Over, end_there}
 use Rattle.task_laws.proofs.Works.{Doing, WorkHolds, WorksGo, WorksHold, WorkWas, awaits, doing, doing_of, is_due, is_late, High, WasDue, clash, due_parts, stage_ended, stage_live, Before}
-use Rattle.task_machine.specs.Core.{Core, State}
-use Rattle.task_machine.specs.Maps.{get, Records}
-use Rattle.task_machine.specs.Read.{course_of, course_value, event_of, how_far_of, undelivered_end, is_live, is_stage_ended, is_stage_live}
 use Rattle.task_machine.specs.Statuses.{status_code}
-use Rattle.task_machine.specs.declared.label.Label.{Label}
-use Rattle.task_machine.specs.declared.records.Course.{Course}
-use Rattle.task_machine.specs.declared.records.Turn.{Turn}
-use Rattle.task_machine.specs.declared.records.Work.{Work}
-use Rattle.task_machine.specs.declared.words.Status.{Status}
 use Rattle.task_rules.specs.Allowed.{IsRunner, IsPolled, is_async_work}
 use Rattle.task_rules.specs.Chains.{EndWords, Answers, HandsAtOnce, HandsOut, IsReadyAtOnce, TakesEvent, TakesResult, Writes, WritesAtOnce, WritesCall, WritesNever, WritesPolled, WritesToo}
 use Rattle.task_rules.specs.History.{Moment}
 use Rattle.task_rules.specs.Once.{course_code, end_code, changes_end, covers_end, handed, is_end_of, is_other, is_written, written}
-use Rattle.task_rules.specs.Scenes.{Scene, scene_of, base_at}
-use Rattle.task_rules.specs.Stalled.{Setting}
-use Rattle.task_rules.specs.SubtaskEnds.{end_for, written_by, handed_by}
 use Rattle.task_rules.specs.Takes.{host_status}
-use Rattle.task_rules.specs.Works.{has_end}
-use Rattle.task_machine.specs.declared.records.Course.TheVariants as course
 use Rattle.task_machine.specs.declared.records.HowFar.TheVariants as how_far
 use Rattle.task_machine.specs.declared.records.Subtask.TheVariants as subtask
-use Rattle.task_machine.specs.declared.records.Stage.TheVariants as stage
-use Rattle.task_machine.specs.declared.records.WorkCaller.TheVariants as work_caller
 use Rattle.task_machine.specs.declared.words.Status.TheVariants as status
 
 -- ---- Read
 
 course_is : (i : ℕ) (s : Core) (v : Doing) → doing_of i s ≡ Some v → course_of i s ≡ v.course
-course_is i s v is = go (get s.works i) is
-  where
-    go : (o : Option Work) → option_map doing o ≡ Some v → option_map_or (λ (w : Work). w.course) o course.NoValue ≡ v.course
-    go None e = no_way (ap (λ (o : Option Doing). is_some o) e)
-    go (Some w) e = ap (λ (o : Option Doing). (unwrap_or o v).course) e
+course_is i s v is = grind arith
 
 event_is : (i : ℕ) (s : Core) (v : Doing) → doing_of i s ≡ Some v → event_of (subtask.Host i) s ≡ v.event
-event_is i s v is = go (get s.works i) is
-  where
-    go : (o : Option Work) → option_map doing o ≡ Some v → option_and_then (λ (w : Work). w.event) o ≡ v.event
-    go None e = no_way (ap (λ (o : Option Doing). is_some o) e)
-    go (Some w) e = ap (λ (o : Option Doing). (unwrap_or o v).event) e
+event_is i s v is = grind arith
 
 -- there or not
 doing_or : (i : ℕ) (s : Core) → (doing_of i s ≡ None) ⊎ ((v : Doing) × (doing_of i s ≡ Some v))
-doing_or i s = go (doing_of i s)
-  where
-    go : (o : Option Doing) → (o ≡ None) ⊎ ((v : Doing) × (o ≡ Some v))
-    go None = inl refl
-    go (Some v) = inr (v, refl)
+doing_or i s = grind arith
 
 gone_ended : (i : ℕ) (s : Core) → doing_of i s ≡ None → has_end (course_of i s) ≡ true
-gone_ended i s is = go (get s.works i) is
-  where
-    go : (o : Option Work) → option_map doing o ≡ None → has_end (option_map_or (λ (w : Work). w.course) o course.NoValue) ≡ true
-    go None e = refl
-    go (Some w) e = no_way (ap (λ (o : Option Doing). is_some o) (sym e))
+gone_ended i s is = grind arith
 
 event_there : (i : ℕ) (s : Core) (e : Status) → undelivered_end (event_of (subtask.Host i) s) ≡ Some e → (v : Doing) × ((doing_of i s ≡ Some v) × (undelivered_end v.event ≡ Some e))
 event_there i s e h = go (doing_or i s)
@@ -83,66 +50,35 @@ event_there i s e h = go (doing_or i s)
 -- ---- Codes
 
 course_nonzero : (c : Course) → has_end c ≡ true → (course_code c == 0) ≡ false
-course_nonzero (course.Goes host) h = no_way h
-course_nonzero (course.Value v) h = refl
-course_nonzero course.NoValue h = refl
+course_nonzero c h = grind arith
 
 course_over : (d : Course) (n : ℕ) → (not (course_code d == 0) && not (course_code d == n)) ≡ true → has_end d ≡ true
-course_over (course.Goes host) n h = no_way h
-course_over (course.Value v) n h = refl
-course_over course.NoValue n h = refl
+course_over d n h = grind arith
 
 pub and_not_same : (b : Bool) (n : ℕ) → (b && not (n == n)) ≡ false
 and_not_same true n = ap (λ c. not c) (same_number n)
 and_not_same false n = refl
 
 code_is : (i : ℕ) (s : Core) → end_code (subtask.Host i) s ≡ option_map (λ (v : Doing). course_code v.course) (doing_of i s)
-code_is i s = go (get s.works i)
-  where
-    go : (o : Option Work) → option_map (λ (w : Work). course_code w.course) o ≡ option_map (λ (v : Doing). course_code v.course) (option_map doing o)
-    go None = refl
-    go (Some w) = refl
+code_is i s = grind arith
 
 pub either : (a b c : Bool) → (a || (b || c)) ≡ true → (a ≡ true) ⊎ ((b ≡ true) ⊎ (c ≡ true))
-either true b c h = inl refl
-either false true c h = inr (inl refl)
-either false false true h = inr (inr refl)
-either false false false h = no_way h
+either a b c h = grind arith
 
 ended_awaits : (x : Stage) → is_stage_ended x ≡ true → awaits false x ≡ true → ⊥
-ended_awaits stage.Ended e h = no_way h
-ended_awaits stage.FirstPoll e h = no_way e
-ended_awaits stage.Queued e h = no_way e
-ended_awaits stage.Live e h = no_way e
-ended_awaits stage.Finishing e h = no_way e
+ended_awaits x e h = grind arith
 
 async_sync : (b : Bool) (f : WorkCaller) → is_async_work f ≡ true → (b && is_sync_work f) ≡ true → ⊥
-async_sync b work_caller.Spawn e h = no_way e
-async_sync true (work_caller.Async n q) e h = no_way h
-async_sync false (work_caller.Async n q) e h = no_way h
-async_sync b (work_caller.Sync n) e h = no_way e
+async_sync b f e h = grind arith
 
 sync_due : (e : Option Status) (f b c : Bool) → b ≡ true → c ≡ true → (is_some e || (f || (b && c))) ≡ true
-sync_due (Some x) f b c h k = refl
-sync_due None true b c h k = refl
-sync_due None false true c h k = k
-sync_due None false false c h k = no_way h
+sync_due e f b c h k = grind arith
 
 value_returns : (o : Option ℕ) → is_some o ≡ true → status.Returned ≡ host_status o
-value_returns None h = no_way h
-value_returns (Some v) h = refl
+value_returns o h = grind arith
 
 no_withdrawal : (o : Option ℕ) → status.StartCancelled ≡ host_status o → ⊥
-no_withdrawal None h = true_is_not_false (ap is_withdrawal h)
-  where
-    is_withdrawal : Status → Bool
-    is_withdrawal status.StartCancelled = true
-    is_withdrawal _ = false
-no_withdrawal (Some v) h = true_is_not_false (ap is_withdrawal h)
-  where
-    is_withdrawal : Status → Bool
-    is_withdrawal status.StartCancelled = true
-    is_withdrawal _ = false
+no_withdrawal o h = grind arith
 
 -- ---- A step
 

@@ -4,7 +4,7 @@ use Rattle.task_laws.proofs.Subtasks.{NamedNow, handle_named}
 use Rattle.task_laws.proofs.Works.{Aborts, Doing, Done, Ends, Gone, Lives, Made, Pends, Same, Takes, WorkCame, WorksHold, doing, doing_of, work_came}
 use Rattle.task_laws.specs.Ends.{MayBeAborted, is_sync_work}
 use Rattle.task_machine.specs.Read.{subtask_at, work_caller_of}
-use Rattle.std.proofs.Common.{inl, inr, ap, le_trans, refl, sym, ◌∙◌}
+use Rattle.std.proofs.Common.{inl, inr, ap, le_trans, refl, sym, ◌∙◌, arith}
 use Rattle.task_laws.proofs.CountLemmas.{made_works_word}
 use Rattle.task_rules.specs.Scenes.{Scene}
 use Rattle.task_laws.proofs.Basics.{no_way, too_high}
@@ -33,11 +33,7 @@ caller_kept (Aborts u x e may f fewer) below v at = (u, (e, ap (λ (o : Option D
 caller_kept (Takes u e f fewer) below v at = (u, (e, ap (λ (o : Option Doing). (unwrap_or o u).caller) (sym at ∙ f)))
 
 pub caller_is : (i : ℕ) (s : Core) (v : Doing) → doing_of i s ≡ Some v → work_caller_of i s ≡ v.caller
-caller_is i s v is = at (get s.works i) is
-  where
-    at : (o : Option Work) → option_map doing o ≡ Some v → option_map_or (λ (w : Work). w.caller) o work_caller.Spawn ≡ v.caller
-    at None e = no_way (ap (λ (o : Option Doing). is_some o) e)
-    at (Some w) e = ap (λ (o : Option Doing). (unwrap_or o v).caller) e
+caller_is i s v is = grind arith
 
 -- a work that isn't there is no sync call's
 other_of : (i : ℕ) (s : Core) → ((v : Doing) → doing_of i s ≡ Some v → is_sync_work v.caller ≡ false) → is_sync_work (work_caller_of i s) ≡ false

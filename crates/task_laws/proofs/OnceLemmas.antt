@@ -1,4 +1,5 @@
 -- From facts of each step to all that is once in a run.
+use Rattle.std.proofs.lemmas.Bool.Decides.{nat_tests}
 use Rattle.task_machine.specs.declared.words.Status.{Status}
 use Rattle.task_machine.specs.Maps.{get}
 use Rattle.task_rules.specs.Takes.{host_status}
@@ -6,7 +7,7 @@ use Rattle.task_rules.specs.Works.{has_end}
 use Rattle.task_rules.specs.Chains.{is_over}
 use Rattle.task_laws.proofs.Works.{Doing, doing_of, is_due}
 use Rattle.task_laws.proofs.Basics.{same_number, true_is_not_false}
-use Rattle.std.proofs.Common.{T, ap, arith, inl, inr, refl, subst, sym, ◌∙◌, eqb→eq}
+use Rattle.std.proofs.Common.{ap, arith, inl, inr, refl, subst, sym, ◌∙◌}
 use Rattle.std.proofs.lemmas.List.Recursion.{is_count_by}
 use Rattle.std.specs.List.{list_any}
 use Rattle.std.specs.Prelude.{Bool, List, None, Option, Some, [], count_by, false, if◌then◌else◌, true, ℕ, ◌&&◌, ◌+◌, ◌==◌, ◌||◌, ◌∷◌, ◌≡◌, ◌≤◌, ◌⊎◌, is_some}
@@ -45,14 +46,10 @@ none_more false n h z = z
 -- ---- The same end
 
 same_is : (a b : Subtask) → same_subtask a b ≡ true → a ≡ b
-same_is (subtask.Guest k) (subtask.Guest q) h = ap (λ n. subtask.Guest n) (eqb→eq k q (subst T (sym h) tt))
-same_is (subtask.Host i) (subtask.Host j) h = ap (λ n. subtask.Host n) (eqb→eq i j (subst T (sym h) tt))
-same_is (subtask.Guest k) (subtask.Host j) h = absurd (true_is_not_false (sym h))
-same_is (subtask.Host i) (subtask.Guest q) h = absurd (true_is_not_false (sym h))
+same_is a b h = grind (arith, nat_tests)
 
 same_self : (a : Subtask) → same_subtask a a ≡ true
-same_self (subtask.Guest k) = same_number k
-same_self (subtask.Host i) = same_number i
+same_self a = grind (arith, nat_tests)
 
 end_self : (e : SubtaskEnd) → same_end e e ≡ true
 end_self e = ap (λ (b : Bool). b && (status_code e.status == status_code e.status)) (same_self e.subtask) ∙ same_number (status_code e.status)
