@@ -1,6 +1,6 @@
 -- Booleans and numbers that can't be.
 use Rattle.std.proofs.Common.{T, arith, subst, sym}
-use Rattle.std.specs.Prelude.{false, true, ℕ, ◌+◌, ◌==◌, ◌≡◌, ◌≤◌}
+use Rattle.std.specs.Prelude.{None, Some, false, true, ℕ, ◌+◌, ◌==◌, ◌≡◌, ◌≤◌}
 
 pub true_is_not_false : true ≡ false → ⊥
 true_is_not_false h = subst T h tt
@@ -19,3 +19,6 @@ too_high e h = omega (e, h, arith)
 
 pub above : {n m : ℕ} → n ≤ m → n ≤ m + 1
 above h = omega (h, arith)
+
+pub some_none : {A X : Type 0} {x : X} → Some x ≡ None → A
+some_none e = absurd (cc)

@@ -1,12 +1,17 @@
 -- A state in order: what is so of every opening state and kept by every step, whatever the state was reached by.
+use Rattle.task_machine.specs.declared.records.Stage.TheVariants as stage
+use Rattle.task_machine.specs.declared.records.Entry.TheVariants as entry
+use Rattle.task_machine.specs.declared.records.Work.{Work}
+use Rattle.task_machine.specs.declared.records.Stage.{Stage}
+use Rattle.task_machine.specs.declared.records.Entry.{Entry}
 use Rattle.task_machine.specs.declared.records.Subtask.{Subtask}
 use Rattle.task_machine.specs.declared.records.Named.{Named}
 use Rattle.task_rules.specs.Allowed.{subtask_under_way}
-use Rattle.std.specs.Prelude.{Bool, None, Option, Some, false, is_none, is_some, option_and_then, option_map, true, ℕ, ◌+◌, ◌≡◌, ◌≤◌, length}
+use Rattle.std.specs.Prelude.{Bool, None, Option, Some, false, is_none, is_some, option_and_then, option_map, true, ℕ, ◌+◌, ◌≡◌, ◌≤◌, length, List, [], ◌∷◌, ◌==◌}
 use Rattle.task_laws.specs.Settings.{CodesInCallbacks}
 use Rattle.task_machine.specs.Core.{Core, Main, State, Table}
 use Rattle.task_machine.specs.Maps.{get, size}
-use Rattle.task_machine.specs.Read.{how_far_of, instance_of, is_async_lifted, is_callback, is_direct, is_explicit, kind_of, place_of, set_at, subtask_at, join_of}
+use Rattle.task_machine.specs.Read.{how_far_of, instance_of, is_async_lifted, is_callback, is_direct, is_explicit, goal_of, kind_of, place_of, task_of, set_at, subtask_at, join_of}
 use Rattle.task_machine.specs.declared.component.Component.{Component}
 use Rattle.task_machine.specs.declared.label.Label.{Label}
 use Rattle.task_machine.specs.declared.records.Call.{Call}
@@ -22,7 +27,7 @@ use Rattle.task_machine.specs.declared.records.Thread.{Thread}
 use Rattle.task_machine.specs.declared.records.Turn.TheVariants as turn
 use Rattle.task_machine.specs.declared.records.Why.{Why}
 use Rattle.task_machine.specs.declared.records.Why.TheVariants as why
-use Rattle.task_rules.specs.Places.{Placed, times}
+use Rattle.task_rules.specs.Places.{Placed, is_fresh, times, one_if}
 use Rattle.task_rules.specs.Run.{opening}
 use Rattle.task_rules.specs.Scripts.{export_kind}
 use Rattle.task_rules.specs.Stalled.{Setting}
@@ -153,21 +158,49 @@ abbrev pub DeliveredByCallback : Core → Type 0
 DeliveredByCallback s = (n : ℕ) (t : Thread) → get s.threads n ≡ Some t → is_delivered t.place ≡ true →
     is_callback (kind_of t.call s) ≡ true
 
-abbrev pub is_start : Why → Bool
-is_start why.Start = true
-is_start _ = false
-
--- the thread is gone, or waits for its start
-abbrev pub is_fresh : Option Place → Bool
-is_fresh None = true
-is_fresh (Some place.New) = true
-is_fresh (Some (place.Ready m w)) = is_start w
-is_fresh (Some (place.Held w)) = is_start w
-is_fresh _ = false
-
 -- the first thread of a call whose start hasn't run waits for it, or is gone
 abbrev pub StartsAwaited : Core → Type 0
 StartsAwaited s = (k : ℕ) (c : Call) → get s.calls k ≡ Some c → c.started ≡ false → is_fresh (place_of k s) ≡ true
+
+-- under the first thread of a direct call there is another one
+abbrev pub DirectsOnTop : Core → Type 0
+DirectsOnTop s = (m : ℕ) → is_some (place_of m s) ≡ true → is_explicit m s ≡ false → is_direct (goal_of (task_of m s) s) ≡ true →
+    (n : ℕ) × (place_of n s ≡ Some (place.Under m))
+
+-- ---- Host works
+
+-- how many such entries stand in the list
+abbrev pub stands : (Entry → Bool) → List Entry → ℕ
+stands test [] = 0
+stands test (e ∷ es) = one_if (test e) + stands test es
+
+abbrev pub is_push_of : ℕ → Entry → Bool
+is_push_of i (entry.Push j) = i == j
+is_push_of i _ = false
+
+abbrev pub is_host_of : ℕ → Entry → Bool
+is_host_of i (entry.Host j) = i == j
+is_host_of i _ = false
+
+abbrev pub is_queued : Stage → Bool
+is_queued stage.Queued = true
+is_queued _ = false
+
+abbrev pub is_finishing : Stage → Bool
+is_finishing stage.Finishing = true
+is_finishing _ = false
+
+-- a work that is queued has its one push entry, one that is finishing its one host entry, and no other has such an entry
+pub record WorkEntries (s : Core) (i : ℕ) (w : Work) : Type 0 where
+  pub push : stands (is_push_of i) s.queues.high ≡ one_if (is_queued w.stage)
+  pub host : stands (is_host_of i) s.queues.high ≡ one_if (is_finishing w.stage)
+
+-- Each work that is there has its entries. None is at low, nor of a number that wasn't given.
+pub record WorksQueued (s : Core) : Type 0 where
+  pub each : (i : ℕ) (w : Work) → get s.works i ≡ Some w → WorkEntries s i w
+  pub low : (i : ℕ) → (stands (is_push_of i) s.queues.low ≡ 0) × (stands (is_host_of i) s.queues.low ≡ 0)
+  pub made : (i : ℕ) → is_some (get s.works i) ≡ true → i ≤ s.made.works
+  pub ungiven : (i : ℕ) → s.made.works + 1 ≤ i → (stands (is_push_of i) s.queues.high ≡ 0) × (stands (is_host_of i) s.queues.high ≡ 0)
 
 -- ---- Counts
 
@@ -188,6 +221,8 @@ pub record InOrder (c : Component) (s : State) : Type 0 where
   pub codes : CodesInCallbacks c
   pub in_place : InPlace s
   pub strands : Strands s.core
+  pub directs : DirectsOnTop s.core
+  pub works : WorksQueued s.core
   pub numbered : Numbered s.core
   pub calls_there : CallsThere s.core
   pub calls_named : CallsNamed s.core

@@ -1,11 +1,7 @@
-pub mod EntryLemmas
-pub mod PlaceWords
-pub mod RunRows
-pub mod OpRows
-pub mod CallRows
-pub mod WithdrawRows
-pub mod TakeRows
+pub mod Entries
+pub mod PlaceLaw
 pub mod PlaceSteps
+pub mod Directs
+pub mod WorksQueued
 pub mod OrderLemmas
-pub mod FreshMoves
-pub mod FreshStand
+pub mod OnceSteps

@@ -1,294 +1,210 @@
 -- A state in order: each opening state is, and each step leads from one to one.
+use Rattle.task_machine.specs.declared.records.Work.{Work}
+use Rattle.task_places.proofs.WorksQueued.{works_word}
+use Rattle.task_places.proofs.Directs.{DirectsRun, directs_on_top, directs_word}
+use Rattle.task_machine.specs.declared.records.Subtask.TheVariants as subtask
 use Rattle.task_laws.proofs.Joins.{joins_word, opening_joins}
 use Rattle.task_laws.proofs.Subtasks.{Traced, opening_named, traced_word}
-use Rattle.task_machine.specs.declared.component.Callee.{Callee}
-use Rattle.task_rules.specs.Scenes.{base_at, scene_of}
-use Rattle.task_rules.specs.Chains.{Walked}
-use Rattle.task_rules.specs.Allowed.{IsRunner}
+use Rattle.task_rules.specs.Scenes.{scene_of, Scene}
+use Rattle.task_rules.specs.Chains.{Walk, Walked}
+use Rattle.task_rules.specs.Allowed.{IsRunner, HasSubtask, ByHandle, ByOp}
 use Rattle.task_rules.proofs.WalkSteps.{step_walks}
 use Rattle.task_rules.proofs.ChainLemmas.{along}
 use Rattle.task_laws.proofs.WaitLemmas.{Homed, KnownHome, homed_word}
-use Rattle.task_laws.proofs.StrandLemmas.{Layered, RunnerGiven, layered_word}
-use Rattle.task_laws.proofs.SceneLemmas.{base_is, runner_there}
+use Rattle.task_laws.proofs.StrandLemmas.{Layered, layered_word}
+use Rattle.task_laws.proofs.SceneLemmas.{runner_there}
 use Rattle.task_laws.proofs.HousedLemmas.{RunnerHoused, housed_word}
 use Rattle.task_laws.proofs.CountLemmas.{few_word}
-use Rattle.std.proofs.Common.{T, ap, arith, refl, subst, sym, ◌∙◌, inl}
+use Rattle.std.proofs.Common.{arith, inl, refl}
 use Rattle.std.specs.Option.{option_map_or}
-use Rattle.std.specs.Prelude.{Bool, List, None, Option, Some, [], false, if◌then◌else◌, is_none, is_some, not, option_and_then, option_map, true, unwrap_or, ℕ, ◌∷◌, ◌≡◌, ◌≤◌, ◌+◌}
-use Rattle.task_laws.proofs.SetHandles.{IsTidy, opening_tidy, tidy_word}
+use Rattle.std.specs.Prelude.{List, None, Option, Some, [], false, is_some, option_and_then, option_map, true, ℕ, ◌∷◌, ◌≡◌, ◌≤◌}
+use Rattle.task_laws.proofs.SetHandles.{opening_sets, sets_named_word}
 use Rattle.task_laws.proofs.CallsLaw.{CallsHold}
-use Rattle.task_laws.proofs.CallsSteps.{opening_holds, step_goes}
-use Rattle.task_laws.specs.Order.{CallsNamed, InOrder, InPlace, Numbered, OpeningInOrder, SetsNamed, StartsAwaited, StepInOrder, WasCall, is_fresh, CallsThere, IsOf, MakesFew, Strands, WaitsAtHome, set_of_op, set_of_place, StepsMakeFew, JoinsNamed}
+use Rattle.task_laws.proofs.CallsSteps.{base_out, of_base, opening_holds, plain, plain_scene, step_goes}
+use Rattle.task_laws.specs.Order.{CallsNamed, InOrder, InPlace, Numbered, OpeningInOrder, SetsNamed, StartsAwaited, StepInOrder, WasCall, CallsThere, MakesFew, Strands, WaitsAtHome, set_of_op, set_of_place, StepsMakeFew, JoinsNamed, DirectsOnTop, WorksQueued}
 use Rattle.task_machine.specs.Core.{Core, Main, State, fresh}
 use Rattle.task_machine.specs.Maps.{empty, get, get-empty}
-use Rattle.task_machine.specs.Read.{place_of, set_at, instance_of, no_callee, call_instance, task_of}
+use Rattle.task_machine.specs.Read.{place_of, instance_of, call_instance, task_of, was_started}
 use Rattle.task_machine.specs.declared.label.Label.{Label}
 use Rattle.task_machine.specs.declared.records.Call.{Call}
 use Rattle.task_machine.specs.declared.records.HowFar.TheVariants as how_far
 use Rattle.task_machine.specs.declared.records.Place.{Place}
 use Rattle.task_machine.specs.declared.records.Thread.{Thread}
-use Rattle.task_machine.specs.declared.records.Turn.{Turn}
-use Rattle.task_machine.specs.declared.records.Turn.TheVariants as turn
-use Rattle.task_places.proofs.FreshMoves.{fresher_same}
-use Rattle.task_places.proofs.FreshStand.{is_starting}
-use Rattle.task_places.proofs.PlaceSteps.{AllOwned, Lands, is_turn_of, turn_step_lands}
-use Rattle.task_places.proofs.PlaceWords.{unused}
-use Rattle.task_places.proofs.TakeRows.{begun_later}
-use Rattle.task_places.proofs.WithdrawRows.{Withdrawable}
+use Rattle.task_places.proofs.PlaceLaw.{Arrives}
+use Rattle.task_places.proofs.PlaceSteps.{Withdrawable, in_place, step_arrives}
 use Rattle.task_places.specs.Kept.{ReachedInOrder, ReachedInPlace, StepsKeepPlaces}
 use Rattle.task_rules.proofs.LawLemmas.{steady}
-use Rattle.task_rules.proofs.StandLemmas.{zero_one}
-use Rattle.task_rules.specs.Laws.{Steady, LaterBy, LaterCall, SameThread}
-use Rattle.task_rules.specs.Places.{Placed, is_at_high, is_at_low, is_at_switch, is_behind_of, says, times, is_there}
+use Rattle.task_rules.specs.Laws.{Steady}
+use Rattle.task_rules.specs.Places.{Placed, is_there, is_fresh}
 use Rattle.task_rules.specs.Run.{Run, opening}
 use Rattle.task_rules.specs.Stalled.{Setting}
-use Rattle.task_rules.specs.Step.{Step}
-
-no_way : {A : Type 0} → false ≡ true → A
-no_way h = absurd (subst T (sym h) tt)
-
--- ---- The facts of a core, and those that the walks keep
-
-none_is : {X : Type 0} (o : Option X) → is_none o ≡ true → o ≡ None
-none_is None h = refl
-none_is (Some x) h = no_way h
-
-sets_of : (s : Core) → IsTidy s → SetsNamed s
-sets_of s q = record {
-  number = q.numbers;
-  home = q.homes;
-  once = λ i j h g x a b. let home : i ≡ j = ap (λ o. unwrap_or o 0) (sym (q.homes i h x a) ∙ q.homes j g x b) in (home, q.apart i h g x a (subst (λ (k : ℕ). set_at k g s ≡ Some x) (sym home) b));
-}
-
-tidy : (s : Core) → SetsNamed s → IsTidy s
-tidy s h = record { numbers = h.number; homes = h.home; apart = λ i a b x e f. (h.once i i a b x e f).1 }
 
 -- ---- Starts
 
-starting_call : (o : Option Call) → option_map_or (λ (c : Call). not c.started) o false ≡ true → (c : Call) × ((o ≡ Some c) × (c.started ≡ false))
-starting_call None h = no_way h
-starting_call (Some c) h = (c, (refl, unstarted c.started h))
-  where
-    unstarted : (b : Bool) → not b ≡ true → b ≡ false
-    unstarted true g = no_way g
-    unstarted false g = refl
+-- where a call's start hasn't run, its first thread waits for it, or is gone
+call_awaited : (s : Core) → Numbered s → CallsThere s → StartsAwaited s → (k : ℕ) → WasCall s k → was_started k s ≡ false →
+    is_fresh (place_of k s) ≡ true
+call_awaited s numbered there starts k first unstarted =
+    let awaited : (c : Call) → get s.calls k ≡ Some c → c.started ≡ false → is_fresh (place_of k s) ≡ true = starts k in
+    grind (arith, numbered.threads k, there k k)
 
-is_starting_of : (k : ℕ) (s : Core) (c : Call) → get s.calls k ≡ Some c → c.started ≡ false → is_starting k s ≡ true
-is_starting_of k s c e h = ap (λ (o : Option Call). option_map_or (λ (c : Call). not c.started) o false) e ∙ ap (λ b. not b) h
-
-awaited : (s : Core) → StartsAwaited s → (k : ℕ) → is_starting k s ≡ true → is_fresh (place_of k s) ≡ true
-awaited s h k e = let c = starting_call (get s.calls k) e in h k c.0 c.1.0 c.1.1
-
--- a thread whose call is gone is gone too, or a task made it beside its first one
-withdrawable : (s : Core) → Numbered s → CallsThere s → CallsNamed s → StartsAwaited s → Withdrawable s
-withdrawable s numbered there named waits i h k at unstarted = by_call (get s.calls k) refl
-  where
-    first : WasCall s k
-    first = named.by_handle i h k at
-
-    no_thread : (o : Option Thread) → get s.threads k ≡ o → get s.calls k ≡ None → is_fresh (option_map (λ (t : Thread). t.place) o) ≡ true
-    no_thread None e gone = refl
-    no_thread (Some t) e gone =
-        let implicit : t.explicit ≡ false = sym (ap (λ (o : Option Thread). option_map_or (λ (t : Thread). t.explicit) o false) e) ∙ first.first in
-        let q = numbered.threads k t e in
-        no_way (ap (λ (o : Option Call). is_some o) (sym gone) ∙ there k k (ap (λ (o : Option Thread). option_map (λ (r : Thread). r.call) o) e ∙ ap (λ (j : ℕ). Some j) (q.own implicit)))
-
-    by_call : (o : Option Call) → get s.calls k ≡ o → is_fresh (place_of k s) ≡ true
-    by_call None e = no_thread (get s.threads k) refl e
-    by_call (Some c) e = waits k c e (sym (ap (λ (o : Option Call). option_map_or (λ (c : Call). c.started) o false) e) ∙ unstarted)
-
--- ---- A step
-
-thread_there : (n : ℕ) (s : Core) (p : Place) → place_of n s ≡ Some p → (t : Thread) × (get s.threads n ≡ Some t)
-thread_there n s p h = go (get s.threads n) refl h
-  where
-    go : (o : Option Thread) → get s.threads n ≡ o → option_map (λ (t : Thread). t.place) o ≡ Some p → (t : Thread) × (get s.threads n ≡ Some t)
-    go None e at = no_way (ap (λ o. is_some o) at)
-    go (Some t) e at = (t, e)
-
-no_call : (o : Option Call) → o ≡ None → option_map_or (λ (c : Call). not c.started) o false ≡ false
-no_call o e = ap (λ (o : Option Call). option_map_or (λ (c : Call). not c.started) o false) e
-
-owned : (s : Core) → Numbered s → AllOwned s
-owned s numbered n p at =
-    let there = thread_there n s p at in
-    let h = numbered.threads n there.0 there.1 in
-    record {
-      number = h.number;
-      implicit = λ e. ap (λ (o : Option Thread). option_map_or (λ (t : Thread). t.call) o 0) there.1 ∙ h.own (sym (ap (λ (o : Option Thread). option_map_or (λ (t : Thread). t.explicit) o false) there.1) ∙ e);
-      explicit = λ e. no_call (get s.calls n) (none_is (get s.calls n) (h.nameless (sym (ap (λ (o : Option Thread). option_map_or (λ (t : Thread). t.explicit) o false) there.1) ∙ e)));
-    }
-
-lands : (x : Setting) (s : State) (l : Label) (t : State) → InOrder x.component s → Step x s l t → Lands s.core t.core t.turn
-unfolding Step
-lands x s l t h step = turn_step_lands x s (unused s.core h.in_place.placed) (owned s.core h.numbered) (withdrawable s.core h.numbered h.calls_there h.calls_named h.starts) (record { each = h.in_place.placed; fresh = fresher_same s.core }) s.turn h.in_place.runs l t step
-
-waited : (s t : Core) → Placed s → Steady s t → StartsAwaited s → (k : ℕ) → is_starting k t ≡ true → is_fresh (place_of k s) ≡ true
-waited s t placed u waits k e = by_place (place_of k s) refl
-  where
-    by_start : k ≤ s.made.threads → (b : Bool) → is_starting k s ≡ b → is_fresh (place_of k s) ≡ true
-    by_start below true f = awaited s waits k f
-    by_start below false f = no_way (sym (begun_later k s t u below f) ∙ e)
-
-    by_place : (o : Option Place) → place_of k s ≡ o → is_fresh (place_of k s) ≡ true
-    by_place None f = ap is_fresh f
-    by_place (Some p) f = by_start ((placed k).number (ap (λ o. is_some o) f)) (is_starting k s) refl
-
-starts_kept : (s t : Core) (u : Turn) → Lands s t u → ((k : ℕ) → is_starting k t ≡ true → is_fresh (place_of k s) ≡ true) → StartsAwaited t
-starts_kept s t u h waits k c at e = by_turn (is_turn_of k u) refl
-  where
-    starting : is_starting k t ≡ true
-    starting = is_starting_of k t c at e
-
-    by_turn : (b : Bool) → is_turn_of k u ≡ b → is_fresh (place_of k t) ≡ true
-    by_turn true f = no_way (sym (h.begun k f (waits k starting)) ∙ starting)
-    by_turn false f = h.fresh k f (waits k starting)
+-- who waits for its start after a step did so before it
+was_awaited : (s t : Core) → Placed s → Steady s t → StartsAwaited s → (k : ℕ) (c : Call) → get t.calls k ≡ Some c → c.started ≡ false →
+    is_fresh (place_of k s) ≡ true
+was_awaited s t placed steady starts k c at e =
+    let awaited : (c : Call) → get s.calls k ≡ Some c → c.started ≡ false → is_fresh (place_of k s) ≡ true = starts k in
+    let given : is_there k s ≡ true → k ≤ s.made.threads = (placed k).number in
+    grind (arith, steady.calls k)
 
 -- ---- Who is there
 
 place_there : (o : Option Place) (x : ℕ) → option_and_then set_of_place o ≡ Some x → is_some o ≡ true
-place_there None x h = no_way (ap (λ (o : Option ℕ). is_some o) h)
-place_there (Some p) x h = refl
+place_there o x h = grind arith
 
-op_there : (o : Option Thread) (x : ℕ) → set_of_op (option_map_or (λ (t : Thread). t.how_far) o how_far.Fresh) ≡ Some x → is_some (option_map (λ (t : Thread). t.place) o) ≡ true
-op_there None x h = no_way (ap (λ (o : Option ℕ). is_some o) h)
-op_there (Some t) x h = refl
+op_there : (o : Option Thread) (x : ℕ) → set_of_op (option_map_or (λ (t : Thread). t.how_far) o how_far.Fresh) ≡ Some x →
+    is_some (option_map (λ (t : Thread). t.place) o) ≡ true
+op_there o x h = grind arith
 
-grows : (n : ℕ) → n ≤ n + 1
-grows n = omega arith
+-- a call that is there before and after is of one instance, and so is a thread
+same_call : (s t : Core) → Steady s t → Numbered s → (k : ℕ) → is_some (get s.calls k) ≡ true → is_some (get t.calls k) ≡ true →
+    call_instance k t ≡ call_instance k s
+same_call s t steady numbered k was now = grind (arith, steady.calls k, numbered.calls k)
 
--- who is there before and after is of one instance
-same_instance : (s t : Core) → Steady s t → Numbered s → CallsThere s → CallsThere t → (n : ℕ) → is_there n s ≡ true → is_there n t ≡ true → instance_of n t ≡ instance_of n s
-same_instance s t steady numbered before after n was now = by_threads (get s.threads n) (get t.threads n) refl refl was now
-  where
-    by_calls : (k : ℕ) (o p : Option Call) → get s.calls k ≡ o → get t.calls k ≡ p → is_some (get s.calls k) ≡ true → is_some (get t.calls k) ≡ true → (option_map_or (λ (c : Call). c.callee) (get t.calls k) no_callee).instance ≡ (option_map_or (λ (c : Call). c.callee) (get s.calls k) no_callee).instance
-    by_calls k None p e f a b = no_way (sym (ap (λ (o : Option Call). is_some o) e) ∙ a)
-    by_calls k (Some c) None e f a b = no_way (sym (ap (λ (o : Option Call). is_some o) f) ∙ b)
-    by_calls k (Some c) (Some d) e f a b =
-        let later : LaterCall c d = subst (λ (o : Option Call). LaterBy LaterCall o (Some d)) e (subst (λ (o : Option Call). LaterBy LaterCall (get s.calls k) o) f (steady.calls k (numbered.calls k c e).1)) in
-        ap (λ (o : Option Call). (option_map_or (λ (c : Call). c.callee) o no_callee).instance) f
-        ∙ (ap (λ (y : Callee). y.instance) (sym later.callee) ∙ sym (ap (λ (o : Option Call). (option_map_or (λ (c : Call). c.callee) o no_callee).instance) e))
-
-    by_threads : (o p : Option Thread) → get s.threads n ≡ o → get t.threads n ≡ p → is_there n s ≡ true → is_there n t ≡ true → instance_of n t ≡ instance_of n s
-    by_threads None p e f a b = no_way (sym (ap (λ (o : Option Thread). is_some (option_map (λ (r : Thread). r.place) o)) e) ∙ a)
-    by_threads (Some r) None e f a b = no_way (sym (ap (λ (o : Option Thread). is_some (option_map (λ (r : Thread). r.place) o)) f) ∙ b)
-    by_threads (Some r) (Some u) e f a b =
-        let same : SameThread r u = subst (λ (o : Option Thread). LaterBy SameThread o (Some u)) e (subst (λ (o : Option Thread). LaterBy SameThread (get s.threads n) o) f (steady.threads n (numbered.threads n r e).number)) in
-        let there = before n r.call (ap (λ (o : Option Thread). option_map (λ (v : Thread). v.call) o) e) in
-        let still = after n r.call (ap (λ (o : Option Thread). option_map (λ (v : Thread). v.call) o) f ∙ ap (λ (j : ℕ). Some j) (sym same.call)) in
-        ap (λ (o : Option Thread). call_instance (option_map_or (λ (v : Thread). v.call) o 0) t) f
-        ∙ (ap (λ (j : ℕ). call_instance j t) (sym same.call)
-        ∙ (by_calls r.call (get s.calls r.call) (get t.calls r.call) refl refl there still ∙ sym (ap (λ (o : Option Thread). call_instance (option_map_or (λ (v : Thread). v.call) o 0) s) e)))
+same_instance : (s t : Core) → Steady s t → Numbered s → CallsThere s → CallsThere t → (n : ℕ) → is_there n s ≡ true → is_there n t ≡ true →
+    instance_of n t ≡ instance_of n s
+same_instance s t steady numbered before after n was now =
+    let same = same_call s t steady numbered (task_of n s) in
+    grind (arith, steady.threads n, numbered.threads n, before n (task_of n s), after n (task_of n t))
 
 pub steps_make_few : StepsMakeFew
 steps_make_few x s l t step =
     let w = step_walks x s l t step in
-    let a = scene_of x s l w.next in
-    let first : MakesFew a.base s.core = subst (λ (c : Core). MakesFew c s.core) (sym (base_is s.turn s.core)) (record { threads = grows _; works = grows _; sets = grows _; groups = grows _ }) in
-    let q : MakesFew a.base t.core = along (MakesFew a.base) (few_word a) first w.walk in
-    let r : MakesFew (record s.core { queues = (base_at s.turn s.core).queues }) t.core = subst (λ (c : Core). MakesFew c t.core) (base_is s.turn s.core) q in
-    record { threads = r.threads; works = r.works; sets = r.sets; groups = r.groups }
+    let a : Scene = plain_scene x s l w.next in
+    let c : Walk a s.core t.core = plain x s l w.next (λ c. Walk c s.core t.core) w.walk in
+    let q : MakesFew a.base t.core = along (MakesFew a.base) (few_word a) (grind arith) c in
+    grind arith
 
 -- ---- What the words of a step keep
 
 module _ (x : Setting) (s : State) (l : Label) (t : State) (h : InOrder x.component s) (w : Walked x s l t) where
-  -- what is read beside the marks is as before the step
-  at_base : (P : Core → Type 0) → P (record s.core { queues = (base_at s.turn s.core).queues }) → P (base_at s.turn s.core)
-  at_base P p = subst P (sym (base_is s.turn s.core)) p
+  -- the step's scene, in which the row reads what is beside the marks as it was before the step
+  abbrev a : Scene
+  a = plain_scene x s l w.next
 
-  from_base : (P : Core → Type 0) → P (base_at s.turn s.core) → P (record s.core { queues = (base_at s.turn s.core).queues })
-  from_base P p = subst P (base_is s.turn s.core) p
+  walk : Walk a s.core t.core
+  walk = plain x s l w.next (λ c. Walk c s.core t.core) w.walk
 
-  runner : (n : ℕ) → IsRunner (scene_of x s l w.next) n → is_there n s.core ≡ true
+  runner : (n : ℕ) → IsRunner a n → is_there n s.core ≡ true
   runner n is = runner_there x s l w.next h.in_place n is
 
   pub strands_kept : Strands t.core
   strands_kept =
-      let a = scene_of x s l w.next in
       let first : Layered a s.core = record {
         numbered = λ n there. (h.in_place.placed n).number there;
         below = h.strands.below;
         made = h.strands.made;
-        fresh = λ n m e. inl (at_base (λ (c : Core). m ≤ c.made.threads) (h.strands.made n m e));
+        fresh = λ n m e. inl (h.strands.made n m e);
         alone = h.strands.alone;
       } in
-      let given : RunnerGiven a = λ n is. at_base (λ (c : Core). n ≤ c.made.threads) ((h.in_place.placed n).number (runner n is)) in
-      let q : Layered a t.core = along (Layered a) (layered_word a given) first w.walk in
+      let q : Layered a t.core = along (Layered a) (layered_word a (λ n is. (h.in_place.placed n).number (runner n is))) first walk in
       record { below = q.below; made = q.made; alone = q.alone }
 
-  runner_housed : RunnerHoused (scene_of x s l w.next)
-  runner_housed n is = at_base (λ (c : Core). is_some (get c.calls (task_of n c)) ≡ true) (go (get s.core.threads n) refl (runner n is))
-    where
-      go : (o : Option Thread) → get s.core.threads n ≡ o → is_some (option_map (λ (r : Thread). r.place) (get s.core.threads n)) ≡ true → is_some (get s.core.calls (task_of n s.core)) ≡ true
-      go None e there = no_way (sym (ap (λ (o : Option Thread). is_some (option_map (λ (r : Thread). r.place) o)) e) ∙ there)
-      go (Some r) e there = ap (λ (o : Option Thread). is_some (get s.core.calls (option_map_or (λ (u : Thread). u.call) o 0))) e ∙ h.calls_there n r.call (ap (λ (o : Option Thread). option_map (λ (u : Thread). u.call) o) e)
+  runner_housed : RunnerHoused a
+  runner_housed n is = let there = runner n is in grind (arith, h.calls_there n (task_of n s.core))
 
   pub calls_kept : CallsThere t.core
-  calls_kept = along CallsThere (housed_word (scene_of x s l w.next) runner_housed) h.calls_there w.walk
+  calls_kept = along CallsThere (housed_word a runner_housed) h.calls_there walk
+
+  known : CallsNamed a.base
+  known = record {
+    by_handle = λ i g k e. assumption (h.calls_named.by_handle i g k e);
+    by_op = λ n k e. assumption (h.calls_named.by_op n k e);
+  }
 
   pub named_kept : CallsNamed t.core
   named_kept =
-      let a = scene_of x s l w.next in
-      let known : CallsNamed a.base = at_base CallsNamed (record { by_handle = λ i g k e. was (h.calls_named.by_handle i g k e); by_op = λ n k e. was (h.calls_named.by_op n k e) }) in
-      let first : Traced a s.core = record { was = λ k q. let r = from_base (λ (c : Core). WasCall c k) q in record { number = r.number; first = r.first }; named = h.calls_named } in
-      (along (Traced a) (λ v m ok q. traced_word a known m q v ok) first w.walk).named
+      let first : Traced a s.core = record { was = λ k q. assumption; named = h.calls_named } in
+      (along (Traced a) (λ v m ok q. traced_word a known m q v ok) first walk).named
+
+  -- a call's start that the running thread may withdraw
+  withdrawable : Withdrawable (scene_of x s l w.next)
+  withdrawable = of_base (λ b. Withdrawable (record a { base = b })) s.turn s.core
+      (λ m k is has unstarted. call_awaited s.core h.numbered h.calls_there h.starts k (assumption (named m k has)) unstarted)
     where
-      was : {k : ℕ} → WasCall s.core k → WasCall (record s.core { queues = (base_at s.turn s.core).queues }) k
-      was q = record { number = q.number; first = q.first }
+      named : (m k : ℕ) → HasSubtask a m (subtask.Guest k) → WasCall a.base k
+      named m k (ByHandle g e) = known.by_handle _ g k e
+      named m k (ByOp e) = known.by_op m k e
+
+  pub arrives : Arrives (scene_of x s l w.next) t.core
+  arrives = step_arrives x s l t w h.in_place withdrawable
+
+  pub starts_kept : Steady s.core t.core → StartsAwaited t.core
+  starts_kept steady k c at e =
+      let come : Arrives a t.core = plain x s l w.next (λ c. Arrives c t.core) arrives in
+      let fresh = come.fresh k (was_awaited s.core t.core h.in_place.placed steady h.starts k c at e) in
+      grind (arith, h.numbered.threads k, steady.calls k)
+
+  pub directs_kept : Steady s.core t.core → Numbered t.core → DirectsOnTop t.core
+  directs_kept steady after =
+      let goes = base_out (λ b. Arrives (record a { base = b }) t.core) s.turn s.core arrives in
+      directs_on_top a s.core t.core steady h.numbered after goes (λ k. refl) (λ k. refl) h.directs (along (DirectsRun a) (directs_word a) (λ k d. inl d) walk)
+
+  pub works_kept : WorksQueued t.core
+  works_kept = along WorksQueued (works_word a) h.works walk
 
   -- handles of sets, and the joins to them
-  pub joined_kept : IsTidy t.core × JoinsNamed t.core
-  joined_kept = along (λ (c : Core). IsTidy c × JoinsNamed c) (λ v m ok q. (tidy_word (scene_of x s l w.next) v m ok q.0, joins_word (scene_of x s l w.next) m q.1 (sets_of m q.0) v ok)) (tidy s.core h.sets_named, h.joins_named) w.walk
+  pub joined_kept : SetsNamed t.core × JoinsNamed t.core
+  joined_kept = along (λ (c : Core). SetsNamed c × JoinsNamed c)
+      (λ v m ok q. (sets_named_word a v m ok q.0, joins_word a m q.1 q.0 v ok)) (h.sets_named, h.joins_named) walk
 
-  known_home : KnownHome (scene_of x s l w.next)
+  known_home : KnownHome a
   known_home = record {
-    there = λ n is. at_base (λ (c : Core). is_there n c ≡ true) (runner n is);
-    sets = at_base SetsNamed (record { number = h.sets_named.number; home = h.sets_named.home; once = h.sets_named.once });
-    waits = at_base WaitsAtHome (record {
-      by_place = λ n y e. let q = h.waits.by_place n y e in record { made = q.made; home = q.home };
-      by_op = λ n y e. let q = h.waits.by_op n y e in record { made = q.made; home = q.home };
-    });
+    there = runner;
+    sets = record { number = h.sets_named.number; home = h.sets_named.home; once = h.sets_named.once };
+    waits = record { by_place = λ n y e. assumption (h.waits.by_place n y e); by_op = λ n y e. assumption (h.waits.by_op n y e) };
   }
 
-  homed_first : Homed (scene_of x s l w.next) s.core
+  homed_first : Homed a s.core
   homed_first = record {
-    homes = λ i y q. let r = from_base (IsOf i y) q in record { made = r.made; home = r.home };
-    by_place = λ n y e. (at_base (λ (c : Core). IsOf (instance_of n c) y s.core) (h.waits.by_place n y e), at_base (λ (c : Core). is_there n c ≡ true) (place_there (place_of n s.core) y e));
-    by_op = λ n y e. (at_base (λ (c : Core). IsOf (instance_of n c) y s.core) (h.waits.by_op n y e), at_base (λ (c : Core). is_there n c ≡ true) (op_there (get s.core.threads n) y e));
+    homes = λ i y q. assumption;
+    by_place = λ n y e. (h.waits.by_place n y e, place_there (place_of n s.core) y e);
+    by_op = λ n y e. (h.waits.by_op n y e, op_there (get s.core.threads n) y e);
   }
 
-  homed_last : Homed (scene_of x s l w.next) t.core
-  homed_last = along (Homed (scene_of x s l w.next)) (λ v m ok q. homed_word (scene_of x s l w.next) known_home m q v ok) homed_first w.walk
+  homed_last : Homed a t.core
+  homed_last = along (Homed a) (λ v m ok q. homed_word a known_home m q v ok) homed_first walk
 
   pub waits_kept : Steady s.core t.core → WaitsAtHome t.core
   waits_kept steady = record {
-    by_place = λ n y e. let q = homed_last.by_place n y e in of_same n y (place_there (place_of n t.core) y e) (from_base (λ (c : Core). is_there n c ≡ true) q.1) q.0;
-    by_op = λ n y e. let q = homed_last.by_op n y e in of_same n y (op_there (get t.core.threads n) y e) (from_base (λ (c : Core). is_there n c ≡ true) q.1) q.0;
+    by_place = λ n y e. let q = homed_last.by_place n y e in rw (same n (place_there (place_of n t.core) y e) q.1) q.0;
+    by_op = λ n y e. let q = homed_last.by_op n y e in rw (same n (op_there (get t.core.threads n) y e) q.1) q.0;
   }
     where
-      of_same : (n y : ℕ) → is_there n t.core ≡ true → is_there n s.core ≡ true → IsOf (instance_of n (base_at s.turn s.core)) y t.core → IsOf (instance_of n t.core) y t.core
-      of_same n y now before q = subst (λ (i : ℕ). IsOf i y t.core) (sym (same_instance s.core t.core steady h.numbered h.calls_there calls_kept n before now)) (from_base (λ (c : Core). IsOf (instance_of n c) y t.core) q)
+      same : (n : ℕ) → is_there n t.core ≡ true → is_there n s.core ≡ true → instance_of n t.core ≡ instance_of n s.core
+      same n now before = same_instance s.core t.core steady h.numbered h.calls_there calls_kept n before now
 
 -- ---- A step in order
 
 pub step_in_order : StepInOrder
 step_in_order x s l t h step =
     let w = step_walks x s l t step in
-    let k = lands x s l t h step in
-    let q : CallsHold x.component t.core = (step_goes x s l t h.codes (record { numbered = h.numbered; kinds = h.kinds; deliveries = h.deliveries }) step).0 in
+    let p : CallsHold x.component s.core = record { numbered = h.numbered; kinds = h.kinds; deliveries = h.deliveries } in
+    let q : CallsHold x.component t.core = (step_goes x s l t h.codes p step).0 in
     record {
       codes = h.codes;
-      in_place = record { placed = k.each; runs = k.runs };
+      in_place = in_place x s l t w (arrives x s l t h w);
       strands = strands_kept x s l t h w;
+      directs = directs_kept x s l t h w (steady x s l t step) q.numbered;
+      works = works_kept x s l t h w;
       numbered = q.numbered;
       calls_there = calls_kept x s l t h w;
       calls_named = named_kept x s l t h w;
       waits = waits_kept x s l t h w (steady x s l t step);
-      sets_named = sets_of t.core (joined_kept x s l t h w).0;
+      sets_named = (joined_kept x s l t h w).0;
       joins_named = (joined_kept x s l t h w).1;
       kinds = q.kinds;
       deliveries = q.deliveries;
-      starts = starts_kept s.core t.core t.turn k (waited s.core t.core h.in_place.placed (steady x s l t step) h.starts);
+      starts = starts_kept x s l t h w (steady x s l t step);
     }
 
 -- ---- The first state
@@ -296,53 +212,47 @@ step_in_order x s l t h step =
 opening_placed : (instances handle_limit capacity : ℕ) → Placed (fresh instances handle_limit capacity)
 unfolding fresh
 opening_placed instances handle_limit capacity n = record {
-  number = λ e. no_way (sym nowhere ∙ e);
-  behind = λ f e. zero_one (says_none (λ p. is_behind_of f p)) e;
-  switch = sym (says_none (λ p. is_at_switch p));
-  high = sym (says_none (λ p. is_at_high p));
-  low = sym (says_none (λ p. is_at_low p));
-  callers = λ f. ap (λ (o : Option (List ℕ)). times n (unwrap_or o [])) (get-empty f) ∙ sym (ap (λ (o : Option Thread). if is_some (option_map (λ (t : Thread). t.place) o) then says (is_behind_of f) (option_map (λ (t : Thread). t.place) (get empty n)) else 0) (get-empty f));
+  number = λ e. let o = get-empty {X = Thread} n in absurd (cc);
+  behind = λ f e. let o = get-empty {X = Thread} n in absurd (cc);
+  switch = let o : get (empty {X = Thread}) n ≡ None = get-empty n in cc;
+  high = let o : get (empty {X = Thread}) n ≡ None = get-empty n in cc;
+  low = let o : get (empty {X = Thread}) n ≡ None = get-empty n in cc;
+  callers = λ f. grind (arith, get-empty);
 }
-  where
-    placeless : option_map (λ (t : Thread). t.place) (get empty n) ≡ None
-    placeless = ap (λ (o : Option Thread). option_map (λ (t : Thread). t.place) o) (get-empty n)
-
-    nowhere : is_some (option_map (λ (t : Thread). t.place) (get empty n)) ≡ false
-    nowhere = ap (λ (o : Option Place). is_some o) placeless
-
-    says_none : (test : Place → Bool) → says test (option_map (λ (t : Thread). t.place) (get empty n)) ≡ 0
-    says_none test = ap (says test) placeless
 
 opening_in_place : (instances handle_limit capacity : ℕ) (main : Main) → InPlace (opening instances handle_limit capacity main)
-opening_in_place instances handle_limit capacity main = record {
-  placed = opening_placed instances handle_limit capacity;
-  runs = λ n e. no_way (ap is_run e);
-}
-  where
-    is_run : Turn → Bool
-    is_run (turn.Run n) = true
-    is_run _ = false
+opening_in_place instances handle_limit capacity main =
+    record { placed = opening_placed instances handle_limit capacity; runs = λ n e. absurd (cc) }
 
 opening_starts : (instances handle_limit capacity : ℕ) → StartsAwaited (fresh instances handle_limit capacity)
 unfolding fresh
-opening_starts instances handle_limit capacity k c e h = no_way (ap (λ (o : Option Call). is_some o) (sym (get-empty k) ∙ e))
+opening_starts instances handle_limit capacity k c e h = let o = get-empty {X = Call} k in absurd (cc)
 
 opening_strands : (instances handle_limit capacity : ℕ) → Strands (fresh instances handle_limit capacity)
 unfolding fresh
-opening_strands instances handle_limit capacity = record { below = λ n m e. nobody n e; made = λ n m e. nobody n e; alone = λ n k m e f. nobody n e }
-  where
-    nobody : (n : ℕ) {p : Place} {A : Type 0} → option_map (λ (t : Thread). t.place) (get empty n) ≡ Some p → A
-    nobody n e = no_way (ap (λ (o : Option Thread). is_some (option_map (λ (t : Thread). t.place) o)) (sym (get-empty n)) ∙ ap (λ (o : Option Place). is_some o) e)
+opening_strands instances handle_limit capacity = record {
+  below = λ n m e. let o = get-empty {X = Thread} n in absurd (cc);
+  made = λ n m e. let o = get-empty {X = Thread} n in absurd (cc);
+  alone = λ n k m e f. let o = get-empty {X = Thread} n in absurd (cc);
+}
+
+opening_works : (instances handle_limit capacity : ℕ) → WorksQueued (fresh instances handle_limit capacity)
+unfolding fresh
+opening_works instances handle_limit capacity = record { each = λ i w at. let o = get-empty {X = Work} i in absurd (cc); low = λ i. (refl, refl); made = λ i there. let o = get-empty {X = Work} i in absurd (cc); ungiven = λ i above. (refl, refl) }
+
+opening_directs : (instances handle_limit capacity : ℕ) → DirectsOnTop (fresh instances handle_limit capacity)
+unfolding fresh
+opening_directs instances handle_limit capacity m there implicit direct = let o = get-empty {X = Thread} m in absurd (cc)
 
 opening_calls : (instances handle_limit capacity : ℕ) → CallsThere (fresh instances handle_limit capacity)
 unfolding fresh
-opening_calls instances handle_limit capacity n k e = no_way (ap (λ (o : Option Thread). is_some (option_map (λ (t : Thread). t.call) o)) (sym (get-empty n)) ∙ ap (λ (o : Option ℕ). is_some o) e)
+opening_calls instances handle_limit capacity n k e = let o = get-empty {X = Thread} n in absurd (cc)
 
 opening_waits : (instances handle_limit capacity : ℕ) → WaitsAtHome (fresh instances handle_limit capacity)
 unfolding fresh
 opening_waits instances handle_limit capacity = record {
-  by_place = λ n x e. no_way (ap (λ (o : Option Thread). is_some (option_and_then set_of_place (option_map (λ (t : Thread). t.place) o))) (sym (get-empty n)) ∙ ap (λ (o : Option ℕ). is_some o) e);
-  by_op = λ n x e. no_way (ap (λ (o : Option Thread). is_some (set_of_op (option_map_or (λ (t : Thread). t.how_far) o how_far.Fresh))) (sym (get-empty n)) ∙ ap (λ (o : Option ℕ). is_some o) e);
+  by_place = λ n x e. let o = get-empty {X = Thread} n in absurd (cc);
+  by_op = λ n x e. let o = get-empty {X = Thread} n in absurd (cc);
 }
 
 pub opening_in_order : OpeningInOrder
@@ -353,11 +263,13 @@ opening_in_order c codes instances handle_limit capacity main =
       codes = codes;
       in_place = opening_in_place instances handle_limit capacity main;
       strands = opening_strands instances handle_limit capacity;
+      directs = opening_directs instances handle_limit capacity;
+      works = opening_works instances handle_limit capacity;
       numbered = q.numbered;
       calls_there = opening_calls instances handle_limit capacity;
       waits = opening_waits instances handle_limit capacity;
       calls_named = opening_named instances handle_limit capacity;
-      sets_named = sets_of s (opening_tidy instances handle_limit capacity);
+      sets_named = opening_sets instances handle_limit capacity;
       joins_named = opening_joins instances handle_limit capacity;
       kinds = q.kinds;
       deliveries = q.deliveries;
@@ -367,11 +279,13 @@ opening_in_order c codes instances handle_limit capacity main =
 -- ---- Runs
 
 run_in_order : (x : Setting) (s : State) → InOrder x.component s → (ls : List Label) (t : State) → Run x s ls t → InOrder x.component t
-run_in_order x s h [] t run = subst (InOrder x.component) (sym run) h
+run_in_order x s h [] t run = rw run h
 run_in_order x s h (l ∷ ls) t run = run_in_order x run.0 (step_in_order x s l run.0 h run.1.0) ls t run.1.1
 
 pub reached_in_order : ReachedInOrder
-reached_in_order x s r = run_in_order x (opening r.instances r.handle_limit r.capacity r.main) (opening_in_order x.component r.scripts r.instances r.handle_limit r.capacity r.main) r.labels s r.run
+reached_in_order x s r =
+    let first = opening_in_order x.component r.scripts r.instances r.handle_limit r.capacity r.main in
+    run_in_order x (opening r.instances r.handle_limit r.capacity r.main) first r.labels s r.run
 
 pub reached_in_place : ReachedInPlace
 reached_in_place x s r = (reached_in_order x s r).in_place

@@ -1,360 +1,206 @@
--- Each thread has its place: what each step keeps.
-use Rattle.std.proofs.Common.{T, ap, refl, subst, sym, ◌∙◌}
-use Rattle.std.specs.Prelude.{Bool, List, None, Option, Some, [], false, not, suc, true, zero, ℕ, ◌+◌, ◌==◌, ◌∷◌, ◌≡◌}
-use Rattle.task_machine.specs.Core.{Began, Core, Main, MainPlace, Refused, Scripted, Started, State, Unscripted}
-use Rattle.task_machine.specs.Labels.{Choice, choice_of}
-use Rattle.task_machine.specs.Moves.{ended}
-use Rattle.task_machine.specs.Read.{blocked_on, next_entry, phase_of, place_of, strand_from, strand_of, under_of, work_caller_of}
-use Rattle.task_machine.specs.Write.{add_call, add_group, count_work, remove_thread, remove_threads, set_course, set_trapped, set_switch, set_high, set_low}
-use Rattle.task_machine.specs.declared.component.Callee.{Callee}
-use Rattle.task_machine.specs.declared.component.Component.{Component}
-use Rattle.task_machine.specs.declared.label.Label.{Label}
-use Rattle.task_machine.specs.declared.trap.Trap.{Trap}
-use Rattle.task_rules.specs.Calls.{call_made, new_call, new_work, next_thread, next_work, work_queued}
-use Rattle.task_rules.specs.Progress.{Fails, Goes, Never, Ordered, Progress, Stops, Traps, may}
-use Rattle.task_rules.specs.Scripts.{export_kind, host_at, op_of}
-use Rattle.task_rules.specs.Takes.{popped, take_row, thread_taken}
-use Rattle.task_places.proofs.PlaceWords.{Unused, added_all, added_here, pushed_all}
-use Rattle.task_places.proofs.FreshMoves.{Fresher, fresher_after, fresher_quiet, fresher_same}
-use Rattle.task_laws.specs.Order.{is_fresh}
-use Rattle.task_places.proofs.FreshStand.{All, Going, Kept, Runs, Standing, is_starting, quiet_all, removed_fresher, stand_of}
-use Rattle.task_rules.proofs.UntouchedLemmas.{add_call_untouched, add_group_untouched, add_work_untouched, count_work_untouched, main_aborted_untouched, poll_pends_untouched, pushed_untouched, set_course_untouched, set_phase_untouched, set_stage_untouched, set_trapped_untouched, take_result_untouched, untouched_after}
-use Rattle.task_rules.proofs.MoveLemmas.{all_of}
-use Rattle.task_rules.proofs.StandLemmas.{Loose, Stand, none_there, by_number, eq_refl, is_eq_of}
-use Rattle.task_rules.proofs.StopLemmas.{quiet_placed}
-use Rattle.task_rules.specs.Places.{HasPlace, is_at_high, is_at_low, is_at_switch, is_behind_of, is_there, one_if, says, times}
-use Rattle.task_machine.specs.declared.records.Place.{Place}
-use Rattle.std.specs.Option.{option_map_or}
-use Rattle.task_machine.specs.Maps.{get, size}
-use Rattle.task_places.proofs.RunRows.{Stays, under_place}
-use Rattle.task_machine.specs.declared.records.WorkCaller.{WorkCaller}
-use Rattle.task_machine.specs.declared.words.Mark.{Mark}
-use Rattle.task_machine.specs.declared.records.Entry.{Entry}
-use Rattle.task_rules.specs.Step.{DeadlockStep, EmptyFor, FuturesStep, MainProgresses, MainStep, OpenAct, OpenProgresses, OpenStep, Polled, Progresses, RestStep, ScriptStep, TakeStep, TurnStep, did, entry_number, struck}
-use Rattle.task_rules.specs.MainOps.{Abort, Answer, Answers, Await, Does, Finish, MainAct, MainProgress, Pends, Quiet, Ready, Spawn, Start, act_of, finish_act, finish_result, has_interesting, is_complete, is_ready_for_call, line_of, main_row, main_spawned, main_started, op_at, start_act, start_refusal, unless_pending}
-use Rattle.task_rules.specs.Works.{Ends, FailsNow, Poll, StillPends, course_for, followed, next_polled, poll_pends, poll_of, poll_ends}
-use Rattle.task_places.proofs.WithdrawRows.{Withdrawable, op_row_stays}
-use Rattle.task_rules.proofs.MoveLemmas.{all_of, gone_place, other_place, removed_gone, removed_placed}
-use Rattle.task_machine.specs.declared.label.MainLabel.{MainLabel}
-use Rattle.task_machine.specs.declared.records.Turn.{Turn}
-use Rattle.task_machine.specs.declared.scenario.MainOpDef.{MainOpDef}
-use Rattle.task_rules.specs.Stalled.{Setting}
-use Rattle.task_rules.specs.Turns.{at_turn, goes_to, nothing_stands, settled_futures, settled_take}
-use Rattle.task_places.proofs.TakeRows.{Front, Owned, owned_popped, high_all, host_done_all, next_front, popped_all, popped_stand, taken_for_stays, unblocked_all}
-use Rattle.task_machine.specs.declared.records.Caller.TheVariants as caller
-use Rattle.task_machine.specs.declared.records.Goal.TheVariants as goal
-use Rattle.task_machine.specs.declared.label.Label.TheVariants as label
-use Rattle.task_machine.specs.declared.records.Place.TheVariants as place
+-- Where each thread is after a step.
 use Rattle.task_machine.specs.declared.words.Mark.TheVariants as mark
-use Rattle.task_machine.specs.declared.records.Subtask.TheVariants as subtask
-use Rattle.task_machine.specs.declared.records.Why.TheVariants as why
-use Rattle.task_machine.specs.declared.records.WorkCaller.TheVariants as work_caller
+use Rattle.task_machine.specs.Write.{set_switch, set_high, set_low}
+use Rattle.std.proofs.Common.{T, ap, arith, refl, subst, sym, ◌∙◌}
+use Rattle.std.specs.Prelude.{Bool, None, Option, Some, [], false, is_some, true, unwrap_or, ℕ, ◌+◌, ◌==◌, ◌≡◌, ◌≤◌}
+use Rattle.task_laws.specs.Order.{InPlace}
+use Rattle.task_machine.specs.Core.{Core, State}
+use Rattle.task_machine.specs.Read.{next_entry, place_of, was_started}
+use Rattle.task_machine.specs.declared.label.Label.{Label}
+use Rattle.task_machine.specs.declared.records.Entry.{Entry}
 use Rattle.task_machine.specs.declared.records.Entry.TheVariants as entry
-use Rattle.task_machine.specs.declared.words.Phase.TheVariants as phase
-use Rattle.task_machine.specs.declared.records.Stage.TheVariants as stage
-use Rattle.task_machine.specs.declared.label.LoopLabel.TheVariants as loop_label
-use Rattle.task_machine.specs.declared.label.MainLabel.TheVariants as main_label
+use Rattle.task_machine.specs.declared.records.Place.{Place}
+use Rattle.task_machine.specs.declared.records.Place.TheVariants as place
+use Rattle.task_machine.specs.declared.records.Subtask.TheVariants as subtask
+use Rattle.task_machine.specs.declared.records.Turn.{Turn}
 use Rattle.task_machine.specs.declared.records.Turn.TheVariants as turn
+use Rattle.task_machine.specs.declared.words.Mark.{Mark}
+use Rattle.task_places.proofs.Entries.{Cleared, First, next_first, popped_cleared}
+use Rattle.task_places.proofs.PlaceLaw.{Arrives, Follows, Frame, entry_ready, is_run, no_way, trip_arrives, waits, ReadyAt, watch, so_self}
+use Rattle.task_rules.proofs.MoveLemmas.{All, is_busy, is_idle, no_time, stand_of}
+use Rattle.task_rules.proofs.StandLemmas.{Loose, Stand, by_number, zero_one, is_so, left_placed}
+use Rattle.task_rules.specs.Allowed.{HasSubtask, IsRunner}
+use Rattle.task_rules.specs.Chains.{LastWords, Trip, Walked, is_take, start_of}
+use Rattle.task_rules.specs.Places.{HasPlace, is_fresh, one_if, says, is_behind_of}
+use Rattle.task_rules.specs.Scenes.{Scene, base_at, base_without, runner_at, scene_of, thread_of_entry}
+use Rattle.task_rules.specs.Stalled.{Setting}
+use Rattle.task_rules.specs.Takes.{popped}
+use Rattle.task_rules.specs.Turns.{nothing_stands, settled_futures, settled_take, settled_turn}
+use Rattle.task_rules.specs.Works.{next_polled}
 
--- ---- A strand that is gone
+-- a start that the running thread may withdraw is awaited, or its thread is gone
+abbrev pub Withdrawable : Scene → Type 0
+Withdrawable a = (m k : ℕ) → IsRunner a m → HasSubtask a m (subtask.Guest k) → was_started k a.base ≡ false → waits a k ≡ true
 
-abbrev pub Idle : Option Place → Type 0
-Idle o = (says is_at_high o ≡ 0) × ((says is_at_low o ≡ 0) × ((says is_at_switch o ≡ 0) × ((f : ℕ) → says (is_behind_of f) o ≡ 0)))
+no_runner : (a : Scene) (m : ℕ) {A : Type 0} → a.runner ≡ None → IsRunner a m → A
+no_runner a m none is = no_way (ap (λ (o : Option ℕ). is_some o) (sym none ∙ is))
 
-idle_loose : (m : ℕ) (s : Core) → Idle (place_of m s) → HasPlace m s → Loose m s
-idle_loose m s i h = record { number = h.number; switch = h.switch ∙ i.1.1.0; high = h.high ∙ i.0; low = h.low ∙ i.1.0; callers = λ f. h.callers f ∙ none_there (is_there f s) _ (i.1.1.1 f) }
+beyond : (n m : ℕ) → m + 1 ≤ n → (n ≤ m → ⊥)
+beyond n m h g = omega (arith, h, g)
 
-loose_removed : (m : ℕ) (s : Core) → Loose m s → ((k : ℕ) → (k == m) ≡ false → HasPlace k s) → All (remove_thread m s)
-loose_removed m s l rest k = by_number k m (HasPlace k (remove_thread m s)) (λ e. subst (λ (j : ℕ). HasPlace j (remove_thread m s)) (sym e) (removed_gone m s l)) (λ e. removed_placed k m s e (rest k e))
-
-idle_removed : (m k : ℕ) (s : Core) → Idle (place_of k s) → Idle (place_of k (remove_thread m s))
-idle_removed m k s i = by_number k m (Idle (place_of k (remove_thread m s))) (λ e. subst Idle (sym (ap (λ (j : ℕ). place_of j (remove_thread m s)) e ∙ gone_place m s)) (refl, (refl, (refl, λ f. refl)))) (λ e. subst Idle (sym (other_place k m s e)) i)
-
-abbrev pub AllIdle : List ℕ → Core → Type 0
-AllIdle [] s = Unit {0}
-AllIdle (m ∷ ms) s = Idle (place_of m s) × AllIdle ms s
-
-all_idle_removed : (m : ℕ) (ms : List ℕ) (s : Core) → AllIdle ms s → AllIdle ms (remove_thread m s)
-all_idle_removed m [] s i = tt
-all_idle_removed m (k ∷ ms) s i = (idle_removed m k s i.0, all_idle_removed m ms s i.1)
-
-threads_removed : (ms : List ℕ) (s : Core) → AllIdle ms s → All s → All (remove_threads ms s)
-threads_removed [] s i all = all
-threads_removed (m ∷ ms) s i all = threads_removed ms (remove_thread m s) (all_idle_removed m ms s i.1) (loose_removed m s (idle_loose m s i.0 (all m)) (λ k e. all k))
-
-under_idle : (n m : ℕ) (s : Core) → under_of n s ≡ Some m → Idle (place_of m s)
-under_idle n m s h = subst Idle (sym (under_place n m s h)) (refl, (refl, (refl, λ f. refl)))
-
-strand_idle : (k : ℕ) (s : Core) (n : ℕ) → Idle (place_of n s) → AllIdle (strand_from k s n) s
-strand_idle zero s n i = (i, tt)
-strand_idle (suc k) s n i = (i, rest (strand_idle k s) (under_of n s) refl)
+-- a number that wasn't given is no thread's
+ungiven : (n : ℕ) (s : Core) → (n ≤ s.made.threads → ⊥) → HasPlace n s → place_of n s ≡ None
+ungiven n s above h = go (place_of n s) h.number
   where
-    rest : ((m : ℕ) → Idle (place_of m s) → AllIdle (strand_from k s m) s) → (o : Option ℕ) → under_of n s ≡ o → AllIdle (option_map_or (strand_from k s) o []) s
-    rest more None e = tt
-    rest more (Some m) e = more m (under_idle n m s e)
+    go : (o : Option Place) → (is_some o ≡ true → n ≤ s.made.threads) → o ≡ None
+    go None g = refl
+    go (Some p) g = absurd (above (g refl))
 
--- the threads below the first one
-tail_idle : (k : ℕ) (s : Core) (n : ℕ) → (ms : List ℕ) × ((strand_from k s n ≡ n ∷ ms) × AllIdle ms s)
-tail_idle zero s n = ([], (refl, tt))
-tail_idle (suc k) s n = (option_map_or (strand_from k s) (under_of n s) [], (refl, rest (under_of n s) refl))
+-- ---- No thread runs or is taken
+
+nobody_frame : (a : Scene) (b : Core) → a.runner ≡ None → ((m : ℕ) → a.turn ≡ turn.Run m → ⊥) → ((k : ℕ) → place_of k b ≡ place_of k a.base) → b.made.threads ≡ a.base.made.threads → All b → Frame a b (b.made.threads + 2) None
+nobody_frame a b none idle home made all = record {
+  follows = record {
+    busy = refl;
+    runs = λ m e. absurd (idle m e);
+    apart = by_number (b.made.threads + 2) (a.base.made.threads + 1) ((b.made.threads + 2 == a.base.made.threads + 1) ≡ false) (λ e. absurd (differ made e)) (λ e. e);
+    withdraws = λ m k is has unstarted. no_runner a m none is;
+    start = stand_of {P = watch a} (b.made.threads + 2) None b gone refl (λ k w. ap (is_so (watch a k)) (home k) ∙ so_self (place_of k a.base)) all;
+  };
+  home = home;
+  one = λ m is. no_runner a m none is;
+  there = λ m is. no_runner a m none is;
+  running = λ m e. absurd (idle m e);
+  rests = λ t w i. i (ap is_idle (sym (home (b.made.threads + 2)) ∙ gone));
+}
   where
-    rest : (o : Option ℕ) → under_of n s ≡ o → AllIdle (option_map_or (strand_from k s) o []) s
-    rest None e = tt
-    rest (Some m) e = strand_idle k s m (under_idle n m s e)
+    differ : {x y : ℕ} → x ≡ y → x + 2 ≡ y + 1 → ⊥
+    differ e g = omega (arith, e, g)
 
-struck_placed : (n : ℕ) (q : Place) (s : Core) → Stand n q [] s → All (struck n s)
-unfolding struck strand_of
-struck_placed n q s st =
-    let r = tail_idle (size s.threads) s n in
-    let own : times n (n ∷ []) ≡ 1 = ap (λ b. one_if b + 0) (eq_refl n) in
-    let all : All (remove_threads (n ∷ r.0) s) = threads_removed r.0 (remove_thread n s) (all_idle_removed n r.0 s r.1.1) (loose_removed n s (st.loose n own) (λ k e. st.placed k (ap (λ b. one_if b + 0) e))) in
-    λ k. quiet_placed k (remove_threads (strand_from (size s.threads) s n) s) _ (set_trapped_untouched (remove_threads (strand_from (size s.threads) s n) s)) (subst (λ (l : List ℕ). All (remove_threads l s)) (sym r.1.0) all k)
+    above : {x : ℕ} → x + 2 ≤ x → ⊥
+    above g = omega (arith, g)
 
-threads_fresher : (ms : List ℕ) (s : Core) → Fresher s (remove_threads ms s)
-threads_fresher [] s = fresher_same s
-threads_fresher (m ∷ ms) s = fresher_after s (remove_thread m s) (remove_threads ms (remove_thread m s)) (removed_fresher m s) (threads_fresher ms (remove_thread m s))
+    gone : place_of (b.made.threads + 2) b ≡ None
+    gone = ungiven (b.made.threads + 2) b above (all (b.made.threads + 2))
 
-struck_fresher : (n : ℕ) (s : Core) → Fresher s (struck n s)
-unfolding struck
-struck_fresher n s =
-    let r = remove_threads (strand_of n s) s in
-    fresher_after s r (set_trapped r) (threads_fresher (strand_of n s) s) (fresher_quiet r (set_trapped r) (set_trapped_untouched r))
+-- ---- A thread runs
 
-struck_all : {base : Core} (n : ℕ) (q : Place) (s : Core) → Standing base n q s → Kept base (struck n s)
-struck_all {base = base} n q s st = record { each = struck_placed n q s st.stand; fresh = fresher_after base s (struck n s) st.fresh (struck_fresher n s) }
+follows_at : (a : Scene) (n : ℕ) (p : Place) → place_of n a.base ≡ Some p → is_busy (Some p) ≡ true → is_idle (Some p) ≡ true → is_fresh (Some p) ≡ false → Withdrawable a → All a.base → Follows a a.base n (Some p)
+follows_at a n p at busy idle unfresh may all = record {
+  busy = busy;
+  runs = λ m e. (idle, unfresh);
+  apart = by_number n (a.base.made.threads + 1) ((n == a.base.made.threads + 1) ≡ false) (λ e. absurd (above e ((all n).number (ap (λ (o : Option Place). is_some o) at)))) (λ e. e);
+  withdraws = may;
+  start = stand_of {P = watch a} n (Some p) a.base at idle (λ k w. so_self (place_of k a.base)) all;
+}
+  where
+    above : {x y : ℕ} → x ≡ y + 1 → x ≤ y → ⊥
+    above e g = omega (arith, e, g)
 
--- ---- Where a step lands
+running_frame : (a : Scene) (n : ℕ) → a.runner ≡ Some n → a.turn ≡ turn.Run n → place_of n a.base ≡ Some place.Running → Withdrawable a → All a.base → Frame a a.base n (Some place.Running)
+running_frame a n is runs at may all = record {
+  follows = follows_at a n place.Running at refl refl refl may all;
+  home = λ k. refl;
+  one = λ m e. same m e;
+  there = λ m e. (place.Running, (refl, refl));
+  running = λ m e. (ap (λ (u : Turn). number_in u) (sym e ∙ runs), refl);
+  rests = λ t w i. i (ap is_idle at);
+}
+  where
+    same : (m : ℕ) → IsRunner a m → m ≡ n
+    same m e = ap (λ (o : Option ℕ). unwrap_or o m) (sym e ∙ is)
 
-abbrev is_run : Turn → Bool
-is_run (turn.Run n) = true
-is_run _ = false
+    number_in : Turn → ℕ
+    number_in (turn.Run k) = k
+    number_in _ = n
 
-abbrev pub is_turn_of : ℕ → Turn → Bool
-is_turn_of k (turn.Run n) = k == n
-is_turn_of k _ = false
+-- ---- A thread is taken
 
--- Each thread has its place, and the one whose turn it is runs; what waited for its start in the base still does, or has its turn, and then its start has run.
-pub record Lands (base s : Core) (u : Turn) : Type 0 where
-  pub each : All s
-  pub runs : (n : ℕ) → u ≡ turn.Run n → place_of n s ≡ Some place.Running
-  pub fresh : (k : ℕ) → is_turn_of k u ≡ false → is_fresh (place_of k base) ≡ true → is_fresh (place_of k s) ≡ true
-  pub begun : (k : ℕ) → is_turn_of k u ≡ true → is_fresh (place_of k base) ≡ true → is_starting k s ≡ false
+popped_same : (x : Mark) (s : Core) → ((k : ℕ) → place_of k s ≡ place_of k (popped x s)) × (s.made.threads ≡ (popped x s).made.threads)
+unfolding popped set_switch set_high set_low
+popped_same mark.Switch s = (λ k. refl, refl)
+popped_same mark.High s = (λ k. refl, refl)
+popped_same mark.Low s = (λ k. refl, refl)
 
-abbrev runner : Turn → ℕ
-runner (turn.Run n) = n
-runner _ = 0
+taken_frame : (a : Scene) (x : Mark) (n : ℕ) (s : Core) → a.runner ≡ Some n → ((m : ℕ) → a.turn ≡ turn.Run m → ⊥) → is_take a.turn ≡ true → a.base ≡ popped x s → First x (entry.Thread n) s → Withdrawable a → All s → (p : Place) × Frame a a.base n (Some p)
+taken_frame a x n s is idle take base first may all = (
+  place.Ready r.0 r.1.0,
+  record {
+    follows = record {
+      busy = refl;
+      runs = λ m e. absurd (idle m e);
+      apart = by_number n (a.base.made.threads + 1) ((n == a.base.made.threads + 1) ≡ false) (λ e. absurd (above (e ∙ ap (λ (k : ℕ). k + 1) (ap (λ (c : Core). c.made.threads) base ∙ sym (popped_same x s).1)) ((all n).number (ap (λ (o : Option Place). is_some o) r.1.1)))) (λ e. e);
+      withdraws = may;
+      start = subst (λ (b : Core). Stand (watch a) n (Some (place.Ready r.0 r.1.0)) [] b) (sym base) (record {
+        here = c.places n ∙ r.1.1;
+        once = λ k. at_most (k == n);
+        loose = λ k h. by_number k n (Loose k (popped x s)) (λ e. subst (λ (j : ℕ). Loose j (popped x s)) (sym e) (c.own (λ f. ap (says (is_behind_of f)) r.1.1))) (λ e. zero_one (no_time k n e) h);
+        there = λ k h. zero_one refl h;
+        placed = λ k h. left_placed k s (popped x s) (c.left k (apart_of (k == n) h)) (c.places k) (all k);
+        kept = λ k w. (refl, ap (λ (b : Core). is_so (watch a k) (place_of k b)) (sym base) ∙ so_self (place_of k a.base));
+      });
+    };
+    home = λ k. refl;
+    one = λ m e. ap (λ (o : Option ℕ). unwrap_or o m) (sym e ∙ is);
+    there = λ m e. (place.Ready r.0 r.1.0, (refl, refl));
+    running = λ m e. absurd (idle m e);
+    rests = λ t w i. w.laid n is take;
+  },
+)
+  where
+    c : Cleared n s (popped x s)
+    c = (popped_cleared x n s first (all n)).0
 
-of_no_thread : (k : ℕ) (u : Turn) → is_run u ≡ false → is_turn_of k u ≡ false
-of_no_thread k (turn.Run n) h = absurd (subst T h tt)
-of_no_thread k turn.Main h = refl
-of_no_thread k (turn.Futures n) h = refl
-of_no_thread k (turn.Take ended) h = refl
-of_no_thread k turn.Over h = refl
+    r : ReadyAt (place_of n s)
+    r = entry_ready n s (all n) (popped_cleared x n s first (all n)).1
 
-no_turn : (k : ℕ) (u : Turn) → is_run u ≡ false → is_turn_of k u ≡ true → ⊥
-no_turn k u h e = subst T (sym e ∙ of_no_thread k u h) tt
+    above : {x y : ℕ} → x ≡ y + 1 → x ≤ y → ⊥
+    above e g = omega (arith, e, g)
+
+    at_most : (b : Bool) → one_if b + 0 ≤ 1
+    at_most true = omega arith
+    at_most false = omega arith
+
+    apart_of : (b : Bool) → one_if b + 0 ≡ 0 → b ≡ false
+    apart_of false h = refl
+    apart_of true h = zero_one h refl
+
+-- ---- A step
+
+module _ (x : Setting) (s : State) (l : Label) (next : Turn) (h : InPlace s) where
+  abbrev at : Turn → Core → Option ℕ → Scene
+  at u base o = record { setting = x; main = s.main; turn = u; base = base; runner = o; label = l; next = next }
+
+  not_running : (u : Turn) → is_run u ≡ false → (m : ℕ) → u ≡ turn.Run m → ⊥
+  not_running u idle m e = subst T (sym (sym idle ∙ ap is_run e)) tt
+
+  nobody : (u : Turn) (base : Core) {t : Core} → is_run u ≡ false → ((k : ℕ) → place_of k s.core ≡ place_of k base) → s.core.made.threads ≡ base.made.threads → Trip (at u base None) s.core t → LastWords (at u base None) t → Arrives (at u base None) t
+  nobody u base idle home made c w = trip_arrives (nobody_frame (at u base None) s.core refl (not_running u idle) home made h.placed) c w
+
+  by_entry : (ended : Bool) (o : Option (Mark × Entry)) {t : Core} → next_entry s.core ≡ o → Withdrawable (at (turn.Take ended) (base_without o s.core) (thread_of_entry o)) → Trip (at (turn.Take ended) (base_without o s.core) (thread_of_entry o)) (start_of (at (turn.Take ended) (base_without o s.core) (thread_of_entry o)) s.core) t → LastWords (at (turn.Take ended) (base_without o s.core) (thread_of_entry o)) t → Arrives (at (turn.Take ended) (base_without o s.core) (thread_of_entry o)) t
+  by_entry ended None e may c w = nobody (turn.Take ended) s.core refl (λ k. refl) refl c w
+  by_entry ended (Some (y, entry.Push i)) e may c w = nobody (turn.Take ended) (popped y s.core) refl (popped_same y s.core).0 (popped_same y s.core).1 c w
+  by_entry ended (Some (y, entry.Host i)) e may c w = nobody (turn.Take ended) (popped y s.core) refl (popped_same y s.core).0 (popped_same y s.core).1 c w
+  by_entry ended (Some (y, entry.Thread n)) e may c w =
+      trip_arrives (taken_frame (at (turn.Take ended) (popped y s.core) (Some n)) y n s.core refl (not_running (turn.Take ended) refl) refl refl (next_first s.core y (entry.Thread n) e) may h.placed).1 c w
+
+  by_turn : (u : Turn) {t : Core} → s.turn ≡ u → Withdrawable (at u (base_at u s.core) (runner_at u s.core)) → Trip (at u (base_at u s.core) (runner_at u s.core)) (start_of (at u (base_at u s.core) (runner_at u s.core)) s.core) t → LastWords (at u (base_at u s.core) (runner_at u s.core)) t → Arrives (at u (base_at u s.core) (runner_at u s.core)) t
+  by_turn turn.Main e may c w = nobody turn.Main s.core refl (λ k. refl) refl c w
+  by_turn (turn.Futures n) e may c w = nobody (turn.Futures n) s.core refl (λ k. refl) refl c w
+  by_turn turn.Over e may c w = nobody turn.Over s.core refl (λ k. refl) refl c w
+  by_turn (turn.Run n) e may c w = trip_arrives (running_frame (at (turn.Run n) s.core (Some n)) n refl refl (h.runs n e) may h.placed) c w
+  by_turn (turn.Take ended) e may c w = by_entry ended (next_entry s.core) refl may c w
+
+pub step_arrives : (x : Setting) (s : State) (l : Label) (t : State) (w : Walked x s l t) → InPlace s → Withdrawable (scene_of x s l w.next) → Arrives (scene_of x s l w.next) t.core
+step_arrives x s l t w h may = by_turn x s l w.next h s.turn refl may w.trip w.ends
+
+-- ---- The turn
 
 take_still : (a b : Bool) → is_run (settled_take a b) ≡ false
 take_still true true = refl
 take_still true false = refl
 take_still false b = refl
 
-futures_still : (n : ℕ) (s : Core) (o : Option ℕ) → is_run (settled_futures n s o) ≡ false
-futures_still n s (Some i) = refl
-futures_still n s None = take_still false (nothing_stands s)
+settled_run : (s : Core) (u : Turn) (m : ℕ) → settled_turn s u ≡ turn.Run m → u ≡ turn.Run m
+settled_run s (turn.Run n) m e = e
+settled_run s turn.Main m e = e
+settled_run s turn.Over m e = e
+settled_run s (turn.Take ended) m e = no_way (sym (take_still ended (nothing_stands s)) ∙ ap is_run e)
+settled_run s (turn.Futures n) m e = no_way (sym (futures (next_polled n s)) ∙ ap is_run e)
+  where
+    futures : (o : Option ℕ) → is_run (settled_futures n s o) ≡ false
+    futures (Some i) = refl
+    futures None = take_still false (nothing_stands s)
 
--- what is known of each thread that is there
-abbrev pub AllOwned : Core → Type 0
-AllOwned s = (n : ℕ) (p : Place) → place_of n s ≡ Some p → Owned n s
-
-popped_place : (n : ℕ) (m : Mark) (s : Core) → place_of n (popped m s) ≡ place_of n s
-unfolding popped set_switch set_high set_low
-popped_place n mark.Switch s = refl
-popped_place n mark.High s = refl
-popped_place n mark.Low s = refl
-
-abbrev pub KeepsMain : Core → MainProgress → Type 0
-KeepsMain base (Does l new) = Kept base new
-KeepsMain base Pends = Unit {0}
-KeepsMain base (Answers v) = Unit {0}
-
-module _ {base : Core} where
-  lands_still : (s : Core) (u : Turn) → is_run u ≡ false → Kept base s → Lands base s u
-  lands_still s u h all = record {
-    each = all.each;
-    runs = λ n e. absurd (subst T (sym (ap is_run e) ∙ h) tt);
-    fresh = λ k e f. all.fresh k f;
-    begun = λ k e f. absurd (no_turn k u h e);
-  }
-
-  lands_is : (t u : State) → t ≡ u → Lands base u.core u.turn → Lands base t.core t.turn
-  lands_is t u is k = subst (λ (v : State). Lands base v.core v.turn) (sym is) k
-
-  lands_run : (m : ℕ) (s : Core) → Going base m s → Lands base s (turn.Run m)
-  lands_run m s r = record {
-    each = all_of m place.Running s refl r.stand;
-    runs = λ n e. ap (λ (j : ℕ). place_of j s) (sym (ap runner e)) ∙ r.stand.here;
-    fresh = r.fresh;
-    begun = λ k e f. subst (λ (j : ℕ). is_starting j s ≡ false) (sym (is_eq_of k m e)) (r.begun (subst (λ (j : ℕ). is_fresh (place_of j base) ≡ true) (is_eq_of k m e) f));
-  }
-
-  progresses_land : (s : State) (b : Core) (n : ℕ) (p : Progress) (l : Label) (t : State) → Stays base p → Kept base (struck n b) → Progresses s b n p l t → Lands base t.core t.turn
-  unfolding at_turn
-  progresses_land s b n (Goes label new m) l t k dead is = lands_is t _ is.1 (lands_run m new k)
-  progresses_land s b n (Stops label new) l t k dead is = lands_is t _ is.1 (lands_still new turn.Main refl k)
-  progresses_land s b n (Traps trap) l t k dead is = lands_is t _ is.1 (lands_still (struck n b) turn.Over refl dead)
-  progresses_land s b n (Fails i) l t k dead is = lands_is t _ is.1 (lands_still (struck n b) turn.Over refl dead)
-  progresses_land s b n Never l t k dead is = absurd is
-  progresses_land s b n (Ordered ns next) l t k dead is = progresses_land s b n (next is.0) l t (k is.0) dead is.1.1
-
-  -- ---- Takings
-
-  thread_lands : (s : State) (m : Mark) (n : ℕ) (ch : Choice) → Front s.core.queues.switch s.core.queues.high s.core.queues.low m (entry.Thread n) → AllOwned s.core → Kept base s.core → (o : Option Place) → place_of n (popped m s.core) ≡ o → (l : Label) (t : State) → Progresses s (popped m s.core) n (thread_taken m n ch (popped m s.core) o) l t → Lands base t.core t.turn
-  thread_lands s m n ch f owned all (Some (place.Ready x w)) e l t is = let st = popped_stand m n (place.Ready x w) s.core f e all in progresses_land s (popped m s.core) n _ l t (taken_for_stays n x m ch (popped m s.core) (owned_popped n m s.core (owned n (place.Ready x w) (sym (popped_place n m s.core) ∙ e))) w st) (struck_all n (place.Ready x w) (popped m s.core) st) is
-  thread_lands s m n ch f owned all None e l t is = absurd is
-  thread_lands s m n ch f owned all (Some place.New) e l t is = absurd is
-  thread_lands s m n ch f owned all (Some place.Running) e l t is = absurd is
-  thread_lands s m n ch f owned all (Some (place.Under c)) e l t is = absurd is
-  thread_lands s m n ch f owned all (Some (place.Behind c)) e l t is = absurd is
-  thread_lands s m n ch f owned all (Some (place.Waiting y b)) e l t is = absurd is
-  thread_lands s m n ch f owned all (Some (place.Blocked c)) e l t is = absurd is
-  thread_lands s m n ch f owned all (Some (place.Held c)) e l t is = absurd is
-  thread_lands s m n ch f owned all (Some place.Suspended) e l t is = absurd is
-
-  host_lands : (s : State) (b : Core) (i : ℕ) (c : Bool) (x : Label) (new : Core) (l : Label) (t : State) → (c ≡ true → Kept base new) → Progresses s b i (may c (Stops x new)) l t → Lands base t.core t.turn
-  unfolding at_turn
-  host_lands s b i true x new l t k is = lands_is t _ is.1 (lands_still new turn.Main refl (k refl))
-  host_lands s b i false x new l t k is = absurd is
-
-  entry_lands : (s : State) (m : Mark) (e : Entry) (ch : Choice) → Front s.core.queues.switch s.core.queues.high s.core.queues.low m e → AllOwned s.core → Kept base s.core → (l : Label) (t : State) → Progresses s (popped m s.core) (entry_number e) (take_row m ch (popped m s.core) e) l t → Lands base t.core t.turn
-  unfolding at_turn
-  entry_lands s m (entry.Thread n) ch f owned all l t is = thread_lands s m n ch f owned all (place_of n (popped m s.core)) refl l t is
-  entry_lands s m (entry.Push i) ch f owned all l t is = lands_is t _ is.1 (lands_still _ turn.Main refl (quiet_all (popped m s.core) _ (pushed_untouched i (popped m s.core)) (popped_all m (entry.Push i) s.core (λ k. refl) f all)))
-  entry_lands s m (entry.Host i) ch f owned all l t is = host_lands s (popped m s.core) i _ _ _ l t (λ h. host_done_all i ch.woken (popped m s.core) h (popped_all m (entry.Host i) s.core (λ k. refl) f all)) is
-
-  -- ---- Works
-
-  followed_all : (f : WorkCaller) (i : ℕ) (s : Core) → Kept base s → Kept base (followed f i s)
-  followed_all work_caller.Spawn i s all = quiet_all s _ (set_stage_untouched i stage.Ended s) all
-  followed_all (work_caller.Async n to) i s all = pushed_all (entry.Host i) _ (λ k. refl) (quiet_all s _ (set_stage_untouched i stage.Finishing s) all)
-  followed_all (work_caller.Sync n) i s all = let u = set_stage_untouched i stage.Ended s in unblocked_all (subtask.Host i) s _ u (blocked_on (subtask.Host i) s) refl (quiet_all s _ u all)
-
-  poll_ends_all : (i : ℕ) (v : Option ℕ) (s : Core) → Kept base s → Kept base (poll_ends i v s)
-  unfolding poll_ends
-  poll_ends_all i v s all =
-      let a = set_course i (course_for v) s in
-      followed_all (work_caller_of i s) i _ (quiet_all s _ (untouched_after (set_course_untouched i (course_for v) s) (set_phase_untouched i phase.Complete a)) all)
-
-  polled_lands : (s : State) → Kept base s.core → (i : ℕ) (p : Poll) (l : Label) (t : State) → Polled s i p l t → Lands base t.core t.turn
-  unfolding at_turn
-  polled_lands s all i (StillPends host) l t is = lands_is t _ is.1 (lands_still (poll_pends i host s.core) (settled_futures i (poll_pends i host s.core) (next_polled i (poll_pends i host s.core))) (futures_still i (poll_pends i host s.core) (next_polled i (poll_pends i host s.core))) (quiet_all s.core _ (poll_pends_untouched i host s.core) all))
-  polled_lands s all i (Ends v) l t is = lands_is t _ is.1 (lands_still (poll_ends i v s.core) (settled_take true (nothing_stands (poll_ends i v s.core))) (take_still true (nothing_stands (poll_ends i v s.core))) (poll_ends_all i v s.core all))
-  polled_lands s all i FailsNow l t is = lands_is t _ is.1 (lands_still _ turn.Over refl (quiet_all s.core _ (set_trapped_untouched s.core) all))
-
-  futures_land : (s : State) → Kept base s.core → (o : Option ℕ) (l : Label) (t : State) → FuturesStep s o l t → Lands base t.core t.turn
-  futures_land s all None l t is = absurd is
-  futures_land s all (Some i) l t is = polled_lands s all i (poll_of i s.core) l t is
-
-  rest_lands : (s : State) → Kept base s.core → (b : Bool) (l : Label) (t : State) → RestStep s b l t → Lands base t.core t.turn
-  unfolding at_turn
-  rest_lands s all true l t is = lands_is t _ is.1 (lands_still s.core turn.Main refl all)
-  rest_lands s all false l t is = absurd is
-
-  deadlock_lands : (s : State) → Kept base s.core → (b : Bool) (l : Label) (t : State) → DeadlockStep s b l t → Lands base t.core t.turn
-  unfolding at_turn
-  deadlock_lands s all true l t is = lands_is t _ is.1 (lands_still _ turn.Over refl (quiet_all s.core _ (set_trapped_untouched s.core) all))
-  deadlock_lands s all false l t is = absurd is
-
-  -- ---- Main
-
-  main_started_all : (c : Component) (e : Callee) (words : List ℕ) (s : Core) → Unused s → Kept base s → Kept base (main_started c e words s)
-  unfolding main_started call_made add_call add_group
-  main_started_all c e words s none all =
-      let g = add_group s in
-      let k = next_thread s in
-      let b = add_call k (new_call caller.Main e (export_kind c e) goal.Main (s.made.groups + 1)) g in
-      let u = untouched_after (add_group_untouched s) (add_call_untouched k (new_call caller.Main e (export_kind c e) goal.Main (s.made.groups + 1)) g) in
-      high_all k why.Start place.New _ (added_here b _) refl refl (added_all _ b refl none (quiet_all s b u all))
-
-  start_act_keeps : (c : Component) (k : ℕ) (e : Callee) (ws : List ℕ) (s : Core) → Unused s → Kept base s → (o : Option Trap) → KeepsMain base (start_act c k e ws s o)
-  start_act_keeps c k e ws s none all None = main_started_all c e ws s none all
-  start_act_keeps c k e ws s none all (Some t) = quiet_all s _ (set_trapped_untouched s) all
-
-  finish_result_keeps : (k n : ℕ) (s : Core) → Kept base s → (o : Option ℕ) → KeepsMain base (finish_result k n s o)
-  finish_result_keeps k n s all None = tt
-  finish_result_keeps k n s all (Some v) = quiet_all s _ (take_result_untouched n s) all
-
-  finish_act_keeps : (k : ℕ) (s : Core) → Kept base s → (x : Started) → KeepsMain base (finish_act k s x)
-  finish_act_keeps k s all (Began n) = finish_result_keeps k n s all (get s.results n)
-  finish_act_keeps k s all (Refused t) = all
-
-  unless_pending_keeps : (b : Bool) (l : MainLabel) (s : Core) → Kept base s → KeepsMain base (unless_pending b l s)
-  unless_pending_keeps true l s all = all
-  unless_pending_keeps false l s all = tt
-
-  main_spawned_all : (c : Component) (h : ℕ) (s : Core) → Kept base s → Kept base (main_spawned c h s)
-  unfolding main_spawned work_queued
-  main_spawned_all c h s all = pushed_all (entry.Push (next_work s)) _ (λ k. refl) (quiet_all s _ (untouched_after (count_work_untouched s) (add_work_untouched (next_work s) (new_work work_caller.Spawn (host_at c h) None) (count_work s))) all)
-
-  main_row_keeps : (c : Component) (k : ℕ) (s : Core) → Unused s → Kept base s → (act : MainAct) → KeepsMain base (main_row c k s act)
-  main_row_keeps c k s none all (Start e ws) = start_act_keeps c k e ws s none all (start_refusal s)
-  main_row_keeps c k s none all (Finish x) = finish_act_keeps k s all x
-  main_row_keeps c k s none all (Spawn h) = main_spawned_all c h s all
-  main_row_keeps c k s none all (Abort i) = quiet_all s _ (main_aborted_untouched i s) all
-  main_row_keeps c k s none all (Await i) = unless_pending_keeps (is_complete (phase_of i s)) (main_label.Await k) s all
-  main_row_keeps c k s none all Quiet = unless_pending_keeps (not (has_interesting s)) main_label.Quiet s all
-  main_row_keeps c k s none all (Ready i) = unless_pending_keeps (is_ready_for_call i s) main_label.Ready s all
-  main_row_keeps c k s none all (Answer v) = tt
-
-  pends_land : (s : State) → Kept base s.core → (t : State) → t ≡ goes_to s s.core (turn.Futures 0) → Lands base t.core t.turn
-  unfolding at_turn
-  pends_land s all t is = lands_is t _ is (lands_still s.core (settled_futures 0 s.core (next_polled 0 s.core)) (futures_still 0 s.core (next_polled 0 s.core)) all)
-
-  main_progresses_land : (s : State) → Kept base s.core → (p : MainPlace) (o : MainOpDef) (r : MainProgress) (l : Label) (t : State) → KeepsMain base r → MainProgresses s p o r l t → Lands base t.core t.turn
-  unfolding at_turn
-  main_progresses_land s all p o (Does m new) l t k is = lands_is t _ is.1 (lands_still new turn.Main refl k)
-  main_progresses_land s all p o Pends l t k is = pends_land s all t is.1
-  main_progresses_land s all p o (Answers v) l t k is = lands_is t _ is.1 (lands_still s.core turn.Over refl all)
-
-  open_progresses_land : (s : State) → Kept base s.core → (r : MainProgress) (l : Label) (t : State) → KeepsMain base r → OpenProgresses s r l t → Lands base t.core t.turn
-  unfolding at_turn
-  open_progresses_land s all (Does m new) l t k is = lands_is t _ is.1 (lands_still new turn.Main refl k)
-  open_progresses_land s all Pends l t k is = absurd is
-  open_progresses_land s all (Answers v) l t k is = lands_is t _ is.1 (lands_still s.core turn.Over refl all)
-
--- ---- Steps
-
-module _ {base : Core} (x : Setting) where
-  script_step_lands : (s : State) → Unused s.core → Kept base s.core → (p : MainPlace) (o : Option MainOpDef) (l : Label) (t : State) → ScriptStep x s p o l t → Lands base t.core t.turn
-  script_step_lands s none all p None l t is = pends_land s all t is.1
-  script_step_lands s none all p (Some o) l t is = main_progresses_land s all p o _ l t (main_row_keeps x.component (line_of p o) s.core none all (act_of p o)) is
-
-  open_act_lands : (s : State) → Unused s.core → Kept base s.core → (l : Label) (t : State) → (k : ℕ) × ((act : MainAct) × OpenAct x s k act l t) → Lands base t.core t.turn
-  open_act_lands s none all l t h = open_progresses_land s all _ l t (main_row_keeps x.component h.0 s.core none all h.1.0) h.1.1.1
-
-  open_step_lands : (s : State) → Unused s.core → Kept base s.core → (l : Label) (t : State) → OpenStep x s l t → Lands base t.core t.turn
-  open_step_lands s none all (label.Loop loop_label.MainPends) t is = pends_land s all t is
-  open_step_lands s none all l t is = open_act_lands s none all l t is
-
-  main_step_lands : (s : State) → Unused s.core → Kept base s.core → (m : Main) (l : Label) (t : State) → MainStep x s m l t → Lands base t.core t.turn
-  main_step_lands s none all (Scripted p) l t is = script_step_lands s none all p (op_at x.script p) l t is
-  main_step_lands s none all Unscripted l t is = open_step_lands s none all l t is
-
-  empty_lands : (s : State) → Kept base s.core → (b : Bool) (l : Label) (t : State) → EmptyFor x s b l t → Lands base t.core t.turn
-  empty_lands s all true l t is = rest_lands s all _ l t is
-  empty_lands s all false l t is = deadlock_lands s all _ l t is
-
-  take_step_lands : (s : State) → AllOwned s.core → Kept base s.core → (o : Option (Mark × Entry)) → next_entry s.core ≡ o → (l : Label) (t : State) → TakeStep x s o l t → Lands base t.core t.turn
-  take_step_lands s owned all None at l t is = empty_lands s all _ l t is
-  take_step_lands s owned all (Some e) at l t is = entry_lands s e.0 e.1 (choice_of l) (next_front s.core e at) owned all l t is
-
-  run_step_lands : (s : State) → Unused s.core → Withdrawable s.core → (n : ℕ) → Runs base n s.core → (l : Label) (t : State) → Progresses s s.core n (did x.component n s.core (choice_of l)) l t → Lands base t.core t.turn
-  unfolding did
-  run_step_lands s none may_be n r l t is = progresses_land s s.core n _ l t (op_row_stays x.component n s.core none may_be r (choice_of l) (op_of x.component n s.core)) (struck_all n place.Running s.core r) is
-
-  pub turn_step_lands : (s : State) → Unused s.core → AllOwned s.core → Withdrawable s.core → Kept base s.core → (u : Turn) → ((n : ℕ) → u ≡ turn.Run n → place_of n s.core ≡ Some place.Running) → (l : Label) (t : State) → TurnStep x s u l t → Lands base t.core t.turn
-  turn_step_lands s none owned may_be all turn.Main runs l t is = main_step_lands s none all s.main l t is
-  turn_step_lands s none owned may_be all (turn.Futures n) runs l t is = futures_land s all (next_polled n s.core) l t is
-  turn_step_lands s none owned may_be all (turn.Take ended) runs l t is = take_step_lands s owned all (next_entry s.core) refl l t is
-  turn_step_lands s none owned may_be all (turn.Run n) runs l t is = run_step_lands s none may_be n (stand_of n place.Running s.core (runs n refl) refl all) l t is
-  turn_step_lands s none owned may_be all turn.Over runs l t is = absurd is
+pub in_place : (x : Setting) (s : State) (l : Label) (t : State) (w : Walked x s l t) → Arrives (scene_of x s l w.next) t.core → InPlace t
+in_place x s l t w r = record { placed = r.placed; runs = λ m e. r.runs m (settled_run t.core w.next m (sym w.turn ∙ e)) }

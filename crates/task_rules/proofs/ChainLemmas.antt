@@ -1,10 +1,14 @@
 -- What holds along a chain of words.
-use Rattle.std.proofs.Common.{inl}
+use Rattle.task_machine.specs.declared.words.Mark.TheVariants as mark
+use Rattle.task_machine.specs.declared.records.Place.TheVariants as place
+use Rattle.task_machine.specs.declared.records.HowFar.TheVariants as how_far
+use Rattle.std.specs.Prelude.{ℕ}
+use Rattle.std.proofs.Common.{inl, inr}
 use Rattle.task_machine.specs.Core.{Core}
-use Rattle.task_rules.specs.Allowed.{Allowed}
-use Rattle.task_rules.specs.Chains.{Chain, IsShift, NoWord, Shifts, Then, Walk}
+use Rattle.task_rules.specs.Allowed.{Allowed, Stays, IsSettling, IsFall, MayGo, MayLand, Departs, EndsOver}
+use Rattle.task_rules.specs.Chains.{Chain, IsShift, NoWord, Then, Walk, Stay, Trip, Remains, Lands, Settles, LandsAt, Quits, GoesBack, Collapses}
 use Rattle.task_rules.specs.Scenes.{Scene}
-use Rattle.task_rules.specs.Words.{Places, Word, after_word}
+use Rattle.task_rules.specs.Words.{Places, Word, after_word, Placing, Promote, SetUninteresting, RemoveThread, Pop, SetTrapped, RemoveCall, RemoveGroup, SetHowFar, Move, Put}
 
 module _ {may : Word → Core → Type 0} where
   -- what holds at first and is kept by each word holds at last
@@ -21,10 +25,48 @@ pub weaken : {may can : Word → Core → Type 0} → ((w : Word) (s : Core) →
 weaken f NoWord = NoWord
 weaken f (Then s w c ok) = Then s w (weaken f c) (f w s ok)
 
--- what other threads come to may be done in each scene
-pub shift_allowed : (a : Scene) (w : Word) (s : Core) → IsShift w s → Allowed a w s
-shift_allowed a (Places p) s ok = inl ok
-shift_allowed a _ s ok = absurd ok
+-- what may be done while the running thread stays may be done in the step
+stays_allowed : (a : Scene) (w : Word) (s : Core) → Stays a w s → Allowed a w s
+stays_allowed a (Places p) s (inl ok) = inl ok
+stays_allowed a (Places (Promote k)) s (inr ok) = inr ok
+stays_allowed a (Places _) s (inr ok) = absurd ok
+stays_allowed a (RemoveThread n) s ok = absurd ok
+stays_allowed a _ s ok = ok
 
-pub shifts_walk : {a : Scene} {b t : Core} → Shifts b t → Walk a b t
-shifts_walk {a = a} c = weaken (shift_allowed a) c
+land_allowed : (a : Scene) (p : Placing) (s : Core) → MayLand a p s → Allowed a (Places p) s
+land_allowed a (Pop m) s ok = absurd ok
+land_allowed a (Promote k) s ok = absurd ok
+land_allowed a (Put mark.Switch n w) s ok = absurd ok
+land_allowed a _ s ok = inr ok
+
+pub shift_stays : (a : Scene) (w : Word) (s : Core) → IsShift w s → Stays a w s
+shift_stays a (Places p) s ok = inl ok
+shift_stays a _ s ok = absurd ok
+
+pub settle_stays : (a : Scene) (w : Word) (s : Core) → IsSettling w s → Stays a w s
+settle_stays a (SetUninteresting k) s ok = tt
+settle_stays a (RemoveCall k) s ok = ok
+settle_stays a (RemoveGroup g) s ok = ok
+settle_stays a _ s ok = absurd ok
+
+fall_allowed : (a : Scene) (w : Word) (s : Core) → IsFall a w s → Allowed a w s
+fall_allowed a (RemoveThread n) s ok = ok
+fall_allowed a SetTrapped s ok = tt
+fall_allowed a _ s ok = absurd ok
+
+-- all words of a trip
+module _ {a : Scene} {b : Core} where
+  pub stay_walk : {t : Core} → Stay a b t → Walk a b t
+  stay_walk c = weaken (stays_allowed a) c
+
+  gone_walk : {s t : Core} (n : ℕ) → Stay a b s → MayGo a n s → Settles (after_word (RemoveThread n) s) t → Walk a b t
+  gone_walk {s = s} n c go d = join (Then s (RemoveThread n) (stay_walk c) go) (weaken (λ w u ok. stays_allowed a w u (settle_stays a w u ok)) d)
+
+  pub trip_walk : {t : Core} → Trip a b t → Walk a b t
+  trip_walk (Remains t c still) = stay_walk c
+  trip_walk (Lands s p c ok) = Then s (Places p) (stay_walk c) (land_allowed a p s ok)
+  trip_walk (LandsAt s p n h c ok comes) = Then (after_word (Places p) s) (SetHowFar n h) (Then s (Places p) (stay_walk c) (land_allowed a p s ok)) comes
+  trip_walk (Quits s t n c leave d) = gone_walk n c (Departs leave) d
+  trip_walk (GoesBack s t n m v c is runs to under d ok) =
+      Then (after_word (Places (Move m place.Running)) t) (SetHowFar m (how_far.Answered v)) (Then t (Places (Move m place.Running)) (gone_walk n c (EndsOver m is to under) d) (inr ok)) (n, (is, (to, under)))
+  trip_walk (Collapses t over c) = weaken (fall_allowed a) c

@@ -1,313 +1,317 @@
--- A check after a release and a stop, told on the state before.
-use Rattle.std.proofs.Common.{◌∙◌, T, ap, ap₂, arith, cond, refl, subst, sym}
-use Rattle.std.proofs.lemmas.List.Sorted.{All-permutation, length_permutation}
+-- Checks after other moves: after a release and a stop, told on the state before, and after a return.
+use Rattle.std.proofs.Common.{◌∙◌, ap, arith, cond, refl, subst, sym}
+use Rattle.std.proofs.Math.Bool.{or-false}
+use Rattle.std.proofs.lemmas.Bool.{not-true}
+use Rattle.std.proofs.lemmas.Bool.Decides.{nat_tests}
+use Rattle.std.proofs.lemmas.List.Elements.{filter_passes}
+use Rattle.std.proofs.lemmas.List.Folds.{list_any-append}
+use Rattle.std.proofs.lemmas.List.Sorted.{All-permutation, length_permutation, list_any-IsPermutation}
 use Rattle.std.specs.List.{list_any}
 use Rattle.std.specs.Option.{option_map_or}
-use Rattle.std.specs.Prelude.{All, Bool, IsPermutation, List, None, Option, Some, [], false, filter, find, is_some, length, not, option_and_then, option_map, slice_index_or, suc, true, unwrap_or, zero, ℕ, ◌&&◌, ◌++◌, ◌<◌, ◌==◌, ◌||◌, ◌∷◌, ◌≡◌}
-use Rattle.task_machine.specs.declared.records.Call.{Call}
+use Rattle.std.specs.Prelude.{All, Bool, IsPermutation, List, None, Option, Some, [], false, find, is_some, length, not, option_map, true, ℕ, ◌&&◌, ◌==◌, ◌||◌, ◌∷◌, ◌≡◌, if◌then◌else◌}
 use Rattle.task_machine.specs.declared.records.Entry.{Entry}
-use Rattle.task_machine.specs.declared.records.Instance.{Instance}
 use Rattle.task_machine.specs.declared.records.Place.{Place}
 use Rattle.task_machine.specs.declared.records.Thread.{Thread}
 use Rattle.task_machine.specs.declared.records.Why.{Why}
 use Rattle.task_machine.specs.declared.records.Entry.TheVariants as entry
-use Rattle.task_machine.specs.declared.words.Mark.TheVariants as mark
 use Rattle.task_machine.specs.declared.records.Place.TheVariants as place
 use Rattle.task_machine.specs.declared.records.Why.TheVariants as why
-use Rattle.task_machine.proofs.MapLemmas.{change-field}
+use Rattle.task_machine.specs.declared.words.Mark.TheVariants as mark
+use Rattle.task_machine.proofs.CommuteLemmas.{get-change}
 use Rattle.task_machine.specs.Core.{Core}
-use Rattle.task_machine.specs.Maps.{Records, change, get, numbers}
-use Rattle.task_machine.specs.Moves.{behind, behind_one, displaced, first_entry, first_low, held_why_of, newest, older, passed_on, passes_check, put_high, put_switch, released, released_one, resumed_all, resumed_callers, stand, stopped, why_of}
-use Rattle.task_machine.specs.Read.{admits, admitted_held, callers_of, entry_thread, first_in, foot_of, instance_of, is_entry_in, is_held_admitted, is_nil, may_not_suspend, no_callee, task_of}
-use Rattle.task_machine.specs.Write.{on_instance, on_thread, push_high, push_high_first, set_callers, set_do_not_enter, set_place, set_switch}
-use Rattle.task_rules.specs.Ends.{code_stops, held_by_flag, end_reopens, passes_after_stop}
-use Rattle.task_rules.specs.Laws.{CallbackCheckIsAfter}
+use Rattle.task_machine.specs.Maps.{get, numbers, same_map}
+use Rattle.task_machine.specs.Moves.{behind, behind_one, first_entry, held_why_of, newest, older, passed_on, passes_check, put_high, put_switch, released, released_one, resumed_all, stopped, is_callback_waiter, may_publish, may_wake, may_wake_joined, published, unblocked, wake, wake_joined, waken_by}
+use Rattle.task_machine.specs.Read.{admitted_held, callers_of, first_in, foot_of, instance_of, is_entry_in, is_held_admitted, is_nil, may_not_suspend, blocked_on, caller_of, first_at, goal_of, has_waiter, is_at, is_waiting_on, join_of, register_of, task_of}
+use Rattle.task_machine.specs.Write.{on_instance, on_thread, push_high, set_callers, set_do_not_enter, set_place, set_switch, with_high, give_result, on_call, set_end, set_event, set_register, set_result}
+use Rattle.task_rules.proofs.StandLemmas.{set_place_is}
+use Rattle.task_rules.specs.Ends.{code_stops, end_reopens, held_by_flag, passes_after_stop, first_waiter, is_told, may_tell, passes_after_return, result_given, returned, told, waiter_told}
+use Rattle.task_rules.specs.Laws.{CallbackCheckIsAfter, BlockingCheckIsAfter}
+use Rattle.std.specs.FinMap.Entries.{find as seek}
+use Rattle.std.specs.Ordering.{nat_cmp}
+use Rattle.task_machine.specs.declared.records.Caller.{Caller}
+use Rattle.task_machine.specs.declared.records.Goal.{Goal}
+use Rattle.task_machine.specs.declared.records.Join.{Join}
+use Rattle.task_machine.specs.declared.words.Status.{Status}
+use Rattle.task_machine.specs.declared.records.CallEnd.TheVariants as call_end
+use Rattle.task_machine.specs.declared.records.Caller.TheVariants as caller
+use Rattle.task_machine.specs.declared.records.Delivery.TheVariants as delivery
+use Rattle.task_machine.specs.declared.records.Goal.TheVariants as goal
+use Rattle.task_machine.specs.declared.records.Join.TheVariants as join
+use Rattle.task_machine.specs.declared.records.Subtask.TheVariants as subtask
+use Rattle.task_machine.specs.declared.words.Status.TheVariants as status
 
--- ---- What the moves leave alone
+-- ---- A release, in any order
 
--- a reading that neither the places nor the marks nor the callers change
-module _ {X : Type 0} (p : Core → X) (at_place : (n : ℕ) (q : Place) (s : Core) → p (set_place n q s) ≡ p s) (at_high : (e : Entry) (s : Core) → p (push_high e s) ≡ p s) where
-  put_high_leaves : (n : ℕ) (w : Why) (s : Core) → p (put_high n w s) ≡ p s
-  unfolding put_high
-  put_high_leaves n w s = at_high (entry.Thread n) (stand n mark.High w s) ∙ at_place n (place.Ready mark.High w) s
+abbrev is_held : Core → ℕ → Bool
+is_held s n = is_some (held_why_of n s)
 
-  released_one_leaves : (n : ℕ) (o : Option Why) (s : Core) → p (released_one n o s) ≡ p s
-  released_one_leaves n None s = refl
-  released_one_leaves n (Some w) s = put_high_leaves n w s
+-- some entry at high passes
+abbrev any_high : (Entry → Bool) → Core → Bool
+any_high p s = list_any p s.queues.high
 
-  pub released_leaves : (ns : List ℕ) (s : Core) → p (released ns s) ≡ p s
-  unfolding released
-  released_leaves [] s = refl
-  released_leaves (n ∷ ns) s = released_leaves ns (released_one n (held_why_of n s) s) ∙ released_one_leaves n (held_why_of n s) s
+-- so does the entry that some held one of the threads would get
+abbrev any_held : (Entry → Bool) → Core → List ℕ → Bool
+any_held p s ns = list_any (λ n. is_held s n && p (entry.Thread n)) ns
 
-  resumed_all_leaves : (ns : List ℕ) (s : Core) → p (resumed_all ns s) ≡ p s
-  resumed_all_leaves [] s = refl
-  resumed_all_leaves (n ∷ ns) s = resumed_all_leaves ns (put_high n why.Resumption s) ∙ put_high_leaves n why.Resumption s
+-- a held thread comes to high
+abbrev let_go : Place → Place
+let_go (place.Held w) = place.Ready mark.High w
+let_go p = p
 
-  module _ (at_first : (e : Entry) (s : Core) → p (push_high_first e s) ≡ p s) (at_switch : (o : Option ℕ) (s : Core) → p (set_switch o s) ≡ p s) (at_callers : (n : ℕ) (ns : List ℕ) (s : Core) → p (set_callers n ns s) ≡ p s) where
-    displaced_leaves : (o : Option ℕ) (s : Core) → p (displaced o s) ≡ p s
-    displaced_leaves None s = refl
-    displaced_leaves (Some m) s = at_first (entry.Thread m) (stand m mark.High (why_of m s) s) ∙ at_place m (place.Ready mark.High (why_of m s)) s
+abbrev freed : Thread → Thread
+freed t = record t { place = let_go t.place }
 
-    put_switch_leaves : (n : ℕ) (w : Why) (s : Core) → p (put_switch n w s) ≡ p s
-    unfolding put_switch
-    put_switch_leaves n w s = at_switch (Some n) _ ∙ (at_place n (place.Ready mark.Switch w) (displaced s.queues.switch s) ∙ displaced_leaves s.queues.switch s)
+one_freed : (k n : ℕ) (s : Core) →
+    get (released_one n (held_why_of n s) s).threads k ≡ cond (k == n) (option_map freed (get s.threads k)) (get s.threads k)
+unfolding put_high push_high set_place on_thread
+one_freed k n s = grind (arith, nat_tests, get-change)
 
-    behind_leaves : (f : ℕ) (ns : List ℕ) (s : Core) → p (behind f ns s) ≡ p s
-    unfolding behind_one
-    behind_leaves f [] s = refl
-    behind_leaves f (n ∷ ns) s = behind_leaves f ns (behind_one f n s) ∙ (at_callers f _ _ ∙ at_place n (place.Behind f) s)
+released_threads : (k : ℕ) (ns : List ℕ) (s : Core) →
+    get (released ns s).threads k ≡ cond (list_any (λ n. k == n) ns) (option_map freed (get s.threads k)) (get s.threads k)
+unfolding released
+released_threads k [] s = refl
+released_threads k (n ∷ ns) s = grind (arith, released_threads k ns (released_one n (held_why_of n s) s), one_freed k n s)
 
-    resumed_callers_leaves : (ns : List ℕ) (s : Core) → p (resumed_callers ns s) ≡ p s
-    resumed_callers_leaves [] s = refl
-    resumed_callers_leaves (n ∷ ns) s = resumed_all_leaves (older n ns) _ ∙ put_switch_leaves (newest n ns) why.Resumption s
+-- one that is held is so after another's release, if the test can't tell
+held_still : (p : Entry → Bool) (n : ℕ) (w : Why) (ns : List ℕ) (s : Core) → p (entry.Thread n) ≡ false →
+    any_held p (put_high n w s) ns ≡ any_held p s ns
+unfolding put_high push_high set_place on_thread
+held_still p n w [] s off = refl
+held_still p n w (m ∷ ns) s off = grind (arith, nat_tests, set_place_is m n (place.Ready mark.High w) s, held_still p n w ns s off)
 
-    passed_on_leaves : (o : Option ℕ) (ns : List ℕ) (s : Core) → p (passed_on o ns s) ≡ p s
-    passed_on_leaves (Some m) ns s = behind_leaves (foot_of m s) ns s
-    passed_on_leaves None ns s = resumed_callers_leaves ns s
+any_released : (p : Entry → Bool) (ns : List ℕ) (s : Core) → any_high p (released ns s) ≡ (any_high p s || any_held p s ns)
+unfolding released put_high push_high set_place on_thread
+any_released p [] s = sym (or-false (any_high p s))
+any_released p (n ∷ ns) s =
+    grind (arith, any_released p ns (released_one n (held_why_of n s) s), list_any-append p s.queues.high (entry.Thread n ∷ []), held_still p n)
 
-    stopped_leaves : (f : ℕ) (s : Core) → p (stopped f s) ≡ p s
-    unfolding stopped
-    stopped_leaves f s = passed_on_leaves s.queues.switch (callers_of f s) (set_callers f [] s) ∙ at_callers f [] s
+-- From s to t only the order at high changes.
+record Reordered (s t : Core) : Type 0 where
+  pub only : t ≡ record s { queues = with_high t.queues.high s.queues }
+  pub any : (p : Entry → Bool) → any_high p t ≡ any_high p s
+
+-- s with the records and the entries at high that t has
+abbrev as_in : Core → Core → Core
+as_in t s = record s { threads = t.threads; queues = with_high t.queues.high s.queues }
+
+-- all else a release leaves
+released_only : (ns : List ℕ) (s : Core) → released ns s ≡ as_in (released ns s) s
+unfolding released put_high push_high set_place on_thread
+released_only [] s = refl
+released_only (n ∷ ns) s = by_why (held_why_of n s) (λ t. released_only ns t)
+  where
+    by_why : (o : Option Why) → ((t : Core) → released ns t ≡ as_in (released ns t) t) →
+        released ns (released_one n o s) ≡ as_in (released ns (released_one n o s)) s
+    by_why None rest = rest s
+    by_why (Some w) rest = rest (put_high n w s)
+
+release_reordered : (ms ns : List ℕ) (s : Core) → IsPermutation ms ns → Reordered (released ms s) (released ns s)
+release_reordered ms ns s perm = record {
+  only =
+      released_only ns s
+      ∙ (ap (λ m. record s { threads = m; queues = with_high (released ns s).queues.high s.queues }) (same_map _ _ same_at)
+      ∙ sym (ap (λ (c : Core). record c { queues = with_high (released ns s).queues.high c.queues }) (released_only ms s)));
+  any = λ p. grind (arith, any_released p ns s, any_released p ms s, any (λ n. is_held s n && p (entry.Thread n)));
+}
+  where
+    any : (test : ℕ → Bool) → list_any test ns ≡ list_any test ms
+    any test = sym (list_any-IsPermutation test ms ns perm)
+
+    same_at : (k : ℕ) → get (released ns s).threads k ≡ get (released ms s).threads k
+    same_at k = grind (arith, released_threads k ns s, released_threads k ms s, any (λ n. k == n))
+
+-- ---- What passes a check
+
+-- some entry of the list is of the instance
+abbrev any_in : ℕ → Core → List Entry → Bool
+any_in i s es = list_any (is_entry_in i s) es
+
+first_in_is : (i : ℕ) (s : Core) (es : List Entry) → is_some (first_in i s es) ≡ any_in i s es
+first_in_is i s [] = refl
+first_in_is i s (e ∷ es) = grind (arith, first_in_is i s es)
+
+passes_is : (i : ℕ) (s : Core) →
+    passes_check i s ≡
+    (not (may_not_suspend i s) || (is_some s.queues.switch || (any_in i s s.queues.high || any_in i s s.queues.low)))
+unfolding passes_check first_entry
+passes_is i s = grind (arith, first_in_is i s s.queues.high, first_in_is i s s.queues.low)
 
 -- ---- A stop
 
-place_switch : (n : ℕ) (q : Place) (s : Core) → (set_place n q s).queues.switch ≡ s.queues.switch
-unfolding set_place on_thread
-place_switch n q s = refl
+behind_switch : (f : ℕ) (ns : List ℕ) (s : Core) → (behind f ns s).queues.switch ≡ s.queues.switch
+unfolding behind_one set_callers set_place on_thread
+behind_switch f [] s = refl
+behind_switch f (n ∷ ns) s = behind_switch f ns (behind_one f n s)
 
-high_switch : (e : Entry) (s : Core) → (push_high e s).queues.switch ≡ s.queues.switch
-unfolding push_high
-high_switch e s = refl
-
-put_switch_stands : (n : ℕ) (w : Why) (s : Core) → (put_switch n w s).queues.switch ≡ Some n
-unfolding put_switch set_switch
-put_switch_stands n w s = refl
-
-callers_switch : (n : ℕ) (ns : List ℕ) (s : Core) → (set_callers n ns s).queues.switch ≡ s.queues.switch
-unfolding set_callers
-callers_switch n ns s = refl
-
-with_switch_passes : (i : ℕ) (s : Core) (n : ℕ) → s.queues.switch ≡ Some n → passes_check i s ≡ true
-unfolding passes_check
-with_switch_passes i s n is = by_switch (not (may_not_suspend i s)) (is_some (first_entry i s)) s.queues.switch is
-  where
-    by_switch : (a b : Bool) (o : Option ℕ) → o ≡ Some n → (a || (is_some o || b)) ≡ true
-    by_switch true b o e = refl
-    by_switch false b o e = rw e refl
-
-pub or_true_right : (a : Bool) → (a || true) ≡ true
-or_true_right true = refl
-or_true_right false = refl
-
-or_false_right : (a : Bool) → (a || false) ≡ a
-or_false_right true = refl
-or_false_right false = refl
-
-same_passes : (i f : ℕ) (ns : List ℕ) (s : Core) → passes_check i (set_callers f ns s) ≡ passes_check i s
-unfolding passes_check set_callers first_entry
-same_passes i f ns s = refl
-
-behind_switch_stays : (f : ℕ) (ns : List ℕ) (s : Core) → (behind f ns s).queues.switch ≡ s.queues.switch
-unfolding behind_one
-behind_switch_stays f [] s = refl
-behind_switch_stays f (n ∷ ns) s = behind_switch_stays f ns (behind_one f n s) ∙ (callers_switch f _ _ ∙ place_switch n (place.Behind f) s)
-
-callers_pass : (i f : ℕ) (s : Core) (o : Option ℕ) (ns : List ℕ) → s.queues.switch ≡ o → passes_check i (passed_on o ns (set_callers f [] s)) ≡ (passes_check i s || not (is_nil ns))
-callers_pass i f s (Some m) [] is = same_passes i f [] s ∙ sym (or_false_right (passes_check i s))
-callers_pass i f s None [] is = same_passes i f [] s ∙ sym (or_false_right (passes_check i s))
-callers_pass i f s (Some m) (n ∷ ns) is =
-    with_switch_passes i _ m (behind_switch_stays (foot_of m (set_callers f [] s)) (n ∷ ns) (set_callers f [] s) ∙ (callers_switch f [] s ∙ is)) ∙ sym (or_true_right (passes_check i s))
-callers_pass i f s None (n ∷ ns) is =
-    with_switch_passes i _ (newest n ns) (resumed_all_leaves (λ c. c.queues.switch) place_switch high_switch (older n ns) _ ∙ put_switch_stands (newest n ns) why.Resumption (set_callers f [] s))
-    ∙ sym (or_true_right (passes_check i s))
+resumed_switch : (ns : List ℕ) (s : Core) → (resumed_all ns s).queues.switch ≡ s.queues.switch
+unfolding put_high push_high set_place on_thread
+resumed_switch [] s = refl
+resumed_switch (n ∷ ns) s = resumed_switch ns (put_high n why.Resumption s)
 
 stop_passes : (i f : ℕ) (s : Core) → passes_check i (stopped f s) ≡ (passes_check i s || not (is_nil (callers_of f s)))
-unfolding stopped
-stop_passes i f s = callers_pass i f s s.queues.switch (callers_of f s) refl
+unfolding stopped passes_check set_callers first_entry put_switch set_switch
+stop_passes i f s = by_switch s.queues.switch (callers_of f s) refl
+  where
+    t : Core
+    t = set_callers f [] s
+
+    by_switch : (o : Option ℕ) (ns : List ℕ) → t.queues.switch ≡ o →
+        passes_check i (passed_on o ns t) ≡ (passes_check i s || not (is_nil ns))
+    by_switch (Some m) [] e = grind arith
+    by_switch None [] e = grind arith
+    by_switch (Some m) (n ∷ ns) e = grind (arith, behind_switch (foot_of m t) (n ∷ ns) t)
+    by_switch None (n ∷ ns) e = grind (arith, resumed_switch (older n ns) (put_switch (newest n ns) why.Resumption t))
 
 -- ---- A release
 
-pub map_or : {X Y : Type 0} (g : X → Y) (o : Option X) (d : Y) → option_map_or g o d ≡ unwrap_or (option_map g o) d
-map_or g None d = refl
-map_or g (Some x) d = refl
+released_instance : (m : ℕ) (ns : List ℕ) (s : Core) → instance_of m (released ns s) ≡ instance_of m s
+released_instance m ns s = grind (arith, released_threads m ns s, ap (λ (c : Core). c.calls) (released_only ns s))
 
-place_task : (m n : ℕ) (q : Place) (s : Core) → task_of m (set_place n q s) ≡ task_of m s
-unfolding set_place on_thread
-place_task m n q s =
-    map_or (λ t. t.call) (get (change n (λ t. record t { place = q }) s.threads) m) 0 ∙ (ap (λ o. unwrap_or o 0) (change-field (λ (t : Thread). t.call) n (λ t. record t { place = q }) (λ t. refl) s.threads m) ∙ sym (map_or (λ t. t.call) (get s.threads m) 0))
-
-pub place_calls : (n : ℕ) (q : Place) (s : Core) → (set_place n q s).calls ≡ s.calls
-unfolding set_place on_thread
-place_calls n q s = refl
-
-pub place_instance : (m n : ℕ) (q : Place) (s : Core) → instance_of m (set_place n q s) ≡ instance_of m s
-place_instance m n q s =
-    ap₂ (λ (cs : Records Call) (k : ℕ). (option_map_or (λ c. c.callee) (get cs k) no_callee).instance) (place_calls n q s) (place_task m n q s)
-
-pub high_instance : (m : ℕ) (e : Entry) (s : Core) → instance_of m (push_high e s) ≡ instance_of m s
-unfolding push_high
-high_instance m e s = refl
-
--- some entry of the list is of the instance
-abbrev pub any_in : ℕ → Core → List Entry → Bool
-any_in i s es = list_any (is_entry_in i s) es
-
-entry_in_is : (i : ℕ) (s t : Core) → ((m : ℕ) → instance_of m s ≡ instance_of m t) → (e : Entry) → is_entry_in i s e ≡ is_entry_in i t e
-entry_in_is i s t h (entry.Thread n) = ap (λ k. k == i) (h n)
-entry_in_is i s t h (entry.Push j) = refl
-entry_in_is i s t h (entry.Host j) = refl
-
-pub any_in_is : (i : ℕ) (s t : Core) → ((m : ℕ) → instance_of m s ≡ instance_of m t) → (es : List Entry) → any_in i s es ≡ any_in i t es
-any_in_is i s t h [] = refl
-any_in_is i s t h (e ∷ es) = ap₂ (λ (a b : Bool). a || b) (entry_in_is i s t h e) (any_in_is i s t h es)
-
-pub any_in-append : (i : ℕ) (s : Core) (es : List Entry) (e : Entry) → any_in i s (es ++ e ∷ []) ≡ (any_in i s es || is_entry_in i s e)
-any_in-append i s [] e = or_false_right (is_entry_in i s e)
-any_in-append i s (d ∷ es) e = ap (λ b. is_entry_in i s d || b) (any_in-append i s es e) ∙ or_assoc (is_entry_in i s d) (any_in i s es) (is_entry_in i s e)
-  where
-    or_assoc : (a b c : Bool) → (a || (b || c)) ≡ ((a || b) || c)
-    or_assoc true b c = refl
-    or_assoc false b c = refl
-
-first_found : (i : ℕ) (s : Core) (e : Entry) (es : List Entry) (b : Bool) → is_entry_in i s e ≡ b → is_some (first_in i s es) ≡ any_in i s es → is_some (option_and_then entry_thread (cond b (Some e) (find (is_entry_in i s) es))) ≡ (b || any_in i s es)
-first_found i s (entry.Thread n) es true is rest = refl
-first_found i s (entry.Push j) es true is rest = absurd (subst T (sym is) tt)
-first_found i s (entry.Host j) es true is rest = absurd (subst T (sym is) tt)
-first_found i s e es false is rest = rest
-
-pub first_in_is : (i : ℕ) (s : Core) (es : List Entry) → is_some (first_in i s es) ≡ any_in i s es
-first_in_is i s [] = refl
-first_in_is i s (e ∷ es) = first_found i s e es (is_entry_in i s e) refl (first_in_is i s es)
-
-high_first_passes : (i : ℕ) (s : Core) → any_in i s s.queues.high ≡ true → passes_check i s ≡ true
-unfolding passes_check first_entry
-high_first_passes i s h = by_first (not (may_not_suspend i s)) (is_some s.queues.switch) (first_in i s s.queues.high) (first_in_is i s s.queues.high ∙ h)
-  where
-    by_first : (a b : Bool) (o : Option ℕ) → is_some o ≡ true → (a || (b || is_some (first_low i s o))) ≡ true
-    by_first true b o e = refl
-    by_first false true o e = refl
-    by_first false false (Some n) e = refl
-    by_first false false None e = absurd (subst T (sym e) tt)
-
-pub put_high_high : (n : ℕ) (w : Why) (s : Core) → (put_high n w s).queues.high ≡ s.queues.high ++ entry.Thread n ∷ []
-unfolding put_high push_high set_place on_thread
-put_high_high n w s = refl
-
-pub put_high_instance : (n : ℕ) (w : Why) (s : Core) (m : ℕ) → instance_of m (put_high n w s) ≡ instance_of m s
-put_high_instance n w s m = put_high_leaves (instance_of m) (place_instance m) (high_instance m) n w s
-
-both_left : (a b : Bool) → (a && b) ≡ true → a ≡ true
-both_left true b h = refl
-both_left false b h = h
-
--- an entry of the instance at high stays there, as another is put there
-put_stays_high : (i n : ℕ) (w : Why) (s : Core) → any_in i s s.queues.high ≡ true → any_in i (put_high n w s) (put_high n w s).queues.high ≡ true
-put_stays_high i n w s h =
-    any_in_is i (put_high n w s) s (put_high_instance n w s) (put_high n w s).queues.high
-    ∙ (ap (any_in i s) (put_high_high n w s) ∙ (any_in-append i s s.queues.high (entry.Thread n) ∙ ap (λ b. b || is_entry_in i s (entry.Thread n)) h))
-
-one_stays_high : (i n : ℕ) (o : Option Why) (s : Core) → any_in i s s.queues.high ≡ true → any_in i (released_one n o s) (released_one n o s).queues.high ≡ true
-one_stays_high i n None s h = h
-one_stays_high i n (Some w) s h = put_stays_high i n w s h
-
-stays_high : (i : ℕ) (ns : List ℕ) (s : Core) → any_in i s s.queues.high ≡ true → any_in i (released ns s) (released ns s).queues.high ≡ true
+-- after the release of admitted threads a check passes
+release_passes : (i : ℕ) (ns : List ℕ) (s : Core) → All (λ n. is_held_admitted i s n (held_why_of n s) ≡ true) ns →
+    passes_check i (released ns s) ≡ (passes_check i s || not (is_nil ns))
 unfolding released
-stays_high i [] s h = h
-stays_high i (n ∷ ns) s h = stays_high i ns (released_one n (held_why_of n s) s) (one_stays_high i n (held_why_of n s) s h)
-
--- the released thread's entry is of its instance
-comes_high : (i n : ℕ) (w : Why) (s : Core) → (instance_of n s == i) ≡ true → any_in i (put_high n w s) (put_high n w s).queues.high ≡ true
-comes_high i n w s h =
-    any_in_is i (put_high n w s) s (put_high_instance n w s) (put_high n w s).queues.high
-    ∙ (ap (any_in i s) (put_high_high n w s) ∙ (any_in-append i s s.queues.high (entry.Thread n) ∙ (ap (λ b. any_in i s s.queues.high || b) h ∙ or_true_right (any_in i s s.queues.high))))
-
-one_comes_high : (i n : ℕ) (o : Option Why) (s : Core) → is_held_admitted i s n o ≡ true → any_in i (released_one n o s) (released_one n o s).queues.high ≡ true
-one_comes_high i n None s h = absurd (subst T (sym h) tt)
-one_comes_high i n (Some w) s h = comes_high i n w s (both_left (instance_of n s == i) (admits n s w) h)
-
-pub release_passes : (i : ℕ) (ns : List ℕ) (s : Core) → ((n : ℕ) (ms : List ℕ) → ns ≡ n ∷ ms → is_held_admitted i s n (held_why_of n s) ≡ true) → passes_check i (released ns s) ≡ (passes_check i s || not (is_nil ns))
-unfolding released
-release_passes i [] s h = sym (or_false_right (passes_check i s))
-release_passes i (n ∷ ns) s h =
-    high_first_passes i (released ns (released_one n (held_why_of n s) s)) (stays_high i ns (released_one n (held_why_of n s) s) (one_comes_high i n (held_why_of n s) s (h n ns refl)))
-    ∙ sym (or_true_right (passes_check i s))
+release_passes i [] s all = sym (or-false (passes_check i s))
+release_passes i (n ∷ ns) s all =
+    let t = released (n ∷ ns) s in
+    grind (arith, passes_is i t, all 0 0 (omega arith), released_instance n (n ∷ ns) s, any_released (is_entry_in i t) (n ∷ ns) s)
 
 -- ---- A callback's end
 
-pub enter_passes : (i : ℕ) (b : Bool) (s : Core) → passes_check i (set_do_not_enter i b s) ≡ passes_check i s
+enter_passes : (i : ℕ) (b : Bool) (s : Core) → passes_check i (set_do_not_enter i b s) ≡ passes_check i s
 unfolding passes_check first_entry set_do_not_enter on_instance
-enter_passes i b s =
-    ap (λ c. not c || (is_some s.queues.switch || is_some (first_entry i s)))
-    (map_or (λ r. r.do_not_suspend) (get (change i (λ r. record r { do_not_enter = b }) s.instances) i) false
-    ∙ (ap (λ o. unwrap_or o false) (change-field (λ (r : Instance). r.do_not_suspend) i (λ r. record r { do_not_enter = b }) (λ r. refl) s.instances i) ∙ sym (map_or (λ r. r.do_not_suspend) (get s.instances i) false)))
+enter_passes i b s = grind (arith, nat_tests, get-change)
 
-enter_callers : (i : ℕ) (b : Bool) (s : Core) → (set_do_not_enter i b s).callers ≡ s.callers
-unfolding set_do_not_enter on_instance
-enter_callers i b s = refl
-
-place_callers : (n : ℕ) (q : Place) (s : Core) → (set_place n q s).callers ≡ s.callers
-unfolding set_place on_thread
-place_callers n q s = refl
-
-high_callers : (e : Entry) (s : Core) → (push_high e s).callers ≡ s.callers
-unfolding push_high
-high_callers e s = refl
-
--- ---- The held threads are of the instance
-
-passed_one : (p : ℕ → Bool) (n : ℕ) (ns : List ℕ) (b : Bool) → p n ≡ b → ((k d : ℕ) → k < length (filter p ns) → p (slice_index_or (filter p ns) k d) ≡ true) → (j d : ℕ) → j < length (cond b (n ∷ filter p ns) (filter p ns)) → p (slice_index_or (cond b (n ∷ filter p ns) (filter p ns)) j d) ≡ true
-passed_one p n ns true e rest zero d g = e
-passed_one p n ns true e rest (suc j) d g = rest j d (below_too g)
-  where
-    below_too : suc j < suc (length (filter p ns)) → j < length (filter p ns)
-    below_too h = omega (arith, h)
-passed_one p n ns false e rest j d g = rest j d g
-
-passed : (p : ℕ → Bool) (ns : List ℕ) (k d : ℕ) → k < length (filter p ns) → p (slice_index_or (filter p ns) k d) ≡ true
-passed p [] k d h = absurd (not_below k h)
-  where
-    not_below : (j : ℕ) → j < 0 → ⊥
-    not_below j e = omega (arith, e)
-passed p (n ∷ ns) k d h = passed_one p n ns (p n) refl (passed p ns) k d h
-
-all_held : (i : ℕ) (s : Core) → All (λ n. is_held_admitted i s n (held_why_of n s) ≡ true) (admitted_held i s)
-unfolding admitted_held
-all_held i s k d h = passed (λ n. is_held_admitted i s n (held_why_of n s)) (numbers s.threads) k d h
-
-pub ordered_first : (i : ℕ) (s : Core) (order : List ℕ) → IsPermutation (admitted_held i s) order → (n : ℕ) (ms : List ℕ) → order ≡ n ∷ ms → is_held_admitted i s n (held_why_of n s) ≡ true
-ordered_first i s order perm n ms is =
-    subst (λ (ns : List ℕ). All (λ m. is_held_admitted i s m (held_why_of m s) ≡ true) ns) is (All-permutation (λ m. is_held_admitted i s m (held_why_of m s) ≡ true) (admitted_held i s) order perm (all_held i s)) 0 0 (zero_below (length ms))
-  where
-    zero_below : (j : ℕ) → 0 < suc j
-    zero_below j = omega arith
-
-pub same_nil : (xs ys : List ℕ) → length ys ≡ length xs → is_nil ys ≡ is_nil xs
-same_nil [] [] e = refl
-same_nil (x ∷ xs) (y ∷ ys) e = refl
-same_nil [] (y ∷ ys) e = absurd (no_suc (length ys) e)
-  where
-    no_suc : (j : ℕ) → suc j ≡ 0 → ⊥
-    no_suc j h = omega (arith, h)
-same_nil (x ∷ xs) [] e = absurd (no_suc (length xs) e)
-  where
-    no_suc : (j : ℕ) → 0 ≡ suc j → ⊥
-    no_suc j h = omega (arith, h)
+same_nil : (xs ys : List ℕ) → length ys ≡ length xs → is_nil ys ≡ is_nil xs
+same_nil xs ys e = grind arith
 
 pub callback_check : CallbackCheckIsAfter
-unfolding code_stops end_reopens held_by_flag passes_after_stop
+unfolding code_stops end_reopens held_by_flag passes_after_stop admitted_held set_do_not_enter on_instance
 callback_check n s order perm =
     let i = instance_of n s in
     let v = set_do_not_enter i false s in
-    stop_passes i (foot_of n s) (released order v)
-    ∙ (ap₂ (λ (a : Bool) (cs : Records (List ℕ)). a || not (is_nil (unwrap_or (get cs (foot_of n s)) [])))
-    (release_passes i order v (ordered_first i v order perm) ∙ ap₂ (λ (a b : Bool). a || not b) (enter_passes i false s) (same_nil (admitted_held i v) order (length_permutation (admitted_held i v) order perm)))
-    (released_leaves (λ c. c.callers) place_callers high_callers order v ∙ enter_callers i false s)
-    ∙ or_swap (passes_check i s) (not (is_nil (admitted_held i v))) (not (is_nil (callers_of (foot_of n s) s))))
+    let held = admitted_held i v in
+    let test : ℕ → Bool = λ m. is_held_admitted i v m (held_why_of m v) in
+    let all = All-permutation (λ m. test m ≡ true) held order perm (filter_passes test (numbers v.threads)) in
+    let stops = stop_passes i (foot_of n s) (released order v) in
+    let passes = release_passes i order v all in
+    let nil = same_nil held order (length_permutation held order perm) in
+    grind (arith, enter_passes i false s, ap (λ (c : Core). c.callers) (released_only order v))
+
+-- ---- The order at high
+
+abbrev at_high : List Entry → Core → Core
+at_high hs s = record s { queues = with_high hs s.queues }
+
+-- What f makes of cores that differ in the order at high differs in that alone.
+abbrev Follows : (Core → Core) → Type 0
+Follows f = (s : Core) (hs : List Entry) → ((p : Entry → Bool) → list_any p hs ≡ list_any p s.queues.high) →
+    Reordered (f s) (f (at_high hs s))
+
+carried : {f : Core → Core} → Follows f → (s t : Core) → Reordered s t → Reordered (f s) (f t)
+carried {f = f} h s t q = subst (λ c. Reordered (f s) (f c)) (sym q.only) (h s t.queues.high q.any)
+
+put_follows : (n : ℕ) (w : Why) → Follows (put_high n w)
+unfolding put_high push_high set_place on_thread
+put_follows n w s hs any =
+    let more = entry.Thread n ∷ [] in
+    record { only = refl; any = λ p. grind (arith, list_any-append p hs more, list_any-append p s.queues.high more, any p) }
+
+unblocked_follows : (o : Option ℕ) → Follows (unblocked o)
+unblocked_follows None s hs any = record { only = refl; any = any }
+unblocked_follows (Some n) s hs any = put_follows n why.Resumption s hs any
+
+wake_follows : (j : Join) (w : Option ℕ) → Follows (wake_joined j w)
+unfolding wake
+wake_follows (join.Set x) (Some n) s hs any = by_callback (is_callback_waiter n s)
   where
-    or_swap : (a b c : Bool) → ((a || b) || c) ≡ (a || (c || b))
-    or_swap true b c = refl
-    or_swap false true true = refl
-    or_swap false true false = refl
-    or_swap false false true = refl
-    or_swap false false false = refl
+    by_callback : (b : Bool) → Reordered (waken_by b x n s) (waken_by b x n (at_high hs s))
+    by_callback true = put_follows n (why.Delivery (delivery.Set x)) s hs any
+    by_callback false = put_follows n why.Resumption s hs any
+wake_follows (join.Set x) None s hs any = record { only = refl; any = any }
+wake_follows _ w s hs any = record { only = refl; any = any }
+
+told_follows : (k : ℕ) (e : Status) (w : Option ℕ) → Follows (told k e w)
+unfolding told published set_event on_call blocked_on
+told_follows k e w s hs any = by_told (is_told k s)
+  where
+    tell : Core → Core
+    tell t = published (subtask.Guest k) e w t
+
+    by_told : (b : Bool) → Reordered (if b then tell s else s) (if b then tell (at_high hs s) else at_high hs s)
+    by_told true =
+        let x = set_event (subtask.Guest k) (Some e) s in
+        carried (wake_follows (join_of (subtask.Guest k) s) w) _ _ (unblocked_follows (blocked_on (subtask.Guest k) s) x hs any)
+    by_told false = record { only = refl; any = any }
+
+given_follows : (g : Goal) (f : Caller) (k v : ℕ) → Follows (result_given g f k v)
+unfolding give_result set_register on_thread set_result on_call
+given_follows (goal.Register r) (caller.Thread n) k v s hs any = record { only = refl; any = any }
+given_follows (goal.Register r) caller.Main k v s hs any = record { only = refl; any = any }
+given_follows _ f k v s hs any = record { only = refl; any = any }
+
+returned_follows : (k v : ℕ) (w : Option ℕ) → Follows (returned k v w)
+unfolding returned set_end on_call
+returned_follows k v w s hs any =
+    carried (told_follows k status.Returned w) _ _ (given_follows (goal_of k s) (caller_of k s) k v (set_end k call_end.Returned s) hs any)
+
+reordered_passes : (i : ℕ) (s t : Core) → Reordered s t → passes_check i t ≡ passes_check i s
+reordered_passes i s t h =
+    let same : is_entry_in i (at_high t.queues.high s) ≡ is_entry_in i s = λ j e. same_in e j in
+    let high = ap (λ p. list_any p t.queues.high) same ∙ h.any (is_entry_in i s) in
+    let low = ap (λ p. list_any p s.queues.low) same in
+    ap (λ c. passes_check i c) h.only ∙ grind (arith, passes_is i (at_high t.queues.high s), passes_is i s)
+  where
+    same_in : (e : Entry) → is_entry_in i (at_high t.queues.high s) e ≡ is_entry_in i s e
+    same_in e = grind arith
+
+-- ---- The first waiter
+
+returned_told : (g : Goal) (f : Caller) (k v : ℕ) (s : Core) →
+    is_told k (result_given g f k v (set_end k call_end.Returned s)) ≡ is_told k s
+unfolding give_result set_register on_thread set_result on_call set_end
+returned_told g f k v s = grind (arith, nat_tests, get-change)
+
+-- where no entry passes, none is found that does
+unmet : {X Y : Type 0} (g : X → Y) (test : Y → Bool) (q : ℕ) (es : List (ℕ × X)) → list_any (λ e. test (g e.1)) es ≡ false →
+    option_map_or test (option_map g (seek nat_cmp q es)) false ≡ false
+unmet g test q [] h = refl
+unmet g test q (e ∷ es) h = grind (arith, unmet g test q es)
+
+none_passes : (test : ℕ → Bool) → ((n : ℕ) → test n ≡ false) → (ns : List ℕ) → find test ns ≡ None
+none_passes test off [] = refl
+none_passes test off (n ∷ ns) = grind (arith, off n, none_passes test off ns)
+
+-- a set without a waiter has no first one
+no_first : (x : ℕ) (s : Core) → not (has_waiter x s) ≡ true → first_at (is_waiting_on x) s ≡ None
+unfolding has_waiter get
+no_first x s none =
+    none_passes (λ n. is_at n s (is_waiting_on x))
+    (λ n. unmet (λ (t : Thread). t.place) (is_waiting_on x) n s.threads.list (not-true (has_waiter x s) none)) (numbers s.threads)
+
+-- it's all the same which waiter stands for the one that a lawful choice shows
+told_first : (k : ℕ) (e : Status) (w : Option ℕ) (s t : Core) → may_tell k w s ≡ true → is_told k t ≡ is_told k s →
+    told k e (waiter_told k w s) t ≡ told k e w t
+unfolding told may_tell may_publish may_wake
+told_first k e (Some m) s t lawful same = refl
+told_first k e None s t lawful same = by_join (join_of (subtask.Guest k) s) (is_told k s) same lawful
+  where
+    by_join : (j : Join) (b : Bool) → is_told k t ≡ b → (if b then may_wake_joined j None s else true) ≡ true →
+        told k e (first_waiter j s) t ≡ told k e None t
+    by_join (join.Set x) true is may = ap (λ w. told k e w t) (no_first x s may)
+    by_join (join.Set x) false is may = grind arith
+    by_join _ b is may = refl
+
+pub blocking_check : BlockingCheckIsAfter
+unfolding passes_after_return end_reopens held_by_flag returned set_do_not_enter on_instance set_end
+blocking_check n w s order lawful perm =
+    let i = instance_of n s in
+    let k = task_of n s in
+    let v = register_of n 0 s in
+    let d = set_do_not_enter i false s in
+    let held = held_by_flag i s in
+    let u = released held d in
+    let e = set_end k call_end.Returned u in
+    let same = returned_told (goal_of k u) (caller_of k u) k v u ∙ ap (λ c. is_told k c) (released_only held d) in
+    reordered_passes i _ _ (carried (returned_follows k v w) u (released order d) (release_reordered held order d perm))
+    ∙ sym (ap (λ c. passes_check i c) (told_first k status.Returned w s (result_given (goal_of k u) (caller_of k u) k v e) lawful same))

@@ -15,6 +15,4 @@ pub mod CheckLemmas
 pub mod StandLemmas
 pub mod StopLemmas
 pub mod MoveLemmas
-pub mod UntouchedLemmas
-pub mod ReturnLemmas
 pub mod CancelLemmas

@@ -1,13 +1,19 @@
 -- The moves of the machine as chains of words.
-use Rattle.std.proofs.Common.{T, ap, cond, inl, inr, refl, subst, sym, ◌∙◌}
+use Rattle.std.proofs.Common.{arith}
+use Rattle.std.proofs.lemmas.Bool.Decides.{nat_tests}
+use Rattle.task_machine.proofs.CommuteLemmas.{get-change}
+use Rattle.task_rules.proofs.StandLemmas.{set_place_is}
+use Rattle.task_machine.specs.declared.records.Work.{Work}
+use Rattle.std.proofs.Common.{ap, inr, refl, subst, sym, ◌∙◌}
+use Rattle.task_machine.specs.declared.records.HowFar.{HowFar}
 use Rattle.std.specs.Option.{option_map_or}
-use Rattle.std.specs.Prelude.{Bool, List, None, Option, Some, [], false, if◌then◌else◌, is_none, is_some, not, option_and_then, true, unwrap_or, ℕ, ◌||◌, ◌∷◌, ◌≡◌}
+use Rattle.std.specs.Prelude.{Bool, List, None, Option, Some, [], false, if◌then◌else◌, is_some, not, option_and_then, true, ℕ, ◌||◌, ◌∷◌, ◌≡◌}
 use Rattle.task_machine.proofs.MapLemmas.{get-remove_same}
 use Rattle.task_machine.specs.Core.{Core}
-use Rattle.task_machine.specs.Maps.{Records, get, numbers, remove}
+use Rattle.task_machine.specs.Maps.{Records, get, numbers, remove, change}
 use Rattle.task_machine.specs.Moves.{Gift, MemberGift, NoGift, OwnGift, call_settled, checked, ended, exited_if, first_entry, freed_thread_handle, group_settled, handed_on, hands_on, held_why_of, interest_settled, is_callback_waiter, is_deletable, is_finished, is_group_done, may_hand_on, may_publish, may_wake, may_wake_joined, promoted, promoted_first, promoted_unless, published, put_high, released, released_one, stopped, taken, unblocked, wake, wake_joined, waken_by}
-use Rattle.task_machine.specs.Read.{blocked_on, call_group, held_why, instance_of, is_at, is_blocked_on, is_explicit, is_waiter, is_waiting_on, is_watched, join_of, may_not_suspend, place_of, same_subtask, task_of, thread_handle_of, is_end}
-use Rattle.task_machine.specs.Write.{free_thread_handle, on_call, on_work, push_high, remove_call, remove_group, remove_thread, set_event, set_exited, set_place, set_uninteresting}
+use Rattle.task_machine.specs.Read.{blocked_on, call_group, held_why, instance_of, is_at, is_blocked_on, is_explicit, is_waiter, is_waiting_on, join_of, may_not_suspend, place_of, same_subtask, task_of, thread_handle_of, is_end, is_stage_ended, stage_of}
+use Rattle.task_machine.specs.Write.{free_thread_handle, on_call, on_work, push_high, remove_call, remove_group, remove_thread, set_event, set_exited, set_uninteresting, set_how_far}
 use Rattle.task_machine.specs.declared.records.Join.{Join}
 use Rattle.task_machine.specs.declared.records.Place.{Place}
 use Rattle.task_machine.specs.declared.records.Subtask.{Subtask}
@@ -15,20 +21,21 @@ use Rattle.task_machine.specs.declared.records.Thread.{Thread}
 use Rattle.task_machine.specs.declared.records.Why.{Why}
 use Rattle.task_machine.specs.declared.words.Mark.{Mark}
 use Rattle.task_machine.specs.declared.words.Status.{Status}
-use Rattle.task_rules.proofs.ChainLemmas.{join, shifts_walk}
+use Rattle.task_rules.proofs.ChainLemmas.{join, weaken, shift_stays, settle_stays}
 use Rattle.task_rules.proofs.StopLemmas.{find_passes}
-use Rattle.task_rules.proofs.PlacingLemmas.{placed}
+use Rattle.task_rules.proofs.PlacingLemmas.{placed, placing_shifted}
 use Rattle.task_rules.proofs.PromotionLemmas.{first_has_entry}
-use Rattle.task_rules.proofs.StandLemmas.{by_number, is_eq_of, place_kept}
-use Rattle.task_rules.specs.Allowed.{Allowed, HasEntry, IsOwn, IsRunner, MayDeliver, MayGo, MayLeave, MayPut, MayTell, MayTellWork, Releases, Tells, Unblocks, Wakes, wake_why, SaysEnd}
-use Rattle.task_rules.specs.Chains.{NoWord, Shifts, Then, Walk}
+use Rattle.task_rules.specs.Allowed.{IsOwn, IsRunner, MayDeliver, MayPut, MayTell, Releases, Tells, Unblocks, Wakes, wake_why, SaysEnd, is_done_host, Leaves, MayLand, Stays, MayCome}
+use Rattle.task_rules.specs.Chains.{NoWord, Shifts, Then, Stay, Trip, Settles, Quits, Lands, LandsAt}
 use Rattle.task_rules.specs.Ends.{is_told, may_tell, told}
 use Rattle.task_rules.specs.Scenes.{Scene}
 use Rattle.task_rules.specs.Sets.{chosen}
-use Rattle.task_rules.specs.Words.{FreeThreadHandle, Placing, Promote, Put, RemoveCall, RemoveGroup, RemoveThread, SetCallEvent, SetCancelDelivered, SetExited, SetOwnEvent, SetUninteresting, SetWorkEvent, Stop, Word, after_placing, after_word, put_at}
+use Rattle.task_rules.specs.Words.{FreeThreadHandle, Placing, Promote, Put, RemoveCall, RemoveGroup, RemoveThread, SetCallEvent, SetCancelDelivered, SetExited, SetOwnEvent, SetUninteresting, TakeWorkEvent, Stop, Word, after_placing, after_word, put_at}
+use Rattle.task_machine.specs.declared.records.Turn.TheVariants as turn
 use Rattle.task_machine.specs.declared.records.Delivery.TheVariants as delivery
 use Rattle.task_machine.specs.declared.records.Join.TheVariants as join
 use Rattle.task_machine.specs.declared.records.Place.TheVariants as place
+use Rattle.task_machine.specs.declared.records.Stage.TheVariants as stage
 use Rattle.task_machine.specs.declared.records.Subtask.TheVariants as subtask
 use Rattle.task_machine.specs.declared.records.Why.TheVariants as why
 use Rattle.task_machine.specs.declared.words.Mark.TheVariants as mark
@@ -44,13 +51,11 @@ put_shifts : (m : Mark) (n : ℕ) (w : Why) (s : Core) → MayPut n w s → Shif
 put_shifts m n w s ok = placed (Put m n w) ok NoWord
 
 none_stands : (b : Bool) (o : Option ℕ) → (b || is_some o) ≡ false → o ≡ None
-none_stands b None e = refl
-none_stands true (Some m) e = absurd (subst T e tt)
-none_stands false (Some m) e = absurd (subst T e tt)
+none_stands b o e = grind arith
 
 first_shifts : (i : ℕ) (s : Core) (o : Option ℕ) → first_entry i s ≡ o → s.queues.switch ≡ None → Shifts s (promoted_first o s)
 first_shifts i s None e none = NoWord
-first_shifts i s (Some n) e none = placed (Promote n) (none, inl (first_has_entry i s n e)) NoWord
+first_shifts i s (Some n) e none = placed (Promote n) (none, first_has_entry i s n e) NoWord
 
 pub checked_shifts : (i : ℕ) (s : Core) → Shifts s (checked i s)
 unfolding checked
@@ -58,28 +63,15 @@ checked_shifts i s =
     shifts_if (not (may_not_suspend i s) || is_some s.queues.switch) s (promoted_first (first_entry i s) s) (λ e. NoWord)
     (λ e. first_shifts i s (first_entry i s) refl (none_stands (not (may_not_suspend i s)) s.queues.switch e))
 
-pub promoted_unless_shifts : (n : ℕ) (s : Core) → HasEntry n s → Shifts s (promoted_unless n s)
-unfolding promoted_unless
-promoted_unless_shifts n s has = shifts_if (is_some s.queues.switch) s (promoted n s) (λ e. NoWord) (λ e. placed (Promote n) (none_stands false s.queues.switch e, has) NoWord)
-
 pub stopped_shifts : (f : ℕ) (s : Core) → Shifts s (stopped f s)
 stopped_shifts f s = placed (Stop f) tt NoWord
+
+held_at : (o : Option Place) (v : Why) → option_and_then held_why o ≡ Some v → o ≡ Some (place.Held v)
+held_at o v h = grind arith
 
 released_one_shifts : (n : ℕ) (o : Option Why) (s : Core) → held_why_of n s ≡ o → Shifts s (released_one n o s)
 released_one_shifts n None s e = NoWord
 released_one_shifts n (Some w) s e = put_shifts mark.High n w s (Releases (held_at (place_of n s) w e))
-  where
-    held_at : (o : Option Place) (v : Why) → option_and_then held_why o ≡ Some v → o ≡ Some (place.Held v)
-    held_at (Some (place.Held u)) v h = ap (λ x. option_and_then (λ y. Some (place.Held y)) x) h
-    held_at None v h = absurd (subst T (ap (λ (x : Option Why). is_none x) h) tt)
-    held_at (Some place.New) v h = absurd (subst T (ap (λ (x : Option Why). is_none x) h) tt)
-    held_at (Some place.Running) v h = absurd (subst T (ap (λ (x : Option Why). is_none x) h) tt)
-    held_at (Some (place.Ready m u)) v h = absurd (subst T (ap (λ (x : Option Why). is_none x) h) tt)
-    held_at (Some (place.Under c)) v h = absurd (subst T (ap (λ (x : Option Why). is_none x) h) tt)
-    held_at (Some (place.Behind c)) v h = absurd (subst T (ap (λ (x : Option Why). is_none x) h) tt)
-    held_at (Some (place.Waiting y b)) v h = absurd (subst T (ap (λ (x : Option Why). is_none x) h) tt)
-    held_at (Some (place.Blocked c)) v h = absurd (subst T (ap (λ (x : Option Why). is_none x) h) tt)
-    held_at (Some place.Suspended) v h = absurd (subst T (ap (λ (x : Option Why). is_none x) h) tt)
 
 pub released_shifts : (ns : List ℕ) (s : Core) → Shifts s (released ns s)
 unfolding released
@@ -101,25 +93,14 @@ wake_shifts x (Some n) s h = waken_shifts x n s (is_callback_waiter n s) refl (h
 
 pub chosen_of : (x : ℕ) (w : Option ℕ) (s : Core) → may_wake x w s ≡ true → Chosen x w s
 unfolding may_wake
-chosen_of x None s h n is = absurd (subst T (ap (λ (o : Option ℕ). is_none o) is) tt)
-chosen_of x (Some m) s h n is = subst (λ (k : ℕ). is_waiter x k s ≡ true) (ap (λ (o : Option ℕ). unwrap_or o 0) is) h
+chosen_of x w s h n is = grind arith
 
 -- the chosen thread waits on the set that the subtask is in
 abbrev pub ChosenIn : Join → Option ℕ → Core → Type 0
 ChosenIn j w s = (x : ℕ) → j ≡ join.Set x → Chosen x w s
 
 pub chosen_in_of : (j : Join) (w : Option ℕ) (s : Core) → may_wake_joined j w s ≡ true → ChosenIn j w s
-chosen_in_of (join.Set y) w s h x is = subst (λ (z : ℕ). Chosen z w s) (ap set_in is) (chosen_of y w s h)
-  where
-    set_in : Join → ℕ
-    set_in (join.Set z) = z
-    set_in _ = 0
-chosen_in_of join.Nowhere w s h x is = absurd (subst T (ap is_nowhere is) tt)
-  where
-    is_nowhere : Join → Bool
-    is_nowhere join.Nowhere = true
-    is_nowhere _ = false
-chosen_in_of (join.Watched n) w s h x is = absurd (subst T (ap (λ (j : Join). is_watched j) is) tt)
+chosen_in_of j w s h x is n at = grind (arith, chosen_of x w s)
 
 wake_joined_shifts : (j : Join) (w : Option ℕ) (s : Core) → ChosenIn j w s → Shifts s (wake_joined j w s)
 wake_joined_shifts (join.Set x) w s h = wake_shifts x w s (h x refl)
@@ -127,32 +108,18 @@ wake_joined_shifts join.Nowhere w s h = NoWord
 wake_joined_shifts (join.Watched n) w s h = NoWord
 
 -- a thread elsewhere gets an entry: who waits on x still does
-waiter_put : (x n m : ℕ) (w : Why) (p : Place) (s : Core) → place_of m s ≡ Some p → is_waiting_on x p ≡ false → is_waiter x n s ≡ true → is_waiter x n (put_high m w s) ≡ true
+waiter_put : (x n m : ℕ) (w : Why) (p : Place) (s : Core) → place_of m s ≡ Some p → is_waiting_on x p ≡ false → is_waiter x n s ≡ true →
+    is_waiter x n (put_high m w s) ≡ true
 unfolding put_high push_high
-waiter_put x n m w p s at other h =
-    by_number n m (is_waiter x n (set_place m (place.Ready mark.High w) s) ≡ true)
-    (λ e. absurd (subst T (sym (ap (λ (o : Option Place). option_map_or (is_waiting_on x) o false) (ap (λ (k : ℕ). place_of k s) (sym e)) ∙ h) ∙ (ap (λ (o : Option Place). option_map_or (is_waiting_on x) o false) at ∙ other)) tt))
-    (λ e. ap (λ (o : Option Place). option_map_or (is_waiting_on x) o false) (place_kept n m (place.Ready mark.High w) s e) ∙ h)
+waiter_put x n m w p s at other h = grind (arith, nat_tests, set_place_is n m (place.Ready mark.High w) s)
 
 -- ---- A blocked thread
 
 same_subtask_is : (sub other : Subtask) → same_subtask sub other ≡ true → sub ≡ other
-same_subtask_is (subtask.Guest k) (subtask.Guest q) h = ap (λ (j : ℕ). subtask.Guest j) (is_eq_of k q h)
-same_subtask_is (subtask.Host i) (subtask.Host j) h = ap (λ (k : ℕ). subtask.Host k) (is_eq_of i j h)
-same_subtask_is (subtask.Guest k) (subtask.Host j) h = absurd (subst T (sym h) tt)
-same_subtask_is (subtask.Host i) (subtask.Guest q) h = absurd (subst T (sym h) tt)
+same_subtask_is sub other h = grind (arith, nat_tests)
 
 blocked_place : (sub : Subtask) (o : Option Place) → option_map_or (is_blocked_on sub) o false ≡ true → o ≡ Some (place.Blocked sub)
-blocked_place sub (Some (place.Blocked on)) h = ap (λ (x : Subtask). Some (place.Blocked x)) (sym (same_subtask_is sub on h))
-blocked_place sub None h = absurd (subst T (sym h) tt)
-blocked_place sub (Some place.New) h = absurd (subst T (sym h) tt)
-blocked_place sub (Some place.Running) h = absurd (subst T (sym h) tt)
-blocked_place sub (Some (place.Ready m u)) h = absurd (subst T (sym h) tt)
-blocked_place sub (Some (place.Under c)) h = absurd (subst T (sym h) tt)
-blocked_place sub (Some (place.Behind c)) h = absurd (subst T (sym h) tt)
-blocked_place sub (Some (place.Waiting y b)) h = absurd (subst T (sym h) tt)
-blocked_place sub (Some (place.Held c)) h = absurd (subst T (sym h) tt)
-blocked_place sub (Some place.Suspended) h = absurd (subst T (sym h) tt)
+blocked_place sub o h = grind (arith, same_subtask_is sub)
 
 pub blocked_at : (sub : Subtask) (s : Core) (m : ℕ) → blocked_on sub s ≡ Some m → place_of m s ≡ Some (place.Blocked sub)
 unfolding blocked_on
@@ -162,9 +129,9 @@ blocked_at sub s m h = blocked_place sub (place_of m s) (find_passes (λ k. is_a
 abbrev pub IsBlocked : Subtask → Option ℕ → Core → Type 0
 IsBlocked sub o s = (m : ℕ) → o ≡ Some m → place_of m s ≡ Some (place.Blocked sub)
 
-pub unblocked_shifts : (sub : Subtask) (o : Option ℕ) (s : Core) → IsBlocked sub o s → Shifts s (unblocked o s)
-unblocked_shifts sub None s h = NoWord
-unblocked_shifts sub (Some m) s h = put_shifts mark.High m why.Resumption s (Unblocks sub (h m refl) refl)
+pub unblocked_shifts : (sub : Subtask) (o : Option ℕ) (s : Core) → is_done_host sub s ≡ true → IsBlocked sub o s → Shifts s (unblocked o s)
+unblocked_shifts sub None s done h = NoWord
+unblocked_shifts sub (Some m) s done h = put_shifts mark.High m why.Resumption s (Unblocks sub (h m refl) done refl)
 
 chosen_unblocked : (sub : Subtask) (o : Option ℕ) (x : ℕ) (w : Option ℕ) (s : Core) → IsBlocked sub o s → Chosen x w s → Chosen x w (unblocked o s)
 chosen_unblocked sub None x w s h c = c
@@ -172,19 +139,7 @@ chosen_unblocked sub (Some m) x w s h c = λ n is. waiter_put x n m why.Resumpti
 
 chosen_released_one : (n : ℕ) (o : Option Why) (x : ℕ) (w : Option ℕ) (s : Core) → held_why_of n s ≡ o → Chosen x w s → Chosen x w (released_one n o s)
 chosen_released_one n None x w s e c = c
-chosen_released_one n (Some v) x w s e c = λ k is. held_put (place_of n s) refl e k (c k is)
-  where
-    held_put : (o : Option Place) → place_of n s ≡ o → option_and_then held_why o ≡ Some v → (k : ℕ) → is_waiter x k s ≡ true → is_waiter x k (put_high n v s) ≡ true
-    held_put (Some (place.Held u)) at h k c = waiter_put x k n v (place.Held u) s at refl c
-    held_put None at h k c = absurd (subst T (ap (λ (x : Option Why). is_none x) h) tt)
-    held_put (Some place.New) at h k c = waiter_put x k n v place.New s at refl c
-    held_put (Some place.Running) at h k c = waiter_put x k n v place.Running s at refl c
-    held_put (Some (place.Ready m u)) at h k c = waiter_put x k n v (place.Ready m u) s at refl c
-    held_put (Some (place.Under m)) at h k c = waiter_put x k n v (place.Under m) s at refl c
-    held_put (Some (place.Behind m)) at h k c = waiter_put x k n v (place.Behind m) s at refl c
-    held_put (Some (place.Waiting y b)) at h k c = absurd (subst T (ap (λ (x : Option Why). is_none x) h) tt)
-    held_put (Some (place.Blocked m)) at h k c = waiter_put x k n v (place.Blocked m) s at refl c
-    held_put (Some place.Suspended) at h k c = waiter_put x k n v place.Suspended s at refl c
+chosen_released_one n (Some v) x w s e c = λ k is. waiter_put x k n v (place.Held v) s (held_at (place_of n s) v e) refl (c k is)
 
 pub chosen_released : (ns : List ℕ) (x : ℕ) (w : Option ℕ) (s : Core) → Chosen x w s → Chosen x w (released ns s)
 unfolding released
@@ -194,43 +149,57 @@ chosen_released (n ∷ ns) x w s c = chosen_released ns x w (released_one n (hel
 -- ---- Chains of all words
 
 module _ {a : Scene} {b : Core} where
-  pub word : (w : Word) {s : Core} → Allowed a w s → Walk a b s → Walk a b (after_word w s)
+  pub word : (w : Word) {s : Core} → Stays a w s → Stay a b s → Stay a b (after_word w s)
   word w {s = s} ok c = Then s w c ok
 
-  pub shifted : {s t : Core} → Shifts s t → Walk a b s → Walk a b t
-  shifted d c = join c (shifts_walk d)
+  pub shifted : {s t : Core} → Shifts s t → Stay a b s → Stay a b t
+  shifted d c = join c (weaken (shift_stays a) d)
+
+  settled : {s t : Core} → Settles s t → Stay a b s → Stay a b t
+  settled d c = join c (weaken (settle_stays a) d)
 
   -- where the running thread comes to
-  pub moved : (p : Placing) {s : Core} → MayLeave a p s → Walk a b s → Walk a b (after_placing p s)
-  moved p ok c = placed p (inr ok) c
+  pub lands : (p : Placing) {s : Core} → MayLand a p s → Stay a b s → Trip a b (after_placing p s)
+  lands p {s = s} ok c = subst (λ (t : Core). Trip a b t) (placing_shifted p s).only (Lands s p c ok)
 
-  pub walk_if : (c : Bool) (t u : Core) → (c ≡ true → Walk a b t) → (c ≡ false → Walk a b u) → Walk a b (if c then t else u)
+  pub lands_at : (p : Placing) (n : ℕ) (h : HowFar) {s : Core} → MayLand a p s → MayCome a n h (after_placing p s) → Stay a b s → Trip a b (set_how_far n h (after_placing p s))
+  lands_at p n h {s = s} ok comes c =
+      let is = (placing_shifted p s).only in
+      subst (λ (t : Core). Trip a b (set_how_far n h t)) is (LandsAt s p n h c ok (subst (λ (t : Core). MayCome a n h t) (sym is) comes))
+
+  pub walk_if : (c : Bool) (t u : Core) → (c ≡ true → Stay a b t) → (c ≡ false → Stay a b u) → Stay a b (if c then t else u)
   walk_if true t u p q = p refl
   walk_if false t u p q = q refl
 
+-- an entry whose place says that it is there is promoted beside a running thread
+pub promoted_walks : {a : Scene} {b : Core} (m n : ℕ) {s : Core} → a.turn ≡ turn.Run m → (x : Mark) × ((w : Why) × (place_of n s ≡ Some (place.Ready x w))) → Stay a b s → Stay a b (promoted_unless n s)
+unfolding promoted_unless
+promoted_walks m n {s = s} runs ready c = walk_if (is_some s.queues.switch) s (promoted n s) (λ e. c) (λ e. placed (Promote n) (inr (none_stands false s.queues.switch e, (m, (runs, ready)))) c)
+
 -- ---- Published
 
-published_shifts : (sub : Subtask) (w : Option ℕ) (s t : Core) → ((m : ℕ) → place_of m t ≡ place_of m s) → ChosenIn (join_of sub s) w s → Shifts t (wake_joined (join_of sub s) w (unblocked (blocked_on sub s) t))
-published_shifts sub w s t same chosen =
+-- what a change keeps of the record of a work
+pub work_read : {A : Type 0} (f : Work → A) (none : A) (i : ℕ) (g : Work → Work) → ((w : Work) → f (g w) ≡ f w) → (m : Records Work) → option_map_or f (get (change i g m) i) none ≡ option_map_or f (get m i) none
+work_read f none i g keeps m = grind (arith, nat_tests, get-change)
+
+published_shifts : (sub : Subtask) (w : Option ℕ) (s t : Core) → is_done_host sub t ≡ true → ((m : ℕ) → place_of m t ≡ place_of m s) → ChosenIn (join_of sub s) w s → Shifts t (wake_joined (join_of sub s) w (unblocked (blocked_on sub s) t))
+published_shifts sub w s t done same chosen =
     let o = blocked_on sub s in
     let at : IsBlocked sub o t = λ m is. same m ∙ blocked_at sub s m is in
     let there : ChosenIn (join_of sub s) w t = λ x is n by. ap (λ p. option_map_or (is_waiting_on x) p false) (same n) ∙ chosen x is n by in
-    join (unblocked_shifts sub o t at) (wake_joined_shifts (join_of sub s) w (unblocked o t) (λ x is. chosen_unblocked sub o x w t at (there x is)))
+    join (unblocked_shifts sub o t done at) (wake_joined_shifts (join_of sub s) w (unblocked o t) (λ x is. chosen_unblocked sub o x w t at (there x is)))
 
 pub published_call_shifts : (k : ℕ) (e : Status) (w : Option ℕ) (s : Core) → ChosenIn (join_of (subtask.Guest k) s) w s → Shifts (set_event (subtask.Guest k) (Some e) s) (published (subtask.Guest k) e w s)
 unfolding published set_event on_call
-published_call_shifts k e w s chosen = published_shifts (subtask.Guest k) w s (set_event (subtask.Guest k) (Some e) s) (λ m. refl) chosen
+published_call_shifts k e w s chosen = published_shifts (subtask.Guest k) w s (set_event (subtask.Guest k) (Some e) s) refl (λ m. refl) chosen
 
-published_work_shifts : (i : ℕ) (e : Status) (w : Option ℕ) (s : Core) → ChosenIn (join_of (subtask.Host i) s) w s → Shifts (set_event (subtask.Host i) (Some e) s) (published (subtask.Host i) e w s)
+pub published_work_shifts : (i : ℕ) (e : Status) (w : Option ℕ) (s : Core) → is_stage_ended (stage_of i s) ≡ true → ChosenIn (join_of (subtask.Host i) s) w s → Shifts (set_event (subtask.Host i) (Some e) s) (published (subtask.Host i) e w s)
 unfolding published set_event on_work
-published_work_shifts i e w s chosen = published_shifts (subtask.Host i) w s (set_event (subtask.Host i) (Some e) s) (λ m. refl) chosen
+published_work_shifts i e w s done chosen = published_shifts (subtask.Host i) w s (set_event (subtask.Host i) (Some e) s) (ap (λ x. is_stage_ended x) (work_read (λ r. r.stage) stage.Ended i (λ r. record r { event = Some e }) (λ r. refl) s.works) ∙ done) (λ m. refl) chosen
 
 module _ {a : Scene} {b : Core} where
-  published_call : (k : ℕ) (e : Status) (w : Option ℕ) {s : Core} → MayTell a k (Some e) s → ChosenIn (join_of (subtask.Guest k) s) w s → Walk a b s → Walk a b (published (subtask.Guest k) e w s)
+  published_call : (k : ℕ) (e : Status) (w : Option ℕ) {s : Core} → MayTell a k (Some e) s → ChosenIn (join_of (subtask.Guest k) s) w s → Stay a b s → Stay a b (published (subtask.Guest k) e w s)
   published_call k e w {s = s} ok chosen c = shifted (published_call_shifts k e w s chosen) (word (SetCallEvent k (Some e)) ok c)
-
-  pub published_work : (i : ℕ) (e : Status) (w : Option ℕ) {s : Core} → MayTellWork a i (Some e) s → ChosenIn (join_of (subtask.Host i) s) w s → Walk a b s → Walk a b (published (subtask.Host i) e w s)
-  published_work i e w {s = s} ok chosen c = shifted (published_work_shifts i e w s chosen) (word (SetWorkEvent i (Some e)) ok c)
 
 -- the thread chosen where the call's status is told
 abbrev pub ToldTo : ℕ → Option ℕ → Core → Type 0
@@ -238,10 +207,10 @@ ToldTo k w s = is_told k s ≡ true → ChosenIn (join_of (subtask.Guest k) s) w
 
 pub told_to : (k : ℕ) (w : Option ℕ) (s : Core) → may_tell k w s ≡ true → ToldTo k w s
 unfolding may_tell may_publish
-told_to k w s h told = chosen_in_of (join_of (subtask.Guest k) s) w s (sym (ap (λ c. cond c (may_wake_joined (join_of (subtask.Guest k) s) w s) (is_none w)) told) ∙ h)
+told_to k w s h told = chosen_in_of (join_of (subtask.Guest k) s) w s (grind arith)
 
 module _ {a : Scene} {b : Core} where
-  pub told_walks : (k : ℕ) (e : Status) (w : Option ℕ) {s : Core} → (is_told k s ≡ true → Tells e k s) → (is_end e ≡ true → SaysEnd a k e) → ToldTo k w s → Walk a b s → Walk a b (told k e w s)
+  pub told_walks : (k : ℕ) (e : Status) (w : Option ℕ) {s : Core} → (is_told k s ≡ true → Tells e k s) → (is_end e ≡ true → SaysEnd a k e) → ToldTo k w s → Stay a b s → Stay a b (told k e w s)
   unfolding told
   told_walks k e w {s = s} tells says to c = walk_if (is_told k s) (published (subtask.Guest k) e w s) s (λ is. published_call k e w (is, (tells is, says)) (to is) c) (λ is. c)
 
@@ -249,7 +218,7 @@ module _ {a : Scene} {b : Core} where
 
 pub handed_on_shifts : (x : ℕ) (g : Gift) (w : Option ℕ) (s : Core) → may_hand_on x g w s ≡ true → Shifts s (handed_on x g w s)
 unfolding handed_on may_hand_on
-handed_on_shifts x g w s h = shifts_if (hands_on x g s) (wake x w s) s (λ e. wake_shifts x w s (chosen_of x w s (sym (ap (λ c. cond c (may_wake x w s) (is_none w)) e) ∙ h))) (λ e. NoWord)
+handed_on_shifts x g w s h = shifts_if (hands_on x g s) (wake x w s) s (λ e. wake_shifts x w s (chosen_of x w s (grind arith))) (λ e. NoWord)
 
 -- what the running thread's task may take
 abbrev pub MayTake : Scene → ℕ → Gift → Type 0
@@ -258,61 +227,82 @@ MayTake a k (MemberGift sub) = IsOwn a sub
 MayTake a k NoGift = Unit {0}
 
 module _ {a : Scene} {b : Core} where
-  pub taken_walks : (g : Gift) (k : ℕ) {s : Core} → MayTake a k g → Walk a b s → Walk a b (taken g k s)
+  pub taken_walks : (g : Gift) (k : ℕ) {s : Core} → MayTake a k g → Stay a b s → Stay a b (taken g k s)
   unfolding taken
   taken_walks (OwnGift own.None) k ok c = word (SetOwnEvent k None) ok.0 c
   taken_walks (OwnGift own.Cancelled) k ok c = word (SetCancelDelivered k) (ok.1 refl) (word (SetOwnEvent k None) ok.0 c)
   taken_walks (MemberGift (subtask.Guest q)) k ok c = word (SetCallEvent q None) ok c
-  taken_walks (MemberGift (subtask.Host i)) k ok c = word (SetWorkEvent i None) ok c
+  taken_walks (MemberGift (subtask.Host i)) k ok c = word (TakeWorkEvent i) ok c
   taken_walks NoGift k ok c = c
 
-  -- ---- Settled
+-- ---- Settled
 
-  pub group_settled_walks : (g : ℕ) {s : Core} → Walk a b s → Walk a b (group_settled g s)
-  unfolding group_settled
-  group_settled_walks g {s = s} c = walk_if (is_group_done g s) (remove_group g s) s (λ e. word (RemoveGroup g) e c) (λ e. c)
+settles_if : {s : Core} (b : Bool) (t u : Core) → (b ≡ true → Settles s t) → (b ≡ false → Settles s u) → Settles s (if b then t else u)
+settles_if true t u p q = p refl
+settles_if false t u p q = q refl
 
-  pub call_settled_walks : (k : ℕ) {s : Core} → Walk a b s → Walk a b (call_settled k s)
-  unfolding call_settled
-  call_settled_walks k {s = s} c = walk_if (is_deletable k s) (group_settled (call_group k s) (remove_call k s)) s (λ e. group_settled_walks (call_group k s) (word (RemoveCall k) e c)) (λ e. c)
+group_settles : (g : ℕ) (s : Core) → Settles s (group_settled g s)
+unfolding group_settled
+group_settles g s = settles_if (is_group_done g s) (remove_group g s) s (λ e. Then s (RemoveGroup g) NoWord e) (λ e. NoWord)
 
-  interest_settled_walks : (k : ℕ) {s : Core} → Walk a b s → Walk a b (interest_settled k s)
-  unfolding interest_settled
-  interest_settled_walks k {s = s} c = walk_if (option_map_or is_finished (get s.calls k) false) (set_uninteresting k s) s (λ e. word (SetUninteresting k) tt c) (λ e. c)
+call_settles : (k : ℕ) (s : Core) → Settles s (call_settled k s)
+unfolding call_settled
+call_settles k s = settles_if (is_deletable k s) (group_settled (call_group k s) (remove_call k s)) s (λ e. join (Then s (RemoveCall k) NoWord e) (group_settles (call_group k s) (remove_call k s))) (λ e. NoWord)
 
-  freed_thread_handle_walks : (i : ℕ) (o : Option ℕ) {s : Core} → Walk a b s → Walk a b (freed_thread_handle i o s)
+interest_settles : (k : ℕ) (s : Core) → Settles s (interest_settled k s)
+unfolding interest_settled
+interest_settles k s = settles_if (option_map_or is_finished (get s.calls k) false) (set_uninteresting k s) s (λ e. Then s (SetUninteresting k) NoWord tt) (λ e. NoWord)
+
+-- the thread is gone, and what becomes of its call
+pub record Left (a : Scene) (b : Core) (n : ℕ) (t : Core) : Type 0 where
+  pub before : Core
+  pub stays : Stay a b before
+  pub settles : Settles (after_word (RemoveThread n) before) t
+
+module _ {a : Scene} {b : Core} where
+  pub group_settled_walks : (g : ℕ) {s : Core} → Stay a b s → Stay a b (group_settled g s)
+  group_settled_walks g {s = s} c = settled (group_settles g s) c
+
+  pub call_settled_walks : (k : ℕ) {s : Core} → Stay a b s → Stay a b (call_settled k s)
+  call_settled_walks k {s = s} c = settled (call_settles k s) c
+
+  freed_thread_handle_walks : (i : ℕ) (o : Option ℕ) {s : Core} → Stay a b s → Stay a b (freed_thread_handle i o s)
   freed_thread_handle_walks i None c = c
   freed_thread_handle_walks i (Some h) c = word (FreeThreadHandle i h) tt c
 
-  exited_if_walks : (explicit : Bool) (k : ℕ) {s : Core} → Walk a b s → Walk a b (exited_if explicit k s)
+  exited_if_walks : (explicit : Bool) (k : ℕ) {s : Core} → Stay a b s → Stay a b (exited_if explicit k s)
   exited_if_walks true k c = c
   exited_if_walks false k c = word (SetExited k) tt c
 
-  pub ended_walks : (n : ℕ) {s : Core} → MayGo a n → Walk a b s → Walk a b (ended n s)
+  pub ended_walks : (n : ℕ) {s : Core} → Stay a b s → Left a b n (ended n s)
   unfolding ended
-  ended_walks n {s = s} go c = call_settled_walks (task_of n s) (interest_settled_walks (task_of n s) (word (RemoveThread n) go (freed_thread_handle_walks (instance_of n s) (thread_handle_of n s) (exited_if_walks (is_explicit n s) (task_of n s) c))))
+  ended_walks n {s = s} c =
+      let f = freed_thread_handle (instance_of n s) (thread_handle_of n s) (exited_if (is_explicit n s) (task_of n s) s) in
+      let r = remove_thread n f in
+      record {
+        before = f;
+        stays = freed_thread_handle_walks (instance_of n s) (thread_handle_of n s) (exited_if_walks (is_explicit n s) (task_of n s) c);
+        settles = join (interest_settles (task_of n s) r) (call_settles (task_of n s) (interest_settled (task_of n s) r));
+      }
 
-threads_if : (c : Bool) (s t u : Core) → t.threads ≡ s.threads → u.threads ≡ s.threads → (if c then t else u).threads ≡ s.threads
-threads_if true s t u p q = p
-threads_if false s t u p q = q
+  pub exits_trip : (n : ℕ) {t : Core} → Leaves a n → Left a b n t → Trip a b t
+  exits_trip n {t = t} leave e = Quits e.before t n e.stays leave e.settles
 
 settled_threads : (k : ℕ) (s : Core) → (call_settled k s).threads ≡ s.threads
 unfolding call_settled group_settled remove_group remove_call
-settled_threads k s = threads_if (is_deletable k s) s (group_settled (call_group k s) (remove_call k s)) s (threads_if (is_group_done (call_group k s) (remove_call k s)) s (remove_group (call_group k s) (remove_call k s)) (remove_call k s) refl refl) refl
+settled_threads k s = grind arith
 
 interest_threads : (k : ℕ) (s : Core) → (interest_settled k s).threads ≡ s.threads
 unfolding interest_settled set_uninteresting on_call
-interest_threads k s = threads_if (option_map_or is_finished (get s.calls k) false) s (set_uninteresting k s) s refl refl
+interest_threads k s = grind arith
 
 freed_threads : (i : ℕ) (o : Option ℕ) (s : Core) → (freed_thread_handle i o s).threads ≡ s.threads
 unfolding free_thread_handle
-freed_threads i None s = refl
-freed_threads i (Some h) s = refl
+freed_threads i o s = grind arith
 
 exited_threads : (explicit : Bool) (k : ℕ) (s : Core) → (exited_if explicit k s).threads ≡ s.threads
 unfolding set_exited on_call
-exited_threads true k s = refl
-exited_threads false k s = refl
+exited_threads explicit k s = grind arith
 
 -- who ends is gone, and the other threads stay
 pub ended_threads : (n : ℕ) (s : Core) → (ended n s).threads ≡ remove s.threads n

@@ -1,15 +1,21 @@
 -- What the rows of the ops are made of, as chains of words: what is read, gifts, moves, and a new call.
-use Rattle.std.proofs.Common.{T, ap, inl, inr, refl, subst, sym, ◌∙◌, ◌⊎◌}
+use Rattle.task_rules.specs.Data.{assigned, advanced, moved_to}
+use Rattle.task_rules.proofs.MoveLemmas.{put_place}
+use Rattle.std.proofs.Common.{arith}
+use Rattle.std.proofs.lemmas.Bool.Decides.{nat_tests}
+use Rattle.task_machine.proofs.CommuteLemmas.{get-change}
+use Rattle.task_machine.specs.declared.records.HowFar.{HowFar}
+use Rattle.std.proofs.Common.{ap, inl, inr, refl, subst, sym, ◌∙◌, ◌⊎◌}
 use Rattle.std.specs.Option.{option_map_or}
-use Rattle.std.specs.Prelude.{Bool, List, None, Option, Some, [], false, if◌then◌else◌, is_none, option_and_then, option_map, true, unwrap_or, ℕ, ◌+◌, ◌==◌, ◌≡◌}
-use Rattle.task_machine.proofs.MapLemmas.{change-field, get-change_same, get-insert_same, get-remove_same}
+use Rattle.std.specs.Prelude.{Bool, List, None, Option, Some, [], false, if◌then◌else◌, is_none, option_map, true, unwrap_or, ℕ, ◌+◌, ◌==◌, ◌≡◌, is_some}
+use Rattle.task_machine.proofs.MapLemmas.{change-field, get-insert_same, get-remove_same}
 use Rattle.task_machine.specs.Core.{Core}
 use Rattle.task_machine.specs.Labels.{Choice, join_label, wait_label}
-use Rattle.task_machine.specs.Maps.{change, get}
-use Rattle.task_machine.specs.Moves.{Gift, MemberGift, NoGift, OwnGift, behind_one, checked, gift, gift_after_own, has_entry, less, less_switch, member_gift, own_gift, put_switch, stopped, unqueued, withdrawn}
-use Rattle.task_machine.specs.Read.{call_instance, foot_of, goal_of, has_ready_member, how_far_of, instance_of, is_direct, is_explicit, is_joined, is_ready_member, join_of, may_not_suspend, new_thread_handle, own_event_of, place_of, saved_callee_of, subtask_at, subtask_handle, task_of, thread_group}
+use Rattle.task_machine.specs.Maps.{get, Records}
+use Rattle.task_machine.specs.Moves.{Gift, MemberGift, NoGift, OwnGift, behind_one, checked, gift, has_entry, less, less_switch, put_switch, stopped, unqueued, withdrawn, is_group_done, group_settled}
+use Rattle.task_machine.specs.Read.{call_instance, foot_of, goal_of, how_far_of, instance_of, is_direct, is_explicit, is_joined, join_of, may_not_suspend, new_thread_handle, place_of, saved_callee_of, subtask_at, subtask_handle, task_of, thread_group, is_blocked_on}
 use Rattle.task_machine.specs.Statuses.{status_code}
-use Rattle.task_machine.specs.Write.{add_call, add_thread, free_handle, give_thread_handle, on_call, on_instance, on_thread, on_work, remove_thread, set_do_not_suspend, set_end, set_event, set_exited, set_high, set_how_far, set_join, set_low, set_place, set_saved_callee, set_saved_own, set_started, set_subtask_handle, set_switch, set_thread_handle, set_uninteresting, with_switch}
+use Rattle.task_machine.specs.Write.{add_call, add_thread, free_handle, give_thread_handle, on_call, on_instance, on_thread, on_work, remove_thread, set_do_not_suspend, set_end, set_event, set_exited, set_high, set_how_far, set_join, set_low, set_place, set_saved_callee, set_saved_own, set_started, set_subtask_handle, set_switch, set_thread_handle, set_uninteresting, with_switch, remove_group, remove_work, set_position, set_register}
 use Rattle.task_machine.specs.declared.component.Callee.{Callee}
 use Rattle.task_machine.specs.declared.component.ExportKind.{ExportKind}
 use Rattle.task_machine.specs.declared.records.Call.{Call}
@@ -21,23 +27,21 @@ use Rattle.task_machine.specs.declared.records.Made.{Made}
 use Rattle.task_machine.specs.declared.records.Place.{Place}
 use Rattle.task_machine.specs.declared.records.Subtask.{Subtask}
 use Rattle.task_machine.specs.declared.records.Thread.{Thread}
-use Rattle.task_machine.specs.declared.records.Work.{Work}
 use Rattle.task_machine.specs.declared.words.Given.{Given}
-use Rattle.task_machine.specs.declared.words.OwnEvent.{OwnEvent}
 use Rattle.task_machine.specs.declared.words.Status.{Status}
 use Rattle.task_rules.proofs.PlacingLemmas.{Shifted, placed, placing_shifted, shifted_after, shifted_explicit, shifted_made}
 use Rattle.task_rules.proofs.StandLemmas.{place_kept}
-use Rattle.task_rules.proofs.WalkMoves.{MayTake, checked_shifts, group_settled_walks, moved, shifted, stopped_shifts, taken_walks, word}
-use Rattle.task_rules.proofs.WalkTask.{advanced_walks, answered_walks, is_plain, is_still, running_moved}
-use Rattle.task_rules.specs.Allowed.{Blocks, ByHandle, HasSet, HasSubtask, IsNew, IsRunner, IsWithdrawn, Leaves, MayDeliver, MayJoin, MayMakeCall, MayRemoveWork, MayWithdraw, SaysEnd, Starts, Waits}
+use Rattle.task_rules.proofs.WalkMoves.{MayTake, checked_shifts, group_settled_walks, shifted, stopped_shifts, taken_walks, word, lands_at}
+use Rattle.task_rules.proofs.WalkTask.{advanced_walks, answered_walks, is_plain, is_still, running_moved, moved_passes, not_main}
+use Rattle.task_rules.specs.Allowed.{Blocks, ByHandle, HasSet, HasSubtask, IsNew, IsRunner, IsWithdrawn, Leaves, MayDeliver, MayJoin, MayMakeCall, MayRemoveWork, MayWithdraw, SaysEnd, Starts, Waits, MayCome, is_begun}
 use Rattle.task_rules.specs.Calls.{call_clears_flag, call_made, call_queues, call_resumes, call_stops, enter_runs, new_call, new_thread, next_thread, put_back, settle_group_of, sync_sets_flag, with_thread_handle, work_deleted, work_group}
-use Rattle.task_rules.specs.Cancels.{Async, Mode, Sync, behind_switch, cancel_goes_behind, cancel_label, cancel_stops, cancel_takes_end}
-use Rattle.task_rules.specs.Chains.{NoWord, Walk, is_running}
+use Rattle.task_rules.specs.Cancels.{Mode, behind_switch, cancel_goes_behind, cancel_label, cancel_stops, cancel_takes_end}
+use Rattle.task_rules.specs.Chains.{NoWord, Stay, Trip, is_running, Remains}
 use Rattle.task_rules.specs.Places.{says}
 use Rattle.task_rules.specs.Scenes.{Scene}
 use Rattle.task_rules.specs.Scripts.{registers_for}
 use Rattle.task_rules.specs.Sets.{chosen, given_code, given_handle, given_result, received, set_given, wait_stops}
-use Rattle.task_rules.specs.Words.{Enter, GoBehind, MakeCall, Move, NameThread, Put, RemoveWork, SetCallEvent, SetCallJoin, SetDoNotSuspend, SetEnd, SetExited, SetHowFar, SetRegister, SetSavedCallee, SetSavedOwn, SetStarted, SetUninteresting, SetWorkEvent, SetWorkJoin, Stop, Withdraw, after_word}
+use Rattle.task_rules.specs.Words.{Enter, GoBehind, MakeCall, Move, NameThread, Put, RemoveWork, SetCallEvent, SetCallJoin, SetDoNotSuspend, SetEnd, SetExited, SetHowFar, SetRegister, SetSavedCallee, SetSavedOwn, SetStarted, SetUninteresting, TakeWorkEvent, SetWorkJoin, Stop, Withdraw, after_word, after_placing}
 use Rattle.task_machine.specs.declared.component.ExportKind.TheVariants as kind
 use Rattle.task_machine.specs.declared.records.CallEnd.TheVariants as call_end
 use Rattle.task_machine.specs.declared.records.Caller.TheVariants as caller
@@ -50,91 +54,61 @@ use Rattle.task_machine.specs.declared.records.Subtask.TheVariants as subtask
 use Rattle.task_machine.specs.declared.records.Turn.TheVariants as turn
 use Rattle.task_machine.specs.declared.records.Why.TheVariants as why
 use Rattle.task_machine.specs.declared.words.Mark.TheVariants as mark
-use Rattle.task_machine.specs.declared.words.OwnEvent.TheVariants as own
 use Rattle.task_machine.specs.declared.words.Status.TheVariants as status
 
 -- ---- What is read
 
 pub set_none_join : (sub : Subtask) (t : Core) → is_joined (join_of sub (set_join sub join.Nowhere t)) ≡ false
 unfolding set_join on_call on_work
-set_none_join (subtask.Guest k) t = ap (λ (o : Option Call). is_joined (option_map_or (λ c. c.join) o join.Nowhere)) (get-change_same t.calls k (λ c. record c { join = join.Nowhere })) ∙ at (get t.calls k)
+set_none_join sub t = grind (arith, nat_tests, get-change)
+
+blocked_itself : (sub : Subtask) → is_blocked_on sub (place.Blocked sub) ≡ true
+blocked_itself sub = grind (arith, nat_tests)
+
+pub far_fresh : (n : ℕ) (t : Core) → how_far_of n (set_how_far n how_far.Fresh t) ≡ how_far.Fresh
+unfolding set_how_far on_thread
+far_fresh n t = grind (arith, nat_tests, get-change)
+
+-- the answer may come before the work is gone
+pub answered_first : (n r v i : ℕ) (s : Core) → work_deleted i (assigned n r v s) ≡ assigned n r v (work_deleted i s)
+unfolding work_deleted assigned advanced moved_to set_how_far set_position on_thread set_register remove_work group_settled remove_group is_group_done
+answered_first n r v i s = of_group (work_group i s)
   where
-    at : (o : Option Call) → is_joined (option_map_or (λ c. c.join) (option_map (λ (c : Call). record c { join = join.Nowhere }) o) join.Nowhere) ≡ false
-    at None = refl
-    at (Some c) = refl
-set_none_join (subtask.Host i) t = ap (λ (o : Option Work). is_joined (option_map_or (λ w. w.join) o join.Nowhere)) (get-change_same t.works i (λ w. record w { join = join.Nowhere })) ∙ at (get t.works i)
-  where
-    at : (o : Option Work) → is_joined (option_map_or (λ w. w.join) (option_map (λ (w : Work). record w { join = join.Nowhere }) o) join.Nowhere) ≡ false
-    at None = refl
-    at (Some w) = refl
+    by_done : (g : ℕ) (b : Bool) → (if b then remove_group g (remove_work i (assigned n r v s)) else remove_work i (assigned n r v s)) ≡ assigned n r v (if b then remove_group g (remove_work i s) else remove_work i s)
+    by_done g true = refl
+    by_done g false = refl
+
+    of_group : (o : Option ℕ) → settle_group_of o (remove_work i (assigned n r v s)) ≡ assigned n r v (settle_group_of o (remove_work i s))
+    of_group None = refl
+    of_group (Some g) = by_done g (is_group_done g (remove_work i s))
 
 pub work_unnamed : (i : ℕ) (t : Core) → subtask_handle (subtask.Host i) (set_subtask_handle (subtask.Host i) None t) ≡ None
 unfolding set_subtask_handle on_work
-work_unnamed i t = ap (λ (o : Option Work). option_and_then (λ w. w.handle) o) (get-change_same t.works i (λ w. record w { handle = None })) ∙ at (get t.works i)
-  where
-    at : (o : Option Work) → option_and_then (λ w. w.handle) (option_map (λ (w : Work). record w { handle = None }) o) ≡ None
-    at None = refl
-    at (Some w) = refl
+work_unnamed i t = grind (arith, nat_tests, get-change)
 
 pub freed_named : (i h k : ℕ) (t : Core) → subtask_handle (subtask.Host k) (free_handle i h t) ≡ subtask_handle (subtask.Host k) t
 unfolding free_handle
 freed_named i h k t = refl
 
 pub join_plain : (n : ℕ) (w : Option ℕ) → is_still (join_label n w) ≡ true
-join_plain n None = refl
-join_plain n (Some w) = refl
+join_plain n w = grind arith
 
 pub wait_plain : (n : ℕ) (v : Given) (w : Option ℕ) → is_plain (wait_label n v w) ≡ true
-wait_plain n v None = refl
-wait_plain n v (Some w) = refl
+wait_plain n v w = grind arith
 
 pub cancel_plain : (mode : Mode) (n v : ℕ) → is_plain (cancel_label mode n v) ≡ true
-cancel_plain Async n v = refl
-cancel_plain Sync n v = refl
+cancel_plain mode n v = grind arith
 
 -- a chosen member is named by a handle
 chosen_named : (n : ℕ) (ch : Choice) (s : Core) (sub : Subtask) → chosen n ch s ≡ Some sub → (h : ℕ) × (subtask_at (instance_of n s) h s ≡ Some sub)
-chosen_named n ch s sub e = at ch.member e
-  where
-    at : (o : Option ℕ) → option_and_then (λ h. subtask_at (instance_of n s) h s) o ≡ Some sub → (h : ℕ) × (subtask_at (instance_of n s) h s ≡ Some sub)
-    at None f = absurd (subst T (ap (λ (o : Option Subtask). is_none o) f) tt)
-    at (Some h) f = (h, f)
-
-some_same : {X : Type 0} (x y : X) → Some x ≡ Some y → x ≡ y
-some_same x y e = ap (λ o. unwrap_or o x) e
+chosen_named n ch s sub e = (unwrap_or ch.member 0, grind arith)
 
 -- what a gift may be: a task takes Cancelled only by callback, and a member is the chosen one
 pub gift_is : (a : Scene) (n : ℕ) (by : Bool) (y : ℕ) (ch : Choice) (g : Gift) → IsRunner a n → (by ≡ true → MayDeliver a (task_of n a.base)) → gift by (task_of n a.base) y (chosen n ch a.base) a.base ≡ Some g → MayTake a (task_of n a.base) g
 unfolding gift
-gift_is a n by y ch g is delivers e = of_own (own_event_of (task_of n a.base) a.base) by refl e
-  where
-    k : ℕ
-    k = task_of n a.base
-
-    given : (g h : Gift) → Some g ≡ Some h → MayTake a k g → MayTake a k h
-    given g h same ok = subst (MayTake a k) (some_same g h same) ok
-
-    of_member : (o : Option Subtask) → chosen n ch a.base ≡ o → (b : Bool) → (if b then member_gift y o a.base else Some NoGift) ≡ Some g → MayTake a k g
-    of_member o at false f = given NoGift g f tt
-    of_member None at true f = absurd (subst T (ap (λ (r : Option Gift). is_none r) f) tt)
-    of_member (Some sub) at true f = by_test (is_ready_member y sub a.base) f
-      where
-        by_test : (b : Bool) → (if b then Some (MemberGift sub) else None) ≡ Some g → MayTake a k g
-        by_test true f = let c = chosen_named n ch a.base sub at in given (MemberGift sub) g f (n, (is, ByHandle c.0 c.1))
-        by_test false f = absurd (subst T (ap (λ (r : Option Gift). is_none r) f) tt)
-
-    not_cancelled : {A : Type 0} → own.None ≡ own.Cancelled → A
-    not_cancelled f = absurd (subst T (ap is_none_event f) tt)
-      where
-        is_none_event : OwnEvent → Bool
-        is_none_event own.None = true
-        is_none_event own.Cancelled = false
-
-    of_own : (o : Option OwnEvent) (b : Bool) → by ≡ b → gift_after_own (own_gift b o) y (chosen n ch a.base) a.base ≡ Some g → MayTake a k g
-    of_own None b at f = of_member (chosen n ch a.base) refl (has_ready_member y a.base) f
-    of_own (Some own.None) b at f = given (OwnGift own.None) g f ((n, (is, refl)), λ c. not_cancelled c)
-    of_own (Some own.Cancelled) true at f = given (OwnGift own.Cancelled) g f ((n, (is, refl)), λ c. delivers at)
-    of_own (Some own.Cancelled) false at f = of_member (chosen n ch a.base) refl (has_ready_member y a.base) f
+gift_is a n by y ch (OwnGift v) is delivers e = ((n, (is, refl)), λ c. delivers (grind arith))
+gift_is a n by y ch (MemberGift sub) is delivers e = let c = chosen_named n ch a.base sub (grind arith) in (n, (is, ByHandle c.0 c.1))
+gift_is a n by y ch NoGift is delivers e = tt
 
 withdraws_by : (k : ℕ) (o : Option ℕ) (es fs : List Entry) (t : Core) (c : Bool) → remove_thread k (record t { queues = with_switch o (if c then set_high es t else set_low fs t).queues }) ≡ remove_thread k (set_switch o (if c then set_high es t else set_low fs t))
 unfolding set_switch set_high set_low
@@ -148,93 +122,88 @@ withdraws k t = withdraws_by k (less_switch k t.queues.switch) (less k t.queues.
 -- ---- The moves
 
 module _ {a : Scene} {b : Core} (n : ℕ) (is : IsRunner a n) where
-  pub set_given_walks : (r : ℕ) (v : Given) {t : Core} → Walk a b t → Walk a b (set_given n r v t)
+  pub set_given_walks : (r : ℕ) (v : Given) {t : Core} → Stay a b t → Stay a b (set_given n r v t)
   unfolding set_given
   set_given_walks r v c = word (SetRegister n (r + 2) (given_result v)) tt (word (SetRegister n (r + 1) (given_handle v)) tt (word (SetRegister n r (given_code v)) tt c))
 
-  pub received_walks : (r : ℕ) (g : Gift) (v : Given) {t : Core} → MayTake a (task_of n t) g → Walk a b t → Walk a b (received n r g v t)
+  pub received_walks : (r : ℕ) (g : Gift) (v : Given) {t : Core} → MayTake a (task_of n t) g → Stay a b t → Stay a b (received n r g v t)
   unfolding received
   received_walks r g v {t = t} ok c = advanced_walks n is (set_given_walks r v (taken_walks g (task_of n t) ok c))
 
-  pub stopped_walks : (t : Core) → Walk a b t → Walk a b (stopped (foot_of n t) t)
+  pub stopped_walks : (t : Core) → Stay a b t → Stay a b (stopped (foot_of n t) t)
   stopped_walks t c = shifted (stopped_shifts (foot_of n t) t) c
 
-  pub checked_walks : (i : ℕ) {t : Core} → Walk a b t → Walk a b (checked i t)
+  pub checked_walks : (i : ℕ) {t : Core} → Stay a b t → Stay a b (checked i t)
   checked_walks i {t = t} c = shifted (checked_shifts i t) c
 
-  pub wait_stops_walks : (y : ℕ) {t : Core} → Leaves a n → HasSet a n y → Walk a b t → Walk a b (wait_stops n y t)
+  pub wait_stops_walks : (y : ℕ) {t : Core} → Leaves a n → HasSet a n y → Stay a b t → Trip a b (wait_stops n y t)
   unfolding wait_stops
-  wait_stops_walks y {t = t} leave has c = word (SetHowFar n (how_far.Waits y)) (is, has) (moved (Move n (place.Waiting y false)) (Waits y leave has refl) (stopped_walks t c))
+  wait_stops_walks y {t = t} leave has c = lands_at (Move n (place.Waiting y false)) n (how_far.Waits y) (Waits y leave has refl) (is, has) (stopped_walks t c)
 
-  pub join_walks : (sub : Subtask) (j : Join) {t : Core} → MayJoin a sub j t → Walk a b t → Walk a b (set_join sub j t)
+  pub join_walks : (sub : Subtask) (j : Join) {t : Core} → MayJoin a sub j t → Stay a b t → Stay a b (set_join sub j t)
   join_walks (subtask.Guest k) j ok c = word (SetCallJoin k j) ok c
   join_walks (subtask.Host i) j ok c = word (SetWorkJoin i j) ok c
 
-  event_taken_walks : (sub : Subtask) {t : Core} → HasSubtask a n sub → Walk a b t → Walk a b (set_event sub None t)
+  event_taken_walks : (sub : Subtask) {t : Core} → HasSubtask a n sub → Stay a b t → Stay a b (set_event sub None t)
   event_taken_walks (subtask.Guest k) has c = word (SetCallEvent k None) (n, (is, has)) c
-  event_taken_walks (subtask.Host i) has c = word (SetWorkEvent i None) (n, (is, has)) c
+  event_taken_walks (subtask.Host i) has c = word (TakeWorkEvent i) (n, (is, has)) c
 
-  pub put_back_walks : (o : Option Bool) (j : ℕ) {t : Core} → Walk a b t → Walk a b (put_back o j t)
+  pub put_back_walks : (o : Option Bool) (j : ℕ) {t : Core} → Stay a b t → Stay a b (put_back o j t)
   put_back_walks None j c = c
   put_back_walks (Some f) j c = word (SetDoNotSuspend j f) tt c
 
-  pub call_resumes_walks : (k : ℕ) {t : Core} → HasSubtask a n (subtask.Guest k) → Walk a b t → Walk a b (call_resumes n k t)
+  pub call_resumes_walks : (k : ℕ) {t : Core} → HasSubtask a n (subtask.Guest k) → Stay a b t → Stay a b (call_resumes n k t)
   unfolding call_resumes
   call_resumes_walks k {t = t} has c = event_taken_walks (subtask.Guest k) has (put_back_walks (saved_callee_of n t) (call_instance k t) c)
 
-  pub call_stops_walks : (sub : Subtask) (t : Core) → Leaves a n → ((u : Core) → Shifted t u → HasSubtask a n sub ⊎ IsNew a sub u) → Walk a b t → Walk a b (call_stops n sub t)
+  pub call_stops_walks : (sub : Subtask) (t : Core) → Leaves a n → ((u : Core) → Shifted t u → HasSubtask a n sub ⊎ IsNew a sub u) → ((u : Core) → Shifted t u → option_map_or (is_blocked_on sub) (place_of n u) true ≡ true → MayCome a n (how_far.Calls sub) u) → Stay a b t → Trip a b (call_stops n sub t)
   unfolding call_stops
-  call_stops_walks sub t leave own c =
+  call_stops_walks sub t leave own come c =
       let u = stopped (foot_of n t) t in
       let h : Shifted t u = placing_shifted (Stop (foot_of n t)) t in
-      word (SetHowFar n (how_far.Calls sub)) (is, own (set_place n (place.Blocked sub) u) (shifted_after h (placing_shifted (Move n (place.Blocked sub)) u)))
-      (moved (Move n (place.Blocked sub)) (Blocks sub leave (own u h) refl) (stopped_walks t c))
+      lands_at (Move n (place.Blocked sub)) n (how_far.Calls sub) (Blocks sub leave (own u h) refl) (come (set_place n (place.Blocked sub) u) (shifted_after h (placing_shifted (Move n (place.Blocked sub)) u)) (moved_passes (is_blocked_on sub) (place.Blocked sub) (blocked_itself sub) n u)) (stopped_walks t c)
 
-  pub sync_sets_flag_walks : (m j : ℕ) (k : ExportKind) {t : Core} → Walk a b t → Walk a b (sync_sets_flag m j k t)
+  pub sync_sets_flag_walks : (m j : ℕ) (k : ExportKind) {t : Core} → Stay a b t → Stay a b (sync_sets_flag m j k t)
   sync_sets_flag_walks m j kind.Sync {t = t} c = word (SetDoNotSuspend j true) tt (word (SetSavedOwn m (Some (may_not_suspend j t))) tt c)
-  sync_sets_flag_walks m j kind.Blocking c = c
-  sync_sets_flag_walks m j kind.Stackful c = c
-  sync_sets_flag_walks m j kind.Callback c = c
+  sync_sets_flag_walks m j _ c = c
 
-  call_clears_flag_walks : (j : ℕ) (k : ExportKind) {t : Core} → Walk a b t → Walk a b (call_clears_flag n j k t)
+  call_clears_flag_walks : (j : ℕ) (k : ExportKind) {t : Core} → Stay a b t → Stay a b (call_clears_flag n j k t)
   call_clears_flag_walks j kind.Sync c = c
-  call_clears_flag_walks j kind.Blocking {t = t} c = word (SetDoNotSuspend j false) tt (word (SetSavedCallee n (Some (may_not_suspend j t))) tt c)
-  call_clears_flag_walks j kind.Stackful {t = t} c = word (SetDoNotSuspend j false) tt (word (SetSavedCallee n (Some (may_not_suspend j t))) tt c)
-  call_clears_flag_walks j kind.Callback {t = t} c = word (SetDoNotSuspend j false) tt (word (SetSavedCallee n (Some (may_not_suspend j t))) tt c)
+  call_clears_flag_walks j _ {t = t} c = word (SetDoNotSuspend j false) tt (word (SetSavedCallee n (Some (may_not_suspend j t))) tt c)
 
-  settle_group_of_walks : (o : Option ℕ) {t : Core} → Walk a b t → Walk a b (settle_group_of o t)
+  settle_group_of_walks : (o : Option ℕ) {t : Core} → Stay a b t → Stay a b (settle_group_of o t)
   settle_group_of_walks None c = c
   settle_group_of_walks (Some g) c = group_settled_walks g c
 
-  pub work_deleted_walks : (i : ℕ) {t : Core} → MayRemoveWork a i t → Walk a b t → Walk a b (work_deleted i t)
+  pub work_deleted_walks : (i : ℕ) {t : Core} → MayRemoveWork a i t → Stay a b t → Stay a b (work_deleted i t)
   unfolding work_deleted
   work_deleted_walks i {t = t} ok c = settle_group_of_walks (work_group i t) (word (RemoveWork i) ok c)
 
-  pub cancel_takes_end_walks : (r : ℕ) (sub : Subtask) (e : Status) {t : Core} → HasSubtask a n sub → Walk a b t → Walk a b (cancel_takes_end n r sub e t)
+  pub cancel_takes_end_walks : (r : ℕ) (sub : Subtask) (e : Status) {t : Core} → HasSubtask a n sub → Stay a b t → Stay a b (cancel_takes_end n r sub e t)
   unfolding cancel_takes_end
   cancel_takes_end_walks r sub e has c = answered_walks n is r (status_code e) (event_taken_walks sub has c)
 
-  pub cancel_stops_walks : (sub : Subtask) {t : Core} → Leaves a n → HasSubtask a n sub → (is_joined (join_of sub a.base) ≡ false) ⊎ (how_far_of n a.base ≡ how_far.Cancels sub) → Walk a b t → Walk a b (cancel_stops n sub t)
+  pub cancel_stops_walks : (sub : Subtask) {t : Core} → Leaves a n → HasSubtask a n sub → (is_joined (join_of sub a.base) ≡ false) ⊎ (how_far_of n a.base ≡ how_far.Cancels sub) → Stay a b t → Trip a b (cancel_stops n sub t)
   unfolding cancel_stops
   cancel_stops_walks sub {t = t} leave has free c =
       let u = set_join sub (join.Watched n) (set_saved_callee n None t) in
-      word (SetHowFar n (how_far.AwaitsEnd sub)) (is, has) (moved (Move n (place.Blocked sub)) (Blocks sub leave (inl has) refl) (stopped_walks (checked (instance_of n t) u) (checked_walks (instance_of n t) (join_walks sub (join.Watched n) (is, (has, free)) (word (SetSavedCallee n None) tt c)))))
+      lands_at (Move n (place.Blocked sub)) n (how_far.AwaitsEnd sub) (Blocks sub leave (inl has) refl) (is, has) (stopped_walks (checked (instance_of n t) u) (checked_walks (instance_of n t) (join_walks sub (join.Watched n) (is, (has, free)) (word (SetSavedCallee n None) tt c))))
 
-  behind_switch_walks : (o : Option ℕ) {t : Core} → Leaves a n → Walk a b t → Walk a b (behind_switch n o t)
-  behind_switch_walks None leave c = c
-  behind_switch_walks (Some m) {t = t} leave c = moved (GoBehind (foot_of m t) n) leave c
+  behind_switch_walks : (o : Option ℕ) (h : HowFar) {t : Core} → t.queues.switch ≡ o → Leaves a n → ((u : Core) → MayCome a n h u) → Stay a b t → Trip a b (set_how_far n h (behind_switch n o t))
+  behind_switch_walks None h {t = t} at leave comes c = Remains (set_how_far n h t) (word (SetHowFar n h) (comes t) c) (λ m to. not_main m (sym leave.1.0 ∙ to))
+  behind_switch_walks (Some m) h {t = t} at leave comes c = lands_at (GoBehind (foot_of m t) n) n h (leave, inr (m, (at, refl))) (comes (after_placing (GoBehind (foot_of m t) n) t)) c
 
-  pub cancel_goes_behind_walks : (k : ℕ) {t : Core} → Leaves a n → HasSubtask a n (subtask.Guest k) → is_joined (join_of (subtask.Guest k) a.base) ≡ false → Walk a b t → Walk a b (cancel_goes_behind n k t)
-  unfolding cancel_goes_behind
+  pub cancel_goes_behind_walks : (k : ℕ) {t : Core} → Leaves a n → HasSubtask a n (subtask.Guest k) → is_joined (join_of (subtask.Guest k) a.base) ≡ false → Stay a b t → Trip a b (cancel_goes_behind n k t)
+  unfolding cancel_goes_behind set_join on_call set_do_not_suspend on_instance set_saved_callee on_thread
   cancel_goes_behind_walks k {t = t} leave has free c =
       let j = call_instance k t in
-      word (SetHowFar n (how_far.Cancels (subtask.Guest k))) (is, has) (behind_switch_walks t.queues.switch leave
-      (join_walks (subtask.Guest k) (join.Watched n) (is, (has, inl free)) (word (SetDoNotSuspend j false) tt (word (SetSavedCallee n (Some (may_not_suspend j t))) tt c))))
+      behind_switch_walks t.queues.switch (how_far.Cancels (subtask.Guest k)) refl leave (λ u. (is, has))
+      (join_walks (subtask.Guest k) (join.Watched n) (is, (has, inl free)) (word (SetDoNotSuspend j false) tt (word (SetSavedCallee n (Some (may_not_suspend j t))) tt c)))
 
-  pub withdrawn_walks : (k : ℕ) {t : Core} → MayWithdraw a k t → SaysEnd a k status.StartCancelled → Walk a b t → Walk a b (withdrawn k t)
+  pub withdrawn_walks : (k : ℕ) {t : Core} → MayWithdraw a k t → SaysEnd a k status.StartCancelled → Stay a b t → Stay a b (withdrawn k t)
   unfolding withdrawn remove_thread
   withdrawn_walks k {t = t} ok says c =
-      subst (λ (v : Core). Walk a b (set_uninteresting k (set_exited k (set_end k call_end.StartCancelled v)))) (withdraws k t)
+      subst (λ (v : Core). Stay a b (set_uninteresting k (set_exited k (set_end k call_end.StartCancelled v)))) (withdraws k t)
       (word (SetUninteresting k) tt (word (SetExited k) tt (word (SetEnd k call_end.StartCancelled) (IsWithdrawn ok (ap (λ (o : Option Thread). is_none o) (get-remove_same t.threads k)) refl, says) (word (Withdraw k) ok c))))
 
 -- ---- A new call
@@ -260,26 +229,15 @@ pub record Born (m : ℕ) (g : Goal) (t : Core) : Type 0 where
   pub goal : goal_of m t ≡ g
   pub made : t.made.threads ≡ m
 
-born_read : {A : Type 0} (f : Thread → A) (none : A) → ((r : Thread) → f (birth r) ≡ f r) → (o : Option Thread) (r : Thread) → option_map birth o ≡ Some (birth r) → option_map_or f o none ≡ f r
-born_read f none same o r e = sym (at o) ∙ (ap (λ q. option_map_or f q none) e ∙ same r)
-  where
-    at : (q : Option Thread) → option_map_or f (option_map birth q) none ≡ option_map_or f q none
-    at None = refl
-    at (Some u) = same u
-
-born_place_at : (o : Option Thread) (r : Thread) → option_map birth o ≡ Some (birth r) → option_map (λ (u : Thread). u.place) o ≡ Some r.place
-born_place_at None r e = absurd (subst T (ap (λ (o : Option Thread). is_none o) e) tt)
-born_place_at (Some u) r e = ap (λ (o : Option Thread). option_map (λ (v : Thread). v.place) o) e
-
 module _ {m : ℕ} {g : Goal} {t : Core} (h : Born m g t) where
   pub born_place : place_of m t ≡ Some place.New
-  born_place = born_place_at (get t.threads m) (new_thread m false script.Start [] None) h.thread
+  born_place = grind (arith, h.thread)
 
   pub born_explicit : is_explicit m t ≡ false
-  born_explicit = born_read (λ r. r.explicit) false (λ r. refl) (get t.threads m) (new_thread m false script.Start [] None) h.thread
+  born_explicit = grind (arith, h.thread)
 
   pub born_task : task_of m t ≡ m
-  born_task = born_read (λ r. r.call) 0 (λ r. refl) (get t.threads m) (new_thread m false script.Start [] None) h.thread
+  born_task = grind (arith, h.thread)
 
   pub born_goal : goal_of (task_of m t) t ≡ g
   born_goal = ap (λ (k : ℕ). goal_of k t) born_task ∙ h.goal
@@ -304,24 +262,21 @@ handle_born i m g t h = thread_born m m g (λ r. record r { handle = Some (new_t
 
 started_born : (k m : ℕ) (g : Goal) (t : Core) → Born m g t → Born m g (set_started k t)
 unfolding set_started on_call
-started_born k m g t h = record { thread = h.thread; goal = goal_same k m t ∙ h.goal; made = h.made }
-  where
-    goal_same : (k m : ℕ) (t : Core) → option_map_or (λ (c : Call). c.goal) (get (change k (λ (c : Call). record c { started = true }) t.calls) m) goal.Nowhere ≡ goal_of m t
-    goal_same k m t = map_or (get (change k (λ (c : Call). record c { started = true }) t.calls) m) (get t.calls m) (change-field (λ (c : Call). c.goal) k (λ (c : Call). record c { started = true }) (λ c. refl) t.calls m)
-      where
-        map_or : (o p : Option Call) → option_map (λ (c : Call). c.goal) o ≡ option_map (λ (c : Call). c.goal) p → option_map_or (λ (c : Call). c.goal) o goal.Nowhere ≡ option_map_or (λ (c : Call). c.goal) p goal.Nowhere
-        map_or o p e = sym (at o) ∙ (ap (λ (q : Option Goal). unwrap_or q goal.Nowhere) e ∙ at p)
-          where
-            at : (q : Option Call) → unwrap_or (option_map (λ (c : Call). c.goal) q) goal.Nowhere ≡ option_map_or (λ (c : Call). c.goal) q goal.Nowhere
-            at None = refl
-            at (Some c) = refl
+started_born k m g t h = record { thread = h.thread; goal = grind (arith, nat_tests, get-change, h.goal); made = h.made }
 
 flag_born : (m j : ℕ) (k : ExportKind) (g : Goal) (t : Core) → Born m g t → Born m g (sync_sets_flag m j k t)
 unfolding set_do_not_suspend on_instance set_saved_own
 flag_born m j kind.Sync g t h = let u = thread_born m m g (λ r. record r { saved_own = Some (may_not_suspend j t) }) t (λ r. refl) h in record { thread = u.thread; goal = u.goal; made = u.made }
-flag_born m j kind.Blocking g t h = h
-flag_born m j kind.Stackful g t h = h
-flag_born m j kind.Callback g t h = h
+flag_born m j _ g t h = h
+
+-- a call whose start runs has begun
+pub started_begun : (k : ℕ) (t : Core) → is_begun k (set_started k t) ≡ true
+unfolding set_started on_call
+started_begun k t = grind (arith, nat_tests, get-change)
+
+pub flag_calls : (m j : ℕ) (k : ExportKind) (t : Core) → (sync_sets_flag m j k t).calls ≡ t.calls
+unfolding set_do_not_suspend on_instance set_saved_own on_thread
+flag_calls m j k t = grind arith
 
 -- where the thread is put or goes no more is said than whose it is
 shifted_new : (a : Scene) (m : ℕ) (s t : Core) → m ≡ next_thread a.base → Shifted s t → (s.made.threads ≡ m) × (is_explicit m s ≡ false) → IsNew a (subtask.Guest m) t
@@ -329,26 +284,14 @@ shifted_new a m s t is h e = (is, (ap (λ (d : Made). d.threads) (shifted_made h
 
 cleared_explicit : (n j : ℕ) (k : ExportKind) (m : ℕ) (t : Core) → (t.made.threads ≡ m) × (is_explicit m t ≡ false) → ((call_clears_flag n j k t).made.threads ≡ m) × (is_explicit m (call_clears_flag n j k t) ≡ false)
 unfolding set_do_not_suspend on_instance set_saved_callee on_thread
-cleared_explicit n j k m t e = by_kind k
-  where
-    explicit_same : (f : Option Bool) → is_explicit m (set_saved_callee n f t) ≡ is_explicit m t
-    explicit_same f = read_unplaced_by (get (set_saved_callee n f t).threads m) (get t.threads m) (change-field (λ (r : Thread). r.explicit) n (λ r. record r { saved_callee = f }) (λ r. refl) t.threads m)
-      where
-        read_unplaced_by : (o p : Option Thread) → option_map (λ (r : Thread). r.explicit) o ≡ option_map (λ (r : Thread). r.explicit) p → option_map_or (λ (r : Thread). r.explicit) o false ≡ option_map_or (λ (r : Thread). r.explicit) p false
-        read_unplaced_by o p f = sym (at o) ∙ (ap (λ (q : Option Bool). unwrap_or q false) f ∙ at p)
-          where
-            at : (q : Option Thread) → unwrap_or (option_map (λ (r : Thread). r.explicit) q) false ≡ option_map_or (λ (r : Thread). r.explicit) q false
-            at None = refl
-            at (Some r) = refl
+cleared_explicit n j k m t e = grind (arith, nat_tests, get-change)
 
-    by_kind : (k : ExportKind) → ((call_clears_flag n j k t).made.threads ≡ m) × (is_explicit m (call_clears_flag n j k t) ≡ false)
-    by_kind kind.Sync = e
-    by_kind kind.Blocking = (e.0, explicit_same (Some (may_not_suspend j t)) ∙ e.1)
-    by_kind kind.Stackful = (e.0, explicit_same (Some (may_not_suspend j t)) ∙ e.1)
-    by_kind kind.Callback = (e.0, explicit_same (Some (may_not_suspend j t)) ∙ e.1)
+cleared_there : (n j : ℕ) (k : ExportKind) (m : ℕ) (t : Core) → is_some (place_of m (call_clears_flag n j k t)) ≡ is_some (place_of m t)
+unfolding set_do_not_suspend on_instance set_saved_callee on_thread
+cleared_there n j k m t = grind (arith, nat_tests, get-change)
 
 module _ {a : Scene} (n : ℕ) (is : IsRunner a n) where
-  pub call_queues_walks : (e : Callee) (k : ExportKind) (g : Goal) (words : List ℕ) → Leaves a n → MayMakeCall a (caller.Thread n) e k g (thread_group n a.base) a.base → is_direct g ≡ false → Walk a a.base (call_queues n e k g words a.base)
+  pub call_queues_walks : (e : Callee) (k : ExportKind) (g : Goal) (words : List ℕ) → Leaves a n → MayMakeCall a (caller.Thread n) e k g (thread_group n a.base) a.base → is_direct g ≡ false → Trip a a.base (call_queues n e k g words a.base)
   unfolding call_queues
   call_queues_walks e k g words leave ok plain =
       let s = a.base in
@@ -360,13 +303,12 @@ module _ {a : Scene} (n : ℕ) (is : IsRunner a n) where
       let d : Shifted t u = placing_shifted p t in
       let v = call_clears_flag n e.instance k u in
       let new : (v.made.threads ≡ m) × (is_explicit m v ≡ false) = cleared_explicit n e.instance k m u (ap (λ (r : Made). r.threads) (shifted_made d) ∙ h.made, shifted_explicit d m ∙ born_explicit h) in
-      word (SetHowFar n (how_far.Calls (subtask.Guest m))) (is, inr (shifted_new a m v (behind_one m n v) refl (placing_shifted (GoBehind m n) v) new))
-      (moved (GoBehind m n) leave (call_clears_flag_walks n is e.instance k
-      (placed p (inl (Starts (born_place h) (born_explicit h) (ap (λ (y : Goal). is_direct y) (born_goal h) ∙ plain) refl)) (word (MakeCall (caller.Thread n) e k g (thread_group n s) words) ok NoWord))))
+      lands_at (GoBehind m n) n (how_far.Calls (subtask.Guest m)) (leave, inl (cleared_there n e.instance k m u ∙ ap (λ (o : Option Place). is_some o) (put_place mark.Switch m why.Start t (ap (λ (o : Option Place). is_some o) (born_place h))))) (is, inr (shifted_new a m v (behind_one m n v) refl (placing_shifted (GoBehind m n) v) new)) (call_clears_flag_walks n is e.instance k
+      (placed p (inl (Starts (born_place h) (born_explicit h) (ap (λ (y : Goal). is_direct y) (born_goal h) ∙ plain) refl)) (word (MakeCall (caller.Thread n) e k g (thread_group n s) words) ok NoWord)))
 
-  pub enter_runs_walks : (e : Callee) (k : ExportKind) (words : List ℕ) → a.next ≡ turn.Run (next_thread a.base) → MayMakeCall a (caller.Thread n) e k goal.Direct (thread_group n a.base) a.base → Walk a a.base (enter_runs n e k words a.base)
+  pub enter_runs_walks : (e : Callee) (k : ExportKind) (words : List ℕ) → a.turn ≡ turn.Run n → a.next ≡ turn.Run (next_thread a.base) → MayMakeCall a (caller.Thread n) e k goal.Direct (thread_group n a.base) a.base → Trip a a.base (enter_runs n e k words a.base)
   unfolding enter_runs
-  enter_runs_walks e k words to ok =
+  enter_runs_walks e k words runs to ok =
       let s = a.base in
       let m = next_thread s in
       let t = call_made (caller.Thread n) e k goal.Direct (thread_group n s) words s in
@@ -375,9 +317,9 @@ module _ {a : Scene} (n : ℕ) (is : IsRunner a n) where
       let h2 : Born m goal.Direct (set_started m t1) = started_born m m goal.Direct t1 h1 in
       let u = sync_sets_flag m e.instance k (set_started m t1) in
       let h : Born m goal.Direct u = flag_born m e.instance k goal.Direct (set_started m t1) h2 in
-      word (SetHowFar n (how_far.Calls (subtask.Guest m))) (is, inr (shifted_new a m u _ refl (placing_shifted (Enter n m) u) (h.made, born_explicit h)))
-      (moved (Enter n m) (is, (to, (refl, (born_place h, ap (λ (y : Goal). is_direct y) (born_goal h)))))
-      (sync_sets_flag_walks n is m e.instance k (word (SetStarted m) (inr (refl, (h1.made, born_explicit h1))) (word (NameThread e.instance m) tt (word (MakeCall (caller.Thread n) e k goal.Direct (thread_group n s) words) ok NoWord)))))
+      let begun : is_begun m u ≡ true = ap (λ (r : Records Call). option_map_or (λ c. c.started) (get r m) true) (flag_calls m e.instance k (set_started m t1)) ∙ started_begun m t1 in
+      lands_at (Enter n m) n (how_far.Calls (subtask.Guest m)) (is, (to, (refl, (born_place h, (ap (λ (y : Goal). is_direct y) (born_goal h), (runs, begun)))))) (is, inr (shifted_new a m u _ refl (placing_shifted (Enter n m) u) (h.made, born_explicit h)))
+      (sync_sets_flag_walks n is m e.instance k (word (SetStarted m) (inr (refl, (h1.made, born_explicit h1))) (word (NameThread e.instance m) tt (word (MakeCall (caller.Thread n) e k goal.Direct (thread_group n s) words) ok NoWord))))
 
 pub enter_gives : (n : ℕ) (e : Callee) (k : ExportKind) (words : List ℕ) (s : Core) → (next_thread s == n) ≡ false → option_map_or is_running (place_of (next_thread s) (enter_runs n e k words s)) true ≡ true
 unfolding enter_runs set_how_far on_thread

@@ -1,28 +1,27 @@
 -- The rows of ops as chains of words: what a row owes, the ops on registers and words, and the ops that end a task or an activation.
-use Rattle.task_rules.proofs.MuteLemmas.{is_mute, mute_words}
-use Rattle.task_rules.proofs.WalkEnds.{cancelled_rest, returned_rest}
-use Rattle.task_rules.specs.Allowed.{SaysEnd}
-use Rattle.task_rules.specs.Chains.{EndWords, HandsOut, WritesToo, is_over}
-use Rattle.task_rules.specs.SubtaskEnds.{SubtaskEnd, end_for, handed_by, is_ending_exit}
+use Rattle.task_rules.proofs.SayLemmas.{said_is}
+use Rattle.task_rules.proofs.MuteLemmas.{is_mute, mute_words, none_said}
+use Rattle.task_rules.proofs.WalkEnds.{cancelled_rest, returned_rest, SameCall, cancelled_walks, returned_walks, still_told_to, unanswered}
+use Rattle.task_rules.specs.Allowed.{SaysEnd, AwaitsEvent, BySetHandle, ComesAgain, EndsActivation, Exits, FindsEvent, GivesUp, HasSet, IsRunner, Leaves, MayBar, MayEnd, MayOwe, ReturnsNow, Uncovers, is_exit}
+use Rattle.task_rules.specs.Chains.{EndWords, HandsOut, WritesToo, is_over, EndsByExit, EndsCall, EndsOwn, Writes, WritesCall, Remains, GoesBack, LastWords, NoWord, Stay, Trip, Walk, is_running}
+use Rattle.task_rules.proofs.ChainLemmas.{trip_walk, stay_walk}
+use Rattle.task_rules.specs.SubtaskEnds.{end_for, handed_by, is_ending_exit, task_end, written_by, written_by_exit}
+use Rattle.std.proofs.Common.{arith}
+use Rattle.std.proofs.lemmas.Bool.Decides.{nat_tests}
 use Rattle.task_machine.specs.declared.records.Subtask.{Subtask}
-use Rattle.task_machine.specs.declared.records.Subtask.TheVariants as subtask
 use Rattle.task_machine.specs.declared.words.Status.{Status}
 use Rattle.task_machine.specs.declared.records.CallEnd.{CallEnd}
-use Rattle.task_machine.specs.Write.{set_end, on_call}
-use Rattle.task_machine.proofs.MapLemmas.{get-change_same}
-use Rattle.task_rules.specs.SubtaskEnds.{task_end, written_by, written_by_exit}
-use Rattle.task_machine.specs.declared.words.Status.TheVariants as status
-use Rattle.std.proofs.Common.{T, ap, cond, inl, inr, length, refl, subst, suc, sym, ◌-◌, ◌∙◌, ◌⊎◌, ap₂, is_some}
+use Rattle.task_machine.specs.Write.{set_end, on_call, on_instance, on_thread, set_backpressure, set_do_not_enter, set_do_not_suspend, set_how_far, set_place}
+use Rattle.task_machine.proofs.MapLemmas.{change-field}
+use Rattle.std.proofs.Common.{T, ap, inl, inr, length, refl, subst, suc, sym, ◌-◌, ◌∙◌, ◌⊎◌, ap₂}
 use Rattle.std.specs.Option.{option_map_or}
 use Rattle.std.specs.Prelude.{Bool, List, None, Option, Some, false, if◌then◌else◌, is_none, min, nat_le, nat_lt, not, option_map, true, unwrap_or, zero, ℕ, ◌%◌, ◌&&◌, ◌*◌, ◌+◌, ◌/◌, ◌==◌, ◌≡◌, ◌||◌}
 use Rattle.task_machine.proofs.CommuteLemmas.{get-change}
-use Rattle.task_machine.proofs.MapLemmas.{change-field, get-change_same}
 use Rattle.task_machine.specs.Core.{Core, Main}
 use Rattle.task_machine.specs.Labels.{Choice, exit_label, ret_label, task_cancel_label}
 use Rattle.task_machine.specs.Maps.{Records, change, get, numbers}
 use Rattle.task_machine.specs.Moves.{checked, ended, passes_check, stopped}
 use Rattle.task_machine.specs.Read.{backpressure_of, cancel_was_delivered, foot_of, goal_of, has_ended, instance_of, is_async_lifted, is_at, is_direct, is_explicit, is_holding, is_under, kind_of, own_event_of, place_of, position_of, register_of, saved_own_of, set_at, task_of, under_of}
-use Rattle.task_machine.specs.Write.{on_instance, on_thread, set_backpressure, set_do_not_enter, set_do_not_suspend, set_end, set_how_far, set_place}
 use Rattle.task_machine.specs.declared.component.Component.{Component}
 use Rattle.task_machine.specs.declared.component.ExportKind.{ExportKind}
 use Rattle.task_machine.specs.declared.label.Label.{Label}
@@ -35,13 +34,9 @@ use Rattle.task_machine.specs.declared.records.Turn.{Turn}
 use Rattle.task_machine.specs.declared.trap.Trap.{Trap}
 use Rattle.task_machine.specs.declared.words.OwnEvent.{OwnEvent}
 use Rattle.task_rules.proofs.StopLemmas.{find_passes}
-use Rattle.task_rules.proofs.PlacingLemmas.{Shifted, shifted_calls, shifted_task, shifts_shifted}
-use Rattle.task_rules.proofs.StandLemmas.{is_eq_of}
-use Rattle.task_rules.proofs.WalkEnds.{SameCall, cancelled_walks, returned_walks, still_told_to, unanswered}
-use Rattle.task_rules.proofs.WalkMoves.{Chosen, ToldTo, checked_shifts, chosen_released, ended_gone, ended_walks, moved, released_shifts, shifted, stopped_shifts, told_to, word}
-use Rattle.task_rules.specs.Allowed.{AwaitsEvent, BySetHandle, ComesAgain, Departs, EndsActivation, EndsOver, Exits, FindsEvent, GivesUp, HasSet, IsRunner, Leaves, MayBar, MayEnd, MayGo, MayOwe, ReturnsNow, Uncovers, is_exit, SaysEnd}
+use Rattle.task_rules.proofs.PlacingLemmas.{Shifted, shifted_calls, shifted_task, shifts_shifted, placing_shifted}
+use Rattle.task_rules.proofs.WalkMoves.{Chosen, ToldTo, checked_shifts, chosen_released, ended_gone, ended_walks, exits_trip, lands, released_shifts, shifted, stopped_shifts, told_to, word}
 use Rattle.task_rules.specs.Calls.{answered}
-use Rattle.task_rules.specs.Chains.{LastWords, NoWord, Walk, is_running}
 use Rattle.task_rules.specs.Data.{advanced, assigned, data_row, moved_to, skip_row, skipped, stored}
 use Rattle.task_rules.specs.Ends.{blocking_exit_row, blocking_exits, code_exits, code_finds, code_kind_row, code_row, code_stops, code_wait_row, code_waits, code_yields, direct_exit_to, direct_exits, end_reopens, exit_restores, exit_row_for, exit_stops, has_event_for, held_by_flag, implicit_exit_row, kind_exit_row, leaves_no_result, may_tell, own_or_none, passes_after_return, passes_after_stop, returned, sync_exit_row, sync_exits, thread_exit_row}
 use Rattle.task_rules.specs.Once.{begun_holder, holder_at_exit, returned_holder}
@@ -53,6 +48,7 @@ use Rattle.task_rules.specs.Scripts.{script_of, value_of}
 use Rattle.task_rules.specs.Stalled.{Setting}
 use Rattle.task_rules.specs.Task.{dec_from, dec_lowers, dec_opens, inc_raises, inc_row, ret_done, ret_row, task_cancel_done, task_cancel_row, task_row}
 use Rattle.task_rules.specs.Words.{Move, Put, SetBackpressure, SetDoNotEnter, SetDoNotSuspend, SetEnd, SetHowFar, SetOwnEvent, SetPosition, SetRegister, SetSavedCallee, SetWord}
+use Rattle.task_machine.specs.declared.words.Status.TheVariants as status
 use Rattle.task_machine.specs.declared.component.ExportKind.TheVariants as kind
 use Rattle.task_machine.specs.declared.label.CallLabel.TheVariants as call_label
 use Rattle.task_machine.specs.declared.label.DataLabel.TheVariants as data_label
@@ -78,8 +74,8 @@ seen x main u s n l next = record { setting = x; main = main; turn = u; base = s
 
 -- From b a chain of words leads to what the row comes to, where that shows the scene's label and leads to its turn.
 abbrev pub Leads : Scene → Core → Progress → Type 0
-Leads a b (Goes l new m) = a.label ≡ l → a.next ≡ turn.Run m → Walk a b new × LastWords a new
-Leads a b (Stops l new) = a.label ≡ l → a.next ≡ turn.Main → Walk a b new × LastWords a new
+Leads a b (Goes l new m) = a.label ≡ l → a.next ≡ turn.Run m → Trip a b new × LastWords a new
+Leads a b (Stops l new) = a.label ≡ l → a.next ≡ turn.Main → Trip a b new × LastWords a new
 Leads a b (Traps t) = Unit {0}
 Leads a b (Fails i) = Unit {0}
 Leads a b Never = Unit {0}
@@ -121,107 +117,67 @@ abbrev pub is_still : Label → Bool
 is_still l = is_plain l && is_mute l
 
 still_parts : (p m : Bool) → (p && m) ≡ true → (p ≡ true) × (m ≡ true)
-still_parts true true h = (refl, refl)
-still_parts true false h = absurd (subst T (sym h) tt)
-still_parts false m h = absurd (subst T (sym h) tt)
+still_parts p m h = grind arith
 
 quiet_outcome : (l : Label) → is_quiet l ≡ true → outcome_of_label l ≡ None
-quiet_outcome (label.Main l) h = absurd (subst T (sym h) tt)
-quiet_outcome (label.Take l) h = absurd (subst T (sym h) tt)
-quiet_outcome (label.Loop l) h = absurd (subst T (sym h) tt)
-quiet_outcome (label.Call (call_label.Fails n i)) h = absurd (subst T (sym h) tt)
-quiet_outcome _ h = refl
+quiet_outcome l h = grind arith
 
 quiet_begins : (s : Core) (l : Label) → is_quiet l ≡ true → begun_holder s l ≡ None
-quiet_begins s (label.Take l) h = absurd (subst T (sym h) tt)
-quiet_begins s _ h = refl
+quiet_begins s l h = grind arith
 
 plain_quiet : (q e : Bool) → (q && not e) ≡ true → (q ≡ true) × (e ≡ false)
-plain_quiet true false h = (refl, refl)
-plain_quiet true true h = absurd (subst T (sym h) tt)
-plain_quiet false e h = absurd (subst T (sym h) tt)
+plain_quiet q e h = grind arith
 
 ret_plain : (n v : ℕ) (w : Option ℕ) → is_plain (ret_label n v w) ≡ true
-ret_plain n v None = refl
-ret_plain n v (Some w) = refl
+ret_plain n v w = grind arith
 
 task_cancel_plain : (n : ℕ) (w : Option ℕ) → is_plain (task_cancel_label n w) ≡ true
-task_cancel_plain n None = refl
-task_cancel_plain n (Some w) = refl
+task_cancel_plain n w = grind arith
 
-ret_writes : (c : Component) (n v : ℕ) (w : Option ℕ) (s : Core) → written_by c s (ret_label n v w) s ≡ task_end n status.Returned s
-ret_writes c n v None s = refl
-ret_writes c n v (Some y) s = refl
+ret_writes : (c : Component) (n v : ℕ) (w : Option ℕ) (s t : Core) → written_by c s (ret_label n v w) t ≡ task_end n status.Returned s
+ret_writes c n v w s t = grind arith
 
-task_cancel_writes : (c : Component) (n : ℕ) (w : Option ℕ) (s : Core) → written_by c s (task_cancel_label n w) s ≡ task_end n status.ReturnCancelled s
-task_cancel_writes c n None s = refl
-task_cancel_writes c n (Some y) s = refl
+task_cancel_writes : (c : Component) (n : ℕ) (w : Option ℕ) (s t : Core) → written_by c s (task_cancel_label n w) t ≡ task_end n status.ReturnCancelled s
+task_cancel_writes c n w s t = grind arith
 
 ret_hands : (c : Component) (m : Main) (n v : ℕ) (w : Option ℕ) (s t : Core) → handed_by c m s (ret_label n v w) t ≡ None
-ret_hands c m n v None s t = refl
-ret_hands c m n v (Some y) s t = refl
+ret_hands c m n v w s t = grind arith
 
 task_cancel_hands : (c : Component) (m : Main) (n : ℕ) (w : Option ℕ) (s t : Core) → handed_by c m s (task_cancel_label n w) t ≡ None
-task_cancel_hands c m n None s t = refl
-task_cancel_hands c m n (Some y) s t = refl
+task_cancel_hands c m n w s t = grind arith
 
 -- the call of which an end speaks
-abbrev pub call_named : Subtask → ℕ
-call_named (subtask.Guest k) = k
-call_named (subtask.Host i) = 0
-
-abbrev pub call_in : Option SubtaskEnd → ℕ
-call_in o = option_map_or (λ (e : SubtaskEnd). call_named e.subtask) o 0
-
--- a call that ends is over
 pub over_now : (k : ℕ) (e : CallEnd) (s : Core) → is_over k (set_end k e s) ≡ true
 unfolding set_end on_call
-over_now k e s = ap (λ o. option_map_or (λ (c : Call). is_some c.«end») o true) (get-change_same s.calls k (λ (c : Call). record c { «end» = Some e })) ∙ at (get s.calls k)
-  where
-    at : (o : Option Call) → option_map_or (λ (c : Call). is_some c.«end») (option_map (λ (c : Call). record c { «end» = Some e }) o) true ≡ true
-    at None = refl
-    at (Some c) = refl
+over_now k e s = grind (arith, nat_tests, get-change)
 
 exit_quiet : (n : ℕ) (w : Option ℕ) → is_quiet (exit_label n w) ≡ true
-exit_quiet n None = refl
-exit_quiet n (Some w) = refl
+exit_quiet n w = grind arith
 
 exit_is : (n : ℕ) (w : Option ℕ) → is_exit (exit_label n w) ≡ true
-exit_is n None = refl
-exit_is n (Some w) = refl
+exit_is n w = grind arith
 
 exit_returns : (n : ℕ) (w : Option ℕ) (s : Core) → returned_holder s (exit_label n w) ≡ holder_at_exit n s
-exit_returns n None s = refl
-exit_returns n (Some w) s = refl
+exit_returns n w s = grind arith
 
 pub none_is_some : {X : Type 0} {A : Type 0} (x : X) → None ≡ Some x → A
-none_is_some {X = X} x h = absurd (subst T (ap (λ (o : Option X). is_none o) h) tt)
+none_is_some x h = absurd (grind arith)
 
 pub one_runner : (n m : ℕ) → turn.Run n ≡ turn.Run m → n ≡ m
-one_runner n m e = ap runner e
-  where
-    runner : Turn → ℕ
-    runner (turn.Run k) = k
-    runner _ = 0
+one_runner n m e = grind arith
 
 pub not_main : {A : Type 0} (n : ℕ) → turn.Main ≡ turn.Run n → A
-not_main n e = absurd (subst T (ap is_main e) tt)
-  where
-    is_main : Turn → Bool
-    is_main turn.Main = true
-    is_main _ = false
+not_main n e = absurd (grind arith)
 
 pub unnot : (c : Bool) → not c ≡ false → c ≡ true
-unnot true h = refl
-unnot false h = absurd (subst T h tt)
+unnot c h = grind arith
+
+pub moved_passes : (test : Place → Bool) (p : Place) → test p ≡ true → (m : ℕ) (t : Core) → option_map_or test (place_of m (set_place m p t)) true ≡ true
+unfolding set_place on_thread
+moved_passes test p passes m t = grind (arith, nat_tests, get-change)
 
 pub running_moved : (m : ℕ) (t : Core) → option_map_or is_running (place_of m (set_place m place.Running t)) true ≡ true
-unfolding set_place on_thread
-running_moved m t = ap (λ o. option_map_or is_running (option_map (λ (r : Thread). r.place) o) true) (get-change_same t.threads m (λ r. record r { place = place.Running })) ∙ at (get t.threads m)
-  where
-    at : (o : Option Thread) → option_map_or is_running (option_map (λ (r : Thread). r.place) (option_map (λ (r : Thread). record r { place = place.Running }) o)) true ≡ true
-    at None = refl
-    at (Some r) = refl
+running_moved m t = moved_passes is_running place.Running refl m t
 
 -- ---- The running thread
 
@@ -240,107 +196,108 @@ module _ (x : Setting) (main : Main) (s : Core) (n : ℕ) (l : Label) (next : Tu
   }
 
   -- n goes on, as the label says
-  pub goes_on_saying : (k : Label) (t : Core) → is_plain k ≡ true → (l ≡ k → EndWords running_scene t) → (l ≡ k → Walk running_scene s t) → Leads running_scene s (Goes k t n)
+  pub goes_on_saying : (k : Label) (t : Core) → is_plain k ≡ true → (l ≡ k → EndWords running_scene t) → (l ≡ k → Stay running_scene s t) → Leads running_scene s (Goes k t n)
   goes_on_saying k t plain says c is to =
       let p = plain_quiet (is_quiet k) (is_exit k) plain in
-      (c is, quiet_ends (ap is_quiet is ∙ p.0) (λ m at. inl (sym to ∙ at)) (λ exit. absurd (subst T (sym exit ∙ (ap is_exit is ∙ p.1)) tt)) (says is))
+      (Remains t (c is) (λ m at. sym to ∙ at), quiet_ends (ap is_quiet is ∙ p.0) (λ m at. inl (sym to ∙ at)) (λ exit. absurd (subst T (sym exit ∙ (ap is_exit is ∙ p.1)) tt)) (says is))
 
   -- n goes on
-  pub goes_on : (k : Label) (t : Core) → is_still k ≡ true → Walk running_scene s t → Leads running_scene s (Goes k t n)
+  pub goes_on : (k : Label) (t : Core) → is_still k ≡ true → Stay running_scene s t → Leads running_scene s (Goes k t n)
   goes_on k t still c = let p = still_parts (is_plain k) (is_mute k) still in goes_on_saying k t p.0 (λ is. mute_words running_scene t (ap is_mute is ∙ p.1)) (λ is. c)
 
   -- no thread goes on
-  pub stops_here : (k : Label) (t : Core) → is_still k ≡ true → (Leaves running_scene n → Walk running_scene s t) → Leads running_scene s (Stops k t)
+  pub stops_here : (k : Label) (t : Core) → is_still k ≡ true → (Leaves running_scene n → Trip running_scene s t) → Leads running_scene s (Stops k t)
   stops_here k t still c is to =
       let r = still_parts (is_plain k) (is_mute k) still in
       let p = plain_quiet (is_quiet k) (is_exit k) r.0 in
-      (c (refl, to), quiet_ends (ap is_quiet is ∙ p.0) (λ m at. not_main m (sym to ∙ at)) (λ exit. absurd (subst T (sym exit ∙ (ap is_exit is ∙ p.1)) tt)) (mute_words running_scene t (ap is_mute is ∙ r.1)))
+      (c (refl, (to, refl)), quiet_ends (ap is_quiet is ∙ p.0) (λ m at. not_main m (sym to ∙ at)) (λ exit. absurd (subst T (sym exit ∙ (ap is_exit is ∙ p.1)) tt)) (mute_words running_scene t (ap is_mute is ∙ r.1)))
 
   -- n is gone
-  gone_here : (k : Label) (t : Core) → is_quiet k ≡ true → get t.threads n ≡ None → (l ≡ k → EndWords running_scene t) → (l ≡ k → Leaves running_scene n → Walk running_scene s t) → Leads running_scene s (Stops k t)
-  gone_here k t quiet gone says c is to = (c is (refl, to), quiet_ends (ap is_quiet is ∙ quiet) (λ m at. not_main m (sym to ∙ at)) (λ exit. gone) (says is))
+  gone_here : (k : Label) (t : Core) → is_quiet k ≡ true → get t.threads n ≡ None → (l ≡ k → EndWords running_scene t) → (l ≡ k → Leaves running_scene n → Trip running_scene s t) → Leads running_scene s (Stops k t)
+  gone_here k t quiet gone says c is to = (c is (refl, (to, refl)), quiet_ends (ap is_quiet is ∙ quiet) (λ m at. not_main m (sym to ∙ at)) (λ exit. gone) (says is))
 
   -- another thread, which runs now, goes on
-  pub goes_over : (k : Label) (m : ℕ) (t : Core) → is_quiet k ≡ true → (is_exit k ≡ true → get t.threads n ≡ None) → (turn.Run n ≡ turn.Run m) ⊎ (option_map_or is_running (place_of m t) true ≡ true) → (l ≡ k → EndWords running_scene t) → (l ≡ k → next ≡ turn.Run m → Walk running_scene s t) → Leads running_scene s (Goes k t m)
+  pub goes_over : (k : Label) (m : ℕ) (t : Core) → is_quiet k ≡ true → (is_exit k ≡ true → get t.threads n ≡ None) → (turn.Run n ≡ turn.Run m) ⊎ (option_map_or is_running (place_of m t) true ≡ true) → (l ≡ k → EndWords running_scene t) → (l ≡ k → next ≡ turn.Run m → Trip running_scene s t) → Leads running_scene s (Goes k t m)
   goes_over k m t quiet gone runs says c is to =
       (c is to, quiet_ends (ap is_quiet is ∙ quiet) (λ j at. subst (λ (i : ℕ). (turn.Run n ≡ turn.Run i) ⊎ (option_map_or is_running (place_of i t) true ≡ true)) (one_runner m j (sym to ∙ at)) runs) (λ exit. gone (sym (ap is_exit is) ∙ exit)) (says is))
 
 module _ {a : Scene} {b : Core} (n : ℕ) (is : IsRunner a n) where
   -- ---- Registers and words
 
-  pub moved_to_walks : (p : ℕ) {t : Core} → Walk a b t → Walk a b (moved_to n p t)
+  pub moved_to_walks : (p : ℕ) {t : Core} → Stay a b t → Stay a b (moved_to n p t)
   unfolding moved_to
   moved_to_walks p c = word (SetHowFar n how_far.Fresh) is (word (SetPosition n p) tt c)
 
-  pub advanced_walks : {t : Core} → Walk a b t → Walk a b (advanced n t)
+  pub advanced_walks : {t : Core} → Stay a b t → Stay a b (advanced n t)
   unfolding advanced
   advanced_walks {t = t} c = moved_to_walks (position_of n t + 1) c
 
-  pub assigned_walks : (r v : ℕ) {t : Core} → Walk a b t → Walk a b (assigned n r v t)
+  pub assigned_walks : (r v : ℕ) {t : Core} → Stay a b t → Stay a b (assigned n r v t)
   unfolding assigned
   assigned_walks r v c = advanced_walks (word (SetRegister n r v) tt c)
 
-  pub answered_walks : (r v : ℕ) {t : Core} → Walk a b t → Walk a b (answered n r v t)
+  pub answered_walks : (r v : ℕ) {t : Core} → Stay a b t → Stay a b (answered n r v t)
   unfolding answered
   answered_walks r v c = assigned_walks r v (word (SetSavedCallee n None) tt c)
 
   -- ---- Ends
 
-  reopens_walks : (i : ℕ) (order : List ℕ) {t : Core} → MayBar a i false → Walk a b t → Walk a b (end_reopens i order t)
+  reopens_walks : (i : ℕ) (order : List ℕ) {t : Core} → MayBar a i false → Stay a b t → Stay a b (end_reopens i order t)
   unfolding end_reopens
   reopens_walks i order {t = t} ok c = shifted (released_shifts order (set_do_not_enter i false t)) (word (SetDoNotEnter i false) ok c)
 
-  exit_stops_walks : {t : Core} → MayGo a n → Walk a b t → Walk a b (exit_stops n t)
+  exit_stops_walks : {t : Core} → Leaves a n → Stay a b t → Trip a b (exit_stops n t)
   unfolding exit_stops
-  exit_stops_walks {t = t} go c = ended_walks n go (shifted (stopped_shifts (foot_of n t) (checked (instance_of n t) t)) (shifted (checked_shifts (instance_of n t) t) c))
+  exit_stops_walks {t = t} go c = exits_trip n go (ended_walks n (shifted (stopped_shifts (foot_of n t) (checked (instance_of n t) t)) (shifted (checked_shifts (instance_of n t) t) c)))
 
-  sync_exits_rest : (w : Option ℕ) (t : Core) → SaysEnd a (task_of n t) status.Returned → ToldTo (task_of n t) w (exit_restores n t) → MayGo a n → Walk a b (set_end (task_of n t) call_end.Returned (exit_restores n t)) → Walk a b (sync_exits n w t)
+  sync_exits_rest : (w : Option ℕ) (t : Core) → SaysEnd a (task_of n t) status.Returned → ToldTo (task_of n t) w (exit_restores n t) → Leaves a n → Stay a b (set_end (task_of n t) call_end.Returned (exit_restores n t)) → Trip a b (sync_exits n w t)
   unfolding sync_exits
   sync_exits_rest w t says to go c =
       let r = returned (task_of n t) (register_of n 0 t) w (exit_restores n t) in
-      ended_walks n go (shifted (stopped_shifts (foot_of n t) r) (returned_rest (task_of n t) (register_of n 0 t) w (exit_restores n t) says to c))
+      exits_trip n go (ended_walks n (shifted (stopped_shifts (foot_of n t) r) (returned_rest (task_of n t) (register_of n 0 t) w (exit_restores n t) says to c)))
 
-  sync_exits_walks : (w : Option ℕ) {t : Core} → MayEnd a (task_of n t) call_end.Returned (exit_restores n t) → SaysEnd a (task_of n t) status.Returned → ToldTo (task_of n t) w (exit_restores n t) → MayGo a n → Walk a b t → Walk a b (sync_exits n w t)
+  sync_exits_walks : (w : Option ℕ) {t : Core} → MayEnd a (task_of n t) call_end.Returned (exit_restores n t) → SaysEnd a (task_of n t) status.Returned → ToldTo (task_of n t) w (exit_restores n t) → Leaves a n → Stay a b t → Trip a b (sync_exits n w t)
   unfolding exit_restores
   sync_exits_walks w {t = t} ok says to go c = sync_exits_rest w t says to go (word (SetEnd (task_of n t) call_end.Returned) (ok, says) (word (SetDoNotSuspend (instance_of n t) (unwrap_or (saved_own_of n t) false)) tt c))
 
-  blocking_exits_rest : (w : Option ℕ) (order : List ℕ) (t : Core) → SaysEnd a (task_of n t) status.Returned → ToldTo (task_of n t) w (end_reopens (instance_of n t) order t) → MayGo a n → Walk a b (set_end (task_of n t) call_end.Returned (end_reopens (instance_of n t) order t)) → Walk a b (blocking_exits n w order t)
+  blocking_exits_rest : (w : Option ℕ) (order : List ℕ) (t : Core) → SaysEnd a (task_of n t) status.Returned → ToldTo (task_of n t) w (end_reopens (instance_of n t) order t) → Leaves a n → Stay a b (set_end (task_of n t) call_end.Returned (end_reopens (instance_of n t) order t)) → Trip a b (blocking_exits n w order t)
   unfolding blocking_exits
   blocking_exits_rest w order t says to go c = exit_stops_walks go (returned_rest (task_of n t) (register_of n 0 t) w (end_reopens (instance_of n t) order t) says to c)
 
-  blocking_exits_walks : (w : Option ℕ) (order : List ℕ) {t : Core} → MayBar a (instance_of n t) false → MayEnd a (task_of n t) call_end.Returned (end_reopens (instance_of n t) order t) → SaysEnd a (task_of n t) status.Returned → ToldTo (task_of n t) w (end_reopens (instance_of n t) order t) → MayGo a n → Walk a b t → Walk a b (blocking_exits n w order t)
+  blocking_exits_walks : (w : Option ℕ) (order : List ℕ) {t : Core} → MayBar a (instance_of n t) false → MayEnd a (task_of n t) call_end.Returned (end_reopens (instance_of n t) order t) → SaysEnd a (task_of n t) status.Returned → ToldTo (task_of n t) w (end_reopens (instance_of n t) order t) → Leaves a n → Stay a b t → Trip a b (blocking_exits n w order t)
   blocking_exits_walks w order {t = t} bar ok says to go c = blocking_exits_rest w order t says to go (word (SetEnd (task_of n t) call_end.Returned) (ok, says) (reopens_walks (instance_of n t) order bar c))
 
   -- the thread m goes on, under which n ran
-  direct_exits_rest : (m v : ℕ) (t : Core) → a.next ≡ turn.Run m → place_of m a.base ≡ Some (place.Under n) → Walk a b (set_end (task_of n t) call_end.Returned t) → Walk a b (direct_exits n m v t)
+  direct_exits_rest : (m v : ℕ) (t : Core) → a.turn ≡ turn.Run n → a.next ≡ turn.Run m → place_of m a.base ≡ Some (place.Under n) → Stay a b (set_end (task_of n t) call_end.Returned t) → Trip a b (direct_exits n m v t)
   unfolding direct_exits
-  direct_exits_rest m v t to under c =
+  direct_exits_rest m v t runs to under c =
       let u = set_end (task_of n t) call_end.Returned t in
       let gone : is_none (get (ended n u).threads n) ≡ true = ap (λ (o : Option Thread). is_none o) (ended_gone n u) in
-      word (SetHowFar m (how_far.Answered v)) (n, (is, (to, under))) (moved (Move m place.Running) (Uncovers n is to under gone refl) (ended_walks n (EndsOver m is to under) c))
+      let e = ended_walks n c in
+      subst (λ (y : Core). Trip a b (set_how_far m (how_far.Answered v) y)) (placing_shifted (Move m place.Running) (ended n u)).only (GoesBack e.before (ended n u) n m v e.stays is runs to under e.settles (Uncovers n is to under gone refl))
 
-  direct_exits_walks : (m v : ℕ) {t : Core} → MayEnd a (task_of n t) call_end.Returned t → SaysEnd a (task_of n t) status.Returned → a.next ≡ turn.Run m → place_of m a.base ≡ Some (place.Under n) → Walk a b t → Walk a b (direct_exits n m v t)
-  direct_exits_walks m v {t = t} ok says to under c = direct_exits_rest m v t to under (word (SetEnd (task_of n t) call_end.Returned) (ok, says) c)
+  direct_exits_walks : (m v : ℕ) {t : Core} → a.turn ≡ turn.Run n → MayEnd a (task_of n t) call_end.Returned t → SaysEnd a (task_of n t) status.Returned → a.next ≡ turn.Run m → place_of m a.base ≡ Some (place.Under n) → Stay a b t → Trip a b (direct_exits n m v t)
+  direct_exits_walks m v {t = t} runs ok says to under c = direct_exits_rest m v t runs to under (word (SetEnd (task_of n t) call_end.Returned) (ok, says) c)
 
-  code_stops_walks : (order : List ℕ) {t : Core} → MayBar a (instance_of n t) false → Walk a b t → Walk a b (code_stops n order t)
+  code_stops_walks : (order : List ℕ) {t : Core} → MayBar a (instance_of n t) false → Stay a b t → Stay a b (code_stops n order t)
   unfolding code_stops
   code_stops_walks order {t = t} bar c = shifted (stopped_shifts (foot_of n t) (end_reopens (instance_of n t) order t)) (reopens_walks (instance_of n t) order bar c)
 
-  code_exits_walks : (order : List ℕ) {t : Core} → MayBar a (instance_of n t) false → MayGo a n → Walk a b t → Walk a b (code_exits n order t)
+  code_exits_walks : (order : List ℕ) {t : Core} → MayBar a (instance_of n t) false → Leaves a n → Stay a b t → Trip a b (code_exits n order t)
   unfolding code_exits
-  code_exits_walks order {t = t} bar go c = ended_walks n go (shifted (checked_shifts (instance_of n t) (code_stops n order t)) (code_stops_walks order bar c))
+  code_exits_walks order {t = t} bar go c = exits_trip n go (ended_walks n (shifted (checked_shifts (instance_of n t) (code_stops n order t)) (code_stops_walks order bar c)))
 
-  code_yields_walks : (order : List ℕ) {t : Core} → MayBar a (instance_of n t) false → Leaves a n → EndsActivation a n → MayOwe a (task_of n t) (own_or_none (own_event_of (task_of n t) t)) (code_stops n order t) → Walk a b t → Walk a b (code_yields n order t)
+  code_yields_walks : (order : List ℕ) {t : Core} → MayBar a (instance_of n t) false → Leaves a n → EndsActivation a n → MayOwe a (task_of n t) (own_or_none (own_event_of (task_of n t) t)) (code_stops n order t) → Stay a b t → Trip a b (code_yields n order t)
   unfolding code_yields
-  code_yields_walks order {t = t} bar leave ends owes c = moved (Put mark.Low n (why.Delivery delivery.Yield)) (ComesAgain leave ends refl) (word (SetOwnEvent (task_of n t) (own_or_none (own_event_of (task_of n t) t))) owes (code_stops_walks order bar c))
+  code_yields_walks order {t = t} bar leave ends owes c = lands (Put mark.Low n (why.Delivery delivery.Yield)) (ComesAgain leave ends refl) (word (SetOwnEvent (task_of n t) (own_or_none (own_event_of (task_of n t) t))) owes (code_stops_walks order bar c))
 
-  code_finds_walks : (y : ℕ) (order : List ℕ) {t : Core} → MayBar a (instance_of n t) false → Leaves a n → EndsActivation a n → HasSet a n y → Walk a b t → Walk a b (code_finds n y order t)
+  code_finds_walks : (y : ℕ) (order : List ℕ) {t : Core} → MayBar a (instance_of n t) false → Leaves a n → EndsActivation a n → HasSet a n y → Stay a b t → Trip a b (code_finds n y order t)
   unfolding code_finds
-  code_finds_walks y order bar leave ends has c = moved (Put mark.High n (why.Delivery (delivery.Set y))) (FindsEvent y leave ends has refl) (code_stops_walks order bar c)
+  code_finds_walks y order bar leave ends has c = lands (Put mark.High n (why.Delivery (delivery.Set y))) (FindsEvent y leave ends has refl) (code_stops_walks order bar c)
 
-  code_waits_walks : (y : ℕ) (order : List ℕ) {t : Core} → MayBar a (instance_of n t) false → Leaves a n → EndsActivation a n → HasSet a n y → Walk a b t → Walk a b (code_waits n y order t)
+  code_waits_walks : (y : ℕ) (order : List ℕ) {t : Core} → MayBar a (instance_of n t) false → Leaves a n → EndsActivation a n → HasSet a n y → Stay a b t → Trip a b (code_waits n y order t)
   unfolding code_waits
-  code_waits_walks y order bar leave ends has c = moved (Move n (place.Waiting y true)) (AwaitsEvent y leave ends has refl) (code_stops_walks order bar c)
+  code_waits_walks y order bar leave ends has c = lands (Move n (place.Waiting y true)) (AwaitsEvent y leave ends has refl) (code_stops_walks order bar c)
 
 exit_stops_gone : (n : ℕ) (t : Core) → get (exit_stops n t).threads n ≡ None
 unfolding exit_stops
@@ -370,7 +327,7 @@ restored_chosen : (n y : ℕ) (w : Option ℕ) (s : Core) → Chosen y w s → C
 unfolding exit_restores set_do_not_suspend on_instance
 restored_chosen n y w s h = h
 
-restores_walks : {a : Scene} (n : ℕ) (s : Core) → Walk a s (exit_restores n s)
+restores_walks : {a : Scene} (n : ℕ) (s : Core) → Stay a s (exit_restores n s)
 unfolding exit_restores
 restores_walks n s = word (SetDoNotSuspend (instance_of n s) (unwrap_or (saved_own_of n s) false)) tt NoWord
 
@@ -392,26 +349,10 @@ code_exits_gone n order s = ended_gone n (checked (instance_of n s) (code_stops 
 -- the thread that is under n
 pub under_place : (n m : ℕ) (s : Core) → under_of n s ≡ Some m → place_of m s ≡ Some (place.Under n)
 unfolding under_of
-under_place n m s h = at (place_of m s) (find_passes (λ k. is_at k s (is_under n)) (numbers s.threads) m h)
-  where
-    at : (o : Option Place) → option_map_or (is_under n) o false ≡ true → o ≡ Some (place.Under n)
-    at None e = absurd (subst T (sym e) tt)
-    at (Some (place.Under c)) e = ap (λ (j : ℕ). Some (place.Under j)) (is_eq_of c n e)
-    at (Some place.New) e = absurd (subst T (sym e) tt)
-    at (Some place.Running) e = absurd (subst T (sym e) tt)
-    at (Some (place.Ready y w)) e = absurd (subst T (sym e) tt)
-    at (Some (place.Waiting y w)) e = absurd (subst T (sym e) tt)
-    at (Some (place.Behind c)) e = absurd (subst T (sym e) tt)
-    at (Some (place.Blocked c)) e = absurd (subst T (sym e) tt)
-    at (Some (place.Held c)) e = absurd (subst T (sym e) tt)
-    at (Some place.Suspended) e = absurd (subst T (sym e) tt)
+under_place n m s h = grind (arith, nat_tests, find_passes (λ k. is_at k s (is_under n)) (numbers s.threads) m)
 
 none_changed : {X : Type 0} (m : Records X) (n k : ℕ) (f : X → X) → get m k ≡ None → get (change n f m) k ≡ None
-none_changed {X = X} m n k f h = get-change n f m k ∙ at (k == n) (get m k) h
-  where
-    at : (b : Bool) (o : Option X) → o ≡ None → cond b (option_map f o) o ≡ None
-    at true o e = ap (option_map f) e
-    at false o e = e
+none_changed m n k f h = grind (arith, get-change)
 
 direct_exits_gone : (n m v : ℕ) (t : Core) → get (direct_exits n m v t).threads n ≡ None
 unfolding direct_exits set_how_far set_place on_thread
@@ -429,10 +370,10 @@ module _ (x : Setting) (main : Main) (s : Core) (n : ℕ) (l : Label) (next : Tu
   abbrev a : Scene
   a = running_scene x main s n l next
 
-  go_saying : (k : Label) (t : Core) → is_plain k ≡ true → (l ≡ k → EndWords a t) → (l ≡ k → Walk a s t) → Leads a s (Goes k t n)
+  go_saying : (k : Label) (t : Core) → is_plain k ≡ true → (l ≡ k → EndWords a t) → (l ≡ k → Stay a s t) → Leads a s (Goes k t n)
   go_saying k t plain says c = goes_on_saying x main s n l next k t plain says c
 
-  go : (k : Label) (t : Core) → is_still k ≡ true → Walk a s t → Leads a s (Goes k t n)
+  go : (k : Label) (t : Core) → is_still k ≡ true → Stay a s t → Leads a s (Goes k t n)
   go k t plain c = goes_on x main s n l next k t plain c
 
   -- ---- The ops on registers and words
@@ -453,10 +394,10 @@ module _ (x : Setting) (main : Main) (s : Core) (n : ℕ) (l : Label) (next : Tu
 
   -- ---- Exits
 
-  exit_says : (w : Option ℕ) → l ≡ exit_label n w → is_explicit n s ≡ false → (is_direct (goal_of (task_of n s) s) ≡ true) ⊎ (is_async_lifted (kind_of (task_of n s) s) ≡ false) → SaysEnd a (task_of n s) status.Returned
-  exit_says w is implicit kind = ap (λ (k : Label). written_by x.component s k s) is ∙ (exit_writes w ∙ ap (λ b. if b then task_end n status.Returned s else None) (ends (is_explicit n s) (is_direct (goal_of (task_of n s) s)) (is_async_lifted (kind_of (task_of n s) s)) implicit kind))
+  exit_says : (t : Core) (w : Option ℕ) → l ≡ exit_label n w → is_explicit n s ≡ false → (is_direct (goal_of (task_of n s) s) ≡ true) ⊎ (is_async_lifted (kind_of (task_of n s) s) ≡ false) → written_by x.component s l t ≡ task_end n status.Returned s
+  exit_says t w is implicit kind = ap (λ (k : Label). written_by x.component s k t) is ∙ (exit_writes w ∙ ap (λ b. if b then task_end n status.Returned s else None) (ends (is_explicit n s) (is_direct (goal_of (task_of n s) s)) (is_async_lifted (kind_of (task_of n s) s)) implicit kind))
     where
-      exit_writes : (v : Option ℕ) → written_by x.component s (exit_label n v) s ≡ written_by_exit n s
+      exit_writes : (v : Option ℕ) → written_by x.component s (exit_label n v) t ≡ written_by_exit n s
       exit_writes None = refl
       exit_writes (Some y) = refl
 
@@ -467,15 +408,15 @@ module _ (x : Setting) (main : Main) (s : Core) (n : ℕ) (l : Label) (next : Tu
       ends false false true i (inl k) = absurd (subst T (sym k) tt)
       ends false false true i (inr k) = absurd (subst T k tt)
 
-  -- the end that the label says, where it says one
-  said : {k : ℕ} {e : Status} (j : ℕ) (f : Status) → written_by x.component s l s ≡ Some (end_for f (subtask.Guest j)) → SaysEnd a k e → (j ≡ k) × (f ≡ e)
-  said j f is says = let both = sym is ∙ says in (ap (λ (o : Option SubtaskEnd). call_in o) both, ap (λ (o : Option SubtaskEnd). option_map_or (λ y. y.status) o status.Starting) both)
+  -- the label says an end of the task
+  writes_task : (f : Status) (t u : Core) → written_by x.component s l t ≡ task_end n f s → EndsCall a (task_of n s) → is_over (task_of n s) u ≡ true → Walk a u t → (sub : Subtask) (e : Status) → written_by x.component s l t ≡ Some (end_for e sub) → Writes a t sub
+  writes_task f t u is ends over c sub e says = said_is (λ d g. Writes a t d) (sym is ∙ says) (WritesCall (task_of n s) u ends over c)
 
   -- an exit that ends no task
   exit_is_none : (t : Core) → is_ending_exit n s ≡ false → l ≡ exit_label n None → EndWords a t
   exit_is_none t none is = record {
-    writes = λ k e says. none_is_some (end_for e (subtask.Guest k)) (sym (ap (λ (y : Label). written_by x.component s y s) is ∙ ap (λ b. if b then task_end n status.Returned s else None) none) ∙ says);
-    hands = λ k e out. none_is_some (end_for e (subtask.Guest k)) (sym (ap (λ (y : Label). handed_by x.component main s y t) is ∙ ap (λ b. if b then task_end n status.Returned s else None) (not_direct (is_explicit n s) (is_direct (goal_of (task_of n s) s)) (is_async_lifted (kind_of (task_of n s) s)) none)) ∙ out);
+    writes = λ sub e says. none_said (ap (λ (y : Label). written_by x.component s y t) is ∙ ap (λ b. if b then task_end n status.Returned s else None) none) says;
+    hands = λ sub e out. none_said (ap (λ (y : Label). handed_by x.component main s y t) is ∙ ap (λ b. if b then task_end n status.Returned s else None) (not_direct (is_explicit n s) (is_direct (goal_of (task_of n s) s)) (is_async_lifted (kind_of (task_of n s) s)) none)) out;
   }
     where
       not_direct : (e d h : Bool) → (not e && (d || not h)) ≡ false → (not e && d) ≡ false
@@ -486,10 +427,8 @@ module _ (x : Setting) (main : Main) (s : Core) (n : ℕ) (l : Label) (next : Tu
   -- an exit that ends the task
   exit_says_end : (w : Option ℕ) (t : Core) → l ≡ exit_label n w → is_explicit n s ≡ false → is_async_lifted (kind_of (task_of n s) s) ≡ false → is_direct (goal_of (task_of n s) s) ≡ false → (u : Core) → is_over (task_of n s) u ≡ true → Walk a u t → EndWords a t
   exit_says_end w t is implicit kind direct u over c = record {
-    writes = λ k e says.
-        let same = said (task_of n s) status.Returned (exit_says w is implicit (inr kind)) says in
-        inr (subst (λ (j : ℕ). ((has_ended j s ≡ false) ⊎ ((m : ℕ) × (IsRunner a m × ((j ≡ task_of m s) × ((is_explicit m s ≡ false) × ((is_direct (goal_of j s) ≡ true) ⊎ (is_async_lifted (kind_of j s) ≡ false))))))) × ((v : Core) × ((is_over j v ≡ true) × Walk a v t))) same.0 (inr (n, (refl, (refl, (implicit, inr kind)))), (u, (over, c))));
-    hands = λ k e out. none_is_some (end_for e (subtask.Guest k)) (sym (ap (λ (y : Label). handed_by x.component main s y t) is ∙ none_out w) ∙ out);
+    writes = writes_task status.Returned t u (exit_says t w is implicit (inr kind)) (EndsByExit (n, (refl, (refl, (implicit, inr kind))))) over c;
+    hands = λ sub e out. none_said (ap (λ (y : Label). handed_by x.component main s y t) is ∙ none_out w) out;
   }
     where
       none_out : (v : Option ℕ) → handed_by x.component main s (exit_label n v) t ≡ None
@@ -500,7 +439,7 @@ module _ (x : Setting) (main : Main) (s : Core) (n : ℕ) (l : Label) (next : Tu
   thread_exit_row_leads none =
       trap_if_leads a s (not (passes_check (instance_of n s) s)) trap.CannotBlockSyncTask _ (λ e.
       trap_if_leads a s (leaves_no_result n s) trap.NoAsyncResult _ (λ f.
-      gone_here x main s n l next (exit_label n None) (exit_stops n s) refl (exit_stops_gone n s) (λ is. exit_is_none (exit_stops n s) none is) (λ is leave. exit_stops_walks n refl (Departs leave) NoWord)))
+      gone_here x main s n l next (exit_label n None) (exit_stops n s) refl (exit_stops_gone n s) (λ is. exit_is_none (exit_stops n s) none is) (λ is leave. exit_stops_walks n refl leave NoWord)))
 
   exits : (w : Option ℕ) (t : Core) → l ≡ exit_label n w → is_explicit n s ≡ false → (is_direct (goal_of (task_of n s) s) ≡ true) ⊎ (is_async_lifted (kind_of (task_of n s) s) ≡ false) → t.calls ≡ s.calls → MayEnd a (task_of n s) call_end.Returned t
   exits w t is implicit kind same = Exits n refl (ap is_exit is ∙ exit_is n w) refl implicit kind (ap (λ (m : Records Call). get m (task_of n s)) same) refl
@@ -511,8 +450,8 @@ module _ (x : Setting) (main : Main) (s : Core) (n : ℕ) (l : Label) (next : Tu
       let told = still_told_to (task_of n s) s (exit_restores n s) (same_call (task_of n s) s (exit_restores n s) (restored_calls n s)) w (λ y chosen. restored_chosen n y w s chosen) (told_to (task_of n s) w s may) in
       λ is to.
       gone_here x main s n l next (exit_label n w) (sync_exits n w s) (exit_quiet n w) (sync_exits_gone n w s)
-      (λ at. exit_says_end w (sync_exits n w s) at implicit kind direct (set_end (task_of n s) call_end.Returned (exit_restores n s)) (over_now (task_of n s) call_end.Returned (exit_restores n s)) (sync_exits_rest n refl w s (exit_says w at implicit (inr kind)) told (Departs (refl, to)) NoWord))
-      (λ at leave. sync_exits_walks n refl w (exits w (exit_restores n s) at implicit (inr kind) (restored_calls n s)) (exit_says w at implicit (inr kind)) told (Departs leave) NoWord) is to)
+      (λ at. exit_says_end w (sync_exits n w s) at implicit kind direct (set_end (task_of n s) call_end.Returned (exit_restores n s)) (over_now (task_of n s) call_end.Returned (exit_restores n s)) (trip_walk (sync_exits_rest n refl w s (exit_says s w at implicit (inr kind)) told (refl, (to, refl)) NoWord)))
+      (λ at leave. sync_exits_walks n refl w (exits w (exit_restores n s) at implicit (inr kind) (restored_calls n s)) (exit_says s w at implicit (inr kind)) told leave NoWord) is to)
 
   -- where a holding entry returns
   bars : (w : Option ℕ) → l ≡ exit_label n w → is_explicit n s ≡ false → is_holding (kind_of (task_of n s) s) ≡ true → is_direct (goal_of (task_of n s) s) ≡ false → MayBar a (instance_of n s) false
@@ -534,28 +473,21 @@ module _ (x : Setting) (main : Main) (s : Core) (n : ℕ) (l : Label) (next : Tu
       let lifted : is_async_lifted (kind_of (task_of n s) s) ≡ false = ap (λ y. is_async_lifted y) kind in
       let told = still_told_to k s t (same_call k s t (reopened_calls i order s)) w (λ y chosen. reopened_chosen i order y w s chosen) (told_to k w s may) in
       gone_here x main s n l next (exit_label n w) (blocking_exits n w order s) (exit_quiet n w) (blocking_exits_gone n w order s)
-      (λ at. exit_says_end w (blocking_exits n w order s) at implicit lifted direct (set_end k call_end.Returned t) (over_now k call_end.Returned t) (blocking_exits_rest n refl w order s (exit_says w at implicit (inr lifted)) told (Departs (refl, to)) NoWord))
-      (λ at leave. blocking_exits_walks n refl w order (bars w at implicit (ap (λ y. is_holding y) kind) direct) (exits w t at implicit (inr lifted) (reopened_calls i order s)) (exit_says w at implicit (inr lifted)) told (Departs leave) NoWord) is to))
+      (λ at. exit_says_end w (blocking_exits n w order s) at implicit lifted direct (set_end k call_end.Returned t) (over_now k call_end.Returned t) (trip_walk (blocking_exits_rest n refl w order s (exit_says s w at implicit (inr lifted)) told (refl, (to, refl)) NoWord)))
+      (λ at leave. blocking_exits_walks n refl w order (bars w at implicit (ap (λ y. is_holding y) kind) direct) (exits w t at implicit (inr lifted) (reopened_calls i order s)) (exit_says s w at implicit (inr lifted)) told leave NoWord) is to))
 
-  direct_leads : (m : ℕ) (t : Core) → under_of n s ≡ Some m → is_explicit n s ≡ false → is_direct (goal_of (task_of n s) s) ≡ true → task_of n t ≡ task_of n s → t.calls ≡ s.calls → Walk a s t → Leads a s (Goes (exit_label n None) (direct_exits n m (register_of n 0 s) t) m)
+  direct_leads : (m : ℕ) (t : Core) → under_of n s ≡ Some m → is_explicit n s ≡ false → is_direct (goal_of (task_of n s) s) ≡ true → task_of n t ≡ task_of n s → t.calls ≡ s.calls → Stay a s t → Leads a s (Goes (exit_label n None) (direct_exits n m (register_of n 0 s) t) m)
   direct_leads m t under implicit direct task calls c =
       let v = register_of n 0 s in
       let k = task_of n s in
       λ here over.
       goes_over x main s n l next (exit_label n None) m (direct_exits n m v t) refl (λ e. direct_exits_gone n m v t) (inr (direct_exits_runs n m v t))
       (λ at. record {
-        writes = λ j e says.
-            let same = said k status.Returned (exit_says None at implicit (inl direct)) says in
-            inr (subst (λ (i : ℕ). ((has_ended i s ≡ false) ⊎ ((o : ℕ) × (IsRunner a o × ((i ≡ task_of o s) × ((is_explicit o s ≡ false) × ((is_direct (goal_of i s) ≡ true) ⊎ (is_async_lifted (kind_of i s) ≡ false))))))) × ((u : Core) × ((is_over i u ≡ true) × Walk a u (direct_exits n m v t)))) same.0
-            (inr (n, (refl, (refl, (implicit, inl direct)))), (set_end (task_of n t) call_end.Returned t, (subst (λ (i : ℕ). is_over k (set_end i call_end.Returned t) ≡ true) (sym task) (over_now k call_end.Returned t), direct_exits_rest n refl m v t over (under_place n m s under) NoWord))));
-        hands = λ j e out.
-            let both = sym (ap (λ (y : Label). handed_by x.component main s y (direct_exits n m v t)) at ∙ ap (λ b. if b then task_end n status.Returned s else None) (ap₂ (λ (f g : Bool). not f && g) implicit direct)) ∙ out in
-            let same : k ≡ j = ap (λ (o : Option SubtaskEnd). call_in o) both in
-            let says : SaysEnd a j e = exit_says None at implicit (inl direct) ∙ both in
-            WritesToo says (inl (subst (λ (i : ℕ). is_direct (goal_of i s) ≡ true) same direct));
+        writes = writes_task status.Returned _ (set_end (task_of n t) call_end.Returned t) (exit_says _ None at implicit (inl direct)) (EndsByExit (n, (refl, (refl, (implicit, inl direct))))) (subst (λ (i : ℕ). is_over k (set_end i call_end.Returned t) ≡ true) (sym task) (over_now k call_end.Returned t)) (trip_walk (direct_exits_rest n refl m v t refl over (under_place n m s under) NoWord));
+        hands = λ sub e out. said_is (HandsOut a (direct_exits n m v t)) (sym (ap (λ (y : Label). handed_by x.component main s y (direct_exits n m v t)) at ∙ ap (λ b. if b then task_end n status.Returned s else None) (ap₂ (λ (f g : Bool). not f && g) implicit direct)) ∙ out) (WritesToo k status.Returned (exit_says s None at implicit (inl direct)) (inl direct));
       })
       (λ is to.
-      direct_exits_walks n refl m v (subst (λ (k : ℕ). MayEnd a k call_end.Returned t) (sym task) (exits None t is implicit (inl direct) calls)) (subst (λ (k : ℕ). SaysEnd a k status.Returned) (sym task) (exit_says None is implicit (inl direct))) to (under_place n m s under) c) here over
+      direct_exits_walks n refl m v refl (subst (λ (k : ℕ). MayEnd a k call_end.Returned t) (sym task) (exits None t is implicit (inl direct) calls)) (subst (λ (k : ℕ). SaysEnd a k status.Returned) (sym task) (exit_says s None is implicit (inl direct))) to (under_place n m s under) c) here over
 
   direct_exit_to_leads : (k : ExportKind) (o : Option ℕ) → under_of n s ≡ o → is_explicit n s ≡ false → is_direct (goal_of (task_of n s) s) ≡ true → Leads a s (direct_exit_to n k s o)
   direct_exit_to_leads k None under implicit direct = tt
@@ -579,7 +511,7 @@ module _ (x : Setting) (main : Main) (s : Core) (n : ℕ) (l : Label) (next : Tu
   code_exits_leads k held quiet says bar rest =
       trap_if_leads a s (not (passes_after_stop (instance_of n s) (foot_of n s) held s)) trap.CannotBlockSyncTask _ (λ e.
       trap_if_leads a s (leaves_no_result n s) trap.NoAsyncResult _ (λ f order.
-      gone_here x main s n l next k (code_exits n order s) quiet (code_exits_gone n order s) (says (code_exits n order s)) (λ is leave. code_exits_walks n refl order (bar is) (Departs leave) NoWord)))
+      gone_here x main s n l next k (code_exits n order s) quiet (code_exits_gone n order s) (says (code_exits n order s)) (λ is leave. code_exits_walks n refl order (bar is) leave NoWord)))
 
   code_kind_row_leads : (k : Label) (held : List ℕ) (low rest : ℕ) → is_still k ≡ true → (l ≡ k → MayBar a (instance_of n s) false) → EndsActivation a n → Leads a s (code_kind_row k n held s low rest)
   code_kind_row_leads k held zero rest plain bar ends =
@@ -612,13 +544,8 @@ module _ (x : Setting) (main : Main) (s : Core) (n : ℕ) (l : Label) (next : Tu
   -- ---- The task and backpressure
 
   -- the task comes to an end that it hadn't
-  task_says : (f : Status) (t : Core) → written_by x.component s l s ≡ task_end n f s → ((k : ℕ) (e : Status) → handed_by x.component main s l t ≡ Some (end_for e (subtask.Guest k)) → HandsOut a t k e) → has_ended (task_of n s) s ≡ false → (u : Core) → is_over (task_of n s) u ≡ true → Walk a u t → EndWords a t
-  task_says f t is hands unended u over c = record {
-    writes = λ k e says.
-        let same = said (task_of n s) f is says in
-        inr (inl (subst (λ (j : ℕ). has_ended j s ≡ false) same.0 unended), (u, (subst (λ (j : ℕ). is_over j u ≡ true) same.0 over, c)));
-    hands = hands;
-  }
+  task_says : (f : Status) (t : Core) → written_by x.component s l t ≡ task_end n f s → handed_by x.component main s l t ≡ None → has_ended (task_of n s) s ≡ false → (u : Core) → is_over (task_of n s) u ≡ true → Walk a u t → EndWords a t
+  task_says f t is none unended u over c = record { writes = writes_task f t u is (EndsOwn n refl refl unended) over c; hands = λ sub e out. none_said none out }
 
   ret_row_leads : (v : ℕ) (w : Option ℕ) → Leads a s (ret_row n v w s)
   unfolding ret_done
@@ -627,9 +554,9 @@ module _ (x : Setting) (main : Main) (s : Core) (n : ℕ) (l : Label) (next : Tu
       trap_if_leads a s (not (is_async_lifted (kind_of (task_of n s) s))) trap.TaskReturnInvalid _ (λ lifted.
       may_leads a s (may_tell (task_of n s) w s) _ (λ may.
       go_saying (ret_label n v w) (ret_done n v w s) (ret_plain n v w)
-      (λ is. task_says status.Returned (ret_done n v w s) (ap (λ (k : Label). written_by x.component s k s) is ∙ ret_writes x.component n v w s) (λ k e out. none_is_some (end_for e (subtask.Guest k)) (sym (ap (λ (y : Label). handed_by x.component main s y (ret_done n v w s)) is ∙ ret_hands x.component main n v w s (ret_done n v w s)) ∙ out)) unended
-      (set_end (task_of n s) call_end.Returned s) (over_now (task_of n s) call_end.Returned s) (advanced_walks n refl (returned_rest (task_of n s) v w s (ap (λ (k : Label). written_by x.component s k s) is ∙ ret_writes x.component n v w s) (told_to (task_of n s) w s may) NoWord)))
-      (λ is. advanced_walks n refl (returned_walks (task_of n s) v w (ReturnsNow n refl refl unended (unnot (is_async_lifted (kind_of (task_of n s) s)) lifted) refl) (ap (λ (k : Label). written_by x.component s k s) is ∙ ret_writes x.component n v w s) (told_to (task_of n s) w s may) NoWord)))))
+      (λ is. task_says status.Returned (ret_done n v w s) (ap (λ (k : Label). written_by x.component s k (ret_done n v w s)) is ∙ ret_writes x.component n v w s _) (ap (λ (y : Label). handed_by x.component main s y (ret_done n v w s)) is ∙ ret_hands x.component main n v w s (ret_done n v w s)) unended
+      (set_end (task_of n s) call_end.Returned s) (over_now (task_of n s) call_end.Returned s) (stay_walk (advanced_walks n refl (returned_rest (task_of n s) v w s (ap (λ (k : Label). written_by x.component s k s) is ∙ ret_writes x.component n v w s s) (told_to (task_of n s) w s may) NoWord))))
+      (λ is. advanced_walks n refl (returned_walks (task_of n s) v w (ReturnsNow n refl refl unended (unnot (is_async_lifted (kind_of (task_of n s) s)) lifted) refl) (ap (λ (k : Label). written_by x.component s k s) is ∙ ret_writes x.component n v w s s) (told_to (task_of n s) w s may) NoWord)))))
 
   task_cancel_row_leads : (w : Option ℕ) → Leads a s (task_cancel_row n w s)
   unfolding task_cancel_done
@@ -638,9 +565,9 @@ module _ (x : Setting) (main : Main) (s : Core) (n : ℕ) (l : Label) (next : Tu
       trap_if_leads a s (has_ended (task_of n s) s) trap.TaskCancelOrReturnTwice _ (λ unended.
       may_leads a s (may_tell (task_of n s) w s) _ (λ may.
       go_saying (task_cancel_label n w) (task_cancel_done n w s) (task_cancel_plain n w)
-      (λ is. task_says status.ReturnCancelled (task_cancel_done n w s) (ap (λ (k : Label). written_by x.component s k s) is ∙ task_cancel_writes x.component n w s) (λ k e out. none_is_some (end_for e (subtask.Guest k)) (sym (ap (λ (y : Label). handed_by x.component main s y (task_cancel_done n w s)) is ∙ task_cancel_hands x.component main n w s (task_cancel_done n w s)) ∙ out)) unended
-      (set_end (task_of n s) call_end.ReturnCancelled s) (over_now (task_of n s) call_end.ReturnCancelled s) (advanced_walks n refl (cancelled_rest (task_of n s) w s (ap (λ (k : Label). written_by x.component s k s) is ∙ task_cancel_writes x.component n w s) (told_to (task_of n s) w s may) NoWord)))
-      (λ is. advanced_walks n refl (cancelled_walks (task_of n s) w (GivesUp n refl refl unended (unnot (cancel_was_delivered (task_of n s) s) delivered) refl) (ap (λ (k : Label). written_by x.component s k s) is ∙ task_cancel_writes x.component n w s) (told_to (task_of n s) w s may) NoWord)))))
+      (λ is. task_says status.ReturnCancelled (task_cancel_done n w s) (ap (λ (k : Label). written_by x.component s k (task_cancel_done n w s)) is ∙ task_cancel_writes x.component n w s _) (ap (λ (y : Label). handed_by x.component main s y (task_cancel_done n w s)) is ∙ task_cancel_hands x.component main n w s (task_cancel_done n w s)) unended
+      (set_end (task_of n s) call_end.ReturnCancelled s) (over_now (task_of n s) call_end.ReturnCancelled s) (stay_walk (advanced_walks n refl (cancelled_rest (task_of n s) w s (ap (λ (k : Label). written_by x.component s k s) is ∙ task_cancel_writes x.component n w s s) (told_to (task_of n s) w s may) NoWord))))
+      (λ is. advanced_walks n refl (cancelled_walks (task_of n s) w (GivesUp n refl refl unended (unnot (cancel_was_delivered (task_of n s) s) delivered) refl) (ap (λ (k : Label). written_by x.component s k s) is ∙ task_cancel_writes x.component n w s s) (told_to (task_of n s) w s may) NoWord)))))
 
   dec_from_leads : (b : ℕ) → Leads a s (dec_from n s b)
   unfolding dec_lowers dec_opens

@@ -1,9 +1,11 @@
 -- Where a step does a word: what its row has tested or done before, and what is known of the thread that runs or was taken.
-use Rattle.std.specs.Prelude.{Bool, None, Option, Some, [], false, is_none, true, ℕ, ◌||◌, ◌∷◌, ◌≡◌, ◌⊎◌, not}
+use Rattle.task_machine.specs.declared.records.Course.{Course}
+use Rattle.std.specs.Option.{option_map_or}
+use Rattle.std.specs.Prelude.{Bool, None, Option, Some, [], false, is_none, true, ℕ, ◌||◌, ◌∷◌, ◌≡◌, ◌⊎◌, not, is_some}
 use Rattle.task_machine.specs.Core.{Core, MainPlace, Scripted, Unscripted}
 use Rattle.task_machine.specs.Maps.{get}
 use Rattle.task_machine.specs.Moves.{has_entry, is_callback_waiter, is_deletable, is_group_done}
-use Rattle.task_machine.specs.Read.{cancel_was_delivered, course_of, course_value, end_of, goal_of, has_ended, has_member, has_waiters, how_far_of, instance_of, is_async_lifted, is_at, is_direct, is_end, is_explicit, is_joined, is_stage_ended, is_waiter, join_of, kind_of, may_not_enter, next_entry, own_event_of, phase_of, place_of, set_at, stage_of, subtask_at, subtask_ended, subtask_handle, task_of, thread_group, was_started, work_caller_of, is_guest_call}
+use Rattle.task_machine.specs.Read.{cancel_was_delivered, course_of, course_value, end_of, goal_of, has_ended, has_member, has_waiters, how_far_of, instance_of, is_async_lifted, is_at, is_direct, is_end, is_explicit, is_joined, is_stage_ended, is_waiter, join_of, kind_of, may_not_enter, next_entry, own_event_of, phase_of, place_of, set_at, stage_of, subtask_at, subtask_ended, subtask_handle, task_of, thread_group, was_started, work_caller_of, is_guest_call, is_aborted, is_blocked_on, foot_of}
 use Rattle.task_machine.specs.declared.component.Callee.{Callee}
 use Rattle.task_machine.specs.declared.component.ExportKind.{ExportKind}
 use Rattle.task_machine.specs.declared.label.Label.{Label}
@@ -25,17 +27,18 @@ use Rattle.task_machine.specs.declared.words.Status.{Status}
 use Rattle.task_rules.specs.Calls.{new_thread, next_thread, next_work}
 use Rattle.task_rules.specs.Cancels.{aborted_phase, is_callback_wait}
 use Rattle.task_rules.specs.Ends.{is_told, own_or_none}
-use Rattle.task_rules.specs.MainOps.{op_at, takes_words}
+use Rattle.task_rules.specs.MainOps.{op_at, takes_words, spawned_at, is_spawn}
 use Rattle.task_rules.specs.Once.{returned_holder}
 use Rattle.task_rules.specs.OpParts.{callee_of_main_op, callee_of_op, ends_activation}
 use Rattle.task_rules.specs.Scenes.{Scene, component_of, op_in}
 use Rattle.task_rules.specs.Scripts.{export_kind, registers_for}
-use Rattle.task_rules.specs.Takes.{host_status}
 use Rattle.task_rules.specs.Threads.{resume_why}
-use Rattle.task_rules.specs.Words.{AddGroup, CloseSet, CountWork, EndWork, Enter, FinishWork, GoBehind, MakeCall, MakeThread, Move, NameCall, NameWork, OpenSet, Pend, Places, Placing, Pop, Promote, Put, QueueWork, RemoveCall, RemoveGroup, RemoveThread, RemoveWork, SetCallEvent, SetCallJoin, SetCancelDelivered, SetCancelled, SetDoNotEnter, SetEnd, SetHowFar, SetOwnEvent, SetPhase, SetStarted, SetWorkEvent, SetWorkJoin, Stop, TakeHost, TakePush, UnnameCall, UnnameWork, Withdraw, Word, GiveResult}
-use Rattle.task_rules.specs.Works.{next_polled}
+use Rattle.task_rules.specs.Words.{AddGroup, CloseSet, CountWork, EndWork, Enter, FinishWork, GoBehind, MakeCall, MakeThread, Move, NameCall, NameWork, OpenSet, Pend, Places, Placing, Pop, Promote, Put, QueueWork, RemoveCall, RemoveGroup, RemoveThread, RemoveWork, SetCallEvent, SetCallJoin, SetCancelDelivered, SetCancelled, SetDoNotEnter, SetEnd, SetHowFar, SetOwnEvent, SetPhase, SetStarted, TakeWorkEvent, SetWorkJoin, Stop, TakeHost, TakePush, UnnameCall, UnnameWork, Withdraw, Word, GiveResult, SetUninteresting, SetTrapped}
+use Rattle.task_rules.specs.Works.{next_polled, has_end}
 use Rattle.task_rules.specs.SubtaskEnds.{end_for, written_by}
+use Rattle.task_machine.specs.declared.words.Mark.TheVariants as mark
 use Rattle.task_machine.specs.declared.label.Label.TheVariants as label
+use Rattle.task_machine.specs.declared.label.LoopLabel.TheVariants as loop_label
 use Rattle.task_machine.specs.declared.label.TaskLabel.TheVariants as task_label
 use Rattle.task_machine.specs.declared.records.CallEnd.TheVariants as call_end
 use Rattle.task_machine.specs.declared.records.Caller.TheVariants as caller
@@ -66,9 +69,17 @@ WasReady a n w = (m : Mark) × (place_of n a.base ≡ Some (place.Ready m w))
 abbrev pub EndsActivation : Scene → ℕ → Type 0
 EndsActivation a n = IsRunner a n × (ends_activation (op_in a n) ≡ true)
 
--- the step leaves it, and no thread runs on
+-- the step leaves the running thread, and no thread runs on
 abbrev pub Leaves : Scene → ℕ → Type 0
-Leaves a n = IsRunner a n × (a.next ≡ turn.Main)
+Leaves a n = IsRunner a n × ((a.next ≡ turn.Main) × (a.turn ≡ turn.Run n))
+
+-- the thread that was taken doesn't run
+abbrev pub IsLaid : Scene → ℕ → Type 0
+IsLaid a n = IsRunner a n × (a.next ≡ turn.Main)
+
+-- the call is gone, or its start has run
+abbrev pub is_begun : ℕ → Core → Bool
+is_begun k s = option_map_or (λ c. c.started) (get s.calls k) true
 
 -- the thread's exit
 abbrev pub is_exit : Label → Bool
@@ -95,6 +106,10 @@ pub data HasSubtask (a : Scene) (n : ℕ) (sub : Subtask) : Type 0 where
   ByHandle : (h : ℕ) → subtask_at (instance_of n a.base) h a.base ≡ Some sub → HasSubtask a n sub
   ByOp : subtask_under_way (how_far_of n a.base) ≡ Some sub → HasSubtask a n sub
 
+-- a handle of the running thread's instance names it
+abbrev pub IsNamed : Scene → Subtask → Type 0
+IsNamed a sub = (n : ℕ) × ((h : ℕ) × (IsRunner a n × (subtask_at (instance_of n a.base) h a.base ≡ Some sub)))
+
 -- this step has made the call, with its thread, or the work
 abbrev pub IsNew : Scene → Subtask → Core → Type 0
 IsNew a (subtask.Guest k) s = (k ≡ next_thread a.base) × ((s.made.threads ≡ k) × (is_explicit k s ≡ false))
@@ -106,6 +121,11 @@ abbrev pub wake_why : ℕ → Bool → Why
 wake_why x true = why.Delivery (delivery.Set x)
 wake_why x false = why.Resumption
 
+-- a host's work is done
+abbrev pub is_done_host : Subtask → Core → Bool
+is_done_host (subtask.Guest k) s = true
+is_done_host (subtask.Host i) s = is_stage_ended (stage_of i s)
+
 -- Why a thread that doesn't run gets an entry.
 pub data MayPut (n : ℕ) (w : Why) (s : Core) : Type 0 where
   -- it is the first one of a call that was just made, and not a direct one
@@ -116,16 +136,15 @@ pub data MayPut (n : ℕ) (w : Why) (s : Core) : Type 0 where
   -- an event of its set has come
   Wakes : (x : ℕ) → is_waiter x n s ≡ true → w ≡ wake_why x (is_callback_waiter n s) → MayPut n w s
   -- its subtask has a status, or is done
-  Unblocks : (sub : Subtask) → place_of n s ≡ Some (place.Blocked sub) → w ≡ why.Resumption → MayPut n w s
+  Unblocks : (sub : Subtask) → place_of n s ≡ Some (place.Blocked sub) → is_done_host sub s ≡ true → w ≡ why.Resumption → MayPut n w s
   -- it was held with this
   Releases : place_of n s ≡ Some (place.Held w) → MayPut n w s
   -- it waits by callback, and is cancelled
   Cancels : is_at n s is_callback_wait ≡ true → w ≡ why.Delivery delivery.Cancel → MayPut n w s
 
--- the thread has an entry, as the queues or its place say
+-- the thread has an entry
 abbrev pub HasEntry : ℕ → Core → Type 0
-HasEntry n s = ((has_entry n s.queues.high || has_entry n s.queues.low) ≡ true) ⊎
-    ((m : Mark) × ((w : Why) × (place_of n s ≡ Some (place.Ready m w))))
+HasEntry n s = (has_entry n s.queues.high || has_entry n s.queues.low) ≡ true
 
 -- What a step does to other threads than the one that runs.
 abbrev pub MayShift : Placing → Core → Type 0
@@ -133,6 +152,12 @@ MayShift (Put m n w) s = MayPut n w s
 MayShift (Promote n) s = (s.queues.switch ≡ None) × HasEntry n s
 MayShift (Stop f) s = Unit {0}
 MayShift _ s = ⊥
+
+-- beside a running thread the entry of another one may be promoted where its place alone says that there is one
+abbrev pub MayHasten : Scene → Placing → Core → Type 0
+MayHasten a (Promote k) s = (s.queues.switch ≡ None) ×
+    ((n : ℕ) × ((a.turn ≡ turn.Run n) × ((m : Mark) × ((w : Why) × (place_of k s ≡ Some (place.Ready m w))))))
+MayHasten a _ s = ⊥
 
 -- ---- Where the running thread comes to
 
@@ -146,12 +171,13 @@ pub data MayYield (a : Scene) (n : ℕ) (w : Why) : Type 0 where
 
 -- Why the running thread, or the one under it, comes to a place that says nothing of entries.
 pub data MayMove (a : Scene) (n : ℕ) (p : Place) (s : Core) : Type 0 where
-  -- it was taken, and runs
-  Runs : IsRunner a n → a.next ≡ turn.Run n → p ≡ place.Running → MayMove a n p s
+  -- it was taken, and runs; a call that it was to start has begun
+  Runs : IsRunner a n → a.next ≡ turn.Run n → (is_explicit n a.base ≡ false → WasReady a n why.Start → is_begun (task_of n a.base) s ≡ true) →
+      p ≡ place.Running → MayMove a n p s
   -- it was taken, and is held
-  Holds : (w : Why) → Leaves a n → WasReady a n w → p ≡ place.Held w → MayMove a n p s
+  Holds : (w : Why) → IsLaid a n → WasReady a n w → p ≡ place.Held w → MayMove a n p s
   -- it was taken, found nothing, and waits again
-  WaitsAgain : (x : ℕ) → Leaves a n → WasReady a n (why.Delivery (delivery.Set x)) → p ≡ place.Waiting x true → MayMove a n p s
+  WaitsAgain : (x : ℕ) → IsLaid a n → WasReady a n (why.Delivery (delivery.Set x)) → p ≡ place.Waiting x true → MayMove a n p s
   -- its activation ends, and it waits for an event
   AwaitsEvent : (x : ℕ) → Leaves a n → EndsActivation a n → HasSet a n x → p ≡ place.Waiting x true → MayMove a n p s
   Waits : (x : ℕ) → Leaves a n → HasSet a n x → p ≡ place.Waiting x false → MayMove a n p s
@@ -162,23 +188,37 @@ pub data MayMove (a : Scene) (n : ℕ) (p : Place) (s : Core) : Type 0 where
   Uncovers : (m : ℕ) → IsRunner a m → a.next ≡ turn.Run n → place_of n a.base ≡ Some (place.Under m) → is_none (get s.threads m) ≡ true →
       p ≡ place.Running → MayMove a n p s
 
+-- whom a thread goes behind: one that is there, or the foot of the strand at switch
+abbrev pub IsFoot : ℕ → Core → Type 0
+IsFoot f s = (is_some (place_of f s) ≡ true) ⊎ ((m : ℕ) × ((s.queues.switch ≡ Some m) × (f ≡ foot_of m s)))
+
+-- where it comes to at last
+abbrev pub MayLand : Scene → Placing → Core → Type 0
+MayLand a (Put mark.Switch n w) s = ⊥
+MayLand a (Put mark.High n w) s = MayYield a n w
+MayLand a (Put mark.Low n w) s = MayYield a n w
+MayLand a (GoBehind f n) s = Leaves a n × IsFoot f s
+MayLand a (Move n p) s = MayMove a n p s
+-- by a direct call that was just made, and has begun
+MayLand a (Enter n m) s = IsRunner a n ×
+    ((a.next ≡ turn.Run m) × ((m ≡ next_thread a.base) × ((place_of m s ≡ Some place.New) × ((is_direct (goal_of (task_of m s) s) ≡ true) ×
+    ((a.turn ≡ turn.Run n) × (is_begun m s ≡ true))))))
+MayLand a _ s = ⊥
+
 abbrev pub MayLeave : Scene → Placing → Core → Type 0
 -- the entry of the thread that is taken
 MayLeave a (Pop m) s = (n : ℕ) × (IsRunner a n × (next_entry s ≡ Some (m, entry.Thread n)))
-MayLeave a (Put m n w) s = MayYield a n w
-MayLeave a (GoBehind f n) s = Leaves a n
-MayLeave a (Move n p) s = MayMove a n p s
--- by a direct call that was just made
-MayLeave a (Enter n m) s = IsRunner a n ×
-    ((a.next ≡ turn.Run m) × ((m ≡ next_thread a.base) × ((place_of m s ≡ Some place.New) × (is_direct (goal_of (task_of m s) s) ≡ true))))
-MayLeave a _ s = ⊥
+MayLeave a (Promote k) s = MayHasten a (Promote k) s
+MayLeave a p s = MayLand a p s
 
 -- ---- Threads
 
 -- how far an op comes: it waits on a set of its instance, or is about a subtask of its own or a new one
 abbrev pub MayCome : Scene → ℕ → HowFar → Core → Type 0
 MayCome a n (how_far.Waits x) s = IsRunner a n × HasSet a n x
-MayCome a n (how_far.Calls sub) s = IsRunner a n × (HasSubtask a n sub ⊎ IsNew a sub s)
+MayCome a n (how_far.Calls (subtask.Guest k)) s = IsRunner a n × (HasSubtask a n (subtask.Guest k) ⊎ IsNew a (subtask.Guest k) s)
+MayCome a n (how_far.Calls (subtask.Host i)) s = IsRunner a n × (IsNew a (subtask.Host i) s × ((work_caller_of i s ≡ work_caller.Sync n) ×
+    (option_map_or (is_blocked_on (subtask.Host i)) (place_of n s) true ≡ true)))
 MayCome a n (how_far.Cancels sub) s = IsRunner a n × HasSubtask a n sub
 MayCome a n (how_far.AwaitsEnd sub) s = IsRunner a n × HasSubtask a n sub
 -- its direct callee, which ran, has come to a value
@@ -191,17 +231,18 @@ MayMake a t s = (n : ℕ) × (IsRunner a n × ((s.made.threads ≡ a.base.made.t
     ((t ≡ new_thread (task_of n a.base) true (script.Slot x) (registers_for (v ∷ [])) None) × (s.calls ≡ a.base.calls))))))
 
 -- Who is gone.
-pub data MayGo (a : Scene) (n : ℕ) : Type 0 where
+pub data MayGo (a : Scene) (n : ℕ) (s : Core) : Type 0 where
   -- the running thread
-  Departs : Leaves a n → MayGo a n
+  Departs : Leaves a n → MayGo a n s
   -- the running thread, and the one under it goes on
-  EndsOver : (m : ℕ) → IsRunner a n → a.next ≡ turn.Run m → place_of m a.base ≡ Some (place.Under n) → MayGo a n
-  -- the strand that trapped: the thread that ran or was taken, and those that were under others
-  Falls : a.next ≡ turn.Over → IsRunner a n ⊎ ((m : ℕ) × (place_of n a.base ≡ Some (place.Under m))) → MayGo a n
+  EndsOver : (m : ℕ) → IsRunner a n → a.next ≡ turn.Run m → place_of m a.base ≡ Some (place.Under n) → MayGo a n s
+  -- the strand that trapped: the thread that ran or was taken, and those that were under ones that are gone
+  Falls : a.next ≡ turn.Over → IsRunner a n ⊎ ((m : ℕ) × ((place_of n a.base ≡ Some (place.Under m)) × (is_none (get s.threads m) ≡ true))) → MayGo a n s
 
 -- the start of a call of the running thread's, which hasn't begun or ended
 abbrev pub MayWithdraw : Scene → ℕ → Core → Type 0
-MayWithdraw a k s = (n : ℕ) × (IsRunner a n × (HasSubtask a n (subtask.Guest k) × ((was_started k s ≡ false) × (has_ended k s ≡ false))))
+MayWithdraw a k s = (n : ℕ) × (IsRunner a n × (HasSubtask a n (subtask.Guest k) × ((was_started k s ≡ false) × ((has_ended k s ≡ false) ×
+    ((a.turn ≡ turn.Run n) × (was_started k a.base ≡ false))))))
 
 -- ---- Calls
 
@@ -218,10 +259,11 @@ abbrev pub is_for_main : Goal → Bool
 is_for_main goal.Main = true
 is_for_main _ = false
 
--- a direct call isn't of an async-lifted export; main's calls alone have results for main
+-- a direct call isn't of an async-lifted export, and its thread runs next; main's calls alone have results for main
 abbrev pub MayMakeCall : Scene → Caller → Callee → ExportKind → Goal → ℕ → Core → Type 0
 MayMakeCall a f e x g group s = MayCall a f e group s × ((s.made.threads ≡ a.base.made.threads) ×
-    ((x ≡ export_kind (component_of a) e) × ((is_direct g ≡ true → is_async_lifted x ≡ false) × (is_for_main g ≡ not (is_guest_call f)))))
+    ((x ≡ export_kind (component_of a) e) ×
+    ((is_direct g ≡ true → (is_async_lifted x ≡ false) × (a.next ≡ turn.Run (next_thread a.base))) × (is_for_main g ≡ not (is_guest_call f)))))
 
 -- the call of the thread that was taken to start, or a new direct one
 abbrev pub MayStart : Scene → ℕ → Core → Type 0
@@ -315,15 +357,24 @@ is_async_work _ = false
 abbrev pub IsPolled : Scene → ℕ → Core → Type 0
 IsPolled a i s = (n : ℕ) × ((a.turn ≡ turn.Futures n) × (next_polled n s ≡ Some i))
 
--- what a host work came to is told once its entry is taken, or the running thread takes it
-abbrev pub MayTellWork : Scene → ℕ → Option Status → Core → Type 0
-MayTellWork a i (Some e) s = (is_stage_ended (stage_of i s) ≡ true) × (e ≡ host_status (course_value (course_of i s)))
-MayTellWork a i None s = IsOwn a (subtask.Host i)
-
--- the sync call of the running thread is answered, or its ended subtask is dropped
+-- the sync call of the running thread is answered, and done, or its ended subtask is dropped
 abbrev pub MayRemoveWork : Scene → ℕ → Core → Type 0
-MayRemoveWork a i s = (n : ℕ) × (IsRunner a n × ((how_far_of n a.base ≡ how_far.Calls (subtask.Host i)) ⊎
-    ((subtask_ended (subtask.Host i) a.base ≡ true) × (subtask_handle (subtask.Host i) s ≡ None))))
+MayRemoveWork a i s = (n : ℕ) × (IsRunner a n × (((how_far_of n a.base ≡ how_far.Calls (subtask.Host i)) × (how_far_of n s ≡ how_far.Fresh)) ⊎
+    ((subtask_ended (subtask.Host i) a.base ≡ true) × ((subtask_handle (subtask.Host i) s ≡ None) × ((h : ℕ) ×
+    (subtask_at (instance_of n a.base) h a.base ≡ Some (subtask.Host i)))))))
+
+-- the loop polls the work to its end, and without a value where an abort was asked for
+abbrev pub MayFinish : Scene → ℕ → Course → Core → Type 0
+MayFinish a i c s = IsPolled a i s × ((a.label ≡ label.Loop (loop_label.FutureEnds i)) × ((has_end c ≡ true) ×
+    (course_value c ≡ None → (is_aborted (phase_of i s) ≡ true) ⊎ (has_end (course_of i s) ≡ true))))
+
+-- Why an abort is asked for.
+pub data MayAbort (a : Scene) (i : ℕ) : Type 0 where
+  -- a handle of the running thread's instance names the work
+  AbortsOwn : IsNamed a (subtask.Host i) → MayAbort a i
+  -- main names it
+  ScriptAborts : (p : MainPlace) (k : ℕ) → a.main ≡ Scripted p → i ≡ spawned_at p k → MayAbort a i
+  ProgramAborts : a.main ≡ Unscripted → is_spawn i a.base ≡ true → MayAbort a i
 
 -- ---- Sets and instances
 
@@ -347,7 +398,7 @@ abbrev pub Allowed : Scene → Word → Core → Type 0
 Allowed a (Places p) s = MayShift p s ⊎ MayLeave a p s
 Allowed a (SetHowFar n h) s = MayCome a n h s
 Allowed a (MakeThread t) s = MayMake a t s
-Allowed a (RemoveThread n) s = MayGo a n
+Allowed a (RemoveThread n) s = MayGo a n s
 Allowed a (Withdraw k) s = MayWithdraw a k s
 Allowed a (MakeCall f e x g group words) s = MayMakeCall a f e x g group s
 Allowed a (SetStarted k) s = MayStart a k s
@@ -363,15 +414,15 @@ Allowed a CountWork s = s.made.works ≡ a.base.made.works
 Allowed a (QueueWork f host group) s = (s.made.works ≡ a.base.made.works) × MayQueue a f group
 Allowed a (TakePush m i) s = next_entry s ≡ Some (m, entry.Push i)
 Allowed a (Pend i host) s = IsPolled a i s
-Allowed a (EndWork i c) s = IsPolled a i s × (is_async_work (work_caller_of i s) ≡ false)
-Allowed a (FinishWork i c) s = IsPolled a i s × (is_async_work (work_caller_of i s) ≡ true)
+Allowed a (EndWork i c) s = MayFinish a i c s × (is_async_work (work_caller_of i s) ≡ false)
+Allowed a (FinishWork i c) s = MayFinish a i c s × (is_async_work (work_caller_of i s) ≡ true)
 Allowed a (TakeHost m i) s = next_entry s ≡ Some (m, entry.Host i)
 -- an abort is asked for
-Allowed a (SetPhase i p) s = p ≡ aborted_phase (phase_of i s)
+Allowed a (SetPhase i p) s = MayAbort a i × (p ≡ aborted_phase (phase_of i s))
 Allowed a (SetCancelled i) s = IsOwn a (subtask.Host i)
-Allowed a (SetWorkEvent i e) s = MayTellWork a i e s
+Allowed a (TakeWorkEvent i) s = IsOwn a (subtask.Host i)
 Allowed a (SetWorkJoin i j) s = MayJoin a (subtask.Host i) j s
-Allowed a (NameWork i w) s = MayName a i (subtask.Host w) s
+Allowed a (NameWork i w) s = MayName a i (subtask.Host w) s × (is_async_work (work_caller_of w s) ≡ true)
 Allowed a (UnnameWork i h w) s = MayUnname a i h (subtask.Host w) s
 Allowed a (RemoveWork i) s = MayRemoveWork a i s
 Allowed a (OpenSet i) s = MayOpen a i s
@@ -381,3 +432,24 @@ Allowed a (GiveResult k v) s = SaysEnd a k status.Returned × (goal_of k s ≡ g
 Allowed a AddGroup s = s.made.groups ≡ a.base.made.groups
 Allowed a (RemoveGroup g) s = is_group_done g s ≡ true
 Allowed a _ s = Unit {0}
+
+-- ---- While the running thread stays
+
+-- The words of a step before that thread comes to where it goes, or is gone.
+abbrev pub Stays : Scene → Word → Core → Type 0
+Stays a (Places p) s = MayShift p s ⊎ MayHasten a p s
+Stays a (RemoveThread n) s = ⊥
+Stays a w s = Allowed a w s
+
+-- What becomes of a call whose thread is gone.
+abbrev pub IsSettling : Word → Core → Type 0
+IsSettling (SetUninteresting k) s = Unit {0}
+IsSettling (RemoveCall k) s = is_deletable k s ≡ true
+IsSettling (RemoveGroup g) s = is_group_done g s ≡ true
+IsSettling _ s = ⊥
+
+-- a strand falls, and the store is trapped
+abbrev pub IsFall : Scene → Word → Core → Type 0
+IsFall a (RemoveThread n) s = MayGo a n s
+IsFall a SetTrapped s = Unit {0}
+IsFall a _ s = ⊥

@@ -2,6 +2,8 @@
 use Rattle.std.specs.Prelude.{Bool, List, None, Option, Some, [], false, if◌then◌else◌, is_some, true, ℕ, ◌+◌, ◌==◌, ◌∷◌, ◌≡◌, ◌≤◌}
 use Rattle.task_machine.specs.declared.records.Entry.{Entry}
 use Rattle.task_machine.specs.declared.records.Place.{Place}
+use Rattle.task_machine.specs.declared.records.Why.{Why}
+use Rattle.task_machine.specs.declared.records.Why.TheVariants as why
 use Rattle.task_machine.specs.declared.words.Mark.TheVariants as mark
 use Rattle.task_machine.specs.declared.records.Place.TheVariants as place
 use Rattle.task_machine.specs.Core.{Core}
@@ -47,6 +49,18 @@ is_behind_of f _ = false
 abbrev pub says : (Place → Bool) → Option Place → ℕ
 says test None = 0
 says test (Some p) = one_if (test p)
+
+abbrev pub is_for_start : Why → Bool
+is_for_start why.Start = true
+is_for_start _ = false
+
+-- the thread is gone, or waits for its start
+abbrev pub is_fresh : Option Place → Bool
+is_fresh None = true
+is_fresh (Some place.New) = true
+is_fresh (Some (place.Ready m w)) = is_for_start w
+is_fresh (Some (place.Held w)) = is_for_start w
+is_fresh _ = false
 
 -- some thread has the number
 abbrev pub is_there : ℕ → Core → Bool

@@ -1,0 +1,242 @@
+-- Entries that are taken out, entries of works, and new threads, beside a busy thread.
+use Rattle.std.proofs.lemmas.Bool.Decides.{nat_tests}
+use Rattle.std.proofs.Common.{T, ap, arith, cond, le_refl, refl, subst, sym, ◌∙◌}
+use Rattle.std.specs.Prelude.{Bool, List, None, Option, Some, [], false, if◌then◌else◌, is_some, true, unwrap_or, ℕ, ◌++◌, ◌+◌, ◌==◌, ◌∷◌, ◌≡◌, ◌≤◌}
+use Rattle.task_machine.specs.Core.{Core, Queues}
+use Rattle.task_machine.specs.Maps.{get-insert}
+use Rattle.task_machine.specs.Moves.{has_entry, less, less_switch, promoted, put_switch, unqueued, why_of}
+use Rattle.task_machine.specs.Read.{callers_of, is_entry_of, next_entry, or_high, place_of}
+use Rattle.task_machine.specs.Write.{add_thread, on_thread, remove_thread, set_high, set_low, set_place, set_switch}
+use Rattle.task_machine.specs.declared.records.Entry.{Entry}
+use Rattle.task_machine.specs.declared.records.Entry.TheVariants as entry
+use Rattle.task_machine.specs.declared.records.Place.{Place}
+use Rattle.task_machine.specs.declared.records.Place.TheVariants as place
+use Rattle.task_machine.specs.declared.records.Thread.{Thread}
+use Rattle.task_machine.specs.declared.records.Why.{Why}
+use Rattle.task_machine.specs.declared.words.Mark.{Mark}
+use Rattle.task_machine.specs.declared.words.Mark.TheVariants as mark
+use Rattle.task_rules.proofs.MoveLemmas.{no_time, others, put_back, removed_gone, removed_loose, removed_placed, other_place, gone_place, other_so}
+use Rattle.task_rules.proofs.StandLemmas.{Loose, Stand, by_number, entries-append, entries-less, eq_refl, zero_one, Watch, is_so, Left, left_loose, left_placed, by_count}
+use Rattle.task_rules.proofs.StopLemmas.{Untouched, fresh_apart, so_again}
+use Rattle.task_rules.specs.Places.{HasPlace, entries, is_behind_of, is_fresh, one_if, says, switch_entries, times}
+use Rattle.task_rules.specs.Takes.{popped, rest_of}
+
+-- ---- Entries are taken out
+
+pub has_stands : (m : ℕ) (es : List Entry) → has_entry m es ≡ true → 1 ≤ entries m es
+has_stands m es h = let x = entries-less m m es h in grind (arith, nat_tests)
+
+none_stands : (m : ℕ) (es : List Entry) → has_entry m es ≡ false → entries m es ≡ 0
+none_stands m [] h = refl
+none_stands m (e ∷ es) h = grind (arith, nat_tests, none_stands m es)
+
+less_same : (m : ℕ) (es : List Entry) → has_entry m es ≡ false → less m es ≡ es
+less_same m [] h = refl
+less_same m (e ∷ es) h = grind (arith, nat_tests, less_same m es)
+
+less_own : (m : ℕ) (es : List Entry) → entries m es ≤ 1 → entries m (less m es) ≡ 0
+less_own m es h = grind (arith, nat_tests, less_same m es, none_stands m es, entries-less m m es)
+
+less_other : (k m : ℕ) (es : List Entry) → (k == m) ≡ false → entries k (less m es) ≡ entries k es
+less_other k m es e = grind (arith, nat_tests, less_same m es, entries-less k m es)
+
+-- From s to t all entries of m are gone, and nothing else changes.
+pub record Cleared (m : ℕ) (s t : Core) : Type 0 where
+  pub places : (k : ℕ) → place_of k t ≡ place_of k s
+  pub left : (k : ℕ) → (k == m) ≡ false → Left k s t
+  pub own : ((f : ℕ) → says (is_behind_of f) (place_of m s) ≡ 0) → Loose m t
+
+-- so it is where the queues say so
+cleared : (m : ℕ) (s : Core) (q : Queues) → HasPlace m s → switch_entries m q.switch + entries m q.high + entries m q.low ≡ 0 →
+    ((k : ℕ) → (k == m) ≡ false → (switch_entries k q.switch ≡ switch_entries k s.queues.switch) × ((entries k q.high ≡ entries k s.queues.high) × (entries k q.low ≡ entries k s.queues.low))) →
+    Cleared m s (record s { queues = q })
+cleared m s q h none other = record {
+  places = λ k. refl;
+  left = λ k e. let o = other k e in record { made = le_refl _; there = λ f. refl; switch = o.0; high = o.1.0; low = o.1.1; callers = λ f. refl };
+  own = λ free. record { number = h.number; switch = omega (arith, none); high = omega (arith, none); low = omega (arith, none); callers = λ f. grind (arith, h.callers f, free f) };
+}
+
+has_one : (m : ℕ) (s : Core) → HasPlace m s → switch_entries m s.queues.switch + entries m s.queues.high + entries m s.queues.low ≤ 1
+has_one m s h = grind arith
+
+-- its entry is taken out, wherever it stands
+pub unqueued_cleared : (m : ℕ) (s : Core) → HasPlace m s → Cleared m s (set_switch (less_switch m s.queues.switch) (unqueued m s))
+unfolding unqueued set_switch set_high set_low
+unqueued_cleared m s h = go (has_entry m s.queues.high) refl
+  where
+    own_switch : switch_entries m (less_switch m s.queues.switch) ≡ 0
+    own_switch = grind (arith, nat_tests)
+
+    other_switch : (k : ℕ) → (k == m) ≡ false → switch_entries k (less_switch m s.queues.switch) ≡ switch_entries k s.queues.switch
+    other_switch k e = grind (arith, nat_tests)
+
+    go : (b : Bool) → has_entry m s.queues.high ≡ b → Cleared m s (set_switch (less_switch m s.queues.switch) (if b then set_high (less m s.queues.high) s else set_low (less m s.queues.low) s))
+    go true e = cleared m s _ h (grind (arith, own_switch, has_one m s h, has_stands m s.queues.high, less_own m s.queues.high)) (λ k o. (other_switch k o, (less_other k m s.queues.high o, refl)))
+    go false e = cleared m s _ h (grind (arith, own_switch, has_one m s h, none_stands m s.queues.high, less_own m s.queues.low)) (λ k o. (other_switch k o, (refl, less_other k m s.queues.low o)))
+
+-- ---- The first entry of a mark
+
+-- where the entry stands first
+abbrev pub First : Mark → Entry → Core → Type 0
+First mark.Switch e s = (n : ℕ) × ((s.queues.switch ≡ Some n) × (e ≡ entry.Thread n))
+First mark.High e s = s.queues.high ≡ e ∷ rest_of s.queues.high
+First mark.Low e s = s.queues.low ≡ e ∷ rest_of s.queues.low
+
+pub next_first : (s : Core) (x : Mark) (e : Entry) → next_entry s ≡ Some (x, e) → First x e s
+unfolding next_entry
+next_first s x e h = go s.queues.switch s.queues.high s.queues.low refl refl refl h
+  where
+    is : (r : Mark × Entry) → Some r ≡ Some (x, e) → First r.0 r.1 s → First x e s
+    is r g f = subst (λ (y : Mark × Entry). First y.0 y.1 s) (ap (λ (o : Option (Mark × Entry)). unwrap_or o r) g) f
+
+    go : (o : Option ℕ) (hs ls : List Entry) → s.queues.switch ≡ o → s.queues.high ≡ hs → s.queues.low ≡ ls → or_high o hs ls ≡ Some (x, e) → First x e s
+    go (Some n) hs ls a b c g = is (mark.Switch, entry.Thread n) g (n, (a, refl))
+    go None (d ∷ hs) ls a b c g = is (mark.High, d) g (b ∙ ap (λ (l : List Entry). d ∷ rest_of l) (sym b))
+    go None [] (d ∷ ls) a b c g = is (mark.Low, d) g (c ∙ ap (λ (l : List Entry). d ∷ rest_of l) (sym c))
+    go None [] [] a b c g = absurd (cc)
+
+-- the entry of a thread leaves its mark
+pub popped_cleared : (x : Mark) (m : ℕ) (s : Core) → First x (entry.Thread m) s → HasPlace m s → Cleared m s (popped x s) × (1 ≤ switch_entries m s.queues.switch + entries m s.queues.high + entries m s.queues.low)
+unfolding popped set_switch set_high set_low
+popped_cleared mark.Switch m s f h = (cleared m s _ h (grind (arith, nat_tests, has_one m s h)) (λ k o. (grind (arith, nat_tests), (refl, refl))), grind (arith, nat_tests))
+popped_cleared mark.High m s f h = let x = λ (k : ℕ). ap (entries k) f in (cleared m s _ h (grind (arith, nat_tests, has_one m s h, x m)) (λ k o. (refl, (grind (arith, nat_tests, x k), refl))), grind (arith, nat_tests, x m))
+popped_cleared mark.Low m s f h = let x = λ (k : ℕ). ap (entries k) f in (cleared m s _ h (grind (arith, nat_tests, has_one m s h, x m)) (λ k o. (refl, (refl, grind (arith, nat_tests, x k)))), grind (arith, nat_tests, x m))
+
+rest_same : (k : ℕ) (e : Entry) (es : List Entry) → es ≡ e ∷ rest_of es → is_entry_of k e ≡ false → entries k (rest_of es) ≡ entries k es
+rest_same k e es is other = let x = ap (entries k) is in let y = ap one_if other in omega (arith, x, y)
+
+-- that of a work leaves all threads'
+pub popped_quiet : (x : Mark) (e : Entry) (s : Core) → First x e s → ((k : ℕ) → is_entry_of k e ≡ false) → Untouched s (popped x s)
+unfolding popped set_switch set_high set_low
+popped_quiet mark.Switch e s f other = absurd (subst T (sym (sym (other f.0) ∙ (ap (is_entry_of f.0) f.1.1 ∙ eq_refl f.0))) tt)
+popped_quiet mark.High e s f other = record { places = λ k. refl; switch = λ k. refl; high = λ k. rest_same k e s.queues.high f (other k); low = λ k. refl; callers = refl; made = le_refl _ }
+popped_quiet mark.Low e s f other = record { places = λ k. refl; switch = λ k. refl; high = λ k. refl; low = λ k. rest_same k e s.queues.low f (other k); callers = refl; made = le_refl _ }
+
+pub pushed_same : (k : ℕ) (es : List Entry) (e : Entry) → is_entry_of k e ≡ false → entries k (es ++ e ∷ []) ≡ entries k es
+pushed_same k es e other = let x = entries-append k es e in let y = ap one_if other in omega (arith, x, y)
+
+-- ---- An entry is promoted
+
+promoted_is : (m : ℕ) (s : Core) → promoted m s ≡ put_switch m (why_of m s) (set_switch None (unqueued m s))
+unfolding promoted put_switch set_switch set_place on_thread
+promoted_is m s = refl
+
+pub promoted_stand : {P : ℕ → Watch} (n : ℕ) (q : Option Place) (m : ℕ) (x : Mark) (w : Why) (s : Core) → (m == n) ≡ false → place_of m s ≡ Some (place.Ready x w) → s.queues.switch ≡ None → Stand P n q [] s → Stand P n q [] (promoted m s)
+promoted_stand {P = P} n q m x w s apart at none st =
+    subst (λ (t : Core). Stand P n q [] t) (sym (promoted_is m s)) (put_back n q mark.Switch m (why_of m s) u (ap (λ (o : Option Place). is_some o) (c.places m ∙ at))
+    (λ h. grind (arith, so_again (P m) mark.Switch x w, (st.kept m h).1)) up)
+  where
+    u : Core
+    u = set_switch None (unqueued m s)
+
+    c : Cleared m s u
+    c = subst (λ (o : Option ℕ). Cleared m s (set_switch o (unqueued m s))) (ap (less_switch m) none) (unqueued_cleared m s (st.placed m (no_time m n apart)))
+
+    up : Stand (others P m) n q (m ∷ []) u
+    up = record {
+      here = c.places n ∙ st.here;
+      once = λ k. by_count k m _ (λ e y. let z = ap one_if (ap (λ (j : ℕ). j == n) e ∙ apart) in omega (arith, y, z)) (λ e y. omega (arith, st.once k, y));
+      loose = λ k h. by_count k m _ (λ e y. subst (λ (j : ℕ). Loose j u) (sym e) (c.own (λ f. ap (says (is_behind_of f)) at))) (λ e y. left_loose k s u (c.left k e) (st.loose k (omega (arith, h, y))));
+      there = λ k h. by_count k m _ (λ e y. (place.Ready x w, ap (λ (j : ℕ). place_of j u) e ∙ (c.places m ∙ at))) (λ e y. absurd (omega (arith, h, y)));
+      placed = λ k h. by_count k m _ (λ e y. absurd (omega (arith, h, y))) (λ e y. left_placed k s u (c.left k e) (c.places k) (st.placed k (omega (arith, h))));
+      kept = λ k h. let o = other_so P m k s h (λ e g. (st.kept k g).1) in (grind (arith, o.0), ap (is_so (others P m k)) (c.places k) ∙ o.1);
+    }
+
+-- ---- A start is withdrawn
+
+pub flipped : (n m : ℕ) → (m == n) ≡ false → (n == m) ≡ false
+flipped n m e = grind (arith, nat_tests)
+
+pub removed_fresh : (k m : ℕ) (s : Core) → is_fresh (place_of k s) ≡ true → is_fresh (place_of k (remove_thread m s)) ≡ true
+removed_fresh k m s h = by_number k m (is_fresh (place_of k (remove_thread m s)) ≡ true) (λ e. ap (λ (j : ℕ). is_fresh (place_of j (remove_thread m s))) e ∙ ap is_fresh (gone_place m s)) (λ e. ap is_fresh (other_place k m s e) ∙ h)
+
+-- who waits for its start may go
+so_gone : (v : Watch) (o : Option Place) → is_fresh o ≡ true → is_so v o ≡ true → is_so v None ≡ true
+so_gone v o f h = grind arith
+
+pub withdrawn_stand : {P : ℕ → Watch} (n : ℕ) (q : Option Place) (m : ℕ) (s : Core) → (m == n) ≡ false → is_fresh (place_of m s) ≡ true → Stand P n q [] s → Stand P n q [] (remove_thread m (set_switch (less_switch m s.queues.switch) (unqueued m s)))
+withdrawn_stand {P = P} n q m s apart fresh st = record {
+  here = other_place n m u (flipped n m apart) ∙ (c.places n ∙ st.here);
+  once = st.once;
+  loose = λ k h. removed_loose k m u (by_number k m (Loose k u) (λ e. subst (λ (j : ℕ). Loose j u) (sym e) own) (λ e. left_loose k s u (c.left k e) (st.loose k h)));
+  there = λ k h. zero_one refl h;
+  placed = λ k h. by_number k m (HasPlace k (remove_thread m u)) (λ e. subst (λ (j : ℕ). HasPlace j (remove_thread m u)) (sym e) (removed_gone m u own)) (λ e. removed_placed k m u e (left_placed k s u (c.left k e) (c.places k) (st.placed k h)));
+  kept = λ k h. (refl, by_number k m (is_so (P k) (place_of k (remove_thread m u)) ≡ true) (λ e. ap (λ (j : ℕ). is_so (P k) (place_of j (remove_thread m u))) e ∙ (ap (is_so (P k)) (gone_place m u) ∙ so_gone (P k) (place_of m s) fresh (ap (λ (j : ℕ). is_so (P k) (place_of j s)) (sym e) ∙ (st.kept k h).1))) (λ e. ap (is_so (P k)) (other_place k m u e ∙ c.places k) ∙ (st.kept k h).1));
+}
+  where
+    u : Core
+    u = set_switch (less_switch m s.queues.switch) (unqueued m s)
+
+    c : Cleared m s u
+    c = unqueued_cleared m s (st.placed m (no_time m n apart))
+
+    own : Loose m u
+    own = c.own (fresh_apart (place_of m s) fresh)
+
+-- ---- A thread more
+
+module _ (t : Thread) (s : Core) where
+  added_here : place_of (s.made.threads + 1) (add_thread t s) ≡ Some t.place
+  unfolding add_thread
+  added_here = grind (arith, nat_tests, get-insert)
+
+  added_other : (k : ℕ) → (k == s.made.threads + 1) ≡ false → place_of k (add_thread t s) ≡ place_of k s
+  unfolding add_thread
+  added_other k e = grind (arith, nat_tests, get-insert)
+
+  added_callers : (k f : ℕ) → times k (callers_of f (add_thread t s)) ≡ cond (f == s.made.threads + 1) 0 (times k (callers_of f s))
+  unfolding add_thread
+  added_callers k f = grind (arith, nat_tests, get-insert)
+
+none_cut : (b : Bool) (x : ℕ) → x ≡ 0 → cond b 0 x ≡ 0
+none_cut b x h = grind arith
+
+so_new : (v : Watch) → is_so v None ≡ true → is_so v (Some place.New) ≡ true
+so_new v h = grind arith
+
+-- it has the next number, which was no thread's, and behind which nobody was
+pub added_stand : {P : ℕ → Watch} (n : ℕ) (q : Option Place) (t : Thread) (s : Core) → (n == s.made.threads + 1) ≡ false → t.place ≡ place.New → Stand P n q [] s → Stand P n q [] (add_thread t s)
+unfolding add_thread
+added_stand {P = P} n q t s apart new st = record {
+  here = added_other t s n apart ∙ st.here;
+  once = st.once;
+  loose = λ k h. loose k (st.loose k h) (by_number k n ((k == s.made.threads + 1) ≡ false) (λ e. ap (λ (j : ℕ). j == s.made.threads + 1) e ∙ apart) (λ e. zero_one (no_time k n e) h));
+  there = λ k h. zero_one refl h;
+  placed = λ k h. by_number k (s.made.threads + 1) (HasPlace k u) (λ e. subst (λ (j : ℕ). HasPlace j u) (sym e) own) (λ e. other k e (st.placed k h));
+  kept = λ k h. (refl, by_number k (s.made.threads + 1) (is_so (P k) (place_of k u) ≡ true) (λ e. ap (λ (j : ℕ). is_so (P k) (place_of j u)) e ∙ (ap (is_so (P k)) here ∙ so_new (P k) (ap (is_so (P k)) (sym gone) ∙ (ap (λ (j : ℕ). is_so (P k) (place_of j s)) (sym e) ∙ (st.kept k h).1)))) (λ e. ap (is_so (P k)) (added_other t s k e) ∙ (st.kept k h).1));
+}
+  where
+    u : Core
+    u = add_thread t s
+
+    loose : (k : ℕ) → Loose k s → (k == s.made.threads + 1) ≡ false → Loose k u
+    loose k l e = record { number = λ g. grind (arith, l.number, added_other t s k e); switch = l.switch; high = l.high; low = l.low; callers = λ f. added_callers t s k f ∙ none_cut (f == s.made.threads + 1) _ (l.callers f) }
+
+    before : HasPlace (s.made.threads + 1) s
+    before = st.placed (s.made.threads + 1) (no_time (s.made.threads + 1) n (flipped (s.made.threads + 1) n apart))
+
+    gone : place_of (s.made.threads + 1) s ≡ None
+    gone = grind (arith, before.number)
+
+    here : place_of (s.made.threads + 1) u ≡ Some place.New
+    here = added_here t s ∙ ap (λ (p : Place). Some p) new
+
+    own : HasPlace (s.made.threads + 1) u
+    own = record {
+      number = λ e. le_refl _;
+      behind = λ f e. zero_one (ap (says (is_behind_of f)) here) e;
+      switch = grind (arith, before.switch, gone, here);
+      high = grind (arith, before.high, gone, here);
+      low = grind (arith, before.low, gone, here);
+      callers = λ f. grind (arith, added_callers t s (s.made.threads + 1) f, before.callers f, gone, here);
+    }
+
+    other : (k : ℕ) → (k == s.made.threads + 1) ≡ false → HasPlace k s → HasPlace k u
+    other k e h = record {
+      number = λ g. grind (arith, h.number, added_other t s k e);
+      behind = λ f g. grind (arith, h.behind f, added_other t s k e);
+      switch = grind (arith, h.switch, added_other t s k e);
+      high = grind (arith, h.high, added_other t s k e);
+      low = grind (arith, h.low, added_other t s k e);
+      callers = λ f. grind (arith, nat_tests, added_callers t s k f, added_other t s k e, added_other t s f, h.callers f, h.behind (s.made.threads + 1), here);
+    }

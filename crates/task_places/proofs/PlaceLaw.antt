@@ -1,0 +1,513 @@
+-- Where each thread is along the words of a step: each has its place, and one that waits for its start still does, or its call has begun.
+use Rattle.std.proofs.lemmas.Bool.Decides.{nat_tests}
+use Rattle.task_machine.specs.declared.records.HowFar.{HowFar}
+use Rattle.task_rules.specs.Laws.{is_free}
+use Rattle.task_rules.specs.Scripts.{registers_for}
+use Rattle.task_machine.specs.declared.records.Call.{Call}
+use Rattle.std.proofs.Common.{T, ap, arith, inl, inr, le_refl, refl, subst, sym, ◌∙◌}
+use Rattle.std.specs.Option.{option_map_or}
+use Rattle.std.specs.Prelude.{Bool, None, Option, Some, [], false, is_none, is_some, slice_set, true, unwrap_or, ℕ, ◌+◌, ◌==◌, ◌||◌, ◌∷◌, ◌≡◌, ◌≤◌, ◌⊎◌, option_map, if◌then◌else◌}
+use Rattle.task_machine.specs.Core.{Core}
+use Rattle.task_machine.specs.Maps.{get}
+use Rattle.task_machine.specs.Moves.{has_entry, promoted, put_high, put_low, behind_one}
+use Rattle.task_machine.specs.Read.{is_explicit, new_thread_handle, place_of, task_of, was_started, is_under}
+use Rattle.task_machine.specs.Write.{add_call, add_group, add_set, add_work, count_work, free_handle, free_thread_handle, give_handle, give_result, give_thread_handle, on_call, on_instance, on_thread, on_work, push_high, remove_call, remove_group, remove_set, remove_thread, remove_work, set_backpressure, set_cancel_delivered, set_cancelled, set_course, set_do_not_enter, set_do_not_suspend, set_end, set_event, set_exited, set_how_far, set_join, set_own_event, set_phase, set_place, set_position, set_register, set_result, set_saved_callee, set_saved_own, set_script, set_stage, set_started, set_starting_published, set_subtask_handle, set_thread_handle, set_trapped, set_uninteresting, set_word, take_result}
+use Rattle.task_machine.specs.declared.records.Place.{Place}
+use Rattle.task_machine.specs.declared.records.Thread.{Thread}
+use Rattle.task_machine.specs.declared.records.Turn.{Turn}
+use Rattle.task_machine.specs.declared.records.Why.{Why}
+use Rattle.task_machine.specs.declared.words.Mark.{Mark}
+use Rattle.task_places.proofs.Entries.{added_stand, has_stands, next_first, popped_quiet, promoted_stand, pushed_same, removed_fresh, withdrawn_stand, flipped}
+use Rattle.task_laws.proofs.CameLemmas.{read_same}
+use Rattle.task_rules.proofs.ChainLemmas.{along}
+use Rattle.task_rules.proofs.MoveLemmas.{All, all_of, idle_loose, is_busy, is_idle, is_parked, loose_idle, put_stand, removed_all, no_time, one_time, stand_of, removed_gone, removed_placed, removed_loose, gone_place, other_place, nobody}
+use Rattle.task_rules.proofs.PlacingLemmas.{placing_shifted}
+use Rattle.task_rules.proofs.StandLemmas.{Adds, adds_all, Loose, Stand, by_number, put_high_adds, put_low_adds, set_place_adds, place_kept, place_written, Given, Watch, Nothing, Awaits, Covered, is_so, is_watched}
+use Rattle.task_rules.proofs.StopLemmas.{Untouched, behind_adds, foot_there, given_there, quiet_placed, quiet_stand, stopped_stand, switch_there}
+use Rattle.task_rules.proofs.WalkParts.{withdraws}
+use Rattle.task_rules.proofs.WalkTask.{not_main, one_runner}
+use Rattle.task_rules.specs.Allowed.{HasSubtask, IsRunner, MayLand, MayMove, MayPut, MayYield, Stays, is_begun, Leaves, IsFoot, Runs, Holds, WaitsAgain, AwaitsEvent, Waits, Blocks, Suspends, Uncovers, Departs, EndsOver, Falls, MayGo, IsFall, IsSettling}
+use Rattle.task_rules.specs.Calls.{call_made, new_call, next_thread, with_handle, with_thread_handle, work_queued, new_thread}
+use Rattle.task_rules.specs.Chains.{LastWords, Settles, Stay, Trip, Remains, Lands, LandsAt, Quits, GoesBack, Collapses}
+use Rattle.task_rules.specs.Places.{HasPlace, entries, is_at_high, is_at_low, is_at_switch, is_for_start, is_fresh, is_there, says, switch_entries, times}
+use Rattle.task_rules.specs.Scenes.{Scene}
+use Rattle.task_rules.specs.Words.{FinishWork, MakeCall, MakeThread, NameThread, Places, Placing, Promote, Put, QueueWork, RemoveThread, SetHowFar, SetPosition, SetRegister, SetSavedCallee, SetSavedOwn, SetScript, Stop, TakeHost, TakePush, Withdraw, Word, after_placing, after_word, Pop, GoBehind, Move, Enter, SetUninteresting, RemoveCall, RemoveGroup, SetTrapped}
+use Rattle.task_rules.specs.Works.{poll_pends}
+use Rattle.task_machine.specs.declared.records.HowFar.TheVariants as how_far
+use Rattle.task_machine.specs.declared.records.Script.TheVariants as script
+use Rattle.task_machine.specs.declared.records.Entry.TheVariants as entry
+use Rattle.task_machine.specs.declared.records.Place.TheVariants as place
+use Rattle.task_machine.specs.declared.records.Subtask.TheVariants as subtask
+use Rattle.task_machine.specs.declared.records.Turn.TheVariants as turn
+use Rattle.task_machine.specs.declared.records.Why.TheVariants as why
+use Rattle.task_machine.specs.declared.words.Mark.TheVariants as mark
+
+pub no_way : {A : Type 0} → false ≡ true → A
+no_way h = absurd (subst T (sym h) tt)
+
+-- ---- Who is put, and who has an entry
+
+-- who is put was parked; one that waited for its start still does
+parked_at : (m : ℕ) (w : Why) (s : Core) → MayPut m w s → (option_map_or is_parked (place_of m s) false ≡ true) × (is_fresh (place_of m s) ≡ true → is_for_start w ≡ true)
+parked_at m w s ok = (grind arith, λ h. grind arith)
+
+place_at : (test : Place → Bool) (o : Option Place) → option_map_or test o false ≡ true → (p : Place) × ((o ≡ Some p) × (test p ≡ true))
+place_at test None h = no_way h
+place_at test (Some p) h = (p, (refl, h))
+
+abbrev pub ReadyAt : Option Place → Type 0
+ReadyAt o = (x : Mark) × ((w : Why) × (o ≡ Some (place.Ready x w)))
+
+ready_of : (o : Option Place) → 1 ≤ says is_at_switch o + says is_at_high o + says is_at_low o → ReadyAt o
+ready_of (Some (place.Ready x w)) h = (x, (w, refl))
+ready_of o h = absurd (grind arith)
+
+-- a thread that has its place and an entry
+pub entry_ready : (m : ℕ) (s : Core) → HasPlace m s → 1 ≤ switch_entries m s.queues.switch + entries m s.queues.high + entries m s.queues.low → ReadyAt (place_of m s)
+entry_ready m s h one = ready_of (place_of m s) (let a = h.switch in let b = h.high in let c = h.low in omega (arith, a, b, c, one))
+
+listed : (m : ℕ) (s : Core) → (has_entry m s.queues.high || has_entry m s.queues.low) ≡ true → 1 ≤ switch_entries m s.queues.switch + entries m s.queues.high + entries m s.queues.low
+listed m s h = grind (arith, has_stands m s.queues.high, has_stands m s.queues.low)
+
+-- ---- Beside a thread that stays
+
+-- who waits for its start, or is gone, as the step begins
+abbrev pub waits : Scene → ℕ → Bool
+waits a k = is_fresh (place_of k a.base)
+
+-- beside it, who is under another
+abbrev watch_of : Option Place → Watch
+watch_of None = Awaits
+watch_of (Some (place.Under m)) = Covered m
+watch_of (Some p) = if is_fresh (Some p) then Awaits else Nothing
+
+abbrev pub watch : Scene → ℕ → Watch
+watch a k = watch_of (place_of k a.base)
+
+fresh_watch : (o : Option Place) → is_fresh o ≡ true → watch_of o ≡ Awaits
+fresh_watch o h = grind arith
+
+pub so_self : (o : Option Place) → is_so (watch_of o) o ≡ true
+so_self o = grind (arith, nat_tests)
+
+under_is : (m : ℕ) (o : Option Place) → option_map_or (is_under m) o false ≡ true → o ≡ Some (place.Under m)
+under_is m o h = grind (arith, nat_tests)
+
+module _ (a : Scene) {n : ℕ} {q : Option Place} {s : Core} (st : Stand (watch a) n q [] s) where
+  fresh_still : (k : ℕ) → waits a k ≡ true → is_fresh (place_of k s) ≡ true
+  fresh_still k h = let e = fresh_watch (place_of k a.base) h in ap (λ v. is_so v (place_of k s)) (sym e) ∙ (st.kept k (ap is_watched e)).1
+
+  covered_still : (k m : ℕ) → place_of k a.base ≡ Some (place.Under m) → place_of k s ≡ Some (place.Under m)
+  covered_still k m at = let e = ap watch_of at in under_is m (place_of k s) (ap (λ v. is_so v (place_of k s)) (sym e) ∙ (st.kept k (ap is_watched e)).1)
+
+-- a parked thread that is put
+so_put : (v : Watch) (p : Place) (x : Mark) (w : Why) → is_parked p ≡ true → (is_fresh (Some p) ≡ true → is_for_start w ≡ true) → is_so v (Some p) ≡ true → is_so v (Some (place.Ready x w)) ≡ true
+so_put v p x w parked starts h = grind arith
+
+-- From b on the thread n stays at q, so nobody puts it; nor is it a call's that is withdrawn, or made.
+pub record Follows (a : Scene) (b : Core) (n : ℕ) (q : Option Place) : Type 0 where
+  pub busy : is_busy q ≡ true
+  pub runs : (m : ℕ) → a.turn ≡ turn.Run m → (is_idle q ≡ true) × (is_fresh q ≡ false)
+  pub apart : (n == a.base.made.threads + 1) ≡ false
+  pub withdraws : (m k : ℕ) → IsRunner a m → HasSubtask a m (subtask.Guest k) → was_started k a.base ≡ false → waits a k ≡ true
+  pub start : Stand (watch a) n q [] b
+
+thread_untouched : (n : ℕ) (f : Thread → Thread) (s : Core) → ((t : Thread) → (f t).place ≡ t.place) → Untouched s (on_thread n f s)
+unfolding on_thread
+thread_untouched n f s same = record { places = λ k. read_same n f same k s; switch = λ k. refl; high = λ k. refl; low = λ k. refl; callers = refl; made = le_refl _ }
+
+calls_untouched : (k : ℕ) (c : Call) (s : Core) → Untouched s (add_call k c s)
+unfolding add_call
+calls_untouched k c s = record { places = λ k. refl; switch = λ k. refl; high = λ k. refl; low = λ k. refl; callers = refl; made = le_refl _ }
+
+module _ {a : Scene} {b : Core} {n : ℕ} {q : Option Place} (f : Follows a b n q) where
+  not_here : (m : ℕ) (s : Core) → Stand (watch a) n q [] s → (place_of n s ≡ place_of m s → place_of m s ≡ q → ⊥) → (m == n) ≡ false
+  not_here m s st differs = by_number m n ((m == n) ≡ false) (λ e. let same = ap (λ (j : ℕ). place_of j s) (sym e) in absurd (differs same (sym same ∙ st.here))) (λ e. e)
+
+  promotes : (m : ℕ) (s : Core) → (m == n) ≡ false → s.queues.switch ≡ None → ReadyAt (place_of m s) → Stand (watch a) n q [] s → Stand (watch a) n q [] (promoted m s)
+  promotes m s apart none r st = promoted_stand n q m r.0 r.1.0 s apart r.1.1 none st
+
+  stay_placing : (p : Placing) (s : Core) → Stays a (Places p) s → Stand (watch a) n q [] s → Stand (watch a) n q [] (after_placing p s)
+  stay_placing (Put x m w) s (inl ok) st = let r = parked_at m w s ok in let p = place_at is_parked (place_of m s) r.0 in put_stand n q f.busy x m w p.0 s p.1.0 p.1.1 (λ h. so_put (watch a m) p.0 x w p.1.1 (λ g. r.1 (ap is_fresh p.1.0 ∙ g)) (ap (is_so (watch a m)) (sym p.1.0) ∙ (st.kept m h).1)) st
+  stay_placing (Promote m) s (inl ok) st =
+      let one = listed m s ok.1 in
+      let apart : (m == n) ≡ false = by_number m n ((m == n) ≡ false) (λ e. absurd (none_listed m e one)) (λ e. e) in
+      promotes m s apart ok.0 (entry_ready m s (st.placed m (no_time m n apart)) one) st
+    where
+      none_listed : (m : ℕ) → m ≡ n → 1 ≤ switch_entries m s.queues.switch + entries m s.queues.high + entries m s.queues.low → ⊥
+      none_listed m e h = let l = st.loose m (subst (λ (j : ℕ). times j (n ∷ []) ≡ 1) (sym e) (one_time n)) in let x = l.switch in let y = l.high in let z = l.low in omega (arith, x, y, z, h)
+  stay_placing (Promote m) s (inr ok) st =
+      promotes m s (not_here m s st (λ same at. subst T (sym (f.runs ok.1.0 ok.1.1.0).0 ∙ (ap is_idle (sym at) ∙ ap is_idle ok.1.1.1.1.1)) tt)) ok.0 ok.1.1.1 st
+  stay_placing (Stop g) s (inl ok) st = stopped_stand n q g s st
+  stay_placing p s (inl ok) st = absurd ok
+  stay_placing p s (inr ok) st = absurd ok
+
+  next_apart : (s : Core) → s.made.threads ≡ a.base.made.threads → (n == s.made.threads + 1) ≡ false
+  next_apart s e = ap (λ (c : ℕ). n == c + 1) e ∙ f.apart
+
+  pub stay_word : (w : Word) (s : Core) → Stays a w s → Stand (watch a) n q [] s → Stand (watch a) n q [] (after_word w s)
+  unfolding add_call add_group add_set add_work count_work free_handle free_thread_handle give_handle give_result give_thread_handle on_call on_instance on_work push_high remove_call remove_group remove_set remove_work set_backpressure set_cancel_delivered set_cancelled set_course set_do_not_enter set_do_not_suspend set_end set_event set_exited set_how_far set_join set_own_event set_phase set_position set_register set_result set_saved_callee set_saved_own set_script set_stage set_started set_starting_published set_subtask_handle set_thread_handle set_trapped set_uninteresting set_word take_result call_made with_handle with_thread_handle work_queued poll_pends
+  stay_word (Places p) s ok st = subst (λ (t : Core). Stand (watch a) n q [] t) (sym (placing_shifted p s).only) (stay_placing p s ok st)
+  stay_word (SetRegister m r v) s ok st = quiet_stand n q [] s _ (thread_untouched m (λ t. record t { registers = slice_set t.registers r v }) s (λ t. refl)) st
+  stay_word (SetPosition m p) s ok st = quiet_stand n q [] s _ (thread_untouched m (λ t. record t { position = p }) s (λ t. refl)) st
+  stay_word (SetHowFar m h) s ok st = quiet_stand n q [] s _ (thread_untouched m (λ t. record t { how_far = h }) s (λ t. refl)) st
+  stay_word (SetScript m x) s ok st = quiet_stand n q [] s _ (thread_untouched m (λ t. record t { script = x }) s (λ t. refl)) st
+  stay_word (SetSavedOwn m c) s ok st = quiet_stand n q [] s _ (thread_untouched m (λ t. record t { saved_own = c }) s (λ t. refl)) st
+  stay_word (SetSavedCallee m c) s ok st = quiet_stand n q [] s _ (thread_untouched m (λ t. record t { saved_callee = c }) s (λ t. refl)) st
+  stay_word (NameThread i m) s ok st = let u = thread_untouched m (λ t. record t { handle = Some (new_thread_handle i s) }) (give_thread_handle i m s) (λ t. refl) in quiet_stand n q [] s _ (record { places = u.places; switch = u.switch; high = u.high; low = u.low; callers = u.callers; made = u.made }) st
+  stay_word (MakeThread t) s ok st = added_stand n q t s (next_apart s ok.1.1.0) (ap (λ (r : Thread). r.place) ok.1.1.1.1.1.0) st
+  stay_word (MakeCall g e x goal group words) s ok st = added_stand n q (new_thread (next_thread s) false script.Start (registers_for words) None) (add_call (next_thread s) (new_call g e x goal group) s) (next_apart s ok.1.0) refl (quiet_stand n q [] s _ (calls_untouched (next_thread s) (new_call g e x goal group) s) st)
+  stay_word (Withdraw k) s ok st =
+      let fresh = fresh_still a st k (f.withdraws ok.0 k ok.1.0 ok.1.1.0 ok.1.1.1.1.1.1) in
+      subst (λ (t : Core). Stand (watch a) n q [] t) (sym (withdraws k s)) (withdrawn_stand n q k s (not_here k s st (λ same at. subst T (sym fresh ∙ (ap is_fresh at ∙ (f.runs ok.0 ok.1.1.1.1.1.0).1)) tt)) fresh st)
+  stay_word (RemoveThread m) s ok st = absurd ok
+  stay_word (QueueWork g host group) s ok st = quiet_stand n q [] s _ (record { places = λ k. refl; switch = λ k. refl; high = λ k. pushed_same k s.queues.high _ refl; low = λ k. refl; callers = refl; made = le_refl _ }) st
+  stay_word (FinishWork i c) s ok st = quiet_stand n q [] s _ (record { places = λ k. refl; switch = λ k. refl; high = λ k. pushed_same k s.queues.high (entry.Host i) refl; low = λ k. refl; callers = refl; made = le_refl _ }) st
+  stay_word (TakePush x i) s ok st = let u = popped_quiet x (entry.Push i) s (next_first s x (entry.Push i) ok) (λ k. refl) in quiet_stand n q [] s _ (record { places = u.places; switch = u.switch; high = u.high; low = u.low; callers = u.callers; made = le_refl _ }) st
+  stay_word (TakeHost x i) s ok st = let u = popped_quiet x (entry.Host i) s (next_first s x (entry.Host i) ok) (λ k. refl) in quiet_stand n q [] s _ (record { places = u.places; switch = u.switch; high = u.high; low = u.low; callers = u.callers; made = le_refl _ }) st
+  stay_word w s ok st = quiet_stand n q [] s _ (record { places = λ k. refl; switch = λ k. refl; high = λ k. refl; low = λ k. refl; callers = refl; made = le_refl _ }) st
+
+  pub stay_stand : {t : Core} → Stay a b t → Stand (watch a) n q [] t
+  stay_stand c = along (λ (t : Core). Stand (watch a) n q [] t) stay_word f.start c
+
+-- ---- Where a step comes to
+
+-- the thread's call has begun, if it is the first of one
+abbrev pub Begun : Scene → ℕ → Core → Type 0
+Begun a k t = ((is_there k a.base ≡ true) × (is_explicit k a.base ≡ false → is_begun (task_of k a.base) t ≡ true)) ⊎ (is_begun k t ≡ true)
+
+-- Each thread has its place, and the one whose turn comes runs; who waited for its start still does, or its call has begun; who was under
+-- another still is, or that one is gone; and one that was made and runs has another under it.
+pub record Arrives (a : Scene) (t : Core) : Type 0 where
+  pub placed : All t
+  pub runs : (m : ℕ) → a.next ≡ turn.Run m → place_of m t ≡ Some place.Running
+  pub fresh : (k : ℕ) → waits a k ≡ true → (is_fresh (place_of k t) ≡ true) ⊎ Begun a k t
+  pub covered : (k m : ℕ) → place_of k a.base ≡ Some (place.Under m) → (place_of k t ≡ Some (place.Under m)) ⊎ (place_of m t ≡ None)
+  pub entered : (m : ℕ) → place_of m a.base ≡ None → a.next ≡ turn.Run m → (n : ℕ) × (place_of n t ≡ Some (place.Under m))
+
+far_arrives : (a : Scene) (n : ℕ) (h : HowFar) (s : Core) → Arrives a s → Arrives a (set_how_far n h s)
+unfolding set_how_far on_thread
+far_arrives a n h s r =
+    let u = thread_untouched n (λ t. record t { how_far = h }) s (λ t. refl) in
+    record {
+      placed = λ k. quiet_placed k s _ u (r.placed k);
+      runs = λ m to. u.places m ∙ r.runs m to;
+      fresh = λ k w. still k (r.fresh k w);
+      covered = λ k m at. over k m (r.covered k m at);
+      entered = λ m none to. let e = r.entered m none to in (e.0, u.places e.0 ∙ e.1);
+    }
+  where
+    same : (k : ℕ) → place_of k (on_thread n (λ t. record t { how_far = h }) s) ≡ place_of k s
+    same k = read_same n (λ t. record t { how_far = h }) (λ t. refl) k s
+
+    over : (k m : ℕ) → (place_of k s ≡ Some (place.Under m)) ⊎ (place_of m s ≡ None) → (place_of k (on_thread n (λ t. record t { how_far = h }) s) ≡ Some (place.Under m)) ⊎ (place_of m (on_thread n (λ t. record t { how_far = h }) s) ≡ None)
+    over k m (inl e) = inl (same k ∙ e)
+    over k m (inr e) = inr (same m ∙ e)
+
+    still : (k : ℕ) → (is_fresh (place_of k s) ≡ true) ⊎ Begun a k s → (is_fresh (place_of k (on_thread n (λ t. record t { how_far = h }) s)) ≡ true) ⊎ Begun a k (on_thread n (λ t. record t { how_far = h }) s)
+    still k (inl e) = inl (ap is_fresh (same k) ∙ e)
+    still k (inr e) = inr e
+
+-- ---- The thread itself comes to a place
+
+-- who is taken and waits for its start is taken for it
+fresh_ready : (p : Place) → is_busy (Some p) ≡ true → is_fresh (Some p) ≡ true → (x : Mark) × (p ≡ place.Ready x why.Start)
+fresh_ready (place.Ready x why.Start) b h = (x, refl)
+fresh_ready p b h = absurd (grind arith)
+
+abbrev pub is_run : Turn → Bool
+is_run (turn.Run n) = true
+is_run _ = false
+
+placeless : (o : Option Thread) → is_none o ≡ true → is_some (option_map (λ (t : Thread). t.place) o) ≡ false
+placeless None h = refl
+placeless (Some t) h = no_way h
+
+yield_runner : {a : Scene} (k : ℕ) (w : Why) → MayYield a k w → IsRunner a k
+yield_runner k w ok = grind arith
+
+move_runner : {a : Scene} (k : ℕ) (r : Place) (s : Core) → MayMove a k r s → IsRunner a k ⊎ ((m : ℕ) × (IsRunner a m × (is_none (get s.threads m) ≡ true)))
+move_runner k r s (Runs i to h e) = inl i
+move_runner k r s (Holds w l h e) = inl l.0
+move_runner k r s (WaitsAgain x l h e) = inl l.0
+move_runner k r s (AwaitsEvent x l d h e) = inl l.0
+move_runner k r s (Waits x l h e) = inl l.0
+move_runner k r s (Blocks sub l h e) = inl l.0
+move_runner k r s (Suspends l e) = inl l.0
+move_runner k r s (Uncovers m i to under none e) = inr (m, (i, none))
+
+abbrev pub is_under_place : Option Place → Bool
+is_under_place (Some (place.Under m)) = true
+is_under_place _ = false
+
+module _ {a : Scene} {b : Core} (n : ℕ) (p : Place) (f : Follows a b n (Some p)) (is : IsRunner a n) (home : place_of n a.base ≡ Some p) (top : is_under_place (Some p) ≡ false) where
+  not_under : (k m : ℕ) → k ≡ n → place_of k a.base ≡ Some (place.Under m) → {A : Type 0} → A
+  not_under k m e at = no_way (sym top ∙ ap is_under_place (sym home ∙ (ap (λ (j : ℕ). place_of j a.base) (sym e) ∙ at)))
+
+  one : (m : ℕ) → IsRunner a m → m ≡ n
+  one m e = ap (λ (o : Option ℕ). unwrap_or o m) (sym e ∙ is)
+
+  comes : (r : Place) (s t : Core) → Adds n r s t → Stand (watch a) n (Some p) [] s → ((m : ℕ) → a.next ≡ turn.Run m → (m ≡ n) × (r ≡ place.Running)) → (waits a n ≡ true → (is_fresh (Some r) ≡ true) ⊎ Begun a n t) → Arrives a t
+  comes r s t adds st runs fresh = record {
+    placed = adds_all n (Some p) r s t adds st;
+    runs = λ m to. let e = runs m to in ap (λ (j : ℕ). place_of j t) e.0 ∙ (adds.own ∙ ap (λ (x : Place). Some x) e.1);
+    fresh = λ k h. by_number k n ((is_fresh (place_of k t) ≡ true) ⊎ Begun a k t) (λ e. subst (λ (j : ℕ). (is_fresh (place_of j t) ≡ true) ⊎ Begun a j t) (sym e) (own (fresh (ap (waits a) (sym e) ∙ h)))) (λ e. inl (ap is_fresh (adds.other k e) ∙ fresh_still a st k h));
+    covered = λ k m at. inl (by_number k n (place_of k t ≡ Some (place.Under m)) (λ e. not_under k m e at) (λ e. adds.other k e ∙ covered_still a st k m at));
+    entered = λ m none to. no_way (ap (λ (o : Option Place). is_some o) (sym none ∙ (ap (λ (j : ℕ). place_of j a.base) (runs m to).0 ∙ home)));
+  }
+    where
+      own : (is_fresh (Some r) ≡ true) ⊎ Begun a n t → (is_fresh (place_of n t) ≡ true) ⊎ Begun a n t
+      own (inl e) = inl (ap is_fresh adds.own ∙ e)
+      own (inr e) = inr e
+
+  -- a running thread waits for no start
+  begun : (s : Core) {A : Type 0} → a.turn ≡ turn.Run n → waits a n ≡ true → A
+  begun s runs h = no_way (sym (f.runs n runs).1 ∙ (ap is_fresh (sym home) ∙ h))
+
+  left : (r : Place) (s t : Core) → Leaves a n → Adds n r s t → Stand (watch a) n (Some p) [] s → Arrives a t
+  left r s t leave adds st = comes r s t adds st (λ m to. not_main m (sym leave.1.0 ∙ to)) (λ h. begun s leave.1.1 h)
+
+  yield_leaves : (w : Why) → MayYield a n w → Leaves a n
+  yield_leaves w ok = grind arith
+
+  move_lands : (r : Place) (s : Core) → MayMove a n r s → Stand (watch a) n (Some p) [] s → Arrives a (set_place n r s)
+  unfolding set_place on_thread
+  move_lands r s ok st = go ok
+    where
+      adds : is_free r ≡ true → Adds n r s (set_place n r s)
+      adds free = set_place_adds n r p s free st.here
+
+      go : MayMove a n r s → Arrives a (set_place n r s)
+      go (Runs e to starts at) =
+          comes r s (set_place n r s) (adds (ap is_free at)) st (λ m next. (one_runner m n (sym next ∙ to), at))
+          (λ h. inr (inl (ap (λ (o : Option Place). is_some o) home, λ implicit. let x = fresh_ready p f.busy (ap is_fresh (sym home) ∙ h) in still (starts implicit (x.0, home ∙ ap (λ (y : Place). Some y) x.1)))))
+        where
+          still : is_begun (task_of n a.base) s ≡ true → is_begun (task_of n a.base) (set_place n r s) ≡ true
+          still h = h
+      go (Holds w l was at) = comes r s (set_place n r s) (adds (ap is_free at)) st (λ m next. not_main m (sym l.1 ∙ next)) (λ h. inl (ap (λ (y : Place). is_fresh (Some y)) at ∙ (ap is_fresh (sym was.1) ∙ h)))
+      go (WaitsAgain x l was at) = comes r s (set_place n r s) (adds (ap is_free at)) st (λ m next. not_main m (sym l.1 ∙ next)) (λ h. no_way (ap is_fresh (sym was.1) ∙ h))
+      go (AwaitsEvent x l d h at) = left r s (set_place n r s) l (adds (ap is_free at)) st
+      go (Waits x l h at) = left r s (set_place n r s) l (adds (ap is_free at)) st
+      go (Blocks sub l h at) = left r s (set_place n r s) l (adds (ap is_free at)) st
+      go (Suspends l at) = left r s (set_place n r s) l (adds (ap is_free at)) st
+      go (Uncovers m e to under none at) = no_way (sym (placeless (get s.threads m) none) ∙ ap (λ (o : Option Place). is_some o) (ap (λ (j : ℕ). place_of j s) (one m e) ∙ st.here))
+
+  -- by a direct call it is under the new thread
+  enters : (m : ℕ) (s : Core) → MayLand a (Enter n m) s → Stand (watch a) n (Some p) [] s → Arrives a (set_place n (place.Under m) (set_place m place.Running s))
+  unfolding set_place on_thread
+  enters m s ok st =
+      let r = f.runs n ok.1.1.1.1.1.0 in
+      let new = ok.1.1.1.0 in
+      let u = set_place m place.Running s in
+      let all : All u = adds_all m (Some place.New) place.Running s u (set_place_adds m place.Running place.New s refl new) (stand_of {P = nobody} m (Some place.New) s new refl (λ k h. no_way h) (all_of n (Some p) s r.0 st)) in
+      let at : place_of n u ≡ Some p = place_kept n m place.Running s (flipped n m apart) ∙ st.here in
+      let t = set_place n (place.Under m) u in
+      let here : place_of m t ≡ Some place.Running = place_kept m n (place.Under m) u apart ∙ place_written m place.Running place.New s new in
+      record {
+        placed = adds_all n (Some p) (place.Under m) u t (set_place_adds n (place.Under m) p u refl at) (stand_of {P = nobody} n (Some p) u at r.0 (λ k h. no_way h) all);
+        runs = λ k to. ap (λ (j : ℕ). place_of j t) (one_runner k m (sym to ∙ ok.1.0)) ∙ here;
+        fresh = λ k h. by_number k m ((is_fresh (place_of k t) ≡ true) ⊎ Begun a k t) (λ e. inr (subst (λ (j : ℕ). Begun a j t) (sym e) (started ok.1.1.1.1.1.1)))
+            (λ e. by_number k n ((is_fresh (place_of k t) ≡ true) ⊎ Begun a k t) (λ g. begun s ok.1.1.1.1.1.0 (ap (waits a) (sym g) ∙ h)) (λ g. inl (ap is_fresh (place_kept k n (place.Under m) u g ∙ place_kept k m place.Running s e) ∙ fresh_still a st k h)));
+        covered = λ k j under. inl (by_number k m (place_of k t ≡ Some (place.Under j)) (λ e. no_way (ap is_under_place (sym new ∙ (ap (λ (i : ℕ). place_of i s) (sym e) ∙ covered_still a st k j under))))
+            (λ e. by_number k n (place_of k t ≡ Some (place.Under j)) (λ g. not_under k j g under) (λ g. place_kept k n (place.Under m) u g ∙ (place_kept k m place.Running s e ∙ covered_still a st k j under))));
+        entered = λ k none to. (n, place_written n (place.Under m) p u at ∙ ap (λ (j : ℕ). Some (place.Under j)) (sym (one_runner k m (sym to ∙ ok.1.0))));
+      }
+    where
+      apart : (m == n) ≡ false
+      apart = by_number m n ((m == n) ≡ false) (λ e. no_way (sym (ap is_busy (sym (ap (λ (j : ℕ). place_of j s) e ∙ st.here) ∙ ok.1.1.1.0)) ∙ f.busy)) (λ e. e)
+
+      started : is_begun m s ≡ true → Begun a m (set_place n (place.Under m) (set_place m place.Running s))
+      started h = inr h
+
+  foot_given : (g : ℕ) (s : Core) → IsFoot g s → Stand (watch a) n (Some p) [] s → Given g s
+  foot_given g s (inl there) st = given_there n (Some p) [] s st g there
+  foot_given g s (inr h) st = given_there n (Some p) [] s st g (ap (λ (j : ℕ). is_there j s) h.1.1 ∙ foot_there h.0 s (switch_there n (Some p) [] s st h.0 h.1.0))
+
+  lands_at : (x : Placing) (s : Core) → MayLand a x s → Stand (watch a) n (Some p) [] s → Arrives a (after_placing x s)
+  lands_at (Put mark.High k w) s ok st = let e = one k (yield_runner k w ok) in subst (λ (j : ℕ). Arrives a (put_high j w s)) (sym e) (left (place.Ready mark.High w) s (put_high n w s) (yield_leaves w (subst (λ (j : ℕ). MayYield a j w) e ok)) (put_high_adds n w p s st.here) st)
+  lands_at (Put mark.Low k w) s ok st = let e = one k (yield_runner k w ok) in subst (λ (j : ℕ). Arrives a (put_low j w s)) (sym e) (left (place.Ready mark.Low w) s (put_low n w s) (yield_leaves w (subst (λ (j : ℕ). MayYield a j w) e ok)) (put_low_adds n w p s st.here) st)
+  lands_at (Put mark.Switch k w) s ok st = absurd ok
+  lands_at (GoBehind g k) s ok st = let e = one k ok.0.0 in subst (λ (j : ℕ). Arrives a (behind_one g j s)) (sym e) (left (place.Behind g) s (behind_one g n s) (subst (Leaves a) e ok.0) (behind_adds g n p s (foot_given g s ok.1 st) st.here) st)
+  lands_at (Move k r) s ok st = moves (move_runner k r s ok)
+    where
+      moves : IsRunner a k ⊎ ((m : ℕ) × (IsRunner a m × (is_none (get s.threads m) ≡ true))) → Arrives a (set_place k r s)
+      moves (inl i) = let e = one k i in subst (λ (j : ℕ). Arrives a (set_place j r s)) (sym e) (move_lands r s (subst (λ (j : ℕ). MayMove a j r s) e ok) st)
+      moves (inr m) = no_way (sym (placeless (get s.threads m.0) m.1.1) ∙ ap (λ (o : Option Place). is_some o) (ap (λ (j : ℕ). place_of j s) (one m.0 m.1.0) ∙ st.here))
+  lands_at (Enter k m) s ok st = let e = one k ok.0 in subst (λ (j : ℕ). Arrives a (after_placing (Enter j m) s)) (sym e) (enters m s (subst (λ (j : ℕ). MayLand a (Enter j m) s) e ok) st)
+  lands_at (Pop m) s ok st = absurd ok
+  lands_at (Promote m) s ok st = absurd ok
+  lands_at (Stop g) s ok st = absurd ok
+
+-- ---- The thread is gone
+
+settles_quiet : {s t : Core} → Settles s t → Untouched s t
+unfolding set_uninteresting on_call remove_call remove_group
+settles_quiet {s = s} c = along (Untouched s) settle_quiet (record { places = λ k. refl; switch = λ k. refl; high = λ k. refl; low = λ k. refl; callers = refl; made = le_refl _ }) c
+  where
+    settle_quiet : (w : Word) (u : Core) → IsSettling w u → Untouched s u → Untouched s (after_word w u)
+    settle_quiet (SetUninteresting k) u ok q = record { places = q.places; switch = q.switch; high = q.high; low = q.low; callers = q.callers; made = q.made }
+    settle_quiet (RemoveCall k) u ok q = record { places = q.places; switch = q.switch; high = q.high; low = q.low; callers = q.callers; made = q.made }
+    settle_quiet (RemoveGroup g) u ok q = record { places = q.places; switch = q.switch; high = q.high; low = q.low; callers = q.callers; made = q.made }
+    settle_quiet _ u ok q = absurd ok
+
+-- What is so while a strand falls.
+record Falling (a : Scene) (n : ℕ) (s : Core) : Type 0 where
+  pub others : (k : ℕ) → (k == n) ≡ false → HasPlace k s
+  pub own : Loose n s
+  pub idle : (k : ℕ) → is_idle (place_of k a.base) ≡ true → is_idle (place_of k s) ≡ true
+  pub fresh : (k : ℕ) → waits a k ≡ true → is_fresh (place_of k s) ≡ true
+  pub covered : (k m : ℕ) → place_of k a.base ≡ Some (place.Under m) → (place_of k s ≡ Some (place.Under m)) ⊎ (place_of m s ≡ None)
+
+-- How the words begin and end beside the thread n, which runs or was taken; or there is no such thread.
+pub record Frame (a : Scene) (b : Core) (n : ℕ) (q : Option Place) : Type 0 where
+  pub follows : Follows a b n q
+  pub home : (k : ℕ) → place_of k b ≡ place_of k a.base
+  pub one : (m : ℕ) → IsRunner a m → m ≡ n
+  pub there : (m : ℕ) → IsRunner a m → (p : Place) × ((q ≡ Some p) × (is_under_place (Some p) ≡ false))
+  pub running : (m : ℕ) → a.turn ≡ turn.Run m → (m ≡ n) × (q ≡ Some place.Running)
+  pub rests : (t : Core) → LastWords a t → (is_idle (place_of n a.base) ≡ true → is_idle (place_of n t) ≡ true) → is_idle (place_of n t) ≡ true
+
+land_runner : (a : Scene) (p : Placing) (s : Core) → MayLand a p s → (k : ℕ) × IsRunner a k
+land_runner a (Put mark.High k w) s ok = (k, yield_runner k w ok)
+land_runner a (Put mark.Low k w) s ok = (k, yield_runner k w ok)
+land_runner a (Put mark.Switch k w) s ok = absurd ok
+land_runner a (GoBehind g k) s ok = (k, ok.0.0)
+land_runner a (Move k r) s ok = go (move_runner k r s ok)
+  where
+    go : IsRunner a k ⊎ ((m : ℕ) × (IsRunner a m × (is_none (get s.threads m) ≡ true))) → (j : ℕ) × IsRunner a j
+    go (inl i) = (k, i)
+    go (inr m) = (m.0, m.1.0)
+land_runner a (Enter k m) s ok = (k, ok.0)
+land_runner a (Pop m) s ok = absurd ok
+land_runner a (Promote m) s ok = absurd ok
+land_runner a (Stop g) s ok = absurd ok
+
+none_there_at : (o : Option Thread) → is_none o ≡ true → option_map (λ (t : Thread). t.place) o ≡ None
+none_there_at None h = refl
+none_there_at (Some t) h = no_way h
+
+under_number : {j : ℕ} (m : ℕ) → Some (place.Under m) ≡ Some (place.Under j) → m ≡ j
+under_number m e = ap (λ (o : Option Place). number_in o) e
+  where
+    number_in : Option Place → ℕ
+    number_in (Some (place.Under c)) = c
+    number_in _ = 0
+
+module _ {a : Scene} {b : Core} {n : ℕ} {q : Option Place} (f : Frame a b n q) where
+  -- the runner is under none
+  no_cover : (k m : ℕ) → IsRunner a k → place_of k a.base ≡ Some (place.Under m) → {A : Type 0} → A
+  no_cover k m is at = let p = f.there k is in no_way (sym p.1.1 ∙ ap is_under_place (sym p.1.0 ∙ (sym f.follows.start.here ∙ (f.home n ∙ (ap (λ (j : ℕ). place_of j a.base) (sym (f.one k is)) ∙ at)))))
+
+  fall_word : (w : Word) (s : Core) → IsFall a w s → Falling a n s → Falling a n (after_word w s)
+  unfolding set_trapped
+  fall_word (RemoveThread j) s ok h = record {
+    others = λ k e. by_number k j (HasPlace k (remove_thread j s)) (λ g. subst (λ (i : ℕ). HasPlace i (remove_thread j s)) (sym g) (removed_gone j s loose)) (λ g. removed_placed k j s g (h.others k e));
+    own = removed_loose n j s h.own;
+    idle = λ k i. by_number k j (is_idle (place_of k (remove_thread j s)) ≡ true) (λ e. ap (λ (m : ℕ). is_idle (place_of m (remove_thread j s))) e ∙ ap is_idle (gone_place j s)) (λ e. ap is_idle (other_place k j s e) ∙ h.idle k i);
+    fresh = λ k w. removed_fresh k j s (h.fresh k w);
+    covered = λ k m at. over k m at (h.covered k m at);
+  }
+    where
+      still_gone : (m : ℕ) → place_of m s ≡ None → place_of m (remove_thread j s) ≡ None
+      still_gone m e = by_number m j (place_of m (remove_thread j s) ≡ None) (λ g. ap (λ (i : ℕ). place_of i (remove_thread j s)) g ∙ gone_place j s) (λ g. other_place m j s g ∙ e)
+
+      -- who goes is the runner, or was under one that is gone
+      above : (m : ℕ) → place_of j a.base ≡ Some (place.Under m) → MayGo a j s → place_of m (remove_thread j s) ≡ None
+      above m at (Departs l) = no_cover j m l.0 at
+      above m at (EndsOver i is to under) = no_cover j m is at
+      above m at (Falls over (inl i)) = no_cover j m i at
+      above m at (Falls over (inr u)) = still_gone m (none_there_at (get s.threads m) (subst (λ (i : ℕ). is_none (get s.threads i) ≡ true) (sym (under_number m (sym at ∙ u.1.0))) u.1.1))
+
+      over : (k m : ℕ) → place_of k a.base ≡ Some (place.Under m) → (place_of k s ≡ Some (place.Under m)) ⊎ (place_of m s ≡ None) → (place_of k (remove_thread j s) ≡ Some (place.Under m)) ⊎ (place_of m (remove_thread j s) ≡ None)
+      over k m at (inr e) = inr (still_gone m e)
+      over k m at (inl e) = by_number k j ((place_of k (remove_thread j s) ≡ Some (place.Under m)) ⊎ (place_of m (remove_thread j s) ≡ None)) (λ g. inr (above m (ap (λ (i : ℕ). place_of i a.base) (sym g) ∙ at) ok)) (λ g. inl (other_place k j s g ∙ e))
+
+      runner : IsRunner a j → Loose j s
+      runner i = subst (λ (m : ℕ). Loose m s) (sym (f.one j i)) h.own
+
+      loose : Loose j s
+      loose = go ok
+        where
+          go : MayGo a j s → Loose j s
+          go (Departs l) = runner l.0
+          go (EndsOver m i to under) = runner i
+          go (Falls over (inl i)) = runner i
+          go (Falls over (inr u)) = by_number j n (Loose j s) (λ e. subst (λ (m : ℕ). Loose m s) (sym e) h.own) (λ e. idle_loose j (place_of j s) s refl (h.idle j (ap is_idle u.1.0)) (h.others j e))
+  fall_word SetTrapped s ok h = record {
+    others = λ k e. let p = h.others k e in record { number = p.number; behind = p.behind; switch = p.switch; high = p.high; low = p.low; callers = p.callers };
+    own = record { number = h.own.number; switch = h.own.switch; high = h.own.high; low = h.own.low; callers = h.own.callers };
+    idle = h.idle;
+    fresh = h.fresh;
+    covered = h.covered;
+  }
+  fall_word _ s ok h = absurd ok
+
+  falling : Falling a n b
+  falling =
+      let st = f.follows.start in
+      record { others = λ k e. st.placed k (no_time k n e); own = st.loose n (one_time n); idle = λ k i. ap is_idle (f.home k) ∙ i; fresh = λ k w. fresh_still a st k w; covered = λ k m at. inl (covered_still a st k m at) }
+
+  -- the thread exits
+  exits : (s t : Core) → IsRunner a n → Stand (watch a) n q [] s → Settles (after_word (RemoveThread n) s) t → All t × (((k : ℕ) → waits a k ≡ true → is_fresh (place_of k t) ≡ true) × ((k m : ℕ) → place_of k a.base ≡ Some (place.Under m) → place_of k t ≡ Some (place.Under m)))
+  exits s t is st d =
+      let u = settles_quiet d in (
+        λ k. quiet_placed k (remove_thread n s) t u (removed_all n q s st k),
+        (
+          λ k w. ap is_fresh (u.places k) ∙ removed_fresh k n s (fresh_still a st k w),
+          λ k m at. by_number k n (place_of k t ≡ Some (place.Under m)) (λ e. no_cover k m (subst (IsRunner a) (sym e) is) at) (λ e. u.places k ∙ (other_place k n s e ∙ covered_still a st k m at)),
+        ),
+      )
+
+  -- and the one under it goes on
+  goes_back : (s t : Core) (m v : ℕ) → Stay a b s → IsRunner a n → a.turn ≡ turn.Run n → a.next ≡ turn.Run m → place_of m a.base ≡ Some (place.Under n) → Settles (after_word (RemoveThread n) s) t → Arrives a (set_how_far m (how_far.Answered v) (set_place m place.Running t))
+  goes_back s t m v c is runs to under d =
+      let st = stay_stand f.follows c in
+      let e = exits s t is st d in
+      let at : place_of m t ≡ Some (place.Under n) = e.1.1 m n under in
+      let apart : (m == n) ≡ false = by_number m n ((m == n) ≡ false) (λ g. no_cover m n (subst (IsRunner a) (sym g) is) under) (λ g. g) in
+      let u = set_place m place.Running t in
+      far_arrives a m (how_far.Answered v) u (record {
+        placed = adds_all m (Some (place.Under n)) place.Running t u (set_place_adds m place.Running (place.Under n) t refl at) (stand_of {P = nobody} m (Some (place.Under n)) t at refl (λ k h. no_way h) e.0);
+        runs = λ k next. ap (λ (j : ℕ). place_of j u) (one_runner k m (sym next ∙ to)) ∙ place_written m place.Running (place.Under n) t at;
+        fresh = λ k h. by_number k m ((is_fresh (place_of k u) ≡ true) ⊎ Begun a k u) (λ g. no_way (ap is_fresh (sym under) ∙ (ap (waits a) (sym g) ∙ h))) (λ g. inl (ap is_fresh (place_kept k m place.Running t g) ∙ e.1.0 k h));
+        covered = λ k j over. by_number k m ((place_of k u ≡ Some (place.Under j)) ⊎ (place_of j u ≡ None))
+            (λ g. inr (ap (λ (i : ℕ). place_of i u) (under_number j (sym (ap (λ (i : ℕ). place_of i a.base) (sym g) ∙ over) ∙ under)) ∙ (place_kept n m place.Running t (flipped n m apart) ∙ ((settles_quiet d).places n ∙ gone_place n s))))
+            (λ g. inl (place_kept k m place.Running t g ∙ e.1.1 k j over));
+        entered = λ k none next. no_way (ap (λ (o : Option Place). is_some o) (sym none ∙ (ap (λ (j : ℕ). place_of j a.base) (one_runner k m (sym next ∙ to)) ∙ under)));
+      })
+
+  lands : (p : Placing) (s : Core) → MayLand a p s → Stay a b s → Arrives a (after_placing p s)
+  lands p s ok c =
+      let is = land_runner a p s ok in
+      let x = f.there is.0 is.1 in
+      let f2 : Follows a b n (Some x.0) = subst (Follows a b n) x.1.0 f.follows in
+      lands_at n x.0 f2 (subst (IsRunner a) (f.one is.0 is.1) is.1) (sym (f.home n) ∙ f2.start.here) x.1.1 p s ok (stay_stand f2 c)
+
+  pub trip_arrives : {t : Core} → Trip a b t → LastWords a t → Arrives a t
+  trip_arrives (Remains t c still) w =
+      let st = stay_stand f.follows c in
+      record {
+        placed = all_of n q t (sym (ap is_idle st.here) ∙ f.rests t w (λ i. ap is_idle (st.here ∙ (sym f.follows.start.here ∙ f.home n)) ∙ i)) st;
+        runs = λ m to. let r = f.running m (still m to) in ap (λ (j : ℕ). place_of j t) r.0 ∙ (st.here ∙ r.1);
+        fresh = λ k h. inl (fresh_still a st k h);
+        covered = λ k m at. inl (covered_still a st k m at);
+        entered = λ m none to. let r = f.running m (still m to) in no_way (ap (λ (o : Option Place). is_some o) (sym none ∙ (ap (λ (j : ℕ). place_of j a.base) r.0 ∙ (sym (f.home n) ∙ (f.follows.start.here ∙ r.1)))));
+      }
+  trip_arrives (Lands s p c ok) w = subst (λ (t : Core). Arrives a t) (sym (placing_shifted p s).only) (lands p s ok c)
+  trip_arrives (LandsAt s p m h c ok comes) w = far_arrives a m h _ (subst (λ (t : Core). Arrives a t) (sym (placing_shifted p s).only) (lands p s ok c))
+  trip_arrives (Quits s t k c leave d) w =
+      let e = exits s t (subst (IsRunner a) (f.one k leave.0) leave.0) (stay_stand f.follows c) (subst (λ (j : ℕ). Settles (after_word (RemoveThread j) s) t) (f.one k leave.0) d) in
+      record { placed = e.0; runs = λ m to. not_main m (sym leave.1.0 ∙ to); fresh = λ k h. inl (e.1.0 k h); covered = λ k m at. inl (e.1.1 k m at); entered = λ m none to. not_main m (sym leave.1.0 ∙ to) }
+  trip_arrives (GoesBack s t k m v c is runs to under d ok) w =
+      let e = f.one k is in
+      subst (λ (y : Core). Arrives a (set_how_far m (how_far.Answered v) y)) (sym (placing_shifted (Move m place.Running) t).only)
+      (goes_back s t m v c (subst (IsRunner a) e is) (subst (λ (j : ℕ). a.turn ≡ turn.Run j) e runs) to (subst (λ (j : ℕ). place_of m a.base ≡ Some (place.Under j)) e under) (subst (λ (j : ℕ). Settles (after_word (RemoveThread j) s) t) e d))
+  trip_arrives (Collapses t over c) w =
+      let h = along (Falling a n) fall_word falling c in
+      record {
+        placed = λ k. by_number k n (HasPlace k t) (λ e. subst (λ (j : ℕ). HasPlace j t) (sym e) (loose_idle n (place_of n t) t refl (f.rests t w (h.idle n)) h.own)) (λ e. h.others k e);
+        runs = λ m to. no_way (ap is_run (sym over ∙ to));
+        fresh = λ k g. inl (h.fresh k g);
+        covered = h.covered;
+        entered = λ m none to. no_way (ap is_run (sym over ∙ to));
+      }
