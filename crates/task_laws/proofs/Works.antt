@@ -25,7 +25,7 @@ use Rattle.task_machine.specs.declared.label.Label.TheVariants as label
 use Rattle.task_machine.specs.declared.label.LoopLabel.TheVariants as loop_label
 use Rattle.std.proofs.lemmas.Bool.Decides.{nat_tests}
 use Rattle.std.proofs.Common.{ap, arith, inl, inr, le_refl, le_trans, refl, sym, ◌++◌, ◌∙◌, ⊎_elim}
-use Rattle.std.specs.Prelude.{Bool, List, None, Option, Some, [], false, is_some, option_map, true, unwrap_or, ℕ, ◌&&◌, ◌+◌, ◌==◌, ◌||◌, ◌∷◌, ◌≡◌, ◌≤◌, ◌⊎◌}
+use Rattle.std.specs.Prelude.{Bool, List, None, Option, Some, [], false, is_some, option_map, true, ℕ, ◌&&◌, ◌+◌, ◌==◌, ◌||◌, ◌∷◌, ◌≡◌, ◌≤◌, ◌⊎◌}
 
 -- ---- What a work does
 
@@ -334,9 +334,6 @@ module _ {S : Type 0} {a : Scene} (unsync : S → AbortsNoSync a) (w : Word) (s 
 
   made_works : s.made.works ≤ t.made.works
   made_works = made_works_word a w s
-
-  same_doing : (i : ℕ) (v u : Doing) → doing_of i t ≡ Some v → doing_of i t ≡ Some u → v ≡ u
-  same_doing i v u e f = ap (λ (o : Option Doing). unwrap_or o v) (sym e ∙ f)
 
   -- of a work that was there, whatever is so of it after the word
   module _ (i : ℕ) (v : Doing) (at : doing_of i t ≡ Some v) where
