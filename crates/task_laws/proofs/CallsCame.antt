@@ -1,8 +1,6 @@
 -- What one word does to the record of a call, and to that of a thread.
-use Rattle.std.proofs.Common.{ap, inl, inr, le_refl, refl, subst, sym}
-use Rattle.std.specs.Prelude.{None, Option, Some, false, is_some, option_map, true, ℕ, ◌≡◌, ◌≤◌, ◌⊎◌}
+use Rattle.task_rules.proofs.Machine.{add_call, add_group, add_set, add_thread, add_work, after_word, Allowed, ap, Call, call_made, Callee, CallEnd, Caller, change, Core, count_work, ExportKind, false, free_handle, free_thread_handle, get, give_handle, give_result, give_thread_handle, Goal, how_far_of, HowFar, inl, inr, is_deletable, is_some, Join, le_refl, MakeCall, MakeThread, MayCome, MayDeliver, MayEnd, MayJoin, MayMake, MayMakeCall, MayStart, NameCall, NameThread, new_call, next_thread, None, on_call, on_instance, on_thread, on_work, Option, option_map, Places, Placing, poll_pends, push_high, refl, remove_call, remove_group, remove_set, remove_thread, remove_work, RemoveCall, RemoveThread, Scene, set_backpressure, set_cancel_delivered, set_cancelled, set_course, set_do_not_enter, set_do_not_suspend, set_end, set_event, set_exited, set_how_far, set_join, set_own_event, set_phase, set_position, set_register, set_result, set_saved_callee, set_saved_own, set_script, set_stage, set_started, set_starting_published, set_subtask_handle, set_thread_handle, set_trapped, set_uninteresting, set_word, SetCallEvent, SetCallJoin, SetCancelDelivered, SetEnd, SetExited, SetHowFar, SetOwnEvent, SetPosition, SetRegister, SetResult, SetSavedCallee, SetSavedOwn, SetScript, SetStarted, SetStartingPublished, SetUninteresting, Some, subst, sym, take_result, TakeHost, TakePush, Thread, true, UnnameCall, with_handle, with_thread_handle, Withdraw, Word, work_queued, ℕ, ◌≡◌, ◌≤◌, ◌⊎◌}
 use Rattle.task_laws.proofs.EachLemmas.{after_change, after_insert, after_remove}
-use Rattle.task_rules.proofs.Machine.{add_call, add_group, add_set, add_thread, add_work, after_word, Allowed, Call, call_made, Callee, CallEnd, Caller, change, Core, count_work, ExportKind, free_handle, free_thread_handle, get, give_handle, give_result, give_thread_handle, Goal, how_far_of, HowFar, is_deletable, Join, MakeCall, MakeThread, MayCome, MayDeliver, MayEnd, MayJoin, MayMake, MayMakeCall, MayStart, NameCall, NameThread, new_call, next_thread, on_call, on_instance, on_thread, on_work, Places, Placing, poll_pends, push_high, remove_call, remove_group, remove_set, remove_thread, remove_work, RemoveCall, RemoveThread, Scene, set_backpressure, set_cancel_delivered, set_cancelled, set_course, set_do_not_enter, set_do_not_suspend, set_end, set_event, set_exited, set_how_far, set_join, set_own_event, set_phase, set_position, set_register, set_result, set_saved_callee, set_saved_own, set_script, set_stage, set_started, set_starting_published, set_subtask_handle, set_thread_handle, set_trapped, set_uninteresting, set_word, SetCallEvent, SetCallJoin, SetCancelDelivered, SetEnd, SetExited, SetHowFar, SetOwnEvent, SetPosition, SetRegister, SetResult, SetSavedCallee, SetSavedOwn, SetScript, SetStarted, SetStartingPublished, SetUninteresting, take_result, TakeHost, TakePush, Thread, UnnameCall, with_handle, with_thread_handle, Withdraw, Word, work_queued}
 use Rattle.task_laws.proofs.SceneLemmas.{popped_threads}
 use Rattle.task_machine.proofs.MapLemmas.{get-insert_same}
 use Rattle.task_machine.specs.declared.records.HowFar.TheVariants as how_far

@@ -1,10 +1,7 @@
 -- What a step owes of the end of a call.
-use Rattle.task_rules.proofs.Machine.{after_word, Allowed, Answers, base_at, Call, call_end_code, CallEnd, Caller, changes_end, Core, covers_end, end_code, end_for, end_of, EndsByExit, EndsCall, EndsOwn, EndsSubtask, EndWords, event_of, ExitsCall, get, Goal, goal_of, handed, handed_by, HandsAtOnce, HandsOut, has_ended, is_direct, is_end_of, is_for_main, is_guest_call, is_other, is_over, is_written, IsNamed, IsRunner, Label, LaterBy, MayEnd, Moment, SaysEnd, Scene, scene_of, Setting, State, Status, status_code, status_of_end, Subtask, SubtaskEnd, TakesEvent, TakesResult, task_of, Turn, undelivered_end, Walk, Word, Writes, WritesAtOnce, WritesCall, WritesNever, WritesPolled, WritesToo, written, written_by}
+use Rattle.task_rules.proofs.Machine.{after_word, Allowed, Answers, ap, arith, base_at, Bool, Call, call_end_code, CallEnd, Caller, changes_end, Core, covers_end, end_code, end_for, end_of, EndsByExit, EndsCall, EndsOwn, EndsSubtask, EndWords, event_of, ExitsCall, false, get, Goal, goal_of, handed, handed_by, HandsAtOnce, HandsOut, has_ended, inl, inr, is_direct, is_end_of, is_for_main, is_guest_call, is_other, is_over, is_some, is_written, IsNamed, IsRunner, Label, LaterBy, le_trans, MayEnd, Moment, None, not, Option, option_and_then, option_map, option_map_or, refl, SaysEnd, Scene, scene_of, Setting, Some, State, Status, status_code, status_of_end, subst, Subtask, SubtaskEnd, sym, TakesEvent, TakesResult, task_of, true, Turn, undelivered_end, unwrap_or, Walk, Word, Writes, WritesAtOnce, WritesCall, WritesNever, WritesPolled, WritesToo, written, written_by, ℕ, ◌&&◌, ◌+◌, ◌==◌, ◌∙◌, ◌≡◌, ◌≤◌, ◌⊎◌}
 use Rattle.task_laws.specs.Order.{Numbered}
 use Rattle.task_laws.specs.Rises.{CallsRise, Rises}
-use Rattle.std.proofs.Common.{ap, le_trans, refl, subst, sym, ◌∙◌, inl, inr, arith}
-use Rattle.std.specs.Option.{option_map_or}
-use Rattle.std.specs.Prelude.{Bool, None, Option, Some, false, is_some, not, option_and_then, option_map, true, ℕ, ◌&&◌, ◌+◌, ◌==◌, ◌≡◌, ◌≤◌, ◌⊎◌, unwrap_or}
 use Rattle.task_laws.proofs.Basics.{no_way, too_high, true_is_not_false, same_number}
 use Rattle.task_laws.proofs.CallsLaw.{CallsGo, CallsHold, exits_unended}
 use Rattle.task_laws.proofs.CallsSteps.{of_base}

@@ -1,12 +1,8 @@
 -- From facts of each step to all that is once in a run.
-use Rattle.std.proofs.lemmas.Bool.Decides.{nat_tests}
-use Rattle.task_rules.proofs.Machine.{changes_end, Component, Core, course_of, course_value, covers_end, end_for, EndsOnce, event_of, get, handed, hands_out, hands_out_written, has_end, history, host_status, is_end_of, is_known, is_over, Label, Moment, Run, same_end, same_subtask, Setting, State, Status, status_code, Step, Subtask, SubtaskEnd, undelivered_end, with_end, writes_end, written}
+use Rattle.task_rules.proofs.Machine.{[], ap, arith, Bool, changes_end, Component, Core, count_by, course_of, course_value, covers_end, end_for, EndsOnce, event_of, false, get, handed, hands_out, hands_out_written, has_end, history, host_status, if◌then◌else◌, inl, inr, is_end_of, is_known, is_over, is_some, Label, List, list_any, Moment, nat_tests, None, Option, refl, Run, same_end, same_subtask, Setting, Some, State, Status, status_code, Step, subst, Subtask, SubtaskEnd, sym, true, undelivered_end, with_end, writes_end, written, ℕ, ◌&&◌, ◌+◌, ◌==◌, ◌||◌, ◌∙◌, ◌∷◌, ◌≡◌, ◌≤◌, ◌⊎◌}
+use Rattle.std.proofs.lemmas.List.Recursion.{is_count_by}
 use Rattle.task_laws.proofs.Works.{Doing, doing_of, is_due}
 use Rattle.task_laws.proofs.Basics.{same_number, true_is_not_false}
-use Rattle.std.proofs.Common.{ap, arith, inl, inr, refl, subst, sym, ◌∙◌}
-use Rattle.std.proofs.lemmas.List.Recursion.{is_count_by}
-use Rattle.std.specs.List.{list_any}
-use Rattle.std.specs.Prelude.{Bool, List, None, Option, Some, [], count_by, false, if◌then◌else◌, true, ℕ, ◌&&◌, ◌+◌, ◌==◌, ◌||◌, ◌∷◌, ◌≡◌, ◌≤◌, ◌⊎◌, is_some}
 use Rattle.task_machine.specs.declared.records.Subtask.TheVariants as subtask
 use Rattle.task_machine.specs.declared.words.Status.TheVariants as status
 

@@ -1,10 +1,7 @@
 -- Under the first thread of a direct call there is another one, along the words of a step.
-use Rattle.std.proofs.Common.{ap, inl, inr, subst, sym, ◌∙◌, refl, arith}
-use Rattle.std.specs.Option.{option_map_or}
-use Rattle.std.specs.Prelude.{None, Option, Some, false, is_some, option_map, true, ℕ, ◌≡◌, ◌≤◌, ◌⊎◌}
+use Rattle.task_rules.proofs.Machine.{after_word, Allowed, ap, arith, Call, Core, false, get, Goal, goal_of, inl, inr, is_direct, is_some, LaterBy, LaterCall, None, Option, option_map, option_map_or, Place, place_of, refl, SameThread, Scene, Some, Steady, subst, sym, task_of, Thread, true, Word, ℕ, ◌∙◌, ◌≡◌, ◌≤◌, ◌⊎◌}
 use Rattle.task_laws.proofs.CallsCame.{CallAfter, call_came}
 use Rattle.task_laws.specs.Order.{DirectsOnTop, Numbered}
-use Rattle.task_rules.proofs.Machine.{after_word, Allowed, Call, Core, get, Goal, goal_of, is_direct, LaterBy, LaterCall, Place, place_of, SameThread, Scene, Steady, task_of, Thread, Word}
 use Rattle.task_machine.specs.declared.records.Goal.TheVariants as goal
 use Rattle.task_machine.specs.declared.records.Place.TheVariants as place
 use Rattle.task_machine.specs.declared.records.Turn.TheVariants as turn

@@ -1,8 +1,6 @@
 -- Where each thread is after a step.
 use Rattle.task_machine.specs.declared.words.Mark.TheVariants as mark
-use Rattle.task_rules.proofs.Machine.{base_at, base_without, Core, Entry, HasPlace, HasSubtask, is_behind_of, is_fresh, is_take, IsRunner, Label, LastWords, Mark, next_entry, next_polled, nothing_stands, one_if, Place, place_of, popped, runner_at, says, Scene, scene_of, set_high, set_low, set_switch, Setting, settled_futures, settled_take, settled_turn, start_of, State, thread_of_entry, Trip, Turn, Walked, was_started}
-use Rattle.std.proofs.Common.{T, ap, arith, refl, subst, sym, ◌∙◌}
-use Rattle.std.specs.Prelude.{Bool, None, Option, Some, [], false, is_some, true, unwrap_or, ℕ, ◌+◌, ◌==◌, ◌≡◌, ◌≤◌}
+use Rattle.task_rules.proofs.Machine.{[], ap, arith, base_at, base_without, Bool, Core, Entry, false, HasPlace, HasSubtask, is_behind_of, is_fresh, is_some, is_take, IsRunner, Label, LastWords, Mark, next_entry, next_polled, None, nothing_stands, one_if, Option, Place, place_of, popped, refl, runner_at, says, Scene, scene_of, set_high, set_low, set_switch, Setting, settled_futures, settled_take, settled_turn, Some, start_of, State, subst, sym, T, thread_of_entry, Trip, true, Turn, unwrap_or, Walked, was_started, ℕ, ◌+◌, ◌==◌, ◌∙◌, ◌≡◌, ◌≤◌}
 use Rattle.task_laws.specs.Order.{InPlace}
 use Rattle.task_machine.specs.declared.records.Entry.TheVariants as entry
 use Rattle.task_machine.specs.declared.records.Place.TheVariants as place
