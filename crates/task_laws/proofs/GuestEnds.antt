@@ -58,9 +58,6 @@ same_code (Some e) p h over = ap (λ q. not (call_end_code q == 0) && not (call_
 end_nonzero : (o : Option CallEnd) → is_some o ≡ true → (call_end_code o == 0) ≡ false
 end_nonzero o h = grind arith
 
-some_end_of : (p : Option CallEnd) (n : ℕ) → (not (call_end_code p == 0) && not (call_end_code p == n)) ≡ true → is_some p ≡ true
-some_end_of p n h = grind arith
-
 -- what is over isn't written, and what is written is over
 not_written : (o p : Option Call) → LaterBy Rises o p → is_call_over o ≡ true → is_written (option_map (λ (c : Call). call_end_code c.«end») o) (option_map (λ (c : Call). call_end_code c.«end») p) ≡ false
 not_written None p h over = refl

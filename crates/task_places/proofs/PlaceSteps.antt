@@ -18,9 +18,6 @@ Withdrawable a = (m k : ℕ) → IsRunner a m → HasSubtask a m (subtask.Guest 
 no_runner : (a : Scene) (m : ℕ) {A : Type 0} → a.runner ≡ None → IsRunner a m → A
 no_runner a m none is = no_way (ap (λ (o : Option ℕ). is_some o) (sym none ∙ is))
 
-beyond : (n m : ℕ) → m + 1 ≤ n → (n ≤ m → ⊥)
-beyond n m h g = omega (arith, h, g)
-
 -- a number that wasn't given is no thread's
 ungiven : (n : ℕ) (s : Core) → (n ≤ s.made.threads → ⊥) → HasPlace n s → place_of n s ≡ None
 ungiven n s above h = go (place_of n s) h.number
