@@ -25,3 +25,4 @@ pub mod HostEnds
 pub mod GuestEnds
 pub mod WrittenLaws
 pub mod NamedWorks
+pub mod SyncWorks
