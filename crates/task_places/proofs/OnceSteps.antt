@@ -144,8 +144,16 @@ module _ (x : Setting) (s : State) (l : Label) (t : State) (k : Known x s) (f : 
   -- the works, and which of them handles name
   works_after : Kept t.core
   works_after = along Kept
-      (λ v u ok q. (works_word (λ y. unsync) v u ok q.0, (names_word a v u ok q.0.holds q.1.0, (λ i h. abort_kept a v u ok q.0.holds i (q.1.1.0 i h),
-      callers_word a (to_base (λ c. (i : ℕ) (v : Doing) → doing_of i c ≡ Some v → i ≤ c.made.works) (λ i v e. (k.works.works i v e).number)) (to_base CallersKnown k.callers) names_base v u ok q.0 (λ i h. q.1.1.0 i (at_first i h)) q.1.1.1))))
+      (λ v u ok q. (
+        works_word (λ y. unsync) v u ok q.0,
+        (
+          names_word a v u ok q.0.holds q.1.0,
+          (
+            λ i h. abort_kept a v u ok q.0.holds i (q.1.1.0 i h),
+            callers_word a (to_base (λ c. (i : ℕ) (v : Doing) → doing_of i c ≡ Some v → i ≤ c.made.works) (λ i v e. (k.works.works i v e).number)) (to_base CallersKnown k.callers) names_base v u ok q.0 (λ i h. q.1.1.0 i (at_first i h)) q.1.1.1,
+          ),
+        ),
+      ))
       (first_works x s l w.next k.works, (k.unnamed.works, (λ i h. h, k.callers))) w.walk
 
   spawns_after : (p : MainPlace) (j : ℕ) → t.main ≡ Scripted p → MayBeAborted t.core (spawned_at p j)

@@ -15,7 +15,7 @@ IsUnbegun (Scripted p) = p ≡ main_opening
 IsUnbegun Unscripted = Unit {0}
 
 -- Each run from an opening state, of a component whose codes stand in callbacks, writes and hands out each end once; where in each reached
--- state a call that a handle names is there, and a thread inside a sync call of a host waits for its work.
+-- state a call that a handle names is there, and a thread inside a sync call of a host is blocked on its work or finds it ended.
 abbrev pub RunsAreOnce : Type 0
 RunsAreOnce = (x : Setting) → CodesInCallbacks x.component → ((s : State) → Reached x s → EndsFound s) →
     (instances handle_limit capacity : ℕ) (main : Main) → IsUnbegun main → (ls : List Label) (t : State) →
