@@ -1,10 +1,8 @@
 -- What a step owes of the end of a call.
+use Rattle.task_laws.proofs.Machine.{after_word, base_at, Call, CallEnd, Caller, Core, end_for, end_of, event_of, get, Goal, goal_of, handed_by, has_ended, is_direct, is_guest_call, Label, LaterBy, Scene, scene_of, Setting, State, Status, Subtask, SubtaskEnd, task_of, Turn, undelivered_end, Word, written_by}
 use Rattle.task_laws.specs.Order.{Numbered}
 use Rattle.task_machine.specs.Statuses.{status_code}
-use Rattle.task_machine.specs.declared.records.Goal.{Goal}
-use Rattle.task_machine.specs.declared.records.Caller.{Caller}
 use Rattle.task_rules.specs.Once.{changes_end, is_written, written, call_end_code, is_other, covers_end, is_end_of, handed, end_code}
-use Rattle.task_machine.specs.declared.records.Subtask.{Subtask}
 use Rattle.task_laws.specs.Rises.{CallsRise, Rises}
 use Rattle.std.proofs.Common.{ap, le_trans, refl, subst, sym, ◌∙◌, inl, inr, arith}
 use Rattle.std.specs.Option.{option_map_or}
@@ -13,22 +11,9 @@ use Rattle.task_laws.proofs.Basics.{no_way, too_high, true_is_not_false, same_nu
 use Rattle.task_laws.proofs.CallsLaw.{CallsGo, CallsHold, exits_unended}
 use Rattle.task_laws.proofs.CallsSteps.{of_base}
 use Rattle.task_laws.specs.Settings.{CodesInCallbacks}
-use Rattle.task_machine.specs.Core.{Core, State}
-use Rattle.task_machine.specs.Maps.{get}
-use Rattle.task_machine.specs.Read.{event_of, undelivered_end, has_ended, task_of, is_direct, is_guest_call, end_of, goal_of}
-use Rattle.task_machine.specs.declared.label.Label.{Label}
-use Rattle.task_machine.specs.declared.records.Call.{Call}
-use Rattle.task_machine.specs.declared.records.CallEnd.{CallEnd}
-use Rattle.task_machine.specs.declared.records.Turn.{Turn}
-use Rattle.task_machine.specs.declared.words.Status.{Status}
 use Rattle.task_rules.proofs.ChainLemmas.{along}
 use Rattle.task_rules.specs.Allowed.{Allowed, status_of_end, IsRunner, IsNamed, SaysEnd, is_for_main, MayEnd}
 use Rattle.task_rules.specs.Chains.{EndWords, Walk, is_over, Writes, WritesAtOnce, WritesCall, WritesNever, WritesPolled, EndsByExit, EndsCall, EndsOwn, EndsSubtask, ExitsCall, Answers, HandsAtOnce, HandsOut, TakesEvent, TakesResult, WritesToo}
-use Rattle.task_rules.specs.Laws.{LaterBy}
-use Rattle.task_rules.specs.Scenes.{Scene, base_at, scene_of}
-use Rattle.task_rules.specs.Stalled.{Setting}
-use Rattle.task_rules.specs.SubtaskEnds.{end_for, written_by, SubtaskEnd, handed_by}
-use Rattle.task_rules.specs.Words.{Word, after_word}
 use Rattle.task_laws.proofs.CallEnds.{EndsGo, EndsTold, is_start_cancelled, is_withdrawn, recorded, ResultCame, Telling, ToldOrWritten, telling, telling_of}
 use Rattle.task_laws.proofs.OnceLemmas.{Due, Over, EndStep, Out, end_there}
 use Rattle.task_rules.specs.History.{Moment}
@@ -38,7 +23,6 @@ use Rattle.task_laws.proofs.CallsCame.{Grown, Grows, NewCall, NoCall, call_came,
 use Rattle.task_laws.proofs.SceneLemmas.{base_is}
 use Rattle.task_machine.specs.declared.records.Caller.TheVariants as caller
 use Rattle.task_machine.specs.declared.records.Goal.TheVariants as goal
-use Rattle.task_machine.specs.declared.records.CallEnd.TheVariants as call_end
 use Rattle.task_machine.specs.declared.records.Subtask.TheVariants as subtask
 use Rattle.task_machine.specs.declared.words.Status.TheVariants as status
 

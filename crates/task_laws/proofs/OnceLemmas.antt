@@ -7,7 +7,7 @@ use Rattle.task_rules.specs.Works.{has_end}
 use Rattle.task_rules.specs.Chains.{is_over}
 use Rattle.task_laws.proofs.Works.{Doing, doing_of, is_due}
 use Rattle.task_laws.proofs.Basics.{same_number, true_is_not_false}
-use Rattle.std.proofs.Common.{T, ap, arith, inl, inr, refl, subst, sym, ◌∙◌, eqb→eq}
+use Rattle.std.proofs.Common.{ap, arith, inl, inr, refl, subst, sym, ◌∙◌}
 use Rattle.std.proofs.lemmas.List.Recursion.{is_count_by}
 use Rattle.std.specs.List.{list_any}
 use Rattle.std.specs.Prelude.{Bool, List, None, Option, Some, [], count_by, false, if◌then◌else◌, true, ℕ, ◌&&◌, ◌+◌, ◌==◌, ◌||◌, ◌∷◌, ◌≡◌, ◌≤◌, ◌⊎◌, is_some}

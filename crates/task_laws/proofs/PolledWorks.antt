@@ -1,4 +1,5 @@
 -- The work that is polled next is live.
+use Rattle.task_laws.proofs.Machine.{Core, first_number, get, is_live, live_after, next_polled, Work}
 use Rattle.task_laws.proofs.Basics.{no_way, same_number}
 use Rattle.std.proofs.Common.{T, ap, ap₂, cond, eqb→eq, refl, subst, sym, ◌∙◌}
 use Rattle.std.proofs.lemmas.Cmp.{tied_itself}
@@ -7,11 +8,6 @@ use Rattle.std.specs.FinMap.Entries.{below_all, find, is_sorted}
 use Rattle.std.specs.Option.{option_map_or}
 use Rattle.std.specs.Ordering.{eq_by_cmp, is_lt, nat_cmp}
 use Rattle.std.specs.Prelude.{Bool, List, None, Option, Some, [], false, if◌then◌else◌, is_some, nat_lt, true, unwrap_or, ℕ, ◌&&◌, ◌==◌, ◌∷◌, ◌≡◌}
-use Rattle.task_machine.specs.Core.{Core}
-use Rattle.task_machine.specs.Maps.{get}
-use Rattle.task_machine.specs.Read.{is_live}
-use Rattle.task_machine.specs.declared.records.Work.{Work}
-use Rattle.task_rules.specs.Works.{first_number, live_after, next_polled}
 
 first : (a b : Bool) → T (a && b) → T a
 first true b p = tt

@@ -1,4 +1,5 @@
 -- The rows of the ops on sets, subtasks and threads as chains of words.
+use Rattle.std.proofs.Common.{arith}
 use Rattle.task_machine.proofs.MapLemmas.{get-insert_same, get-remove_same}
 use Rattle.task_machine.specs.declared.records.Work.{Work}
 use Rattle.task_rules.proofs.ChainLemmas.{stay_walk}
@@ -10,12 +11,12 @@ use Rattle.task_rules.specs.Chains.{EndWords, HandsOut, TakesEvent, WritesToo, A
 use Rattle.task_rules.specs.SubtaskEnds.{call_of_op, handed_by, handed_by_call, handed_by_cancel, handed_by_event, handed_by_set, returned_of_op, written_by_call, written_by_cancel, cancel_target, cancelled_of_op, end_for, written_by, host_end}
 use Rattle.std.proofs.Common.{T, ap, inl, inr, refl, subst, suc, sym, ◌∙◌, ◌⊎◌, zero}
 use Rattle.std.specs.Option.{option_map_or}
-use Rattle.std.specs.Prelude.{Bool, List, None, Option, Some, [], false, if◌then◌else◌, is_some, not, option_map, true, unwrap_or, ℕ, ◌&&◌, ◌+◌, ◌==◌, ◌∷◌, ◌≡◌}
+use Rattle.std.specs.Prelude.{Bool, List, None, Option, Some, [], false, is_some, not, option_map, true, unwrap_or, ℕ, ◌&&◌, ◌+◌, ◌==◌, ◌∷◌, ◌≡◌}
 use Rattle.task_machine.specs.Core.{Core, Main}
 use Rattle.task_machine.specs.Labels.{Choice, join_label, wait_label}
 use Rattle.task_machine.specs.Maps.{Records, get, remove}
-use Rattle.task_machine.specs.Moves.{Gift, MemberGift, NoGift, OwnGift, checked, ended, gift, handed_on, may_hand_on, passes_check, promoted_unless, put_switch, withdrawn, group_settled, is_group_done}
-use Rattle.task_machine.specs.Read.{at_handle_limit, event_of, fits, has_ended, has_member, has_waiters, how_far_of, instance_of, is_async_lifted, is_at, is_callback_yield, is_direct, is_joined, is_ready_to_resume, is_waiting_on, is_watched, is_yielded, join_of, new_handle, new_thread_handle, phase_of, place_of, registers_of, result_of, saved_callee_of, set_at, subtask_at, subtask_ended, task_of, thread_at, thread_group, thread_handle_of, undelivered_end, was_cancelled, was_started, work_caller_of}
+use Rattle.task_machine.specs.Moves.{Gift, MemberGift, NoGift, OwnGift, checked, ended, gift, handed_on, may_hand_on, passes_check, promoted_unless, put_switch, withdrawn, group_settled}
+use Rattle.task_machine.specs.Read.{at_handle_limit, event_of, fits, has_ended, has_member, has_waiters, how_far_of, instance_of, is_async_lifted, is_callback_yield, is_direct, is_joined, is_ready_to_resume, is_waiting_on, is_watched, is_yielded, join_of, new_handle, new_thread_handle, phase_of, place_of, registers_of, result_of, saved_callee_of, set_at, subtask_at, subtask_ended, task_of, thread_at, thread_group, thread_handle_of, undelivered_end, was_cancelled, was_started, work_caller_of}
 use Rattle.task_machine.specs.Statuses.{packed, status_code}
 use Rattle.task_machine.specs.Write.{add_work, count_work, on_call, on_work, push_high, set_join, set_own_event, set_subtask_handle, set_do_not_suspend, set_saved_callee, on_instance, on_thread, remove_thread, set_end, set_register, set_how_far, remove_group, set_position, remove_work}
 use Rattle.task_machine.specs.declared.component.Callee.{Callee}
@@ -46,7 +47,7 @@ use Rattle.task_rules.proofs.WalkParts.{call_queues_walks, call_resumes_walks, c
 use Rattle.task_rules.proofs.WalkTask.{Leads, advanced_walks, answered_walks, assigned_walks, goes_on, goes_on_saying, goes_over, may_leads, or_never_leads, or_trap_leads, running_scene, stops_here, trap_if_leads, unnot, is_still, over_now}
 use Rattle.task_rules.specs.Allowed.{ByHandle, ByOp, BySetHandle, ByThread, ByWait, Cancels, HasSubtask, Leaves, MayJoin, MayMakeCall, Resumes, Suspends, Yields, subtask_under_way, is_for_main, AbortsOwn, is_async_work, IsNew, IsNamed}
 use Rattle.task_rules.specs.Calls.{AtOnce, Failing, FirstPoll, Later, answered, call_answered, call_begins, call_host_polled, call_pending, call_queues, call_resumes, call_returned, call_row, call_status, call_sync_begins, call_sync_host_polled, call_sync_host_row, call_sync_host_stops, call_sync_row, call_sync_status, call_sync_stops, enter_row, enter_runs, first_poll, host_answered, host_pending, host_ready, new_thread, next_thread, next_work, status_found, work_answered, work_queued, work_value, put_back, work_deleted, settle_group_of, work_group, new_work}
-use Rattle.task_rules.specs.Cancels.{AlreadyEnded, Async, CallbackWaits, CallbackYields, CancelCase, Mode, OtherwiseRuns, StartNotRun, Sync, aborted_phase, blocked_code, cancel_aborts_host, cancel_asks, cancel_by_end, cancel_case, cancel_ended_row, cancel_guest, cancel_label, cancel_promotes_yield, cancel_resumed, cancel_row, cancel_stops, cancel_subtask, cancel_takes_end, cancel_wakes_callback, cancel_withdraws, drop_row, dropped, is_callback_wait, pauses, subtask_instance, subtask_row}
+use Rattle.task_rules.specs.Cancels.{AlreadyEnded, Async, CallbackWaits, CallbackYields, CancelCase, Mode, OtherwiseRuns, StartNotRun, Sync, aborted_phase, blocked_code, cancel_aborts_host, cancel_asks, cancel_by_end, cancel_case, cancel_ended_row, cancel_guest, cancel_label, cancel_promotes_yield, cancel_resumed, cancel_row, cancel_stops, cancel_subtask, cancel_takes_end, cancel_wakes_callback, cancel_withdraws, drop_row, dropped, pauses, subtask_instance, subtask_row}
 use Rattle.task_rules.specs.Data.{advanced, assigned, moved_to}
 use Rattle.task_rules.specs.OpParts.{callee_of_op}
 use Rattle.task_rules.specs.Places.{says}
@@ -94,13 +95,11 @@ is_returned _ = false
 
 flag_event : (sub : Subtask) (j : ℕ) (b : Bool) (s : Core) → event_of sub (set_do_not_suspend j b s) ≡ event_of sub s
 unfolding set_do_not_suspend on_instance
-flag_event (subtask.Guest k) j b s = refl
-flag_event (subtask.Host i) j b s = refl
+flag_event sub j b s = grind arith
 
 flag_unsaved : (sub : Subtask) (n : ℕ) (t : Core) → event_of sub (set_saved_callee n None t) ≡ event_of sub t
 unfolding set_saved_callee on_thread
-flag_unsaved (subtask.Guest k) n t = refl
-flag_unsaved (subtask.Host i) n t = refl
+flag_unsaved sub n t = grind arith
 
 -- a cancel that is resumed finds the event as it was
 event_resumed : (n : ℕ) (sub : Subtask) (s : Core) → event_of sub (cancel_resumed n sub s) ≡ event_of sub s
@@ -108,8 +107,7 @@ unfolding cancel_resumed
 event_resumed n sub s = event_joined sub join.Nowhere _ ∙ (flag_unsaved sub n (put_back (saved_callee_of n s) (subtask_instance sub s) s) ∙ put_back_event (saved_callee_of n s))
   where
     put_back_event : (o : Option Bool) → event_of sub (put_back o (subtask_instance sub s) s) ≡ event_of sub s
-    put_back_event None = refl
-    put_back_event (Some b) = flag_event sub (subtask_instance sub s) b s
+    put_back_event o = grind (arith, flag_event sub (subtask_instance sub s))
 
 pub queued_caller : (f : WorkCaller) (host : HostDef) (group : Option ℕ) (t : Core) → work_caller_of (next_work t) (work_queued f host group t) ≡ f
 unfolding work_queued push_high add_work count_work
@@ -133,12 +131,7 @@ assigned_fresh n r v s = far_fresh n _
 
 settled_works : (o : Option ℕ) (i : ℕ) (s : Core) → (settle_group_of o (remove_work i s)).works ≡ remove s.works i
 unfolding group_settled remove_group remove_work
-settled_works None i s = refl
-settled_works (Some g) i s = by_done (is_group_done g (remove_work i s))
-  where
-    by_done : (b : Bool) → (if b then remove_group g (remove_work i s) else remove_work i s).works ≡ remove s.works i
-    by_done true = refl
-    by_done false = refl
+settled_works o i s = grind arith
 
 work_gone : (n r i : ℕ) (s : Core) → get (work_answered n r i s).works i ≡ None
 unfolding work_answered work_deleted
@@ -153,8 +146,7 @@ unfolding halted_checked
 halted_checked_is h n s = refl
 
 both_true : (b c : Bool) → (b && c) ≡ true → b ≡ true
-both_true true c e = refl
-both_true false c e = absurd (subst T (sym e) tt)
+both_true b c e = grind arith
 
 -- a place that passes such a test is that of an entry
 abbrev is_ready : Option Place → Bool
@@ -163,39 +155,14 @@ is_ready _ = false
 
 ready_at : (o : Option Place) → is_ready o ≡ true → (m : Mark) × ((w : Why) × (o ≡ Some (place.Ready m w)))
 ready_at (Some (place.Ready m w)) e = (m, (w, refl))
-ready_at None e = absurd (subst T (sym e) tt)
-ready_at (Some place.New) e = absurd (subst T (sym e) tt)
-ready_at (Some place.Running) e = absurd (subst T (sym e) tt)
-ready_at (Some (place.Under c)) e = absurd (subst T (sym e) tt)
-ready_at (Some (place.Behind c)) e = absurd (subst T (sym e) tt)
-ready_at (Some (place.Waiting y b)) e = absurd (subst T (sym e) tt)
-ready_at (Some (place.Blocked c)) e = absurd (subst T (sym e) tt)
-ready_at (Some (place.Held c)) e = absurd (subst T (sym e) tt)
-ready_at (Some place.Suspended) e = absurd (subst T (sym e) tt)
+ready_at None e = absurd (grind arith)
+ready_at (Some _) e = absurd (grind arith)
 
 resumes_ready : (o : Option Place) → option_map_or is_ready_to_resume o false ≡ true → is_ready o ≡ true
-resumes_ready (Some (place.Ready m w)) e = refl
-resumes_ready None e = e
-resumes_ready (Some place.New) e = e
-resumes_ready (Some place.Running) e = e
-resumes_ready (Some (place.Under c)) e = e
-resumes_ready (Some (place.Behind c)) e = e
-resumes_ready (Some (place.Waiting y b)) e = e
-resumes_ready (Some (place.Blocked c)) e = e
-resumes_ready (Some (place.Held c)) e = e
-resumes_ready (Some place.Suspended) e = e
+resumes_ready o e = grind arith
 
 yields_ready : (o : Option Place) → option_map_or is_callback_yield o false ≡ true → is_ready o ≡ true
-yields_ready (Some (place.Ready m w)) e = refl
-yields_ready None e = e
-yields_ready (Some place.New) e = e
-yields_ready (Some place.Running) e = e
-yields_ready (Some (place.Under c)) e = e
-yields_ready (Some (place.Behind c)) e = e
-yields_ready (Some (place.Waiting y b)) e = e
-yields_ready (Some (place.Blocked c)) e = e
-yields_ready (Some (place.Held c)) e = e
-yields_ready (Some place.Suspended) e = e
+yields_ready o e = grind arith
 
 -- the call goes on in such a case
 abbrev is_going_on : CancelCase → Bool
@@ -204,12 +171,7 @@ is_going_on StartNotRun = false
 is_going_on _ = true
 
 goes_on_case : (k : ℕ) (s : Core) (y : CancelCase) → cancel_case k s ≡ y → is_going_on y ≡ true → (has_ended k s ≡ false) × (was_started k s ≡ true)
-goes_on_case k s y is on = by_tests (has_ended k s) (was_started k s) (is_at k s is_callback_wait) (is_at k s is_callback_yield) refl refl (ap is_going_on is ∙ on)
-  where
-    by_tests : (a b c d : Bool) → has_ended k s ≡ a → was_started k s ≡ b → is_going_on (if a then AlreadyEnded else if not b then StartNotRun else if c then CallbackWaits else if d then CallbackYields else OtherwiseRuns) ≡ true → (has_ended k s ≡ false) × (was_started k s ≡ true)
-    by_tests true b c d e f g = absurd (subst T (sym g) tt)
-    by_tests false false c d e f g = absurd (subst T (sym g) tt)
-    by_tests false true c d e f g = (e, f)
+goes_on_case k s y is on = grind arith
 
 -- ---- The rows
 
