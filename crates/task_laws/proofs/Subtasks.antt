@@ -34,7 +34,8 @@ module _ (a : Scene) (s : Core) where
   handle_known w ok i h sub e = inl e
 
   come_known : (n : ℕ) (f : HowFar) → MayCome a n f s → IfSome (subtask_under_way f) (Known a s)
-  come_known n (how_far.Calls sub) ok = (n, ok.1)
+  come_known n (how_far.Calls (subtask.Guest k)) ok = (n, ok.1)
+  come_known n (how_far.Calls (subtask.Host i)) ok = (n, inr ok.1.0)
   come_known n (how_far.Cancels sub) ok = (n, inl ok.1)
   come_known n (how_far.AwaitsEnd sub) ok = (n, inl ok.1)
   come_known n f ok = tt

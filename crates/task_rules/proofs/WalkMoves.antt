@@ -1,14 +1,16 @@
 -- The moves of the machine as chains of words.
+use Rattle.task_machine.proofs.CommuteLemmas.{get-change}
+use Rattle.std.proofs.lemmas.Bool.Decides.{nat_tests}
 use Rattle.task_machine.specs.declared.records.Turn.TheVariants as turn
 use Rattle.task_machine.specs.declared.records.HowFar.{HowFar}
-use Rattle.std.proofs.Common.{T, ap, cond, inr, refl, subst, sym, ◌∙◌}
+use Rattle.std.proofs.Common.{T, ap, cond, inr, refl, subst, sym, ◌∙◌, arith}
 use Rattle.std.specs.Option.{option_map_or}
 use Rattle.std.specs.Prelude.{Bool, List, None, Option, Some, [], false, if◌then◌else◌, is_none, is_some, not, option_and_then, true, unwrap_or, ℕ, ◌||◌, ◌∷◌, ◌≡◌}
 use Rattle.task_machine.proofs.MapLemmas.{get-remove_same}
 use Rattle.task_machine.specs.Core.{Core}
 use Rattle.task_machine.specs.Maps.{Records, get, numbers, remove}
 use Rattle.task_machine.specs.Moves.{Gift, MemberGift, NoGift, OwnGift, call_settled, checked, ended, exited_if, first_entry, freed_thread_handle, group_settled, handed_on, hands_on, held_why_of, interest_settled, is_callback_waiter, is_deletable, is_finished, is_group_done, may_hand_on, may_publish, may_wake, may_wake_joined, promoted, promoted_first, promoted_unless, published, put_high, released, released_one, stopped, taken, unblocked, wake, wake_joined, waken_by}
-use Rattle.task_machine.specs.Read.{blocked_on, call_group, held_why, instance_of, is_at, is_blocked_on, is_explicit, is_waiter, is_waiting_on, is_watched, join_of, may_not_suspend, place_of, same_subtask, task_of, thread_handle_of, is_end}
+use Rattle.task_machine.specs.Read.{blocked_on, call_group, held_why, instance_of, is_at, is_blocked_on, is_explicit, is_waiter, is_waiting_on, is_watched, join_of, may_not_suspend, place_of, same_subtask, task_of, thread_handle_of, is_end, is_stage_ended, stage_of}
 use Rattle.task_machine.specs.Write.{free_thread_handle, on_call, on_work, push_high, remove_call, remove_group, remove_thread, set_event, set_exited, set_place, set_uninteresting, set_how_far}
 use Rattle.task_machine.specs.declared.records.Join.{Join}
 use Rattle.task_machine.specs.declared.records.Place.{Place}
@@ -22,7 +24,7 @@ use Rattle.task_rules.proofs.StopLemmas.{find_passes}
 use Rattle.task_rules.proofs.PlacingLemmas.{placed, placing_shifted}
 use Rattle.task_rules.proofs.PromotionLemmas.{first_has_entry}
 use Rattle.task_rules.proofs.StandLemmas.{by_number, is_eq_of, place_kept}
-use Rattle.task_rules.specs.Allowed.{IsOwn, IsRunner, MayDeliver, MayPut, MayTell, MayTellWork, Releases, Tells, Unblocks, Wakes, wake_why, SaysEnd, Leaves, MayLand, Stays, MayCome}
+use Rattle.task_rules.specs.Allowed.{IsOwn, IsRunner, MayDeliver, MayPut, MayTell, MayTellWork, Releases, Tells, Unblocks, Wakes, wake_why, SaysEnd, Leaves, MayLand, Stays, MayCome, is_done_host}
 use Rattle.task_rules.specs.Chains.{NoWord, Shifts, Then, Stay, Trip, Settles, Quits, Lands, LandsAt}
 use Rattle.task_rules.specs.Ends.{is_told, may_tell, told}
 use Rattle.task_rules.specs.Scenes.{Scene}
@@ -160,9 +162,9 @@ blocked_at sub s m h = blocked_place sub (place_of m s) (find_passes (λ k. is_a
 abbrev pub IsBlocked : Subtask → Option ℕ → Core → Type 0
 IsBlocked sub o s = (m : ℕ) → o ≡ Some m → place_of m s ≡ Some (place.Blocked sub)
 
-pub unblocked_shifts : (sub : Subtask) (o : Option ℕ) (s : Core) → IsBlocked sub o s → Shifts s (unblocked o s)
-unblocked_shifts sub None s h = NoWord
-unblocked_shifts sub (Some m) s h = put_shifts mark.High m why.Resumption s (Unblocks sub (h m refl) refl)
+pub unblocked_shifts : (sub : Subtask) (o : Option ℕ) (s : Core) → is_done_host sub s ≡ true → IsBlocked sub o s → Shifts s (unblocked o s)
+unblocked_shifts sub None s done h = NoWord
+unblocked_shifts sub (Some m) s done h = put_shifts mark.High m why.Resumption s (Unblocks sub (h m refl) done refl)
 
 chosen_unblocked : (sub : Subtask) (o : Option ℕ) (x : ℕ) (w : Option ℕ) (s : Core) → IsBlocked sub o s → Chosen x w s → Chosen x w (unblocked o s)
 chosen_unblocked sub None x w s h c = c
@@ -221,27 +223,27 @@ promoted_walks m n {s = s} runs ready c = walk_if (is_some s.queues.switch) s (p
 
 -- ---- Published
 
-published_shifts : (sub : Subtask) (w : Option ℕ) (s t : Core) → ((m : ℕ) → place_of m t ≡ place_of m s) → ChosenIn (join_of sub s) w s → Shifts t (wake_joined (join_of sub s) w (unblocked (blocked_on sub s) t))
-published_shifts sub w s t same chosen =
+published_shifts : (sub : Subtask) (w : Option ℕ) (s t : Core) → is_done_host sub t ≡ true → ((m : ℕ) → place_of m t ≡ place_of m s) → ChosenIn (join_of sub s) w s → Shifts t (wake_joined (join_of sub s) w (unblocked (blocked_on sub s) t))
+published_shifts sub w s t done same chosen =
     let o = blocked_on sub s in
     let at : IsBlocked sub o t = λ m is. same m ∙ blocked_at sub s m is in
     let there : ChosenIn (join_of sub s) w t = λ x is n by. ap (λ p. option_map_or (is_waiting_on x) p false) (same n) ∙ chosen x is n by in
-    join (unblocked_shifts sub o t at) (wake_joined_shifts (join_of sub s) w (unblocked o t) (λ x is. chosen_unblocked sub o x w t at (there x is)))
+    join (unblocked_shifts sub o t done at) (wake_joined_shifts (join_of sub s) w (unblocked o t) (λ x is. chosen_unblocked sub o x w t at (there x is)))
 
 pub published_call_shifts : (k : ℕ) (e : Status) (w : Option ℕ) (s : Core) → ChosenIn (join_of (subtask.Guest k) s) w s → Shifts (set_event (subtask.Guest k) (Some e) s) (published (subtask.Guest k) e w s)
 unfolding published set_event on_call
-published_call_shifts k e w s chosen = published_shifts (subtask.Guest k) w s (set_event (subtask.Guest k) (Some e) s) (λ m. refl) chosen
+published_call_shifts k e w s chosen = published_shifts (subtask.Guest k) w s (set_event (subtask.Guest k) (Some e) s) refl (λ m. refl) chosen
 
-published_work_shifts : (i : ℕ) (e : Status) (w : Option ℕ) (s : Core) → ChosenIn (join_of (subtask.Host i) s) w s → Shifts (set_event (subtask.Host i) (Some e) s) (published (subtask.Host i) e w s)
+published_work_shifts : (i : ℕ) (e : Status) (w : Option ℕ) (s : Core) → is_stage_ended (stage_of i s) ≡ true → ChosenIn (join_of (subtask.Host i) s) w s → Shifts (set_event (subtask.Host i) (Some e) s) (published (subtask.Host i) e w s)
 unfolding published set_event on_work
-published_work_shifts i e w s chosen = published_shifts (subtask.Host i) w s (set_event (subtask.Host i) (Some e) s) (λ m. refl) chosen
+published_work_shifts i e w s done chosen = published_shifts (subtask.Host i) w s (set_event (subtask.Host i) (Some e) s) (grind (arith, nat_tests, get-change)) (λ m. refl) chosen
 
 module _ {a : Scene} {b : Core} where
   published_call : (k : ℕ) (e : Status) (w : Option ℕ) {s : Core} → MayTell a k (Some e) s → ChosenIn (join_of (subtask.Guest k) s) w s → Stay a b s → Stay a b (published (subtask.Guest k) e w s)
   published_call k e w {s = s} ok chosen c = shifted (published_call_shifts k e w s chosen) (word (SetCallEvent k (Some e)) ok c)
 
   pub published_work : (i : ℕ) (e : Status) (w : Option ℕ) {s : Core} → MayTellWork a i (Some e) s → ChosenIn (join_of (subtask.Host i) s) w s → Stay a b s → Stay a b (published (subtask.Host i) e w s)
-  published_work i e w {s = s} ok chosen c = shifted (published_work_shifts i e w s chosen) (word (SetWorkEvent i (Some e)) ok c)
+  published_work i e w {s = s} ok chosen c = shifted (published_work_shifts i e w s ok.0 chosen) (word (SetWorkEvent i (Some e)) ok c)
 
 -- the thread chosen where the call's status is told
 abbrev pub ToldTo : ℕ → Option ℕ → Core → Type 0

@@ -1,4 +1,6 @@
 -- The rows of the ops on sets, subtasks and threads as chains of words.
+use Rattle.task_machine.proofs.CommuteLemmas.{get-change}
+use Rattle.std.proofs.lemmas.Bool.Decides.{nat_tests}
 use Rattle.task_rules.proofs.ChainLemmas.{stay_walk}
 use Rattle.task_machine.specs.declared.label.SetLabel.{SetLabel}
 use Rattle.task_machine.specs.declared.label.CallLabel.{CallLabel}
@@ -7,16 +9,16 @@ use Rattle.task_rules.proofs.MuteLemmas.{is_mute, mute_words}
 use Rattle.task_rules.proofs.SayLemmas.{call_answered_gone, call_returned_gone, cancel_hands_of, cancel_taken_gone, cancel_writes_of, event_joined, event_owed, found_returned, given_says, packed_is_not_two, received_gone, received_woken_gone}
 use Rattle.task_rules.specs.Chains.{EndWords, HandsOut, TakesEvent, WritesToo, is_over}
 use Rattle.task_rules.specs.SubtaskEnds.{SubtaskEnd, call_of_op, handed_by, handed_by_call, handed_by_cancel, handed_by_event, handed_by_set, returned_of_op, written_by_call, written_by_cancel, cancel_target, cancelled_of_op, end_for, written_by}
-use Rattle.std.proofs.Common.{T, ap, inl, inr, refl, subst, suc, sym, ◌∙◌, ◌⊎◌, ap₂, zero}
+use Rattle.std.proofs.Common.{T, ap, inl, inr, refl, subst, suc, sym, ◌∙◌, ◌⊎◌, ap₂, zero, arith}
 use Rattle.std.specs.Option.{option_map_or}
 use Rattle.std.specs.Prelude.{Bool, List, None, Option, Some, [], false, if◌then◌else◌, is_some, not, option_map, true, unwrap_or, ℕ, ◌&&◌, ◌+◌, ◌==◌, ◌∷◌, ◌≡◌}
 use Rattle.task_machine.specs.Core.{Core, Main}
 use Rattle.task_machine.specs.Labels.{Choice, join_label, wait_label}
 use Rattle.task_machine.specs.Maps.{Records, get}
 use Rattle.task_machine.specs.Moves.{Gift, MemberGift, NoGift, OwnGift, checked, ended, gift, handed_on, may_hand_on, passes_check, promoted_unless, put_switch, withdrawn}
-use Rattle.task_machine.specs.Read.{at_handle_limit, event_of, fits, has_ended, has_member, has_waiters, how_far_of, instance_of, is_async_lifted, is_at, is_callback_yield, is_direct, is_joined, is_ready_to_resume, is_waiting_on, is_watched, is_yielded, join_of, new_handle, new_thread_handle, phase_of, place_of, registers_of, result_of, saved_callee_of, set_at, subtask_at, subtask_ended, task_of, thread_at, thread_group, thread_handle_of, undelivered_end, was_cancelled, was_started}
+use Rattle.task_machine.specs.Read.{at_handle_limit, event_of, fits, has_ended, has_member, has_waiters, how_far_of, instance_of, is_async_lifted, is_at, is_callback_yield, is_direct, is_joined, is_ready_to_resume, is_waiting_on, is_watched, is_yielded, join_of, new_handle, new_thread_handle, phase_of, place_of, registers_of, result_of, saved_callee_of, set_at, subtask_at, subtask_ended, task_of, thread_at, thread_group, thread_handle_of, undelivered_end, was_cancelled, was_started, is_stage_ended, stage_of, is_blocked_on}
 use Rattle.task_machine.specs.Statuses.{packed, status_code}
-use Rattle.task_machine.specs.Write.{add_work, count_work, on_call, on_work, push_high, set_join, set_own_event, set_subtask_handle, set_do_not_suspend, set_saved_callee, on_instance, on_thread, remove_thread, set_end}
+use Rattle.task_machine.specs.Write.{add_work, count_work, on_call, on_work, push_high, set_join, set_own_event, set_subtask_handle, set_do_not_suspend, set_saved_callee, on_instance, on_thread, remove_thread, set_end, free_handle}
 use Rattle.task_machine.specs.declared.component.Callee.{Callee}
 use Rattle.task_machine.specs.declared.component.HostDef.{HostDef}
 use Rattle.task_machine.specs.declared.component.Slot.{Slot}
@@ -43,7 +45,7 @@ use Rattle.task_rules.proofs.StandLemmas.{by_number}
 use Rattle.task_rules.proofs.WalkMoves.{MayTake, call_settled_walks, checked_shifts, chosen_of, handed_on_shifts, lands_at, promoted_walks, shifted, wake_shifts, word}
 use Rattle.task_rules.proofs.WalkParts.{call_queues_walks, call_resumes_walks, call_stops_walks, cancel_goes_behind_walks, cancel_plain, cancel_stops_walks, cancel_takes_end_walks, checked_walks, enter_gives, enter_runs_walks, freed_named, gift_is, join_plain, join_walks, put_back_walks, received_walks, set_none_join, stopped_walks, wait_plain, wait_stops_walks, withdrawn_walks, work_deleted_walks, work_unnamed, withdraws}
 use Rattle.task_rules.proofs.WalkTask.{Leads, advanced_walks, answered_walks, assigned_walks, goes_on, goes_on_saying, goes_over, may_leads, or_never_leads, or_trap_leads, running_scene, stops_here, trap_if_leads, unnot, is_still, over_now, call_in, call_named, none_is_some}
-use Rattle.task_rules.specs.Allowed.{ByHandle, ByOp, BySetHandle, ByThread, ByWait, Cancels, HasSubtask, Leaves, MayJoin, MayMakeCall, Resumes, Suspends, Yields, subtask_under_way, is_for_main}
+use Rattle.task_rules.specs.Allowed.{ByHandle, ByOp, BySetHandle, ByThread, ByWait, Cancels, HasSubtask, Leaves, MayJoin, MayMakeCall, Resumes, Suspends, Yields, subtask_under_way, is_for_main, IsNew}
 use Rattle.task_rules.specs.Calls.{AtOnce, Failing, FirstPoll, Later, answered, call_answered, call_begins, call_host_polled, call_pending, call_queues, call_resumes, call_returned, call_row, call_status, call_sync_begins, call_sync_host_polled, call_sync_host_row, call_sync_host_stops, call_sync_row, call_sync_status, call_sync_stops, enter_row, enter_runs, first_poll, host_answered, host_pending, host_ready, new_thread, next_thread, next_work, status_found, work_answered, work_queued, work_value, put_back}
 use Rattle.task_rules.specs.Cancels.{AlreadyEnded, Async, CallbackWaits, CallbackYields, CancelCase, Mode, OtherwiseRuns, StartNotRun, Sync, aborted_phase, blocked_code, cancel_aborts_host, cancel_asks, cancel_by_end, cancel_case, cancel_ended_row, cancel_guest, cancel_label, cancel_promotes_yield, cancel_resumed, cancel_row, cancel_stops, cancel_subtask, cancel_takes_end, cancel_wakes_callback, cancel_withdraws, drop_row, dropped, is_callback_wait, pauses, subtask_instance, subtask_row}
 use Rattle.task_rules.specs.Chains.{NoWord, Shifts, Stay, Trip, Walk}
@@ -355,7 +357,7 @@ module _ (x : Setting) (main : Main) (s : Core) (n : ℕ) (l : Label) (next : Tu
   unfolding call_sync_stops
   call_sync_pauses k has =
       trap_if_leads a s (not (passes_check (instance_of n s) (call_resumes n k s))) trap.CannotBlockSyncTask _ (λ f.
-      stop _ (call_sync_stops n k s) refl (λ leave. call_stops_walks n refl (subtask.Guest k) (checked (instance_of n s) (call_resumes n k s)) leave (λ u d. inl has) (checked_walks n refl (instance_of n s) (call_resumes_walks n refl k has NoWord))))
+      stop _ (call_sync_stops n k s) refl (λ leave. call_stops_walks n refl (subtask.Guest k) (checked (instance_of n s) (call_resumes n k s)) leave (λ u d. inl has) (λ u d at. (refl, inl has)) (checked_walks n refl (instance_of n s) (call_resumes_walks n refl k has NoWord))))
 
   call_sync_status_leads : (r k : ℕ) (e : Status) → how_far_of n s ≡ how_far.Calls (subtask.Guest k) → status_found k s ≡ e → HasSubtask a n (subtask.Guest k) → Leads a s (call_sync_status n r k s e)
   unfolding call_answered
@@ -408,8 +410,9 @@ module _ (x : Setting) (main : Main) (s : Core) (n : ℕ) (l : Label) (next : Tu
       let h : Shifted s t = shifts_shifted (checked_shifts (instance_of n s) s) in
       let made : t.made.works ≡ s.made.works = ap (λ (d : Made). d.works) (shifted_made h) in
       let group = Some (thread_group n s) in
-      call_stops_walks n refl (subtask.Host (next_work s)) (work_queued (work_caller.Sync n) host group t) leave
-      (λ u d. inr (refl, ap (λ (m : Made). m.works) (shifted_made d) ∙ (queued_made (work_caller.Sync n) host group t ∙ ap (λ (k : ℕ). k + 1) made)))
+      let queued = work_queued (work_caller.Sync n) host group t in
+      let new : (u : Core) → Shifted queued u → IsNew a (subtask.Host (next_work s)) u = λ u d. (refl, ap (λ (m : Made). m.works) (shifted_made d) ∙ (queued_made (work_caller.Sync n) host group t ∙ ap (λ (k : ℕ). k + 1) made)) in
+      call_stops_walks n refl (subtask.Host (next_work s)) queued leave (λ u d. inr (new u d)) (λ u d at. (refl, (new u d, at)))
       (word (QueueWork (work_caller.Sync n) host group) (made, (refl, refl)) (checked_walks n refl (instance_of n s) NoWord))
 
   call_sync_host_polled_leads : (r : ℕ) (f : FirstPoll) → Leads a s (call_sync_host_polled n r s f)
@@ -537,6 +540,10 @@ module _ (x : Setting) (main : Main) (s : Core) (n : ℕ) (l : Label) (next : Tu
 
   -- ---- Dropping
 
+  still_ended : (i j h : ℕ) (t : Core) → is_stage_ended (stage_of i t) ≡ true → is_stage_ended (stage_of i (free_handle j h (set_subtask_handle (subtask.Host i) None (set_join (subtask.Host i) join.Nowhere t)))) ≡ true
+  unfolding free_handle set_subtask_handle set_join on_work
+  still_ended i j h t e = grind (arith, nat_tests, get-change)
+
   dropped_walks : (h : ℕ) (sub : Subtask) → subtask_at (instance_of n s) h s ≡ Some sub → subtask_ended sub s ≡ true → Stay a s (dropped n h sub s)
   unfolding dropped set_join on_call on_work
   dropped_walks h (subtask.Guest k) named ended =
@@ -546,7 +553,7 @@ module _ (x : Setting) (main : Main) (s : Core) (n : ℕ) (l : Label) (next : Tu
   dropped_walks h (subtask.Host i) named ended =
       let sub = subtask.Host i in
       let t = set_join sub join.Nowhere s in
-      advanced_walks n refl (work_deleted_walks n refl i (n, (refl, inr (ended, freed_named (instance_of n s) h i (set_subtask_handle sub None t) ∙ work_unnamed i t)))
+      advanced_walks n refl (work_deleted_walks n refl i (n, (refl, inr (ended, (freed_named (instance_of n s) h i (set_subtask_handle sub None t) ∙ work_unnamed i t, still_ended i (instance_of n s) h s ended))))
       (word (UnnameWork (instance_of n s) h i) (n, (refl, (refl, (named, set_none_join sub s)))) (join_walks n refl sub join.Nowhere (n, (refl, ByHandle h named)) NoWord)))
 
   drop_row_leads : (h : ℕ) → Leads a s (drop_row n h s)

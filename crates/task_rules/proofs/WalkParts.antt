@@ -1,7 +1,9 @@
 -- What the rows of the ops are made of, as chains of words: what is read, gifts, moves, and a new call.
+use Rattle.task_machine.proofs.CommuteLemmas.{get-change}
+use Rattle.std.proofs.lemmas.Bool.Decides.{nat_tests}
 use Rattle.task_rules.proofs.MoveLemmas.{put_place}
 use Rattle.task_machine.specs.declared.records.HowFar.{HowFar}
-use Rattle.std.proofs.Common.{T, ap, inl, inr, refl, subst, sym, ◌∙◌, ◌⊎◌}
+use Rattle.std.proofs.Common.{T, ap, inl, inr, refl, subst, sym, ◌∙◌, ◌⊎◌, arith}
 use Rattle.std.specs.Option.{option_map_or}
 use Rattle.std.specs.Prelude.{Bool, List, None, Option, Some, [], false, if◌then◌else◌, is_none, option_and_then, option_map, true, unwrap_or, ℕ, ◌+◌, ◌==◌, ◌≡◌, is_some}
 use Rattle.task_machine.proofs.MapLemmas.{change-field, get-change_same, get-insert_same, get-remove_same}
@@ -9,7 +11,7 @@ use Rattle.task_machine.specs.Core.{Core}
 use Rattle.task_machine.specs.Labels.{Choice, join_label, wait_label}
 use Rattle.task_machine.specs.Maps.{change, get, Records}
 use Rattle.task_machine.specs.Moves.{Gift, MemberGift, NoGift, OwnGift, behind_one, checked, gift, gift_after_own, has_entry, less, less_switch, member_gift, own_gift, put_switch, stopped, unqueued, withdrawn}
-use Rattle.task_machine.specs.Read.{call_instance, foot_of, goal_of, has_ready_member, how_far_of, instance_of, is_direct, is_explicit, is_joined, is_ready_member, join_of, may_not_suspend, new_thread_handle, own_event_of, place_of, saved_callee_of, subtask_at, subtask_handle, task_of, thread_group}
+use Rattle.task_machine.specs.Read.{call_instance, foot_of, goal_of, has_ready_member, how_far_of, instance_of, is_direct, is_explicit, is_joined, is_ready_member, join_of, may_not_suspend, new_thread_handle, own_event_of, place_of, saved_callee_of, subtask_at, subtask_handle, task_of, thread_group, is_stage_ended, stage_of, is_blocked_on}
 use Rattle.task_machine.specs.Statuses.{status_code}
 use Rattle.task_machine.specs.Write.{add_call, add_thread, free_handle, give_thread_handle, on_call, on_instance, on_thread, on_work, remove_thread, set_do_not_suspend, set_end, set_event, set_exited, set_high, set_how_far, set_join, set_low, set_place, set_saved_callee, set_saved_own, set_started, set_subtask_handle, set_switch, set_thread_handle, set_uninteresting, with_switch}
 use Rattle.task_machine.specs.declared.component.Callee.{Callee}
@@ -147,6 +149,10 @@ pub withdraws : (k : ℕ) (t : Core) → after_word (Withdraw k) t ≡ remove_th
 unfolding unqueued
 withdraws k t = withdraws_by k (less_switch k t.queues.switch) (less k t.queues.high) (less k t.queues.low) t (has_entry k t.queues.high)
 
+blocked_moved : (n : ℕ) (sub : Subtask) (t : Core) → option_map_or (is_blocked_on sub) (place_of n (set_place n (place.Blocked sub) t)) true ≡ true
+unfolding set_place on_thread
+blocked_moved n sub t = grind (arith, nat_tests, get-change)
+
 -- ---- The moves
 
 module _ {a : Scene} {b : Core} (n : ℕ) (is : IsRunner a n) where
@@ -184,12 +190,12 @@ module _ {a : Scene} {b : Core} (n : ℕ) (is : IsRunner a n) where
   unfolding call_resumes
   call_resumes_walks k {t = t} has c = event_taken_walks (subtask.Guest k) has (put_back_walks (saved_callee_of n t) (call_instance k t) c)
 
-  pub call_stops_walks : (sub : Subtask) (t : Core) → Leaves a n → ((u : Core) → Shifted t u → HasSubtask a n sub ⊎ IsNew a sub u) → Stay a b t → Trip a b (call_stops n sub t)
+  pub call_stops_walks : (sub : Subtask) (t : Core) → Leaves a n → ((u : Core) → Shifted t u → HasSubtask a n sub ⊎ IsNew a sub u) → ((u : Core) → Shifted t u → option_map_or (is_blocked_on sub) (place_of n u) true ≡ true → MayCome a n (how_far.Calls sub) u) → Stay a b t → Trip a b (call_stops n sub t)
   unfolding call_stops
-  call_stops_walks sub t leave own c =
+  call_stops_walks sub t leave own come c =
       let u = stopped (foot_of n t) t in
       let h : Shifted t u = placing_shifted (Stop (foot_of n t)) t in
-      lands_at (Move n (place.Blocked sub)) n (how_far.Calls sub) (Blocks sub leave (own u h) refl) (is, own (set_place n (place.Blocked sub) u) (shifted_after h (placing_shifted (Move n (place.Blocked sub)) u))) (stopped_walks t c)
+      lands_at (Move n (place.Blocked sub)) n (how_far.Calls sub) (Blocks sub leave (own u h) refl) (come (set_place n (place.Blocked sub) u) (shifted_after h (placing_shifted (Move n (place.Blocked sub)) u)) (blocked_moved n sub u)) (stopped_walks t c)
 
   pub sync_sets_flag_walks : (m j : ℕ) (k : ExportKind) {t : Core} → Stay a b t → Stay a b (sync_sets_flag m j k t)
   sync_sets_flag_walks m j kind.Sync {t = t} c = word (SetDoNotSuspend j true) tt (word (SetSavedOwn m (Some (may_not_suspend j t))) tt c)

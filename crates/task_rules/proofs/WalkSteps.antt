@@ -334,7 +334,7 @@ sync_ended_shifts : (i : ℕ) (v : Option ℕ) (t : Core) → Shifts (set_stage 
 unfolding set_stage set_phase set_course on_work
 sync_ended_shifts i v t =
     let u = set_phase i phase.Complete (set_course i (course_for v) t) in
-    unblocked_shifts (subtask.Host i) (blocked_on (subtask.Host i) u) (set_stage i stage.Ended u) (λ m is. blocked_at (subtask.Host i) u m is)
+    unblocked_shifts (subtask.Host i) (blocked_on (subtask.Host i) u) (set_stage i stage.Ended u) (ended_stage i u) (λ m is. blocked_at (subtask.Host i) u m is)
 
 host_mute : (m : Mark) (i : ℕ) (w : Option ℕ) → is_mute (host_label m i w) ≡ true
 host_mute m i None = refl

@@ -4,7 +4,7 @@ use Rattle.std.specs.Prelude.{Bool, None, Option, Some, [], false, is_none, is_s
 use Rattle.task_machine.specs.Core.{Core, MainPlace, Scripted, Unscripted}
 use Rattle.task_machine.specs.Maps.{get}
 use Rattle.task_machine.specs.Moves.{has_entry, is_callback_waiter, is_deletable, is_group_done}
-use Rattle.task_machine.specs.Read.{foot_of, cancel_was_delivered, course_of, course_value, end_of, goal_of, has_ended, has_member, has_waiters, how_far_of, instance_of, is_async_lifted, is_at, is_direct, is_end, is_explicit, is_joined, is_stage_ended, is_waiter, join_of, kind_of, may_not_enter, next_entry, own_event_of, phase_of, place_of, set_at, stage_of, subtask_at, subtask_ended, subtask_handle, task_of, thread_group, was_started, work_caller_of, is_guest_call}
+use Rattle.task_machine.specs.Read.{foot_of, cancel_was_delivered, course_of, course_value, end_of, goal_of, has_ended, has_member, has_waiters, how_far_of, instance_of, is_async_lifted, is_at, is_direct, is_end, is_explicit, is_joined, is_stage_ended, is_waiter, join_of, kind_of, may_not_enter, next_entry, own_event_of, phase_of, place_of, set_at, stage_of, subtask_at, subtask_ended, subtask_handle, task_of, thread_group, was_started, work_caller_of, is_guest_call, is_blocked_on}
 use Rattle.task_machine.specs.declared.component.Callee.{Callee}
 use Rattle.task_machine.specs.declared.component.ExportKind.{ExportKind}
 use Rattle.task_machine.specs.declared.label.Label.{Label}
@@ -116,6 +116,11 @@ abbrev pub wake_why : ℕ → Bool → Why
 wake_why x true = why.Delivery (delivery.Set x)
 wake_why x false = why.Resumption
 
+-- a host's work is done
+abbrev pub is_done_host : Subtask → Core → Bool
+is_done_host (subtask.Guest k) s = true
+is_done_host (subtask.Host i) s = is_stage_ended (stage_of i s)
+
 -- Why a thread that doesn't run gets an entry.
 pub data MayPut (n : ℕ) (w : Why) (s : Core) : Type 0 where
   -- it is the first one of a call that was just made, and not a direct one
@@ -126,7 +131,7 @@ pub data MayPut (n : ℕ) (w : Why) (s : Core) : Type 0 where
   -- an event of its set has come
   Wakes : (x : ℕ) → is_waiter x n s ≡ true → w ≡ wake_why x (is_callback_waiter n s) → MayPut n w s
   -- its subtask has a status, or is done
-  Unblocks : (sub : Subtask) → place_of n s ≡ Some (place.Blocked sub) → w ≡ why.Resumption → MayPut n w s
+  Unblocks : (sub : Subtask) → place_of n s ≡ Some (place.Blocked sub) → is_done_host sub s ≡ true → w ≡ why.Resumption → MayPut n w s
   -- it was held with this
   Releases : place_of n s ≡ Some (place.Held w) → MayPut n w s
   -- it waits by callback, and is cancelled
@@ -206,7 +211,9 @@ MayLeave a p s = MayLand a p s
 -- how far an op comes: it waits on a set of its instance, or is about a subtask of its own or a new one
 abbrev pub MayCome : Scene → ℕ → HowFar → Core → Type 0
 MayCome a n (how_far.Waits x) s = IsRunner a n × HasSet a n x
-MayCome a n (how_far.Calls sub) s = IsRunner a n × (HasSubtask a n sub ⊎ IsNew a sub s)
+MayCome a n (how_far.Calls (subtask.Guest k)) s = IsRunner a n × (HasSubtask a n (subtask.Guest k) ⊎ IsNew a (subtask.Guest k) s)
+MayCome a n (how_far.Calls (subtask.Host i)) s = IsRunner a n × (IsNew a (subtask.Host i) s ×
+    (option_map_or (is_blocked_on (subtask.Host i)) (place_of n s) true ≡ true))
 MayCome a n (how_far.Cancels sub) s = IsRunner a n × HasSubtask a n sub
 MayCome a n (how_far.AwaitsEnd sub) s = IsRunner a n × HasSubtask a n sub
 -- its direct callee, which ran, has come to a value
@@ -353,7 +360,7 @@ MayTellWork a i None s = IsOwn a (subtask.Host i)
 -- the sync call of the running thread is answered, or its ended subtask is dropped
 abbrev pub MayRemoveWork : Scene → ℕ → Core → Type 0
 MayRemoveWork a i s = (n : ℕ) × (IsRunner a n × ((how_far_of n a.base ≡ how_far.Calls (subtask.Host i)) ⊎
-    ((subtask_ended (subtask.Host i) a.base ≡ true) × (subtask_handle (subtask.Host i) s ≡ None))))
+    ((subtask_ended (subtask.Host i) a.base ≡ true) × ((subtask_handle (subtask.Host i) s ≡ None) × (is_stage_ended (stage_of i s) ≡ true)))))
 
 -- ---- Sets and instances
 
