@@ -142,7 +142,7 @@ same_subtask_is (subtask.Host i) (subtask.Host j) h = ap (λ (k : ℕ). subtask.
 same_subtask_is (subtask.Guest k) (subtask.Host j) h = absurd (subst T (sym h) tt)
 same_subtask_is (subtask.Host i) (subtask.Guest q) h = absurd (subst T (sym h) tt)
 
-blocked_place : (sub : Subtask) (o : Option Place) → option_map_or (is_blocked_on sub) o false ≡ true → o ≡ Some (place.Blocked sub)
+pub blocked_place : (sub : Subtask) (o : Option Place) → option_map_or (is_blocked_on sub) o false ≡ true → o ≡ Some (place.Blocked sub)
 blocked_place sub (Some (place.Blocked on)) h = ap (λ (x : Subtask). Some (place.Blocked x)) (sym (same_subtask_is sub on h))
 blocked_place sub None h = absurd (subst T (sym h) tt)
 blocked_place sub (Some place.New) h = absurd (subst T (sym h) tt)
