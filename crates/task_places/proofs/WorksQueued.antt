@@ -6,7 +6,7 @@ use Rattle.task_machine.specs.declared.records.Course.TheVariants as course
 use Rattle.task_machine.specs.declared.records.Course.{Course}
 use Rattle.task_rules.specs.Works.{poll_pends}
 use Rattle.task_rules.specs.Calls.{call_made, with_handle, with_thread_handle, work_queued, new_work}
-use Rattle.task_machine.specs.Read.{is_live, is_stage_live, new_handle}
+use Rattle.task_machine.specs.Read.{is_live, is_stage_live, new_handle, is_stage_ended, stage_of}
 use Rattle.std.specs.Option.{option_map_or}
 use Rattle.task_machine.specs.Write.{set_switch, set_high, set_low, add_call, add_group, add_set, add_thread, add_work, count_work, free_handle, free_thread_handle, give_handle, give_result, give_thread_handle, on_call, on_instance, on_thread, on_work, push_high, remove_call, remove_group, remove_set, remove_thread, remove_work, set_backpressure, set_cancel_delivered, set_cancelled, set_course, set_do_not_enter, set_do_not_suspend, set_end, set_event, set_exited, set_how_far, set_join, set_own_event, set_phase, set_position, set_register, set_result, set_saved_callee, set_saved_own, set_script, set_stage, set_started, set_starting_published, set_subtask_handle, set_thread_handle, set_trapped, set_uninteresting, set_word, take_result}
 use Rattle.std.proofs.Common.{T, ap, arith, refl, subst, sym, ◌∙◌, le_refl, cond}
@@ -56,7 +56,7 @@ touched j f s t same works high low made q = record {
   each = λ i w at. grind (arith, nat_tests, get-change, same, q.each i);
   low = λ i. grind (arith, q.low i);
   made = λ i there. grind (arith, nat_tests, get-change, q.made i);
-  ungiven = λ i above. grind (arith, q.ungiven i);
+  gone = λ i none. grind (arith, nat_tests, get-change, q.gone i);
 }
 
 -- the entry that is taken is the first at high
@@ -83,7 +83,7 @@ push_taken j s t high low works made q = record {
   each = λ i w at. let a = ap (stands (is_push_of i)) high in let b = ap (stands (is_host_of i)) high in let v = was_work i j (λ w. record w { stage = stage.Live }) s.works w (sym (ap (λ m. get m i) works) ∙ at) in let h = q.each i v.0 v.1.0 in grind (arith, nat_tests);
   low = λ i. grind (arith, q.low i);
   made = λ i there. grind (arith, nat_tests, get-change, q.made i);
-  ungiven = λ i above. let a = ap (stands (is_push_of i)) high in let b = ap (stands (is_host_of i)) high in grind (arith, nat_tests, q.ungiven i);
+  gone = λ i none. let a = ap (stands (is_push_of i)) high in let b = ap (stands (is_host_of i)) high in grind (arith, nat_tests, get-change, q.gone i);
 }
 
 -- the entry of a host call is taken
@@ -92,7 +92,7 @@ host_taken j s t high low works made q = record {
   each = λ i w at. let a = ap (stands (is_push_of i)) high in let b = ap (stands (is_host_of i)) high in let v = was_work i j (λ w. record w { stage = stage.Ended }) s.works w (sym (ap (λ m. get m i) works) ∙ at) in let h = q.each i v.0 v.1.0 in grind (arith, nat_tests);
   low = λ i. grind (arith, q.low i);
   made = λ i there. grind (arith, nat_tests, get-change, q.made i);
-  ungiven = λ i above. let a = ap (stands (is_push_of i)) high in let b = ap (stands (is_host_of i)) high in grind (arith, nat_tests, q.ungiven i);
+  gone = λ i none. let a = ap (stands (is_push_of i)) high in let b = ap (stands (is_host_of i)) high in grind (arith, nat_tests, get-change, q.gone i);
 }
 
 -- a work that lives ends, or is finishing and gets its entry
@@ -101,7 +101,7 @@ work_ends j s t live high low works made q = record {
   each = λ i w at. let v = was_work i j (λ w. record w { stage = stage.Ended }) s.works w (sym (ap (λ m. get m i) works) ∙ at) in let h = q.each i v.0 v.1.0 in grind (arith, nat_tests);
   low = λ i. grind (arith, q.low i);
   made = λ i there. grind (arith, nat_tests, get-change, q.made i);
-  ungiven = λ i above. grind (arith, q.ungiven i);
+  gone = λ i none. grind (arith, nat_tests, get-change, q.gone i);
 }
 
 work_finishes : (j : ℕ) (s t : Core) → option_map_or is_live (get s.works j) false ≡ true → t.queues.high ≡ s.queues.high ++ entry.Host j ∷ [] → t.queues.low ≡ s.queues.low → t.works ≡ change j (λ w. record w { stage = stage.Finishing }) s.works → t.made.works ≡ s.made.works → WorksQueued s → WorksQueued t
@@ -109,16 +109,16 @@ work_finishes j s t live high low works made q = record {
   each = λ i w at. let a = stands_append (is_push_of i) s.queues.high (entry.Host j) in let b = stands_append (is_host_of i) s.queues.high (entry.Host j) in let v = was_work i j (λ w. record w { stage = stage.Finishing }) s.works w (sym (ap (λ m. get m i) works) ∙ at) in let h = q.each i v.0 v.1.0 in grind (arith, nat_tests);
   low = λ i. grind (arith, q.low i);
   made = λ i there. grind (arith, nat_tests, get-change, q.made i);
-  ungiven = λ i above. let a = stands_append (is_push_of i) s.queues.high (entry.Host j) in let b = stands_append (is_host_of i) s.queues.high (entry.Host j) in grind (arith, nat_tests, q.ungiven i, q.made j);
+  gone = λ i none. let a = stands_append (is_push_of i) s.queues.high (entry.Host j) in let b = stands_append (is_host_of i) s.queues.high (entry.Host j) in grind (arith, nat_tests, get-change, q.gone i);
 }
 
 -- a new work is queued
 work_queued_after : (w : Work) (s t : Core) → w.stage ≡ stage.Queued → t.queues.high ≡ s.queues.high ++ entry.Push (s.made.works + 1) ∷ [] → t.queues.low ≡ s.queues.low → t.works ≡ insert s.works (s.made.works + 1) w → t.made.works ≡ s.made.works + 1 → WorksQueued s → WorksQueued t
 work_queued_after w s t new high low works made q = record {
-  each = λ i v at. let a = stands_append (is_push_of i) s.queues.high (entry.Push (s.made.works + 1)) in let b = stands_append (is_host_of i) s.queues.high (entry.Push (s.made.works + 1)) in grind (arith, nat_tests, get-insert, q.each i, q.ungiven i);
+  each = λ i v at. let a = stands_append (is_push_of i) s.queues.high (entry.Push (s.made.works + 1)) in let b = stands_append (is_host_of i) s.queues.high (entry.Push (s.made.works + 1)) in grind (arith, nat_tests, get-insert, q.each i, q.gone i, q.made i);
   low = λ i. grind (arith, q.low i);
   made = λ i there. grind (arith, nat_tests, get-insert, q.made i);
-  ungiven = λ i above. let a = stands_append (is_push_of i) s.queues.high (entry.Push (s.made.works + 1)) in let b = stands_append (is_host_of i) s.queues.high (entry.Push (s.made.works + 1)) in grind (arith, nat_tests, q.ungiven i);
+  gone = λ i none. let a = stands_append (is_push_of i) s.queues.high (entry.Push (s.made.works + 1)) in let b = stands_append (is_host_of i) s.queues.high (entry.Push (s.made.works + 1)) in grind (arith, nat_tests, get-insert, q.gone i);
 }
 
 -- no work's entry comes or goes
@@ -127,7 +127,7 @@ others_move s t same works made q = record {
   each = λ i w at. grind (arith, push s.queues.high t.queues.high i same.high, host s.queues.high t.queues.high i same.high, q.each i);
   low = λ i. grind (arith, push s.queues.low t.queues.low i same.low, host s.queues.low t.queues.low i same.low, q.low i);
   made = λ i there. grind (arith, q.made i);
-  ungiven = λ i above. grind (arith, push s.queues.high t.queues.high i same.high, host s.queues.high t.queues.high i same.high, q.ungiven i);
+  gone = λ i none. grind (arith, push s.queues.high t.queues.high i same.high, host s.queues.high t.queues.high i same.high, q.gone i);
 }
   where
     push : (es fs : List Entry) (i : ℕ) → work_entries fs ≡ work_entries es → stands (is_push_of i) fs ≡ stands (is_push_of i) es
@@ -151,23 +151,57 @@ ended_live : (i : ℕ) (c : Course) (s : Core) → option_map_or is_live (get s.
 unfolding set_phase set_course on_work
 ended_live i c s live = live_still i (λ w. record w { phase = phase.Complete }) (record s { works = change i (λ (w : Work). record w { course = c }) s.works }) (λ w. refl) (live_still i (λ w. record w { course = c }) s (λ w. refl) live)
 
+-- an ended work's push doesn't stand
+pushed_apart : (i j : ℕ) (s : Core) → WorksQueued s → (i ≡ j → 1 ≤ stands (is_push_of i) s.queues.high) → is_stage_ended (stage_of i s) ≡ true → is_stage_ended (option_map_or (λ (w : Work). w.stage) (get (change j (λ (w : Work). record w { stage = stage.Live }) s.works) i) stage.Ended) ≡ true
+pushed_apart i j s q one e = go (get s.works i) refl
+  where
+    go : (o : Option Work) → get s.works i ≡ o → is_stage_ended (option_map_or (λ (w : Work). w.stage) (get (change j (λ (w : Work). record w { stage = stage.Live }) s.works) i) stage.Ended) ≡ true
+    go None at = grind (arith, nat_tests, get-change)
+    go (Some w) at = let h = q.each i w at in grind (arith, nat_tests, get-change)
+
+removed_gone : (i j : ℕ) (s : Core) → WorksQueued s → is_stage_ended (stage_of i s) ≡ true → get (remove s.works i) j ≡ None → (stands (is_push_of j) s.queues.high ≡ 0) × (stands (is_host_of j) s.queues.high ≡ 0)
+removed_gone i j s q ended none = go (get s.works j) refl
+  where
+    go : (o : Option Work) → get s.works j ≡ o → (stands (is_push_of j) s.queues.high ≡ 0) × (stands (is_host_of j) s.queues.high ≡ 0)
+    go None e = q.gone j e
+    go (Some w) e = let h = q.each j w e in grind (arith, nat_tests, get-remove)
+
+-- an end stays
+pub ended_word : (a : Scene) (w : Word) (s : Core) → Allowed a w s → WorksQueued s → (i : ℕ) → i ≤ s.made.works → is_stage_ended (stage_of i s) ≡ true → is_stage_ended (stage_of i (after_word w s)) ≡ true
+unfolding add_call add_group add_set add_thread add_work count_work free_handle free_thread_handle give_handle give_result give_thread_handle on_call on_instance on_thread on_work push_high remove_call remove_group remove_set remove_thread remove_work set_backpressure set_cancel_delivered set_cancelled set_do_not_enter set_do_not_suspend set_end set_event set_exited set_how_far set_join set_own_event set_position set_register set_result set_saved_callee set_saved_own set_script set_stage set_started set_starting_published set_subtask_handle set_thread_handle set_trapped set_uninteresting set_word take_result call_made with_handle with_thread_handle work_queued poll_pends set_course set_phase
+ended_word a (QueueWork f host group) s ok q i below e = grind (arith, nat_tests, get-insert)
+ended_word a (TakePush m j) s ok q i below e = let h = (head_taken m (entry.Push j) (is_push_of j) s (next_first s m (entry.Push j) ok) (λ n. refl) (eq_refl j) (q.low j).0).0 in let x = ap (stands (is_push_of i)) h in pushed_apart i j s q (grind (arith, nat_tests)) e
+ended_word a (TakeHost m j) s ok q i below e = grind (arith, nat_tests, get-change)
+ended_word a (Pend j host) s ok q i below e = grind (arith, nat_tests, get-change)
+ended_word a (SetPhase j p) s ok q i below e = grind (arith, nat_tests, get-change)
+ended_word a (SetCancelled j) s ok q i below e = grind (arith, nat_tests, get-change)
+ended_word a (SetWorkEvent j x) s ok q i below e = grind (arith, nat_tests, get-change)
+ended_word a (SetWorkJoin j x) s ok q i below e = grind (arith, nat_tests, get-change)
+ended_word a (NameWork k j) s ok q i below e = grind (arith, nat_tests, get-change)
+ended_word a (UnnameWork k h j) s ok q i below e = grind (arith, nat_tests, get-change)
+ended_word a (EndWork j c) s ok q i below e = grind (arith, nat_tests, get-change)
+ended_word a (FinishWork j c) s ok q i below e = let l = polled_is_live ok.0.0 s j ok.0.1.1 in grind (arith, nat_tests, get-change)
+ended_word a (RemoveWork j) s ok q i below e = grind (arith, nat_tests, get-remove)
+ended_word a w s ok q i below e = e
+
 module _ (a : Scene) where
-  pub works_word : (w : Word) (s : Core) → Allowed a w s → WorksQueued s → WorksQueued (after_word w s)
+  -- a work that goes has ended
+  pub works_word : (w : Word) (s : Core) → Allowed a w s → ((i : ℕ) → w ≡ RemoveWork i → is_stage_ended (stage_of i s) ≡ true) → WorksQueued s → WorksQueued (after_word w s)
   unfolding add_call add_group add_set add_thread add_work count_work free_handle free_thread_handle give_handle give_result give_thread_handle on_call on_instance on_thread on_work push_high remove_call remove_group remove_set remove_thread remove_work set_backpressure set_cancel_delivered set_cancelled set_do_not_enter set_do_not_suspend set_end set_event set_exited set_how_far set_join set_own_event set_position set_register set_result set_saved_callee set_saved_own set_script set_stage set_started set_starting_published set_subtask_handle set_thread_handle set_trapped set_uninteresting set_word take_result call_made with_handle with_thread_handle work_queued poll_pends set_course set_phase
-  works_word (Places p) s ok q = let h = placing_works a p s ok in others_move s _ (record { high = h.high; low = h.low }) refl refl q
-  works_word (Withdraw k) s ok q = let h = unqueued_works k s in others_move s _ (record { high = h.high; low = h.low }) refl refl q
-  works_word CountWork s ok q = record { each = λ i w at. let h = q.each i w at in record { push = h.push; host = h.host }; low = q.low; made = λ i there. grind (arith, q.made i); ungiven = λ i above. grind (arith, q.ungiven i) }
-  works_word (QueueWork f host group) s ok q = work_queued_after (new_work f host group) s _ refl refl refl refl refl q
-  works_word (TakePush m j) s ok q = let h = head_taken m (entry.Push j) (is_push_of j) s (next_first s m (entry.Push j) ok) (λ n. refl) (eq_refl j) (q.low j).0 in push_taken j s _ h.0 h.1 refl refl q
-  works_word (TakeHost m j) s ok q = let h = head_taken m (entry.Host j) (is_host_of j) s (next_first s m (entry.Host j) ok) (λ n. refl) (eq_refl j) (q.low j).1 in host_taken j s _ h.0 h.1 refl refl q
-  works_word (Pend i host) s ok q = touched i (λ w. record w { course = course.Goes host }) s _ (λ w. refl) refl refl refl refl q
-  works_word (SetPhase i p) s ok q = touched i (λ w. record w { phase = p }) s _ (λ w. refl) refl refl refl refl q
-  works_word (SetCancelled i) s ok q = touched i (λ w. record w { cancelled = true }) s _ (λ w. refl) refl refl refl refl q
-  works_word (SetWorkEvent i e) s ok q = touched i (λ w. record w { event = e }) s _ (λ w. refl) refl refl refl refl q
-  works_word (SetWorkJoin i j) s ok q = touched i (λ w. record w { join = j }) s _ (λ w. refl) refl refl refl refl q
-  works_word (NameWork i j) s ok q = touched j (λ w. record w { handle = Some (new_handle i s) }) s _ (λ w. refl) refl refl refl refl q
-  works_word (UnnameWork i h j) s ok q = touched j (λ w. record w { handle = None }) s _ (λ w. refl) refl refl refl refl q
-  works_word (EndWork i c) s ok q = work_ends i (set_phase i phase.Complete (set_course i c s)) _ (ended_live i c s (polled_is_live ok.0.0 s i ok.0.1.1)) refl refl refl refl (ended_course i c s q)
-  works_word (FinishWork i c) s ok q = work_finishes i (set_phase i phase.Complete (set_course i c s)) _ (ended_live i c s (polled_is_live ok.0.0 s i ok.0.1.1)) refl refl refl refl (ended_course i c s q)
-  works_word (RemoveWork i) s ok q = record { each = λ j w at. grind (arith, nat_tests, get-remove, q.each j); low = q.low; made = λ j there. grind (arith, nat_tests, get-remove, q.made j); ungiven = q.ungiven }
-  works_word w s ok q = record { each = λ i v at. let h = q.each i v at in record { push = h.push; host = h.host }; low = q.low; made = q.made; ungiven = q.ungiven }
+  works_word (Places p) s ok ends q = let h = placing_works a p s ok in others_move s _ (record { high = h.high; low = h.low }) refl refl q
+  works_word (Withdraw k) s ok ends q = let h = unqueued_works k s in others_move s _ (record { high = h.high; low = h.low }) refl refl q
+  works_word CountWork s ok ends q = record { each = λ i w at. let h = q.each i w at in record { push = h.push; host = h.host }; low = q.low; made = λ i there. grind (arith, q.made i); gone = q.gone }
+  works_word (QueueWork f host group) s ok ends q = work_queued_after (new_work f host group) s _ refl refl refl refl refl q
+  works_word (TakePush m j) s ok ends q = let h = head_taken m (entry.Push j) (is_push_of j) s (next_first s m (entry.Push j) ok) (λ n. refl) (eq_refl j) (q.low j).0 in push_taken j s _ h.0 h.1 refl refl q
+  works_word (TakeHost m j) s ok ends q = let h = head_taken m (entry.Host j) (is_host_of j) s (next_first s m (entry.Host j) ok) (λ n. refl) (eq_refl j) (q.low j).1 in host_taken j s _ h.0 h.1 refl refl q
+  works_word (Pend i host) s ok ends q = touched i (λ w. record w { course = course.Goes host }) s _ (λ w. refl) refl refl refl refl q
+  works_word (SetPhase i p) s ok ends q = touched i (λ w. record w { phase = p }) s _ (λ w. refl) refl refl refl refl q
+  works_word (SetCancelled i) s ok ends q = touched i (λ w. record w { cancelled = true }) s _ (λ w. refl) refl refl refl refl q
+  works_word (SetWorkEvent i e) s ok ends q = touched i (λ w. record w { event = e }) s _ (λ w. refl) refl refl refl refl q
+  works_word (SetWorkJoin i j) s ok ends q = touched i (λ w. record w { join = j }) s _ (λ w. refl) refl refl refl refl q
+  works_word (NameWork i j) s ok ends q = touched j (λ w. record w { handle = Some (new_handle i s) }) s _ (λ w. refl) refl refl refl refl q
+  works_word (UnnameWork i h j) s ok ends q = touched j (λ w. record w { handle = None }) s _ (λ w. refl) refl refl refl refl q
+  works_word (EndWork i c) s ok ends q = work_ends i (set_phase i phase.Complete (set_course i c s)) _ (ended_live i c s (polled_is_live ok.0.0 s i ok.0.1.1)) refl refl refl refl (ended_course i c s q)
+  works_word (FinishWork i c) s ok ends q = work_finishes i (set_phase i phase.Complete (set_course i c s)) _ (ended_live i c s (polled_is_live ok.0.0 s i ok.0.1.1)) refl refl refl refl (ended_course i c s q)
+  works_word (RemoveWork i) s ok ends q = record { each = λ j w at. grind (arith, nat_tests, get-remove, q.each j); low = q.low; made = λ j there. grind (arith, nat_tests, get-remove, q.made j); gone = λ j none. removed_gone i j s q (ends i refl) none }
+  works_word w s ok ends q = record { each = λ i v at. let h = q.each i v at in record { push = h.push; host = h.host }; low = q.low; made = q.made; gone = q.gone }
