@@ -1,13 +1,10 @@
 -- Entries that are taken out, entries of works, and new threads, beside a busy thread.
 use Rattle.std.proofs.lemmas.Bool.Decides.{nat_tests}
-use Rattle.task_machine.specs.declared.records.Why.TheVariants as why
-use Rattle.std.specs.Option.{option_map_or}
-use Rattle.std.proofs.Common.{T, ap, ap₂, arith, cond, le_refl, refl, subst, sym, ◌∙◌}
-use Rattle.std.specs.Prelude.{Bool, List, None, Option, Some, [], false, if◌then◌else◌, is_none, is_some, option_map, true, unwrap_or, ℕ, ◌++◌, ◌+◌, ◌==◌, ◌||◌, ◌∷◌, ◌≡◌, ◌≤◌}
-use Rattle.task_machine.proofs.MapLemmas.{get-insert_other, get-insert_same}
+use Rattle.std.proofs.Common.{T, ap, arith, cond, le_refl, refl, subst, sym, ◌∙◌}
+use Rattle.std.specs.Prelude.{Bool, List, None, Option, Some, [], false, if◌then◌else◌, is_some, true, unwrap_or, ℕ, ◌++◌, ◌+◌, ◌==◌, ◌∷◌, ◌≡◌, ◌≤◌}
 use Rattle.task_machine.specs.Core.{Core, Queues}
-use Rattle.task_machine.specs.Maps.{get, get-insert}
-use Rattle.task_machine.specs.Moves.{has_entry, less, less_switch, promoted, put_switch, unqueued, why_of, ready_why}
+use Rattle.task_machine.specs.Maps.{get-insert}
+use Rattle.task_machine.specs.Moves.{has_entry, less, less_switch, promoted, put_switch, unqueued, why_of}
 use Rattle.task_machine.specs.Read.{callers_of, is_entry_of, next_entry, or_high, place_of}
 use Rattle.task_machine.specs.Write.{add_thread, on_thread, remove_thread, set_high, set_low, set_place, set_switch}
 use Rattle.task_machine.specs.declared.records.Entry.{Entry}
@@ -19,9 +16,9 @@ use Rattle.task_machine.specs.declared.records.Why.{Why}
 use Rattle.task_machine.specs.declared.words.Mark.{Mark}
 use Rattle.task_machine.specs.declared.words.Mark.TheVariants as mark
 use Rattle.task_rules.proofs.MoveLemmas.{no_time, others, put_back, removed_gone, removed_loose, removed_placed, other_place, gone_place, other_so}
-use Rattle.task_rules.proofs.StandLemmas.{Loose, Stand, by_number, entries-append, entries-less, eq_refl, is_eq_of, none_there, not_eq, zero_one, Watch, Nothing, Awaits, Covered, is_so, Left, left_loose, left_placed, by_count}
+use Rattle.task_rules.proofs.StandLemmas.{Loose, Stand, by_number, entries-append, entries-less, eq_refl, zero_one, Watch, is_so, Left, left_loose, left_placed, by_count}
 use Rattle.task_rules.proofs.StopLemmas.{Untouched, fresh_apart, so_again}
-use Rattle.task_rules.specs.Places.{HasPlace, entries, is_at_high, is_at_low, is_at_switch, is_behind_of, is_fresh, is_there, one_if, says, switch_entries, times}
+use Rattle.task_rules.specs.Places.{HasPlace, entries, is_behind_of, is_fresh, one_if, says, switch_entries, times}
 use Rattle.task_rules.specs.Takes.{popped, rest_of}
 
 -- ---- Entries are taken out

@@ -3,4 +3,5 @@ pub mod PlaceLaw
 pub mod PlaceSteps
 pub mod Directs
 pub mod WorksQueued
+pub mod HostsAwaited
 pub mod OrderLemmas

@@ -8,14 +8,13 @@ use Rattle.task_rules.specs.Laws.{is_free}
 use Rattle.task_machine.specs.declared.records.Script.TheVariants as script
 use Rattle.task_rules.specs.Scripts.{registers_for}
 use Rattle.task_machine.specs.declared.records.Call.{Call}
-use Rattle.task_rules.specs.Cancels.{is_callback_wait}
 use Rattle.std.proofs.Common.{T, ap, arith, inl, inr, le_refl, refl, subst, sym, ◌∙◌}
 use Rattle.std.specs.Option.{option_map_or}
-use Rattle.std.specs.Prelude.{Bool, None, Option, Some, [], false, is_none, is_some, option_and_then, slice_set, true, unwrap_or, ℕ, ◌+◌, ◌==◌, ◌||◌, ◌∷◌, ◌≡◌, ◌≤◌, ◌⊎◌, option_map, if◌then◌else◌}
+use Rattle.std.specs.Prelude.{Bool, None, Option, Some, [], false, is_none, is_some, slice_set, true, unwrap_or, ℕ, ◌+◌, ◌==◌, ◌||◌, ◌∷◌, ◌≡◌, ◌≤◌, ◌⊎◌, option_map, if◌then◌else◌}
 use Rattle.task_machine.specs.Core.{Core}
 use Rattle.task_machine.specs.Maps.{get}
 use Rattle.task_machine.specs.Moves.{has_entry, promoted, put_high, put_low, behind_one}
-use Rattle.task_machine.specs.Read.{is_explicit, is_waiting_on, new_thread_handle, place_of, task_of, was_started, is_under, is_blocked_on}
+use Rattle.task_machine.specs.Read.{is_explicit, new_thread_handle, place_of, task_of, was_started, is_under, is_blocked_on}
 use Rattle.task_machine.specs.Write.{add_call, add_group, add_set, add_work, count_work, free_handle, free_thread_handle, give_handle, give_result, give_thread_handle, on_call, on_instance, on_thread, on_work, push_high, remove_call, remove_group, remove_set, remove_thread, remove_work, set_backpressure, set_cancel_delivered, set_cancelled, set_course, set_do_not_enter, set_do_not_suspend, set_end, set_event, set_exited, set_how_far, set_join, set_own_event, set_phase, set_place, set_position, set_register, set_result, set_saved_callee, set_saved_own, set_script, set_stage, set_started, set_starting_published, set_subtask_handle, set_thread_handle, set_trapped, set_uninteresting, set_word, take_result}
 use Rattle.task_machine.specs.declared.records.Entry.TheVariants as entry
 use Rattle.task_machine.specs.declared.records.Place.{Place}
@@ -37,12 +36,11 @@ use Rattle.task_rules.proofs.StandLemmas.{Adds, adds_all, Loose, Stand, by_numbe
 use Rattle.task_rules.proofs.StopLemmas.{Untouched, behind_adds, foot_there, given_there, quiet_placed, quiet_stand, stopped_stand, switch_there}
 use Rattle.task_rules.proofs.WalkParts.{withdraws}
 use Rattle.task_rules.proofs.WalkTask.{not_main, one_runner}
-use Rattle.task_rules.specs.Allowed.{Cancels, HasSubtask, IsRunner, MayLand, MayMove, MayPut, MayYield, Releases, Resumes, Starts, Stays, Unblocks, Wakes, is_begun, Leaves, IsFoot, Yields, ComesAgain, FindsEvent, Runs, Holds, WaitsAgain, AwaitsEvent, Waits, Blocks, Suspends, Uncovers, Departs, EndsOver, Falls, MayGo, IsFall, IsSettling, is_done_host}
+use Rattle.task_rules.specs.Allowed.{HasSubtask, IsRunner, MayLand, MayMove, MayPut, MayYield, Stays, is_begun, Leaves, IsFoot, Runs, Holds, WaitsAgain, AwaitsEvent, Waits, Blocks, Suspends, Uncovers, Departs, EndsOver, Falls, MayGo, IsFall, IsSettling, is_done_host}
 use Rattle.task_rules.specs.Calls.{call_made, new_call, next_thread, with_handle, with_thread_handle, work_queued, new_thread}
 use Rattle.task_rules.specs.Chains.{LastWords, Settles, Stay, Trip, Remains, Lands, LandsAt, Quits, GoesBack, Collapses}
 use Rattle.task_rules.specs.Places.{HasPlace, entries, is_at_high, is_at_low, is_at_switch, is_for_start, is_fresh, is_there, says, switch_entries, times}
 use Rattle.task_rules.specs.Scenes.{Scene}
-use Rattle.task_rules.specs.Threads.{resume_at}
 use Rattle.task_rules.specs.Words.{FinishWork, MakeCall, MakeThread, NameThread, Places, Placing, Promote, Put, QueueWork, RemoveThread, SetHowFar, SetPosition, SetRegister, SetSavedCallee, SetSavedOwn, SetScript, Stop, TakeHost, TakePush, Withdraw, Word, after_placing, after_word, Pop, GoBehind, Move, Enter, SetUninteresting, RemoveCall, RemoveGroup, SetTrapped}
 use Rattle.task_rules.specs.Works.{poll_pends}
 
@@ -101,7 +99,7 @@ module _ (a : Scene) {n : ℕ} {q : Option Place} {s : Core} (st : Stand (watch 
   fresh_still : (k : ℕ) → waits a k ≡ true → is_fresh (place_of k s) ≡ true
   fresh_still k h = let e = fresh_watch (place_of k a.base) h in ap (λ v. is_so v (place_of k s)) (sym e) ∙ (st.kept k (ap is_watched e)).1
 
-  covered_still : (k m : ℕ) → place_of k a.base ≡ Some (place.Under m) → place_of k s ≡ Some (place.Under m)
+  pub covered_still : (k m : ℕ) → place_of k a.base ≡ Some (place.Under m) → place_of k s ≡ Some (place.Under m)
   covered_still k m at = let e = ap watch_of at in under_is m (place_of k s) (ap (λ v. is_so v (place_of k s)) (sym e) ∙ (st.kept k (ap is_watched e)).1)
 
 -- a parked thread that is put
@@ -129,7 +127,7 @@ abbrev puts_of : ℕ → Word → Bool
 puts_of m (Places (Put x k w)) = k == m
 puts_of m w = false
 
-blocked_itself : (sub : Subtask) → is_blocked_on sub (place.Blocked sub) ≡ true
+pub blocked_itself : (sub : Subtask) → is_blocked_on sub (place.Blocked sub) ≡ true
 blocked_itself (subtask.Guest k) = eq_refl k
 blocked_itself (subtask.Host i) = eq_refl i
 
@@ -218,7 +216,7 @@ module _ {a : Scene} {b : Core} {n : ℕ} {q : Option Place} (f : Follows a b n 
       by_put true e = inr (put_done a m sub w s ok at e)
       by_put false e =
           let t = keeps_word w s ok (λ x k v is g so. no_way (sym e ∙ (ap (puts_of m) is ∙ (ap (λ (j : ℕ). j == m) (watched k g) ∙ eq_refl m))))
-              (λ k is. fresh_still a st k (let may = subst (λ (y : Word). Stays a y s) is ok in f.withdraws may.0 k may.1.0 may.1.1.0 may.1.1.1.1.1.1)) before in
+          (λ k is. fresh_still a st k (let may = subst (λ (y : Word). Stays a y s) is ok in f.withdraws may.0 k may.1.0 may.1.1.0 may.1.1.1.1.1.1)) before in
           let own : only m ≡ Stuck sub = ap (λ b. if b then Stuck sub else Nothing) (eq_refl m) in
           inl (blocked_place sub (place_of m (after_word w s)) (ap (λ v. is_so v (place_of m (after_word w s))) (sym own) ∙ (t.kept m (ap is_watched own)).1))
 
@@ -278,10 +276,10 @@ placeless : (o : Option Thread) → is_none o ≡ true → is_some (option_map (
 placeless None h = refl
 placeless (Some t) h = no_way h
 
-yield_runner : {a : Scene} (k : ℕ) (w : Why) → MayYield a k w → IsRunner a k
+pub yield_runner : {a : Scene} (k : ℕ) (w : Why) → MayYield a k w → IsRunner a k
 yield_runner k w ok = grind arith
 
-move_runner : {a : Scene} (k : ℕ) (r : Place) (s : Core) → MayMove a k r s → IsRunner a k ⊎ ((m : ℕ) × (IsRunner a m × (is_none (get s.threads m) ≡ true)))
+pub move_runner : {a : Scene} (k : ℕ) (r : Place) (s : Core) → MayMove a k r s → IsRunner a k ⊎ ((m : ℕ) × (IsRunner a m × (is_none (get s.threads m) ≡ true)))
 move_runner k r s (Runs i to h e) = inl i
 move_runner k r s (Holds w l h e) = inl l.0
 move_runner k r s (WaitsAgain x l h e) = inl l.0
@@ -422,7 +420,7 @@ pub record Frame (a : Scene) (b : Core) (n : ℕ) (q : Option Place) : Type 0 wh
   pub running : (m : ℕ) → a.turn ≡ turn.Run m → (m ≡ n) × (q ≡ Some place.Running)
   pub rests : (t : Core) → LastWords a t → (is_idle (place_of n a.base) ≡ true → is_idle (place_of n t) ≡ true) → is_idle (place_of n t) ≡ true
 
-land_runner : (a : Scene) (p : Placing) (s : Core) → MayLand a p s → (k : ℕ) × IsRunner a k
+pub land_runner : (a : Scene) (p : Placing) (s : Core) → MayLand a p s → (k : ℕ) × IsRunner a k
 land_runner a (Put mark.High k w) s ok = (k, yield_runner k w ok)
 land_runner a (Put mark.Low k w) s ok = (k, yield_runner k w ok)
 land_runner a (Put mark.Switch k w) s ok = absurd ok
@@ -503,7 +501,7 @@ module _ {a : Scene} {b : Core} {n : ℕ} {q : Option Place} (f : Frame a b n q)
       record { others = λ k e. st.placed k (no_time k n e); own = st.loose n (one_time n); idle = λ k i. ap is_idle (f.home k) ∙ i; fresh = λ k w. fresh_still a st k w; covered = λ k m at. inl (covered_still a st k m at) }
 
   -- the thread exits
-  exits : (s t : Core) → IsRunner a n → Stand (watch a) n q [] s → Settles (after_word (RemoveThread n) s) t → All t × (((k : ℕ) → waits a k ≡ true → is_fresh (place_of k t) ≡ true) × ((k m : ℕ) → place_of k a.base ≡ Some (place.Under m) → place_of k t ≡ Some (place.Under m)))
+  pub exits : (s t : Core) → IsRunner a n → Stand (watch a) n q [] s → Settles (after_word (RemoveThread n) s) t → All t × (((k : ℕ) → waits a k ≡ true → is_fresh (place_of k t) ≡ true) × ((k m : ℕ) → place_of k a.base ≡ Some (place.Under m) → place_of k t ≡ Some (place.Under m)))
   exits s t is st d =
       let u = settles_quiet d in (
         λ k. quiet_placed k (remove_thread n s) t u (removed_all n q s st k),

@@ -6,26 +6,24 @@ use Rattle.task_machine.specs.declared.records.Course.TheVariants as course
 use Rattle.task_machine.specs.declared.records.Course.{Course}
 use Rattle.task_rules.specs.Works.{poll_pends}
 use Rattle.task_rules.specs.Calls.{call_made, with_handle, with_thread_handle, work_queued, new_work}
-use Rattle.task_machine.specs.Read.{is_live, is_stage_live, new_handle, is_stage_ended, stage_of}
+use Rattle.task_machine.specs.Read.{is_live, new_handle, is_stage_ended, stage_of}
 use Rattle.std.specs.Option.{option_map_or}
 use Rattle.task_machine.specs.Write.{set_switch, set_high, set_low, add_call, add_group, add_set, add_thread, add_work, count_work, free_handle, free_thread_handle, give_handle, give_result, give_thread_handle, on_call, on_instance, on_thread, on_work, push_high, remove_call, remove_group, remove_set, remove_thread, remove_work, set_backpressure, set_cancel_delivered, set_cancelled, set_course, set_do_not_enter, set_do_not_suspend, set_end, set_event, set_exited, set_how_far, set_join, set_own_event, set_phase, set_position, set_register, set_result, set_saved_callee, set_saved_own, set_script, set_stage, set_started, set_starting_published, set_subtask_handle, set_thread_handle, set_trapped, set_uninteresting, set_word, take_result}
-use Rattle.std.proofs.Common.{T, ap, arith, refl, subst, sym, ◌∙◌, le_refl, cond}
-use Rattle.std.specs.Prelude.{Bool, List, None, Option, Some, [], false, is_some, option_map, true, unwrap_or, ℕ, ◌++◌, ◌+◌, ◌==◌, ◌∷◌, ◌≡◌, ◌≤◌, if◌then◌else◌}
-use Rattle.task_laws.specs.Order.{WorkEntries, WorksQueued, is_finishing, is_host_of, is_push_of, is_queued, stands}
+use Rattle.std.proofs.Common.{T, ap, arith, refl, subst, sym, ◌∙◌, le_refl}
+use Rattle.std.specs.Prelude.{Bool, List, None, Option, Some, [], false, true, ℕ, ◌++◌, ◌+◌, ◌==◌, ◌∷◌, ◌≡◌, ◌≤◌, if◌then◌else◌}
+use Rattle.task_laws.specs.Order.{WorksQueued, is_host_of, is_push_of, stands}
 use Rattle.task_laws.proofs.HostWorks.{polled_is_live}
-use Rattle.task_machine.proofs.MapLemmas.{get-change_other, get-change_same, get-insert_other, get-insert_same}
 use Rattle.task_machine.specs.Core.{Core}
 use Rattle.task_machine.specs.Maps.{Records, change, get, get-remove, insert, remove, get-insert}
 use Rattle.task_machine.specs.declared.records.Entry.{Entry}
 use Rattle.task_machine.specs.declared.records.Entry.TheVariants as entry
-use Rattle.task_machine.specs.declared.records.Stage.{Stage}
 use Rattle.task_machine.specs.declared.records.Stage.TheVariants as stage
 use Rattle.task_machine.specs.declared.records.Work.{Work}
 use Rattle.task_machine.specs.declared.words.Mark.{Mark}
 use Rattle.task_machine.specs.declared.words.Mark.TheVariants as mark
 use Rattle.task_places.proofs.Entries.{First, next_first}
 use Rattle.task_rules.proofs.PlacingLemmas.{SameWorks, placing_works, unqueued_works, work_entries}
-use Rattle.task_rules.proofs.StandLemmas.{by_number, eq_refl, not_eq}
+use Rattle.task_rules.proofs.StandLemmas.{eq_refl}
 use Rattle.task_rules.specs.Allowed.{Allowed}
 use Rattle.task_rules.specs.Places.{one_if}
 use Rattle.task_rules.specs.Scenes.{Scene}
@@ -122,7 +120,7 @@ work_queued_after w s t new high low works made q = record {
 }
 
 -- no work's entry comes or goes
-others_move : (s t : Core) → SameWorks s t → t.works ≡ s.works → t.made.works ≡ s.made.works → WorksQueued s → WorksQueued t
+pub others_move : (s t : Core) → SameWorks s t → t.works ≡ s.works → t.made.works ≡ s.made.works → WorksQueued s → WorksQueued t
 others_move s t same works made q = record {
   each = λ i w at. grind (arith, push s.queues.high t.queues.high i same.high, host s.queues.high t.queues.high i same.high, q.each i);
   low = λ i. grind (arith, push s.queues.low t.queues.low i same.low, host s.queues.low t.queues.low i same.low, q.low i);
@@ -165,6 +163,15 @@ removed_gone i j s q ended none = go (get s.works j) refl
     go : (o : Option Work) → get s.works j ≡ o → (stands (is_push_of j) s.queues.high ≡ 0) × (stands (is_host_of j) s.queues.high ≡ 0)
     go None e = q.gone j e
     go (Some w) e = let h = q.each j w e in grind (arith, nat_tests, get-remove)
+
+one_above : (n : ℕ) → n ≤ n + 1
+one_above n = omega arith
+
+pub made_works_word : (w : Word) (s : Core) → s.made.works ≤ (after_word w s).made.works
+unfolding add_call add_group add_set add_thread add_work count_work free_handle free_thread_handle give_handle give_result give_thread_handle on_call on_instance on_thread on_work push_high remove_call remove_group remove_set remove_thread remove_work set_backpressure set_cancel_delivered set_cancelled set_do_not_enter set_do_not_suspend set_end set_event set_exited set_how_far set_join set_own_event set_position set_register set_result set_saved_callee set_saved_own set_script set_stage set_started set_starting_published set_subtask_handle set_thread_handle set_trapped set_uninteresting set_word take_result call_made with_handle with_thread_handle work_queued poll_pends set_course set_phase
+made_works_word CountWork s = one_above _
+made_works_word (QueueWork f host group) s = one_above _
+made_works_word w s = le_refl _
 
 -- an end stays
 pub ended_word : (a : Scene) (w : Word) (s : Core) → Allowed a w s → WorksQueued s → (i : ℕ) → i ≤ s.made.works → is_stage_ended (stage_of i s) ≡ true → is_stage_ended (stage_of i (after_word w s)) ≡ true
