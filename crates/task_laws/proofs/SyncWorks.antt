@@ -68,7 +68,7 @@ caller_stays a w s ok i n below at = inl (grind (arith, nat_tests, get-change, g
 module _ {S : Type 0} (a : Scene) (low : (i : ℕ) (v : Doing) → doing_of i a.base ≡ Some v → i ≤ a.base.made.works) (base : CallersKnown a.base) (names : NamesNoSync a.base) (w : Word) (s : Core) (ok : Allowed a w s) (q : WorksGo S a s) (kept : (i : ℕ) → MayBeAborted a.base i → MayBeAborted s i) where
   old : (i : ℕ) → MayRemoveWork a i s → i ≤ a.base.made.works
   old i (m, (runner, inl (far, fresh))) = let r = sync_there i m a.base (base m i far) in low i r.0 r.1.0
-  old i (m, (runner, inr (ended, (free, (h, named))))) = (names (instance_of m a.base) h i named).made
+  old i (m, (runner, inr (ended, (free, (over, (h, named)))))) = (names (instance_of m a.base) h i named).made
 
   -- that of a thread inside the call isn't removed
   removed : (n i : ℕ) → work_caller_of i s ≡ work_caller.Sync n → (how_far_of n s ≡ how_far.Fresh → ⊥) → MayRemoveWork a i s → ⊥
@@ -76,7 +76,7 @@ module _ {S : Type 0} (a : Scene) (low : (i : ℕ) (v : Doing) → doing_of i a.
       let r = sync_there i n s caller in let was = q.was i r.0 r.1.0 (old i (m, (runner, inl (far, fresh)))) in
       let same = sync_of m n (sym (base m i far) ∙ (caller_is i a.base was.before was.there ∙ (sym was.caller ∙ r.1.1))) in
       inside (subst (λ k. how_far_of k s ≡ how_far.Fresh) same fresh)
-  removed n i caller inside (m, (runner, inr (ended, (free, (h, named))))) = no_way (sym (kept i (names (instance_of m a.base) h i named)).other ∙ ap (λ f. is_sync_work f) caller)
+  removed n i caller inside (m, (runner, inr (ended, (free, (over, (h, named)))))) = no_way (sym (kept i (names (instance_of m a.base) h i named)).other ∙ ap (λ f. is_sync_work f) caller)
 
   pub callers_word : CallersKnown s → CallersKnown (after_word w s)
   callers_word c n i far = go (op_came called_work i w s ok n refl (ap called_work far))

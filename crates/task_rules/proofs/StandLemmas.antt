@@ -1,4 +1,5 @@
 -- Threads and their entries, counted; what the words that put a thread do to them.
+use Rattle.task_machine.specs.declared.records.Subtask.{Subtask}
 use Rattle.std.proofs.Common.{◌∙◌, ap, arith, cond, le_trans, refl, subst, sym, ◌⊎◌}
 use Rattle.std.proofs.lemmas.Bool.{eq-eqb, eqb-false, eqb-true}
 use Rattle.std.proofs.lemmas.Bool.Decides.{nat_tests}
@@ -14,7 +15,7 @@ use Rattle.task_machine.proofs.CommuteLemmas.{get-change}
 use Rattle.task_machine.specs.Core.{Core, Queues}
 use Rattle.task_machine.specs.Maps.{Records, get}
 use Rattle.task_machine.specs.Moves.{has_entry, less, newest, older, put_high, put_low}
-use Rattle.task_machine.specs.Read.{callers_of, is_entry_of, place_of, is_under}
+use Rattle.task_machine.specs.Read.{callers_of, is_entry_of, place_of, is_under, is_blocked_on}
 use Rattle.task_machine.specs.Write.{on_thread, push_high, push_low, set_place}
 use Rattle.task_rules.specs.Laws.{is_free}
 use Rattle.task_rules.specs.Places.{HasPlace, entries, is_at_high, is_at_low, is_at_switch, is_behind_of, is_there, one_if, says, switch_entries, times, is_fresh}
@@ -129,11 +130,12 @@ left_loose k s t q l = grind arith
 
 -- ---- A state in which n and some others are loose, and all the rest have their places
 
--- what is watched of a thread: nothing, that it waits for its start or is gone, or that it is under that one
+-- what is watched of a thread: nothing, that it waits for its start or is gone, that it is under that one, or blocked on that subtask
 pub data Watch : Type 0 where
   Nothing : Watch
   Awaits : Watch
   Covered : (over : ℕ) → Watch
+  Stuck : (on : Subtask) → Watch
 
 abbrev pub is_watched : Watch → Bool
 is_watched Nothing = false
@@ -143,6 +145,7 @@ abbrev pub is_so : Watch → Option Place → Bool
 is_so Nothing o = true
 is_so Awaits o = is_fresh o
 is_so (Covered m) o = option_map_or (is_under m) o false
+is_so (Stuck sub) o = option_map_or (is_blocked_on sub) o false
 
 -- n is at q, or there is no such thread; what is watched is so
 pub record Stand (P : ℕ → Watch) (n : ℕ) (q : Option Place) (xs : List ℕ) (s : Core) : Type 0 where

@@ -1,5 +1,5 @@
 -- The rows of the ops on sets, subtasks and threads as chains of words.
-use Rattle.std.proofs.Common.{arith}
+use Rattle.std.proofs.Common.{arith, T, ap, inl, inr, refl, subst, suc, sym, ◌∙◌, ◌⊎◌, zero, ap₂}
 use Rattle.task_machine.proofs.MapLemmas.{get-insert_same, get-remove_same}
 use Rattle.task_machine.specs.declared.records.Work.{Work}
 use Rattle.task_rules.proofs.ChainLemmas.{stay_walk}
@@ -7,18 +7,20 @@ use Rattle.task_machine.specs.declared.label.SetLabel.{SetLabel}
 use Rattle.task_machine.specs.declared.label.CallLabel.{CallLabel}
 use Rattle.task_rules.proofs.MuteLemmas.{is_mute, mute_words, none_said}
 use Rattle.task_rules.proofs.SayLemmas.{call_answered_gone, call_returned_gone, cancel_hands_of, cancel_taken_gone, cancel_writes_of, event_joined, event_owed, found_returned, given_says, packed_is_not_two, received_gone, received_woken_gone, HasNoEnd, event_aborted, said_is}
-use Rattle.task_rules.specs.Chains.{EndWords, HandsOut, TakesEvent, WritesToo, Answers, EndsSubtask, HandsAtOnce, IsReadyAtOnce, Writes, WritesAtOnce, WritesCall, WritesNever, NoWord, Shifts, Walk, Stay, Trip}
-use Rattle.task_rules.specs.SubtaskEnds.{call_of_op, handed_by, handed_by_call, handed_by_cancel, handed_by_event, handed_by_set, returned_of_op, written_by_call, written_by_cancel, cancel_target, cancelled_of_op, end_for, written_by, host_end}
-use Rattle.std.proofs.Common.{T, ap, inl, inr, refl, subst, suc, sym, ◌∙◌, ◌⊎◌, zero}
+use Rattle.task_rules.specs.Chains.{EndWords, HandsOut, TakesEvent, WritesToo, Answers, EndsSubtask, HandsAtOnce, IsReadyAtOnce, Writes, WritesAtOnce, WritesCall, WritesNever, NoWord, Shifts, Walk, Stay, Trip, is_over}
+use Rattle.task_rules.specs.SubtaskEnds.{call_of_op, handed_by, handed_by_call, handed_by_cancel, handed_by_event, handed_by_set, returned_of_op, written_by_call, written_by_cancel, cancel_target, cancelled_of_op, end_for, written_by, host_end, SubtaskEnd}
+use Rattle.task_machine.proofs.CommuteLemmas.{get-change}
+use Rattle.std.proofs.lemmas.Bool.Decides.{nat_tests}
+use Rattle.task_machine.specs.declared.label.SetLabel.TheVariants as set_label
 use Rattle.std.specs.Option.{option_map_or}
 use Rattle.std.specs.Prelude.{Bool, List, None, Option, Some, [], false, is_some, not, option_map, true, unwrap_or, ℕ, ◌&&◌, ◌+◌, ◌==◌, ◌∷◌, ◌≡◌}
 use Rattle.task_machine.specs.Core.{Core, Main}
 use Rattle.task_machine.specs.Labels.{Choice, join_label, wait_label}
 use Rattle.task_machine.specs.Maps.{Records, get, remove}
 use Rattle.task_machine.specs.Moves.{Gift, MemberGift, NoGift, OwnGift, checked, ended, gift, handed_on, may_hand_on, passes_check, promoted_unless, put_switch, withdrawn, group_settled}
-use Rattle.task_machine.specs.Read.{at_handle_limit, event_of, fits, has_ended, has_member, has_waiters, how_far_of, instance_of, is_async_lifted, is_callback_yield, is_direct, is_joined, is_ready_to_resume, is_waiting_on, is_watched, is_yielded, join_of, new_handle, new_thread_handle, phase_of, place_of, registers_of, result_of, saved_callee_of, set_at, subtask_at, subtask_ended, task_of, thread_at, thread_group, thread_handle_of, undelivered_end, was_cancelled, was_started, work_caller_of}
+use Rattle.task_machine.specs.Read.{at_handle_limit, event_of, fits, has_ended, has_member, has_waiters, how_far_of, instance_of, is_async_lifted, is_callback_yield, is_direct, is_joined, is_ready_to_resume, is_waiting_on, is_watched, is_yielded, join_of, new_handle, new_thread_handle, phase_of, place_of, registers_of, result_of, saved_callee_of, set_at, subtask_at, subtask_ended, task_of, thread_at, thread_group, thread_handle_of, undelivered_end, was_cancelled, was_started, work_caller_of, is_at, is_stage_ended, stage_of, is_blocked_on}
 use Rattle.task_machine.specs.Statuses.{packed, status_code}
-use Rattle.task_machine.specs.Write.{add_work, count_work, on_call, on_work, push_high, set_join, set_own_event, set_subtask_handle, set_do_not_suspend, set_saved_callee, on_instance, on_thread, remove_thread, set_end, set_register, set_how_far, remove_group, set_position, remove_work}
+use Rattle.task_machine.specs.Write.{add_work, count_work, on_call, on_work, push_high, set_join, set_own_event, set_subtask_handle, set_do_not_suspend, set_saved_callee, on_instance, on_thread, remove_thread, set_end, set_register, set_how_far, remove_group, set_position, remove_work, free_handle}
 use Rattle.task_machine.specs.declared.component.Callee.{Callee}
 use Rattle.task_machine.specs.declared.component.HostDef.{HostDef}
 use Rattle.task_machine.specs.declared.component.Slot.{Slot}
@@ -47,7 +49,7 @@ use Rattle.task_rules.proofs.WalkParts.{call_queues_walks, call_resumes_walks, c
 use Rattle.task_rules.proofs.WalkTask.{Leads, advanced_walks, answered_walks, assigned_walks, goes_on, goes_on_saying, goes_over, may_leads, or_never_leads, or_trap_leads, running_scene, stops_here, trap_if_leads, unnot, is_still, over_now}
 use Rattle.task_rules.specs.Allowed.{ByHandle, ByOp, BySetHandle, ByThread, ByWait, Cancels, HasSubtask, Leaves, MayJoin, MayMakeCall, Resumes, Suspends, Yields, subtask_under_way, is_for_main, AbortsOwn, is_async_work, IsNew, IsNamed}
 use Rattle.task_rules.specs.Calls.{AtOnce, Failing, FirstPoll, Later, answered, call_answered, call_begins, call_host_polled, call_pending, call_queues, call_resumes, call_returned, call_row, call_status, call_sync_begins, call_sync_host_polled, call_sync_host_row, call_sync_host_stops, call_sync_row, call_sync_status, call_sync_stops, enter_row, enter_runs, first_poll, host_answered, host_pending, host_ready, new_thread, next_thread, next_work, status_found, work_answered, work_queued, work_value, put_back, work_deleted, settle_group_of, work_group, new_work}
-use Rattle.task_rules.specs.Cancels.{AlreadyEnded, Async, CallbackWaits, CallbackYields, CancelCase, Mode, OtherwiseRuns, StartNotRun, Sync, aborted_phase, blocked_code, cancel_aborts_host, cancel_asks, cancel_by_end, cancel_case, cancel_ended_row, cancel_guest, cancel_label, cancel_promotes_yield, cancel_resumed, cancel_row, cancel_stops, cancel_subtask, cancel_takes_end, cancel_wakes_callback, cancel_withdraws, drop_row, dropped, pauses, subtask_instance, subtask_row}
+use Rattle.task_rules.specs.Cancels.{AlreadyEnded, Async, CallbackWaits, CallbackYields, CancelCase, Mode, OtherwiseRuns, StartNotRun, Sync, aborted_phase, blocked_code, cancel_aborts_host, cancel_asks, cancel_by_end, cancel_case, cancel_ended_row, cancel_guest, cancel_label, cancel_promotes_yield, cancel_resumed, cancel_row, cancel_stops, cancel_subtask, cancel_takes_end, cancel_wakes_callback, cancel_withdraws, drop_row, dropped, pauses, subtask_instance, subtask_row, is_callback_wait}
 use Rattle.task_rules.specs.Data.{advanced, assigned, moved_to}
 use Rattle.task_rules.specs.OpParts.{callee_of_op}
 use Rattle.task_rules.specs.Places.{says}
@@ -537,6 +539,10 @@ module _ (x : Setting) (main : Main) (s : Core) (n : ℕ) (l : Label) (next : Tu
 
   -- ---- Dropping
 
+  still_ended : (i j h : ℕ) (t : Core) → is_stage_ended (stage_of i t) ≡ true → is_stage_ended (stage_of i (free_handle j h (set_subtask_handle (subtask.Host i) None (set_join (subtask.Host i) join.Nowhere t)))) ≡ true
+  unfolding free_handle set_subtask_handle set_join on_work
+  still_ended i j h t e = grind (arith, nat_tests, get-change)
+
   dropped_walks : (h : ℕ) (sub : Subtask) → subtask_at (instance_of n s) h s ≡ Some sub → subtask_ended sub s ≡ true → Stay a s (dropped n h sub s)
   unfolding dropped set_join on_call on_work
   dropped_walks h (subtask.Guest k) named ended =
@@ -546,7 +552,7 @@ module _ (x : Setting) (main : Main) (s : Core) (n : ℕ) (l : Label) (next : Tu
   dropped_walks h (subtask.Host i) named ended =
       let sub = subtask.Host i in
       let t = set_join sub join.Nowhere s in
-      advanced_walks n refl (work_deleted_walks n refl i (n, (refl, inr (ended, (freed_named (instance_of n s) h i (set_subtask_handle sub None t) ∙ work_unnamed i t, (h, named)))))
+      advanced_walks n refl (work_deleted_walks n refl i (n, (refl, inr (ended, (freed_named (instance_of n s) h i (set_subtask_handle sub None t) ∙ work_unnamed i t, (still_ended i (instance_of n s) h s ended, (h, named))))))
       (word (UnnameWork (instance_of n s) h i) (n, (refl, (refl, (named, set_none_join sub s)))) (join_walks n refl sub join.Nowhere (n, (refl, ByHandle h named)) NoWord)))
 
   drop_row_leads : (h : ℕ) → Leads a s (drop_row n h s)

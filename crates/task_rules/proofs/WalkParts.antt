@@ -1,19 +1,19 @@
 -- What the rows of the ops are made of, as chains of words: what is read, gifts, moves, and a new call.
 use Rattle.task_rules.specs.Data.{assigned, advanced, moved_to}
+use Rattle.task_machine.proofs.CommuteLemmas.{get-change}
+use Rattle.std.proofs.lemmas.Bool.Decides.{nat_tests}
 use Rattle.task_rules.proofs.MoveLemmas.{put_place}
 use Rattle.std.proofs.Common.{arith}
-use Rattle.std.proofs.lemmas.Bool.Decides.{nat_tests}
-use Rattle.task_machine.proofs.CommuteLemmas.{get-change}
 use Rattle.task_machine.specs.declared.records.HowFar.{HowFar}
-use Rattle.std.proofs.Common.{ap, inl, inr, refl, subst, sym, ◌∙◌, ◌⊎◌}
+use Rattle.std.proofs.Common.{ap, inl, inr, refl, subst, sym, ◌∙◌, ◌⊎◌, T}
 use Rattle.std.specs.Option.{option_map_or}
 use Rattle.std.specs.Prelude.{Bool, List, None, Option, Some, [], false, if◌then◌else◌, is_none, option_map, true, unwrap_or, ℕ, ◌+◌, ◌==◌, ◌≡◌, is_some}
 use Rattle.task_machine.proofs.MapLemmas.{change-field, get-insert_same, get-remove_same}
 use Rattle.task_machine.specs.Core.{Core}
 use Rattle.task_machine.specs.Labels.{Choice, join_label, wait_label}
-use Rattle.task_machine.specs.Maps.{get, Records}
-use Rattle.task_machine.specs.Moves.{Gift, MemberGift, NoGift, OwnGift, behind_one, checked, gift, has_entry, less, less_switch, put_switch, stopped, unqueued, withdrawn, is_group_done, group_settled}
-use Rattle.task_machine.specs.Read.{call_instance, foot_of, goal_of, how_far_of, instance_of, is_direct, is_explicit, is_joined, join_of, may_not_suspend, new_thread_handle, place_of, saved_callee_of, subtask_at, subtask_handle, task_of, thread_group, is_blocked_on}
+use Rattle.task_machine.specs.Maps.{get, Records, change}
+use Rattle.task_machine.specs.Moves.{Gift, MemberGift, NoGift, OwnGift, behind_one, checked, gift, has_entry, less, less_switch, put_switch, stopped, unqueued, withdrawn, is_group_done, group_settled, gift_after_own, member_gift, own_gift}
+use Rattle.task_machine.specs.Read.{call_instance, foot_of, goal_of, how_far_of, instance_of, is_direct, is_explicit, is_joined, join_of, may_not_suspend, new_thread_handle, place_of, saved_callee_of, subtask_at, subtask_handle, task_of, thread_group, is_blocked_on, has_ready_member, is_ready_member, own_event_of, is_stage_ended, stage_of}
 use Rattle.task_machine.specs.Statuses.{status_code}
 use Rattle.task_machine.specs.Write.{add_call, add_thread, free_handle, give_thread_handle, on_call, on_instance, on_thread, on_work, remove_thread, set_do_not_suspend, set_end, set_event, set_exited, set_high, set_how_far, set_join, set_low, set_place, set_saved_callee, set_saved_own, set_started, set_subtask_handle, set_switch, set_thread_handle, set_uninteresting, with_switch, remove_group, remove_work, set_position, set_register}
 use Rattle.task_machine.specs.declared.component.Callee.{Callee}
@@ -118,6 +118,10 @@ withdraws_by k o es fs t false = refl
 pub withdraws : (k : ℕ) (t : Core) → after_word (Withdraw k) t ≡ remove_thread k (set_switch (less_switch k t.queues.switch) (unqueued k t))
 unfolding unqueued
 withdraws k t = withdraws_by k (less_switch k t.queues.switch) (less k t.queues.high) (less k t.queues.low) t (has_entry k t.queues.high)
+
+blocked_moved : (n : ℕ) (sub : Subtask) (t : Core) → option_map_or (is_blocked_on sub) (place_of n (set_place n (place.Blocked sub) t)) true ≡ true
+unfolding set_place on_thread
+blocked_moved n sub t = grind (arith, nat_tests, get-change)
 
 -- ---- The moves
 
