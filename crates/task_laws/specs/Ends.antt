@@ -1,10 +1,8 @@
--- What is asked of a state where the ends of calls and works are once: what handles, main and ops under way name.
-use Rattle.std.specs.Prelude.{Bool, Some, false, is_some, true, ℕ, ◌≡◌, ◌≤◌, ◌⊎◌}
+-- What is asked of a state where the ends of calls and works are once: what handles and main name.
+use Rattle.std.specs.Prelude.{Bool, Some, false, is_some, true, ℕ, ◌≡◌, ◌≤◌}
 use Rattle.task_machine.specs.Core.{Core, MainPlace, Scripted, State}
 use Rattle.task_machine.specs.Maps.{get}
-use Rattle.task_machine.specs.Read.{how_far_of, is_stage_ended, place_of, stage_of, subtask_at, work_caller_of}
-use Rattle.task_machine.specs.declared.records.HowFar.TheVariants as how_far
-use Rattle.task_machine.specs.declared.records.Place.TheVariants as place
+use Rattle.task_machine.specs.Read.{subtask_at, work_caller_of}
 use Rattle.task_machine.specs.declared.records.Subtask.TheVariants as subtask
 use Rattle.task_machine.specs.declared.records.WorkCaller.{WorkCaller}
 use Rattle.task_machine.specs.declared.records.WorkCaller.TheVariants as work_caller
@@ -24,8 +22,6 @@ pub record SyncUnnamed (s : State) : Type 0 where
   pub works : (i h j : ℕ) → subtask_at i h s.core ≡ Some (subtask.Host j) → MayBeAborted s.core j
   pub spawns : (p : MainPlace) (k : ℕ) → s.main ≡ Scripted p → MayBeAborted s.core (spawned_at p k)
 
--- A call that a handle names is there. A thread inside a sync call of a host is blocked on its work or finds it ended.
-pub record EndsFound (s : State) : Type 0 where
-  pub calls : (i h k : ℕ) → subtask_at i h s.core ≡ Some (subtask.Guest k) → is_some (get s.core.calls k) ≡ true
-  pub answers : (n i : ℕ) → how_far_of n s.core ≡ how_far.Calls (subtask.Host i) →
-      (place_of n s.core ≡ Some (place.Blocked (subtask.Host i))) ⊎ (is_stage_ended (stage_of i s.core) ≡ true)
+-- a call that a handle names is there
+abbrev pub NamedCallsThere : Core → Type 0
+NamedCallsThere s = (i h k : ℕ) → subtask_at i h s ≡ Some (subtask.Guest k) → is_some (get s.calls k) ≡ true

@@ -26,7 +26,7 @@ use Rattle.task_laws.proofs.CallEnds.{EndsGo, EndsTold, ends_go, opening_ends_to
 use Rattle.task_laws.proofs.OnceLemmas.{Due, Over, EndStep, ends_once, written_over}
 use Rattle.task_laws.proofs.HostEnds.{Answered, host_step}
 use Rattle.task_laws.proofs.SceneLemmas.{base_is, runner_there}
-use Rattle.task_laws.specs.Ends.{is_sync_work, EndsFound, MayBeAborted, SyncUnnamed}
+use Rattle.task_laws.specs.Ends.{is_sync_work, NamedCallsThere, MayBeAborted, SyncUnnamed}
 use Rattle.task_laws.proofs.SyncWorks.{CallersKnown, callers_word, opening_callers}
 use Rattle.task_machine.specs.declared.records.WorkCaller.{WorkCaller}
 use Rattle.task_laws.proofs.Works.{AbortsNoSync, Doing, WorksGo, WorksHold, doing, doing_of, is_late, stage_ended, opening_works, before_step, first_works, works_word}
@@ -110,7 +110,7 @@ abbrev is_blocked : Option Place → Bool
 is_blocked (Some (place.Blocked sub)) = true
 is_blocked _ = false
 
-module _ (x : Setting) (s : State) (l : Label) (t : State) (k : Known x s) (f : EndsFound s) (step : Step x s l t) where
+module _ (x : Setting) (s : State) (l : Label) (t : State) (k : Known x s) (f : NamedCallsThere s.core) (step : Step x s l t) where
   w : Walked x s l t
   w = step_walks x s l t step
 
@@ -197,7 +197,7 @@ module _ (x : Setting) (s : State) (l : Label) (t : State) (k : Known x s) (f : 
   answered n i runner far = to_base (λ c. (v : Doing) × ((doing_of i c ≡ Some v) × ((is_sync_work v.caller ≡ true) × (is_late v.stage ≡ true)))) (at (from_base (λ c. how_far_of n c ≡ how_far.Calls (subtask.Host i)) far))
     where
       at : how_far_of n s.core ≡ how_far.Calls (subtask.Host i) → (v : Doing) × ((doing_of i s.core ≡ Some v) × ((is_sync_work v.caller ≡ true) × (is_late v.stage ≡ true)))
-      at far = ⊎_elim (λ blocked. no_way (sym (unblocked n runner) ∙ ap is_blocked blocked)) (λ ended. waited_there n i s.core (k.callers n i far) ended) (f.answers n i far)
+      at far = ⊎_elim (λ blocked. no_way (sym (unblocked n runner) ∙ ap is_blocked blocked)) (λ ended. waited_there n i s.core (k.callers n i far) ended) (k.order.awaited n i far).1
 
   holds : CallsHold x.component s.core
   holds = held_of x s k.order
@@ -205,7 +205,7 @@ module _ (x : Setting) (s : State) (l : Label) (t : State) (k : Known x s) (f : 
   found : CallsFound a
   found = record {
     own = λ n runner. to_base (λ c. is_some (get c.calls (task_of n c)) ≡ true) (let there = runner_there x s l w.next k.order.in_place n runner in grind (arith, k.order.calls_there n (task_of n s.core)));
-    named = λ j named. to_base (λ c. (i h : ℕ) → subtask_at i h c ≡ Some (subtask.Guest j) → is_some (get c.calls j) ≡ true) (λ i h e. f.calls i h j e) (instance_of named.0 a.base) named.1.0 named.1.1.1;
+    named = λ j named. to_base (λ c. (i h : ℕ) → subtask_at i h c ≡ Some (subtask.Guest j) → is_some (get c.calls j) ≡ true) (λ i h e. f i h j e) (instance_of named.0 a.base) named.1.0 named.1.1.1;
   }
 
   told_base : EndsTold a.base
