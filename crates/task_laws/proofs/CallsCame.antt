@@ -1,8 +1,8 @@
 -- What one word does to the record of a call, and to that of a thread.
-use Rattle.std.proofs.Common.{ap, arith, inl, inr, le_refl, refl, subst, sym}
-use Rattle.std.specs.Prelude.{Bool, None, Option, Some, false, is_some, option_map, true, ℕ, ◌≡◌, ◌≤◌, ◌⊎◌}
+use Rattle.std.proofs.Common.{ap, inl, inr, le_refl, refl, subst, sym}
+use Rattle.std.specs.Prelude.{None, Option, Some, false, is_some, option_map, true, ℕ, ◌≡◌, ◌≤◌, ◌⊎◌}
 use Rattle.task_laws.proofs.EachLemmas.{after_change, after_insert, after_remove}
-use Rattle.task_laws.proofs.Machine.{add_call, add_group, add_set, add_thread, add_work, after_word, Call, call_made, Callee, CallEnd, change, Core, count_work, free_handle, free_thread_handle, get, give_handle, give_result, give_thread_handle, how_far_of, HowFar, is_deletable, Join, MakeCall, MakeThread, NameCall, NameThread, new_call, next_thread, on_call, on_instance, on_thread, on_work, Place, Places, Placing, poll_pends, push_high, remove_call, remove_group, remove_set, remove_thread, remove_work, RemoveCall, RemoveThread, Scene, set_backpressure, set_cancel_delivered, set_cancelled, set_course, set_do_not_enter, set_do_not_suspend, set_end, set_event, set_exited, set_how_far, set_join, set_own_event, set_phase, set_position, set_register, set_result, set_saved_callee, set_saved_own, set_script, set_stage, set_started, set_starting_published, set_subtask_handle, set_thread_handle, set_trapped, set_uninteresting, set_word, SetCallEvent, SetCallJoin, SetCancelDelivered, SetEnd, SetExited, SetHowFar, SetOwnEvent, SetPosition, SetRegister, SetResult, SetSavedCallee, SetSavedOwn, SetScript, SetStarted, SetStartingPublished, SetUninteresting, take_result, TakeHost, TakePush, Thread, UnnameCall, with_handle, with_thread_handle, Withdraw, Word, work_queued}
+use Rattle.task_laws.proofs.Machine.{add_call, add_group, add_set, add_thread, add_work, after_word, Call, call_made, Callee, CallEnd, change, Core, count_work, free_handle, free_thread_handle, get, give_handle, give_result, give_thread_handle, how_far_of, HowFar, is_deletable, Join, MakeCall, MakeThread, NameCall, NameThread, new_call, next_thread, on_call, on_instance, on_thread, on_work, Places, Placing, poll_pends, push_high, remove_call, remove_group, remove_set, remove_thread, remove_work, RemoveCall, RemoveThread, Scene, set_backpressure, set_cancel_delivered, set_cancelled, set_course, set_do_not_enter, set_do_not_suspend, set_end, set_event, set_exited, set_how_far, set_join, set_own_event, set_phase, set_position, set_register, set_result, set_saved_callee, set_saved_own, set_script, set_stage, set_started, set_starting_published, set_subtask_handle, set_thread_handle, set_trapped, set_uninteresting, set_word, SetCallEvent, SetCallJoin, SetCancelDelivered, SetEnd, SetExited, SetHowFar, SetOwnEvent, SetPosition, SetRegister, SetResult, SetSavedCallee, SetSavedOwn, SetScript, SetStarted, SetStartingPublished, SetUninteresting, take_result, TakeHost, TakePush, Thread, UnnameCall, with_handle, with_thread_handle, Withdraw, Word, work_queued}
 use Rattle.task_laws.proofs.SceneLemmas.{popped_threads}
 use Rattle.task_machine.proofs.MapLemmas.{get-insert_same}
 use Rattle.task_machine.specs.declared.component.ExportKind.{ExportKind}
@@ -34,38 +34,6 @@ abbrev pub Grows : Scene → Word → Core → ℕ → Call → Call → Type 0
 Grows a w s k c d =
     Grew (MayStart a k s) (MayDeliver a k) (λ e. MayEnd a k e s) (λ j. MayJoin a (subtask.Guest k) j s × (w ≡ SetCallJoin k j)) c d
 
--- what is said of a call
-record Basis : Type 0 where
-  kind : ExportKind
-  callee : Callee
-  goal : Goal
-  ends : Option CallEnd
-  started : Bool
-  delivered : Bool
-  join : Join
-
-abbrev basis : Call → Basis
-basis c = record {
-  kind = c.kind;
-  callee = c.callee;
-  goal = c.goal;
-  ends = c.«end»;
-  started = c.started;
-  delivered = c.cancel_delivered;
-  join = c.join;
-}
-
--- the words on the record of a call
-data Touch (a : Scene) (w : Word) (s : Core) (k : ℕ) (c d : Call) : Type 0 where
-  Keeps : basis d ≡ basis c → Touch a w s k c d
-  Starts : MayStart a k s → basis d ≡ record (basis c) { started = true } → Touch a w s k c d
-  Ends : (e : CallEnd) → MayEnd a k e s → basis d ≡ record (basis c) { ends = Some e } → Touch a w s k c d
-  Delivers : MayDeliver a k → basis d ≡ record (basis c) { delivered = true } → Touch a w s k c d
-  Joins : (j : Join) → MayJoin a (subtask.Guest k) j s → w ≡ SetCallJoin k j → basis d ≡ record (basis c) { join = j } → Touch a w s k c d
-
-grows : {a : Scene} {w : Word} {s : Core} {k : ℕ} {c d : Call} → Touch a w s k c d → Grows a w s k c d
-grows {a = a} {w = w} {s = s} {k = k} {c = c} {d = d} g = grind arith
-
 -- What the word from s to t does to the record of the call k, from o to p.
 pub data CallCame (a : Scene) (w : Word) (s t : Core) (k : ℕ) (o p : Option Call) : Type 0 where
   Grown : (c d : Call) → o ≡ Some c → p ≡ Some d → Grows a w s k c d → CallCame a w s t k o p
@@ -79,30 +47,31 @@ CallAfter a w s k = CallCame a w s (after_word w s) k (get s.calls k) (get (afte
 module _ {a : Scene} where
   call_stays : {w : Word} {s t : Core} {k : ℕ} (o : Option Call) → CallCame a w s t k o o
   call_stays None = NoCall refl (inl refl)
-  call_stays (Some c) = Grown c c refl refl (grows (Keeps refl))
+  call_stays (Some c) = Grown c c refl refl (search inl)
 
-  call_changed : (w : Word) (j : ℕ) (f : Call → Call) (s t : Core) (k : ℕ) → ((c : Call) → Touch a w s j c (f c)) →
+  call_changed : (w : Word) (j : ℕ) (f : Call → Call) (s t : Core) (k : ℕ) → ((c : Call) → Grows a w s j c (f c)) →
       CallCame a w s t k (get s.calls k) (get (change j f s.calls) k)
-  call_changed w j f s t k touches =
-      after_change (CallCame a w s t k) s.calls j k call_stays f (λ c is e. Grown c (f c) refl refl (rw e (grows (touches c))))
+  call_changed w j f s t k grows =
+      after_change (CallCame a w s t k) s.calls j k call_stays f (λ c is e. Grown c (f c) refl refl (rw e (grows c)))
 
   pub call_came : (w : Word) (s : Core) → Allowed a w s → (k : ℕ) → CallAfter a w s k
   unfolding add_call add_group add_set add_thread add_work count_work free_handle free_thread_handle give_handle give_result give_thread_handle on_call on_instance on_thread on_work push_high remove_call remove_group remove_set remove_thread remove_work set_backpressure set_cancel_delivered set_cancelled set_course set_do_not_enter set_do_not_suspend set_end set_event set_exited set_how_far set_join set_own_event set_phase set_position set_register set_result set_saved_callee set_saved_own set_script set_stage set_started set_starting_published set_subtask_handle set_thread_handle set_trapped set_uninteresting set_word take_result call_made with_handle with_thread_handle work_queued poll_pends
   call_came (MakeCall f e x g group words) s ok k =
       after_insert (CallCame a _ s _ k) s.calls _ k call_stays _ (λ at. NewCall f e x g group at (at_most at) ok refl)
   call_came (RemoveCall j) s ok k = after_remove (CallCame a _ s _ k) s.calls j k call_stays (λ at. NoCall refl (inr (rw at ok)))
-  call_came (SetStarted j) s ok k = call_changed _ j _ s _ k (λ c. Starts ok refl)
-  call_came (SetEnd j e) s ok k = call_changed _ j _ s _ k (λ c. Ends e ok.0 refl)
-  call_came (SetCancelDelivered j) s ok k = call_changed _ j _ s _ k (λ c. Delivers ok refl)
-  call_came (SetCallJoin j x) s ok k = call_changed _ j _ s _ k (λ c. Joins x ok refl refl)
-  call_came (SetStartingPublished j) s ok k = call_changed _ j _ s _ k (λ c. Keeps refl)
-  call_came (SetOwnEvent j e) s ok k = call_changed _ j _ s _ k (λ c. Keeps refl)
-  call_came (SetExited j) s ok k = call_changed _ j _ s _ k (λ c. Keeps refl)
-  call_came (SetUninteresting j) s ok k = call_changed _ j _ s _ k (λ c. Keeps refl)
-  call_came (SetResult j v) s ok k = call_changed _ j _ s _ k (λ c. Keeps refl)
-  call_came (SetCallEvent j e) s ok k = call_changed _ j _ s _ k (λ c. Keeps refl)
-  call_came (NameCall i j) s ok k = call_changed _ j _ s _ k (λ c. Keeps refl)
-  call_came (UnnameCall i h j) s ok k = call_changed _ j _ s _ k (λ c. Keeps refl)
+  call_came (SetStarted j) s ok k = call_changed _ j _ s _ k (λ c. search (inl, inr))
+  call_came (SetEnd j e) s ok k = let ends : (v : CallEnd) × ((Some e ≡ Some v) × MayEnd a j v s) = (e, (refl, ok.0)) in
+      call_changed _ j _ s _ k (λ c. search (inl, inr))
+  call_came (SetCancelDelivered j) s ok k = call_changed _ j _ s _ k (λ c. search (inl, inr))
+  call_came (SetCallJoin j x) s ok k = call_changed _ j _ s _ k (λ c. search (inl, inr))
+  call_came (SetStartingPublished j) s ok k = call_changed _ j _ s _ k (λ c. search inl)
+  call_came (SetOwnEvent j e) s ok k = call_changed _ j _ s _ k (λ c. search inl)
+  call_came (SetExited j) s ok k = call_changed _ j _ s _ k (λ c. search inl)
+  call_came (SetUninteresting j) s ok k = call_changed _ j _ s _ k (λ c. search inl)
+  call_came (SetResult j v) s ok k = call_changed _ j _ s _ k (λ c. search inl)
+  call_came (SetCallEvent j e) s ok k = call_changed _ j _ s _ k (λ c. search inl)
+  call_came (NameCall i j) s ok k = call_changed _ j _ s _ k (λ c. search inl)
+  call_came (UnnameCall i h j) s ok k = call_changed _ j _ s _ k (λ c. search inl)
   call_came w s ok k = call_stays (get s.calls k)
 
 -- ---- Threads
@@ -125,25 +94,14 @@ pub data ThreadCame (a : Scene) (w : Word) (s t : Core) (n : ℕ) (o p : Option 
 abbrev pub ThreadAfter : Scene → Word → Core → ℕ → Type 0
 ThreadAfter a w s n = ThreadCame a w s (after_word w s) n (get s.threads n) (get (after_word w s).threads n)
 
--- what is said of a thread
-record Role : Type 0 where
-  call : ℕ
-  explicit : Bool
-  how_far : HowFar
-  place : Place
-
-abbrev role : Thread → Role
-role t = record { call = t.call; explicit = t.explicit; how_far = t.how_far; place = t.place }
-
 module _ {a : Scene} where
   thread_stays : {w : Word} {s t : Core} {n : ℕ} (o : Option Thread) → ThreadCame a w s t n o o
   thread_stays None = IsGone refl
   thread_stays (Some r) = IsSame r r refl refl refl refl (inl refl) (inl refl)
 
-  thread_changed : (w : Word) (j : ℕ) (f : Thread → Thread) (s t : Core) (n : ℕ) → ((r : Thread) → role (f r) ≡ role r) →
+  thread_changed : (w : Word) (j : ℕ) (f : Thread → Thread) (s t : Core) (n : ℕ) → ((r : Thread) → ThreadCame a w s t n (Some r) (Some (f r))) →
       ThreadCame a w s t n (get s.threads n) (get (change j f s.threads) n)
-  thread_changed w j f s t n same = after_change (ThreadCame a w s t n) s.threads j n thread_stays f (λ r is e. let h = same r in
-      IsSame r (f r) refl refl (ap (λ x. x.call) h) (ap (λ x. x.explicit) h) (inl (ap (λ x. x.how_far) h)) (inl (ap (λ x. x.place) h)))
+  thread_changed w j f s t n own = after_change (ThreadCame a w s t n) s.threads j n thread_stays f (λ r is e. own r)
 
   thread_moved : (w : Word) (x : Placing) (s t : Core) (n : ℕ) (o p : Option Thread) → w ≡ Places x →
       option_map unplaced p ≡ option_map unplaced o → ThreadCame a w s t n o p
@@ -166,12 +124,12 @@ module _ {a : Scene} where
       (λ at. IsFirst _ at (at_most at) (rw at (rw get-insert_same refl)) refl (sym at) refl refl refl)
   thread_came (RemoveThread j) s ok n = after_remove (ThreadCame a _ s _ n) s.threads j n thread_stays (λ at. IsGone refl)
   thread_came (Withdraw j) s ok n = after_remove (ThreadCame a _ s _ n) s.threads j n thread_stays (λ at. IsGone refl)
-  thread_came (SetRegister j r v) s ok n = thread_changed _ j _ s _ n (λ t. refl)
-  thread_came (SetPosition j p) s ok n = thread_changed _ j _ s _ n (λ t. refl)
-  thread_came (SetScript j x) s ok n = thread_changed _ j _ s _ n (λ t. refl)
-  thread_came (SetSavedOwn j b) s ok n = thread_changed _ j _ s _ n (λ t. refl)
-  thread_came (SetSavedCallee j b) s ok n = thread_changed _ j _ s _ n (λ t. refl)
-  thread_came (NameThread i j) s ok n = thread_changed _ j _ s _ n (λ t. refl)
+  thread_came (SetRegister j r v) s ok n = thread_changed _ j _ s _ n (λ r. IsSame r _ refl refl refl refl (inl refl) (inl refl))
+  thread_came (SetPosition j p) s ok n = thread_changed _ j _ s _ n (λ r. IsSame r _ refl refl refl refl (inl refl) (inl refl))
+  thread_came (SetScript j x) s ok n = thread_changed _ j _ s _ n (λ r. IsSame r _ refl refl refl refl (inl refl) (inl refl))
+  thread_came (SetSavedOwn j b) s ok n = thread_changed _ j _ s _ n (λ r. IsSame r _ refl refl refl refl (inl refl) (inl refl))
+  thread_came (SetSavedCallee j b) s ok n = thread_changed _ j _ s _ n (λ r. IsSame r _ refl refl refl refl (inl refl) (inl refl))
+  thread_came (NameThread i j) s ok n = thread_changed _ j _ s _ n (λ r. IsSame r _ refl refl refl refl (inl refl) (inl refl))
   thread_came w s ok n = thread_stays (get s.threads n)
 
 -- what is read of how far the thread's op has come, but nothing of an op that begins, was so before, or comes so now

@@ -1,13 +1,13 @@
 -- Calls along the words of a step: a status only rises, an end stays, numbers name what they named, deliveries are for callbacks.
-use Rattle.std.proofs.Common.{arith, inl, inr, ⊎_elim}
+use Rattle.std.proofs.Common.{arith, ⊎_elim}
 use Rattle.std.specs.Option.{option_map_or}
-use Rattle.std.specs.Prelude.{Bool, List, None, Option, Some, false, is_none, is_some, slice_get, true, unwrap_or, ℕ, ◌≡◌, ◌≤◌, ◌⊎◌}
+use Rattle.std.specs.Prelude.{Bool, None, Option, Some, false, is_none, is_some, slice_get, true, unwrap_or, ℕ, ◌≡◌, ◌≤◌, ◌⊎◌}
 use Rattle.task_laws.proofs.CallsCame.{Grew, Grows}
 use Rattle.task_laws.proofs.CameLemmas.{Came, Comes, Moved, Shifts, Turned, Turns, MayStand}
-use Rattle.task_laws.proofs.Machine.{Call, Callee, CallEnd, component_of, Core, get, goal_of, has_ended, is_async_lifted, is_callback, is_direct, is_explicit, Join, kind_of, Op, Place, place_of, Scene, task_of, Why, Word}
+use Rattle.task_laws.proofs.Machine.{Call, Callee, CallEnd, component_of, Core, get, goal_of, has_ended, is_async_lifted, is_callback, is_direct, is_explicit, Join, kind_of, Place, place_of, Scene, task_of, Why, Word}
 use Rattle.task_laws.specs.Order.{CallKinds, DeliveredByCallback, Numbered, is_delivered, is_delivery}
 use Rattle.task_laws.specs.Rises.{Rises}
-use Rattle.task_laws.specs.Settings.{CodesInCallbacks, HasNoCode}
+use Rattle.task_laws.specs.Settings.{CodesInCallbacks}
 use Rattle.task_machine.specs.declared.component.Component.{Component}
 use Rattle.task_machine.specs.declared.op.Op.TheVariants as op
 use Rattle.task_machine.specs.declared.op.TaskOp.TheVariants as task_op
@@ -83,13 +83,10 @@ delivered_in o = option_map_or (λ p. is_delivered p) o false
 
 -- ---- Scripts
 
-no_code : (ops : List Op) (p : ℕ) → HasNoCode ops → ends_activation (unwrap_or (slice_get ops p) (op.Task task_op.Exit)) ≡ false
-no_code ops p h = grind (arith, h p)
-
 -- a script that isn't of a callback export has no op that ends an activation
 script_no_code : {c : Component} → CodesInCallbacks c → (f : Callee) → is_callback (export_kind c f) ≡ false → (x : Script) (p : ℕ) →
     ends_activation (unwrap_or (slice_get (script_in c f x) p) (op.Task task_op.Exit)) ≡ false
-script_no_code {c = c} codes f plain x p = grind (arith, no_code, codes.starts f, codes.reacts f, codes.slots f.instance)
+script_no_code {c = c} codes f plain x p = grind (arith, codes.starts f, codes.reacts f, codes.slots f.instance)
 
 -- who ends an activation is of a callback export
 code_callback : {c : Component} → CodesInCallbacks c → (n : ℕ) (s : Core) → CallsHold c s → ends_activation (op_of c n s) ≡ true →
@@ -169,10 +166,8 @@ module _ (a : Scene) (codes : CodesInCallbacks (component_of a)) (h : CallsHold 
 
     pub place_delivers : (t : Core) (n : ℕ) (o p : Option Place) → o ≡ place_of n s → Came a s t n o p → delivered_in p ≡ true →
         (is_some o ≡ true) × IsCallback n s
-    place_delivers t n o p is (Shifts m) d = let from = shifted_delivers (MayStand a s n) o p m d in (from.0, go from.1)
-      where
-        go : (delivered_in o ≡ true) ⊎ ((w : Why) × (MayStand a s n w × (is_delivery w ≡ true))) → IsCallback n s
-        go (inl e) = delivered_place n (rw is at e)
-        go (inr e) = ⊎_elim (delivered_place n) (λ c. c) (stand_delivers n e.0 e.1.0 e.1.1)
+    place_delivers t n o p is (Shifts m) d = let from = shifted_delivers (MayStand a s n) o p m d in
+        let stood = λ (e : (w : Why) × (MayStand a s n w × (is_delivery w ≡ true))). stand_delivers n e.0 e.1.0 e.1.1 in
+        (from.0, ⊎_elim (λ e. delivered_place n (rw is at e)) (λ e. ⊎_elim (delivered_place n) (λ c. c) (stood e)) from.1)
     place_delivers t n o p is (Comes r ok e there) d = (there, move_delivers n r ok (rw e at d))
     place_delivers t n o p is (Turns x) d = absurd (turned_silent x d)

@@ -104,6 +104,13 @@ of_base P u s p = rw (base_is u s) p
 pub base_out : (P : Core → Type 0) (u : Turn) (s : Core) → P (base_at u s) → P (record s { queues = (base_at u s).queues })
 base_out P u s p = subst P (base_is u s) p
 
+-- the scene in which the row reads what is beside the marks as it was before the step; what is so of the step's scene is so of it
+abbrev pub plain_scene : Setting → State → Label → Turn → Scene
+plain_scene x s l next = record (scene_of x s l next) { base = record s.core { queues = (base_at s.turn s.core).queues } }
+
+pub plain : (x : Setting) (s : State) (l : Label) (next : Turn) (R : Scene → Type 0) → R (scene_of x s l next) → R (plain_scene x s l next)
+plain x s l next R r = base_out (λ b. R (record (scene_of x s l next) { base = b })) s.turn s.core r
+
 -- from the state s on the row reads a core with its calls and threads
 begins : (c : Component) (q : Queues) (s : Core) → CallsHold c s → CallsHold c (record s { queues = q })
 begins c q s p = record {

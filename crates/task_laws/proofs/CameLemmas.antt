@@ -1,10 +1,10 @@
 -- What one word does to the place of a thread.
-use Rattle.std.proofs.Common.{ap, arith, cond, inl, inr, refl, sym, ◌∙◌}
+use Rattle.std.proofs.Common.{ap, arith, inl, inr, refl, sym, ◌∙◌}
 use Rattle.std.proofs.lemmas.Bool.Decides.{nat_tests}
 use Rattle.std.specs.Prelude.{List, None, Option, Some, [], is_some, option_map, true, ℕ, ◌∷◌, ◌≡◌, ◌≤◌, ◌⊎◌}
 use Rattle.task_laws.proofs.CallsCame.{IsBeside, IsFirst, IsGone, IsSame, ThreadAfter, thread_came}
-use Rattle.task_laws.proofs.EachLemmas.{at_test}
-use Rattle.task_laws.proofs.Machine.{after_word, behind, behind_one, callers_of, Core, displaced, Enter, foot_of, GoBehind, insert, Mark, Move, newest, next_thread, older, on_thread, passed_on, Place, place_of, Places, Placing, Pop, Promote, promoted, push_high, push_high_first, push_low, Put, put_at, put_high, put_low, put_switch, resumed_all, resumed_callers, Scene, set_callers, set_high, set_low, set_place, set_switch, stand, Stop, stopped, Thread, unqueued, Why, why_of, Word}
+use Rattle.task_laws.proofs.EachLemmas.{after_change}
+use Rattle.task_laws.proofs.Machine.{after_word, behind, behind_one, callers_of, Core, displaced, Enter, foot_of, GoBehind, insert, Mark, Move, newest, next_thread, older, on_thread, passed_on, Place, place_of, Places, Placing, Pop, Promote, promoted, push_high, push_high_first, push_low, Put, put_at, put_high, put_low, put_switch, resumed_all, Scene, set_callers, set_high, set_low, set_place, set_switch, stand, Stop, stopped, Thread, unqueued, Why, why_of, Word}
 use Rattle.task_laws.proofs.SceneLemmas.{popped_threads}
 use Rattle.task_machine.proofs.MapLemmas.{change-field}
 use Rattle.task_machine.specs.declared.records.Place.TheVariants as place
@@ -94,15 +94,11 @@ module _ (may : ℕ → Why → Type 0) where
     resumed_shifted (n ∷ ns) s = let m = put_high n why.Resumption s in
         shifted_after s m (resumed_all ns m) (put_shifted mark.High n why.Resumption s (resumes n)) (resumed_shifted ns m)
 
-    callers_shifted : (ns : List ℕ) (s : Core) → Shifted s (resumed_callers ns s)
-    callers_shifted [] s = λ k. moved_same k _
-    callers_shifted (n ∷ ns) s = let i = newest n ns in let m = put_switch i why.Resumption s in
-        let ms = older n ns in
-        shifted_after s m (resumed_all ms m) (put_shifted mark.Switch i why.Resumption s (resumes i)) (resumed_shifted ms m)
-
     passed_shifted : (o : Option ℕ) (ns : List ℕ) (s : Core) → Shifted s (passed_on o ns s)
     passed_shifted (Some m) ns s = all_behind_shifted (foot_of m s) ns s
-    passed_shifted None ns s = callers_shifted ns s
+    passed_shifted None [] s = λ k. moved_same k _
+    passed_shifted None (n ∷ ns) s = let i = newest n ns in let m = put_switch i why.Resumption s in let ms = older n ns in
+        shifted_after s m (resumed_all ms m) (put_shifted mark.Switch i why.Resumption s (resumes i)) (resumed_shifted ms m)
 
     stopped_shifted : (f : ℕ) (s : Core) → Shifted s (stopped f s)
     unfolding stopped set_callers
@@ -131,15 +127,14 @@ pub data Came (a : Scene) (s t : Core) (k : ℕ) (o p : Option Place) : Type 0 w
 abbrev pub PlaceAfter : Scene → Word → Core → ℕ → Type 0
 PlaceAfter a w s k = Came a s (after_word w s) k (place_of k s) (place_of k (after_word w s))
 
+abbrev place_in : Option Thread → Option Place
+place_in o = option_map (λ (t : Thread). t.place) o
+
 after_set : (k n : ℕ) (r : Place) (s : Core) (P : Option Place → Type 0) → P (place_of k s) →
     (k ≡ n → is_some (place_of k s) ≡ true → P (Some r)) → P (place_of k (set_place n r s))
-after_set k n r s P stays comes =
-    let o = place_of k s in
-    rw set_place_is (at_test k n (λ b. P (cond b (option_map (λ (q : Place). r) o) o)) (λ e. go o refl e) stays)
-  where
-    go : (o : Option Place) → place_of k s ≡ o → k ≡ n → P (option_map (λ (q : Place). r) o)
-    go None is e = rw is at stays
-    go (Some q) is e = comes e (ap (λ (o : Option Place). is_some o) is)
+unfolding set_place on_thread
+after_set k n r s P stays comes = after_change (λ o p. P (place_in o) → P (place_in p)) s.threads n k (λ o h. h) _
+    (λ t is e h. comes e (ap (λ o. is_some (place_in o)) is)) stays
 
 module _ {a : Scene} where
   stays : {s t : Core} {k : ℕ} (o : Option Place) → Came a s t k o o

@@ -27,3 +27,10 @@ unfolding add_call add_group add_set add_thread add_work count_work free_handle 
 made_threads_word a (MakeThread t) s = grows _
 made_threads_word a (MakeCall f e x g group words) s = grows _
 made_threads_word a w s = le_refl _
+
+-- nor that of works
+pub made_works_word : (a : Scene) (w : Word) (s : Core) → s.made.works ≤ (after_word w s).made.works
+unfolding add_call add_group add_set add_thread add_work count_work free_handle free_thread_handle give_handle give_result give_thread_handle on_call on_instance on_thread on_work push_high remove_call remove_group remove_set remove_thread remove_work set_backpressure set_cancel_delivered set_cancelled set_course set_do_not_enter set_do_not_suspend set_end set_event set_exited set_how_far set_join set_own_event set_phase set_position set_register set_result set_saved_callee set_saved_own set_script set_stage set_started set_starting_published set_subtask_handle set_thread_handle set_trapped set_uninteresting set_word take_result call_made with_handle with_thread_handle work_queued poll_pends
+made_works_word a CountWork s = grows _
+made_works_word a (QueueWork f host group) s = grows _
+made_works_word a w s = le_refl _

@@ -7,18 +7,15 @@ use Rattle.std.specs.FinMap.Entries.{find}
 use Rattle.std.specs.List.{list_any}
 use Rattle.std.specs.Option.{option_map_or}
 use Rattle.std.specs.Ordering.{nat_cmp}
-use Rattle.std.specs.Prelude.{Bool, List, None, Option, Some, [], false, is_some, map, option_and_then, true, ℕ, ◌+◌, ◌∷◌, ◌≡◌, ◌≤◌, ◌⊎◌}
+use Rattle.std.specs.Prelude.{Bool, List, None, Option, Some, [], false, is_some, map, true, ℕ, ◌∷◌, ◌≡◌, ◌≤◌, ◌⊎◌}
 use Rattle.task_laws.proofs.CallsCame.{CallAfter, Grown, NewCall, NoCall, call_came}
 use Rattle.task_laws.proofs.EachLemmas.{each_change, each_get, each_of}
 use Rattle.task_laws.proofs.HandleTables.{giving_kept, next_dead, taking_kept}
-use Rattle.task_laws.proofs.Machine.{add_call, add_group, add_set, add_thread, add_work, after_word, as_set, as_subtask, Call, call_made, change, CloseSet, Core, count_work, EndWork, FinishWork, free_handle, free_thread_handle, fresh, get, get-empty, get-insert, get-remove, give_handle, give_result, give_thread_handle, giving, has_member, insert, instance_of, is_joined, is_member, Join, join_of, NameCall, Named, named_by, NameWork, new_work, next_handle, no_handles, numbers, on_call, on_instance, on_thread, on_work, OpenSet, Pend, poll_pends, push_high, QueueWork, Records, remove, remove_call, remove_group, remove_set, remove_thread, remove_work, RemoveWork, Scene, Set, set_backpressure, set_cancel_delivered, set_cancelled, set_course, set_do_not_enter, set_do_not_suspend, set_end, set_event, set_exited, set_how_far, set_join, set_own_event, set_phase, set_position, set_register, set_result, set_saved_callee, set_saved_own, set_script, set_stage, set_started, set_starting_published, set_subtask_handle, set_thread_handle, set_trapped, set_uninteresting, set_word, SetCallJoin, SetCancelled, SetPhase, SetWorkEvent, SetWorkJoin, Subtask, subtask_at, Table, take_result, TakeHost, TakePush, taking, UnnameCall, UnnameWork, with_handle, with_thread_handle, Word, work_queued}
+use Rattle.task_laws.proofs.Machine.{add_call, add_group, add_set, add_thread, add_work, after_word, Call, call_made, change, CloseSet, Core, count_work, EndWork, FinishWork, free_handle, free_thread_handle, fresh, get, get-empty, get-insert, get-remove, give_handle, give_result, give_thread_handle, giving, has_member, instance_of, is_joined, is_member, Join, join_of, NameCall, Named, named_by, NameWork, next_handle, no_handles, numbers, on_call, on_instance, on_thread, on_work, OpenSet, Pend, poll_pends, push_high, QueueWork, Records, remove_call, remove_group, remove_set, remove_thread, remove_work, RemoveWork, Scene, Set, set_backpressure, set_cancel_delivered, set_cancelled, set_course, set_do_not_enter, set_do_not_suspend, set_end, set_event, set_exited, set_how_far, set_join, set_own_event, set_phase, set_position, set_register, set_result, set_saved_callee, set_saved_own, set_script, set_stage, set_started, set_starting_published, set_subtask_handle, set_thread_handle, set_trapped, set_uninteresting, set_word, SetCallJoin, SetCancelled, SetPhase, TakeWorkEvent, SetWorkJoin, Subtask, subtask_at, Table, take_result, TakeHost, TakePush, taking, UnnameCall, UnnameWork, with_handle, with_thread_handle, Word, work_queued}
 use Rattle.task_laws.proofs.ReachLemmas.{filled_with}
 use Rattle.task_laws.proofs.SetHandles.{home_in, subtask_in}
 use Rattle.task_laws.specs.Order.{JoinNamed, JoinsNamed, SetsNamed, TableKept}
 use Rattle.task_machine.proofs.CommuteLemmas.{get-change}
-use Rattle.task_machine.specs.declared.records.Course.{Course}
-use Rattle.task_machine.specs.declared.records.Stage.{Stage}
-use Rattle.task_machine.specs.declared.words.Phase.TheVariants as phase
 use Rattle.task_machine.specs.declared.records.Join.TheVariants as join
 use Rattle.task_machine.specs.declared.records.Named.TheVariants as named
 use Rattle.task_machine.specs.declared.records.Subtask.TheVariants as subtask
@@ -37,24 +34,6 @@ module _ (tables : Records (Table Named)) (i : ℕ) where
       (j : ℕ) (t : Table Named) → get (change i f tables) j ≡ Some t → TableKept t
   tables_changed f own kept =
       each_get EachKept (change i f tables) (each_change EachKept tables i f (each_of EachKept tables kept) own)
-
-  -- what was named stays named as another handle is given
-  given_stays : (nm : Named) (j g : ℕ) (sub : Subtask) → ((t : Table Named) → get tables i ≡ Some t → TableKept t) →
-      subtask_in tables j g ≡ Some sub → subtask_in (change i (giving nm) tables) j g ≡ Some sub
-  given_stays nm j g sub kept e =
-      let dead : (t : Table Named) → get tables i ≡ Some t → get t.live (next_handle t t.freed) ≡ None = λ t at. next_dead t (kept t at) in
-      grind (arith, nat_tests, get-change, get-insert)
-
-  -- or as one that isn't it is taken back
-  freed_stays : (h j g : ℕ) (sub : Subtask) → (j ≡ i → g ≡ h → ⊥) →
-      subtask_in tables j g ≡ Some sub → subtask_in (change i (taking h) tables) j g ≡ Some sub
-  freed_stays h j g sub other e = grind (arith, nat_tests, get-change, get-remove)
-
-names_subtask : (o : Option Named) (sub : Subtask) → option_and_then as_subtask o ≡ Some sub → o ≡ Some (named.Subtask sub)
-names_subtask o sub h = grind arith
-
-names_set : (o : Option Named) (x : ℕ) → option_and_then as_set o ≡ Some x → o ≡ Some (named.Set x)
-names_set o x h = grind arith
 
 -- ---- Members
 
@@ -76,26 +55,9 @@ member_of (subtask.Host i) x s h =
 abbrev work_join : Option Work → Join
 work_join o = option_map_or (λ (w : Work). w.join) o join.Nowhere
 
-module _ (works : Records Work) (k n x : ℕ) where
-  still_joined : (f : Work → Work) → ((w : Work) → (f w).join ≡ w.join) → work_join (get (change n f works) k) ≡ join.Set x →
-      work_join (get works k) ≡ join.Set x
-  still_joined f same h = grind (arith, nat_tests, get-change, same)
-
-  queued_unjoined : (v : Work) → v.join ≡ join.Nowhere → work_join (get (insert works n v) k) ≡ join.Set x →
-      work_join (get works k) ≡ join.Set x
-  queued_unjoined v new h = grind (arith, nat_tests, get-insert)
-
-  settled_joined : (c : Course) (y : Stage) → work_join (get (change n (λ w. record w { stage = y }) (change n
-      (λ w. record w { phase = phase.Complete }) (change n (λ w. record w { course = c }) works))) k) ≡ join.Set x →
-      work_join (get works k) ≡ join.Set x
-  settled_joined c y h = grind (arith, nat_tests, get-change)
-
-  left_joined : work_join (get (remove works n) k) ≡ join.Set x → work_join (get works k) ≡ join.Set x
-  left_joined h = grind (arith, nat_tests, get-remove)
-
-  joined : (j : Join) → work_join (get (change n (λ w. record w { join = j }) works) k) ≡ join.Set x →
-      (work_join (get works k) ≡ join.Set x) ⊎ ((k ≡ n) × (j ≡ join.Set x))
-  joined j h = grind (arith, nat_tests, get-change)
+joined : (works : Records Work) (k n x : ℕ) (j : Join) → work_join (get (change n (λ w. record w { join = j }) works) k) ≡ join.Set x →
+    (work_join (get works k) ≡ join.Set x) ⊎ ((k ≡ n) × (j ≡ join.Set x))
+joined works k n x j h = grind (arith, nat_tests, get-change)
 
 module _ (a : Scene) (w : Word) (s : Core) where
   -- the word joins the subtask to the set, and leaves handles and sets
@@ -122,20 +84,20 @@ moved_join a s n k x j same to m = rw same (rw to at m)
 host_joined : (a : Scene) (w : Word) (s : Core) → Allowed a w s → (k x : ℕ) → join_of (subtask.Host k) (after_word w s) ≡ join.Set x →
     (join_of (subtask.Host k) s ≡ join.Set x) ⊎ Joins a w s (subtask.Host k) x
 unfolding on_thread add_group add_set add_work count_work free_handle free_thread_handle give_handle give_result give_thread_handle on_call on_instance on_work push_high remove_call remove_group remove_set remove_work remove_thread set_backpressure set_cancel_delivered set_cancelled set_course set_do_not_enter set_do_not_suspend set_end set_event set_exited set_how_far set_join set_own_event set_phase set_position set_register set_result set_saved_callee set_saved_own set_script set_stage set_started set_starting_published set_subtask_handle set_thread_handle set_trapped set_uninteresting set_word take_result call_made add_call add_thread with_handle with_thread_handle work_queued poll_pends
-host_joined a (QueueWork f host group) s ok k x h = inl (queued_unjoined s.works k _ x (new_work f host group) refl h)
-host_joined a (RemoveWork n) s ok k x h = inl (left_joined s.works k n x h)
+host_joined a (QueueWork f host group) s ok k x h = inl (grind (arith, nat_tests, get-insert))
+host_joined a (RemoveWork n) s ok k x h = inl (grind (arith, nat_tests, get-remove))
 host_joined a (SetWorkJoin n j) s ok k x h =
     ⊎_elim (λ e. inl e) (λ e. inr (moved_join a s n k x j e.0 e.1 ok, (refl, refl))) (joined s.works k n x j h)
-host_joined a (TakePush m i) s ok k x h = inl (still_joined _ k i x _ (λ w. refl) h)
-host_joined a (TakeHost m i) s ok k x h = inl (still_joined _ k i x _ (λ w. refl) h)
-host_joined a (Pend i host) s ok k x h = inl (still_joined _ k i x _ (λ w. refl) h)
-host_joined a (EndWork i c) s ok k x h = inl (settled_joined s.works k i x c _ h)
-host_joined a (FinishWork i c) s ok k x h = inl (settled_joined s.works k i x c _ h)
-host_joined a (SetPhase i p) s ok k x h = inl (still_joined _ k i x _ (λ w. refl) h)
-host_joined a (SetCancelled i) s ok k x h = inl (still_joined _ k i x _ (λ w. refl) h)
-host_joined a (SetWorkEvent i e) s ok k x h = inl (still_joined _ k i x _ (λ w. refl) h)
-host_joined a (NameWork i n) s ok k x h = inl (still_joined _ k n x _ (λ w. refl) h)
-host_joined a (UnnameWork i g n) s ok k x h = inl (still_joined _ k n x _ (λ w. refl) h)
+host_joined a (TakePush m i) s ok k x h = inl (grind (arith, nat_tests, get-change))
+host_joined a (TakeHost m i) s ok k x h = inl (grind (arith, nat_tests, get-change))
+host_joined a (Pend i host) s ok k x h = inl (grind (arith, nat_tests, get-change))
+host_joined a (EndWork i c) s ok k x h = inl (grind (arith, nat_tests, get-change))
+host_joined a (FinishWork i c) s ok k x h = inl (grind (arith, nat_tests, get-change))
+host_joined a (SetPhase i p) s ok k x h = inl (grind (arith, nat_tests, get-change))
+host_joined a (SetCancelled i) s ok k x h = inl (grind (arith, nat_tests, get-change))
+host_joined a (TakeWorkEvent i) s ok k x h = inl (grind (arith, nat_tests, get-change))
+host_joined a (NameWork i n) s ok k x h = inl (grind (arith, nat_tests, get-change))
+host_joined a (UnnameWork i g n) s ok k x h = inl (grind (arith, nat_tests, get-change))
 host_joined a w s ok k x h = inl h
 
 -- ---- The law
@@ -154,7 +116,9 @@ module _ (a : Scene) (s : Core) (q : JoinsNamed s) where
   given_kept : (j : ℕ) (nm : Named) → HandlesKept s (change j (giving nm) s.handles)
   given_kept j nm = record {
     tables = tables_changed s.handles j (giving nm) (λ t e. giving_kept nm t) q.tables;
-    names = λ sub x i h at e. given_stays s.handles j nm i h sub (q.tables j) e;
+    names = λ sub x i h to e.
+        let dead : (t : Table Named) → get s.handles j ≡ Some t → get t.live (next_handle t t.freed) ≡ None = λ t at. next_dead t (q.tables j t at) in
+        grind (arith, nat_tests, get-change, get-insert);
   }
 
   -- the handle that is taken back names none that is joined to a set
@@ -162,16 +126,13 @@ module _ (a : Scene) (s : Core) (q : JoinsNamed s) where
       ((sub : Subtask) (x : ℕ) → join_of sub s ≡ join.Set x → nm ≡ named.Subtask sub → ⊥) → HandlesKept s (change j (taking g) s.handles)
   freed_kept j g nm at unjoined = record {
     tables = tables_changed s.handles j (taking g) (λ t e. taking_kept g t nm (cc)) q.tables;
-    names = λ sub x i h to e. freed_stays s.handles j g i h sub (λ same again. unjoined sub x to (one sub i h e same again)) e;
+    names = λ sub x i h to e. let other = unjoined sub x to in grind (arith, nat_tests, get-change, get-remove);
   }
-    where
-      one : (sub : Subtask) (i h : ℕ) → subtask_at i h s ≡ Some sub → i ≡ j → h ≡ g → nm ≡ named.Subtask sub
-      one sub i h e same again = grind arith
 
   unnamed_kept : (j g : ℕ) (sub : Subtask) → subtask_at j g s ≡ Some sub → is_joined (join_of sub s) ≡ false →
       HandlesKept s (change j (taking g) s.handles)
-  unnamed_kept j g sub at unjoined = freed_kept j g (named.Subtask sub) (names_subtask (named_by s.handles j g) sub at)
-      (λ other x to is. let same : sub ≡ other = cc in absurd (cc))
+  unnamed_kept j g sub at unjoined =
+      freed_kept j g (named.Subtask sub) (grind arith) (λ other x to is. let same : sub ≡ other = cc in absurd (cc))
 
   handles_word : (w : Word) → Allowed a w s → HandlesKept s (after_word w s).handles
   unfolding on_thread add_group add_set add_work count_work free_handle free_thread_handle give_handle give_result give_thread_handle on_call on_instance on_work push_high remove_call remove_group remove_set remove_work remove_thread set_backpressure set_cancel_delivered set_cancelled set_course set_do_not_enter set_do_not_suspend set_end set_event set_exited set_how_far set_join set_own_event set_phase set_position set_register set_result set_saved_callee set_saved_own set_script set_stage set_started set_starting_published set_subtask_handle set_thread_handle set_trapped set_uninteresting set_word take_result call_made add_call add_thread with_handle with_thread_handle work_queued poll_pends
@@ -180,25 +141,19 @@ module _ (a : Scene) (s : Core) (q : JoinsNamed s) where
   handles_word (OpenSet j) ok = given_kept j _
   handles_word (UnnameCall j g k) ok = unnamed_kept j g _ ok.1.1.1.0 ok.1.1.1.1
   handles_word (UnnameWork j g k) ok = unnamed_kept j g _ ok.1.1.1.0 ok.1.1.1.1
-  handles_word (CloseSet j g y) ok = freed_kept j g (named.Set y) (names_set (named_by s.handles j g) y ok.0) (λ sub x to is. absurd (cc))
+  handles_word (CloseSet j g y) ok = freed_kept j g (named.Set y) (grind arith) (λ sub x to is. absurd (cc))
   handles_word w ok = record { tables = q.tables; names = λ sub x i h at e. e }
-
-  opened_kept : (j : ℕ) → SetsKept s (insert s.sets (s.made.sets + 1) (record { instance = j })) (s.made.sets + 1)
-  opened_kept j = record {
-    numbers = λ x h. grind (arith, nat_tests, get-insert, q.sets x);
-    homes = λ sub x i at home. grind (arith, nat_tests, get-insert, q.sets x);
-  }
-
-  closed_kept : (y : ℕ) → has_member y s ≡ false → SetsKept s (remove s.sets y) s.made.sets
-  closed_kept y empty = record {
-    numbers = λ x h. grind (arith, nat_tests, get-remove, q.sets x);
-    homes = λ sub x i at home. let member = member_of sub x s at in grind (arith, nat_tests, get-remove);
-  }
 
   sets_word : (w : Word) → Allowed a w s → SetsKept s (after_word w s).sets (after_word w s).made.sets
   unfolding on_thread add_group add_set add_work count_work free_handle free_thread_handle give_handle give_result give_thread_handle on_call on_instance on_work push_high remove_call remove_group remove_set remove_work remove_thread set_backpressure set_cancel_delivered set_cancelled set_course set_do_not_enter set_do_not_suspend set_end set_event set_exited set_how_far set_join set_own_event set_phase set_position set_register set_result set_saved_callee set_saved_own set_script set_stage set_started set_starting_published set_subtask_handle set_thread_handle set_trapped set_uninteresting set_word take_result call_made add_call add_thread with_handle with_thread_handle work_queued poll_pends
-  sets_word (OpenSet j) ok = opened_kept j
-  sets_word (CloseSet j g y) ok = closed_kept y ok.1.1.0
+  sets_word (OpenSet j) ok = record {
+    numbers = λ x h. grind (arith, nat_tests, get-insert, q.sets x);
+    homes = λ sub x i at home. grind (arith, nat_tests, get-insert, q.sets x);
+  }
+  sets_word (CloseSet j g y) ok = record {
+    numbers = λ x h. grind (arith, nat_tests, get-remove, q.sets x);
+    homes = λ sub x i at home. let member = member_of sub x s at in grind (arith, nat_tests, get-remove);
+  }
   sets_word w ok = record { numbers = q.sets; homes = λ sub x i at home. home }
 
   module _ (tidy : SetsNamed s) (w : Word) (ok : Allowed a w s) where

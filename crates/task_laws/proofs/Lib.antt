@@ -2,7 +2,6 @@ pub mod Machine
 pub mod Basics
 pub mod EachLemmas
 pub mod ReachLemmas
-pub mod HostWorks
 pub mod SetHandles
 pub mod CameLemmas
 pub mod StrandLemmas
@@ -17,6 +16,12 @@ pub mod CallsCame
 pub mod CallsLaw
 pub mod CallsSteps
 pub mod OneHolder
-pub mod WrittenLemmas
-pub mod OnceLemmas
+pub mod PolledWorks
+pub mod Works
+pub mod SaidEnds
 pub mod CallEnds
+pub mod OnceLemmas
+pub mod HostEnds
+pub mod GuestEnds
+pub mod WrittenLaws
+pub mod NamedWorks

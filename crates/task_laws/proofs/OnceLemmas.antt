@@ -1,22 +1,30 @@
 -- From facts of each step to all that is once in a run.
+use Rattle.std.proofs.lemmas.Bool.Decides.{nat_tests}
+use Rattle.task_machine.specs.declared.words.Status.{Status}
+use Rattle.task_machine.specs.Maps.{get}
+use Rattle.task_rules.specs.Takes.{host_status}
+use Rattle.task_rules.specs.Works.{has_end}
+use Rattle.task_rules.specs.Chains.{is_over}
+use Rattle.task_laws.proofs.Works.{Doing, doing_of, is_due}
 use Rattle.task_laws.proofs.Basics.{same_number, true_is_not_false}
-use Rattle.std.proofs.Common.{T, ap, arith, inl, inr, refl, subst, sym, ◌∙◌, eqb→eq}
+use Rattle.std.proofs.Common.{ap, arith, inl, inr, refl, subst, sym, ◌∙◌}
 use Rattle.std.proofs.lemmas.List.Recursion.{is_count_by}
 use Rattle.std.specs.List.{list_any}
-use Rattle.std.specs.Prelude.{Bool, List, None, Option, Some, [], count_by, false, if◌then◌else◌, true, ℕ, ◌&&◌, ◌+◌, ◌==◌, ◌||◌, ◌∷◌, ◌≡◌, ◌≤◌, ◌⊎◌}
+use Rattle.std.specs.Prelude.{Bool, List, None, Option, Some, [], count_by, false, if◌then◌else◌, true, ℕ, ◌&&◌, ◌+◌, ◌==◌, ◌||◌, ◌∷◌, ◌≡◌, ◌≤◌, ◌⊎◌, is_some}
 use Rattle.task_machine.specs.declared.component.Component.{Component}
 use Rattle.task_machine.specs.declared.label.Label.{Label}
 use Rattle.task_machine.specs.declared.records.Subtask.{Subtask}
 use Rattle.task_machine.specs.declared.records.Subtask.TheVariants as subtask
+use Rattle.task_machine.specs.declared.words.Status.TheVariants as status
 use Rattle.task_machine.specs.Core.{Core, State}
-use Rattle.task_machine.specs.Read.{same_subtask}
+use Rattle.task_machine.specs.Read.{same_subtask, course_of, course_value, event_of, undelivered_end}
 use Rattle.task_machine.specs.Statuses.{status_code}
 use Rattle.task_rules.specs.History.{Moment, history}
 use Rattle.task_rules.specs.Once.{EndsOnce, changes_end, covers_end, handed, hands_out, hands_out_written, is_end_of, is_known, same_end, with_end, writes_end, written}
 use Rattle.task_rules.specs.Run.{Run}
 use Rattle.task_rules.specs.Stalled.{Setting}
 use Rattle.task_rules.specs.Step.{Step}
-use Rattle.task_rules.specs.SubtaskEnds.{SubtaskEnd}
+use Rattle.task_rules.specs.SubtaskEnds.{SubtaskEnd, end_for}
 
 -- ---- Counting
 
@@ -38,14 +46,10 @@ none_more false n h z = z
 -- ---- The same end
 
 same_is : (a b : Subtask) → same_subtask a b ≡ true → a ≡ b
-same_is (subtask.Guest k) (subtask.Guest q) h = ap (λ n. subtask.Guest n) (eqb→eq k q (subst T (sym h) tt))
-same_is (subtask.Host i) (subtask.Host j) h = ap (λ n. subtask.Host n) (eqb→eq i j (subst T (sym h) tt))
-same_is (subtask.Guest k) (subtask.Host j) h = absurd (true_is_not_false (sym h))
-same_is (subtask.Host i) (subtask.Guest q) h = absurd (true_is_not_false (sym h))
+same_is a b h = grind (arith, nat_tests)
 
 same_self : (a : Subtask) → same_subtask a a ≡ true
-same_self (subtask.Guest k) = same_number k
-same_self (subtask.Host i) = same_number i
+same_self a = grind (arith, nat_tests)
 
 end_self : (e : SubtaskEnd) → same_end e e ≡ true
 end_self e = ap (λ (b : Bool). b && (status_code e.status == status_code e.status)) (same_self e.subtask) ∙ same_number (status_code e.status)
@@ -62,114 +66,109 @@ known_now : (o : Option SubtaskEnd) (ends : List SubtaskEnd) (e : SubtaskEnd) �
 known_now o ends e is = ap (λ (q : Option SubtaskEnd). is_known (with_end q ends) (Some e)) is ∙ ap (λ (b : Bool). b || list_any (same_end e) ends) (end_self e)
 
 -- the end of which a test speaks
-end_there : (sub : Subtask) (o : Option SubtaskEnd) → is_end_of sub o ≡ true → (e : SubtaskEnd) × ((o ≡ Some e) × (sub ≡ e.subtask))
+pub end_there : (sub : Subtask) (o : Option SubtaskEnd) → is_end_of sub o ≡ true → (e : Status) × (o ≡ Some (end_for e sub))
 end_there sub None h = absurd (true_is_not_false (sym h))
-end_there sub (Some e) h = (e, (refl, same_is sub e.subtask h))
+end_there sub (Some x) h = (x.status, ap (λ (d : Subtask). Some (end_for x.status d)) (sym (same_is sub x.subtask h)))
 
 -- ---- Steps
 
-module _ (Over : Subtask → Core → Type 0) (Ready : SubtaskEnd → Core → Type 0) where
-  -- the subtask has ended, and nothing of it is to be handed out
-  abbrev pub Out : Subtask → Core → Type 0
-  Out sub s = Over sub s × ((e : SubtaskEnd) → e.subtask ≡ sub → Ready e s → ⊥)
+-- the subtask was made, and has come to its end or is gone
+abbrev pub Over : Subtask → Core → Type 0
+Over (subtask.Guest k) s = (k ≤ s.made.threads) × (is_over k s ≡ true)
+Over (subtask.Host i) s = (i ≤ s.made.works) × (has_end (course_of i s) ≡ true)
 
-  -- What each step owes.
-  pub record EndStep (c : Component) (m : Moment) : Type 0 where
-    pub writes : (sub : Subtask) → writes_end c sub m ≡ true → (Over sub m.before.core → ⊥) × Over sub m.after.core
-    pub stays : (sub : Subtask) → Over sub m.before.core → Over sub m.after.core
-    pub comes : (e : SubtaskEnd) → Ready e m.after.core → Ready e m.before.core ⊎ (written c m ≡ Some e)
-    pub hands : (e : SubtaskEnd) → handed c m ≡ Some e → (Ready e m.before.core ⊎ (written c m ≡ Some e)) × Out e.subtask m.after.core
+-- it has this end to hand out: by its event, as a result for main, or once its work is looked after
+abbrev pub Due : Subtask → Status → Core → Type 0
+Due (subtask.Guest k) e s = (undelivered_end (event_of (subtask.Guest k) s) ≡ Some e) ⊎ ((e ≡ status.Returned) × (is_some (get s.results k) ≡ true))
+Due (subtask.Host i) e s = (v : Doing) × ((doing_of i s ≡ Some v) × ((is_due v ≡ true) × (e ≡ host_status (course_value v.course))))
 
-  module _ {c : Component} {m : Moment} (q : EndStep c m) where
-    -- an end that a label writes was not there before
-    not_over : (e : SubtaskEnd) → written c m ≡ Some e → Over e.subtask m.before.core → ⊥
-    not_over e is = (q.writes e.subtask (ap (λ (o : Option SubtaskEnd). is_end_of e.subtask o || rest) is ∙ ap (λ (b : Bool). b || rest) (same_self e.subtask))).0
-      where
-        rest : Bool
-        rest = changes_end e.subtask m || covers_end e.subtask m
+-- it has ended, and nothing of it is to be handed out
+abbrev pub Out : Subtask → Core → Type 0
+Out sub s = Over sub s × ((e : Status) → Due sub e s → ⊥)
 
-    out_stays : (sub : Subtask) → Out sub m.before.core → Out sub m.after.core
-    out_stays sub out = (q.stays sub out.0, λ e same ready. still e same (q.comes e ready))
-      where
-        still : (e : SubtaskEnd) → e.subtask ≡ sub → Ready e m.before.core ⊎ (written c m ≡ Some e) → ⊥
-        still e same (inl ready) = out.1 e same ready
-        still e same (inr is) = not_over e is (subst (λ (a : Subtask). Over a m.before.core) (sym same) out.0)
+-- What each step owes of a subtask.
+pub record EndStep (c : Component) (m : Moment) (sub : Subtask) : Type 0 where
+  pub writes : writes_end c sub m ≡ true → (Over sub m.before.core → ⊥) × Over sub m.after.core
+  pub stays : Over sub m.before.core → Over sub m.after.core
+  pub comes : (e : Status) → Due sub e m.after.core → Due sub e m.before.core ⊎ (written c m ≡ Some (end_for e sub))
+  pub hands : (e : Status) → handed c m ≡ Some (end_for e sub) → (Due sub e m.before.core ⊎ (written c m ≡ Some (end_for e sub))) × Out sub m.after.core
 
-    none_out : (sub : Subtask) → Out sub m.before.core → hands_out c sub m ≡ true → ⊥
-    none_out sub out h = let r = end_there sub (handed c m) h in go r.0 (sym r.1.1) (q.hands r.0 r.1.0).0
-      where
-        go : (e : SubtaskEnd) → e.subtask ≡ sub → Ready e m.before.core ⊎ (written c m ≡ Some e) → ⊥
-        go e same (inl ready) = out.1 e same ready
-        go e same (inr is) = not_over e is (subst (λ (a : Subtask). Over a m.before.core) (sym same) out.0)
+module _ {c : Component} {m : Moment} {sub : Subtask} (q : EndStep c m sub) where
+  -- an end that a label writes was not there before
+  not_over : (e : Status) → written c m ≡ Some (end_for e sub) → Over sub m.before.core → ⊥
+  not_over e is = (q.writes (ap (λ (o : Option SubtaskEnd). is_end_of sub o || rest) is ∙ ap (λ (b : Bool). b || rest) (same_self sub))).0
+    where
+      rest : Bool
+      rest = changes_end sub m || covers_end sub m
 
-    out_now : (sub : Subtask) → hands_out c sub m ≡ true → Out sub m.after.core
-    out_now sub h = let r = end_there sub (handed c m) h in subst (λ (a : Subtask). Out a m.after.core) (sym r.1.1) (q.hands r.0 r.1.0).1
+  pub written_over : (e : Status) → written c m ≡ Some (end_for e sub) → Over sub m.after.core
+  written_over e is = (q.writes (ap (λ (o : Option SubtaskEnd). is_end_of sub o || (changes_end sub m || covers_end sub m)) is ∙ ap (λ (b : Bool). b || (changes_end sub m || covers_end sub m)) (same_self sub))).1
+
+  none_comes : Out sub m.before.core → (e : Status) → Due sub e m.before.core ⊎ (written c m ≡ Some (end_for e sub)) → ⊥
+  none_comes out e (inl due) = out.1 e due
+  none_comes out e (inr is) = not_over e is out.0
+
+  out_stays : Out sub m.before.core → Out sub m.after.core
+  out_stays out = (q.stays out.0, λ e due. none_comes out e (q.comes e due))
+
+  none_out : Out sub m.before.core → hands_out c sub m ≡ true → ⊥
+  none_out out h = let r = end_there sub (handed c m) h in none_comes out r.0 (q.hands r.0 r.1).0
+
+  out_now : hands_out c sub m ≡ true → Out sub m.after.core
+  out_now h = let r = end_there sub (handed c m) h in (q.hands r.0 r.1).1
 
 -- ---- Runs
 
-module _ (x : Setting) (Over : Subtask → Core → Type 0) (Ready : SubtaskEnd → Core → Type 0) (Inv : State → Type 0)
+-- where each step for which p passes makes Q true, Q stays, and p passes for no step where Q holds, p passes at most once
+module _ (x : Setting) (Inv : State → Type 0) (inv_stays : (s : State) (l : Label) (t : State) → Inv s → Step x s l t → Inv t)
+    (p : Moment → Bool) (Q : Core → Type 0)
+    (comes : (s : State) (l : Label) (t : State) → Inv s → Step x s l t → p (record { before = s; label = l; after = t }) ≡ true → (Q s.core → ⊥) × Q t.core)
+    (kept : (s : State) (l : Label) (t : State) → Inv s → Step x s l t → Q s.core → Q t.core) where
+  passes_none : (s : State) → Inv s → Q s.core → (ls : List Label) (t : State) → (run : Run x s ls t) → counted p (history x s ls t run) ≡ 0
+  passes_none s inv is [] t run = refl
+  passes_none s inv is (l ∷ ls) t run =
+      none_more (p (record { before = s; label = l; after = run.0 })) _ (λ h. (comes s l run.0 inv run.1.0 h).0 is)
+      (passes_none run.0 (inv_stays s l run.0 inv run.1.0) (kept s l run.0 inv run.1.0 is) ls t run.1.1)
+
+  passes_once : (s : State) → Inv s → (ls : List Label) (t : State) → (run : Run x s ls t) → counted p (history x s ls t run) ≤ 1
+  passes_once s inv [] t run = omega arith
+  passes_once s inv (l ∷ ls) t run =
+      let next = inv_stays s l run.0 inv run.1.0 in
+      one_at_most (p (record { before = s; label = l; after = run.0 })) _ (passes_once run.0 next ls t run.1.1)
+      (λ h. passes_none run.0 next (comes s l run.0 inv run.1.0 h).1 ls t run.1.1)
+
+  pub counts_once : (s : State) → Inv s → (ls : List Label) (t : State) → (run : Run x s ls t) → count_by p (history x s ls t run) ≤ 1
+  counts_once s inv ls t run = subst (λ (n : ℕ). n ≤ 1) (counted_is p (history x s ls t run)) (passes_once s inv ls t run)
+
+module _ (x : Setting) (Inv : State → Type 0)
     (inv_stays : (s : State) (l : Label) (t : State) → Inv s → Step x s l t → Inv t)
-    (facts : (s : State) (l : Label) (t : State) → Inv s → Step x s l t → EndStep Over Ready x.component (record { before = s; label = l; after = t })) where
-  none_written : (sub : Subtask) (s : State) → Inv s → Over sub s.core → (ls : List Label) (t : State) → (run : Run x s ls t) → counted (writes_end x.component sub) (history x s ls t run) ≡ 0
-  none_written sub s inv over [] t run = refl
-  none_written sub s inv over (l ∷ ls) t run =
-      let q = facts s l run.0 inv run.1.0 in
-      none_more (writes_end x.component sub (record { before = s; label = l; after = run.0 })) _
-      (λ w. (q.writes sub w).0 over)
-      (none_written sub run.0 (inv_stays s l run.0 inv run.1.0) (q.stays sub over) ls t run.1.1)
-
-  once_written : (sub : Subtask) (s : State) → Inv s → (ls : List Label) (t : State) → (run : Run x s ls t) → counted (writes_end x.component sub) (history x s ls t run) ≤ 1
-  once_written sub s inv [] t run = omega arith
-  once_written sub s inv (l ∷ ls) t run =
-      let q = facts s l run.0 inv run.1.0 in
-      let next = inv_stays s l run.0 inv run.1.0 in
-      one_at_most (writes_end x.component sub (record { before = s; label = l; after = run.0 })) _
-      (once_written sub run.0 next ls t run.1.1)
-      (λ w. none_written sub run.0 next (q.writes sub w).1 ls t run.1.1)
-
-  none_handed : (sub : Subtask) (s : State) → Inv s → Out Over Ready sub s.core → (ls : List Label) (t : State) → (run : Run x s ls t) → counted (hands_out x.component sub) (history x s ls t run) ≡ 0
-  none_handed sub s inv out [] t run = refl
-  none_handed sub s inv out (l ∷ ls) t run =
-      let q = facts s l run.0 inv run.1.0 in
-      none_more (hands_out x.component sub (record { before = s; label = l; after = run.0 })) _
-      (none_out Over Ready q sub out)
-      (none_handed sub run.0 (inv_stays s l run.0 inv run.1.0) (out_stays Over Ready q sub out) ls t run.1.1)
-
-  once_handed : (sub : Subtask) (s : State) → Inv s → (ls : List Label) (t : State) → (run : Run x s ls t) → counted (hands_out x.component sub) (history x s ls t run) ≤ 1
-  once_handed sub s inv [] t run = omega arith
-  once_handed sub s inv (l ∷ ls) t run =
-      let q = facts s l run.0 inv run.1.0 in
-      let next = inv_stays s l run.0 inv run.1.0 in
-      one_at_most (hands_out x.component sub (record { before = s; label = l; after = run.0 })) _
-      (once_handed sub run.0 next ls t run.1.1)
-      (λ h. none_handed sub run.0 next (out_now Over Ready q sub h) ls t run.1.1)
-
-  all_known : (ends : List SubtaskEnd) (s : State) → Inv s → ((e : SubtaskEnd) → Ready e s.core → is_known ends (Some e) ≡ true) → (ls : List Label) (t : State) → (run : Run x s ls t) → hands_out_written x.component ends (history x s ls t run) ≡ true
+    (facts : (s : State) (l : Label) (t : State) → Inv s → Step x s l t → (sub : Subtask) → EndStep x.component (record { before = s; label = l; after = t }) sub) where
+  all_known : (ends : List SubtaskEnd) (s : State) → Inv s → ((sub : Subtask) (e : Status) → Due sub e s.core → is_known ends (Some (end_for e sub)) ≡ true) → (ls : List Label) (t : State) → (run : Run x s ls t) → hands_out_written x.component ends (history x s ls t run) ≡ true
   all_known ends s inv known [] t run = refl
   all_known ends s inv known (l ∷ ls) t run =
       let m : Moment = record { before = s; label = l; after = run.0 } in
-      let q = facts s l run.0 inv run.1.0 in
+      let q : (sub : Subtask) → EndStep x.component m sub = facts s l run.0 inv run.1.0 in
       let o = written x.component m in
-      let now : (e : SubtaskEnd) → Ready e s.core ⊎ (o ≡ Some e) → is_known (with_end o ends) (Some e) ≡ true = λ e. known_after o e (known e) in
+      let now : (sub : Subtask) (e : Status) → Due sub e s.core ⊎ (o ≡ Some (end_for e sub)) → is_known (with_end o ends) (Some (end_for e sub)) ≡ true = λ sub e. known_after o sub e (known sub e) in
       both (is_known (with_end o ends) (handed x.component m)) _
-      (each_known (with_end o ends) (handed x.component m) (λ e is. now e (q.hands e is).0))
-      (all_known (with_end o ends) run.0 (inv_stays s l run.0 inv run.1.0) (λ e ready. now e (q.comes e ready)) ls t run.1.1)
+      (each_known (with_end o ends) (handed x.component m) (λ sub e is. now sub e ((q sub).hands e is).0))
+      (all_known (with_end o ends) run.0 (inv_stays s l run.0 inv run.1.0) (λ sub e due. now sub e ((q sub).comes e due)) ls t run.1.1)
     where
-      known_after : (o : Option SubtaskEnd) (e : SubtaskEnd) → (Ready e s.core → is_known ends (Some e) ≡ true) → Ready e s.core ⊎ (o ≡ Some e) → is_known (with_end o ends) (Some e) ≡ true
-      known_after o e known (inl ready) = known_before o ends e (known ready)
-      known_after o e known (inr is) = known_now o ends e is
+      known_after : (o : Option SubtaskEnd) (sub : Subtask) (e : Status) → (Due sub e s.core → is_known ends (Some (end_for e sub)) ≡ true) → Due sub e s.core ⊎ (o ≡ Some (end_for e sub)) → is_known (with_end o ends) (Some (end_for e sub)) ≡ true
+      known_after o sub e known (inl due) = known_before o ends (end_for e sub) (known due)
+      known_after o sub e known (inr is) = known_now o ends (end_for e sub) is
 
       both : (a b : Bool) → a ≡ true → b ≡ true → (a && b) ≡ true
       both true b h k = k
       both false b h k = absurd (true_is_not_false (sym h))
 
-      each_known : (ends : List SubtaskEnd) (o : Option SubtaskEnd) → ((e : SubtaskEnd) → o ≡ Some e → is_known ends (Some e) ≡ true) → is_known ends o ≡ true
+      each_known : (ends : List SubtaskEnd) (o : Option SubtaskEnd) → ((sub : Subtask) (e : Status) → o ≡ Some (end_for e sub) → is_known ends (Some (end_for e sub)) ≡ true) → is_known ends o ≡ true
       each_known ends None h = refl
-      each_known ends (Some e) h = h e refl
+      each_known ends (Some e) h = h e.subtask e.status refl
 
-  pub ends_once : (s : State) → Inv s → ((e : SubtaskEnd) → Ready e s.core → ⊥) → (ls : List Label) (t : State) → (run : Run x s ls t) → EndsOnce x.component (history x s ls t run)
+  pub ends_once : (s : State) → Inv s → ((sub : Subtask) (e : Status) → Due sub e s.core → ⊥) → (ls : List Label) (t : State) → (run : Run x s ls t) → EndsOnce x.component (history x s ls t run)
   ends_once s inv none ls t run = record {
-    written_once = λ sub. subst (λ (n : ℕ). n ≤ 1) (counted_is (writes_end x.component sub) (history x s ls t run)) (once_written sub s inv ls t run);
-    handed_once = λ sub. subst (λ (n : ℕ). n ≤ 1) (counted_is (hands_out x.component sub) (history x s ls t run)) (once_handed sub s inv ls t run);
-    as_written = all_known [] s inv (λ e ready. absurd (none e ready)) ls t run;
+    written_once = λ sub. counts_once x Inv inv_stays (writes_end x.component sub) (Over sub) (λ s l t inv step h. (facts s l t inv step sub).writes h) (λ s l t inv step. (facts s l t inv step sub).stays) s inv ls t run;
+    handed_once = λ sub. counts_once x Inv inv_stays (hands_out x.component sub) (Out sub) (λ s l t inv step h. (λ out. none_out (facts s l t inv step sub) out h, out_now (facts s l t inv step sub) h)) (λ s l t inv step. out_stays (facts s l t inv step sub)) s inv ls t run;
+    as_written = all_known [] s inv (λ sub e due. absurd (none sub e due)) ls t run;
   }

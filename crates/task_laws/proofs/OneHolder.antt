@@ -5,26 +5,25 @@ use Rattle.std.specs.List.{list_any}
 use Rattle.std.specs.Option.{option_map_or}
 use Rattle.std.specs.Prelude.{Bool, List, None, Option, Some, [], false, filter, is_some, not, slice_get, true, unwrap_or, ℕ, ◌<◌, ◌==◌, ◌∷◌, ◌≡◌, ◌⊎◌}
 use Rattle.task_laws.proofs.CallsCame.{CallAfter, Grown, NewCall, NoCall, call_came}
-use Rattle.task_laws.proofs.CallsSteps.{of_base}
-use Rattle.task_laws.proofs.EachLemmas.{after_change}
-use Rattle.task_laws.proofs.Machine.{add_call, add_group, add_set, add_thread, add_work, after_word, base_at, Call, call_instance, call_made, Callee, callee_of, change, Core, count_work, filled, free_handle, free_thread_handle, fresh, get, get-empty, get-insert, give_handle, give_result, give_thread_handle, Label, Main, may_not_enter, on_call, on_instance, on_thread, on_work, Op, poll_pends, push_high, Queues, remove_call, remove_group, remove_set, remove_thread, remove_work, Scene, scene_of, Scripted, set_backpressure, set_cancel_delivered, set_cancelled, set_course, set_do_not_enter, set_do_not_suspend, set_end, set_event, set_exited, set_how_far, set_join, set_own_event, set_phase, set_position, set_register, set_result, set_saved_callee, set_saved_own, set_script, set_stage, set_started, set_starting_published, set_subtask_handle, set_thread_handle, set_trapped, set_uninteresting, set_word, SetBackpressure, SetDoNotEnter, SetDoNotSuspend, Setting, SetWord, State, take_result, Thread, Turn, Unscripted, untouched, with_handle, with_thread_handle, Word, work_queued}
+use Rattle.task_laws.proofs.CallsSteps.{plain, plain_scene}
+use Rattle.task_machine.proofs.CommuteLemmas.{get-change}
+use Rattle.task_laws.proofs.Machine.{add_call, add_group, add_set, add_thread, add_work, after_word, Call, call_instance, call_made, Callee, callee_of, Core, count_work, filled, free_handle, free_thread_handle, fresh, get, get-empty, get-insert, give_handle, give_result, give_thread_handle, Label, Main, may_not_enter, on_call, on_instance, on_thread, on_work, Op, poll_pends, push_high, Queues, remove_call, remove_group, remove_set, remove_thread, remove_work, Scene, Scripted, set_backpressure, set_cancel_delivered, set_cancelled, set_course, set_do_not_enter, set_do_not_suspend, set_end, set_event, set_exited, set_how_far, set_join, set_own_event, set_phase, set_position, set_register, set_result, set_saved_callee, set_saved_own, set_script, set_stage, set_started, set_starting_published, set_subtask_handle, set_thread_handle, set_trapped, set_uninteresting, set_word, SetBackpressure, SetDoNotEnter, SetDoNotSuspend, Setting, SetWord, State, take_result, Thread, Unscripted, untouched, with_handle, with_thread_handle, Word, work_queued}
 use Rattle.task_laws.specs.Holders.{CalleesExist, RunsHoldOne}
-use Rattle.task_machine.specs.declared.label.Label.TheVariants as label
-use Rattle.task_machine.specs.declared.op.Op.TheVariants as op
-use Rattle.task_machine.specs.declared.op.TaskOp.TheVariants as task_op
 use Rattle.task_machine.specs.declared.records.Caller.{Caller}
 use Rattle.task_machine.specs.declared.records.Instance.{Instance}
 use Rattle.task_rules.proofs.ChainLemmas.{along}
 use Rattle.task_rules.proofs.WalkSteps.{step_walks}
 use Rattle.task_rules.specs.Allowed.{Allowed, MayCall}
-use Rattle.task_rules.specs.Allowed as may
-use Rattle.task_rules.specs.Chains.{SameMain, Walked}
+use Rattle.task_rules.specs.Chains.{LastWords, SameMain, Walk, Walked}
 use Rattle.task_rules.specs.History.{history}
 use Rattle.task_rules.specs.Once.{begun_holder, holds_one, is_among, less_holder, returned_holder, with_holder}
 use Rattle.task_rules.specs.OpParts.{callee_of_op}
 use Rattle.task_rules.specs.Run.{Run}
 use Rattle.task_rules.specs.Scripts.{op_of, script_of, script_of_thread}
 use Rattle.task_rules.specs.Step.{Step}
+use Rattle.task_machine.specs.declared.op.Op.TheVariants as op
+use Rattle.task_machine.specs.declared.op.TaskOp.TheVariants as task_op
+use Rattle.task_rules.specs.Allowed as may
 
 -- ---- Instances
 
@@ -36,24 +35,14 @@ record InstanceCame (a : Scene) (i : ℕ) (o p : Option Instance) : Type 0 where
   there : is_some o ≡ true → is_some p ≡ true
   shut : (returned_holder a.base a.label ≡ Some i → ⊥) → flag_in o ≡ true → flag_in p ≡ true
 
-module _ {a : Scene} where
-  instance_stays : {i : ℕ} (o : Option Instance) → InstanceCame a i o o
-  instance_stays o = record { there = λ h. h; shut = λ other h. h }
-
-  instance_changed : (j : ℕ) (f : Instance → Instance) (s : Core) (i : ℕ) →
-      ((r : Instance) → (returned_holder a.base a.label ≡ Some j → ⊥) → r.do_not_enter ≡ true → (f r).do_not_enter ≡ true) →
-      InstanceCame a i (get s.instances i) (get (change j f s.instances) i)
-  instance_changed j f s i keeps = after_change (InstanceCame a i) s.instances j i instance_stays f
-      (λ r is e. record { there = λ h. refl; shut = λ other h. keeps r (rw e at other) h })
-
-  instance_came : (w : Word) (s : Core) → Allowed a w s → (i : ℕ) → InstanceCame a i (get s.instances i) (get (after_word w s).instances i)
-  unfolding add_call add_group add_set add_thread add_work count_work free_handle free_thread_handle give_handle give_result give_thread_handle on_call on_instance on_thread on_work push_high remove_call remove_group remove_set remove_thread remove_work set_backpressure set_cancel_delivered set_cancelled set_course set_do_not_enter set_do_not_suspend set_end set_event set_exited set_how_far set_join set_own_event set_phase set_position set_register set_result set_saved_callee set_saved_own set_script set_stage set_started set_starting_published set_subtask_handle set_thread_handle set_trapped set_uninteresting set_word take_result call_made with_handle with_thread_handle work_queued poll_pends
-  instance_came (SetDoNotEnter j true) s ok i = instance_changed j _ s i (λ r other h. refl)
-  instance_came (SetDoNotEnter j false) s ok i = instance_changed j _ s i (λ r other h. absurd (other ok))
-  instance_came (SetBackpressure j n) s ok i = instance_changed j _ s i (λ r other h. h)
-  instance_came (SetDoNotSuspend j b) s ok i = instance_changed j _ s i (λ r other h. h)
-  instance_came (SetWord j w v) s ok i = instance_changed j _ s i (λ r other h. h)
-  instance_came w s ok i = instance_stays (get s.instances i)
+instance_came : (a : Scene) (w : Word) (s : Core) → Allowed a w s → (i : ℕ) → InstanceCame a i (get s.instances i) (get (after_word w s).instances i)
+unfolding add_call add_group add_set add_thread add_work count_work free_handle free_thread_handle give_handle give_result give_thread_handle on_call on_instance on_thread on_work push_high remove_call remove_group remove_set remove_thread remove_work set_backpressure set_cancel_delivered set_cancelled set_course set_do_not_enter set_do_not_suspend set_end set_event set_exited set_how_far set_join set_own_event set_phase set_position set_register set_result set_saved_callee set_saved_own set_script set_stage set_started set_starting_published set_subtask_handle set_thread_handle set_trapped set_uninteresting set_word take_result call_made with_handle with_thread_handle work_queued poll_pends
+instance_came a (SetDoNotEnter j true) s ok i = grind (arith, nat_tests, get-change)
+instance_came a (SetDoNotEnter j false) s ok i = grind (arith, nat_tests, get-change)
+instance_came a (SetBackpressure j n) s ok i = grind (arith, nat_tests, get-change)
+instance_came a (SetDoNotSuspend j b) s ok i = grind (arith, nat_tests, get-change)
+instance_came a (SetWord j w v) s ok i = grind (arith, nat_tests, get-change)
+instance_came a w s ok i = record { there = λ h. h; shut = λ other h. h }
 
 -- ---- What holds
 
@@ -99,39 +88,26 @@ module _ (a : Scene) (instances : ℕ) (exist : CalleesExist a.setting instances
 
   word_holds : (w : Word) (s : Core) → Allowed a w s → HoldersGo a s → HoldersGo a (after_word w s)
   word_holds w s ok q = record {
-    shut = λ i other h. (instance_came w s ok i).shut other (q.shut i other h);
-    kept = λ i h. (instance_came w s ok i).there (q.kept i h);
+    shut = λ i other h. (instance_came a w s ok i).shut other (q.shut i other h);
+    kept = λ i h. (instance_came a w s ok i).there (q.kept i h);
     homes = λ k c at. home k c at (call_came w s ok k);
   }
     where
       home : (k : ℕ) (c : Call) → get (after_word w s).calls k ≡ Some c → CallAfter a w s k →
           is_some (get (after_word w s).instances c.callee.instance) ≡ true
       home k c at (Grown d e f g h) = let same : c.callee ≡ d.callee = cc in
-          rw same ((instance_came w s ok d.callee.instance).there (q.homes k d f))
+          rw same ((instance_came a w s ok d.callee.instance).there (q.homes k d f))
       home k c at (NoCall e r) = absurd (cc)
       home k c at (NewCall f e x g group is l m new) = let same : c.callee ≡ e = cc in
-          rw same ((instance_came w s ok e.instance).there (q.kept e.instance (b.there e.instance (callee_there f e group s m.0))))
+          rw same ((instance_came a w s ok e.instance).there (q.kept e.instance (b.there e.instance (callee_there f e group s m.0))))
 
--- ---- The core that the row reads
+-- ---- Who begins to run, whatever stands at the marks
 
-begun_base : (u : Turn) (s : Core) (l : Label) → begun_holder (base_at u s) l ≡ begun_holder s l
-begun_base u s l = of_base (λ b. begun_holder b l ≡ begun_holder s l) u s (same (base_at u s).queues l)
-  where
-    same : (q : Queues) (l : Label) → begun_holder (record s { queues = q }) l ≡ begun_holder s l
-    same q (label.Take t) = grind arith
-    same q _ = refl
+begun_same : (q : Queues) (s : Core) (l : Label) → begun_holder (record s { queues = q }) l ≡ begun_holder s l
+begun_same q s l = grind arith
 
-returned_base : (u : Turn) (s : Core) (l : Label) → returned_holder (base_at u s) l ≡ returned_holder s l
-returned_base u s l = of_base (λ b. returned_holder b l ≡ returned_holder s l) u s (same (base_at u s).queues l)
-  where
-    same : (q : Queues) (l : Label) → returned_holder (record s { queues = q }) l ≡ returned_holder s l
-    same q (label.Task t) = grind arith
-    same q _ = refl
-
-flag_base : (u : Turn) (s : Core) (i : ℕ) → may_not_enter i (base_at u s) ≡ may_not_enter i s
-flag_base u s i = of_base (λ b. may_not_enter i b ≡ may_not_enter i s) u s refl
-
--- ---- Who begins to run
+returned_same : (q : Queues) (s : Core) (l : Label) → returned_holder (record s { queues = q }) l ≡ returned_holder s l
+returned_same q s l = grind arith
 
 call_there : {instances : ℕ} (k : ℕ) {s : Core} → 0 < instances → Housed instances s → is_some (get s.instances (call_instance k s)) ≡ true
 call_there k {s = s} some h = grind (arith, h.there 0, h.homes k)
@@ -145,10 +121,8 @@ begun_there {s = s} some h l i e =
 -- ---- Steps
 
 -- a script stays one
-script_stays : (m n : Main) → SameMain m n → IsScripted m → IsScripted n
-script_stays (Scripted p) (Scripted q) same h = tt
-script_stays (Scripted p) Unscripted same h = absurd same
-script_stays Unscripted n same h = absurd h
+script_stays : (m : Main) (t : Core) (n : Main) → SameMain m t n → IsScripted m → IsScripted n
+script_stays m t n same h = grind arith
 
 -- but for the instance of which a holding entry returns none is opened; one that begins to run finds its instance open, and shuts it
 record StepHolds (instances : ℕ) (s : State) (l : Label) (t : State) : Type 0 where
@@ -161,19 +135,18 @@ step_holds : (x : Setting) (instances : ℕ) → CalleesExist x instances → (s
     (l : Label) (t : State) → Step x s l t → StepHolds instances s l t
 step_holds x instances exist s h m l t step =
     let w : Walked x s l t = step_walks x s l t step in
-    let a : Scene = scene_of x s l w.next in
-    let b : Housed instances a.base = of_base (Housed instances) s.turn s.core (record { there = h.there; homes = h.homes }) in
-    let q : HoldersGo a s.core = of_base (λ c. HoldersGo (record a { base = c }) s.core) s.turn s.core
-    (record { shut = λ i other e. e; kept = λ i e. e; homes = h.homes }) in
-    let g : HoldersGo a t.core = along (HoldersGo a) (word_holds a instances exist m b) q w.walk in
-    let kept : (i : ℕ) → is_some (get s.core.instances i) ≡ true → is_some (get t.core.instances i) ≡ true =
-    λ i e. g.kept i (of_base (λ c. is_some (get c.instances i) ≡ true) s.turn s.core e) in
+    let a : Scene = plain_scene x s l w.next in
+    let q = a.base.queues in
+    let b : Housed instances a.base = record { there = h.there; homes = h.homes } in
+    let first : HoldersGo a s.core = record { shut = λ i other e. e; kept = λ i e. e; homes = h.homes } in
+    let walk : Walk a s.core t.core = plain x s l w.next (λ c. Walk c s.core t.core) w.walk in
+    let ends : LastWords a t.core = plain x s l w.next (λ c. LastWords c t.core) w.ends in
+    let g : HoldersGo a t.core = along (HoldersGo a) (word_holds a instances exist m b) first walk in
     record {
-      shut = λ i other e. g.shut i (rw (returned_base s.turn s.core l) other) (rw (flag_base s.turn s.core i) e);
-      begins = λ i e. let r = w.ends.shut i (rw (begun_base s.turn s.core l) e) in
-          (rw (flag_base s.turn s.core i) at r.0, r.1 (kept i (begun_there exist.some h l i e)));
-      housed = record { there = λ i below. kept i (h.there i below); homes = g.homes };
-      main = script_stays s.main t.main w.main m;
+      shut = λ i other e. g.shut i (rw (returned_same q s.core l) other) e;
+      begins = λ i e. let r = ends.shut i (rw (begun_same q s.core l) e) in (r.0, r.1 (g.kept i (begun_there exist.some h l i e)));
+      housed = record { there = λ i below. g.kept i (h.there i below); homes = g.homes };
+      main = script_stays s.main t.core t.main w.main m;
     }
 
 -- ---- Who is inside

@@ -1,12 +1,11 @@
 -- What is known of the thread that runs or is taken, as a step begins.
 use Rattle.std.proofs.Common.{ap, arith, refl}
 use Rattle.std.proofs.lemmas.Bool.Decides.{nat_tests}
-use Rattle.std.specs.Prelude.{List, None, Option, Some, true, ℕ, ◌≡◌, ◌≤◌, ◌⊎◌}
+use Rattle.std.specs.Prelude.{List, Option, Some, true, ℕ, ◌≡◌, ◌≤◌, ◌⊎◌}
 use Rattle.task_laws.proofs.Machine.{base_at, base_without, Core, Label, Mark, next_entry, or_high, scene_of, set_high, set_low, set_switch, Setting, State, thread_of_entry, Turn}
 use Rattle.task_laws.specs.Order.{InPlace}
 use Rattle.task_machine.specs.declared.records.Entry.{Entry}
 use Rattle.task_machine.specs.declared.records.Turn.TheVariants as turn
-use Rattle.task_machine.specs.declared.words.Mark.TheVariants as mark
 use Rattle.task_rules.specs.Allowed.{IsRunner}
 use Rattle.task_rules.specs.Places.{HasPlace, entries, is_there, switch_entries}
 use Rattle.task_rules.specs.Takes.{popped}
@@ -15,24 +14,18 @@ use Rattle.task_rules.specs.Takes.{popped}
 
 popped_is : (m : Mark) (s : Core) → popped m s ≡ record s { queues = (popped m s).queues }
 unfolding popped set_switch set_high set_low
-popped_is mark.Switch s = refl
-popped_is mark.High s = refl
-popped_is mark.Low s = refl
+popped_is m s = grind arith
 
 pub popped_threads : (m : Mark) (s : Core) → (popped m s).threads ≡ s.threads
 popped_threads m s = ap (λ (c : Core). c.threads) (popped_is m s)
 
+without_is : (o : Option (Mark × Entry)) (s : Core) → base_without o s ≡ record s { queues = (base_without o s).queues }
+without_is o s = grind (arith, popped_is)
+
 -- it is that of the step, but for its marks
 pub base_is : (u : Turn) (s : Core) → base_at u s ≡ record s { queues = (base_at u s).queues }
-base_is (turn.Take ended) s = go (next_entry s)
-  where
-    go : (o : Option (Mark × Entry)) → base_without o s ≡ record s { queues = (base_without o s).queues }
-    go None = refl
-    go (Some e) = popped_is e.0 s
-base_is turn.Main s = refl
-base_is (turn.Futures n) s = refl
-base_is (turn.Run n) s = refl
-base_is turn.Over s = refl
+base_is (turn.Take ended) s = without_is (next_entry s) s
+base_is u s = refl
 
 -- ---- Who runs or is taken is there
 

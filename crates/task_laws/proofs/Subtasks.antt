@@ -1,37 +1,47 @@
 -- Each call that a handle names, or that an op under way is about, was made as a call: along the words of a step.
 use Rattle.std.proofs.Common.{arith, inl, inr, refl, ⊎_elim}
+use Rattle.std.proofs.lemmas.Bool.Decides.{nat_tests}
 use Rattle.std.specs.Prelude.{IfSome, Some, option_and_then, ℕ, ◌+◌, ◌≡◌, ◌⊎◌}
 use Rattle.task_laws.proofs.CallsCame.{ThreadAfter, op_came, thread_came}
 use Rattle.task_laws.proofs.CountLemmas.{made_threads_word}
-use Rattle.task_laws.proofs.Machine.{add_call, add_group, add_set, add_thread, add_work, after_word, as_subtask, call_made, change, CloseSet, Core, count_work, free_handle, free_thread_handle, fresh, get-empty, give_handle, give_result, give_thread_handle, giving, HowFar, NameCall, Named, named_by, NameWork, on_call, on_instance, on_thread, on_work, OpenSet, poll_pends, push_high, remove_call, remove_group, remove_set, remove_thread, remove_work, Scene, set_backpressure, set_cancel_delivered, set_cancelled, set_course, set_do_not_enter, set_do_not_suspend, set_end, set_event, set_exited, set_how_far, set_join, set_own_event, set_phase, set_position, set_register, set_result, set_saved_callee, set_saved_own, set_script, set_stage, set_started, set_starting_published, set_subtask_handle, set_thread_handle, set_trapped, set_uninteresting, set_word, Subtask, subtask_at, take_result, Thread, UnnameCall, UnnameWork, with_handle, with_thread_handle, Word, work_queued}
-use Rattle.task_laws.proofs.SetHandles.{freed_names, given_names, none_named}
+use Rattle.task_laws.proofs.Machine.{add_call, add_group, add_set, add_thread, add_work, after_word, as_subtask, call_made, change, CloseSet, Core, count_work, free_handle, free_thread_handle, fresh, get-empty, get-remove, give_handle, give_result, give_thread_handle, giving, HowFar, NameCall, Named, named_by, NameWork, on_call, on_instance, on_thread, on_work, OpenSet, poll_pends, push_high, remove_call, remove_group, remove_set, remove_thread, remove_work, Scene, set_backpressure, set_cancel_delivered, set_cancelled, set_course, set_do_not_enter, set_do_not_suspend, set_end, set_event, set_exited, set_how_far, set_join, set_own_event, set_phase, set_position, set_register, set_result, set_saved_callee, set_saved_own, set_script, set_stage, set_started, set_starting_published, set_subtask_handle, set_thread_handle, set_trapped, set_uninteresting, set_word, Subtask, subtask_at, take_result, Thread, UnnameCall, UnnameWork, with_handle, with_thread_handle, Word, work_queued}
+use Rattle.task_laws.proofs.SetHandles.{given_names, none_named}
 use Rattle.task_laws.specs.Order.{CallsNamed, WasCall}
+use Rattle.task_rules.specs.Allowed.{Allowed, ByHandle, ByOp, HasSubtask, IsNew, MayCome, subtask_under_way}
+use Rattle.task_machine.proofs.CommuteLemmas.{get-change}
 use Rattle.task_machine.specs.declared.records.HowFar.TheVariants as how_far
 use Rattle.task_machine.specs.declared.records.Named.TheVariants as named
 use Rattle.task_machine.specs.declared.records.Subtask.TheVariants as subtask
-use Rattle.task_rules.specs.Allowed.{Allowed, ByHandle, ByOp, HasSubtask, IsNew, MayCome, subtask_under_way}
 
 -- a subtask of the thread, or a new one
 abbrev Known : Scene → Core → Subtask → Type 0
 Known a s sub = (n : ℕ) × (HasSubtask a n sub ⊎ IsNew a sub s)
 
+-- this word names it
+abbrev pub NamedNow : Scene → Core → Subtask → Type 0
+NamedNow a s (subtask.Guest k) = (j : ℕ) × Allowed a (NameCall j k) s
+NamedNow a s (subtask.Host i) = (j : ℕ) × Allowed a (NameWork j i) s
+
 -- ---- What a word names, and what an op comes to
 
 module _ (a : Scene) (s : Core) where
-  given_known : (j : ℕ) (nm : Named) (i h : ℕ) (sub : Subtask) → IfSome (as_subtask nm) (Known a s) →
-      option_and_then as_subtask (named_by (change j (giving nm) s.handles) i h) ≡ Some sub → (subtask_at i h s ≡ Some sub) ⊎ Known a s sub
-  given_known j nm i h sub ok e = ⊎_elim (λ e. inl e) (λ e. inr (rw e.0 at ok)) (given_names as_subtask s.handles j nm i h sub e)
+  given_named : (j : ℕ) (nm : Named) (i h : ℕ) (sub : Subtask) → IfSome (as_subtask nm) (NamedNow a s) →
+      option_and_then as_subtask (named_by (change j (giving nm) s.handles) i h) ≡ Some sub → (subtask_at i h s ≡ Some sub) ⊎ NamedNow a s sub
+  given_named j nm i h sub ok e = ⊎_elim (λ e. inl e) (λ e. inr (rw e.0 at ok)) (given_names as_subtask s.handles j nm i h sub e)
 
-  handle_known : (w : Word) → Allowed a w s → (i h : ℕ) (sub : Subtask) → subtask_at i h (after_word w s) ≡ Some sub →
-      (subtask_at i h s ≡ Some sub) ⊎ Known a s sub
+  pub handle_named : (w : Word) → Allowed a w s → (i h : ℕ) (sub : Subtask) → subtask_at i h (after_word w s) ≡ Some sub → (subtask_at i h s ≡ Some sub) ⊎ NamedNow a s sub
   unfolding on_thread add_group add_set add_work count_work free_handle free_thread_handle give_handle give_result give_thread_handle on_call on_instance on_work push_high remove_call remove_group remove_set remove_work remove_thread set_backpressure set_cancel_delivered set_cancelled set_course set_do_not_enter set_do_not_suspend set_end set_event set_exited set_how_far set_join set_own_event set_phase set_position set_register set_result set_saved_callee set_saved_own set_script set_stage set_started set_starting_published set_subtask_handle set_thread_handle set_trapped set_uninteresting set_word take_result call_made add_call add_thread with_handle with_thread_handle work_queued poll_pends
-  handle_known (NameCall j k) ok i h sub e = given_known j (named.Subtask (subtask.Guest k)) i h sub (ok.0, ok.1.1.1) e
-  handle_known (NameWork j k) ok i h sub e = given_known j (named.Subtask (subtask.Host k)) i h sub (ok.0, ok.1.1.1) e
-  handle_known (OpenSet j) ok i h sub e = given_known j (named.Set (s.made.sets + 1)) i h sub tt e
-  handle_known (UnnameCall j g k) ok i h sub e = inl (freed_names as_subtask s.handles j g i h sub e).0
-  handle_known (UnnameWork j g k) ok i h sub e = inl (freed_names as_subtask s.handles j g i h sub e).0
-  handle_known (CloseSet j g x) ok i h sub e = inl (freed_names as_subtask s.handles j g i h sub e).0
-  handle_known w ok i h sub e = inl e
+  handle_named (NameCall j k) ok i h sub e = given_named j (named.Subtask (subtask.Guest k)) i h sub (j, ok) e
+  handle_named (NameWork j k) ok i h sub e = given_named j (named.Subtask (subtask.Host k)) i h sub (j, ok) e
+  handle_named (OpenSet j) ok i h sub e = given_named j (named.Set (s.made.sets + 1)) i h sub tt e
+  handle_named (UnnameCall j g k) ok i h sub e = inl (grind (arith, nat_tests, get-change, get-remove))
+  handle_named (UnnameWork j g k) ok i h sub e = inl (grind (arith, nat_tests, get-change, get-remove))
+  handle_named (CloseSet j g x) ok i h sub e = inl (grind (arith, nat_tests, get-change, get-remove))
+  handle_named w ok i h sub e = inl e
+
+  named_known : (sub : Subtask) → NamedNow a s sub → Known a s sub
+  named_known (subtask.Guest k) now = (now.1.0, now.1.1.1.1)
+  named_known (subtask.Host i) now = (now.1.0.0, now.1.0.1.1.1)
 
   come_known : (n : ℕ) (f : HowFar) → MayCome a n f s → IfSome (subtask_under_way f) (Known a s)
   come_known n (how_far.Calls (subtask.Guest k)) ok = (n, ok.1)
@@ -63,9 +73,8 @@ module _ (a : Scene) (known : CallsNamed a.base) (s : Core) (q : Traced a s) whe
   traced_word w ok = record {
     was = λ k h. was_word a w s ok k (q.was k h);
     named = record {
-      by_handle = λ i h k e. was_word a w s ok k (⊎_elim (q.named.by_handle i h k) (known_made k) (handle_known a s w ok i h _ e));
-      by_op = λ n k e. was_word a w s ok k (⊎_elim (q.named.by_op n k) (λ g. known_made k (rw g.1.1 at (come_known a s n g.0 g.1.0)))
-          (op_came (λ f. subtask_under_way f) (subtask.Guest k) w s ok n refl e));
+      by_handle = λ i h k e. was_word a w s ok k (⊎_elim (q.named.by_handle i h k) (λ now. known_made k (named_known a s (subtask.Guest k) now)) (handle_named a s w ok i h (subtask.Guest k) e));
+      by_op = λ n k e. was_word a w s ok k (⊎_elim (q.named.by_op n k) (λ g. known_made k (rw g.1.1 at (come_known a s n g.0 g.1.0))) (op_came (λ f. subtask_under_way f) (subtask.Guest k) w s ok n refl e));
     };
   }
 

@@ -1,12 +1,11 @@
 -- Of which instance the sets are that threads wait on, along the words of a step.
 use Rattle.std.proofs.Common.{ap, arith, inl, inr, refl, ⊎_elim}
 use Rattle.std.proofs.lemmas.Bool.Decides.{nat_tests}
-use Rattle.std.specs.Prelude.{IfSome, None, Option, Some, option_and_then, true, ℕ, ◌+◌, ◌≡◌, ◌⊎◌}
+use Rattle.std.specs.Prelude.{IfSome, None, Option, Some, option_and_then, true, ℕ, ◌≡◌, ◌⊎◌}
 use Rattle.task_laws.proofs.Basics.{above}
 use Rattle.task_laws.proofs.CallsCame.{op_came}
 use Rattle.task_laws.proofs.CameLemmas.{Came, Comes, MayStand, Moved, Shifts, Turned, Turns, came_word}
-use Rattle.task_laws.proofs.Machine.{add_call, add_group, add_set, add_thread, add_work, after_word, call_made, CloseSet, Core, count_work, free_handle, free_thread_handle, get, get-insert, get-remove, give_handle, give_result, give_thread_handle, how_far_of, HowFar, insert, instance_of, Mark, on_call, on_instance, on_thread, on_work, OpenSet, Place, place_of, poll_pends, push_high, remove, remove_call, remove_group, remove_set, remove_thread, remove_work, Scene, Set, set_backpressure, set_cancel_delivered, set_cancelled, set_course, set_do_not_enter, set_do_not_suspend, set_end, set_event, set_exited, set_how_far, set_join, set_own_event, set_phase, set_position, set_register, set_result, set_saved_callee, set_saved_own, set_script, set_stage, set_started, set_starting_published, set_subtask_handle, set_thread_handle, set_trapped, set_uninteresting, set_word, take_result, Why, with_handle, with_thread_handle, Word, work_queued}
-use Rattle.task_laws.proofs.SetHandles.{home_in}
+use Rattle.task_laws.proofs.Machine.{add_call, add_group, add_set, add_thread, add_work, after_word, call_made, CloseSet, Core, count_work, free_handle, free_thread_handle, get-insert, get-remove, give_handle, give_result, give_thread_handle, how_far_of, HowFar, instance_of, Mark, on_call, on_instance, on_thread, on_work, OpenSet, Place, place_of, poll_pends, push_high, remove_call, remove_group, remove_set, remove_thread, remove_work, Scene, set_backpressure, set_cancel_delivered, set_cancelled, set_course, set_do_not_enter, set_do_not_suspend, set_end, set_event, set_exited, set_how_far, set_join, set_own_event, set_phase, set_position, set_register, set_result, set_saved_callee, set_saved_own, set_script, set_stage, set_started, set_starting_published, set_subtask_handle, set_thread_handle, set_trapped, set_uninteresting, set_word, take_result, Why, with_handle, with_thread_handle, Word, work_queued}
 use Rattle.task_laws.specs.Order.{IsOf, SetsNamed, WaitsAtHome, set_of_op, set_of_place, set_of_why}
 use Rattle.task_machine.specs.declared.records.HowFar.TheVariants as how_far
 use Rattle.task_machine.specs.declared.records.Place.TheVariants as place
@@ -15,17 +14,10 @@ use Rattle.task_rules.specs.Places.{is_there}
 
 -- ---- Sets
 
-opened_of : (i x j : ℕ) (s : Core) → IsOf i x s → (r : Set) → get (insert s.sets (s.made.sets + 1) (record { instance = j })) x ≡ Some r →
-    r.instance ≡ i
-opened_of i x j s h r e = grind (arith, nat_tests, get-insert, h.home r)
-
-closed_of : (i x y : ℕ) (s : Core) → IsOf i x s → (r : Set) → get (remove s.sets y) x ≡ Some r → r.instance ≡ i
-closed_of i x y s h r e = grind (arith, nat_tests, get-remove, h.home r)
-
 of_word : (i x : ℕ) (w : Word) (s : Core) → IsOf i x s → IsOf i x (after_word w s)
 unfolding on_thread add_group add_set add_work count_work free_handle free_thread_handle give_handle give_result give_thread_handle on_call on_instance on_work push_high remove_call remove_group remove_set remove_work remove_thread set_backpressure set_cancel_delivered set_cancelled set_course set_do_not_enter set_do_not_suspend set_end set_event set_exited set_how_far set_join set_own_event set_phase set_position set_register set_result set_saved_callee set_saved_own set_script set_stage set_started set_starting_published set_subtask_handle set_thread_handle set_trapped set_uninteresting set_word take_result call_made add_call add_thread with_handle with_thread_handle work_queued poll_pends
-of_word i x (OpenSet j) s h = record { made = above h.made; home = opened_of i x j s h }
-of_word i x (CloseSet j g y) s h = record { made = h.made; home = closed_of i x y s h }
+of_word i x (OpenSet j) s h = record { made = above h.made; home = λ r e. grind (arith, nat_tests, get-insert, h.home r) }
+of_word i x (CloseSet j g y) s h = record { made = h.made; home = λ r e. grind (arith, nat_tests, get-remove, h.home r) }
 of_word i x w s h = record { made = h.made; home = h.home }
 
 -- ---- Threads
@@ -81,16 +73,9 @@ turned_set a s t n x o p c h = grind arith
 
 place_set : (a : Scene) (s t : Core) (n x : ℕ) (p : Option Place) → Came a s t n (place_of n s) p → set_at_place p ≡ Some x →
     (set_at_place (place_of n s) ≡ Some x) ⊎ Brings a n x
-place_set a s t n x p (Shifts c) h = go (shifted_set (MayStand a s n) x (place_of n s) p c h)
-  where
-    go : (set_at_place (place_of n s) ≡ Some x) ⊎ ((w : Why) × (MayStand a s n w × (set_of_why w ≡ Some x))) →
-        (set_at_place (place_of n s) ≡ Some x) ⊎ Brings a n x
-    go (inl e) = inl e
-    go (inr e) = stand_set a s n x e.0 e.1.0 e.1.1
-place_set a s t n x p (Comes r ok e there) h = inr (rw (set_is r e) at (move_set a s n r ok))
-  where
-    set_is : (r : Place) → p ≡ Some r → set_of_place r ≡ Some x
-    set_is r e = cc
+place_set a s t n x p (Shifts c) h =
+    ⊎_elim (λ e. inl e) (λ e. stand_set a s n x e.0 e.1.0 e.1.1) (shifted_set (MayStand a s n) x (place_of n s) p c h)
+place_set a s t n x p (Comes r ok e there) h = let is : set_of_place r ≡ Some x = cc in inr (rw is at (move_set a s n r ok))
 place_set a s t n x p (Turns c) h = absurd (turned_set a s t n x (place_of n s) p c h)
 
 op_set : (a : Scene) (w : Word) (s : Core) → Allowed a w s → (n x : ℕ) → set_of_op (how_far_of n (after_word w s)) ≡ Some x →
@@ -111,22 +96,18 @@ pub record KnownHome (a : Scene) : Type 0 where
   pub waits : WaitsAtHome a.base
 
 module _ (a : Scene) (known : KnownHome a) where
-  brought : (n x : ℕ) → HasSet a n x ⊎ (set_at_place (place_of n a.base) ≡ Some x) → IsOf (instance_of n a.base) x a.base
-  brought n x (inl (BySetHandle h e)) = record { made = known.sets.number _ h x e; home = λ r at. homed r at (known.sets.home _ h x e) }
-    where
-      homed : (r : Set) → get a.base.sets x ≡ Some r → home_in a.base.sets x ≡ Some (instance_of n a.base) →
-          r.instance ≡ instance_of n a.base
-      homed r at h = cc
-  brought n x (inl (ByWait e)) = known.waits.by_op n x (ap set_of_op e)
-  brought n x (inl (ByDelivery r)) = known.waits.by_place n x (ap (λ o. option_and_then set_of_place o) r.1)
-  brought n x (inr e) = known.waits.by_place n x e
+  set_home : (n x : ℕ) → HasSet a n x → IsOf (instance_of n a.base) x a.base
+  set_home n x (BySetHandle h e) = let made = known.sets.number _ h x e in let home = known.sets.home _ h x e in
+      record { made = made; home = λ r at. grind arith }
+  set_home n x (ByWait e) = known.waits.by_op n x (ap set_of_op e)
+  set_home n x (ByDelivery r) = known.waits.by_place n x (ap (λ o. option_and_then set_of_place o) r.1)
 
   module _ (s : Core) (q : Homed a s) (w : Word) (ok : Allowed a w s) where
     abbrev Home : ℕ → ℕ → Type 0
     Home n x = IsOf (instance_of n a.base) x (after_word w s) × (is_there n a.base ≡ true)
 
     brings_home : (n x : ℕ) → Brings a n x → Home n x
-    brings_home n x b = (of_word _ x w s (q.homes _ x (brought n x b.1)), known.there n b.0)
+    brings_home n x b = (of_word _ x w s (q.homes _ x (⊎_elim (set_home n x) (known.waits.by_place n x) b.1)), known.there n b.0)
 
     stays_home : (n x : ℕ) → IsOf (instance_of n a.base) x s × (is_there n a.base ≡ true) → Home n x
     stays_home n x h = (of_word _ x w s h.0, h.1)

@@ -4,3 +4,4 @@ pub mod Holders
 pub mod Written
 pub mod Handles
 pub mod Order
+pub mod Ends

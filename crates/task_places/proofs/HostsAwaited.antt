@@ -16,7 +16,7 @@ use Rattle.task_laws.specs.Order.{HostsAwaited, WorksQueued, InPlace}
 use Rattle.task_machine.specs.Core.{Core, State}
 use Rattle.task_machine.specs.Maps.{get}
 use Rattle.task_machine.specs.Moves.{behind_one, put_high, put_low}
-use Rattle.task_machine.specs.Read.{how_far_of, is_stage_ended, place_of, stage_of, subtask_ended, subtask_handle}
+use Rattle.task_machine.specs.Read.{how_far_of, is_stage_ended, place_of, stage_of, subtask_ended, subtask_handle, subtask_at, instance_of}
 use Rattle.task_machine.specs.Write.{push_high, push_low, set_callers, set_place}
 use Rattle.task_machine.specs.declared.records.HowFar.TheVariants as how_far
 use Rattle.task_machine.specs.declared.records.Place.{Place}
@@ -86,9 +86,12 @@ Asked a = (m i : ℕ) → IsRunner a m → how_far_of m a.base ≡ how_far.Calls
 goes_ended : (a : Scene) (i : ℕ) (s : Core) → Asked a → Working a s → MayRemoveWork a i s → is_stage_ended (stage_of i s) ≡ true
 goes_ended a i s asked h ok = go ok.1.1
   where
-    go : (how_far_of ok.0 a.base ≡ how_far.Calls (subtask.Host i)) ⊎ ((subtask_ended (subtask.Host i) a.base ≡ true) × ((subtask_handle (subtask.Host i) s ≡ None) × (is_stage_ended (stage_of i s) ≡ true))) → is_stage_ended (stage_of i s) ≡ true
-    go (inl far) = let e = asked ok.0 i ok.1.0 far in h.ended i e.0 e.1
-    go (inr e) = e.1.1
+    go : ((how_far_of ok.0 a.base ≡ how_far.Calls (subtask.Host i)) × (how_far_of ok.0 s ≡ how_far.Fresh)) ⊎
+        ((subtask_ended (subtask.Host i) a.base ≡ true) × ((subtask_handle (subtask.Host i) s ≡ None) × ((h : ℕ) ×
+        ((subtask_at (instance_of ok.0 a.base) h a.base ≡ Some (subtask.Host i)) × (is_stage_ended (stage_of i s) ≡ true))))) →
+        is_stage_ended (stage_of i s) ≡ true
+    go (inl far) = let e = asked ok.0 i ok.1.0 far.0 in h.ended i e.0 e.1
+    go (inr e) = e.1.1.1.1
 
 working_word : (a : Scene) → Asked a → (w : Word) (s : Core) → Allowed a w s → Stuck w s → Working a s → Working a (after_word w s)
 working_word a asked w s ok stuck h = record {

@@ -5,3 +5,4 @@ pub mod Directs
 pub mod WorksQueued
 pub mod HostsAwaited
 pub mod OrderLemmas
+pub mod OnceSteps

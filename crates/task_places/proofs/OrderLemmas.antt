@@ -5,7 +5,7 @@ use Rattle.task_places.proofs.Directs.{DirectsRun, directs_on_top, directs_word}
 use Rattle.task_machine.specs.declared.records.Subtask.TheVariants as subtask
 use Rattle.task_laws.proofs.Joins.{joins_word, opening_joins}
 use Rattle.task_laws.proofs.Subtasks.{Traced, opening_named, traced_word}
-use Rattle.task_rules.specs.Scenes.{base_at, scene_of, Scene}
+use Rattle.task_rules.specs.Scenes.{scene_of, Scene}
 use Rattle.task_rules.specs.Chains.{Walk, Walked}
 use Rattle.task_rules.specs.Allowed.{IsRunner, HasSubtask, ByHandle, ByOp}
 use Rattle.task_rules.proofs.WalkSteps.{step_walks}
@@ -18,9 +18,9 @@ use Rattle.task_laws.proofs.CountLemmas.{few_word}
 use Rattle.std.proofs.Common.{arith, inl, refl}
 use Rattle.std.specs.Option.{option_map_or}
 use Rattle.std.specs.Prelude.{List, None, Option, Some, [], false, is_some, option_and_then, option_map, true, ℕ, ◌∷◌, ◌≡◌, ◌≤◌}
-use Rattle.task_laws.proofs.SetHandles.{IsTidy, opening_tidy, tidy_word}
+use Rattle.task_laws.proofs.SetHandles.{opening_sets, sets_named_word}
 use Rattle.task_laws.proofs.CallsLaw.{CallsHold}
-use Rattle.task_laws.proofs.CallsSteps.{base_out, of_base, opening_holds, step_goes}
+use Rattle.task_laws.proofs.CallsSteps.{base_out, of_base, opening_holds, step_goes, plain, plain_scene}
 use Rattle.task_laws.specs.Order.{CallsNamed, InOrder, InPlace, Numbered, OpeningInOrder, SetsNamed, StartsAwaited, StepInOrder, WasCall, CallsThere, MakesFew, Strands, WaitsAtHome, set_of_op, set_of_place, StepsMakeFew, JoinsNamed, DirectsOnTop, WorksQueued, HostsAwaited}
 use Rattle.task_machine.specs.Core.{Core, Main, State, fresh}
 use Rattle.task_machine.specs.Maps.{empty, get, get-empty}
@@ -38,18 +38,6 @@ use Rattle.task_rules.specs.Laws.{Steady}
 use Rattle.task_rules.specs.Places.{Placed, is_there, is_fresh}
 use Rattle.task_rules.specs.Run.{Run, opening}
 use Rattle.task_rules.specs.Stalled.{Setting}
-
--- ---- The facts of a core, and those that the walks keep
-
-sets_of : (s : Core) → IsTidy s → SetsNamed s
-sets_of s q = record {
-  number = q.numbers;
-  home = q.homes;
-  once = λ i j h g x a b. grind (arith, q.homes i h x a, q.homes j g x b, q.apart i h g x);
-}
-
-tidy : (s : Core) → SetsNamed s → IsTidy s
-tidy s h = record { numbers = h.number; homes = h.home; apart = λ i a b x e f. (h.once i i a b x e f).1 }
 
 -- ---- Starts
 
@@ -91,8 +79,8 @@ same_instance s t steady numbered before after n was now =
 pub steps_make_few : StepsMakeFew
 steps_make_few x s l t step =
     let w = step_walks x s l t step in
-    let a : Scene = record (scene_of x s l w.next) { base = record s.core { queues = (base_at s.turn s.core).queues } } in
-    let c : Walk a s.core t.core = base_out (λ b. Walk (record a { base = b }) s.core t.core) s.turn s.core w.walk in
+    let a : Scene = plain_scene x s l w.next in
+    let c : Walk a s.core t.core = plain x s l w.next (λ c. Walk c s.core t.core) w.walk in
     let q : MakesFew a.base t.core = along (MakesFew a.base) (few_word a) (grind arith) c in
     grind arith
 
@@ -100,19 +88,16 @@ steps_make_few x s l t step =
 
 module _ (x : Setting) (s : State) (l : Label) (t : State) (h : InOrder x.component s) (w : Walked x s l t) where
   -- the step's scene, in which the row reads what is beside the marks as it was before the step
-  a : Scene
-  a = record (scene_of x s l w.next) { base = record s.core { queues = (base_at s.turn s.core).queues } }
+  abbrev a : Scene
+  a = plain_scene x s l w.next
 
   walk : Walk a s.core t.core
-  unfolding a
-  walk = base_out (λ b. Walk (record a { base = b }) s.core t.core) s.turn s.core w.walk
+  walk = plain x s l w.next (λ c. Walk c s.core t.core) w.walk
 
   runner : (n : ℕ) → IsRunner a n → is_there n s.core ≡ true
-  unfolding a
   runner n is = runner_there x s l w.next h.in_place n is
 
   pub strands_kept : Strands t.core
-  unfolding a
   strands_kept =
       let first : Layered a s.core = record {
         numbered = λ n there. (h.in_place.placed n).number there;
@@ -125,28 +110,24 @@ module _ (x : Setting) (s : State) (l : Label) (t : State) (h : InOrder x.compon
       record { below = q.below; made = q.made; alone = q.alone }
 
   runner_housed : RunnerHoused a
-  unfolding a
   runner_housed n is = let there = runner n is in grind (arith, h.calls_there n (task_of n s.core))
 
   pub calls_kept : CallsThere t.core
   calls_kept = along CallsThere (housed_word a runner_housed) h.calls_there walk
 
   known : CallsNamed a.base
-  unfolding a
   known = record {
     by_handle = λ i g k e. assumption (h.calls_named.by_handle i g k e);
     by_op = λ n k e. assumption (h.calls_named.by_op n k e);
   }
 
   pub named_kept : CallsNamed t.core
-  unfolding a
   named_kept =
       let first : Traced a s.core = record { was = λ k q. assumption; named = h.calls_named } in
       (along (Traced a) (λ v m ok q. traced_word a known m q v ok) first walk).named
 
   -- a call's start that the running thread may withdraw
   withdrawable : Withdrawable (scene_of x s l w.next)
-  unfolding a
   withdrawable = of_base (λ b. Withdrawable (record a { base = b })) s.turn s.core
       (λ m k is has unstarted. call_awaited s.core h.numbered h.calls_there h.starts k (assumption (named m k has)) unstarted)
     where
@@ -158,14 +139,12 @@ module _ (x : Setting) (s : State) (l : Label) (t : State) (h : InOrder x.compon
   arrives = step_arrives x s l t w h.in_place withdrawable
 
   pub starts_kept : Steady s.core t.core → StartsAwaited t.core
-  unfolding a
   starts_kept steady k c at e =
-      let come : Arrives a t.core = base_out (λ b. Arrives (record a { base = b }) t.core) s.turn s.core arrives in
+      let come : Arrives a t.core = plain x s l w.next (λ c. Arrives c t.core) arrives in
       let fresh = come.fresh k (was_awaited s.core t.core h.in_place.placed steady h.starts k c at e) in
       grind (arith, h.numbered.threads k, steady.calls k)
 
   pub directs_kept : Steady s.core t.core → Numbered t.core → DirectsOnTop t.core
-  unfolding a
   directs_kept steady after =
       let goes = base_out (λ b. Arrives (record a { base = b }) t.core) s.turn s.core arrives in
       directs_on_top a s.core t.core steady h.numbered after goes (λ k. refl) (λ k. refl) h.directs (along (DirectsRun a) (directs_word a) (λ k d. inl d) walk)
@@ -174,12 +153,11 @@ module _ (x : Setting) (s : State) (l : Label) (t : State) (h : InOrder x.compon
   works_kept = step_works x s l t w h.in_place withdrawable h.works h.awaited
 
   -- handles of sets, and the joins to them
-  pub joined_kept : IsTidy t.core × JoinsNamed t.core
-  joined_kept = along (λ (c : Core). IsTidy c × JoinsNamed c)
-      (λ v m ok q. (tidy_word a v m ok q.0, joins_word a m q.1 (sets_of m q.0) v ok)) (tidy s.core h.sets_named, h.joins_named) walk
+  pub joined_kept : SetsNamed t.core × JoinsNamed t.core
+  joined_kept = along (λ (c : Core). SetsNamed c × JoinsNamed c)
+      (λ v m ok q. (sets_named_word a v m ok q.0, joins_word a m q.1 q.0 v ok)) (h.sets_named, h.joins_named) walk
 
   known_home : KnownHome a
-  unfolding a
   known_home = record {
     there = runner;
     sets = record { number = h.sets_named.number; home = h.sets_named.home; once = h.sets_named.once };
@@ -187,7 +165,6 @@ module _ (x : Setting) (s : State) (l : Label) (t : State) (h : InOrder x.compon
   }
 
   homed_first : Homed a s.core
-  unfolding a
   homed_first = record {
     homes = λ i y q. assumption;
     by_place = λ n y e. (h.waits.by_place n y e, place_there (place_of n s.core) y e);
@@ -198,7 +175,6 @@ module _ (x : Setting) (s : State) (l : Label) (t : State) (h : InOrder x.compon
   homed_last = along (Homed a) (λ v m ok q. homed_word a known_home m q v ok) homed_first walk
 
   pub waits_kept : Steady s.core t.core → WaitsAtHome t.core
-  unfolding a
   waits_kept steady = record {
     by_place = λ n y e. let q = homed_last.by_place n y e in rw (same n (place_there (place_of n t.core) y e) q.1) q.0;
     by_op = λ n y e. let q = homed_last.by_op n y e in rw (same n (op_there (get t.core.threads n) y e) q.1) q.0;
@@ -225,7 +201,7 @@ step_in_order x s l t h step =
       calls_there = calls_kept x s l t h w;
       calls_named = named_kept x s l t h w;
       waits = waits_kept x s l t h w (steady x s l t step);
-      sets_named = sets_of t.core (joined_kept x s l t h w).0;
+      sets_named = (joined_kept x s l t h w).0;
       joins_named = (joined_kept x s l t h w).1;
       kinds = q.kinds;
       deliveries = q.deliveries;
@@ -299,7 +275,7 @@ opening_in_order c codes instances handle_limit capacity main =
       calls_there = opening_calls instances handle_limit capacity;
       waits = opening_waits instances handle_limit capacity;
       calls_named = opening_named instances handle_limit capacity;
-      sets_named = sets_of s (opening_tidy instances handle_limit capacity);
+      sets_named = opening_sets instances handle_limit capacity;
       joins_named = opening_joins instances handle_limit capacity;
       kinds = q.kinds;
       deliveries = q.deliveries;

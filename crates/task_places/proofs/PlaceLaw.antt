@@ -2,10 +2,8 @@
 use Rattle.task_machine.specs.declared.records.Subtask.{Subtask}
 use Rattle.task_rules.proofs.WalkMoves.{blocked_place}
 use Rattle.std.proofs.lemmas.Bool.Decides.{nat_tests}
-use Rattle.task_machine.specs.declared.records.HowFar.TheVariants as how_far
 use Rattle.task_machine.specs.declared.records.HowFar.{HowFar}
 use Rattle.task_rules.specs.Laws.{is_free}
-use Rattle.task_machine.specs.declared.records.Script.TheVariants as script
 use Rattle.task_rules.specs.Scripts.{registers_for}
 use Rattle.task_machine.specs.declared.records.Call.{Call}
 use Rattle.std.proofs.Common.{T, ap, arith, inl, inr, le_refl, refl, subst, sym, ◌∙◌}
@@ -16,17 +14,11 @@ use Rattle.task_machine.specs.Maps.{get}
 use Rattle.task_machine.specs.Moves.{has_entry, promoted, put_high, put_low, behind_one}
 use Rattle.task_machine.specs.Read.{is_explicit, new_thread_handle, place_of, task_of, was_started, is_under, is_blocked_on}
 use Rattle.task_machine.specs.Write.{add_call, add_group, add_set, add_work, count_work, free_handle, free_thread_handle, give_handle, give_result, give_thread_handle, on_call, on_instance, on_thread, on_work, push_high, remove_call, remove_group, remove_set, remove_thread, remove_work, set_backpressure, set_cancel_delivered, set_cancelled, set_course, set_do_not_enter, set_do_not_suspend, set_end, set_event, set_exited, set_how_far, set_join, set_own_event, set_phase, set_place, set_position, set_register, set_result, set_saved_callee, set_saved_own, set_script, set_stage, set_started, set_starting_published, set_subtask_handle, set_thread_handle, set_trapped, set_uninteresting, set_word, take_result}
-use Rattle.task_machine.specs.declared.records.Entry.TheVariants as entry
 use Rattle.task_machine.specs.declared.records.Place.{Place}
-use Rattle.task_machine.specs.declared.records.Place.TheVariants as place
-use Rattle.task_machine.specs.declared.records.Subtask.TheVariants as subtask
 use Rattle.task_machine.specs.declared.records.Thread.{Thread}
 use Rattle.task_machine.specs.declared.records.Turn.{Turn}
-use Rattle.task_machine.specs.declared.records.Turn.TheVariants as turn
 use Rattle.task_machine.specs.declared.records.Why.{Why}
-use Rattle.task_machine.specs.declared.records.Why.TheVariants as why
 use Rattle.task_machine.specs.declared.words.Mark.{Mark}
-use Rattle.task_machine.specs.declared.words.Mark.TheVariants as mark
 use Rattle.task_places.proofs.Entries.{added_stand, has_stands, next_first, popped_quiet, promoted_stand, pushed_same, removed_fresh, withdrawn_stand, flipped}
 use Rattle.task_laws.proofs.CameLemmas.{read_same}
 use Rattle.task_rules.proofs.ChainLemmas.{along}
@@ -43,6 +35,14 @@ use Rattle.task_rules.specs.Places.{HasPlace, entries, is_at_high, is_at_low, is
 use Rattle.task_rules.specs.Scenes.{Scene}
 use Rattle.task_rules.specs.Words.{FinishWork, MakeCall, MakeThread, NameThread, Places, Placing, Promote, Put, QueueWork, RemoveThread, SetHowFar, SetPosition, SetRegister, SetSavedCallee, SetSavedOwn, SetScript, Stop, TakeHost, TakePush, Withdraw, Word, after_placing, after_word, Pop, GoBehind, Move, Enter, SetUninteresting, RemoveCall, RemoveGroup, SetTrapped}
 use Rattle.task_rules.specs.Works.{poll_pends}
+use Rattle.task_machine.specs.declared.records.HowFar.TheVariants as how_far
+use Rattle.task_machine.specs.declared.records.Script.TheVariants as script
+use Rattle.task_machine.specs.declared.records.Entry.TheVariants as entry
+use Rattle.task_machine.specs.declared.records.Place.TheVariants as place
+use Rattle.task_machine.specs.declared.records.Subtask.TheVariants as subtask
+use Rattle.task_machine.specs.declared.records.Turn.TheVariants as turn
+use Rattle.task_machine.specs.declared.records.Why.TheVariants as why
+use Rattle.task_machine.specs.declared.words.Mark.TheVariants as mark
 
 pub no_way : {A : Type 0} → false ≡ true → A
 no_way h = absurd (subst T (sym h) tt)

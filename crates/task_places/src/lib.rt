@@ -2,8 +2,10 @@
 //! to. Each function here is the statement of a law, about the rules that `task_rules` defines.
 #![tactic(auto)]
 
+mod once;
 mod order;
 mod places;
 
+pub use once::runs_are_once;
 pub use order::{opening_in_order, reached_in_order, step_in_order, steps_make_few};
 pub use places::{reached_are_placed, steps_keep_places};

@@ -1,6 +1,6 @@
 -- The laws of steps and runs.
 use Rattle.std.proofs.Common.{ap, arith, cond, le_refl, le_trans, refl, subst, sym, ◌∙◌}
-use Rattle.std.specs.Prelude.{Bool, IsTrue, None, Option, Some, [], false, option_map, true, ℕ, ◌+◌, ◌==◌, ◌∷◌, ◌≡◌, ◌≤◌}
+use Rattle.std.specs.Prelude.{Bool, None, Option, Some, [], false, option_map, true, ℕ, ◌+◌, ◌==◌, ◌∷◌, ◌≡◌, ◌≤◌}
 use Rattle.task_machine.proofs.CommuteLemmas.{get-change}
 use Rattle.task_machine.proofs.MapLemmas.{get-insert_other}
 use Rattle.task_machine.specs.Core.{Core, State}
@@ -8,7 +8,6 @@ use Rattle.task_machine.specs.Maps.{Records, change, get, get-remove, insert, re
 use Rattle.task_machine.specs.Write.{add_call, add_group, add_set, add_thread, add_work, count_work, free_handle, free_thread_handle, give_handle, give_result, give_thread_handle, on_call, on_instance, on_thread, on_work, push_high, remove_call, remove_group, remove_set, remove_thread, remove_work, set_backpressure, set_cancel_delivered, set_cancelled, set_course, set_do_not_enter, set_do_not_suspend, set_end, set_event, set_exited, set_how_far, set_join, set_own_event, set_phase, set_position, set_register, set_result, set_saved_callee, set_saved_own, set_script, set_stage, set_started, set_starting_published, set_subtask_handle, set_thread_handle, set_trapped, set_uninteresting, set_word, take_result}
 use Rattle.task_machine.specs.declared.label.Label.{Label}
 use Rattle.task_machine.specs.declared.outcome.Outcome.{Outcome}
-use Rattle.task_machine.specs.declared.records.Made.{Made}
 use Rattle.task_machine.specs.declared.records.Thread.{Thread}
 use Rattle.task_machine.specs.declared.records.Turn.{Turn}
 use Rattle.task_rules.proofs.ChainLemmas.{along}
@@ -22,7 +21,7 @@ use Rattle.task_rules.specs.Stalled.{Setting}
 use Rattle.task_rules.specs.Step.{Step, TurnStep}
 use Rattle.task_rules.specs.Takes.{popped}
 use Rattle.task_rules.specs.Turns.{settled_turn}
-use Rattle.task_rules.specs.Words.{AddGroup, CountWork, EndWork, FinishWork, MakeCall, MakeThread, NameCall, NameThread, NameWork, OpenSet, Pend, Places, QueueWork, RemoveCall, RemoveThread, RemoveWork, SetCallEvent, SetCallJoin, SetCancelDelivered, SetCancelled, SetEnd, SetExited, SetHowFar, SetOwnEvent, SetPhase, SetPosition, SetRegister, SetResult, SetSavedCallee, SetSavedOwn, SetScript, SetStarted, SetStartingPublished, SetTrapped, SetUninteresting, SetWorkEvent, SetWorkJoin, TakeHost, TakePush, UnnameCall, UnnameWork, Withdraw, Word, after_placing, after_word}
+use Rattle.task_rules.specs.Words.{AddGroup, CountWork, MakeThread, Places, SetTrapped, TakeHost, TakePush, Word, after_placing, after_word}
 use Rattle.task_rules.specs.Works.{poll_pends}
 use Rattle.task_machine.specs.declared.records.Turn.TheVariants as turn
 
@@ -73,50 +72,24 @@ outcome_is_last x s (j ∷ js) l k t r = outcome_is_last x r.0 js l k t r.1.1
 one_more : {n m : ℕ} → n ≤ m → n ≤ m + 1
 one_more h = omega (arith, h)
 
--- the counts have not fallen since
-record Counted (was now : Made) : Type 0 where
-  pub threads : was.threads ≤ now.threads
-  pub works : was.works ≤ now.works
-  pub sets : was.sets ≤ now.sets
-  pub groups : was.groups ≤ now.groups
-
-counted_word : (b : Core) (w : Word) (s : Core) → Counted b.made s.made → Counted b.made (after_word w s).made
+fewer_word : (b : Core) (w : Word) (s : Core) → NeverFewer b s → NeverFewer b (after_word w s)
 unfolding add_call add_group add_set add_thread add_work call_made count_work free_handle free_thread_handle give_handle give_result give_thread_handle on_call on_instance on_thread on_work poll_pends push_high remove_call remove_group remove_set remove_thread remove_work set_backpressure set_cancel_delivered set_cancelled set_course set_do_not_enter set_do_not_suspend set_end set_event set_exited set_how_far set_join set_own_event set_phase set_position set_register set_result set_saved_callee set_saved_own set_script set_stage set_started set_starting_published set_subtask_handle set_thread_handle set_trapped set_uninteresting set_word take_result with_handle with_thread_handle work_queued
-counted_word b (MakeThread t) s q = omega arith
-counted_word b (MakeCall f e x g group words) s q = omega arith
-counted_word b CountWork s q = omega arith
-counted_word b (QueueWork f host group) s q = omega arith
-counted_word b (OpenSet i) s q = omega arith
-counted_word b AddGroup s q = omega arith
-counted_word b w s q = q
-
-fewer_of : (s t : Core) → Counted s.made t.made → NeverFewer s t
-fewer_of s t q = omega arith
+fewer_word b AddGroup s q = omega arith
+fewer_word b w s q = omega arith
 
 pub never_fewer : EachStep NeverFewer
-never_fewer x s l t step = fewer_of s.core t.core (step_kept (λ q r. Counted q.made r.made) (λ q. omega arith) counted_word x s l t step)
+never_fewer = step_kept NeverFewer (λ s. omega arith) fewer_word
 
 pub runs_never_fewer : KeptByRuns NeverFewer
 runs_never_fewer = runs_keep NeverFewer (λ s. omega arith) (λ s m t a b. omega arith) never_fewer
 
--- the limits are those, and what was trapped is
-record Limited (b : Core) (handle_limit capacity : ℕ) (trapped : Bool) : Type 0 where
-  pub handles : b.handle_limit ≡ handle_limit
-  pub room : b.capacity ≡ capacity
-  pub still : IsTrue b.trapped → IsTrue trapped
-
-limited_word : (b : Core) (w : Word) (s : Core) → Limited b s.handle_limit s.capacity s.trapped →
-    Limited b (after_word w s).handle_limit (after_word w s).capacity (after_word w s).trapped
+limited_word : (b : Core) (w : Word) (s : Core) → SameLimits b s → SameLimits b (after_word w s)
 unfolding add_call add_group add_set add_thread add_work call_made count_work free_handle free_thread_handle give_handle give_result give_thread_handle on_call on_instance on_thread on_work poll_pends push_high remove_call remove_group remove_set remove_thread remove_work set_backpressure set_cancel_delivered set_cancelled set_course set_do_not_enter set_do_not_suspend set_end set_event set_exited set_how_far set_join set_own_event set_phase set_position set_register set_result set_saved_callee set_saved_own set_script set_stage set_started set_starting_published set_subtask_handle set_thread_handle set_trapped set_uninteresting set_word take_result with_handle with_thread_handle work_queued
-limited_word b SetTrapped s q = record { handles = q.handles; room = q.room; still = λ h. refl }
-limited_word b w s q = q
-
-limits_of : {s t : Core} → Limited s t.handle_limit t.capacity t.trapped → SameLimits s t
-limits_of q = record { handle_limit = q.handles; capacity = q.room; trapped = q.still }
+limited_word b SetTrapped s q = record { handle_limit = q.handle_limit; capacity = q.capacity; trapped = λ h. refl }
+limited_word b w s q = assumption
 
 pub same_limits : EachStep SameLimits
-same_limits x s l t step =
-    limits_of (step_kept (λ q r. Limited q r.handle_limit r.capacity r.trapped) (λ q. assumption) limited_word x s l t step)
+same_limits = step_kept SameLimits (λ s. assumption) limited_word
 
 pub runs_same_limits : KeptByRuns SameLimits
 runs_same_limits =
@@ -177,6 +150,8 @@ module _ {X : Type 0} {P : X → X → Type 0} (o : Order P) where
         still_later (insert now (made + 1) x) (made + 1) (one_more q.count)
         (λ k below. subst (LaterBy P (get now k)) (sym (get-insert_other now (made + 1) x k (omega (arith, below, q.count)))) (later_same (get now k)))
 
+ruleset now_later = (changed_now, removed_now, made_now)
+
 same_thread : Order SameThread
 same_thread = record { same = λ t. assumption; after = λ t u v a b. grind arith }
 
@@ -204,57 +179,19 @@ module _ (b : Core) where
   threads_word (Places p) s q = places_changed s (after_placing p s) (placing_shifted p s) q
   threads_word (TakePush m i) s q = places_changed s (popped m s) (popped_shifted m s) q
   threads_word (TakeHost m i) s q = places_changed s (popped m s) (popped_shifted m s) q
-  threads_word (SetRegister n r v) s q = changed_now same_thread q _ _ (λ t. assumption)
-  threads_word (SetPosition n p) s q = changed_now same_thread q _ _ (λ t. assumption)
-  threads_word (SetHowFar n h) s q = changed_now same_thread q _ _ (λ t. assumption)
-  threads_word (SetScript n x) s q = changed_now same_thread q _ _ (λ t. assumption)
-  threads_word (SetSavedOwn n f) s q = changed_now same_thread q _ _ (λ t. assumption)
-  threads_word (SetSavedCallee n f) s q = changed_now same_thread q _ _ (λ t. assumption)
-  threads_word (NameThread i n) s q = changed_now same_thread q _ _ (λ t. assumption)
-  threads_word (MakeThread t) s q = made_now same_thread q _
-  threads_word (MakeCall f e x g group words) s q = made_now same_thread q _
-  threads_word (RemoveThread n) s q = removed_now same_thread q _
-  threads_word (Withdraw k) s q = removed_now same_thread q _
-  threads_word w s q = q
+  threads_word w s q = first_of (assumption, search (now_later, same_thread))
 
   calls_word : (w : Word) (s : Core) → NowLater LaterCall b.calls b.made.threads s.calls s.made.threads →
       NowLater LaterCall b.calls b.made.threads (after_word w s).calls (after_word w s).made.threads
   unfolding add_call add_group add_set add_thread add_work call_made count_work free_handle free_thread_handle give_handle give_result give_thread_handle on_call on_instance on_thread on_work poll_pends push_high remove_call remove_group remove_set remove_thread remove_work set_backpressure set_cancel_delivered set_cancelled set_course set_do_not_enter set_do_not_suspend set_end set_event set_exited set_how_far set_join set_own_event set_phase set_position set_register set_result set_saved_callee set_saved_own set_script set_stage set_started set_starting_published set_subtask_handle set_thread_handle set_trapped set_uninteresting set_word take_result with_handle with_thread_handle work_queued
   calls_word (MakeThread t) s q = record { count = one_more q.count; each = q.each }
-  calls_word (MakeCall f e x g group words) s q = made_now later_call q _
-  calls_word (RemoveCall k) s q = removed_now later_call q _
-  calls_word (SetStarted k) s q = changed_now later_call q _ _ (λ c. assumption)
-  calls_word (SetStartingPublished k) s q = changed_now later_call q _ _ (λ c. assumption)
-  calls_word (SetEnd k e) s q = changed_now later_call q _ _ (λ c. assumption)
-  calls_word (SetOwnEvent k e) s q = changed_now later_call q _ _ (λ c. assumption)
-  calls_word (SetCancelDelivered k) s q = changed_now later_call q _ _ (λ c. assumption)
-  calls_word (SetExited k) s q = changed_now later_call q _ _ (λ c. assumption)
-  calls_word (SetUninteresting k) s q = changed_now later_call q _ _ (λ c. assumption)
-  calls_word (SetResult k v) s q = changed_now later_call q _ _ (λ c. assumption)
-  calls_word (SetCallEvent k e) s q = changed_now later_call q _ _ (λ c. assumption)
-  calls_word (SetCallJoin k j) s q = changed_now later_call q _ _ (λ c. assumption)
-  calls_word (NameCall i k) s q = changed_now later_call q _ _ (λ c. assumption)
-  calls_word (UnnameCall i h k) s q = changed_now later_call q _ _ (λ c. assumption)
-  calls_word w s q = q
+  calls_word w s q = first_of (assumption, search (now_later, later_call))
 
   works_word : (w : Word) (s : Core) → NowLater LaterWork b.works b.made.works s.works s.made.works →
       NowLater LaterWork b.works b.made.works (after_word w s).works (after_word w s).made.works
   unfolding add_call add_group add_set add_thread add_work call_made count_work free_handle free_thread_handle give_handle give_result give_thread_handle on_call on_instance on_thread on_work poll_pends push_high remove_call remove_group remove_set remove_thread remove_work set_backpressure set_cancel_delivered set_cancelled set_course set_do_not_enter set_do_not_suspend set_end set_event set_exited set_how_far set_join set_own_event set_phase set_position set_register set_result set_saved_callee set_saved_own set_script set_stage set_started set_starting_published set_subtask_handle set_thread_handle set_trapped set_uninteresting set_word take_result with_handle with_thread_handle work_queued
   works_word CountWork s q = record { count = one_more q.count; each = q.each }
-  works_word (QueueWork f host group) s q = made_now later_work q _
-  works_word (TakePush m i) s q = changed_now later_work q _ _ (λ w. assumption)
-  works_word (TakeHost m i) s q = changed_now later_work q _ _ (λ w. assumption)
-  works_word (Pend i host) s q = changed_now later_work q _ _ (λ w. assumption)
-  works_word (EndWork i c) s q = changed_now later_work (changed_now later_work (changed_now later_work q _ _ (λ w. assumption)) _ _ (λ w. assumption)) _ _ (λ w. assumption)
-  works_word (FinishWork i c) s q = changed_now later_work (changed_now later_work (changed_now later_work q _ _ (λ w. assumption)) _ _ (λ w. assumption)) _ _ (λ w. assumption)
-  works_word (SetPhase i p) s q = changed_now later_work q _ _ (λ w. assumption)
-  works_word (SetCancelled i) s q = changed_now later_work q _ _ (λ w. assumption)
-  works_word (SetWorkEvent i e) s q = changed_now later_work q _ _ (λ w. assumption)
-  works_word (SetWorkJoin i j) s q = changed_now later_work q _ _ (λ w. assumption)
-  works_word (NameWork i k) s q = changed_now later_work q _ _ (λ w. assumption)
-  works_word (UnnameWork i h k) s q = changed_now later_work q _ _ (λ w. assumption)
-  works_word (RemoveWork i) s q = removed_now later_work q _
-  works_word w s q = q
+  works_word w s q = first_of (assumption, search (now_later, later_work))
 
 steady_same : (s : Core) → Steady s s
 steady_same s = record {

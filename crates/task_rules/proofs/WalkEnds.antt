@@ -1,11 +1,14 @@
 -- The end of a task as a chain of words.
-use Rattle.std.proofs.Common.{T, ap, ap₂, refl, subst, sym, ◌∙◌}
+use Rattle.std.proofs.Common.{ap, refl, sym, ◌∙◌}
 use Rattle.std.specs.Option.{option_map_or}
-use Rattle.std.specs.Prelude.{None, Option, Some, false, not, option_and_then, option_map, slice_set, true, ℕ, ◌&&◌, ◌≡◌, unwrap_or}
-use Rattle.task_machine.proofs.MapLemmas.{change-field, get-change_same}
+use Rattle.std.specs.Prelude.{None, Option, Some, false, option_map, true, ℕ, ◌≡◌}
+use Rattle.std.proofs.Common.{arith}
+use Rattle.std.proofs.lemmas.Bool.Decides.{nat_tests}
+use Rattle.task_machine.proofs.CommuteLemmas.{get-change}
+use Rattle.task_machine.proofs.MapLemmas.{change-field}
 use Rattle.task_machine.specs.Core.{Core}
-use Rattle.task_machine.specs.Maps.{get, change}
-use Rattle.task_machine.specs.Read.{caller_of, end_of, goal_of, is_direct, is_guest_call, is_waiting_on, join_of, place_of}
+use Rattle.task_machine.specs.Maps.{get}
+use Rattle.task_machine.specs.Read.{caller_of, end_of, goal_of, is_waiting_on, join_of, place_of}
 use Rattle.task_machine.specs.Write.{give_result, on_call, on_thread, set_end, set_register, set_result}
 use Rattle.task_machine.specs.declared.records.Call.{Call}
 use Rattle.task_machine.specs.declared.records.CallEnd.{CallEnd}
@@ -20,7 +23,6 @@ use Rattle.task_rules.specs.Words.{GiveResult, SetEnd, SetRegister, SetResult}
 use Rattle.task_machine.specs.declared.records.CallEnd.TheVariants as call_end
 use Rattle.task_machine.specs.declared.records.Caller.TheVariants as caller
 use Rattle.task_machine.specs.declared.records.Goal.TheVariants as goal
-use Rattle.task_machine.specs.declared.records.Join.TheVariants as join
 use Rattle.task_machine.specs.declared.records.Subtask.TheVariants as subtask
 use Rattle.task_machine.specs.declared.words.Status.TheVariants as status
 
@@ -47,10 +49,10 @@ SameCall k s t = option_map unanswered (get t.calls k) ≡ option_map unanswered
 
 module _ (k : ℕ) (s t : Core) (h : SameCall k s t) where
   same_told : is_told k t ≡ is_told k s
-  same_told = ap₂ (λ f g. is_guest_call f && not (is_direct g)) (read_by unanswered (λ c. c.caller) caller.Main (λ c. refl) (get t.calls k) (get s.calls k) h) (read_by unanswered (λ c. c.goal) goal.Nowhere (λ c. refl) (get t.calls k) (get s.calls k) h)
+  same_told = grind (arith, h)
 
   same_join : join_of (subtask.Guest k) t ≡ join_of (subtask.Guest k) s
-  same_join = read_by unanswered (λ c. c.join) join.Nowhere (λ c. refl) (get t.calls k) (get s.calls k) h
+  same_join = grind (arith, h)
 
   -- the chosen thread is the same
   pub still_told_to : (w : Option ℕ) → ((x : ℕ) → Chosen x w s → Chosen x w t) → ToldTo k w s → ToldTo k w t
@@ -66,60 +68,32 @@ end_places k e s n = refl
 
 result_resulted : (g : Goal) (f : Caller) (k v : ℕ) (s : Core) → option_map unresulted (get (result_given g f k v s).calls k) ≡ option_map unresulted (get s.calls k)
 unfolding give_result set_register on_thread set_result on_call
-result_resulted goal.Main f k v s = refl
-result_resulted (goal.Register r) (caller.Thread n) k v s = refl
-result_resulted (goal.Register r) caller.Main k v s = refl
-result_resulted goal.Answer f k v s = change-field unresulted k (λ c. record c { result = Some v }) (λ c. refl) s.calls k
-result_resulted goal.Nowhere f k v s = refl
-result_resulted goal.Direct f k v s = refl
+result_resulted g f k v s = grind (arith, nat_tests, get-change)
 
 unanswer : (o p : Option Call) → option_map unresulted o ≡ option_map unresulted p → option_map unanswered o ≡ option_map unanswered p
-unanswer o p e = sym (at o) ∙ (ap (option_map unanswered) e ∙ at p)
-  where
-    at : (q : Option Call) → option_map unanswered (option_map unresulted q) ≡ option_map unanswered q
-    at None = refl
-    at (Some c) = refl
+unanswer o p e = grind arith
 
 result_places : (g : Goal) (f : Caller) (k v : ℕ) (s : Core) (m : ℕ) → place_of m (result_given g f k v s) ≡ place_of m s
 unfolding give_result set_register on_thread set_result on_call
-result_places goal.Main f k v s m = refl
-result_places (goal.Register r) (caller.Thread n) k v s m = change-field (λ t. t.place) n (λ t. record t { registers = slice_set t.registers r v }) (λ t. refl) s.threads m
-result_places (goal.Register r) caller.Main k v s m = refl
-result_places goal.Answer f k v s m = refl
-result_places goal.Nowhere f k v s m = refl
-result_places goal.Direct f k v s m = refl
+result_places g f k v s m = grind (arith, nat_tests, get-change)
 
 -- a told call is there
-told_end : (k : ℕ) (e : CallEnd) (o p : Option Call) → option_map unresulted p ≡ option_map unresulted (option_map (λ (c : Call). record c { «end» = Some e }) o) → (is_guest_call (option_map_or (λ c. c.caller) o caller.Main) && not (is_direct (option_map_or (λ c. c.goal) o goal.Nowhere))) ≡ true → option_and_then (λ c. c.«end») p ≡ Some e
-told_end k e None p same told = absurd (subst T (sym told) tt)
-told_end k e (Some c) p same told = sym (at p) ∙ ap (option_and_then (λ d. d.«end»)) same
-  where
-    at : (q : Option Call) → option_and_then (λ d. d.«end») (option_map unresulted q) ≡ option_and_then (λ d. d.«end») q
-    at None = refl
-    at (Some d) = refl
-
-told_ends : (k : ℕ) (e : CallEnd) (s t : Core) → option_map unresulted (get t.calls k) ≡ option_map unresulted (get (set_end k e s).calls k) → is_told k t ≡ true → end_of k t ≡ Some e
+told_ends : (k : ℕ) (e : CallEnd) (s t : Core) → option_map unresulted (get t.calls k) ≡ option_map unresulted (get (set_end k e s).calls k) →
+    is_told k t ≡ true → end_of k t ≡ Some e
 unfolding set_end on_call
-told_ends k e s t same told =
-    let there = same ∙ ap (option_map unresulted) (get-change_same s.calls k (λ (c : Call). record c { «end» = Some e })) in
-    told_end k e (get s.calls k) (get t.calls k) there (sym (same_told k s t (unanswer (get t.calls k) (get (set_end k e s).calls k) same ∙ end_same k e s)) ∙ told)
+told_ends k e s t same told = grind (arith, nat_tests, get-change, same)
 
 end_goal : (k : ℕ) (e : CallEnd) (s : Core) → goal_of k (set_end k e s) ≡ goal_of k s
 unfolding set_end on_call
-end_goal k e s = by_field (get (change k (λ (c : Call). record c { «end» = Some e }) s.calls) k) ∙ (ap (λ (o : Option Goal). unwrap_or o goal.Nowhere) (change-field (λ (c : Call). c.goal) k (λ (c : Call). record c { «end» = Some e }) (λ c. refl) s.calls k) ∙ sym (by_field (get s.calls k)))
-  where
-    by_field : (o : Option Call) → option_map_or (λ (c : Call). c.goal) o goal.Nowhere ≡ unwrap_or (option_map (λ (c : Call). c.goal) o) goal.Nowhere
-    by_field None = refl
-    by_field (Some c) = refl
+end_goal k e s = grind (arith, nat_tests, get-change)
 
 module _ {a : Scene} {b : Core} where
   result_given_walks : (g : Goal) (f : Caller) (k v : ℕ) {s : Core} → goal_of k s ≡ g → SaysEnd a k status.Returned → Stay a b s → Stay a b (result_given g f k v s)
   result_given_walks goal.Main f k v at says c = word (GiveResult k v) (says, at) c
   result_given_walks (goal.Register r) (caller.Thread n) k v at says c = word (SetRegister n r v) tt c
-  result_given_walks (goal.Register r) caller.Main k v at says c = c
   result_given_walks goal.Answer f k v at says c = word (SetResult k (Some v)) tt c
-  result_given_walks goal.Nowhere f k v at says c = c
-  result_given_walks goal.Direct f k v at says c = c
+  result_given_walks (goal.Register r) caller.Main k v at says c = c
+  result_given_walks _ f k v at says c = c
 
   -- after the end is written
   pub returned_rest : (k v : ℕ) (w : Option ℕ) (s : Core) → SaysEnd a k status.Returned → ToldTo k w s → Stay a b (set_end k call_end.Returned s) → Stay a b (returned k v w s)

@@ -3,15 +3,17 @@ use Rattle.task_machine.proofs.CommuteLemmas.{get-change}
 use Rattle.std.proofs.lemmas.Bool.Decides.{nat_tests}
 use Rattle.task_machine.specs.declared.records.Turn.TheVariants as turn
 use Rattle.task_machine.specs.declared.records.HowFar.{HowFar}
-use Rattle.std.proofs.Common.{T, ap, cond, inr, refl, subst, sym, ◌∙◌, arith}
+use Rattle.std.proofs.Common.{ap, inr, refl, subst, sym, ◌∙◌, arith}
+use Rattle.task_rules.proofs.StandLemmas.{set_place_is}
+use Rattle.task_machine.specs.declared.records.Work.{Work}
 use Rattle.std.specs.Option.{option_map_or}
-use Rattle.std.specs.Prelude.{Bool, List, None, Option, Some, [], false, if◌then◌else◌, is_none, is_some, not, option_and_then, true, unwrap_or, ℕ, ◌||◌, ◌∷◌, ◌≡◌}
+use Rattle.std.specs.Prelude.{Bool, List, None, Option, Some, [], false, if◌then◌else◌, is_some, not, option_and_then, true, ℕ, ◌||◌, ◌∷◌, ◌≡◌}
 use Rattle.task_machine.proofs.MapLemmas.{get-remove_same}
 use Rattle.task_machine.specs.Core.{Core}
-use Rattle.task_machine.specs.Maps.{Records, get, numbers, remove}
+use Rattle.task_machine.specs.Maps.{Records, get, numbers, remove, change}
 use Rattle.task_machine.specs.Moves.{Gift, MemberGift, NoGift, OwnGift, call_settled, checked, ended, exited_if, first_entry, freed_thread_handle, group_settled, handed_on, hands_on, held_why_of, interest_settled, is_callback_waiter, is_deletable, is_finished, is_group_done, may_hand_on, may_publish, may_wake, may_wake_joined, promoted, promoted_first, promoted_unless, published, put_high, released, released_one, stopped, taken, unblocked, wake, wake_joined, waken_by}
-use Rattle.task_machine.specs.Read.{blocked_on, call_group, held_why, instance_of, is_at, is_blocked_on, is_explicit, is_waiter, is_waiting_on, is_watched, join_of, may_not_suspend, place_of, same_subtask, task_of, thread_handle_of, is_end, is_stage_ended, stage_of}
-use Rattle.task_machine.specs.Write.{free_thread_handle, on_call, on_work, push_high, remove_call, remove_group, remove_thread, set_event, set_exited, set_place, set_uninteresting, set_how_far}
+use Rattle.task_machine.specs.Read.{blocked_on, call_group, held_why, instance_of, is_at, is_blocked_on, is_explicit, is_waiter, is_waiting_on, join_of, may_not_suspend, place_of, same_subtask, task_of, thread_handle_of, is_end, is_stage_ended, stage_of}
+use Rattle.task_machine.specs.Write.{free_thread_handle, on_call, on_work, push_high, remove_call, remove_group, remove_thread, set_event, set_exited, set_uninteresting, set_how_far}
 use Rattle.task_machine.specs.declared.records.Join.{Join}
 use Rattle.task_machine.specs.declared.records.Place.{Place}
 use Rattle.task_machine.specs.declared.records.Subtask.{Subtask}
@@ -23,16 +25,17 @@ use Rattle.task_rules.proofs.ChainLemmas.{join, weaken, shift_stays, settle_stay
 use Rattle.task_rules.proofs.StopLemmas.{find_passes}
 use Rattle.task_rules.proofs.PlacingLemmas.{placed, placing_shifted}
 use Rattle.task_rules.proofs.PromotionLemmas.{first_has_entry}
-use Rattle.task_rules.proofs.StandLemmas.{by_number, is_eq_of, place_kept}
-use Rattle.task_rules.specs.Allowed.{IsOwn, IsRunner, MayDeliver, MayPut, MayTell, MayTellWork, Releases, Tells, Unblocks, Wakes, wake_why, SaysEnd, Leaves, MayLand, Stays, MayCome, is_done_host}
+use Rattle.task_rules.specs.Allowed.{IsOwn, IsRunner, MayDeliver, MayPut, MayTell, Releases, Tells, Unblocks, Wakes, wake_why, SaysEnd, Leaves, MayLand, Stays, MayCome, is_done_host}
 use Rattle.task_rules.specs.Chains.{NoWord, Shifts, Then, Stay, Trip, Settles, Quits, Lands, LandsAt}
 use Rattle.task_rules.specs.Ends.{is_told, may_tell, told}
 use Rattle.task_rules.specs.Scenes.{Scene}
 use Rattle.task_rules.specs.Sets.{chosen}
-use Rattle.task_rules.specs.Words.{FreeThreadHandle, Placing, Promote, Put, RemoveCall, RemoveGroup, RemoveThread, SetCallEvent, SetCancelDelivered, SetExited, SetOwnEvent, SetUninteresting, SetWorkEvent, Stop, Word, after_placing, after_word, put_at}
+use Rattle.task_rules.specs.Words.{FreeThreadHandle, Placing, Promote, Put, RemoveCall, RemoveGroup, RemoveThread, SetCallEvent, SetCancelDelivered, SetExited, SetOwnEvent, SetUninteresting, TakeWorkEvent, Stop, Word, after_placing, after_word, put_at}
+use Rattle.task_machine.specs.declared.records.Turn.TheVariants as turn
 use Rattle.task_machine.specs.declared.records.Delivery.TheVariants as delivery
 use Rattle.task_machine.specs.declared.records.Join.TheVariants as join
 use Rattle.task_machine.specs.declared.records.Place.TheVariants as place
+use Rattle.task_machine.specs.declared.records.Stage.TheVariants as stage
 use Rattle.task_machine.specs.declared.records.Subtask.TheVariants as subtask
 use Rattle.task_machine.specs.declared.records.Why.TheVariants as why
 use Rattle.task_machine.specs.declared.words.Mark.TheVariants as mark
@@ -48,9 +51,7 @@ put_shifts : (m : Mark) (n : ℕ) (w : Why) (s : Core) → MayPut n w s → Shif
 put_shifts m n w s ok = placed (Put m n w) ok NoWord
 
 none_stands : (b : Bool) (o : Option ℕ) → (b || is_some o) ≡ false → o ≡ None
-none_stands b None e = refl
-none_stands true (Some m) e = absurd (subst T e tt)
-none_stands false (Some m) e = absurd (subst T e tt)
+none_stands b o e = grind arith
 
 first_shifts : (i : ℕ) (s : Core) (o : Option ℕ) → first_entry i s ≡ o → s.queues.switch ≡ None → Shifts s (promoted_first o s)
 first_shifts i s None e none = NoWord
@@ -65,21 +66,12 @@ checked_shifts i s =
 pub stopped_shifts : (f : ℕ) (s : Core) → Shifts s (stopped f s)
 stopped_shifts f s = placed (Stop f) tt NoWord
 
+held_at : (o : Option Place) (v : Why) → option_and_then held_why o ≡ Some v → o ≡ Some (place.Held v)
+held_at o v h = grind arith
+
 released_one_shifts : (n : ℕ) (o : Option Why) (s : Core) → held_why_of n s ≡ o → Shifts s (released_one n o s)
 released_one_shifts n None s e = NoWord
 released_one_shifts n (Some w) s e = put_shifts mark.High n w s (Releases (held_at (place_of n s) w e))
-  where
-    held_at : (o : Option Place) (v : Why) → option_and_then held_why o ≡ Some v → o ≡ Some (place.Held v)
-    held_at (Some (place.Held u)) v h = ap (λ x. option_and_then (λ y. Some (place.Held y)) x) h
-    held_at None v h = absurd (subst T (ap (λ (x : Option Why). is_none x) h) tt)
-    held_at (Some place.New) v h = absurd (subst T (ap (λ (x : Option Why). is_none x) h) tt)
-    held_at (Some place.Running) v h = absurd (subst T (ap (λ (x : Option Why). is_none x) h) tt)
-    held_at (Some (place.Ready m u)) v h = absurd (subst T (ap (λ (x : Option Why). is_none x) h) tt)
-    held_at (Some (place.Under c)) v h = absurd (subst T (ap (λ (x : Option Why). is_none x) h) tt)
-    held_at (Some (place.Behind c)) v h = absurd (subst T (ap (λ (x : Option Why). is_none x) h) tt)
-    held_at (Some (place.Waiting y b)) v h = absurd (subst T (ap (λ (x : Option Why). is_none x) h) tt)
-    held_at (Some (place.Blocked c)) v h = absurd (subst T (ap (λ (x : Option Why). is_none x) h) tt)
-    held_at (Some place.Suspended) v h = absurd (subst T (ap (λ (x : Option Why). is_none x) h) tt)
 
 pub released_shifts : (ns : List ℕ) (s : Core) → Shifts s (released ns s)
 unfolding released
@@ -101,25 +93,14 @@ wake_shifts x (Some n) s h = waken_shifts x n s (is_callback_waiter n s) refl (h
 
 pub chosen_of : (x : ℕ) (w : Option ℕ) (s : Core) → may_wake x w s ≡ true → Chosen x w s
 unfolding may_wake
-chosen_of x None s h n is = absurd (subst T (ap (λ (o : Option ℕ). is_none o) is) tt)
-chosen_of x (Some m) s h n is = subst (λ (k : ℕ). is_waiter x k s ≡ true) (ap (λ (o : Option ℕ). unwrap_or o 0) is) h
+chosen_of x w s h n is = grind arith
 
 -- the chosen thread waits on the set that the subtask is in
 abbrev pub ChosenIn : Join → Option ℕ → Core → Type 0
 ChosenIn j w s = (x : ℕ) → j ≡ join.Set x → Chosen x w s
 
 pub chosen_in_of : (j : Join) (w : Option ℕ) (s : Core) → may_wake_joined j w s ≡ true → ChosenIn j w s
-chosen_in_of (join.Set y) w s h x is = subst (λ (z : ℕ). Chosen z w s) (ap set_in is) (chosen_of y w s h)
-  where
-    set_in : Join → ℕ
-    set_in (join.Set z) = z
-    set_in _ = 0
-chosen_in_of join.Nowhere w s h x is = absurd (subst T (ap is_nowhere is) tt)
-  where
-    is_nowhere : Join → Bool
-    is_nowhere join.Nowhere = true
-    is_nowhere _ = false
-chosen_in_of (join.Watched n) w s h x is = absurd (subst T (ap (λ (j : Join). is_watched j) is) tt)
+chosen_in_of j w s h x is n at = grind (arith, chosen_of x w s)
 
 wake_joined_shifts : (j : Join) (w : Option ℕ) (s : Core) → ChosenIn j w s → Shifts s (wake_joined j w s)
 wake_joined_shifts (join.Set x) w s h = wake_shifts x w s (h x refl)
@@ -127,32 +108,18 @@ wake_joined_shifts join.Nowhere w s h = NoWord
 wake_joined_shifts (join.Watched n) w s h = NoWord
 
 -- a thread elsewhere gets an entry: who waits on x still does
-waiter_put : (x n m : ℕ) (w : Why) (p : Place) (s : Core) → place_of m s ≡ Some p → is_waiting_on x p ≡ false → is_waiter x n s ≡ true → is_waiter x n (put_high m w s) ≡ true
+waiter_put : (x n m : ℕ) (w : Why) (p : Place) (s : Core) → place_of m s ≡ Some p → is_waiting_on x p ≡ false → is_waiter x n s ≡ true →
+    is_waiter x n (put_high m w s) ≡ true
 unfolding put_high push_high
-waiter_put x n m w p s at other h =
-    by_number n m (is_waiter x n (set_place m (place.Ready mark.High w) s) ≡ true)
-    (λ e. absurd (subst T (sym (ap (λ (o : Option Place). option_map_or (is_waiting_on x) o false) (ap (λ (k : ℕ). place_of k s) (sym e)) ∙ h) ∙ (ap (λ (o : Option Place). option_map_or (is_waiting_on x) o false) at ∙ other)) tt))
-    (λ e. ap (λ (o : Option Place). option_map_or (is_waiting_on x) o false) (place_kept n m (place.Ready mark.High w) s e) ∙ h)
+waiter_put x n m w p s at other h = grind (arith, nat_tests, set_place_is n m (place.Ready mark.High w) s)
 
 -- ---- A blocked thread
 
 same_subtask_is : (sub other : Subtask) → same_subtask sub other ≡ true → sub ≡ other
-same_subtask_is (subtask.Guest k) (subtask.Guest q) h = ap (λ (j : ℕ). subtask.Guest j) (is_eq_of k q h)
-same_subtask_is (subtask.Host i) (subtask.Host j) h = ap (λ (k : ℕ). subtask.Host k) (is_eq_of i j h)
-same_subtask_is (subtask.Guest k) (subtask.Host j) h = absurd (subst T (sym h) tt)
-same_subtask_is (subtask.Host i) (subtask.Guest q) h = absurd (subst T (sym h) tt)
+same_subtask_is sub other h = grind (arith, nat_tests)
 
 pub blocked_place : (sub : Subtask) (o : Option Place) → option_map_or (is_blocked_on sub) o false ≡ true → o ≡ Some (place.Blocked sub)
-blocked_place sub (Some (place.Blocked on)) h = ap (λ (x : Subtask). Some (place.Blocked x)) (sym (same_subtask_is sub on h))
-blocked_place sub None h = absurd (subst T (sym h) tt)
-blocked_place sub (Some place.New) h = absurd (subst T (sym h) tt)
-blocked_place sub (Some place.Running) h = absurd (subst T (sym h) tt)
-blocked_place sub (Some (place.Ready m u)) h = absurd (subst T (sym h) tt)
-blocked_place sub (Some (place.Under c)) h = absurd (subst T (sym h) tt)
-blocked_place sub (Some (place.Behind c)) h = absurd (subst T (sym h) tt)
-blocked_place sub (Some (place.Waiting y b)) h = absurd (subst T (sym h) tt)
-blocked_place sub (Some (place.Held c)) h = absurd (subst T (sym h) tt)
-blocked_place sub (Some place.Suspended) h = absurd (subst T (sym h) tt)
+blocked_place sub o h = grind (arith, same_subtask_is sub)
 
 pub blocked_at : (sub : Subtask) (s : Core) (m : ℕ) → blocked_on sub s ≡ Some m → place_of m s ≡ Some (place.Blocked sub)
 unfolding blocked_on
@@ -172,19 +139,7 @@ chosen_unblocked sub (Some m) x w s h c = λ n is. waiter_put x n m why.Resumpti
 
 chosen_released_one : (n : ℕ) (o : Option Why) (x : ℕ) (w : Option ℕ) (s : Core) → held_why_of n s ≡ o → Chosen x w s → Chosen x w (released_one n o s)
 chosen_released_one n None x w s e c = c
-chosen_released_one n (Some v) x w s e c = λ k is. held_put (place_of n s) refl e k (c k is)
-  where
-    held_put : (o : Option Place) → place_of n s ≡ o → option_and_then held_why o ≡ Some v → (k : ℕ) → is_waiter x k s ≡ true → is_waiter x k (put_high n v s) ≡ true
-    held_put (Some (place.Held u)) at h k c = waiter_put x k n v (place.Held u) s at refl c
-    held_put None at h k c = absurd (subst T (ap (λ (x : Option Why). is_none x) h) tt)
-    held_put (Some place.New) at h k c = waiter_put x k n v place.New s at refl c
-    held_put (Some place.Running) at h k c = waiter_put x k n v place.Running s at refl c
-    held_put (Some (place.Ready m u)) at h k c = waiter_put x k n v (place.Ready m u) s at refl c
-    held_put (Some (place.Under m)) at h k c = waiter_put x k n v (place.Under m) s at refl c
-    held_put (Some (place.Behind m)) at h k c = waiter_put x k n v (place.Behind m) s at refl c
-    held_put (Some (place.Waiting y b)) at h k c = absurd (subst T (ap (λ (x : Option Why). is_none x) h) tt)
-    held_put (Some (place.Blocked m)) at h k c = waiter_put x k n v (place.Blocked m) s at refl c
-    held_put (Some place.Suspended) at h k c = waiter_put x k n v place.Suspended s at refl c
+chosen_released_one n (Some v) x w s e c = λ k is. waiter_put x k n v (place.Held v) s (held_at (place_of n s) v e) refl (c k is)
 
 pub chosen_released : (ns : List ℕ) (x : ℕ) (w : Option ℕ) (s : Core) → Chosen x w s → Chosen x w (released ns s)
 unfolding released
@@ -223,6 +178,10 @@ promoted_walks m n {s = s} runs ready c = walk_if (is_some s.queues.switch) s (p
 
 -- ---- Published
 
+-- what a change keeps of the record of a work
+pub work_read : {A : Type 0} (f : Work → A) (none : A) (i : ℕ) (g : Work → Work) → ((w : Work) → f (g w) ≡ f w) → (m : Records Work) → option_map_or f (get (change i g m) i) none ≡ option_map_or f (get m i) none
+work_read f none i g keeps m = grind (arith, nat_tests, get-change)
+
 published_shifts : (sub : Subtask) (w : Option ℕ) (s t : Core) → is_done_host sub t ≡ true → ((m : ℕ) → place_of m t ≡ place_of m s) → ChosenIn (join_of sub s) w s → Shifts t (wake_joined (join_of sub s) w (unblocked (blocked_on sub s) t))
 published_shifts sub w s t done same chosen =
     let o = blocked_on sub s in
@@ -234,16 +193,13 @@ pub published_call_shifts : (k : ℕ) (e : Status) (w : Option ℕ) (s : Core) �
 unfolding published set_event on_call
 published_call_shifts k e w s chosen = published_shifts (subtask.Guest k) w s (set_event (subtask.Guest k) (Some e) s) refl (λ m. refl) chosen
 
-published_work_shifts : (i : ℕ) (e : Status) (w : Option ℕ) (s : Core) → is_stage_ended (stage_of i s) ≡ true → ChosenIn (join_of (subtask.Host i) s) w s → Shifts (set_event (subtask.Host i) (Some e) s) (published (subtask.Host i) e w s)
+pub published_work_shifts : (i : ℕ) (e : Status) (w : Option ℕ) (s : Core) → is_stage_ended (stage_of i s) ≡ true → ChosenIn (join_of (subtask.Host i) s) w s → Shifts (set_event (subtask.Host i) (Some e) s) (published (subtask.Host i) e w s)
 unfolding published set_event on_work
-published_work_shifts i e w s done chosen = published_shifts (subtask.Host i) w s (set_event (subtask.Host i) (Some e) s) (grind (arith, nat_tests, get-change)) (λ m. refl) chosen
+published_work_shifts i e w s done chosen = published_shifts (subtask.Host i) w s (set_event (subtask.Host i) (Some e) s) (ap (λ x. is_stage_ended x) (work_read (λ r. r.stage) stage.Ended i (λ r. record r { event = Some e }) (λ r. refl) s.works) ∙ done) (λ m. refl) chosen
 
 module _ {a : Scene} {b : Core} where
   published_call : (k : ℕ) (e : Status) (w : Option ℕ) {s : Core} → MayTell a k (Some e) s → ChosenIn (join_of (subtask.Guest k) s) w s → Stay a b s → Stay a b (published (subtask.Guest k) e w s)
   published_call k e w {s = s} ok chosen c = shifted (published_call_shifts k e w s chosen) (word (SetCallEvent k (Some e)) ok c)
-
-  pub published_work : (i : ℕ) (e : Status) (w : Option ℕ) {s : Core} → MayTellWork a i (Some e) s → ChosenIn (join_of (subtask.Host i) s) w s → Stay a b s → Stay a b (published (subtask.Host i) e w s)
-  published_work i e w {s = s} ok chosen c = shifted (published_work_shifts i e w s ok.0 chosen) (word (SetWorkEvent i (Some e)) ok c)
 
 -- the thread chosen where the call's status is told
 abbrev pub ToldTo : ℕ → Option ℕ → Core → Type 0
@@ -251,7 +207,7 @@ ToldTo k w s = is_told k s ≡ true → ChosenIn (join_of (subtask.Guest k) s) w
 
 pub told_to : (k : ℕ) (w : Option ℕ) (s : Core) → may_tell k w s ≡ true → ToldTo k w s
 unfolding may_tell may_publish
-told_to k w s h told = chosen_in_of (join_of (subtask.Guest k) s) w s (sym (ap (λ c. cond c (may_wake_joined (join_of (subtask.Guest k) s) w s) (is_none w)) told) ∙ h)
+told_to k w s h told = chosen_in_of (join_of (subtask.Guest k) s) w s (grind arith)
 
 module _ {a : Scene} {b : Core} where
   pub told_walks : (k : ℕ) (e : Status) (w : Option ℕ) {s : Core} → (is_told k s ≡ true → Tells e k s) → (is_end e ≡ true → SaysEnd a k e) → ToldTo k w s → Stay a b s → Stay a b (told k e w s)
@@ -262,7 +218,7 @@ module _ {a : Scene} {b : Core} where
 
 pub handed_on_shifts : (x : ℕ) (g : Gift) (w : Option ℕ) (s : Core) → may_hand_on x g w s ≡ true → Shifts s (handed_on x g w s)
 unfolding handed_on may_hand_on
-handed_on_shifts x g w s h = shifts_if (hands_on x g s) (wake x w s) s (λ e. wake_shifts x w s (chosen_of x w s (sym (ap (λ c. cond c (may_wake x w s) (is_none w)) e) ∙ h))) (λ e. NoWord)
+handed_on_shifts x g w s h = shifts_if (hands_on x g s) (wake x w s) s (λ e. wake_shifts x w s (chosen_of x w s (grind arith))) (λ e. NoWord)
 
 -- what the running thread's task may take
 abbrev pub MayTake : Scene → ℕ → Gift → Type 0
@@ -276,7 +232,7 @@ module _ {a : Scene} {b : Core} where
   taken_walks (OwnGift own.None) k ok c = word (SetOwnEvent k None) ok.0 c
   taken_walks (OwnGift own.Cancelled) k ok c = word (SetCancelDelivered k) (ok.1 refl) (word (SetOwnEvent k None) ok.0 c)
   taken_walks (MemberGift (subtask.Guest q)) k ok c = word (SetCallEvent q None) ok c
-  taken_walks (MemberGift (subtask.Host i)) k ok c = word (SetWorkEvent i None) ok c
+  taken_walks (MemberGift (subtask.Host i)) k ok c = word (TakeWorkEvent i) ok c
   taken_walks NoGift k ok c = c
 
 -- ---- Settled
@@ -332,27 +288,21 @@ module _ {a : Scene} {b : Core} where
   pub exits_trip : (n : ℕ) {t : Core} → Leaves a n → Left a b n t → Trip a b t
   exits_trip n {t = t} leave e = Quits e.before t n e.stays leave e.settles
 
-threads_if : (c : Bool) (s t u : Core) → t.threads ≡ s.threads → u.threads ≡ s.threads → (if c then t else u).threads ≡ s.threads
-threads_if true s t u p q = p
-threads_if false s t u p q = q
-
 settled_threads : (k : ℕ) (s : Core) → (call_settled k s).threads ≡ s.threads
 unfolding call_settled group_settled remove_group remove_call
-settled_threads k s = threads_if (is_deletable k s) s (group_settled (call_group k s) (remove_call k s)) s (threads_if (is_group_done (call_group k s) (remove_call k s)) s (remove_group (call_group k s) (remove_call k s)) (remove_call k s) refl refl) refl
+settled_threads k s = grind arith
 
 interest_threads : (k : ℕ) (s : Core) → (interest_settled k s).threads ≡ s.threads
 unfolding interest_settled set_uninteresting on_call
-interest_threads k s = threads_if (option_map_or is_finished (get s.calls k) false) s (set_uninteresting k s) s refl refl
+interest_threads k s = grind arith
 
 freed_threads : (i : ℕ) (o : Option ℕ) (s : Core) → (freed_thread_handle i o s).threads ≡ s.threads
 unfolding free_thread_handle
-freed_threads i None s = refl
-freed_threads i (Some h) s = refl
+freed_threads i o s = grind arith
 
 exited_threads : (explicit : Bool) (k : ℕ) (s : Core) → (exited_if explicit k s).threads ≡ s.threads
 unfolding set_exited on_call
-exited_threads true k s = refl
-exited_threads false k s = refl
+exited_threads explicit k s = grind arith
 
 -- who ends is gone, and the other threads stay
 pub ended_threads : (n : ℕ) (s : Core) → (ended n s).threads ≡ remove s.threads n

@@ -5,20 +5,22 @@ use Rattle.task_rules.proofs.ChainLemmas.{stay_walk}
 use Rattle.task_machine.specs.declared.label.SetLabel.{SetLabel}
 use Rattle.task_machine.specs.declared.label.CallLabel.{CallLabel}
 use Rattle.task_machine.specs.declared.label.SetLabel.TheVariants as set_label
-use Rattle.task_rules.proofs.MuteLemmas.{is_mute, mute_words}
-use Rattle.task_rules.proofs.SayLemmas.{call_answered_gone, call_returned_gone, cancel_hands_of, cancel_taken_gone, cancel_writes_of, event_joined, event_owed, found_returned, given_says, packed_is_not_two, received_gone, received_woken_gone}
-use Rattle.task_rules.specs.Chains.{EndWords, HandsOut, TakesEvent, WritesToo, is_over}
-use Rattle.task_rules.specs.SubtaskEnds.{SubtaskEnd, call_of_op, handed_by, handed_by_call, handed_by_cancel, handed_by_event, handed_by_set, returned_of_op, written_by_call, written_by_cancel, cancel_target, cancelled_of_op, end_for, written_by}
-use Rattle.std.proofs.Common.{T, ap, inl, inr, refl, subst, suc, sym, ◌∙◌, ◌⊎◌, ap₂, zero, arith}
+use Rattle.task_rules.proofs.MuteLemmas.{is_mute, mute_words, none_said}
+use Rattle.task_rules.proofs.SayLemmas.{call_answered_gone, call_returned_gone, cancel_hands_of, cancel_taken_gone, cancel_writes_of, event_joined, event_owed, found_returned, given_says, packed_is_not_two, received_gone, received_woken_gone, HasNoEnd, event_aborted, said_is}
+use Rattle.task_rules.specs.Chains.{EndWords, HandsOut, TakesEvent, WritesToo, Answers, EndsSubtask, HandsAtOnce, IsReadyAtOnce, Writes, WritesAtOnce, WritesCall, WritesNever, NoWord, Shifts, Walk, Stay, Trip}
+use Rattle.task_rules.specs.SubtaskEnds.{call_of_op, handed_by, handed_by_call, handed_by_cancel, handed_by_event, handed_by_set, returned_of_op, written_by_call, written_by_cancel, cancel_target, cancelled_of_op, end_for, written_by, host_end}
+use Rattle.std.proofs.Common.{T, ap, inl, inr, refl, subst, suc, sym, ◌∙◌, ◌⊎◌, zero, arith}
+use Rattle.task_machine.proofs.MapLemmas.{get-insert_same, get-remove_same}
+use Rattle.task_machine.specs.declared.records.Work.{Work}
 use Rattle.std.specs.Option.{option_map_or}
 use Rattle.std.specs.Prelude.{Bool, List, None, Option, Some, [], false, if◌then◌else◌, is_some, not, option_map, true, unwrap_or, ℕ, ◌&&◌, ◌+◌, ◌==◌, ◌∷◌, ◌≡◌}
 use Rattle.task_machine.specs.Core.{Core, Main}
 use Rattle.task_machine.specs.Labels.{Choice, join_label, wait_label}
-use Rattle.task_machine.specs.Maps.{Records, get}
-use Rattle.task_machine.specs.Moves.{Gift, MemberGift, NoGift, OwnGift, checked, ended, gift, handed_on, may_hand_on, passes_check, promoted_unless, put_switch, withdrawn}
-use Rattle.task_machine.specs.Read.{at_handle_limit, event_of, fits, has_ended, has_member, has_waiters, how_far_of, instance_of, is_async_lifted, is_at, is_callback_yield, is_direct, is_joined, is_ready_to_resume, is_waiting_on, is_watched, is_yielded, join_of, new_handle, new_thread_handle, phase_of, place_of, registers_of, result_of, saved_callee_of, set_at, subtask_at, subtask_ended, task_of, thread_at, thread_group, thread_handle_of, undelivered_end, was_cancelled, was_started, is_stage_ended, stage_of, is_blocked_on}
+use Rattle.task_machine.specs.Maps.{Records, get, remove}
+use Rattle.task_machine.specs.Moves.{Gift, MemberGift, NoGift, OwnGift, checked, ended, gift, handed_on, may_hand_on, passes_check, promoted_unless, put_switch, withdrawn, group_settled, is_group_done}
+use Rattle.task_machine.specs.Read.{at_handle_limit, event_of, fits, has_ended, has_member, has_waiters, how_far_of, instance_of, is_async_lifted, is_at, is_callback_yield, is_direct, is_joined, is_ready_to_resume, is_waiting_on, is_watched, is_yielded, join_of, new_handle, new_thread_handle, phase_of, place_of, registers_of, result_of, saved_callee_of, set_at, subtask_at, subtask_ended, task_of, thread_at, thread_group, thread_handle_of, undelivered_end, was_cancelled, was_started, is_stage_ended, stage_of, work_caller_of}
 use Rattle.task_machine.specs.Statuses.{packed, status_code}
-use Rattle.task_machine.specs.Write.{add_work, count_work, on_call, on_work, push_high, set_join, set_own_event, set_subtask_handle, set_do_not_suspend, set_saved_callee, on_instance, on_thread, remove_thread, set_end, free_handle}
+use Rattle.task_machine.specs.Write.{add_work, count_work, on_call, on_work, push_high, set_join, set_own_event, set_subtask_handle, set_do_not_suspend, set_saved_callee, on_instance, on_thread, remove_thread, set_end, free_handle, set_register, set_how_far, remove_group, set_position, remove_work}
 use Rattle.task_machine.specs.declared.component.Callee.{Callee}
 use Rattle.task_machine.specs.declared.component.HostDef.{HostDef}
 use Rattle.task_machine.specs.declared.component.Slot.{Slot}
@@ -43,13 +45,12 @@ use Rattle.task_rules.proofs.CancelLemmas.{CaseSays, case_says}
 use Rattle.task_rules.proofs.PlacingLemmas.{Shifted, placed, shifted_made, shifted_task, shifts_shifted}
 use Rattle.task_rules.proofs.StandLemmas.{by_number}
 use Rattle.task_rules.proofs.WalkMoves.{MayTake, call_settled_walks, checked_shifts, chosen_of, handed_on_shifts, lands_at, promoted_walks, shifted, wake_shifts, word}
-use Rattle.task_rules.proofs.WalkParts.{call_queues_walks, call_resumes_walks, call_stops_walks, cancel_goes_behind_walks, cancel_plain, cancel_stops_walks, cancel_takes_end_walks, checked_walks, enter_gives, enter_runs_walks, freed_named, gift_is, join_plain, join_walks, put_back_walks, received_walks, set_none_join, stopped_walks, wait_plain, wait_stops_walks, withdrawn_walks, work_deleted_walks, work_unnamed, withdraws}
-use Rattle.task_rules.proofs.WalkTask.{Leads, advanced_walks, answered_walks, assigned_walks, goes_on, goes_on_saying, goes_over, may_leads, or_never_leads, or_trap_leads, running_scene, stops_here, trap_if_leads, unnot, is_still, over_now, call_in, call_named, none_is_some}
-use Rattle.task_rules.specs.Allowed.{ByHandle, ByOp, BySetHandle, ByThread, ByWait, Cancels, HasSubtask, Leaves, MayJoin, MayMakeCall, Resumes, Suspends, Yields, subtask_under_way, is_for_main, IsNew}
-use Rattle.task_rules.specs.Calls.{AtOnce, Failing, FirstPoll, Later, answered, call_answered, call_begins, call_host_polled, call_pending, call_queues, call_resumes, call_returned, call_row, call_status, call_sync_begins, call_sync_host_polled, call_sync_host_row, call_sync_host_stops, call_sync_row, call_sync_status, call_sync_stops, enter_row, enter_runs, first_poll, host_answered, host_pending, host_ready, new_thread, next_thread, next_work, status_found, work_answered, work_queued, work_value, put_back}
+use Rattle.task_rules.proofs.WalkParts.{call_queues_walks, call_resumes_walks, call_stops_walks, cancel_goes_behind_walks, cancel_plain, cancel_stops_walks, cancel_takes_end_walks, checked_walks, enter_gives, enter_runs_walks, freed_named, gift_is, join_plain, join_walks, put_back_walks, received_walks, set_none_join, stopped_walks, wait_plain, wait_stops_walks, withdrawn_walks, work_deleted_walks, work_unnamed, withdraws, answered_first, far_fresh}
+use Rattle.task_rules.proofs.WalkTask.{Leads, advanced_walks, answered_walks, assigned_walks, goes_on, goes_on_saying, goes_over, may_leads, or_never_leads, or_trap_leads, running_scene, stops_here, trap_if_leads, unnot, is_still, over_now}
+use Rattle.task_rules.specs.Allowed.{ByHandle, ByOp, BySetHandle, ByThread, ByWait, Cancels, HasSubtask, Leaves, MayJoin, MayMakeCall, Resumes, Suspends, Yields, subtask_under_way, is_for_main, IsNew, AbortsOwn, is_async_work, IsNamed}
+use Rattle.task_rules.specs.Calls.{AtOnce, Failing, FirstPoll, Later, answered, call_answered, call_begins, call_host_polled, call_pending, call_queues, call_resumes, call_returned, call_row, call_status, call_sync_begins, call_sync_host_polled, call_sync_host_row, call_sync_host_stops, call_sync_row, call_sync_status, call_sync_stops, enter_row, enter_runs, first_poll, host_answered, host_pending, host_ready, new_thread, next_thread, next_work, status_found, work_answered, work_queued, work_value, put_back, work_deleted, settle_group_of, work_group, new_work}
 use Rattle.task_rules.specs.Cancels.{AlreadyEnded, Async, CallbackWaits, CallbackYields, CancelCase, Mode, OtherwiseRuns, StartNotRun, Sync, aborted_phase, blocked_code, cancel_aborts_host, cancel_asks, cancel_by_end, cancel_case, cancel_ended_row, cancel_guest, cancel_label, cancel_promotes_yield, cancel_resumed, cancel_row, cancel_stops, cancel_subtask, cancel_takes_end, cancel_wakes_callback, cancel_withdraws, drop_row, dropped, is_callback_wait, pauses, subtask_instance, subtask_row}
-use Rattle.task_rules.specs.Chains.{NoWord, Shifts, Stay, Trip, Walk}
-use Rattle.task_rules.specs.Data.{advanced, assigned}
+use Rattle.task_rules.specs.Data.{advanced, assigned, moved_to}
 use Rattle.task_rules.specs.OpParts.{callee_of_op}
 use Rattle.task_rules.specs.Places.{says}
 use Rattle.task_rules.specs.Progress.{Goes, Progress, Stops, may, trap_if}
@@ -57,9 +58,9 @@ use Rattle.task_rules.specs.Scenes.{Scene, op_in}
 use Rattle.task_rules.specs.Scripts.{export_kind, host_at, op_of, registers_for, slot_at, value_of, values_in}
 use Rattle.task_rules.specs.Sets.{chosen, finds_nothing, handed_out, join_done, join_to, joined, joins, may_wake_new, poll_row, received, received_woken, set_drop_row, set_dropped, set_made, set_new_row, set_row, wait_begins, wait_goes_on, wait_row, wait_stops, wait_stops_checked, wakes_joined}
 use Rattle.task_rules.specs.Stalled.{Setting}
-use Rattle.task_rules.specs.SubtaskEnds.{cancel_target, cancelled_of_op, end_for, written_by}
 use Rattle.task_rules.specs.Threads.{Halt, Suspension, Yielding, by_how_far, halt_row, halted, halted_checked, halted_promoting, halted_resuming, halting, halts, has_yielded, resume_later_row, resume_why, resumed_later, then_promote, then_promote_row, then_resume_row, thread_made, thread_new_row, thread_row}
 use Rattle.task_rules.specs.Words.{CloseSet, CountWork, MakeThread, Move, NameCall, NameThread, NameWork, OpenSet, Put, QueueWork, SetCancelled, SetOwnEvent, SetPhase, SetRegister, SetResult, SetSavedCallee, UnnameCall, UnnameWork, after_word, Withdraw, SetExited, SetUninteresting}
+use Rattle.task_machine.specs.declared.label.SetLabel.TheVariants as set_label
 use Rattle.task_machine.specs.declared.component.Slot.TheVariants as slot
 use Rattle.task_machine.specs.declared.label.CallLabel.TheVariants as call_label
 use Rattle.task_machine.specs.declared.label.Label.TheVariants as label
@@ -94,28 +95,57 @@ abbrev is_returned : Status → Bool
 is_returned status.Returned = true
 is_returned _ = false
 
-abbrev is_guest : Subtask → Bool
-is_guest (subtask.Guest k) = true
-is_guest (subtask.Host i) = false
-
-abbrev is_call_end : Option SubtaskEnd → Bool
-is_call_end o = option_map_or (λ (e : SubtaskEnd). is_guest e.subtask) o false
-
-flag_event : (k j : ℕ) (b : Bool) (s : Core) → event_of (subtask.Guest k) (set_do_not_suspend j b s) ≡ event_of (subtask.Guest k) s
+flag_event : (sub : Subtask) (j : ℕ) (b : Bool) (s : Core) → event_of sub (set_do_not_suspend j b s) ≡ event_of sub s
 unfolding set_do_not_suspend on_instance
-flag_event k j b s = refl
+flag_event (subtask.Guest k) j b s = refl
+flag_event (subtask.Host i) j b s = refl
+
+flag_unsaved : (sub : Subtask) (n : ℕ) (t : Core) → event_of sub (set_saved_callee n None t) ≡ event_of sub t
+unfolding set_saved_callee on_thread
+flag_unsaved (subtask.Guest k) n t = refl
+flag_unsaved (subtask.Host i) n t = refl
 
 -- a cancel that is resumed finds the event as it was
-event_left : (k : ℕ) (sub : Subtask) → sub ≡ subtask.Guest k → (s : Core) → event_of (subtask.Guest k) (set_join sub join.Nowhere s) ≡ event_of (subtask.Guest k) s
-event_left k sub is s = ap (λ (d : Subtask). event_of (subtask.Guest k) (set_join d join.Nowhere s)) is ∙ event_joined k k join.Nowhere s
-
-event_resumed : (n k : ℕ) (sub : Subtask) → sub ≡ subtask.Guest k → (s : Core) → event_of (subtask.Guest k) (cancel_resumed n sub s) ≡ event_of (subtask.Guest k) s
-unfolding cancel_resumed set_saved_callee on_thread
-event_resumed n k sub is s = event_left k sub is _ ∙ put_back_event (saved_callee_of n s)
+event_resumed : (n : ℕ) (sub : Subtask) (s : Core) → event_of sub (cancel_resumed n sub s) ≡ event_of sub s
+unfolding cancel_resumed
+event_resumed n sub s = event_joined sub join.Nowhere _ ∙ (flag_unsaved sub n (put_back (saved_callee_of n s) (subtask_instance sub s) s) ∙ put_back_event (saved_callee_of n s))
   where
-    put_back_event : (o : Option Bool) → event_of (subtask.Guest k) (put_back o (subtask_instance sub s) s) ≡ event_of (subtask.Guest k) s
+    put_back_event : (o : Option Bool) → event_of sub (put_back o (subtask_instance sub s) s) ≡ event_of sub s
     put_back_event None = refl
-    put_back_event (Some b) = flag_event k (subtask_instance sub s) b s
+    put_back_event (Some b) = flag_event sub (subtask_instance sub s) b s
+
+pub queued_caller : (f : WorkCaller) (host : HostDef) (group : Option ℕ) (t : Core) → work_caller_of (next_work t) (work_queued f host group t) ≡ f
+unfolding work_queued push_high add_work count_work
+queued_caller f host group t = ap (λ (o : Option Work). option_map_or (λ w. w.caller) o work_caller.Spawn) (get-insert_same t.works (t.made.works + 1) (new_work f host group))
+
+assigned_works : (n r v : ℕ) (s : Core) → ((assigned n r v s).made.works ≡ s.made.works) × ((assigned n r v s).works ≡ s.works)
+unfolding assigned advanced moved_to set_how_far set_position on_thread set_register
+assigned_works n r v s = (refl, refl)
+
+ready_at_once : (n r q v : ℕ) (s : Core) → (next_work s ≡ next_work s) × (((host_ready n r q v s).made.works ≡ next_work s) × ((host_ready n r q v s).works ≡ s.works))
+unfolding host_ready set_register on_thread count_work
+ready_at_once n r q v s = let h = assigned_works n r 2 (set_register n q v (count_work s)) in (refl, (h.0, h.1))
+
+answered_at_once : (n r v : ℕ) (s : Core) → (next_work s ≡ next_work s) × (((host_answered n r v s).made.works ≡ next_work s) × ((host_answered n r v s).works ≡ s.works))
+unfolding host_answered count_work
+answered_at_once n r v s = let h = assigned_works n r v (count_work s) in (refl, (h.0, h.1))
+
+assigned_fresh : (n r v : ℕ) (s : Core) → how_far_of n (assigned n r v s) ≡ how_far.Fresh
+unfolding assigned advanced moved_to
+assigned_fresh n r v s = far_fresh n _
+
+settled_works : (o : Option ℕ) (i : ℕ) (s : Core) → (settle_group_of o (remove_work i s)).works ≡ remove s.works i
+unfolding group_settled remove_group remove_work
+settled_works None i s = refl
+settled_works (Some g) i s = by_done (is_group_done g (remove_work i s))
+  where
+    by_done : (b : Bool) → (if b then remove_group g (remove_work i s) else remove_work i s).works ≡ remove s.works i
+    by_done true = refl
+    by_done false = refl
+
+work_gone : (n r i : ℕ) (s : Core) → get (work_answered n r i s).works i ≡ None
+unfolding work_answered work_deleted
+work_gone n r i s = ap (λ (m : Records Work). get m i) ((assigned_works n r (work_value i s) (settle_group_of (work_group i s) (remove_work i s))).1 ∙ settled_works (work_group i s) i s) ∙ get-remove_same s.works i
 
 pub queued_made : (f : WorkCaller) (host : HostDef) (group : Option ℕ) (t : Core) → (work_queued f host group t).made.works ≡ t.made.works + 1
 unfolding work_queued push_high add_work count_work
@@ -197,24 +227,31 @@ module _ (x : Setting) (main : Main) (s : Core) (n : ℕ) (l : Label) (next : Tu
   stop k t plain c = stops_here x main s n l next k t plain c
 
   -- a label of sets writes no end
-  set_says : (k : SetLabel) (t : Core) → l ≡ label.Set k → ((j : ℕ) (e : Status) → handed_by_set s k ≡ Some (end_for e (subtask.Guest j)) → HandsOut a t j e) → EndWords a t
+  set_says : (k : SetLabel) (t : Core) → l ≡ label.Set k → ((sub : Subtask) (e : Status) → handed_by_set s k ≡ Some (end_for e sub) → HandsOut a t sub e) → EndWords a t
   set_says k t is hands = record {
-    writes = λ j e says. none_is_some (end_for e (subtask.Guest j)) (sym (ap (λ (y : Label). written_by x.component s y s) is) ∙ says);
-    hands = λ j e out. hands j e (sym (ap (λ (y : Label). handed_by x.component main s y t) is) ∙ out);
+    writes = λ sub e says. none_said (ap (λ (y : Label). written_by x.component s y t) is) says;
+    hands = λ sub e out. hands sub e (sym (ap (λ (y : Label). handed_by x.component main s y t) is) ∙ out);
   }
 
   -- nor a label of calls but that of a cancel
-  call_says : (k : CallLabel) (t : Core) → written_by_call x.component s k ≡ None → l ≡ label.Call k → ((j : ℕ) (e : Status) → handed_by_call x.component s k ≡ Some (end_for e (subtask.Guest j)) → HandsOut a t j e) → EndWords a t
+  call_says : (k : CallLabel) (t : Core) → written_by_call x.component s k ≡ None → l ≡ label.Call k → ((sub : Subtask) (e : Status) → handed_by_call x.component s k ≡ Some (end_for e sub) → HandsOut a t sub e) → EndWords a t
   call_says k t none is hands = record {
-    writes = λ j e says. none_is_some (end_for e (subtask.Guest j)) (sym (ap (λ (y : Label). written_by x.component s y s) is ∙ none) ∙ says);
-    hands = λ j e out. hands j e (sym (ap (λ (y : Label). handed_by x.component main s y t) is) ∙ out);
+    writes = λ sub e says. none_said (ap (λ (y : Label). written_by x.component s y t) is ∙ none) says;
+    hands = λ sub e out. hands sub e (sym (ap (λ (y : Label). handed_by x.component main s y t) is) ∙ out);
+  }
+
+  -- nor a host that is ready at once: it is handed out, too
+  at_once_says : (k : Label) (t : Core) → written_by x.component s k t ≡ host_end (next_work s) status.Returned → handed_by x.component main s k t ≡ host_end (next_work s) status.Returned → IsReadyAtOnce a t (next_work s) → l ≡ k → EndWords a t
+  at_once_says k t w h ready is = record {
+    writes = λ sub e says. said_is (λ d g. Writes a t d) (sym (ap (λ (y : Label). written_by x.component s y t) is ∙ w) ∙ says) (WritesAtOnce (next_work s) ready);
+    hands = λ sub e out. said_is (HandsOut a t) (sym (ap (λ (y : Label). handed_by x.component main s y t) is ∙ h) ∙ out) (HandsAtOnce (next_work s) ready (ap (λ (y : Label). written_by x.component s y t) is ∙ w));
   }
 
   -- what an op on a set hands out is the member's event
-  gift_out : (r y : ℕ) (ch : Choice) (g : Gift) → gift false (task_of n s) y (chosen n ch s) s ≡ Some g → (j : ℕ) (e : Status) → handed_by_event n s (handed_out ch s g) ≡ Some (end_for e (subtask.Guest j)) → HandsOut a (received n r g (handed_out ch s g) s) j e
-  gift_out r y ch g h j e out =
-      let q = given_says false n (task_of n s) y ch s g j e h out in
-      TakesEvent q.1 (subst (λ (f : Gift). undelivered_end (event_of (subtask.Guest j) (received n r f (handed_out ch s g) s)) ≡ None) (sym q.0) (received_gone n r j (handed_out ch s g) s))
+  gift_out : (r y : ℕ) (ch : Choice) (g : Gift) → gift false (task_of n s) y (chosen n ch s) s ≡ Some g → (sub : Subtask) (e : Status) → handed_by_event n s (handed_out ch s g) ≡ Some (end_for e sub) → HandsOut a (received n r g (handed_out ch s g) s) sub e
+  gift_out r y ch g h sub e out =
+      let q = given_says false n (task_of n s) y ch s g sub e h out in
+      TakesEvent sub e q.1 (subst (λ (f : Gift). HasNoEnd sub (received n r f (handed_out ch s g) s)) (sym q.0) (received_gone n r sub (handed_out ch s g) s))
 
   -- ---- Sets
 
@@ -259,9 +296,9 @@ module _ (x : Setting) (main : Main) (s : Core) (n : ℕ) (l : Label) (next : Tu
       says : (w : Option ℕ) → l ≡ wait_label n (handed_out ch s g) w → EndWords a (received_woken n y r w g (handed_out ch s g) s)
       says (Some z) is = mute_words a _ (ap is_mute is)
       says None is =
-          set_says (set_label.Wait (handed_out ch s g) n) _ is (λ j f out.
-          let q = given_says false n (task_of n s) y ch s g j f e out in
-          TakesEvent q.1 (subst (λ (h : Gift). undelivered_end (event_of (subtask.Guest j) (received_woken n y r None h (handed_out ch s g) s)) ≡ None) (sym q.0) (received_woken_gone n y r j (handed_out ch s g) s)))
+          set_says (set_label.Wait (handed_out ch s g) n) _ is (λ sub f out.
+          let q = given_says false n (task_of n s) y ch s g sub f e out in
+          TakesEvent sub f q.1 (subst (λ (h : Gift). HasNoEnd sub (received_woken n y r None h (handed_out ch s g) s)) (sym q.0) (received_woken_gone n y r sub (handed_out ch s g) s)))
 
   wait_goes_on_leads : (y r : ℕ) (ch : Choice) (g : Gift) → how_far_of n s ≡ how_far.Waits y → gift false (task_of n s) y (chosen n ch s) s ≡ Some g → Leads a s (wait_goes_on n y r ch s g)
   wait_goes_on_leads y r ch NoGift far e = stop _ (wait_stops n y s) refl (λ leave. wait_stops_walks n refl y leave (ByWait far) NoWord)
@@ -332,11 +369,8 @@ module _ (x : Setting) (main : Main) (s : Core) (n : ℕ) (l : Label) (next : Tu
       go _ (call_pending n r k v s) (packed_is_not_two (new_handle (instance_of n s) s) e other) (answered_walks n refl r v (word (NameCall (instance_of n s) k) (n, (refl, (refl, inl has))) (call_resumes_walks n refl k has NoWord))))
 
   -- the op is about a call that has returned
-  returned_out : (k : ℕ) (t : Core) → how_far_of n s ≡ how_far.Calls (subtask.Guest k) → status_found k s ≡ status.Returned → undelivered_end (event_of (subtask.Guest k) t) ≡ None → (j : ℕ) (e : Status) → returned_of_op n s ≡ Some (end_for e (subtask.Guest j)) → HandsOut a t j e
-  returned_out k t far found gone j e out =
-      let both = sym (ap (λ (f : HowFar). option_map (end_for status.Returned) (call_of_op f)) far) ∙ out in
-      subst (λ (f : Status). HandsOut a t j f) (ap (λ (o : Option SubtaskEnd). option_map_or (λ y. y.status) o status.Starting) both)
-      (subst (λ (i : ℕ). HandsOut a t i status.Returned) (ap (λ (o : Option SubtaskEnd). call_in o) both) (TakesEvent (found_returned (event_of (subtask.Guest k) s) found) gone))
+  returned_out : (k : ℕ) (t : Core) → how_far_of n s ≡ how_far.Calls (subtask.Guest k) → status_found k s ≡ status.Returned → HasNoEnd (subtask.Guest k) t → (sub : Subtask) (e : Status) → returned_of_op n s ≡ Some (end_for e sub) → HandsOut a t sub e
+  returned_out k t far found gone sub e out = said_is (HandsOut a t) (sym (ap (λ (f : HowFar). option_map (end_for status.Returned) (call_of_op f)) far) ∙ out) (TakesEvent (subtask.Guest k) status.Returned (found_returned (event_of (subtask.Guest k) s) found) gone)
 
   call_status_leads : (r k : ℕ) (e : Status) → how_far_of n s ≡ how_far.Calls (subtask.Guest k) → status_found k s ≡ e → HasSubtask a n (subtask.Guest k) → Leads a s (call_status n r k s e)
   unfolding call_returned
@@ -381,7 +415,7 @@ module _ (x : Setting) (main : Main) (s : Core) (n : ℕ) (l : Label) (next : Tu
   call_sync_row_leads : (r : ℕ) (e : Callee) (words : List ℕ) (f : HowFar) → callee_of_op (op_in a n) ≡ Some e → how_far_of n s ≡ f → Leads a s (call_sync_row x.component n r e words s f)
   call_sync_row_leads r e words (how_far.Answered v) callee far =
       goes_on_saying x main s n l next (label.Call (call_label.CallSync n v)) (assigned n r v s) refl
-      (λ is. call_says (call_label.CallSync n v) _ refl is (λ j f out. none_is_some (end_for f (subtask.Guest j)) (sym (ap (λ (h : HowFar). option_map (end_for status.Returned) (call_of_op h)) far) ∙ out)))
+      (λ is. call_says (call_label.CallSync n v) _ refl is (λ sub f out. none_said (ap (λ (h : HowFar). option_map (end_for status.Returned) (call_of_op h)) far) out))
       (λ is. assigned_walks n refl r v NoWord)
   call_sync_row_leads r e words (how_far.Calls (subtask.Guest k)) callee far = call_sync_status_leads r k (status_found k s) far refl (by_call (subtask.Guest k) far)
   call_sync_row_leads r e words _ callee far = by_lift (is_async_lifted (export_kind x.component e)) refl
@@ -394,13 +428,16 @@ module _ (x : Setting) (main : Main) (s : Core) (n : ℕ) (l : Label) (next : Tu
 
   call_host_polled_leads : (r q : ℕ) (f : FirstPoll) → Leads a s (call_host_polled n r q s f)
   unfolding host_ready host_pending
-  call_host_polled_leads r q (AtOnce v) = go _ (host_ready n r q v s) refl (assigned_walks n refl r 2 (word (SetRegister n q v) tt (word CountWork refl NoWord)))
+  call_host_polled_leads r q (AtOnce v) =
+      goes_on_saying x main s n l next (label.Call (call_label.CallPolls 2 n (next_work s))) (host_ready n r q v s) refl
+      (λ is. at_once_says _ (host_ready n r q v s) refl refl (ready_at_once n r q v s) is)
+      (λ is. assigned_walks n refl r 2 (word (SetRegister n q v) tt (word CountWork refl NoWord)))
   call_host_polled_leads r q Failing = tt
   call_host_polled_leads r q (Later host) =
       let v = packed (new_handle (instance_of n s) s) status.Started in
       trap_if_leads a s (not (fits 1 s)) trap.TableFull _ (λ e.
       trap_if_leads a s (at_handle_limit s) trap.HandleLimit _ (λ f.
-      go _ (host_pending n r q v host s) refl (assigned_walks n refl r v (word (NameWork (instance_of n s) (next_work s)) (n, (refl, (refl, inr (refl, queued_made (work_caller.Async n q) host (Some (thread_group n s)) s))))
+      go _ (host_pending n r q v host s) (packed_is_not_two (new_handle (instance_of n s) s) status.Started (λ h. no_way (ap is_returned h))) (assigned_walks n refl r v (word (NameWork (instance_of n s) (next_work s)) ((n, (refl, (refl, inr (refl, queued_made (work_caller.Async n q) host (Some (thread_group n s)) s)))), ap (λ f. is_async_work f) (queued_caller (work_caller.Async n q) host (Some (thread_group n s)) s))
       (word (QueueWork (work_caller.Async n q) host (Some (thread_group n s))) (refl, (refl, refl)) NoWord)))))
 
   host_stops_walks : (host : HostDef) → Leaves a n → Trip a s (call_sync_host_stops n host s)
@@ -412,12 +449,16 @@ module _ (x : Setting) (main : Main) (s : Core) (n : ℕ) (l : Label) (next : Tu
       let group = Some (thread_group n s) in
       let queued = work_queued (work_caller.Sync n) host group t in
       let new : (u : Core) → Shifted queued u → IsNew a (subtask.Host (next_work s)) u = λ u d. (refl, ap (λ (m : Made). m.works) (shifted_made d) ∙ (queued_made (work_caller.Sync n) host group t ∙ ap (λ (k : ℕ). k + 1) made)) in
-      call_stops_walks n refl (subtask.Host (next_work s)) queued leave (λ u d. inr (new u d)) (λ u d at. (refl, (new u d, at)))
+      let caller : (u : Core) → Shifted queued u → work_caller_of (next_work s) u ≡ work_caller.Sync n = λ u d. ap (λ (c : Core). work_caller_of (next_work s) c) (sym d.only) ∙ (ap (λ (k : ℕ). work_caller_of (k + 1) queued) (sym made) ∙ queued_caller (work_caller.Sync n) host group t) in
+      call_stops_walks n refl (subtask.Host (next_work s)) queued leave (λ u d. inr (new u d)) (λ u d at. (refl, (new u d, (caller u d, at))))
       (word (QueueWork (work_caller.Sync n) host group) (made, (refl, refl)) (checked_walks n refl (instance_of n s) NoWord))
 
   call_sync_host_polled_leads : (r : ℕ) (f : FirstPoll) → Leads a s (call_sync_host_polled n r s f)
   unfolding host_answered
-  call_sync_host_polled_leads r (AtOnce v) = go _ (host_answered n r v s) refl (assigned_walks n refl r v (word CountWork refl NoWord))
+  call_sync_host_polled_leads r (AtOnce v) =
+      goes_on_saying x main s n l next (label.CallSyncPolls n v (next_work s)) (host_answered n r v s) refl
+      (λ is. at_once_says _ (host_answered n r v s) refl refl (answered_at_once n r v s) is)
+      (λ is. assigned_walks n refl r v (word CountWork refl NoWord))
   call_sync_host_polled_leads r Failing = tt
   call_sync_host_polled_leads r (Later host) =
       trap_if_leads a s (not (fits 1 s)) trap.TableFull _ (λ e.
@@ -428,8 +469,8 @@ module _ (x : Setting) (main : Main) (s : Core) (n : ℕ) (l : Label) (next : Tu
   unfolding work_answered
   call_sync_host_row_leads r h (how_far.Calls (subtask.Host i)) far =
       goes_on_saying x main s n l next (label.Call (call_label.CallSync n (work_value i s))) (work_answered n r i s) refl
-      (λ is. call_says (call_label.CallSync n (work_value i s)) _ refl is (λ j f out. no_way (ap (λ (o : Option SubtaskEnd). is_call_end o) (sym (ap (λ (y : HowFar). option_map (end_for status.Returned) (call_of_op y)) far) ∙ out))))
-      (λ is. assigned_walks n refl r (work_value i s) (work_deleted_walks n refl i (n, (refl, inl far)) NoWord))
+      (λ is. call_says (call_label.CallSync n (work_value i s)) _ refl is (λ sub f out. said_is (HandsOut a (work_answered n r i s)) (sym (ap (λ (y : HowFar). option_map (end_for status.Returned) (call_of_op y)) far) ∙ out) (Answers n i refl far (work_gone n r i s))))
+      (λ is. subst (λ (t : Core). Stay a s t) (answered_first n r (work_value i s) i s) (work_deleted_walks n refl i (n, (refl, inl (far, assigned_fresh n r (work_value i s) s))) (assigned_walks n refl r (work_value i s) NoWord)))
   call_sync_host_row_leads r h _ far = call_sync_host_polled_leads r (first_poll (host_at x.component h))
 
   -- ---- Cancels
@@ -439,17 +480,17 @@ module _ (x : Setting) (main : Main) (s : Core) (n : ℕ) (l : Label) (next : Tu
   IsFree sub = (is_joined (join_of sub s) ≡ false) ⊎ (how_far_of n s ≡ how_far.Cancels sub)
 
   -- a cancel that takes an end of its subtask
-  cancel_says : (mode : Mode) (r : ℕ) (sub : Subtask) (t : Core) (e : Status) → cancelled_of_op x.component n s (how_far_of n s) ≡ Some sub → ((k : ℕ) → sub ≡ subtask.Guest k → undelivered_end (event_of (subtask.Guest k) s) ≡ Some e) → l ≡ cancel_label mode n (status_code e) → EndWords a (cancel_takes_end n r sub e t)
+  cancel_says : (mode : Mode) (r : ℕ) (sub : Subtask) (t : Core) (e : Status) → cancelled_of_op x.component n s (how_far_of n s) ≡ Some sub → undelivered_end (event_of sub s) ≡ Some e → l ≡ cancel_label mode n (status_code e) → EndWords a (cancel_takes_end n r sub e t)
   cancel_says mode r sub t e target found is = record {
-    writes = λ j f says.
-        let q = cancel_writes_of e (cancelled_of_op x.component n s (how_far_of n s)) sub j f target (sym (writes_at mode) ∙ (sym (ap (λ (y : Label). written_by x.component s y s) is) ∙ says)) in
-        inl (found j q.0 ∙ ap (λ (g : Status). Some g) q.1);
-    hands = λ j f out.
-        let q = cancel_hands_of e (cancelled_of_op x.component n s (how_far_of n s)) sub j f target (sym (hands_at mode) ∙ (sym (ap (λ (y : Label). handed_by x.component main s y (cancel_takes_end n r sub e t)) is) ∙ out)) in
-        TakesEvent (found j q.0 ∙ ap (λ (g : Status). Some g) q.1) (subst (λ (d : Subtask). undelivered_end (event_of (subtask.Guest j) (cancel_takes_end n r d e t)) ≡ None) (sym q.0) (cancel_taken_gone n r j e t));
+    writes = λ to f says.
+        let q = cancel_writes_of sub to f (cancelled_of_op x.component n s (how_far_of n s)) target e (sym (ap (λ (y : Label). written_by x.component s y (cancel_takes_end n r sub e t)) is ∙ writes_at mode) ∙ says) in
+        WritesNever to (subst (λ (d : Subtask). undelivered_end (event_of d s) ≡ Some status.StartCancelled) q.0 (found ∙ ap (λ (g : Status). Some g) q.1));
+    hands = λ to f out.
+        let q = cancel_hands_of sub to f (cancelled_of_op x.component n s (how_far_of n s)) target e (sym (ap (λ (y : Label). handed_by x.component main s y (cancel_takes_end n r sub e t)) is ∙ hands_at mode) ∙ out) in
+        subst (λ (d : Subtask). HandsOut a (cancel_takes_end n r sub e t) d f) q.0 (TakesEvent sub f (found ∙ ap (λ (g : Status). Some g) q.1) (cancel_taken_gone n r sub e t));
   }
     where
-      writes_at : (m : Mode) → written_by x.component s (cancel_label m n (status_code e)) s ≡ written_by_cancel x.component n s (status_code e)
+      writes_at : (m : Mode) → written_by x.component s (cancel_label m n (status_code e)) (cancel_takes_end n r sub e t) ≡ written_by_cancel x.component n s (status_code e)
       writes_at Async = refl
       writes_at Sync = refl
 
@@ -457,12 +498,12 @@ module _ (x : Setting) (main : Main) (s : Core) (n : ℕ) (l : Label) (next : Tu
       hands_at Async = refl
       hands_at Sync = refl
 
-  cancel_ended_row_leads : (mode : Mode) (r : ℕ) (sub : Subtask) (t : Core) (o : Option Status) → cancelled_of_op x.component n s (how_far_of n s) ≡ Some sub → ((k : ℕ) → sub ≡ subtask.Guest k → undelivered_end (event_of (subtask.Guest k) s) ≡ o) → HasSubtask a n sub → Stay a s t → Leads a s (cancel_ended_row mode n r sub t o)
+  cancel_ended_row_leads : (mode : Mode) (r : ℕ) (sub : Subtask) (t : Core) (o : Option Status) → cancelled_of_op x.component n s (how_far_of n s) ≡ Some sub → undelivered_end (event_of sub s) ≡ o → HasSubtask a n sub → Stay a s t → Leads a s (cancel_ended_row mode n r sub t o)
   cancel_ended_row_leads mode r sub t None target found has c = tt
   cancel_ended_row_leads mode r sub t (Some e) target found has c = goes_on_saying x main s n l next (cancel_label mode n (status_code e)) (cancel_takes_end n r sub e t) (cancel_plain mode n (status_code e)) (λ is. cancel_says mode r sub t e target found is) (λ is. cancel_takes_end_walks n refl r sub e has c)
 
-  cancel_by_end_leads : (mode : Mode) (r : ℕ) (sub : Subtask) (t : Core) (b : Bool) → cancelled_of_op x.component n s (how_far_of n s) ≡ Some sub → ((k : ℕ) → sub ≡ subtask.Guest k → event_of (subtask.Guest k) t ≡ event_of (subtask.Guest k) s) → HasSubtask a n sub → IsFree sub → Stay a s t → Leads a s (cancel_by_end mode n r sub t b)
-  cancel_by_end_leads mode r sub t true target same has free c = cancel_ended_row_leads mode r sub t (undelivered_end (event_of sub t)) target (λ k is. ap (λ o. undelivered_end o) (sym (same k is)) ∙ ap (λ (d : Subtask). undelivered_end (event_of d t)) (sym is)) has c
+  cancel_by_end_leads : (mode : Mode) (r : ℕ) (sub : Subtask) (t : Core) (b : Bool) → cancelled_of_op x.component n s (how_far_of n s) ≡ Some sub → event_of sub t ≡ event_of sub s → HasSubtask a n sub → IsFree sub → Stay a s t → Leads a s (cancel_by_end mode n r sub t b)
+  cancel_by_end_leads mode r sub t true target same has free c = cancel_ended_row_leads mode r sub t (undelivered_end (event_of sub t)) target (ap (λ o. undelivered_end o) (sym same)) has c
   cancel_by_end_leads Async r sub t false target same has free c = go (cancel_label Async n blocked_code) (answered n r blocked_code t) refl (answered_walks n refl r blocked_code c)
   cancel_by_end_leads Sync r sub t false target same has free c =
       trap_if_leads a s (not (passes_check (instance_of n t) t)) trap.CannotBlockSyncTask _ (λ e.
@@ -472,71 +513,68 @@ module _ (x : Setting) (main : Main) (s : Core) (n : ℕ) (l : Label) (next : Tu
   unfolding cancel_asks
   asks_walks k has says = word (SetOwnEvent k (Some own.Cancelled)) (inl (refl, ((n, (refl, has)), (says.1, says.0)))) NoWord
 
-  cancel_writes : (mode : Mode) → written_by x.component s (cancel_label mode n 3) s ≡ option_map (end_for status.StartCancelled) (cancelled_of_op x.component n s (how_far_of n s))
-  cancel_writes Async = refl
-  cancel_writes Sync = refl
+  cancel_writes : (mode : Mode) (t : Core) → written_by x.component s (cancel_label mode n 3) t ≡ option_map (end_for status.StartCancelled) (cancelled_of_op x.component n s (how_far_of n s))
+  cancel_writes Async t = refl
+  cancel_writes Sync t = refl
 
   -- a start that is withdrawn is an end, and handed out
-  withdraw_says : (mode : Mode) (r k : ℕ) → l ≡ cancel_label mode n 3 → cancelled_of_op x.component n s (how_far_of n s) ≡ Some (subtask.Guest k) → has_ended k s ≡ false → EndWords a (cancel_withdraws n r k s)
+  withdraw_says : (mode : Mode) (r k : ℕ) → l ≡ cancel_label mode n 3 → cancelled_of_op x.component n s (how_far_of n s) ≡ Some (subtask.Guest k) → IsNamed a (subtask.Guest k) → has_ended k s ≡ false → EndWords a (cancel_withdraws n r k s)
   unfolding cancel_withdraws withdrawn remove_thread
-  withdraw_says mode r k at target unended =
+  withdraw_says mode r k at target named unended =
+      let t = cancel_withdraws n r k s in
+      let writes : written_by x.component s l t ≡ Some (end_for status.StartCancelled (subtask.Guest k)) = ap (λ (y : Label). written_by x.component s y t) at ∙ (cancel_writes mode t ∙ ap (option_map (end_for status.StartCancelled)) target) in
       let v : Core = after_word (Withdraw k) s in
       let u : Core = set_end k call_end.StartCancelled v in
       let rest : Walk a u (cancel_withdraws n r k s) = subst (λ (w : Core). Walk a (set_end k call_end.StartCancelled w) (cancel_withdraws n r k s)) (sym (withdraws k s)) (stay_walk (answered_walks n refl r 3 (word (SetUninteresting k) tt (word (SetExited k) tt NoWord)))) in
       record {
-        writes = λ j f says.
-            let q = cancel_writes_of status.StartCancelled (cancelled_of_op x.component n s (how_far_of n s)) (subtask.Guest k) j f target (sym (cancel_writes mode) ∙ (sym (ap (λ (y : Label). written_by x.component s y s) at) ∙ says)) in
-            let same : k ≡ j = ap (λ (d : Subtask). call_named d) q.0 in
-            inr (inl (subst (λ (i : ℕ). has_ended i s ≡ false) same unended), (u, (subst (λ (i : ℕ). is_over i u ≡ true) same (over_now k call_end.StartCancelled v), rest)));
-        hands = λ j f out.
-            let both = sym (ap (λ (y : Label). handed_by x.component main s y (cancel_withdraws n r k s)) at) ∙ out in
-            let q = cancel_hands_of status.StartCancelled (cancelled_of_op x.component n s (how_far_of n s)) (subtask.Guest k) j f target (sym (withdraw_hands mode) ∙ both) in
-            WritesToo (ap (λ (y : Label). written_by x.component s y s) at ∙ (cancel_writes mode ∙ (ap (option_map (end_for status.StartCancelled)) target ∙ ap₂ (λ (g : Status) (d : Subtask). Some (end_for g d)) q.1 q.0))) (inr (sym q.1));
+        writes = λ to f says. said_is (λ d g. Writes a t d) (sym writes ∙ says) (WritesCall k u (EndsSubtask named unended) (over_now k call_end.StartCancelled v) rest);
+        hands = λ to f out. said_is (HandsOut a t) (sym (ap (λ (y : Label). handed_by x.component main s y t) at ∙ (withdraw_hands mode ∙ ap (option_map (end_for status.StartCancelled)) target)) ∙ out) (WritesToo k status.StartCancelled (ap (λ (y : Label). written_by x.component s y s) at ∙ (cancel_writes mode s ∙ ap (option_map (end_for status.StartCancelled)) target)) (inr refl));
       }
     where
       withdraw_hands : (m : Mode) → handed_by x.component main s (cancel_label m n 3) (cancel_withdraws n r k s) ≡ handed_by_cancel x.component n s 3
       withdraw_hands Async = refl
       withdraw_hands Sync = refl
 
-  cancel_guest_leads : (mode : Mode) (r k : ℕ) (y : CancelCase) → cancelled_of_op x.component n s (how_far_of n s) ≡ Some (subtask.Guest k) → cancel_case k s ≡ y → HasSubtask a n (subtask.Guest k) → is_joined (join_of (subtask.Guest k) s) ≡ false → Leads a s (cancel_guest mode n r k s y)
+  cancel_guest_leads : (mode : Mode) (r h k : ℕ) (y : CancelCase) → cancelled_of_op x.component n s (how_far_of n s) ≡ Some (subtask.Guest k) → cancel_case k s ≡ y → subtask_at (instance_of n s) h s ≡ Some (subtask.Guest k) → is_joined (join_of (subtask.Guest k) s) ≡ false → Leads a s (cancel_guest mode n r k s y)
   unfolding cancel_withdraws cancel_wakes_callback cancel_promotes_yield cancel_asks set_own_event on_call
-  cancel_guest_leads mode r k AlreadyEnded target is has free = cancel_ended_row_leads mode r (subtask.Guest k) s (undelivered_end (event_of (subtask.Guest k) s)) target (λ j at. ap (λ (d : Subtask). undelivered_end (event_of d s)) (sym at)) has NoWord
-  cancel_guest_leads mode r k StartNotRun target is has free =
+  cancel_guest_leads mode r h k AlreadyEnded target is named free = cancel_ended_row_leads mode r (subtask.Guest k) s (undelivered_end (event_of (subtask.Guest k) s)) target refl (ByHandle h named) NoWord
+  cancel_guest_leads mode r h k StartNotRun target is named free =
       let says = subst (CaseSays k s) is (case_says k s) in
       goes_on_saying x main s n l next (cancel_label mode n 3) (cancel_withdraws n r k s) (cancel_plain mode n 3)
-      (λ at. withdraw_says mode r k at target says.0)
-      (λ at. answered_walks n refl r 3 (withdrawn_walks n refl k (n, (refl, (has, (says.1, (says.0, (refl, says.1)))))) (ap (λ (y : Label). written_by x.component s y s) at ∙ (cancel_writes mode ∙ ap (option_map (end_for status.StartCancelled)) target)) NoWord))
-  cancel_guest_leads mode r k CallbackWaits target is has free =
-      let asks = asks_walks k has (goes_on_case k s CallbackWaits is refl) in
-      stop (pauses n) (cancel_wakes_callback n k s) refl (λ leave. cancel_goes_behind_walks n refl k leave has free
+      (λ at. withdraw_says mode r k at target (n, (h, (refl, named))) says.0)
+      (λ at. answered_walks n refl r 3 (withdrawn_walks n refl k (n, (refl, (ByHandle h named, (says.1, (says.0, (refl, says.1)))))) (ap (λ (y : Label). written_by x.component s y s) at ∙ (cancel_writes mode s ∙ ap (option_map (end_for status.StartCancelled)) target)) NoWord))
+  cancel_guest_leads mode r h k CallbackWaits target is named free =
+      let asks = asks_walks k (ByHandle h named) (goes_on_case k s CallbackWaits is refl) in
+      stop (pauses n) (cancel_wakes_callback n k s) refl (λ leave. cancel_goes_behind_walks n refl k leave (ByHandle h named) free
       (placed (Put mark.Switch k (why.Delivery delivery.Cancel)) (inl (Cancels (subst (CaseSays k s) is (case_says k s)) refl)) asks))
-  cancel_guest_leads mode r k CallbackYields target is has free =
-      let asks = asks_walks k has (goes_on_case k s CallbackYields is refl) in
-      stop (pauses n) (cancel_promotes_yield n k s) refl (λ leave. cancel_goes_behind_walks n refl k leave has free
+  cancel_guest_leads mode r h k CallbackYields target is named free =
+      let asks = asks_walks k (ByHandle h named) (goes_on_case k s CallbackYields is refl) in
+      stop (pauses n) (cancel_promotes_yield n k s) refl (λ leave. cancel_goes_behind_walks n refl k leave (ByHandle h named) free
       (promoted_walks n k refl (ready_at (place_of k s) (yields_ready (place_of k s) (subst (CaseSays k s) is (case_says k s)))) asks))
-  cancel_guest_leads mode r k OtherwiseRuns target is has free = cancel_by_end_leads mode r (subtask.Guest k) (cancel_asks k s) (subtask_ended (subtask.Guest k) (cancel_asks k s)) target (λ j at. event_owed j k (Some own.Cancelled) s) has (inl free) (asks_walks k has (goes_on_case k s OtherwiseRuns is refl))
+  cancel_guest_leads mode r h k OtherwiseRuns target is named free = cancel_by_end_leads mode r (subtask.Guest k) (cancel_asks k s) (subtask_ended (subtask.Guest k) (cancel_asks k s)) target (event_owed k (Some own.Cancelled) s) (ByHandle h named) (inl free) (asks_walks k (ByHandle h named) (goes_on_case k s OtherwiseRuns is refl))
 
-  cancel_subtask_leads : (mode : Mode) (r : ℕ) (sub : Subtask) → cancelled_of_op x.component n s (how_far_of n s) ≡ Some sub → HasSubtask a n sub → is_joined (join_of sub s) ≡ false → Leads a s (cancel_subtask mode n r s sub)
+  cancel_subtask_leads : (mode : Mode) (r h : ℕ) (sub : Subtask) → cancelled_of_op x.component n s (how_far_of n s) ≡ Some sub → subtask_at (instance_of n s) h s ≡ Some sub → is_joined (join_of sub s) ≡ false → Leads a s (cancel_subtask mode n r s sub)
   unfolding cancel_aborts_host
-  cancel_subtask_leads mode r (subtask.Guest k) target has free = cancel_guest_leads mode r k (cancel_case k s) target refl has free
-  cancel_subtask_leads mode r (subtask.Host i) target has free =
+  cancel_subtask_leads mode r h (subtask.Guest k) target named free = cancel_guest_leads mode r h k (cancel_case k s) target refl named free
+  cancel_subtask_leads mode r h (subtask.Host i) target named free =
+      let has : HasSubtask a n (subtask.Host i) = ByHandle h named in
       trap_if_leads a s (was_cancelled i s) trap.SubtaskCancelAfterTerminal _ (λ e.
-      cancel_by_end_leads mode r (subtask.Host i) (cancel_aborts_host i s) (subtask_ended (subtask.Host i) (cancel_aborts_host i s)) target (λ k at. no_way (ap (λ (d : Subtask). is_guest d) at)) has (inl free) (word (SetCancelled i) (n, (refl, has)) (word (SetPhase i (aborted_phase (phase_of i s))) refl NoWord)))
+      cancel_by_end_leads mode r (subtask.Host i) (cancel_aborts_host i s) (subtask_ended (subtask.Host i) (cancel_aborts_host i s)) target (event_aborted i s) has (inl free) (word (SetCancelled i) (n, (refl, has)) (word (SetPhase i (aborted_phase (phase_of i s))) (AbortsOwn (n, (h, (refl, named))), refl) NoWord)))
 
   cancel_row_leads : (mode : Mode) (r h : ℕ) (f : HowFar) → cancel_target n s (op_of x.component n s) ≡ subtask_at (instance_of n s) h s → how_far_of n s ≡ f → Leads a s (cancel_row mode n r h s f)
   unfolding cancel_resumed
   cancel_row_leads mode r h (how_far.Cancels sub) target far =
       let has : HasSubtask a n sub = ByOp (ap (λ y. subtask_under_way y) far) in
-      cancel_by_end_leads mode r sub (cancel_resumed n sub s) (subtask_ended sub (cancel_resumed n sub s)) (ap (cancelled_of_op x.component n s) far) (λ k at. event_resumed n k sub at s) has (inr far)
+      cancel_by_end_leads mode r sub (cancel_resumed n sub s) (subtask_ended sub (cancel_resumed n sub s)) (ap (cancelled_of_op x.component n s) far) (event_resumed n sub s) has (inr far)
       (join_walks n refl sub join.Nowhere (n, (refl, has)) (word (SetSavedCallee n None) tt (put_back_walks n refl (saved_callee_of n s) (subtask_instance sub s) NoWord)))
   cancel_row_leads mode r h (how_far.AwaitsEnd sub) target far =
       let has : HasSubtask a n sub = ByOp (ap (λ y. subtask_under_way y) far) in
       let t = set_join sub join.Nowhere s in
-      cancel_ended_row_leads mode r sub t (undelivered_end (event_of sub t)) (ap (cancelled_of_op x.component n s) far) (λ k at. ap (λ o. undelivered_end o) (sym (event_left k sub at s)) ∙ ap (λ (d : Subtask). undelivered_end (event_of d t)) (sym at)) has (join_walks n refl sub join.Nowhere (n, (refl, has)) NoWord)
+      cancel_ended_row_leads mode r sub t (undelivered_end (event_of sub t)) (ap (cancelled_of_op x.component n s) far) (ap (λ o. undelivered_end o) (sym (event_joined sub join.Nowhere s))) has (join_walks n refl sub join.Nowhere (n, (refl, has)) NoWord)
   cancel_row_leads mode r h f target far =
       or_trap_leads a s (subtask_at (instance_of n s) h s) trap.BadHandle _ (λ sub named.
       trap_if_leads a s (is_joined (join_of sub s)) trap.WaitableSyncAndAsync _ (λ free.
-      cancel_subtask_leads mode r sub (ap (cancelled_of_op x.component n s) far ∙ (target ∙ named)) (ByHandle h named) free))
+      cancel_subtask_leads mode r h sub (ap (cancelled_of_op x.component n s) far ∙ (target ∙ named)) named free))
 
   -- ---- Dropping
 
@@ -553,7 +591,7 @@ module _ (x : Setting) (main : Main) (s : Core) (n : ℕ) (l : Label) (next : Tu
   dropped_walks h (subtask.Host i) named ended =
       let sub = subtask.Host i in
       let t = set_join sub join.Nowhere s in
-      advanced_walks n refl (work_deleted_walks n refl i (n, (refl, inr (ended, (freed_named (instance_of n s) h i (set_subtask_handle sub None t) ∙ work_unnamed i t, still_ended i (instance_of n s) h s ended))))
+      advanced_walks n refl (work_deleted_walks n refl i (n, (refl, inr (ended, (freed_named (instance_of n s) h i (set_subtask_handle sub None t) ∙ work_unnamed i t, (h, (named, still_ended i (instance_of n s) h s ended))))))
       (word (UnnameWork (instance_of n s) h i) (n, (refl, (refl, (named, set_none_join sub s)))) (join_walks n refl sub join.Nowhere (n, (refl, ByHandle h named)) NoWord)))
 
   drop_row_leads : (h : ℕ) → Leads a s (drop_row n h s)

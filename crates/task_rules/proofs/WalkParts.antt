@@ -1,19 +1,18 @@
 -- What the rows of the ops are made of, as chains of words: what is read, gifts, moves, and a new call.
-use Rattle.task_machine.proofs.CommuteLemmas.{get-change}
-use Rattle.std.proofs.lemmas.Bool.Decides.{nat_tests}
+use Rattle.task_rules.specs.Data.{assigned, advanced, moved_to}
 use Rattle.task_rules.proofs.MoveLemmas.{put_place}
 use Rattle.task_machine.specs.declared.records.HowFar.{HowFar}
-use Rattle.std.proofs.Common.{T, ap, inl, inr, refl, subst, sym, ◌∙◌, ◌⊎◌, arith}
+use Rattle.std.proofs.Common.{T, ap, inl, inr, refl, subst, sym, ◌∙◌, ◌⊎◌}
 use Rattle.std.specs.Option.{option_map_or}
 use Rattle.std.specs.Prelude.{Bool, List, None, Option, Some, [], false, if◌then◌else◌, is_none, option_and_then, option_map, true, unwrap_or, ℕ, ◌+◌, ◌==◌, ◌≡◌, is_some}
 use Rattle.task_machine.proofs.MapLemmas.{change-field, get-change_same, get-insert_same, get-remove_same}
 use Rattle.task_machine.specs.Core.{Core}
 use Rattle.task_machine.specs.Labels.{Choice, join_label, wait_label}
 use Rattle.task_machine.specs.Maps.{change, get, Records}
-use Rattle.task_machine.specs.Moves.{Gift, MemberGift, NoGift, OwnGift, behind_one, checked, gift, gift_after_own, has_entry, less, less_switch, member_gift, own_gift, put_switch, stopped, unqueued, withdrawn}
-use Rattle.task_machine.specs.Read.{call_instance, foot_of, goal_of, has_ready_member, how_far_of, instance_of, is_direct, is_explicit, is_joined, is_ready_member, join_of, may_not_suspend, new_thread_handle, own_event_of, place_of, saved_callee_of, subtask_at, subtask_handle, task_of, thread_group, is_stage_ended, stage_of, is_blocked_on}
+use Rattle.task_machine.specs.Moves.{Gift, MemberGift, NoGift, OwnGift, behind_one, checked, gift, gift_after_own, has_entry, less, less_switch, member_gift, own_gift, put_switch, stopped, unqueued, withdrawn, is_group_done, group_settled}
+use Rattle.task_machine.specs.Read.{call_instance, foot_of, goal_of, has_ready_member, how_far_of, instance_of, is_direct, is_explicit, is_joined, is_ready_member, join_of, may_not_suspend, new_thread_handle, own_event_of, place_of, saved_callee_of, subtask_at, subtask_handle, task_of, thread_group, is_blocked_on}
 use Rattle.task_machine.specs.Statuses.{status_code}
-use Rattle.task_machine.specs.Write.{add_call, add_thread, free_handle, give_thread_handle, on_call, on_instance, on_thread, on_work, remove_thread, set_do_not_suspend, set_end, set_event, set_exited, set_high, set_how_far, set_join, set_low, set_place, set_saved_callee, set_saved_own, set_started, set_subtask_handle, set_switch, set_thread_handle, set_uninteresting, with_switch}
+use Rattle.task_machine.specs.Write.{add_call, add_thread, free_handle, give_thread_handle, on_call, on_instance, on_thread, on_work, remove_thread, set_do_not_suspend, set_end, set_event, set_exited, set_high, set_how_far, set_join, set_low, set_place, set_saved_callee, set_saved_own, set_started, set_subtask_handle, set_switch, set_thread_handle, set_uninteresting, with_switch, remove_group, remove_work, set_position, set_register}
 use Rattle.task_machine.specs.declared.component.Callee.{Callee}
 use Rattle.task_machine.specs.declared.component.ExportKind.{ExportKind}
 use Rattle.task_machine.specs.declared.records.Call.{Call}
@@ -30,10 +29,10 @@ use Rattle.task_machine.specs.declared.words.Given.{Given}
 use Rattle.task_machine.specs.declared.words.OwnEvent.{OwnEvent}
 use Rattle.task_machine.specs.declared.words.Status.{Status}
 use Rattle.task_rules.proofs.PlacingLemmas.{Shifted, placed, placing_shifted, shifted_after, shifted_explicit, shifted_made}
-use Rattle.task_rules.proofs.StandLemmas.{place_kept}
-use Rattle.task_rules.proofs.WalkMoves.{MayTake, checked_shifts, group_settled_walks, lands_at, shifted, stopped_shifts, taken_walks, word}
-use Rattle.task_rules.proofs.WalkTask.{advanced_walks, answered_walks, is_plain, is_still, running_moved, not_main}
-use Rattle.task_rules.specs.Allowed.{Blocks, ByHandle, HasSet, HasSubtask, IsNew, IsRunner, IsWithdrawn, Leaves, MayDeliver, MayJoin, MayMakeCall, MayRemoveWork, MayWithdraw, SaysEnd, Starts, Waits, is_begun, MayCome}
+use Rattle.task_rules.proofs.StandLemmas.{place_kept, eq_refl}
+use Rattle.task_rules.proofs.WalkMoves.{MayTake, checked_shifts, group_settled_walks, shifted, stopped_shifts, taken_walks, word, lands_at}
+use Rattle.task_rules.proofs.WalkTask.{advanced_walks, answered_walks, is_plain, is_still, running_moved, moved_passes, not_main}
+use Rattle.task_rules.specs.Allowed.{Blocks, ByHandle, HasSet, HasSubtask, IsNew, IsRunner, IsWithdrawn, Leaves, MayDeliver, MayJoin, MayMakeCall, MayRemoveWork, MayWithdraw, SaysEnd, Starts, Waits, MayCome, is_begun}
 use Rattle.task_rules.specs.Calls.{call_clears_flag, call_made, call_queues, call_resumes, call_stops, enter_runs, new_call, new_thread, next_thread, put_back, settle_group_of, sync_sets_flag, with_thread_handle, work_deleted, work_group}
 use Rattle.task_rules.specs.Cancels.{Async, Mode, Sync, behind_switch, cancel_goes_behind, cancel_label, cancel_stops, cancel_takes_end}
 use Rattle.task_rules.specs.Chains.{NoWord, Stay, Trip, is_running, Remains}
@@ -41,7 +40,7 @@ use Rattle.task_rules.specs.Places.{says}
 use Rattle.task_rules.specs.Scenes.{Scene}
 use Rattle.task_rules.specs.Scripts.{registers_for}
 use Rattle.task_rules.specs.Sets.{chosen, given_code, given_handle, given_result, received, set_given, wait_stops}
-use Rattle.task_rules.specs.Words.{Enter, GoBehind, MakeCall, Move, NameThread, Put, RemoveWork, SetCallEvent, SetCallJoin, SetDoNotSuspend, SetEnd, SetExited, SetHowFar, SetRegister, SetSavedCallee, SetSavedOwn, SetStarted, SetUninteresting, SetWorkEvent, SetWorkJoin, Stop, Withdraw, after_word, after_placing}
+use Rattle.task_rules.specs.Words.{Enter, GoBehind, MakeCall, Move, NameThread, Put, RemoveWork, SetCallEvent, SetCallJoin, SetDoNotSuspend, SetEnd, SetExited, SetHowFar, SetRegister, SetSavedCallee, SetSavedOwn, SetStarted, SetUninteresting, TakeWorkEvent, SetWorkJoin, Stop, Withdraw, after_word, after_placing}
 use Rattle.task_machine.specs.declared.component.ExportKind.TheVariants as kind
 use Rattle.task_machine.specs.declared.records.CallEnd.TheVariants as call_end
 use Rattle.task_machine.specs.declared.records.Caller.TheVariants as caller
@@ -71,6 +70,31 @@ set_none_join (subtask.Host i) t = ap (λ (o : Option Work). is_joined (option_m
     at : (o : Option Work) → is_joined (option_map_or (λ w. w.join) (option_map (λ (w : Work). record w { join = join.Nowhere }) o) join.Nowhere) ≡ false
     at None = refl
     at (Some w) = refl
+
+blocked_itself : (sub : Subtask) → is_blocked_on sub (place.Blocked sub) ≡ true
+blocked_itself (subtask.Guest k) = eq_refl k
+blocked_itself (subtask.Host i) = eq_refl i
+
+pub far_fresh : (n : ℕ) (t : Core) → how_far_of n (set_how_far n how_far.Fresh t) ≡ how_far.Fresh
+unfolding set_how_far on_thread
+far_fresh n t = ap (λ (o : Option Thread). option_map_or (λ r. r.how_far) o how_far.Fresh) (get-change_same t.threads n (λ r. record r { how_far = how_far.Fresh })) ∙ at (get t.threads n)
+  where
+    at : (o : Option Thread) → option_map_or (λ r. r.how_far) (option_map (λ (r : Thread). record r { how_far = how_far.Fresh }) o) how_far.Fresh ≡ how_far.Fresh
+    at None = refl
+    at (Some r) = refl
+
+-- the answer may come before the work is gone
+pub answered_first : (n r v i : ℕ) (s : Core) → work_deleted i (assigned n r v s) ≡ assigned n r v (work_deleted i s)
+unfolding work_deleted assigned advanced moved_to set_how_far set_position on_thread set_register remove_work group_settled remove_group is_group_done
+answered_first n r v i s = of_group (work_group i s)
+  where
+    by_done : (g : ℕ) (b : Bool) → (if b then remove_group g (remove_work i (assigned n r v s)) else remove_work i (assigned n r v s)) ≡ assigned n r v (if b then remove_group g (remove_work i s) else remove_work i s)
+    by_done g true = refl
+    by_done g false = refl
+
+    of_group : (o : Option ℕ) → settle_group_of o (remove_work i (assigned n r v s)) ≡ assigned n r v (settle_group_of o (remove_work i s))
+    of_group None = refl
+    of_group (Some g) = by_done g (is_group_done g (remove_work i s))
 
 pub work_unnamed : (i : ℕ) (t : Core) → subtask_handle (subtask.Host i) (set_subtask_handle (subtask.Host i) None t) ≡ None
 unfolding set_subtask_handle on_work
@@ -149,10 +173,6 @@ pub withdraws : (k : ℕ) (t : Core) → after_word (Withdraw k) t ≡ remove_th
 unfolding unqueued
 withdraws k t = withdraws_by k (less_switch k t.queues.switch) (less k t.queues.high) (less k t.queues.low) t (has_entry k t.queues.high)
 
-blocked_moved : (n : ℕ) (sub : Subtask) (t : Core) → option_map_or (is_blocked_on sub) (place_of n (set_place n (place.Blocked sub) t)) true ≡ true
-unfolding set_place on_thread
-blocked_moved n sub t = grind (arith, nat_tests, get-change)
-
 -- ---- The moves
 
 module _ {a : Scene} {b : Core} (n : ℕ) (is : IsRunner a n) where
@@ -180,7 +200,7 @@ module _ {a : Scene} {b : Core} (n : ℕ) (is : IsRunner a n) where
 
   event_taken_walks : (sub : Subtask) {t : Core} → HasSubtask a n sub → Stay a b t → Stay a b (set_event sub None t)
   event_taken_walks (subtask.Guest k) has c = word (SetCallEvent k None) (n, (is, has)) c
-  event_taken_walks (subtask.Host i) has c = word (SetWorkEvent i None) (n, (is, has)) c
+  event_taken_walks (subtask.Host i) has c = word (TakeWorkEvent i) (n, (is, has)) c
 
   pub put_back_walks : (o : Option Bool) (j : ℕ) {t : Core} → Stay a b t → Stay a b (put_back o j t)
   put_back_walks None j c = c
@@ -195,7 +215,7 @@ module _ {a : Scene} {b : Core} (n : ℕ) (is : IsRunner a n) where
   call_stops_walks sub t leave own come c =
       let u = stopped (foot_of n t) t in
       let h : Shifted t u = placing_shifted (Stop (foot_of n t)) t in
-      lands_at (Move n (place.Blocked sub)) n (how_far.Calls sub) (Blocks sub leave (own u h) refl) (come (set_place n (place.Blocked sub) u) (shifted_after h (placing_shifted (Move n (place.Blocked sub)) u)) (blocked_moved n sub u)) (stopped_walks t c)
+      lands_at (Move n (place.Blocked sub)) n (how_far.Calls sub) (Blocks sub leave (own u h) refl) (come (set_place n (place.Blocked sub) u) (shifted_after h (placing_shifted (Move n (place.Blocked sub)) u)) (moved_passes (is_blocked_on sub) (place.Blocked sub) (blocked_itself sub) n u)) (stopped_walks t c)
 
   pub sync_sets_flag_walks : (m j : ℕ) (k : ExportKind) {t : Core} → Stay a b t → Stay a b (sync_sets_flag m j k t)
   sync_sets_flag_walks m j kind.Sync {t = t} c = word (SetDoNotSuspend j true) tt (word (SetSavedOwn m (Some (may_not_suspend j t))) tt c)

@@ -1,27 +1,27 @@
 -- Each step as a chain of words: host works, main, the loop and all turns.
+use Rattle.task_machine.specs.declared.component.HostDef.{HostDef}
+use Rattle.task_machine.specs.declared.words.Phase.{Phase}
+use Rattle.task_machine.specs.declared.records.Stage.{Stage}
+use Rattle.task_machine.specs.declared.records.Subtask.{Subtask}
+use Rattle.task_rules.proofs.MuteLemmas.{is_mute, is_mute_main, mute_words, none_said}
+use Rattle.task_rules.proofs.SayLemmas.{finished_is, result_taken, said_is}
+use Rattle.task_rules.specs.Chains.{EndWords, HandsOut, TakesResult, Writes, WritesPolled, start_of, Remains, Collapses, Chain, Then, LastWords, NoWord, SameMain, Shifts, StepsAreWalks, Stay, Trip, Walk, is_take, SpawnsNamed}
 use Rattle.task_rules.proofs.ChainLemmas.{join, trip_walk}
-use Rattle.task_rules.proofs.MuteLemmas.{is_mute, is_mute_main, mute_words}
-use Rattle.task_rules.proofs.SayLemmas.{finished_is, mapped, result_taken}
-use Rattle.task_rules.proofs.WalkTask.{call_in}
-use Rattle.task_rules.specs.Chains.{EndWords, HandsOut, TakesResult, start_of, Remains, Collapses, Chain, Then}
-use Rattle.task_rules.specs.SubtaskEnds.{SubtaskEnd, end_for, finished_call, handed_by, handed_by_main, started_end, written_by}
-use Rattle.task_machine.specs.declared.records.Subtask.TheVariants as subtask
+use Rattle.task_rules.proofs.WalkTask.{Leads, data_row_leads, none_is_some, not_main, running_scene, task_row_leads, under_place}
+use Rattle.task_rules.specs.SubtaskEnds.{end_for, finished_call, handed_by, handed_by_main, started_end, written_by}
 use Rattle.task_machine.specs.declared.words.Status.{Status}
-use Rattle.task_machine.specs.declared.words.Status.TheVariants as status
-use Rattle.task_machine.specs.Core.{Main}
-use Rattle.task_machine.specs.Write.{take_result}
-use Rattle.task_rules.specs.MainOps.{started_at}
+use Rattle.task_machine.specs.Core.{Main, Began, Core, MainPlace, Refused, Scripted, Started, State, Unscripted}
+use Rattle.task_machine.specs.Write.{take_result, add_group, on_thread, on_work, push_high, remove_thread, remove_threads, set_course, set_event, set_phase, set_place, set_register, set_stage, set_trapped, add_work, count_work}
+use Rattle.task_rules.specs.MainOps.{started_at, spawned_at, Abort, Answer, Answers, Await, Does, Finish, MainAct, MainProgress, Pends, Quiet, Ready, Spawn, Start, act_of, advanced_main, finish_act, finish_result, has_interesting, is_complete, is_ready_for_call, line_of, main_aborted, main_row, main_spawned, main_started, may_act, op_at, start_act, start_refusal, unless_pending, is_spawn, is_spawn_caller, finished_into}
 use Rattle.std.proofs.Common.{T, ap, ap₂, cond, inl, inr, length, refl, subst, suc, sym, ◌∙◌, ◌⊎◌, is_some, is_none}
 use Rattle.std.specs.Option.{option_map_or}
-use Rattle.std.specs.Prelude.{Bool, List, None, Option, Some, [], false, not, option_map, slice_set, true, unwrap_or, zero, ℕ, ◌+◌, ◌==◌, ◌∷◌, ◌≡◌}
+use Rattle.std.specs.Prelude.{Bool, List, None, Option, Some, [], false, not, option_map, slice_set, true, unwrap_or, zero, ℕ, ◌+◌, ◌==◌, ◌∷◌, ◌≡◌, suc, is_none, ◌-◌, ◌++◌, slice_get}
 use Rattle.task_machine.proofs.CommuteLemmas.{change-change_same}
-use Rattle.task_machine.proofs.MapLemmas.{change-field, get-change_same, get-remove_same}
-use Rattle.task_machine.specs.Core.{Began, Core, Main, MainPlace, Refused, Scripted, Started, State, Unscripted}
+use Rattle.task_machine.proofs.MapLemmas.{change-field, get-change_same, get-remove_same, get-insert_same}
 use Rattle.task_machine.specs.Labels.{Choice, choice_of, host_label, woken_of}
 use Rattle.task_machine.specs.Maps.{Records, change, get, get-remove, size}
 use Rattle.task_machine.specs.Moves.{ended, is_callback_waiter, may_publish, published, put_high, unblocked, wake, wake_joined, waken_by}
-use Rattle.task_machine.specs.Read.{blocked_on, course_of, course_value, is_direct, is_stage_ended, is_waiting_on, join_of, next_entry, phase_of, place_of, stage_of, strand_from, strand_of, under_of, work_caller_of}
-use Rattle.task_machine.specs.Write.{add_group, on_thread, on_work, push_high, remove_thread, remove_threads, set_course, set_event, set_phase, set_place, set_register, set_stage, set_trapped}
+use Rattle.task_machine.specs.Read.{blocked_on, course_of, course_value, is_direct, is_stage_ended, is_waiting_on, join_of, next_entry, phase_of, place_of, stage_of, strand_from, strand_of, under_of, work_caller_of, is_aborted}
 use Rattle.task_machine.specs.declared.component.Callee.{Callee}
 use Rattle.task_machine.specs.declared.label.Label.{Label}
 use Rattle.task_machine.specs.declared.label.MainLabel.{MainLabel}
@@ -39,19 +39,15 @@ use Rattle.task_machine.specs.declared.records.WorkCaller.{WorkCaller}
 use Rattle.task_machine.specs.declared.scenario.MainOpDef.{MainOpDef}
 use Rattle.task_machine.specs.declared.trap.Trap.{Trap}
 use Rattle.task_machine.specs.declared.words.Mark.{Mark}
-use Rattle.task_machine.specs.declared.words.Status.{Status}
 use Rattle.task_rules.proofs.PlacingLemmas.{placed, popped_shifted}
-use Rattle.task_rules.proofs.WalkMoves.{blocked_at, chosen_in_of, published_work, shifted, unblocked_shifts, word}
+use Rattle.task_rules.proofs.WalkMoves.{blocked_at, chosen_in_of, published_work_shifts, shifted, unblocked_shifts, word, work_read}
 use Rattle.task_rules.proofs.WalkOps.{set_row_leads, subtask_row_leads, thread_row_leads}
 use Rattle.task_rules.proofs.WalkParts.{Born, born_explicit, born_goal, born_place, call_born}
 use Rattle.task_rules.proofs.WalkTakes.{host_begins, host_quiet, thread_taken_leads}
-use Rattle.task_rules.proofs.WalkTask.{Leads, data_row_leads, none_is_some, not_main, running_scene, task_row_leads, under_place}
-use Rattle.task_rules.specs.Allowed.{ByProgram, ByScript, Falls, IsRunner, MayCall, Starts, is_async_work, IsFall}
-use Rattle.task_rules.specs.Calls.{call_made, next_thread}
+use Rattle.task_rules.specs.Allowed.{ByProgram, ByScript, Falls, IsRunner, MayCall, Starts, is_async_work, MayAbort, MayFinish, ProgramAborts, ScriptAborts, IsFall}
+use Rattle.task_rules.specs.Calls.{call_made, next_thread, work_queued, next_work, new_work}
 use Rattle.task_rules.specs.Cancels.{aborted_phase}
-use Rattle.task_rules.specs.Chains.{LastWords, NoWord, SameMain, Shifts, StepsAreWalks, Stay, Trip, Walk, is_take}
 use Rattle.task_rules.specs.Laws.{is_free}
-use Rattle.task_rules.specs.MainOps.{Abort, Answer, Answers, Await, Does, Finish, MainAct, MainProgress, Pends, Quiet, Ready, Spawn, Start, act_of, advanced_main, finish_act, finish_result, has_interesting, is_complete, is_ready_for_call, line_of, main_aborted, main_row, main_spawned, main_started, may_act, op_at, start_act, start_refusal, unless_pending}
 use Rattle.task_rules.specs.Once.{begun_holder}
 use Rattle.task_rules.specs.OpParts.{callee_of_main_op}
 use Rattle.task_rules.specs.Outcome.{main_outcome, outcome_of_label}
@@ -63,7 +59,9 @@ use Rattle.task_rules.specs.Step.{DeadlockStep, EmptyFor, FuturesStep, MainProgr
 use Rattle.task_rules.specs.Takes.{host_done, host_result, host_status, popped, pushed, take_row}
 use Rattle.task_rules.specs.Turns.{at_turn, goes_to, settled_turn}
 use Rattle.task_rules.specs.Words.{AddGroup, EndWork, FinishWork, MakeCall, Pend, Pop, Put, QueueWork, RemoveThread, SetPhase, SetRegister, SetTrapped, TakeHost, TakePush, TakeResult}
-use Rattle.task_rules.specs.Works.{Ends, FailsNow, Poll, StillPends, course_for, followed, has_moving_work, next_polled, poll_ends, poll_of, poll_pends}
+use Rattle.task_rules.specs.Works.{Ends, FailsNow, Poll, StillPends, course_for, followed, has_moving_work, next_polled, poll_ends, poll_of, poll_pends, has_end, ends_with, polled_again, polled_course, polled_in}
+use Rattle.task_machine.specs.declared.words.Status.TheVariants as status
+use Rattle.task_machine.specs.declared.records.Subtask.TheVariants as subtask
 use Rattle.task_machine.specs.declared.label.Label.TheVariants as label
 use Rattle.task_machine.specs.declared.label.LoopLabel.TheVariants as loop_label
 use Rattle.task_machine.specs.declared.label.MainLabel.TheVariants as main_label
@@ -76,7 +74,6 @@ use Rattle.task_machine.specs.declared.records.Goal.TheVariants as goal
 use Rattle.task_machine.specs.declared.records.Join.TheVariants as join
 use Rattle.task_machine.specs.declared.records.Place.TheVariants as place
 use Rattle.task_machine.specs.declared.records.Stage.TheVariants as stage
-use Rattle.task_machine.specs.declared.records.Subtask.TheVariants as subtask
 use Rattle.task_machine.specs.declared.records.Turn.TheVariants as turn
 use Rattle.task_machine.specs.declared.records.Why.TheVariants as why
 use Rattle.task_machine.specs.declared.records.WorkCaller.TheVariants as work_caller
@@ -85,13 +82,6 @@ use Rattle.task_machine.specs.declared.words.Mark.TheVariants as mark
 use Rattle.task_machine.specs.declared.words.Phase.TheVariants as phase
 
 -- ---- What is read
-
-work_read : {A : Type 0} (f : Work → A) (none : A) (i : ℕ) (g : Work → Work) → ((w : Work) → f (g w) ≡ f w) → (m : Records Work) → option_map_or f (get (change i g m) i) none ≡ option_map_or f (get m i) none
-work_read f none i g keeps m = ap (λ o. option_map_or f o none) (get-change_same m i g) ∙ at (get m i)
-  where
-    at : (o : Option Work) → option_map_or f (option_map g o) none ≡ option_map_or f o none
-    at None = refl
-    at (Some w) = keeps w
 
 removed_still : (n m : ℕ) (s : Core) → get s.threads n ≡ None → get (remove_thread m s).threads n ≡ None
 unfolding remove_thread
@@ -165,6 +155,13 @@ done_first i w s =
     let f = work_caller_of i s in
     ap (λ (t : Core). published (subtask.Host i) (host_status v) w t) (sym (ended_result i f v s)) ∙ sym (ended_published i (host_status v) w (host_result f v s))
 
+event_result : (i : ℕ) (f : WorkCaller) (v : Option ℕ) (e : Option Status) (t : Core) → set_event (subtask.Host i) e (host_result f v t) ≡ host_result f v (set_event (subtask.Host i) e t)
+unfolding set_event on_work set_register on_thread
+event_result i (work_caller.Async n q) (Some v) e t = refl
+event_result i (work_caller.Async n q) None e t = refl
+event_result i work_caller.Spawn v e t = refl
+event_result i (work_caller.Sync n) v e t = refl
+
 result_works : (f : WorkCaller) (v : Option ℕ) (t : Core) → (host_result f v t).works ≡ t.works
 unfolding set_register on_thread
 result_works (work_caller.Async n q) (Some v) t = refl
@@ -191,9 +188,40 @@ ended_stage i t = ap (λ (o : Option Work). is_stage_ended (option_map_or (λ w.
     at None = refl
     at (Some w) = refl
 
-ended_course : (i : ℕ) (t : Core) → course_of i (set_stage i stage.Ended t) ≡ course_of i t
+staged_course : (i : ℕ) (x : Stage) (t : Core) → course_of i (set_stage i x t) ≡ course_of i t
 unfolding set_stage on_work
-ended_course i t = work_read (λ w. w.course) course.NoValue i (λ w. record w { stage = stage.Ended }) (λ w. refl) t.works
+staged_course i x t = work_read (λ w. w.course) course.NoValue i (λ w. record w { stage = x }) (λ w. refl) t.works
+
+unblocked_course : (i : ℕ) (o : Option ℕ) (u : Core) → course_of i (unblocked o u) ≡ course_of i u
+unfolding put_high push_high set_place on_thread
+unblocked_course i None u = refl
+unblocked_course i (Some m) u = refl
+
+followed_course : (f : WorkCaller) (i : ℕ) (t : Core) → course_of i (followed f i t) ≡ course_of i t
+unfolding push_high
+followed_course work_caller.Spawn i t = staged_course i stage.Ended t
+followed_course (work_caller.Async n q) i t = staged_course i stage.Finishing t
+followed_course (work_caller.Sync n) i t = unblocked_course i (blocked_on (subtask.Host i) t) (set_stage i stage.Ended t) ∙ staged_course i stage.Ended t
+
+course_ended : (v : Option ℕ) → has_end (course_for v) ≡ true
+course_ended None = refl
+course_ended (Some v) = refl
+
+-- the work has an end then
+poll_ended : (i : ℕ) (v : Option ℕ) (s : Core) → has_end (course_of i (poll_ends i v s)) ≡ true
+unfolding poll_ends set_phase set_course on_work
+poll_ended i v s =
+    let c = record s { works = change i (λ w. record w { course = course_for v }) s.works } in
+    ap (λ y. has_end y) (followed_course (work_caller_of i s) i _ ∙ work_read (λ w. w.course) course.NoValue i (λ w. record w { phase = phase.Complete }) (λ w. refl) c.works)
+    ∙ (ap (λ (o : Option Work). has_end (option_map_or (λ w. w.course) o course.NoValue)) (get-change_same s.works i (λ (w : Work). record w { course = course_for v })) ∙ at (get s.works i))
+  where
+    at : (o : Option Work) → has_end (option_map_or (λ w. w.course) (option_map (λ (w : Work). record w { course = course_for v }) o) course.NoValue) ≡ true
+    at None = refl
+    at (Some w) = course_ended v
+
+-- the work has ended, and tells it
+abbrev told_end : ℕ → Core → Core
+told_end i s = set_event (subtask.Host i) (Some (host_status (course_value (course_of i s)))) (set_stage i stage.Ended s)
 
 module _ {a : Scene} {b : Core} where
   host_result_walks : (f : WorkCaller) (v : Option ℕ) {t : Core} → Stay a b t → Stay a b (host_result f v t)
@@ -202,7 +230,7 @@ module _ {a : Scene} {b : Core} where
   host_result_walks work_caller.Spawn v c = c
   host_result_walks (work_caller.Sync n) v c = c
 
-  host_done_walks : (i : ℕ) (w : Option ℕ) (s : Core) → may_publish (subtask.Host i) w s ≡ true → Stay a b (set_stage i stage.Ended s) → Stay a b (host_done i w s)
+  host_done_walks : (i : ℕ) (w : Option ℕ) (s : Core) → may_publish (subtask.Host i) w s ≡ true → Stay a b (told_end i s) → Stay a b (host_done i w s)
   unfolding may_publish
   host_done_walks i w s may c =
       let v = course_value (course_of i s) in
@@ -210,10 +238,10 @@ module _ {a : Scene} {b : Core} where
       let e = set_stage i stage.Ended s in
       let t = host_result f v e in
       let works : t.works ≡ e.works = result_works f v e in
-      subst (λ (u : Core). Stay a b u) (done_first i w s) (published_work i (host_status v) w
-      (ap (λ (m : Records Work). is_stage_ended (option_map_or (λ (r : Work). r.stage) (get m i) stage.Ended)) works ∙ ended_stage i s, ap (λ (y : Course). host_status (course_value y)) (sym (ended_course i s) ∙ ap (λ (m : Records Work). option_map_or (λ (r : Work). r.course) (get m i) course.NoValue) (sym works)))
-      (λ y is m at. ap (λ p. option_map_or (is_waiting_on y) p false) (host_places f v e m ∙ ended_places i s m) ∙ chosen_in_of (join_of (subtask.Host i) s) w s may y (sym (ended_join i s) ∙ (ap (λ (m : Records Work). option_map_or (λ (r : Work). r.join) (get m i) join.Nowhere) (sym works) ∙ is)) m at)
-      (host_result_walks f v c))
+      subst (λ (u : Core). Stay a b u) (done_first i w s) (shifted (published_work_shifts i (host_status v) w t
+      (ap (λ (m : Records Work). is_stage_ended (option_map_or (λ (r : Work). r.stage) (get m i) stage.Ended)) works ∙ ended_stage i s)
+      (λ y is m at. ap (λ p. option_map_or (is_waiting_on y) p false) (host_places f v e m ∙ ended_places i s m) ∙ chosen_in_of (join_of (subtask.Host i) s) w s may y (sym (ended_join i s) ∙ (ap (λ (m : Records Work). option_map_or (λ (r : Work). r.join) (get m i) join.Nowhere) (sym works) ∙ is)) m at))
+      (subst (λ (u : Core). Stay a b u) (sym (event_result i f v (Some (host_status v)) e)) (host_result_walks f v c)))
 
 -- ---- A strand that falls
 
@@ -274,25 +302,55 @@ struck_words a n is over begun mute = record {
 
 -- the step leads to a turn, and is a trip in the scene of that turn, whose words are all those of the step
 record WalkedBy (at : Turn → Scene) (b : Core) (was : Main) (t : State) : Type 0 where
-  pub main : SameMain was t.main
+  pub main : SameMain was t.core t.main
   pub next : Turn
   pub turn : t.turn ≡ settled_turn t.core next
   pub walk : Walk (at next) b t.core
   pub trip : Trip (at next) (start_of (at next) b) t.core
   pub words : LastWords (at next) t.core
 
-same_main : (m : Main) → SameMain m m
-same_main (Scripted p) = tt
-same_main Unscripted = tt
+same_main : (m : Main) (t : Core) → SameMain m t m
+same_main (Scripted p) t = λ k. inl (k, refl)
+same_main Unscripted t = tt
+
+-- the work of a spawn's label
+abbrev spawn_in : MainLabel → Option ℕ
+spawn_in (main_label.Spawn k i) = Some i
+spawn_in _ = None
+
+abbrev SpawnTold : MainLabel → Core → Type 0
+SpawnTold k t = (i : ℕ) → spawn_in k ≡ Some i → is_spawn i t ≡ true
+
+at_end : (ss : List ℕ) (i n : ℕ) → (slice_get (ss ++ i ∷ []) n ≡ slice_get ss n) ⊎ (slice_get (ss ++ i ∷ []) n ≡ Some i)
+at_end [] i zero = inr refl
+at_end [] i (suc n) = inl refl
+at_end (s ∷ ss) i zero = inl refl
+at_end (s ∷ ss) i (suc n) = at_end ss i n
+
+same_spawns : (p : MainPlace) (t : Core) (q : MainPlace) → q.spawns ≡ p.spawns → SpawnsNamed p t q
+same_spawns p t q e k = inl (k, ap (λ (ss : List ℕ). unwrap_or (slice_get ss (k - 1)) 0) e)
+
+finished_spawns : (o : MainOpDef) (v : ℕ) (p : MainPlace) → (finished_into o v p).spawns ≡ p.spawns
+finished_spawns (main_op.Finish k r) v p = refl
+finished_spawns _ v p = refl
+
+advanced_spawns : (o : MainOpDef) (k : MainLabel) (p : MainPlace) (t : Core) → SpawnTold k t → SpawnsNamed p t (advanced_main o k p)
+advanced_spawns o (main_label.Spawn j i) p t told k = by (at_end p.spawns i (k - 1))
+  where
+    by : (slice_get (p.spawns ++ i ∷ []) (k - 1) ≡ slice_get p.spawns (k - 1)) ⊎ (slice_get (p.spawns ++ i ∷ []) (k - 1) ≡ Some i) → ((j : ℕ) × (unwrap_or (slice_get (p.spawns ++ i ∷ []) (k - 1)) 0 ≡ spawned_at p j)) ⊎ (is_spawn (unwrap_or (slice_get (p.spawns ++ i ∷ []) (k - 1)) 0) t ≡ true)
+    by (inl e) = inl (k, ap (λ (o : Option ℕ). unwrap_or o 0) e)
+    by (inr e) = inr (subst (λ (n : ℕ). is_spawn n t ≡ true) (ap (λ (o : Option ℕ). unwrap_or o 0) (sym e)) (told i refl))
+advanced_spawns o (main_label.Finish j v) p t told k = same_spawns p t (advanced_main o (main_label.Finish j v) p) (finished_spawns o v p) k
+advanced_spawns o l p t told k = same_spawns p t (advanced_main o l p) refl k
 
 -- a thread that is taken leaves its entry first
 module _ (at : Turn → Scene) (b : Core) (starts : (u : Turn) → Walk (at u) b (start_of (at u) b)) where
-  arrives : (s : State) (new : Core) (m : Main) (u : Turn) (t : State) → SameMain s.main m → t ≡ at_turn s new m u → Trip (at u) (start_of (at u) b) new × LastWords (at u) new → WalkedBy at b s.main t
+  arrives : (s : State) (new : Core) (m : Main) (u : Turn) (t : State) → SameMain s.main new m → t ≡ at_turn s new m u → Trip (at u) (start_of (at u) b) new × LastWords (at u) new → WalkedBy at b s.main t
   unfolding at_turn
   arrives s new m u t same is c = subst (λ (v : State). WalkedBy at b s.main v) (sym is) (record { main = same; next = u; turn = refl; walk = join (starts u) (trip_walk c.0); trip = c.0; words = c.1 })
 
   landed : (s : State) (new : Core) (u : Turn) (t : State) → t ≡ goes_to s new u → Trip (at u) (start_of (at u) b) new × LastWords (at u) new → WalkedBy at b s.main t
-  landed s new u t is c = arrives s new s.main u t (same_main s.main) is c
+  landed s new u t is c = arrives s new s.main u t (same_main s.main new) is c
 
   -- of a row, by where it leads
   progresses_walk : (s : State) (base : Core) (n : ℕ) (p : Progress) (l : Label) (t : State) → ((u : Turn) → (at u).label ≡ l) → ((u : Turn) → (at u).next ≡ u) → ((u : Turn) → Leads (at u) (start_of (at u) b) p) → (begun_holder base l ≡ None → is_mute l ≡ true → Trip (at turn.Over) (start_of (at turn.Over) b) (struck n base) × LastWords (at turn.Over) (struck n base)) → Progresses s base n p l t → WalkedBy at b s.main t
@@ -372,6 +430,60 @@ script_names p o y h = names o h
     names (main_op.Ready f) g = none (ap finish_of g)
     names (main_op.Answer v) g = none (ap finish_of g)
 
+queued_spawn : (host : HostDef) (t : Core) → is_spawn (next_work t) (work_queued work_caller.Spawn host None t) ≡ true
+unfolding work_queued push_high add_work count_work
+queued_spawn host t = ap (λ (o : Option Work). option_map_or (λ w. is_spawn_caller w.caller) o false) (get-insert_same t.works (t.made.works + 1) (new_work work_caller.Spawn host None))
+
+-- what an op of a script aborts is a work that it names
+script_aborts : (p : MainPlace) (o : MainOpDef) (i : ℕ) → act_of p o ≡ Abort i → (k : ℕ) × (i ≡ spawned_at p k)
+script_aborts p o i h = names o h
+  where
+    aborted : MainAct → Option ℕ
+    aborted (Abort j) = Some j
+    aborted _ = None
+
+    names : (q : MainOpDef) → act_of p q ≡ Abort i → (k : ℕ) × (i ≡ spawned_at p k)
+    names (main_op.Abort k) g = (k, ap (λ (a : MainAct). unwrap_or (aborted a) 0) (sym g))
+    names (main_op.Finish k r) g = none_is_some i (ap aborted g)
+    names (main_op.Start f xs) g = none_is_some i (ap aborted g)
+    names (main_op.Spawn k) g = none_is_some i (ap aborted g)
+    names (main_op.Await k) g = none_is_some i (ap aborted g)
+    names main_op.Quiet g = none_is_some i (ap aborted g)
+    names (main_op.Ready f) g = none_is_some i (ap aborted g)
+    names (main_op.Answer v) g = none_is_some i (ap aborted g)
+
+abbrev is_ends : Poll → Bool
+is_ends (Ends v) = true
+is_ends _ = false
+
+abbrev value_of_poll : Poll → Option ℕ
+value_of_poll (Ends v) = v
+value_of_poll _ = None
+
+no_ends : {A : Type 0} {p : Poll} {v : Option ℕ} → p ≡ Ends v → is_ends p ≡ false → A
+no_ends is other = absurd (subst T (ap is_ends (sym is) ∙ other) tt)
+
+-- a work that goes on ends with a value
+goes_valued : {A : Type 0} (host : HostDef) (o : Option ℕ) (v : Option ℕ) → polled_again host o ≡ Ends v → course_value (course_for v) ≡ None → A
+goes_valued host None v is none = no_ends is refl
+goes_valued host (Some (suc n)) v is none = no_ends is refl
+goes_valued {A = A} host (Some zero) v is none = by_value host.value is
+  where
+    by_value : (o : Option ℕ) → ends_with o ≡ Ends v → A
+    by_value None h = no_ends h refl
+    by_value (Some w) h = absurd (subst T (ap (λ (o : Option ℕ). is_none o) (sym none ∙ ap (λ q. course_value (course_for (value_of_poll q))) (sym h))) tt)
+
+goes_valueless : (c : Course) (v : Option ℕ) → polled_course c ≡ Ends v → course_value (course_for v) ≡ None → has_end c ≡ true
+goes_valueless (course.Goes host) v is none = goes_valued host host.polls v is none
+goes_valueless (course.Value w) v is none = refl
+goes_valueless course.NoValue v is none = refl
+
+-- a work that ends without a value was aborted
+ends_valueless : (p : Phase) (c : Course) (v : Option ℕ) → polled_in p c ≡ Ends v → course_value (course_for v) ≡ None → (is_aborted p ≡ true) ⊎ (has_end c ≡ true)
+ends_valueless phase.AbortRequested c v is none = inl refl
+ends_valueless phase.Running c v is none = inr (goes_valueless c v is none)
+ends_valueless phase.Complete c v is none = inr (goes_valueless c v is none)
+
 module _ (x : Setting) (s : State) (l : Label) where
   -- the scene of this step, whose turn and entry are these
   abbrev scene_at : Turn → Option (Mark × Entry) → Turn → Scene
@@ -388,7 +500,7 @@ module _ (x : Setting) (s : State) (l : Label) where
 
   -- what an op of main does
   abbrev LeadsMain : Turn → MainProgress → Type 0
-  LeadsMain u (Does k new) = (main_outcome k ≡ None) × ((l ≡ label.Main k → EndWords (scene_at u None turn.Main) new) × Stay (scene_at u None turn.Main) s.core new)
+  LeadsMain u (Does k new) = (main_outcome k ≡ None) × ((l ≡ label.Main k → EndWords (scene_at u None turn.Main) new) × (Stay (scene_at u None turn.Main) s.core new × SpawnTold k new))
   LeadsMain u Pends = Unit {0}
   LeadsMain u (Answers v) = Unit {0}
 
@@ -402,8 +514,8 @@ module _ (x : Setting) (s : State) (l : Label) where
       (word (MakeCall caller.Main e (export_kind x.component e) goal.Main (s.core.made.groups + 1) words) (may, (refl, (refl, (λ d. absurd (subst T (sym d) tt), refl)))) (word AddGroup refl NoWord))
 
   start_act_leads : (u : Turn) (k : ℕ) (e : Callee) (words : List ℕ) (o : Option Trap) → MayCall (scene_at u None turn.Main) caller.Main e (s.core.made.groups + 1) (add_group s.core) → LeadsMain u (start_act x.component k e words s.core o)
-  start_act_leads u k e words None may = (refl, (λ is. mute_words _ _ (ap is_mute is), started_walks u e words may))
-  start_act_leads u k e words (Some t) may = (refl, (λ is. mute_words _ _ (ap is_mute is), word SetTrapped tt NoWord))
+  start_act_leads u k e words None may = (refl, (λ is. mute_words _ _ (ap is_mute is), (started_walks u e words may, λ i e. none_is_some i e)))
+  start_act_leads u k e words (Some t) may = (refl, (λ is. mute_words _ _ (ap is_mute is), (word SetTrapped tt NoWord, λ i e. none_is_some i e)))
 
   -- the K of a script's finish names what the op finishes
   abbrev Names : ℕ → Started → Type 0
@@ -411,55 +523,58 @@ module _ (x : Setting) (s : State) (l : Label) where
 
   finish_says : (u : Turn) (k n v : ℕ) → Names k (Began n) → get s.core.results n ≡ Some v → l ≡ label.Main (main_label.Finish k v) → EndWords (scene_at u None turn.Main) (take_result n s.core)
   finish_says u k n v names there is = record {
-    writes = λ j e says. none_is_some (end_for e (subtask.Guest j)) (sym (ap (λ (y : Label). written_by x.component s.core y s.core) is) ∙ says);
-    hands = λ j e out. by_main s.main refl j e (sym (ap (λ (y : Label). handed_by x.component s.main s.core y (take_result n s.core)) is) ∙ out);
+    writes = λ sub e says. none_said (ap (λ (y : Label). written_by x.component s.core y t) is) says;
+    hands = λ sub e out. by_main s.main refl sub e (sym (ap (λ (y : Label). handed_by x.component s.main s.core y t) is) ∙ out);
   }
     where
-      taken : (j : ℕ) (e : Status) → n ≡ j → status.Returned ≡ e → HandsOut (scene_at u None turn.Main) (take_result n s.core) j e
-      taken j e same ends = subst (λ (f : Status). HandsOut (scene_at u None turn.Main) (take_result n s.core) j f) ends (subst (λ (i : ℕ). HandsOut (scene_at u None turn.Main) (take_result n s.core) i status.Returned) same (TakesResult (ap (λ (o : Option ℕ). is_some o) there) refl (result_taken n s.core)))
+      t : Core
+      t = take_result n s.core
 
-      by_main : (m : Main) → s.main ≡ m → (j : ℕ) (e : Status) → handed_by_main m s.core (main_label.Finish k v) (take_result n s.core) ≡ Some (end_for e (subtask.Guest j)) → HandsOut (scene_at u None turn.Main) (take_result n s.core) j e
-      by_main (Scripted p) at j e out =
-          let both = sym (ap (λ (y : Started). started_end y) (names p at)) ∙ out in
-          taken j e (ap (λ (o : Option SubtaskEnd). call_in o) both) (ap (λ (o : Option SubtaskEnd). option_map_or (λ y. y.status) o status.Starting) both)
-      by_main Unscripted at j e out =
-          let q = mapped (finished_call v s.core (take_result n s.core)) j e out in
-          taken j e (finished_is n v s.core there j q.0) q.1
+      takes : HandsOut (scene_at u None turn.Main) t (subtask.Guest n) status.Returned
+      takes = TakesResult n (ap (λ (o : Option ℕ). is_some o) there) (result_taken n s.core)
+
+      found : (o : Option ℕ) → ((j : ℕ) → o ≡ Some j → n ≡ j) → (sub : Subtask) (e : Status) → option_map (λ (j : ℕ). end_for status.Returned (subtask.Guest j)) o ≡ Some (end_for e sub) → HandsOut (scene_at u None turn.Main) t sub e
+      found None same sub e out = none_is_some (end_for e sub) out
+      found (Some j) same sub e out = said_is (HandsOut (scene_at u None turn.Main) t) out (subst (λ (i : ℕ). HandsOut (scene_at u None turn.Main) t (subtask.Guest i) status.Returned) (same j refl) takes)
+
+      by_main : (m : Main) → s.main ≡ m → (sub : Subtask) (e : Status) → handed_by_main m s.core (main_label.Finish k v) t ≡ Some (end_for e sub) → HandsOut (scene_at u None turn.Main) t sub e
+      by_main (Scripted p) at sub e out = said_is (HandsOut (scene_at u None turn.Main) t) (sym (ap (λ (y : Started). started_end y) (names p at)) ∙ out) takes
+      by_main Unscripted at sub e out = found (finished_call v s.core t) (λ j. finished_is n v s.core there j) sub e out
 
   finish_result_leads : (u : Turn) (k n : ℕ) (o : Option ℕ) → Names k (Began n) → get s.core.results n ≡ o → LeadsMain u (finish_result k n s.core o)
   finish_result_leads u k n None names there = tt
-  finish_result_leads u k n (Some v) names there = (refl, (finish_says u k n v names there, word (TakeResult n) tt NoWord))
+  finish_result_leads u k n (Some v) names there = (refl, (finish_says u k n v names there, (word (TakeResult n) tt NoWord, λ i e. none_is_some i e)))
 
   finish_act_leads : (u : Turn) (k : ℕ) (y : Started) → Names k y → LeadsMain u (finish_act k s.core y)
   finish_act_leads u k (Began n) names = finish_result_leads u k n (get s.core.results n) names refl
-  finish_act_leads u k (Refused t) names = (refl, (λ is. mute_words _ _ (ap is_mute is), NoWord))
+  finish_act_leads u k (Refused t) names = (refl, (λ is. mute_words _ _ (ap is_mute is), (NoWord, λ i e. none_is_some i e)))
 
-  unless_pending_leads : (u : Turn) (b : Bool) (k : MainLabel) → main_outcome k ≡ None → is_mute_main k ≡ true → LeadsMain u (unless_pending b k s.core)
-  unless_pending_leads u true k quiet mute = (quiet, (λ is. mute_words _ _ (ap is_mute is ∙ mute), NoWord))
-  unless_pending_leads u false k quiet mute = tt
+  unless_pending_leads : (u : Turn) (b : Bool) (k : MainLabel) → main_outcome k ≡ None → is_mute_main k ≡ true → spawn_in k ≡ None → LeadsMain u (unless_pending b k s.core)
+  unless_pending_leads u true k quiet mute none = (quiet, (λ is. mute_words _ _ (ap is_mute is ∙ mute), (NoWord, λ i e. none_is_some i (sym none ∙ e))))
+  unless_pending_leads u false k quiet mute none = tt
 
-  main_row_leads : (u : Turn) (k : ℕ) (act : MainAct) → ((e : Callee) (words : List ℕ) → act ≡ Start e words → MayCall (scene_at u None turn.Main) caller.Main e (s.core.made.groups + 1) (add_group s.core)) → ((y : Started) → act ≡ Finish y → Names k y) → LeadsMain u (main_row x.component k s.core act)
+  main_row_leads : (u : Turn) (k : ℕ) (act : MainAct) → ((e : Callee) (words : List ℕ) → act ≡ Start e words → MayCall (scene_at u None turn.Main) caller.Main e (s.core.made.groups + 1) (add_group s.core)) → ((y : Started) → act ≡ Finish y → Names k y) → ((i : ℕ) → act ≡ Abort i → MayAbort (scene_at u None turn.Main) i) → LeadsMain u (main_row x.component k s.core act)
   unfolding main_spawned main_aborted
-  main_row_leads u k (Start e words) may names = start_act_leads u k e words (start_refusal s.core) (may e words refl)
-  main_row_leads u k (Finish y) may names = finish_act_leads u k y (names y refl)
-  main_row_leads u k (Spawn h) may names = (refl, (λ is. mute_words _ _ (ap is_mute is), word (QueueWork work_caller.Spawn (host_at x.component h) None) (refl, refl) NoWord))
-  main_row_leads u k (Abort i) may names = (refl, (λ is. mute_words _ _ (ap is_mute is), word (SetPhase i (aborted_phase (phase_of i s.core))) refl NoWord))
-  main_row_leads u k (Await i) may names = unless_pending_leads u (is_complete (phase_of i s.core)) (main_label.Await k) refl refl
-  main_row_leads u k Quiet may names = unless_pending_leads u (not (has_interesting s.core)) main_label.Quiet refl refl
-  main_row_leads u k (Ready i) may names = unless_pending_leads u (is_ready_for_call i s.core) main_label.Ready refl refl
-  main_row_leads u k (Answer v) may names = tt
+  main_row_leads u k (Start e words) may names aborts = start_act_leads u k e words (start_refusal s.core) (may e words refl)
+  main_row_leads u k (Finish y) may names aborts = finish_act_leads u k y (names y refl)
+  main_row_leads u k (Spawn h) may names aborts = (refl, (λ is. mute_words _ _ (ap is_mute is), (word (QueueWork work_caller.Spawn (host_at x.component h) None) (refl, refl) NoWord, λ i e. subst (λ (n : ℕ). is_spawn n (work_queued work_caller.Spawn (host_at x.component h) None s.core) ≡ true) (ap (λ (o : Option ℕ). unwrap_or o 0) e) (queued_spawn (host_at x.component h) s.core))))
+  main_row_leads u k (Abort i) may names aborts = (refl, (λ is. mute_words _ _ (ap is_mute is), (word (SetPhase i (aborted_phase (phase_of i s.core))) (aborts i refl, refl) NoWord, λ i e. none_is_some i e)))
+  main_row_leads u k (Await i) may names aborts = unless_pending_leads u (is_complete (phase_of i s.core)) (main_label.Await k) refl refl refl
+  main_row_leads u k Quiet may names aborts = unless_pending_leads u (not (has_interesting s.core)) main_label.Quiet refl refl refl
+  main_row_leads u k (Ready i) may names aborts = unless_pending_leads u (is_ready_for_call i s.core) main_label.Ready refl refl refl
+  main_row_leads u k (Answer v) may names aborts = tt
 
   pends_here : (u : Turn) (t : State) → l ≡ label.Loop loop_label.MainPends → t ≡ goes_to s s.core (turn.Futures 0) → WalkedBy (scene_at u None) s.core s.main t
   pends_here u t is at = landed (scene_at u None) s.core (λ v. NoWord) s s.core (turn.Futures 0) t at (Remains _ NoWord (λ m f. not_futures 0 m f), idle_words (scene_at u None (turn.Futures 0)) s.core refl (λ m f. not_futures 0 m f) (λ o f. none_is_some o (sym (ap outcome_of_label is) ∙ f)) (ap (λ y. begun_holder s.core y) is) (mute_words _ _ (ap is_mute is)))
 
-  does_here : (u : Turn) (m : Main) (k : MainLabel) (new : Core) (t : State) → SameMain s.main m → (main_outcome k ≡ None) × ((l ≡ label.Main k → EndWords (scene_at u None turn.Main) new) × Stay (scene_at u None turn.Main) s.core new) → l ≡ label.Main k → t ≡ at_turn s new m turn.Main → WalkedBy (scene_at u None) s.core s.main t
-  does_here u m k new t same c is at = arrives (scene_at u None) s.core (λ v. NoWord) s new m turn.Main t same at (main_here u turn.Main k new is (inl c.0) (λ j f. not_main j f) (c.1.0 is) c.1.1)
+  does_here : (u : Turn) (m : Main) (k : MainLabel) (new : Core) (t : State) → SameMain s.main new m → (main_outcome k ≡ None) × ((l ≡ label.Main k → EndWords (scene_at u None turn.Main) new) × (Stay (scene_at u None turn.Main) s.core new × SpawnTold k new)) → l ≡ label.Main k → t ≡ at_turn s new m turn.Main → WalkedBy (scene_at u None) s.core s.main t
+  does_here u m k new t same c is at = arrives (scene_at u None) s.core (λ v. NoWord) s new m turn.Main t same at (main_here u turn.Main k new is (inl c.0) (λ j f. not_main j f) (c.1.0 is) c.1.1.0)
 
   answers_here : (u : Turn) (v : ℕ) (t : State) → l ≡ label.Main (main_label.Answer v) → t ≡ goes_to s s.core turn.Over → WalkedBy (scene_at u None) s.core s.main t
   answers_here u v t is at = landed (scene_at u None) s.core (λ v. NoWord) s s.core turn.Over t at (main_here u turn.Over (main_label.Answer v) s.core is (inr refl) (λ j f. not_over j f) (mute_words _ _ (ap is_mute is)) NoWord)
 
   main_progresses_walk : (u : Turn) (p : MainPlace) (o : MainOpDef) (q : MainProgress) (t : State) → s.main ≡ Scripted p → LeadsMain u q → MainProgresses s p o q l t → WalkedBy (scene_at u None) s.core s.main t
-  main_progresses_walk u p o (Does k new) t at c is = does_here u (Scripted (advanced_main o k p)) k new t (subst (λ (m : Main). SameMain m (Scripted (advanced_main o k p))) (sym at) tt) c is.0 is.1
+  main_progresses_walk u p o (Does k new) t at c is = does_here u (Scripted (advanced_main o k p)) k new t (subst (λ (m : Main). SameMain m new (Scripted (advanced_main o k p))) (sym at) (advanced_spawns o k p new c.1.1.1)) c is.0 is.1
   main_progresses_walk u p o Pends t at c is = pends_here u t is.0 is.1
   main_progresses_walk u p o (Answers v) t at c is = answers_here u v t is.0 is.1
 
@@ -483,37 +598,49 @@ module _ (x : Setting) (s : State) (l : Label) where
 
   script_step_walks : (u : Turn) (p : MainPlace) (o : Option MainOpDef) (t : State) → s.main ≡ Scripted p → op_at x.script p ≡ o → ScriptStep x s p o l t → WalkedBy (scene_at u None) s.core s.main t
   script_step_walks u p None t scripted at is = pends_here u t is.0 is.1
-  script_step_walks u p (Some o) t scripted at is = main_progresses_walk u p o (main_row x.component (line_of p o) s.core (act_of p o)) t scripted (main_row_leads u (line_of p o) (act_of p o) (λ e words h. script_call u p o scripted at e words h) (λ y h p2 at2. ap (λ q. started_at q (line_of p o)) (sym (one_place p p2 (sym scripted ∙ at2))) ∙ script_names p o y h)) is
+  script_step_walks u p (Some o) t scripted at is = main_progresses_walk u p o (main_row x.component (line_of p o) s.core (act_of p o)) t scripted (main_row_leads u (line_of p o) (act_of p o) (λ e words h. script_call u p o scripted at e words h) (λ y h p2 at2. ap (λ q. started_at q (line_of p o)) (sym (one_place p p2 (sym scripted ∙ at2))) ∙ script_names p o y h) (λ i h. let r = script_aborts p o i h in ScriptAborts p r.0 scripted r.1)) is
 
   open_progresses_walk : (u : Turn) (q : MainProgress) (t : State) → LeadsMain u q → OpenProgresses s q l t → WalkedBy (scene_at u None) s.core s.main t
-  open_progresses_walk u (Does k new) t c is = does_here u s.main k new t (same_main s.main) c is.0 is.1
+  open_progresses_walk u (Does k new) t c is = does_here u s.main k new t (same_main s.main new) c is.0 is.1
   open_progresses_walk u Pends t c is = absurd is
   open_progresses_walk u (Answers v) t c is = answers_here u v t is.0 is.1
 
   open_act_walks : (u : Turn) (k : ℕ) (act : MainAct) (t : State) → s.main ≡ Unscripted → OpenAct x s k act l t → WalkedBy (scene_at u None) s.core s.main t
   unfolding add_group
-  open_act_walks u k act t open_main h = open_progresses_walk u (main_row x.component k s.core act) t (main_row_leads u k act (λ e words at. ByProgram (length words) open_main (sym (ap (λ y. may_act x.component s.core y) at) ∙ h.0) refl refl) (λ y at p at2. absurd (subst T (ap is_unscripted (sym open_main ∙ at2)) tt))) h.1
+  open_act_walks u k act t open_main h = open_progresses_walk u (main_row x.component k s.core act) t (main_row_leads u k act (λ e words at. ByProgram (length words) open_main (sym (ap (λ y. may_act x.component s.core y) at) ∙ h.0) refl refl) (λ y at p at2. absurd (subst T (ap is_unscripted (sym open_main ∙ at2)) tt)) (λ i at. ProgramAborts open_main (sym (ap (λ y. may_act x.component s.core y) at) ∙ h.0))) h.1
 
   -- ---- Works
 
-  followed_walks : (n i : ℕ) (v : Option ℕ) → next_polled n s.core ≡ Some i → Stay (scene_at (turn.Futures n) None (turn.Take true)) s.core (poll_ends i v s.core)
-  unfolding poll_ends
-  followed_walks n i v at = by_caller (work_caller_of i s.core) refl
+  followed_walks : (n i : ℕ) (v : Option ℕ) → next_polled n s.core ≡ Some i → l ≡ label.Loop (loop_label.FutureEnds i) → poll_of i s.core ≡ Ends v → Stay (scene_at (turn.Futures n) None (turn.Take true)) s.core (poll_ends i v s.core)
+  unfolding poll_ends poll_of
+  followed_walks n i v at is poll = by_caller (work_caller_of i s.core) refl
     where
-      by_caller : (f : WorkCaller) → work_caller_of i s.core ≡ f → Stay (scene_at (turn.Futures n) None (turn.Take true)) s.core (followed f i (set_phase i phase.Complete (set_course i (course_for v) s.core)))
-      by_caller work_caller.Spawn is = word (EndWork i (course_for v)) ((n, (refl, at)), ap (λ f. is_async_work f) is) NoWord
-      by_caller (work_caller.Async m q) is = word (FinishWork i (course_for v)) ((n, (refl, at)), ap (λ f. is_async_work f) is) NoWord
-      by_caller (work_caller.Sync m) is = shifted (sync_ended_shifts i v s.core) (word (EndWork i (course_for v)) ((n, (refl, at)), ap (λ f. is_async_work f) is) NoWord)
+      may : MayFinish (scene_at (turn.Futures n) None (turn.Take true)) i (course_for v) s.core
+      may = ((n, (refl, at)), (is, (course_ended v, λ none. ends_valueless (phase_of i s.core) (course_of i s.core) v poll none)))
 
-  polled_walks : (n i : ℕ) (p : Poll) (t : State) → next_polled n s.core ≡ Some i → Polled s i p l t → WalkedBy (scene_at (turn.Futures n) None) s.core s.main t
+      by_caller : (f : WorkCaller) → work_caller_of i s.core ≡ f → Stay (scene_at (turn.Futures n) None (turn.Take true)) s.core (followed f i (set_phase i phase.Complete (set_course i (course_for v) s.core)))
+      by_caller work_caller.Spawn same = word (EndWork i (course_for v)) (may, ap (λ f. is_async_work f) same) NoWord
+      by_caller (work_caller.Async m q) same = word (FinishWork i (course_for v)) (may, ap (λ f. is_async_work f) same) NoWord
+      by_caller (work_caller.Sync m) same = shifted (sync_ended_shifts i v s.core) (word (EndWork i (course_for v)) (may, ap (λ f. is_async_work f) same) NoWord)
+
+  -- the label says that the work has come to its end
+  polled_says : (n i : ℕ) (v : Option ℕ) → next_polled n s.core ≡ Some i → l ≡ label.Loop (loop_label.FutureEnds i) → EndWords (scene_at (turn.Futures n) None (turn.Take true)) (poll_ends i v s.core)
+  polled_says n i v at is =
+      let t = poll_ends i v s.core in
+      record {
+        writes = λ sub e says. said_is (λ d g. Writes (scene_at (turn.Futures n) None (turn.Take true)) t d) (sym (ap (λ (y : Label). written_by x.component s.core y t) is) ∙ says) (WritesPolled i is (n, (refl, at)) (poll_ended i v s.core));
+        hands = λ sub e out. none_said (ap (λ (y : Label). handed_by x.component s.main s.core y t) is) out;
+      }
+
+  polled_walks : (n i : ℕ) (p : Poll) (t : State) → next_polled n s.core ≡ Some i → poll_of i s.core ≡ p → Polled s i p l t → WalkedBy (scene_at (turn.Futures n) None) s.core s.main t
   unfolding poll_ends
-  polled_walks n i (StillPends host) t at is = landed (scene_at (turn.Futures n) None) s.core (λ v. NoWord) s (poll_pends i host s.core) (turn.Futures i) t is.1 (Remains _ (word (Pend i host) (n, (refl, at)) NoWord) (λ m f. not_futures i m f), idle_words (scene_at (turn.Futures n) None (turn.Futures i)) (poll_pends i host s.core) refl (λ m f. not_futures i m f) (λ o f. none_is_some o (sym (ap outcome_of_label is.0) ∙ f)) (ap (λ y. begun_holder s.core y) is.0) (mute_words _ _ (ap is_mute is.0)))
-  polled_walks n i (Ends v) t at is = landed (scene_at (turn.Futures n) None) s.core (λ v. NoWord) s (poll_ends i v s.core) (turn.Take true) t is.1 (Remains _ (followed_walks n i v at) (λ m f. not_take true m f), idle_words (scene_at (turn.Futures n) None (turn.Take true)) (poll_ends i v s.core) refl (λ m f. not_take true m f) (λ o f. none_is_some o (sym (ap outcome_of_label is.0) ∙ f)) (ap (λ y. begun_holder s.core y) is.0) (mute_words _ _ (ap is_mute is.0)))
-  polled_walks n i FailsNow t at is = landed (scene_at (turn.Futures n) None) s.core (λ v. NoWord) s (set_trapped s.core) turn.Over t is.1 (Remains _ (word SetTrapped tt NoWord) (λ m f. not_over m f), idle_words (scene_at (turn.Futures n) None turn.Over) (set_trapped s.core) refl (λ m f. not_over m f) (λ o f. refl) (ap (λ y. begun_holder s.core y) is.0) (mute_words _ _ (ap is_mute is.0)))
+  polled_walks n i (StillPends host) t at poll is = landed (scene_at (turn.Futures n) None) s.core (λ v. NoWord) s (poll_pends i host s.core) (turn.Futures i) t is.1 (Remains _ (word (Pend i host) (n, (refl, at)) NoWord) (λ m f. not_futures i m f), idle_words (scene_at (turn.Futures n) None (turn.Futures i)) (poll_pends i host s.core) refl (λ m f. not_futures i m f) (λ o f. none_is_some o (sym (ap outcome_of_label is.0) ∙ f)) (ap (λ y. begun_holder s.core y) is.0) (mute_words _ _ (ap is_mute is.0)))
+  polled_walks n i (Ends v) t at poll is = landed (scene_at (turn.Futures n) None) s.core (λ v. NoWord) s (poll_ends i v s.core) (turn.Take true) t is.1 (Remains _ (followed_walks n i v at is.0 poll) (λ m f. not_take true m f), idle_words (scene_at (turn.Futures n) None (turn.Take true)) (poll_ends i v s.core) refl (λ m f. not_take true m f) (λ o f. none_is_some o (sym (ap outcome_of_label is.0) ∙ f)) (ap (λ y. begun_holder s.core y) is.0) (polled_says n i v at is.0))
+  polled_walks n i FailsNow t at poll is = landed (scene_at (turn.Futures n) None) s.core (λ v. NoWord) s (set_trapped s.core) turn.Over t is.1 (Remains _ (word SetTrapped tt NoWord) (λ m f. not_over m f), idle_words (scene_at (turn.Futures n) None turn.Over) (set_trapped s.core) refl (λ m f. not_over m f) (λ o f. refl) (ap (λ y. begun_holder s.core y) is.0) (mute_words _ _ (ap is_mute is.0)))
 
   futures_walk : (n : ℕ) (o : Option ℕ) (t : State) → next_polled n s.core ≡ o → FuturesStep s o l t → WalkedBy (scene_at (turn.Futures n) None) s.core s.main t
   futures_walk n None t at is = absurd is
-  futures_walk n (Some i) t at is = polled_walks n i (poll_of i s.core) t at is
+  futures_walk n (Some i) t at is = polled_walks n i (poll_of i s.core) t at refl is
 
   -- ---- Takings
 
@@ -537,7 +664,7 @@ module _ (x : Setting) (s : State) (l : Label) where
   host_entry_walks ended m i t at true may is =
       let base = popped m s.core in
       let a = scene_at (turn.Take ended) (Some (m, entry.Host i)) turn.Main in
-      let taken_first : Stay a s.core (set_stage i stage.Ended base) = subst (λ (u : Core). Stay a s.core (set_stage i stage.Ended u)) (popped_shifted m s.core).only (word (TakeHost m i) at NoWord) in
+      let taken_first : Stay a s.core (told_end i base) = subst (λ (u : Core). Stay a s.core (told_end i u)) (popped_shifted m s.core).only (word (TakeHost m i) at NoWord) in
       landed (scene_at (turn.Take ended) (Some (m, entry.Host i))) s.core (λ v. NoWord) s (host_done i (woken_of l) base) turn.Main t is.1 (Remains _ (host_done_walks i (woken_of l) base may taken_first) (λ j f. not_main j f), idle_words a (host_done i (woken_of l) base) refl (λ j f. not_main j f) (λ o f. none_is_some o (sym (ap outcome_of_label is.0 ∙ host_quiet m i (woken_of l)) ∙ f)) (ap (λ y. begun_holder base y) is.0 ∙ host_begins m i (woken_of l) base) (mute_words a _ (ap is_mute is.0 ∙ host_mute m i (woken_of l))))
   host_entry_walks ended m i t at false may is = absurd is
 

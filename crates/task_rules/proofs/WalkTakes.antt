@@ -1,29 +1,30 @@
 -- The takings of entries as chains of words.
+use Rattle.std.proofs.Common.{arith}
+use Rattle.std.proofs.lemmas.Bool.Decides.{nat_tests}
+use Rattle.task_machine.proofs.CommuteLemmas.{get-change}
+use Rattle.task_machine.specs.declared.records.Subtask.{Subtask}
 use Rattle.task_machine.specs.declared.words.OwnEvent.TheVariants as own
-use Rattle.task_rules.proofs.MuteLemmas.{is_mute, mute_words}
-use Rattle.task_rules.proofs.SayLemmas.{activated_on_gone, given_says}
+use Rattle.task_rules.proofs.MuteLemmas.{is_mute, mute_words, none_said}
+use Rattle.task_rules.proofs.SayLemmas.{activated_on_gone, given_says, HasNoEnd}
 use Rattle.task_rules.specs.Chains.{EndWords, HandsOut, TakesEvent, NoWord}
 use Rattle.task_rules.specs.SubtaskEnds.{end_for, handed_by, handed_by_event, written_by}
 use Rattle.task_machine.specs.declared.records.Subtask.TheVariants as subtask
 use Rattle.task_machine.specs.declared.words.Status.{Status}
 use Rattle.std.proofs.Common.{T, ap, cond, inl, inr, refl, subst, sym, ◌∙◌}
 use Rattle.std.specs.Option.{option_map_or}
-use Rattle.std.specs.Prelude.{Bool, None, Option, Some, false, if◌then◌else◌, is_none, is_some, not, option_map, true, unwrap_or, ℕ, ◌&&◌, ◌==◌, ◌||◌, ◌≡◌}
-use Rattle.task_machine.proofs.MapLemmas.{change-field, get-change_same}
+use Rattle.std.specs.Prelude.{Bool, None, Option, Some, false, if◌then◌else◌, is_none, is_some, not, true, unwrap_or, ℕ, ◌&&◌, ◌==◌, ◌||◌, ◌≡◌}
+use Rattle.task_machine.proofs.MapLemmas.{change-field}
 use Rattle.task_machine.specs.Core.{Core, Main}
 use Rattle.task_machine.specs.Labels.{Choice, event_label, held_label, host_label, take_label}
-use Rattle.task_machine.specs.Maps.{change, get, Records}
+use Rattle.task_machine.specs.Maps.{get, Records}
 use Rattle.task_machine.specs.Moves.{Gift, MemberGift, NoGift, OwnGift, gift, given_for, handed_on, may_hand_on, own_gift_of, own_gift_only, own_or_nothing, published, stopped, taken}
-use Rattle.task_machine.specs.Read.{admits, at_handle_limit, backpressure_of, call_instance, foot_of, instance_of, is_direct, is_explicit, is_guest_call, is_holding, is_sync, is_waiting_on, kind_of, may_not_enter, new_thread_handle, no_callee, place_of, task_of, was_started, undelivered_end, event_of}
+use Rattle.task_machine.specs.Read.{admits, at_handle_limit, backpressure_of, foot_of, instance_of, is_explicit, is_holding, is_sync, kind_of, may_not_enter, place_of, task_of, was_started}
 use Rattle.task_machine.specs.Write.{give_thread_handle, on_call, on_instance, on_thread, set_do_not_enter, set_event, set_how_far, set_place, set_position, set_script, set_started, set_starting_published, set_thread_handle, taking}
-use Rattle.task_machine.specs.declared.component.Callee.{Callee}
 use Rattle.task_machine.specs.declared.component.ExportKind.{ExportKind}
 use Rattle.task_machine.specs.declared.label.Label.{Label}
 use Rattle.task_machine.specs.declared.records.Call.{Call}
 use Rattle.task_machine.specs.declared.records.Delivery.{Delivery}
-use Rattle.task_machine.specs.declared.records.Instance.{Instance}
 use Rattle.task_machine.specs.declared.records.Place.{Place}
-use Rattle.task_machine.specs.declared.records.Thread.{Thread}
 use Rattle.task_machine.specs.declared.records.Turn.{Turn}
 use Rattle.task_machine.specs.declared.records.Why.{Why}
 use Rattle.task_machine.specs.declared.words.Given.{Given}
@@ -52,9 +53,7 @@ use Rattle.task_rules.specs.Words.{Move, NameThread, SetDoNotEnter, SetScript, S
 use Rattle.task_machine.specs.declared.component.ExportKind.TheVariants as kind
 use Rattle.task_machine.specs.declared.label.Label.TheVariants as label
 use Rattle.task_machine.specs.declared.label.TakeLabel.TheVariants as take
-use Rattle.task_machine.specs.declared.records.Caller.TheVariants as caller
 use Rattle.task_machine.specs.declared.records.Delivery.TheVariants as delivery
-use Rattle.task_machine.specs.declared.records.Goal.TheVariants as goal
 use Rattle.task_machine.specs.declared.records.Place.TheVariants as place
 use Rattle.task_machine.specs.declared.records.Script.TheVariants as script
 use Rattle.task_machine.specs.declared.records.Subtask.TheVariants as subtask
@@ -70,65 +69,43 @@ is_taking (label.Take k) = true
 is_taking _ = false
 
 taking_outcome : (k : Label) → is_taking k ≡ true → outcome_of_label k ≡ None
-taking_outcome (label.Take k) h = refl
-taking_outcome (label.Main k) h = absurd (subst T (sym h) tt)
-taking_outcome (label.Loop k) h = absurd (subst T (sym h) tt)
-taking_outcome (label.Call k) h = absurd (subst T (sym h) tt)
-taking_outcome _ h = refl
+taking_outcome k h = grind arith
 
 taking_exit : (k : Label) → is_taking k ≡ true → is_exit k ≡ false
-taking_exit (label.Take k) h = refl
-taking_exit (label.Task k) h = absurd (subst T (sym h) tt)
-taking_exit _ h = refl
+taking_exit k h = grind arith
 
 take_taking : (m : Mark) (n : ℕ) (w : Option ℕ) → is_taking (take_label m n w) ≡ true
-take_taking m n None = refl
-take_taking m n (Some w) = refl
+take_taking m n w = grind arith
 
 take_begins : (m : Mark) (n : ℕ) (w : Option ℕ) (s : Core) → begun_holder s (take_label m n w) ≡ holder_at_start n s
-take_begins m n None s = refl
-take_begins m n (Some w) s = refl
+take_begins m n w s = grind arith
 
 held_taking : (m : Mark) (n : ℕ) (w : Option ℕ) → is_taking (held_label m n w) ≡ true
-held_taking m n None = refl
-held_taking m n (Some w) = refl
+held_taking m n w = grind arith
 
 held_begins : (m : Mark) (n : ℕ) (w : Option ℕ) (s : Core) → begun_holder s (held_label m n w) ≡ None
-held_begins m n None s = refl
-held_begins m n (Some w) s = refl
+held_begins m n w s = grind arith
 
 event_taking : (m : Mark) (n : ℕ) (v : Given) (w : Option ℕ) → is_taking (event_label m n v w) ≡ true
-event_taking m n v None = refl
-event_taking m n v (Some w) = refl
+event_taking m n v w = grind arith
 
 event_begins : (m : Mark) (n : ℕ) (v : Given) (w : Option ℕ) (s : Core) → begun_holder s (event_label m n v w) ≡ Some (instance_of n s)
-event_begins m n v None s = refl
-event_begins m n v (Some w) s = refl
+event_begins m n v w s = grind arith
 
 pub host_quiet : (m : Mark) (i : ℕ) (w : Option ℕ) → outcome_of_label (host_label m i w) ≡ None
-host_quiet m i None = refl
-host_quiet m i (Some w) = refl
+host_quiet m i w = grind arith
 
 pub host_begins : (m : Mark) (i : ℕ) (w : Option ℕ) (s : Core) → begun_holder s (host_label m i w) ≡ None
-host_begins m i None s = refl
-host_begins m i (Some w) s = refl
+host_begins m i w s = grind arith
 
 free_moved : (n : ℕ) (p : Place) (t : Core) → is_free p ≡ true → option_map_or is_free (place_of n (set_place n p t)) true ≡ true
 unfolding set_place on_thread
-free_moved n p t free = ap (λ o. option_map_or is_free (option_map (λ (r : Thread). r.place) o) true) (get-change_same t.threads n (λ r. record r { place = p })) ∙ at (get t.threads n)
-  where
-    at : (o : Option Thread) → option_map_or is_free (option_map (λ (r : Thread). r.place) (option_map (λ (r : Thread). record r { place = p }) o)) true ≡ true
-    at None = refl
-    at (Some r) = free
+free_moved n p t free = grind (arith, nat_tests, get-change)
 
 -- the instance is shut, if it is there
 shut_here : (i : ℕ) (t : Core) → is_some (get (set_do_not_enter i true t).instances i) ≡ true → may_not_enter i (set_do_not_enter i true t) ≡ true
 unfolding set_do_not_enter on_instance
-shut_here i t there = shut_at (get t.instances i) (get-change_same t.instances i (λ (r : Instance). record r { do_not_enter = true })) there
-  where
-    shut_at : (o : Option Instance) → get (change i (λ (r : Instance). record r { do_not_enter = true }) t.instances) i ≡ option_map (λ (r : Instance). record r { do_not_enter = true }) o → is_some (get (change i (λ (r : Instance). record r { do_not_enter = true }) t.instances) i) ≡ true → option_map_or (λ (r : Instance). r.do_not_enter) (get (change i (λ (r : Instance). record r { do_not_enter = true }) t.instances) i) false ≡ true
-    shut_at None e h = absurd (subst T (sym h ∙ ap (λ o. is_some o) e) tt)
-    shut_at (Some r) e h = ap (λ o. option_map_or (λ (q : Instance). q.do_not_enter) o false) e
+shut_here i t there = grind (arith, nat_tests, get-change)
 
 started_shut : (n : ℕ) (p : Place) (t : Core) (i : ℕ) → is_some (get (set_place n p (set_do_not_enter i true t)).instances i) ≡ true → may_not_enter i (set_place n p (set_do_not_enter i true t)) ≡ true
 unfolding set_place on_thread
@@ -140,50 +117,23 @@ activated_shut n g v t there = shut_here (instance_of n t) (set_given n 0 v (tak
 
 -- an admitted start of a holding entry finds its instance open
 open_start : (e : Bool) (k : ExportKind) (m z : Bool) → e ≡ false → is_holding k ≡ true → (e || (is_sync k || (not m && z))) ≡ true → m ≡ false
-open_start true k m z e h a = absurd (subst T e tt)
-open_start false kind.Sync m z e h a = absurd (subst T (sym h) tt)
-open_start false kind.Stackful m z e h a = absurd (subst T (sym h) tt)
-open_start false kind.Blocking true z e h a = absurd (subst T (sym a) tt)
-open_start false kind.Blocking false z e h a = refl
-open_start false kind.Callback true z e h a = absurd (subst T (sym a) tt)
-open_start false kind.Callback false z e h a = refl
+open_start e k m z explicit holds admitted = grind arith
 
 holder_parts : (e h p : Bool) (j i : ℕ) → (if not e && (h && p) then Some j else None) ≡ Some i → (e ≡ false) × ((h ≡ true) × ((p ≡ true) × (j ≡ i)))
-holder_parts true h p j i is = none_is_some i is
-holder_parts false false p j i is = none_is_some i is
-holder_parts false true false j i is = none_is_some i is
-holder_parts false true true j i is = (refl, (refl, (refl, ap (λ (o : Option ℕ). unwrap_or o 0) is)))
+holder_parts e h p j i is = grind arith
 
 unnot_true : (c : Bool) → not c ≡ true → c ≡ false
-unnot_true true h = absurd (subst T (sym h) tt)
-unnot_true false h = refl
+unnot_true c h = grind arith
 
 -- ---- Whose instance it is
 
-same_instance : (n : ℕ) (s t : Core) → task_of n t ≡ task_of n s → ((k : ℕ) → option_map (λ (c : Call). c.callee) (get t.calls k) ≡ option_map (λ (c : Call). c.callee) (get s.calls k)) → instance_of n t ≡ instance_of n s
-same_instance n s t task calls = ap (λ (k : ℕ). call_instance k t) task ∙ ap (λ (e : Callee). e.instance) (callee_by (get t.calls (task_of n s)) (get s.calls (task_of n s)) (calls (task_of n s)))
-  where
-    callee_by : (o p : Option Call) → option_map (λ (c : Call). c.callee) o ≡ option_map (λ (c : Call). c.callee) p → option_map_or (λ (c : Call). c.callee) o no_callee ≡ option_map_or (λ (c : Call). c.callee) p no_callee
-    callee_by o p e = sym (at o) ∙ (ap (λ (q : Option Callee). unwrap_or q no_callee) e ∙ at p)
-      where
-        at : (q : Option Call) → unwrap_or (option_map (λ (c : Call). c.callee) q) no_callee ≡ option_map_or (λ (c : Call). c.callee) q no_callee
-        at None = refl
-        at (Some c) = refl
-
 on_call_instance : (n k : ℕ) (f : Call → Call) (s : Core) → ((c : Call) → (f c).callee ≡ c.callee) → instance_of n (on_call k f s) ≡ instance_of n s
 unfolding on_call
-on_call_instance n k f s keeps = same_instance n s (record s { calls = change k f s.calls }) refl (λ q. change-field (λ (c : Call). c.callee) k f keeps s.calls q)
+on_call_instance n k f s keeps = grind (arith, nat_tests, get-change)
 
 named_instance : (i m n : ℕ) (s : Core) → instance_of n (with_thread_handle i m s) ≡ instance_of n s
 unfolding with_thread_handle set_thread_handle on_thread give_thread_handle
-named_instance i m n s = same_instance n s (set_thread_handle m (Some (new_thread_handle i s)) (give_thread_handle i m s)) (task_by (get (change m (λ (r : Thread). record r { handle = Some (new_thread_handle i s) }) s.threads) n) (get s.threads n) (change-field (λ (r : Thread). r.call) m (λ (r : Thread). record r { handle = Some (new_thread_handle i s) }) (λ r. refl) s.threads n)) (λ k. refl)
-  where
-    task_by : (o p : Option Thread) → option_map (λ (r : Thread). r.call) o ≡ option_map (λ (r : Thread). r.call) p → option_map_or (λ (r : Thread). r.call) o 0 ≡ option_map_or (λ (r : Thread). r.call) p 0
-    task_by o p e = sym (at o) ∙ (ap (λ (q : Option ℕ). unwrap_or q 0) e ∙ at p)
-      where
-        at : (q : Option Thread) → unwrap_or (option_map (λ (r : Thread). r.call) q) 0 ≡ option_map_or (λ (r : Thread). r.call) q 0
-        at None = refl
-        at (Some r) = refl
+named_instance i m n s = grind (arith, nat_tests, get-change)
 
 started_instance : (k n : ℕ) (s : Core) → instance_of n (set_started k s) ≡ instance_of n s
 unfolding set_started
@@ -206,12 +156,8 @@ told_begun : (k : ℕ) (e : Status) (w : Option ℕ) (s : Core) → ToldTo k w s
 unfolding told set_event on_call
 told_begun k e w s to begun = by_told (is_told k s) refl
   where
-    at : (o : Option Call) → option_map_or (λ c. c.started) o true ≡ true → option_map_or (λ c. c.started) (option_map (λ (c : Call). record c { event = Some e }) o) true ≡ true
-    at None h = refl
-    at (Some c) h = h
-
     by_told : (b : Bool) → is_told k s ≡ b → is_begun k (if b then published (subtask.Guest k) e w s else s) ≡ true
-    by_told true is = ap (λ (r : Records Call). option_map_or (λ c. c.started) (get r k) true) (shifted_calls (shifts_shifted (published_call_shifts k e w s (to is)))) ∙ (ap (λ o. option_map_or (λ c. c.started) o true) (get-change_same s.calls k (λ (c : Call). record c { event = Some e })) ∙ at (get s.calls k) begun)
+    by_told true is = grind (arith, nat_tests, get-change, shifted_calls (shifts_shifted (published_call_shifts k e w s (to is))))
     by_told false is = begun
 
 barred_begun : (i k : ℕ) (s : Core) → is_begun k s ≡ true → is_begun k (set_do_not_enter i true s) ≡ true
@@ -233,15 +179,11 @@ begun_same n s = change-field unanswered (task_of n s) (λ (c : Call). record c 
 
 begun_chosen : (n x : ℕ) (w : Option ℕ) (s : Core) → Chosen x w s → Chosen x w (begun_at n s)
 unfolding begun_at set_started on_call with_thread_handle set_thread_handle give_thread_handle on_thread
-begun_chosen n x w s h m is = ap (λ p. option_map_or (is_waiting_on x) p false) (change-field (λ (r : Thread). r.place) n (λ (r : Thread). record r { handle = Some (new_thread_handle (instance_of n s) s) }) (λ r. refl) s.threads m) ∙ h m is
+begun_chosen n x w s h m is = grind (arith, nat_tests, get-change, h m is)
 
 begun_started : (n : ℕ) (s : Core) → is_told (task_of n s) (begun_at n s) ≡ true → was_started (task_of n s) (begun_at n s) ≡ true
 unfolding begun_at set_started on_call with_thread_handle set_thread_handle give_thread_handle on_thread
-begun_started n s told = at (get s.calls (task_of n s)) (get-change_same s.calls (task_of n s) (λ (c : Call). record c { started = true })) told
-  where
-    at : (o : Option Call) → get (change (task_of n s) (λ (c : Call). record c { started = true }) s.calls) (task_of n s) ≡ option_map (λ (c : Call). record c { started = true }) o → is_told (task_of n s) (record s { calls = change (task_of n s) (λ (c : Call). record c { started = true }) s.calls }) ≡ true → option_map_or (λ (c : Call). c.started) (get (change (task_of n s) (λ (c : Call). record c { started = true }) s.calls) (task_of n s)) false ≡ true
-    at None e told = absurd (subst T (sym told ∙ ap (λ (o : Option Call). is_guest_call (option_map_or (λ c. c.caller) o caller.Main) && not (is_direct (option_map_or (λ c. c.goal) o goal.Nowhere))) e) tt)
-    at (Some c) e told = ap (λ (o : Option Call). option_map_or (λ c. c.started) o false) e
+begun_started n s told = grind (arith, nat_tests, get-change)
 
 published_same : (k : ℕ) (s : Core) → SameCall k s (set_starting_published k s)
 unfolding set_starting_published on_call
@@ -254,12 +196,10 @@ published_chosen k x w s h = h
 -- ---- The thread that is taken
 
 take_mute : (m : Mark) (n : ℕ) (w : Option ℕ) → is_mute (take_label m n w) ≡ true
-take_mute m n None = refl
-take_mute m n (Some z) = refl
+take_mute m n w = grind arith
 
 held_mute : (m : Mark) (n : ℕ) (w : Option ℕ) → is_mute (held_label m n w) ≡ true
-held_mute m n None = refl
-held_mute m n (Some z) = refl
+held_mute m n w = grind arith
 
 module _ (x : Setting) (main : Main) (ended : Bool) (s : Core) (n : ℕ) (l : Label) (next : Turn) where
   abbrev pub taking_scene : Scene
@@ -366,24 +306,24 @@ module _ (x : Setting) (main : Main) (ended : Bool) (s : Core) (n : ℕ) (l : La
   -- ---- Deliveries
 
   -- what a delivery hands out shows only where no wake is handed on
-  event_says : (m : Mark) (v : Given) (w : Option ℕ) (t : Core) → (w ≡ None → (k : ℕ) (e : Status) → handed_by_event n s v ≡ Some (end_for e (subtask.Guest k)) → HandsOut taking_scene t k e) → l ≡ event_label m n v w → EndWords taking_scene t
+  event_says : (m : Mark) (v : Given) (w : Option ℕ) (t : Core) → (w ≡ None → (sub : Subtask) (e : Status) → handed_by_event n s v ≡ Some (end_for e sub) → HandsOut taking_scene t sub e) → l ≡ event_label m n v w → EndWords taking_scene t
   event_says m v (Some z) t out is = mute_words taking_scene t (ap is_mute is)
   event_says m v None t out is = record {
-    writes = λ k e says. none_is_some (end_for e (subtask.Guest k)) (sym (ap (λ (y : Label). written_by x.component s y s) is) ∙ says);
-    hands = λ k e h. out refl k e (sym (ap (λ (y : Label). handed_by x.component main s y t) is) ∙ h);
+    writes = λ sub e says. none_said (ap (λ (y : Label). written_by x.component s y t) is) says;
+    hands = λ sub e h. out refl sub e (sym (ap (λ (y : Label). handed_by x.component main s y t) is) ∙ h);
   }
 
-  delivered_out : (y : ℕ) (ch : Choice) (g : Gift) (w : Option ℕ) → gift true (task_of n s) y (chosen n ch s) s ≡ Some g → w ≡ None → (k : ℕ) (e : Status) → handed_by_event n s (handed_out ch s g) ≡ Some (end_for e (subtask.Guest k)) → HandsOut taking_scene (activated n g (handed_out ch s g) (handed_on y g w s)) k e
-  delivered_out y ch g w h none k e out =
-      let q = given_says true n (task_of n s) y ch s g k e h out in
-      TakesEvent q.1 (subst (λ (f : Gift). undelivered_end (event_of (subtask.Guest k) (activated n f (handed_out ch s g) (handed_on y f w s))) ≡ None) (sym q.0) (activated_on_gone n y k w (handed_out ch s g) s))
+  delivered_out : (y : ℕ) (ch : Choice) (g : Gift) (w : Option ℕ) → gift true (task_of n s) y (chosen n ch s) s ≡ Some g → w ≡ None → (sub : Subtask) (e : Status) → handed_by_event n s (handed_out ch s g) ≡ Some (end_for e sub) → HandsOut taking_scene (activated n g (handed_out ch s g) (handed_on y g w s)) sub e
+  delivered_out y ch g w h none sub e out =
+      let q = given_says true n (task_of n s) y ch s g sub e h out in
+      TakesEvent sub e q.1 (subst (λ (f : Gift). HasNoEnd sub (activated n f (handed_out ch s g) (handed_on y f w s))) (sym q.0) (activated_on_gone n y sub w (handed_out ch s g) s))
 
   -- the task's own event is no end of a subtask
-  own_says : (o : Option OwnEvent) (k : ℕ) (e : Status) {A : Type 0} → handed_by_event n s (given_for (own_or_nothing o) 0 s) ≡ Some (end_for e (subtask.Guest k)) → A
+  own_says : (o : Option OwnEvent) (sub : Subtask) (e : Status) {A : Type 0} → handed_by_event n s (given_for (own_or_nothing o) 0 s) ≡ Some (end_for e sub) → A
   unfolding given_for
-  own_says None k e out = none_is_some (end_for e (subtask.Guest k)) out
-  own_says (Some own.None) k e out = none_is_some (end_for e (subtask.Guest k)) out
-  own_says (Some own.Cancelled) k e out = none_is_some (end_for e (subtask.Guest k)) out
+  own_says None sub e out = none_is_some (end_for e sub) out
+  own_says (Some own.None) sub e out = none_is_some (end_for e sub) out
+  own_says (Some own.Cancelled) sub e out = none_is_some (end_for e sub) out
 
   activated_goes : (m : Mark) (d : Delivery) → WasReady taking_scene n (why.Delivery d) → (g : Gift) (v : Given) (w : Option ℕ) (t : Core) → (l ≡ event_label m n v w → EndWords taking_scene (activated n g v t)) → instance_of n t ≡ instance_of n s → MayTake taking_scene (task_of n t) g → may_not_enter (instance_of n s) s ≡ false → Stay taking_scene s t → Leads taking_scene s (Goes (event_label m n v w) (activated n g v t) n)
   unfolding activated
@@ -420,7 +360,7 @@ module _ (x : Setting) (main : Main) (ended : Bool) (s : Core) (n : ℕ) (l : La
   unfolding own_gift_only
   own_delivered_leads m d ready open_at =
       let g = own_gift_only (task_of n s) s in
-      activated_goes m d ready g (given_for g 0 s) None s (event_says m (given_for g 0 s) None _ (λ none k e out. own_says (own_gift_of true (task_of n s) s) k e out)) refl (own_taken d ready (own_gift_of true (task_of n s) s)) open_at NoWord
+      activated_goes m d ready g (given_for g 0 s) None s (event_says m (given_for g 0 s) None _ (λ none sub e out. own_says (own_gift_of true (task_of n s) s) sub e out)) refl (own_taken d ready (own_gift_of true (task_of n s) s)) open_at NoWord
 
   delivered_leads : (m : Mark) (ch : Choice) (d : Delivery) → WasReady taking_scene n (why.Delivery d) → may_not_enter (instance_of n s) s ≡ false → Leads taking_scene s (delivered m n ch s d)
   delivered_leads m ch (delivery.Set y) ready open_at =
@@ -437,12 +377,4 @@ module _ (x : Setting) (main : Main) (ended : Bool) (s : Core) (n : ℕ) (l : La
   thread_taken_leads m ch (Some (place.Ready y why.Start)) at = start_row_leads m ch.woken (admits n s why.Start) refl (y, at)
   thread_taken_leads m ch (Some (place.Ready y (why.Delivery d))) at = delivery_row_leads m ch d (admits n s (why.Delivery d)) refl (y, at)
   thread_taken_leads m ch (Some (place.Ready y why.Resumption)) at = resumes_leads m (λ i r. not_start y why.Resumption at r refl) (λ i begun. subst T (sym (holder_is m None i begun).1.1.0 ∙ ap (λ o. option_map_or is_start o false) at) tt)
-  thread_taken_leads m ch None at = tt
-  thread_taken_leads m ch (Some place.New) at = tt
-  thread_taken_leads m ch (Some place.Running) at = tt
-  thread_taken_leads m ch (Some (place.Under c)) at = tt
-  thread_taken_leads m ch (Some (place.Behind c)) at = tt
-  thread_taken_leads m ch (Some (place.Waiting y c)) at = tt
-  thread_taken_leads m ch (Some (place.Blocked c)) at = tt
-  thread_taken_leads m ch (Some (place.Held c)) at = tt
-  thread_taken_leads m ch (Some place.Suspended) at = tt
+  thread_taken_leads m ch _ at = tt

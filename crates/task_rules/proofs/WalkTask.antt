@@ -1,29 +1,25 @@
 -- The rows of ops as chains of words: what a row owes, the ops on registers and words, and the ops that end a task or an activation.
+use Rattle.task_rules.proofs.SayLemmas.{said_is}
+use Rattle.task_rules.proofs.MuteLemmas.{is_mute, mute_words, none_said}
+use Rattle.task_rules.proofs.WalkEnds.{cancelled_rest, returned_rest, SameCall, cancelled_walks, returned_walks, still_told_to, unanswered}
+use Rattle.task_rules.specs.Allowed.{SaysEnd, AwaitsEvent, BySetHandle, ComesAgain, EndsActivation, Exits, FindsEvent, GivesUp, HasSet, IsRunner, Leaves, MayBar, MayEnd, MayOwe, ReturnsNow, Uncovers, is_exit}
+use Rattle.task_rules.specs.Chains.{EndWords, HandsOut, WritesToo, is_over, EndsByExit, EndsCall, EndsOwn, Writes, WritesCall, Remains, GoesBack, LastWords, NoWord, Stay, Trip, Walk, is_running}
 use Rattle.task_rules.proofs.ChainLemmas.{trip_walk, stay_walk}
-use Rattle.task_rules.proofs.MuteLemmas.{is_mute, mute_words}
-use Rattle.task_rules.proofs.WalkEnds.{cancelled_rest, returned_rest}
-use Rattle.task_rules.specs.Allowed.{SaysEnd}
-use Rattle.task_rules.specs.Chains.{EndWords, HandsOut, WritesToo, is_over, Remains, GoesBack}
-use Rattle.task_rules.specs.SubtaskEnds.{SubtaskEnd, end_for, handed_by, is_ending_exit}
+use Rattle.task_rules.specs.SubtaskEnds.{end_for, handed_by, is_ending_exit, task_end, written_by, written_by_exit}
 use Rattle.task_machine.specs.declared.records.Subtask.{Subtask}
-use Rattle.task_machine.specs.declared.records.Subtask.TheVariants as subtask
 use Rattle.task_machine.specs.declared.words.Status.{Status}
 use Rattle.task_machine.specs.declared.records.CallEnd.{CallEnd}
-use Rattle.task_machine.specs.Write.{set_end, on_call}
-use Rattle.task_machine.proofs.MapLemmas.{get-change_same}
-use Rattle.task_rules.specs.SubtaskEnds.{task_end, written_by, written_by_exit}
-use Rattle.task_machine.specs.declared.words.Status.TheVariants as status
+use Rattle.task_machine.specs.Write.{set_end, on_call, on_instance, on_thread, set_backpressure, set_do_not_enter, set_do_not_suspend, set_how_far, set_place}
+use Rattle.task_machine.proofs.MapLemmas.{get-change_same, change-field}
 use Rattle.std.proofs.Common.{T, ap, cond, inl, inr, length, refl, subst, suc, sym, ◌-◌, ◌∙◌, ◌⊎◌, ap₂, is_some}
 use Rattle.std.specs.Option.{option_map_or}
 use Rattle.std.specs.Prelude.{Bool, List, None, Option, Some, false, if◌then◌else◌, is_none, min, nat_le, nat_lt, not, option_map, true, unwrap_or, zero, ℕ, ◌%◌, ◌&&◌, ◌*◌, ◌+◌, ◌/◌, ◌==◌, ◌≡◌, ◌||◌}
 use Rattle.task_machine.proofs.CommuteLemmas.{get-change}
-use Rattle.task_machine.proofs.MapLemmas.{change-field, get-change_same}
 use Rattle.task_machine.specs.Core.{Core, Main}
 use Rattle.task_machine.specs.Labels.{Choice, exit_label, ret_label, task_cancel_label}
 use Rattle.task_machine.specs.Maps.{Records, change, get, numbers}
 use Rattle.task_machine.specs.Moves.{checked, ended, passes_check, stopped}
 use Rattle.task_machine.specs.Read.{backpressure_of, cancel_was_delivered, foot_of, goal_of, has_ended, instance_of, is_async_lifted, is_at, is_direct, is_explicit, is_holding, is_under, kind_of, own_event_of, place_of, position_of, register_of, saved_own_of, set_at, task_of, under_of}
-use Rattle.task_machine.specs.Write.{on_instance, on_thread, set_backpressure, set_do_not_enter, set_do_not_suspend, set_end, set_how_far, set_place}
 use Rattle.task_machine.specs.declared.component.Component.{Component}
 use Rattle.task_machine.specs.declared.component.ExportKind.{ExportKind}
 use Rattle.task_machine.specs.declared.label.Label.{Label}
@@ -38,11 +34,8 @@ use Rattle.task_machine.specs.declared.words.OwnEvent.{OwnEvent}
 use Rattle.task_rules.proofs.StopLemmas.{find_passes}
 use Rattle.task_rules.proofs.PlacingLemmas.{Shifted, shifted_calls, shifted_task, shifts_shifted, placing_shifted}
 use Rattle.task_rules.proofs.StandLemmas.{is_eq_of}
-use Rattle.task_rules.proofs.WalkEnds.{SameCall, cancelled_walks, returned_walks, still_told_to, unanswered}
 use Rattle.task_rules.proofs.WalkMoves.{Chosen, ToldTo, checked_shifts, chosen_released, ended_gone, ended_walks, exits_trip, lands, released_shifts, shifted, stopped_shifts, told_to, word}
-use Rattle.task_rules.specs.Allowed.{AwaitsEvent, BySetHandle, ComesAgain, EndsActivation, Exits, FindsEvent, GivesUp, HasSet, IsRunner, Leaves, MayBar, MayEnd, MayOwe, ReturnsNow, Uncovers, is_exit, SaysEnd}
 use Rattle.task_rules.specs.Calls.{answered}
-use Rattle.task_rules.specs.Chains.{LastWords, NoWord, Stay, Trip, Walk, is_running}
 use Rattle.task_rules.specs.Data.{advanced, assigned, data_row, moved_to, skip_row, skipped, stored}
 use Rattle.task_rules.specs.Ends.{blocking_exit_row, blocking_exits, code_exits, code_finds, code_kind_row, code_row, code_stops, code_wait_row, code_waits, code_yields, direct_exit_to, direct_exits, end_reopens, exit_restores, exit_row_for, exit_stops, has_event_for, held_by_flag, implicit_exit_row, kind_exit_row, leaves_no_result, may_tell, own_or_none, passes_after_return, passes_after_stop, returned, sync_exit_row, sync_exits, thread_exit_row}
 use Rattle.task_rules.specs.Once.{begun_holder, holder_at_exit, returned_holder}
@@ -54,6 +47,7 @@ use Rattle.task_rules.specs.Scripts.{script_of, value_of}
 use Rattle.task_rules.specs.Stalled.{Setting}
 use Rattle.task_rules.specs.Task.{dec_from, dec_lowers, dec_opens, inc_raises, inc_row, ret_done, ret_row, task_cancel_done, task_cancel_row, task_row}
 use Rattle.task_rules.specs.Words.{Move, Put, SetBackpressure, SetDoNotEnter, SetDoNotSuspend, SetEnd, SetHowFar, SetOwnEvent, SetPosition, SetRegister, SetSavedCallee, SetWord}
+use Rattle.task_machine.specs.declared.words.Status.TheVariants as status
 use Rattle.task_machine.specs.declared.component.ExportKind.TheVariants as kind
 use Rattle.task_machine.specs.declared.label.CallLabel.TheVariants as call_label
 use Rattle.task_machine.specs.declared.label.DataLabel.TheVariants as data_label
@@ -150,13 +144,13 @@ task_cancel_plain : (n : ℕ) (w : Option ℕ) → is_plain (task_cancel_label n
 task_cancel_plain n None = refl
 task_cancel_plain n (Some w) = refl
 
-ret_writes : (c : Component) (n v : ℕ) (w : Option ℕ) (s : Core) → written_by c s (ret_label n v w) s ≡ task_end n status.Returned s
-ret_writes c n v None s = refl
-ret_writes c n v (Some y) s = refl
+ret_writes : (c : Component) (n v : ℕ) (w : Option ℕ) (s t : Core) → written_by c s (ret_label n v w) t ≡ task_end n status.Returned s
+ret_writes c n v None s t = refl
+ret_writes c n v (Some y) s t = refl
 
-task_cancel_writes : (c : Component) (n : ℕ) (w : Option ℕ) (s : Core) → written_by c s (task_cancel_label n w) s ≡ task_end n status.ReturnCancelled s
-task_cancel_writes c n None s = refl
-task_cancel_writes c n (Some y) s = refl
+task_cancel_writes : (c : Component) (n : ℕ) (w : Option ℕ) (s t : Core) → written_by c s (task_cancel_label n w) t ≡ task_end n status.ReturnCancelled s
+task_cancel_writes c n None s t = refl
+task_cancel_writes c n (Some y) s t = refl
 
 ret_hands : (c : Component) (m : Main) (n v : ℕ) (w : Option ℕ) (s t : Core) → handed_by c m s (ret_label n v w) t ≡ None
 ret_hands c m n v None s t = refl
@@ -167,14 +161,6 @@ task_cancel_hands c m n None s t = refl
 task_cancel_hands c m n (Some y) s t = refl
 
 -- the call of which an end speaks
-abbrev pub call_named : Subtask → ℕ
-call_named (subtask.Guest k) = k
-call_named (subtask.Host i) = 0
-
-abbrev pub call_in : Option SubtaskEnd → ℕ
-call_in o = option_map_or (λ (e : SubtaskEnd). call_named e.subtask) o 0
-
--- a call that ends is over
 pub over_now : (k : ℕ) (e : CallEnd) (s : Core) → is_over k (set_end k e s) ≡ true
 unfolding set_end on_call
 over_now k e s = ap (λ o. option_map_or (λ (c : Call). is_some c.«end») o true) (get-change_same s.calls k (λ (c : Call). record c { «end» = Some e })) ∙ at (get s.calls k)
@@ -216,13 +202,16 @@ pub unnot : (c : Bool) → not c ≡ false → c ≡ true
 unnot true h = refl
 unnot false h = absurd (subst T h tt)
 
-pub running_moved : (m : ℕ) (t : Core) → option_map_or is_running (place_of m (set_place m place.Running t)) true ≡ true
+pub moved_passes : (test : Place → Bool) (p : Place) → test p ≡ true → (m : ℕ) (t : Core) → option_map_or test (place_of m (set_place m p t)) true ≡ true
 unfolding set_place on_thread
-running_moved m t = ap (λ o. option_map_or is_running (option_map (λ (r : Thread). r.place) o) true) (get-change_same t.threads m (λ r. record r { place = place.Running })) ∙ at (get t.threads m)
+moved_passes test p passes m t = ap (λ o. option_map_or test (option_map (λ (r : Thread). r.place) o) true) (get-change_same t.threads m (λ r. record r { place = p })) ∙ at (get t.threads m)
   where
-    at : (o : Option Thread) → option_map_or is_running (option_map (λ (r : Thread). r.place) (option_map (λ (r : Thread). record r { place = place.Running }) o)) true ≡ true
+    at : (o : Option Thread) → option_map_or test (option_map (λ (r : Thread). r.place) (option_map (λ (r : Thread). record r { place = p }) o)) true ≡ true
     at None = refl
-    at (Some r) = refl
+    at (Some r) = passes
+
+pub running_moved : (m : ℕ) (t : Core) → option_map_or is_running (place_of m (set_place m place.Running t)) true ≡ true
+running_moved m t = moved_passes is_running place.Running refl m t
 
 -- ---- The running thread
 
@@ -455,10 +444,10 @@ module _ (x : Setting) (main : Main) (s : Core) (n : ℕ) (l : Label) (next : Tu
 
   -- ---- Exits
 
-  exit_says : (w : Option ℕ) → l ≡ exit_label n w → is_explicit n s ≡ false → (is_direct (goal_of (task_of n s) s) ≡ true) ⊎ (is_async_lifted (kind_of (task_of n s) s) ≡ false) → SaysEnd a (task_of n s) status.Returned
-  exit_says w is implicit kind = ap (λ (k : Label). written_by x.component s k s) is ∙ (exit_writes w ∙ ap (λ b. if b then task_end n status.Returned s else None) (ends (is_explicit n s) (is_direct (goal_of (task_of n s) s)) (is_async_lifted (kind_of (task_of n s) s)) implicit kind))
+  exit_says : (t : Core) (w : Option ℕ) → l ≡ exit_label n w → is_explicit n s ≡ false → (is_direct (goal_of (task_of n s) s) ≡ true) ⊎ (is_async_lifted (kind_of (task_of n s) s) ≡ false) → written_by x.component s l t ≡ task_end n status.Returned s
+  exit_says t w is implicit kind = ap (λ (k : Label). written_by x.component s k t) is ∙ (exit_writes w ∙ ap (λ b. if b then task_end n status.Returned s else None) (ends (is_explicit n s) (is_direct (goal_of (task_of n s) s)) (is_async_lifted (kind_of (task_of n s) s)) implicit kind))
     where
-      exit_writes : (v : Option ℕ) → written_by x.component s (exit_label n v) s ≡ written_by_exit n s
+      exit_writes : (v : Option ℕ) → written_by x.component s (exit_label n v) t ≡ written_by_exit n s
       exit_writes None = refl
       exit_writes (Some y) = refl
 
@@ -469,15 +458,15 @@ module _ (x : Setting) (main : Main) (s : Core) (n : ℕ) (l : Label) (next : Tu
       ends false false true i (inl k) = absurd (subst T (sym k) tt)
       ends false false true i (inr k) = absurd (subst T k tt)
 
-  -- the end that the label says, where it says one
-  said : {k : ℕ} {e : Status} (j : ℕ) (f : Status) → written_by x.component s l s ≡ Some (end_for f (subtask.Guest j)) → SaysEnd a k e → (j ≡ k) × (f ≡ e)
-  said j f is says = let both = sym is ∙ says in (ap (λ (o : Option SubtaskEnd). call_in o) both, ap (λ (o : Option SubtaskEnd). option_map_or (λ y. y.status) o status.Starting) both)
+  -- the label says an end of the task
+  writes_task : (f : Status) (t u : Core) → written_by x.component s l t ≡ task_end n f s → EndsCall a (task_of n s) → is_over (task_of n s) u ≡ true → Walk a u t → (sub : Subtask) (e : Status) → written_by x.component s l t ≡ Some (end_for e sub) → Writes a t sub
+  writes_task f t u is ends over c sub e says = said_is (λ d g. Writes a t d) (sym is ∙ says) (WritesCall (task_of n s) u ends over c)
 
   -- an exit that ends no task
   exit_is_none : (t : Core) → is_ending_exit n s ≡ false → l ≡ exit_label n None → EndWords a t
   exit_is_none t none is = record {
-    writes = λ k e says. none_is_some (end_for e (subtask.Guest k)) (sym (ap (λ (y : Label). written_by x.component s y s) is ∙ ap (λ b. if b then task_end n status.Returned s else None) none) ∙ says);
-    hands = λ k e out. none_is_some (end_for e (subtask.Guest k)) (sym (ap (λ (y : Label). handed_by x.component main s y t) is ∙ ap (λ b. if b then task_end n status.Returned s else None) (not_direct (is_explicit n s) (is_direct (goal_of (task_of n s) s)) (is_async_lifted (kind_of (task_of n s) s)) none)) ∙ out);
+    writes = λ sub e says. none_said (ap (λ (y : Label). written_by x.component s y t) is ∙ ap (λ b. if b then task_end n status.Returned s else None) none) says;
+    hands = λ sub e out. none_said (ap (λ (y : Label). handed_by x.component main s y t) is ∙ ap (λ b. if b then task_end n status.Returned s else None) (not_direct (is_explicit n s) (is_direct (goal_of (task_of n s) s)) (is_async_lifted (kind_of (task_of n s) s)) none)) out;
   }
     where
       not_direct : (e d h : Bool) → (not e && (d || not h)) ≡ false → (not e && d) ≡ false
@@ -488,10 +477,8 @@ module _ (x : Setting) (main : Main) (s : Core) (n : ℕ) (l : Label) (next : Tu
   -- an exit that ends the task
   exit_says_end : (w : Option ℕ) (t : Core) → l ≡ exit_label n w → is_explicit n s ≡ false → is_async_lifted (kind_of (task_of n s) s) ≡ false → is_direct (goal_of (task_of n s) s) ≡ false → (u : Core) → is_over (task_of n s) u ≡ true → Walk a u t → EndWords a t
   exit_says_end w t is implicit kind direct u over c = record {
-    writes = λ k e says.
-        let same = said (task_of n s) status.Returned (exit_says w is implicit (inr kind)) says in
-        inr (subst (λ (j : ℕ). ((has_ended j s ≡ false) ⊎ ((m : ℕ) × (IsRunner a m × ((j ≡ task_of m s) × ((is_explicit m s ≡ false) × ((is_direct (goal_of j s) ≡ true) ⊎ (is_async_lifted (kind_of j s) ≡ false))))))) × ((v : Core) × ((is_over j v ≡ true) × Walk a v t))) same.0 (inr (n, (refl, (refl, (implicit, inr kind)))), (u, (over, c))));
-    hands = λ k e out. none_is_some (end_for e (subtask.Guest k)) (sym (ap (λ (y : Label). handed_by x.component main s y t) is ∙ none_out w) ∙ out);
+    writes = writes_task status.Returned t u (exit_says t w is implicit (inr kind)) (EndsByExit (n, (refl, (refl, (implicit, inr kind))))) over c;
+    hands = λ sub e out. none_said (ap (λ (y : Label). handed_by x.component main s y t) is ∙ none_out w) out;
   }
     where
       none_out : (v : Option ℕ) → handed_by x.component main s (exit_label n v) t ≡ None
@@ -513,8 +500,8 @@ module _ (x : Setting) (main : Main) (s : Core) (n : ℕ) (l : Label) (next : Tu
       let told = still_told_to (task_of n s) s (exit_restores n s) (same_call (task_of n s) s (exit_restores n s) (restored_calls n s)) w (λ y chosen. restored_chosen n y w s chosen) (told_to (task_of n s) w s may) in
       λ is to.
       gone_here x main s n l next (exit_label n w) (sync_exits n w s) (exit_quiet n w) (sync_exits_gone n w s)
-      (λ at. exit_says_end w (sync_exits n w s) at implicit kind direct (set_end (task_of n s) call_end.Returned (exit_restores n s)) (over_now (task_of n s) call_end.Returned (exit_restores n s)) (trip_walk (sync_exits_rest n refl w s (exit_says w at implicit (inr kind)) told (refl, (to, refl)) NoWord)))
-      (λ at leave. sync_exits_walks n refl w (exits w (exit_restores n s) at implicit (inr kind) (restored_calls n s)) (exit_says w at implicit (inr kind)) told leave NoWord) is to)
+      (λ at. exit_says_end w (sync_exits n w s) at implicit kind direct (set_end (task_of n s) call_end.Returned (exit_restores n s)) (over_now (task_of n s) call_end.Returned (exit_restores n s)) (trip_walk (sync_exits_rest n refl w s (exit_says s w at implicit (inr kind)) told (refl, (to, refl)) NoWord)))
+      (λ at leave. sync_exits_walks n refl w (exits w (exit_restores n s) at implicit (inr kind) (restored_calls n s)) (exit_says s w at implicit (inr kind)) told leave NoWord) is to)
 
   -- where a holding entry returns
   bars : (w : Option ℕ) → l ≡ exit_label n w → is_explicit n s ≡ false → is_holding (kind_of (task_of n s) s) ≡ true → is_direct (goal_of (task_of n s) s) ≡ false → MayBar a (instance_of n s) false
@@ -536,8 +523,8 @@ module _ (x : Setting) (main : Main) (s : Core) (n : ℕ) (l : Label) (next : Tu
       let lifted : is_async_lifted (kind_of (task_of n s) s) ≡ false = ap (λ y. is_async_lifted y) kind in
       let told = still_told_to k s t (same_call k s t (reopened_calls i order s)) w (λ y chosen. reopened_chosen i order y w s chosen) (told_to k w s may) in
       gone_here x main s n l next (exit_label n w) (blocking_exits n w order s) (exit_quiet n w) (blocking_exits_gone n w order s)
-      (λ at. exit_says_end w (blocking_exits n w order s) at implicit lifted direct (set_end k call_end.Returned t) (over_now k call_end.Returned t) (trip_walk (blocking_exits_rest n refl w order s (exit_says w at implicit (inr lifted)) told (refl, (to, refl)) NoWord)))
-      (λ at leave. blocking_exits_walks n refl w order (bars w at implicit (ap (λ y. is_holding y) kind) direct) (exits w t at implicit (inr lifted) (reopened_calls i order s)) (exit_says w at implicit (inr lifted)) told leave NoWord) is to))
+      (λ at. exit_says_end w (blocking_exits n w order s) at implicit lifted direct (set_end k call_end.Returned t) (over_now k call_end.Returned t) (trip_walk (blocking_exits_rest n refl w order s (exit_says s w at implicit (inr lifted)) told (refl, (to, refl)) NoWord)))
+      (λ at leave. blocking_exits_walks n refl w order (bars w at implicit (ap (λ y. is_holding y) kind) direct) (exits w t at implicit (inr lifted) (reopened_calls i order s)) (exit_says s w at implicit (inr lifted)) told leave NoWord) is to))
 
   direct_leads : (m : ℕ) (t : Core) → under_of n s ≡ Some m → is_explicit n s ≡ false → is_direct (goal_of (task_of n s) s) ≡ true → task_of n t ≡ task_of n s → t.calls ≡ s.calls → Stay a s t → Leads a s (Goes (exit_label n None) (direct_exits n m (register_of n 0 s) t) m)
   direct_leads m t under implicit direct task calls c =
@@ -546,18 +533,11 @@ module _ (x : Setting) (main : Main) (s : Core) (n : ℕ) (l : Label) (next : Tu
       λ here over.
       goes_over x main s n l next (exit_label n None) m (direct_exits n m v t) refl (λ e. direct_exits_gone n m v t) (inr (direct_exits_runs n m v t))
       (λ at. record {
-        writes = λ j e says.
-            let same = said k status.Returned (exit_says None at implicit (inl direct)) says in
-            inr (subst (λ (i : ℕ). ((has_ended i s ≡ false) ⊎ ((o : ℕ) × (IsRunner a o × ((i ≡ task_of o s) × ((is_explicit o s ≡ false) × ((is_direct (goal_of i s) ≡ true) ⊎ (is_async_lifted (kind_of i s) ≡ false))))))) × ((u : Core) × ((is_over i u ≡ true) × Walk a u (direct_exits n m v t)))) same.0
-            (inr (n, (refl, (refl, (implicit, inl direct)))), (set_end (task_of n t) call_end.Returned t, (subst (λ (i : ℕ). is_over k (set_end i call_end.Returned t) ≡ true) (sym task) (over_now k call_end.Returned t), trip_walk (direct_exits_rest n refl m v t refl over (under_place n m s under) NoWord)))));
-        hands = λ j e out.
-            let both = sym (ap (λ (y : Label). handed_by x.component main s y (direct_exits n m v t)) at ∙ ap (λ b. if b then task_end n status.Returned s else None) (ap₂ (λ (f g : Bool). not f && g) implicit direct)) ∙ out in
-            let same : k ≡ j = ap (λ (o : Option SubtaskEnd). call_in o) both in
-            let says : SaysEnd a j e = exit_says None at implicit (inl direct) ∙ both in
-            WritesToo says (inl (subst (λ (i : ℕ). is_direct (goal_of i s) ≡ true) same direct));
+        writes = writes_task status.Returned _ (set_end (task_of n t) call_end.Returned t) (exit_says _ None at implicit (inl direct)) (EndsByExit (n, (refl, (refl, (implicit, inl direct))))) (subst (λ (i : ℕ). is_over k (set_end i call_end.Returned t) ≡ true) (sym task) (over_now k call_end.Returned t)) (trip_walk (direct_exits_rest n refl m v t refl over (under_place n m s under) NoWord));
+        hands = λ sub e out. said_is (HandsOut a (direct_exits n m v t)) (sym (ap (λ (y : Label). handed_by x.component main s y (direct_exits n m v t)) at ∙ ap (λ b. if b then task_end n status.Returned s else None) (ap₂ (λ (f g : Bool). not f && g) implicit direct)) ∙ out) (WritesToo k status.Returned (exit_says s None at implicit (inl direct)) (inl direct));
       })
       (λ is to.
-      direct_exits_walks n refl m v refl (subst (λ (k : ℕ). MayEnd a k call_end.Returned t) (sym task) (exits None t is implicit (inl direct) calls)) (subst (λ (k : ℕ). SaysEnd a k status.Returned) (sym task) (exit_says None is implicit (inl direct))) to (under_place n m s under) c) here over
+      direct_exits_walks n refl m v refl (subst (λ (k : ℕ). MayEnd a k call_end.Returned t) (sym task) (exits None t is implicit (inl direct) calls)) (subst (λ (k : ℕ). SaysEnd a k status.Returned) (sym task) (exit_says s None is implicit (inl direct))) to (under_place n m s under) c) here over
 
   direct_exit_to_leads : (k : ExportKind) (o : Option ℕ) → under_of n s ≡ o → is_explicit n s ≡ false → is_direct (goal_of (task_of n s) s) ≡ true → Leads a s (direct_exit_to n k s o)
   direct_exit_to_leads k None under implicit direct = tt
@@ -614,13 +594,8 @@ module _ (x : Setting) (main : Main) (s : Core) (n : ℕ) (l : Label) (next : Tu
   -- ---- The task and backpressure
 
   -- the task comes to an end that it hadn't
-  task_says : (f : Status) (t : Core) → written_by x.component s l s ≡ task_end n f s → ((k : ℕ) (e : Status) → handed_by x.component main s l t ≡ Some (end_for e (subtask.Guest k)) → HandsOut a t k e) → has_ended (task_of n s) s ≡ false → (u : Core) → is_over (task_of n s) u ≡ true → Walk a u t → EndWords a t
-  task_says f t is hands unended u over c = record {
-    writes = λ k e says.
-        let same = said (task_of n s) f is says in
-        inr (inl (subst (λ (j : ℕ). has_ended j s ≡ false) same.0 unended), (u, (subst (λ (j : ℕ). is_over j u ≡ true) same.0 over, c)));
-    hands = hands;
-  }
+  task_says : (f : Status) (t : Core) → written_by x.component s l t ≡ task_end n f s → handed_by x.component main s l t ≡ None → has_ended (task_of n s) s ≡ false → (u : Core) → is_over (task_of n s) u ≡ true → Walk a u t → EndWords a t
+  task_says f t is none unended u over c = record { writes = writes_task f t u is (EndsOwn n refl refl unended) over c; hands = λ sub e out. none_said none out }
 
   ret_row_leads : (v : ℕ) (w : Option ℕ) → Leads a s (ret_row n v w s)
   unfolding ret_done
@@ -629,9 +604,9 @@ module _ (x : Setting) (main : Main) (s : Core) (n : ℕ) (l : Label) (next : Tu
       trap_if_leads a s (not (is_async_lifted (kind_of (task_of n s) s))) trap.TaskReturnInvalid _ (λ lifted.
       may_leads a s (may_tell (task_of n s) w s) _ (λ may.
       go_saying (ret_label n v w) (ret_done n v w s) (ret_plain n v w)
-      (λ is. task_says status.Returned (ret_done n v w s) (ap (λ (k : Label). written_by x.component s k s) is ∙ ret_writes x.component n v w s) (λ k e out. none_is_some (end_for e (subtask.Guest k)) (sym (ap (λ (y : Label). handed_by x.component main s y (ret_done n v w s)) is ∙ ret_hands x.component main n v w s (ret_done n v w s)) ∙ out)) unended
-      (set_end (task_of n s) call_end.Returned s) (over_now (task_of n s) call_end.Returned s) (stay_walk (advanced_walks n refl (returned_rest (task_of n s) v w s (ap (λ (k : Label). written_by x.component s k s) is ∙ ret_writes x.component n v w s) (told_to (task_of n s) w s may) NoWord))))
-      (λ is. advanced_walks n refl (returned_walks (task_of n s) v w (ReturnsNow n refl refl unended (unnot (is_async_lifted (kind_of (task_of n s) s)) lifted) refl) (ap (λ (k : Label). written_by x.component s k s) is ∙ ret_writes x.component n v w s) (told_to (task_of n s) w s may) NoWord)))))
+      (λ is. task_says status.Returned (ret_done n v w s) (ap (λ (k : Label). written_by x.component s k (ret_done n v w s)) is ∙ ret_writes x.component n v w s _) (ap (λ (y : Label). handed_by x.component main s y (ret_done n v w s)) is ∙ ret_hands x.component main n v w s (ret_done n v w s)) unended
+      (set_end (task_of n s) call_end.Returned s) (over_now (task_of n s) call_end.Returned s) (stay_walk (advanced_walks n refl (returned_rest (task_of n s) v w s (ap (λ (k : Label). written_by x.component s k s) is ∙ ret_writes x.component n v w s s) (told_to (task_of n s) w s may) NoWord))))
+      (λ is. advanced_walks n refl (returned_walks (task_of n s) v w (ReturnsNow n refl refl unended (unnot (is_async_lifted (kind_of (task_of n s) s)) lifted) refl) (ap (λ (k : Label). written_by x.component s k s) is ∙ ret_writes x.component n v w s s) (told_to (task_of n s) w s may) NoWord)))))
 
   task_cancel_row_leads : (w : Option ℕ) → Leads a s (task_cancel_row n w s)
   unfolding task_cancel_done
@@ -640,9 +615,9 @@ module _ (x : Setting) (main : Main) (s : Core) (n : ℕ) (l : Label) (next : Tu
       trap_if_leads a s (has_ended (task_of n s) s) trap.TaskCancelOrReturnTwice _ (λ unended.
       may_leads a s (may_tell (task_of n s) w s) _ (λ may.
       go_saying (task_cancel_label n w) (task_cancel_done n w s) (task_cancel_plain n w)
-      (λ is. task_says status.ReturnCancelled (task_cancel_done n w s) (ap (λ (k : Label). written_by x.component s k s) is ∙ task_cancel_writes x.component n w s) (λ k e out. none_is_some (end_for e (subtask.Guest k)) (sym (ap (λ (y : Label). handed_by x.component main s y (task_cancel_done n w s)) is ∙ task_cancel_hands x.component main n w s (task_cancel_done n w s)) ∙ out)) unended
-      (set_end (task_of n s) call_end.ReturnCancelled s) (over_now (task_of n s) call_end.ReturnCancelled s) (stay_walk (advanced_walks n refl (cancelled_rest (task_of n s) w s (ap (λ (k : Label). written_by x.component s k s) is ∙ task_cancel_writes x.component n w s) (told_to (task_of n s) w s may) NoWord))))
-      (λ is. advanced_walks n refl (cancelled_walks (task_of n s) w (GivesUp n refl refl unended (unnot (cancel_was_delivered (task_of n s) s) delivered) refl) (ap (λ (k : Label). written_by x.component s k s) is ∙ task_cancel_writes x.component n w s) (told_to (task_of n s) w s may) NoWord)))))
+      (λ is. task_says status.ReturnCancelled (task_cancel_done n w s) (ap (λ (k : Label). written_by x.component s k (task_cancel_done n w s)) is ∙ task_cancel_writes x.component n w s _) (ap (λ (y : Label). handed_by x.component main s y (task_cancel_done n w s)) is ∙ task_cancel_hands x.component main n w s (task_cancel_done n w s)) unended
+      (set_end (task_of n s) call_end.ReturnCancelled s) (over_now (task_of n s) call_end.ReturnCancelled s) (stay_walk (advanced_walks n refl (cancelled_rest (task_of n s) w s (ap (λ (k : Label). written_by x.component s k s) is ∙ task_cancel_writes x.component n w s s) (told_to (task_of n s) w s may) NoWord))))
+      (λ is. advanced_walks n refl (cancelled_walks (task_of n s) w (GivesUp n refl refl unended (unnot (cancel_was_delivered (task_of n s) s) delivered) refl) (ap (λ (k : Label). written_by x.component s k s) is ∙ task_cancel_writes x.component n w s s) (told_to (task_of n s) w s may) NoWord)))))
 
   dec_from_leads : (b : ℕ) → Leads a s (dec_from n s b)
   unfolding dec_lowers dec_opens

@@ -1,10 +1,11 @@
 -- Where a step does a word: what its row has tested or done before, and what is known of the thread that runs or was taken.
+use Rattle.task_machine.specs.declared.records.Course.{Course}
 use Rattle.std.specs.Option.{option_map_or}
-use Rattle.std.specs.Prelude.{Bool, None, Option, Some, [], false, is_none, is_some, true, ℕ, ◌||◌, ◌∷◌, ◌≡◌, ◌⊎◌, not}
+use Rattle.std.specs.Prelude.{Bool, None, Option, Some, [], false, is_none, true, ℕ, ◌||◌, ◌∷◌, ◌≡◌, ◌⊎◌, not, is_some}
 use Rattle.task_machine.specs.Core.{Core, MainPlace, Scripted, Unscripted}
 use Rattle.task_machine.specs.Maps.{get}
 use Rattle.task_machine.specs.Moves.{has_entry, is_callback_waiter, is_deletable, is_group_done}
-use Rattle.task_machine.specs.Read.{foot_of, cancel_was_delivered, course_of, course_value, end_of, goal_of, has_ended, has_member, has_waiters, how_far_of, instance_of, is_async_lifted, is_at, is_direct, is_end, is_explicit, is_joined, is_stage_ended, is_waiter, join_of, kind_of, may_not_enter, next_entry, own_event_of, phase_of, place_of, set_at, stage_of, subtask_at, subtask_ended, subtask_handle, task_of, thread_group, was_started, work_caller_of, is_guest_call, is_blocked_on}
+use Rattle.task_machine.specs.Read.{foot_of, cancel_was_delivered, course_of, course_value, end_of, goal_of, has_ended, has_member, has_waiters, how_far_of, instance_of, is_async_lifted, is_at, is_direct, is_end, is_explicit, is_joined, is_stage_ended, is_waiter, join_of, kind_of, may_not_enter, next_entry, own_event_of, phase_of, place_of, set_at, stage_of, subtask_at, subtask_ended, subtask_handle, task_of, thread_group, was_started, work_caller_of, is_guest_call, is_blocked_on, is_aborted}
 use Rattle.task_machine.specs.declared.component.Callee.{Callee}
 use Rattle.task_machine.specs.declared.component.ExportKind.{ExportKind}
 use Rattle.task_machine.specs.declared.label.Label.{Label}
@@ -21,23 +22,23 @@ use Rattle.task_machine.specs.declared.records.Why.{Why}
 use Rattle.task_machine.specs.declared.records.WorkCaller.{WorkCaller}
 use Rattle.task_machine.specs.declared.scenario.MainOpDef.{MainOpDef}
 use Rattle.task_machine.specs.declared.words.Mark.{Mark}
-use Rattle.task_machine.specs.declared.words.Mark.TheVariants as mark
 use Rattle.task_machine.specs.declared.words.OwnEvent.{OwnEvent}
 use Rattle.task_machine.specs.declared.words.Status.{Status}
 use Rattle.task_rules.specs.Calls.{new_thread, next_thread, next_work}
 use Rattle.task_rules.specs.Cancels.{aborted_phase, is_callback_wait}
 use Rattle.task_rules.specs.Ends.{is_told, own_or_none}
-use Rattle.task_rules.specs.MainOps.{op_at, takes_words}
+use Rattle.task_rules.specs.MainOps.{op_at, takes_words, spawned_at, is_spawn}
 use Rattle.task_rules.specs.Once.{returned_holder}
 use Rattle.task_rules.specs.OpParts.{callee_of_main_op, callee_of_op, ends_activation}
 use Rattle.task_rules.specs.Scenes.{Scene, component_of, op_in}
 use Rattle.task_rules.specs.Scripts.{export_kind, registers_for}
-use Rattle.task_rules.specs.Takes.{host_status}
 use Rattle.task_rules.specs.Threads.{resume_why}
-use Rattle.task_rules.specs.Words.{AddGroup, CloseSet, CountWork, EndWork, Enter, FinishWork, GoBehind, MakeCall, MakeThread, Move, NameCall, NameWork, OpenSet, Pend, Places, Placing, Pop, Promote, Put, QueueWork, RemoveCall, RemoveGroup, RemoveThread, RemoveWork, SetCallEvent, SetCallJoin, SetCancelDelivered, SetCancelled, SetDoNotEnter, SetEnd, SetHowFar, SetOwnEvent, SetPhase, SetStarted, SetWorkEvent, SetWorkJoin, Stop, TakeHost, TakePush, UnnameCall, UnnameWork, Withdraw, Word, GiveResult, SetUninteresting, SetTrapped}
-use Rattle.task_rules.specs.Works.{next_polled}
+use Rattle.task_rules.specs.Words.{AddGroup, CloseSet, CountWork, EndWork, Enter, FinishWork, GoBehind, MakeCall, MakeThread, Move, NameCall, NameWork, OpenSet, Pend, Places, Placing, Pop, Promote, Put, QueueWork, RemoveCall, RemoveGroup, RemoveThread, RemoveWork, SetCallEvent, SetCallJoin, SetCancelDelivered, SetCancelled, SetDoNotEnter, SetEnd, SetHowFar, SetOwnEvent, SetPhase, SetStarted, TakeWorkEvent, SetWorkJoin, Stop, TakeHost, TakePush, UnnameCall, UnnameWork, Withdraw, Word, GiveResult, SetUninteresting, SetTrapped}
+use Rattle.task_rules.specs.Works.{next_polled, has_end}
 use Rattle.task_rules.specs.SubtaskEnds.{end_for, written_by}
+use Rattle.task_machine.specs.declared.words.Mark.TheVariants as mark
 use Rattle.task_machine.specs.declared.label.Label.TheVariants as label
+use Rattle.task_machine.specs.declared.label.LoopLabel.TheVariants as loop_label
 use Rattle.task_machine.specs.declared.label.TaskLabel.TheVariants as task_label
 use Rattle.task_machine.specs.declared.records.CallEnd.TheVariants as call_end
 use Rattle.task_machine.specs.declared.records.Caller.TheVariants as caller
@@ -104,6 +105,10 @@ subtask_under_way _ = None
 pub data HasSubtask (a : Scene) (n : ℕ) (sub : Subtask) : Type 0 where
   ByHandle : (h : ℕ) → subtask_at (instance_of n a.base) h a.base ≡ Some sub → HasSubtask a n sub
   ByOp : subtask_under_way (how_far_of n a.base) ≡ Some sub → HasSubtask a n sub
+
+-- a handle of the running thread's instance names it
+abbrev pub IsNamed : Scene → Subtask → Type 0
+IsNamed a sub = (n : ℕ) × ((h : ℕ) × (IsRunner a n × (subtask_at (instance_of n a.base) h a.base ≡ Some sub)))
 
 -- this step has made the call, with its thread, or the work
 abbrev pub IsNew : Scene → Subtask → Core → Type 0
@@ -212,8 +217,8 @@ MayLeave a p s = MayLand a p s
 abbrev pub MayCome : Scene → ℕ → HowFar → Core → Type 0
 MayCome a n (how_far.Waits x) s = IsRunner a n × HasSet a n x
 MayCome a n (how_far.Calls (subtask.Guest k)) s = IsRunner a n × (HasSubtask a n (subtask.Guest k) ⊎ IsNew a (subtask.Guest k) s)
-MayCome a n (how_far.Calls (subtask.Host i)) s = IsRunner a n × (IsNew a (subtask.Host i) s ×
-    (option_map_or (is_blocked_on (subtask.Host i)) (place_of n s) true ≡ true))
+MayCome a n (how_far.Calls (subtask.Host i)) s = IsRunner a n × (IsNew a (subtask.Host i) s × ((work_caller_of i s ≡ work_caller.Sync n) ×
+    (option_map_or (is_blocked_on (subtask.Host i)) (place_of n s) true ≡ true)))
 MayCome a n (how_far.Cancels sub) s = IsRunner a n × HasSubtask a n sub
 MayCome a n (how_far.AwaitsEnd sub) s = IsRunner a n × HasSubtask a n sub
 -- its direct callee, which ran, has come to a value
@@ -352,15 +357,24 @@ is_async_work _ = false
 abbrev pub IsPolled : Scene → ℕ → Core → Type 0
 IsPolled a i s = (n : ℕ) × ((a.turn ≡ turn.Futures n) × (next_polled n s ≡ Some i))
 
--- what a host work came to is told once its entry is taken, or the running thread takes it
-abbrev pub MayTellWork : Scene → ℕ → Option Status → Core → Type 0
-MayTellWork a i (Some e) s = (is_stage_ended (stage_of i s) ≡ true) × (e ≡ host_status (course_value (course_of i s)))
-MayTellWork a i None s = IsOwn a (subtask.Host i)
-
--- the sync call of the running thread is answered, or its ended subtask is dropped
+-- the sync call of the running thread is answered, and done, or its ended subtask is dropped
 abbrev pub MayRemoveWork : Scene → ℕ → Core → Type 0
-MayRemoveWork a i s = (n : ℕ) × (IsRunner a n × ((how_far_of n a.base ≡ how_far.Calls (subtask.Host i)) ⊎
-    ((subtask_ended (subtask.Host i) a.base ≡ true) × ((subtask_handle (subtask.Host i) s ≡ None) × (is_stage_ended (stage_of i s) ≡ true)))))
+MayRemoveWork a i s = (n : ℕ) × (IsRunner a n × (((how_far_of n a.base ≡ how_far.Calls (subtask.Host i)) × (how_far_of n s ≡ how_far.Fresh)) ⊎
+    ((subtask_ended (subtask.Host i) a.base ≡ true) × ((subtask_handle (subtask.Host i) s ≡ None) × ((h : ℕ) ×
+    ((subtask_at (instance_of n a.base) h a.base ≡ Some (subtask.Host i)) × (is_stage_ended (stage_of i s) ≡ true)))))))
+
+-- the loop polls the work to its end, and without a value where an abort was asked for
+abbrev pub MayFinish : Scene → ℕ → Course → Core → Type 0
+MayFinish a i c s = IsPolled a i s × ((a.label ≡ label.Loop (loop_label.FutureEnds i)) × ((has_end c ≡ true) ×
+    (course_value c ≡ None → (is_aborted (phase_of i s) ≡ true) ⊎ (has_end (course_of i s) ≡ true))))
+
+-- Why an abort is asked for.
+pub data MayAbort (a : Scene) (i : ℕ) : Type 0 where
+  -- a handle of the running thread's instance names the work
+  AbortsOwn : IsNamed a (subtask.Host i) → MayAbort a i
+  -- main names it
+  ScriptAborts : (p : MainPlace) (k : ℕ) → a.main ≡ Scripted p → i ≡ spawned_at p k → MayAbort a i
+  ProgramAborts : a.main ≡ Unscripted → is_spawn i a.base ≡ true → MayAbort a i
 
 -- ---- Sets and instances
 
@@ -400,15 +414,15 @@ Allowed a CountWork s = s.made.works ≡ a.base.made.works
 Allowed a (QueueWork f host group) s = (s.made.works ≡ a.base.made.works) × MayQueue a f group
 Allowed a (TakePush m i) s = next_entry s ≡ Some (m, entry.Push i)
 Allowed a (Pend i host) s = IsPolled a i s
-Allowed a (EndWork i c) s = IsPolled a i s × (is_async_work (work_caller_of i s) ≡ false)
-Allowed a (FinishWork i c) s = IsPolled a i s × (is_async_work (work_caller_of i s) ≡ true)
+Allowed a (EndWork i c) s = MayFinish a i c s × (is_async_work (work_caller_of i s) ≡ false)
+Allowed a (FinishWork i c) s = MayFinish a i c s × (is_async_work (work_caller_of i s) ≡ true)
 Allowed a (TakeHost m i) s = next_entry s ≡ Some (m, entry.Host i)
 -- an abort is asked for
-Allowed a (SetPhase i p) s = p ≡ aborted_phase (phase_of i s)
+Allowed a (SetPhase i p) s = MayAbort a i × (p ≡ aborted_phase (phase_of i s))
 Allowed a (SetCancelled i) s = IsOwn a (subtask.Host i)
-Allowed a (SetWorkEvent i e) s = MayTellWork a i e s
+Allowed a (TakeWorkEvent i) s = IsOwn a (subtask.Host i)
 Allowed a (SetWorkJoin i j) s = MayJoin a (subtask.Host i) j s
-Allowed a (NameWork i w) s = MayName a i (subtask.Host w) s
+Allowed a (NameWork i w) s = MayName a i (subtask.Host w) s × (is_async_work (work_caller_of w s) ≡ true)
 Allowed a (UnnameWork i h w) s = MayUnname a i h (subtask.Host w) s
 Allowed a (RemoveWork i) s = MayRemoveWork a i s
 Allowed a (OpenSet i) s = MayOpen a i s

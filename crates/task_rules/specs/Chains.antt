@@ -1,21 +1,22 @@
 -- Each step as a chain of words.
-use Rattle.task_rules.specs.SubtaskEnds.{end_for, handed_by}
+use Rattle.task_rules.specs.MainOps.{is_spawn, spawned_at}
+use Rattle.task_machine.specs.declared.records.Subtask.{Subtask}
+use Rattle.task_rules.specs.Works.{has_end}
+use Rattle.task_rules.specs.Calls.{next_work}
+use Rattle.task_rules.specs.SubtaskEnds.{end_for, handed_by, written_by}
 use Rattle.task_machine.specs.declared.words.Status.{Status}
-use Rattle.task_machine.specs.declared.words.Status.TheVariants as status
-use Rattle.task_machine.specs.declared.records.Subtask.TheVariants as subtask
 use Rattle.std.specs.Option.{option_map_or}
 use Rattle.std.specs.Prelude.{Bool, None, Some, false, is_some, true, ℕ, ◌≡◌, ◌⊎◌}
-use Rattle.task_machine.specs.Core.{Core, Main, Scripted, State, Unscripted}
+use Rattle.task_machine.specs.Core.{Core, Main, Scripted, State, Unscripted, MainPlace}
 use Rattle.task_machine.specs.Maps.{get}
 use Rattle.task_machine.specs.Moves.{ended}
-use Rattle.task_machine.specs.Read.{event_of, goal_of, has_ended, is_async_lifted, is_direct, is_explicit, kind_of, may_not_enter, place_of, task_of, undelivered_end}
+use Rattle.task_machine.specs.Read.{event_of, goal_of, has_ended, is_async_lifted, is_direct, is_explicit, kind_of, may_not_enter, place_of, task_of, undelivered_end, course_of, how_far_of}
 use Rattle.task_machine.specs.declared.label.Label.{Label}
 use Rattle.task_machine.specs.declared.outcome.Outcome.{Outcome}
 use Rattle.task_machine.specs.declared.records.Place.{Place}
 use Rattle.task_machine.specs.declared.records.Turn.{Turn}
-use Rattle.task_rules.specs.Allowed.{Allowed, IsFall, IsRunner, IsSettling, Leaves, MayCome, MayLand, MayMove, MayShift, SaysEnd, Stays, is_exit}
+use Rattle.task_rules.specs.Allowed.{Allowed, IsRunner, MayShift, SaysEnd, is_exit, IsPolled, IsNamed, IsFall, IsSettling, Leaves, MayCome, MayLand, MayMove, Stays}
 use Rattle.task_machine.specs.declared.records.HowFar.{HowFar}
-use Rattle.task_machine.specs.declared.records.HowFar.TheVariants as how_far
 use Rattle.task_rules.specs.Laws.{is_free}
 use Rattle.task_rules.specs.Once.{begun_holder}
 use Rattle.task_rules.specs.Outcome.{outcome_of_label}
@@ -24,6 +25,11 @@ use Rattle.task_rules.specs.Stalled.{Setting}
 use Rattle.task_rules.specs.Step.{Step}
 use Rattle.task_rules.specs.Turns.{settled_turn}
 use Rattle.task_rules.specs.Words.{Move, Places, Placing, RemoveThread, SetHowFar, Word, after_word}
+use Rattle.task_machine.specs.declared.words.Status.TheVariants as status
+use Rattle.task_machine.specs.declared.records.Subtask.TheVariants as subtask
+use Rattle.task_machine.specs.declared.records.HowFar.TheVariants as how_far
+use Rattle.task_machine.specs.declared.label.Label.TheVariants as label
+use Rattle.task_machine.specs.declared.label.LoopLabel.TheVariants as loop_label
 use Rattle.task_machine.specs.declared.records.Place.TheVariants as place
 use Rattle.task_machine.specs.declared.records.Turn.TheVariants as turn
 
@@ -81,30 +87,56 @@ is_take _ = false
 abbrev pub is_over : ℕ → Core → Bool
 is_over k s = option_map_or (λ c. is_some c.«end») (get s.calls k) true
 
--- How a step comes to hand an end of a call out.
-pub data HandsOut (a : Scene) (t : Core) (k : ℕ) (e : Status) : Type 0 where
-  -- it takes the event
-  TakesEvent : undelivered_end (event_of (subtask.Guest k) a.base) ≡ Some e → undelivered_end (event_of (subtask.Guest k) t) ≡ None →
-      HandsOut a t k e
-  -- main takes the result
-  TakesResult : is_some (get a.base.results k) ≡ true → e ≡ status.Returned → get t.results k ≡ None → HandsOut a t k e
-  -- it writes the end itself: of a direct call, or of a start that is withdrawn
-  WritesToo : SaysEnd a k e → (is_direct (goal_of k a.base) ≡ true) ⊎ (e ≡ status.StartCancelled) → HandsOut a t k e
-
 -- the call's first thread runs, and its exit ends the call
 abbrev pub ExitsCall : Scene → ℕ → Type 0
 ExitsCall a k = (n : ℕ) × (IsRunner a n × ((k ≡ task_of n a.base) × ((is_explicit n a.base ≡ false) ×
     ((is_direct (goal_of k a.base) ≡ true) ⊎ (is_async_lifted (kind_of k a.base) ≡ false)))))
 
--- What the label of a step says of the ends of calls.
+-- Which call comes to its end.
+pub data EndsCall (a : Scene) (k : ℕ) : Type 0 where
+  -- that of the running thread, which has none
+  EndsOwn : (n : ℕ) → IsRunner a n → k ≡ task_of n a.base → has_ended k a.base ≡ false → EndsCall a k
+  EndsByExit : ExitsCall a k → EndsCall a k
+  -- a subtask that a handle names, which has none
+  EndsSubtask : IsNamed a (subtask.Guest k) → has_ended k a.base ≡ false → EndsCall a k
+
+-- the work, which is the next one, is made, but not kept
+abbrev pub IsReadyAtOnce : Scene → Core → ℕ → Type 0
+IsReadyAtOnce a t i = (i ≡ next_work a.base) × ((t.made.works ≡ i) × (t.works ≡ a.base.works))
+
+-- How a step comes to write an end of a subtask.
+pub data Writes (a : Scene) (t : Core) : Subtask → Type 0 where
+  -- the call has it on the way
+  WritesCall : (k : ℕ) (u : Core) → EndsCall a k → is_over k u ≡ true → Walk a u t → Writes a t (subtask.Guest k)
+  -- the work is polled
+  WritesPolled : (i : ℕ) → a.label ≡ label.Loop (loop_label.FutureEnds i) → IsPolled a i a.base → has_end (course_of i t) ≡ true →
+      Writes a t (subtask.Host i)
+  -- a host is ready at its first poll
+  WritesAtOnce : (i : ℕ) → IsReadyAtOnce a t i → Writes a t (subtask.Host i)
+  -- the event of a withdrawn start was there, which never is
+  WritesNever : (sub : Subtask) → undelivered_end (event_of sub a.base) ≡ Some status.StartCancelled → Writes a t sub
+
+-- How a step comes to hand an end of a subtask out.
+pub data HandsOut (a : Scene) (t : Core) : Subtask → Status → Type 0 where
+  -- it takes the event
+  TakesEvent : (sub : Subtask) (e : Status) → undelivered_end (event_of sub a.base) ≡ Some e → undelivered_end (event_of sub t) ≡ None →
+      HandsOut a t sub e
+  -- main takes the result
+  TakesResult : (k : ℕ) → is_some (get a.base.results k) ≡ true → get t.results k ≡ None → HandsOut a t (subtask.Guest k) status.Returned
+  -- it writes the end itself: of a direct call, or of a start that is withdrawn
+  WritesToo : (k : ℕ) (e : Status) → SaysEnd a k e → (is_direct (goal_of k a.base) ≡ true) ⊎ (e ≡ status.StartCancelled) →
+      HandsOut a t (subtask.Guest k) e
+  -- a host is ready at its first poll
+  HandsAtOnce : (i : ℕ) → IsReadyAtOnce a t i →
+      written_by (component_of a) a.base a.label t ≡ Some (end_for status.Returned (subtask.Host i)) → HandsOut a t (subtask.Host i) status.Returned
+  -- the sync call of a host is answered
+  Answers : (n i : ℕ) → IsRunner a n → how_far_of n a.base ≡ how_far.Calls (subtask.Host i) → get t.works i ≡ None →
+      HandsOut a t (subtask.Host i) status.Returned
+
+-- What the label of a step says of the ends of subtasks.
 pub record EndWords (a : Scene) (t : Core) : Type 0 where
-  -- where it is written, the call had none, unless it exits, and has it on the way; or the event of a withdrawn start was there, which
-  -- never is
-  pub writes : (k : ℕ) (e : Status) → SaysEnd a k e →
-      (undelivered_end (event_of (subtask.Guest k) a.base) ≡ Some status.StartCancelled) ⊎
-      (((has_ended k a.base ≡ false) ⊎ ExitsCall a k) × ((u : Core) × ((is_over k u ≡ true) × Walk a u t)))
-  pub hands : (k : ℕ) (e : Status) → handed_by (component_of a) a.main a.base a.label t ≡ Some (end_for e (subtask.Guest k)) →
-      HandsOut a t k e
+  pub writes : (sub : Subtask) (e : Status) → written_by (component_of a) a.base a.label t ≡ Some (end_for e sub) → Writes a t sub
+  pub hands : (sub : Subtask) (e : Status) → handed_by (component_of a) a.main a.base a.label t ≡ Some (end_for e sub) → HandsOut a t sub e
 
 -- What the last words of a step leave.
 pub record LastWords (a : Scene) (t : Core) : Type 0 where
@@ -122,17 +154,21 @@ pub record LastWords (a : Scene) (t : Core) : Type 0 where
   pub shut : (i : ℕ) → begun_holder a.base a.label ≡ Some i → (may_not_enter i a.base ≡ false) ×
       (is_some (get t.instances i) ≡ true → may_not_enter i t ≡ true)
 
+-- what main's script names as a spawn it named so before the step to t, or it is one
+abbrev pub SpawnsNamed : MainPlace → Core → MainPlace → Type 0
+SpawnsNamed p t q = (k : ℕ) → ((j : ℕ) × (spawned_at q k ≡ spawned_at p j)) ⊎ (is_spawn (spawned_at q k) t ≡ true)
+
 -- a main that is a script stays one, and so does one that isn't
-abbrev pub SameMain : Main → Main → Type 0
-SameMain (Scripted p) (Scripted q) = Unit {0}
-SameMain Unscripted Unscripted = Unit {0}
-SameMain _ _ = ⊥
+abbrev pub SameMain : Main → Core → Main → Type 0
+SameMain (Scripted p) t (Scripted q) = SpawnsNamed p t q
+SameMain Unscripted t Unscripted = Unit {0}
+SameMain _ t _ = ⊥
 
 -- A step seen as a chain.
 pub record Walked (x : Setting) (s : State) (l : Label) (t : State) : Type 0 where
   pub next : Turn
   pub turn : t.turn ≡ settled_turn t.core next
-  pub main : SameMain s.main t.main
+  pub main : SameMain s.main t.core t.main
   pub walk : Walk (scene_of x s l next) s.core t.core
   pub trip : Trip (scene_of x s l next) (start_of (scene_of x s l next) s.core) t.core
   pub ends : LastWords (scene_of x s l next) t.core

@@ -1,5 +1,6 @@
 -- The words that every step is made of: each a change that keeps what is said of states.
-use Rattle.std.specs.Prelude.{Bool, List, None, Option, ℕ, ◌+◌}
+use Rattle.task_machine.specs.Read.{course_of, course_value}
+use Rattle.std.specs.Prelude.{Bool, List, None, Option, ℕ, ◌+◌, Some}
 use Rattle.task_machine.specs.Core.{Core}
 use Rattle.task_machine.specs.Moves.{behind_one, less_switch, promoted, put_high, put_low, put_switch, stopped, unqueued}
 use Rattle.task_machine.specs.Write.{add_group, add_set, add_thread, count_work, free_handle, free_thread_handle, give_handle, give_result, push_high, remove_call, remove_group, remove_set, remove_thread, remove_work, set_backpressure, set_cancel_delivered, set_cancelled, set_course, set_do_not_enter, set_do_not_suspend, set_end, set_event, set_exited, set_how_far, set_join, set_own_event, set_phase, set_place, set_position, set_register, set_result, set_saved_callee, set_saved_own, set_script, set_stage, set_started, set_starting_published, set_subtask_handle, set_trapped, set_uninteresting, set_word, take_result, with_switch}
@@ -22,7 +23,7 @@ use Rattle.task_machine.specs.declared.words.OwnEvent.{OwnEvent}
 use Rattle.task_machine.specs.declared.words.Phase.{Phase}
 use Rattle.task_machine.specs.declared.words.Status.{Status}
 use Rattle.task_rules.specs.Calls.{call_made, with_handle, with_thread_handle, work_queued}
-use Rattle.task_rules.specs.Takes.{popped}
+use Rattle.task_rules.specs.Takes.{popped, host_status}
 use Rattle.task_rules.specs.Works.{poll_pends}
 use Rattle.task_machine.specs.declared.records.Entry.TheVariants as entry
 use Rattle.task_machine.specs.declared.records.Named.TheVariants as named
@@ -106,13 +107,13 @@ pub data Word : Type 0 where
   QueueWork : (caller : WorkCaller) → (host : HostDef) → (group : Option ℕ) → Word
   TakePush : (mark : Mark) → (work : ℕ) → Word
   Pend : (work : ℕ) → (host : HostDef) → Word
-  -- a work ends; that of an async host call gets its entry, and has ended once that is taken
+  -- a work ends; that of an async host call gets its entry, and has ended and tells it once that is taken
   EndWork : (work : ℕ) → (course : Course) → Word
   FinishWork : (work : ℕ) → (course : Course) → Word
   TakeHost : (mark : Mark) → (work : ℕ) → Word
   SetPhase : (work : ℕ) → (phase : Phase) → Word
   SetCancelled : (work : ℕ) → Word
-  SetWorkEvent : (work : ℕ) → (event : Option Status) → Word
+  TakeWorkEvent : (work : ℕ) → Word
   SetWorkJoin : (work : ℕ) → (join : Join) → Word
   NameWork : (instance work : ℕ) → Word
   UnnameWork : (instance handle work : ℕ) → Word
@@ -166,10 +167,10 @@ after_word (TakePush m i) s = set_stage i stage.Live (placed_as (popped m s) s)
 after_word (Pend i host) s = poll_pends i host s
 after_word (EndWork i c) s = set_stage i stage.Ended (set_phase i phase.Complete (set_course i c s))
 after_word (FinishWork i c) s = push_high (entry.Host i) (set_stage i stage.Finishing (set_phase i phase.Complete (set_course i c s)))
-after_word (TakeHost m i) s = set_stage i stage.Ended (placed_as (popped m s) s)
+after_word (TakeHost m i) s = set_event (subtask.Host i) (Some (host_status (course_value (course_of i s)))) (set_stage i stage.Ended (placed_as (popped m s) s))
 after_word (SetPhase i p) s = set_phase i p s
 after_word (SetCancelled i) s = set_cancelled i s
-after_word (SetWorkEvent i e) s = set_event (subtask.Host i) e s
+after_word (TakeWorkEvent i) s = set_event (subtask.Host i) None s
 after_word (SetWorkJoin i j) s = set_join (subtask.Host i) j s
 after_word (NameWork i w) s = with_handle i (subtask.Host w) s
 after_word (UnnameWork i h w) s = free_handle i h (set_subtask_handle (subtask.Host w) None s)

@@ -1,6 +1,6 @@
 -- The polls of live host works by the loop.
 use Rattle.std.specs.List.{list_any}
-use Rattle.std.specs.Prelude.{Bool, List, None, Option, Some, [], if◌then◌else◌, nat_lt, not, suc, zero, ℕ, ◌&&◌, ◌||◌, ◌∷◌}
+use Rattle.std.specs.Prelude.{Bool, List, None, Option, Some, [], if◌then◌else◌, nat_lt, not, suc, zero, ℕ, ◌&&◌, ◌||◌, ◌∷◌, false, true}
 use Rattle.task_machine.specs.declared.records.Course.{Course}
 use Rattle.task_machine.specs.declared.component.HostDef.{HostDef}
 use Rattle.task_machine.specs.declared.words.Phase.{Phase}
@@ -16,6 +16,11 @@ use Rattle.task_machine.specs.Core.{Core}
 use Rattle.task_machine.specs.Moves.{unblocked}
 use Rattle.task_machine.specs.Read.{blocked_on, course_of, is_aborted, is_live, is_never, phase_of, work_caller_of}
 use Rattle.task_machine.specs.Write.{push_high, set_course, set_phase, set_stage}
+
+-- the work has come to an end
+abbrev pub has_end : Course → Bool
+has_end (course.Goes host) = false
+has_end _ = true
 
 -- the live works with numbers above n, in order of number
 abbrev pub live_after : ℕ → List (ℕ × Work) → List ℕ

@@ -1,4 +1,4 @@
-use Rattle.task_laws.proofs.CallEnds as lemmas
+use Rattle.task_laws.proofs.WrittenLaws as lemmas
 use Rattle.task_laws.proofs.written.ends_are_handed_as_told.Goals as goal
 
 pub returns : goal.returns

@@ -1,4 +1,4 @@
-use Rattle.task_laws.proofs.WrittenLemmas as lemmas
+use Rattle.task_laws.proofs.WrittenLaws as lemmas
 use Rattle.task_laws.proofs.written.ends_are_written_once.Goals as goal
 
 pub returns : goal.returns

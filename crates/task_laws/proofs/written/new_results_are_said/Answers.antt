@@ -1,4 +1,4 @@
-use Rattle.task_laws.proofs.CallEnds as lemmas
+use Rattle.task_laws.proofs.WrittenLaws as lemmas
 use Rattle.task_laws.proofs.written.new_results_are_said.Goals as goal
 
 pub returns : goal.returns

@@ -1,0 +1,261 @@
+-- Each step owes of the ends what it should, and so each run has each end once.
+use Rattle.task_laws.proofs.NamedWorks.{NamesNoSync, abort_kept, caller_is, names_word, opening_names}
+use Rattle.task_rules.specs.Once.{written}
+use Rattle.task_machine.specs.declared.records.Subtask.{Subtask}
+use Rattle.std.proofs.Common.{ap, refl, subst, sym, ◌∙◌, inl, inr, le_refl, ◌++◌, arith}
+use Rattle.std.specs.Option.{option_map_or}
+use Rattle.std.specs.Prelude.{Bool, None, Option, Some, false, is_some, option_and_then, option_map, true, ℕ, ◌≡◌, ◌≤◌, ◌⊎◌, ◌∷◌, unwrap_or, [], slice_get, zero, suc, ◌-◌}
+use Rattle.task_laws.proofs.Basics.{no_way}
+use Rattle.task_laws.proofs.CallsLaw.{CallsGo, CallsHold}
+use Rattle.task_laws.proofs.CallsSteps.{of_base, step_goes, calls_begin}
+use Rattle.task_laws.specs.Settings.{Reached}
+use Rattle.task_machine.specs.Core.{Core, State, fresh, MainPlace, Scripted, Unscripted, Main}
+use Rattle.task_machine.specs.Maps.{get, get-empty}
+use Rattle.task_machine.specs.Read.{undelivered_end, how_far_of, is_stage_ended, next_entry, work_caller_of, place_of, instance_of, stage_of, subtask_at, task_of}
+use Rattle.task_machine.specs.declared.label.Label.{Label}
+use Rattle.task_machine.specs.declared.records.Call.{Call}
+use Rattle.task_machine.specs.declared.records.Turn.{Turn}
+use Rattle.task_machine.specs.declared.words.Status.{Status}
+use Rattle.task_rules.proofs.ChainLemmas.{along}
+use Rattle.task_rules.specs.Allowed.{IsRunner, AbortsOwn, ProgramAborts, ScriptAborts}
+use Rattle.task_rules.specs.Chains.{Walked, SameMain}
+use Rattle.task_rules.specs.Scenes.{Scene, base_at, scene_of, runner_at, thread_of_entry}
+use Rattle.task_rules.specs.Stalled.{Setting}
+use Rattle.task_rules.specs.SubtaskEnds.{end_for}
+use Rattle.task_laws.proofs.CallEnds.{EndsGo, EndsTold, ends_go, opening_ends_told}
+use Rattle.task_laws.proofs.OnceLemmas.{Due, Over, EndStep, ends_once, written_over}
+use Rattle.task_laws.proofs.HostEnds.{Answered, host_step}
+use Rattle.task_laws.proofs.SceneLemmas.{base_is, runner_there}
+use Rattle.task_laws.specs.Ends.{is_sync_work, EndsFound, MayBeAborted, Waited, SyncUnnamed}
+use Rattle.task_machine.specs.declared.records.WorkCaller.{WorkCaller}
+use Rattle.task_laws.proofs.Works.{AbortsNoSync, Doing, WorksGo, WorksHold, doing, doing_of, is_late, stage_ended, opening_works, before_step, first_works, works_word}
+use Rattle.task_machine.specs.declared.records.Work.{Work}
+use Rattle.task_rules.specs.Run.{opening}
+use Rattle.task_rules.specs.Step.{Step}
+use Rattle.task_machine.specs.declared.records.Entry.{Entry}
+use Rattle.task_machine.specs.declared.words.Mark.{Mark}
+use Rattle.task_rules.proofs.WalkSteps.{step_walks}
+use Rattle.task_laws.specs.Order.{InOrder}
+use Rattle.task_machine.specs.declared.records.Place.{Place}
+use Rattle.task_places.proofs.PlaceLaw.{entry_ready}
+use Rattle.task_rules.proofs.LawLemmas.{never_fewer, run_goes_on}
+use Rattle.task_places.proofs.Entries.{next_first, popped_cleared}
+use Rattle.task_laws.proofs.GuestEnds.{CallsFound, guest_step}
+use Rattle.task_places.specs.Once.{RunsAreOnce, IsUnbegun}
+use Rattle.task_places.proofs.OrderLemmas.{opening_in_order, step_in_order}
+use Rattle.task_rules.specs.MainOps.{is_spawn, is_spawn_caller, spawned_at}
+use Rattle.task_machine.specs.declared.records.Subtask.TheVariants as subtask
+use Rattle.task_machine.specs.declared.records.HowFar.TheVariants as how_far
+use Rattle.task_machine.specs.declared.records.Stage.TheVariants as stage
+use Rattle.task_machine.specs.declared.records.WorkCaller.TheVariants as work_caller
+use Rattle.task_machine.specs.declared.records.Entry.TheVariants as entry
+use Rattle.task_machine.specs.declared.records.Turn.TheVariants as turn
+use Rattle.task_machine.specs.declared.records.Place.TheVariants as place
+
+-- ---- What is known before a step
+
+-- what is to be handed out has ended
+abbrev DueOver : Core → Type 0
+DueOver s = (sub : Subtask) (e : Status) → Due sub e s → Over sub s
+
+record Known (x : Setting) (s : State) : Type 0 where
+  reached : Reached x s
+  order : InOrder x.component s
+  told : EndsTold s.core
+  works : WorksHold (Unit {0}) s.core
+  unnamed : SyncUnnamed s
+  zero : MayBeAborted s.core 0
+  over : DueOver s.core
+
+reached_step : (x : Setting) (s : State) (l : Label) (t : State) → Reached x s → Step x s l t → Reached x t
+reached_step x s l t r step = record {
+  scripts = r.scripts;
+  instances = r.instances;
+  handle_limit = r.handle_limit;
+  capacity = r.capacity;
+  main = r.main;
+  labels = r.labels ++ l ∷ [];
+  run = run_goes_on x (opening r.instances r.handle_limit r.capacity r.main) r.labels s l t r.run step;
+}
+
+held_of : (x : Setting) (s : State) → InOrder x.component s → CallsHold x.component s.core
+held_of x s h = record { numbered = h.numbered; kinds = h.kinds; deliveries = h.deliveries }
+
+spawn_other : (i : ℕ) (s : Core) → is_spawn i s ≡ true → (v : Doing) × ((doing_of i s ≡ Some v) × (is_sync_work v.caller ≡ false))
+spawn_other i s h = at (get s.works i) refl h
+  where
+    other : (f : WorkCaller) → is_spawn_caller f ≡ true → is_sync_work f ≡ false
+    other work_caller.Spawn g = refl
+    other (work_caller.Async n q) g = refl
+    other (work_caller.Sync n) g = no_way g
+
+    at : (o : Option Work) → get s.works i ≡ o → option_map_or (λ w. is_spawn_caller w.caller) o false ≡ true → (v : Doing) × ((doing_of i s ≡ Some v) × (is_sync_work v.caller ≡ false))
+    at None is g = no_way g
+    at (Some w) is g = (doing w, (ap (option_map doing) is, other w.caller g))
+
+waited_there : (n i : ℕ) (s : Core) → work_caller_of i s ≡ work_caller.Sync n → is_stage_ended (stage_of i s) ≡ true → (v : Doing) × ((doing_of i s ≡ Some v) × ((is_sync_work v.caller ≡ true) × (is_late v.stage ≡ true)))
+waited_there n i s caller ended = at (get s.works i) refl caller ended
+  where
+    at : (o : Option Work) → get s.works i ≡ o → option_map_or (λ (w : Work). w.caller) o work_caller.Spawn ≡ work_caller.Sync n → is_stage_ended (option_map_or (λ (w : Work). w.stage) o stage.Ended) ≡ true → (v : Doing) × ((doing_of i s ≡ Some v) × ((is_sync_work v.caller ≡ true) × (is_late v.stage ≡ true)))
+    at None is c e = no_way (ap (λ f. is_sync_work f) c)
+    at (Some w) is c e = (doing w, (ap (option_map doing) is, (ap (λ f. is_sync_work f) c, stage_ended w.stage e)))
+
+abbrev is_script : Main → Bool
+is_script (Scripted p) = true
+is_script Unscripted = false
+
+abbrev is_blocked : Option Place → Bool
+is_blocked (Some (place.Blocked sub)) = true
+is_blocked _ = false
+
+module _ (x : Setting) (s : State) (l : Label) (t : State) (k : Known x s) (f : EndsFound s) (step : Step x s l t) where
+  w : Walked x s l t
+  w = step_walks x s l t step
+
+  abbrev a : Scene
+  a = scene_of x s l w.next
+
+  to_base : (P : Core → Type 0) → P (record s.core { queues = (base_at s.turn s.core).queues }) → P a.base
+  to_base P p = of_base P s.turn s.core p
+
+  from_base : (P : Core → Type 0) → P a.base → P (record s.core { queues = (base_at s.turn s.core).queues })
+  from_base P p = subst P (base_is s.turn s.core) p
+
+  -- nothing that is aborted is a sync call's
+  unsync : AbortsNoSync a
+  unsync i (AbortsOwn (n, (h, (runner, named)))) = of_found i (to_base (λ c. (j g : ℕ) → subtask_at j g c ≡ Some (subtask.Host i) → MayBeAborted c i) (λ j g e. again (k.unnamed.works j g i e)) (instance_of n a.base) h named)
+    where
+      again : {i : ℕ} → MayBeAborted s.core i → MayBeAborted (record s.core { queues = (base_at s.turn s.core).queues }) i
+      again q = record { made = q.made; other = q.other }
+
+      of_found : (i : ℕ) → MayBeAborted a.base i → (i ≤ a.base.made.works) × ((u : Doing) → doing_of i a.base ≡ Some u → is_sync_work u.caller ≡ false)
+      of_found i q = (q.made, λ u e. ap (λ y. is_sync_work y) (sym (caller_is i a.base u e)) ∙ q.other)
+  unsync i (ScriptAborts p j main is) = subst (λ (n : ℕ). (n ≤ a.base.made.works) × ((u : Doing) → doing_of n a.base ≡ Some u → is_sync_work u.caller ≡ false)) (sym is) (to_base (λ c. (spawned_at p j ≤ c.made.works) × ((u : Doing) → doing_of (spawned_at p j) c ≡ Some u → is_sync_work u.caller ≡ false)) (let q = k.unnamed.spawns p j main in (q.made, λ u e. ap (λ y. is_sync_work y) (sym (caller_is (spawned_at p j) s.core u e)) ∙ q.other)))
+  unsync i (ProgramAborts main is) = to_base (λ c. (i ≤ c.made.works) × ((u : Doing) → doing_of i c ≡ Some u → is_sync_work u.caller ≡ false)) (let r = spawn_other i s.core (from_base (λ c. is_spawn i c ≡ true) is) in ((k.works.works i r.0 r.1.0).number, λ u e. ap (λ (o : Option Doing). is_sync_work (unwrap_or o r.0).caller) (sym e ∙ r.1.0) ∙ r.1.1))
+
+  -- the works, and which of them handles name
+  works_after : WorksGo (Unit {0}) a t.core × (NamesNoSync t.core × ((i : ℕ) → MayBeAborted s.core i → MayBeAborted t.core i))
+  works_after = along (λ u. WorksGo (Unit {0}) a u × (NamesNoSync u × ((i : ℕ) → MayBeAborted s.core i → MayBeAborted u i)))
+      (λ v u ok q. (works_word (λ y. unsync) v u ok q.0, (names_word a v u ok q.0.holds q.1.0, λ i h. abort_kept a v u ok q.0.holds i (q.1.1 i h))))
+      (first_works x s l w.next k.works, (k.unnamed.works, λ i h. h)) w.walk
+
+  spawns_after : (p : MainPlace) (j : ℕ) → t.main ≡ Scripted p → MayBeAborted t.core (spawned_at p j)
+  spawns_after p j at = by s.main refl t.main at w.main
+    where
+      spawn_is : (i : ℕ) → is_spawn i t.core ≡ true → MayBeAborted t.core i
+      spawn_is i is = let r = spawn_other i t.core is in record { made = (works_after.0.holds.works i r.0 r.1.0).number; other = ap (λ y. is_sync_work y) (caller_is i t.core r.0 r.1.0) ∙ r.1.1 }
+
+      place_in : Main → MainPlace
+      place_in (Scripted q) = q
+      place_in Unscripted = p
+
+      named : (o : MainPlace) → s.main ≡ Scripted o → ((n : ℕ) × (spawned_at p j ≡ spawned_at o n)) ⊎ (is_spawn (spawned_at p j) t.core ≡ true) → MayBeAborted t.core (spawned_at p j)
+      named o was (inl (n, same)) = subst (MayBeAborted t.core) (sym same) (works_after.1.1 (spawned_at o n) (k.unnamed.spawns o n was))
+      named o was (inr is) = spawn_is (spawned_at p j) is
+
+      by : (m : Main) → s.main ≡ m → (n : Main) → n ≡ Scripted p → SameMain m t.core n → MayBeAborted t.core (spawned_at p j)
+      by (Scripted o) was (Scripted q) is same = named o was (subst (λ (r : MainPlace). ((n : ℕ) × (spawned_at r j ≡ spawned_at o n)) ⊎ (is_spawn (spawned_at r j) t.core ≡ true)) (ap place_in is) (same j))
+      by (Scripted o) was Unscripted is same = absurd same
+      by Unscripted was (Scripted q) is same = absurd same
+      by Unscripted was Unscripted is same = no_way (ap is_script is)
+
+  -- who runs or is taken isn't blocked
+  unblocked : (n : ℕ) → IsRunner a n → is_blocked (place_of n s.core) ≡ false
+  unblocked n runner = by_turn s.turn refl runner
+    where
+      by_turn : (u : Turn) → s.turn ≡ u → runner_at u s.core ≡ Some n → is_blocked (place_of n s.core) ≡ false
+      by_turn (turn.Run m) at is = ap is_blocked (k.order.in_place.runs n (at ∙ ap (λ (o : Option ℕ). turn.Run (unwrap_or o n)) is))
+      by_turn (turn.Take ended) at is = taken (next_entry s.core) refl is
+        where
+          taken : (o : Option (Mark × Entry)) → next_entry s.core ≡ o → thread_of_entry o ≡ Some n → is_blocked (place_of n s.core) ≡ false
+          taken (Some (y, entry.Thread m)) e g = subst (λ (j : ℕ). is_blocked (place_of j s.core) ≡ false) (ap (λ (o : Option ℕ). unwrap_or o n) g) (let r = entry_ready m s.core (k.order.in_place.placed m) (popped_cleared y m s.core (next_first s.core y (entry.Thread m) e) (k.order.in_place.placed m)).1 in ap is_blocked r.1.1)
+          taken (Some (y, entry.Push i)) e g = no_way (ap (λ (o : Option ℕ). is_some o) g)
+          taken (Some (y, entry.Host i)) e g = no_way (ap (λ (o : Option ℕ). is_some o) g)
+          taken None e g = no_way (ap (λ (o : Option ℕ). is_some o) g)
+      by_turn turn.Main at is = no_way (ap (λ (o : Option ℕ). is_some o) is)
+      by_turn (turn.Futures m) at is = no_way (ap (λ (o : Option ℕ). is_some o) is)
+      by_turn turn.Over at is = no_way (ap (λ (o : Option ℕ). is_some o) is)
+
+  answered : Answered a
+  answered n i runner far = to_base (λ c. (v : Doing) × ((doing_of i c ≡ Some v) × ((is_sync_work v.caller ≡ true) × (is_late v.stage ≡ true)))) (by (f.answers n i (from_base (λ c. how_far_of n c ≡ how_far.Calls (subtask.Host i)) far)))
+    where
+      by : Waited s.core n i → (v : Doing) × ((doing_of i s.core ≡ Some v) × ((is_sync_work v.caller ≡ true) × (is_late v.stage ≡ true)))
+      by q = at q.waits
+        where
+          at : (place_of n s.core ≡ Some (place.Blocked (subtask.Host i))) ⊎ (is_stage_ended (stage_of i s.core) ≡ true) → (v : Doing) × ((doing_of i s.core ≡ Some v) × ((is_sync_work v.caller ≡ true) × (is_late v.stage ≡ true)))
+          at (inl blocked) = no_way (sym (unblocked n runner) ∙ ap is_blocked blocked)
+          at (inr ended) = waited_there n i s.core q.caller ended
+
+  holds : CallsHold x.component s.core
+  holds = held_of x s k.order
+
+  found : CallsFound a
+  found = record {
+    own = λ n runner. to_base (λ c. is_some (get c.calls (task_of n c)) ≡ true) (let there = runner_there x s l w.next k.order.in_place n runner in grind (arith, k.order.calls_there n (task_of n s.core)));
+    named = λ j named. to_base (λ c. (i h : ℕ) → subtask_at i h c ≡ Some (subtask.Guest j) → is_some (get c.calls j) ≡ true) (λ i h e. f.calls i h j e) (instance_of named.0 a.base) named.1.0 named.1.1.1;
+  }
+
+  told_base : EndsTold a.base
+  told_base = to_base EndsTold (record { goals = k.told.goals; events = k.told.events; results = k.told.results })
+
+  goes : CallsGo a t.core × (EndsGo a t.core × EndsTold t.core)
+  goes = ends_go k.order.codes holds k.told w
+
+  end_step : (sub : Subtask) → EndStep x.component (record { before = s; label = l; after = t }) sub
+  end_step (subtask.Guest j) =
+      guest_step x s l t w.next k.order.codes (calls_begin x s l w.next holds).0 told_base holds goes.0 goes.1.0 goes.1.1
+      (step_goes x s l t k.order.codes holds step).1 (never_fewer x s l t step).threads w.ends.says found (λ i e due. k.over (subtask.Guest i) e due) j
+  end_step (subtask.Host i) = host_step (Unit {0}) x s l t w.next (before_step x s l w.next) k.works works_after.0 w.ends.says tt answered i
+
+  known_after : Known x t
+  known_after = record {
+    reached = reached_step x s l t k.reached step;
+    order = step_in_order x s l t k.order step;
+    told = goes.1.1;
+    works = works_after.0.holds;
+    unnamed = record { works = works_after.1.0; spawns = spawns_after };
+    zero = works_after.1.1 0 k.zero;
+    over = λ sub e due. by sub e ((end_step sub).comes e due);
+  }
+    where
+      by : (sub : Subtask) (e : Status) → Due sub e s.core ⊎ (written x.component (record { before = s; label = l; after = t }) ≡ Some (end_for e sub)) → Over sub t.core
+      by sub e (inl due) = (end_step sub).stays (k.over sub e due)
+      by sub e (inr is) = written_over (end_step sub) e is
+
+-- ---- Runs
+
+none_due : (instances handle_limit capacity : ℕ) (sub : Subtask) (e : Status) → Due sub e (fresh instances handle_limit capacity) → ⊥
+unfolding fresh
+none_due instances handle_limit capacity (subtask.Guest j) e (inl tells) = absurd (no_way (ap (λ (o : Option Status). is_some o) (sym (ap (λ (o : Option Call). undelivered_end (option_and_then (λ (c : Call). c.event) o)) (get-empty j)) ∙ tells)))
+none_due instances handle_limit capacity (subtask.Guest j) e (inr (is, there)) = no_way (ap (λ (o : Option ℕ). is_some o) (sym (get-empty j)) ∙ there)
+none_due instances handle_limit capacity (subtask.Host i) e (v, (at, due)) = no_way (ap (λ (o : Option Doing). is_some o) (sym (ap (option_map doing) (get-empty i)) ∙ at))
+
+zero_unmade : (instances handle_limit capacity : ℕ) → MayBeAborted (fresh instances handle_limit capacity) 0
+unfolding fresh
+zero_unmade instances handle_limit capacity = record { made = le_refl _; other = ap (λ (o : Option Work). is_sync_work (option_map_or (λ w. w.caller) o work_caller.Spawn)) (get-empty 0) }
+
+opening_spawns : (instances handle_limit capacity : ℕ) (main : Main) → IsUnbegun main → (p : MainPlace) (j : ℕ) → main ≡ Scripted p → MayBeAborted (fresh instances handle_limit capacity) (spawned_at p j)
+opening_spawns instances handle_limit capacity Unscripted begun p j is = no_way (ap is_script is)
+opening_spawns instances handle_limit capacity (Scripted q) begun p j is = subst (λ (n : ℕ). MayBeAborted (fresh instances handle_limit capacity) n) (ap (λ (r : MainPlace). spawned_at r j) (sym begun ∙ ap place_in is)) (none_spawned (j - 1))
+  where
+    place_in : Main → MainPlace
+    place_in (Scripted r) = r
+    place_in Unscripted = q
+
+    none_spawned : (n : ℕ) → MayBeAborted (fresh instances handle_limit capacity) (unwrap_or (slice_get [] n) 0)
+    none_spawned zero = zero_unmade instances handle_limit capacity
+    none_spawned (suc n) = zero_unmade instances handle_limit capacity
+
+pub runs_are_once : RunsAreOnce
+runs_are_once x codes found instances handle_limit capacity main begun ls t run =
+    let s : State = opening instances handle_limit capacity main in
+    ends_once x (Known x) (λ s l t k step. known_after x s l t k (found s k.reached) step) (λ s l t k step sub. end_step x s l t k (found s k.reached) step sub) s
+    (record {
+      reached = record { scripts = codes; instances = instances; handle_limit = handle_limit; capacity = capacity; main = main; labels = []; run = refl };
+      order = opening_in_order x.component codes instances handle_limit capacity main;
+      told = opening_ends_told instances handle_limit capacity;
+      works = opening_works instances handle_limit capacity;
+      unnamed = record { works = opening_names instances handle_limit capacity; spawns = λ p j is. opening_spawns instances handle_limit capacity main begun p j is };
+      zero = zero_unmade instances handle_limit capacity;
+      over = λ sub e due. absurd (none_due instances handle_limit capacity sub e due);
+    }) (λ sub e due. none_due instances handle_limit capacity sub e due) ls t run
