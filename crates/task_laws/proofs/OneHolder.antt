@@ -25,10 +25,10 @@ instance_came : (a : Scene) (w : Word) (s : Core) → Allowed a w s → (i : ℕ
 unfolding add_call add_group add_set add_thread add_work count_work free_handle free_thread_handle give_handle give_result give_thread_handle on_call on_instance on_thread on_work push_high remove_call remove_group remove_set remove_thread remove_work set_backpressure set_cancel_delivered set_cancelled set_course set_do_not_enter set_do_not_suspend set_end set_event set_exited set_how_far set_join set_own_event set_phase set_position set_register set_result set_saved_callee set_saved_own set_script set_stage set_started set_starting_published set_subtask_handle set_thread_handle set_trapped set_uninteresting set_word take_result call_made with_handle with_thread_handle work_queued poll_pends
 instance_came a (SetDoNotEnter j true) s ok i = grind (arith, nat_tests, get-change)
 instance_came a (SetDoNotEnter j false) s ok i = grind (arith, nat_tests, get-change)
-instance_came a (SetBackpressure j n) s ok i = grind (arith, nat_tests, get-change)
-instance_came a (SetDoNotSuspend j b) s ok i = grind (arith, nat_tests, get-change)
-instance_came a (SetWord j w v) s ok i = grind (arith, nat_tests, get-change)
-instance_came a w s ok i = record { there = λ h. h; shut = λ other h. h }
+instance_came a w s ok i = record {
+  there = λ h. first_of (assumption, grind (arith, nat_tests, get-change));
+  shut = λ other h. first_of (assumption, grind (arith, nat_tests, get-change));
+}
 
 -- ---- What holds
 
