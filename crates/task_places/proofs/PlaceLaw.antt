@@ -2,6 +2,7 @@
 use Rattle.task_machine.specs.declared.records.Subtask.{Subtask}
 use Rattle.task_rules.proofs.WalkMoves.{blocked_place}
 use Rattle.std.proofs.lemmas.Bool.Decides.{nat_tests}
+use Rattle.task_machine.proofs.CommuteLemmas.{get-change}
 use Rattle.task_machine.specs.declared.records.HowFar.{HowFar}
 use Rattle.task_rules.specs.Laws.{is_free}
 use Rattle.task_rules.specs.Scripts.{registers_for}
@@ -167,15 +168,8 @@ module _ {a : Scene} {b : Core} {n : ℕ} {q : Option Place} (f : Follows a b n 
 
   -- what is watched stays so where it does for a thread that is put
   keeps_word : {P : ℕ → Watch} (w : Word) (s : Core) → Stays a w s → ((x : Mark) (m : ℕ) (v : Why) → w ≡ Places (Put x m v) → is_watched (P m) ≡ true → is_so (P m) (place_of m s) ≡ true → is_so (P m) (Some (place.Ready x v)) ≡ true) → ((k : ℕ) → w ≡ Withdraw k → is_fresh (place_of k s) ≡ true) → Stand P n q [] s → Stand P n q [] (after_word w s)
-  unfolding add_call add_group add_set add_work count_work free_handle free_thread_handle give_handle give_result give_thread_handle on_call on_instance on_work push_high remove_call remove_group remove_set remove_work set_backpressure set_cancel_delivered set_cancelled set_course set_do_not_enter set_do_not_suspend set_end set_event set_exited set_how_far set_join set_own_event set_phase set_position set_register set_result set_saved_callee set_saved_own set_script set_stage set_started set_starting_published set_subtask_handle set_thread_handle set_trapped set_uninteresting set_word take_result call_made with_handle with_thread_handle work_queued poll_pends
+  unfolding add_call add_group add_set add_work count_work free_handle free_thread_handle give_handle give_result give_thread_handle on_call on_instance on_work push_high remove_call remove_group remove_set remove_work set_backpressure set_cancel_delivered set_cancelled set_course set_do_not_enter set_do_not_suspend set_end set_event set_exited set_how_far set_join set_own_event set_phase set_position set_register set_result set_saved_callee set_saved_own set_script set_stage set_started set_starting_published set_subtask_handle set_thread_handle set_trapped set_uninteresting set_word take_result call_made with_handle with_thread_handle work_queued poll_pends on_thread
   keeps_word {P = P} (Places p) s ok puts fresh st = subst (λ (t : Core). Stand P n q [] t) (sym (placing_shifted p s).only) (keeps_placing p s ok (λ x m v e. puts x m v (ap (λ (y : Placing). Places y) e)) st)
-  keeps_word (SetRegister m r v) s ok puts fresh st = quiet_stand n q [] s _ (thread_untouched m (λ t. record t { registers = slice_set t.registers r v }) s (λ t. refl)) st
-  keeps_word (SetPosition m p) s ok puts fresh st = quiet_stand n q [] s _ (thread_untouched m (λ t. record t { position = p }) s (λ t. refl)) st
-  keeps_word (SetHowFar m h) s ok puts fresh st = quiet_stand n q [] s _ (thread_untouched m (λ t. record t { how_far = h }) s (λ t. refl)) st
-  keeps_word (SetScript m x) s ok puts fresh st = quiet_stand n q [] s _ (thread_untouched m (λ t. record t { script = x }) s (λ t. refl)) st
-  keeps_word (SetSavedOwn m c) s ok puts fresh st = quiet_stand n q [] s _ (thread_untouched m (λ t. record t { saved_own = c }) s (λ t. refl)) st
-  keeps_word (SetSavedCallee m c) s ok puts fresh st = quiet_stand n q [] s _ (thread_untouched m (λ t. record t { saved_callee = c }) s (λ t. refl)) st
-  keeps_word (NameThread i m) s ok puts fresh st = let u = thread_untouched m (λ t. record t { handle = Some (new_thread_handle i s) }) (give_thread_handle i m s) (λ t. refl) in quiet_stand n q [] s _ (record { places = u.places; switch = u.switch; high = u.high; low = u.low; callers = u.callers; made = u.made }) st
   keeps_word (MakeThread t) s ok puts fresh st = added_stand n q t s (next_apart s ok.1.1.0) (ap (λ (r : Thread). r.place) ok.1.1.1.1.1.0) st
   keeps_word (MakeCall g e x goal group words) s ok puts fresh st = added_stand n q (new_thread (next_thread s) false script.Start (registers_for words) None) (add_call (next_thread s) (new_call g e x goal group) s) (next_apart s ok.1.0) refl (quiet_stand n q [] s _ (calls_untouched (next_thread s) (new_call g e x goal group) s) st)
   keeps_word {P = P} (Withdraw k) s ok puts fresh st = subst (λ (t : Core). Stand P n q [] t) (sym (withdraws k s)) (withdrawn_stand n q k s (not_here k s st (λ same at. subst T (sym (fresh k refl) ∙ (ap is_fresh at ∙ (f.runs ok.0 ok.1.1.1.1.1.0).1)) tt)) (fresh k refl) st)
@@ -184,7 +178,7 @@ module _ {a : Scene} {b : Core} {n : ℕ} {q : Option Place} (f : Follows a b n 
   keeps_word (FinishWork i c) s ok puts fresh st = quiet_stand n q [] s _ (record { places = λ k. refl; switch = λ k. refl; high = λ k. pushed_same k s.queues.high (entry.Host i) refl; low = λ k. refl; callers = refl; made = le_refl _ }) st
   keeps_word (TakePush x i) s ok puts fresh st = let u = popped_quiet x (entry.Push i) s (next_first s x (entry.Push i) ok) (λ k. refl) in quiet_stand n q [] s _ (record { places = u.places; switch = u.switch; high = u.high; low = u.low; callers = u.callers; made = le_refl _ }) st
   keeps_word (TakeHost x i) s ok puts fresh st = let u = popped_quiet x (entry.Host i) s (next_first s x (entry.Host i) ok) (λ k. refl) in quiet_stand n q [] s _ (record { places = u.places; switch = u.switch; high = u.high; low = u.low; callers = u.callers; made = le_refl _ }) st
-  keeps_word w s ok puts fresh st = quiet_stand n q [] s _ (record { places = λ k. refl; switch = λ k. refl; high = λ k. refl; low = λ k. refl; callers = refl; made = le_refl _ }) st
+  keeps_word w s ok puts fresh st = quiet_stand n q [] s _ (record { places = λ k. grind (arith, nat_tests, get-change); switch = λ k. refl; high = λ k. refl; low = λ k. refl; callers = refl; made = le_refl _ }) st
 
   pub stay_word : (w : Word) (s : Core) → Stays a w s → Stand (watch a) n q [] s → Stand (watch a) n q [] (after_word w s)
   stay_word w s ok st = keeps_word w s ok (λ x m v e g so. puts x m v (subst (λ (y : Word). Stays a y s) e ok) so) (λ k e. waiting k (subst (λ (y : Word). Stays a y s) e ok)) st
@@ -245,21 +239,13 @@ far_arrives a n h s r =
     record {
       placed = λ k. quiet_placed k s _ u (r.placed k);
       runs = λ m to. u.places m ∙ r.runs m to;
-      fresh = λ k w. still k (r.fresh k w);
-      covered = λ k m at. over k m (r.covered k m at);
+      fresh = λ k w. let e = same k in let h = r.fresh k w in grind arith;
+      covered = λ k m at. let e = same k in let g = same m in let h = r.covered k m at in grind arith;
       entered = λ m none to. let e = r.entered m none to in (e.0, u.places e.0 ∙ e.1);
     }
   where
     same : (k : ℕ) → place_of k (on_thread n (λ t. record t { how_far = h }) s) ≡ place_of k s
     same k = read_same n (λ t. record t { how_far = h }) (λ t. refl) k s
-
-    over : (k m : ℕ) → (place_of k s ≡ Some (place.Under m)) ⊎ (place_of m s ≡ None) → (place_of k (on_thread n (λ t. record t { how_far = h }) s) ≡ Some (place.Under m)) ⊎ (place_of m (on_thread n (λ t. record t { how_far = h }) s) ≡ None)
-    over k m (inl e) = inl (same k ∙ e)
-    over k m (inr e) = inr (same m ∙ e)
-
-    still : (k : ℕ) → (is_fresh (place_of k s) ≡ true) ⊎ Begun a k s → (is_fresh (place_of k (on_thread n (λ t. record t { how_far = h }) s)) ≡ true) ⊎ Begun a k (on_thread n (λ t. record t { how_far = h }) s)
-    still k (inl e) = inl (ap is_fresh (same k) ∙ e)
-    still k (inr e) = inr e
 
 -- ---- The thread itself comes to a place
 
