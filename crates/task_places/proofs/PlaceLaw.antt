@@ -290,14 +290,10 @@ module _ {a : Scene} {b : Core} (n : ℕ) (p : Place) (f : Follows a b n (Some p
   comes r s t adds st runs fresh = record {
     placed = adds_all n (Some p) r s t adds st;
     runs = λ m to. let e = runs m to in ap (λ (j : ℕ). place_of j t) e.0 ∙ (adds.own ∙ ap (λ (x : Place). Some x) e.1);
-    fresh = λ k h. by_number k n ((is_fresh (place_of k t) ≡ true) ⊎ Begun a k t) (λ e. subst (λ (j : ℕ). (is_fresh (place_of j t) ≡ true) ⊎ Begun a j t) (sym e) (own (fresh (ap (waits a) (sym e) ∙ h)))) (λ e. inl (ap is_fresh (adds.other k e) ∙ fresh_still a st k h));
+    fresh = λ k h. by_number k n ((is_fresh (place_of k t) ≡ true) ⊎ Begun a k t) (λ e. subst (λ (j : ℕ). (is_fresh (place_of j t) ≡ true) ⊎ Begun a j t) (sym e) (let g = fresh (ap (waits a) (sym e) ∙ h) in let y = adds.own in grind arith)) (λ e. inl (ap is_fresh (adds.other k e) ∙ fresh_still a st k h));
     covered = λ k m at. inl (by_number k n (place_of k t ≡ Some (place.Under m)) (λ e. not_under k m e at) (λ e. adds.other k e ∙ covered_still a st k m at));
     entered = λ m none to. no_way (ap (λ (o : Option Place). is_some o) (sym none ∙ (ap (λ (j : ℕ). place_of j a.base) (runs m to).0 ∙ home)));
   }
-    where
-      own : (is_fresh (Some r) ≡ true) ⊎ Begun a n t → (is_fresh (place_of n t) ≡ true) ⊎ Begun a n t
-      own (inl e) = inl (ap is_fresh adds.own ∙ e)
-      own (inr e) = inr e
 
   -- a running thread waits for no start
   begun : (s : Core) {A : Type 0} → a.turn ≡ turn.Run n → waits a n ≡ true → A
@@ -319,10 +315,7 @@ module _ {a : Scene} {b : Core} (n : ℕ) (p : Place) (f : Follows a b n (Some p
       go : MayMove a n r s → Arrives a (set_place n r s)
       go (Runs e to starts at) =
           comes r s (set_place n r s) (adds (ap is_free at)) st (λ m next. (one_runner m n (sym next ∙ to), at))
-          (λ h. inr (inl (ap (λ (o : Option Place). is_some o) home, λ implicit. let x = fresh_ready p f.busy (ap is_fresh (sym home) ∙ h) in still (starts implicit (x.0, home ∙ ap (λ (y : Place). Some y) x.1)))))
-        where
-          still : is_begun (task_of n a.base) s ≡ true → is_begun (task_of n a.base) (set_place n r s) ≡ true
-          still h = h
+          (λ h. inr (inl (ap (λ (o : Option Place). is_some o) home, λ implicit. let x = fresh_ready p f.busy (ap is_fresh (sym home) ∙ h) in (starts implicit (x.0, home ∙ ap (λ (y : Place). Some y) x.1)))))
       go (Holds w l was at) = comes r s (set_place n r s) (adds (ap is_free at)) st (λ m next. not_main m (sym l.1 ∙ next)) (λ h. inl (ap (λ (y : Place). is_fresh (Some y)) at ∙ (ap is_fresh (sym was.1) ∙ h)))
       go (WaitsAgain x l was at) = comes r s (set_place n r s) (adds (ap is_free at)) st (λ m next. not_main m (sym l.1 ∙ next)) (λ h. no_way (ap is_fresh (sym was.1) ∙ h))
       go (AwaitsEvent x l d h at) = left r s (set_place n r s) l (adds (ap is_free at)) st
@@ -345,7 +338,7 @@ module _ {a : Scene} {b : Core} (n : ℕ) (p : Place) (f : Follows a b n (Some p
       record {
         placed = adds_all n (Some p) (place.Under m) u t (set_place_adds n (place.Under m) p u refl at) (stand_of {P = nobody} n (Some p) u at r.0 (λ k h. no_way h) all);
         runs = λ k to. ap (λ (j : ℕ). place_of j t) (one_runner k m (sym to ∙ ok.1.0)) ∙ here;
-        fresh = λ k h. by_number k m ((is_fresh (place_of k t) ≡ true) ⊎ Begun a k t) (λ e. inr (subst (λ (j : ℕ). Begun a j t) (sym e) (started ok.1.1.1.1.1.1)))
+        fresh = λ k h. by_number k m ((is_fresh (place_of k t) ≡ true) ⊎ Begun a k t) (λ e. inr (subst (λ (j : ℕ). Begun a j t) (sym e) (inr ok.1.1.1.1.1.1)))
             (λ e. by_number k n ((is_fresh (place_of k t) ≡ true) ⊎ Begun a k t) (λ g. begun s ok.1.1.1.1.1.0 (ap (waits a) (sym g) ∙ h)) (λ g. inl (ap is_fresh (place_kept k n (place.Under m) u g ∙ place_kept k m place.Running s e) ∙ fresh_still a st k h)));
         covered = λ k j under. inl (by_number k m (place_of k t ≡ Some (place.Under j)) (λ e. no_way (ap is_under_place (sym new ∙ (ap (λ (i : ℕ). place_of i s) (sym e) ∙ covered_still a st k j under))))
             (λ e. by_number k n (place_of k t ≡ Some (place.Under j)) (λ g. not_under k j g under) (λ g. place_kept k n (place.Under m) u g ∙ (place_kept k m place.Running s e ∙ covered_still a st k j under))));
@@ -354,9 +347,6 @@ module _ {a : Scene} {b : Core} (n : ℕ) (p : Place) (f : Follows a b n (Some p
     where
       apart : (m == n) ≡ false
       apart = by_number m n ((m == n) ≡ false) (λ e. no_way (sym (ap is_busy (sym (ap (λ (j : ℕ). place_of j s) e ∙ st.here) ∙ ok.1.1.1.0)) ∙ f.busy)) (λ e. e)
-
-      started : is_begun m s ≡ true → Begun a m (set_place n (place.Under m) (set_place m place.Running s))
-      started h = inr h
 
   foot_given : (g : ℕ) (s : Core) → IsFoot g s → Stand (watch a) n (Some p) [] s → Given g s
   foot_given g s (inl there) st = given_there n (Some p) [] s st g there
@@ -444,7 +434,8 @@ module _ {a : Scene} {b : Core} {n : ℕ} {q : Option Place} (f : Frame a b n q)
     own = removed_loose n j s h.own;
     idle = λ k i. by_number k j (is_idle (place_of k (remove_thread j s)) ≡ true) (λ e. ap (λ (m : ℕ). is_idle (place_of m (remove_thread j s))) e ∙ ap is_idle (gone_place j s)) (λ e. ap is_idle (other_place k j s e) ∙ h.idle k i);
     fresh = λ k w. removed_fresh k j s (h.fresh k w);
-    covered = λ k m at. over k m at (h.covered k m at);
+    covered = λ k m at. by_number k j ((place_of k (remove_thread j s) ≡ Some (place.Under m)) ⊎ (place_of m (remove_thread j s) ≡ None)) (λ g. inr (above m (ap (λ (i : ℕ). place_of i a.base) (sym g) ∙ at) ok))
+        (λ g. let o = h.covered k m at in let e = other_place k j s g in let u = still_gone m in grind arith);
   }
     where
       still_gone : (m : ℕ) → place_of m s ≡ None → place_of m (remove_thread j s) ≡ None
@@ -456,10 +447,6 @@ module _ {a : Scene} {b : Core} {n : ℕ} {q : Option Place} (f : Frame a b n q)
       above m at (EndsOver i is to under) = no_cover j m is at
       above m at (Falls over (inl i)) = no_cover j m i at
       above m at (Falls over (inr u)) = still_gone m (none_there_at (get s.threads m) (subst (λ (i : ℕ). is_none (get s.threads i) ≡ true) (sym (under_number m (sym at ∙ u.1.0))) u.1.1))
-
-      over : (k m : ℕ) → place_of k a.base ≡ Some (place.Under m) → (place_of k s ≡ Some (place.Under m)) ⊎ (place_of m s ≡ None) → (place_of k (remove_thread j s) ≡ Some (place.Under m)) ⊎ (place_of m (remove_thread j s) ≡ None)
-      over k m at (inr e) = inr (still_gone m e)
-      over k m at (inl e) = by_number k j ((place_of k (remove_thread j s) ≡ Some (place.Under m)) ⊎ (place_of m (remove_thread j s) ≡ None)) (λ g. inr (above m (ap (λ (i : ℕ). place_of i a.base) (sym g) ∙ at) ok)) (λ g. inl (other_place k j s g ∙ e))
 
       runner : IsRunner a j → Loose j s
       runner i = subst (λ (m : ℕ). Loose m s) (sym (f.one j i)) h.own
