@@ -152,11 +152,9 @@ module _ {a : Scene} {b : Core} {n : ℕ} {q : Option Place} (f : Follows a b n 
   keeps_placing {P = P} (Put x m w) s (inl ok) puts st = let p = place_at is_parked (place_of m s) (parked_at m w s ok).0 in put_stand n q f.busy x m w p.0 s p.1.0 p.1.1 (λ h. puts x m w refl h (st.kept m h).1) st
   keeps_placing (Promote m) s (inl ok) puts st =
       let one = listed m s ok.1 in
-      let apart : (m == n) ≡ false = by_number m n ((m == n) ≡ false) (λ e. absurd (none_listed m e one)) (λ e. e) in
+      let apart : (m == n) ≡ false = by_number m n ((m == n) ≡ false) (λ e. let l = st.loose m (subst (λ (j : ℕ). times j (n ∷ []) ≡ 1) (sym e) (one_time n)) in
+          let x = l.switch in let y = l.high in let z = l.low in absurd (omega (arith, x, y, z, one))) (λ e. e) in
       promotes m s apart ok.0 (entry_ready m s (st.placed m (no_time m n apart)) one) st
-    where
-      none_listed : (m : ℕ) → m ≡ n → 1 ≤ switch_entries m s.queues.switch + entries m s.queues.high + entries m s.queues.low → ⊥
-      none_listed m e h = let l = st.loose m (subst (λ (j : ℕ). times j (n ∷ []) ≡ 1) (sym e) (one_time n)) in let x = l.switch in let y = l.high in let z = l.low in omega (arith, x, y, z, h)
   keeps_placing (Promote m) s (inr ok) puts st =
       promotes m s (not_here m s st (λ same at. subst T (sym (f.runs ok.1.0 ok.1.1.0).0 ∙ (ap is_idle (sym at) ∙ ap is_idle ok.1.1.1.1.1)) tt)) ok.0 ok.1.1.1 st
   keeps_placing (Stop g) s (inl ok) puts st = stopped_stand n q g s st
@@ -198,13 +196,10 @@ module _ {a : Scene} {b : Core} {n : ℕ} {q : Option Place} (f : Follows a b n 
       only k = if k == m then Stuck sub else Nothing
 
       before : Stand only n q [] s
-      before = watching n q [] s (λ k h. (refl, by_number k m (is_so (only k) (place_of k s) ≡ true) (λ e. so_here k e) (λ e. ap (λ b. is_so (if b then Stuck sub else Nothing) (place_of k s)) e))) st
-        where
-          so_here : (k : ℕ) → k ≡ m → is_so (only k) (place_of k s) ≡ true
-          so_here k e = ap (λ (j : ℕ). is_so (only j) (place_of j s)) e ∙ (ap (λ b. is_so (if b then Stuck sub else Nothing) (place_of m s)) (eq_refl m) ∙ (ap (is_so (Stuck sub)) at ∙ blocked_itself sub))
+      before = watching n q [] s (λ k h. (refl, by_number k m (is_so (only k) (place_of k s) ≡ true) (λ e. let i = blocked_itself sub in grind (arith, nat_tests)) (λ e. grind arith))) st
 
       watched : (k : ℕ) → is_watched (only k) ≡ true → k ≡ m
-      watched k h = by_number k m (k ≡ m) (λ e. e) (λ e. no_way (sym (ap (λ b. is_watched (if b then Stuck sub else Nothing)) e) ∙ h))
+      watched k h = grind (arith, nat_tests)
 
       by_put : (b : Bool) → puts_of m w ≡ b → (place_of m (after_word w s) ≡ Some (place.Blocked sub)) ⊎ (is_done_host sub s ≡ true)
       by_put true e = inr (put_done a m sub w s ok at e)
@@ -430,7 +425,7 @@ module _ {a : Scene} {b : Core} {n : ℕ} {q : Option Place} (f : Frame a b n q)
   fall_word : (w : Word) (s : Core) → IsFall a w s → Falling a n s → Falling a n (after_word w s)
   unfolding set_trapped
   fall_word (RemoveThread j) s ok h = record {
-    others = λ k e. by_number k j (HasPlace k (remove_thread j s)) (λ g. subst (λ (i : ℕ). HasPlace i (remove_thread j s)) (sym g) (removed_gone j s loose)) (λ g. removed_placed k j s g (h.others k e));
+    others = λ k e. by_number k j (HasPlace k (remove_thread j s)) (λ g. subst (λ (i : ℕ). HasPlace i (remove_thread j s)) (sym g) (removed_gone j s (loose ok))) (λ g. removed_placed k j s g (h.others k e));
     own = removed_loose n j s h.own;
     idle = λ k i. by_number k j (is_idle (place_of k (remove_thread j s)) ≡ true) (λ e. ap (λ (m : ℕ). is_idle (place_of m (remove_thread j s))) e ∙ ap is_idle (gone_place j s)) (λ e. ap is_idle (other_place k j s e) ∙ h.idle k i);
     fresh = λ k w. removed_fresh k j s (h.fresh k w);
@@ -448,17 +443,11 @@ module _ {a : Scene} {b : Core} {n : ℕ} {q : Option Place} (f : Frame a b n q)
       above m at (Falls over (inl i)) = no_cover j m i at
       above m at (Falls over (inr u)) = still_gone m (none_there_at (get s.threads m) (subst (λ (i : ℕ). is_none (get s.threads i) ≡ true) (sym (under_number m (sym at ∙ u.1.0))) u.1.1))
 
-      runner : IsRunner a j → Loose j s
-      runner i = subst (λ (m : ℕ). Loose m s) (sym (f.one j i)) h.own
-
-      loose : Loose j s
-      loose = go ok
-        where
-          go : MayGo a j s → Loose j s
-          go (Departs l) = runner l.0
-          go (EndsOver m i to under) = runner i
-          go (Falls over (inl i)) = runner i
-          go (Falls over (inr u)) = by_number j n (Loose j s) (λ e. subst (λ (m : ℕ). Loose m s) (sym e) h.own) (λ e. idle_loose j (place_of j s) s refl (h.idle j (ap is_idle u.1.0)) (h.others j e))
+      loose : MayGo a j s → Loose j s
+      loose (Departs l) = subst (λ (m : ℕ). Loose m s) (sym (f.one j l.0)) h.own
+      loose (EndsOver m i to under) = subst (λ (m : ℕ). Loose m s) (sym (f.one j i)) h.own
+      loose (Falls over (inl i)) = subst (λ (m : ℕ). Loose m s) (sym (f.one j i)) h.own
+      loose (Falls over (inr u)) = by_number j n (Loose j s) (λ e. subst (λ (m : ℕ). Loose m s) (sym e) h.own) (λ e. idle_loose j (place_of j s) s refl (h.idle j (ap is_idle u.1.0)) (h.others j e))
   fall_word SetTrapped s ok h = record {
     others = λ k e. let p = h.others k e in record { number = p.number; behind = p.behind; switch = p.switch; high = p.high; low = p.low; callers = p.callers };
     own = record { number = h.own.number; switch = h.own.switch; high = h.own.high; low = h.own.low; callers = h.own.callers };
