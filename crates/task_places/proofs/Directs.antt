@@ -65,10 +65,7 @@ module _ (a : Scene) (s t : Core) (steady : Steady s t) (before : Numbered s) (a
           first = same.explicit ∙ (sym (ap (λ (o : Option Thread). option_map_or (λ (x : Thread). x.explicit) o false) at) ∙ implicit)
 
           was_direct : (o p : Option Call) → LaterBy LaterCall o p → is_direct (goal_in p) ≡ true → is_direct (goal_in o) ≡ true
-          was_direct None None l h = h
-          was_direct None (Some d) l h = absurd l
-          was_direct (Some c) None l h = no_way h
-          was_direct (Some c) (Some d) l h = ap (λ y. is_direct y) l.goal ∙ h
+          was_direct o p l h = grind arith
 
           e : (n : ℕ) × (place_of n s ≡ Some (place.Under m))
           e = top m (ap (λ (o : Option Thread). is_some (option_map (λ (x : Thread). x.place) o)) was) (ap (λ (o : Option Thread). option_map_or (λ (x : Thread). x.explicit) o false) was ∙ first)
@@ -84,11 +81,7 @@ module _ (a : Scene) (s t : Core) (steady : Steady s t) (before : Numbered s) (a
       entered u at none (inl was) = by_call (get s.calls m) refl
         where
           gone : get s.threads m ≡ None
-          gone = go (get s.threads m) none
-            where
-              go : (o : Option Thread) → option_map (λ (x : Thread). x.place) o ≡ None → o ≡ None
-              go None h = refl
-              go (Some x) h = no_way (ap (λ (o : Option Place). is_some o) (sym h))
+          gone = grind arith
 
           by_call : (o : Option Call) → get s.calls m ≡ o → (n : ℕ) × (place_of n t ≡ Some (place.Under m))
           by_call None c = no_way (sym (ap (λ y. is_direct y) (calls m) ∙ ap (λ (o : Option Call). is_direct (goal_in o)) c) ∙ was)

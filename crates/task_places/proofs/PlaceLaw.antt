@@ -253,9 +253,8 @@ abbrev pub is_run : Turn → Bool
 is_run (turn.Run n) = true
 is_run _ = false
 
-placeless : (o : Option Thread) → is_none o ≡ true → is_some (option_map (λ (t : Thread). t.place) o) ≡ false
-placeless None h = refl
-placeless (Some t) h = no_way h
+pub placeless : (o : Option Thread) → is_none o ≡ true → is_some (option_map (λ (t : Thread). t.place) o) ≡ false
+placeless o h = grind arith
 
 pub yield_runner : {a : Scene} (k : ℕ) (w : Why) → MayYield a k w → IsRunner a k
 yield_runner k w ok = grind arith
@@ -407,15 +406,10 @@ land_runner a (Promote m) s ok = absurd ok
 land_runner a (Stop g) s ok = absurd ok
 
 none_there_at : (o : Option Thread) → is_none o ≡ true → option_map (λ (t : Thread). t.place) o ≡ None
-none_there_at None h = refl
-none_there_at (Some t) h = no_way h
+none_there_at o h = grind arith
 
 under_number : {j : ℕ} (m : ℕ) → Some (place.Under m) ≡ Some (place.Under j) → m ≡ j
-under_number m e = ap (λ (o : Option Place). number_in o) e
-  where
-    number_in : Option Place → ℕ
-    number_in (Some (place.Under c)) = c
-    number_in _ = 0
+under_number m e = grind arith
 
 module _ {a : Scene} {b : Core} {n : ℕ} {q : Option Place} (f : Frame a b n q) where
   -- the runner is under none
