@@ -10,7 +10,7 @@ use Rattle.task_rules.proofs.MoveLemmas.{is_busy}
 use Rattle.task_rules.proofs.WalkMoves.{blocked_place}
 use Rattle.std.proofs.Common.{ap, arith, inl, inr, refl, subst, sym, ◌∙◌}
 use Rattle.std.specs.Option.{option_map_or}
-use Rattle.std.specs.Prelude.{Bool, None, Option, Some, [], false, is_none, is_some, option_map, true, ℕ, ◌==◌, ◌≡◌, ◌≤◌, ◌⊎◌}
+use Rattle.std.specs.Prelude.{Bool, None, Option, Some, [], false, is_none, is_some, true, ℕ, ◌==◌, ◌≡◌, ◌≤◌, ◌⊎◌}
 use Rattle.task_laws.proofs.CallsCame.{IsBeside, IsFirst, IsGone, IsSame, ThreadAfter, thread_came}
 use Rattle.task_laws.specs.Order.{HostsAwaited, WorksQueued, InPlace}
 use Rattle.task_machine.specs.Core.{Core, State}

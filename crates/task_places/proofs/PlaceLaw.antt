@@ -9,11 +9,11 @@ use Rattle.task_rules.specs.Scripts.{registers_for}
 use Rattle.task_machine.specs.declared.records.Call.{Call}
 use Rattle.std.proofs.Common.{T, ap, arith, inl, inr, le_refl, refl, subst, sym, ◌∙◌}
 use Rattle.std.specs.Option.{option_map_or}
-use Rattle.std.specs.Prelude.{Bool, None, Option, Some, [], false, is_none, is_some, slice_set, true, unwrap_or, ℕ, ◌+◌, ◌==◌, ◌||◌, ◌∷◌, ◌≡◌, ◌≤◌, ◌⊎◌, option_map, if◌then◌else◌}
+use Rattle.std.specs.Prelude.{Bool, None, Option, Some, [], false, is_none, is_some, true, unwrap_or, ℕ, ◌+◌, ◌==◌, ◌||◌, ◌∷◌, ◌≡◌, ◌≤◌, ◌⊎◌, option_map, if◌then◌else◌}
 use Rattle.task_machine.specs.Core.{Core}
 use Rattle.task_machine.specs.Maps.{get}
 use Rattle.task_machine.specs.Moves.{has_entry, promoted, put_high, put_low, behind_one}
-use Rattle.task_machine.specs.Read.{is_explicit, new_thread_handle, place_of, task_of, was_started, is_under, is_blocked_on}
+use Rattle.task_machine.specs.Read.{is_explicit, place_of, task_of, was_started, is_under, is_blocked_on}
 use Rattle.task_machine.specs.Write.{add_call, add_group, add_set, add_work, count_work, free_handle, free_thread_handle, give_handle, give_result, give_thread_handle, on_call, on_instance, on_thread, on_work, push_high, remove_call, remove_group, remove_set, remove_thread, remove_work, set_backpressure, set_cancel_delivered, set_cancelled, set_course, set_do_not_enter, set_do_not_suspend, set_end, set_event, set_exited, set_how_far, set_join, set_own_event, set_phase, set_place, set_position, set_register, set_result, set_saved_callee, set_saved_own, set_script, set_stage, set_started, set_starting_published, set_subtask_handle, set_thread_handle, set_trapped, set_uninteresting, set_word, take_result}
 use Rattle.task_machine.specs.declared.records.Place.{Place}
 use Rattle.task_machine.specs.declared.records.Thread.{Thread}
@@ -34,7 +34,7 @@ use Rattle.task_rules.specs.Calls.{call_made, new_call, next_thread, with_handle
 use Rattle.task_rules.specs.Chains.{LastWords, Settles, Stay, Trip, Remains, Lands, LandsAt, Quits, GoesBack, Collapses}
 use Rattle.task_rules.specs.Places.{HasPlace, entries, is_at_high, is_at_low, is_at_switch, is_for_start, is_fresh, is_there, says, switch_entries, times}
 use Rattle.task_rules.specs.Scenes.{Scene}
-use Rattle.task_rules.specs.Words.{FinishWork, MakeCall, MakeThread, NameThread, Places, Placing, Promote, Put, QueueWork, RemoveThread, SetHowFar, SetPosition, SetRegister, SetSavedCallee, SetSavedOwn, SetScript, Stop, TakeHost, TakePush, Withdraw, Word, after_placing, after_word, Pop, GoBehind, Move, Enter, SetUninteresting, RemoveCall, RemoveGroup, SetTrapped}
+use Rattle.task_rules.specs.Words.{FinishWork, MakeCall, MakeThread, Places, Placing, Promote, Put, QueueWork, RemoveThread, Stop, TakeHost, TakePush, Withdraw, Word, after_placing, after_word, Pop, GoBehind, Move, Enter, SetUninteresting, RemoveCall, RemoveGroup, SetTrapped}
 use Rattle.task_rules.specs.Works.{poll_pends}
 use Rattle.task_machine.specs.declared.records.HowFar.TheVariants as how_far
 use Rattle.task_machine.specs.declared.records.Script.TheVariants as script
@@ -153,7 +153,7 @@ module _ {a : Scene} {b : Core} {n : ℕ} {q : Option Place} (f : Follows a b n 
   keeps_placing (Promote m) s (inl ok) puts st =
       let one = listed m s ok.1 in
       let apart : (m == n) ≡ false = by_number m n ((m == n) ≡ false) (λ e. let l = st.loose m (subst (λ (j : ℕ). times j (n ∷ []) ≡ 1) (sym e) (one_time n)) in
-          let x = l.switch in let y = l.high in let z = l.low in absurd (omega (arith, x, y, z, one))) (λ e. e) in
+      let x = l.switch in let y = l.high in let z = l.low in absurd (omega (arith, x, y, z, one))) (λ e. e) in
       promotes m s apart ok.0 (entry_ready m s (st.placed m (no_time m n apart)) one) st
   keeps_placing (Promote m) s (inr ok) puts st =
       promotes m s (not_here m s st (λ same at. subst T (sym (f.runs ok.1.0 ok.1.1.0).0 ∙ (ap is_idle (sym at) ∙ ap is_idle ok.1.1.1.1.1)) tt)) ok.0 ok.1.1.1 st

@@ -5,10 +5,9 @@ use Rattle.task_machine.specs.declared.records.Thread.{Thread}
 use Rattle.task_machine.specs.Maps.{get}
 use Rattle.task_rules.specs.Words.{Pop}
 use Rattle.task_rules.proofs.PlacingLemmas.{SameWorks, placing_works}
-use Rattle.task_machine.specs.declared.words.Mark.TheVariants as mark
 use Rattle.task_machine.specs.Write.{set_switch, set_high, set_low}
 use Rattle.std.proofs.Common.{T, ap, arith, refl, subst, sym, ◌∙◌, inr}
-use Rattle.std.specs.Prelude.{Bool, None, Option, Some, [], false, is_some, true, unwrap_or, ℕ, ◌+◌, ◌==◌, ◌≡◌, ◌≤◌, option_map}
+use Rattle.std.specs.Prelude.{Bool, None, Option, Some, [], false, is_some, true, unwrap_or, ℕ, ◌+◌, ◌≡◌, ◌≤◌, option_map}
 use Rattle.task_laws.specs.Order.{InPlace}
 use Rattle.task_machine.specs.Core.{Core, State}
 use Rattle.task_machine.specs.Read.{next_entry, place_of, was_started}
@@ -27,12 +26,11 @@ use Rattle.task_rules.proofs.MoveLemmas.{All, is_busy, is_idle, no_time, stand_o
 use Rattle.task_rules.proofs.StandLemmas.{Loose, Stand, by_number, zero_one, is_so, left_placed}
 use Rattle.task_rules.specs.Allowed.{HasSubtask, IsRunner}
 use Rattle.task_rules.specs.Chains.{LastWords, Trip, Walked, is_take, start_of}
-use Rattle.task_rules.specs.Places.{HasPlace, is_fresh, one_if, says, is_behind_of}
+use Rattle.task_rules.specs.Places.{HasPlace, is_fresh, says, is_behind_of}
 use Rattle.task_rules.specs.Scenes.{Scene, base_at, base_without, runner_at, scene_of, thread_of_entry}
 use Rattle.task_rules.specs.Stalled.{Setting}
 use Rattle.task_rules.specs.Takes.{popped}
-use Rattle.task_rules.specs.Turns.{nothing_stands, settled_futures, settled_take, settled_turn}
-use Rattle.task_rules.specs.Works.{next_polled}
+use Rattle.task_rules.specs.Turns.{settled_take, settled_turn}
 
 -- a start that the running thread may withdraw is awaited, or its thread is gone
 abbrev pub Withdrawable : Scene → Type 0
@@ -133,7 +131,6 @@ taken_frame a x n s is idle take base first may all = (
     r : ReadyAt (place_of n s)
     r = entry_ready n s (all n) (popped_cleared x n s first (all n)).1
 
-
 -- ---- A step
 
 -- what holds of each trip with such a frame holds of the step
@@ -175,15 +172,7 @@ take_still : (a b : Bool) → is_run (settled_take a b) ≡ false
 take_still a b = grind arith
 
 settled_run : (s : Core) (u : Turn) (m : ℕ) → settled_turn s u ≡ turn.Run m → u ≡ turn.Run m
-settled_run s (turn.Run n) m e = e
-settled_run s turn.Main m e = e
-settled_run s turn.Over m e = e
-settled_run s (turn.Take ended) m e = no_way (sym (take_still ended (nothing_stands s)) ∙ ap is_run e)
-settled_run s (turn.Futures n) m e = no_way (sym (futures (next_polled n s)) ∙ ap is_run e)
-  where
-    futures : (o : Option ℕ) → is_run (settled_futures n s o) ≡ false
-    futures (Some i) = refl
-    futures None = take_still false (nothing_stands s)
+settled_run s u m e = grind arith
 
 pub in_place : (x : Setting) (s : State) (l : Label) (t : State) (w : Walked x s l t) → Arrives (scene_of x s l w.next) t.core → InPlace t
 in_place x s l t w r = record { placed = r.placed; runs = λ m e. r.runs m (settled_run t.core w.next m (sym w.turn ∙ e)) }
