@@ -1,22 +1,15 @@
 -- What a step owes of the end of a host work.
-use Rattle.task_laws.proofs.Machine.{base_at, Core, Course, course_of, course_value, end_for, event_of, get, handed_by, has_end, how_far_of, is_live, is_stage_ended, is_stage_live, Label, next_work, Records, Scene, scene_of, Setting, Stage, State, Status, Subtask, Turn, undelivered_end, Work, written_by}
+use Rattle.task_rules.proofs.Machine.{Answers, base_at, changes_end, Core, Course, course_code, course_of, course_value, covers_end, end_code, end_for, EndWords, event_of, get, handed, handed_by, HandsAtOnce, HandsOut, has_end, host_status, how_far_of, is_async_work, is_end_of, is_live, is_other, is_stage_ended, is_stage_live, is_written, IsPolled, IsReadyAtOnce, IsRunner, Label, Moment, next_work, Records, Scene, scene_of, Setting, Stage, State, Status, status_code, Subtask, TakesEvent, TakesResult, Turn, undelivered_end, Work, WorkCaller, Writes, WritesAtOnce, WritesCall, WritesNever, WritesPolled, WritesToo, written, written_by}
 use Rattle.task_laws.specs.Ends.{is_sync_work}
 use Rattle.task_laws.proofs.SaidEnds.{hands_at, said_at, written_at}
-use Rattle.task_machine.specs.declared.records.WorkCaller.{WorkCaller}
 use Rattle.task_laws.proofs.CallsSteps.{of_base}
 use Rattle.task_laws.proofs.PolledWorks.{polled_is_live}
-use Rattle.std.proofs.Common.{ap, inl, inr, le_refl, le_trans, refl, subst, sym, ◌∙◌, ap₂, arith}
+use Rattle.std.proofs.Common.{ap, inl, inr, le_refl, le_trans, refl, subst, sym, ◌∙◌, ap₂, arith, ⊎_elim}
 use Rattle.std.specs.Option.{option_map_or}
-use Rattle.std.specs.Prelude.{Bool, None, Option, Some, false, is_some, not, option_and_then, option_map, true, unwrap_or, ℕ, ◌&&◌, ◌+◌, ◌==◌, ◌||◌, ◌≡◌, ◌≤◌, ◌⊎◌}
+use Rattle.std.specs.Prelude.{Bool, None, Option, Some, false, is_some, not, option_map, true, unwrap_or, ℕ, ◌&&◌, ◌+◌, ◌==◌, ◌||◌, ◌≡◌, ◌≤◌, ◌⊎◌}
 use Rattle.task_laws.proofs.Basics.{no_way, same_number, too_high, true_is_not_false}
 use Rattle.task_laws.proofs.OnceLemmas.{Due, EndStep, Out, Over, end_there}
 use Rattle.task_laws.proofs.Works.{Doing, WorkHolds, WorksGo, WorksHold, WorkWas, awaits, doing, doing_of, is_due, is_late, High, WasDue, clash, due_parts, stage_ended, stage_live, Before}
-use Rattle.task_machine.specs.Statuses.{status_code}
-use Rattle.task_rules.specs.Allowed.{IsRunner, IsPolled, is_async_work}
-use Rattle.task_rules.specs.Chains.{EndWords, Answers, HandsAtOnce, HandsOut, IsReadyAtOnce, TakesEvent, TakesResult, Writes, WritesAtOnce, WritesCall, WritesNever, WritesPolled, WritesToo}
-use Rattle.task_rules.specs.History.{Moment}
-use Rattle.task_rules.specs.Once.{course_code, end_code, changes_end, covers_end, handed, is_end_of, is_other, is_written, written}
-use Rattle.task_rules.specs.Takes.{host_status}
 use Rattle.task_machine.specs.declared.records.HowFar.TheVariants as how_far
 use Rattle.task_machine.specs.declared.records.Subtask.TheVariants as subtask
 use Rattle.task_machine.specs.declared.words.Status.TheVariants as status
@@ -37,15 +30,7 @@ gone_ended : (i : ℕ) (s : Core) → doing_of i s ≡ None → has_end (course_
 gone_ended i s is = grind arith
 
 event_there : (i : ℕ) (s : Core) (e : Status) → undelivered_end (event_of (subtask.Host i) s) ≡ Some e → (v : Doing) × ((doing_of i s ≡ Some v) × (undelivered_end v.event ≡ Some e))
-event_there i s e h = go (doing_or i s)
-  where
-    go : (doing_of i s ≡ None) ⊎ ((v : Doing) × (doing_of i s ≡ Some v)) → (v : Doing) × ((doing_of i s ≡ Some v) × (undelivered_end v.event ≡ Some e))
-    go (inl none) = none_of (get s.works i) none h
-      where
-        none_of : {A : Type 0} (o : Option Work) → option_map doing o ≡ None → undelivered_end (option_and_then (λ (w : Work). w.event) o) ≡ Some e → A
-        none_of None n g = no_way (ap (λ (o : Option Status). is_some o) g)
-        none_of (Some w) n g = no_way (ap (λ (o : Option Doing). is_some o) (sym n))
-    go (inr (v, at)) = (v, (at, sym (ap undelivered_end (event_is i s v at)) ∙ h))
+event_there i s e h = ⊎_elim (λ none. absurd (grind arith)) (λ v. (v.0, (v.1, grind arith))) (doing_or i s)
 
 -- ---- Codes
 
@@ -86,6 +71,10 @@ no_withdrawal o h = grind arith
 abbrev pub Answered : Scene → Type 0
 Answered a = (n i : ℕ) → IsRunner a n → how_far_of n a.base ≡ how_far.Calls (subtask.Host i) → (v : Doing) × ((doing_of i a.base ≡ Some v) × ((is_sync_work v.caller ≡ true) × (is_late v.stage ≡ true)))
 
+still_ended : {a : Scene} (i : ℕ) (s t : Core) (v : Doing) (w : WorkWas a i v) → doing_of i a.base ≡ doing_of i s → doing_of i t ≡ Some v →
+    has_end (course_of i s) ≡ true → has_end (course_of i t) ≡ true
+still_ended {a = a} i s t v w same at over = let there = w.there in let stays = w.stays in grind arith
+
 module _ (S : Type 0) (x : Setting) (s : State) (l : Label) (t : State) (next : Turn) (b : Before (scene_of x s l next) s.core) (h : WorksHold S s.core) (q : WorksGo S (scene_of x s l next) t.core) where
   abbrev a : Scene
   a = scene_of x s l next
@@ -107,18 +96,12 @@ module _ (S : Type 0) (x : Setting) (s : State) (l : Label) (t : State) (next : 
     where
       go : (doing_of i t.core ≡ None) ⊎ ((v : Doing) × (doing_of i t.core ≡ Some v)) → has_end (course_of i t.core) ≡ true
       go (inl none) = gone_ended i t.core none
-      go (inr (v, at)) =
-          let w = was i v over.0 at in
-          let ends : has_end w.before.course ≡ true = ap (λ c. has_end c) (sym (course_is i s.core w.before (sym (b.same i) ∙ w.there))) ∙ over.1 in
-          ap (λ c. has_end c) (course_is i t.core v at ∙ w.stays ends) ∙ ends
+      go (inr (v, at)) = still_ended i s.core t.core v (was i v over.0 at) (b.same i) at over.1
 
   -- what isn't there was made, or is no number of a work yet
   none_there : (i : ℕ) → i ≡ next_work a.base → doing_of i s.core ≡ None
-  none_there i is = go (doing_or i s.core)
-    where
-      go : (doing_of i s.core ≡ None) ⊎ ((v : Doing) × (doing_of i s.core ≡ Some v)) → doing_of i s.core ≡ None
-      go (inl none) = none
-      go (inr (v, at)) = absurd (too_high (subst (λ (n : ℕ). i ≡ n + 1) b.made is) (h.works i v at).number)
+  none_there i is = ⊎_elim (λ none. none)
+      (λ v. absurd (too_high (subst (λ (n : ℕ). i ≡ n + 1) b.made is) (h.works i v.0 v.1).number)) (doing_or i s.core)
 
   ready_none : (i : ℕ) → IsReadyAtOnce a t.core i → doing_of i t.core ≡ None
   ready_none i ready = ap (λ (w : Records Work). option_map doing (get w i)) ready.1.1 ∙ (b.same i ∙ none_there i ready.0)

@@ -1,6 +1,5 @@
 -- What host works come to along the words of a step: their ends, their entries, and what they have to hand out.
-use Rattle.task_laws.proofs.Machine.{add_call, add_group, add_set, add_thread, add_work, after_placing, after_word, call_made, change, Core, count_work, Course, course_of, course_value, EndWork, Entry, FinishWork, free_handle, free_thread_handle, fresh, get, get-empty, give_handle, give_result, give_thread_handle, has_end, is_aborted, is_stage_ended, is_stage_live, Label, Mark, NameWork, new_work, next_entry, next_work, on_call, on_instance, on_thread, on_work, or_high, Pend, phase_of, Places, poll_pends, push_high, QueueWork, remove_call, remove_group, remove_set, remove_thread, remove_work, RemoveWork, Scene, scene_of, set_backpressure, set_cancel_delivered, set_cancelled, set_course, set_do_not_enter, set_do_not_suspend, set_end, set_event, set_exited, set_high, set_how_far, set_join, set_low, set_own_event, set_phase, set_position, set_register, set_result, set_saved_callee, set_saved_own, set_script, set_stage, set_started, set_starting_published, set_subtask_handle, set_switch, set_thread_handle, set_trapped, set_uninteresting, set_word, SetCancelled, SetPhase, Setting, SetWorkJoin, Stage, State, Status, take_result, TakeHost, TakePush, TakeWorkEvent, Turn, undelivered_end, UnnameWork, unqueued, with_handle, with_thread_handle, Withdraw, Word, Work, work_caller_of, work_queued}
-use Rattle.task_rules.specs.Chains.{Walked}
+use Rattle.task_rules.proofs.Machine.{add_call, add_group, add_set, add_thread, add_work, after_placing, after_word, Allowed, call_made, change, Core, count_work, Course, course_of, course_value, EndWork, Entry, FinishWork, free_handle, free_thread_handle, fresh, get, get-empty, give_handle, give_result, give_thread_handle, has_end, host_status, HostDef, is_aborted, is_async_work, is_stage_ended, is_stage_live, IsPolled, Label, Mark, MayAbort, MayFinish, NameWork, new_work, next_entry, next_work, on_call, on_instance, on_thread, on_work, one_if, or_high, Pend, Phase, phase_of, Places, poll_pends, popped, push_high, QueueWork, remove_call, remove_group, remove_set, remove_thread, remove_work, RemoveWork, rest_of, Scene, scene_of, set_backpressure, set_cancel_delivered, set_cancelled, set_course, set_do_not_enter, set_do_not_suspend, set_end, set_event, set_exited, set_high, set_how_far, set_join, set_low, set_own_event, set_phase, set_position, set_register, set_result, set_saved_callee, set_saved_own, set_script, set_stage, set_started, set_starting_published, set_subtask_handle, set_switch, set_thread_handle, set_trapped, set_uninteresting, set_word, SetCancelled, SetPhase, Setting, SetWorkJoin, Stage, State, Status, take_result, TakeHost, TakePush, TakeWorkEvent, Turn, undelivered_end, UnnameWork, unqueued, Walked, with_handle, with_thread_handle, Withdraw, Word, Work, work_caller_of, work_queued, WorkCaller}
 use Rattle.task_laws.proofs.CallsSteps.{of_base}
 use Rattle.task_laws.specs.Ends.{is_sync_work}
 use Rattle.task_laws.proofs.CountLemmas.{made_works_word}
@@ -11,21 +10,15 @@ use Rattle.task_machine.specs.declared.words.Mark.TheVariants as mark
 use Rattle.task_laws.proofs.Basics.{no_way, too_high}
 use Rattle.task_rules.proofs.ChainLemmas.{along}
 use Rattle.task_rules.proofs.PlacingLemmas.{placing_works, unqueued_works, work_entries}
-use Rattle.task_rules.specs.Places.{one_if}
 use Rattle.task_laws.proofs.EachLemmas.{after_change, after_remove, at_change, at_insert}
 use Rattle.task_laws.proofs.PolledWorks.{polled_is_live}
 use Rattle.task_machine.proofs.CommuteLemmas.{change-change_same}
-use Rattle.task_machine.specs.declared.records.WorkCaller.{WorkCaller}
-use Rattle.task_machine.specs.declared.component.HostDef.{HostDef}
-use Rattle.task_machine.specs.declared.words.Phase.{Phase}
-use Rattle.task_rules.specs.Allowed.{Allowed, IsPolled, MayAbort, MayFinish, is_async_work}
-use Rattle.task_rules.specs.Takes.{host_status, popped, rest_of}
 use Rattle.task_machine.specs.declared.words.Phase.TheVariants as phase
 use Rattle.task_machine.specs.declared.label.Label.TheVariants as label
 use Rattle.task_machine.specs.declared.label.LoopLabel.TheVariants as loop_label
 use Rattle.std.proofs.lemmas.Bool.Decides.{nat_tests}
 use Rattle.std.proofs.Common.{ap, arith, inl, inr, le_refl, le_trans, refl, sym, ◌++◌, ◌∙◌, ⊎_elim}
-use Rattle.std.specs.Prelude.{Bool, List, None, Option, Some, [], false, is_some, option_map, true, unwrap_or, ℕ, ◌&&◌, ◌+◌, ◌==◌, ◌||◌, ◌∷◌, ◌≡◌, ◌≤◌, ◌⊎◌}
+use Rattle.std.specs.Prelude.{Bool, List, None, Option, Some, [], false, is_some, option_map, true, ℕ, ◌&&◌, ◌+◌, ◌==◌, ◌||◌, ◌∷◌, ◌≡◌, ◌≤◌, ◌⊎◌}
 
 -- ---- What a work does
 
@@ -99,8 +92,8 @@ abbrev entry_for : Bool → ℕ → Entry
 entry_for true i = entry.Push i
 entry_for false i = entry.Host i
 
-taken_first : (k : Bool) (m : Mark) (i : ℕ) (o : Option ℕ) (hs ls : List Entry) → or_high o hs ls ≡ Some (m, entry_for k i) → stands k i ls ≡ 0 →
-    (stands k i hs ≡ 1 + stands k i (rest_of hs)) × (m ≡ mark.High)
+taken_first : (k : Bool) (m : Mark) (i : ℕ) (o : Option ℕ) (hs ls : List Entry) → or_high o hs ls ≡ Some (m, entry_for k i) →
+    stands k i ls ≡ 0 → (stands k i hs ≡ 1 + stands k i (rest_of hs)) × (m ≡ mark.High)
 taken_first k m i o hs ls is none = grind (arith, nat_tests)
 
 -- where none stands at low the taken one is the first at high
@@ -149,15 +142,17 @@ module _ {a : Scene} (s : Core) where
   work_turned : (j : ℕ) (h g : ℕ → Bool → ℕ) → ((i : ℕ) (k : Bool) → g i k ≤ h i k) → (f : Work → Work) →
       ((w : Work) → get s.works j ≡ Some w → WorkCame a s s.made.works j (h j) (g j) (Some (doing w)) (Some (doing (f w)))) →
       (i : ℕ) → WorkCame a s s.made.works i (h i) (g i) (doing_of i s) (option_map doing (get (change j f s.works) i))
-  work_turned j h g fewer f own i = after_change (λ o p. WorkCame a s s.made.works i (h i) (g i) (option_map doing o) (option_map doing p)) s.works j i
-      (λ o. Same refl (fewer i)) f (λ w is e. rw e (own w (rw e at is)))
+  work_turned j h g fewer f own i =
+      after_change (λ o p. WorkCame a s s.made.works i (h i) (g i) (option_map doing o) (option_map doing p)) s.works j i (λ o. Same refl (fewer i)) f (λ w is e. rw e (own w (rw e at is)))
 
   work_kept : (j : ℕ) (f : Work → Work) → ((w : Work) → doing (f w) ≡ doing w) → (i : ℕ) →
       WorkCame a s s.made.works i (High s i) (High s i) (doing_of i s) (option_map doing (get (change j f s.works) i))
   work_kept j f same = work_turned j (High s) (High s) (λ i k. le_refl _) f (λ w at. Same (ap (λ v. Some v) (same w)) (λ k. le_refl _))
 
-  work_ends : (i : ℕ) (c : Course) (x : Stage) → MayFinish a i c s → is_late x ≡ true → (awaits false x ≡ true → is_async_work (work_caller_of i s) ≡ true) →
-      (g : ℕ → Bool → ℕ) → ((j : ℕ) (k : Bool) → (j ≡ i → ⊥) → g j k ≤ High s j k) → ((k : Bool) → g i k ≤ High s i k + one_if (awaits k x)) → (j : ℕ) →
+  work_ends : (i : ℕ) (c : Course) (x : Stage) → MayFinish a i c s → is_late x ≡ true →
+      (awaits false x ≡ true → is_async_work (work_caller_of i s) ≡ true) →
+      (g : ℕ → Bool → ℕ) → ((j : ℕ) (k : Bool) → (j ≡ i → ⊥) → g j k ≤ High s j k) →
+      ((k : Bool) → g i k ≤ High s i k + one_if (awaits k x)) → (j : ℕ) →
       WorkCame a s s.made.works j (High s j) (g j) (doing_of j s) (option_map doing (get (change i (λ w. record w { stage = x })
       (change i (λ w. record w { phase = phase.Complete }) (change i (λ w. record w { course = c }) s.works))) j))
   work_ends i c x may late async g others own j =
@@ -178,18 +173,22 @@ module _ {a : Scene} (s : Core) where
   work_came low (Places p) ok i = Same refl (λ k. same_stands k i s.queues.high (after_placing p s).queues.high (placing_works a p s ok).high)
   work_came low (Withdraw j) ok i = Same refl (λ k. same_stands k i s.queues.high (unqueued j s).queues.high (unqueued_works j s).high)
   work_came low (QueueWork f host group) ok i = let j = s.made.works + 1 in
-      at_insert (λ o p. WorkCame a s j i (High s i) (λ k. stands k i (s.queues.high ++ entry.Push j ∷ [])) (option_map doing o) (option_map doing p)) s.works j i _
-      (λ is. Made f host is (omega (arith, is)) refl (λ k. own_push k i j s.queues.high)) (λ e. Same refl (λ k. other_entry true k i j s.queues.high e))
+      let g = λ (k : Bool). stands k i (s.queues.high ++ entry.Push j ∷ []) in
+      at_insert (λ o p. WorkCame a s j i (High s i) g (option_map doing o) (option_map doing p)) s.works j i _
+      (λ is. Made f host is (omega (arith, is)) refl (λ k. own_push k i j s.queues.high))
+      (λ e. Same refl (λ k. other_entry true k i j s.queues.high e))
   work_came low (TakePush m j) ok i = work_turned j (High s) (High (popped m s)) (λ i k. (popped_high m s i k).0) _
       (λ w at. Lives (doing w) refl (taken_high true m j s ok (low true j)) refl (λ k. (popped_high m s j k).0)) i
   work_came low (TakeHost m j) ok i =
-      rw (change-change_same s.works j (λ w. record w { event = Some (host_status (course_value (course_of j s))) }) (λ w. record w { stage = stage.Ended }))
+      rw (change-change_same s.works j (λ w. record w { event = Some (host_status (course_value (course_of j s))) })
+      (λ w. record w { stage = stage.Ended }))
       (work_turned j (High s) (High (popped m s)) (λ i k. (popped_high m s i k).0) _
       (λ w at. Done (doing w) refl (taken_high false m j s ok (low false j)) (rw at refl) (λ k. (popped_high m s j k).0)) i)
   work_came low (Pend j host) ok i =
       work_turned j (High s) (High s) (λ i k. le_refl _) _ (λ w at. Pends (doing w) host refl ok refl (λ k. le_refl _)) i
   work_came low (EndWork j c) ok i = work_ends j c stage.Ended ok.0 refl (λ e. no_way e) (High s) (λ i k e. le_refl _) (λ k. grind arith) i
-  work_came low (FinishWork j c) ok i = work_ends j c stage.Finishing ok.0 refl (λ e. ok.1) (λ i k. stands k i (s.queues.high ++ entry.Host j ∷ []))
+  work_came low (FinishWork j c) ok i = work_ends j c stage.Finishing ok.0 refl (λ e. ok.1)
+      (λ i k. stands k i (s.queues.high ++ entry.Host j ∷ []))
       (λ i k e. other_entry false k i j s.queues.high e) (λ k. own_host k j j s.queues.high) i
   work_came low (SetPhase j x) ok i =
       work_turned j (High s) (High s) (λ i k. le_refl _) _ (λ w at. Aborts (doing w) x refl ok.0 refl (λ k. le_refl _)) i
@@ -276,7 +275,8 @@ not_due {v = v} q early due = absurd (grind (arith, q.told))
 
 -- ---- What a work keeps
 
-module _ {S : Type 0} {h g : Bool → ℕ} {made more i : ℕ} (grows : made ≤ more) (fewer : (k : Bool) → g k ≤ h k) {u v : Doing} (o : WorkHolds S h made i u) where
+module _ {S : Type 0} {h g : Bool → ℕ} {made more i : ℕ} (grows : made ≤ more) (fewer : (k : Bool) → g k ≤ h k) {u v : Doing}
+    (o : WorkHolds S h made i u) where
   -- where the stage stays
   stays_holds : v.stage ≡ u.stage → v.caller ≡ u.caller → v.course ≡ u.course →
       ((e : Status) → undelivered_end v.event ≡ Some e → undelivered_end u.event ≡ Some e) →
@@ -290,8 +290,10 @@ module _ {S : Type 0} {h g : Bool → ℕ} {made more i : ℕ} (grows : made ≤
   lives_holds is one = let r = stands_one (awaits true u.stage) (h true) (g true) one (o.one true) in let l = stage_early u.stage r.0 in
       grind (arith, o.one, o.told, fewer)
 
-  done_holds : v ≡ record u { stage = stage.Ended; event = Some (host_status (course_value u.course)) } → h false ≡ 1 + g false → WorkHolds S g more i v
-  done_holds is one = let r = stands_one (awaits false u.stage) (h false) (g false) one (o.one false) in let l = stage_finishing u.stage r.0 in
+  done_holds : v ≡ record u { stage = stage.Ended; event = Some (host_status (course_value u.course)) } → h false ≡ 1 + g false →
+      WorkHolds S g more i v
+  done_holds is one =
+      let r = stands_one (awaits false u.stage) (h false) (g false) one (o.one false) in let l = stage_finishing u.stage r.0 in
       let n = status_is_end (course_value u.course) in grind (arith, o.one, o.told, fewer)
 
 -- a live work comes to its end
@@ -302,8 +304,8 @@ ends_holds : {S : Type 0} {h g : Bool → ℕ} {made more i : ℕ} {u v : Doing}
 ends_holds {u = u} c x grows o is live has late async valued more = let l = stage_live u.stage live in grind (arith, o.one, o.told, more)
 
 -- a work is made
-made_holds : {S : Type 0} {h g : Bool → ℕ} {more i : ℕ} {v : Doing} (f : WorkCaller) (host : HostDef) → i ≤ more → v ≡ doing (new_work f host None) →
-    ((k : Bool) → h k ≡ 0) → ((k : Bool) → g k ≤ h k + one_if k) → WorkHolds S g more i v
+made_holds : {S : Type 0} {h g : Bool → ℕ} {more i : ℕ} {v : Doing} (f : WorkCaller) (host : HostDef) → i ≤ more →
+    v ≡ doing (new_work f host None) → ((k : Bool) → h k ≡ 0) → ((k : Bool) → g k ≤ h k + one_if k) → WorkHolds S g more i v
 made_holds f host below is none more = grind (arith, none, more)
 
 given_came : (a : Scene) (s : Core) (b i : ℕ) (h g : Bool → ℕ) (o p : Option Doing) (k : Bool) → (1 ≤ h k → i ≤ s.made.works) →
@@ -326,9 +328,6 @@ module _ {S : Type 0} {a : Scene} (unsync : S → AbortsNoSync a) (w : Word) (s 
   made_works : s.made.works ≤ t.made.works
   made_works = made_works_word a w s
 
-  same_doing : (i : ℕ) (v u : Doing) → doing_of i t ≡ Some v → doing_of i t ≡ Some u → v ≡ u
-  same_doing i v u e f = ap (λ (o : Option Doing). unwrap_or o v) (sym e ∙ f)
-
   -- of a work that was there, whatever is so of it after the word
   module _ (i : ℕ) (v : Doing) (at : doing_of i t ≡ Some v) where
     gone : {A : Type 0} → doing_of i t ≡ None → A
@@ -347,7 +346,8 @@ module _ {S : Type 0} {a : Scene} (unsync : S → AbortsNoSync a) (w : Word) (s 
     doing_caller : (u : Doing) → doing_of i s ≡ Some u → S → is_sync_work u.caller ≡ true → MayAbort a i → ⊥
     doing_caller u e y h may = let n = unsync y i may in let b = q.was i u e n.0 in let c = n.1 b.before b.there in grind arith
 
-    valued : (u : Doing) (c : Course) → doing_of i s ≡ Some u → MayFinish a i c s → S → is_sync_work u.caller ≡ true → is_some (course_value c) ≡ true
+    valued : (u : Doing) (c : Course) → doing_of i s ≡ Some u → MayFinish a i c s → S → is_sync_work u.caller ≡ true →
+        is_some (course_value c) ≡ true
     valued u c e may y h =
         let o = (held u e).sync y h in let late = (held u e).late in let d = doing_phase u e in let live = polled_stage u e may.0 in
         let none = may.1.1.1 in grind arith
@@ -411,7 +411,8 @@ module _ {S : Type 0} {a : Scene} (unsync : S → AbortsNoSync a) (w : Word) (s 
   came i = work_came s q.holds.low w ok i
 
   given_after : (k : Bool) (i : ℕ) → 1 ≤ High t i k → i ≤ t.made.works
-  given_after k i h = given_came a s _ i (High s i) (High t i) _ _ k (q.holds.given k i) (numbered (doing_of i s) refl) made_works (came i) h
+  given_after k i h =
+      given_came a s _ i (High s i) (High t i) _ _ k (q.holds.given k i) (numbered (doing_of i s) refl) made_works (came i) h
     where
       numbered : (o : Option Doing) → doing_of i s ≡ o → is_some o ≡ true → i ≤ s.made.works
       numbered None e there = absurd (cc)

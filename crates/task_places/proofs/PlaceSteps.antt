@@ -8,18 +8,12 @@ use Rattle.task_rules.proofs.PlacingLemmas.{SameWorks, placing_works}
 use Rattle.task_machine.specs.Write.{set_switch, set_high, set_low}
 use Rattle.std.proofs.Common.{T, ap, arith, refl, subst, sym, ◌∙◌, inr}
 use Rattle.std.specs.Prelude.{Bool, None, Option, Some, [], false, is_some, true, unwrap_or, ℕ, ◌+◌, ◌≡◌, ◌≤◌, option_map}
+use Rattle.task_rules.proofs.Machine.{base_at, base_without, Core, Entry, HasPlace, HasSubtask, is_behind_of, is_fresh, is_take, IsRunner, Label, LastWords, Mark, next_entry, Place, place_of, popped, runner_at, says, Scene, scene_of, set_high, set_low, set_switch, Setting, settled_take, settled_turn, start_of, State, thread_of_entry, Trip, Turn, Walked, was_started}
 use Rattle.task_laws.specs.Order.{InPlace}
-use Rattle.task_machine.specs.Core.{Core, State}
-use Rattle.task_machine.specs.Read.{next_entry, place_of, was_started}
-use Rattle.task_machine.specs.declared.label.Label.{Label}
-use Rattle.task_machine.specs.declared.records.Entry.{Entry}
 use Rattle.task_machine.specs.declared.records.Entry.TheVariants as entry
-use Rattle.task_machine.specs.declared.records.Place.{Place}
 use Rattle.task_machine.specs.declared.records.Place.TheVariants as place
 use Rattle.task_machine.specs.declared.records.Subtask.TheVariants as subtask
-use Rattle.task_machine.specs.declared.records.Turn.{Turn}
 use Rattle.task_machine.specs.declared.records.Turn.TheVariants as turn
-use Rattle.task_machine.specs.declared.words.Mark.{Mark}
 use Rattle.task_places.proofs.Entries.{Cleared, First, next_first, popped_cleared}
 use Rattle.task_places.proofs.PlaceLaw.{Arrives, Follows, Frame, entry_ready, is_run, no_way, trip_arrives, waits, ReadyAt, watch, so_self}
 use Rattle.task_rules.proofs.MoveLemmas.{All, is_busy, is_idle, no_time, stand_of}

@@ -13,34 +13,23 @@ use Rattle.std.proofs.Common.{T, ap, inl, inr, refl, subst, suc, sym, ◌∙◌,
 use Rattle.task_machine.proofs.MapLemmas.{get-insert_same, get-remove_same}
 use Rattle.task_machine.specs.declared.records.Work.{Work}
 use Rattle.std.specs.Option.{option_map_or}
-use Rattle.std.specs.Prelude.{Bool, List, None, Option, Some, [], false, if◌then◌else◌, is_some, not, option_map, true, unwrap_or, ℕ, ◌&&◌, ◌+◌, ◌==◌, ◌∷◌, ◌≡◌}
+use Rattle.std.specs.Prelude.{Bool, List, None, Option, Some, [], false, is_some, not, option_map, true, unwrap_or, ℕ, ◌&&◌, ◌+◌, ◌==◌, ◌∷◌, ◌≡◌}
 use Rattle.task_machine.specs.Core.{Core, Main}
 use Rattle.task_machine.specs.Labels.{Choice, join_label, wait_label}
 use Rattle.task_machine.specs.Maps.{Records, get, remove}
-use Rattle.task_machine.specs.Moves.{Gift, MemberGift, NoGift, OwnGift, checked, ended, gift, handed_on, may_hand_on, passes_check, promoted_unless, put_switch, withdrawn, group_settled, is_group_done}
-use Rattle.task_machine.specs.Read.{at_handle_limit, event_of, fits, has_ended, has_member, has_waiters, how_far_of, instance_of, is_async_lifted, is_at, is_callback_yield, is_direct, is_joined, is_ready_to_resume, is_waiting_on, is_watched, is_yielded, join_of, new_handle, new_thread_handle, phase_of, place_of, registers_of, result_of, saved_callee_of, set_at, subtask_at, subtask_ended, task_of, thread_at, thread_group, thread_handle_of, undelivered_end, was_cancelled, was_started, is_stage_ended, stage_of, work_caller_of}
+use Rattle.task_machine.specs.Moves.{Gift, MemberGift, NoGift, OwnGift, checked, ended, gift, handed_on, may_hand_on, passes_check, promoted_unless, put_switch, withdrawn, group_settled}
+use Rattle.task_machine.specs.Read.{at_handle_limit, event_of, fits, has_ended, has_member, has_waiters, how_far_of, instance_of, is_async_lifted, is_callback_yield, is_direct, is_joined, is_ready_to_resume, is_waiting_on, is_watched, is_yielded, join_of, new_handle, new_thread_handle, phase_of, place_of, registers_of, result_of, saved_callee_of, set_at, subtask_at, subtask_ended, task_of, thread_at, thread_group, thread_handle_of, undelivered_end, was_cancelled, was_started, is_stage_ended, stage_of, work_caller_of}
 use Rattle.task_machine.specs.Statuses.{packed, status_code}
 use Rattle.task_machine.specs.Write.{add_work, count_work, on_call, on_work, push_high, set_join, set_own_event, set_subtask_handle, set_do_not_suspend, set_saved_callee, on_instance, on_thread, remove_thread, set_end, free_handle, set_register, set_how_far, remove_group, set_position, remove_work}
 use Rattle.task_machine.specs.declared.component.Callee.{Callee}
 use Rattle.task_machine.specs.declared.component.HostDef.{HostDef}
+use Rattle.task_rules.proofs.Machine.{aborted_phase, AbortsOwn, add_work, advanced, after_word, AlreadyEnded, answered, Answers, assigned, Async, at_handle_limit, AtOnce, blocked_code, ByHandle, ByOp, BySetHandle, ByThread, ByWait, call_answered, call_begins, call_host_polled, call_of_op, call_pending, call_queues, call_resumes, call_returned, call_row, call_status, call_sync_begins, call_sync_host_polled, call_sync_host_row, call_sync_host_stops, call_sync_row, call_sync_status, call_sync_stops, CallbackWaits, CallbackYields, Callee, callee_of_op, CallLabel, cancel_aborts_host, cancel_asks, cancel_by_end, cancel_case, cancel_ended_row, cancel_guest, cancel_label, cancel_promotes_yield, cancel_resumed, cancel_row, cancel_stops, cancel_subtask, cancel_takes_end, cancel_target, cancel_wakes_callback, cancel_withdraws, CancelCase, cancelled_of_op, Cancels, checked, Choice, chosen, CloseSet, Core, count_work, CountWork, drop_row, dropped, end_for, ended, EndsSubtask, EndWords, enter_row, enter_runs, event_of, export_kind, Failing, finds_nothing, first_poll, FirstPoll, fits, get, Gift, gift, Goal, Goes, group_settled, handed_by, handed_by_call, handed_by_cancel, handed_by_event, handed_by_set, handed_on, handed_out, HandsAtOnce, HandsOut, has_ended, has_member, has_waiters, HasSubtask, host_answered, host_at, host_end, host_pending, host_ready, HostDef, how_far_of, HowFar, instance_of, is_async_lifted, is_async_work, is_callback_yield, is_direct, is_for_main, is_joined, is_ready_to_resume, is_waiting_on, is_watched, is_yielded, IsNamed, IsNew, IsReadyAtOnce, Join, join_done, join_label, join_of, join_to, joined, joins, Label, Later, Leaves, Made, Main, MakeThread, Mark, may, may_hand_on, may_wake_new, MayJoin, MayMakeCall, MemberGift, Mode, Move, moved_to, NameCall, NameThread, NameWork, new_handle, new_thread, new_thread_handle, new_work, next_thread, next_work, NoGift, NoWord, on_call, on_instance, on_thread, on_work, op_in, op_of, OpenSet, OtherwiseRuns, OwnGift, packed, passes_check, pauses, phase_of, Place, place_of, poll_row, Progress, promoted_unless, push_high, Put, put_back, put_switch, QueueWork, received, received_woken, Records, registers_for, registers_of, remove, remove_group, remove_thread, remove_work, result_of, Resumes, returned_of_op, saved_callee_of, says, Scene, set_at, set_do_not_suspend, set_drop_row, set_dropped, set_end, set_how_far, set_join, set_made, set_new_row, set_own_event, set_position, set_register, set_row, set_saved_callee, set_subtask_handle, SetCancelled, SetExited, SetLabel, SetOwnEvent, SetPhase, SetRegister, SetResult, SetSavedCallee, Setting, settle_group_of, SetUninteresting, Shifts, slot_at, StartNotRun, Status, status_code, status_found, Stay, Stops, Subtask, subtask_at, subtask_ended, subtask_instance, subtask_row, subtask_under_way, Suspends, Sync, TakesEvent, task_of, Thread, thread_at, thread_group, thread_handle_of, trap_if, Trip, Turn, undelivered_end, UnnameCall, UnnameWork, value_of, values_in, wait_begins, wait_goes_on, wait_label, wait_row, wait_stops, wait_stops_checked, wakes_joined, Walk, was_cancelled, was_started, Why, Withdraw, withdrawn, Work, work_answered, work_caller_of, work_deleted, work_group, work_queued, work_value, WorkCaller, Writes, WritesAtOnce, WritesCall, WritesNever, WritesToo, written_by, written_by_call, written_by_cancel, Yields}
 use Rattle.task_machine.specs.declared.component.Slot.{Slot}
-use Rattle.task_machine.specs.declared.label.Label.{Label}
 use Rattle.task_machine.specs.declared.label.ThreadLabel.{ThreadLabel}
 use Rattle.task_machine.specs.declared.op.CallOp.{CallOp}
 use Rattle.task_machine.specs.declared.op.SetOp.{SetOp}
 use Rattle.task_machine.specs.declared.op.ThreadOp.{ThreadOp}
-use Rattle.task_machine.specs.declared.records.Goal.{Goal}
-use Rattle.task_machine.specs.declared.records.HowFar.{HowFar}
-use Rattle.task_machine.specs.declared.records.Join.{Join}
-use Rattle.task_machine.specs.declared.records.Made.{Made}
-use Rattle.task_machine.specs.declared.records.Place.{Place}
-use Rattle.task_machine.specs.declared.records.Subtask.{Subtask}
-use Rattle.task_machine.specs.declared.records.Thread.{Thread}
-use Rattle.task_machine.specs.declared.records.Turn.{Turn}
-use Rattle.task_machine.specs.declared.records.Why.{Why}
-use Rattle.task_machine.specs.declared.records.WorkCaller.{WorkCaller}
-use Rattle.task_machine.specs.declared.words.Mark.{Mark}
-use Rattle.task_machine.specs.declared.words.Status.{Status}
+use Rattle.task_rules.specs.Threads.{by_how_far, Halt, halt_row, halted, halted_checked, halted_promoting, halted_resuming, halting, halts, has_yielded, resume_later_row, resume_why, resumed_later, Suspension, then_promote, then_promote_row, then_resume_row, thread_made, thread_new_row, thread_row, Yielding}
 use Rattle.task_rules.proofs.CancelLemmas.{CaseSays, case_says}
 use Rattle.task_rules.proofs.PlacingLemmas.{Shifted, placed, shifted_made, shifted_task, shifts_shifted}
 use Rattle.task_rules.proofs.StandLemmas.{by_number}
@@ -49,7 +38,7 @@ use Rattle.task_rules.proofs.WalkParts.{call_queues_walks, call_resumes_walks, c
 use Rattle.task_rules.proofs.WalkTask.{Leads, advanced_walks, answered_walks, assigned_walks, goes_on, goes_on_saying, goes_over, may_leads, or_never_leads, or_trap_leads, running_scene, stops_here, trap_if_leads, unnot, is_still, over_now}
 use Rattle.task_rules.specs.Allowed.{ByHandle, ByOp, BySetHandle, ByThread, ByWait, Cancels, HasSubtask, Leaves, MayJoin, MayMakeCall, Resumes, Suspends, Yields, subtask_under_way, is_for_main, IsNew, AbortsOwn, is_async_work, IsNamed}
 use Rattle.task_rules.specs.Calls.{AtOnce, Failing, FirstPoll, Later, answered, call_answered, call_begins, call_host_polled, call_pending, call_queues, call_resumes, call_returned, call_row, call_status, call_sync_begins, call_sync_host_polled, call_sync_host_row, call_sync_host_stops, call_sync_row, call_sync_status, call_sync_stops, enter_row, enter_runs, first_poll, host_answered, host_pending, host_ready, new_thread, next_thread, next_work, status_found, work_answered, work_queued, work_value, put_back, work_deleted, settle_group_of, work_group, new_work}
-use Rattle.task_rules.specs.Cancels.{AlreadyEnded, Async, CallbackWaits, CallbackYields, CancelCase, Mode, OtherwiseRuns, StartNotRun, Sync, aborted_phase, blocked_code, cancel_aborts_host, cancel_asks, cancel_by_end, cancel_case, cancel_ended_row, cancel_guest, cancel_label, cancel_promotes_yield, cancel_resumed, cancel_row, cancel_stops, cancel_subtask, cancel_takes_end, cancel_wakes_callback, cancel_withdraws, drop_row, dropped, is_callback_wait, pauses, subtask_instance, subtask_row}
+use Rattle.task_rules.specs.Cancels.{AlreadyEnded, Async, CallbackWaits, CallbackYields, CancelCase, Mode, OtherwiseRuns, StartNotRun, Sync, aborted_phase, blocked_code, cancel_aborts_host, cancel_asks, cancel_by_end, cancel_case, cancel_ended_row, cancel_guest, cancel_label, cancel_promotes_yield, cancel_resumed, cancel_row, cancel_stops, cancel_subtask, cancel_takes_end, cancel_wakes_callback, cancel_withdraws, drop_row, dropped, pauses, subtask_instance, subtask_row}
 use Rattle.task_rules.specs.Data.{advanced, assigned, moved_to}
 use Rattle.task_rules.specs.OpParts.{callee_of_op}
 use Rattle.task_rules.specs.Places.{says}
@@ -58,7 +47,6 @@ use Rattle.task_rules.specs.Scenes.{Scene, op_in}
 use Rattle.task_rules.specs.Scripts.{export_kind, host_at, op_of, registers_for, slot_at, value_of, values_in}
 use Rattle.task_rules.specs.Sets.{chosen, finds_nothing, handed_out, join_done, join_to, joined, joins, may_wake_new, poll_row, received, received_woken, set_drop_row, set_dropped, set_made, set_new_row, set_row, wait_begins, wait_goes_on, wait_row, wait_stops, wait_stops_checked, wakes_joined}
 use Rattle.task_rules.specs.Stalled.{Setting}
-use Rattle.task_rules.specs.Threads.{Halt, Suspension, Yielding, by_how_far, halt_row, halted, halted_checked, halted_promoting, halted_resuming, halting, halts, has_yielded, resume_later_row, resume_why, resumed_later, then_promote, then_promote_row, then_resume_row, thread_made, thread_new_row, thread_row}
 use Rattle.task_rules.specs.Words.{CloseSet, CountWork, MakeThread, Move, NameCall, NameThread, NameWork, OpenSet, Put, QueueWork, SetCancelled, SetOwnEvent, SetPhase, SetRegister, SetResult, SetSavedCallee, UnnameCall, UnnameWork, after_word, Withdraw, SetExited, SetUninteresting}
 use Rattle.task_machine.specs.declared.label.SetLabel.TheVariants as set_label
 use Rattle.task_machine.specs.declared.component.Slot.TheVariants as slot
@@ -97,13 +85,11 @@ is_returned _ = false
 
 flag_event : (sub : Subtask) (j : ℕ) (b : Bool) (s : Core) → event_of sub (set_do_not_suspend j b s) ≡ event_of sub s
 unfolding set_do_not_suspend on_instance
-flag_event (subtask.Guest k) j b s = refl
-flag_event (subtask.Host i) j b s = refl
+flag_event sub j b s = grind arith
 
 flag_unsaved : (sub : Subtask) (n : ℕ) (t : Core) → event_of sub (set_saved_callee n None t) ≡ event_of sub t
 unfolding set_saved_callee on_thread
-flag_unsaved (subtask.Guest k) n t = refl
-flag_unsaved (subtask.Host i) n t = refl
+flag_unsaved sub n t = grind arith
 
 -- a cancel that is resumed finds the event as it was
 event_resumed : (n : ℕ) (sub : Subtask) (s : Core) → event_of sub (cancel_resumed n sub s) ≡ event_of sub s
@@ -111,8 +97,7 @@ unfolding cancel_resumed
 event_resumed n sub s = event_joined sub join.Nowhere _ ∙ (flag_unsaved sub n (put_back (saved_callee_of n s) (subtask_instance sub s) s) ∙ put_back_event (saved_callee_of n s))
   where
     put_back_event : (o : Option Bool) → event_of sub (put_back o (subtask_instance sub s) s) ≡ event_of sub s
-    put_back_event None = refl
-    put_back_event (Some b) = flag_event sub (subtask_instance sub s) b s
+    put_back_event o = grind (arith, flag_event sub (subtask_instance sub s))
 
 pub queued_caller : (f : WorkCaller) (host : HostDef) (group : Option ℕ) (t : Core) → work_caller_of (next_work t) (work_queued f host group t) ≡ f
 unfolding work_queued push_high add_work count_work
@@ -136,12 +121,7 @@ assigned_fresh n r v s = far_fresh n _
 
 settled_works : (o : Option ℕ) (i : ℕ) (s : Core) → (settle_group_of o (remove_work i s)).works ≡ remove s.works i
 unfolding group_settled remove_group remove_work
-settled_works None i s = refl
-settled_works (Some g) i s = by_done (is_group_done g (remove_work i s))
-  where
-    by_done : (b : Bool) → (if b then remove_group g (remove_work i s) else remove_work i s).works ≡ remove s.works i
-    by_done true = refl
-    by_done false = refl
+settled_works o i s = grind arith
 
 work_gone : (n r i : ℕ) (s : Core) → get (work_answered n r i s).works i ≡ None
 unfolding work_answered work_deleted
@@ -156,8 +136,7 @@ unfolding halted_checked
 halted_checked_is h n s = refl
 
 both_true : (b c : Bool) → (b && c) ≡ true → b ≡ true
-both_true true c e = refl
-both_true false c e = absurd (subst T (sym e) tt)
+both_true b c e = grind arith
 
 -- a place that passes such a test is that of an entry
 abbrev is_ready : Option Place → Bool
@@ -166,39 +145,14 @@ is_ready _ = false
 
 ready_at : (o : Option Place) → is_ready o ≡ true → (m : Mark) × ((w : Why) × (o ≡ Some (place.Ready m w)))
 ready_at (Some (place.Ready m w)) e = (m, (w, refl))
-ready_at None e = absurd (subst T (sym e) tt)
-ready_at (Some place.New) e = absurd (subst T (sym e) tt)
-ready_at (Some place.Running) e = absurd (subst T (sym e) tt)
-ready_at (Some (place.Under c)) e = absurd (subst T (sym e) tt)
-ready_at (Some (place.Behind c)) e = absurd (subst T (sym e) tt)
-ready_at (Some (place.Waiting y b)) e = absurd (subst T (sym e) tt)
-ready_at (Some (place.Blocked c)) e = absurd (subst T (sym e) tt)
-ready_at (Some (place.Held c)) e = absurd (subst T (sym e) tt)
-ready_at (Some place.Suspended) e = absurd (subst T (sym e) tt)
+ready_at None e = absurd (grind arith)
+ready_at (Some _) e = absurd (grind arith)
 
 resumes_ready : (o : Option Place) → option_map_or is_ready_to_resume o false ≡ true → is_ready o ≡ true
-resumes_ready (Some (place.Ready m w)) e = refl
-resumes_ready None e = e
-resumes_ready (Some place.New) e = e
-resumes_ready (Some place.Running) e = e
-resumes_ready (Some (place.Under c)) e = e
-resumes_ready (Some (place.Behind c)) e = e
-resumes_ready (Some (place.Waiting y b)) e = e
-resumes_ready (Some (place.Blocked c)) e = e
-resumes_ready (Some (place.Held c)) e = e
-resumes_ready (Some place.Suspended) e = e
+resumes_ready o e = grind arith
 
 yields_ready : (o : Option Place) → option_map_or is_callback_yield o false ≡ true → is_ready o ≡ true
-yields_ready (Some (place.Ready m w)) e = refl
-yields_ready None e = e
-yields_ready (Some place.New) e = e
-yields_ready (Some place.Running) e = e
-yields_ready (Some (place.Under c)) e = e
-yields_ready (Some (place.Behind c)) e = e
-yields_ready (Some (place.Waiting y b)) e = e
-yields_ready (Some (place.Blocked c)) e = e
-yields_ready (Some (place.Held c)) e = e
-yields_ready (Some place.Suspended) e = e
+yields_ready o e = grind arith
 
 -- the call goes on in such a case
 abbrev is_going_on : CancelCase → Bool
@@ -207,12 +161,7 @@ is_going_on StartNotRun = false
 is_going_on _ = true
 
 goes_on_case : (k : ℕ) (s : Core) (y : CancelCase) → cancel_case k s ≡ y → is_going_on y ≡ true → (has_ended k s ≡ false) × (was_started k s ≡ true)
-goes_on_case k s y is on = by_tests (has_ended k s) (was_started k s) (is_at k s is_callback_wait) (is_at k s is_callback_yield) refl refl (ap is_going_on is ∙ on)
-  where
-    by_tests : (a b c d : Bool) → has_ended k s ≡ a → was_started k s ≡ b → is_going_on (if a then AlreadyEnded else if not b then StartNotRun else if c then CallbackWaits else if d then CallbackYields else OtherwiseRuns) ≡ true → (has_ended k s ≡ false) × (was_started k s ≡ true)
-    by_tests true b c d e f g = absurd (subst T (sym g) tt)
-    by_tests false false c d e f g = absurd (subst T (sym g) tt)
-    by_tests false true c d e f g = (e, f)
+goes_on_case k s y is on = grind arith
 
 -- ---- The rows
 

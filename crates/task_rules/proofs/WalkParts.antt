@@ -1,46 +1,17 @@
 -- What the rows of the ops are made of, as chains of words: what is read, gifts, moves, and a new call.
-use Rattle.task_rules.specs.Data.{assigned, advanced, moved_to}
+use Rattle.task_rules.proofs.Machine.{add_call, add_thread, advanced, after_placing, after_word, assigned, behind_one, behind_switch, Blocks, ByHandle, Call, call_clears_flag, call_instance, call_made, call_queues, call_resumes, call_stops, Callee, Caller, cancel_goes_behind, cancel_label, cancel_stops, cancel_takes_end, checked, Choice, chosen, Core, Enter, enter_runs, Entry, ExportKind, foot_of, free_handle, get, Gift, gift, give_thread_handle, Given, given_code, given_handle, given_result, Goal, goal_of, GoBehind, group_settled, has_entry, HasSet, HasSubtask, how_far_of, HowFar, instance_of, is_begun, is_blocked_on, is_direct, is_explicit, is_group_done, is_joined, is_running, IsNew, IsRunner, IsWithdrawn, Join, join_label, join_of, Leaves, less, less_switch, Made, MakeCall, may_not_suspend, MayCome, MayDeliver, MayJoin, MayMakeCall, MayRemoveWork, MayWithdraw, MemberGift, Mode, Move, moved_to, NameThread, new_call, new_thread, new_thread_handle, next_thread, NoGift, NoWord, on_call, on_instance, on_thread, on_work, OwnGift, Place, place_of, Put, put_back, put_switch, received, Records, registers_for, Remains, remove_group, remove_thread, remove_work, RemoveWork, saved_callee_of, says, SaysEnd, Scene, set_do_not_suspend, set_end, set_event, set_exited, set_given, set_high, set_how_far, set_join, set_low, set_place, set_position, set_register, set_saved_callee, set_saved_own, set_started, set_subtask_handle, set_switch, set_thread_handle, set_uninteresting, SetCallEvent, SetCallJoin, SetDoNotSuspend, SetEnd, SetExited, SetHowFar, SetRegister, SetSavedCallee, SetSavedOwn, SetStarted, settle_group_of, SetUninteresting, SetWorkJoin, Starts, Status, status_code, Stay, Stop, stopped, Subtask, subtask_at, subtask_handle, sync_sets_flag, TakeWorkEvent, task_of, Thread, thread_group, Trip, unqueued, wait_label, wait_stops, Waits, with_switch, with_thread_handle, Withdraw, withdrawn, work_deleted, work_group}
 use Rattle.task_rules.proofs.MoveLemmas.{put_place}
-use Rattle.task_machine.specs.declared.records.HowFar.{HowFar}
-use Rattle.std.proofs.Common.{T, ap, inl, inr, refl, subst, sym, ◌∙◌, ◌⊎◌}
+use Rattle.std.proofs.Common.{arith}
+use Rattle.std.proofs.lemmas.Bool.Decides.{nat_tests}
+use Rattle.task_machine.proofs.CommuteLemmas.{get-change}
+use Rattle.std.proofs.Common.{ap, inl, inr, refl, subst, sym, ◌∙◌, ◌⊎◌}
 use Rattle.std.specs.Option.{option_map_or}
-use Rattle.std.specs.Prelude.{Bool, List, None, Option, Some, [], false, if◌then◌else◌, is_none, option_and_then, option_map, true, unwrap_or, ℕ, ◌+◌, ◌==◌, ◌≡◌, is_some}
-use Rattle.task_machine.proofs.MapLemmas.{change-field, get-change_same, get-insert_same, get-remove_same}
-use Rattle.task_machine.specs.Core.{Core}
-use Rattle.task_machine.specs.Labels.{Choice, join_label, wait_label}
-use Rattle.task_machine.specs.Maps.{change, get, Records}
-use Rattle.task_machine.specs.Moves.{Gift, MemberGift, NoGift, OwnGift, behind_one, checked, gift, gift_after_own, has_entry, less, less_switch, member_gift, own_gift, put_switch, stopped, unqueued, withdrawn, is_group_done, group_settled}
-use Rattle.task_machine.specs.Read.{call_instance, foot_of, goal_of, has_ready_member, how_far_of, instance_of, is_direct, is_explicit, is_joined, is_ready_member, join_of, may_not_suspend, new_thread_handle, own_event_of, place_of, saved_callee_of, subtask_at, subtask_handle, task_of, thread_group, is_blocked_on}
-use Rattle.task_machine.specs.Statuses.{status_code}
-use Rattle.task_machine.specs.Write.{add_call, add_thread, free_handle, give_thread_handle, on_call, on_instance, on_thread, on_work, remove_thread, set_do_not_suspend, set_end, set_event, set_exited, set_high, set_how_far, set_join, set_low, set_place, set_saved_callee, set_saved_own, set_started, set_subtask_handle, set_switch, set_thread_handle, set_uninteresting, with_switch, remove_group, remove_work, set_position, set_register}
-use Rattle.task_machine.specs.declared.component.Callee.{Callee}
-use Rattle.task_machine.specs.declared.component.ExportKind.{ExportKind}
-use Rattle.task_machine.specs.declared.records.Call.{Call}
-use Rattle.task_machine.specs.declared.records.Caller.{Caller}
-use Rattle.task_machine.specs.declared.records.Entry.{Entry}
-use Rattle.task_machine.specs.declared.records.Goal.{Goal}
-use Rattle.task_machine.specs.declared.records.Join.{Join}
-use Rattle.task_machine.specs.declared.records.Made.{Made}
-use Rattle.task_machine.specs.declared.records.Place.{Place}
-use Rattle.task_machine.specs.declared.records.Subtask.{Subtask}
-use Rattle.task_machine.specs.declared.records.Thread.{Thread}
-use Rattle.task_machine.specs.declared.records.Work.{Work}
-use Rattle.task_machine.specs.declared.words.Given.{Given}
-use Rattle.task_machine.specs.declared.words.OwnEvent.{OwnEvent}
-use Rattle.task_machine.specs.declared.words.Status.{Status}
+use Rattle.std.specs.Prelude.{Bool, List, None, Option, Some, [], false, if◌then◌else◌, is_none, option_map, true, unwrap_or, ℕ, ◌+◌, ◌==◌, ◌≡◌, is_some}
+use Rattle.task_machine.proofs.MapLemmas.{change-field, get-insert_same, get-remove_same}
 use Rattle.task_rules.proofs.PlacingLemmas.{Shifted, placed, placing_shifted, shifted_after, shifted_explicit, shifted_made}
-use Rattle.task_rules.proofs.StandLemmas.{place_kept, eq_refl}
+use Rattle.task_rules.proofs.StandLemmas.{place_kept}
 use Rattle.task_rules.proofs.WalkMoves.{MayTake, checked_shifts, group_settled_walks, shifted, stopped_shifts, taken_walks, word, lands_at}
 use Rattle.task_rules.proofs.WalkTask.{advanced_walks, answered_walks, is_plain, is_still, running_moved, moved_passes, not_main}
-use Rattle.task_rules.specs.Allowed.{Blocks, ByHandle, HasSet, HasSubtask, IsNew, IsRunner, IsWithdrawn, Leaves, MayDeliver, MayJoin, MayMakeCall, MayRemoveWork, MayWithdraw, SaysEnd, Starts, Waits, MayCome, is_begun}
-use Rattle.task_rules.specs.Calls.{call_clears_flag, call_made, call_queues, call_resumes, call_stops, enter_runs, new_call, new_thread, next_thread, put_back, settle_group_of, sync_sets_flag, with_thread_handle, work_deleted, work_group}
-use Rattle.task_rules.specs.Cancels.{Async, Mode, Sync, behind_switch, cancel_goes_behind, cancel_label, cancel_stops, cancel_takes_end}
-use Rattle.task_rules.specs.Chains.{NoWord, Stay, Trip, is_running, Remains}
-use Rattle.task_rules.specs.Places.{says}
-use Rattle.task_rules.specs.Scenes.{Scene}
-use Rattle.task_rules.specs.Scripts.{registers_for}
-use Rattle.task_rules.specs.Sets.{chosen, given_code, given_handle, given_result, received, set_given, wait_stops}
-use Rattle.task_rules.specs.Words.{Enter, GoBehind, MakeCall, Move, NameThread, Put, RemoveWork, SetCallEvent, SetCallJoin, SetDoNotSuspend, SetEnd, SetExited, SetHowFar, SetRegister, SetSavedCallee, SetSavedOwn, SetStarted, SetUninteresting, TakeWorkEvent, SetWorkJoin, Stop, Withdraw, after_word, after_placing}
 use Rattle.task_machine.specs.declared.component.ExportKind.TheVariants as kind
 use Rattle.task_machine.specs.declared.records.CallEnd.TheVariants as call_end
 use Rattle.task_machine.specs.declared.records.Caller.TheVariants as caller
@@ -53,35 +24,20 @@ use Rattle.task_machine.specs.declared.records.Subtask.TheVariants as subtask
 use Rattle.task_machine.specs.declared.records.Turn.TheVariants as turn
 use Rattle.task_machine.specs.declared.records.Why.TheVariants as why
 use Rattle.task_machine.specs.declared.words.Mark.TheVariants as mark
-use Rattle.task_machine.specs.declared.words.OwnEvent.TheVariants as own
 use Rattle.task_machine.specs.declared.words.Status.TheVariants as status
 
 -- ---- What is read
 
 pub set_none_join : (sub : Subtask) (t : Core) → is_joined (join_of sub (set_join sub join.Nowhere t)) ≡ false
 unfolding set_join on_call on_work
-set_none_join (subtask.Guest k) t = ap (λ (o : Option Call). is_joined (option_map_or (λ c. c.join) o join.Nowhere)) (get-change_same t.calls k (λ c. record c { join = join.Nowhere })) ∙ at (get t.calls k)
-  where
-    at : (o : Option Call) → is_joined (option_map_or (λ c. c.join) (option_map (λ (c : Call). record c { join = join.Nowhere }) o) join.Nowhere) ≡ false
-    at None = refl
-    at (Some c) = refl
-set_none_join (subtask.Host i) t = ap (λ (o : Option Work). is_joined (option_map_or (λ w. w.join) o join.Nowhere)) (get-change_same t.works i (λ w. record w { join = join.Nowhere })) ∙ at (get t.works i)
-  where
-    at : (o : Option Work) → is_joined (option_map_or (λ w. w.join) (option_map (λ (w : Work). record w { join = join.Nowhere }) o) join.Nowhere) ≡ false
-    at None = refl
-    at (Some w) = refl
+set_none_join sub t = grind (arith, nat_tests, get-change)
 
 blocked_itself : (sub : Subtask) → is_blocked_on sub (place.Blocked sub) ≡ true
-blocked_itself (subtask.Guest k) = eq_refl k
-blocked_itself (subtask.Host i) = eq_refl i
+blocked_itself sub = grind (arith, nat_tests)
 
 pub far_fresh : (n : ℕ) (t : Core) → how_far_of n (set_how_far n how_far.Fresh t) ≡ how_far.Fresh
 unfolding set_how_far on_thread
-far_fresh n t = ap (λ (o : Option Thread). option_map_or (λ r. r.how_far) o how_far.Fresh) (get-change_same t.threads n (λ r. record r { how_far = how_far.Fresh })) ∙ at (get t.threads n)
-  where
-    at : (o : Option Thread) → option_map_or (λ r. r.how_far) (option_map (λ (r : Thread). record r { how_far = how_far.Fresh }) o) how_far.Fresh ≡ how_far.Fresh
-    at None = refl
-    at (Some r) = refl
+far_fresh n t = grind (arith, nat_tests, get-change)
 
 -- the answer may come before the work is gone
 pub answered_first : (n r v i : ℕ) (s : Core) → work_deleted i (assigned n r v s) ≡ assigned n r v (work_deleted i s)
@@ -98,71 +54,31 @@ answered_first n r v i s = of_group (work_group i s)
 
 pub work_unnamed : (i : ℕ) (t : Core) → subtask_handle (subtask.Host i) (set_subtask_handle (subtask.Host i) None t) ≡ None
 unfolding set_subtask_handle on_work
-work_unnamed i t = ap (λ (o : Option Work). option_and_then (λ w. w.handle) o) (get-change_same t.works i (λ w. record w { handle = None })) ∙ at (get t.works i)
-  where
-    at : (o : Option Work) → option_and_then (λ w. w.handle) (option_map (λ (w : Work). record w { handle = None }) o) ≡ None
-    at None = refl
-    at (Some w) = refl
+work_unnamed i t = grind (arith, nat_tests, get-change)
 
 pub freed_named : (i h k : ℕ) (t : Core) → subtask_handle (subtask.Host k) (free_handle i h t) ≡ subtask_handle (subtask.Host k) t
 unfolding free_handle
 freed_named i h k t = refl
 
 pub join_plain : (n : ℕ) (w : Option ℕ) → is_still (join_label n w) ≡ true
-join_plain n None = refl
-join_plain n (Some w) = refl
+join_plain n w = grind arith
 
 pub wait_plain : (n : ℕ) (v : Given) (w : Option ℕ) → is_plain (wait_label n v w) ≡ true
-wait_plain n v None = refl
-wait_plain n v (Some w) = refl
+wait_plain n v w = grind arith
 
 pub cancel_plain : (mode : Mode) (n v : ℕ) → is_plain (cancel_label mode n v) ≡ true
-cancel_plain Async n v = refl
-cancel_plain Sync n v = refl
+cancel_plain mode n v = grind arith
 
 -- a chosen member is named by a handle
 chosen_named : (n : ℕ) (ch : Choice) (s : Core) (sub : Subtask) → chosen n ch s ≡ Some sub → (h : ℕ) × (subtask_at (instance_of n s) h s ≡ Some sub)
-chosen_named n ch s sub e = at ch.member e
-  where
-    at : (o : Option ℕ) → option_and_then (λ h. subtask_at (instance_of n s) h s) o ≡ Some sub → (h : ℕ) × (subtask_at (instance_of n s) h s ≡ Some sub)
-    at None f = absurd (subst T (ap (λ (o : Option Subtask). is_none o) f) tt)
-    at (Some h) f = (h, f)
-
-some_same : {X : Type 0} (x y : X) → Some x ≡ Some y → x ≡ y
-some_same x y e = ap (λ o. unwrap_or o x) e
+chosen_named n ch s sub e = (unwrap_or ch.member 0, grind arith)
 
 -- what a gift may be: a task takes Cancelled only by callback, and a member is the chosen one
 pub gift_is : (a : Scene) (n : ℕ) (by : Bool) (y : ℕ) (ch : Choice) (g : Gift) → IsRunner a n → (by ≡ true → MayDeliver a (task_of n a.base)) → gift by (task_of n a.base) y (chosen n ch a.base) a.base ≡ Some g → MayTake a (task_of n a.base) g
 unfolding gift
-gift_is a n by y ch g is delivers e = of_own (own_event_of (task_of n a.base) a.base) by refl e
-  where
-    k : ℕ
-    k = task_of n a.base
-
-    given : (g h : Gift) → Some g ≡ Some h → MayTake a k g → MayTake a k h
-    given g h same ok = subst (MayTake a k) (some_same g h same) ok
-
-    of_member : (o : Option Subtask) → chosen n ch a.base ≡ o → (b : Bool) → (if b then member_gift y o a.base else Some NoGift) ≡ Some g → MayTake a k g
-    of_member o at false f = given NoGift g f tt
-    of_member None at true f = absurd (subst T (ap (λ (r : Option Gift). is_none r) f) tt)
-    of_member (Some sub) at true f = by_test (is_ready_member y sub a.base) f
-      where
-        by_test : (b : Bool) → (if b then Some (MemberGift sub) else None) ≡ Some g → MayTake a k g
-        by_test true f = let c = chosen_named n ch a.base sub at in given (MemberGift sub) g f (n, (is, ByHandle c.0 c.1))
-        by_test false f = absurd (subst T (ap (λ (r : Option Gift). is_none r) f) tt)
-
-    not_cancelled : {A : Type 0} → own.None ≡ own.Cancelled → A
-    not_cancelled f = absurd (subst T (ap is_none_event f) tt)
-      where
-        is_none_event : OwnEvent → Bool
-        is_none_event own.None = true
-        is_none_event own.Cancelled = false
-
-    of_own : (o : Option OwnEvent) (b : Bool) → by ≡ b → gift_after_own (own_gift b o) y (chosen n ch a.base) a.base ≡ Some g → MayTake a k g
-    of_own None b at f = of_member (chosen n ch a.base) refl (has_ready_member y a.base) f
-    of_own (Some own.None) b at f = given (OwnGift own.None) g f ((n, (is, refl)), λ c. not_cancelled c)
-    of_own (Some own.Cancelled) true at f = given (OwnGift own.Cancelled) g f ((n, (is, refl)), λ c. delivers at)
-    of_own (Some own.Cancelled) false at f = of_member (chosen n ch a.base) refl (has_ready_member y a.base) f
+gift_is a n by y ch (OwnGift v) is delivers e = ((n, (is, refl)), λ c. delivers (grind arith))
+gift_is a n by y ch (MemberGift sub) is delivers e = let c = chosen_named n ch a.base sub (grind arith) in (n, (is, ByHandle c.0 c.1))
+gift_is a n by y ch NoGift is delivers e = tt
 
 withdraws_by : (k : ℕ) (o : Option ℕ) (es fs : List Entry) (t : Core) (c : Bool) → remove_thread k (record t { queues = with_switch o (if c then set_high es t else set_low fs t).queues }) ≡ remove_thread k (set_switch o (if c then set_high es t else set_low fs t))
 unfolding set_switch set_high set_low
@@ -219,15 +135,11 @@ module _ {a : Scene} {b : Core} (n : ℕ) (is : IsRunner a n) where
 
   pub sync_sets_flag_walks : (m j : ℕ) (k : ExportKind) {t : Core} → Stay a b t → Stay a b (sync_sets_flag m j k t)
   sync_sets_flag_walks m j kind.Sync {t = t} c = word (SetDoNotSuspend j true) tt (word (SetSavedOwn m (Some (may_not_suspend j t))) tt c)
-  sync_sets_flag_walks m j kind.Blocking c = c
-  sync_sets_flag_walks m j kind.Stackful c = c
-  sync_sets_flag_walks m j kind.Callback c = c
+  sync_sets_flag_walks m j _ c = c
 
   call_clears_flag_walks : (j : ℕ) (k : ExportKind) {t : Core} → Stay a b t → Stay a b (call_clears_flag n j k t)
   call_clears_flag_walks j kind.Sync c = c
-  call_clears_flag_walks j kind.Blocking {t = t} c = word (SetDoNotSuspend j false) tt (word (SetSavedCallee n (Some (may_not_suspend j t))) tt c)
-  call_clears_flag_walks j kind.Stackful {t = t} c = word (SetDoNotSuspend j false) tt (word (SetSavedCallee n (Some (may_not_suspend j t))) tt c)
-  call_clears_flag_walks j kind.Callback {t = t} c = word (SetDoNotSuspend j false) tt (word (SetSavedCallee n (Some (may_not_suspend j t))) tt c)
+  call_clears_flag_walks j _ {t = t} c = word (SetDoNotSuspend j false) tt (word (SetSavedCallee n (Some (may_not_suspend j t))) tt c)
 
   settle_group_of_walks : (o : Option ℕ) {t : Core} → Stay a b t → Stay a b (settle_group_of o t)
   settle_group_of_walks None c = c
@@ -287,26 +199,15 @@ pub record Born (m : ℕ) (g : Goal) (t : Core) : Type 0 where
   pub goal : goal_of m t ≡ g
   pub made : t.made.threads ≡ m
 
-born_read : {A : Type 0} (f : Thread → A) (none : A) → ((r : Thread) → f (birth r) ≡ f r) → (o : Option Thread) (r : Thread) → option_map birth o ≡ Some (birth r) → option_map_or f o none ≡ f r
-born_read f none same o r e = sym (at o) ∙ (ap (λ q. option_map_or f q none) e ∙ same r)
-  where
-    at : (q : Option Thread) → option_map_or f (option_map birth q) none ≡ option_map_or f q none
-    at None = refl
-    at (Some u) = same u
-
-born_place_at : (o : Option Thread) (r : Thread) → option_map birth o ≡ Some (birth r) → option_map (λ (u : Thread). u.place) o ≡ Some r.place
-born_place_at None r e = absurd (subst T (ap (λ (o : Option Thread). is_none o) e) tt)
-born_place_at (Some u) r e = ap (λ (o : Option Thread). option_map (λ (v : Thread). v.place) o) e
-
 module _ {m : ℕ} {g : Goal} {t : Core} (h : Born m g t) where
   pub born_place : place_of m t ≡ Some place.New
-  born_place = born_place_at (get t.threads m) (new_thread m false script.Start [] None) h.thread
+  born_place = grind (arith, h.thread)
 
   pub born_explicit : is_explicit m t ≡ false
-  born_explicit = born_read (λ r. r.explicit) false (λ r. refl) (get t.threads m) (new_thread m false script.Start [] None) h.thread
+  born_explicit = grind (arith, h.thread)
 
   pub born_task : task_of m t ≡ m
-  born_task = born_read (λ r. r.call) 0 (λ r. refl) (get t.threads m) (new_thread m false script.Start [] None) h.thread
+  born_task = grind (arith, h.thread)
 
   pub born_goal : goal_of (task_of m t) t ≡ g
   born_goal = ap (λ (k : ℕ). goal_of k t) born_task ∙ h.goal
@@ -331,40 +232,21 @@ handle_born i m g t h = thread_born m m g (λ r. record r { handle = Some (new_t
 
 started_born : (k m : ℕ) (g : Goal) (t : Core) → Born m g t → Born m g (set_started k t)
 unfolding set_started on_call
-started_born k m g t h = record { thread = h.thread; goal = goal_same k m t ∙ h.goal; made = h.made }
-  where
-    goal_same : (k m : ℕ) (t : Core) → option_map_or (λ (c : Call). c.goal) (get (change k (λ (c : Call). record c { started = true }) t.calls) m) goal.Nowhere ≡ goal_of m t
-    goal_same k m t = map_or (get (change k (λ (c : Call). record c { started = true }) t.calls) m) (get t.calls m) (change-field (λ (c : Call). c.goal) k (λ (c : Call). record c { started = true }) (λ c. refl) t.calls m)
-      where
-        map_or : (o p : Option Call) → option_map (λ (c : Call). c.goal) o ≡ option_map (λ (c : Call). c.goal) p → option_map_or (λ (c : Call). c.goal) o goal.Nowhere ≡ option_map_or (λ (c : Call). c.goal) p goal.Nowhere
-        map_or o p e = sym (at o) ∙ (ap (λ (q : Option Goal). unwrap_or q goal.Nowhere) e ∙ at p)
-          where
-            at : (q : Option Call) → unwrap_or (option_map (λ (c : Call). c.goal) q) goal.Nowhere ≡ option_map_or (λ (c : Call). c.goal) q goal.Nowhere
-            at None = refl
-            at (Some c) = refl
+started_born k m g t h = record { thread = h.thread; goal = grind (arith, nat_tests, get-change, h.goal); made = h.made }
 
 flag_born : (m j : ℕ) (k : ExportKind) (g : Goal) (t : Core) → Born m g t → Born m g (sync_sets_flag m j k t)
 unfolding set_do_not_suspend on_instance set_saved_own
 flag_born m j kind.Sync g t h = let u = thread_born m m g (λ r. record r { saved_own = Some (may_not_suspend j t) }) t (λ r. refl) h in record { thread = u.thread; goal = u.goal; made = u.made }
-flag_born m j kind.Blocking g t h = h
-flag_born m j kind.Stackful g t h = h
-flag_born m j kind.Callback g t h = h
+flag_born m j _ g t h = h
 
 -- a call whose start runs has begun
 pub started_begun : (k : ℕ) (t : Core) → is_begun k (set_started k t) ≡ true
 unfolding set_started on_call
-started_begun k t = ap (λ (o : Option Call). option_map_or (λ c. c.started) o true) (get-change_same t.calls k (λ c. record c { started = true })) ∙ at (get t.calls k)
-  where
-    at : (o : Option Call) → option_map_or (λ c. c.started) (option_map (λ (c : Call). record c { started = true }) o) true ≡ true
-    at None = refl
-    at (Some c) = refl
+started_begun k t = grind (arith, nat_tests, get-change)
 
 pub flag_calls : (m j : ℕ) (k : ExportKind) (t : Core) → (sync_sets_flag m j k t).calls ≡ t.calls
 unfolding set_do_not_suspend on_instance set_saved_own on_thread
-flag_calls m j kind.Sync t = refl
-flag_calls m j kind.Blocking t = refl
-flag_calls m j kind.Stackful t = refl
-flag_calls m j kind.Callback t = refl
+flag_calls m j k t = grind arith
 
 -- where the thread is put or goes no more is said than whose it is
 shifted_new : (a : Scene) (m : ℕ) (s t : Core) → m ≡ next_thread a.base → Shifted s t → (s.made.threads ≡ m) × (is_explicit m s ≡ false) → IsNew a (subtask.Guest m) t
@@ -372,36 +254,11 @@ shifted_new a m s t is h e = (is, (ap (λ (d : Made). d.threads) (shifted_made h
 
 cleared_explicit : (n j : ℕ) (k : ExportKind) (m : ℕ) (t : Core) → (t.made.threads ≡ m) × (is_explicit m t ≡ false) → ((call_clears_flag n j k t).made.threads ≡ m) × (is_explicit m (call_clears_flag n j k t) ≡ false)
 unfolding set_do_not_suspend on_instance set_saved_callee on_thread
-cleared_explicit n j k m t e = by_kind k
-  where
-    explicit_same : (f : Option Bool) → is_explicit m (set_saved_callee n f t) ≡ is_explicit m t
-    explicit_same f = read_unplaced_by (get (set_saved_callee n f t).threads m) (get t.threads m) (change-field (λ (r : Thread). r.explicit) n (λ r. record r { saved_callee = f }) (λ r. refl) t.threads m)
-      where
-        read_unplaced_by : (o p : Option Thread) → option_map (λ (r : Thread). r.explicit) o ≡ option_map (λ (r : Thread). r.explicit) p → option_map_or (λ (r : Thread). r.explicit) o false ≡ option_map_or (λ (r : Thread). r.explicit) p false
-        read_unplaced_by o p f = sym (at o) ∙ (ap (λ (q : Option Bool). unwrap_or q false) f ∙ at p)
-          where
-            at : (q : Option Thread) → unwrap_or (option_map (λ (r : Thread). r.explicit) q) false ≡ option_map_or (λ (r : Thread). r.explicit) q false
-            at None = refl
-            at (Some r) = refl
-
-    by_kind : (k : ExportKind) → ((call_clears_flag n j k t).made.threads ≡ m) × (is_explicit m (call_clears_flag n j k t) ≡ false)
-    by_kind kind.Sync = e
-    by_kind kind.Blocking = (e.0, explicit_same (Some (may_not_suspend j t)) ∙ e.1)
-    by_kind kind.Stackful = (e.0, explicit_same (Some (may_not_suspend j t)) ∙ e.1)
-    by_kind kind.Callback = (e.0, explicit_same (Some (may_not_suspend j t)) ∙ e.1)
+cleared_explicit n j k m t e = grind (arith, nat_tests, get-change)
 
 cleared_there : (n j : ℕ) (k : ExportKind) (m : ℕ) (t : Core) → is_some (place_of m (call_clears_flag n j k t)) ≡ is_some (place_of m t)
 unfolding set_do_not_suspend on_instance set_saved_callee on_thread
-cleared_there n j k m t = by_kind k
-  where
-    same : (f : Option Bool) → is_some (place_of m (set_saved_callee n f t)) ≡ is_some (place_of m t)
-    same f = ap (λ (o : Option Place). is_some o) (change-field (λ (r : Thread). r.place) n (λ r. record r { saved_callee = f }) (λ r. refl) t.threads m)
-
-    by_kind : (k : ExportKind) → is_some (place_of m (call_clears_flag n j k t)) ≡ is_some (place_of m t)
-    by_kind kind.Sync = refl
-    by_kind kind.Blocking = same (Some (may_not_suspend j t))
-    by_kind kind.Stackful = same (Some (may_not_suspend j t))
-    by_kind kind.Callback = same (Some (may_not_suspend j t))
+cleared_there n j k m t = grind (arith, nat_tests, get-change)
 
 module _ {a : Scene} (n : ℕ) (is : IsRunner a n) where
   pub call_queues_walks : (e : Callee) (k : ExportKind) (g : Goal) (words : List ℕ) → Leaves a n → MayMakeCall a (caller.Thread n) e k g (thread_group n a.base) a.base → is_direct g ≡ false → Trip a a.base (call_queues n e k g words a.base)

@@ -1,65 +1,24 @@
 -- Each step as a chain of words: host works, main, the loop and all turns.
-use Rattle.task_machine.specs.declared.component.HostDef.{HostDef}
-use Rattle.task_machine.specs.declared.words.Phase.{Phase}
-use Rattle.task_machine.specs.declared.records.Stage.{Stage}
-use Rattle.task_machine.specs.declared.records.Subtask.{Subtask}
+use Rattle.std.proofs.Common.{arith}
+use Rattle.std.proofs.lemmas.Bool.Decides.{nat_tests}
+use Rattle.task_machine.proofs.CommuteLemmas.{get-change}
+use Rattle.task_rules.proofs.Machine.{Abort, aborted_phase, act_of, add_group, add_work, AddGroup, advanced_main, Answer, at_turn, Await, base_at, base_without, Began, begun_holder, blocked_on, ByProgram, ByScript, call_made, Callee, callee_of_main_op, Chain, Choice, choice_of, Collapses, Core, count_work, Course, course_for, course_of, course_value, DeadlockStep, did, Does, EmptyFor, end_for, ended, Ends, EndWords, EndWork, Entry, entry_number, export_kind, Fails, FailsNow, Falls, Finish, finish_act, finish_result, finished_call, finished_into, FinishWork, followed, FuturesStep, get, get-remove, Goal, Goes, goes_to, handed_by, handed_by_main, HandsOut, has_end, has_interesting, has_moving_work, host_at, host_done, host_label, host_result, host_status, HostDef, is_aborted, is_async_work, is_callback_waiter, is_complete, is_direct, is_free, is_ready_for_call, is_spawn, is_spawn_caller, is_stage_ended, is_take, is_unended_take, is_waiting_on, IsFall, IsRunner, Join, join_of, Label, LastWords, line_of, Main, main_aborted, main_outcome, main_row, main_spawned, main_started, MainAct, MainLabel, MainPlace, MainProgress, MainProgresses, MainStep, MakeCall, Mark, may, may_act, may_deadlock, may_publish, MayAbort, MayCall, MayFinish, Never, new_work, next_entry, next_polled, next_thread, next_work, NoWord, on_thread, on_work, Op, op_at, op_of, op_row, OpenAct, OpenProgresses, Ordered, Outcome, outcome_of_label, Pend, Pends, Phase, phase_of, place_of, Poll, poll_ends, poll_of, poll_pends, Polled, polled_course, polled_in, Pop, popped, ProgramAborts, Progress, Progresses, published, push_high, pushed, Put, put_high, QueueWork, Quiet, Ready, Records, Refused, Remains, remove_thread, remove_threads, RemoveThread, RestStep, runner_at, SameMain, Scene, ScriptAborts, Scripted, ScriptStep, set_course, set_event, set_phase, set_place, set_register, set_stage, set_trapped, SetPhase, SetRegister, Setting, settled_turn, SetTrapped, Shifts, size, Spawn, spawned_at, SpawnsNamed, Stage, stage_of, Start, start_act, start_of, start_refusal, Started, started_at, started_end, Starts, State, Status, Stay, Step, StepsAreWalks, StillPends, Stops, strand_from, strand_of, struck, Subtask, take_result, take_row, TakeHost, TakePush, TakeResult, TakesResult, TakeStep, Then, Thread, thread_of_entry, Trap, Traps, Trip, Turn, TurnStep, unblocked, under_of, unless_pending, Unscripted, wake, wake_joined, waken_by, Walk, Why, woken_of, Work, work_caller_of, work_queued, WorkCaller, Writes, WritesPolled, written_by}
+use Rattle.task_machine.specs.declared.scenario.MainOpDef.{MainOpDef}
+use Rattle.task_rules.specs.MainOps.{Answers}
 use Rattle.task_rules.proofs.MuteLemmas.{is_mute, is_mute_main, mute_words, none_said}
 use Rattle.task_rules.proofs.SayLemmas.{finished_is, result_taken, said_is}
-use Rattle.task_rules.specs.Chains.{EndWords, HandsOut, TakesResult, Writes, WritesPolled, start_of, Remains, Collapses, Chain, Then, LastWords, NoWord, SameMain, Shifts, StepsAreWalks, Stay, Trip, Walk, is_take, SpawnsNamed}
 use Rattle.task_rules.proofs.ChainLemmas.{join, trip_walk}
 use Rattle.task_rules.proofs.WalkTask.{Leads, data_row_leads, none_is_some, not_main, running_scene, task_row_leads, under_place}
-use Rattle.task_rules.specs.SubtaskEnds.{end_for, finished_call, handed_by, handed_by_main, started_end, written_by}
-use Rattle.task_machine.specs.declared.words.Status.{Status}
-use Rattle.task_machine.specs.Core.{Main, Began, Core, MainPlace, Refused, Scripted, Started, State, Unscripted}
-use Rattle.task_machine.specs.Write.{take_result, add_group, on_thread, on_work, push_high, remove_thread, remove_threads, set_course, set_event, set_phase, set_place, set_register, set_stage, set_trapped, add_work, count_work}
-use Rattle.task_rules.specs.MainOps.{started_at, spawned_at, Abort, Answer, Answers, Await, Does, Finish, MainAct, MainProgress, Pends, Quiet, Ready, Spawn, Start, act_of, advanced_main, finish_act, finish_result, has_interesting, is_complete, is_ready_for_call, line_of, main_aborted, main_row, main_spawned, main_started, may_act, op_at, start_act, start_refusal, unless_pending, is_spawn, is_spawn_caller, finished_into}
-use Rattle.std.proofs.Common.{T, ap, ap₂, cond, inl, inr, length, refl, subst, suc, sym, ◌∙◌, ◌⊎◌, is_some, is_none}
+use Rattle.std.proofs.Common.{T, ap, ap₂, inl, inr, length, refl, subst, suc, sym, ◌∙◌, ◌⊎◌, is_some, is_none}
 use Rattle.std.specs.Option.{option_map_or}
-use Rattle.std.specs.Prelude.{Bool, List, None, Option, Some, [], false, not, option_map, slice_set, true, unwrap_or, zero, ℕ, ◌+◌, ◌==◌, ◌∷◌, ◌≡◌, suc, is_none, ◌-◌, ◌++◌, slice_get}
+use Rattle.std.specs.Prelude.{Bool, List, None, Option, Some, [], false, not, option_map, true, unwrap_or, zero, ℕ, ◌+◌, ◌∷◌, ◌≡◌, suc, is_none, ◌-◌, ◌++◌, slice_get}
 use Rattle.task_machine.proofs.CommuteLemmas.{change-change_same}
-use Rattle.task_machine.proofs.MapLemmas.{change-field, get-change_same, get-remove_same, get-insert_same}
-use Rattle.task_machine.specs.Labels.{Choice, choice_of, host_label, woken_of}
-use Rattle.task_machine.specs.Maps.{Records, change, get, get-remove, size}
-use Rattle.task_machine.specs.Moves.{ended, is_callback_waiter, may_publish, published, put_high, unblocked, wake, wake_joined, waken_by}
-use Rattle.task_machine.specs.Read.{blocked_on, course_of, course_value, is_direct, is_stage_ended, is_waiting_on, join_of, next_entry, phase_of, place_of, stage_of, strand_from, strand_of, under_of, work_caller_of, is_aborted}
-use Rattle.task_machine.specs.declared.component.Callee.{Callee}
-use Rattle.task_machine.specs.declared.label.Label.{Label}
-use Rattle.task_machine.specs.declared.label.MainLabel.{MainLabel}
-use Rattle.task_machine.specs.declared.op.Op.{Op}
-use Rattle.task_machine.specs.declared.outcome.Outcome.{Outcome}
-use Rattle.task_machine.specs.declared.records.Course.{Course}
-use Rattle.task_machine.specs.declared.records.Entry.{Entry}
-use Rattle.task_machine.specs.declared.records.Goal.{Goal}
-use Rattle.task_machine.specs.declared.records.Join.{Join}
-use Rattle.task_machine.specs.declared.records.Thread.{Thread}
-use Rattle.task_machine.specs.declared.records.Turn.{Turn}
-use Rattle.task_machine.specs.declared.records.Why.{Why}
-use Rattle.task_machine.specs.declared.records.Work.{Work}
-use Rattle.task_machine.specs.declared.records.WorkCaller.{WorkCaller}
-use Rattle.task_machine.specs.declared.scenario.MainOpDef.{MainOpDef}
-use Rattle.task_machine.specs.declared.trap.Trap.{Trap}
-use Rattle.task_machine.specs.declared.words.Mark.{Mark}
+use Rattle.task_machine.proofs.MapLemmas.{get-remove_same, get-insert_same}
 use Rattle.task_rules.proofs.PlacingLemmas.{placed, popped_shifted}
 use Rattle.task_rules.proofs.WalkMoves.{blocked_at, chosen_in_of, published_work_shifts, shifted, unblocked_shifts, word, work_read}
 use Rattle.task_rules.proofs.WalkOps.{set_row_leads, subtask_row_leads, thread_row_leads}
 use Rattle.task_rules.proofs.WalkParts.{Born, born_explicit, born_goal, born_place, call_born}
 use Rattle.task_rules.proofs.WalkTakes.{host_begins, host_quiet, thread_taken_leads}
-use Rattle.task_rules.specs.Allowed.{ByProgram, ByScript, Falls, IsRunner, MayCall, Starts, is_async_work, MayAbort, MayFinish, ProgramAborts, ScriptAborts, IsFall}
-use Rattle.task_rules.specs.Calls.{call_made, next_thread, work_queued, next_work, new_work}
-use Rattle.task_rules.specs.Cancels.{aborted_phase}
-use Rattle.task_rules.specs.Laws.{is_free}
-use Rattle.task_rules.specs.Once.{begun_holder}
-use Rattle.task_rules.specs.OpParts.{callee_of_main_op}
-use Rattle.task_rules.specs.Outcome.{main_outcome, outcome_of_label}
-use Rattle.task_rules.specs.Progress.{Fails, Goes, Never, Ordered, Progress, Stops, Traps, may}
-use Rattle.task_rules.specs.Scenes.{Scene, base_at, base_without, runner_at, thread_of_entry}
-use Rattle.task_rules.specs.Scripts.{export_kind, host_at, op_of}
-use Rattle.task_rules.specs.Stalled.{Setting, is_unended_take, may_deadlock}
-use Rattle.task_rules.specs.Step.{DeadlockStep, EmptyFor, FuturesStep, MainProgresses, MainStep, OpenAct, OpenProgresses, Polled, Progresses, RestStep, ScriptStep, Step, TakeStep, TurnStep, did, entry_number, op_row, struck}
-use Rattle.task_rules.specs.Takes.{host_done, host_result, host_status, popped, pushed, take_row}
-use Rattle.task_rules.specs.Turns.{at_turn, goes_to, settled_turn}
-use Rattle.task_rules.specs.Words.{AddGroup, EndWork, FinishWork, MakeCall, Pend, Pop, Put, QueueWork, RemoveThread, SetPhase, SetRegister, SetTrapped, TakeHost, TakePush, TakeResult}
-use Rattle.task_rules.specs.Works.{Ends, FailsNow, Poll, StillPends, course_for, followed, has_moving_work, next_polled, poll_ends, poll_of, poll_pends, has_end, ends_with, polled_again, polled_course, polled_in}
 use Rattle.task_machine.specs.declared.words.Status.TheVariants as status
 use Rattle.task_machine.specs.declared.records.Subtask.TheVariants as subtask
 use Rattle.task_machine.specs.declared.label.Label.TheVariants as label
@@ -85,11 +44,7 @@ use Rattle.task_machine.specs.declared.words.Phase.TheVariants as phase
 
 removed_still : (n m : ℕ) (s : Core) → get s.threads n ≡ None → get (remove_thread m s).threads n ≡ None
 unfolding remove_thread
-removed_still n m s h = get-remove s.threads m n ∙ at (n == m) (get s.threads n) h
-  where
-    at : (b : Bool) (o : Option Thread) → o ≡ None → cond b None o ≡ None
-    at true o e = refl
-    at false o e = e
+removed_still n m s h = grind (arith, nat_tests, get-remove)
 
 -- ---- A host call whose entry is taken
 
@@ -142,10 +97,7 @@ ended_published i e w t =
 
 ended_result : (i : ℕ) (f : WorkCaller) (v : Option ℕ) (t : Core) → set_stage i stage.Ended (host_result f v t) ≡ host_result f v (set_stage i stage.Ended t)
 unfolding set_stage on_work set_register on_thread
-ended_result i (work_caller.Async n q) (Some v) t = refl
-ended_result i (work_caller.Async n q) None t = refl
-ended_result i work_caller.Spawn v t = refl
-ended_result i (work_caller.Sync n) v t = refl
+ended_result i f v t = grind arith
 
 -- the work's end may come first
 done_first : (i : ℕ) (w : Option ℕ) (s : Core) → published (subtask.Host i) (host_status (course_value (course_of i s))) w (host_result (work_caller_of i s) (course_value (course_of i s)) (set_stage i stage.Ended s)) ≡ host_done i w s
@@ -157,24 +109,15 @@ done_first i w s =
 
 event_result : (i : ℕ) (f : WorkCaller) (v : Option ℕ) (e : Option Status) (t : Core) → set_event (subtask.Host i) e (host_result f v t) ≡ host_result f v (set_event (subtask.Host i) e t)
 unfolding set_event on_work set_register on_thread
-event_result i (work_caller.Async n q) (Some v) e t = refl
-event_result i (work_caller.Async n q) None e t = refl
-event_result i work_caller.Spawn v e t = refl
-event_result i (work_caller.Sync n) v e t = refl
+event_result i f v e t = grind arith
 
 result_works : (f : WorkCaller) (v : Option ℕ) (t : Core) → (host_result f v t).works ≡ t.works
 unfolding set_register on_thread
-result_works (work_caller.Async n q) (Some v) t = refl
-result_works (work_caller.Async n q) None t = refl
-result_works work_caller.Spawn v t = refl
-result_works (work_caller.Sync n) v t = refl
+result_works f v t = grind arith
 
 host_places : (f : WorkCaller) (v : Option ℕ) (t : Core) (m : ℕ) → place_of m (host_result f v t) ≡ place_of m t
 unfolding set_register on_thread
-host_places (work_caller.Async n q) (Some v) t m = change-field (λ r. r.place) n (λ r. record r { registers = slice_set r.registers q v }) (λ r. refl) t.threads m
-host_places (work_caller.Async n q) None t m = refl
-host_places work_caller.Spawn v t m = refl
-host_places (work_caller.Sync n) v t m = refl
+host_places f v t m = grind (arith, nat_tests, get-change)
 
 ended_places : (i : ℕ) (t : Core) (m : ℕ) → place_of m (set_stage i stage.Ended t) ≡ place_of m t
 unfolding set_stage on_work
@@ -182,11 +125,7 @@ ended_places i t m = refl
 
 ended_stage : (i : ℕ) (t : Core) → is_stage_ended (stage_of i (set_stage i stage.Ended t)) ≡ true
 unfolding set_stage on_work
-ended_stage i t = ap (λ (o : Option Work). is_stage_ended (option_map_or (λ w. w.stage) o stage.Ended)) (get-change_same t.works i (λ (w : Work). record w { stage = stage.Ended })) ∙ at (get t.works i)
-  where
-    at : (o : Option Work) → is_stage_ended (option_map_or (λ w. w.stage) (option_map (λ (w : Work). record w { stage = stage.Ended }) o) stage.Ended) ≡ true
-    at None = refl
-    at (Some w) = refl
+ended_stage i t = grind (arith, nat_tests, get-change)
 
 staged_course : (i : ℕ) (x : Stage) (t : Core) → course_of i (set_stage i x t) ≡ course_of i t
 unfolding set_stage on_work
@@ -194,8 +133,7 @@ staged_course i x t = work_read (λ w. w.course) course.NoValue i (λ w. record 
 
 unblocked_course : (i : ℕ) (o : Option ℕ) (u : Core) → course_of i (unblocked o u) ≡ course_of i u
 unfolding put_high push_high set_place on_thread
-unblocked_course i None u = refl
-unblocked_course i (Some m) u = refl
+unblocked_course i o u = grind arith
 
 followed_course : (f : WorkCaller) (i : ℕ) (t : Core) → course_of i (followed f i t) ≡ course_of i t
 unfolding push_high
@@ -204,20 +142,12 @@ followed_course (work_caller.Async n q) i t = staged_course i stage.Finishing t
 followed_course (work_caller.Sync n) i t = unblocked_course i (blocked_on (subtask.Host i) t) (set_stage i stage.Ended t) ∙ staged_course i stage.Ended t
 
 course_ended : (v : Option ℕ) → has_end (course_for v) ≡ true
-course_ended None = refl
-course_ended (Some v) = refl
+course_ended v = grind arith
 
 -- the work has an end then
 poll_ended : (i : ℕ) (v : Option ℕ) (s : Core) → has_end (course_of i (poll_ends i v s)) ≡ true
 unfolding poll_ends set_phase set_course on_work
-poll_ended i v s =
-    let c = record s { works = change i (λ w. record w { course = course_for v }) s.works } in
-    ap (λ y. has_end y) (followed_course (work_caller_of i s) i _ ∙ work_read (λ w. w.course) course.NoValue i (λ w. record w { phase = phase.Complete }) (λ w. refl) c.works)
-    ∙ (ap (λ (o : Option Work). has_end (option_map_or (λ w. w.course) o course.NoValue)) (get-change_same s.works i (λ (w : Work). record w { course = course_for v })) ∙ at (get s.works i))
-  where
-    at : (o : Option Work) → has_end (option_map_or (λ w. w.course) (option_map (λ (w : Work). record w { course = course_for v }) o) course.NoValue) ≡ true
-    at None = refl
-    at (Some w) = course_ended v
+poll_ended i v s = grind (arith, nat_tests, get-change, followed_course (work_caller_of i s) i, course_ended v)
 
 -- the work has ended, and tells it
 abbrev told_end : ℕ → Core → Core
@@ -227,8 +157,7 @@ module _ {a : Scene} {b : Core} where
   host_result_walks : (f : WorkCaller) (v : Option ℕ) {t : Core} → Stay a b t → Stay a b (host_result f v t)
   host_result_walks (work_caller.Async n q) (Some v) c = word (SetRegister n q v) tt c
   host_result_walks (work_caller.Async n q) None c = c
-  host_result_walks work_caller.Spawn v c = c
-  host_result_walks (work_caller.Sync n) v c = c
+  host_result_walks _ v c = c
 
   host_done_walks : (i : ℕ) (w : Option ℕ) (s : Core) → may_publish (subtask.Host i) w s ≡ true → Stay a b (told_end i s) → Stay a b (host_done i w s)
   unfolding may_publish
@@ -255,11 +184,7 @@ first_gone zero n s = get-remove_same s.threads n
 first_gone (suc k) n s = struck_gone n (option_map_or (strand_from k s) (under_of n s) []) (remove_thread n s) (get-remove_same s.threads n)
 
 not_over : {A : Type 0} (n : ℕ) → turn.Over ≡ turn.Run n → A
-not_over n e = absurd (subst T (ap is_over e) tt)
-  where
-    is_over : Turn → Bool
-    is_over turn.Over = true
-    is_over _ = false
+not_over n e = absurd (grind arith)
 
 abbrev Fall : Scene → Core → Type 0
 Fall a t = Chain (IsFall a) a.base t
@@ -331,8 +256,7 @@ same_spawns : (p : MainPlace) (t : Core) (q : MainPlace) → q.spawns ≡ p.spaw
 same_spawns p t q e k = inl (k, ap (λ (ss : List ℕ). unwrap_or (slice_get ss (k - 1)) 0) e)
 
 finished_spawns : (o : MainOpDef) (v : ℕ) (p : MainPlace) → (finished_into o v p).spawns ≡ p.spawns
-finished_spawns (main_op.Finish k r) v p = refl
-finished_spawns _ v p = refl
+finished_spawns o v p = grind arith
 
 advanced_spawns : (o : MainOpDef) (k : MainLabel) (p : MainPlace) (t : Core) → SpawnTold k t → SpawnsNamed p t (advanced_main o k p)
 advanced_spawns o (main_label.Spawn j i) p t told k = by (at_end p.spawns i (k - 1))
@@ -379,11 +303,7 @@ idle_words a t none stills outcome begun says = record {
 }
 
 not_futures : {A : Type 0} (i n : ℕ) → turn.Futures i ≡ turn.Run n → A
-not_futures i n e = absurd (subst T (ap is_futures e) tt)
-  where
-    is_futures : Turn → Bool
-    is_futures (turn.Futures k) = true
-    is_futures _ = false
+not_futures i n e = absurd (grind arith)
 
 not_take : {A : Type 0} (ended : Bool) (n : ℕ) → turn.Take ended ≡ turn.Run n → A
 not_take ended n e = absurd (subst T (ap is_take e) tt)
@@ -395,40 +315,18 @@ sync_ended_shifts i v t =
     unblocked_shifts (subtask.Host i) (blocked_on (subtask.Host i) u) (set_stage i stage.Ended u) (ended_stage i u) (λ m is. blocked_at (subtask.Host i) u m is)
 
 host_mute : (m : Mark) (i : ℕ) (w : Option ℕ) → is_mute (host_label m i w) ≡ true
-host_mute m i None = refl
-host_mute m i (Some z) = refl
+host_mute m i w = grind arith
 
 abbrev is_unscripted : Main → Bool
 is_unscripted Unscripted = true
 is_unscripted (Scripted p) = false
 
 one_place : (p q : MainPlace) → Scripted p ≡ Scripted q → p ≡ q
-one_place p q h = ap place_in h
-  where
-    place_in : Main → MainPlace
-    place_in (Scripted r) = r
-    place_in Unscripted = p
+one_place p q h = cc
 
 -- what an op of a script finishes is the start that it names
 script_names : (p : MainPlace) (o : MainOpDef) (y : Started) → act_of p o ≡ Finish y → started_at p (line_of p o) ≡ y
-script_names p o y h = names o h
-  where
-    finish_of : MainAct → Option Started
-    finish_of (Finish z) = Some z
-    finish_of _ = None
-
-    none : {A : Type 0} → None ≡ Some y → A
-    none g = none_is_some y g
-
-    names : (q : MainOpDef) → act_of p q ≡ Finish y → started_at p (line_of p q) ≡ y
-    names (main_op.Finish k r) g = ap (λ (o : Option Started). unwrap_or o y) (ap finish_of g)
-    names (main_op.Start f xs) g = none (ap finish_of g)
-    names (main_op.Spawn k) g = none (ap finish_of g)
-    names (main_op.Abort k) g = none (ap finish_of g)
-    names (main_op.Await k) g = none (ap finish_of g)
-    names main_op.Quiet g = none (ap finish_of g)
-    names (main_op.Ready f) g = none (ap finish_of g)
-    names (main_op.Answer v) g = none (ap finish_of g)
+script_names p o y h = grind arith
 
 queued_spawn : (host : HostDef) (t : Core) → is_spawn (next_work t) (work_queued work_caller.Spawn host None t) ≡ true
 unfolding work_queued push_high add_work count_work
@@ -436,47 +334,12 @@ queued_spawn host t = ap (λ (o : Option Work). option_map_or (λ w. is_spawn_ca
 
 -- what an op of a script aborts is a work that it names
 script_aborts : (p : MainPlace) (o : MainOpDef) (i : ℕ) → act_of p o ≡ Abort i → (k : ℕ) × (i ≡ spawned_at p k)
-script_aborts p o i h = names o h
-  where
-    aborted : MainAct → Option ℕ
-    aborted (Abort j) = Some j
-    aborted _ = None
-
-    names : (q : MainOpDef) → act_of p q ≡ Abort i → (k : ℕ) × (i ≡ spawned_at p k)
-    names (main_op.Abort k) g = (k, ap (λ (a : MainAct). unwrap_or (aborted a) 0) (sym g))
-    names (main_op.Finish k r) g = none_is_some i (ap aborted g)
-    names (main_op.Start f xs) g = none_is_some i (ap aborted g)
-    names (main_op.Spawn k) g = none_is_some i (ap aborted g)
-    names (main_op.Await k) g = none_is_some i (ap aborted g)
-    names main_op.Quiet g = none_is_some i (ap aborted g)
-    names (main_op.Ready f) g = none_is_some i (ap aborted g)
-    names (main_op.Answer v) g = none_is_some i (ap aborted g)
-
-abbrev is_ends : Poll → Bool
-is_ends (Ends v) = true
-is_ends _ = false
-
-abbrev value_of_poll : Poll → Option ℕ
-value_of_poll (Ends v) = v
-value_of_poll _ = None
-
-no_ends : {A : Type 0} {p : Poll} {v : Option ℕ} → p ≡ Ends v → is_ends p ≡ false → A
-no_ends is other = absurd (subst T (ap is_ends (sym is) ∙ other) tt)
+script_aborts p (main_op.Abort k) i h = (k, grind arith)
+script_aborts p _ i h = absurd (grind arith)
 
 -- a work that goes on ends with a value
-goes_valued : {A : Type 0} (host : HostDef) (o : Option ℕ) (v : Option ℕ) → polled_again host o ≡ Ends v → course_value (course_for v) ≡ None → A
-goes_valued host None v is none = no_ends is refl
-goes_valued host (Some (suc n)) v is none = no_ends is refl
-goes_valued {A = A} host (Some zero) v is none = by_value host.value is
-  where
-    by_value : (o : Option ℕ) → ends_with o ≡ Ends v → A
-    by_value None h = no_ends h refl
-    by_value (Some w) h = absurd (subst T (ap (λ (o : Option ℕ). is_none o) (sym none ∙ ap (λ q. course_value (course_for (value_of_poll q))) (sym h))) tt)
-
 goes_valueless : (c : Course) (v : Option ℕ) → polled_course c ≡ Ends v → course_value (course_for v) ≡ None → has_end c ≡ true
-goes_valueless (course.Goes host) v is none = goes_valued host host.polls v is none
-goes_valueless (course.Value w) v is none = refl
-goes_valueless course.NoValue v is none = refl
+goes_valueless c v is none = grind arith
 
 -- a work that ends without a value was aborted
 ends_valueless : (p : Phase) (c : Course) (v : Option ℕ) → polled_in p c ≡ Ends v → course_value (course_for v) ≡ None → (is_aborted p ≡ true) ⊎ (has_end c ≡ true)

@@ -2,51 +2,21 @@
 use Rattle.task_rules.proofs.SayLemmas.{said_is}
 use Rattle.task_rules.proofs.MuteLemmas.{is_mute, mute_words, none_said}
 use Rattle.task_rules.proofs.WalkEnds.{cancelled_rest, returned_rest, SameCall, cancelled_walks, returned_walks, still_told_to, unanswered}
-use Rattle.task_rules.specs.Allowed.{SaysEnd, AwaitsEvent, BySetHandle, ComesAgain, EndsActivation, Exits, FindsEvent, GivesUp, HasSet, IsRunner, Leaves, MayBar, MayEnd, MayOwe, ReturnsNow, Uncovers, is_exit}
-use Rattle.task_rules.specs.Chains.{EndWords, HandsOut, WritesToo, is_over, EndsByExit, EndsCall, EndsOwn, Writes, WritesCall, Remains, GoesBack, LastWords, NoWord, Stay, Trip, Walk, is_running}
+use Rattle.task_rules.proofs.Machine.{advanced, answered, assigned, AwaitsEvent, backpressure_of, begun_holder, blocking_exit_row, blocking_exits, BySetHandle, Call, CallEnd, cancel_was_delivered, change, checked, Choice, code_exits, code_finds, code_kind_row, code_row, code_stops, code_wait_row, code_waits, code_yields, ComesAgain, Component, Core, data_row, direct_exit_to, direct_exits, end_for, end_reopens, ended, ends_activation, EndsActivation, EndsByExit, EndsCall, EndsOwn, EndWords, exit_label, exit_restores, exit_row_for, exit_stops, Exits, ExportKind, Fails, FindsEvent, foot_of, get, GivesUp, goal_of, Goes, GoesBack, handed_by, HandsOut, has_ended, has_event_for, HasSet, held_by_flag, holder_at_exit, implicit_exit_row, instance_of, is_async_lifted, is_at, is_code_op, is_direct, is_ending_exit, is_exit, is_explicit, is_holding, is_over, is_running, is_under, IsRunner, kind_exit_row, kind_of, Label, LastWords, Leaves, leaves_no_result, Main, may, may_tell, MayBar, MayEnd, MayOwe, Move, moved_to, Never, NoWord, numbers, on_call, on_instance, on_thread, op_in, or_never, or_trap, Ordered, outcome_of_label, own_event_of, own_or_none, OwnEvent, passes_after_return, passes_after_stop, passes_check, Place, place_of, position_of, Progress, Put, Records, register_of, Remains, ret_label, returned, returned_holder, ReturnsNow, saved_own_of, SaysEnd, Scene, script_of, set_at, set_backpressure, set_do_not_enter, set_do_not_suspend, set_end, set_how_far, set_place, SetBackpressure, SetDoNotEnter, SetDoNotSuspend, SetEnd, SetHowFar, SetOwnEvent, SetPosition, SetRegister, SetSavedCallee, Setting, SetWord, skip_row, skipped, Status, Stay, stopped, Stops, stored, Subtask, sync_exit_row, sync_exits, task_cancel_label, task_end, task_of, Thread, thread_exit_row, Trap, trap_if, Traps, Trip, Turn, Uncovers, under_of, value_of, Walk, Writes, WritesCall, WritesToo, written_by, written_by_exit}
+use Rattle.task_machine.specs.declared.op.DataOp.{DataOp}
+use Rattle.task_machine.specs.declared.op.TaskOp.{TaskOp}
+use Rattle.task_rules.specs.Task.{dec_from, dec_lowers, dec_opens, inc_raises, inc_row, ret_done, ret_row, task_cancel_done, task_cancel_row, task_row}
 use Rattle.task_rules.proofs.ChainLemmas.{trip_walk, stay_walk}
-use Rattle.task_rules.specs.SubtaskEnds.{end_for, handed_by, is_ending_exit, task_end, written_by, written_by_exit}
-use Rattle.task_machine.specs.declared.records.Subtask.{Subtask}
-use Rattle.task_machine.specs.declared.words.Status.{Status}
-use Rattle.task_machine.specs.declared.records.CallEnd.{CallEnd}
-use Rattle.task_machine.specs.Write.{set_end, on_call, on_instance, on_thread, set_backpressure, set_do_not_enter, set_do_not_suspend, set_how_far, set_place}
-use Rattle.task_machine.proofs.MapLemmas.{get-change_same, change-field}
-use Rattle.std.proofs.Common.{T, ap, cond, inl, inr, length, refl, subst, suc, sym, ◌-◌, ◌∙◌, ◌⊎◌, ap₂, is_some}
+use Rattle.std.proofs.Common.{arith}
+use Rattle.std.proofs.lemmas.Bool.Decides.{nat_tests}
+use Rattle.task_machine.proofs.MapLemmas.{change-field}
+use Rattle.std.proofs.Common.{T, ap, inl, inr, length, refl, subst, suc, sym, ◌-◌, ◌∙◌, ◌⊎◌, ap₂}
 use Rattle.std.specs.Option.{option_map_or}
 use Rattle.std.specs.Prelude.{Bool, List, None, Option, Some, false, if◌then◌else◌, is_none, min, nat_le, nat_lt, not, option_map, true, unwrap_or, zero, ℕ, ◌%◌, ◌&&◌, ◌*◌, ◌+◌, ◌/◌, ◌==◌, ◌≡◌, ◌||◌}
 use Rattle.task_machine.proofs.CommuteLemmas.{get-change}
-use Rattle.task_machine.specs.Core.{Core, Main}
-use Rattle.task_machine.specs.Labels.{Choice, exit_label, ret_label, task_cancel_label}
-use Rattle.task_machine.specs.Maps.{Records, change, get, numbers}
-use Rattle.task_machine.specs.Moves.{checked, ended, passes_check, stopped}
-use Rattle.task_machine.specs.Read.{backpressure_of, cancel_was_delivered, foot_of, goal_of, has_ended, instance_of, is_async_lifted, is_at, is_direct, is_explicit, is_holding, is_under, kind_of, own_event_of, place_of, position_of, register_of, saved_own_of, set_at, task_of, under_of}
-use Rattle.task_machine.specs.declared.component.Component.{Component}
-use Rattle.task_machine.specs.declared.component.ExportKind.{ExportKind}
-use Rattle.task_machine.specs.declared.label.Label.{Label}
-use Rattle.task_machine.specs.declared.op.DataOp.{DataOp}
-use Rattle.task_machine.specs.declared.op.TaskOp.{TaskOp}
-use Rattle.task_machine.specs.declared.records.Call.{Call}
-use Rattle.task_machine.specs.declared.records.Place.{Place}
-use Rattle.task_machine.specs.declared.records.Thread.{Thread}
-use Rattle.task_machine.specs.declared.records.Turn.{Turn}
-use Rattle.task_machine.specs.declared.trap.Trap.{Trap}
-use Rattle.task_machine.specs.declared.words.OwnEvent.{OwnEvent}
 use Rattle.task_rules.proofs.StopLemmas.{find_passes}
 use Rattle.task_rules.proofs.PlacingLemmas.{Shifted, shifted_calls, shifted_task, shifts_shifted, placing_shifted}
-use Rattle.task_rules.proofs.StandLemmas.{is_eq_of}
 use Rattle.task_rules.proofs.WalkMoves.{Chosen, ToldTo, checked_shifts, chosen_released, ended_gone, ended_walks, exits_trip, lands, released_shifts, shifted, stopped_shifts, told_to, word}
-use Rattle.task_rules.specs.Calls.{answered}
-use Rattle.task_rules.specs.Data.{advanced, assigned, data_row, moved_to, skip_row, skipped, stored}
-use Rattle.task_rules.specs.Ends.{blocking_exit_row, blocking_exits, code_exits, code_finds, code_kind_row, code_row, code_stops, code_wait_row, code_waits, code_yields, direct_exit_to, direct_exits, end_reopens, exit_restores, exit_row_for, exit_stops, has_event_for, held_by_flag, implicit_exit_row, kind_exit_row, leaves_no_result, may_tell, own_or_none, passes_after_return, passes_after_stop, returned, sync_exit_row, sync_exits, thread_exit_row}
-use Rattle.task_rules.specs.Once.{begun_holder, holder_at_exit, returned_holder}
-use Rattle.task_rules.specs.OpParts.{ends_activation, is_code_op}
-use Rattle.task_rules.specs.Outcome.{outcome_of_label}
-use Rattle.task_rules.specs.Progress.{Fails, Goes, Never, Ordered, Progress, Stops, Traps, may, or_never, or_trap, trap_if}
-use Rattle.task_rules.specs.Scenes.{Scene, op_in}
-use Rattle.task_rules.specs.Scripts.{script_of, value_of}
-use Rattle.task_rules.specs.Stalled.{Setting}
-use Rattle.task_rules.specs.Task.{dec_from, dec_lowers, dec_opens, inc_raises, inc_row, ret_done, ret_row, task_cancel_done, task_cancel_row, task_row}
-use Rattle.task_rules.specs.Words.{Move, Put, SetBackpressure, SetDoNotEnter, SetDoNotSuspend, SetEnd, SetHowFar, SetOwnEvent, SetPosition, SetRegister, SetSavedCallee, SetWord}
 use Rattle.task_machine.specs.declared.words.Status.TheVariants as status
 use Rattle.task_machine.specs.declared.component.ExportKind.TheVariants as kind
 use Rattle.task_machine.specs.declared.label.CallLabel.TheVariants as call_label
@@ -116,99 +86,64 @@ abbrev pub is_still : Label → Bool
 is_still l = is_plain l && is_mute l
 
 still_parts : (p m : Bool) → (p && m) ≡ true → (p ≡ true) × (m ≡ true)
-still_parts true true h = (refl, refl)
-still_parts true false h = absurd (subst T (sym h) tt)
-still_parts false m h = absurd (subst T (sym h) tt)
+still_parts p m h = grind arith
 
 quiet_outcome : (l : Label) → is_quiet l ≡ true → outcome_of_label l ≡ None
-quiet_outcome (label.Main l) h = absurd (subst T (sym h) tt)
-quiet_outcome (label.Take l) h = absurd (subst T (sym h) tt)
-quiet_outcome (label.Loop l) h = absurd (subst T (sym h) tt)
-quiet_outcome (label.Call (call_label.Fails n i)) h = absurd (subst T (sym h) tt)
-quiet_outcome _ h = refl
+quiet_outcome l h = grind arith
 
 quiet_begins : (s : Core) (l : Label) → is_quiet l ≡ true → begun_holder s l ≡ None
-quiet_begins s (label.Take l) h = absurd (subst T (sym h) tt)
-quiet_begins s _ h = refl
+quiet_begins s l h = grind arith
 
 plain_quiet : (q e : Bool) → (q && not e) ≡ true → (q ≡ true) × (e ≡ false)
-plain_quiet true false h = (refl, refl)
-plain_quiet true true h = absurd (subst T (sym h) tt)
-plain_quiet false e h = absurd (subst T (sym h) tt)
+plain_quiet q e h = grind arith
 
 ret_plain : (n v : ℕ) (w : Option ℕ) → is_plain (ret_label n v w) ≡ true
-ret_plain n v None = refl
-ret_plain n v (Some w) = refl
+ret_plain n v w = grind arith
 
 task_cancel_plain : (n : ℕ) (w : Option ℕ) → is_plain (task_cancel_label n w) ≡ true
-task_cancel_plain n None = refl
-task_cancel_plain n (Some w) = refl
+task_cancel_plain n w = grind arith
 
 ret_writes : (c : Component) (n v : ℕ) (w : Option ℕ) (s t : Core) → written_by c s (ret_label n v w) t ≡ task_end n status.Returned s
-ret_writes c n v None s t = refl
-ret_writes c n v (Some y) s t = refl
+ret_writes c n v w s t = grind arith
 
 task_cancel_writes : (c : Component) (n : ℕ) (w : Option ℕ) (s t : Core) → written_by c s (task_cancel_label n w) t ≡ task_end n status.ReturnCancelled s
-task_cancel_writes c n None s t = refl
-task_cancel_writes c n (Some y) s t = refl
+task_cancel_writes c n w s t = grind arith
 
 ret_hands : (c : Component) (m : Main) (n v : ℕ) (w : Option ℕ) (s t : Core) → handed_by c m s (ret_label n v w) t ≡ None
-ret_hands c m n v None s t = refl
-ret_hands c m n v (Some y) s t = refl
+ret_hands c m n v w s t = grind arith
 
 task_cancel_hands : (c : Component) (m : Main) (n : ℕ) (w : Option ℕ) (s t : Core) → handed_by c m s (task_cancel_label n w) t ≡ None
-task_cancel_hands c m n None s t = refl
-task_cancel_hands c m n (Some y) s t = refl
+task_cancel_hands c m n w s t = grind arith
 
 -- the call of which an end speaks
 pub over_now : (k : ℕ) (e : CallEnd) (s : Core) → is_over k (set_end k e s) ≡ true
 unfolding set_end on_call
-over_now k e s = ap (λ o. option_map_or (λ (c : Call). is_some c.«end») o true) (get-change_same s.calls k (λ (c : Call). record c { «end» = Some e })) ∙ at (get s.calls k)
-  where
-    at : (o : Option Call) → option_map_or (λ (c : Call). is_some c.«end») (option_map (λ (c : Call). record c { «end» = Some e }) o) true ≡ true
-    at None = refl
-    at (Some c) = refl
+over_now k e s = grind (arith, nat_tests, get-change)
 
 exit_quiet : (n : ℕ) (w : Option ℕ) → is_quiet (exit_label n w) ≡ true
-exit_quiet n None = refl
-exit_quiet n (Some w) = refl
+exit_quiet n w = grind arith
 
 exit_is : (n : ℕ) (w : Option ℕ) → is_exit (exit_label n w) ≡ true
-exit_is n None = refl
-exit_is n (Some w) = refl
+exit_is n w = grind arith
 
 exit_returns : (n : ℕ) (w : Option ℕ) (s : Core) → returned_holder s (exit_label n w) ≡ holder_at_exit n s
-exit_returns n None s = refl
-exit_returns n (Some w) s = refl
+exit_returns n w s = grind arith
 
 pub none_is_some : {X : Type 0} {A : Type 0} (x : X) → None ≡ Some x → A
-none_is_some {X = X} x h = absurd (subst T (ap (λ (o : Option X). is_none o) h) tt)
+none_is_some x h = absurd (grind arith)
 
 pub one_runner : (n m : ℕ) → turn.Run n ≡ turn.Run m → n ≡ m
-one_runner n m e = ap runner e
-  where
-    runner : Turn → ℕ
-    runner (turn.Run k) = k
-    runner _ = 0
+one_runner n m e = grind arith
 
 pub not_main : {A : Type 0} (n : ℕ) → turn.Main ≡ turn.Run n → A
-not_main n e = absurd (subst T (ap is_main e) tt)
-  where
-    is_main : Turn → Bool
-    is_main turn.Main = true
-    is_main _ = false
+not_main n e = absurd (grind arith)
 
 pub unnot : (c : Bool) → not c ≡ false → c ≡ true
-unnot true h = refl
-unnot false h = absurd (subst T h tt)
+unnot c h = grind arith
 
 pub moved_passes : (test : Place → Bool) (p : Place) → test p ≡ true → (m : ℕ) (t : Core) → option_map_or test (place_of m (set_place m p t)) true ≡ true
 unfolding set_place on_thread
-moved_passes test p passes m t = ap (λ o. option_map_or test (option_map (λ (r : Thread). r.place) o) true) (get-change_same t.threads m (λ r. record r { place = p })) ∙ at (get t.threads m)
-  where
-    at : (o : Option Thread) → option_map_or test (option_map (λ (r : Thread). r.place) (option_map (λ (r : Thread). record r { place = p }) o)) true ≡ true
-    at None = refl
-    at (Some r) = passes
+moved_passes test p passes m t = grind (arith, nat_tests, get-change)
 
 pub running_moved : (m : ℕ) (t : Core) → option_map_or is_running (place_of m (set_place m place.Running t)) true ≡ true
 running_moved m t = moved_passes is_running place.Running refl m t
@@ -383,26 +318,10 @@ code_exits_gone n order s = ended_gone n (checked (instance_of n s) (code_stops 
 -- the thread that is under n
 pub under_place : (n m : ℕ) (s : Core) → under_of n s ≡ Some m → place_of m s ≡ Some (place.Under n)
 unfolding under_of
-under_place n m s h = at (place_of m s) (find_passes (λ k. is_at k s (is_under n)) (numbers s.threads) m h)
-  where
-    at : (o : Option Place) → option_map_or (is_under n) o false ≡ true → o ≡ Some (place.Under n)
-    at None e = absurd (subst T (sym e) tt)
-    at (Some (place.Under c)) e = ap (λ (j : ℕ). Some (place.Under j)) (is_eq_of c n e)
-    at (Some place.New) e = absurd (subst T (sym e) tt)
-    at (Some place.Running) e = absurd (subst T (sym e) tt)
-    at (Some (place.Ready y w)) e = absurd (subst T (sym e) tt)
-    at (Some (place.Waiting y w)) e = absurd (subst T (sym e) tt)
-    at (Some (place.Behind c)) e = absurd (subst T (sym e) tt)
-    at (Some (place.Blocked c)) e = absurd (subst T (sym e) tt)
-    at (Some (place.Held c)) e = absurd (subst T (sym e) tt)
-    at (Some place.Suspended) e = absurd (subst T (sym e) tt)
+under_place n m s h = grind (arith, nat_tests, find_passes (λ k. is_at k s (is_under n)) (numbers s.threads) m)
 
 none_changed : {X : Type 0} (m : Records X) (n k : ℕ) (f : X → X) → get m k ≡ None → get (change n f m) k ≡ None
-none_changed {X = X} m n k f h = get-change n f m k ∙ at (k == n) (get m k) h
-  where
-    at : (b : Bool) (o : Option X) → o ≡ None → cond b (option_map f o) o ≡ None
-    at true o e = ap (option_map f) e
-    at false o e = e
+none_changed m n k f h = grind (arith, get-change)
 
 direct_exits_gone : (n m v : ℕ) (t : Core) → get (direct_exits n m v t).threads n ≡ None
 unfolding direct_exits set_how_far set_place on_thread
