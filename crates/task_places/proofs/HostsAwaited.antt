@@ -1,5 +1,5 @@
 -- A thread inside a sync call of a host waits for its work, or that is done; and host works have their entries: along the words of a step.
-use Rattle.task_rules.proofs.Machine.{[], after_placing, after_word, Allowed, ap, arith, behind_one, Bool, Collapses, Core, Departs, EndsOver, Enter, false, get, GoBehind, GoesBack, how_far_of, inl, inr, instance_of, is_none, is_some, is_stage_ended, IsFall, IsRunner, IsSettling, Label, Lands, LandsAt, Made, MayCome, MayLand, MayRemoveWork, Move, None, Option, option_map, option_map_or, Place, place_of, Places, Placing, Pop, Promote, push_high, push_low, Put, put_high, put_low, Quits, refl, Remains, RemoveThread, Scene, scene_of, set_callers, set_place, SetHowFar, Setting, Settles, Some, stage_of, State, Stay, Stop, subst, Subtask, subtask_at, subtask_ended, subtask_handle, sym, Thread, Trip, true, Walked, Word, Work, ℕ, ◌==◌, ◌∙◌, ◌≡◌, ◌≤◌, ◌⊎◌}
+use Rattle.task_rules.proofs.Machine.{[], after_placing, after_word, Allowed, ap, arith, behind_one, Bool, Collapses, Core, Departs, EndsOver, Enter, false, get, GoBehind, GoesBack, how_far_of, inl, inr, instance_of, is_none, is_some, is_stage_ended, IsFall, IsRunner, IsSettling, Label, Lands, LandsAt, Made, MayCome, MayLand, MayRemoveWork, Move, None, Option, option_map_or, Place, place_of, Places, Placing, Pop, Promote, push_high, push_low, Put, put_high, put_low, Quits, refl, Remains, RemoveThread, Scene, scene_of, set_callers, set_place, SetHowFar, Setting, Settles, Some, stage_of, State, Stay, Stop, subst, Subtask, subtask_at, subtask_ended, subtask_handle, sym, Thread, Trip, true, Walked, Word, Work, ℕ, ◌==◌, ◌∙◌, ◌≡◌, ◌≤◌, ◌⊎◌}
 use Rattle.task_machine.specs.declared.records.Stage.TheVariants as stage
 use Rattle.task_places.proofs.PlaceSteps.{Reads, Withdrawable, step_by}
 use Rattle.task_rules.proofs.PlacingLemmas.{placing_shifted, SameWorks}
@@ -37,11 +37,11 @@ awaited_word a w s ok q stuck h n i far = go (thread_came w s ok n)
     come r e ok = (grind arith, inl (blocked_place (subtask.Host i) (place_of n s) (grind arith)))
 
     go : ThreadAfter a w s n → Awaited n i (after_word w s)
-    go (IsSame r u e f c y (inl same) p) = goes r u e f p (h n i (cc))
-    go (IsSame r u e f c y (inr ok) p) = goes r u e f p (come r e (let is : u.how_far ≡ how_far.Calls (subtask.Host i) = cc in subst (λ g. MayCome a n g s) is ok))
+    go (IsSame r u e f c y (inl same) p z) = goes r u e f p (h n i (cc))
+    go (IsSame r u e f c y (inr ok) p z) = goes r u e f p (come r e (let is : u.how_far ≡ how_far.Calls (subtask.Host i) = cc in subst (λ g. MayCome a n g s) is ok))
     go (IsGone e) = absurd (cc)
     go (IsBeside u is l same m e) = absurd (cc)
-    go (IsFirst u is l there y z new m e) = absurd (cc)
+    go (IsFirst u is l there y z new m e x) = absurd (cc)
 
 -- ---- A step
 
