@@ -240,7 +240,8 @@ HasSlot a n x = is_script (slot_at (component_of a) (instance_of n a.base) x) �
 -- a thread beside the first one of its task, by an op that names a script
 abbrev pub MayMake : Scene → Thread → Core → Type 0
 MayMake a t s = (n : ℕ) × (IsRunner a n × ((s.made.threads ≡ a.base.made.threads) × ((x : ℕ) × ((v : ℕ) ×
-    ((t ≡ new_thread (task_of n a.base) true (script.Slot x) (registers_for (v ∷ [])) None) × ((s.calls ≡ a.base.calls) × HasSlot a n x))))))
+    ((t ≡ new_thread (task_of n a.base) true (script.Slot x) (registers_for (v ∷ [])) None) ×
+    ((s.calls ≡ a.base.calls) × HasSlot a n x))))))
 
 -- Who is gone.
 pub data MayGo (a : Scene) (n : ℕ) (s : Core) : Type 0 where
