@@ -7,7 +7,7 @@ use Rattle.task_laws.proofs.CallsLaw.{CallsGo, CallsHold, exits_unended}
 use Rattle.task_laws.proofs.CallsSteps.{of_base}
 use Rattle.task_laws.specs.Settings.{CodesInCallbacks}
 use Rattle.task_rules.proofs.ChainLemmas.{along}
-use Rattle.task_laws.proofs.CallEnds.{EndsGo, EndsTold, is_start_cancelled, is_withdrawn, recorded, ResultCame, Telling, ToldOrWritten, telling, telling_of}
+use Rattle.task_laws.proofs.CallEnds.{event_there, EndsGo, EndsTold, is_start_cancelled, is_withdrawn, recorded, ResultCame, Telling, ToldOrWritten, telling, telling_of}
 use Rattle.task_laws.proofs.OnceLemmas.{Due, Over, EndStep, Out, end_there}
 use Rattle.task_laws.proofs.HostEnds.{and_not_same, either}
 use Rattle.task_laws.proofs.SaidEnds.{written_at, hands_at, said_now}
@@ -159,15 +159,8 @@ module _ (x : Setting) (s : State) (l : Label) (t : State) (next : Turn) (codes 
 
   -- ---- What is to be handed out
 
-  event_there : (k : ℕ) (e : Status) → undelivered_end (event_of (subtask.Guest k) t.core) ≡ Some e → (r : Telling) × ((telling_of k t.core ≡ Some r) × (undelivered_end r.event ≡ Some e))
-  event_there k e tells = at (get t.core.calls k) refl tells
-    where
-      at : (o : Option Call) → get t.core.calls k ≡ o → undelivered_end (option_and_then (λ (c : Call). c.event) o) ≡ Some e → (r : Telling) × ((telling_of k t.core ≡ Some r) × (undelivered_end r.event ≡ Some e))
-      at None is f = no_way (ap (λ (y : Option Status). is_some y) f)
-      at (Some c) is f = (telling c, (ap (option_map telling) is, f))
-
   pub events_come : (k : ℕ) (e : Status) → undelivered_end (event_of (subtask.Guest k) t.core) ≡ Some e → (undelivered_end (event_of (subtask.Guest k) s.core) ≡ Some e) ⊎ (written x.component m ≡ Some (end_for e (subtask.Guest k)))
-  events_come k e tells = let r = event_there k e tells in by r.0.ends (ends.events k e r.0 r.1.0 r.1.1).1
+  events_come k e tells = let r = event_there t.core k e tells in by r.0.ends (ends.events k e r.0 r.1.0 r.1.1).1
     where
       by : (o : Option CallEnd) → ToldOrWritten a k e o → (undelivered_end (event_of (subtask.Guest k) s.core) ≡ Some e) ⊎ (written x.component m ≡ Some (end_for e (subtask.Guest k)))
       by o (inl before) = inl (from_base (λ b. undelivered_end (event_of (subtask.Guest k) b) ≡ Some e) before)
@@ -219,7 +212,7 @@ module _ (x : Setting) (s : State) (l : Label) (t : State) (next : Turn) (codes 
   -- the end of a direct call isn't told, and a result of it for main was there before
   direct_untold : (k : ℕ) → is_direct (goal_of k a.base) ≡ true → (e : Status) → Due (subtask.Guest k) e t.core → is_some (get a.base.results k) ≡ true
   direct_untold k direct e (inl tells) =
-      let r = event_there k e tells in
+      let r = event_there t.core k e tells in
       let guest = (told.events k e r.0 r.1.0 r.1.1).0 in
       absurd (no_direct r.0.caller r.0.goal (ap (λ g. is_direct g) (sym (goal_same k r.0 r.1.0 (direct_there k direct))) ∙ direct) guest)
     where
@@ -299,7 +292,7 @@ module _ (x : Setting) (s : State) (l : Label) (t : State) (next : Turn) (codes 
         where
           none : Due (subtask.Guest k) status.Returned s.core → (f : Status) → Due (subtask.Guest k) f t.core → ⊥
           none before f (inr (is, there)) = no_way (ap (λ (o : Option ℕ). is_some o) (sym gone) ∙ there)
-          none before f (inl tells) = let r = event_there k f tells in by r.0.ends (ends.events k f r.0 r.1.0 r.1.1).1
+          none before f (inl tells) = let r = event_there t.core k f tells in by r.0.ends (ends.events k f r.0 r.1.0 r.1.1).1
             where
               by : (o : Option CallEnd) → ToldOrWritten a k f o → ⊥
               by o (inl old) = no_result k f old had
