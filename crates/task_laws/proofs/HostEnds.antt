@@ -1,5 +1,5 @@
 -- What a step owes of the end of a host work.
-use Rattle.task_rules.proofs.Machine.{Answers, ap, ap₂, arith, base_at, Bool, changes_end, Core, Course, course_code, course_of, course_value, covers_end, end_code, end_for, EndWords, event_of, false, get, handed, handed_by, HandsAtOnce, HandsOut, has_end, host_status, how_far_of, inl, inr, is_async_work, is_end_of, is_live, is_other, is_some, is_stage_ended, is_stage_live, is_written, IsPolled, IsReadyAtOnce, IsRunner, Label, le_refl, le_trans, Moment, next_work, None, not, Option, option_and_then, option_map, option_map_or, Records, refl, Scene, scene_of, Setting, Some, Stage, State, Status, status_code, subst, Subtask, sym, TakesEvent, TakesResult, true, Turn, undelivered_end, unwrap_or, Work, WorkCaller, Writes, WritesAtOnce, WritesCall, WritesNever, WritesPolled, WritesToo, written, written_by, ℕ, ◌&&◌, ◌+◌, ◌==◌, ◌||◌, ◌∙◌, ◌≡◌, ◌≤◌, ◌⊎◌}
+use Rattle.task_rules.proofs.Machine.{Answers, ap, ap₂, arith, base_at, Bool, changes_end, Core, Course, course_code, course_of, course_value, covers_end, end_code, end_for, EndWords, event_of, false, get, handed, handed_by, HandsAtOnce, HandsOut, has_end, host_status, how_far_of, inl, inr, is_async_work, is_end_of, is_live, is_other, is_some, is_stage_ended, is_stage_live, is_written, IsPolled, IsReadyAtOnce, IsRunner, Label, le_refl, le_trans, Moment, next_work, None, not, Option, option_map, option_map_or, Records, refl, Scene, scene_of, Setting, Some, Stage, State, Status, status_code, subst, Subtask, sym, TakesEvent, TakesResult, true, Turn, undelivered_end, unwrap_or, Work, WorkCaller, Writes, WritesAtOnce, WritesCall, WritesNever, WritesPolled, WritesToo, written, written_by, ℕ, ⊎_elim, ◌&&◌, ◌+◌, ◌==◌, ◌||◌, ◌∙◌, ◌≡◌, ◌≤◌, ◌⊎◌}
 use Rattle.task_laws.specs.Ends.{is_sync_work}
 use Rattle.task_laws.proofs.SaidEnds.{hands_at, said_at, written_at}
 use Rattle.task_laws.proofs.CallsSteps.{of_base}
@@ -27,15 +27,7 @@ gone_ended : (i : ℕ) (s : Core) → doing_of i s ≡ None → has_end (course_
 gone_ended i s is = grind arith
 
 event_there : (i : ℕ) (s : Core) (e : Status) → undelivered_end (event_of (subtask.Host i) s) ≡ Some e → (v : Doing) × ((doing_of i s ≡ Some v) × (undelivered_end v.event ≡ Some e))
-event_there i s e h = go (doing_or i s)
-  where
-    go : (doing_of i s ≡ None) ⊎ ((v : Doing) × (doing_of i s ≡ Some v)) → (v : Doing) × ((doing_of i s ≡ Some v) × (undelivered_end v.event ≡ Some e))
-    go (inl none) = none_of (get s.works i) none h
-      where
-        none_of : {A : Type 0} (o : Option Work) → option_map doing o ≡ None → undelivered_end (option_and_then (λ (w : Work). w.event) o) ≡ Some e → A
-        none_of None n g = no_way (ap (λ (o : Option Status). is_some o) g)
-        none_of (Some w) n g = no_way (ap (λ (o : Option Doing). is_some o) (sym n))
-    go (inr (v, at)) = (v, (at, sym (ap undelivered_end (event_is i s v at)) ∙ h))
+event_there i s e h = ⊎_elim (λ none. absurd (grind arith)) (λ v. (v.0, (v.1, grind arith))) (doing_or i s)
 
 -- ---- Codes
 
@@ -76,6 +68,10 @@ no_withdrawal o h = grind arith
 abbrev pub Answered : Scene → Type 0
 Answered a = (n i : ℕ) → IsRunner a n → how_far_of n a.base ≡ how_far.Calls (subtask.Host i) → (v : Doing) × ((doing_of i a.base ≡ Some v) × ((is_sync_work v.caller ≡ true) × (is_late v.stage ≡ true)))
 
+still_ended : {a : Scene} (i : ℕ) (s t : Core) (v : Doing) (w : WorkWas a i v) → doing_of i a.base ≡ doing_of i s → doing_of i t ≡ Some v →
+    has_end (course_of i s) ≡ true → has_end (course_of i t) ≡ true
+still_ended {a = a} i s t v w same at over = let there = w.there in let stays = w.stays in grind arith
+
 module _ (S : Type 0) (x : Setting) (s : State) (l : Label) (t : State) (next : Turn) (b : Before (scene_of x s l next) s.core) (h : WorksHold S s.core) (q : WorksGo S (scene_of x s l next) t.core) where
   abbrev a : Scene
   a = scene_of x s l next
@@ -97,18 +93,12 @@ module _ (S : Type 0) (x : Setting) (s : State) (l : Label) (t : State) (next : 
     where
       go : (doing_of i t.core ≡ None) ⊎ ((v : Doing) × (doing_of i t.core ≡ Some v)) → has_end (course_of i t.core) ≡ true
       go (inl none) = gone_ended i t.core none
-      go (inr (v, at)) =
-          let w = was i v over.0 at in
-          let ends : has_end w.before.course ≡ true = ap (λ c. has_end c) (sym (course_is i s.core w.before (sym (b.same i) ∙ w.there))) ∙ over.1 in
-          ap (λ c. has_end c) (course_is i t.core v at ∙ w.stays ends) ∙ ends
+      go (inr (v, at)) = still_ended i s.core t.core v (was i v over.0 at) (b.same i) at over.1
 
   -- what isn't there was made, or is no number of a work yet
   none_there : (i : ℕ) → i ≡ next_work a.base → doing_of i s.core ≡ None
-  none_there i is = go (doing_or i s.core)
-    where
-      go : (doing_of i s.core ≡ None) ⊎ ((v : Doing) × (doing_of i s.core ≡ Some v)) → doing_of i s.core ≡ None
-      go (inl none) = none
-      go (inr (v, at)) = absurd (too_high (subst (λ (n : ℕ). i ≡ n + 1) b.made is) (h.works i v at).number)
+  none_there i is = ⊎_elim (λ none. none)
+      (λ v. absurd (too_high (subst (λ (n : ℕ). i ≡ n + 1) b.made is) (h.works i v.0 v.1).number)) (doing_or i s.core)
 
   ready_none : (i : ℕ) → IsReadyAtOnce a t.core i → doing_of i t.core ≡ None
   ready_none i ready = ap (λ (w : Records Work). option_map doing (get w i)) ready.1.1 ∙ (b.same i ∙ none_there i ready.0)

@@ -24,3 +24,4 @@ pub mod HostEnds
 pub mod GuestEnds
 pub mod WrittenLaws
 pub mod NamedWorks
+pub mod SyncWorks

@@ -90,8 +90,8 @@ abbrev entry_for : Bool → ℕ → Entry
 entry_for true i = entry.Push i
 entry_for false i = entry.Host i
 
-taken_first : (k : Bool) (m : Mark) (i : ℕ) (o : Option ℕ) (hs ls : List Entry) → or_high o hs ls ≡ Some (m, entry_for k i) → stands k i ls ≡ 0 →
-    (stands k i hs ≡ 1 + stands k i (rest_of hs)) × (m ≡ mark.High)
+taken_first : (k : Bool) (m : Mark) (i : ℕ) (o : Option ℕ) (hs ls : List Entry) → or_high o hs ls ≡ Some (m, entry_for k i) →
+    stands k i ls ≡ 0 → (stands k i hs ≡ 1 + stands k i (rest_of hs)) × (m ≡ mark.High)
 taken_first k m i o hs ls is none = grind (arith, nat_tests)
 
 -- where none stands at low the taken one is the first at high
@@ -140,15 +140,17 @@ module _ {a : Scene} (s : Core) where
   work_turned : (j : ℕ) (h g : ℕ → Bool → ℕ) → ((i : ℕ) (k : Bool) → g i k ≤ h i k) → (f : Work → Work) →
       ((w : Work) → get s.works j ≡ Some w → WorkCame a s s.made.works j (h j) (g j) (Some (doing w)) (Some (doing (f w)))) →
       (i : ℕ) → WorkCame a s s.made.works i (h i) (g i) (doing_of i s) (option_map doing (get (change j f s.works) i))
-  work_turned j h g fewer f own i = after_change (λ o p. WorkCame a s s.made.works i (h i) (g i) (option_map doing o) (option_map doing p)) s.works j i
-      (λ o. Same refl (fewer i)) f (λ w is e. rw e (own w (rw e at is)))
+  work_turned j h g fewer f own i =
+      after_change (λ o p. WorkCame a s s.made.works i (h i) (g i) (option_map doing o) (option_map doing p)) s.works j i (λ o. Same refl (fewer i)) f (λ w is e. rw e (own w (rw e at is)))
 
   work_kept : (j : ℕ) (f : Work → Work) → ((w : Work) → doing (f w) ≡ doing w) → (i : ℕ) →
       WorkCame a s s.made.works i (High s i) (High s i) (doing_of i s) (option_map doing (get (change j f s.works) i))
   work_kept j f same = work_turned j (High s) (High s) (λ i k. le_refl _) f (λ w at. Same (ap (λ v. Some v) (same w)) (λ k. le_refl _))
 
-  work_ends : (i : ℕ) (c : Course) (x : Stage) → MayFinish a i c s → is_late x ≡ true → (awaits false x ≡ true → is_async_work (work_caller_of i s) ≡ true) →
-      (g : ℕ → Bool → ℕ) → ((j : ℕ) (k : Bool) → (j ≡ i → ⊥) → g j k ≤ High s j k) → ((k : Bool) → g i k ≤ High s i k + one_if (awaits k x)) → (j : ℕ) →
+  work_ends : (i : ℕ) (c : Course) (x : Stage) → MayFinish a i c s → is_late x ≡ true →
+      (awaits false x ≡ true → is_async_work (work_caller_of i s) ≡ true) →
+      (g : ℕ → Bool → ℕ) → ((j : ℕ) (k : Bool) → (j ≡ i → ⊥) → g j k ≤ High s j k) →
+      ((k : Bool) → g i k ≤ High s i k + one_if (awaits k x)) → (j : ℕ) →
       WorkCame a s s.made.works j (High s j) (g j) (doing_of j s) (option_map doing (get (change i (λ w. record w { stage = x })
       (change i (λ w. record w { phase = phase.Complete }) (change i (λ w. record w { course = c }) s.works))) j))
   work_ends i c x may late async g others own j =
@@ -169,18 +171,22 @@ module _ {a : Scene} (s : Core) where
   work_came low (Places p) ok i = Same refl (λ k. same_stands k i s.queues.high (after_placing p s).queues.high (placing_works a p s ok).high)
   work_came low (Withdraw j) ok i = Same refl (λ k. same_stands k i s.queues.high (unqueued j s).queues.high (unqueued_works j s).high)
   work_came low (QueueWork f host group) ok i = let j = s.made.works + 1 in
-      at_insert (λ o p. WorkCame a s j i (High s i) (λ k. stands k i (s.queues.high ++ entry.Push j ∷ [])) (option_map doing o) (option_map doing p)) s.works j i _
-      (λ is. Made f host is (omega (arith, is)) refl (λ k. own_push k i j s.queues.high)) (λ e. Same refl (λ k. other_entry true k i j s.queues.high e))
+      let g = λ (k : Bool). stands k i (s.queues.high ++ entry.Push j ∷ []) in
+      at_insert (λ o p. WorkCame a s j i (High s i) g (option_map doing o) (option_map doing p)) s.works j i _
+      (λ is. Made f host is (omega (arith, is)) refl (λ k. own_push k i j s.queues.high))
+      (λ e. Same refl (λ k. other_entry true k i j s.queues.high e))
   work_came low (TakePush m j) ok i = work_turned j (High s) (High (popped m s)) (λ i k. (popped_high m s i k).0) _
       (λ w at. Lives (doing w) refl (taken_high true m j s ok (low true j)) refl (λ k. (popped_high m s j k).0)) i
   work_came low (TakeHost m j) ok i =
-      rw (change-change_same s.works j (λ w. record w { event = Some (host_status (course_value (course_of j s))) }) (λ w. record w { stage = stage.Ended }))
+      rw (change-change_same s.works j (λ w. record w { event = Some (host_status (course_value (course_of j s))) })
+      (λ w. record w { stage = stage.Ended }))
       (work_turned j (High s) (High (popped m s)) (λ i k. (popped_high m s i k).0) _
       (λ w at. Done (doing w) refl (taken_high false m j s ok (low false j)) (rw at refl) (λ k. (popped_high m s j k).0)) i)
   work_came low (Pend j host) ok i =
       work_turned j (High s) (High s) (λ i k. le_refl _) _ (λ w at. Pends (doing w) host refl ok refl (λ k. le_refl _)) i
   work_came low (EndWork j c) ok i = work_ends j c stage.Ended ok.0 refl (λ e. no_way e) (High s) (λ i k e. le_refl _) (λ k. grind arith) i
-  work_came low (FinishWork j c) ok i = work_ends j c stage.Finishing ok.0 refl (λ e. ok.1) (λ i k. stands k i (s.queues.high ++ entry.Host j ∷ []))
+  work_came low (FinishWork j c) ok i = work_ends j c stage.Finishing ok.0 refl (λ e. ok.1)
+      (λ i k. stands k i (s.queues.high ++ entry.Host j ∷ []))
       (λ i k e. other_entry false k i j s.queues.high e) (λ k. own_host k j j s.queues.high) i
   work_came low (SetPhase j x) ok i =
       work_turned j (High s) (High s) (λ i k. le_refl _) _ (λ w at. Aborts (doing w) x refl ok.0 refl (λ k. le_refl _)) i
@@ -267,7 +273,8 @@ not_due {v = v} q early due = absurd (grind (arith, q.told))
 
 -- ---- What a work keeps
 
-module _ {S : Type 0} {h g : Bool → ℕ} {made more i : ℕ} (grows : made ≤ more) (fewer : (k : Bool) → g k ≤ h k) {u v : Doing} (o : WorkHolds S h made i u) where
+module _ {S : Type 0} {h g : Bool → ℕ} {made more i : ℕ} (grows : made ≤ more) (fewer : (k : Bool) → g k ≤ h k) {u v : Doing}
+    (o : WorkHolds S h made i u) where
   -- where the stage stays
   stays_holds : v.stage ≡ u.stage → v.caller ≡ u.caller → v.course ≡ u.course →
       ((e : Status) → undelivered_end v.event ≡ Some e → undelivered_end u.event ≡ Some e) →
@@ -281,8 +288,10 @@ module _ {S : Type 0} {h g : Bool → ℕ} {made more i : ℕ} (grows : made ≤
   lives_holds is one = let r = stands_one (awaits true u.stage) (h true) (g true) one (o.one true) in let l = stage_early u.stage r.0 in
       grind (arith, o.one, o.told, fewer)
 
-  done_holds : v ≡ record u { stage = stage.Ended; event = Some (host_status (course_value u.course)) } → h false ≡ 1 + g false → WorkHolds S g more i v
-  done_holds is one = let r = stands_one (awaits false u.stage) (h false) (g false) one (o.one false) in let l = stage_finishing u.stage r.0 in
+  done_holds : v ≡ record u { stage = stage.Ended; event = Some (host_status (course_value u.course)) } → h false ≡ 1 + g false →
+      WorkHolds S g more i v
+  done_holds is one =
+      let r = stands_one (awaits false u.stage) (h false) (g false) one (o.one false) in let l = stage_finishing u.stage r.0 in
       let n = status_is_end (course_value u.course) in grind (arith, o.one, o.told, fewer)
 
 -- a live work comes to its end
@@ -293,8 +302,8 @@ ends_holds : {S : Type 0} {h g : Bool → ℕ} {made more i : ℕ} {u v : Doing}
 ends_holds {u = u} c x grows o is live has late async valued more = let l = stage_live u.stage live in grind (arith, o.one, o.told, more)
 
 -- a work is made
-made_holds : {S : Type 0} {h g : Bool → ℕ} {more i : ℕ} {v : Doing} (f : WorkCaller) (host : HostDef) → i ≤ more → v ≡ doing (new_work f host None) →
-    ((k : Bool) → h k ≡ 0) → ((k : Bool) → g k ≤ h k + one_if k) → WorkHolds S g more i v
+made_holds : {S : Type 0} {h g : Bool → ℕ} {more i : ℕ} {v : Doing} (f : WorkCaller) (host : HostDef) → i ≤ more →
+    v ≡ doing (new_work f host None) → ((k : Bool) → h k ≡ 0) → ((k : Bool) → g k ≤ h k + one_if k) → WorkHolds S g more i v
 made_holds f host below is none more = grind (arith, none, more)
 
 given_came : (a : Scene) (s : Core) (b i : ℕ) (h g : Bool → ℕ) (o p : Option Doing) (k : Bool) → (1 ≤ h k → i ≤ s.made.works) →
@@ -338,7 +347,8 @@ module _ {S : Type 0} {a : Scene} (unsync : S → AbortsNoSync a) (w : Word) (s 
     doing_caller : (u : Doing) → doing_of i s ≡ Some u → S → is_sync_work u.caller ≡ true → MayAbort a i → ⊥
     doing_caller u e y h may = let n = unsync y i may in let b = q.was i u e n.0 in let c = n.1 b.before b.there in grind arith
 
-    valued : (u : Doing) (c : Course) → doing_of i s ≡ Some u → MayFinish a i c s → S → is_sync_work u.caller ≡ true → is_some (course_value c) ≡ true
+    valued : (u : Doing) (c : Course) → doing_of i s ≡ Some u → MayFinish a i c s → S → is_sync_work u.caller ≡ true →
+        is_some (course_value c) ≡ true
     valued u c e may y h =
         let o = (held u e).sync y h in let late = (held u e).late in let d = doing_phase u e in let live = polled_stage u e may.0 in
         let none = may.1.1.1 in grind arith
@@ -402,7 +412,8 @@ module _ {S : Type 0} {a : Scene} (unsync : S → AbortsNoSync a) (w : Word) (s 
   came i = work_came s q.holds.low w ok i
 
   given_after : (k : Bool) (i : ℕ) → 1 ≤ High t i k → i ≤ t.made.works
-  given_after k i h = given_came a s _ i (High s i) (High t i) _ _ k (q.holds.given k i) (numbered (doing_of i s) refl) made_works (came i) h
+  given_after k i h =
+      given_came a s _ i (High s i) (High t i) _ _ k (q.holds.given k i) (numbered (doing_of i s) refl) made_works (came i) h
     where
       numbered : (o : Option Doing) → doing_of i s ≡ o → is_some o ≡ true → i ≤ s.made.works
       numbered None e there = absurd (cc)

@@ -7,11 +7,11 @@ use Rattle.task_machine.specs.declared.records.Entry.{Entry}
 use Rattle.task_machine.specs.declared.records.Subtask.{Subtask}
 use Rattle.task_machine.specs.declared.records.Named.{Named}
 use Rattle.task_rules.specs.Allowed.{subtask_under_way}
-use Rattle.std.specs.Prelude.{Bool, None, Option, Some, false, is_none, is_some, option_and_then, option_map, true, ℕ, ◌+◌, ◌≡◌, ◌≤◌, length, List, [], ◌∷◌, ◌==◌}
+use Rattle.std.specs.Prelude.{Bool, None, Option, Some, false, is_none, is_some, option_and_then, option_map, true, ℕ, ◌+◌, ◌≡◌, ◌≤◌, length, List, [], ◌∷◌, ◌==◌, ◌⊎◌}
 use Rattle.task_laws.specs.Settings.{CodesInCallbacks}
 use Rattle.task_machine.specs.Core.{Core, Main, State, Table}
 use Rattle.task_machine.specs.Maps.{get, size}
-use Rattle.task_machine.specs.Read.{how_far_of, instance_of, is_async_lifted, is_callback, is_direct, is_explicit, goal_of, kind_of, place_of, task_of, set_at, subtask_at, join_of}
+use Rattle.task_machine.specs.Read.{how_far_of, instance_of, is_async_lifted, is_callback, is_direct, is_explicit, goal_of, kind_of, place_of, task_of, set_at, subtask_at, join_of, is_stage_ended, stage_of}
 use Rattle.task_machine.specs.declared.component.Component.{Component}
 use Rattle.task_machine.specs.declared.label.Label.{Label}
 use Rattle.task_machine.specs.declared.records.Call.{Call}
@@ -195,12 +195,17 @@ pub record WorkEntries (s : Core) (i : ℕ) (w : Work) : Type 0 where
   pub push : stands (is_push_of i) s.queues.high ≡ one_if (is_queued w.stage)
   pub host : stands (is_host_of i) s.queues.high ≡ one_if (is_finishing w.stage)
 
--- Each work that is there has its entries. None is at low, nor of a number that wasn't given.
+-- Each work that is there has its entries, and one that is gone has none. None is at low.
 pub record WorksQueued (s : Core) : Type 0 where
   pub each : (i : ℕ) (w : Work) → get s.works i ≡ Some w → WorkEntries s i w
   pub low : (i : ℕ) → (stands (is_push_of i) s.queues.low ≡ 0) × (stands (is_host_of i) s.queues.low ≡ 0)
   pub made : (i : ℕ) → is_some (get s.works i) ≡ true → i ≤ s.made.works
-  pub ungiven : (i : ℕ) → s.made.works + 1 ≤ i → (stands (is_push_of i) s.queues.high ≡ 0) × (stands (is_host_of i) s.queues.high ≡ 0)
+  pub gone : (i : ℕ) → get s.works i ≡ None → (stands (is_push_of i) s.queues.high ≡ 0) × (stands (is_host_of i) s.queues.high ≡ 0)
+
+-- a thread inside a sync call of a host is blocked on its work, which was made, or that has ended
+abbrev pub HostsAwaited : Core → Type 0
+HostsAwaited s = (n i : ℕ) → how_far_of n s ≡ how_far.Calls (subtask.Host i) →
+    (i ≤ s.made.works) × ((place_of n s ≡ Some (place.Blocked (subtask.Host i))) ⊎ (is_stage_ended (stage_of i s) ≡ true))
 
 -- ---- Counts
 
@@ -223,6 +228,7 @@ pub record InOrder (c : Component) (s : State) : Type 0 where
   pub strands : Strands s.core
   pub directs : DirectsOnTop s.core
   pub works : WorksQueued s.core
+  pub awaited : HostsAwaited s.core
   pub numbered : Numbered s.core
   pub calls_there : CallsThere s.core
   pub calls_named : CallsNamed s.core

@@ -1,6 +1,6 @@
 -- Each step owes of the ends what it should, and so each run has each end once.
 use Rattle.task_laws.proofs.NamedWorks.{NamesNoSync, abort_kept, caller_is, names_word, opening_names}
-use Rattle.task_rules.proofs.Machine.{[], AbortsOwn, ap, arith, base_at, Bool, Call, Core, end_for, Entry, false, fresh, get, get-empty, how_far_of, inl, inr, instance_of, is_some, is_spawn, is_spawn_caller, is_stage_ended, IsRunner, Label, le_refl, Main, MainPlace, Mark, next_entry, None, opening, Option, option_and_then, option_map, option_map_or, Place, place_of, ProgramAborts, refl, runner_at, SameMain, Scene, scene_of, ScriptAborts, Scripted, Setting, slice_get, Some, spawned_at, stage_of, State, Status, Step, subst, Subtask, subtask_at, suc, sym, task_of, thread_of_entry, true, Turn, undelivered_end, Unscripted, unwrap_or, Walked, Work, work_caller_of, WorkCaller, written, zero, ℕ, ◌-◌, ◌∙◌, ◌∷◌, ◌≡◌, ◌≤◌, ◌⊎◌}
+use Rattle.task_rules.proofs.Machine.{[], AbortsOwn, ap, arith, base_at, Bool, Call, Core, end_for, Entry, false, fresh, get, get-empty, how_far_of, inl, inr, instance_of, is_some, is_spawn, is_spawn_caller, is_stage_ended, IsRunner, Label, le_refl, Main, MainPlace, Mark, next_entry, None, opening, Option, option_and_then, option_map, option_map_or, Place, place_of, ProgramAborts, refl, runner_at, SameMain, Scene, scene_of, ScriptAborts, Scripted, Setting, slice_get, Some, spawned_at, stage_of, State, Status, Step, subst, Subtask, subtask_at, suc, sym, task_of, thread_of_entry, true, Turn, undelivered_end, Unscripted, unwrap_or, Walked, Work, work_caller_of, WorkCaller, written, zero, ℕ, ⊎_elim, ◌-◌, ◌∙◌, ◌∷◌, ◌≡◌, ◌≤◌, ◌⊎◌}
 use Rattle.std.proofs.Common.{◌++◌}
 use Rattle.task_laws.proofs.Basics.{no_way}
 use Rattle.task_laws.proofs.CallsLaw.{CallsGo, CallsHold}
@@ -11,7 +11,8 @@ use Rattle.task_laws.proofs.CallEnds.{EndsGo, EndsTold, ends_go, opening_ends_to
 use Rattle.task_laws.proofs.OnceLemmas.{Due, Over, EndStep, ends_once, written_over}
 use Rattle.task_laws.proofs.HostEnds.{Answered, host_step}
 use Rattle.task_laws.proofs.SceneLemmas.{base_is, runner_there}
-use Rattle.task_laws.specs.Ends.{is_sync_work, EndsFound, MayBeAborted, Waited, SyncUnnamed}
+use Rattle.task_laws.specs.Ends.{is_sync_work, NamedCallsThere, MayBeAborted, SyncUnnamed}
+use Rattle.task_laws.proofs.SyncWorks.{CallersKnown, callers_word, opening_callers}
 use Rattle.task_laws.proofs.Works.{AbortsNoSync, Doing, WorksGo, WorksHold, doing, doing_of, is_late, stage_ended, opening_works, before_step, first_works, works_word}
 use Rattle.task_rules.proofs.WalkSteps.{step_walks}
 use Rattle.task_laws.specs.Order.{InOrder}
@@ -41,6 +42,7 @@ record Known (x : Setting) (s : State) : Type 0 where
   told : EndsTold s.core
   works : WorksHold (Unit {0}) s.core
   unnamed : SyncUnnamed s
+  callers : CallersKnown s.core
   zero : MayBeAborted s.core 0
   over : DueOver s.core
 
@@ -85,7 +87,7 @@ abbrev is_blocked : Option Place → Bool
 is_blocked (Some (place.Blocked sub)) = true
 is_blocked _ = false
 
-module _ (x : Setting) (s : State) (l : Label) (t : State) (k : Known x s) (f : EndsFound s) (step : Step x s l t) where
+module _ (x : Setting) (s : State) (l : Label) (t : State) (k : Known x s) (f : NamedCallsThere s.core) (step : Step x s l t) where
   w : Walked x s l t
   w = step_walks x s l t step
 
@@ -98,23 +100,38 @@ module _ (x : Setting) (s : State) (l : Label) (t : State) (k : Known x s) (f : 
   from_base : (P : Core → Type 0) → P a.base → P (record s.core { queues = (base_at s.turn s.core).queues })
   from_base P p = subst P (base_is s.turn s.core) p
 
+  at_base : (i : ℕ) → MayBeAborted s.core i → MayBeAborted a.base i
+  at_base i q = to_base (λ c. MayBeAborted c i) (record { made = q.made; other = q.other })
+
+  at_first : (i : ℕ) → MayBeAborted a.base i → MayBeAborted s.core i
+  at_first i h = let q = from_base (λ c. MayBeAborted c i) h in record { made = q.made; other = q.other }
+
+  names_base : NamesNoSync a.base
+  names_base i h j e = at_base j (k.unnamed.works i h j (from_base (λ c. subtask_at i h c ≡ Some (subtask.Host j)) e))
+
   -- nothing that is aborted is a sync call's
   unsync : AbortsNoSync a
-  unsync i (AbortsOwn (n, (h, (runner, named)))) = of_found i (to_base (λ c. (j g : ℕ) → subtask_at j g c ≡ Some (subtask.Host i) → MayBeAborted c i) (λ j g e. again (k.unnamed.works j g i e)) (instance_of n a.base) h named)
-    where
-      again : {i : ℕ} → MayBeAborted s.core i → MayBeAborted (record s.core { queues = (base_at s.turn s.core).queues }) i
-      again q = record { made = q.made; other = q.other }
-
-      of_found : (i : ℕ) → MayBeAborted a.base i → (i ≤ a.base.made.works) × ((u : Doing) → doing_of i a.base ≡ Some u → is_sync_work u.caller ≡ false)
-      of_found i q = (q.made, λ u e. ap (λ y. is_sync_work y) (sym (caller_is i a.base u e)) ∙ q.other)
+  unsync i (AbortsOwn (n, (h, (runner, named)))) = let q = names_base (instance_of n a.base) h i named in (q.made, λ u e. ap (λ y. is_sync_work y) (sym (caller_is i a.base u e)) ∙ q.other)
   unsync i (ScriptAborts p j main is) = subst (λ (n : ℕ). (n ≤ a.base.made.works) × ((u : Doing) → doing_of n a.base ≡ Some u → is_sync_work u.caller ≡ false)) (sym is) (to_base (λ c. (spawned_at p j ≤ c.made.works) × ((u : Doing) → doing_of (spawned_at p j) c ≡ Some u → is_sync_work u.caller ≡ false)) (let q = k.unnamed.spawns p j main in (q.made, λ u e. ap (λ y. is_sync_work y) (sym (caller_is (spawned_at p j) s.core u e)) ∙ q.other)))
   unsync i (ProgramAborts main is) = to_base (λ c. (i ≤ c.made.works) × ((u : Doing) → doing_of i c ≡ Some u → is_sync_work u.caller ≡ false)) (let r = spawn_other i s.core (from_base (λ c. is_spawn i c ≡ true) is) in ((k.works.works i r.0 r.1.0).number, λ u e. ap (λ (o : Option Doing). is_sync_work (unwrap_or o r.0).caller) (sym e ∙ r.1.0) ∙ r.1.1))
 
+  abbrev Kept : Core → Type 0
+  Kept u = WorksGo (Unit {0}) a u × (NamesNoSync u × (((i : ℕ) → MayBeAborted s.core i → MayBeAborted u i) × CallersKnown u))
+
   -- the works, and which of them handles name
-  works_after : WorksGo (Unit {0}) a t.core × (NamesNoSync t.core × ((i : ℕ) → MayBeAborted s.core i → MayBeAborted t.core i))
-  works_after = along (λ u. WorksGo (Unit {0}) a u × (NamesNoSync u × ((i : ℕ) → MayBeAborted s.core i → MayBeAborted u i)))
-      (λ v u ok q. (works_word (λ y. unsync) v u ok q.0, (names_word a v u ok q.0.holds q.1.0, λ i h. abort_kept a v u ok q.0.holds i (q.1.1 i h))))
-      (first_works x s l w.next k.works, (k.unnamed.works, λ i h. h)) w.walk
+  works_after : Kept t.core
+  works_after = along Kept
+      (λ v u ok q. (
+        works_word (λ y. unsync) v u ok q.0,
+        (
+          names_word a v u ok q.0.holds q.1.0,
+          (
+            λ i h. abort_kept a v u ok q.0.holds i (q.1.1.0 i h),
+            callers_word a (to_base (λ c. (i : ℕ) (v : Doing) → doing_of i c ≡ Some v → i ≤ c.made.works) (λ i v e. (k.works.works i v e).number)) (to_base CallersKnown k.callers) names_base v u ok q.0 (λ i h. q.1.1.0 i (at_first i h)) q.1.1.1,
+          ),
+        ),
+      ))
+      (first_works x s l w.next k.works, (k.unnamed.works, (λ i h. h, k.callers))) w.walk
 
   spawns_after : (p : MainPlace) (j : ℕ) → t.main ≡ Scripted p → MayBeAborted t.core (spawned_at p j)
   spawns_after p j at = by s.main refl t.main at w.main
@@ -127,7 +144,7 @@ module _ (x : Setting) (s : State) (l : Label) (t : State) (k : Known x s) (f : 
       place_in Unscripted = p
 
       named : (o : MainPlace) → s.main ≡ Scripted o → ((n : ℕ) × (spawned_at p j ≡ spawned_at o n)) ⊎ (is_spawn (spawned_at p j) t.core ≡ true) → MayBeAborted t.core (spawned_at p j)
-      named o was (inl (n, same)) = subst (MayBeAborted t.core) (sym same) (works_after.1.1 (spawned_at o n) (k.unnamed.spawns o n was))
+      named o was (inl (n, same)) = subst (MayBeAborted t.core) (sym same) (works_after.1.1.0 (spawned_at o n) (k.unnamed.spawns o n was))
       named o was (inr is) = spawn_is (spawned_at p j) is
 
       by : (m : Main) → s.main ≡ m → (n : Main) → n ≡ Scripted p → SameMain m t.core n → MayBeAborted t.core (spawned_at p j)
@@ -154,14 +171,10 @@ module _ (x : Setting) (s : State) (l : Label) (t : State) (k : Known x s) (f : 
       by_turn turn.Over at is = no_way (ap (λ (o : Option ℕ). is_some o) is)
 
   answered : Answered a
-  answered n i runner far = to_base (λ c. (v : Doing) × ((doing_of i c ≡ Some v) × ((is_sync_work v.caller ≡ true) × (is_late v.stage ≡ true)))) (by (f.answers n i (from_base (λ c. how_far_of n c ≡ how_far.Calls (subtask.Host i)) far)))
+  answered n i runner far = to_base (λ c. (v : Doing) × ((doing_of i c ≡ Some v) × ((is_sync_work v.caller ≡ true) × (is_late v.stage ≡ true)))) (at (from_base (λ c. how_far_of n c ≡ how_far.Calls (subtask.Host i)) far))
     where
-      by : Waited s.core n i → (v : Doing) × ((doing_of i s.core ≡ Some v) × ((is_sync_work v.caller ≡ true) × (is_late v.stage ≡ true)))
-      by q = at q.waits
-        where
-          at : (place_of n s.core ≡ Some (place.Blocked (subtask.Host i))) ⊎ (is_stage_ended (stage_of i s.core) ≡ true) → (v : Doing) × ((doing_of i s.core ≡ Some v) × ((is_sync_work v.caller ≡ true) × (is_late v.stage ≡ true)))
-          at (inl blocked) = no_way (sym (unblocked n runner) ∙ ap is_blocked blocked)
-          at (inr ended) = waited_there n i s.core q.caller ended
+      at : how_far_of n s.core ≡ how_far.Calls (subtask.Host i) → (v : Doing) × ((doing_of i s.core ≡ Some v) × ((is_sync_work v.caller ≡ true) × (is_late v.stage ≡ true)))
+      at far = ⊎_elim (λ blocked. no_way (sym (unblocked n runner) ∙ ap is_blocked blocked)) (λ ended. waited_there n i s.core (k.callers n i far) ended) (k.order.awaited n i far).1
 
   holds : CallsHold x.component s.core
   holds = held_of x s k.order
@@ -169,7 +182,7 @@ module _ (x : Setting) (s : State) (l : Label) (t : State) (k : Known x s) (f : 
   found : CallsFound a
   found = record {
     own = λ n runner. to_base (λ c. is_some (get c.calls (task_of n c)) ≡ true) (let there = runner_there x s l w.next k.order.in_place n runner in grind (arith, k.order.calls_there n (task_of n s.core)));
-    named = λ j named. to_base (λ c. (i h : ℕ) → subtask_at i h c ≡ Some (subtask.Guest j) → is_some (get c.calls j) ≡ true) (λ i h e. f.calls i h j e) (instance_of named.0 a.base) named.1.0 named.1.1.1;
+    named = λ j named. to_base (λ c. (i h : ℕ) → subtask_at i h c ≡ Some (subtask.Guest j) → is_some (get c.calls j) ≡ true) (λ i h e. f i h j e) (instance_of named.0 a.base) named.1.0 named.1.1.1;
   }
 
   told_base : EndsTold a.base
@@ -191,7 +204,8 @@ module _ (x : Setting) (s : State) (l : Label) (t : State) (k : Known x s) (f : 
     told = goes.1.1;
     works = works_after.0.holds;
     unnamed = record { works = works_after.1.0; spawns = spawns_after };
-    zero = works_after.1.1 0 k.zero;
+    callers = works_after.1.1.1;
+    zero = works_after.1.1.0 0 k.zero;
     over = λ sub e due. by sub e ((end_step sub).comes e due);
   }
     where
@@ -233,6 +247,7 @@ runs_are_once x codes found instances handle_limit capacity main begun ls t run 
       told = opening_ends_told instances handle_limit capacity;
       works = opening_works instances handle_limit capacity;
       unnamed = record { works = opening_names instances handle_limit capacity; spawns = λ p j is. opening_spawns instances handle_limit capacity main begun p j is };
+      callers = opening_callers instances handle_limit capacity;
       zero = zero_unmade instances handle_limit capacity;
       over = λ sub e due. absurd (none_due instances handle_limit capacity sub e due);
     }) (λ sub e due. none_due instances handle_limit capacity sub e due) ls t run

@@ -1,6 +1,6 @@
 -- A state in order: each opening state is, and each step leads from one to one.
 use Rattle.task_rules.proofs.Machine.{[], arith, ByHandle, ByOp, Call, call_instance, Core, empty, false, fresh, get, get-empty, HasSubtask, inl, instance_of, is_fresh, is_some, is_there, IsRunner, Label, List, Main, None, opening, Option, option_and_then, option_map, option_map_or, Place, place_of, Placed, refl, Run, Scene, scene_of, Setting, Some, State, Steady, task_of, Thread, true, Walk, Walked, was_started, Work, ℕ, ◌∷◌, ◌≡◌, ◌≤◌}
-use Rattle.task_places.proofs.WorksQueued.{works_word}
+use Rattle.task_places.proofs.HostsAwaited.{step_works}
 use Rattle.task_places.proofs.Directs.{DirectsRun, directs_on_top, directs_word}
 use Rattle.task_machine.specs.declared.records.Subtask.TheVariants as subtask
 use Rattle.task_laws.proofs.Joins.{joins_word, opening_joins}
@@ -15,7 +15,7 @@ use Rattle.task_laws.proofs.CountLemmas.{few_word}
 use Rattle.task_laws.proofs.SetHandles.{opening_sets, sets_named_word}
 use Rattle.task_laws.proofs.CallsLaw.{CallsHold}
 use Rattle.task_laws.proofs.CallsSteps.{base_out, of_base, opening_holds, plain, plain_scene, step_goes}
-use Rattle.task_laws.specs.Order.{CallsNamed, InOrder, InPlace, Numbered, OpeningInOrder, SetsNamed, StartsAwaited, StepInOrder, WasCall, CallsThere, MakesFew, Strands, WaitsAtHome, set_of_op, set_of_place, StepsMakeFew, JoinsNamed, DirectsOnTop, WorksQueued}
+use Rattle.task_laws.specs.Order.{CallsNamed, InOrder, InPlace, Numbered, OpeningInOrder, SetsNamed, StartsAwaited, StepInOrder, WasCall, CallsThere, MakesFew, Strands, WaitsAtHome, set_of_op, set_of_place, StepsMakeFew, JoinsNamed, DirectsOnTop, WorksQueued, HostsAwaited}
 use Rattle.task_machine.specs.declared.records.HowFar.TheVariants as how_far
 use Rattle.task_places.proofs.PlaceLaw.{Arrives}
 use Rattle.task_places.proofs.PlaceSteps.{Withdrawable, in_place, step_arrives}
@@ -132,8 +132,8 @@ module _ (x : Setting) (s : State) (l : Label) (t : State) (h : InOrder x.compon
       let goes = base_out (λ b. Arrives (record a { base = b }) t.core) s.turn s.core arrives in
       directs_on_top a s.core t.core steady h.numbered after goes (λ k. refl) (λ k. refl) h.directs (along (DirectsRun a) (directs_word a) (λ k d. inl d) walk)
 
-  pub works_kept : WorksQueued t.core
-  works_kept = along WorksQueued (works_word a) h.works walk
+  pub works_kept : WorksQueued t.core × HostsAwaited t.core
+  works_kept = step_works x s l t w h.in_place withdrawable h.works h.awaited
 
   -- handles of sets, and the joins to them
   pub joined_kept : SetsNamed t.core × JoinsNamed t.core
@@ -178,7 +178,8 @@ step_in_order x s l t h step =
       in_place = in_place x s l t w (arrives x s l t h w);
       strands = strands_kept x s l t h w;
       directs = directs_kept x s l t h w (steady x s l t step) q.numbered;
-      works = works_kept x s l t h w;
+      works = (works_kept x s l t h w).0;
+      awaited = (works_kept x s l t h w).1;
       numbered = q.numbered;
       calls_there = calls_kept x s l t h w;
       calls_named = named_kept x s l t h w;
@@ -221,7 +222,11 @@ opening_strands instances handle_limit capacity = record {
 
 opening_works : (instances handle_limit capacity : ℕ) → WorksQueued (fresh instances handle_limit capacity)
 unfolding fresh
-opening_works instances handle_limit capacity = record { each = λ i w at. let o = get-empty {X = Work} i in absurd (cc); low = λ i. (refl, refl); made = λ i there. let o = get-empty {X = Work} i in absurd (cc); ungiven = λ i above. (refl, refl) }
+opening_works instances handle_limit capacity = record { each = λ i w at. let o = get-empty {X = Work} i in absurd (cc); low = λ i. (refl, refl); made = λ i there. let o = get-empty {X = Work} i in absurd (cc); gone = λ i none. (refl, refl) }
+
+opening_awaited : (instances handle_limit capacity : ℕ) → HostsAwaited (fresh instances handle_limit capacity)
+unfolding fresh
+opening_awaited instances handle_limit capacity n i far = let o = get-empty {X = Thread} n in absurd (cc)
 
 opening_directs : (instances handle_limit capacity : ℕ) → DirectsOnTop (fresh instances handle_limit capacity)
 unfolding fresh
@@ -248,6 +253,7 @@ opening_in_order c codes instances handle_limit capacity main =
       strands = opening_strands instances handle_limit capacity;
       directs = opening_directs instances handle_limit capacity;
       works = opening_works instances handle_limit capacity;
+      awaited = opening_awaited instances handle_limit capacity;
       numbered = q.numbered;
       calls_there = opening_calls instances handle_limit capacity;
       waits = opening_waits instances handle_limit capacity;

@@ -1,11 +1,12 @@
 -- Where each thread is along the words of a step: each has its place, and one that waits for its start still does, or its call has begun.
-use Rattle.task_rules.proofs.Machine.{[], add_call, add_group, add_set, add_work, after_placing, after_word, ap, arith, AwaitsEvent, behind_one, Blocks, Bool, Call, call_made, Collapses, Core, count_work, Departs, EndsOver, Enter, entries, Falls, false, FinishWork, free_handle, free_thread_handle, get, give_handle, give_result, give_thread_handle, GoBehind, GoesBack, has_entry, HasPlace, HasSubtask, Holds, HowFar, if◌then◌else◌, inl, inr, is_at_high, is_at_low, is_at_switch, is_begun, is_explicit, is_for_start, is_free, is_fresh, is_none, is_some, is_there, is_under, IsFall, IsFoot, IsRunner, IsSettling, Lands, LandsAt, LastWords, le_refl, Leaves, MakeCall, MakeThread, Mark, MayGo, MayLand, MayMove, MayPut, MayYield, Move, NameThread, nat_tests, new_call, new_thread, new_thread_handle, next_thread, None, on_call, on_instance, on_thread, on_work, Option, option_map, option_map_or, Place, place_of, Places, Placing, poll_pends, Pop, Promote, promoted, push_high, Put, put_high, put_low, QueueWork, Quits, refl, registers_for, Remains, remove_call, remove_group, remove_set, remove_thread, remove_work, RemoveCall, RemoveGroup, RemoveThread, Runs, says, Scene, set_backpressure, set_cancel_delivered, set_cancelled, set_course, set_do_not_enter, set_do_not_suspend, set_end, set_event, set_exited, set_how_far, set_join, set_own_event, set_phase, set_place, set_position, set_register, set_result, set_saved_callee, set_saved_own, set_script, set_stage, set_started, set_starting_published, set_subtask_handle, set_thread_handle, set_trapped, set_uninteresting, set_word, SetHowFar, SetPosition, SetRegister, SetSavedCallee, SetSavedOwn, SetScript, Settles, SetTrapped, SetUninteresting, slice_set, Some, Stay, Stays, Stop, subst, Suspends, switch_entries, sym, T, take_result, TakeHost, TakePush, task_of, Thread, times, Trip, true, Turn, Uncovers, unwrap_or, Waits, WaitsAgain, was_started, Why, with_handle, with_thread_handle, Withdraw, Word, work_queued, ℕ, ◌+◌, ◌==◌, ◌||◌, ◌∙◌, ◌∷◌, ◌≡◌, ◌≤◌, ◌⊎◌}
+use Rattle.task_rules.proofs.Machine.{[], add_call, add_group, add_set, add_work, after_placing, after_word, ap, arith, AwaitsEvent, behind_one, Blocks, Bool, Call, call_made, Collapses, Core, count_work, Departs, EndsOver, Enter, entries, Falls, false, FinishWork, free_handle, free_thread_handle, get, give_handle, give_result, give_thread_handle, GoBehind, GoesBack, has_entry, HasPlace, HasSubtask, Holds, HowFar, if◌then◌else◌, inl, inr, is_at_high, is_at_low, is_at_switch, is_begun, is_blocked_on, is_done_host, is_explicit, is_for_start, is_free, is_fresh, is_none, is_some, is_there, is_under, IsFall, IsFoot, IsRunner, IsSettling, Lands, LandsAt, LastWords, le_refl, Leaves, MakeCall, MakeThread, Mark, MayGo, MayLand, MayMove, MayPut, MayYield, Move, NameThread, nat_tests, new_call, new_thread, new_thread_handle, next_thread, None, on_call, on_instance, on_thread, on_work, Option, option_map, option_map_or, Place, place_of, Places, Placing, poll_pends, Pop, Promote, promoted, push_high, Put, put_high, put_low, QueueWork, Quits, refl, registers_for, Remains, remove_call, remove_group, remove_set, remove_thread, remove_work, RemoveCall, RemoveGroup, RemoveThread, Runs, says, Scene, set_backpressure, set_cancel_delivered, set_cancelled, set_course, set_do_not_enter, set_do_not_suspend, set_end, set_event, set_exited, set_how_far, set_join, set_own_event, set_phase, set_place, set_position, set_register, set_result, set_saved_callee, set_saved_own, set_script, set_stage, set_started, set_starting_published, set_subtask_handle, set_thread_handle, set_trapped, set_uninteresting, set_word, SetHowFar, SetPosition, SetRegister, SetSavedCallee, SetSavedOwn, SetScript, Settles, SetTrapped, SetUninteresting, slice_set, Some, Stay, Stays, Stop, subst, Subtask, Suspends, switch_entries, sym, T, take_result, TakeHost, TakePush, task_of, Thread, times, Trip, true, Turn, Uncovers, unwrap_or, Waits, WaitsAgain, was_started, Why, with_handle, with_thread_handle, Withdraw, Word, work_queued, ℕ, ◌+◌, ◌==◌, ◌||◌, ◌∙◌, ◌∷◌, ◌≡◌, ◌≤◌, ◌⊎◌}
+use Rattle.task_rules.proofs.WalkMoves.{blocked_place}
 use Rattle.task_places.proofs.Entries.{added_stand, has_stands, next_first, popped_quiet, promoted_stand, pushed_same, removed_fresh, withdrawn_stand, flipped}
 use Rattle.task_laws.proofs.CameLemmas.{read_same}
 use Rattle.task_rules.proofs.ChainLemmas.{along}
 use Rattle.task_rules.proofs.MoveLemmas.{All, all_of, idle_loose, is_busy, is_idle, is_parked, loose_idle, put_stand, removed_all, no_time, one_time, stand_of, removed_gone, removed_placed, removed_loose, gone_place, other_place, nobody}
 use Rattle.task_rules.proofs.PlacingLemmas.{placing_shifted}
-use Rattle.task_rules.proofs.StandLemmas.{Adds, adds_all, Loose, Stand, by_number, put_high_adds, put_low_adds, set_place_adds, place_kept, place_written, Given, Watch, Nothing, Awaits, Covered, is_so, is_watched}
+use Rattle.task_rules.proofs.StandLemmas.{Adds, adds_all, Loose, Stand, by_number, put_high_adds, put_low_adds, set_place_adds, place_kept, place_written, Given, Watch, Nothing, Awaits, Covered, is_so, is_watched, eq_refl, is_eq_of, Stuck, watching}
 use Rattle.task_rules.proofs.StopLemmas.{Untouched, behind_adds, foot_there, given_there, quiet_placed, quiet_stand, stopped_stand, switch_there}
 use Rattle.task_rules.proofs.WalkParts.{withdraws}
 use Rattle.task_rules.proofs.WalkTask.{not_main, one_runner}
@@ -73,12 +74,12 @@ module _ (a : Scene) {n : ℕ} {q : Option Place} {s : Core} (st : Stand (watch 
   fresh_still : (k : ℕ) → waits a k ≡ true → is_fresh (place_of k s) ≡ true
   fresh_still k h = let e = fresh_watch (place_of k a.base) h in ap (λ v. is_so v (place_of k s)) (sym e) ∙ (st.kept k (ap is_watched e)).1
 
-  covered_still : (k m : ℕ) → place_of k a.base ≡ Some (place.Under m) → place_of k s ≡ Some (place.Under m)
+  pub covered_still : (k m : ℕ) → place_of k a.base ≡ Some (place.Under m) → place_of k s ≡ Some (place.Under m)
   covered_still k m at = let e = ap watch_of at in under_is m (place_of k s) (ap (λ v. is_so v (place_of k s)) (sym e) ∙ (st.kept k (ap is_watched e)).1)
 
 -- a parked thread that is put
-so_put : (v : Watch) (p : Place) (x : Mark) (w : Why) → is_parked p ≡ true → (is_fresh (Some p) ≡ true → is_for_start w ≡ true) → is_so v (Some p) ≡ true → is_so v (Some (place.Ready x w)) ≡ true
-so_put v p x w parked starts h = grind arith
+so_put : (o : Option Place) (p : Place) (x : Mark) (w : Why) → is_parked p ≡ true → (is_fresh (Some p) ≡ true → is_for_start w ≡ true) → is_so (watch_of o) (Some p) ≡ true → is_so (watch_of o) (Some (place.Ready x w)) ≡ true
+so_put o p x w parked starts h = grind arith
 
 -- From b on the thread n stays at q, so nobody puts it; nor is it a call's that is withdrawn, or made.
 pub record Follows (a : Scene) (b : Core) (n : ℕ) (q : Option Place) : Type 0 where
@@ -96,52 +97,103 @@ calls_untouched : (k : ℕ) (c : Call) (s : Core) → Untouched s (add_call k c 
 unfolding add_call
 calls_untouched k c s = record { places = λ k. refl; switch = λ k. refl; high = λ k. refl; low = λ k. refl; callers = refl; made = le_refl _ }
 
+-- the word puts the thread
+abbrev puts_of : ℕ → Word → Bool
+puts_of m (Places (Put x k w)) = k == m
+puts_of m w = false
+
+pub blocked_itself : (sub : Subtask) → is_blocked_on sub (place.Blocked sub) ≡ true
+blocked_itself (subtask.Guest k) = eq_refl k
+blocked_itself (subtask.Host i) = eq_refl i
+
+-- a blocked thread is put once its host's work is done
+put_blocked : (m : ℕ) (sub : Subtask) (w : Why) (s : Core) → MayPut m w s → place_of m s ≡ Some (place.Blocked sub) → is_done_host sub s ≡ true
+put_blocked m sub w s ok at = grind arith
+
+put_done : (a : Scene) (m : ℕ) (sub : Subtask) (w : Word) (s : Core) → Stays a w s → place_of m s ≡ Some (place.Blocked sub) → puts_of m w ≡ true → is_done_host sub s ≡ true
+put_done a m sub (Places (Put x k w)) s (inl ok) at e = put_blocked m sub w s (subst (λ (j : ℕ). MayPut j w s) (is_eq_of k m e) ok) at
+put_done a m sub (Places (Put x k w)) s (inr ok) at e = absurd ok
+put_done a m sub _ s ok at e = no_way e
+
 module _ {a : Scene} {b : Core} {n : ℕ} {q : Option Place} (f : Follows a b n q) where
-  not_here : (m : ℕ) (s : Core) → Stand (watch a) n q [] s → (place_of n s ≡ place_of m s → place_of m s ≡ q → ⊥) → (m == n) ≡ false
+  not_here : {P : ℕ → Watch} (m : ℕ) (s : Core) → Stand P n q [] s → (place_of n s ≡ place_of m s → place_of m s ≡ q → ⊥) → (m == n) ≡ false
   not_here m s st differs = by_number m n ((m == n) ≡ false) (λ e. let same = ap (λ (j : ℕ). place_of j s) (sym e) in absurd (differs same (sym same ∙ st.here))) (λ e. e)
 
-  promotes : (m : ℕ) (s : Core) → (m == n) ≡ false → s.queues.switch ≡ None → ReadyAt (place_of m s) → Stand (watch a) n q [] s → Stand (watch a) n q [] (promoted m s)
+  promotes : {P : ℕ → Watch} (m : ℕ) (s : Core) → (m == n) ≡ false → s.queues.switch ≡ None → ReadyAt (place_of m s) → Stand P n q [] s → Stand P n q [] (promoted m s)
   promotes m s apart none r st = promoted_stand n q m r.0 r.1.0 s apart r.1.1 none st
 
-  stay_placing : (p : Placing) (s : Core) → Stays a (Places p) s → Stand (watch a) n q [] s → Stand (watch a) n q [] (after_placing p s)
-  stay_placing (Put x m w) s (inl ok) st = let r = parked_at m w s ok in let p = place_at is_parked (place_of m s) r.0 in put_stand n q f.busy x m w p.0 s p.1.0 p.1.1 (λ h. so_put (watch a m) p.0 x w p.1.1 (λ g. r.1 (ap is_fresh p.1.0 ∙ g)) (ap (is_so (watch a m)) (sym p.1.0) ∙ (st.kept m h).1)) st
-  stay_placing (Promote m) s (inl ok) st =
+  keeps_placing : {P : ℕ → Watch} (p : Placing) (s : Core) → Stays a (Places p) s → ((x : Mark) (m : ℕ) (w : Why) → p ≡ Put x m w → is_watched (P m) ≡ true → is_so (P m) (place_of m s) ≡ true → is_so (P m) (Some (place.Ready x w)) ≡ true) → Stand P n q [] s → Stand P n q [] (after_placing p s)
+  keeps_placing {P = P} (Put x m w) s (inl ok) puts st = let p = place_at is_parked (place_of m s) (parked_at m w s ok).0 in put_stand n q f.busy x m w p.0 s p.1.0 p.1.1 (λ h. puts x m w refl h (st.kept m h).1) st
+  keeps_placing (Promote m) s (inl ok) puts st =
       let one = listed m s ok.1 in
       let apart : (m == n) ≡ false = by_number m n ((m == n) ≡ false) (λ e. absurd (none_listed m e one)) (λ e. e) in
       promotes m s apart ok.0 (entry_ready m s (st.placed m (no_time m n apart)) one) st
     where
       none_listed : (m : ℕ) → m ≡ n → 1 ≤ switch_entries m s.queues.switch + entries m s.queues.high + entries m s.queues.low → ⊥
       none_listed m e h = let l = st.loose m (subst (λ (j : ℕ). times j (n ∷ []) ≡ 1) (sym e) (one_time n)) in let x = l.switch in let y = l.high in let z = l.low in omega (arith, x, y, z, h)
-  stay_placing (Promote m) s (inr ok) st =
+  keeps_placing (Promote m) s (inr ok) puts st =
       promotes m s (not_here m s st (λ same at. subst T (sym (f.runs ok.1.0 ok.1.1.0).0 ∙ (ap is_idle (sym at) ∙ ap is_idle ok.1.1.1.1.1)) tt)) ok.0 ok.1.1.1 st
-  stay_placing (Stop g) s (inl ok) st = stopped_stand n q g s st
-  stay_placing p s (inl ok) st = absurd ok
-  stay_placing p s (inr ok) st = absurd ok
+  keeps_placing (Stop g) s (inl ok) puts st = stopped_stand n q g s st
+  keeps_placing p s (inl ok) puts st = absurd ok
+  keeps_placing p s (inr ok) puts st = absurd ok
 
   next_apart : (s : Core) → s.made.threads ≡ a.base.made.threads → (n == s.made.threads + 1) ≡ false
   next_apart s e = ap (λ (c : ℕ). n == c + 1) e ∙ f.apart
 
-  pub stay_word : (w : Word) (s : Core) → Stays a w s → Stand (watch a) n q [] s → Stand (watch a) n q [] (after_word w s)
+  -- what is watched stays so where it does for a thread that is put
+  keeps_word : {P : ℕ → Watch} (w : Word) (s : Core) → Stays a w s → ((x : Mark) (m : ℕ) (v : Why) → w ≡ Places (Put x m v) → is_watched (P m) ≡ true → is_so (P m) (place_of m s) ≡ true → is_so (P m) (Some (place.Ready x v)) ≡ true) → ((k : ℕ) → w ≡ Withdraw k → is_fresh (place_of k s) ≡ true) → Stand P n q [] s → Stand P n q [] (after_word w s)
   unfolding add_call add_group add_set add_work count_work free_handle free_thread_handle give_handle give_result give_thread_handle on_call on_instance on_work push_high remove_call remove_group remove_set remove_work set_backpressure set_cancel_delivered set_cancelled set_course set_do_not_enter set_do_not_suspend set_end set_event set_exited set_how_far set_join set_own_event set_phase set_position set_register set_result set_saved_callee set_saved_own set_script set_stage set_started set_starting_published set_subtask_handle set_thread_handle set_trapped set_uninteresting set_word take_result call_made with_handle with_thread_handle work_queued poll_pends
-  stay_word (Places p) s ok st = subst (λ (t : Core). Stand (watch a) n q [] t) (sym (placing_shifted p s).only) (stay_placing p s ok st)
-  stay_word (SetRegister m r v) s ok st = quiet_stand n q [] s _ (thread_untouched m (λ t. record t { registers = slice_set t.registers r v }) s (λ t. refl)) st
-  stay_word (SetPosition m p) s ok st = quiet_stand n q [] s _ (thread_untouched m (λ t. record t { position = p }) s (λ t. refl)) st
-  stay_word (SetHowFar m h) s ok st = quiet_stand n q [] s _ (thread_untouched m (λ t. record t { how_far = h }) s (λ t. refl)) st
-  stay_word (SetScript m x) s ok st = quiet_stand n q [] s _ (thread_untouched m (λ t. record t { script = x }) s (λ t. refl)) st
-  stay_word (SetSavedOwn m c) s ok st = quiet_stand n q [] s _ (thread_untouched m (λ t. record t { saved_own = c }) s (λ t. refl)) st
-  stay_word (SetSavedCallee m c) s ok st = quiet_stand n q [] s _ (thread_untouched m (λ t. record t { saved_callee = c }) s (λ t. refl)) st
-  stay_word (NameThread i m) s ok st = let u = thread_untouched m (λ t. record t { handle = Some (new_thread_handle i s) }) (give_thread_handle i m s) (λ t. refl) in quiet_stand n q [] s _ (record { places = u.places; switch = u.switch; high = u.high; low = u.low; callers = u.callers; made = u.made }) st
-  stay_word (MakeThread t) s ok st = added_stand n q t s (next_apart s ok.1.1.0) (ap (λ (r : Thread). r.place) ok.1.1.1.1.1.0) st
-  stay_word (MakeCall g e x goal group words) s ok st = added_stand n q (new_thread (next_thread s) false script.Start (registers_for words) None) (add_call (next_thread s) (new_call g e x goal group) s) (next_apart s ok.1.0) refl (quiet_stand n q [] s _ (calls_untouched (next_thread s) (new_call g e x goal group) s) st)
-  stay_word (Withdraw k) s ok st =
-      let fresh = fresh_still a st k (f.withdraws ok.0 k ok.1.0 ok.1.1.0 ok.1.1.1.1.1.1) in
-      subst (λ (t : Core). Stand (watch a) n q [] t) (sym (withdraws k s)) (withdrawn_stand n q k s (not_here k s st (λ same at. subst T (sym fresh ∙ (ap is_fresh at ∙ (f.runs ok.0 ok.1.1.1.1.1.0).1)) tt)) fresh st)
-  stay_word (RemoveThread m) s ok st = absurd ok
-  stay_word (QueueWork g host group) s ok st = quiet_stand n q [] s _ (record { places = λ k. refl; switch = λ k. refl; high = λ k. pushed_same k s.queues.high _ refl; low = λ k. refl; callers = refl; made = le_refl _ }) st
-  stay_word (FinishWork i c) s ok st = quiet_stand n q [] s _ (record { places = λ k. refl; switch = λ k. refl; high = λ k. pushed_same k s.queues.high (entry.Host i) refl; low = λ k. refl; callers = refl; made = le_refl _ }) st
-  stay_word (TakePush x i) s ok st = let u = popped_quiet x (entry.Push i) s (next_first s x (entry.Push i) ok) (λ k. refl) in quiet_stand n q [] s _ (record { places = u.places; switch = u.switch; high = u.high; low = u.low; callers = u.callers; made = le_refl _ }) st
-  stay_word (TakeHost x i) s ok st = let u = popped_quiet x (entry.Host i) s (next_first s x (entry.Host i) ok) (λ k. refl) in quiet_stand n q [] s _ (record { places = u.places; switch = u.switch; high = u.high; low = u.low; callers = u.callers; made = le_refl _ }) st
-  stay_word w s ok st = quiet_stand n q [] s _ (record { places = λ k. refl; switch = λ k. refl; high = λ k. refl; low = λ k. refl; callers = refl; made = le_refl _ }) st
+  keeps_word {P = P} (Places p) s ok puts fresh st = subst (λ (t : Core). Stand P n q [] t) (sym (placing_shifted p s).only) (keeps_placing p s ok (λ x m v e. puts x m v (ap (λ (y : Placing). Places y) e)) st)
+  keeps_word (SetRegister m r v) s ok puts fresh st = quiet_stand n q [] s _ (thread_untouched m (λ t. record t { registers = slice_set t.registers r v }) s (λ t. refl)) st
+  keeps_word (SetPosition m p) s ok puts fresh st = quiet_stand n q [] s _ (thread_untouched m (λ t. record t { position = p }) s (λ t. refl)) st
+  keeps_word (SetHowFar m h) s ok puts fresh st = quiet_stand n q [] s _ (thread_untouched m (λ t. record t { how_far = h }) s (λ t. refl)) st
+  keeps_word (SetScript m x) s ok puts fresh st = quiet_stand n q [] s _ (thread_untouched m (λ t. record t { script = x }) s (λ t. refl)) st
+  keeps_word (SetSavedOwn m c) s ok puts fresh st = quiet_stand n q [] s _ (thread_untouched m (λ t. record t { saved_own = c }) s (λ t. refl)) st
+  keeps_word (SetSavedCallee m c) s ok puts fresh st = quiet_stand n q [] s _ (thread_untouched m (λ t. record t { saved_callee = c }) s (λ t. refl)) st
+  keeps_word (NameThread i m) s ok puts fresh st = let u = thread_untouched m (λ t. record t { handle = Some (new_thread_handle i s) }) (give_thread_handle i m s) (λ t. refl) in quiet_stand n q [] s _ (record { places = u.places; switch = u.switch; high = u.high; low = u.low; callers = u.callers; made = u.made }) st
+  keeps_word (MakeThread t) s ok puts fresh st = added_stand n q t s (next_apart s ok.1.1.0) (ap (λ (r : Thread). r.place) ok.1.1.1.1.1.0) st
+  keeps_word (MakeCall g e x goal group words) s ok puts fresh st = added_stand n q (new_thread (next_thread s) false script.Start (registers_for words) None) (add_call (next_thread s) (new_call g e x goal group) s) (next_apart s ok.1.0) refl (quiet_stand n q [] s _ (calls_untouched (next_thread s) (new_call g e x goal group) s) st)
+  keeps_word {P = P} (Withdraw k) s ok puts fresh st = subst (λ (t : Core). Stand P n q [] t) (sym (withdraws k s)) (withdrawn_stand n q k s (not_here k s st (λ same at. subst T (sym (fresh k refl) ∙ (ap is_fresh at ∙ (f.runs ok.0 ok.1.1.1.1.1.0).1)) tt)) (fresh k refl) st)
+  keeps_word (RemoveThread m) s ok puts fresh st = absurd ok
+  keeps_word (QueueWork g host group) s ok puts fresh st = quiet_stand n q [] s _ (record { places = λ k. refl; switch = λ k. refl; high = λ k. pushed_same k s.queues.high _ refl; low = λ k. refl; callers = refl; made = le_refl _ }) st
+  keeps_word (FinishWork i c) s ok puts fresh st = quiet_stand n q [] s _ (record { places = λ k. refl; switch = λ k. refl; high = λ k. pushed_same k s.queues.high (entry.Host i) refl; low = λ k. refl; callers = refl; made = le_refl _ }) st
+  keeps_word (TakePush x i) s ok puts fresh st = let u = popped_quiet x (entry.Push i) s (next_first s x (entry.Push i) ok) (λ k. refl) in quiet_stand n q [] s _ (record { places = u.places; switch = u.switch; high = u.high; low = u.low; callers = u.callers; made = le_refl _ }) st
+  keeps_word (TakeHost x i) s ok puts fresh st = let u = popped_quiet x (entry.Host i) s (next_first s x (entry.Host i) ok) (λ k. refl) in quiet_stand n q [] s _ (record { places = u.places; switch = u.switch; high = u.high; low = u.low; callers = u.callers; made = le_refl _ }) st
+  keeps_word w s ok puts fresh st = quiet_stand n q [] s _ (record { places = λ k. refl; switch = λ k. refl; high = λ k. refl; low = λ k. refl; callers = refl; made = le_refl _ }) st
+
+  pub stay_word : (w : Word) (s : Core) → Stays a w s → Stand (watch a) n q [] s → Stand (watch a) n q [] (after_word w s)
+  stay_word w s ok st = keeps_word w s ok (λ x m v e g so. puts x m v (subst (λ (y : Word). Stays a y s) e ok) so) (λ k e. waiting k (subst (λ (y : Word). Stays a y s) e ok)) st
+    where
+      puts : (x : Mark) (m : ℕ) (v : Why) → Stays a (Places (Put x m v)) s → is_so (watch a m) (place_of m s) ≡ true → is_so (watch a m) (Some (place.Ready x v)) ≡ true
+      puts x m v (inl may) so = let r = parked_at m v s may in let p = place_at is_parked (place_of m s) r.0 in so_put (place_of m a.base) p.0 x v p.1.1 (λ g. r.1 (ap is_fresh p.1.0 ∙ g)) (ap (is_so (watch a m)) (sym p.1.0) ∙ so)
+      puts x m v (inr may) so = absurd may
+
+      waiting : (k : ℕ) → Stays a (Withdraw k) s → is_fresh (place_of k s) ≡ true
+      waiting k may = fresh_still a st k (f.withdraws may.0 k may.1.0 may.1.1.0 may.1.1.1.1.1.1)
+
+  -- a thread that is blocked stays so, but where its host's work is done
+  pub stuck_word : (m : ℕ) (sub : Subtask) (w : Word) (s : Core) → Stays a w s → Stand (watch a) n q [] s → place_of m s ≡ Some (place.Blocked sub) → (place_of m (after_word w s) ≡ Some (place.Blocked sub)) ⊎ (is_done_host sub s ≡ true)
+  stuck_word m sub w s ok st at = by_put (puts_of m w) refl
+    where
+      only : ℕ → Watch
+      only k = if k == m then Stuck sub else Nothing
+
+      before : Stand only n q [] s
+      before = watching n q [] s (λ k h. (refl, by_number k m (is_so (only k) (place_of k s) ≡ true) (λ e. so_here k e) (λ e. ap (λ b. is_so (if b then Stuck sub else Nothing) (place_of k s)) e))) st
+        where
+          so_here : (k : ℕ) → k ≡ m → is_so (only k) (place_of k s) ≡ true
+          so_here k e = ap (λ (j : ℕ). is_so (only j) (place_of j s)) e ∙ (ap (λ b. is_so (if b then Stuck sub else Nothing) (place_of m s)) (eq_refl m) ∙ (ap (is_so (Stuck sub)) at ∙ blocked_itself sub))
+
+      watched : (k : ℕ) → is_watched (only k) ≡ true → k ≡ m
+      watched k h = by_number k m (k ≡ m) (λ e. e) (λ e. no_way (sym (ap (λ b. is_watched (if b then Stuck sub else Nothing)) e) ∙ h))
+
+      by_put : (b : Bool) → puts_of m w ≡ b → (place_of m (after_word w s) ≡ Some (place.Blocked sub)) ⊎ (is_done_host sub s ≡ true)
+      by_put true e = inr (put_done a m sub w s ok at e)
+      by_put false e =
+          let t = keeps_word w s ok (λ x k v is g so. no_way (sym e ∙ (ap (puts_of m) is ∙ (ap (λ (j : ℕ). j == m) (watched k g) ∙ eq_refl m))))
+          (λ k is. fresh_still a st k (let may = subst (λ (y : Word). Stays a y s) is ok in f.withdraws may.0 k may.1.0 may.1.1.0 may.1.1.1.1.1.1)) before in
+          let own : only m ≡ Stuck sub = ap (λ b. if b then Stuck sub else Nothing) (eq_refl m) in
+          inl (blocked_place sub (place_of m (after_word w s)) (ap (λ v. is_so v (place_of m (after_word w s))) (sym own) ∙ (t.kept m (ap is_watched own)).1))
 
   pub stay_stand : {t : Core} → Stay a b t → Stand (watch a) n q [] t
   stay_stand c = along (λ (t : Core). Stand (watch a) n q [] t) stay_word f.start c
@@ -199,10 +251,10 @@ placeless : (o : Option Thread) → is_none o ≡ true → is_some (option_map (
 placeless None h = refl
 placeless (Some t) h = no_way h
 
-yield_runner : {a : Scene} (k : ℕ) (w : Why) → MayYield a k w → IsRunner a k
+pub yield_runner : {a : Scene} (k : ℕ) (w : Why) → MayYield a k w → IsRunner a k
 yield_runner k w ok = grind arith
 
-move_runner : {a : Scene} (k : ℕ) (r : Place) (s : Core) → MayMove a k r s → IsRunner a k ⊎ ((m : ℕ) × (IsRunner a m × (is_none (get s.threads m) ≡ true)))
+pub move_runner : {a : Scene} (k : ℕ) (r : Place) (s : Core) → MayMove a k r s → IsRunner a k ⊎ ((m : ℕ) × (IsRunner a m × (is_none (get s.threads m) ≡ true)))
 move_runner k r s (Runs i to h e) = inl i
 move_runner k r s (Holds w l h e) = inl l.0
 move_runner k r s (WaitsAgain x l h e) = inl l.0
@@ -343,7 +395,7 @@ pub record Frame (a : Scene) (b : Core) (n : ℕ) (q : Option Place) : Type 0 wh
   pub running : (m : ℕ) → a.turn ≡ turn.Run m → (m ≡ n) × (q ≡ Some place.Running)
   pub rests : (t : Core) → LastWords a t → (is_idle (place_of n a.base) ≡ true → is_idle (place_of n t) ≡ true) → is_idle (place_of n t) ≡ true
 
-land_runner : (a : Scene) (p : Placing) (s : Core) → MayLand a p s → (k : ℕ) × IsRunner a k
+pub land_runner : (a : Scene) (p : Placing) (s : Core) → MayLand a p s → (k : ℕ) × IsRunner a k
 land_runner a (Put mark.High k w) s ok = (k, yield_runner k w ok)
 land_runner a (Put mark.Low k w) s ok = (k, yield_runner k w ok)
 land_runner a (Put mark.Switch k w) s ok = absurd ok
@@ -424,7 +476,7 @@ module _ {a : Scene} {b : Core} {n : ℕ} {q : Option Place} (f : Frame a b n q)
       record { others = λ k e. st.placed k (no_time k n e); own = st.loose n (one_time n); idle = λ k i. ap is_idle (f.home k) ∙ i; fresh = λ k w. fresh_still a st k w; covered = λ k m at. inl (covered_still a st k m at) }
 
   -- the thread exits
-  exits : (s t : Core) → IsRunner a n → Stand (watch a) n q [] s → Settles (after_word (RemoveThread n) s) t → All t × (((k : ℕ) → waits a k ≡ true → is_fresh (place_of k t) ≡ true) × ((k m : ℕ) → place_of k a.base ≡ Some (place.Under m) → place_of k t ≡ Some (place.Under m)))
+  pub exits : (s t : Core) → IsRunner a n → Stand (watch a) n q [] s → Settles (after_word (RemoveThread n) s) t → All t × (((k : ℕ) → waits a k ≡ true → is_fresh (place_of k t) ≡ true) × ((k m : ℕ) → place_of k a.base ≡ Some (place.Under m) → place_of k t ≡ Some (place.Under m)))
   exits s t is st d =
       let u = settles_quiet d in (
         λ k. quiet_placed k (remove_thread n s) t u (removed_all n q s st k),

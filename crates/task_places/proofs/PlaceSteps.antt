@@ -1,6 +1,7 @@
 -- Where each thread is after a step.
+use Rattle.task_rules.proofs.Machine.{[], ap, arith, base_at, base_without, Bool, Core, Entry, false, get, HasPlace, HasSubtask, inr, is_behind_of, is_fresh, is_some, is_take, IsRunner, Label, LastWords, Made, Mark, next_entry, next_polled, None, nothing_stands, one_if, Option, option_map, Place, place_of, Pop, popped, refl, runner_at, says, Scene, scene_of, set_high, set_low, set_switch, Setting, settled_futures, settled_take, settled_turn, Some, start_of, State, subst, sym, T, Thread, thread_of_entry, Trip, true, Turn, unwrap_or, Walked, was_started, ℕ, ◌+◌, ◌==◌, ◌∙◌, ◌≡◌, ◌≤◌}
+use Rattle.task_rules.proofs.PlacingLemmas.{SameWorks, placing_works}
 use Rattle.task_machine.specs.declared.words.Mark.TheVariants as mark
-use Rattle.task_rules.proofs.Machine.{[], ap, arith, base_at, base_without, Bool, Core, Entry, false, HasPlace, HasSubtask, is_behind_of, is_fresh, is_some, is_take, IsRunner, Label, LastWords, Mark, next_entry, next_polled, None, nothing_stands, one_if, Option, Place, place_of, popped, refl, runner_at, says, Scene, scene_of, set_high, set_low, set_switch, Setting, settled_futures, settled_take, settled_turn, Some, start_of, State, subst, sym, T, thread_of_entry, Trip, true, Turn, unwrap_or, Walked, was_started, ℕ, ◌+◌, ◌==◌, ◌∙◌, ◌≡◌, ◌≤◌}
 use Rattle.task_laws.specs.Order.{InPlace}
 use Rattle.task_machine.specs.declared.records.Entry.TheVariants as entry
 use Rattle.task_machine.specs.declared.records.Place.TheVariants as place
@@ -89,11 +90,15 @@ running_frame a n is runs at may all = record {
 
 -- ---- A thread is taken
 
-popped_same : (x : Mark) (s : Core) → ((k : ℕ) → place_of k s ≡ place_of k (popped x s)) × (s.made.threads ≡ (popped x s).made.threads)
+-- the same is read of threads and works
+abbrev pub Reads : Core → Core → Type 0
+Reads s b = (b.threads ≡ s.threads) × ((b.works ≡ s.works) × (b.made ≡ s.made))
+
+popped_reads : (x : Mark) (s : Core) → Reads s (popped x s)
 unfolding popped set_switch set_high set_low
-popped_same mark.Switch s = (λ k. refl, refl)
-popped_same mark.High s = (λ k. refl, refl)
-popped_same mark.Low s = (λ k. refl, refl)
+popped_reads mark.Switch s = (refl, (refl, refl))
+popped_reads mark.High s = (refl, (refl, refl))
+popped_reads mark.Low s = (refl, (refl, refl))
 
 taken_frame : (a : Scene) (x : Mark) (n : ℕ) (s : Core) → a.runner ≡ Some n → ((m : ℕ) → a.turn ≡ turn.Run m → ⊥) → is_take a.turn ≡ true → a.base ≡ popped x s → First x (entry.Thread n) s → Withdrawable a → All s → (p : Place) × Frame a a.base n (Some p)
 taken_frame a x n s is idle take base first may all = (
@@ -102,7 +107,7 @@ taken_frame a x n s is idle take base first may all = (
     follows = record {
       busy = refl;
       runs = λ m e. absurd (idle m e);
-      apart = by_number n (a.base.made.threads + 1) ((n == a.base.made.threads + 1) ≡ false) (λ e. absurd (above (e ∙ ap (λ (k : ℕ). k + 1) (ap (λ (c : Core). c.made.threads) base ∙ sym (popped_same x s).1)) ((all n).number (ap (λ (o : Option Place). is_some o) r.1.1)))) (λ e. e);
+      apart = by_number n (a.base.made.threads + 1) ((n == a.base.made.threads + 1) ≡ false) (λ e. absurd (above (e ∙ ap (λ (k : ℕ). k + 1) (ap (λ (c : Core). c.made.threads) base ∙ ap (λ (m : Made). m.threads) (popped_reads x s).1.1)) ((all n).number (ap (λ (o : Option Place). is_some o) r.1.1)))) (λ e. e);
       withdraws = may;
       start = subst (λ (b : Core). Stand (watch a) n (Some (place.Ready r.0 r.1.0)) [] b) (sym base) (record {
         here = c.places n ∙ r.1.1;
@@ -140,32 +145,38 @@ taken_frame a x n s is idle take base first may all = (
 
 -- ---- A step
 
-module _ (x : Setting) (s : State) (l : Label) (next : Turn) (h : InPlace s) where
+-- what holds of each trip with such a frame holds of the step
+module _ (x : Setting) (s : State) (l : Label) (next : Turn) (h : InPlace s) (C : Scene → Core → Type 0)
+    (goes : (a : Scene) (b : Core) (n : ℕ) (q : Option Place) (t : Core) → Reads s.core a.base → Reads s.core b → SameWorks s.core b → Frame a b n q → Trip a b t → LastWords a t → C a t) where
   abbrev at : Turn → Core → Option ℕ → Scene
   at u base o = record { setting = x; main = s.main; turn = u; base = base; runner = o; label = l; next = next }
 
   not_running : (u : Turn) → is_run u ≡ false → (m : ℕ) → u ≡ turn.Run m → ⊥
   not_running u idle m e = subst T (sym (sym idle ∙ ap is_run e)) tt
 
-  nobody : (u : Turn) (base : Core) {t : Core} → is_run u ≡ false → ((k : ℕ) → place_of k s.core ≡ place_of k base) → s.core.made.threads ≡ base.made.threads → Trip (at u base None) s.core t → LastWords (at u base None) t → Arrives (at u base None) t
-  nobody u base idle home made c w = trip_arrives (nobody_frame (at u base None) s.core refl (not_running u idle) home made h.placed) c w
+  nobody : (u : Turn) (base : Core) {t : Core} → is_run u ≡ false → Reads s.core base → Trip (at u base None) s.core t → LastWords (at u base None) t → C (at u base None) t
+  nobody u base idle reads c w = goes (at u base None) s.core _ _ _ reads (refl, (refl, refl)) (record { high = refl; low = refl }) (nobody_frame (at u base None) s.core refl (not_running u idle) (λ k. ap (λ m. option_map (λ (r : Thread). r.place) (get m k)) (sym reads.0)) (ap (λ (m : Made). m.threads) (sym reads.1.1)) h.placed) c w
 
-  by_entry : (ended : Bool) (o : Option (Mark × Entry)) {t : Core} → next_entry s.core ≡ o → Withdrawable (at (turn.Take ended) (base_without o s.core) (thread_of_entry o)) → Trip (at (turn.Take ended) (base_without o s.core) (thread_of_entry o)) (start_of (at (turn.Take ended) (base_without o s.core) (thread_of_entry o)) s.core) t → LastWords (at (turn.Take ended) (base_without o s.core) (thread_of_entry o)) t → Arrives (at (turn.Take ended) (base_without o s.core) (thread_of_entry o)) t
-  by_entry ended None e may c w = nobody (turn.Take ended) s.core refl (λ k. refl) refl c w
-  by_entry ended (Some (y, entry.Push i)) e may c w = nobody (turn.Take ended) (popped y s.core) refl (popped_same y s.core).0 (popped_same y s.core).1 c w
-  by_entry ended (Some (y, entry.Host i)) e may c w = nobody (turn.Take ended) (popped y s.core) refl (popped_same y s.core).0 (popped_same y s.core).1 c w
+  by_entry : (ended : Bool) (o : Option (Mark × Entry)) {t : Core} → next_entry s.core ≡ o → Withdrawable (at (turn.Take ended) (base_without o s.core) (thread_of_entry o)) → Trip (at (turn.Take ended) (base_without o s.core) (thread_of_entry o)) (start_of (at (turn.Take ended) (base_without o s.core) (thread_of_entry o)) s.core) t → LastWords (at (turn.Take ended) (base_without o s.core) (thread_of_entry o)) t → C (at (turn.Take ended) (base_without o s.core) (thread_of_entry o)) t
+  by_entry ended None e may c w = nobody (turn.Take ended) s.core refl (refl, (refl, refl)) c w
+  by_entry ended (Some (y, entry.Push i)) e may c w = nobody (turn.Take ended) (popped y s.core) refl (popped_reads y s.core) c w
+  by_entry ended (Some (y, entry.Host i)) e may c w = nobody (turn.Take ended) (popped y s.core) refl (popped_reads y s.core) c w
   by_entry ended (Some (y, entry.Thread n)) e may c w =
-      trip_arrives (taken_frame (at (turn.Take ended) (popped y s.core) (Some n)) y n s.core refl (not_running (turn.Take ended) refl) refl refl (next_first s.core y (entry.Thread n) e) may h.placed).1 c w
+      goes (at (turn.Take ended) (popped y s.core) (Some n)) (popped y s.core) _ _ _ (popped_reads y s.core) (popped_reads y s.core) (placing_works (at (turn.Take ended) s.core (Some n)) (Pop y) s.core (inr (n, (refl, e)))) (taken_frame (at (turn.Take ended) (popped y s.core) (Some n)) y n s.core refl (not_running (turn.Take ended) refl) refl refl (next_first s.core y (entry.Thread n) e) may h.placed).1 c w
 
-  by_turn : (u : Turn) {t : Core} → s.turn ≡ u → Withdrawable (at u (base_at u s.core) (runner_at u s.core)) → Trip (at u (base_at u s.core) (runner_at u s.core)) (start_of (at u (base_at u s.core) (runner_at u s.core)) s.core) t → LastWords (at u (base_at u s.core) (runner_at u s.core)) t → Arrives (at u (base_at u s.core) (runner_at u s.core)) t
-  by_turn turn.Main e may c w = nobody turn.Main s.core refl (λ k. refl) refl c w
-  by_turn (turn.Futures n) e may c w = nobody (turn.Futures n) s.core refl (λ k. refl) refl c w
-  by_turn turn.Over e may c w = nobody turn.Over s.core refl (λ k. refl) refl c w
-  by_turn (turn.Run n) e may c w = trip_arrives (running_frame (at (turn.Run n) s.core (Some n)) n refl refl (h.runs n e) may h.placed) c w
+  by_turn : (u : Turn) {t : Core} → s.turn ≡ u → Withdrawable (at u (base_at u s.core) (runner_at u s.core)) → Trip (at u (base_at u s.core) (runner_at u s.core)) (start_of (at u (base_at u s.core) (runner_at u s.core)) s.core) t → LastWords (at u (base_at u s.core) (runner_at u s.core)) t → C (at u (base_at u s.core) (runner_at u s.core)) t
+  by_turn turn.Main e may c w = nobody turn.Main s.core refl (refl, (refl, refl)) c w
+  by_turn (turn.Futures n) e may c w = nobody (turn.Futures n) s.core refl (refl, (refl, refl)) c w
+  by_turn turn.Over e may c w = nobody turn.Over s.core refl (refl, (refl, refl)) c w
+  by_turn (turn.Run n) e may c w = goes (at (turn.Run n) s.core (Some n)) s.core _ _ _ (refl, (refl, refl)) (refl, (refl, refl)) (record { high = refl; low = refl }) (running_frame (at (turn.Run n) s.core (Some n)) n refl refl (h.runs n e) may h.placed) c w
   by_turn (turn.Take ended) e may c w = by_entry ended (next_entry s.core) refl may c w
 
+pub step_by : (x : Setting) (s : State) (l : Label) (t : State) (w : Walked x s l t) → InPlace s → Withdrawable (scene_of x s l w.next) → (C : Scene → Core → Type 0) →
+    ((a : Scene) (b : Core) (n : ℕ) (q : Option Place) (t : Core) → Reads s.core a.base → Reads s.core b → SameWorks s.core b → Frame a b n q → Trip a b t → LastWords a t → C a t) → C (scene_of x s l w.next) t.core
+step_by x s l t w h may C goes = by_turn x s l w.next h C goes s.turn refl may w.trip w.ends
+
 pub step_arrives : (x : Setting) (s : State) (l : Label) (t : State) (w : Walked x s l t) → InPlace s → Withdrawable (scene_of x s l w.next) → Arrives (scene_of x s l w.next) t.core
-step_arrives x s l t w h may = by_turn x s l w.next h s.turn refl may w.trip w.ends
+step_arrives x s l t w h may = step_by x s l t w h may Arrives (λ a b n q u base first same f c ends. trip_arrives f c ends)
 
 -- ---- The turn
 

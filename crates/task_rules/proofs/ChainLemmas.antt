@@ -20,14 +20,14 @@ weaken f NoWord = NoWord
 weaken f (Then s w c ok) = Then s w (weaken f c) (f w s ok)
 
 -- what may be done while the running thread stays may be done in the step
-stays_allowed : (a : Scene) (w : Word) (s : Core) → Stays a w s → Allowed a w s
+pub stays_allowed : (a : Scene) (w : Word) (s : Core) → Stays a w s → Allowed a w s
 stays_allowed a (Places p) s (inl ok) = inl ok
 stays_allowed a (Places (Promote k)) s (inr ok) = inr ok
 stays_allowed a (Places _) s (inr ok) = absurd ok
 stays_allowed a (RemoveThread n) s ok = absurd ok
 stays_allowed a _ s ok = ok
 
-land_allowed : (a : Scene) (p : Placing) (s : Core) → MayLand a p s → Allowed a (Places p) s
+pub land_allowed : (a : Scene) (p : Placing) (s : Core) → MayLand a p s → Allowed a (Places p) s
 land_allowed a (Pop m) s ok = absurd ok
 land_allowed a (Promote k) s ok = absurd ok
 land_allowed a (Put mark.Switch n w) s ok = absurd ok
@@ -43,7 +43,7 @@ settle_stays a (RemoveCall k) s ok = ok
 settle_stays a (RemoveGroup g) s ok = ok
 settle_stays a _ s ok = absurd ok
 
-fall_allowed : (a : Scene) (w : Word) (s : Core) → IsFall a w s → Allowed a w s
+pub fall_allowed : (a : Scene) (w : Word) (s : Core) → IsFall a w s → Allowed a w s
 fall_allowed a (RemoveThread n) s ok = ok
 fall_allowed a SetTrapped s ok = tt
 fall_allowed a _ s ok = absurd ok
