@@ -5,7 +5,7 @@ use Rattle.std.proofs.Common.{option_map}
 use Rattle.task_laws.proofs.Basics.{no_way, too_high}
 use Rattle.task_laws.proofs.CallsCame.{op_came}
 use Rattle.task_laws.proofs.NamedWorks.{NamesNoSync, caller_is}
-use Rattle.task_laws.proofs.Works.{Doing, WorksGo, WorksHold, doing, doing_of}
+use Rattle.task_laws.proofs.Works.{Doing, WorksGo, doing, doing_of}
 use Rattle.task_laws.specs.Ends.{MayBeAborted, is_sync_work}
 use Rattle.task_machine.specs.declared.records.HowFar.TheVariants as how_far
 use Rattle.task_machine.specs.declared.records.Subtask.TheVariants as subtask
