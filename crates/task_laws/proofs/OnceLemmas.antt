@@ -95,6 +95,19 @@ module _ {c : Component} {m : Moment} {sub : Subtask} (q : EndStep c m sub) wher
   out_now : hands_out c sub m ≡ true → Out sub m.after.core
   out_now h = let r = end_there sub (handed c m) h in (q.hands r.0 r.1).1
 
+-- what a step that writes an end of the subtask comes to
+pub writes_by : {A : Type 0} (c : Component) (m : Moment) (sub : Subtask) → ((e : Status) → written c m ≡ Some (end_for e sub) → A) →
+    (changes_end sub m ≡ true → A) → (covers_end sub m ≡ true → A) → writes_end c sub m ≡ true → A
+writes_by {A = A} c m sub says changes covers w = by (either _ _ _ w)
+  where
+    either : (a b c : Bool) → (a || (b || c)) ≡ true → (a ≡ true) ⊎ ((b ≡ true) ⊎ (c ≡ true))
+    either a b c h = grind arith
+
+    by : (is_end_of sub (written c m) ≡ true) ⊎ ((changes_end sub m ≡ true) ⊎ (covers_end sub m ≡ true)) → A
+    by (inl h) = let r = end_there sub (written c m) h in says r.0 r.1
+    by (inr (inl h)) = changes h
+    by (inr (inr h)) = covers h
+
 -- ---- Runs
 
 -- where each step for which p passes makes Q true, Q stays, and p passes for no step where Q holds, p passes at most once
