@@ -7,12 +7,12 @@ use Rattle.task_machine.specs.declared.op.CallOp.{CallOp}
 use Rattle.task_machine.specs.declared.op.SetOp.{SetOp}
 use Rattle.task_machine.specs.declared.op.ThreadOp.{ThreadOp}
 use Rattle.task_rules.specs.Threads.{by_how_far, Halt, halt_row, halted, halted_checked, halted_promoting, halted_resuming, halting, halts, has_yielded, resume_later_row, resume_why, resumed_later, Suspension, then_promote, then_promote_row, then_resume_row, thread_made, thread_new_row, thread_row, Yielding}
-use Rattle.task_machine.proofs.MapLemmas.{get-insert_same, get-remove_same}
+use Rattle.task_machine.proofs.CommuteLemmas.{get-change}
 use Rattle.task_rules.proofs.ChainLemmas.{stay_walk}
+use Rattle.task_machine.specs.declared.label.SetLabel.TheVariants as set_label
 use Rattle.task_rules.proofs.MuteLemmas.{is_mute, mute_words, none_said}
 use Rattle.task_rules.proofs.SayLemmas.{call_answered_gone, call_returned_gone, cancel_hands_of, cancel_taken_gone, cancel_writes_of, event_joined, event_owed, found_returned, given_says, packed_is_not_two, received_gone, received_woken_gone, HasNoEnd, event_aborted, said_is}
-use Rattle.task_machine.proofs.CommuteLemmas.{get-change}
-use Rattle.task_machine.specs.declared.label.SetLabel.TheVariants as set_label
+use Rattle.task_machine.proofs.MapLemmas.{get-insert_same, get-remove_same}
 use Rattle.task_rules.proofs.CancelLemmas.{CaseSays, case_says}
 use Rattle.task_rules.proofs.PlacingLemmas.{Shifted, placed, shifted_made, shifted_task, shifts_shifted}
 use Rattle.task_rules.proofs.StandLemmas.{by_number}
