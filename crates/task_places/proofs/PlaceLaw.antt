@@ -287,11 +287,11 @@ module _ {a : Scene} {b : Core} (n : ℕ) (p : Place) (f : Follows a b n (Some p
           (λ h. inr (inl (ap (λ (o : Option Place). is_some o) home, λ implicit. let x = fresh_ready p f.busy (ap is_fresh (sym home) ∙ h) in (starts implicit (x.0, home ∙ ap (λ (y : Place). Some y) x.1)))))
       go (Holds w l was at) = comes r s (set_place n r s) (adds (ap is_free at)) st (λ m next. not_main m (sym l.1 ∙ next)) (λ h. inl (ap (λ (y : Place). is_fresh (Some y)) at ∙ (ap is_fresh (sym was.1) ∙ h)))
       go (WaitsAgain x l was at) = comes r s (set_place n r s) (adds (ap is_free at)) st (λ m next. not_main m (sym l.1 ∙ next)) (λ h. no_way (ap is_fresh (sym was.1) ∙ h))
+      go (Uncovers m e to under none at) = no_way (sym (placeless (get s.threads m) none) ∙ ap (λ (o : Option Place). is_some o) (ap (λ (j : ℕ). place_of j s) (one m e) ∙ st.here))
       go (AwaitsEvent x l d h at) = left r s (set_place n r s) l (adds (ap is_free at)) st
       go (Waits x l h at) = left r s (set_place n r s) l (adds (ap is_free at)) st
       go (Blocks sub l h at) = left r s (set_place n r s) l (adds (ap is_free at)) st
       go (Suspends l at) = left r s (set_place n r s) l (adds (ap is_free at)) st
-      go (Uncovers m e to under none at) = no_way (sym (placeless (get s.threads m) none) ∙ ap (λ (o : Option Place). is_some o) (ap (λ (j : ℕ). place_of j s) (one m e) ∙ st.here))
 
   -- by a direct call it is under the new thread
   enters : (m : ℕ) (s : Core) → MayLand a (Enter n m) s → Stand (watch a) n (Some p) [] s → Arrives a (set_place n (place.Under m) (set_place m place.Running s))
@@ -324,7 +324,6 @@ module _ {a : Scene} {b : Core} (n : ℕ) (p : Place) (f : Follows a b n (Some p
   lands_at : (x : Placing) (s : Core) → MayLand a x s → Stand (watch a) n (Some p) [] s → Arrives a (after_placing x s)
   lands_at (Put mark.High k w) s ok st = let e = one k (yield_runner k w ok) in subst (λ (j : ℕ). Arrives a (put_high j w s)) (sym e) (left (place.Ready mark.High w) s (put_high n w s) (yield_leaves w (subst (λ (j : ℕ). MayYield a j w) e ok)) (put_high_adds n w p s st.here) st)
   lands_at (Put mark.Low k w) s ok st = let e = one k (yield_runner k w ok) in subst (λ (j : ℕ). Arrives a (put_low j w s)) (sym e) (left (place.Ready mark.Low w) s (put_low n w s) (yield_leaves w (subst (λ (j : ℕ). MayYield a j w) e ok)) (put_low_adds n w p s st.here) st)
-  lands_at (Put mark.Switch k w) s ok st = absurd ok
   lands_at (GoBehind g k) s ok st = let e = one k ok.0.0 in subst (λ (j : ℕ). Arrives a (behind_one g j s)) (sym e) (left (place.Behind g) s (behind_one g n s) (subst (Leaves a) e ok.0) (behind_adds g n p s (foot_given g s ok.1 st) st.here) st)
   lands_at (Move k r) s ok st = moves (move_runner k r s ok)
     where
@@ -332,9 +331,7 @@ module _ {a : Scene} {b : Core} (n : ℕ) (p : Place) (f : Follows a b n (Some p
       moves (inl i) = let e = one k i in subst (λ (j : ℕ). Arrives a (set_place j r s)) (sym e) (move_lands r s (subst (λ (j : ℕ). MayMove a j r s) e ok) st)
       moves (inr m) = no_way (sym (placeless (get s.threads m.0) m.1.1) ∙ ap (λ (o : Option Place). is_some o) (ap (λ (j : ℕ). place_of j s) (one m.0 m.1.0) ∙ st.here))
   lands_at (Enter k m) s ok st = let e = one k ok.0 in subst (λ (j : ℕ). Arrives a (after_placing (Enter j m) s)) (sym e) (enters m s (subst (λ (j : ℕ). MayLand a (Enter j m) s) e ok) st)
-  lands_at (Pop m) s ok st = absurd ok
-  lands_at (Promote m) s ok st = absurd ok
-  lands_at (Stop g) s ok st = absurd ok
+  lands_at x s ok st = absurd ok
 
 -- ---- The thread is gone
 
@@ -344,9 +341,7 @@ settles_quiet {s = s} c = along (Untouched s) settle_quiet (record { places = λ
   where
     settle_quiet : (w : Word) (u : Core) → IsSettling w u → Untouched s u → Untouched s (after_word w u)
     settle_quiet (SetUninteresting k) u ok q = record { places = q.places; switch = q.switch; high = q.high; low = q.low; callers = q.callers; made = q.made }
-    settle_quiet (RemoveCall k) u ok q = record { places = q.places; switch = q.switch; high = q.high; low = q.low; callers = q.callers; made = q.made }
-    settle_quiet (RemoveGroup g) u ok q = record { places = q.places; switch = q.switch; high = q.high; low = q.low; callers = q.callers; made = q.made }
-    settle_quiet _ u ok q = absurd ok
+    settle_quiet w u ok q = first_of (assumption, grind arith)
 
 -- What is so while a strand falls.
 record Falling (a : Scene) (n : ℕ) (s : Core) : Type 0 where
@@ -368,7 +363,6 @@ pub record Frame (a : Scene) (b : Core) (n : ℕ) (q : Option Place) : Type 0 wh
 pub land_runner : (a : Scene) (p : Placing) (s : Core) → MayLand a p s → (k : ℕ) × IsRunner a k
 land_runner a (Put mark.High k w) s ok = (k, yield_runner k w ok)
 land_runner a (Put mark.Low k w) s ok = (k, yield_runner k w ok)
-land_runner a (Put mark.Switch k w) s ok = absurd ok
 land_runner a (GoBehind g k) s ok = (k, ok.0.0)
 land_runner a (Move k r) s ok = go (move_runner k r s ok)
   where
@@ -376,9 +370,7 @@ land_runner a (Move k r) s ok = go (move_runner k r s ok)
     go (inl i) = (k, i)
     go (inr m) = (m.0, m.1.0)
 land_runner a (Enter k m) s ok = (k, ok.0)
-land_runner a (Pop m) s ok = absurd ok
-land_runner a (Promote m) s ok = absurd ok
-land_runner a (Stop g) s ok = absurd ok
+land_runner a p s ok = absurd ok
 
 none_there_at : (o : Option Thread) → is_none o ≡ true → option_map (λ (t : Thread). t.place) o ≡ None
 none_there_at o h = grind arith
@@ -418,8 +410,8 @@ module _ {a : Scene} {b : Core} {n : ℕ} {q : Option Place} (f : Frame a b n q)
       loose (Falls over (inl i)) = subst (λ (m : ℕ). Loose m s) (sym (f.one j i)) h.own
       loose (Falls over (inr u)) = by_number j n (Loose j s) (λ e. subst (λ (m : ℕ). Loose m s) (sym e) h.own) (λ e. idle_loose j (place_of j s) s refl (h.idle j (ap is_idle u.1.0)) (h.others j e))
   fall_word SetTrapped s ok h = record {
-    others = λ k e. let p = h.others k e in record { number = p.number; behind = p.behind; switch = p.switch; high = p.high; low = p.low; callers = p.callers };
-    own = record { number = h.own.number; switch = h.own.switch; high = h.own.high; low = h.own.low; callers = h.own.callers };
+    others = λ k e. let p = h.others k e in assumption;
+    own = assumption;
     idle = h.idle;
     fresh = h.fresh;
     covered = h.covered;
