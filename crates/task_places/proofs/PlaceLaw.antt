@@ -5,7 +5,7 @@ use Rattle.task_machine.proofs.CommuteLemmas.{get-change}
 use Rattle.task_places.proofs.Entries.{added_stand, has_stands, next_first, popped_quiet, promoted_stand, pushed_same, removed_fresh, withdrawn_stand, flipped}
 use Rattle.task_laws.proofs.CameLemmas.{read_same}
 use Rattle.task_rules.proofs.ChainLemmas.{along}
-use Rattle.task_rules.proofs.MoveLemmas.{All, all_of, idle_loose, is_busy, is_idle, is_parked, loose_idle, put_stand, removed_all, no_time, one_time, stand_of, removed_gone, removed_placed, removed_loose, gone_place, other_place, nobody}
+use Rattle.task_rules.proofs.MoveLemmas.{removed_is, All, all_of, idle_loose, is_busy, is_idle, is_parked, loose_idle, put_stand, removed_all, no_time, one_time, stand_of, removed_gone, removed_placed, removed_loose, gone_place, other_place, nobody}
 use Rattle.task_rules.proofs.PlacingLemmas.{placing_shifted}
 use Rattle.task_rules.proofs.StandLemmas.{Adds, adds_all, Loose, Stand, by_number, put_high_adds, put_low_adds, set_place_adds, place_kept, place_written, Given, Watch, Nothing, Awaits, Covered, is_so, is_watched, eq_refl, is_eq_of, Stuck, watching}
 use Rattle.task_rules.proofs.StopLemmas.{Untouched, behind_adds, foot_there, given_there, quiet_placed, quiet_stand, stopped_stand, switch_there}
@@ -388,21 +388,18 @@ module _ {a : Scene} {b : Core} {n : ℕ} {q : Option Place} (f : Frame a b n q)
   fall_word (RemoveThread j) s ok h = record {
     others = λ k e. by_number k j (HasPlace k (remove_thread j s)) (λ g. subst (λ (i : ℕ). HasPlace i (remove_thread j s)) (sym g) (removed_gone j s (loose ok))) (λ g. removed_placed k j s g (h.others k e));
     own = removed_loose n j s h.own;
-    idle = λ k i. by_number k j (is_idle (place_of k (remove_thread j s)) ≡ true) (λ e. ap (λ (m : ℕ). is_idle (place_of m (remove_thread j s))) e ∙ ap is_idle (gone_place j s)) (λ e. ap is_idle (other_place k j s e) ∙ h.idle k i);
+    idle = λ k i. grind (arith, nat_tests, removed_is k j s, h.idle k);
     fresh = λ k w. removed_fresh k j s (h.fresh k w);
-    covered = λ k m at. by_number k j ((place_of k (remove_thread j s) ≡ Some (place.Under m)) ⊎ (place_of m (remove_thread j s) ≡ None)) (λ g. inr (above m (ap (λ (i : ℕ). place_of i a.base) (sym g) ∙ at) ok))
-        (λ g. let o = h.covered k m at in let e = other_place k j s g in let u = still_gone m in grind arith);
+    covered = λ k m at. let up = λ (e : place_of j a.base ≡ Some (place.Under m)). above m e ok in
+        grind (arith, nat_tests, removed_is k j s, removed_is m j s, h.covered k m, up);
   }
     where
-      still_gone : (m : ℕ) → place_of m s ≡ None → place_of m (remove_thread j s) ≡ None
-      still_gone m e = by_number m j (place_of m (remove_thread j s) ≡ None) (λ g. ap (λ (i : ℕ). place_of i (remove_thread j s)) g ∙ gone_place j s) (λ g. other_place m j s g ∙ e)
-
       -- who goes is the runner, or was under one that is gone
       above : (m : ℕ) → place_of j a.base ≡ Some (place.Under m) → MayGo a j s → place_of m (remove_thread j s) ≡ None
       above m at (Departs l) = no_cover j m l.0 at
       above m at (EndsOver i is to under) = no_cover j m is at
       above m at (Falls over (inl i)) = no_cover j m i at
-      above m at (Falls over (inr u)) = still_gone m (none_there_at (get s.threads m) (subst (λ (i : ℕ). is_none (get s.threads i) ≡ true) (sym (under_number m (sym at ∙ u.1.0))) u.1.1))
+      above m at (Falls over (inr u)) = grind (arith, nat_tests, removed_is m j s)
 
       loose : MayGo a j s → Loose j s
       loose (Departs l) = subst (λ (m : ℕ). Loose m s) (sym (f.one j l.0)) h.own
@@ -430,7 +427,8 @@ module _ {a : Scene} {b : Core} {n : ℕ} {q : Option Place} (f : Frame a b n q)
         λ k. quiet_placed k (remove_thread n s) t u (removed_all n q s st k),
         (
           λ k w. ap is_fresh (u.places k) ∙ removed_fresh k n s (fresh_still a st k w),
-          λ k m at. by_number k n (place_of k t ≡ Some (place.Under m)) (λ e. no_cover k m (subst (IsRunner a) (sym e) is) at) (λ e. u.places k ∙ (other_place k n s e ∙ covered_still a st k m at)),
+          λ k m at. let own = λ (e : place_of n a.base ≡ Some (place.Under m)). no_cover n m is e {A = ⊥} in
+              grind (arith, nat_tests, u.places k, removed_is k n s, covered_still a st k m, own),
         ),
       )
 
