@@ -7,7 +7,7 @@ use Rattle.task_laws.proofs.CameLemmas.{read_same}
 use Rattle.task_rules.proofs.ChainLemmas.{along}
 use Rattle.task_rules.proofs.MoveLemmas.{removed_is, All, all_of, idle_loose, is_busy, is_idle, is_parked, loose_idle, put_stand, removed_all, no_time, one_time, stand_of, removed_gone, removed_placed, removed_loose, gone_place, other_place, nobody}
 use Rattle.task_rules.proofs.PlacingLemmas.{placing_shifted}
-use Rattle.task_rules.proofs.StandLemmas.{Adds, adds_all, Loose, Stand, by_number, put_high_adds, put_low_adds, set_place_adds, place_kept, place_written, Given, Watch, Nothing, Awaits, Covered, is_so, is_watched, eq_refl, is_eq_of, Stuck, watching}
+use Rattle.task_rules.proofs.StandLemmas.{set_place_is, Adds, adds_all, Loose, Stand, by_number, put_high_adds, put_low_adds, set_place_adds, place_kept, place_written, Given, Watch, Nothing, Awaits, Covered, is_so, is_watched, eq_refl, is_eq_of, Stuck, watching}
 use Rattle.task_rules.proofs.StopLemmas.{Untouched, behind_adds, foot_there, given_there, quiet_placed, quiet_stand, stopped_stand, switch_there}
 use Rattle.task_rules.proofs.WalkParts.{withdraws}
 use Rattle.task_rules.proofs.WalkTask.{not_main, one_runner}
@@ -259,8 +259,9 @@ module _ {a : Scene} {b : Core} (n : ℕ) (p : Place) (f : Follows a b n (Some p
   comes r s t adds st runs fresh = record {
     placed = adds_all n (Some p) r s t adds st;
     runs = λ m to. let e = runs m to in ap (λ (j : ℕ). place_of j t) e.0 ∙ (adds.own ∙ ap (λ (x : Place). Some x) e.1);
-    fresh = λ k h. by_number k n ((is_fresh (place_of k t) ≡ true) ⊎ Begun a k t) (λ e. subst (λ (j : ℕ). (is_fresh (place_of j t) ≡ true) ⊎ Begun a j t) (sym e) (let g = fresh (ap (waits a) (sym e) ∙ h) in let y = adds.own in grind arith)) (λ e. inl (ap is_fresh (adds.other k e) ∙ fresh_still a st k h));
-    covered = λ k m at. inl (by_number k n (place_of k t ≡ Some (place.Under m)) (λ e. not_under k m e at) (λ e. adds.other k e ∙ covered_still a st k m at));
+    fresh = λ k h. by_number k n ((is_fresh (place_of k t) ≡ true) ⊎ Begun a k t) (λ e. rw e (let g = fresh (rw e at h) in let y = adds.own in grind arith))
+        (λ e. inl (grind (arith, adds.other k e, fresh_still a st k h)));
+    covered = λ k m at. inl (grind (arith, nat_tests, adds.other k, covered_still a st k m at));
     entered = λ m none to. no_way (ap (λ (o : Option Place). is_some o) (sym none ∙ (ap (λ (j : ℕ). place_of j a.base) (runs m to).0 ∙ home)));
   }
 
@@ -307,15 +308,16 @@ module _ {a : Scene} {b : Core} (n : ℕ) (p : Place) (f : Follows a b n (Some p
       record {
         placed = adds_all n (Some p) (place.Under m) u t (set_place_adds n (place.Under m) p u refl at) (stand_of {P = nobody} n (Some p) u at r.0 (λ k h. no_way h) all);
         runs = λ k to. ap (λ (j : ℕ). place_of j t) (one_runner k m (sym to ∙ ok.1.0)) ∙ here;
-        fresh = λ k h. by_number k m ((is_fresh (place_of k t) ≡ true) ⊎ Begun a k t) (λ e. inr (subst (λ (j : ℕ). Begun a j t) (sym e) (inr ok.1.1.1.1.1.1)))
-            (λ e. by_number k n ((is_fresh (place_of k t) ≡ true) ⊎ Begun a k t) (λ g. begun s ok.1.1.1.1.1.0 (ap (waits a) (sym g) ∙ h)) (λ g. inl (ap is_fresh (place_kept k n (place.Under m) u g ∙ place_kept k m place.Running s e) ∙ fresh_still a st k h)));
-        covered = λ k j under. inl (by_number k m (place_of k t ≡ Some (place.Under j)) (λ e. no_way (ap is_under_place (sym new ∙ (ap (λ (i : ℕ). place_of i s) (sym e) ∙ covered_still a st k j under))))
-            (λ e. by_number k n (place_of k t ≡ Some (place.Under j)) (λ g. not_under k j g under) (λ g. place_kept k n (place.Under m) u g ∙ (place_kept k m place.Running s e ∙ covered_still a st k j under))));
+        fresh = λ k h. by_number k m ((is_fresh (place_of k t) ≡ true) ⊎ Begun a k t) (λ e. inr (inr (rw e ok.1.1.1.1.1.1)))
+            (λ e. let still = fresh_still a st k h in let own = λ (g : waits a n ≡ true). begun s {A = ⊥} ok.1.1.1.1.1.0 g in
+            inl (grind (arith, nat_tests, set_place_is k n (place.Under m) u, set_place_is k m place.Running s, own)));
+        covered = λ k j under. let still = covered_still a st k j under in
+            inl (grind (arith, nat_tests, set_place_is k n (place.Under m) u, set_place_is k m place.Running s, new));
         entered = λ k none to. (n, place_written n (place.Under m) p u at ∙ ap (λ (j : ℕ). Some (place.Under j)) (sym (one_runner k m (sym to ∙ ok.1.0))));
       }
     where
       apart : (m == n) ≡ false
-      apart = by_number m n ((m == n) ≡ false) (λ e. no_way (sym (ap is_busy (sym (ap (λ (j : ℕ). place_of j s) e ∙ st.here) ∙ ok.1.1.1.0)) ∙ f.busy)) (λ e. e)
+      apart = let new = ok.1.1.1.0 in let here = st.here in let busy = f.busy in grind (arith, nat_tests)
 
   foot_given : (g : ℕ) (s : Core) → IsFoot g s → Stand (watch a) n (Some p) [] s → Given g s
   foot_given g s (inl there) st = given_there n (Some p) [] s st g there
@@ -438,7 +440,7 @@ module _ {a : Scene} {b : Core} {n : ℕ} {q : Option Place} (f : Frame a b n q)
       let st = stay_stand f.follows c in
       let e = exits s t is st d in
       let at : place_of m t ≡ Some (place.Under n) = e.1.1 m n under in
-      let apart : (m == n) ≡ false = by_number m n ((m == n) ≡ false) (λ g. no_cover m n (subst (IsRunner a) (sym g) is) under) (λ g. g) in
+      let apart : (m == n) ≡ false = let own = λ (g : place_of n a.base ≡ Some (place.Under n)). no_cover n n is g {A = ⊥} in grind (arith, nat_tests) in
       let u = set_place m place.Running t in
       far_arrives a m (how_far.Answered v) u (record {
         placed = adds_all m (Some (place.Under n)) place.Running t u (set_place_adds m place.Running (place.Under n) t refl at) (stand_of {P = nobody} m (Some (place.Under n)) t at refl (λ k h. no_way h) e.0);
