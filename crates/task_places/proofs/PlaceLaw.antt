@@ -374,16 +374,10 @@ land_runner a (Move k r) s ok = go (move_runner k r s ok)
 land_runner a (Enter k m) s ok = (k, ok.0)
 land_runner a p s ok = absurd ok
 
-none_there_at : (o : Option Thread) → is_none o ≡ true → option_map (λ (t : Thread). t.place) o ≡ None
-none_there_at o h = grind arith
-
-under_number : {j : ℕ} (m : ℕ) → Some (place.Under m) ≡ Some (place.Under j) → m ≡ j
-under_number m e = grind arith
-
 module _ {a : Scene} {b : Core} {n : ℕ} {q : Option Place} (f : Frame a b n q) where
   -- the runner is under none
   no_cover : (k m : ℕ) → IsRunner a k → place_of k a.base ≡ Some (place.Under m) → {A : Type 0} → A
-  no_cover k m is at = let p = f.there k is in no_way (sym p.1.1 ∙ ap is_under_place (sym p.1.0 ∙ (sym f.follows.start.here ∙ (f.home n ∙ (ap (λ (j : ℕ). place_of j a.base) (sym (f.one k is)) ∙ at)))))
+  no_cover k m is at = let p = f.there k is in let here = f.follows.start.here in let home = f.home n in let one = f.one k is in absurd (grind arith)
 
   fall_word : (w : Word) (s : Core) → IsFall a w s → Falling a n s → Falling a n (after_word w s)
   unfolding set_trapped
@@ -444,12 +438,11 @@ module _ {a : Scene} {b : Core} {n : ℕ} {q : Option Place} (f : Frame a b n q)
       let u = set_place m place.Running t in
       far_arrives a m (how_far.Answered v) u (record {
         placed = adds_all m (Some (place.Under n)) place.Running t u (set_place_adds m place.Running (place.Under n) t refl at) (stand_of {P = nobody} m (Some (place.Under n)) t at refl (λ k h. no_way h) e.0);
-        runs = λ k next. ap (λ (j : ℕ). place_of j u) (one_runner k m (sym next ∙ to)) ∙ place_written m place.Running (place.Under n) t at;
-        fresh = λ k h. by_number k m ((is_fresh (place_of k u) ≡ true) ⊎ Begun a k u) (λ g. no_way (ap is_fresh (sym under) ∙ (ap (waits a) (sym g) ∙ h))) (λ g. inl (ap is_fresh (place_kept k m place.Running t g) ∙ e.1.0 k h));
-        covered = λ k j over. by_number k m ((place_of k u ≡ Some (place.Under j)) ⊎ (place_of j u ≡ None))
-            (λ g. inr (ap (λ (i : ℕ). place_of i u) (under_number j (sym (ap (λ (i : ℕ). place_of i a.base) (sym g) ∙ over) ∙ under)) ∙ (place_kept n m place.Running t (flipped n m apart) ∙ ((settles_quiet d).places n ∙ gone_place n s))))
-            (λ g. inl (place_kept k m place.Running t g ∙ e.1.1 k j over));
-        entered = λ k none next. no_way (ap (λ (o : Option Place). is_some o) (sym none ∙ (ap (λ (j : ℕ). place_of j a.base) (one_runner k m (sym next ∙ to)) ∙ under)));
+        runs = λ k next. let one = one_runner k m (sym next ∙ to) in let own = place_written m place.Running (place.Under n) t at in cc;
+        fresh = λ k h. let still = e.1.0 k h in inl (grind (arith, nat_tests, set_place_is k m place.Running t));
+        covered = λ k j over. let low = (settles_quiet d).places n in let gone = gone_place n s in let still = e.1.1 k j over in
+            grind (arith, nat_tests, set_place_is k m place.Running t, set_place_is j m place.Running t);
+        entered = λ k none next. let one = one_runner k m (sym next ∙ to) in absurd (cc);
       })
 
   lands : (p : Placing) (s : Core) → MayLand a p s → Stay a b s → Arrives a (after_placing p s)
@@ -464,10 +457,10 @@ module _ {a : Scene} {b : Core} {n : ℕ} {q : Option Place} (f : Frame a b n q)
       let st = stay_stand f.follows c in
       record {
         placed = all_of n q t (sym (ap is_idle st.here) ∙ f.rests t w (λ i. ap is_idle (st.here ∙ (sym f.follows.start.here ∙ f.home n)) ∙ i)) st;
-        runs = λ m to. let r = f.running m (still m to) in ap (λ (j : ℕ). place_of j t) r.0 ∙ (st.here ∙ r.1);
+        runs = λ m to. let r = f.running m (still m to) in let here = st.here in cc;
         fresh = λ k h. inl (fresh_still a st k h);
         covered = λ k m at. inl (covered_still a st k m at);
-        entered = λ m none to. let r = f.running m (still m to) in no_way (ap (λ (o : Option Place). is_some o) (sym none ∙ (ap (λ (j : ℕ). place_of j a.base) r.0 ∙ (sym (f.home n) ∙ (f.follows.start.here ∙ r.1)))));
+        entered = λ m none to. let r = f.running m (still m to) in let home = f.home n in let here = f.follows.start.here in absurd (cc);
       }
   trip_arrives (Lands s p c ok) w = subst (λ (t : Core). Arrives a t) (sym (placing_shifted p s).only) (lands p s ok c)
   trip_arrives (LandsAt s p m h c ok comes) w = far_arrives a m h _ (subst (λ (t : Core). Arrives a t) (sym (placing_shifted p s).only) (lands p s ok c))
