@@ -443,14 +443,6 @@ opening_works instances handle_limit capacity = record {
 
 -- ---- A step
 
--- what is so of the works before the step
-pub record Before (a : Scene) (s : Core) : Type 0 where
-  pub made : a.base.made.works ≡ s.made.works
-  pub same : (i : ℕ) → doing_of i a.base ≡ doing_of i s
-
-pub before_step : (x : Setting) (s : State) (l : Label) (next : Turn) → Before (scene_of x s l next) s.core
-before_step x s l next = of_base (λ c. Before (record (scene_of x s l next) { base = c }) s.core) s.turn s.core (record { made = refl; same = λ i. refl })
-
 pub first_works : {S : Type 0} (x : Setting) (s : State) (l : Label) (next : Turn) → WorksHold S s.core → WorksGo S (scene_of x s l next) s.core
 first_works {S = S} x s l next h = of_base (λ c. WorksGo S (record (scene_of x s l next) { base = c }) s.core) s.turn s.core (record {
   counted = le_refl _;

@@ -4,7 +4,7 @@ use Rattle.task_laws.specs.Written.{EndsHandedAsTold, EndsWrittenOnce, NewEndsAr
 use Rattle.task_laws.proofs.GuestEnds.{CallsKnown, events_come, guest_changes, guest_covers, guest_is, guest_stays, results_come, written_new}
 use Rattle.task_laws.proofs.HostEnds.{host_changes, host_stays}
 use Rattle.task_laws.proofs.OnceLemmas.{Over, counts_once}
-use Rattle.task_laws.proofs.Works.{WorksHold, before_step, opening_works, works_go}
+use Rattle.task_laws.proofs.Works.{WorksHold, opening_works, works_go}
 use Rattle.task_laws.proofs.CallEnds.{EndsTold, ends_go, reached_ends_told}
 use Rattle.task_laws.proofs.CallsLaw.{CallsHold}
 use Rattle.task_laws.proofs.CallsSteps.{plain, plain_scene, calls_begin, of_base, opening_holds, reached_holds, step_goes}
@@ -81,11 +81,11 @@ module _ (x : Setting) (codes : CodesInCallbacks x.component) where
 
   changes_over : (sub : Subtask) (s : State) (l : Label) (t : State) → Holds x s → Step x s l t → changes_end sub (record { before = s; label = l; after = t }) ≡ true → (Over sub s.core → ⊥) × Over sub t.core
   changes_over (subtask.Guest k) s l t h step = guest_changes s.core t.core h.calls.numbered (step_goes x s l t codes h.calls step).1 (never_fewer x s l t step).threads k
-  changes_over (subtask.Host i) s l t h step = let w = step_walks x s l t step in host_changes ⊥ x s l t w.next (before_step x s l w.next) h.works (works_go x s l t w (λ no. absurd no) h.works) i
+  changes_over (subtask.Host i) s l t h step = let w = step_walks x s l t step in host_changes ⊥ x s l t w.next h.works (works_go x s l t w (λ no. absurd no) h.works) i
 
   over_kept : (sub : Subtask) (s : State) (l : Label) (t : State) → Holds x s → Step x s l t → Over sub s.core → Over sub t.core
   over_kept (subtask.Guest k) s l t h step = guest_stays s.core t.core h.calls.numbered (step_goes x s l t codes h.calls step).1 (never_fewer x s l t step).threads k
-  over_kept (subtask.Host i) s l t h step = let w = step_walks x s l t step in host_stays ⊥ x s l t w.next (before_step x s l w.next) h.works (works_go x s l t w (λ no. absurd no) h.works) i
+  over_kept (subtask.Host i) s l t h step = let w = step_walks x s l t step in host_stays ⊥ x s l t w.next h.works (works_go x s l t w (λ no. absurd no) h.works) i
 
 pub ends_written_once : EndsWrittenOnce
 ends_written_once x s ls t r run sub =
