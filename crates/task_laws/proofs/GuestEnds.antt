@@ -1,5 +1,5 @@
 -- What a step owes of the end of a call.
-use Rattle.task_rules.proofs.Machine.{nat_tests, ⊎_elim, after_word, Allowed, Answers, arith, base_at, Bool, Call, call_end_code, CallEnd, Core, covers_end, end_code, end_for, EndsByExit, EndsCall, EndsOwn, EndsSubtask, EndWords, event_of, ExitsCall, false, get, goal_of, handed, HandsAtOnce, HandsOut, has_ended, inl, inr, is_direct, is_for_main, is_guest_call, is_other, is_over, is_some, is_written, IsNamed, IsRunner, Label, LaterBy, le_trans, Moment, None, not, Option, option_and_then, option_map, option_map_or, refl, SaysEnd, Scene, scene_of, Setting, Some, State, Status, status_of_end, Subtask, TakesEvent, TakesResult, task_of, true, Turn, undelivered_end, Walk, Word, Writes, WritesAtOnce, WritesCall, WritesNever, WritesPolled, WritesToo, written, ℕ, ◌∙◌, ◌≡◌, ◌≤◌, ◌⊎◌}
+use Rattle.task_rules.proofs.Machine.{after_word, Allowed, Answers, arith, base_at, Bool, Call, call_end_code, CallEnd, Core, covers_end, end_code, end_for, EndsByExit, EndsCall, EndsOwn, EndsSubtask, EndWords, event_of, ExitsCall, false, get, goal_of, handed, HandsAtOnce, HandsOut, has_ended, inl, inr, is_direct, is_for_main, is_guest_call, is_other, is_over, is_some, is_written, IsNamed, IsRunner, Label, LaterBy, le_trans, Moment, nat_tests, None, not, Option, option_and_then, option_map, option_map_or, refl, SaysEnd, Scene, scene_of, Setting, Some, State, Status, status_of_end, Subtask, TakesEvent, TakesResult, task_of, true, Turn, undelivered_end, Walk, Word, Writes, WritesAtOnce, WritesCall, WritesNever, WritesPolled, WritesToo, written, ℕ, ⊎_elim, ◌∙◌, ◌≡◌, ◌≤◌, ◌⊎◌}
 use Rattle.task_laws.specs.Order.{Numbered}
 use Rattle.task_laws.specs.Rises.{CallsRise, Rises}
 use Rattle.task_laws.proofs.CallsLaw.{CallsGo, CallsHold, exits_unended}

@@ -1,5 +1,5 @@
 -- What a step owes of the end of a host work.
-use Rattle.task_rules.proofs.Machine.{nat_tests, ⊎_elim, Answers, ap, arith, changes_end, Core, Course, course_code, course_of, course_value, covers_end, end_for, EndWords, event_of, get, handed, HandsAtOnce, HandsOut, has_end, host_status, how_far_of, inl, inr, is_async_work, is_other, is_some, is_stage_ended, is_written, IsPolled, IsReadyAtOnce, IsRunner, Label, le_trans, Moment, None, Option, option_map, option_map_or, refl, Scene, scene_of, Setting, Some, State, Status, Subtask, sym, TakesEvent, TakesResult, true, Turn, undelivered_end, Work, Writes, WritesAtOnce, WritesCall, WritesNever, WritesPolled, WritesToo, written, ℕ, ⊎_elim, ◌∙◌, ◌≡◌, ◌≤◌, ◌⊎◌}
+use Rattle.task_rules.proofs.Machine.{Answers, ap, arith, changes_end, Core, Course, course_code, course_of, course_value, covers_end, end_for, EndWords, event_of, get, handed, HandsAtOnce, HandsOut, has_end, host_status, how_far_of, inl, inr, is_async_work, is_other, is_some, is_stage_ended, is_written, IsPolled, IsReadyAtOnce, IsRunner, Label, le_trans, Moment, nat_tests, None, Option, option_map, option_map_or, refl, Scene, scene_of, Setting, Some, State, Status, Subtask, sym, TakesEvent, TakesResult, true, Turn, undelivered_end, Work, Writes, WritesAtOnce, WritesCall, WritesNever, WritesPolled, WritesToo, written, ℕ, ⊎_elim, ◌∙◌, ◌≡◌, ◌≤◌, ◌⊎◌}
 use Rattle.task_laws.specs.Ends.{is_sync_work}
 use Rattle.task_laws.proofs.SaidEnds.{hands_at, said_at, written_at}
 use Rattle.task_laws.proofs.CallsSteps.{plain, plain_scene}

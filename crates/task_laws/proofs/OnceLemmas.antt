@@ -16,12 +16,10 @@ counted_is : (p : Moment → Bool) (ms : List Moment) → counted p ms ≡ count
 counted_is p ms = is_count_by (counted p) p refl (λ m ms. refl) ms
 
 one_at_most : (b : Bool) (n : ℕ) → n ≤ 1 → (b ≡ true → n ≡ 0) → (if b then 1 + n else n) ≤ 1
-one_at_most true n h none = omega (none refl, arith)
-one_at_most false n h none = h
+one_at_most b n h none = grind arith
 
 none_more : (b : Bool) (n : ℕ) → (b ≡ true → ⊥) → n ≡ 0 → (if b then 1 + n else n) ≡ 0
-none_more true n h z = absurd (h refl)
-none_more false n h z = z
+none_more b n h z = grind arith
 
 -- ---- The same end
 

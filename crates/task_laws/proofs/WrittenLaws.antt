@@ -1,5 +1,5 @@
 -- The laws of the ends of calls and works that hold by each step alone.
-use Rattle.task_rules.proofs.Machine.{EndWords, arith, [], Answers, base_at, Bool, changes_end, end_for, event_of, false, get, HandsAtOnce, HandsOut, inl, inr, is_some, Label, List, None, opening, refl, Run, scene_of, Setting, Some, State, Status, Step, subst, Subtask, sym, TakesEvent, TakesResult, true, Turn, undelivered_end, Walked, WritesToo, written_by, ◌∷◌, ◌≡◌, ◌⊎◌}
+use Rattle.task_rules.proofs.Machine.{[], Answers, arith, base_at, Bool, changes_end, end_for, EndWords, event_of, false, get, HandsAtOnce, HandsOut, inl, inr, is_some, Label, List, None, opening, refl, Run, scene_of, Setting, Some, State, Status, Step, subst, Subtask, sym, TakesEvent, TakesResult, true, Turn, undelivered_end, Walked, WritesToo, written_by, ◌∷◌, ◌≡◌, ◌⊎◌}
 use Rattle.task_laws.specs.Written.{EndsHandedAsTold, EndsWrittenOnce, NewEndsAreSaid, NewResultsAreSaid, NoEndIsCovered, WrittenEndsAreNew}
 use Rattle.task_laws.proofs.GuestEnds.{CallsKnown, events_come, guest_changes, guest_covers, guest_is, guest_stays, results_come, written_new}
 use Rattle.task_laws.proofs.HostEnds.{host_changes, host_stays}

@@ -11,7 +11,7 @@ use Rattle.task_machine.specs.declared.records.HowFar.TheVariants as how_far
 use Rattle.task_machine.specs.declared.records.Place.TheVariants as place
 use Rattle.task_machine.specs.declared.records.Subtask.TheVariants as subtask
 use Rattle.task_machine.specs.declared.words.Mark.TheVariants as mark
-use Rattle.task_places.proofs.PlaceLaw.{Frame, no_way, stay_word, stuck_word, watch, move_runner, exits, yield_runner}
+use Rattle.task_places.proofs.PlaceLaw.{Frame, no_way, stay_word, stuck_word, watch, move_runner, exits, yield_runner, placeless}
 use Rattle.task_places.proofs.WorksQueued.{ended_word, works_word, made_works_word, others_move}
 use Rattle.task_rules.proofs.ChainLemmas.{along, fall_allowed, land_allowed, stays_allowed, settle_stays}
 use Rattle.task_rules.proofs.StandLemmas.{Stand, by_number, place_kept}
@@ -20,32 +20,23 @@ use Rattle.task_rules.proofs.StandLemmas.{Stand, by_number, place_kept}
 abbrev Stuck : Word → Core → Type 0
 Stuck w s = (m i : ℕ) → place_of m s ≡ Some (place.Blocked (subtask.Host i)) → (x : Placing) → w ≡ Places x → (place_of m (after_word w s) ≡ Some (place.Blocked (subtask.Host i))) ⊎ (is_stage_ended (stage_of i s) ≡ true)
 
+-- the thread is blocked on the work, or that has ended
+abbrev Awaited : ℕ → ℕ → Core → Type 0
+Awaited n i s = (i ≤ s.made.works) × ((place_of n s ≡ Some (place.Blocked (subtask.Host i))) ⊎ (is_stage_ended (stage_of i s) ≡ true))
+
 awaited_word : (a : Scene) (w : Word) (s : Core) → Allowed a w s → WorksQueued s → Stuck w s → HostsAwaited s → HostsAwaited (after_word w s)
 awaited_word a w s ok q stuck h n i far = go (thread_came w s ok n)
   where
-    later : i ≤ s.made.works → is_stage_ended (stage_of i s) ≡ true → is_stage_ended (stage_of i (after_word w s)) ≡ true
-    later below e = ended_word a w s ok q i below e
+    goes : (r u : Thread) → get s.threads n ≡ Some r → get (after_word w s).threads n ≡ Some u → (u.place ≡ r.place) ⊎ ((x : Placing) × (w ≡ Places x)) →
+        Awaited n i s → Awaited n i (after_word w s)
+    goes r u e f (inl same) old = let l = ended_word a w s ok q i old.0 in let m = made_works_word w s in let o = old.1 in grind arith
+    goes r u e f (inr x) old = let l = ended_word a w s ok q i old.0 in let m = made_works_word w s in let o = old.1 in
+        let b = λ (at : place_of n s ≡ Some (place.Blocked (subtask.Host i))). stuck n i at x.0 x.1 in grind arith
 
-    made : s.made.works ≤ (after_word w s).made.works
-    made = made_works_word w s
-
-    goes : (r u : Thread) → get s.threads n ≡ Some r → get (after_word w s).threads n ≡ Some u → (u.place ≡ r.place) ⊎ ((x : Placing) × (w ≡ Places x)) → (i ≤ s.made.works) × ((place_of n s ≡ Some (place.Blocked (subtask.Host i))) ⊎ (is_stage_ended (stage_of i s) ≡ true)) →
-        (i ≤ (after_word w s).made.works) × ((place_of n (after_word w s) ≡ Some (place.Blocked (subtask.Host i))) ⊎ (is_stage_ended (stage_of i (after_word w s)) ≡ true))
-    goes r u e f p old = (omega (arith, old.0, made), by old.1 p)
-      where
-        by : (place_of n s ≡ Some (place.Blocked (subtask.Host i))) ⊎ (is_stage_ended (stage_of i s) ≡ true) → (u.place ≡ r.place) ⊎ ((x : Placing) × (w ≡ Places x)) → (place_of n (after_word w s) ≡ Some (place.Blocked (subtask.Host i))) ⊎ (is_stage_ended (stage_of i (after_word w s)) ≡ true)
-        by (inr d) o = inr (later old.0 d)
-        by (inl b) (inl same) = inl (ap (λ (o : Option Thread). option_map (λ (t : Thread). t.place) o) f ∙ (ap (λ (x : Place). Some x) same ∙ (sym (ap (λ (o : Option Thread). option_map (λ (t : Thread). t.place) o) e) ∙ b)))
-        by (inl b) (inr x) = after (stuck n i b x.0 x.1)
-          where
-            after : (place_of n (after_word w s) ≡ Some (place.Blocked (subtask.Host i))) ⊎ (is_stage_ended (stage_of i s) ≡ true) → (place_of n (after_word w s) ≡ Some (place.Blocked (subtask.Host i))) ⊎ (is_stage_ended (stage_of i (after_word w s)) ≡ true)
-            after (inl y) = inl y
-            after (inr y) = inr (later old.0 y)
-
-    come : (r : Thread) → get s.threads n ≡ Some r → MayCome a n (how_far.Calls (subtask.Host i)) s → (i ≤ s.made.works) × ((place_of n s ≡ Some (place.Blocked (subtask.Host i))) ⊎ (is_stage_ended (stage_of i s) ≡ true))
+    come : (r : Thread) → get s.threads n ≡ Some r → MayCome a n (how_far.Calls (subtask.Host i)) s → Awaited n i s
     come r e ok = (grind arith, inl (blocked_place (subtask.Host i) (place_of n s) (grind arith)))
 
-    go : ThreadAfter a w s n → (i ≤ (after_word w s).made.works) × ((place_of n (after_word w s) ≡ Some (place.Blocked (subtask.Host i))) ⊎ (is_stage_ended (stage_of i (after_word w s)) ≡ true))
+    go : ThreadAfter a w s n → Awaited n i (after_word w s)
     go (IsSame r u e f c y (inl same) p) = goes r u e f p (h n i (cc))
     go (IsSame r u e f c y (inr ok) p) = goes r u e f p (come r e (let is : u.how_far ≡ how_far.Calls (subtask.Host i) = cc in subst (λ g. MayCome a n g s) is ok))
     go (IsGone e) = absurd (cc)
@@ -108,11 +99,7 @@ module _ {a : Scene} {b : Core} {n : ℕ} {q : Option Place} (f : Frame a b n q)
     where
       by : IsRunner a k ⊎ ((j : ℕ) × (IsRunner a j × (is_none (get s.threads j) ≡ true))) → (m == k) ≡ false
       by (inl i) = moved_apart k m s i st sub at
-      by (inr j) = gone j.0 j.1.0 (get s.threads j.0) refl j.1.1
-        where
-          gone : (j : ℕ) → IsRunner a j → (o : Option Thread) → get s.threads j ≡ o → is_none o ≡ true → (m == k) ≡ false
-          gone j i None e none = let p = f.there j i in no_way (ap (λ (o : Option Place). is_some o) (sym (ap (λ (o : Option Thread). option_map (λ (t : Thread). t.place) o) e) ∙ (ap (λ (c : ℕ). place_of c s) (f.one j i) ∙ (st.here ∙ p.1.0))))
-          gone j i (Some t) e none = absurd (cc)
+      by (inr j) = let p = f.there j.0 j.1.0 in no_way (sym (placeless (get s.threads j.0) j.1.1) ∙ ap (λ (o : Option Place). is_some o) (ap (λ (c : ℕ). place_of c s) (f.one j.0 j.1.0) ∙ (st.here ∙ p.1.0)))
   land_blocked (Enter k j) s ok st m sub at = place_kept m k (place.Under j) (set_place j place.Running s) (moved_apart k m s ok.0 st sub at) ∙ (place_kept m j place.Running s (by_number m j ((m == j) ≡ false) (λ e. absurd (let x = ok.1.1.1.0 in let y = ap (λ (c : ℕ). place_of c s) e in cc)) (λ e. e)) ∙ at)
   land_blocked (Pop x) s ok st m sub at = absurd ok
   land_blocked (Promote x) s ok st m sub at = absurd ok
@@ -173,9 +160,6 @@ step_works x s l t w h may works awaited = step_by x s l t w h may (λ a u. Work
     begins a b base first same = record {
       works = others_move s.core b same first.1.0 (ap (λ (m : Made). m.works) first.1.1) works;
       awaited = read_awaited s.core b first awaited;
-      made = le_eq (ap (λ (m : Made). m.works) (base.1.1 ∙ sym first.1.1));
+      made = let e = ap (λ (m : Made). m.works) (base.1.1 ∙ sym first.1.1) in omega (arith, e);
       ended = λ i below e. ap (λ m. is_stage_ended (option_map_or (λ (w : Work). w.stage) (get m i) stage.Ended)) (first.1.0 ∙ sym base.1.0) ∙ e;
     }
-      where
-        le_eq : {x y : ℕ} → x ≡ y → x ≤ y
-        le_eq e = omega (arith, e)

@@ -1,7 +1,6 @@
 -- Each step owes of the ends what it should, and so each run has each end once.
 use Rattle.task_laws.proofs.NamedWorks.{NamesNoSync, abort_kept, caller_is, names_word, opening_names}
-use Rattle.task_rules.proofs.Machine.{[], AbortsOwn, ap, arith, base_at, Bool, Call, Core, end_for, Entry, false, fresh, get, get-empty, how_far_of, inl, inr, instance_of, is_some, is_spawn, is_spawn_caller, is_stage_ended, IsRunner, Label, le_refl, Main, MainPlace, Mark, next_entry, None, opening, Option, option_and_then, option_map, option_map_or, Place, place_of, ProgramAborts, refl, runner_at, SameMain, Scene, scene_of, ScriptAborts, Scripted, Setting, slice_get, Some, spawned_at, stage_of, State, Status, Step, subst, Subtask, subtask_at, suc, sym, task_of, thread_of_entry, true, Turn, undelivered_end, Unscripted, unwrap_or, Walked, Work, work_caller_of, WorkCaller, written, zero, ℕ, ⊎_elim, ◌-◌, ◌∙◌, ◌∷◌, ◌≡◌, ◌≤◌, ◌⊎◌}
-use Rattle.std.proofs.Common.{◌++◌}
+use Rattle.task_rules.proofs.Machine.{[], AbortsOwn, ap, arith, base_at, Bool, Call, Core, end_for, Entry, false, fresh, get, get-empty, how_far_of, inl, inr, instance_of, is_some, is_spawn, is_spawn_caller, is_stage_ended, IsRunner, Label, le_refl, Main, MainPlace, Mark, next_entry, None, opening, Option, option_and_then, option_map, option_map_or, Place, place_of, ProgramAborts, refl, runner_at, SameMain, Scene, scene_of, ScriptAborts, Scripted, Setting, slice_get, Some, spawned_at, stage_of, State, Status, Step, subst, Subtask, subtask_at, suc, sym, task_of, thread_of_entry, true, Turn, undelivered_end, Unscripted, unwrap_or, Walked, Work, work_caller_of, WorkCaller, written, zero, ℕ, ⊎_elim, ◌++◌, ◌-◌, ◌∙◌, ◌∷◌, ◌≡◌, ◌≤◌, ◌⊎◌}
 use Rattle.task_laws.proofs.Basics.{no_way}
 use Rattle.task_laws.proofs.CallsLaw.{CallsGo, CallsHold}
 use Rattle.task_laws.proofs.CallsSteps.{of_base, step_goes, calls_begin}
@@ -11,7 +10,7 @@ use Rattle.task_laws.proofs.CallEnds.{EndsGo, EndsTold, ends_go, opening_ends_to
 use Rattle.task_laws.proofs.OnceLemmas.{Due, Over, EndStep, ends_once, written_over}
 use Rattle.task_laws.proofs.HostEnds.{Answered, host_step}
 use Rattle.task_laws.proofs.SceneLemmas.{base_is, runner_there}
-use Rattle.task_laws.specs.Ends.{is_sync_work, NamedCallsThere, MayBeAborted, SyncUnnamed}
+use Rattle.task_laws.specs.Ends.{is_sync_work, MayBeAborted, SyncUnnamed, NamedCallsThere}
 use Rattle.task_laws.proofs.SyncWorks.{CallersKnown, callers_word, opening_callers}
 use Rattle.task_laws.proofs.Works.{AbortsNoSync, Doing, WorksGo, WorksHold, doing, doing_of, is_late, stage_ended, opening_works, first_works, works_word}
 use Rattle.task_rules.proofs.WalkSteps.{step_walks}
