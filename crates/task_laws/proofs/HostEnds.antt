@@ -6,7 +6,7 @@ use Rattle.task_laws.proofs.CallsSteps.{plain, plain_scene}
 use Rattle.task_laws.proofs.PolledWorks.{polled_is_live}
 use Rattle.task_laws.proofs.Basics.{some_none, too_high}
 use Rattle.task_laws.proofs.OnceLemmas.{writes_by, Due, EndStep, Out, Over}
-use Rattle.task_laws.proofs.Works.{Doing, WorksGo, WorksHold, WorkWas, doing, doing_of, is_due, is_late, stage_ended}
+use Rattle.task_laws.proofs.Works.{doing_or, doing_there, Doing, WorksGo, WorksHold, WorkWas, doing, doing_of, is_due, is_late, stage_ended}
 use Rattle.task_machine.specs.declared.records.HowFar.TheVariants as how_far
 use Rattle.task_machine.specs.declared.records.Subtask.TheVariants as subtask
 use Rattle.task_machine.specs.declared.records.Course.TheVariants as course
@@ -17,15 +17,8 @@ use Rattle.task_machine.specs.declared.words.Status.TheVariants as status
 course_is : (i : ℕ) (s : Core) (v : Doing) → doing_of i s ≡ Some v → course_of i s ≡ v.course
 course_is i s v is = grind arith
 
--- there or not
-doing_or : (i : ℕ) (s : Core) → (doing_of i s ≡ None) ⊎ ((v : Doing) × (doing_of i s ≡ Some v))
-doing_or i s = grind arith
-
 gone_ended : (i : ℕ) (s : Core) → doing_of i s ≡ None → has_end (course_of i s) ≡ true
 gone_ended i s is = grind arith
-
-doing_there : (i : ℕ) (s : Core) → is_some (get s.works i) ≡ true → (v : Doing) × (doing_of i s ≡ Some v)
-doing_there i s h = ⊎_elim (λ none. absurd (grind arith)) (λ v. v) (doing_or i s)
 
 event_there : (i : ℕ) (s : Core) (e : Status) → undelivered_end (event_of (subtask.Host i) s) ≡ Some e →
     (v : Doing) × ((doing_of i s ≡ Some v) × (undelivered_end v.event ≡ Some e))

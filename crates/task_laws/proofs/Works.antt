@@ -245,6 +245,9 @@ stage_ended x h = grind arith
 pub doing_or : (i : ℕ) (s : Core) → (doing_of i s ≡ None) ⊎ ((v : Doing) × (doing_of i s ≡ Some v))
 doing_or i s = grind arith
 
+pub doing_there : (i : ℕ) (s : Core) → is_some (get s.works i) ≡ true → (v : Doing) × (doing_of i s ≡ Some v)
+doing_there i s h = ⊎_elim (λ none. absurd (grind arith)) (λ v. v) (doing_or i s)
+
 -- ---- What a work keeps
 
 -- what is known of who comes to the work
