@@ -1,5 +1,5 @@
 -- What host works come to along the words of a step: their ends, their entries, and what they have to hand out.
-use Rattle.task_rules.proofs.Machine.{[], add_call, add_group, add_set, add_thread, add_work, after_placing, after_word, Allowed, ap, arith, Bool, call_made, change, Core, count_work, Course, course_of, course_value, EndWork, Entry, false, FinishWork, free_handle, free_thread_handle, fresh, get, get-empty, give_handle, give_result, give_thread_handle, has_end, host_status, HostDef, inl, inr, is_aborted, is_async_work, is_some, is_stage_ended, is_stage_live, IsPolled, Label, le_refl, le_trans, List, Mark, MayAbort, MayFinish, NameWork, nat_tests, new_work, next_entry, next_work, None, on_call, on_instance, on_thread, on_work, one_if, Option, option_map, or_high, Pend, Phase, phase_of, Places, poll_pends, popped, push_high, QueueWork, refl, remove_call, remove_group, remove_set, remove_thread, remove_work, RemoveWork, rest_of, Scene, scene_of, set_backpressure, set_cancel_delivered, set_cancelled, set_course, set_do_not_enter, set_do_not_suspend, set_end, set_event, set_exited, set_high, set_how_far, set_join, set_low, set_own_event, set_phase, set_position, set_register, set_result, set_saved_callee, set_saved_own, set_script, set_stage, set_started, set_starting_published, set_subtask_handle, set_switch, set_thread_handle, set_trapped, set_uninteresting, set_word, SetCancelled, SetPhase, Setting, SetWorkJoin, Some, Stage, State, Status, sym, take_result, TakeHost, TakePush, TakeWorkEvent, true, Turn, undelivered_end, UnnameWork, unqueued, Walked, with_handle, with_thread_handle, Withdraw, Word, Work, work_caller_of, work_queued, WorkCaller, ℕ, ⊎_elim, ◌&&◌, ◌++◌, ◌+◌, ◌==◌, ◌||◌, ◌∙◌, ◌∷◌, ◌≡◌, ◌≤◌, ◌⊎◌}
+use Rattle.task_rules.proofs.Machine.{[], add_call, add_group, add_set, add_thread, add_work, after_placing, after_word, Allowed, ap, arith, Bool, call_made, change, Core, count_work, Course, course_of, course_value, EndWork, Entry, false, FinishWork, free_handle, free_thread_handle, fresh, get, get-empty, give_handle, give_result, give_thread_handle, has_end, host_status, HostDef, inl, inr, is_aborted, is_async_work, is_some, is_stage_ended, is_stage_live, IsPolled, Label, le_refl, le_trans, List, Mark, MayAbort, MayFinish, nat_tests, new_work, next_entry, next_work, None, on_call, on_instance, on_thread, on_work, one_if, Option, option_map, or_high, Pend, Phase, phase_of, Places, poll_pends, popped, push_high, QueueWork, refl, remove_call, remove_group, remove_set, remove_thread, remove_work, RemoveWork, rest_of, Scene, scene_of, set_backpressure, set_cancel_delivered, set_cancelled, set_course, set_do_not_enter, set_do_not_suspend, set_end, set_event, set_exited, set_high, set_how_far, set_join, set_low, set_own_event, set_phase, set_position, set_register, set_result, set_saved_callee, set_saved_own, set_script, set_stage, set_started, set_starting_published, set_subtask_handle, set_switch, set_thread_handle, set_trapped, set_uninteresting, set_word, SetPhase, Setting, Some, Stage, State, Status, sym, take_result, TakeHost, TakePush, TakeWorkEvent, true, Turn, undelivered_end, unqueued, Walked, with_handle, with_thread_handle, Withdraw, Word, Work, work_caller_of, work_queued, WorkCaller, ℕ, ⊎_elim, ◌&&◌, ◌++◌, ◌+◌, ◌==◌, ◌||◌, ◌∙◌, ◌∷◌, ◌≡◌, ◌≤◌, ◌⊎◌}
 use Rattle.task_laws.proofs.CallsSteps.{of_base}
 use Rattle.task_laws.specs.Ends.{is_sync_work}
 use Rattle.task_laws.proofs.CountLemmas.{made_works_word}
@@ -12,7 +12,7 @@ use Rattle.task_rules.proofs.ChainLemmas.{along}
 use Rattle.task_rules.proofs.PlacingLemmas.{placing_works, unqueued_works, work_entries}
 use Rattle.task_laws.proofs.EachLemmas.{after_change, after_remove, at_change, at_insert}
 use Rattle.task_laws.proofs.PolledWorks.{polled_is_live}
-use Rattle.task_machine.proofs.CommuteLemmas.{change-change_same}
+use Rattle.task_machine.proofs.CommuteLemmas.{change-change_same, get-change}
 use Rattle.task_machine.specs.declared.words.Phase.TheVariants as phase
 use Rattle.task_machine.specs.declared.label.Label.TheVariants as label
 use Rattle.task_machine.specs.declared.label.LoopLabel.TheVariants as loop_label
@@ -100,17 +100,25 @@ taken_high k m i s is none = let f = taken_first k m i s.queues.switch s.queues.
 
 -- ---- What a word does
 
+abbrev Fewer : (Bool → ℕ) → (Bool → ℕ) → Type 0
+Fewer h g = (k : Bool) → g k ≤ h k
+
 -- What the word does to the work i, where b works are made after it: its entries stood h times, and stand g times.
 pub data WorkCame (a : Scene) (s : Core) (b i : ℕ) (h g : Bool → ℕ) (o p : Option Doing) : Type 0 where
-  Same : p ≡ o → ((k : Bool) → g k ≤ h k) → WorkCame a s b i h g o p
-  Gone : p ≡ None → ((k : Bool) → g k ≤ h k) → WorkCame a s b i h g o p
-  Made : (f : WorkCaller) (host : HostDef) → i ≡ next_work s → i ≤ b → p ≡ Some (doing (new_work f host None)) → ((k : Bool) → g k ≤ h k + one_if k) → WorkCame a s b i h g o p
-  Pends : (v : Doing) (host : HostDef) → o ≡ Some v → IsPolled a i s → p ≡ Some (record v { course = course.Goes host }) → ((k : Bool) → g k ≤ h k) → WorkCame a s b i h g o p
-  Ends : (v : Doing) (c : Course) (x : Stage) → o ≡ Some v → MayFinish a i c s → p ≡ Some (record v { course = c; phase = phase.Complete; stage = x }) → is_late x ≡ true → (awaits false x ≡ true → is_async_work v.caller ≡ true) → ((k : Bool) → g k ≤ h k + one_if (awaits k x)) → WorkCame a s b i h g o p
-  Lives : (v : Doing) → o ≡ Some v → h true ≡ 1 + g true → p ≡ Some (record v { stage = stage.Live }) → ((k : Bool) → g k ≤ h k) → WorkCame a s b i h g o p
-  Done : (v : Doing) → o ≡ Some v → h false ≡ 1 + g false → p ≡ Some (record v { stage = stage.Ended; event = Some (host_status (course_value v.course)) }) → ((k : Bool) → g k ≤ h k) → WorkCame a s b i h g o p
-  Aborts : (v : Doing) (x : Phase) → o ≡ Some v → MayAbort a i → p ≡ Some (record v { phase = x }) → ((k : Bool) → g k ≤ h k) → WorkCame a s b i h g o p
-  Takes : (v : Doing) → o ≡ Some v → p ≡ Some (record v { event = None }) → ((k : Bool) → g k ≤ h k) → WorkCame a s b i h g o p
+  Same : p ≡ o → Fewer h g → WorkCame a s b i h g o p
+  Gone : p ≡ None → Fewer h g → WorkCame a s b i h g o p
+  Made : (f : WorkCaller) (host : HostDef) → i ≡ next_work s → i ≤ b → p ≡ Some (doing (new_work f host None)) →
+      Fewer (λ k. h k + one_if k) g → WorkCame a s b i h g o p
+  Pends : (v : Doing) (host : HostDef) → o ≡ Some v → IsPolled a i s → p ≡ Some (record v { course = course.Goes host }) → Fewer h g →
+      WorkCame a s b i h g o p
+  Ends : (v : Doing) (c : Course) (x : Stage) → o ≡ Some v → MayFinish a i c s →
+      p ≡ Some (record v { course = c; phase = phase.Complete; stage = x }) → is_late x ≡ true →
+      (awaits false x ≡ true → is_async_work v.caller ≡ true) → Fewer (λ k. h k + one_if (awaits k x)) g → WorkCame a s b i h g o p
+  Lives : (v : Doing) → o ≡ Some v → h true ≡ 1 + g true → p ≡ Some (record v { stage = stage.Live }) → Fewer h g → WorkCame a s b i h g o p
+  Done : (v : Doing) → o ≡ Some v → h false ≡ 1 + g false →
+      p ≡ Some (record v { stage = stage.Ended; event = Some (host_status (course_value v.course)) }) → Fewer h g → WorkCame a s b i h g o p
+  Aborts : (v : Doing) (x : Phase) → o ≡ Some v → MayAbort a i → p ≡ Some (record v { phase = x }) → Fewer h g → WorkCame a s b i h g o p
+  Takes : (v : Doing) → o ≡ Some v → p ≡ Some (record v { event = None }) → Fewer h g → WorkCame a s b i h g o p
 
 -- at low no entry of a work comes
 pub low_word : (a : Scene) (w : Word) (s : Core) → Allowed a w s → (k : Bool) (i : ℕ) → stands k i (after_word w s).queues.low ≤ stands k i s.queues.low
@@ -140,11 +148,8 @@ module _ {a : Scene} (s : Core) where
       ((w : Work) → get s.works j ≡ Some w → WorkCame a s s.made.works j (h j) (g j) (Some (doing w)) (Some (doing (f w)))) →
       (i : ℕ) → WorkCame a s s.made.works i (h i) (g i) (doing_of i s) (option_map doing (get (change j f s.works) i))
   work_turned j h g fewer f own i =
-      after_change (λ o p. WorkCame a s s.made.works i (h i) (g i) (option_map doing o) (option_map doing p)) s.works j i (λ o. Same refl (fewer i)) f (λ w is e. rw e (own w (rw e at is)))
-
-  work_kept : (j : ℕ) (f : Work → Work) → ((w : Work) → doing (f w) ≡ doing w) → (i : ℕ) →
-      WorkCame a s s.made.works i (High s i) (High s i) (doing_of i s) (option_map doing (get (change j f s.works) i))
-  work_kept j f same = work_turned j (High s) (High s) (λ i k. le_refl _) f (λ w at. Same (ap (λ v. Some v) (same w)) (λ k. le_refl _))
+      after_change (λ o p. WorkCame a s s.made.works i (h i) (g i) (option_map doing o) (option_map doing p)) s.works j i
+      (λ o. Same refl (fewer i)) f (λ w is e. rw e (own w (rw e at is)))
 
   work_ends : (i : ℕ) (c : Course) (x : Stage) → MayFinish a i c s → is_late x ≡ true →
       (awaits false x ≡ true → is_async_work (work_caller_of i s) ≡ true) →
@@ -194,11 +199,7 @@ module _ {a : Scene} (s : Core) where
   work_came low (RemoveWork j) ok i =
       after_remove (λ o p. WorkCame a s s.made.works i (High s i) (High s i) (option_map doing o) (option_map doing p)) s.works j i
       (λ o. Same refl (λ k. le_refl _)) (λ e. Gone refl (λ k. le_refl _))
-  work_came low (SetCancelled j) ok i = work_kept j _ (λ w. refl) i
-  work_came low (SetWorkJoin j x) ok i = work_kept j _ (λ w. refl) i
-  work_came low (NameWork n j) ok i = work_kept j _ (λ w. refl) i
-  work_came low (UnnameWork n h j) ok i = work_kept j _ (λ w. refl) i
-  work_came low w ok i = Same refl (λ k. le_refl _)
+  work_came low w ok i = Same (grind (arith, nat_tests, get-change)) (λ k. le_refl _)
 
 -- ---- What holds
 
