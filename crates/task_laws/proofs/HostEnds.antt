@@ -101,7 +101,8 @@ module _ (S : Type 0) (x : Setting) (s : State) (l : Label) (t : State) (next : 
 
   -- an end that is told isn't covered
   host_covers : (i : ℕ) → covers_end (subtask.Host i) m ≡ true → ⊥
-  host_covers i covers = go (undelivered_end (event_of (subtask.Host i) s.core)) (undelivered_end (event_of (subtask.Host i) t.core)) refl refl covers
+  host_covers i covers = go (undelivered_end (event_of (subtask.Host i) s.core))
+      (undelivered_end (event_of (subtask.Host i) t.core)) refl refl covers
     where
       go : (o p : Option Status) → undelivered_end (event_of (subtask.Host i) s.core) ≡ o →
           undelivered_end (event_of (subtask.Host i) t.core) ≡ p → is_other o p ≡ true → ⊥
@@ -119,7 +120,8 @@ module _ (S : Type 0) (x : Setting) (s : State) (l : Label) (t : State) (next : 
       (q.due i v at due)
 
   ready_none : (i : ℕ) → IsReadyAtOnce a t.core i → doing_of i t.core ≡ None
-  ready_none i (is, (made, same)) = ⊎_elim (λ none. let same_works = same in grind arith) (λ v. absurd (too_high is (h.works i v.0 v.1).number))
+  ready_none i (is, (made, same)) = ⊎_elim (λ none. let same_works = same in grind arith)
+      (λ v. absurd (too_high is (h.works i v.0 v.1).number))
       (doing_or i s.core)
 
   ready_over : (i : ℕ) → IsReadyAtOnce a t.core i → Over (subtask.Host i) t.core
@@ -140,7 +142,8 @@ module _ (S : Type 0) (x : Setting) (s : State) (l : Label) (t : State) (next : 
     host_says : (i : ℕ) (e : Status) → Written i e → (Over (subtask.Host i) s.core → ⊥) × Over (subtask.Host i) t.core
     host_says i e is = go _ refl (says.writes _ e (written_at x.component s.core a.base.queues t.core l _ is))
       where
-        go : (sub : Subtask) → sub ≡ subtask.Host i → Writes a t.core sub → (Over (subtask.Host i) s.core → ⊥) × Over (subtask.Host i) t.core
+        go : (sub : Subtask) → sub ≡ subtask.Host i → Writes a t.core sub → (Over (subtask.Host i) s.core → ⊥) × Over
+            (subtask.Host i) t.core
         go _ same (WritesCall k u ends over c) = absurd (cc)
         go _ same (WritesPolled j shows polled ended) = rw (← host_is same) (polled_result j polled ended)
         go _ same (WritesAtOnce j ready) = rw (← host_is same) (λ over. too_high ready.0 over.0, ready_over j ready)
@@ -171,8 +174,11 @@ module _ (S : Type 0) (x : Setting) (s : State) (l : Label) (t : State) (next : 
           Handed j status.Returned
       answers n j runner far gone =
           let r = plain x s l next Answered calls_answered n j runner far in let o = h.works j r.0 r.1.0 in
-          let sync = r.1.1.0 in let ends = o.late ∙ r.1.1.1 in
-          (inl (r.0, (r.1.0, (grind arith, value_returns _ ((o.sync y sync).1 ends)))), out_gone j (le_trans o.number q.counted) (ap (option_map doing) gone))
+          let sync = r.1.1.0 in let ends = o.late ∙ r.1.1.1 in (
+            inl (r.0, (r.1.0, (grind arith, value_returns _ ((o.sync y sync).1 ends)))),
+            out_gone j (le_trans o.number q.counted)
+                (ap (option_map doing) gone),
+          )
 
       host_hands : (i : ℕ) (e : Status) → handed x.component m ≡ Some (end_for e (subtask.Host i)) → Handed i e
       host_hands i e out = go _ e refl (says.hands _ e (hands_at x.component s.main s.core a.base.queues t.core l _ out))

@@ -9,7 +9,8 @@ use Rattle.task_machine.specs.declared.records.Subtask.TheVariants as subtask
 
 -- ---- Works that aren't sync calls'
 
-caller_kept : {a : Scene} {s : Core} {b i : ℕ} {h g : Bool → ℕ} {o p : Option Doing} → WorkCame a s b i h g o p → i ≤ s.made.works → (v : Doing) → p ≡ Some v → (u : Doing) × ((o ≡ Some u) × (v.caller ≡ u.caller))
+caller_kept : {a : Scene} {s : Core} {b i : ℕ} {h g : Bool → ℕ} {o p : Option Doing} → WorkCame a s b i h g o p → i ≤ s.made.works →
+    (v : Doing) → p ≡ Some v → (u : Doing) × ((o ≡ Some u) × (v.caller ≡ u.caller))
 caller_kept (Same e fewer) below v at = (v, (sym e ∙ at, refl))
 caller_kept d below v at = grind arith
 
@@ -25,11 +26,13 @@ other_of i s h = by (doing_or i s)
     by (inl none) = grind arith
     by (inr (v, at)) = let no = h v at in grind arith
 
-pub abort_kept : {S : Type 0} (a : Scene) (w : Word) (s : Core) → Allowed a w s → WorksHold S s → (i : ℕ) → MayBeAborted s i → MayBeAborted (after_word w s) i
+pub abort_kept : {S : Type 0} (a : Scene) (w : Word) (s : Core) → Allowed a w s → WorksHold S s → (i : ℕ) → MayBeAborted s i → MayBeAborted
+    (after_word w s) i
 abort_kept a w s ok h i q = record {
   made = le_trans q.made (made_works_word a w s);
   other = other_of i (after_word w s) (λ v at.
-      let r = caller_kept (work_came s h.low w ok i) q.made v at in let c = caller_is i s r.0 r.1.0 in let same = r.1.1 in let no = q.other in cc);
+      let r = caller_kept (work_came s h.low w ok i) q.made v at in let c = caller_is i s r.0 r.1.0 in let same = r.1.1 in
+      let no = q.other in cc);
 }
 
 -- no work that a handle names is a sync call's
@@ -39,7 +42,8 @@ NamesNoSync s = (i h j : ℕ) → subtask_at i h s ≡ Some (subtask.Host j) →
 async_other : {S : Type 0} (j : ℕ) (s : Core) → WorksHold S s → is_async_work (work_caller_of j s) ≡ true → MayBeAborted s j
 async_other j s h async = let v = doing_there j s (grind arith) in record { made = (h.works j v.0 v.1).number; other = grind arith }
 
-pub names_word : {S : Type 0} (a : Scene) (w : Word) (s : Core) → Allowed a w s → WorksHold S s → NamesNoSync s → NamesNoSync (after_word w s)
+pub names_word : {S : Type 0} (a : Scene) (w : Word) (s : Core) → Allowed a w s → WorksHold S s → NamesNoSync s → NamesNoSync
+    (after_word w s)
 names_word a w s ok h q i g j e = abort_kept a w s ok h j
     (⊎_elim (λ f. q i g j f) (λ now. async_other j s h now.1.1) (handle_named a s w ok i g (subtask.Host j) e))
 

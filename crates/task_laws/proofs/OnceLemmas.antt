@@ -52,7 +52,8 @@ Over (subtask.Host i) s = (i ≤ s.made.works) × (has_end (course_of i s) ≡ t
 
 -- it has this end to hand out: by its event, as a result for main, or once its work is looked after
 abbrev pub Due : Subtask → Status → Core → Type 0
-Due (subtask.Guest k) e s = (undelivered_end (event_of (subtask.Guest k) s) ≡ Some e) ⊎ ((e ≡ status.Returned) × (is_some (get s.results k) ≡ true))
+Due (subtask.Guest k) e s = (undelivered_end (event_of (subtask.Guest k) s) ≡ Some e) ⊎
+    ((e ≡ status.Returned) × (is_some (get s.results k) ≡ true))
 Due (subtask.Host i) e s = (v : Doing) × ((doing_of i s ≡ Some v) × ((is_due v ≡ true) × (e ≡ host_status (course_value v.course))))
 
 -- it has ended, and nothing of it is to be handed out
@@ -105,7 +106,8 @@ writes_by {A = A} c m sub says changes covers w = by (either _ _ _ w)
 -- where each step for which p passes makes Q true, Q stays, and p passes for no step where Q holds, p passes at most once
 module _ (x : Setting) (Inv : State → Type 0) (inv_stays : (s : State) (l : Label) (t : State) → Inv s → Step x s l t → Inv t)
     (p : Moment → Bool) (Q : Core → Type 0)
-    (comes : (s : State) (l : Label) (t : State) → Inv s → Step x s l t → p (record { before = s; label = l; after = t }) ≡ true → (Q s.core → ⊥) × Q t.core)
+    (comes : (s : State) (l : Label) (t : State) → Inv s → Step x s l t → p (record { before = s; label = l; after = t }) ≡ true →
+    (Q s.core → ⊥) × Q t.core)
     (kept : (s : State) (l : Label) (t : State) → Inv s → Step x s l t → Q s.core → Q t.core) where
   passes_none : (s : State) → Inv s → Q s.core → (ls : List Label) (t : State) → (run : Run x s ls t) → counted p (history x s ls t run) ≡ 0
   passes_none s inv is [] t run = refl
@@ -125,8 +127,11 @@ module _ (x : Setting) (Inv : State → Type 0) (inv_stays : (s : State) (l : La
 
 module _ (x : Setting) (Inv : State → Type 0)
     (inv_stays : (s : State) (l : Label) (t : State) → Inv s → Step x s l t → Inv t)
-    (facts : (s : State) (l : Label) (t : State) → Inv s → Step x s l t → (sub : Subtask) → EndStep x.component (record { before = s; label = l; after = t }) sub) where
-  all_known : (ends : List SubtaskEnd) (s : State) → Inv s → ((sub : Subtask) (e : Status) → Due sub e s.core → is_known ends (Some (end_for e sub)) ≡ true) → (ls : List Label) (t : State) → (run : Run x s ls t) → hands_out_written x.component ends (history x s ls t run) ≡ true
+    (facts : (s : State) (l : Label) (t : State) → Inv s → Step x s l t → (sub : Subtask) → EndStep x.component
+    (record { before = s; label = l; after = t }) sub) where
+  all_known : (ends : List SubtaskEnd) (s : State) → Inv s → ((sub : Subtask) (e : Status) → Due sub e s.core → is_known ends
+      (Some (end_for e sub)) ≡ true) → (ls : List Label) (t : State) → (run : Run x s ls t) → hands_out_written x.component ends
+      (history x s ls t run) ≡ true
   all_known ends s inv known [] t run = refl
   all_known ends s inv known (l ∷ ls) t run =
       let m : Moment = record { before = s; label = l; after = run.0 } in

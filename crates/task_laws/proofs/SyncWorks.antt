@@ -34,15 +34,19 @@ popped_works mark.Switch s = refl
 popped_works mark.High s = refl
 popped_works mark.Low s = refl
 
-caller_stays : (a : Scene) (w : Word) (s : Core) → Allowed a w s → (i n : ℕ) → i ≤ s.made.works → work_caller_of i s ≡ work_caller.Sync n → (work_caller_of i (after_word w s) ≡ work_caller.Sync n) ⊎ MayRemoveWork a i s
+caller_stays : (a : Scene) (w : Word) (s : Core) → Allowed a w s → (i n : ℕ) → i ≤ s.made.works → work_caller_of i s ≡ work_caller.Sync n →
+    (work_caller_of i (after_word w s) ≡ work_caller.Sync n) ⊎ MayRemoveWork a i s
 unfolding add_call add_group add_set add_thread add_work count_work free_handle free_thread_handle give_handle give_result give_thread_handle on_call on_instance on_thread on_work push_high remove_call remove_group remove_set remove_thread remove_work set_backpressure set_cancel_delivered set_cancelled set_course set_do_not_enter set_do_not_suspend set_end set_event set_exited set_how_far set_join set_own_event set_phase set_position set_register set_result set_saved_callee set_saved_own set_script set_stage set_started set_starting_published set_subtask_handle set_thread_handle set_trapped set_uninteresting set_word take_result call_made with_handle with_thread_handle work_queued poll_pends
-caller_stays a (RemoveWork j) s ok i n below at = by_number j i ((work_caller_of i (after_word (RemoveWork j) s) ≡ work_caller.Sync n) ⊎ MayRemoveWork a i s)
+caller_stays a (RemoveWork j) s ok i n below at = by_number j i ((work_caller_of i (after_word (RemoveWork j) s) ≡ work_caller.Sync n) ⊎
+    MayRemoveWork a i s)
     (λ e. inr (rw e at ok)) (λ e. inl (grind (arith, nat_tests, get-remove, e)))
 caller_stays a (TakePush m j) s ok i n below at = let e = popped_works m s in inl (grind (arith, nat_tests, get-change))
 caller_stays a (TakeHost m j) s ok i n below at = let e = popped_works m s in inl (grind (arith, nat_tests, get-change))
 caller_stays a w s ok i n below at = inl (grind (arith, nat_tests, get-change, get-insert))
 
-module _ {S : Type 0} (a : Scene) (low : (i : ℕ) (v : Doing) → doing_of i a.base ≡ Some v → i ≤ a.base.made.works) (base : CallersKnown a.base) (names : NamesNoSync a.base) (w : Word) (s : Core) (ok : Allowed a w s) (q : WorksGo S a s) (kept : (i : ℕ) → MayBeAborted a.base i → MayBeAborted s i) where
+module _ {S : Type 0} (a : Scene) (low : (i : ℕ) (v : Doing) → doing_of i a.base ≡ Some v → i ≤ a.base.made.works)
+    (base : CallersKnown a.base) (names : NamesNoSync a.base) (w : Word) (s : Core) (ok : Allowed a w s) (q : WorksGo S a s)
+    (kept : (i : ℕ) → MayBeAborted a.base i → MayBeAborted s i) where
   old : (i : ℕ) → MayRemoveWork a i s → i ≤ a.base.made.works
   old i (m, (runner, inl (far, fresh))) = let r = sync_there i m a.base (base m i far) in low i r.0 r.1.0
   old i (m, (runner, inr (ended, (free, (over, (h, named)))))) = (names (instance_of m a.base) h i named).made

@@ -80,7 +80,8 @@ fewer_rest k i (e ∷ es) = omega arith
 abbrev pub High : Core → ℕ → Bool → ℕ
 High s i k = stands k i s.queues.high
 
-popped_high : (m : Mark) (s : Core) (i : ℕ) (k : Bool) → (High (popped m s) i k ≤ High s i k) × (stands k i (popped m s).queues.low ≤ stands k i s.queues.low)
+popped_high : (m : Mark) (s : Core) (i : ℕ) (k : Bool) → (High (popped m s) i k ≤ High s i k) ×
+    (stands k i (popped m s).queues.low ≤ stands k i s.queues.low)
 unfolding popped set_switch set_high set_low
 popped_high m s i k = grind (arith, fewer_rest)
 
@@ -94,7 +95,8 @@ taken_first : (k : Bool) (m : Mark) (i : ℕ) (o : Option ℕ) (hs ls : List Ent
 taken_first k m i o hs ls is none = grind (arith, nat_tests)
 
 -- where none stands at low the taken one is the first at high
-taken_high : (k : Bool) (m : Mark) (i : ℕ) (s : Core) → next_entry s ≡ Some (m, entry_for k i) → stands k i s.queues.low ≡ 0 → High s i k ≡ 1 + High (popped m s) i k
+taken_high : (k : Bool) (m : Mark) (i : ℕ) (s : Core) → next_entry s ≡ Some (m, entry_for k i) → stands k i s.queues.low ≡ 0 →
+    High s i k ≡ 1 + High (popped m s) i k
 unfolding next_entry popped set_high
 taken_high k m i s is none = let f = taken_first k m i s.queues.switch s.queues.high s.queues.low is none in grind arith
 
@@ -121,7 +123,8 @@ pub data WorkCame (a : Scene) (s : Core) (b i : ℕ) (h g : Bool → ℕ) (o p :
   Takes : (v : Doing) → o ≡ Some v → p ≡ Some (record v { event = None }) → Fewer h g → WorkCame a s b i h g o p
 
 -- at low no entry of a work comes
-pub low_word : (a : Scene) (w : Word) (s : Core) → Allowed a w s → (k : Bool) (i : ℕ) → stands k i (after_word w s).queues.low ≤ stands k i s.queues.low
+pub low_word : (a : Scene) (w : Word) (s : Core) → Allowed a w s → (k : Bool) (i : ℕ) → stands k i
+    (after_word w s).queues.low ≤ stands k i s.queues.low
 unfolding add_call add_group add_set add_thread add_work count_work free_handle free_thread_handle give_handle give_result give_thread_handle on_call on_instance on_thread on_work push_high remove_call remove_group remove_set remove_thread remove_work set_backpressure set_cancel_delivered set_cancelled set_course set_do_not_enter set_do_not_suspend set_end set_event set_exited set_how_far set_join set_own_event set_phase set_position set_register set_result set_saved_callee set_saved_own set_script set_stage set_started set_starting_published set_subtask_handle set_thread_handle set_trapped set_uninteresting set_word take_result call_made with_handle with_thread_handle work_queued poll_pends
 low_word a (Places p) s ok k i = same_stands k i s.queues.low (after_placing p s).queues.low (placing_works a p s ok).low
 low_word a (Withdraw j) s ok k i = same_stands k i s.queues.low (unqueued j s).queues.low (unqueued_works j s).low
@@ -172,7 +175,8 @@ module _ {a : Scene} (s : Core) where
   pub work_came : ((k : Bool) (i : ℕ) → stands k i s.queues.low ≡ 0) → (w : Word) → Allowed a w s → (i : ℕ) →
       WorkCame a s (after_word w s).made.works i (High s i) (High (after_word w s) i) (doing_of i s) (doing_of i (after_word w s))
   unfolding add_call add_group add_set add_thread add_work count_work free_handle free_thread_handle give_handle give_result give_thread_handle on_call on_instance on_thread on_work push_high remove_call remove_group remove_set remove_thread remove_work set_backpressure set_cancel_delivered set_cancelled set_course set_do_not_enter set_do_not_suspend set_end set_event set_exited set_how_far set_join set_own_event set_phase set_position set_register set_result set_saved_callee set_saved_own set_script set_stage set_started set_starting_published set_subtask_handle set_thread_handle set_trapped set_uninteresting set_word take_result call_made with_handle with_thread_handle work_queued poll_pends
-  work_came low (Places p) ok i = Same refl (λ k. same_stands k i s.queues.high (after_placing p s).queues.high (placing_works a p s ok).high)
+  work_came low (Places p) ok i = Same refl (λ k. same_stands k i s.queues.high (after_placing p s).queues.high
+      (placing_works a p s ok).high)
   work_came low (Withdraw j) ok i = Same refl (λ k. same_stands k i s.queues.high (unqueued j s).queues.high (unqueued_works j s).high)
   work_came low (QueueWork f host group) ok i = let j = s.made.works + 1 in
       let g = λ (k : Bool). stands k i (s.queues.high ++ entry.Push j ∷ []) in
@@ -209,9 +213,11 @@ pub record WorkHolds (S : Type 0) (h : Bool → ℕ) (made i : ℕ) (v : Doing) 
   pub number : i ≤ made
   pub late : has_end v.course ≡ is_late v.stage
   pub one : (k : Bool) → h k ≤ one_if (awaits k v.stage)
-  pub told : (e : Status) → undelivered_end v.event ≡ Some e → (is_stage_ended v.stage ≡ true) × ((is_async_work v.caller ≡ true) × (e ≡ host_status (course_value v.course)))
+  pub told : (e : Status) → undelivered_end v.event ≡ Some e → (is_stage_ended v.stage ≡ true) ×
+      ((is_async_work v.caller ≡ true) × (e ≡ host_status (course_value v.course)))
   pub finishing : awaits false v.stage ≡ true → is_async_work v.caller ≡ true
-  pub sync : S → is_sync_work v.caller ≡ true → (is_aborted v.phase ≡ false) × (has_end v.course ≡ true → is_some (course_value v.course) ≡ true)
+  pub sync : S → is_sync_work v.caller ≡ true → (is_aborted v.phase ≡ false) ×
+      (has_end v.course ≡ true → is_some (course_value v.course) ≡ true)
 
 pub record WorksHold (S : Type 0) (s : Core) : Type 0 where
   pub low : (k : Bool) (i : ℕ) → stands k i s.queues.low ≡ 0
@@ -220,7 +226,8 @@ pub record WorksHold (S : Type 0) (s : Core) : Type 0 where
 
 -- it was to be handed out before, or has come to its end in this step
 abbrev pub WasDue : Scene → ℕ → Doing → Type 0
-WasDue a i v = ((u : Doing) × ((doing_of i a.base ≡ Some u) × ((is_due u ≡ true) × (u.course ≡ v.course)))) ⊎ (a.label ≡ label.Loop (loop_label.FutureEnds i))
+WasDue a i v = ((u : Doing) × ((doing_of i a.base ≡ Some u) × ((is_due u ≡ true) × (u.course ≡ v.course)))) ⊎
+    (a.label ≡ label.Loop (loop_label.FutureEnds i))
 
 -- The work was there before, called by the same; an end stays, and it has ended once it has.
 pub record WorkWas (a : Scene) (i : ℕ) (v : Doing) : Type 0 where
@@ -293,13 +300,15 @@ module _ {S : Type 0} {a : Scene} {s : Core} {b i : ℕ} {h g : Bool → ℕ} {u
   finishing_after : awaits false v.stage ≡ true → is_async_work v.caller ≡ true
   finishing_after e = let w = o.finishing in grind arith
 
-  sync_after : S → is_sync_work v.caller ≡ true → (is_aborted v.phase ≡ false) × (has_end v.course ≡ true → is_some (course_value v.course) ≡ true)
+  sync_after : S → is_sync_work v.caller ≡ true → (is_aborted v.phase ≡ false) ×
+      (has_end v.course ≡ true → is_some (course_value v.course) ≡ true)
   sync_after y e =
       let c = caller_after in let sync : is_sync_work u.caller ≡ true = cc in let was = o.sync y sync in let never = by.unsync y sync in
       let ends = λ (d : Course) (m : MayFinish a i d s). by.valued d m y sync in (still_unaborted came was.0 never, valued was.1 ends)
     where
       valued : (has_end u.course ≡ true → is_some (course_value u.course) ≡ true) →
-          ((d : Course) → MayFinish a i d s → is_some (course_value d) ≡ true) → has_end v.course ≡ true → is_some (course_value v.course) ≡ true
+          ((d : Course) → MayFinish a i d s → is_some (course_value d) ≡ true) → has_end v.course ≡ true → is_some
+          (course_value v.course) ≡ true
       valued was ends has = grind (arith, ends)
 
   due_after : is_due v ≡ true → ((is_due u ≡ true) × (u.course ≡ v.course)) ⊎ (a.label ≡ label.Loop (loop_label.FutureEnds i))
@@ -331,7 +340,8 @@ given_came a s b i h g o p k given there grows came stands = grind arith
 
 -- what is aborted was made, and isn't a sync one
 abbrev pub AbortsNoSync : Scene → Type 0
-AbortsNoSync a = (i : ℕ) → MayAbort a i → (i ≤ a.base.made.works) × ((u : Doing) → doing_of i a.base ≡ Some u → is_sync_work u.caller ≡ false)
+AbortsNoSync a = (i : ℕ) → MayAbort a i → (i ≤ a.base.made.works) × ((u : Doing) → doing_of i a.base ≡ Some u →
+    is_sync_work u.caller ≡ false)
 
 module _ {S : Type 0} {a : Scene} (unsync : S → AbortsNoSync a) (w : Word) (s : Core) (ok : Allowed a w s) (q : WorksGo S a s) where
   abbrev pub t : Core
@@ -431,7 +441,8 @@ opening_works instances handle_limit capacity = record {
 
 -- ---- A step
 
-pub first_works : {S : Type 0} (x : Setting) (s : State) (l : Label) (next : Turn) → WorksHold S s.core → WorksGo S (scene_of x s l next) s.core
+pub first_works : {S : Type 0} (x : Setting) (s : State) (l : Label) (next : Turn) → WorksHold S s.core → WorksGo S
+    (scene_of x s l next) s.core
 first_works {S = S} x s l next h = of_base (λ c. WorksGo S (record (scene_of x s l next) { base = c }) s.core) s.turn s.core (record {
   counted = le_refl _;
   holds = h;
@@ -439,5 +450,7 @@ first_works {S = S} x s l next h = of_base (λ c. WorksGo S (record (scene_of x 
   due = λ i v e due. inl (v, (e, (due, refl)));
 })
 
-pub works_go : {S : Type 0} (x : Setting) (s : State) (l : Label) (t : State) (w : Walked x s l t) → (S → AbortsNoSync (scene_of x s l w.next)) → WorksHold S s.core → WorksGo S (scene_of x s l w.next) t.core
-works_go {S = S} x s l t w unsync h = along (WorksGo S (scene_of x s l w.next)) (λ v u ok q. works_word unsync v u ok q) (first_works x s l w.next h) w.walk
+pub works_go : {S : Type 0} (x : Setting) (s : State) (l : Label) (t : State) (w : Walked x s l t) →
+    (S → AbortsNoSync (scene_of x s l w.next)) → WorksHold S s.core → WorksGo S (scene_of x s l w.next) t.core
+works_go {S = S} x s l t w unsync h = along (WorksGo S (scene_of x s l w.next)) (λ v u ok q. works_word unsync v u ok q)
+    (first_works x s l w.next h) w.walk

@@ -80,7 +80,8 @@ module _ (e : Entry) (s t : Core) (high : s.queues.high ≡ e ∷ t.queues.high)
         let a = works i in let g = q.gone i (keeps i none) in grind (arith, nat_tests);
   }
 
-pub works_word : (a : Scene) (w : Word) (s : Core) → Allowed a w s → ((i : ℕ) → w ≡ RemoveWork i → is_stage_ended (stage_of i s) ≡ true) → WorksQueued s → WorksQueued (after_word w s)
+pub works_word : (a : Scene) (w : Word) (s : Core) → Allowed a w s → ((i : ℕ) → w ≡ RemoveWork i → is_stage_ended (stage_of i s) ≡ true) →
+    WorksQueued s → WorksQueued (after_word w s)
 unfolding add_call add_group add_set add_thread add_work count_work free_handle free_thread_handle give_handle give_result give_thread_handle on_call on_instance on_thread on_work push_high remove_call remove_group remove_set remove_thread remove_work set_backpressure set_cancel_delivered set_cancelled set_do_not_enter set_do_not_suspend set_end set_event set_exited set_how_far set_join set_own_event set_position set_register set_result set_saved_callee set_saved_own set_script set_stage set_started set_starting_published set_subtask_handle set_thread_handle set_trapped set_uninteresting set_word take_result call_made with_handle with_thread_handle work_queued poll_pends set_course set_phase
 works_word a (Places p) s ok ends q = let h = placing_works a p s ok in
     stages_stay s _ (works_stand s _ (record { high = h.high; low = h.low })) q (le_refl _) (λ i. grind arith) (λ i e. e)
@@ -126,7 +127,8 @@ works_word a (RemoveWork j) s ok ends q = let e = ends j refl in record {
   made = λ i there. grind (arith, nat_tests, get-remove, q.made i);
   gone = λ i none. let b = each_of (WorkEntries s) s.works q.each i in let g = q.gone i in grind (arith, nat_tests, get-remove);
 }
-works_word a w s ok ends q = stages_stay s _ (unmoved s _ refl) q (le_refl _) (λ i. grind (arith, nat_tests, get-change)) (λ i e. grind (arith, nat_tests, get-change))
+works_word a w s ok ends q = stages_stay s _ (unmoved s _ refl) q (le_refl _) (λ i. grind (arith, nat_tests, get-change))
+    (λ i e. grind (arith, nat_tests, get-change))
 
 pub made_works_word : (w : Word) (s : Core) → s.made.works ≤ (after_word w s).made.works
 unfolding add_call add_group add_set add_thread add_work count_work free_handle free_thread_handle give_handle give_result give_thread_handle on_call on_instance on_thread on_work push_high remove_call remove_group remove_set remove_thread remove_work set_backpressure set_cancel_delivered set_cancelled set_do_not_enter set_do_not_suspend set_end set_event set_exited set_how_far set_join set_own_event set_position set_register set_result set_saved_callee set_saved_own set_script set_stage set_started set_starting_published set_subtask_handle set_thread_handle set_trapped set_uninteresting set_word take_result call_made with_handle with_thread_handle work_queued poll_pends set_course set_phase
@@ -135,7 +137,8 @@ made_works_word (QueueWork f host group) s = omega arith
 made_works_word w s = le_refl _
 
 -- an end stays
-pub ended_word : (a : Scene) (w : Word) (s : Core) → Allowed a w s → WorksQueued s → (i : ℕ) → i ≤ s.made.works → is_stage_ended (stage_of i s) ≡ true → is_stage_ended (stage_of i (after_word w s)) ≡ true
+pub ended_word : (a : Scene) (w : Word) (s : Core) → Allowed a w s → WorksQueued s → (i : ℕ) → i ≤ s.made.works → is_stage_ended
+    (stage_of i s) ≡ true → is_stage_ended (stage_of i (after_word w s)) ≡ true
 unfolding add_call add_group add_set add_thread add_work count_work free_handle free_thread_handle give_handle give_result give_thread_handle on_call on_instance on_thread on_work push_high remove_call remove_group remove_set remove_thread remove_work set_backpressure set_cancel_delivered set_cancelled set_do_not_enter set_do_not_suspend set_end set_event set_exited set_how_far set_join set_own_event set_position set_register set_result set_saved_callee set_saved_own set_script set_stage set_started set_starting_published set_subtask_handle set_thread_handle set_trapped set_uninteresting set_word take_result call_made with_handle with_thread_handle work_queued poll_pends set_course set_phase
 ended_word a (QueueWork f host group) s ok q i below e = grind (arith, nat_tests, get-insert)
 ended_word a (TakePush m j) s ok q i below e =
@@ -146,4 +149,5 @@ ended_word a (RemoveWork j) s ok q i below e = grind (arith, nat_tests, get-remo
 ended_word a w s ok q i below e = grind (arith, nat_tests, get-change)
 
 pub others_move : (s t : Core) → SameWorks s t → t.works ≡ s.works → t.made.works ≡ s.made.works → WorksQueued s → WorksQueued t
-others_move s t same works made q = stages_stay s t (works_stand s t same) q (omega (arith, made)) (λ i. rw works grind arith) (λ i e. grind arith)
+others_move s t same works made q = stages_stay s t (works_stand s t same) q (omega (arith, made)) (λ i. rw works grind arith)
+    (λ i e. grind arith)
