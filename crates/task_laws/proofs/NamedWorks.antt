@@ -3,7 +3,7 @@ use Rattle.task_laws.proofs.SetHandles.{none_named}
 use Rattle.task_laws.proofs.Subtasks.{handle_named}
 use Rattle.task_laws.proofs.Works.{doing_or, doing_there, Doing, Same, WorkCame, WorksHold, doing_of, work_came}
 use Rattle.task_laws.specs.Ends.{MayBeAborted, is_sync_work}
-use Rattle.task_rules.proofs.Machine.{⊎_elim, after_word, Allowed, arith, Bool, Core, false, fresh, inl, inr, is_async_work, le_trans, None, Option, refl, Scene, Some, subtask_at, sym, true, Word, work_caller_of, ℕ, ◌∙◌, ◌≡◌, ◌≤◌, ◌⊎◌}
+use Rattle.task_rules.proofs.Machine.{after_word, Allowed, arith, Bool, Core, false, fresh, inl, inr, is_async_work, le_trans, None, Option, refl, Scene, Some, subtask_at, sym, true, Word, work_caller_of, ℕ, ⊎_elim, ◌∙◌, ◌≡◌, ◌≤◌, ◌⊎◌}
 use Rattle.task_laws.proofs.CountLemmas.{made_works_word}
 use Rattle.task_machine.specs.declared.records.Subtask.TheVariants as subtask
 
