@@ -104,8 +104,10 @@ pub record IsOfEnd (e : Status) (o : Option CallEnd) : Type 0 where
 -- What calls tell of their ends: main's calls alone have results for main; an end that is to be told is that of the record, for a guest; and a result is one of main's call.
 pub record EndsTold (s : Core) : Type 0 where
   pub goals : (k : ℕ) (r : Telling) → telling_of k s ≡ Some r → is_for_main r.goal ≡ not (is_guest_call r.caller)
-  pub events : (k : ℕ) (e : Status) (r : Telling) → telling_of k s ≡ Some r → undelivered_end r.event ≡ Some e → (is_for_guest r ≡ true) × IsOfEnd e r.ends
-  pub results : (k : ℕ) → is_some (get s.results k) ≡ true → (k ≤ s.made.threads) × ((r : Telling) → telling_of k s ≡ Some r → r.goal ≡ goal.Main)
+  pub events : (k : ℕ) (e : Status) (r : Telling) → telling_of k s ≡ Some r → undelivered_end r.event ≡ Some e → (is_for_guest r ≡ true) ×
+      IsOfEnd e r.ends
+  pub results : (k : ℕ) → is_some (get s.results k) ≡ true → (k ≤ s.made.threads) ×
+      ((r : Telling) → telling_of k s ≡ Some r → r.goal ≡ goal.Main)
 
 -- an end that is to be told was so before the step, or is written in it
 abbrev pub ToldOrWritten : Scene → ℕ → Status → Option CallEnd → Type 0
@@ -113,13 +115,16 @@ ToldOrWritten a k e o = (undelivered_end (event_of (subtask.Guest k) a.base) ≡
 
 -- a result was there before the step, or is one of main's call that returns
 abbrev pub ResultCame : Scene → ℕ → Type 0
-ResultCame a k = (is_some (get a.base.results k) ≡ true) ⊎ (SaysEnd a k status.Returned × (k ≤ a.base.made.threads → goal_of k a.base ≡ goal.Main))
+ResultCame a k = (is_some (get a.base.results k) ≡ true) ⊎ (SaysEnd a k status.Returned ×
+    (k ≤ a.base.made.threads → goal_of k a.base ≡ goal.Main))
 
 -- The same on the way of a step.
 pub record EndsGo (a : Scene) (s : Core) : Type 0 where
   pub goals : (k : ℕ) (r : Telling) → telling_of k s ≡ Some r → is_for_main r.goal ≡ not (is_guest_call r.caller)
-  pub events : (k : ℕ) (e : Status) (r : Telling) → telling_of k s ≡ Some r → undelivered_end r.event ≡ Some e → (is_for_guest r ≡ true) × ToldOrWritten a k e r.ends
-  pub results : (k : ℕ) → is_some (get s.results k) ≡ true → (k ≤ s.made.threads) × (((r : Telling) → telling_of k s ≡ Some r → r.goal ≡ goal.Main) × ResultCame a k)
+  pub events : (k : ℕ) (e : Status) (r : Telling) → telling_of k s ≡ Some r → undelivered_end r.event ≡ Some e → (is_for_guest r ≡ true) ×
+      ToldOrWritten a k e r.ends
+  pub results : (k : ℕ) → is_some (get s.results k) ≡ true → (k ≤ s.made.threads) ×
+      (((r : Telling) → telling_of k s ≡ Some r → r.goal ≡ goal.Main) × ResultCame a k)
   pub same : (k : ℕ) (r : Telling) → telling_of k s ≡ Some r → k ≤ a.base.made.threads → goal_of k a.base ≡ r.goal
 
 -- a call that is there tells something
@@ -200,7 +205,8 @@ module _ (a : Scene) (w : Word) (s : Core) (ok : Allowed a w s) (q : EndsGo a s)
   pub word_ends : a.base.made.threads ≤ s.made.threads → EndsGo a (after_word w s)
   word_ends counted = record {
     goals = λ k r at. goals_kept (telling_came a w s ok k) r at (q.goals k);
-    events = λ k e r at tells. events_kept (telling_came a w s ok k) r at e tells (λ u is. (told_is k s u is, end_is k s u is)) (q.events k e);
+    events = λ k e r at tells. events_kept (telling_came a w s ok k) r at e tells (λ u is. (told_is k s u is, end_is k s u is))
+        (q.events k e);
     results = results_after;
     same = λ k r at old. goal_kept (telling_came a w s ok k) r at (goal_of k a.base) (le_trans old counted) (λ u is. q.same k u is old);
   }
@@ -266,12 +272,15 @@ run_ends_told x s codes p q (l ∷ ls) t r =
 pub reached_ends_told : {x : Setting} {s : State} → Reached x s → EndsTold s.core
 reached_ends_told {x = x} {s = s} r =
     run_ends_told x (opening r.instances r.handle_limit r.capacity r.main) r.scripts
-    (opening_holds x.component r.instances r.handle_limit r.capacity) (opening_ends_told r.instances r.handle_limit r.capacity) r.labels s r.run
+    (opening_holds x.component r.instances r.handle_limit r.capacity)
+    (opening_ends_told r.instances r.handle_limit r.capacity) r.labels s r.run
 
 -- what an event tells is recorded
-pub recorded : (s : Core) → EndsTold s → (k : ℕ) (e : Status) → undelivered_end (event_of (subtask.Guest k) s) ≡ Some e → IsOfEnd e (end_of k s)
+pub recorded : (s : Core) → EndsTold s → (k : ℕ) (e : Status) → undelivered_end (event_of (subtask.Guest k) s) ≡ Some e → IsOfEnd e
+    (end_of k s)
 recorded s q k e tells =
     let r = telling_there k s (grind arith) in let i = event_is k s r.0 r.1 in rw (end_is k s r.0 r.1) (q.events k e r.0 r.1 (cc)).1
 
 pub told_as_recorded : EndsToldAsRecorded
-told_as_recorded x s r k e tells = let q = recorded s.core (reached_ends_told r) k e tells in (q.ends, (q.is, (q.status, λ w. absurd (grind (arith, q.ran)))))
+told_as_recorded x s r k e tells = let q = recorded s.core (reached_ends_told r) k e tells in
+    (q.ends, (q.is, (q.status, λ w. absurd (grind (arith, q.ran)))))

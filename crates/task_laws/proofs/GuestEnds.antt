@@ -117,7 +117,8 @@ module _ (x : Setting) (s : State) (l : Label) (t : State) (next : Turn) (codes 
   writes_call : (k : ℕ) (e : Status) → Written k e → (u : Core) × (EndsCall a k × ((is_over k u ≡ true) × Walk a u t.core))
   writes_call k e is = by _ refl (q.says.writes _ e (written_at x.component s.core a.base.queues t.core l _ is))
     where
-      by : (sub : Subtask) → sub ≡ subtask.Guest k → Writes a t.core sub → (u : Core) × (EndsCall a k × ((is_over k u ≡ true) × Walk a u t.core))
+      by : (sub : Subtask) → sub ≡ subtask.Guest k → Writes a t.core sub → (u : Core) ×
+          (EndsCall a k × ((is_over k u ≡ true) × Walk a u t.core))
       by _ same (WritesCall j u end over walk) = rw (← guest_is same) (u, (end, (over, walk)))
       by _ same (WritesPolled i shows polled ended) = absurd (cc)
       by _ same (WritesAtOnce i ready) = absurd (cc)
@@ -213,7 +214,8 @@ module _ (x : Setting) (s : State) (l : Label) (t : State) (next : Turn) (codes 
         where
           none : (f : Status) → Due (subtask.Guest k) f t.core → ⊥
           none f (inr (is, there)) = absurd (cc)
-          none f (inl tells) = ⊎_elim (λ old. no_result k f old had) (unwritten k status.Returned f (inr (refl, had))) (events_come k f tells)
+          none f (inl tells) = ⊎_elim (λ old. no_result k f old had) (unwritten k status.Returned f (inr (refl, had)))
+              (events_come k f tells)
 
       -- it writes the end itself
       own_handed : (k : ℕ) (e : Status) → Written k e → (is_direct (goal_of k s.core) ≡ true) ⊎ (e ≡ status.StartCancelled) → Handed k e
@@ -246,7 +248,8 @@ module _ (x : Setting) (s : State) (l : Label) (t : State) (next : Turn) (codes 
 
       step_of : (k : ℕ) → EndStep x.component m (subtask.Guest k)
       step_of k = record {
-        writes = writes_by x.component m (subtask.Guest k) (guest_says k) (guest_changes s.core t.core q.before.numbered q.rises q.made k) (λ c. absurd (guest_covers k c));
+        writes = writes_by x.component m (subtask.Guest k) (guest_says k) (guest_changes s.core t.core q.before.numbered q.rises q.made k)
+            (λ c. absurd (guest_covers k c));
         stays = guest_stays s.core t.core q.before.numbered q.rises q.made k;
         comes = guest_comes k;
         hands = guest_hands k;

@@ -1,10 +1,10 @@
 -- The laws of the ends of calls and works that hold by each step alone.
-use Rattle.task_rules.proofs.Machine.{[], Answers, arith, base_at, Bool, changes_end, end_for, EndWords, event_of, false, get, HandsAtOnce, HandsOut, inl, inr, is_some, Label, List, None, opening, refl, Run, scene_of, Setting, Some, State, Status, Step, subst, Subtask, sym, TakesEvent, TakesResult, true, Turn, undelivered_end, Walked, WritesToo, written_by, ◌∷◌, ◌≡◌, ◌⊎◌}
+use Rattle.task_rules.proofs.Machine.{[], Answers, arith, base_at, Bool, changes_end, end_for, EndWords, event_of, false, get, HandsAtOnce, HandsOut, inl, inr, is_some, Label, List, None, opening, refl, Run, scene_of, Setting, Some, State, Status, Step, Subtask, TakesEvent, TakesResult, true, Turn, undelivered_end, Walked, WritesToo, written_by, ◌∷◌, ◌≡◌, ◌⊎◌}
 use Rattle.task_laws.specs.Written.{EndsHandedAsTold, EndsWrittenOnce, NewEndsAreSaid, NewResultsAreSaid, NoEndIsCovered, WrittenEndsAreNew}
 use Rattle.task_laws.proofs.GuestEnds.{CallsKnown, events_come, guest_changes, guest_covers, guest_is, guest_stays, results_come, written_new}
 use Rattle.task_laws.proofs.HostEnds.{host_changes, host_stays}
 use Rattle.task_laws.proofs.OnceLemmas.{Over, counts_once}
-use Rattle.task_laws.proofs.Works.{WorksHold, before_step, opening_works, works_go}
+use Rattle.task_laws.proofs.Works.{WorksHold, opening_works, works_go}
 use Rattle.task_laws.proofs.CallEnds.{EndsTold, ends_go, reached_ends_told}
 use Rattle.task_laws.proofs.CallsLaw.{CallsHold}
 use Rattle.task_laws.proofs.CallsSteps.{plain, plain_scene, calls_begin, of_base, opening_holds, reached_holds, step_goes}
@@ -73,21 +73,32 @@ record Holds (x : Setting) (s : State) : Type 0 where
 
 module _ (x : Setting) (codes : CodesInCallbacks x.component) where
   holds_after : (s : State) (l : Label) (t : State) → Holds x s → Step x s l t → Holds x t
-  holds_after s l t h step = record { calls = (step_goes x s l t codes h.calls step).0; works = (works_go x s l t (step_walks x s l t step) (λ no. absurd no) h.works).holds }
+  holds_after s l t h step = record {
+    calls = (step_goes x s l t codes h.calls step).0;
+    works =
+        (works_go x s l t (step_walks x s l t step) (λ no. absurd no) h.works).holds;
+  }
 
   run_holds : (s : State) → Holds x s → (ls : List Label) (t : State) → Run x s ls t → Holds x t
-  run_holds s h [] t r = subst (Holds x) (sym r) h
+  run_holds s h [] t r = rw r h
   run_holds s h (l ∷ ls) t r = run_holds r.0 (holds_after s l r.0 h r.1.0) ls t r.1.1
 
-  changes_over : (sub : Subtask) (s : State) (l : Label) (t : State) → Holds x s → Step x s l t → changes_end sub (record { before = s; label = l; after = t }) ≡ true → (Over sub s.core → ⊥) × Over sub t.core
-  changes_over (subtask.Guest k) s l t h step = guest_changes s.core t.core h.calls.numbered (step_goes x s l t codes h.calls step).1 (never_fewer x s l t step).threads k
-  changes_over (subtask.Host i) s l t h step = let w = step_walks x s l t step in host_changes ⊥ x s l t w.next (before_step x s l w.next) h.works (works_go x s l t w (λ no. absurd no) h.works) i
+  changes_over : (sub : Subtask) (s : State) (l : Label) (t : State) → Holds x s → Step x s l t → changes_end sub
+      (record { before = s; label = l; after = t }) ≡ true → (Over sub s.core → ⊥) × Over sub t.core
+  changes_over (subtask.Guest k) s l t h step = guest_changes s.core t.core h.calls.numbered (step_goes x s l t codes h.calls step).1
+      (never_fewer x s l t step).threads k
+  changes_over (subtask.Host i) s l t h step = let w = step_walks x s l t step in host_changes ⊥ x s l t w.next h.works
+      (works_go x s l t w (λ no. absurd no) h.works) i
 
   over_kept : (sub : Subtask) (s : State) (l : Label) (t : State) → Holds x s → Step x s l t → Over sub s.core → Over sub t.core
-  over_kept (subtask.Guest k) s l t h step = guest_stays s.core t.core h.calls.numbered (step_goes x s l t codes h.calls step).1 (never_fewer x s l t step).threads k
-  over_kept (subtask.Host i) s l t h step = let w = step_walks x s l t step in host_stays ⊥ x s l t w.next (before_step x s l w.next) h.works (works_go x s l t w (λ no. absurd no) h.works) i
+  over_kept (subtask.Guest k) s l t h step = guest_stays s.core t.core h.calls.numbered (step_goes x s l t codes h.calls step).1
+      (never_fewer x s l t step).threads k
+  over_kept (subtask.Host i) s l t h step = let w = step_walks x s l t step in host_stays ⊥ x s l t w.next h.works
+      (works_go x s l t w (λ no. absurd no) h.works) i
 
 pub ends_written_once : EndsWrittenOnce
 ends_written_once x s ls t r run sub =
     let first : Holds x (opening r.instances r.handle_limit r.capacity r.main) = record { calls = opening_holds x.component r.instances r.handle_limit r.capacity; works = opening_works r.instances r.handle_limit r.capacity } in
-    counts_once x (Holds x) (holds_after x r.scripts) (changes_end sub) (Over sub) (changes_over x r.scripts sub) (over_kept x r.scripts sub) s (run_holds x r.scripts (opening r.instances r.handle_limit r.capacity r.main) first r.labels s r.run) ls t run
+    counts_once x (Holds x) (holds_after x r.scripts) (changes_end sub) (Over sub) (changes_over x r.scripts sub)
+    (over_kept x r.scripts sub) s (run_holds x r.scripts
+    (opening r.instances r.handle_limit r.capacity r.main) first r.labels s r.run) ls t run

@@ -12,7 +12,7 @@ use Rattle.task_laws.proofs.HostEnds.{Answered, host_step}
 use Rattle.task_laws.proofs.SceneLemmas.{base_is, runner_there}
 use Rattle.task_laws.specs.Ends.{is_sync_work, MayBeAborted, SyncUnnamed, NamedCallsThere}
 use Rattle.task_laws.proofs.SyncWorks.{CallersKnown, callers_word, opening_callers}
-use Rattle.task_laws.proofs.Works.{AbortsNoSync, Doing, WorksGo, WorksHold, doing, doing_of, is_late, stage_ended, opening_works, before_step, first_works, works_word}
+use Rattle.task_laws.proofs.Works.{AbortsNoSync, Doing, WorksGo, WorksHold, doing, doing_of, is_late, stage_ended, opening_works, first_works, works_word}
 use Rattle.task_rules.proofs.WalkSteps.{step_walks}
 use Rattle.task_laws.specs.Order.{InOrder}
 use Rattle.task_places.proofs.PlaceLaw.{entry_ready}
@@ -194,7 +194,7 @@ module _ (x : Setting) (s : State) (l : Label) (t : State) (k : Known x s) (f : 
   end_step (subtask.Guest j) =
       guest_step x s l t w.next k.order.codes (calls_begin x s l w.next holds).0 told_base holds goes.0 goes.1.0 goes.1.1
       (step_goes x s l t k.order.codes holds step).1 (never_fewer x s l t step).threads w.ends.says found (λ i e due. k.over (subtask.Guest i) e due) j
-  end_step (subtask.Host i) = host_step (Unit {0}) x s l t w.next (before_step x s l w.next) k.works works_after.0 w.ends.says tt answered i
+  end_step (subtask.Host i) = host_step (Unit {0}) x s l t w.next k.works works_after.0 w.ends.says tt answered i
 
   known_after : Known x t
   known_after = record {

@@ -1,5 +1,5 @@
 -- The words of std, of the machine and of its rules that the proofs cite, in one place.
-pub use Rattle.std.proofs.Common.{ap, ap₂, arith, cond, eqb→eq, inl, inr, le_refl, le_trans, refl, subst, sym, T, ⊎_elim, ◌∙◌}
+pub use Rattle.std.proofs.Common.{ap, ap₂, arith, cond, inl, inr, le_refl, le_trans, refl, subst, sym, T, ⊎_elim, ◌∙◌}
 pub use Rattle.std.proofs.lemmas.Bool.{and_parts, eq-eqb, eqb-false, eqb-true, not-true}
 pub use Rattle.std.proofs.lemmas.Bool.Decides.{nat_tests}
 pub use Rattle.std.proofs.lemmas.List.Folds.{list_any-append}
@@ -7,7 +7,7 @@ pub use Rattle.std.specs.Cmp.{nat_cmp_total, unsigned_tied}
 pub use Rattle.std.specs.FinMap.Entries.{below_all, is_sorted}
 pub use Rattle.std.specs.List.{list_any}
 pub use Rattle.std.specs.Option.{option_map_or, option_or}
-pub use Rattle.std.specs.Ordering.{eq_by_cmp, is_lt, nat_cmp}
+pub use Rattle.std.specs.Ordering.{is_lt, nat_cmp}
 pub use Rattle.std.specs.Prelude.{[], All, Bool, count_by, false, filter, find, IfSome, if◌then◌else◌, is_none, is_some, IsPermutation, length, List, map, min, nat_le, nat_lt, None, not, Option, option_and_then, option_map, slice_get, Some, suc, true, unwrap_or, zero, ℕ, ◌%◌, ◌&&◌, ◌*◌, ◌++◌, ◌+◌, ◌-◌, ◌/◌, ◌<◌, ◌==◌, ◌||◌, ◌∷◌, ◌≡◌, ◌≢◌, ◌≤◌, ◌⊎◌}
 pub use Rattle.task_machine.specs.Core.{Began, Core, filled, Main, MainPlace, no_handles, Queues, Refused, Scripted, Started, State, Table, Unscripted, untouched}
 unfoldable pub use Rattle.task_machine.specs.Core.{fresh}
@@ -27,11 +27,8 @@ pub use Rattle.task_machine.specs.declared.component.ExportKind.{ExportKind}
 pub use Rattle.task_machine.specs.declared.component.HostDef.{HostDef}
 pub use Rattle.task_machine.specs.declared.label.CallLabel.{CallLabel}
 pub use Rattle.task_machine.specs.declared.label.Label.{Label}
-pub use Rattle.task_machine.specs.declared.label.LoopLabel.{LoopLabel}
 pub use Rattle.task_machine.specs.declared.label.MainLabel.{MainLabel}
 pub use Rattle.task_machine.specs.declared.label.SetLabel.{SetLabel}
-pub use Rattle.task_machine.specs.declared.label.TakeLabel.{TakeLabel}
-pub use Rattle.task_machine.specs.declared.label.TaskLabel.{TaskLabel}
 pub use Rattle.task_machine.specs.declared.op.Op.{Op}
 pub use Rattle.task_machine.specs.declared.outcome.Outcome.{Outcome}
 pub use Rattle.task_machine.specs.declared.records.Call.{Call}
@@ -88,7 +85,7 @@ pub use Rattle.task_rules.specs.Stalled.{is_unended_take, Setting}
 unfoldable pub use Rattle.task_rules.specs.Stalled.{may_deadlock}
 pub use Rattle.task_rules.specs.Step.{DeadlockStep, EmptyFor, entry_number, FuturesStep, MainProgresses, MainStep, op_row, OpenAct, OpenProgresses, Polled, Progresses, RestStep, ScriptStep, TakeStep, TurnStep}
 unfoldable pub use Rattle.task_rules.specs.Step.{did, Step, struck}
-pub use Rattle.task_rules.specs.SubtaskEnds.{call_of_op, cancel_target, cancelled_of_op, end_answered, end_for, finished_call, handed_by, handed_by_call, handed_by_cancel, handed_by_event, handed_by_exit, handed_by_main, handed_by_set, handed_by_take, has_result, host_end, is_ending_exit, is_handed_end, returned_of_op, started_end, SubtaskEnd, task_end, written_by, written_by_call, written_by_cancel, written_by_exit, written_by_loop, written_by_task}
+pub use Rattle.task_rules.specs.SubtaskEnds.{call_of_op, cancel_target, cancelled_of_op, end_answered, end_for, finished_call, handed_by, handed_by_call, handed_by_cancel, handed_by_event, handed_by_main, handed_by_set, has_result, host_end, is_ending_exit, is_handed_end, returned_of_op, started_end, SubtaskEnd, task_end, written_by, written_by_call, written_by_cancel, written_by_exit}
 pub use Rattle.task_rules.specs.Takes.{delivered, delivery_row, host_result, host_status, own_delivered, rest_of, set_delivered, start_admitted, start_row, start_sets_flags, starting_is_published, take_row, thread_taken}
 unfoldable pub use Rattle.task_rules.specs.Takes.{activated, activated_woken, host_done, may_tell_starting, popped, pushed, running, start_begins, start_holds, starting_told, take_holds, wait_again}
 pub use Rattle.task_rules.specs.Turns.{goes_to, settled_take, settled_turn}

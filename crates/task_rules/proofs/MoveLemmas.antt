@@ -1,5 +1,4 @@
 -- Moves beside a thread that runs or is taken: they leave each other thread its place.
-use Rattle.std.proofs.Common.{cond}
 use Rattle.task_rules.proofs.Machine.{[], ap, arith, Bool, cond, Core, displaced, false, get-remove, HasPlace, held_why, held_why_of, if◌then◌else◌, is_callback_waiter, is_free, is_some, is_there, is_waiting_on, List, Mark, may_wake, nat_tests, None, one_if, Option, option_and_then, option_map, option_map_or, Place, place_of, push_high, push_high_first, push_low, put_at, put_high, put_low, put_switch, refl, released, released_one, ReleaseKeepsPlaces, RemovalKeepsPlaces, remove_thread, set_place, set_switch, Some, StopKeepsPlaces, stopped, subst, sym, Thread, times, true, wake, WakeKeepsPlaces, waken_by, Why, why_of, ℕ, ◌+◌, ◌==◌, ◌∙◌, ◌∷◌, ◌≡◌, ◌≤◌}
 use Rattle.task_machine.specs.declared.records.Delivery.TheVariants as delivery
 use Rattle.task_machine.specs.declared.words.Mark.TheVariants as mark
