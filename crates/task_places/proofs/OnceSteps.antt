@@ -4,7 +4,7 @@ use Rattle.task_rules.specs.Once.{written}
 use Rattle.task_machine.specs.declared.records.Subtask.{Subtask}
 use Rattle.std.proofs.Common.{ap, refl, subst, sym, ◌∙◌, inl, inr, le_refl, ◌++◌, arith, ⊎_elim}
 use Rattle.std.specs.Option.{option_map_or}
-use Rattle.std.specs.Prelude.{Bool, None, Option, Some, false, is_some, option_and_then, option_map, true, ℕ, ◌≡◌, ◌≤◌, ◌⊎◌, ◌∷◌, unwrap_or, [], slice_get, zero, suc, ◌-◌}
+use Rattle.std.specs.Prelude.{Bool, None, Option, Some, false, is_some, option_and_then, option_map, true, ℕ, ◌≡◌, ◌≤◌, ◌⊎◌, ◌∷◌, unwrap_or, [], slice_get, zero, suc, ◌-◌, ◌&&◌}
 use Rattle.task_laws.proofs.Basics.{no_way}
 use Rattle.task_laws.proofs.CallsLaw.{CallsGo, CallsHold}
 use Rattle.task_laws.proofs.CallsSteps.{of_base, step_goes, calls_begin}
@@ -83,24 +83,18 @@ reached_step x s l t r step = record {
 held_of : (x : Setting) (s : State) → InOrder x.component s → CallsHold x.component s.core
 held_of x s h = record { numbered = h.numbered; kinds = h.kinds; deliveries = h.deliveries }
 
-spawn_other : (i : ℕ) (s : Core) → is_spawn i s ≡ true → (v : Doing) × ((doing_of i s ≡ Some v) × (is_sync_work v.caller ≡ false))
-spawn_other i s h = at (get s.works i) refl h
+work_there : (P : Work → Bool) (i : ℕ) (s : Core) → option_map_or P (get s.works i) false ≡ true → (w : Work) × ((get s.works i ≡ Some w) × (P w ≡ true))
+work_there P i s h = at (get s.works i) refl h
   where
-    other : (f : WorkCaller) → is_spawn_caller f ≡ true → is_sync_work f ≡ false
-    other work_caller.Spawn g = refl
-    other (work_caller.Async n q) g = refl
-    other (work_caller.Sync n) g = no_way g
-
-    at : (o : Option Work) → get s.works i ≡ o → option_map_or (λ w. is_spawn_caller w.caller) o false ≡ true → (v : Doing) × ((doing_of i s ≡ Some v) × (is_sync_work v.caller ≡ false))
+    at : (o : Option Work) → get s.works i ≡ o → option_map_or P o false ≡ true → (w : Work) × ((get s.works i ≡ Some w) × (P w ≡ true))
     at None is g = no_way g
-    at (Some w) is g = (doing w, (ap (option_map doing) is, other w.caller g))
+    at (Some w) is g = (w, (is, g))
+
+spawn_other : (i : ℕ) (s : Core) → is_spawn i s ≡ true → (v : Doing) × ((doing_of i s ≡ Some v) × (is_sync_work v.caller ≡ false))
+spawn_other i s h = let r = work_there (λ w. is_spawn_caller w.caller) i s h in (doing r.0, (ap (option_map doing) r.1.0, grind arith))
 
 waited_there : (n i : ℕ) (s : Core) → work_caller_of i s ≡ work_caller.Sync n → is_stage_ended (stage_of i s) ≡ true → (v : Doing) × ((doing_of i s ≡ Some v) × ((is_sync_work v.caller ≡ true) × (is_late v.stage ≡ true)))
-waited_there n i s caller ended = at (get s.works i) refl caller ended
-  where
-    at : (o : Option Work) → get s.works i ≡ o → option_map_or (λ (w : Work). w.caller) o work_caller.Spawn ≡ work_caller.Sync n → is_stage_ended (option_map_or (λ (w : Work). w.stage) o stage.Ended) ≡ true → (v : Doing) × ((doing_of i s ≡ Some v) × ((is_sync_work v.caller ≡ true) × (is_late v.stage ≡ true)))
-    at None is c e = no_way (ap (λ f. is_sync_work f) c)
-    at (Some w) is c e = (doing w, (ap (option_map doing) is, (ap (λ f. is_sync_work f) c, stage_ended w.stage e)))
+waited_there n i s caller ended = let r = work_there (λ w. is_sync_work w.caller && is_late w.stage) i s (grind arith) in (doing r.0, (ap (option_map doing) r.1.0, grind arith))
 
 abbrev is_script : Main → Bool
 is_script (Scripted p) = true
@@ -172,9 +166,7 @@ module _ (x : Setting) (s : State) (l : Label) (t : State) (k : Known x s) (f : 
 
       by : (m : Main) → s.main ≡ m → (n : Main) → n ≡ Scripted p → SameMain m t.core n → MayBeAborted t.core (spawned_at p j)
       by (Scripted o) was (Scripted q) is same = named o was (subst (λ (r : MainPlace). ((n : ℕ) × (spawned_at r j ≡ spawned_at o n)) ⊎ (is_spawn (spawned_at r j) t.core ≡ true)) (ap place_in is) (same j))
-      by (Scripted o) was Unscripted is same = absurd same
-      by Unscripted was (Scripted q) is same = absurd same
-      by Unscripted was Unscripted is same = no_way (ap is_script is)
+      by m was n is same = absurd (grind arith)
 
   -- who runs or is taken isn't blocked
   unblocked : (n : ℕ) → IsRunner a n → is_blocked (place_of n s.core) ≡ false
@@ -186,12 +178,8 @@ module _ (x : Setting) (s : State) (l : Label) (t : State) (k : Known x s) (f : 
         where
           taken : (o : Option (Mark × Entry)) → next_entry s.core ≡ o → thread_of_entry o ≡ Some n → is_blocked (place_of n s.core) ≡ false
           taken (Some (y, entry.Thread m)) e g = subst (λ (j : ℕ). is_blocked (place_of j s.core) ≡ false) (ap (λ (o : Option ℕ). unwrap_or o n) g) (let r = entry_ready m s.core (k.order.in_place.placed m) (popped_cleared y m s.core (next_first s.core y (entry.Thread m) e) (k.order.in_place.placed m)).1 in ap is_blocked r.1.1)
-          taken (Some (y, entry.Push i)) e g = no_way (ap (λ (o : Option ℕ). is_some o) g)
-          taken (Some (y, entry.Host i)) e g = no_way (ap (λ (o : Option ℕ). is_some o) g)
-          taken None e g = no_way (ap (λ (o : Option ℕ). is_some o) g)
-      by_turn turn.Main at is = no_way (ap (λ (o : Option ℕ). is_some o) is)
-      by_turn (turn.Futures m) at is = no_way (ap (λ (o : Option ℕ). is_some o) is)
-      by_turn turn.Over at is = no_way (ap (λ (o : Option ℕ). is_some o) is)
+          taken o e g = absurd (grind arith)
+      by_turn u at is = absurd (grind arith)
 
   answered : Answered a
   answered n i runner far = to_base (λ c. (v : Doing) × ((doing_of i c ≡ Some v) × ((is_sync_work v.caller ≡ true) × (is_late v.stage ≡ true)))) (at (from_base (λ c. how_far_of n c ≡ how_far.Calls (subtask.Host i)) far))
