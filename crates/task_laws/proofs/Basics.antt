@@ -11,9 +11,6 @@ no_way h = absurd (true_is_not_false (sym h))
 pub same_number : (n : ℕ) → (n == n) ≡ true
 same_number n = grind arith
 
-pub too_low : 1 ≤ 0 → ⊥
-too_low h = omega (h, arith)
-
 pub too_high : {q n : ℕ} → q ≡ n + 1 → q ≤ n → ⊥
 too_high e h = omega (e, h, arith)
 

@@ -1,5 +1,5 @@
 -- What calls tell of their ends along the words of a step, and the results that are there for main.
-use Rattle.task_laws.proofs.Machine.{add_call, add_group, add_set, add_thread, add_work, after_word, Call, call_made, CallEnd, Caller, change, component_of, Core, count_work, end_of, event_of, free_handle, free_thread_handle, fresh, get, get-empty, get-insert, get-remove, give_handle, give_result, give_thread_handle, GiveResult, Goal, goal_of, insert, is_direct, is_end, is_guest_call, Label, LaterBy, MakeCall, NameCall, new_call, new_handle, next_thread, on_call, on_instance, on_thread, on_work, opening, poll_pends, push_high, remove, remove_call, remove_group, remove_set, remove_thread, remove_work, RemoveCall, Run, Scene, scene_of, set_backpressure, set_cancel_delivered, set_cancelled, set_course, set_do_not_enter, set_do_not_suspend, set_end, set_event, set_exited, set_how_far, set_join, set_own_event, set_phase, set_position, set_register, set_result, set_saved_callee, set_saved_own, set_script, set_stage, set_started, set_starting_published, set_subtask_handle, set_thread_handle, set_trapped, set_uninteresting, set_word, SetCallEvent, SetCallJoin, SetCancelDelivered, SetEnd, SetExited, SetOwnEvent, SetResult, SetStarted, SetStartingPublished, Setting, SetUninteresting, State, Status, SubtaskEnd, take_result, TakeResult, undelivered_end, UnnameCall, with_handle, with_thread_handle, Word, work_queued}
+use Rattle.task_rules.proofs.Machine.{add_call, add_group, add_set, add_thread, add_work, after_word, Allowed, Call, call_made, CallEnd, Caller, change, component_of, Core, count_work, end_of, event_of, free_handle, free_thread_handle, fresh, get, get-empty, get-insert, get-remove, give_handle, give_result, give_thread_handle, GiveResult, Goal, goal_of, insert, is_direct, is_end, is_for_main, is_guest_call, is_told, Label, LaterBy, MakeCall, MayTell, NameCall, new_call, new_handle, next_thread, on_call, on_instance, on_thread, on_work, opening, poll_pends, push_high, remove, remove_call, remove_group, remove_set, remove_thread, remove_work, RemoveCall, Run, SaysEnd, Scene, scene_of, set_backpressure, set_cancel_delivered, set_cancelled, set_course, set_do_not_enter, set_do_not_suspend, set_end, set_event, set_exited, set_how_far, set_join, set_own_event, set_phase, set_position, set_register, set_result, set_saved_callee, set_saved_own, set_script, set_stage, set_started, set_starting_published, set_subtask_handle, set_thread_handle, set_trapped, set_uninteresting, set_word, SetCallEvent, SetCallJoin, SetCancelDelivered, SetEnd, SetExited, SetOwnEvent, SetResult, SetStarted, SetStartingPublished, Setting, SetUninteresting, State, Status, status_of_end, SubtaskEnd, take_result, TakeResult, Tells, undelivered_end, UnnameCall, Walked, with_handle, with_thread_handle, Word, work_queued}
 use Rattle.task_laws.specs.Written.{EndsToldAsRecorded}
 use Rattle.std.proofs.Common.{ap, cond, inl, inr, le_trans, refl, subst, sym, ◌∙◌, arith}
 use Rattle.std.specs.Option.{option_map_or}
@@ -13,9 +13,6 @@ use Rattle.task_machine.proofs.MapLemmas.{change-field, get-change_other, get-ch
 use Rattle.task_rules.proofs.ChainLemmas.{along}
 use Rattle.task_rules.proofs.StandLemmas.{is_eq_of, not_eq}
 use Rattle.task_rules.proofs.WalkSteps.{step_walks}
-use Rattle.task_rules.specs.Allowed.{Allowed, MayTell, SaysEnd, Tells, is_for_main, status_of_end}
-use Rattle.task_rules.specs.Chains.{Walked}
-use Rattle.task_rules.specs.Ends.{is_told}
 use Rattle.task_machine.specs.declared.records.CallEnd.TheVariants as call_end
 use Rattle.task_machine.specs.declared.records.Goal.TheVariants as goal
 use Rattle.task_machine.specs.declared.records.Subtask.TheVariants as subtask

@@ -2,17 +2,13 @@
 use Rattle.std.proofs.Common.{ap, inl, inr, le_refl, refl, subst, sym}
 use Rattle.std.specs.Prelude.{None, Option, Some, false, is_some, option_map, true, ℕ, ◌≡◌, ◌≤◌, ◌⊎◌}
 use Rattle.task_laws.proofs.EachLemmas.{after_change, after_insert, after_remove}
-use Rattle.task_laws.proofs.Machine.{add_call, add_group, add_set, add_thread, add_work, after_word, Call, call_made, Callee, CallEnd, change, Core, count_work, free_handle, free_thread_handle, get, give_handle, give_result, give_thread_handle, how_far_of, HowFar, is_deletable, Join, MakeCall, MakeThread, NameCall, NameThread, new_call, next_thread, on_call, on_instance, on_thread, on_work, Places, Placing, poll_pends, push_high, remove_call, remove_group, remove_set, remove_thread, remove_work, RemoveCall, RemoveThread, Scene, set_backpressure, set_cancel_delivered, set_cancelled, set_course, set_do_not_enter, set_do_not_suspend, set_end, set_event, set_exited, set_how_far, set_join, set_own_event, set_phase, set_position, set_register, set_result, set_saved_callee, set_saved_own, set_script, set_stage, set_started, set_starting_published, set_subtask_handle, set_thread_handle, set_trapped, set_uninteresting, set_word, SetCallEvent, SetCallJoin, SetCancelDelivered, SetEnd, SetExited, SetHowFar, SetOwnEvent, SetPosition, SetRegister, SetResult, SetSavedCallee, SetSavedOwn, SetScript, SetStarted, SetStartingPublished, SetUninteresting, take_result, TakeHost, TakePush, Thread, UnnameCall, with_handle, with_thread_handle, Withdraw, Word, work_queued}
+use Rattle.task_rules.proofs.Machine.{add_call, add_group, add_set, add_thread, add_work, after_word, Allowed, Call, call_made, Callee, CallEnd, Caller, change, Core, count_work, ExportKind, free_handle, free_thread_handle, get, give_handle, give_result, give_thread_handle, Goal, how_far_of, HowFar, is_deletable, Join, MakeCall, MakeThread, MayCome, MayDeliver, MayEnd, MayJoin, MayMake, MayMakeCall, MayStart, NameCall, NameThread, new_call, next_thread, on_call, on_instance, on_thread, on_work, Places, Placing, poll_pends, push_high, remove_call, remove_group, remove_set, remove_thread, remove_work, RemoveCall, RemoveThread, Scene, set_backpressure, set_cancel_delivered, set_cancelled, set_course, set_do_not_enter, set_do_not_suspend, set_end, set_event, set_exited, set_how_far, set_join, set_own_event, set_phase, set_position, set_register, set_result, set_saved_callee, set_saved_own, set_script, set_stage, set_started, set_starting_published, set_subtask_handle, set_thread_handle, set_trapped, set_uninteresting, set_word, SetCallEvent, SetCallJoin, SetCancelDelivered, SetEnd, SetExited, SetHowFar, SetOwnEvent, SetPosition, SetRegister, SetResult, SetSavedCallee, SetSavedOwn, SetScript, SetStarted, SetStartingPublished, SetUninteresting, take_result, TakeHost, TakePush, Thread, UnnameCall, with_handle, with_thread_handle, Withdraw, Word, work_queued}
 use Rattle.task_laws.proofs.SceneLemmas.{popped_threads}
 use Rattle.task_machine.proofs.MapLemmas.{get-insert_same}
-use Rattle.task_machine.specs.declared.component.ExportKind.{ExportKind}
-use Rattle.task_machine.specs.declared.records.Caller.{Caller}
-use Rattle.task_machine.specs.declared.records.Goal.{Goal}
 use Rattle.task_machine.specs.declared.records.HowFar.TheVariants as how_far
 use Rattle.task_machine.specs.declared.records.Place.TheVariants as place
 use Rattle.task_machine.specs.declared.records.Subtask.TheVariants as subtask
 use Rattle.task_rules.proofs.PlacingLemmas.{placing_shifted, unplaced}
-use Rattle.task_rules.specs.Allowed.{Allowed, MayCome, MayDeliver, MayEnd, MayJoin, MayMake, MayMakeCall, MayStart}
 
 at_most : {x y : ℕ} → x ≡ y → x ≤ y
 at_most {x = x} e = subst (λ (z : ℕ). x ≤ z) e (le_refl x)

@@ -4,19 +4,14 @@ use Rattle.std.specs.Option.{option_map_or}
 use Rattle.std.specs.Prelude.{Bool, None, Option, Some, false, is_none, is_some, slice_get, true, unwrap_or, ℕ, ◌≡◌, ◌≤◌, ◌⊎◌}
 use Rattle.task_laws.proofs.CallsCame.{Grew, Grows}
 use Rattle.task_laws.proofs.CameLemmas.{Came, Comes, Moved, Shifts, Turned, Turns, MayStand}
-use Rattle.task_laws.proofs.Machine.{Call, Callee, CallEnd, component_of, Core, get, goal_of, has_ended, is_async_lifted, is_callback, is_direct, is_explicit, Join, kind_of, Place, place_of, Scene, task_of, Why, Word}
+use Rattle.task_rules.proofs.Machine.{Call, Callee, CallEnd, Component, component_of, Core, ends_activation, EndsActivation, export_kind, get, goal_of, has_ended, is_async_lifted, is_callback, is_direct, is_exit, is_explicit, IsRunner, Join, kind_of, LaterBy, MayEnd, MayMove, op_of, Place, place_of, SameThread, Scene, script_in, script_of, task_of, WasReady, Why, Word}
+use Rattle.task_machine.specs.declared.records.Script.{Script}
 use Rattle.task_laws.specs.Order.{CallKinds, DeliveredByCallback, Numbered, is_delivered, is_delivery}
 use Rattle.task_laws.specs.Rises.{Rises}
 use Rattle.task_laws.specs.Settings.{CodesInCallbacks}
-use Rattle.task_machine.specs.declared.component.Component.{Component}
 use Rattle.task_machine.specs.declared.op.Op.TheVariants as op
 use Rattle.task_machine.specs.declared.op.TaskOp.TheVariants as task_op
 use Rattle.task_machine.specs.declared.records.CallEnd.TheVariants as call_end
-use Rattle.task_machine.specs.declared.records.Script.{Script}
-use Rattle.task_rules.specs.Allowed.{EndsActivation, IsRunner, MayEnd, MayMove, WasReady, is_exit}
-use Rattle.task_rules.specs.Laws.{LaterBy, SameThread}
-use Rattle.task_rules.specs.OpParts.{ends_activation}
-use Rattle.task_rules.specs.Scripts.{export_kind, op_of, script_in, script_of}
 
 -- ---- Statuses
 

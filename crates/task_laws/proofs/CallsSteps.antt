@@ -6,20 +6,14 @@ use Rattle.task_laws.proofs.CallsCame.{CallAfter, Grown, NewCall, NoCall, Thread
 use Rattle.task_laws.proofs.CallsLaw.{CallsGo, CallsHold, Goes, GoneOr, KindHolds, base_task, delivered_in, goes_after, goes_of, goes_same, kept_callback, kind_kept, later_after, later_none, later_same, place_delivers, ready_delivered, rises_after, rises_same}
 use Rattle.task_laws.proofs.CameLemmas.{came_word}
 use Rattle.task_laws.proofs.CountLemmas.{made_threads_word}
-use Rattle.task_laws.proofs.Machine.{after_word, base_at, Call, CallEnd, component_of, Core, fresh, get, get-empty, is_async_lifted, is_callback, kind_of, Label, place_of, Queues, Scene, scene_of, Setting, State, task_of, Thread, Turn, Word}
+use Rattle.task_rules.proofs.Machine.{after_word, Allowed, base_at, Call, CallEnd, Component, component_of, Core, fresh, get, get-empty, is_async_lifted, is_callback, kind_of, Label, LastWords, LaterBy, MayDeliver, MayEnd, opening, place_of, Queues, Run, SameThread, Scene, scene_of, Setting, State, Step, task_of, Thread, Turn, Walked, Word}
 use Rattle.task_laws.proofs.SceneLemmas.{base_is}
 use Rattle.task_laws.specs.Order.{DeliveredByCallback, ThreadNumbered}
 use Rattle.task_laws.specs.Rises.{CallsRise, ExplicitNamesNoCall, Rises, RunsRise, StepsRise, SyncEndsLast, SyncNeverCancelled}
 use Rattle.task_laws.specs.Settings.{CodesInCallbacks, Reached}
-use Rattle.task_machine.specs.declared.component.Component.{Component}
 use Rattle.task_rules.proofs.ChainLemmas.{along}
 use Rattle.task_rules.proofs.LawLemmas.{never_fewer}
 use Rattle.task_rules.proofs.WalkSteps.{step_walks}
-use Rattle.task_rules.specs.Allowed.{Allowed, MayDeliver, MayEnd}
-use Rattle.task_rules.specs.Chains.{LastWords, Walked}
-use Rattle.task_rules.specs.Laws.{LaterBy, SameThread}
-use Rattle.task_rules.specs.Run.{Run, opening}
-use Rattle.task_rules.specs.Step.{Step}
 
 module _ (a : Scene) (codes : CodesInCallbacks (component_of a)) (h : CallsHold (component_of a) a.base) where
   -- ---- One word

@@ -1,8 +1,6 @@
 -- What a step owes of the end of a call.
-use Rattle.task_laws.proofs.Machine.{after_word, base_at, Call, CallEnd, Caller, Core, end_for, end_of, event_of, get, Goal, goal_of, handed_by, has_ended, is_direct, is_guest_call, Label, LaterBy, Scene, scene_of, Setting, State, Status, Subtask, SubtaskEnd, task_of, Turn, undelivered_end, Word, written_by}
+use Rattle.task_rules.proofs.Machine.{after_word, Allowed, Answers, base_at, Call, call_end_code, CallEnd, Caller, changes_end, Core, covers_end, end_code, end_for, end_of, EndsByExit, EndsCall, EndsOwn, EndsSubtask, EndWords, event_of, ExitsCall, get, Goal, goal_of, handed, handed_by, HandsAtOnce, HandsOut, has_ended, is_direct, is_end_of, is_for_main, is_guest_call, is_other, is_over, is_written, IsNamed, IsRunner, Label, LaterBy, MayEnd, Moment, SaysEnd, Scene, scene_of, Setting, State, Status, status_code, status_of_end, Subtask, SubtaskEnd, TakesEvent, TakesResult, task_of, Turn, undelivered_end, Walk, Word, Writes, WritesAtOnce, WritesCall, WritesNever, WritesPolled, WritesToo, written, written_by}
 use Rattle.task_laws.specs.Order.{Numbered}
-use Rattle.task_machine.specs.Statuses.{status_code}
-use Rattle.task_rules.specs.Once.{changes_end, is_written, written, call_end_code, is_other, covers_end, is_end_of, handed, end_code}
 use Rattle.task_laws.specs.Rises.{CallsRise, Rises}
 use Rattle.std.proofs.Common.{ap, le_trans, refl, subst, sym, ◌∙◌, inl, inr, arith}
 use Rattle.std.specs.Option.{option_map_or}
@@ -12,11 +10,8 @@ use Rattle.task_laws.proofs.CallsLaw.{CallsGo, CallsHold, exits_unended}
 use Rattle.task_laws.proofs.CallsSteps.{of_base}
 use Rattle.task_laws.specs.Settings.{CodesInCallbacks}
 use Rattle.task_rules.proofs.ChainLemmas.{along}
-use Rattle.task_rules.specs.Allowed.{Allowed, status_of_end, IsRunner, IsNamed, SaysEnd, is_for_main, MayEnd}
-use Rattle.task_rules.specs.Chains.{EndWords, Walk, is_over, Writes, WritesAtOnce, WritesCall, WritesNever, WritesPolled, EndsByExit, EndsCall, EndsOwn, EndsSubtask, ExitsCall, Answers, HandsAtOnce, HandsOut, TakesEvent, TakesResult, WritesToo}
 use Rattle.task_laws.proofs.CallEnds.{EndsGo, EndsTold, is_start_cancelled, is_withdrawn, recorded, ResultCame, Telling, ToldOrWritten, telling, telling_of}
 use Rattle.task_laws.proofs.OnceLemmas.{Due, Over, EndStep, Out, end_there}
-use Rattle.task_rules.specs.History.{Moment}
 use Rattle.task_laws.proofs.HostEnds.{and_not_same, either}
 use Rattle.task_laws.proofs.SaidEnds.{written_at, hands_at, said_now}
 use Rattle.task_laws.proofs.CallsCame.{Grown, Grows, NewCall, NoCall, call_came, CallAfter}
@@ -65,9 +60,6 @@ same_code (Some e) p h over = ap (λ q. not (call_end_code q == 0) && not (call_
 
 end_nonzero : (o : Option CallEnd) → is_some o ≡ true → (call_end_code o == 0) ≡ false
 end_nonzero o h = grind arith
-
-some_end_of : (p : Option CallEnd) (n : ℕ) → (not (call_end_code p == 0) && not (call_end_code p == n)) ≡ true → is_some p ≡ true
-some_end_of p n h = grind arith
 
 -- what is over isn't written, and what is written is over
 not_written : (o p : Option Call) → LaterBy Rises o p → is_call_over o ≡ true → is_written (option_map (λ (c : Call). call_end_code c.«end») o) (option_map (λ (c : Call). call_end_code c.«end») p) ≡ false

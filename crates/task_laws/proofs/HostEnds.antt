@@ -1,8 +1,7 @@
 -- What a step owes of the end of a host work.
-use Rattle.task_laws.proofs.Machine.{base_at, Core, Course, course_of, course_value, end_for, event_of, get, handed_by, has_end, how_far_of, is_live, is_stage_ended, is_stage_live, Label, next_work, Records, Scene, scene_of, Setting, Stage, State, Status, Subtask, Turn, undelivered_end, Work, written_by}
+use Rattle.task_rules.proofs.Machine.{Answers, base_at, changes_end, Core, Course, course_code, course_of, course_value, covers_end, end_code, end_for, EndWords, event_of, get, handed, handed_by, HandsAtOnce, HandsOut, has_end, host_status, how_far_of, is_async_work, is_end_of, is_live, is_other, is_stage_ended, is_stage_live, is_written, IsPolled, IsReadyAtOnce, IsRunner, Label, Moment, next_work, Records, Scene, scene_of, Setting, Stage, State, Status, status_code, Subtask, TakesEvent, TakesResult, Turn, undelivered_end, Work, WorkCaller, Writes, WritesAtOnce, WritesCall, WritesNever, WritesPolled, WritesToo, written, written_by}
 use Rattle.task_laws.specs.Ends.{is_sync_work}
 use Rattle.task_laws.proofs.SaidEnds.{hands_at, said_at, written_at}
-use Rattle.task_machine.specs.declared.records.WorkCaller.{WorkCaller}
 use Rattle.task_laws.proofs.CallsSteps.{of_base}
 use Rattle.task_laws.proofs.PolledWorks.{polled_is_live}
 use Rattle.std.proofs.Common.{ap, inl, inr, le_refl, le_trans, refl, subst, sym, ◌∙◌, ap₂, arith, ⊎_elim}
@@ -11,12 +10,6 @@ use Rattle.std.specs.Prelude.{Bool, None, Option, Some, false, is_some, not, opt
 use Rattle.task_laws.proofs.Basics.{no_way, same_number, too_high, true_is_not_false}
 use Rattle.task_laws.proofs.OnceLemmas.{Due, EndStep, Out, Over, end_there}
 use Rattle.task_laws.proofs.Works.{Doing, WorkHolds, WorksGo, WorksHold, WorkWas, awaits, doing, doing_of, is_due, is_late, High, WasDue, clash, due_parts, stage_ended, stage_live, Before}
-use Rattle.task_machine.specs.Statuses.{status_code}
-use Rattle.task_rules.specs.Allowed.{IsRunner, IsPolled, is_async_work}
-use Rattle.task_rules.specs.Chains.{EndWords, Answers, HandsAtOnce, HandsOut, IsReadyAtOnce, TakesEvent, TakesResult, Writes, WritesAtOnce, WritesCall, WritesNever, WritesPolled, WritesToo}
-use Rattle.task_rules.specs.History.{Moment}
-use Rattle.task_rules.specs.Once.{course_code, end_code, changes_end, covers_end, handed, is_end_of, is_other, is_written, written}
-use Rattle.task_rules.specs.Takes.{host_status}
 use Rattle.task_machine.specs.declared.records.HowFar.TheVariants as how_far
 use Rattle.task_machine.specs.declared.records.Subtask.TheVariants as subtask
 use Rattle.task_machine.specs.declared.words.Status.TheVariants as status

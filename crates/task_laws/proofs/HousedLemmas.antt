@@ -7,9 +7,8 @@ use Rattle.std.specs.Option.{option_map_or}
 use Rattle.std.specs.Ordering.{nat_cmp}
 use Rattle.std.specs.Prelude.{Bool, List, [], false, is_some, true, ℕ, ◌==◌, ◌∷◌, ◌≡◌}
 use Rattle.task_laws.proofs.CallsCame.{CallAfter, ThreadAfter, call_came, thread_came}
-use Rattle.task_laws.proofs.Machine.{after_word, Core, get, has_thread, is_deletable, Scene, task_of, Thread, Word}
+use Rattle.task_rules.proofs.Machine.{after_word, Allowed, Core, get, has_thread, is_deletable, IsRunner, Scene, task_of, Thread, Word}
 use Rattle.task_laws.specs.Order.{CallsThere}
-use Rattle.task_rules.specs.Allowed.{Allowed, IsRunner}
 
 any_found : {X : Type 0} (test : X → Bool) (q : ℕ) (es : List (ℕ × X)) → option_map_or test (seek nat_cmp q es) false ≡ true →
     list_any (λ e. test e.1) es ≡ true

@@ -11,7 +11,7 @@ use Rattle.std.specs.Prelude.{Bool, List, None, Option, Some, [], false, is_some
 use Rattle.task_laws.proofs.CallsCame.{CallAfter, Grown, NewCall, NoCall, call_came}
 use Rattle.task_laws.proofs.EachLemmas.{each_change, each_get, each_of}
 use Rattle.task_laws.proofs.HandleTables.{giving_kept, next_dead, taking_kept}
-use Rattle.task_laws.proofs.Machine.{add_call, add_group, add_set, add_thread, add_work, after_word, Call, call_made, change, CloseSet, Core, count_work, EndWork, FinishWork, free_handle, free_thread_handle, fresh, get, get-empty, get-insert, get-remove, give_handle, give_result, give_thread_handle, giving, has_member, instance_of, is_joined, is_member, Join, join_of, NameCall, Named, named_by, NameWork, next_handle, no_handles, numbers, on_call, on_instance, on_thread, on_work, OpenSet, Pend, poll_pends, push_high, QueueWork, Records, remove_call, remove_group, remove_set, remove_thread, remove_work, RemoveWork, Scene, Set, set_backpressure, set_cancel_delivered, set_cancelled, set_course, set_do_not_enter, set_do_not_suspend, set_end, set_event, set_exited, set_how_far, set_join, set_own_event, set_phase, set_position, set_register, set_result, set_saved_callee, set_saved_own, set_script, set_stage, set_started, set_starting_published, set_subtask_handle, set_thread_handle, set_trapped, set_uninteresting, set_word, SetCallJoin, SetCancelled, SetPhase, TakeWorkEvent, SetWorkJoin, Subtask, subtask_at, Table, take_result, TakeHost, TakePush, taking, UnnameCall, UnnameWork, with_handle, with_thread_handle, Word, work_queued}
+use Rattle.task_rules.proofs.Machine.{add_call, add_group, add_set, add_thread, add_work, after_word, Allowed, Call, call_made, change, CloseSet, Core, count_work, EndWork, FinishWork, free_handle, free_thread_handle, fresh, get, get-empty, get-insert, get-remove, give_handle, give_result, give_thread_handle, giving, has_member, instance_of, is_joined, is_member, Join, join_of, MayJoin, NameCall, Named, named_by, NameWork, next_handle, no_handles, numbers, on_call, on_instance, on_thread, on_work, OpenSet, Pend, poll_pends, push_high, QueueWork, Records, remove_call, remove_group, remove_set, remove_thread, remove_work, RemoveWork, Scene, Set, set_backpressure, set_cancel_delivered, set_cancelled, set_course, set_do_not_enter, set_do_not_suspend, set_end, set_event, set_exited, set_how_far, set_join, set_own_event, set_phase, set_position, set_register, set_result, set_saved_callee, set_saved_own, set_script, set_stage, set_started, set_starting_published, set_subtask_handle, set_thread_handle, set_trapped, set_uninteresting, set_word, SetCallJoin, SetCancelled, SetPhase, SetWorkJoin, Subtask, subtask_at, Table, take_result, TakeHost, TakePush, TakeWorkEvent, taking, UnnameCall, UnnameWork, with_handle, with_thread_handle, Word, Work, work_queued}
 use Rattle.task_laws.proofs.ReachLemmas.{filled_with}
 use Rattle.task_laws.proofs.SetHandles.{home_in, subtask_in}
 use Rattle.task_laws.specs.Order.{JoinNamed, JoinsNamed, SetsNamed, TableKept}
@@ -19,8 +19,6 @@ use Rattle.task_machine.proofs.CommuteLemmas.{get-change}
 use Rattle.task_machine.specs.declared.records.Join.TheVariants as join
 use Rattle.task_machine.specs.declared.records.Named.TheVariants as named
 use Rattle.task_machine.specs.declared.records.Subtask.TheVariants as subtask
-use Rattle.task_machine.specs.declared.records.Work.{Work}
-use Rattle.task_rules.specs.Allowed.{Allowed, MayJoin}
 
 -- ---- Tables
 

@@ -1,4 +1,3 @@
-pub mod Machine
 pub mod Basics
 pub mod EachLemmas
 pub mod ReachLemmas

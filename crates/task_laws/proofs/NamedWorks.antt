@@ -3,18 +3,11 @@ use Rattle.task_laws.proofs.SetHandles.{none_named}
 use Rattle.task_laws.proofs.Subtasks.{NamedNow, handle_named}
 use Rattle.task_laws.proofs.Works.{Aborts, Doing, Done, Ends, Gone, Lives, Made, Pends, Same, Takes, WorkCame, WorksHold, doing, doing_of, work_came}
 use Rattle.task_laws.specs.Ends.{MayBeAborted, is_sync_work}
-use Rattle.task_machine.specs.Read.{subtask_at, work_caller_of}
+use Rattle.task_rules.proofs.Machine.{after_word, Allowed, Core, fresh, get, is_async_work, Scene, subtask_at, Word, Work, work_caller_of, WorkCaller}
 use Rattle.std.proofs.Common.{inl, inr, ap, le_trans, refl, sym, ◌∙◌, arith}
 use Rattle.task_laws.proofs.CountLemmas.{made_works_word}
-use Rattle.task_rules.specs.Scenes.{Scene}
 use Rattle.task_laws.proofs.Basics.{no_way, too_high}
 use Rattle.std.specs.Option.{option_map_or}
-use Rattle.task_machine.specs.Core.{Core, fresh}
-use Rattle.task_machine.specs.Maps.{get}
-use Rattle.task_machine.specs.declared.records.Work.{Work}
-use Rattle.task_machine.specs.declared.records.WorkCaller.{WorkCaller}
-use Rattle.task_rules.specs.Allowed.{Allowed, is_async_work}
-use Rattle.task_rules.specs.Words.{Word, after_word}
 use Rattle.std.specs.Prelude.{Bool, None, Option, Some, false, is_some, option_map, true, unwrap_or, ℕ, ◌≡◌, ◌≤◌, ◌⊎◌}
 use Rattle.task_machine.specs.declared.records.WorkCaller.TheVariants as work_caller
 use Rattle.task_machine.specs.declared.records.Subtask.TheVariants as subtask

@@ -1,30 +1,14 @@
 -- From facts of each step to all that is once in a run.
 use Rattle.std.proofs.lemmas.Bool.Decides.{nat_tests}
-use Rattle.task_machine.specs.declared.words.Status.{Status}
-use Rattle.task_machine.specs.Maps.{get}
-use Rattle.task_rules.specs.Takes.{host_status}
-use Rattle.task_rules.specs.Works.{has_end}
-use Rattle.task_rules.specs.Chains.{is_over}
+use Rattle.task_rules.proofs.Machine.{changes_end, Component, Core, course_of, course_value, covers_end, end_for, EndsOnce, event_of, get, handed, hands_out, hands_out_written, has_end, history, host_status, is_end_of, is_known, is_over, Label, Moment, Run, same_end, same_subtask, Setting, State, Status, status_code, Step, Subtask, SubtaskEnd, undelivered_end, with_end, writes_end, written}
 use Rattle.task_laws.proofs.Works.{Doing, doing_of, is_due}
 use Rattle.task_laws.proofs.Basics.{same_number, true_is_not_false}
 use Rattle.std.proofs.Common.{ap, arith, inl, inr, refl, subst, sym, ◌∙◌}
 use Rattle.std.proofs.lemmas.List.Recursion.{is_count_by}
 use Rattle.std.specs.List.{list_any}
 use Rattle.std.specs.Prelude.{Bool, List, None, Option, Some, [], count_by, false, if◌then◌else◌, true, ℕ, ◌&&◌, ◌+◌, ◌==◌, ◌||◌, ◌∷◌, ◌≡◌, ◌≤◌, ◌⊎◌, is_some}
-use Rattle.task_machine.specs.declared.component.Component.{Component}
-use Rattle.task_machine.specs.declared.label.Label.{Label}
-use Rattle.task_machine.specs.declared.records.Subtask.{Subtask}
 use Rattle.task_machine.specs.declared.records.Subtask.TheVariants as subtask
 use Rattle.task_machine.specs.declared.words.Status.TheVariants as status
-use Rattle.task_machine.specs.Core.{Core, State}
-use Rattle.task_machine.specs.Read.{same_subtask, course_of, course_value, event_of, undelivered_end}
-use Rattle.task_machine.specs.Statuses.{status_code}
-use Rattle.task_rules.specs.History.{Moment, history}
-use Rattle.task_rules.specs.Once.{EndsOnce, changes_end, covers_end, handed, hands_out, hands_out_written, is_end_of, is_known, same_end, with_end, writes_end, written}
-use Rattle.task_rules.specs.Run.{Run}
-use Rattle.task_rules.specs.Stalled.{Setting}
-use Rattle.task_rules.specs.Step.{Step}
-use Rattle.task_rules.specs.SubtaskEnds.{SubtaskEnd, end_for}
 
 -- ---- Counting
 
@@ -36,12 +20,10 @@ counted_is : (p : Moment → Bool) (ms : List Moment) → counted p ms ≡ count
 counted_is p ms = is_count_by (counted p) p refl (λ m ms. refl) ms
 
 one_at_most : (b : Bool) (n : ℕ) → n ≤ 1 → (b ≡ true → n ≡ 0) → (if b then 1 + n else n) ≤ 1
-one_at_most true n h none = omega (none refl, arith)
-one_at_most false n h none = h
+one_at_most b n h none = grind arith
 
 none_more : (b : Bool) (n : ℕ) → (b ≡ true → ⊥) → n ≡ 0 → (if b then 1 + n else n) ≡ 0
-none_more true n h z = absurd (h refl)
-none_more false n h z = z
+none_more b n h z = grind arith
 
 -- ---- The same end
 

@@ -7,20 +7,11 @@ use Rattle.std.specs.Prelude.{Bool, List, None, Option, Some, [], false, filter,
 use Rattle.task_laws.proofs.CallsCame.{CallAfter, Grown, NewCall, NoCall, call_came}
 use Rattle.task_laws.proofs.CallsSteps.{plain, plain_scene}
 use Rattle.task_machine.proofs.CommuteLemmas.{get-change}
-use Rattle.task_laws.proofs.Machine.{add_call, add_group, add_set, add_thread, add_work, after_word, Call, call_instance, call_made, Callee, callee_of, Core, count_work, filled, free_handle, free_thread_handle, fresh, get, get-empty, get-insert, give_handle, give_result, give_thread_handle, Label, Main, may_not_enter, on_call, on_instance, on_thread, on_work, Op, poll_pends, push_high, Queues, remove_call, remove_group, remove_set, remove_thread, remove_work, Scene, Scripted, set_backpressure, set_cancel_delivered, set_cancelled, set_course, set_do_not_enter, set_do_not_suspend, set_end, set_event, set_exited, set_how_far, set_join, set_own_event, set_phase, set_position, set_register, set_result, set_saved_callee, set_saved_own, set_script, set_stage, set_started, set_starting_published, set_subtask_handle, set_thread_handle, set_trapped, set_uninteresting, set_word, SetBackpressure, SetDoNotEnter, SetDoNotSuspend, Setting, SetWord, State, take_result, Thread, Unscripted, untouched, with_handle, with_thread_handle, Word, work_queued}
-use Rattle.task_laws.specs.Holders.{CalleesExist, RunsHoldOne}
-use Rattle.task_machine.specs.declared.records.Caller.{Caller}
+use Rattle.task_rules.proofs.Machine.{add_call, add_group, add_set, add_thread, add_work, after_word, Allowed, begun_holder, Call, call_instance, call_made, Callee, callee_of, callee_of_op, Caller, Core, count_work, filled, free_handle, free_thread_handle, fresh, get, get-empty, get-insert, give_handle, give_result, give_thread_handle, history, holds_one, is_among, Label, LastWords, less_holder, Main, may_not_enter, MayCall, on_call, on_instance, on_thread, on_work, Op, op_of, poll_pends, push_high, Queues, remove_call, remove_group, remove_set, remove_thread, remove_work, returned_holder, Run, SameMain, Scene, script_of, script_of_thread, Scripted, set_backpressure, set_cancel_delivered, set_cancelled, set_course, set_do_not_enter, set_do_not_suspend, set_end, set_event, set_exited, set_how_far, set_join, set_own_event, set_phase, set_position, set_register, set_result, set_saved_callee, set_saved_own, set_script, set_stage, set_started, set_starting_published, set_subtask_handle, set_thread_handle, set_trapped, set_uninteresting, set_word, SetBackpressure, SetDoNotEnter, SetDoNotSuspend, Setting, SetWord, State, Step, take_result, Thread, Unscripted, untouched, Walk, Walked, with_handle, with_holder, with_thread_handle, Word, work_queued}
 use Rattle.task_machine.specs.declared.records.Instance.{Instance}
+use Rattle.task_laws.specs.Holders.{CalleesExist, RunsHoldOne}
 use Rattle.task_rules.proofs.ChainLemmas.{along}
 use Rattle.task_rules.proofs.WalkSteps.{step_walks}
-use Rattle.task_rules.specs.Allowed.{Allowed, MayCall}
-use Rattle.task_rules.specs.Chains.{LastWords, SameMain, Walk, Walked}
-use Rattle.task_rules.specs.History.{history}
-use Rattle.task_rules.specs.Once.{begun_holder, holds_one, is_among, less_holder, returned_holder, with_holder}
-use Rattle.task_rules.specs.OpParts.{callee_of_op}
-use Rattle.task_rules.specs.Run.{Run}
-use Rattle.task_rules.specs.Scripts.{op_of, script_of, script_of_thread}
-use Rattle.task_rules.specs.Step.{Step}
 use Rattle.task_machine.specs.declared.op.Op.TheVariants as op
 use Rattle.task_machine.specs.declared.op.TaskOp.TheVariants as task_op
 use Rattle.task_rules.specs.Allowed as may

@@ -1,5 +1,5 @@
 -- The work that is polled next is live.
-use Rattle.task_laws.proofs.Machine.{Core, first_number, get, is_live, live_after, next_polled, Work}
+use Rattle.task_rules.proofs.Machine.{Core, first_number, get, is_live, live_after, next_polled, Work}
 use Rattle.task_laws.proofs.Basics.{no_way, same_number}
 use Rattle.std.proofs.Common.{T, ap, ap₂, cond, eqb→eq, refl, subst, sym, ◌∙◌}
 use Rattle.std.proofs.lemmas.Cmp.{tied_itself}

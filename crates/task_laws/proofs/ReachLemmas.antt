@@ -3,13 +3,10 @@ use Rattle.task_laws.proofs.Basics.{some_none}
 use Rattle.std.proofs.Common.{arith, sym, ◌∙◌}
 use Rattle.std.proofs.lemmas.Bool.Decides.{nat_tests}
 use Rattle.std.specs.Prelude.{List, Some, [], ℕ, ◌∷◌, ◌≡◌}
-use Rattle.task_laws.proofs.Machine.{after_word, Core, filled, fresh, get, get-empty, get-insert, Label, Scene, scene_of, Setting, State, Word}
+use Rattle.task_rules.proofs.Machine.{after_word, Allowed, Core, filled, fresh, get, get-empty, get-insert, Label, opening, Run, Scene, scene_of, Setting, State, Step, Word}
 use Rattle.task_laws.specs.Settings.{Reached}
 use Rattle.task_rules.proofs.ChainLemmas.{along}
 use Rattle.task_rules.proofs.WalkSteps.{step_walks}
-use Rattle.task_rules.specs.Allowed.{Allowed}
-use Rattle.task_rules.specs.Run.{Run, opening}
-use Rattle.task_rules.specs.Step.{Step}
 
 module _ (R : Core → Type 0) (kept : (a : Scene) (w : Word) (s : Core) → Allowed a w s → R s → R (after_word w s)) where
   pub step_kept : (x : Setting) (s : State) (l : Label) (t : State) → Step x s l t → R s.core → R t.core

@@ -1,18 +1,10 @@
 -- What a label says of ends is read beside the marks.
-use Rattle.task_laws.proofs.Machine.{base_at, Component, Core, end_for, handed_by, handed_by_call, handed_by_exit, handed_by_main, handed_by_set, handed_by_take, Label, Main, Queues, scene_of, Scripted, Setting, State, Status, Subtask, SubtaskEnd, Turn, Unscripted, written_by, written_by_call, written_by_loop, written_by_task}
+use Rattle.task_rules.proofs.Machine.{base_at, CallLabel, Component, Core, end_for, handed_by, handed_by_call, handed_by_exit, handed_by_main, handed_by_set, handed_by_take, Label, LoopLabel, Main, MainLabel, op_of, Queues, SaysEnd, scene_of, script_of, Scripted, SetLabel, Setting, State, Status, Subtask, SubtaskEnd, TakeLabel, TaskLabel, Turn, Unscripted, written_by, written_by_call, written_by_loop, written_by_task}
 use Rattle.task_laws.proofs.SceneLemmas.{base_is}
-use Rattle.task_machine.specs.declared.label.SetLabel.{SetLabel}
-use Rattle.task_machine.specs.declared.label.TakeLabel.{TakeLabel}
-use Rattle.task_machine.specs.declared.label.MainLabel.{MainLabel}
-use Rattle.task_rules.specs.Scripts.{op_of, script_of}
-use Rattle.task_machine.specs.declared.label.CallLabel.{CallLabel}
-use Rattle.task_machine.specs.declared.label.TaskLabel.{TaskLabel}
-use Rattle.task_machine.specs.declared.label.LoopLabel.{LoopLabel}
 use Rattle.std.proofs.Common.{ap, subst}
 use Rattle.std.specs.Option.{option_map_or}
 use Rattle.std.specs.Prelude.{Bool, Option, Some, false, true, ℕ, ◌≡◌}
 use Rattle.task_laws.proofs.Basics.{no_way}
-use Rattle.task_rules.specs.Allowed.{SaysEnd}
 use Rattle.task_machine.specs.declared.label.Label.TheVariants as label
 use Rattle.task_machine.specs.declared.label.LoopLabel.TheVariants as loop_label
 use Rattle.task_machine.specs.declared.records.Subtask.TheVariants as subtask

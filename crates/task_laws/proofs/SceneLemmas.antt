@@ -2,13 +2,9 @@
 use Rattle.std.proofs.Common.{ap, arith, refl}
 use Rattle.std.proofs.lemmas.Bool.Decides.{nat_tests}
 use Rattle.std.specs.Prelude.{List, Option, Some, true, ℕ, ◌≡◌, ◌≤◌, ◌⊎◌}
-use Rattle.task_laws.proofs.Machine.{base_at, base_without, Core, Label, Mark, next_entry, or_high, scene_of, set_high, set_low, set_switch, Setting, State, thread_of_entry, Turn}
+use Rattle.task_rules.proofs.Machine.{base_at, base_without, Core, entries, Entry, HasPlace, is_there, IsRunner, Label, Mark, next_entry, or_high, popped, scene_of, set_high, set_low, set_switch, Setting, State, switch_entries, thread_of_entry, Turn}
 use Rattle.task_laws.specs.Order.{InPlace}
-use Rattle.task_machine.specs.declared.records.Entry.{Entry}
 use Rattle.task_machine.specs.declared.records.Turn.TheVariants as turn
-use Rattle.task_rules.specs.Allowed.{IsRunner}
-use Rattle.task_rules.specs.Places.{HasPlace, entries, is_there, switch_entries}
-use Rattle.task_rules.specs.Takes.{popped}
 
 -- ---- The core that a row reads
 

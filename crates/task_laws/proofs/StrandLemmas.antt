@@ -3,10 +3,8 @@ use Rattle.std.proofs.Common.{arith, inl, inr}
 use Rattle.std.specs.Prelude.{Option, Some, is_some, true, ℕ, ◌+◌, ◌≡◌, ◌≤◌, ◌⊎◌}
 use Rattle.task_laws.proofs.CameLemmas.{Came, Comes, Moved, Shifts, Turned, Turns, came_word}
 use Rattle.task_laws.proofs.CountLemmas.{made_threads_word}
-use Rattle.task_laws.proofs.Machine.{after_word, Core, next_thread, Place, place_of, Scene, Why, Word}
+use Rattle.task_rules.proofs.Machine.{after_word, Allowed, Core, is_there, IsRunner, MayMove, next_thread, Place, place_of, Scene, Why, Word}
 use Rattle.task_machine.specs.declared.records.Place.TheVariants as place
-use Rattle.task_rules.specs.Allowed.{Allowed, IsRunner, MayMove}
-use Rattle.task_rules.specs.Places.{is_there}
 
 -- On the way of a step: who is under a thread that was made now is the running one.
 pub record Layered (a : Scene) (s : Core) : Type 0 where

@@ -1,5 +1,5 @@
 -- The laws of the ends of calls and works that hold by each step alone.
-use Rattle.task_laws.proofs.Machine.{base_at, end_for, event_of, get, handed_by, has_ended, Label, opening, Run, scene_of, Setting, State, Status, Step, Subtask, Turn, undelivered_end, written_by}
+use Rattle.task_rules.proofs.Machine.{Answers, base_at, changes_end, covers_end, end_for, EndsByExit, EndsCall, EndsOwn, EndsSubtask, event_of, get, handed_by, HandsAtOnce, HandsOut, has_ended, Label, opening, Run, scene_of, Setting, State, Status, Step, Subtask, TakesEvent, TakesResult, Turn, undelivered_end, Walked, Writes, WritesAtOnce, WritesCall, WritesNever, WritesPolled, WritesToo, written_by}
 use Rattle.task_laws.specs.Written.{EndsHandedAsTold, EndsWrittenOnce, NewEndsAreSaid, NewResultsAreSaid, NoEndIsCovered, WrittenEndsAreNew}
 use Rattle.task_laws.proofs.GuestEnds.{events_come, exits_open, guest_changes, guest_covers, guest_stays, is_guest, no_withdrawal, results_come}
 use Rattle.task_laws.proofs.HostEnds.{host_changes, host_stays}
@@ -12,10 +12,8 @@ use Rattle.task_laws.proofs.SaidEnds.{hands_at, said_now, written_at}
 use Rattle.task_laws.specs.Settings.{CodesInCallbacks, Reached}
 use Rattle.task_rules.proofs.LawLemmas.{never_fewer}
 use Rattle.task_rules.proofs.WalkSteps.{step_walks}
-use Rattle.task_rules.specs.Chains.{Walked, Writes, WritesAtOnce, WritesCall, WritesNever, WritesPolled, EndsByExit, EndsCall, EndsOwn, EndsSubtask, Answers, HandsAtOnce, HandsOut, TakesEvent, TakesResult, WritesToo}
 use Rattle.std.specs.Prelude.{List, [], ◌∷◌, Bool, None, Some, false, is_some, true, ℕ, ◌≡◌, ◌≤◌, ◌⊎◌}
 use Rattle.std.proofs.Common.{inl, inr, ap, refl, subst, sym}
-use Rattle.task_rules.specs.Once.{changes_end, covers_end}
 use Rattle.task_laws.specs.Rises.{CallsRise}
 use Rattle.task_laws.proofs.Basics.{no_way}
 use Rattle.task_machine.specs.declared.records.Subtask.TheVariants as subtask

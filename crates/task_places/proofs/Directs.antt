@@ -4,21 +4,11 @@ use Rattle.std.specs.Option.{option_map_or}
 use Rattle.std.specs.Prelude.{None, Option, Some, false, is_some, option_map, true, ℕ, ◌≡◌, ◌≤◌, ◌⊎◌}
 use Rattle.task_laws.proofs.CallsCame.{CallAfter, call_came}
 use Rattle.task_laws.specs.Order.{DirectsOnTop, Numbered}
-use Rattle.task_machine.specs.Core.{Core}
-use Rattle.task_machine.specs.Maps.{get}
-use Rattle.task_machine.specs.Read.{goal_of, is_direct, place_of, task_of}
-use Rattle.task_machine.specs.declared.records.Call.{Call}
-use Rattle.task_machine.specs.declared.records.Goal.{Goal}
+use Rattle.task_rules.proofs.Machine.{after_word, Allowed, Call, Core, get, Goal, goal_of, is_direct, LaterBy, LaterCall, Place, place_of, SameThread, Scene, Steady, task_of, Thread, Word}
 use Rattle.task_machine.specs.declared.records.Goal.TheVariants as goal
-use Rattle.task_machine.specs.declared.records.Place.{Place}
 use Rattle.task_machine.specs.declared.records.Place.TheVariants as place
-use Rattle.task_machine.specs.declared.records.Thread.{Thread}
 use Rattle.task_machine.specs.declared.records.Turn.TheVariants as turn
 use Rattle.task_places.proofs.PlaceLaw.{Arrives, no_way}
-use Rattle.task_rules.specs.Allowed.{Allowed}
-use Rattle.task_rules.specs.Laws.{LaterBy, LaterCall, SameThread, Steady}
-use Rattle.task_rules.specs.Scenes.{Scene}
-use Rattle.task_rules.specs.Words.{Word, after_word}
 
 -- ---- Which calls are direct
 

@@ -2,24 +2,13 @@
 use Rattle.std.proofs.lemmas.Bool.Decides.{nat_tests}
 use Rattle.std.proofs.Common.{T, ap, arith, cond, le_refl, refl, subst, sym, ◌∙◌}
 use Rattle.std.specs.Prelude.{Bool, List, None, Option, Some, [], false, if◌then◌else◌, is_some, true, unwrap_or, ℕ, ◌++◌, ◌+◌, ◌==◌, ◌∷◌, ◌≡◌, ◌≤◌}
-use Rattle.task_machine.specs.Core.{Core, Queues}
-use Rattle.task_machine.specs.Maps.{get-insert}
-use Rattle.task_machine.specs.Moves.{has_entry, less, less_switch, promoted, put_switch, unqueued, why_of}
-use Rattle.task_machine.specs.Read.{callers_of, is_entry_of, next_entry, or_high, place_of}
-use Rattle.task_machine.specs.Write.{add_thread, on_thread, remove_thread, set_high, set_low, set_place, set_switch}
-use Rattle.task_machine.specs.declared.records.Entry.{Entry}
+use Rattle.task_rules.proofs.Machine.{add_thread, callers_of, Core, entries, Entry, get-insert, has_entry, HasPlace, is_behind_of, is_entry_of, is_fresh, less, less_switch, Mark, next_entry, on_thread, one_if, or_high, Place, place_of, popped, promoted, put_switch, Queues, remove_thread, rest_of, says, set_high, set_low, set_place, set_switch, switch_entries, Thread, times, unqueued, Why, why_of}
 use Rattle.task_machine.specs.declared.records.Entry.TheVariants as entry
-use Rattle.task_machine.specs.declared.records.Place.{Place}
 use Rattle.task_machine.specs.declared.records.Place.TheVariants as place
-use Rattle.task_machine.specs.declared.records.Thread.{Thread}
-use Rattle.task_machine.specs.declared.records.Why.{Why}
-use Rattle.task_machine.specs.declared.words.Mark.{Mark}
 use Rattle.task_machine.specs.declared.words.Mark.TheVariants as mark
 use Rattle.task_rules.proofs.MoveLemmas.{no_time, others, put_back, removed_gone, removed_loose, removed_placed, other_place, gone_place, other_so}
 use Rattle.task_rules.proofs.StandLemmas.{Loose, Stand, by_number, entries-append, entries-less, eq_refl, zero_one, Watch, is_so, Left, left_loose, left_placed, by_count}
 use Rattle.task_rules.proofs.StopLemmas.{Untouched, fresh_apart, so_again}
-use Rattle.task_rules.specs.Places.{HasPlace, entries, is_behind_of, is_fresh, one_if, says, switch_entries, times}
-use Rattle.task_rules.specs.Takes.{popped, rest_of}
 
 -- ---- Entries are taken out
 

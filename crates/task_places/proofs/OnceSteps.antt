@@ -3,25 +3,14 @@ use Rattle.task_laws.proofs.NamedWorks.{NamesNoSync, abort_kept, caller_is, name
 use Rattle.task_rules.specs.Once.{written}
 use Rattle.task_machine.specs.declared.records.Subtask.{Subtask}
 use Rattle.std.proofs.Common.{ap, refl, subst, sym, ◌∙◌, inl, inr, le_refl, ◌++◌, arith, ⊎_elim}
+use Rattle.task_rules.proofs.Machine.{AbortsOwn, base_at, Call, Core, end_for, Entry, fresh, get, get-empty, how_far_of, instance_of, is_spawn, is_spawn_caller, is_stage_ended, IsRunner, Label, Main, MainPlace, Mark, next_entry, opening, Place, place_of, ProgramAborts, runner_at, SameMain, Scene, scene_of, ScriptAborts, Scripted, Setting, spawned_at, stage_of, State, Status, Step, Subtask, subtask_at, task_of, thread_of_entry, Turn, undelivered_end, Unscripted, Walked, Work, work_caller_of, WorkCaller, written}
 use Rattle.std.specs.Option.{option_map_or}
 use Rattle.std.specs.Prelude.{Bool, None, Option, Some, false, is_some, option_and_then, option_map, true, ℕ, ◌≡◌, ◌≤◌, ◌⊎◌, ◌∷◌, unwrap_or, [], slice_get, zero, suc, ◌-◌, ◌&&◌}
 use Rattle.task_laws.proofs.Basics.{no_way}
 use Rattle.task_laws.proofs.CallsLaw.{CallsGo, CallsHold}
 use Rattle.task_laws.proofs.CallsSteps.{of_base, step_goes, calls_begin}
 use Rattle.task_laws.specs.Settings.{Reached}
-use Rattle.task_machine.specs.Core.{Core, State, fresh, MainPlace, Scripted, Unscripted, Main}
-use Rattle.task_machine.specs.Maps.{get, get-empty}
-use Rattle.task_machine.specs.Read.{undelivered_end, how_far_of, is_stage_ended, next_entry, work_caller_of, place_of, instance_of, stage_of, subtask_at, task_of}
-use Rattle.task_machine.specs.declared.label.Label.{Label}
-use Rattle.task_machine.specs.declared.records.Call.{Call}
-use Rattle.task_machine.specs.declared.records.Turn.{Turn}
-use Rattle.task_machine.specs.declared.words.Status.{Status}
 use Rattle.task_rules.proofs.ChainLemmas.{along}
-use Rattle.task_rules.specs.Allowed.{IsRunner, AbortsOwn, ProgramAborts, ScriptAborts}
-use Rattle.task_rules.specs.Chains.{Walked, SameMain}
-use Rattle.task_rules.specs.Scenes.{Scene, base_at, scene_of, runner_at, thread_of_entry}
-use Rattle.task_rules.specs.Stalled.{Setting}
-use Rattle.task_rules.specs.SubtaskEnds.{end_for}
 use Rattle.task_laws.proofs.CallEnds.{EndsGo, EndsTold, ends_go, opening_ends_told}
 use Rattle.task_laws.proofs.OnceLemmas.{Due, Over, EndStep, ends_once, written_over}
 use Rattle.task_laws.proofs.HostEnds.{Answered, host_step}
@@ -29,22 +18,16 @@ use Rattle.task_laws.proofs.SceneLemmas.{base_is, runner_there}
 use Rattle.task_laws.specs.Ends.{is_sync_work, NamedCallsThere, MayBeAborted, SyncUnnamed}
 use Rattle.task_laws.proofs.SyncWorks.{CallersKnown, callers_word, opening_callers}
 use Rattle.task_machine.specs.declared.records.WorkCaller.{WorkCaller}
+use Rattle.task_laws.specs.Ends.{EndsFound, Waited}
 use Rattle.task_laws.proofs.Works.{AbortsNoSync, Doing, WorksGo, WorksHold, doing, doing_of, is_late, stage_ended, opening_works, before_step, first_works, works_word}
-use Rattle.task_machine.specs.declared.records.Work.{Work}
-use Rattle.task_rules.specs.Run.{opening}
-use Rattle.task_rules.specs.Step.{Step}
-use Rattle.task_machine.specs.declared.records.Entry.{Entry}
-use Rattle.task_machine.specs.declared.words.Mark.{Mark}
 use Rattle.task_rules.proofs.WalkSteps.{step_walks}
 use Rattle.task_laws.specs.Order.{InOrder}
-use Rattle.task_machine.specs.declared.records.Place.{Place}
 use Rattle.task_places.proofs.PlaceLaw.{entry_ready}
 use Rattle.task_rules.proofs.LawLemmas.{never_fewer, run_goes_on}
 use Rattle.task_places.proofs.Entries.{next_first, popped_cleared}
 use Rattle.task_laws.proofs.GuestEnds.{CallsFound, guest_step}
 use Rattle.task_places.specs.Once.{RunsAreOnce, IsUnbegun}
 use Rattle.task_places.proofs.OrderLemmas.{opening_in_order, step_in_order}
-use Rattle.task_rules.specs.MainOps.{is_spawn, is_spawn_caller, spawned_at}
 use Rattle.task_machine.specs.declared.records.Subtask.TheVariants as subtask
 use Rattle.task_machine.specs.declared.records.HowFar.TheVariants as how_far
 use Rattle.task_machine.specs.declared.records.Stage.TheVariants as stage

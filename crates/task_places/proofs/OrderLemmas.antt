@@ -1,13 +1,12 @@
 -- A state in order: each opening state is, and each step leads from one to one.
 use Rattle.task_machine.specs.declared.records.Work.{Work}
 use Rattle.task_places.proofs.HostsAwaited.{step_works}
+use Rattle.task_rules.proofs.Machine.{ByHandle, ByOp, Call, call_instance, Core, empty, fresh, get, get-empty, HasSubtask, instance_of, is_fresh, is_there, IsRunner, Label, Main, opening, Place, place_of, Placed, Run, Scene, scene_of, Setting, State, Steady, task_of, Thread, Walk, Walked, was_started, Work}
+use Rattle.task_places.proofs.WorksQueued.{works_word}
 use Rattle.task_places.proofs.Directs.{DirectsRun, directs_on_top, directs_word}
 use Rattle.task_machine.specs.declared.records.Subtask.TheVariants as subtask
 use Rattle.task_laws.proofs.Joins.{joins_word, opening_joins}
 use Rattle.task_laws.proofs.Subtasks.{Traced, opening_named, traced_word}
-use Rattle.task_rules.specs.Scenes.{scene_of, Scene}
-use Rattle.task_rules.specs.Chains.{Walk, Walked}
-use Rattle.task_rules.specs.Allowed.{IsRunner, HasSubtask, ByHandle, ByOp}
 use Rattle.task_rules.proofs.WalkSteps.{step_walks}
 use Rattle.task_rules.proofs.ChainLemmas.{along}
 use Rattle.task_laws.proofs.WaitLemmas.{Homed, KnownHome, homed_word}
@@ -28,16 +27,10 @@ use Rattle.task_machine.specs.Read.{place_of, instance_of, call_instance, task_o
 use Rattle.task_machine.specs.declared.label.Label.{Label}
 use Rattle.task_machine.specs.declared.records.Call.{Call}
 use Rattle.task_machine.specs.declared.records.HowFar.TheVariants as how_far
-use Rattle.task_machine.specs.declared.records.Place.{Place}
-use Rattle.task_machine.specs.declared.records.Thread.{Thread}
 use Rattle.task_places.proofs.PlaceLaw.{Arrives}
 use Rattle.task_places.proofs.PlaceSteps.{Withdrawable, in_place, step_arrives}
 use Rattle.task_places.specs.Kept.{ReachedInOrder, ReachedInPlace, StepsKeepPlaces}
 use Rattle.task_rules.proofs.LawLemmas.{steady}
-use Rattle.task_rules.specs.Laws.{Steady}
-use Rattle.task_rules.specs.Places.{Placed, is_there, is_fresh}
-use Rattle.task_rules.specs.Run.{Run, opening}
-use Rattle.task_rules.specs.Stalled.{Setting}
 
 -- ---- Starts
 

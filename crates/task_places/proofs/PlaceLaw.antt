@@ -2,10 +2,7 @@
 use Rattle.task_machine.specs.declared.records.Subtask.{Subtask}
 use Rattle.task_rules.proofs.WalkMoves.{blocked_place}
 use Rattle.std.proofs.lemmas.Bool.Decides.{nat_tests}
-use Rattle.task_machine.specs.declared.records.HowFar.{HowFar}
-use Rattle.task_rules.specs.Laws.{is_free}
-use Rattle.task_rules.specs.Scripts.{registers_for}
-use Rattle.task_machine.specs.declared.records.Call.{Call}
+use Rattle.task_rules.proofs.Machine.{add_call, add_group, add_set, add_work, after_placing, after_word, AwaitsEvent, behind_one, Blocks, Call, call_made, Collapses, Core, count_work, Departs, EndsOver, Enter, entries, Falls, FinishWork, free_handle, free_thread_handle, get, give_handle, give_result, give_thread_handle, GoBehind, GoesBack, has_entry, HasPlace, HasSubtask, Holds, HowFar, is_at_high, is_at_low, is_at_switch, is_begun, is_explicit, is_for_start, is_free, is_fresh, is_there, is_under, IsFall, IsFoot, IsRunner, IsSettling, Lands, LandsAt, LastWords, Leaves, MakeCall, MakeThread, Mark, MayGo, MayLand, MayMove, MayPut, MayYield, Move, NameThread, new_call, new_thread, new_thread_handle, next_thread, on_call, on_instance, on_thread, on_work, Place, place_of, Places, Placing, poll_pends, Pop, Promote, promoted, push_high, Put, put_high, put_low, QueueWork, Quits, registers_for, Remains, remove_call, remove_group, remove_set, remove_thread, remove_work, RemoveCall, RemoveGroup, RemoveThread, Runs, says, Scene, set_backpressure, set_cancel_delivered, set_cancelled, set_course, set_do_not_enter, set_do_not_suspend, set_end, set_event, set_exited, set_how_far, set_join, set_own_event, set_phase, set_place, set_position, set_register, set_result, set_saved_callee, set_saved_own, set_script, set_stage, set_started, set_starting_published, set_subtask_handle, set_thread_handle, set_trapped, set_uninteresting, set_word, SetHowFar, SetPosition, SetRegister, SetSavedCallee, SetSavedOwn, SetScript, Settles, SetTrapped, SetUninteresting, Stay, Stays, Stop, Suspends, switch_entries, take_result, TakeHost, TakePush, task_of, Thread, times, Trip, Turn, Uncovers, Waits, WaitsAgain, was_started, Why, with_handle, with_thread_handle, Withdraw, Word, work_queued}
 use Rattle.std.proofs.Common.{T, ap, arith, inl, inr, le_refl, refl, subst, sym, ◌∙◌}
 use Rattle.std.specs.Option.{option_map_or}
 use Rattle.std.specs.Prelude.{Bool, None, Option, Some, [], false, is_none, is_some, slice_set, true, unwrap_or, ℕ, ◌+◌, ◌==◌, ◌||◌, ◌∷◌, ◌≡◌, ◌≤◌, ◌⊎◌, option_map, if◌then◌else◌}

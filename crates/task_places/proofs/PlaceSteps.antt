@@ -8,30 +8,16 @@ use Rattle.task_machine.specs.declared.words.Mark.TheVariants as mark
 use Rattle.task_machine.specs.Write.{set_switch, set_high, set_low}
 use Rattle.std.proofs.Common.{T, ap, arith, refl, subst, sym, ◌∙◌, inr}
 use Rattle.std.specs.Prelude.{Bool, None, Option, Some, [], false, is_some, true, unwrap_or, ℕ, ◌+◌, ◌==◌, ◌≡◌, ◌≤◌, option_map}
+use Rattle.task_rules.proofs.Machine.{base_at, base_without, Core, Entry, HasPlace, HasSubtask, is_behind_of, is_fresh, is_take, IsRunner, Label, LastWords, Mark, next_entry, next_polled, nothing_stands, one_if, Place, place_of, popped, runner_at, says, Scene, scene_of, set_high, set_low, set_switch, Setting, settled_futures, settled_take, settled_turn, start_of, State, thread_of_entry, Trip, Turn, Walked, was_started}
 use Rattle.task_laws.specs.Order.{InPlace}
-use Rattle.task_machine.specs.Core.{Core, State}
-use Rattle.task_machine.specs.Read.{next_entry, place_of, was_started}
-use Rattle.task_machine.specs.declared.label.Label.{Label}
-use Rattle.task_machine.specs.declared.records.Entry.{Entry}
 use Rattle.task_machine.specs.declared.records.Entry.TheVariants as entry
-use Rattle.task_machine.specs.declared.records.Place.{Place}
 use Rattle.task_machine.specs.declared.records.Place.TheVariants as place
 use Rattle.task_machine.specs.declared.records.Subtask.TheVariants as subtask
-use Rattle.task_machine.specs.declared.records.Turn.{Turn}
 use Rattle.task_machine.specs.declared.records.Turn.TheVariants as turn
-use Rattle.task_machine.specs.declared.words.Mark.{Mark}
 use Rattle.task_places.proofs.Entries.{Cleared, First, next_first, popped_cleared}
 use Rattle.task_places.proofs.PlaceLaw.{Arrives, Follows, Frame, entry_ready, is_run, no_way, trip_arrives, waits, ReadyAt, watch, so_self}
 use Rattle.task_rules.proofs.MoveLemmas.{All, is_busy, is_idle, no_time, stand_of}
 use Rattle.task_rules.proofs.StandLemmas.{Loose, Stand, by_number, zero_one, is_so, left_placed}
-use Rattle.task_rules.specs.Allowed.{HasSubtask, IsRunner}
-use Rattle.task_rules.specs.Chains.{LastWords, Trip, Walked, is_take, start_of}
-use Rattle.task_rules.specs.Places.{HasPlace, is_fresh, one_if, says, is_behind_of}
-use Rattle.task_rules.specs.Scenes.{Scene, base_at, base_without, runner_at, scene_of, thread_of_entry}
-use Rattle.task_rules.specs.Stalled.{Setting}
-use Rattle.task_rules.specs.Takes.{popped}
-use Rattle.task_rules.specs.Turns.{nothing_stands, settled_futures, settled_take, settled_turn}
-use Rattle.task_rules.specs.Works.{next_polled}
 
 -- a start that the running thread may withdraw is awaited, or its thread is gone
 abbrev pub Withdrawable : Scene → Type 0
@@ -39,9 +25,6 @@ Withdrawable a = (m k : ℕ) → IsRunner a m → HasSubtask a m (subtask.Guest 
 
 no_runner : (a : Scene) (m : ℕ) {A : Type 0} → a.runner ≡ None → IsRunner a m → A
 no_runner a m none is = no_way (ap (λ (o : Option ℕ). is_some o) (sym none ∙ is))
-
-beyond : (n m : ℕ) → m + 1 ≤ n → (n ≤ m → ⊥)
-beyond n m h g = omega (arith, h, g)
 
 -- a number that wasn't given is no thread's
 ungiven : (n : ℕ) (s : Core) → (n ≤ s.made.threads → ⊥) → HasPlace n s → place_of n s ≡ None

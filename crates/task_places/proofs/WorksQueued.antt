@@ -5,27 +5,18 @@ use Rattle.task_rules.specs.Calls.{call_made, with_handle, with_thread_handle, w
 use Rattle.std.proofs.lemmas.Bool.Decides.{nat_tests}
 use Rattle.task_machine.specs.Write.{set_switch, set_high, set_low, add_call, add_group, add_set, add_thread, add_work, count_work, free_handle, free_thread_handle, give_handle, give_result, give_thread_handle, on_call, on_instance, on_thread, on_work, push_high, remove_call, remove_group, remove_set, remove_thread, remove_work, set_backpressure, set_cancel_delivered, set_cancelled, set_course, set_do_not_enter, set_do_not_suspend, set_end, set_event, set_exited, set_how_far, set_join, set_own_event, set_phase, set_position, set_register, set_result, set_saved_callee, set_saved_own, set_script, set_stage, set_started, set_starting_published, set_subtask_handle, set_thread_handle, set_trapped, set_uninteresting, set_word, take_result}
 use Rattle.std.proofs.Common.{ap, arith, refl, le_refl, cond, None}
+use Rattle.task_rules.proofs.Machine.{add_call, add_group, add_set, add_thread, add_work, after_word, Allowed, call_made, Core, count_work, CountWork, EndWork, Entry, FinishWork, free_handle, free_thread_handle, get, get-insert, get-remove, give_handle, give_result, give_thread_handle, LaterBy, Mark, on_call, on_instance, on_thread, on_work, one_if, Places, poll_pends, popped, push_high, QueueWork, remove_call, remove_group, remove_set, remove_thread, remove_work, RemoveWork, Scene, set_backpressure, set_cancel_delivered, set_cancelled, set_course, set_do_not_enter, set_do_not_suspend, set_end, set_event, set_exited, set_high, set_how_far, set_join, set_low, set_own_event, set_phase, set_position, set_register, set_result, set_saved_callee, set_saved_own, set_script, set_stage, set_started, set_starting_published, set_subtask_handle, set_switch, set_thread_handle, set_trapped, set_uninteresting, set_word, take_result, TakeHost, TakePush, with_handle, with_thread_handle, Withdraw, Word, work_queued}
 use Rattle.std.specs.Prelude.{Bool, List, [], false, true, ℕ, ◌++◌, ◌+◌, ◌==◌, ◌∷◌, ◌≡◌, ◌≤◌}
 use Rattle.task_laws.specs.Order.{WorkEntries, WorksQueued, is_host_of, is_push_of, stands}
 use Rattle.task_laws.proofs.EachLemmas.{each_of}
 use Rattle.task_laws.proofs.PolledWorks.{polled_is_live}
 use Rattle.task_machine.proofs.CommuteLemmas.{get-change}
-use Rattle.task_machine.specs.Core.{Core}
-use Rattle.task_machine.specs.Maps.{get, get-insert, get-remove}
-use Rattle.task_machine.specs.declared.records.Entry.{Entry}
 use Rattle.task_machine.specs.declared.records.Entry.TheVariants as entry
 use Rattle.task_machine.specs.declared.records.Stage.TheVariants as stage
-use Rattle.task_machine.specs.declared.words.Mark.{Mark}
 use Rattle.task_machine.specs.declared.words.Mark.TheVariants as mark
 use Rattle.task_places.proofs.Entries.{First, next_first}
 use Rattle.task_rules.proofs.PlacingLemmas.{SameWorks, placing_works, unqueued_works, work_entries}
 use Rattle.task_rules.proofs.StandLemmas.{eq_refl}
-use Rattle.task_rules.specs.Allowed.{Allowed}
-use Rattle.task_rules.specs.Laws.{LaterBy}
-use Rattle.task_rules.specs.Places.{one_if}
-use Rattle.task_rules.specs.Scenes.{Scene}
-use Rattle.task_rules.specs.Takes.{popped}
-use Rattle.task_rules.specs.Words.{CountWork, EndWork, FinishWork, Places, QueueWork, RemoveWork, TakeHost, TakePush, Withdraw, Word, after_word}
 
 -- ---- Lists
 

@@ -1,9 +1,7 @@
 -- What each case of the cancel of a guest call says.
 use Rattle.std.specs.Prelude.{Bool, false, if◌then◌else◌, not, true, ℕ, ◌≡◌}
 use Rattle.std.proofs.Common.{refl}
-use Rattle.task_machine.specs.Core.{Core}
-use Rattle.task_machine.specs.Read.{has_ended, is_at, is_callback_yield, was_started}
-use Rattle.task_rules.specs.Cancels.{AlreadyEnded, CallbackWaits, CallbackYields, CancelCase, OtherwiseRuns, StartNotRun, cancel_case, is_callback_wait}
+use Rattle.task_rules.proofs.Machine.{AlreadyEnded, CallbackWaits, CallbackYields, cancel_case, CancelCase, Core, has_ended, is_at, is_callback_wait, is_callback_yield, OtherwiseRuns, StartNotRun, was_started}
 
 abbrev pub CaseSays : ℕ → Core → CancelCase → Type 0
 CaseSays k s AlreadyEnded = has_ended k s ≡ true

@@ -4,11 +4,7 @@ use Rattle.task_machine.specs.declared.records.Place.TheVariants as place
 use Rattle.task_machine.specs.declared.records.HowFar.TheVariants as how_far
 use Rattle.std.specs.Prelude.{ℕ}
 use Rattle.std.proofs.Common.{inl, inr}
-use Rattle.task_machine.specs.Core.{Core}
-use Rattle.task_rules.specs.Allowed.{Allowed, Stays, IsSettling, IsFall, MayGo, MayLand, Departs, EndsOver}
-use Rattle.task_rules.specs.Chains.{Chain, IsShift, NoWord, Then, Walk, Stay, Trip, Remains, Lands, Settles, LandsAt, Quits, GoesBack, Collapses}
-use Rattle.task_rules.specs.Scenes.{Scene}
-use Rattle.task_rules.specs.Words.{Places, Word, after_word, Placing, Promote, SetUninteresting, RemoveThread, Pop, SetTrapped, RemoveCall, RemoveGroup, SetHowFar, Move, Put}
+use Rattle.task_rules.proofs.Machine.{after_word, Allowed, Chain, Collapses, Core, Departs, EndsOver, GoesBack, IsFall, IsSettling, IsShift, Lands, LandsAt, MayGo, MayLand, Move, NoWord, Places, Placing, Pop, Promote, Put, Quits, Remains, RemoveCall, RemoveGroup, RemoveThread, Scene, SetHowFar, Settles, SetTrapped, SetUninteresting, Stay, Stays, Then, Trip, Walk, Word}
 
 module _ {may : Word → Core → Type 0} where
   -- what holds at first and is kept by each word holds at last

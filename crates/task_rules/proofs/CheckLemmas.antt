@@ -9,29 +9,15 @@ use Rattle.std.proofs.lemmas.List.Sorted.{All-permutation, length_permutation, l
 use Rattle.std.specs.List.{list_any}
 use Rattle.std.specs.Option.{option_map_or}
 use Rattle.std.specs.Prelude.{All, Bool, IsPermutation, List, None, Option, Some, [], false, find, is_some, length, not, option_map, true, ℕ, ◌&&◌, ◌==◌, ◌||◌, ◌∷◌, ◌≡◌, if◌then◌else◌}
-use Rattle.task_machine.specs.declared.records.Entry.{Entry}
-use Rattle.task_machine.specs.declared.records.Place.{Place}
-use Rattle.task_machine.specs.declared.records.Thread.{Thread}
-use Rattle.task_machine.specs.declared.records.Why.{Why}
+use Rattle.task_rules.proofs.Machine.{admitted_held, behind, behind_one, blocked_on, BlockingCheckIsAfter, CallbackCheckIsAfter, Caller, caller_of, callers_of, code_stops, Core, end_reopens, Entry, first_at, first_entry, first_in, first_waiter, foot_of, get, give_result, Goal, goal_of, has_waiter, held_by_flag, held_why_of, instance_of, is_at, is_callback_waiter, is_entry_in, is_held_admitted, is_nil, is_told, is_waiting_on, Join, join_of, may_not_suspend, may_publish, may_tell, may_wake, may_wake_joined, newest, numbers, older, on_call, on_instance, on_thread, passed_on, passes_after_return, passes_after_stop, passes_check, Place, published, push_high, put_high, put_switch, register_of, released, released_one, result_given, resumed_all, returned, same_map, set_callers, set_do_not_enter, set_end, set_event, set_place, set_register, set_result, set_switch, Status, stopped, task_of, Thread, told, unblocked, waiter_told, wake, wake_joined, waken_by, Why, with_high}
 use Rattle.task_machine.specs.declared.records.Entry.TheVariants as entry
 use Rattle.task_machine.specs.declared.records.Place.TheVariants as place
 use Rattle.task_machine.specs.declared.records.Why.TheVariants as why
 use Rattle.task_machine.specs.declared.words.Mark.TheVariants as mark
 use Rattle.task_machine.proofs.CommuteLemmas.{get-change}
-use Rattle.task_machine.specs.Core.{Core}
-use Rattle.task_machine.specs.Maps.{get, numbers, same_map}
-use Rattle.task_machine.specs.Moves.{behind, behind_one, first_entry, held_why_of, newest, older, passed_on, passes_check, put_high, put_switch, released, released_one, resumed_all, stopped, is_callback_waiter, may_publish, may_wake, may_wake_joined, published, unblocked, wake, wake_joined, waken_by}
-use Rattle.task_machine.specs.Read.{admitted_held, callers_of, first_in, foot_of, instance_of, is_entry_in, is_held_admitted, is_nil, may_not_suspend, blocked_on, caller_of, first_at, goal_of, has_waiter, is_at, is_waiting_on, join_of, register_of, task_of}
-use Rattle.task_machine.specs.Write.{on_instance, on_thread, push_high, set_callers, set_do_not_enter, set_place, set_switch, with_high, give_result, on_call, set_end, set_event, set_register, set_result}
 use Rattle.task_rules.proofs.StandLemmas.{set_place_is}
-use Rattle.task_rules.specs.Ends.{code_stops, end_reopens, held_by_flag, passes_after_stop, first_waiter, is_told, may_tell, passes_after_return, result_given, returned, told, waiter_told}
-use Rattle.task_rules.specs.Laws.{CallbackCheckIsAfter, BlockingCheckIsAfter}
 use Rattle.std.specs.FinMap.Entries.{find as seek}
 use Rattle.std.specs.Ordering.{nat_cmp}
-use Rattle.task_machine.specs.declared.records.Caller.{Caller}
-use Rattle.task_machine.specs.declared.records.Goal.{Goal}
-use Rattle.task_machine.specs.declared.records.Join.{Join}
-use Rattle.task_machine.specs.declared.words.Status.{Status}
 use Rattle.task_machine.specs.declared.records.CallEnd.TheVariants as call_end
 use Rattle.task_machine.specs.declared.records.Caller.TheVariants as caller
 use Rattle.task_machine.specs.declared.records.Delivery.TheVariants as delivery

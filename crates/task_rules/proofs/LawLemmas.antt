@@ -3,26 +3,10 @@ use Rattle.std.proofs.Common.{ap, arith, cond, le_refl, le_trans, refl, subst, s
 use Rattle.std.specs.Prelude.{Bool, None, Option, Some, [], false, option_map, true, ℕ, ◌+◌, ◌==◌, ◌∷◌, ◌≡◌, ◌≤◌}
 use Rattle.task_machine.proofs.CommuteLemmas.{get-change}
 use Rattle.task_machine.proofs.MapLemmas.{get-insert_other}
-use Rattle.task_machine.specs.Core.{Core, State}
-use Rattle.task_machine.specs.Maps.{Records, change, get, get-remove, insert, remove}
-use Rattle.task_machine.specs.Write.{add_call, add_group, add_set, add_thread, add_work, count_work, free_handle, free_thread_handle, give_handle, give_result, give_thread_handle, on_call, on_instance, on_thread, on_work, push_high, remove_call, remove_group, remove_set, remove_thread, remove_work, set_backpressure, set_cancel_delivered, set_cancelled, set_course, set_do_not_enter, set_do_not_suspend, set_end, set_event, set_exited, set_how_far, set_join, set_own_event, set_phase, set_position, set_register, set_result, set_saved_callee, set_saved_own, set_script, set_stage, set_started, set_starting_published, set_subtask_handle, set_thread_handle, set_trapped, set_uninteresting, set_word, take_result}
-use Rattle.task_machine.specs.declared.label.Label.{Label}
-use Rattle.task_machine.specs.declared.outcome.Outcome.{Outcome}
-use Rattle.task_machine.specs.declared.records.Thread.{Thread}
-use Rattle.task_machine.specs.declared.records.Turn.{Turn}
+use Rattle.task_rules.proofs.Machine.{add_call, add_group, add_set, add_thread, add_work, AddGroup, after_placing, after_word, call_made, change, Core, count_work, CountWork, EachStep, free_handle, free_thread_handle, get, get-remove, give_handle, give_result, give_thread_handle, insert, KeptByRuns, Label, LaterBy, LaterCall, LaterWork, MakeThread, NeverFewer, on_call, on_instance, on_thread, on_work, Outcome, outcome_of_label, OutcomeEnds, OutcomeIsLast, OverIsLast, Places, poll_pends, popped, push_high, Records, remove, remove_call, remove_group, remove_set, remove_thread, remove_work, Run, RunGoesOn, RunsJoin, SameLimits, SameThread, set_backpressure, set_cancel_delivered, set_cancelled, set_course, set_do_not_enter, set_do_not_suspend, set_end, set_event, set_exited, set_how_far, set_join, set_own_event, set_phase, set_position, set_register, set_result, set_saved_callee, set_saved_own, set_script, set_stage, set_started, set_starting_published, set_subtask_handle, set_thread_handle, set_trapped, set_uninteresting, set_word, Setting, settled_turn, SetTrapped, State, Steady, Step, take_result, TakeHost, TakePush, Thread, Turn, TurnStep, with_handle, with_thread_handle, Word, work_queued}
 use Rattle.task_rules.proofs.ChainLemmas.{along}
 use Rattle.task_rules.proofs.PlacingLemmas.{Shifted, placing_shifted, popped_shifted, unplaced}
 use Rattle.task_rules.proofs.WalkSteps.{step_walks}
-use Rattle.task_rules.specs.Calls.{call_made, with_handle, with_thread_handle, work_queued}
-use Rattle.task_rules.specs.Laws.{EachStep, KeptByRuns, LaterBy, LaterCall, LaterWork, NeverFewer, OutcomeEnds, OutcomeIsLast, OverIsLast, RunGoesOn, RunsJoin, SameLimits, SameThread, Steady}
-use Rattle.task_rules.specs.Outcome.{outcome_of_label}
-use Rattle.task_rules.specs.Run.{Run}
-use Rattle.task_rules.specs.Stalled.{Setting}
-use Rattle.task_rules.specs.Step.{Step, TurnStep}
-use Rattle.task_rules.specs.Takes.{popped}
-use Rattle.task_rules.specs.Turns.{settled_turn}
-use Rattle.task_rules.specs.Words.{AddGroup, CountWork, MakeThread, Places, SetTrapped, TakeHost, TakePush, Word, after_placing, after_word}
-use Rattle.task_rules.specs.Works.{poll_pends}
 use Rattle.task_machine.specs.declared.records.Turn.TheVariants as turn
 
 -- ---- The end

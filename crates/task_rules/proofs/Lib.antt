@@ -1,3 +1,4 @@
+pub mod Machine
 pub mod LawLemmas
 pub mod PromotionLemmas
 pub mod ChainLemmas

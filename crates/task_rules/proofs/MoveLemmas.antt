@@ -3,26 +3,15 @@ use Rattle.std.proofs.Common.{◌∙◌, ap, arith, cond, refl, subst, sym}
 use Rattle.std.proofs.lemmas.Bool.Decides.{nat_tests}
 use Rattle.std.specs.Option.{option_map_or}
 use Rattle.std.specs.Prelude.{Bool, List, None, Option, Some, [], false, if◌then◌else◌, is_some, option_and_then, option_map, true, ℕ, ◌+◌, ◌==◌, ◌∷◌, ◌≡◌, ◌≤◌}
-use Rattle.task_machine.specs.declared.records.Place.{Place}
-use Rattle.task_machine.specs.declared.records.Thread.{Thread}
-use Rattle.task_machine.specs.declared.records.Why.{Why}
-use Rattle.task_machine.specs.declared.words.Mark.{Mark}
+use Rattle.task_rules.proofs.Machine.{Core, displaced, get-remove, HasPlace, held_why, held_why_of, is_callback_waiter, is_free, is_there, is_waiting_on, Mark, may_wake, one_if, Place, place_of, push_high, push_high_first, push_low, put_at, put_high, put_low, put_switch, released, released_one, ReleaseKeepsPlaces, RemovalKeepsPlaces, remove_thread, set_place, set_switch, StopKeepsPlaces, stopped, Thread, times, wake, WakeKeepsPlaces, waken_by, Why, why_of}
 use Rattle.task_machine.specs.declared.records.Delivery.TheVariants as delivery
 use Rattle.task_machine.specs.declared.words.Mark.TheVariants as mark
 use Rattle.task_machine.specs.declared.records.Place.TheVariants as place
 use Rattle.task_machine.specs.declared.records.Why.TheVariants as why
 use Rattle.task_machine.proofs.MapLemmas.{get-remove_other, get-remove_same}
-use Rattle.task_machine.specs.Core.{Core}
-use Rattle.task_machine.specs.Maps.{get-remove}
-use Rattle.task_machine.specs.Moves.{displaced, held_why_of, is_callback_waiter, may_wake, put_high, put_low, put_switch, released, released_one, stopped, wake, waken_by, why_of}
-use Rattle.task_machine.specs.Read.{held_why, is_waiting_on, place_of}
-use Rattle.task_machine.specs.Write.{push_high, push_high_first, push_low, remove_thread, set_place, set_switch}
 pub use Rattle.task_rules.proofs.StandLemmas.{nobody}
 use Rattle.task_rules.proofs.StandLemmas.{Loose, Nothing, Stand, Watch, adds_all, by_count, by_number, eq_refl, is_so, is_watched, loose_gone, loosened, not_eq, put_high_adds, put_low_adds, set_place_adds, set_place_is, set_place_there, watching, zero_one}
 use Rattle.task_rules.proofs.StopLemmas.{comes_stand, put_switch_stand, stopped_stand}
-use Rattle.task_rules.specs.Laws.{ReleaseKeepsPlaces, RemovalKeepsPlaces, StopKeepsPlaces, WakeKeepsPlaces, is_free}
-use Rattle.task_rules.specs.Places.{HasPlace, is_there, one_if, times}
-use Rattle.task_rules.specs.Words.{put_at}
 
 -- ---- Where other threads are
 

@@ -1,25 +1,14 @@
 -- Labels that say nothing of the end of a call.
 use Rattle.std.specs.Prelude.{Bool, None, Option, Some, false, is_none, not, true, ◌==◌, ◌≡◌}
 use Rattle.std.proofs.Common.{arith}
-use Rattle.task_machine.specs.declared.component.Component.{Component}
-use Rattle.task_machine.specs.declared.label.CallLabel.{CallLabel}
+use Rattle.task_rules.proofs.Machine.{CallLabel, Component, Core, end_answered, EndWords, handed_by, Label, LoopLabel, Main, MainLabel, Scene, SetLabel, SubtaskEnd, TakeLabel, TaskLabel, written_by}
 use Rattle.task_machine.specs.declared.label.CallLabel.TheVariants as call_label
-use Rattle.task_machine.specs.declared.label.Label.{Label}
 use Rattle.task_machine.specs.declared.label.Label.TheVariants as label
-use Rattle.task_machine.specs.declared.label.LoopLabel.{LoopLabel}
 use Rattle.task_machine.specs.declared.label.LoopLabel.TheVariants as loop_label
-use Rattle.task_machine.specs.declared.label.MainLabel.{MainLabel}
 use Rattle.task_machine.specs.declared.label.MainLabel.TheVariants as main_label
-use Rattle.task_machine.specs.declared.label.SetLabel.{SetLabel}
 use Rattle.task_machine.specs.declared.label.SetLabel.TheVariants as set_label
-use Rattle.task_machine.specs.declared.label.TakeLabel.{TakeLabel}
 use Rattle.task_machine.specs.declared.label.TakeLabel.TheVariants as take
-use Rattle.task_machine.specs.declared.label.TaskLabel.{TaskLabel}
 use Rattle.task_machine.specs.declared.label.TaskLabel.TheVariants as task_label
-use Rattle.task_machine.specs.Core.{Core, Main}
-use Rattle.task_rules.specs.Chains.{EndWords}
-use Rattle.task_rules.specs.Scenes.{Scene}
-use Rattle.task_rules.specs.SubtaskEnds.{SubtaskEnd, end_answered, handed_by, written_by}
 
 abbrev pub is_mute_main : MainLabel → Bool
 is_mute_main (main_label.Finish k v) = false

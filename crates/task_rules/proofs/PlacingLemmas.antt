@@ -3,24 +3,8 @@ use Rattle.std.proofs.Common.{ap, arith, ap₂, inl, inr, refl, subst, sym, ◌+
 use Rattle.std.specs.Option.{option_map_or}
 use Rattle.std.specs.Prelude.{Bool, List, None, Option, Some, [], false, if◌then◌else◌, option_map, true, ℕ, ◌∷◌, ◌≡◌}
 use Rattle.task_machine.proofs.MapLemmas.{change-field}
-use Rattle.task_machine.specs.Core.{Core}
-use Rattle.task_machine.specs.Maps.{get}
-use Rattle.task_machine.specs.Moves.{behind, behind_one, displaced, has_entry, less, newest, older, passed_on, promoted, put_high, put_low, put_switch, resumed_all, stopped, unqueued, why_of}
-use Rattle.task_machine.specs.Read.{callers_of, foot_of, instance_of, is_explicit, next_entry, no_callee, or_high, task_of}
-use Rattle.task_machine.specs.Write.{on_thread, push_high, push_high_first, push_low, set_callers, set_high, set_low, set_place, set_switch}
-use Rattle.task_machine.specs.declared.records.Call.{Call}
-use Rattle.task_machine.specs.declared.records.Entry.{Entry}
-use Rattle.task_machine.specs.declared.records.Place.{Place}
-use Rattle.task_machine.specs.declared.records.Thread.{Thread}
-use Rattle.task_machine.specs.declared.records.Why.{Why}
-use Rattle.task_machine.specs.declared.words.Mark.{Mark}
+use Rattle.task_rules.proofs.Machine.{after_placing, after_word, behind, behind_one, Call, callers_of, Chain, Core, displaced, Enter, Entry, foot_of, get, GoBehind, has_entry, instance_of, is_explicit, IsShift, less, Mark, may, MayLeave, MayShift, Move, newest, next_entry, no_callee, older, on_thread, or_high, passed_on, Place, placed_as, Places, Placing, Pop, popped, Promote, promoted, push_high, push_high_first, push_low, Put, put_high, put_low, put_switch, rest_of, resumed_all, Scene, set_callers, set_high, set_low, set_place, set_switch, Shifts, Stop, stopped, task_of, Then, Thread, unqueued, Why, why_of, Word}
 use Rattle.task_rules.proofs.ChainLemmas.{along}
-use Rattle.task_rules.specs.Allowed.{MayLeave, MayShift}
-use Rattle.task_rules.specs.Chains.{Chain, IsShift, Shifts, Then}
-use Rattle.task_rules.specs.Progress.{may}
-use Rattle.task_rules.specs.Scenes.{Scene}
-use Rattle.task_rules.specs.Takes.{popped, rest_of}
-use Rattle.task_rules.specs.Words.{Enter, GoBehind, Move, Places, Placing, Pop, Promote, Put, Stop, Word, after_placing, after_word, placed_as}
 use Rattle.task_machine.specs.declared.records.Entry.TheVariants as entry
 use Rattle.task_machine.specs.declared.records.Place.TheVariants as place
 use Rattle.task_machine.specs.declared.records.Why.TheVariants as why

@@ -2,14 +2,9 @@
 use Rattle.std.proofs.Common.{ap, arith, cond, inl, inr, refl}
 use Rattle.std.proofs.lemmas.Bool.Decides.{nat_tests}
 use Rattle.std.specs.Prelude.{Bool, List, None, Option, Some, [], false, if◌then◌else◌, is_some, not, true, ℕ, ◌||◌, ◌∷◌, ◌≡◌, ◌⊎◌}
-use Rattle.task_machine.specs.declared.records.Entry.{Entry}
+use Rattle.task_rules.proofs.Machine.{checked, CheckMovesOne, Core, Entry, first_entry, first_in, has_entry, is_entry_of, less, may_not_suspend, on_thread, promoted, promoted_first, promoted_unless, Promotes, PromotionMovesOne, set_high, set_low, set_place, set_switch, stand, Takes, unqueued, why_of}
 use Rattle.task_machine.specs.declared.records.Entry.TheVariants as entry
 use Rattle.task_machine.specs.declared.words.Mark.TheVariants as mark
-use Rattle.task_machine.specs.Core.{Core}
-use Rattle.task_machine.specs.Moves.{checked, first_entry, has_entry, less, promoted, promoted_first, promoted_unless, stand, unqueued, why_of}
-use Rattle.task_machine.specs.Read.{first_in, is_entry_of, may_not_suspend}
-use Rattle.task_machine.specs.Write.{on_thread, set_high, set_low, set_place, set_switch}
-use Rattle.task_rules.specs.Laws.{CheckMovesOne, Promotes, PromotionMovesOne, Takes}
 
 entry_is : (n : ℕ) (e : Entry) → is_entry_of n e ≡ true → e ≡ entry.Thread n
 entry_is n e h = grind (arith, nat_tests)

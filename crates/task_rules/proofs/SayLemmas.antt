@@ -4,19 +4,11 @@ use Rattle.std.specs.FinMap.Entries.{find as seek}
 use Rattle.std.specs.Option.{option_or}
 use Rattle.std.specs.Ordering.{nat_cmp}
 use Rattle.std.specs.Prelude.{List, [], find, map, ◌∷◌}
-use Rattle.task_machine.specs.Maps.{Records, get-remove, numbers, remove}
-use Rattle.task_machine.specs.Write.{take_result, on_work, set_cancelled, set_phase}
-use Rattle.task_rules.specs.SubtaskEnds.{finished_call, has_result}
-use Rattle.task_machine.specs.declared.records.Join.{Join}
-use Rattle.task_machine.specs.Write.{set_join, set_own_event}
+use Rattle.task_rules.proofs.Machine.{activated, advanced, answered, assigned, call_answered, call_resumes, call_returned, call_settled, cancel_aborts_host, cancel_takes_end, Choice, chosen, Core, end_answered, end_for, event_of, finished_call, get, get-remove, Gift, gift, gift_after_own, Given, given_for, group_settled, handed_by_event, handed_on, handed_out, has_result, instance_of, is_handed_end, Join, MemberGift, moved_to, NoGift, numbers, on_call, on_instance, on_thread, on_work, OwnEvent, OwnGift, packed, received, received_woken, Records, remove, remove_call, remove_group, set_cancelled, set_do_not_enter, set_event, set_given, set_how_far, set_join, set_own_event, set_phase, set_place, set_position, set_register, set_result, set_saved_callee, set_script, Status, status_code, Subtask, subtask_at, SubtaskEnd, take_result, taken, undelivered_end}
 use Rattle.std.proofs.Common.{ap, arith, refl, subst, sym, ◌∙◌}
 use Rattle.std.specs.Option.{option_map_or}
 use Rattle.std.specs.Prelude.{Bool, None, Option, Some, false, if◌then◌else◌, is_none, not, option_and_then, option_map, true, unwrap_or, ℕ, ◌&&◌, ◌==◌, ◌≡◌}
-use Rattle.task_machine.specs.declared.records.Subtask.{Subtask}
 use Rattle.task_machine.specs.declared.records.Subtask.TheVariants as subtask
-use Rattle.task_machine.specs.declared.words.Given.{Given}
-use Rattle.task_machine.specs.declared.words.OwnEvent.{OwnEvent}
-use Rattle.task_machine.specs.declared.words.Status.{Status}
 use Rattle.task_machine.specs.declared.words.Status.TheVariants as status
 use Rattle.task_machine.proofs.MapLemmas.{get-remove_same}
 use Rattle.std.proofs.Common.{arith}
@@ -24,19 +16,6 @@ use Rattle.std.proofs.lemmas.Bool.{and_parts}
 use Rattle.std.proofs.lemmas.Bool.Decides.{nat_tests}
 use Rattle.task_machine.proofs.CommuteLemmas.{get-change}
 use Rattle.task_rules.proofs.StopLemmas.{find_passes}
-use Rattle.task_machine.specs.Core.{Core}
-use Rattle.task_machine.specs.Labels.{Choice}
-use Rattle.task_machine.specs.Maps.{get}
-use Rattle.task_machine.specs.Moves.{Gift, MemberGift, NoGift, OwnGift, call_settled, gift, gift_after_own, given_for, group_settled, handed_on, taken}
-use Rattle.task_machine.specs.Read.{event_of, instance_of, subtask_at, undelivered_end}
-use Rattle.task_machine.specs.Statuses.{packed, status_code}
-use Rattle.task_machine.specs.Write.{on_call, on_instance, on_thread, remove_call, remove_group, set_do_not_enter, set_event, set_how_far, set_place, set_position, set_register, set_result, set_saved_callee, set_script}
-use Rattle.task_rules.specs.Calls.{answered, call_answered, call_resumes, call_returned}
-use Rattle.task_rules.specs.Cancels.{cancel_takes_end, cancel_aborts_host}
-use Rattle.task_rules.specs.Data.{advanced, assigned, moved_to}
-use Rattle.task_rules.specs.Sets.{chosen, handed_out, received, received_woken, set_given}
-use Rattle.task_rules.specs.SubtaskEnds.{SubtaskEnd, end_answered, end_for, handed_by_event, is_handed_end}
-use Rattle.task_rules.specs.Takes.{activated}
 
 -- ---- What an event hands out
 

@@ -1,20 +1,12 @@
 -- What the moves that put threads, and a stop, do to places and entries.
-use Rattle.task_machine.specs.declared.words.Mark.{Mark}
+use Rattle.task_rules.proofs.Machine.{behind, behind_one, callers_of, Core, displaced, entries, foot_from, foot_of, get-insert, HasPlace, is_at, is_at_switch, is_behind_of, is_fresh, is_there, is_under, Mark, newest, numbers, older, on_thread, one_if, passed_on, Place, place_of, push_high_first, put_high, put_switch, resumed_all, resumed_callers, says, set_callers, set_place, set_switch, size, stopped, switch_entries, times, under_of, Why, why_of}
 use Rattle.std.proofs.Common.{◌∙◌, ap, arith, le_refl, refl, subst, sym}
 use Rattle.std.proofs.lemmas.Bool.Decides.{nat_tests}
 use Rattle.std.specs.Prelude.{Bool, List, None, Option, Some, [], find, is_some, suc, true, zero, ℕ, ◌==◌, ◌∷◌, ◌≡◌, ◌≤◌}
-use Rattle.task_machine.specs.declared.records.Place.{Place}
-use Rattle.task_machine.specs.declared.records.Why.{Why}
 use Rattle.task_machine.specs.declared.words.Mark.TheVariants as mark
 use Rattle.task_machine.specs.declared.records.Place.TheVariants as place
 use Rattle.task_machine.specs.declared.records.Why.TheVariants as why
-use Rattle.task_machine.specs.Core.{Core}
-use Rattle.task_machine.specs.Maps.{get-insert, numbers, size}
-use Rattle.task_machine.specs.Moves.{behind, behind_one, displaced, newest, older, passed_on, put_high, put_switch, resumed_all, resumed_callers, stopped, why_of}
-use Rattle.task_machine.specs.Read.{callers_of, foot_from, foot_of, is_at, is_under, place_of, under_of}
-use Rattle.task_machine.specs.Write.{on_thread, push_high_first, set_callers, set_place, set_switch}
 use Rattle.task_rules.proofs.StandLemmas.{Adds, Drops, Given, Left, Loose, Stand, adds_given, adds_stand, by_count, callers_say, drops_stand, eq_refl, is_eq_of, left_loose, left_placed, moved_adds, once_or_not, plus_none, plus_one, put_high_adds, times-append, times-newest, zero_one, Watch, nobody, watching, is_so, is_watched, by_number, place_written, place_kept}
-use Rattle.task_rules.specs.Places.{HasPlace, is_at_switch, is_behind_of, is_there, one_if, says, switch_entries, times, entries, is_fresh}
 
 -- ---- What leaves every place and every entry of a thread alone
 

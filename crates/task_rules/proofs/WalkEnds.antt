@@ -6,20 +6,8 @@ use Rattle.std.proofs.Common.{arith}
 use Rattle.std.proofs.lemmas.Bool.Decides.{nat_tests}
 use Rattle.task_machine.proofs.CommuteLemmas.{get-change}
 use Rattle.task_machine.proofs.MapLemmas.{change-field}
-use Rattle.task_machine.specs.Core.{Core}
-use Rattle.task_machine.specs.Maps.{get}
-use Rattle.task_machine.specs.Read.{caller_of, end_of, goal_of, is_waiting_on, join_of, place_of}
-use Rattle.task_machine.specs.Write.{give_result, on_call, on_thread, set_end, set_register, set_result}
-use Rattle.task_machine.specs.declared.records.Call.{Call}
-use Rattle.task_machine.specs.declared.records.CallEnd.{CallEnd}
-use Rattle.task_machine.specs.declared.records.Caller.{Caller}
-use Rattle.task_machine.specs.declared.records.Goal.{Goal}
+use Rattle.task_rules.proofs.Machine.{Call, CallEnd, Caller, caller_of, cancelled, Core, end_of, get, give_result, GiveResult, Goal, goal_of, is_told, is_waiting_on, join_of, MayEnd, on_call, on_thread, place_of, result_given, returned, SaysEnd, Scene, set_end, set_register, set_result, SetEnd, SetRegister, SetResult, Stay, told}
 use Rattle.task_rules.proofs.WalkMoves.{Chosen, ToldTo, told_walks, word}
-use Rattle.task_rules.specs.Allowed.{MayEnd, SaysEnd}
-use Rattle.task_rules.specs.Chains.{Stay}
-use Rattle.task_rules.specs.Ends.{cancelled, is_told, result_given, returned, told}
-use Rattle.task_rules.specs.Scenes.{Scene}
-use Rattle.task_rules.specs.Words.{GiveResult, SetEnd, SetRegister, SetResult}
 use Rattle.task_machine.specs.declared.records.CallEnd.TheVariants as call_end
 use Rattle.task_machine.specs.declared.records.Caller.TheVariants as caller
 use Rattle.task_machine.specs.declared.records.Goal.TheVariants as goal

@@ -21,6 +21,7 @@ use Rattle.task_machine.specs.declared.records.Thread.{Thread}
 use Rattle.task_machine.specs.declared.records.Why.{Why}
 use Rattle.task_machine.specs.declared.words.Mark.{Mark}
 use Rattle.task_machine.specs.declared.words.Status.{Status}
+use Rattle.task_rules.proofs.Machine.{after_placing, after_word, blocked_on, call_group, call_settled, change, checked, chosen, Core, ended, exited_if, first_entry, free_thread_handle, freed_thread_handle, FreeThreadHandle, get, Gift, group_settled, handed_on, hands_on, held_why, held_why_of, HowFar, instance_of, interest_settled, is_at, is_blocked_on, is_callback_waiter, is_deletable, is_done_host, is_end, is_explicit, is_finished, is_group_done, is_stage_ended, is_told, is_waiter, is_waiting_on, IsOwn, IsRunner, Join, join_of, Lands, LandsAt, Leaves, Mark, may_hand_on, may_not_suspend, may_publish, may_tell, may_wake, may_wake_joined, MayCome, MayDeliver, MayLand, MayPut, MayTell, MemberGift, NoGift, NoWord, numbers, on_call, on_work, OwnGift, Place, place_of, Placing, Promote, promoted, promoted_first, promoted_unless, published, push_high, Put, put_at, put_high, Quits, Records, released, released_one, Releases, remove, remove_call, remove_group, remove_thread, RemoveCall, RemoveGroup, RemoveThread, same_subtask, SaysEnd, Scene, set_event, set_exited, set_how_far, set_uninteresting, SetCallEvent, SetCancelDelivered, SetExited, SetOwnEvent, Settles, SetUninteresting, Shifts, stage_of, Status, Stay, Stays, Stop, stopped, Subtask, taken, TakeWorkEvent, task_of, Tells, Then, Thread, thread_handle_of, told, Trip, unblocked, Unblocks, wake, wake_joined, wake_why, waken_by, Wakes, Why, Word, Work}
 use Rattle.task_rules.proofs.ChainLemmas.{join, weaken, shift_stays, settle_stays}
 use Rattle.task_rules.proofs.StopLemmas.{find_passes}
 use Rattle.task_rules.proofs.PlacingLemmas.{placed, placing_shifted}
@@ -32,7 +33,6 @@ use Rattle.task_rules.specs.Ends.{is_told, may_tell, told}
 use Rattle.task_rules.specs.Scenes.{Scene}
 use Rattle.task_rules.specs.Sets.{chosen}
 use Rattle.task_rules.specs.Words.{FreeThreadHandle, Placing, Promote, Put, RemoveCall, RemoveGroup, RemoveThread, SetCallEvent, SetCancelDelivered, SetExited, SetOwnEvent, SetUninteresting, TakeWorkEvent, Stop, Word, after_placing, after_word, put_at}
-use Rattle.task_machine.specs.declared.records.Turn.TheVariants as turn
 use Rattle.task_machine.specs.declared.records.Delivery.TheVariants as delivery
 use Rattle.task_machine.specs.declared.records.Join.TheVariants as join
 use Rattle.task_machine.specs.declared.records.Place.TheVariants as place

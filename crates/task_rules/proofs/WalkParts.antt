@@ -29,19 +29,11 @@ use Rattle.task_machine.specs.declared.records.Subtask.{Subtask}
 use Rattle.task_machine.specs.declared.records.Thread.{Thread}
 use Rattle.task_machine.specs.declared.words.Given.{Given}
 use Rattle.task_machine.specs.declared.words.Status.{Status}
+use Rattle.task_rules.proofs.Machine.{add_call, add_thread, advanced, after_placing, after_word, assigned, behind_one, behind_switch, Blocks, ByHandle, Call, call_clears_flag, call_instance, call_made, call_queues, call_resumes, call_stops, Callee, Caller, cancel_goes_behind, cancel_label, cancel_stops, cancel_takes_end, checked, Choice, chosen, Core, Enter, enter_runs, Entry, ExportKind, foot_of, free_handle, get, Gift, gift, give_thread_handle, Given, given_code, given_handle, given_result, Goal, goal_of, GoBehind, group_settled, has_entry, HasSet, HasSubtask, how_far_of, HowFar, instance_of, is_begun, is_blocked_on, is_direct, is_explicit, is_group_done, is_joined, is_running, IsNew, IsRunner, IsWithdrawn, Join, join_label, join_of, Leaves, less, less_switch, Made, MakeCall, may_not_suspend, MayCome, MayDeliver, MayJoin, MayMakeCall, MayRemoveWork, MayWithdraw, MemberGift, Mode, Move, moved_to, NameThread, new_call, new_thread, new_thread_handle, next_thread, NoGift, NoWord, on_call, on_instance, on_thread, on_work, OwnGift, Place, place_of, Put, put_back, put_switch, received, Records, registers_for, Remains, remove_group, remove_thread, remove_work, RemoveWork, saved_callee_of, says, SaysEnd, Scene, set_do_not_suspend, set_end, set_event, set_exited, set_given, set_high, set_how_far, set_join, set_low, set_place, set_position, set_register, set_saved_callee, set_saved_own, set_started, set_subtask_handle, set_switch, set_thread_handle, set_uninteresting, SetCallEvent, SetCallJoin, SetDoNotSuspend, SetEnd, SetExited, SetHowFar, SetRegister, SetSavedCallee, SetSavedOwn, SetStarted, settle_group_of, SetUninteresting, SetWorkJoin, Starts, Status, status_code, Stay, Stop, stopped, Subtask, subtask_at, subtask_handle, sync_sets_flag, TakeWorkEvent, task_of, Thread, thread_group, Trip, unqueued, wait_label, wait_stops, Waits, with_switch, with_thread_handle, Withdraw, withdrawn, work_deleted, work_group}
 use Rattle.task_rules.proofs.PlacingLemmas.{Shifted, placed, placing_shifted, shifted_after, shifted_explicit, shifted_made}
 use Rattle.task_rules.proofs.StandLemmas.{place_kept}
 use Rattle.task_rules.proofs.WalkMoves.{MayTake, checked_shifts, group_settled_walks, shifted, stopped_shifts, taken_walks, word, lands_at}
 use Rattle.task_rules.proofs.WalkTask.{advanced_walks, answered_walks, is_plain, is_still, running_moved, moved_passes, not_main}
-use Rattle.task_rules.specs.Allowed.{Blocks, ByHandle, HasSet, HasSubtask, IsNew, IsRunner, IsWithdrawn, Leaves, MayDeliver, MayJoin, MayMakeCall, MayRemoveWork, MayWithdraw, SaysEnd, Starts, Waits, MayCome, is_begun}
-use Rattle.task_rules.specs.Calls.{call_clears_flag, call_made, call_queues, call_resumes, call_stops, enter_runs, new_call, new_thread, next_thread, put_back, settle_group_of, sync_sets_flag, with_thread_handle, work_deleted, work_group}
-use Rattle.task_rules.specs.Cancels.{Mode, behind_switch, cancel_goes_behind, cancel_label, cancel_stops, cancel_takes_end}
-use Rattle.task_rules.specs.Chains.{NoWord, Stay, Trip, is_running, Remains}
-use Rattle.task_rules.specs.Places.{says}
-use Rattle.task_rules.specs.Scenes.{Scene}
-use Rattle.task_rules.specs.Scripts.{registers_for}
-use Rattle.task_rules.specs.Sets.{chosen, given_code, given_handle, given_result, received, set_given, wait_stops}
-use Rattle.task_rules.specs.Words.{Enter, GoBehind, MakeCall, Move, NameThread, Put, RemoveWork, SetCallEvent, SetCallJoin, SetDoNotSuspend, SetEnd, SetExited, SetHowFar, SetRegister, SetSavedCallee, SetSavedOwn, SetStarted, SetUninteresting, TakeWorkEvent, SetWorkJoin, Stop, Withdraw, after_word, after_placing}
 use Rattle.task_machine.specs.declared.component.ExportKind.TheVariants as kind
 use Rattle.task_machine.specs.declared.records.CallEnd.TheVariants as call_end
 use Rattle.task_machine.specs.declared.records.Caller.TheVariants as caller

@@ -2,54 +2,21 @@
 use Rattle.std.proofs.Common.{arith}
 use Rattle.std.proofs.lemmas.Bool.Decides.{nat_tests}
 use Rattle.task_machine.proofs.CommuteLemmas.{get-change}
-use Rattle.task_machine.specs.declared.records.Subtask.{Subtask}
+use Rattle.task_rules.proofs.Machine.{activated, activated_woken, admits, at_handle_limit, backpressure_of, begun_holder, Call, Choice, chosen, Core, delivered, delivery_row, end_for, EndWords, event_label, ExportKind, foot_of, get, Gift, gift, give_thread_handle, Given, given_for, Goes, handed_by, handed_by_event, handed_on, handed_out, HandsOut, held_label, holder_at_start, Holds, host_label, instance_of, is_begun, is_exit, is_explicit, is_free, is_holding, is_running, is_start, is_sync, is_told, IsLaid, kind_of, Label, LastWords, Main, Mark, may, may_hand_on, may_not_enter, may_tell, may_tell_starting, MayDeliver, MayMove, MemberGift, Move, moved_to, NameThread, NoGift, NoWord, on_call, on_instance, on_thread, outcome_of_label, own_delivered, own_gift_of, own_gift_only, own_or_nothing, OwnEvent, OwnGift, Place, place_of, published, Records, running, Runs, Scene, set_delivered, set_do_not_enter, set_event, set_given, set_how_far, set_place, set_position, set_script, set_started, set_starting_published, set_thread_handle, SetDoNotEnter, SetScript, SetStarted, SetStartingPublished, Setting, start_admitted, start_begins, start_holds, start_row, start_sets_flags, starting_is_published, starting_told, Status, Stay, stopped, Stops, Subtask, take_holds, take_label, taken, TakesEvent, taking, task_of, thread_taken, told, Turn, wait_again, WaitsAgain, was_started, WasReady, Why, with_thread_handle, written_by}
+use Rattle.task_machine.specs.declared.records.Delivery.{Delivery}
 use Rattle.task_machine.specs.declared.words.OwnEvent.TheVariants as own
 use Rattle.task_rules.proofs.MuteLemmas.{is_mute, mute_words, none_said}
 use Rattle.task_rules.proofs.SayLemmas.{activated_on_gone, given_says, HasNoEnd}
-use Rattle.task_rules.specs.Chains.{EndWords, HandsOut, TakesEvent, NoWord}
-use Rattle.task_rules.specs.SubtaskEnds.{end_for, handed_by, handed_by_event, written_by}
 use Rattle.task_machine.specs.declared.records.Subtask.TheVariants as subtask
-use Rattle.task_machine.specs.declared.words.Status.{Status}
 use Rattle.std.proofs.Common.{T, ap, cond, inl, inr, refl, subst, sym, ◌∙◌}
 use Rattle.std.specs.Option.{option_map_or}
 use Rattle.std.specs.Prelude.{Bool, None, Option, Some, false, if◌then◌else◌, is_none, is_some, not, true, unwrap_or, ℕ, ◌&&◌, ◌==◌, ◌||◌, ◌≡◌}
 use Rattle.task_machine.proofs.MapLemmas.{change-field}
-use Rattle.task_machine.specs.Core.{Core, Main}
-use Rattle.task_machine.specs.Labels.{Choice, event_label, held_label, host_label, take_label}
-use Rattle.task_machine.specs.Maps.{get, Records}
-use Rattle.task_machine.specs.Moves.{Gift, MemberGift, NoGift, OwnGift, gift, given_for, handed_on, may_hand_on, own_gift_of, own_gift_only, own_or_nothing, published, stopped, taken}
-use Rattle.task_machine.specs.Read.{admits, at_handle_limit, backpressure_of, foot_of, instance_of, is_explicit, is_holding, is_sync, kind_of, may_not_enter, place_of, task_of, was_started}
-use Rattle.task_machine.specs.Write.{give_thread_handle, on_call, on_instance, on_thread, set_do_not_enter, set_event, set_how_far, set_place, set_position, set_script, set_started, set_starting_published, set_thread_handle, taking}
-use Rattle.task_machine.specs.declared.component.ExportKind.{ExportKind}
-use Rattle.task_machine.specs.declared.label.Label.{Label}
-use Rattle.task_machine.specs.declared.records.Call.{Call}
-use Rattle.task_machine.specs.declared.records.Delivery.{Delivery}
-use Rattle.task_machine.specs.declared.records.Place.{Place}
-use Rattle.task_machine.specs.declared.records.Turn.{Turn}
-use Rattle.task_machine.specs.declared.records.Why.{Why}
-use Rattle.task_machine.specs.declared.words.Given.{Given}
-use Rattle.task_machine.specs.declared.words.Mark.{Mark}
-use Rattle.task_machine.specs.declared.words.OwnEvent.{OwnEvent}
-use Rattle.task_machine.specs.declared.words.Status.{Status}
 use Rattle.task_rules.proofs.PlacingLemmas.{shifted_instance, shifted_task, shifts_shifted, shifted_calls}
 use Rattle.task_rules.proofs.WalkEnds.{SameCall, still_told_to, unanswered}
 use Rattle.task_rules.proofs.WalkMoves.{Chosen, MayTake, ToldTo, handed_on_shifts, lands, published_call_shifts, shifted, stopped_shifts, taken_walks, told_to, told_walks, walk_if, word}
 use Rattle.task_rules.proofs.WalkParts.{gift_is, set_given_walks, sync_sets_flag_walks, started_begun, flag_calls}
 use Rattle.task_rules.proofs.WalkTask.{Leads, may_leads, moved_to_walks, none_is_some, not_main, one_runner, or_never_leads, running_moved, seen, trap_if_leads}
-use Rattle.task_rules.specs.Allowed.{Holds, MayDeliver, MayMove, Runs, WaitsAgain, WasReady, is_exit, IsLaid, is_begun}
-use Rattle.task_rules.specs.Calls.{with_thread_handle}
-use Rattle.task_rules.specs.Chains.{LastWords, Stay, is_running}
-use Rattle.task_rules.specs.Data.{moved_to}
-use Rattle.task_rules.specs.Ends.{is_told, may_tell, told}
-use Rattle.task_rules.specs.Laws.{is_free}
-use Rattle.task_rules.specs.Once.{begun_holder, holder_at_start, is_start}
-use Rattle.task_rules.specs.Outcome.{outcome_of_label}
-use Rattle.task_rules.specs.Progress.{Goes, Stops, may}
-use Rattle.task_rules.specs.Scenes.{Scene}
-use Rattle.task_rules.specs.Sets.{chosen, handed_out, set_given}
-use Rattle.task_rules.specs.Stalled.{Setting}
-use Rattle.task_rules.specs.Takes.{activated, activated_woken, delivered, delivery_row, may_tell_starting, own_delivered, running, set_delivered, start_admitted, start_begins, start_holds, start_row, start_sets_flags, starting_is_published, starting_told, take_holds, thread_taken, wait_again}
-use Rattle.task_rules.specs.Words.{Move, NameThread, SetDoNotEnter, SetScript, SetStarted, SetStartingPublished}
 use Rattle.task_machine.specs.declared.component.ExportKind.TheVariants as kind
 use Rattle.task_machine.specs.declared.label.Label.TheVariants as label
 use Rattle.task_machine.specs.declared.label.TakeLabel.TheVariants as take

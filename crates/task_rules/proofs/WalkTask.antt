@@ -2,52 +2,21 @@
 use Rattle.task_rules.proofs.SayLemmas.{said_is}
 use Rattle.task_rules.proofs.MuteLemmas.{is_mute, mute_words, none_said}
 use Rattle.task_rules.proofs.WalkEnds.{cancelled_rest, returned_rest, SameCall, cancelled_walks, returned_walks, still_told_to, unanswered}
-use Rattle.task_rules.specs.Allowed.{SaysEnd, AwaitsEvent, BySetHandle, ComesAgain, EndsActivation, Exits, FindsEvent, GivesUp, HasSet, IsRunner, Leaves, MayBar, MayEnd, MayOwe, ReturnsNow, Uncovers, is_exit}
-use Rattle.task_rules.specs.Chains.{EndWords, HandsOut, WritesToo, is_over, EndsByExit, EndsCall, EndsOwn, Writes, WritesCall, Remains, GoesBack, LastWords, NoWord, Stay, Trip, Walk, is_running}
+use Rattle.task_rules.proofs.Machine.{advanced, answered, assigned, AwaitsEvent, backpressure_of, begun_holder, blocking_exit_row, blocking_exits, BySetHandle, Call, CallEnd, cancel_was_delivered, change, checked, Choice, code_exits, code_finds, code_kind_row, code_row, code_stops, code_wait_row, code_waits, code_yields, ComesAgain, Component, Core, data_row, direct_exit_to, direct_exits, end_for, end_reopens, ended, ends_activation, EndsActivation, EndsByExit, EndsCall, EndsOwn, EndWords, exit_label, exit_restores, exit_row_for, exit_stops, Exits, ExportKind, Fails, FindsEvent, foot_of, get, GivesUp, goal_of, Goes, GoesBack, handed_by, HandsOut, has_ended, has_event_for, HasSet, held_by_flag, holder_at_exit, implicit_exit_row, instance_of, is_async_lifted, is_at, is_code_op, is_direct, is_ending_exit, is_exit, is_explicit, is_holding, is_over, is_running, is_under, IsRunner, kind_exit_row, kind_of, Label, LastWords, Leaves, leaves_no_result, Main, may, may_tell, MayBar, MayEnd, MayOwe, Move, moved_to, Never, NoWord, numbers, on_call, on_instance, on_thread, op_in, or_never, or_trap, Ordered, outcome_of_label, own_event_of, own_or_none, OwnEvent, passes_after_return, passes_after_stop, passes_check, Place, place_of, position_of, Progress, Put, Records, register_of, Remains, ret_label, returned, returned_holder, ReturnsNow, saved_own_of, SaysEnd, Scene, script_of, set_at, set_backpressure, set_do_not_enter, set_do_not_suspend, set_end, set_how_far, set_place, SetBackpressure, SetDoNotEnter, SetDoNotSuspend, SetEnd, SetHowFar, SetOwnEvent, SetPosition, SetRegister, SetSavedCallee, Setting, SetWord, skip_row, skipped, Status, Stay, stopped, Stops, stored, Subtask, sync_exit_row, sync_exits, task_cancel_label, task_end, task_of, Thread, thread_exit_row, Trap, trap_if, Traps, Trip, Turn, Uncovers, under_of, value_of, Walk, Writes, WritesCall, WritesToo, written_by, written_by_exit}
+use Rattle.task_machine.specs.declared.op.DataOp.{DataOp}
+use Rattle.task_machine.specs.declared.op.TaskOp.{TaskOp}
+use Rattle.task_rules.specs.Task.{dec_from, dec_lowers, dec_opens, inc_raises, inc_row, ret_done, ret_row, task_cancel_done, task_cancel_row, task_row}
 use Rattle.task_rules.proofs.ChainLemmas.{trip_walk, stay_walk}
-use Rattle.task_rules.specs.SubtaskEnds.{end_for, handed_by, is_ending_exit, task_end, written_by, written_by_exit}
 use Rattle.std.proofs.Common.{arith}
 use Rattle.std.proofs.lemmas.Bool.Decides.{nat_tests}
-use Rattle.task_machine.specs.declared.records.Subtask.{Subtask}
-use Rattle.task_machine.specs.declared.words.Status.{Status}
-use Rattle.task_machine.specs.declared.records.CallEnd.{CallEnd}
-use Rattle.task_machine.specs.Write.{set_end, on_call, on_instance, on_thread, set_backpressure, set_do_not_enter, set_do_not_suspend, set_how_far, set_place}
 use Rattle.task_machine.proofs.MapLemmas.{change-field}
 use Rattle.std.proofs.Common.{T, ap, inl, inr, length, refl, subst, suc, sym, ◌-◌, ◌∙◌, ◌⊎◌, ap₂}
 use Rattle.std.specs.Option.{option_map_or}
 use Rattle.std.specs.Prelude.{Bool, List, None, Option, Some, false, if◌then◌else◌, is_none, min, nat_le, nat_lt, not, option_map, true, unwrap_or, zero, ℕ, ◌%◌, ◌&&◌, ◌*◌, ◌+◌, ◌/◌, ◌==◌, ◌≡◌, ◌||◌}
 use Rattle.task_machine.proofs.CommuteLemmas.{get-change}
-use Rattle.task_machine.specs.Core.{Core, Main}
-use Rattle.task_machine.specs.Labels.{Choice, exit_label, ret_label, task_cancel_label}
-use Rattle.task_machine.specs.Maps.{Records, change, get, numbers}
-use Rattle.task_machine.specs.Moves.{checked, ended, passes_check, stopped}
-use Rattle.task_machine.specs.Read.{backpressure_of, cancel_was_delivered, foot_of, goal_of, has_ended, instance_of, is_async_lifted, is_at, is_direct, is_explicit, is_holding, is_under, kind_of, own_event_of, place_of, position_of, register_of, saved_own_of, set_at, task_of, under_of}
-use Rattle.task_machine.specs.declared.component.Component.{Component}
-use Rattle.task_machine.specs.declared.component.ExportKind.{ExportKind}
-use Rattle.task_machine.specs.declared.label.Label.{Label}
-use Rattle.task_machine.specs.declared.op.DataOp.{DataOp}
-use Rattle.task_machine.specs.declared.op.TaskOp.{TaskOp}
-use Rattle.task_machine.specs.declared.records.Call.{Call}
-use Rattle.task_machine.specs.declared.records.Place.{Place}
-use Rattle.task_machine.specs.declared.records.Thread.{Thread}
-use Rattle.task_machine.specs.declared.records.Turn.{Turn}
-use Rattle.task_machine.specs.declared.trap.Trap.{Trap}
-use Rattle.task_machine.specs.declared.words.OwnEvent.{OwnEvent}
 use Rattle.task_rules.proofs.StopLemmas.{find_passes}
 use Rattle.task_rules.proofs.PlacingLemmas.{Shifted, shifted_calls, shifted_task, shifts_shifted, placing_shifted}
 use Rattle.task_rules.proofs.WalkMoves.{Chosen, ToldTo, checked_shifts, chosen_released, ended_gone, ended_walks, exits_trip, lands, released_shifts, shifted, stopped_shifts, told_to, word}
-use Rattle.task_rules.specs.Calls.{answered}
-use Rattle.task_rules.specs.Data.{advanced, assigned, data_row, moved_to, skip_row, skipped, stored}
-use Rattle.task_rules.specs.Ends.{blocking_exit_row, blocking_exits, code_exits, code_finds, code_kind_row, code_row, code_stops, code_wait_row, code_waits, code_yields, direct_exit_to, direct_exits, end_reopens, exit_restores, exit_row_for, exit_stops, has_event_for, held_by_flag, implicit_exit_row, kind_exit_row, leaves_no_result, may_tell, own_or_none, passes_after_return, passes_after_stop, returned, sync_exit_row, sync_exits, thread_exit_row}
-use Rattle.task_rules.specs.Once.{begun_holder, holder_at_exit, returned_holder}
-use Rattle.task_rules.specs.OpParts.{ends_activation, is_code_op}
-use Rattle.task_rules.specs.Outcome.{outcome_of_label}
-use Rattle.task_rules.specs.Progress.{Fails, Goes, Never, Ordered, Progress, Stops, Traps, may, or_never, or_trap, trap_if}
-use Rattle.task_rules.specs.Scenes.{Scene, op_in}
-use Rattle.task_rules.specs.Scripts.{script_of, value_of}
-use Rattle.task_rules.specs.Stalled.{Setting}
-use Rattle.task_rules.specs.Task.{dec_from, dec_lowers, dec_opens, inc_raises, inc_row, ret_done, ret_row, task_cancel_done, task_cancel_row, task_row}
-use Rattle.task_rules.specs.Words.{Move, Put, SetBackpressure, SetDoNotEnter, SetDoNotSuspend, SetEnd, SetHowFar, SetOwnEvent, SetPosition, SetRegister, SetSavedCallee, SetWord}
 use Rattle.task_machine.specs.declared.words.Status.TheVariants as status
 use Rattle.task_machine.specs.declared.component.ExportKind.TheVariants as kind
 use Rattle.task_machine.specs.declared.label.CallLabel.TheVariants as call_label
