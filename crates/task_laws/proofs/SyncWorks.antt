@@ -1,32 +1,18 @@
 -- Sync calls of hosts: along the words of a step the work of a thread inside one is the thread's.
 use Rattle.task_machine.proofs.CommuteLemmas.{get-change}
 use Rattle.std.specs.Option.{option_map_or}
-use Rattle.task_machine.specs.Maps.{get, get-empty, get-remove, get-insert}
-use Rattle.task_machine.specs.declared.records.Thread.{Thread}
-use Rattle.task_machine.specs.declared.records.Work.{Work}
-use Rattle.task_rules.specs.Works.{has_end, poll_pends}
-use Rattle.task_rules.specs.Calls.{call_made, new_work, next_work, with_handle, with_thread_handle, work_queued}
-use Rattle.task_machine.specs.Write.{add_call, add_group, add_set, add_thread, add_work, count_work, free_handle, free_thread_handle, give_handle, give_result, give_thread_handle, on_call, on_instance, on_thread, on_work, push_high, remove_call, remove_group, remove_set, remove_thread, remove_work, set_backpressure, set_cancel_delivered, set_cancelled, set_course, set_do_not_enter, set_do_not_suspend, set_end, set_event, set_exited, set_high, set_how_far, set_join, set_low, set_own_event, set_phase, set_position, set_register, set_result, set_saved_callee, set_saved_own, set_script, set_stage, set_started, set_starting_published, set_subtask_handle, set_switch, set_thread_handle, set_trapped, set_uninteresting, set_word, take_result}
+use Rattle.task_rules.proofs.Machine.{add_call, add_group, add_set, add_thread, add_work, after_word, Allowed, call_made, Core, count_work, free_handle, free_thread_handle, fresh, get, get-empty, get-insert, get-remove, give_handle, give_result, give_thread_handle, how_far_of, HowFar, instance_of, Mark, MayCome, MayRemoveWork, on_call, on_instance, on_thread, on_work, poll_pends, popped, push_high, remove_call, remove_group, remove_set, remove_thread, remove_work, RemoveWork, Scene, set_backpressure, set_cancel_delivered, set_cancelled, set_course, set_do_not_enter, set_do_not_suspend, set_end, set_event, set_exited, set_high, set_how_far, set_join, set_low, set_own_event, set_phase, set_position, set_register, set_result, set_saved_callee, set_saved_own, set_script, set_stage, set_started, set_starting_published, set_subtask_handle, set_switch, set_thread_handle, set_trapped, set_uninteresting, set_word, take_result, TakeHost, TakePush, Thread, with_handle, with_thread_handle, Word, Work, work_caller_of, work_queued}
 use Rattle.std.proofs.lemmas.Bool.Decides.{nat_tests}
 use Rattle.task_laws.proofs.Basics.{no_way, too_high}
 use Rattle.task_laws.proofs.CallsCame.{op_came}
 use Rattle.task_laws.proofs.NamedWorks.{NamesNoSync, caller_is}
 use Rattle.task_laws.proofs.Works.{Doing, WorksGo, WorksHold, doing, doing_of}
 use Rattle.task_laws.specs.Ends.{MayBeAborted, is_sync_work}
-use Rattle.task_machine.specs.Core.{Core, fresh}
-use Rattle.task_machine.specs.Read.{how_far_of, instance_of, subtask_at, work_caller_of}
-use Rattle.task_machine.specs.declared.records.HowFar.{HowFar}
 use Rattle.task_machine.specs.declared.records.HowFar.TheVariants as how_far
 use Rattle.task_machine.specs.declared.records.Subtask.TheVariants as subtask
-use Rattle.task_machine.specs.declared.records.WorkCaller.{WorkCaller}
 use Rattle.task_machine.specs.declared.records.WorkCaller.TheVariants as work_caller
-use Rattle.task_machine.specs.declared.words.Mark.{Mark}
 use Rattle.task_machine.specs.declared.words.Mark.TheVariants as mark
 use Rattle.task_rules.proofs.StandLemmas.{by_number}
-use Rattle.task_rules.specs.Allowed.{Allowed, MayCome, MayRemoveWork}
-use Rattle.task_rules.specs.Scenes.{Scene}
-use Rattle.task_rules.specs.Takes.{popped}
-use Rattle.task_rules.specs.Words.{RemoveWork, TakeHost, TakePush, Word, after_word}
 use Rattle.std.proofs.Common.{ap, arith, inl, inr, refl, subst, sym, ◌∙◌, ⊎_elim, option_map}
 use Rattle.std.specs.Prelude.{Bool, None, Option, Some, false, is_some, true, unwrap_or, ℕ, ◌≡◌, ◌≤◌, ◌⊎◌}
 

@@ -1,9 +1,6 @@
 -- A thread inside a sync call of a host waits for its work, or that is done; and host works have their entries: along the words of a step.
-use Rattle.task_machine.specs.declared.records.Made.{Made}
+use Rattle.task_rules.proofs.Machine.{after_placing, after_word, Allowed, behind_one, Collapses, Core, Departs, EndsOver, Enter, get, GoBehind, GoesBack, how_far_of, instance_of, is_stage_ended, IsFall, IsRunner, IsSettling, Label, Lands, LandsAt, Made, MayCome, MayLand, MayRemoveWork, Move, Place, place_of, Places, Placing, Pop, Promote, push_high, push_low, Put, put_high, put_low, Quits, Remains, RemoveThread, Scene, scene_of, set_callers, set_place, SetHowFar, Setting, Settles, stage_of, State, Stay, Stop, Subtask, subtask_at, subtask_ended, subtask_handle, Thread, Trip, Walked, Word, Work}
 use Rattle.task_machine.specs.declared.records.Stage.TheVariants as stage
-use Rattle.task_machine.specs.declared.records.Work.{Work}
-use Rattle.task_rules.specs.Stalled.{Setting}
-use Rattle.task_machine.specs.declared.label.Label.{Label}
 use Rattle.task_places.proofs.PlaceSteps.{Reads, Withdrawable, step_by}
 use Rattle.task_rules.proofs.PlacingLemmas.{placing_shifted, SameWorks}
 use Rattle.task_rules.proofs.MoveLemmas.{is_busy}
@@ -13,26 +10,14 @@ use Rattle.std.specs.Option.{option_map_or}
 use Rattle.std.specs.Prelude.{Bool, None, Option, Some, [], false, is_none, is_some, option_map, true, ℕ, ◌==◌, ◌≡◌, ◌≤◌, ◌⊎◌}
 use Rattle.task_laws.proofs.CallsCame.{IsBeside, IsFirst, IsGone, IsSame, ThreadAfter, thread_came}
 use Rattle.task_laws.specs.Order.{HostsAwaited, WorksQueued, InPlace}
-use Rattle.task_machine.specs.Core.{Core, State}
-use Rattle.task_machine.specs.Maps.{get}
-use Rattle.task_machine.specs.Moves.{behind_one, put_high, put_low}
-use Rattle.task_machine.specs.Read.{how_far_of, is_stage_ended, place_of, stage_of, subtask_ended, subtask_handle, subtask_at, instance_of}
-use Rattle.task_machine.specs.Write.{push_high, push_low, set_callers, set_place}
 use Rattle.task_machine.specs.declared.records.HowFar.TheVariants as how_far
-use Rattle.task_machine.specs.declared.records.Place.{Place}
 use Rattle.task_machine.specs.declared.records.Place.TheVariants as place
-use Rattle.task_machine.specs.declared.records.Subtask.{Subtask}
 use Rattle.task_machine.specs.declared.records.Subtask.TheVariants as subtask
-use Rattle.task_machine.specs.declared.records.Thread.{Thread}
 use Rattle.task_machine.specs.declared.words.Mark.TheVariants as mark
 use Rattle.task_places.proofs.PlaceLaw.{Frame, no_way, stay_word, stuck_word, watch, move_runner, exits, yield_runner}
 use Rattle.task_places.proofs.WorksQueued.{ended_word, works_word, made_works_word, others_move}
 use Rattle.task_rules.proofs.ChainLemmas.{along, fall_allowed, land_allowed, stays_allowed, settle_stays}
 use Rattle.task_rules.proofs.StandLemmas.{Stand, by_number, place_kept}
-use Rattle.task_rules.specs.Allowed.{Allowed, Departs, EndsOver, IsRunner, MayLand, MayRemoveWork, MayCome, IsFall, IsSettling}
-use Rattle.task_rules.specs.Chains.{Collapses, GoesBack, Lands, LandsAt, Quits, Remains, Stay, Trip, Settles, Walked}
-use Rattle.task_rules.specs.Scenes.{Scene, scene_of}
-use Rattle.task_rules.specs.Words.{Enter, GoBehind, Move, Places, Placing, Pop, Promote, Put, RemoveThread, SetHowFar, Stop, Word, after_placing, after_word}
 
 -- a blocked thread stays, or the work is done, where the word is a change of places
 abbrev Stuck : Word → Core → Type 0

@@ -1,9 +1,7 @@
 -- Each step owes of the ends what it should, and so each run has each end once.
 use Rattle.task_laws.proofs.NamedWorks.{NamesNoSync, abort_kept, caller_is, names_word, opening_names}
-use Rattle.task_rules.specs.Once.{written}
-use Rattle.task_machine.specs.declared.records.Subtask.{Subtask}
+use Rattle.task_rules.proofs.Machine.{AbortsOwn, base_at, Call, Core, end_for, Entry, fresh, get, get-empty, how_far_of, instance_of, is_spawn, is_spawn_caller, is_stage_ended, IsRunner, Label, Main, MainPlace, Mark, next_entry, opening, Place, place_of, ProgramAborts, runner_at, SameMain, Scene, scene_of, ScriptAborts, Scripted, Setting, spawned_at, stage_of, State, Status, Step, Subtask, subtask_at, task_of, thread_of_entry, Turn, undelivered_end, Unscripted, Walked, Work, work_caller_of, written}
 use Rattle.std.proofs.Common.{ap, refl, subst, sym, ◌∙◌, inl, inr, le_refl, ◌++◌, arith, ⊎_elim}
-use Rattle.task_rules.proofs.Machine.{AbortsOwn, base_at, Call, Core, end_for, Entry, fresh, get, get-empty, how_far_of, instance_of, is_spawn, is_spawn_caller, is_stage_ended, IsRunner, Label, Main, MainPlace, Mark, next_entry, opening, Place, place_of, ProgramAborts, runner_at, SameMain, Scene, scene_of, ScriptAborts, Scripted, Setting, spawned_at, stage_of, State, Status, Step, Subtask, subtask_at, task_of, thread_of_entry, Turn, undelivered_end, Unscripted, Walked, Work, work_caller_of, WorkCaller, written}
 use Rattle.std.specs.Option.{option_map_or}
 use Rattle.std.specs.Prelude.{Bool, None, Option, Some, false, is_some, option_and_then, option_map, true, ℕ, ◌≡◌, ◌≤◌, ◌⊎◌, ◌∷◌, unwrap_or, [], slice_get, zero, suc, ◌-◌, ◌&&◌}
 use Rattle.task_laws.proofs.Basics.{no_way}
@@ -17,8 +15,6 @@ use Rattle.task_laws.proofs.HostEnds.{Answered, host_step}
 use Rattle.task_laws.proofs.SceneLemmas.{base_is, runner_there}
 use Rattle.task_laws.specs.Ends.{is_sync_work, NamedCallsThere, MayBeAborted, SyncUnnamed}
 use Rattle.task_laws.proofs.SyncWorks.{CallersKnown, callers_word, opening_callers}
-use Rattle.task_machine.specs.declared.records.WorkCaller.{WorkCaller}
-use Rattle.task_laws.specs.Ends.{EndsFound, Waited}
 use Rattle.task_laws.proofs.Works.{AbortsNoSync, Doing, WorksGo, WorksHold, doing, doing_of, is_late, stage_ended, opening_works, before_step, first_works, works_word}
 use Rattle.task_rules.proofs.WalkSteps.{step_walks}
 use Rattle.task_laws.specs.Order.{InOrder}

@@ -1,7 +1,6 @@
 -- A state in order: each opening state is, and each step leads from one to one.
-use Rattle.task_machine.specs.declared.records.Work.{Work}
-use Rattle.task_places.proofs.HostsAwaited.{step_works}
 use Rattle.task_rules.proofs.Machine.{ByHandle, ByOp, Call, call_instance, Core, empty, fresh, get, get-empty, HasSubtask, instance_of, is_fresh, is_there, IsRunner, Label, Main, opening, Place, place_of, Placed, Run, Scene, scene_of, Setting, State, Steady, task_of, Thread, Walk, Walked, was_started, Work}
+use Rattle.task_places.proofs.HostsAwaited.{step_works}
 use Rattle.task_places.proofs.WorksQueued.{works_word}
 use Rattle.task_places.proofs.Directs.{DirectsRun, directs_on_top, directs_word}
 use Rattle.task_machine.specs.declared.records.Subtask.TheVariants as subtask
@@ -21,11 +20,6 @@ use Rattle.task_laws.proofs.SetHandles.{opening_sets, sets_named_word}
 use Rattle.task_laws.proofs.CallsLaw.{CallsHold}
 use Rattle.task_laws.proofs.CallsSteps.{base_out, of_base, opening_holds, plain, plain_scene, step_goes}
 use Rattle.task_laws.specs.Order.{CallsNamed, InOrder, InPlace, Numbered, OpeningInOrder, SetsNamed, StartsAwaited, StepInOrder, WasCall, CallsThere, MakesFew, Strands, WaitsAtHome, set_of_op, set_of_place, StepsMakeFew, JoinsNamed, DirectsOnTop, WorksQueued, HostsAwaited}
-use Rattle.task_machine.specs.Core.{Core, Main, State, fresh}
-use Rattle.task_machine.specs.Maps.{empty, get, get-empty}
-use Rattle.task_machine.specs.Read.{place_of, instance_of, call_instance, task_of, was_started}
-use Rattle.task_machine.specs.declared.label.Label.{Label}
-use Rattle.task_machine.specs.declared.records.Call.{Call}
 use Rattle.task_machine.specs.declared.records.HowFar.TheVariants as how_far
 use Rattle.task_places.proofs.PlaceLaw.{Arrives}
 use Rattle.task_places.proofs.PlaceSteps.{Withdrawable, in_place, step_arrives}

@@ -1,21 +1,10 @@
 -- Where each thread is along the words of a step: each has its place, and one that waits for its start still does, or its call has begun.
-use Rattle.task_machine.specs.declared.records.Subtask.{Subtask}
+use Rattle.task_rules.proofs.Machine.{add_call, add_group, add_set, add_work, after_placing, after_word, AwaitsEvent, behind_one, Blocks, Call, call_made, Collapses, Core, count_work, Departs, EndsOver, Enter, entries, Falls, FinishWork, free_handle, free_thread_handle, get, give_handle, give_result, give_thread_handle, GoBehind, GoesBack, has_entry, HasPlace, HasSubtask, Holds, HowFar, is_at_high, is_at_low, is_at_switch, is_begun, is_blocked_on, is_done_host, is_explicit, is_for_start, is_free, is_fresh, is_there, is_under, IsFall, IsFoot, IsRunner, IsSettling, Lands, LandsAt, LastWords, Leaves, MakeCall, MakeThread, Mark, MayGo, MayLand, MayMove, MayPut, MayYield, Move, NameThread, new_call, new_thread, new_thread_handle, next_thread, on_call, on_instance, on_thread, on_work, Place, place_of, Places, Placing, poll_pends, Pop, Promote, promoted, push_high, Put, put_high, put_low, QueueWork, Quits, registers_for, Remains, remove_call, remove_group, remove_set, remove_thread, remove_work, RemoveCall, RemoveGroup, RemoveThread, Runs, says, Scene, set_backpressure, set_cancel_delivered, set_cancelled, set_course, set_do_not_enter, set_do_not_suspend, set_end, set_event, set_exited, set_how_far, set_join, set_own_event, set_phase, set_place, set_position, set_register, set_result, set_saved_callee, set_saved_own, set_script, set_stage, set_started, set_starting_published, set_subtask_handle, set_thread_handle, set_trapped, set_uninteresting, set_word, SetHowFar, SetPosition, SetRegister, SetSavedCallee, SetSavedOwn, SetScript, Settles, SetTrapped, SetUninteresting, Stay, Stays, Stop, Subtask, Suspends, switch_entries, take_result, TakeHost, TakePush, task_of, Thread, times, Trip, Turn, Uncovers, Waits, WaitsAgain, was_started, Why, with_handle, with_thread_handle, Withdraw, Word, work_queued}
 use Rattle.task_rules.proofs.WalkMoves.{blocked_place}
 use Rattle.std.proofs.lemmas.Bool.Decides.{nat_tests}
-use Rattle.task_rules.proofs.Machine.{add_call, add_group, add_set, add_work, after_placing, after_word, AwaitsEvent, behind_one, Blocks, Call, call_made, Collapses, Core, count_work, Departs, EndsOver, Enter, entries, Falls, FinishWork, free_handle, free_thread_handle, get, give_handle, give_result, give_thread_handle, GoBehind, GoesBack, has_entry, HasPlace, HasSubtask, Holds, HowFar, is_at_high, is_at_low, is_at_switch, is_begun, is_explicit, is_for_start, is_free, is_fresh, is_there, is_under, IsFall, IsFoot, IsRunner, IsSettling, Lands, LandsAt, LastWords, Leaves, MakeCall, MakeThread, Mark, MayGo, MayLand, MayMove, MayPut, MayYield, Move, NameThread, new_call, new_thread, new_thread_handle, next_thread, on_call, on_instance, on_thread, on_work, Place, place_of, Places, Placing, poll_pends, Pop, Promote, promoted, push_high, Put, put_high, put_low, QueueWork, Quits, registers_for, Remains, remove_call, remove_group, remove_set, remove_thread, remove_work, RemoveCall, RemoveGroup, RemoveThread, Runs, says, Scene, set_backpressure, set_cancel_delivered, set_cancelled, set_course, set_do_not_enter, set_do_not_suspend, set_end, set_event, set_exited, set_how_far, set_join, set_own_event, set_phase, set_place, set_position, set_register, set_result, set_saved_callee, set_saved_own, set_script, set_stage, set_started, set_starting_published, set_subtask_handle, set_thread_handle, set_trapped, set_uninteresting, set_word, SetHowFar, SetPosition, SetRegister, SetSavedCallee, SetSavedOwn, SetScript, Settles, SetTrapped, SetUninteresting, Stay, Stays, Stop, Suspends, switch_entries, take_result, TakeHost, TakePush, task_of, Thread, times, Trip, Turn, Uncovers, Waits, WaitsAgain, was_started, Why, with_handle, with_thread_handle, Withdraw, Word, work_queued}
 use Rattle.std.proofs.Common.{T, ap, arith, inl, inr, le_refl, refl, subst, sym, ◌∙◌}
 use Rattle.std.specs.Option.{option_map_or}
 use Rattle.std.specs.Prelude.{Bool, None, Option, Some, [], false, is_none, is_some, slice_set, true, unwrap_or, ℕ, ◌+◌, ◌==◌, ◌||◌, ◌∷◌, ◌≡◌, ◌≤◌, ◌⊎◌, option_map, if◌then◌else◌}
-use Rattle.task_machine.specs.Core.{Core}
-use Rattle.task_machine.specs.Maps.{get}
-use Rattle.task_machine.specs.Moves.{has_entry, promoted, put_high, put_low, behind_one}
-use Rattle.task_machine.specs.Read.{is_explicit, new_thread_handle, place_of, task_of, was_started, is_under, is_blocked_on}
-use Rattle.task_machine.specs.Write.{add_call, add_group, add_set, add_work, count_work, free_handle, free_thread_handle, give_handle, give_result, give_thread_handle, on_call, on_instance, on_thread, on_work, push_high, remove_call, remove_group, remove_set, remove_thread, remove_work, set_backpressure, set_cancel_delivered, set_cancelled, set_course, set_do_not_enter, set_do_not_suspend, set_end, set_event, set_exited, set_how_far, set_join, set_own_event, set_phase, set_place, set_position, set_register, set_result, set_saved_callee, set_saved_own, set_script, set_stage, set_started, set_starting_published, set_subtask_handle, set_thread_handle, set_trapped, set_uninteresting, set_word, take_result}
-use Rattle.task_machine.specs.declared.records.Place.{Place}
-use Rattle.task_machine.specs.declared.records.Thread.{Thread}
-use Rattle.task_machine.specs.declared.records.Turn.{Turn}
-use Rattle.task_machine.specs.declared.records.Why.{Why}
-use Rattle.task_machine.specs.declared.words.Mark.{Mark}
 use Rattle.task_places.proofs.Entries.{added_stand, has_stands, next_first, popped_quiet, promoted_stand, pushed_same, removed_fresh, withdrawn_stand, flipped}
 use Rattle.task_laws.proofs.CameLemmas.{read_same}
 use Rattle.task_rules.proofs.ChainLemmas.{along}
@@ -25,13 +14,6 @@ use Rattle.task_rules.proofs.StandLemmas.{Adds, adds_all, Loose, Stand, by_numbe
 use Rattle.task_rules.proofs.StopLemmas.{Untouched, behind_adds, foot_there, given_there, quiet_placed, quiet_stand, stopped_stand, switch_there}
 use Rattle.task_rules.proofs.WalkParts.{withdraws}
 use Rattle.task_rules.proofs.WalkTask.{not_main, one_runner}
-use Rattle.task_rules.specs.Allowed.{HasSubtask, IsRunner, MayLand, MayMove, MayPut, MayYield, Stays, is_begun, Leaves, IsFoot, Runs, Holds, WaitsAgain, AwaitsEvent, Waits, Blocks, Suspends, Uncovers, Departs, EndsOver, Falls, MayGo, IsFall, IsSettling, is_done_host}
-use Rattle.task_rules.specs.Calls.{call_made, new_call, next_thread, with_handle, with_thread_handle, work_queued, new_thread}
-use Rattle.task_rules.specs.Chains.{LastWords, Settles, Stay, Trip, Remains, Lands, LandsAt, Quits, GoesBack, Collapses}
-use Rattle.task_rules.specs.Places.{HasPlace, entries, is_at_high, is_at_low, is_at_switch, is_for_start, is_fresh, is_there, says, switch_entries, times}
-use Rattle.task_rules.specs.Scenes.{Scene}
-use Rattle.task_rules.specs.Words.{FinishWork, MakeCall, MakeThread, NameThread, Places, Placing, Promote, Put, QueueWork, RemoveThread, SetHowFar, SetPosition, SetRegister, SetSavedCallee, SetSavedOwn, SetScript, Stop, TakeHost, TakePush, Withdraw, Word, after_placing, after_word, Pop, GoBehind, Move, Enter, SetUninteresting, RemoveCall, RemoveGroup, SetTrapped}
-use Rattle.task_rules.specs.Works.{poll_pends}
 use Rattle.task_machine.specs.declared.records.HowFar.TheVariants as how_far
 use Rattle.task_machine.specs.declared.records.Script.TheVariants as script
 use Rattle.task_machine.specs.declared.records.Entry.TheVariants as entry

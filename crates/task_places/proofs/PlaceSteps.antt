@@ -1,14 +1,9 @@
 -- Where each thread is after a step.
-use Rattle.task_machine.specs.declared.records.Made.{Made}
-use Rattle.task_machine.specs.declared.records.Thread.{Thread}
-use Rattle.task_machine.specs.Maps.{get}
-use Rattle.task_rules.specs.Words.{Pop}
+use Rattle.task_rules.proofs.Machine.{base_at, base_without, Core, Entry, get, HasPlace, HasSubtask, is_behind_of, is_fresh, is_take, IsRunner, Label, LastWords, Made, Mark, next_entry, next_polled, nothing_stands, one_if, Place, place_of, Pop, popped, runner_at, says, Scene, scene_of, set_high, set_low, set_switch, Setting, settled_futures, settled_take, settled_turn, start_of, State, Thread, thread_of_entry, Trip, Turn, Walked, was_started}
 use Rattle.task_rules.proofs.PlacingLemmas.{SameWorks, placing_works}
 use Rattle.task_machine.specs.declared.words.Mark.TheVariants as mark
-use Rattle.task_machine.specs.Write.{set_switch, set_high, set_low}
 use Rattle.std.proofs.Common.{T, ap, arith, refl, subst, sym, ◌∙◌, inr}
 use Rattle.std.specs.Prelude.{Bool, None, Option, Some, [], false, is_some, true, unwrap_or, ℕ, ◌+◌, ◌==◌, ◌≡◌, ◌≤◌, option_map}
-use Rattle.task_rules.proofs.Machine.{base_at, base_without, Core, Entry, HasPlace, HasSubtask, is_behind_of, is_fresh, is_take, IsRunner, Label, LastWords, Mark, next_entry, next_polled, nothing_stands, one_if, Place, place_of, popped, runner_at, says, Scene, scene_of, set_high, set_low, set_switch, Setting, settled_futures, settled_take, settled_turn, start_of, State, thread_of_entry, Trip, Turn, Walked, was_started}
 use Rattle.task_laws.specs.Order.{InPlace}
 use Rattle.task_machine.specs.declared.records.Entry.TheVariants as entry
 use Rattle.task_machine.specs.declared.records.Place.TheVariants as place

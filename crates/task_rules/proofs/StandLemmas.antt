@@ -1,22 +1,14 @@
 -- Threads and their entries, counted; what the words that put a thread do to them.
-use Rattle.task_machine.specs.declared.records.Subtask.{Subtask}
+use Rattle.task_rules.proofs.Machine.{callers_of, Core, entries, Entry, get, has_entry, HasPlace, is_at_high, is_at_low, is_at_switch, is_behind_of, is_blocked_on, is_entry_of, is_free, is_fresh, is_there, is_under, less, newest, older, on_thread, one_if, Place, place_of, push_high, push_low, put_high, put_low, Queues, Records, says, set_place, Subtask, switch_entries, times, Why}
 use Rattle.std.proofs.Common.{◌∙◌, ap, arith, cond, le_trans, refl, subst, sym, ◌⊎◌}
 use Rattle.std.proofs.lemmas.Bool.{eq-eqb, eqb-false, eqb-true}
 use Rattle.std.proofs.lemmas.Bool.Decides.{nat_tests}
 use Rattle.std.specs.Option.{option_map_or}
 use Rattle.std.specs.Prelude.{Bool, List, None, Option, Some, [], false, if◌then◌else◌, is_some, option_map, true, unwrap_or, ℕ, ◌++◌, ◌+◌, ◌==◌, ◌∷◌, ◌≡◌, ◌≢◌, ◌≤◌}
-use Rattle.task_rules.proofs.Machine.{callers_of, Core, entries, Entry, get, has_entry, HasPlace, is_at_high, is_at_low, is_at_switch, is_behind_of, is_entry_of, is_free, is_fresh, is_there, is_under, less, newest, older, on_thread, one_if, Place, place_of, push_high, push_low, put_high, put_low, Queues, Records, says, set_place, switch_entries, times, Why}
 use Rattle.task_machine.specs.declared.records.Entry.TheVariants as entry
 use Rattle.task_machine.specs.declared.words.Mark.TheVariants as mark
 use Rattle.task_machine.specs.declared.records.Place.TheVariants as place
 use Rattle.task_machine.proofs.CommuteLemmas.{get-change}
-use Rattle.task_machine.specs.Core.{Core, Queues}
-use Rattle.task_machine.specs.Maps.{Records, get}
-use Rattle.task_machine.specs.Moves.{has_entry, less, newest, older, put_high, put_low}
-use Rattle.task_machine.specs.Read.{callers_of, is_entry_of, place_of, is_under, is_blocked_on}
-use Rattle.task_machine.specs.Write.{on_thread, push_high, push_low, set_place}
-use Rattle.task_rules.specs.Laws.{is_free}
-use Rattle.task_rules.specs.Places.{HasPlace, entries, is_at_high, is_at_low, is_at_switch, is_behind_of, is_there, one_if, says, switch_entries, times, is_fresh}
 
 -- ---- Numbers and lists
 

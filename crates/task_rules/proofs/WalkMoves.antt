@@ -3,36 +3,16 @@ use Rattle.std.proofs.Common.{arith, ap, inr, refl, subst, sym, ◌∙◌, T, co
 use Rattle.std.proofs.lemmas.Bool.Decides.{nat_tests}
 use Rattle.task_machine.proofs.CommuteLemmas.{get-change}
 use Rattle.task_rules.proofs.StandLemmas.{set_place_is}
-use Rattle.task_machine.specs.declared.records.Work.{Work}
-use Rattle.task_machine.specs.declared.records.HowFar.{HowFar}
+use Rattle.task_rules.proofs.Machine.{after_placing, after_word, blocked_on, call_group, call_settled, change, checked, chosen, Core, ended, exited_if, first_entry, free_thread_handle, freed_thread_handle, FreeThreadHandle, get, Gift, group_settled, handed_on, hands_on, held_why, held_why_of, HowFar, instance_of, interest_settled, is_at, is_blocked_on, is_callback_waiter, is_deletable, is_done_host, is_end, is_explicit, is_finished, is_group_done, is_stage_ended, is_told, is_waiter, is_waiting_on, IsOwn, IsRunner, Join, join_of, Lands, LandsAt, Leaves, Mark, may_hand_on, may_not_suspend, may_publish, may_tell, may_wake, may_wake_joined, MayCome, MayDeliver, MayLand, MayPut, MayTell, MemberGift, NoGift, NoWord, numbers, on_call, on_work, OwnGift, Place, place_of, Placing, Promote, promoted, promoted_first, promoted_unless, published, push_high, Put, put_at, put_high, Quits, Records, released, released_one, Releases, remove, remove_call, remove_group, remove_thread, RemoveCall, RemoveGroup, RemoveThread, same_subtask, SaysEnd, Scene, set_event, set_exited, set_how_far, set_place, set_uninteresting, SetCallEvent, SetCancelDelivered, SetExited, SetOwnEvent, Settles, SetUninteresting, Shifts, stage_of, Status, Stay, Stays, Stop, stopped, Subtask, taken, TakeWorkEvent, task_of, Tells, Then, Thread, thread_handle_of, told, Trip, unblocked, Unblocks, wake, wake_joined, wake_why, waken_by, Wakes, Why, Word, Work}
 use Rattle.task_machine.specs.declared.records.Turn.TheVariants as turn
 use Rattle.std.specs.Option.{option_map_or}
 use Rattle.std.specs.Prelude.{Bool, List, None, Option, Some, [], false, if◌then◌else◌, is_some, not, option_and_then, true, ℕ, ◌||◌, ◌∷◌, ◌≡◌}
 use Rattle.task_machine.proofs.MapLemmas.{get-remove_same}
-use Rattle.task_machine.specs.Core.{Core}
-use Rattle.task_machine.specs.Maps.{Records, get, numbers, remove, change}
-use Rattle.task_machine.specs.Moves.{Gift, MemberGift, NoGift, OwnGift, call_settled, checked, ended, exited_if, first_entry, freed_thread_handle, group_settled, handed_on, hands_on, held_why_of, interest_settled, is_callback_waiter, is_deletable, is_finished, is_group_done, may_hand_on, may_publish, may_wake, may_wake_joined, promoted, promoted_first, promoted_unless, published, put_high, released, released_one, stopped, taken, unblocked, wake, wake_joined, waken_by}
-use Rattle.task_machine.specs.Read.{blocked_on, call_group, held_why, instance_of, is_at, is_blocked_on, is_explicit, is_waiter, is_waiting_on, join_of, may_not_suspend, place_of, same_subtask, task_of, thread_handle_of, is_end, is_stage_ended, stage_of, is_watched}
-use Rattle.task_machine.specs.Write.{free_thread_handle, on_call, on_work, push_high, remove_call, remove_group, remove_thread, set_event, set_exited, set_uninteresting, set_how_far, set_place}
-use Rattle.task_machine.specs.declared.records.Join.{Join}
-use Rattle.task_machine.specs.declared.records.Place.{Place}
-use Rattle.task_machine.specs.declared.records.Subtask.{Subtask}
-use Rattle.task_machine.specs.declared.records.Thread.{Thread}
-use Rattle.task_machine.specs.declared.records.Why.{Why}
-use Rattle.task_machine.specs.declared.words.Mark.{Mark}
-use Rattle.task_machine.specs.declared.words.Status.{Status}
-use Rattle.task_rules.proofs.Machine.{after_placing, after_word, blocked_on, call_group, call_settled, change, checked, chosen, Core, ended, exited_if, first_entry, free_thread_handle, freed_thread_handle, FreeThreadHandle, get, Gift, group_settled, handed_on, hands_on, held_why, held_why_of, HowFar, instance_of, interest_settled, is_at, is_blocked_on, is_callback_waiter, is_deletable, is_done_host, is_end, is_explicit, is_finished, is_group_done, is_stage_ended, is_told, is_waiter, is_waiting_on, IsOwn, IsRunner, Join, join_of, Lands, LandsAt, Leaves, Mark, may_hand_on, may_not_suspend, may_publish, may_tell, may_wake, may_wake_joined, MayCome, MayDeliver, MayLand, MayPut, MayTell, MemberGift, NoGift, NoWord, numbers, on_call, on_work, OwnGift, Place, place_of, Placing, Promote, promoted, promoted_first, promoted_unless, published, push_high, Put, put_at, put_high, Quits, Records, released, released_one, Releases, remove, remove_call, remove_group, remove_thread, RemoveCall, RemoveGroup, RemoveThread, same_subtask, SaysEnd, Scene, set_event, set_exited, set_how_far, set_uninteresting, SetCallEvent, SetCancelDelivered, SetExited, SetOwnEvent, Settles, SetUninteresting, Shifts, stage_of, Status, Stay, Stays, Stop, stopped, Subtask, taken, TakeWorkEvent, task_of, Tells, Then, Thread, thread_handle_of, told, Trip, unblocked, Unblocks, wake, wake_joined, wake_why, waken_by, Wakes, Why, Word, Work}
 use Rattle.task_rules.proofs.ChainLemmas.{join, weaken, shift_stays, settle_stays}
 use Rattle.task_rules.proofs.StopLemmas.{find_passes}
 use Rattle.task_rules.proofs.PlacingLemmas.{placed, placing_shifted}
 use Rattle.task_rules.proofs.PromotionLemmas.{first_has_entry}
-use Rattle.task_rules.specs.Allowed.{IsOwn, IsRunner, MayDeliver, MayPut, MayTell, Releases, Tells, Unblocks, Wakes, wake_why, SaysEnd, is_done_host, Leaves, MayLand, Stays, MayCome}
 use Rattle.task_rules.proofs.StandLemmas.{by_number, is_eq_of, place_kept}
-use Rattle.task_rules.specs.Chains.{NoWord, Shifts, Then, Stay, Trip, Settles, Quits, Lands, LandsAt}
-use Rattle.task_rules.specs.Ends.{is_told, may_tell, told}
-use Rattle.task_rules.specs.Scenes.{Scene}
-use Rattle.task_rules.specs.Sets.{chosen}
-use Rattle.task_rules.specs.Words.{FreeThreadHandle, Placing, Promote, Put, RemoveCall, RemoveGroup, RemoveThread, SetCallEvent, SetCancelDelivered, SetExited, SetOwnEvent, SetUninteresting, TakeWorkEvent, Stop, Word, after_placing, after_word, put_at}
 use Rattle.task_machine.specs.declared.records.Delivery.TheVariants as delivery
 use Rattle.task_machine.specs.declared.records.Join.TheVariants as join
 use Rattle.task_machine.specs.declared.records.Place.TheVariants as place

@@ -1,53 +1,27 @@
 -- The rows of the ops on sets, subtasks and threads as chains of words.
 use Rattle.std.proofs.Common.{arith, T, ap, inl, inr, refl, subst, suc, sym, ◌∙◌, ◌⊎◌, zero, ap₂}
 use Rattle.task_machine.proofs.MapLemmas.{get-insert_same, get-remove_same}
-use Rattle.task_machine.specs.declared.records.Work.{Work}
-use Rattle.task_rules.proofs.ChainLemmas.{stay_walk}
-use Rattle.task_machine.specs.declared.label.SetLabel.{SetLabel}
-use Rattle.task_machine.specs.declared.label.CallLabel.{CallLabel}
-use Rattle.task_rules.proofs.MuteLemmas.{is_mute, mute_words, none_said}
-use Rattle.task_rules.proofs.SayLemmas.{call_answered_gone, call_returned_gone, cancel_hands_of, cancel_taken_gone, cancel_writes_of, event_joined, event_owed, found_returned, given_says, packed_is_not_two, received_gone, received_woken_gone, HasNoEnd, event_aborted, said_is}
-use Rattle.task_rules.specs.Chains.{EndWords, HandsOut, TakesEvent, WritesToo, Answers, EndsSubtask, HandsAtOnce, IsReadyAtOnce, Writes, WritesAtOnce, WritesCall, WritesNever, NoWord, Shifts, Walk, Stay, Trip, is_over}
-use Rattle.task_rules.specs.SubtaskEnds.{call_of_op, handed_by, handed_by_call, handed_by_cancel, handed_by_event, handed_by_set, returned_of_op, written_by_call, written_by_cancel, cancel_target, cancelled_of_op, end_for, written_by, host_end, SubtaskEnd}
-use Rattle.task_machine.proofs.CommuteLemmas.{get-change}
-use Rattle.std.proofs.lemmas.Bool.Decides.{nat_tests}
-use Rattle.task_machine.specs.declared.label.SetLabel.TheVariants as set_label
-use Rattle.std.specs.Option.{option_map_or}
-use Rattle.std.specs.Prelude.{Bool, List, None, Option, Some, [], false, is_some, not, option_map, true, unwrap_or, ℕ, ◌&&◌, ◌+◌, ◌==◌, ◌∷◌, ◌≡◌}
-use Rattle.task_machine.specs.Core.{Core, Main}
-use Rattle.task_machine.specs.Labels.{Choice, join_label, wait_label}
-use Rattle.task_machine.specs.Maps.{Records, get, remove}
-use Rattle.task_machine.specs.Moves.{Gift, MemberGift, NoGift, OwnGift, checked, ended, gift, handed_on, may_hand_on, passes_check, promoted_unless, put_switch, withdrawn, group_settled}
-use Rattle.task_machine.specs.Read.{at_handle_limit, event_of, fits, has_ended, has_member, has_waiters, how_far_of, instance_of, is_async_lifted, is_callback_yield, is_direct, is_joined, is_ready_to_resume, is_waiting_on, is_watched, is_yielded, join_of, new_handle, new_thread_handle, phase_of, place_of, registers_of, result_of, saved_callee_of, set_at, subtask_at, subtask_ended, task_of, thread_at, thread_group, thread_handle_of, undelivered_end, was_cancelled, was_started, work_caller_of, is_at, is_stage_ended, stage_of, is_blocked_on}
-use Rattle.task_machine.specs.Statuses.{packed, status_code}
-use Rattle.task_machine.specs.Write.{add_work, count_work, on_call, on_work, push_high, set_join, set_own_event, set_subtask_handle, set_do_not_suspend, set_saved_callee, on_instance, on_thread, remove_thread, set_end, set_register, set_how_far, remove_group, set_position, remove_work, free_handle}
-use Rattle.task_machine.specs.declared.component.Callee.{Callee}
-use Rattle.task_machine.specs.declared.component.HostDef.{HostDef}
-use Rattle.task_rules.proofs.Machine.{aborted_phase, AbortsOwn, add_work, advanced, after_word, AlreadyEnded, answered, Answers, assigned, Async, at_handle_limit, AtOnce, blocked_code, ByHandle, ByOp, BySetHandle, ByThread, ByWait, call_answered, call_begins, call_host_polled, call_of_op, call_pending, call_queues, call_resumes, call_returned, call_row, call_status, call_sync_begins, call_sync_host_polled, call_sync_host_row, call_sync_host_stops, call_sync_row, call_sync_status, call_sync_stops, CallbackWaits, CallbackYields, Callee, callee_of_op, CallLabel, cancel_aborts_host, cancel_asks, cancel_by_end, cancel_case, cancel_ended_row, cancel_guest, cancel_label, cancel_promotes_yield, cancel_resumed, cancel_row, cancel_stops, cancel_subtask, cancel_takes_end, cancel_target, cancel_wakes_callback, cancel_withdraws, CancelCase, cancelled_of_op, Cancels, checked, Choice, chosen, CloseSet, Core, count_work, CountWork, drop_row, dropped, end_for, ended, EndsSubtask, EndWords, enter_row, enter_runs, event_of, export_kind, Failing, finds_nothing, first_poll, FirstPoll, fits, get, Gift, gift, Goal, Goes, group_settled, handed_by, handed_by_call, handed_by_cancel, handed_by_event, handed_by_set, handed_on, handed_out, HandsAtOnce, HandsOut, has_ended, has_member, has_waiters, HasSubtask, host_answered, host_at, host_end, host_pending, host_ready, HostDef, how_far_of, HowFar, instance_of, is_async_lifted, is_async_work, is_callback_yield, is_direct, is_for_main, is_joined, is_ready_to_resume, is_waiting_on, is_watched, is_yielded, IsNamed, IsNew, IsReadyAtOnce, Join, join_done, join_label, join_of, join_to, joined, joins, Label, Later, Leaves, Made, Main, MakeThread, Mark, may, may_hand_on, may_wake_new, MayJoin, MayMakeCall, MemberGift, Mode, Move, moved_to, NameCall, NameThread, NameWork, new_handle, new_thread, new_thread_handle, new_work, next_thread, next_work, NoGift, NoWord, on_call, on_instance, on_thread, on_work, op_in, op_of, OpenSet, OtherwiseRuns, OwnGift, packed, passes_check, pauses, phase_of, Place, place_of, poll_row, Progress, promoted_unless, push_high, Put, put_back, put_switch, QueueWork, received, received_woken, Records, registers_for, registers_of, remove, remove_group, remove_thread, remove_work, result_of, Resumes, returned_of_op, saved_callee_of, says, Scene, set_at, set_do_not_suspend, set_drop_row, set_dropped, set_end, set_how_far, set_join, set_made, set_new_row, set_own_event, set_position, set_register, set_row, set_saved_callee, set_subtask_handle, SetCancelled, SetExited, SetLabel, SetOwnEvent, SetPhase, SetRegister, SetResult, SetSavedCallee, Setting, settle_group_of, SetUninteresting, Shifts, slot_at, StartNotRun, Status, status_code, status_found, Stay, Stops, Subtask, subtask_at, subtask_ended, subtask_instance, subtask_row, subtask_under_way, Suspends, Sync, TakesEvent, task_of, Thread, thread_at, thread_group, thread_handle_of, trap_if, Trip, Turn, undelivered_end, UnnameCall, UnnameWork, value_of, values_in, wait_begins, wait_goes_on, wait_label, wait_row, wait_stops, wait_stops_checked, wakes_joined, Walk, was_cancelled, was_started, Why, Withdraw, withdrawn, Work, work_answered, work_caller_of, work_deleted, work_group, work_queued, work_value, WorkCaller, Writes, WritesAtOnce, WritesCall, WritesNever, WritesToo, written_by, written_by_call, written_by_cancel, Yields}
+use Rattle.task_rules.proofs.Machine.{aborted_phase, AbortsOwn, add_work, advanced, after_word, AlreadyEnded, answered, Answers, assigned, Async, at_handle_limit, AtOnce, blocked_code, ByHandle, ByOp, BySetHandle, ByThread, ByWait, call_answered, call_begins, call_host_polled, call_of_op, call_pending, call_queues, call_resumes, call_returned, call_row, call_status, call_sync_begins, call_sync_host_polled, call_sync_host_row, call_sync_host_stops, call_sync_row, call_sync_status, call_sync_stops, CallbackWaits, CallbackYields, Callee, callee_of_op, CallLabel, cancel_aborts_host, cancel_asks, cancel_by_end, cancel_case, cancel_ended_row, cancel_guest, cancel_label, cancel_promotes_yield, cancel_resumed, cancel_row, cancel_stops, cancel_subtask, cancel_takes_end, cancel_target, cancel_wakes_callback, cancel_withdraws, CancelCase, cancelled_of_op, Cancels, checked, Choice, chosen, CloseSet, Core, count_work, CountWork, drop_row, dropped, end_for, ended, EndsSubtask, EndWords, enter_row, enter_runs, event_of, export_kind, Failing, finds_nothing, first_poll, FirstPoll, fits, free_handle, get, Gift, gift, Goal, Goes, group_settled, handed_by, handed_by_call, handed_by_cancel, handed_by_event, handed_by_set, handed_on, handed_out, HandsAtOnce, HandsOut, has_ended, has_member, has_waiters, HasSubtask, host_answered, host_at, host_end, host_pending, host_ready, HostDef, how_far_of, HowFar, instance_of, is_async_lifted, is_async_work, is_callback_yield, is_direct, is_for_main, is_joined, is_ready_to_resume, is_stage_ended, is_waiting_on, is_watched, is_yielded, IsNamed, IsNew, IsReadyAtOnce, Join, join_done, join_label, join_of, join_to, joined, joins, Label, Later, Leaves, Made, Main, MakeThread, Mark, may, may_hand_on, may_wake_new, MayJoin, MayMakeCall, MemberGift, Mode, Move, moved_to, NameCall, NameThread, NameWork, new_handle, new_thread, new_thread_handle, new_work, next_thread, next_work, NoGift, NoWord, on_call, on_instance, on_thread, on_work, op_in, op_of, OpenSet, OtherwiseRuns, OwnGift, packed, passes_check, pauses, phase_of, Place, place_of, poll_row, Progress, promoted_unless, push_high, Put, put_back, put_switch, QueueWork, received, received_woken, Records, registers_for, registers_of, remove, remove_group, remove_thread, remove_work, result_of, Resumes, returned_of_op, saved_callee_of, says, Scene, set_at, set_do_not_suspend, set_drop_row, set_dropped, set_end, set_how_far, set_join, set_made, set_new_row, set_own_event, set_position, set_register, set_row, set_saved_callee, set_subtask_handle, SetCancelled, SetExited, SetLabel, SetOwnEvent, SetPhase, SetRegister, SetResult, SetSavedCallee, Setting, settle_group_of, SetUninteresting, Shifts, slot_at, stage_of, StartNotRun, Status, status_code, status_found, Stay, Stops, Subtask, subtask_at, subtask_ended, subtask_instance, subtask_row, subtask_under_way, Suspends, Sync, TakesEvent, task_of, Thread, thread_at, thread_group, thread_handle_of, trap_if, Trip, Turn, undelivered_end, UnnameCall, UnnameWork, value_of, values_in, wait_begins, wait_goes_on, wait_label, wait_row, wait_stops, wait_stops_checked, wakes_joined, Walk, was_cancelled, was_started, Why, Withdraw, withdrawn, Work, work_answered, work_caller_of, work_deleted, work_group, work_queued, work_value, WorkCaller, Writes, WritesAtOnce, WritesCall, WritesNever, WritesToo, written_by, written_by_call, written_by_cancel, Yields}
 use Rattle.task_machine.specs.declared.component.Slot.{Slot}
 use Rattle.task_machine.specs.declared.label.ThreadLabel.{ThreadLabel}
 use Rattle.task_machine.specs.declared.op.CallOp.{CallOp}
 use Rattle.task_machine.specs.declared.op.SetOp.{SetOp}
 use Rattle.task_machine.specs.declared.op.ThreadOp.{ThreadOp}
 use Rattle.task_rules.specs.Threads.{by_how_far, Halt, halt_row, halted, halted_checked, halted_promoting, halted_resuming, halting, halts, has_yielded, resume_later_row, resume_why, resumed_later, Suspension, then_promote, then_promote_row, then_resume_row, thread_made, thread_new_row, thread_row, Yielding}
+use Rattle.task_rules.proofs.ChainLemmas.{stay_walk}
+use Rattle.task_rules.proofs.MuteLemmas.{is_mute, mute_words, none_said}
+use Rattle.task_rules.proofs.SayLemmas.{call_answered_gone, call_returned_gone, cancel_hands_of, cancel_taken_gone, cancel_writes_of, event_joined, event_owed, found_returned, given_says, packed_is_not_two, received_gone, received_woken_gone, HasNoEnd, event_aborted, said_is}
+use Rattle.task_machine.proofs.CommuteLemmas.{get-change}
+use Rattle.std.proofs.lemmas.Bool.Decides.{nat_tests}
+use Rattle.task_machine.specs.declared.label.SetLabel.TheVariants as set_label
+use Rattle.std.specs.Option.{option_map_or}
+use Rattle.std.specs.Prelude.{Bool, List, None, Option, Some, [], false, is_some, not, option_map, true, unwrap_or, ℕ, ◌&&◌, ◌+◌, ◌==◌, ◌∷◌, ◌≡◌}
 use Rattle.task_rules.proofs.CancelLemmas.{CaseSays, case_says}
 use Rattle.task_rules.proofs.PlacingLemmas.{Shifted, placed, shifted_made, shifted_task, shifts_shifted}
 use Rattle.task_rules.proofs.StandLemmas.{by_number}
 use Rattle.task_rules.proofs.WalkMoves.{MayTake, call_settled_walks, checked_shifts, chosen_of, handed_on_shifts, shifted, wake_shifts, word, lands_at, promoted_walks}
 use Rattle.task_rules.proofs.WalkParts.{call_queues_walks, call_resumes_walks, call_stops_walks, cancel_goes_behind_walks, cancel_plain, cancel_stops_walks, cancel_takes_end_walks, checked_walks, enter_gives, enter_runs_walks, freed_named, gift_is, join_plain, join_walks, put_back_walks, received_walks, set_none_join, stopped_walks, wait_plain, wait_stops_walks, withdrawn_walks, work_deleted_walks, work_unnamed, withdraws, answered_first, far_fresh}
 use Rattle.task_rules.proofs.WalkTask.{Leads, advanced_walks, answered_walks, assigned_walks, goes_on, goes_on_saying, goes_over, may_leads, or_never_leads, or_trap_leads, running_scene, stops_here, trap_if_leads, unnot, is_still, over_now}
-use Rattle.task_rules.specs.Allowed.{ByHandle, ByOp, BySetHandle, ByThread, ByWait, Cancels, HasSubtask, Leaves, MayJoin, MayMakeCall, Resumes, Suspends, Yields, subtask_under_way, is_for_main, AbortsOwn, is_async_work, IsNew, IsNamed}
-use Rattle.task_rules.specs.Calls.{AtOnce, Failing, FirstPoll, Later, answered, call_answered, call_begins, call_host_polled, call_pending, call_queues, call_resumes, call_returned, call_row, call_status, call_sync_begins, call_sync_host_polled, call_sync_host_row, call_sync_host_stops, call_sync_row, call_sync_status, call_sync_stops, enter_row, enter_runs, first_poll, host_answered, host_pending, host_ready, new_thread, next_thread, next_work, status_found, work_answered, work_queued, work_value, put_back, work_deleted, settle_group_of, work_group, new_work}
-use Rattle.task_rules.specs.Cancels.{AlreadyEnded, Async, CallbackWaits, CallbackYields, CancelCase, Mode, OtherwiseRuns, StartNotRun, Sync, aborted_phase, blocked_code, cancel_aborts_host, cancel_asks, cancel_by_end, cancel_case, cancel_ended_row, cancel_guest, cancel_label, cancel_promotes_yield, cancel_resumed, cancel_row, cancel_stops, cancel_subtask, cancel_takes_end, cancel_wakes_callback, cancel_withdraws, drop_row, dropped, pauses, subtask_instance, subtask_row, is_callback_wait}
-use Rattle.task_rules.specs.Data.{advanced, assigned, moved_to}
-use Rattle.task_rules.specs.OpParts.{callee_of_op}
-use Rattle.task_rules.specs.Places.{says}
-use Rattle.task_rules.specs.Progress.{Goes, Progress, Stops, may, trap_if}
-use Rattle.task_rules.specs.Scenes.{Scene, op_in}
-use Rattle.task_rules.specs.Scripts.{export_kind, host_at, op_of, registers_for, slot_at, value_of, values_in}
-use Rattle.task_rules.specs.Sets.{chosen, finds_nothing, handed_out, join_done, join_to, joined, joins, may_wake_new, poll_row, received, received_woken, set_drop_row, set_dropped, set_made, set_new_row, set_row, wait_begins, wait_goes_on, wait_row, wait_stops, wait_stops_checked, wakes_joined}
-use Rattle.task_rules.specs.Stalled.{Setting}
-use Rattle.task_rules.specs.Words.{CloseSet, CountWork, MakeThread, Move, NameCall, NameThread, NameWork, OpenSet, Put, QueueWork, SetCancelled, SetOwnEvent, SetPhase, SetRegister, SetResult, SetSavedCallee, UnnameCall, UnnameWork, after_word, Withdraw, SetExited, SetUninteresting}
 use Rattle.task_machine.specs.declared.component.Slot.TheVariants as slot
 use Rattle.task_machine.specs.declared.label.CallLabel.TheVariants as call_label
 use Rattle.task_machine.specs.declared.label.Label.TheVariants as label
