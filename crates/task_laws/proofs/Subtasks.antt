@@ -1,5 +1,5 @@
 -- Each call that a handle names, or that an op under way is about, was made as a call: along the words of a step.
-use Rattle.std.proofs.Common.{arith, inl, inr, refl, ⊎_elim}
+use Rattle.std.proofs.Common.{ap, arith, inl, inr, refl, ⊎_elim}
 use Rattle.std.proofs.lemmas.Bool.Decides.{nat_tests}
 use Rattle.std.specs.Prelude.{IfSome, Some, option_and_then, ℕ, ◌+◌, ◌≡◌, ◌⊎◌}
 use Rattle.task_laws.proofs.CallsCame.{ThreadAfter, op_came, thread_came}
@@ -39,11 +39,12 @@ module _ (a : Scene) (s : Core) where
   handle_named w ok i h sub e = inl e
 
   named_known : (sub : Subtask) → NamedNow a s sub → Known a s sub
-  named_known (subtask.Guest k) now = (now.1.0, now.1.1.1.1)
+  named_known (subtask.Guest k) now = (now.1.0, inl (ByOp (ap (λ f. subtask_under_way f) now.1.1.1.1.0)))
   named_known (subtask.Host i) now = (now.1.0.0, now.1.0.1.1.1)
 
   come_known : (n : ℕ) (f : HowFar) → MayCome a n f s → IfSome (subtask_under_way f) (Known a s)
-  come_known n (how_far.Calls (subtask.Guest k)) ok = (n, ok.1)
+  come_known n (how_far.Calls (subtask.Guest k)) (is, inl was) = (n, inl (ByOp (ap (λ f. subtask_under_way f) was.0)))
+  come_known n (how_far.Calls (subtask.Guest k)) (is, inr new) = (n, inr new.0)
   come_known n (how_far.Calls (subtask.Host i)) ok = (n, inr ok.1.0)
   come_known n (how_far.Cancels sub) ok = (n, inl ok.1)
   come_known n (how_far.AwaitsEnd sub) ok = (n, inl ok.1)

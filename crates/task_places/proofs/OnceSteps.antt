@@ -1,6 +1,7 @@
 -- Each step owes of the ends what it should, and so each run has each end once.
+use Rattle.task_rules.proofs.Machine.{AbortsOwn, base_at, Call, Core, end_for, Entry, fresh, get, get-empty, how_far_of, instance_of, is_spawn, is_spawn_caller, is_stage_ended, IsRunner, Label, Main, MainPlace, Mark, next_entry, opening, Place, place_of, ProgramAborts, runner_at, SameMain, Scene, scene_of, ScriptAborts, Scripted, Setting, spawned_at, stage_of, State, Status, Step, Subtask, subtask_at, subtask_handle, task_of, thread_of_entry, Turn, undelivered_end, Unscripted, Walked, Work, work_caller_of, written}
+use Rattle.task_laws.proofs.NamedCalls.{NamesKnown, names_known_word, opening_names_known}
 use Rattle.task_laws.proofs.NamedWorks.{NamesNoSync, abort_kept, caller_is, names_word, opening_names}
-use Rattle.task_rules.proofs.Machine.{AbortsOwn, base_at, Call, Core, end_for, Entry, fresh, get, get-empty, how_far_of, instance_of, is_spawn, is_spawn_caller, is_stage_ended, IsRunner, Label, Main, MainPlace, Mark, next_entry, opening, Place, place_of, ProgramAborts, runner_at, SameMain, Scene, scene_of, ScriptAborts, Scripted, Setting, spawned_at, stage_of, State, Status, Step, Subtask, subtask_at, task_of, thread_of_entry, Turn, undelivered_end, Unscripted, Walked, Work, work_caller_of, written}
 use Rattle.std.proofs.Common.{ap, refl, subst, sym, ◌∙◌, inl, inr, le_refl, ◌++◌, arith, ⊎_elim}
 use Rattle.std.specs.Option.{option_map_or}
 use Rattle.std.specs.Prelude.{Bool, None, Option, Some, false, is_some, option_and_then, option_map, true, ℕ, ◌≡◌, ◌≤◌, ◌⊎◌, ◌∷◌, unwrap_or, [], slice_get, zero, suc, ◌-◌, ◌&&◌}
@@ -13,7 +14,7 @@ use Rattle.task_laws.proofs.CallEnds.{EndsGo, EndsTold, ends_go, opening_ends_to
 use Rattle.task_laws.proofs.OnceLemmas.{Due, Over, EndStep, ends_once, written_over}
 use Rattle.task_laws.proofs.HostEnds.{Answered, host_step}
 use Rattle.task_laws.proofs.SceneLemmas.{base_is, runner_there}
-use Rattle.task_laws.specs.Ends.{is_sync_work, NamedCallsThere, MayBeAborted, SyncUnnamed}
+use Rattle.task_laws.specs.Ends.{CalledThere, is_sync_work, MayBeAborted, SyncUnnamed}
 use Rattle.task_laws.proofs.SyncWorks.{CallersKnown, callers_word, opening_callers}
 use Rattle.task_laws.proofs.Works.{AbortsNoSync, Doing, WorksGo, WorksHold, doing, doing_of, is_late, stage_ended, opening_works, before_step, first_works, works_word}
 use Rattle.task_rules.proofs.WalkSteps.{step_walks}
@@ -45,6 +46,7 @@ record Known (x : Setting) (s : State) : Type 0 where
   works : WorksHold (Unit {0}) s.core
   unnamed : SyncUnnamed s
   callers : CallersKnown s.core
+  names : NamesKnown s.core
   zero : MayBeAborted s.core 0
   over : DueOver s.core
 
@@ -69,6 +71,9 @@ work_there P i s h = at (get s.works i) refl h
     at None is g = no_way g
     at (Some w) is g = (w, (is, g))
 
+named_there : (k h : ℕ) (s : Core) → subtask_handle (subtask.Guest k) s ≡ Some h → is_some (get s.calls k) ≡ true
+named_there k h s e = grind arith
+
 spawn_other : (i : ℕ) (s : Core) → is_spawn i s ≡ true → (v : Doing) × ((doing_of i s ≡ Some v) × (is_sync_work v.caller ≡ false))
 spawn_other i s h = let r = work_there (λ w. is_spawn_caller w.caller) i s h in (doing r.0, (ap (option_map doing) r.1.0, grind arith))
 
@@ -83,7 +88,7 @@ abbrev is_blocked : Option Place → Bool
 is_blocked (Some (place.Blocked sub)) = true
 is_blocked _ = false
 
-module _ (x : Setting) (s : State) (l : Label) (t : State) (k : Known x s) (f : NamedCallsThere s.core) (step : Step x s l t) where
+module _ (x : Setting) (s : State) (l : Label) (t : State) (k : Known x s) (f : CalledThere s) (step : Step x s l t) where
   w : Walked x s l t
   w = step_walks x s l t step
 
@@ -129,6 +134,13 @@ module _ (x : Setting) (s : State) (l : Label) (t : State) (k : Known x s) (f : 
       ))
       (first_works x s l w.next k.works, (k.unnamed.works, (λ i h. h, k.callers))) w.walk
 
+  names_base_known : NamesKnown a.base
+  names_base_known = to_base NamesKnown (record { there = k.names.there; once = k.names.once; number = k.names.number; called = k.names.called })
+
+  -- which calls handles and ops name
+  names_after : NamesKnown t.core
+  names_after = along NamesKnown (λ v u ok q. names_known_word a names_base_known (λ n j runs. to_base (λ c. how_far_of n c ≡ how_far.Calls (subtask.Guest j) → is_some (get c.calls j) ≡ true) (f n j runs)) v u ok q) k.names w.walk
+
   spawns_after : (p : MainPlace) (j : ℕ) → t.main ≡ Scripted p → MayBeAborted t.core (spawned_at p j)
   spawns_after p j at = by s.main refl t.main at w.main
     where
@@ -172,7 +184,7 @@ module _ (x : Setting) (s : State) (l : Label) (t : State) (k : Known x s) (f : 
   found : CallsFound a
   found = record {
     own = λ n runner. to_base (λ c. is_some (get c.calls (task_of n c)) ≡ true) (let there = runner_there x s l w.next k.order.in_place n runner in grind (arith, k.order.calls_there n (task_of n s.core)));
-    named = λ j named. to_base (λ c. (i h : ℕ) → subtask_at i h c ≡ Some (subtask.Guest j) → is_some (get c.calls j) ≡ true) (λ i h e. f i h j e) (instance_of named.0 a.base) named.1.0 named.1.1.1;
+    named = λ j named. to_base (λ c. (i h : ℕ) → subtask_at i h c ≡ Some (subtask.Guest j) → is_some (get c.calls j) ≡ true) (λ i h e. named_there j h s.core (k.names.there i h j e)) (instance_of named.0 a.base) named.1.0 named.1.1.1;
   }
 
   told_base : EndsTold a.base
@@ -195,6 +207,7 @@ module _ (x : Setting) (s : State) (l : Label) (t : State) (k : Known x s) (f : 
     works = works_after.0.holds;
     unnamed = record { works = works_after.1.0; spawns = spawns_after };
     callers = works_after.1.1.1;
+    names = names_after;
     zero = works_after.1.1.0 0 k.zero;
     over = λ sub e due. by sub e ((end_step sub).comes e due);
   }
@@ -238,6 +251,7 @@ runs_are_once x codes found instances handle_limit capacity main begun ls t run 
       works = opening_works instances handle_limit capacity;
       unnamed = record { works = opening_names instances handle_limit capacity; spawns = λ p j is. opening_spawns instances handle_limit capacity main begun p j is };
       callers = opening_callers instances handle_limit capacity;
+      names = opening_names_known instances handle_limit capacity;
       zero = zero_unmade instances handle_limit capacity;
       over = λ sub e due. absurd (none_due instances handle_limit capacity sub e due);
     }) (λ sub e due. none_due instances handle_limit capacity sub e due) ls t run
