@@ -101,6 +101,16 @@ module _ (a : Scene) (base : NamesKnown a.base) (there : (n j : ℕ) → a.turn 
       let r = inside a w s ok q n k far in
       (le_trans r.0 (made_threads_word a w s), only_stays a w s n k r.0 (λ i. not i k) r.1)
 
+  -- what is known after a word that gives no call a handle: handles name no more than before
+  known_after : (w : Word) (s : Core) → Allowed a w s → NamesKnown s → ((i j : ℕ) → w ≡ NameCall i j → ⊥) →
+      ((i h k : ℕ) → subtask_at i h (after_word w s) ≡ Some (subtask.Guest k) → (subtask_at i h s ≡ Some (subtask.Guest k)) × (subtask_handle (subtask.Guest k) (after_word w s) ≡ Some h)) → NamesKnown (after_word w s)
+  known_after w s ok q not old = record {
+    there = λ i h k e. (old i h k e).1;
+    once = λ i j h g k e f. q.once i j h g k (old i h k e).0 (old j g k f).0;
+    number = numbers_word w s q;
+    called = called_stays w s ok q not;
+  }
+
   pub names_known_word : (w : Word) (s : Core) → Allowed a w s → NamesKnown s → NamesKnown (after_word w s)
   unfolding add_call add_group add_set add_thread add_work call_made count_work free_handle free_thread_handle give_handle give_result give_thread_handle on_call on_instance on_thread on_work poll_pends push_high remove_call remove_group remove_set remove_thread remove_work set_backpressure set_cancel_delivered set_cancelled set_course set_do_not_enter set_do_not_suspend set_end set_event set_exited set_how_far set_join set_own_event set_phase set_position set_register set_result set_saved_callee set_saved_own set_script set_stage set_started set_starting_published set_subtask_handle set_thread_handle set_trapped set_uninteresting set_word take_result with_handle with_thread_handle work_queued
   names_known_word (NameCall i j) s ok q = record {
@@ -129,76 +139,23 @@ module _ (a : Scene) (base : NamesKnown a.base) (there : (n j : ℕ) → a.turn 
 
       named : (n k : ℕ) → how_far_of n s ≡ how_far.Calls (subtask.Guest k) → (k ≤ s.made.threads) × OnlyCalled n k (after_word (NameCall i j) s)
       named n k far = let r = q.called n k far in (r.0, only_stays a (NameCall i j) s n k r.0 (λ m e. mine n (grind (arith, far))) r.1)
-  names_known_word (UnnameCall i h j) s ok q = record {
-    there = λ l g k e. let o = old l g k e in grind (arith, nat_tests, get-change, q.there l g k, q.there i h k, q.once l i g h k);
-    once = λ l m g f k e d. q.once l m g f k (old l g k e).0 (old m f k d).0;
-    number = numbers_word (UnnameCall i h j) s q;
-    called = called_stays (UnnameCall i h j) s ok q (λ m n e. grind arith);
-  }
+  names_known_word (UnnameCall i h j) s ok q = known_after (UnnameCall i h j) s ok q (λ m n e. grind arith)
+      (λ l g k e. let o = other l g k e in (o.0, grind (arith, nat_tests, get-change, q.there l g k o.0, q.there i h k, q.once l i g h k o.0)))
     where
-      old : (l g k : ℕ) → subtask_in (change i (taking h) s.handles) l g ≡ Some (subtask.Guest k) → (subtask_at l g s ≡ Some (subtask.Guest k)) × (l ≡ i → g ≡ h → ⊥)
-      old l g k e = grind (arith, nat_tests, get-change, get-remove)
-  names_known_word (MakeCall f e x g group words) s ok q = record {
-    there = λ l h k d. made l h k d;
-    once = q.once;
-    number = numbers_word (MakeCall f e x g group words) s q;
-    called = called_stays (MakeCall f e x g group words) s ok q (λ m n e. grind arith);
-  }
+      other : (l g k : ℕ) → subtask_in (change i (taking h) s.handles) l g ≡ Some (subtask.Guest k) → (subtask_at l g s ≡ Some (subtask.Guest k)) × (l ≡ i → g ≡ h → ⊥)
+      other l g k e = grind (arith, nat_tests, get-change, get-remove)
+  names_known_word (MakeCall f e x g group words) s ok q = known_after (MakeCall f e x g group words) s ok q (λ m n e. grind arith) (λ l h k d. (d, made h k (get s.calls k) refl (q.there l h k d)))
     where
-      made : (l h k : ℕ) → subtask_at l h s ≡ Some (subtask.Guest k) → subtask_handle (subtask.Guest k) (after_word (MakeCall f e x g group words) s) ≡ Some h
-      made l h k d = by (get s.calls k) refl (q.there l h k d)
-        where
-          by : (o : Option Call) → get s.calls k ≡ o → option_and_then (λ c. c.handle) o ≡ Some h → subtask_handle (subtask.Guest k) (after_word (MakeCall f e x g group words) s) ≡ Some h
-          by None is t = absurd (grind arith)
-          by (Some c) is t = let below = q.number k c is in grind (arith, nat_tests, get-insert)
-  names_known_word (RemoveCall j) s ok q = record {
-    there = λ l h k d. let r = q.there l h k d in let f = deletable_unnamed j s ok in grind (arith, nat_tests, get-remove);
-    once = q.once;
-    number = numbers_word (RemoveCall j) s q;
-    called = called_stays (RemoveCall j) s ok q (λ m n e. grind arith);
-  }
-  names_known_word (OpenSet i) s ok q = record {
-    there = λ l g k e. q.there l g k (old l g k e);
-    once = λ l m g f k e d. q.once l m g f k (old l g k e) (old m f k d);
-    number = numbers_word (OpenSet i) s q;
-    called = called_stays (OpenSet i) s ok q (λ m n e. grind arith);
-  }
-    where
-      old : (l g k : ℕ) → subtask_in (change i (giving (named.Set (s.made.sets + 1))) s.handles) l g ≡ Some (subtask.Guest k) → subtask_at l g s ≡ Some (subtask.Guest k)
-      old l g k e = grind (arith, nat_tests, get-change, get-insert)
-  names_known_word (CloseSet i h x) s ok q = record {
-    there = λ l g k e. q.there l g k (old l g k e);
-    once = λ l m g f k e d. q.once l m g f k (old l g k e) (old m f k d);
-    number = numbers_word (CloseSet i h x) s q;
-    called = called_stays (CloseSet i h x) s ok q (λ m n e. grind arith);
-  }
-    where
-      old : (l g k : ℕ) → subtask_in (change i (taking h) s.handles) l g ≡ Some (subtask.Guest k) → subtask_at l g s ≡ Some (subtask.Guest k)
-      old l g k e = grind (arith, nat_tests, get-change, get-remove)
-  names_known_word (NameWork i j) s ok q = record {
-    there = λ l g k e. q.there l g k (old l g k e);
-    once = λ l m g f k e d. q.once l m g f k (old l g k e) (old m f k d);
-    number = numbers_word (NameWork i j) s q;
-    called = called_stays (NameWork i j) s ok q (λ m n e. grind arith);
-  }
-    where
-      old : (l g k : ℕ) → subtask_in (change i (giving (named.Subtask (subtask.Host j))) s.handles) l g ≡ Some (subtask.Guest k) → subtask_at l g s ≡ Some (subtask.Guest k)
-      old l g k e = grind (arith, nat_tests, get-change, get-insert)
-  names_known_word (UnnameWork i h j) s ok q = record {
-    there = λ l g k e. q.there l g k (old l g k e);
-    once = λ l m g f k e d. q.once l m g f k (old l g k e) (old m f k d);
-    number = numbers_word (UnnameWork i h j) s q;
-    called = called_stays (UnnameWork i h j) s ok q (λ m n e. grind arith);
-  }
-    where
-      old : (l g k : ℕ) → subtask_in (change i (taking h) s.handles) l g ≡ Some (subtask.Guest k) → subtask_at l g s ≡ Some (subtask.Guest k)
-      old l g k e = grind (arith, nat_tests, get-change, get-remove)
-  names_known_word w s ok q = record {
-    there = λ l g k e. let h = q.there l g k e in grind (arith, nat_tests, get-change);
-    once = q.once;
-    number = numbers_word w s q;
-    called = called_stays w s ok q (λ m n e. grind arith);
-  }
+      made : (h k : ℕ) (o : Option Call) → get s.calls k ≡ o → option_and_then (λ c. c.handle) o ≡ Some h → subtask_handle (subtask.Guest k) (after_word (MakeCall f e x g group words) s) ≡ Some h
+      made h k None is t = absurd (grind arith)
+      made h k (Some c) is t = let below = q.number k c is in grind (arith, nat_tests, get-insert)
+  names_known_word (RemoveCall j) s ok q = known_after (RemoveCall j) s ok q (λ m n e. grind arith)
+      (λ l h k d. let r = q.there l h k d in let f = deletable_unnamed j s ok in (d, grind (arith, nat_tests, get-remove)))
+  names_known_word (OpenSet i) s ok q = known_after (OpenSet i) s ok q (λ m n e. grind arith) (λ l g k e. grind (arith, nat_tests, get-change, get-insert, q.there l g k))
+  names_known_word (CloseSet i h x) s ok q = known_after (CloseSet i h x) s ok q (λ m n e. grind arith) (λ l g k e. grind (arith, nat_tests, get-change, get-remove, q.there l g k))
+  names_known_word (NameWork i j) s ok q = known_after (NameWork i j) s ok q (λ m n e. grind arith) (λ l g k e. grind (arith, nat_tests, get-change, get-insert, q.there l g k))
+  names_known_word (UnnameWork i h j) s ok q = known_after (UnnameWork i h j) s ok q (λ m n e. grind arith) (λ l g k e. grind (arith, nat_tests, get-change, get-remove, q.there l g k))
+  names_known_word w s ok q = known_after w s ok q (λ m n e. grind arith) (λ l g k e. let h = q.there l g k e in (e, grind (arith, nat_tests, get-change)))
 
 pub opening_names_known : (instances handle_limit capacity : ℕ) → NamesKnown (fresh instances handle_limit capacity)
 unfolding fresh
