@@ -1,11 +1,8 @@
 -- Calls along the words of a step: a status only rises, an end stays, numbers name what they named, deliveries are for callbacks.
-use Rattle.std.proofs.Common.{arith, ⊎_elim}
-use Rattle.std.specs.Option.{option_map_or}
-use Rattle.std.specs.Prelude.{Bool, None, Option, Some, false, is_none, is_some, slice_get, true, unwrap_or, ℕ, ◌≡◌, ◌≤◌, ◌⊎◌}
+use Rattle.task_rules.proofs.Machine.{arith, Bool, Call, Callee, CallEnd, Component, component_of, Core, ends_activation, EndsActivation, export_kind, false, get, goal_of, has_ended, is_async_lifted, is_callback, is_direct, is_exit, is_explicit, is_none, is_some, IsRunner, Join, kind_of, LaterBy, MayEnd, MayMove, None, op_of, Option, option_map_or, Place, place_of, SameThread, Scene, script_in, script_of, slice_get, Some, task_of, true, unwrap_or, WasReady, Why, Word, ℕ, ⊎_elim, ◌≡◌, ◌≤◌, ◌⊎◌}
+use Rattle.task_machine.specs.declared.records.Script.{Script}
 use Rattle.task_laws.proofs.CallsCame.{Grew, Grows}
 use Rattle.task_laws.proofs.CameLemmas.{Came, Comes, Moved, Shifts, Turned, Turns, MayStand}
-use Rattle.task_rules.proofs.Machine.{Call, Callee, CallEnd, Component, component_of, Core, ends_activation, EndsActivation, export_kind, get, goal_of, has_ended, is_async_lifted, is_callback, is_direct, is_exit, is_explicit, IsRunner, Join, kind_of, LaterBy, MayEnd, MayMove, op_of, Place, place_of, SameThread, Scene, script_in, script_of, task_of, WasReady, Why, Word}
-use Rattle.task_machine.specs.declared.records.Script.{Script}
 use Rattle.task_laws.specs.Order.{CallKinds, DeliveredByCallback, Numbered, is_delivered, is_delivery}
 use Rattle.task_laws.specs.Rises.{Rises}
 use Rattle.task_laws.specs.Settings.{CodesInCallbacks}

@@ -1,10 +1,7 @@
 -- What one word does to the place of a thread.
-use Rattle.std.proofs.Common.{ap, arith, inl, inr, refl, sym, ◌∙◌}
-use Rattle.std.proofs.lemmas.Bool.Decides.{nat_tests}
-use Rattle.std.specs.Prelude.{List, None, Option, Some, [], is_some, option_map, true, ℕ, ◌∷◌, ◌≡◌, ◌≤◌, ◌⊎◌}
+use Rattle.task_rules.proofs.Machine.{[], after_word, Allowed, ap, arith, behind, behind_one, callers_of, Core, displaced, Enter, foot_of, GoBehind, inl, inr, insert, is_some, IsRunner, List, Mark, MayMove, MayPut, MayYield, Move, nat_tests, newest, next_thread, None, older, on_thread, Option, option_map, passed_on, Place, place_of, Places, Placing, Pop, Promote, promoted, push_high, push_high_first, push_low, Put, put_at, put_high, put_low, put_switch, refl, resumed_all, Scene, set_callers, set_high, set_low, set_place, set_switch, Some, stand, Stop, stopped, sym, Thread, true, unqueued, Why, why_of, Word, ℕ, ◌∙◌, ◌∷◌, ◌≡◌, ◌≤◌, ◌⊎◌}
 use Rattle.task_laws.proofs.CallsCame.{IsBeside, IsFirst, IsGone, IsSame, ThreadAfter, thread_came}
 use Rattle.task_laws.proofs.EachLemmas.{after_change}
-use Rattle.task_rules.proofs.Machine.{after_word, Allowed, behind, behind_one, callers_of, Core, displaced, Enter, foot_of, GoBehind, insert, IsRunner, Mark, MayMove, MayPut, MayYield, Move, newest, next_thread, older, on_thread, passed_on, Place, place_of, Places, Placing, Pop, Promote, promoted, push_high, push_high_first, push_low, Put, put_at, put_high, put_low, put_switch, resumed_all, Scene, set_callers, set_high, set_low, set_place, set_switch, stand, Stop, stopped, Thread, unqueued, Why, why_of, Word}
 use Rattle.task_laws.proofs.SceneLemmas.{popped_threads}
 use Rattle.task_machine.proofs.MapLemmas.{change-field}
 use Rattle.task_machine.specs.declared.records.Place.TheVariants as place

@@ -1,12 +1,9 @@
 -- What a step owes of the end of a host work.
-use Rattle.task_rules.proofs.Machine.{Answers, base_at, changes_end, Core, Course, course_code, course_of, course_value, covers_end, end_code, end_for, EndWords, event_of, get, handed, handed_by, HandsAtOnce, HandsOut, has_end, host_status, how_far_of, is_async_work, is_end_of, is_live, is_other, is_stage_ended, is_stage_live, is_written, IsPolled, IsReadyAtOnce, IsRunner, Label, Moment, next_work, Records, Scene, scene_of, Setting, Stage, State, Status, status_code, Subtask, TakesEvent, TakesResult, Turn, undelivered_end, Work, WorkCaller, Writes, WritesAtOnce, WritesCall, WritesNever, WritesPolled, WritesToo, written, written_by}
+use Rattle.task_rules.proofs.Machine.{Answers, ap, ap₂, arith, base_at, Bool, changes_end, Core, Course, course_code, course_of, course_value, covers_end, end_code, end_for, EndWords, event_of, false, get, handed, handed_by, HandsAtOnce, HandsOut, has_end, host_status, how_far_of, inl, inr, is_async_work, is_end_of, is_live, is_other, is_some, is_stage_ended, is_stage_live, is_written, IsPolled, IsReadyAtOnce, IsRunner, Label, le_refl, le_trans, Moment, next_work, None, not, Option, option_map, option_map_or, Records, refl, Scene, scene_of, Setting, Some, Stage, State, Status, status_code, subst, Subtask, sym, TakesEvent, TakesResult, true, Turn, undelivered_end, unwrap_or, Work, WorkCaller, Writes, WritesAtOnce, WritesCall, WritesNever, WritesPolled, WritesToo, written, written_by, ℕ, ⊎_elim, ◌&&◌, ◌+◌, ◌==◌, ◌||◌, ◌∙◌, ◌≡◌, ◌≤◌, ◌⊎◌}
 use Rattle.task_laws.specs.Ends.{is_sync_work}
 use Rattle.task_laws.proofs.SaidEnds.{hands_at, said_at, written_at}
 use Rattle.task_laws.proofs.CallsSteps.{of_base}
 use Rattle.task_laws.proofs.PolledWorks.{polled_is_live}
-use Rattle.std.proofs.Common.{ap, inl, inr, le_refl, le_trans, refl, subst, sym, ◌∙◌, ap₂, arith, ⊎_elim}
-use Rattle.std.specs.Option.{option_map_or}
-use Rattle.std.specs.Prelude.{Bool, None, Option, Some, false, is_some, not, option_map, true, unwrap_or, ℕ, ◌&&◌, ◌+◌, ◌==◌, ◌||◌, ◌≡◌, ◌≤◌, ◌⊎◌}
 use Rattle.task_laws.proofs.Basics.{no_way, same_number, too_high, true_is_not_false}
 use Rattle.task_laws.proofs.OnceLemmas.{Due, EndStep, Out, Over, end_there}
 use Rattle.task_laws.proofs.Works.{Doing, WorkHolds, WorksGo, WorksHold, WorkWas, awaits, doing, doing_of, is_due, is_late, High, WasDue, clash, due_parts, stage_ended, stage_live, Before}

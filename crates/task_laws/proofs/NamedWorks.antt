@@ -1,14 +1,11 @@
 -- Which works handles name: along the words of a step none of them is a sync call's.
 use Rattle.task_laws.proofs.SetHandles.{none_named}
 use Rattle.task_laws.proofs.Subtasks.{NamedNow, handle_named}
-use Rattle.task_laws.proofs.Works.{Aborts, Doing, Done, Ends, Gone, Lives, Made, Pends, Same, Takes, WorkCame, WorksHold, doing, doing_of, work_came}
+use Rattle.task_laws.proofs.Works.{Doing, Same, WorkCame, WorksHold, doing, doing_of, work_came}
 use Rattle.task_laws.specs.Ends.{MayBeAborted, is_sync_work}
-use Rattle.task_rules.proofs.Machine.{after_word, Allowed, Core, fresh, get, is_async_work, Scene, subtask_at, Word, Work, work_caller_of, WorkCaller}
-use Rattle.std.proofs.Common.{inl, inr, ap, le_trans, refl, sym, ◌∙◌, arith}
+use Rattle.task_rules.proofs.Machine.{after_word, Allowed, ap, arith, Bool, Core, false, fresh, get, inl, inr, is_async_work, le_trans, None, Option, option_map, option_map_or, refl, Scene, Some, subtask_at, sym, true, Word, Work, work_caller_of, WorkCaller, ℕ, ◌∙◌, ◌≡◌, ◌≤◌, ◌⊎◌}
 use Rattle.task_laws.proofs.CountLemmas.{made_works_word}
-use Rattle.task_laws.proofs.Basics.{no_way, too_high}
-use Rattle.std.specs.Option.{option_map_or}
-use Rattle.std.specs.Prelude.{Bool, None, Option, Some, false, is_some, option_map, true, unwrap_or, ℕ, ◌≡◌, ◌≤◌, ◌⊎◌}
+use Rattle.task_laws.proofs.Basics.{no_way}
 use Rattle.task_machine.specs.declared.records.WorkCaller.TheVariants as work_caller
 use Rattle.task_machine.specs.declared.records.Subtask.TheVariants as subtask
 
@@ -16,14 +13,7 @@ use Rattle.task_machine.specs.declared.records.Subtask.TheVariants as subtask
 
 caller_kept : {a : Scene} {s : Core} {b i : ℕ} {h g : Bool → ℕ} {o p : Option Doing} → WorkCame a s b i h g o p → i ≤ s.made.works → (v : Doing) → p ≡ Some v → (u : Doing) × ((o ≡ Some u) × (v.caller ≡ u.caller))
 caller_kept (Same e fewer) below v at = (v, (sym e ∙ at, refl))
-caller_kept (Gone e fewer) below v at = no_way (ap (λ (o : Option Doing). is_some o) (sym e ∙ at))
-caller_kept (Made f host is l e more) below v at = absurd (too_high is below)
-caller_kept (Pends u host e p f fewer) below v at = (u, (e, ap (λ (o : Option Doing). (unwrap_or o u).caller) (sym at ∙ f)))
-caller_kept (Ends u c x e may f late async more) below v at = (u, (e, ap (λ (o : Option Doing). (unwrap_or o u).caller) (sym at ∙ f)))
-caller_kept (Lives u e one f fewer) below v at = (u, (e, ap (λ (o : Option Doing). (unwrap_or o u).caller) (sym at ∙ f)))
-caller_kept (Done u e one f fewer) below v at = (u, (e, ap (λ (o : Option Doing). (unwrap_or o u).caller) (sym at ∙ f)))
-caller_kept (Aborts u x e may f fewer) below v at = (u, (e, ap (λ (o : Option Doing). (unwrap_or o u).caller) (sym at ∙ f)))
-caller_kept (Takes u e f fewer) below v at = (u, (e, ap (λ (o : Option Doing). (unwrap_or o u).caller) (sym at ∙ f)))
+caller_kept d below v at = grind arith
 
 pub caller_is : (i : ℕ) (s : Core) (v : Doing) → doing_of i s ≡ Some v → work_caller_of i s ≡ v.caller
 caller_is i s v is = grind arith

@@ -1,12 +1,8 @@
 -- From facts of each step to all that is once in a run.
-use Rattle.std.proofs.lemmas.Bool.Decides.{nat_tests}
-use Rattle.task_rules.proofs.Machine.{changes_end, Component, Core, course_of, course_value, covers_end, end_for, EndsOnce, event_of, get, handed, hands_out, hands_out_written, has_end, history, host_status, is_end_of, is_known, is_over, Label, Moment, Run, same_end, same_subtask, Setting, State, Status, status_code, Step, Subtask, SubtaskEnd, undelivered_end, with_end, writes_end, written}
+use Rattle.task_rules.proofs.Machine.{[], ap, arith, Bool, changes_end, Component, Core, count_by, course_of, course_value, covers_end, end_for, EndsOnce, event_of, false, get, handed, hands_out, hands_out_written, has_end, history, host_status, if◌then◌else◌, inl, inr, is_end_of, is_known, is_over, is_some, Label, List, list_any, Moment, nat_tests, None, Option, refl, Run, same_end, same_subtask, Setting, Some, State, Status, status_code, Step, subst, Subtask, SubtaskEnd, sym, true, undelivered_end, with_end, writes_end, written, ℕ, ◌&&◌, ◌+◌, ◌==◌, ◌||◌, ◌∙◌, ◌∷◌, ◌≡◌, ◌≤◌, ◌⊎◌}
+use Rattle.std.proofs.lemmas.List.Recursion.{is_count_by}
 use Rattle.task_laws.proofs.Works.{Doing, doing_of, is_due}
 use Rattle.task_laws.proofs.Basics.{same_number, true_is_not_false}
-use Rattle.std.proofs.Common.{ap, arith, inl, inr, refl, subst, sym, ◌∙◌}
-use Rattle.std.proofs.lemmas.List.Recursion.{is_count_by}
-use Rattle.std.specs.List.{list_any}
-use Rattle.std.specs.Prelude.{Bool, List, None, Option, Some, [], count_by, false, if◌then◌else◌, true, ℕ, ◌&&◌, ◌+◌, ◌==◌, ◌||◌, ◌∷◌, ◌≡◌, ◌≤◌, ◌⊎◌, is_some}
 use Rattle.task_machine.specs.declared.records.Subtask.TheVariants as subtask
 use Rattle.task_machine.specs.declared.words.Status.TheVariants as status
 
@@ -98,6 +94,19 @@ module _ {c : Component} {m : Moment} {sub : Subtask} (q : EndStep c m sub) wher
 
   out_now : hands_out c sub m ≡ true → Out sub m.after.core
   out_now h = let r = end_there sub (handed c m) h in (q.hands r.0 r.1).1
+
+-- what a step that writes an end of the subtask comes to
+pub writes_by : {A : Type 0} (c : Component) (m : Moment) (sub : Subtask) → ((e : Status) → written c m ≡ Some (end_for e sub) → A) →
+    (changes_end sub m ≡ true → A) → (covers_end sub m ≡ true → A) → writes_end c sub m ≡ true → A
+writes_by {A = A} c m sub says changes covers w = by (either _ _ _ w)
+  where
+    either : (a b c : Bool) → (a || (b || c)) ≡ true → (a ≡ true) ⊎ ((b ≡ true) ⊎ (c ≡ true))
+    either a b c h = grind arith
+
+    by : (is_end_of sub (written c m) ≡ true) ⊎ ((changes_end sub m ≡ true) ⊎ (covers_end sub m ≡ true)) → A
+    by (inl h) = let r = end_there sub (written c m) h in says r.0 r.1
+    by (inr (inl h)) = changes h
+    by (inr (inr h)) = covers h
 
 -- ---- Runs
 

@@ -1,13 +1,8 @@
 -- The work that is polled next is live.
-use Rattle.task_rules.proofs.Machine.{Core, first_number, get, is_live, live_after, next_polled, Work}
-use Rattle.task_laws.proofs.Basics.{no_way, same_number}
-use Rattle.std.proofs.Common.{T, ap, ap₂, cond, eqb→eq, refl, subst, sym, ◌∙◌}
+use Rattle.task_rules.proofs.Machine.{[], ap, ap₂, below_all, Bool, cond, Core, eq_by_cmp, eqb→eq, false, first_number, get, if◌then◌else◌, is_live, is_lt, is_some, is_sorted, List, live_after, nat_cmp, nat_cmp_total, nat_lt, next_polled, None, Option, option_map_or, refl, Some, subst, sym, T, true, unsigned_tied, unwrap_or, Work, ℕ, ◌&&◌, ◌==◌, ◌∙◌, ◌∷◌, ◌≡◌}
 use Rattle.std.proofs.lemmas.Cmp.{tied_itself}
-use Rattle.std.specs.Cmp.{nat_cmp_total, unsigned_tied}
-use Rattle.std.specs.FinMap.Entries.{below_all, find, is_sorted}
-use Rattle.std.specs.Option.{option_map_or}
-use Rattle.std.specs.Ordering.{eq_by_cmp, is_lt, nat_cmp}
-use Rattle.std.specs.Prelude.{Bool, List, None, Option, Some, [], false, if◌then◌else◌, is_some, nat_lt, true, unwrap_or, ℕ, ◌&&◌, ◌==◌, ◌∷◌, ◌≡◌}
+use Rattle.std.specs.FinMap.Entries.{find}
+use Rattle.task_laws.proofs.Basics.{no_way, same_number}
 
 first : (a b : Bool) → T (a && b) → T a
 first true b p = tt

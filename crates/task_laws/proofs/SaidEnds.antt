@@ -1,9 +1,6 @@
 -- What a label says of ends is read beside the marks.
-use Rattle.task_rules.proofs.Machine.{base_at, CallLabel, Component, Core, end_for, handed_by, handed_by_call, handed_by_exit, handed_by_main, handed_by_set, handed_by_take, Label, LoopLabel, Main, MainLabel, op_of, Queues, SaysEnd, scene_of, script_of, Scripted, SetLabel, Setting, State, Status, Subtask, SubtaskEnd, TakeLabel, TaskLabel, Turn, Unscripted, written_by, written_by_call, written_by_loop, written_by_task}
-use Rattle.task_laws.proofs.SceneLemmas.{base_is}
-use Rattle.std.proofs.Common.{ap, subst}
-use Rattle.std.specs.Option.{option_map_or}
-use Rattle.std.specs.Prelude.{Bool, Option, Some, false, true, ℕ, ◌≡◌}
+use Rattle.task_rules.proofs.Machine.{ap, base_at, Bool, CallLabel, Component, Core, end_for, false, handed_by, handed_by_call, handed_by_exit, handed_by_main, handed_by_set, handed_by_take, Label, LoopLabel, Main, MainLabel, op_of, Option, option_map_or, Queues, SaysEnd, script_of, Scripted, SetLabel, Setting, Some, State, Status, Subtask, SubtaskEnd, TakeLabel, TaskLabel, true, Turn, Unscripted, written_by, written_by_call, written_by_loop, written_by_task, ℕ, ◌≡◌}
+use Rattle.task_laws.proofs.CallsSteps.{plain_scene}
 use Rattle.task_laws.proofs.Basics.{no_way}
 use Rattle.task_machine.specs.declared.label.Label.TheVariants as label
 use Rattle.task_machine.specs.declared.label.LoopLabel.TheVariants as loop_label
@@ -62,8 +59,9 @@ hands_at c main s q t (label.Call m) o h = call m h
 hands_at c main s q t l o h = h
 
 -- an end of a call that the label says is written is so in the whole step
-pub said_now : (x : Setting) (s : State) (l : Label) (next : Turn) (t : Core) (k : ℕ) (e : Status) → SaysEnd (scene_of x s l next) k e → written_by x.component s.core l t ≡ Some (end_for e (subtask.Guest k))
-said_now x s l next t k e says = by_label l (subst (λ c. written_by x.component c l c ≡ Some (end_for e (subtask.Guest k))) (base_is s.turn s.core) says)
+pub said_plain : (x : Setting) (s : State) (l : Label) (next : Turn) (t : Core) (k : ℕ) (e : Status) → SaysEnd (plain_scene x s l next) k e →
+    written_by x.component s.core l t ≡ Some (end_for e (subtask.Guest k))
+said_plain x s l next t k e says = by_label l says
   where
     is_guest : Subtask → Bool
     is_guest (subtask.Guest j) = true

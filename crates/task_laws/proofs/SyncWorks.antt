@@ -1,20 +1,16 @@
 -- Sync calls of hosts: along the words of a step the work of a thread inside one is the thread's.
 use Rattle.task_machine.proofs.CommuteLemmas.{get-change}
-use Rattle.std.specs.Option.{option_map_or}
-use Rattle.task_rules.proofs.Machine.{add_call, add_group, add_set, add_thread, add_work, after_word, Allowed, call_made, Core, count_work, free_handle, free_thread_handle, fresh, get, get-empty, get-insert, get-remove, give_handle, give_result, give_thread_handle, how_far_of, HowFar, instance_of, Mark, MayCome, MayRemoveWork, on_call, on_instance, on_thread, on_work, poll_pends, popped, push_high, remove_call, remove_group, remove_set, remove_thread, remove_work, RemoveWork, Scene, set_backpressure, set_cancel_delivered, set_cancelled, set_course, set_do_not_enter, set_do_not_suspend, set_end, set_event, set_exited, set_high, set_how_far, set_join, set_low, set_own_event, set_phase, set_position, set_register, set_result, set_saved_callee, set_saved_own, set_script, set_stage, set_started, set_starting_published, set_subtask_handle, set_switch, set_thread_handle, set_trapped, set_uninteresting, set_word, take_result, TakeHost, TakePush, Thread, with_handle, with_thread_handle, Word, Work, work_caller_of, work_queued}
-use Rattle.std.proofs.lemmas.Bool.Decides.{nat_tests}
+use Rattle.task_rules.proofs.Machine.{add_call, add_group, add_set, add_thread, add_work, after_word, Allowed, ap, arith, call_made, Core, count_work, free_handle, free_thread_handle, fresh, get, get-empty, get-insert, get-remove, give_handle, give_result, give_thread_handle, how_far_of, HowFar, inl, inr, instance_of, is_some, Mark, MayCome, MayRemoveWork, nat_tests, None, on_call, on_instance, on_thread, on_work, Option, option_map, option_map_or, poll_pends, popped, push_high, refl, remove_call, remove_group, remove_set, remove_thread, remove_work, RemoveWork, Scene, set_backpressure, set_cancel_delivered, set_cancelled, set_course, set_do_not_enter, set_do_not_suspend, set_end, set_event, set_exited, set_high, set_how_far, set_join, set_low, set_own_event, set_phase, set_position, set_register, set_result, set_saved_callee, set_saved_own, set_script, set_stage, set_started, set_starting_published, set_subtask_handle, set_switch, set_thread_handle, set_trapped, set_uninteresting, set_word, Some, subst, sym, take_result, TakeHost, TakePush, Thread, with_handle, with_thread_handle, Word, Work, work_caller_of, work_queued, ℕ, ⊎_elim, ◌∙◌, ◌≡◌, ◌≤◌, ◌⊎◌}
 use Rattle.task_laws.proofs.Basics.{no_way, too_high}
 use Rattle.task_laws.proofs.CallsCame.{op_came}
 use Rattle.task_laws.proofs.NamedWorks.{NamesNoSync, caller_is}
-use Rattle.task_laws.proofs.Works.{Doing, WorksGo, WorksHold, doing, doing_of}
+use Rattle.task_laws.proofs.Works.{Doing, WorksGo, doing, doing_of}
 use Rattle.task_laws.specs.Ends.{MayBeAborted, is_sync_work}
 use Rattle.task_machine.specs.declared.records.HowFar.TheVariants as how_far
 use Rattle.task_machine.specs.declared.records.Subtask.TheVariants as subtask
 use Rattle.task_machine.specs.declared.records.WorkCaller.TheVariants as work_caller
 use Rattle.task_machine.specs.declared.words.Mark.TheVariants as mark
 use Rattle.task_rules.proofs.StandLemmas.{by_number}
-use Rattle.std.proofs.Common.{ap, arith, inl, inr, refl, subst, sym, ◌∙◌, ⊎_elim, option_map}
-use Rattle.std.specs.Prelude.{Bool, None, Option, Some, false, is_some, true, unwrap_or, ℕ, ◌≡◌, ◌≤◌, ◌⊎◌}
 
 -- the work of a thread inside a sync call of a host is the thread's
 abbrev pub CallersKnown : Core → Type 0

@@ -1,5 +1,5 @@
 -- What host works come to along the words of a step: their ends, their entries, and what they have to hand out.
-use Rattle.task_rules.proofs.Machine.{add_call, add_group, add_set, add_thread, add_work, after_placing, after_word, Allowed, call_made, change, Core, count_work, Course, course_of, course_value, EndWork, Entry, FinishWork, free_handle, free_thread_handle, fresh, get, get-empty, give_handle, give_result, give_thread_handle, has_end, host_status, HostDef, is_aborted, is_async_work, is_stage_ended, is_stage_live, IsPolled, Label, Mark, MayAbort, MayFinish, NameWork, new_work, next_entry, next_work, on_call, on_instance, on_thread, on_work, one_if, or_high, Pend, Phase, phase_of, Places, poll_pends, popped, push_high, QueueWork, remove_call, remove_group, remove_set, remove_thread, remove_work, RemoveWork, rest_of, Scene, scene_of, set_backpressure, set_cancel_delivered, set_cancelled, set_course, set_do_not_enter, set_do_not_suspend, set_end, set_event, set_exited, set_high, set_how_far, set_join, set_low, set_own_event, set_phase, set_position, set_register, set_result, set_saved_callee, set_saved_own, set_script, set_stage, set_started, set_starting_published, set_subtask_handle, set_switch, set_thread_handle, set_trapped, set_uninteresting, set_word, SetCancelled, SetPhase, Setting, SetWorkJoin, Stage, State, Status, take_result, TakeHost, TakePush, TakeWorkEvent, Turn, undelivered_end, UnnameWork, unqueued, Walked, with_handle, with_thread_handle, Withdraw, Word, Work, work_caller_of, work_queued, WorkCaller}
+use Rattle.task_rules.proofs.Machine.{[], add_call, add_group, add_set, add_thread, add_work, after_placing, after_word, Allowed, ap, arith, Bool, call_made, change, Core, count_work, Course, course_of, course_value, EndWork, Entry, false, FinishWork, free_handle, free_thread_handle, fresh, get, get-empty, give_handle, give_result, give_thread_handle, has_end, host_status, HostDef, inl, inr, is_aborted, is_async_work, is_some, is_stage_ended, is_stage_live, IsPolled, Label, le_refl, le_trans, List, Mark, MayAbort, MayFinish, NameWork, nat_tests, new_work, next_entry, next_work, None, on_call, on_instance, on_thread, on_work, one_if, Option, option_map, or_high, Pend, Phase, phase_of, Places, poll_pends, popped, push_high, QueueWork, refl, remove_call, remove_group, remove_set, remove_thread, remove_work, RemoveWork, rest_of, Scene, scene_of, set_backpressure, set_cancel_delivered, set_cancelled, set_course, set_do_not_enter, set_do_not_suspend, set_end, set_event, set_exited, set_high, set_how_far, set_join, set_low, set_own_event, set_phase, set_position, set_register, set_result, set_saved_callee, set_saved_own, set_script, set_stage, set_started, set_starting_published, set_subtask_handle, set_switch, set_thread_handle, set_trapped, set_uninteresting, set_word, SetCancelled, SetPhase, Setting, SetWorkJoin, Some, Stage, State, Status, sym, take_result, TakeHost, TakePush, TakeWorkEvent, true, Turn, undelivered_end, UnnameWork, unqueued, Walked, with_handle, with_thread_handle, Withdraw, Word, Work, work_caller_of, work_queued, WorkCaller, ℕ, ⊎_elim, ◌&&◌, ◌++◌, ◌+◌, ◌==◌, ◌||◌, ◌∙◌, ◌∷◌, ◌≡◌, ◌≤◌, ◌⊎◌}
 use Rattle.task_laws.proofs.CallsSteps.{of_base}
 use Rattle.task_laws.specs.Ends.{is_sync_work}
 use Rattle.task_laws.proofs.CountLemmas.{made_works_word}
@@ -16,9 +16,6 @@ use Rattle.task_machine.proofs.CommuteLemmas.{change-change_same}
 use Rattle.task_machine.specs.declared.words.Phase.TheVariants as phase
 use Rattle.task_machine.specs.declared.label.Label.TheVariants as label
 use Rattle.task_machine.specs.declared.label.LoopLabel.TheVariants as loop_label
-use Rattle.std.proofs.lemmas.Bool.Decides.{nat_tests}
-use Rattle.std.proofs.Common.{ap, arith, inl, inr, le_refl, le_trans, refl, sym, ◌++◌, ◌∙◌, ⊎_elim}
-use Rattle.std.specs.Prelude.{Bool, List, None, Option, Some, [], false, is_some, option_map, true, ℕ, ◌&&◌, ◌+◌, ◌==◌, ◌||◌, ◌∷◌, ◌≡◌, ◌≤◌, ◌⊎◌}
 
 -- ---- What a work does
 

@@ -1,10 +1,7 @@
 -- Under the first thread of a direct call there is another one, along the words of a step.
-use Rattle.std.proofs.Common.{ap, inl, inr, subst, sym, ◌∙◌, refl, arith}
-use Rattle.std.specs.Option.{option_map_or}
-use Rattle.std.specs.Prelude.{None, Option, Some, false, is_some, option_map, true, ℕ, ◌≡◌, ◌≤◌, ◌⊎◌}
+use Rattle.task_rules.proofs.Machine.{after_word, Allowed, ap, arith, Call, Core, false, get, Goal, goal_of, inl, inr, is_direct, is_some, LaterBy, LaterCall, None, Option, option_map, option_map_or, Place, place_of, refl, SameThread, Scene, Some, Steady, subst, sym, task_of, Thread, true, Word, ℕ, ◌∙◌, ◌≡◌, ◌⊎◌}
 use Rattle.task_laws.proofs.CallsCame.{CallAfter, call_came}
 use Rattle.task_laws.specs.Order.{DirectsOnTop, Numbered}
-use Rattle.task_rules.proofs.Machine.{after_word, Allowed, Call, Core, get, Goal, goal_of, is_direct, LaterBy, LaterCall, Place, place_of, SameThread, Scene, Steady, task_of, Thread, Word}
 use Rattle.task_machine.specs.declared.records.Goal.TheVariants as goal
 use Rattle.task_machine.specs.declared.records.Place.TheVariants as place
 use Rattle.task_machine.specs.declared.records.Turn.TheVariants as turn
@@ -43,30 +40,20 @@ module _ (a : Scene) (s t : Core) (steady : Steady s t) (before : Numbered s) (a
 
       -- who was there had it under itself
       still : (r u : Thread) → get s.threads m ≡ Some r → get t.threads m ≡ Some u → (n : ℕ) × (place_of n t ≡ Some (place.Under m))
-      still r u was at = over (arrives.covered e.0 m (home e.0 ∙ e.1))
+      still r u was at = let c = arrives.covered e.0 m (home e.0 ∙ e.1) in (e.0, grind arith)
         where
-          below : m ≤ s.made.threads
-          below = (before.threads m r was).number
-
           same : SameThread r u
-          same = subst (λ (o : Option Thread). LaterBy SameThread o (Some u)) was (subst (λ (o : Option Thread). LaterBy SameThread (get s.threads m) o) at (steady.threads m below))
+          same = subst (λ (o : Option Thread). LaterBy SameThread o (Some u)) was (subst (λ (o : Option Thread). LaterBy SameThread (get s.threads m) o) at (steady.threads m (before.threads m r was).number))
 
           first : r.explicit ≡ false
           first = same.explicit ∙ (sym (ap (λ (o : Option Thread). option_map_or (λ (x : Thread). x.explicit) o false) at) ∙ implicit)
 
           was_direct : (o p : Option Call) → LaterBy LaterCall o p → is_direct (goal_in p) ≡ true → is_direct (goal_in o) ≡ true
-          was_direct None None l h = h
-          was_direct None (Some d) l h = absurd l
-          was_direct (Some c) None l h = no_way h
-          was_direct (Some c) (Some d) l h = ap (λ y. is_direct y) l.goal ∙ h
+          was_direct o p l h = grind arith
 
           e : (n : ℕ) × (place_of n s ≡ Some (place.Under m))
           e = top m (ap (λ (o : Option Thread). is_some (option_map (λ (x : Thread). x.place) o)) was) (ap (λ (o : Option Thread). option_map_or (λ (x : Thread). x.explicit) o false) was ∙ first)
-              (ap (λ (k : ℕ). is_direct (goal_of k s)) (ap (λ (o : Option Thread). option_map_or (λ (x : Thread). x.call) o 0) was ∙ (before.threads m r was).own first) ∙ was_direct (get s.calls m) (get t.calls m) (steady.calls m below) (of_call u at))
-
-          over : (place_of e.0 t ≡ Some (place.Under m)) ⊎ (place_of m t ≡ None) → (n : ℕ) × (place_of n t ≡ Some (place.Under m))
-          over (inl h) = (e.0, h)
-          over (inr h) = no_way (ap (λ (o : Option Place). is_some o) (sym h) ∙ there)
+              (ap (λ (k : ℕ). is_direct (goal_of k s)) (ap (λ (o : Option Thread). option_map_or (λ (x : Thread). x.call) o 0) was ∙ (before.threads m r was).own first) ∙ was_direct (get s.calls m) (get t.calls m) (steady.calls m (before.threads m r was).number) (of_call u at))
 
       -- who was not is the new one, which runs
       entered : (u : Thread) → get t.threads m ≡ Some u → place_of m s ≡ None → (is_direct (goal_of m a.base) ≡ true) ⊎ (a.next ≡ turn.Run m) → (n : ℕ) × (place_of n t ≡ Some (place.Under m))
@@ -74,11 +61,7 @@ module _ (a : Scene) (s t : Core) (steady : Steady s t) (before : Numbered s) (a
       entered u at none (inl was) = by_call (get s.calls m) refl
         where
           gone : get s.threads m ≡ None
-          gone = go (get s.threads m) none
-            where
-              go : (o : Option Thread) → option_map (λ (x : Thread). x.place) o ≡ None → o ≡ None
-              go None h = refl
-              go (Some x) h = no_way (ap (λ (o : Option Place). is_some o) (sym h))
+          gone = grind arith
 
           by_call : (o : Option Call) → get s.calls m ≡ o → (n : ℕ) × (place_of n t ≡ Some (place.Under m))
           by_call None c = no_way (sym (ap (λ y. is_direct y) (calls m) ∙ ap (λ (o : Option Call). is_direct (goal_in o)) c) ∙ was)

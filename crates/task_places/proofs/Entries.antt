@@ -1,12 +1,9 @@
 -- Entries that are taken out, entries of works, and new threads, beside a busy thread.
-use Rattle.std.proofs.lemmas.Bool.Decides.{nat_tests}
-use Rattle.std.proofs.Common.{T, ap, arith, cond, le_refl, refl, subst, sym, ◌∙◌}
-use Rattle.std.specs.Prelude.{Bool, List, None, Option, Some, [], false, if◌then◌else◌, is_some, true, unwrap_or, ℕ, ◌++◌, ◌+◌, ◌==◌, ◌∷◌, ◌≡◌, ◌≤◌}
-use Rattle.task_rules.proofs.Machine.{add_thread, callers_of, Core, entries, Entry, get-insert, has_entry, HasPlace, is_behind_of, is_entry_of, is_fresh, less, less_switch, Mark, next_entry, on_thread, one_if, or_high, Place, place_of, popped, promoted, put_switch, Queues, remove_thread, rest_of, says, set_high, set_low, set_place, set_switch, switch_entries, Thread, times, unqueued, Why, why_of}
+use Rattle.task_rules.proofs.Machine.{[], add_thread, ap, arith, Bool, callers_of, cond, Core, entries, Entry, false, get-insert, has_entry, HasPlace, if◌then◌else◌, is_behind_of, is_entry_of, is_fresh, is_some, le_refl, less, less_switch, List, Mark, nat_tests, next_entry, None, on_thread, one_if, Option, or_high, Place, place_of, popped, promoted, put_switch, Queues, refl, remove_thread, rest_of, says, set_high, set_low, set_place, set_switch, Some, subst, switch_entries, sym, T, Thread, times, true, unqueued, unwrap_or, Why, why_of, ℕ, ◌++◌, ◌+◌, ◌==◌, ◌∙◌, ◌∷◌, ◌≡◌, ◌≤◌}
 use Rattle.task_machine.specs.declared.records.Entry.TheVariants as entry
 use Rattle.task_machine.specs.declared.records.Place.TheVariants as place
 use Rattle.task_machine.specs.declared.words.Mark.TheVariants as mark
-use Rattle.task_rules.proofs.MoveLemmas.{no_time, others, put_back, removed_gone, removed_loose, removed_placed, other_place, gone_place, other_so}
+use Rattle.task_rules.proofs.MoveLemmas.{removed_is, no_time, others, put_back, removed_gone, removed_loose, removed_placed, other_place, gone_place, other_so}
 use Rattle.task_rules.proofs.StandLemmas.{Loose, Stand, by_number, entries-append, entries-less, eq_refl, zero_one, Watch, is_so, Left, left_loose, left_placed, by_count}
 use Rattle.task_rules.proofs.StopLemmas.{Untouched, fresh_apart, so_again}
 
@@ -137,7 +134,7 @@ pub flipped : (n m : ℕ) → (m == n) ≡ false → (n == m) ≡ false
 flipped n m e = grind (arith, nat_tests)
 
 pub removed_fresh : (k m : ℕ) (s : Core) → is_fresh (place_of k s) ≡ true → is_fresh (place_of k (remove_thread m s)) ≡ true
-removed_fresh k m s h = by_number k m (is_fresh (place_of k (remove_thread m s)) ≡ true) (λ e. ap (λ (j : ℕ). is_fresh (place_of j (remove_thread m s))) e ∙ ap is_fresh (gone_place m s)) (λ e. ap is_fresh (other_place k m s e) ∙ h)
+removed_fresh k m s h = grind (arith, nat_tests, removed_is k m s)
 
 -- who waits for its start may go
 so_gone : (v : Watch) (o : Option Place) → is_fresh o ≡ true → is_so v o ≡ true → is_so v None ≡ true
@@ -150,7 +147,7 @@ withdrawn_stand {P = P} n q m s apart fresh st = record {
   loose = λ k h. removed_loose k m u (by_number k m (Loose k u) (λ e. subst (λ (j : ℕ). Loose j u) (sym e) own) (λ e. left_loose k s u (c.left k e) (st.loose k h)));
   there = λ k h. zero_one refl h;
   placed = λ k h. by_number k m (HasPlace k (remove_thread m u)) (λ e. subst (λ (j : ℕ). HasPlace j (remove_thread m u)) (sym e) (removed_gone m u own)) (λ e. removed_placed k m u e (left_placed k s u (c.left k e) (c.places k) (st.placed k h)));
-  kept = λ k h. (refl, by_number k m (is_so (P k) (place_of k (remove_thread m u)) ≡ true) (λ e. ap (λ (j : ℕ). is_so (P k) (place_of j (remove_thread m u))) e ∙ (ap (is_so (P k)) (gone_place m u) ∙ so_gone (P k) (place_of m s) fresh (ap (λ (j : ℕ). is_so (P k) (place_of j s)) (sym e) ∙ (st.kept k h).1))) (λ e. ap (is_so (P k)) (other_place k m u e ∙ c.places k) ∙ (st.kept k h).1));
+  kept = λ k h. (refl, grind (arith, nat_tests, removed_is k m u, c.places k, (st.kept k h).1));
 }
   where
     u : Core
@@ -192,7 +189,7 @@ added_stand {P = P} n q t s apart new st = record {
   loose = λ k h. loose k (st.loose k h) (by_number k n ((k == s.made.threads + 1) ≡ false) (λ e. ap (λ (j : ℕ). j == s.made.threads + 1) e ∙ apart) (λ e. zero_one (no_time k n e) h));
   there = λ k h. zero_one refl h;
   placed = λ k h. by_number k (s.made.threads + 1) (HasPlace k u) (λ e. subst (λ (j : ℕ). HasPlace j u) (sym e) own) (λ e. other k e (st.placed k h));
-  kept = λ k h. (refl, by_number k (s.made.threads + 1) (is_so (P k) (place_of k u) ≡ true) (λ e. ap (λ (j : ℕ). is_so (P k) (place_of j u)) e ∙ (ap (is_so (P k)) here ∙ so_new (P k) (ap (is_so (P k)) (sym gone) ∙ (ap (λ (j : ℕ). is_so (P k) (place_of j s)) (sym e) ∙ (st.kept k h).1)))) (λ e. ap (is_so (P k)) (added_other t s k e) ∙ (st.kept k h).1));
+  kept = λ k h. (refl, grind (arith, nat_tests, added_other t s k, gone, here, (st.kept k h).1));
 }
   where
     u : Core

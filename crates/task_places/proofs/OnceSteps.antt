@@ -1,10 +1,7 @@
 -- Each step owes of the ends what it should, and so each run has each end once.
-use Rattle.task_rules.proofs.Machine.{AbortsOwn, base_at, Call, Core, end_for, Entry, fresh, get, get-empty, how_far_of, instance_of, is_spawn, is_spawn_caller, is_stage_ended, IsRunner, Label, Main, MainPlace, Mark, next_entry, opening, Place, place_of, ProgramAborts, runner_at, SameMain, Scene, scene_of, ScriptAborts, Scripted, Setting, spawned_at, stage_of, State, Status, Step, Subtask, subtask_at, subtask_handle, task_of, thread_of_entry, Turn, undelivered_end, Unscripted, Walked, Work, work_caller_of, written}
+use Rattle.task_rules.proofs.Machine.{[], AbortsOwn, ap, arith, base_at, Bool, Call, Core, end_for, Entry, false, fresh, get, get-empty, how_far_of, inl, inr, instance_of, is_some, is_spawn, is_spawn_caller, is_stage_ended, IsRunner, Label, le_refl, Main, MainPlace, Mark, next_entry, None, opening, Option, option_and_then, option_map, option_map_or, Place, place_of, ProgramAborts, refl, runner_at, SameMain, Scene, scene_of, ScriptAborts, Scripted, Setting, slice_get, Some, spawned_at, stage_of, State, Status, Step, subst, Subtask, subtask_at, subtask_handle, suc, sym, task_of, thread_of_entry, true, Turn, undelivered_end, Unscripted, unwrap_or, Walked, Work, work_caller_of, written, zero, ℕ, ⊎_elim, ◌&&◌, ◌++◌, ◌-◌, ◌∙◌, ◌∷◌, ◌≡◌, ◌≤◌, ◌⊎◌}
 use Rattle.task_laws.proofs.NamedCalls.{NamesKnown, names_known_word, opening_names_known}
 use Rattle.task_laws.proofs.NamedWorks.{NamesNoSync, abort_kept, caller_is, names_word, opening_names}
-use Rattle.std.proofs.Common.{ap, refl, subst, sym, ◌∙◌, inl, inr, le_refl, ◌++◌, arith, ⊎_elim}
-use Rattle.std.specs.Option.{option_map_or}
-use Rattle.std.specs.Prelude.{Bool, None, Option, Some, false, is_some, option_and_then, option_map, true, ℕ, ◌≡◌, ◌≤◌, ◌⊎◌, ◌∷◌, unwrap_or, [], slice_get, zero, suc, ◌-◌, ◌&&◌}
 use Rattle.task_laws.proofs.Basics.{no_way}
 use Rattle.task_laws.proofs.CallsLaw.{CallsGo, CallsHold}
 use Rattle.task_laws.proofs.CallsSteps.{of_base, step_goes, calls_begin}

@@ -1,7 +1,6 @@
 -- A state in order: each opening state is, and each step leads from one to one.
-use Rattle.task_rules.proofs.Machine.{ByHandle, ByOp, Call, call_instance, Core, empty, fresh, get, get-empty, HasSubtask, instance_of, is_fresh, is_there, IsRunner, Label, Main, opening, Place, place_of, Placed, Run, Scene, scene_of, Setting, State, Steady, task_of, Thread, Walk, Walked, was_started, Work}
+use Rattle.task_rules.proofs.Machine.{[], arith, ByHandle, ByOp, Call, call_instance, Core, empty, false, fresh, get, get-empty, HasSubtask, inl, instance_of, is_fresh, is_some, is_there, IsRunner, Label, List, Main, None, opening, Option, option_and_then, option_map, option_map_or, Place, place_of, Placed, refl, Run, Scene, scene_of, Setting, Some, State, Steady, task_of, Thread, true, Walk, Walked, was_started, Work, ℕ, ◌∷◌, ◌≡◌, ◌≤◌}
 use Rattle.task_places.proofs.HostsAwaited.{step_works}
-use Rattle.task_places.proofs.WorksQueued.{works_word}
 use Rattle.task_places.proofs.Directs.{DirectsRun, directs_on_top, directs_word}
 use Rattle.task_machine.specs.declared.records.Subtask.TheVariants as subtask
 use Rattle.task_laws.proofs.Joins.{joins_word, opening_joins}
@@ -13,9 +12,6 @@ use Rattle.task_laws.proofs.StrandLemmas.{Layered, layered_word}
 use Rattle.task_laws.proofs.SceneLemmas.{runner_there}
 use Rattle.task_laws.proofs.HousedLemmas.{RunnerHoused, housed_word}
 use Rattle.task_laws.proofs.CountLemmas.{few_word}
-use Rattle.std.proofs.Common.{arith, inl, refl}
-use Rattle.std.specs.Option.{option_map_or}
-use Rattle.std.specs.Prelude.{List, None, Option, Some, [], false, is_some, option_and_then, option_map, true, ℕ, ◌∷◌, ◌≡◌, ◌≤◌}
 use Rattle.task_laws.proofs.SetHandles.{opening_sets, sets_named_word}
 use Rattle.task_laws.proofs.CallsLaw.{CallsHold}
 use Rattle.task_laws.proofs.CallsSteps.{base_out, of_base, opening_holds, plain, plain_scene, step_goes}

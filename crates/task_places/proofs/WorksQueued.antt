@@ -1,8 +1,5 @@
 -- Host works have their entries, along the words of a step.
-use Rattle.task_rules.proofs.Machine.{add_call, add_group, add_set, add_thread, add_work, after_word, Allowed, call_made, Core, count_work, CountWork, EndWork, Entry, FinishWork, free_handle, free_thread_handle, get, get-insert, get-remove, give_handle, give_result, give_thread_handle, is_stage_ended, LaterBy, Mark, on_call, on_instance, on_thread, on_work, one_if, Places, poll_pends, popped, push_high, QueueWork, remove_call, remove_group, remove_set, remove_thread, remove_work, RemoveWork, Scene, set_backpressure, set_cancel_delivered, set_cancelled, set_course, set_do_not_enter, set_do_not_suspend, set_end, set_event, set_exited, set_high, set_how_far, set_join, set_low, set_own_event, set_phase, set_position, set_register, set_result, set_saved_callee, set_saved_own, set_script, set_stage, set_started, set_starting_published, set_subtask_handle, set_switch, set_thread_handle, set_trapped, set_uninteresting, set_word, stage_of, take_result, TakeHost, TakePush, with_handle, with_thread_handle, Withdraw, Word, work_queued}
-use Rattle.std.proofs.lemmas.Bool.Decides.{nat_tests}
-use Rattle.std.proofs.Common.{ap, arith, refl, le_refl, cond, None}
-use Rattle.std.specs.Prelude.{Bool, List, [], false, true, ℕ, ◌++◌, ◌+◌, ◌==◌, ◌∷◌, ◌≡◌, ◌≤◌}
+use Rattle.task_rules.proofs.Machine.{[], add_call, add_group, add_set, add_thread, add_work, after_word, Allowed, ap, arith, Bool, call_made, cond, Core, count_work, CountWork, EndWork, Entry, false, FinishWork, free_handle, free_thread_handle, get, get-insert, get-remove, give_handle, give_result, give_thread_handle, is_stage_ended, LaterBy, le_refl, List, Mark, nat_tests, None, on_call, on_instance, on_thread, on_work, one_if, Places, poll_pends, popped, push_high, QueueWork, refl, remove_call, remove_group, remove_set, remove_thread, remove_work, RemoveWork, Scene, set_backpressure, set_cancel_delivered, set_cancelled, set_course, set_do_not_enter, set_do_not_suspend, set_end, set_event, set_exited, set_high, set_how_far, set_join, set_low, set_own_event, set_phase, set_position, set_register, set_result, set_saved_callee, set_saved_own, set_script, set_stage, set_started, set_starting_published, set_subtask_handle, set_switch, set_thread_handle, set_trapped, set_uninteresting, set_word, stage_of, take_result, TakeHost, TakePush, true, with_handle, with_thread_handle, Withdraw, Word, work_queued, ℕ, ◌++◌, ◌+◌, ◌==◌, ◌∷◌, ◌≡◌, ◌≤◌}
 use Rattle.task_laws.specs.Order.{WorkEntries, WorksQueued, is_host_of, is_push_of, stands}
 use Rattle.task_laws.proofs.EachLemmas.{each_of}
 use Rattle.task_laws.proofs.PolledWorks.{polled_is_live}

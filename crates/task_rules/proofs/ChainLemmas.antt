@@ -2,9 +2,7 @@
 use Rattle.task_machine.specs.declared.words.Mark.TheVariants as mark
 use Rattle.task_machine.specs.declared.records.Place.TheVariants as place
 use Rattle.task_machine.specs.declared.records.HowFar.TheVariants as how_far
-use Rattle.std.specs.Prelude.{ℕ}
-use Rattle.std.proofs.Common.{inl, inr}
-use Rattle.task_rules.proofs.Machine.{after_word, Allowed, Chain, Collapses, Core, Departs, EndsOver, GoesBack, IsFall, IsSettling, IsShift, Lands, LandsAt, MayGo, MayLand, Move, NoWord, Places, Placing, Pop, Promote, Put, Quits, Remains, RemoveCall, RemoveGroup, RemoveThread, Scene, SetHowFar, Settles, SetTrapped, SetUninteresting, Stay, Stays, Then, Trip, Walk, Word}
+use Rattle.task_rules.proofs.Machine.{after_word, Allowed, Chain, Collapses, Core, Departs, EndsOver, GoesBack, inl, inr, IsFall, IsSettling, IsShift, Lands, LandsAt, MayGo, MayLand, Move, NoWord, Places, Placing, Pop, Promote, Put, Quits, Remains, RemoveCall, RemoveGroup, RemoveThread, Scene, SetHowFar, Settles, SetTrapped, SetUninteresting, Stay, Stays, Then, Trip, Walk, Word, ℕ}
 
 module _ {may : Word → Core → Type 0} where
   -- what holds at first and is kept by each word holds at last

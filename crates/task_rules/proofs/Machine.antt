@@ -1,4 +1,14 @@
--- The words of the machine and of its rules that the proofs cite, in one place.
+-- The words of std, of the machine and of its rules that the proofs cite, in one place.
+pub use Rattle.std.proofs.Common.{ap, ap₂, arith, cond, eqb→eq, inl, inr, le_refl, le_trans, refl, subst, sym, T, ⊎_elim, ◌∙◌}
+pub use Rattle.std.proofs.lemmas.Bool.{and_parts, eq-eqb, eqb-false, eqb-true, not-true}
+pub use Rattle.std.proofs.lemmas.Bool.Decides.{nat_tests}
+pub use Rattle.std.proofs.lemmas.List.Folds.{list_any-append}
+pub use Rattle.std.specs.Cmp.{nat_cmp_total, unsigned_tied}
+pub use Rattle.std.specs.FinMap.Entries.{below_all, is_sorted}
+pub use Rattle.std.specs.List.{list_any}
+pub use Rattle.std.specs.Option.{option_map_or, option_or}
+pub use Rattle.std.specs.Ordering.{eq_by_cmp, is_lt, nat_cmp}
+pub use Rattle.std.specs.Prelude.{[], All, Bool, count_by, false, filter, find, IfSome, if◌then◌else◌, is_none, is_some, IsPermutation, length, List, map, min, nat_le, nat_lt, None, not, Option, option_and_then, option_map, slice_get, Some, suc, true, unwrap_or, zero, ℕ, ◌%◌, ◌&&◌, ◌*◌, ◌++◌, ◌+◌, ◌-◌, ◌/◌, ◌<◌, ◌==◌, ◌||◌, ◌∷◌, ◌≡◌, ◌≢◌, ◌≤◌, ◌⊎◌}
 pub use Rattle.task_machine.specs.Core.{Began, Core, filled, Main, MainPlace, no_handles, Queues, Refused, Scripted, Started, State, Table, Unscripted, untouched}
 unfoldable pub use Rattle.task_machine.specs.Core.{fresh}
 pub use Rattle.task_machine.specs.Labels.{Choice, choice_of, event_label, exit_label, held_label, host_label, join_label, ret_label, take_label, task_cancel_label, wait_label, woken_of}
@@ -81,7 +91,7 @@ unfoldable pub use Rattle.task_rules.specs.Step.{did, Step, struck}
 pub use Rattle.task_rules.specs.SubtaskEnds.{call_of_op, cancel_target, cancelled_of_op, end_answered, end_for, finished_call, handed_by, handed_by_call, handed_by_cancel, handed_by_event, handed_by_exit, handed_by_main, handed_by_set, handed_by_take, has_result, host_end, is_ending_exit, is_handed_end, returned_of_op, started_end, SubtaskEnd, task_end, written_by, written_by_call, written_by_cancel, written_by_exit, written_by_loop, written_by_task}
 pub use Rattle.task_rules.specs.Takes.{delivered, delivery_row, host_result, host_status, own_delivered, rest_of, set_delivered, start_admitted, start_row, start_sets_flags, starting_is_published, take_row, thread_taken}
 unfoldable pub use Rattle.task_rules.specs.Takes.{activated, activated_woken, host_done, may_tell_starting, popped, pushed, running, start_begins, start_holds, starting_told, take_holds, wait_again}
-pub use Rattle.task_rules.specs.Turns.{goes_to, nothing_stands, settled_futures, settled_take, settled_turn}
+pub use Rattle.task_rules.specs.Turns.{goes_to, settled_take, settled_turn}
 unfoldable pub use Rattle.task_rules.specs.Turns.{at_turn}
 pub use Rattle.task_rules.specs.Words.{AddGroup, after_placing, after_word, CloseSet, CountWork, EndWork, Enter, FinishWork, FreeThreadHandle, GiveResult, GoBehind, MakeCall, MakeThread, Move, NameCall, NameThread, NameWork, OpenSet, Pend, placed_as, Places, Placing, Pop, Promote, Put, put_at, QueueWork, RemoveCall, RemoveGroup, RemoveThread, RemoveWork, SetBackpressure, SetCallEvent, SetCallJoin, SetCancelDelivered, SetCancelled, SetDoNotEnter, SetDoNotSuspend, SetEnd, SetExited, SetHowFar, SetOwnEvent, SetPhase, SetPosition, SetRegister, SetResult, SetSavedCallee, SetSavedOwn, SetScript, SetStarted, SetStartingPublished, SetTrapped, SetUninteresting, SetWord, SetWorkJoin, Stop, TakeHost, TakePush, TakeResult, TakeWorkEvent, UnnameCall, UnnameWork, Withdraw, Word}
 pub use Rattle.task_rules.specs.Works.{course_for, Ends, FailsNow, first_number, followed, has_end, live_after, Poll, polled_course, polled_in, StillPends}

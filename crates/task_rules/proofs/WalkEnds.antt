@@ -1,12 +1,7 @@
 -- The end of a task as a chain of words.
-use Rattle.std.proofs.Common.{ap, refl, sym, ◌∙◌}
-use Rattle.std.specs.Option.{option_map_or}
-use Rattle.std.specs.Prelude.{None, Option, Some, false, option_map, true, ℕ, ◌≡◌}
-use Rattle.std.proofs.Common.{arith}
-use Rattle.std.proofs.lemmas.Bool.Decides.{nat_tests}
+use Rattle.task_rules.proofs.Machine.{ap, arith, Call, CallEnd, Caller, caller_of, cancelled, Core, end_of, false, get, give_result, GiveResult, Goal, goal_of, is_told, is_waiting_on, join_of, MayEnd, nat_tests, None, on_call, on_thread, Option, option_map, option_map_or, place_of, refl, result_given, returned, SaysEnd, Scene, set_end, set_register, set_result, SetEnd, SetRegister, SetResult, Some, Stay, sym, told, true, ℕ, ◌∙◌, ◌≡◌}
 use Rattle.task_machine.proofs.CommuteLemmas.{get-change}
 use Rattle.task_machine.proofs.MapLemmas.{change-field}
-use Rattle.task_rules.proofs.Machine.{Call, CallEnd, Caller, caller_of, cancelled, Core, end_of, get, give_result, GiveResult, Goal, goal_of, is_told, is_waiting_on, join_of, MayEnd, on_call, on_thread, place_of, result_given, returned, SaysEnd, Scene, set_end, set_register, set_result, SetEnd, SetRegister, SetResult, Stay, told}
 use Rattle.task_rules.proofs.WalkMoves.{Chosen, ToldTo, told_walks, word}
 use Rattle.task_machine.specs.declared.records.CallEnd.TheVariants as call_end
 use Rattle.task_machine.specs.declared.records.Caller.TheVariants as caller
