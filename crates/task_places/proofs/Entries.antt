@@ -50,15 +50,9 @@ pub unqueued_cleared : (m : ℕ) (s : Core) → HasPlace m s → Cleared m s (se
 unfolding unqueued set_switch set_high set_low
 unqueued_cleared m s h = go (has_entry m s.queues.high) refl
   where
-    own_switch : switch_entries m (less_switch m s.queues.switch) ≡ 0
-    own_switch = grind (arith, nat_tests)
-
-    other_switch : (k : ℕ) → (k == m) ≡ false → switch_entries k (less_switch m s.queues.switch) ≡ switch_entries k s.queues.switch
-    other_switch k e = grind (arith, nat_tests)
-
     go : (b : Bool) → has_entry m s.queues.high ≡ b → Cleared m s (set_switch (less_switch m s.queues.switch) (if b then set_high (less m s.queues.high) s else set_low (less m s.queues.low) s))
-    go true e = cleared m s _ h (grind (arith, own_switch, has_one m s h, has_stands m s.queues.high, less_own m s.queues.high)) (λ k o. (other_switch k o, (less_other k m s.queues.high o, refl)))
-    go false e = cleared m s _ h (grind (arith, own_switch, has_one m s h, none_stands m s.queues.high, less_own m s.queues.low)) (λ k o. (other_switch k o, (refl, less_other k m s.queues.low o)))
+    go true e = cleared m s _ h (grind (arith, nat_tests, has_one m s h, has_stands m s.queues.high, less_own m s.queues.high)) (λ k o. (grind (arith, nat_tests), (less_other k m s.queues.high o, refl)))
+    go false e = cleared m s _ h (grind (arith, nat_tests, has_one m s h, none_stands m s.queues.high, less_own m s.queues.low)) (λ k o. (grind (arith, nat_tests), (refl, less_other k m s.queues.low o)))
 
 -- ---- The first entry of a mark
 
@@ -70,16 +64,13 @@ First mark.Low e s = s.queues.low ≡ e ∷ rest_of s.queues.low
 
 pub next_first : (s : Core) (x : Mark) (e : Entry) → next_entry s ≡ Some (x, e) → First x e s
 unfolding next_entry
-next_first s x e h = go s.queues.switch s.queues.high s.queues.low refl refl refl h
+next_first s mark.High e h = grind arith
+next_first s mark.Low e h = grind arith
+next_first s mark.Switch e h = go s.queues.switch refl
   where
-    is : (r : Mark × Entry) → Some r ≡ Some (x, e) → First r.0 r.1 s → First x e s
-    is r g f = subst (λ (y : Mark × Entry). First y.0 y.1 s) (ap (λ (o : Option (Mark × Entry)). unwrap_or o r) g) f
-
-    go : (o : Option ℕ) (hs ls : List Entry) → s.queues.switch ≡ o → s.queues.high ≡ hs → s.queues.low ≡ ls → or_high o hs ls ≡ Some (x, e) → First x e s
-    go (Some n) hs ls a b c g = is (mark.Switch, entry.Thread n) g (n, (a, refl))
-    go None (d ∷ hs) ls a b c g = is (mark.High, d) g (b ∙ ap (λ (l : List Entry). d ∷ rest_of l) (sym b))
-    go None [] (d ∷ ls) a b c g = is (mark.Low, d) g (c ∙ ap (λ (l : List Entry). d ∷ rest_of l) (sym c))
-    go None [] [] a b c g = absurd (cc)
+    go : (o : Option ℕ) → s.queues.switch ≡ o → (n : ℕ) × ((s.queues.switch ≡ Some n) × (e ≡ entry.Thread n))
+    go (Some n) at = (n, (at, grind arith))
+    go None at = absurd (grind arith)
 
 -- the entry of a thread leaves its mark
 pub popped_cleared : (x : Mark) (m : ℕ) (s : Core) → First x (entry.Thread m) s → HasPlace m s → Cleared m s (popped x s) × (1 ≤ switch_entries m s.queues.switch + entries m s.queues.high + entries m s.queues.low)
@@ -136,10 +127,6 @@ flipped n m e = grind (arith, nat_tests)
 pub removed_fresh : (k m : ℕ) (s : Core) → is_fresh (place_of k s) ≡ true → is_fresh (place_of k (remove_thread m s)) ≡ true
 removed_fresh k m s h = grind (arith, nat_tests, removed_is k m s)
 
--- who waits for its start may go
-so_gone : (v : Watch) (o : Option Place) → is_fresh o ≡ true → is_so v o ≡ true → is_so v None ≡ true
-so_gone v o f h = grind arith
-
 pub withdrawn_stand : {P : ℕ → Watch} (n : ℕ) (q : Option Place) (m : ℕ) (s : Core) → (m == n) ≡ false → is_fresh (place_of m s) ≡ true → Stand P n q [] s → Stand P n q [] (remove_thread m (set_switch (less_switch m s.queues.switch) (unqueued m s)))
 withdrawn_stand {P = P} n q m s apart fresh st = record {
   here = other_place n m u (flipped n m apart) ∙ (c.places n ∙ st.here);
@@ -176,9 +163,6 @@ module _ (t : Thread) (s : Core) where
 
 none_cut : (b : Bool) (x : ℕ) → x ≡ 0 → cond b 0 x ≡ 0
 none_cut b x h = grind arith
-
-so_new : (v : Watch) → is_so v None ≡ true → is_so v (Some place.New) ≡ true
-so_new v h = grind arith
 
 -- it has the next number, which was no thread's, and behind which nobody was
 pub added_stand : {P : ℕ → Watch} (n : ℕ) (q : Option Place) (t : Thread) (s : Core) → (n == s.made.threads + 1) ≡ false → t.place ≡ place.New → Stand P n q [] s → Stand P n q [] (add_thread t s)

@@ -148,9 +148,6 @@ step_arrives x s l t w h may = step_by x s l t w h may Arrives (λ a b n q u bas
 
 -- ---- The turn
 
-take_still : (a b : Bool) → is_run (settled_take a b) ≡ false
-take_still a b = grind arith
-
 settled_run : (s : Core) (u : Turn) (m : ℕ) → settled_turn s u ≡ turn.Run m → u ≡ turn.Run m
 settled_run s u m e = grind arith
 
