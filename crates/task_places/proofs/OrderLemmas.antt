@@ -240,70 +240,39 @@ opening_placed instances handle_limit capacity n = record {
   callers = λ f. grind (arith, get-empty);
 }
 
-opening_in_place : (instances handle_limit capacity : ℕ) (main : Main) → InPlace (opening instances handle_limit capacity main)
-opening_in_place instances handle_limit capacity main =
-    record { placed = opening_placed instances handle_limit capacity; runs = λ n e. absurd (cc) }
-
-opening_starts : (instances handle_limit capacity : ℕ) → StartsAwaited (fresh instances handle_limit capacity)
-unfolding fresh
-opening_starts instances handle_limit capacity k c e h = let o = get-empty {X = Call} k in absurd (cc)
-
-opening_strands : (instances handle_limit capacity : ℕ) → Strands (fresh instances handle_limit capacity)
-unfolding fresh
-opening_strands instances handle_limit capacity = record {
-  below = λ n m e. let o = get-empty {X = Thread} n in absurd (cc);
-  made = λ n m e. let o = get-empty {X = Thread} n in absurd (cc);
-  alone = λ n k m e f. let o = get-empty {X = Thread} n in absurd (cc);
-}
-
-opening_works : (instances handle_limit capacity : ℕ) → WorksQueued (fresh instances handle_limit capacity)
-unfolding fresh
-opening_works instances handle_limit capacity = record { each = λ i w at. let o = get-empty {X = Work} i in absurd (cc); low = λ i. (refl, refl); made = λ i there. let o = get-empty {X = Work} i in absurd (cc); gone = λ i none. (refl, refl) }
-
-opening_awaited : (instances handle_limit capacity : ℕ) → HostsAwaited (fresh instances handle_limit capacity)
-unfolding fresh
-opening_awaited instances handle_limit capacity n i far = let o = get-empty {X = Thread} n in absurd (cc)
-
-opening_directs : (instances handle_limit capacity : ℕ) → DirectsOnTop (fresh instances handle_limit capacity)
-unfolding fresh
-opening_directs instances handle_limit capacity m there implicit direct = let o = get-empty {X = Thread} m in absurd (cc)
-
-opening_calls : (instances handle_limit capacity : ℕ) → CallsThere (fresh instances handle_limit capacity)
-unfolding fresh
-opening_calls instances handle_limit capacity n k e = let o = get-empty {X = Thread} n in absurd (cc)
-
-opening_waits : (instances handle_limit capacity : ℕ) → WaitsAtHome (fresh instances handle_limit capacity)
-unfolding fresh
-opening_waits instances handle_limit capacity = record {
-  by_place = λ n x e. let o = get-empty {X = Thread} n in absurd (cc);
-  by_op = λ n x e. let o = get-empty {X = Thread} n in absurd (cc);
-}
-
-opening_fits : (c : Component) (instances handle_limit capacity : ℕ) → Fits c (fresh instances handle_limit capacity)
-unfolding fresh
-opening_fits c instances handle_limit capacity n t at = let o = get-empty {X = Thread} n in absurd (cc)
-
 pub opening_in_order : OpeningInOrder
+unfolding fresh
 opening_in_order c codes instances handle_limit capacity main =
     let q : CallsHold c (fresh instances handle_limit capacity) = opening_holds c instances handle_limit capacity in
-    let s = fresh instances handle_limit capacity in
     record {
       codes = codes;
-      in_place = opening_in_place instances handle_limit capacity main;
-      strands = opening_strands instances handle_limit capacity;
-      directs = opening_directs instances handle_limit capacity;
-      works = opening_works instances handle_limit capacity;
-      awaited = opening_awaited instances handle_limit capacity;
+      in_place = record { placed = opening_placed instances handle_limit capacity; runs = λ n e. absurd (cc) };
+      strands = record {
+        below = λ n m e. let o = get-empty {X = Thread} n in absurd (cc);
+        made = λ n m e. let o = get-empty {X = Thread} n in absurd (cc);
+        alone = λ n k m e f. let o = get-empty {X = Thread} n in absurd (cc);
+      };
+      directs = λ n there implicit direct. let o = get-empty {X = Thread} n in absurd (cc);
+      works = record {
+        each = λ i w at. let o = get-empty {X = Work} i in absurd (cc);
+        low = λ i. (refl, refl);
+        made = λ i there. let o = get-empty {X = Work} i in absurd (cc);
+        gone = λ i none. (refl, refl);
+      };
+      awaited = λ n i far. let o = get-empty {X = Thread} n in absurd (cc);
       numbered = q.numbered;
-      calls_there = opening_calls instances handle_limit capacity;
-      waits = opening_waits instances handle_limit capacity;
+      calls_there = λ n k e. let o = get-empty {X = Thread} n in absurd (cc);
+      waits = record {
+        by_place = λ n x e. let o = get-empty {X = Thread} n in absurd (cc);
+        by_op = λ n x e. let o = get-empty {X = Thread} n in absurd (cc);
+      };
       calls_named = opening_named instances handle_limit capacity;
       sets_named = opening_sets instances handle_limit capacity;
       joins_named = opening_joins instances handle_limit capacity;
       kinds = q.kinds;
       deliveries = q.deliveries;
-      fits = opening_fits c instances handle_limit capacity;
-      starts = opening_starts instances handle_limit capacity;
+      fits = λ n t at. let o = get-empty {X = Thread} n in absurd (cc);
+      starts = λ k c at e. let o = get-empty {X = Call} k in absurd (cc);
     }
 
 -- ---- Runs
