@@ -14,6 +14,7 @@ pub mod CountLemmas
 pub mod CallsCame
 pub mod CallsLaw
 pub mod CallsSteps
+pub mod FitLemmas
 pub mod OneHolder
 pub mod PolledWorks
 pub mod Works

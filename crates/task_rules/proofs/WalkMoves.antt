@@ -2,8 +2,8 @@
 use Rattle.task_rules.proofs.Machine.{[], after_placing, after_word, ap, arith, blocked_on, Bool, call_group, call_settled, change, checked, chosen, Core, ended, exited_if, false, first_entry, free_thread_handle, freed_thread_handle, FreeThreadHandle, get, Gift, group_settled, handed_on, hands_on, held_why, held_why_of, HowFar, if◌then◌else◌, inr, instance_of, interest_settled, is_at, is_blocked_on, is_callback_waiter, is_deletable, is_done_host, is_end, is_explicit, is_finished, is_group_done, is_some, is_stage_ended, is_told, is_waiter, is_waiting_on, IsOwn, IsRunner, Join, join_of, Lands, LandsAt, Leaves, List, Mark, may_hand_on, may_not_suspend, may_publish, may_tell, may_wake, may_wake_joined, MayCome, MayDeliver, MayLand, MayPut, MayTell, MemberGift, nat_tests, NoGift, None, not, NoWord, numbers, on_call, on_work, Option, option_and_then, option_map_or, OwnGift, Place, place_of, Placing, Promote, promoted, promoted_first, promoted_unless, published, push_high, Put, put_at, put_high, Quits, Records, refl, released, released_one, Releases, remove, remove_call, remove_group, remove_thread, RemoveCall, RemoveGroup, RemoveThread, same_subtask, SaysEnd, Scene, set_event, set_exited, set_how_far, set_place, set_uninteresting, SetCallEvent, SetCancelDelivered, SetExited, SetOwnEvent, Settles, SetUninteresting, Shifts, Some, stage_of, Status, Stay, Stays, Stop, stopped, subst, Subtask, sym, T, taken, TakeWorkEvent, task_of, Tells, Then, Thread, thread_handle_of, told, Trip, true, unblocked, Unblocks, wake, wake_joined, wake_why, waken_by, Wakes, Why, Word, Work, ℕ, ◌||◌, ◌∙◌, ◌∷◌, ◌≡◌}
 use Rattle.task_machine.proofs.CommuteLemmas.{get-change}
 use Rattle.task_rules.proofs.StandLemmas.{set_place_is}
-use Rattle.task_machine.specs.declared.records.Turn.TheVariants as turn
 use Rattle.task_machine.proofs.MapLemmas.{get-remove_same}
+use Rattle.task_machine.specs.declared.records.Turn.TheVariants as turn
 use Rattle.task_rules.proofs.ChainLemmas.{join, weaken, shift_stays, settle_stays}
 use Rattle.task_rules.proofs.StopLemmas.{find_passes}
 use Rattle.task_rules.proofs.PlacingLemmas.{placed, placing_shifted}

@@ -31,9 +31,9 @@ use Rattle.task_rules.specs.MainOps.{op_at, takes_words, spawned_at, is_spawn}
 use Rattle.task_rules.specs.Once.{returned_holder}
 use Rattle.task_rules.specs.OpParts.{callee_of_main_op, callee_of_op, ends_activation}
 use Rattle.task_rules.specs.Scenes.{Scene, component_of, op_in}
-use Rattle.task_rules.specs.Scripts.{export_kind, registers_for}
+use Rattle.task_rules.specs.Scripts.{export_kind, is_script, registers_for, slot_at}
 use Rattle.task_rules.specs.Threads.{resume_why}
-use Rattle.task_rules.specs.Words.{AddGroup, CloseSet, CountWork, EndWork, Enter, FinishWork, GoBehind, MakeCall, MakeThread, Move, NameCall, NameWork, OpenSet, Pend, Places, Placing, Pop, Promote, Put, QueueWork, RemoveCall, RemoveGroup, RemoveThread, RemoveWork, SetCallEvent, SetCallJoin, SetCancelDelivered, SetCancelled, SetDoNotEnter, SetEnd, SetHowFar, SetOwnEvent, SetPhase, SetStarted, TakeWorkEvent, SetWorkJoin, Stop, TakeHost, TakePush, UnnameCall, UnnameWork, Withdraw, Word, GiveResult, SetUninteresting, SetTrapped}
+use Rattle.task_rules.specs.Words.{AddGroup, Advance, Restart, CloseSet, CountWork, EndWork, Enter, FinishWork, GoBehind, MakeCall, MakeThread, Move, NameCall, NameWork, OpenSet, Pend, Places, Placing, Pop, Promote, Put, QueueWork, RemoveCall, RemoveGroup, RemoveThread, RemoveWork, SetCallEvent, SetCallJoin, SetCancelDelivered, SetCancelled, SetDoNotEnter, SetEnd, SetHowFar, SetOwnEvent, SetPhase, SetStarted, TakeWorkEvent, SetWorkJoin, Stop, TakeHost, TakePush, UnnameCall, UnnameWork, Withdraw, Word, GiveResult, SetUninteresting, SetTrapped}
 use Rattle.task_rules.specs.Works.{next_polled, has_end}
 use Rattle.task_rules.specs.SubtaskEnds.{end_for, written_by}
 use Rattle.task_machine.specs.declared.words.Mark.TheVariants as mark
@@ -230,10 +230,22 @@ MayCome a n (how_far.AwaitsEnd sub) s = IsRunner a n × HasSubtask a n sub
 MayCome a n (how_far.Answered v) s = (m : ℕ) × (IsRunner a m × ((a.next ≡ turn.Run n) × (place_of n a.base ≡ Some (place.Under m))))
 MayCome a n h s = IsRunner a n
 
+-- the running thread's op is done
+abbrev pub MayAdvance : Scene → ℕ → ℕ → Type 0
+MayAdvance a n p = IsRunner a n
+
+-- a thread that was taken with a delivery begins its react script
+abbrev pub MayRestart : Scene → ℕ → Type 0
+MayRestart a n = IsRunner a n × ((d : Delivery) × WasReady a n (why.Delivery d))
+
+-- the slot of the thread's instance has a script
+abbrev pub HasSlot : Scene → ℕ → ℕ → Type 0
+HasSlot a n x = is_script (slot_at (component_of a) (instance_of n a.base) x) ≡ true
+
 -- a thread beside the first one of its task, by an op that names a script
 abbrev pub MayMake : Scene → Thread → Core → Type 0
 MayMake a t s = (n : ℕ) × (IsRunner a n × ((s.made.threads ≡ a.base.made.threads) × ((x : ℕ) × ((v : ℕ) ×
-    ((t ≡ new_thread (task_of n a.base) true (script.Slot x) (registers_for (v ∷ [])) None) × (s.calls ≡ a.base.calls))))))
+    ((t ≡ new_thread (task_of n a.base) true (script.Slot x) (registers_for (v ∷ [])) None) × ((s.calls ≡ a.base.calls) × HasSlot a n x))))))
 
 -- Who is gone.
 pub data MayGo (a : Scene) (n : ℕ) (s : Core) : Type 0 where
@@ -408,6 +420,8 @@ MayBar a i false = returned_holder a.base a.label ≡ Some i
 -- Where the word is done in this step, right after s.
 abbrev pub Allowed : Scene → Word → Core → Type 0
 Allowed a (Places p) s = MayShift p s ⊎ MayLeave a p s
+Allowed a (Advance n p) s = MayAdvance a n p
+Allowed a (Restart n) s = MayRestart a n
 Allowed a (SetHowFar n h) s = MayCome a n h s
 Allowed a (MakeThread t) s = MayMake a t s
 Allowed a (RemoveThread n) s = MayGo a n s
