@@ -160,8 +160,8 @@ module _ {a : Scene} where
   came_word w s ok k = go (thread_came w s ok k)
     where
       go : ThreadAfter a w s k → PlaceAfter a w s k
-      go (IsSame r u e f c x h (inl same)) = rw (e, f, same) (stays (Some r.place))
-      go (IsSame r u e f c x h (inr y)) = placed_came y.0 w s y.1 ok k
+      go (IsSame r u e f c x h (inl same) z) = rw (e, f, same) (stays (Some r.place))
+      go (IsSame r u e f c x h (inr y) z) = placed_came y.0 w s y.1 ok k
       go (IsGone e) = rw e (Turns (Leaves refl))
       go (IsBeside u is l same m e) = rw e (Turns (IsMade is l (ap (λ (r : Thread). Some r.place) m.1.1.1.1.1.0)))
-      go (IsFirst u is l there x y h new e) = rw e (Turns (IsMade is l (ap (λ (p : Place). Some p) new)))
+      go (IsFirst u is l there x y h new e z) = rw e (Turns (IsMade is l (ap (λ (p : Place). Some p) new)))

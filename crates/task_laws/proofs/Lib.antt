@@ -14,6 +14,7 @@ pub mod CountLemmas
 pub mod CallsCame
 pub mod CallsLaw
 pub mod CallsSteps
+pub mod FitLemmas
 pub mod OneHolder
 pub mod PolledWorks
 pub mod Works
@@ -23,5 +24,6 @@ pub mod OnceLemmas
 pub mod HostEnds
 pub mod GuestEnds
 pub mod WrittenLaws
+pub mod NamedCalls
 pub mod NamedWorks
 pub mod SyncWorks

@@ -37,11 +37,11 @@ awaited_word a w s ok q stuck h n i far = go (thread_came w s ok n)
     come r e ok = (grind arith, inl (blocked_place (subtask.Host i) (place_of n s) (grind arith)))
 
     go : ThreadAfter a w s n → Awaited n i (after_word w s)
-    go (IsSame r u e f c y (inl same) p) = goes r u e f p (h n i (cc))
-    go (IsSame r u e f c y (inr ok) p) = goes r u e f p (come r e (let is : u.how_far ≡ how_far.Calls (subtask.Host i) = cc in subst (λ g. MayCome a n g s) is ok))
+    go (IsSame r u e f c y (inl same) p z) = goes r u e f p (h n i (cc))
+    go (IsSame r u e f c y (inr ok) p z) = goes r u e f p (come r e (let is : u.how_far ≡ how_far.Calls (subtask.Host i) = cc in subst (λ g. MayCome a n g s) is ok))
     go (IsGone e) = absurd (cc)
     go (IsBeside u is l same m e) = absurd (cc)
-    go (IsFirst u is l there y z new m e) = absurd (cc)
+    go (IsFirst u is l there y z new m e x) = absurd (cc)
 
 -- ---- A step
 

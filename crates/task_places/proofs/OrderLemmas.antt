@@ -1,5 +1,5 @@
 -- A state in order: each opening state is, and each step leads from one to one.
-use Rattle.task_rules.proofs.Machine.{[], arith, ByHandle, ByOp, Call, call_instance, Core, empty, false, fresh, get, get-empty, HasSubtask, inl, instance_of, is_fresh, is_some, is_there, IsRunner, Label, List, Main, None, opening, Option, option_and_then, option_map, option_map_or, Place, place_of, Placed, refl, Run, Scene, scene_of, Setting, Some, State, Steady, task_of, Thread, true, Walk, Walked, was_started, Work, ℕ, ◌∷◌, ◌≡◌, ◌≤◌}
+use Rattle.task_rules.proofs.Machine.{[], ap, arith, Bool, ByHandle, ByOp, Call, call_instance, Component, Core, empty, false, fresh, get, get-empty, HasSubtask, inl, instance_of, is_fresh, is_some, is_there, IsRunner, Label, List, Main, None, opening, Option, option_and_then, option_map, option_map_or, Place, place_of, Placed, refl, Run, Scene, scene_of, Script, Setting, Some, State, Steady, task_of, Thread, true, Walk, Walked, was_started, Work, ℕ, ◌∷◌, ◌≡◌, ◌≤◌}
 use Rattle.task_places.proofs.HostsAwaited.{step_works}
 use Rattle.task_places.proofs.Directs.{DirectsRun, directs_on_top, directs_word}
 use Rattle.task_machine.specs.declared.records.Subtask.TheVariants as subtask
@@ -11,11 +11,12 @@ use Rattle.task_laws.proofs.WaitLemmas.{Homed, KnownHome, homed_word}
 use Rattle.task_laws.proofs.StrandLemmas.{Layered, layered_word}
 use Rattle.task_laws.proofs.SceneLemmas.{runner_there}
 use Rattle.task_laws.proofs.HousedLemmas.{RunnerHoused, housed_word}
+use Rattle.task_laws.proofs.FitLemmas.{AllFit, fits_word}
 use Rattle.task_laws.proofs.CountLemmas.{few_word}
 use Rattle.task_laws.proofs.SetHandles.{opening_sets, sets_named_word}
-use Rattle.task_laws.proofs.CallsLaw.{CallsHold}
-use Rattle.task_laws.proofs.CallsSteps.{base_out, of_base, opening_holds, plain, plain_scene, step_goes}
-use Rattle.task_laws.specs.Order.{CallsNamed, InOrder, InPlace, Numbered, OpeningInOrder, SetsNamed, StartsAwaited, StepInOrder, WasCall, CallsThere, MakesFew, Strands, WaitsAtHome, set_of_op, set_of_place, StepsMakeFew, JoinsNamed, DirectsOnTop, WorksQueued, HostsAwaited}
+use Rattle.task_laws.proofs.CallsLaw.{CallsHold, CallsGo}
+use Rattle.task_laws.proofs.CallsSteps.{base_out, of_base, opening_holds, plain, plain_scene, step_goes, calls_begin, word_goes}
+use Rattle.task_laws.specs.Order.{CallsNamed, InOrder, InPlace, Numbered, OpeningInOrder, SetsNamed, StartsAwaited, StepInOrder, WasCall, CallsThere, MakesFew, Strands, WaitsAtHome, set_of_op, set_of_place, StepsMakeFew, JoinsNamed, DirectsOnTop, WorksQueued, HostsAwaited, Fits, names_script}
 use Rattle.task_machine.specs.declared.records.HowFar.TheVariants as how_far
 use Rattle.task_places.proofs.PlaceLaw.{Arrives}
 use Rattle.task_places.proofs.PlaceSteps.{Withdrawable, in_place, step_arrives}
@@ -58,6 +59,11 @@ same_instance : (s t : Core) → Steady s t → Numbered s → CallsThere s → 
 same_instance s t steady numbered before after n was now =
     let same = same_call s t steady numbered (task_of n s) in
     grind (arith, steady.threads n, numbered.threads n, before n (task_of n s), after n (task_of n t))
+
+-- the instance of the call matters to a thread beside the first one
+same_script : (c : Component) (i j : ℕ) (explicit : Bool) (x : Script) → (explicit ≡ true → i ≡ j) → names_script c j explicit x ≡ true →
+    names_script c i explicit x ≡ true
+same_script c i j explicit x same h = grind arith
 
 pub steps_make_few : StepsMakeFew
 steps_make_few x s l t step =
@@ -135,6 +141,35 @@ module _ (x : Setting) (s : State) (l : Label) (t : State) (h : InOrder x.compon
   pub works_kept : WorksQueued t.core × HostsAwaited t.core
   works_kept = step_works x s l t w h.in_place withdrawable h.works h.awaited
 
+  -- ---- Scripts
+
+  fits_base : Fits x.component a.base
+  fits_base n r at = let f = h.fits n r at in record { script = f.script; first = f.first }
+
+  fits_first : AllFit a s.core
+  fits_first n r at = record { script = (h.fits n r at).script; call = λ e. h.calls_there n r.call (ap (λ o. option_map (λ (t : Thread). t.call) o) at); first = (h.fits n r at).first }
+
+  fits_last : AllFit a t.core
+  fits_last =
+      let p : CallsHold x.component s.core = record { numbered = h.numbered; kinds = h.kinds; deliveries = h.deliveries } in
+      let b = calls_begin x s l w.next p in
+      let known = of_base (λ b. RunnerHoused (record a { base = b })) s.turn s.core runner_housed in
+      let fits = of_base (λ b. Fits x.component b) s.turn s.core fits_base in
+      let first = of_base (λ b. AllFit (record a { base = b }) s.core) s.turn s.core fits_first in
+      let c = scene_of x s l w.next in
+      let q = along (λ u. CallsGo c u × AllFit c u) (λ v m ok q. (word_goes c h.codes b.0 v m ok q.0, fits_word c h.codes b.0 known fits v m ok q.0 q.1)) (b.1, first) w.walk in
+      base_out (λ b. AllFit (record a { base = b }) t.core) s.turn s.core q.1
+
+  pub fits_kept : Steady s.core t.core → Fits x.component t.core
+  fits_kept steady n r at =
+      let f = fits_last n r at in
+      let now = calls_kept n r.call (ap (λ o. option_map (λ (t : Thread). t.call) o) at) in
+      record {
+        script = same_script x.component (call_instance r.call t.core) (call_instance r.call s.core) r.explicit r.script
+            (λ e. same_call s.core t.core steady h.numbered r.call (f.call e) now) f.script;
+        first = f.first;
+      }
+
   -- handles of sets, and the joins to them
   pub joined_kept : SetsNamed t.core × JoinsNamed t.core
   joined_kept = along (λ (c : Core). SetsNamed c × JoinsNamed c)
@@ -188,6 +223,7 @@ step_in_order x s l t h step =
       joins_named = (joined_kept x s l t h w).1;
       kinds = q.kinds;
       deliveries = q.deliveries;
+      fits = fits_kept x s l t h w (steady x s l t step);
       starts = starts_kept x s l t h w (steady x s l t step);
     }
 
@@ -243,6 +279,10 @@ opening_waits instances handle_limit capacity = record {
   by_op = λ n x e. let o = get-empty {X = Thread} n in absurd (cc);
 }
 
+opening_fits : (c : Component) (instances handle_limit capacity : ℕ) → Fits c (fresh instances handle_limit capacity)
+unfolding fresh
+opening_fits c instances handle_limit capacity n t at = let o = get-empty {X = Thread} n in absurd (cc)
+
 pub opening_in_order : OpeningInOrder
 opening_in_order c codes instances handle_limit capacity main =
     let q : CallsHold c (fresh instances handle_limit capacity) = opening_holds c instances handle_limit capacity in
@@ -262,6 +302,7 @@ opening_in_order c codes instances handle_limit capacity main =
       joins_named = opening_joins instances handle_limit capacity;
       kinds = q.kinds;
       deliveries = q.deliveries;
+      fits = opening_fits c instances handle_limit capacity;
       starts = opening_starts instances handle_limit capacity;
     }
 

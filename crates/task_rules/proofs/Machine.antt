@@ -42,6 +42,7 @@ pub use Rattle.task_machine.specs.declared.records.Join.{Join}
 pub use Rattle.task_machine.specs.declared.records.Made.{Made}
 pub use Rattle.task_machine.specs.declared.records.Named.{Named}
 pub use Rattle.task_machine.specs.declared.records.Place.{Place}
+pub use Rattle.task_machine.specs.declared.records.Script.{Script}
 pub use Rattle.task_machine.specs.declared.records.Set.{Set}
 pub use Rattle.task_machine.specs.declared.records.Stage.{Stage}
 pub use Rattle.task_machine.specs.declared.records.Subtask.{Subtask}
@@ -56,7 +57,7 @@ pub use Rattle.task_machine.specs.declared.words.Mark.{Mark}
 pub use Rattle.task_machine.specs.declared.words.OwnEvent.{OwnEvent}
 pub use Rattle.task_machine.specs.declared.words.Phase.{Phase}
 pub use Rattle.task_machine.specs.declared.words.Status.{Status}
-pub use Rattle.task_rules.specs.Allowed.{AbortsOwn, Allowed, AwaitsEvent, Blocks, ByDelivery, ByHandle, ByOp, ByProgram, ByScript, BySetHandle, ByThread, ByWait, Cancels, ComesAgain, Departs, EndsActivation, EndsOver, Exits, Falls, FindsEvent, GivesUp, HasSet, HasSubtask, Holds, is_async_work, is_begun, is_done_host, is_exit, is_for_main, IsFall, IsFoot, IsLaid, IsNamed, IsNew, IsOwn, IsPolled, IsRunner, IsSettling, IsWithdrawn, Leaves, MayAbort, MayBar, MayCall, MayCome, MayDeliver, MayEnd, MayFinish, MayGo, MayJoin, MayLand, MayLeave, MayMake, MayMakeCall, MayMove, MayOwe, MayPut, MayRemoveWork, MayShift, MayStart, MayTell, MayWithdraw, MayYield, ProgramAborts, Releases, Resumes, ReturnsNow, Runs, SaysEnd, ScriptAborts, Starts, status_of_end, Stays, subtask_under_way, Suspends, Tells, Unblocks, Uncovers, Waits, WaitsAgain, wake_why, Wakes, WasReady, Yields}
+pub use Rattle.task_rules.specs.Allowed.{AbortsOwn, Allowed, AwaitsEvent, Blocks, ByDelivery, ByHandle, ByOp, ByProgram, ByScript, BySetHandle, ByThread, ByWait, Cancels, ComesAgain, Departs, EndsActivation, EndsOver, Exits, Falls, FindsEvent, GivesUp, HasSet, HasSubtask, Holds, is_async_work, is_begun, is_done_host, is_exit, is_for_main, IsCalled, IsFall, IsFoot, IsLaid, IsNamed, IsNew, IsOwn, IsPolled, IsRunner, IsSettling, IsWithdrawn, Leaves, MayAbort, MayAdvance, MayBar, MayCall, MayCome, MayDeliver, MayEnd, MayFinish, MayGo, MayJoin, MayLand, MayLeave, MayMake, MayMakeCall, MayMove, MayNameCall, MayOwe, MayPut, MayRemoveWork, MayRestart, MayShift, MayStart, MayTell, MayWithdraw, MayYield, ProgramAborts, Releases, Resumes, ReturnsNow, Runs, SaysEnd, ScriptAborts, Starts, status_of_end, Stays, subtask_under_way, Suspends, Tells, Unblocks, Uncovers, Waits, WaitsAgain, wake_why, Wakes, WasReady, Yields}
 pub use Rattle.task_rules.specs.Calls.{AtOnce, call_begins, call_clears_flag, call_host_polled, call_row, call_status, call_sync_begins, call_sync_host_polled, call_sync_host_row, call_sync_row, call_sync_status, enter_row, Failing, first_poll, FirstPoll, Later, new_call, new_thread, new_work, next_thread, next_work, put_back, settle_group_of, status_found, sync_sets_flag, work_group, work_value}
 unfoldable pub use Rattle.task_rules.specs.Calls.{answered, call_answered, call_made, call_pending, call_queues, call_resumes, call_returned, call_stops, call_sync_host_stops, call_sync_stops, enter_runs, host_answered, host_pending, host_ready, with_handle, with_thread_handle, work_answered, work_deleted, work_queued}
 pub use Rattle.task_rules.specs.Cancels.{aborted_phase, AlreadyEnded, Async, behind_switch, blocked_code, CallbackWaits, CallbackYields, cancel_by_end, cancel_case, cancel_ended_row, cancel_guest, cancel_label, cancel_row, cancel_subtask, CancelCase, drop_row, is_callback_wait, Mode, OtherwiseRuns, pauses, StartNotRun, subtask_instance, subtask_row, Sync}
@@ -77,7 +78,7 @@ pub use Rattle.task_rules.specs.Places.{entries, HasPlace, is_at_high, is_at_low
 pub use Rattle.task_rules.specs.Progress.{Fails, Goes, may, Never, or_never, or_trap, Ordered, Progress, Stops, trap_if, Traps}
 pub use Rattle.task_rules.specs.Run.{opening, Run}
 pub use Rattle.task_rules.specs.Scenes.{base_at, base_without, component_of, op_in, runner_at, Scene, scene_of, thread_of_entry}
-pub use Rattle.task_rules.specs.Scripts.{export_kind, host_at, registers_for, script_in, script_of_thread, slot_at, value_of, values_in}
+pub use Rattle.task_rules.specs.Scripts.{export_kind, host_at, is_script, registers_for, script_in, script_of_thread, slot_at, value_of, values_in}
 unfoldable pub use Rattle.task_rules.specs.Scripts.{op_of, script_of}
 pub use Rattle.task_rules.specs.Sets.{chosen, given_code, given_handle, given_result, handed_out, join_done, join_to, joins, may_wake_new, poll_row, set_drop_row, set_new_row, set_row, wait_begins, wait_goes_on, wait_row, wakes_joined}
 unfoldable pub use Rattle.task_rules.specs.Sets.{finds_nothing, joined, received, received_woken, set_dropped, set_given, set_made, wait_stops, wait_stops_checked}
@@ -90,6 +91,6 @@ pub use Rattle.task_rules.specs.Takes.{delivered, delivery_row, host_result, hos
 unfoldable pub use Rattle.task_rules.specs.Takes.{activated, activated_woken, host_done, may_tell_starting, popped, pushed, running, start_begins, start_holds, starting_told, take_holds, wait_again}
 pub use Rattle.task_rules.specs.Turns.{goes_to, settled_take, settled_turn}
 unfoldable pub use Rattle.task_rules.specs.Turns.{at_turn}
-pub use Rattle.task_rules.specs.Words.{AddGroup, after_placing, after_word, CloseSet, CountWork, EndWork, Enter, FinishWork, FreeThreadHandle, GiveResult, GoBehind, MakeCall, MakeThread, Move, NameCall, NameThread, NameWork, OpenSet, Pend, placed_as, Places, Placing, Pop, Promote, Put, put_at, QueueWork, RemoveCall, RemoveGroup, RemoveThread, RemoveWork, SetBackpressure, SetCallEvent, SetCallJoin, SetCancelDelivered, SetCancelled, SetDoNotEnter, SetDoNotSuspend, SetEnd, SetExited, SetHowFar, SetOwnEvent, SetPhase, SetPosition, SetRegister, SetResult, SetSavedCallee, SetSavedOwn, SetScript, SetStarted, SetStartingPublished, SetTrapped, SetUninteresting, SetWord, SetWorkJoin, Stop, TakeHost, TakePush, TakeResult, TakeWorkEvent, UnnameCall, UnnameWork, Withdraw, Word}
+pub use Rattle.task_rules.specs.Words.{AddGroup, Advance, after_placing, after_word, CloseSet, CountWork, EndWork, Enter, FinishWork, FreeThreadHandle, GiveResult, GoBehind, MakeCall, MakeThread, Move, NameCall, NameThread, NameWork, OpenSet, Pend, placed_as, Places, Placing, Pop, Promote, Put, put_at, QueueWork, RemoveCall, RemoveGroup, RemoveThread, RemoveWork, Restart, SetBackpressure, SetCallEvent, SetCallJoin, SetCancelDelivered, SetCancelled, SetDoNotEnter, SetDoNotSuspend, SetEnd, SetExited, SetHowFar, SetOwnEvent, SetPhase, SetRegister, SetResult, SetSavedCallee, SetSavedOwn, SetStarted, SetStartingPublished, SetTrapped, SetUninteresting, SetWord, SetWorkJoin, Stop, TakeHost, TakePush, TakeResult, TakeWorkEvent, UnnameCall, UnnameWork, Withdraw, Word}
 pub use Rattle.task_rules.specs.Works.{course_for, Ends, FailsNow, first_number, followed, has_end, live_after, Poll, polled_course, polled_in, StillPends}
 unfoldable pub use Rattle.task_rules.specs.Works.{has_moving_work, next_polled, poll_ends, poll_of, poll_pends}

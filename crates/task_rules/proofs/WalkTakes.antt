@@ -1,5 +1,5 @@
 -- The takings of entries as chains of words.
-use Rattle.task_rules.proofs.Machine.{activated, activated_woken, admits, ap, arith, at_handle_limit, backpressure_of, begun_holder, Bool, Call, Choice, chosen, cond, Core, delivered, delivery_row, end_for, EndWords, event_label, ExportKind, false, foot_of, get, Gift, gift, give_thread_handle, Given, given_for, Goes, handed_by, handed_by_event, handed_on, handed_out, HandsOut, held_label, holder_at_start, Holds, host_label, if◌then◌else◌, inl, inr, instance_of, is_begun, is_exit, is_explicit, is_free, is_holding, is_none, is_running, is_some, is_start, is_sync, is_told, IsLaid, kind_of, Label, LastWords, Main, Mark, may, may_hand_on, may_not_enter, may_tell, may_tell_starting, MayDeliver, MayMove, MemberGift, Move, moved_to, NameThread, nat_tests, NoGift, None, not, NoWord, on_call, on_instance, on_thread, Option, option_map_or, outcome_of_label, own_delivered, own_gift_of, own_gift_only, own_or_nothing, OwnEvent, OwnGift, Place, place_of, published, Records, refl, running, Runs, Scene, set_delivered, set_do_not_enter, set_event, set_given, set_how_far, set_place, set_position, set_script, set_started, set_starting_published, set_thread_handle, SetDoNotEnter, SetScript, SetStarted, SetStartingPublished, Setting, Some, start_admitted, start_begins, start_holds, start_row, start_sets_flags, starting_is_published, starting_told, Status, Stay, stopped, Stops, subst, Subtask, sym, T, take_holds, take_label, taken, TakesEvent, taking, task_of, thread_taken, told, true, Turn, unwrap_or, wait_again, WaitsAgain, was_started, WasReady, Why, with_thread_handle, written_by, ℕ, ◌&&◌, ◌==◌, ◌||◌, ◌∙◌, ◌≡◌}
+use Rattle.task_rules.proofs.Machine.{activated, activated_woken, admits, ap, arith, at_handle_limit, backpressure_of, begun_holder, Bool, Call, Choice, chosen, cond, Core, delivered, delivery_row, end_for, EndWords, event_label, ExportKind, false, foot_of, get, Gift, gift, give_thread_handle, Given, given_for, Goes, handed_by, handed_by_event, handed_on, handed_out, HandsOut, held_label, holder_at_start, Holds, host_label, if◌then◌else◌, inl, inr, instance_of, is_begun, is_exit, is_explicit, is_free, is_holding, is_none, is_running, is_some, is_start, is_sync, is_told, IsLaid, kind_of, Label, LastWords, Main, Mark, may, may_hand_on, may_not_enter, may_tell, may_tell_starting, MayDeliver, MayMove, MemberGift, Move, moved_to, NameThread, nat_tests, NoGift, None, not, NoWord, on_call, on_instance, on_thread, Option, option_map_or, outcome_of_label, own_delivered, own_gift_of, own_gift_only, own_or_nothing, OwnEvent, OwnGift, Place, place_of, published, Records, refl, Restart, running, Runs, Scene, set_delivered, set_do_not_enter, set_event, set_given, set_how_far, set_place, set_position, set_script, set_started, set_starting_published, set_thread_handle, SetDoNotEnter, SetStarted, SetStartingPublished, Setting, Some, start_admitted, start_begins, start_holds, start_row, start_sets_flags, starting_is_published, starting_told, Status, Stay, stopped, Stops, subst, Subtask, sym, T, take_holds, take_label, taken, TakesEvent, taking, task_of, thread_taken, told, true, Turn, unwrap_or, wait_again, WaitsAgain, was_started, WasReady, Why, with_thread_handle, written_by, ℕ, ◌&&◌, ◌==◌, ◌||◌, ◌∙◌, ◌≡◌}
 use Rattle.task_machine.specs.declared.records.Delivery.{Delivery}
 use Rattle.task_machine.proofs.CommuteLemmas.{get-change}
 use Rattle.task_machine.specs.declared.words.OwnEvent.TheVariants as own
@@ -288,14 +288,14 @@ module _ (x : Setting) (main : Main) (ended : Bool) (s : Core) (n : ℕ) (l : La
   own_says (Some own.Cancelled) sub e out = none_is_some (end_for e sub) out
 
   activated_goes : (m : Mark) (d : Delivery) → WasReady taking_scene n (why.Delivery d) → (g : Gift) (v : Given) (w : Option ℕ) (t : Core) → (l ≡ event_label m n v w → EndWords taking_scene (activated n g v t)) → instance_of n t ≡ instance_of n s → MayTake taking_scene (task_of n t) g → may_not_enter (instance_of n s) s ≡ false → Stay taking_scene s t → Leads taking_scene s (Goes (event_label m n v w) (activated n g v t) n)
-  unfolding activated
+  unfolding activated moved_to
   activated_goes m d ready g v w t says home may open_at c =
       runs_taken (event_label m n v w) (moved_to n 0 (set_script n script.React (set_do_not_enter (instance_of n t) true (set_given n 0 v (taken g (task_of n t) t))))) (λ i r. not_start ready.0 (why.Delivery d) ready.1 r refl) (event_taking m n v w) says (λ i begun.
       let same : instance_of n s ≡ i = ap (λ (o : Option ℕ). unwrap_or o 0) (sym (event_begins m n v w s) ∙ begun) in (
         subst (λ (j : ℕ). may_not_enter j s ≡ false) same open_at,
         subst (λ (j : ℕ). is_some (get (activated n g v t).instances j) ≡ true → may_not_enter j (activated n g v t) ≡ true) (home ∙ same) (activated_shut n g v t),
       ))
-      (λ to. moved_to_walks n refl 0 (word (SetScript n script.React) tt (word (SetDoNotEnter (instance_of n t) true) (ap (λ (j : ℕ). may_not_enter j s) home ∙ open_at) (set_given_walks n refl 0 v (taken_walks g (task_of n t) may c)))))
+      (λ to. word (Restart n) (refl, (d, ready)) (word (SetDoNotEnter (instance_of n t) true) (ap (λ (j : ℕ). may_not_enter j s) home ∙ open_at) (set_given_walks n refl 0 v (taken_walks g (task_of n t) may c))))
 
   woken_goes : (m : Mark) (y : ℕ) (ch : Choice) (g : Gift) → WasReady taking_scene n (why.Delivery (delivery.Set y)) → gift true (task_of n s) y (chosen n ch s) s ≡ Some g → MayTake taking_scene (task_of n s) g → may_not_enter (instance_of n s) s ≡ false → Leads taking_scene s (may (may_hand_on y g ch.woken s) (Goes (event_label m n (handed_out ch s g) ch.woken) (activated_woken n y ch.woken g (handed_out ch s g) s) n))
   unfolding activated_woken
