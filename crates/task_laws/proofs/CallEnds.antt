@@ -101,7 +101,8 @@ pub record IsOfEnd (e : Status) (o : Option CallEnd) : Type 0 where
   pub status : status_of_end ends ≡ e
   pub ran : is_withdrawn ends ≡ false
 
--- What calls tell of their ends: main's calls alone have results for main; an end that is to be told is that of the record, for a guest; and a result is one of main's call.
+-- What calls tell of their ends: main's calls alone have results for main; an end that is to be told is that of the record, for a guest;
+-- and a result is one of main's call.
 pub record EndsTold (s : Core) : Type 0 where
   pub goals : (k : ℕ) (r : Telling) → telling_of k s ≡ Some r → is_for_main r.goal ≡ not (is_guest_call r.caller)
   pub events : (k : ℕ) (e : Status) (r : Telling) → telling_of k s ≡ Some r → undelivered_end r.event ≡ Some e → (is_for_guest r ≡ true) ×

@@ -26,8 +26,8 @@ hands_at c Unscripted s q t (label.Main m) o h = h
 hands_at c main s q t l o h = h
 
 -- an end of a call that the label says is written is so in the whole step
-pub said_plain : (x : Setting) (s : State) (l : Label) (next : Turn) (t : Core) (k : ℕ) (e : Status) → SaysEnd (plain_scene x s l next) k e →
-    written_by x.component s.core l t ≡ Some (end_for e (subtask.Guest k))
+pub said_plain : (x : Setting) (s : State) (l : Label) (next : Turn) (t : Core) (k : ℕ) (e : Status) →
+    SaysEnd (plain_scene x s l next) k e → written_by x.component s.core l t ≡ Some (end_for e (subtask.Guest k))
 unfolding op_of script_of
 said_plain x s (label.Loop (loop_label.FutureEnds i)) next t k e says = absurd (grind arith)
 said_plain x s (label.Loop (loop_label.FutureAborted i)) next t k e says = absurd (grind arith)

@@ -1,7 +1,8 @@
 -- What host works come to along the words of a step: their ends, their entries, and what they have to hand out.
-use Rattle.task_rules.proofs.Machine.{[], add_call, add_group, add_set, add_thread, add_work, after_placing, after_word, Allowed, ap, arith, Bool, call_made, change, Core, count_work, Course, course_of, course_value, EndWork, Entry, false, FinishWork, free_handle, free_thread_handle, fresh, get, get-empty, give_handle, give_result, give_thread_handle, has_end, host_status, HostDef, inl, inr, is_aborted, is_async_work, is_some, is_stage_ended, is_stage_live, IsPolled, Label, le_refl, le_trans, List, Mark, MayAbort, MayFinish, nat_tests, new_work, next_entry, next_work, None, on_call, on_instance, on_thread, on_work, one_if, Option, option_map, or_high, Pend, Phase, phase_of, Places, poll_pends, popped, push_high, QueueWork, refl, remove_call, remove_group, remove_set, remove_thread, remove_work, RemoveWork, rest_of, Scene, scene_of, set_backpressure, set_cancel_delivered, set_cancelled, set_course, set_do_not_enter, set_do_not_suspend, set_end, set_event, set_exited, set_high, set_how_far, set_join, set_low, set_own_event, set_phase, set_position, set_register, set_result, set_saved_callee, set_saved_own, set_script, set_stage, set_started, set_starting_published, set_subtask_handle, set_switch, set_thread_handle, set_trapped, set_uninteresting, set_word, SetPhase, Setting, Some, Stage, State, Status, sym, take_result, TakeHost, TakePush, TakeWorkEvent, true, Turn, undelivered_end, unqueued, Walked, with_handle, with_thread_handle, Withdraw, Word, Work, work_caller_of, work_queued, WorkCaller, ℕ, ⊎_elim, ◌&&◌, ◌++◌, ◌+◌, ◌==◌, ◌||◌, ◌∙◌, ◌∷◌, ◌≡◌, ◌≤◌, ◌⊎◌}
+use Rattle.task_rules.proofs.Machine.{[], add_call, add_group, add_set, add_thread, add_work, after_placing, after_word, Allowed, ap, arith, Bool, call_made, change, Core, count_work, Course, course_of, course_value, EndWork, Entry, false, FinishWork, free_handle, free_thread_handle, fresh, get, get-empty, give_handle, give_result, give_thread_handle, has_end, host_status, HostDef, inl, inr, is_aborted, is_async_work, is_some, is_stage_ended, is_stage_live, IsPolled, Label, le_refl, le_trans, List, Mark, MayAbort, MayFinish, nat_tests, new_work, next_entry, next_work, None, on_call, on_instance, on_thread, on_work, one_if, Option, option_map, or_high, Pend, Phase, phase_of, Places, poll_pends, popped, push_high, QueueWork, refl, remove_call, remove_group, remove_set, remove_thread, remove_work, RemoveWork, rest_of, Scene, scene_of, set_backpressure, set_cancel_delivered, set_cancelled, set_course, set_do_not_enter, set_do_not_suspend, set_end, set_event, set_exited, set_high, set_how_far, set_join, set_low, set_own_event, set_phase, set_position, set_register, set_result, set_saved_callee, set_saved_own, set_script, set_stage, set_started, set_starting_published, set_subtask_handle, set_switch, set_thread_handle, set_trapped, set_uninteresting, set_word, SetPhase, Setting, Some, Stage, State, Status, sym, take_result, TakeHost, TakePush, TakeWorkEvent, true, Turn, undelivered_end, unqueued, Walked, with_handle, with_thread_handle, Withdraw, Word, Work, work_caller_of, work_queued, WorkCaller, ℕ, ⊎_elim, ◌&&◌, ◌++◌, ◌+◌, ◌||◌, ◌∙◌, ◌∷◌, ◌≡◌, ◌≤◌, ◌⊎◌}
 use Rattle.task_laws.proofs.CallsSteps.{of_base}
 use Rattle.task_laws.specs.Ends.{is_sync_work}
+use Rattle.task_laws.specs.Order.{is_host_of, is_push_of, stands}
 use Rattle.task_laws.proofs.CountLemmas.{made_works_word}
 use Rattle.task_machine.specs.declared.records.Course.TheVariants as course
 use Rattle.task_machine.specs.declared.records.Entry.TheVariants as entry
@@ -53,35 +54,40 @@ is_due v = is_some (undelivered_end v.event) || (awaits false v.stage || (has_en
 
 -- the entry is the push of the work, or its host entry
 abbrev pub of_work : Bool → ℕ → Entry → Bool
-of_work true i (entry.Push j) = i == j
-of_work false i (entry.Host j) = i == j
-of_work k i _ = false
+of_work true i e = is_push_of i e
+of_work false i e = is_host_of i e
 
-abbrev pub stands : Bool → ℕ → List Entry → ℕ
-stands k i [] = 0
-stands k i (e ∷ es) = one_if (of_work k i e) + stands k i es
+pub stands_append : (test : Entry → Bool) (es : List Entry) (e : Entry) → stands test (es ++ e ∷ []) ≡ stands test es + one_if (test e)
+stands_append test [] e = omega arith
+stands_append test (d ∷ es) e = let h = stands_append test es e in omega (arith, h)
 
-stands_last : (k : Bool) (i : ℕ) (es : List Entry) (e : Entry) → stands k i (es ++ e ∷ []) ≡ stands k i es + one_if (of_work k i e)
-stands_last k i [] e = omega arith
-stands_last k i (f ∷ fs) e = let h = stands_last k i fs e in omega (h, arith)
+-- the entries of works alone count
+stands_works : (test : Entry → Bool) → ((n : ℕ) → test (entry.Thread n) ≡ false) → (es : List Entry) →
+    stands test (work_entries es) ≡ stands test es
+stands_works test none [] = refl
+stands_works test none (e ∷ es) = let h = stands_works test none es in grind (arith, none)
 
-stands_works : (k : Bool) (i : ℕ) (es : List Entry) → stands k i (work_entries es) ≡ stands k i es
-stands_works k i [] = refl
-stands_works k i (e ∷ es) = let h = stands_works k i es in grind arith
+pub same_stands : (test : Entry → Bool) → ((n : ℕ) → test (entry.Thread n) ≡ false) → (es fs : List Entry) →
+    work_entries fs ≡ work_entries es → stands test fs ≡ stands test es
+same_stands test none es fs h = let a = stands_works test none es in let b = stands_works test none fs in cc
 
-same_stands : (k : Bool) (i : ℕ) (es fs : List Entry) → work_entries fs ≡ work_entries es → stands k i fs ≤ stands k i es
-same_stands k i es fs h = let a = stands_works k i es in let b = stands_works k i fs in grind arith
+kept_stands : (k : Bool) (i : ℕ) (es fs : List Entry) → work_entries fs ≡ work_entries es →
+    stands (of_work k i) fs ≤ stands (of_work k i) es
+kept_stands k i es fs h = let e = same_stands (of_work k i) (λ n. no_thread k n) es fs h in omega arith
+  where
+    no_thread : (k : Bool) (n : ℕ) → of_work k i (entry.Thread n) ≡ false
+    no_thread k n = grind arith
 
-fewer_rest : (k : Bool) (i : ℕ) (es : List Entry) → stands k i (rest_of es) ≤ stands k i es
+fewer_rest : (k : Bool) (i : ℕ) (es : List Entry) → stands (of_work k i) (rest_of es) ≤ stands (of_work k i) es
 fewer_rest k i [] = le_refl _
 fewer_rest k i (e ∷ es) = omega arith
 
 -- how often entries of the work stand
 abbrev pub High : Core → ℕ → Bool → ℕ
-High s i k = stands k i s.queues.high
+High s i k = stands (of_work k i) s.queues.high
 
 popped_high : (m : Mark) (s : Core) (i : ℕ) (k : Bool) → (High (popped m s) i k ≤ High s i k) ×
-    (stands k i (popped m s).queues.low ≤ stands k i s.queues.low)
+    (stands (of_work k i) (popped m s).queues.low ≤ stands (of_work k i) s.queues.low)
 unfolding popped set_switch set_high set_low
 popped_high m s i k = grind (arith, fewer_rest)
 
@@ -91,11 +97,11 @@ entry_for true i = entry.Push i
 entry_for false i = entry.Host i
 
 taken_first : (k : Bool) (m : Mark) (i : ℕ) (o : Option ℕ) (hs ls : List Entry) → or_high o hs ls ≡ Some (m, entry_for k i) →
-    stands k i ls ≡ 0 → (stands k i hs ≡ 1 + stands k i (rest_of hs)) × (m ≡ mark.High)
+    stands (of_work k i) ls ≡ 0 → (stands (of_work k i) hs ≡ 1 + stands (of_work k i) (rest_of hs)) × (m ≡ mark.High)
 taken_first k m i o hs ls is none = grind (arith, nat_tests)
 
 -- where none stands at low the taken one is the first at high
-taken_high : (k : Bool) (m : Mark) (i : ℕ) (s : Core) → next_entry s ≡ Some (m, entry_for k i) → stands k i s.queues.low ≡ 0 →
+taken_high : (k : Bool) (m : Mark) (i : ℕ) (s : Core) → next_entry s ≡ Some (m, entry_for k i) → stands (of_work k i) s.queues.low ≡ 0 →
     High s i k ≡ 1 + High (popped m s) i k
 unfolding next_entry popped set_high
 taken_high k m i s is none = let f = taken_first k m i s.queues.switch s.queues.high s.queues.low is none in grind arith
@@ -123,23 +129,25 @@ pub data WorkCame (a : Scene) (s : Core) (b i : ℕ) (h g : Bool → ℕ) (o p :
   Takes : (v : Doing) → o ≡ Some v → p ≡ Some (record v { event = None }) → Fewer h g → WorkCame a s b i h g o p
 
 -- at low no entry of a work comes
-pub low_word : (a : Scene) (w : Word) (s : Core) → Allowed a w s → (k : Bool) (i : ℕ) → stands k i
-    (after_word w s).queues.low ≤ stands k i s.queues.low
+pub low_word : (a : Scene) (w : Word) (s : Core) → Allowed a w s → (k : Bool) (i : ℕ) → stands (of_work k i)
+    (after_word w s).queues.low ≤ stands (of_work k i) s.queues.low
 unfolding add_call add_group add_set add_thread add_work count_work free_handle free_thread_handle give_handle give_result give_thread_handle on_call on_instance on_thread on_work push_high remove_call remove_group remove_set remove_thread remove_work set_backpressure set_cancel_delivered set_cancelled set_course set_do_not_enter set_do_not_suspend set_end set_event set_exited set_how_far set_join set_own_event set_phase set_position set_register set_result set_saved_callee set_saved_own set_script set_stage set_started set_starting_published set_subtask_handle set_thread_handle set_trapped set_uninteresting set_word take_result call_made with_handle with_thread_handle work_queued poll_pends
-low_word a (Places p) s ok k i = same_stands k i s.queues.low (after_placing p s).queues.low (placing_works a p s ok).low
-low_word a (Withdraw j) s ok k i = same_stands k i s.queues.low (unqueued j s).queues.low (unqueued_works j s).low
+low_word a (Places p) s ok k i = kept_stands k i s.queues.low (after_placing p s).queues.low (placing_works a p s ok).low
+low_word a (Withdraw j) s ok k i = kept_stands k i s.queues.low (unqueued j s).queues.low (unqueued_works j s).low
 low_word a (TakePush m j) s ok k i = (popped_high m s i k).1
 low_word a (TakeHost m j) s ok k i = (popped_high m s i k).1
 low_word a w s ok k i = le_refl _
 
-other_entry : (k y : Bool) (i j : ℕ) (es : List Entry) → (i ≡ j → ⊥) → stands y i (es ++ entry_for k j ∷ []) ≤ stands y i es
-other_entry k y i j es e = grind (arith, nat_tests, stands_last)
+other_entry : (k y : Bool) (i j : ℕ) (es : List Entry) → (i ≡ j → ⊥) →
+    stands (of_work y i) (es ++ entry_for k j ∷ []) ≤ stands (of_work y i) es
+other_entry k y i j es e = grind (arith, nat_tests, stands_append)
 
-own_push : (y : Bool) (i j : ℕ) (es : List Entry) → stands y i (es ++ entry.Push j ∷ []) ≤ stands y i es + one_if y
-own_push y i j es = grind (arith, stands_last)
+own_push : (y : Bool) (i j : ℕ) (es : List Entry) → stands (of_work y i) (es ++ entry.Push j ∷ []) ≤ stands (of_work y i) es + one_if y
+own_push y i j es = grind (arith, stands_append)
 
-own_host : (y : Bool) (i j : ℕ) (es : List Entry) → stands y i (es ++ entry.Host j ∷ []) ≤ stands y i es + one_if (awaits y stage.Finishing)
-own_host y i j es = grind (arith, stands_last)
+own_host : (y : Bool) (i j : ℕ) (es : List Entry) →
+    stands (of_work y i) (es ++ entry.Host j ∷ []) ≤ stands (of_work y i) es + one_if (awaits y stage.Finishing)
+own_host y i j es = grind (arith, stands_append)
 
 -- a polled work is there
 polled_there : (a : Scene) (s : Core) (i : ℕ) → IsPolled a i s → is_some (get s.works i) ≡ true
@@ -172,14 +180,14 @@ module _ {a : Scene} (s : Core) where
       own_work None is there = no_way there
       own_work (Some w) is there = Ends (doing w) c x refl may refl late (λ e. let r = async e in grind arith) own
 
-  pub work_came : ((k : Bool) (i : ℕ) → stands k i s.queues.low ≡ 0) → (w : Word) → Allowed a w s → (i : ℕ) →
+  pub work_came : ((k : Bool) (i : ℕ) → stands (of_work k i) s.queues.low ≡ 0) → (w : Word) → Allowed a w s → (i : ℕ) →
       WorkCame a s (after_word w s).made.works i (High s i) (High (after_word w s) i) (doing_of i s) (doing_of i (after_word w s))
   unfolding add_call add_group add_set add_thread add_work count_work free_handle free_thread_handle give_handle give_result give_thread_handle on_call on_instance on_thread on_work push_high remove_call remove_group remove_set remove_thread remove_work set_backpressure set_cancel_delivered set_cancelled set_course set_do_not_enter set_do_not_suspend set_end set_event set_exited set_how_far set_join set_own_event set_phase set_position set_register set_result set_saved_callee set_saved_own set_script set_stage set_started set_starting_published set_subtask_handle set_thread_handle set_trapped set_uninteresting set_word take_result call_made with_handle with_thread_handle work_queued poll_pends
-  work_came low (Places p) ok i = Same refl (λ k. same_stands k i s.queues.high (after_placing p s).queues.high
+  work_came low (Places p) ok i = Same refl (λ k. kept_stands k i s.queues.high (after_placing p s).queues.high
       (placing_works a p s ok).high)
-  work_came low (Withdraw j) ok i = Same refl (λ k. same_stands k i s.queues.high (unqueued j s).queues.high (unqueued_works j s).high)
+  work_came low (Withdraw j) ok i = Same refl (λ k. kept_stands k i s.queues.high (unqueued j s).queues.high (unqueued_works j s).high)
   work_came low (QueueWork f host group) ok i = let j = s.made.works + 1 in
-      let g = λ (k : Bool). stands k i (s.queues.high ++ entry.Push j ∷ []) in
+      let g = λ (k : Bool). stands (of_work k i) (s.queues.high ++ entry.Push j ∷ []) in
       at_insert (λ o p. WorkCame a s j i (High s i) g (option_map doing o) (option_map doing p)) s.works j i _
       (λ is. Made f host is (omega (arith, is)) refl (λ k. own_push k i j s.queues.high))
       (λ e. Same refl (λ k. other_entry true k i j s.queues.high e))
@@ -194,7 +202,7 @@ module _ {a : Scene} (s : Core) where
       work_turned j (High s) (High s) (λ i k. le_refl _) _ (λ w at. Pends (doing w) host refl ok refl (λ k. le_refl _)) i
   work_came low (EndWork j c) ok i = work_ends j c stage.Ended ok.0 refl (λ e. no_way e) (High s) (λ i k e. le_refl _) (λ k. grind arith) i
   work_came low (FinishWork j c) ok i = work_ends j c stage.Finishing ok.0 refl (λ e. ok.1)
-      (λ i k. stands k i (s.queues.high ++ entry.Host j ∷ []))
+      (λ i k. stands (of_work k i) (s.queues.high ++ entry.Host j ∷ []))
       (λ i k e. other_entry false k i j s.queues.high e) (λ k. own_host k j j s.queues.high) i
   work_came low (SetPhase j x) ok i =
       work_turned j (High s) (High s) (λ i k. le_refl _) _ (λ w at. Aborts (doing w) x refl ok.0 refl (λ k. le_refl _)) i
@@ -220,7 +228,7 @@ pub record WorkHolds (S : Type 0) (h : Bool → ℕ) (made i : ℕ) (v : Doing) 
       (has_end v.course ≡ true → is_some (course_value v.course) ≡ true)
 
 pub record WorksHold (S : Type 0) (s : Core) : Type 0 where
-  pub low : (k : Bool) (i : ℕ) → stands k i s.queues.low ≡ 0
+  pub low : (k : Bool) (i : ℕ) → stands (of_work k i) s.queues.low ≡ 0
   pub given : (k : Bool) (i : ℕ) → 1 ≤ High s i k → i ≤ s.made.works
   pub works : (i : ℕ) (v : Doing) → doing_of i s ≡ Some v → WorkHolds S (High s i) s.made.works i v
 

@@ -98,7 +98,10 @@ module _ (x : Setting) (codes : CodesInCallbacks x.component) where
 
 pub ends_written_once : EndsWrittenOnce
 ends_written_once x s ls t r run sub =
-    let first : Holds x (opening r.instances r.handle_limit r.capacity r.main) = record { calls = opening_holds x.component r.instances r.handle_limit r.capacity; works = opening_works r.instances r.handle_limit r.capacity } in
-    counts_once x (Holds x) (holds_after x r.scripts) (changes_end sub) (Over sub) (changes_over x r.scripts sub)
-    (over_kept x r.scripts sub) s (run_holds x r.scripts
-    (opening r.instances r.handle_limit r.capacity r.main) first r.labels s r.run) ls t run
+    let begun = opening r.instances r.handle_limit r.capacity r.main in
+    let first : Holds x begun = record {
+      calls = opening_holds x.component r.instances r.handle_limit r.capacity;
+      works = opening_works r.instances r.handle_limit r.capacity;
+    } in
+    counts_once x (Holds x) (holds_after x r.scripts) (changes_end sub) (Over sub) (changes_over x r.scripts sub) (over_kept x r.scripts sub) s
+    (run_holds x r.scripts begun first r.labels s r.run) ls t run

@@ -1,31 +1,16 @@
 -- Host works have their entries, along the words of a step.
-use Rattle.task_rules.proofs.Machine.{[], add_call, add_group, add_set, add_thread, add_work, after_word, Allowed, ap, arith, Bool, call_made, cond, Core, count_work, CountWork, EndWork, Entry, false, FinishWork, free_handle, free_thread_handle, get, get-insert, get-remove, give_handle, give_result, give_thread_handle, inl, inr, is_stage_ended, LaterBy, le_refl, List, Mark, nat_tests, None, on_call, on_instance, on_thread, on_work, one_if, Places, poll_pends, popped, push_high, QueueWork, refl, remove_call, remove_group, remove_set, remove_thread, remove_work, RemoveWork, Scene, set_backpressure, set_cancel_delivered, set_cancelled, set_course, set_do_not_enter, set_do_not_suspend, set_end, set_event, set_exited, set_high, set_how_far, set_join, set_low, set_own_event, set_phase, set_position, set_register, set_result, set_saved_callee, set_saved_own, set_script, set_stage, set_started, set_starting_published, set_subtask_handle, set_switch, set_thread_handle, set_trapped, set_uninteresting, set_word, Stage, stage_of, take_result, TakeHost, TakePush, true, with_handle, with_thread_handle, Withdraw, Word, work_queued, ℕ, ◌++◌, ◌+◌, ◌==◌, ◌∷◌, ◌≡◌, ◌≤◌, ◌⊎◌}
+use Rattle.task_rules.proofs.Machine.{add_call, add_group, add_set, add_thread, add_work, after_word, Allowed, ap, arith, Bool, call_made, cond, Core, count_work, CountWork, EndWork, Entry, false, FinishWork, free_handle, free_thread_handle, get, get-insert, get-remove, give_handle, give_result, give_thread_handle, inl, inr, is_stage_ended, LaterBy, le_refl, Mark, nat_tests, None, on_call, on_instance, on_thread, on_work, one_if, Places, poll_pends, popped, push_high, QueueWork, refl, remove_call, remove_group, remove_set, remove_thread, remove_work, RemoveWork, Scene, set_backpressure, set_cancel_delivered, set_cancelled, set_course, set_do_not_enter, set_do_not_suspend, set_end, set_event, set_exited, set_high, set_how_far, set_join, set_low, set_own_event, set_phase, set_position, set_register, set_result, set_saved_callee, set_saved_own, set_script, set_stage, set_started, set_starting_published, set_subtask_handle, set_switch, set_thread_handle, set_trapped, set_uninteresting, set_word, Stage, stage_of, take_result, TakeHost, TakePush, true, with_handle, with_thread_handle, Withdraw, Word, work_queued, ℕ, ◌+◌, ◌==◌, ◌∷◌, ◌≡◌, ◌≤◌, ◌⊎◌}
 use Rattle.task_laws.specs.Order.{WorkEntries, WorksQueued, is_host_of, is_push_of, stands}
 use Rattle.task_laws.proofs.EachLemmas.{each_of}
+use Rattle.task_laws.proofs.Works.{same_stands, stands_append}
 use Rattle.task_laws.proofs.PolledWorks.{polled_is_live}
 use Rattle.task_machine.proofs.CommuteLemmas.{get-change}
 use Rattle.task_machine.specs.declared.records.Entry.TheVariants as entry
 use Rattle.task_machine.specs.declared.records.Stage.TheVariants as stage
 use Rattle.task_machine.specs.declared.words.Mark.TheVariants as mark
 use Rattle.task_places.proofs.Entries.{First, next_first}
-use Rattle.task_rules.proofs.PlacingLemmas.{SameWorks, placing_works, unqueued_works, work_entries}
+use Rattle.task_rules.proofs.PlacingLemmas.{SameWorks, placing_works, unqueued_works}
 use Rattle.task_rules.proofs.StandLemmas.{eq_refl}
-
--- ---- Lists
-
-stands_append : (test : Entry → Bool) (es : List Entry) (e : Entry) → stands test (es ++ e ∷ []) ≡ stands test es + one_if (test e)
-stands_append test [] e = omega arith
-stands_append test (d ∷ es) e = let h = stands_append test es e in omega (arith, h)
-
--- the entries of works alone count
-stands_works : (test : Entry → Bool) → ((n : ℕ) → test (entry.Thread n) ≡ false) → (es : List Entry) →
-    stands test (work_entries es) ≡ stands test es
-stands_works test none [] = refl
-stands_works test none (e ∷ es) = let h = stands_works test none es in grind (arith, none)
-
-same_stands : (test : Entry → Bool) → ((n : ℕ) → test (entry.Thread n) ≡ false) → (es fs : List Entry) → work_entries fs ≡ work_entries es →
-    stands test fs ≡ stands test es
-same_stands test none es fs h = let a = stands_works test none es in let b = stands_works test none fs in cc
 
 -- ---- What the words leave
 
