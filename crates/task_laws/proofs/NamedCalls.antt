@@ -1,5 +1,5 @@
--- Which calls handles and ops name: along the words of a step each handle of a call is the one in its record, and an op is inside a call that
--- its thread made and no handle names.
+-- Which calls handles and ops name: along the words of a step each handle of a call is the one in its record, and an op is inside a call
+-- that its thread made and no handle names.
 use Rattle.task_laws.proofs.CallsCame.{op_came}
 use Rattle.task_laws.proofs.CountLemmas.{made_threads_word}
 use Rattle.task_laws.proofs.SetHandles.{given_names, none_named, subtask_in}
@@ -10,6 +10,10 @@ use Rattle.task_machine.specs.declared.records.Subtask.TheVariants as subtask
 use Rattle.task_machine.specs.declared.records.Turn.TheVariants as turn
 use Rattle.task_machine.proofs.CommuteLemmas.{get-change}
 use Rattle.task_rules.proofs.Machine.{add_call, add_group, add_set, add_thread, add_work, after_word, Allowed, ap, arith, as_subtask, Call, call_made, change, CloseSet, Core, count_work, free_handle, free_thread_handle, fresh, get, get-empty, get-insert, get-remove, give_handle, give_result, give_thread_handle, giving, handle_of_table, how_far_of, HowFar, inl, inr, is_deletable, is_some, IsCalled, le_trans, MakeCall, MakeThread, MayCome, MayNameCall, NameCall, NameWork, nat_tests, new_handle, None, on_call, on_instance, on_thread, on_work, OpenSet, Option, option_and_then, option_map_or, poll_pends, push_high, refl, remove_call, remove_group, remove_set, remove_thread, remove_work, RemoveCall, Scene, set_backpressure, set_cancel_delivered, set_cancelled, set_course, set_do_not_enter, set_do_not_suspend, set_end, set_event, set_exited, set_how_far, set_join, set_own_event, set_phase, set_position, set_register, set_result, set_saved_callee, set_saved_own, set_script, set_stage, set_started, set_starting_published, set_subtask_handle, set_thread_handle, set_trapped, set_uninteresting, set_word, Some, subst, Subtask, subtask_at, subtask_handle, take_result, taking, Thread, true, UnnameCall, UnnameWork, with_handle, with_thread_handle, Word, work_queued, ℕ, ⊎_elim, ◌∙◌, ◌≡◌, ◌≤◌, ◌⊎◌}
+
+-- the call that the running thread's op is inside of before the step is there
+abbrev pub InsideThere : Scene → Type 0
+InsideThere a = (n k : ℕ) → a.turn ≡ turn.Run n → how_far_of n a.base ≡ how_far.Calls (subtask.Guest k) → is_some (get a.base.calls k) ≡ true
 
 -- if the call is there, the thread has made it, and no handle names it
 abbrev OnlyCalled : ℕ → ℕ → Core → Type 0
@@ -45,18 +49,10 @@ module _ (a : Scene) (w : Word) (s : Core) (ok : Allowed a w s) (q : NamesKnown 
       go (inl was) = q.called n k (calls_call (how_far_of n s) k was)
       go (inr (g, (may, is))) = come (subst (λ f. MayCome a n f s) (calls_call g k is) may)
 
-  made : s.made.threads ≤ (after_word w s).made.threads
-  made = made_threads_word a w s
-
 -- what is so of a call stays so by a word that doesn't name it
 only_stays : (a : Scene) (w : Word) (s : Core) → (n k : ℕ) → k ≤ s.made.threads → ((i : ℕ) → w ≡ NameCall i k → ⊥) → OnlyCalled n k s → OnlyCalled n k (after_word w s)
 unfolding add_call add_group add_set add_thread add_work call_made count_work free_handle free_thread_handle give_handle give_result give_thread_handle on_call on_instance on_thread on_work poll_pends push_high remove_call remove_group remove_set remove_thread remove_work set_backpressure set_cancel_delivered set_cancelled set_course set_do_not_enter set_do_not_suspend set_end set_event set_exited set_how_far set_join set_own_event set_phase set_position set_register set_result set_saved_callee set_saved_own set_script set_stage set_started set_starting_published set_subtask_handle set_thread_handle set_trapped set_uninteresting set_word take_result with_handle with_thread_handle work_queued
 only_stays a (NameCall i j) s n k below not q c at = let other : (j ≡ k → ⊥) = λ e. not i (ap (λ m. NameCall i m) e) in grind (arith, nat_tests, get-change, other, q c)
-only_stays a (UnnameCall i h j) s n k below not q c at = unnamed (get s.calls k) refl
-  where
-    unnamed : (o : Option Call) → get s.calls k ≡ o → (c.caller ≡ caller.Thread n) × (c.handle ≡ None)
-    unnamed None is = absurd (grind (arith, nat_tests, get-change))
-    unnamed (Some d) is = let r = q d is in (grind (arith, nat_tests, get-change), grind (arith, nat_tests, get-change))
 only_stays a w s n k below not q c at = stays (get s.calls k) refl
   where
     stays : (o : Option Call) → get s.calls k ≡ o → (c.caller ≡ caller.Thread n) × (c.handle ≡ None)
@@ -66,7 +62,7 @@ only_stays a w s n k below not q c at = stays (get s.calls k) refl
 -- ---- Each word
 
 -- the call that gets a handle is there, the thread's, and has none
-named_called : (a : Scene) (i k : ℕ) (s : Core) → NamesKnown a.base → ((n j : ℕ) → a.turn ≡ turn.Run n → how_far_of n a.base ≡ how_far.Calls (subtask.Guest j) → is_some (get a.base.calls j) ≡ true) → (m : MayNameCall a i k s) → IsCalled m.0 k s
+named_called : (a : Scene) (i k : ℕ) (s : Core) → NamesKnown a.base → InsideThere a → (m : MayNameCall a i k s) → IsCalled m.0 k s
 named_called a i k s base there (n, (runs, (at, (far, (done, (whose, handle)))))) = go (get a.base.calls k) refl (there n k runs far)
   where
     go : (o : Option Call) → get a.base.calls k ≡ o → is_some o ≡ true → IsCalled n k s
@@ -81,7 +77,7 @@ deletable_unnamed : (k : ℕ) (s : Core) → is_deletable k s ≡ true → subta
 unfolding is_deletable
 deletable_unnamed k s h = grind arith
 
-module _ (a : Scene) (base : NamesKnown a.base) (there : (n j : ℕ) → a.turn ≡ turn.Run n → how_far_of n a.base ≡ how_far.Calls (subtask.Guest j) → is_some (get a.base.calls j) ≡ true) where
+module _ (a : Scene) (base : NamesKnown a.base) (there : InsideThere a) where
   numbers_word : (w : Word) (s : Core) → NamesKnown s → (k : ℕ) (c : Call) → get (after_word w s).calls k ≡ Some c → k ≤ (after_word w s).made.threads
   unfolding add_call add_group add_set add_thread add_work call_made count_work free_handle free_thread_handle give_handle give_result give_thread_handle on_call on_instance on_thread on_work poll_pends push_high remove_call remove_group remove_set remove_thread remove_work set_backpressure set_cancel_delivered set_cancelled set_course set_do_not_enter set_do_not_suspend set_end set_event set_exited set_how_far set_join set_own_event set_phase set_position set_register set_result set_saved_callee set_saved_own set_script set_stage set_started set_starting_published set_subtask_handle set_thread_handle set_trapped set_uninteresting set_word take_result with_handle with_thread_handle work_queued
   numbers_word (MakeThread t) s q k c at = let h = q.number k c at in grind arith

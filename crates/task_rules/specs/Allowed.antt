@@ -353,11 +353,11 @@ MayJoin a sub (join.Watched n) s = IsRunner a n ×
 abbrev pub MayName : Scene → ℕ → Subtask → Core → Type 0
 MayName a i sub s = (n : ℕ) × (IsRunner a n × ((i ≡ instance_of n a.base) × (HasSubtask a n sub ⊎ IsNew a sub s)))
 
--- the running thread's op is done, and its instance gets a handle of the call that the op was inside of, whose it is and which handle names
--- it being as before the step
+-- the running thread's op is done, and its instance gets a handle of the call that the op was inside of; whose that is and what names it is
+-- as before the step
 abbrev pub MayNameCall : Scene → ℕ → ℕ → Core → Type 0
-MayNameCall a i k s = (n : ℕ) × ((a.turn ≡ turn.Run n) × ((i ≡ instance_of n a.base) × ((how_far_of n a.base ≡ how_far.Calls (subtask.Guest k)) ×
-    ((how_far_of n s ≡ how_far.Fresh) × ((caller_of k s ≡ caller_of k a.base) ×
+MayNameCall a i k s = (n : ℕ) × ((a.turn ≡ turn.Run n) × ((i ≡ instance_of n a.base) ×
+    ((how_far_of n a.base ≡ how_far.Calls (subtask.Guest k)) × ((how_far_of n s ≡ how_far.Fresh) × ((caller_of k s ≡ caller_of k a.base) ×
     (subtask_handle (subtask.Guest k) s ≡ subtask_handle (subtask.Guest k) a.base))))))
 
 -- the handle names the subtask, which is in no set any more
