@@ -1,6 +1,5 @@
 -- What script each thread runs, and where in it, along the words of a step.
 use Rattle.task_rules.proofs.Machine.{[], after_word, Allowed, ap, arith, call_instance, Callee, callee_of, Component, component_of, Core, ends_activation, EndsActivation, false, get, inl, inr, is_explicit, is_some, length, MayAdvance, MayMove, new_thread, next_thread, None, op_of, Option, option_map, option_map_or, Place, place_of, refl, registers_for, Scene, Script, script_in, script_of, script_of_thread, slice_get, Some, subst, sym, T, task_of, Thread, true, unwrap_or, WasReady, Why, Word, ℕ, ⊎_elim, ◌∙◌, ◌∷◌, ◌≡◌, ◌≤◌, ◌⊎◌}
-use Rattle.std.specs.Prelude.{length}
 use Rattle.task_machine.specs.declared.records.Script.TheVariants as script
 use Rattle.task_machine.specs.declared.op.Op.TheVariants as op
 use Rattle.task_machine.specs.declared.op.TaskOp.TheVariants as task_op

@@ -24,5 +24,6 @@ pub mod OnceLemmas
 pub mod HostEnds
 pub mod GuestEnds
 pub mod WrittenLaws
+pub mod NamedCalls
 pub mod NamedWorks
 pub mod SyncWorks

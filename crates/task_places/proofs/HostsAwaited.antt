@@ -1,5 +1,5 @@
 -- A thread inside a sync call of a host waits for its work, or that is done; and host works have their entries: along the words of a step.
-use Rattle.task_rules.proofs.Machine.{[], after_placing, after_word, Allowed, ap, arith, behind_one, Bool, Collapses, Core, Departs, EndsOver, Enter, false, get, GoBehind, GoesBack, how_far_of, inl, inr, instance_of, is_none, is_some, is_stage_ended, IsFall, IsRunner, IsSettling, Label, Lands, LandsAt, Made, MayCome, MayLand, MayRemoveWork, Move, None, Option, option_map_or, Place, place_of, Places, Placing, Pop, Promote, push_high, push_low, Put, put_high, put_low, Quits, refl, Remains, RemoveThread, Scene, scene_of, set_callers, set_place, SetHowFar, Setting, Settles, Some, stage_of, State, Stay, Stop, subst, Subtask, subtask_at, subtask_ended, subtask_handle, sym, Thread, Trip, true, Walked, Word, Work, ℕ, ◌==◌, ◌∙◌, ◌≡◌, ◌≤◌, ◌⊎◌}
+use Rattle.task_rules.proofs.Machine.{[], after_placing, after_word, Allowed, ap, arith, behind_one, Bool, Collapses, Core, Departs, EndsOver, Enter, false, get, GoBehind, GoesBack, how_far_of, inl, inr, is_none, is_some, is_stage_ended, IsRunner, Label, Lands, LandsAt, Made, MayCome, MayLand, MayRemoveWork, Move, Option, option_map_or, Place, place_of, Places, Placing, push_high, push_low, Put, put_high, put_low, Quits, refl, Remains, RemoveThread, Scene, scene_of, set_callers, set_place, SetHowFar, Setting, Settles, Some, stage_of, State, Stay, subst, Subtask, sym, Thread, Trip, true, Walked, Word, Work, ℕ, ⊎_elim, ◌==◌, ◌∙◌, ◌≡◌, ◌≤◌, ◌⊎◌}
 use Rattle.task_machine.specs.declared.records.Stage.TheVariants as stage
 use Rattle.task_places.proofs.PlaceSteps.{Reads, Withdrawable, step_by}
 use Rattle.task_rules.proofs.PlacingLemmas.{placing_shifted, SameWorks}
@@ -57,11 +57,8 @@ abbrev pub Asked : Scene → Type 0
 Asked a = (m i : ℕ) → IsRunner a m → how_far_of m a.base ≡ how_far.Calls (subtask.Host i) → (i ≤ a.base.made.works) × (is_stage_ended (stage_of i a.base) ≡ true)
 
 goes_ended : (a : Scene) (i : ℕ) (s : Core) → Asked a → Working a s → MayRemoveWork a i s → is_stage_ended (stage_of i s) ≡ true
-goes_ended a i s asked h ok = go ok.1.1
-  where
-    go : ((how_far_of ok.0 a.base ≡ how_far.Calls (subtask.Host i)) × (how_far_of ok.0 s ≡ how_far.Fresh)) ⊎ ((subtask_ended (subtask.Host i) a.base ≡ true) × ((subtask_handle (subtask.Host i) s ≡ None) × ((is_stage_ended (stage_of i s) ≡ true) × ((g : ℕ) × (subtask_at (instance_of ok.0 a.base) g a.base ≡ Some (subtask.Host i)))))) → is_stage_ended (stage_of i s) ≡ true
-    go (inl far) = let e = asked ok.0 i ok.1.0 far.0 in h.ended i e.0 e.1
-    go (inr e) = e.1.1.0
+goes_ended a i s asked h ok =
+    ⊎_elim (λ far. let e = asked ok.0 i ok.1.0 far.0 in h.ended i e.0 e.1) (λ e. e.1.1.0) ok.1.1
 
 working_word : (a : Scene) → Asked a → (w : Word) (s : Core) → Allowed a w s → Stuck w s → Working a s → Working a (after_word w s)
 working_word a asked w s ok stuck h = record {
@@ -93,7 +90,6 @@ module _ {a : Scene} {b : Core} {n : ℕ} {q : Option Place} (f : Frame a b n q)
   unfolding put_high push_high put_low push_low behind_one set_callers
   land_blocked (Put mark.High k w) s ok st m sub at = place_kept m k (place.Ready mark.High w) s (moved_apart k m s (yield_runner k w ok) st sub at) ∙ at
   land_blocked (Put mark.Low k w) s ok st m sub at = place_kept m k (place.Ready mark.Low w) s (moved_apart k m s (yield_runner k w ok) st sub at) ∙ at
-  land_blocked (Put mark.Switch k w) s ok st m sub at = absurd ok
   land_blocked (GoBehind g k) s ok st m sub at = place_kept m k (place.Behind g) s (moved_apart k m s ok.0.0 st sub at) ∙ at
   land_blocked (Move k r) s ok st m sub at = place_kept m k r s (by (move_runner k r s ok)) ∙ at
     where
@@ -101,9 +97,7 @@ module _ {a : Scene} {b : Core} {n : ℕ} {q : Option Place} (f : Frame a b n q)
       by (inl i) = moved_apart k m s i st sub at
       by (inr j) = let p = f.there j.0 j.1.0 in no_way (sym (placeless (get s.threads j.0) j.1.1) ∙ ap (λ (o : Option Place). is_some o) (ap (λ (c : ℕ). place_of c s) (f.one j.0 j.1.0) ∙ (st.here ∙ p.1.0)))
   land_blocked (Enter k j) s ok st m sub at = place_kept m k (place.Under j) (set_place j place.Running s) (moved_apart k m s ok.0 st sub at) ∙ (place_kept m j place.Running s (by_number m j ((m == j) ≡ false) (λ e. absurd (let x = ok.1.1.1.0 in let y = ap (λ (c : ℕ). place_of c s) e in cc)) (λ e. e)) ∙ at)
-  land_blocked (Pop x) s ok st m sub at = absurd ok
-  land_blocked (Promote x) s ok st m sub at = absurd ok
-  land_blocked (Stop x) s ok st m sub at = absurd ok
+  land_blocked x s ok st m sub at = absurd ok
 
   stays : {t : Core} → Working a b → Stay a b t → Stand (watch a) n q [] t × Working a t
   stays first c =
@@ -112,11 +106,7 @@ module _ {a : Scene} {b : Core} {n : ℕ} {q : Option Place} (f : Frame a b n q)
       (f.follows.start, first) c
 
   settles : {s t : Core} → Working a s → Settles s t → Working a t
-  settles first d = along (Working a) (λ w s ok h. working_word a asked w s (stays_allowed a w s (settle_stays a w s ok)) (unmoved w s (still w s ok)) h) first d
-    where
-      still : (w : Word) (s : Core) → IsSettling w s → is_places w ≡ false
-      still (Places p) s ok = absurd ok
-      still _ s ok = refl
+  settles first d = along (Working a) (λ w s ok h. working_word a asked w s (stays_allowed a w s (settle_stays a w s ok)) (unmoved w s (grind arith)) h) first d
 
   landed : (s : Core) (p : Placing) → Working a b → Stay a b s → MayLand a p s → Working a (after_word (Places p) s)
   landed s p first c ok =
@@ -135,11 +125,7 @@ module _ {a : Scene} {b : Core} {n : ℕ} {q : Option Place} (f : Frame a b n q)
       let back = after_word (Places (Move m place.Running)) t in
       working_word a asked (SetHowFar m (how_far.Answered v)) back (k, (is, (to, under))) (unmoved (SetHowFar m (how_far.Answered v)) back refl)
       (working_word a asked (Places (Move m place.Running)) t (inr ok) (λ j i at x y. inl (sym (ap (λ (u : Core). place_of j u) (sym (placing_shifted (Move m place.Running) t).only)) ∙ (place_kept j m place.Running t (by_number j m ((j == m) ≡ false) (λ z. absurd (let w = ap (λ (c : ℕ). place_of c t) z in cc)) (λ z. z)) ∙ at))) g)
-  trip_works first (Collapses t over c) = along (Working a) (λ w s ok h. working_word a asked w s (fall_allowed a w s ok) (unmoved w s (still w s ok)) h) first c
-    where
-      still : (w : Word) (s : Core) → IsFall a w s → is_places w ≡ false
-      still (Places p) s ok = absurd ok
-      still _ s ok = refl
+  trip_works first (Collapses t over c) = along (Working a) (λ w s ok h. working_word a asked w s (fall_allowed a w s ok) (unmoved w s (grind arith)) h) first c
 
 -- ---- Steps
 
@@ -150,11 +136,11 @@ pub step_works : (x : Setting) (s : State) (l : Label) (t : State) → (w : Walk
 step_works x s l t w h may works awaited = step_by x s l t w h may (λ a u. WorksQueued u × HostsAwaited u) (λ a b n q u base first same f c ends. let r = trip_works f (asked a b n q base f) (begins a b base first same) c in (r.works, r.awaited))
   where
     asked : (a : Scene) (b : Core) (n : ℕ) (q : Option Place) → Reads s.core a.base → Frame a b n q → Asked a
-    asked a b n q base f m i is far = let e = read_awaited s.core a.base base awaited m i far in (e.0, by e.1)
-      where
-        by : (place_of m a.base ≡ Some (place.Blocked (subtask.Host i))) ⊎ (is_stage_ended (stage_of i a.base) ≡ true) → is_stage_ended (stage_of i a.base) ≡ true
-        by (inr d) = d
-        by (inl p) = not_busy (subtask.Host i) q f.follows.busy (sym f.follows.start.here ∙ (f.home n ∙ (ap (λ (j : ℕ). place_of j a.base) (sym (f.one m is)) ∙ p)))
+    asked a b n q base f m i is far = let e = read_awaited s.core a.base base awaited m i far in (
+      e.0,
+      ⊎_elim (λ p. let here = f.follows.start.here in let home = f.home n in let one = f.one m is in
+          let busy = f.follows.busy in absurd (grind arith)) (λ d. d) e.1,
+    )
 
     begins : (a : Scene) (b : Core) → Reads s.core a.base → Reads s.core b → SameWorks s.core b → Working a b
     begins a b base first same = record {

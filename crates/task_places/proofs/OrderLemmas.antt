@@ -1,5 +1,5 @@
 -- A state in order: each opening state is, and each step leads from one to one.
-use Rattle.task_rules.proofs.Machine.{[], ap, arith, Bool, ByHandle, ByOp, Call, call_instance, callee_of, Component, Core, empty, false, fresh, get, get-empty, HasSubtask, inl, inr, instance_of, is_fresh, is_some, is_there, IsRunner, Label, length, List, Main, None, opening, Option, option_and_then, option_map, option_map_or, Place, place_of, Placed, refl, Run, Scene, scene_of, Script, script_in, Setting, Some, State, Steady, subst, sym, task_of, Thread, true, Walk, Walked, was_started, Work, ℕ, ◌∷◌, ◌≡◌, ◌≤◌, ◌⊎◌}
+use Rattle.task_rules.proofs.Machine.{[], ap, arith, Bool, ByHandle, ByOp, Call, call_instance, callee_of, Component, Core, empty, false, fresh, get, get-empty, HasSubtask, inl, inr, instance_of, is_fresh, is_some, is_there, IsRunner, Label, length, List, None, opening, Option, option_and_then, option_map, option_map_or, Place, place_of, Placed, refl, Run, Scene, scene_of, Script, script_in, Setting, Some, State, Steady, subst, sym, task_of, Thread, true, Walk, Walked, was_started, Work, ℕ, ◌∷◌, ◌≡◌, ◌≤◌, ◌⊎◌}
 use Rattle.task_places.proofs.HostsAwaited.{step_works}
 use Rattle.task_places.proofs.Directs.{DirectsRun, directs_on_top, directs_word}
 use Rattle.task_machine.specs.declared.records.Subtask.TheVariants as subtask
@@ -16,7 +16,7 @@ use Rattle.task_laws.proofs.CountLemmas.{few_word}
 use Rattle.task_laws.proofs.SetHandles.{opening_sets, sets_named_word}
 use Rattle.task_laws.proofs.CallsLaw.{CallsGo, CallsHold}
 use Rattle.task_laws.proofs.CallsSteps.{base_out, calls_begin, of_base, word_goes, opening_holds, plain, plain_scene, step_goes}
-use Rattle.task_laws.specs.Order.{CallsNamed, InOrder, InPlace, Numbered, OpeningInOrder, SetsNamed, StartsAwaited, StepInOrder, WasCall, CallsThere, MakesFew, Strands, WaitsAtHome, set_of_op, set_of_place, StepsMakeFew, JoinsNamed, DirectsOnTop, Fits, WorksQueued, HostsAwaited, names_script}
+use Rattle.task_laws.specs.Order.{CallsNamed, InOrder, Numbered, OpeningInOrder, SetsNamed, StartsAwaited, StepInOrder, WasCall, CallsThere, MakesFew, Strands, WaitsAtHome, set_of_op, set_of_place, StepsMakeFew, JoinsNamed, DirectsOnTop, Fits, WorksQueued, HostsAwaited, names_script}
 use Rattle.task_machine.specs.declared.records.Turn.TheVariants as turn
 use Rattle.task_machine.specs.declared.records.Place.TheVariants as place
 use Rattle.task_machine.specs.declared.records.HowFar.TheVariants as how_far
@@ -266,70 +266,39 @@ opening_placed instances handle_limit capacity n = record {
   callers = λ f. grind (arith, get-empty);
 }
 
-opening_in_place : (instances handle_limit capacity : ℕ) (main : Main) → InPlace (opening instances handle_limit capacity main)
-opening_in_place instances handle_limit capacity main =
-    record { placed = opening_placed instances handle_limit capacity; runs = λ n e. absurd (cc) }
-
-opening_starts : (instances handle_limit capacity : ℕ) → StartsAwaited (fresh instances handle_limit capacity)
-unfolding fresh
-opening_starts instances handle_limit capacity k c e h = let o = get-empty {X = Call} k in absurd (cc)
-
-opening_strands : (instances handle_limit capacity : ℕ) → Strands (fresh instances handle_limit capacity)
-unfolding fresh
-opening_strands instances handle_limit capacity = record {
-  below = λ n m e. let o = get-empty {X = Thread} n in absurd (cc);
-  made = λ n m e. let o = get-empty {X = Thread} n in absurd (cc);
-  alone = λ n k m e f. let o = get-empty {X = Thread} n in absurd (cc);
-}
-
-opening_works : (instances handle_limit capacity : ℕ) → WorksQueued (fresh instances handle_limit capacity)
-unfolding fresh
-opening_works instances handle_limit capacity = record { each = λ i w at. let o = get-empty {X = Work} i in absurd (cc); low = λ i. (refl, refl); made = λ i there. let o = get-empty {X = Work} i in absurd (cc); gone = λ i none. (refl, refl) }
-
-opening_awaited : (instances handle_limit capacity : ℕ) → HostsAwaited (fresh instances handle_limit capacity)
-unfolding fresh
-opening_awaited instances handle_limit capacity n i far = let o = get-empty {X = Thread} n in absurd (cc)
-
-opening_directs : (instances handle_limit capacity : ℕ) → DirectsOnTop (fresh instances handle_limit capacity)
-unfolding fresh
-opening_directs instances handle_limit capacity m there implicit direct = let o = get-empty {X = Thread} m in absurd (cc)
-
-opening_calls : (instances handle_limit capacity : ℕ) → CallsThere (fresh instances handle_limit capacity)
-unfolding fresh
-opening_calls instances handle_limit capacity n k e = let o = get-empty {X = Thread} n in absurd (cc)
-
-opening_waits : (instances handle_limit capacity : ℕ) → WaitsAtHome (fresh instances handle_limit capacity)
-unfolding fresh
-opening_waits instances handle_limit capacity = record {
-  by_place = λ n x e. let o = get-empty {X = Thread} n in absurd (cc);
-  by_op = λ n x e. let o = get-empty {X = Thread} n in absurd (cc);
-}
-
-opening_fits : (c : Component) (instances handle_limit capacity : ℕ) → Fits c (fresh instances handle_limit capacity)
-unfolding fresh
-opening_fits c instances handle_limit capacity n t at = let o = get-empty {X = Thread} n in absurd (cc)
-
 pub opening_in_order : OpeningInOrder
+unfolding fresh
 opening_in_order c codes instances handle_limit capacity main =
     let q : CallsHold c (fresh instances handle_limit capacity) = opening_holds c instances handle_limit capacity in
-    let s = fresh instances handle_limit capacity in
     record {
       codes = codes;
-      in_place = opening_in_place instances handle_limit capacity main;
-      strands = opening_strands instances handle_limit capacity;
-      directs = opening_directs instances handle_limit capacity;
-      works = opening_works instances handle_limit capacity;
-      awaited = opening_awaited instances handle_limit capacity;
+      in_place = record { placed = opening_placed instances handle_limit capacity; runs = λ n e. absurd (cc) };
+      strands = record {
+        below = λ n m e. let o = get-empty {X = Thread} n in absurd (cc);
+        made = λ n m e. let o = get-empty {X = Thread} n in absurd (cc);
+        alone = λ n k m e f. let o = get-empty {X = Thread} n in absurd (cc);
+      };
+      directs = λ n there implicit direct. let o = get-empty {X = Thread} n in absurd (cc);
+      works = record {
+        each = λ i w at. let o = get-empty {X = Work} i in absurd (cc);
+        low = λ i. (refl, refl);
+        made = λ i there. let o = get-empty {X = Work} i in absurd (cc);
+        gone = λ i none. (refl, refl);
+      };
+      awaited = λ n i far. let o = get-empty {X = Thread} n in absurd (cc);
       numbered = q.numbered;
-      calls_there = opening_calls instances handle_limit capacity;
-      waits = opening_waits instances handle_limit capacity;
+      calls_there = λ n k e. let o = get-empty {X = Thread} n in absurd (cc);
+      waits = record {
+        by_place = λ n x e. let o = get-empty {X = Thread} n in absurd (cc);
+        by_op = λ n x e. let o = get-empty {X = Thread} n in absurd (cc);
+      };
       calls_named = opening_named instances handle_limit capacity;
       sets_named = opening_sets instances handle_limit capacity;
       joins_named = opening_joins instances handle_limit capacity;
       kinds = q.kinds;
       deliveries = q.deliveries;
-      fits = opening_fits c instances handle_limit capacity;
-      starts = opening_starts instances handle_limit capacity;
+      fits = λ n t at. let o = get-empty {X = Thread} n in absurd (cc);
+      starts = λ k c at e. let o = get-empty {X = Call} k in absurd (cc);
     }
 
 -- ---- Runs

@@ -1,13 +1,13 @@
 -- Where each thread is along the words of a step: each has its place, and one that waits for its start still does, or its call has begun.
-use Rattle.task_rules.proofs.Machine.{[], add_call, add_group, add_set, add_work, after_placing, after_word, ap, arith, AwaitsEvent, behind_one, Blocks, Bool, Call, call_made, Collapses, Core, count_work, Departs, EndsOver, Enter, entries, Falls, false, FinishWork, free_handle, free_thread_handle, get, give_handle, give_result, give_thread_handle, GoBehind, GoesBack, has_entry, HasPlace, HasSubtask, Holds, HowFar, if◌then◌else◌, inl, inr, is_at_high, is_at_low, is_at_switch, is_begun, is_blocked_on, is_done_host, is_explicit, is_for_start, is_free, is_fresh, is_none, is_some, is_there, is_under, IsFall, IsFoot, IsRunner, IsSettling, Lands, LandsAt, LastWords, le_refl, Leaves, MakeCall, MakeThread, Mark, MayGo, MayLand, MayMove, MayPut, MayYield, Move, nat_tests, new_call, new_thread, next_thread, None, on_call, on_instance, on_thread, on_work, Option, option_map, option_map_or, Place, place_of, Places, Placing, poll_pends, Pop, Promote, promoted, push_high, Put, put_high, put_low, QueueWork, Quits, refl, registers_for, Remains, remove_call, remove_group, remove_set, remove_thread, remove_work, RemoveCall, RemoveGroup, RemoveThread, Runs, says, Scene, set_backpressure, set_cancel_delivered, set_cancelled, set_course, set_do_not_enter, set_do_not_suspend, set_end, set_event, set_exited, set_how_far, set_join, set_own_event, set_phase, set_place, set_position, set_register, set_result, set_saved_callee, set_saved_own, set_script, set_stage, set_started, set_starting_published, set_subtask_handle, set_thread_handle, set_trapped, set_uninteresting, set_word, Settles, SetTrapped, SetUninteresting, Some, Stay, Stays, Stop, subst, Subtask, Suspends, switch_entries, sym, T, take_result, TakeHost, TakePush, task_of, Thread, times, Trip, true, Turn, Uncovers, unwrap_or, Waits, WaitsAgain, was_started, Why, with_handle, with_thread_handle, Withdraw, Word, work_queued, ℕ, ◌+◌, ◌==◌, ◌||◌, ◌∙◌, ◌∷◌, ◌≡◌, ◌≤◌, ◌⊎◌}
+use Rattle.task_rules.proofs.Machine.{[], add_call, add_group, add_set, add_work, after_placing, after_word, ap, arith, AwaitsEvent, behind_one, Blocks, Bool, Call, call_made, Collapses, Core, count_work, Departs, EndsOver, Enter, entries, Falls, false, FinishWork, free_handle, free_thread_handle, get, give_handle, give_result, give_thread_handle, GoBehind, GoesBack, has_entry, HasPlace, HasSubtask, Holds, HowFar, if◌then◌else◌, inl, inr, is_at_high, is_at_low, is_at_switch, is_begun, is_blocked_on, is_done_host, is_explicit, is_for_start, is_free, is_fresh, is_none, is_some, is_there, is_under, IsFall, IsFoot, IsRunner, IsSettling, Lands, LandsAt, LastWords, le_refl, Leaves, MakeCall, MakeThread, Mark, MayGo, MayLand, MayMove, MayPut, MayYield, Move, nat_tests, new_call, new_thread, next_thread, None, on_call, on_instance, on_thread, on_work, Option, option_map, option_map_or, Place, place_of, Places, Placing, poll_pends, Promote, promoted, push_high, Put, put_high, put_low, QueueWork, Quits, refl, registers_for, Remains, remove_call, remove_group, remove_set, remove_thread, remove_work, RemoveThread, Runs, says, Scene, set_backpressure, set_cancel_delivered, set_cancelled, set_course, set_do_not_enter, set_do_not_suspend, set_end, set_event, set_exited, set_how_far, set_join, set_own_event, set_phase, set_place, set_position, set_register, set_result, set_saved_callee, set_saved_own, set_script, set_stage, set_started, set_starting_published, set_subtask_handle, set_thread_handle, set_trapped, set_uninteresting, set_word, Settles, SetTrapped, SetUninteresting, Some, Stay, Stays, Stop, subst, Subtask, Suspends, switch_entries, sym, T, take_result, TakeHost, TakePush, task_of, Thread, times, Trip, true, Turn, Uncovers, unwrap_or, Waits, WaitsAgain, was_started, Why, with_handle, with_thread_handle, Withdraw, Word, work_queued, ℕ, ◌+◌, ◌==◌, ◌||◌, ◌∙◌, ◌∷◌, ◌≡◌, ◌≤◌, ◌⊎◌}
 use Rattle.task_rules.proofs.WalkMoves.{blocked_place}
 use Rattle.task_machine.proofs.CommuteLemmas.{get-change}
 use Rattle.task_places.proofs.Entries.{added_stand, has_stands, next_first, popped_quiet, promoted_stand, pushed_same, removed_fresh, withdrawn_stand, flipped}
 use Rattle.task_laws.proofs.CameLemmas.{read_same}
 use Rattle.task_rules.proofs.ChainLemmas.{along}
-use Rattle.task_rules.proofs.MoveLemmas.{All, all_of, idle_loose, is_busy, is_idle, is_parked, loose_idle, put_stand, removed_all, no_time, one_time, stand_of, removed_gone, removed_placed, removed_loose, gone_place, other_place, nobody}
+use Rattle.task_rules.proofs.MoveLemmas.{removed_is, All, all_of, idle_loose, is_busy, is_idle, is_parked, loose_idle, put_stand, removed_all, no_time, one_time, stand_of, removed_gone, removed_placed, removed_loose, gone_place, nobody}
 use Rattle.task_rules.proofs.PlacingLemmas.{placing_shifted}
-use Rattle.task_rules.proofs.StandLemmas.{Adds, adds_all, Loose, Stand, by_number, put_high_adds, put_low_adds, set_place_adds, place_kept, place_written, Given, Watch, Nothing, Awaits, Covered, is_so, is_watched, eq_refl, is_eq_of, Stuck, watching}
+use Rattle.task_rules.proofs.StandLemmas.{set_place_is, Adds, adds_all, Loose, Stand, by_number, put_high_adds, put_low_adds, set_place_adds, place_kept, place_written, Given, Watch, Nothing, Awaits, Covered, is_so, is_watched, eq_refl, is_eq_of, Stuck, watching}
 use Rattle.task_rules.proofs.StopLemmas.{Untouched, behind_adds, foot_there, given_there, quiet_placed, quiet_stand, stopped_stand, switch_there}
 use Rattle.task_rules.proofs.WalkParts.{withdraws}
 use Rattle.task_rules.proofs.WalkTask.{not_main, one_runner}
@@ -259,8 +259,9 @@ module _ {a : Scene} {b : Core} (n : ℕ) (p : Place) (f : Follows a b n (Some p
   comes r s t adds st runs fresh = record {
     placed = adds_all n (Some p) r s t adds st;
     runs = λ m to. let e = runs m to in ap (λ (j : ℕ). place_of j t) e.0 ∙ (adds.own ∙ ap (λ (x : Place). Some x) e.1);
-    fresh = λ k h. by_number k n ((is_fresh (place_of k t) ≡ true) ⊎ Begun a k t) (λ e. subst (λ (j : ℕ). (is_fresh (place_of j t) ≡ true) ⊎ Begun a j t) (sym e) (let g = fresh (ap (waits a) (sym e) ∙ h) in let y = adds.own in grind arith)) (λ e. inl (ap is_fresh (adds.other k e) ∙ fresh_still a st k h));
-    covered = λ k m at. inl (by_number k n (place_of k t ≡ Some (place.Under m)) (λ e. not_under k m e at) (λ e. adds.other k e ∙ covered_still a st k m at));
+    fresh = λ k h. by_number k n ((is_fresh (place_of k t) ≡ true) ⊎ Begun a k t) (λ e. rw e (let g = fresh (rw e at h) in let y = adds.own in grind arith))
+        (λ e. inl (grind (arith, adds.other k e, fresh_still a st k h)));
+    covered = λ k m at. inl (grind (arith, nat_tests, adds.other k, covered_still a st k m at));
     entered = λ m none to. no_way (ap (λ (o : Option Place). is_some o) (sym none ∙ (ap (λ (j : ℕ). place_of j a.base) (runs m to).0 ∙ home)));
   }
 
@@ -287,11 +288,11 @@ module _ {a : Scene} {b : Core} (n : ℕ) (p : Place) (f : Follows a b n (Some p
           (λ h. inr (inl (ap (λ (o : Option Place). is_some o) home, λ implicit. let x = fresh_ready p f.busy (ap is_fresh (sym home) ∙ h) in (starts implicit (x.0, home ∙ ap (λ (y : Place). Some y) x.1)))))
       go (Holds w l was at) = comes r s (set_place n r s) (adds (ap is_free at)) st (λ m next. not_main m (sym l.1 ∙ next)) (λ h. inl (ap (λ (y : Place). is_fresh (Some y)) at ∙ (ap is_fresh (sym was.1) ∙ h)))
       go (WaitsAgain x l was at) = comes r s (set_place n r s) (adds (ap is_free at)) st (λ m next. not_main m (sym l.1 ∙ next)) (λ h. no_way (ap is_fresh (sym was.1) ∙ h))
+      go (Uncovers m e to under none at) = no_way (sym (placeless (get s.threads m) none) ∙ ap (λ (o : Option Place). is_some o) (ap (λ (j : ℕ). place_of j s) (one m e) ∙ st.here))
       go (AwaitsEvent x l d h at) = left r s (set_place n r s) l (adds (ap is_free at)) st
       go (Waits x l h at) = left r s (set_place n r s) l (adds (ap is_free at)) st
       go (Blocks sub l h at) = left r s (set_place n r s) l (adds (ap is_free at)) st
       go (Suspends l at) = left r s (set_place n r s) l (adds (ap is_free at)) st
-      go (Uncovers m e to under none at) = no_way (sym (placeless (get s.threads m) none) ∙ ap (λ (o : Option Place). is_some o) (ap (λ (j : ℕ). place_of j s) (one m e) ∙ st.here))
 
   -- by a direct call it is under the new thread
   enters : (m : ℕ) (s : Core) → MayLand a (Enter n m) s → Stand (watch a) n (Some p) [] s → Arrives a (set_place n (place.Under m) (set_place m place.Running s))
@@ -307,15 +308,16 @@ module _ {a : Scene} {b : Core} (n : ℕ) (p : Place) (f : Follows a b n (Some p
       record {
         placed = adds_all n (Some p) (place.Under m) u t (set_place_adds n (place.Under m) p u refl at) (stand_of {P = nobody} n (Some p) u at r.0 (λ k h. no_way h) all);
         runs = λ k to. ap (λ (j : ℕ). place_of j t) (one_runner k m (sym to ∙ ok.1.0)) ∙ here;
-        fresh = λ k h. by_number k m ((is_fresh (place_of k t) ≡ true) ⊎ Begun a k t) (λ e. inr (subst (λ (j : ℕ). Begun a j t) (sym e) (inr ok.1.1.1.1.1.1)))
-            (λ e. by_number k n ((is_fresh (place_of k t) ≡ true) ⊎ Begun a k t) (λ g. begun s ok.1.1.1.1.1.0 (ap (waits a) (sym g) ∙ h)) (λ g. inl (ap is_fresh (place_kept k n (place.Under m) u g ∙ place_kept k m place.Running s e) ∙ fresh_still a st k h)));
-        covered = λ k j under. inl (by_number k m (place_of k t ≡ Some (place.Under j)) (λ e. no_way (ap is_under_place (sym new ∙ (ap (λ (i : ℕ). place_of i s) (sym e) ∙ covered_still a st k j under))))
-            (λ e. by_number k n (place_of k t ≡ Some (place.Under j)) (λ g. not_under k j g under) (λ g. place_kept k n (place.Under m) u g ∙ (place_kept k m place.Running s e ∙ covered_still a st k j under))));
+        fresh = λ k h. by_number k m ((is_fresh (place_of k t) ≡ true) ⊎ Begun a k t) (λ e. inr (inr (rw e ok.1.1.1.1.1.1)))
+            (λ e. let still = fresh_still a st k h in let own = λ (g : waits a n ≡ true). begun s {A = ⊥} ok.1.1.1.1.1.0 g in
+            inl (grind (arith, nat_tests, set_place_is k n (place.Under m) u, set_place_is k m place.Running s, own)));
+        covered = λ k j under. let still = covered_still a st k j under in
+            inl (grind (arith, nat_tests, set_place_is k n (place.Under m) u, set_place_is k m place.Running s, new));
         entered = λ k none to. (n, place_written n (place.Under m) p u at ∙ ap (λ (j : ℕ). Some (place.Under j)) (sym (one_runner k m (sym to ∙ ok.1.0))));
       }
     where
       apart : (m == n) ≡ false
-      apart = by_number m n ((m == n) ≡ false) (λ e. no_way (sym (ap is_busy (sym (ap (λ (j : ℕ). place_of j s) e ∙ st.here) ∙ ok.1.1.1.0)) ∙ f.busy)) (λ e. e)
+      apart = let new = ok.1.1.1.0 in let here = st.here in let busy = f.busy in grind (arith, nat_tests)
 
   foot_given : (g : ℕ) (s : Core) → IsFoot g s → Stand (watch a) n (Some p) [] s → Given g s
   foot_given g s (inl there) st = given_there n (Some p) [] s st g there
@@ -324,7 +326,6 @@ module _ {a : Scene} {b : Core} (n : ℕ) (p : Place) (f : Follows a b n (Some p
   lands_at : (x : Placing) (s : Core) → MayLand a x s → Stand (watch a) n (Some p) [] s → Arrives a (after_placing x s)
   lands_at (Put mark.High k w) s ok st = let e = one k (yield_runner k w ok) in subst (λ (j : ℕ). Arrives a (put_high j w s)) (sym e) (left (place.Ready mark.High w) s (put_high n w s) (yield_leaves w (subst (λ (j : ℕ). MayYield a j w) e ok)) (put_high_adds n w p s st.here) st)
   lands_at (Put mark.Low k w) s ok st = let e = one k (yield_runner k w ok) in subst (λ (j : ℕ). Arrives a (put_low j w s)) (sym e) (left (place.Ready mark.Low w) s (put_low n w s) (yield_leaves w (subst (λ (j : ℕ). MayYield a j w) e ok)) (put_low_adds n w p s st.here) st)
-  lands_at (Put mark.Switch k w) s ok st = absurd ok
   lands_at (GoBehind g k) s ok st = let e = one k ok.0.0 in subst (λ (j : ℕ). Arrives a (behind_one g j s)) (sym e) (left (place.Behind g) s (behind_one g n s) (subst (Leaves a) e ok.0) (behind_adds g n p s (foot_given g s ok.1 st) st.here) st)
   lands_at (Move k r) s ok st = moves (move_runner k r s ok)
     where
@@ -332,9 +333,7 @@ module _ {a : Scene} {b : Core} (n : ℕ) (p : Place) (f : Follows a b n (Some p
       moves (inl i) = let e = one k i in subst (λ (j : ℕ). Arrives a (set_place j r s)) (sym e) (move_lands r s (subst (λ (j : ℕ). MayMove a j r s) e ok) st)
       moves (inr m) = no_way (sym (placeless (get s.threads m.0) m.1.1) ∙ ap (λ (o : Option Place). is_some o) (ap (λ (j : ℕ). place_of j s) (one m.0 m.1.0) ∙ st.here))
   lands_at (Enter k m) s ok st = let e = one k ok.0 in subst (λ (j : ℕ). Arrives a (after_placing (Enter j m) s)) (sym e) (enters m s (subst (λ (j : ℕ). MayLand a (Enter j m) s) e ok) st)
-  lands_at (Pop m) s ok st = absurd ok
-  lands_at (Promote m) s ok st = absurd ok
-  lands_at (Stop g) s ok st = absurd ok
+  lands_at x s ok st = absurd ok
 
 -- ---- The thread is gone
 
@@ -344,9 +343,7 @@ settles_quiet {s = s} c = along (Untouched s) settle_quiet (record { places = λ
   where
     settle_quiet : (w : Word) (u : Core) → IsSettling w u → Untouched s u → Untouched s (after_word w u)
     settle_quiet (SetUninteresting k) u ok q = record { places = q.places; switch = q.switch; high = q.high; low = q.low; callers = q.callers; made = q.made }
-    settle_quiet (RemoveCall k) u ok q = record { places = q.places; switch = q.switch; high = q.high; low = q.low; callers = q.callers; made = q.made }
-    settle_quiet (RemoveGroup g) u ok q = record { places = q.places; switch = q.switch; high = q.high; low = q.low; callers = q.callers; made = q.made }
-    settle_quiet _ u ok q = absurd ok
+    settle_quiet w u ok q = first_of (assumption, grind arith)
 
 -- What is so while a strand falls.
 record Falling (a : Scene) (n : ℕ) (s : Core) : Type 0 where
@@ -368,7 +365,6 @@ pub record Frame (a : Scene) (b : Core) (n : ℕ) (q : Option Place) : Type 0 wh
 pub land_runner : (a : Scene) (p : Placing) (s : Core) → MayLand a p s → (k : ℕ) × IsRunner a k
 land_runner a (Put mark.High k w) s ok = (k, yield_runner k w ok)
 land_runner a (Put mark.Low k w) s ok = (k, yield_runner k w ok)
-land_runner a (Put mark.Switch k w) s ok = absurd ok
 land_runner a (GoBehind g k) s ok = (k, ok.0.0)
 land_runner a (Move k r) s ok = go (move_runner k r s ok)
   where
@@ -376,41 +372,30 @@ land_runner a (Move k r) s ok = go (move_runner k r s ok)
     go (inl i) = (k, i)
     go (inr m) = (m.0, m.1.0)
 land_runner a (Enter k m) s ok = (k, ok.0)
-land_runner a (Pop m) s ok = absurd ok
-land_runner a (Promote m) s ok = absurd ok
-land_runner a (Stop g) s ok = absurd ok
-
-none_there_at : (o : Option Thread) → is_none o ≡ true → option_map (λ (t : Thread). t.place) o ≡ None
-none_there_at o h = grind arith
-
-under_number : {j : ℕ} (m : ℕ) → Some (place.Under m) ≡ Some (place.Under j) → m ≡ j
-under_number m e = grind arith
+land_runner a p s ok = absurd ok
 
 module _ {a : Scene} {b : Core} {n : ℕ} {q : Option Place} (f : Frame a b n q) where
   -- the runner is under none
   no_cover : (k m : ℕ) → IsRunner a k → place_of k a.base ≡ Some (place.Under m) → {A : Type 0} → A
-  no_cover k m is at = let p = f.there k is in no_way (sym p.1.1 ∙ ap is_under_place (sym p.1.0 ∙ (sym f.follows.start.here ∙ (f.home n ∙ (ap (λ (j : ℕ). place_of j a.base) (sym (f.one k is)) ∙ at)))))
+  no_cover k m is at = let p = f.there k is in let here = f.follows.start.here in let home = f.home n in let one = f.one k is in absurd (grind arith)
 
   fall_word : (w : Word) (s : Core) → IsFall a w s → Falling a n s → Falling a n (after_word w s)
   unfolding set_trapped
   fall_word (RemoveThread j) s ok h = record {
     others = λ k e. by_number k j (HasPlace k (remove_thread j s)) (λ g. subst (λ (i : ℕ). HasPlace i (remove_thread j s)) (sym g) (removed_gone j s (loose ok))) (λ g. removed_placed k j s g (h.others k e));
     own = removed_loose n j s h.own;
-    idle = λ k i. by_number k j (is_idle (place_of k (remove_thread j s)) ≡ true) (λ e. ap (λ (m : ℕ). is_idle (place_of m (remove_thread j s))) e ∙ ap is_idle (gone_place j s)) (λ e. ap is_idle (other_place k j s e) ∙ h.idle k i);
+    idle = λ k i. grind (arith, nat_tests, removed_is k j s, h.idle k);
     fresh = λ k w. removed_fresh k j s (h.fresh k w);
-    covered = λ k m at. by_number k j ((place_of k (remove_thread j s) ≡ Some (place.Under m)) ⊎ (place_of m (remove_thread j s) ≡ None)) (λ g. inr (above m (ap (λ (i : ℕ). place_of i a.base) (sym g) ∙ at) ok))
-        (λ g. let o = h.covered k m at in let e = other_place k j s g in let u = still_gone m in grind arith);
+    covered = λ k m at. let up = λ (e : place_of j a.base ≡ Some (place.Under m)). above m e ok in
+        grind (arith, nat_tests, removed_is k j s, removed_is m j s, h.covered k m, up);
   }
     where
-      still_gone : (m : ℕ) → place_of m s ≡ None → place_of m (remove_thread j s) ≡ None
-      still_gone m e = by_number m j (place_of m (remove_thread j s) ≡ None) (λ g. ap (λ (i : ℕ). place_of i (remove_thread j s)) g ∙ gone_place j s) (λ g. other_place m j s g ∙ e)
-
       -- who goes is the runner, or was under one that is gone
       above : (m : ℕ) → place_of j a.base ≡ Some (place.Under m) → MayGo a j s → place_of m (remove_thread j s) ≡ None
       above m at (Departs l) = no_cover j m l.0 at
       above m at (EndsOver i is to under) = no_cover j m is at
       above m at (Falls over (inl i)) = no_cover j m i at
-      above m at (Falls over (inr u)) = still_gone m (none_there_at (get s.threads m) (subst (λ (i : ℕ). is_none (get s.threads i) ≡ true) (sym (under_number m (sym at ∙ u.1.0))) u.1.1))
+      above m at (Falls over (inr u)) = grind (arith, nat_tests, removed_is m j s)
 
       loose : MayGo a j s → Loose j s
       loose (Departs l) = subst (λ (m : ℕ). Loose m s) (sym (f.one j l.0)) h.own
@@ -418,8 +403,8 @@ module _ {a : Scene} {b : Core} {n : ℕ} {q : Option Place} (f : Frame a b n q)
       loose (Falls over (inl i)) = subst (λ (m : ℕ). Loose m s) (sym (f.one j i)) h.own
       loose (Falls over (inr u)) = by_number j n (Loose j s) (λ e. subst (λ (m : ℕ). Loose m s) (sym e) h.own) (λ e. idle_loose j (place_of j s) s refl (h.idle j (ap is_idle u.1.0)) (h.others j e))
   fall_word SetTrapped s ok h = record {
-    others = λ k e. let p = h.others k e in record { number = p.number; behind = p.behind; switch = p.switch; high = p.high; low = p.low; callers = p.callers };
-    own = record { number = h.own.number; switch = h.own.switch; high = h.own.high; low = h.own.low; callers = h.own.callers };
+    others = λ k e. let p = h.others k e in assumption;
+    own = assumption;
     idle = h.idle;
     fresh = h.fresh;
     covered = h.covered;
@@ -438,7 +423,8 @@ module _ {a : Scene} {b : Core} {n : ℕ} {q : Option Place} (f : Frame a b n q)
         λ k. quiet_placed k (remove_thread n s) t u (removed_all n q s st k),
         (
           λ k w. ap is_fresh (u.places k) ∙ removed_fresh k n s (fresh_still a st k w),
-          λ k m at. by_number k n (place_of k t ≡ Some (place.Under m)) (λ e. no_cover k m (subst (IsRunner a) (sym e) is) at) (λ e. u.places k ∙ (other_place k n s e ∙ covered_still a st k m at)),
+          λ k m at. let own = λ (e : place_of n a.base ≡ Some (place.Under m)). no_cover n m is e {A = ⊥} in
+              grind (arith, nat_tests, u.places k, removed_is k n s, covered_still a st k m, own),
         ),
       )
 
@@ -448,16 +434,15 @@ module _ {a : Scene} {b : Core} {n : ℕ} {q : Option Place} (f : Frame a b n q)
       let st = stay_stand f.follows c in
       let e = exits s t is st d in
       let at : place_of m t ≡ Some (place.Under n) = e.1.1 m n under in
-      let apart : (m == n) ≡ false = by_number m n ((m == n) ≡ false) (λ g. no_cover m n (subst (IsRunner a) (sym g) is) under) (λ g. g) in
+      let apart : (m == n) ≡ false = let own = λ (g : place_of n a.base ≡ Some (place.Under n)). no_cover n n is g {A = ⊥} in grind (arith, nat_tests) in
       let u = set_place m place.Running t in
       far_arrives a m (how_far.Answered v) u (record {
         placed = adds_all m (Some (place.Under n)) place.Running t u (set_place_adds m place.Running (place.Under n) t refl at) (stand_of {P = nobody} m (Some (place.Under n)) t at refl (λ k h. no_way h) e.0);
-        runs = λ k next. ap (λ (j : ℕ). place_of j u) (one_runner k m (sym next ∙ to)) ∙ place_written m place.Running (place.Under n) t at;
-        fresh = λ k h. by_number k m ((is_fresh (place_of k u) ≡ true) ⊎ Begun a k u) (λ g. no_way (ap is_fresh (sym under) ∙ (ap (waits a) (sym g) ∙ h))) (λ g. inl (ap is_fresh (place_kept k m place.Running t g) ∙ e.1.0 k h));
-        covered = λ k j over. by_number k m ((place_of k u ≡ Some (place.Under j)) ⊎ (place_of j u ≡ None))
-            (λ g. inr (ap (λ (i : ℕ). place_of i u) (under_number j (sym (ap (λ (i : ℕ). place_of i a.base) (sym g) ∙ over) ∙ under)) ∙ (place_kept n m place.Running t (flipped n m apart) ∙ ((settles_quiet d).places n ∙ gone_place n s))))
-            (λ g. inl (place_kept k m place.Running t g ∙ e.1.1 k j over));
-        entered = λ k none next. no_way (ap (λ (o : Option Place). is_some o) (sym none ∙ (ap (λ (j : ℕ). place_of j a.base) (one_runner k m (sym next ∙ to)) ∙ under)));
+        runs = λ k next. let one = one_runner k m (sym next ∙ to) in let own = place_written m place.Running (place.Under n) t at in cc;
+        fresh = λ k h. let still = e.1.0 k h in inl (grind (arith, nat_tests, set_place_is k m place.Running t));
+        covered = λ k j over. let low = (settles_quiet d).places n in let gone = gone_place n s in let still = e.1.1 k j over in
+            grind (arith, nat_tests, set_place_is k m place.Running t, set_place_is j m place.Running t);
+        entered = λ k none next. let one = one_runner k m (sym next ∙ to) in absurd (cc);
       })
 
   lands : (p : Placing) (s : Core) → MayLand a p s → Stay a b s → Arrives a (after_placing p s)
@@ -472,10 +457,10 @@ module _ {a : Scene} {b : Core} {n : ℕ} {q : Option Place} (f : Frame a b n q)
       let st = stay_stand f.follows c in
       record {
         placed = all_of n q t (sym (ap is_idle st.here) ∙ f.rests t w (λ i. ap is_idle (st.here ∙ (sym f.follows.start.here ∙ f.home n)) ∙ i)) st;
-        runs = λ m to. let r = f.running m (still m to) in ap (λ (j : ℕ). place_of j t) r.0 ∙ (st.here ∙ r.1);
+        runs = λ m to. let r = f.running m (still m to) in let here = st.here in cc;
         fresh = λ k h. inl (fresh_still a st k h);
         covered = λ k m at. inl (covered_still a st k m at);
-        entered = λ m none to. let r = f.running m (still m to) in no_way (ap (λ (o : Option Place). is_some o) (sym none ∙ (ap (λ (j : ℕ). place_of j a.base) r.0 ∙ (sym (f.home n) ∙ (f.follows.start.here ∙ r.1)))));
+        entered = λ m none to. let r = f.running m (still m to) in let home = f.home n in let here = f.follows.start.here in absurd (cc);
       }
   trip_arrives (Lands s p c ok) w = subst (λ (t : Core). Arrives a t) (sym (placing_shifted p s).only) (lands p s ok c)
   trip_arrives (LandsAt s p m h c ok comes) w = far_arrives a m h _ (subst (λ (t : Core). Arrives a t) (sym (placing_shifted p s).only) (lands p s ok c))

@@ -1,5 +1,5 @@
 -- Where each thread is after a step.
-use Rattle.task_rules.proofs.Machine.{[], ap, arith, base_at, base_without, Bool, Core, Entry, false, get, HasPlace, HasSubtask, inr, is_behind_of, is_fresh, is_some, is_take, IsRunner, Label, LastWords, Made, Mark, nat_tests, next_entry, None, Option, option_map, Place, place_of, Pop, popped, refl, runner_at, says, Scene, scene_of, set_high, set_low, set_switch, Setting, settled_take, settled_turn, Some, start_of, State, subst, sym, T, Thread, thread_of_entry, Trip, true, Turn, unwrap_or, Walked, was_started, ℕ, ◌+◌, ◌∙◌, ◌≡◌, ◌≤◌}
+use Rattle.task_rules.proofs.Machine.{[], ap, arith, base_at, base_without, Bool, Core, Entry, false, get, HasPlace, HasSubtask, inr, is_behind_of, is_fresh, is_some, is_take, IsRunner, Label, LastWords, Made, Mark, nat_tests, next_entry, None, Option, option_map, Place, place_of, Pop, popped, refl, runner_at, says, Scene, scene_of, set_high, set_low, set_switch, Setting, settled_turn, Some, start_of, State, subst, sym, T, Thread, thread_of_entry, Trip, true, Turn, unwrap_or, Walked, was_started, ℕ, ◌+◌, ◌∙◌, ◌≡◌, ◌≤◌}
 use Rattle.task_rules.proofs.PlacingLemmas.{SameWorks, placing_works}
 use Rattle.task_laws.specs.Order.{InPlace}
 use Rattle.task_machine.specs.declared.records.Entry.TheVariants as entry
@@ -146,9 +146,6 @@ pub step_arrives : (x : Setting) (s : State) (l : Label) (t : State) (w : Walked
 step_arrives x s l t w h may = step_by x s l t w h may Arrives (λ a b n q u base first same f c ends. trip_arrives f c ends)
 
 -- ---- The turn
-
-take_still : (a b : Bool) → is_run (settled_take a b) ≡ false
-take_still a b = grind arith
 
 settled_run : (s : Core) (u : Turn) (m : ℕ) → settled_turn s u ≡ turn.Run m → u ≡ turn.Run m
 settled_run s u m e = grind arith

@@ -39,6 +39,10 @@ at_place test (Some p) h = (p, refl, h)
 
 -- ---- A thread is gone
 
+pub removed_is : (k n : ℕ) (s : Core) → place_of k (remove_thread n s) ≡ cond (k == n) None (place_of k s)
+unfolding remove_thread
+removed_is k n s = grind (arith, nat_tests, get-remove)
+
 pub gone_place : (n : ℕ) (s : Core) → place_of n (remove_thread n s) ≡ None
 unfolding remove_thread
 gone_place n s = ap (option_map (λ (t : Thread). t.place)) (get-remove_same s.threads n)

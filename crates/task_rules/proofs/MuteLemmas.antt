@@ -1,5 +1,8 @@
 -- Labels that say nothing of the end of a call.
-use Rattle.task_rules.proofs.Machine.{arith, Bool, CallLabel, Component, Core, end_answered, EndWords, false, handed_by, is_none, Label, LoopLabel, Main, MainLabel, None, not, Option, Scene, SetLabel, Some, SubtaskEnd, TakeLabel, TaskLabel, true, written_by, ◌==◌, ◌≡◌}
+use Rattle.task_rules.proofs.Machine.{arith, Bool, CallLabel, Component, Core, end_answered, EndWords, false, handed_by, is_none, Label, Main, MainLabel, None, not, Option, Scene, SetLabel, Some, SubtaskEnd, true, written_by, ◌==◌, ◌≡◌}
+use Rattle.task_machine.specs.declared.label.LoopLabel.{LoopLabel}
+use Rattle.task_machine.specs.declared.label.TakeLabel.{TakeLabel}
+use Rattle.task_machine.specs.declared.label.TaskLabel.{TaskLabel}
 use Rattle.task_machine.specs.declared.label.CallLabel.TheVariants as call_label
 use Rattle.task_machine.specs.declared.label.Label.TheVariants as label
 use Rattle.task_machine.specs.declared.label.LoopLabel.TheVariants as loop_label

@@ -1,24 +1,22 @@
 -- The rows of the ops on sets, subtasks and threads as chains of words.
-use Rattle.task_rules.proofs.Machine.{[], aborted_phase, AbortsOwn, add_work, advanced, after_word, AlreadyEnded, answered, Answers, ap, arith, assigned, Async, at_handle_limit, AtOnce, blocked_code, Bool, ByHandle, ByOp, BySetHandle, ByThread, ByWait, call_answered, call_begins, call_host_polled, call_of_op, call_pending, call_queues, call_resumes, call_returned, call_row, call_status, call_sync_begins, call_sync_host_polled, call_sync_host_row, call_sync_host_stops, call_sync_row, call_sync_status, call_sync_stops, CallbackWaits, CallbackYields, Callee, callee_of_op, CallEnd, CallLabel, cancel_aborts_host, cancel_asks, cancel_by_end, cancel_case, cancel_ended_row, cancel_guest, cancel_label, cancel_promotes_yield, cancel_resumed, cancel_row, cancel_stops, cancel_subtask, cancel_takes_end, cancel_target, cancel_wakes_callback, cancel_withdraws, CancelCase, cancelled_of_op, Cancels, checked, Choice, chosen, CloseSet, Core, count_work, CountWork, drop_row, dropped, end_for, ended, EndsSubtask, EndWords, enter_row, enter_runs, event_of, export_kind, Failing, false, finds_nothing, first_poll, FirstPoll, fits, free_handle, get, get-remove, Gift, gift, Goal, Goes, group_settled, handed_by, handed_by_call, handed_by_cancel, handed_by_event, handed_by_set, handed_on, handed_out, HandsAtOnce, HandsOut, has_ended, has_member, has_waiters, HasSubtask, host_answered, host_at, host_end, host_pending, host_ready, HostDef, how_far_of, HowFar, inl, inr, instance_of, is_async_lifted, is_async_work, is_callback_yield, is_direct, is_for_main, is_joined, is_ready_to_resume, is_script, is_some, is_stage_ended, is_waiting_on, is_watched, is_yielded, IsNamed, IsNew, IsReadyAtOnce, Join, join_done, join_label, join_of, join_to, joined, joins, Label, Later, Leaves, List, Made, Main, MakeThread, Mark, may, may_hand_on, may_wake_new, MayJoin, MayMakeCall, MemberGift, Mode, Move, moved_to, NameCall, NameThread, NameWork, nat_tests, new_handle, new_thread, new_thread_handle, new_work, next_thread, next_work, NoGift, None, not, NoWord, on_call, on_instance, on_thread, on_work, op_in, op_of, OpenSet, Option, option_map, option_map_or, OtherwiseRuns, OwnGift, packed, passes_check, pauses, phase_of, Place, place_of, poll_row, Progress, promoted_unless, push_high, Put, put_back, put_switch, QueueWork, received, received_woken, Records, refl, registers_for, registers_of, remove, remove_group, remove_thread, remove_work, result_of, Resumes, returned_of_op, saved_callee_of, says, Scene, set_at, set_do_not_suspend, set_drop_row, set_dropped, set_end, set_how_far, set_join, set_made, set_new_row, set_own_event, set_position, set_register, set_row, set_saved_callee, set_subtask_handle, SetCancelled, SetExited, SetLabel, SetOwnEvent, SetPhase, SetRegister, SetResult, SetSavedCallee, Setting, settle_group_of, SetUninteresting, Shifts, slot_at, Some, stage_of, StartNotRun, Status, status_code, status_found, Stay, Stops, subst, Subtask, subtask_at, subtask_ended, subtask_instance, subtask_row, subtask_under_way, Suspends, sym, Sync, T, TakesEvent, task_of, Thread, thread_at, thread_group, thread_handle_of, trap_if, Trip, true, Turn, undelivered_end, UnnameCall, UnnameWork, unwrap_or, value_of, values_in, wait_begins, wait_goes_on, wait_label, wait_row, wait_stops, wait_stops_checked, wakes_joined, Walk, was_cancelled, was_started, Why, Withdraw, withdrawn, Work, work_answered, work_caller_of, work_deleted, work_group, work_queued, work_value, WorkCaller, Writes, WritesAtOnce, WritesCall, WritesNever, WritesToo, written_by, written_by_call, written_by_cancel, Yields, ℕ, ◌&&◌, ◌+◌, ◌==◌, ◌∙◌, ◌∷◌, ◌≡◌}
-use Rattle.std.proofs.Common.{suc, zero, ◌⊎◌}
+use Rattle.task_rules.proofs.Machine.{[], aborted_phase, AbortsOwn, add_work, advanced, after_word, AlreadyEnded, answered, Answers, ap, arith, assigned, Async, at_handle_limit, AtOnce, blocked_code, Bool, ByHandle, ByOp, BySetHandle, ByThread, ByWait, Call, call_answered, call_begins, call_host_polled, call_instance, call_of_op, call_pending, call_queues, call_resumes, call_returned, call_row, call_status, call_sync_begins, call_sync_host_polled, call_sync_host_row, call_sync_host_stops, call_sync_row, call_sync_status, call_sync_stops, CallbackWaits, CallbackYields, Callee, callee_of_op, CallEnd, caller_of, CallLabel, cancel_aborts_host, cancel_asks, cancel_by_end, cancel_case, cancel_ended_row, cancel_guest, cancel_label, cancel_promotes_yield, cancel_resumed, cancel_row, cancel_stops, cancel_subtask, cancel_takes_end, cancel_target, cancel_wakes_callback, cancel_withdraws, CancelCase, cancelled_of_op, Cancels, change, checked, Choice, chosen, CloseSet, Core, count_work, CountWork, drop_row, dropped, end_for, ended, EndsSubtask, EndWords, enter_row, enter_runs, event_of, export_kind, Failing, false, finds_nothing, first_poll, FirstPoll, fits, free_handle, get, get-remove, Gift, gift, Goal, Goes, group_settled, handed_by, handed_by_call, handed_by_cancel, handed_by_event, handed_by_set, handed_on, handed_out, HandsAtOnce, HandsOut, has_ended, has_member, has_waiters, HasSubtask, host_answered, host_at, host_end, host_pending, host_ready, HostDef, how_far_of, HowFar, inl, inr, instance_of, is_async_lifted, is_async_work, is_callback_yield, is_direct, is_for_main, is_joined, is_ready_to_resume, is_script, is_some, is_stage_ended, is_waiting_on, is_watched, is_yielded, IsNamed, IsNew, IsReadyAtOnce, Join, join_done, join_label, join_of, join_to, joined, joins, Label, Later, Leaves, List, Made, Main, MakeThread, Mark, may, may_hand_on, may_wake_new, MayJoin, MayMakeCall, MemberGift, Mode, Move, moved_to, NameCall, NameThread, NameWork, nat_tests, new_handle, new_thread, new_thread_handle, new_work, next_thread, next_work, NoGift, None, not, NoWord, on_call, on_instance, on_thread, on_work, op_in, op_of, OpenSet, Option, option_map, option_map_or, OtherwiseRuns, OwnGift, packed, passes_check, pauses, phase_of, Place, place_of, poll_row, Progress, promoted_unless, push_high, Put, put_back, put_switch, QueueWork, received, received_woken, Records, refl, registers_for, registers_of, remove, remove_group, remove_thread, remove_work, result_of, Resumes, returned_of_op, saved_callee_of, says, Scene, set_at, set_do_not_suspend, set_drop_row, set_dropped, set_end, set_event, set_how_far, set_join, set_made, set_new_row, set_own_event, set_position, set_register, set_row, set_saved_callee, set_subtask_handle, SetCancelled, SetExited, SetLabel, SetOwnEvent, SetPhase, SetRegister, SetResult, SetSavedCallee, Setting, settle_group_of, SetUninteresting, Shifts, slot_at, Some, stage_of, StartNotRun, Status, status_code, status_found, Stay, Stops, subst, Subtask, subtask_at, subtask_ended, subtask_handle, subtask_instance, subtask_row, subtask_under_way, suc, Suspends, sym, Sync, T, TakesEvent, task_of, Then, Thread, thread_at, thread_group, thread_handle_of, trap_if, Trip, true, Turn, undelivered_end, UnnameCall, UnnameWork, unwrap_or, value_of, values_in, wait_begins, wait_goes_on, wait_label, wait_row, wait_stops, wait_stops_checked, wakes_joined, Walk, was_cancelled, was_started, Why, Withdraw, withdrawn, Work, work_answered, work_caller_of, work_deleted, work_group, work_queued, work_value, WorkCaller, Writes, WritesAtOnce, WritesCall, WritesNever, WritesToo, written_by, written_by_call, written_by_cancel, Yields, zero, ℕ, ◌&&◌, ◌+◌, ◌==◌, ◌∙◌, ◌∷◌, ◌≡◌, ◌⊎◌}
 use Rattle.task_machine.specs.declared.component.Slot.{Slot}
 use Rattle.task_machine.specs.declared.label.ThreadLabel.{ThreadLabel}
 use Rattle.task_machine.specs.declared.op.CallOp.{CallOp}
 use Rattle.task_machine.specs.declared.op.SetOp.{SetOp}
 use Rattle.task_machine.specs.declared.op.ThreadOp.{ThreadOp}
 use Rattle.task_rules.specs.Threads.{by_how_far, Halt, halt_row, halted, halted_checked, halted_promoting, halted_resuming, halting, halts, has_yielded, resume_later_row, resume_why, resumed_later, Suspension, then_promote, then_promote_row, then_resume_row, thread_made, thread_new_row, thread_row, Yielding}
+use Rattle.task_machine.proofs.MapLemmas.{get-insert_same, get-remove_same}
 use Rattle.task_machine.proofs.CommuteLemmas.{get-change}
-use Rattle.task_rules.proofs.ChainLemmas.{join, stay_walk}
+use Rattle.task_rules.proofs.ChainLemmas.{join, stay_walk, Keep, keep_stay}
 use Rattle.task_machine.specs.declared.label.SetLabel.TheVariants as set_label
 use Rattle.task_rules.proofs.MuteLemmas.{is_mute, mute_words, none_said}
 use Rattle.task_rules.proofs.SayLemmas.{call_answered_gone, call_returned_gone, cancel_hands_of, cancel_taken_gone, cancel_writes_of, event_joined, event_owed, found_returned, given_says, packed_is_not_two, received_gone, received_woken_gone, HasNoEnd, event_aborted, said_is}
-use Rattle.task_machine.proofs.MapLemmas.{get-insert_same, get-remove_same}
 use Rattle.task_rules.proofs.CancelLemmas.{CaseSays, case_says}
-use Rattle.task_rules.proofs.PlacingLemmas.{Shifted, placed, shifted_made, shifted_task, shifts_shifted}
+use Rattle.task_rules.proofs.PlacingLemmas.{Shifted, placed, shifted_far, shifted_made, shifted_task, shifts_shifted}
 use Rattle.task_rules.proofs.StandLemmas.{by_number}
-use Rattle.task_rules.proofs.ChainLemmas.{Keep, keep_stay}
 use Rattle.task_rules.proofs.WalkMoves.{MayTake, call_settled_walks, checked_shifts, chosen_of, handed_on_shifts, shifted, wake_shifts, word, lands_at, promoted_walks}
-use Rattle.task_rules.proofs.WalkParts.{call_queues_walks, call_resumes_walks, call_stops_walks, cancel_goes_behind_walks, cancel_plain, cancel_stops_walks, cancel_takes_end_walks, checked_walks, enter_gives, enter_runs_walks, freed_named, gift_is, join_plain, join_walks, put_back_walks, received_walks, set_none_join, stopped_walks, wait_plain, wait_stops_walks, withdrawn_walks, work_deleted_walks, work_unnamed, withdraws, answered_first, far_fresh}
+use Rattle.task_rules.proofs.WalkParts.{call_queues_walks, call_resumes_walks, call_stops_walks, cancel_goes_behind_walks, cancel_plain, cancel_stops_walks, cancel_takes_end_walks, checked_walks, enter_gives, enter_runs_walks, freed_named, gift_is, join_plain, join_walks, put_back_walks, received_walks, set_none_join, stopped_walks, wait_plain, wait_stops_walks, withdrawn_walks, work_deleted_walks, work_unnamed, withdraws, answered_first, far_fresh, answered_unnamed}
 use Rattle.task_rules.proofs.WalkTask.{Stands, Leads, advanced_walks, answered_walks, assigned_walks, goes_on, goes_on_saying, goes_over, may_leads, or_never_leads, or_trap_leads, running_scene, stops_here, trap_if_leads, unnot, is_still, over_now}
 use Rattle.task_machine.specs.declared.component.Slot.TheVariants as slot
 use Rattle.task_machine.specs.declared.label.CallLabel.TheVariants as call_label
@@ -89,6 +87,31 @@ answered_at_once n r v s = let h = assigned_works n r v (count_work s) in (refl,
 assigned_fresh : (n r v : ℕ) (s : Core) → how_far_of n (assigned n r v s) ≡ how_far.Fresh
 unfolding assigned advanced moved_to
 assigned_fresh n r v s = far_fresh n _
+
+answered_fresh : (n r v : ℕ) (s : Core) → how_far_of n (answered n r v s) ≡ how_far.Fresh
+unfolding answered
+answered_fresh n r v s = assigned_fresh n r v (set_saved_callee n None s)
+
+-- whose a call is, and which handle names it, is as before once the op that was inside of it goes on
+resumed_card : (n r v k : ℕ) (s : Core) → (caller_of k (answered n r v (call_resumes n k s)) ≡ caller_of k s) × (subtask_handle (subtask.Guest k) (answered n r v (call_resumes n k s)) ≡ subtask_handle (subtask.Guest k) s)
+unfolding answered assigned advanced moved_to set_how_far set_position on_thread set_register set_saved_callee call_resumes set_event on_call set_do_not_suspend on_instance
+resumed_card n r v k s = by_saved (saved_callee_of n s)
+  where
+    eventless : Core → Core
+    eventless t = record t { calls = change k (λ (c : Call). record c { event = None }) t.calls }
+
+    by_saved : (o : Option Bool) → (caller_of k (eventless (put_back o (call_instance k s) s)) ≡ caller_of k s) × (subtask_handle (subtask.Guest k) (eventless (put_back o (call_instance k s) s)) ≡ subtask_handle (subtask.Guest k) s)
+    by_saved None = (grind (arith, nat_tests, get-change), grind (arith, nat_tests, get-change))
+    by_saved (Some b) = (grind (arith, nat_tests, get-change), grind (arith, nat_tests, get-change))
+
+-- the op is as far as it was while its strand stops
+resumed_far : (n k : ℕ) (s u : Core) → Shifted (checked (instance_of n s) (call_resumes n k s)) u → how_far_of n u ≡ how_far_of n s
+unfolding call_resumes set_event on_call set_do_not_suspend on_instance
+resumed_far n k s u d = shifted_far d n ∙ (shifted_far (shifts_shifted (checked_shifts (instance_of n s) (call_resumes n k s))) n ∙ by_saved (saved_callee_of n s))
+  where
+    by_saved : (o : Option Bool) → how_far_of n (put_back o (call_instance k s) s) ≡ how_far_of n s
+    by_saved None = refl
+    by_saved (Some b) = refl
 
 settled_works : (o : Option ℕ) (i : ℕ) (s : Core) → (settle_group_of o (remove_work i s)).works ≡ remove s.works i
 unfolding group_settled remove_group remove_work
@@ -281,12 +304,14 @@ module _ (x : Setting) (main : Main) (s : Core) (n : ℕ) (l : Label) (next : Tu
   by_call : (sub : Subtask) → how_far_of n s ≡ how_far.Calls sub → HasSubtask a n sub
   by_call sub far = ByOp (ap (λ h. subtask_under_way h) far)
 
-  call_pending_leads : (r k : ℕ) (e : Status) → (e ≡ status.Returned → ⊥) → HasSubtask a n (subtask.Guest k) → Leads a s (let v = packed (new_handle (instance_of n s) s) e in trap_if (at_handle_limit s) trap.HandleLimit (Goes (label.Call (call_label.Call v n)) (call_pending n r k v s) n))
+  call_pending_leads : (r k : ℕ) (e : Status) → (e ≡ status.Returned → ⊥) → how_far_of n s ≡ how_far.Calls (subtask.Guest k) → Leads a s (let v = packed (new_handle (instance_of n s) s) e in trap_if (at_handle_limit s) trap.HandleLimit (Goes (label.Call (call_label.Call v n)) (call_pending n r k v s) n))
   unfolding call_pending
-  call_pending_leads r k e other has =
+  call_pending_leads r k e other far =
       trap_if_leads a s (at_handle_limit s) trap.HandleLimit _ (λ f.
       let v = packed (new_handle (instance_of n s) s) e in
-      go _ (call_pending n r k v s) (packed_is_not_two (new_handle (instance_of n s) s) e other) (answered_walks n refl on r v (word (NameCall (instance_of n s) k) (n, (refl, (refl, inl has))) (call_resumes_walks n refl k has NoWord))))
+      go _ (call_pending n r k v s) (packed_is_not_two (new_handle (instance_of n s) s) e other)
+      (subst (λ (t : Core). Stay a s t) (answered_unnamed n r v (instance_of n s) k (call_resumes n k s)) (Then _ (NameCall (instance_of n s) k)
+      (answered_walks n refl on r v (call_resumes_walks n refl k (by_call (subtask.Guest k) far) NoWord)) (n, (refl, (refl, (far, (answered_fresh n r v (call_resumes n k s), resumed_card n r v k s))))))))
 
   -- the op is about a call that has returned
   returned_out : (k : ℕ) (t : Core) → how_far_of n s ≡ how_far.Calls (subtask.Guest k) → status_found k s ≡ status.Returned → HasNoEnd (subtask.Guest k) t → (sub : Subtask) (e : Status) → returned_of_op n s ≡ Some (end_for e sub) → HandsOut a t sub e
@@ -298,20 +323,20 @@ module _ (x : Setting) (main : Main) (s : Core) (n : ℕ) (l : Label) (next : Tu
       goes_on_saying x main s n l next (label.Call (call_label.Call 2 n)) (call_returned n r k s) refl
       (λ is. call_says (call_label.Call 2 n) _ refl is (returned_out k (call_returned n r k s) far found (call_returned_gone n r k s)))
       (λ is. answered_walks n refl on r 2 (call_settled_walks k (call_resumes_walks n refl k has NoWord)))
-  call_status_leads r k status.Starting far found has = call_pending_leads r k status.Starting (λ h. no_way (ap is_returned h)) has
-  call_status_leads r k status.Started far found has = call_pending_leads r k status.Started (λ h. no_way (ap is_returned h)) has
-  call_status_leads r k status.StartCancelled far found has = call_pending_leads r k status.StartCancelled (λ h. no_way (ap is_returned h)) has
-  call_status_leads r k status.ReturnCancelled far found has = call_pending_leads r k status.ReturnCancelled (λ h. no_way (ap is_returned h)) has
+  call_status_leads r k status.Starting far found has = call_pending_leads r k status.Starting (λ h. no_way (ap is_returned h)) far
+  call_status_leads r k status.Started far found has = call_pending_leads r k status.Started (λ h. no_way (ap is_returned h)) far
+  call_status_leads r k status.StartCancelled far found has = call_pending_leads r k status.StartCancelled (λ h. no_way (ap is_returned h)) far
+  call_status_leads r k status.ReturnCancelled far found has = call_pending_leads r k status.ReturnCancelled (λ h. no_way (ap is_returned h)) far
 
   call_row_leads : (r q : ℕ) (e : Callee) (words : List ℕ) (f : HowFar) → callee_of_op (op_in a n) ≡ Some e → how_far_of n s ≡ f → Leads a s (call_row x.component n r q e words s f)
   call_row_leads r q e words (how_far.Calls (subtask.Guest k)) callee far = call_status_leads r k (status_found k s) far refl (by_call (subtask.Guest k) far)
   call_row_leads r q e words _ callee far = call_begins_leads e (goal.Register q) words callee refl refl
 
-  call_sync_pauses : (k : ℕ) → HasSubtask a n (subtask.Guest k) → Leads a s (trap_if (not (passes_check (instance_of n s) (call_resumes n k s))) trap.CannotBlockSyncTask (Stops (label.Thread (thread_label.Pauses n)) (call_sync_stops n k s)))
+  call_sync_pauses : (k : ℕ) → how_far_of n s ≡ how_far.Calls (subtask.Guest k) → Leads a s (trap_if (not (passes_check (instance_of n s) (call_resumes n k s))) trap.CannotBlockSyncTask (Stops (label.Thread (thread_label.Pauses n)) (call_sync_stops n k s)))
   unfolding call_sync_stops
-  call_sync_pauses k has =
+  call_sync_pauses k far =
       trap_if_leads a s (not (passes_check (instance_of n s) (call_resumes n k s))) trap.CannotBlockSyncTask _ (λ f.
-      stop _ (call_sync_stops n k s) refl (λ leave. call_stops_walks n refl (subtask.Guest k) (checked (instance_of n s) (call_resumes n k s)) leave (λ u d. inl has) (λ u d at. (refl, inl has)) (checked_walks n refl (instance_of n s) (call_resumes_walks n refl k has NoWord))))
+      stop _ (call_sync_stops n k s) refl (λ leave. call_stops_walks n refl (subtask.Guest k) (checked (instance_of n s) (call_resumes n k s)) leave (λ u d. inl (by_call (subtask.Guest k) far)) (λ u d at. (refl, inl (far, resumed_far n k s u d ∙ far))) (checked_walks n refl (instance_of n s) (call_resumes_walks n refl k (by_call (subtask.Guest k) far) NoWord))))
 
   call_sync_status_leads : (r k : ℕ) (e : Status) → how_far_of n s ≡ how_far.Calls (subtask.Guest k) → status_found k s ≡ e → HasSubtask a n (subtask.Guest k) → Leads a s (call_sync_status n r k s e)
   unfolding call_answered
@@ -319,10 +344,10 @@ module _ (x : Setting) (main : Main) (s : Core) (n : ℕ) (l : Label) (next : Tu
       goes_on_saying x main s n l next (label.Call (call_label.CallSync n (result_of k s))) (call_answered n r k s) refl
       (λ is. call_says (call_label.CallSync n (result_of k s)) _ refl is (returned_out k (call_answered n r k s) far found (call_answered_gone n r k s)))
       (λ is. answered_walks n refl on r (result_of k s) (call_settled_walks k (word (SetResult k None) tt (call_resumes_walks n refl k has NoWord))))
-  call_sync_status_leads r k status.Starting far found has = call_sync_pauses k has
-  call_sync_status_leads r k status.Started far found has = call_sync_pauses k has
-  call_sync_status_leads r k status.StartCancelled far found has = call_sync_pauses k has
-  call_sync_status_leads r k status.ReturnCancelled far found has = call_sync_pauses k has
+  call_sync_status_leads r k status.Starting far found has = call_sync_pauses k far
+  call_sync_status_leads r k status.Started far found has = call_sync_pauses k far
+  call_sync_status_leads r k status.StartCancelled far found has = call_sync_pauses k far
+  call_sync_status_leads r k status.ReturnCancelled far found has = call_sync_pauses k far
 
   enter_row_leads : (e : Callee) (words : List ℕ) → callee_of_op (op_in a n) ≡ Some e → is_async_lifted (export_kind x.component e) ≡ false → Leads a s (enter_row n e (export_kind x.component e) words s)
   enter_row_leads e words callee lifted =

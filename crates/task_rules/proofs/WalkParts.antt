@@ -1,10 +1,9 @@
 -- What the rows of the ops are made of, as chains of words: what is read, gifts, moves, and a new call.
-use Rattle.task_rules.proofs.Machine.{[], add_call, add_thread, advanced, after_placing, after_word, ap, arith, assigned, behind_one, behind_switch, Blocks, Bool, ByHandle, Call, call_clears_flag, call_instance, call_made, call_queues, call_resumes, call_stops, Callee, Caller, cancel_goes_behind, cancel_label, cancel_stops, cancel_takes_end, checked, Choice, chosen, Core, Enter, enter_runs, Entry, ExportKind, false, foot_of, free_handle, get, Gift, gift, give_thread_handle, Given, given_code, given_handle, given_result, Goal, goal_of, GoBehind, group_settled, has_entry, HasSet, HasSubtask, how_far_of, HowFar, if◌then◌else◌, inl, inr, instance_of, is_begun, is_blocked_on, is_direct, is_explicit, is_group_done, is_joined, is_none, is_running, is_some, IsNew, IsRunner, IsWithdrawn, Join, join_label, join_of, Leaves, less, less_switch, List, Made, MakeCall, may_not_suspend, MayCome, MayDeliver, MayJoin, MayMakeCall, MayRemoveWork, MayWithdraw, MemberGift, Mode, Move, moved_to, NameThread, nat_tests, new_call, new_thread, new_thread_handle, next_thread, NoGift, None, NoWord, on_call, on_instance, on_thread, on_work, Option, option_map, option_map_or, OwnGift, Place, place_of, Put, put_back, put_switch, received, Records, refl, registers_for, Remains, remove_group, remove_thread, remove_work, RemoveWork, saved_callee_of, says, SaysEnd, Scene, set_do_not_suspend, set_end, set_event, set_exited, set_given, set_high, set_how_far, set_join, set_low, set_place, set_position, set_register, set_saved_callee, set_saved_own, set_started, set_subtask_handle, set_switch, set_thread_handle, set_uninteresting, SetCallEvent, SetCallJoin, SetDoNotSuspend, SetEnd, SetExited, SetHowFar, SetRegister, SetSavedCallee, SetSavedOwn, SetStarted, settle_group_of, SetUninteresting, SetWorkJoin, Some, Starts, Status, status_code, Stay, Stop, stopped, subst, Subtask, subtask_at, subtask_handle, sym, sync_sets_flag, TakeWorkEvent, task_of, Thread, thread_group, Trip, true, unqueued, unwrap_or, wait_label, wait_stops, Waits, with_switch, with_thread_handle, Withdraw, withdrawn, work_deleted, work_group, ℕ, ◌+◌, ◌==◌, ◌∙◌, ◌≡◌}
-use Rattle.std.proofs.Common.{◌⊎◌}
+use Rattle.task_rules.proofs.Machine.{[], add_call, add_thread, advanced, after_placing, after_word, answered, ap, arith, assigned, behind_one, behind_switch, Blocks, Bool, ByHandle, Call, call_clears_flag, call_instance, call_made, call_queues, call_resumes, call_stops, Callee, Caller, cancel_goes_behind, cancel_label, cancel_stops, cancel_takes_end, checked, Choice, chosen, Core, Enter, enter_runs, Entry, ExportKind, false, foot_of, free_handle, get, get-insert, Gift, gift, give_handle, give_thread_handle, Given, given_code, given_handle, given_result, Goal, goal_of, GoBehind, group_settled, has_entry, HasSet, HasSubtask, how_far_of, HowFar, if◌then◌else◌, inl, inr, instance_of, is_begun, is_blocked_on, is_direct, is_explicit, is_group_done, is_joined, is_none, is_running, is_some, IsCalled, IsNew, IsRunner, IsWithdrawn, Join, join_label, join_of, Leaves, less, less_switch, List, Made, MakeCall, may_not_suspend, MayCome, MayDeliver, MayJoin, MayMakeCall, MayRemoveWork, MayWithdraw, MemberGift, Mode, Move, moved_to, NameThread, nat_tests, new_call, new_handle, new_thread, new_thread_handle, next_thread, NoGift, None, NoWord, on_call, on_instance, on_thread, on_work, Option, option_map, option_map_or, OwnGift, Place, place_of, Put, put_back, put_switch, received, Records, refl, registers_for, Remains, remove_group, remove_thread, remove_work, RemoveWork, saved_callee_of, says, SaysEnd, Scene, set_do_not_suspend, set_end, set_event, set_exited, set_given, set_high, set_how_far, set_join, set_low, set_place, set_position, set_register, set_saved_callee, set_saved_own, set_started, set_subtask_handle, set_switch, set_thread_handle, set_uninteresting, SetCallEvent, SetCallJoin, SetDoNotSuspend, SetEnd, SetExited, SetHowFar, SetRegister, SetSavedCallee, SetSavedOwn, SetStarted, settle_group_of, SetUninteresting, SetWorkJoin, Some, Starts, Status, status_code, Stay, Stop, stopped, subst, Subtask, subtask_at, subtask_handle, sym, sync_sets_flag, TakeWorkEvent, task_of, Thread, thread_group, Trip, true, unqueued, unwrap_or, wait_label, wait_stops, Waits, with_handle, with_switch, with_thread_handle, Withdraw, withdrawn, work_deleted, work_group, ℕ, ◌+◌, ◌==◌, ◌∙◌, ◌≡◌, ◌⊎◌}
 use Rattle.task_rules.proofs.MoveLemmas.{put_place}
 use Rattle.task_machine.proofs.CommuteLemmas.{get-change}
 use Rattle.task_machine.proofs.MapLemmas.{change-field, get-insert_same, get-remove_same}
-use Rattle.task_rules.proofs.PlacingLemmas.{Shifted, placed, placing_shifted, shifted_after, shifted_explicit, shifted_made}
+use Rattle.task_rules.proofs.PlacingLemmas.{Shifted, placed, placing_shifted, shifted_after, shifted_calls, shifted_explicit, shifted_made}
 use Rattle.task_rules.proofs.StandLemmas.{place_kept}
 use Rattle.task_rules.proofs.ChainLemmas.{Keep, keep_stay}
 use Rattle.task_rules.proofs.WalkMoves.{MayTake, checked_shifts, group_settled_walks, shifted, stopped_shifts, taken_walks, word, lands_at}
@@ -48,6 +47,11 @@ answered_first n r v i s = of_group (work_group i s)
     of_group : (o : Option ℕ) → settle_group_of o (remove_work i (assigned n r v s)) ≡ assigned n r v (settle_group_of o (remove_work i s))
     of_group None = refl
     of_group (Some g) = by_done g (is_group_done g (remove_work i s))
+
+-- it may come before the call has a handle
+pub answered_unnamed : (n r v i k : ℕ) (s : Core) → with_handle i (subtask.Guest k) (answered n r v s) ≡ answered n r v (with_handle i (subtask.Guest k) s)
+unfolding answered assigned advanced moved_to set_how_far set_position on_thread set_register set_saved_callee with_handle set_subtask_handle give_handle on_call new_handle
+answered_unnamed n r v i k s = refl
 
 pub work_unnamed : (i : ℕ) (t : Core) → subtask_handle (subtask.Host i) (set_subtask_handle (subtask.Host i) None t) ≡ None
 unfolding set_subtask_handle on_work
@@ -261,6 +265,27 @@ cleared_there : (n j : ℕ) (k : ExportKind) (m : ℕ) (t : Core) → is_some (p
 unfolding set_do_not_suspend on_instance set_saved_callee on_thread
 cleared_there n j k m t = grind (arith, nat_tests, get-change)
 
+-- ---- Whose the new call is
+
+made_called : (n : ℕ) (e : Callee) (x : ExportKind) (g : Goal) (group : ℕ) (words : List ℕ) (s : Core) → IsCalled n (next_thread s) (call_made (caller.Thread n) e x g group words s)
+unfolding call_made add_thread add_call
+made_called n e x g group words s = (grind (arith, nat_tests, get-insert), grind (arith, nat_tests, get-insert))
+
+called_as : (n k : ℕ) (s t : Core) → t.calls ≡ s.calls → IsCalled n k s → IsCalled n k t
+called_as n k s t same is = (grind (arith, is.0), grind (arith, is.1))
+
+named_calls : (i m : ℕ) (t : Core) → (with_thread_handle i m t).calls ≡ t.calls
+unfolding with_thread_handle set_thread_handle give_thread_handle on_thread
+named_calls i m t = refl
+
+started_called : (n k : ℕ) (t : Core) → IsCalled n k t → IsCalled n k (set_started k t)
+unfolding set_started on_call
+started_called n k t is = (grind (arith, nat_tests, get-change, is.0), grind (arith, nat_tests, get-change, is.1))
+
+cleared_calls : (n j : ℕ) (k : ExportKind) (t : Core) → (call_clears_flag n j k t).calls ≡ t.calls
+unfolding set_do_not_suspend on_instance set_saved_callee on_thread
+cleared_calls n j k t = grind arith
+
 module _ {a : Scene} (n : ℕ) (is : IsRunner a n) where
   pub call_queues_walks : (e : Callee) (k : ExportKind) (g : Goal) (words : List ℕ) → Leaves a n → MayMakeCall a (caller.Thread n) e k g (thread_group n a.base) a.base → is_direct g ≡ false → Trip a a.base (call_queues n e k g words a.base)
   unfolding call_queues
@@ -274,7 +299,9 @@ module _ {a : Scene} (n : ℕ) (is : IsRunner a n) where
       let d : Shifted t u = placing_shifted p t in
       let v = call_clears_flag n e.instance k u in
       let new : (v.made.threads ≡ m) × (is_explicit m v ≡ false) = cleared_explicit n e.instance k m u (ap (λ (r : Made). r.threads) (shifted_made d) ∙ h.made, shifted_explicit d m ∙ born_explicit h) in
-      lands_at (GoBehind m n) n (how_far.Calls (subtask.Guest m)) (leave, inl (cleared_there n e.instance k m u ∙ ap (λ (o : Option Place). is_some o) (put_place mark.Switch m why.Start t (ap (λ (o : Option Place). is_some o) (born_place h))))) (is, inr (shifted_new a m v (behind_one m n v) refl (placing_shifted (GoBehind m n) v) new)) (call_clears_flag_walks n is e.instance k
+      let w = behind_one m n v in
+      let called : IsCalled n m w = called_as n m t w (shifted_calls (placing_shifted (GoBehind m n) v) ∙ (cleared_calls n e.instance k u ∙ shifted_calls d)) (made_called n e k g (thread_group n s) words s) in
+      lands_at (GoBehind m n) n (how_far.Calls (subtask.Guest m)) (leave, inl (cleared_there n e.instance k m u ∙ ap (λ (o : Option Place). is_some o) (put_place mark.Switch m why.Start t (ap (λ (o : Option Place). is_some o) (born_place h))))) (is, inr (shifted_new a m v w refl (placing_shifted (GoBehind m n) v) new, called)) (call_clears_flag_walks n is e.instance k
       (placed p (inl (Starts (born_place h) (born_explicit h) (ap (λ (y : Goal). is_direct y) (born_goal h) ∙ plain) refl)) (word (MakeCall (caller.Thread n) e k g (thread_group n s) words) ok NoWord)))
 
   pub enter_runs_walks : (e : Callee) (k : ExportKind) (words : List ℕ) → a.turn ≡ turn.Run n → a.next ≡ turn.Run (next_thread a.base) → MayMakeCall a (caller.Thread n) e k goal.Direct (thread_group n a.base) a.base → Trip a a.base (enter_runs n e k words a.base)
@@ -289,7 +316,8 @@ module _ {a : Scene} (n : ℕ) (is : IsRunner a n) where
       let u = sync_sets_flag m e.instance k (set_started m t1) in
       let h : Born m goal.Direct u = flag_born m e.instance k goal.Direct (set_started m t1) h2 in
       let begun : is_begun m u ≡ true = ap (λ (r : Records Call). option_map_or (λ c. c.started) (get r m) true) (flag_calls m e.instance k (set_started m t1)) ∙ started_begun m t1 in
-      lands_at (Enter n m) n (how_far.Calls (subtask.Guest m)) (is, (to, (refl, (born_place h, (ap (λ (y : Goal). is_direct y) (born_goal h), (runs, begun)))))) (is, inr (shifted_new a m u _ refl (placing_shifted (Enter n m) u) (h.made, born_explicit h)))
+      let called : IsCalled n m u = called_as n m (set_started m t1) u (flag_calls m e.instance k (set_started m t1)) (started_called n m t1 (called_as n m t t1 (named_calls e.instance m t) (made_called n e k goal.Direct (thread_group n s) words s))) in
+      lands_at (Enter n m) n (how_far.Calls (subtask.Guest m)) (is, (to, (refl, (born_place h, (ap (λ (y : Goal). is_direct y) (born_goal h), (runs, begun)))))) (is, inr (shifted_new a m u _ refl (placing_shifted (Enter n m) u) (h.made, born_explicit h), called_as n m u (after_placing (Enter n m) u) (shifted_calls (placing_shifted (Enter n m) u)) called))
       (sync_sets_flag_walks n is m e.instance k (word (SetStarted m) (inr (refl, (h1.made, born_explicit h1))) (word (NameThread e.instance m) tt (word (MakeCall (caller.Thread n) e k goal.Direct (thread_group n s) words) ok NoWord))))
 
 pub enter_gives : (n : ℕ) (e : Callee) (k : ExportKind) (words : List ℕ) (s : Core) → (next_thread s == n) ≡ false → option_map_or is_running (place_of (next_thread s) (enter_runs n e k words s)) true ≡ true

@@ -5,7 +5,7 @@ use Rattle.std.specs.Prelude.{◌≤◌, length, Bool, None, Option, Some, [], f
 use Rattle.task_machine.specs.Core.{Core, MainPlace, Scripted, Unscripted}
 use Rattle.task_machine.specs.Maps.{get}
 use Rattle.task_machine.specs.Moves.{has_entry, is_callback_waiter, is_deletable, is_group_done}
-use Rattle.task_machine.specs.Read.{cancel_was_delivered, course_of, course_value, end_of, goal_of, has_ended, has_member, has_waiters, how_far_of, instance_of, is_async_lifted, is_at, is_direct, is_end, is_explicit, is_joined, is_stage_ended, is_waiter, join_of, kind_of, may_not_enter, next_entry, own_event_of, phase_of, place_of, set_at, stage_of, subtask_at, subtask_ended, subtask_handle, task_of, thread_group, was_started, work_caller_of, is_guest_call, is_aborted, is_blocked_on, foot_of}
+use Rattle.task_machine.specs.Read.{caller_of, cancel_was_delivered, course_of, course_value, end_of, goal_of, has_ended, has_member, has_waiters, how_far_of, instance_of, is_async_lifted, is_at, is_direct, is_end, is_explicit, is_joined, is_stage_ended, is_waiter, join_of, kind_of, may_not_enter, next_entry, own_event_of, phase_of, place_of, set_at, stage_of, subtask_at, subtask_ended, subtask_handle, task_of, thread_group, was_started, work_caller_of, is_guest_call, is_aborted, is_blocked_on, foot_of}
 use Rattle.task_machine.specs.declared.component.Callee.{Callee}
 use Rattle.task_machine.specs.declared.component.ExportKind.{ExportKind}
 use Rattle.task_machine.specs.declared.label.Label.{Label}
@@ -213,10 +213,15 @@ MayLeave a p s = MayLand a p s
 
 -- ---- Threads
 
--- how far an op comes: it waits on a set of its instance, or is about a subtask of its own or a new one
+-- the thread has made the call, and no handle names it
+abbrev pub IsCalled : ℕ → ℕ → Core → Type 0
+IsCalled n k s = (caller_of k s ≡ caller.Thread n) × (subtask_handle (subtask.Guest k) s ≡ None)
+
+-- how far an op comes: it waits on a set of its instance, stays inside its call or makes one, or is about a subtask of its own or a new one
 abbrev pub MayCome : Scene → ℕ → HowFar → Core → Type 0
 MayCome a n (how_far.Waits x) s = IsRunner a n × HasSet a n x
-MayCome a n (how_far.Calls (subtask.Guest k)) s = IsRunner a n × (HasSubtask a n (subtask.Guest k) ⊎ IsNew a (subtask.Guest k) s)
+MayCome a n (how_far.Calls (subtask.Guest k)) s = IsRunner a n × (((how_far_of n a.base ≡ how_far.Calls (subtask.Guest k)) ×
+    (how_far_of n s ≡ how_far.Calls (subtask.Guest k))) ⊎ (IsNew a (subtask.Guest k) s × IsCalled n k s))
 MayCome a n (how_far.Calls (subtask.Host i)) s = IsRunner a n × (IsNew a (subtask.Host i) s × ((work_caller_of i s ≡ work_caller.Sync n) ×
     (option_map_or (is_blocked_on (subtask.Host i)) (place_of n s) true ≡ true)))
 MayCome a n (how_far.Cancels sub) s = IsRunner a n × HasSubtask a n sub
@@ -349,6 +354,13 @@ MayJoin a sub (join.Watched n) s = IsRunner a n ×
 abbrev pub MayName : Scene → ℕ → Subtask → Core → Type 0
 MayName a i sub s = (n : ℕ) × (IsRunner a n × ((i ≡ instance_of n a.base) × (HasSubtask a n sub ⊎ IsNew a sub s)))
 
+-- the running thread's op is done, and its instance gets a handle of the call that the op was inside of; whose that is and what names it is
+-- as before the step
+abbrev pub MayNameCall : Scene → ℕ → ℕ → Core → Type 0
+MayNameCall a i k s = (n : ℕ) × ((a.turn ≡ turn.Run n) × ((i ≡ instance_of n a.base) ×
+    ((how_far_of n a.base ≡ how_far.Calls (subtask.Guest k)) × ((how_far_of n s ≡ how_far.Fresh) × ((caller_of k s ≡ caller_of k a.base) ×
+    (subtask_handle (subtask.Guest k) s ≡ subtask_handle (subtask.Guest k) a.base))))))
+
 -- the handle names the subtask, which is in no set any more
 abbrev pub MayUnname : Scene → ℕ → ℕ → Subtask → Core → Type 0
 MayUnname a i h sub s = (n : ℕ) ×
@@ -423,7 +435,7 @@ Allowed a (SetCancelDelivered k) s = MayDeliver a k
 Allowed a (RemoveCall k) s = is_deletable k s ≡ true
 Allowed a (SetCallEvent k e) s = MayTell a k e s
 Allowed a (SetCallJoin k j) s = MayJoin a (subtask.Guest k) j s
-Allowed a (NameCall i k) s = MayName a i (subtask.Guest k) s
+Allowed a (NameCall i k) s = MayNameCall a i k s
 Allowed a (UnnameCall i h k) s = MayUnname a i h (subtask.Guest k) s
 Allowed a CountWork s = s.made.works ≡ a.base.made.works
 Allowed a (QueueWork f host group) s = (s.made.works ≡ a.base.made.works) × MayQueue a f group
