@@ -16,6 +16,7 @@ pub mod CallsLaw
 pub mod CallsSteps
 pub mod FitLemmas
 pub mod OneHolder
+pub mod Exported
 pub mod PolledWorks
 pub mod Works
 pub mod SaidEnds

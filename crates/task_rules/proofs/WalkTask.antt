@@ -49,7 +49,7 @@ op_stands c n s other = in_script (script_of c n s) (position_of n s) other
 min_below : (a b : ℕ) → min a b ≤ b
 min_below a b = grind arith
 
--- from b on the running thread, whose op stands in its script, comes past it
+-- the thread runs, and there is an op at the place in its script at which it is in b
 abbrev pub Stands : Scene → Core → ℕ → Type 0
 Stands a b n = (a.turn ≡ turn.Run n) × (position_of n b + 1 ≤ length (script_of (component_of a) n a.base))
 
