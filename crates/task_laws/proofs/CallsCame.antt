@@ -111,7 +111,7 @@ module _ {a : Scene} where
   thread_came (TakePush m i) s ok n = rw (popped_threads m s) (thread_stays (get s.threads n))
   thread_came (TakeHost m i) s ok n = rw (popped_threads m s) (thread_stays (get s.threads n))
   thread_came (Advance j p) s ok n = rw change-change_same (after_change (ThreadCame a _ s _ n) s.threads j n thread_stays _
-      (λ r is e. IsSame r _ refl refl refl refl (inr (rw e ok)) (inl refl) (inl (refl, inr (rw e ok)))))
+      (λ r is e. IsSame r _ refl refl refl refl (inr (rw e ok.0)) (inl refl) (inl (refl, inr (rw e ok)))))
   thread_came (Restart j) s ok n = rw (change-change_same, change-change_same) (after_change (ThreadCame a _ s _ n) s.threads j n thread_stays _
       (λ r is e. IsSame r _ refl refl refl refl (inr (rw e ok.0)) (inl refl) (inr (rw e ok, (refl, refl)))))
   thread_came (SetHowFar j h) s ok n = after_change (ThreadCame a _ s _ n) s.threads j n thread_stays _

@@ -9,7 +9,7 @@ use Rattle.task_machine.specs.declared.records.Named.TheVariants as named
 use Rattle.task_machine.specs.declared.records.Subtask.TheVariants as subtask
 use Rattle.task_machine.specs.declared.records.Turn.TheVariants as turn
 use Rattle.task_machine.proofs.CommuteLemmas.{get-change}
-use Rattle.task_rules.proofs.Machine.{add_call, add_group, add_set, add_thread, add_work, after_word, Allowed, ap, arith, as_subtask, Call, call_made, change, CloseSet, Core, count_work, free_handle, free_thread_handle, fresh, get, get-empty, get-insert, get-remove, give_handle, give_result, give_thread_handle, giving, handle_of_table, how_far_of, HowFar, inl, inr, is_deletable, is_some, IsCalled, le_trans, MakeCall, MakeThread, MayCome, MayNameCall, NameCall, NameWork, nat_tests, new_handle, None, on_call, on_instance, on_thread, on_work, OpenSet, Option, option_and_then, option_map_or, poll_pends, push_high, refl, remove_call, remove_group, remove_set, remove_thread, remove_work, RemoveCall, Scene, set_backpressure, set_cancel_delivered, set_cancelled, set_course, set_do_not_enter, set_do_not_suspend, set_end, set_event, set_exited, set_how_far, set_join, set_own_event, set_phase, set_position, set_register, set_result, set_saved_callee, set_saved_own, set_script, set_stage, set_started, set_starting_published, set_subtask_handle, set_thread_handle, set_trapped, set_uninteresting, set_word, Some, subst, Subtask, subtask_at, subtask_handle, take_result, taking, Thread, true, UnnameCall, UnnameWork, with_handle, with_thread_handle, Word, work_queued, ℕ, ⊎_elim, ◌∙◌, ◌≡◌, ◌≤◌, ◌⊎◌}
+use Rattle.task_rules.proofs.Machine.{add_call, add_group, add_set, add_thread, add_work, after_word, Allowed, ap, arith, as_subtask, Call, call_made, change, CloseSet, Core, count_work, free_handle, free_thread_handle, fresh, get, get-empty, get-insert, get-remove, give_handle, give_result, give_thread_handle, giving, handle_of_table, how_far_of, HowFar, inl, inr, is_deletable, is_some, IsCalled, le_trans, MakeCall, MakeThread, MayCome, MayNameCall, NameCall, NameWork, nat_tests, new_handle, None, on_call, on_instance, on_thread, on_work, OpenSet, Option, option_and_then, option_map_or, poll_pends, push_high, refl, remove_call, remove_group, remove_set, remove_thread, remove_work, RemoveCall, Scene, set_backpressure, set_cancel_delivered, set_cancelled, set_course, set_do_not_enter, set_do_not_suspend, set_end, set_event, set_exited, set_how_far, set_join, set_own_event, set_phase, set_position, set_register, set_result, set_saved_callee, set_saved_own, set_script, set_stage, set_started, set_starting_published, set_subtask_handle, set_thread_handle, set_trapped, set_uninteresting, set_word, Some, subst, subtask_at, subtask_handle, take_result, taking, Thread, true, UnnameCall, UnnameWork, with_handle, with_thread_handle, Word, work_queued, ℕ, ⊎_elim, ◌∙◌, ◌≡◌, ◌≤◌, ◌⊎◌}
 
 -- the call that the running thread's op is inside of before the step is there
 abbrev pub InsideThere : Scene → Type 0

@@ -3,7 +3,7 @@ use Rattle.task_rules.proofs.Machine.{[], add_thread, ap, arith, Bool, callers_o
 use Rattle.task_machine.specs.declared.records.Entry.TheVariants as entry
 use Rattle.task_machine.specs.declared.records.Place.TheVariants as place
 use Rattle.task_machine.specs.declared.words.Mark.TheVariants as mark
-use Rattle.task_rules.proofs.MoveLemmas.{removed_is, no_time, others, put_back, removed_gone, removed_loose, removed_placed, other_place, gone_place, other_so}
+use Rattle.task_rules.proofs.MoveLemmas.{removed_is, no_time, others, put_back, removed_gone, removed_loose, removed_placed, other_place, other_so}
 use Rattle.task_rules.proofs.StandLemmas.{Loose, Stand, by_number, entries-append, entries-less, eq_refl, zero_one, Watch, is_so, Left, left_loose, left_placed, by_count}
 use Rattle.task_rules.proofs.StopLemmas.{Untouched, fresh_apart, so_again}
 

@@ -1,5 +1,5 @@
 -- A thread inside a sync call of a host waits for its work, or that is done; and host works have their entries: along the words of a step.
-use Rattle.task_rules.proofs.Machine.{[], after_placing, after_word, Allowed, ap, arith, behind_one, Bool, Collapses, Core, Departs, EndsOver, Enter, false, get, GoBehind, GoesBack, how_far_of, inl, inr, is_none, is_some, is_stage_ended, IsRunner, Label, Lands, LandsAt, Made, MayCome, MayLand, MayRemoveWork, Move, Option, option_map, option_map_or, Place, place_of, Places, Placing, push_high, push_low, Put, put_high, put_low, Quits, refl, Remains, RemoveThread, Scene, scene_of, set_callers, set_place, SetHowFar, Setting, Settles, Some, stage_of, State, Stay, subst, Subtask, sym, Thread, Trip, true, Walked, Word, Work, ℕ, ⊎_elim, ◌==◌, ◌∙◌, ◌≡◌, ◌≤◌, ◌⊎◌}
+use Rattle.task_rules.proofs.Machine.{[], after_placing, after_word, Allowed, ap, arith, behind_one, Bool, Collapses, Core, Departs, EndsOver, Enter, false, get, GoBehind, GoesBack, how_far_of, inl, inr, is_none, is_some, is_stage_ended, IsRunner, Label, Lands, LandsAt, Made, MayCome, MayLand, MayRemoveWork, Move, Option, option_map_or, Place, place_of, Places, Placing, push_high, push_low, Put, put_high, put_low, Quits, refl, Remains, RemoveThread, Scene, scene_of, set_callers, set_place, SetHowFar, Setting, Settles, Some, stage_of, State, Stay, subst, Subtask, sym, Thread, Trip, true, Walked, Word, Work, ℕ, ⊎_elim, ◌==◌, ◌∙◌, ◌≡◌, ◌≤◌, ◌⊎◌}
 use Rattle.task_machine.specs.declared.records.Stage.TheVariants as stage
 use Rattle.task_places.proofs.PlaceSteps.{Reads, Withdrawable, step_by}
 use Rattle.task_rules.proofs.PlacingLemmas.{placing_shifted, SameWorks}

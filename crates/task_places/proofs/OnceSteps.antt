@@ -13,7 +13,7 @@ use Rattle.task_laws.proofs.HostEnds.{Answered, host_step}
 use Rattle.task_laws.proofs.SceneLemmas.{base_is, runner_there}
 use Rattle.task_laws.specs.Ends.{CalledThere, is_sync_work, MayBeAborted, SyncUnnamed}
 use Rattle.task_laws.proofs.SyncWorks.{CallersKnown, callers_word, opening_callers}
-use Rattle.task_laws.proofs.Works.{AbortsNoSync, Doing, WorksGo, WorksHold, doing, doing_of, is_late, stage_ended, opening_works, first_works, works_word}
+use Rattle.task_laws.proofs.Works.{AbortsNoSync, Doing, WorksGo, WorksHold, doing, doing_of, is_late, opening_works, first_works, works_word}
 use Rattle.task_rules.proofs.WalkSteps.{step_walks}
 use Rattle.task_laws.specs.Order.{InOrder}
 use Rattle.task_places.proofs.PlaceLaw.{entry_ready}
@@ -24,7 +24,6 @@ use Rattle.task_places.specs.Once.{RunsAreOnce, IsUnbegun}
 use Rattle.task_places.proofs.OrderLemmas.{opening_in_order, step_in_order}
 use Rattle.task_machine.specs.declared.records.Subtask.TheVariants as subtask
 use Rattle.task_machine.specs.declared.records.HowFar.TheVariants as how_far
-use Rattle.task_machine.specs.declared.records.Stage.TheVariants as stage
 use Rattle.task_machine.specs.declared.records.WorkCaller.TheVariants as work_caller
 use Rattle.task_machine.specs.declared.records.Entry.TheVariants as entry
 use Rattle.task_machine.specs.declared.records.Turn.TheVariants as turn

@@ -1,5 +1,5 @@
 -- A state in order: each opening state is, and each step leads from one to one.
-use Rattle.task_rules.proofs.Machine.{[], ap, arith, Bool, ByHandle, ByOp, Call, call_instance, Component, Core, empty, false, fresh, get, get-empty, HasSubtask, inl, instance_of, is_fresh, is_some, is_there, IsRunner, Label, List, None, opening, Option, option_and_then, option_map, option_map_or, Place, place_of, Placed, refl, Run, Scene, scene_of, Script, Setting, Some, State, Steady, task_of, Thread, true, Walk, Walked, was_started, Work, ℕ, ◌∷◌, ◌≡◌, ◌≤◌}
+use Rattle.task_rules.proofs.Machine.{[], ap, arith, Bool, ByHandle, ByOp, Call, call_instance, Component, Core, empty, false, fresh, get, get-empty, HasSubtask, inl, instance_of, is_fresh, is_some, is_there, IsRunner, Label, List, None, opening, Option, option_and_then, option_map, option_map_or, Place, place_of, Placed, refl, Run, Scene, scene_of, Script, Setting, Some, State, Steady, task_of, Thread, true, Walk, Walked, was_started, Work, ℕ, ◌∷◌, ◌≡◌, ◌≤◌, callee_of, inr, length, script_in, subst, sym, ◌⊎◌}
 use Rattle.task_places.proofs.HostsAwaited.{step_works}
 use Rattle.task_places.proofs.Directs.{DirectsRun, directs_on_top, directs_word}
 use Rattle.task_machine.specs.declared.records.Subtask.TheVariants as subtask
@@ -14,9 +14,11 @@ use Rattle.task_laws.proofs.HousedLemmas.{RunnerHoused, housed_word}
 use Rattle.task_laws.proofs.FitLemmas.{AllFit, fits_word}
 use Rattle.task_laws.proofs.CountLemmas.{few_word}
 use Rattle.task_laws.proofs.SetHandles.{opening_sets, sets_named_word}
-use Rattle.task_laws.proofs.CallsLaw.{CallsHold, CallsGo}
-use Rattle.task_laws.proofs.CallsSteps.{base_out, of_base, opening_holds, plain, plain_scene, step_goes, calls_begin, word_goes}
-use Rattle.task_laws.specs.Order.{CallsNamed, InOrder, InPlace, Numbered, OpeningInOrder, SetsNamed, StartsAwaited, StepInOrder, WasCall, CallsThere, MakesFew, Strands, WaitsAtHome, set_of_op, set_of_place, StepsMakeFew, JoinsNamed, DirectsOnTop, WorksQueued, HostsAwaited, Fits, names_script}
+use Rattle.task_laws.proofs.CallsLaw.{CallsGo, CallsHold}
+use Rattle.task_laws.proofs.CallsSteps.{base_out, calls_begin, of_base, word_goes, opening_holds, plain, plain_scene, step_goes}
+use Rattle.task_laws.specs.Order.{CallsNamed, InOrder, Numbered, OpeningInOrder, SetsNamed, StartsAwaited, StepInOrder, WasCall, CallsThere, MakesFew, Strands, WaitsAtHome, set_of_op, set_of_place, StepsMakeFew, JoinsNamed, DirectsOnTop, Fits, WorksQueued, HostsAwaited, names_script}
+use Rattle.task_machine.specs.declared.records.Turn.TheVariants as turn
+use Rattle.task_machine.specs.declared.records.Place.TheVariants as place
 use Rattle.task_machine.specs.declared.records.HowFar.TheVariants as how_far
 use Rattle.task_places.proofs.PlaceLaw.{Arrives}
 use Rattle.task_places.proofs.PlaceSteps.{Withdrawable, in_place, step_arrives}
@@ -53,6 +55,10 @@ op_there o x h = grind arith
 same_call : (s t : Core) → Steady s t → Numbered s → (k : ℕ) → is_some (get s.calls k) ≡ true → is_some (get t.calls k) ≡ true →
     call_instance k t ≡ call_instance k s
 same_call s t steady numbered k was now = grind (arith, steady.calls k, numbered.calls k)
+
+same_callee : (s t : Core) → Steady s t → Numbered s → (k : ℕ) → is_some (get s.calls k) ≡ true → is_some (get t.calls k) ≡ true →
+    callee_of k t ≡ callee_of k s
+same_callee s t steady numbered k was now = grind (arith, steady.calls k, numbered.calls k)
 
 same_instance : (s t : Core) → Steady s t → Numbered s → CallsThere s → CallsThere t → (n : ℕ) → is_there n s ≡ true → is_there n t ≡ true →
     instance_of n t ≡ instance_of n s
@@ -144,10 +150,19 @@ module _ (x : Setting) (s : State) (l : Label) (t : State) (h : InOrder x.compon
   -- ---- Scripts
 
   fits_base : Fits x.component a.base
-  fits_base n r at = let f = h.fits n r at in record { script = f.script; first = f.first }
+  fits_base n r at = let f = h.fits n r at in record { script = f.script; position = f.position; first = f.first }
+
+  has_call : (n : ℕ) (r : Thread) → get s.core.threads n ≡ Some r → is_some (get s.core.calls r.call) ≡ true
+  has_call n r at = h.calls_there n r.call (ap (λ o. option_map (λ (t : Thread). t.call) o) at)
 
   fits_first : AllFit a s.core
-  fits_first n r at = record { script = (h.fits n r at).script; call = λ e. h.calls_there n r.call (ap (λ o. option_map (λ (t : Thread). t.call) o) at); first = (h.fits n r at).first }
+  fits_first n r at = let f = h.fits n r at in record {
+    script = f.script;
+    call = λ e. has_call n r at;
+    first = f.first;
+    position = inr (has_call n r at, f.position);
+    same = λ to b is. let e : r ≡ b = cc in (ap (λ (t : Thread). t.call) e, ap (λ (t : Thread). t.script) e);
+  }
 
   fits_last : AllFit a t.core
   fits_last =
@@ -156,8 +171,10 @@ module _ (x : Setting) (s : State) (l : Label) (t : State) (h : InOrder x.compon
       let known = of_base (λ b. RunnerHoused (record a { base = b })) s.turn s.core runner_housed in
       let fits = of_base (λ b. Fits x.component b) s.turn s.core fits_base in
       let first = of_base (λ b. AllFit (record a { base = b }) s.core) s.turn s.core fits_first in
+      let runs = of_base (λ b. (n : ℕ) → s.turn ≡ turn.Run n → place_of n b ≡ Some place.Running) s.turn s.core h.in_place.runs in
       let c = scene_of x s l w.next in
-      let q = along (λ u. CallsGo c u × AllFit c u) (λ v m ok q. (word_goes c h.codes b.0 v m ok q.0, fits_word c h.codes b.0 known fits v m ok q.0 q.1)) (b.1, first) w.walk in
+      let q = along (λ u. CallsGo c u × AllFit c u)
+      (λ v m ok q. (word_goes c h.codes b.0 v m ok q.0, fits_word c h.codes b.0 known fits runs v m ok q.0 q.1)) (b.1, first) w.walk in
       base_out (λ b. AllFit (record a { base = b }) t.core) s.turn s.core q.1
 
   pub fits_kept : Steady s.core t.core → Fits x.component t.core
@@ -167,8 +184,17 @@ module _ (x : Setting) (s : State) (l : Label) (t : State) (h : InOrder x.compon
       record {
         script = same_script x.component (call_instance r.call t.core) (call_instance r.call s.core) r.explicit r.script
             (λ e. same_call s.core t.core steady h.numbered r.call (f.call e) now) f.script;
+        position = at_place r.position r.call r.script f.position now;
         first = f.first;
       }
+    where
+      within : ℕ → ℕ → Script → Type 0
+      within p k y = (p ≡ 0) ⊎ ((is_some (get s.core.calls k) ≡ true) × (p ≤ length (script_in x.component (callee_of k s.core) y)))
+
+      at_place : (p k : ℕ) (y : Script) → within p k y → is_some (get t.core.calls k) ≡ true → p ≤ length (script_in x.component (callee_of k t.core) y)
+      at_place p k y (inl zero_at) now = omega (arith, zero_at)
+      at_place p k y (inr b) now =
+          subst (λ e. p ≤ length (script_in x.component e y)) (sym (same_callee s.core t.core steady h.numbered k b.0 now)) b.1
 
   -- handles of sets, and the joins to them
   pub joined_kept : SetsNamed t.core × JoinsNamed t.core

@@ -1,7 +1,7 @@
 -- Where a step does a word: what its row has tested or done before, and what is known of the thread that runs or was taken.
 use Rattle.task_machine.specs.declared.records.Course.{Course}
 use Rattle.std.specs.Option.{option_map_or}
-use Rattle.std.specs.Prelude.{Bool, None, Option, Some, [], false, is_none, true, ℕ, ◌||◌, ◌∷◌, ◌≡◌, ◌⊎◌, not, is_some}
+use Rattle.std.specs.Prelude.{◌≤◌, length, Bool, None, Option, Some, [], false, is_none, true, ℕ, ◌||◌, ◌∷◌, ◌≡◌, ◌⊎◌, not, is_some}
 use Rattle.task_machine.specs.Core.{Core, MainPlace, Scripted, Unscripted}
 use Rattle.task_machine.specs.Maps.{get}
 use Rattle.task_machine.specs.Moves.{has_entry, is_callback_waiter, is_deletable, is_group_done}
@@ -31,7 +31,7 @@ use Rattle.task_rules.specs.MainOps.{op_at, takes_words, spawned_at, is_spawn}
 use Rattle.task_rules.specs.Once.{returned_holder}
 use Rattle.task_rules.specs.OpParts.{callee_of_main_op, callee_of_op, ends_activation}
 use Rattle.task_rules.specs.Scenes.{Scene, component_of, op_in}
-use Rattle.task_rules.specs.Scripts.{export_kind, is_script, registers_for, slot_at}
+use Rattle.task_rules.specs.Scripts.{export_kind, is_script, registers_for, script_of, slot_at}
 use Rattle.task_rules.specs.Threads.{resume_why}
 use Rattle.task_rules.specs.Words.{AddGroup, Advance, Restart, CloseSet, CountWork, EndWork, Enter, FinishWork, GoBehind, MakeCall, MakeThread, Move, NameCall, NameWork, OpenSet, Pend, Places, Placing, Pop, Promote, Put, QueueWork, RemoveCall, RemoveGroup, RemoveThread, RemoveWork, SetCallEvent, SetCallJoin, SetCancelDelivered, SetCancelled, SetDoNotEnter, SetEnd, SetHowFar, SetOwnEvent, SetPhase, SetStarted, TakeWorkEvent, SetWorkJoin, Stop, TakeHost, TakePush, UnnameCall, UnnameWork, Withdraw, Word, GiveResult, SetUninteresting, SetTrapped}
 use Rattle.task_rules.specs.Works.{next_polled, has_end}
@@ -230,9 +230,9 @@ MayCome a n (how_far.AwaitsEnd sub) s = IsRunner a n × HasSubtask a n sub
 MayCome a n (how_far.Answered v) s = (m : ℕ) × (IsRunner a m × ((a.next ≡ turn.Run n) × (place_of n a.base ≡ Some (place.Under m))))
 MayCome a n h s = IsRunner a n
 
--- the running thread's op is done
+-- the running thread's op is done, and it goes on at a place in its script, or at the end
 abbrev pub MayAdvance : Scene → ℕ → ℕ → Type 0
-MayAdvance a n p = IsRunner a n
+MayAdvance a n p = IsRunner a n × ((a.turn ≡ turn.Run n) × (p ≤ length (script_of (component_of a) n a.base)))
 
 -- a thread that was taken with a delivery begins its react script
 abbrev pub MayRestart : Scene → ℕ → Type 0
@@ -245,7 +245,8 @@ HasSlot a n x = is_script (slot_at (component_of a) (instance_of n a.base) x) �
 -- a thread beside the first one of its task, by an op that names a script
 abbrev pub MayMake : Scene → Thread → Core → Type 0
 MayMake a t s = (n : ℕ) × (IsRunner a n × ((s.made.threads ≡ a.base.made.threads) × ((x : ℕ) × ((v : ℕ) ×
-    ((t ≡ new_thread (task_of n a.base) true (script.Slot x) (registers_for (v ∷ [])) None) × ((s.calls ≡ a.base.calls) × HasSlot a n x))))))
+    ((t ≡ new_thread (task_of n a.base) true (script.Slot x) (registers_for (v ∷ [])) None) ×
+    ((s.calls ≡ a.base.calls) × HasSlot a n x))))))
 
 -- Who is gone.
 pub data MayGo (a : Scene) (n : ℕ) (s : Core) : Type 0 where
