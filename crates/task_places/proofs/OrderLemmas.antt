@@ -1,5 +1,5 @@
 -- A state in order: each opening state is, and each step leads from one to one.
-use Rattle.task_rules.proofs.Machine.{[], ap, arith, Bool, ByHandle, ByOp, Call, call_instance, Component, Core, empty, false, fresh, get, get-empty, HasSubtask, inl, instance_of, is_fresh, is_some, is_there, IsRunner, Label, List, None, opening, Option, option_and_then, option_map, option_map_or, Place, place_of, Placed, refl, Run, Scene, scene_of, Script, Setting, Some, State, Steady, task_of, Thread, true, Walk, Walked, was_started, Work, ℕ, ◌∷◌, ◌≡◌, ◌≤◌, callee_of, inr, length, script_in, subst, sym, ◌⊎◌}
+use Rattle.task_rules.proofs.Machine.{[], ap, arith, Bool, ByHandle, ByOp, Call, call_instance, callee_of, Component, Core, empty, false, fresh, get, get-empty, HasSubtask, inl, inr, instance_of, is_fresh, is_some, is_there, IsRunner, Label, length, List, None, opening, Option, option_and_then, option_map, option_map_or, Place, place_of, Placed, refl, Run, Scene, scene_of, Script, script_in, Setting, Some, State, Steady, subst, sym, task_of, Thread, true, Walk, Walked, was_started, Work, ℕ, ◌∷◌, ◌≡◌, ◌≤◌, ◌⊎◌}
 use Rattle.task_places.proofs.HostsAwaited.{step_works}
 use Rattle.task_places.proofs.Directs.{DirectsRun, directs_on_top, directs_word}
 use Rattle.task_machine.specs.declared.records.Subtask.TheVariants as subtask
