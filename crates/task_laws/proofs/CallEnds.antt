@@ -90,10 +90,6 @@ abbrev pub is_withdrawn : CallEnd → Bool
 is_withdrawn call_end.StartCancelled = true
 is_withdrawn _ = false
 
-abbrev pub is_start_cancelled : Status → Bool
-is_start_cancelled status.StartCancelled = true
-is_start_cancelled _ = false
-
 -- the status is that of this end, and not of a withdrawn start
 pub record IsOfEnd (e : Status) (o : Option CallEnd) : Type 0 where
   pub ends : CallEnd

@@ -1,5 +1,5 @@
 -- Under the first thread of a direct call there is another one, along the words of a step.
-use Rattle.task_rules.proofs.Machine.{after_word, Allowed, ap, arith, Call, Core, false, get, Goal, goal_of, inl, inr, is_direct, is_some, None, Option, option_map, option_map_or, Place, place_of, refl, Scene, Some, Steady, task_of, Thread, true, Word, ℕ, ◌∙◌, ◌≡◌, ◌≤◌, ◌⊎◌}
+use Rattle.task_rules.proofs.Machine.{after_word, Allowed, ap, arith, Call, Core, false, get, goal_of, inl, inr, is_direct, is_some, None, Option, option_map, Place, place_of, refl, Scene, Some, Steady, task_of, Thread, true, Word, ℕ, ◌∙◌, ◌≡◌, ◌≤◌, ◌⊎◌}
 use Rattle.task_laws.proofs.CallsCame.{CallAfter, call_came}
 use Rattle.task_laws.specs.Order.{DirectsOnTop, Numbered}
 use Rattle.task_machine.specs.declared.records.Goal.TheVariants as goal
@@ -8,9 +8,6 @@ use Rattle.task_machine.specs.declared.records.Turn.TheVariants as turn
 use Rattle.task_places.proofs.PlaceLaw.{Arrives, no_way}
 
 -- ---- Which calls are direct
-
-abbrev goal_in : Option Call → Goal
-goal_in o = option_map_or (λ (c : Call). c.goal) o goal.Nowhere
 
 -- a direct call was so before the step, or its thread runs next
 abbrev pub DirectsRun : Scene → Core → Type 0

@@ -249,9 +249,6 @@ is_under_place (Some (place.Under m)) = true
 is_under_place _ = false
 
 module _ {a : Scene} {b : Core} (n : ℕ) (p : Place) (f : Follows a b n (Some p)) (is : IsRunner a n) (home : place_of n a.base ≡ Some p) (top : is_under_place (Some p) ≡ false) where
-  not_under : (k m : ℕ) → k ≡ n → place_of k a.base ≡ Some (place.Under m) → {A : Type 0} → A
-  not_under k m e at = no_way (sym top ∙ ap is_under_place (sym home ∙ (ap (λ (j : ℕ). place_of j a.base) (sym e) ∙ at)))
-
   one : (m : ℕ) → IsRunner a m → m ≡ n
   one m e = ap (λ (o : Option ℕ). unwrap_or o m) (sym e ∙ is)
 

@@ -107,9 +107,6 @@ event_aborted i s = grind (arith, nat_tests, get-change)
 pub said_is : (P : Subtask → Status → Type 0) {f e : Status} {d sub : Subtask} → Some (end_for f d) ≡ Some (end_for e sub) → P d f → P sub e
 said_is P {f = f} {d = d} is p = subst (λ (y : SubtaskEnd). P y.subtask y.status) (ap (λ (o : Option SubtaskEnd). unwrap_or o (end_for f d)) is) p
 
-unsaid : {A : Type 0} (e : SubtaskEnd) → None ≡ Some e → A
-unsaid e h = absurd (grind arith)
-
 module _ (sub to : Subtask) (f : Status) (o : Option Subtask) (is : o ≡ Some sub) where
   -- the end that the label of a cancel says is written
   pub cancel_writes_of : (g : Status) → (if status_code g == 3 then option_map (end_for status.StartCancelled) o else None) ≡ Some (end_for f to) → (sub ≡ to) × (g ≡ status.StartCancelled)

@@ -20,13 +20,6 @@ unanswered c = record c { started = false; starting_published = false; «end» =
 abbrev unresulted : Call → Call
 unresulted c = record c { result = None }
 
-pub read_by : {X A : Type 0} (g : X → X) (f : X → A) (none : A) → ((c : X) → f (g c) ≡ f c) → (o p : Option X) → option_map g o ≡ option_map g p → option_map_or f o none ≡ option_map_or f p none
-read_by {X = X} g f none same o p e = sym (at o) ∙ (ap (λ q. option_map_or f q none) e ∙ at p)
-  where
-    at : (q : Option X) → option_map_or f (option_map g q) none ≡ option_map_or f q none
-    at None = refl
-    at (Some c) = same c
-
 -- from s to t the call has at most come to an end and a result
 abbrev pub SameCall : ℕ → Core → Core → Type 0
 SameCall k s t = option_map unanswered (get t.calls k) ≡ option_map unanswered (get s.calls k)

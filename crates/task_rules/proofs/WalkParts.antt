@@ -90,10 +90,6 @@ pub withdraws : (k : ℕ) (t : Core) → after_word (Withdraw k) t ≡ remove_th
 unfolding unqueued
 withdraws k t = withdraws_by k (less_switch k t.queues.switch) (less k t.queues.high) (less k t.queues.low) t (has_entry k t.queues.high)
 
-blocked_moved : (n : ℕ) (sub : Subtask) (t : Core) → option_map_or (is_blocked_on sub) (place_of n (set_place n (place.Blocked sub) t)) true ≡ true
-unfolding set_place on_thread
-blocked_moved n sub t = grind (arith, nat_tests, get-change)
-
 -- ---- The moves
 
 module _ {a : Scene} {b : Core} (n : ℕ) (is : IsRunner a n) where

@@ -279,13 +279,6 @@ module _ (at : Turn → Scene) (b : Core) (starts : (u : Turn) → Walk (at u) b
   progresses_walk s base n Never l t labels nexts leads falls is = absurd is
   progresses_walk s base n (Ordered ns next) l t labels nexts leads falls is = progresses_walk s base n (next is.0) l t labels nexts (λ u. leads u is.0) falls is.1.1
 
--- a step of no thread leaves little: it begins nothing, nothing runs, and an outcome ends the turns
-abbrev is_idle_label : Label → Bool
-is_idle_label (label.Main k) = true
-is_idle_label (label.Loop k) = true
-is_idle_label (label.Take k) = true
-is_idle_label _ = false
-
 idle_words : (a : Scene) (t : Core) → a.runner ≡ None → ((m : ℕ) → a.next ≡ turn.Run m → ⊥) → ((o : Outcome) → outcome_of_label a.label ≡ Some o → a.next ≡ turn.Over) → begun_holder a.base a.label ≡ None → EndWords a t → LastWords a t
 idle_words a t none stills outcome begun says = record {
   laid = λ m at take. none_is_some m (sym none ∙ at);
