@@ -1,8 +1,7 @@
 -- Under the first thread of a direct call there is another one, along the words of a step.
-use Rattle.task_rules.proofs.Machine.{after_word, Allowed, ap, arith, Call, Core, false, get, goal_of, inl, inr, is_direct, is_some, None, Option, option_map, Place, place_of, refl, Scene, Some, Steady, task_of, Thread, true, Word, ℕ, ◌∙◌, ◌≡◌, ◌≤◌, ◌⊎◌}
+use Rattle.task_rules.proofs.Machine.{after_word, Allowed, ap, arith, Core, false, get, goal_of, inl, inr, is_direct, is_some, None, Option, option_map, Place, place_of, refl, Scene, Some, Steady, task_of, Thread, true, Word, ℕ, ◌∙◌, ◌≡◌, ◌≤◌, ◌⊎◌}
 use Rattle.task_laws.proofs.CallsCame.{CallAfter, call_came}
 use Rattle.task_laws.specs.Order.{DirectsOnTop, Numbered}
-use Rattle.task_machine.specs.declared.records.Goal.TheVariants as goal
 use Rattle.task_machine.specs.declared.records.Place.TheVariants as place
 use Rattle.task_machine.specs.declared.records.Turn.TheVariants as turn
 use Rattle.task_places.proofs.PlaceLaw.{Arrives, no_way}
