@@ -1,9 +1,9 @@
 -- What one word does to the record of a call, and to that of a thread.
-use Rattle.std.proofs.Common.{ap, inl, inr, le_refl, refl, subst, sym}
-use Rattle.std.specs.Prelude.{None, Option, Some, false, is_some, option_map, true, ℕ, ◌≡◌, ◌≤◌, ◌⊎◌}
+use Rattle.task_rules.proofs.Machine.{add_call, add_group, add_set, add_thread, add_work, Advance, after_word, Allowed, ap, Call, call_made, Callee, CallEnd, Caller, change, Core, count_work, ExportKind, false, free_handle, free_thread_handle, get, give_handle, give_result, give_thread_handle, Goal, how_far_of, HowFar, inl, inr, is_deletable, is_some, Join, le_refl, MakeCall, MakeThread, MayAdvance, MayCome, MayDeliver, MayEnd, MayJoin, MayMake, MayMakeCall, MayRestart, MayStart, new_call, next_thread, None, on_call, on_instance, on_thread, on_work, Option, option_map, Places, Placing, poll_pends, push_high, refl, remove_call, remove_group, remove_set, remove_thread, remove_work, RemoveCall, RemoveThread, Restart, Scene, set_backpressure, set_cancel_delivered, set_cancelled, set_course, set_do_not_enter, set_do_not_suspend, set_end, set_event, set_exited, set_how_far, set_join, set_own_event, set_phase, set_position, set_register, set_result, set_saved_callee, set_saved_own, set_script, set_stage, set_started, set_starting_published, set_subtask_handle, set_thread_handle, set_trapped, set_uninteresting, set_word, SetCallJoin, SetEnd, SetHowFar, Some, subst, sym, take_result, TakeHost, TakePush, Thread, true, with_handle, with_thread_handle, Withdraw, Word, work_queued, ℕ, ◌≡◌, ◌≤◌, ◌⊎◌}
 use Rattle.task_laws.proofs.EachLemmas.{after_change, after_insert, after_remove}
-use Rattle.task_rules.proofs.Machine.{add_call, add_group, add_set, add_thread, add_work, after_word, Allowed, Call, call_made, Callee, CallEnd, Caller, change, Core, count_work, ExportKind, free_handle, free_thread_handle, get, give_handle, give_result, give_thread_handle, Goal, how_far_of, HowFar, is_deletable, Join, MakeCall, MakeThread, MayCome, MayDeliver, MayEnd, MayJoin, MayMake, MayMakeCall, MayStart, NameCall, NameThread, new_call, next_thread, on_call, on_instance, on_thread, on_work, Places, Placing, poll_pends, push_high, remove_call, remove_group, remove_set, remove_thread, remove_work, RemoveCall, RemoveThread, Scene, set_backpressure, set_cancel_delivered, set_cancelled, set_course, set_do_not_enter, set_do_not_suspend, set_end, set_event, set_exited, set_how_far, set_join, set_own_event, set_phase, set_position, set_register, set_result, set_saved_callee, set_saved_own, set_script, set_stage, set_started, set_starting_published, set_subtask_handle, set_thread_handle, set_trapped, set_uninteresting, set_word, SetCallEvent, SetCallJoin, SetCancelDelivered, SetEnd, SetExited, SetHowFar, SetOwnEvent, SetPosition, SetRegister, SetResult, SetSavedCallee, SetSavedOwn, SetScript, SetStarted, SetStartingPublished, SetUninteresting, take_result, TakeHost, TakePush, Thread, UnnameCall, with_handle, with_thread_handle, Withdraw, Word, work_queued}
 use Rattle.task_laws.proofs.SceneLemmas.{popped_threads}
+use Rattle.task_machine.specs.declared.records.Script.TheVariants as script
+use Rattle.task_machine.proofs.CommuteLemmas.{change-change_same}
 use Rattle.task_machine.proofs.MapLemmas.{get-insert_same}
 use Rattle.task_machine.specs.declared.records.HowFar.TheVariants as how_far
 use Rattle.task_machine.specs.declared.records.Place.TheVariants as place
@@ -40,6 +40,8 @@ pub data CallCame (a : Scene) (w : Word) (s t : Core) (k : ℕ) (o p : Option Ca
 abbrev pub CallAfter : Scene → Word → Core → ℕ → Type 0
 CallAfter a w s k = CallCame a w s (after_word w s) k (get s.calls k) (get (after_word w s).calls k)
 
+ruleset either = (inl, inr)
+
 module _ {a : Scene} where
   call_stays : {w : Word} {s t : Core} {k : ℕ} (o : Option Call) → CallCame a w s t k o o
   call_stays None = NoCall refl (inl refl)
@@ -55,20 +57,9 @@ module _ {a : Scene} where
   call_came (MakeCall f e x g group words) s ok k =
       after_insert (CallCame a _ s _ k) s.calls _ k call_stays _ (λ at. NewCall f e x g group at (at_most at) ok refl)
   call_came (RemoveCall j) s ok k = after_remove (CallCame a _ s _ k) s.calls j k call_stays (λ at. NoCall refl (inr (rw at ok)))
-  call_came (SetStarted j) s ok k = call_changed _ j _ s _ k (λ c. search (inl, inr))
   call_came (SetEnd j e) s ok k = let ends : (v : CallEnd) × ((Some e ≡ Some v) × MayEnd a j v s) = (e, (refl, ok.0)) in
       call_changed _ j _ s _ k (λ c. search (inl, inr))
-  call_came (SetCancelDelivered j) s ok k = call_changed _ j _ s _ k (λ c. search (inl, inr))
-  call_came (SetCallJoin j x) s ok k = call_changed _ j _ s _ k (λ c. search (inl, inr))
-  call_came (SetStartingPublished j) s ok k = call_changed _ j _ s _ k (λ c. search inl)
-  call_came (SetOwnEvent j e) s ok k = call_changed _ j _ s _ k (λ c. search inl)
-  call_came (SetExited j) s ok k = call_changed _ j _ s _ k (λ c. search inl)
-  call_came (SetUninteresting j) s ok k = call_changed _ j _ s _ k (λ c. search inl)
-  call_came (SetResult j v) s ok k = call_changed _ j _ s _ k (λ c. search inl)
-  call_came (SetCallEvent j e) s ok k = call_changed _ j _ s _ k (λ c. search inl)
-  call_came (NameCall i j) s ok k = call_changed _ j _ s _ k (λ c. search inl)
-  call_came (UnnameCall i h j) s ok k = call_changed _ j _ s _ k (λ c. search inl)
-  call_came w s ok k = call_stays (get s.calls k)
+  call_came w s ok k = first_of (search call_stays, search (call_changed, either))
 
 -- ---- Threads
 
@@ -76,16 +67,21 @@ module _ {a : Scene} where
 abbrev pub Goes : Scene → Core → ℕ → HowFar → HowFar → Type 0
 Goes a s n f g = (g ≡ f) ⊎ MayCome a n g s
 
+-- the thread is where it was in its script, or its op is done; or it begins its react script
+abbrev pub RunsOn : Scene → ℕ → Thread → Thread → Type 0
+RunsOn a n r u = ((u.script ≡ r.script) × ((u.position ≡ r.position) ⊎ MayAdvance a n u.position))
+    ⊎ (MayRestart a n × ((u.script ≡ script.React) × (u.position ≡ 0)))
+
 -- What the word from s to t does to the record of the thread n, from o to p.
 pub data ThreadCame (a : Scene) (w : Word) (s t : Core) (n : ℕ) (o p : Option Thread) : Type 0 where
   IsSame : (r u : Thread) → o ≡ Some r → p ≡ Some u → u.call ≡ r.call → u.explicit ≡ r.explicit → Goes a s n r.how_far u.how_far →
-      (u.place ≡ r.place) ⊎ ((x : Placing) × (w ≡ Places x)) → ThreadCame a w s t n o p
+      (u.place ≡ r.place) ⊎ ((x : Placing) × (w ≡ Places x)) → RunsOn a n r u → ThreadCame a w s t n o p
   IsGone : p ≡ None → ThreadCame a w s t n o p
   -- a thread more, beside the first one of its call, or with the call
   IsBeside : (u : Thread) → n ≡ next_thread s → n ≤ t.made.threads → t.calls ≡ s.calls → MayMake a u s → p ≡ Some u →
       ThreadCame a w s t n o p
   IsFirst : (u : Thread) → n ≡ next_thread s → n ≤ t.made.threads → is_some (get t.calls n) ≡ true → u.explicit ≡ false → u.call ≡ n →
-      u.how_far ≡ how_far.Fresh → u.place ≡ place.New → p ≡ Some u → ThreadCame a w s t n o p
+      u.how_far ≡ how_far.Fresh → u.place ≡ place.New → p ≡ Some u → (u.script ≡ script.Start) × (u.position ≡ 0) → ThreadCame a w s t n o p
 
 abbrev pub ThreadAfter : Scene → Word → Core → ℕ → Type 0
 ThreadAfter a w s n = ThreadCame a w s (after_word w s) n (get s.threads n) (get (after_word w s).threads n)
@@ -93,40 +89,41 @@ ThreadAfter a w s n = ThreadCame a w s (after_word w s) n (get s.threads n) (get
 module _ {a : Scene} where
   thread_stays : {w : Word} {s t : Core} {n : ℕ} (o : Option Thread) → ThreadCame a w s t n o o
   thread_stays None = IsGone refl
-  thread_stays (Some r) = IsSame r r refl refl refl refl (inl refl) (inl refl)
+  thread_stays (Some r) = IsSame r r refl refl refl refl (inl refl) (inl refl) (inl (refl, inl refl))
 
-  thread_changed : (w : Word) (j : ℕ) (f : Thread → Thread) (s t : Core) (n : ℕ) → ((r : Thread) → ThreadCame a w s t n (Some r) (Some (f r))) →
+  thread_kept : (w : Word) (j : ℕ) (f : Thread → Thread) (s t : Core) (n : ℕ) → ((r : Thread) → (f r).call ≡ r.call) →
+      ((r : Thread) → (f r).explicit ≡ r.explicit) → ((r : Thread) → (f r).how_far ≡ r.how_far) → ((r : Thread) → (f r).place ≡ r.place) →
+      ((r : Thread) → (f r).script ≡ r.script) → ((r : Thread) → (f r).position ≡ r.position) →
       ThreadCame a w s t n (get s.threads n) (get (change j f s.threads) n)
-  thread_changed w j f s t n own = after_change (ThreadCame a w s t n) s.threads j n thread_stays f (λ r is e. own r)
+  thread_kept w j f s t n call explicit far place script position = after_change (ThreadCame a w s t n) s.threads j n thread_stays f
+      (λ r is e. IsSame r _ refl refl (call r) (explicit r) (inl (far r)) (inl (place r)) (inl (script r, inl (position r))))
 
   thread_moved : (w : Word) (x : Placing) (s t : Core) (n : ℕ) (o p : Option Thread) → w ≡ Places x →
       option_map unplaced p ≡ option_map unplaced o → ThreadCame a w s t n o p
   thread_moved w x s t n o None is e = IsGone refl
   thread_moved w x s t n None (Some u) is e = absurd (cc)
   thread_moved w x s t n (Some r) (Some u) is e = let h : unplaced u ≡ unplaced r = cc in
-      IsSame r u refl refl (ap (λ x. x.call) h) (ap (λ x. x.explicit) h) (inl (ap (λ x. x.how_far) h)) (inr (x, is))
+      IsSame r u refl refl (ap (λ x. x.call) h) (ap (λ x. x.explicit) h) (inl (ap (λ x. x.how_far) h)) (inr (x, is)) (inl (ap (λ x. x.script) h, inl (ap (λ x. x.position) h)))
 
   pub thread_came : (w : Word) (s : Core) → Allowed a w s → (n : ℕ) → ThreadAfter a w s n
   unfolding add_call add_group add_set add_thread add_work count_work free_handle free_thread_handle give_handle give_result give_thread_handle on_call on_instance on_thread on_work push_high remove_call remove_group remove_set remove_thread remove_work set_backpressure set_cancel_delivered set_cancelled set_course set_do_not_enter set_do_not_suspend set_end set_event set_exited set_how_far set_join set_own_event set_phase set_position set_register set_result set_saved_callee set_saved_own set_script set_stage set_started set_starting_published set_subtask_handle set_thread_handle set_trapped set_uninteresting set_word take_result call_made with_handle with_thread_handle work_queued poll_pends
   thread_came (Places x) s ok n = thread_moved (Places x) x s _ n _ _ refl ((placing_shifted x s).threads n)
   thread_came (TakePush m i) s ok n = rw (popped_threads m s) (thread_stays (get s.threads n))
   thread_came (TakeHost m i) s ok n = rw (popped_threads m s) (thread_stays (get s.threads n))
+  thread_came (Advance j p) s ok n = rw change-change_same (after_change (ThreadCame a _ s _ n) s.threads j n thread_stays _
+      (λ r is e. IsSame r _ refl refl refl refl (inr (rw e ok.0)) (inl refl) (inl (refl, inr (rw e ok)))))
+  thread_came (Restart j) s ok n = rw (change-change_same, change-change_same) (after_change (ThreadCame a _ s _ n) s.threads j n thread_stays _
+      (λ r is e. IsSame r _ refl refl refl refl (inr (rw e ok.0)) (inl refl) (inr (rw e ok, (refl, refl)))))
   thread_came (SetHowFar j h) s ok n = after_change (ThreadCame a _ s _ n) s.threads j n thread_stays _
-      (λ r is e. IsSame r _ refl refl refl refl (inr (rw e ok)) (inl refl))
+      (λ r is e. IsSame r _ refl refl refl refl (inr (rw e ok)) (inl refl) (inl (refl, inl refl)))
   thread_came (MakeThread u) s ok n = after_insert (ThreadCame a _ s _ n) s.threads _ n thread_stays u
       (λ at. IsBeside u at (at_most at) refl ok refl)
   thread_came (MakeCall f e x g group words) s ok n =
       after_insert (ThreadCame a _ s _ n) s.threads _ n thread_stays _
-      (λ at. IsFirst _ at (at_most at) (rw at (rw get-insert_same refl)) refl (sym at) refl refl refl)
+      (λ at. IsFirst _ at (at_most at) (rw at (rw get-insert_same refl)) refl (sym at) refl refl refl (refl, refl))
   thread_came (RemoveThread j) s ok n = after_remove (ThreadCame a _ s _ n) s.threads j n thread_stays (λ at. IsGone refl)
   thread_came (Withdraw j) s ok n = after_remove (ThreadCame a _ s _ n) s.threads j n thread_stays (λ at. IsGone refl)
-  thread_came (SetRegister j r v) s ok n = thread_changed _ j _ s _ n (λ r. IsSame r _ refl refl refl refl (inl refl) (inl refl))
-  thread_came (SetPosition j p) s ok n = thread_changed _ j _ s _ n (λ r. IsSame r _ refl refl refl refl (inl refl) (inl refl))
-  thread_came (SetScript j x) s ok n = thread_changed _ j _ s _ n (λ r. IsSame r _ refl refl refl refl (inl refl) (inl refl))
-  thread_came (SetSavedOwn j b) s ok n = thread_changed _ j _ s _ n (λ r. IsSame r _ refl refl refl refl (inl refl) (inl refl))
-  thread_came (SetSavedCallee j b) s ok n = thread_changed _ j _ s _ n (λ r. IsSame r _ refl refl refl refl (inl refl) (inl refl))
-  thread_came (NameThread i j) s ok n = thread_changed _ j _ s _ n (λ r. IsSame r _ refl refl refl refl (inl refl) (inl refl))
-  thread_came w s ok n = thread_stays (get s.threads n)
+  thread_came w s ok n = first_of (search thread_stays, search thread_kept)
 
 -- what is read of how far the thread's op has come, but nothing of an op that begins, was so before, or comes so now
 pub op_came : {X : Type 0} (read : HowFar → Option X) (x : X) {a : Scene} (w : Word) (s : Core) → Allowed a w s → (n : ℕ) →
@@ -135,8 +132,8 @@ pub op_came : {X : Type 0} (read : HowFar → Option X) (x : X) {a : Scene} (w :
 op_came {X = X} read x {a = a} w s ok n none h = go (thread_came w s ok n)
   where
     go : ThreadAfter a w s n → (read (how_far_of n s) ≡ Some x) ⊎ ((g : HowFar) × (MayCome a n g s × (read g ≡ Some x)))
-    go (IsSame r u e f c y (inl same) m) = inl (cc)
-    go (IsSame r u e f c y (inr come) m) = inr (u.how_far, (come, cc))
+    go (IsSame r u e f c y (inl same) m z) = inl (cc)
+    go (IsSame r u e f c y (inr come) m z) = inr (u.how_far, (come, cc))
     go (IsGone e) = absurd (cc)
     go (IsBeside u is l same m e) = absurd (cc)
-    go (IsFirst u is l there y z new m e) = absurd (cc)
+    go (IsFirst u is l there y z new m e x) = absurd (cc)

@@ -1,11 +1,7 @@
 -- Calls along the words of a step: a status only rises, an end stays, numbers name what they named, deliveries are for callbacks.
-use Rattle.std.proofs.Common.{arith, ⊎_elim}
-use Rattle.std.specs.Option.{option_map_or}
-use Rattle.std.specs.Prelude.{Bool, None, Option, Some, false, is_none, is_some, slice_get, true, unwrap_or, ℕ, ◌≡◌, ◌≤◌, ◌⊎◌}
+use Rattle.task_rules.proofs.Machine.{arith, Bool, Call, Callee, CallEnd, Component, component_of, Core, ends_activation, EndsActivation, export_kind, false, get, goal_of, has_ended, is_async_lifted, is_callback, is_direct, is_exit, is_explicit, is_none, is_some, IsRunner, Join, kind_of, LaterBy, MayEnd, MayMove, None, op_of, Option, option_map_or, Place, place_of, SameThread, Scene, Script, script_in, script_of, slice_get, Some, task_of, true, unwrap_or, WasReady, Why, Word, ℕ, ⊎_elim, ◌≡◌, ◌≤◌, ◌⊎◌}
 use Rattle.task_laws.proofs.CallsCame.{Grew, Grows}
 use Rattle.task_laws.proofs.CameLemmas.{Came, Comes, Moved, Shifts, Turned, Turns, MayStand}
-use Rattle.task_rules.proofs.Machine.{Call, Callee, CallEnd, Component, component_of, Core, ends_activation, EndsActivation, export_kind, get, goal_of, has_ended, is_async_lifted, is_callback, is_direct, is_exit, is_explicit, IsRunner, Join, kind_of, LaterBy, MayEnd, MayMove, op_of, Place, place_of, SameThread, Scene, script_in, script_of, task_of, WasReady, Why, Word}
-use Rattle.task_machine.specs.declared.records.Script.{Script}
 use Rattle.task_laws.specs.Order.{CallKinds, DeliveredByCallback, Numbered, is_delivered, is_delivery}
 use Rattle.task_laws.specs.Rises.{Rises}
 use Rattle.task_laws.specs.Settings.{CodesInCallbacks}
@@ -84,16 +80,16 @@ script_no_code : {c : Component} → CodesInCallbacks c → (f : Callee) → is_
 script_no_code {c = c} codes f plain x p = grind (arith, codes.starts f, codes.reacts f, codes.slots f.instance)
 
 -- who ends an activation is of a callback export
-code_callback : {c : Component} → CodesInCallbacks c → (n : ℕ) (s : Core) → CallsHold c s → ends_activation (op_of c n s) ≡ true →
+pub code_callback : {c : Component} → CodesInCallbacks c → (n : ℕ) (s : Core) → CallsHold c s → ends_activation (op_of c n s) ≡ true →
     (n ≤ s.made.threads) × IsCallback n s
 unfolding op_of script_of
 code_callback {c = c} codes n s h code = grind (arith, script_no_code, h.numbered.threads n, h.kinds (task_of n s))
 
-shifted_delivers : (may : Why → Type 0) (o p : Option Place) → Moved may o p → delivered_in p ≡ true →
+pub shifted_delivers : (may : Why → Type 0) (o p : Option Place) → Moved may o p → delivered_in p ≡ true →
     (is_some o ≡ true) × ((delivered_in o ≡ true) ⊎ ((w : Why) × (may w × (is_delivery w ≡ true))))
 shifted_delivers may o p came d = grind arith
 
-turned_silent : {a : Scene} {s t : Core} {n : ℕ} {o p : Option Place} → Turned a s t n o p → delivered_in p ≡ true → ⊥
+pub turned_silent : {a : Scene} {s t : Core} {n : ℕ} {o p : Option Place} → Turned a s t n o p → delivered_in p ≡ true → ⊥
 turned_silent x d = grind arith
 
 module _ {starts delivers : Type 0} {ends : CallEnd → Type 0} {joins : Join → Type 0} {c d : Call}

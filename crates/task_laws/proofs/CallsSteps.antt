@@ -1,12 +1,10 @@
 -- Calls along the words of a step, along steps and along runs.
-use Rattle.std.proofs.Common.{arith, le_refl, le_trans, refl, subst, sym, ◌∙◌}
-use Rattle.std.specs.Prelude.{List, Option, Some, [], false, true, ℕ, ◌∷◌, ◌≡◌, ◌≤◌}
+use Rattle.task_rules.proofs.Machine.{[], after_word, Allowed, arith, base_at, Call, CallEnd, Component, component_of, Core, false, fresh, get, get-empty, is_async_lifted, is_callback, kind_of, Label, LastWords, LaterBy, le_refl, le_trans, List, MayDeliver, MayEnd, opening, Option, place_of, Queues, refl, Run, SameThread, Scene, scene_of, Setting, Some, State, Step, subst, sym, task_of, Thread, true, Turn, Walked, Word, ℕ, ◌∙◌, ◌∷◌, ◌≡◌, ◌≤◌}
 use Rattle.task_laws.proofs.Basics.{some_none, too_high}
 use Rattle.task_laws.proofs.CallsCame.{CallAfter, Grown, NewCall, NoCall, ThreadAfter, call_came, thread_came}
 use Rattle.task_laws.proofs.CallsLaw.{CallsGo, CallsHold, Goes, GoneOr, KindHolds, base_task, delivered_in, goes_after, goes_of, goes_same, kept_callback, kind_kept, later_after, later_none, later_same, place_delivers, ready_delivered, rises_after, rises_same}
 use Rattle.task_laws.proofs.CameLemmas.{came_word}
 use Rattle.task_laws.proofs.CountLemmas.{made_threads_word}
-use Rattle.task_rules.proofs.Machine.{after_word, Allowed, base_at, Call, CallEnd, Component, component_of, Core, fresh, get, get-empty, is_async_lifted, is_callback, kind_of, Label, LastWords, LaterBy, MayDeliver, MayEnd, opening, place_of, Queues, Run, SameThread, Scene, scene_of, Setting, State, Step, task_of, Thread, Turn, Walked, Word}
 use Rattle.task_laws.proofs.SceneLemmas.{base_is}
 use Rattle.task_laws.specs.Order.{DeliveredByCallback, ThreadNumbered}
 use Rattle.task_laws.specs.Rises.{CallsRise, ExplicitNamesNoCall, Rises, RunsRise, StepsRise, SyncEndsLast, SyncNeverCancelled}

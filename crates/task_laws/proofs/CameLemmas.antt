@@ -1,10 +1,7 @@
 -- What one word does to the place of a thread.
-use Rattle.std.proofs.Common.{ap, arith, inl, inr, refl, sym, ◌∙◌}
-use Rattle.std.proofs.lemmas.Bool.Decides.{nat_tests}
-use Rattle.std.specs.Prelude.{List, None, Option, Some, [], is_some, option_map, true, ℕ, ◌∷◌, ◌≡◌, ◌≤◌, ◌⊎◌}
+use Rattle.task_rules.proofs.Machine.{[], after_word, Allowed, ap, arith, behind, behind_one, callers_of, Core, displaced, Enter, foot_of, GoBehind, inl, inr, insert, is_some, IsRunner, List, Mark, MayMove, MayPut, MayYield, Move, nat_tests, newest, next_thread, None, older, on_thread, Option, option_map, passed_on, Place, place_of, Places, Placing, Pop, Promote, promoted, push_high, push_high_first, push_low, Put, put_at, put_high, put_low, put_switch, refl, resumed_all, Scene, set_callers, set_high, set_low, set_place, set_switch, Some, stand, Stop, stopped, sym, Thread, true, unqueued, Why, why_of, Word, ℕ, ◌∙◌, ◌∷◌, ◌≡◌, ◌≤◌, ◌⊎◌}
 use Rattle.task_laws.proofs.CallsCame.{IsBeside, IsFirst, IsGone, IsSame, ThreadAfter, thread_came}
 use Rattle.task_laws.proofs.EachLemmas.{after_change}
-use Rattle.task_rules.proofs.Machine.{after_word, Allowed, behind, behind_one, callers_of, Core, displaced, Enter, foot_of, GoBehind, insert, IsRunner, Mark, MayMove, MayPut, MayYield, Move, newest, next_thread, older, on_thread, passed_on, Place, place_of, Places, Placing, Pop, Promote, promoted, push_high, push_high_first, push_low, Put, put_at, put_high, put_low, put_switch, resumed_all, Scene, set_callers, set_high, set_low, set_place, set_switch, stand, Stop, stopped, Thread, unqueued, Why, why_of, Word}
 use Rattle.task_laws.proofs.SceneLemmas.{popped_threads}
 use Rattle.task_machine.proofs.MapLemmas.{change-field}
 use Rattle.task_machine.specs.declared.records.Place.TheVariants as place
@@ -163,8 +160,8 @@ module _ {a : Scene} where
   came_word w s ok k = go (thread_came w s ok k)
     where
       go : ThreadAfter a w s k → PlaceAfter a w s k
-      go (IsSame r u e f c x h (inl same)) = rw (e, f, same) (stays (Some r.place))
-      go (IsSame r u e f c x h (inr y)) = placed_came y.0 w s y.1 ok k
+      go (IsSame r u e f c x h (inl same) z) = rw (e, f, same) (stays (Some r.place))
+      go (IsSame r u e f c x h (inr y) z) = placed_came y.0 w s y.1 ok k
       go (IsGone e) = rw e (Turns (Leaves refl))
       go (IsBeside u is l same m e) = rw e (Turns (IsMade is l (ap (λ (r : Thread). Some r.place) m.1.1.1.1.1.0)))
-      go (IsFirst u is l there x y h new e) = rw e (Turns (IsMade is l (ap (λ (p : Place). Some p) new)))
+      go (IsFirst u is l there x y h new e z) = rw e (Turns (IsMade is l (ap (λ (p : Place). Some p) new)))

@@ -1,35 +1,20 @@
 -- A step makes few: of threads, works, sets and groups at most one each.
-use Rattle.std.proofs.Common.{arith, le_refl}
-use Rattle.std.specs.Prelude.{ℕ, ◌+◌, ◌≡◌, ◌≤◌}
-use Rattle.task_rules.proofs.Machine.{add_call, add_group, add_set, add_thread, add_work, AddGroup, after_word, Allowed, call_made, Core, count_work, CountWork, free_handle, free_thread_handle, give_handle, give_result, give_thread_handle, MakeCall, MakeThread, on_call, on_instance, on_thread, on_work, OpenSet, poll_pends, push_high, QueueWork, remove_call, remove_group, remove_set, remove_thread, remove_work, Scene, set_backpressure, set_cancel_delivered, set_cancelled, set_course, set_do_not_enter, set_do_not_suspend, set_end, set_event, set_exited, set_how_far, set_join, set_own_event, set_phase, set_position, set_register, set_result, set_saved_callee, set_saved_own, set_script, set_stage, set_started, set_starting_published, set_subtask_handle, set_thread_handle, set_trapped, set_uninteresting, set_word, take_result, with_handle, with_thread_handle, Word, work_queued}
+use Rattle.task_rules.proofs.Machine.{add_call, add_group, add_set, add_thread, add_work, AddGroup, after_word, Allowed, arith, call_made, Core, count_work, free_handle, free_thread_handle, give_handle, give_result, give_thread_handle, on_call, on_instance, on_thread, on_work, poll_pends, push_high, remove_call, remove_group, remove_set, remove_thread, remove_work, Scene, set_backpressure, set_cancel_delivered, set_cancelled, set_course, set_do_not_enter, set_do_not_suspend, set_end, set_event, set_exited, set_how_far, set_join, set_own_event, set_phase, set_position, set_register, set_result, set_saved_callee, set_saved_own, set_script, set_stage, set_started, set_starting_published, set_subtask_handle, set_thread_handle, set_trapped, set_uninteresting, set_word, take_result, with_handle, with_thread_handle, Word, work_queued, ◌≤◌}
 use Rattle.task_laws.specs.Order.{MakesFew}
-
-one_more : (n b : ℕ) → n ≡ b → n + 1 ≤ b + 1
-one_more n b e = omega (arith, e)
 
 pub few_word : (a : Scene) (w : Word) (s : Core) → Allowed a w s → MakesFew a.base s → MakesFew a.base (after_word w s)
 unfolding add_call add_group add_set add_thread add_work count_work free_handle free_thread_handle give_handle give_result give_thread_handle on_call on_instance on_thread on_work push_high remove_call remove_group remove_set remove_thread remove_work set_backpressure set_cancel_delivered set_cancelled set_course set_do_not_enter set_do_not_suspend set_end set_event set_exited set_how_far set_join set_own_event set_phase set_position set_register set_result set_saved_callee set_saved_own set_script set_stage set_started set_starting_published set_subtask_handle set_thread_handle set_trapped set_uninteresting set_word take_result call_made with_handle with_thread_handle work_queued poll_pends
-few_word a (MakeThread t) s ok q = record { threads = one_more _ _ ok.1.1.0; works = q.works; sets = q.sets; groups = q.groups }
-few_word a (MakeCall f e x g k words) s ok q = record { threads = one_more _ _ ok.1.0; works = q.works; sets = q.sets; groups = q.groups }
-few_word a CountWork s ok q = record { threads = q.threads; works = one_more _ _ ok; sets = q.sets; groups = q.groups }
-few_word a (QueueWork f host group) s ok q = record { threads = q.threads; works = one_more _ _ ok.0; sets = q.sets; groups = q.groups }
-few_word a (OpenSet i) s ok q = record { threads = q.threads; works = q.works; sets = one_more _ _ ok.0; groups = q.groups }
-few_word a AddGroup s ok q = record { threads = q.threads; works = q.works; sets = q.sets; groups = one_more _ _ ok }
-few_word a w s ok q = record { threads = q.threads; works = q.works; sets = q.sets; groups = q.groups }
-
-grows : (n : ℕ) → n ≤ n + 1
-grows n = omega arith
+few_word a AddGroup s ok q = omega arith
+few_word a w s ok q = omega arith
 
 -- no word lowers the count of threads
 pub made_threads_word : (a : Scene) (w : Word) (s : Core) → s.made.threads ≤ (after_word w s).made.threads
 unfolding add_call add_group add_set add_thread add_work count_work free_handle free_thread_handle give_handle give_result give_thread_handle on_call on_instance on_thread on_work push_high remove_call remove_group remove_set remove_thread remove_work set_backpressure set_cancel_delivered set_cancelled set_course set_do_not_enter set_do_not_suspend set_end set_event set_exited set_how_far set_join set_own_event set_phase set_position set_register set_result set_saved_callee set_saved_own set_script set_stage set_started set_starting_published set_subtask_handle set_thread_handle set_trapped set_uninteresting set_word take_result call_made with_handle with_thread_handle work_queued poll_pends
-made_threads_word a (MakeThread t) s = grows _
-made_threads_word a (MakeCall f e x g group words) s = grows _
-made_threads_word a w s = le_refl _
+made_threads_word a AddGroup s = omega arith
+made_threads_word a w s = omega arith
 
 -- nor that of works
 pub made_works_word : (a : Scene) (w : Word) (s : Core) → s.made.works ≤ (after_word w s).made.works
 unfolding add_call add_group add_set add_thread add_work count_work free_handle free_thread_handle give_handle give_result give_thread_handle on_call on_instance on_thread on_work push_high remove_call remove_group remove_set remove_thread remove_work set_backpressure set_cancel_delivered set_cancelled set_course set_do_not_enter set_do_not_suspend set_end set_event set_exited set_how_far set_join set_own_event set_phase set_position set_register set_result set_saved_callee set_saved_own set_script set_stage set_started set_starting_published set_subtask_handle set_thread_handle set_trapped set_uninteresting set_word take_result call_made with_handle with_thread_handle work_queued poll_pends
-made_works_word a CountWork s = grows _
-made_works_word a (QueueWork f host group) s = grows _
-made_works_word a w s = le_refl _
+made_works_word a AddGroup s = omega arith
+made_works_word a w s = omega arith

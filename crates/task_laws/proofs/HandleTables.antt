@@ -1,8 +1,5 @@
 -- Handle tables: a handle that is given isn't live, and one that was freed isn't either.
-use Rattle.std.proofs.Common.{arith, refl}
-use Rattle.std.proofs.lemmas.Bool.Decides.{nat_tests}
-use Rattle.std.specs.Prelude.{List, None, Some, [], ℕ, ◌+◌, ◌∷◌, ◌≡◌}
-use Rattle.task_rules.proofs.Machine.{get, get-insert, get-remove, giving, insert, less_one, next_handle, size, Table, taking}
+use Rattle.task_rules.proofs.Machine.{[], arith, get, get-insert, get-remove, giving, insert, less_one, List, nat_tests, next_handle, None, refl, size, Some, Table, taking, ℕ, ◌+◌, ◌∷◌, ◌≡◌}
 use Rattle.task_laws.specs.Order.{TableKept}
 use Rattle.task_machine.proofs.SizeLemmas.{size-insert_new, size-remove_present}
 

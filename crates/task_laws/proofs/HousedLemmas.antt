@@ -1,13 +1,7 @@
 -- The call of each thread is there, along the words of a step.
-use Rattle.std.proofs.Common.{arith}
-use Rattle.std.proofs.lemmas.Bool.Decides.{nat_tests}
+use Rattle.task_rules.proofs.Machine.{[], after_word, Allowed, arith, Bool, Core, false, get, has_thread, is_deletable, is_some, IsRunner, List, list_any, nat_cmp, nat_tests, option_map_or, Scene, task_of, Thread, true, Word, ℕ, ◌==◌, ◌∷◌, ◌≡◌}
 use Rattle.std.specs.FinMap.Entries.{find as seek}
-use Rattle.std.specs.List.{list_any}
-use Rattle.std.specs.Option.{option_map_or}
-use Rattle.std.specs.Ordering.{nat_cmp}
-use Rattle.std.specs.Prelude.{Bool, List, [], false, is_some, true, ℕ, ◌==◌, ◌∷◌, ◌≡◌}
 use Rattle.task_laws.proofs.CallsCame.{CallAfter, ThreadAfter, call_came, thread_came}
-use Rattle.task_rules.proofs.Machine.{after_word, Allowed, Core, get, has_thread, is_deletable, IsRunner, Scene, task_of, Thread, Word}
 use Rattle.task_laws.specs.Order.{CallsThere}
 
 any_found : {X : Type 0} (test : X → Bool) (q : ℕ) (es : List (ℕ × X)) → option_map_or test (seek nat_cmp q es) false ≡ true →

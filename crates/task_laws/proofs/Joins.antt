@@ -1,17 +1,9 @@
 -- A subtask that is joined to a set is named in the set's instance: along the words of a step.
-use Rattle.std.proofs.Common.{arith, inl, inr, refl, ⊎_elim}
-use Rattle.std.proofs.lemmas.Bool.Decides.{nat_tests}
-use Rattle.std.proofs.lemmas.List.Folds.{list_any-append}
-use Rattle.std.specs.Cmp.{unsigned_tied}
+use Rattle.task_rules.proofs.Machine.{[], add_call, add_group, add_set, add_thread, add_work, after_word, Allowed, arith, Bool, Call, call_made, change, CloseSet, Core, count_work, false, free_handle, free_thread_handle, fresh, get, get-empty, get-insert, get-remove, give_handle, give_result, give_thread_handle, giving, has_member, inl, inr, instance_of, is_joined, is_member, is_some, Join, join_of, List, list_any, list_any-append, map, MayJoin, NameCall, Named, named_by, NameWork, nat_cmp, nat_tests, next_handle, no_handles, None, numbers, on_call, on_instance, on_thread, on_work, OpenSet, Option, option_map_or, poll_pends, push_high, Records, refl, remove_call, remove_group, remove_set, remove_thread, remove_work, Scene, Set, set_backpressure, set_cancel_delivered, set_cancelled, set_course, set_do_not_enter, set_do_not_suspend, set_end, set_event, set_exited, set_how_far, set_join, set_own_event, set_phase, set_position, set_register, set_result, set_saved_callee, set_saved_own, set_script, set_stage, set_started, set_starting_published, set_subtask_handle, set_thread_handle, set_trapped, set_uninteresting, set_word, SetCallJoin, SetWorkJoin, Some, Subtask, subtask_at, Table, take_result, taking, true, UnnameCall, UnnameWork, unsigned_tied, with_handle, with_thread_handle, Word, Work, work_queued, ℕ, ⊎_elim, ◌∷◌, ◌≡◌, ◌≤◌, ◌⊎◌}
 use Rattle.std.specs.FinMap.Entries.{find}
-use Rattle.std.specs.List.{list_any}
-use Rattle.std.specs.Option.{option_map_or}
-use Rattle.std.specs.Ordering.{nat_cmp}
-use Rattle.std.specs.Prelude.{Bool, List, None, Option, Some, [], false, is_some, map, true, ℕ, ◌∷◌, ◌≡◌, ◌≤◌, ◌⊎◌}
 use Rattle.task_laws.proofs.CallsCame.{CallAfter, Grown, NewCall, NoCall, call_came}
 use Rattle.task_laws.proofs.EachLemmas.{each_change, each_get, each_of}
 use Rattle.task_laws.proofs.HandleTables.{giving_kept, next_dead, taking_kept}
-use Rattle.task_rules.proofs.Machine.{add_call, add_group, add_set, add_thread, add_work, after_word, Allowed, Call, call_made, change, CloseSet, Core, count_work, EndWork, FinishWork, free_handle, free_thread_handle, fresh, get, get-empty, get-insert, get-remove, give_handle, give_result, give_thread_handle, giving, has_member, instance_of, is_joined, is_member, Join, join_of, MayJoin, NameCall, Named, named_by, NameWork, next_handle, no_handles, numbers, on_call, on_instance, on_thread, on_work, OpenSet, Pend, poll_pends, push_high, QueueWork, Records, remove_call, remove_group, remove_set, remove_thread, remove_work, RemoveWork, Scene, Set, set_backpressure, set_cancel_delivered, set_cancelled, set_course, set_do_not_enter, set_do_not_suspend, set_end, set_event, set_exited, set_how_far, set_join, set_own_event, set_phase, set_position, set_register, set_result, set_saved_callee, set_saved_own, set_script, set_stage, set_started, set_starting_published, set_subtask_handle, set_thread_handle, set_trapped, set_uninteresting, set_word, SetCallJoin, SetCancelled, SetPhase, SetWorkJoin, Subtask, subtask_at, Table, take_result, TakeHost, TakePush, TakeWorkEvent, taking, UnnameCall, UnnameWork, with_handle, with_thread_handle, Word, Work, work_queued}
 use Rattle.task_laws.proofs.ReachLemmas.{filled_with}
 use Rattle.task_laws.proofs.SetHandles.{home_in, subtask_in}
 use Rattle.task_laws.specs.Order.{JoinNamed, JoinsNamed, SetsNamed, TableKept}
@@ -82,21 +74,9 @@ moved_join a s n k x j same to m = rw same (rw to at m)
 host_joined : (a : Scene) (w : Word) (s : Core) → Allowed a w s → (k x : ℕ) → join_of (subtask.Host k) (after_word w s) ≡ join.Set x →
     (join_of (subtask.Host k) s ≡ join.Set x) ⊎ Joins a w s (subtask.Host k) x
 unfolding on_thread add_group add_set add_work count_work free_handle free_thread_handle give_handle give_result give_thread_handle on_call on_instance on_work push_high remove_call remove_group remove_set remove_work remove_thread set_backpressure set_cancel_delivered set_cancelled set_course set_do_not_enter set_do_not_suspend set_end set_event set_exited set_how_far set_join set_own_event set_phase set_position set_register set_result set_saved_callee set_saved_own set_script set_stage set_started set_starting_published set_subtask_handle set_thread_handle set_trapped set_uninteresting set_word take_result call_made add_call add_thread with_handle with_thread_handle work_queued poll_pends
-host_joined a (QueueWork f host group) s ok k x h = inl (grind (arith, nat_tests, get-insert))
-host_joined a (RemoveWork n) s ok k x h = inl (grind (arith, nat_tests, get-remove))
 host_joined a (SetWorkJoin n j) s ok k x h =
     ⊎_elim (λ e. inl e) (λ e. inr (moved_join a s n k x j e.0 e.1 ok, (refl, refl))) (joined s.works k n x j h)
-host_joined a (TakePush m i) s ok k x h = inl (grind (arith, nat_tests, get-change))
-host_joined a (TakeHost m i) s ok k x h = inl (grind (arith, nat_tests, get-change))
-host_joined a (Pend i host) s ok k x h = inl (grind (arith, nat_tests, get-change))
-host_joined a (EndWork i c) s ok k x h = inl (grind (arith, nat_tests, get-change))
-host_joined a (FinishWork i c) s ok k x h = inl (grind (arith, nat_tests, get-change))
-host_joined a (SetPhase i p) s ok k x h = inl (grind (arith, nat_tests, get-change))
-host_joined a (SetCancelled i) s ok k x h = inl (grind (arith, nat_tests, get-change))
-host_joined a (TakeWorkEvent i) s ok k x h = inl (grind (arith, nat_tests, get-change))
-host_joined a (NameWork i n) s ok k x h = inl (grind (arith, nat_tests, get-change))
-host_joined a (UnnameWork i g n) s ok k x h = inl (grind (arith, nat_tests, get-change))
-host_joined a w s ok k x h = inl h
+host_joined a w s ok k x h = inl (first_of (assumption, grind (arith, nat_tests, get-change, get-insert, get-remove)))
 
 -- ---- The law
 

@@ -14,7 +14,9 @@ pub mod CountLemmas
 pub mod CallsCame
 pub mod CallsLaw
 pub mod CallsSteps
+pub mod FitLemmas
 pub mod OneHolder
+pub mod Exported
 pub mod PolledWorks
 pub mod Works
 pub mod SaidEnds
@@ -23,4 +25,6 @@ pub mod OnceLemmas
 pub mod HostEnds
 pub mod GuestEnds
 pub mod WrittenLaws
+pub mod NamedCalls
 pub mod NamedWorks
+pub mod SyncWorks

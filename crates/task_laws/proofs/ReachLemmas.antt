@@ -1,9 +1,6 @@
 -- What each word of a step keeps holds in each reached state.
 use Rattle.task_laws.proofs.Basics.{some_none}
-use Rattle.std.proofs.Common.{arith, sym, ◌∙◌}
-use Rattle.std.proofs.lemmas.Bool.Decides.{nat_tests}
-use Rattle.std.specs.Prelude.{List, Some, [], ℕ, ◌∷◌, ◌≡◌}
-use Rattle.task_rules.proofs.Machine.{after_word, Allowed, Core, filled, fresh, get, get-empty, get-insert, Label, opening, Run, Scene, scene_of, Setting, State, Step, Word}
+use Rattle.task_rules.proofs.Machine.{[], after_word, Allowed, arith, Core, filled, fresh, get, get-empty, get-insert, Label, List, nat_tests, opening, Run, Scene, scene_of, Setting, Some, State, Step, sym, Word, ℕ, ◌∙◌, ◌∷◌, ◌≡◌}
 use Rattle.task_laws.specs.Settings.{Reached}
 use Rattle.task_rules.proofs.ChainLemmas.{along}
 use Rattle.task_rules.proofs.WalkSteps.{step_walks}

@@ -1,9 +1,7 @@
 -- Who is under whom, along the words of a step.
-use Rattle.std.proofs.Common.{arith, inl, inr}
-use Rattle.std.specs.Prelude.{Option, Some, is_some, true, ℕ, ◌+◌, ◌≡◌, ◌≤◌, ◌⊎◌}
+use Rattle.task_rules.proofs.Machine.{after_word, Allowed, arith, Core, inl, inr, is_some, is_there, IsRunner, MayMove, next_thread, Option, Place, place_of, Scene, Some, true, Why, Word, ℕ, ◌+◌, ◌≡◌, ◌≤◌, ◌⊎◌}
 use Rattle.task_laws.proofs.CameLemmas.{Came, Comes, Moved, Shifts, Turned, Turns, came_word}
 use Rattle.task_laws.proofs.CountLemmas.{made_threads_word}
-use Rattle.task_rules.proofs.Machine.{after_word, Allowed, Core, is_there, IsRunner, MayMove, next_thread, Place, place_of, Scene, Why, Word}
 use Rattle.task_machine.specs.declared.records.Place.TheVariants as place
 
 -- On the way of a step: who is under a thread that was made now is the running one.

@@ -1,10 +1,7 @@
 -- Each call that a handle names, or that an op under way is about, was made as a call: along the words of a step.
-use Rattle.std.proofs.Common.{arith, inl, inr, refl, ⊎_elim}
-use Rattle.std.proofs.lemmas.Bool.Decides.{nat_tests}
-use Rattle.std.specs.Prelude.{IfSome, Some, option_and_then, ℕ, ◌+◌, ◌≡◌, ◌⊎◌}
+use Rattle.task_rules.proofs.Machine.{add_call, add_group, add_set, add_thread, add_work, after_word, Allowed, ap, arith, as_subtask, ByHandle, ByOp, call_made, change, CloseSet, Core, count_work, free_handle, free_thread_handle, fresh, get-empty, get-remove, give_handle, give_result, give_thread_handle, giving, HasSubtask, HowFar, IfSome, inl, inr, IsNew, MayCome, NameCall, Named, named_by, NameWork, nat_tests, on_call, on_instance, on_thread, on_work, OpenSet, option_and_then, poll_pends, push_high, refl, remove_call, remove_group, remove_set, remove_thread, remove_work, Scene, set_backpressure, set_cancel_delivered, set_cancelled, set_course, set_do_not_enter, set_do_not_suspend, set_end, set_event, set_exited, set_how_far, set_join, set_own_event, set_phase, set_position, set_register, set_result, set_saved_callee, set_saved_own, set_script, set_stage, set_started, set_starting_published, set_subtask_handle, set_thread_handle, set_trapped, set_uninteresting, set_word, Some, Subtask, subtask_at, subtask_under_way, take_result, Thread, UnnameCall, UnnameWork, with_handle, with_thread_handle, Word, work_queued, ℕ, ⊎_elim, ◌+◌, ◌≡◌, ◌⊎◌}
 use Rattle.task_laws.proofs.CallsCame.{ThreadAfter, op_came, thread_came}
 use Rattle.task_laws.proofs.CountLemmas.{made_threads_word}
-use Rattle.task_rules.proofs.Machine.{add_call, add_group, add_set, add_thread, add_work, after_word, Allowed, as_subtask, ByHandle, ByOp, call_made, change, CloseSet, Core, count_work, free_handle, free_thread_handle, fresh, get-empty, get-remove, give_handle, give_result, give_thread_handle, giving, HasSubtask, HowFar, IsNew, MayCome, NameCall, Named, named_by, NameWork, on_call, on_instance, on_thread, on_work, OpenSet, poll_pends, push_high, remove_call, remove_group, remove_set, remove_thread, remove_work, Scene, set_backpressure, set_cancel_delivered, set_cancelled, set_course, set_do_not_enter, set_do_not_suspend, set_end, set_event, set_exited, set_how_far, set_join, set_own_event, set_phase, set_position, set_register, set_result, set_saved_callee, set_saved_own, set_script, set_stage, set_started, set_starting_published, set_subtask_handle, set_thread_handle, set_trapped, set_uninteresting, set_word, Subtask, subtask_at, subtask_under_way, take_result, Thread, UnnameCall, UnnameWork, with_handle, with_thread_handle, Word, work_queued}
 use Rattle.task_laws.proofs.SetHandles.{given_names, none_named}
 use Rattle.task_laws.specs.Order.{CallsNamed, WasCall}
 use Rattle.task_machine.proofs.CommuteLemmas.{get-change}
@@ -39,11 +36,12 @@ module _ (a : Scene) (s : Core) where
   handle_named w ok i h sub e = inl e
 
   named_known : (sub : Subtask) → NamedNow a s sub → Known a s sub
-  named_known (subtask.Guest k) now = (now.1.0, now.1.1.1.1)
+  named_known (subtask.Guest k) now = (now.1.0, inl (ByOp (ap (λ f. subtask_under_way f) now.1.1.1.1.0)))
   named_known (subtask.Host i) now = (now.1.0.0, now.1.0.1.1.1)
 
   come_known : (n : ℕ) (f : HowFar) → MayCome a n f s → IfSome (subtask_under_way f) (Known a s)
-  come_known n (how_far.Calls (subtask.Guest k)) ok = (n, ok.1)
+  come_known n (how_far.Calls (subtask.Guest k)) (is, inl was) = (n, inl (ByOp (ap (λ f. subtask_under_way f) was.0)))
+  come_known n (how_far.Calls (subtask.Guest k)) (is, inr new) = (n, inr new.0)
   come_known n (how_far.Calls (subtask.Host i)) ok = (n, inr ok.1.0)
   come_known n (how_far.Cancels sub) ok = (n, inl ok.1)
   come_known n (how_far.AwaitsEnd sub) ok = (n, inl ok.1)

@@ -1,11 +1,8 @@
 -- Of which instance the sets are that threads wait on, along the words of a step.
-use Rattle.std.proofs.Common.{ap, arith, inl, inr, refl, ⊎_elim}
-use Rattle.std.proofs.lemmas.Bool.Decides.{nat_tests}
-use Rattle.std.specs.Prelude.{IfSome, None, Option, Some, option_and_then, true, ℕ, ◌≡◌, ◌⊎◌}
+use Rattle.task_rules.proofs.Machine.{add_call, add_group, add_set, add_thread, add_work, after_word, Allowed, ap, arith, AwaitsEvent, Blocks, ByDelivery, BySetHandle, ByWait, call_made, CloseSet, ComesAgain, Core, count_work, FindsEvent, free_handle, free_thread_handle, get-insert, get-remove, give_handle, give_result, give_thread_handle, HasSet, Holds, how_far_of, HowFar, IfSome, inl, inr, instance_of, is_there, IsRunner, Mark, MayCome, MayMove, MayPut, MayYield, nat_tests, None, on_call, on_instance, on_thread, on_work, OpenSet, Option, option_and_then, Place, place_of, poll_pends, push_high, refl, remove_call, remove_group, remove_set, remove_thread, remove_work, Runs, Scene, set_backpressure, set_cancel_delivered, set_cancelled, set_course, set_do_not_enter, set_do_not_suspend, set_end, set_event, set_exited, set_how_far, set_join, set_own_event, set_phase, set_position, set_register, set_result, set_saved_callee, set_saved_own, set_script, set_stage, set_started, set_starting_published, set_subtask_handle, set_thread_handle, set_trapped, set_uninteresting, set_word, Some, Suspends, take_result, true, Uncovers, Waits, WaitsAgain, Why, with_handle, with_thread_handle, Word, work_queued, Yields, ℕ, ⊎_elim, ◌≡◌, ◌⊎◌}
 use Rattle.task_laws.proofs.Basics.{above}
 use Rattle.task_laws.proofs.CallsCame.{op_came}
 use Rattle.task_laws.proofs.CameLemmas.{Came, Comes, MayStand, Moved, Shifts, Turned, Turns, came_word}
-use Rattle.task_rules.proofs.Machine.{add_call, add_group, add_set, add_thread, add_work, after_word, Allowed, AwaitsEvent, Blocks, ByDelivery, BySetHandle, ByWait, call_made, CloseSet, ComesAgain, Core, count_work, FindsEvent, free_handle, free_thread_handle, get-insert, get-remove, give_handle, give_result, give_thread_handle, HasSet, Holds, how_far_of, HowFar, instance_of, is_there, IsRunner, Mark, MayCome, MayMove, MayPut, MayYield, on_call, on_instance, on_thread, on_work, OpenSet, Place, place_of, poll_pends, push_high, remove_call, remove_group, remove_set, remove_thread, remove_work, Runs, Scene, set_backpressure, set_cancel_delivered, set_cancelled, set_course, set_do_not_enter, set_do_not_suspend, set_end, set_event, set_exited, set_how_far, set_join, set_own_event, set_phase, set_position, set_register, set_result, set_saved_callee, set_saved_own, set_script, set_stage, set_started, set_starting_published, set_subtask_handle, set_thread_handle, set_trapped, set_uninteresting, set_word, Suspends, take_result, Uncovers, Waits, WaitsAgain, Why, with_handle, with_thread_handle, Word, work_queued, Yields}
 use Rattle.task_laws.specs.Order.{IsOf, SetsNamed, WaitsAtHome, set_of_op, set_of_place, set_of_why}
 use Rattle.task_machine.specs.declared.records.HowFar.TheVariants as how_far
 use Rattle.task_machine.specs.declared.records.Place.TheVariants as place

@@ -5,3 +5,4 @@ pub mod Written
 pub mod Handles
 pub mod Order
 pub mod Ends
+pub mod Exports

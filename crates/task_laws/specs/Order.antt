@@ -7,11 +7,11 @@ use Rattle.task_machine.specs.declared.records.Entry.{Entry}
 use Rattle.task_machine.specs.declared.records.Subtask.{Subtask}
 use Rattle.task_machine.specs.declared.records.Named.{Named}
 use Rattle.task_rules.specs.Allowed.{subtask_under_way}
-use Rattle.std.specs.Prelude.{Bool, None, Option, Some, false, is_none, is_some, option_and_then, option_map, true, ℕ, ◌+◌, ◌≡◌, ◌≤◌, length, List, [], ◌∷◌, ◌==◌}
+use Rattle.std.specs.Prelude.{Bool, None, Option, Some, false, is_none, is_some, option_and_then, option_map, true, ℕ, ◌+◌, ◌≡◌, ◌≤◌, length, List, [], ◌∷◌, ◌==◌, ◌⊎◌}
 use Rattle.task_laws.specs.Settings.{CodesInCallbacks}
 use Rattle.task_machine.specs.Core.{Core, Main, State, Table}
 use Rattle.task_machine.specs.Maps.{get, size}
-use Rattle.task_machine.specs.Read.{how_far_of, instance_of, is_async_lifted, is_callback, is_direct, is_explicit, goal_of, kind_of, place_of, task_of, set_at, subtask_at, join_of}
+use Rattle.task_machine.specs.Read.{call_instance, how_far_of, instance_of, is_async_lifted, is_callback, is_direct, is_explicit, goal_of, kind_of, place_of, task_of, set_at, subtask_at, join_of, is_stage_ended, stage_of}
 use Rattle.task_machine.specs.declared.component.Component.{Component}
 use Rattle.task_machine.specs.declared.label.Label.{Label}
 use Rattle.task_machine.specs.declared.records.Call.{Call}
@@ -29,7 +29,9 @@ use Rattle.task_machine.specs.declared.records.Why.{Why}
 use Rattle.task_machine.specs.declared.records.Why.TheVariants as why
 use Rattle.task_rules.specs.Places.{Placed, is_fresh, times, one_if}
 use Rattle.task_rules.specs.Run.{opening}
-use Rattle.task_rules.specs.Scripts.{export_kind}
+use Rattle.task_rules.specs.Scripts.{export_kind, is_script, script_of_thread, slot_at}
+use Rattle.task_machine.specs.declared.records.Script.{Script}
+use Rattle.task_machine.specs.declared.records.Script.TheVariants as script
 use Rattle.task_rules.specs.Stalled.{Setting}
 use Rattle.task_rules.specs.Step.{Step}
 
@@ -158,6 +160,28 @@ abbrev pub DeliveredByCallback : Core → Type 0
 DeliveredByCallback s = (n : ℕ) (t : Thread) → get s.threads n ≡ Some t → is_delivered t.place ≡ true →
     is_callback (kind_of t.call s) ≡ true
 
+-- ---- Scripts
+
+-- a first thread runs a script of its call's export, another one that of a slot of the instance
+abbrev pub names_script : Component → ℕ → Bool → Script → Bool
+names_script c i true (script.Slot x) = is_script (slot_at c i x)
+names_script c i false script.Start = true
+names_script c i false script.React = true
+names_script c i explicit x = false
+
+-- The thread fits the component: it runs a script that it may run, and is at a place in it, or at its end. Deliveries are for first
+-- threads.
+pub record ThreadFits (c : Component) (s : Core) (t : Thread) : Type 0 where
+  pub script : names_script c (call_instance t.call s) t.explicit t.script ≡ true
+  pub position : t.position ≤ length (script_of_thread c s t)
+  pub first : is_delivered t.place ≡ true → t.explicit ≡ false
+
+-- each thread fits the component
+abbrev pub Fits : Component → Core → Type 0
+Fits c s = (n : ℕ) (t : Thread) → get s.threads n ≡ Some t → ThreadFits c s t
+
+-- ---- Starts and direct calls
+
 -- the first thread of a call whose start hasn't run waits for it, or is gone
 abbrev pub StartsAwaited : Core → Type 0
 StartsAwaited s = (k : ℕ) (c : Call) → get s.calls k ≡ Some c → c.started ≡ false → is_fresh (place_of k s) ≡ true
@@ -195,12 +219,17 @@ pub record WorkEntries (s : Core) (i : ℕ) (w : Work) : Type 0 where
   pub push : stands (is_push_of i) s.queues.high ≡ one_if (is_queued w.stage)
   pub host : stands (is_host_of i) s.queues.high ≡ one_if (is_finishing w.stage)
 
--- Each work that is there has its entries. None is at low, nor of a number that wasn't given.
+-- Each work that is there has its entries, and one that is gone has none. None is at low.
 pub record WorksQueued (s : Core) : Type 0 where
   pub each : (i : ℕ) (w : Work) → get s.works i ≡ Some w → WorkEntries s i w
   pub low : (i : ℕ) → (stands (is_push_of i) s.queues.low ≡ 0) × (stands (is_host_of i) s.queues.low ≡ 0)
   pub made : (i : ℕ) → is_some (get s.works i) ≡ true → i ≤ s.made.works
-  pub ungiven : (i : ℕ) → s.made.works + 1 ≤ i → (stands (is_push_of i) s.queues.high ≡ 0) × (stands (is_host_of i) s.queues.high ≡ 0)
+  pub gone : (i : ℕ) → get s.works i ≡ None → (stands (is_push_of i) s.queues.high ≡ 0) × (stands (is_host_of i) s.queues.high ≡ 0)
+
+-- a thread inside a sync call of a host is blocked on its work, which was made, or that has ended
+abbrev pub HostsAwaited : Core → Type 0
+HostsAwaited s = (n i : ℕ) → how_far_of n s ≡ how_far.Calls (subtask.Host i) →
+    (i ≤ s.made.works) × ((place_of n s ≡ Some (place.Blocked (subtask.Host i))) ⊎ (is_stage_ended (stage_of i s) ≡ true))
 
 -- ---- Counts
 
@@ -223,6 +252,7 @@ pub record InOrder (c : Component) (s : State) : Type 0 where
   pub strands : Strands s.core
   pub directs : DirectsOnTop s.core
   pub works : WorksQueued s.core
+  pub awaited : HostsAwaited s.core
   pub numbered : Numbered s.core
   pub calls_there : CallsThere s.core
   pub calls_named : CallsNamed s.core
@@ -231,6 +261,7 @@ pub record InOrder (c : Component) (s : State) : Type 0 where
   pub waits : WaitsAtHome s.core
   pub kinds : CallKinds c s.core
   pub deliveries : DeliveredByCallback s.core
+  pub fits : Fits c s.core
   pub starts : StartsAwaited s.core
 
 -- each opening state is in order

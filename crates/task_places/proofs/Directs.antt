@@ -1,19 +1,12 @@
 -- Under the first thread of a direct call there is another one, along the words of a step.
-use Rattle.std.proofs.Common.{ap, inl, inr, subst, sym, ◌∙◌, refl, arith}
-use Rattle.std.specs.Option.{option_map_or}
-use Rattle.std.specs.Prelude.{None, Option, Some, false, is_some, option_map, true, ℕ, ◌≡◌, ◌≤◌, ◌⊎◌}
+use Rattle.task_rules.proofs.Machine.{after_word, Allowed, ap, arith, Core, false, get, goal_of, inl, inr, is_direct, is_some, None, Option, option_map, Place, place_of, refl, Scene, Some, Steady, task_of, Thread, true, Word, ℕ, ◌∙◌, ◌≡◌, ◌≤◌, ◌⊎◌}
 use Rattle.task_laws.proofs.CallsCame.{CallAfter, call_came}
 use Rattle.task_laws.specs.Order.{DirectsOnTop, Numbered}
-use Rattle.task_rules.proofs.Machine.{after_word, Allowed, Call, Core, get, Goal, goal_of, is_direct, LaterBy, LaterCall, Place, place_of, SameThread, Scene, Steady, task_of, Thread, Word}
-use Rattle.task_machine.specs.declared.records.Goal.TheVariants as goal
 use Rattle.task_machine.specs.declared.records.Place.TheVariants as place
 use Rattle.task_machine.specs.declared.records.Turn.TheVariants as turn
 use Rattle.task_places.proofs.PlaceLaw.{Arrives, no_way}
 
 -- ---- Which calls are direct
-
-abbrev goal_in : Option Call → Goal
-goal_in o = option_map_or (λ (c : Call). c.goal) o goal.Nowhere
 
 -- a direct call was so before the step, or its thread runs next
 abbrev pub DirectsRun : Scene → Core → Type 0
@@ -36,53 +29,31 @@ module _ (a : Scene) (s t : Core) (steady : Steady s t) (before : Numbered s) (a
     where
       -- it is the call's first thread
       own : (u : Thread) → get t.threads m ≡ Some u → task_of m t ≡ m
-      own u at = ap (λ (o : Option Thread). option_map_or (λ (r : Thread). r.call) o 0) at ∙ (after.threads m u at).own (sym (ap (λ (o : Option Thread). option_map_or (λ (r : Thread). r.explicit) o false) at) ∙ implicit)
+      own u at = let o = (after.threads m u at).own in grind arith
 
       of_call : (u : Thread) → get t.threads m ≡ Some u → is_direct (goal_of m t) ≡ true
-      of_call u at = ap (λ (k : ℕ). is_direct (goal_of k t)) (sym (own u at)) ∙ direct
+      of_call u at = let o = own u at in grind arith
 
       -- who was there had it under itself
       still : (r u : Thread) → get s.threads m ≡ Some r → get t.threads m ≡ Some u → (n : ℕ) × (place_of n t ≡ Some (place.Under m))
-      still r u was at = over (arrives.covered e.0 m (home e.0 ∙ e.1))
-        where
-          below : m ≤ s.made.threads
-          below = (before.threads m r was).number
-
-          same : SameThread r u
-          same = subst (λ (o : Option Thread). LaterBy SameThread o (Some u)) was (subst (λ (o : Option Thread). LaterBy SameThread (get s.threads m) o) at (steady.threads m below))
-
-          first : r.explicit ≡ false
-          first = same.explicit ∙ (sym (ap (λ (o : Option Thread). option_map_or (λ (x : Thread). x.explicit) o false) at) ∙ implicit)
-
-          was_direct : (o p : Option Call) → LaterBy LaterCall o p → is_direct (goal_in p) ≡ true → is_direct (goal_in o) ≡ true
-          was_direct None None l h = h
-          was_direct None (Some d) l h = absurd l
-          was_direct (Some c) None l h = no_way h
-          was_direct (Some c) (Some d) l h = ap (λ y. is_direct y) l.goal ∙ h
-
-          e : (n : ℕ) × (place_of n s ≡ Some (place.Under m))
-          e = top m (ap (λ (o : Option Thread). is_some (option_map (λ (x : Thread). x.place) o)) was) (ap (λ (o : Option Thread). option_map_or (λ (x : Thread). x.explicit) o false) was ∙ first)
-              (ap (λ (k : ℕ). is_direct (goal_of k s)) (ap (λ (o : Option Thread). option_map_or (λ (x : Thread). x.call) o 0) was ∙ (before.threads m r was).own first) ∙ was_direct (get s.calls m) (get t.calls m) (steady.calls m below) (of_call u at))
-
-          over : (place_of e.0 t ≡ Some (place.Under m)) ⊎ (place_of m t ≡ None) → (n : ℕ) × (place_of n t ≡ Some (place.Under m))
-          over (inl h) = (e.0, h)
-          over (inr h) = no_way (ap (λ (o : Option Place). is_some o) (sym h) ∙ there)
+      still r u was at =
+          let below = (before.threads m r was).number in
+          let same = steady.threads m below in
+          let first : r.explicit ≡ false = grind arith in
+          let call = (before.threads m r was).own first in
+          let direct = of_call u at in
+          let later = steady.calls m below in
+          let e = top m (grind arith) (grind arith) (grind arith) in
+          let c = arrives.covered e.0 m (home e.0 ∙ e.1) in (e.0, grind arith)
 
       -- who was not is the new one, which runs
-      entered : (u : Thread) → get t.threads m ≡ Some u → place_of m s ≡ None → (is_direct (goal_of m a.base) ≡ true) ⊎ (a.next ≡ turn.Run m) → (n : ℕ) × (place_of n t ≡ Some (place.Under m))
+      entered : (u : Thread) → get t.threads m ≡ Some u → place_of m s ≡ None →
+          (is_direct (goal_of m a.base) ≡ true) ⊎ (a.next ≡ turn.Run m) → (n : ℕ) × (place_of n t ≡ Some (place.Under m))
       entered u at none (inr next) = arrives.entered m (home m ∙ none) next
-      entered u at none (inl was) = by_call (get s.calls m) refl
-        where
-          gone : get s.threads m ≡ None
-          gone = go (get s.threads m) none
-            where
-              go : (o : Option Thread) → option_map (λ (x : Thread). x.place) o ≡ None → o ≡ None
-              go None h = refl
-              go (Some x) h = no_way (ap (λ (o : Option Place). is_some o) (sym h))
-
-          by_call : (o : Option Call) → get s.calls m ≡ o → (n : ℕ) × (place_of n t ≡ Some (place.Under m))
-          by_call None c = no_way (sym (ap (λ y. is_direct y) (calls m) ∙ ap (λ (o : Option Call). is_direct (goal_in o)) c) ∙ was)
-          by_call (Some d) c = absurd (subst (λ (o : Option Thread). LaterBy SameThread o (Some u)) gone (subst (λ (o : Option Thread). LaterBy SameThread (get s.threads m) o) at (steady.threads m (before.calls m d c).1)))
+      entered u at none (inl was) =
+          let is = calls m in
+          let below : m ≤ s.made.threads = grind (arith, before.calls m) in
+          let later = steady.threads m below in absurd (grind arith)
 
       by_place : (u : Thread) → get t.threads m ≡ Some u → (o : Option Place) → place_of m s ≡ o → (n : ℕ) × (place_of n t ≡ Some (place.Under m))
       by_place u at None none = entered u at none (runs m (of_call u at))

@@ -1,12 +1,9 @@
 -- Entries that are taken out, entries of works, and new threads, beside a busy thread.
-use Rattle.std.proofs.lemmas.Bool.Decides.{nat_tests}
-use Rattle.std.proofs.Common.{T, ap, arith, cond, le_refl, refl, subst, sym, ◌∙◌}
-use Rattle.std.specs.Prelude.{Bool, List, None, Option, Some, [], false, if◌then◌else◌, is_some, true, unwrap_or, ℕ, ◌++◌, ◌+◌, ◌==◌, ◌∷◌, ◌≡◌, ◌≤◌}
-use Rattle.task_rules.proofs.Machine.{add_thread, callers_of, Core, entries, Entry, get-insert, has_entry, HasPlace, is_behind_of, is_entry_of, is_fresh, less, less_switch, Mark, next_entry, on_thread, one_if, or_high, Place, place_of, popped, promoted, put_switch, Queues, remove_thread, rest_of, says, set_high, set_low, set_place, set_switch, switch_entries, Thread, times, unqueued, Why, why_of}
+use Rattle.task_rules.proofs.Machine.{[], add_thread, ap, arith, Bool, callers_of, cond, Core, entries, Entry, false, get-insert, has_entry, HasPlace, if◌then◌else◌, is_behind_of, is_entry_of, is_fresh, is_some, le_refl, less, less_switch, List, Mark, nat_tests, next_entry, None, on_thread, one_if, Option, Place, place_of, popped, promoted, put_switch, Queues, refl, remove_thread, rest_of, says, set_high, set_low, set_place, set_switch, Some, subst, switch_entries, sym, T, Thread, times, true, unqueued, Why, why_of, ℕ, ◌++◌, ◌+◌, ◌==◌, ◌∙◌, ◌∷◌, ◌≡◌, ◌≤◌}
 use Rattle.task_machine.specs.declared.records.Entry.TheVariants as entry
 use Rattle.task_machine.specs.declared.records.Place.TheVariants as place
 use Rattle.task_machine.specs.declared.words.Mark.TheVariants as mark
-use Rattle.task_rules.proofs.MoveLemmas.{no_time, others, put_back, removed_gone, removed_loose, removed_placed, other_place, gone_place, other_so}
+use Rattle.task_rules.proofs.MoveLemmas.{removed_is, no_time, others, put_back, removed_gone, removed_loose, removed_placed, other_place, other_so}
 use Rattle.task_rules.proofs.StandLemmas.{Loose, Stand, by_number, entries-append, entries-less, eq_refl, zero_one, Watch, is_so, Left, left_loose, left_placed, by_count}
 use Rattle.task_rules.proofs.StopLemmas.{Untouched, fresh_apart, so_again}
 
@@ -53,15 +50,9 @@ pub unqueued_cleared : (m : ℕ) (s : Core) → HasPlace m s → Cleared m s (se
 unfolding unqueued set_switch set_high set_low
 unqueued_cleared m s h = go (has_entry m s.queues.high) refl
   where
-    own_switch : switch_entries m (less_switch m s.queues.switch) ≡ 0
-    own_switch = grind (arith, nat_tests)
-
-    other_switch : (k : ℕ) → (k == m) ≡ false → switch_entries k (less_switch m s.queues.switch) ≡ switch_entries k s.queues.switch
-    other_switch k e = grind (arith, nat_tests)
-
     go : (b : Bool) → has_entry m s.queues.high ≡ b → Cleared m s (set_switch (less_switch m s.queues.switch) (if b then set_high (less m s.queues.high) s else set_low (less m s.queues.low) s))
-    go true e = cleared m s _ h (grind (arith, own_switch, has_one m s h, has_stands m s.queues.high, less_own m s.queues.high)) (λ k o. (other_switch k o, (less_other k m s.queues.high o, refl)))
-    go false e = cleared m s _ h (grind (arith, own_switch, has_one m s h, none_stands m s.queues.high, less_own m s.queues.low)) (λ k o. (other_switch k o, (refl, less_other k m s.queues.low o)))
+    go true e = cleared m s _ h (grind (arith, nat_tests, has_one m s h, has_stands m s.queues.high, less_own m s.queues.high)) (λ k o. (grind (arith, nat_tests), (less_other k m s.queues.high o, refl)))
+    go false e = cleared m s _ h (grind (arith, nat_tests, has_one m s h, none_stands m s.queues.high, less_own m s.queues.low)) (λ k o. (grind (arith, nat_tests), (refl, less_other k m s.queues.low o)))
 
 -- ---- The first entry of a mark
 
@@ -73,16 +64,13 @@ First mark.Low e s = s.queues.low ≡ e ∷ rest_of s.queues.low
 
 pub next_first : (s : Core) (x : Mark) (e : Entry) → next_entry s ≡ Some (x, e) → First x e s
 unfolding next_entry
-next_first s x e h = go s.queues.switch s.queues.high s.queues.low refl refl refl h
+next_first s mark.High e h = grind arith
+next_first s mark.Low e h = grind arith
+next_first s mark.Switch e h = go s.queues.switch refl
   where
-    is : (r : Mark × Entry) → Some r ≡ Some (x, e) → First r.0 r.1 s → First x e s
-    is r g f = subst (λ (y : Mark × Entry). First y.0 y.1 s) (ap (λ (o : Option (Mark × Entry)). unwrap_or o r) g) f
-
-    go : (o : Option ℕ) (hs ls : List Entry) → s.queues.switch ≡ o → s.queues.high ≡ hs → s.queues.low ≡ ls → or_high o hs ls ≡ Some (x, e) → First x e s
-    go (Some n) hs ls a b c g = is (mark.Switch, entry.Thread n) g (n, (a, refl))
-    go None (d ∷ hs) ls a b c g = is (mark.High, d) g (b ∙ ap (λ (l : List Entry). d ∷ rest_of l) (sym b))
-    go None [] (d ∷ ls) a b c g = is (mark.Low, d) g (c ∙ ap (λ (l : List Entry). d ∷ rest_of l) (sym c))
-    go None [] [] a b c g = absurd (cc)
+    go : (o : Option ℕ) → s.queues.switch ≡ o → (n : ℕ) × ((s.queues.switch ≡ Some n) × (e ≡ entry.Thread n))
+    go (Some n) at = (n, (at, grind arith))
+    go None at = absurd (grind arith)
 
 -- the entry of a thread leaves its mark
 pub popped_cleared : (x : Mark) (m : ℕ) (s : Core) → First x (entry.Thread m) s → HasPlace m s → Cleared m s (popped x s) × (1 ≤ switch_entries m s.queues.switch + entries m s.queues.high + entries m s.queues.low)
@@ -137,11 +125,7 @@ pub flipped : (n m : ℕ) → (m == n) ≡ false → (n == m) ≡ false
 flipped n m e = grind (arith, nat_tests)
 
 pub removed_fresh : (k m : ℕ) (s : Core) → is_fresh (place_of k s) ≡ true → is_fresh (place_of k (remove_thread m s)) ≡ true
-removed_fresh k m s h = by_number k m (is_fresh (place_of k (remove_thread m s)) ≡ true) (λ e. ap (λ (j : ℕ). is_fresh (place_of j (remove_thread m s))) e ∙ ap is_fresh (gone_place m s)) (λ e. ap is_fresh (other_place k m s e) ∙ h)
-
--- who waits for its start may go
-so_gone : (v : Watch) (o : Option Place) → is_fresh o ≡ true → is_so v o ≡ true → is_so v None ≡ true
-so_gone v o f h = grind arith
+removed_fresh k m s h = grind (arith, nat_tests, removed_is k m s)
 
 pub withdrawn_stand : {P : ℕ → Watch} (n : ℕ) (q : Option Place) (m : ℕ) (s : Core) → (m == n) ≡ false → is_fresh (place_of m s) ≡ true → Stand P n q [] s → Stand P n q [] (remove_thread m (set_switch (less_switch m s.queues.switch) (unqueued m s)))
 withdrawn_stand {P = P} n q m s apart fresh st = record {
@@ -150,7 +134,7 @@ withdrawn_stand {P = P} n q m s apart fresh st = record {
   loose = λ k h. removed_loose k m u (by_number k m (Loose k u) (λ e. subst (λ (j : ℕ). Loose j u) (sym e) own) (λ e. left_loose k s u (c.left k e) (st.loose k h)));
   there = λ k h. zero_one refl h;
   placed = λ k h. by_number k m (HasPlace k (remove_thread m u)) (λ e. subst (λ (j : ℕ). HasPlace j (remove_thread m u)) (sym e) (removed_gone m u own)) (λ e. removed_placed k m u e (left_placed k s u (c.left k e) (c.places k) (st.placed k h)));
-  kept = λ k h. (refl, by_number k m (is_so (P k) (place_of k (remove_thread m u)) ≡ true) (λ e. ap (λ (j : ℕ). is_so (P k) (place_of j (remove_thread m u))) e ∙ (ap (is_so (P k)) (gone_place m u) ∙ so_gone (P k) (place_of m s) fresh (ap (λ (j : ℕ). is_so (P k) (place_of j s)) (sym e) ∙ (st.kept k h).1))) (λ e. ap (is_so (P k)) (other_place k m u e ∙ c.places k) ∙ (st.kept k h).1));
+  kept = λ k h. (refl, grind (arith, nat_tests, removed_is k m u, c.places k, (st.kept k h).1));
 }
   where
     u : Core
@@ -180,9 +164,6 @@ module _ (t : Thread) (s : Core) where
 none_cut : (b : Bool) (x : ℕ) → x ≡ 0 → cond b 0 x ≡ 0
 none_cut b x h = grind arith
 
-so_new : (v : Watch) → is_so v None ≡ true → is_so v (Some place.New) ≡ true
-so_new v h = grind arith
-
 -- it has the next number, which was no thread's, and behind which nobody was
 pub added_stand : {P : ℕ → Watch} (n : ℕ) (q : Option Place) (t : Thread) (s : Core) → (n == s.made.threads + 1) ≡ false → t.place ≡ place.New → Stand P n q [] s → Stand P n q [] (add_thread t s)
 unfolding add_thread
@@ -192,7 +173,7 @@ added_stand {P = P} n q t s apart new st = record {
   loose = λ k h. loose k (st.loose k h) (by_number k n ((k == s.made.threads + 1) ≡ false) (λ e. ap (λ (j : ℕ). j == s.made.threads + 1) e ∙ apart) (λ e. zero_one (no_time k n e) h));
   there = λ k h. zero_one refl h;
   placed = λ k h. by_number k (s.made.threads + 1) (HasPlace k u) (λ e. subst (λ (j : ℕ). HasPlace j u) (sym e) own) (λ e. other k e (st.placed k h));
-  kept = λ k h. (refl, by_number k (s.made.threads + 1) (is_so (P k) (place_of k u) ≡ true) (λ e. ap (λ (j : ℕ). is_so (P k) (place_of j u)) e ∙ (ap (is_so (P k)) here ∙ so_new (P k) (ap (is_so (P k)) (sym gone) ∙ (ap (λ (j : ℕ). is_so (P k) (place_of j s)) (sym e) ∙ (st.kept k h).1)))) (λ e. ap (is_so (P k)) (added_other t s k e) ∙ (st.kept k h).1));
+  kept = λ k h. (refl, grind (arith, nat_tests, added_other t s k, gone, here, (st.kept k h).1));
 }
   where
     u : Core

@@ -1,9 +1,7 @@
 -- Each step owes of the ends what it should, and so each run has each end once.
+use Rattle.task_rules.proofs.Machine.{[], AbortsOwn, ap, arith, base_at, Bool, Call, Core, end_for, Entry, false, fresh, get, get-empty, how_far_of, inl, inr, instance_of, is_some, is_spawn, is_spawn_caller, is_stage_ended, IsRunner, Label, le_refl, Main, MainPlace, Mark, next_entry, None, opening, Option, option_and_then, option_map, option_map_or, Place, place_of, ProgramAborts, refl, runner_at, SameMain, Scene, scene_of, ScriptAborts, Scripted, Setting, slice_get, Some, spawned_at, stage_of, State, Status, Step, subst, Subtask, subtask_at, subtask_handle, suc, sym, task_of, thread_of_entry, true, Turn, undelivered_end, Unscripted, unwrap_or, Walked, Work, work_caller_of, written, zero, ℕ, ⊎_elim, ◌&&◌, ◌++◌, ◌-◌, ◌∙◌, ◌∷◌, ◌≡◌, ◌≤◌, ◌⊎◌}
+use Rattle.task_laws.proofs.NamedCalls.{NamesKnown, names_known_word, opening_names_known}
 use Rattle.task_laws.proofs.NamedWorks.{NamesNoSync, abort_kept, caller_is, names_word, opening_names}
-use Rattle.task_rules.proofs.Machine.{AbortsOwn, base_at, Call, Core, end_for, Entry, fresh, get, get-empty, how_far_of, instance_of, is_spawn, is_spawn_caller, is_stage_ended, IsRunner, Label, Main, MainPlace, Mark, next_entry, opening, Place, place_of, ProgramAborts, runner_at, SameMain, Scene, scene_of, ScriptAborts, Scripted, Setting, spawned_at, stage_of, State, Status, Step, Subtask, subtask_at, task_of, thread_of_entry, Turn, undelivered_end, Unscripted, Walked, Work, work_caller_of, WorkCaller, written}
-use Rattle.std.proofs.Common.{ap, refl, subst, sym, ◌∙◌, inl, inr, le_refl, ◌++◌, arith}
-use Rattle.std.specs.Option.{option_map_or}
-use Rattle.std.specs.Prelude.{Bool, None, Option, Some, false, is_some, option_and_then, option_map, true, ℕ, ◌≡◌, ◌≤◌, ◌⊎◌, ◌∷◌, unwrap_or, [], slice_get, zero, suc, ◌-◌}
 use Rattle.task_laws.proofs.Basics.{no_way}
 use Rattle.task_laws.proofs.CallsLaw.{CallsGo, CallsHold}
 use Rattle.task_laws.proofs.CallsSteps.{of_base, step_goes, calls_begin}
@@ -13,8 +11,9 @@ use Rattle.task_laws.proofs.CallEnds.{EndsGo, EndsTold, ends_go, opening_ends_to
 use Rattle.task_laws.proofs.OnceLemmas.{Due, Over, EndStep, ends_once, written_over}
 use Rattle.task_laws.proofs.HostEnds.{Answered, host_step}
 use Rattle.task_laws.proofs.SceneLemmas.{base_is, runner_there}
-use Rattle.task_laws.specs.Ends.{is_sync_work, EndsFound, MayBeAborted, Waited, SyncUnnamed}
-use Rattle.task_laws.proofs.Works.{AbortsNoSync, Doing, WorksGo, WorksHold, doing, doing_of, is_late, stage_ended, opening_works, before_step, first_works, works_word}
+use Rattle.task_laws.specs.Ends.{CalledThere, is_sync_work, MayBeAborted, SyncUnnamed}
+use Rattle.task_laws.proofs.SyncWorks.{CallersKnown, callers_word, opening_callers}
+use Rattle.task_laws.proofs.Works.{AbortsNoSync, Doing, WorksGo, WorksHold, doing, doing_of, is_late, opening_works, first_works, works_word}
 use Rattle.task_rules.proofs.WalkSteps.{step_walks}
 use Rattle.task_laws.specs.Order.{InOrder}
 use Rattle.task_places.proofs.PlaceLaw.{entry_ready}
@@ -25,7 +24,6 @@ use Rattle.task_places.specs.Once.{RunsAreOnce, IsUnbegun}
 use Rattle.task_places.proofs.OrderLemmas.{opening_in_order, step_in_order}
 use Rattle.task_machine.specs.declared.records.Subtask.TheVariants as subtask
 use Rattle.task_machine.specs.declared.records.HowFar.TheVariants as how_far
-use Rattle.task_machine.specs.declared.records.Stage.TheVariants as stage
 use Rattle.task_machine.specs.declared.records.WorkCaller.TheVariants as work_caller
 use Rattle.task_machine.specs.declared.records.Entry.TheVariants as entry
 use Rattle.task_machine.specs.declared.records.Turn.TheVariants as turn
@@ -43,6 +41,8 @@ record Known (x : Setting) (s : State) : Type 0 where
   told : EndsTold s.core
   works : WorksHold (Unit {0}) s.core
   unnamed : SyncUnnamed s
+  callers : CallersKnown s.core
+  names : NamesKnown s.core
   zero : MayBeAborted s.core 0
   over : DueOver s.core
 
@@ -60,24 +60,21 @@ reached_step x s l t r step = record {
 held_of : (x : Setting) (s : State) → InOrder x.component s → CallsHold x.component s.core
 held_of x s h = record { numbered = h.numbered; kinds = h.kinds; deliveries = h.deliveries }
 
-spawn_other : (i : ℕ) (s : Core) → is_spawn i s ≡ true → (v : Doing) × ((doing_of i s ≡ Some v) × (is_sync_work v.caller ≡ false))
-spawn_other i s h = at (get s.works i) refl h
+work_there : (P : Work → Bool) (i : ℕ) (s : Core) → option_map_or P (get s.works i) false ≡ true → (w : Work) × ((get s.works i ≡ Some w) × (P w ≡ true))
+work_there P i s h = at (get s.works i) refl h
   where
-    other : (f : WorkCaller) → is_spawn_caller f ≡ true → is_sync_work f ≡ false
-    other work_caller.Spawn g = refl
-    other (work_caller.Async n q) g = refl
-    other (work_caller.Sync n) g = no_way g
-
-    at : (o : Option Work) → get s.works i ≡ o → option_map_or (λ w. is_spawn_caller w.caller) o false ≡ true → (v : Doing) × ((doing_of i s ≡ Some v) × (is_sync_work v.caller ≡ false))
+    at : (o : Option Work) → get s.works i ≡ o → option_map_or P o false ≡ true → (w : Work) × ((get s.works i ≡ Some w) × (P w ≡ true))
     at None is g = no_way g
-    at (Some w) is g = (doing w, (ap (option_map doing) is, other w.caller g))
+    at (Some w) is g = (w, (is, g))
+
+named_there : (k h : ℕ) (s : Core) → subtask_handle (subtask.Guest k) s ≡ Some h → is_some (get s.calls k) ≡ true
+named_there k h s e = grind arith
+
+spawn_other : (i : ℕ) (s : Core) → is_spawn i s ≡ true → (v : Doing) × ((doing_of i s ≡ Some v) × (is_sync_work v.caller ≡ false))
+spawn_other i s h = let r = work_there (λ w. is_spawn_caller w.caller) i s h in (doing r.0, (ap (option_map doing) r.1.0, grind arith))
 
 waited_there : (n i : ℕ) (s : Core) → work_caller_of i s ≡ work_caller.Sync n → is_stage_ended (stage_of i s) ≡ true → (v : Doing) × ((doing_of i s ≡ Some v) × ((is_sync_work v.caller ≡ true) × (is_late v.stage ≡ true)))
-waited_there n i s caller ended = at (get s.works i) refl caller ended
-  where
-    at : (o : Option Work) → get s.works i ≡ o → option_map_or (λ (w : Work). w.caller) o work_caller.Spawn ≡ work_caller.Sync n → is_stage_ended (option_map_or (λ (w : Work). w.stage) o stage.Ended) ≡ true → (v : Doing) × ((doing_of i s ≡ Some v) × ((is_sync_work v.caller ≡ true) × (is_late v.stage ≡ true)))
-    at None is c e = no_way (ap (λ f. is_sync_work f) c)
-    at (Some w) is c e = (doing w, (ap (option_map doing) is, (ap (λ f. is_sync_work f) c, stage_ended w.stage e)))
+waited_there n i s caller ended = let r = work_there (λ w. is_sync_work w.caller && is_late w.stage) i s (grind arith) in (doing r.0, (ap (option_map doing) r.1.0, grind arith))
 
 abbrev is_script : Main → Bool
 is_script (Scripted p) = true
@@ -87,7 +84,7 @@ abbrev is_blocked : Option Place → Bool
 is_blocked (Some (place.Blocked sub)) = true
 is_blocked _ = false
 
-module _ (x : Setting) (s : State) (l : Label) (t : State) (k : Known x s) (f : EndsFound s) (step : Step x s l t) where
+module _ (x : Setting) (s : State) (l : Label) (t : State) (k : Known x s) (f : CalledThere s) (step : Step x s l t) where
   w : Walked x s l t
   w = step_walks x s l t step
 
@@ -100,23 +97,45 @@ module _ (x : Setting) (s : State) (l : Label) (t : State) (k : Known x s) (f : 
   from_base : (P : Core → Type 0) → P a.base → P (record s.core { queues = (base_at s.turn s.core).queues })
   from_base P p = subst P (base_is s.turn s.core) p
 
+  at_base : (i : ℕ) → MayBeAborted s.core i → MayBeAborted a.base i
+  at_base i q = to_base (λ c. MayBeAborted c i) (record { made = q.made; other = q.other })
+
+  at_first : (i : ℕ) → MayBeAborted a.base i → MayBeAborted s.core i
+  at_first i h = let q = from_base (λ c. MayBeAborted c i) h in record { made = q.made; other = q.other }
+
+  names_base : NamesNoSync a.base
+  names_base i h j e = at_base j (k.unnamed.works i h j (from_base (λ c. subtask_at i h c ≡ Some (subtask.Host j)) e))
+
   -- nothing that is aborted is a sync call's
   unsync : AbortsNoSync a
-  unsync i (AbortsOwn (n, (h, (runner, named)))) = of_found i (to_base (λ c. (j g : ℕ) → subtask_at j g c ≡ Some (subtask.Host i) → MayBeAborted c i) (λ j g e. again (k.unnamed.works j g i e)) (instance_of n a.base) h named)
-    where
-      again : {i : ℕ} → MayBeAborted s.core i → MayBeAborted (record s.core { queues = (base_at s.turn s.core).queues }) i
-      again q = record { made = q.made; other = q.other }
-
-      of_found : (i : ℕ) → MayBeAborted a.base i → (i ≤ a.base.made.works) × ((u : Doing) → doing_of i a.base ≡ Some u → is_sync_work u.caller ≡ false)
-      of_found i q = (q.made, λ u e. ap (λ y. is_sync_work y) (sym (caller_is i a.base u e)) ∙ q.other)
+  unsync i (AbortsOwn (n, (h, (runner, named)))) = let q = names_base (instance_of n a.base) h i named in (q.made, λ u e. ap (λ y. is_sync_work y) (sym (caller_is i a.base u e)) ∙ q.other)
   unsync i (ScriptAborts p j main is) = subst (λ (n : ℕ). (n ≤ a.base.made.works) × ((u : Doing) → doing_of n a.base ≡ Some u → is_sync_work u.caller ≡ false)) (sym is) (to_base (λ c. (spawned_at p j ≤ c.made.works) × ((u : Doing) → doing_of (spawned_at p j) c ≡ Some u → is_sync_work u.caller ≡ false)) (let q = k.unnamed.spawns p j main in (q.made, λ u e. ap (λ y. is_sync_work y) (sym (caller_is (spawned_at p j) s.core u e)) ∙ q.other)))
   unsync i (ProgramAborts main is) = to_base (λ c. (i ≤ c.made.works) × ((u : Doing) → doing_of i c ≡ Some u → is_sync_work u.caller ≡ false)) (let r = spawn_other i s.core (from_base (λ c. is_spawn i c ≡ true) is) in ((k.works.works i r.0 r.1.0).number, λ u e. ap (λ (o : Option Doing). is_sync_work (unwrap_or o r.0).caller) (sym e ∙ r.1.0) ∙ r.1.1))
 
+  abbrev Kept : Core → Type 0
+  Kept u = WorksGo (Unit {0}) a u × (NamesNoSync u × (((i : ℕ) → MayBeAborted s.core i → MayBeAborted u i) × CallersKnown u))
+
   -- the works, and which of them handles name
-  works_after : WorksGo (Unit {0}) a t.core × (NamesNoSync t.core × ((i : ℕ) → MayBeAborted s.core i → MayBeAborted t.core i))
-  works_after = along (λ u. WorksGo (Unit {0}) a u × (NamesNoSync u × ((i : ℕ) → MayBeAborted s.core i → MayBeAborted u i)))
-      (λ v u ok q. (works_word (λ y. unsync) v u ok q.0, (names_word a v u ok q.0.holds q.1.0, λ i h. abort_kept a v u ok q.0.holds i (q.1.1 i h))))
-      (first_works x s l w.next k.works, (k.unnamed.works, λ i h. h)) w.walk
+  works_after : Kept t.core
+  works_after = along Kept
+      (λ v u ok q. (
+        works_word (λ y. unsync) v u ok q.0,
+        (
+          names_word a v u ok q.0.holds q.1.0,
+          (
+            λ i h. abort_kept a v u ok q.0.holds i (q.1.1.0 i h),
+            callers_word a (to_base (λ c. (i : ℕ) (v : Doing) → doing_of i c ≡ Some v → i ≤ c.made.works) (λ i v e. (k.works.works i v e).number)) (to_base CallersKnown k.callers) names_base v u ok q.0 (λ i h. q.1.1.0 i (at_first i h)) q.1.1.1,
+          ),
+        ),
+      ))
+      (first_works x s l w.next k.works, (k.unnamed.works, (λ i h. h, k.callers))) w.walk
+
+  names_base_known : NamesKnown a.base
+  names_base_known = to_base NamesKnown (record { there = k.names.there; once = k.names.once; number = k.names.number; called = k.names.called })
+
+  -- which calls handles and ops name
+  names_after : NamesKnown t.core
+  names_after = along NamesKnown (λ v u ok q. names_known_word a names_base_known (λ n j runs. to_base (λ c. how_far_of n c ≡ how_far.Calls (subtask.Guest j) → is_some (get c.calls j) ≡ true) (f n j runs)) v u ok q) k.names w.walk
 
   spawns_after : (p : MainPlace) (j : ℕ) → t.main ≡ Scripted p → MayBeAborted t.core (spawned_at p j)
   spawns_after p j at = by s.main refl t.main at w.main
@@ -129,14 +148,12 @@ module _ (x : Setting) (s : State) (l : Label) (t : State) (k : Known x s) (f : 
       place_in Unscripted = p
 
       named : (o : MainPlace) → s.main ≡ Scripted o → ((n : ℕ) × (spawned_at p j ≡ spawned_at o n)) ⊎ (is_spawn (spawned_at p j) t.core ≡ true) → MayBeAborted t.core (spawned_at p j)
-      named o was (inl (n, same)) = subst (MayBeAborted t.core) (sym same) (works_after.1.1 (spawned_at o n) (k.unnamed.spawns o n was))
+      named o was (inl (n, same)) = subst (MayBeAborted t.core) (sym same) (works_after.1.1.0 (spawned_at o n) (k.unnamed.spawns o n was))
       named o was (inr is) = spawn_is (spawned_at p j) is
 
       by : (m : Main) → s.main ≡ m → (n : Main) → n ≡ Scripted p → SameMain m t.core n → MayBeAborted t.core (spawned_at p j)
       by (Scripted o) was (Scripted q) is same = named o was (subst (λ (r : MainPlace). ((n : ℕ) × (spawned_at r j ≡ spawned_at o n)) ⊎ (is_spawn (spawned_at r j) t.core ≡ true)) (ap place_in is) (same j))
-      by (Scripted o) was Unscripted is same = absurd same
-      by Unscripted was (Scripted q) is same = absurd same
-      by Unscripted was Unscripted is same = no_way (ap is_script is)
+      by m was n is same = absurd (grind arith)
 
   -- who runs or is taken isn't blocked
   unblocked : (n : ℕ) → IsRunner a n → is_blocked (place_of n s.core) ≡ false
@@ -148,22 +165,14 @@ module _ (x : Setting) (s : State) (l : Label) (t : State) (k : Known x s) (f : 
         where
           taken : (o : Option (Mark × Entry)) → next_entry s.core ≡ o → thread_of_entry o ≡ Some n → is_blocked (place_of n s.core) ≡ false
           taken (Some (y, entry.Thread m)) e g = subst (λ (j : ℕ). is_blocked (place_of j s.core) ≡ false) (ap (λ (o : Option ℕ). unwrap_or o n) g) (let r = entry_ready m s.core (k.order.in_place.placed m) (popped_cleared y m s.core (next_first s.core y (entry.Thread m) e) (k.order.in_place.placed m)).1 in ap is_blocked r.1.1)
-          taken (Some (y, entry.Push i)) e g = no_way (ap (λ (o : Option ℕ). is_some o) g)
-          taken (Some (y, entry.Host i)) e g = no_way (ap (λ (o : Option ℕ). is_some o) g)
-          taken None e g = no_way (ap (λ (o : Option ℕ). is_some o) g)
-      by_turn turn.Main at is = no_way (ap (λ (o : Option ℕ). is_some o) is)
-      by_turn (turn.Futures m) at is = no_way (ap (λ (o : Option ℕ). is_some o) is)
-      by_turn turn.Over at is = no_way (ap (λ (o : Option ℕ). is_some o) is)
+          taken o e g = absurd (grind arith)
+      by_turn u at is = absurd (grind arith)
 
   answered : Answered a
-  answered n i runner far = to_base (λ c. (v : Doing) × ((doing_of i c ≡ Some v) × ((is_sync_work v.caller ≡ true) × (is_late v.stage ≡ true)))) (by (f.answers n i (from_base (λ c. how_far_of n c ≡ how_far.Calls (subtask.Host i)) far)))
+  answered n i runner far = to_base (λ c. (v : Doing) × ((doing_of i c ≡ Some v) × ((is_sync_work v.caller ≡ true) × (is_late v.stage ≡ true)))) (at (from_base (λ c. how_far_of n c ≡ how_far.Calls (subtask.Host i)) far))
     where
-      by : Waited s.core n i → (v : Doing) × ((doing_of i s.core ≡ Some v) × ((is_sync_work v.caller ≡ true) × (is_late v.stage ≡ true)))
-      by q = at q.waits
-        where
-          at : (place_of n s.core ≡ Some (place.Blocked (subtask.Host i))) ⊎ (is_stage_ended (stage_of i s.core) ≡ true) → (v : Doing) × ((doing_of i s.core ≡ Some v) × ((is_sync_work v.caller ≡ true) × (is_late v.stage ≡ true)))
-          at (inl blocked) = no_way (sym (unblocked n runner) ∙ ap is_blocked blocked)
-          at (inr ended) = waited_there n i s.core q.caller ended
+      at : how_far_of n s.core ≡ how_far.Calls (subtask.Host i) → (v : Doing) × ((doing_of i s.core ≡ Some v) × ((is_sync_work v.caller ≡ true) × (is_late v.stage ≡ true)))
+      at far = ⊎_elim (λ blocked. no_way (sym (unblocked n runner) ∙ ap is_blocked blocked)) (λ ended. waited_there n i s.core (k.callers n i far) ended) (k.order.awaited n i far).1
 
   holds : CallsHold x.component s.core
   holds = held_of x s k.order
@@ -171,7 +180,7 @@ module _ (x : Setting) (s : State) (l : Label) (t : State) (k : Known x s) (f : 
   found : CallsFound a
   found = record {
     own = λ n runner. to_base (λ c. is_some (get c.calls (task_of n c)) ≡ true) (let there = runner_there x s l w.next k.order.in_place n runner in grind (arith, k.order.calls_there n (task_of n s.core)));
-    named = λ j named. to_base (λ c. (i h : ℕ) → subtask_at i h c ≡ Some (subtask.Guest j) → is_some (get c.calls j) ≡ true) (λ i h e. f.calls i h j e) (instance_of named.0 a.base) named.1.0 named.1.1.1;
+    named = λ j named. to_base (λ c. (i h : ℕ) → subtask_at i h c ≡ Some (subtask.Guest j) → is_some (get c.calls j) ≡ true) (λ i h e. named_there j h s.core (k.names.there i h j e)) (instance_of named.0 a.base) named.1.0 named.1.1.1;
   }
 
   told_base : EndsTold a.base
@@ -184,7 +193,7 @@ module _ (x : Setting) (s : State) (l : Label) (t : State) (k : Known x s) (f : 
   end_step (subtask.Guest j) =
       guest_step x s l t w.next k.order.codes (calls_begin x s l w.next holds).0 told_base holds goes.0 goes.1.0 goes.1.1
       (step_goes x s l t k.order.codes holds step).1 (never_fewer x s l t step).threads w.ends.says found (λ i e due. k.over (subtask.Guest i) e due) j
-  end_step (subtask.Host i) = host_step (Unit {0}) x s l t w.next (before_step x s l w.next) k.works works_after.0 w.ends.says tt answered i
+  end_step (subtask.Host i) = host_step (Unit {0}) x s l t w.next k.works works_after.0 w.ends.says tt answered i
 
   known_after : Known x t
   known_after = record {
@@ -193,7 +202,9 @@ module _ (x : Setting) (s : State) (l : Label) (t : State) (k : Known x s) (f : 
     told = goes.1.1;
     works = works_after.0.holds;
     unnamed = record { works = works_after.1.0; spawns = spawns_after };
-    zero = works_after.1.1 0 k.zero;
+    callers = works_after.1.1.1;
+    names = names_after;
+    zero = works_after.1.1.0 0 k.zero;
     over = λ sub e due. by sub e ((end_step sub).comes e due);
   }
     where
@@ -235,6 +246,8 @@ runs_are_once x codes found instances handle_limit capacity main begun ls t run 
       told = opening_ends_told instances handle_limit capacity;
       works = opening_works instances handle_limit capacity;
       unnamed = record { works = opening_names instances handle_limit capacity; spawns = λ p j is. opening_spawns instances handle_limit capacity main begun p j is };
+      callers = opening_callers instances handle_limit capacity;
+      names = opening_names_known instances handle_limit capacity;
       zero = zero_unmade instances handle_limit capacity;
       over = λ sub e due. absurd (none_due instances handle_limit capacity sub e due);
     }) (λ sub e due. none_due instances handle_limit capacity sub e due) ls t run

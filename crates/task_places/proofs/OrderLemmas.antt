@@ -1,6 +1,6 @@
 -- A state in order: each opening state is, and each step leads from one to one.
-use Rattle.task_rules.proofs.Machine.{ByHandle, ByOp, Call, call_instance, Core, empty, fresh, get, get-empty, HasSubtask, instance_of, is_fresh, is_there, IsRunner, Label, Main, opening, Place, place_of, Placed, Run, Scene, scene_of, Setting, State, Steady, task_of, Thread, Walk, Walked, was_started, Work}
-use Rattle.task_places.proofs.WorksQueued.{works_word}
+use Rattle.task_rules.proofs.Machine.{[], ap, arith, Bool, ByHandle, ByOp, Call, call_instance, callee_of, Component, Core, empty, false, fresh, get, get-empty, HasSubtask, inl, inr, instance_of, is_fresh, is_some, is_there, IsRunner, Label, length, List, None, opening, Option, option_and_then, option_map, option_map_or, Place, place_of, Placed, refl, Run, Scene, scene_of, Script, script_in, Setting, Some, State, Steady, subst, sym, task_of, Thread, true, Walk, Walked, was_started, Work, ℕ, ◌∷◌, ◌≡◌, ◌≤◌, ◌⊎◌}
+use Rattle.task_places.proofs.HostsAwaited.{step_works}
 use Rattle.task_places.proofs.Directs.{DirectsRun, directs_on_top, directs_word}
 use Rattle.task_machine.specs.declared.records.Subtask.TheVariants as subtask
 use Rattle.task_laws.proofs.Joins.{joins_word, opening_joins}
@@ -11,14 +11,14 @@ use Rattle.task_laws.proofs.WaitLemmas.{Homed, KnownHome, homed_word}
 use Rattle.task_laws.proofs.StrandLemmas.{Layered, layered_word}
 use Rattle.task_laws.proofs.SceneLemmas.{runner_there}
 use Rattle.task_laws.proofs.HousedLemmas.{RunnerHoused, housed_word}
+use Rattle.task_laws.proofs.FitLemmas.{AllFit, fits_word}
 use Rattle.task_laws.proofs.CountLemmas.{few_word}
-use Rattle.std.proofs.Common.{arith, inl, refl}
-use Rattle.std.specs.Option.{option_map_or}
-use Rattle.std.specs.Prelude.{List, None, Option, Some, [], false, is_some, option_and_then, option_map, true, ℕ, ◌∷◌, ◌≡◌, ◌≤◌}
 use Rattle.task_laws.proofs.SetHandles.{opening_sets, sets_named_word}
-use Rattle.task_laws.proofs.CallsLaw.{CallsHold}
-use Rattle.task_laws.proofs.CallsSteps.{base_out, of_base, opening_holds, plain, plain_scene, step_goes}
-use Rattle.task_laws.specs.Order.{CallsNamed, InOrder, InPlace, Numbered, OpeningInOrder, SetsNamed, StartsAwaited, StepInOrder, WasCall, CallsThere, MakesFew, Strands, WaitsAtHome, set_of_op, set_of_place, StepsMakeFew, JoinsNamed, DirectsOnTop, WorksQueued}
+use Rattle.task_laws.proofs.CallsLaw.{CallsGo, CallsHold}
+use Rattle.task_laws.proofs.CallsSteps.{base_out, calls_begin, of_base, word_goes, opening_holds, plain, plain_scene, step_goes}
+use Rattle.task_laws.specs.Order.{CallsNamed, InOrder, Numbered, OpeningInOrder, SetsNamed, StartsAwaited, StepInOrder, WasCall, CallsThere, MakesFew, Strands, WaitsAtHome, set_of_op, set_of_place, StepsMakeFew, JoinsNamed, DirectsOnTop, Fits, WorksQueued, HostsAwaited, names_script}
+use Rattle.task_machine.specs.declared.records.Turn.TheVariants as turn
+use Rattle.task_machine.specs.declared.records.Place.TheVariants as place
 use Rattle.task_machine.specs.declared.records.HowFar.TheVariants as how_far
 use Rattle.task_places.proofs.PlaceLaw.{Arrives}
 use Rattle.task_places.proofs.PlaceSteps.{Withdrawable, in_place, step_arrives}
@@ -56,11 +56,20 @@ same_call : (s t : Core) → Steady s t → Numbered s → (k : ℕ) → is_some
     call_instance k t ≡ call_instance k s
 same_call s t steady numbered k was now = grind (arith, steady.calls k, numbered.calls k)
 
+same_callee : (s t : Core) → Steady s t → Numbered s → (k : ℕ) → is_some (get s.calls k) ≡ true → is_some (get t.calls k) ≡ true →
+    callee_of k t ≡ callee_of k s
+same_callee s t steady numbered k was now = grind (arith, steady.calls k, numbered.calls k)
+
 same_instance : (s t : Core) → Steady s t → Numbered s → CallsThere s → CallsThere t → (n : ℕ) → is_there n s ≡ true → is_there n t ≡ true →
     instance_of n t ≡ instance_of n s
 same_instance s t steady numbered before after n was now =
     let same = same_call s t steady numbered (task_of n s) in
     grind (arith, steady.threads n, numbered.threads n, before n (task_of n s), after n (task_of n t))
+
+-- the instance of the call matters to a thread beside the first one
+same_script : (c : Component) (i j : ℕ) (explicit : Bool) (x : Script) → (explicit ≡ true → i ≡ j) → names_script c j explicit x ≡ true →
+    names_script c i explicit x ≡ true
+same_script c i j explicit x same h = grind arith
 
 pub steps_make_few : StepsMakeFew
 steps_make_few x s l t step =
@@ -135,8 +144,57 @@ module _ (x : Setting) (s : State) (l : Label) (t : State) (h : InOrder x.compon
       let goes = base_out (λ b. Arrives (record a { base = b }) t.core) s.turn s.core arrives in
       directs_on_top a s.core t.core steady h.numbered after goes (λ k. refl) (λ k. refl) h.directs (along (DirectsRun a) (directs_word a) (λ k d. inl d) walk)
 
-  pub works_kept : WorksQueued t.core
-  works_kept = along WorksQueued (works_word a) h.works walk
+  pub works_kept : WorksQueued t.core × HostsAwaited t.core
+  works_kept = step_works x s l t w h.in_place withdrawable h.works h.awaited
+
+  -- ---- Scripts
+
+  fits_base : Fits x.component a.base
+  fits_base n r at = let f = h.fits n r at in record { script = f.script; position = f.position; first = f.first }
+
+  has_call : (n : ℕ) (r : Thread) → get s.core.threads n ≡ Some r → is_some (get s.core.calls r.call) ≡ true
+  has_call n r at = h.calls_there n r.call (ap (λ o. option_map (λ (t : Thread). t.call) o) at)
+
+  fits_first : AllFit a s.core
+  fits_first n r at = let f = h.fits n r at in record {
+    script = f.script;
+    call = λ e. has_call n r at;
+    first = f.first;
+    position = inr (has_call n r at, f.position);
+    same = λ to b is. let e : r ≡ b = cc in (ap (λ (t : Thread). t.call) e, ap (λ (t : Thread). t.script) e);
+  }
+
+  fits_last : AllFit a t.core
+  fits_last =
+      let p : CallsHold x.component s.core = record { numbered = h.numbered; kinds = h.kinds; deliveries = h.deliveries } in
+      let b = calls_begin x s l w.next p in
+      let known = of_base (λ b. RunnerHoused (record a { base = b })) s.turn s.core runner_housed in
+      let fits = of_base (λ b. Fits x.component b) s.turn s.core fits_base in
+      let first = of_base (λ b. AllFit (record a { base = b }) s.core) s.turn s.core fits_first in
+      let runs = of_base (λ b. (n : ℕ) → s.turn ≡ turn.Run n → place_of n b ≡ Some place.Running) s.turn s.core h.in_place.runs in
+      let c = scene_of x s l w.next in
+      let q = along (λ u. CallsGo c u × AllFit c u)
+      (λ v m ok q. (word_goes c h.codes b.0 v m ok q.0, fits_word c h.codes b.0 known fits runs v m ok q.0 q.1)) (b.1, first) w.walk in
+      base_out (λ b. AllFit (record a { base = b }) t.core) s.turn s.core q.1
+
+  pub fits_kept : Steady s.core t.core → Fits x.component t.core
+  fits_kept steady n r at =
+      let f = fits_last n r at in
+      let now = calls_kept n r.call (ap (λ o. option_map (λ (t : Thread). t.call) o) at) in
+      record {
+        script = same_script x.component (call_instance r.call t.core) (call_instance r.call s.core) r.explicit r.script
+            (λ e. same_call s.core t.core steady h.numbered r.call (f.call e) now) f.script;
+        position = at_place r.position r.call r.script f.position now;
+        first = f.first;
+      }
+    where
+      within : ℕ → ℕ → Script → Type 0
+      within p k y = (p ≡ 0) ⊎ ((is_some (get s.core.calls k) ≡ true) × (p ≤ length (script_in x.component (callee_of k s.core) y)))
+
+      at_place : (p k : ℕ) (y : Script) → within p k y → is_some (get t.core.calls k) ≡ true → p ≤ length (script_in x.component (callee_of k t.core) y)
+      at_place p k y (inl zero_at) now = omega (arith, zero_at)
+      at_place p k y (inr b) now =
+          subst (λ e. p ≤ length (script_in x.component e y)) (sym (same_callee s.core t.core steady h.numbered k b.0 now)) b.1
 
   -- handles of sets, and the joins to them
   pub joined_kept : SetsNamed t.core × JoinsNamed t.core
@@ -181,7 +239,8 @@ step_in_order x s l t h step =
       in_place = in_place x s l t w (arrives x s l t h w);
       strands = strands_kept x s l t h w;
       directs = directs_kept x s l t h w (steady x s l t step) q.numbered;
-      works = works_kept x s l t h w;
+      works = (works_kept x s l t h w).0;
+      awaited = (works_kept x s l t h w).1;
       numbered = q.numbered;
       calls_there = calls_kept x s l t h w;
       calls_named = named_kept x s l t h w;
@@ -190,6 +249,7 @@ step_in_order x s l t h step =
       joins_named = (joined_kept x s l t h w).1;
       kinds = q.kinds;
       deliveries = q.deliveries;
+      fits = fits_kept x s l t h w (steady x s l t step);
       starts = starts_kept x s l t h w (steady x s l t step);
     }
 
@@ -206,60 +266,39 @@ opening_placed instances handle_limit capacity n = record {
   callers = λ f. grind (arith, get-empty);
 }
 
-opening_in_place : (instances handle_limit capacity : ℕ) (main : Main) → InPlace (opening instances handle_limit capacity main)
-opening_in_place instances handle_limit capacity main =
-    record { placed = opening_placed instances handle_limit capacity; runs = λ n e. absurd (cc) }
-
-opening_starts : (instances handle_limit capacity : ℕ) → StartsAwaited (fresh instances handle_limit capacity)
-unfolding fresh
-opening_starts instances handle_limit capacity k c e h = let o = get-empty {X = Call} k in absurd (cc)
-
-opening_strands : (instances handle_limit capacity : ℕ) → Strands (fresh instances handle_limit capacity)
-unfolding fresh
-opening_strands instances handle_limit capacity = record {
-  below = λ n m e. let o = get-empty {X = Thread} n in absurd (cc);
-  made = λ n m e. let o = get-empty {X = Thread} n in absurd (cc);
-  alone = λ n k m e f. let o = get-empty {X = Thread} n in absurd (cc);
-}
-
-opening_works : (instances handle_limit capacity : ℕ) → WorksQueued (fresh instances handle_limit capacity)
-unfolding fresh
-opening_works instances handle_limit capacity = record { each = λ i w at. let o = get-empty {X = Work} i in absurd (cc); low = λ i. (refl, refl); made = λ i there. let o = get-empty {X = Work} i in absurd (cc); ungiven = λ i above. (refl, refl) }
-
-opening_directs : (instances handle_limit capacity : ℕ) → DirectsOnTop (fresh instances handle_limit capacity)
-unfolding fresh
-opening_directs instances handle_limit capacity m there implicit direct = let o = get-empty {X = Thread} m in absurd (cc)
-
-opening_calls : (instances handle_limit capacity : ℕ) → CallsThere (fresh instances handle_limit capacity)
-unfolding fresh
-opening_calls instances handle_limit capacity n k e = let o = get-empty {X = Thread} n in absurd (cc)
-
-opening_waits : (instances handle_limit capacity : ℕ) → WaitsAtHome (fresh instances handle_limit capacity)
-unfolding fresh
-opening_waits instances handle_limit capacity = record {
-  by_place = λ n x e. let o = get-empty {X = Thread} n in absurd (cc);
-  by_op = λ n x e. let o = get-empty {X = Thread} n in absurd (cc);
-}
-
 pub opening_in_order : OpeningInOrder
+unfolding fresh
 opening_in_order c codes instances handle_limit capacity main =
     let q : CallsHold c (fresh instances handle_limit capacity) = opening_holds c instances handle_limit capacity in
-    let s = fresh instances handle_limit capacity in
     record {
       codes = codes;
-      in_place = opening_in_place instances handle_limit capacity main;
-      strands = opening_strands instances handle_limit capacity;
-      directs = opening_directs instances handle_limit capacity;
-      works = opening_works instances handle_limit capacity;
+      in_place = record { placed = opening_placed instances handle_limit capacity; runs = λ n e. absurd (cc) };
+      strands = record {
+        below = λ n m e. let o = get-empty {X = Thread} n in absurd (cc);
+        made = λ n m e. let o = get-empty {X = Thread} n in absurd (cc);
+        alone = λ n k m e f. let o = get-empty {X = Thread} n in absurd (cc);
+      };
+      directs = λ n there implicit direct. let o = get-empty {X = Thread} n in absurd (cc);
+      works = record {
+        each = λ i w at. let o = get-empty {X = Work} i in absurd (cc);
+        low = λ i. (refl, refl);
+        made = λ i there. let o = get-empty {X = Work} i in absurd (cc);
+        gone = λ i none. (refl, refl);
+      };
+      awaited = λ n i far. let o = get-empty {X = Thread} n in absurd (cc);
       numbered = q.numbered;
-      calls_there = opening_calls instances handle_limit capacity;
-      waits = opening_waits instances handle_limit capacity;
+      calls_there = λ n k e. let o = get-empty {X = Thread} n in absurd (cc);
+      waits = record {
+        by_place = λ n x e. let o = get-empty {X = Thread} n in absurd (cc);
+        by_op = λ n x e. let o = get-empty {X = Thread} n in absurd (cc);
+      };
       calls_named = opening_named instances handle_limit capacity;
       sets_named = opening_sets instances handle_limit capacity;
       joins_named = opening_joins instances handle_limit capacity;
       kinds = q.kinds;
       deliveries = q.deliveries;
-      starts = opening_starts instances handle_limit capacity;
+      fits = λ n t at. let o = get-empty {X = Thread} n in absurd (cc);
+      starts = λ k c at e. let o = get-empty {X = Call} k in absurd (cc);
     }
 
 -- ---- Runs

@@ -1,8 +1,6 @@
 -- Where each thread is after a step.
-use Rattle.task_machine.specs.declared.words.Mark.TheVariants as mark
-use Rattle.task_rules.proofs.Machine.{base_at, base_without, Core, Entry, HasPlace, HasSubtask, is_behind_of, is_fresh, is_take, IsRunner, Label, LastWords, Mark, next_entry, next_polled, nothing_stands, one_if, Place, place_of, popped, runner_at, says, Scene, scene_of, set_high, set_low, set_switch, Setting, settled_futures, settled_take, settled_turn, start_of, State, thread_of_entry, Trip, Turn, Walked, was_started}
-use Rattle.std.proofs.Common.{T, ap, arith, refl, subst, sym, ◌∙◌}
-use Rattle.std.specs.Prelude.{Bool, None, Option, Some, [], false, is_some, true, unwrap_or, ℕ, ◌+◌, ◌==◌, ◌≡◌, ◌≤◌}
+use Rattle.task_rules.proofs.Machine.{[], ap, arith, base_at, base_without, Bool, Core, Entry, false, get, HasPlace, HasSubtask, inr, is_behind_of, is_fresh, is_some, is_take, IsRunner, Label, LastWords, Made, Mark, nat_tests, next_entry, None, Option, option_map, Place, place_of, Pop, popped, refl, runner_at, says, Scene, scene_of, set_high, set_low, set_switch, Setting, settled_turn, Some, start_of, State, subst, sym, T, Thread, thread_of_entry, Trip, true, Turn, unwrap_or, Walked, was_started, ℕ, ◌+◌, ◌∙◌, ◌≡◌, ◌≤◌}
+use Rattle.task_rules.proofs.PlacingLemmas.{SameWorks, placing_works}
 use Rattle.task_laws.specs.Order.{InPlace}
 use Rattle.task_machine.specs.declared.records.Entry.TheVariants as entry
 use Rattle.task_machine.specs.declared.records.Place.TheVariants as place
@@ -22,11 +20,7 @@ no_runner a m none is = no_way (ap (λ (o : Option ℕ). is_some o) (sym none �
 
 -- a number that wasn't given is no thread's
 ungiven : (n : ℕ) (s : Core) → (n ≤ s.made.threads → ⊥) → HasPlace n s → place_of n s ≡ None
-ungiven n s above h = go (place_of n s) h.number
-  where
-    go : (o : Option Place) → (is_some o ≡ true → n ≤ s.made.threads) → o ≡ None
-    go None g = refl
-    go (Some p) g = absurd (above (g refl))
+ungiven n s above h = let g = h.number in grind arith
 
 -- ---- No thread runs or is taken
 
@@ -35,7 +29,7 @@ nobody_frame a b none idle home made all = record {
   follows = record {
     busy = refl;
     runs = λ m e. absurd (idle m e);
-    apart = by_number (b.made.threads + 2) (a.base.made.threads + 1) ((b.made.threads + 2 == a.base.made.threads + 1) ≡ false) (λ e. absurd (differ made e)) (λ e. e);
+    apart = grind (arith, nat_tests, made);
     withdraws = λ m k is has unstarted. no_runner a m none is;
     start = stand_of {P = watch a} (b.made.threads + 2) None b gone refl (λ k w. ap (is_so (watch a k)) (home k) ∙ so_self (place_of k a.base)) all;
   };
@@ -46,9 +40,6 @@ nobody_frame a b none idle home made all = record {
   rests = λ t w i. i (ap is_idle (sym (home (b.made.threads + 2)) ∙ gone));
 }
   where
-    differ : {x y : ℕ} → x ≡ y → x + 2 ≡ y + 1 → ⊥
-    differ e g = omega (arith, e, g)
-
     above : {x : ℕ} → x + 2 ≤ x → ⊥
     above g = omega (arith, g)
 
@@ -61,38 +52,30 @@ follows_at : (a : Scene) (n : ℕ) (p : Place) → place_of n a.base ≡ Some p 
 follows_at a n p at busy idle unfresh may all = record {
   busy = busy;
   runs = λ m e. (idle, unfresh);
-  apart = by_number n (a.base.made.threads + 1) ((n == a.base.made.threads + 1) ≡ false) (λ e. absurd (above e ((all n).number (ap (λ (o : Option Place). is_some o) at)))) (λ e. e);
+  apart = let g = (all n).number (ap (λ (o : Option Place). is_some o) at) in grind (arith, nat_tests);
   withdraws = may;
   start = stand_of {P = watch a} n (Some p) a.base at idle (λ k w. so_self (place_of k a.base)) all;
 }
-  where
-    above : {x y : ℕ} → x ≡ y + 1 → x ≤ y → ⊥
-    above e g = omega (arith, e, g)
 
 running_frame : (a : Scene) (n : ℕ) → a.runner ≡ Some n → a.turn ≡ turn.Run n → place_of n a.base ≡ Some place.Running → Withdrawable a → All a.base → Frame a a.base n (Some place.Running)
 running_frame a n is runs at may all = record {
   follows = follows_at a n place.Running at refl refl refl may all;
   home = λ k. refl;
-  one = λ m e. same m e;
+  one = λ m e. grind arith;
   there = λ m e. (place.Running, (refl, refl));
-  running = λ m e. (ap (λ (u : Turn). number_in u) (sym e ∙ runs), refl);
+  running = λ m e. (grind arith, refl);
   rests = λ t w i. i (ap is_idle at);
 }
-  where
-    same : (m : ℕ) → IsRunner a m → m ≡ n
-    same m e = ap (λ (o : Option ℕ). unwrap_or o m) (sym e ∙ is)
-
-    number_in : Turn → ℕ
-    number_in (turn.Run k) = k
-    number_in _ = n
 
 -- ---- A thread is taken
 
-popped_same : (x : Mark) (s : Core) → ((k : ℕ) → place_of k s ≡ place_of k (popped x s)) × (s.made.threads ≡ (popped x s).made.threads)
+-- the same is read of threads and works
+abbrev pub Reads : Core → Core → Type 0
+Reads s b = (b.threads ≡ s.threads) × ((b.works ≡ s.works) × (b.made ≡ s.made))
+
+popped_reads : (x : Mark) (s : Core) → Reads s (popped x s)
 unfolding popped set_switch set_high set_low
-popped_same mark.Switch s = (λ k. refl, refl)
-popped_same mark.High s = (λ k. refl, refl)
-popped_same mark.Low s = (λ k. refl, refl)
+popped_reads x s = grind arith
 
 taken_frame : (a : Scene) (x : Mark) (n : ℕ) (s : Core) → a.runner ≡ Some n → ((m : ℕ) → a.turn ≡ turn.Run m → ⊥) → is_take a.turn ≡ true → a.base ≡ popped x s → First x (entry.Thread n) s → Withdrawable a → All s → (p : Place) × Frame a a.base n (Some p)
 taken_frame a x n s is idle take base first may all = (
@@ -101,14 +84,15 @@ taken_frame a x n s is idle take base first may all = (
     follows = record {
       busy = refl;
       runs = λ m e. absurd (idle m e);
-      apart = by_number n (a.base.made.threads + 1) ((n == a.base.made.threads + 1) ≡ false) (λ e. absurd (above (e ∙ ap (λ (k : ℕ). k + 1) (ap (λ (c : Core). c.made.threads) base ∙ sym (popped_same x s).1)) ((all n).number (ap (λ (o : Option Place). is_some o) r.1.1)))) (λ e. e);
+      apart = let m = ap (λ (c : Core). c.made.threads) base ∙ ap (λ (m : Made). m.threads) (popped_reads x s).1.1 in
+          let g = (all n).number (ap (λ (o : Option Place). is_some o) r.1.1) in grind (arith, nat_tests);
       withdraws = may;
       start = subst (λ (b : Core). Stand (watch a) n (Some (place.Ready r.0 r.1.0)) [] b) (sym base) (record {
         here = c.places n ∙ r.1.1;
-        once = λ k. at_most (k == n);
+        once = λ k. grind arith;
         loose = λ k h. by_number k n (Loose k (popped x s)) (λ e. subst (λ (j : ℕ). Loose j (popped x s)) (sym e) (c.own (λ f. ap (says (is_behind_of f)) r.1.1))) (λ e. zero_one (no_time k n e) h);
         there = λ k h. zero_one refl h;
-        placed = λ k h. left_placed k s (popped x s) (c.left k (apart_of (k == n) h)) (c.places k) (all k);
+        placed = λ k h. left_placed k s (popped x s) (c.left k (grind arith)) (c.places k) (all k);
         kept = λ k w. (refl, ap (λ (b : Core). is_so (watch a k) (place_of k b)) (sym base) ∙ so_self (place_of k a.base));
       });
     };
@@ -126,63 +110,45 @@ taken_frame a x n s is idle take base first may all = (
     r : ReadyAt (place_of n s)
     r = entry_ready n s (all n) (popped_cleared x n s first (all n)).1
 
-    above : {x y : ℕ} → x ≡ y + 1 → x ≤ y → ⊥
-    above e g = omega (arith, e, g)
-
-    at_most : (b : Bool) → one_if b + 0 ≤ 1
-    at_most true = omega arith
-    at_most false = omega arith
-
-    apart_of : (b : Bool) → one_if b + 0 ≡ 0 → b ≡ false
-    apart_of false h = refl
-    apart_of true h = zero_one h refl
-
 -- ---- A step
 
-module _ (x : Setting) (s : State) (l : Label) (next : Turn) (h : InPlace s) where
+-- what holds of each trip with such a frame holds of the step
+module _ (x : Setting) (s : State) (l : Label) (next : Turn) (h : InPlace s) (C : Scene → Core → Type 0)
+    (goes : (a : Scene) (b : Core) (n : ℕ) (q : Option Place) (t : Core) → Reads s.core a.base → Reads s.core b → SameWorks s.core b → Frame a b n q → Trip a b t → LastWords a t → C a t) where
   abbrev at : Turn → Core → Option ℕ → Scene
   at u base o = record { setting = x; main = s.main; turn = u; base = base; runner = o; label = l; next = next }
 
   not_running : (u : Turn) → is_run u ≡ false → (m : ℕ) → u ≡ turn.Run m → ⊥
   not_running u idle m e = subst T (sym (sym idle ∙ ap is_run e)) tt
 
-  nobody : (u : Turn) (base : Core) {t : Core} → is_run u ≡ false → ((k : ℕ) → place_of k s.core ≡ place_of k base) → s.core.made.threads ≡ base.made.threads → Trip (at u base None) s.core t → LastWords (at u base None) t → Arrives (at u base None) t
-  nobody u base idle home made c w = trip_arrives (nobody_frame (at u base None) s.core refl (not_running u idle) home made h.placed) c w
+  nobody : (u : Turn) (base : Core) {t : Core} → is_run u ≡ false → Reads s.core base → Trip (at u base None) s.core t → LastWords (at u base None) t → C (at u base None) t
+  nobody u base idle reads c w = goes (at u base None) s.core _ _ _ reads (refl, (refl, refl)) (record { high = refl; low = refl }) (nobody_frame (at u base None) s.core refl (not_running u idle) (λ k. ap (λ m. option_map (λ (r : Thread). r.place) (get m k)) (sym reads.0)) (ap (λ (m : Made). m.threads) (sym reads.1.1)) h.placed) c w
 
-  by_entry : (ended : Bool) (o : Option (Mark × Entry)) {t : Core} → next_entry s.core ≡ o → Withdrawable (at (turn.Take ended) (base_without o s.core) (thread_of_entry o)) → Trip (at (turn.Take ended) (base_without o s.core) (thread_of_entry o)) (start_of (at (turn.Take ended) (base_without o s.core) (thread_of_entry o)) s.core) t → LastWords (at (turn.Take ended) (base_without o s.core) (thread_of_entry o)) t → Arrives (at (turn.Take ended) (base_without o s.core) (thread_of_entry o)) t
-  by_entry ended None e may c w = nobody (turn.Take ended) s.core refl (λ k. refl) refl c w
-  by_entry ended (Some (y, entry.Push i)) e may c w = nobody (turn.Take ended) (popped y s.core) refl (popped_same y s.core).0 (popped_same y s.core).1 c w
-  by_entry ended (Some (y, entry.Host i)) e may c w = nobody (turn.Take ended) (popped y s.core) refl (popped_same y s.core).0 (popped_same y s.core).1 c w
+  by_entry : (ended : Bool) (o : Option (Mark × Entry)) {t : Core} → next_entry s.core ≡ o → Withdrawable (at (turn.Take ended) (base_without o s.core) (thread_of_entry o)) → Trip (at (turn.Take ended) (base_without o s.core) (thread_of_entry o)) (start_of (at (turn.Take ended) (base_without o s.core) (thread_of_entry o)) s.core) t → LastWords (at (turn.Take ended) (base_without o s.core) (thread_of_entry o)) t → C (at (turn.Take ended) (base_without o s.core) (thread_of_entry o)) t
+  by_entry ended None e may c w = nobody (turn.Take ended) s.core refl (refl, (refl, refl)) c w
+  by_entry ended (Some (y, entry.Push i)) e may c w = nobody (turn.Take ended) (popped y s.core) refl (popped_reads y s.core) c w
+  by_entry ended (Some (y, entry.Host i)) e may c w = nobody (turn.Take ended) (popped y s.core) refl (popped_reads y s.core) c w
   by_entry ended (Some (y, entry.Thread n)) e may c w =
-      trip_arrives (taken_frame (at (turn.Take ended) (popped y s.core) (Some n)) y n s.core refl (not_running (turn.Take ended) refl) refl refl (next_first s.core y (entry.Thread n) e) may h.placed).1 c w
+      goes (at (turn.Take ended) (popped y s.core) (Some n)) (popped y s.core) _ _ _ (popped_reads y s.core) (popped_reads y s.core) (placing_works (at (turn.Take ended) s.core (Some n)) (Pop y) s.core (inr (n, (refl, e)))) (taken_frame (at (turn.Take ended) (popped y s.core) (Some n)) y n s.core refl (not_running (turn.Take ended) refl) refl refl (next_first s.core y (entry.Thread n) e) may h.placed).1 c w
 
-  by_turn : (u : Turn) {t : Core} → s.turn ≡ u → Withdrawable (at u (base_at u s.core) (runner_at u s.core)) → Trip (at u (base_at u s.core) (runner_at u s.core)) (start_of (at u (base_at u s.core) (runner_at u s.core)) s.core) t → LastWords (at u (base_at u s.core) (runner_at u s.core)) t → Arrives (at u (base_at u s.core) (runner_at u s.core)) t
-  by_turn turn.Main e may c w = nobody turn.Main s.core refl (λ k. refl) refl c w
-  by_turn (turn.Futures n) e may c w = nobody (turn.Futures n) s.core refl (λ k. refl) refl c w
-  by_turn turn.Over e may c w = nobody turn.Over s.core refl (λ k. refl) refl c w
-  by_turn (turn.Run n) e may c w = trip_arrives (running_frame (at (turn.Run n) s.core (Some n)) n refl refl (h.runs n e) may h.placed) c w
+  by_turn : (u : Turn) {t : Core} → s.turn ≡ u → Withdrawable (at u (base_at u s.core) (runner_at u s.core)) → Trip (at u (base_at u s.core) (runner_at u s.core)) (start_of (at u (base_at u s.core) (runner_at u s.core)) s.core) t → LastWords (at u (base_at u s.core) (runner_at u s.core)) t → C (at u (base_at u s.core) (runner_at u s.core)) t
+  by_turn turn.Main e may c w = nobody turn.Main s.core refl (refl, (refl, refl)) c w
+  by_turn (turn.Futures n) e may c w = nobody (turn.Futures n) s.core refl (refl, (refl, refl)) c w
+  by_turn turn.Over e may c w = nobody turn.Over s.core refl (refl, (refl, refl)) c w
+  by_turn (turn.Run n) e may c w = goes (at (turn.Run n) s.core (Some n)) s.core _ _ _ (refl, (refl, refl)) (refl, (refl, refl)) (record { high = refl; low = refl }) (running_frame (at (turn.Run n) s.core (Some n)) n refl refl (h.runs n e) may h.placed) c w
   by_turn (turn.Take ended) e may c w = by_entry ended (next_entry s.core) refl may c w
 
+pub step_by : (x : Setting) (s : State) (l : Label) (t : State) (w : Walked x s l t) → InPlace s → Withdrawable (scene_of x s l w.next) → (C : Scene → Core → Type 0) →
+    ((a : Scene) (b : Core) (n : ℕ) (q : Option Place) (t : Core) → Reads s.core a.base → Reads s.core b → SameWorks s.core b → Frame a b n q → Trip a b t → LastWords a t → C a t) → C (scene_of x s l w.next) t.core
+step_by x s l t w h may C goes = by_turn x s l w.next h C goes s.turn refl may w.trip w.ends
+
 pub step_arrives : (x : Setting) (s : State) (l : Label) (t : State) (w : Walked x s l t) → InPlace s → Withdrawable (scene_of x s l w.next) → Arrives (scene_of x s l w.next) t.core
-step_arrives x s l t w h may = by_turn x s l w.next h s.turn refl may w.trip w.ends
+step_arrives x s l t w h may = step_by x s l t w h may Arrives (λ a b n q u base first same f c ends. trip_arrives f c ends)
 
 -- ---- The turn
 
-take_still : (a b : Bool) → is_run (settled_take a b) ≡ false
-take_still true true = refl
-take_still true false = refl
-take_still false b = refl
-
 settled_run : (s : Core) (u : Turn) (m : ℕ) → settled_turn s u ≡ turn.Run m → u ≡ turn.Run m
-settled_run s (turn.Run n) m e = e
-settled_run s turn.Main m e = e
-settled_run s turn.Over m e = e
-settled_run s (turn.Take ended) m e = no_way (sym (take_still ended (nothing_stands s)) ∙ ap is_run e)
-settled_run s (turn.Futures n) m e = no_way (sym (futures (next_polled n s)) ∙ ap is_run e)
-  where
-    futures : (o : Option ℕ) → is_run (settled_futures n s o) ≡ false
-    futures (Some i) = refl
-    futures None = take_still false (nothing_stands s)
+settled_run s u m e = grind arith
 
 pub in_place : (x : Setting) (s : State) (l : Label) (t : State) (w : Walked x s l t) → Arrives (scene_of x s l w.next) t.core → InPlace t
 in_place x s l t w r = record { placed = r.placed; runs = λ m e. r.runs m (settled_run t.core w.next m (sym w.turn ∙ e)) }

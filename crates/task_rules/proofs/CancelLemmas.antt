@@ -1,7 +1,5 @@
 -- What each case of the cancel of a guest call says.
-use Rattle.std.specs.Prelude.{Bool, false, if◌then◌else◌, not, true, ℕ, ◌≡◌}
-use Rattle.std.proofs.Common.{refl}
-use Rattle.task_rules.proofs.Machine.{AlreadyEnded, CallbackWaits, CallbackYields, cancel_case, CancelCase, Core, has_ended, is_at, is_callback_wait, is_callback_yield, OtherwiseRuns, StartNotRun, was_started}
+use Rattle.task_rules.proofs.Machine.{AlreadyEnded, Bool, CallbackWaits, CallbackYields, cancel_case, CancelCase, Core, false, has_ended, if◌then◌else◌, is_at, is_callback_wait, is_callback_yield, not, OtherwiseRuns, refl, StartNotRun, true, was_started, ℕ, ◌≡◌}
 
 abbrev pub CaseSays : ℕ → Core → CancelCase → Type 0
 CaseSays k s AlreadyEnded = has_ended k s ≡ true

@@ -2,9 +2,7 @@
 use Rattle.task_machine.specs.declared.words.Mark.TheVariants as mark
 use Rattle.task_machine.specs.declared.records.Place.TheVariants as place
 use Rattle.task_machine.specs.declared.records.HowFar.TheVariants as how_far
-use Rattle.std.specs.Prelude.{ℕ}
-use Rattle.std.proofs.Common.{inl, inr}
-use Rattle.task_rules.proofs.Machine.{after_word, Allowed, Chain, Collapses, Core, Departs, EndsOver, GoesBack, IsFall, IsSettling, IsShift, Lands, LandsAt, MayGo, MayLand, Move, NoWord, Places, Placing, Pop, Promote, Put, Quits, Remains, RemoveCall, RemoveGroup, RemoveThread, Scene, SetHowFar, Settles, SetTrapped, SetUninteresting, Stay, Stays, Then, Trip, Walk, Word}
+use Rattle.task_rules.proofs.Machine.{Advance, after_word, Allowed, Chain, Collapses, Core, Departs, EndsOver, GoesBack, inl, inr, IsFall, IsSettling, IsShift, Lands, LandsAt, MayGo, MayLand, Move, NoWord, Places, Placing, Pop, Promote, Put, Quits, Remains, RemoveCall, RemoveGroup, RemoveThread, Scene, SetHowFar, Settles, SetTrapped, SetUninteresting, Stay, Stays, Then, Trip, Walk, Word, ℕ}
 
 module _ {may : Word → Core → Type 0} where
   -- what holds at first and is kept by each word holds at last
@@ -21,23 +19,44 @@ pub weaken : {may can : Word → Core → Type 0} → ((w : Word) (s : Core) →
 weaken f NoWord = NoWord
 weaken f (Then s w c ok) = Then s w (weaken f c) (f w s ok)
 
+-- the words before the running thread's op is done
+abbrev pub Keeps : Scene → Word → Core → Type 0
+Keeps a (Advance n p) s = ⊥
+Keeps a w s = Stays a w s
+
+abbrev pub Keep : Scene → Core → Core → Type 0
+Keep a b t = Chain (Keeps a) b t
+
+pub keeps_stays : (a : Scene) (w : Word) (s : Core) → Keeps a w s → Stays a w s
+keeps_stays a (Advance n p) s ok = absurd ok
+keeps_stays a _ s ok = ok
+
+pub keep_stay : {a : Scene} {b t : Core} → Keep a b t → Stay a b t
+keep_stay {a = a} c = weaken (keeps_stays a) c
+
+pub shift_keeps : (a : Scene) (w : Word) (s : Core) → IsShift w s → Keeps a w s
+shift_keeps a (Places p) s ok = inl ok
+shift_keeps a _ s ok = absurd ok
+
+pub settle_keeps : (a : Scene) (w : Word) (s : Core) → IsSettling w s → Keeps a w s
+settle_keeps a (SetUninteresting k) s ok = tt
+settle_keeps a (RemoveCall k) s ok = ok
+settle_keeps a (RemoveGroup g) s ok = ok
+settle_keeps a _ s ok = absurd ok
+
 -- what may be done while the running thread stays may be done in the step
-stays_allowed : (a : Scene) (w : Word) (s : Core) → Stays a w s → Allowed a w s
+pub stays_allowed : (a : Scene) (w : Word) (s : Core) → Stays a w s → Allowed a w s
 stays_allowed a (Places p) s (inl ok) = inl ok
 stays_allowed a (Places (Promote k)) s (inr ok) = inr ok
 stays_allowed a (Places _) s (inr ok) = absurd ok
 stays_allowed a (RemoveThread n) s ok = absurd ok
 stays_allowed a _ s ok = ok
 
-land_allowed : (a : Scene) (p : Placing) (s : Core) → MayLand a p s → Allowed a (Places p) s
+pub land_allowed : (a : Scene) (p : Placing) (s : Core) → MayLand a p s → Allowed a (Places p) s
 land_allowed a (Pop m) s ok = absurd ok
 land_allowed a (Promote k) s ok = absurd ok
 land_allowed a (Put mark.Switch n w) s ok = absurd ok
 land_allowed a _ s ok = inr ok
-
-pub shift_stays : (a : Scene) (w : Word) (s : Core) → IsShift w s → Stays a w s
-shift_stays a (Places p) s ok = inl ok
-shift_stays a _ s ok = absurd ok
 
 pub settle_stays : (a : Scene) (w : Word) (s : Core) → IsSettling w s → Stays a w s
 settle_stays a (SetUninteresting k) s ok = tt
@@ -45,7 +64,7 @@ settle_stays a (RemoveCall k) s ok = ok
 settle_stays a (RemoveGroup g) s ok = ok
 settle_stays a _ s ok = absurd ok
 
-fall_allowed : (a : Scene) (w : Word) (s : Core) → IsFall a w s → Allowed a w s
+pub fall_allowed : (a : Scene) (w : Word) (s : Core) → IsFall a w s → Allowed a w s
 fall_allowed a (RemoveThread n) s ok = ok
 fall_allowed a SetTrapped s ok = tt
 fall_allowed a _ s ok = absurd ok

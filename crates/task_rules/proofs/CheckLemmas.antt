@@ -1,15 +1,8 @@
 -- Checks after other moves: after a release and a stop, told on the state before, and after a return.
-use Rattle.std.proofs.Common.{◌∙◌, ap, arith, cond, refl, subst, sym}
+use Rattle.task_rules.proofs.Machine.{[], admitted_held, All, ap, arith, behind, behind_one, blocked_on, BlockingCheckIsAfter, Bool, CallbackCheckIsAfter, Caller, caller_of, callers_of, code_stops, cond, Core, end_reopens, Entry, false, find, first_at, first_entry, first_in, first_waiter, foot_of, get, give_result, Goal, goal_of, has_waiter, held_by_flag, held_why_of, if◌then◌else◌, instance_of, is_at, is_callback_waiter, is_entry_in, is_held_admitted, is_nil, is_some, is_told, is_waiting_on, IsPermutation, Join, join_of, length, List, list_any, list_any-append, may_not_suspend, may_publish, may_tell, may_wake, may_wake_joined, nat_cmp, nat_tests, newest, None, not, not-true, numbers, older, on_call, on_instance, on_thread, Option, option_map, option_map_or, passed_on, passes_after_return, passes_after_stop, passes_check, Place, published, push_high, put_high, put_switch, refl, register_of, released, released_one, result_given, resumed_all, returned, same_map, set_callers, set_do_not_enter, set_end, set_event, set_place, set_register, set_result, set_switch, Some, Status, stopped, subst, sym, task_of, Thread, told, true, unblocked, waiter_told, wake, wake_joined, waken_by, Why, with_high, ℕ, ◌&&◌, ◌==◌, ◌||◌, ◌∙◌, ◌∷◌, ◌≡◌}
 use Rattle.std.proofs.Math.Bool.{or-false}
-use Rattle.std.proofs.lemmas.Bool.{not-true}
-use Rattle.std.proofs.lemmas.Bool.Decides.{nat_tests}
 use Rattle.std.proofs.lemmas.List.Elements.{filter_passes}
-use Rattle.std.proofs.lemmas.List.Folds.{list_any-append}
 use Rattle.std.proofs.lemmas.List.Sorted.{All-permutation, length_permutation, list_any-IsPermutation}
-use Rattle.std.specs.List.{list_any}
-use Rattle.std.specs.Option.{option_map_or}
-use Rattle.std.specs.Prelude.{All, Bool, IsPermutation, List, None, Option, Some, [], false, find, is_some, length, not, option_map, true, ℕ, ◌&&◌, ◌==◌, ◌||◌, ◌∷◌, ◌≡◌, if◌then◌else◌}
-use Rattle.task_rules.proofs.Machine.{admitted_held, behind, behind_one, blocked_on, BlockingCheckIsAfter, CallbackCheckIsAfter, Caller, caller_of, callers_of, code_stops, Core, end_reopens, Entry, first_at, first_entry, first_in, first_waiter, foot_of, get, give_result, Goal, goal_of, has_waiter, held_by_flag, held_why_of, instance_of, is_at, is_callback_waiter, is_entry_in, is_held_admitted, is_nil, is_told, is_waiting_on, Join, join_of, may_not_suspend, may_publish, may_tell, may_wake, may_wake_joined, newest, numbers, older, on_call, on_instance, on_thread, passed_on, passes_after_return, passes_after_stop, passes_check, Place, published, push_high, put_high, put_switch, register_of, released, released_one, result_given, resumed_all, returned, same_map, set_callers, set_do_not_enter, set_end, set_event, set_place, set_register, set_result, set_switch, Status, stopped, task_of, Thread, told, unblocked, waiter_told, wake, wake_joined, waken_by, Why, with_high}
 use Rattle.task_machine.specs.declared.records.Entry.TheVariants as entry
 use Rattle.task_machine.specs.declared.records.Place.TheVariants as place
 use Rattle.task_machine.specs.declared.records.Why.TheVariants as why
@@ -17,7 +10,6 @@ use Rattle.task_machine.specs.declared.words.Mark.TheVariants as mark
 use Rattle.task_machine.proofs.CommuteLemmas.{get-change}
 use Rattle.task_rules.proofs.StandLemmas.{set_place_is}
 use Rattle.std.specs.FinMap.Entries.{find as seek}
-use Rattle.std.specs.Ordering.{nat_cmp}
 use Rattle.task_machine.specs.declared.records.CallEnd.TheVariants as call_end
 use Rattle.task_machine.specs.declared.records.Caller.TheVariants as caller
 use Rattle.task_machine.specs.declared.records.Delivery.TheVariants as delivery

@@ -1,4 +1,14 @@
--- The words of the machine and of its rules that the proofs cite, in one place.
+-- The words of std, of the machine and of its rules that the proofs cite, in one place.
+pub use Rattle.std.proofs.Common.{ap, ap₂, arith, cond, inl, inr, le_refl, le_trans, refl, subst, sym, T, ⊎_elim, ◌∙◌}
+pub use Rattle.std.proofs.lemmas.Bool.{and_parts, eq-eqb, eqb-false, eqb-true, not-true}
+pub use Rattle.std.proofs.lemmas.Bool.Decides.{nat_tests}
+pub use Rattle.std.proofs.lemmas.List.Folds.{list_any-append}
+pub use Rattle.std.specs.Cmp.{nat_cmp_total, unsigned_tied}
+pub use Rattle.std.specs.FinMap.Entries.{below_all, is_sorted}
+pub use Rattle.std.specs.List.{list_any}
+pub use Rattle.std.specs.Option.{option_map_or, option_or}
+pub use Rattle.std.specs.Ordering.{is_lt, nat_cmp}
+pub use Rattle.std.specs.Prelude.{[], All, Bool, count_by, false, filter, find, IfSome, if◌then◌else◌, is_none, is_some, IsPermutation, length, List, map, min, nat_le, nat_lt, None, not, Option, option_and_then, option_map, slice_get, Some, suc, true, unwrap_or, zero, ℕ, ◌%◌, ◌&&◌, ◌*◌, ◌++◌, ◌+◌, ◌-◌, ◌/◌, ◌<◌, ◌==◌, ◌||◌, ◌∷◌, ◌≡◌, ◌≢◌, ◌≤◌, ◌⊎◌}
 pub use Rattle.task_machine.specs.Core.{Began, Core, filled, Main, MainPlace, no_handles, Queues, Refused, Scripted, Started, State, Table, Unscripted, untouched}
 unfoldable pub use Rattle.task_machine.specs.Core.{fresh}
 pub use Rattle.task_machine.specs.Labels.{Choice, choice_of, event_label, exit_label, held_label, host_label, join_label, ret_label, take_label, task_cancel_label, wait_label, woken_of}
@@ -17,11 +27,8 @@ pub use Rattle.task_machine.specs.declared.component.ExportKind.{ExportKind}
 pub use Rattle.task_machine.specs.declared.component.HostDef.{HostDef}
 pub use Rattle.task_machine.specs.declared.label.CallLabel.{CallLabel}
 pub use Rattle.task_machine.specs.declared.label.Label.{Label}
-pub use Rattle.task_machine.specs.declared.label.LoopLabel.{LoopLabel}
 pub use Rattle.task_machine.specs.declared.label.MainLabel.{MainLabel}
 pub use Rattle.task_machine.specs.declared.label.SetLabel.{SetLabel}
-pub use Rattle.task_machine.specs.declared.label.TakeLabel.{TakeLabel}
-pub use Rattle.task_machine.specs.declared.label.TaskLabel.{TaskLabel}
 pub use Rattle.task_machine.specs.declared.op.Op.{Op}
 pub use Rattle.task_machine.specs.declared.outcome.Outcome.{Outcome}
 pub use Rattle.task_machine.specs.declared.records.Call.{Call}
@@ -35,6 +42,7 @@ pub use Rattle.task_machine.specs.declared.records.Join.{Join}
 pub use Rattle.task_machine.specs.declared.records.Made.{Made}
 pub use Rattle.task_machine.specs.declared.records.Named.{Named}
 pub use Rattle.task_machine.specs.declared.records.Place.{Place}
+pub use Rattle.task_machine.specs.declared.records.Script.{Script}
 pub use Rattle.task_machine.specs.declared.records.Set.{Set}
 pub use Rattle.task_machine.specs.declared.records.Stage.{Stage}
 pub use Rattle.task_machine.specs.declared.records.Subtask.{Subtask}
@@ -49,7 +57,7 @@ pub use Rattle.task_machine.specs.declared.words.Mark.{Mark}
 pub use Rattle.task_machine.specs.declared.words.OwnEvent.{OwnEvent}
 pub use Rattle.task_machine.specs.declared.words.Phase.{Phase}
 pub use Rattle.task_machine.specs.declared.words.Status.{Status}
-pub use Rattle.task_rules.specs.Allowed.{AbortsOwn, Allowed, AwaitsEvent, Blocks, ByDelivery, ByHandle, ByOp, ByProgram, ByScript, BySetHandle, ByThread, ByWait, Cancels, ComesAgain, Departs, EndsActivation, EndsOver, Exits, Falls, FindsEvent, GivesUp, HasSet, HasSubtask, Holds, is_async_work, is_begun, is_done_host, is_exit, is_for_main, IsFall, IsFoot, IsLaid, IsNamed, IsNew, IsOwn, IsPolled, IsRunner, IsSettling, IsWithdrawn, Leaves, MayAbort, MayBar, MayCall, MayCome, MayDeliver, MayEnd, MayFinish, MayGo, MayJoin, MayLand, MayLeave, MayMake, MayMakeCall, MayMove, MayOwe, MayPut, MayRemoveWork, MayShift, MayStart, MayTell, MayWithdraw, MayYield, ProgramAborts, Releases, Resumes, ReturnsNow, Runs, SaysEnd, ScriptAborts, Starts, status_of_end, Stays, subtask_under_way, Suspends, Tells, Unblocks, Uncovers, Waits, WaitsAgain, wake_why, Wakes, WasReady, Yields}
+pub use Rattle.task_rules.specs.Allowed.{AbortsOwn, Allowed, AwaitsEvent, Blocks, ByDelivery, ByHandle, ByOp, ByProgram, ByScript, BySetHandle, ByThread, ByWait, Cancels, ComesAgain, Departs, EndsActivation, EndsOver, Exits, Falls, FindsEvent, GivesUp, HasSet, HasSubtask, Holds, is_async_work, is_begun, is_done_host, is_exit, is_for_main, IsCalled, IsFall, IsFoot, IsLaid, IsNamed, IsNew, IsOwn, IsPolled, IsRunner, IsSettling, IsWithdrawn, Leaves, MayAbort, MayAdvance, MayBar, MayCall, MayCome, MayDeliver, MayEnd, MayFinish, MayGo, MayJoin, MayLand, MayLeave, MayMake, MayMakeCall, MayMove, MayNameCall, MayOwe, MayPut, MayRemoveWork, MayRestart, MayShift, MayStart, MayTell, MayWithdraw, MayYield, ProgramAborts, Releases, Resumes, ReturnsNow, Runs, SaysEnd, ScriptAborts, Starts, status_of_end, Stays, subtask_under_way, Suspends, Tells, Unblocks, Uncovers, Waits, WaitsAgain, wake_why, Wakes, WasReady, Yields}
 pub use Rattle.task_rules.specs.Calls.{AtOnce, call_begins, call_clears_flag, call_host_polled, call_row, call_status, call_sync_begins, call_sync_host_polled, call_sync_host_row, call_sync_row, call_sync_status, enter_row, Failing, first_poll, FirstPoll, Later, new_call, new_thread, new_work, next_thread, next_work, put_back, settle_group_of, status_found, sync_sets_flag, work_group, work_value}
 unfoldable pub use Rattle.task_rules.specs.Calls.{answered, call_answered, call_made, call_pending, call_queues, call_resumes, call_returned, call_stops, call_sync_host_stops, call_sync_stops, enter_runs, host_answered, host_pending, host_ready, with_handle, with_thread_handle, work_answered, work_deleted, work_queued}
 pub use Rattle.task_rules.specs.Cancels.{aborted_phase, AlreadyEnded, Async, behind_switch, blocked_code, CallbackWaits, CallbackYields, cancel_by_end, cancel_case, cancel_ended_row, cancel_guest, cancel_label, cancel_row, cancel_subtask, CancelCase, drop_row, is_callback_wait, Mode, OtherwiseRuns, pauses, StartNotRun, subtask_instance, subtask_row, Sync}
@@ -70,7 +78,7 @@ pub use Rattle.task_rules.specs.Places.{entries, HasPlace, is_at_high, is_at_low
 pub use Rattle.task_rules.specs.Progress.{Fails, Goes, may, Never, or_never, or_trap, Ordered, Progress, Stops, trap_if, Traps}
 pub use Rattle.task_rules.specs.Run.{opening, Run}
 pub use Rattle.task_rules.specs.Scenes.{base_at, base_without, component_of, op_in, runner_at, Scene, scene_of, thread_of_entry}
-pub use Rattle.task_rules.specs.Scripts.{export_kind, host_at, registers_for, script_in, script_of_thread, slot_at, value_of, values_in}
+pub use Rattle.task_rules.specs.Scripts.{export_kind, host_at, is_script, registers_for, script_in, script_of_thread, slot_at, value_of, values_in}
 unfoldable pub use Rattle.task_rules.specs.Scripts.{op_of, script_of}
 pub use Rattle.task_rules.specs.Sets.{chosen, given_code, given_handle, given_result, handed_out, join_done, join_to, joins, may_wake_new, poll_row, set_drop_row, set_new_row, set_row, wait_begins, wait_goes_on, wait_row, wakes_joined}
 unfoldable pub use Rattle.task_rules.specs.Sets.{finds_nothing, joined, received, received_woken, set_dropped, set_given, set_made, wait_stops, wait_stops_checked}
@@ -78,11 +86,11 @@ pub use Rattle.task_rules.specs.Stalled.{is_unended_take, Setting}
 unfoldable pub use Rattle.task_rules.specs.Stalled.{may_deadlock}
 pub use Rattle.task_rules.specs.Step.{DeadlockStep, EmptyFor, entry_number, FuturesStep, MainProgresses, MainStep, op_row, OpenAct, OpenProgresses, Polled, Progresses, RestStep, ScriptStep, TakeStep, TurnStep}
 unfoldable pub use Rattle.task_rules.specs.Step.{did, Step, struck}
-pub use Rattle.task_rules.specs.SubtaskEnds.{call_of_op, cancel_target, cancelled_of_op, end_answered, end_for, finished_call, handed_by, handed_by_call, handed_by_cancel, handed_by_event, handed_by_exit, handed_by_main, handed_by_set, handed_by_take, has_result, host_end, is_ending_exit, is_handed_end, returned_of_op, started_end, SubtaskEnd, task_end, written_by, written_by_call, written_by_cancel, written_by_exit, written_by_loop, written_by_task}
+pub use Rattle.task_rules.specs.SubtaskEnds.{call_of_op, cancel_target, cancelled_of_op, end_answered, end_for, finished_call, handed_by, handed_by_call, handed_by_cancel, handed_by_event, handed_by_main, handed_by_set, has_result, host_end, is_ending_exit, is_handed_end, returned_of_op, started_end, SubtaskEnd, task_end, written_by, written_by_call, written_by_cancel, written_by_exit}
 pub use Rattle.task_rules.specs.Takes.{delivered, delivery_row, host_result, host_status, own_delivered, rest_of, set_delivered, start_admitted, start_row, start_sets_flags, starting_is_published, take_row, thread_taken}
 unfoldable pub use Rattle.task_rules.specs.Takes.{activated, activated_woken, host_done, may_tell_starting, popped, pushed, running, start_begins, start_holds, starting_told, take_holds, wait_again}
-pub use Rattle.task_rules.specs.Turns.{goes_to, nothing_stands, settled_futures, settled_take, settled_turn}
+pub use Rattle.task_rules.specs.Turns.{goes_to, settled_turn}
 unfoldable pub use Rattle.task_rules.specs.Turns.{at_turn}
-pub use Rattle.task_rules.specs.Words.{AddGroup, after_placing, after_word, CloseSet, CountWork, EndWork, Enter, FinishWork, FreeThreadHandle, GiveResult, GoBehind, MakeCall, MakeThread, Move, NameCall, NameThread, NameWork, OpenSet, Pend, placed_as, Places, Placing, Pop, Promote, Put, put_at, QueueWork, RemoveCall, RemoveGroup, RemoveThread, RemoveWork, SetBackpressure, SetCallEvent, SetCallJoin, SetCancelDelivered, SetCancelled, SetDoNotEnter, SetDoNotSuspend, SetEnd, SetExited, SetHowFar, SetOwnEvent, SetPhase, SetPosition, SetRegister, SetResult, SetSavedCallee, SetSavedOwn, SetScript, SetStarted, SetStartingPublished, SetTrapped, SetUninteresting, SetWord, SetWorkJoin, Stop, TakeHost, TakePush, TakeResult, TakeWorkEvent, UnnameCall, UnnameWork, Withdraw, Word}
+pub use Rattle.task_rules.specs.Words.{AddGroup, Advance, after_placing, after_word, CloseSet, CountWork, EndWork, Enter, FinishWork, FreeThreadHandle, GiveResult, GoBehind, MakeCall, MakeThread, Move, NameCall, NameThread, NameWork, OpenSet, Pend, placed_as, Places, Placing, Pop, Promote, Put, put_at, QueueWork, RemoveCall, RemoveGroup, RemoveThread, RemoveWork, Restart, SetBackpressure, SetCallEvent, SetCallJoin, SetCancelDelivered, SetCancelled, SetDoNotEnter, SetDoNotSuspend, SetEnd, SetExited, SetHowFar, SetOwnEvent, SetPhase, SetRegister, SetResult, SetSavedCallee, SetSavedOwn, SetStarted, SetStartingPublished, SetTrapped, SetUninteresting, SetWord, SetWorkJoin, Stop, TakeHost, TakePush, TakeResult, TakeWorkEvent, UnnameCall, UnnameWork, Withdraw, Word}
 pub use Rattle.task_rules.specs.Works.{course_for, Ends, FailsNow, first_number, followed, has_end, live_after, Poll, polled_course, polled_in, StillPends}
 unfoldable pub use Rattle.task_rules.specs.Works.{has_moving_work, next_polled, poll_ends, poll_of, poll_pends}

@@ -1,9 +1,5 @@
 -- Moves beside a thread that runs or is taken: they leave each other thread its place.
-use Rattle.std.proofs.Common.{◌∙◌, ap, arith, cond, refl, subst, sym}
-use Rattle.std.proofs.lemmas.Bool.Decides.{nat_tests}
-use Rattle.std.specs.Option.{option_map_or}
-use Rattle.std.specs.Prelude.{Bool, List, None, Option, Some, [], false, if◌then◌else◌, is_some, option_and_then, option_map, true, ℕ, ◌+◌, ◌==◌, ◌∷◌, ◌≡◌, ◌≤◌}
-use Rattle.task_rules.proofs.Machine.{Core, displaced, get-remove, HasPlace, held_why, held_why_of, is_callback_waiter, is_free, is_there, is_waiting_on, Mark, may_wake, one_if, Place, place_of, push_high, push_high_first, push_low, put_at, put_high, put_low, put_switch, released, released_one, ReleaseKeepsPlaces, RemovalKeepsPlaces, remove_thread, set_place, set_switch, StopKeepsPlaces, stopped, Thread, times, wake, WakeKeepsPlaces, waken_by, Why, why_of}
+use Rattle.task_rules.proofs.Machine.{[], ap, arith, Bool, cond, Core, displaced, false, get-remove, HasPlace, held_why, held_why_of, if◌then◌else◌, is_callback_waiter, is_free, is_some, is_there, is_waiting_on, List, Mark, may_wake, nat_tests, None, one_if, Option, option_and_then, option_map, option_map_or, Place, place_of, push_high, push_high_first, push_low, put_at, put_high, put_low, put_switch, refl, released, released_one, ReleaseKeepsPlaces, RemovalKeepsPlaces, remove_thread, set_place, set_switch, Some, StopKeepsPlaces, stopped, subst, sym, Thread, times, true, wake, WakeKeepsPlaces, waken_by, Why, why_of, ℕ, ◌+◌, ◌==◌, ◌∙◌, ◌∷◌, ◌≡◌, ◌≤◌}
 use Rattle.task_machine.specs.declared.records.Delivery.TheVariants as delivery
 use Rattle.task_machine.specs.declared.words.Mark.TheVariants as mark
 use Rattle.task_machine.specs.declared.records.Place.TheVariants as place
@@ -42,6 +38,10 @@ at_place test None h = absurd (grind arith)
 at_place test (Some p) h = (p, refl, h)
 
 -- ---- A thread is gone
+
+pub removed_is : (k n : ℕ) (s : Core) → place_of k (remove_thread n s) ≡ cond (k == n) None (place_of k s)
+unfolding remove_thread
+removed_is k n s = grind (arith, nat_tests, get-remove)
 
 pub gone_place : (n : ℕ) (s : Core) → place_of n (remove_thread n s) ≡ None
 unfolding remove_thread

@@ -1,7 +1,8 @@
 -- Labels that say nothing of the end of a call.
-use Rattle.std.specs.Prelude.{Bool, None, Option, Some, false, is_none, not, true, ◌==◌, ◌≡◌}
-use Rattle.std.proofs.Common.{arith}
-use Rattle.task_rules.proofs.Machine.{CallLabel, Component, Core, end_answered, EndWords, handed_by, Label, LoopLabel, Main, MainLabel, Scene, SetLabel, SubtaskEnd, TakeLabel, TaskLabel, written_by}
+use Rattle.task_rules.proofs.Machine.{arith, Bool, CallLabel, Component, Core, end_answered, EndWords, false, handed_by, is_none, Label, Main, MainLabel, None, not, Option, Scene, SetLabel, Some, SubtaskEnd, true, written_by, ◌==◌, ◌≡◌}
+use Rattle.task_machine.specs.declared.label.LoopLabel.{LoopLabel}
+use Rattle.task_machine.specs.declared.label.TakeLabel.{TakeLabel}
+use Rattle.task_machine.specs.declared.label.TaskLabel.{TaskLabel}
 use Rattle.task_machine.specs.declared.label.CallLabel.TheVariants as call_label
 use Rattle.task_machine.specs.declared.label.Label.TheVariants as label
 use Rattle.task_machine.specs.declared.label.LoopLabel.TheVariants as loop_label

@@ -1,9 +1,7 @@
 -- A change of where threads are leaves all else.
-use Rattle.std.proofs.Common.{ap, arith, ap₂, inl, inr, refl, subst, sym, ◌++◌, ◌∙◌, ◌⊎◌}
-use Rattle.std.specs.Option.{option_map_or}
-use Rattle.std.specs.Prelude.{Bool, List, None, Option, Some, [], false, if◌then◌else◌, option_map, true, ℕ, ◌∷◌, ◌≡◌}
+use Rattle.task_rules.proofs.Machine.{[], after_placing, after_word, ap, ap₂, arith, behind, behind_one, Bool, Call, callers_of, Chain, Core, displaced, Enter, Entry, false, foot_of, get, GoBehind, has_entry, how_far_of, if◌then◌else◌, inl, inr, instance_of, is_explicit, IsShift, less, List, Mark, may, MayLeave, MayShift, Move, newest, next_entry, no_callee, None, older, on_thread, Option, option_map, option_map_or, or_high, passed_on, Place, placed_as, Places, Placing, Pop, popped, Promote, promoted, push_high, push_high_first, push_low, Put, put_high, put_low, put_switch, refl, rest_of, resumed_all, Scene, set_callers, set_high, set_low, set_place, set_switch, Shifts, Some, Stop, stopped, subst, sym, task_of, Then, Thread, true, unqueued, Why, why_of, Word, ℕ, ◌++◌, ◌∙◌, ◌∷◌, ◌≡◌, ◌⊎◌}
 use Rattle.task_machine.proofs.MapLemmas.{change-field}
-use Rattle.task_rules.proofs.Machine.{after_placing, after_word, behind, behind_one, Call, callers_of, Chain, Core, displaced, Enter, Entry, foot_of, get, GoBehind, has_entry, instance_of, is_explicit, IsShift, less, Mark, may, MayLeave, MayShift, Move, newest, next_entry, no_callee, older, on_thread, or_high, passed_on, Place, placed_as, Places, Placing, Pop, popped, Promote, promoted, push_high, push_high_first, push_low, Put, put_high, put_low, put_switch, rest_of, resumed_all, Scene, set_callers, set_high, set_low, set_place, set_switch, Shifts, Stop, stopped, task_of, Then, Thread, unqueued, Why, why_of, Word}
+use Rattle.task_machine.specs.declared.records.HowFar.TheVariants as how_far
 use Rattle.task_rules.proofs.ChainLemmas.{along}
 use Rattle.task_machine.specs.declared.records.Entry.TheVariants as entry
 use Rattle.task_machine.specs.declared.records.Place.TheVariants as place
@@ -33,6 +31,9 @@ module _ {s t : Core} (h : Shifted s t) where
 
   pub shifted_explicit : (n : ℕ) → is_explicit n t ≡ is_explicit n s
   shifted_explicit n = read_unplaced (λ r. r.explicit) false (λ r. refl) (get t.threads n) (get s.threads n) (h.threads n)
+
+  pub shifted_far : (n : ℕ) → how_far_of n t ≡ how_far_of n s
+  shifted_far n = read_unplaced (λ r. r.how_far) how_far.Fresh (λ r. refl) (get t.threads n) (get s.threads n) (h.threads n)
 
   pub shifted_calls : t.calls ≡ s.calls
   shifted_calls = sym (ap (λ (c : Core). c.calls) h.only)

@@ -1,8 +1,5 @@
 -- A promotion moves at most one entry, and keeps the order of all others.
-use Rattle.std.proofs.Common.{ap, arith, cond, inl, inr, refl}
-use Rattle.std.proofs.lemmas.Bool.Decides.{nat_tests}
-use Rattle.std.specs.Prelude.{Bool, List, None, Option, Some, [], false, if◌then◌else◌, is_some, not, true, ℕ, ◌||◌, ◌∷◌, ◌≡◌, ◌⊎◌}
-use Rattle.task_rules.proofs.Machine.{checked, CheckMovesOne, Core, Entry, first_entry, first_in, has_entry, is_entry_of, less, may_not_suspend, on_thread, promoted, promoted_first, promoted_unless, Promotes, PromotionMovesOne, set_high, set_low, set_place, set_switch, stand, Takes, unqueued, why_of}
+use Rattle.task_rules.proofs.Machine.{[], ap, arith, Bool, checked, CheckMovesOne, cond, Core, Entry, false, first_entry, first_in, has_entry, if◌then◌else◌, inl, inr, is_entry_of, is_some, less, List, may_not_suspend, nat_tests, None, not, on_thread, Option, promoted, promoted_first, promoted_unless, Promotes, PromotionMovesOne, refl, set_high, set_low, set_place, set_switch, Some, stand, Takes, true, unqueued, why_of, ℕ, ◌||◌, ◌∷◌, ◌≡◌, ◌⊎◌}
 use Rattle.task_machine.specs.declared.records.Entry.TheVariants as entry
 use Rattle.task_machine.specs.declared.words.Mark.TheVariants as mark
 

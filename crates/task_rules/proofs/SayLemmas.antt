@@ -1,19 +1,9 @@
 -- What labels say of the ends of calls: the events that are taken.
-use Rattle.std.specs.Cmp.{unsigned_tied}
+use Rattle.task_rules.proofs.Machine.{[], activated, advanced, and_parts, answered, ap, arith, assigned, Bool, call_answered, call_resumes, call_returned, call_settled, cancel_aborts_host, cancel_takes_end, Choice, chosen, Core, end_answered, end_for, event_of, false, find, finished_call, get, get-remove, Gift, gift, gift_after_own, Given, given_for, group_settled, handed_by_event, handed_on, handed_out, has_result, if◌then◌else◌, instance_of, is_handed_end, is_none, Join, List, map, MemberGift, moved_to, nat_cmp, nat_tests, NoGift, None, not, numbers, on_call, on_instance, on_thread, on_work, Option, option_and_then, option_map, option_map_or, option_or, OwnEvent, OwnGift, packed, received, received_woken, Records, refl, remove, remove_call, remove_group, set_cancelled, set_do_not_enter, set_event, set_given, set_how_far, set_join, set_own_event, set_phase, set_place, set_position, set_register, set_result, set_saved_callee, set_script, Some, Status, status_code, subst, Subtask, subtask_at, SubtaskEnd, sym, take_result, taken, true, undelivered_end, unsigned_tied, unwrap_or, ℕ, ◌&&◌, ◌==◌, ◌∙◌, ◌∷◌, ◌≡◌}
 use Rattle.std.specs.FinMap.Entries.{find as seek}
-use Rattle.std.specs.Option.{option_or}
-use Rattle.std.specs.Ordering.{nat_cmp}
-use Rattle.std.specs.Prelude.{List, [], find, map, ◌∷◌}
-use Rattle.task_rules.proofs.Machine.{activated, advanced, answered, assigned, call_answered, call_resumes, call_returned, call_settled, cancel_aborts_host, cancel_takes_end, Choice, chosen, Core, end_answered, end_for, event_of, finished_call, get, get-remove, Gift, gift, gift_after_own, Given, given_for, group_settled, handed_by_event, handed_on, handed_out, has_result, instance_of, is_handed_end, Join, MemberGift, moved_to, NoGift, numbers, on_call, on_instance, on_thread, on_work, OwnEvent, OwnGift, packed, received, received_woken, Records, remove, remove_call, remove_group, set_cancelled, set_do_not_enter, set_event, set_given, set_how_far, set_join, set_own_event, set_phase, set_place, set_position, set_register, set_result, set_saved_callee, set_script, Status, status_code, Subtask, subtask_at, SubtaskEnd, take_result, taken, undelivered_end}
-use Rattle.std.proofs.Common.{ap, arith, refl, subst, sym, ◌∙◌}
-use Rattle.std.specs.Option.{option_map_or}
-use Rattle.std.specs.Prelude.{Bool, None, Option, Some, false, if◌then◌else◌, is_none, not, option_and_then, option_map, true, unwrap_or, ℕ, ◌&&◌, ◌==◌, ◌≡◌}
 use Rattle.task_machine.specs.declared.records.Subtask.TheVariants as subtask
 use Rattle.task_machine.specs.declared.words.Status.TheVariants as status
 use Rattle.task_machine.proofs.MapLemmas.{get-remove_same}
-use Rattle.std.proofs.Common.{arith}
-use Rattle.std.proofs.lemmas.Bool.{and_parts}
-use Rattle.std.proofs.lemmas.Bool.Decides.{nat_tests}
 use Rattle.task_machine.proofs.CommuteLemmas.{get-change}
 use Rattle.task_rules.proofs.StopLemmas.{find_passes}
 
@@ -116,9 +106,6 @@ event_aborted i s = grind (arith, nat_tests, get-change)
 -- what is so of the end that is said
 pub said_is : (P : Subtask → Status → Type 0) {f e : Status} {d sub : Subtask} → Some (end_for f d) ≡ Some (end_for e sub) → P d f → P sub e
 said_is P {f = f} {d = d} is p = subst (λ (y : SubtaskEnd). P y.subtask y.status) (ap (λ (o : Option SubtaskEnd). unwrap_or o (end_for f d)) is) p
-
-unsaid : {A : Type 0} (e : SubtaskEnd) → None ≡ Some e → A
-unsaid e h = absurd (grind arith)
 
 module _ (sub to : Subtask) (f : Status) (o : Option Subtask) (is : o ≡ Some sub) where
   -- the end that the label of a cancel says is written

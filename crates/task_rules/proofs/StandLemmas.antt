@@ -1,10 +1,5 @@
 -- Threads and their entries, counted; what the words that put a thread do to them.
-use Rattle.std.proofs.Common.{◌∙◌, ap, arith, cond, le_trans, refl, subst, sym, ◌⊎◌}
-use Rattle.std.proofs.lemmas.Bool.{eq-eqb, eqb-false, eqb-true}
-use Rattle.std.proofs.lemmas.Bool.Decides.{nat_tests}
-use Rattle.std.specs.Option.{option_map_or}
-use Rattle.std.specs.Prelude.{Bool, List, None, Option, Some, [], false, if◌then◌else◌, is_some, option_map, true, unwrap_or, ℕ, ◌++◌, ◌+◌, ◌==◌, ◌∷◌, ◌≡◌, ◌≢◌, ◌≤◌}
-use Rattle.task_rules.proofs.Machine.{callers_of, Core, entries, Entry, get, has_entry, HasPlace, is_at_high, is_at_low, is_at_switch, is_behind_of, is_entry_of, is_free, is_fresh, is_there, is_under, less, newest, older, on_thread, one_if, Place, place_of, push_high, push_low, put_high, put_low, Queues, Records, says, set_place, switch_entries, times, Why}
+use Rattle.task_rules.proofs.Machine.{[], ap, arith, Bool, callers_of, cond, Core, entries, Entry, eq-eqb, eqb-false, eqb-true, false, get, has_entry, HasPlace, if◌then◌else◌, is_at_high, is_at_low, is_at_switch, is_behind_of, is_blocked_on, is_entry_of, is_free, is_fresh, is_some, is_there, is_under, le_trans, less, List, nat_tests, newest, None, older, on_thread, one_if, Option, option_map, option_map_or, Place, place_of, push_high, push_low, put_high, put_low, Queues, Records, refl, says, set_place, Some, subst, Subtask, switch_entries, sym, times, true, unwrap_or, Why, ℕ, ◌++◌, ◌+◌, ◌==◌, ◌∙◌, ◌∷◌, ◌≡◌, ◌≢◌, ◌≤◌, ◌⊎◌}
 use Rattle.task_machine.specs.declared.records.Entry.TheVariants as entry
 use Rattle.task_machine.specs.declared.words.Mark.TheVariants as mark
 use Rattle.task_machine.specs.declared.records.Place.TheVariants as place
@@ -120,11 +115,12 @@ left_loose k s t q l = grind arith
 
 -- ---- A state in which n and some others are loose, and all the rest have their places
 
--- what is watched of a thread: nothing, that it waits for its start or is gone, or that it is under that one
+-- what is watched of a thread: nothing, that it waits for its start or is gone, that it is under that one, or blocked on that subtask
 pub data Watch : Type 0 where
   Nothing : Watch
   Awaits : Watch
   Covered : (over : ℕ) → Watch
+  Stuck : (on : Subtask) → Watch
 
 abbrev pub is_watched : Watch → Bool
 is_watched Nothing = false
@@ -134,6 +130,7 @@ abbrev pub is_so : Watch → Option Place → Bool
 is_so Nothing o = true
 is_so Awaits o = is_fresh o
 is_so (Covered m) o = option_map_or (is_under m) o false
+is_so (Stuck sub) o = option_map_or (is_blocked_on sub) o false
 
 -- n is at q, or there is no such thread; what is watched is so
 pub record Stand (P : ℕ → Watch) (n : ℕ) (q : Option Place) (xs : List ℕ) (s : Core) : Type 0 where

@@ -1,12 +1,8 @@
 -- The end of a task as a chain of words.
-use Rattle.std.proofs.Common.{ap, refl, sym, ◌∙◌}
-use Rattle.std.specs.Option.{option_map_or}
-use Rattle.std.specs.Prelude.{None, Option, Some, false, option_map, true, ℕ, ◌≡◌}
-use Rattle.std.proofs.Common.{arith}
-use Rattle.std.proofs.lemmas.Bool.Decides.{nat_tests}
+use Rattle.task_rules.proofs.Machine.{ap, arith, Call, CallEnd, Caller, caller_of, cancelled, Core, end_of, false, get, give_result, GiveResult, Goal, goal_of, is_told, is_waiting_on, join_of, MayEnd, nat_tests, None, on_call, on_thread, Option, option_map, option_map_or, place_of, refl, result_given, returned, SaysEnd, Scene, set_end, set_register, set_result, SetEnd, SetRegister, SetResult, Some, sym, told, true, ℕ, ◌∙◌, ◌≡◌}
 use Rattle.task_machine.proofs.CommuteLemmas.{get-change}
 use Rattle.task_machine.proofs.MapLemmas.{change-field}
-use Rattle.task_rules.proofs.Machine.{Call, CallEnd, Caller, caller_of, cancelled, Core, end_of, get, give_result, GiveResult, Goal, goal_of, is_told, is_waiting_on, join_of, MayEnd, on_call, on_thread, place_of, result_given, returned, SaysEnd, Scene, set_end, set_register, set_result, SetEnd, SetRegister, SetResult, Stay, told}
+use Rattle.task_rules.proofs.ChainLemmas.{Keep}
 use Rattle.task_rules.proofs.WalkMoves.{Chosen, ToldTo, told_walks, word}
 use Rattle.task_machine.specs.declared.records.CallEnd.TheVariants as call_end
 use Rattle.task_machine.specs.declared.records.Caller.TheVariants as caller
@@ -23,13 +19,6 @@ unanswered c = record c { started = false; starting_published = false; «end» =
 -- the record of a call but for its result
 abbrev unresulted : Call → Call
 unresulted c = record c { result = None }
-
-pub read_by : {X A : Type 0} (g : X → X) (f : X → A) (none : A) → ((c : X) → f (g c) ≡ f c) → (o p : Option X) → option_map g o ≡ option_map g p → option_map_or f o none ≡ option_map_or f p none
-read_by {X = X} g f none same o p e = sym (at o) ∙ (ap (λ q. option_map_or f q none) e ∙ at p)
-  where
-    at : (q : Option X) → option_map_or f (option_map g q) none ≡ option_map_or f q none
-    at None = refl
-    at (Some c) = same c
 
 -- from s to t the call has at most come to an end and a result
 abbrev pub SameCall : ℕ → Core → Core → Type 0
@@ -76,7 +65,7 @@ unfolding set_end on_call
 end_goal k e s = grind (arith, nat_tests, get-change)
 
 module _ {a : Scene} {b : Core} where
-  result_given_walks : (g : Goal) (f : Caller) (k v : ℕ) {s : Core} → goal_of k s ≡ g → SaysEnd a k status.Returned → Stay a b s → Stay a b (result_given g f k v s)
+  result_given_walks : (g : Goal) (f : Caller) (k v : ℕ) {s : Core} → goal_of k s ≡ g → SaysEnd a k status.Returned → Keep a b s → Keep a b (result_given g f k v s)
   result_given_walks goal.Main f k v at says c = word (GiveResult k v) (says, at) c
   result_given_walks (goal.Register r) (caller.Thread n) k v at says c = word (SetRegister n r v) tt c
   result_given_walks goal.Answer f k v at says c = word (SetResult k (Some v)) tt c
@@ -84,7 +73,7 @@ module _ {a : Scene} {b : Core} where
   result_given_walks _ f k v at says c = c
 
   -- after the end is written
-  pub returned_rest : (k v : ℕ) (w : Option ℕ) (s : Core) → SaysEnd a k status.Returned → ToldTo k w s → Stay a b (set_end k call_end.Returned s) → Stay a b (returned k v w s)
+  pub returned_rest : (k v : ℕ) (w : Option ℕ) (s : Core) → SaysEnd a k status.Returned → ToldTo k w s → Keep a b (set_end k call_end.Returned s) → Keep a b (returned k v w s)
   unfolding returned
   returned_rest k v w s says to c =
       let m = set_end k call_end.Returned s in
@@ -97,10 +86,10 @@ module _ {a : Scene} {b : Core} where
       places : (n : ℕ) → place_of n (result_given (goal_of k s) (caller_of k s) k v (set_end k call_end.Returned s)) ≡ place_of n s
       places n = result_places (goal_of k s) (caller_of k s) k v (set_end k call_end.Returned s) n ∙ end_places k call_end.Returned s n
 
-  pub returned_walks : (k v : ℕ) (w : Option ℕ) {s : Core} → MayEnd a k call_end.Returned s → SaysEnd a k status.Returned → ToldTo k w s → Stay a b s → Stay a b (returned k v w s)
+  pub returned_walks : (k v : ℕ) (w : Option ℕ) {s : Core} → MayEnd a k call_end.Returned s → SaysEnd a k status.Returned → ToldTo k w s → Keep a b s → Keep a b (returned k v w s)
   returned_walks k v w {s = s} ok says to c = returned_rest k v w s says to (word (SetEnd k call_end.Returned) (ok, says) c)
 
-  pub cancelled_rest : (k : ℕ) (w : Option ℕ) (s : Core) → SaysEnd a k status.ReturnCancelled → ToldTo k w s → Stay a b (set_end k call_end.ReturnCancelled s) → Stay a b (cancelled k w s)
+  pub cancelled_rest : (k : ℕ) (w : Option ℕ) (s : Core) → SaysEnd a k status.ReturnCancelled → ToldTo k w s → Keep a b (set_end k call_end.ReturnCancelled s) → Keep a b (cancelled k w s)
   unfolding cancelled
   cancelled_rest k w s says to c =
       let t = set_end k call_end.ReturnCancelled s in
@@ -108,5 +97,5 @@ module _ {a : Scene} {b : Core} where
       (still_told_to k s t (end_same k call_end.ReturnCancelled s) w (λ x chosen n is. ap (λ p. option_map_or (is_waiting_on x) p false) (end_places k call_end.ReturnCancelled s n) ∙ chosen n is) to)
       c
 
-  pub cancelled_walks : (k : ℕ) (w : Option ℕ) {s : Core} → MayEnd a k call_end.ReturnCancelled s → SaysEnd a k status.ReturnCancelled → ToldTo k w s → Stay a b s → Stay a b (cancelled k w s)
+  pub cancelled_walks : (k : ℕ) (w : Option ℕ) {s : Core} → MayEnd a k call_end.ReturnCancelled s → SaysEnd a k status.ReturnCancelled → ToldTo k w s → Keep a b s → Keep a b (cancelled k w s)
   cancelled_walks k w {s = s} ok says to c = cancelled_rest k w s says to (word (SetEnd k call_end.ReturnCancelled) (ok, says) c)

@@ -1,18 +1,13 @@
 -- The moves of the machine as chains of words.
-use Rattle.std.proofs.Common.{arith}
-use Rattle.std.proofs.lemmas.Bool.Decides.{nat_tests}
+use Rattle.task_rules.proofs.Machine.{[], add_call, add_group, add_set, add_thread, add_work, Advance, after_placing, after_word, ap, arith, blocked_on, Bool, call_group, call_made, call_settled, change, checked, chosen, Core, count_work, ended, exited_if, false, first_entry, free_handle, free_thread_handle, freed_thread_handle, FreeThreadHandle, get, get-insert, get-remove, Gift, give_handle, give_result, give_thread_handle, group_settled, handed_on, hands_on, held_why, held_why_of, HowFar, if◌then◌else◌, inr, instance_of, interest_settled, is_at, is_blocked_on, is_callback_waiter, is_deletable, is_done_host, is_end, is_explicit, is_finished, is_group_done, is_some, is_stage_ended, is_told, is_waiter, is_waiting_on, IsOwn, IsRunner, Join, join_of, Lands, LandsAt, le_refl, le_trans, Leaves, List, MakeThread, Mark, may_hand_on, may_not_suspend, may_publish, may_tell, may_wake, may_wake_joined, MayCome, MayDeliver, MayLand, MayPut, MayTell, MemberGift, nat_tests, NoGift, None, not, NoWord, numbers, on_call, on_instance, on_thread, on_work, Option, option_and_then, option_map, option_map_or, OwnGift, Place, place_of, Places, Placing, poll_pends, position_of, Promote, promoted, promoted_first, promoted_unless, published, push_high, Put, put_at, put_high, Quits, Records, refl, released, released_one, Releases, remove, remove_call, remove_group, remove_set, remove_thread, remove_work, RemoveCall, RemoveGroup, RemoveThread, same_subtask, SaysEnd, Scene, set_backpressure, set_cancel_delivered, set_cancelled, set_course, set_do_not_enter, set_do_not_suspend, set_end, set_event, set_exited, set_how_far, set_join, set_own_event, set_phase, set_position, set_register, set_result, set_saved_callee, set_saved_own, set_script, set_stage, set_started, set_starting_published, set_subtask_handle, set_thread_handle, set_trapped, set_uninteresting, set_word, SetCallEvent, SetCancelDelivered, SetExited, SetOwnEvent, Settles, SetUninteresting, Shifts, Some, stage_of, Status, Stop, stopped, subst, Subtask, sym, take_result, TakeHost, taken, TakePush, TakeWorkEvent, task_of, Tells, Then, Thread, thread_handle_of, told, Trip, true, unblocked, Unblocks, wake, wake_joined, wake_why, waken_by, Wakes, Why, with_handle, with_thread_handle, Word, Work, work_queued, ℕ, ◌||◌, ◌∙◌, ◌∷◌, ◌≡◌, ◌≤◌}
 use Rattle.task_machine.proofs.CommuteLemmas.{get-change}
 use Rattle.task_rules.proofs.StandLemmas.{set_place_is}
-use Rattle.task_rules.proofs.Machine.{after_placing, after_word, blocked_on, call_group, call_settled, change, checked, chosen, Core, ended, exited_if, first_entry, free_thread_handle, freed_thread_handle, FreeThreadHandle, get, Gift, group_settled, handed_on, hands_on, held_why, held_why_of, HowFar, instance_of, interest_settled, is_at, is_blocked_on, is_callback_waiter, is_deletable, is_done_host, is_end, is_explicit, is_finished, is_group_done, is_stage_ended, is_told, is_waiter, is_waiting_on, IsOwn, IsRunner, Join, join_of, Lands, LandsAt, Leaves, Mark, may_hand_on, may_not_suspend, may_publish, may_tell, may_wake, may_wake_joined, MayCome, MayDeliver, MayLand, MayPut, MayTell, MemberGift, NoGift, NoWord, numbers, on_call, on_work, OwnGift, Place, place_of, Placing, Promote, promoted, promoted_first, promoted_unless, published, push_high, Put, put_at, put_high, Quits, Records, released, released_one, Releases, remove, remove_call, remove_group, remove_thread, RemoveCall, RemoveGroup, RemoveThread, same_subtask, SaysEnd, Scene, set_event, set_exited, set_how_far, set_uninteresting, SetCallEvent, SetCancelDelivered, SetExited, SetOwnEvent, Settles, SetUninteresting, Shifts, stage_of, Status, Stay, Stays, Stop, stopped, Subtask, taken, TakeWorkEvent, task_of, Tells, Then, Thread, thread_handle_of, told, Trip, unblocked, Unblocks, wake, wake_joined, wake_why, waken_by, Wakes, Why, Word, Work}
-use Rattle.std.proofs.Common.{ap, inr, refl, subst, sym, ◌∙◌}
-use Rattle.std.specs.Option.{option_map_or}
-use Rattle.std.specs.Prelude.{Bool, List, None, Option, Some, [], false, if◌then◌else◌, is_some, not, option_and_then, true, ℕ, ◌||◌, ◌∷◌, ◌≡◌}
 use Rattle.task_machine.proofs.MapLemmas.{get-remove_same}
-use Rattle.task_rules.proofs.ChainLemmas.{join, weaken, shift_stays, settle_stays}
-use Rattle.task_rules.proofs.StopLemmas.{find_passes}
-use Rattle.task_rules.proofs.PlacingLemmas.{placed, placing_shifted}
-use Rattle.task_rules.proofs.PromotionLemmas.{first_has_entry}
 use Rattle.task_machine.specs.declared.records.Turn.TheVariants as turn
+use Rattle.task_rules.proofs.ChainLemmas.{along, Keep, Keeps, join, keep_stay, weaken, shift_keeps, settle_keeps}
+use Rattle.task_rules.proofs.StopLemmas.{find_passes}
+use Rattle.task_rules.proofs.PlacingLemmas.{placed, placing_shifted, popped_shifted, unplaced}
+use Rattle.task_rules.proofs.PromotionLemmas.{first_has_entry}
 use Rattle.task_machine.specs.declared.records.Delivery.TheVariants as delivery
 use Rattle.task_machine.specs.declared.records.Join.TheVariants as join
 use Rattle.task_machine.specs.declared.records.Place.TheVariants as place
@@ -99,7 +94,7 @@ waiter_put x n m w p s at other h = grind (arith, nat_tests, set_place_is n m (p
 same_subtask_is : (sub other : Subtask) → same_subtask sub other ≡ true → sub ≡ other
 same_subtask_is sub other h = grind (arith, nat_tests)
 
-blocked_place : (sub : Subtask) (o : Option Place) → option_map_or (is_blocked_on sub) o false ≡ true → o ≡ Some (place.Blocked sub)
+pub blocked_place : (sub : Subtask) (o : Option Place) → option_map_or (is_blocked_on sub) o false ≡ true → o ≡ Some (place.Blocked sub)
 blocked_place sub o h = grind (arith, same_subtask_is sub)
 
 pub blocked_at : (sub : Subtask) (s : Core) (m : ℕ) → blocked_on sub s ≡ Some m → place_of m s ≡ Some (place.Blocked sub)
@@ -127,33 +122,51 @@ unfolding released
 chosen_released [] x w s c = c
 chosen_released (n ∷ ns) x w s c = chosen_released ns x w (released_one n (held_why_of n s) s) (chosen_released_one n (held_why_of n s) x w s refl c)
 
+-- ---- How far a thread comes in its script
+
+stays_at : (o p : Option Thread) → option_map unplaced p ≡ option_map unplaced o → option_map_or (λ (t : Thread). t.position) p 0 ≤ option_map_or (λ (t : Thread). t.position) o 0
+stays_at o p same = grind arith
+
+-- no word but that of an op that is done brings a thread further
+kept_word : (a : Scene) (n : ℕ) (w : Word) (s : Core) → Keeps a w s → position_of n (after_word w s) ≤ position_of n s
+unfolding add_call add_group add_set add_thread add_work call_made count_work free_handle free_thread_handle give_handle give_result give_thread_handle on_call on_instance on_thread on_work poll_pends push_high remove_call remove_group remove_set remove_thread remove_work set_backpressure set_cancel_delivered set_cancelled set_course set_do_not_enter set_do_not_suspend set_end set_event set_exited set_how_far set_join set_own_event set_phase set_position set_register set_result set_saved_callee set_saved_own set_script set_stage set_started set_starting_published set_subtask_handle set_thread_handle set_trapped set_uninteresting set_word take_result with_handle with_thread_handle work_queued
+kept_word a n (Places p) s ok = stays_at _ _ ((placing_shifted p s).threads n)
+kept_word a n (Advance m p) s ok = absurd ok
+kept_word a n (TakePush m i) s ok = stays_at _ _ ((popped_shifted m s).threads n)
+kept_word a n (TakeHost m i) s ok = stays_at _ _ ((popped_shifted m s).threads n)
+kept_word a n (MakeThread t) s ok = grind (arith, nat_tests, get-insert, ok.1.1.1.1.1.0)
+kept_word a n w s ok = grind (arith, nat_tests, get-change, get-insert, get-remove)
+
+pub keep_position : {a : Scene} {b t : Core} (n : ℕ) → Keep a b t → position_of n t ≤ position_of n b
+keep_position {a = a} {b = b} n c = along (λ u. position_of n u ≤ position_of n b) (λ w s ok low. le_trans (kept_word a n w s ok) low) (le_refl _) c
+
 -- ---- Chains of all words
 
 module _ {a : Scene} {b : Core} where
-  pub word : (w : Word) {s : Core} → Stays a w s → Stay a b s → Stay a b (after_word w s)
+  pub word : (w : Word) {s : Core} → Keeps a w s → Keep a b s → Keep a b (after_word w s)
   word w {s = s} ok c = Then s w c ok
 
-  pub shifted : {s t : Core} → Shifts s t → Stay a b s → Stay a b t
-  shifted d c = join c (weaken (shift_stays a) d)
+  pub shifted : {s t : Core} → Shifts s t → Keep a b s → Keep a b t
+  shifted d c = join c (weaken (shift_keeps a) d)
 
-  settled : {s t : Core} → Settles s t → Stay a b s → Stay a b t
-  settled d c = join c (weaken (settle_stays a) d)
+  settled : {s t : Core} → Settles s t → Keep a b s → Keep a b t
+  settled d c = join c (weaken (settle_keeps a) d)
 
   -- where the running thread comes to
-  pub lands : (p : Placing) {s : Core} → MayLand a p s → Stay a b s → Trip a b (after_placing p s)
-  lands p {s = s} ok c = subst (λ (t : Core). Trip a b t) (placing_shifted p s).only (Lands s p c ok)
+  pub lands : (p : Placing) {s : Core} → MayLand a p s → Keep a b s → Trip a b (after_placing p s)
+  lands p {s = s} ok c = subst (λ (t : Core). Trip a b t) (placing_shifted p s).only (Lands s p (keep_stay c) ok)
 
-  pub lands_at : (p : Placing) (n : ℕ) (h : HowFar) {s : Core} → MayLand a p s → MayCome a n h (after_placing p s) → Stay a b s → Trip a b (set_how_far n h (after_placing p s))
+  pub lands_at : (p : Placing) (n : ℕ) (h : HowFar) {s : Core} → MayLand a p s → MayCome a n h (after_placing p s) → Keep a b s → Trip a b (set_how_far n h (after_placing p s))
   lands_at p n h {s = s} ok comes c =
       let is = (placing_shifted p s).only in
-      subst (λ (t : Core). Trip a b (set_how_far n h t)) is (LandsAt s p n h c ok (subst (λ (t : Core). MayCome a n h t) (sym is) comes))
+      subst (λ (t : Core). Trip a b (set_how_far n h t)) is (LandsAt s p n h (keep_stay c) ok (subst (λ (t : Core). MayCome a n h t) (sym is) comes))
 
-  pub walk_if : (c : Bool) (t u : Core) → (c ≡ true → Stay a b t) → (c ≡ false → Stay a b u) → Stay a b (if c then t else u)
+  pub walk_if : (c : Bool) (t u : Core) → (c ≡ true → Keep a b t) → (c ≡ false → Keep a b u) → Keep a b (if c then t else u)
   walk_if true t u p q = p refl
   walk_if false t u p q = q refl
 
 -- an entry whose place says that it is there is promoted beside a running thread
-pub promoted_walks : {a : Scene} {b : Core} (m n : ℕ) {s : Core} → a.turn ≡ turn.Run m → (x : Mark) × ((w : Why) × (place_of n s ≡ Some (place.Ready x w))) → Stay a b s → Stay a b (promoted_unless n s)
+pub promoted_walks : {a : Scene} {b : Core} (m n : ℕ) {s : Core} → a.turn ≡ turn.Run m → (x : Mark) × ((w : Why) × (place_of n s ≡ Some (place.Ready x w))) → Keep a b s → Keep a b (promoted_unless n s)
 unfolding promoted_unless
 promoted_walks m n {s = s} runs ready c = walk_if (is_some s.queues.switch) s (promoted n s) (λ e. c) (λ e. placed (Promote n) (inr (none_stands false s.queues.switch e, (m, (runs, ready)))) c)
 
@@ -179,7 +192,7 @@ unfolding published set_event on_work
 published_work_shifts i e w s done chosen = published_shifts (subtask.Host i) w s (set_event (subtask.Host i) (Some e) s) (ap (λ x. is_stage_ended x) (work_read (λ r. r.stage) stage.Ended i (λ r. record r { event = Some e }) (λ r. refl) s.works) ∙ done) (λ m. refl) chosen
 
 module _ {a : Scene} {b : Core} where
-  published_call : (k : ℕ) (e : Status) (w : Option ℕ) {s : Core} → MayTell a k (Some e) s → ChosenIn (join_of (subtask.Guest k) s) w s → Stay a b s → Stay a b (published (subtask.Guest k) e w s)
+  published_call : (k : ℕ) (e : Status) (w : Option ℕ) {s : Core} → MayTell a k (Some e) s → ChosenIn (join_of (subtask.Guest k) s) w s → Keep a b s → Keep a b (published (subtask.Guest k) e w s)
   published_call k e w {s = s} ok chosen c = shifted (published_call_shifts k e w s chosen) (word (SetCallEvent k (Some e)) ok c)
 
 -- the thread chosen where the call's status is told
@@ -191,7 +204,7 @@ unfolding may_tell may_publish
 told_to k w s h told = chosen_in_of (join_of (subtask.Guest k) s) w s (grind arith)
 
 module _ {a : Scene} {b : Core} where
-  pub told_walks : (k : ℕ) (e : Status) (w : Option ℕ) {s : Core} → (is_told k s ≡ true → Tells e k s) → (is_end e ≡ true → SaysEnd a k e) → ToldTo k w s → Stay a b s → Stay a b (told k e w s)
+  pub told_walks : (k : ℕ) (e : Status) (w : Option ℕ) {s : Core} → (is_told k s ≡ true → Tells e k s) → (is_end e ≡ true → SaysEnd a k e) → ToldTo k w s → Keep a b s → Keep a b (told k e w s)
   unfolding told
   told_walks k e w {s = s} tells says to c = walk_if (is_told k s) (published (subtask.Guest k) e w s) s (λ is. published_call k e w (is, (tells is, says)) (to is) c) (λ is. c)
 
@@ -208,7 +221,7 @@ MayTake a k (MemberGift sub) = IsOwn a sub
 MayTake a k NoGift = Unit {0}
 
 module _ {a : Scene} {b : Core} where
-  pub taken_walks : (g : Gift) (k : ℕ) {s : Core} → MayTake a k g → Stay a b s → Stay a b (taken g k s)
+  pub taken_walks : (g : Gift) (k : ℕ) {s : Core} → MayTake a k g → Keep a b s → Keep a b (taken g k s)
   unfolding taken
   taken_walks (OwnGift own.None) k ok c = word (SetOwnEvent k None) ok.0 c
   taken_walks (OwnGift own.Cancelled) k ok c = word (SetCancelDelivered k) (ok.1 refl) (word (SetOwnEvent k None) ok.0 c)
@@ -237,25 +250,25 @@ interest_settles k s = settles_if (option_map_or is_finished (get s.calls k) fal
 -- the thread is gone, and what becomes of its call
 pub record Left (a : Scene) (b : Core) (n : ℕ) (t : Core) : Type 0 where
   pub before : Core
-  pub stays : Stay a b before
+  pub stays : Keep a b before
   pub settles : Settles (after_word (RemoveThread n) before) t
 
 module _ {a : Scene} {b : Core} where
-  pub group_settled_walks : (g : ℕ) {s : Core} → Stay a b s → Stay a b (group_settled g s)
+  pub group_settled_walks : (g : ℕ) {s : Core} → Keep a b s → Keep a b (group_settled g s)
   group_settled_walks g {s = s} c = settled (group_settles g s) c
 
-  pub call_settled_walks : (k : ℕ) {s : Core} → Stay a b s → Stay a b (call_settled k s)
+  pub call_settled_walks : (k : ℕ) {s : Core} → Keep a b s → Keep a b (call_settled k s)
   call_settled_walks k {s = s} c = settled (call_settles k s) c
 
-  freed_thread_handle_walks : (i : ℕ) (o : Option ℕ) {s : Core} → Stay a b s → Stay a b (freed_thread_handle i o s)
+  freed_thread_handle_walks : (i : ℕ) (o : Option ℕ) {s : Core} → Keep a b s → Keep a b (freed_thread_handle i o s)
   freed_thread_handle_walks i None c = c
   freed_thread_handle_walks i (Some h) c = word (FreeThreadHandle i h) tt c
 
-  exited_if_walks : (explicit : Bool) (k : ℕ) {s : Core} → Stay a b s → Stay a b (exited_if explicit k s)
+  exited_if_walks : (explicit : Bool) (k : ℕ) {s : Core} → Keep a b s → Keep a b (exited_if explicit k s)
   exited_if_walks true k c = c
   exited_if_walks false k c = word (SetExited k) tt c
 
-  pub ended_walks : (n : ℕ) {s : Core} → Stay a b s → Left a b n (ended n s)
+  pub ended_walks : (n : ℕ) {s : Core} → Keep a b s → Left a b n (ended n s)
   unfolding ended
   ended_walks n {s = s} c =
       let f = freed_thread_handle (instance_of n s) (thread_handle_of n s) (exited_if (is_explicit n s) (task_of n s) s) in
@@ -267,7 +280,7 @@ module _ {a : Scene} {b : Core} where
       }
 
   pub exits_trip : (n : ℕ) {t : Core} → Leaves a n → Left a b n t → Trip a b t
-  exits_trip n {t = t} leave e = Quits e.before t n e.stays leave e.settles
+  exits_trip n {t = t} leave e = Quits e.before t n (keep_stay e.stays) leave e.settles
 
 settled_threads : (k : ℕ) (s : Core) → (call_settled k s).threads ≡ s.threads
 unfolding call_settled group_settled remove_group remove_call

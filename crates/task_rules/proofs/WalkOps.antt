@@ -1,26 +1,23 @@
 -- The rows of the ops on sets, subtasks and threads as chains of words.
-use Rattle.std.proofs.Common.{arith}
-use Rattle.task_machine.proofs.MapLemmas.{get-insert_same, get-remove_same}
-use Rattle.task_rules.proofs.Machine.{aborted_phase, AbortsOwn, add_work, advanced, after_word, AlreadyEnded, answered, Answers, assigned, Async, at_handle_limit, AtOnce, blocked_code, ByHandle, ByOp, BySetHandle, ByThread, ByWait, call_answered, call_begins, call_host_polled, call_of_op, call_pending, call_queues, call_resumes, call_returned, call_row, call_status, call_sync_begins, call_sync_host_polled, call_sync_host_row, call_sync_host_stops, call_sync_row, call_sync_status, call_sync_stops, CallbackWaits, CallbackYields, Callee, callee_of_op, CallLabel, cancel_aborts_host, cancel_asks, cancel_by_end, cancel_case, cancel_ended_row, cancel_guest, cancel_label, cancel_promotes_yield, cancel_resumed, cancel_row, cancel_stops, cancel_subtask, cancel_takes_end, cancel_target, cancel_wakes_callback, cancel_withdraws, CancelCase, cancelled_of_op, Cancels, checked, Choice, chosen, CloseSet, Core, count_work, CountWork, drop_row, dropped, end_for, ended, EndsSubtask, EndWords, enter_row, enter_runs, event_of, export_kind, Failing, finds_nothing, first_poll, FirstPoll, fits, get, Gift, gift, Goal, Goes, group_settled, handed_by, handed_by_call, handed_by_cancel, handed_by_event, handed_by_set, handed_on, handed_out, HandsAtOnce, HandsOut, has_ended, has_member, has_waiters, HasSubtask, host_answered, host_at, host_end, host_pending, host_ready, HostDef, how_far_of, HowFar, instance_of, is_async_lifted, is_async_work, is_callback_yield, is_direct, is_for_main, is_joined, is_ready_to_resume, is_waiting_on, is_watched, is_yielded, IsNamed, IsNew, IsReadyAtOnce, Join, join_done, join_label, join_of, join_to, joined, joins, Label, Later, Leaves, Made, Main, MakeThread, Mark, may, may_hand_on, may_wake_new, MayJoin, MayMakeCall, MemberGift, Mode, Move, moved_to, NameCall, NameThread, NameWork, new_handle, new_thread, new_thread_handle, new_work, next_thread, next_work, NoGift, NoWord, on_call, on_instance, on_thread, on_work, op_in, op_of, OpenSet, OtherwiseRuns, OwnGift, packed, passes_check, pauses, phase_of, Place, place_of, poll_row, Progress, promoted_unless, push_high, Put, put_back, put_switch, QueueWork, received, received_woken, Records, registers_for, registers_of, remove, remove_group, remove_thread, remove_work, result_of, Resumes, returned_of_op, saved_callee_of, says, Scene, set_at, set_do_not_suspend, set_drop_row, set_dropped, set_end, set_how_far, set_join, set_made, set_new_row, set_own_event, set_position, set_register, set_row, set_saved_callee, set_subtask_handle, SetCancelled, SetExited, SetLabel, SetOwnEvent, SetPhase, SetRegister, SetResult, SetSavedCallee, Setting, settle_group_of, SetUninteresting, Shifts, slot_at, StartNotRun, Status, status_code, status_found, Stay, Stops, Subtask, subtask_at, subtask_ended, subtask_instance, subtask_row, subtask_under_way, Suspends, Sync, TakesEvent, task_of, Thread, thread_at, thread_group, thread_handle_of, trap_if, Trip, Turn, undelivered_end, UnnameCall, UnnameWork, value_of, values_in, wait_begins, wait_goes_on, wait_label, wait_row, wait_stops, wait_stops_checked, wakes_joined, Walk, was_cancelled, was_started, Why, Withdraw, withdrawn, Work, work_answered, work_caller_of, work_deleted, work_group, work_queued, work_value, WorkCaller, Writes, WritesAtOnce, WritesCall, WritesNever, WritesToo, written_by, written_by_call, written_by_cancel, Yields}
+use Rattle.task_rules.proofs.Machine.{[], aborted_phase, AbortsOwn, add_work, advanced, after_word, AlreadyEnded, answered, Answers, ap, arith, assigned, Async, at_handle_limit, AtOnce, blocked_code, Bool, ByHandle, ByOp, BySetHandle, ByThread, ByWait, Call, call_answered, call_begins, call_host_polled, call_instance, call_of_op, call_pending, call_queues, call_resumes, call_returned, call_row, call_status, call_sync_begins, call_sync_host_polled, call_sync_host_row, call_sync_host_stops, call_sync_row, call_sync_status, call_sync_stops, CallbackWaits, CallbackYields, Callee, callee_of_op, CallEnd, caller_of, CallLabel, cancel_aborts_host, cancel_asks, cancel_by_end, cancel_case, cancel_ended_row, cancel_guest, cancel_label, cancel_promotes_yield, cancel_resumed, cancel_row, cancel_stops, cancel_subtask, cancel_takes_end, cancel_target, cancel_wakes_callback, cancel_withdraws, CancelCase, cancelled_of_op, Cancels, change, checked, Choice, chosen, CloseSet, Core, count_work, CountWork, drop_row, dropped, end_for, ended, EndsSubtask, EndWords, enter_row, enter_runs, event_of, export_kind, Failing, false, finds_nothing, first_poll, FirstPoll, fits, free_handle, get, get-remove, Gift, gift, Goal, Goes, group_settled, handed_by, handed_by_call, handed_by_cancel, handed_by_event, handed_by_set, handed_on, handed_out, HandsAtOnce, HandsOut, has_ended, has_member, has_waiters, HasSubtask, host_answered, host_at, host_end, host_pending, host_ready, HostDef, how_far_of, HowFar, inl, inr, instance_of, is_async_lifted, is_async_work, is_callback_yield, is_direct, is_for_main, is_joined, is_ready_to_resume, is_script, is_some, is_stage_ended, is_waiting_on, is_watched, is_yielded, IsNamed, IsNew, IsReadyAtOnce, Join, join_done, join_label, join_of, join_to, joined, joins, Label, Later, Leaves, List, Made, Main, MakeThread, Mark, may, may_hand_on, may_wake_new, MayJoin, MayMakeCall, MemberGift, Mode, Move, moved_to, NameCall, NameThread, NameWork, nat_tests, new_handle, new_thread, new_thread_handle, new_work, next_thread, next_work, NoGift, None, not, NoWord, on_call, on_instance, on_thread, on_work, op_in, op_of, OpenSet, Option, option_map, option_map_or, OtherwiseRuns, OwnGift, packed, passes_check, pauses, phase_of, Place, place_of, poll_row, Progress, promoted_unless, push_high, Put, put_back, put_switch, QueueWork, received, received_woken, Records, refl, registers_for, registers_of, remove, remove_group, remove_thread, remove_work, result_of, Resumes, returned_of_op, saved_callee_of, says, Scene, set_at, set_do_not_suspend, set_drop_row, set_dropped, set_end, set_event, set_how_far, set_join, set_made, set_new_row, set_own_event, set_position, set_register, set_row, set_saved_callee, set_subtask_handle, SetCancelled, SetExited, SetLabel, SetOwnEvent, SetPhase, SetRegister, SetResult, SetSavedCallee, Setting, settle_group_of, SetUninteresting, Shifts, slot_at, Some, stage_of, StartNotRun, Status, status_code, status_found, Stay, Stops, subst, Subtask, subtask_at, subtask_ended, subtask_handle, subtask_instance, subtask_row, subtask_under_way, suc, Suspends, sym, Sync, T, TakesEvent, task_of, Then, Thread, thread_at, thread_group, thread_handle_of, trap_if, Trip, true, Turn, undelivered_end, UnnameCall, UnnameWork, unwrap_or, value_of, values_in, wait_begins, wait_goes_on, wait_label, wait_row, wait_stops, wait_stops_checked, wakes_joined, Walk, was_cancelled, was_started, Why, Withdraw, withdrawn, Work, work_answered, work_caller_of, work_deleted, work_group, work_queued, work_value, WorkCaller, Writes, WritesAtOnce, WritesCall, WritesNever, WritesToo, written_by, written_by_call, written_by_cancel, Yields, zero, ℕ, ◌&&◌, ◌+◌, ◌==◌, ◌∙◌, ◌∷◌, ◌≡◌, ◌⊎◌}
 use Rattle.task_machine.specs.declared.component.Slot.{Slot}
 use Rattle.task_machine.specs.declared.label.ThreadLabel.{ThreadLabel}
 use Rattle.task_machine.specs.declared.op.CallOp.{CallOp}
 use Rattle.task_machine.specs.declared.op.SetOp.{SetOp}
 use Rattle.task_machine.specs.declared.op.ThreadOp.{ThreadOp}
 use Rattle.task_rules.specs.Threads.{by_how_far, Halt, halt_row, halted, halted_checked, halted_promoting, halted_resuming, halting, halts, has_yielded, resume_later_row, resume_why, resumed_later, Suspension, then_promote, then_promote_row, then_resume_row, thread_made, thread_new_row, thread_row, Yielding}
-use Rattle.task_rules.proofs.ChainLemmas.{stay_walk}
+use Rattle.task_machine.proofs.MapLemmas.{get-insert_same, get-remove_same}
+use Rattle.task_machine.proofs.CommuteLemmas.{get-change}
+use Rattle.task_rules.proofs.ChainLemmas.{join, stay_walk, Keep, keep_stay}
+use Rattle.task_machine.specs.declared.label.SetLabel.TheVariants as set_label
 use Rattle.task_rules.proofs.MuteLemmas.{is_mute, mute_words, none_said}
 use Rattle.task_rules.proofs.SayLemmas.{call_answered_gone, call_returned_gone, cancel_hands_of, cancel_taken_gone, cancel_writes_of, event_joined, event_owed, found_returned, given_says, packed_is_not_two, received_gone, received_woken_gone, HasNoEnd, event_aborted, said_is}
-use Rattle.std.proofs.Common.{T, ap, inl, inr, refl, subst, suc, sym, ◌∙◌, ◌⊎◌, zero}
-use Rattle.std.specs.Option.{option_map_or}
-use Rattle.std.specs.Prelude.{Bool, List, None, Option, Some, [], false, is_some, not, option_map, true, unwrap_or, ℕ, ◌&&◌, ◌+◌, ◌==◌, ◌∷◌, ◌≡◌}
 use Rattle.task_rules.proofs.CancelLemmas.{CaseSays, case_says}
-use Rattle.task_rules.proofs.PlacingLemmas.{Shifted, placed, shifted_made, shifted_task, shifts_shifted}
+use Rattle.task_rules.proofs.PlacingLemmas.{Shifted, placed, shifted_far, shifted_made, shifted_task, shifts_shifted}
 use Rattle.task_rules.proofs.StandLemmas.{by_number}
 use Rattle.task_rules.proofs.WalkMoves.{MayTake, call_settled_walks, checked_shifts, chosen_of, handed_on_shifts, shifted, wake_shifts, word, lands_at, promoted_walks}
-use Rattle.task_rules.proofs.WalkParts.{call_queues_walks, call_resumes_walks, call_stops_walks, cancel_goes_behind_walks, cancel_plain, cancel_stops_walks, cancel_takes_end_walks, checked_walks, enter_gives, enter_runs_walks, freed_named, gift_is, join_plain, join_walks, put_back_walks, received_walks, set_none_join, stopped_walks, wait_plain, wait_stops_walks, withdrawn_walks, work_deleted_walks, work_unnamed, withdraws, answered_first, far_fresh}
-use Rattle.task_rules.proofs.WalkTask.{Leads, advanced_walks, answered_walks, assigned_walks, goes_on, goes_on_saying, goes_over, may_leads, or_never_leads, or_trap_leads, running_scene, stops_here, trap_if_leads, unnot, is_still, over_now}
-use Rattle.task_machine.specs.declared.label.SetLabel.TheVariants as set_label
+use Rattle.task_rules.proofs.WalkParts.{call_queues_walks, call_resumes_walks, call_stops_walks, cancel_goes_behind_walks, cancel_plain, cancel_stops_walks, cancel_takes_end_walks, checked_walks, enter_gives, enter_runs_walks, freed_named, gift_is, join_plain, join_walks, put_back_walks, received_walks, set_none_join, stopped_walks, wait_plain, wait_stops_walks, withdrawn_walks, work_deleted_walks, work_unnamed, withdraws, answered_first, far_fresh, answered_unnamed}
+use Rattle.task_rules.proofs.WalkTask.{Stands, Leads, advanced_walks, answered_walks, assigned_walks, goes_on, goes_on_saying, goes_over, may_leads, or_never_leads, or_trap_leads, running_scene, stops_here, trap_if_leads, unnot, is_still, over_now}
 use Rattle.task_machine.specs.declared.component.Slot.TheVariants as slot
 use Rattle.task_machine.specs.declared.label.CallLabel.TheVariants as call_label
 use Rattle.task_machine.specs.declared.label.Label.TheVariants as label
@@ -91,6 +88,31 @@ assigned_fresh : (n r v : ℕ) (s : Core) → how_far_of n (assigned n r v s) �
 unfolding assigned advanced moved_to
 assigned_fresh n r v s = far_fresh n _
 
+answered_fresh : (n r v : ℕ) (s : Core) → how_far_of n (answered n r v s) ≡ how_far.Fresh
+unfolding answered
+answered_fresh n r v s = assigned_fresh n r v (set_saved_callee n None s)
+
+-- whose a call is, and which handle names it, is as before once the op that was inside of it goes on
+resumed_card : (n r v k : ℕ) (s : Core) → (caller_of k (answered n r v (call_resumes n k s)) ≡ caller_of k s) × (subtask_handle (subtask.Guest k) (answered n r v (call_resumes n k s)) ≡ subtask_handle (subtask.Guest k) s)
+unfolding answered assigned advanced moved_to set_how_far set_position on_thread set_register set_saved_callee call_resumes set_event on_call set_do_not_suspend on_instance
+resumed_card n r v k s = by_saved (saved_callee_of n s)
+  where
+    eventless : Core → Core
+    eventless t = record t { calls = change k (λ (c : Call). record c { event = None }) t.calls }
+
+    by_saved : (o : Option Bool) → (caller_of k (eventless (put_back o (call_instance k s) s)) ≡ caller_of k s) × (subtask_handle (subtask.Guest k) (eventless (put_back o (call_instance k s) s)) ≡ subtask_handle (subtask.Guest k) s)
+    by_saved None = (grind (arith, nat_tests, get-change), grind (arith, nat_tests, get-change))
+    by_saved (Some b) = (grind (arith, nat_tests, get-change), grind (arith, nat_tests, get-change))
+
+-- the op is as far as it was while its strand stops
+resumed_far : (n k : ℕ) (s u : Core) → Shifted (checked (instance_of n s) (call_resumes n k s)) u → how_far_of n u ≡ how_far_of n s
+unfolding call_resumes set_event on_call set_do_not_suspend on_instance
+resumed_far n k s u d = shifted_far d n ∙ (shifted_far (shifts_shifted (checked_shifts (instance_of n s) (call_resumes n k s))) n ∙ by_saved (saved_callee_of n s))
+  where
+    by_saved : (o : Option Bool) → how_far_of n (put_back o (call_instance k s) s) ≡ how_far_of n s
+    by_saved None = refl
+    by_saved (Some b) = refl
+
 settled_works : (o : Option ℕ) (i : ℕ) (s : Core) → (settle_group_of o (remove_work i s)).works ≡ remove s.works i
 unfolding group_settled remove_group remove_work
 settled_works o i s = grind arith
@@ -137,7 +159,7 @@ goes_on_case k s y is on = grind arith
 
 -- ---- The rows
 
-module _ (x : Setting) (main : Main) (s : Core) (n : ℕ) (l : Label) (next : Turn) where
+module _ (x : Setting) (main : Main) (s : Core) (n : ℕ) (l : Label) (next : Turn) (on : Stands (running_scene x main s n l next) s n) where
   abbrev a : Scene
   a = running_scene x main s n l next
 
@@ -181,7 +203,7 @@ module _ (x : Setting) (main : Main) (s : Core) (n : ℕ) (l : Label) (next : Tu
   set_new_row_leads r =
       trap_if_leads a s (not (fits 1 s)) trap.TableFull _ (λ e.
       trap_if_leads a s (at_handle_limit s) trap.HandleLimit _ (λ f.
-      go _ (set_made n r s) refl (assigned_walks n refl r (new_handle (instance_of n s) s) (word (OpenSet (instance_of n s)) (refl, (n, (refl, refl))) NoWord))))
+      go _ (set_made n r s) refl (assigned_walks n refl on r (new_handle (instance_of n s) s) (word (OpenSet (instance_of n s)) (refl, (n, (refl, refl))) NoWord))))
 
   set_drop_row_leads : (h : ℕ) → Leads a s (set_drop_row n h s)
   unfolding set_dropped
@@ -189,7 +211,7 @@ module _ (x : Setting) (main : Main) (s : Core) (n : ℕ) (l : Label) (next : Tu
       or_trap_leads a s (set_at (instance_of n s) h s) trap.BadHandle _ (λ y named.
       trap_if_leads a s (has_waiters y s) trap.WaitableSetDropHasWaiters _ (λ unwaited.
       trap_if_leads a s (has_member y s) trap.TableHasChildren _ (λ empty_set.
-      go _ (set_dropped n h y s) refl (advanced_walks n refl (word (CloseSet (instance_of n s) h y) (named, (unwaited, (empty_set, (n, (refl, refl))))) NoWord)))))
+      go _ (set_dropped n h y s) refl (advanced_walks n refl on (word (CloseSet (instance_of n s) h y) (named, (unwaited, (empty_set, (n, (refl, refl))))) NoWord)))))
 
   -- a thread that isn't taken takes no Cancelled
   takes : (y : ℕ) (ch : Choice) (g : Gift) → gift false (task_of n s) y (chosen n ch s) s ≡ Some g → MayTake a (task_of n s) g
@@ -202,7 +224,7 @@ module _ (x : Setting) (main : Main) (s : Core) (n : ℕ) (l : Label) (next : Tu
       stop _ (wait_stops_checked n y s) refl (λ leave. wait_stops_walks n refl y leave (BySetHandle h named) (checked_walks n refl (instance_of n s) NoWord)))
   wait_begins_leads r h ch y false named =
       or_never_leads a s (gift false (task_of n s) y (chosen n ch s) s) _ (λ g e.
-      goes_on_saying x main s n l next (label.Set (set_label.Wait (handed_out ch s g) n)) (received n r g (handed_out ch s g) s) refl (λ is. set_says (set_label.Wait (handed_out ch s g) n) _ is (gift_out r y ch g e)) (λ is. received_walks n refl r g (handed_out ch s g) (takes y ch g e) NoWord))
+      goes_on_saying x main s n l next (label.Set (set_label.Wait (handed_out ch s g) n)) (received n r g (handed_out ch s g) s) refl (λ is. set_says (set_label.Wait (handed_out ch s g) n) _ is (gift_out r y ch g e)) (λ is. received_walks n refl on r g (handed_out ch s g) (takes y ch g e) NoWord))
 
   received_leads : (y r : ℕ) (ch : Choice) (g : Gift) → gift false (task_of n s) y (chosen n ch s) s ≡ Some g → Leads a s (may (may_hand_on y g ch.woken s) (Goes (wait_label n (handed_out ch s g) ch.woken) (received_woken n y r ch.woken g (handed_out ch s g) s) n))
   unfolding received_woken
@@ -211,7 +233,7 @@ module _ (x : Setting) (main : Main) (s : Core) (n : ℕ) (l : Label) (next : Tu
       let d : Shifts s (handed_on y g ch.woken s) = handed_on_shifts y g ch.woken s may in
       goes_on_saying x main s n l next (wait_label n (handed_out ch s g) ch.woken) (received_woken n y r ch.woken g (handed_out ch s g) s) (wait_plain n (handed_out ch s g) ch.woken)
       (says ch.woken)
-      (λ is. received_walks n refl r g (handed_out ch s g) (subst (λ (k : ℕ). MayTake a k g) (sym (shifted_task (shifts_shifted d) n)) (takes y ch g e)) (shifted d NoWord)))
+      (λ is. received_walks n refl on r g (handed_out ch s g) (subst (λ (k : ℕ). MayTake a k g) (sym (shifted_task (shifts_shifted d) n)) (takes y ch g e)) (shifted d NoWord)))
     where
       -- only a wake that is handed on is shown
       says : (w : Option ℕ) → l ≡ wait_label n (handed_out ch s g) w → EndWords a (received_woken n y r w g (handed_out ch s g) s)
@@ -234,9 +256,9 @@ module _ (x : Setting) (main : Main) (s : Core) (n : ℕ) (l : Label) (next : Tu
   poll_row_leads r h ch =
       or_trap_leads a s (set_at (instance_of n s) h s) trap.BadHandle _ (λ y named.
       or_never_leads a s (gift false (task_of n s) y (chosen n ch s) s) _ (λ g e.
-      goes_on_saying x main s n l next (label.Set (set_label.Poll (handed_out ch s g) n)) (received n r g (handed_out ch s g) s) refl (λ is. set_says (set_label.Poll (handed_out ch s g) n) _ is (gift_out r y ch g e)) (λ is. received_walks n refl r g (handed_out ch s g) (takes y ch g e) NoWord)))
+      goes_on_saying x main s n l next (label.Set (set_label.Poll (handed_out ch s g) n)) (received n r g (handed_out ch s g) s) refl (λ is. set_says (set_label.Poll (handed_out ch s g) n) _ is (gift_out r y ch g e)) (λ is. received_walks n refl on r g (handed_out ch s g) (takes y ch g e) NoWord)))
 
-  joined_walks : (sub : Subtask) (y w : Option ℕ) (o : Option Status) (t : Core) → t.threads ≡ s.threads → may_wake_new o y w s ≡ true → Stay a s t → Stay a s (wakes_joined o y w t)
+  joined_walks : (sub : Subtask) (y w : Option ℕ) (o : Option Status) (t : Core) → t.threads ≡ s.threads → may_wake_new o y w s ≡ true → Keep a s t → Keep a s (wakes_joined o y w t)
   joined_walks sub (Some y) w (Some e) t same may c = shifted (wake_shifts y w t (λ m is. ap (λ (r : Records Thread). option_map_or (is_waiting_on y) (option_map (λ u. u.place) (get r m)) false) same ∙ chosen_of y w s may m is)) c
   joined_walks sub None w (Some e) t same may c = c
   joined_walks sub (Some y) w None t same may c = c
@@ -252,7 +274,7 @@ module _ (x : Setting) (main : Main) (s : Core) (n : ℕ) (l : Label) (next : Tu
   join_done_leads sub w y ok =
       trap_if_leads a s (is_watched (join_of sub s)) trap.WaitableSyncAndAsync _ (λ e.
       may_leads a s (may_wake_new (event_of sub s) y w s) _ (λ may.
-      go (join_label n w) (joined n sub y w s) (join_plain n w) (advanced_walks n refl (joined_walks sub y w (event_of sub s) (set_join sub (joins y) s) (join_threads sub (joins y)) may (join_walks n refl sub (joins y) ok NoWord)))))
+      go (join_label n w) (joined n sub y w s) (join_plain n w) (advanced_walks n refl on (joined_walks sub y w (event_of sub s) (set_join sub (joins y) s) (join_threads sub (joins y)) may (join_walks n refl sub (joins y) ok NoWord)))))
 
   join_to_leads : (h y : ℕ) (w : Option ℕ) (sub : Subtask) → subtask_at (instance_of n s) h s ≡ Some sub → Leads a s (join_to n y w s sub)
   join_to_leads h zero w sub named = join_done_leads sub w None (n, (refl, ByHandle h named))
@@ -282,12 +304,14 @@ module _ (x : Setting) (main : Main) (s : Core) (n : ℕ) (l : Label) (next : Tu
   by_call : (sub : Subtask) → how_far_of n s ≡ how_far.Calls sub → HasSubtask a n sub
   by_call sub far = ByOp (ap (λ h. subtask_under_way h) far)
 
-  call_pending_leads : (r k : ℕ) (e : Status) → (e ≡ status.Returned → ⊥) → HasSubtask a n (subtask.Guest k) → Leads a s (let v = packed (new_handle (instance_of n s) s) e in trap_if (at_handle_limit s) trap.HandleLimit (Goes (label.Call (call_label.Call v n)) (call_pending n r k v s) n))
+  call_pending_leads : (r k : ℕ) (e : Status) → (e ≡ status.Returned → ⊥) → how_far_of n s ≡ how_far.Calls (subtask.Guest k) → Leads a s (let v = packed (new_handle (instance_of n s) s) e in trap_if (at_handle_limit s) trap.HandleLimit (Goes (label.Call (call_label.Call v n)) (call_pending n r k v s) n))
   unfolding call_pending
-  call_pending_leads r k e other has =
+  call_pending_leads r k e other far =
       trap_if_leads a s (at_handle_limit s) trap.HandleLimit _ (λ f.
       let v = packed (new_handle (instance_of n s) s) e in
-      go _ (call_pending n r k v s) (packed_is_not_two (new_handle (instance_of n s) s) e other) (answered_walks n refl r v (word (NameCall (instance_of n s) k) (n, (refl, (refl, inl has))) (call_resumes_walks n refl k has NoWord))))
+      go _ (call_pending n r k v s) (packed_is_not_two (new_handle (instance_of n s) s) e other)
+      (subst (λ (t : Core). Stay a s t) (answered_unnamed n r v (instance_of n s) k (call_resumes n k s)) (Then _ (NameCall (instance_of n s) k)
+      (answered_walks n refl on r v (call_resumes_walks n refl k (by_call (subtask.Guest k) far) NoWord)) (n, (refl, (refl, (far, (answered_fresh n r v (call_resumes n k s), resumed_card n r v k s))))))))
 
   -- the op is about a call that has returned
   returned_out : (k : ℕ) (t : Core) → how_far_of n s ≡ how_far.Calls (subtask.Guest k) → status_found k s ≡ status.Returned → HasNoEnd (subtask.Guest k) t → (sub : Subtask) (e : Status) → returned_of_op n s ≡ Some (end_for e sub) → HandsOut a t sub e
@@ -298,32 +322,32 @@ module _ (x : Setting) (main : Main) (s : Core) (n : ℕ) (l : Label) (next : Tu
   call_status_leads r k status.Returned far found has =
       goes_on_saying x main s n l next (label.Call (call_label.Call 2 n)) (call_returned n r k s) refl
       (λ is. call_says (call_label.Call 2 n) _ refl is (returned_out k (call_returned n r k s) far found (call_returned_gone n r k s)))
-      (λ is. answered_walks n refl r 2 (call_settled_walks k (call_resumes_walks n refl k has NoWord)))
-  call_status_leads r k status.Starting far found has = call_pending_leads r k status.Starting (λ h. no_way (ap is_returned h)) has
-  call_status_leads r k status.Started far found has = call_pending_leads r k status.Started (λ h. no_way (ap is_returned h)) has
-  call_status_leads r k status.StartCancelled far found has = call_pending_leads r k status.StartCancelled (λ h. no_way (ap is_returned h)) has
-  call_status_leads r k status.ReturnCancelled far found has = call_pending_leads r k status.ReturnCancelled (λ h. no_way (ap is_returned h)) has
+      (λ is. answered_walks n refl on r 2 (call_settled_walks k (call_resumes_walks n refl k has NoWord)))
+  call_status_leads r k status.Starting far found has = call_pending_leads r k status.Starting (λ h. no_way (ap is_returned h)) far
+  call_status_leads r k status.Started far found has = call_pending_leads r k status.Started (λ h. no_way (ap is_returned h)) far
+  call_status_leads r k status.StartCancelled far found has = call_pending_leads r k status.StartCancelled (λ h. no_way (ap is_returned h)) far
+  call_status_leads r k status.ReturnCancelled far found has = call_pending_leads r k status.ReturnCancelled (λ h. no_way (ap is_returned h)) far
 
   call_row_leads : (r q : ℕ) (e : Callee) (words : List ℕ) (f : HowFar) → callee_of_op (op_in a n) ≡ Some e → how_far_of n s ≡ f → Leads a s (call_row x.component n r q e words s f)
   call_row_leads r q e words (how_far.Calls (subtask.Guest k)) callee far = call_status_leads r k (status_found k s) far refl (by_call (subtask.Guest k) far)
   call_row_leads r q e words _ callee far = call_begins_leads e (goal.Register q) words callee refl refl
 
-  call_sync_pauses : (k : ℕ) → HasSubtask a n (subtask.Guest k) → Leads a s (trap_if (not (passes_check (instance_of n s) (call_resumes n k s))) trap.CannotBlockSyncTask (Stops (label.Thread (thread_label.Pauses n)) (call_sync_stops n k s)))
+  call_sync_pauses : (k : ℕ) → how_far_of n s ≡ how_far.Calls (subtask.Guest k) → Leads a s (trap_if (not (passes_check (instance_of n s) (call_resumes n k s))) trap.CannotBlockSyncTask (Stops (label.Thread (thread_label.Pauses n)) (call_sync_stops n k s)))
   unfolding call_sync_stops
-  call_sync_pauses k has =
+  call_sync_pauses k far =
       trap_if_leads a s (not (passes_check (instance_of n s) (call_resumes n k s))) trap.CannotBlockSyncTask _ (λ f.
-      stop _ (call_sync_stops n k s) refl (λ leave. call_stops_walks n refl (subtask.Guest k) (checked (instance_of n s) (call_resumes n k s)) leave (λ u d. inl has) (λ u d at. (refl, inl has)) (checked_walks n refl (instance_of n s) (call_resumes_walks n refl k has NoWord))))
+      stop _ (call_sync_stops n k s) refl (λ leave. call_stops_walks n refl (subtask.Guest k) (checked (instance_of n s) (call_resumes n k s)) leave (λ u d. inl (by_call (subtask.Guest k) far)) (λ u d at. (refl, inl (far, resumed_far n k s u d ∙ far))) (checked_walks n refl (instance_of n s) (call_resumes_walks n refl k (by_call (subtask.Guest k) far) NoWord))))
 
   call_sync_status_leads : (r k : ℕ) (e : Status) → how_far_of n s ≡ how_far.Calls (subtask.Guest k) → status_found k s ≡ e → HasSubtask a n (subtask.Guest k) → Leads a s (call_sync_status n r k s e)
   unfolding call_answered
   call_sync_status_leads r k status.Returned far found has =
       goes_on_saying x main s n l next (label.Call (call_label.CallSync n (result_of k s))) (call_answered n r k s) refl
       (λ is. call_says (call_label.CallSync n (result_of k s)) _ refl is (returned_out k (call_answered n r k s) far found (call_answered_gone n r k s)))
-      (λ is. answered_walks n refl r (result_of k s) (call_settled_walks k (word (SetResult k None) tt (call_resumes_walks n refl k has NoWord))))
-  call_sync_status_leads r k status.Starting far found has = call_sync_pauses k has
-  call_sync_status_leads r k status.Started far found has = call_sync_pauses k has
-  call_sync_status_leads r k status.StartCancelled far found has = call_sync_pauses k has
-  call_sync_status_leads r k status.ReturnCancelled far found has = call_sync_pauses k has
+      (λ is. answered_walks n refl on r (result_of k s) (call_settled_walks k (word (SetResult k None) tt (call_resumes_walks n refl k has NoWord))))
+  call_sync_status_leads r k status.Starting far found has = call_sync_pauses k far
+  call_sync_status_leads r k status.Started far found has = call_sync_pauses k far
+  call_sync_status_leads r k status.StartCancelled far found has = call_sync_pauses k far
+  call_sync_status_leads r k status.ReturnCancelled far found has = call_sync_pauses k far
 
   enter_row_leads : (e : Callee) (words : List ℕ) → callee_of_op (op_in a n) ≡ Some e → is_async_lifted (export_kind x.component e) ≡ false → Leads a s (enter_row n e (export_kind x.component e) words s)
   enter_row_leads e words callee lifted =
@@ -337,7 +361,7 @@ module _ (x : Setting) (main : Main) (s : Core) (n : ℕ) (l : Label) (next : Tu
   call_sync_row_leads r e words (how_far.Answered v) callee far =
       goes_on_saying x main s n l next (label.Call (call_label.CallSync n v)) (assigned n r v s) refl
       (λ is. call_says (call_label.CallSync n v) _ refl is (λ sub f out. none_said (ap (λ (h : HowFar). option_map (end_for status.Returned) (call_of_op h)) far) out))
-      (λ is. assigned_walks n refl r v NoWord)
+      (λ is. assigned_walks n refl on r v NoWord)
   call_sync_row_leads r e words (how_far.Calls (subtask.Guest k)) callee far = call_sync_status_leads r k (status_found k s) far refl (by_call (subtask.Guest k) far)
   call_sync_row_leads r e words _ callee far = by_lift (is_async_lifted (export_kind x.component e)) refl
     where
@@ -352,13 +376,13 @@ module _ (x : Setting) (main : Main) (s : Core) (n : ℕ) (l : Label) (next : Tu
   call_host_polled_leads r q (AtOnce v) =
       goes_on_saying x main s n l next (label.Call (call_label.CallPolls 2 n (next_work s))) (host_ready n r q v s) refl
       (λ is. at_once_says _ (host_ready n r q v s) refl refl (ready_at_once n r q v s) is)
-      (λ is. assigned_walks n refl r 2 (word (SetRegister n q v) tt (word CountWork refl NoWord)))
+      (λ is. assigned_walks n refl on r 2 (word (SetRegister n q v) tt (word CountWork refl NoWord)))
   call_host_polled_leads r q Failing = tt
   call_host_polled_leads r q (Later host) =
       let v = packed (new_handle (instance_of n s) s) status.Started in
       trap_if_leads a s (not (fits 1 s)) trap.TableFull _ (λ e.
       trap_if_leads a s (at_handle_limit s) trap.HandleLimit _ (λ f.
-      go _ (host_pending n r q v host s) (packed_is_not_two (new_handle (instance_of n s) s) status.Started (λ h. no_way (ap is_returned h))) (assigned_walks n refl r v (word (NameWork (instance_of n s) (next_work s)) ((n, (refl, (refl, inr (refl, queued_made (work_caller.Async n q) host (Some (thread_group n s)) s)))), ap (λ f. is_async_work f) (queued_caller (work_caller.Async n q) host (Some (thread_group n s)) s))
+      go _ (host_pending n r q v host s) (packed_is_not_two (new_handle (instance_of n s) s) status.Started (λ h. no_way (ap is_returned h))) (assigned_walks n refl on r v (word (NameWork (instance_of n s) (next_work s)) ((n, (refl, (refl, inr (refl, queued_made (work_caller.Async n q) host (Some (thread_group n s)) s)))), ap (λ f. is_async_work f) (queued_caller (work_caller.Async n q) host (Some (thread_group n s)) s))
       (word (QueueWork (work_caller.Async n q) host (Some (thread_group n s))) (refl, (refl, refl)) NoWord)))))
 
   host_stops_walks : (host : HostDef) → Leaves a n → Trip a s (call_sync_host_stops n host s)
@@ -379,7 +403,7 @@ module _ (x : Setting) (main : Main) (s : Core) (n : ℕ) (l : Label) (next : Tu
   call_sync_host_polled_leads r (AtOnce v) =
       goes_on_saying x main s n l next (label.CallSyncPolls n v (next_work s)) (host_answered n r v s) refl
       (λ is. at_once_says _ (host_answered n r v s) refl refl (answered_at_once n r v s) is)
-      (λ is. assigned_walks n refl r v (word CountWork refl NoWord))
+      (λ is. assigned_walks n refl on r v (word CountWork refl NoWord))
   call_sync_host_polled_leads r Failing = tt
   call_sync_host_polled_leads r (Later host) =
       trap_if_leads a s (not (fits 1 s)) trap.TableFull _ (λ e.
@@ -391,7 +415,7 @@ module _ (x : Setting) (main : Main) (s : Core) (n : ℕ) (l : Label) (next : Tu
   call_sync_host_row_leads r h (how_far.Calls (subtask.Host i)) far =
       goes_on_saying x main s n l next (label.Call (call_label.CallSync n (work_value i s))) (work_answered n r i s) refl
       (λ is. call_says (call_label.CallSync n (work_value i s)) _ refl is (λ sub f out. said_is (HandsOut a (work_answered n r i s)) (sym (ap (λ (y : HowFar). option_map (end_for status.Returned) (call_of_op y)) far) ∙ out) (Answers n i refl far (work_gone n r i s))))
-      (λ is. subst (λ (t : Core). Stay a s t) (answered_first n r (work_value i s) i s) (work_deleted_walks n refl i (n, (refl, inl (far, assigned_fresh n r (work_value i s) s))) (assigned_walks n refl r (work_value i s) NoWord)))
+      (λ is. subst (λ (t : Core). Stay a s t) (answered_first n r (work_value i s) i s) (join (assigned_walks n refl on r (work_value i s) NoWord) (keep_stay (work_deleted_walks n refl i (n, (refl, inl (far, assigned_fresh n r (work_value i s) s))) NoWord))))
   call_sync_host_row_leads r h _ far = call_sync_host_polled_leads r (first_poll (host_at x.component h))
 
   -- ---- Cancels
@@ -419,24 +443,28 @@ module _ (x : Setting) (main : Main) (s : Core) (n : ℕ) (l : Label) (next : Tu
       hands_at Async = refl
       hands_at Sync = refl
 
-  cancel_ended_row_leads : (mode : Mode) (r : ℕ) (sub : Subtask) (t : Core) (o : Option Status) → cancelled_of_op x.component n s (how_far_of n s) ≡ Some sub → undelivered_end (event_of sub s) ≡ o → HasSubtask a n sub → Stay a s t → Leads a s (cancel_ended_row mode n r sub t o)
+  cancel_ended_row_leads : (mode : Mode) (r : ℕ) (sub : Subtask) (t : Core) (o : Option Status) → cancelled_of_op x.component n s (how_far_of n s) ≡ Some sub → undelivered_end (event_of sub s) ≡ o → HasSubtask a n sub → Keep a s t → Leads a s (cancel_ended_row mode n r sub t o)
   cancel_ended_row_leads mode r sub t None target found has c = tt
-  cancel_ended_row_leads mode r sub t (Some e) target found has c = goes_on_saying x main s n l next (cancel_label mode n (status_code e)) (cancel_takes_end n r sub e t) (cancel_plain mode n (status_code e)) (λ is. cancel_says mode r sub t e target found is) (λ is. cancel_takes_end_walks n refl r sub e has c)
+  cancel_ended_row_leads mode r sub t (Some e) target found has c = goes_on_saying x main s n l next (cancel_label mode n (status_code e)) (cancel_takes_end n r sub e t) (cancel_plain mode n (status_code e)) (λ is. cancel_says mode r sub t e target found is) (λ is. cancel_takes_end_walks n refl on r sub e has c)
 
-  cancel_by_end_leads : (mode : Mode) (r : ℕ) (sub : Subtask) (t : Core) (b : Bool) → cancelled_of_op x.component n s (how_far_of n s) ≡ Some sub → event_of sub t ≡ event_of sub s → HasSubtask a n sub → IsFree sub → Stay a s t → Leads a s (cancel_by_end mode n r sub t b)
+  cancel_by_end_leads : (mode : Mode) (r : ℕ) (sub : Subtask) (t : Core) (b : Bool) → cancelled_of_op x.component n s (how_far_of n s) ≡ Some sub → event_of sub t ≡ event_of sub s → HasSubtask a n sub → IsFree sub → Keep a s t → Leads a s (cancel_by_end mode n r sub t b)
   cancel_by_end_leads mode r sub t true target same has free c = cancel_ended_row_leads mode r sub t (undelivered_end (event_of sub t)) target (ap (λ o. undelivered_end o) (sym same)) has c
-  cancel_by_end_leads Async r sub t false target same has free c = go (cancel_label Async n blocked_code) (answered n r blocked_code t) refl (answered_walks n refl r blocked_code c)
+  cancel_by_end_leads Async r sub t false target same has free c = go (cancel_label Async n blocked_code) (answered n r blocked_code t) refl (answered_walks n refl on r blocked_code c)
   cancel_by_end_leads Sync r sub t false target same has free c =
       trap_if_leads a s (not (passes_check (instance_of n t) t)) trap.CannotBlockSyncTask _ (λ e.
       stop (pauses n) (cancel_stops n sub t) refl (λ leave. cancel_stops_walks n refl sub leave has free c))
 
-  asks_walks : (k : ℕ) → HasSubtask a n (subtask.Guest k) → (has_ended k s ≡ false) × (was_started k s ≡ true) → Stay a s (cancel_asks k s)
+  asks_walks : (k : ℕ) → HasSubtask a n (subtask.Guest k) → (has_ended k s ≡ false) × (was_started k s ≡ true) → Keep a s (cancel_asks k s)
   unfolding cancel_asks
   asks_walks k has says = word (SetOwnEvent k (Some own.Cancelled)) (inl (refl, ((n, (refl, has)), (says.1, says.0)))) NoWord
 
   cancel_writes : (mode : Mode) (t : Core) → written_by x.component s (cancel_label mode n 3) t ≡ option_map (end_for status.StartCancelled) (cancelled_of_op x.component n s (how_far_of n s))
   cancel_writes Async t = refl
   cancel_writes Sync t = refl
+
+  withdrawn_low : (k : ℕ) (e : CallEnd) → Stands a (set_end k e (after_word (Withdraw k) s)) n
+  unfolding set_end on_call remove_thread
+  withdrawn_low k e = (refl, let b = on.1 in grind (arith, nat_tests, get-remove, b))
 
   -- a start that is withdrawn is an end, and handed out
   withdraw_says : (mode : Mode) (r k : ℕ) → l ≡ cancel_label mode n 3 → cancelled_of_op x.component n s (how_far_of n s) ≡ Some (subtask.Guest k) → IsNamed a (subtask.Guest k) → has_ended k s ≡ false → EndWords a (cancel_withdraws n r k s)
@@ -446,7 +474,7 @@ module _ (x : Setting) (main : Main) (s : Core) (n : ℕ) (l : Label) (next : Tu
       let writes : written_by x.component s l t ≡ Some (end_for status.StartCancelled (subtask.Guest k)) = ap (λ (y : Label). written_by x.component s y t) at ∙ (cancel_writes mode t ∙ ap (option_map (end_for status.StartCancelled)) target) in
       let v : Core = after_word (Withdraw k) s in
       let u : Core = set_end k call_end.StartCancelled v in
-      let rest : Walk a u (cancel_withdraws n r k s) = subst (λ (w : Core). Walk a (set_end k call_end.StartCancelled w) (cancel_withdraws n r k s)) (sym (withdraws k s)) (stay_walk (answered_walks n refl r 3 (word (SetUninteresting k) tt (word (SetExited k) tt NoWord)))) in
+      let rest : Walk a u (cancel_withdraws n r k s) = subst (λ (w : Core). Walk a (set_end k call_end.StartCancelled w) (cancel_withdraws n r k s)) (sym (withdraws k s)) (stay_walk (answered_walks n refl (subst (λ (w : Core). Stands a (set_end k call_end.StartCancelled w) n) (withdraws k s) (withdrawn_low k call_end.StartCancelled)) r 3 (word (SetUninteresting k) tt (word (SetExited k) tt NoWord)))) in
       record {
         writes = λ to f says. said_is (λ d g. Writes a t d) (sym writes ∙ says) (WritesCall k u (EndsSubtask named unended) (over_now k call_end.StartCancelled v) rest);
         hands = λ to f out. said_is (HandsOut a t) (sym (ap (λ (y : Label). handed_by x.component main s y t) at ∙ (withdraw_hands mode ∙ ap (option_map (end_for status.StartCancelled)) target)) ∙ out) (WritesToo k status.StartCancelled (ap (λ (y : Label). written_by x.component s y s) at ∙ (cancel_writes mode s ∙ ap (option_map (end_for status.StartCancelled)) target)) (inr refl));
@@ -463,7 +491,7 @@ module _ (x : Setting) (main : Main) (s : Core) (n : ℕ) (l : Label) (next : Tu
       let says = subst (CaseSays k s) is (case_says k s) in
       goes_on_saying x main s n l next (cancel_label mode n 3) (cancel_withdraws n r k s) (cancel_plain mode n 3)
       (λ at. withdraw_says mode r k at target (n, (h, (refl, named))) says.0)
-      (λ at. answered_walks n refl r 3 (withdrawn_walks n refl k (n, (refl, (ByHandle h named, (says.1, (says.0, (refl, says.1)))))) (ap (λ (y : Label). written_by x.component s y s) at ∙ (cancel_writes mode s ∙ ap (option_map (end_for status.StartCancelled)) target)) NoWord))
+      (λ at. answered_walks n refl on r 3 (withdrawn_walks n refl k (n, (refl, (ByHandle h named, (says.1, (says.0, (refl, says.1)))))) (ap (λ (y : Label). written_by x.component s y s) at ∙ (cancel_writes mode s ∙ ap (option_map (end_for status.StartCancelled)) target)) NoWord))
   cancel_guest_leads mode r h k CallbackWaits target is named free =
       let asks = asks_walks k (ByHandle h named) (goes_on_case k s CallbackWaits is refl) in
       stop (pauses n) (cancel_wakes_callback n k s) refl (λ leave. cancel_goes_behind_walks n refl k leave (ByHandle h named) free
@@ -499,16 +527,20 @@ module _ (x : Setting) (main : Main) (s : Core) (n : ℕ) (l : Label) (next : Tu
 
   -- ---- Dropping
 
+  still_ended : (i j h : ℕ) (t : Core) → is_stage_ended (stage_of i t) ≡ true → is_stage_ended (stage_of i (free_handle j h (set_subtask_handle (subtask.Host i) None (set_join (subtask.Host i) join.Nowhere t)))) ≡ true
+  unfolding free_handle set_subtask_handle set_join on_work
+  still_ended i j h t e = grind (arith, nat_tests, get-change)
+
   dropped_walks : (h : ℕ) (sub : Subtask) → subtask_at (instance_of n s) h s ≡ Some sub → subtask_ended sub s ≡ true → Stay a s (dropped n h sub s)
   unfolding dropped set_join on_call on_work
   dropped_walks h (subtask.Guest k) named ended =
       let sub = subtask.Guest k in
       let t = set_join sub join.Nowhere s in
-      advanced_walks n refl (call_settled_walks k (word (UnnameCall (instance_of n s) h k) (n, (refl, (refl, (named, set_none_join sub s)))) (join_walks n refl sub join.Nowhere (n, (refl, ByHandle h named)) NoWord)))
+      advanced_walks n refl on (call_settled_walks k (word (UnnameCall (instance_of n s) h k) (n, (refl, (refl, (named, set_none_join sub s)))) (join_walks n refl sub join.Nowhere (n, (refl, ByHandle h named)) NoWord)))
   dropped_walks h (subtask.Host i) named ended =
       let sub = subtask.Host i in
       let t = set_join sub join.Nowhere s in
-      advanced_walks n refl (work_deleted_walks n refl i (n, (refl, inr (ended, (freed_named (instance_of n s) h i (set_subtask_handle sub None t) ∙ work_unnamed i t, (h, named)))))
+      advanced_walks n refl on (work_deleted_walks n refl i (n, (refl, inr (ended, (freed_named (instance_of n s) h i (set_subtask_handle sub None t) ∙ work_unnamed i t, (still_ended i (instance_of n s) h s ended, (h, named))))))
       (word (UnnameWork (instance_of n s) h i) (n, (refl, (refl, (named, set_none_join sub s)))) (join_walks n refl sub join.Nowhere (n, (refl, ByHandle h named)) NoWord)))
 
   drop_row_leads : (h : ℕ) → Leads a s (drop_row n h s)
@@ -530,17 +562,17 @@ module _ (x : Setting) (main : Main) (s : Core) (n : ℕ) (l : Label) (next : Tu
 
   -- ---- Threads
 
-  thread_new_row_leads : (r y v : ℕ) (z : Slot) → Leads a s (thread_new_row n r y v s z)
+  thread_new_row_leads : (r y v : ℕ) (z : Slot) → slot_at x.component (instance_of n s) y ≡ z → Leads a s (thread_new_row n r y v s z)
   unfolding thread_made
-  thread_new_row_leads r y v slot.Empty = tt
-  thread_new_row_leads r y v slot.Bad = tt
-  thread_new_row_leads r y v (slot.Script ops) =
+  thread_new_row_leads r y v slot.Empty at = tt
+  thread_new_row_leads r y v slot.Bad at = tt
+  thread_new_row_leads r y v (slot.Script ops) at =
       trap_if_leads a s (not (fits 2 s)) trap.TableFull _ (λ e.
       trap_if_leads a s (at_handle_limit s) trap.HandleLimit _ (λ f.
-      go _ (thread_made n r y v s) refl (assigned_walks n refl r (new_thread_handle (instance_of n s) s) (word (NameThread (instance_of n s) (next_thread s)) tt
-      (word (MakeThread (new_thread (task_of n s) true (script.Slot y) (registers_for (v ∷ [])) None)) (n, (refl, (refl, (y, (v, (refl, refl)))))) NoWord)))))
+      go _ (thread_made n r y v s) refl (assigned_walks n refl on r (new_thread_handle (instance_of n s) s) (word (NameThread (instance_of n s) (next_thread s)) tt
+      (word (MakeThread (new_thread (task_of n s) true (script.Slot y) (registers_for (v ∷ [])) None)) (n, (refl, (refl, (y, (v, (refl, (refl, ap is_script at))))))) NoWord)))))
 
-  halted_walks : (h : Halt) (t : Core) → Leaves a n → Stay a s t → Trip a s (halted h n t)
+  halted_walks : (h : Halt) (t : Core) → Leaves a n → Keep a s t → Trip a s (halted h n t)
   unfolding halted
   halted_walks Suspension t leave c = lands_at (Move n place.Suspended) n how_far.Suspends (Suspends leave refl) refl (stopped_walks n refl t c)
   halted_walks Yielding t leave c = lands_at (Put mark.Low n why.Resumption) n how_far.Yields (Yields leave refl) refl (stopped_walks n refl t c)
@@ -551,7 +583,7 @@ module _ (x : Setting) (main : Main) (s : Core) (n : ℕ) (l : Label) (next : Tu
   halts_leads : (h : Halt) (k : Label) (b : Bool) → is_still k ≡ true → Leads a s (halts h n k s b)
   halts_leads h k true plain = stop (pauses n) (halted_checked h n s) refl (λ leave. halted_checked_walks h leave)
   halts_leads Suspension k false plain = tt
-  halts_leads Yielding k false plain = go k (advanced n s) plain (advanced_walks n refl NoWord)
+  halts_leads Yielding k false plain = go k (advanced n s) plain (advanced_walks n refl on NoWord)
 
   halt_row_leads : (h : Halt) (k : Label) → is_still k ≡ true → Leads a s (halt_row h n k s)
   halt_row_leads h k plain = halts_leads h k (passes_check (instance_of n s) s) plain
@@ -562,7 +594,7 @@ module _ (x : Setting) (main : Main) (s : Core) (n : ℕ) (l : Label) (next : Tu
       or_trap_leads a s (thread_at (instance_of n s) h s) trap.BadHandle _ (λ m named.
       trap_if_leads a s (m == n) trap.CannotResumeThread _ (λ other.
       or_trap_leads a s (resume_why m s) trap.CannotResumeThread _ (λ w by.
-      go _ (resumed_later n m w s) refl (advanced_walks n refl (placed (Put mark.Low m w) (inl (Resumes by)) NoWord)))))
+      go _ (resumed_later n m w s) refl (advanced_walks n refl on (placed (Put mark.Low m w) (inl (Resumes by)) NoWord)))))
 
   then_resume_row_leads : (y : Halt) (h : ℕ) → Leads a s (then_resume_row y n h s)
   unfolding halted_resuming
@@ -589,8 +621,8 @@ module _ (x : Setting) (main : Main) (s : Core) (n : ℕ) (l : Label) (next : Tu
   halting_leads k row plain leads = by_far (how_far_of n s)
     where
       by_far : (f : HowFar) → Leads a s (by_how_far f n (label.Thread k) s (row (label.Thread k)))
-      by_far how_far.Suspends = go (label.Thread k) (advanced n s) plain (advanced_walks n refl NoWord)
-      by_far how_far.Yields = go (label.Thread k) (advanced n s) plain (advanced_walks n refl NoWord)
+      by_far how_far.Suspends = go (label.Thread k) (advanced n s) plain (advanced_walks n refl on NoWord)
+      by_far how_far.Yields = go (label.Thread k) (advanced n s) plain (advanced_walks n refl on NoWord)
       by_far how_far.Fresh = leads
       by_far (how_far.Waits y) = leads
       by_far (how_far.Calls y) = leads
@@ -599,8 +631,8 @@ module _ (x : Setting) (main : Main) (s : Core) (n : ℕ) (l : Label) (next : Tu
       by_far (how_far.AwaitsEnd y) = leads
 
   pub thread_row_leads : (o : ThreadOp) → Leads a s (thread_row x.component n s o)
-  thread_row_leads (thread_op.New r y v) = thread_new_row_leads r y (value_of n s v) (slot_at x.component (instance_of n s) y)
-  thread_row_leads (thread_op.Index r) = go _ (assigned n r (unwrap_or (thread_handle_of n s) 0) s) refl (assigned_walks n refl r (unwrap_or (thread_handle_of n s) 0) NoWord)
+  thread_row_leads (thread_op.New r y v) = thread_new_row_leads r y (value_of n s v) (slot_at x.component (instance_of n s) y) refl
+  thread_row_leads (thread_op.Index r) = go _ (assigned n r (unwrap_or (thread_handle_of n s) 0) s) refl (assigned_walks n refl on r (unwrap_or (thread_handle_of n s) 0) NoWord)
   thread_row_leads (thread_op.ResumeLater v) = resume_later_row_leads (value_of n s v)
   thread_row_leads thread_op.Suspend = halting_leads (thread_label.Suspend n) (λ k. halt_row Suspension n k s) refl (halt_row_leads Suspension (label.Thread (thread_label.Suspend n)) refl)
   thread_row_leads thread_op.Yield = halting_leads (thread_label.Yield n) (λ k. halt_row Yielding n k s) refl (halt_row_leads Yielding (label.Thread (thread_label.Yield n)) refl)

@@ -1,17 +1,13 @@
 -- What the rows of the ops are made of, as chains of words: what is read, gifts, moves, and a new call.
-use Rattle.task_rules.proofs.Machine.{add_call, add_thread, advanced, after_placing, after_word, assigned, behind_one, behind_switch, Blocks, ByHandle, Call, call_clears_flag, call_instance, call_made, call_queues, call_resumes, call_stops, Callee, Caller, cancel_goes_behind, cancel_label, cancel_stops, cancel_takes_end, checked, Choice, chosen, Core, Enter, enter_runs, Entry, ExportKind, foot_of, free_handle, get, Gift, gift, give_thread_handle, Given, given_code, given_handle, given_result, Goal, goal_of, GoBehind, group_settled, has_entry, HasSet, HasSubtask, how_far_of, HowFar, instance_of, is_begun, is_blocked_on, is_direct, is_explicit, is_group_done, is_joined, is_running, IsNew, IsRunner, IsWithdrawn, Join, join_label, join_of, Leaves, less, less_switch, Made, MakeCall, may_not_suspend, MayCome, MayDeliver, MayJoin, MayMakeCall, MayRemoveWork, MayWithdraw, MemberGift, Mode, Move, moved_to, NameThread, new_call, new_thread, new_thread_handle, next_thread, NoGift, NoWord, on_call, on_instance, on_thread, on_work, OwnGift, Place, place_of, Put, put_back, put_switch, received, Records, registers_for, Remains, remove_group, remove_thread, remove_work, RemoveWork, saved_callee_of, says, SaysEnd, Scene, set_do_not_suspend, set_end, set_event, set_exited, set_given, set_high, set_how_far, set_join, set_low, set_place, set_position, set_register, set_saved_callee, set_saved_own, set_started, set_subtask_handle, set_switch, set_thread_handle, set_uninteresting, SetCallEvent, SetCallJoin, SetDoNotSuspend, SetEnd, SetExited, SetHowFar, SetRegister, SetSavedCallee, SetSavedOwn, SetStarted, settle_group_of, SetUninteresting, SetWorkJoin, Starts, Status, status_code, Stay, Stop, stopped, Subtask, subtask_at, subtask_handle, sync_sets_flag, TakeWorkEvent, task_of, Thread, thread_group, Trip, unqueued, wait_label, wait_stops, Waits, with_switch, with_thread_handle, Withdraw, withdrawn, work_deleted, work_group}
+use Rattle.task_rules.proofs.Machine.{[], add_call, add_thread, advanced, after_placing, after_word, answered, ap, arith, assigned, behind_one, behind_switch, Blocks, Bool, ByHandle, Call, call_clears_flag, call_instance, call_made, call_queues, call_resumes, call_stops, Callee, Caller, cancel_goes_behind, cancel_label, cancel_stops, cancel_takes_end, checked, Choice, chosen, Core, Enter, enter_runs, Entry, ExportKind, false, foot_of, free_handle, get, get-insert, Gift, gift, give_handle, give_thread_handle, Given, given_code, given_handle, given_result, Goal, goal_of, GoBehind, group_settled, has_entry, HasSet, HasSubtask, how_far_of, HowFar, if◌then◌else◌, inl, inr, instance_of, is_begun, is_blocked_on, is_direct, is_explicit, is_group_done, is_joined, is_none, is_running, is_some, IsCalled, IsNew, IsRunner, IsWithdrawn, Join, join_label, join_of, Leaves, less, less_switch, List, Made, MakeCall, may_not_suspend, MayCome, MayDeliver, MayJoin, MayMakeCall, MayRemoveWork, MayWithdraw, MemberGift, Mode, Move, moved_to, NameThread, nat_tests, new_call, new_handle, new_thread, new_thread_handle, next_thread, NoGift, None, NoWord, on_call, on_instance, on_thread, on_work, Option, option_map, option_map_or, OwnGift, Place, place_of, Put, put_back, put_switch, received, Records, refl, registers_for, Remains, remove_group, remove_thread, remove_work, RemoveWork, saved_callee_of, says, SaysEnd, Scene, set_do_not_suspend, set_end, set_event, set_exited, set_given, set_high, set_how_far, set_join, set_low, set_place, set_position, set_register, set_saved_callee, set_saved_own, set_started, set_subtask_handle, set_switch, set_thread_handle, set_uninteresting, SetCallEvent, SetCallJoin, SetDoNotSuspend, SetEnd, SetExited, SetHowFar, SetRegister, SetSavedCallee, SetSavedOwn, SetStarted, settle_group_of, SetUninteresting, SetWorkJoin, Some, Starts, Status, status_code, Stay, Stop, stopped, subst, Subtask, subtask_at, subtask_handle, sym, sync_sets_flag, TakeWorkEvent, task_of, Thread, thread_group, Trip, true, unqueued, unwrap_or, wait_label, wait_stops, Waits, with_handle, with_switch, with_thread_handle, Withdraw, withdrawn, work_deleted, work_group, ℕ, ◌+◌, ◌==◌, ◌∙◌, ◌≡◌, ◌⊎◌}
 use Rattle.task_rules.proofs.MoveLemmas.{put_place}
-use Rattle.std.proofs.Common.{arith}
-use Rattle.std.proofs.lemmas.Bool.Decides.{nat_tests}
 use Rattle.task_machine.proofs.CommuteLemmas.{get-change}
-use Rattle.std.proofs.Common.{ap, inl, inr, refl, subst, sym, ◌∙◌, ◌⊎◌}
-use Rattle.std.specs.Option.{option_map_or}
-use Rattle.std.specs.Prelude.{Bool, List, None, Option, Some, [], false, if◌then◌else◌, is_none, option_map, true, unwrap_or, ℕ, ◌+◌, ◌==◌, ◌≡◌, is_some}
 use Rattle.task_machine.proofs.MapLemmas.{change-field, get-insert_same, get-remove_same}
-use Rattle.task_rules.proofs.PlacingLemmas.{Shifted, placed, placing_shifted, shifted_after, shifted_explicit, shifted_made}
+use Rattle.task_rules.proofs.PlacingLemmas.{Shifted, placed, placing_shifted, shifted_after, shifted_calls, shifted_explicit, shifted_made}
 use Rattle.task_rules.proofs.StandLemmas.{place_kept}
+use Rattle.task_rules.proofs.ChainLemmas.{Keep, keep_stay}
 use Rattle.task_rules.proofs.WalkMoves.{MayTake, checked_shifts, group_settled_walks, shifted, stopped_shifts, taken_walks, word, lands_at}
-use Rattle.task_rules.proofs.WalkTask.{advanced_walks, answered_walks, is_plain, is_still, running_moved, moved_passes, not_main}
+use Rattle.task_rules.proofs.WalkTask.{Stands, advanced_walks, answered_walks, is_plain, is_still, running_moved, moved_passes, not_main}
 use Rattle.task_machine.specs.declared.component.ExportKind.TheVariants as kind
 use Rattle.task_machine.specs.declared.records.CallEnd.TheVariants as call_end
 use Rattle.task_machine.specs.declared.records.Caller.TheVariants as caller
@@ -51,6 +47,11 @@ answered_first n r v i s = of_group (work_group i s)
     of_group : (o : Option ℕ) → settle_group_of o (remove_work i (assigned n r v s)) ≡ assigned n r v (settle_group_of o (remove_work i s))
     of_group None = refl
     of_group (Some g) = by_done g (is_group_done g (remove_work i s))
+
+-- it may come before the call has a handle
+pub answered_unnamed : (n r v i k : ℕ) (s : Core) → with_handle i (subtask.Guest k) (answered n r v s) ≡ answered n r v (with_handle i (subtask.Guest k) s)
+unfolding answered assigned advanced moved_to set_how_far set_position on_thread set_register set_saved_callee with_handle set_subtask_handle give_handle on_call new_handle
+answered_unnamed n r v i k s = refl
 
 pub work_unnamed : (i : ℕ) (t : Core) → subtask_handle (subtask.Host i) (set_subtask_handle (subtask.Host i) None t) ≡ None
 unfolding set_subtask_handle on_work
@@ -92,88 +93,88 @@ withdraws k t = withdraws_by k (less_switch k t.queues.switch) (less k t.queues.
 -- ---- The moves
 
 module _ {a : Scene} {b : Core} (n : ℕ) (is : IsRunner a n) where
-  pub set_given_walks : (r : ℕ) (v : Given) {t : Core} → Stay a b t → Stay a b (set_given n r v t)
+  pub set_given_walks : (r : ℕ) (v : Given) {t : Core} → Keep a b t → Keep a b (set_given n r v t)
   unfolding set_given
   set_given_walks r v c = word (SetRegister n (r + 2) (given_result v)) tt (word (SetRegister n (r + 1) (given_handle v)) tt (word (SetRegister n r (given_code v)) tt c))
 
-  pub received_walks : (r : ℕ) (g : Gift) (v : Given) {t : Core} → MayTake a (task_of n t) g → Stay a b t → Stay a b (received n r g v t)
+  pub received_walks : Stands a b n → (r : ℕ) (g : Gift) (v : Given) {t : Core} → MayTake a (task_of n t) g → Keep a b t → Stay a b (received n r g v t)
   unfolding received
-  received_walks r g v {t = t} ok c = advanced_walks n is (set_given_walks r v (taken_walks g (task_of n t) ok c))
+  received_walks on r g v {t = t} ok c = advanced_walks n is on (set_given_walks r v (taken_walks g (task_of n t) ok c))
 
-  pub stopped_walks : (t : Core) → Stay a b t → Stay a b (stopped (foot_of n t) t)
+  pub stopped_walks : (t : Core) → Keep a b t → Keep a b (stopped (foot_of n t) t)
   stopped_walks t c = shifted (stopped_shifts (foot_of n t) t) c
 
-  pub checked_walks : (i : ℕ) {t : Core} → Stay a b t → Stay a b (checked i t)
+  pub checked_walks : (i : ℕ) {t : Core} → Keep a b t → Keep a b (checked i t)
   checked_walks i {t = t} c = shifted (checked_shifts i t) c
 
-  pub wait_stops_walks : (y : ℕ) {t : Core} → Leaves a n → HasSet a n y → Stay a b t → Trip a b (wait_stops n y t)
+  pub wait_stops_walks : (y : ℕ) {t : Core} → Leaves a n → HasSet a n y → Keep a b t → Trip a b (wait_stops n y t)
   unfolding wait_stops
   wait_stops_walks y {t = t} leave has c = lands_at (Move n (place.Waiting y false)) n (how_far.Waits y) (Waits y leave has refl) (is, has) (stopped_walks t c)
 
-  pub join_walks : (sub : Subtask) (j : Join) {t : Core} → MayJoin a sub j t → Stay a b t → Stay a b (set_join sub j t)
+  pub join_walks : (sub : Subtask) (j : Join) {t : Core} → MayJoin a sub j t → Keep a b t → Keep a b (set_join sub j t)
   join_walks (subtask.Guest k) j ok c = word (SetCallJoin k j) ok c
   join_walks (subtask.Host i) j ok c = word (SetWorkJoin i j) ok c
 
-  event_taken_walks : (sub : Subtask) {t : Core} → HasSubtask a n sub → Stay a b t → Stay a b (set_event sub None t)
+  event_taken_walks : (sub : Subtask) {t : Core} → HasSubtask a n sub → Keep a b t → Keep a b (set_event sub None t)
   event_taken_walks (subtask.Guest k) has c = word (SetCallEvent k None) (n, (is, has)) c
   event_taken_walks (subtask.Host i) has c = word (TakeWorkEvent i) (n, (is, has)) c
 
-  pub put_back_walks : (o : Option Bool) (j : ℕ) {t : Core} → Stay a b t → Stay a b (put_back o j t)
+  pub put_back_walks : (o : Option Bool) (j : ℕ) {t : Core} → Keep a b t → Keep a b (put_back o j t)
   put_back_walks None j c = c
   put_back_walks (Some f) j c = word (SetDoNotSuspend j f) tt c
 
-  pub call_resumes_walks : (k : ℕ) {t : Core} → HasSubtask a n (subtask.Guest k) → Stay a b t → Stay a b (call_resumes n k t)
+  pub call_resumes_walks : (k : ℕ) {t : Core} → HasSubtask a n (subtask.Guest k) → Keep a b t → Keep a b (call_resumes n k t)
   unfolding call_resumes
   call_resumes_walks k {t = t} has c = event_taken_walks (subtask.Guest k) has (put_back_walks (saved_callee_of n t) (call_instance k t) c)
 
-  pub call_stops_walks : (sub : Subtask) (t : Core) → Leaves a n → ((u : Core) → Shifted t u → HasSubtask a n sub ⊎ IsNew a sub u) → ((u : Core) → Shifted t u → option_map_or (is_blocked_on sub) (place_of n u) true ≡ true → MayCome a n (how_far.Calls sub) u) → Stay a b t → Trip a b (call_stops n sub t)
+  pub call_stops_walks : (sub : Subtask) (t : Core) → Leaves a n → ((u : Core) → Shifted t u → HasSubtask a n sub ⊎ IsNew a sub u) → ((u : Core) → Shifted t u → option_map_or (is_blocked_on sub) (place_of n u) true ≡ true → MayCome a n (how_far.Calls sub) u) → Keep a b t → Trip a b (call_stops n sub t)
   unfolding call_stops
   call_stops_walks sub t leave own come c =
       let u = stopped (foot_of n t) t in
       let h : Shifted t u = placing_shifted (Stop (foot_of n t)) t in
       lands_at (Move n (place.Blocked sub)) n (how_far.Calls sub) (Blocks sub leave (own u h) refl) (come (set_place n (place.Blocked sub) u) (shifted_after h (placing_shifted (Move n (place.Blocked sub)) u)) (moved_passes (is_blocked_on sub) (place.Blocked sub) (blocked_itself sub) n u)) (stopped_walks t c)
 
-  pub sync_sets_flag_walks : (m j : ℕ) (k : ExportKind) {t : Core} → Stay a b t → Stay a b (sync_sets_flag m j k t)
+  pub sync_sets_flag_walks : (m j : ℕ) (k : ExportKind) {t : Core} → Keep a b t → Keep a b (sync_sets_flag m j k t)
   sync_sets_flag_walks m j kind.Sync {t = t} c = word (SetDoNotSuspend j true) tt (word (SetSavedOwn m (Some (may_not_suspend j t))) tt c)
   sync_sets_flag_walks m j _ c = c
 
-  call_clears_flag_walks : (j : ℕ) (k : ExportKind) {t : Core} → Stay a b t → Stay a b (call_clears_flag n j k t)
+  call_clears_flag_walks : (j : ℕ) (k : ExportKind) {t : Core} → Keep a b t → Keep a b (call_clears_flag n j k t)
   call_clears_flag_walks j kind.Sync c = c
   call_clears_flag_walks j _ {t = t} c = word (SetDoNotSuspend j false) tt (word (SetSavedCallee n (Some (may_not_suspend j t))) tt c)
 
-  settle_group_of_walks : (o : Option ℕ) {t : Core} → Stay a b t → Stay a b (settle_group_of o t)
+  settle_group_of_walks : (o : Option ℕ) {t : Core} → Keep a b t → Keep a b (settle_group_of o t)
   settle_group_of_walks None c = c
   settle_group_of_walks (Some g) c = group_settled_walks g c
 
-  pub work_deleted_walks : (i : ℕ) {t : Core} → MayRemoveWork a i t → Stay a b t → Stay a b (work_deleted i t)
+  pub work_deleted_walks : (i : ℕ) {t : Core} → MayRemoveWork a i t → Keep a b t → Keep a b (work_deleted i t)
   unfolding work_deleted
   work_deleted_walks i {t = t} ok c = settle_group_of_walks (work_group i t) (word (RemoveWork i) ok c)
 
-  pub cancel_takes_end_walks : (r : ℕ) (sub : Subtask) (e : Status) {t : Core} → HasSubtask a n sub → Stay a b t → Stay a b (cancel_takes_end n r sub e t)
+  pub cancel_takes_end_walks : Stands a b n → (r : ℕ) (sub : Subtask) (e : Status) {t : Core} → HasSubtask a n sub → Keep a b t → Stay a b (cancel_takes_end n r sub e t)
   unfolding cancel_takes_end
-  cancel_takes_end_walks r sub e has c = answered_walks n is r (status_code e) (event_taken_walks sub has c)
+  cancel_takes_end_walks on r sub e has c = answered_walks n is on r (status_code e) (event_taken_walks sub has c)
 
-  pub cancel_stops_walks : (sub : Subtask) {t : Core} → Leaves a n → HasSubtask a n sub → (is_joined (join_of sub a.base) ≡ false) ⊎ (how_far_of n a.base ≡ how_far.Cancels sub) → Stay a b t → Trip a b (cancel_stops n sub t)
+  pub cancel_stops_walks : (sub : Subtask) {t : Core} → Leaves a n → HasSubtask a n sub → (is_joined (join_of sub a.base) ≡ false) ⊎ (how_far_of n a.base ≡ how_far.Cancels sub) → Keep a b t → Trip a b (cancel_stops n sub t)
   unfolding cancel_stops
   cancel_stops_walks sub {t = t} leave has free c =
       let u = set_join sub (join.Watched n) (set_saved_callee n None t) in
       lands_at (Move n (place.Blocked sub)) n (how_far.AwaitsEnd sub) (Blocks sub leave (inl has) refl) (is, has) (stopped_walks (checked (instance_of n t) u) (checked_walks (instance_of n t) (join_walks sub (join.Watched n) (is, (has, free)) (word (SetSavedCallee n None) tt c))))
 
-  behind_switch_walks : (o : Option ℕ) (h : HowFar) {t : Core} → t.queues.switch ≡ o → Leaves a n → ((u : Core) → MayCome a n h u) → Stay a b t → Trip a b (set_how_far n h (behind_switch n o t))
-  behind_switch_walks None h {t = t} at leave comes c = Remains (set_how_far n h t) (word (SetHowFar n h) (comes t) c) (λ m to. not_main m (sym leave.1.0 ∙ to))
+  behind_switch_walks : (o : Option ℕ) (h : HowFar) {t : Core} → t.queues.switch ≡ o → Leaves a n → ((u : Core) → MayCome a n h u) → Keep a b t → Trip a b (set_how_far n h (behind_switch n o t))
+  behind_switch_walks None h {t = t} at leave comes c = Remains (set_how_far n h t) (keep_stay (word (SetHowFar n h) (comes t) c)) (λ m to. not_main m (sym leave.1.0 ∙ to))
   behind_switch_walks (Some m) h {t = t} at leave comes c = lands_at (GoBehind (foot_of m t) n) n h (leave, inr (m, (at, refl))) (comes (after_placing (GoBehind (foot_of m t) n) t)) c
 
-  pub cancel_goes_behind_walks : (k : ℕ) {t : Core} → Leaves a n → HasSubtask a n (subtask.Guest k) → is_joined (join_of (subtask.Guest k) a.base) ≡ false → Stay a b t → Trip a b (cancel_goes_behind n k t)
+  pub cancel_goes_behind_walks : (k : ℕ) {t : Core} → Leaves a n → HasSubtask a n (subtask.Guest k) → is_joined (join_of (subtask.Guest k) a.base) ≡ false → Keep a b t → Trip a b (cancel_goes_behind n k t)
   unfolding cancel_goes_behind set_join on_call set_do_not_suspend on_instance set_saved_callee on_thread
   cancel_goes_behind_walks k {t = t} leave has free c =
       let j = call_instance k t in
       behind_switch_walks t.queues.switch (how_far.Cancels (subtask.Guest k)) refl leave (λ u. (is, has))
       (join_walks (subtask.Guest k) (join.Watched n) (is, (has, inl free)) (word (SetDoNotSuspend j false) tt (word (SetSavedCallee n (Some (may_not_suspend j t))) tt c)))
 
-  pub withdrawn_walks : (k : ℕ) {t : Core} → MayWithdraw a k t → SaysEnd a k status.StartCancelled → Stay a b t → Stay a b (withdrawn k t)
+  pub withdrawn_walks : (k : ℕ) {t : Core} → MayWithdraw a k t → SaysEnd a k status.StartCancelled → Keep a b t → Keep a b (withdrawn k t)
   unfolding withdrawn remove_thread
   withdrawn_walks k {t = t} ok says c =
-      subst (λ (v : Core). Stay a b (set_uninteresting k (set_exited k (set_end k call_end.StartCancelled v)))) (withdraws k t)
+      subst (λ (v : Core). Keep a b (set_uninteresting k (set_exited k (set_end k call_end.StartCancelled v)))) (withdraws k t)
       (word (SetUninteresting k) tt (word (SetExited k) tt (word (SetEnd k call_end.StartCancelled) (IsWithdrawn ok (ap (λ (o : Option Thread). is_none o) (get-remove_same t.threads k)) refl, says) (word (Withdraw k) ok c))))
 
 -- ---- A new call
@@ -260,6 +261,27 @@ cleared_there : (n j : ℕ) (k : ExportKind) (m : ℕ) (t : Core) → is_some (p
 unfolding set_do_not_suspend on_instance set_saved_callee on_thread
 cleared_there n j k m t = grind (arith, nat_tests, get-change)
 
+-- ---- Whose the new call is
+
+made_called : (n : ℕ) (e : Callee) (x : ExportKind) (g : Goal) (group : ℕ) (words : List ℕ) (s : Core) → IsCalled n (next_thread s) (call_made (caller.Thread n) e x g group words s)
+unfolding call_made add_thread add_call
+made_called n e x g group words s = (grind (arith, nat_tests, get-insert), grind (arith, nat_tests, get-insert))
+
+called_as : (n k : ℕ) (s t : Core) → t.calls ≡ s.calls → IsCalled n k s → IsCalled n k t
+called_as n k s t same is = (grind (arith, is.0), grind (arith, is.1))
+
+named_calls : (i m : ℕ) (t : Core) → (with_thread_handle i m t).calls ≡ t.calls
+unfolding with_thread_handle set_thread_handle give_thread_handle on_thread
+named_calls i m t = refl
+
+started_called : (n k : ℕ) (t : Core) → IsCalled n k t → IsCalled n k (set_started k t)
+unfolding set_started on_call
+started_called n k t is = (grind (arith, nat_tests, get-change, is.0), grind (arith, nat_tests, get-change, is.1))
+
+cleared_calls : (n j : ℕ) (k : ExportKind) (t : Core) → (call_clears_flag n j k t).calls ≡ t.calls
+unfolding set_do_not_suspend on_instance set_saved_callee on_thread
+cleared_calls n j k t = grind arith
+
 module _ {a : Scene} (n : ℕ) (is : IsRunner a n) where
   pub call_queues_walks : (e : Callee) (k : ExportKind) (g : Goal) (words : List ℕ) → Leaves a n → MayMakeCall a (caller.Thread n) e k g (thread_group n a.base) a.base → is_direct g ≡ false → Trip a a.base (call_queues n e k g words a.base)
   unfolding call_queues
@@ -273,7 +295,9 @@ module _ {a : Scene} (n : ℕ) (is : IsRunner a n) where
       let d : Shifted t u = placing_shifted p t in
       let v = call_clears_flag n e.instance k u in
       let new : (v.made.threads ≡ m) × (is_explicit m v ≡ false) = cleared_explicit n e.instance k m u (ap (λ (r : Made). r.threads) (shifted_made d) ∙ h.made, shifted_explicit d m ∙ born_explicit h) in
-      lands_at (GoBehind m n) n (how_far.Calls (subtask.Guest m)) (leave, inl (cleared_there n e.instance k m u ∙ ap (λ (o : Option Place). is_some o) (put_place mark.Switch m why.Start t (ap (λ (o : Option Place). is_some o) (born_place h))))) (is, inr (shifted_new a m v (behind_one m n v) refl (placing_shifted (GoBehind m n) v) new)) (call_clears_flag_walks n is e.instance k
+      let w = behind_one m n v in
+      let called : IsCalled n m w = called_as n m t w (shifted_calls (placing_shifted (GoBehind m n) v) ∙ (cleared_calls n e.instance k u ∙ shifted_calls d)) (made_called n e k g (thread_group n s) words s) in
+      lands_at (GoBehind m n) n (how_far.Calls (subtask.Guest m)) (leave, inl (cleared_there n e.instance k m u ∙ ap (λ (o : Option Place). is_some o) (put_place mark.Switch m why.Start t (ap (λ (o : Option Place). is_some o) (born_place h))))) (is, inr (shifted_new a m v w refl (placing_shifted (GoBehind m n) v) new, called)) (call_clears_flag_walks n is e.instance k
       (placed p (inl (Starts (born_place h) (born_explicit h) (ap (λ (y : Goal). is_direct y) (born_goal h) ∙ plain) refl)) (word (MakeCall (caller.Thread n) e k g (thread_group n s) words) ok NoWord)))
 
   pub enter_runs_walks : (e : Callee) (k : ExportKind) (words : List ℕ) → a.turn ≡ turn.Run n → a.next ≡ turn.Run (next_thread a.base) → MayMakeCall a (caller.Thread n) e k goal.Direct (thread_group n a.base) a.base → Trip a a.base (enter_runs n e k words a.base)
@@ -288,7 +312,8 @@ module _ {a : Scene} (n : ℕ) (is : IsRunner a n) where
       let u = sync_sets_flag m e.instance k (set_started m t1) in
       let h : Born m goal.Direct u = flag_born m e.instance k goal.Direct (set_started m t1) h2 in
       let begun : is_begun m u ≡ true = ap (λ (r : Records Call). option_map_or (λ c. c.started) (get r m) true) (flag_calls m e.instance k (set_started m t1)) ∙ started_begun m t1 in
-      lands_at (Enter n m) n (how_far.Calls (subtask.Guest m)) (is, (to, (refl, (born_place h, (ap (λ (y : Goal). is_direct y) (born_goal h), (runs, begun)))))) (is, inr (shifted_new a m u _ refl (placing_shifted (Enter n m) u) (h.made, born_explicit h)))
+      let called : IsCalled n m u = called_as n m (set_started m t1) u (flag_calls m e.instance k (set_started m t1)) (started_called n m t1 (called_as n m t t1 (named_calls e.instance m t) (made_called n e k goal.Direct (thread_group n s) words s))) in
+      lands_at (Enter n m) n (how_far.Calls (subtask.Guest m)) (is, (to, (refl, (born_place h, (ap (λ (y : Goal). is_direct y) (born_goal h), (runs, begun)))))) (is, inr (shifted_new a m u _ refl (placing_shifted (Enter n m) u) (h.made, born_explicit h), called_as n m u (after_placing (Enter n m) u) (shifted_calls (placing_shifted (Enter n m) u)) called))
       (sync_sets_flag_walks n is m e.instance k (word (SetStarted m) (inr (refl, (h1.made, born_explicit h1))) (word (NameThread e.instance m) tt (word (MakeCall (caller.Thread n) e k goal.Direct (thread_group n s) words) ok NoWord))))
 
 pub enter_gives : (n : ℕ) (e : Callee) (k : ExportKind) (words : List ℕ) (s : Core) → (next_thread s == n) ≡ false → option_map_or is_running (place_of (next_thread s) (enter_runs n e k words s)) true ≡ true

@@ -1,18 +1,12 @@
 -- Each step as a chain of words: host works, main, the loop and all turns.
-use Rattle.std.proofs.Common.{arith}
-use Rattle.std.proofs.lemmas.Bool.Decides.{nat_tests}
-use Rattle.task_machine.proofs.CommuteLemmas.{get-change}
-use Rattle.task_rules.proofs.Machine.{Abort, aborted_phase, act_of, add_group, add_work, AddGroup, advanced_main, Answer, at_turn, Await, base_at, base_without, Began, begun_holder, blocked_on, ByProgram, ByScript, call_made, Callee, callee_of_main_op, Chain, Choice, choice_of, Collapses, Core, count_work, Course, course_for, course_of, course_value, DeadlockStep, did, Does, EmptyFor, end_for, ended, Ends, EndWords, EndWork, Entry, entry_number, export_kind, Fails, FailsNow, Falls, Finish, finish_act, finish_result, finished_call, finished_into, FinishWork, followed, FuturesStep, get, get-remove, Goal, Goes, goes_to, handed_by, handed_by_main, HandsOut, has_end, has_interesting, has_moving_work, host_at, host_done, host_label, host_result, host_status, HostDef, is_aborted, is_async_work, is_callback_waiter, is_complete, is_direct, is_free, is_ready_for_call, is_spawn, is_spawn_caller, is_stage_ended, is_take, is_unended_take, is_waiting_on, IsFall, IsRunner, Join, join_of, Label, LastWords, line_of, Main, main_aborted, main_outcome, main_row, main_spawned, main_started, MainAct, MainLabel, MainPlace, MainProgress, MainProgresses, MainStep, MakeCall, Mark, may, may_act, may_deadlock, may_publish, MayAbort, MayCall, MayFinish, Never, new_work, next_entry, next_polled, next_thread, next_work, NoWord, on_thread, on_work, Op, op_at, op_of, op_row, OpenAct, OpenProgresses, Ordered, Outcome, outcome_of_label, Pend, Pends, Phase, phase_of, place_of, Poll, poll_ends, poll_of, poll_pends, Polled, polled_course, polled_in, Pop, popped, ProgramAborts, Progress, Progresses, published, push_high, pushed, Put, put_high, QueueWork, Quiet, Ready, Records, Refused, Remains, remove_thread, remove_threads, RemoveThread, RestStep, runner_at, SameMain, Scene, ScriptAborts, Scripted, ScriptStep, set_course, set_event, set_phase, set_place, set_register, set_stage, set_trapped, SetPhase, SetRegister, Setting, settled_turn, SetTrapped, Shifts, size, Spawn, spawned_at, SpawnsNamed, Stage, stage_of, Start, start_act, start_of, start_refusal, Started, started_at, started_end, Starts, State, Status, Stay, Step, StepsAreWalks, StillPends, Stops, strand_from, strand_of, struck, Subtask, take_result, take_row, TakeHost, TakePush, TakeResult, TakesResult, TakeStep, Then, Thread, thread_of_entry, Trap, Traps, Trip, Turn, TurnStep, unblocked, under_of, unless_pending, Unscripted, wake, wake_joined, waken_by, Walk, Why, woken_of, Work, work_caller_of, work_queued, WorkCaller, Writes, WritesPolled, written_by}
+use Rattle.task_rules.proofs.Machine.{[], Abort, aborted_phase, act_of, add_group, add_work, AddGroup, advanced_main, Answer, ap, ap₂, arith, at_turn, Await, base_at, base_without, Began, begun_holder, blocked_on, Bool, ByProgram, ByScript, call_made, Callee, callee_of_main_op, Chain, Choice, choice_of, Collapses, Core, count_work, Course, course_for, course_of, course_value, DeadlockStep, did, Does, EmptyFor, end_for, ended, Ends, EndWords, EndWork, Entry, entry_number, export_kind, Fails, FailsNow, Falls, false, Finish, finish_act, finish_result, finished_call, finished_into, FinishWork, followed, FuturesStep, get, get-remove, Goal, Goes, goes_to, handed_by, handed_by_main, HandsOut, has_end, has_interesting, has_moving_work, host_at, host_done, host_label, host_result, host_status, HostDef, inl, inr, is_aborted, is_async_work, is_callback_waiter, is_complete, is_direct, is_free, is_none, is_ready_for_call, is_some, is_spawn, is_spawn_caller, is_stage_ended, is_take, is_unended_take, is_waiting_on, IsFall, IsRunner, Join, join_of, Label, LastWords, length, line_of, List, Main, main_aborted, main_outcome, main_row, main_spawned, main_started, MainAct, MainLabel, MainPlace, MainProgress, MainProgresses, MainStep, MakeCall, Mark, may, may_act, may_deadlock, may_publish, MayAbort, MayCall, MayFinish, nat_tests, Never, new_work, next_entry, next_polled, next_thread, next_work, None, not, NoWord, on_thread, on_work, Op, op_at, op_of, op_row, OpenAct, OpenProgresses, Option, option_map, option_map_or, Ordered, Outcome, outcome_of_label, Pend, Pends, Phase, phase_of, place_of, Poll, poll_ends, poll_of, poll_pends, Polled, polled_course, polled_in, Pop, popped, ProgramAborts, Progress, Progresses, published, push_high, pushed, Put, put_high, QueueWork, Quiet, Ready, Records, refl, Refused, Remains, remove_thread, remove_threads, RemoveThread, RestStep, runner_at, SameMain, Scene, ScriptAborts, Scripted, ScriptStep, set_course, set_event, set_phase, set_place, set_register, set_stage, set_trapped, SetPhase, SetRegister, Setting, settled_turn, SetTrapped, Shifts, size, slice_get, Some, Spawn, spawned_at, SpawnsNamed, Stage, stage_of, Start, start_act, start_of, start_refusal, Started, started_at, started_end, Starts, State, Status, Step, StepsAreWalks, StillPends, Stops, strand_from, strand_of, struck, subst, Subtask, suc, sym, T, take_result, take_row, TakeHost, TakePush, TakeResult, TakesResult, TakeStep, Then, Thread, thread_of_entry, Trap, Traps, Trip, true, Turn, TurnStep, unblocked, under_of, unless_pending, Unscripted, unwrap_or, wake, wake_joined, waken_by, Walk, Why, woken_of, Work, work_caller_of, work_queued, WorkCaller, Writes, WritesPolled, written_by, zero, ℕ, ◌++◌, ◌+◌, ◌-◌, ◌∙◌, ◌∷◌, ◌≡◌, ◌⊎◌}
 use Rattle.task_machine.specs.declared.scenario.MainOpDef.{MainOpDef}
 use Rattle.task_rules.specs.MainOps.{Answers}
+use Rattle.task_machine.proofs.CommuteLemmas.{get-change, change-change_same}
 use Rattle.task_rules.proofs.MuteLemmas.{is_mute, is_mute_main, mute_words, none_said}
 use Rattle.task_rules.proofs.SayLemmas.{finished_is, result_taken, said_is}
-use Rattle.task_rules.proofs.ChainLemmas.{join, trip_walk}
-use Rattle.task_rules.proofs.WalkTask.{Leads, data_row_leads, none_is_some, not_main, running_scene, task_row_leads, under_place}
-use Rattle.std.proofs.Common.{T, ap, ap₂, inl, inr, length, refl, subst, suc, sym, ◌∙◌, ◌⊎◌, is_some, is_none}
-use Rattle.std.specs.Option.{option_map_or}
-use Rattle.std.specs.Prelude.{Bool, List, None, Option, Some, [], false, not, option_map, true, unwrap_or, zero, ℕ, ◌+◌, ◌∷◌, ◌≡◌, suc, is_none, ◌-◌, ◌++◌, slice_get}
-use Rattle.task_machine.proofs.CommuteLemmas.{change-change_same}
+use Rattle.task_rules.proofs.ChainLemmas.{Keep, join, keep_stay, trip_walk}
+use Rattle.task_rules.proofs.WalkTask.{is_exit_op, op_stands, Leads, data_row_leads, none_is_some, not_main, running_scene, task_row_leads, under_place}
 use Rattle.task_machine.proofs.MapLemmas.{get-remove_same, get-insert_same}
 use Rattle.task_rules.proofs.PlacingLemmas.{placed, popped_shifted}
 use Rattle.task_rules.proofs.WalkMoves.{blocked_at, chosen_in_of, published_work_shifts, shifted, unblocked_shifts, word, work_read}
@@ -154,12 +148,12 @@ abbrev told_end : ℕ → Core → Core
 told_end i s = set_event (subtask.Host i) (Some (host_status (course_value (course_of i s)))) (set_stage i stage.Ended s)
 
 module _ {a : Scene} {b : Core} where
-  host_result_walks : (f : WorkCaller) (v : Option ℕ) {t : Core} → Stay a b t → Stay a b (host_result f v t)
+  host_result_walks : (f : WorkCaller) (v : Option ℕ) {t : Core} → Keep a b t → Keep a b (host_result f v t)
   host_result_walks (work_caller.Async n q) (Some v) c = word (SetRegister n q v) tt c
   host_result_walks (work_caller.Async n q) None c = c
   host_result_walks _ v c = c
 
-  host_done_walks : (i : ℕ) (w : Option ℕ) (s : Core) → may_publish (subtask.Host i) w s ≡ true → Stay a b (told_end i s) → Stay a b (host_done i w s)
+  host_done_walks : (i : ℕ) (w : Option ℕ) (s : Core) → may_publish (subtask.Host i) w s ≡ true → Keep a b (told_end i s) → Keep a b (host_done i w s)
   unfolding may_publish
   host_done_walks i w s may c =
       let v = course_value (course_of i s) in
@@ -167,10 +161,10 @@ module _ {a : Scene} {b : Core} where
       let e = set_stage i stage.Ended s in
       let t = host_result f v e in
       let works : t.works ≡ e.works = result_works f v e in
-      subst (λ (u : Core). Stay a b u) (done_first i w s) (shifted (published_work_shifts i (host_status v) w t
+      subst (λ (u : Core). Keep a b u) (done_first i w s) (shifted (published_work_shifts i (host_status v) w t
       (ap (λ (m : Records Work). is_stage_ended (option_map_or (λ (r : Work). r.stage) (get m i) stage.Ended)) works ∙ ended_stage i s)
       (λ y is m at. ap (λ p. option_map_or (is_waiting_on y) p false) (host_places f v e m ∙ ended_places i s m) ∙ chosen_in_of (join_of (subtask.Host i) s) w s may y (sym (ended_join i s) ∙ (ap (λ (m : Records Work). option_map_or (λ (r : Work). r.join) (get m i) join.Nowhere) (sym works) ∙ is)) m at))
-      (subst (λ (u : Core). Stay a b u) (sym (event_result i f v (Some (host_status v)) e)) (host_result_walks f v c)))
+      (subst (λ (u : Core). Keep a b u) (sym (event_result i f v (Some (host_status v)) e)) (host_result_walks f v c)))
 
 -- ---- A strand that falls
 
@@ -285,13 +279,6 @@ module _ (at : Turn → Scene) (b : Core) (starts : (u : Turn) → Walk (at u) b
   progresses_walk s base n Never l t labels nexts leads falls is = absurd is
   progresses_walk s base n (Ordered ns next) l t labels nexts leads falls is = progresses_walk s base n (next is.0) l t labels nexts (λ u. leads u is.0) falls is.1.1
 
--- a step of no thread leaves little: it begins nothing, nothing runs, and an outcome ends the turns
-abbrev is_idle_label : Label → Bool
-is_idle_label (label.Main k) = true
-is_idle_label (label.Loop k) = true
-is_idle_label (label.Take k) = true
-is_idle_label _ = false
-
 idle_words : (a : Scene) (t : Core) → a.runner ≡ None → ((m : ℕ) → a.next ≡ turn.Run m → ⊥) → ((o : Outcome) → outcome_of_label a.label ≡ Some o → a.next ≡ turn.Over) → begun_holder a.base a.label ≡ None → EndWords a t → LastWords a t
 idle_words a t none stills outcome begun says = record {
   laid = λ m at take. none_is_some m (sym none ∙ at);
@@ -354,8 +341,8 @@ module _ (x : Setting) (s : State) (l : Label) where
 
   -- ---- Main
 
-  main_here : (u : Turn) (next : Turn) (k : MainLabel) (t : Core) → l ≡ label.Main k → main_outcome k ≡ None ⊎ (next ≡ turn.Over) → ((m : ℕ) → next ≡ turn.Run m → ⊥) → EndWords (scene_at u None next) t → Stay (scene_at u None next) s.core t → Trip (scene_at u None next) s.core t × LastWords (scene_at u None next) t
-  main_here u next k t is quiet stills says c = (Remains t c (λ m at. absurd (stills m at)), idle_words (scene_at u None next) t refl stills (λ o at. ends quiet o (sym (ap outcome_of_label is) ∙ at)) (ap (λ y. begun_holder s.core y) is) says)
+  main_here : (u : Turn) (next : Turn) (k : MainLabel) (t : Core) → l ≡ label.Main k → main_outcome k ≡ None ⊎ (next ≡ turn.Over) → ((m : ℕ) → next ≡ turn.Run m → ⊥) → EndWords (scene_at u None next) t → Keep (scene_at u None next) s.core t → Trip (scene_at u None next) s.core t × LastWords (scene_at u None next) t
+  main_here u next k t is quiet stills says c = (Remains t (keep_stay c) (λ m at. absurd (stills m at)), idle_words (scene_at u None next) t refl stills (λ o at. ends quiet o (sym (ap outcome_of_label is) ∙ at)) (ap (λ y. begun_holder s.core y) is) says)
     where
       ends : main_outcome k ≡ None ⊎ (next ≡ turn.Over) → (o : Outcome) → main_outcome k ≡ Some o → next ≡ turn.Over
       ends (inl none) o at = none_is_some o (sym none ∙ at)
@@ -363,11 +350,11 @@ module _ (x : Setting) (s : State) (l : Label) where
 
   -- what an op of main does
   abbrev LeadsMain : Turn → MainProgress → Type 0
-  LeadsMain u (Does k new) = (main_outcome k ≡ None) × ((l ≡ label.Main k → EndWords (scene_at u None turn.Main) new) × (Stay (scene_at u None turn.Main) s.core new × SpawnTold k new))
+  LeadsMain u (Does k new) = (main_outcome k ≡ None) × ((l ≡ label.Main k → EndWords (scene_at u None turn.Main) new) × (Keep (scene_at u None turn.Main) s.core new × SpawnTold k new))
   LeadsMain u Pends = Unit {0}
   LeadsMain u (Answers v) = Unit {0}
 
-  started_walks : (u : Turn) (e : Callee) (words : List ℕ) → MayCall (scene_at u None turn.Main) caller.Main e (s.core.made.groups + 1) (add_group s.core) → Stay (scene_at u None turn.Main) s.core (main_started x.component e words s.core)
+  started_walks : (u : Turn) (e : Callee) (words : List ℕ) → MayCall (scene_at u None turn.Main) caller.Main e (s.core.made.groups + 1) (add_group s.core) → Keep (scene_at u None turn.Main) s.core (main_started x.component e words s.core)
   unfolding main_started add_group
   started_walks u e words may =
       let k = next_thread s.core in
@@ -430,7 +417,7 @@ module _ (x : Setting) (s : State) (l : Label) where
   pends_here : (u : Turn) (t : State) → l ≡ label.Loop loop_label.MainPends → t ≡ goes_to s s.core (turn.Futures 0) → WalkedBy (scene_at u None) s.core s.main t
   pends_here u t is at = landed (scene_at u None) s.core (λ v. NoWord) s s.core (turn.Futures 0) t at (Remains _ NoWord (λ m f. not_futures 0 m f), idle_words (scene_at u None (turn.Futures 0)) s.core refl (λ m f. not_futures 0 m f) (λ o f. none_is_some o (sym (ap outcome_of_label is) ∙ f)) (ap (λ y. begun_holder s.core y) is) (mute_words _ _ (ap is_mute is)))
 
-  does_here : (u : Turn) (m : Main) (k : MainLabel) (new : Core) (t : State) → SameMain s.main new m → (main_outcome k ≡ None) × ((l ≡ label.Main k → EndWords (scene_at u None turn.Main) new) × (Stay (scene_at u None turn.Main) s.core new × SpawnTold k new)) → l ≡ label.Main k → t ≡ at_turn s new m turn.Main → WalkedBy (scene_at u None) s.core s.main t
+  does_here : (u : Turn) (m : Main) (k : MainLabel) (new : Core) (t : State) → SameMain s.main new m → (main_outcome k ≡ None) × ((l ≡ label.Main k → EndWords (scene_at u None turn.Main) new) × (Keep (scene_at u None turn.Main) s.core new × SpawnTold k new)) → l ≡ label.Main k → t ≡ at_turn s new m turn.Main → WalkedBy (scene_at u None) s.core s.main t
   does_here u m k new t same c is at = arrives (scene_at u None) s.core (λ v. NoWord) s new m turn.Main t same at (main_here u turn.Main k new is (inl c.0) (λ j f. not_main j f) (c.1.0 is) c.1.1.0)
 
   answers_here : (u : Turn) (v : ℕ) (t : State) → l ≡ label.Main (main_label.Answer v) → t ≡ goes_to s s.core turn.Over → WalkedBy (scene_at u None) s.core s.main t
@@ -474,14 +461,14 @@ module _ (x : Setting) (s : State) (l : Label) where
 
   -- ---- Works
 
-  followed_walks : (n i : ℕ) (v : Option ℕ) → next_polled n s.core ≡ Some i → l ≡ label.Loop (loop_label.FutureEnds i) → poll_of i s.core ≡ Ends v → Stay (scene_at (turn.Futures n) None (turn.Take true)) s.core (poll_ends i v s.core)
+  followed_walks : (n i : ℕ) (v : Option ℕ) → next_polled n s.core ≡ Some i → l ≡ label.Loop (loop_label.FutureEnds i) → poll_of i s.core ≡ Ends v → Keep (scene_at (turn.Futures n) None (turn.Take true)) s.core (poll_ends i v s.core)
   unfolding poll_ends poll_of
   followed_walks n i v at is poll = by_caller (work_caller_of i s.core) refl
     where
       may : MayFinish (scene_at (turn.Futures n) None (turn.Take true)) i (course_for v) s.core
       may = ((n, (refl, at)), (is, (course_ended v, λ none. ends_valueless (phase_of i s.core) (course_of i s.core) v poll none)))
 
-      by_caller : (f : WorkCaller) → work_caller_of i s.core ≡ f → Stay (scene_at (turn.Futures n) None (turn.Take true)) s.core (followed f i (set_phase i phase.Complete (set_course i (course_for v) s.core)))
+      by_caller : (f : WorkCaller) → work_caller_of i s.core ≡ f → Keep (scene_at (turn.Futures n) None (turn.Take true)) s.core (followed f i (set_phase i phase.Complete (set_course i (course_for v) s.core)))
       by_caller work_caller.Spawn same = word (EndWork i (course_for v)) (may, ap (λ f. is_async_work f) same) NoWord
       by_caller (work_caller.Async m q) same = word (FinishWork i (course_for v)) (may, ap (λ f. is_async_work f) same) NoWord
       by_caller (work_caller.Sync m) same = shifted (sync_ended_shifts i v s.core) (word (EndWork i (course_for v)) (may, ap (λ f. is_async_work f) same) NoWord)
@@ -497,9 +484,9 @@ module _ (x : Setting) (s : State) (l : Label) where
 
   polled_walks : (n i : ℕ) (p : Poll) (t : State) → next_polled n s.core ≡ Some i → poll_of i s.core ≡ p → Polled s i p l t → WalkedBy (scene_at (turn.Futures n) None) s.core s.main t
   unfolding poll_ends
-  polled_walks n i (StillPends host) t at poll is = landed (scene_at (turn.Futures n) None) s.core (λ v. NoWord) s (poll_pends i host s.core) (turn.Futures i) t is.1 (Remains _ (word (Pend i host) (n, (refl, at)) NoWord) (λ m f. not_futures i m f), idle_words (scene_at (turn.Futures n) None (turn.Futures i)) (poll_pends i host s.core) refl (λ m f. not_futures i m f) (λ o f. none_is_some o (sym (ap outcome_of_label is.0) ∙ f)) (ap (λ y. begun_holder s.core y) is.0) (mute_words _ _ (ap is_mute is.0)))
-  polled_walks n i (Ends v) t at poll is = landed (scene_at (turn.Futures n) None) s.core (λ v. NoWord) s (poll_ends i v s.core) (turn.Take true) t is.1 (Remains _ (followed_walks n i v at is.0 poll) (λ m f. not_take true m f), idle_words (scene_at (turn.Futures n) None (turn.Take true)) (poll_ends i v s.core) refl (λ m f. not_take true m f) (λ o f. none_is_some o (sym (ap outcome_of_label is.0) ∙ f)) (ap (λ y. begun_holder s.core y) is.0) (polled_says n i v at is.0))
-  polled_walks n i FailsNow t at poll is = landed (scene_at (turn.Futures n) None) s.core (λ v. NoWord) s (set_trapped s.core) turn.Over t is.1 (Remains _ (word SetTrapped tt NoWord) (λ m f. not_over m f), idle_words (scene_at (turn.Futures n) None turn.Over) (set_trapped s.core) refl (λ m f. not_over m f) (λ o f. refl) (ap (λ y. begun_holder s.core y) is.0) (mute_words _ _ (ap is_mute is.0)))
+  polled_walks n i (StillPends host) t at poll is = landed (scene_at (turn.Futures n) None) s.core (λ v. NoWord) s (poll_pends i host s.core) (turn.Futures i) t is.1 (Remains _ (keep_stay (word (Pend i host) (n, (refl, at)) NoWord)) (λ m f. not_futures i m f), idle_words (scene_at (turn.Futures n) None (turn.Futures i)) (poll_pends i host s.core) refl (λ m f. not_futures i m f) (λ o f. none_is_some o (sym (ap outcome_of_label is.0) ∙ f)) (ap (λ y. begun_holder s.core y) is.0) (mute_words _ _ (ap is_mute is.0)))
+  polled_walks n i (Ends v) t at poll is = landed (scene_at (turn.Futures n) None) s.core (λ v. NoWord) s (poll_ends i v s.core) (turn.Take true) t is.1 (Remains _ (keep_stay (followed_walks n i v at is.0 poll)) (λ m f. not_take true m f), idle_words (scene_at (turn.Futures n) None (turn.Take true)) (poll_ends i v s.core) refl (λ m f. not_take true m f) (λ o f. none_is_some o (sym (ap outcome_of_label is.0) ∙ f)) (ap (λ y. begun_holder s.core y) is.0) (polled_says n i v at is.0))
+  polled_walks n i FailsNow t at poll is = landed (scene_at (turn.Futures n) None) s.core (λ v. NoWord) s (set_trapped s.core) turn.Over t is.1 (Remains _ (keep_stay (word SetTrapped tt NoWord)) (λ m f. not_over m f), idle_words (scene_at (turn.Futures n) None turn.Over) (set_trapped s.core) refl (λ m f. not_over m f) (λ o f. refl) (ap (λ y. begun_holder s.core y) is.0) (mute_words _ _ (ap is_mute is.0)))
 
   futures_walk : (n : ℕ) (o : Option ℕ) (t : State) → next_polled n s.core ≡ o → FuturesStep s o l t → WalkedBy (scene_at (turn.Futures n) None) s.core s.main t
   futures_walk n None t at is = absurd is
@@ -516,19 +503,19 @@ module _ (x : Setting) (s : State) (l : Label) where
   empty_walks ended false t is = dies (may_deadlock x s) is
     where
       dies : (c : Bool) → DeadlockStep s c l t → WalkedBy (scene_at (turn.Take ended) None) s.core s.main t
-      dies true h = landed (scene_at (turn.Take ended) None) s.core (λ v. NoWord) s (set_trapped s.core) turn.Over t h.1 (Remains _ (word SetTrapped tt NoWord) (λ m f. not_over m f), idle_words (scene_at (turn.Take ended) None turn.Over) (set_trapped s.core) refl (λ m f. not_over m f) (λ o f. refl) (ap (λ y. begun_holder s.core y) h.0) (mute_words _ _ (ap is_mute h.0)))
+      dies true h = landed (scene_at (turn.Take ended) None) s.core (λ v. NoWord) s (set_trapped s.core) turn.Over t h.1 (Remains _ (keep_stay (word SetTrapped tt NoWord)) (λ m f. not_over m f), idle_words (scene_at (turn.Take ended) None turn.Over) (set_trapped s.core) refl (λ m f. not_over m f) (λ o f. refl) (ap (λ y. begun_holder s.core y) h.0) (mute_words _ _ (ap is_mute h.0)))
       dies false h = absurd h
 
-  push_walks : (ended : Bool) (m : Mark) (i : ℕ) → next_entry s.core ≡ Some (m, entry.Push i) → Stay (scene_at (turn.Take ended) (Some (m, entry.Push i)) turn.Main) s.core (pushed i (popped m s.core))
+  push_walks : (ended : Bool) (m : Mark) (i : ℕ) → next_entry s.core ≡ Some (m, entry.Push i) → Keep (scene_at (turn.Take ended) (Some (m, entry.Push i)) turn.Main) s.core (pushed i (popped m s.core))
   unfolding pushed
-  push_walks ended m i at = subst (λ (t : Core). Stay (scene_at (turn.Take ended) (Some (m, entry.Push i)) turn.Main) s.core (set_stage i stage.Live t)) (popped_shifted m s.core).only (word (TakePush m i) at NoWord)
+  push_walks ended m i at = subst (λ (t : Core). Keep (scene_at (turn.Take ended) (Some (m, entry.Push i)) turn.Main) s.core (set_stage i stage.Live t)) (popped_shifted m s.core).only (word (TakePush m i) at NoWord)
 
   host_entry_walks : (ended : Bool) (m : Mark) (i : ℕ) (t : State) → next_entry s.core ≡ Some (m, entry.Host i) → (b : Bool) → may_publish (subtask.Host i) (woken_of l) (popped m s.core) ≡ b → Progresses s (popped m s.core) i (may b (Stops (host_label m i (woken_of l)) (host_done i (woken_of l) (popped m s.core)))) l t → WalkedBy (scene_at (turn.Take ended) (Some (m, entry.Host i))) s.core s.main t
   host_entry_walks ended m i t at true may is =
       let base = popped m s.core in
       let a = scene_at (turn.Take ended) (Some (m, entry.Host i)) turn.Main in
-      let taken_first : Stay a s.core (told_end i base) = subst (λ (u : Core). Stay a s.core (told_end i u)) (popped_shifted m s.core).only (word (TakeHost m i) at NoWord) in
-      landed (scene_at (turn.Take ended) (Some (m, entry.Host i))) s.core (λ v. NoWord) s (host_done i (woken_of l) base) turn.Main t is.1 (Remains _ (host_done_walks i (woken_of l) base may taken_first) (λ j f. not_main j f), idle_words a (host_done i (woken_of l) base) refl (λ j f. not_main j f) (λ o f. none_is_some o (sym (ap outcome_of_label is.0 ∙ host_quiet m i (woken_of l)) ∙ f)) (ap (λ y. begun_holder base y) is.0 ∙ host_begins m i (woken_of l) base) (mute_words a _ (ap is_mute is.0 ∙ host_mute m i (woken_of l))))
+      let taken_first : Keep a s.core (told_end i base) = subst (λ (u : Core). Keep a s.core (told_end i u)) (popped_shifted m s.core).only (word (TakeHost m i) at NoWord) in
+      landed (scene_at (turn.Take ended) (Some (m, entry.Host i))) s.core (λ v. NoWord) s (host_done i (woken_of l) base) turn.Main t is.1 (Remains _ (keep_stay (host_done_walks i (woken_of l) base may taken_first)) (λ j f. not_main j f), idle_words a (host_done i (woken_of l) base) refl (λ j f. not_main j f) (λ o f. none_is_some o (sym (ap outcome_of_label is.0 ∙ host_quiet m i (woken_of l)) ∙ f)) (ap (λ y. begun_holder base y) is.0 ∙ host_begins m i (woken_of l) base) (mute_words a _ (ap is_mute is.0 ∙ host_mute m i (woken_of l))))
   host_entry_walks ended m i t at false may is = absurd is
 
   entry_walks : (ended : Bool) (m : Mark) (e : Entry) (t : State) → next_entry s.core ≡ Some (m, e) → Progresses s (popped m s.core) (entry_number e) (take_row m (choice_of l) (popped m s.core) e) l t → WalkedBy (scene_at (turn.Take ended) (Some (m, e))) s.core s.main t
@@ -539,7 +526,7 @@ module _ (x : Setting) (s : State) (l : Label) where
       (λ u. thread_taken_leads x s.main ended base n l u m (choice_of l) (place_of n base) refl)
       (λ none mute. (struck_trip refl n refl, struck_words (scene_at (turn.Take ended) (Some (m, entry.Thread n)) turn.Over) n refl refl none mute)) is
   entry_walks ended m (entry.Push i) t at is =
-      landed (scene_at (turn.Take ended) (Some (m, entry.Push i))) s.core (λ v. NoWord) s (pushed i (popped m s.core)) turn.Main t is.1 (Remains _ (push_walks ended m i at) (λ j f. not_main j f), idle_words (scene_at (turn.Take ended) (Some (m, entry.Push i)) turn.Main) (pushed i (popped m s.core)) refl (λ j f. not_main j f) (λ o f. none_is_some o (sym (ap outcome_of_label is.0) ∙ f)) (ap (λ y. begun_holder (popped m s.core) y) is.0) (mute_words _ _ (ap is_mute is.0)))
+      landed (scene_at (turn.Take ended) (Some (m, entry.Push i))) s.core (λ v. NoWord) s (pushed i (popped m s.core)) turn.Main t is.1 (Remains _ (keep_stay (push_walks ended m i at)) (λ j f. not_main j f), idle_words (scene_at (turn.Take ended) (Some (m, entry.Push i)) turn.Main) (pushed i (popped m s.core)) refl (λ j f. not_main j f) (λ o f. none_is_some o (sym (ap outcome_of_label is.0) ∙ f)) (ap (λ y. begun_holder (popped m s.core) y) is.0) (mute_words _ _ (ap is_mute is.0)))
   entry_walks ended m (entry.Host i) t at is = host_entry_walks ended m i t at (may_publish (subtask.Host i) (woken_of l) (popped m s.core)) refl is
 
   take_step_walks : (ended : Bool) (o : Option (Mark × Entry)) (t : State) → next_entry s.core ≡ o → TakeStep x s o l t → WalkedBy (scene_at (turn.Take ended) o) s.core s.main t
@@ -549,11 +536,11 @@ module _ (x : Setting) (s : State) (l : Label) where
 -- ---- Steps
 
 op_row_leads : (x : Setting) (main : Main) (s : Core) (n : ℕ) (l : Label) (next : Turn) (ch : Choice) (o : Op) → op_of x.component n s ≡ o → Leads (running_scene x main s n l next) s (op_row x.component n s ch o)
-op_row_leads x main s n l next ch (op.Data o) is = data_row_leads x main s n l next x.component o
+op_row_leads x main s n l next ch (op.Data o) is = data_row_leads x main s n l next (refl, op_stands x.component n s (ap is_exit_op is)) o
 op_row_leads x main s n l next ch (op.Task o) is = task_row_leads x main s n l next ch o is
-op_row_leads x main s n l next ch (op.Set o) is = set_row_leads x main s n l next ch o
-op_row_leads x main s n l next ch (op.Call o) is = subtask_row_leads x main s n l next o is
-op_row_leads x main s n l next ch (op.Thread o) is = thread_row_leads x main s n l next o
+op_row_leads x main s n l next ch (op.Set o) is = set_row_leads x main s n l next (refl, op_stands x.component n s (ap is_exit_op is)) ch o
+op_row_leads x main s n l next ch (op.Call o) is = subtask_row_leads x main s n l next (refl, op_stands x.component n s (ap is_exit_op is)) o is
+op_row_leads x main s n l next ch (op.Thread o) is = thread_row_leads x main s n l next (refl, op_stands x.component n s (ap is_exit_op is)) o
 
 did_leads : (x : Setting) (main : Main) (s : Core) (n : ℕ) (l : Label) (next : Turn) (ch : Choice) → Leads (running_scene x main s n l next) s (did x.component n s ch)
 unfolding did

@@ -1,22 +1,18 @@
 -- The takings of entries as chains of words.
-use Rattle.std.proofs.Common.{arith}
-use Rattle.std.proofs.lemmas.Bool.Decides.{nat_tests}
-use Rattle.task_machine.proofs.CommuteLemmas.{get-change}
-use Rattle.task_rules.proofs.Machine.{activated, activated_woken, admits, at_handle_limit, backpressure_of, begun_holder, Call, Choice, chosen, Core, delivered, delivery_row, end_for, EndWords, event_label, ExportKind, foot_of, get, Gift, gift, give_thread_handle, Given, given_for, Goes, handed_by, handed_by_event, handed_on, handed_out, HandsOut, held_label, holder_at_start, Holds, host_label, instance_of, is_begun, is_exit, is_explicit, is_free, is_holding, is_running, is_start, is_sync, is_told, IsLaid, kind_of, Label, LastWords, Main, Mark, may, may_hand_on, may_not_enter, may_tell, may_tell_starting, MayDeliver, MayMove, MemberGift, Move, moved_to, NameThread, NoGift, NoWord, on_call, on_instance, on_thread, outcome_of_label, own_delivered, own_gift_of, own_gift_only, own_or_nothing, OwnEvent, OwnGift, Place, place_of, published, Records, running, Runs, Scene, set_delivered, set_do_not_enter, set_event, set_given, set_how_far, set_place, set_position, set_script, set_started, set_starting_published, set_thread_handle, SetDoNotEnter, SetScript, SetStarted, SetStartingPublished, Setting, start_admitted, start_begins, start_holds, start_row, start_sets_flags, starting_is_published, starting_told, Status, Stay, stopped, Stops, Subtask, take_holds, take_label, taken, TakesEvent, taking, task_of, thread_taken, told, Turn, wait_again, WaitsAgain, was_started, WasReady, Why, with_thread_handle, written_by}
+use Rattle.task_rules.proofs.Machine.{activated, activated_woken, admits, ap, arith, at_handle_limit, backpressure_of, begun_holder, Bool, Call, Choice, chosen, cond, Core, delivered, delivery_row, end_for, EndWords, event_label, ExportKind, false, foot_of, get, Gift, gift, give_thread_handle, Given, given_for, Goes, handed_by, handed_by_event, handed_on, handed_out, HandsOut, held_label, holder_at_start, Holds, host_label, if◌then◌else◌, inl, inr, instance_of, is_begun, is_exit, is_explicit, is_free, is_holding, is_none, is_running, is_some, is_start, is_sync, is_told, IsLaid, kind_of, Label, LastWords, Main, Mark, may, may_hand_on, may_not_enter, may_tell, may_tell_starting, MayDeliver, MayMove, MemberGift, Move, moved_to, NameThread, nat_tests, NoGift, None, not, NoWord, on_call, on_instance, on_thread, Option, option_map_or, outcome_of_label, own_delivered, own_gift_of, own_gift_only, own_or_nothing, OwnEvent, OwnGift, Place, place_of, published, Records, refl, Restart, running, Runs, Scene, set_delivered, set_do_not_enter, set_event, set_given, set_how_far, set_place, set_position, set_script, set_started, set_starting_published, set_thread_handle, SetDoNotEnter, SetStarted, SetStartingPublished, Setting, Some, start_admitted, start_begins, start_holds, start_row, start_sets_flags, starting_is_published, starting_told, Status, stopped, Stops, subst, Subtask, sym, T, take_holds, take_label, taken, TakesEvent, taking, task_of, thread_taken, told, true, Turn, unwrap_or, wait_again, WaitsAgain, was_started, WasReady, Why, with_thread_handle, written_by, ℕ, ◌&&◌, ◌==◌, ◌||◌, ◌∙◌, ◌≡◌}
 use Rattle.task_machine.specs.declared.records.Delivery.{Delivery}
+use Rattle.task_machine.proofs.CommuteLemmas.{get-change}
 use Rattle.task_machine.specs.declared.words.OwnEvent.TheVariants as own
 use Rattle.task_rules.proofs.MuteLemmas.{is_mute, mute_words, none_said}
 use Rattle.task_rules.proofs.SayLemmas.{activated_on_gone, given_says, HasNoEnd}
 use Rattle.task_machine.specs.declared.records.Subtask.TheVariants as subtask
-use Rattle.std.proofs.Common.{T, ap, cond, inl, inr, refl, subst, sym, ◌∙◌}
-use Rattle.std.specs.Option.{option_map_or}
-use Rattle.std.specs.Prelude.{Bool, None, Option, Some, false, if◌then◌else◌, is_none, is_some, not, true, unwrap_or, ℕ, ◌&&◌, ◌==◌, ◌||◌, ◌≡◌}
 use Rattle.task_machine.proofs.MapLemmas.{change-field}
 use Rattle.task_rules.proofs.PlacingLemmas.{shifted_instance, shifted_task, shifts_shifted, shifted_calls}
 use Rattle.task_rules.proofs.WalkEnds.{SameCall, still_told_to, unanswered}
+use Rattle.task_rules.proofs.ChainLemmas.{Keep}
 use Rattle.task_rules.proofs.WalkMoves.{Chosen, MayTake, ToldTo, handed_on_shifts, lands, published_call_shifts, shifted, stopped_shifts, taken_walks, told_to, told_walks, walk_if, word}
 use Rattle.task_rules.proofs.WalkParts.{gift_is, set_given_walks, sync_sets_flag_walks, started_begun, flag_calls}
-use Rattle.task_rules.proofs.WalkTask.{Leads, may_leads, moved_to_walks, none_is_some, not_main, one_runner, or_never_leads, running_moved, seen, trap_if_leads}
+use Rattle.task_rules.proofs.WalkTask.{Leads, may_leads, none_is_some, not_main, one_runner, or_never_leads, running_moved, seen, trap_if_leads}
 use Rattle.task_machine.specs.declared.component.ExportKind.TheVariants as kind
 use Rattle.task_machine.specs.declared.label.Label.TheVariants as label
 use Rattle.task_machine.specs.declared.label.TakeLabel.TheVariants as take
@@ -186,13 +182,13 @@ module _ (x : Setting) (main : Main) (ended : Bool) (s : Core) (n : ℕ) (l : La
     shut = λ i begun. shuts i (ap (λ (y : Label). begun_holder s y) (sym is) ∙ begun);
   }
 
-  runs_taken : (k : Label) (t : Core) → (is_explicit n s ≡ false → WasReady taking_scene n why.Start → is_begun (task_of n s) t ≡ true) → is_taking k ≡ true → (l ≡ k → EndWords taking_scene (set_place n place.Running t)) → Shuts k (set_place n place.Running t) → (next ≡ turn.Run n → Stay taking_scene s t) → Leads taking_scene s (Goes k (set_place n place.Running t) n)
+  runs_taken : (k : Label) (t : Core) → (is_explicit n s ≡ false → WasReady taking_scene n why.Start → is_begun (task_of n s) t ≡ true) → is_taking k ≡ true → (l ≡ k → EndWords taking_scene (set_place n place.Running t)) → Shuts k (set_place n place.Running t) → (next ≡ turn.Run n → Keep taking_scene s t) → Leads taking_scene s (Goes k (set_place n place.Running t) n)
   runs_taken k t begun taking says shuts c is to = (lands (Move n place.Running) (Runs refl to begun refl) (c to), taken_ends k place.Running t is taking refl (λ m at. (one_runner m n (sym at ∙ to), refl)) says shuts)
 
-  lays_taken : (k : Label) (p : Place) (t : Core) → is_taking k ≡ true → is_mute k ≡ true → is_free p ≡ true → ((i : ℕ) → begun_holder s k ≡ Some i → ⊥) → (IsLaid taking_scene n → MayMove taking_scene n p t) → Stay taking_scene s t → Leads taking_scene s (Stops k (set_place n p t))
+  lays_taken : (k : Label) (p : Place) (t : Core) → is_taking k ≡ true → is_mute k ≡ true → is_free p ≡ true → ((i : ℕ) → begun_holder s k ≡ Some i → ⊥) → (IsLaid taking_scene n → MayMove taking_scene n p t) → Keep taking_scene s t → Leads taking_scene s (Stops k (set_place n p t))
   lays_taken k p t taking mute free none may c is to = (lands (Move n p) (may (refl, to)) c, taken_ends k p t is taking free (λ m at. not_main m (sym to ∙ at)) (λ at. mute_words taking_scene _ (ap is_mute at ∙ mute)) (λ i begun. absurd (none i begun)))
 
-  holds_leads : (k : Label) (w : Why) (t : Core) → is_taking k ≡ true → is_mute k ≡ true → begun_holder s k ≡ None → WasReady taking_scene n w → Stay taking_scene s t → Leads taking_scene s (Stops k (take_holds n w t))
+  holds_leads : (k : Label) (w : Why) (t : Core) → is_taking k ≡ true → is_mute k ≡ true → begun_holder s k ≡ None → WasReady taking_scene n w → Keep taking_scene s t → Leads taking_scene s (Stops k (take_holds n w t))
   unfolding take_holds
   holds_leads k w t taking mute none ready c = lays_taken k (place.Held w) (stopped (foot_of n t) t) taking mute refl (λ i begun. none_is_some i (sym none ∙ begun)) (λ leave. Holds w leave ready refl) (shifted (stopped_shifts (foot_of n t) t) c)
 
@@ -218,7 +214,7 @@ module _ (x : Setting) (main : Main) (ended : Bool) (s : Core) (n : ℕ) (l : La
   not_start : (y : Mark) (v : Why) → place_of n s ≡ Some (place.Ready y v) → WasReady taking_scene n why.Start → {A : Type 0} → is_start (place.Ready y v) ≡ false → A
   not_start y v at ready none = absurd (subst T (ap (λ (o : Option Place). option_map_or is_start o false) (sym ready.1 ∙ at) ∙ none) tt)
 
-  starts_walks : (w : Option ℕ) → WasReady taking_scene n why.Start → may_tell (task_of n s) w s ≡ true → Stay taking_scene s (told_start w)
+  starts_walks : (w : Option ℕ) → WasReady taking_scene n why.Start → may_tell (task_of n s) w s ≡ true → Keep taking_scene s (told_start w)
   unfolding begun_at
   starts_walks w ready may =
       let k = task_of n s in
@@ -255,7 +251,7 @@ module _ (x : Setting) (main : Main) (ended : Bool) (s : Core) (n : ℕ) (l : La
       may_leads taking_scene s (may_tell (task_of n s) w s) _ (λ may.
       begins_leads m w ready implicit admitted may (kind_of (task_of n s) s) refl))
 
-  starting_walks : (w : Option ℕ) → may_tell_starting (task_of n s) w s ≡ true → Stay taking_scene s (starting_told (task_of n s) w s)
+  starting_walks : (w : Option ℕ) → may_tell_starting (task_of n s) w s ≡ true → Keep taking_scene s (starting_told (task_of n s) w s)
   unfolding starting_told may_tell_starting
   starting_walks w may =
       let k = task_of n s in
@@ -292,15 +288,15 @@ module _ (x : Setting) (main : Main) (ended : Bool) (s : Core) (n : ℕ) (l : La
   own_says (Some own.None) sub e out = none_is_some (end_for e sub) out
   own_says (Some own.Cancelled) sub e out = none_is_some (end_for e sub) out
 
-  activated_goes : (m : Mark) (d : Delivery) → WasReady taking_scene n (why.Delivery d) → (g : Gift) (v : Given) (w : Option ℕ) (t : Core) → (l ≡ event_label m n v w → EndWords taking_scene (activated n g v t)) → instance_of n t ≡ instance_of n s → MayTake taking_scene (task_of n t) g → may_not_enter (instance_of n s) s ≡ false → Stay taking_scene s t → Leads taking_scene s (Goes (event_label m n v w) (activated n g v t) n)
-  unfolding activated
+  activated_goes : (m : Mark) (d : Delivery) → WasReady taking_scene n (why.Delivery d) → (g : Gift) (v : Given) (w : Option ℕ) (t : Core) → (l ≡ event_label m n v w → EndWords taking_scene (activated n g v t)) → instance_of n t ≡ instance_of n s → MayTake taking_scene (task_of n t) g → may_not_enter (instance_of n s) s ≡ false → Keep taking_scene s t → Leads taking_scene s (Goes (event_label m n v w) (activated n g v t) n)
+  unfolding activated moved_to
   activated_goes m d ready g v w t says home may open_at c =
       runs_taken (event_label m n v w) (moved_to n 0 (set_script n script.React (set_do_not_enter (instance_of n t) true (set_given n 0 v (taken g (task_of n t) t))))) (λ i r. not_start ready.0 (why.Delivery d) ready.1 r refl) (event_taking m n v w) says (λ i begun.
       let same : instance_of n s ≡ i = ap (λ (o : Option ℕ). unwrap_or o 0) (sym (event_begins m n v w s) ∙ begun) in (
         subst (λ (j : ℕ). may_not_enter j s ≡ false) same open_at,
         subst (λ (j : ℕ). is_some (get (activated n g v t).instances j) ≡ true → may_not_enter j (activated n g v t) ≡ true) (home ∙ same) (activated_shut n g v t),
       ))
-      (λ to. moved_to_walks n refl 0 (word (SetScript n script.React) tt (word (SetDoNotEnter (instance_of n t) true) (ap (λ (j : ℕ). may_not_enter j s) home ∙ open_at) (set_given_walks n refl 0 v (taken_walks g (task_of n t) may c)))))
+      (λ to. word (Restart n) (refl, (d, ready)) (word (SetDoNotEnter (instance_of n t) true) (ap (λ (j : ℕ). may_not_enter j s) home ∙ open_at) (set_given_walks n refl 0 v (taken_walks g (task_of n t) may c))))
 
   woken_goes : (m : Mark) (y : ℕ) (ch : Choice) (g : Gift) → WasReady taking_scene n (why.Delivery (delivery.Set y)) → gift true (task_of n s) y (chosen n ch s) s ≡ Some g → MayTake taking_scene (task_of n s) g → may_not_enter (instance_of n s) s ≡ false → Leads taking_scene s (may (may_hand_on y g ch.woken s) (Goes (event_label m n (handed_out ch s g) ch.woken) (activated_woken n y ch.woken g (handed_out ch s g) s) n))
   unfolding activated_woken

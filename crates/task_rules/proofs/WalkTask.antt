@@ -2,21 +2,16 @@
 use Rattle.task_rules.proofs.SayLemmas.{said_is}
 use Rattle.task_rules.proofs.MuteLemmas.{is_mute, mute_words, none_said}
 use Rattle.task_rules.proofs.WalkEnds.{cancelled_rest, returned_rest, SameCall, cancelled_walks, returned_walks, still_told_to, unanswered}
-use Rattle.task_rules.proofs.Machine.{advanced, answered, assigned, AwaitsEvent, backpressure_of, begun_holder, blocking_exit_row, blocking_exits, BySetHandle, Call, CallEnd, cancel_was_delivered, change, checked, Choice, code_exits, code_finds, code_kind_row, code_row, code_stops, code_wait_row, code_waits, code_yields, ComesAgain, Component, Core, data_row, direct_exit_to, direct_exits, end_for, end_reopens, ended, ends_activation, EndsActivation, EndsByExit, EndsCall, EndsOwn, EndWords, exit_label, exit_restores, exit_row_for, exit_stops, Exits, ExportKind, Fails, FindsEvent, foot_of, get, GivesUp, goal_of, Goes, GoesBack, handed_by, HandsOut, has_ended, has_event_for, HasSet, held_by_flag, holder_at_exit, implicit_exit_row, instance_of, is_async_lifted, is_at, is_code_op, is_direct, is_ending_exit, is_exit, is_explicit, is_holding, is_over, is_running, is_under, IsRunner, kind_exit_row, kind_of, Label, LastWords, Leaves, leaves_no_result, Main, may, may_tell, MayBar, MayEnd, MayOwe, Move, moved_to, Never, NoWord, numbers, on_call, on_instance, on_thread, op_in, or_never, or_trap, Ordered, outcome_of_label, own_event_of, own_or_none, OwnEvent, passes_after_return, passes_after_stop, passes_check, Place, place_of, position_of, Progress, Put, Records, register_of, Remains, ret_label, returned, returned_holder, ReturnsNow, saved_own_of, SaysEnd, Scene, script_of, set_at, set_backpressure, set_do_not_enter, set_do_not_suspend, set_end, set_how_far, set_place, SetBackpressure, SetDoNotEnter, SetDoNotSuspend, SetEnd, SetHowFar, SetOwnEvent, SetPosition, SetRegister, SetSavedCallee, Setting, SetWord, skip_row, skipped, Status, Stay, stopped, Stops, stored, Subtask, sync_exit_row, sync_exits, task_cancel_label, task_end, task_of, Thread, thread_exit_row, Trap, trap_if, Traps, Trip, Turn, Uncovers, under_of, value_of, Walk, Writes, WritesCall, WritesToo, written_by, written_by_exit}
+use Rattle.task_rules.proofs.Machine.{[], Advance, advanced, answered, ap, ap₂, arith, assigned, AwaitsEvent, backpressure_of, begun_holder, blocking_exit_row, blocking_exits, Bool, BySetHandle, Call, CallEnd, cancel_was_delivered, change, checked, Choice, code_exits, code_finds, code_kind_row, code_row, code_stops, code_wait_row, code_waits, code_yields, ComesAgain, Component, component_of, Core, data_row, direct_exit_to, direct_exits, end_for, end_reopens, ended, ends_activation, EndsActivation, EndsByExit, EndsCall, EndsOwn, EndWords, exit_label, exit_restores, exit_row_for, exit_stops, Exits, ExportKind, Fails, false, FindsEvent, foot_of, get, GivesUp, goal_of, Goes, GoesBack, handed_by, HandsOut, has_ended, has_event_for, HasSet, held_by_flag, holder_at_exit, if◌then◌else◌, implicit_exit_row, inl, inr, instance_of, is_async_lifted, is_at, is_code_op, is_direct, is_ending_exit, is_exit, is_explicit, is_holding, is_none, is_over, is_running, is_under, IsRunner, kind_exit_row, kind_of, Label, LastWords, Leaves, leaves_no_result, length, List, Main, may, may_tell, MayBar, MayEnd, MayOwe, min, Move, moved_to, nat_le, nat_lt, nat_tests, Never, None, not, NoWord, numbers, on_call, on_instance, on_thread, Op, op_in, op_of, Option, option_map, option_map_or, or_never, or_trap, Ordered, outcome_of_label, own_event_of, own_or_none, OwnEvent, passes_after_return, passes_after_stop, passes_check, Place, place_of, position_of, Progress, Put, Records, refl, register_of, Remains, ret_label, returned, returned_holder, ReturnsNow, saved_own_of, SaysEnd, Scene, script_of, set_at, set_backpressure, set_do_not_enter, set_do_not_suspend, set_end, set_how_far, set_place, SetBackpressure, SetDoNotEnter, SetDoNotSuspend, SetEnd, SetOwnEvent, SetRegister, SetSavedCallee, Setting, SetWord, skip_row, skipped, slice_get, Some, Status, Stay, stopped, Stops, stored, subst, Subtask, suc, sym, sync_exit_row, sync_exits, T, task_cancel_label, task_end, task_of, Then, Thread, thread_exit_row, Trap, trap_if, Traps, Trip, true, Turn, Uncovers, under_of, unwrap_or, value_of, Walk, Writes, WritesCall, WritesToo, written_by, written_by_exit, zero, ℕ, ◌%◌, ◌&&◌, ◌*◌, ◌+◌, ◌-◌, ◌/◌, ◌==◌, ◌||◌, ◌∙◌, ◌∷◌, ◌≡◌, ◌≤◌, ◌⊎◌}
 use Rattle.task_machine.specs.declared.op.DataOp.{DataOp}
 use Rattle.task_machine.specs.declared.op.TaskOp.{TaskOp}
 use Rattle.task_rules.specs.Task.{dec_from, dec_lowers, dec_opens, inc_raises, inc_row, ret_done, ret_row, task_cancel_done, task_cancel_row, task_row}
-use Rattle.task_rules.proofs.ChainLemmas.{trip_walk, stay_walk}
-use Rattle.std.proofs.Common.{arith}
-use Rattle.std.proofs.lemmas.Bool.Decides.{nat_tests}
+use Rattle.task_rules.proofs.ChainLemmas.{Keep, keep_stay, trip_walk, stay_walk}
 use Rattle.task_machine.proofs.MapLemmas.{change-field}
-use Rattle.std.proofs.Common.{T, ap, inl, inr, length, refl, subst, suc, sym, ◌-◌, ◌∙◌, ◌⊎◌, ap₂}
-use Rattle.std.specs.Option.{option_map_or}
-use Rattle.std.specs.Prelude.{Bool, List, None, Option, Some, false, if◌then◌else◌, is_none, min, nat_le, nat_lt, not, option_map, true, unwrap_or, zero, ℕ, ◌%◌, ◌&&◌, ◌*◌, ◌+◌, ◌/◌, ◌==◌, ◌≡◌, ◌||◌}
 use Rattle.task_machine.proofs.CommuteLemmas.{get-change}
 use Rattle.task_rules.proofs.StopLemmas.{find_passes}
 use Rattle.task_rules.proofs.PlacingLemmas.{Shifted, shifted_calls, shifted_task, shifts_shifted, placing_shifted}
-use Rattle.task_rules.proofs.WalkMoves.{Chosen, ToldTo, checked_shifts, chosen_released, ended_gone, ended_walks, exits_trip, lands, released_shifts, shifted, stopped_shifts, told_to, word}
+use Rattle.task_rules.proofs.WalkMoves.{keep_position, Chosen, ToldTo, checked_shifts, chosen_released, ended_gone, ended_walks, exits_trip, lands, released_shifts, shifted, stopped_shifts, told_to, word}
 use Rattle.task_machine.specs.declared.words.Status.TheVariants as status
 use Rattle.task_machine.specs.declared.component.ExportKind.TheVariants as kind
 use Rattle.task_machine.specs.declared.label.CallLabel.TheVariants as call_label
@@ -34,6 +29,29 @@ use Rattle.task_machine.specs.declared.records.Turn.TheVariants as turn
 use Rattle.task_machine.specs.declared.records.Why.TheVariants as why
 use Rattle.task_machine.specs.declared.trap.Trap.TheVariants as trap
 use Rattle.task_machine.specs.declared.words.Mark.TheVariants as mark
+
+-- ---- The op in its script
+
+-- a script's end is an exit, and so no other op
+abbrev pub is_exit_op : Op → Bool
+is_exit_op (op.Task task_op.Exit) = true
+is_exit_op _ = false
+
+in_script : (ops : List Op) (p : ℕ) → is_exit_op (unwrap_or (slice_get ops p) (op.Task task_op.Exit)) ≡ false → p + 1 ≤ length ops
+in_script [] p other = absurd (grind arith)
+in_script (o ∷ ops) zero other = grind arith
+in_script (o ∷ ops) (suc p) other = let rest = in_script ops p other in omega (arith, rest)
+
+pub op_stands : (c : Component) (n : ℕ) (s : Core) → is_exit_op (op_of c n s) ≡ false → position_of n s + 1 ≤ length (script_of c n s)
+unfolding op_of
+op_stands c n s other = in_script (script_of c n s) (position_of n s) other
+
+min_below : (a b : ℕ) → min a b ≤ b
+min_below a b = grind arith
+
+-- the thread runs, and there is an op at the place in its script at which it is in b
+abbrev pub Stands : Scene → Core → ℕ → Type 0
+Stands a b n = (a.turn ≡ turn.Run n) × (position_of n b + 1 ≤ length (script_of (component_of a) n a.base))
 
 -- ---- What a row owes
 
@@ -193,78 +211,78 @@ module _ (x : Setting) (main : Main) (s : Core) (n : ℕ) (l : Label) (next : Tu
 module _ {a : Scene} {b : Core} (n : ℕ) (is : IsRunner a n) where
   -- ---- Registers and words
 
-  pub moved_to_walks : (p : ℕ) {t : Core} → Stay a b t → Stay a b (moved_to n p t)
+  pub moved_to_walks : (p : ℕ) {t : Core} → a.turn ≡ turn.Run n → p ≤ length (script_of (component_of a) n a.base) → Keep a b t → Stay a b (moved_to n p t)
   unfolding moved_to
-  moved_to_walks p c = word (SetHowFar n how_far.Fresh) is (word (SetPosition n p) tt c)
+  moved_to_walks p {t = t} runs within c = Then t (Advance n p) (keep_stay c) (is, (runs, within))
 
-  pub advanced_walks : {t : Core} → Stay a b t → Stay a b (advanced n t)
+  pub advanced_walks : Stands a b n → {t : Core} → Keep a b t → Stay a b (advanced n t)
   unfolding advanced
-  advanced_walks {t = t} c = moved_to_walks (position_of n t + 1) c
+  advanced_walks on {t = t} c = moved_to_walks (position_of n t + 1) on.0 (let low = keep_position n c in let high = on.1 in omega (arith, low, high)) c
 
-  pub assigned_walks : (r v : ℕ) {t : Core} → Stay a b t → Stay a b (assigned n r v t)
+  pub assigned_walks : Stands a b n → (r v : ℕ) {t : Core} → Keep a b t → Stay a b (assigned n r v t)
   unfolding assigned
-  assigned_walks r v c = advanced_walks (word (SetRegister n r v) tt c)
+  assigned_walks on r v c = advanced_walks on (word (SetRegister n r v) tt c)
 
-  pub answered_walks : (r v : ℕ) {t : Core} → Stay a b t → Stay a b (answered n r v t)
+  pub answered_walks : Stands a b n → (r v : ℕ) {t : Core} → Keep a b t → Stay a b (answered n r v t)
   unfolding answered
-  answered_walks r v c = assigned_walks r v (word (SetSavedCallee n None) tt c)
+  answered_walks on r v c = assigned_walks on r v (word (SetSavedCallee n None) tt c)
 
   -- ---- Ends
 
-  reopens_walks : (i : ℕ) (order : List ℕ) {t : Core} → MayBar a i false → Stay a b t → Stay a b (end_reopens i order t)
+  reopens_walks : (i : ℕ) (order : List ℕ) {t : Core} → MayBar a i false → Keep a b t → Keep a b (end_reopens i order t)
   unfolding end_reopens
   reopens_walks i order {t = t} ok c = shifted (released_shifts order (set_do_not_enter i false t)) (word (SetDoNotEnter i false) ok c)
 
-  exit_stops_walks : {t : Core} → Leaves a n → Stay a b t → Trip a b (exit_stops n t)
+  exit_stops_walks : {t : Core} → Leaves a n → Keep a b t → Trip a b (exit_stops n t)
   unfolding exit_stops
   exit_stops_walks {t = t} go c = exits_trip n go (ended_walks n (shifted (stopped_shifts (foot_of n t) (checked (instance_of n t) t)) (shifted (checked_shifts (instance_of n t) t) c)))
 
-  sync_exits_rest : (w : Option ℕ) (t : Core) → SaysEnd a (task_of n t) status.Returned → ToldTo (task_of n t) w (exit_restores n t) → Leaves a n → Stay a b (set_end (task_of n t) call_end.Returned (exit_restores n t)) → Trip a b (sync_exits n w t)
+  sync_exits_rest : (w : Option ℕ) (t : Core) → SaysEnd a (task_of n t) status.Returned → ToldTo (task_of n t) w (exit_restores n t) → Leaves a n → Keep a b (set_end (task_of n t) call_end.Returned (exit_restores n t)) → Trip a b (sync_exits n w t)
   unfolding sync_exits
   sync_exits_rest w t says to go c =
       let r = returned (task_of n t) (register_of n 0 t) w (exit_restores n t) in
       exits_trip n go (ended_walks n (shifted (stopped_shifts (foot_of n t) r) (returned_rest (task_of n t) (register_of n 0 t) w (exit_restores n t) says to c)))
 
-  sync_exits_walks : (w : Option ℕ) {t : Core} → MayEnd a (task_of n t) call_end.Returned (exit_restores n t) → SaysEnd a (task_of n t) status.Returned → ToldTo (task_of n t) w (exit_restores n t) → Leaves a n → Stay a b t → Trip a b (sync_exits n w t)
+  sync_exits_walks : (w : Option ℕ) {t : Core} → MayEnd a (task_of n t) call_end.Returned (exit_restores n t) → SaysEnd a (task_of n t) status.Returned → ToldTo (task_of n t) w (exit_restores n t) → Leaves a n → Keep a b t → Trip a b (sync_exits n w t)
   unfolding exit_restores
   sync_exits_walks w {t = t} ok says to go c = sync_exits_rest w t says to go (word (SetEnd (task_of n t) call_end.Returned) (ok, says) (word (SetDoNotSuspend (instance_of n t) (unwrap_or (saved_own_of n t) false)) tt c))
 
-  blocking_exits_rest : (w : Option ℕ) (order : List ℕ) (t : Core) → SaysEnd a (task_of n t) status.Returned → ToldTo (task_of n t) w (end_reopens (instance_of n t) order t) → Leaves a n → Stay a b (set_end (task_of n t) call_end.Returned (end_reopens (instance_of n t) order t)) → Trip a b (blocking_exits n w order t)
+  blocking_exits_rest : (w : Option ℕ) (order : List ℕ) (t : Core) → SaysEnd a (task_of n t) status.Returned → ToldTo (task_of n t) w (end_reopens (instance_of n t) order t) → Leaves a n → Keep a b (set_end (task_of n t) call_end.Returned (end_reopens (instance_of n t) order t)) → Trip a b (blocking_exits n w order t)
   unfolding blocking_exits
   blocking_exits_rest w order t says to go c = exit_stops_walks go (returned_rest (task_of n t) (register_of n 0 t) w (end_reopens (instance_of n t) order t) says to c)
 
-  blocking_exits_walks : (w : Option ℕ) (order : List ℕ) {t : Core} → MayBar a (instance_of n t) false → MayEnd a (task_of n t) call_end.Returned (end_reopens (instance_of n t) order t) → SaysEnd a (task_of n t) status.Returned → ToldTo (task_of n t) w (end_reopens (instance_of n t) order t) → Leaves a n → Stay a b t → Trip a b (blocking_exits n w order t)
+  blocking_exits_walks : (w : Option ℕ) (order : List ℕ) {t : Core} → MayBar a (instance_of n t) false → MayEnd a (task_of n t) call_end.Returned (end_reopens (instance_of n t) order t) → SaysEnd a (task_of n t) status.Returned → ToldTo (task_of n t) w (end_reopens (instance_of n t) order t) → Leaves a n → Keep a b t → Trip a b (blocking_exits n w order t)
   blocking_exits_walks w order {t = t} bar ok says to go c = blocking_exits_rest w order t says to go (word (SetEnd (task_of n t) call_end.Returned) (ok, says) (reopens_walks (instance_of n t) order bar c))
 
   -- the thread m goes on, under which n ran
-  direct_exits_rest : (m v : ℕ) (t : Core) → a.turn ≡ turn.Run n → a.next ≡ turn.Run m → place_of m a.base ≡ Some (place.Under n) → Stay a b (set_end (task_of n t) call_end.Returned t) → Trip a b (direct_exits n m v t)
+  direct_exits_rest : (m v : ℕ) (t : Core) → a.turn ≡ turn.Run n → a.next ≡ turn.Run m → place_of m a.base ≡ Some (place.Under n) → Keep a b (set_end (task_of n t) call_end.Returned t) → Trip a b (direct_exits n m v t)
   unfolding direct_exits
   direct_exits_rest m v t runs to under c =
       let u = set_end (task_of n t) call_end.Returned t in
       let gone : is_none (get (ended n u).threads n) ≡ true = ap (λ (o : Option Thread). is_none o) (ended_gone n u) in
       let e = ended_walks n c in
-      subst (λ (y : Core). Trip a b (set_how_far m (how_far.Answered v) y)) (placing_shifted (Move m place.Running) (ended n u)).only (GoesBack e.before (ended n u) n m v e.stays is runs to under e.settles (Uncovers n is to under gone refl))
+      subst (λ (y : Core). Trip a b (set_how_far m (how_far.Answered v) y)) (placing_shifted (Move m place.Running) (ended n u)).only (GoesBack e.before (ended n u) n m v (keep_stay e.stays) is runs to under e.settles (Uncovers n is to under gone refl))
 
-  direct_exits_walks : (m v : ℕ) {t : Core} → a.turn ≡ turn.Run n → MayEnd a (task_of n t) call_end.Returned t → SaysEnd a (task_of n t) status.Returned → a.next ≡ turn.Run m → place_of m a.base ≡ Some (place.Under n) → Stay a b t → Trip a b (direct_exits n m v t)
+  direct_exits_walks : (m v : ℕ) {t : Core} → a.turn ≡ turn.Run n → MayEnd a (task_of n t) call_end.Returned t → SaysEnd a (task_of n t) status.Returned → a.next ≡ turn.Run m → place_of m a.base ≡ Some (place.Under n) → Keep a b t → Trip a b (direct_exits n m v t)
   direct_exits_walks m v {t = t} runs ok says to under c = direct_exits_rest m v t runs to under (word (SetEnd (task_of n t) call_end.Returned) (ok, says) c)
 
-  code_stops_walks : (order : List ℕ) {t : Core} → MayBar a (instance_of n t) false → Stay a b t → Stay a b (code_stops n order t)
+  code_stops_walks : (order : List ℕ) {t : Core} → MayBar a (instance_of n t) false → Keep a b t → Keep a b (code_stops n order t)
   unfolding code_stops
   code_stops_walks order {t = t} bar c = shifted (stopped_shifts (foot_of n t) (end_reopens (instance_of n t) order t)) (reopens_walks (instance_of n t) order bar c)
 
-  code_exits_walks : (order : List ℕ) {t : Core} → MayBar a (instance_of n t) false → Leaves a n → Stay a b t → Trip a b (code_exits n order t)
+  code_exits_walks : (order : List ℕ) {t : Core} → MayBar a (instance_of n t) false → Leaves a n → Keep a b t → Trip a b (code_exits n order t)
   unfolding code_exits
   code_exits_walks order {t = t} bar go c = exits_trip n go (ended_walks n (shifted (checked_shifts (instance_of n t) (code_stops n order t)) (code_stops_walks order bar c)))
 
-  code_yields_walks : (order : List ℕ) {t : Core} → MayBar a (instance_of n t) false → Leaves a n → EndsActivation a n → MayOwe a (task_of n t) (own_or_none (own_event_of (task_of n t) t)) (code_stops n order t) → Stay a b t → Trip a b (code_yields n order t)
+  code_yields_walks : (order : List ℕ) {t : Core} → MayBar a (instance_of n t) false → Leaves a n → EndsActivation a n → MayOwe a (task_of n t) (own_or_none (own_event_of (task_of n t) t)) (code_stops n order t) → Keep a b t → Trip a b (code_yields n order t)
   unfolding code_yields
   code_yields_walks order {t = t} bar leave ends owes c = lands (Put mark.Low n (why.Delivery delivery.Yield)) (ComesAgain leave ends refl) (word (SetOwnEvent (task_of n t) (own_or_none (own_event_of (task_of n t) t))) owes (code_stops_walks order bar c))
 
-  code_finds_walks : (y : ℕ) (order : List ℕ) {t : Core} → MayBar a (instance_of n t) false → Leaves a n → EndsActivation a n → HasSet a n y → Stay a b t → Trip a b (code_finds n y order t)
+  code_finds_walks : (y : ℕ) (order : List ℕ) {t : Core} → MayBar a (instance_of n t) false → Leaves a n → EndsActivation a n → HasSet a n y → Keep a b t → Trip a b (code_finds n y order t)
   unfolding code_finds
   code_finds_walks y order bar leave ends has c = lands (Put mark.High n (why.Delivery (delivery.Set y))) (FindsEvent y leave ends has refl) (code_stops_walks order bar c)
 
-  code_waits_walks : (y : ℕ) (order : List ℕ) {t : Core} → MayBar a (instance_of n t) false → Leaves a n → EndsActivation a n → HasSet a n y → Stay a b t → Trip a b (code_waits n y order t)
+  code_waits_walks : (y : ℕ) (order : List ℕ) {t : Core} → MayBar a (instance_of n t) false → Leaves a n → EndsActivation a n → HasSet a n y → Keep a b t → Trip a b (code_waits n y order t)
   unfolding code_waits
   code_waits_walks y order bar leave ends has c = lands (Move n (place.Waiting y true)) (AwaitsEvent y leave ends has refl) (code_stops_walks order bar c)
 
@@ -296,7 +314,7 @@ restored_chosen : (n y : ℕ) (w : Option ℕ) (s : Core) → Chosen y w s → C
 unfolding exit_restores set_do_not_suspend on_instance
 restored_chosen n y w s h = h
 
-restores_walks : {a : Scene} (n : ℕ) (s : Core) → Stay a s (exit_restores n s)
+restores_walks : {a : Scene} (n : ℕ) (s : Core) → Keep a s (exit_restores n s)
 unfolding exit_restores
 restores_walks n s = word (SetDoNotSuspend (instance_of n s) (unwrap_or (saved_own_of n s) false)) tt NoWord
 
@@ -347,19 +365,19 @@ module _ (x : Setting) (main : Main) (s : Core) (n : ℕ) (l : Label) (next : Tu
 
   -- ---- The ops on registers and words
 
-  skip_row_leads : (c : Component) (ops : ℕ) (b : Bool) → Leads a s (skip_row c n ops s b)
+  skip_row_leads : Stands a s n → (ops : ℕ) (b : Bool) → Leads a s (skip_row x.component n ops s b)
   unfolding skipped
-  skip_row_leads c ops true = go (label.Data (data_label.SkipEq n)) (skipped c n ops s) refl (moved_to_walks n refl (min (position_of n s + 1 + ops) (length (script_of c n s))) NoWord)
-  skip_row_leads c ops false = go (label.Data (data_label.SkipEq n)) (advanced n s) refl (advanced_walks n refl NoWord)
+  skip_row_leads on ops true = go (label.Data (data_label.SkipEq n)) (skipped x.component n ops s) refl (moved_to_walks n refl (min (position_of n s + 1 + ops) (length (script_of x.component n s))) refl (min_below _ _) NoWord)
+  skip_row_leads on ops false = go (label.Data (data_label.SkipEq n)) (advanced n s) refl (advanced_walks n refl on NoWord)
 
-  pub data_row_leads : (c : Component) (o : DataOp) → Leads a s (data_row c n s o)
+  pub data_row_leads : Stands a s n → (o : DataOp) → Leads a s (data_row x.component n s o)
   unfolding stored
-  data_row_leads c (data_op.Set r y) = go _ _ refl (assigned_walks n refl r _ NoWord)
-  data_row_leads c (data_op.Add r y) = go _ _ refl (assigned_walks n refl r _ NoWord)
-  data_row_leads c (data_op.Handle r y) = go _ _ refl (assigned_walks n refl r _ NoWord)
-  data_row_leads c (data_op.Load r w) = go _ _ refl (assigned_walks n refl r _ NoWord)
-  data_row_leads c (data_op.Store w y) = go _ _ refl (advanced_walks n refl (word (SetWord (instance_of n s) w (value_of n s y)) tt NoWord))
-  data_row_leads c (data_op.SkipEq y z ops) = skip_row_leads c ops (value_of n s y == value_of n s z)
+  data_row_leads on (data_op.Set r y) = go _ _ refl (assigned_walks n refl on r _ NoWord)
+  data_row_leads on (data_op.Add r y) = go _ _ refl (assigned_walks n refl on r _ NoWord)
+  data_row_leads on (data_op.Handle r y) = go _ _ refl (assigned_walks n refl on r _ NoWord)
+  data_row_leads on (data_op.Load r w) = go _ _ refl (assigned_walks n refl on r _ NoWord)
+  data_row_leads on (data_op.Store w y) = go _ _ refl (advanced_walks n refl on (word (SetWord (instance_of n s) w (value_of n s y)) tt NoWord))
+  data_row_leads on (data_op.SkipEq y z ops) = skip_row_leads on ops (value_of n s y == value_of n s z)
 
   -- ---- Exits
 
@@ -445,7 +463,7 @@ module _ (x : Setting) (main : Main) (s : Core) (n : ℕ) (l : Label) (next : Tu
       (λ at. exit_says_end w (blocking_exits n w order s) at implicit lifted direct (set_end k call_end.Returned t) (over_now k call_end.Returned t) (trip_walk (blocking_exits_rest n refl w order s (exit_says s w at implicit (inr lifted)) told (refl, (to, refl)) NoWord)))
       (λ at leave. blocking_exits_walks n refl w order (bars w at implicit (ap (λ y. is_holding y) kind) direct) (exits w t at implicit (inr lifted) (reopened_calls i order s)) (exit_says s w at implicit (inr lifted)) told leave NoWord) is to))
 
-  direct_leads : (m : ℕ) (t : Core) → under_of n s ≡ Some m → is_explicit n s ≡ false → is_direct (goal_of (task_of n s) s) ≡ true → task_of n t ≡ task_of n s → t.calls ≡ s.calls → Stay a s t → Leads a s (Goes (exit_label n None) (direct_exits n m (register_of n 0 s) t) m)
+  direct_leads : (m : ℕ) (t : Core) → under_of n s ≡ Some m → is_explicit n s ≡ false → is_direct (goal_of (task_of n s) s) ≡ true → task_of n t ≡ task_of n s → t.calls ≡ s.calls → Keep a s t → Leads a s (Goes (exit_label n None) (direct_exits n m (register_of n 0 s) t) m)
   direct_leads m t under implicit direct task calls c =
       let v = register_of n 0 s in
       let k = task_of n s in
@@ -516,48 +534,55 @@ module _ (x : Setting) (main : Main) (s : Core) (n : ℕ) (l : Label) (next : Tu
   task_says : (f : Status) (t : Core) → written_by x.component s l t ≡ task_end n f s → handed_by x.component main s l t ≡ None → has_ended (task_of n s) s ≡ false → (u : Core) → is_over (task_of n s) u ≡ true → Walk a u t → EndWords a t
   task_says f t is none unended u over c = record { writes = writes_task f t u is (EndsOwn n refl refl unended) over c; hands = λ sub e out. none_said none out }
 
-  ret_row_leads : (v : ℕ) (w : Option ℕ) → Leads a s (ret_row n v w s)
+  on_after_end : Stands a s n → (k : ℕ) (e : CallEnd) → Stands a (set_end k e s) n
+  unfolding set_end on_call
+  on_after_end on k e = on
+
+  ret_row_leads : Stands a s n → (v : ℕ) (w : Option ℕ) → Leads a s (ret_row n v w s)
   unfolding ret_done
-  ret_row_leads v w =
+  ret_row_leads on v w =
       trap_if_leads a s (has_ended (task_of n s) s) trap.TaskCancelOrReturnTwice _ (λ unended.
       trap_if_leads a s (not (is_async_lifted (kind_of (task_of n s) s))) trap.TaskReturnInvalid _ (λ lifted.
       may_leads a s (may_tell (task_of n s) w s) _ (λ may.
       go_saying (ret_label n v w) (ret_done n v w s) (ret_plain n v w)
       (λ is. task_says status.Returned (ret_done n v w s) (ap (λ (k : Label). written_by x.component s k (ret_done n v w s)) is ∙ ret_writes x.component n v w s _) (ap (λ (y : Label). handed_by x.component main s y (ret_done n v w s)) is ∙ ret_hands x.component main n v w s (ret_done n v w s)) unended
-      (set_end (task_of n s) call_end.Returned s) (over_now (task_of n s) call_end.Returned s) (stay_walk (advanced_walks n refl (returned_rest (task_of n s) v w s (ap (λ (k : Label). written_by x.component s k s) is ∙ ret_writes x.component n v w s s) (told_to (task_of n s) w s may) NoWord))))
-      (λ is. advanced_walks n refl (returned_walks (task_of n s) v w (ReturnsNow n refl refl unended (unnot (is_async_lifted (kind_of (task_of n s) s)) lifted) refl) (ap (λ (k : Label). written_by x.component s k s) is ∙ ret_writes x.component n v w s s) (told_to (task_of n s) w s may) NoWord)))))
+      (set_end (task_of n s) call_end.Returned s) (over_now (task_of n s) call_end.Returned s) (stay_walk (advanced_walks n refl (on_after_end on (task_of n s) call_end.Returned) (returned_rest (task_of n s) v w s (ap (λ (k : Label). written_by x.component s k s) is ∙ ret_writes x.component n v w s s) (told_to (task_of n s) w s may) NoWord))))
+      (λ is. advanced_walks n refl on (returned_walks (task_of n s) v w (ReturnsNow n refl refl unended (unnot (is_async_lifted (kind_of (task_of n s) s)) lifted) refl) (ap (λ (k : Label). written_by x.component s k s) is ∙ ret_writes x.component n v w s s) (told_to (task_of n s) w s may) NoWord)))))
 
-  task_cancel_row_leads : (w : Option ℕ) → Leads a s (task_cancel_row n w s)
+  task_cancel_row_leads : Stands a s n → (w : Option ℕ) → Leads a s (task_cancel_row n w s)
   unfolding task_cancel_done
-  task_cancel_row_leads w =
+  task_cancel_row_leads on w =
       trap_if_leads a s (not (cancel_was_delivered (task_of n s) s)) trap.TaskCancelNotCancelled _ (λ delivered.
       trap_if_leads a s (has_ended (task_of n s) s) trap.TaskCancelOrReturnTwice _ (λ unended.
       may_leads a s (may_tell (task_of n s) w s) _ (λ may.
       go_saying (task_cancel_label n w) (task_cancel_done n w s) (task_cancel_plain n w)
       (λ is. task_says status.ReturnCancelled (task_cancel_done n w s) (ap (λ (k : Label). written_by x.component s k (task_cancel_done n w s)) is ∙ task_cancel_writes x.component n w s _) (ap (λ (y : Label). handed_by x.component main s y (task_cancel_done n w s)) is ∙ task_cancel_hands x.component main n w s (task_cancel_done n w s)) unended
-      (set_end (task_of n s) call_end.ReturnCancelled s) (over_now (task_of n s) call_end.ReturnCancelled s) (stay_walk (advanced_walks n refl (cancelled_rest (task_of n s) w s (ap (λ (k : Label). written_by x.component s k s) is ∙ task_cancel_writes x.component n w s s) (told_to (task_of n s) w s may) NoWord))))
-      (λ is. advanced_walks n refl (cancelled_walks (task_of n s) w (GivesUp n refl refl unended (unnot (cancel_was_delivered (task_of n s) s) delivered) refl) (ap (λ (k : Label). written_by x.component s k s) is ∙ task_cancel_writes x.component n w s s) (told_to (task_of n s) w s may) NoWord)))))
+      (set_end (task_of n s) call_end.ReturnCancelled s) (over_now (task_of n s) call_end.ReturnCancelled s) (stay_walk (advanced_walks n refl (on_after_end on (task_of n s) call_end.ReturnCancelled) (cancelled_rest (task_of n s) w s (ap (λ (k : Label). written_by x.component s k s) is ∙ task_cancel_writes x.component n w s s) (told_to (task_of n s) w s may) NoWord))))
+      (λ is. advanced_walks n refl on (cancelled_walks (task_of n s) w (GivesUp n refl refl unended (unnot (cancel_was_delivered (task_of n s) s) delivered) refl) (ap (λ (k : Label). written_by x.component s k s) is ∙ task_cancel_writes x.component n w s s) (told_to (task_of n s) w s may) NoWord)))))
 
-  dec_from_leads : (b : ℕ) → Leads a s (dec_from n s b)
+  dec_from_leads : Stands a s n → (b : ℕ) → Leads a s (dec_from n s b)
   unfolding dec_lowers dec_opens
-  dec_from_leads zero = tt
-  dec_from_leads (suc zero) = λ order. go (label.Task (task_label.BpDec n)) (dec_opens n order s) refl (advanced_walks n refl (shifted (released_shifts order (set_backpressure (instance_of n s) 0 s)) (word (SetBackpressure (instance_of n s) 0) tt NoWord)))
-  dec_from_leads (suc (suc b)) = go (label.Task (task_label.BpDec n)) (dec_lowers n s) refl (advanced_walks n refl (word (SetBackpressure (instance_of n s) (backpressure_of (instance_of n s) s - 1)) tt NoWord))
+  dec_from_leads on zero = tt
+  dec_from_leads on (suc zero) = λ order. go (label.Task (task_label.BpDec n)) (dec_opens n order s) refl (advanced_walks n refl on (shifted (released_shifts order (set_backpressure (instance_of n s) 0 s)) (word (SetBackpressure (instance_of n s) 0) tt NoWord)))
+  dec_from_leads on (suc (suc b)) = go (label.Task (task_label.BpDec n)) (dec_lowers n s) refl (advanced_walks n refl on (word (SetBackpressure (instance_of n s) (backpressure_of (instance_of n s) s - 1)) tt NoWord))
 
-  inc_row_leads : Leads a s (inc_row n s)
+  inc_row_leads : Stands a s n → Leads a s (inc_row n s)
   unfolding inc_raises
-  inc_row_leads = trap_if_leads a s (nat_le 65535 (backpressure_of (instance_of n s) s)) trap.BackpressureOverflow _ (λ e. go (label.Task (task_label.BpInc n)) (inc_raises n s) refl (advanced_walks n refl (word (SetBackpressure (instance_of n s) (backpressure_of (instance_of n s) s + 1)) tt NoWord)))
+  inc_row_leads on = trap_if_leads a s (nat_le 65535 (backpressure_of (instance_of n s) s)) trap.BackpressureOverflow _ (λ e. go (label.Task (task_label.BpInc n)) (inc_raises n s) refl (advanced_walks n refl on (word (SetBackpressure (instance_of n s) (backpressure_of (instance_of n s) s + 1)) tt NoWord)))
 
   ends_by : (o : TaskOp) → op_in a n ≡ op.Task o → is_code_op o ≡ true → EndsActivation a n
   ends_by o is code = (refl, ap (λ p. ends_activation p) is ∙ code)
 
+  stands : {o : TaskOp} → op_in a n ≡ op.Task o → is_exit_op (op.Task o) ≡ false → Stands a s n
+  stands is other = (refl, op_stands x.component n s (ap is_exit_op is ∙ other))
+
   pub task_row_leads : (ch : Choice) (o : TaskOp) → op_in a n ≡ op.Task o → Leads a s (task_row n s ch o)
-  task_row_leads ch (task_op.Ret v) is = ret_row_leads (value_of n s v) ch.woken
+  task_row_leads ch (task_op.Ret v) is = ret_row_leads (stands is refl) (value_of n s v) ch.woken
   task_row_leads ch (task_op.RetBad v) is = trap_if_leads a s (has_ended (task_of n s) s) trap.TaskCancelOrReturnTwice _ (λ e. tt)
-  task_row_leads ch task_op.TaskCancel is = task_cancel_row_leads ch.woken
+  task_row_leads ch task_op.TaskCancel is = task_cancel_row_leads (stands is refl) ch.woken
   task_row_leads ch task_op.Exit is = exit_row_for_leads ch.woken (is_explicit n s) refl
   task_row_leads ch task_op.CbYield is = code_row_leads (label.Task (task_label.CbYield n)) 1 refl (λ shows. ap (λ k. returned_holder s k) shows) (ends_by task_op.CbYield is refl)
   task_row_leads ch (task_op.CbWait v) is = code_row_leads (label.Task (task_label.CbWait n)) (16 * value_of n s v + 2) refl (λ shows. ap (λ k. returned_holder s k) shows) (ends_by (task_op.CbWait v) is refl)
   task_row_leads ch (task_op.Code v) is = code_row_leads (label.Task (task_label.Code n)) (value_of n s v) refl (λ shows. ap (λ k. returned_holder s k) shows) (ends_by (task_op.Code v) is refl)
-  task_row_leads ch task_op.BpInc is = inc_row_leads
-  task_row_leads ch task_op.BpDec is = dec_from_leads (backpressure_of (instance_of n s) s)
+  task_row_leads ch task_op.BpInc is = inc_row_leads (stands is refl)
+  task_row_leads ch task_op.BpDec is = dec_from_leads (stands is refl) (backpressure_of (instance_of n s) s)

@@ -1,11 +1,11 @@
 -- Where a step does a word: what its row has tested or done before, and what is known of the thread that runs or was taken.
 use Rattle.task_machine.specs.declared.records.Course.{Course}
 use Rattle.std.specs.Option.{option_map_or}
-use Rattle.std.specs.Prelude.{Bool, None, Option, Some, [], false, is_none, true, ℕ, ◌||◌, ◌∷◌, ◌≡◌, ◌⊎◌, not, is_some}
+use Rattle.std.specs.Prelude.{◌≤◌, length, Bool, None, Option, Some, [], false, is_none, true, ℕ, ◌||◌, ◌∷◌, ◌≡◌, ◌⊎◌, not, is_some}
 use Rattle.task_machine.specs.Core.{Core, MainPlace, Scripted, Unscripted}
 use Rattle.task_machine.specs.Maps.{get}
 use Rattle.task_machine.specs.Moves.{has_entry, is_callback_waiter, is_deletable, is_group_done}
-use Rattle.task_machine.specs.Read.{cancel_was_delivered, course_of, course_value, end_of, goal_of, has_ended, has_member, has_waiters, how_far_of, instance_of, is_async_lifted, is_at, is_direct, is_end, is_explicit, is_joined, is_stage_ended, is_waiter, join_of, kind_of, may_not_enter, next_entry, own_event_of, phase_of, place_of, set_at, stage_of, subtask_at, subtask_ended, subtask_handle, task_of, thread_group, was_started, work_caller_of, is_guest_call, is_aborted, is_blocked_on, foot_of}
+use Rattle.task_machine.specs.Read.{caller_of, cancel_was_delivered, course_of, course_value, end_of, goal_of, has_ended, has_member, has_waiters, how_far_of, instance_of, is_async_lifted, is_at, is_direct, is_end, is_explicit, is_joined, is_stage_ended, is_waiter, join_of, kind_of, may_not_enter, next_entry, own_event_of, phase_of, place_of, set_at, stage_of, subtask_at, subtask_ended, subtask_handle, task_of, thread_group, was_started, work_caller_of, is_guest_call, is_aborted, is_blocked_on, foot_of}
 use Rattle.task_machine.specs.declared.component.Callee.{Callee}
 use Rattle.task_machine.specs.declared.component.ExportKind.{ExportKind}
 use Rattle.task_machine.specs.declared.label.Label.{Label}
@@ -31,9 +31,9 @@ use Rattle.task_rules.specs.MainOps.{op_at, takes_words, spawned_at, is_spawn}
 use Rattle.task_rules.specs.Once.{returned_holder}
 use Rattle.task_rules.specs.OpParts.{callee_of_main_op, callee_of_op, ends_activation}
 use Rattle.task_rules.specs.Scenes.{Scene, component_of, op_in}
-use Rattle.task_rules.specs.Scripts.{export_kind, registers_for}
+use Rattle.task_rules.specs.Scripts.{export_kind, is_script, registers_for, script_of, slot_at}
 use Rattle.task_rules.specs.Threads.{resume_why}
-use Rattle.task_rules.specs.Words.{AddGroup, CloseSet, CountWork, EndWork, Enter, FinishWork, GoBehind, MakeCall, MakeThread, Move, NameCall, NameWork, OpenSet, Pend, Places, Placing, Pop, Promote, Put, QueueWork, RemoveCall, RemoveGroup, RemoveThread, RemoveWork, SetCallEvent, SetCallJoin, SetCancelDelivered, SetCancelled, SetDoNotEnter, SetEnd, SetHowFar, SetOwnEvent, SetPhase, SetStarted, TakeWorkEvent, SetWorkJoin, Stop, TakeHost, TakePush, UnnameCall, UnnameWork, Withdraw, Word, GiveResult, SetUninteresting, SetTrapped}
+use Rattle.task_rules.specs.Words.{AddGroup, Advance, Restart, CloseSet, CountWork, EndWork, Enter, FinishWork, GoBehind, MakeCall, MakeThread, Move, NameCall, NameWork, OpenSet, Pend, Places, Placing, Pop, Promote, Put, QueueWork, RemoveCall, RemoveGroup, RemoveThread, RemoveWork, SetCallEvent, SetCallJoin, SetCancelDelivered, SetCancelled, SetDoNotEnter, SetEnd, SetHowFar, SetOwnEvent, SetPhase, SetStarted, TakeWorkEvent, SetWorkJoin, Stop, TakeHost, TakePush, UnnameCall, UnnameWork, Withdraw, Word, GiveResult, SetUninteresting, SetTrapped}
 use Rattle.task_rules.specs.Works.{next_polled, has_end}
 use Rattle.task_rules.specs.SubtaskEnds.{end_for, written_by}
 use Rattle.task_machine.specs.declared.words.Mark.TheVariants as mark
@@ -213,10 +213,15 @@ MayLeave a p s = MayLand a p s
 
 -- ---- Threads
 
--- how far an op comes: it waits on a set of its instance, or is about a subtask of its own or a new one
+-- the thread has made the call, and no handle names it
+abbrev pub IsCalled : ℕ → ℕ → Core → Type 0
+IsCalled n k s = (caller_of k s ≡ caller.Thread n) × (subtask_handle (subtask.Guest k) s ≡ None)
+
+-- how far an op comes: it waits on a set of its instance, stays inside its call or makes one, or is about a subtask of its own or a new one
 abbrev pub MayCome : Scene → ℕ → HowFar → Core → Type 0
 MayCome a n (how_far.Waits x) s = IsRunner a n × HasSet a n x
-MayCome a n (how_far.Calls (subtask.Guest k)) s = IsRunner a n × (HasSubtask a n (subtask.Guest k) ⊎ IsNew a (subtask.Guest k) s)
+MayCome a n (how_far.Calls (subtask.Guest k)) s = IsRunner a n × (((how_far_of n a.base ≡ how_far.Calls (subtask.Guest k)) ×
+    (how_far_of n s ≡ how_far.Calls (subtask.Guest k))) ⊎ (IsNew a (subtask.Guest k) s × IsCalled n k s))
 MayCome a n (how_far.Calls (subtask.Host i)) s = IsRunner a n × (IsNew a (subtask.Host i) s × ((work_caller_of i s ≡ work_caller.Sync n) ×
     (option_map_or (is_blocked_on (subtask.Host i)) (place_of n s) true ≡ true)))
 MayCome a n (how_far.Cancels sub) s = IsRunner a n × HasSubtask a n sub
@@ -225,10 +230,23 @@ MayCome a n (how_far.AwaitsEnd sub) s = IsRunner a n × HasSubtask a n sub
 MayCome a n (how_far.Answered v) s = (m : ℕ) × (IsRunner a m × ((a.next ≡ turn.Run n) × (place_of n a.base ≡ Some (place.Under m))))
 MayCome a n h s = IsRunner a n
 
+-- the running thread's op is done, and it goes on at a place in its script, or at the end
+abbrev pub MayAdvance : Scene → ℕ → ℕ → Type 0
+MayAdvance a n p = IsRunner a n × ((a.turn ≡ turn.Run n) × (p ≤ length (script_of (component_of a) n a.base)))
+
+-- a thread that was taken with a delivery begins its react script
+abbrev pub MayRestart : Scene → ℕ → Type 0
+MayRestart a n = IsRunner a n × ((d : Delivery) × WasReady a n (why.Delivery d))
+
+-- the slot of the thread's instance has a script
+abbrev pub HasSlot : Scene → ℕ → ℕ → Type 0
+HasSlot a n x = is_script (slot_at (component_of a) (instance_of n a.base) x) ≡ true
+
 -- a thread beside the first one of its task, by an op that names a script
 abbrev pub MayMake : Scene → Thread → Core → Type 0
 MayMake a t s = (n : ℕ) × (IsRunner a n × ((s.made.threads ≡ a.base.made.threads) × ((x : ℕ) × ((v : ℕ) ×
-    ((t ≡ new_thread (task_of n a.base) true (script.Slot x) (registers_for (v ∷ [])) None) × (s.calls ≡ a.base.calls))))))
+    ((t ≡ new_thread (task_of n a.base) true (script.Slot x) (registers_for (v ∷ [])) None) ×
+    ((s.calls ≡ a.base.calls) × HasSlot a n x))))))
 
 -- Who is gone.
 pub data MayGo (a : Scene) (n : ℕ) (s : Core) : Type 0 where
@@ -336,6 +354,13 @@ MayJoin a sub (join.Watched n) s = IsRunner a n ×
 abbrev pub MayName : Scene → ℕ → Subtask → Core → Type 0
 MayName a i sub s = (n : ℕ) × (IsRunner a n × ((i ≡ instance_of n a.base) × (HasSubtask a n sub ⊎ IsNew a sub s)))
 
+-- the running thread's op is done, and its instance gets a handle of the call that the op was inside of; whose that is and what names it is
+-- as before the step
+abbrev pub MayNameCall : Scene → ℕ → ℕ → Core → Type 0
+MayNameCall a i k s = (n : ℕ) × ((a.turn ≡ turn.Run n) × ((i ≡ instance_of n a.base) ×
+    ((how_far_of n a.base ≡ how_far.Calls (subtask.Guest k)) × ((how_far_of n s ≡ how_far.Fresh) × ((caller_of k s ≡ caller_of k a.base) ×
+    (subtask_handle (subtask.Guest k) s ≡ subtask_handle (subtask.Guest k) a.base))))))
+
 -- the handle names the subtask, which is in no set any more
 abbrev pub MayUnname : Scene → ℕ → ℕ → Subtask → Core → Type 0
 MayUnname a i h sub s = (n : ℕ) ×
@@ -360,8 +385,8 @@ IsPolled a i s = (n : ℕ) × ((a.turn ≡ turn.Futures n) × (next_polled n s �
 -- the sync call of the running thread is answered, and done, or its ended subtask is dropped
 abbrev pub MayRemoveWork : Scene → ℕ → Core → Type 0
 MayRemoveWork a i s = (n : ℕ) × (IsRunner a n × (((how_far_of n a.base ≡ how_far.Calls (subtask.Host i)) × (how_far_of n s ≡ how_far.Fresh)) ⊎
-    ((subtask_ended (subtask.Host i) a.base ≡ true) × ((subtask_handle (subtask.Host i) s ≡ None) × ((h : ℕ) ×
-    (subtask_at (instance_of n a.base) h a.base ≡ Some (subtask.Host i)))))))
+    ((subtask_ended (subtask.Host i) a.base ≡ true) × ((subtask_handle (subtask.Host i) s ≡ None) × ((is_stage_ended (stage_of i s) ≡ true) ×
+    ((h : ℕ) × (subtask_at (instance_of n a.base) h a.base ≡ Some (subtask.Host i))))))))
 
 -- the loop polls the work to its end, and without a value where an abort was asked for
 abbrev pub MayFinish : Scene → ℕ → Course → Core → Type 0
@@ -396,6 +421,8 @@ MayBar a i false = returned_holder a.base a.label ≡ Some i
 -- Where the word is done in this step, right after s.
 abbrev pub Allowed : Scene → Word → Core → Type 0
 Allowed a (Places p) s = MayShift p s ⊎ MayLeave a p s
+Allowed a (Advance n p) s = MayAdvance a n p
+Allowed a (Restart n) s = MayRestart a n
 Allowed a (SetHowFar n h) s = MayCome a n h s
 Allowed a (MakeThread t) s = MayMake a t s
 Allowed a (RemoveThread n) s = MayGo a n s
@@ -408,7 +435,7 @@ Allowed a (SetCancelDelivered k) s = MayDeliver a k
 Allowed a (RemoveCall k) s = is_deletable k s ≡ true
 Allowed a (SetCallEvent k e) s = MayTell a k e s
 Allowed a (SetCallJoin k j) s = MayJoin a (subtask.Guest k) j s
-Allowed a (NameCall i k) s = MayName a i (subtask.Guest k) s
+Allowed a (NameCall i k) s = MayNameCall a i k s
 Allowed a (UnnameCall i h k) s = MayUnname a i h (subtask.Guest k) s
 Allowed a CountWork s = s.made.works ≡ a.base.made.works
 Allowed a (QueueWork f host group) s = (s.made.works ≡ a.base.made.works) × MayQueue a f group

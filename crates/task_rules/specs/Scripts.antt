@@ -1,5 +1,5 @@
 -- The scripts of a component, and the op at which a thread is.
-use Rattle.std.specs.Prelude.{ℕ, List, [], ◌++◌, ◌-◌, Option, None, option_and_then, unwrap_or, map, length, replicate, slice_get, slice_index}
+use Rattle.std.specs.Prelude.{Bool, false, true, ℕ, List, [], ◌++◌, ◌-◌, Option, None, option_and_then, unwrap_or, map, length, replicate, slice_get, slice_index}
 use Rattle.std.specs.Option.{option_map_or}
 use Rattle.task_machine.specs.declared.component.Callee.{Callee}
 use Rattle.task_machine.specs.declared.component.Component.{Component}
@@ -56,6 +56,10 @@ abbrev pub host_at : Component → ℕ → HostDef
 host_at c h = unwrap_or (slice_get c.hosts h) never_host
 
 -- ---- A thread's script, with the defaults "absent part" and "absent thread"
+
+abbrev pub is_script : Slot → Bool
+is_script (slot.Script ops) = true
+is_script _ = false
 
 abbrev pub slot_script : Slot → List Op
 slot_script (slot.Script ops) = ops

@@ -14,7 +14,8 @@ use Rattle.task_machine.specs.declared.records.Goal.{Goal}
 use Rattle.task_machine.specs.declared.records.HowFar.{HowFar}
 use Rattle.task_machine.specs.declared.records.Join.{Join}
 use Rattle.task_machine.specs.declared.records.Place.{Place}
-use Rattle.task_machine.specs.declared.records.Script.{Script}
+use Rattle.task_machine.specs.declared.records.Script.TheVariants as script
+use Rattle.task_machine.specs.declared.records.HowFar.TheVariants as how_far
 use Rattle.task_machine.specs.declared.records.Thread.{Thread}
 use Rattle.task_machine.specs.declared.records.Why.{Why}
 use Rattle.task_machine.specs.declared.records.WorkCaller.{WorkCaller}
@@ -76,9 +77,11 @@ pub data Word : Type 0 where
   Places : (placing : Placing) → Word
   -- the record of a thread
   SetRegister : (thread register value : ℕ) → Word
-  SetPosition : (thread position : ℕ) → Word
+  -- its op is done, and it goes on at this place in its script
+  Advance : (thread position : ℕ) → Word
   SetHowFar : (thread : ℕ) → (how_far : HowFar) → Word
-  SetScript : (thread : ℕ) → (script : Script) → Word
+  -- it begins its react script
+  Restart : (thread : ℕ) → Word
   SetSavedOwn : (thread : ℕ) → (saved : Option Bool) → Word
   SetSavedCallee : (thread : ℕ) → (saved : Option Bool) → Word
   NameThread : (instance thread : ℕ) → Word
@@ -137,9 +140,9 @@ pub data Word : Type 0 where
 abbrev pub after_word : Word → Core → Core
 after_word (Places p) s = placed_as (after_placing p s) s
 after_word (SetRegister n r v) s = set_register n r v s
-after_word (SetPosition n p) s = set_position n p s
+after_word (Advance n p) s = set_how_far n how_far.Fresh (set_position n p s)
 after_word (SetHowFar n h) s = set_how_far n h s
-after_word (SetScript n x) s = set_script n x s
+after_word (Restart n) s = set_how_far n how_far.Fresh (set_position n 0 (set_script n script.React s))
 after_word (SetSavedOwn n b) s = set_saved_own n b s
 after_word (SetSavedCallee n b) s = set_saved_callee n b s
 after_word (NameThread i n) s = with_thread_handle i n s

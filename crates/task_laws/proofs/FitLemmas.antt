@@ -1,0 +1,166 @@
+-- What script each thread runs, and where in it, along the words of a step.
+use Rattle.task_rules.proofs.Machine.{[], after_word, Allowed, ap, arith, call_instance, Callee, callee_of, Component, component_of, Core, ends_activation, EndsActivation, false, get, inl, inr, is_explicit, is_some, length, MayAdvance, MayMove, new_thread, next_thread, None, op_of, Option, option_map, option_map_or, Place, place_of, refl, registers_for, Scene, Script, script_in, script_of, script_of_thread, slice_get, Some, subst, sym, T, task_of, Thread, true, unwrap_or, WasReady, Why, Word, ℕ, ⊎_elim, ◌∙◌, ◌∷◌, ◌≡◌, ◌≤◌, ◌⊎◌}
+use Rattle.task_machine.specs.declared.records.Script.TheVariants as script
+use Rattle.task_machine.specs.declared.op.Op.TheVariants as op
+use Rattle.task_machine.specs.declared.op.TaskOp.TheVariants as task_op
+use Rattle.task_laws.proofs.CallsCame.{IsBeside, IsFirst, IsGone, IsSame, RunsOn, ThreadAfter, thread_came}
+use Rattle.task_laws.proofs.Basics.{some_none}
+use Rattle.task_machine.specs.declared.records.Why.TheVariants as why
+use Rattle.task_machine.specs.declared.records.Turn.TheVariants as turn
+use Rattle.task_machine.specs.declared.records.Place.TheVariants as place
+use Rattle.task_laws.proofs.CallsLaw.{CallsGo, CallsHold, code_callback, delivered_in, shifted_delivers, turned_silent}
+use Rattle.task_laws.proofs.CameLemmas.{Came, Comes, MayStand, Shifts, Turns, came_word}
+use Rattle.task_laws.proofs.HousedLemmas.{RunnerHoused}
+use Rattle.task_laws.specs.Order.{Fits, is_delivery, is_delivered, names_script}
+use Rattle.task_laws.specs.Settings.{CodesInCallbacks}
+
+-- what brings a delivery for the thread: there was one, its activation ends, or it was taken with one
+abbrev pub Brings : Scene → ℕ → Option Place → Type 0
+Brings a n o = (delivered_in o ≡ true) ⊎ (EndsActivation a n ⊎ ((w : Why) × (WasReady a n w × (is_delivery w ≡ true))))
+
+module _ (a : Scene) (s : Core) (n : ℕ) where
+  stand_brings : (w : Why) → MayStand a s n w → is_delivery w ≡ true → (delivered_in (place_of n s) ≡ true) ⊎ EndsActivation a n
+  stand_brings w ok d = grind arith
+
+  move_brings : (p : Place) → MayMove a n p s → is_delivered p ≡ true → EndsActivation a n ⊎ ((w : Why) × (WasReady a n w × (is_delivery w ≡ true)))
+  move_brings p ok d = grind arith
+
+  brings : (t : Core) (o p : Option Place) → o ≡ place_of n s → Came a s t n o p → delivered_in p ≡ true → Brings a n o
+  brings t o p is (Shifts m) d = ⊎_elim inl (λ e. ⊎_elim (λ f. inl (rw is f)) (λ f. inr (inl f)) (stand_brings e.0 e.1.0 e.1.1)) (shifted_delivers (MayStand a s n) o p m d).1
+  brings t o p is (Comes r ok e there) d = inr (move_brings r ok (rw e at d))
+  brings t o p is (Turns x) d = absurd (turned_silent x d)
+
+-- a delivery is for a first thread
+first_at : (o : Option Thread) → ((t : Thread) → o ≡ Some t → is_delivered t.place ≡ true → t.explicit ≡ false) →
+    delivered_in (option_map (λ (t : Thread). t.place) o) ≡ true → option_map_or (λ (t : Thread). t.explicit) o false ≡ false
+first_at None first d = refl
+first_at (Some t) first d = first t refl d
+
+slot_no_code : (c : Component) → CodesInCallbacks c → (f : Callee) (x : Script) (p : ℕ) → names_script c f.instance true x ≡ true →
+    ends_activation (unwrap_or (slice_get (script_in c f x) p) (op.Task task_op.Exit)) ≡ false
+slot_no_code c codes f (script.Slot y) p h = grind (arith, codes.slots f.instance y)
+slot_no_code c codes f script.Start p h = absurd (subst T (sym h) tt)
+slot_no_code c codes f script.React p h = absurd (subst T (sym h) tt)
+
+slot_ends : (c : Component) → CodesInCallbacks c → (s : Core) (t : Thread) → names_script c (call_instance t.call s) t.explicit t.script ≡ true →
+    ends_activation (unwrap_or (slice_get (script_of_thread c s t) t.position) (op.Task task_op.Exit)) ≡ true → t.explicit ≡ false
+slot_ends c codes s t fits ends = let no = slot_no_code c codes (callee_of t.call s) t.script t.position in grind arith
+
+-- whose op ends an activation is a first thread
+ends_first : (c : Component) → CodesInCallbacks c → (n : ℕ) (s : Core) → Fits c s → ends_activation (op_of c n s) ≡ true → is_explicit n s ≡ false
+unfolding op_of script_of
+ends_first c codes n s fits ends = by (get s.threads n) refl
+  where
+    by : (o : Option Thread) → get s.threads n ≡ o → is_explicit n s ≡ false
+    by None at = ap (λ o. option_map_or (λ (t : Thread). t.explicit) o false) at
+    by (Some t) at = ap (λ o. option_map_or (λ (t : Thread). t.explicit) o false) at ∙ slot_ends c codes s t (fits n t at).script (rw at at ends)
+
+-- What is said of the thread n on the way of a step.
+pub record FitsSo (a : Scene) (n : ℕ) (t : Thread) : Type 0 where
+  pub script : names_script (component_of a) (call_instance t.call a.base) t.explicit t.script ≡ true
+  pub call : t.explicit ≡ true → is_some (get a.base.calls t.call) ≡ true
+  pub first : is_delivered t.place ≡ true → t.explicit ≡ false
+  pub position : (t.position ≡ 0) ⊎ ((is_some (get a.base.calls t.call) ≡ true)
+      × (t.position ≤ length (script_in (component_of a) (callee_of t.call a.base) t.script)))
+  -- while it runs, it runs one script
+  pub same : a.turn ≡ turn.Run n → (r : Thread) → get a.base.threads n ≡ Some r → (t.call ≡ r.call) × (t.script ≡ r.script)
+
+abbrev pub AllFit : Scene → Core → Type 0
+AllFit a s = (n : ℕ) (t : Thread) → get s.threads n ≡ Some t → FitsSo a n t
+
+-- the script of a thread that is there
+script_within : (c : Component) (s : Core) (n p : ℕ) (b : Thread) → get s.threads n ≡ Some b → p ≤ length (script_of c n s) →
+    (task_of n s ≡ b.call) × (p ≤ length (script_in c (callee_of b.call s) b.script))
+unfolding script_of
+script_within c s n p b is within = grind arith
+
+module _ (a : Scene) (codes : CodesInCallbacks (component_of a)) (h : CallsHold (component_of a) a.base) (known : RunnerHoused a) (fits : Fits (component_of a) a.base)
+    (runs : (n : ℕ) → a.turn ≡ turn.Run n → place_of n a.base ≡ Some place.Running) where
+  delivered_first : (n : ℕ) (w : Why) → WasReady a n w → is_delivery w ≡ true → is_explicit n a.base ≡ false
+  delivered_first n w was d = first_at (get a.base.threads n) (λ t at. (fits n t at).first) (ap delivered_in was.1 ∙ d)
+
+  module _ (w : Word) (s : Core) (ok : Allowed a w s) (go : CallsGo a s) (q : AllFit a s) (n : ℕ) where
+    -- a first thread that was there is one
+    since : (r : Thread) → get s.threads n ≡ Some r → n ≤ a.base.made.threads → is_explicit n a.base ≡ false → r.explicit ≡ false
+    since r at below first = grind (arith, go.threads n)
+
+    ready_since : (v : Why) (r : Thread) → get s.threads n ≡ Some r → WasReady a n v → is_delivery v ≡ true → r.explicit ≡ false
+    ready_since v r at was d = let below : n ≤ a.base.made.threads = grind (arith, h.numbered.threads n) in since r at below (delivered_first n v was d)
+
+    ends_since : (r : Thread) → get s.threads n ≡ Some r → EndsActivation a n → r.explicit ≡ false
+    ends_since r at e = since r at (code_callback codes n a.base h e.1).0 (ends_first (component_of a) codes n a.base fits e.1)
+
+    brings_first : (r : Thread) → get s.threads n ≡ Some r → Brings a n (place_of n s) → r.explicit ≡ false
+    brings_first r at (inl d) = (q n r at).first (rw at at d)
+    brings_first r at (inr (inl e)) = ends_since r at e
+    brings_first r at (inr (inr e)) = ready_since e.0 r at e.1.0 e.1.1
+
+    script_after : (r u : Thread) → get s.threads n ≡ Some r → u.call ≡ r.call → u.explicit ≡ r.explicit → RunsOn a n r u →
+        names_script (component_of a) (call_instance u.call a.base) u.explicit u.script ≡ true
+    script_after r u at call explicit (inl e) = let f = (q n r at).script in grind arith
+    script_after r u at call explicit (inr e) = let f = ready_since (why.Delivery e.0.1.0) r at e.0.1.1 refl in grind arith
+
+    -- who is taken doesn't run
+    not_taken : (v : Why) → WasReady a n v → a.turn ≡ turn.Run n → ⊥
+    not_taken v was to = let r = runs n to in grind arith
+
+    advanced_fits : (r u : Thread) → get s.threads n ≡ Some r → u.call ≡ r.call → u.script ≡ r.script → MayAdvance a n u.position →
+        (is_some (get a.base.calls u.call) ≡ true) × (u.position ≤ length (script_in (component_of a) (callee_of u.call a.base) u.script))
+    advanced_fits r u at call script may = by (get a.base.threads n) refl
+      where
+        by : (o : Option Thread) → get a.base.threads n ≡ o → (is_some (get a.base.calls u.call) ≡ true) × (u.position ≤ length (script_in (component_of a) (callee_of u.call a.base) u.script))
+        by None is = let there = runs n may.1.0 in absurd (grind arith)
+        by (Some b) is =
+            let same = (q n r at).same may.1.0 b is in
+            let there = known n may.0 in
+            let within = script_within (component_of a) a.base n u.position b is may.1.1 in
+            grind arith
+
+    position_after : (r u : Thread) → get s.threads n ≡ Some r → u.call ≡ r.call → RunsOn a n r u →
+        (u.position ≡ 0) ⊎ ((is_some (get a.base.calls u.call) ≡ true) × (u.position ≤ length (script_in (component_of a) (callee_of u.call a.base) u.script)))
+    position_after r u at call (inl (script, inl same)) = let f = (q n r at).position in grind arith
+    position_after r u at call (inl (script, inr may)) = inr (advanced_fits r u at call script may)
+    position_after r u at call (inr e) = inl e.1.1
+
+    same_after : (r u : Thread) → get s.threads n ≡ Some r → u.call ≡ r.call → RunsOn a n r u → a.turn ≡ turn.Run n →
+        (b : Thread) → get a.base.threads n ≡ Some b → (u.call ≡ b.call) × (u.script ≡ b.script)
+    same_after r u at call (inl e) to b is = let f = (q n r at).same to b is in (call ∙ f.0, e.0 ∙ f.1)
+    same_after r u at call (inr e) to b is = absurd (not_taken (why.Delivery e.0.1.0) e.0.1.1 to)
+
+    -- a thread that is made now wasn't there
+    made_new : {A : Type 0} → n ≡ next_thread s → (b : Thread) → get a.base.threads n ≡ Some b → A
+    made_new new b is = let c = go.counted in let d = (h.numbered.threads n b is).number in absurd (omega (arith, new, c, d))
+
+    fits_after : (t : Thread) → get (after_word w s).threads n ≡ Some t → FitsSo a n t
+    fits_after t at = by (thread_came w s ok n)
+      where
+        first : (r : Thread) → get s.threads n ≡ Some r → is_delivered t.place ≡ true → r.explicit ≡ false
+        first r is d = brings_first r is (brings a s n (after_word w s) _ _ refl (came_word w s ok n) (rw at d))
+
+        by : ThreadAfter a w s n → FitsSo a n t
+        by (IsSame r u e f c x h m z) = let same : t ≡ u = cc in rw same (record {
+          script = script_after r u e c x z;
+          call = λ y. let g = (q n r e).call in grind arith;
+          first = λ d. x ∙ first r e (rw same d);
+          position = position_after r u e c z;
+          same = same_after r u e c z;
+        })
+        by (IsGone e) = some_none (sym at ∙ e)
+        by (IsBeside u is l same m e) = let same : t ≡ new_thread (task_of m.0 a.base) true (script.Slot m.1.1.1.0) (registers_for (m.1.1.1.1.0 ∷ [])) None = cc in
+            let g = known m.0 m.1.0 in rw same (record {
+              script = m.1.1.1.1.1.1.1;
+              call = λ d. g;
+              first = λ d. absurd (subst T (sym d) tt);
+              position = inl refl;
+              same = λ to b at. made_new is b at;
+            })
+        by (IsFirst u is l there x y far new e z) = let same : t ≡ u = cc in rw same (record {
+          script = grind arith;
+          call = λ d. grind arith;
+          first = λ d. x;
+          position = inl z.1;
+          same = λ to b at. made_new is b at;
+        })
+
+  pub fits_word : (w : Word) (s : Core) → Allowed a w s → CallsGo a s → AllFit a s → AllFit a (after_word w s)
+  fits_word w s ok go q n t at = fits_after w s ok go q n t at

@@ -1,0 +1,12 @@
+ghost use Rattle.task_laws.specs.Exports.{InstancesStay, StepsKeepExports};
+
+/// Each call is of an export that the component has: each step keeps that, where the component
+/// has each export that main's script starts or that a script calls.
+pub fn calls_name_exports()
+    ensures { StepsKeepExports }
+{}
+
+/// No step makes an instance, or takes one away.
+pub fn instances_stay()
+    ensures { InstancesStay }
+{}
