@@ -538,9 +538,9 @@ module _ (x : Setting) (s : State) (l : Label) where
 op_row_leads : (x : Setting) (main : Main) (s : Core) (n : ℕ) (l : Label) (next : Turn) (ch : Choice) (o : Op) → op_of x.component n s ≡ o → Leads (running_scene x main s n l next) s (op_row x.component n s ch o)
 op_row_leads x main s n l next ch (op.Data o) is = data_row_leads x main s n l next (refl, op_stands x.component n s (ap is_exit_op is)) o
 op_row_leads x main s n l next ch (op.Task o) is = task_row_leads x main s n l next ch o is
-op_row_leads x main s n l next ch (op.Set o) is = set_row_leads x main s n l next (refl, op_stands x.component n s (ap is_exit_op is)) ch o
+op_row_leads x main s n l next ch (op.Set o) is = set_row_leads x main s n l next (refl, op_stands x.component n s (ap is_exit_op is)) ch o is
 op_row_leads x main s n l next ch (op.Call o) is = subtask_row_leads x main s n l next (refl, op_stands x.component n s (ap is_exit_op is)) o is
-op_row_leads x main s n l next ch (op.Thread o) is = thread_row_leads x main s n l next (refl, op_stands x.component n s (ap is_exit_op is)) o
+op_row_leads x main s n l next ch (op.Thread o) is = thread_row_leads x main s n l next (refl, op_stands x.component n s (ap is_exit_op is)) o is
 
 did_leads : (x : Setting) (main : Main) (s : Core) (n : ℕ) (l : Label) (next : Turn) (ch : Choice) → Leads (running_scene x main s n l next) s (did x.component n s ch)
 unfolding did

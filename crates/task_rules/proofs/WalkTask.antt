@@ -1,4 +1,5 @@
 -- The rows of ops as chains of words: what a row owes, the ops on registers and words, and the ops that end a task or an activation.
+use Rattle.task_rules.proofs.ChainLemmas.{Going}
 use Rattle.task_rules.proofs.SayLemmas.{said_is}
 use Rattle.task_rules.proofs.MuteLemmas.{is_mute, mute_words, none_said}
 use Rattle.task_rules.proofs.WalkEnds.{cancelled_rest, returned_rest, SameCall, cancelled_walks, returned_walks, still_told_to, unanswered}
@@ -183,13 +184,16 @@ module _ (x : Setting) (main : Main) (s : Core) (n : ℕ) (l : Label) (next : Tu
   }
 
   -- n goes on, as the label says
-  pub goes_on_saying : (k : Label) (t : Core) → is_plain k ≡ true → (l ≡ k → EndWords running_scene t) → (l ≡ k → Stay running_scene s t) → Leads running_scene s (Goes k t n)
-  goes_on_saying k t plain says c is to =
+  pub goes_on_told : (k : Label) (t : Core) → is_plain k ≡ true → (l ≡ k → next ≡ turn.Run n → EndWords running_scene t) → (l ≡ k → Going running_scene s n t) → Leads running_scene s (Goes k t n)
+  goes_on_told k t plain says c is to =
       let p = plain_quiet (is_quiet k) (is_exit k) plain in
-      (Remains t (c is) (λ m at. sym to ∙ at), quiet_ends (ap is_quiet is ∙ p.0) (λ m at. inl (sym to ∙ at)) (λ exit. absurd (subst T (sym exit ∙ (ap is_exit is ∙ p.1)) tt)) (says is))
+      (Remains t (c is to) (λ m at. sym to ∙ at), quiet_ends (ap is_quiet is ∙ p.0) (λ m at. inl (sym to ∙ at)) (λ exit. absurd (subst T (sym exit ∙ (ap is_exit is ∙ p.1)) tt)) (says is to))
+
+  pub goes_on_saying : (k : Label) (t : Core) → is_plain k ≡ true → (l ≡ k → EndWords running_scene t) → (l ≡ k → Going running_scene s n t) → Leads running_scene s (Goes k t n)
+  goes_on_saying k t plain says c = goes_on_told k t plain (λ is to. says is) c
 
   -- n goes on
-  pub goes_on : (k : Label) (t : Core) → is_still k ≡ true → Stay running_scene s t → Leads running_scene s (Goes k t n)
+  pub goes_on : (k : Label) (t : Core) → is_still k ≡ true → Going running_scene s n t → Leads running_scene s (Goes k t n)
   goes_on k t still c = let p = still_parts (is_plain k) (is_mute k) still in goes_on_saying k t p.0 (λ is. mute_words running_scene t (ap is_mute is ∙ p.1)) (λ is. c)
 
   -- no thread goes on
@@ -211,19 +215,19 @@ module _ (x : Setting) (main : Main) (s : Core) (n : ℕ) (l : Label) (next : Tu
 module _ {a : Scene} {b : Core} (n : ℕ) (is : IsRunner a n) where
   -- ---- Registers and words
 
-  pub moved_to_walks : (p : ℕ) {t : Core} → a.turn ≡ turn.Run n → p ≤ length (script_of (component_of a) n a.base) → Keep a b t → Stay a b (moved_to n p t)
+  pub moved_to_walks : (p : ℕ) {t : Core} → a.turn ≡ turn.Run n → p ≤ length (script_of (component_of a) n a.base) → Keep a b t → Going a b n (moved_to n p t)
   unfolding moved_to
-  moved_to_walks p {t = t} runs within c = Then t (Advance n p) (keep_stay c) (is, (runs, within))
+  moved_to_walks p {t = t} runs within c = λ to. Then t (Advance n p) (keep_stay c) (is, (runs, (to, within)))
 
-  pub advanced_walks : Stands a b n → {t : Core} → Keep a b t → Stay a b (advanced n t)
+  pub advanced_walks : Stands a b n → {t : Core} → Keep a b t → Going a b n (advanced n t)
   unfolding advanced
   advanced_walks on {t = t} c = moved_to_walks (position_of n t + 1) on.0 (let low = keep_position n c in let high = on.1 in omega (arith, low, high)) c
 
-  pub assigned_walks : Stands a b n → (r v : ℕ) {t : Core} → Keep a b t → Stay a b (assigned n r v t)
+  pub assigned_walks : Stands a b n → (r v : ℕ) {t : Core} → Keep a b t → Going a b n (assigned n r v t)
   unfolding assigned
   assigned_walks on r v c = advanced_walks on (word (SetRegister n r v) tt c)
 
-  pub answered_walks : Stands a b n → (r v : ℕ) {t : Core} → Keep a b t → Stay a b (answered n r v t)
+  pub answered_walks : Stands a b n → (r v : ℕ) {t : Core} → Keep a b t → Going a b n (answered n r v t)
   unfolding answered
   answered_walks on r v c = assigned_walks on r v (word (SetSavedCallee n None) tt c)
 
@@ -357,10 +361,10 @@ module _ (x : Setting) (main : Main) (s : Core) (n : ℕ) (l : Label) (next : Tu
   abbrev a : Scene
   a = running_scene x main s n l next
 
-  go_saying : (k : Label) (t : Core) → is_plain k ≡ true → (l ≡ k → EndWords a t) → (l ≡ k → Stay a s t) → Leads a s (Goes k t n)
-  go_saying k t plain says c = goes_on_saying x main s n l next k t plain says c
+  go_told : (k : Label) (t : Core) → is_plain k ≡ true → (l ≡ k → next ≡ turn.Run n → EndWords a t) → (l ≡ k → Going a s n t) → Leads a s (Goes k t n)
+  go_told k t plain says c = goes_on_told x main s n l next k t plain says c
 
-  go : (k : Label) (t : Core) → is_still k ≡ true → Stay a s t → Leads a s (Goes k t n)
+  go : (k : Label) (t : Core) → is_still k ≡ true → Going a s n t → Leads a s (Goes k t n)
   go k t plain c = goes_on x main s n l next k t plain c
 
   -- ---- The ops on registers and words
@@ -544,9 +548,9 @@ module _ (x : Setting) (main : Main) (s : Core) (n : ℕ) (l : Label) (next : Tu
       trap_if_leads a s (has_ended (task_of n s) s) trap.TaskCancelOrReturnTwice _ (λ unended.
       trap_if_leads a s (not (is_async_lifted (kind_of (task_of n s) s))) trap.TaskReturnInvalid _ (λ lifted.
       may_leads a s (may_tell (task_of n s) w s) _ (λ may.
-      go_saying (ret_label n v w) (ret_done n v w s) (ret_plain n v w)
-      (λ is. task_says status.Returned (ret_done n v w s) (ap (λ (k : Label). written_by x.component s k (ret_done n v w s)) is ∙ ret_writes x.component n v w s _) (ap (λ (y : Label). handed_by x.component main s y (ret_done n v w s)) is ∙ ret_hands x.component main n v w s (ret_done n v w s)) unended
-      (set_end (task_of n s) call_end.Returned s) (over_now (task_of n s) call_end.Returned s) (stay_walk (advanced_walks n refl (on_after_end on (task_of n s) call_end.Returned) (returned_rest (task_of n s) v w s (ap (λ (k : Label). written_by x.component s k s) is ∙ ret_writes x.component n v w s s) (told_to (task_of n s) w s may) NoWord))))
+      go_told (ret_label n v w) (ret_done n v w s) (ret_plain n v w)
+      (λ is to. task_says status.Returned (ret_done n v w s) (ap (λ (k : Label). written_by x.component s k (ret_done n v w s)) is ∙ ret_writes x.component n v w s _) (ap (λ (y : Label). handed_by x.component main s y (ret_done n v w s)) is ∙ ret_hands x.component main n v w s (ret_done n v w s)) unended
+      (set_end (task_of n s) call_end.Returned s) (over_now (task_of n s) call_end.Returned s) (stay_walk (advanced_walks n refl (on_after_end on (task_of n s) call_end.Returned) (returned_rest (task_of n s) v w s (ap (λ (k : Label). written_by x.component s k s) is ∙ ret_writes x.component n v w s s) (told_to (task_of n s) w s may) NoWord) to)))
       (λ is. advanced_walks n refl on (returned_walks (task_of n s) v w (ReturnsNow n refl refl unended (unnot (is_async_lifted (kind_of (task_of n s) s)) lifted) refl) (ap (λ (k : Label). written_by x.component s k s) is ∙ ret_writes x.component n v w s s) (told_to (task_of n s) w s may) NoWord)))))
 
   task_cancel_row_leads : Stands a s n → (w : Option ℕ) → Leads a s (task_cancel_row n w s)
@@ -555,9 +559,9 @@ module _ (x : Setting) (main : Main) (s : Core) (n : ℕ) (l : Label) (next : Tu
       trap_if_leads a s (not (cancel_was_delivered (task_of n s) s)) trap.TaskCancelNotCancelled _ (λ delivered.
       trap_if_leads a s (has_ended (task_of n s) s) trap.TaskCancelOrReturnTwice _ (λ unended.
       may_leads a s (may_tell (task_of n s) w s) _ (λ may.
-      go_saying (task_cancel_label n w) (task_cancel_done n w s) (task_cancel_plain n w)
-      (λ is. task_says status.ReturnCancelled (task_cancel_done n w s) (ap (λ (k : Label). written_by x.component s k (task_cancel_done n w s)) is ∙ task_cancel_writes x.component n w s _) (ap (λ (y : Label). handed_by x.component main s y (task_cancel_done n w s)) is ∙ task_cancel_hands x.component main n w s (task_cancel_done n w s)) unended
-      (set_end (task_of n s) call_end.ReturnCancelled s) (over_now (task_of n s) call_end.ReturnCancelled s) (stay_walk (advanced_walks n refl (on_after_end on (task_of n s) call_end.ReturnCancelled) (cancelled_rest (task_of n s) w s (ap (λ (k : Label). written_by x.component s k s) is ∙ task_cancel_writes x.component n w s s) (told_to (task_of n s) w s may) NoWord))))
+      go_told (task_cancel_label n w) (task_cancel_done n w s) (task_cancel_plain n w)
+      (λ is to. task_says status.ReturnCancelled (task_cancel_done n w s) (ap (λ (k : Label). written_by x.component s k (task_cancel_done n w s)) is ∙ task_cancel_writes x.component n w s _) (ap (λ (y : Label). handed_by x.component main s y (task_cancel_done n w s)) is ∙ task_cancel_hands x.component main n w s (task_cancel_done n w s)) unended
+      (set_end (task_of n s) call_end.ReturnCancelled s) (over_now (task_of n s) call_end.ReturnCancelled s) (stay_walk (advanced_walks n refl (on_after_end on (task_of n s) call_end.ReturnCancelled) (cancelled_rest (task_of n s) w s (ap (λ (k : Label). written_by x.component s k s) is ∙ task_cancel_writes x.component n w s s) (told_to (task_of n s) w s may) NoWord) to)))
       (λ is. advanced_walks n refl on (cancelled_walks (task_of n s) w (GivesUp n refl refl unended (unnot (cancel_was_delivered (task_of n s) s) delivered) refl) (ap (λ (k : Label). written_by x.component s k s) is ∙ task_cancel_writes x.component n w s s) (told_to (task_of n s) w s may) NoWord)))))
 
   dec_from_leads : Stands a s n → (b : ℕ) → Leads a s (dec_from n s b)
