@@ -1,10 +1,9 @@
 -- What holds along a chain of words.
-use Rattle.task_rules.specs.Allowed.{WasUnder}
+use Rattle.task_rules.proofs.Machine.{Advance, after_word, Allowed, Chain, Collapses, Core, Departs, EndsOver, GoesBack, inl, inr, IsFall, IsSettling, IsShift, Lands, LandsAt, MayGo, MayLand, Move, NoWord, Places, Placing, Pop, Promote, Put, Quits, refl, Remains, RemoveCall, RemoveGroup, RemoveThread, Scene, SetHowFar, Settles, SetTrapped, SetUninteresting, Stay, Stays, Then, Trip, Walk, WasUnder, Word, ℕ, ◌≡◌}
 use Rattle.task_machine.specs.declared.words.Mark.TheVariants as mark
 use Rattle.task_machine.specs.declared.records.Place.TheVariants as place
 use Rattle.task_machine.specs.declared.records.Turn.TheVariants as turn
 use Rattle.task_machine.specs.declared.records.HowFar.TheVariants as how_far
-use Rattle.task_rules.proofs.Machine.{Advance, after_word, Allowed, Chain, Collapses, Core, Departs, EndsOver, GoesBack, inl, inr, IsFall, IsSettling, IsShift, Lands, LandsAt, MayGo, MayLand, Move, NoWord, Places, Placing, Pop, Promote, Put, Quits, Remains, RemoveCall, RemoveGroup, RemoveThread, Scene, SetHowFar, Settles, SetTrapped, SetUninteresting, Stay, Stays, Then, Trip, Walk, Word, ℕ, ◌≡◌, refl}
 
 module _ {may : Word → Core → Type 0} where
   -- what holds at first and is kept by each word holds at last

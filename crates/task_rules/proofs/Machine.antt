@@ -57,7 +57,7 @@ pub use Rattle.task_machine.specs.declared.words.Mark.{Mark}
 pub use Rattle.task_machine.specs.declared.words.OwnEvent.{OwnEvent}
 pub use Rattle.task_machine.specs.declared.words.Phase.{Phase}
 pub use Rattle.task_machine.specs.declared.words.Status.{Status}
-pub use Rattle.task_rules.specs.Allowed.{AbortsOwn, Allowed, AwaitsEvent, Blocks, ByDelivery, ByHandle, ByOp, ByProgram, ByScript, BySetHandle, ByThread, ByWait, Cancels, ComesAgain, Departs, EndsActivation, EndsOver, Exits, Falls, FindsEvent, GivesUp, HasSet, HasSubtask, Holds, is_async_work, is_begun, is_done_host, is_exit, is_for_main, IsCalled, IsFall, IsFoot, IsLaid, IsNamed, IsNew, IsOwn, IsPolled, IsRunner, IsSettling, IsWithdrawn, Leaves, MayAbort, MayAdvance, MayBar, MayCall, MayCome, MayDeliver, MayEnd, MayFinish, MayGo, MayJoin, MayLand, MayLeave, MayMake, MayMakeCall, MayMove, MayNameCall, MayOwe, MayPut, MayRemoveWork, MayRestart, MayShift, MayStart, MayTell, MayWithdraw, MayYield, ProgramAborts, Releases, Resumes, ReturnsNow, Runs, SaysEnd, ScriptAborts, Starts, status_of_end, Stays, subtask_under_way, Suspends, Tells, Unblocks, Uncovers, Waits, WaitsAgain, wake_why, Wakes, WasReady, Yields}
+pub use Rattle.task_rules.specs.Allowed.{AbortsOwn, Allowed, AtOp, AwaitsEvent, Blocks, ByDelivery, ByHandle, ByOp, ByProgram, ByScript, BySetHandle, ByThread, ByWait, Cancels, CanCome, ComesAgain, Departs, EndsActivation, EndsOver, Exits, Falls, FindsEvent, GivesUp, HasSet, HasSubtask, Holds, InOp, is_async_work, is_begun, is_done_host, is_exit, is_for_main, IsCalled, IsFall, IsFoot, IsLaid, IsNamed, IsNew, IsOwn, IsPolled, IsRunner, IsSettling, IsWithdrawn, Leaves, MayAbort, MayAdvance, MayBar, MayCall, MayCome, MayDeliver, MayEnd, MayFinish, MayGo, MayJoin, MayLand, MayLeave, MayMake, MayMakeCall, MayMove, MayNameCall, MayOwe, MayPut, MayRemoveWork, MayRestart, MayShift, MayStart, MayTell, MayWithdraw, MayYield, ProgramAborts, Releases, Resumes, ReturnsNow, Runs, SaysEnd, ScriptAborts, Starts, status_of_end, Stays, subtask_under_way, Suspends, Tells, Unblocks, Uncovers, Waits, WaitsAgain, wake_why, Wakes, WasReady, WasUnder, Yields}
 pub use Rattle.task_rules.specs.Calls.{AtOnce, call_begins, call_clears_flag, call_host_polled, call_row, call_status, call_sync_begins, call_sync_host_polled, call_sync_host_row, call_sync_row, call_sync_status, enter_row, Failing, first_poll, FirstPoll, Later, new_call, new_thread, new_work, next_thread, next_work, put_back, settle_group_of, status_found, sync_sets_flag, work_group, work_value}
 unfoldable pub use Rattle.task_rules.specs.Calls.{answered, call_answered, call_made, call_pending, call_queues, call_resumes, call_returned, call_stops, call_sync_host_stops, call_sync_stops, enter_runs, host_answered, host_pending, host_ready, with_handle, with_thread_handle, work_answered, work_deleted, work_queued}
 pub use Rattle.task_rules.specs.Cancels.{aborted_phase, AlreadyEnded, Async, behind_switch, blocked_code, CallbackWaits, CallbackYields, cancel_by_end, cancel_case, cancel_ended_row, cancel_guest, cancel_label, cancel_row, cancel_subtask, CancelCase, drop_row, is_callback_wait, Mode, OtherwiseRuns, pauses, StartNotRun, subtask_instance, subtask_row, Sync}
@@ -72,13 +72,13 @@ pub use Rattle.task_rules.specs.Laws.{BlockingCheckIsAfter, CallbackCheckIsAfter
 pub use Rattle.task_rules.specs.MainOps.{Abort, act_of, advanced_main, Answer, Await, Does, Finish, finish_act, finish_result, finished_into, is_complete, is_spawn, is_spawn_caller, line_of, main_row, MainAct, MainProgress, may_act, op_at, Pends, Quiet, Ready, Spawn, spawned_at, Start, start_act, started_at, unless_pending}
 unfoldable pub use Rattle.task_rules.specs.MainOps.{has_interesting, is_ready_for_call, main_aborted, main_spawned, main_started, start_refusal}
 pub use Rattle.task_rules.specs.Once.{begun_holder, call_end_code, changes_end, course_code, covers_end, end_code, EndsOnce, handed, hands_out, hands_out_written, holder_at_exit, holder_at_start, holds_one, is_among, is_end_of, is_known, is_other, is_start, is_written, less_holder, returned_holder, same_end, with_end, with_holder, writes_end, written}
-pub use Rattle.task_rules.specs.OpParts.{callee_of_main_op, callee_of_op, ends_activation, is_code_op}
+pub use Rattle.task_rules.specs.OpParts.{callee_of_main_op, callee_of_op, can_come, ends_activation, is_cancel, is_code_op, is_sync_call, is_sync_cancel, is_sync_host_call, is_thread_op, is_wait, suspends, yields}
 pub use Rattle.task_rules.specs.Outcome.{main_outcome, outcome_of_label}
 pub use Rattle.task_rules.specs.Places.{entries, HasPlace, is_at_high, is_at_low, is_at_switch, is_behind_of, is_for_start, is_fresh, is_there, one_if, Placed, says, switch_entries, times}
 pub use Rattle.task_rules.specs.Progress.{Fails, Goes, may, Never, or_never, or_trap, Ordered, Progress, Stops, trap_if, Traps}
 pub use Rattle.task_rules.specs.Run.{opening, Run}
 pub use Rattle.task_rules.specs.Scenes.{base_at, base_without, component_of, op_in, runner_at, Scene, scene_of, thread_of_entry}
-pub use Rattle.task_rules.specs.Scripts.{export_kind, host_at, is_script, registers_for, script_in, script_of_thread, slot_at, value_of, values_in}
+pub use Rattle.task_rules.specs.Scripts.{export_kind, host_at, is_script, op_of_thread, registers_for, script_in, script_of_thread, slot_at, value_of, values_in}
 unfoldable pub use Rattle.task_rules.specs.Scripts.{op_of, script_of}
 pub use Rattle.task_rules.specs.Sets.{chosen, given_code, given_handle, given_result, handed_out, join_done, join_to, joins, may_wake_new, poll_row, set_drop_row, set_new_row, set_row, wait_begins, wait_goes_on, wait_row, wakes_joined}
 unfoldable pub use Rattle.task_rules.specs.Sets.{finds_nothing, joined, received, received_woken, set_dropped, set_given, set_made, wait_stops, wait_stops_checked}
