@@ -42,52 +42,13 @@ removed_still n m s h = grind (arith, nat_tests, get-remove)
 
 -- ---- A host call whose entry is taken
 
-set_stage_same : (i : ℕ) (n : ℕ) (w : Why) (t : Core) → set_stage i stage.Ended (put_high n w t) ≡ put_high n w (set_stage i stage.Ended t)
-unfolding set_stage on_work put_high push_high set_place on_thread
-set_stage_same i n w t = refl
-
-ended_unblocked : (i : ℕ) (o : Option ℕ) (t : Core) → set_stage i stage.Ended (unblocked o t) ≡ unblocked o (set_stage i stage.Ended t)
-ended_unblocked i None t = refl
-ended_unblocked i (Some n) t = set_stage_same i n why.Resumption t
-
-ended_waiter : (i n : ℕ) (t : Core) → is_callback_waiter n (set_stage i stage.Ended t) ≡ is_callback_waiter n t
-unfolding set_stage on_work
-ended_waiter i n t = refl
-
-ended_waken : (i : ℕ) (b : Bool) (x n : ℕ) (t : Core) → set_stage i stage.Ended (waken_by b x n t) ≡ waken_by b x n (set_stage i stage.Ended t)
-ended_waken i true x n t = set_stage_same i n (why.Delivery (delivery.Set x)) t
-ended_waken i false x n t = set_stage_same i n why.Resumption t
-
-ended_wake : (i x : ℕ) (w : Option ℕ) (t : Core) → set_stage i stage.Ended (wake x w t) ≡ wake x w (set_stage i stage.Ended t)
-unfolding wake
-ended_wake i x None t = refl
-ended_wake i x (Some n) t = ended_waken i (is_callback_waiter n t) x n t ∙ ap (λ b. waken_by b x n (set_stage i stage.Ended t)) (sym (ended_waiter i n t))
-
-ended_joined : (i : ℕ) (j : Join) (w : Option ℕ) (t : Core) → set_stage i stage.Ended (wake_joined j w t) ≡ wake_joined j w (set_stage i stage.Ended t)
-ended_joined i (join.Set x) w t = ended_wake i x w t
-ended_joined i join.Nowhere w t = refl
-ended_joined i (join.Watched n) w t = refl
-
-ended_event : (i : ℕ) (e : Option Status) (t : Core) → set_stage i stage.Ended (set_event (subtask.Host i) e t) ≡ set_event (subtask.Host i) e (set_stage i stage.Ended t)
-unfolding set_stage set_event on_work
-ended_event i e t =
-    ap (λ (m : Records Work). record t { works = m }) (change-change_same t.works i (λ (w : Work). record w { stage = stage.Ended }) (λ (w : Work). record w { event = e }) ∙ sym (change-change_same t.works i (λ (w : Work). record w { event = e }) (λ (w : Work). record w { stage = stage.Ended })))
-
 ended_join : (i : ℕ) (t : Core) → join_of (subtask.Host i) (set_stage i stage.Ended t) ≡ join_of (subtask.Host i) t
 unfolding set_stage on_work
 ended_join i t = work_read (λ w. w.join) join.Nowhere i (λ w. record w { stage = stage.Ended }) (λ w. refl) t.works
 
-ended_blocked : (i : ℕ) (t : Core) → blocked_on (subtask.Host i) (set_stage i stage.Ended t) ≡ blocked_on (subtask.Host i) t
-unfolding set_stage on_work blocked_on
-ended_blocked i t = refl
-
 ended_published : (i : ℕ) (e : Status) (w : Option ℕ) (t : Core) → set_stage i stage.Ended (published (subtask.Host i) e w t) ≡ published (subtask.Host i) e w (set_stage i stage.Ended t)
-unfolding published
-ended_published i e w t =
-    let sub = subtask.Host i in
-    let u = set_event sub (Some e) t in
-    ended_joined i (join_of sub t) w (unblocked (blocked_on sub t) u)
-    ∙ (ap₂ (λ j (v : Core). wake_joined j w v) (sym (ended_join i t)) (ended_unblocked i (blocked_on sub t) u ∙ ap₂ (λ o (v : Core). unblocked o v) (sym (ended_blocked i t)) (ended_event i (Some e) t)))
+unfolding published set_stage set_event on_work wake put_high push_high set_place on_thread blocked_on
+ended_published i e w t = grind (arith, nat_tests, get-change, change-change_same)
 
 ended_result : (i : ℕ) (f : WorkCaller) (v : Option ℕ) (t : Core) → set_stage i stage.Ended (host_result f v t) ≡ host_result f v (set_stage i stage.Ended t)
 unfolding set_stage on_work set_register on_thread
@@ -432,19 +393,8 @@ module _ (x : Setting) (s : State) (l : Label) where
   unfolding add_group
   script_call u p o scripted is e words at = ByScript p o scripted is (names o at) refl refl
     where
-      is_start_act : MainAct → Option Callee
-      is_start_act (Start f ws) = Some f
-      is_start_act _ = None
-
       names : (q : MainOpDef) → act_of p q ≡ Start e words → callee_of_main_op q ≡ Some e
-      names (main_op.Start f xs) h = ap is_start_act h
-      names (main_op.Finish k r) h = ap is_start_act h
-      names (main_op.Spawn k) h = ap is_start_act h
-      names (main_op.Abort k) h = ap is_start_act h
-      names (main_op.Await k) h = ap is_start_act h
-      names main_op.Quiet h = ap is_start_act h
-      names (main_op.Ready f) h = ap is_start_act h
-      names (main_op.Answer v) h = ap is_start_act h
+      names q h = grind arith
 
   script_step_walks : (u : Turn) (p : MainPlace) (o : Option MainOpDef) (t : State) → s.main ≡ Scripted p → op_at x.script p ≡ o → ScriptStep x s p o l t → WalkedBy (scene_at u None) s.core s.main t
   script_step_walks u p None t scripted at is = pends_here u t is.0 is.1
