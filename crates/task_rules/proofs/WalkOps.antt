@@ -45,28 +45,10 @@ use Rattle.task_machine.specs.declared.words.Status.TheVariants as status
 
 -- ---- What the rows read
 
-no_way : {A : Type 0} → false ≡ true → A
-no_way h = absurd (subst T (sym h) tt)
-
-abbrev is_returned : Status → Bool
-is_returned status.Returned = true
-is_returned _ = false
-
-flag_event : (sub : Subtask) (j : ℕ) (b : Bool) (s : Core) → event_of sub (set_do_not_suspend j b s) ≡ event_of sub s
-unfolding set_do_not_suspend on_instance
-flag_event sub j b s = grind arith
-
-flag_unsaved : (sub : Subtask) (n : ℕ) (t : Core) → event_of sub (set_saved_callee n None t) ≡ event_of sub t
-unfolding set_saved_callee on_thread
-flag_unsaved sub n t = grind arith
-
 -- a cancel that is resumed finds the event as it was
 event_resumed : (n : ℕ) (sub : Subtask) (s : Core) → event_of sub (cancel_resumed n sub s) ≡ event_of sub s
-unfolding cancel_resumed
-event_resumed n sub s = event_joined sub join.Nowhere _ ∙ (flag_unsaved sub n (put_back (saved_callee_of n s) (subtask_instance sub s) s) ∙ put_back_event (saved_callee_of n s))
-  where
-    put_back_event : (o : Option Bool) → event_of sub (put_back o (subtask_instance sub s) s) ≡ event_of sub s
-    put_back_event o = grind (arith, flag_event sub (subtask_instance sub s))
+unfolding cancel_resumed set_join on_call on_work set_saved_callee on_thread set_do_not_suspend on_instance
+event_resumed n sub s = grind (arith, nat_tests, get-change)
 
 pub queued_caller : (f : WorkCaller) (host : HostDef) (group : Option ℕ) (t : Core) → work_caller_of (next_work t) (work_queued f host group t) ≡ f
 unfolding work_queued push_high add_work count_work
@@ -95,23 +77,13 @@ answered_fresh n r v s = assigned_fresh n r v (set_saved_callee n None s)
 -- whose a call is, and which handle names it, is as before once the op that was inside of it goes on
 resumed_card : (n r v k : ℕ) (s : Core) → (caller_of k (answered n r v (call_resumes n k s)) ≡ caller_of k s) × (subtask_handle (subtask.Guest k) (answered n r v (call_resumes n k s)) ≡ subtask_handle (subtask.Guest k) s)
 unfolding answered assigned advanced moved_to set_how_far set_position on_thread set_register set_saved_callee call_resumes set_event on_call set_do_not_suspend on_instance
-resumed_card n r v k s = by_saved (saved_callee_of n s)
-  where
-    eventless : Core → Core
-    eventless t = record t { calls = change k (λ (c : Call). record c { event = None }) t.calls }
-
-    by_saved : (o : Option Bool) → (caller_of k (eventless (put_back o (call_instance k s) s)) ≡ caller_of k s) × (subtask_handle (subtask.Guest k) (eventless (put_back o (call_instance k s) s)) ≡ subtask_handle (subtask.Guest k) s)
-    by_saved None = (grind (arith, nat_tests, get-change), grind (arith, nat_tests, get-change))
-    by_saved (Some b) = (grind (arith, nat_tests, get-change), grind (arith, nat_tests, get-change))
+resumed_card n r v k s = grind (arith, nat_tests, get-change)
 
 -- the op is as far as it was while its strand stops
 resumed_far : (n k : ℕ) (s u : Core) → Shifted (checked (instance_of n s) (call_resumes n k s)) u → how_far_of n u ≡ how_far_of n s
 unfolding call_resumes set_event on_call set_do_not_suspend on_instance
-resumed_far n k s u d = shifted_far d n ∙ (shifted_far (shifts_shifted (checked_shifts (instance_of n s) (call_resumes n k s))) n ∙ by_saved (saved_callee_of n s))
-  where
-    by_saved : (o : Option Bool) → how_far_of n (put_back o (call_instance k s) s) ≡ how_far_of n s
-    by_saved None = refl
-    by_saved (Some b) = refl
+resumed_far n k s u d =
+    let c = shifted_far (shifts_shifted (checked_shifts (instance_of n s) (call_resumes n k s))) n in let e = shifted_far d n in grind arith
 
 settled_works : (o : Option ℕ) (i : ℕ) (s : Core) → (settle_group_of o (remove_work i s)).works ≡ remove s.works i
 unfolding group_settled remove_group remove_work
@@ -260,14 +232,12 @@ module _ (x : Setting) (main : Main) (s : Core) (n : ℕ) (l : Label) (next : Tu
 
   joined_walks : (sub : Subtask) (y w : Option ℕ) (o : Option Status) (t : Core) → t.threads ≡ s.threads → may_wake_new o y w s ≡ true → Keep a s t → Keep a s (wakes_joined o y w t)
   joined_walks sub (Some y) w (Some e) t same may c = shifted (wake_shifts y w t (λ m is. ap (λ (r : Records Thread). option_map_or (is_waiting_on y) (option_map (λ u. u.place) (get r m)) false) same ∙ chosen_of y w s may m is)) c
+  joined_walks sub y w None t same may c = c
   joined_walks sub None w (Some e) t same may c = c
-  joined_walks sub (Some y) w None t same may c = c
-  joined_walks sub None w None t same may c = c
 
   join_threads : (sub : Subtask) (j : Join) → (set_join sub j s).threads ≡ s.threads
   unfolding set_join on_call on_work
-  join_threads (subtask.Guest k) j = refl
-  join_threads (subtask.Host i) j = refl
+  join_threads sub j = grind arith
 
   join_done_leads : (sub : Subtask) (w y : Option ℕ) → MayJoin a sub (joins y) s → Leads a s (join_done n sub w s y)
   unfolding joined
@@ -323,10 +293,7 @@ module _ (x : Setting) (main : Main) (s : Core) (n : ℕ) (l : Label) (next : Tu
       goes_on_saying x main s n l next (label.Call (call_label.Call 2 n)) (call_returned n r k s) refl
       (λ is. call_says (call_label.Call 2 n) _ refl is (returned_out k (call_returned n r k s) far found (call_returned_gone n r k s)))
       (λ is. answered_walks n refl on r 2 (call_settled_walks k (call_resumes_walks n refl k has NoWord)))
-  call_status_leads r k status.Starting far found has = call_pending_leads r k status.Starting (λ h. no_way (ap is_returned h)) far
-  call_status_leads r k status.Started far found has = call_pending_leads r k status.Started (λ h. no_way (ap is_returned h)) far
-  call_status_leads r k status.StartCancelled far found has = call_pending_leads r k status.StartCancelled (λ h. no_way (ap is_returned h)) far
-  call_status_leads r k status.ReturnCancelled far found has = call_pending_leads r k status.ReturnCancelled (λ h. no_way (ap is_returned h)) far
+  call_status_leads r k e far found has = call_pending_leads r k e (λ h. absurd (cc)) far
 
   call_row_leads : (r q : ℕ) (e : Callee) (words : List ℕ) (f : HowFar) → callee_of_op (op_in a n) ≡ Some e → how_far_of n s ≡ f → Leads a s (call_row x.component n r q e words s f)
   call_row_leads r q e words (how_far.Calls (subtask.Guest k)) callee far = call_status_leads r k (status_found k s) far refl (by_call (subtask.Guest k) far)
@@ -344,10 +311,7 @@ module _ (x : Setting) (main : Main) (s : Core) (n : ℕ) (l : Label) (next : Tu
       goes_on_saying x main s n l next (label.Call (call_label.CallSync n (result_of k s))) (call_answered n r k s) refl
       (λ is. call_says (call_label.CallSync n (result_of k s)) _ refl is (returned_out k (call_answered n r k s) far found (call_answered_gone n r k s)))
       (λ is. answered_walks n refl on r (result_of k s) (call_settled_walks k (word (SetResult k None) tt (call_resumes_walks n refl k has NoWord))))
-  call_sync_status_leads r k status.Starting far found has = call_sync_pauses k far
-  call_sync_status_leads r k status.Started far found has = call_sync_pauses k far
-  call_sync_status_leads r k status.StartCancelled far found has = call_sync_pauses k far
-  call_sync_status_leads r k status.ReturnCancelled far found has = call_sync_pauses k far
+  call_sync_status_leads r k e far found has = call_sync_pauses k far
 
   enter_row_leads : (e : Callee) (words : List ℕ) → callee_of_op (op_in a n) ≡ Some e → is_async_lifted (export_kind x.component e) ≡ false → Leads a s (enter_row n e (export_kind x.component e) words s)
   enter_row_leads e words callee lifted =
@@ -382,7 +346,7 @@ module _ (x : Setting) (main : Main) (s : Core) (n : ℕ) (l : Label) (next : Tu
       let v = packed (new_handle (instance_of n s) s) status.Started in
       trap_if_leads a s (not (fits 1 s)) trap.TableFull _ (λ e.
       trap_if_leads a s (at_handle_limit s) trap.HandleLimit _ (λ f.
-      go _ (host_pending n r q v host s) (packed_is_not_two (new_handle (instance_of n s) s) status.Started (λ h. no_way (ap is_returned h))) (assigned_walks n refl on r v (word (NameWork (instance_of n s) (next_work s)) ((n, (refl, (refl, inr (refl, queued_made (work_caller.Async n q) host (Some (thread_group n s)) s)))), ap (λ f. is_async_work f) (queued_caller (work_caller.Async n q) host (Some (thread_group n s)) s))
+      go _ (host_pending n r q v host s) (packed_is_not_two (new_handle (instance_of n s) s) status.Started (λ h. absurd (cc))) (assigned_walks n refl on r v (word (NameWork (instance_of n s) (next_work s)) ((n, (refl, (refl, inr (refl, queued_made (work_caller.Async n q) host (Some (thread_group n s)) s)))), ap (λ f. is_async_work f) (queued_caller (work_caller.Async n q) host (Some (thread_group n s)) s))
       (word (QueueWork (work_caller.Async n q) host (Some (thread_group n s))) (refl, (refl, refl)) NoWord)))))
 
   host_stops_walks : (host : HostDef) → Leaves a n → Trip a s (call_sync_host_stops n host s)
@@ -436,12 +400,10 @@ module _ (x : Setting) (main : Main) (s : Core) (n : ℕ) (l : Label) (next : Tu
   }
     where
       writes_at : (m : Mode) → written_by x.component s (cancel_label m n (status_code e)) (cancel_takes_end n r sub e t) ≡ written_by_cancel x.component n s (status_code e)
-      writes_at Async = refl
-      writes_at Sync = refl
+      writes_at m = grind arith
 
       hands_at : (m : Mode) → handed_by x.component main s (cancel_label m n (status_code e)) (cancel_takes_end n r sub e t) ≡ handed_by_cancel x.component n s (status_code e)
-      hands_at Async = refl
-      hands_at Sync = refl
+      hands_at m = grind arith
 
   cancel_ended_row_leads : (mode : Mode) (r : ℕ) (sub : Subtask) (t : Core) (o : Option Status) → cancelled_of_op x.component n s (how_far_of n s) ≡ Some sub → undelivered_end (event_of sub s) ≡ o → HasSubtask a n sub → Keep a s t → Leads a s (cancel_ended_row mode n r sub t o)
   cancel_ended_row_leads mode r sub t None target found has c = tt
@@ -459,8 +421,7 @@ module _ (x : Setting) (main : Main) (s : Core) (n : ℕ) (l : Label) (next : Tu
   asks_walks k has says = word (SetOwnEvent k (Some own.Cancelled)) (inl (refl, ((n, (refl, has)), (says.1, says.0)))) NoWord
 
   cancel_writes : (mode : Mode) (t : Core) → written_by x.component s (cancel_label mode n 3) t ≡ option_map (end_for status.StartCancelled) (cancelled_of_op x.component n s (how_far_of n s))
-  cancel_writes Async t = refl
-  cancel_writes Sync t = refl
+  cancel_writes mode t = grind arith
 
   withdrawn_low : (k : ℕ) (e : CallEnd) → Stands a (set_end k e (after_word (Withdraw k) s)) n
   unfolding set_end on_call remove_thread
@@ -481,8 +442,7 @@ module _ (x : Setting) (main : Main) (s : Core) (n : ℕ) (l : Label) (next : Tu
       }
     where
       withdraw_hands : (m : Mode) → handed_by x.component main s (cancel_label m n 3) (cancel_withdraws n r k s) ≡ handed_by_cancel x.component n s 3
-      withdraw_hands Async = refl
-      withdraw_hands Sync = refl
+      withdraw_hands m = grind arith
 
   cancel_guest_leads : (mode : Mode) (r h k : ℕ) (y : CancelCase) → cancelled_of_op x.component n s (how_far_of n s) ≡ Some (subtask.Guest k) → cancel_case k s ≡ y → subtask_at (instance_of n s) h s ≡ Some (subtask.Guest k) → is_joined (join_of (subtask.Guest k) s) ≡ false → Leads a s (cancel_guest mode n r k s y)
   unfolding cancel_withdraws cancel_wakes_callback cancel_promotes_yield cancel_asks set_own_event on_call
@@ -623,12 +583,7 @@ module _ (x : Setting) (main : Main) (s : Core) (n : ℕ) (l : Label) (next : Tu
       by_far : (f : HowFar) → Leads a s (by_how_far f n (label.Thread k) s (row (label.Thread k)))
       by_far how_far.Suspends = go (label.Thread k) (advanced n s) plain (advanced_walks n refl on NoWord)
       by_far how_far.Yields = go (label.Thread k) (advanced n s) plain (advanced_walks n refl on NoWord)
-      by_far how_far.Fresh = leads
-      by_far (how_far.Waits y) = leads
-      by_far (how_far.Calls y) = leads
-      by_far (how_far.Answered y) = leads
-      by_far (how_far.Cancels y) = leads
-      by_far (how_far.AwaitsEnd y) = leads
+      by_far f = leads
 
   pub thread_row_leads : (o : ThreadOp) → Leads a s (thread_row x.component n s o)
   thread_row_leads (thread_op.New r y v) = thread_new_row_leads r y (value_of n s v) (slot_at x.component (instance_of n s) y) refl
