@@ -2,7 +2,6 @@
 use Rattle.task_rules.proofs.Machine.{activated, activated_woken, admits, ap, arith, at_handle_limit, backpressure_of, begun_holder, Bool, Call, Choice, chosen, cond, Core, delivered, delivery_row, end_for, EndWords, event_label, ExportKind, false, foot_of, get, Gift, gift, give_thread_handle, Given, given_for, Goes, handed_by, handed_by_event, handed_on, handed_out, HandsOut, held_label, holder_at_start, Holds, host_label, if◌then◌else◌, inl, inr, instance_of, is_begun, is_exit, is_explicit, is_free, is_holding, is_none, is_running, is_some, is_start, is_sync, is_told, IsLaid, kind_of, Label, LastWords, Main, Mark, may, may_hand_on, may_not_enter, may_tell, may_tell_starting, MayDeliver, MayMove, MemberGift, Move, moved_to, NameThread, nat_tests, NoGift, None, not, NoWord, on_call, on_instance, on_thread, Option, option_map_or, outcome_of_label, own_delivered, own_gift_of, own_gift_only, own_or_nothing, OwnEvent, OwnGift, Place, place_of, published, Records, refl, Restart, running, Runs, Scene, set_delivered, set_do_not_enter, set_event, set_given, set_how_far, set_place, set_position, set_script, set_started, set_starting_published, set_thread_handle, SetDoNotEnter, SetStarted, SetStartingPublished, Setting, Some, start_admitted, start_begins, start_holds, start_row, start_sets_flags, starting_is_published, starting_told, Status, stopped, Stops, subst, Subtask, sym, T, take_holds, take_label, taken, TakesEvent, taking, task_of, thread_taken, told, true, Turn, unwrap_or, wait_again, WaitsAgain, was_started, WasReady, Why, with_thread_handle, written_by, ℕ, ◌&&◌, ◌==◌, ◌||◌, ◌∙◌, ◌≡◌}
 use Rattle.task_machine.specs.declared.records.Delivery.{Delivery}
 use Rattle.task_machine.proofs.CommuteLemmas.{get-change}
-use Rattle.task_machine.specs.declared.words.OwnEvent.TheVariants as own
 use Rattle.task_rules.proofs.MuteLemmas.{is_mute, mute_words, none_said}
 use Rattle.task_rules.proofs.SayLemmas.{activated_on_gone, given_says, HasNoEnd}
 use Rattle.task_machine.specs.declared.records.Subtask.TheVariants as subtask
