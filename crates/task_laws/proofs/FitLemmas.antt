@@ -179,7 +179,7 @@ module _ (a : Scene) (codes : CodesInCallbacks (component_of a)) (h : CallsHold 
         let kept = at_it.1 (runs n at_it.0) (h.numbered.threads n b.0 b.1.0).number (grind arith) in
         let position : r.position ≡ b.0.position = grind (arith, kept, at, b.1.0) in
         let op : op_of_thread (component_of a) a.base u ≡ op_in a n =
-            op_same (component_of a) a.base u b.0 (is.0 ∙ same.0, (is.1.0 ∙ same.1, is.1.1 ∙ position)) ∙ sym (op_there (component_of a) a.base n b.0 b.1.0) in
+        op_same (component_of a) a.base u b.0 (is.0 ∙ same.0, (is.1.0 ∙ same.1, is.1.1 ∙ position)) ∙ sym (op_there (component_of a) a.base n b.0 b.1.0) in
         (ap (λ k. is_some (get a.base.calls k)) (is.0 ∙ same.0) ∙ there n b.0 b.1.0, ap test op ∙ passes)
 
     of_base : (r u : Thread) (test : Op → Bool) → SameOp u r → OfBase a r test → OfBase a u test

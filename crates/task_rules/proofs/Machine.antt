@@ -19,7 +19,7 @@ unfoldable pub use Rattle.task_machine.specs.Moves.{behind_one, call_settled, ch
 pub use Rattle.task_machine.specs.Read.{admits, as_set, as_subtask, backpressure_of, call_group, call_instance, callee_of, caller_of, callers_of, cancel_was_delivered, course_of, course_value, end_of, event_of, first_at, first_in, foot_from, goal_of, handle_of_table, has_ended, held_why, how_far_of, instance_of, is_aborted, is_async_lifted, is_at, is_blocked_on, is_callback, is_callback_yield, is_direct, is_end, is_entry_in, is_entry_of, is_explicit, is_guest_call, is_held_admitted, is_holding, is_joined, is_live, is_member, is_nil, is_ready_to_resume, is_stage_ended, is_stage_live, is_sync, is_under, is_waiter, is_waiting_on, is_watched, is_yielded, join_of, kind_of, may_not_enter, may_not_suspend, named_by, next_handle, no_callee, or_high, own_event_of, phase_of, place_of, position_of, register_of, registers_of, result_of, same_subtask, saved_callee_of, saved_own_of, set_at, stage_of, strand_from, subtask_at, subtask_ended, subtask_handle, task_of, thread_at, thread_group, thread_handle_of, undelivered_end, was_cancelled, was_started, work_caller_of}
 unfoldable pub use Rattle.task_machine.specs.Read.{admitted_held, at_handle_limit, blocked_on, fits, foot_of, has_member, has_thread, has_waiter, has_waiters, new_handle, new_thread_handle, next_entry, strand_of, under_of}
 pub use Rattle.task_machine.specs.Statuses.{packed, status_code}
-pub use Rattle.task_machine.specs.Write.{giving, less_one, remove_threads, taking, with_high, with_switch}
+pub use Rattle.task_machine.specs.Write.{giving, less_one, remove_threads, taking, with_high}
 unfoldable pub use Rattle.task_machine.specs.Write.{add_call, add_group, add_set, add_thread, add_work, count_work, free_handle, free_thread_handle, give_handle, give_result, give_thread_handle, on_call, on_instance, on_thread, on_work, push_high, push_high_first, push_low, remove_call, remove_group, remove_set, remove_thread, remove_work, set_backpressure, set_callers, set_cancel_delivered, set_cancelled, set_course, set_do_not_enter, set_do_not_suspend, set_end, set_event, set_exited, set_high, set_how_far, set_join, set_low, set_own_event, set_phase, set_place, set_position, set_register, set_result, set_saved_callee, set_saved_own, set_script, set_stage, set_started, set_starting_published, set_subtask_handle, set_switch, set_thread_handle, set_trapped, set_uninteresting, set_word, take_result}
 pub use Rattle.task_machine.specs.declared.component.Callee.{Callee}
 pub use Rattle.task_machine.specs.declared.component.Component.{Component}

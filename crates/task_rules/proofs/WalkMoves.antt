@@ -313,30 +313,10 @@ module _ {a : Scene} {b : Core} where
   pub exits_trip : (n : ℕ) {t : Core} → Leaves a n → Left a b n t → Trip a b t
   exits_trip n {t = t} leave e = Quits e.before t n (keep_stay e.stays) leave e.settles
 
-settled_threads : (k : ℕ) (s : Core) → (call_settled k s).threads ≡ s.threads
-unfolding call_settled group_settled remove_group remove_call
-settled_threads k s = grind arith
-
-interest_threads : (k : ℕ) (s : Core) → (interest_settled k s).threads ≡ s.threads
-unfolding interest_settled set_uninteresting on_call
-interest_threads k s = grind arith
-
-freed_threads : (i : ℕ) (o : Option ℕ) (s : Core) → (freed_thread_handle i o s).threads ≡ s.threads
-unfolding free_thread_handle
-freed_threads i o s = grind arith
-
-exited_threads : (explicit : Bool) (k : ℕ) (s : Core) → (exited_if explicit k s).threads ≡ s.threads
-unfolding set_exited on_call
-exited_threads explicit k s = grind arith
-
 -- who ends is gone, and the other threads stay
 pub ended_threads : (n : ℕ) (s : Core) → (ended n s).threads ≡ remove s.threads n
-unfolding ended remove_thread
-ended_threads n s =
-    let x = exited_if (is_explicit n s) (task_of n s) s in
-    let f = freed_thread_handle (instance_of n s) (thread_handle_of n s) x in
-    let t = interest_settled (task_of n s) (remove_thread n f) in
-    settled_threads (task_of n s) t ∙ (interest_threads (task_of n s) (remove_thread n f) ∙ ap (λ (m : Records Thread). remove m n) (freed_threads (instance_of n s) (thread_handle_of n s) x ∙ exited_threads (is_explicit n s) (task_of n s) s))
+unfolding ended remove_thread call_settled group_settled remove_group remove_call interest_settled set_uninteresting on_call free_thread_handle set_exited
+ended_threads n s = grind arith
 
 pub ended_gone : (n : ℕ) (s : Core) → get (ended n s).threads n ≡ None
 ended_gone n s = ap (λ (m : Records Thread). get m n) (ended_threads n s) ∙ get-remove_same s.threads n

@@ -1,25 +1,22 @@
 -- The rows of the ops on sets, subtasks and threads as chains of words.
-use Rattle.task_rules.proofs.Machine.{[], aborted_phase, AbortsOwn, add_work, advanced, after_word, AlreadyEnded, answered, Answers, ap, arith, assigned, Async, at_handle_limit, AtOnce, blocked_code, Bool, ByHandle, ByOp, BySetHandle, ByThread, ByWait, Call, call_answered, call_begins, call_host_polled, call_instance, call_of_op, call_pending, call_queues, call_resumes, call_returned, call_row, call_status, call_sync_begins, call_sync_host_polled, call_sync_host_row, call_sync_host_stops, call_sync_row, call_sync_status, call_sync_stops, CallbackWaits, CallbackYields, Callee, callee_of_op, CallEnd, caller_of, CallLabel, cancel_aborts_host, cancel_asks, cancel_by_end, cancel_case, cancel_ended_row, cancel_guest, cancel_label, cancel_promotes_yield, cancel_resumed, cancel_row, cancel_stops, cancel_subtask, cancel_takes_end, cancel_target, cancel_wakes_callback, cancel_withdraws, CancelCase, cancelled_of_op, Cancels, change, checked, Choice, chosen, CloseSet, Core, count_work, CountWork, drop_row, dropped, end_for, ended, EndsSubtask, EndWords, enter_row, enter_runs, event_of, export_kind, Failing, false, finds_nothing, first_poll, FirstPoll, fits, free_handle, get, get-remove, Gift, gift, Goal, Goes, group_settled, handed_by, handed_by_call, handed_by_cancel, handed_by_event, handed_by_set, handed_on, handed_out, HandsAtOnce, HandsOut, has_ended, has_member, has_waiters, HasSubtask, host_answered, host_at, host_end, host_pending, host_ready, HostDef, how_far_of, HowFar, inl, inr, instance_of, is_async_lifted, is_async_work, is_callback_yield, is_cancel, is_direct, is_for_main, is_joined, is_ready_to_resume, is_script, is_some, is_stage_ended, is_sync_call, is_sync_cancel, is_sync_host_call, is_thread_op, is_wait, is_waiting_on, is_watched, is_yielded, IsNamed, IsNew, IsReadyAtOnce, Join, join_done, join_label, join_of, join_to, joined, joins, Label, Later, Leaves, List, Made, Main, MakeThread, Mark, may, may_hand_on, may_wake_new, MayJoin, MayMakeCall, MemberGift, Mode, Move, moved_to, NameCall, NameThread, NameWork, nat_tests, new_handle, new_thread, new_thread_handle, new_work, next_thread, next_work, NoGift, None, not, NoWord, on_call, on_instance, on_thread, on_work, Op, op_in, op_of, OpenSet, Option, option_map, option_map_or, OtherwiseRuns, OwnGift, packed, passes_check, pauses, phase_of, Place, place_of, poll_row, Progress, promoted_unless, push_high, Put, put_back, put_switch, QueueWork, received, received_woken, Records, refl, registers_for, registers_of, remove, remove_group, remove_thread, remove_work, result_of, Resumes, returned_of_op, saved_callee_of, says, Scene, set_at, set_do_not_suspend, set_drop_row, set_dropped, set_end, set_event, set_how_far, set_join, set_made, set_new_row, set_own_event, set_position, set_register, set_row, set_saved_callee, set_subtask_handle, SetCancelled, SetExited, SetLabel, SetOwnEvent, SetPhase, SetRegister, SetResult, SetSavedCallee, Setting, settle_group_of, SetUninteresting, Shifts, slot_at, Some, stage_of, StartNotRun, Status, status_code, status_found, Stay, Stops, subst, Subtask, subtask_at, subtask_ended, subtask_handle, subtask_instance, subtask_row, subtask_under_way, suc, Suspends, suspends, sym, Sync, T, TakesEvent, task_of, Then, Thread, thread_at, thread_group, thread_handle_of, trap_if, Trip, true, Turn, undelivered_end, UnnameCall, UnnameWork, unwrap_or, value_of, values_in, wait_begins, wait_goes_on, wait_label, wait_row, wait_stops, wait_stops_checked, wakes_joined, Walk, was_cancelled, was_started, Why, Withdraw, withdrawn, Work, work_answered, work_caller_of, work_deleted, work_group, work_queued, work_value, WorkCaller, Writes, WritesAtOnce, WritesCall, WritesNever, WritesToo, written_by, written_by_call, written_by_cancel, Yields, yields, zero, ℕ, ◌&&◌, ◌+◌, ◌==◌, ◌∙◌, ◌∷◌, ◌≡◌, ◌⊎◌}
+use Rattle.task_rules.proofs.Machine.{[], aborted_phase, AbortsOwn, add_work, advanced, after_word, AlreadyEnded, answered, Answers, ap, arith, assigned, Async, at_handle_limit, AtOnce, blocked_code, Bool, ByHandle, ByOp, BySetHandle, ByThread, ByWait, Call, call_answered, call_begins, call_host_polled, call_of_op, call_pending, call_queues, call_resumes, call_returned, call_row, call_status, call_sync_begins, call_sync_host_polled, call_sync_host_row, call_sync_host_stops, call_sync_row, call_sync_status, call_sync_stops, CallbackWaits, CallbackYields, Callee, callee_of_op, CallEnd, caller_of, CallLabel, cancel_aborts_host, cancel_asks, cancel_by_end, cancel_case, cancel_ended_row, cancel_guest, cancel_label, cancel_promotes_yield, cancel_resumed, cancel_row, cancel_stops, cancel_subtask, cancel_takes_end, cancel_target, cancel_wakes_callback, cancel_withdraws, CancelCase, cancelled_of_op, Cancels, change, checked, Choice, chosen, CloseSet, Core, count_work, CountWork, drop_row, dropped, end_for, ended, EndsSubtask, EndWords, enter_row, enter_runs, event_of, export_kind, Failing, false, finds_nothing, first_poll, FirstPoll, fits, free_handle, get, get-remove, Gift, gift, Goal, Goes, group_settled, handed_by, handed_by_call, handed_by_cancel, handed_by_event, handed_by_set, handed_on, handed_out, HandsAtOnce, HandsOut, has_ended, has_member, has_waiters, HasSubtask, host_answered, host_at, host_end, host_pending, host_ready, HostDef, how_far_of, HowFar, inl, inr, instance_of, is_async_lifted, is_async_work, is_callback_yield, is_cancel, is_direct, is_for_main, is_joined, is_ready_to_resume, is_script, is_some, is_stage_ended, is_sync_call, is_sync_cancel, is_sync_host_call, is_thread_op, is_wait, is_waiting_on, is_watched, is_yielded, IsNamed, IsNew, IsReadyAtOnce, Join, join_done, join_label, join_of, join_to, joined, joins, Label, Later, Leaves, List, Made, Main, MakeThread, Mark, may, may_hand_on, may_wake_new, MayJoin, MayMakeCall, MemberGift, Mode, Move, moved_to, NameCall, NameThread, NameWork, nat_tests, new_handle, new_thread, new_thread_handle, new_work, next_thread, next_work, NoGift, None, not, NoWord, on_call, on_instance, on_thread, on_work, Op, op_in, op_of, OpenSet, Option, option_map, option_map_or, OtherwiseRuns, OwnGift, packed, passes_check, pauses, phase_of, Place, place_of, poll_row, Progress, promoted_unless, push_high, Put, put_back, put_switch, QueueWork, received, received_woken, Records, refl, registers_for, registers_of, remove, remove_group, remove_thread, remove_work, result_of, Resumes, returned_of_op, saved_callee_of, says, Scene, set_at, set_do_not_suspend, set_drop_row, set_dropped, set_end, set_event, set_how_far, set_join, set_made, set_new_row, set_own_event, set_position, set_register, set_row, set_saved_callee, set_subtask_handle, SetCancelled, SetExited, SetLabel, SetOwnEvent, SetPhase, SetRegister, SetResult, SetSavedCallee, Setting, settle_group_of, SetUninteresting, Shifts, slot_at, Some, stage_of, StartNotRun, Status, status_code, status_found, Stay, Stops, subst, Subtask, subtask_at, subtask_ended, subtask_handle, subtask_instance, subtask_row, subtask_under_way, suc, Suspends, suspends, sym, Sync, T, TakesEvent, task_of, Then, Thread, thread_at, thread_group, thread_handle_of, trap_if, Trip, true, Turn, undelivered_end, UnnameCall, UnnameWork, unwrap_or, value_of, values_in, wait_begins, wait_goes_on, wait_label, wait_row, wait_stops, wait_stops_checked, wakes_joined, Walk, was_cancelled, was_started, Why, Withdraw, withdrawn, Work, work_answered, work_caller_of, work_deleted, work_group, work_queued, work_value, WorkCaller, Writes, WritesAtOnce, WritesCall, WritesNever, WritesToo, written_by, written_by_call, written_by_cancel, Yields, yields, zero, ℕ, ◌&&◌, ◌+◌, ◌==◌, ◌∙◌, ◌∷◌, ◌≡◌, ◌⊎◌}
 use Rattle.task_machine.specs.declared.component.Slot.{Slot}
 use Rattle.task_machine.specs.declared.label.ThreadLabel.{ThreadLabel}
 use Rattle.task_machine.specs.declared.op.CallOp.{CallOp}
 use Rattle.task_machine.specs.declared.op.SetOp.{SetOp}
 use Rattle.task_machine.specs.declared.op.ThreadOp.{ThreadOp}
 use Rattle.task_rules.specs.Threads.{by_how_far, Halt, halt_row, halted, halted_checked, halted_promoting, halted_resuming, halting, halts, has_yielded, resume_later_row, resume_why, resumed_later, Suspension, then_promote, then_promote_row, then_resume_row, thread_made, thread_new_row, thread_row, Yielding}
-use Rattle.task_rules.proofs.ChainLemmas.{Going}
-use Rattle.task_rules.proofs.WalkMoves.{keep_still}
-use Rattle.task_rules.proofs.WalkParts.{AtOps}
+use Rattle.task_rules.proofs.ChainLemmas.{Going, join, stay_walk, Keep, keep_stay}
+use Rattle.task_rules.proofs.WalkMoves.{keep_still, MayTake, call_settled_walks, checked_shifts, chosen_of, handed_on_shifts, shifted, wake_shifts, word, lands_at, promoted_walks}
+use Rattle.task_rules.proofs.WalkParts.{AtOps, call_queues_walks, call_resumes_walks, call_stops_walks, cancel_goes_behind_walks, cancel_plain, cancel_stops_walks, cancel_takes_end_walks, checked_walks, enter_gives, enter_runs_walks, freed_named, gift_is, join_plain, join_walks, put_back_walks, received_walks, set_none_join, stopped_walks, wait_plain, wait_stops_walks, withdrawn_walks, work_deleted_walks, work_unnamed, withdraws, answered_first, far_fresh, answered_unnamed}
 use Rattle.task_machine.proofs.MapLemmas.{get-insert_same, get-remove_same}
 use Rattle.task_machine.proofs.CommuteLemmas.{get-change}
-use Rattle.task_rules.proofs.ChainLemmas.{join, stay_walk, Keep, keep_stay}
 use Rattle.task_machine.specs.declared.label.SetLabel.TheVariants as set_label
 use Rattle.task_rules.proofs.MuteLemmas.{is_mute, mute_words, none_said}
 use Rattle.task_rules.proofs.SayLemmas.{call_answered_gone, call_returned_gone, cancel_hands_of, cancel_taken_gone, cancel_writes_of, event_joined, event_owed, found_returned, given_says, packed_is_not_two, received_gone, received_woken_gone, HasNoEnd, event_aborted, said_is}
 use Rattle.task_rules.proofs.CancelLemmas.{CaseSays, case_says}
 use Rattle.task_rules.proofs.PlacingLemmas.{Shifted, placed, shifted_far, shifted_made, shifted_task, shifts_shifted}
 use Rattle.task_rules.proofs.StandLemmas.{by_number}
-use Rattle.task_rules.proofs.WalkMoves.{MayTake, call_settled_walks, checked_shifts, chosen_of, handed_on_shifts, shifted, wake_shifts, word, lands_at, promoted_walks}
-use Rattle.task_rules.proofs.WalkParts.{call_queues_walks, call_resumes_walks, call_stops_walks, cancel_goes_behind_walks, cancel_plain, cancel_stops_walks, cancel_takes_end_walks, checked_walks, enter_gives, enter_runs_walks, freed_named, gift_is, join_plain, join_walks, put_back_walks, received_walks, set_none_join, stopped_walks, wait_plain, wait_stops_walks, withdrawn_walks, work_deleted_walks, work_unnamed, withdraws, answered_first, far_fresh, answered_unnamed}
 use Rattle.task_rules.proofs.WalkTask.{Stands, Leads, advanced_walks, answered_walks, assigned_walks, goes_on, goes_on_saying, goes_on_told, goes_over, may_leads, or_never_leads, or_trap_leads, running_scene, stops_here, trap_if_leads, unnot, is_still, over_now}
 use Rattle.task_machine.specs.declared.component.Slot.TheVariants as slot
 use Rattle.task_machine.specs.declared.label.CallLabel.TheVariants as call_label
@@ -48,28 +45,10 @@ use Rattle.task_machine.specs.declared.words.Status.TheVariants as status
 
 -- ---- What the rows read
 
-no_way : {A : Type 0} → false ≡ true → A
-no_way h = absurd (subst T (sym h) tt)
-
-abbrev is_returned : Status → Bool
-is_returned status.Returned = true
-is_returned _ = false
-
-flag_event : (sub : Subtask) (j : ℕ) (b : Bool) (s : Core) → event_of sub (set_do_not_suspend j b s) ≡ event_of sub s
-unfolding set_do_not_suspend on_instance
-flag_event sub j b s = grind arith
-
-flag_unsaved : (sub : Subtask) (n : ℕ) (t : Core) → event_of sub (set_saved_callee n None t) ≡ event_of sub t
-unfolding set_saved_callee on_thread
-flag_unsaved sub n t = grind arith
-
 -- a cancel that is resumed finds the event as it was
 event_resumed : (n : ℕ) (sub : Subtask) (s : Core) → event_of sub (cancel_resumed n sub s) ≡ event_of sub s
-unfolding cancel_resumed
-event_resumed n sub s = event_joined sub join.Nowhere _ ∙ (flag_unsaved sub n (put_back (saved_callee_of n s) (subtask_instance sub s) s) ∙ put_back_event (saved_callee_of n s))
-  where
-    put_back_event : (o : Option Bool) → event_of sub (put_back o (subtask_instance sub s) s) ≡ event_of sub s
-    put_back_event o = grind (arith, flag_event sub (subtask_instance sub s))
+unfolding cancel_resumed set_join on_call on_work set_saved_callee on_thread set_do_not_suspend on_instance
+event_resumed n sub s = grind (arith, nat_tests, get-change)
 
 pub queued_caller : (f : WorkCaller) (host : HostDef) (group : Option ℕ) (t : Core) → work_caller_of (next_work t) (work_queued f host group t) ≡ f
 unfolding work_queued push_high add_work count_work
@@ -98,23 +77,13 @@ answered_fresh n r v s = assigned_fresh n r v (set_saved_callee n None s)
 -- whose a call is, and which handle names it, is as before once the op that was inside of it goes on
 resumed_card : (n r v k : ℕ) (s : Core) → (caller_of k (answered n r v (call_resumes n k s)) ≡ caller_of k s) × (subtask_handle (subtask.Guest k) (answered n r v (call_resumes n k s)) ≡ subtask_handle (subtask.Guest k) s)
 unfolding answered assigned advanced moved_to set_how_far set_position on_thread set_register set_saved_callee call_resumes set_event on_call set_do_not_suspend on_instance
-resumed_card n r v k s = by_saved (saved_callee_of n s)
-  where
-    eventless : Core → Core
-    eventless t = record t { calls = change k (λ (c : Call). record c { event = None }) t.calls }
-
-    by_saved : (o : Option Bool) → (caller_of k (eventless (put_back o (call_instance k s) s)) ≡ caller_of k s) × (subtask_handle (subtask.Guest k) (eventless (put_back o (call_instance k s) s)) ≡ subtask_handle (subtask.Guest k) s)
-    by_saved None = (grind (arith, nat_tests, get-change), grind (arith, nat_tests, get-change))
-    by_saved (Some b) = (grind (arith, nat_tests, get-change), grind (arith, nat_tests, get-change))
+resumed_card n r v k s = grind (arith, nat_tests, get-change)
 
 -- the op is as far as it was while its strand stops
 resumed_far : (n k : ℕ) (s u : Core) → Shifted (checked (instance_of n s) (call_resumes n k s)) u → how_far_of n u ≡ how_far_of n s
 unfolding call_resumes set_event on_call set_do_not_suspend on_instance
-resumed_far n k s u d = shifted_far d n ∙ (shifted_far (shifts_shifted (checked_shifts (instance_of n s) (call_resumes n k s))) n ∙ by_saved (saved_callee_of n s))
-  where
-    by_saved : (o : Option Bool) → how_far_of n (put_back o (call_instance k s) s) ≡ how_far_of n s
-    by_saved None = refl
-    by_saved (Some b) = refl
+resumed_far n k s u d =
+    let c = shifted_far (shifts_shifted (checked_shifts (instance_of n s) (call_resumes n k s))) n in let e = shifted_far d n in grind arith
 
 settled_works : (o : Option ℕ) (i : ℕ) (s : Core) → (settle_group_of o (remove_work i s)).works ≡ remove s.works i
 unfolding group_settled remove_group remove_work
@@ -266,14 +235,12 @@ module _ (x : Setting) (main : Main) (s : Core) (n : ℕ) (l : Label) (next : Tu
 
   joined_walks : (sub : Subtask) (y w : Option ℕ) (o : Option Status) (t : Core) → t.threads ≡ s.threads → may_wake_new o y w s ≡ true → Keep a s t → Keep a s (wakes_joined o y w t)
   joined_walks sub (Some y) w (Some e) t same may c = shifted (wake_shifts y w t (λ m is. ap (λ (r : Records Thread). option_map_or (is_waiting_on y) (option_map (λ u. u.place) (get r m)) false) same ∙ chosen_of y w s may m is)) c
+  joined_walks sub y w None t same may c = c
   joined_walks sub None w (Some e) t same may c = c
-  joined_walks sub (Some y) w None t same may c = c
-  joined_walks sub None w None t same may c = c
 
   join_threads : (sub : Subtask) (j : Join) → (set_join sub j s).threads ≡ s.threads
   unfolding set_join on_call on_work
-  join_threads (subtask.Guest k) j = refl
-  join_threads (subtask.Host i) j = refl
+  join_threads sub j = grind arith
 
   join_done_leads : (sub : Subtask) (w y : Option ℕ) → MayJoin a sub (joins y) s → Leads a s (join_done n sub w s y)
   unfolding joined
@@ -332,10 +299,7 @@ module _ (x : Setting) (main : Main) (s : Core) (n : ℕ) (l : Label) (next : Tu
       goes_on_saying x main s n l next (label.Call (call_label.Call 2 n)) (call_returned n r k s) refl
       (λ is. call_says (call_label.Call 2 n) _ refl is (returned_out k (call_returned n r k s) far found (call_returned_gone n r k s)))
       (λ is. answered_walks n refl on r 2 (call_settled_walks k (call_resumes_walks n refl k has NoWord)))
-  call_status_leads r k status.Starting far found has = call_pending_leads r k status.Starting (λ h. no_way (ap is_returned h)) far
-  call_status_leads r k status.Started far found has = call_pending_leads r k status.Started (λ h. no_way (ap is_returned h)) far
-  call_status_leads r k status.StartCancelled far found has = call_pending_leads r k status.StartCancelled (λ h. no_way (ap is_returned h)) far
-  call_status_leads r k status.ReturnCancelled far found has = call_pending_leads r k status.ReturnCancelled (λ h. no_way (ap is_returned h)) far
+  call_status_leads r k e far found has = call_pending_leads r k e (λ h. absurd (cc)) far
 
   call_row_leads : (r q : ℕ) (e : Callee) (words : List ℕ) (f : HowFar) → callee_of_op (op_in a n) ≡ Some e → how_far_of n s ≡ f → Leads a s (call_row x.component n r q e words s f)
   call_row_leads r q e words (how_far.Calls (subtask.Guest k)) callee far = call_status_leads r k (status_found k s) far refl (by_call (subtask.Guest k) far)
@@ -353,10 +317,7 @@ module _ (x : Setting) (main : Main) (s : Core) (n : ℕ) (l : Label) (next : Tu
       goes_on_saying x main s n l next (label.Call (call_label.CallSync n (result_of k s))) (call_answered n r k s) refl
       (λ is. call_says (call_label.CallSync n (result_of k s)) _ refl is (returned_out k (call_answered n r k s) far found (call_answered_gone n r k s)))
       (λ is. answered_walks n refl on r (result_of k s) (call_settled_walks k (word (SetResult k None) tt (call_resumes_walks n refl k has NoWord))))
-  call_sync_status_leads r k status.Starting can far found has = call_sync_pauses k can far
-  call_sync_status_leads r k status.Started can far found has = call_sync_pauses k can far
-  call_sync_status_leads r k status.StartCancelled can far found has = call_sync_pauses k can far
-  call_sync_status_leads r k status.ReturnCancelled can far found has = call_sync_pauses k can far
+  call_sync_status_leads r k e can far found has = call_sync_pauses k can far
 
   enter_row_leads : (e : Callee) (words : List ℕ) → is_sync_call (op_in a n) ≡ true → callee_of_op (op_in a n) ≡ Some e → is_async_lifted (export_kind x.component e) ≡ false → Leads a s (enter_row n e (export_kind x.component e) words s)
   enter_row_leads e words sync callee lifted =
@@ -391,7 +352,7 @@ module _ (x : Setting) (main : Main) (s : Core) (n : ℕ) (l : Label) (next : Tu
       let v = packed (new_handle (instance_of n s) s) status.Started in
       trap_if_leads a s (not (fits 1 s)) trap.TableFull _ (λ e.
       trap_if_leads a s (at_handle_limit s) trap.HandleLimit _ (λ f.
-      go _ (host_pending n r q v host s) (packed_is_not_two (new_handle (instance_of n s) s) status.Started (λ h. no_way (ap is_returned h))) (assigned_walks n refl on r v (word (NameWork (instance_of n s) (next_work s)) ((n, (refl, (refl, inr (refl, queued_made (work_caller.Async n q) host (Some (thread_group n s)) s)))), ap (λ f. is_async_work f) (queued_caller (work_caller.Async n q) host (Some (thread_group n s)) s))
+      go _ (host_pending n r q v host s) (packed_is_not_two (new_handle (instance_of n s) s) status.Started (λ h. absurd (cc))) (assigned_walks n refl on r v (word (NameWork (instance_of n s) (next_work s)) ((n, (refl, (refl, inr (refl, queued_made (work_caller.Async n q) host (Some (thread_group n s)) s)))), ap (λ f. is_async_work f) (queued_caller (work_caller.Async n q) host (Some (thread_group n s)) s))
       (word (QueueWork (work_caller.Async n q) host (Some (thread_group n s))) (refl, (refl, refl)) NoWord)))))
 
   host_stops_walks : (host : HostDef) → is_sync_host_call (op_in a n) ≡ true → Leaves a n → Trip a s (call_sync_host_stops n host s)
@@ -457,12 +418,10 @@ module _ (x : Setting) (main : Main) (s : Core) (n : ℕ) (l : Label) (next : Tu
   }
     where
       writes_at : (m : Mode) → written_by x.component s (cancel_label m n (status_code e)) (cancel_takes_end n r sub e t) ≡ written_by_cancel x.component n s (status_code e)
-      writes_at Async = refl
-      writes_at Sync = refl
+      writes_at m = grind arith
 
       hands_at : (m : Mode) → handed_by x.component main s (cancel_label m n (status_code e)) (cancel_takes_end n r sub e t) ≡ handed_by_cancel x.component n s (status_code e)
-      hands_at Async = refl
-      hands_at Sync = refl
+      hands_at m = grind arith
 
   cancel_ended_row_leads : (mode : Mode) (r : ℕ) (sub : Subtask) (t : Core) (o : Option Status) → cancelled_of_op x.component n s (how_far_of n s) ≡ Some sub → undelivered_end (event_of sub s) ≡ o → HasSubtask a n sub → Keep a s t → Leads a s (cancel_ended_row mode n r sub t o)
   cancel_ended_row_leads mode r sub t None target found has c = tt
@@ -480,8 +439,7 @@ module _ (x : Setting) (main : Main) (s : Core) (n : ℕ) (l : Label) (next : Tu
   asks_walks k has says = word (SetOwnEvent k (Some own.Cancelled)) (inl (refl, ((n, (refl, has)), (says.1, says.0)))) NoWord
 
   cancel_writes : (mode : Mode) (t : Core) → written_by x.component s (cancel_label mode n 3) t ≡ option_map (end_for status.StartCancelled) (cancelled_of_op x.component n s (how_far_of n s))
-  cancel_writes Async t = refl
-  cancel_writes Sync t = refl
+  cancel_writes mode t = grind arith
 
   withdrawn_low : (k : ℕ) (e : CallEnd) → Stands a (set_end k e (after_word (Withdraw k) s)) n
   unfolding set_end on_call remove_thread
@@ -502,8 +460,7 @@ module _ (x : Setting) (main : Main) (s : Core) (n : ℕ) (l : Label) (next : Tu
       }
     where
       withdraw_hands : (m : Mode) → handed_by x.component main s (cancel_label m n 3) (cancel_withdraws n r k s) ≡ handed_by_cancel x.component n s 3
-      withdraw_hands Async = refl
-      withdraw_hands Sync = refl
+      withdraw_hands m = grind arith
 
   cancel_guest_leads : (mode : Mode) (r h k : ℕ) (y : CancelCase) → CancelOp mode → cancelled_of_op x.component n s (how_far_of n s) ≡ Some (subtask.Guest k) → cancel_case k s ≡ y → subtask_at (instance_of n s) h s ≡ Some (subtask.Guest k) → is_joined (join_of (subtask.Guest k) s) ≡ false → Leads a s (cancel_guest mode n r k s y)
   unfolding cancel_withdraws cancel_wakes_callback cancel_promotes_yield cancel_asks set_own_event on_call
@@ -649,12 +606,7 @@ module _ (x : Setting) (main : Main) (s : Core) (n : ℕ) (l : Label) (next : Tu
       by_far : (f : HowFar) → Leads a s (by_how_far f n (label.Thread k) s (row (label.Thread k)))
       by_far how_far.Suspends = go (label.Thread k) (advanced n s) plain (advanced_walks n refl on NoWord)
       by_far how_far.Yields = go (label.Thread k) (advanced n s) plain (advanced_walks n refl on NoWord)
-      by_far how_far.Fresh = leads
-      by_far (how_far.Waits y) = leads
-      by_far (how_far.Calls y) = leads
-      by_far (how_far.Answered y) = leads
-      by_far (how_far.Cancels y) = leads
-      by_far (how_far.AwaitsEnd y) = leads
+      by_far f = leads
 
   pub thread_row_leads : (o : ThreadOp) → op_in a n ≡ op.Thread o → Leads a s (thread_row x.component n s o)
   thread_row_leads (thread_op.New r y v) is = thread_new_row_leads r y (value_of n s v) (slot_at x.component (instance_of n s) y) refl

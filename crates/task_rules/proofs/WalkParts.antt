@@ -1,14 +1,12 @@
 -- What the rows of the ops are made of, as chains of words: what is read, gifts, moves, and a new call.
-use Rattle.task_rules.proofs.Machine.{[], add_call, add_thread, advanced, after_placing, after_word, answered, ap, arith, assigned, AtOp, behind_one, behind_switch, Blocks, Bool, ByHandle, Call, call_clears_flag, call_instance, call_made, call_queues, call_resumes, call_stops, Callee, callee_of_op, Caller, can_come, cancel_goes_behind, cancel_label, cancel_stops, cancel_takes_end, checked, Choice, chosen, Core, Enter, enter_runs, Entry, ExportKind, false, foot_of, free_handle, get, get-insert, Gift, gift, give_handle, give_thread_handle, Given, given_code, given_handle, given_result, Goal, goal_of, GoBehind, group_settled, has_entry, HasSet, HasSubtask, how_far_of, HowFar, if◌then◌else◌, inl, InOp, inr, instance_of, is_begun, is_blocked_on, is_cancel, is_direct, is_explicit, is_group_done, is_joined, is_none, is_running, is_some, is_sync_call, is_sync_cancel, is_wait, IsCalled, IsNew, IsRunner, IsWithdrawn, Join, join_label, join_of, Leaves, less, less_switch, List, Made, MakeCall, may_not_suspend, MayCome, MayDeliver, MayJoin, MayMakeCall, MayRemoveWork, MayWithdraw, MemberGift, Mode, Move, moved_to, NameThread, nat_tests, new_call, new_handle, new_thread, new_thread_handle, next_thread, NoGift, None, NoWord, on_call, on_instance, on_thread, on_work, op_in, Option, option_map, option_map_or, OwnGift, Place, place_of, Put, put_back, put_switch, received, Records, refl, registers_for, Remains, remove_group, remove_thread, remove_work, RemoveWork, saved_callee_of, says, SaysEnd, Scene, set_do_not_suspend, set_end, set_event, set_exited, set_given, set_high, set_how_far, set_join, set_low, set_place, set_position, set_register, set_saved_callee, set_saved_own, set_started, set_subtask_handle, set_switch, set_thread_handle, set_uninteresting, SetCallEvent, SetCallJoin, SetDoNotSuspend, SetEnd, SetExited, SetHowFar, SetRegister, SetSavedCallee, SetSavedOwn, SetStarted, settle_group_of, SetUninteresting, SetWorkJoin, Some, Starts, Status, status_code, Stop, stopped, subst, Subtask, subtask_at, subtask_handle, sym, sync_sets_flag, TakeWorkEvent, task_of, Thread, thread_group, Trip, true, unqueued, unwrap_or, wait_label, wait_stops, Waits, with_handle, with_switch, with_thread_handle, Withdraw, withdrawn, work_deleted, work_group, ℕ, ◌+◌, ◌==◌, ◌∙◌, ◌≡◌, ◌⊎◌}
-use Rattle.task_rules.proofs.ChainLemmas.{Going}
-use Rattle.task_rules.proofs.WalkMoves.{keep_still}
+use Rattle.task_rules.proofs.Machine.{[], add_call, add_thread, advanced, after_placing, after_word, answered, ap, arith, assigned, AtOp, behind_one, behind_switch, Blocks, Bool, ByHandle, Call, call_clears_flag, call_instance, call_made, call_queues, call_resumes, call_stops, Callee, callee_of_op, Caller, can_come, cancel_goes_behind, cancel_label, cancel_stops, cancel_takes_end, checked, Choice, chosen, Core, Enter, enter_runs, ExportKind, false, foot_of, free_handle, get, get-insert, Gift, gift, give_handle, give_thread_handle, Given, given_code, given_handle, given_result, Goal, goal_of, GoBehind, group_settled, HasSet, HasSubtask, how_far_of, HowFar, inl, InOp, inr, instance_of, is_begun, is_blocked_on, is_cancel, is_direct, is_explicit, is_group_done, is_joined, is_none, is_running, is_some, is_sync_call, is_sync_cancel, is_wait, IsCalled, IsNew, IsRunner, IsWithdrawn, Join, join_label, join_of, Leaves, less, less_switch, List, Made, MakeCall, may_not_suspend, MayCome, MayDeliver, MayJoin, MayMakeCall, MayRemoveWork, MayWithdraw, MemberGift, Mode, Move, moved_to, NameThread, nat_tests, new_handle, new_thread, next_thread, NoGift, None, NoWord, on_call, on_instance, on_thread, on_work, op_in, Option, option_map, option_map_or, OwnGift, Place, place_of, Put, put_back, put_switch, received, Records, refl, Remains, remove_group, remove_thread, remove_work, RemoveWork, saved_callee_of, says, SaysEnd, Scene, set_do_not_suspend, set_end, set_event, set_exited, set_given, set_high, set_how_far, set_join, set_low, set_place, set_position, set_register, set_saved_callee, set_saved_own, set_started, set_subtask_handle, set_switch, set_thread_handle, set_uninteresting, SetCallEvent, SetCallJoin, SetDoNotSuspend, SetEnd, SetExited, SetHowFar, SetRegister, SetSavedCallee, SetSavedOwn, SetStarted, settle_group_of, SetUninteresting, SetWorkJoin, Some, Starts, Status, status_code, Stop, stopped, subst, Subtask, subtask_at, subtask_handle, sym, sync_sets_flag, TakeWorkEvent, task_of, Thread, thread_group, Trip, true, unqueued, unwrap_or, wait_label, wait_stops, Waits, with_handle, with_thread_handle, Withdraw, withdrawn, work_deleted, work_group, ℕ, ◌+◌, ◌==◌, ◌∙◌, ◌≡◌, ◌⊎◌}
+use Rattle.task_rules.proofs.ChainLemmas.{Going, Keep, keep_stay}
+use Rattle.task_rules.proofs.WalkMoves.{keep_still, MayTake, checked_shifts, group_settled_walks, shifted, stopped_shifts, taken_walks, word, lands_at}
 use Rattle.task_rules.proofs.MoveLemmas.{put_place}
 use Rattle.task_machine.proofs.CommuteLemmas.{get-change}
-use Rattle.task_machine.proofs.MapLemmas.{change-field, get-insert_same, get-remove_same}
+use Rattle.task_machine.proofs.MapLemmas.{change-field, get-remove_same}
 use Rattle.task_rules.proofs.PlacingLemmas.{Shifted, placed, placing_shifted, shifted_after, shifted_calls, shifted_explicit, shifted_made}
 use Rattle.task_rules.proofs.StandLemmas.{place_kept}
-use Rattle.task_rules.proofs.ChainLemmas.{Keep, keep_stay}
-use Rattle.task_rules.proofs.WalkMoves.{MayTake, checked_shifts, group_settled_walks, shifted, stopped_shifts, taken_walks, word, lands_at}
 use Rattle.task_rules.proofs.WalkTask.{Stands, advanced_walks, answered_walks, is_plain, is_still, running_moved, moved_passes, not_main}
 use Rattle.task_machine.specs.declared.component.ExportKind.TheVariants as kind
 use Rattle.task_machine.specs.declared.records.CallEnd.TheVariants as call_end
@@ -40,15 +38,7 @@ far_fresh n t = grind (arith, nat_tests, get-change)
 -- the answer may come before the work is gone
 pub answered_first : (n r v i : ℕ) (s : Core) → work_deleted i (assigned n r v s) ≡ assigned n r v (work_deleted i s)
 unfolding work_deleted assigned advanced moved_to set_how_far set_position on_thread set_register remove_work group_settled remove_group is_group_done
-answered_first n r v i s = of_group (work_group i s)
-  where
-    by_done : (g : ℕ) (b : Bool) → (if b then remove_group g (remove_work i (assigned n r v s)) else remove_work i (assigned n r v s)) ≡ assigned n r v (if b then remove_group g (remove_work i s) else remove_work i s)
-    by_done g true = refl
-    by_done g false = refl
-
-    of_group : (o : Option ℕ) → settle_group_of o (remove_work i (assigned n r v s)) ≡ assigned n r v (settle_group_of o (remove_work i s))
-    of_group None = refl
-    of_group (Some g) = by_done g (is_group_done g (remove_work i s))
+answered_first n r v i s = grind arith
 
 -- it may come before the call has a handle
 pub answered_unnamed : (n r v i k : ℕ) (s : Core) → with_handle i (subtask.Guest k) (answered n r v s) ≡ answered n r v (with_handle i (subtask.Guest k) s)
@@ -83,14 +73,9 @@ gift_is a n by y ch (OwnGift v) is delivers e = ((n, (is, refl)), λ c. delivers
 gift_is a n by y ch (MemberGift sub) is delivers e = let c = chosen_named n ch a.base sub (grind arith) in (n, (is, ByHandle c.0 c.1))
 gift_is a n by y ch NoGift is delivers e = tt
 
-withdraws_by : (k : ℕ) (o : Option ℕ) (es fs : List Entry) (t : Core) (c : Bool) → remove_thread k (record t { queues = with_switch o (if c then set_high es t else set_low fs t).queues }) ≡ remove_thread k (set_switch o (if c then set_high es t else set_low fs t))
-unfolding set_switch set_high set_low
-withdraws_by k o es fs t true = refl
-withdraws_by k o es fs t false = refl
-
 pub withdraws : (k : ℕ) (t : Core) → after_word (Withdraw k) t ≡ remove_thread k (set_switch (less_switch k t.queues.switch) (unqueued k t))
-unfolding unqueued
-withdraws k t = withdraws_by k (less_switch k t.queues.switch) (less k t.queues.high) (less k t.queues.low) t (has_entry k t.queues.high)
+unfolding unqueued remove_thread set_switch set_high set_low
+withdraws k t = grind arith
 
 -- ---- The moves
 
@@ -222,30 +207,19 @@ module _ {m : ℕ} {g : Goal} {t : Core} (h : Born m g t) where
 
 pub call_born : (f : Caller) (e : Callee) (x : ExportKind) (g : Goal) (group : ℕ) (words : List ℕ) (s : Core) → Born (next_thread s) g (call_made f e x g group words s)
 unfolding call_made add_thread add_call
-call_born f e x g group words s =
-    let m = next_thread s in
-    record {
-      thread = ap (option_map birth) (get-insert_same s.threads m (new_thread m false script.Start (registers_for words) None));
-      goal = ap (λ (o : Option Call). option_map_or (λ c. c.goal) o goal.Nowhere) (get-insert_same s.calls m (new_call f e x g group));
-      made = refl;
-    }
-
-thread_born : (n m : ℕ) (g : Goal) (f : Thread → Thread) (t : Core) → ((r : Thread) → birth (f r) ≡ birth r) → Born m g t → Born m g (on_thread n f t)
-unfolding on_thread
-thread_born n m g f t keeps h = record { thread = change-field birth n f keeps t.threads m ∙ h.thread; goal = h.goal; made = h.made }
+call_born f e x g group words s = grind (arith, nat_tests, get-insert)
 
 handle_born : (i m : ℕ) (g : Goal) (t : Core) → Born m g t → Born m g (with_thread_handle i m t)
-unfolding with_thread_handle set_thread_handle give_thread_handle
-handle_born i m g t h = thread_born m m g (λ r. record r { handle = Some (new_thread_handle i t) }) (give_thread_handle i m t) (λ r. refl) (record { thread = h.thread; goal = h.goal; made = h.made })
+unfolding with_thread_handle set_thread_handle give_thread_handle on_thread
+handle_born i m g t h = grind (arith, nat_tests, get-change)
 
 started_born : (k m : ℕ) (g : Goal) (t : Core) → Born m g t → Born m g (set_started k t)
 unfolding set_started on_call
-started_born k m g t h = record { thread = h.thread; goal = grind (arith, nat_tests, get-change, h.goal); made = h.made }
+started_born k m g t h = grind (arith, nat_tests, get-change)
 
 flag_born : (m j : ℕ) (k : ExportKind) (g : Goal) (t : Core) → Born m g t → Born m g (sync_sets_flag m j k t)
-unfolding set_do_not_suspend on_instance set_saved_own
-flag_born m j kind.Sync g t h = let u = thread_born m m g (λ r. record r { saved_own = Some (may_not_suspend j t) }) t (λ r. refl) h in record { thread = u.thread; goal = u.goal; made = u.made }
-flag_born m j _ g t h = h
+unfolding set_do_not_suspend on_instance set_saved_own on_thread
+flag_born m j k g t h = grind (arith, nat_tests, get-change)
 
 -- a call whose start runs has begun
 pub started_begun : (k : ℕ) (t : Core) → is_begun k (set_started k t) ≡ true

@@ -376,12 +376,9 @@ module _ (x : Setting) (main : Main) (s : Core) (n : ℕ) (l : Label) (next : Tu
 
   pub data_row_leads : Stands a s n → (o : DataOp) → Leads a s (data_row x.component n s o)
   unfolding stored
-  data_row_leads on (data_op.Set r y) = go _ _ refl (assigned_walks n refl on r _ NoWord)
-  data_row_leads on (data_op.Add r y) = go _ _ refl (assigned_walks n refl on r _ NoWord)
-  data_row_leads on (data_op.Handle r y) = go _ _ refl (assigned_walks n refl on r _ NoWord)
-  data_row_leads on (data_op.Load r w) = go _ _ refl (assigned_walks n refl on r _ NoWord)
   data_row_leads on (data_op.Store w y) = go _ _ refl (advanced_walks n refl on (word (SetWord (instance_of n s) w (value_of n s y)) tt NoWord))
   data_row_leads on (data_op.SkipEq y z ops) = skip_row_leads on ops (value_of n s y == value_of n s z)
+  data_row_leads on o = go _ _ refl (assigned_walks n refl on _ _ NoWord)
 
   -- ---- Exits
 
@@ -389,15 +386,10 @@ module _ (x : Setting) (main : Main) (s : Core) (n : ℕ) (l : Label) (next : Tu
   exit_says t w is implicit kind = ap (λ (k : Label). written_by x.component s k t) is ∙ (exit_writes w ∙ ap (λ b. if b then task_end n status.Returned s else None) (ends (is_explicit n s) (is_direct (goal_of (task_of n s) s)) (is_async_lifted (kind_of (task_of n s) s)) implicit kind))
     where
       exit_writes : (v : Option ℕ) → written_by x.component s (exit_label n v) t ≡ written_by_exit n s
-      exit_writes None = refl
-      exit_writes (Some y) = refl
+      exit_writes v = grind arith
 
       ends : (e d h : Bool) → e ≡ false → (d ≡ true) ⊎ (h ≡ false) → (not e && (d || not h)) ≡ true
-      ends false true h i k = refl
-      ends false false false i k = refl
-      ends true d h i k = absurd (subst T i tt)
-      ends false false true i (inl k) = absurd (subst T (sym k) tt)
-      ends false false true i (inr k) = absurd (subst T k tt)
+      ends e d h i k = grind arith
 
   -- the label says an end of the task
   writes_task : (f : Status) (t u : Core) → written_by x.component s l t ≡ task_end n f s → EndsCall a (task_of n s) → is_over (task_of n s) u ≡ true → Walk a u t → (sub : Subtask) (e : Status) → written_by x.component s l t ≡ Some (end_for e sub) → Writes a t sub
@@ -411,9 +403,7 @@ module _ (x : Setting) (main : Main) (s : Core) (n : ℕ) (l : Label) (next : Tu
   }
     where
       not_direct : (e d h : Bool) → (not e && (d || not h)) ≡ false → (not e && d) ≡ false
-      not_direct true d h k = refl
-      not_direct false false h k = refl
-      not_direct false true h k = absurd (subst T k tt)
+      not_direct e d h k = grind arith
 
   -- an exit that ends the task
   exit_says_end : (w : Option ℕ) (t : Core) → l ≡ exit_label n w → is_explicit n s ≡ false → is_async_lifted (kind_of (task_of n s) s) ≡ false → is_direct (goal_of (task_of n s) s) ≡ false → (u : Core) → is_over (task_of n s) u ≡ true → Walk a u t → EndWords a t
@@ -423,8 +413,7 @@ module _ (x : Setting) (main : Main) (s : Core) (n : ℕ) (l : Label) (next : Tu
   }
     where
       none_out : (v : Option ℕ) → handed_by x.component main s (exit_label n v) t ≡ None
-      none_out None = ap (λ b. if b then task_end n status.Returned s else None) (ap₂ (λ e d. not e && d) implicit direct)
-      none_out (Some y) = refl
+      none_out v = grind arith
 
   thread_exit_row_leads : is_ending_exit n s ≡ false → Leads a s (thread_exit_row n s)
   thread_exit_row_leads none =
@@ -449,10 +438,7 @@ module _ (x : Setting) (main : Main) (s : Core) (n : ℕ) (l : Label) (next : Tu
   bars w is implicit holding direct = ap (λ k. returned_holder s k) is ∙ (exit_returns n w s ∙ ap (λ b. if b then Some (instance_of n s) else None) (all_three (is_explicit n s) (is_holding (kind_of (task_of n s) s)) (is_direct (goal_of (task_of n s) s)) implicit holding direct))
     where
       all_three : (e h d : Bool) → e ≡ false → h ≡ true → d ≡ false → (not e && (h && not d)) ≡ true
-      all_three false true false p q r = refl
-      all_three true h d p q r = absurd (subst T p tt)
-      all_three false false d p q r = absurd (subst T (sym q) tt)
-      all_three false true true p q r = absurd (subst T r tt)
+      all_three e h d p q r = grind arith
 
   blocking_exit_row_leads : (w : Option ℕ) → is_explicit n s ≡ false → kind_of (task_of n s) s ≡ kind.Blocking → is_direct (goal_of (task_of n s) s) ≡ false → Leads a s (blocking_exit_row n w s)
   blocking_exit_row_leads w implicit kind direct =
