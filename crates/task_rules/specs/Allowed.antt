@@ -192,7 +192,7 @@ pub data MayMove (a : Scene) (n : ℕ) (p : Place) (s : Core) : Type 0 where
 abbrev pub IsFoot : ℕ → Core → Type 0
 IsFoot f s = (is_some (place_of f s) ≡ true) ⊎ ((m : ℕ) × ((s.queues.switch ≡ Some m) × (f ≡ foot_of m s)))
 
--- the thread runs, and if it is there still it is at its op
+-- the thread runs, and where it is still there it is at its op
 abbrev pub AtOp : Scene → ℕ → Core → Type 0
 AtOp a n s = (a.turn ≡ turn.Run n) × (place_of n a.base ≡ Some place.Running → n ≤ a.base.made.threads → is_some (place_of n s) ≡ true →
     position_of n s ≡ position_of n a.base)
@@ -204,7 +204,7 @@ MayLand a (Put mark.High n w) s = MayYield a n w
 MayLand a (Put mark.Low n w) s = MayYield a n w
 MayLand a (GoBehind f n) s = Leaves a n × IsFoot f s
 MayLand a (Move n p) s = MayMove a n p s
--- by a direct call that was just made, and has begun
+-- by a direct call that was just made, and has begun; the thread is at the sync call that makes it
 MayLand a (Enter n m) s = IsRunner a n ×
     ((a.next ≡ turn.Run m) × ((m ≡ next_thread a.base) × ((place_of m s ≡ Some place.New) × ((is_direct (goal_of (task_of m s) s) ≡ true) ×
     ((a.turn ≡ turn.Run n) × ((is_begun m s ≡ true) × (AtOp a n s × (is_sync_call (op_in a n) ≡ true))))))))
@@ -238,10 +238,10 @@ MayCome a n h s = IsRunner a n
 -- Why the op can come so far.
 pub data CanCome (a : Scene) (n : ℕ) (h : HowFar) (s : Core) : Type 0 where
   InOp : AtOp a n s → can_come (op_in a n) h ≡ true → CanCome a n h s
-  -- a thread was on top of its own
+  -- its direct callee was on top of it
   WasUnder : (m v : ℕ) → place_of n a.base ≡ Some (place.Under m) → h ≡ how_far.Answered v → CanCome a n h s
 
--- the running thread's op is done, and it goes on at a place in its script, or at the end
+-- the running thread's op is done, and it runs on, at a place in its script or at the end
 abbrev pub MayAdvance : Scene → ℕ → ℕ → Type 0
 MayAdvance a n p = IsRunner a n × ((a.turn ≡ turn.Run n) × ((a.next ≡ turn.Run n) × (p ≤ length (script_of (component_of a) n a.base))))
 

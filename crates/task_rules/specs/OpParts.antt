@@ -80,8 +80,9 @@ abbrev pub is_thread_op : (ThreadOp → Bool) → Op → Bool
 is_thread_op test (op.Thread o) = test o
 is_thread_op test _ = false
 
--- Any op may be about to begin. A wait can be inside its wait, a call inside the call that it made, a sync call of a host inside its work,
--- and a sync call of an export answered. A cancel can be behind its callee, and a sync one await the end. Else ops on threads suspend or yield.
+-- Any op may be about to begin. A wait can be inside its wait, a call inside the call that it made, and a sync one answered; a sync call of
+-- a host can be inside its work. A cancel can be behind its callee, and a sync one can await the end. The ops that suspend can be
+-- suspended, and those that yield can have yielded.
 abbrev pub can_come : Op → HowFar → Bool
 can_come o how_far.Fresh = true
 can_come o (how_far.Waits x) = is_wait o
