@@ -5,7 +5,7 @@ use Rattle.std.specs.Prelude.{◌≤◌, length, Bool, None, Option, Some, [], f
 use Rattle.task_machine.specs.Core.{Core, MainPlace, Scripted, Unscripted}
 use Rattle.task_machine.specs.Maps.{get}
 use Rattle.task_machine.specs.Moves.{has_entry, is_callback_waiter, is_deletable, is_group_done}
-use Rattle.task_machine.specs.Read.{caller_of, cancel_was_delivered, course_of, course_value, end_of, goal_of, has_ended, has_member, has_waiters, how_far_of, instance_of, is_async_lifted, is_at, is_direct, is_end, is_explicit, is_joined, is_stage_ended, is_waiter, join_of, kind_of, may_not_enter, next_entry, own_event_of, phase_of, place_of, set_at, stage_of, subtask_at, subtask_ended, subtask_handle, task_of, thread_group, was_started, work_caller_of, is_guest_call, is_aborted, is_blocked_on, foot_of}
+use Rattle.task_machine.specs.Read.{caller_of, cancel_was_delivered, course_of, course_value, end_of, goal_of, has_ended, has_member, has_waiters, how_far_of, position_of, instance_of, is_async_lifted, is_at, is_direct, is_end, is_explicit, is_joined, is_stage_ended, is_waiter, join_of, kind_of, may_not_enter, next_entry, own_event_of, phase_of, place_of, set_at, stage_of, subtask_at, subtask_ended, subtask_handle, task_of, thread_group, was_started, work_caller_of, is_guest_call, is_aborted, is_blocked_on, foot_of}
 use Rattle.task_machine.specs.declared.component.Callee.{Callee}
 use Rattle.task_machine.specs.declared.component.ExportKind.{ExportKind}
 use Rattle.task_machine.specs.declared.label.Label.{Label}
@@ -29,7 +29,7 @@ use Rattle.task_rules.specs.Cancels.{aborted_phase, is_callback_wait}
 use Rattle.task_rules.specs.Ends.{is_told, own_or_none}
 use Rattle.task_rules.specs.MainOps.{op_at, takes_words, spawned_at, is_spawn}
 use Rattle.task_rules.specs.Once.{returned_holder}
-use Rattle.task_rules.specs.OpParts.{callee_of_main_op, callee_of_op, ends_activation}
+use Rattle.task_rules.specs.OpParts.{callee_of_main_op, callee_of_op, can_come, ends_activation, is_sync_call}
 use Rattle.task_rules.specs.Scenes.{Scene, component_of, op_in}
 use Rattle.task_rules.specs.Scripts.{export_kind, is_script, registers_for, script_of, slot_at}
 use Rattle.task_rules.specs.Threads.{resume_why}
@@ -192,6 +192,11 @@ pub data MayMove (a : Scene) (n : ℕ) (p : Place) (s : Core) : Type 0 where
 abbrev pub IsFoot : ℕ → Core → Type 0
 IsFoot f s = (is_some (place_of f s) ≡ true) ⊎ ((m : ℕ) × ((s.queues.switch ≡ Some m) × (f ≡ foot_of m s)))
 
+-- the thread runs, and where it is still there it is at its op
+abbrev pub AtOp : Scene → ℕ → Core → Type 0
+AtOp a n s = (a.turn ≡ turn.Run n) × (place_of n a.base ≡ Some place.Running → n ≤ a.base.made.threads → is_some (place_of n s) ≡ true →
+    position_of n s ≡ position_of n a.base)
+
 -- where it comes to at last
 abbrev pub MayLand : Scene → Placing → Core → Type 0
 MayLand a (Put mark.Switch n w) s = ⊥
@@ -199,10 +204,10 @@ MayLand a (Put mark.High n w) s = MayYield a n w
 MayLand a (Put mark.Low n w) s = MayYield a n w
 MayLand a (GoBehind f n) s = Leaves a n × IsFoot f s
 MayLand a (Move n p) s = MayMove a n p s
--- by a direct call that was just made, and has begun
+-- by a direct call that was just made, and has begun; the thread is at the sync call that makes it
 MayLand a (Enter n m) s = IsRunner a n ×
     ((a.next ≡ turn.Run m) × ((m ≡ next_thread a.base) × ((place_of m s ≡ Some place.New) × ((is_direct (goal_of (task_of m s) s) ≡ true) ×
-    ((a.turn ≡ turn.Run n) × (is_begun m s ≡ true))))))
+    ((a.turn ≡ turn.Run n) × ((is_begun m s ≡ true) × (AtOp a n s × (is_sync_call (op_in a n) ≡ true))))))))
 MayLand a _ s = ⊥
 
 abbrev pub MayLeave : Scene → Placing → Core → Type 0
@@ -230,9 +235,15 @@ MayCome a n (how_far.AwaitsEnd sub) s = IsRunner a n × HasSubtask a n sub
 MayCome a n (how_far.Answered v) s = (m : ℕ) × (IsRunner a m × ((a.next ≡ turn.Run n) × (place_of n a.base ≡ Some (place.Under m))))
 MayCome a n h s = IsRunner a n
 
--- the running thread's op is done, and it goes on at a place in its script, or at the end
+-- Why the op can come so far.
+pub data CanCome (a : Scene) (n : ℕ) (h : HowFar) (s : Core) : Type 0 where
+  InOp : AtOp a n s → can_come (op_in a n) h ≡ true → CanCome a n h s
+  -- its direct callee was on top of it
+  WasUnder : (m v : ℕ) → place_of n a.base ≡ Some (place.Under m) → h ≡ how_far.Answered v → CanCome a n h s
+
+-- the running thread's op is done, and it runs on, at a place in its script or at the end
 abbrev pub MayAdvance : Scene → ℕ → ℕ → Type 0
-MayAdvance a n p = IsRunner a n × ((a.turn ≡ turn.Run n) × (p ≤ length (script_of (component_of a) n a.base)))
+MayAdvance a n p = IsRunner a n × ((a.turn ≡ turn.Run n) × ((a.next ≡ turn.Run n) × (p ≤ length (script_of (component_of a) n a.base))))
 
 -- a thread that was taken with a delivery begins its react script
 abbrev pub MayRestart : Scene → ℕ → Type 0
@@ -423,7 +434,7 @@ abbrev pub Allowed : Scene → Word → Core → Type 0
 Allowed a (Places p) s = MayShift p s ⊎ MayLeave a p s
 Allowed a (Advance n p) s = MayAdvance a n p
 Allowed a (Restart n) s = MayRestart a n
-Allowed a (SetHowFar n h) s = MayCome a n h s
+Allowed a (SetHowFar n h) s = MayCome a n h s × CanCome a n h s
 Allowed a (MakeThread t) s = MayMake a t s
 Allowed a (RemoveThread n) s = MayGo a n s
 Allowed a (Withdraw k) s = MayWithdraw a k s
