@@ -172,7 +172,8 @@ pub data MayYield (a : Scene) (n : ℕ) (w : Why) : Type 0 where
 -- Why the running thread, or the one under it, comes to a place that says nothing of entries.
 pub data MayMove (a : Scene) (n : ℕ) (p : Place) (s : Core) : Type 0 where
   -- it was taken, and runs; a call that it was to start has begun
-  Runs : IsRunner a n → a.next ≡ turn.Run n → (is_explicit n a.base ≡ false → WasReady a n why.Start → is_begun (task_of n a.base) s ≡ true) →
+  Runs : IsRunner a n → a.next ≡ turn.Run n →
+      (is_explicit n a.base ≡ false → WasReady a n why.Start → is_begun (task_of n a.base) s ≡ true) →
       p ≡ place.Running → MayMove a n p s
   -- it was taken, and is held
   Holds : (w : Why) → IsLaid a n → WasReady a n w → p ≡ place.Held w → MayMove a n p s
@@ -266,7 +267,8 @@ pub data MayGo (a : Scene) (n : ℕ) (s : Core) : Type 0 where
   -- the running thread, and the one under it goes on
   EndsOver : (m : ℕ) → IsRunner a n → a.next ≡ turn.Run m → place_of m a.base ≡ Some (place.Under n) → MayGo a n s
   -- the strand that trapped: the thread that ran or was taken, and those that were under ones that are gone
-  Falls : a.next ≡ turn.Over → IsRunner a n ⊎ ((m : ℕ) × ((place_of n a.base ≡ Some (place.Under m)) × (is_none (get s.threads m) ≡ true))) → MayGo a n s
+  Falls : a.next ≡ turn.Over →
+      IsRunner a n ⊎ ((m : ℕ) × ((place_of n a.base ≡ Some (place.Under m)) × (is_none (get s.threads m) ≡ true))) → MayGo a n s
 
 -- the start of a call of the running thread's, which hasn't begun or ended
 abbrev pub MayWithdraw : Scene → ℕ → Core → Type 0
@@ -292,7 +294,8 @@ is_for_main _ = false
 abbrev pub MayMakeCall : Scene → Caller → Callee → ExportKind → Goal → ℕ → Core → Type 0
 MayMakeCall a f e x g group s = MayCall a f e group s × ((s.made.threads ≡ a.base.made.threads) ×
     ((x ≡ export_kind (component_of a) e) ×
-    ((is_direct g ≡ true → (is_async_lifted x ≡ false) × (a.next ≡ turn.Run (next_thread a.base))) × (is_for_main g ≡ not (is_guest_call f)))))
+    ((is_direct g ≡ true → (is_async_lifted x ≡ false) × (a.next ≡ turn.Run (next_thread a.base))) ×
+    (is_for_main g ≡ not (is_guest_call f)))))
 
 -- the call of the thread that was taken to start, or a new direct one
 abbrev pub MayStart : Scene → ℕ → Core → Type 0
@@ -395,8 +398,10 @@ IsPolled a i s = (n : ℕ) × ((a.turn ≡ turn.Futures n) × (next_polled n s �
 
 -- the sync call of the running thread is answered, and done, or its ended subtask is dropped
 abbrev pub MayRemoveWork : Scene → ℕ → Core → Type 0
-MayRemoveWork a i s = (n : ℕ) × (IsRunner a n × (((how_far_of n a.base ≡ how_far.Calls (subtask.Host i)) × (how_far_of n s ≡ how_far.Fresh)) ⊎
-    ((subtask_ended (subtask.Host i) a.base ≡ true) × ((subtask_handle (subtask.Host i) s ≡ None) × ((is_stage_ended (stage_of i s) ≡ true) ×
+MayRemoveWork a i s = (n : ℕ) × (IsRunner a n ×
+    (((how_far_of n a.base ≡ how_far.Calls (subtask.Host i)) × (how_far_of n s ≡ how_far.Fresh)) ⊎
+    ((subtask_ended (subtask.Host i) a.base ≡ true) × ((subtask_handle (subtask.Host i) s ≡ None) ×
+    ((is_stage_ended (stage_of i s) ≡ true) ×
     ((h : ℕ) × (subtask_at (instance_of n a.base) h a.base ≡ Some (subtask.Host i))))))))
 
 -- the loop polls the work to its end, and without a value where an abort was asked for

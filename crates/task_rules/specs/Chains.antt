@@ -128,7 +128,8 @@ pub data HandsOut (a : Scene) (t : Core) : Subtask → Status → Type 0 where
       HandsOut a t (subtask.Guest k) e
   -- a host is ready at its first poll
   HandsAtOnce : (i : ℕ) → IsReadyAtOnce a t i →
-      written_by (component_of a) a.base a.label t ≡ Some (end_for status.Returned (subtask.Host i)) → HandsOut a t (subtask.Host i) status.Returned
+      written_by (component_of a) a.base a.label t ≡ Some (end_for status.Returned (subtask.Host i)) →
+      HandsOut a t (subtask.Host i) status.Returned
   -- the sync call of a host is answered
   Answers : (n i : ℕ) → IsRunner a n → how_far_of n a.base ≡ how_far.Calls (subtask.Host i) → get t.works i ≡ None →
       HandsOut a t (subtask.Host i) status.Returned
