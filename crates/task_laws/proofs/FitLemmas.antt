@@ -13,7 +13,7 @@ use Rattle.task_machine.specs.declared.records.Place.TheVariants as place
 use Rattle.task_laws.proofs.CallsLaw.{CallsGo, CallsHold, code_callback, delivered_in, shifted_delivers, turned_silent}
 use Rattle.task_laws.proofs.CameLemmas.{Came, Comes, MayStand, Shifts, Turns, came_word, Enters, Moved, Entered, Leaves, IsMade}
 use Rattle.task_laws.proofs.HousedLemmas.{RunnerHoused}
-use Rattle.task_laws.specs.Order.{Fits, is_delivery, is_delivered, names_script, is_under}
+use Rattle.task_laws.specs.Order.{Fits, is_delivery, is_delivered, names_script, has_one_on_top}
 use Rattle.task_laws.specs.Settings.{CodesInCallbacks}
 
 -- what brings a delivery for the thread: there was one, its activation ends, or it was taken with one
@@ -21,7 +21,7 @@ abbrev pub Brings : Scene → ℕ → Option Place → Type 0
 Brings a n o = (delivered_in o ≡ true) ⊎ (EndsActivation a n ⊎ ((w : Why) × (WasReady a n w × (is_delivery w ≡ true))))
 
 abbrev pub under_in : Option Place → Bool
-under_in o = option_map_or (λ p. is_under p) o false
+under_in o = option_map_or (λ p. has_one_on_top p) o false
 
 under_moved : (may : Why → Type 0) (o p : Option Place) → Moved may o p → under_in p ≡ true → p ≡ o
 under_moved may o p came d = grind arith
@@ -92,7 +92,7 @@ pub record FitsSo (a : Scene) (n : ℕ) (t : Thread) : Type 0 where
   -- while it runs, it runs one script
   pub same : a.turn ≡ turn.Run n → (r : Thread) → get a.base.threads n ≡ Some r → (t.call ≡ r.call) × (t.script ≡ r.script)
   pub op : (t.how_far ≡ how_far.Fresh) ⊎ OfBase a t (λ o. can_come o t.how_far)
-  pub under : is_under t.place ≡ true → OfBase a t is_sync_call × Covered a n
+  pub under : has_one_on_top t.place ≡ true → OfBase a t is_sync_call × Covered a n
   -- while a thread is on top of it, it stays at its op
   pub still : under_in (place_of n a.base) ≡ true → (r : Thread) → get a.base.threads n ≡ Some r → SameOp t r
 
@@ -204,7 +204,7 @@ module _ (a : Scene) (codes : CodesInCallbacks (component_of a)) (h : CallsHold 
     op_after r u at call (inl (script, (position, inr (WasUnder m v under far)))) =
         let b = base_thread (place.Under m) under in
         let is = (q n r at).still (ap under_in under) b.0 b.1.0 in
-        let sync = (fits n b.0 b.1.0).under (ap is_under b.1.1) in
+        let sync = (fits n b.0 b.1.0).under (ap has_one_on_top b.1.1) in
         inr (of_base b.0 u (λ o. can_come o u.how_far) (call ∙ is.0, (script ∙ is.1.0, position ∙ is.1.1)) (there n b.0 b.1.0, rw far sync))
     op_after r u at call (inr (far, e)) = inl far
 

@@ -170,9 +170,9 @@ names_script c i false script.Start = true
 names_script c i false script.React = true
 names_script c i explicit x = false
 
-abbrev pub is_under : Place → Bool
-is_under (place.Under m) = true
-is_under _ = false
+abbrev pub has_one_on_top : Place → Bool
+has_one_on_top (place.Under m) = true
+has_one_on_top _ = false
 
 -- The thread fits the component: it runs a script that it may run, and is at a place in it, or at its end. It is no further in the op there
 -- than that op can come, and where another thread is on top of it the op is a sync call. Deliveries are for first threads.
@@ -180,7 +180,7 @@ pub record ThreadFits (c : Component) (s : Core) (t : Thread) : Type 0 where
   pub script : names_script c (call_instance t.call s) t.explicit t.script ≡ true
   pub position : t.position ≤ length (script_of_thread c s t)
   pub op : can_come (op_of_thread c s t) t.how_far ≡ true
-  pub under : is_under t.place ≡ true → is_sync_call (op_of_thread c s t) ≡ true
+  pub under : has_one_on_top t.place ≡ true → is_sync_call (op_of_thread c s t) ≡ true
   pub first : is_delivered t.place ≡ true → t.explicit ≡ false
 
 -- each thread fits the component
