@@ -215,7 +215,7 @@ module _ (x : Setting) (main : Main) (s : Core) (n : ℕ) (l : Label) (next : Tu
 
   -- a thread that isn't taken takes no Cancelled
   takes : (y : ℕ) (ch : Choice) (g : Gift) → gift false (task_of n s) y (chosen n ch s) s ≡ Some g → MayTake a (task_of n s) g
-  takes y ch g e = gift_is a n false y ch g refl (λ f. absurd (subst T (sym f) tt)) e
+  takes y ch g e = gift_is a n false y ch g refl (λ f o. absurd (subst T (sym f) tt)) e
 
   wait_begins_leads : (r h : ℕ) (ch : Choice) (y : ℕ) (b : Bool) → set_at (instance_of n s) h s ≡ Some y → Leads a s (wait_begins n r ch s y b)
   unfolding wait_stops_checked
@@ -454,9 +454,9 @@ module _ (x : Setting) (main : Main) (s : Core) (n : ℕ) (l : Label) (next : Tu
       trap_if_leads a s (not (passes_check (instance_of n t) t)) trap.CannotBlockSyncTask _ (λ e.
       stop (pauses n) (cancel_stops n sub t) refl (λ leave. cancel_stops_walks n refl sub leave has free c))
 
-  asks_walks : (k : ℕ) → HasSubtask a n (subtask.Guest k) → (has_ended k s ≡ false) × (was_started k s ≡ true) → Keep a s (cancel_asks k s)
+  asks_walks : (k h : ℕ) → subtask_at (instance_of n s) h s ≡ Some (subtask.Guest k) → (has_ended k s ≡ false) × (was_started k s ≡ true) → Keep a s (cancel_asks k s)
   unfolding cancel_asks
-  asks_walks k has says = word (SetOwnEvent k (Some own.Cancelled)) (inl (refl, ((n, (refl, has)), (says.1, says.0)))) NoWord
+  asks_walks k h named says = word (SetOwnEvent k (Some own.Cancelled)) (inl (refl, ((n, (h, (refl, named))), (says.1, says.0)))) NoWord
 
   cancel_writes : (mode : Mode) (t : Core) → written_by x.component s (cancel_label mode n 3) t ≡ option_map (end_for status.StartCancelled) (cancelled_of_op x.component n s (how_far_of n s))
   cancel_writes Async t = refl
@@ -491,16 +491,16 @@ module _ (x : Setting) (main : Main) (s : Core) (n : ℕ) (l : Label) (next : Tu
       let says = subst (CaseSays k s) is (case_says k s) in
       goes_on_saying x main s n l next (cancel_label mode n 3) (cancel_withdraws n r k s) (cancel_plain mode n 3)
       (λ at. withdraw_says mode r k at target (n, (h, (refl, named))) says.0)
-      (λ at. answered_walks n refl on r 3 (withdrawn_walks n refl k (n, (refl, (ByHandle h named, (says.1, (says.0, (refl, says.1)))))) (ap (λ (y : Label). written_by x.component s y s) at ∙ (cancel_writes mode s ∙ ap (option_map (end_for status.StartCancelled)) target)) NoWord))
+      (λ at. answered_walks n refl on r 3 (withdrawn_walks n refl k (n, (refl, ((n, (h, (refl, named))), (says.1, (says.0, (refl, says.1)))))) (ap (λ (y : Label). written_by x.component s y s) at ∙ (cancel_writes mode s ∙ ap (option_map (end_for status.StartCancelled)) target)) NoWord))
   cancel_guest_leads mode r h k CallbackWaits target is named free =
-      let asks = asks_walks k (ByHandle h named) (goes_on_case k s CallbackWaits is refl) in
+      let asks = asks_walks k h named (goes_on_case k s CallbackWaits is refl) in
       stop (pauses n) (cancel_wakes_callback n k s) refl (λ leave. cancel_goes_behind_walks n refl k leave (ByHandle h named) free
       (placed (Put mark.Switch k (why.Delivery delivery.Cancel)) (inl (Cancels (subst (CaseSays k s) is (case_says k s)) refl)) asks))
   cancel_guest_leads mode r h k CallbackYields target is named free =
-      let asks = asks_walks k (ByHandle h named) (goes_on_case k s CallbackYields is refl) in
+      let asks = asks_walks k h named (goes_on_case k s CallbackYields is refl) in
       stop (pauses n) (cancel_promotes_yield n k s) refl (λ leave. cancel_goes_behind_walks n refl k leave (ByHandle h named) free
       (promoted_walks n k refl (ready_at (place_of k s) (yields_ready (place_of k s) (subst (CaseSays k s) is (case_says k s)))) asks))
-  cancel_guest_leads mode r h k OtherwiseRuns target is named free = cancel_by_end_leads mode r (subtask.Guest k) (cancel_asks k s) (subtask_ended (subtask.Guest k) (cancel_asks k s)) target (event_owed k (Some own.Cancelled) s) (ByHandle h named) (inl free) (asks_walks k (ByHandle h named) (goes_on_case k s OtherwiseRuns is refl))
+  cancel_guest_leads mode r h k OtherwiseRuns target is named free = cancel_by_end_leads mode r (subtask.Guest k) (cancel_asks k s) (subtask_ended (subtask.Guest k) (cancel_asks k s)) target (event_owed k (Some own.Cancelled) s) (ByHandle h named) (inl free) (asks_walks k h named (goes_on_case k s OtherwiseRuns is refl))
 
   cancel_subtask_leads : (mode : Mode) (r h : ℕ) (sub : Subtask) → cancelled_of_op x.component n s (how_far_of n s) ≡ Some sub → subtask_at (instance_of n s) h s ≡ Some sub → is_joined (join_of sub s) ≡ false → Leads a s (cancel_subtask mode n r s sub)
   unfolding cancel_aborts_host

@@ -1,5 +1,6 @@
 -- What the rows of the ops are made of, as chains of words: what is read, gifts, moves, and a new call.
-use Rattle.task_rules.proofs.Machine.{[], add_call, add_thread, advanced, after_placing, after_word, answered, ap, arith, assigned, behind_one, behind_switch, Blocks, Bool, ByHandle, Call, call_clears_flag, call_instance, call_made, call_queues, call_resumes, call_stops, Callee, Caller, cancel_goes_behind, cancel_label, cancel_stops, cancel_takes_end, checked, Choice, chosen, Core, Enter, enter_runs, Entry, ExportKind, false, foot_of, free_handle, get, get-insert, Gift, gift, give_handle, give_thread_handle, Given, given_code, given_handle, given_result, Goal, goal_of, GoBehind, group_settled, has_entry, HasSet, HasSubtask, how_far_of, HowFar, if◌then◌else◌, inl, inr, instance_of, is_begun, is_blocked_on, is_direct, is_explicit, is_group_done, is_joined, is_none, is_running, is_some, IsCalled, IsNew, IsRunner, IsWithdrawn, Join, join_label, join_of, Leaves, less, less_switch, List, Made, MakeCall, may_not_suspend, MayCome, MayDeliver, MayJoin, MayMakeCall, MayRemoveWork, MayWithdraw, MemberGift, Mode, Move, moved_to, NameThread, nat_tests, new_call, new_handle, new_thread, new_thread_handle, next_thread, NoGift, None, NoWord, on_call, on_instance, on_thread, on_work, Option, option_map, option_map_or, OwnGift, Place, place_of, Put, put_back, put_switch, received, Records, refl, registers_for, Remains, remove_group, remove_thread, remove_work, RemoveWork, saved_callee_of, says, SaysEnd, Scene, set_do_not_suspend, set_end, set_event, set_exited, set_given, set_high, set_how_far, set_join, set_low, set_place, set_position, set_register, set_saved_callee, set_saved_own, set_started, set_subtask_handle, set_switch, set_thread_handle, set_uninteresting, SetCallEvent, SetCallJoin, SetDoNotSuspend, SetEnd, SetExited, SetHowFar, SetRegister, SetSavedCallee, SetSavedOwn, SetStarted, settle_group_of, SetUninteresting, SetWorkJoin, Some, Starts, Status, status_code, Stay, Stop, stopped, subst, Subtask, subtask_at, subtask_handle, sym, sync_sets_flag, TakeWorkEvent, task_of, Thread, thread_group, Trip, true, unqueued, unwrap_or, wait_label, wait_stops, Waits, with_handle, with_switch, with_thread_handle, Withdraw, withdrawn, work_deleted, work_group, ℕ, ◌+◌, ◌==◌, ◌∙◌, ◌≡◌, ◌⊎◌}
+use Rattle.task_rules.proofs.Machine.{[], add_call, add_thread, advanced, after_placing, after_word, answered, ap, arith, assigned, behind_one, behind_switch, Blocks, Bool, ByHandle, Call, call_clears_flag, call_instance, call_made, call_queues, call_resumes, call_stops, Callee, Caller, cancel_goes_behind, cancel_label, cancel_stops, cancel_takes_end, checked, Choice, chosen, Core, Enter, enter_runs, Entry, ExportKind, false, foot_of, free_handle, get, get-insert, Gift, gift, give_handle, give_thread_handle, Given, given_code, given_handle, given_result, Goal, goal_of, GoBehind, group_settled, has_entry, HasSet, HasSubtask, how_far_of, HowFar, if◌then◌else◌, inl, inr, instance_of, is_begun, is_blocked_on, is_direct, is_explicit, is_group_done, is_joined, is_none, is_running, is_some, IsCalled, IsNew, IsRunner, IsWithdrawn, Join, join_label, join_of, Leaves, less, less_switch, List, Made, MakeCall, may_not_suspend, MayCome, MayDeliver, MayJoin, MayMakeCall, MayRemoveWork, MayWithdraw, MemberGift, Mode, Move, moved_to, NameThread, nat_tests, new_call, new_handle, new_thread, new_thread_handle, next_thread, NoGift, None, NoWord, on_call, on_instance, on_thread, on_work, Option, option_map, option_map_or, own_event_of, OwnGift, Place, place_of, Put, put_back, put_switch, received, Records, refl, registers_for, Remains, remove_group, remove_thread, remove_work, RemoveWork, saved_callee_of, says, SaysEnd, Scene, set_do_not_suspend, set_end, set_event, set_exited, set_given, set_high, set_how_far, set_join, set_low, set_place, set_position, set_register, set_saved_callee, set_saved_own, set_started, set_subtask_handle, set_switch, set_thread_handle, set_uninteresting, SetCallEvent, SetCallJoin, SetDoNotSuspend, SetEnd, SetExited, SetHowFar, SetRegister, SetSavedCallee, SetSavedOwn, SetStarted, settle_group_of, SetUninteresting, SetWorkJoin, Some, Starts, Status, status_code, Stay, Stop, stopped, subst, Subtask, subtask_at, subtask_handle, sym, sync_sets_flag, TakeWorkEvent, task_of, Thread, thread_group, Trip, true, unqueued, unwrap_or, wait_label, wait_stops, Waits, with_handle, with_switch, with_thread_handle, Withdraw, withdrawn, work_deleted, work_group, ℕ, ◌+◌, ◌==◌, ◌∙◌, ◌≡◌, ◌⊎◌}
+use Rattle.task_machine.specs.declared.words.OwnEvent.TheVariants as own
 use Rattle.task_rules.proofs.MoveLemmas.{put_place}
 use Rattle.task_machine.proofs.CommuteLemmas.{get-change}
 use Rattle.task_machine.proofs.MapLemmas.{change-field, get-insert_same, get-remove_same}
@@ -75,9 +76,9 @@ chosen_named : (n : ℕ) (ch : Choice) (s : Core) (sub : Subtask) → chosen n c
 chosen_named n ch s sub e = (unwrap_or ch.member 0, grind arith)
 
 -- what a gift may be: a task takes Cancelled only by callback, and a member is the chosen one
-pub gift_is : (a : Scene) (n : ℕ) (by : Bool) (y : ℕ) (ch : Choice) (g : Gift) → IsRunner a n → (by ≡ true → MayDeliver a (task_of n a.base)) → gift by (task_of n a.base) y (chosen n ch a.base) a.base ≡ Some g → MayTake a (task_of n a.base) g
+pub gift_is : (a : Scene) (n : ℕ) (by : Bool) (y : ℕ) (ch : Choice) (g : Gift) → IsRunner a n → (by ≡ true → own_event_of (task_of n a.base) a.base ≡ Some own.Cancelled → MayDeliver a (task_of n a.base)) → gift by (task_of n a.base) y (chosen n ch a.base) a.base ≡ Some g → MayTake a (task_of n a.base) g
 unfolding gift
-gift_is a n by y ch (OwnGift v) is delivers e = ((n, (is, refl)), λ c. delivers (grind arith))
+gift_is a n by y ch (OwnGift v) is delivers e = ((n, (is, refl)), λ c. delivers (grind arith) (grind arith))
 gift_is a n by y ch (MemberGift sub) is delivers e = let c = chosen_named n ch a.base sub (grind arith) in (n, (is, ByHandle c.0 c.1))
 gift_is a n by y ch NoGift is delivers e = tt
 

@@ -257,9 +257,9 @@ pub data MayGo (a : Scene) (n : ℕ) (s : Core) : Type 0 where
   -- the strand that trapped: the thread that ran or was taken, and those that were under ones that are gone
   Falls : a.next ≡ turn.Over → IsRunner a n ⊎ ((m : ℕ) × ((place_of n a.base ≡ Some (place.Under m)) × (is_none (get s.threads m) ≡ true))) → MayGo a n s
 
--- the start of a call of the running thread's, which hasn't begun or ended
+-- the start of a call that a handle of the running thread's instance names, which hasn't begun or ended
 abbrev pub MayWithdraw : Scene → ℕ → Core → Type 0
-MayWithdraw a k s = (n : ℕ) × (IsRunner a n × (HasSubtask a n (subtask.Guest k) × ((was_started k s ≡ false) × ((has_ended k s ≡ false) ×
+MayWithdraw a k s = (n : ℕ) × (IsRunner a n × (IsNamed a (subtask.Guest k) × ((was_started k s ≡ false) × ((has_ended k s ≡ false) ×
     ((a.turn ≡ turn.Run n) × (was_started k a.base ≡ false))))))
 
 -- ---- Calls
@@ -327,17 +327,18 @@ abbrev pub MayTell : Scene → ℕ → Option Status → Core → Type 0
 MayTell a k (Some e) s = (is_told k s ≡ true) × (Tells e k s × (is_end e ≡ true → SaysEnd a k e))
 MayTell a k None s = IsOwn a (subtask.Guest k)
 
--- Cancelled comes to a task that is started and hasn't ended; to one that yields comes what it has, or None; what is there is taken by the
+-- Cancelled comes to a task that a handle names, and that is started and hasn't ended; to one that yields comes what it has, or None; what is there is taken by the
 -- running thread
 abbrev pub MayOwe : Scene → ℕ → Option OwnEvent → Core → Type 0
 MayOwe a k (Some e) s =
-    ((e ≡ own.Cancelled) × (IsOwn a (subtask.Guest k) × ((was_started k s ≡ true) × (has_ended k s ≡ false))))
+    ((e ≡ own.Cancelled) × (IsNamed a (subtask.Guest k) × ((was_started k s ≡ true) × (has_ended k s ≡ false))))
     ⊎ ((n : ℕ) × (EndsActivation a n × ((k ≡ task_of n a.base) × (own_or_none (own_event_of k a.base) ≡ Some e))))
 MayOwe a k None s = (n : ℕ) × (IsRunner a n × (k ≡ task_of n a.base))
 
--- a thread that was taken with a delivery finds its task's own event
+-- a thread that was taken with a delivery finds Cancelled as its task's own event
 abbrev pub MayDeliver : Scene → ℕ → Type 0
-MayDeliver a k = (n : ℕ) × (IsRunner a n × ((k ≡ task_of n a.base) × ((d : Delivery) × WasReady a n (why.Delivery d))))
+MayDeliver a k = (n : ℕ) × (IsRunner a n × ((k ≡ task_of n a.base) × (((d : Delivery) × WasReady a n (why.Delivery d)) ×
+    (own_event_of k a.base ≡ Some own.Cancelled))))
 
 -- ---- Subtasks
 
