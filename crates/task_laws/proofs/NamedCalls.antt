@@ -142,7 +142,7 @@ module _ (a : Scene) (base : NamesKnown a.base) (there : InsideThere a) where
       made h k None is t = absurd (grind arith)
       made h k (Some c) is t = let below = q.number k c is in grind (arith, nat_tests, get-insert)
   names_known_word (RemoveCall j) s ok q = known_after (RemoveCall j) s ok q (λ m n e. grind arith)
-      (λ l h k d. let r = q.there l h k d in let f = deletable_unnamed j s ok in (d, grind (arith, nat_tests, get-remove)))
+      (λ l h k d. let r = q.there l h k d in let f = deletable_unnamed j s ok.0 in (d, grind (arith, nat_tests, get-remove)))
   names_known_word (OpenSet i) s ok q = known_after (OpenSet i) s ok q (λ m n e. grind arith) (λ l g k e. grind (arith, nat_tests, get-change, get-insert, q.there l g k))
   names_known_word (CloseSet i h x) s ok q = known_after (CloseSet i h x) s ok q (λ m n e. grind arith) (λ l g k e. grind (arith, nat_tests, get-change, get-remove, q.there l g k))
   names_known_word (NameWork i j) s ok q = known_after (NameWork i j) s ok q (λ m n e. grind arith) (λ l g k e. grind (arith, nat_tests, get-change, get-insert, q.there l g k))

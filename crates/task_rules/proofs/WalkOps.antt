@@ -1,5 +1,5 @@
 -- The rows of the ops on sets, subtasks and threads as chains of words.
-use Rattle.task_rules.proofs.Machine.{[], aborted_phase, AbortsOwn, add_work, advanced, after_word, AlreadyEnded, answered, Answers, ap, arith, assigned, Async, at_handle_limit, AtOnce, blocked_code, Bool, ByHandle, ByOp, BySetHandle, ByThread, ByWait, Call, call_answered, call_begins, call_host_polled, call_instance, call_of_op, call_pending, call_queues, call_resumes, call_returned, call_row, call_status, call_sync_begins, call_sync_host_polled, call_sync_host_row, call_sync_host_stops, call_sync_row, call_sync_status, call_sync_stops, CallbackWaits, CallbackYields, Callee, callee_of_op, CallEnd, caller_of, CallLabel, cancel_aborts_host, cancel_asks, cancel_by_end, cancel_case, cancel_ended_row, cancel_guest, cancel_label, cancel_promotes_yield, cancel_resumed, cancel_row, cancel_stops, cancel_subtask, cancel_takes_end, cancel_target, cancel_wakes_callback, cancel_withdraws, CancelCase, cancelled_of_op, Cancels, change, checked, Choice, chosen, CloseSet, Core, count_work, CountWork, drop_row, dropped, end_for, ended, EndsSubtask, EndWords, enter_row, enter_runs, event_of, export_kind, Failing, false, finds_nothing, first_poll, FirstPoll, fits, free_handle, get, get-remove, Gift, gift, Goal, Goes, group_settled, handed_by, handed_by_call, handed_by_cancel, handed_by_event, handed_by_set, handed_on, handed_out, HandsAtOnce, HandsOut, has_ended, has_member, has_waiters, HasSubtask, host_answered, host_at, host_end, host_pending, host_ready, HostDef, how_far_of, HowFar, inl, inr, instance_of, is_async_lifted, is_async_work, is_callback_yield, is_direct, is_for_main, is_joined, is_ready_to_resume, is_script, is_some, is_stage_ended, is_waiting_on, is_watched, is_yielded, IsNamed, IsNew, IsReadyAtOnce, Join, join_done, join_label, join_of, join_to, joined, joins, Label, Later, Leaves, List, Made, Main, MakeThread, Mark, may, may_hand_on, may_wake_new, MayJoin, MayMakeCall, MemberGift, Mode, Move, moved_to, NameCall, NameThread, NameWork, nat_tests, new_handle, new_thread, new_thread_handle, new_work, next_thread, next_work, NoGift, None, not, NoWord, on_call, on_instance, on_thread, on_work, op_in, op_of, OpenSet, Option, option_map, option_map_or, OtherwiseRuns, OwnGift, packed, passes_check, pauses, phase_of, Place, place_of, poll_row, Progress, promoted_unless, push_high, Put, put_back, put_switch, QueueWork, received, received_woken, Records, refl, registers_for, registers_of, remove, remove_group, remove_thread, remove_work, result_of, Resumes, returned_of_op, saved_callee_of, says, Scene, set_at, set_do_not_suspend, set_drop_row, set_dropped, set_end, set_event, set_how_far, set_join, set_made, set_new_row, set_own_event, set_position, set_register, set_row, set_saved_callee, set_subtask_handle, SetCancelled, SetExited, SetLabel, SetOwnEvent, SetPhase, SetRegister, SetResult, SetSavedCallee, Setting, settle_group_of, SetUninteresting, Shifts, slot_at, Some, stage_of, StartNotRun, Status, status_code, status_found, Stay, Stops, subst, Subtask, subtask_at, subtask_ended, subtask_handle, subtask_instance, subtask_row, subtask_under_way, suc, Suspends, sym, Sync, T, TakesEvent, task_of, Then, Thread, thread_at, thread_group, thread_handle_of, trap_if, Trip, true, Turn, undelivered_end, UnnameCall, UnnameWork, unwrap_or, value_of, values_in, wait_begins, wait_goes_on, wait_label, wait_row, wait_stops, wait_stops_checked, wakes_joined, Walk, was_cancelled, was_started, Why, Withdraw, withdrawn, Work, work_answered, work_caller_of, work_deleted, work_group, work_queued, work_value, WorkCaller, Writes, WritesAtOnce, WritesCall, WritesNever, WritesToo, written_by, written_by_call, written_by_cancel, Yields, zero, ℕ, ◌&&◌, ◌+◌, ◌==◌, ◌∙◌, ◌∷◌, ◌≡◌, ◌⊎◌}
+use Rattle.task_rules.proofs.Machine.{[], aborted_phase, AbortsOwn, add_work, advanced, after_word, AlreadyEnded, answered, Answers, ap, arith, assigned, Async, at_handle_limit, AtOnce, blocked_code, Bool, ByHandle, ByOp, BySetHandle, ByThread, ByWait, Call, call_answered, call_begins, call_host_polled, call_instance, call_of_op, call_pending, call_queues, call_resumes, call_returned, call_row, call_settled, call_status, call_sync_begins, call_sync_host_polled, call_sync_host_row, call_sync_host_stops, call_sync_row, call_sync_status, call_sync_stops, CallbackWaits, CallbackYields, Callee, callee_of_op, CallEnd, caller_of, CallLabel, cancel_aborts_host, cancel_asks, cancel_by_end, cancel_case, cancel_ended_row, cancel_guest, cancel_label, cancel_promotes_yield, cancel_resumed, cancel_row, cancel_stops, cancel_subtask, cancel_takes_end, cancel_target, cancel_wakes_callback, cancel_withdraws, CancelCase, cancelled_of_op, Cancels, change, checked, Choice, chosen, CloseSet, Core, count_work, CountWork, drop_row, dropped, end_for, ended, EndsSubtask, EndWords, enter_row, enter_runs, event_of, export_kind, Failing, false, finds_nothing, first_poll, FirstPoll, fits, free_handle, get, get-remove, Gift, gift, Goal, Goes, group_settled, handed_by, handed_by_call, handed_by_cancel, handed_by_event, handed_by_set, handed_on, handed_out, HandsAtOnce, HandsOut, has_ended, has_member, has_waiters, HasSubtask, host_answered, host_at, host_end, host_pending, host_ready, HostDef, how_far_of, HowFar, inl, inr, instance_of, is_async_lifted, is_async_work, is_callback_yield, is_direct, is_for_main, is_joined, is_ready_to_resume, is_script, is_some, is_stage_ended, is_waiting_on, is_watched, is_yielded, IsNamed, IsNew, IsReadyAtOnce, Join, join_done, join_label, join_of, join_to, joined, joins, Label, Later, Leaves, List, Made, Main, MakeThread, Mark, may, may_hand_on, may_wake_new, MayJoin, MayMakeCall, MemberGift, Mode, Move, moved_to, NameCall, NameThread, NameWork, nat_tests, new_handle, new_thread, new_thread_handle, new_work, next_thread, next_work, NoGift, None, not, NoWord, on_call, on_instance, on_thread, on_work, op_in, op_of, OpenSet, Option, option_map, option_map_or, OtherwiseRuns, OwnGift, packed, passes_check, pauses, phase_of, Place, place_of, poll_row, Progress, promoted_unless, push_high, Put, put_back, put_switch, QueueWork, received, received_woken, Records, refl, registers_for, registers_of, remove, remove_group, remove_thread, remove_work, result_of, Resumes, returned_of_op, saved_callee_of, says, Scene, set_at, set_do_not_suspend, set_drop_row, set_dropped, set_end, set_event, set_how_far, set_join, set_made, set_new_row, set_own_event, set_position, set_register, set_result, set_row, set_saved_callee, set_subtask_handle, SetCancelled, SetExited, SetLabel, SetOwnEvent, SetPhase, SetRegister, SetResult, SetSavedCallee, Setting, settle_group_of, SetUninteresting, Shifts, slot_at, Some, stage_of, StartNotRun, Status, status_code, status_found, Stay, Stops, subst, Subtask, subtask_at, subtask_ended, subtask_handle, subtask_instance, subtask_row, subtask_under_way, suc, Suspends, sym, Sync, T, TakesEvent, task_of, Then, Thread, thread_at, thread_group, thread_handle_of, trap_if, Trip, true, Turn, undelivered_end, UnnameCall, UnnameWork, unwrap_or, value_of, values_in, wait_begins, wait_goes_on, wait_label, wait_row, wait_stops, wait_stops_checked, wakes_joined, Walk, was_cancelled, was_started, Why, Withdraw, withdrawn, Work, work_answered, work_caller_of, work_deleted, work_group, work_queued, work_value, WorkCaller, Writes, WritesAtOnce, WritesCall, WritesNever, WritesToo, written_by, written_by_call, written_by_cancel, Yields, zero, ℕ, ◌&&◌, ◌+◌, ◌==◌, ◌∙◌, ◌∷◌, ◌≡◌, ◌⊎◌}
 use Rattle.task_machine.specs.declared.component.Slot.{Slot}
 use Rattle.task_machine.specs.declared.label.ThreadLabel.{ThreadLabel}
 use Rattle.task_machine.specs.declared.op.CallOp.{CallOp}
@@ -42,6 +42,8 @@ use Rattle.task_machine.specs.declared.words.Mark.TheVariants as mark
 use Rattle.task_machine.specs.declared.words.OwnEvent.TheVariants as own
 use Rattle.task_machine.specs.declared.records.CallEnd.TheVariants as call_end
 use Rattle.task_machine.specs.declared.words.Status.TheVariants as status
+use Rattle.task_rules.proofs.WalkParts.{answered_settled}
+use Rattle.task_rules.proofs.WalkMoves.{call_done_walks}
 
 -- ---- What the rows read
 
@@ -317,12 +319,18 @@ module _ (x : Setting) (main : Main) (s : Core) (n : ℕ) (l : Label) (next : Tu
   returned_out : (k : ℕ) (t : Core) → how_far_of n s ≡ how_far.Calls (subtask.Guest k) → status_found k s ≡ status.Returned → HasNoEnd (subtask.Guest k) t → (sub : Subtask) (e : Status) → returned_of_op n s ≡ Some (end_for e sub) → HandsOut a t sub e
   returned_out k t far found gone sub e out = said_is (HandsOut a t) (sym (ap (λ (f : HowFar). option_map (end_for status.Returned) (call_of_op f)) far) ∙ out) (TakesEvent (subtask.Guest k) status.Returned (found_returned (event_of (subtask.Guest k) s) found) gone)
 
+  -- the op is done, and then the call that it was inside of may go
+  done_walks : (r v k : ℕ) (t : Core) → how_far_of n s ≡ how_far.Calls (subtask.Guest k) → Keep a s t → Stay a s (answered n r v (call_settled k t))
+  done_walks r v k t far c =
+      subst (λ (u : Core). Stay a s u) (answered_settled n r v k t)
+      (call_done_walks k (λ gone. (gone, inr (n, (refl, (far, answered_fresh n r v t))))) (answered_walks n refl on r v c))
+
   call_status_leads : (r k : ℕ) (e : Status) → how_far_of n s ≡ how_far.Calls (subtask.Guest k) → status_found k s ≡ e → HasSubtask a n (subtask.Guest k) → Leads a s (call_status n r k s e)
   unfolding call_returned
   call_status_leads r k status.Returned far found has =
       goes_on_saying x main s n l next (label.Call (call_label.Call 2 n)) (call_returned n r k s) refl
       (λ is. call_says (call_label.Call 2 n) _ refl is (returned_out k (call_returned n r k s) far found (call_returned_gone n r k s)))
-      (λ is. answered_walks n refl on r 2 (call_settled_walks k (call_resumes_walks n refl k has NoWord)))
+      (λ is. done_walks r 2 k (call_resumes n k s) far (call_resumes_walks n refl k has NoWord))
   call_status_leads r k status.Starting far found has = call_pending_leads r k status.Starting (λ h. no_way (ap is_returned h)) far
   call_status_leads r k status.Started far found has = call_pending_leads r k status.Started (λ h. no_way (ap is_returned h)) far
   call_status_leads r k status.StartCancelled far found has = call_pending_leads r k status.StartCancelled (λ h. no_way (ap is_returned h)) far
@@ -343,7 +351,7 @@ module _ (x : Setting) (main : Main) (s : Core) (n : ℕ) (l : Label) (next : Tu
   call_sync_status_leads r k status.Returned far found has =
       goes_on_saying x main s n l next (label.Call (call_label.CallSync n (result_of k s))) (call_answered n r k s) refl
       (λ is. call_says (call_label.CallSync n (result_of k s)) _ refl is (returned_out k (call_answered n r k s) far found (call_answered_gone n r k s)))
-      (λ is. answered_walks n refl on r (result_of k s) (call_settled_walks k (word (SetResult k None) tt (call_resumes_walks n refl k has NoWord))))
+      (λ is. done_walks r (result_of k s) k (set_result k None (call_resumes n k s)) far (word (SetResult k None) tt (call_resumes_walks n refl k has NoWord)))
   call_sync_status_leads r k status.Starting far found has = call_sync_pauses k far
   call_sync_status_leads r k status.Started far found has = call_sync_pauses k far
   call_sync_status_leads r k status.StartCancelled far found has = call_sync_pauses k far
@@ -531,12 +539,16 @@ module _ (x : Setting) (main : Main) (s : Core) (n : ℕ) (l : Label) (next : Tu
   unfolding free_handle set_subtask_handle set_join on_work
   still_ended i j h t e = grind (arith, nat_tests, get-change)
 
+  still_over : (k j h : ℕ) (t : Core) → has_ended k t ≡ true → has_ended k (free_handle j h (set_subtask_handle (subtask.Guest k) None (set_join (subtask.Guest k) join.Nowhere t))) ≡ true
+  unfolding free_handle set_subtask_handle set_join on_call
+  still_over k j h t e = grind (arith, nat_tests, get-change)
+
   dropped_walks : (h : ℕ) (sub : Subtask) → subtask_at (instance_of n s) h s ≡ Some sub → subtask_ended sub s ≡ true → Stay a s (dropped n h sub s)
   unfolding dropped set_join on_call on_work
   dropped_walks h (subtask.Guest k) named ended =
       let sub = subtask.Guest k in
       let t = set_join sub join.Nowhere s in
-      advanced_walks n refl on (call_settled_walks k (word (UnnameCall (instance_of n s) h k) (n, (refl, (refl, (named, set_none_join sub s)))) (join_walks n refl sub join.Nowhere (n, (refl, ByHandle h named)) NoWord)))
+      advanced_walks n refl on (call_settled_walks k (λ gone. still_over k (instance_of n s) h s ended) (word (UnnameCall (instance_of n s) h k) (n, (refl, (refl, (named, set_none_join sub s)))) (join_walks n refl sub join.Nowhere (n, (refl, ByHandle h named)) NoWord)))
   dropped_walks h (subtask.Host i) named ended =
       let sub = subtask.Host i in
       let t = set_join sub join.Nowhere s in

@@ -340,6 +340,11 @@ abbrev pub MayDeliver : Scene → ℕ → Type 0
 MayDeliver a k = (n : ℕ) × (IsRunner a n × ((k ≡ task_of n a.base) × (((d : Delivery) × WasReady a n (why.Delivery d)) ×
     (own_event_of k a.base ≡ Some own.Cancelled))))
 
+-- a call that nothing keeps goes where it has ended, or where the running thread's op, which was inside of it, is done
+abbrev pub MayRemoveCall : Scene → ℕ → Core → Type 0
+MayRemoveCall a k s = (is_deletable k s ≡ true) × ((has_ended k s ≡ true) ⊎ ((n : ℕ) × (IsRunner a n ×
+    ((how_far_of n a.base ≡ how_far.Calls (subtask.Guest k)) × (how_far_of n s ≡ how_far.Fresh)))))
+
 -- ---- Subtasks
 
 -- a join finds the subtask and the set by handles of the running thread's instance; a cancel joins a subtask that is in no set to the
@@ -433,7 +438,7 @@ Allowed a (SetStarted k) s = MayStart a k s
 Allowed a (SetEnd k e) s = MayEnd a k e s × SaysEnd a k (status_of_end e)
 Allowed a (SetOwnEvent k e) s = MayOwe a k e s
 Allowed a (SetCancelDelivered k) s = MayDeliver a k
-Allowed a (RemoveCall k) s = is_deletable k s ≡ true
+Allowed a (RemoveCall k) s = MayRemoveCall a k s
 Allowed a (SetCallEvent k e) s = MayTell a k e s
 Allowed a (SetCallJoin k j) s = MayJoin a (subtask.Guest k) j s
 Allowed a (NameCall i k) s = MayNameCall a i k s
@@ -472,7 +477,7 @@ Stays a w s = Allowed a w s
 -- What becomes of a call whose thread is gone.
 abbrev pub IsSettling : Word → Core → Type 0
 IsSettling (SetUninteresting k) s = Unit {0}
-IsSettling (RemoveCall k) s = is_deletable k s ≡ true
+IsSettling (RemoveCall k) s = (is_deletable k s ≡ true) × (has_ended k s ≡ true)
 IsSettling (RemoveGroup g) s = is_group_done g s ≡ true
 IsSettling _ s = ⊥
 
