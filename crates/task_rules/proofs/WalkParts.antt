@@ -1,5 +1,5 @@
 -- What the rows of the ops are made of, as chains of words: what is read, gifts, moves, and a new call.
-use Rattle.task_rules.proofs.Machine.{[], add_call, add_thread, advanced, after_placing, after_word, answered, ap, arith, assigned, behind_one, behind_switch, Blocks, Bool, ByHandle, Call, call_clears_flag, call_group, call_instance, call_made, call_queues, call_resumes, call_settled, call_stops, Callee, Caller, cancel_goes_behind, cancel_label, cancel_stops, cancel_takes_end, checked, Choice, chosen, Core, Enter, enter_runs, Entry, ExportKind, false, foot_of, free_handle, get, get-insert, Gift, gift, give_handle, give_thread_handle, Given, given_code, given_handle, given_result, Goal, goal_of, GoBehind, group_settled, has_entry, HasSet, HasSubtask, how_far_of, HowFar, if◌then◌else◌, inl, inr, instance_of, is_begun, is_blocked_on, is_deletable, is_deletable_call, is_direct, is_explicit, is_group_done, is_joined, is_none, is_running, is_some, IsCalled, IsNew, IsRunner, IsWithdrawn, Join, join_label, join_of, Leaves, less, less_switch, List, Made, MakeCall, may_not_suspend, MayCome, MayDeliver, MayJoin, MayMakeCall, MayRemoveWork, MayWithdraw, MemberGift, Mode, Move, moved_to, NameThread, nat_tests, new_call, new_handle, new_thread, new_thread_handle, next_thread, NoGift, None, not, NoWord, on_call, on_instance, on_thread, on_work, Option, option_map, option_map_or, own_event_of, OwnGift, Place, place_of, Put, put_back, put_switch, received, Records, refl, registers_for, Remains, remove_call, remove_group, remove_thread, remove_work, RemoveWork, saved_callee_of, says, SaysEnd, Scene, set_do_not_suspend, set_end, set_event, set_exited, set_given, set_high, set_how_far, set_join, set_low, set_place, set_position, set_register, set_saved_callee, set_saved_own, set_started, set_subtask_handle, set_switch, set_thread_handle, set_uninteresting, SetCallEvent, SetCallJoin, SetDoNotSuspend, SetEnd, SetExited, SetHowFar, SetRegister, SetSavedCallee, SetSavedOwn, SetStarted, settle_group_of, SetUninteresting, SetWorkJoin, Some, Starts, Status, status_code, Stay, Stop, stopped, subst, Subtask, subtask_at, subtask_handle, sym, sync_sets_flag, TakeWorkEvent, task_of, Thread, thread_group, Trip, true, unqueued, unwrap_or, wait_label, wait_stops, Waits, with_handle, with_switch, with_thread_handle, Withdraw, withdrawn, work_deleted, work_group, ℕ, ◌&&◌, ◌+◌, ◌==◌, ◌∙◌, ◌≡◌, ◌⊎◌}
+use Rattle.task_rules.proofs.Machine.{[], add_call, add_thread, advanced, after_placing, after_word, answered, ap, arith, assigned, behind_one, behind_switch, Blocks, Bool, ByHandle, Call, call_clears_flag, call_group, call_instance, call_made, call_queues, call_resumes, call_settled, call_stops, Callee, Caller, cancel_goes_behind, cancel_label, cancel_stops, cancel_takes_end, checked, Choice, chosen, Core, Enter, enter_runs, Entry, ExportKind, false, foot_of, free_handle, get, get-insert, Gift, gift, give_handle, give_thread_handle, Given, given_code, given_handle, given_result, Goal, goal_of, GoBehind, group_settled, has_entry, HasCalled, HasSet, HasSubtask, how_far_of, HowFar, if◌then◌else◌, inl, inr, instance_of, is_begun, is_blocked_on, is_deletable, is_deletable_call, is_direct, is_explicit, is_group_done, is_joined, is_none, is_running, is_some, IsNew, IsRunner, IsWithdrawn, Join, join_label, join_of, Leaves, less, less_switch, List, Made, MakeCall, may_not_suspend, MayCome, MayDeliver, MayJoin, MayMakeCall, MayRemoveWork, MayWithdraw, MemberGift, Mode, Move, moved_to, NameThread, nat_tests, new_call, new_handle, new_thread, new_thread_handle, next_thread, NoGift, None, not, NoWord, on_call, on_instance, on_thread, on_work, Option, option_map, option_map_or, own_event_of, OwnGift, Place, place_of, Put, put_back, put_switch, received, Records, refl, registers_for, Remains, remove_call, remove_group, remove_thread, remove_work, RemoveWork, saved_callee_of, says, SaysEnd, Scene, set_do_not_suspend, set_end, set_event, set_exited, set_given, set_high, set_how_far, set_join, set_low, set_place, set_position, set_register, set_saved_callee, set_saved_own, set_started, set_subtask_handle, set_switch, set_thread_handle, set_uninteresting, SetCallEvent, SetCallJoin, SetDoNotSuspend, SetEnd, SetExited, SetHowFar, SetRegister, SetSavedCallee, SetSavedOwn, SetStarted, settle_group_of, SetUninteresting, SetWorkJoin, Some, Starts, Status, status_code, Stay, Stop, stopped, subst, Subtask, subtask_at, subtask_handle, sym, sync_sets_flag, TakeWorkEvent, task_of, Thread, thread_group, Trip, true, unqueued, unwrap_or, wait_label, wait_stops, Waits, with_handle, with_switch, with_thread_handle, Withdraw, withdrawn, work_deleted, work_group, ℕ, ◌&&◌, ◌+◌, ◌==◌, ◌∙◌, ◌≡◌, ◌⊎◌}
 use Rattle.task_machine.specs.declared.words.OwnEvent.TheVariants as own
 use Rattle.task_rules.proofs.MoveLemmas.{put_place}
 use Rattle.task_machine.proofs.CommuteLemmas.{get-change}
@@ -284,20 +284,25 @@ cleared_there n j k m t = grind (arith, nat_tests, get-change)
 
 -- ---- Whose the new call is
 
-made_called : (n : ℕ) (e : Callee) (x : ExportKind) (g : Goal) (group : ℕ) (words : List ℕ) (s : Core) → IsCalled n (next_thread s) (call_made (caller.Thread n) e x g group words s)
+made_called : (n : ℕ) (e : Callee) (x : ExportKind) (g : Goal) (group : ℕ) (words : List ℕ) (s : Core) → HasCalled n (next_thread s) (call_made (caller.Thread n) e x g group words s)
 unfolding call_made add_thread add_call
-made_called n e x g group words s = (grind (arith, nat_tests, get-insert), grind (arith, nat_tests, get-insert))
+made_called n e x g group words s =
+    ((grind (arith, nat_tests, get-insert), grind (arith, nat_tests, get-insert)), (grind (arith, nat_tests, get-insert), (grind (arith, nat_tests, get-insert), grind (arith, nat_tests, get-insert))))
 
-called_as : (n k : ℕ) (s t : Core) → t.calls ≡ s.calls → IsCalled n k s → IsCalled n k t
-called_as n k s t same is = (grind (arith, is.0), grind (arith, is.1))
+called_as : (n k : ℕ) (s t : Core) → t.calls ≡ s.calls → HasCalled n k s → HasCalled n k t
+called_as n k s t same is =
+    ((grind (arith, is.0.0), grind (arith, is.0.1)), (grind (arith, is.1.0), (grind (arith, is.1.1.0), grind (arith, is.1.1.1))))
 
 named_calls : (i m : ℕ) (t : Core) → (with_thread_handle i m t).calls ≡ t.calls
 unfolding with_thread_handle set_thread_handle give_thread_handle on_thread
 named_calls i m t = refl
 
-started_called : (n k : ℕ) (t : Core) → IsCalled n k t → IsCalled n k (set_started k t)
+started_called : (n k : ℕ) (t : Core) → HasCalled n k t → HasCalled n k (set_started k t)
 unfolding set_started on_call
-started_called n k t is = (grind (arith, nat_tests, get-change, is.0), grind (arith, nat_tests, get-change, is.1))
+started_called n k t is = (
+  (grind (arith, nat_tests, get-change, is.0.0), grind (arith, nat_tests, get-change, is.0.1)),
+  (grind (arith, nat_tests, get-change, is.1.0), (grind (arith, nat_tests, get-change, is.1.1.0), grind (arith, nat_tests, get-change, is.1.1.1))),
+)
 
 cleared_calls : (n j : ℕ) (k : ExportKind) (t : Core) → (call_clears_flag n j k t).calls ≡ t.calls
 unfolding set_do_not_suspend on_instance set_saved_callee on_thread
@@ -317,7 +322,7 @@ module _ {a : Scene} (n : ℕ) (is : IsRunner a n) where
       let v = call_clears_flag n e.instance k u in
       let new : (v.made.threads ≡ m) × (is_explicit m v ≡ false) = cleared_explicit n e.instance k m u (ap (λ (r : Made). r.threads) (shifted_made d) ∙ h.made, shifted_explicit d m ∙ born_explicit h) in
       let w = behind_one m n v in
-      let called : IsCalled n m w = called_as n m t w (shifted_calls (placing_shifted (GoBehind m n) v) ∙ (cleared_calls n e.instance k u ∙ shifted_calls d)) (made_called n e k g (thread_group n s) words s) in
+      let called : HasCalled n m w = called_as n m t w (shifted_calls (placing_shifted (GoBehind m n) v) ∙ (cleared_calls n e.instance k u ∙ shifted_calls d)) (made_called n e k g (thread_group n s) words s) in
       lands_at (GoBehind m n) n (how_far.Calls (subtask.Guest m)) (leave, inl (cleared_there n e.instance k m u ∙ ap (λ (o : Option Place). is_some o) (put_place mark.Switch m why.Start t (ap (λ (o : Option Place). is_some o) (born_place h))))) (is, inr (shifted_new a m v w refl (placing_shifted (GoBehind m n) v) new, called)) (call_clears_flag_walks n is e.instance k
       (placed p (inl (Starts (born_place h) (born_explicit h) (ap (λ (y : Goal). is_direct y) (born_goal h) ∙ plain) refl)) (word (MakeCall (caller.Thread n) e k g (thread_group n s) words) ok NoWord)))
 
@@ -333,7 +338,7 @@ module _ {a : Scene} (n : ℕ) (is : IsRunner a n) where
       let u = sync_sets_flag m e.instance k (set_started m t1) in
       let h : Born m goal.Direct u = flag_born m e.instance k goal.Direct (set_started m t1) h2 in
       let begun : is_begun m u ≡ true = ap (λ (r : Records Call). option_map_or (λ c. c.started) (get r m) true) (flag_calls m e.instance k (set_started m t1)) ∙ started_begun m t1 in
-      let called : IsCalled n m u = called_as n m (set_started m t1) u (flag_calls m e.instance k (set_started m t1)) (started_called n m t1 (called_as n m t t1 (named_calls e.instance m t) (made_called n e k goal.Direct (thread_group n s) words s))) in
+      let called : HasCalled n m u = called_as n m (set_started m t1) u (flag_calls m e.instance k (set_started m t1)) (started_called n m t1 (called_as n m t t1 (named_calls e.instance m t) (made_called n e k goal.Direct (thread_group n s) words s))) in
       lands_at (Enter n m) n (how_far.Calls (subtask.Guest m)) (is, (to, (refl, (born_place h, (ap (λ (y : Goal). is_direct y) (born_goal h), (runs, begun)))))) (is, inr (shifted_new a m u _ refl (placing_shifted (Enter n m) u) (h.made, born_explicit h), called_as n m u (after_placing (Enter n m) u) (shifted_calls (placing_shifted (Enter n m) u)) called))
       (sync_sets_flag_walks n is m e.instance k (word (SetStarted m) (inr (refl, (h1.made, born_explicit h1))) (word (NameThread e.instance m) tt (word (MakeCall (caller.Thread n) e k goal.Direct (thread_group n s) words) ok NoWord))))
 

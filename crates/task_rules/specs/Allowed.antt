@@ -217,11 +217,19 @@ MayLeave a p s = MayLand a p s
 abbrev pub IsCalled : ℕ → ℕ → Core → Type 0
 IsCalled n k s = (caller_of k s ≡ caller.Thread n) × (subtask_handle (subtask.Guest k) s ≡ None)
 
+-- the call hasn't ended, and no cancel has come to it
+abbrev pub IsUntouched : ℕ → Core → Type 0
+IsUntouched k s = (end_of k s ≡ None) × ((own_event_of k s ≡ None) × (cancel_was_delivered k s ≡ false))
+
+-- the thread has just made the call
+abbrev pub HasCalled : ℕ → ℕ → Core → Type 0
+HasCalled n k s = IsCalled n k s × IsUntouched k s
+
 -- how far an op comes: it waits on a set of its instance, stays inside its call or makes one, or is about a subtask of its own or a new one
 abbrev pub MayCome : Scene → ℕ → HowFar → Core → Type 0
 MayCome a n (how_far.Waits x) s = IsRunner a n × HasSet a n x
 MayCome a n (how_far.Calls (subtask.Guest k)) s = IsRunner a n × (((how_far_of n a.base ≡ how_far.Calls (subtask.Guest k)) ×
-    (how_far_of n s ≡ how_far.Calls (subtask.Guest k))) ⊎ (IsNew a (subtask.Guest k) s × IsCalled n k s))
+    (how_far_of n s ≡ how_far.Calls (subtask.Guest k))) ⊎ (IsNew a (subtask.Guest k) s × HasCalled n k s))
 MayCome a n (how_far.Calls (subtask.Host i)) s = IsRunner a n × (IsNew a (subtask.Host i) s × ((work_caller_of i s ≡ work_caller.Sync n) ×
     (option_map_or (is_blocked_on (subtask.Host i)) (place_of n s) true ≡ true)))
 MayCome a n (how_far.Cancels sub) s = IsRunner a n × HasSubtask a n sub
