@@ -44,6 +44,7 @@ use Rattle.task_machine.specs.declared.records.CallEnd.TheVariants as call_end
 use Rattle.task_machine.specs.declared.words.Status.TheVariants as status
 use Rattle.task_rules.proofs.WalkParts.{answered_settled}
 use Rattle.task_rules.proofs.WalkMoves.{call_done_walks}
+use Rattle.task_rules.proofs.WalkParts.{MayCancel, cancels_own, answered_parted, call_answers_walks, answered_fresh, assigned_fresh}
 
 -- ---- What the rows read
 
@@ -85,14 +86,6 @@ ready_at_once n r q v s = let h = assigned_works n r 2 (set_register n q v (coun
 answered_at_once : (n r v : ℕ) (s : Core) → (next_work s ≡ next_work s) × (((host_answered n r v s).made.works ≡ next_work s) × ((host_answered n r v s).works ≡ s.works))
 unfolding host_answered count_work
 answered_at_once n r v s = let h = assigned_works n r v (count_work s) in (refl, (h.0, h.1))
-
-assigned_fresh : (n r v : ℕ) (s : Core) → how_far_of n (assigned n r v s) ≡ how_far.Fresh
-unfolding assigned advanced moved_to
-assigned_fresh n r v s = far_fresh n _
-
-answered_fresh : (n r v : ℕ) (s : Core) → how_far_of n (answered n r v s) ≡ how_far.Fresh
-unfolding answered
-answered_fresh n r v s = assigned_fresh n r v (set_saved_callee n None s)
 
 -- whose a call is, and which handle names it, is as before once the op that was inside of it goes on
 resumed_card : (n r v k : ℕ) (s : Core) → (caller_of k (answered n r v (call_resumes n k s)) ≡ caller_of k s) × (subtask_handle (subtask.Guest k) (answered n r v (call_resumes n k s)) ≡ subtask_handle (subtask.Guest k) s)
@@ -306,56 +299,59 @@ module _ (x : Setting) (main : Main) (s : Core) (n : ℕ) (l : Label) (next : Tu
   by_call : (sub : Subtask) → how_far_of n s ≡ how_far.Calls sub → HasSubtask a n sub
   by_call sub far = ByOp (ap (λ h. subtask_under_way h) far)
 
-  call_pending_leads : (r k : ℕ) (e : Status) → (e ≡ status.Returned → ⊥) → how_far_of n s ≡ how_far.Calls (subtask.Guest k) → Leads a s (let v = packed (new_handle (instance_of n s) s) e in trap_if (at_handle_limit s) trap.HandleLimit (Goes (label.Call (call_label.Call v n)) (call_pending n r k v s) n))
+  not_returned : (k : ℕ) (e : Status) → status_found k s ≡ e → is_returned e ≡ false → event_of (subtask.Guest k) s ≡ Some status.Returned → ⊥
+  not_returned k e found other h = no_way (sym other ∙ ap is_returned (sym found ∙ ap (λ (o : Option Status). unwrap_or o status.Starting) h))
+
+  call_pending_leads : (r k : ℕ) (e : Status) → (e ≡ status.Returned → ⊥) → (event_of (subtask.Guest k) s ≡ Some status.Returned → ⊥) → how_far_of n s ≡ how_far.Calls (subtask.Guest k) → Leads a s (let v = packed (new_handle (instance_of n s) s) e in trap_if (at_handle_limit s) trap.HandleLimit (Goes (label.Call (call_label.Call v n)) (call_pending n r k v s) n))
   unfolding call_pending
-  call_pending_leads r k e other far =
+  call_pending_leads r k e other unreturned far =
       trap_if_leads a s (at_handle_limit s) trap.HandleLimit _ (λ f.
       let v = packed (new_handle (instance_of n s) s) e in
       go _ (call_pending n r k v s) (packed_is_not_two (new_handle (instance_of n s) s) e other)
       (subst (λ (t : Core). Stay a s t) (answered_unnamed n r v (instance_of n s) k (call_resumes n k s)) (Then _ (NameCall (instance_of n s) k)
-      (answered_walks n refl on r v (call_resumes_walks n refl k (by_call (subtask.Guest k) far) NoWord)) (n, (refl, (refl, (far, (answered_fresh n r v (call_resumes n k s), resumed_card n r v k s))))))))
+      (answered_walks n refl on r v (call_resumes_walks n refl k far unreturned NoWord)) (n, (refl, (refl, (far, (answered_fresh n r v (call_resumes n k s), resumed_card n r v k s))))))))
 
   -- the op is about a call that has returned
   returned_out : (k : ℕ) (t : Core) → how_far_of n s ≡ how_far.Calls (subtask.Guest k) → status_found k s ≡ status.Returned → HasNoEnd (subtask.Guest k) t → (sub : Subtask) (e : Status) → returned_of_op n s ≡ Some (end_for e sub) → HandsOut a t sub e
   returned_out k t far found gone sub e out = said_is (HandsOut a t) (sym (ap (λ (f : HowFar). option_map (end_for status.Returned) (call_of_op f)) far) ∙ out) (TakesEvent (subtask.Guest k) status.Returned (found_returned (event_of (subtask.Guest k) s) found) gone)
 
   -- the op is done, and then the call that it was inside of may go
-  done_walks : (r v k : ℕ) (t : Core) → how_far_of n s ≡ how_far.Calls (subtask.Guest k) → Keep a s t → Stay a s (answered n r v (call_settled k t))
+  done_walks : (r v k : ℕ) (t : Core) → how_far_of n s ≡ how_far.Calls (subtask.Guest k) → Stay a s (answered n r v t) → Stay a s (answered n r v (call_settled k t))
   done_walks r v k t far c =
       subst (λ (u : Core). Stay a s u) (answered_settled n r v k t)
-      (call_done_walks k (λ gone. (gone, inr (n, (refl, (far, answered_fresh n r v t))))) (answered_walks n refl on r v c))
+      (call_done_walks k (λ gone. (gone, inr (n, (refl, (far, answered_fresh n r v t))))) c)
 
-  call_status_leads : (r k : ℕ) (e : Status) → how_far_of n s ≡ how_far.Calls (subtask.Guest k) → status_found k s ≡ e → HasSubtask a n (subtask.Guest k) → Leads a s (call_status n r k s e)
+  call_status_leads : (r k : ℕ) (e : Status) → how_far_of n s ≡ how_far.Calls (subtask.Guest k) → status_found k s ≡ e → Leads a s (call_status n r k s e)
   unfolding call_returned
-  call_status_leads r k status.Returned far found has =
+  call_status_leads r k status.Returned far found =
       goes_on_saying x main s n l next (label.Call (call_label.Call 2 n)) (call_returned n r k s) refl
       (λ is. call_says (call_label.Call 2 n) _ refl is (returned_out k (call_returned n r k s) far found (call_returned_gone n r k s)))
-      (λ is. done_walks r 2 k (call_resumes n k s) far (call_resumes_walks n refl k has NoWord))
-  call_status_leads r k status.Starting far found has = call_pending_leads r k status.Starting (λ h. no_way (ap is_returned h)) far
-  call_status_leads r k status.Started far found has = call_pending_leads r k status.Started (λ h. no_way (ap is_returned h)) far
-  call_status_leads r k status.StartCancelled far found has = call_pending_leads r k status.StartCancelled (λ h. no_way (ap is_returned h)) far
-  call_status_leads r k status.ReturnCancelled far found has = call_pending_leads r k status.ReturnCancelled (λ h. no_way (ap is_returned h)) far
+      (λ is. done_walks r 2 k (call_resumes n k s) far (call_answers_walks n refl on r 2 k far NoWord))
+  call_status_leads r k status.Starting far found = call_pending_leads r k status.Starting (λ h. no_way (ap is_returned h)) (λ h. not_returned k status.Starting found refl h) far
+  call_status_leads r k status.Started far found = call_pending_leads r k status.Started (λ h. no_way (ap is_returned h)) (λ h. not_returned k status.Started found refl h) far
+  call_status_leads r k status.StartCancelled far found = call_pending_leads r k status.StartCancelled (λ h. no_way (ap is_returned h)) (λ h. not_returned k status.StartCancelled found refl h) far
+  call_status_leads r k status.ReturnCancelled far found = call_pending_leads r k status.ReturnCancelled (λ h. no_way (ap is_returned h)) (λ h. not_returned k status.ReturnCancelled found refl h) far
 
   call_row_leads : (r q : ℕ) (e : Callee) (words : List ℕ) (f : HowFar) → callee_of_op (op_in a n) ≡ Some e → how_far_of n s ≡ f → Leads a s (call_row x.component n r q e words s f)
-  call_row_leads r q e words (how_far.Calls (subtask.Guest k)) callee far = call_status_leads r k (status_found k s) far refl (by_call (subtask.Guest k) far)
+  call_row_leads r q e words (how_far.Calls (subtask.Guest k)) callee far = call_status_leads r k (status_found k s) far refl
   call_row_leads r q e words _ callee far = call_begins_leads e (goal.Register q) words callee refl refl
 
-  call_sync_pauses : (k : ℕ) → how_far_of n s ≡ how_far.Calls (subtask.Guest k) → Leads a s (trap_if (not (passes_check (instance_of n s) (call_resumes n k s))) trap.CannotBlockSyncTask (Stops (label.Thread (thread_label.Pauses n)) (call_sync_stops n k s)))
+  call_sync_pauses : (k : ℕ) → (event_of (subtask.Guest k) s ≡ Some status.Returned → ⊥) → how_far_of n s ≡ how_far.Calls (subtask.Guest k) → Leads a s (trap_if (not (passes_check (instance_of n s) (call_resumes n k s))) trap.CannotBlockSyncTask (Stops (label.Thread (thread_label.Pauses n)) (call_sync_stops n k s)))
   unfolding call_sync_stops
-  call_sync_pauses k far =
+  call_sync_pauses k unreturned far =
       trap_if_leads a s (not (passes_check (instance_of n s) (call_resumes n k s))) trap.CannotBlockSyncTask _ (λ f.
-      stop _ (call_sync_stops n k s) refl (λ leave. call_stops_walks n refl (subtask.Guest k) (checked (instance_of n s) (call_resumes n k s)) leave (λ u d. inl (by_call (subtask.Guest k) far)) (λ u d at. (refl, inl (far, resumed_far n k s u d ∙ far))) (checked_walks n refl (instance_of n s) (call_resumes_walks n refl k (by_call (subtask.Guest k) far) NoWord))))
+      stop _ (call_sync_stops n k s) refl (λ leave. call_stops_walks n refl (subtask.Guest k) (checked (instance_of n s) (call_resumes n k s)) leave (λ u d. inl (by_call (subtask.Guest k) far)) (λ u d at. (refl, inl (far, resumed_far n k s u d ∙ far))) (checked_walks n refl (instance_of n s) (call_resumes_walks n refl k far unreturned NoWord))))
 
-  call_sync_status_leads : (r k : ℕ) (e : Status) → how_far_of n s ≡ how_far.Calls (subtask.Guest k) → status_found k s ≡ e → HasSubtask a n (subtask.Guest k) → Leads a s (call_sync_status n r k s e)
+  call_sync_status_leads : (r k : ℕ) (e : Status) → how_far_of n s ≡ how_far.Calls (subtask.Guest k) → status_found k s ≡ e → Leads a s (call_sync_status n r k s e)
   unfolding call_answered
-  call_sync_status_leads r k status.Returned far found has =
+  call_sync_status_leads r k status.Returned far found =
       goes_on_saying x main s n l next (label.Call (call_label.CallSync n (result_of k s))) (call_answered n r k s) refl
       (λ is. call_says (call_label.CallSync n (result_of k s)) _ refl is (returned_out k (call_answered n r k s) far found (call_answered_gone n r k s)))
-      (λ is. done_walks r (result_of k s) k (set_result k None (call_resumes n k s)) far (word (SetResult k None) tt (call_resumes_walks n refl k has NoWord)))
-  call_sync_status_leads r k status.Starting far found has = call_sync_pauses k far
-  call_sync_status_leads r k status.Started far found has = call_sync_pauses k far
-  call_sync_status_leads r k status.StartCancelled far found has = call_sync_pauses k far
-  call_sync_status_leads r k status.ReturnCancelled far found has = call_sync_pauses k far
+      (λ is. done_walks r (result_of k s) k (set_result k None (call_resumes n k s)) far (subst (λ (u : Core). Stay a s u) (answered_parted n r (result_of k s) k (call_resumes n k s)) (Then _ (SetResult k None) (call_answers_walks n refl on r (result_of k s) k far NoWord) tt)))
+  call_sync_status_leads r k status.Starting far found = call_sync_pauses k (λ h. not_returned k status.Starting found refl h) far
+  call_sync_status_leads r k status.Started far found = call_sync_pauses k (λ h. not_returned k status.Started found refl h) far
+  call_sync_status_leads r k status.StartCancelled far found = call_sync_pauses k (λ h. not_returned k status.StartCancelled found refl h) far
+  call_sync_status_leads r k status.ReturnCancelled far found = call_sync_pauses k (λ h. not_returned k status.ReturnCancelled found refl h) far
 
   enter_row_leads : (e : Callee) (words : List ℕ) → callee_of_op (op_in a n) ≡ Some e → is_async_lifted (export_kind x.component e) ≡ false → Leads a s (enter_row n e (export_kind x.component e) words s)
   enter_row_leads e words callee lifted =
@@ -370,7 +366,7 @@ module _ (x : Setting) (main : Main) (s : Core) (n : ℕ) (l : Label) (next : Tu
       goes_on_saying x main s n l next (label.Call (call_label.CallSync n v)) (assigned n r v s) refl
       (λ is. call_says (call_label.CallSync n v) _ refl is (λ sub f out. none_said (ap (λ (h : HowFar). option_map (end_for status.Returned) (call_of_op h)) far) out))
       (λ is. assigned_walks n refl on r v NoWord)
-  call_sync_row_leads r e words (how_far.Calls (subtask.Guest k)) callee far = call_sync_status_leads r k (status_found k s) far refl (by_call (subtask.Guest k) far)
+  call_sync_row_leads r e words (how_far.Calls (subtask.Guest k)) callee far = call_sync_status_leads r k (status_found k s) far refl
   call_sync_row_leads r e words _ callee far = by_lift (is_async_lifted (export_kind x.component e)) refl
     where
       by_lift : (b : Bool) → is_async_lifted (export_kind x.component e) ≡ b → Leads a s (call_sync_begins x.component n e words s b)
@@ -451,16 +447,16 @@ module _ (x : Setting) (main : Main) (s : Core) (n : ℕ) (l : Label) (next : Tu
       hands_at Async = refl
       hands_at Sync = refl
 
-  cancel_ended_row_leads : (mode : Mode) (r : ℕ) (sub : Subtask) (t : Core) (o : Option Status) → cancelled_of_op x.component n s (how_far_of n s) ≡ Some sub → undelivered_end (event_of sub s) ≡ o → HasSubtask a n sub → Keep a s t → Leads a s (cancel_ended_row mode n r sub t o)
+  cancel_ended_row_leads : (mode : Mode) (r : ℕ) (sub : Subtask) (t : Core) (o : Option Status) → cancelled_of_op x.component n s (how_far_of n s) ≡ Some sub → undelivered_end (event_of sub s) ≡ o → MayCancel a n sub → Keep a s t → Leads a s (cancel_ended_row mode n r sub t o)
   cancel_ended_row_leads mode r sub t None target found has c = tt
   cancel_ended_row_leads mode r sub t (Some e) target found has c = goes_on_saying x main s n l next (cancel_label mode n (status_code e)) (cancel_takes_end n r sub e t) (cancel_plain mode n (status_code e)) (λ is. cancel_says mode r sub t e target found is) (λ is. cancel_takes_end_walks n refl on r sub e has c)
 
-  cancel_by_end_leads : (mode : Mode) (r : ℕ) (sub : Subtask) (t : Core) (b : Bool) → cancelled_of_op x.component n s (how_far_of n s) ≡ Some sub → event_of sub t ≡ event_of sub s → HasSubtask a n sub → IsFree sub → Keep a s t → Leads a s (cancel_by_end mode n r sub t b)
+  cancel_by_end_leads : (mode : Mode) (r : ℕ) (sub : Subtask) (t : Core) (b : Bool) → cancelled_of_op x.component n s (how_far_of n s) ≡ Some sub → event_of sub t ≡ event_of sub s → MayCancel a n sub → IsFree sub → Keep a s t → Leads a s (cancel_by_end mode n r sub t b)
   cancel_by_end_leads mode r sub t true target same has free c = cancel_ended_row_leads mode r sub t (undelivered_end (event_of sub t)) target (ap (λ o. undelivered_end o) (sym same)) has c
   cancel_by_end_leads Async r sub t false target same has free c = go (cancel_label Async n blocked_code) (answered n r blocked_code t) refl (answered_walks n refl on r blocked_code c)
   cancel_by_end_leads Sync r sub t false target same has free c =
       trap_if_leads a s (not (passes_check (instance_of n t) t)) trap.CannotBlockSyncTask _ (λ e.
-      stop (pauses n) (cancel_stops n sub t) refl (λ leave. cancel_stops_walks n refl sub leave has free c))
+      stop (pauses n) (cancel_stops n sub t) refl (λ leave. cancel_stops_walks n refl sub leave (cancels_own a n sub has) free c))
 
   asks_walks : (k h : ℕ) → subtask_at (instance_of n s) h s ≡ Some (subtask.Guest k) → (has_ended k s ≡ false) × (was_started k s ≡ true) → Keep a s (cancel_asks k s)
   unfolding cancel_asks
@@ -494,7 +490,7 @@ module _ (x : Setting) (main : Main) (s : Core) (n : ℕ) (l : Label) (next : Tu
 
   cancel_guest_leads : (mode : Mode) (r h k : ℕ) (y : CancelCase) → cancelled_of_op x.component n s (how_far_of n s) ≡ Some (subtask.Guest k) → cancel_case k s ≡ y → subtask_at (instance_of n s) h s ≡ Some (subtask.Guest k) → is_joined (join_of (subtask.Guest k) s) ≡ false → Leads a s (cancel_guest mode n r k s y)
   unfolding cancel_withdraws cancel_wakes_callback cancel_promotes_yield cancel_asks set_own_event on_call
-  cancel_guest_leads mode r h k AlreadyEnded target is named free = cancel_ended_row_leads mode r (subtask.Guest k) s (undelivered_end (event_of (subtask.Guest k) s)) target refl (ByHandle h named) NoWord
+  cancel_guest_leads mode r h k AlreadyEnded target is named free = cancel_ended_row_leads mode r (subtask.Guest k) s (undelivered_end (event_of (subtask.Guest k) s)) target refl (inl (h, named)) NoWord
   cancel_guest_leads mode r h k StartNotRun target is named free =
       let says = subst (CaseSays k s) is (case_says k s) in
       goes_on_saying x main s n l next (cancel_label mode n 3) (cancel_withdraws n r k s) (cancel_plain mode n 3)
@@ -508,7 +504,7 @@ module _ (x : Setting) (main : Main) (s : Core) (n : ℕ) (l : Label) (next : Tu
       let asks = asks_walks k h named (goes_on_case k s CallbackYields is refl) in
       stop (pauses n) (cancel_promotes_yield n k s) refl (λ leave. cancel_goes_behind_walks n refl k leave (ByHandle h named) free
       (promoted_walks n k refl (ready_at (place_of k s) (yields_ready (place_of k s) (subst (CaseSays k s) is (case_says k s)))) asks))
-  cancel_guest_leads mode r h k OtherwiseRuns target is named free = cancel_by_end_leads mode r (subtask.Guest k) (cancel_asks k s) (subtask_ended (subtask.Guest k) (cancel_asks k s)) target (event_owed k (Some own.Cancelled) s) (ByHandle h named) (inl free) (asks_walks k h named (goes_on_case k s OtherwiseRuns is refl))
+  cancel_guest_leads mode r h k OtherwiseRuns target is named free = cancel_by_end_leads mode r (subtask.Guest k) (cancel_asks k s) (subtask_ended (subtask.Guest k) (cancel_asks k s)) target (event_owed k (Some own.Cancelled) s) (inl (h, named)) (inl free) (asks_walks k h named (goes_on_case k s OtherwiseRuns is refl))
 
   cancel_subtask_leads : (mode : Mode) (r h : ℕ) (sub : Subtask) → cancelled_of_op x.component n s (how_far_of n s) ≡ Some sub → subtask_at (instance_of n s) h s ≡ Some sub → is_joined (join_of sub s) ≡ false → Leads a s (cancel_subtask mode n r s sub)
   unfolding cancel_aborts_host
@@ -516,18 +512,18 @@ module _ (x : Setting) (main : Main) (s : Core) (n : ℕ) (l : Label) (next : Tu
   cancel_subtask_leads mode r h (subtask.Host i) target named free =
       let has : HasSubtask a n (subtask.Host i) = ByHandle h named in
       trap_if_leads a s (was_cancelled i s) trap.SubtaskCancelAfterTerminal _ (λ e.
-      cancel_by_end_leads mode r (subtask.Host i) (cancel_aborts_host i s) (subtask_ended (subtask.Host i) (cancel_aborts_host i s)) target (event_aborted i s) has (inl free) (word (SetCancelled i) (n, (refl, has)) (word (SetPhase i (aborted_phase (phase_of i s))) (AbortsOwn (n, (h, (refl, named))), refl) NoWord)))
+      cancel_by_end_leads mode r (subtask.Host i) (cancel_aborts_host i s) (subtask_ended (subtask.Host i) (cancel_aborts_host i s)) target (event_aborted i s) (inl (h, named)) (inl free) (word (SetCancelled i) (n, (refl, has)) (word (SetPhase i (aborted_phase (phase_of i s))) (AbortsOwn (n, (h, (refl, named))), refl) NoWord)))
 
   cancel_row_leads : (mode : Mode) (r h : ℕ) (f : HowFar) → cancel_target n s (op_of x.component n s) ≡ subtask_at (instance_of n s) h s → how_far_of n s ≡ f → Leads a s (cancel_row mode n r h s f)
   unfolding cancel_resumed
   cancel_row_leads mode r h (how_far.Cancels sub) target far =
       let has : HasSubtask a n sub = ByOp (ap (λ y. subtask_under_way y) far) in
-      cancel_by_end_leads mode r sub (cancel_resumed n sub s) (subtask_ended sub (cancel_resumed n sub s)) (ap (cancelled_of_op x.component n s) far) (event_resumed n sub s) has (inr far)
+      cancel_by_end_leads mode r sub (cancel_resumed n sub s) (subtask_ended sub (cancel_resumed n sub s)) (ap (cancelled_of_op x.component n s) far) (event_resumed n sub s) (inr (inl far)) (inr far)
       (join_walks n refl sub join.Nowhere (n, (refl, has)) (word (SetSavedCallee n None) tt (put_back_walks n refl (saved_callee_of n s) (subtask_instance sub s) NoWord)))
   cancel_row_leads mode r h (how_far.AwaitsEnd sub) target far =
       let has : HasSubtask a n sub = ByOp (ap (λ y. subtask_under_way y) far) in
       let t = set_join sub join.Nowhere s in
-      cancel_ended_row_leads mode r sub t (undelivered_end (event_of sub t)) (ap (cancelled_of_op x.component n s) far) (ap (λ o. undelivered_end o) (sym (event_joined sub join.Nowhere s))) has (join_walks n refl sub join.Nowhere (n, (refl, has)) NoWord)
+      cancel_ended_row_leads mode r sub t (undelivered_end (event_of sub t)) (ap (cancelled_of_op x.component n s) far) (ap (λ o. undelivered_end o) (sym (event_joined sub join.Nowhere s))) (inr (inr far)) (join_walks n refl sub join.Nowhere (n, (refl, has)) NoWord)
   cancel_row_leads mode r h f target far =
       or_trap_leads a s (subtask_at (instance_of n s) h s) trap.BadHandle _ (λ sub named.
       trap_if_leads a s (is_joined (join_of sub s)) trap.WaitableSyncAndAsync _ (λ free.

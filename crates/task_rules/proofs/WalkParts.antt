@@ -1,5 +1,5 @@
 -- What the rows of the ops are made of, as chains of words: what is read, gifts, moves, and a new call.
-use Rattle.task_rules.proofs.Machine.{[], add_call, add_thread, advanced, after_placing, after_word, answered, ap, arith, assigned, behind_one, behind_switch, Blocks, Bool, ByHandle, Call, call_clears_flag, call_group, call_instance, call_made, call_queues, call_resumes, call_settled, call_stops, Callee, Caller, cancel_goes_behind, cancel_label, cancel_stops, cancel_takes_end, checked, Choice, chosen, Core, Enter, enter_runs, Entry, ExportKind, false, foot_of, free_handle, get, get-insert, Gift, gift, give_handle, give_thread_handle, Given, given_code, given_handle, given_result, Goal, goal_of, GoBehind, group_settled, has_entry, HasCalled, HasSet, HasSubtask, how_far_of, HowFar, if◌then◌else◌, inl, inr, instance_of, is_begun, is_blocked_on, is_deletable, is_deletable_call, is_direct, is_explicit, is_group_done, is_joined, is_none, is_running, is_some, IsNew, IsRunner, IsWithdrawn, Join, join_label, join_of, Leaves, less, less_switch, List, Made, MakeCall, may_not_suspend, MayCome, MayDeliver, MayJoin, MayMakeCall, MayRemoveWork, MayWithdraw, MemberGift, Mode, Move, moved_to, NameThread, nat_tests, new_call, new_handle, new_thread, new_thread_handle, next_thread, NoGift, None, not, NoWord, on_call, on_instance, on_thread, on_work, Option, option_map, option_map_or, own_event_of, OwnGift, Place, place_of, Put, put_back, put_switch, received, Records, refl, registers_for, Remains, remove_call, remove_group, remove_thread, remove_work, RemoveWork, saved_callee_of, says, SaysEnd, Scene, set_do_not_suspend, set_end, set_event, set_exited, set_given, set_high, set_how_far, set_join, set_low, set_place, set_position, set_register, set_saved_callee, set_saved_own, set_started, set_subtask_handle, set_switch, set_thread_handle, set_uninteresting, SetCallEvent, SetCallJoin, SetDoNotSuspend, SetEnd, SetExited, SetHowFar, SetRegister, SetSavedCallee, SetSavedOwn, SetStarted, settle_group_of, SetUninteresting, SetWorkJoin, Some, Starts, Status, status_code, Stay, Stop, stopped, subst, Subtask, subtask_at, subtask_handle, sym, sync_sets_flag, TakeWorkEvent, task_of, Thread, thread_group, Trip, true, unqueued, unwrap_or, wait_label, wait_stops, Waits, with_handle, with_switch, with_thread_handle, Withdraw, withdrawn, work_deleted, work_group, ℕ, ◌&&◌, ◌+◌, ◌==◌, ◌∙◌, ◌≡◌, ◌⊎◌}
+use Rattle.task_rules.proofs.Machine.{[], add_call, add_thread, advanced, after_placing, after_word, answered, ap, arith, assigned, behind_one, behind_switch, Blocks, Bool, ByHandle, ByOp, Call, call_clears_flag, call_group, call_instance, call_made, call_queues, call_resumes, call_settled, call_stops, Callee, Caller, cancel_goes_behind, cancel_label, cancel_stops, cancel_takes_end, checked, Choice, chosen, Core, Enter, enter_runs, Entry, event_of, ExportKind, false, foot_of, free_handle, get, get-insert, Gift, gift, give_handle, give_thread_handle, Given, given_code, given_handle, given_result, Goal, goal_of, GoBehind, group_settled, has_entry, HasCalled, HasSet, HasSubtask, how_far_of, HowFar, if◌then◌else◌, inl, inr, instance_of, is_begun, is_blocked_on, is_deletable, is_deletable_call, is_direct, is_explicit, is_group_done, is_joined, is_none, is_running, is_some, IsNew, IsRunner, IsWithdrawn, Join, join_label, join_of, Leaves, less, less_switch, List, Made, MakeCall, may_not_suspend, MayCome, MayDeliver, MayJoin, MayMakeCall, MayRemoveWork, MayWithdraw, MemberGift, Mode, Move, moved_to, NameThread, nat_tests, new_call, new_handle, new_thread, new_thread_handle, next_thread, NoGift, None, not, NoWord, on_call, on_instance, on_thread, on_work, Option, option_map, option_map_or, own_event_of, OwnGift, Place, place_of, Put, put_back, put_switch, received, Records, refl, registers_for, Remains, remove_call, remove_group, remove_thread, remove_work, RemoveWork, saved_callee_of, says, SaysEnd, Scene, set_do_not_suspend, set_end, set_event, set_exited, set_given, set_high, set_how_far, set_join, set_low, set_place, set_position, set_register, set_result, set_saved_callee, set_saved_own, set_started, set_subtask_handle, set_switch, set_thread_handle, set_uninteresting, SetCallEvent, SetCallJoin, SetDoNotSuspend, SetEnd, SetExited, SetHowFar, SetRegister, SetSavedCallee, SetSavedOwn, SetStarted, settle_group_of, SetUninteresting, SetWorkJoin, Some, Starts, Status, status_code, Stay, Stop, stopped, subst, Subtask, subtask_at, subtask_handle, subtask_under_way, sym, sync_sets_flag, TakesCalled, TakesCancelled, TakesNamed, TakeWorkEvent, task_of, Then, Thread, thread_group, Trip, true, unqueued, unwrap_or, wait_label, wait_stops, Waits, with_handle, with_switch, with_thread_handle, Withdraw, withdrawn, work_deleted, work_group, ℕ, ◌&&◌, ◌+◌, ◌==◌, ◌∙◌, ◌≡◌, ◌⊎◌}
 use Rattle.task_machine.specs.declared.words.OwnEvent.TheVariants as own
 use Rattle.task_rules.proofs.MoveLemmas.{put_place}
 use Rattle.task_machine.proofs.CommuteLemmas.{get-change}
@@ -99,7 +99,7 @@ chosen_named n ch s sub e = (unwrap_or ch.member 0, grind arith)
 pub gift_is : (a : Scene) (n : ℕ) (by : Bool) (y : ℕ) (ch : Choice) (g : Gift) → IsRunner a n → (by ≡ true → own_event_of (task_of n a.base) a.base ≡ Some own.Cancelled → MayDeliver a (task_of n a.base)) → gift by (task_of n a.base) y (chosen n ch a.base) a.base ≡ Some g → MayTake a (task_of n a.base) g
 unfolding gift
 gift_is a n by y ch (OwnGift v) is delivers e = ((n, (is, refl)), λ c. delivers (grind arith) (grind arith))
-gift_is a n by y ch (MemberGift sub) is delivers e = let c = chosen_named n ch a.base sub (grind arith) in (n, (is, ByHandle c.0 c.1))
+gift_is a n by y ch (MemberGift sub) is delivers e = let c = chosen_named n ch a.base sub (grind arith) in (n, (c.0, (is, c.1)))
 gift_is a n by y ch NoGift is delivers e = tt
 
 withdraws_by : (k : ℕ) (o : Option ℕ) (es fs : List Entry) (t : Core) (c : Bool) → remove_thread k (record t { queues = with_switch o (if c then set_high es t else set_low fs t).queues }) ≡ remove_thread k (set_switch o (if c then set_high es t else set_low fs t))
@@ -110,6 +110,38 @@ withdraws_by k o es fs t false = refl
 pub withdraws : (k : ℕ) (t : Core) → after_word (Withdraw k) t ≡ remove_thread k (set_switch (less_switch k t.queues.switch) (unqueued k t))
 unfolding unqueued
 withdraws k t = withdraws_by k (less_switch k t.queues.switch) (less k t.queues.high) (less k t.queues.low) t (has_entry k t.queues.high)
+
+-- ---- What an op takes
+
+-- it is about a subtask that a handle names, or that it cancels
+abbrev pub MayCancel : Scene → ℕ → Subtask → Type 0
+MayCancel a n sub = ((h : ℕ) × (subtask_at (instance_of n a.base) h a.base ≡ Some sub)) ⊎
+    ((how_far_of n a.base ≡ how_far.Cancels sub) ⊎ (how_far_of n a.base ≡ how_far.AwaitsEnd sub))
+
+pub cancels_own : (a : Scene) (n : ℕ) (sub : Subtask) → MayCancel a n sub → HasSubtask a n sub
+cancels_own a n sub (inl named) = ByHandle named.0 named.1
+cancels_own a n sub (inr (inl far)) = ByOp (ap (λ h. subtask_under_way h) far)
+cancels_own a n sub (inr (inr far)) = ByOp (ap (λ h. subtask_under_way h) far)
+
+flagged_event : (k j : ℕ) (o : Option Bool) (s : Core) → event_of (subtask.Guest k) (put_back o j s) ≡ event_of (subtask.Guest k) s
+unfolding set_do_not_suspend on_instance
+flagged_event k j o s = grind arith
+
+answered_taken : (n r v k : ℕ) (s : Core) → set_event (subtask.Guest k) None (answered n r v s) ≡ answered n r v (set_event (subtask.Guest k) None s)
+unfolding answered assigned advanced moved_to set_how_far set_position on_thread set_register set_saved_callee set_event on_call
+answered_taken n r v k s = refl
+
+pub answered_parted : (n r v k : ℕ) (s : Core) → set_result k None (answered n r v s) ≡ answered n r v (set_result k None s)
+unfolding answered assigned advanced moved_to set_how_far set_position on_thread set_register set_saved_callee set_result on_call
+answered_parted n r v k s = refl
+
+pub assigned_fresh : (n r v : ℕ) (s : Core) → how_far_of n (assigned n r v s) ≡ how_far.Fresh
+unfolding assigned advanced moved_to
+assigned_fresh n r v s = far_fresh n _
+
+pub answered_fresh : (n r v : ℕ) (s : Core) → how_far_of n (answered n r v s) ≡ how_far.Fresh
+unfolding answered
+answered_fresh n r v s = assigned_fresh n r v (set_saved_callee n None s)
 
 -- ---- The moves
 
@@ -136,17 +168,29 @@ module _ {a : Scene} {b : Core} (n : ℕ) (is : IsRunner a n) where
   join_walks (subtask.Guest k) j ok c = word (SetCallJoin k j) ok c
   join_walks (subtask.Host i) j ok c = word (SetWorkJoin i j) ok c
 
-  event_taken_walks : (sub : Subtask) {t : Core} → HasSubtask a n sub → Keep a b t → Keep a b (set_event sub None t)
-  event_taken_walks (subtask.Guest k) has c = word (SetCallEvent k None) (n, (is, has)) c
-  event_taken_walks (subtask.Host i) has c = word (TakeWorkEvent i) (n, (is, has)) c
+  -- an op that cancels the subtask, or will
+  event_taken_walks : (sub : Subtask) {t : Core} → MayCancel a n sub → Keep a b t → Keep a b (set_event sub None t)
+  event_taken_walks (subtask.Guest k) (inl named) c = word (SetCallEvent k None) (TakesNamed (n, (named.0, (is, named.1)))) c
+  event_taken_walks (subtask.Guest k) (inr far) c = word (SetCallEvent k None) (TakesCancelled n is far) c
+  event_taken_walks (subtask.Host i) may c = word (TakeWorkEvent i) (n, (is, cancels_own a n (subtask.Host i) may)) c
 
   pub put_back_walks : (o : Option Bool) (j : ℕ) {t : Core} → Keep a b t → Keep a b (put_back o j t)
   put_back_walks None j c = c
   put_back_walks (Some f) j c = word (SetDoNotSuspend j f) tt c
 
-  pub call_resumes_walks : (k : ℕ) {t : Core} → HasSubtask a n (subtask.Guest k) → Keep a b t → Keep a b (call_resumes n k t)
+  -- the call hasn't returned
+  pub call_resumes_walks : (k : ℕ) {t : Core} → how_far_of n a.base ≡ how_far.Calls (subtask.Guest k) → (event_of (subtask.Guest k) t ≡ Some status.Returned → ⊥) → Keep a b t → Keep a b (call_resumes n k t)
   unfolding call_resumes
-  call_resumes_walks k {t = t} has c = event_taken_walks (subtask.Guest k) has (put_back_walks (saved_callee_of n t) (call_instance k t) c)
+  call_resumes_walks k {t = t} far other c =
+      word (SetCallEvent k None) (TakesCalled n is far (inr (λ e. other (sym (flagged_event k (call_instance k t) (saved_callee_of n t) t) ∙ e)))) (put_back_walks (saved_callee_of n t) (call_instance k t) c)
+
+  -- it has, and the op is done before its event is taken
+  pub call_answers_walks : Stands a b n → (r v k : ℕ) {t : Core} → how_far_of n a.base ≡ how_far.Calls (subtask.Guest k) → Keep a b t → Stay a b (answered n r v (call_resumes n k t))
+  unfolding call_resumes
+  call_answers_walks on r v k {t = t} far c =
+      let u = put_back (saved_callee_of n t) (call_instance k t) t in
+      subst (λ (w : Core). Stay a b w) (answered_taken n r v k u)
+      (Then _ (SetCallEvent k None) (answered_walks n is on r v (put_back_walks (saved_callee_of n t) (call_instance k t) c)) (TakesCalled n is far (inl (answered_fresh n r v u))))
 
   pub call_stops_walks : (sub : Subtask) (t : Core) → Leaves a n → ((u : Core) → Shifted t u → HasSubtask a n sub ⊎ IsNew a sub u) → ((u : Core) → Shifted t u → option_map_or (is_blocked_on sub) (place_of n u) true ≡ true → MayCome a n (how_far.Calls sub) u) → Keep a b t → Trip a b (call_stops n sub t)
   unfolding call_stops
@@ -171,7 +215,7 @@ module _ {a : Scene} {b : Core} (n : ℕ) (is : IsRunner a n) where
   unfolding work_deleted
   work_deleted_walks i {t = t} ok c = settle_group_of_walks (work_group i t) (word (RemoveWork i) ok c)
 
-  pub cancel_takes_end_walks : Stands a b n → (r : ℕ) (sub : Subtask) (e : Status) {t : Core} → HasSubtask a n sub → Keep a b t → Stay a b (cancel_takes_end n r sub e t)
+  pub cancel_takes_end_walks : Stands a b n → (r : ℕ) (sub : Subtask) (e : Status) {t : Core} → MayCancel a n sub → Keep a b t → Stay a b (cancel_takes_end n r sub e t)
   unfolding cancel_takes_end
   cancel_takes_end_walks on r sub e has c = answered_walks n is on r (status_code e) (event_taken_walks sub has c)
 

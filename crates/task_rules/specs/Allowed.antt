@@ -5,7 +5,7 @@ use Rattle.std.specs.Prelude.{◌≤◌, length, Bool, None, Option, Some, [], f
 use Rattle.task_machine.specs.Core.{Core, MainPlace, Scripted, Unscripted}
 use Rattle.task_machine.specs.Maps.{get}
 use Rattle.task_machine.specs.Moves.{has_entry, is_callback_waiter, is_deletable, is_group_done}
-use Rattle.task_machine.specs.Read.{caller_of, cancel_was_delivered, course_of, course_value, end_of, goal_of, has_ended, has_member, has_waiters, how_far_of, instance_of, is_async_lifted, is_at, is_direct, is_end, is_explicit, is_joined, is_stage_ended, is_waiter, join_of, kind_of, may_not_enter, next_entry, own_event_of, phase_of, place_of, set_at, stage_of, subtask_at, subtask_ended, subtask_handle, task_of, thread_group, was_started, work_caller_of, is_guest_call, is_aborted, is_blocked_on, foot_of}
+use Rattle.task_machine.specs.Read.{caller_of, cancel_was_delivered, course_of, course_value, end_of, event_of, goal_of, has_ended, has_member, has_waiters, how_far_of, instance_of, is_async_lifted, is_at, is_direct, is_end, is_explicit, is_joined, is_stage_ended, is_waiter, join_of, kind_of, may_not_enter, next_entry, own_event_of, phase_of, place_of, set_at, stage_of, subtask_at, subtask_ended, subtask_handle, task_of, thread_group, was_started, work_caller_of, is_guest_call, is_aborted, is_blocked_on, foot_of}
 use Rattle.task_machine.specs.declared.component.Callee.{Callee}
 use Rattle.task_machine.specs.declared.component.ExportKind.{ExportKind}
 use Rattle.task_machine.specs.declared.label.Label.{Label}
@@ -330,10 +330,20 @@ Tells status.StartCancelled k s = ⊥
 abbrev pub IsOwn : Scene → Subtask → Type 0
 IsOwn a sub = (n : ℕ) × (IsRunner a n × HasSubtask a n sub)
 
+-- Why the running thread takes the event of a call.
+pub data MayTakeEvent (a : Scene) (k : ℕ) (s : Core) : Type 0 where
+  TakesNamed : IsNamed a (subtask.Guest k) → MayTakeEvent a k s
+  -- its op cancels the call
+  TakesCancelled : (n : ℕ) → IsRunner a n → (how_far_of n a.base ≡ how_far.Cancels (subtask.Guest k)) ⊎
+      (how_far_of n a.base ≡ how_far.AwaitsEnd (subtask.Guest k)) → MayTakeEvent a k s
+  -- its op was inside of the call, and is done, or the call hasn't returned
+  TakesCalled : (n : ℕ) → IsRunner a n → how_far_of n a.base ≡ how_far.Calls (subtask.Guest k) →
+      (how_far_of n s ≡ how_far.Fresh) ⊎ (event_of (subtask.Guest k) s ≡ Some status.Returned → ⊥) → MayTakeEvent a k s
+
 -- the call's status is told to the calling thread, or the running thread takes it
 abbrev pub MayTell : Scene → ℕ → Option Status → Core → Type 0
 MayTell a k (Some e) s = (is_told k s ≡ true) × (Tells e k s × (is_end e ≡ true → SaysEnd a k e))
-MayTell a k None s = IsOwn a (subtask.Guest k)
+MayTell a k None s = MayTakeEvent a k s
 
 -- Cancelled comes to a task that a handle names, and that is started and hasn't ended; to one that yields comes what it has, or None; what is there is taken by the
 -- running thread
