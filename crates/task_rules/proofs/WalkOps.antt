@@ -1,5 +1,5 @@
 -- The rows of the ops on sets, subtasks and threads as chains of words.
-use Rattle.task_rules.proofs.Machine.{[], aborted_phase, AbortsOwn, add_work, advanced, after_word, AlreadyEnded, answered, Answers, ap, arith, assigned, Async, at_handle_limit, AtOnce, blocked_code, Bool, ByHandle, ByOp, BySetHandle, ByThread, ByWait, Call, call_answered, call_begins, call_host_polled, call_instance, call_of_op, call_pending, call_queues, call_resumes, call_returned, call_row, call_settled, call_status, call_sync_begins, call_sync_host_polled, call_sync_host_row, call_sync_host_stops, call_sync_row, call_sync_status, call_sync_stops, CallbackWaits, CallbackYields, Callee, callee_of_op, CallEnd, caller_of, CallLabel, cancel_aborts_host, cancel_asks, cancel_by_end, cancel_case, cancel_ended_row, cancel_guest, cancel_label, cancel_promotes_yield, cancel_resumed, cancel_row, cancel_stops, cancel_subtask, cancel_takes_end, cancel_target, cancel_wakes_callback, cancel_withdraws, CancelCase, cancelled_of_op, Cancels, change, checked, Choice, chosen, CloseSet, Core, count_work, CountWork, drop_row, dropped, end_for, ended, EndsSubtask, EndWords, enter_row, enter_runs, event_of, export_kind, Failing, false, finds_nothing, first_poll, FirstPoll, fits, free_handle, get, get-remove, Gift, gift, Goal, Goes, group_settled, handed_by, handed_by_call, handed_by_cancel, handed_by_event, handed_by_set, handed_on, handed_out, HandsAtOnce, HandsOut, has_ended, has_member, has_waiters, HasSubtask, host_answered, host_at, host_end, host_pending, host_ready, HostDef, how_far_of, HowFar, inl, inr, instance_of, is_async_lifted, is_async_work, is_callback_yield, is_direct, is_for_main, is_joined, is_ready_to_resume, is_script, is_some, is_stage_ended, is_waiting_on, is_watched, is_yielded, IsNamed, IsNew, IsReadyAtOnce, Join, join_done, join_label, join_of, join_to, joined, joins, Label, Later, Leaves, List, Made, Main, MakeThread, Mark, may, may_hand_on, may_wake_new, MayJoin, MayMakeCall, MemberGift, Mode, Move, moved_to, NameCall, NameThread, NameWork, nat_tests, new_handle, new_thread, new_thread_handle, new_work, next_thread, next_work, NoGift, None, not, NoWord, on_call, on_instance, on_thread, on_work, op_in, op_of, OpenSet, Option, option_map, option_map_or, OtherwiseRuns, OwnGift, packed, passes_check, pauses, phase_of, Place, place_of, poll_row, Progress, promoted_unless, push_high, Put, put_back, put_switch, QueueWork, received, received_woken, Records, refl, registers_for, registers_of, remove, remove_group, remove_thread, remove_work, result_of, Resumes, returned_of_op, saved_callee_of, says, Scene, set_at, set_do_not_suspend, set_drop_row, set_dropped, set_end, set_event, set_how_far, set_join, set_made, set_new_row, set_own_event, set_position, set_register, set_result, set_row, set_saved_callee, set_subtask_handle, SetCancelled, SetExited, SetLabel, SetOwnEvent, SetPhase, SetRegister, SetResult, SetSavedCallee, Setting, settle_group_of, SetUninteresting, Shifts, slot_at, Some, stage_of, StartNotRun, Status, status_code, status_found, Stay, Stops, subst, Subtask, subtask_at, subtask_ended, subtask_handle, subtask_instance, subtask_row, subtask_under_way, suc, Suspends, sym, Sync, T, TakesEvent, task_of, Then, Thread, thread_at, thread_group, thread_handle_of, trap_if, Trip, true, Turn, undelivered_end, UnnameCall, UnnameWork, unwrap_or, value_of, values_in, wait_begins, wait_goes_on, wait_label, wait_row, wait_stops, wait_stops_checked, wakes_joined, Walk, was_cancelled, was_started, Why, Withdraw, withdrawn, Work, work_answered, work_caller_of, work_deleted, work_group, work_queued, work_value, WorkCaller, Writes, WritesAtOnce, WritesCall, WritesNever, WritesToo, written_by, written_by_call, written_by_cancel, Yields, zero, ℕ, ◌&&◌, ◌+◌, ◌==◌, ◌∙◌, ◌∷◌, ◌≡◌, ◌⊎◌}
+use Rattle.task_rules.proofs.Machine.{[], aborted_phase, AbortsOwn, add_work, advanced, after_word, AlreadyEnded, answered, Answers, ap, arith, assigned, Async, at_handle_limit, AtOnce, blocked_code, Bool, ByHandle, ByOp, BySetHandle, ByThread, ByWait, Call, call_answered, call_begins, call_host_polled, call_instance, call_of_op, call_pending, call_queues, call_resumes, call_returned, call_row, call_settled, call_status, call_sync_begins, call_sync_host_polled, call_sync_host_row, call_sync_host_stops, call_sync_row, call_sync_status, call_sync_stops, CallbackWaits, CallbackYields, Callee, callee_of_op, CallEnd, caller_of, CallLabel, cancel_aborts_host, cancel_asks, cancel_by_end, cancel_case, cancel_ended_row, cancel_guest, cancel_label, cancel_promotes_yield, cancel_resumed, cancel_row, cancel_stops, cancel_subtask, cancel_takes_end, cancel_target, cancel_wakes_callback, cancel_withdraws, CancelCase, cancelled_of_op, Cancels, change, checked, Choice, chosen, CloseSet, Core, count_work, CountWork, drop_row, dropped, end_for, ended, EndsSubtask, EndWords, enter_row, enter_runs, event_of, export_kind, Failing, false, finds_nothing, first_poll, FirstPoll, fits, free_handle, get, get-remove, Gift, gift, Goal, Goes, group_settled, handed_by, handed_by_call, handed_by_cancel, handed_by_event, handed_by_set, handed_on, handed_out, HandsAtOnce, HandsOut, has_ended, has_member, has_waiters, HasSubtask, host_answered, host_at, host_end, host_pending, host_ready, HostDef, how_far_of, HowFar, inl, inr, instance_of, is_async_lifted, is_async_work, is_callback_yield, is_direct, is_for_main, is_joined, is_ready_to_resume, is_script, is_some, is_stage_ended, is_waiting_on, is_watched, is_yielded, IsNamed, IsNew, IsReadyAtOnce, Join, join_done, join_label, join_of, join_to, joined, joins, Label, Later, Leaves, List, Made, Main, MakeThread, Mark, may, may_hand_on, may_wake_new, MayCancel, MayJoin, MayMakeCall, MemberGift, Mode, Move, moved_to, NameCall, NameThread, NameWork, nat_tests, new_handle, new_thread, new_thread_handle, new_work, next_thread, next_work, NoGift, None, not, NoWord, on_call, on_instance, on_thread, on_work, op_in, op_of, OpenSet, Option, option_map, option_map_or, OtherwiseRuns, OwnGift, packed, passes_check, pauses, phase_of, Place, place_of, poll_row, Progress, promoted_unless, push_high, Put, put_back, put_switch, QueueWork, received, received_woken, Records, refl, registers_for, registers_of, remove, remove_group, remove_thread, remove_work, result_of, Resumes, returned_of_op, saved_callee_of, says, Scene, set_at, set_do_not_suspend, set_drop_row, set_dropped, set_end, set_event, set_how_far, set_join, set_made, set_new_row, set_own_event, set_position, set_register, set_result, set_row, set_saved_callee, set_subtask_handle, SetCancelled, SetExited, SetLabel, SetOwnEvent, SetPhase, SetRegister, SetResult, SetSavedCallee, Setting, settle_group_of, SetUninteresting, Shifts, slot_at, Some, stage_of, StartNotRun, Status, status_code, status_found, Stay, Stops, subst, Subtask, subtask_at, subtask_ended, subtask_handle, subtask_instance, subtask_row, subtask_under_way, suc, Suspends, sym, Sync, T, TakesEvent, task_of, Then, Thread, thread_at, thread_group, thread_handle_of, trap_if, Trip, true, Turn, undelivered_end, UnnameCall, UnnameWork, unwrap_or, value_of, values_in, wait_begins, wait_goes_on, wait_label, wait_row, wait_stops, wait_stops_checked, wakes_joined, Walk, was_cancelled, was_started, Why, Withdraw, withdrawn, Work, work_answered, work_caller_of, work_deleted, work_group, work_queued, work_value, WorkCaller, Writes, WritesAtOnce, WritesCall, WritesNever, WritesToo, written_by, written_by_call, written_by_cancel, Yields, zero, ℕ, ◌&&◌, ◌+◌, ◌==◌, ◌∙◌, ◌∷◌, ◌≡◌, ◌⊎◌}
 use Rattle.task_machine.specs.declared.component.Slot.{Slot}
 use Rattle.task_machine.specs.declared.label.ThreadLabel.{ThreadLabel}
 use Rattle.task_machine.specs.declared.op.CallOp.{CallOp}
@@ -44,7 +44,7 @@ use Rattle.task_machine.specs.declared.records.CallEnd.TheVariants as call_end
 use Rattle.task_machine.specs.declared.words.Status.TheVariants as status
 use Rattle.task_rules.proofs.WalkParts.{answered_settled}
 use Rattle.task_rules.proofs.WalkMoves.{call_done_walks}
-use Rattle.task_rules.proofs.WalkParts.{MayCancel, cancels_own, answered_parted, call_answers_walks, answered_fresh, assigned_fresh}
+use Rattle.task_rules.proofs.WalkParts.{answered_parted, call_answers_walks, answered_fresh, assigned_fresh}
 
 -- ---- What the rows read
 
@@ -456,7 +456,7 @@ module _ (x : Setting) (main : Main) (s : Core) (n : ℕ) (l : Label) (next : Tu
   cancel_by_end_leads Async r sub t false target same has free c = go (cancel_label Async n blocked_code) (answered n r blocked_code t) refl (answered_walks n refl on r blocked_code c)
   cancel_by_end_leads Sync r sub t false target same has free c =
       trap_if_leads a s (not (passes_check (instance_of n t) t)) trap.CannotBlockSyncTask _ (λ e.
-      stop (pauses n) (cancel_stops n sub t) refl (λ leave. cancel_stops_walks n refl sub leave (cancels_own a n sub has) free c))
+      stop (pauses n) (cancel_stops n sub t) refl (λ leave. cancel_stops_walks n refl sub leave has free c))
 
   asks_walks : (k h : ℕ) → subtask_at (instance_of n s) h s ≡ Some (subtask.Guest k) → (has_ended k s ≡ false) × (was_started k s ≡ true) → Keep a s (cancel_asks k s)
   unfolding cancel_asks
@@ -498,11 +498,11 @@ module _ (x : Setting) (main : Main) (s : Core) (n : ℕ) (l : Label) (next : Tu
       (λ at. answered_walks n refl on r 3 (withdrawn_walks n refl k (n, (refl, ((n, (h, (refl, named))), (says.1, (says.0, (refl, says.1)))))) (ap (λ (y : Label). written_by x.component s y s) at ∙ (cancel_writes mode s ∙ ap (option_map (end_for status.StartCancelled)) target)) NoWord))
   cancel_guest_leads mode r h k CallbackWaits target is named free =
       let asks = asks_walks k h named (goes_on_case k s CallbackWaits is refl) in
-      stop (pauses n) (cancel_wakes_callback n k s) refl (λ leave. cancel_goes_behind_walks n refl k leave (ByHandle h named) free
+      stop (pauses n) (cancel_wakes_callback n k s) refl (λ leave. cancel_goes_behind_walks n refl k leave (inl (h, named)) free
       (placed (Put mark.Switch k (why.Delivery delivery.Cancel)) (inl (Cancels (subst (CaseSays k s) is (case_says k s)) refl)) asks))
   cancel_guest_leads mode r h k CallbackYields target is named free =
       let asks = asks_walks k h named (goes_on_case k s CallbackYields is refl) in
-      stop (pauses n) (cancel_promotes_yield n k s) refl (λ leave. cancel_goes_behind_walks n refl k leave (ByHandle h named) free
+      stop (pauses n) (cancel_promotes_yield n k s) refl (λ leave. cancel_goes_behind_walks n refl k leave (inl (h, named)) free
       (promoted_walks n k refl (ready_at (place_of k s) (yields_ready (place_of k s) (subst (CaseSays k s) is (case_says k s)))) asks))
   cancel_guest_leads mode r h k OtherwiseRuns target is named free = cancel_by_end_leads mode r (subtask.Guest k) (cancel_asks k s) (subtask_ended (subtask.Guest k) (cancel_asks k s)) target (event_owed k (Some own.Cancelled) s) (inl (h, named)) (inl free) (asks_walks k h named (goes_on_case k s OtherwiseRuns is refl))
 

@@ -1,5 +1,5 @@
 -- What the rows of the ops are made of, as chains of words: what is read, gifts, moves, and a new call.
-use Rattle.task_rules.proofs.Machine.{[], add_call, add_thread, advanced, after_placing, after_word, answered, ap, arith, assigned, behind_one, behind_switch, Blocks, Bool, ByHandle, ByOp, Call, call_clears_flag, call_group, call_instance, call_made, call_queues, call_resumes, call_settled, call_stops, Callee, Caller, cancel_goes_behind, cancel_label, cancel_stops, cancel_takes_end, checked, Choice, chosen, Core, Enter, enter_runs, Entry, event_of, ExportKind, false, foot_of, free_handle, get, get-insert, Gift, gift, give_handle, give_thread_handle, Given, given_code, given_handle, given_result, Goal, goal_of, GoBehind, group_settled, has_entry, HasCalled, HasSet, HasSubtask, how_far_of, HowFar, if◌then◌else◌, inl, inr, instance_of, is_begun, is_blocked_on, is_deletable, is_deletable_call, is_direct, is_explicit, is_group_done, is_joined, is_none, is_running, is_some, IsNew, IsRunner, IsWithdrawn, Join, join_label, join_of, Leaves, less, less_switch, List, Made, MakeCall, may_not_suspend, MayCome, MayDeliver, MayJoin, MayMakeCall, MayRemoveWork, MayWithdraw, MemberGift, Mode, Move, moved_to, NameThread, nat_tests, new_call, new_handle, new_thread, new_thread_handle, next_thread, NoGift, None, not, NoWord, on_call, on_instance, on_thread, on_work, Option, option_map, option_map_or, own_event_of, OwnGift, Place, place_of, Put, put_back, put_switch, received, Records, refl, registers_for, Remains, remove_call, remove_group, remove_thread, remove_work, RemoveWork, saved_callee_of, says, SaysEnd, Scene, set_do_not_suspend, set_end, set_event, set_exited, set_given, set_high, set_how_far, set_join, set_low, set_place, set_position, set_register, set_result, set_saved_callee, set_saved_own, set_started, set_subtask_handle, set_switch, set_thread_handle, set_uninteresting, SetCallEvent, SetCallJoin, SetDoNotSuspend, SetEnd, SetExited, SetHowFar, SetRegister, SetSavedCallee, SetSavedOwn, SetStarted, settle_group_of, SetUninteresting, SetWorkJoin, Some, Starts, Status, status_code, Stay, Stop, stopped, subst, Subtask, subtask_at, subtask_handle, subtask_under_way, sym, sync_sets_flag, TakesCalled, TakesCancelled, TakesNamed, TakeWorkEvent, task_of, Then, Thread, thread_group, Trip, true, unqueued, unwrap_or, wait_label, wait_stops, Waits, with_handle, with_switch, with_thread_handle, Withdraw, withdrawn, work_deleted, work_group, ℕ, ◌&&◌, ◌+◌, ◌==◌, ◌∙◌, ◌≡◌, ◌⊎◌}
+use Rattle.task_rules.proofs.Machine.{[], add_call, add_thread, advanced, after_placing, after_word, answered, ap, arith, assigned, behind_one, behind_switch, Blocks, Bool, ByHandle, ByOp, Call, call_clears_flag, call_group, call_instance, call_made, call_queues, call_resumes, call_settled, call_stops, Callee, Caller, cancel_goes_behind, cancel_label, cancel_stops, cancel_takes_end, checked, Choice, chosen, Core, Enter, enter_runs, Entry, event_of, ExportKind, false, foot_of, free_handle, get, get-insert, Gift, gift, give_handle, give_thread_handle, Given, given_code, given_handle, given_result, Goal, goal_of, GoBehind, group_settled, has_entry, HasCalled, HasSet, HasSubtask, how_far_of, HowFar, if◌then◌else◌, inl, inr, instance_of, is_begun, is_blocked_on, is_deletable, is_deletable_call, is_direct, is_explicit, is_group_done, is_joined, is_none, is_running, is_some, IsNew, IsRunner, IsWithdrawn, Join, join_label, join_of, Leaves, less, less_switch, List, Made, MakeCall, may_not_suspend, MayCancel, MayCome, MayDeliver, MayJoin, MayMakeCall, MayRemoveWork, MayWithdraw, MemberGift, Mode, Move, moved_to, NameThread, nat_tests, new_call, new_handle, new_thread, new_thread_handle, next_thread, NoGift, None, not, NoWord, on_call, on_instance, on_thread, on_work, Option, option_map, option_map_or, own_event_of, OwnGift, Place, place_of, Put, put_back, put_switch, received, Records, refl, registers_for, Remains, remove_call, remove_group, remove_thread, remove_work, RemoveWork, saved_callee_of, says, SaysEnd, Scene, set_do_not_suspend, set_end, set_event, set_exited, set_given, set_high, set_how_far, set_join, set_low, set_place, set_position, set_register, set_result, set_saved_callee, set_saved_own, set_started, set_subtask_handle, set_switch, set_thread_handle, set_uninteresting, SetCallEvent, SetCallJoin, SetDoNotSuspend, SetEnd, SetExited, SetHowFar, SetRegister, SetSavedCallee, SetSavedOwn, SetStarted, settle_group_of, SetUninteresting, SetWorkJoin, Some, Starts, Status, status_code, Stay, Stop, stopped, subst, Subtask, subtask_at, subtask_handle, subtask_under_way, sym, sync_sets_flag, TakesCalled, TakesCancelled, TakesNamed, TakeWorkEvent, task_of, Then, Thread, thread_group, Trip, true, unqueued, unwrap_or, wait_label, wait_stops, Waits, with_handle, with_switch, with_thread_handle, Withdraw, withdrawn, work_deleted, work_group, ℕ, ◌&&◌, ◌+◌, ◌==◌, ◌∙◌, ◌≡◌, ◌⊎◌}
 use Rattle.task_machine.specs.declared.words.OwnEvent.TheVariants as own
 use Rattle.task_rules.proofs.MoveLemmas.{put_place}
 use Rattle.task_machine.proofs.CommuteLemmas.{get-change}
@@ -113,11 +113,6 @@ withdraws k t = withdraws_by k (less_switch k t.queues.switch) (less k t.queues.
 
 -- ---- What an op takes
 
--- it is about a subtask that a handle names, or that it cancels
-abbrev pub MayCancel : Scene → ℕ → Subtask → Type 0
-MayCancel a n sub = ((h : ℕ) × (subtask_at (instance_of n a.base) h a.base ≡ Some sub)) ⊎
-    ((how_far_of n a.base ≡ how_far.Cancels sub) ⊎ (how_far_of n a.base ≡ how_far.AwaitsEnd sub))
-
 pub cancels_own : (a : Scene) (n : ℕ) (sub : Subtask) → MayCancel a n sub → HasSubtask a n sub
 cancels_own a n sub (inl named) = ByHandle named.0 named.1
 cancels_own a n sub (inr (inl far)) = ByOp (ap (λ h. subtask_under_way h) far)
@@ -219,22 +214,22 @@ module _ {a : Scene} {b : Core} (n : ℕ) (is : IsRunner a n) where
   unfolding cancel_takes_end
   cancel_takes_end_walks on r sub e has c = answered_walks n is on r (status_code e) (event_taken_walks sub has c)
 
-  pub cancel_stops_walks : (sub : Subtask) {t : Core} → Leaves a n → HasSubtask a n sub → (is_joined (join_of sub a.base) ≡ false) ⊎ (how_far_of n a.base ≡ how_far.Cancels sub) → Keep a b t → Trip a b (cancel_stops n sub t)
+  pub cancel_stops_walks : (sub : Subtask) {t : Core} → Leaves a n → MayCancel a n sub → (is_joined (join_of sub a.base) ≡ false) ⊎ (how_far_of n a.base ≡ how_far.Cancels sub) → Keep a b t → Trip a b (cancel_stops n sub t)
   unfolding cancel_stops
   cancel_stops_walks sub {t = t} leave has free c =
       let u = set_join sub (join.Watched n) (set_saved_callee n None t) in
-      lands_at (Move n (place.Blocked sub)) n (how_far.AwaitsEnd sub) (Blocks sub leave (inl has) refl) (is, has) (stopped_walks (checked (instance_of n t) u) (checked_walks (instance_of n t) (join_walks sub (join.Watched n) (is, (has, free)) (word (SetSavedCallee n None) tt c))))
+      lands_at (Move n (place.Blocked sub)) n (how_far.AwaitsEnd sub) (Blocks sub leave (inl (cancels_own a n sub has)) refl) (is, has) (stopped_walks (checked (instance_of n t) u) (checked_walks (instance_of n t) (join_walks sub (join.Watched n) (is, (cancels_own a n sub has, free)) (word (SetSavedCallee n None) tt c))))
 
   behind_switch_walks : (o : Option ℕ) (h : HowFar) {t : Core} → t.queues.switch ≡ o → Leaves a n → ((u : Core) → MayCome a n h u) → Keep a b t → Trip a b (set_how_far n h (behind_switch n o t))
   behind_switch_walks None h {t = t} at leave comes c = Remains (set_how_far n h t) (keep_stay (word (SetHowFar n h) (comes t) c)) (λ m to. not_main m (sym leave.1.0 ∙ to))
   behind_switch_walks (Some m) h {t = t} at leave comes c = lands_at (GoBehind (foot_of m t) n) n h (leave, inr (m, (at, refl))) (comes (after_placing (GoBehind (foot_of m t) n) t)) c
 
-  pub cancel_goes_behind_walks : (k : ℕ) {t : Core} → Leaves a n → HasSubtask a n (subtask.Guest k) → is_joined (join_of (subtask.Guest k) a.base) ≡ false → Keep a b t → Trip a b (cancel_goes_behind n k t)
+  pub cancel_goes_behind_walks : (k : ℕ) {t : Core} → Leaves a n → MayCancel a n (subtask.Guest k) → is_joined (join_of (subtask.Guest k) a.base) ≡ false → Keep a b t → Trip a b (cancel_goes_behind n k t)
   unfolding cancel_goes_behind set_join on_call set_do_not_suspend on_instance set_saved_callee on_thread
   cancel_goes_behind_walks k {t = t} leave has free c =
       let j = call_instance k t in
       behind_switch_walks t.queues.switch (how_far.Cancels (subtask.Guest k)) refl leave (λ u. (is, has))
-      (join_walks (subtask.Guest k) (join.Watched n) (is, (has, inl free)) (word (SetDoNotSuspend j false) tt (word (SetSavedCallee n (Some (may_not_suspend j t))) tt c)))
+      (join_walks (subtask.Guest k) (join.Watched n) (is, (cancels_own a n (subtask.Guest k) has, inl free)) (word (SetDoNotSuspend j false) tt (word (SetSavedCallee n (Some (may_not_suspend j t))) tt c)))
 
   pub withdrawn_walks : (k : ℕ) {t : Core} → MayWithdraw a k t → SaysEnd a k status.StartCancelled → Keep a b t → Keep a b (withdrawn k t)
   unfolding withdrawn remove_thread

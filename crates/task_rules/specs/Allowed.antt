@@ -106,6 +106,11 @@ pub data HasSubtask (a : Scene) (n : ℕ) (sub : Subtask) : Type 0 where
   ByHandle : (h : ℕ) → subtask_at (instance_of n a.base) h a.base ≡ Some sub → HasSubtask a n sub
   ByOp : subtask_under_way (how_far_of n a.base) ≡ Some sub → HasSubtask a n sub
 
+-- the op cancels a subtask that a handle names, or cancels it already
+abbrev pub MayCancel : Scene → ℕ → Subtask → Type 0
+MayCancel a n sub = ((h : ℕ) × (subtask_at (instance_of n a.base) h a.base ≡ Some sub)) ⊎
+    ((how_far_of n a.base ≡ how_far.Cancels sub) ⊎ (how_far_of n a.base ≡ how_far.AwaitsEnd sub))
+
 -- a handle of the running thread's instance names it
 abbrev pub IsNamed : Scene → Subtask → Type 0
 IsNamed a sub = (n : ℕ) × ((h : ℕ) × (IsRunner a n × (subtask_at (instance_of n a.base) h a.base ≡ Some sub)))
@@ -232,8 +237,8 @@ MayCome a n (how_far.Calls (subtask.Guest k)) s = IsRunner a n × (((how_far_of 
     (how_far_of n s ≡ how_far.Calls (subtask.Guest k))) ⊎ (IsNew a (subtask.Guest k) s × HasCalled n k s))
 MayCome a n (how_far.Calls (subtask.Host i)) s = IsRunner a n × (IsNew a (subtask.Host i) s × ((work_caller_of i s ≡ work_caller.Sync n) ×
     (option_map_or (is_blocked_on (subtask.Host i)) (place_of n s) true ≡ true)))
-MayCome a n (how_far.Cancels sub) s = IsRunner a n × HasSubtask a n sub
-MayCome a n (how_far.AwaitsEnd sub) s = IsRunner a n × HasSubtask a n sub
+MayCome a n (how_far.Cancels sub) s = IsRunner a n × MayCancel a n sub
+MayCome a n (how_far.AwaitsEnd sub) s = IsRunner a n × MayCancel a n sub
 -- its direct callee, which ran, has come to a value
 MayCome a n (how_far.Answered v) s = (m : ℕ) × (IsRunner a m × ((a.next ≡ turn.Run n) × (place_of n a.base ≡ Some (place.Under m))))
 MayCome a n h s = IsRunner a n
