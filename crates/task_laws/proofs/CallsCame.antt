@@ -56,7 +56,7 @@ module _ {a : Scene} where
   unfolding add_call add_group add_set add_thread add_work count_work free_handle free_thread_handle give_handle give_result give_thread_handle on_call on_instance on_thread on_work push_high remove_call remove_group remove_set remove_thread remove_work set_backpressure set_cancel_delivered set_cancelled set_course set_do_not_enter set_do_not_suspend set_end set_event set_exited set_how_far set_join set_own_event set_phase set_position set_register set_result set_saved_callee set_saved_own set_script set_stage set_started set_starting_published set_subtask_handle set_thread_handle set_trapped set_uninteresting set_word take_result call_made with_handle with_thread_handle work_queued poll_pends
   call_came (MakeCall f e x g group words) s ok k =
       after_insert (CallCame a _ s _ k) s.calls _ k call_stays _ (λ at. NewCall f e x g group at (at_most at) ok refl)
-  call_came (RemoveCall j) s ok k = after_remove (CallCame a _ s _ k) s.calls j k call_stays (λ at. NoCall refl (inr (rw at ok)))
+  call_came (RemoveCall j) s ok k = after_remove (CallCame a _ s _ k) s.calls j k call_stays (λ at. NoCall refl (inr (rw at ok.0)))
   call_came (SetEnd j e) s ok k = let ends : (v : CallEnd) × ((Some e ≡ Some v) × MayEnd a j v s) = (e, (refl, ok.0)) in
       call_changed _ j _ s _ k (λ c. search (inl, inr))
   call_came w s ok k = first_of (search call_stays, search (call_changed, either))

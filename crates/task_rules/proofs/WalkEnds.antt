@@ -1,7 +1,13 @@
 -- The end of a task as a chain of words.
-use Rattle.task_rules.proofs.Machine.{ap, arith, Call, CallEnd, Caller, caller_of, cancelled, Core, end_of, false, get, give_result, GiveResult, Goal, goal_of, is_told, is_waiting_on, join_of, MayEnd, nat_tests, None, on_call, on_thread, Option, option_map, option_map_or, place_of, refl, result_given, returned, SaysEnd, Scene, set_end, set_register, set_result, SetEnd, SetRegister, SetResult, Some, sym, told, true, ℕ, ◌∙◌, ◌≡◌}
+use Rattle.task_rules.proofs.Machine.{ap, arith, blocked_on, Bool, Call, CallEnd, Caller, caller_of, cancelled, change, Core, end_of, false, get, give_result, GiveResult, Goal, goal_of, if◌then◌else◌, is_callback_waiter, is_over, is_some, is_told, is_waiting_on, Join, join_of, MayEnd, nat_tests, None, on_call, on_thread, Option, option_map, option_map_or, place_of, published, Put, put_high, Records, refl, result_given, returned, SaysEnd, Scene, set_end, set_event, set_register, set_result, SetEnd, SetRegister, SetResult, Some, Status, subst, sym, task_of, told, true, unblocked, wake, wake_joined, waken_by, Why, ℕ, ◌∙◌, ◌≡◌}
 use Rattle.task_machine.proofs.CommuteLemmas.{get-change}
 use Rattle.task_machine.proofs.MapLemmas.{change-field}
+use Rattle.task_rules.proofs.CallThreads.{LastEnds}
+use Rattle.task_rules.proofs.PlacingLemmas.{Shifted, placing_shifted, shifted_after, shifted_calls, shifted_same, shifted_task}
+use Rattle.task_machine.specs.declared.records.Delivery.TheVariants as delivery
+use Rattle.task_machine.specs.declared.records.Join.TheVariants as join
+use Rattle.task_machine.specs.declared.records.Why.TheVariants as why
+use Rattle.task_machine.specs.declared.words.Mark.TheVariants as mark
 use Rattle.task_rules.proofs.ChainLemmas.{Keep}
 use Rattle.task_rules.proofs.WalkMoves.{Chosen, ToldTo, told_walks, word}
 use Rattle.task_machine.specs.declared.records.CallEnd.TheVariants as call_end
@@ -63,6 +69,62 @@ told_ends k e s t same told = grind (arith, nat_tests, get-change, same)
 end_goal : (k : ℕ) (e : CallEnd) (s : Core) → goal_of k (set_end k e s) ≡ goal_of k s
 unfolding set_end on_call
 end_goal k e s = grind (arith, nat_tests, get-change)
+
+-- ---- A call whose end is written
+
+put_shifted : (n : ℕ) (w : Why) (s : Core) → Shifted s (put_high n w s)
+put_shifted n w s = placing_shifted (Put mark.High n w) s
+
+unblocked_shifted : (o : Option ℕ) (s : Core) → Shifted s (unblocked o s)
+unblocked_shifted None s = shifted_same s
+unblocked_shifted (Some n) s = put_shifted n why.Resumption s
+
+waken_shifted : (b : Bool) (x n : ℕ) (s : Core) → Shifted s (waken_by b x n s)
+waken_shifted true x n s = put_shifted n (why.Delivery (delivery.Set x)) s
+waken_shifted false x n s = put_shifted n why.Resumption s
+
+wake_shifted : (j : Join) (w : Option ℕ) (s : Core) → Shifted s (wake_joined j w s)
+unfolding wake
+wake_shifted (join.Set x) None s = shifted_same s
+wake_shifted (join.Set x) (Some n) s = waken_shifted (is_callback_waiter n s) x n s
+wake_shifted _ w s = shifted_same s
+
+-- more than the event is told of no call and no thread
+told_kept : (k n : ℕ) (e : Status) (w : Option ℕ) (s : Core) → (task_of n (told k e w s) ≡ task_of n s) × (is_over k (told k e w s) ≡ is_over k s)
+unfolding told published set_event on_call
+told_kept k n e w s = by (is_told k s)
+  where
+    t : Core
+    t = record s { calls = change k (λ (c : Call). record c { event = Some e }) s.calls }
+
+    d : Shifted t (wake_joined (join_of (subtask.Guest k) s) w (unblocked (blocked_on (subtask.Guest k) s) t))
+    d = shifted_after (unblocked_shifted (blocked_on (subtask.Guest k) s) t) (wake_shifted (join_of (subtask.Guest k) s) w (unblocked (blocked_on (subtask.Guest k) s) t))
+
+    by : (b : Bool) → (task_of n (if b then wake_joined (join_of (subtask.Guest k) s) w (unblocked (blocked_on (subtask.Guest k) s) t) else s) ≡ task_of n s) ×
+        (is_over k (if b then wake_joined (join_of (subtask.Guest k) s) w (unblocked (blocked_on (subtask.Guest k) s) t) else s) ≡ is_over k s)
+    by true = (shifted_task d n, ap (λ (m : Records Call). option_map_or (λ (c : Call). is_some c.«end») (get m k) true) (shifted_calls d) ∙ grind (arith, nat_tests, get-change))
+    by false = (refl, refl)
+
+result_kept : (g : Goal) (f : Caller) (k v n : ℕ) (s : Core) → (task_of n (result_given g f k v s) ≡ task_of n s) × (is_over k (result_given g f k v s) ≡ is_over k s)
+unfolding give_result set_register on_thread set_result on_call
+result_kept g f k v n s = (grind (arith, nat_tests, get-change), grind (arith, nat_tests, get-change))
+
+end_over : (k : ℕ) (e : CallEnd) (s : Core) → is_over k (set_end k e s) ≡ true
+unfolding set_end on_call
+end_over k e s = grind (arith, nat_tests, get-change)
+
+pub ended_last : (n k : ℕ) (e : CallEnd) (s : Core) → task_of n s ≡ k → LastEnds n (set_end k e s)
+unfolding set_end on_call
+ended_last n k e s is u same gone = let over = end_over k e s in grind arith
+
+pub returned_last : (n k v : ℕ) (w : Option ℕ) (s : Core) → task_of n s ≡ k → LastEnds n (returned k v w s)
+unfolding returned set_end on_call
+returned_last n k v w s is u same gone =
+    let over = end_over k call_end.Returned s in
+    let t = result_given (goal_of k s) (caller_of k s) k v (set_end k call_end.Returned s) in
+    let r = result_kept (goal_of k s) (caller_of k s) k v n (set_end k call_end.Returned s) in
+    let g = told_kept k n status.Returned w t in
+    subst (λ (j : ℕ). is_over j (told k status.Returned w t) ≡ true) (sym (g.0 ∙ (r.0 ∙ is))) (g.1 ∙ (r.1 ∙ over))
 
 module _ {a : Scene} {b : Core} where
   result_given_walks : (g : Goal) (f : Caller) (k v : ℕ) {s : Core} → goal_of k s ≡ g → SaysEnd a k status.Returned → Keep a b s → Keep a b (result_given g f k v s)

@@ -30,6 +30,10 @@ use Rattle.task_machine.specs.declared.records.Turn.TheVariants as turn
 use Rattle.task_machine.specs.declared.records.Why.TheVariants as why
 use Rattle.task_machine.specs.declared.trap.Trap.TheVariants as trap
 use Rattle.task_machine.specs.declared.words.Mark.TheVariants as mark
+use Rattle.task_rules.proofs.WalkEnds.{ended_last, returned_last}
+use Rattle.task_rules.proofs.CallThreads.{LastEnds, last_of, last_kept, last_shifted, unplaced_call}
+use Rattle.task_rules.proofs.PlacingLemmas.{unplaced, read_unplaced}
+use Rattle.task_rules.proofs.PlacingLemmas.{shifted_after}
 
 -- ---- The op in its script
 
@@ -212,6 +216,31 @@ module _ (x : Setting) (main : Main) (s : Core) (n : ℕ) (l : Label) (next : Tu
   goes_over k m t quiet gone runs says c is to =
       (c is to, quiet_ends (ap is_quiet is ∙ quiet) (λ j at. subst (λ (i : ℕ). (turn.Run n ≡ turn.Run i) ⊎ (option_map_or is_running (place_of i t) true ≡ true)) (one_runner m j (sym to ∙ at)) runs) (λ exit. gone (sym (ap is_exit is) ∙ exit)) (says is))
 
+restored_threads : (n : ℕ) (s : Core) → (exit_restores n s).threads ≡ s.threads
+unfolding exit_restores set_do_not_suspend on_instance
+restored_threads n s = refl
+
+restored_task : (n : ℕ) (s : Core) → task_of n (exit_restores n s) ≡ task_of n s
+restored_task n s = ap (λ (m : Records Thread). option_map_or (λ t. t.call) (get m n) 0) (restored_threads n s)
+
+-- the calls after held threads are released
+reopened_calls : (i : ℕ) (order : List ℕ) (s : Core) → (end_reopens i order s).calls ≡ s.calls
+unfolding end_reopens set_do_not_enter on_instance
+reopened_calls i order s = shifted_calls (shifts_shifted (released_shifts order (set_do_not_enter i false s)))
+
+reopened_threads : (i : ℕ) (order : List ℕ) (s : Core) → (m : ℕ) → option_map unplaced (get (end_reopens i order s).threads m) ≡ option_map unplaced (get s.threads m)
+unfolding end_reopens set_do_not_enter on_instance
+reopened_threads i order s m = (shifts_shifted (released_shifts order (set_do_not_enter i false s))).threads m
+
+reopened_task : (n i : ℕ) (order : List ℕ) (s : Core) → task_of n (end_reopens i order s) ≡ task_of n s
+reopened_task n i order s = read_unplaced (λ r. r.call) 0 (λ r. refl) (get (end_reopens i order s).threads n) (get s.threads n) (reopened_threads i order s n)
+
+code_stops_last : (n : ℕ) (order : List ℕ) (s : Core) → LastEnds n s → LastEnds n (code_stops n order s)
+unfolding code_stops
+code_stops_last n order s last =
+    let t = end_reopens (instance_of n s) order s in
+    last_shifted n (shifts_shifted (stopped_shifts (foot_of n s) t)) (last_kept n s t (λ m. unplaced_call (get s.threads m) (get t.threads m) (reopened_threads (instance_of n s) order s m)) (reopened_calls (instance_of n s) order s) last)
+
 module _ {a : Scene} {b : Core} (n : ℕ) (is : IsRunner a n) where
   -- ---- Registers and words
 
@@ -237,15 +266,15 @@ module _ {a : Scene} {b : Core} (n : ℕ) (is : IsRunner a n) where
   unfolding end_reopens
   reopens_walks i order {t = t} ok c = shifted (released_shifts order (set_do_not_enter i false t)) (word (SetDoNotEnter i false) ok c)
 
-  exit_stops_walks : {t : Core} → Leaves a n → Keep a b t → Trip a b (exit_stops n t)
+  exit_stops_walks : {t : Core} → LastEnds n t → Leaves a n → Keep a b t → Trip a b (exit_stops n t)
   unfolding exit_stops
-  exit_stops_walks {t = t} go c = exits_trip n go (ended_walks n (shifted (stopped_shifts (foot_of n t) (checked (instance_of n t) t)) (shifted (checked_shifts (instance_of n t) t) c)))
+  exit_stops_walks {t = t} last go c = exits_trip n go (ended_walks n (last_shifted n (shifted_after (shifts_shifted (checked_shifts (instance_of n t) t)) (shifts_shifted (stopped_shifts (foot_of n t) (checked (instance_of n t) t)))) last) (shifted (stopped_shifts (foot_of n t) (checked (instance_of n t) t)) (shifted (checked_shifts (instance_of n t) t) c)))
 
   sync_exits_rest : (w : Option ℕ) (t : Core) → SaysEnd a (task_of n t) status.Returned → ToldTo (task_of n t) w (exit_restores n t) → Leaves a n → Keep a b (set_end (task_of n t) call_end.Returned (exit_restores n t)) → Trip a b (sync_exits n w t)
   unfolding sync_exits
   sync_exits_rest w t says to go c =
       let r = returned (task_of n t) (register_of n 0 t) w (exit_restores n t) in
-      exits_trip n go (ended_walks n (shifted (stopped_shifts (foot_of n t) r) (returned_rest (task_of n t) (register_of n 0 t) w (exit_restores n t) says to c)))
+      exits_trip n go (ended_walks n (last_shifted n (shifts_shifted (stopped_shifts (foot_of n t) r)) (returned_last n (task_of n t) (register_of n 0 t) w (exit_restores n t) (restored_task n t))) (shifted (stopped_shifts (foot_of n t) r) (returned_rest (task_of n t) (register_of n 0 t) w (exit_restores n t) says to c)))
 
   sync_exits_walks : (w : Option ℕ) {t : Core} → MayEnd a (task_of n t) call_end.Returned (exit_restores n t) → SaysEnd a (task_of n t) status.Returned → ToldTo (task_of n t) w (exit_restores n t) → Leaves a n → Keep a b t → Trip a b (sync_exits n w t)
   unfolding exit_restores
@@ -253,7 +282,7 @@ module _ {a : Scene} {b : Core} (n : ℕ) (is : IsRunner a n) where
 
   blocking_exits_rest : (w : Option ℕ) (order : List ℕ) (t : Core) → SaysEnd a (task_of n t) status.Returned → ToldTo (task_of n t) w (end_reopens (instance_of n t) order t) → Leaves a n → Keep a b (set_end (task_of n t) call_end.Returned (end_reopens (instance_of n t) order t)) → Trip a b (blocking_exits n w order t)
   unfolding blocking_exits
-  blocking_exits_rest w order t says to go c = exit_stops_walks go (returned_rest (task_of n t) (register_of n 0 t) w (end_reopens (instance_of n t) order t) says to c)
+  blocking_exits_rest w order t says to go c = exit_stops_walks (returned_last n (task_of n t) (register_of n 0 t) w (end_reopens (instance_of n t) order t) (reopened_task n (instance_of n t) order t)) go (returned_rest (task_of n t) (register_of n 0 t) w (end_reopens (instance_of n t) order t) says to c)
 
   blocking_exits_walks : (w : Option ℕ) (order : List ℕ) {t : Core} → MayBar a (instance_of n t) false → MayEnd a (task_of n t) call_end.Returned (end_reopens (instance_of n t) order t) → SaysEnd a (task_of n t) status.Returned → ToldTo (task_of n t) w (end_reopens (instance_of n t) order t) → Leaves a n → Keep a b t → Trip a b (blocking_exits n w order t)
   blocking_exits_walks w order {t = t} bar ok says to go c = blocking_exits_rest w order t says to go (word (SetEnd (task_of n t) call_end.Returned) (ok, says) (reopens_walks (instance_of n t) order bar c))
@@ -264,7 +293,7 @@ module _ {a : Scene} {b : Core} (n : ℕ) (is : IsRunner a n) where
   direct_exits_rest m v t runs to under c =
       let u = set_end (task_of n t) call_end.Returned t in
       let gone : is_none (get (ended n u).threads n) ≡ true = ap (λ (o : Option Thread). is_none o) (ended_gone n u) in
-      let e = ended_walks n c in
+      let e = ended_walks n (ended_last n (task_of n t) call_end.Returned t refl) c in
       subst (λ (y : Core). Trip a b (set_how_far m (how_far.Answered v) y)) (placing_shifted (Move m place.Running) (ended n u)).only (GoesBack e.before (ended n u) n m v (keep_stay e.stays) is runs to under e.settles (Uncovers n is to under gone refl))
 
   direct_exits_walks : (m v : ℕ) {t : Core} → a.turn ≡ turn.Run n → MayEnd a (task_of n t) call_end.Returned t → SaysEnd a (task_of n t) status.Returned → a.next ≡ turn.Run m → place_of m a.base ≡ Some (place.Under n) → Keep a b t → Trip a b (direct_exits n m v t)
@@ -274,9 +303,9 @@ module _ {a : Scene} {b : Core} (n : ℕ) (is : IsRunner a n) where
   unfolding code_stops
   code_stops_walks order {t = t} bar c = shifted (stopped_shifts (foot_of n t) (end_reopens (instance_of n t) order t)) (reopens_walks (instance_of n t) order bar c)
 
-  code_exits_walks : (order : List ℕ) {t : Core} → MayBar a (instance_of n t) false → Leaves a n → Keep a b t → Trip a b (code_exits n order t)
+  code_exits_walks : (order : List ℕ) {t : Core} → LastEnds n t → MayBar a (instance_of n t) false → Leaves a n → Keep a b t → Trip a b (code_exits n order t)
   unfolding code_exits
-  code_exits_walks order {t = t} bar go c = exits_trip n go (ended_walks n (shifted (checked_shifts (instance_of n t) (code_stops n order t)) (code_stops_walks order bar c)))
+  code_exits_walks order {t = t} last bar go c = exits_trip n go (ended_walks n (last_shifted n (shifts_shifted (checked_shifts (instance_of n t) (code_stops n order t))) (code_stops_last n order t last)) (shifted (checked_shifts (instance_of n t) (code_stops n order t)) (code_stops_walks order bar c)))
 
   code_yields_walks : (order : List ℕ) {t : Core} → MayBar a (instance_of n t) false → Leaves a n → EndsActivation a n → MayOwe a (task_of n t) (own_or_none (own_event_of (task_of n t) t)) (code_stops n order t) → Keep a b t → Trip a b (code_yields n order t)
   unfolding code_yields
@@ -294,11 +323,6 @@ exit_stops_gone : (n : ℕ) (t : Core) → get (exit_stops n t).threads n ≡ No
 unfolding exit_stops
 exit_stops_gone n t = ended_gone n (stopped (foot_of n t) (checked (instance_of n t) t))
 
--- the calls after held threads are released
-reopened_calls : (i : ℕ) (order : List ℕ) (s : Core) → (end_reopens i order s).calls ≡ s.calls
-unfolding end_reopens set_do_not_enter on_instance
-reopened_calls i order s = shifted_calls (shifts_shifted (released_shifts order (set_do_not_enter i false s)))
-
 reopened_chosen : (i : ℕ) (order : List ℕ) (x : ℕ) (w : Option ℕ) (s : Core) → Chosen x w s → Chosen x w (end_reopens i order s)
 unfolding end_reopens set_do_not_enter on_instance
 reopened_chosen i order x w s h = chosen_released order x w (set_do_not_enter i false s) h
@@ -306,13 +330,6 @@ reopened_chosen i order x w s h = chosen_released order x w (set_do_not_enter i 
 restored_calls : (n : ℕ) (s : Core) → (exit_restores n s).calls ≡ s.calls
 unfolding exit_restores set_do_not_suspend on_instance
 restored_calls n s = refl
-
-restored_threads : (n : ℕ) (s : Core) → (exit_restores n s).threads ≡ s.threads
-unfolding exit_restores set_do_not_suspend on_instance
-restored_threads n s = refl
-
-restored_task : (n : ℕ) (s : Core) → task_of n (exit_restores n s) ≡ task_of n s
-restored_task n s = ap (λ (m : Records Thread). option_map_or (λ t. t.call) (get m n) 0) (restored_threads n s)
 
 restored_chosen : (n y : ℕ) (w : Option ℕ) (s : Core) → Chosen y w s → Chosen y w (exit_restores n s)
 unfolding exit_restores set_do_not_suspend on_instance
@@ -419,7 +436,7 @@ module _ (x : Setting) (main : Main) (s : Core) (n : ℕ) (l : Label) (next : Tu
   thread_exit_row_leads none =
       trap_if_leads a s (not (passes_check (instance_of n s) s)) trap.CannotBlockSyncTask _ (λ e.
       trap_if_leads a s (leaves_no_result n s) trap.NoAsyncResult _ (λ f.
-      gone_here x main s n l next (exit_label n None) (exit_stops n s) refl (exit_stops_gone n s) (λ is. exit_is_none (exit_stops n s) none is) (λ is leave. exit_stops_walks n refl leave NoWord)))
+      gone_here x main s n l next (exit_label n None) (exit_stops n s) refl (exit_stops_gone n s) (λ is. exit_is_none (exit_stops n s) none is) (λ is leave. exit_stops_walks n refl (last_of n s f) leave NoWord)))
 
   exits : (w : Option ℕ) (t : Core) → l ≡ exit_label n w → is_explicit n s ≡ false → (is_direct (goal_of (task_of n s) s) ≡ true) ⊎ (is_async_lifted (kind_of (task_of n s) s) ≡ false) → t.calls ≡ s.calls → MayEnd a (task_of n s) call_end.Returned t
   exits w t is implicit kind same = Exits n refl (ap is_exit is ∙ exit_is n w) refl implicit kind (ap (λ (m : Records Call). get m (task_of n s)) same) refl
@@ -488,7 +505,7 @@ module _ (x : Setting) (main : Main) (s : Core) (n : ℕ) (l : Label) (next : Tu
   code_exits_leads k held quiet says bar rest =
       trap_if_leads a s (not (passes_after_stop (instance_of n s) (foot_of n s) held s)) trap.CannotBlockSyncTask _ (λ e.
       trap_if_leads a s (leaves_no_result n s) trap.NoAsyncResult _ (λ f order.
-      gone_here x main s n l next k (code_exits n order s) quiet (code_exits_gone n order s) (says (code_exits n order s)) (λ is leave. code_exits_walks n refl order (bar is) leave NoWord)))
+      gone_here x main s n l next k (code_exits n order s) quiet (code_exits_gone n order s) (says (code_exits n order s)) (λ is leave. code_exits_walks n refl order (last_of n s f) (bar is) leave NoWord)))
 
   code_kind_row_leads : (k : Label) (held : List ℕ) (low rest : ℕ) → is_still k ≡ true → (l ≡ k → MayBar a (instance_of n s) false) → EndsActivation a n → Leads a s (code_kind_row k n held s low rest)
   code_kind_row_leads k held zero rest plain bar ends =

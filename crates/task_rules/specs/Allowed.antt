@@ -5,7 +5,7 @@ use Rattle.std.specs.Prelude.{◌≤◌, length, Bool, None, Option, Some, [], f
 use Rattle.task_machine.specs.Core.{Core, MainPlace, Scripted, Unscripted}
 use Rattle.task_machine.specs.Maps.{get}
 use Rattle.task_machine.specs.Moves.{has_entry, is_callback_waiter, is_deletable, is_group_done}
-use Rattle.task_machine.specs.Read.{caller_of, cancel_was_delivered, course_of, course_value, end_of, goal_of, has_ended, has_member, has_waiters, how_far_of, position_of, instance_of, is_async_lifted, is_at, is_direct, is_end, is_explicit, is_joined, is_stage_ended, is_waiter, join_of, kind_of, may_not_enter, next_entry, own_event_of, phase_of, place_of, set_at, stage_of, subtask_at, subtask_ended, subtask_handle, task_of, thread_group, was_started, work_caller_of, is_guest_call, is_aborted, is_blocked_on, foot_of}
+use Rattle.task_machine.specs.Read.{caller_of, cancel_was_delivered, course_of, course_value, end_of, event_of, goal_of, has_ended, has_member, has_waiters, how_far_of, position_of, instance_of, is_async_lifted, is_at, is_direct, is_end, is_explicit, is_joined, is_stage_ended, is_waiter, join_of, kind_of, may_not_enter, next_entry, own_event_of, phase_of, place_of, set_at, stage_of, subtask_at, subtask_ended, subtask_handle, task_of, thread_group, was_started, work_caller_of, is_guest_call, is_aborted, is_blocked_on, foot_of}
 use Rattle.task_machine.specs.declared.component.Callee.{Callee}
 use Rattle.task_machine.specs.declared.component.ExportKind.{ExportKind}
 use Rattle.task_machine.specs.declared.label.Label.{Label}
@@ -105,6 +105,11 @@ subtask_under_way _ = None
 pub data HasSubtask (a : Scene) (n : ℕ) (sub : Subtask) : Type 0 where
   ByHandle : (h : ℕ) → subtask_at (instance_of n a.base) h a.base ≡ Some sub → HasSubtask a n sub
   ByOp : subtask_under_way (how_far_of n a.base) ≡ Some sub → HasSubtask a n sub
+
+-- the op cancels a subtask that a handle names, or cancels it already
+abbrev pub MayCancel : Scene → ℕ → Subtask → Type 0
+MayCancel a n sub = ((h : ℕ) × (subtask_at (instance_of n a.base) h a.base ≡ Some sub)) ⊎
+    ((how_far_of n a.base ≡ how_far.Cancels sub) ⊎ (how_far_of n a.base ≡ how_far.AwaitsEnd sub))
 
 -- a handle of the running thread's instance names it
 abbrev pub IsNamed : Scene → Subtask → Type 0
@@ -223,15 +228,23 @@ MayLeave a p s = MayLand a p s
 abbrev pub IsCalled : ℕ → ℕ → Core → Type 0
 IsCalled n k s = (caller_of k s ≡ caller.Thread n) × (subtask_handle (subtask.Guest k) s ≡ None)
 
+-- the call hasn't ended, and no cancel has come to it
+abbrev pub IsUntouched : ℕ → Core → Type 0
+IsUntouched k s = (end_of k s ≡ None) × ((own_event_of k s ≡ None) × (cancel_was_delivered k s ≡ false))
+
+-- the thread has just made the call
+abbrev pub HasCalled : ℕ → ℕ → Core → Type 0
+HasCalled n k s = IsCalled n k s × IsUntouched k s
+
 -- how far an op comes: it waits on a set of its instance, stays inside its call or makes one, or is about a subtask of its own or a new one
 abbrev pub MayCome : Scene → ℕ → HowFar → Core → Type 0
 MayCome a n (how_far.Waits x) s = IsRunner a n × HasSet a n x
 MayCome a n (how_far.Calls (subtask.Guest k)) s = IsRunner a n × (((how_far_of n a.base ≡ how_far.Calls (subtask.Guest k)) ×
-    (how_far_of n s ≡ how_far.Calls (subtask.Guest k))) ⊎ (IsNew a (subtask.Guest k) s × IsCalled n k s))
+    (how_far_of n s ≡ how_far.Calls (subtask.Guest k))) ⊎ (IsNew a (subtask.Guest k) s × HasCalled n k s))
 MayCome a n (how_far.Calls (subtask.Host i)) s = IsRunner a n × (IsNew a (subtask.Host i) s × ((work_caller_of i s ≡ work_caller.Sync n) ×
     (option_map_or (is_blocked_on (subtask.Host i)) (place_of n s) true ≡ true)))
-MayCome a n (how_far.Cancels sub) s = IsRunner a n × HasSubtask a n sub
-MayCome a n (how_far.AwaitsEnd sub) s = IsRunner a n × HasSubtask a n sub
+MayCome a n (how_far.Cancels sub) s = IsRunner a n × MayCancel a n sub
+MayCome a n (how_far.AwaitsEnd sub) s = IsRunner a n × MayCancel a n sub
 -- its direct callee, which ran, has come to a value
 MayCome a n (how_far.Answered v) s = (m : ℕ) × (IsRunner a m × ((a.next ≡ turn.Run n) × (place_of n a.base ≡ Some (place.Under m))))
 MayCome a n h s = IsRunner a n
@@ -270,9 +283,9 @@ pub data MayGo (a : Scene) (n : ℕ) (s : Core) : Type 0 where
   Falls : a.next ≡ turn.Over →
       IsRunner a n ⊎ ((m : ℕ) × ((place_of n a.base ≡ Some (place.Under m)) × (is_none (get s.threads m) ≡ true))) → MayGo a n s
 
--- the start of a call of the running thread's, which hasn't begun or ended
+-- the start of a call that a handle of the running thread's instance names, which hasn't begun or ended
 abbrev pub MayWithdraw : Scene → ℕ → Core → Type 0
-MayWithdraw a k s = (n : ℕ) × (IsRunner a n × (HasSubtask a n (subtask.Guest k) × ((was_started k s ≡ false) × ((has_ended k s ≡ false) ×
+MayWithdraw a k s = (n : ℕ) × (IsRunner a n × (IsNamed a (subtask.Guest k) × ((was_started k s ≡ false) × ((has_ended k s ≡ false) ×
     ((a.turn ≡ turn.Run n) × (was_started k a.base ≡ false))))))
 
 -- ---- Calls
@@ -336,22 +349,38 @@ Tells status.StartCancelled k s = ⊥
 abbrev pub IsOwn : Scene → Subtask → Type 0
 IsOwn a sub = (n : ℕ) × (IsRunner a n × HasSubtask a n sub)
 
+-- Why the running thread takes the event of a call.
+pub data MayTakeEvent (a : Scene) (k : ℕ) (s : Core) : Type 0 where
+  TakesNamed : IsNamed a (subtask.Guest k) → MayTakeEvent a k s
+  -- its op cancels the call
+  TakesCancelled : (n : ℕ) → IsRunner a n → (how_far_of n a.base ≡ how_far.Cancels (subtask.Guest k)) ⊎
+      (how_far_of n a.base ≡ how_far.AwaitsEnd (subtask.Guest k)) → MayTakeEvent a k s
+  -- its op was inside of the call, and is done, or the call hasn't returned
+  TakesCalled : (n : ℕ) → IsRunner a n → how_far_of n a.base ≡ how_far.Calls (subtask.Guest k) →
+      (how_far_of n s ≡ how_far.Fresh) ⊎ (event_of (subtask.Guest k) s ≡ Some status.Returned → ⊥) → MayTakeEvent a k s
+
 -- the call's status is told to the calling thread, or the running thread takes it
 abbrev pub MayTell : Scene → ℕ → Option Status → Core → Type 0
 MayTell a k (Some e) s = (is_told k s ≡ true) × (Tells e k s × (is_end e ≡ true → SaysEnd a k e))
-MayTell a k None s = IsOwn a (subtask.Guest k)
+MayTell a k None s = MayTakeEvent a k s
 
--- Cancelled comes to a task that is started and hasn't ended; to one that yields comes what it has, or None; what is there is taken by the
--- running thread
+-- Cancelled comes to a task that a handle names, and that is started and hasn't ended; to one that yields comes what it has, or None; what is
+-- there is taken by the running thread
 abbrev pub MayOwe : Scene → ℕ → Option OwnEvent → Core → Type 0
 MayOwe a k (Some e) s =
-    ((e ≡ own.Cancelled) × (IsOwn a (subtask.Guest k) × ((was_started k s ≡ true) × (has_ended k s ≡ false))))
+    ((e ≡ own.Cancelled) × (IsNamed a (subtask.Guest k) × ((was_started k s ≡ true) × (has_ended k s ≡ false))))
     ⊎ ((n : ℕ) × (EndsActivation a n × ((k ≡ task_of n a.base) × (own_or_none (own_event_of k a.base) ≡ Some e))))
 MayOwe a k None s = (n : ℕ) × (IsRunner a n × (k ≡ task_of n a.base))
 
--- a thread that was taken with a delivery finds its task's own event
+-- a thread that was taken with a delivery finds Cancelled as its task's own event
 abbrev pub MayDeliver : Scene → ℕ → Type 0
-MayDeliver a k = (n : ℕ) × (IsRunner a n × ((k ≡ task_of n a.base) × ((d : Delivery) × WasReady a n (why.Delivery d))))
+MayDeliver a k = (n : ℕ) × (IsRunner a n × ((k ≡ task_of n a.base) × (((d : Delivery) × WasReady a n (why.Delivery d)) ×
+    (own_event_of k a.base ≡ Some own.Cancelled))))
+
+-- a call that nothing keeps goes where it has ended, or where the running thread's op, which was inside of it, is done
+abbrev pub MayRemoveCall : Scene → ℕ → Core → Type 0
+MayRemoveCall a k s = (is_deletable k s ≡ true) × ((has_ended k s ≡ true) ⊎ ((n : ℕ) × (IsRunner a n ×
+    ((how_far_of n a.base ≡ how_far.Calls (subtask.Guest k)) × (how_far_of n s ≡ how_far.Fresh)))))
 
 -- ---- Subtasks
 
@@ -448,7 +477,7 @@ Allowed a (SetStarted k) s = MayStart a k s
 Allowed a (SetEnd k e) s = MayEnd a k e s × SaysEnd a k (status_of_end e)
 Allowed a (SetOwnEvent k e) s = MayOwe a k e s
 Allowed a (SetCancelDelivered k) s = MayDeliver a k
-Allowed a (RemoveCall k) s = is_deletable k s ≡ true
+Allowed a (RemoveCall k) s = MayRemoveCall a k s
 Allowed a (SetCallEvent k e) s = MayTell a k e s
 Allowed a (SetCallJoin k j) s = MayJoin a (subtask.Guest k) j s
 Allowed a (NameCall i k) s = MayNameCall a i k s
@@ -487,7 +516,7 @@ Stays a w s = Allowed a w s
 -- What becomes of a call whose thread is gone.
 abbrev pub IsSettling : Word → Core → Type 0
 IsSettling (SetUninteresting k) s = Unit {0}
-IsSettling (RemoveCall k) s = is_deletable k s ≡ true
+IsSettling (RemoveCall k) s = (is_deletable k s ≡ true) × (has_ended k s ≡ true)
 IsSettling (RemoveGroup g) s = is_group_done g s ≡ true
 IsSettling _ s = ⊥
 
