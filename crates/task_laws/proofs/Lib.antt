@@ -15,6 +15,7 @@ pub mod CallsCame
 pub mod CallsLaw
 pub mod CallsSteps
 pub mod FitLemmas
+pub mod UnbegunCalls
 pub mod OneHolder
 pub mod Exported
 pub mod PolledWorks

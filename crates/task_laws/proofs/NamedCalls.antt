@@ -104,9 +104,9 @@ module _ (a : Scene) (base : NamesKnown a.base) (n k : ℕ) (was : WasInside a n
   not_owed (Some own.Cancelled) s (inr owes) = let e = owes.1.1.1 in absurd (unasked_inside a base n k was (grind arith))
 
   not_ended : (s : Core) (e : CallEnd) → cancel_was_delivered k s ≡ false → MayEnd a k e s → at_most_returned (Some e) ≡ true
-  not_ended s e none (ReturnsNow m runner own live lifted is) = grind arith
-  not_ended s e none (GivesUp m runner own live given is) = absurd (grind arith)
-  not_ended s e none (Exits m runner exit own first kind same is) = grind arith
+  not_ended s e none (ReturnsNow m runner runs own live lifted is) = grind arith
+  not_ended s e none (GivesUp m runner runs own live given is) = absurd (grind arith)
+  not_ended s e none (Exits m runner runs exit own first kind same is) = grind arith
   not_ended s e none (IsWithdrawn may gone is) = absurd (unnamed_inside a base n k was may.1.1.0)
 
   uncancelled_word : (w : Word) (s : Core) → Allowed a w s → k ≤ s.made.threads → (c d : Call) → get s.calls k ≡ Some c → get (after_word w s).calls k ≡ Some d →

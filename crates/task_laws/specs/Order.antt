@@ -11,7 +11,7 @@ use Rattle.std.specs.Prelude.{Bool, None, Option, Some, false, is_none, is_some,
 use Rattle.task_laws.specs.Settings.{CodesInCallbacks}
 use Rattle.task_machine.specs.Core.{Core, Main, State, Table}
 use Rattle.task_machine.specs.Maps.{get, size}
-use Rattle.task_machine.specs.Read.{call_instance, how_far_of, instance_of, is_async_lifted, is_callback, is_direct, is_explicit, goal_of, kind_of, place_of, task_of, set_at, subtask_at, join_of, is_stage_ended, stage_of}
+use Rattle.task_machine.specs.Read.{call_instance, how_far_of, instance_of, is_async_lifted, is_callback, is_direct, is_explicit, goal_of, kind_of, place_of, task_of, set_at, subtask_at, end_of, join_of, is_stage_ended, stage_of}
 use Rattle.task_machine.specs.declared.component.Component.{Component}
 use Rattle.task_machine.specs.declared.label.Label.{Label}
 use Rattle.task_machine.specs.declared.records.Call.{Call}
@@ -193,6 +193,15 @@ Fits c s = (n : ℕ) (t : Thread) → get s.threads n ≡ Some t → ThreadFits 
 abbrev pub StartsAwaited : Core → Type 0
 StartsAwaited s = (k : ℕ) (c : Call) → get s.calls k ≡ Some c → c.started ≡ false → is_fresh (place_of k s) ≡ true
 
+-- the call hasn't ended, and has no other thread than the first one
+pub record IsUnbegun (s : Core) (k : ℕ) : Type 0 where
+  pub unended : end_of k s ≡ None
+  pub alone : (n : ℕ) (t : Thread) → get s.threads n ≡ Some t → t.call ≡ k → n ≡ k
+
+-- where the first thread of a call waits for its start, the call has none of what comes after it
+abbrev pub StartsFirst : Core → Type 0
+StartsFirst s = (k : ℕ) (t : Thread) → get s.threads k ≡ Some t → t.explicit ≡ false → is_fresh (Some t.place) ≡ true → IsUnbegun s k
+
 -- under the first thread of a direct call there is another one
 abbrev pub DirectsOnTop : Core → Type 0
 DirectsOnTop s = (m : ℕ) → is_some (place_of m s) ≡ true → is_explicit m s ≡ false → is_direct (goal_of (task_of m s) s) ≡ true →
@@ -270,6 +279,7 @@ pub record InOrder (c : Component) (s : State) : Type 0 where
   pub deliveries : DeliveredByCallback s.core
   pub fits : Fits c s.core
   pub starts : StartsAwaited s.core
+  pub unbegun : StartsFirst s.core
 
 -- each opening state is in order
 abbrev pub OpeningInOrder : Type 0

@@ -18,7 +18,8 @@ use Rattle.task_laws.proofs.CountLemmas.{few_word}
 use Rattle.task_laws.proofs.SetHandles.{opening_sets, sets_named_word}
 use Rattle.task_laws.proofs.CallsLaw.{CallsGo, CallsHold}
 use Rattle.task_laws.proofs.CallsSteps.{base_out, calls_begin, of_base, word_goes, opening_holds, plain, plain_scene, step_goes}
-use Rattle.task_laws.specs.Order.{CallsNamed, InOrder, Numbered, OpeningInOrder, SetsNamed, StartsAwaited, StepInOrder, WasCall, CallsThere, MakesFew, Strands, WaitsAtHome, set_of_op, set_of_place, StepsMakeFew, JoinsNamed, DirectsOnTop, Fits, WorksQueued, HostsAwaited, names_script}
+use Rattle.task_laws.proofs.UnbegunCalls.{first_waits, Unbegun, unbegun_word, Waited}
+use Rattle.task_laws.specs.Order.{StartsFirst, IsUnbegun, CallsNamed, InOrder, Numbered, OpeningInOrder, SetsNamed, StartsAwaited, StepInOrder, WasCall, CallsThere, MakesFew, Strands, WaitsAtHome, set_of_op, set_of_place, StepsMakeFew, JoinsNamed, DirectsOnTop, Fits, WorksQueued, HostsAwaited, names_script}
 use Rattle.task_machine.specs.declared.records.Turn.TheVariants as turn
 use Rattle.task_machine.specs.declared.records.Place.TheVariants as place
 use Rattle.task_machine.specs.declared.records.HowFar.TheVariants as how_far
@@ -169,8 +170,12 @@ module _ (x : Setting) (s : State) (l : Label) (t : State) (h : InOrder x.compon
     still = λ d b is. let e : r ≡ b = cc in (ap (λ (t : Thread). t.call) e, (ap (λ (t : Thread). t.script) e, ap (λ (t : Thread). t.position) e));
   }
 
-  fits_last : AllFit a t.core
-  fits_last =
+  unbegun_base : StartsFirst a.base
+  unbegun_base k r at first waits = let q = h.unbegun k r at first waits in record { unended = q.unended; alone = q.alone }
+
+  -- what is so of threads and their ops as the step ends
+  last : AllFit a t.core × Unbegun a t.core
+  last =
       let p : CallsHold x.component s.core = record { numbered = h.numbered; kinds = h.kinds; deliveries = h.deliveries } in
       let b = calls_begin x s l w.next p in
       let known = of_base (λ b. RunnerHoused (record a { base = b })) s.turn s.core runner_housed in
@@ -178,14 +183,31 @@ module _ (x : Setting) (s : State) (l : Label) (t : State) (h : InOrder x.compon
       let first = of_base (λ b. AllFit (record a { base = b }) s.core) s.turn s.core fits_first in
       let runs = of_base (λ b. (n : ℕ) → s.turn ≡ turn.Run n → place_of n b ≡ Some place.Running) s.turn s.core h.in_place.runs in
       let there = of_base (λ b. (n : ℕ) (r : Thread) → get b.threads n ≡ Some r → is_some (get b.calls r.call) ≡ true) s.turn s.core has_call in
+      let starts = of_base StartsFirst s.turn s.core unbegun_base in
+      let waits = of_base (λ b. Unbegun (record a { base = b }) s.core) s.turn s.core (record {
+        came = λ k f. inl f;
+        rest = λ k f there. by_waits k f there;
+      }) in
       let c = scene_of x s l w.next in
-      let q = along (λ u. CallsGo c u × AllFit c u)
-      (λ v m ok q. (word_goes c h.codes b.0 v m ok q.0, fits_word c h.codes b.0 known fits runs there v m ok q.0 q.1)) (b.1, first) w.walk in
-      base_out (λ b. AllFit (record a { base = b }) t.core) s.turn s.core q.1
+      let q = along (λ u. CallsGo c u × (AllFit c u × Unbegun c u)) (λ v m ok q. (
+        word_goes c h.codes b.0 v m ok q.0,
+        (fits_word c h.codes b.0 known fits runs there v m ok q.0 q.1.0, unbegun_word c b.0 runs starts v m ok q.0 q.1.1),
+      )) (b.1, (first, waits)) w.walk in
+      base_out (λ b. AllFit (record a { base = b }) t.core × Unbegun (record a { base = b }) t.core) s.turn s.core q.1
+    where
+      by_waits : (k : ℕ) → Waited a k → is_some (get s.core.threads k) ≡ true → IsUnbegun s.core k
+      by_waits k f there = by (get s.core.threads k) refl
+        where
+          by : (o : Option Thread) → get s.core.threads k ≡ o → IsUnbegun s.core k
+          by None at = absurd (grind arith)
+          by (Some r) at = let below = h.numbered.threads k r at in h.unbegun k r at (grind arith) (grind arith)
+
+  pub unbegun_kept : StartsFirst t.core
+  unbegun_kept k r at first waits = let q = last.1 in let f = first_waits k t.core in q.rest k (q.came k (grind arith)) (grind arith)
 
   pub fits_kept : Steady s.core t.core → Fits x.component t.core
   fits_kept steady n r at =
-      let f = fits_last n r at in
+      let f = last.0 n r at in
       let now = calls_kept n r.call (ap (λ o. option_map (λ (t : Thread). t.call) o) at) in
       record {
         script = same_script x.component (call_instance r.call t.core) (call_instance r.call s.core) r.explicit r.script
@@ -269,6 +291,7 @@ step_in_order x s l t h step =
       deliveries = q.deliveries;
       fits = fits_kept x s l t h w (steady x s l t step);
       starts = starts_kept x s l t h w (steady x s l t step);
+      unbegun = unbegun_kept x s l t h w;
     }
 
 -- ---- The first state
@@ -317,6 +340,7 @@ opening_in_order c codes instances handle_limit capacity main =
       deliveries = q.deliveries;
       fits = λ n t at. let o = get-empty {X = Thread} n in absurd (cc);
       starts = λ k c at e. let o = get-empty {X = Call} k in absurd (cc);
+      unbegun = λ k t at first waits. let o = get-empty {X = Thread} k in absurd (cc);
     }
 
 -- ---- Runs

@@ -1,5 +1,5 @@
 -- The moves of the machine as chains of words.
-use Rattle.task_rules.proofs.Machine.{[], add_call, add_group, add_set, add_thread, add_work, Advance, after_placing, after_word, ap, arith, AtOp, blocked_on, Bool, ByHandle, call_group, call_made, call_settled, can_come, CanCome, change, checked, chosen, Core, count_work, departed, end_of, ended, exited_if, false, first_entry, free_handle, free_thread_handle, freed_thread_handle, FreeThreadHandle, get, get-insert, get-remove, Gift, give_handle, give_result, give_thread_handle, group_settled, handed_on, hands_on, has_ended, held_why, held_why_of, HowFar, if◌then◌else◌, InOp, inr, instance_of, interest_settled, is_at, is_blocked_on, is_callback_waiter, is_deletable, is_done_host, is_end, is_explicit, is_finished, is_group_done, is_over, is_some, is_stage_ended, is_told, is_waiter, is_waiting_on, IsNamed, IsRunner, Join, join_of, Lands, LandsAt, le_refl, le_trans, Leaves, List, MakeThread, Mark, may_hand_on, may_not_suspend, may_publish, may_tell, may_wake, may_wake_joined, MayCome, MayDeliver, MayLand, MayPut, MayRemoveCall, MayTell, MemberGift, nat_tests, NoGift, None, not, NoWord, numbers, on_call, on_instance, on_thread, on_work, op_in, Option, option_and_then, option_map, option_map_or, OwnGift, Place, place_of, Places, Placing, poll_pends, position_of, Promote, promoted, promoted_first, promoted_unless, published, push_high, Put, put_at, put_high, Quits, Records, refl, released, released_one, Releases, remove, remove_call, remove_group, remove_set, remove_thread, remove_work, RemoveCall, RemoveGroup, RemoveThread, Restart, same_subtask, SaysEnd, Scene, set_backpressure, set_cancel_delivered, set_cancelled, set_course, set_do_not_enter, set_do_not_suspend, set_end, set_event, set_exited, set_how_far, set_join, set_own_event, set_phase, set_position, set_register, set_result, set_saved_callee, set_saved_own, set_script, set_stage, set_started, set_starting_published, set_subtask_handle, set_thread_handle, set_trapped, set_uninteresting, set_word, SetCallEvent, SetCancelDelivered, SetExited, SetOwnEvent, Settles, SetUninteresting, Shifts, Some, stage_of, Status, Stay, Stop, stopped, subst, Subtask, sym, take_result, TakeHost, taken, TakePush, TakesNamed, TakeWorkEvent, task_of, Tells, Then, Thread, thread_handle_of, told, Trip, true, unblocked, Unblocks, wake, wake_joined, wake_why, waken_by, Wakes, Why, with_handle, with_thread_handle, Word, Work, work_queued, ℕ, ◌||◌, ◌∙◌, ◌∷◌, ◌≡◌, ◌≤◌}
+use Rattle.task_rules.proofs.Machine.{[], add_call, add_group, add_set, add_thread, add_work, Advance, after_placing, after_word, ap, arith, AtOp, blocked_on, Bool, ByHandle, call_group, call_made, call_settled, can_come, CanCome, change, checked, chosen, Core, count_work, departed, end_of, ended, exited_if, false, first_entry, free_handle, free_thread_handle, freed_thread_handle, FreeThreadHandle, get, get-insert, get-remove, Gift, give_handle, give_result, give_thread_handle, group_settled, handed_on, hands_on, has_ended, held_why, held_why_of, HowFar, if◌then◌else◌, InOp, inr, instance_of, interest_settled, is_at, is_blocked_on, is_callback_waiter, is_deletable, is_done_host, is_explicit, is_finished, is_group_done, is_over, is_some, is_stage_ended, is_told, is_waiter, is_waiting_on, IsNamed, IsRunner, IsStarting, Join, join_of, Lands, LandsAt, le_refl, le_trans, Leaves, List, MakeThread, Mark, may_hand_on, may_not_suspend, may_publish, may_tell, may_wake, may_wake_joined, MayCome, MayDeliver, MayLand, MayPut, MayRemoveCall, MemberGift, nat_tests, NoGift, None, not, NoWord, numbers, on_call, on_instance, on_thread, on_work, op_in, Option, option_and_then, option_map, option_map_or, OwnGift, Place, place_of, Places, Placing, poll_pends, position_of, Promote, promoted, promoted_first, promoted_unless, published, push_high, Put, put_at, put_high, Quits, Records, refl, released, released_one, Releases, remove, remove_call, remove_group, remove_set, remove_thread, remove_work, RemoveCall, RemoveGroup, RemoveThread, Restart, same_subtask, Scene, set_backpressure, set_cancel_delivered, set_cancelled, set_course, set_do_not_enter, set_do_not_suspend, set_end, set_event, set_exited, set_how_far, set_join, set_own_event, set_phase, set_position, set_register, set_result, set_saved_callee, set_saved_own, set_script, set_stage, set_started, set_starting_published, set_subtask_handle, set_thread_handle, set_trapped, set_uninteresting, set_word, SetCallEvent, SetCancelDelivered, SetExited, SetOwnEvent, Settles, SetUninteresting, Shifts, Some, stage_of, Status, Stay, Stop, stopped, subst, Subtask, sym, take_result, TakeHost, taken, TakePush, TakesNamed, TakeWorkEvent, task_of, Tells, Then, Thread, thread_handle_of, told, Trip, true, unblocked, Unblocks, wake, wake_joined, wake_why, waken_by, Wakes, Why, with_handle, with_thread_handle, Word, Work, work_queued, ℕ, ◌||◌, ◌∙◌, ◌∷◌, ◌≡◌, ◌≤◌}
 use Rattle.task_machine.specs.declared.records.Turn.TheVariants as turn
 use Rattle.task_machine.proofs.CommuteLemmas.{get-change}
 use Rattle.task_rules.proofs.StandLemmas.{set_place_is}
@@ -222,10 +222,6 @@ pub published_work_shifts : (i : ℕ) (e : Status) (w : Option ℕ) (s : Core) �
 unfolding published set_event on_work
 published_work_shifts i e w s done chosen = published_shifts (subtask.Host i) w s (set_event (subtask.Host i) (Some e) s) (ap (λ x. is_stage_ended x) (work_read (λ r. r.stage) stage.Ended i (λ r. record r { event = Some e }) (λ r. refl) s.works) ∙ done) (λ m. refl) chosen
 
-module _ {a : Scene} {b : Core} where
-  published_call : (k : ℕ) (e : Status) (w : Option ℕ) {s : Core} → MayTell a k (Some e) s → ChosenIn (join_of (subtask.Guest k) s) w s → Keep a b s → Keep a b (published (subtask.Guest k) e w s)
-  published_call k e w {s = s} ok chosen c = shifted (published_call_shifts k e w s chosen) (word (SetCallEvent k (Some e)) ok c)
-
 -- the thread chosen where the call's status is told
 abbrev pub ToldTo : ℕ → Option ℕ → Core → Type 0
 ToldTo k w s = is_told k s ≡ true → ChosenIn (join_of (subtask.Guest k) s) w s
@@ -235,9 +231,10 @@ unfolding may_tell may_publish
 told_to k w s h told = chosen_in_of (join_of (subtask.Guest k) s) w s (grind arith)
 
 module _ {a : Scene} {b : Core} where
-  pub told_walks : (k : ℕ) (e : Status) (w : Option ℕ) {s : Core} → (is_told k s ≡ true → Tells e k s) → (is_end e ≡ true → SaysEnd a k e) → ToldTo k w s → Keep a b s → Keep a b (told k e w s)
+  pub told_walks : (k : ℕ) (e : Status) (w : Option ℕ) {s : Core} → (is_told k s ≡ true → Tells e k s) → IsStarting a k s → ToldTo k w s → Keep a b s → Keep a b (told k e w s)
   unfolding told
-  told_walks k e w {s = s} tells says to c = walk_if (is_told k s) (published (subtask.Guest k) e w s) s (λ is. published_call k e w (is, (tells is, says)) (to is) c) (λ is. c)
+  told_walks k e w {s = s} tells starts to c =
+      walk_if (is_told k s) (published (subtask.Guest k) e w s) s (λ is. shifted (published_call_shifts k e w s (to is)) (word (SetCallEvent k (Some e)) (is, (tells is, starts)) c)) (λ is. c)
 
 -- ---- Given and handed on
 

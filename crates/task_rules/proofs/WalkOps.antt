@@ -18,6 +18,7 @@ use Rattle.task_rules.proofs.CancelLemmas.{CaseSays, case_says}
 use Rattle.task_rules.proofs.PlacingLemmas.{Shifted, placed, shifted_far, shifted_made, shifted_task, shifts_shifted}
 use Rattle.task_rules.proofs.StandLemmas.{by_number}
 use Rattle.task_rules.proofs.WalkTask.{Stands, Leads, advanced_walks, answered_walks, assigned_walks, goes_on, goes_on_told, goes_over, may_leads, or_never_leads, or_trap_leads, running_scene, stops_here, trap_if_leads, unnot, is_still, over_now, is_plain}
+use Rattle.task_rules.proofs.WalkEnds.{call_ends}
 use Rattle.task_machine.specs.declared.component.Slot.TheVariants as slot
 use Rattle.task_machine.specs.declared.label.CallLabel.TheVariants as call_label
 use Rattle.task_machine.specs.declared.label.Label.TheVariants as label
@@ -422,18 +423,18 @@ module _ (x : Setting) (main : Main) (s : Core) (n : ℕ) (l : Label) (next : Tu
   cancel_writes : (mode : Mode) (t : Core) → written_by x.component s (cancel_label mode n 3) t ≡ option_map (end_for status.StartCancelled) (cancelled_of_op x.component n s (how_far_of n s))
   cancel_writes mode t = grind arith
 
-  withdrawn_low : (k : ℕ) (e : CallEnd) → Stands a (set_end k e (after_word (Withdraw k) s)) n
-  unfolding set_end on_call remove_thread
+  withdrawn_low : (k : ℕ) (e : CallEnd) → Stands a (call_ends k e (after_word (Withdraw k) s)) n
+  unfolding on_call remove_thread
   withdrawn_low k e = (refl, let b = on.1 in grind (arith, nat_tests, get-remove, b))
 
   -- a start that is withdrawn is an end, and handed out
   withdraw_says : (mode : Mode) (r k : ℕ) → next ≡ turn.Run n → l ≡ cancel_label mode n 3 → cancelled_of_op x.component n s (how_far_of n s) ≡ Some (subtask.Guest k) → IsNamed a (subtask.Guest k) → has_ended k s ≡ false → EndWords a (cancel_withdraws n r k s)
-  unfolding cancel_withdraws withdrawn remove_thread
+  unfolding cancel_withdraws withdrawn remove_thread set_end
   withdraw_says mode r k to at target named unended =
       let t = cancel_withdraws n r k s in
       let v : Core = after_word (Withdraw k) s in
-      let u : Core = set_end k call_end.StartCancelled v in
-      let rest : Walk a u (cancel_withdraws n r k s) = subst (λ (w : Core). Walk a (set_end k call_end.StartCancelled w) (cancel_withdraws n r k s)) (sym (withdraws k s)) (stay_walk (answered_walks n refl (subst (λ (w : Core). Stands a (set_end k call_end.StartCancelled w) n) (withdraws k s) (withdrawn_low k call_end.StartCancelled)) r 3 (word (SetUninteresting k) tt (word (SetExited k) tt NoWord)) to)) in
+      let u : Core = call_ends k call_end.StartCancelled v in
+      let rest : Walk a u (cancel_withdraws n r k s) = subst (λ (w : Core). Walk a (call_ends k call_end.StartCancelled w) (cancel_withdraws n r k s)) (sym (withdraws k s)) (stay_walk (answered_walks n refl (subst (λ (w : Core). Stands a (call_ends k call_end.StartCancelled w) n) (withdraws k s) (withdrawn_low k call_end.StartCancelled)) r 3 (word (SetUninteresting k) tt (word (SetExited k) tt NoWord)) to)) in
       says_by a t at
       (λ to f says. said_is (λ d g. Writes a t d) (sym (cancel_writes mode t ∙ ap (option_map (end_for status.StartCancelled)) target) ∙ says) (WritesCall k u (EndsSubtask named unended) (over_now k call_end.StartCancelled v) rest))
       (λ to f out. said_is (HandsOut a t) (sym (withdraw_hands mode ∙ ap (option_map (end_for status.StartCancelled)) target) ∙ out) (WritesToo k status.StartCancelled (ap (λ (y : Label). written_by x.component s y s) at ∙ (cancel_writes mode s ∙ ap (option_map (end_for status.StartCancelled)) target)) (inr refl)))
@@ -531,7 +532,7 @@ module _ (x : Setting) (main : Main) (s : Core) (n : ℕ) (l : Label) (next : Tu
       trap_if_leads a s (not (fits 2 s)) trap.TableFull _ (λ e.
       trap_if_leads a s (at_handle_limit s) trap.HandleLimit _ (λ f.
       go _ (thread_made n r y v s) refl (assigned_walks n refl on r (new_thread_handle (instance_of n s) s) (word (NameThread (instance_of n s) (next_thread s)) tt
-      (word (MakeThread (new_thread (task_of n s) true (script.Slot y) (registers_for (v ∷ [])) None)) (n, (refl, (refl, (y, (v, (refl, (refl, ap is_script at))))))) NoWord)))))
+      (word (MakeThread (new_thread (task_of n s) true (script.Slot y) (registers_for (v ∷ [])) None)) (n, (refl, (refl, (y, (v, (refl, (refl, (ap is_script at, refl)))))))) NoWord)))))
 
   -- the op halts so
   abbrev HaltOp : Halt → Type 0

@@ -1,5 +1,5 @@
 -- What the rows of the ops are made of, as chains of words: what is read, gifts, moves, and a new call.
-use Rattle.task_rules.proofs.Machine.{[], add_call, add_thread, advanced, after_placing, after_word, answered, ap, arith, assigned, AtOp, behind_one, behind_switch, Blocks, Bool, ByHandle, ByOp, Call, call_clears_flag, call_group, call_instance, call_made, call_queues, call_resumes, call_settled, call_stops, Callee, callee_of_op, Caller, can_come, cancel_goes_behind, cancel_label, cancel_stops, cancel_takes_end, checked, Choice, chosen, Core, Enter, enter_runs, event_of, ExportKind, false, foot_of, free_handle, get, get-insert, Gift, gift, give_handle, give_thread_handle, Given, given_code, given_handle, given_result, Goal, goal_of, GoBehind, group_settled, HasCalled, HasSet, HasSubtask, how_far_of, HowFar, if◌then◌else◌, inl, InOp, inr, instance_of, is_begun, is_blocked_on, is_cancel, is_deletable, is_deletable_call, is_direct, is_explicit, is_group_done, is_joined, is_none, is_running, is_some, is_sync_call, is_sync_cancel, is_wait, IsNew, IsRunner, IsWithdrawn, Join, join_label, join_of, Leaves, less_switch, List, Made, MakeCall, may_not_suspend, MayCancel, MayCome, MayDeliver, MayJoin, MayMakeCall, MayRemoveWork, MayWithdraw, MemberGift, Mode, Move, moved_to, NameThread, nat_tests, new_handle, new_thread, next_thread, NoGift, None, not, NoWord, on_call, on_instance, on_thread, on_work, op_in, Option, option_map, option_map_or, own_event_of, OwnGift, Place, place_of, Put, put_back, put_switch, received, Records, refl, Remains, remove_call, remove_group, remove_thread, remove_work, RemoveWork, saved_callee_of, says, SaysEnd, Scene, set_do_not_suspend, set_end, set_event, set_exited, set_given, set_high, set_how_far, set_join, set_low, set_place, set_position, set_register, set_result, set_saved_callee, set_saved_own, set_started, set_subtask_handle, set_switch, set_thread_handle, set_uninteresting, SetCallEvent, SetCallJoin, SetDoNotSuspend, SetEnd, SetExited, SetHowFar, SetRegister, SetSavedCallee, SetSavedOwn, SetStarted, settle_group_of, SetUninteresting, SetWorkJoin, Some, Starts, Status, status_code, Stay, Stop, stopped, subst, Subtask, subtask_at, subtask_handle, subtask_under_way, sym, sync_sets_flag, TakesCalled, TakesCancelled, TakesNamed, TakeWorkEvent, task_of, Then, Thread, thread_group, Trip, true, unqueued, unwrap_or, wait_label, wait_stops, Waits, with_handle, with_thread_handle, Withdraw, withdrawn, work_deleted, work_group, ℕ, ◌&&◌, ◌+◌, ◌==◌, ◌∙◌, ◌≡◌, ◌⊎◌}
+use Rattle.task_rules.proofs.Machine.{[], add_call, add_thread, advanced, after_placing, after_word, answered, ap, arith, assigned, AtOp, behind_one, behind_switch, Blocks, Bool, ByHandle, ByOp, Call, call_clears_flag, call_group, call_instance, call_made, call_queues, call_resumes, call_settled, call_stops, Callee, callee_of_op, Caller, can_come, cancel_goes_behind, cancel_label, cancel_stops, cancel_takes_end, checked, Choice, chosen, Core, Enter, enter_runs, event_of, ExportKind, false, foot_of, free_handle, get, get-insert, Gift, gift, give_handle, give_thread_handle, Given, given_code, given_handle, given_result, Goal, goal_of, GoBehind, group_settled, HasCalled, HasSet, HasSubtask, how_far_of, HowFar, if◌then◌else◌, inl, InOp, inr, instance_of, is_begun, is_blocked_on, is_cancel, is_deletable, is_deletable_call, is_direct, is_explicit, is_group_done, is_joined, is_none, is_running, is_some, is_sync_call, is_sync_cancel, is_wait, IsNew, IsRunner, IsWithdrawn, Join, join_label, join_of, Leaves, less_switch, List, Made, MakeCall, may_not_suspend, MayCancel, MayCome, MayDeliver, MayJoin, MayMakeCall, MayRemoveWork, MayWithdraw, MemberGift, Mode, Move, moved_to, NameThread, nat_tests, new_handle, new_thread, next_thread, NoGift, None, not, NoWord, on_call, on_instance, on_thread, on_work, op_in, Option, option_map, option_map_or, own_event_of, OwnGift, Place, place_of, Put, put_back, put_switch, received, Records, refl, Remains, remove_call, remove_group, remove_thread, remove_work, RemoveWork, saved_callee_of, says, SaysEnd, Scene, set_do_not_suspend, set_end, set_event, set_exited, set_given, set_high, set_how_far, set_join, set_low, set_place, set_position, set_register, set_result, set_saved_callee, set_saved_own, set_started, set_subtask_handle, set_switch, set_thread_handle, set_uninteresting, SetCallEvent, SetCallJoin, SetDoNotSuspend, SetExited, SetHowFar, SetRegister, SetSavedCallee, SetSavedOwn, SetStarted, settle_group_of, SetUninteresting, SetWorkJoin, Some, Starts, Status, status_code, Stay, Stop, stopped, subst, Subtask, subtask_at, subtask_handle, subtask_under_way, sym, sync_sets_flag, TakesCalled, TakesCancelled, TakesNamed, TakeWorkEvent, task_of, Then, Thread, thread_group, Trip, true, unqueued, unwrap_or, wait_label, wait_stops, Waits, with_handle, with_thread_handle, Withdraw, withdrawn, work_deleted, work_group, ℕ, ◌&&◌, ◌+◌, ◌==◌, ◌∙◌, ◌≡◌, ◌⊎◌, EndCall}
 use Rattle.task_rules.proofs.ChainLemmas.{Going, Keep, keep_stay}
 use Rattle.task_rules.proofs.WalkMoves.{keep_still, MayTake, checked_shifts, group_settled_walks, shifted, stopped_shifts, taken_walks, word, lands_at}
 use Rattle.task_machine.specs.declared.words.OwnEvent.TheVariants as own
@@ -7,6 +7,7 @@ use Rattle.task_rules.proofs.MoveLemmas.{put_place}
 use Rattle.task_machine.proofs.CommuteLemmas.{get-change}
 use Rattle.task_machine.proofs.MapLemmas.{change-field, get-remove_same}
 use Rattle.task_rules.proofs.PlacingLemmas.{Shifted, placed, placing_shifted, shifted_after, shifted_calls, shifted_explicit, shifted_made}
+use Rattle.task_rules.proofs.WalkEnds.{call_ends}
 use Rattle.task_rules.proofs.StandLemmas.{place_kept}
 use Rattle.task_rules.proofs.WalkTask.{Stands, advanced_walks, answered_walks, is_plain, is_still, running_moved, moved_passes, not_main}
 use Rattle.task_machine.specs.declared.component.ExportKind.TheVariants as kind
@@ -224,10 +225,10 @@ module _ {a : Scene} {b : Core} (n : ℕ) (is : IsRunner a n) where
       behind_switch_walks t.queues.switch (how_far.Cancels (subtask.Guest k)) refl leave (λ u. (is, has)) (at _ d) can d
 
   pub withdrawn_walks : (k : ℕ) {t : Core} → MayWithdraw a k t → SaysEnd a k status.StartCancelled → Keep a b t → Keep a b (withdrawn k t)
-  unfolding withdrawn remove_thread
+  unfolding withdrawn remove_thread set_end
   withdrawn_walks k {t = t} ok says c =
-      subst (λ (v : Core). Keep a b (set_uninteresting k (set_exited k (set_end k call_end.StartCancelled v)))) (withdraws k t)
-      (word (SetUninteresting k) tt (word (SetExited k) tt (word (SetEnd k call_end.StartCancelled) (IsWithdrawn ok (ap (λ (o : Option Thread). is_none o) (get-remove_same t.threads k)) refl, says) (word (Withdraw k) ok c))))
+      subst (λ (v : Core). Keep a b (set_uninteresting k (set_exited k (call_ends k call_end.StartCancelled v)))) (withdraws k t)
+      (word (SetUninteresting k) tt (word (SetExited k) tt (word (EndCall k call_end.StartCancelled) (IsWithdrawn ok (ap (λ (o : Option Thread). is_none o) (get-remove_same t.threads k)) refl, says) (word (Withdraw k) ok c))))
 
 -- ---- A new call
 
