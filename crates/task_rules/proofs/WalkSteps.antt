@@ -3,17 +3,17 @@ use Rattle.task_machine.specs.declared.label.CallLabel.TheVariants as call_label
 use Rattle.task_rules.specs.Step.{trap_label}
 use Rattle.task_rules.specs.Stalled.{deadlock_trap}
 use Rattle.task_machine.specs.declared.label.TakeLabel.TheVariants as take
-use Rattle.task_rules.proofs.Machine.{[], Abort, aborted_phase, act_of, add_group, add_work, AddGroup, advanced_main, Answer, ap, arith, at_turn, Await, base_at, base_without, Began, begun_holder, blocked_on, Bool, ByProgram, ByScript, call_made, Callee, callee_of_main_op, Chain, Choice, choice_of, Collapses, Core, count_work, Course, course_for, course_of, course_value, DeadlockStep, did, Does, EmptyFor, end_for, ended, Ends, EndWords, EndWork, Entry, entry_number, export_kind, Fails, FailsNow, Falls, false, Finish, finish_act, finish_result, finished_call, FinishWork, followed, FuturesStep, get, get-remove, Goal, Goes, goes_to, handed_by_main, HandsOut, has_end, has_interesting, has_moving_work, host_at, host_done, host_label, host_result, host_status, HostDef, inl, inr, is_aborted, is_async_work, is_complete, is_direct, is_free, is_none, is_ready_for_call, is_some, is_spawn, is_spawn_caller, is_stage_ended, is_unended_take, is_waiting_on, IsFall, IsRunner, join_of, Label, LastWords, length, line_of, List, Main, main_aborted, main_outcome, main_row, main_spawned, main_started, MainAct, MainLabel, MainPlace, MainProgress, MainProgresses, MainStep, MakeCall, Mark, may, may_act, may_deadlock, may_publish, MayAbort, MayCall, MayFinish, nat_tests, Never, new_work, next_entry, next_polled, next_thread, next_work, None, not, NoWord, on_thread, on_work, Op, op_at, op_of, op_row, OpenAct, OpenProgresses, Option, option_map, option_map_or, Ordered, Outcome, outcome_of_label, Pend, Pends, Phase, phase_of, place_of, Poll, poll_ends, poll_of, poll_pends, Polled, polled_in, Pop, popped, ProgramAborts, Progress, Progresses, published, push_high, pushed, Put, put_high, QueueWork, Quiet, Ready, Records, refl, Refused, Remains, remove_thread, remove_threads, RemoveThread, RestStep, runner_at, SameMain, Scene, ScriptAborts, Scripted, ScriptStep, set_course, set_event, set_phase, set_place, set_register, set_stage, set_trapped, SetPhase, SetRegister, Setting, settled_turn, SetTrapped, Shifts, size, slice_get, Some, Spawn, spawned_at, SpawnsNamed, stage_of, Start, start_act, start_of, start_refusal, Started, started_at, started_end, Starts, State, Status, Step, StepsAreWalks, StillPends, Stops, strand_from, strand_of, struck, subst, Subtask, suc, sym, T, take_result, take_row, TakeHost, TakePush, TakeResult, TakesResult, TakeStep, Then, Thread, thread_of_entry, Trap, Traps, Trip, true, Turn, TurnStep, under_of, unless_pending, Unscripted, unwrap_or, wake, Walk, woken_of, Work, work_caller_of, work_queued, WorkCaller, Writes, WritesPolled, zero, ℕ, ⊎_elim, ◌++◌, ◌+◌, ◌-◌, ◌∙◌, ◌∷◌, ◌≡◌, ◌⊎◌, ◌&&◌}
+use Rattle.task_rules.proofs.Machine.{[], Abort, aborted_phase, act_of, add_group, add_work, AddGroup, advanced_main, Answer, ap, arith, at_turn, Await, base_at, base_without, Began, begun_holder, blocked_on, Bool, ByProgram, ByScript, call_made, Callee, Chain, Choice, choice_of, Collapses, Core, count_work, Course, course_for, course_of, course_value, DeadlockStep, did, Does, EmptyFor, end_for, ended, Ends, EndWords, EndWork, Entry, entry_number, export_kind, Fails, FailsNow, Falls, false, Finish, finish_act, finish_result, finished_call, FinishWork, followed, FuturesStep, get, get-remove, Goal, Goes, goes_to, handed_by_main, HandsOut, has_end, has_interesting, has_moving_work, host_at, host_done, host_label, host_result, host_status, HostDef, inl, inr, is_aborted, is_async_work, is_complete, is_direct, is_free, is_none, is_ready_for_call, is_some, is_spawn, is_spawn_caller, is_stage_ended, is_unended_take, IsFall, IsRunner, join_of, Label, LastWords, length, line_of, List, Main, main_aborted, main_outcome, main_row, main_spawned, main_started, MainAct, MainLabel, MainPlace, MainProgress, MainProgresses, MainStep, MakeCall, Mark, may, may_act, may_deadlock, may_publish, MayAbort, MayCall, MayFinish, nat_tests, Never, new_work, next_entry, next_polled, next_thread, next_work, None, not, NoWord, on_thread, on_work, Op, op_at, op_of, op_row, OpenAct, OpenProgresses, Option, option_map, option_map_or, Ordered, Outcome, outcome_of_label, Pend, Pends, Phase, phase_of, place_of, Poll, poll_ends, poll_of, poll_pends, Polled, polled_in, Pop, popped, ProgramAborts, Progress, Progresses, push_high, pushed, Put, put_high, QueueWork, Quiet, Ready, refl, Refused, Remains, remove_thread, remove_threads, RemoveThread, RestStep, runner_at, SameMain, Scene, ScriptAborts, Scripted, ScriptStep, set_course, set_event, set_phase, set_place, set_stage, set_trapped, SetPhase, SetRegister, Setting, settled_turn, SetTrapped, Shifts, size, slice_get, Some, Spawn, spawned_at, SpawnsNamed, stage_of, Start, start_act, start_of, start_refusal, Started, started_at, started_end, Starts, State, Status, Step, StepsAreWalks, StillPends, Stops, strand_from, strand_of, struck, subst, Subtask, suc, sym, T, take_result, take_row, TakeHost, TakePush, TakeResult, TakesResult, TakeStep, Then, Thread, thread_of_entry, Trap, Traps, Trip, true, Turn, TurnStep, under_of, unless_pending, Unscripted, unwrap_or, Walk, woken_of, Work, work_caller_of, work_queued, WorkCaller, Writes, WritesPolled, zero, ℕ, ⊎_elim, ◌++◌, ◌+◌, ◌-◌, ◌∙◌, ◌∷◌, ◌≡◌, ◌⊎◌, ◌&&◌}
 use Rattle.task_machine.specs.declared.scenario.MainOpDef.{MainOpDef}
 use Rattle.task_rules.specs.MainOps.{Answers}
-use Rattle.task_machine.proofs.CommuteLemmas.{get-change, change-change_same}
+use Rattle.task_machine.proofs.CommuteLemmas.{get-change}
 use Rattle.task_rules.proofs.MuteLemmas.{is_mute, mute_words, none_said, hands_by, writes_by}
 use Rattle.task_rules.proofs.SayLemmas.{finished_is, result_taken, said_is}
 use Rattle.task_rules.proofs.ChainLemmas.{Keep, join, keep_stay, trip_walk}
 use Rattle.task_rules.proofs.WalkTask.{is_exit_op, op_stands, Leads, data_row_leads, running_scene, task_row_leads, under_place, seen}
 use Rattle.task_machine.proofs.MapLemmas.{get-remove_same, get-insert_same}
 use Rattle.task_rules.proofs.PlacingLemmas.{placed, popped_shifted}
-use Rattle.task_rules.proofs.WalkMoves.{blocked_at, chosen_in_of, published_work_shifts, shifted, unblocked_shifts, word, work_read}
+use Rattle.task_rules.proofs.WalkMoves.{blocked_at, chosen_in_of, published_work_shifts, shifted, unblocked_shifts, word, ChosenIn}
 use Rattle.task_rules.proofs.WalkOps.{set_row_leads, subtask_row_leads, thread_row_leads}
 use Rattle.task_rules.proofs.WalkParts.{Born, born_explicit, born_goal, born_place, call_born}
 use Rattle.task_rules.proofs.WalkTakes.{thread_taken_leads}
@@ -26,7 +26,6 @@ use Rattle.task_machine.specs.declared.op.Op.TheVariants as op
 use Rattle.task_machine.specs.declared.records.Caller.TheVariants as caller
 use Rattle.task_machine.specs.declared.records.Entry.TheVariants as entry
 use Rattle.task_machine.specs.declared.records.Goal.TheVariants as goal
-use Rattle.task_machine.specs.declared.records.Join.TheVariants as join
 use Rattle.task_machine.specs.declared.records.Place.TheVariants as place
 use Rattle.task_machine.specs.declared.records.Stage.TheVariants as stage
 use Rattle.task_machine.specs.declared.records.Turn.TheVariants as turn
@@ -40,42 +39,6 @@ use Rattle.task_machine.specs.declared.words.Phase.TheVariants as phase
 
 -- ---- A host call whose entry is taken
 
-ended_join : (i : ℕ) (t : Core) → join_of (subtask.Host i) (set_stage i stage.Ended t) ≡ join_of (subtask.Host i) t
-unfolding set_stage on_work
-ended_join i t = work_read (λ w. w.join) join.Nowhere i (λ w. record w { stage = stage.Ended }) (λ w. refl) t.works
-
-ended_published : (i : ℕ) (e : Status) (w : Option ℕ) (t : Core) → set_stage i stage.Ended (published (subtask.Host i) e w t) ≡ published (subtask.Host i) e w (set_stage i stage.Ended t)
-unfolding published set_stage set_event on_work wake put_high push_high set_place on_thread blocked_on
-ended_published i e w t = grind (arith, nat_tests, get-change, change-change_same)
-
-ended_result : (i : ℕ) (f : WorkCaller) (v : Option ℕ) (t : Core) → set_stage i stage.Ended (host_result f v t) ≡ host_result f v (set_stage i stage.Ended t)
-unfolding set_stage on_work set_register on_thread
-ended_result i f v t = grind arith
-
--- the work's end may come first
-done_first : (i : ℕ) (w : Option ℕ) (s : Core) → published (subtask.Host i) (host_status (course_value (course_of i s))) w (host_result (work_caller_of i s) (course_value (course_of i s)) (set_stage i stage.Ended s)) ≡ host_done i w s
-unfolding host_done
-done_first i w s =
-    let v = course_value (course_of i s) in
-    let f = work_caller_of i s in
-    ap (λ (t : Core). published (subtask.Host i) (host_status v) w t) (sym (ended_result i f v s)) ∙ sym (ended_published i (host_status v) w (host_result f v s))
-
-event_result : (i : ℕ) (f : WorkCaller) (v : Option ℕ) (e : Option Status) (t : Core) → set_event (subtask.Host i) e (host_result f v t) ≡ host_result f v (set_event (subtask.Host i) e t)
-unfolding set_event on_work set_register on_thread
-event_result i f v e t = grind arith
-
-result_works : (f : WorkCaller) (v : Option ℕ) (t : Core) → (host_result f v t).works ≡ t.works
-unfolding set_register on_thread
-result_works f v t = grind arith
-
-host_places : (f : WorkCaller) (v : Option ℕ) (t : Core) (m : ℕ) → place_of m (host_result f v t) ≡ place_of m t
-unfolding set_register on_thread
-host_places f v t m = grind (arith, nat_tests, get-change)
-
-ended_places : (i : ℕ) (t : Core) (m : ℕ) → place_of m (set_stage i stage.Ended t) ≡ place_of m t
-unfolding set_stage on_work
-ended_places i t m = refl
-
 ended_stage : (i : ℕ) (t : Core) → is_stage_ended (stage_of i (set_stage i stage.Ended t)) ≡ true
 unfolding set_stage on_work
 ended_stage i t = grind (arith, nat_tests, get-change)
@@ -88,6 +51,10 @@ poll_ended : (i : ℕ) (v : Option ℕ) (s : Core) → has_end (course_of i (pol
 unfolding poll_ends set_phase set_course set_stage on_work put_high push_high set_place on_thread
 poll_ended i v s = grind (arith, nat_tests, get-change, course_ended v)
 
+host_tells : (i : ℕ) (w : Option ℕ) (s : Core) → may_publish (subtask.Host i) w s ≡ true → ChosenIn (join_of (subtask.Host i) (set_stage i stage.Ended s)) w (set_stage i stage.Ended s)
+unfolding may_publish set_stage on_work
+host_tells i w s may x is = chosen_in_of (join_of (subtask.Host i) s) w s may x (grind (arith, nat_tests, get-change, is))
+
 -- the work has ended, and tells it
 abbrev told_end : ℕ → Core → Core
 told_end i s = set_event (subtask.Host i) (Some (host_status (course_value (course_of i s)))) (set_stage i stage.Ended s)
@@ -99,17 +66,10 @@ module _ {a : Scene} {b : Core} where
   host_result_walks _ v c = c
 
   host_done_walks : (i : ℕ) (w : Option ℕ) (s : Core) → may_publish (subtask.Host i) w s ≡ true → Keep a b (told_end i s) → Keep a b (host_done i w s)
-  unfolding may_publish
+  unfolding host_done
   host_done_walks i w s may c =
       let v = course_value (course_of i s) in
-      let f = work_caller_of i s in
-      let e = set_stage i stage.Ended s in
-      let t = host_result f v e in
-      let works : t.works ≡ e.works = result_works f v e in
-      subst (λ (u : Core). Keep a b u) (done_first i w s) (shifted (published_work_shifts i (host_status v) w t
-      (ap (λ (m : Records Work). is_stage_ended (option_map_or (λ (r : Work). r.stage) (get m i) stage.Ended)) works ∙ ended_stage i s)
-      (λ y is m at. ap (λ p. option_map_or (is_waiting_on y) p false) (host_places f v e m ∙ ended_places i s m) ∙ chosen_in_of (join_of (subtask.Host i) s) w s may y (sym (ended_join i s) ∙ (ap (λ (m : Records Work). option_map_or (λ (r : Work). r.join) (get m i) join.Nowhere) (sym works) ∙ is)) m at))
-      (subst (λ (u : Core). Keep a b u) (sym (event_result i f v (Some (host_status v)) e)) (host_result_walks f v c)))
+      host_result_walks (work_caller_of i s) v (shifted (published_work_shifts i (host_status v) w (set_stage i stage.Ended s) (ended_stage i s) (host_tells i w s may)) c)
 
 -- ---- A strand that falls
 
@@ -230,13 +190,6 @@ main_mute a t k other = grind arith
 abbrev is_unscripted : Main → Bool
 is_unscripted Unscripted = true
 is_unscripted (Scripted p) = false
-
-one_place : (p q : MainPlace) → Scripted p ≡ Scripted q → p ≡ q
-one_place p q h = cc
-
--- what an op of a script finishes is the start that it names
-script_names : (p : MainPlace) (o : MainOpDef) (y : Started) → act_of p o ≡ Finish y → started_at p (line_of p o) ≡ y
-script_names p o y h = grind arith
 
 queued_spawn : (host : HostDef) (t : Core) → is_spawn (next_work t) (work_queued work_caller.Spawn host None t) ≡ true
 unfolding work_queued push_high add_work count_work
@@ -363,14 +316,11 @@ module _ (x : Setting) (s : State) (l : Label) where
 
   script_call : (p : MainPlace) (o : MainOpDef) → s.main ≡ Scripted p → op_at x.script p ≡ Some o → (e : Callee) (words : List ℕ) → act_of p o ≡ Start e words → MayCall a caller.Main e (s.core.made.groups + 1) (add_group s.core)
   unfolding add_group
-  script_call p o scripted is e words at = ByScript p o scripted is (names o at) refl refl
-    where
-      names : (q : MainOpDef) → act_of p q ≡ Start e words → callee_of_main_op q ≡ Some e
-      names q h = grind arith
+  script_call p o scripted is e words at = ByScript p o scripted is (grind (arith, at)) refl refl
 
   script_step_walks : (p : MainPlace) (o : Option MainOpDef) (t : State) → s.main ≡ Scripted p → op_at x.script p ≡ o → ScriptStep x s p o l t → WalkedBy (idle_scene turn.Main s.core) s.core s.main t
   script_step_walks p None t scripted at is = pends_here t is.0 is.1
-  script_step_walks p (Some o) t scripted at is = main_progresses_walk p o (main_row x.component (line_of p o) s.core (act_of p o)) t scripted (main_row_leads (line_of p o) (act_of p o) (λ e words h. script_call p o scripted at e words h) (λ y h p2 at2. ap (λ q. started_at q (line_of p o)) (sym (one_place p p2 (sym scripted ∙ at2))) ∙ script_names p o y h) (λ i h. let r = script_aborts p o i h in ScriptAborts p r.0 scripted r.1)) is
+  script_step_walks p (Some o) t scripted at is = main_progresses_walk p o (main_row x.component (line_of p o) s.core (act_of p o)) t scripted (main_row_leads (line_of p o) (act_of p o) (λ e words h. script_call p o scripted at e words h) (λ y h p2 at2. grind (arith, scripted, at2, h)) (λ i h. let r = script_aborts p o i h in ScriptAborts p r.0 scripted r.1)) is
 
   open_progresses_walk : (q : MainProgress) (t : State) → LeadsMain q → OpenProgresses s q l t → WalkedBy (idle_scene turn.Main s.core) s.core s.main t
   open_progresses_walk (Does k new) t c is = does_here s.main k new t (same_main s.main new) c is.0 is.1
