@@ -13,7 +13,7 @@ use Rattle.task_rules.proofs.ChainLemmas.{Keep, join, keep_stay, trip_walk}
 use Rattle.task_rules.proofs.WalkTask.{is_exit_op, op_stands, Leads, data_row_leads, running_scene, task_row_leads, under_place, seen}
 use Rattle.task_machine.proofs.MapLemmas.{get-remove_same, get-insert_same}
 use Rattle.task_rules.proofs.PlacingLemmas.{placed, popped_shifted}
-use Rattle.task_rules.proofs.WalkMoves.{blocked_at, chosen_in_of, published_work_shifts, shifted, unblocked_shifts, word, ChosenIn}
+use Rattle.task_rules.proofs.WalkMoves.{blocked_at, chosen_in_of, published_work_shifts, shifted, unblocked_shifts, word}
 use Rattle.task_rules.proofs.WalkOps.{set_row_leads, subtask_row_leads, thread_row_leads}
 use Rattle.task_rules.proofs.WalkParts.{Born, born_explicit, born_goal, born_place, call_born}
 use Rattle.task_rules.proofs.WalkTakes.{thread_taken_leads}
@@ -35,8 +35,6 @@ use Rattle.task_machine.specs.declared.scenario.MainOpDef.TheVariants as main_op
 use Rattle.task_machine.specs.declared.words.Mark.TheVariants as mark
 use Rattle.task_machine.specs.declared.words.Phase.TheVariants as phase
 
--- ---- What is read
-
 -- ---- A host call whose entry is taken
 
 ended_stage : (i : ℕ) (t : Core) → is_stage_ended (stage_of i (set_stage i stage.Ended t)) ≡ true
@@ -51,10 +49,6 @@ poll_ended : (i : ℕ) (v : Option ℕ) (s : Core) → has_end (course_of i (pol
 unfolding poll_ends set_phase set_course set_stage on_work put_high push_high set_place on_thread
 poll_ended i v s = grind (arith, nat_tests, get-change, course_ended v)
 
-host_tells : (i : ℕ) (w : Option ℕ) (s : Core) → may_publish (subtask.Host i) w s ≡ true → ChosenIn (join_of (subtask.Host i) (set_stage i stage.Ended s)) w (set_stage i stage.Ended s)
-unfolding may_publish set_stage on_work
-host_tells i w s may x is = chosen_in_of (join_of (subtask.Host i) s) w s may x (grind (arith, nat_tests, get-change, is))
-
 -- the work has ended, and tells it
 abbrev told_end : ℕ → Core → Core
 told_end i s = set_event (subtask.Host i) (Some (host_status (course_value (course_of i s)))) (set_stage i stage.Ended s)
@@ -66,10 +60,11 @@ module _ {a : Scene} {b : Core} where
   host_result_walks _ v c = c
 
   host_done_walks : (i : ℕ) (w : Option ℕ) (s : Core) → may_publish (subtask.Host i) w s ≡ true → Keep a b (told_end i s) → Keep a b (host_done i w s)
-  unfolding host_done
+  unfolding host_done may_publish set_stage on_work
   host_done_walks i w s may c =
       let v = course_value (course_of i s) in
-      host_result_walks (work_caller_of i s) v (shifted (published_work_shifts i (host_status v) w (set_stage i stage.Ended s) (ended_stage i s) (host_tells i w s may)) c)
+      let t = set_stage i stage.Ended s in
+      host_result_walks (work_caller_of i s) v (shifted (published_work_shifts i (host_status v) w t (ended_stage i s) (λ y is. chosen_in_of (join_of (subtask.Host i) s) w s may y (grind (arith, nat_tests, get-change, is)))) c)
 
 -- ---- A strand that falls
 
@@ -86,14 +81,11 @@ first_gone (suc k) n s = struck_gone n (option_map_or (strand_from k s) (under_o
 abbrev Fall : Scene → Core → Type 0
 Fall a t = Chain (IsFall a) a.base t
 
-removed_none : (n : ℕ) (t : Core) → is_none (get (remove_thread n t).threads n) ≡ true
-unfolding remove_thread
-removed_none n t = ap (λ (o : Option Thread). is_none o) (get-remove_same t.threads n)
-
 module _ {a : Scene} (over : a.next ≡ turn.Over) where
   falls : (k n : ℕ) {t : Core} → IsRunner a n ⊎ ((m : ℕ) × ((place_of n a.base ≡ Some (place.Under m)) × (is_none (get t.threads m) ≡ true))) → Fall a t → Fall a (remove_threads (strand_from k a.base n) t)
+  unfolding remove_thread
   falls zero n {t = t} may c = Then t (RemoveThread n) c (Falls over may)
-  falls (suc k) n {t = t} may c = below (λ m under d. falls k m (inr (n, (under, removed_none n t))) d) (under_of n a.base) refl (Then t (RemoveThread n) c (Falls over may))
+  falls (suc k) n {t = t} may c = below (λ m under d. falls k m (inr (n, (under, ap (λ (o : Option Thread). is_none o) (get-remove_same t.threads n)))) d) (under_of n a.base) refl (Then t (RemoveThread n) c (Falls over may))
     where
       below : ((m : ℕ) → place_of m a.base ≡ Some (place.Under n) → Fall a (remove_thread n t) → Fall a (remove_threads (strand_from k a.base m) (remove_thread n t))) → (o : Option ℕ) → under_of n a.base ≡ o → Fall a (remove_thread n t) → Fall a (remove_threads (option_map_or (strand_from k a.base) o []) (remove_thread n t))
       below more None is d = d
@@ -144,10 +136,8 @@ abbrev SpawnTold : MainLabel → Core → Type 0
 SpawnTold k t = (i : ℕ) → spawn_in k ≡ Some i → is_spawn i t ≡ true
 
 at_end : (ss : List ℕ) (i n : ℕ) → (slice_get (ss ++ i ∷ []) n ≡ slice_get ss n) ⊎ (slice_get (ss ++ i ∷ []) n ≡ Some i)
-at_end [] i zero = inr refl
-at_end [] i (suc n) = inl refl
-at_end (s ∷ ss) i zero = inl refl
-at_end (s ∷ ss) i (suc n) = at_end ss i n
+at_end [] i n = grind arith
+at_end (s ∷ ss) i n = grind (arith, at_end ss i)
 
 advanced_spawns : (o : MainOpDef) (k : MainLabel) (p : MainPlace) (t : Core) → SpawnTold k t → SpawnsNamed p t (advanced_main o k p)
 advanced_spawns o (main_label.Spawn j i) p t told k = let now = told i refl in
