@@ -1,5 +1,5 @@
 -- The end of a task as a chain of words.
-use Rattle.task_rules.proofs.Machine.{after_word, ap, arith, blocked_on, Bool, Call, CallEnd, Caller, caller_of, cancelled, change, Core, EndCall, false, get, give_result, GiveResult, Goal, goal_of, if◌then◌else◌, is_callback_waiter, is_over, is_some, is_told, is_waiting_on, Join, join_of, MayEnd, nat_tests, None, on_call, on_thread, Option, option_map, option_map_or, place_of, published, Put, put_high, Records, refl, result_given, returned, same_map, SaysEnd, Scene, set_end, set_event, set_register, set_result, SetRegister, SetResult, Some, Status, status_of_end, subst, sym, task_of, told, true, unblocked, wake, wake_joined, waken_by, Why, ℕ, ◌∙◌, ◌≡◌}
+use Rattle.task_rules.proofs.Machine.{after_word, ap, arith, blocked_on, Bool, Call, CallEnd, Caller, caller_of, cancelled, change, Core, EndCall, false, get, give_result, GiveResult, Goal, goal_of, if◌then◌else◌, is_callback_waiter, is_over, is_some, is_told, is_waiting_on, Join, join_of, nat_tests, None, on_call, on_thread, Option, option_map, option_map_or, place_of, published, Put, put_high, Records, refl, result_given, returned, same_map, SaysEnd, Scene, set_end, set_event, set_register, set_result, SetRegister, SetResult, Some, Status, status_of_end, subst, sym, task_of, told, true, unblocked, wake, wake_joined, waken_by, Why, ℕ, ◌∙◌, ◌≡◌}
 use Rattle.task_rules.proofs.WalkMoves.{walk_if, shifted, published_call_shifts}
 use Rattle.task_machine.proofs.CommuteLemmas.{get-change}
 use Rattle.task_machine.proofs.MapLemmas.{change-field}
@@ -171,12 +171,6 @@ module _ {a : Scene} {b : Core} where
   returned_rest k v w s says to c =
       ends_rest (goal_of k s) (caller_of k s) k v call_end.Returned w s (λ e. absurd (cc)) to (result_given_walks (goal_of k s) (caller_of k s) k v (ends_goal k call_end.Returned s) says c)
 
-  pub returned_walks : (k v : ℕ) (w : Option ℕ) {s : Core} → MayEnd a k call_end.Returned s → SaysEnd a k status.Returned → ToldTo k w s → Keep a b s → Keep a b (returned k v w s)
-  returned_walks k v w {s = s} ok says to c = returned_rest k v w s says to (word (EndCall k call_end.Returned) (ok, says) c)
-
   pub cancelled_rest : (k : ℕ) (w : Option ℕ) (s : Core) → ToldTo k w s → Keep a b (call_ends k call_end.ReturnCancelled s) → Keep a b (cancelled k w s)
   unfolding cancelled
   cancelled_rest k w s to c = ends_rest goal.Direct caller.Main k 0 call_end.ReturnCancelled w s (λ e. absurd (cc)) to c
-
-  pub cancelled_walks : (k : ℕ) (w : Option ℕ) {s : Core} → MayEnd a k call_end.ReturnCancelled s → SaysEnd a k status.ReturnCancelled → ToldTo k w s → Keep a b s → Keep a b (cancelled k w s)
-  cancelled_walks k w {s = s} ok says to c = cancelled_rest k w s to (word (EndCall k call_end.ReturnCancelled) (ok, says) c)

@@ -1,5 +1,5 @@
 -- The moves of the machine as chains of words.
-use Rattle.task_rules.proofs.Machine.{[], add_call, add_group, add_set, add_thread, add_work, Advance, after_placing, after_word, ap, arith, AtOp, blocked_on, Bool, ByHandle, call_group, call_made, call_settled, can_come, CanCome, change, checked, chosen, Core, count_work, departed, end_of, ended, exited_if, false, first_entry, free_handle, free_thread_handle, freed_thread_handle, FreeThreadHandle, get, get-insert, get-remove, Gift, give_handle, give_result, give_thread_handle, group_settled, handed_on, hands_on, has_ended, held_why, held_why_of, HowFar, if◌then◌else◌, InOp, inr, instance_of, interest_settled, is_at, is_blocked_on, is_callback_waiter, is_deletable, is_done_host, is_explicit, is_finished, is_group_done, is_over, is_some, is_stage_ended, is_told, is_waiter, is_waiting_on, IsNamed, IsRunner, IsStarting, Join, join_of, Lands, LandsAt, le_refl, le_trans, Leaves, List, MakeThread, Mark, may_hand_on, may_not_suspend, may_publish, may_tell, may_wake, may_wake_joined, MayCome, MayDeliver, MayLand, MayPut, MayRemoveCall, MemberGift, nat_tests, NoGift, None, not, NoWord, numbers, on_call, on_instance, on_thread, on_work, op_in, Option, option_and_then, option_map, option_map_or, OwnGift, Place, place_of, Places, Placing, poll_pends, position_of, Promote, promoted, promoted_first, promoted_unless, published, push_high, Put, put_at, put_high, Quits, Records, refl, released, released_one, Releases, remove, remove_call, remove_group, remove_set, remove_thread, remove_work, RemoveCall, RemoveGroup, RemoveThread, Restart, same_subtask, Scene, set_backpressure, set_cancel_delivered, set_cancelled, set_course, set_do_not_enter, set_do_not_suspend, set_end, set_event, set_exited, set_how_far, set_join, set_own_event, set_phase, set_position, set_register, set_result, set_saved_callee, set_saved_own, set_script, set_stage, set_started, set_starting_published, set_subtask_handle, set_thread_handle, set_trapped, set_uninteresting, set_word, SetCallEvent, SetCancelDelivered, SetExited, SetOwnEvent, Settles, SetUninteresting, Shifts, Some, stage_of, Status, Stay, Stop, stopped, subst, Subtask, sym, take_result, TakeHost, taken, TakePush, TakesNamed, TakeWorkEvent, task_of, Tells, Then, Thread, thread_handle_of, told, Trip, true, unblocked, Unblocks, wake, wake_joined, wake_why, waken_by, Wakes, Why, with_handle, with_thread_handle, Word, Work, work_queued, ℕ, ◌||◌, ◌∙◌, ◌∷◌, ◌≡◌, ◌≤◌}
+use Rattle.task_rules.proofs.Machine.{[], add_call, add_group, add_set, add_thread, add_work, Advance, after_placing, after_word, ap, arith, AtOp, blocked_on, Bool, ByHandle, call_group, call_made, call_settled, can_come, CanCome, change, checked, chosen, Core, count_work, departed, end_of, ended, exited_if, false, first_entry, free_handle, free_thread_handle, freed_thread_handle, FreeThreadHandle, get, get-insert, get-remove, Gift, give_handle, give_result, give_thread_handle, group_settled, handed_on, hands_on, has_ended, held_why, held_why_of, HowFar, if◌then◌else◌, InOp, inr, instance_of, interest_settled, is_at, is_blocked_on, is_callback_waiter, is_deletable, is_done_host, is_explicit, is_finished, is_group_done, is_over, is_some, is_stage_ended, is_told, is_waiter, is_waiting_on, IsNamed, IsRunner, IsStarting, Join, join_of, Lands, LandsAt, le_refl, le_trans, Leaves, List, MakeThread, Mark, may_hand_on, may_not_suspend, may_publish, may_tell, may_wake, may_wake_joined, MayCome, MayDeliver, MayLand, MayPut, MayRemoveCall, MemberGift, nat_tests, NoGift, None, not, NoWord, numbers, on_call, on_instance, on_thread, on_work, op_in, Option, option_and_then, option_map, option_map_or, OwnGift, Place, place_of, Places, Placing, poll_pends, position_of, Promote, promoted, promoted_first, promoted_unless, published, push_high, Put, put_at, put_high, Quits, Records, refl, released, released_one, Releases, remove, remove_call, remove_group, remove_set, remove_thread, remove_work, RemoveCall, RemoveGroup, RemoveThread, Restart, same_subtask, Scene, set_backpressure, set_cancel_delivered, set_cancelled, set_course, set_do_not_enter, set_do_not_suspend, set_end, set_event, set_exited, set_how_far, set_join, set_own_event, set_phase, set_position, set_register, set_result, set_saved_callee, set_saved_own, set_script, set_stage, set_started, set_starting_published, set_subtask_handle, set_thread_handle, set_trapped, set_uninteresting, set_word, SetCallEvent, SetCancelDelivered, SetExited, SetOwnEvent, Settles, SetUninteresting, Shifts, Some, stage_of, Status, Stay, Stop, stopped, subst, Subtask, sym, take_result, TakeHost, taken, TakePush, TakesNamed, TakeWorkEvent, task_of, Tells, Then, Thread, thread_handle_of, told, Trip, true, unblocked, Unblocks, wake, wake_joined, wake_why, waken_by, Wakes, Why, with_handle, with_thread_handle, Word, Work, work_queued, ℕ, ◌||◌, ◌∙◌, ◌∷◌, ◌≡◌, ◌≤◌, IsSettling}
 use Rattle.task_machine.specs.declared.records.Turn.TheVariants as turn
 use Rattle.task_machine.proofs.CommuteLemmas.{get-change}
 use Rattle.task_rules.proofs.StandLemmas.{set_place_is}
@@ -353,10 +353,15 @@ module _ {a : Scene} {b : Core} where
   pub exits_trip : (n : ℕ) {t : Core} → Leaves a n → Left a b n t → Trip a b t
   exits_trip n {t = t} leave e = Quits e.before t n (keep_stay e.stays) leave e.settles
 
--- who ends is gone, and the other threads stay
-pub ended_threads : (n : ℕ) (s : Core) → (ended n s).threads ≡ remove s.threads n
-unfolding ended remove_thread call_settled group_settled remove_group remove_call interest_settled set_uninteresting on_call free_thread_handle set_exited
-ended_threads n s = grind arith
+settle_threads : (w : Word) (s : Core) → IsSettling w s → (after_word w s).threads ≡ s.threads
+unfolding set_uninteresting on_call remove_call remove_group
+settle_threads (SetUninteresting k) s ok = refl
+settle_threads (RemoveCall k) s ok = refl
+settle_threads (RemoveGroup g) s ok = refl
+settle_threads _ s ok = absurd ok
 
-pub ended_gone : (n : ℕ) (s : Core) → get (ended n s).threads n ≡ None
-ended_gone n s = ap (λ (m : Records Thread). get m n) (ended_threads n s) ∙ get-remove_same s.threads n
+-- who ends is gone
+pub left_gone : {a : Scene} {b : Core} (n : ℕ) {t : Core} → Left a b n t → get t.threads n ≡ None
+unfolding remove_thread
+left_gone n e =
+    along (λ u. get u.threads n ≡ None) (λ w s ok gone. ap (λ (m : Records Thread). get m n) (settle_threads w s ok) ∙ gone) (get-remove_same e.before.threads n) e.settles

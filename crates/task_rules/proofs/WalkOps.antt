@@ -303,9 +303,9 @@ module _ (x : Setting) (main : Main) (s : Core) (n : ℕ) (l : Label) (next : Tu
   enter_row_leads e words sync callee lifted =
       trap_if_leads a s (not (fits 3 s)) trap.TableFull _ (λ f.
       trap_if_leads a s (at_handle_limit s) trap.HandleLimit _ (λ g.
-      goes_over x main s n l next (label.Call (call_label.Enters n (next_thread s))) (next_thread s) (enter_runs n e (export_kind x.component e) words s) refl (λ h. no_direct h) (by_number (next_thread s) n _ (λ h. inl (ap (λ (i : ℕ). turn.Run i) (sym h))) (λ h. inr (enter_gives n e (export_kind x.component e) words s h)))
+      goes_over x main s n l next (label.Call (call_label.Enters n (next_thread s))) (next_thread s) (enter_runs n e (export_kind x.component e) words s) refl (by_number (next_thread s) n _ (λ h. inl (ap (λ (i : ℕ). turn.Run i) (sym h))) (λ h. inr (enter_gives n e (export_kind x.component e) words s h)))
       (λ is. mute_words a _ is refl)
-      (λ is to. enter_runs_walks n refl sync (calls callee) e (export_kind x.component e) words refl to (makes_call e goal.Direct callee (λ d. (lifted, to)) refl))))
+      (λ is to. (enter_runs_walks n refl sync (calls callee) e (export_kind x.component e) words refl to (makes_call e goal.Direct callee (λ d. (lifted, to)) refl), λ h. no_direct h))))
 
   call_sync_row_leads : (r : ℕ) (e : Callee) (words : List ℕ) (f : HowFar) → is_sync_call (op_in a n) ≡ true → callee_of_op (op_in a n) ≡ Some e → how_far_of n s ≡ f → Leads a s (call_sync_row x.component n r e words s f)
   call_sync_row_leads r e words (how_far.Answered v) sync callee far =
