@@ -230,11 +230,22 @@ pub told_to : (k : ℕ) (w : Option ℕ) (s : Core) → may_tell k w s ≡ true 
 unfolding may_tell may_publish
 told_to k w s h told = chosen_in_of (join_of (subtask.Guest k) s) w s (grind arith)
 
+-- where the call's status is told, it is its event
+abbrev pub told_at : ℕ → Status → Core → Core
+told_at k e s = if is_told k s then set_event (subtask.Guest k) (Some e) s else s
+
+pub told_shifts : (k : ℕ) (e : Status) (w : Option ℕ) (s : Core) → ToldTo k w s → Shifts (told_at k e s) (told k e w s)
+unfolding told
+told_shifts k e w s to = by (is_told k s) refl
+  where
+    by : (b : Bool) → is_told k s ≡ b → Shifts (if b then set_event (subtask.Guest k) (Some e) s else s) (if b then published (subtask.Guest k) e w s else s)
+    by true is = published_call_shifts k e w s (to is)
+    by false is = NoWord
+
 module _ {a : Scene} {b : Core} where
   pub told_walks : (k : ℕ) (e : Status) (w : Option ℕ) {s : Core} → (is_told k s ≡ true → Tells e k s) → IsStarting a k s → ToldTo k w s → Keep a b s → Keep a b (told k e w s)
-  unfolding told
   told_walks k e w {s = s} tells starts to c =
-      walk_if (is_told k s) (published (subtask.Guest k) e w s) s (λ is. shifted (published_call_shifts k e w s (to is)) (word (SetCallEvent k (Some e)) (is, (tells is, starts)) c)) (λ is. c)
+      shifted (told_shifts k e w s to) (walk_if (is_told k s) (set_event (subtask.Guest k) (Some e) s) s (λ is. word (SetCallEvent k (Some e)) (is, (tells is, starts)) c) (λ is. c))
 
 -- ---- Given and handed on
 
@@ -274,10 +285,6 @@ call_settles k s over = settles_if (is_deletable k s) (group_settled (call_group
 interest_settles : (k : ℕ) (s : Core) → Settles s (interest_settled k s)
 unfolding interest_settled
 interest_settles k s = settles_if (option_map_or is_finished (get s.calls k) false) (set_uninteresting k s) s (λ e. Then s (SetUninteresting k) NoWord tt) (λ e. NoWord)
-
-settled_threads : (k : ℕ) (s : Core) → (call_settled k s).threads ≡ s.threads
-unfolding call_settled group_settled remove_group remove_call
-settled_threads k s = grind arith
 
 interest_threads : (k : ℕ) (s : Core) → (interest_settled k s).threads ≡ s.threads
 unfolding interest_settled set_uninteresting on_call

@@ -1,16 +1,13 @@
 -- The takings of entries as chains of words.
-use Rattle.task_rules.proofs.Machine.{activated, activated_woken, admits, ap, arith, at_handle_limit, backpressure_of, begun_holder, Bool, Call, Choice, chosen, cond, Core, delivered, delivery_row, end_for, EndWords, event_label, ExportKind, false, foot_of, get, Gift, gift, give_thread_handle, Given, given_for, Goes, handed_by_event, handed_on, handed_out, HandsOut, held_label, holder_at_start, Holds, host_label, if◌then◌else◌, inl, inr, instance_of, is_begun, is_exit, is_explicit, is_free, is_holding, is_none, is_running, is_some, is_start, is_sync, is_told, IsLaid, kind_of, Label, LastWords, Main, Mark, may, may_hand_on, may_not_enter, may_tell, may_tell_starting, MayDeliver, MayMove, MemberGift, Move, moved_to, NameThread, nat_tests, NoGift, None, not, NoWord, on_call, on_instance, on_thread, Option, option_map_or, outcome_of_label, own_delivered, own_event_of, own_gift_of, own_gift_only, own_or_nothing, OwnEvent, OwnGift, Place, place_of, published, Records, refl, Restart, running, Runs, Scene, set_delivered, set_do_not_enter, set_event, set_given, set_how_far, set_place, set_position, set_script, set_started, set_starting_published, set_thread_handle, SetDoNotEnter, SetStarted, SetStartingPublished, Setting, Some, start_admitted, start_begins, start_holds, start_row, start_sets_flags, starting_is_published, starting_told, Status, stopped, Stops, subst, Subtask, sym, T, take_holds, take_label, taken, taking, task_of, thread_taken, told, true, Turn, unwrap_or, wait_again, WaitsAgain, was_started, WasReady, Why, with_thread_handle, ℕ, ◌&&◌, ◌==◌, ◌||◌, ◌∙◌, ◌≡◌, set_register, and_parts, end_of}
+use Rattle.task_rules.proofs.Machine.{activated, activated_woken, admits, ap, arith, at_handle_limit, backpressure_of, begun_holder, Bool, Call, Choice, chosen, cond, Core, delivered, delivery_row, end_for, EndWords, event_label, ExportKind, false, foot_of, get, Gift, gift, give_thread_handle, Given, given_for, Goes, handed_by_event, handed_on, handed_out, HandsOut, held_label, holder_at_start, Holds, if◌then◌else◌, inl, inr, instance_of, is_begun, is_exit, is_explicit, is_free, is_holding, is_none, is_running, is_some, is_start, is_sync, is_told, IsLaid, kind_of, Label, LastWords, Main, Mark, may, may_hand_on, may_not_enter, may_tell, may_tell_starting, MayDeliver, MayMove, MemberGift, Move, moved_to, NameThread, nat_tests, NoGift, None, not, NoWord, on_call, on_instance, on_thread, Option, option_map_or, outcome_of_label, own_delivered, own_event_of, own_gift_of, own_gift_only, own_or_nothing, OwnEvent, OwnGift, Place, place_of, Records, refl, Restart, running, Runs, Scene, set_delivered, set_do_not_enter, set_event, set_given, set_how_far, set_place, set_position, set_script, set_started, set_starting_published, set_thread_handle, SetDoNotEnter, SetStarted, SetStartingPublished, Setting, Some, start_admitted, start_begins, start_holds, start_row, start_sets_flags, starting_is_published, starting_told, Status, stopped, Stops, subst, Subtask, sym, T, take_holds, take_label, taken, taking, task_of, thread_taken, told, true, Turn, unwrap_or, wait_again, WaitsAgain, was_started, WasReady, Why, with_thread_handle, ℕ, ◌&&◌, ◌==◌, ◌||◌, ◌∙◌, ◌≡◌, set_register, and_parts, end_of}
 use Rattle.task_machine.specs.declared.records.Delivery.{Delivery}
 use Rattle.task_machine.specs.declared.words.OwnEvent.TheVariants as own
 use Rattle.task_machine.proofs.CommuteLemmas.{get-change}
 use Rattle.task_rules.proofs.MuteLemmas.{is_mute, mute_words, hands_by}
 use Rattle.task_rules.proofs.SayLemmas.{given_out}
-use Rattle.task_machine.specs.declared.records.Subtask.TheVariants as subtask
-use Rattle.task_machine.proofs.MapLemmas.{change-field}
 use Rattle.task_rules.proofs.PlacingLemmas.{shifted_instance, shifted_task, shifts_shifted, shifted_calls}
-use Rattle.task_rules.proofs.WalkEnds.{SameCall, still_told_to, unanswered}
 use Rattle.task_rules.proofs.ChainLemmas.{Keep}
-use Rattle.task_rules.proofs.WalkMoves.{Chosen, MayTake, ToldTo, handed_on_shifts, lands, published_call_shifts, shifted, stopped_shifts, taken_walks, told_to, told_walks, walk_if, word}
+use Rattle.task_rules.proofs.WalkMoves.{MayTake, ToldTo, handed_on_shifts, lands, shifted, stopped_shifts, taken_walks, told_to, told_walks, walk_if, word, told_shifts}
 use Rattle.task_rules.proofs.WalkParts.{gift_is, set_given_walks, sync_sets_flag_walks, started_begun, flag_calls}
 use Rattle.task_rules.proofs.WalkTask.{Leads, may_leads, none_is_some, not_main, one_runner, or_never_leads, running_moved, seen, trap_if_leads}
 use Rattle.task_machine.specs.declared.component.ExportKind.TheVariants as kind
@@ -48,12 +45,6 @@ event_taking m n v w = grind arith
 event_begins : (m : Mark) (n : ℕ) (v : Given) (w : Option ℕ) (s : Core) → begun_holder s (event_label m n v w) ≡ Some (instance_of n s)
 event_begins m n v w s = grind arith
 
-pub host_quiet : (m : Mark) (i : ℕ) (w : Option ℕ) → outcome_of_label (host_label m i w) ≡ None
-host_quiet m i w = grind arith
-
-pub host_begins : (m : Mark) (i : ℕ) (w : Option ℕ) (s : Core) → begun_holder s (host_label m i w) ≡ None
-host_begins m i w s = grind arith
-
 free_moved : (n : ℕ) (p : Place) (t : Core) → is_free p ≡ true → option_map_or is_free (place_of n (set_place n p t)) true ≡ true
 unfolding set_place on_thread
 free_moved n p t free = grind (arith, nat_tests, get-change)
@@ -83,26 +74,14 @@ unnot_true c h = grind arith
 
 -- ---- Whose instance it is
 
-event_instance : (k : ℕ) (e : Option Status) (n : ℕ) (s : Core) → instance_of n (set_event (subtask.Guest k) e s) ≡ instance_of n s
-unfolding set_event on_call
-event_instance k e n s = grind (arith, nat_tests, get-change)
-
 told_instance : (k : ℕ) (e : Status) (w : Option ℕ) (n : ℕ) (s : Core) → ToldTo k w s → instance_of n (told k e w s) ≡ instance_of n s
-unfolding told
-told_instance k e w n s to = by_told (is_told k s) refl
-  where
-    by_told : (b : Bool) → is_told k s ≡ b → instance_of n (if b then published (subtask.Guest k) e w s else s) ≡ instance_of n s
-    by_told true is = shifted_instance (shifts_shifted (published_call_shifts k e w s (to is))) n ∙ event_instance k (Some e) n s
-    by_told false is = refl
+unfolding set_event on_call
+told_instance k e w n s to = shifted_instance (shifts_shifted (told_shifts k e w s to)) n ∙ grind (arith, nat_tests, get-change)
 
 -- a call that has begun still has where its status is told
 told_begun : (k : ℕ) (e : Status) (w : Option ℕ) (s : Core) → ToldTo k w s → is_begun k s ≡ true → is_begun k (told k e w s) ≡ true
-unfolding told set_event on_call
-told_begun k e w s to begun = by_told (is_told k s) refl
-  where
-    by_told : (b : Bool) → is_told k s ≡ b → is_begun k (if b then published (subtask.Guest k) e w s else s) ≡ true
-    by_told true is = grind (arith, nat_tests, get-change, shifted_calls (shifts_shifted (published_call_shifts k e w s (to is))))
-    by_told false is = begun
+unfolding set_event on_call
+told_begun k e w s to begun = let calls = shifted_calls (shifts_shifted (told_shifts k e w s to)) in grind (arith, nat_tests, get-change, calls)
 
 barred_begun : (i k : ℕ) (s : Core) → is_begun k s ≡ true → is_begun k (set_do_not_enter i true s) ≡ true
 unfolding set_do_not_enter on_instance
@@ -117,13 +96,10 @@ begun_instance : (n : ℕ) (s : Core) → instance_of n (begun_at n s) ≡ insta
 unfolding begun_at set_started on_call with_thread_handle set_thread_handle on_thread give_thread_handle
 begun_instance n s = grind (arith, nat_tests, get-change)
 
-begun_same : (n : ℕ) (s : Core) → SameCall (task_of n s) s (begun_at n s)
+begun_to : (n : ℕ) (w : Option ℕ) (s : Core) → ToldTo (task_of n s) w s → ToldTo (task_of n s) w (begun_at n s)
 unfolding begun_at set_started on_call with_thread_handle set_thread_handle give_thread_handle on_thread
-begun_same n s = change-field unanswered (task_of n s) (λ (c : Call). record c { started = true }) (λ c. refl) s.calls (task_of n s)
-
-begun_chosen : (n x : ℕ) (w : Option ℕ) (s : Core) → Chosen x w s → Chosen x w (begun_at n s)
-unfolding begun_at set_started on_call with_thread_handle set_thread_handle give_thread_handle on_thread
-begun_chosen n x w s h m is = grind (arith, nat_tests, get-change, h m is)
+begun_to n w s to told y is m at =
+    let chosen = to (grind (arith, nat_tests, get-change, told)) y (grind (arith, nat_tests, get-change, is)) m at in grind (arith, nat_tests, get-change, chosen)
 
 begun_started : (n : ℕ) (s : Core) → is_told (task_of n s) (begun_at n s) ≡ true → was_started (task_of n s) (begun_at n s) ≡ true
 unfolding begun_at set_started on_call with_thread_handle set_thread_handle give_thread_handle on_thread
@@ -137,13 +113,9 @@ published_end : (k : ℕ) (s : Core) → end_of k (set_starting_published k s) �
 unfolding set_starting_published on_call
 published_end k s = grind (arith, nat_tests, get-change)
 
-published_same : (k : ℕ) (s : Core) → SameCall k s (set_starting_published k s)
+published_to : (k : ℕ) (w : Option ℕ) (s : Core) → ToldTo k w s → ToldTo k w (set_starting_published k s)
 unfolding set_starting_published on_call
-published_same k s = change-field unanswered k (λ (c : Call). record c { starting_published = true }) (λ c. refl) s.calls k
-
-published_chosen : (k x : ℕ) (w : Option ℕ) (s : Core) → Chosen x w s → Chosen x w (set_starting_published k s)
-unfolding set_starting_published on_call
-published_chosen k x w s h = h
+published_to k w s to told y is = to (grind (arith, nat_tests, get-change, told)) y (grind (arith, nat_tests, get-change, is))
 
 -- ---- The thread that is taken
 
@@ -190,7 +162,7 @@ module _ (x : Setting) (main : Main) (ended : Bool) (s : Core) (n : ℕ) (l : La
   told_start w = told (task_of n s) status.Started w (begun_at n s)
 
   told_home : (w : Option ℕ) → may_tell (task_of n s) w s ≡ true → instance_of n (told_start w) ≡ instance_of n s
-  told_home w may = told_instance (task_of n s) status.Started w n (begun_at n s) (still_told_to (task_of n s) s (begun_at n s) (begun_same n s) w (λ y h. begun_chosen n y w s h) (told_to (task_of n s) w s may)) ∙ begun_instance n s
+  told_home w may = told_instance (task_of n s) status.Started w n (begun_at n s) (begun_to n w s (told_to (task_of n s) w s may)) ∙ begun_instance n s
 
   holder_is : (m : Mark) (w : Option ℕ) (i : ℕ) → begun_holder s (take_label m n w) ≡ Some i → (is_explicit n s ≡ false) × ((is_holding (kind_of (task_of n s) s) ≡ true) × ((option_map_or is_start (place_of n s) false ≡ true) × (instance_of n s ≡ i)))
   holder_is m w i begun = holder_parts (is_explicit n s) (is_holding (kind_of (task_of n s) s)) (option_map_or is_start (place_of n s) false) (instance_of n s) i (sym (take_begins m n w s) ∙ begun)
@@ -200,7 +172,7 @@ module _ (x : Setting) (main : Main) (ended : Bool) (s : Core) (n : ℕ) (l : La
 
   start_begun : (w : Option ℕ) → may_tell (task_of n s) w s ≡ true → is_begun (task_of n s) (told_start w) ≡ true
   unfolding begun_at
-  start_begun w may = let k = task_of n s in told_begun k status.Started w (begun_at n s) (still_told_to k s (begun_at n s) (begun_same n s) w (λ y h. begun_chosen n y w s h) (told_to k w s may)) (started_begun k (with_thread_handle (instance_of n s) n s))
+  start_begun w may = let k = task_of n s in told_begun k status.Started w (begun_at n s) (begun_to n w s (told_to k w s may)) (started_begun k (with_thread_handle (instance_of n s) n s))
 
   -- a thread that is taken for something else has no start
   not_start : (y : Mark) (v : Why) → place_of n s ≡ Some (place.Ready y v) → WasReady taking_scene n why.Start → {A : Type 0} → is_start (place.Ready y v) ≡ false → A
@@ -210,7 +182,7 @@ module _ (x : Setting) (main : Main) (ended : Bool) (s : Core) (n : ℕ) (l : La
   unfolding begun_at
   starts_walks w ready implicit may =
       let k = task_of n s in
-      told_walks k status.Started w (begun_started n s) (n, (refl, (ready, (implicit, (refl, begun_end n s))))) (still_told_to k s (begun_at n s) (begun_same n s) w (λ y h. begun_chosen n y w s h) (told_to k w s may))
+      told_walks k status.Started w (begun_started n s) (n, (refl, (ready, (implicit, (refl, begun_end n s))))) (begun_to n w s (told_to k w s may))
       (word (SetStarted k) (inl (n, (refl, (ready, refl)))) (word (NameThread (instance_of n s) n) tt NoWord))
 
   barred_leads : (m : Mark) (w : Option ℕ) → WasReady taking_scene n why.Start → is_explicit n s ≡ false → admits n s why.Start ≡ true → may_tell (task_of n s) w s ≡ true → (q : ExportKind) → kind_of (task_of n s) s ≡ q → is_holding q ≡ true → Leads taking_scene s (Goes (take_label m n w) (set_place n place.Running (set_do_not_enter (instance_of n (told_start w)) true (told_start w))) n)
@@ -248,7 +220,7 @@ module _ (x : Setting) (main : Main) (ended : Bool) (s : Core) (n : ℕ) (l : La
   starting_walks w ready implicit may =
       let k = task_of n s in
       walk_if (starting_is_published k s) s (told k status.Starting w (set_starting_published k s)) (λ e. NoWord) (λ e.
-      told_walks k status.Starting w (λ told. tt) (n, (refl, (ready, (implicit, (refl, published_end k s))))) (still_told_to k s (set_starting_published k s) (published_same k s) w (λ y h. published_chosen k y w s h) (told_to k w s (sym (ap (λ c. cond c (is_none w) (may_tell k w s)) e) ∙ may)))
+      told_walks k status.Starting w (λ told. tt) (n, (refl, (ready, (implicit, (refl, published_end k s))))) (published_to k w s (told_to k w s (sym (ap (λ c. cond c (is_none w) (may_tell k w s)) e) ∙ may)))
       (word (SetStartingPublished k) tt NoWord))
 
   start_row_leads : (m : Mark) (w : Option ℕ) (c : Bool) → admits n s why.Start ≡ c → WasReady taking_scene n why.Start → Leads taking_scene s (start_row m n w s c)
