@@ -1,5 +1,5 @@
 -- What the rows of the ops are made of, as chains of words: what is read, gifts, moves, and a new call.
-use Rattle.task_rules.proofs.Machine.{[], add_call, add_thread, advanced, after_placing, after_word, answered, ap, arith, assigned, AtOp, behind_one, behind_switch, Blocks, Bool, ByHandle, ByOp, Call, call_clears_flag, call_group, call_instance, call_made, call_queues, call_resumes, call_settled, call_stops, Callee, callee_of_op, Caller, can_come, cancel_goes_behind, cancel_label, cancel_stops, cancel_takes_end, checked, Choice, chosen, Core, Enter, enter_runs, event_of, ExportKind, false, foot_of, free_handle, get, get-insert, Gift, gift, give_handle, give_thread_handle, Given, given_code, given_handle, given_result, Goal, goal_of, GoBehind, group_settled, HasCalled, HasSet, HasSubtask, how_far_of, HowFar, if◌then◌else◌, inl, InOp, inr, instance_of, is_begun, is_blocked_on, is_cancel, is_deletable, is_deletable_call, is_direct, is_explicit, is_group_done, is_joined, is_none, is_running, is_some, is_sync_call, is_sync_cancel, is_wait, IsNew, IsRunner, IsWithdrawn, Join, join_label, join_of, Leaves, less_switch, List, Made, MakeCall, may_not_suspend, MayCancel, MayCome, MayDeliver, MayJoin, MayMakeCall, MayRemoveWork, MayWithdraw, MemberGift, Mode, Move, moved_to, NameThread, nat_tests, new_handle, new_thread, next_thread, NoGift, None, not, NoWord, on_call, on_instance, on_thread, on_work, op_in, Option, option_map, option_map_or, own_event_of, OwnGift, Place, place_of, Put, put_back, put_switch, received, Records, refl, Remains, remove_call, remove_group, remove_thread, remove_work, RemoveWork, saved_callee_of, says, SaysEnd, Scene, set_do_not_suspend, set_end, set_event, set_exited, set_given, set_high, set_how_far, set_join, set_low, set_place, set_position, set_register, set_result, set_saved_callee, set_saved_own, set_started, set_subtask_handle, set_switch, set_thread_handle, set_uninteresting, SetCallEvent, SetCallJoin, SetDoNotSuspend, SetExited, SetHowFar, SetRegister, SetSavedCallee, SetSavedOwn, SetStarted, settle_group_of, SetUninteresting, SetWorkJoin, Some, Starts, Status, status_code, Stay, Stop, stopped, subst, Subtask, subtask_at, subtask_handle, subtask_under_way, sym, sync_sets_flag, TakesCalled, TakesCancelled, TakesNamed, TakeWorkEvent, task_of, Then, Thread, thread_group, Trip, true, unqueued, unwrap_or, wait_label, wait_stops, Waits, with_handle, with_thread_handle, Withdraw, withdrawn, work_deleted, work_group, ℕ, ◌&&◌, ◌+◌, ◌==◌, ◌∙◌, ◌≡◌, ◌⊎◌, EndCall}
+use Rattle.task_rules.proofs.Machine.{[], add_call, add_thread, advanced, after_placing, after_word, answered, ap, arith, assigned, AtOp, behind_one, behind_switch, Blocks, Bool, ByHandle, ByOp, Call, call_clears_flag, call_group, call_instance, call_made, call_queues, call_resumes, call_settled, call_stops, Callee, callee_of_op, Caller, can_come, cancel_goes_behind, cancel_label, cancel_stops, cancel_takes_end, checked, Choice, chosen, Core, Enter, enter_runs, event_of, ExportKind, false, foot_of, free_handle, get, get-insert, Gift, gift, give_thread_handle, Given, given_code, given_handle, given_result, Goal, goal_of, GoBehind, group_settled, HasCalled, HasSet, HasSubtask, how_far_of, HowFar, if◌then◌else◌, inl, InOp, inr, instance_of, is_begun, is_blocked_on, is_cancel, is_deletable, is_deletable_call, is_direct, is_explicit, is_group_done, is_joined, is_none, is_running, is_some, is_sync_call, is_sync_cancel, is_wait, IsNew, IsRunner, IsWithdrawn, Join, join_label, join_of, Leaves, less_switch, List, Made, MakeCall, may_not_suspend, MayCancel, MayCome, MayDeliver, MayJoin, MayMakeCall, MayRemoveWork, MayWithdraw, MemberGift, Mode, Move, moved_to, NameThread, nat_tests, new_thread, next_thread, NoGift, None, not, NoWord, on_call, on_instance, on_thread, on_work, op_in, Option, option_map, option_map_or, own_event_of, OwnGift, Place, place_of, Put, put_back, put_switch, received, Records, refl, Remains, remove_call, remove_group, remove_thread, remove_work, RemoveWork, saved_callee_of, says, SaysEnd, Scene, set_do_not_suspend, set_end, set_event, set_exited, set_given, set_high, set_how_far, set_join, set_low, set_place, set_position, set_register, set_saved_callee, set_saved_own, set_started, set_subtask_handle, set_switch, set_thread_handle, set_uninteresting, SetCallEvent, SetCallJoin, SetDoNotSuspend, SetExited, SetHowFar, SetRegister, SetSavedCallee, SetSavedOwn, SetStarted, settle_group_of, SetUninteresting, SetWorkJoin, Some, Starts, Status, status_code, Stop, stopped, subst, Subtask, subtask_handle, subtask_under_way, sym, sync_sets_flag, TakesCalled, TakesCancelled, TakesNamed, TakeWorkEvent, task_of, Then, Thread, thread_group, Trip, true, unqueued, unwrap_or, wait_label, wait_stops, Waits, with_thread_handle, Withdraw, withdrawn, work_deleted, work_group, ℕ, ◌&&◌, ◌+◌, ◌==◌, ◌∙◌, ◌≡◌, ◌⊎◌, EndCall}
 use Rattle.task_rules.proofs.ChainLemmas.{Going, Keep, keep_stay}
 use Rattle.task_rules.proofs.WalkMoves.{keep_still, MayTake, checked_shifts, group_settled_walks, shifted, stopped_shifts, taken_walks, word, lands_at}
 use Rattle.task_machine.specs.declared.words.OwnEvent.TheVariants as own
@@ -31,13 +31,6 @@ pub set_none_join : (sub : Subtask) (t : Core) → is_joined (join_of sub (set_j
 unfolding set_join on_call on_work
 set_none_join sub t = grind (arith, nat_tests, get-change)
 
-blocked_itself : (sub : Subtask) → is_blocked_on sub (place.Blocked sub) ≡ true
-blocked_itself sub = grind (arith, nat_tests)
-
-pub far_fresh : (n : ℕ) (t : Core) → how_far_of n (set_how_far n how_far.Fresh t) ≡ how_far.Fresh
-unfolding set_how_far on_thread
-far_fresh n t = grind (arith, nat_tests, get-change)
-
 -- the answer may come before the work is gone
 pub answered_first : (n r v i : ℕ) (s : Core) → work_deleted i (assigned n r v s) ≡ assigned n r v (work_deleted i s)
 unfolding work_deleted assigned advanced moved_to set_how_far set_position on_thread set_register remove_work group_settled remove_group is_group_done
@@ -62,11 +55,6 @@ answered_settled n r v k s =
     by true = by_done (call_group k s) (is_group_done (call_group k s) (remove_call k s))
     by false = refl
 
--- it may come before the call has a handle
-pub answered_unnamed : (n r v i k : ℕ) (s : Core) → with_handle i (subtask.Guest k) (answered n r v s) ≡ answered n r v (with_handle i (subtask.Guest k) s)
-unfolding answered assigned advanced moved_to set_how_far set_position on_thread set_register set_saved_callee with_handle set_subtask_handle give_handle on_call new_handle
-answered_unnamed n r v i k s = refl
-
 pub work_unnamed : (i : ℕ) (t : Core) → subtask_handle (subtask.Host i) (set_subtask_handle (subtask.Host i) None t) ≡ None
 unfolding set_subtask_handle on_work
 work_unnamed i t = grind (arith, nat_tests, get-change)
@@ -84,15 +72,11 @@ wait_plain s n v w = grind arith
 pub cancel_plain : (s : Core) (mode : Mode) (n v : ℕ) → is_plain s (cancel_label mode n v) ≡ true
 cancel_plain s mode n v = grind arith
 
--- a chosen member is named by a handle
-chosen_named : (n : ℕ) (ch : Choice) (s : Core) (sub : Subtask) → chosen n ch s ≡ Some sub → (h : ℕ) × (subtask_at (instance_of n s) h s ≡ Some sub)
-chosen_named n ch s sub e = (unwrap_or ch.member 0, grind arith)
-
 -- what a gift may be: a task takes Cancelled only by callback, and a member is the chosen one
 pub gift_is : (a : Scene) (n : ℕ) (by : Bool) (y : ℕ) (ch : Choice) (g : Gift) → IsRunner a n → (by ≡ true → own_event_of (task_of n a.base) a.base ≡ Some own.Cancelled → MayDeliver a (task_of n a.base)) → gift by (task_of n a.base) y (chosen n ch a.base) a.base ≡ Some g → MayTake a (task_of n a.base) g
 unfolding gift
 gift_is a n by y ch (OwnGift v) is delivers e = ((n, (is, refl)), λ c. delivers (grind arith) (grind arith))
-gift_is a n by y ch (MemberGift sub) is delivers e = let c = chosen_named n ch a.base sub (grind arith) in (n, (c.0, (is, c.1)))
+gift_is a n by y ch (MemberGift sub) is delivers e = let c : chosen n ch a.base ≡ Some sub = grind arith in (n, (unwrap_or ch.member 0, (is, grind (arith, c))))
 gift_is a n by y ch NoGift is delivers e = tt
 
 pub withdraws : (k : ℕ) (t : Core) → after_word (Withdraw k) t ≡ remove_thread k (set_switch (less_switch k t.queues.switch) (unqueued k t))
@@ -110,17 +94,9 @@ flagged_event : (k j : ℕ) (o : Option Bool) (s : Core) → event_of (subtask.G
 unfolding set_do_not_suspend on_instance
 flagged_event k j o s = grind arith
 
-answered_taken : (n r v k : ℕ) (s : Core) → set_event (subtask.Guest k) None (answered n r v s) ≡ answered n r v (set_event (subtask.Guest k) None s)
-unfolding answered assigned advanced moved_to set_how_far set_position on_thread set_register set_saved_callee set_event on_call
-answered_taken n r v k s = refl
-
-pub answered_parted : (n r v k : ℕ) (s : Core) → set_result k None (answered n r v s) ≡ answered n r v (set_result k None s)
-unfolding answered assigned advanced moved_to set_how_far set_position on_thread set_register set_saved_callee set_result on_call
-answered_parted n r v k s = refl
-
 pub assigned_fresh : (n r v : ℕ) (s : Core) → how_far_of n (assigned n r v s) ≡ how_far.Fresh
-unfolding assigned advanced moved_to
-assigned_fresh n r v s = far_fresh n _
+unfolding assigned advanced moved_to set_how_far set_position on_thread set_register
+assigned_fresh n r v s = grind (arith, nat_tests, get-change)
 
 pub answered_fresh : (n r v : ℕ) (s : Core) → how_far_of n (answered n r v s) ≡ how_far.Fresh
 unfolding answered
@@ -173,18 +149,17 @@ module _ {a : Scene} {b : Core} (n : ℕ) (is : IsRunner a n) where
 
   -- it has, and the op is done before its event is taken
   pub call_answers_walks : Stands a b n → (r v k : ℕ) {t : Core} → how_far_of n a.base ≡ how_far.Calls (subtask.Guest k) → Keep a b t → Going a b n (answered n r v (call_resumes n k t))
-  unfolding call_resumes
+  unfolding call_resumes answered assigned advanced moved_to set_how_far set_position on_thread set_register set_saved_callee set_event on_call
   call_answers_walks on r v k {t = t} far c to =
       let u = put_back (saved_callee_of n t) (call_instance k t) t in
-      subst (λ (w : Core). Stay a b w) (answered_taken n r v k u)
-      (Then _ (SetCallEvent k None) (answered_walks n is on r v (put_back_walks (saved_callee_of n t) (call_instance k t) c) to) (TakesCalled n is far (inl (answered_fresh n r v u))))
+      Then _ (SetCallEvent k None) (answered_walks n is on r v (put_back_walks (saved_callee_of n t) (call_instance k t) c) to) (TakesCalled n is far (inl (answered_fresh n r v u)))
 
   pub call_stops_walks : AtOps a b n → (sub : Subtask) (t : Core) → can_come (op_in a n) (how_far.Calls sub) ≡ true → Leaves a n → ((u : Core) → Shifted t u → HasSubtask a n sub ⊎ IsNew a sub u) → ((u : Core) → Shifted t u → option_map_or (is_blocked_on sub) (place_of n u) true ≡ true → MayCome a n (how_far.Calls sub) u) → Keep a b t → Trip a b (call_stops n sub t)
   unfolding call_stops
   call_stops_walks at sub t can leave own come c =
       let u = stopped (foot_of n t) t in
       let h : Shifted t u = placing_shifted (Stop (foot_of n t)) t in
-      lands_at (Move n (place.Blocked sub)) n (how_far.Calls sub) (Blocks sub leave (own u h) refl) (come (set_place n (place.Blocked sub) u) (shifted_after h (placing_shifted (Move n (place.Blocked sub)) u)) (moved_passes (is_blocked_on sub) (place.Blocked sub) (blocked_itself sub) n u)) (at u (stopped_walks t c)) can (stopped_walks t c)
+      lands_at (Move n (place.Blocked sub)) n (how_far.Calls sub) (Blocks sub leave (own u h) refl) (come (set_place n (place.Blocked sub) u) (shifted_after h (placing_shifted (Move n (place.Blocked sub)) u)) (moved_passes (is_blocked_on sub) (place.Blocked sub) (grind (arith, nat_tests)) n u)) (at u (stopped_walks t c)) can (stopped_walks t c)
 
   pub sync_sets_flag_walks : (m j : ℕ) (k : ExportKind) {t : Core} → Keep a b t → Keep a b (sync_sets_flag m j k t)
   sync_sets_flag_walks m j kind.Sync {t = t} c = word (SetDoNotSuspend j true) tt (word (SetSavedOwn m (Some (may_not_suspend j t))) tt c)

@@ -6,8 +6,8 @@ use Rattle.task_machine.proofs.CommuteLemmas.{get-change}
 use Rattle.task_rules.proofs.MuteLemmas.{is_mute, mute_words, hands_by}
 use Rattle.task_rules.proofs.SayLemmas.{given_out}
 use Rattle.task_rules.proofs.PlacingLemmas.{shifted_instance, shifted_task, shifts_shifted, shifted_calls}
-use Rattle.task_rules.proofs.ChainLemmas.{Keep}
-use Rattle.task_rules.proofs.WalkMoves.{MayTake, ToldTo, handed_on_shifts, lands, shifted, stopped_shifts, taken_walks, told_to, told_walks, walk_if, word, told_shifts}
+use Rattle.task_rules.proofs.ChainLemmas.{Keep, chain_if}
+use Rattle.task_rules.proofs.WalkMoves.{MayTake, ToldTo, handed_on_shifts, lands, shifted, stopped_shifts, taken_walks, told_to, told_walks, word, told_shifts}
 use Rattle.task_rules.proofs.WalkParts.{gift_is, set_given_walks, sync_sets_flag_walks, started_begun, flag_calls}
 use Rattle.task_rules.proofs.WalkTask.{Leads, may_leads, none_is_some, not_main, one_runner, or_never_leads, running_moved, seen, trap_if_leads}
 use Rattle.task_machine.specs.declared.component.ExportKind.TheVariants as kind
@@ -219,7 +219,7 @@ module _ (x : Setting) (main : Main) (ended : Bool) (s : Core) (n : ℕ) (l : La
   unfolding starting_told may_tell_starting
   starting_walks w ready implicit may =
       let k = task_of n s in
-      walk_if (starting_is_published k s) s (told k status.Starting w (set_starting_published k s)) (λ e. NoWord) (λ e.
+      chain_if (starting_is_published k s) s (told k status.Starting w (set_starting_published k s)) (λ e. NoWord) (λ e.
       told_walks k status.Starting w (λ told. tt) (n, (refl, (ready, (implicit, (refl, published_end k s))))) (published_to k w s (told_to k w s (sym (ap (λ c. cond c (is_none w) (may_tell k w s)) e) ∙ may)))
       (word (SetStartingPublished k) tt NoWord))
 
