@@ -16,7 +16,7 @@ IsUnbegun Unscripted = Unit {0}
 
 -- Each run from an opening state, of a component whose codes stand in callbacks, writes and hands out each end once; where in each reached
 -- state the call that the running thread's op is inside of is there.
-abbrev pub RunsAreOnce : Type 0
+unfoldable pub RunsAreOnce : Type 0
 RunsAreOnce = (x : Setting) → CodesInCallbacks x.component → ((s : State) → Reached x s → CalledThere s) →
     (instances handle_limit capacity : ℕ) (main : Main) → IsUnbegun main → (ls : List Label) (t : State) →
     (run : Run x (opening instances handle_limit capacity main) ls t) →

@@ -5,6 +5,7 @@ ghost use Rattle.task_places.specs.Once.{RunsAreOnce};
 /// that end an activation stand in callback exports alone; main is a script at its first op, or no
 /// script; and in each reached state the call that the running thread's op is inside of is there
 /// (`CalledThere`).
+#[tactic(auto, using(crate::proofs::OnceSteps::runs_are_once))]
 pub fn runs_are_once()
     ensures { RunsAreOnce }
 {}

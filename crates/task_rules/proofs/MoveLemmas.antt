@@ -209,16 +209,20 @@ wake_stand n x (Some m) s h st =
     by_callback p is parked false = put_keeps n m why.Resumption p s is parked st
 
 pub stop_keeps_places : StopKeepsPlaces
+unfolding StopKeepsPlaces
 stop_keeps_places n f p s free is all =
     let st = stopped_stand n (Some place.Running) f s (runs n s is all) in
     adds_all n (Some place.Running) p (stopped f s) (set_place n p (stopped f s)) (set_place_adds n p place.Running (stopped f s) free st.here) st
 
 pub release_keeps_places : ReleaseKeepsPlaces
+unfolding ReleaseKeepsPlaces
 release_keeps_places n ns s is all = all_of n (Some place.Running) (released ns s) refl (release_stand n ns s (runs n s is all))
 
 pub wake_keeps_places : WakeKeepsPlaces
+unfolding WakeKeepsPlaces
 wake_keeps_places n x w s may_be is all =
     all_of n (Some place.Running) (wake x w s) refl (wake_stand n x w s may_be (runs n s is all))
 
 pub removal_keeps_places : RemovalKeepsPlaces
+unfolding RemovalKeepsPlaces
 removal_keeps_places n s is all = removed_all n (Some place.Running) s (runs n s is all)
