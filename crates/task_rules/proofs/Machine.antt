@@ -68,7 +68,8 @@ unfoldable pub use Rattle.task_rules.specs.Data.{advanced, assigned, moved_to, s
 pub use Rattle.task_rules.specs.Ends.{blocking_exit_row, blocking_returned, code_kind_row, code_row, code_wait_row, direct_exit_to, exit_row_for, first_waiter, implicit_exit_row, is_told, kind_exit_row, own_or_none, result_given, sync_exit_row, thread_exit_row, waiter_told}
 unfoldable pub use Rattle.task_rules.specs.Ends.{blocking_exits, cancelled, code_exits, code_finds, code_stops, code_waits, code_yields, direct_exits, end_reopens, exit_restores, exit_stops, has_event_for, held_by_flag, leaves_no_result, may_tell, passes_after_return, passes_after_stop, returned, sync_exits, told}
 pub use Rattle.task_rules.specs.History.{history, Moment}
-pub use Rattle.task_rules.specs.Laws.{BlockingCheckIsAfter, CallbackCheckIsAfter, CheckMovesOne, EachStep, is_free, KeptByRuns, LaterBy, LaterCall, LaterWork, NeverFewer, OutcomeEnds, OutcomeIsLast, OverIsLast, Promotes, PromotionMovesOne, ReleaseKeepsPlaces, RemovalKeepsPlaces, RunGoesOn, RunsJoin, SameLimits, SameThread, Steady, StopKeepsPlaces, Takes, WakeKeepsPlaces}
+pub use Rattle.task_rules.specs.Laws.{BlockingCheckIsAfter, CallbackCheckIsAfter, CheckMovesOne, EachStep, is_free, KeptByRuns, LaterBy, LaterCall, LaterWork, NeverFewer, OutcomeEnds, OutcomeIsLast, OverIsLast, Promotes, PromotionMovesOne, RunGoesOn, RunsJoin, SameLimits, SameThread, Steady, Takes}
+unfoldable pub use Rattle.task_rules.specs.Laws.{ReleaseKeepsPlaces, RemovalKeepsPlaces, StopKeepsPlaces, WakeKeepsPlaces}
 pub use Rattle.task_rules.specs.MainOps.{Abort, act_of, advanced_main, Answer, Await, Does, Finish, finish_act, finish_result, finished_into, is_complete, is_spawn, is_spawn_caller, line_of, main_row, MainAct, MainProgress, may_act, op_at, Pends, Quiet, Ready, Spawn, spawned_at, Start, start_act, started_at, unless_pending}
 unfoldable pub use Rattle.task_rules.specs.MainOps.{has_interesting, is_ready_for_call, main_aborted, main_spawned, main_started, start_refusal}
 pub use Rattle.task_rules.specs.Once.{begun_holder, call_end_code, changes_end, course_code, covers_end, end_code, EndsOnce, handed, hands_out, hands_out_written, holder_at_exit, holder_at_start, holds_one, is_among, is_end_of, is_known, is_other, is_start, is_written, less_holder, returned_holder, same_end, with_end, with_holder, writes_end, written}
