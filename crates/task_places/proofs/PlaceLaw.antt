@@ -5,9 +5,9 @@ use Rattle.task_machine.proofs.CommuteLemmas.{get-change}
 use Rattle.task_places.proofs.Entries.{added_stand, has_stands, next_first, popped_quiet, promoted_stand, pushed_same, removed_fresh, withdrawn_stand, flipped}
 use Rattle.task_laws.proofs.CameLemmas.{read_same}
 use Rattle.task_rules.proofs.ChainLemmas.{along}
-use Rattle.task_rules.proofs.MoveLemmas.{removed_is, All, all_of, idle_loose, is_busy, is_idle, is_parked, loose_idle, put_stand, removed_all, no_time, one_time, stand_of, removed_gone, removed_placed, removed_loose, gone_place, nobody}
+use Rattle.task_rules.proofs.MoveLemmas.{removed_is, All, all_of, idle_loose, is_busy, is_idle, is_parked, loose_idle, put_stand, removed_all, no_time, one_time, stand_of, removed_gone, removed_placed, removed_loose, gone_place}
 use Rattle.task_rules.proofs.PlacingLemmas.{placing_shifted}
-use Rattle.task_rules.proofs.StandLemmas.{set_place_is, Adds, adds_all, Loose, Stand, by_number, put_high_adds, put_low_adds, set_place_adds, place_kept, place_written, Given, Watch, Nothing, Awaits, Covered, is_so, is_watched, eq_refl, is_eq_of, Stuck, watching}
+use Rattle.task_rules.proofs.StandLemmas.{nobody, set_place_is, Adds, adds_all, Loose, Stand, by_number, put_high_adds, put_low_adds, set_place_adds, place_kept, place_written, Given, Watch, Nothing, Awaits, Covered, is_so, is_watched, eq_refl, is_eq_of, Stuck, watching}
 use Rattle.task_rules.proofs.StopLemmas.{Untouched, behind_adds, foot_there, given_there, quiet_placed, quiet_stand, stopped_stand, switch_there}
 use Rattle.task_rules.proofs.WalkParts.{withdraws}
 use Rattle.task_rules.proofs.WalkTask.{not_main, one_runner}

@@ -168,8 +168,7 @@ detached : {P : ℕ → Watch} (n : ℕ) (q : Option Place) (f : ℕ) (s : Core)
 unfolding set_callers
 detached {P = P} n q f s st = record {
   here = st.here;
-  once = λ k. by_count k n (times k (n ∷ callers_of f s) ≤ 1)
-      (λ e x. omega (arith, (st.loose k (omega arith)).callers f))
+  once = λ k. by_count k n _ (λ e x. omega (arith, (st.loose k (omega arith)).callers f))
       (λ e x. omega (arith, callers_say k f s (st.placed k (omega arith)), says_one (is_behind_of f) (place_of k s)));
   loose = λ k h. by_count k n _ (λ e x. left_loose k s t (stays k (omega arith)) (st.loose k (omega arith)))
       (λ e x. comes_loose k (omega arith) (st.placed k (omega arith)));
@@ -194,21 +193,14 @@ detached {P = P} n q f s st = record {
     stays : (k : ℕ) → times k (callers_of f s) ≡ 0 → Left k s t
     stays k none = grind (arith, nat_tests, get-insert)
 
+    behind_is : (o : Option Place) → 1 ≤ says (is_behind_of f) o → o ≡ Some (place.Behind f)
+    behind_is o y = grind (arith, nat_tests)
+
     behind_f : (k : ℕ) → times k (callers_of f s) ≡ 1 → HasPlace k s → place_of k s ≡ Some (place.Behind f)
-    behind_f k h p = of_place (place_of k s) (omega (arith, h, callers_say k f s p))
-      where
-        of_place : (o : Option Place) → 1 ≤ says (is_behind_of f) o → o ≡ Some (place.Behind f)
-        of_place (Some (place.Behind g)) y = ap (λ (j : ℕ). Some (place.Behind j)) (sym (is_eq_of f g (one_of (f == g) y)))
-          where
-            one_of : (b : Bool) → 1 ≤ one_if b → b ≡ true
-            one_of b y = grind arith
-        of_place _ y = absurd (omega (arith, y))
+    behind_f k h p = behind_is (place_of k s) (omega (arith, h, callers_say k f s p))
 
     comes_loose : (k : ℕ) → times k (callers_of f s) ≡ 1 → HasPlace k s → Loose k t
-    comes_loose k h p = by_place (behind_f k h p) p
-      where
-        by_place : place_of k s ≡ Some (place.Behind f) → HasPlace k s → Loose k t
-        by_place is p = grind (arith, nat_tests, get-insert)
+    comes_loose k h p = let is = behind_f k h p in grind (arith, nat_tests, get-insert)
 
 pub stopped_stand : {P : ℕ → Watch} (n : ℕ) (q : Option Place) (f : ℕ) (s : Core) → Stand P n q [] s → Stand P n q [] (stopped f s)
 unfolding stopped set_callers
