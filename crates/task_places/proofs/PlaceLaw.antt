@@ -7,7 +7,7 @@ use Rattle.task_laws.proofs.CameLemmas.{read_same}
 use Rattle.task_rules.proofs.ChainLemmas.{along}
 use Rattle.task_rules.proofs.MoveLemmas.{removed_is, All, all_of, idle_loose, is_busy, is_idle, is_parked, loose_idle, put_stand, removed_all, no_time, one_time, stand_of, removed_gone, removed_placed, removed_loose, gone_place}
 use Rattle.task_rules.proofs.PlacingLemmas.{placing_shifted}
-use Rattle.task_rules.proofs.StandLemmas.{nobody, set_place_is, Adds, adds_all, Loose, Stand, by_number, put_high_adds, put_low_adds, set_place_adds, place_kept, place_written, Given, Watch, Nothing, Awaits, Covered, is_so, is_watched, eq_refl, is_eq_of, Stuck, watching}
+use Rattle.task_rules.proofs.StandLemmas.{nobody, entries-append, set_place_is, Adds, adds_all, Loose, Stand, by_number, put_high_adds, put_low_adds, set_place_adds, place_kept, place_written, Given, Watch, Nothing, Awaits, Covered, is_so, is_watched, eq_refl, is_eq_of, Stuck, watching}
 use Rattle.task_rules.proofs.StopLemmas.{Untouched, behind_adds, foot_there, given_there, quiet_placed, quiet_stand, stopped_stand, switch_there}
 use Rattle.task_rules.proofs.WalkParts.{withdraws}
 use Rattle.task_rules.proofs.WalkTask.{not_main, one_runner}
@@ -94,10 +94,6 @@ thread_untouched : (n : ℕ) (f : Thread → Thread) (s : Core) → ((t : Thread
 unfolding on_thread
 thread_untouched n f s same = record { places = λ k. read_same n f same k s; switch = λ k. refl; high = λ k. refl; low = λ k. refl; callers = refl; made = le_refl _ }
 
-calls_untouched : (k : ℕ) (c : Call) (s : Core) → Untouched s (add_call k c s)
-unfolding add_call
-calls_untouched k c s = record { places = λ k. refl; switch = λ k. refl; high = λ k. refl; low = λ k. refl; callers = refl; made = le_refl _ }
-
 -- the word puts the thread
 abbrev puts_of : ℕ → Word → Bool
 puts_of m (Places (Put x k w)) = k == m
@@ -117,72 +113,84 @@ put_done a m sub (Places (Put x k w)) s (inr ok) at e = absurd ok
 put_done a m sub _ s ok at e = no_way e
 
 module _ {a : Scene} {b : Core} {n : ℕ} {q : Option Place} (f : Follows a b n q) where
-  not_here : {P : ℕ → Watch} (m : ℕ) (s : Core) → Stand P n q [] s → (place_of n s ≡ place_of m s → place_of m s ≡ q → ⊥) → (m == n) ≡ false
-  not_here m s st differs = by_number m n ((m == n) ≡ false) (λ e. let same = ap (λ (j : ℕ). place_of j s) (sym e) in absurd (differs same (sym same ∙ st.here))) (λ e. e)
+  not_here : {P : ℕ → Watch} (m : ℕ) (s : Core) → Stand P n q [] s → (place_of m s ≡ q → ⊥) → (m == n) ≡ false
+  not_here m s st differs = by_number m n _ (λ e. absurd (differs (ap (λ (j : ℕ). place_of j s) e ∙ st.here))) (λ e. e)
 
-  promotes : {P : ℕ → Watch} (m : ℕ) (s : Core) → (m == n) ≡ false → s.queues.switch ≡ None → ReadyAt (place_of m s) → Stand P n q [] s → Stand P n q [] (promoted m s)
-  promotes m s apart none r st = promoted_stand n q m r.0 r.1.0 s apart r.1.1 none st
+  -- what is watched of a thread stays so where it is put
+  abbrev Puts : (ℕ → Watch) → Word → Core → Type 0
+  Puts P w s = (x : Mark) (m : ℕ) (v : Why) → w ≡ Places (Put x m v) → is_watched (P m) ≡ true → is_so (P m) (place_of m s) ≡ true →
+      is_so (P m) (Some (place.Ready x v)) ≡ true
 
-  keeps_placing : {P : ℕ → Watch} (p : Placing) (s : Core) → Stays a (Places p) s → ((x : Mark) (m : ℕ) (w : Why) → p ≡ Put x m w → is_watched (P m) ≡ true → is_so (P m) (place_of m s) ≡ true → is_so (P m) (Some (place.Ready x w)) ≡ true) → Stand P n q [] s → Stand P n q [] (after_placing p s)
-  keeps_placing {P = P} (Put x m w) s (inl ok) puts st = let p = place_at is_parked (place_of m s) (parked_at m w s ok).0 in put_stand n q f.busy x m w p.0 s p.1.0 p.1.1 (λ h. puts x m w refl h (st.kept m h).1) st
+  keeps_placing : {P : ℕ → Watch} (p : Placing) (s : Core) → Stays a (Places p) s → Puts P (Places p) s → Stand P n q [] s →
+      Stand P n q [] (after_placing p s)
+  keeps_placing (Put x m w) s (inl ok) puts st =
+      let p = place_at is_parked (place_of m s) (parked_at m w s ok).0 in
+      put_stand n q f.busy x m w p.0 s p.1.0 p.1.1 (λ h. puts x m w refl h (st.kept m h).1) st
   keeps_placing (Promote m) s (inl ok) puts st =
       let one = listed m s ok.1 in
-      let apart : (m == n) ≡ false = by_number m n ((m == n) ≡ false) (λ e. let l = st.loose m (subst (λ (j : ℕ). times j (n ∷ []) ≡ 1) (sym e) (one_time n)) in
-      let x = l.switch in let y = l.high in let z = l.low in absurd (omega (arith, x, y, z, one))) (λ e. e) in
-      promotes m s apart ok.0 (entry_ready m s (st.placed m (no_time m n apart)) one) st
+      let apart : (m == n) ≡ false = let l = st.loose n (one_time n) in grind (arith, nat_tests) in
+      let r = entry_ready m s (st.placed m (no_time m n apart)) one in
+      promoted_stand n q m r.0 r.1.0 s apart r.1.1 ok.0 st
   keeps_placing (Promote m) s (inr ok) puts st =
-      promotes m s (not_here m s st (λ same at. subst T (sym (f.runs ok.1.0 ok.1.1.0).0 ∙ (ap is_idle (sym at) ∙ ap is_idle ok.1.1.1.1.1)) tt)) ok.0 ok.1.1.1 st
+      let r = ok.1.1.1 in
+      promoted_stand n q m r.0 r.1.0 s (not_here m s st (λ e. let idle = f.runs ok.1.0 ok.1.1.0 in absurd (grind arith))) r.1.1 ok.0 st
   keeps_placing (Stop g) s (inl ok) puts st = stopped_stand n q g s st
   keeps_placing p s (inl ok) puts st = absurd ok
   keeps_placing p s (inr ok) puts st = absurd ok
 
-  next_apart : (s : Core) → s.made.threads ≡ a.base.made.threads → (n == s.made.threads + 1) ≡ false
-  next_apart s e = ap (λ (c : ℕ). n == c + 1) e ∙ f.apart
-
-  -- what is watched stays so where it does for a thread that is put
-  keeps_word : {P : ℕ → Watch} (w : Word) (s : Core) → Stays a w s → ((x : Mark) (m : ℕ) (v : Why) → w ≡ Places (Put x m v) → is_watched (P m) ≡ true → is_so (P m) (place_of m s) ≡ true → is_so (P m) (Some (place.Ready x v)) ≡ true) → ((k : ℕ) → w ≡ Withdraw k → is_fresh (place_of k s) ≡ true) → Stand P n q [] s → Stand P n q [] (after_word w s)
+  keeps_word : {P : ℕ → Watch} (w : Word) (s : Core) → Stays a w s → Puts P w s → ((k : ℕ) → w ≡ Withdraw k → is_fresh (place_of k s) ≡ true) →
+      Stand P n q [] s → Stand P n q [] (after_word w s)
   unfolding add_call add_group add_set add_work count_work free_handle free_thread_handle give_handle give_result give_thread_handle on_call on_instance on_work push_high remove_call remove_group remove_set remove_work set_backpressure set_cancel_delivered set_cancelled set_course set_do_not_enter set_do_not_suspend set_end set_event set_exited set_how_far set_join set_own_event set_phase set_position set_register set_result set_saved_callee set_saved_own set_script set_stage set_started set_starting_published set_subtask_handle set_thread_handle set_trapped set_uninteresting set_word take_result call_made with_handle with_thread_handle work_queued poll_pends on_thread
-  keeps_word {P = P} (Places p) s ok puts fresh st = subst (λ (t : Core). Stand P n q [] t) (sym (placing_shifted p s).only) (keeps_placing p s ok (λ x m v e. puts x m v (ap (λ (y : Placing). Places y) e)) st)
-  keeps_word (MakeThread t) s ok puts fresh st = added_stand n q t s (next_apart s ok.1.1.0) (ap (λ (r : Thread). r.place) ok.1.1.1.1.1.0) st
-  keeps_word (MakeCall g e x goal group words) s ok puts fresh st = added_stand n q (new_thread (next_thread s) false script.Start (registers_for words) None) (add_call (next_thread s) (new_call g e x goal group) s) (next_apart s ok.1.0) refl (quiet_stand n q [] s _ (calls_untouched (next_thread s) (new_call g e x goal group) s) st)
-  keeps_word {P = P} (Withdraw k) s ok puts fresh st = subst (λ (t : Core). Stand P n q [] t) (sym (withdraws k s)) (withdrawn_stand n q k s (not_here k s st (λ same at. subst T (sym (fresh k refl) ∙ (ap is_fresh at ∙ (f.runs ok.0 ok.1.1.1.1.1.0).1)) tt)) (fresh k refl) st)
+  keeps_word {P = P} (Places p) s ok puts fresh st =
+      subst (λ (t : Core). Stand P n q [] t) (sym (placing_shifted p s).only) (keeps_placing p s ok puts st)
+  keeps_word (MakeThread t) s ok puts fresh st = added_stand n q t s (grind (arith, f.apart)) (ap (λ (r : Thread). r.place) ok.1.1.1.1.1.0) st
+  keeps_word (MakeCall g e x goal group words) s ok puts fresh st =
+      added_stand n q (new_thread (next_thread s) false script.Start (registers_for words) None) _ (grind (arith, f.apart)) refl
+      (quiet_stand n q [] s _ (grind arith) st)
+  keeps_word {P = P} (Withdraw k) s ok puts fresh st =
+      let gone = fresh k refl in
+      subst (λ (t : Core). Stand P n q [] t) (sym (withdraws k s))
+      (withdrawn_stand n q k s (not_here k s st (λ e. let runs = f.runs ok.0 ok.1.1.1.1.1.0 in absurd (grind arith))) gone st)
   keeps_word (RemoveThread m) s ok puts fresh st = absurd ok
-  keeps_word (QueueWork g host group) s ok puts fresh st = quiet_stand n q [] s _ (record { places = λ k. refl; switch = λ k. refl; high = λ k. pushed_same k s.queues.high _ refl; low = λ k. refl; callers = refl; made = le_refl _ }) st
-  keeps_word (FinishWork i c) s ok puts fresh st = quiet_stand n q [] s _ (record { places = λ k. refl; switch = λ k. refl; high = λ k. pushed_same k s.queues.high (entry.Host i) refl; low = λ k. refl; callers = refl; made = le_refl _ }) st
-  keeps_word (TakePush x i) s ok puts fresh st = let u = popped_quiet x (entry.Push i) s (next_first s x (entry.Push i) ok) (λ k. refl) in quiet_stand n q [] s _ (record { places = u.places; switch = u.switch; high = u.high; low = u.low; callers = u.callers; made = le_refl _ }) st
-  keeps_word (TakeHost x i) s ok puts fresh st = let u = popped_quiet x (entry.Host i) s (next_first s x (entry.Host i) ok) (λ k. refl) in quiet_stand n q [] s _ (record { places = u.places; switch = u.switch; high = u.high; low = u.low; callers = u.callers; made = le_refl _ }) st
-  keeps_word w s ok puts fresh st = quiet_stand n q [] s _ (record { places = λ k. grind (arith, nat_tests, get-change); switch = λ k. refl; high = λ k. refl; low = λ k. refl; callers = refl; made = le_refl _ }) st
+  keeps_word (TakePush x i) s ok puts fresh st =
+      let u = popped_quiet x (entry.Push i) s (next_first s x (entry.Push i) ok) (λ k. refl) in quiet_stand n q [] s _ (grind arith) st
+  keeps_word (TakeHost x i) s ok puts fresh st =
+      let u = popped_quiet x (entry.Host i) s (next_first s x (entry.Host i) ok) (λ k. refl) in quiet_stand n q [] s _ (grind arith) st
+  keeps_word w s ok puts fresh st = quiet_stand n q [] s _ (grind (arith, nat_tests, get-change, entries-append)) st
 
   pub stay_word : (w : Word) (s : Core) → Stays a w s → Stand (watch a) n q [] s → Stand (watch a) n q [] (after_word w s)
-  stay_word w s ok st = keeps_word w s ok (λ x m v e g so. puts x m v (subst (λ (y : Word). Stays a y s) e ok) so) (λ k e. waiting k (subst (λ (y : Word). Stays a y s) e ok)) st
+  stay_word w s ok st = keeps_word w s ok (λ x m v e g so. puts x m v (subst (λ (y : Word). Stays a y s) e ok) so)
+      (λ k e. waiting k (subst (λ (y : Word). Stays a y s) e ok)) st
     where
-      puts : (x : Mark) (m : ℕ) (v : Why) → Stays a (Places (Put x m v)) s → is_so (watch a m) (place_of m s) ≡ true → is_so (watch a m) (Some (place.Ready x v)) ≡ true
-      puts x m v (inl may) so = let r = parked_at m v s may in let p = place_at is_parked (place_of m s) r.0 in so_put (place_of m a.base) p.0 x v p.1.1 (λ g. r.1 (ap is_fresh p.1.0 ∙ g)) (ap (is_so (watch a m)) (sym p.1.0) ∙ so)
+      puts : (x : Mark) (m : ℕ) (v : Why) → Stays a (Places (Put x m v)) s → is_so (watch a m) (place_of m s) ≡ true →
+          is_so (watch a m) (Some (place.Ready x v)) ≡ true
+      puts x m v (inl may) so =
+          let r = parked_at m v s may in
+          let p = place_at is_parked (place_of m s) r.0 in
+          so_put (place_of m a.base) p.0 x v p.1.1 (λ g. r.1 (ap is_fresh p.1.0 ∙ g)) (ap (is_so (watch a m)) (sym p.1.0) ∙ so)
       puts x m v (inr may) so = absurd may
 
       waiting : (k : ℕ) → Stays a (Withdraw k) s → is_fresh (place_of k s) ≡ true
       waiting k may = fresh_still a st k (f.withdraws may.0 k may.1.0 may.1.1.0 may.1.1.1.1.1.1)
 
   -- a thread that is blocked stays so, but where its host's work is done
-  pub stuck_word : (m : ℕ) (sub : Subtask) (w : Word) (s : Core) → Stays a w s → Stand (watch a) n q [] s → place_of m s ≡ Some (place.Blocked sub) → (place_of m (after_word w s) ≡ Some (place.Blocked sub)) ⊎ (is_done_host sub s ≡ true)
+  pub stuck_word : (m : ℕ) (sub : Subtask) (w : Word) (s : Core) → Stays a w s → Stand (watch a) n q [] s →
+      place_of m s ≡ Some (place.Blocked sub) → (place_of m (after_word w s) ≡ Some (place.Blocked sub)) ⊎ (is_done_host sub s ≡ true)
   stuck_word m sub w s ok st at = by_put (puts_of m w) refl
     where
       only : ℕ → Watch
       only k = if k == m then Stuck sub else Nothing
 
       before : Stand only n q [] s
-      before = watching n q [] s (λ k h. (refl, by_number k m (is_so (only k) (place_of k s) ≡ true) (λ e. let i = blocked_itself sub in grind (arith, nat_tests)) (λ e. grind arith))) st
-
-      watched : (k : ℕ) → is_watched (only k) ≡ true → k ≡ m
-      watched k h = grind (arith, nat_tests)
+      before = watching n q [] s (λ k h. (refl, let i = blocked_itself sub in grind (arith, nat_tests))) st
 
       by_put : (b : Bool) → puts_of m w ≡ b → (place_of m (after_word w s) ≡ Some (place.Blocked sub)) ⊎ (is_done_host sub s ≡ true)
       by_put true e = inr (put_done a m sub w s ok at e)
       by_put false e =
-          let t = keeps_word w s ok (λ x k v is g so. no_way (sym e ∙ (ap (puts_of m) is ∙ (ap (λ (j : ℕ). j == m) (watched k g) ∙ eq_refl m))))
+          let t = keeps_word w s ok (λ x k v is g so. let p = ap (puts_of m) is in absurd (grind (arith, nat_tests)))
           (λ k is. fresh_still a st k (let may = subst (λ (y : Word). Stays a y s) is ok in f.withdraws may.0 k may.1.0 may.1.1.0 may.1.1.1.1.1.1)) before in
-          let own : only m ≡ Stuck sub = ap (λ b. if b then Stuck sub else Nothing) (eq_refl m) in
-          inl (blocked_place sub (place_of m (after_word w s)) (ap (λ v. is_so v (place_of m (after_word w s))) (sym own) ∙ (t.kept m (ap is_watched own)).1))
+          let kept = t.kept m in
+          inl (blocked_place sub (place_of m (after_word w s)) (grind (arith, nat_tests)))
 
   pub stay_stand : {t : Core} → Stay a b t → Stand (watch a) n q [] t
   stay_stand c = along (λ (t : Core). Stand (watch a) n q [] t) stay_word f.start c
