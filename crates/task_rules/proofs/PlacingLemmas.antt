@@ -18,23 +18,15 @@ pub record Shifted (s t : Core) : Type 0 where
   pub only : placed_as t s ≡ t
   pub threads : (k : ℕ) → option_map unplaced (get t.threads k) ≡ option_map unplaced (get s.threads k)
 
--- what is read of a thread beside its place
-pub read_unplaced : {A : Type 0} (f : Thread → A) (none : A) → ((t : Thread) → f (unplaced t) ≡ f t) → (o p : Option Thread) →
-    option_map unplaced o ≡ option_map unplaced p → option_map_or f o none ≡ option_map_or f p none
-read_unplaced f none same None None e = refl
-read_unplaced f none same (Some t) (Some u) e = sym (same t) ∙ (ap (λ o. option_map_or f o none) e ∙ same u)
-read_unplaced f none same None (Some u) e = cc
-read_unplaced f none same (Some t) None e = cc
-
 module _ {s t : Core} (h : Shifted s t) where
   pub shifted_task : (n : ℕ) → task_of n t ≡ task_of n s
-  shifted_task n = read_unplaced (λ r. r.call) 0 (λ r. refl) (get t.threads n) (get s.threads n) (h.threads n)
+  shifted_task n = grind (arith, h.threads n)
 
   pub shifted_explicit : (n : ℕ) → is_explicit n t ≡ is_explicit n s
-  shifted_explicit n = read_unplaced (λ r. r.explicit) false (λ r. refl) (get t.threads n) (get s.threads n) (h.threads n)
+  shifted_explicit n = grind (arith, h.threads n)
 
   pub shifted_far : (n : ℕ) → how_far_of n t ≡ how_far_of n s
-  shifted_far n = read_unplaced (λ r. r.how_far) how_far.Fresh (λ r. refl) (get t.threads n) (get s.threads n) (h.threads n)
+  shifted_far n = grind (arith, h.threads n)
 
   pub shifted_calls : t.calls ≡ s.calls
   shifted_calls = sym (ap (λ (c : Core). c.calls) h.only)
@@ -43,7 +35,7 @@ module _ {s t : Core} (h : Shifted s t) where
   shifted_made = sym (ap (λ (c : Core). c.made) h.only)
 
   pub shifted_instance : (n : ℕ) → instance_of n t ≡ instance_of n s
-  shifted_instance n = ap₂ (λ k m. (option_map_or (λ (c : Call). c.callee) (get m k) no_callee).instance) (shifted_task n) shifted_calls
+  shifted_instance n = grind (arith, shifted_task n, shifted_calls)
 
 pub shifted_same : (s : Core) → Shifted s s
 shifted_same s = record { only = refl; threads = λ k. refl }
