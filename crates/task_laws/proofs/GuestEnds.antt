@@ -1,5 +1,5 @@
 -- What a step owes of the end of a call.
-use Rattle.task_rules.proofs.Machine.{after_word, Allowed, Answers, arith, base_at, Bool, Call, call_end_code, CallEnd, Core, covers_end, end_code, end_for, EndsByExit, EndsCall, EndsOwn, EndsSubtask, EndWords, event_of, ExitsCall, false, get, Goal, goal_of, handed, HandsAtOnce, HandsOut, has_ended, inl, inr, is_direct, is_for_main, is_guest_call, is_other, is_over, is_some, is_written, IsNamed, IsRunner, Label, LaterBy, le_trans, Moment, nat_tests, None, not, Option, option_and_then, option_map, option_map_or, refl, SaysEnd, Scene, scene_of, Setting, Some, State, Status, status_of_end, Subtask, TakesEvent, TakesResult, task_of, true, Turn, undelivered_end, Walk, Word, Writes, WritesAtOnce, WritesCall, WritesNever, WritesPolled, WritesToo, written, ℕ, ⊎_elim, ◌∙◌, ◌≡◌, ◌≤◌, ◌⊎◌}
+use Rattle.task_rules.proofs.Machine.{after_word, Allowed, Answers, arith, base_at, Bool, Call, call_end_code, CallEnd, Core, covers_end, end_code, end_for, EndsByExit, EndsCall, EndsOwn, EndsSubtask, EndWords, event_of, ExitsCall, false, get, goal_of, handed, HandsAtOnce, HandsOut, has_ended, inl, inr, is_direct, is_for_main, is_guest_call, is_other, is_over, is_some, is_written, IsNamed, IsRunner, Label, LaterBy, le_trans, Moment, nat_tests, None, not, Option, option_and_then, option_map, option_map_or, refl, SaysEnd, Scene, scene_of, Setting, Some, State, Status, status_of_end, Subtask, TakesEvent, TakesResult, task_of, true, Turn, undelivered_end, Walk, Word, Writes, WritesAtOnce, WritesCall, WritesNever, WritesPolled, WritesToo, written, ℕ, ⊎_elim, ◌∙◌, ◌≡◌, ◌≤◌, ◌⊎◌}
 use Rattle.task_laws.specs.Order.{Numbered}
 use Rattle.task_laws.specs.Rises.{CallsRise, Rises}
 use Rattle.task_laws.proofs.CallsLaw.{CallsGo, CallsHold, exits_unended}
@@ -10,6 +10,9 @@ use Rattle.task_laws.proofs.CallEnds.{event_is, IsOfEnd, is_for_guest, telling_t
 use Rattle.task_laws.proofs.OnceLemmas.{writes_by, Due, Over, EndStep, Out}
 use Rattle.task_laws.proofs.SaidEnds.{written_at, hands_at, said_plain}
 use Rattle.task_laws.proofs.CallsCame.{call_came, CallAfter}
+use Rattle.task_machine.specs.declared.records.Goal.TheVariants as goal
+use Rattle.task_machine.specs.declared.records.Subtask.TheVariants as subtask
+use Rattle.task_machine.specs.declared.words.Status.TheVariants as status
 
 -- ---- Ends that stay
 
@@ -36,7 +39,7 @@ not_written o p h over w = grind (arith, nat_tests)
 now_written : (o p : Option Call) → is_written (code o) (code p) ≡ true → (is_some o ≡ true) × (is_call_over p ≡ true)
 now_written o p w = grind arith
 
-no_withdrawal : (y : CallEnd) → status_of_end y ≡ Status.StartCancelled → is_withdrawn y ≡ false → {A : Type 0} → A
+no_withdrawal : (y : CallEnd) → status_of_end y ≡ status.StartCancelled → is_withdrawn y ≡ false → {A : Type 0} → A
 no_withdrawal y g f = absurd (grind arith)
 
 abbrev end_in : Option Call → Option CallEnd
@@ -45,17 +48,17 @@ end_in o = option_and_then (λ (c : Call). c.«end») o
 one_end : (o p : Option Call) (y z : Status) → LaterBy Rises o p → IsOfEnd y (end_in o) → IsOfEnd z (end_in p) → y ≡ z
 one_end o p y z later u v = grind arith
 
-pub guest_is : {j k : ℕ} → Subtask.Guest j ≡ Subtask.Guest k → j ≡ k
+pub guest_is : {j k : ℕ} → subtask.Guest j ≡ subtask.Guest k → j ≡ k
 guest_is same = grind arith
 
 -- ---- What calls keep and write
 
 module _ (s t : Core) (numbered : Numbered s) (rises : CallsRise s t) (made : s.made.threads ≤ t.made.threads) (k : ℕ) where
-  pub guest_stays : Over (Subtask.Guest k) s → Over (Subtask.Guest k) t
+  pub guest_stays : Over (subtask.Guest k) s → Over (subtask.Guest k) t
   guest_stays over = (le_trans over.0 made, over_stays (get s.calls k) (get t.calls k) (rises k over.0) over.1)
 
-  pub guest_changes : is_written (end_code (Subtask.Guest k) s) (end_code (Subtask.Guest k) t) ≡ true →
-      (Over (Subtask.Guest k) s → ⊥) × Over (Subtask.Guest k) t
+  pub guest_changes : is_written (end_code (subtask.Guest k) s) (end_code (subtask.Guest k) t) ≡ true →
+      (Over (subtask.Guest k) s → ⊥) × Over (subtask.Guest k) t
   guest_changes changes = let r = now_written (get s.calls k) (get t.calls k) changes in
       (λ over. not_written _ _ (rises k over.0) over.1 changes, (grind (arith, numbered.calls k), r.1))
 
@@ -64,7 +67,7 @@ module _ (s t : Core) (numbered : Numbered s) (rises : CallsRise s t) (made : s.
 -- the calls that come to an end are there: that of the running thread, and one that a handle names
 pub record CallsFound (a : Scene) : Type 0 where
   pub own : (n : ℕ) → IsRunner a n → is_some (get a.base.calls (task_of n a.base)) ≡ true
-  pub named : (k : ℕ) → IsNamed a (Subtask.Guest k) → is_some (get a.base.calls k) ≡ true
+  pub named : (k : ℕ) → IsNamed a (subtask.Guest k) → is_some (get a.base.calls k) ≡ true
 
 -- What is known of the calls before a step, on its way and after it.
 pub record CallsKnown (x : Setting) (s : State) (t : Core) (a : Scene) : Type 0 where
@@ -90,13 +93,13 @@ module _ (x : Setting) (s : State) (l : Label) (t : State) (next : Turn) (codes 
   q = plain x s l next (CallsKnown x s t.core) seen
 
   abbrev Written : ℕ → Status → Type 0
-  Written k e = written x.component m ≡ Some (end_for e (Subtask.Guest k))
+  Written k e = written x.component m ≡ Some (end_for e (subtask.Guest k))
 
   said : (k : ℕ) (e : Status) → SaysEnd a k e → Written k e
   said = said_plain x s l next t.core
 
   abbrev event_at : ℕ → Core → Option Status
-  event_at k c = undelivered_end (event_of (Subtask.Guest k) c)
+  event_at k c = undelivered_end (event_of (subtask.Guest k) c)
 
   call_number : (k : ℕ) → is_some (get s.core.calls k) ≡ true → k ≤ s.core.made.threads
   call_number k there = grind (arith, q.before.numbered.calls k)
@@ -114,18 +117,18 @@ module _ (x : Setting) (s : State) (l : Label) (t : State) (next : Turn) (codes 
   writes_call : (k : ℕ) (e : Status) → Written k e → (u : Core) × (EndsCall a k × ((is_over k u ≡ true) × Walk a u t.core))
   writes_call k e is = by _ refl (q.says.writes _ e (written_at x.component s.core a.base.queues t.core l _ is))
     where
-      by : (sub : Subtask) → sub ≡ Subtask.Guest k → Writes a t.core sub → (u : Core) ×
+      by : (sub : Subtask) → sub ≡ subtask.Guest k → Writes a t.core sub → (u : Core) ×
           (EndsCall a k × ((is_over k u ≡ true) × Walk a u t.core))
       by _ same (WritesCall j u end over walk) = rw (← guest_is same) (u, (end, (over, walk)))
       by _ same (WritesPolled i shows polled ended) = absurd (cc)
       by _ same (WritesAtOnce i ready) = absurd (cc)
-      by _ same (WritesNever sub e) = let r = recorded a.base q.told_base k Status.StartCancelled (rw same at e) in
+      by _ same (WritesNever sub e) = let r = recorded a.base q.told_base k status.StartCancelled (rw same at e) in
           no_withdrawal r.ends r.status r.ran
 
   pub written_new : (k : ℕ) (e : Status) → Written k e → has_ended k s.core ≡ false
   written_new k e is = ends_open k (writes_call k e is).1.0
 
-  pub guest_covers : (k : ℕ) → covers_end (Subtask.Guest k) m ≡ true → ⊥
+  pub guest_covers : (k : ℕ) → covers_end (subtask.Guest k) m ≡ true → ⊥
   guest_covers k covers = go (event_at k s.core) (event_at k t.core) refl refl covers
     where
       go : (o p : Option Status) → event_at k s.core ≡ o → event_at k t.core ≡ p → is_other o p ≡ true → ⊥
@@ -143,10 +146,10 @@ module _ (x : Setting) (s : State) (l : Label) (t : State) (next : Turn) (codes 
       let i = event_is k t.core r.0 r.1 in ⊎_elim (λ b. inl b) (λ now. inr (said k e now.0)) (q.ends.events k e r.0 r.1 (cc)).1
 
   pub results_come : (k : ℕ) → is_some (get t.core.results k) ≡ true →
-      (is_some (get s.core.results k) ≡ true) ⊎ Written k Status.Returned
-  results_come k there = ⊎_elim (λ b. inl b) (λ now. inr (said k Status.Returned now.0)) (q.ends.results k there).1.1
+      (is_some (get s.core.results k) ≡ true) ⊎ Written k status.Returned
+  results_come k there = ⊎_elim (λ b. inl b) (λ now. inr (said k status.Returned now.0)) (q.ends.results k there).1.1
 
-  guest_comes : (k : ℕ) (e : Status) → Due (Subtask.Guest k) e t.core → Due (Subtask.Guest k) e s.core ⊎ Written k e
+  guest_comes : (k : ℕ) (e : Status) → Due (subtask.Guest k) e t.core → Due (subtask.Guest k) e s.core ⊎ Written k e
   guest_comes k e (inl tells) = ⊎_elim (λ b. inl (inl b)) (λ now. inr now) (events_come k e tells)
   guest_comes k e (inr (is, there)) = ⊎_elim (λ b. inl (inr (is, b))) (λ now. inr (rw is now)) (results_come k there)
 
@@ -157,11 +160,11 @@ module _ (x : Setting) (s : State) (l : Label) (t : State) (next : Turn) (codes 
       let v = (q.told_base.events k e r.0 r.1 (cc)).0 in let main = (q.told_base.results k there).1 r.0 r.1 in
       for_guest r.0 g v main
     where
-      for_guest : (r : Telling) → is_for_main r.goal ≡ not (is_guest_call r.caller) → is_for_guest r ≡ true → r.goal ≡ Goal.Main → ⊥
+      for_guest : (r : Telling) → is_for_main r.goal ≡ not (is_guest_call r.caller) → is_for_guest r ≡ true → r.goal ≡ goal.Main → ⊥
       for_guest r g v main = grind arith
 
   -- the end of a direct call isn't told, and a result of it for main was there before
-  direct_untold : (k : ℕ) → is_direct (goal_of k s.core) ≡ true → (e : Status) → Due (Subtask.Guest k) e t.core →
+  direct_untold : (k : ℕ) → is_direct (goal_of k s.core) ≡ true → (e : Status) → Due (subtask.Guest k) e t.core →
       is_some (get s.core.results k) ≡ true
   direct_untold k direct e (inl tells) =
       let r = telling_there k t.core (grind arith) in let i = event_is k t.core r.0 r.1 in let v = (q.told.events k e r.0 r.1 (cc)).0 in
@@ -179,73 +182,73 @@ module _ (x : Setting) (s : State) (l : Label) (t : State) (next : Turn) (codes 
     there k (EndsByExit (n, (runner, (is, how)))) = rw is (found.own n runner)
     there k (EndsSubtask named unended) = found.named k named
 
-    guest_says : (k : ℕ) (e : Status) → Written k e → (Over (Subtask.Guest k) s.core → ⊥) × Over (Subtask.Guest k) t.core
+    guest_says : (k : ℕ) (e : Status) → Written k e → (Over (subtask.Guest k) s.core → ⊥) × Over (subtask.Guest k) t.core
     guest_says k e is =
         let w = writes_call k e is in let r = there k w.1.0 in let unended = written_new k e is in let below = call_number k r in (
           λ was. let over = was.1 in grind arith,
           (le_trans below q.made, along (λ c. is_over k c ≡ true) (over_word a k below) w.1.1.0 w.1.1.1),
         )
 
-    module _ (due_over : (k : ℕ) (e : Status) → Due (Subtask.Guest k) e s.core → Over (Subtask.Guest k) s.core) where
+    module _ (due_over : (k : ℕ) (e : Status) → Due (subtask.Guest k) e s.core → Over (subtask.Guest k) s.core) where
       abbrev Handed : ℕ → Status → Type 0
-      Handed k e = (Due (Subtask.Guest k) e s.core ⊎ Written k e) × Out (Subtask.Guest k) t.core
+      Handed k e = (Due (subtask.Guest k) e s.core ⊎ Written k e) × Out (subtask.Guest k) t.core
 
-      over_after : (k : ℕ) (e : Status) → Due (Subtask.Guest k) e s.core → Over (Subtask.Guest k) t.core
+      over_after : (k : ℕ) (e : Status) → Due (subtask.Guest k) e s.core → Over (subtask.Guest k) t.core
       over_after k e due = guest_stays s.core t.core q.before.numbered q.rises q.made k (due_over k e due)
 
       -- where the call had an end to hand out, none is written
-      unwritten : (k : ℕ) (e f : Status) → Due (Subtask.Guest k) e s.core → Written k f → ⊥
+      unwritten : (k : ℕ) (e f : Status) → Due (subtask.Guest k) e s.core → Written k f → ⊥
       unwritten k e f due is = (guest_says k f is).0 (due_over k e due)
 
       -- it takes the event
       event_handed : (k : ℕ) (e : Status) → event_at k s.core ≡ Some e → event_at k t.core ≡ None → Handed k e
       event_handed k e had gone = (inl (inl had), (over_after k e (inl had), none))
         where
-          none : (f : Status) → Due (Subtask.Guest k) f t.core → ⊥
+          none : (f : Status) → Due (subtask.Guest k) f t.core → ⊥
           none f (inl tells) = absurd (cc)
-          none f (inr (is, there)) = ⊎_elim (no_result k e had) (unwritten k e Status.Returned (inl had)) (results_come k there)
+          none f (inr (is, there)) = ⊎_elim (no_result k e had) (unwritten k e status.Returned (inl had)) (results_come k there)
 
       -- main takes the result
-      result_handed : (k : ℕ) → is_some (get s.core.results k) ≡ true → get t.core.results k ≡ None → Handed k Status.Returned
-      result_handed k had gone = (inl (inr (refl, had)), (over_after k Status.Returned (inr (refl, had)), none))
+      result_handed : (k : ℕ) → is_some (get s.core.results k) ≡ true → get t.core.results k ≡ None → Handed k status.Returned
+      result_handed k had gone = (inl (inr (refl, had)), (over_after k status.Returned (inr (refl, had)), none))
         where
-          none : (f : Status) → Due (Subtask.Guest k) f t.core → ⊥
+          none : (f : Status) → Due (subtask.Guest k) f t.core → ⊥
           none f (inr (is, there)) = absurd (cc)
-          none f (inl tells) = ⊎_elim (λ old. no_result k f old had) (unwritten k Status.Returned f (inr (refl, had)))
+          none f (inl tells) = ⊎_elim (λ old. no_result k f old had) (unwritten k status.Returned f (inr (refl, had)))
               (events_come k f tells)
 
       -- it writes the end itself
-      own_handed : (k : ℕ) (e : Status) → Written k e → (is_direct (goal_of k s.core) ≡ true) ⊎ (e ≡ Status.StartCancelled) → Handed k e
+      own_handed : (k : ℕ) (e : Status) → Written k e → (is_direct (goal_of k s.core) ≡ true) ⊎ (e ≡ status.StartCancelled) → Handed k e
       own_handed k e w why = (inr w, ((guest_says k e w).1, none why))
         where
-          old_due : (f : Status) → Due (Subtask.Guest k) f s.core → ⊥
+          old_due : (f : Status) → Due (subtask.Guest k) f s.core → ⊥
           old_due f due = unwritten k f e due w
 
           one_status : (k : ℕ) (f g : Status) → Written k f → Written k g → f ≡ g
           one_status k f g u v = grind arith
 
-          told_end : (f : Status) → e ≡ Status.StartCancelled → Due (Subtask.Guest k) f t.core → Written k f → ⊥
+          told_end : (f : Status) → e ≡ status.StartCancelled → Due (subtask.Guest k) f t.core → Written k f → ⊥
           told_end f is (inl tells) said = let r = recorded t.core q.told k f tells in let same : f ≡ e = one_status k f e said w in
               no_withdrawal r.ends (r.status ∙ (same ∙ is)) r.ran
           told_end f is (inr (returned, there)) said = let same : f ≡ e = one_status k f e said w in absurd (cc)
 
-          none : (is_direct (goal_of k s.core) ≡ true) ⊎ (e ≡ Status.StartCancelled) → (f : Status) → Due (Subtask.Guest k) f t.core → ⊥
-          none (inl d) f due = old_due Status.Returned (inr (refl, direct_untold k d f due))
+          none : (is_direct (goal_of k s.core) ≡ true) ⊎ (e ≡ status.StartCancelled) → (f : Status) → Due (subtask.Guest k) f t.core → ⊥
+          none (inl d) f due = old_due status.Returned (inr (refl, direct_untold k d f due))
           none (inr is) f due = ⊎_elim (old_due f) (told_end f is due) (guest_comes k f due)
 
-      guest_hands : (k : ℕ) (e : Status) → handed x.component m ≡ Some (end_for e (Subtask.Guest k)) → Handed k e
+      guest_hands : (k : ℕ) (e : Status) → handed x.component m ≡ Some (end_for e (subtask.Guest k)) → Handed k e
       guest_hands k e out = by _ e refl (q.says.hands _ e (hands_at x.component s.main s.core a.base.queues t.core l _ out))
         where
-          by : (sub : Subtask) (f : Status) → sub ≡ Subtask.Guest k → HandsOut a t.core sub f → Handed k f
+          by : (sub : Subtask) (f : Status) → sub ≡ subtask.Guest k → HandsOut a t.core sub f → Handed k f
           by _ _ same (TakesEvent sub f had gone) = event_handed k f (rw same at had) (rw same at gone)
           by _ _ same (TakesResult j there gone) = rw (← guest_is same) (result_handed j there gone)
           by _ _ same (WritesToo j f w why) = rw (← guest_is same) (own_handed j f (said j f w) why)
           by _ _ same (HandsAtOnce i ready w) = absurd (cc)
           by _ _ same (Answers n i runner far gone) = absurd (cc)
 
-      step_of : (k : ℕ) → EndStep x.component m (Subtask.Guest k)
+      step_of : (k : ℕ) → EndStep x.component m (subtask.Guest k)
       step_of k = record {
-        writes = writes_by x.component m (Subtask.Guest k) (guest_says k) (guest_changes s.core t.core q.before.numbered q.rises q.made k)
+        writes = writes_by x.component m (subtask.Guest k) (guest_says k) (guest_changes s.core t.core q.before.numbered q.rises q.made k)
             (λ c. absurd (guest_covers k c));
         stays = guest_stays s.core t.core q.before.numbered q.rises q.made k;
         comes = guest_comes k;
@@ -256,8 +259,8 @@ pub guest_step : (x : Setting) (s : State) (l : Label) (t : State) (next : Turn)
     CallsHold x.component (base_at s.turn s.core) → EndsTold (base_at s.turn s.core) → CallsHold x.component s.core →
     CallsGo (scene_of x s l next) t.core → EndsGo (scene_of x s l next) t.core → EndsTold t.core → CallsRise s.core t.core →
     s.core.made.threads ≤ t.core.made.threads → EndWords (scene_of x s l next) t.core → CallsFound (scene_of x s l next) →
-    ((k : ℕ) (e : Status) → Due (Subtask.Guest k) e s.core → Over (Subtask.Guest k) s.core) → (k : ℕ) →
-    EndStep x.component (record { before = s; label = l; after = t }) (Subtask.Guest k)
+    ((k : ℕ) (e : Status) → Due (subtask.Guest k) e s.core → Over (subtask.Guest k) s.core) → (k : ℕ) →
+    EndStep x.component (record { before = s; label = l; after = t }) (subtask.Guest k)
 guest_step x s l t next codes base told_base h go ends told rises made says found over = step_of x s l t next codes (record {
   base = base;
   told_base = told_base;

@@ -2,6 +2,8 @@
 use Rattle.task_rules.proofs.Machine.{[], arith, Bool, changes_end, Component, Core, count_by, course_of, course_value, covers_end, end_for, EndsOnce, event_of, get, handed, hands_out, hands_out_written, has_end, history, host_status, if◌then◌else◌, inl, inr, is_end_of, is_known, is_over, is_some, Label, List, Moment, nat_tests, None, Option, refl, Run, same_end, same_subtask, Setting, Some, State, Status, Step, Subtask, SubtaskEnd, true, undelivered_end, with_end, writes_end, written, ℕ, ⊎_elim, ◌&&◌, ◌+◌, ◌||◌, ◌∷◌, ◌≡◌, ◌≤◌, ◌⊎◌}
 use Rattle.std.proofs.lemmas.List.Recursion.{is_count_by}
 use Rattle.task_laws.proofs.Works.{Doing, doing_of, is_due}
+use Rattle.task_machine.specs.declared.records.Subtask.TheVariants as subtask
+use Rattle.task_machine.specs.declared.words.Status.TheVariants as status
 
 -- ---- Counting
 
@@ -45,14 +47,14 @@ end_there sub (Some x) h = let same = same_is sub x.subtask h in (x.status, rw s
 
 -- the subtask was made, and has come to its end or is gone
 abbrev pub Over : Subtask → Core → Type 0
-Over (Subtask.Guest k) s = (k ≤ s.made.threads) × (is_over k s ≡ true)
-Over (Subtask.Host i) s = (i ≤ s.made.works) × (has_end (course_of i s) ≡ true)
+Over (subtask.Guest k) s = (k ≤ s.made.threads) × (is_over k s ≡ true)
+Over (subtask.Host i) s = (i ≤ s.made.works) × (has_end (course_of i s) ≡ true)
 
 -- it has this end to hand out: by its event, as a result for main, or once its work is looked after
 abbrev pub Due : Subtask → Status → Core → Type 0
-Due (Subtask.Guest k) e s = (undelivered_end (event_of (Subtask.Guest k) s) ≡ Some e) ⊎
-    ((e ≡ Status.Returned) × (is_some (get s.results k) ≡ true))
-Due (Subtask.Host i) e s = (v : Doing) × ((doing_of i s ≡ Some v) × ((is_due v ≡ true) × (e ≡ host_status (course_value v.course))))
+Due (subtask.Guest k) e s = (undelivered_end (event_of (subtask.Guest k) s) ≡ Some e) ⊎
+    ((e ≡ status.Returned) × (is_some (get s.results k) ≡ true))
+Due (subtask.Host i) e s = (v : Doing) × ((doing_of i s ≡ Some v) × ((is_due v ≡ true) × (e ≡ host_status (course_value v.course))))
 
 -- it has ended, and nothing of it is to be handed out
 abbrev pub Out : Subtask → Core → Type 0

@@ -5,6 +5,7 @@ use Rattle.task_laws.specs.Order.{SetsNamed}
 use Rattle.task_laws.specs.Handles.{SetsNamedAtHome, SetsNamedOnce}
 use Rattle.task_laws.specs.Settings.{Reached}
 use Rattle.task_machine.proofs.CommuteLemmas.{get-change}
+use Rattle.task_machine.specs.declared.records.Named.TheVariants as named
 
 -- what a handle names, and of which instance a set is, in these tables
 abbrev pub set_in : Records (Table Named) → ℕ → ℕ → Option ℕ
@@ -49,9 +50,9 @@ sets_named_word a (OpenSet i) s ok q = record {
       grind (arith, q.number j g x, q.number l h x, q.once j l g h x);
 }
   where
-    new : (j g x : ℕ) → set_in (change i (giving (Named.Set (s.made.sets + 1))) s.handles) j g ≡ Some x →
+    new : (j g x : ℕ) → set_in (change i (giving (named.Set (s.made.sets + 1))) s.handles) j g ≡ Some x →
         (set_at j g s ≡ Some x) ⊎ ((Some (s.made.sets + 1) ≡ Some x) × ((j ≡ i) × (g ≡ handle_of_table s.handles i)))
-    new j g x e = given_names as_set s.handles i (Named.Set (s.made.sets + 1)) j g x e
+    new j g x e = given_names as_set s.handles i (named.Set (s.made.sets + 1)) j g x e
 sets_named_word a (CloseSet i h y) s ok q = record {
   number = λ j g x e. q.number j g x (old j g x e).0;
   home = λ j g x e. let o = old j g x e in grind (arith, nat_tests, get-remove, q.home j g x, q.once j i g h x);

@@ -1,15 +1,22 @@
 -- What host works come to along the words of a step: their ends, their entries, and what they have to hand out.
-use Rattle.task_rules.proofs.Machine.{[], add_call, add_group, add_set, add_thread, add_work, after_placing, after_word, Allowed, ap, arith, Bool, call_made, change, Core, count_work, Course, course_of, course_value, EndWork, Entry, false, FinishWork, free_handle, free_thread_handle, fresh, get, get-empty, give_handle, give_result, give_thread_handle, has_end, host_status, HostDef, inl, inr, is_aborted, is_async_work, is_some, is_stage_ended, is_stage_live, IsPolled, Label, le_refl, le_trans, List, LoopLabel, Mark, MayAbort, MayFinish, nat_tests, new_work, next_entry, next_work, None, on_call, on_instance, on_thread, on_work, one_if, Option, option_map, or_high, Pend, Phase, phase_of, Places, poll_pends, popped, push_high, QueueWork, refl, remove_call, remove_group, remove_set, remove_thread, remove_work, RemoveWork, rest_of, Scene, scene_of, set_backpressure, set_cancel_delivered, set_cancelled, set_course, set_do_not_enter, set_do_not_suspend, set_end, set_event, set_exited, set_high, set_how_far, set_join, set_low, set_own_event, set_phase, set_position, set_register, set_result, set_saved_callee, set_saved_own, set_script, set_stage, set_started, set_starting_published, set_subtask_handle, set_switch, set_thread_handle, set_trapped, set_uninteresting, set_word, SetPhase, Setting, Some, Stage, State, Status, sym, take_result, TakeHost, TakePush, TakeWorkEvent, true, Turn, undelivered_end, unqueued, Walked, with_handle, with_thread_handle, Withdraw, Word, Work, work_caller_of, work_queued, WorkCaller, ℕ, ⊎_elim, ◌&&◌, ◌++◌, ◌+◌, ◌||◌, ◌∙◌, ◌∷◌, ◌≡◌, ◌≤◌, ◌⊎◌}
+use Rattle.task_rules.proofs.Machine.{[], add_call, add_group, add_set, add_thread, add_work, after_placing, after_word, Allowed, ap, arith, Bool, call_made, change, Core, count_work, Course, course_of, course_value, EndWork, Entry, false, FinishWork, free_handle, free_thread_handle, fresh, get, get-empty, give_handle, give_result, give_thread_handle, has_end, host_status, HostDef, inl, inr, is_aborted, is_async_work, is_some, is_stage_ended, is_stage_live, IsPolled, Label, le_refl, le_trans, List, Mark, MayAbort, MayFinish, nat_tests, new_work, next_entry, next_work, None, on_call, on_instance, on_thread, on_work, one_if, Option, option_map, or_high, Pend, Phase, phase_of, Places, poll_pends, popped, push_high, QueueWork, refl, remove_call, remove_group, remove_set, remove_thread, remove_work, RemoveWork, rest_of, Scene, scene_of, set_backpressure, set_cancel_delivered, set_cancelled, set_course, set_do_not_enter, set_do_not_suspend, set_end, set_event, set_exited, set_high, set_how_far, set_join, set_low, set_own_event, set_phase, set_position, set_register, set_result, set_saved_callee, set_saved_own, set_script, set_stage, set_started, set_starting_published, set_subtask_handle, set_switch, set_thread_handle, set_trapped, set_uninteresting, set_word, SetPhase, Setting, Some, Stage, State, Status, sym, take_result, TakeHost, TakePush, TakeWorkEvent, true, Turn, undelivered_end, unqueued, Walked, with_handle, with_thread_handle, Withdraw, Word, Work, work_caller_of, work_queued, WorkCaller, ℕ, ⊎_elim, ◌&&◌, ◌++◌, ◌+◌, ◌||◌, ◌∙◌, ◌∷◌, ◌≡◌, ◌≤◌, ◌⊎◌}
 use Rattle.task_laws.proofs.CallsSteps.{of_base}
 use Rattle.task_laws.specs.Ends.{is_sync_work}
 use Rattle.task_laws.specs.Order.{is_host_of, is_push_of, stands}
 use Rattle.task_laws.proofs.CountLemmas.{made_works_word}
+use Rattle.task_machine.specs.declared.records.Course.TheVariants as course
+use Rattle.task_machine.specs.declared.records.Entry.TheVariants as entry
+use Rattle.task_machine.specs.declared.records.Stage.TheVariants as stage
+use Rattle.task_machine.specs.declared.words.Mark.TheVariants as mark
 use Rattle.task_laws.proofs.Basics.{no_way, too_high}
 use Rattle.task_rules.proofs.ChainLemmas.{along}
 use Rattle.task_rules.proofs.PlacingLemmas.{placing_works, unqueued_works, work_entries}
 use Rattle.task_laws.proofs.EachLemmas.{after_change, after_remove, at_change, at_insert}
 use Rattle.task_laws.proofs.PolledWorks.{polled_is_live}
 use Rattle.task_machine.proofs.CommuteLemmas.{change-change_same, get-change}
+use Rattle.task_machine.specs.declared.words.Phase.TheVariants as phase
+use Rattle.task_machine.specs.declared.label.Label.TheVariants as label
+use Rattle.task_machine.specs.declared.label.LoopLabel.TheVariants as loop_label
 
 -- ---- What a work does
 
@@ -28,15 +35,15 @@ abbrev pub doing_of : ℕ → Core → Option Doing
 doing_of i s = option_map doing (get s.works i)
 
 abbrev pub is_late : Stage → Bool
-is_late Stage.Finishing = true
-is_late Stage.Ended = true
+is_late stage.Finishing = true
+is_late stage.Ended = true
 is_late _ = false
 
 -- its push is awaited, or its host entry
 abbrev pub awaits : Bool → Stage → Bool
-awaits true Stage.FirstPoll = true
-awaits true Stage.Queued = true
-awaits false Stage.Finishing = true
+awaits true stage.FirstPoll = true
+awaits true stage.Queued = true
+awaits false stage.Finishing = true
 awaits k _ = false
 
 -- it has an end to hand out
@@ -55,12 +62,12 @@ stands_append test [] e = omega arith
 stands_append test (d ∷ es) e = let h = stands_append test es e in omega (arith, h)
 
 -- the entries of works alone count
-stands_works : (test : Entry → Bool) → ((n : ℕ) → test (Entry.Thread n) ≡ false) → (es : List Entry) →
+stands_works : (test : Entry → Bool) → ((n : ℕ) → test (entry.Thread n) ≡ false) → (es : List Entry) →
     stands test (work_entries es) ≡ stands test es
 stands_works test none [] = refl
 stands_works test none (e ∷ es) = let h = stands_works test none es in grind (arith, none)
 
-pub same_stands : (test : Entry → Bool) → ((n : ℕ) → test (Entry.Thread n) ≡ false) → (es fs : List Entry) →
+pub same_stands : (test : Entry → Bool) → ((n : ℕ) → test (entry.Thread n) ≡ false) → (es fs : List Entry) →
     work_entries fs ≡ work_entries es → stands test fs ≡ stands test es
 same_stands test none es fs h = let a = stands_works test none es in let b = stands_works test none fs in cc
 
@@ -68,7 +75,7 @@ kept_stands : (k : Bool) (i : ℕ) (es fs : List Entry) → work_entries fs ≡ 
     stands (of_work k i) fs ≤ stands (of_work k i) es
 kept_stands k i es fs h = let e = same_stands (of_work k i) (λ n. no_thread k n) es fs h in omega arith
   where
-    no_thread : (k : Bool) (n : ℕ) → of_work k i (Entry.Thread n) ≡ false
+    no_thread : (k : Bool) (n : ℕ) → of_work k i (entry.Thread n) ≡ false
     no_thread k n = grind arith
 
 fewer_rest : (k : Bool) (i : ℕ) (es : List Entry) → stands (of_work k i) (rest_of es) ≤ stands (of_work k i) es
@@ -86,11 +93,11 @@ popped_high m s i k = grind (arith, fewer_rest)
 
 -- the entry of a work
 abbrev entry_for : Bool → ℕ → Entry
-entry_for true i = Entry.Push i
-entry_for false i = Entry.Host i
+entry_for true i = entry.Push i
+entry_for false i = entry.Host i
 
 taken_first : (k : Bool) (m : Mark) (i : ℕ) (o : Option ℕ) (hs ls : List Entry) → or_high o hs ls ≡ Some (m, entry_for k i) →
-    stands (of_work k i) ls ≡ 0 → (stands (of_work k i) hs ≡ 1 + stands (of_work k i) (rest_of hs)) × (m ≡ Mark.High)
+    stands (of_work k i) ls ≡ 0 → (stands (of_work k i) hs ≡ 1 + stands (of_work k i) (rest_of hs)) × (m ≡ mark.High)
 taken_first k m i o hs ls is none = grind (arith, nat_tests)
 
 -- where none stands at low the taken one is the first at high
@@ -110,14 +117,14 @@ pub data WorkCame (a : Scene) (s : Core) (b i : ℕ) (h g : Bool → ℕ) (o p :
   Gone : p ≡ None → Fewer h g → WorkCame a s b i h g o p
   Made : (f : WorkCaller) (host : HostDef) → i ≡ next_work s → i ≤ b → p ≡ Some (doing (new_work f host None)) →
       Fewer (λ k. h k + one_if k) g → WorkCame a s b i h g o p
-  Pends : (v : Doing) (host : HostDef) → o ≡ Some v → IsPolled a i s → p ≡ Some (record v { course = Course.Goes host }) → Fewer h g →
+  Pends : (v : Doing) (host : HostDef) → o ≡ Some v → IsPolled a i s → p ≡ Some (record v { course = course.Goes host }) → Fewer h g →
       WorkCame a s b i h g o p
   Ends : (v : Doing) (c : Course) (x : Stage) → o ≡ Some v → MayFinish a i c s →
-      p ≡ Some (record v { course = c; phase = Phase.Complete; stage = x }) → is_late x ≡ true →
+      p ≡ Some (record v { course = c; phase = phase.Complete; stage = x }) → is_late x ≡ true →
       (awaits false x ≡ true → is_async_work v.caller ≡ true) → Fewer (λ k. h k + one_if (awaits k x)) g → WorkCame a s b i h g o p
-  Lives : (v : Doing) → o ≡ Some v → h true ≡ 1 + g true → p ≡ Some (record v { stage = Stage.Live }) → Fewer h g → WorkCame a s b i h g o p
+  Lives : (v : Doing) → o ≡ Some v → h true ≡ 1 + g true → p ≡ Some (record v { stage = stage.Live }) → Fewer h g → WorkCame a s b i h g o p
   Done : (v : Doing) → o ≡ Some v → h false ≡ 1 + g false →
-      p ≡ Some (record v { stage = Stage.Ended; event = Some (host_status (course_value v.course)) }) → Fewer h g → WorkCame a s b i h g o p
+      p ≡ Some (record v { stage = stage.Ended; event = Some (host_status (course_value v.course)) }) → Fewer h g → WorkCame a s b i h g o p
   Aborts : (v : Doing) (x : Phase) → o ≡ Some v → MayAbort a i → p ≡ Some (record v { phase = x }) → Fewer h g → WorkCame a s b i h g o p
   Takes : (v : Doing) → o ≡ Some v → p ≡ Some (record v { event = None }) → Fewer h g → WorkCame a s b i h g o p
 
@@ -135,11 +142,11 @@ other_entry : (k y : Bool) (i j : ℕ) (es : List Entry) → (i ≡ j → ⊥) �
     stands (of_work y i) (es ++ entry_for k j ∷ []) ≤ stands (of_work y i) es
 other_entry k y i j es e = grind (arith, nat_tests, stands_append)
 
-own_push : (y : Bool) (i j : ℕ) (es : List Entry) → stands (of_work y i) (es ++ Entry.Push j ∷ []) ≤ stands (of_work y i) es + one_if y
+own_push : (y : Bool) (i j : ℕ) (es : List Entry) → stands (of_work y i) (es ++ entry.Push j ∷ []) ≤ stands (of_work y i) es + one_if y
 own_push y i j es = grind (arith, stands_append)
 
 own_host : (y : Bool) (i j : ℕ) (es : List Entry) →
-    stands (of_work y i) (es ++ Entry.Host j ∷ []) ≤ stands (of_work y i) es + one_if (awaits y Stage.Finishing)
+    stands (of_work y i) (es ++ entry.Host j ∷ []) ≤ stands (of_work y i) es + one_if (awaits y stage.Finishing)
 own_host y i j es = grind (arith, stands_append)
 
 -- a polled work is there
@@ -160,16 +167,16 @@ module _ {a : Scene} (s : Core) where
       (g : ℕ → Bool → ℕ) → ((j : ℕ) (k : Bool) → (j ≡ i → ⊥) → g j k ≤ High s j k) →
       ((k : Bool) → g i k ≤ High s i k + one_if (awaits k x)) → (j : ℕ) →
       WorkCame a s s.made.works j (High s j) (g j) (doing_of j s) (option_map doing (get (change i (λ w. record w { stage = x })
-      (change i (λ w. record w { phase = Phase.Complete }) (change i (λ w. record w { course = c }) s.works))) j))
+      (change i (λ w. record w { phase = phase.Complete }) (change i (λ w. record w { course = c }) s.works))) j))
   work_ends i c x may late async g others own j =
-      rw (change-change_same s.works i (λ w. record w { phase = Phase.Complete }) (λ w. record w { course = c }))
-      (rw (change-change_same s.works i (λ w. record w { stage = x }) (λ w. record w { course = c; phase = Phase.Complete }))
+      rw (change-change_same s.works i (λ w. record w { phase = phase.Complete }) (λ w. record w { course = c }))
+      (rw (change-change_same s.works i (λ w. record w { stage = x }) (λ w. record w { course = c; phase = phase.Complete }))
       (at_change (λ o p. WorkCame a s s.made.works j (High s j) (g j) (option_map doing o) (option_map doing p)) s.works i j _
       (λ e. rw e (own_work (get s.works i) refl (polled_there a s i may.0))) (λ e. Same refl (λ k. others j k e))))
     where
       own_work : (o : Option Work) → get s.works i ≡ o → is_some o ≡ true →
           WorkCame a s s.made.works i (High s i) (g i) (option_map doing o)
-          (option_map doing (option_map (λ (w : Work). record w { course = c; phase = Phase.Complete; stage = x }) o))
+          (option_map doing (option_map (λ (w : Work). record w { course = c; phase = phase.Complete; stage = x }) o))
       own_work None is there = no_way there
       own_work (Some w) is there = Ends (doing w) c x refl may refl late (λ e. let r = async e in grind arith) own
 
@@ -180,7 +187,7 @@ module _ {a : Scene} (s : Core) where
       (placing_works a p s ok).high)
   work_came low (Withdraw j) ok i = Same refl (λ k. kept_stands k i s.queues.high (unqueued j s).queues.high (unqueued_works j s).high)
   work_came low (QueueWork f host group) ok i = let j = s.made.works + 1 in
-      let g = λ (k : Bool). stands (of_work k i) (s.queues.high ++ Entry.Push j ∷ []) in
+      let g = λ (k : Bool). stands (of_work k i) (s.queues.high ++ entry.Push j ∷ []) in
       at_insert (λ o p. WorkCame a s j i (High s i) g (option_map doing o) (option_map doing p)) s.works j i _
       (λ is. Made f host is (omega (arith, is)) refl (λ k. own_push k i j s.queues.high))
       (λ e. Same refl (λ k. other_entry true k i j s.queues.high e))
@@ -188,14 +195,14 @@ module _ {a : Scene} (s : Core) where
       (λ w at. Lives (doing w) refl (taken_high true m j s ok (low true j)) refl (λ k. (popped_high m s j k).0)) i
   work_came low (TakeHost m j) ok i =
       rw (change-change_same s.works j (λ w. record w { event = Some (host_status (course_value (course_of j s))) })
-      (λ w. record w { stage = Stage.Ended }))
+      (λ w. record w { stage = stage.Ended }))
       (work_turned j (High s) (High (popped m s)) (λ i k. (popped_high m s i k).0) _
       (λ w at. Done (doing w) refl (taken_high false m j s ok (low false j)) (rw at refl) (λ k. (popped_high m s j k).0)) i)
   work_came low (Pend j host) ok i =
       work_turned j (High s) (High s) (λ i k. le_refl _) _ (λ w at. Pends (doing w) host refl ok refl (λ k. le_refl _)) i
-  work_came low (EndWork j c) ok i = work_ends j c Stage.Ended ok.0 refl (λ e. no_way e) (High s) (λ i k e. le_refl _) (λ k. grind arith) i
-  work_came low (FinishWork j c) ok i = work_ends j c Stage.Finishing ok.0 refl (λ e. ok.1)
-      (λ i k. stands (of_work k i) (s.queues.high ++ Entry.Host j ∷ []))
+  work_came low (EndWork j c) ok i = work_ends j c stage.Ended ok.0 refl (λ e. no_way e) (High s) (λ i k e. le_refl _) (λ k. grind arith) i
+  work_came low (FinishWork j c) ok i = work_ends j c stage.Finishing ok.0 refl (λ e. ok.1)
+      (λ i k. stands (of_work k i) (s.queues.high ++ entry.Host j ∷ []))
       (λ i k e. other_entry false k i j s.queues.high e) (λ k. own_host k j j s.queues.high) i
   work_came low (SetPhase j x) ok i =
       work_turned j (High s) (High s) (λ i k. le_refl _) _ (λ w at. Aborts (doing w) x refl ok.0 refl (λ k. le_refl _)) i
@@ -228,7 +235,7 @@ pub record WorksHold (S : Type 0) (s : Core) : Type 0 where
 -- it was to be handed out before, or has come to its end in this step
 abbrev pub WasDue : Scene → ℕ → Doing → Type 0
 WasDue a i v = ((u : Doing) × ((doing_of i a.base ≡ Some u) × ((is_due u ≡ true) × (u.course ≡ v.course)))) ⊎
-    (a.label ≡ Label.Loop (LoopLabel.FutureEnds i))
+    (a.label ≡ label.Loop (loop_label.FutureEnds i))
 
 -- The work was there before, called by the same; an end stays, and it has ended once it has.
 pub record WorkWas (a : Scene) (i : ℕ) (v : Doing) : Type 0 where
@@ -312,7 +319,7 @@ module _ {S : Type 0} {a : Scene} {s : Core} {b i : ℕ} {h g : Bool → ℕ} {u
           (course_value v.course) ≡ true
       valued was ends has = grind (arith, ends)
 
-  due_after : is_due v ≡ true → ((is_due u ≡ true) × (u.course ≡ v.course)) ⊎ (a.label ≡ Label.Loop (LoopLabel.FutureEnds i))
+  due_after : is_due v ≡ true → ((is_due u ≡ true) × (u.course ≡ v.course)) ⊎ (a.label ≡ label.Loop (loop_label.FutureEnds i))
   due_after e = let late = o.late in let p = o.one true in let f = o.one false in grind (arith, by.live, o.told)
 
 -- a work is made

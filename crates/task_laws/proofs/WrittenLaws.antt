@@ -12,6 +12,8 @@ use Rattle.task_laws.proofs.SaidEnds.{hands_at, said_plain}
 use Rattle.task_laws.specs.Settings.{CodesInCallbacks, Reached}
 use Rattle.task_rules.proofs.LawLemmas.{never_fewer}
 use Rattle.task_rules.proofs.WalkSteps.{step_walks}
+use Rattle.task_machine.specs.declared.records.Subtask.TheVariants as subtask
+use Rattle.task_machine.specs.declared.words.Status.TheVariants as status
 
 -- ---- What a label says of calls
 
@@ -53,10 +55,10 @@ ends_handed_as_told x s l t step k e out =
     let says = plain x s l q.next (λ a. EndWords a t.core) q.ends.says in
     by q.next _ e refl (says.hands _ e (hands_at x.component s.main s.core (base_at s.turn s.core).queues t.core l _ out))
   where
-    by : (next : Turn) (sub : Subtask) (f : Status) → sub ≡ Subtask.Guest k → HandsOut (plain_scene x s l next) t.core sub f →
-        ((undelivered_end (event_of (Subtask.Guest k) s.core) ≡ Some f) × (undelivered_end (event_of (Subtask.Guest k) t.core) ≡ None)) ⊎
-        (((is_some (get s.core.results k) ≡ true) × ((f ≡ Status.Returned) × (get t.core.results k ≡ None))) ⊎
-        (written_by x.component s.core l t.core ≡ Some (end_for f (Subtask.Guest k))))
+    by : (next : Turn) (sub : Subtask) (f : Status) → sub ≡ subtask.Guest k → HandsOut (plain_scene x s l next) t.core sub f →
+        ((undelivered_end (event_of (subtask.Guest k) s.core) ≡ Some f) × (undelivered_end (event_of (subtask.Guest k) t.core) ≡ None)) ⊎
+        (((is_some (get s.core.results k) ≡ true) × ((f ≡ status.Returned) × (get t.core.results k ≡ None))) ⊎
+        (written_by x.component s.core l t.core ≡ Some (end_for f (subtask.Guest k))))
     by next _ _ same (TakesEvent sub f had gone) = inl (rw same at had, rw same at gone)
     by next _ _ same (TakesResult j there gone) = inr (inl (rw (← guest_is same) (there, (refl, gone))))
     by next _ _ same (WritesToo j f says why) = inr (inr (rw (← guest_is same) (said_plain x s l next t.core j f says)))
@@ -83,15 +85,15 @@ module _ (x : Setting) (codes : CodesInCallbacks x.component) where
 
   changes_over : (sub : Subtask) (s : State) (l : Label) (t : State) → Holds x s → Step x s l t → changes_end sub
       (record { before = s; label = l; after = t }) ≡ true → (Over sub s.core → ⊥) × Over sub t.core
-  changes_over (Subtask.Guest k) s l t h step = guest_changes s.core t.core h.calls.numbered (step_goes x s l t codes h.calls step).1
+  changes_over (subtask.Guest k) s l t h step = guest_changes s.core t.core h.calls.numbered (step_goes x s l t codes h.calls step).1
       (never_fewer x s l t step).threads k
-  changes_over (Subtask.Host i) s l t h step = let w = step_walks x s l t step in host_changes ⊥ x s l t w.next h.works
+  changes_over (subtask.Host i) s l t h step = let w = step_walks x s l t step in host_changes ⊥ x s l t w.next h.works
       (works_go x s l t w (λ no. absurd no) h.works) i
 
   over_kept : (sub : Subtask) (s : State) (l : Label) (t : State) → Holds x s → Step x s l t → Over sub s.core → Over sub t.core
-  over_kept (Subtask.Guest k) s l t h step = guest_stays s.core t.core h.calls.numbered (step_goes x s l t codes h.calls step).1
+  over_kept (subtask.Guest k) s l t h step = guest_stays s.core t.core h.calls.numbered (step_goes x s l t codes h.calls step).1
       (never_fewer x s l t step).threads k
-  over_kept (Subtask.Host i) s l t h step = let w = step_walks x s l t step in host_stays ⊥ x s l t w.next h.works
+  over_kept (subtask.Host i) s l t h step = let w = step_walks x s l t step in host_stays ⊥ x s l t w.next h.works
       (works_go x s l t w (λ no. absurd no) h.works) i
 
 pub ends_written_once : EndsWrittenOnce

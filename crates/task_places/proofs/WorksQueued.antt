@@ -5,6 +5,9 @@ use Rattle.task_laws.proofs.EachLemmas.{each_of}
 use Rattle.task_laws.proofs.Works.{same_stands, stands_append}
 use Rattle.task_laws.proofs.PolledWorks.{polled_is_live}
 use Rattle.task_machine.proofs.CommuteLemmas.{get-change}
+use Rattle.task_machine.specs.declared.records.Entry.TheVariants as entry
+use Rattle.task_machine.specs.declared.records.Stage.TheVariants as stage
+use Rattle.task_machine.specs.declared.words.Mark.TheVariants as mark
 use Rattle.task_places.proofs.Entries.{First, next_first}
 use Rattle.task_rules.proofs.PlacingLemmas.{SameWorks, placing_works, unqueued_works}
 use Rattle.task_rules.proofs.StandLemmas.{eq_refl}
@@ -41,17 +44,17 @@ unmoved : (s t : Core) → t.queues ≡ s.queues → SameStands s t
 unmoved s t e = rw e (record { push = λ i. refl; host = λ i. refl; low = λ i h. h })
 
 -- the entry of a work that is taken is the first at high
-head_taken : (m : Mark) (e : Entry) (test : Entry → Bool) (s : Core) → First m e s → ((n : ℕ) → test (Entry.Thread n) ≡ false) →
+head_taken : (m : Mark) (e : Entry) (test : Entry → Bool) (s : Core) → First m e s → ((n : ℕ) → test (entry.Thread n) ≡ false) →
     test e ≡ true → stands test s.queues.low ≡ 0 → (s.queues.high ≡ e ∷ (popped m s).queues.high) × ((popped m s).queues.low ≡ s.queues.low)
 unfolding popped set_switch set_high set_low
-head_taken Mark.Switch e test s f none is low = let h = none f.0 in absurd (cc)
-head_taken Mark.High e test s f none is low = (f, refl)
-head_taken Mark.Low e test s f none is low = let h = ap (stands test) f in let o = ap one_if is in absurd (omega (arith, h, o, low))
+head_taken mark.Switch e test s f none is low = let h = none f.0 in absurd (cc)
+head_taken mark.High e test s f none is low = (f, refl)
+head_taken mark.Low e test s f none is low = let h = ap (stands test) f in let o = ap one_if is in absurd (omega (arith, h, o, low))
 
 -- a push is taken, and the work lives; or the entry of a host call is, and it has ended
 module _ (e : Entry) (s t : Core) (high : s.queues.high ≡ e ∷ t.queues.high) (low : t.queues.low ≡ s.queues.low)
     (made : t.made.works ≡ s.made.works) (q : WorksQueued s) (keeps : (i : ℕ) → get t.works i ≡ None → get s.works i ≡ None) where
-  taken : (j : ℕ) (x : Stage) → ((e ≡ Entry.Push j) × (x ≡ Stage.Live)) ⊎ ((e ≡ Entry.Host j) × (x ≡ Stage.Ended)) →
+  taken : (j : ℕ) (x : Stage) → ((e ≡ entry.Push j) × (x ≡ stage.Live)) ⊎ ((e ≡ entry.Host j) × (x ≡ stage.Ended)) →
       ((i : ℕ) → LaterBy (λ v w. w.stage ≡ cond (i == j) x v.stage) (get s.works i) (get t.works i)) → WorksQueued t
   taken j x is works = record {
     each = λ i w at. let p = ap (stands (is_push_of i)) high in let h = ap (stands (is_host_of i)) high in let a = works i in
@@ -70,21 +73,21 @@ works_word a (Places p) s ok ends q = let h = placing_works a p s ok in
 works_word a (Withdraw k) s ok ends q = let h = unqueued_works k s in
     stages_stay s _ (works_stand s _ (record { high = h.high; low = h.low })) q (le_refl _) (λ i. grind arith) (λ i e. e)
 works_word a (QueueWork f host group) s ok ends q = record {
-  each = λ i w at. let p = stands_append (is_push_of i) s.queues.high (Entry.Push (s.made.works + 1)) in
-      let h = stands_append (is_host_of i) s.queues.high (Entry.Push (s.made.works + 1)) in
+  each = λ i w at. let p = stands_append (is_push_of i) s.queues.high (entry.Push (s.made.works + 1)) in
+      let h = stands_append (is_host_of i) s.queues.high (entry.Push (s.made.works + 1)) in
       grind (arith, nat_tests, get-insert, q.each i, q.made i, q.gone i);
   low = q.low;
   made = λ i there. grind (arith, nat_tests, get-insert, q.made i);
-  gone = λ i none. let p = stands_append (is_push_of i) s.queues.high (Entry.Push (s.made.works + 1)) in
-      let h = stands_append (is_host_of i) s.queues.high (Entry.Push (s.made.works + 1)) in grind (arith, nat_tests, get-insert, q.gone i);
+  gone = λ i none. let p = stands_append (is_push_of i) s.queues.high (entry.Push (s.made.works + 1)) in
+      let h = stands_append (is_host_of i) s.queues.high (entry.Push (s.made.works + 1)) in grind (arith, nat_tests, get-insert, q.gone i);
 }
 works_word a (TakePush m j) s ok ends q =
-    let h = head_taken m (Entry.Push j) (is_push_of j) s (next_first s m (Entry.Push j) ok) (λ n. refl) (eq_refl j) (q.low j).0 in
-    taken (Entry.Push j) s _ h.0 h.1 refl q (λ i e. grind (arith, nat_tests, get-change)) j Stage.Live (inl (refl, refl))
+    let h = head_taken m (entry.Push j) (is_push_of j) s (next_first s m (entry.Push j) ok) (λ n. refl) (eq_refl j) (q.low j).0 in
+    taken (entry.Push j) s _ h.0 h.1 refl q (λ i e. grind (arith, nat_tests, get-change)) j stage.Live (inl (refl, refl))
     (λ i. grind (arith, nat_tests, get-change))
 works_word a (TakeHost m j) s ok ends q =
-    let h = head_taken m (Entry.Host j) (is_host_of j) s (next_first s m (Entry.Host j) ok) (λ n. refl) (eq_refl j) (q.low j).1 in
-    taken (Entry.Host j) s _ h.0 h.1 refl q (λ i e. grind (arith, nat_tests, get-change)) j Stage.Ended (inr (refl, refl))
+    let h = head_taken m (entry.Host j) (is_host_of j) s (next_first s m (entry.Host j) ok) (λ n. refl) (eq_refl j) (q.low j).1 in
+    taken (entry.Host j) s _ h.0 h.1 refl q (λ i e. grind (arith, nat_tests, get-change)) j stage.Ended (inr (refl, refl))
     (λ i. grind (arith, nat_tests, get-change))
 works_word a (EndWork i c) s ok ends q = let live = polled_is_live ok.0.0.0 s i ok.0.0.1.1 in record {
   each = λ j w at. let b = each_of (WorkEntries s) s.works q.each j in
@@ -94,13 +97,13 @@ works_word a (EndWork i c) s ok ends q = let live = polled_is_live ok.0.0.0 s i 
   gone = λ j none. grind (arith, nat_tests, get-change, q.gone j);
 }
 works_word a (FinishWork i c) s ok ends q = let live = polled_is_live ok.0.0.0 s i ok.0.0.1.1 in record {
-  each = λ j w at. let p = stands_append (is_push_of j) s.queues.high (Entry.Host i) in
-      let h = stands_append (is_host_of j) s.queues.high (Entry.Host i) in let b = each_of (WorkEntries s) s.works q.each j in
+  each = λ j w at. let p = stands_append (is_push_of j) s.queues.high (entry.Host i) in
+      let h = stands_append (is_host_of j) s.queues.high (entry.Host i) in let b = each_of (WorkEntries s) s.works q.each j in
       grind (arith, nat_tests, get-change);
   low = q.low;
   made = λ j there. grind (arith, nat_tests, get-change, q.made j);
-  gone = λ j none. let p = stands_append (is_push_of j) s.queues.high (Entry.Host i) in
-      let h = stands_append (is_host_of j) s.queues.high (Entry.Host i) in grind (arith, nat_tests, get-change, q.gone j);
+  gone = λ j none. let p = stands_append (is_push_of j) s.queues.high (entry.Host i) in
+      let h = stands_append (is_host_of j) s.queues.high (entry.Host i) in grind (arith, nat_tests, get-change, q.gone j);
 }
 works_word a CountWork s ok ends q = stages_stay s _ (unmoved s _ refl) q (omega arith) (λ i. grind arith) (λ i e. e)
 works_word a (RemoveWork j) s ok ends q = let e = ends j refl in record {
@@ -124,7 +127,7 @@ pub ended_word : (a : Scene) (w : Word) (s : Core) → Allowed a w s → WorksQu
 unfolding add_call add_group add_set add_thread add_work count_work free_handle free_thread_handle give_handle give_result give_thread_handle on_call on_instance on_thread on_work push_high remove_call remove_group remove_set remove_thread remove_work set_backpressure set_cancel_delivered set_cancelled set_do_not_enter set_do_not_suspend set_end set_event set_exited set_how_far set_join set_own_event set_position set_register set_result set_saved_callee set_saved_own set_script set_stage set_started set_starting_published set_subtask_handle set_thread_handle set_trapped set_uninteresting set_word take_result call_made with_handle with_thread_handle work_queued poll_pends set_course set_phase
 ended_word a (QueueWork f host group) s ok q i below e = grind (arith, nat_tests, get-insert)
 ended_word a (TakePush m j) s ok q i below e =
-    let h = head_taken m (Entry.Push j) (is_push_of j) s (next_first s m (Entry.Push j) ok) (λ n. refl) (eq_refl j) (q.low j).0 in
+    let h = head_taken m (entry.Push j) (is_push_of j) s (next_first s m (entry.Push j) ok) (λ n. refl) (eq_refl j) (q.low j).0 in
     let x = ap (stands (is_push_of i)) h.0 in let b = each_of (WorkEntries s) s.works q.each i in grind (arith, nat_tests, get-change)
 ended_word a (FinishWork j c) s ok q i below e = let l = polled_is_live ok.0.0.0 s j ok.0.0.1.1 in grind (arith, nat_tests, get-change)
 ended_word a (RemoveWork j) s ok q i below e = grind (arith, nat_tests, get-remove)

@@ -1,9 +1,14 @@
 -- The end of a task as a chain of words.
-use Rattle.task_rules.proofs.Machine.{ap, arith, Call, CallEnd, Caller, caller_of, cancelled, Core, end_of, false, get, give_result, GiveResult, Goal, goal_of, is_told, is_waiting_on, join_of, MayEnd, nat_tests, None, on_call, on_thread, Option, option_map, option_map_or, place_of, refl, result_given, returned, SaysEnd, Scene, set_end, set_register, set_result, SetEnd, SetRegister, SetResult, Some, Status, Subtask, sym, told, true, ℕ, ◌∙◌, ◌≡◌}
+use Rattle.task_rules.proofs.Machine.{ap, arith, Call, CallEnd, Caller, caller_of, cancelled, Core, end_of, false, get, give_result, GiveResult, Goal, goal_of, is_told, is_waiting_on, join_of, MayEnd, nat_tests, None, on_call, on_thread, Option, option_map, option_map_or, place_of, refl, result_given, returned, SaysEnd, Scene, set_end, set_register, set_result, SetEnd, SetRegister, SetResult, Some, sym, told, true, ℕ, ◌∙◌, ◌≡◌}
 use Rattle.task_machine.proofs.CommuteLemmas.{get-change}
 use Rattle.task_machine.proofs.MapLemmas.{change-field}
 use Rattle.task_rules.proofs.ChainLemmas.{Keep}
 use Rattle.task_rules.proofs.WalkMoves.{Chosen, ToldTo, told_walks, word}
+use Rattle.task_machine.specs.declared.records.CallEnd.TheVariants as call_end
+use Rattle.task_machine.specs.declared.records.Caller.TheVariants as caller
+use Rattle.task_machine.specs.declared.records.Goal.TheVariants as goal
+use Rattle.task_machine.specs.declared.records.Subtask.TheVariants as subtask
+use Rattle.task_machine.specs.declared.words.Status.TheVariants as status
 
 -- ---- What an end and a result leave of a call
 
@@ -23,7 +28,7 @@ module _ (k : ℕ) (s t : Core) (h : SameCall k s t) where
   same_told : is_told k t ≡ is_told k s
   same_told = grind (arith, h)
 
-  same_join : join_of (Subtask.Guest k) t ≡ join_of (Subtask.Guest k) s
+  same_join : join_of (subtask.Guest k) t ≡ join_of (subtask.Guest k) s
   same_join = grind (arith, h)
 
   -- the chosen thread is the same
@@ -60,37 +65,37 @@ unfolding set_end on_call
 end_goal k e s = grind (arith, nat_tests, get-change)
 
 module _ {a : Scene} {b : Core} where
-  result_given_walks : (g : Goal) (f : Caller) (k v : ℕ) {s : Core} → goal_of k s ≡ g → SaysEnd a k Status.Returned → Keep a b s → Keep a b (result_given g f k v s)
-  result_given_walks Goal.Main f k v at says c = word (GiveResult k v) (says, at) c
-  result_given_walks (Goal.Register r) (Caller.Thread n) k v at says c = word (SetRegister n r v) tt c
-  result_given_walks Goal.Answer f k v at says c = word (SetResult k (Some v)) tt c
-  result_given_walks (Goal.Register r) Caller.Main k v at says c = c
+  result_given_walks : (g : Goal) (f : Caller) (k v : ℕ) {s : Core} → goal_of k s ≡ g → SaysEnd a k status.Returned → Keep a b s → Keep a b (result_given g f k v s)
+  result_given_walks goal.Main f k v at says c = word (GiveResult k v) (says, at) c
+  result_given_walks (goal.Register r) (caller.Thread n) k v at says c = word (SetRegister n r v) tt c
+  result_given_walks goal.Answer f k v at says c = word (SetResult k (Some v)) tt c
+  result_given_walks (goal.Register r) caller.Main k v at says c = c
   result_given_walks _ f k v at says c = c
 
   -- after the end is written
-  pub returned_rest : (k v : ℕ) (w : Option ℕ) (s : Core) → SaysEnd a k Status.Returned → ToldTo k w s → Keep a b (set_end k CallEnd.Returned s) → Keep a b (returned k v w s)
+  pub returned_rest : (k v : ℕ) (w : Option ℕ) (s : Core) → SaysEnd a k status.Returned → ToldTo k w s → Keep a b (set_end k call_end.Returned s) → Keep a b (returned k v w s)
   unfolding returned
   returned_rest k v w s says to c =
-      let m = set_end k CallEnd.Returned s in
+      let m = set_end k call_end.Returned s in
       let t = result_given (goal_of k s) (caller_of k s) k v m in
       let same : option_map unresulted (get t.calls k) ≡ option_map unresulted (get m.calls k) = result_resulted (goal_of k s) (caller_of k s) k v m in
-      told_walks k Status.Returned w (λ told. told_ends k CallEnd.Returned s t same told) (λ e. says)
-      (still_told_to k s t (unanswer (get t.calls k) (get m.calls k) same ∙ end_same k CallEnd.Returned s) w (λ x chosen n is. ap (λ p. option_map_or (is_waiting_on x) p false) (places n) ∙ chosen n is) to)
-      (result_given_walks (goal_of k s) (caller_of k s) k v (end_goal k CallEnd.Returned s) says c)
+      told_walks k status.Returned w (λ told. told_ends k call_end.Returned s t same told) (λ e. says)
+      (still_told_to k s t (unanswer (get t.calls k) (get m.calls k) same ∙ end_same k call_end.Returned s) w (λ x chosen n is. ap (λ p. option_map_or (is_waiting_on x) p false) (places n) ∙ chosen n is) to)
+      (result_given_walks (goal_of k s) (caller_of k s) k v (end_goal k call_end.Returned s) says c)
     where
-      places : (n : ℕ) → place_of n (result_given (goal_of k s) (caller_of k s) k v (set_end k CallEnd.Returned s)) ≡ place_of n s
-      places n = result_places (goal_of k s) (caller_of k s) k v (set_end k CallEnd.Returned s) n ∙ end_places k CallEnd.Returned s n
+      places : (n : ℕ) → place_of n (result_given (goal_of k s) (caller_of k s) k v (set_end k call_end.Returned s)) ≡ place_of n s
+      places n = result_places (goal_of k s) (caller_of k s) k v (set_end k call_end.Returned s) n ∙ end_places k call_end.Returned s n
 
-  pub returned_walks : (k v : ℕ) (w : Option ℕ) {s : Core} → MayEnd a k CallEnd.Returned s → SaysEnd a k Status.Returned → ToldTo k w s → Keep a b s → Keep a b (returned k v w s)
-  returned_walks k v w {s = s} ok says to c = returned_rest k v w s says to (word (SetEnd k CallEnd.Returned) (ok, says) c)
+  pub returned_walks : (k v : ℕ) (w : Option ℕ) {s : Core} → MayEnd a k call_end.Returned s → SaysEnd a k status.Returned → ToldTo k w s → Keep a b s → Keep a b (returned k v w s)
+  returned_walks k v w {s = s} ok says to c = returned_rest k v w s says to (word (SetEnd k call_end.Returned) (ok, says) c)
 
-  pub cancelled_rest : (k : ℕ) (w : Option ℕ) (s : Core) → SaysEnd a k Status.ReturnCancelled → ToldTo k w s → Keep a b (set_end k CallEnd.ReturnCancelled s) → Keep a b (cancelled k w s)
+  pub cancelled_rest : (k : ℕ) (w : Option ℕ) (s : Core) → SaysEnd a k status.ReturnCancelled → ToldTo k w s → Keep a b (set_end k call_end.ReturnCancelled s) → Keep a b (cancelled k w s)
   unfolding cancelled
   cancelled_rest k w s says to c =
-      let t = set_end k CallEnd.ReturnCancelled s in
-      told_walks k Status.ReturnCancelled w (λ told. told_ends k CallEnd.ReturnCancelled s t refl told) (λ e. says)
-      (still_told_to k s t (end_same k CallEnd.ReturnCancelled s) w (λ x chosen n is. ap (λ p. option_map_or (is_waiting_on x) p false) (end_places k CallEnd.ReturnCancelled s n) ∙ chosen n is) to)
+      let t = set_end k call_end.ReturnCancelled s in
+      told_walks k status.ReturnCancelled w (λ told. told_ends k call_end.ReturnCancelled s t refl told) (λ e. says)
+      (still_told_to k s t (end_same k call_end.ReturnCancelled s) w (λ x chosen n is. ap (λ p. option_map_or (is_waiting_on x) p false) (end_places k call_end.ReturnCancelled s n) ∙ chosen n is) to)
       c
 
-  pub cancelled_walks : (k : ℕ) (w : Option ℕ) {s : Core} → MayEnd a k CallEnd.ReturnCancelled s → SaysEnd a k Status.ReturnCancelled → ToldTo k w s → Keep a b s → Keep a b (cancelled k w s)
-  cancelled_walks k w {s = s} ok says to c = cancelled_rest k w s says to (word (SetEnd k CallEnd.ReturnCancelled) (ok, says) c)
+  pub cancelled_walks : (k : ℕ) (w : Option ℕ) {s : Core} → MayEnd a k call_end.ReturnCancelled s → SaysEnd a k status.ReturnCancelled → ToldTo k w s → Keep a b s → Keep a b (cancelled k w s)
+  cancelled_walks k w {s = s} ok says to c = cancelled_rest k w s says to (word (SetEnd k call_end.ReturnCancelled) (ok, says) c)
