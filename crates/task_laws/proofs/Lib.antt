@@ -27,5 +27,6 @@ pub mod HostEnds
 pub mod GuestEnds
 pub mod WrittenLaws
 pub mod NamedCalls
+pub mod AwaitedCalls
 pub mod NamedWorks
 pub mod SyncWorks

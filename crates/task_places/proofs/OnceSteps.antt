@@ -1,6 +1,5 @@
 -- Each step owes of the ends what it should, and so each run has each end once.
 use Rattle.task_rules.proofs.Machine.{[], AbortsOwn, ap, arith, base_at, Bool, Call, Core, end_for, Entry, false, fresh, get, get-empty, how_far_of, inl, inr, instance_of, is_some, is_spawn, is_spawn_caller, is_stage_ended, IsRunner, Label, le_refl, Main, MainPlace, Mark, next_entry, None, opening, Option, option_and_then, option_map, option_map_or, Place, place_of, ProgramAborts, refl, runner_at, SameMain, Scene, scene_of, ScriptAborts, Scripted, Setting, slice_get, Some, spawned_at, stage_of, State, Status, Step, subst, Subtask, subtask_at, subtask_handle, suc, sym, task_of, thread_of_entry, true, Turn, undelivered_end, Unscripted, unwrap_or, Walked, Work, work_caller_of, written, zero, ℕ, ⊎_elim, ◌&&◌, ◌++◌, ◌-◌, ◌∙◌, ◌∷◌, ◌≡◌, ◌≤◌, ◌⊎◌}
-use Rattle.task_laws.proofs.NamedCalls.{NamesGo, NamesKnown, names_go_word, opening_names_known}
 use Rattle.task_laws.proofs.NamedWorks.{NamesNoSync, abort_kept, caller_is, names_word, opening_names}
 use Rattle.task_laws.proofs.Basics.{no_way}
 use Rattle.task_laws.proofs.CallsLaw.{CallsGo, CallsHold}
@@ -11,7 +10,7 @@ use Rattle.task_laws.proofs.CallEnds.{EndsGo, EndsTold, ends_go, opening_ends_to
 use Rattle.task_laws.proofs.OnceLemmas.{Due, Over, EndStep, ends_once, written_over}
 use Rattle.task_laws.proofs.HostEnds.{Answered, host_step}
 use Rattle.task_laws.proofs.SceneLemmas.{base_is, runner_there}
-use Rattle.task_laws.specs.Ends.{CalledThere, is_sync_work, MayBeAborted, SyncUnnamed}
+use Rattle.task_laws.specs.Ends.{is_sync_work, MayBeAborted, SyncUnnamed}
 use Rattle.task_laws.proofs.SyncWorks.{CallersKnown, callers_word, opening_callers}
 use Rattle.task_laws.proofs.Works.{AbortsNoSync, Doing, WorksGo, WorksHold, doing, doing_of, is_late, opening_works, first_works, works_word}
 use Rattle.task_rules.proofs.WalkSteps.{step_walks}
@@ -42,7 +41,6 @@ record Known (x : Setting) (s : State) : Type 0 where
   works : WorksHold (Unit {0}) s.core
   unnamed : SyncUnnamed s
   callers : CallersKnown s.core
-  names : NamesKnown s.core
   zero : MayBeAborted s.core 0
   over : DueOver s.core
 
@@ -84,7 +82,7 @@ abbrev is_blocked : Option Place → Bool
 is_blocked (Some (place.Blocked sub)) = true
 is_blocked _ = false
 
-module _ (x : Setting) (s : State) (l : Label) (t : State) (k : Known x s) (f : CalledThere s) (step : Step x s l t) where
+module _ (x : Setting) (s : State) (l : Label) (t : State) (k : Known x s) (step : Step x s l t) where
   w : Walked x s l t
   w = step_walks x s l t step
 
@@ -130,13 +128,6 @@ module _ (x : Setting) (s : State) (l : Label) (t : State) (k : Known x s) (f : 
       ))
       (first_works x s l w.next k.works, (k.unnamed.works, (λ i h. h, k.callers))) w.walk
 
-  names_base_known : NamesKnown a.base
-  names_base_known = to_base NamesKnown (record { there = k.names.there; once = k.names.once; number = k.names.number; called = k.names.called })
-
-  -- which calls handles and ops name
-  names_after : NamesGo a t.core
-  names_after = along (NamesGo a) (λ v u ok q. names_go_word a names_base_known (λ n j runs. to_base (λ c. how_far_of n c ≡ how_far.Calls (subtask.Guest j) → is_some (get c.calls j) ≡ true) (f n j runs)) v u ok q) (record { known = k.names; were = λ n j far. inl (to_base (λ c. how_far_of n c ≡ how_far.Calls (subtask.Guest j)) far) }) w.walk
-
   spawns_after : (p : MainPlace) (j : ℕ) → t.main ≡ Scripted p → MayBeAborted t.core (spawned_at p j)
   spawns_after p j at = by s.main refl t.main at w.main
     where
@@ -180,7 +171,7 @@ module _ (x : Setting) (s : State) (l : Label) (t : State) (k : Known x s) (f : 
   found : CallsFound a
   found = record {
     own = λ n runner. to_base (λ c. is_some (get c.calls (task_of n c)) ≡ true) (let there = runner_there x s l w.next k.order.in_place n runner in grind (arith, k.order.calls_there n (task_of n s.core)));
-    named = λ j named. to_base (λ c. (i h : ℕ) → subtask_at i h c ≡ Some (subtask.Guest j) → is_some (get c.calls j) ≡ true) (λ i h e. named_there j h s.core (k.names.there i h j e)) (instance_of named.0 a.base) named.1.0 named.1.1.1;
+    named = λ j named. to_base (λ c. (i h : ℕ) → subtask_at i h c ≡ Some (subtask.Guest j) → is_some (get c.calls j) ≡ true) (λ i h e. named_there j h s.core (k.order.names.there i h j e)) (instance_of named.0 a.base) named.1.0 named.1.1.1;
   }
 
   told_base : EndsTold a.base
@@ -203,7 +194,6 @@ module _ (x : Setting) (s : State) (l : Label) (t : State) (k : Known x s) (f : 
     works = works_after.0.holds;
     unnamed = record { works = works_after.1.0; spawns = spawns_after };
     callers = works_after.1.1.1;
-    names = names_after.known;
     zero = works_after.1.1.0 0 k.zero;
     over = λ sub e due. by sub e ((end_step sub).comes e due);
   }
@@ -237,9 +227,9 @@ opening_spawns instances handle_limit capacity (Scripted q) begun p j is = subst
     none_spawned (suc n) = zero_unmade instances handle_limit capacity
 
 pub runs_are_once : RunsAreOnce
-runs_are_once x codes found instances handle_limit capacity main begun ls t run =
+runs_are_once x codes instances handle_limit capacity main begun ls t run =
     let s : State = opening instances handle_limit capacity main in
-    ends_once x (Known x) (λ s l t k step. known_after x s l t k (found s k.reached) step) (λ s l t k step sub. end_step x s l t k (found s k.reached) step sub) s
+    ends_once x (Known x) (λ s l t k step. known_after x s l t k step) (λ s l t k step sub. end_step x s l t k step sub) s
     (record {
       reached = record { scripts = codes; instances = instances; handle_limit = handle_limit; capacity = capacity; main = main; labels = []; run = refl };
       order = opening_in_order x.component codes instances handle_limit capacity main;
@@ -247,7 +237,6 @@ runs_are_once x codes found instances handle_limit capacity main begun ls t run 
       works = opening_works instances handle_limit capacity;
       unnamed = record { works = opening_names instances handle_limit capacity; spawns = λ p j is. opening_spawns instances handle_limit capacity main begun p j is };
       callers = opening_callers instances handle_limit capacity;
-      names = opening_names_known instances handle_limit capacity;
       zero = zero_unmade instances handle_limit capacity;
       over = λ sub e due. absurd (none_due instances handle_limit capacity sub e due);
     }) (λ sub e due. none_due instances handle_limit capacity sub e due) ls t run

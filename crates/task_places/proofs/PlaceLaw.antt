@@ -1,5 +1,5 @@
 -- Where each thread is along the words of a step: each has its place, and one that waits for its start still does, or its call has begun.
-use Rattle.task_rules.proofs.Machine.{[], add_call, add_group, add_set, add_work, after_placing, after_word, ap, arith, AwaitsEvent, behind_one, Blocks, Bool, ByHandle, Call, call_made, Collapses, Core, count_work, Departs, EndsOver, Enter, entries, Falls, false, FinishWork, free_handle, free_thread_handle, get, give_handle, give_result, give_thread_handle, GoBehind, GoesBack, has_entry, HasPlace, HasSubtask, Holds, HowFar, if◌then◌else◌, inl, inr, is_at_high, is_at_low, is_at_switch, is_begun, is_blocked_on, is_done_host, is_explicit, is_for_start, is_free, is_fresh, is_none, is_some, is_there, is_under, IsFall, IsFoot, IsRunner, IsSettling, Lands, LandsAt, LastWords, le_refl, Leaves, MakeCall, MakeThread, Mark, MayGo, MayLand, MayMove, MayPut, MayWithdraw, MayYield, Move, nat_tests, new_call, new_thread, next_thread, None, on_call, on_instance, on_thread, on_work, Option, option_map, option_map_or, Place, place_of, Places, Placing, poll_pends, Promote, promoted, push_high, Put, put_high, put_low, QueueWork, Quits, refl, registers_for, Remains, remove_call, remove_group, remove_set, remove_thread, remove_work, RemoveThread, Runs, says, Scene, set_backpressure, set_cancel_delivered, set_cancelled, set_course, set_do_not_enter, set_do_not_suspend, set_end, set_event, set_exited, set_how_far, set_join, set_own_event, set_phase, set_place, set_position, set_register, set_result, set_saved_callee, set_saved_own, set_script, set_stage, set_started, set_starting_published, set_subtask_handle, set_thread_handle, set_trapped, set_uninteresting, set_word, Settles, SetTrapped, SetUninteresting, Some, Stay, Stays, Stop, subst, Subtask, Suspends, switch_entries, sym, T, take_result, TakeHost, TakePush, task_of, Thread, times, Trip, true, Turn, Uncovers, unwrap_or, Waits, WaitsAgain, was_started, Why, with_handle, with_thread_handle, Withdraw, Word, work_queued, ℕ, ◌+◌, ◌==◌, ◌||◌, ◌∙◌, ◌∷◌, ◌≡◌, ◌≤◌, ◌⊎◌}
+use Rattle.task_rules.proofs.Machine.{[], add_call, add_group, add_set, add_work, after_placing, after_word, ap, arith, AwaitsEvent, behind_one, Blocks, Bool, ByHandle, Call, call_made, Collapses, Core, count_work, Departs, EndsOver, Enter, entries, Falls, false, FinishWork, free_handle, free_thread_handle, get, give_handle, give_result, give_thread_handle, GoBehind, GoesBack, has_entry, HasPlace, HasSubtask, Holds, HowFar, if◌then◌else◌, inl, inr, is_at_high, is_at_low, is_at_switch, is_begun, is_blocked_on, is_done_host, is_explicit, is_for_start, is_free, is_fresh, is_none, is_some, is_there, is_under, IsFall, IsFoot, IsRunner, IsSettling, Lands, LandsAt, LastWords, le_refl, Leaves, MakeCall, MakeThread, Mark, MayGo, MayLand, MayMove, MayPut, MayWithdraw, MayYield, Move, nat_tests, new_call, new_thread, next_thread, None, on_call, on_instance, on_thread, on_work, Option, option_map, option_map_or, Place, place_of, Places, Placing, poll_pends, Promote, promoted, push_high, Put, put_high, put_low, QueueWork, Quits, refl, registers_for, Remains, remove_call, remove_group, remove_set, remove_thread, remove_work, RemoveThread, Runs, says, Scene, set_backpressure, set_cancel_delivered, set_cancelled, set_course, set_do_not_enter, set_do_not_suspend, set_end, set_event, set_exited, set_how_far, set_join, set_own_event, set_phase, set_place, set_position, set_register, set_result, set_saved_callee, set_saved_own, set_script, set_stage, set_started, set_starting_published, set_subtask_handle, set_thread_handle, set_trapped, set_uninteresting, set_word, Settles, SetTrapped, SetUninteresting, Some, Stay, Stays, Stop, subst, Subtask, Suspends, switch_entries, sym, T, take_result, TakeHost, TakePush, task_of, Thread, times, Trip, true, Turn, Uncovers, unwrap_or, Waits, WaitsAgain, was_started, Why, with_handle, with_thread_handle, Withdraw, Word, work_queued, ℕ, ⊎_elim, ◌+◌, ◌==◌, ◌||◌, ◌∙◌, ◌∷◌, ◌≡◌, ◌≤◌, ◌⊎◌}
 use Rattle.task_rules.proofs.WalkMoves.{blocked_place}
 use Rattle.task_machine.proofs.CommuteLemmas.{get-change}
 use Rattle.task_places.proofs.Entries.{added_stand, has_stands, next_first, popped_quiet, promoted_stand, pushed_same, removed_fresh, withdrawn_stand, flipped}
@@ -197,13 +197,14 @@ abbrev pub Begun : Scene → ℕ → Core → Type 0
 Begun a k t = ((is_there k a.base ≡ true) × (is_explicit k a.base ≡ false → is_begun (task_of k a.base) t ≡ true)) ⊎ (is_begun k t ≡ true)
 
 -- Each thread has its place, and the one whose turn comes runs; who waited for its start still does, or its call has begun; who was under
--- another still is, or that one is gone; and one that was made and runs has another under it.
+-- another still is, or that one is gone and its turn comes, or it's gone too; and one that was made and runs has the runner under it.
 pub record Arrives (a : Scene) (t : Core) : Type 0 where
   pub placed : All t
   pub runs : (m : ℕ) → a.next ≡ turn.Run m → place_of m t ≡ Some place.Running
   pub fresh : (k : ℕ) → waits a k ≡ true → (is_fresh (place_of k t) ≡ true) ⊎ Begun a k t
-  pub covered : (k m : ℕ) → place_of k a.base ≡ Some (place.Under m) → (place_of k t ≡ Some (place.Under m)) ⊎ (place_of m t ≡ None)
-  pub entered : (m : ℕ) → place_of m a.base ≡ None → a.next ≡ turn.Run m → (n : ℕ) × (place_of n t ≡ Some (place.Under m))
+  pub covered : (k m : ℕ) → place_of k a.base ≡ Some (place.Under m) → (place_of k t ≡ Some (place.Under m)) ⊎
+      ((place_of m t ≡ None) × ((a.next ≡ turn.Run k) ⊎ (place_of k t ≡ None)))
+  pub entered : (m : ℕ) → place_of m a.base ≡ None → a.next ≡ turn.Run m → (n : ℕ) × (IsRunner a n × (place_of n t ≡ Some (place.Under m)))
 
 far_arrives : (a : Scene) (n : ℕ) (h : HowFar) (s : Core) → Arrives a s → Arrives a (set_how_far n h s)
 unfolding set_how_far on_thread
@@ -214,7 +215,7 @@ far_arrives a n h s r =
       runs = λ m to. u.places m ∙ r.runs m to;
       fresh = λ k w. let e = same k in let h = r.fresh k w in grind arith;
       covered = λ k m at. let e = same k in let g = same m in let h = r.covered k m at in grind arith;
-      entered = λ m none to. let e = r.entered m none to in (e.0, u.places e.0 ∙ e.1);
+      entered = λ m none to. let e = r.entered m none to in (e.0, (e.1.0, u.places e.0 ∙ e.1.1));
     }
   where
     same : (k : ℕ) → place_of k (on_thread n (λ t. record t { how_far = h }) s) ≡ place_of k s
@@ -313,7 +314,7 @@ module _ {a : Scene} {b : Core} (n : ℕ) (p : Place) (f : Follows a b n (Some p
             inl (grind (arith, nat_tests, set_place_is k n (place.Under m) u, set_place_is k m place.Running s, own)));
         covered = λ k j under. let still = covered_still a st k j under in
             inl (grind (arith, nat_tests, set_place_is k n (place.Under m) u, set_place_is k m place.Running s, new));
-        entered = λ k none to. (n, place_written n (place.Under m) p u at ∙ ap (λ (j : ℕ). Some (place.Under j)) (sym (one_runner k m (sym to ∙ ok.1.0))));
+        entered = λ k none to. (n, (is, place_written n (place.Under m) p u at ∙ ap (λ (j : ℕ). Some (place.Under j)) (sym (one_runner k m (sym to ∙ ok.1.0)))));
       }
     where
       apart : (m == n) ≡ false
@@ -351,7 +352,7 @@ record Falling (a : Scene) (n : ℕ) (s : Core) : Type 0 where
   pub own : Loose n s
   pub idle : (k : ℕ) → is_idle (place_of k a.base) ≡ true → is_idle (place_of k s) ≡ true
   pub fresh : (k : ℕ) → waits a k ≡ true → is_fresh (place_of k s) ≡ true
-  pub covered : (k m : ℕ) → place_of k a.base ≡ Some (place.Under m) → (place_of k s ≡ Some (place.Under m)) ⊎ (place_of m s ≡ None)
+  pub covered : (k m : ℕ) → place_of k a.base ≡ Some (place.Under m) → (place_of k s ≡ Some (place.Under m)) ⊎ ((place_of m s ≡ None) × (place_of k s ≡ None))
 
 -- How the words begin and end beside the thread n, which runs or was taken; or there is no such thread.
 pub record Frame (a : Scene) (b : Core) (n : ℕ) (q : Option Place) : Type 0 where
@@ -477,6 +478,6 @@ module _ {a : Scene} {b : Core} {n : ℕ} {q : Option Place} (f : Frame a b n q)
         placed = λ k. by_number k n (HasPlace k t) (λ e. subst (λ (j : ℕ). HasPlace j t) (sym e) (loose_idle n (place_of n t) t refl (f.rests t w (h.idle n)) h.own)) (λ e. h.others k e);
         runs = λ m to. no_way (ap is_run (sym over ∙ to));
         fresh = λ k g. inl (h.fresh k g);
-        covered = h.covered;
+        covered = λ k m at. ⊎_elim inl (λ g. inr (g.0, inr g.1)) (h.covered k m at);
         entered = λ m none to. no_way (ap is_run (sym over ∙ to));
       }

@@ -57,7 +57,7 @@ pub use Rattle.task_machine.specs.declared.words.Mark.{Mark}
 pub use Rattle.task_machine.specs.declared.words.OwnEvent.{OwnEvent}
 pub use Rattle.task_machine.specs.declared.words.Phase.{Phase}
 pub use Rattle.task_machine.specs.declared.words.Status.{Status}
-pub use Rattle.task_rules.specs.Allowed.{AbortsOwn, Allowed, AtOp, AwaitsEvent, Blocks, ByDelivery, ByHandle, ByOp, ByProgram, ByScript, BySetHandle, ByThread, ByWait, Cancels, CanCome, ComesAgain, Departs, EndsActivation, EndsOver, Exits, Falls, FindsEvent, GivesUp, HasCalled, HasSet, HasSubtask, Holds, InOp, is_async_work, is_begun, is_done_host, is_exit, is_for_main, IsCalled, IsFall, IsFoot, IsLaid, IsNamed, IsNew, IsPolled, IsRunner, IsSettling, IsStarting, IsWithdrawn, Leaves, MayAbort, MayAdvance, MayBar, MayCall, MayCancel, MayCome, MayDeliver, MayEnd, MayFinish, MayGo, MayJoin, MayLand, MayLeave, MayMake, MayMakeCall, MayMove, MayNameCall, MayOwe, MayPut, MayRemoveCall, MayRemoveWork, MayRestart, MayShift, MayStart, MayTell, MayWithdraw, MayYield, ProgramAborts, Releases, Resumes, ReturnsNow, Runs, SaysEnd, ScriptAborts, Starts, Stays, subtask_under_way, Suspends, TakesCalled, TakesCancelled, TakesNamed, Tells, Unblocks, Uncovers, Waits, WaitsAgain, wake_why, Wakes, WasReady, WasUnder, Yields}
+pub use Rattle.task_rules.specs.Allowed.{AbortsOwn, Allowed, AtOp, AwaitsEvent, Blocks, ByDelivery, ByHandle, ByOp, ByProgram, ByScript, BySetHandle, ByThread, ByWait, Cancels, CanCome, ComesAgain, Departs, EndsActivation, EndsOver, Exits, Falls, FindsEvent, GivesUp, HasCalled, HasSet, HasSubtask, Holds, InOp, is_async_work, is_begun, is_done_host, is_exit, is_for_main, IsCalled, IsFall, IsFoot, IsLaid, IsNamed, IsNew, IsPolled, IsRunner, IsSettling, IsStarting, IsWithdrawn, Leaves, MayAbort, MayAdvance, MayBar, MayCall, MayCancel, MayCome, MayDeliver, MayEnd, MayFinish, MayGo, MayJoin, MayLand, MayLeave, MayMake, MayMakeCall, MayMove, MayNameCall, MayOwe, MayPut, MayRemoveCall, MayRemoveWork, MayRestart, MayShift, MayStart, MayTakeEvent, MayTell, MayWithdraw, MayYield, ProgramAborts, Releases, Resumes, ReturnsNow, Runs, SaysEnd, ScriptAborts, Starts, Stays, subtask_under_way, Suspends, TakesCalled, TakesCancelled, TakesNamed, Tells, Unblocks, Uncovers, Waits, WaitsAgain, wake_why, Wakes, WasReady, WasUnder, Yields}
 pub use Rattle.task_rules.specs.Calls.{AtOnce, call_begins, call_clears_flag, call_host_polled, call_row, call_status, call_sync_begins, call_sync_host_polled, call_sync_host_row, call_sync_row, call_sync_status, enter_row, Failing, first_poll, FirstPoll, Later, new_call, new_thread, new_work, next_thread, next_work, put_back, settle_group_of, status_found, sync_sets_flag, work_group, work_value}
 unfoldable pub use Rattle.task_rules.specs.Calls.{answered, call_answered, call_made, call_pending, call_queues, call_resumes, call_returned, call_stops, call_sync_host_stops, call_sync_stops, enter_runs, host_answered, host_pending, host_ready, with_handle, with_thread_handle, work_answered, work_deleted, work_queued}
 pub use Rattle.task_rules.specs.Cancels.{aborted_phase, AlreadyEnded, Async, behind_switch, blocked_code, CallbackWaits, CallbackYields, cancel_by_end, cancel_case, cancel_ended_row, cancel_guest, cancel_label, cancel_row, cancel_subtask, CancelCase, drop_row, is_callback_wait, Mode, OtherwiseRuns, pauses, StartNotRun, subtask_instance, subtask_row, Sync}
