@@ -6,7 +6,8 @@ use Rattle.task_laws.proofs.CallsSteps.{plain, plain_scene}
 use Rattle.task_laws.proofs.PolledWorks.{polled_is_live}
 use Rattle.task_laws.proofs.Basics.{some_none, too_high}
 use Rattle.task_laws.proofs.OnceLemmas.{writes_by, Due, EndStep, Out, Over}
-use Rattle.task_laws.proofs.Works.{doing_or, doing_there, Doing, WorksGo, WorksHold, WorkWas, doing, doing_of, is_due, is_late, stage_ended}
+use Rattle.task_laws.proofs.WorksCame.{Doing, doing, doing_of, is_late}
+use Rattle.task_laws.proofs.Works.{doing_or, doing_there, WorksGo, WorksHold, WorkWas, is_due, stage_ended, number_of}
 use Rattle.task_machine.specs.declared.records.HowFar.TheVariants as how_far
 use Rattle.task_machine.specs.declared.records.Subtask.TheVariants as subtask
 use Rattle.task_machine.specs.declared.records.Course.TheVariants as course
@@ -79,7 +80,7 @@ module _ (S : Type 0) (x : Setting) (s : State) (l : Label) (t : State) (next : 
   Written i e = written x.component m ≡ Some (end_for e (subtask.Host i))
 
   number : (i : ℕ) → is_some (get s.core.works i) ≡ true → i ≤ s.core.made.works
-  number i there = let v = doing_there i s.core there in (h.works i v.0 v.1).number
+  number i there = let v = doing_there i s.core there in number_of h i v.0 v.1
 
   course_stays : (i : ℕ) → i ≤ s.core.made.works → has_end (course_of i s.core) ≡ true → is_some (get t.core.works i) ≡ true →
       course_of i t.core ≡ course_of i s.core
@@ -110,7 +111,7 @@ module _ (S : Type 0) (x : Setting) (s : State) (l : Label) (t : State) (next : 
       go (Some y) None e f c = absurd (cc)
       go (Some y) (Some z) e f c =
           let v = event_there i s.core y e in let u = event_there i t.core z f in let o = h.works i v.0 v.1.0 in
-          let same = same_course i v.0 u.0 (q.was i u.0 u.1.0 o.number) v.1.0 (told_late i v.0 y v.1.0 v.1.1) in
+          let same = same_course i v.0 u.0 (q.was i u.0 u.1.0 (number_of h i v.0 v.1.0)) v.1.0 (told_late i v.0 y v.1.0 v.1.1) in
           let was = (o.told y v.1.1).1.1 in let now = ((q.holds.works i u.0 u.1.0).told z u.1.1).1.1 in
           let one : y ≡ z = cc in grind (arith, nat_tests)
 
@@ -121,7 +122,7 @@ module _ (S : Type 0) (x : Setting) (s : State) (l : Label) (t : State) (next : 
 
   ready_none : (i : ℕ) → IsReadyAtOnce a t.core i → doing_of i t.core ≡ None
   ready_none i (is, (made, same)) = ⊎_elim (λ none. let same_works = same in grind arith)
-      (λ v. absurd (too_high is (h.works i v.0 v.1).number))
+      (λ v. absurd (too_high is (number_of h i v.0 v.1)))
       (doing_or i s.core)
 
   ready_over : (i : ℕ) → IsReadyAtOnce a t.core i → Over (subtask.Host i) t.core
@@ -136,7 +137,7 @@ module _ (S : Type 0) (x : Setting) (s : State) (l : Label) (t : State) (next : 
     polled_result j polled ended =
         let live = polled_is_live polled.0 a.base j polled.1.1 in let v = doing_there j s.core (grind arith) in let at = v.1 in
         let o = h.works j v.0 at in let late = o.late in
-        (λ over. let has = over.1 in grind arith, (le_trans o.number q.counted, ended))
+        (λ over. let has = over.1 in grind arith, (le_trans (number_of h j v.0 at) q.counted, ended))
 
     -- what the label says
     host_says : (i : ℕ) (e : Status) → Written i e → (Over (subtask.Host i) s.core → ⊥) × Over (subtask.Host i) t.core
@@ -164,9 +165,9 @@ module _ (S : Type 0) (x : Setting) (s : State) (l : Label) (t : State) (next : 
           let late = told_late i r.0 f at r.1.1 in let tells = r.1.1 in (
             inl (r.0, (at, (grind arith, ends.1.1))),
             (
-              host_stays i (o.number, grind arith),
+              host_stays i (number_of h i r.0 at, grind arith),
               λ g due.
-                  let now = due.1.0 in none_due i r.0 due.0 (q.was i due.0 now o.number) at ends.0 ends.1.0 (grind arith) due.1.1.0,
+                  let now = due.1.0 in none_due i r.0 due.0 (q.was i due.0 now (number_of h i r.0 at)) at ends.0 ends.1.0 (grind arith) due.1.1.0,
             ),
           )
 
@@ -176,7 +177,7 @@ module _ (S : Type 0) (x : Setting) (s : State) (l : Label) (t : State) (next : 
           let r = plain x s l next Answered calls_answered n j runner far in let o = h.works j r.0 r.1.0 in
           let sync = r.1.1.0 in let ends = o.late ∙ r.1.1.1 in (
             inl (r.0, (r.1.0, (grind arith, value_returns _ ((o.sync y sync).1 ends)))),
-            out_gone j (le_trans o.number q.counted)
+            out_gone j (le_trans (number_of h j r.0 r.1.0) q.counted)
                 (ap (option_map doing) gone),
           )
 

@@ -18,6 +18,7 @@ pub mod FitLemmas
 pub mod OneHolder
 pub mod Exported
 pub mod PolledWorks
+pub mod WorksCame
 pub mod Works
 pub mod SaidEnds
 pub mod CallEnds

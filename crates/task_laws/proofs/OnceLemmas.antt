@@ -1,7 +1,8 @@
 -- From facts of each step to all that is once in a run.
 use Rattle.task_rules.proofs.Machine.{[], arith, Bool, changes_end, Component, Core, count_by, course_of, course_value, covers_end, end_for, EndsOnce, event_of, get, handed, hands_out, hands_out_written, has_end, history, host_status, if◌then◌else◌, inl, inr, is_end_of, is_known, is_over, is_some, Label, List, Moment, nat_tests, None, Option, refl, Run, same_end, same_subtask, Setting, Some, State, Status, Step, Subtask, SubtaskEnd, true, undelivered_end, with_end, writes_end, written, ℕ, ⊎_elim, ◌&&◌, ◌+◌, ◌||◌, ◌∷◌, ◌≡◌, ◌≤◌, ◌⊎◌}
 use Rattle.std.proofs.lemmas.List.Recursion.{is_count_by}
-use Rattle.task_laws.proofs.Works.{Doing, doing_of, is_due}
+use Rattle.task_laws.proofs.WorksCame.{Doing, doing_of}
+use Rattle.task_laws.proofs.Works.{is_due}
 use Rattle.task_machine.specs.declared.records.Subtask.TheVariants as subtask
 use Rattle.task_machine.specs.declared.words.Status.TheVariants as status
 
