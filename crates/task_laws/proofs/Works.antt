@@ -2,23 +2,12 @@
 use Rattle.task_rules.proofs.Machine.{after_word, Allowed, ap, arith, Bool, Core, course_value, false, fresh, get, get-empty, has_end, host_status, inl, inr, is_aborted, is_async_work, is_some, is_stage_ended, Label, le_refl, le_trans, MayAbort, None, Option, refl, Scene, scene_of, Setting, Some, Stage, State, Status, true, Turn, undelivered_end, Walked, Word, Work, ℕ, ⊎_elim, ◌&&◌, ◌||◌, ◌∙◌, ◌≡◌, ◌≤◌, ◌⊎◌}
 use Rattle.task_laws.proofs.CallsSteps.{of_base}
 use Rattle.task_laws.specs.Ends.{is_sync_work}
-use Rattle.task_laws.specs.Order.{is_host_of, is_push_of, stands}
 use Rattle.task_laws.proofs.CountLemmas.{made_works_word}
-use Rattle.task_machine.specs.declared.records.Course.TheVariants as course
-use Rattle.task_machine.specs.declared.records.Entry.TheVariants as entry
-use Rattle.task_machine.specs.declared.records.Stage.TheVariants as stage
-use Rattle.task_machine.specs.declared.words.Mark.TheVariants as mark
-use Rattle.task_laws.proofs.Basics.{no_way, too_high}
 use Rattle.task_rules.proofs.ChainLemmas.{along}
-use Rattle.task_rules.proofs.PlacingLemmas.{placing_works, unqueued_works, work_entries}
-use Rattle.task_laws.proofs.EachLemmas.{after_change, after_remove, at_change, at_insert}
-use Rattle.task_laws.proofs.PolledWorks.{polled_is_live}
-use Rattle.task_machine.proofs.CommuteLemmas.{change-change_same, get-change}
-use Rattle.task_machine.specs.declared.words.Phase.TheVariants as phase
 use Rattle.task_machine.specs.declared.label.Label.TheVariants as label
 use Rattle.task_machine.specs.declared.label.LoopLabel.TheVariants as loop_label
-use Rattle.task_laws.specs.Order.{is_queued, is_finishing}
-use Rattle.task_laws.proofs.WorksCame.{Doing, doing, doing_of, is_late, WorksStand, WorkCame, WorkAfter, work_came, stand_word, Same, Gone, Made, Pends, Ends, Lives, Done, Aborts, Takes}
+use Rattle.task_laws.specs.Order.{is_finishing}
+use Rattle.task_laws.proofs.WorksCame.{Doing, doing_of, is_late, WorksStand, WorkCame, WorkAfter, work_came, stand_word}
 
 -- ---- What holds
 
@@ -140,7 +129,11 @@ works_word {S = S} {a = a} unsync w s ok q = record {
 pub opening_works : {S : Type 0} (instances handle_limit capacity : ℕ) → WorksHold S (fresh instances handle_limit capacity)
 unfolding fresh
 opening_works instances handle_limit capacity = record {
-  stand = record { low = λ i. refl; number = λ i there. let e = get-empty {X = Work} i in absurd (cc); high = λ i why. let e = get-empty {X = Work} i in grind arith };
+  stand = record {
+    low = λ i. refl;
+    number = λ i there. let e = get-empty {X = Work} i in absurd (cc);
+    high = λ i why. let e = get-empty {X = Work} i in grind arith;
+  };
   works = λ i v at. let e = get-empty {X = Work} i in absurd (cc);
 }
 

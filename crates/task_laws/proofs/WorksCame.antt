@@ -1,17 +1,14 @@
 -- What each word of a step does to a host work, and that works have their entries.
 use Rattle.task_rules.proofs.Machine.{[], add_call, add_group, add_set, add_thread, add_work, after_placing, after_word, Allowed, ap, arith, Bool, call_made, change, Core, count_work, Course, course_of, course_value, EndWork, Entry, false, FinishWork, free_handle, free_thread_handle, get, give_handle, give_result, give_thread_handle, has_end, host_status, HostDef, inl, inr, is_aborted, is_async_work, is_some, is_stage_ended, is_stage_live, List, Mark, MayAbort, MayFinish, MayRemoveWork, nat_tests, new_work, next_entry, next_work, None, on_call, on_instance, on_thread, on_work, one_if, Option, option_map, or_high, Pend, Phase, Places, poll_pends, popped, push_high, QueueWork, refl, remove_call, remove_group, remove_set, remove_thread, remove_work, RemoveWork, rest_of, Scene, set_backpressure, set_cancel_delivered, set_cancelled, set_course, set_do_not_enter, set_do_not_suspend, set_end, set_event, set_exited, set_high, set_how_far, set_join, set_own_event, set_phase, set_position, set_register, set_result, set_saved_callee, set_saved_own, set_script, set_stage, set_started, set_starting_published, set_subtask_handle, set_thread_handle, set_trapped, set_uninteresting, set_word, SetPhase, Some, Stage, stage_of, Status, sym, take_result, TakeHost, TakePush, TakeWorkEvent, true, unqueued, with_handle, with_thread_handle, Withdraw, Word, Work, work_caller_of, work_queued, WorkCaller, ℕ, ⊎_elim, ◌++◌, ◌+◌, ◌∙◌, ◌∷◌, ◌≡◌, ◌≤◌, ◌⊎◌}
-use Rattle.task_laws.proofs.CallsSteps.{of_base}
-use Rattle.task_laws.specs.Ends.{is_sync_work}
 use Rattle.task_laws.specs.Order.{is_host_of, is_push_of, stands}
 use Rattle.task_laws.proofs.CountLemmas.{made_works_word}
 use Rattle.task_machine.specs.declared.records.Course.TheVariants as course
 use Rattle.task_machine.specs.declared.records.Entry.TheVariants as entry
 use Rattle.task_machine.specs.declared.records.Stage.TheVariants as stage
 use Rattle.task_machine.specs.declared.words.Mark.TheVariants as mark
-use Rattle.task_laws.proofs.Basics.{no_way, too_high}
-use Rattle.task_rules.proofs.ChainLemmas.{along}
+use Rattle.task_laws.proofs.Basics.{no_way}
 use Rattle.task_rules.proofs.PlacingLemmas.{placing_works, unqueued_works, work_entries}
-use Rattle.task_laws.proofs.EachLemmas.{after_change, after_remove, at_change, at_insert}
+use Rattle.task_laws.proofs.EachLemmas.{after_remove, at_change, at_insert}
 use Rattle.task_laws.proofs.PolledWorks.{polled_is_live}
 use Rattle.task_machine.proofs.CommuteLemmas.{change-change_same, get-change}
 use Rattle.task_machine.specs.declared.words.Phase.TheVariants as phase
@@ -114,37 +111,37 @@ pub data WorkCame (S M : Type 0) (a : Scene) (s : Core) (b i : ℕ) (h g : ℕ �
 
 module _ {S : Type 0} (a : Scene) (s : Core) (q : WorksStand S s)
     (ends : (i : ℕ) → S → MayRemoveWork a i s → is_stage_ended (stage_of i s) ≡ true) where
+  -- what the work i comes to, with the entries g, where b works are made
+  abbrev pub CameTo : ℕ → ℕ → ℕ × ℕ → Option Work → Option Work → Type 0
+  CameTo b i g o p = WorkCame S (MayAbort a i) a s b i (High s i) g (option_map doing o) (option_map doing p)
+
   abbrev pub WorkAfter : Word → ℕ → Type 0
-  WorkAfter w i = WorkCame S (MayAbort a i) a s (after_word w s).made.works i (High s i) (High (after_word w s) i) (doing_of i s)
-      (doing_of i (after_word w s))
+  WorkAfter w i = CameTo (after_word w s).made.works i (High (after_word w s) i) (get s.works i) (get (after_word w s).works i)
 
-  module _ (j : ℕ) (f : Work → Work) where
-    abbrev Own : ℕ × ℕ → Work → Type 0
-    Own g w = get s.works j ≡ Some w → WorkCame S (MayAbort a j) a s s.made.works j (High s j) g (Some (doing w)) (Some (doing (f w)))
+  -- the work j is changed, and entries of no other
+  changed : (j : ℕ) (f : Work → Work) (g : ℕ → ℕ × ℕ) → ((i : ℕ) → (i ≡ j → ⊥) → g i ≡ High s i) →
+      (get s.works j ≡ None → S ⊎ (s.made.works + 1 ≤ j) → g j ≡ (0, 0)) →
+      ((w : Work) → get s.works j ≡ Some w → CameTo s.made.works j (g j) (Some w) (Some (f w))) →
+      (i : ℕ) → CameTo s.made.works i (g i) (get s.works i) (get (change j f s.works) i)
+  changed j f g others none own i =
+      at_change (CameTo s.made.works i (g i)) s.works j i f (λ e. rw e (at (get s.works j) refl)) (λ e. Same refl (others i e))
+    where
+      at : (o : Option Work) → get s.works j ≡ o → CameTo s.made.works j (g j) o (option_map f o)
+      at None is = Gone refl (none is)
+      at (Some w) is = own w is
 
-    -- the work is changed, and entries of no other
-    changed : (g : ℕ → ℕ × ℕ) → ((i : ℕ) → (i ≡ j → ⊥) → g i ≡ High s i) →
-        (get s.works j ≡ None → S ⊎ (s.made.works + 1 ≤ j) → g j ≡ (0, 0)) → ((w : Work) → Own (g j) w) →
-        (i : ℕ) → WorkCame S (MayAbort a i) a s s.made.works i (High s i) (g i) (doing_of i s) (option_map doing (get (change j f s.works) i))
-    changed g others none own i =
-        at_change (λ o p. WorkCame S (MayAbort a i) a s s.made.works i (High s i) (g i) (option_map doing o) (option_map doing p)) s.works j i f
-        (λ e. rw e (at (get s.works j) refl)) (λ e. Same refl (others i e))
-      where
-        at : (o : Option Work) → get s.works j ≡ o →
-            WorkCame S (MayAbort a j) a s s.made.works j (High s j) (g j) (option_map doing o) (option_map doing (option_map f o))
-        at None is = Gone refl (none is)
-        at (Some w) is = own w is
+  -- no entry changes
+  turned : (j : ℕ) (f : Work → Work) → ((w : Work) → get s.works j ≡ Some w → CameTo s.made.works j (High s j) (Some w) (Some (f w))) →
+      (i : ℕ) → CameTo s.made.works i (High s i) (get s.works i) (get (change j f s.works) i)
+  turned j f own i = changed j f (High s) (λ i e. refl)
+      (λ none why. q.high j (inr why) ∙ ap (λ o. entries_for (option_map doing o)) none) own i
 
-    -- no entry changes
-    turned : ((w : Work) → Own (High s j) w) →
-        (i : ℕ) → WorkCame S (MayAbort a i) a s s.made.works i (High s i) (High s i) (doing_of i s) (option_map doing (get (change j f s.works) i))
-    turned own i = changed (High s) (λ i e. refl) (λ none why. q.high j (inr why) ∙ ap (λ o. entries_for (option_map doing o)) none) own i
-
+  -- it ends, at this stage
   finishes : (j : ℕ) (c : Course) (x : Stage) (g : ℕ → ℕ × ℕ) → MayFinish a j c s → is_late x ≡ true →
       (is_finishing x ≡ true → is_async_work (work_caller_of j s) ≡ true) → ((i : ℕ) → (i ≡ j → ⊥) → g i ≡ High s i) →
       g j ≡ ((High s j).0, (High s j).1 + one_if (is_finishing x)) → (i : ℕ) →
-      WorkCame S (MayAbort a i) a s s.made.works i (High s i) (g i) (doing_of i s) (option_map doing (get (change j (λ w. record w { stage = x })
-      (change j (λ w. record w { phase = phase.Complete }) (change j (λ w. record w { course = c }) s.works))) i))
+      CameTo s.made.works i (g i) (get s.works i) (get (change j (λ w. record w { stage = x })
+      (change j (λ w. record w { phase = phase.Complete }) (change j (λ w. record w { course = c }) s.works))) i)
   finishes j c x g may late async others own i =
       let live = polled_is_live may.0.0 s j may.0.1.1 in
       rw (change-change_same s.works j (λ w. record w { phase = phase.Complete }) (λ w. record w { course = c }))
@@ -157,9 +154,11 @@ module _ {S : Type 0} (a : Scene) (s : Core) (q : WorksStand S s)
   unfolding add_call add_group add_set add_thread add_work count_work free_handle free_thread_handle give_handle give_result give_thread_handle on_call on_instance on_thread on_work push_high remove_call remove_group remove_set remove_thread remove_work set_backpressure set_cancel_delivered set_cancelled set_course set_do_not_enter set_do_not_suspend set_end set_event set_exited set_how_far set_join set_own_event set_phase set_position set_register set_result set_saved_callee set_saved_own set_script set_stage set_started set_starting_published set_subtask_handle set_thread_handle set_trapped set_uninteresting set_word take_result call_made with_handle with_thread_handle work_queued poll_pends
   work_came (Places p) ok i = Same refl (same_standing i s.queues.high (after_placing p s).queues.high (placing_works a p s ok).high)
   work_came (Withdraw j) ok i = Same refl (same_standing i s.queues.high (unqueued j s).queues.high (unqueued_works j s).high)
-  work_came (QueueWork f host group) ok i = let j = s.made.works + 1 in
-      at_insert (λ o p. WorkCame S (MayAbort a i) a s j i (High s i) (Standing i (s.queues.high ++ entry.Push j ∷ [])) (option_map doing o) (option_map doing p))
-      s.works j i _ (λ is. Made f host is (omega (arith, is)) refl (let n = q.number i in let h = q.high i (inr (inr (omega (arith, is)))) in grind (arith, nat_tests, stands_append))) (λ e. Same refl (grind (arith, nat_tests, stands_append)))
+  work_came (QueueWork f host group) ok i =
+      let j = s.made.works + 1 in let n = q.number i in let h = q.high i in
+      at_insert (CameTo j i (Standing i (s.queues.high ++ entry.Push j ∷ []))) s.works j i _
+      (λ is. Made f host is (omega (arith, is)) refl (let z = h (inr (inr (omega (arith, is)))) in grind (arith, nat_tests, stands_append)))
+      (λ e. Same refl (grind (arith, nat_tests, stands_append)))
   work_came (TakePush m j) ok i =
       let t = taken m (entry.Push j) s ok refl q.low in let h = ap (Standing j) t.0 in
       changed j _ (High (popped m s)) (λ i e. let h = ap (Standing i) t.0 in grind (arith, nat_tests))
@@ -181,9 +180,9 @@ module _ {S : Type 0} (a : Scene) (s : Core) (q : WorksStand S s)
       (λ i e. grind (arith, nat_tests, stands_append)) (grind (arith, nat_tests, stands_append)) i
   work_came (SetPhase j x) ok i = turned j _ (λ w at. Aborts (doing w) x refl ok.0 refl refl) i
   work_came (TakeWorkEvent j) ok i = turned j _ (λ w at. Takes (doing w) refl refl refl) i
-  work_came (RemoveWork j) ok i =
-      after_remove (λ o p. WorkCame S (MayAbort a i) a s s.made.works i (High s i) (High s i) (option_map doing o) (option_map doing p)) s.works j i
-      (λ o. Same refl refl) (λ e. Gone refl (λ why. let z = q.high i in let n = q.number i in ⊎_elim (λ y. let o = ends i y (rw e ok) in grind arith) (λ b. grind arith) why))
+  work_came (RemoveWork j) ok i = let z = q.high i in let n = q.number i in
+      after_remove (CameTo s.made.works i (High s i)) s.works j i (λ o. Same refl refl)
+      (λ e. Gone refl (⊎_elim (λ y. let o = ends i y (rw e ok) in grind arith) (λ above. grind arith)))
   work_came w ok i = Same (grind (arith, nat_tests, get-change)) refl
 
   low_after : (w : Word) → Allowed a w s → (i : ℕ) → Standing i (after_word w s).queues.low ≡ (0, 0)
@@ -201,11 +200,11 @@ module _ {S : Type 0} (a : Scene) (s : Core) (q : WorksStand S s)
     high = λ i why. let m = made_works_word a w s in high (work_came w ok i) (q.number i) (q.high i) m why;
   }
     where
-      number : {M : Type 0} {b i : ℕ} {h g : ℕ × ℕ} {o p : Option Doing} → WorkCame S M a s b i h g o p → (is_some o ≡ true → i ≤ s.made.works) →
-          s.made.works ≤ b → is_some p ≡ true → i ≤ b
+      number : {M : Type 0} {b i : ℕ} {h g : ℕ × ℕ} {o p : Option Doing} → WorkCame S M a s b i h g o p →
+          (is_some o ≡ true → i ≤ s.made.works) → s.made.works ≤ b → is_some p ≡ true → i ≤ b
       number came old more there = grind arith
 
-      high : {M : Type 0} {b i : ℕ} {h g : ℕ × ℕ} {o p : Option Doing} → WorkCame S M a s b i h g o p → (is_some o ≡ true → i ≤ s.made.works) →
-          ((is_some o ≡ true) ⊎ (S ⊎ (s.made.works + 1 ≤ i)) → h ≡ entries_for o) → s.made.works ≤ b →
-          (is_some p ≡ true) ⊎ (S ⊎ (b + 1 ≤ i)) → g ≡ entries_for p
+      high : {M : Type 0} {b i : ℕ} {h g : ℕ × ℕ} {o p : Option Doing} → WorkCame S M a s b i h g o p →
+          (is_some o ≡ true → i ≤ s.made.works) → ((is_some o ≡ true) ⊎ (S ⊎ (s.made.works + 1 ≤ i)) → h ≡ entries_for o) →
+          s.made.works ≤ b → (is_some p ≡ true) ⊎ (S ⊎ (b + 1 ≤ i)) → g ≡ entries_for p
       high came least old more why = grind arith

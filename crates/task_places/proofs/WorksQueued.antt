@@ -1,14 +1,7 @@
 -- Host works have their entries, along the words of a step.
-use Rattle.task_rules.proofs.Machine.{after_word, Allowed, ap, arith, Bool, Core, get, inl, inr, is_stage_ended, MayAbort, MayRemoveWork, None, Option, option_map_or, refl, RemoveWork, Scene, Some, stage_of, true, Word, Work, ℕ, ◌∙◌, ◌≡◌, ◌≤◌}
-use Rattle.task_laws.specs.Order.{WorkEntries, WorksQueued, is_host_of, is_push_of, stands}
-use Rattle.task_laws.proofs.PolledWorks.{polled_is_live}
-use Rattle.task_machine.proofs.CommuteLemmas.{get-change}
-use Rattle.task_machine.specs.declared.records.Entry.TheVariants as entry
-use Rattle.task_machine.specs.declared.records.Stage.TheVariants as stage
-use Rattle.task_machine.specs.declared.words.Mark.TheVariants as mark
-use Rattle.task_places.proofs.Entries.{First, next_first}
-use Rattle.task_rules.proofs.PlacingLemmas.{SameWorks, placing_works, unqueued_works}
-use Rattle.task_rules.proofs.StandLemmas.{eq_refl}
+use Rattle.task_rules.proofs.Machine.{after_word, Allowed, arith, Bool, Core, get, inl, inr, is_stage_ended, MayAbort, MayRemoveWork, None, Option, option_map_or, refl, Scene, Some, stage_of, true, Word, Work, ℕ, ◌∙◌, ◌≡◌, ◌≤◌}
+use Rattle.task_laws.specs.Order.{WorksQueued}
+use Rattle.task_rules.proofs.PlacingLemmas.{SameWorks}
 use Rattle.task_laws.proofs.WorksCame.{WorksStand, Doing, WorkCame, High, entries_for, doing_of, same_standing, stand_word, work_came}
 
 stands_of : {s : Core} → WorksQueued s → WorksStand (Unit {0}) s
