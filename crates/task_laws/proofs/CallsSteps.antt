@@ -46,7 +46,7 @@ module _ (a : Scene) (codes : CodesInCallbacks (component_of a)) (h : CallsHold 
 
     delivered_lifted : (k : ℕ) (c : Call) → get s.calls k ≡ Some c → MayDeliver a k → is_async_lifted c.kind ≡ true
     delivered_lifted k c at m =
-        let r = ready_delivered a codes h m.0 _ m.1.1.1.1 refl in
+        let r = ready_delivered a codes h m.0 _ m.1.1.1.0.1 refl in
         let k = task_of m.0 a.base in
         let y : is_callback (kind_of k s) ≡ true = kept_callback a codes h q k (base_task a codes h m.0) r.1 in
         grind arith

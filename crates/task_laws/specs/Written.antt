@@ -1,7 +1,7 @@
 -- The end of each record is written at most once, and what a call has to hand out is that end.
 use Rattle.task_rules.specs.SubtaskEnds.{end_for, written_by, handed_by}
 use Rattle.task_rules.specs.Step.{Step}
-use Rattle.task_rules.specs.Allowed.{status_of_end}
+use Rattle.task_rules.specs.Words.{status_of_end}
 use Rattle.task_machine.specs.declared.words.Status.{Status}
 use Rattle.task_machine.specs.declared.records.CallEnd.{CallEnd}
 use Rattle.task_machine.specs.Read.{end_of, event_of, undelivered_end, has_ended}

@@ -1,6 +1,6 @@
 -- Each step owes of the ends what it should, and so each run has each end once.
 use Rattle.task_rules.proofs.Machine.{[], AbortsOwn, ap, arith, base_at, Bool, Call, Core, end_for, Entry, false, fresh, get, get-empty, how_far_of, inl, inr, instance_of, is_some, is_spawn, is_spawn_caller, is_stage_ended, IsRunner, Label, le_refl, Main, MainPlace, Mark, next_entry, None, opening, Option, option_and_then, option_map, option_map_or, Place, place_of, ProgramAborts, refl, runner_at, SameMain, Scene, scene_of, ScriptAborts, Scripted, Setting, slice_get, Some, spawned_at, stage_of, State, Status, Step, subst, Subtask, subtask_at, subtask_handle, suc, sym, task_of, thread_of_entry, true, Turn, undelivered_end, Unscripted, unwrap_or, Walked, Work, work_caller_of, written, zero, ℕ, ⊎_elim, ◌&&◌, ◌++◌, ◌-◌, ◌∙◌, ◌∷◌, ◌≡◌, ◌≤◌, ◌⊎◌}
-use Rattle.task_laws.proofs.NamedCalls.{NamesKnown, names_known_word, opening_names_known}
+use Rattle.task_laws.proofs.NamedCalls.{NamesGo, NamesKnown, names_go_word, opening_names_known}
 use Rattle.task_laws.proofs.NamedWorks.{NamesNoSync, abort_kept, caller_is, names_word, opening_names}
 use Rattle.task_laws.proofs.Basics.{no_way}
 use Rattle.task_laws.proofs.CallsLaw.{CallsGo, CallsHold}
@@ -135,8 +135,8 @@ module _ (x : Setting) (s : State) (l : Label) (t : State) (k : Known x s) (f : 
   names_base_known = to_base NamesKnown (record { there = k.names.there; once = k.names.once; number = k.names.number; called = k.names.called })
 
   -- which calls handles and ops name
-  names_after : NamesKnown t.core
-  names_after = along NamesKnown (λ v u ok q. names_known_word a names_base_known (λ n j runs. to_base (λ c. how_far_of n c ≡ how_far.Calls (subtask.Guest j) → is_some (get c.calls j) ≡ true) (f n j runs)) v u ok q) k.names w.walk
+  names_after : NamesGo a t.core
+  names_after = along (NamesGo a) (λ v u ok q. names_go_word a names_base_known (λ n j runs. to_base (λ c. how_far_of n c ≡ how_far.Calls (subtask.Guest j) → is_some (get c.calls j) ≡ true) (f n j runs)) v u ok q) (record { known = k.names; were = λ n j far. inl (to_base (λ c. how_far_of n c ≡ how_far.Calls (subtask.Guest j)) far) }) w.walk
 
   spawns_after : (p : MainPlace) (j : ℕ) → t.main ≡ Scripted p → MayBeAborted t.core (spawned_at p j)
   spawns_after p j at = by s.main refl t.main at w.main
@@ -204,7 +204,7 @@ module _ (x : Setting) (s : State) (l : Label) (t : State) (k : Known x s) (f : 
     works = works_after.0.holds;
     unnamed = record { works = works_after.1.0; spawns = spawns_after };
     callers = works_after.1.1.1;
-    names = names_after;
+    names = names_after.known;
     zero = works_after.1.1.0 0 k.zero;
     over = λ sub e due. by sub e ((end_step sub).comes e due);
   }

@@ -1,5 +1,5 @@
 -- Where each thread is along the words of a step: each has its place, and one that waits for its start still does, or its call has begun.
-use Rattle.task_rules.proofs.Machine.{[], add_call, add_group, add_set, add_work, after_placing, after_word, ap, arith, AwaitsEvent, behind_one, Blocks, Bool, Call, call_made, Collapses, Core, count_work, Departs, EndsOver, Enter, entries, Falls, false, FinishWork, free_handle, free_thread_handle, get, give_handle, give_result, give_thread_handle, GoBehind, GoesBack, has_entry, HasPlace, HasSubtask, Holds, HowFar, if◌then◌else◌, inl, inr, is_at_high, is_at_low, is_at_switch, is_begun, is_blocked_on, is_done_host, is_explicit, is_for_start, is_free, is_fresh, is_none, is_some, is_there, is_under, IsFall, IsFoot, IsRunner, IsSettling, Lands, LandsAt, LastWords, le_refl, Leaves, MakeCall, MakeThread, Mark, MayGo, MayLand, MayMove, MayPut, MayYield, Move, nat_tests, new_call, new_thread, next_thread, None, on_call, on_instance, on_thread, on_work, Option, option_map, option_map_or, Place, place_of, Places, Placing, poll_pends, Promote, promoted, push_high, Put, put_high, put_low, QueueWork, Quits, refl, registers_for, Remains, remove_call, remove_group, remove_set, remove_thread, remove_work, RemoveThread, Runs, says, Scene, set_backpressure, set_cancel_delivered, set_cancelled, set_course, set_do_not_enter, set_do_not_suspend, set_end, set_event, set_exited, set_how_far, set_join, set_own_event, set_phase, set_place, set_position, set_register, set_result, set_saved_callee, set_saved_own, set_script, set_stage, set_started, set_starting_published, set_subtask_handle, set_thread_handle, set_trapped, set_uninteresting, set_word, Settles, SetTrapped, SetUninteresting, Some, Stay, Stays, Stop, subst, Subtask, Suspends, switch_entries, sym, T, take_result, TakeHost, TakePush, task_of, Thread, times, Trip, true, Turn, Uncovers, unwrap_or, Waits, WaitsAgain, was_started, Why, with_handle, with_thread_handle, Withdraw, Word, work_queued, ℕ, ◌+◌, ◌==◌, ◌||◌, ◌∙◌, ◌∷◌, ◌≡◌, ◌≤◌, ◌⊎◌}
+use Rattle.task_rules.proofs.Machine.{[], add_call, add_group, add_set, add_work, after_placing, after_word, ap, arith, AwaitsEvent, behind_one, Blocks, Bool, ByHandle, Call, call_made, Collapses, Core, count_work, Departs, EndsOver, Enter, entries, Falls, false, FinishWork, free_handle, free_thread_handle, get, give_handle, give_result, give_thread_handle, GoBehind, GoesBack, has_entry, HasPlace, HasSubtask, Holds, HowFar, if◌then◌else◌, inl, inr, is_at_high, is_at_low, is_at_switch, is_begun, is_blocked_on, is_done_host, is_explicit, is_for_start, is_free, is_fresh, is_none, is_some, is_there, is_under, IsFall, IsFoot, IsRunner, IsSettling, Lands, LandsAt, LastWords, le_refl, Leaves, MakeCall, MakeThread, Mark, MayGo, MayLand, MayMove, MayPut, MayWithdraw, MayYield, Move, nat_tests, new_call, new_thread, next_thread, None, on_call, on_instance, on_thread, on_work, Option, option_map, option_map_or, Place, place_of, Places, Placing, poll_pends, Promote, promoted, push_high, Put, put_high, put_low, QueueWork, Quits, refl, registers_for, Remains, remove_call, remove_group, remove_set, remove_thread, remove_work, RemoveThread, Runs, says, Scene, set_backpressure, set_cancel_delivered, set_cancelled, set_course, set_do_not_enter, set_do_not_suspend, set_end, set_event, set_exited, set_how_far, set_join, set_own_event, set_phase, set_place, set_position, set_register, set_result, set_saved_callee, set_saved_own, set_script, set_stage, set_started, set_starting_published, set_subtask_handle, set_thread_handle, set_trapped, set_uninteresting, set_word, Settles, SetTrapped, SetUninteresting, Some, Stay, Stays, Stop, subst, Subtask, Suspends, switch_entries, sym, T, take_result, TakeHost, TakePush, task_of, Thread, times, Trip, true, Turn, Uncovers, unwrap_or, Waits, WaitsAgain, was_started, Why, with_handle, with_thread_handle, Withdraw, Word, work_queued, ℕ, ◌+◌, ◌==◌, ◌||◌, ◌∙◌, ◌∷◌, ◌≡◌, ◌≤◌, ◌⊎◌}
 use Rattle.task_rules.proofs.WalkMoves.{blocked_place}
 use Rattle.task_machine.proofs.CommuteLemmas.{get-change}
 use Rattle.task_places.proofs.Entries.{added_stand, has_stands, next_first, popped_quiet, promoted_stand, pushed_same, removed_fresh, withdrawn_stand, flipped}
@@ -153,6 +153,9 @@ module _ {a : Scene} {b : Core} {n : ℕ} {q : Option Place} (f : Follows a b n 
   keeps_word (TakeHost x i) s ok puts fresh st = let u = popped_quiet x (entry.Host i) s (next_first s x (entry.Host i) ok) (λ k. refl) in quiet_stand n q [] s _ (record { places = u.places; switch = u.switch; high = u.high; low = u.low; callers = u.callers; made = le_refl _ }) st
   keeps_word w s ok puts fresh st = quiet_stand n q [] s _ (record { places = λ k. grind (arith, nat_tests, get-change); switch = λ k. refl; high = λ k. refl; low = λ k. refl; callers = refl; made = le_refl _ }) st
 
+  withdraws_waits : (k : ℕ) (s : Core) → MayWithdraw a k s → waits a k ≡ true
+  withdraws_waits k s may = let g = may.1.1.0 in f.withdraws g.0 k g.1.1.0 (ByHandle g.1.0 g.1.1.1) may.1.1.1.1.1.1
+
   pub stay_word : (w : Word) (s : Core) → Stays a w s → Stand (watch a) n q [] s → Stand (watch a) n q [] (after_word w s)
   stay_word w s ok st = keeps_word w s ok (λ x m v e g so. puts x m v (subst (λ (y : Word). Stays a y s) e ok) so) (λ k e. waiting k (subst (λ (y : Word). Stays a y s) e ok)) st
     where
@@ -161,7 +164,7 @@ module _ {a : Scene} {b : Core} {n : ℕ} {q : Option Place} (f : Follows a b n 
       puts x m v (inr may) so = absurd may
 
       waiting : (k : ℕ) → Stays a (Withdraw k) s → is_fresh (place_of k s) ≡ true
-      waiting k may = fresh_still a st k (f.withdraws may.0 k may.1.0 may.1.1.0 may.1.1.1.1.1.1)
+      waiting k may = fresh_still a st k (withdraws_waits k s may)
 
   -- a thread that is blocked stays so, but where its host's work is done
   pub stuck_word : (m : ℕ) (sub : Subtask) (w : Word) (s : Core) → Stays a w s → Stand (watch a) n q [] s → place_of m s ≡ Some (place.Blocked sub) → (place_of m (after_word w s) ≡ Some (place.Blocked sub)) ⊎ (is_done_host sub s ≡ true)
@@ -180,7 +183,7 @@ module _ {a : Scene} {b : Core} {n : ℕ} {q : Option Place} (f : Follows a b n 
       by_put true e = inr (put_done a m sub w s ok at e)
       by_put false e =
           let t = keeps_word w s ok (λ x k v is g so. no_way (sym e ∙ (ap (puts_of m) is ∙ (ap (λ (j : ℕ). j == m) (watched k g) ∙ eq_refl m))))
-          (λ k is. fresh_still a st k (let may = subst (λ (y : Word). Stays a y s) is ok in f.withdraws may.0 k may.1.0 may.1.1.0 may.1.1.1.1.1.1)) before in
+          (λ k is. fresh_still a st k (withdraws_waits k s (subst (λ (y : Word). Stays a y s) is ok))) before in
           let own : only m ≡ Stuck sub = ap (λ b. if b then Stuck sub else Nothing) (eq_refl m) in
           inl (blocked_place sub (place_of m (after_word w s)) (ap (λ v. is_so v (place_of m (after_word w s))) (sym own) ∙ (t.kept m (ap is_watched own)).1))
 
