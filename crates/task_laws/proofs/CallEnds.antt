@@ -284,5 +284,6 @@ recorded s q k e tells =
     let r = telling_there k s (grind arith) in let i = event_is k s r.0 r.1 in rw (end_is k s r.0 r.1) (q.events k e r.0 r.1 (cc)).1
 
 pub told_as_recorded : EndsToldAsRecorded
+unfolding EndsToldAsRecorded
 told_as_recorded x s r k e tells = let q = recorded s.core (reached_ends_told r) k e tells in
     (q.ends, (q.is, (q.status, λ w. absurd (grind (arith, q.ran)))))

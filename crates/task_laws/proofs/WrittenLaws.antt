@@ -35,12 +35,14 @@ module _ (x : Setting) (s : State) (l : Label) (t : State) (r : Reached x s) (st
   }
 
 pub new_ends_are_said : NewEndsAreSaid
+unfolding NewEndsAreSaid
 new_ends_are_said x s l t r step = events_come x s l t (w x s l t r step).next r.scripts (known x s l t r step)
 
 pub new_results_are_said : NewResultsAreSaid
 new_results_are_said x s l t r step = results_come x s l t (w x s l t r step).next r.scripts (known x s l t r step)
 
 pub no_end_is_covered : NoEndIsCovered
+unfolding NoEndIsCovered
 no_end_is_covered x s l t r step k = let c = guest_covers x s l t (w x s l t r step).next r.scripts (known x s l t r step) k in false_of _ c
   where
     false_of : (b : Bool) → (b ≡ true → ⊥) → b ≡ false
@@ -50,6 +52,7 @@ pub written_ends_are_new : WrittenEndsAreNew
 written_ends_are_new x s l t r step = written_new x s l t (w x s l t r step).next r.scripts (known x s l t r step)
 
 pub ends_handed_as_told : EndsHandedAsTold
+unfolding EndsHandedAsTold
 ends_handed_as_told x s l t step k e out =
     let q : Walked x s l t = step_walks x s l t step in
     let says = plain x s l q.next (λ a. EndWords a t.core) q.ends.says in
@@ -97,6 +100,7 @@ module _ (x : Setting) (codes : CodesInCallbacks x.component) where
       (works_go x s l t w (λ no. absurd no) h.works) i
 
 pub ends_written_once : EndsWrittenOnce
+unfolding EndsWrittenOnce
 ends_written_once x s ls t r run sub =
     let begun = opening r.instances r.handle_limit r.capacity r.main in
     let first : Holds x begun = record {
