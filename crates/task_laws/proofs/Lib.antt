@@ -23,8 +23,7 @@ pub mod Works
 pub mod SaidEnds
 pub mod CallEnds
 pub mod OnceLemmas
-pub mod HostEnds
-pub mod GuestEnds
+pub mod StepEnds
 pub mod WrittenLaws
 pub mod NamedCalls
 pub mod NamedWorks
