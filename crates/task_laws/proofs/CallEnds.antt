@@ -139,6 +139,11 @@ telling_there k s there = at (get s.calls k) refl
     at None is = absurd (cc)
     at (Some c) is = (telling c, ap (option_map telling) is)
 
+-- so does one that has an end to tell
+pub tells_there : (k : ℕ) (e : Status) (s : Core) → undelivered_end (event_of (subtask.Guest k) s) ≡ Some e →
+    (r : Telling) × ((telling_of k s ≡ Some r) × (undelivered_end r.event ≡ Some e))
+tells_there k e s tells = let r = telling_there k s (grind arith) in let i = event_is k s r.0 r.1 in (r.0, (r.1, cc))
+
 -- ---- Each word
 
 -- no end is told by a word beside the one that ends the call
@@ -284,5 +289,6 @@ recorded s q k e tells =
     let r = telling_there k s (grind arith) in let i = event_is k s r.0 r.1 in rw (end_is k s r.0 r.1) (q.events k e r.0 r.1 (cc)).1
 
 pub told_as_recorded : EndsToldAsRecorded
+unfolding EndsToldAsRecorded
 told_as_recorded x s r k e tells = let q = recorded s.core (reached_ends_told r) k e tells in
     (q.ends, (q.is, (q.status, λ w. absurd (grind (arith, q.ran)))))

@@ -62,7 +62,7 @@ pub use Rattle.task_rules.specs.Calls.{AtOnce, call_begins, call_clears_flag, ca
 unfoldable pub use Rattle.task_rules.specs.Calls.{answered, call_answered, call_made, call_pending, call_queues, call_resumes, call_returned, call_stops, call_sync_host_stops, call_sync_stops, enter_runs, host_answered, host_pending, host_ready, with_handle, with_thread_handle, work_answered, work_deleted, work_queued}
 pub use Rattle.task_rules.specs.Cancels.{aborted_phase, AlreadyEnded, Async, behind_switch, blocked_code, CallbackWaits, CallbackYields, cancel_by_end, cancel_case, cancel_ended_row, cancel_guest, cancel_label, cancel_row, cancel_subtask, CancelCase, drop_row, is_callback_wait, Mode, OtherwiseRuns, pauses, StartNotRun, subtask_instance, subtask_row, Sync}
 unfoldable pub use Rattle.task_rules.specs.Cancels.{cancel_aborts_host, cancel_asks, cancel_goes_behind, cancel_promotes_yield, cancel_resumed, cancel_stops, cancel_takes_end, cancel_wakes_callback, cancel_withdraws, dropped}
-pub use Rattle.task_rules.specs.Chains.{Answers, Chain, Collapses, EndsByExit, EndsCall, EndsOwn, EndsSubtask, EndWords, ExitsCall, GoesBack, HandsAtOnce, HandsOut, is_over, is_running, is_take, IsReadyAtOnce, IsShift, Lands, LandsAt, LastWords, NoWord, Quits, Remains, SameMain, Settles, Shifts, SpawnsNamed, start_of, Stay, StepsAreWalks, TakesEvent, TakesResult, Then, Trip, Walk, Walked, Writes, WritesAtOnce, WritesCall, WritesNever, WritesPolled, WritesToo}
+pub use Rattle.task_rules.specs.Chains.{Answers, Chain, Collapses, EndsByExit, EndsCall, EndsOwn, EndsSubtask, EndWords, GoesBack, HandsAtOnce, HandsOut, is_over, is_running, is_take, IsReadyAtOnce, IsShift, Lands, LandsAt, LastWords, NoWord, Quits, Remains, SameMain, Settles, Shifts, SpawnsNamed, start_of, Stay, StepsAreWalks, TakesEvent, TakesResult, Then, Trip, Walk, Walked, Writes, WritesAtOnce, WritesCall, WritesNever, WritesPolled, WritesToo}
 pub use Rattle.task_rules.specs.Data.{data_row, skip_row}
 unfoldable pub use Rattle.task_rules.specs.Data.{advanced, assigned, moved_to, skipped, stored}
 pub use Rattle.task_rules.specs.Ends.{blocking_exit_row, code_kind_row, code_row, code_wait_row, direct_exit_to, exit_row_for, first_waiter, implicit_exit_row, is_told, kind_exit_row, own_or_none, result_given, sync_exit_row, thread_exit_row, waiter_told}
@@ -71,7 +71,7 @@ pub use Rattle.task_rules.specs.History.{history, Moment}
 pub use Rattle.task_rules.specs.Laws.{BlockingCheckIsAfter, CallbackCheckIsAfter, CheckMovesOne, EachStep, is_free, KeptByRuns, LaterBy, LaterCall, LaterWork, NeverFewer, OutcomeEnds, OutcomeIsLast, OverIsLast, Promotes, PromotionMovesOne, ReleaseKeepsPlaces, RemovalKeepsPlaces, RunGoesOn, RunsJoin, SameLimits, SameThread, Steady, StopKeepsPlaces, Takes, WakeKeepsPlaces}
 pub use Rattle.task_rules.specs.MainOps.{Abort, act_of, advanced_main, Answer, Await, Does, Finish, finish_act, finish_result, finished_into, is_complete, is_spawn, is_spawn_caller, line_of, main_row, MainAct, MainProgress, may_act, op_at, Pends, Quiet, Ready, Spawn, spawned_at, Start, start_act, started_at, unless_pending}
 unfoldable pub use Rattle.task_rules.specs.MainOps.{has_interesting, is_ready_for_call, main_aborted, main_spawned, main_started, start_refusal}
-pub use Rattle.task_rules.specs.Once.{begun_holder, call_end_code, changes_end, course_code, covers_end, end_code, EndsOnce, handed, hands_out, hands_out_written, holder_at_exit, holder_at_start, holds_one, is_among, is_end_of, is_known, is_other, is_start, is_written, less_holder, returned_holder, same_end, with_end, with_holder, writes_end, written}
+pub use Rattle.task_rules.specs.Once.{begun_holder, changes_end, covers_end, end_code, EndsOnce, handed, hands_out, hands_out_written, holder_at_exit, holder_at_start, holds_one, is_among, is_end_of, is_known, is_other, is_start, is_written, less_holder, returned_holder, same_end, with_end, with_holder, writes_end, written}
 pub use Rattle.task_rules.specs.OpParts.{callee_of_main_op, callee_of_op, can_come, ends_activation, is_cancel, is_code_op, is_sync_call, is_sync_cancel, is_sync_host_call, is_thread_op, is_wait, suspends, yields}
 pub use Rattle.task_rules.specs.Outcome.{main_outcome, outcome_of_label}
 pub use Rattle.task_rules.specs.Places.{entries, HasPlace, is_at_high, is_at_low, is_at_switch, is_behind_of, is_for_start, is_fresh, is_there, one_if, Placed, says, switch_entries, times}
