@@ -1,5 +1,5 @@
 -- What calls tell of their ends along the words of a step, and the results that are there for main.
-use Rattle.task_rules.proofs.Machine.{[], add_call, add_group, add_set, add_thread, add_work, after_word, Allowed, ap, arith, Bool, Call, call_made, CallEnd, Caller, change, component_of, Core, count_work, end_of, event_of, false, free_handle, free_thread_handle, fresh, get, get-empty, get-insert, get-remove, give_handle, give_result, give_thread_handle, GiveResult, Goal, goal_of, inl, inr, is_direct, is_end, is_for_main, is_guest_call, is_some, is_told, Label, LaterBy, le_trans, List, MakeCall, MayTell, nat_tests, next_thread, None, not, on_call, on_instance, on_thread, on_work, opening, Option, option_and_then, option_map, poll_pends, push_high, refl, remove_call, remove_group, remove_set, remove_thread, remove_work, RemoveCall, Run, SaysEnd, Scene, scene_of, set_backpressure, set_cancel_delivered, set_cancelled, set_course, set_do_not_enter, set_do_not_suspend, set_end, set_event, set_exited, set_how_far, set_join, set_own_event, set_phase, set_position, set_register, set_result, set_saved_callee, set_saved_own, set_script, set_stage, set_started, set_starting_published, set_subtask_handle, set_thread_handle, set_trapped, set_uninteresting, set_word, SetCallEvent, SetEnd, Setting, Some, State, Status, status_of_end, sym, take_result, TakeResult, Tells, true, undelivered_end, Walked, with_handle, with_thread_handle, Word, work_queued, ℕ, ⊎_elim, ◌&&◌, ◌∙◌, ◌∷◌, ◌≡◌, ◌≤◌, ◌⊎◌}
+use Rattle.task_rules.proofs.Machine.{[], add_call, add_group, add_set, add_thread, add_work, after_word, Allowed, ap, arith, Bool, Call, call_made, CallEnd, Caller, change, component_of, Core, count_work, end_of, EndCall, ended_as, event_of, false, free_handle, free_thread_handle, fresh, get, get-empty, get-insert, get-remove, give_handle, give_result, give_thread_handle, GiveResult, Goal, goal_of, if◌then◌else◌, inl, inr, is_direct, is_for_main, is_guest_call, is_some, is_told, Label, LaterBy, le_trans, List, MakeCall, MayEnd, MayRemoveCall, MayTell, nat_tests, next_thread, None, not, on_call, on_instance, on_thread, on_work, opening, Option, option_and_then, option_map, poll_pends, push_high, refl, remove_call, remove_group, remove_set, remove_thread, remove_work, RemoveCall, Run, SaysEnd, Scene, scene_of, set_backpressure, set_cancel_delivered, set_cancelled, set_course, set_do_not_enter, set_do_not_suspend, set_end, set_event, set_exited, set_how_far, set_join, set_own_event, set_phase, set_position, set_register, set_result, set_saved_callee, set_saved_own, set_script, set_stage, set_started, set_starting_published, set_subtask_handle, set_thread_handle, set_trapped, set_uninteresting, set_word, SetCallEvent, Setting, Some, State, Status, status_of_end, sym, take_result, TakeResult, true, undelivered_end, Walked, with_handle, with_thread_handle, Word, work_queued, ℕ, ⊎_elim, ◌&&◌, ◌∙◌, ◌∷◌, ◌≡◌, ◌≤◌, ◌⊎◌}
 use Rattle.task_laws.specs.Written.{EndsToldAsRecorded}
 use Rattle.task_laws.proofs.Basics.{some_none}
 use Rattle.task_laws.proofs.CallsLaw.{CallsGo, CallsHold, Goes}
@@ -46,31 +46,42 @@ told_is k s r is = grind arith
 pub goal_is : (k : ℕ) (s : Core) (r : Telling) → telling_of k s ≡ Some r → goal_of k s ≡ r.goal
 goal_is k s r is = grind arith
 
+abbrev pub is_withdrawn : CallEnd → Bool
+is_withdrawn call_end.StartCancelled = true
+is_withdrawn _ = false
+
+-- what it has to tell once the call comes to the end
+abbrev pub ending : CallEnd → Telling → Telling
+ending x r = record r { ends = Some x; event = if is_for_guest r && not (is_withdrawn x) then Some (status_of_end x) else r.event }
+
+ending_is : (x : CallEnd) (c : Call) → telling (ended_as x c) ≡ ending x (telling c)
+ending_is x c = grind arith
+
 -- What the word does to what the call k tells.
-data TellingCame (a : Scene) (s : Core) (k : ℕ) (o p : Option Telling) : Type 0 where
+pub data TellingCame (a : Scene) (s : Core) (k : ℕ) (o p : Option Telling) : Type 0 where
   Same : p ≡ o → TellingCame a s k o p
-  Gone : p ≡ None → TellingCame a s k o p
+  Gone : p ≡ None → MayRemoveCall a k s → TellingCame a s k o p
   Made : (f : Caller) (g : Goal) → k ≡ next_thread s → is_for_main g ≡ not (is_guest_call f) →
       p ≡ Some (record { event = None; ends = None; caller = f; goal = g }) → TellingCame a s k o p
   TellsNow : (r : Telling) (e : Option Status) → o ≡ Some r → MayTell a k e s → p ≡ Some (record r { event = e }) → TellingCame a s k o p
-  EndsNow : (r : Telling) (x : CallEnd) → o ≡ Some r → SaysEnd a k (status_of_end x) → p ≡ Some (record r { ends = Some x }) →
+  EndsNow : (r : Telling) (x : CallEnd) → o ≡ Some r → MayEnd a k x s × SaysEnd a k (status_of_end x) → p ≡ Some (ending x r) →
       TellingCame a s k o p
 
 module _ (a : Scene) where
-  abbrev CallTells : Core → ℕ → Option Call → Option Call → Type 0
+  abbrev pub CallTells : Core → ℕ → Option Call → Option Call → Type 0
   CallTells s k o p = TellingCame a s k (option_map telling o) (option_map telling p)
 
   telling_changed : (j : ℕ) (f : Call → Call) (s : Core) (k : ℕ) → ((c : Call) → CallTells s j (Some c) (Some (f c))) →
       CallTells s k (get s.calls k) (get (change j f s.calls) k)
   telling_changed j f s k own = after_change (CallTells s k) s.calls j k (λ o. Same refl) f (λ c is e. rw e (own c))
 
-  telling_came : (w : Word) (s : Core) → Allowed a w s → (k : ℕ) → TellingCame a s k (telling_of k s) (telling_of k (after_word w s))
+  pub telling_came : (w : Word) (s : Core) → Allowed a w s → (k : ℕ) → TellingCame a s k (telling_of k s) (telling_of k (after_word w s))
   unfolding add_call add_group add_set add_thread add_work count_work free_handle free_thread_handle give_handle give_result give_thread_handle on_call on_instance on_thread on_work push_high remove_call remove_group remove_set remove_thread remove_work set_backpressure set_cancel_delivered set_cancelled set_course set_do_not_enter set_do_not_suspend set_end set_event set_exited set_how_far set_join set_own_event set_phase set_position set_register set_result set_saved_callee set_saved_own set_script set_stage set_started set_starting_published set_subtask_handle set_thread_handle set_trapped set_uninteresting set_word take_result call_made with_handle with_thread_handle work_queued poll_pends
   telling_came (MakeCall f e x g group words) s ok k =
       after_insert (CallTells s k) s.calls _ k (λ o. Same refl) _ (λ at. Made f g at ok.1.1.1.1 refl)
-  telling_came (RemoveCall j) s ok k = after_remove (CallTells s k) s.calls j k (λ o. Same refl) (λ at. Gone refl)
+  telling_came (RemoveCall j) s ok k = after_remove (CallTells s k) s.calls j k (λ o. Same refl) (λ at. Gone refl (rw at ok))
   telling_came (SetCallEvent j e) s ok k = telling_changed j _ s k (λ c. TellsNow (telling c) e refl ok refl)
-  telling_came (SetEnd j x) s ok k = telling_changed j _ s k (λ c. EndsNow (telling c) x refl ok.1 refl)
+  telling_came (EndCall j x) s ok k = telling_changed j _ s k (λ c. EndsNow (telling c) x refl ok (ap (λ r. Some r) (ending_is x c)))
   telling_came w s ok k = Same (grind (arith, nat_tests, get-change))
 
 -- ---- Results
@@ -85,10 +96,6 @@ result_came a (TakeResult j) s ok k h = inl (grind (arith, nat_tests, get-remove
 result_came a w s ok k h = inl h
 
 -- ---- What holds
-
-abbrev pub is_withdrawn : CallEnd → Bool
-is_withdrawn call_end.StartCancelled = true
-is_withdrawn _ = false
 
 -- the status is that of this end, and not of a withdrawn start
 pub record IsOfEnd (e : Status) (o : Option CallEnd) : Type 0 where
@@ -132,15 +139,16 @@ telling_there k s there = at (get s.calls k) refl
     at None is = absurd (cc)
     at (Some c) is = (telling c, ap (option_map telling) is)
 
+-- so does one that has an end to tell
+pub tells_there : (k : ℕ) (e : Status) (s : Core) → undelivered_end (event_of (subtask.Guest k) s) ≡ Some e →
+    (r : Telling) × ((telling_of k s ≡ Some r) × (undelivered_end r.event ≡ Some e))
+tells_there k e s tells = let r = telling_there k s (grind arith) in let i = event_is k s r.0 r.1 in (r.0, (r.1, cc))
+
 -- ---- Each word
 
--- an end that is told is written so
-tells_end : (k : ℕ) (e : Status) (s : Core) → is_end e ≡ true → Tells e k s → IsOfEnd e (end_of k s)
-tells_end k e s h t = grind arith
-
-told_now : (a : Scene) (k : ℕ) (s : Core) (e : Status) (x : Option Status) → MayTell a k x s → undelivered_end x ≡ Some e →
-    (is_told k s ≡ true) × (SaysEnd a k e × IsOfEnd e (end_of k s))
-told_now a k s e x m h = grind (arith, tells_end k e s)
+-- no end is told by a word beside the one that ends the call
+told_none : (a : Scene) (k : ℕ) (s : Core) (e : Status) (x : Option Status) → MayTell a k x s → undelivered_end x ≡ Some e → ⊥
+told_none a k s e x m h = grind arith
 
 one_status : (a : Scene) (k : ℕ) (e f : Status) → SaysEnd a k e → SaysEnd a k f → e ≡ f
 one_status a k e f p q = grind arith
@@ -158,23 +166,26 @@ module _ {a : Scene} {s : Core} {k : ℕ} {o p : Option Telling} (came : Telling
   goal_kept g below q = grind (arith, q)
 
   events_kept : (e : Status) → undelivered_end r.event ≡ Some e →
-      ((u : Telling) → o ≡ Some u → (is_told k s ≡ is_for_guest u) × (end_of k s ≡ u.ends)) →
       ((u : Telling) → o ≡ Some u → undelivered_end u.event ≡ Some e → (is_for_guest u ≡ true) × ToldOrWritten a k e u.ends) →
       (is_for_guest r ≡ true) × ToldOrWritten a k e r.ends
-  events_kept e tells read q = go came
+  events_kept e tells q = go came
     where
       ends_now : (u : Telling) (x : CallEnd) → SaysEnd a k (status_of_end x) → ToldOrWritten a k e u.ends → ToldOrWritten a k e (Some x)
       ends_now u x says (inl before) = inl before
       ends_now u x says (inr now) = inr (now.0, ended_again e u.ends x (one_status a k (status_of_end x) e says now.0) now.1)
 
+      ends : (u : Telling) (x : CallEnd) → o ≡ Some u → SaysEnd a k (status_of_end x) → (b : Bool) → (is_for_guest u && not (is_withdrawn x)) ≡ b →
+          undelivered_end (if b then Some (status_of_end x) else u.event) ≡ Some e → (is_for_guest u ≡ true) × ToldOrWritten a k e (Some x)
+      ends u x was says true is h = let same : status_of_end x ≡ e = grind arith in
+          (grind arith, inr (rw (← same) says, record { ends = x; is = refl; status = same; ran = grind arith }))
+      ends u x was says false is h = let g = q u was h in (g.0, ends_now u x says g.1)
+
       go : TellingCame a s k o p → (is_for_guest r ≡ true) × ToldOrWritten a k e r.ends
       go (Same is) = q r (cc) tells
-      go (Gone is) = absurd (cc)
+      go (Gone is may) = absurd (cc)
       go (Made f g number fits is) = absurd (grind arith)
-      go (TellsNow u x was m is) = let n = told_now a k s e x m (cc) in let i = read u was in
-          let same : r ≡ record u { event = x } = cc in rw same (sym i.0 ∙ n.0, inr (n.1.0, rw i.1 at n.1.1))
-      go (EndsNow u x was m is) = let same : r ≡ record u { ends = Some x } = cc in let h = q u was (cc) in
-          rw same (h.0, ends_now u x m h.1)
+      go (TellsNow u x was m is) = absurd (told_none a k s e x m (cc))
+      go (EndsNow u x was m is) = let same : r ≡ ending x u = cc in rw same (ends u x was m.1 (is_for_guest u && not (is_withdrawn x)) refl (sym (ap (λ y. undelivered_end y.event) same) ∙ tells))
 
 module _ (a : Scene) (w : Word) (s : Core) (ok : Allowed a w s) (q : EndsGo a s)
     (numbered : (k : ℕ) → is_some (get s.calls k) ≡ true → k ≤ s.made.threads) where
@@ -202,8 +213,7 @@ module _ (a : Scene) (w : Word) (s : Core) (ok : Allowed a w s) (q : EndsGo a s)
   pub word_ends : a.base.made.threads ≤ s.made.threads → EndsGo a (after_word w s)
   word_ends counted = record {
     goals = λ k r at. goals_kept (telling_came a w s ok k) r at (q.goals k);
-    events = λ k e r at tells. events_kept (telling_came a w s ok k) r at e tells (λ u is. (told_is k s u is, end_is k s u is))
-        (q.events k e);
+    events = λ k e r at tells. events_kept (telling_came a w s ok k) r at e tells (q.events k e);
     results = results_after;
     same = λ k r at old. goal_kept (telling_came a w s ok k) r at (goal_of k a.base) (le_trans old counted) (λ u is. q.same k u is old);
   }
@@ -279,5 +289,6 @@ recorded s q k e tells =
     let r = telling_there k s (grind arith) in let i = event_is k s r.0 r.1 in rw (end_is k s r.0 r.1) (q.events k e r.0 r.1 (cc)).1
 
 pub told_as_recorded : EndsToldAsRecorded
+unfolding EndsToldAsRecorded
 told_as_recorded x s r k e tells = let q = recorded s.core (reached_ends_told r) k e tells in
     (q.ends, (q.is, (q.status, λ w. absurd (grind (arith, q.ran)))))

@@ -257,7 +257,7 @@ module _ (a : Scene) (codes : CodesInCallbacks (component_of a)) (h : CallsHold 
         by (IsGone e) = some_none (sym at ∙ e)
         by (IsBeside u is l same m e) = let same : t ≡ new_thread (task_of m.0 a.base) true (script.Slot m.1.1.1.0) (registers_for (m.1.1.1.1.0 ∷ [])) None = cc in
             let g = known m.0 m.1.0 in rw same (record {
-              script = m.1.1.1.1.1.1.1;
+              script = m.1.1.1.1.1.1.1.0;
               call = λ d. g;
               first = λ d. absurd (subst T (sym d) tt);
               position = inl refl;

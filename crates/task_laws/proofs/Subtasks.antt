@@ -8,6 +8,7 @@ use Rattle.task_machine.proofs.CommuteLemmas.{get-change}
 use Rattle.task_machine.specs.declared.records.HowFar.TheVariants as how_far
 use Rattle.task_machine.specs.declared.records.Named.TheVariants as named
 use Rattle.task_machine.specs.declared.records.Subtask.TheVariants as subtask
+use Rattle.task_rules.proofs.WalkParts.{cancels_own}
 
 -- a subtask of the thread, or a new one
 abbrev Known : Scene → Core → Subtask → Type 0
@@ -43,8 +44,8 @@ module _ (a : Scene) (s : Core) where
   come_known n (how_far.Calls (subtask.Guest k)) (is, inl was) = (n, inl (ByOp (ap (λ f. subtask_under_way f) was.0)))
   come_known n (how_far.Calls (subtask.Guest k)) (is, inr new) = (n, inr new.0)
   come_known n (how_far.Calls (subtask.Host i)) ok = (n, inr ok.1.0)
-  come_known n (how_far.Cancels sub) ok = (n, inl ok.1)
-  come_known n (how_far.AwaitsEnd sub) ok = (n, inl ok.1)
+  come_known n (how_far.Cancels sub) ok = (n, inl (cancels_own a n sub ok.1))
+  come_known n (how_far.AwaitsEnd sub) ok = (n, inl (cancels_own a n sub ok.1))
   come_known n f ok = tt
 
 -- ---- Calls that were made

@@ -1,5 +1,5 @@
 -- Entries that are taken out, entries of works, and new threads, beside a busy thread.
-use Rattle.task_rules.proofs.Machine.{[], get, add_thread, ap, arith, Bool, callers_of, cond, Core, entries, Entry, false, get-insert, has_entry, HasPlace, if◌then◌else◌, is_behind_of, is_entry_of, is_fresh, is_some, le_refl, less, less_switch, List, Mark, nat_tests, next_entry, None, on_thread, one_if, Option, Place, place_of, popped, promoted, put_switch, Queues, refl, remove_thread, rest_of, says, set_high, set_low, set_place, set_switch, Some, subst, switch_entries, sym, T, Thread, times, true, unqueued, Why, why_of, ℕ, ◌++◌, ◌+◌, ◌==◌, ◌∙◌, ◌∷◌, ◌≡◌, ◌≤◌}
+use Rattle.task_rules.proofs.Machine.{[], add_thread, ap, arith, Bool, Core, entries, Entry, false, get, get-insert, has_entry, HasPlace, if◌then◌else◌, is_behind_of, is_entry_of, is_fresh, le_refl, less, less_switch, List, Mark, nat_tests, next_entry, None, on_thread, one_if, Option, Place, place_of, popped, promoted, Queues, refl, remove_thread, rest_of, says, set_high, set_low, set_place, set_switch, Some, subst, switch_entries, sym, T, Thread, true, unqueued, Why, why_of, ℕ, ◌++◌, ◌+◌, ◌==◌, ◌∙◌, ◌∷◌, ◌≡◌, ◌≤◌}
 use Rattle.task_machine.specs.declared.records.Entry.TheVariants as entry
 use Rattle.task_machine.specs.declared.records.Place.TheVariants as place
 use Rattle.task_machine.specs.declared.words.Mark.TheVariants as mark

@@ -1,9 +1,8 @@
 -- A thread inside a sync call of a host waits for its work, or that is done; and host works have their entries: along the words of a step.
-use Rattle.task_rules.proofs.Machine.{[], after_placing, after_word, Allowed, ap, arith, behind_one, Bool, Collapses, Core, Departs, EndsOver, Enter, false, get, GoBehind, GoesBack, how_far_of, inl, inr, is_none, is_some, is_stage_ended, IsRunner, Label, Lands, LandsAt, Made, MayCome, MayLand, MayRemoveWork, Move, Option, option_map_or, Place, place_of, Places, Placing, push_high, push_low, Put, put_high, put_low, Quits, refl, Remains, RemoveThread, Scene, scene_of, set_callers, set_place, SetHowFar, Setting, Settles, Some, stage_of, State, Stay, subst, Subtask, sym, Thread, Trip, true, Walked, WasUnder, Word, Work, ℕ, ⊎_elim, ◌==◌, ◌∙◌, ◌≡◌, ◌≤◌, ◌⊎◌}
+use Rattle.task_rules.proofs.Machine.{[], after_placing, after_word, Allowed, ap, arith, behind_one, Bool, Collapses, Core, Departs, EndsOver, Enter, false, get, GoBehind, GoesBack, how_far_of, inl, inr, is_stage_ended, IsRunner, Label, Lands, LandsAt, Made, MayCome, MayLand, MayRemoveWork, Move, Option, option_map_or, Place, place_of, Places, Placing, push_high, push_low, Put, put_high, put_low, Quits, refl, Remains, RemoveThread, Scene, scene_of, set_callers, set_place, SetHowFar, Setting, Settles, Some, stage_of, State, Stay, subst, Subtask, sym, Thread, Trip, true, Walked, WasUnder, Word, Work, ℕ, ⊎_elim, ◌==◌, ◌∙◌, ◌≡◌, ◌≤◌, ◌⊎◌}
 use Rattle.task_machine.specs.declared.records.Stage.TheVariants as stage
 use Rattle.task_places.proofs.PlaceSteps.{Reads, Withdrawable, step_by}
 use Rattle.task_rules.proofs.PlacingLemmas.{placing_shifted, SameWorks}
-use Rattle.task_rules.proofs.MoveLemmas.{is_busy}
 use Rattle.task_rules.proofs.WalkMoves.{blocked_place}
 use Rattle.task_laws.proofs.CallsCame.{IsBeside, IsFirst, IsGone, IsSame, ThreadAfter, thread_came}
 use Rattle.task_laws.specs.Order.{HostsAwaited, WorksQueued, InPlace}
@@ -12,7 +11,8 @@ use Rattle.task_machine.specs.declared.records.Place.TheVariants as place
 use Rattle.task_machine.specs.declared.records.Subtask.TheVariants as subtask
 use Rattle.task_machine.specs.declared.words.Mark.TheVariants as mark
 use Rattle.task_places.proofs.PlaceLaw.{Frame, beside, exits, move_runner, no_way, runner_there, stands, stay_word, stuck_word, watch, yield_leaves}
-use Rattle.task_places.proofs.WorksQueued.{ended_word, works_word, made_works_word, others_move}
+use Rattle.task_places.proofs.WorksQueued.{ended_word, works_word, others_move}
+use Rattle.task_laws.proofs.CountLemmas.{made_works_word}
 use Rattle.task_rules.proofs.ChainLemmas.{along, fall_allowed, land_allowed, stays_allowed, settle_stays}
 use Rattle.task_rules.proofs.StandLemmas.{Stand, by_number, place_kept}
 
@@ -24,13 +24,14 @@ Stuck w s = (m i : ℕ) → place_of m s ≡ Some (place.Blocked (subtask.Host i
 abbrev Awaited : ℕ → ℕ → Core → Type 0
 Awaited n i s = (i ≤ s.made.works) × ((place_of n s ≡ Some (place.Blocked (subtask.Host i))) ⊎ (is_stage_ended (stage_of i s) ≡ true))
 
-awaited_word : (a : Scene) (w : Word) (s : Core) → Allowed a w s → WorksQueued s → Stuck w s → HostsAwaited s → HostsAwaited (after_word w s)
-awaited_word a w s ok q stuck h n i far = go (thread_came w s ok n)
+awaited_word : (a : Scene) (w : Word) (s : Core) → Allowed a w s → ((i : ℕ) → MayRemoveWork a i s → is_stage_ended (stage_of i s) ≡ true) →
+    WorksQueued s → Stuck w s → HostsAwaited s → HostsAwaited (after_word w s)
+awaited_word a w s ok ends q stuck h n i far = go (thread_came w s ok n)
   where
     goes : (r u : Thread) → get s.threads n ≡ Some r → get (after_word w s).threads n ≡ Some u → (u.place ≡ r.place) ⊎ ((x : Placing) × (w ≡ Places x)) →
         Awaited n i s → Awaited n i (after_word w s)
-    goes r u e f (inl same) old = let l = ended_word a w s ok q i old.0 in let m = made_works_word w s in let o = old.1 in grind arith
-    goes r u e f (inr x) old = let l = ended_word a w s ok q i old.0 in let m = made_works_word w s in let o = old.1 in
+    goes r u e f (inl same) old = let l = ended_word a w s ok ends q i old.0 in let m = made_works_word a w s in let o = old.1 in grind arith
+    goes r u e f (inr x) old = let l = ended_word a w s ok ends q i old.0 in let m = made_works_word a w s in let o = old.1 in
         let b = λ (at : place_of n s ≡ Some (place.Blocked (subtask.Host i))). stuck n i at x.0 x.1 in grind arith
 
     come : (r : Thread) → get s.threads n ≡ Some r → MayCome a n (how_far.Calls (subtask.Host i)) s → Awaited n i s
@@ -62,10 +63,10 @@ goes_ended a i s asked h ok =
 
 working_word : (a : Scene) → Asked a → (w : Word) (s : Core) → Allowed a w s → Stuck w s → Working a s → Working a (after_word w s)
 working_word a asked w s ok stuck h = record {
-  works = works_word a w s ok (λ i e. goes_ended a i s asked h (subst (λ (y : Word). Allowed a y s) e ok)) h.works;
-  awaited = awaited_word a w s ok h.works stuck h.awaited;
-  made = omega (arith, h.made, made_works_word w s);
-  ended = λ i below e. ended_word a w s ok h.works i (omega (arith, below, h.made)) (h.ended i below e);
+  works = works_word a w s ok (λ i e. goes_ended a i s asked h e) h.works;
+  awaited = awaited_word a w s ok (λ i e. goes_ended a i s asked h e) h.works stuck h.awaited;
+  made = omega (arith, h.made, made_works_word a w s);
+  ended = λ i below e. ended_word a w s ok (λ i e. goes_ended a i s asked h e) h.works i (omega (arith, below, h.made)) (h.ended i below e);
 }
 
 -- ---- Trips

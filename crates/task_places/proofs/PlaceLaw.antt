@@ -1,8 +1,8 @@
 -- Where each thread is along the words of a step: each has its place, and one that waits for its start still does, or its call has begun.
-use Rattle.task_rules.proofs.Machine.{[], add_call, add_group, add_set, add_work, after_placing, after_word, ap, arith, AwaitsEvent, behind_one, Blocks, Bool, Call, call_made, Collapses, Core, count_work, Departs, EndsOver, Enter, entries, Falls, false, FinishWork, free_handle, free_thread_handle, get, give_handle, give_result, give_thread_handle, GoBehind, GoesBack, has_entry, HasPlace, HasSubtask, Holds, HowFar, if◌then◌else◌, inl, inr, is_at_high, is_at_low, is_at_switch, is_begun, is_blocked_on, is_done_host, is_explicit, is_for_start, is_free, is_fresh, is_none, is_some, is_there, is_under, IsFall, IsFoot, IsRunner, IsSettling, Lands, LandsAt, LastWords, le_refl, Leaves, MakeCall, MakeThread, Mark, MayGo, MayLand, MayMove, MayPut, MayYield, Move, nat_tests, new_call, new_thread, next_thread, None, on_call, on_instance, on_thread, on_work, Option, option_map, option_map_or, Place, place_of, Places, Placing, poll_pends, Promote, promoted, push_high, Put, put_high, put_low, QueueWork, Quits, refl, registers_for, Remains, remove_call, remove_group, remove_set, remove_thread, remove_work, RemoveThread, Runs, says, Scene, set_backpressure, set_cancel_delivered, set_cancelled, set_course, set_do_not_enter, set_do_not_suspend, set_end, set_event, set_exited, set_how_far, set_join, set_own_event, set_phase, set_place, set_position, set_register, set_result, set_saved_callee, set_saved_own, set_script, set_stage, set_started, set_starting_published, set_subtask_handle, set_thread_handle, set_trapped, set_uninteresting, set_word, Settles, SetTrapped, SetUninteresting, Some, Stay, Stays, Stop, subst, Subtask, Suspends, switch_entries, sym, T, take_result, TakeHost, TakePush, task_of, Thread, times, Trip, true, Turn, Uncovers, unwrap_or, Waits, WaitsAgain, was_started, Why, with_handle, with_thread_handle, Withdraw, Word, work_queued, ℕ, ◌+◌, ◌==◌, ◌||◌, ◌∙◌, ◌∷◌, ◌≡◌, ◌≤◌, ◌⊎◌, ⊎_elim}
+use Rattle.task_rules.proofs.Machine.{[], add_call, add_group, add_set, add_work, after_placing, after_word, ap, arith, AwaitsEvent, Blocks, Bool, ByHandle, Call, call_made, Collapses, Core, count_work, Departs, EndsOver, Enter, entries, Falls, false, free_handle, free_thread_handle, get, give_handle, give_result, give_thread_handle, GoBehind, GoesBack, has_entry, HasPlace, HasSubtask, Holds, HowFar, if◌then◌else◌, inl, inr, is_at_high, is_at_low, is_at_switch, is_begun, is_blocked_on, is_done_host, is_explicit, is_for_start, is_free, is_fresh, is_none, is_some, is_there, is_under, IsFall, IsFoot, IsRunner, IsSettling, Lands, LandsAt, LastWords, le_refl, Leaves, MakeCall, MakeThread, Mark, MayGo, MayLand, MayMove, MayPut, MayWithdraw, MayYield, Move, nat_tests, new_thread, next_thread, None, on_call, on_instance, on_thread, on_work, Option, option_map, option_map_or, Place, place_of, Places, Placing, poll_pends, Promote, promoted, push_high, Put, put_high, put_low, Quits, refl, registers_for, Remains, remove_call, remove_group, remove_set, remove_thread, remove_work, RemoveThread, Runs, says, Scene, set_backpressure, set_cancel_delivered, set_cancelled, set_course, set_do_not_enter, set_do_not_suspend, set_end, set_event, set_exited, set_how_far, set_join, set_own_event, set_phase, set_place, set_position, set_register, set_result, set_saved_callee, set_saved_own, set_script, set_stage, set_started, set_starting_published, set_subtask_handle, set_thread_handle, set_trapped, set_uninteresting, set_word, Settles, SetTrapped, SetUninteresting, Some, Stay, Stays, Stop, subst, Subtask, Suspends, switch_entries, sym, T, take_result, TakeHost, TakePush, task_of, Thread, Trip, true, Turn, Uncovers, Waits, WaitsAgain, was_started, Why, with_handle, with_thread_handle, Withdraw, Word, work_queued, ℕ, ⊎_elim, ◌+◌, ◌==◌, ◌||◌, ◌∙◌, ◌≡◌, ◌≤◌, ◌⊎◌}
 use Rattle.task_rules.proofs.WalkMoves.{blocked_place}
 use Rattle.task_machine.proofs.CommuteLemmas.{get-change}
-use Rattle.task_places.proofs.Entries.{added_stand, has_stands, next_first, popped_quiet, promoted_stand, pushed_same, removed_fresh, withdrawn_stand, flipped}
+use Rattle.task_places.proofs.Entries.{added_stand, has_stands, next_first, popped_quiet, promoted_stand, removed_fresh, withdrawn_stand, flipped}
 use Rattle.task_laws.proofs.CameLemmas.{read_same}
 use Rattle.task_rules.proofs.ChainLemmas.{along}
 use Rattle.task_rules.proofs.MoveLemmas.{removed_is, All, all_of, idle_loose, is_busy, is_idle, is_parked, loose_idle, put_stand, removed_all, no_time, one_time, stand_of, removed_gone, removed_placed, removed_loose, gone_place}
@@ -158,6 +158,9 @@ module _ {a : Scene} {b : Core} {n : ℕ} {q : Option Place} (f : Follows a b n 
       let u = popped_quiet x (entry.Host i) s (next_first s x (entry.Host i) ok) (λ k. refl) in quiet_stand n q [] s _ (grind arith) st
   keeps_word w s ok puts fresh st = quiet_stand n q [] s _ (grind (arith, nat_tests, get-change, entries-append)) st
 
+  withdraws_waits : (k : ℕ) (s : Core) → MayWithdraw a k s → waits a k ≡ true
+  withdraws_waits k s may = let g = may.1.1.0 in f.withdraws g.0 k g.1.1.0 (ByHandle g.1.0 g.1.1.1) may.1.1.1.1.1.1
+
   pub stay_word : (w : Word) (s : Core) → Stays a w s → Stand (watch a) n q [] s → Stand (watch a) n q [] (after_word w s)
   stay_word w s ok st = keeps_word w s ok (λ x m v e g so. puts x m v (subst (λ (y : Word). Stays a y s) e ok) so)
       (λ k e. waiting k (subst (λ (y : Word). Stays a y s) e ok)) st
@@ -171,7 +174,7 @@ module _ {a : Scene} {b : Core} {n : ℕ} {q : Option Place} (f : Follows a b n 
       puts x m v (inr may) so = absurd may
 
       waiting : (k : ℕ) → Stays a (Withdraw k) s → is_fresh (place_of k s) ≡ true
-      waiting k may = fresh_still a st k (f.withdraws may.0 k may.1.0 may.1.1.0 may.1.1.1.1.1.1)
+      waiting k may = fresh_still a st k (withdraws_waits k s may)
 
   -- a thread that is blocked stays so, but where its host's work is done
   pub stuck_word : (m : ℕ) (sub : Subtask) (w : Word) (s : Core) → Stays a w s → Stand (watch a) n q [] s →
@@ -188,7 +191,7 @@ module _ {a : Scene} {b : Core} {n : ℕ} {q : Option Place} (f : Follows a b n 
       by_put true e = inr (put_done a m sub w s ok at e)
       by_put false e =
           let t = keeps_word w s ok (λ x k v is g so. let p = ap (puts_of m) is in absurd (grind (arith, nat_tests)))
-          (λ k is. fresh_still a st k (let may = subst (λ (y : Word). Stays a y s) is ok in f.withdraws may.0 k may.1.0 may.1.1.0 may.1.1.1.1.1.1)) before in
+          (λ k is. fresh_still a st k (withdraws_waits k s (subst (λ (y : Word). Stays a y s) is ok))) before in
           let kept = t.kept m in
           inl (blocked_place sub (place_of m (after_word w s)) (grind (arith, nat_tests)))
 
@@ -202,13 +205,14 @@ abbrev pub Begun : Scene → ℕ → Core → Type 0
 Begun a k t = ((is_there k a.base ≡ true) × (is_explicit k a.base ≡ false → is_begun (task_of k a.base) t ≡ true)) ⊎ (is_begun k t ≡ true)
 
 -- Each thread has its place, and the one whose turn comes runs; who waited for its start still does, or its call has begun; who was under
--- another still is, or that one is gone; and one that was made and runs has another under it.
+-- another still is, or that one is gone and its turn comes, or it's gone too; and one that was made and runs has the runner under it.
 pub record Arrives (a : Scene) (t : Core) : Type 0 where
   pub placed : All t
   pub runs : (m : ℕ) → a.next ≡ turn.Run m → place_of m t ≡ Some place.Running
   pub fresh : (k : ℕ) → waits a k ≡ true → (is_fresh (place_of k t) ≡ true) ⊎ Begun a k t
-  pub covered : (k m : ℕ) → place_of k a.base ≡ Some (place.Under m) → (place_of k t ≡ Some (place.Under m)) ⊎ (place_of m t ≡ None)
-  pub entered : (m : ℕ) → place_of m a.base ≡ None → a.next ≡ turn.Run m → (n : ℕ) × (place_of n t ≡ Some (place.Under m))
+  pub covered : (k m : ℕ) → place_of k a.base ≡ Some (place.Under m) → (place_of k t ≡ Some (place.Under m)) ⊎
+      ((place_of m t ≡ None) × ((a.next ≡ turn.Run k) ⊎ (place_of k t ≡ None)))
+  pub entered : (m : ℕ) → place_of m a.base ≡ None → a.next ≡ turn.Run m → (n : ℕ) × (IsRunner a n × (place_of n t ≡ Some (place.Under m)))
 
 far_arrives : (a : Scene) (n : ℕ) (h : HowFar) (s : Core) → Arrives a s → Arrives a (set_how_far n h s)
 unfolding set_how_far on_thread
@@ -219,7 +223,7 @@ far_arrives a n h s r =
       runs = λ m to. u.places m ∙ r.runs m to;
       fresh = λ k w. let e = same k in let h = r.fresh k w in grind arith;
       covered = λ k m at. let e = same k in let g = same m in let h = r.covered k m at in grind arith;
-      entered = λ m none to. let e = r.entered m none to in (e.0, u.places e.0 ∙ e.1);
+      entered = λ m none to. let e = r.entered m none to in (e.0, (e.1.0, u.places e.0 ∙ e.1.1));
     }
   where
     same : (k : ℕ) → place_of k (on_thread n (λ t. record t { how_far = h }) s) ≡ place_of k s
@@ -298,7 +302,7 @@ module _ {a : Scene} {b : Core} {n : ℕ} {p : Place} (h : Beside a b n p) {s : 
             inl (grind (arith, nat_tests, set_place_is k n (place.Under m) u, set_place_is k m place.Running s, fresh_still a stands k w, own)));
         covered = λ k j under. let still = covered_still a stands k j under in
             inl (grind (arith, nat_tests, set_place_is k n (place.Under m) u, set_place_is k m place.Running s, h.home, h.top));
-        entered = λ k none to. (n, let e = one_runner k m (sym to ∙ ok.1.0) in grind (arith, place_written n (place.Under m) p u at));
+        entered = λ k none to. (n, (h.runner, let e = one_runner k m (sym to ∙ ok.1.0) in grind (arith, place_written n (place.Under m) p u at)));
       }
     where
       apart : (m == n) ≡ false
@@ -325,7 +329,7 @@ record Falling (a : Scene) (n : ℕ) (s : Core) : Type 0 where
   pub own : Loose n s
   pub idle : (k : ℕ) → is_idle (place_of k a.base) ≡ true → is_idle (place_of k s) ≡ true
   pub fresh : (k : ℕ) → waits a k ≡ true → is_fresh (place_of k s) ≡ true
-  pub covered : (k m : ℕ) → place_of k a.base ≡ Some (place.Under m) → (place_of k s ≡ Some (place.Under m)) ⊎ (place_of m s ≡ None)
+  pub covered : (k m : ℕ) → place_of k a.base ≡ Some (place.Under m) → (place_of k s ≡ Some (place.Under m)) ⊎ ((place_of m s ≡ None) × (place_of k s ≡ None))
 
 -- How the words begin and end beside the thread n, which runs or was taken; or there is no such thread.
 pub record Frame (a : Scene) (b : Core) (n : ℕ) (q : Option Place) : Type 0 where
@@ -347,7 +351,7 @@ module _ {a : Scene} {b : Core} {n : ℕ} {q : Option Place} (f : Frame a b n q)
   pub runner_there : (k : ℕ) (s : Core) → IsRunner a k → Stay a b s → is_none (get s.threads k) ≡ false
   runner_there k s is c = let here = (stands (beside k is).1 c).here in grind arith
 
-  no_cover : (k m : ℕ) → IsRunner a k → place_of k a.base ≡ Some (place.Under m) → {A : Type 0} → A
+  pub no_cover : (k m : ℕ) → IsRunner a k → place_of k a.base ≡ Some (place.Under m) → {A : Type 0} → A
   no_cover k m is at = let h = (beside k is).1 in let home = h.home in let top = h.top in absurd (grind arith)
 
   moves : (k : ℕ) (r : Place) (s : Core) → MayMove a k r s → Stay a b s → Arrives a (set_place k r s)
@@ -355,8 +359,11 @@ module _ {a : Scene} {b : Core} {n : ℕ} {q : Option Place} (f : Frame a b n q)
   moves k r s (Runs is to starts at) c =
       let h = beside k is in
       comes h.1 c r _ (set_place_adds k r h.0 s (ap is_free at) (stands h.1 c).here) (λ m next. (one_runner m k (sym next ∙ to), at))
-      (λ w. inr (inl (ap (λ (o : Option Place). is_some o) h.1.home, λ implicit. let x = fresh_ready h.0 h.1.follows.busy (ap is_fresh (sym h.1.home) ∙ w) in
-          starts implicit (x.0, h.1.home ∙ ap (λ (y : Place). Some y) x.1))))
+      (λ w. inr (inl (
+        ap (λ (o : Option Place). is_some o) h.1.home,
+        λ implicit. let x = fresh_ready h.0 h.1.follows.busy (ap is_fresh (sym h.1.home) ∙ w) in
+            starts implicit (x.0, h.1.home ∙ ap (λ (y : Place). Some y) x.1),
+      )))
   moves k r s (Holds w l was at) c =
       let h = beside k l.0 in
       comes h.1 c r _ (set_place_adds k r h.0 s (ap is_free at) (stands h.1 c).here) (λ m next. not_main m (sym l.1 ∙ next)) (λ g. inl (let e = was.1 in grind arith))
@@ -490,6 +497,6 @@ module _ {a : Scene} {b : Core} {n : ℕ} {q : Option Place} (f : Frame a b n q)
             (λ e. subst (λ (j : ℕ). HasPlace j t) (sym e) (loose_idle n (place_of n t) t refl (f.rests t w (h.idle n)) h.own)) (λ e. h.others k e);
         runs = λ m to. absurd (cc);
         fresh = λ k g. inl (h.fresh k g);
-        covered = h.covered;
+        covered = λ k m at. ⊎_elim inl (λ g. inr (g.0, inr g.1)) (h.covered k m at);
         entered = λ m none to. absurd (cc);
       }

@@ -41,7 +41,7 @@ shift_keeps a _ s ok = absurd ok
 
 pub settle_keeps : (a : Scene) (w : Word) (s : Core) → IsSettling w s → Keeps a w s
 settle_keeps a (SetUninteresting k) s ok = tt
-settle_keeps a (RemoveCall k) s ok = ok
+settle_keeps a (RemoveCall k) s ok = (ok.0, inl ok.1)
 settle_keeps a (RemoveGroup g) s ok = ok
 settle_keeps a _ s ok = absurd ok
 
@@ -65,7 +65,7 @@ land_allowed a _ s ok = inr ok
 
 pub settle_stays : (a : Scene) (w : Word) (s : Core) → IsSettling w s → Stays a w s
 settle_stays a (SetUninteresting k) s ok = tt
-settle_stays a (RemoveCall k) s ok = ok
+settle_stays a (RemoveCall k) s ok = (ok.0, inl ok.1)
 settle_stays a (RemoveGroup g) s ok = ok
 settle_stays a _ s ok = absurd ok
 

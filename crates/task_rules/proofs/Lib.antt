@@ -1,4 +1,5 @@
 pub mod Machine
+pub mod CallThreads
 pub mod LawLemmas
 pub mod PromotionLemmas
 pub mod ChainLemmas

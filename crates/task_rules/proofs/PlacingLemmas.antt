@@ -1,7 +1,6 @@
 -- A change of where threads are leaves all else.
-use Rattle.task_rules.proofs.Machine.{[], after_placing, after_word, ap, ap₂, arith, behind, behind_one, Bool, Call, callers_of, Chain, Core, displaced, Enter, Entry, false, foot_of, get, GoBehind, has_entry, how_far_of, if◌then◌else◌, inl, inr, instance_of, is_explicit, IsShift, less, List, Mark, may, MayLeave, MayShift, Move, newest, next_entry, no_callee, None, older, on_thread, Option, option_map, option_map_or, or_high, passed_on, Place, placed_as, Places, Placing, Pop, popped, Promote, promoted, push_high, push_high_first, push_low, Put, put_high, put_low, put_switch, refl, rest_of, resumed_all, Scene, set_callers, set_high, set_low, set_place, set_switch, Shifts, Some, Stop, stopped, subst, sym, task_of, Then, Thread, true, unqueued, Why, why_of, Word, ℕ, ◌++◌, ◌∙◌, ◌∷◌, ◌≡◌, ◌⊎◌}
+use Rattle.task_rules.proofs.Machine.{[], after_placing, after_word, ap, arith, behind, behind_one, Bool, callers_of, Chain, Core, Entry, false, foot_of, get, has_entry, how_far_of, if◌then◌else◌, inl, inr, instance_of, is_explicit, IsShift, less, List, Mark, may, MayLeave, MayShift, nat_tests, newest, next_entry, None, older, on_thread, Option, option_map, or_high, passed_on, Place, placed_as, Places, Placing, Pop, popped, Promote, promoted, push_high, push_high_first, push_low, Put, put_high, put_low, put_switch, refl, rest_of, resumed_all, Scene, set_callers, set_high, set_low, set_place, set_switch, Shifts, Some, Stop, stopped, subst, sym, task_of, Then, Thread, true, unqueued, Why, Word, ℕ, ◌++◌, ◌∙◌, ◌∷◌, ◌≡◌, ◌⊎◌}
 use Rattle.task_machine.proofs.CommuteLemmas.{get-change}
-use Rattle.std.proofs.lemmas.Bool.Decides.{nat_tests}
 use Rattle.task_machine.specs.declared.records.HowFar.TheVariants as how_far
 use Rattle.task_rules.proofs.ChainLemmas.{along}
 use Rattle.task_machine.specs.declared.records.Entry.TheVariants as entry

@@ -1,5 +1,5 @@
 -- Threads and their entries, counted; what the words that put a thread do to them.
-use Rattle.task_rules.proofs.Machine.{[], ap, arith, Bool, callers_of, cond, Core, entries, Entry, eq-eqb, eqb-false, eqb-true, false, get, has_entry, HasPlace, if◌then◌else◌, is_at_high, is_at_low, is_at_switch, is_behind_of, is_blocked_on, is_entry_of, is_free, is_fresh, is_some, is_there, is_under, le_trans, less, List, nat_tests, newest, None, older, on_thread, one_if, Option, option_map, option_map_or, Place, place_of, push_high, push_low, put_high, put_low, Queues, Records, refl, says, set_place, Some, subst, Subtask, switch_entries, sym, times, true, unwrap_or, Why, ℕ, ◌++◌, ◌+◌, ◌==◌, ◌∙◌, ◌∷◌, ◌≡◌, ◌≢◌, ◌≤◌, ◌⊎◌}
+use Rattle.task_rules.proofs.Machine.{[], ap, arith, Bool, callers_of, cond, Core, entries, Entry, eq-eqb, eqb-false, eqb-true, false, get, has_entry, HasPlace, if◌then◌else◌, is_at_high, is_at_low, is_at_switch, is_behind_of, is_blocked_on, is_entry_of, is_free, is_fresh, is_there, is_under, le_trans, less, List, nat_tests, newest, None, older, on_thread, one_if, Option, option_map, option_map_or, Place, place_of, push_high, push_low, put_high, put_low, refl, says, set_place, Some, subst, Subtask, switch_entries, sym, times, true, Why, ℕ, ◌++◌, ◌+◌, ◌==◌, ◌∙◌, ◌∷◌, ◌≡◌, ◌≢◌, ◌≤◌, ◌⊎◌}
 use Rattle.task_machine.specs.declared.records.Entry.TheVariants as entry
 use Rattle.task_machine.specs.declared.words.Mark.TheVariants as mark
 use Rattle.task_machine.specs.declared.records.Place.TheVariants as place
@@ -263,8 +263,11 @@ pub moves_stand : {P : ℕ → Watch} (n : ℕ) (q : Option Place) (xs : List �
     Stand P n q xs s → Stand P n q xs t
 moves_stand {P = P} n q xs m p r s u t drops adds is none so st =
     let bare : Stand nobody n q xs s = watching n q xs s (λ k h. absurd (grind arith)) st in
-    watching n q xs t (λ k h. let was = st.kept k h in (was.0, by_number k m _ (λ e. grind (arith, e, ap P e, adds.own, was.1))
-        (λ e. grind (arith, drops.places k, adds.other k e, was.1))))
+    watching n q xs t (λ k h. let was = st.kept k h in (
+      was.0,
+      by_number k m _ (λ e. grind (arith, e, ap P e, adds.own, was.1))
+          (λ e. grind (arith, drops.places k, adds.other k e, was.1)),
+    ))
     (adds_stand m r u t adds n q xs (drops_stand n q m p xs s u drops is none bare))
 
 -- nothing is taken up of a thread at a free place

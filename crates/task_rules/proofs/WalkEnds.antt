@@ -1,7 +1,14 @@
 -- The end of a task as a chain of words.
-use Rattle.task_rules.proofs.Machine.{ap, arith, Call, CallEnd, Caller, caller_of, cancelled, Core, end_of, false, get, give_result, GiveResult, Goal, goal_of, is_told, is_waiting_on, join_of, MayEnd, nat_tests, None, on_call, on_thread, Option, option_map, option_map_or, place_of, refl, result_given, returned, SaysEnd, Scene, set_end, set_register, set_result, SetEnd, SetRegister, SetResult, Some, sym, told, true, ℕ, ◌∙◌, ◌≡◌}
+use Rattle.task_rules.proofs.Machine.{after_word, ap, arith, blocked_on, Bool, Call, CallEnd, Caller, caller_of, cancelled, change, Core, EndCall, false, get, give_result, GiveResult, Goal, goal_of, if◌then◌else◌, is_callback_waiter, is_over, is_some, is_told, is_waiting_on, Join, join_of, MayEnd, nat_tests, None, on_call, on_thread, Option, option_map, option_map_or, place_of, published, Put, put_high, Records, refl, result_given, returned, same_map, SaysEnd, Scene, set_end, set_event, set_register, set_result, SetRegister, SetResult, Some, Status, status_of_end, subst, sym, task_of, told, true, unblocked, wake, wake_joined, waken_by, Why, ℕ, ◌∙◌, ◌≡◌}
+use Rattle.task_rules.proofs.WalkMoves.{walk_if, shifted, published_call_shifts}
 use Rattle.task_machine.proofs.CommuteLemmas.{get-change}
 use Rattle.task_machine.proofs.MapLemmas.{change-field}
+use Rattle.task_rules.proofs.CallThreads.{LastEnds}
+use Rattle.task_rules.proofs.PlacingLemmas.{Shifted, placing_shifted, shifted_after, shifted_calls, shifted_same, shifted_task}
+use Rattle.task_machine.specs.declared.records.Delivery.TheVariants as delivery
+use Rattle.task_machine.specs.declared.records.Join.TheVariants as join
+use Rattle.task_machine.specs.declared.records.Why.TheVariants as why
+use Rattle.task_machine.specs.declared.words.Mark.TheVariants as mark
 use Rattle.task_rules.proofs.ChainLemmas.{Keep}
 use Rattle.task_rules.proofs.WalkMoves.{Chosen, ToldTo, told_walks, word}
 use Rattle.task_machine.specs.declared.records.CallEnd.TheVariants as call_end
@@ -54,15 +61,89 @@ result_places : (g : Goal) (f : Caller) (k v : ℕ) (s : Core) (m : ℕ) → pla
 unfolding give_result set_register on_thread set_result on_call
 result_places g f k v s m = grind (arith, nat_tests, get-change)
 
--- a told call is there
-told_ends : (k : ℕ) (e : CallEnd) (s t : Core) → option_map unresulted (get t.calls k) ≡ option_map unresulted (get (set_end k e s).calls k) →
-    is_told k t ≡ true → end_of k t ≡ Some e
-unfolding set_end on_call
-told_ends k e s t same told = grind (arith, nat_tests, get-change, same)
+-- ---- The word that ends a call
 
-end_goal : (k : ℕ) (e : CallEnd) (s : Core) → goal_of k (set_end k e s) ≡ goal_of k s
+abbrev pub call_ends : ℕ → CallEnd → Core → Core
+call_ends k e s = after_word (EndCall k e) s
+
+-- where the end is told, the word sets both
+ends_told : (k : ℕ) (e : CallEnd) (s : Core) → is_told k s ≡ true → (e ≡ call_end.StartCancelled → ⊥) →
+    set_event (subtask.Guest k) (Some (status_of_end e)) (set_end k e s) ≡ call_ends k e s
+unfolding set_event set_end on_call
+ends_told k e s told ran = ap (λ (m : Records Call). record s { calls = m }) (same_map _ _ (λ q. grind (arith, nat_tests, get-change)))
+
+pub ends_untold : (k : ℕ) (e : CallEnd) (s : Core) → is_told k s ≡ false → set_end k e s ≡ call_ends k e s
 unfolding set_end on_call
-end_goal k e s = grind (arith, nat_tests, get-change)
+ends_untold k e s untold = ap (λ (m : Records Call). record s { calls = m }) (same_map _ _ (λ q. grind (arith, nat_tests, get-change)))
+
+ends_goal : (k : ℕ) (e : CallEnd) (s : Core) → goal_of k (call_ends k e s) ≡ goal_of k s
+unfolding on_call
+ends_goal k e s = grind (arith, nat_tests, get-change)
+
+-- the event may be set before the result is given
+told_given : (g : Goal) (f : Caller) (k v : ℕ) (e : Status) (s : Core) →
+    set_event (subtask.Guest k) (Some e) (result_given g f k v s) ≡ result_given g f k v (set_event (subtask.Guest k) (Some e) s)
+unfolding set_event on_call give_result set_register on_thread set_result
+told_given goal.Main f k v e s = refl
+told_given (goal.Register r) (caller.Thread n) k v e s = refl
+told_given goal.Answer f k v e s = ap (λ (m : Records Call). record s { calls = m }) (same_map _ _ (λ q. grind (arith, nat_tests, get-change)))
+told_given _ f k v e s = refl
+
+-- ---- A call whose end is written
+
+put_shifted : (n : ℕ) (w : Why) (s : Core) → Shifted s (put_high n w s)
+put_shifted n w s = placing_shifted (Put mark.High n w) s
+
+unblocked_shifted : (o : Option ℕ) (s : Core) → Shifted s (unblocked o s)
+unblocked_shifted None s = shifted_same s
+unblocked_shifted (Some n) s = put_shifted n why.Resumption s
+
+waken_shifted : (b : Bool) (x n : ℕ) (s : Core) → Shifted s (waken_by b x n s)
+waken_shifted true x n s = put_shifted n (why.Delivery (delivery.Set x)) s
+waken_shifted false x n s = put_shifted n why.Resumption s
+
+wake_shifted : (j : Join) (w : Option ℕ) (s : Core) → Shifted s (wake_joined j w s)
+unfolding wake
+wake_shifted (join.Set x) None s = shifted_same s
+wake_shifted (join.Set x) (Some n) s = waken_shifted (is_callback_waiter n s) x n s
+wake_shifted _ w s = shifted_same s
+
+-- more than the event is told of no call and no thread
+told_kept : (k n : ℕ) (e : Status) (w : Option ℕ) (s : Core) → (task_of n (told k e w s) ≡ task_of n s) × (is_over k (told k e w s) ≡ is_over k s)
+unfolding told published set_event on_call
+told_kept k n e w s = by (is_told k s)
+  where
+    t : Core
+    t = record s { calls = change k (λ (c : Call). record c { event = Some e }) s.calls }
+
+    d : Shifted t (wake_joined (join_of (subtask.Guest k) s) w (unblocked (blocked_on (subtask.Guest k) s) t))
+    d = shifted_after (unblocked_shifted (blocked_on (subtask.Guest k) s) t) (wake_shifted (join_of (subtask.Guest k) s) w (unblocked (blocked_on (subtask.Guest k) s) t))
+
+    by : (b : Bool) → (task_of n (if b then wake_joined (join_of (subtask.Guest k) s) w (unblocked (blocked_on (subtask.Guest k) s) t) else s) ≡ task_of n s) ×
+        (is_over k (if b then wake_joined (join_of (subtask.Guest k) s) w (unblocked (blocked_on (subtask.Guest k) s) t) else s) ≡ is_over k s)
+    by true = (shifted_task d n, ap (λ (m : Records Call). option_map_or (λ (c : Call). is_some c.«end») (get m k) true) (shifted_calls d) ∙ grind (arith, nat_tests, get-change))
+    by false = (refl, refl)
+
+result_kept : (g : Goal) (f : Caller) (k v n : ℕ) (s : Core) → (task_of n (result_given g f k v s) ≡ task_of n s) × (is_over k (result_given g f k v s) ≡ is_over k s)
+unfolding give_result set_register on_thread set_result on_call
+result_kept g f k v n s = (grind (arith, nat_tests, get-change), grind (arith, nat_tests, get-change))
+
+end_over : (k : ℕ) (e : CallEnd) (s : Core) → is_over k (set_end k e s) ≡ true
+unfolding set_end on_call
+end_over k e s = grind (arith, nat_tests, get-change)
+
+pub ended_last : (n k : ℕ) (e : CallEnd) (s : Core) → task_of n s ≡ k → LastEnds n (set_end k e s)
+unfolding set_end on_call
+ended_last n k e s is u same gone = let over = end_over k e s in grind arith
+
+pub returned_last : (n k v : ℕ) (w : Option ℕ) (s : Core) → task_of n s ≡ k → LastEnds n (returned k v w s)
+unfolding returned set_end on_call
+returned_last n k v w s is u same gone =
+    let over = end_over k call_end.Returned s in
+    let t = result_given (goal_of k s) (caller_of k s) k v (set_end k call_end.Returned s) in
+    let r = result_kept (goal_of k s) (caller_of k s) k v n (set_end k call_end.Returned s) in
+    let g = told_kept k n status.Returned w t in
+    subst (λ (j : ℕ). is_over j (told k status.Returned w t) ≡ true) (sym (g.0 ∙ (r.0 ∙ is))) (g.1 ∙ (r.1 ∙ over))
 
 module _ {a : Scene} {b : Core} where
   result_given_walks : (g : Goal) (f : Caller) (k v : ℕ) {s : Core} → goal_of k s ≡ g → SaysEnd a k status.Returned → Keep a b s → Keep a b (result_given g f k v s)
@@ -72,30 +153,30 @@ module _ {a : Scene} {b : Core} where
   result_given_walks (goal.Register r) caller.Main k v at says c = c
   result_given_walks _ f k v at says c = c
 
-  -- after the end is written
-  pub returned_rest : (k v : ℕ) (w : Option ℕ) (s : Core) → SaysEnd a k status.Returned → ToldTo k w s → Keep a b (set_end k call_end.Returned s) → Keep a b (returned k v w s)
+  -- after the word that ends it
+  ends_rest : (g : Goal) (f : Caller) (k v : ℕ) (e : CallEnd) (w : Option ℕ) (s : Core) → (e ≡ call_end.StartCancelled → ⊥) →
+      ToldTo k w s → Keep a b (result_given g f k v (call_ends k e s)) → Keep a b (told k (status_of_end e) w (result_given g f k v (set_end k e s)))
+  unfolding told
+  ends_rest g f k v e w s ran to c =
+      let t = result_given g f k v (set_end k e s) in
+      let same : SameCall k s t = unanswer (get t.calls k) (get (set_end k e s).calls k) (result_resulted g f k v (set_end k e s)) ∙ end_same k e s in
+      let is = same_told k s t same in
+      walk_if (is_told k t) (published (subtask.Guest k) (status_of_end e) w t) t
+      (λ told. shifted (published_call_shifts k (status_of_end e) w t (still_told_to k s t same w (λ x chosen n at. ap (λ p. option_map_or (is_waiting_on x) p false) (result_places g f k v (set_end k e s) n ∙ end_places k e s n) ∙ chosen n at) to told))
+      (subst (λ (u : Core). Keep a b u) (sym (told_given g f k v (status_of_end e) (set_end k e s) ∙ ap (result_given g f k v) (ends_told k e s (sym is ∙ told) ran))) c))
+      (λ untold. subst (λ (u : Core). Keep a b u) (sym (ap (result_given g f k v) (ends_untold k e s (sym is ∙ untold)))) c)
+
+  pub returned_rest : (k v : ℕ) (w : Option ℕ) (s : Core) → SaysEnd a k status.Returned → ToldTo k w s → Keep a b (call_ends k call_end.Returned s) → Keep a b (returned k v w s)
   unfolding returned
   returned_rest k v w s says to c =
-      let m = set_end k call_end.Returned s in
-      let t = result_given (goal_of k s) (caller_of k s) k v m in
-      let same : option_map unresulted (get t.calls k) ≡ option_map unresulted (get m.calls k) = result_resulted (goal_of k s) (caller_of k s) k v m in
-      told_walks k status.Returned w (λ told. told_ends k call_end.Returned s t same told) (λ e. says)
-      (still_told_to k s t (unanswer (get t.calls k) (get m.calls k) same ∙ end_same k call_end.Returned s) w (λ x chosen n is. ap (λ p. option_map_or (is_waiting_on x) p false) (places n) ∙ chosen n is) to)
-      (result_given_walks (goal_of k s) (caller_of k s) k v (end_goal k call_end.Returned s) says c)
-    where
-      places : (n : ℕ) → place_of n (result_given (goal_of k s) (caller_of k s) k v (set_end k call_end.Returned s)) ≡ place_of n s
-      places n = result_places (goal_of k s) (caller_of k s) k v (set_end k call_end.Returned s) n ∙ end_places k call_end.Returned s n
+      ends_rest (goal_of k s) (caller_of k s) k v call_end.Returned w s (λ e. absurd (cc)) to (result_given_walks (goal_of k s) (caller_of k s) k v (ends_goal k call_end.Returned s) says c)
 
   pub returned_walks : (k v : ℕ) (w : Option ℕ) {s : Core} → MayEnd a k call_end.Returned s → SaysEnd a k status.Returned → ToldTo k w s → Keep a b s → Keep a b (returned k v w s)
-  returned_walks k v w {s = s} ok says to c = returned_rest k v w s says to (word (SetEnd k call_end.Returned) (ok, says) c)
+  returned_walks k v w {s = s} ok says to c = returned_rest k v w s says to (word (EndCall k call_end.Returned) (ok, says) c)
 
-  pub cancelled_rest : (k : ℕ) (w : Option ℕ) (s : Core) → SaysEnd a k status.ReturnCancelled → ToldTo k w s → Keep a b (set_end k call_end.ReturnCancelled s) → Keep a b (cancelled k w s)
+  pub cancelled_rest : (k : ℕ) (w : Option ℕ) (s : Core) → ToldTo k w s → Keep a b (call_ends k call_end.ReturnCancelled s) → Keep a b (cancelled k w s)
   unfolding cancelled
-  cancelled_rest k w s says to c =
-      let t = set_end k call_end.ReturnCancelled s in
-      told_walks k status.ReturnCancelled w (λ told. told_ends k call_end.ReturnCancelled s t refl told) (λ e. says)
-      (still_told_to k s t (end_same k call_end.ReturnCancelled s) w (λ x chosen n is. ap (λ p. option_map_or (is_waiting_on x) p false) (end_places k call_end.ReturnCancelled s n) ∙ chosen n is) to)
-      c
+  cancelled_rest k w s to c = ends_rest goal.Direct caller.Main k 0 call_end.ReturnCancelled w s (λ e. absurd (cc)) to c
 
   pub cancelled_walks : (k : ℕ) (w : Option ℕ) {s : Core} → MayEnd a k call_end.ReturnCancelled s → SaysEnd a k status.ReturnCancelled → ToldTo k w s → Keep a b s → Keep a b (cancelled k w s)
-  cancelled_walks k w {s = s} ok says to c = cancelled_rest k w s says to (word (SetEnd k call_end.ReturnCancelled) (ok, says) c)
+  cancelled_walks k w {s = s} ok says to c = cancelled_rest k w s to (word (EndCall k call_end.ReturnCancelled) (ok, says) c)

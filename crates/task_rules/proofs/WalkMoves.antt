@@ -1,13 +1,12 @@
 -- The moves of the machine as chains of words.
-use Rattle.task_rules.proofs.Machine.{[], add_call, add_group, add_set, add_thread, add_work, Advance, after_placing, after_word, ap, arith, AtOp, blocked_on, Bool, call_group, call_made, call_settled, can_come, CanCome, change, checked, chosen, Core, count_work, ended, exited_if, false, first_entry, free_handle, free_thread_handle, freed_thread_handle, FreeThreadHandle, get, get-insert, get-remove, Gift, give_handle, give_result, give_thread_handle, group_settled, handed_on, hands_on, held_why, held_why_of, HowFar, if◌then◌else◌, InOp, inr, instance_of, interest_settled, is_at, is_blocked_on, is_callback_waiter, is_deletable, is_done_host, is_end, is_explicit, is_finished, is_group_done, is_some, is_stage_ended, is_told, is_waiter, is_waiting_on, IsOwn, IsRunner, Join, join_of, Lands, LandsAt, le_refl, le_trans, Leaves, List, MakeThread, Mark, may_hand_on, may_not_suspend, may_publish, may_tell, may_wake, may_wake_joined, MayCome, MayDeliver, MayLand, MayPut, MayTell, MemberGift, nat_tests, NoGift, None, not, NoWord, numbers, on_call, on_instance, on_thread, on_work, op_in, Option, option_and_then, option_map, option_map_or, OwnGift, Place, place_of, Places, Placing, poll_pends, position_of, Promote, promoted, promoted_first, promoted_unless, published, push_high, Put, put_at, put_high, Quits, Records, refl, released, released_one, Releases, remove, remove_call, remove_group, remove_set, remove_thread, remove_work, RemoveCall, RemoveGroup, RemoveThread, Restart, same_subtask, SaysEnd, Scene, set_backpressure, set_cancel_delivered, set_cancelled, set_course, set_do_not_enter, set_do_not_suspend, set_end, set_event, set_exited, set_how_far, set_join, set_own_event, set_phase, set_position, set_register, set_result, set_saved_callee, set_saved_own, set_script, set_stage, set_started, set_starting_published, set_subtask_handle, set_thread_handle, set_trapped, set_uninteresting, set_word, SetCallEvent, SetCancelDelivered, SetExited, SetOwnEvent, Settles, SetUninteresting, Shifts, Some, stage_of, Status, Stop, stopped, subst, Subtask, sym, take_result, TakeHost, taken, TakePush, TakeWorkEvent, task_of, Tells, Then, Thread, thread_handle_of, told, Trip, true, unblocked, Unblocks, wake, wake_joined, wake_why, waken_by, Wakes, Why, with_handle, with_thread_handle, Word, Work, work_queued, ℕ, ◌||◌, ◌∙◌, ◌∷◌, ◌≡◌, ◌≤◌}
+use Rattle.task_rules.proofs.Machine.{[], add_call, add_group, add_set, add_thread, add_work, Advance, after_placing, after_word, ap, arith, AtOp, blocked_on, Bool, ByHandle, call_group, call_made, call_settled, can_come, CanCome, change, checked, chosen, Core, count_work, departed, end_of, ended, exited_if, false, first_entry, free_handle, free_thread_handle, freed_thread_handle, FreeThreadHandle, get, get-insert, get-remove, Gift, give_handle, give_result, give_thread_handle, group_settled, handed_on, hands_on, has_ended, held_why, held_why_of, HowFar, if◌then◌else◌, InOp, inr, instance_of, interest_settled, is_at, is_blocked_on, is_callback_waiter, is_deletable, is_done_host, is_explicit, is_finished, is_group_done, is_over, is_some, is_stage_ended, is_told, is_waiter, is_waiting_on, IsNamed, IsRunner, IsStarting, Join, join_of, Lands, LandsAt, le_refl, le_trans, Leaves, List, MakeThread, Mark, may_hand_on, may_not_suspend, may_publish, may_tell, may_wake, may_wake_joined, MayCome, MayDeliver, MayLand, MayPut, MayRemoveCall, MemberGift, nat_tests, NoGift, None, not, NoWord, numbers, on_call, on_instance, on_thread, on_work, op_in, Option, option_and_then, option_map, option_map_or, OwnGift, Place, place_of, Places, Placing, poll_pends, position_of, Promote, promoted, promoted_first, promoted_unless, published, push_high, Put, put_at, put_high, Quits, Records, refl, released, released_one, Releases, remove, remove_call, remove_group, remove_set, remove_thread, remove_work, RemoveCall, RemoveGroup, RemoveThread, Restart, same_subtask, Scene, set_backpressure, set_cancel_delivered, set_cancelled, set_course, set_do_not_enter, set_do_not_suspend, set_end, set_event, set_exited, set_how_far, set_join, set_own_event, set_phase, set_position, set_register, set_result, set_saved_callee, set_saved_own, set_script, set_stage, set_started, set_starting_published, set_subtask_handle, set_thread_handle, set_trapped, set_uninteresting, set_word, SetCallEvent, SetCancelDelivered, SetExited, SetOwnEvent, Settles, SetUninteresting, Shifts, Some, stage_of, Status, Stay, Stop, stopped, subst, Subtask, sym, take_result, TakeHost, taken, TakePush, TakesNamed, TakeWorkEvent, task_of, Tells, Then, Thread, thread_handle_of, told, Trip, true, unblocked, Unblocks, wake, wake_joined, wake_why, waken_by, Wakes, Why, with_handle, with_thread_handle, Word, Work, work_queued, ℕ, ◌||◌, ◌∙◌, ◌∷◌, ◌≡◌, ◌≤◌}
 use Rattle.task_machine.specs.declared.records.Turn.TheVariants as turn
 use Rattle.task_machine.proofs.CommuteLemmas.{get-change}
 use Rattle.task_rules.proofs.StandLemmas.{set_place_is}
 use Rattle.task_machine.proofs.MapLemmas.{get-remove_same}
-use Rattle.task_machine.specs.declared.records.Turn.TheVariants as turn
-use Rattle.task_rules.proofs.ChainLemmas.{along, Keep, Keeps, join, keep_stay, weaken, shift_keeps, settle_keeps}
+use Rattle.task_rules.proofs.ChainLemmas.{along, Keep, Keeps, join, keep_stay, weaken, shift_keeps, settle_keeps, settle_stays}
 use Rattle.task_rules.proofs.StopLemmas.{find_passes}
-use Rattle.task_rules.proofs.PlacingLemmas.{placed, placing_shifted, popped_shifted, unplaced, shifted_made, Shifted}
+use Rattle.task_rules.proofs.PlacingLemmas.{placed, placing_shifted, popped_shifted, unplaced, Shifted}
 use Rattle.task_rules.proofs.PromotionLemmas.{first_has_entry}
 use Rattle.task_machine.specs.declared.records.Delivery.TheVariants as delivery
 use Rattle.task_machine.specs.declared.records.Join.TheVariants as join
@@ -17,6 +16,7 @@ use Rattle.task_machine.specs.declared.records.Subtask.TheVariants as subtask
 use Rattle.task_machine.specs.declared.records.Why.TheVariants as why
 use Rattle.task_machine.specs.declared.words.Mark.TheVariants as mark
 use Rattle.task_machine.specs.declared.words.OwnEvent.TheVariants as own
+use Rattle.task_rules.proofs.CallThreads.{LastEnds}
 
 -- ---- What other threads come to
 
@@ -222,10 +222,6 @@ pub published_work_shifts : (i : ℕ) (e : Status) (w : Option ℕ) (s : Core) �
 unfolding published set_event on_work
 published_work_shifts i e w s done chosen = published_shifts (subtask.Host i) w s (set_event (subtask.Host i) (Some e) s) (ap (λ x. is_stage_ended x) (work_read (λ r. r.stage) stage.Ended i (λ r. record r { event = Some e }) (λ r. refl) s.works) ∙ done) (λ m. refl) chosen
 
-module _ {a : Scene} {b : Core} where
-  published_call : (k : ℕ) (e : Status) (w : Option ℕ) {s : Core} → MayTell a k (Some e) s → ChosenIn (join_of (subtask.Guest k) s) w s → Keep a b s → Keep a b (published (subtask.Guest k) e w s)
-  published_call k e w {s = s} ok chosen c = shifted (published_call_shifts k e w s chosen) (word (SetCallEvent k (Some e)) ok c)
-
 -- the thread chosen where the call's status is told
 abbrev pub ToldTo : ℕ → Option ℕ → Core → Type 0
 ToldTo k w s = is_told k s ≡ true → ChosenIn (join_of (subtask.Guest k) s) w s
@@ -235,9 +231,10 @@ unfolding may_tell may_publish
 told_to k w s h told = chosen_in_of (join_of (subtask.Guest k) s) w s (grind arith)
 
 module _ {a : Scene} {b : Core} where
-  pub told_walks : (k : ℕ) (e : Status) (w : Option ℕ) {s : Core} → (is_told k s ≡ true → Tells e k s) → (is_end e ≡ true → SaysEnd a k e) → ToldTo k w s → Keep a b s → Keep a b (told k e w s)
+  pub told_walks : (k : ℕ) (e : Status) (w : Option ℕ) {s : Core} → (is_told k s ≡ true → Tells e k s) → IsStarting a k s → ToldTo k w s → Keep a b s → Keep a b (told k e w s)
   unfolding told
-  told_walks k e w {s = s} tells says to c = walk_if (is_told k s) (published (subtask.Guest k) e w s) s (λ is. published_call k e w (is, (tells is, says)) (to is) c) (λ is. c)
+  told_walks k e w {s = s} tells starts to c =
+      walk_if (is_told k s) (published (subtask.Guest k) e w s) s (λ is. shifted (published_call_shifts k e w s (to is)) (word (SetCallEvent k (Some e)) (is, (tells is, starts)) c)) (λ is. c)
 
 -- ---- Given and handed on
 
@@ -248,7 +245,7 @@ handed_on_shifts x g w s h = shifts_if (hands_on x g s) (wake x w s) s (λ e. wa
 -- what the running thread's task may take
 abbrev pub MayTake : Scene → ℕ → Gift → Type 0
 MayTake a k (OwnGift e) = ((n : ℕ) × (IsRunner a n × (k ≡ task_of n a.base))) × (e ≡ own.Cancelled → MayDeliver a k)
-MayTake a k (MemberGift sub) = IsOwn a sub
+MayTake a k (MemberGift sub) = IsNamed a sub
 MayTake a k NoGift = Unit {0}
 
 module _ {a : Scene} {b : Core} where
@@ -256,8 +253,8 @@ module _ {a : Scene} {b : Core} where
   unfolding taken
   taken_walks (OwnGift own.None) k ok c = word (SetOwnEvent k None) ok.0 c
   taken_walks (OwnGift own.Cancelled) k ok c = word (SetCancelDelivered k) (ok.1 refl) (word (SetOwnEvent k None) ok.0 c)
-  taken_walks (MemberGift (subtask.Guest q)) k ok c = word (SetCallEvent q None) ok c
-  taken_walks (MemberGift (subtask.Host i)) k ok c = word (TakeWorkEvent i) ok c
+  taken_walks (MemberGift (subtask.Guest q)) k ok c = word (SetCallEvent q None) (TakesNamed ok) c
+  taken_walks (MemberGift (subtask.Host i)) k ok c = word (TakeWorkEvent i) (ok.0, (ok.1.1.0, ByHandle ok.1.0 ok.1.1.1)) c
   taken_walks NoGift k ok c = c
 
 -- ---- Settled
@@ -270,13 +267,47 @@ group_settles : (g : ℕ) (s : Core) → Settles s (group_settled g s)
 unfolding group_settled
 group_settles g s = settles_if (is_group_done g s) (remove_group g s) s (λ e. Then s (RemoveGroup g) NoWord e) (λ e. NoWord)
 
-call_settles : (k : ℕ) (s : Core) → Settles s (call_settled k s)
+call_settles : (k : ℕ) (s : Core) → (is_deletable k s ≡ true → has_ended k s ≡ true) → Settles s (call_settled k s)
 unfolding call_settled
-call_settles k s = settles_if (is_deletable k s) (group_settled (call_group k s) (remove_call k s)) s (λ e. join (Then s (RemoveCall k) NoWord e) (group_settles (call_group k s) (remove_call k s))) (λ e. NoWord)
+call_settles k s over = settles_if (is_deletable k s) (group_settled (call_group k s) (remove_call k s)) s (λ e. join (Then s (RemoveCall k) NoWord (e, over e)) (group_settles (call_group k s) (remove_call k s))) (λ e. NoWord)
 
 interest_settles : (k : ℕ) (s : Core) → Settles s (interest_settled k s)
 unfolding interest_settled
 interest_settles k s = settles_if (option_map_or is_finished (get s.calls k) false) (set_uninteresting k s) s (λ e. Then s (SetUninteresting k) NoWord tt) (λ e. NoWord)
+
+settled_threads : (k : ℕ) (s : Core) → (call_settled k s).threads ≡ s.threads
+unfolding call_settled group_settled remove_group remove_call
+settled_threads k s = grind arith
+
+interest_threads : (k : ℕ) (s : Core) → (interest_settled k s).threads ≡ s.threads
+unfolding interest_settled set_uninteresting on_call
+interest_threads k s = grind arith
+
+freed_threads : (i : ℕ) (o : Option ℕ) (s : Core) → (freed_thread_handle i o s).threads ≡ s.threads
+unfolding free_thread_handle
+freed_threads i o s = grind arith
+
+exited_threads : (explicit : Bool) (k : ℕ) (s : Core) → (exited_if explicit k s).threads ≡ s.threads
+unfolding set_exited on_call
+exited_threads explicit k s = grind arith
+
+-- what is left of the call once the thread is gone
+left_call : (n k : ℕ) (s : Core) → (is_some (get (interest_settled k (departed n s)).calls k) ≡ is_some (get s.calls k)) × (end_of k (interest_settled k (departed n s)) ≡ end_of k s)
+unfolding interest_settled set_uninteresting on_call set_exited free_thread_handle remove_thread
+left_call n k s = (grind (arith, nat_tests, get-change), grind (arith, nat_tests, get-change))
+
+there_ended : (k : ℕ) (s t : Core) → is_deletable k t ≡ true → is_some (get t.calls k) ≡ is_some (get s.calls k) → end_of k t ≡ end_of k s → is_over k s ≡ true → has_ended k t ≡ true
+unfolding is_deletable
+there_ended k s t gone there same over = grind arith
+
+departed_over : (n : ℕ) (s : Core) → LastEnds n s → is_deletable (task_of n s) (interest_settled (task_of n s) (departed n s)) ≡ true → has_ended (task_of n s) (interest_settled (task_of n s) (departed n s)) ≡ true
+unfolding remove_thread
+departed_over n s last gone =
+    let k = task_of n s in
+    let kept = freed_threads (instance_of n s) (thread_handle_of n s) (exited_if (is_explicit n s) k s) ∙ exited_threads (is_explicit n s) k s in
+    let left = interest_threads k (departed n s) ∙ ap (λ (m : Records Thread). remove m n) kept in
+    let call = left_call n k s in
+    there_ended k s (interest_settled k (departed n s)) gone call.0 call.1 (last (interest_settled k (departed n s)) (λ m other. ap (λ (r : Records Thread). option_map (λ (u : Thread). u.call) (get r m)) left ∙ grind (arith, nat_tests, get-remove)) gone)
 
 -- the thread is gone, and what becomes of its call
 pub record Left (a : Scene) (b : Core) (n : ℕ) (t : Core) : Type 0 where
@@ -288,8 +319,17 @@ module _ {a : Scene} {b : Core} where
   pub group_settled_walks : (g : ℕ) {s : Core} → Keep a b s → Keep a b (group_settled g s)
   group_settled_walks g {s = s} c = settled (group_settles g s) c
 
-  pub call_settled_walks : (k : ℕ) {s : Core} → Keep a b s → Keep a b (call_settled k s)
-  call_settled_walks k {s = s} c = settled (call_settles k s) c
+  pub call_settled_walks : (k : ℕ) {s : Core} → (is_deletable k s ≡ true → has_ended k s ≡ true) → Keep a b s → Keep a b (call_settled k s)
+  call_settled_walks k {s = s} over c = settled (call_settles k s over) c
+
+  -- the op that was inside of the call is done
+  pub call_done_walks : (k : ℕ) {s : Core} → (is_deletable k s ≡ true → MayRemoveCall a k s) → Stay a b s → Stay a b (call_settled k s)
+  unfolding call_settled
+  call_done_walks k {s = s} may c = by (is_deletable k s) refl
+    where
+      by : (d : Bool) → is_deletable k s ≡ d → Stay a b (if d then group_settled (call_group k s) (remove_call k s) else s)
+      by true is = join (Then s (RemoveCall k) c (may is)) (weaken (settle_stays a) (group_settles (call_group k s) (remove_call k s)))
+      by false is = c
 
   freed_thread_handle_walks : (i : ℕ) (o : Option ℕ) {s : Core} → Keep a b s → Keep a b (freed_thread_handle i o s)
   freed_thread_handle_walks i None c = c
@@ -299,15 +339,15 @@ module _ {a : Scene} {b : Core} where
   exited_if_walks true k c = c
   exited_if_walks false k c = word (SetExited k) tt c
 
-  pub ended_walks : (n : ℕ) {s : Core} → Keep a b s → Left a b n (ended n s)
+  pub ended_walks : (n : ℕ) {s : Core} → LastEnds n s → Keep a b s → Left a b n (ended n s)
   unfolding ended
-  ended_walks n {s = s} c =
+  ended_walks n {s = s} last c =
       let f = freed_thread_handle (instance_of n s) (thread_handle_of n s) (exited_if (is_explicit n s) (task_of n s) s) in
       let r = remove_thread n f in
       record {
         before = f;
         stays = freed_thread_handle_walks (instance_of n s) (thread_handle_of n s) (exited_if_walks (is_explicit n s) (task_of n s) c);
-        settles = join (interest_settles (task_of n s) r) (call_settles (task_of n s) (interest_settled (task_of n s) r));
+        settles = join (interest_settles (task_of n s) r) (call_settles (task_of n s) (interest_settled (task_of n s) r) (λ gone. departed_over n s last gone));
       }
 
   pub exits_trip : (n : ℕ) {t : Core} → Leaves a n → Left a b n t → Trip a b t

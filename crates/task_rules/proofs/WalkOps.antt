@@ -1,5 +1,5 @@
 -- The rows of the ops on sets, subtasks and threads as chains of words.
-use Rattle.task_rules.proofs.Machine.{[], aborted_phase, AbortsOwn, add_work, advanced, after_word, AlreadyEnded, answered, Answers, ap, arith, assigned, Async, at_handle_limit, AtOnce, blocked_code, Bool, ByHandle, ByOp, BySetHandle, ByThread, ByWait, Call, call_answered, call_begins, call_host_polled, call_of_op, call_pending, call_queues, call_resumes, call_returned, call_row, call_status, call_sync_begins, call_sync_host_polled, call_sync_host_row, call_sync_host_stops, call_sync_row, call_sync_status, call_sync_stops, CallbackWaits, CallbackYields, Callee, callee_of_op, CallEnd, caller_of, CallLabel, cancel_aborts_host, cancel_asks, cancel_by_end, cancel_case, cancel_ended_row, cancel_guest, cancel_label, cancel_promotes_yield, cancel_resumed, cancel_row, cancel_stops, cancel_subtask, cancel_takes_end, cancel_target, cancel_wakes_callback, cancel_withdraws, CancelCase, cancelled_of_op, Cancels, change, checked, Choice, chosen, CloseSet, Core, count_work, CountWork, drop_row, dropped, end_for, ended, EndsSubtask, EndWords, enter_row, enter_runs, event_of, export_kind, Failing, false, finds_nothing, first_poll, FirstPoll, fits, free_handle, get, get-remove, Gift, gift, Goal, Goes, group_settled, handed_by, handed_by_call, handed_by_cancel, handed_by_event, handed_by_set, handed_on, handed_out, HandsAtOnce, HandsOut, has_ended, has_member, has_waiters, HasSubtask, host_answered, host_at, host_end, host_pending, host_ready, HostDef, how_far_of, HowFar, inl, inr, instance_of, is_async_lifted, is_async_work, is_callback_yield, is_cancel, is_direct, is_for_main, is_joined, is_ready_to_resume, is_script, is_some, is_stage_ended, is_sync_call, is_sync_cancel, is_sync_host_call, is_thread_op, is_wait, is_waiting_on, is_watched, is_yielded, IsNamed, IsNew, IsReadyAtOnce, Join, join_done, join_label, join_of, join_to, joined, joins, Label, Later, Leaves, List, Made, Main, MakeThread, Mark, may, may_hand_on, may_wake_new, MayJoin, MayMakeCall, MemberGift, Mode, Move, moved_to, NameCall, NameThread, NameWork, nat_tests, new_handle, new_thread, new_thread_handle, new_work, next_thread, next_work, NoGift, None, not, NoWord, on_call, on_instance, on_thread, on_work, Op, op_in, op_of, OpenSet, Option, option_map, option_map_or, OtherwiseRuns, OwnGift, packed, passes_check, pauses, phase_of, Place, place_of, poll_row, Progress, promoted_unless, push_high, Put, put_back, put_switch, QueueWork, received, received_woken, Records, refl, registers_for, registers_of, remove, remove_group, remove_thread, remove_work, result_of, Resumes, returned_of_op, saved_callee_of, says, Scene, set_at, set_do_not_suspend, set_drop_row, set_dropped, set_end, set_event, set_how_far, set_join, set_made, set_new_row, set_own_event, set_position, set_register, set_row, set_saved_callee, set_subtask_handle, SetCancelled, SetExited, SetLabel, SetOwnEvent, SetPhase, SetRegister, SetResult, SetSavedCallee, Setting, settle_group_of, SetUninteresting, Shifts, slot_at, Some, stage_of, StartNotRun, Status, status_code, status_found, Stay, Stops, subst, Subtask, subtask_at, subtask_ended, subtask_handle, subtask_instance, subtask_row, subtask_under_way, suc, Suspends, suspends, sym, Sync, T, TakesEvent, task_of, Then, Thread, thread_at, thread_group, thread_handle_of, trap_if, Trip, true, Turn, undelivered_end, UnnameCall, UnnameWork, unwrap_or, value_of, values_in, wait_begins, wait_goes_on, wait_label, wait_row, wait_stops, wait_stops_checked, wakes_joined, Walk, was_cancelled, was_started, Why, Withdraw, withdrawn, Work, work_answered, work_caller_of, work_deleted, work_group, work_queued, work_value, WorkCaller, Writes, WritesAtOnce, WritesCall, WritesNever, WritesToo, written_by, written_by_call, written_by_cancel, Yields, yields, zero, ℕ, ◌&&◌, ◌+◌, ◌==◌, ◌∙◌, ◌∷◌, ◌≡◌, ◌⊎◌}
+use Rattle.task_rules.proofs.Machine.{[], aborted_phase, AbortsOwn, add_work, advanced, after_word, AlreadyEnded, answered, Answers, ap, arith, assigned, Async, at_handle_limit, AtOnce, blocked_code, Bool, ByHandle, ByOp, BySetHandle, ByThread, ByWait, Call, call_answered, call_begins, call_host_polled, call_of_op, call_pending, call_queues, call_resumes, call_returned, call_row, call_settled, call_status, call_sync_begins, call_sync_host_polled, call_sync_host_row, call_sync_host_stops, call_sync_row, call_sync_status, call_sync_stops, CallbackWaits, CallbackYields, Callee, callee_of_op, CallEnd, caller_of, CallLabel, cancel_aborts_host, cancel_asks, cancel_by_end, cancel_case, cancel_ended_row, cancel_guest, cancel_label, cancel_promotes_yield, cancel_resumed, cancel_row, cancel_stops, cancel_subtask, cancel_takes_end, cancel_target, cancel_wakes_callback, cancel_withdraws, CancelCase, cancelled_of_op, Cancels, change, checked, Choice, chosen, CloseSet, Core, count_work, CountWork, drop_row, dropped, end_for, ended, EndsSubtask, EndWords, enter_row, enter_runs, event_of, export_kind, Failing, false, finds_nothing, first_poll, FirstPoll, fits, free_handle, get, get-remove, Gift, gift, Goal, Goes, group_settled, handed_by, handed_by_call, handed_by_cancel, handed_by_event, handed_by_set, handed_on, handed_out, HandsAtOnce, HandsOut, has_ended, has_member, has_waiters, HasSubtask, host_answered, host_at, host_end, host_pending, host_ready, HostDef, how_far_of, HowFar, inl, inr, instance_of, is_async_lifted, is_async_work, is_callback_yield, is_cancel, is_direct, is_for_main, is_joined, is_ready_to_resume, is_script, is_some, is_stage_ended, is_sync_call, is_sync_cancel, is_sync_host_call, is_thread_op, is_wait, is_waiting_on, is_watched, is_yielded, IsNamed, IsNew, IsReadyAtOnce, Join, join_done, join_label, join_of, join_to, joined, joins, Label, Later, Leaves, List, Made, Main, MakeThread, Mark, may, may_hand_on, may_wake_new, MayCancel, MayJoin, MayMakeCall, MemberGift, Mode, Move, moved_to, NameCall, NameThread, NameWork, nat_tests, new_handle, new_thread, new_thread_handle, new_work, next_thread, next_work, NoGift, None, not, NoWord, on_call, on_instance, on_thread, on_work, Op, op_in, op_of, OpenSet, Option, option_map, option_map_or, OtherwiseRuns, OwnGift, packed, passes_check, pauses, phase_of, Place, place_of, poll_row, Progress, promoted_unless, push_high, Put, put_back, put_switch, QueueWork, received, received_woken, Records, refl, registers_for, registers_of, remove, remove_group, remove_thread, remove_work, result_of, Resumes, returned_of_op, saved_callee_of, says, Scene, set_at, set_do_not_suspend, set_drop_row, set_dropped, set_end, set_event, set_how_far, set_join, set_made, set_new_row, set_own_event, set_position, set_register, set_result, set_row, set_saved_callee, set_subtask_handle, SetCancelled, SetExited, SetLabel, SetOwnEvent, SetPhase, SetRegister, SetResult, SetSavedCallee, Setting, settle_group_of, SetUninteresting, Shifts, slot_at, Some, stage_of, StartNotRun, Status, status_code, status_found, Stay, Stops, subst, Subtask, subtask_at, subtask_ended, subtask_handle, subtask_instance, subtask_row, subtask_under_way, suc, Suspends, suspends, sym, Sync, T, TakesEvent, task_of, Then, Thread, thread_at, thread_group, thread_handle_of, trap_if, Trip, true, Turn, undelivered_end, UnnameCall, UnnameWork, unwrap_or, value_of, values_in, wait_begins, wait_goes_on, wait_label, wait_row, wait_stops, wait_stops_checked, wakes_joined, Walk, was_cancelled, was_started, Why, Withdraw, withdrawn, Work, work_answered, work_caller_of, work_deleted, work_group, work_queued, work_value, WorkCaller, Writes, WritesAtOnce, WritesCall, WritesNever, WritesToo, written_by, written_by_call, written_by_cancel, Yields, yields, zero, ℕ, ◌&&◌, ◌+◌, ◌==◌, ◌∙◌, ◌∷◌, ◌≡◌, ◌⊎◌}
 use Rattle.task_machine.specs.declared.component.Slot.{Slot}
 use Rattle.task_machine.specs.declared.label.ThreadLabel.{ThreadLabel}
 use Rattle.task_machine.specs.declared.op.CallOp.{CallOp}
@@ -7,8 +7,8 @@ use Rattle.task_machine.specs.declared.op.SetOp.{SetOp}
 use Rattle.task_machine.specs.declared.op.ThreadOp.{ThreadOp}
 use Rattle.task_rules.specs.Threads.{by_how_far, Halt, halt_row, halted, halted_checked, halted_promoting, halted_resuming, halting, halts, has_yielded, resume_later_row, resume_why, resumed_later, Suspension, then_promote, then_promote_row, then_resume_row, thread_made, thread_new_row, thread_row, Yielding}
 use Rattle.task_rules.proofs.ChainLemmas.{Going, join, stay_walk, Keep, keep_stay}
-use Rattle.task_rules.proofs.WalkMoves.{keep_still, MayTake, call_settled_walks, checked_shifts, chosen_of, handed_on_shifts, shifted, wake_shifts, word, lands_at, promoted_walks}
-use Rattle.task_rules.proofs.WalkParts.{AtOps, call_queues_walks, call_resumes_walks, call_stops_walks, cancel_goes_behind_walks, cancel_plain, cancel_stops_walks, cancel_takes_end_walks, checked_walks, enter_gives, enter_runs_walks, freed_named, gift_is, join_plain, join_walks, put_back_walks, received_walks, set_none_join, stopped_walks, wait_plain, wait_stops_walks, withdrawn_walks, work_deleted_walks, work_unnamed, withdraws, answered_first, far_fresh, answered_unnamed}
+use Rattle.task_rules.proofs.WalkMoves.{keep_still, MayTake, call_settled_walks, checked_shifts, chosen_of, handed_on_shifts, shifted, wake_shifts, word, lands_at, promoted_walks, call_done_walks}
+use Rattle.task_rules.proofs.WalkParts.{AtOps, call_queues_walks, call_resumes_walks, call_stops_walks, cancel_goes_behind_walks, cancel_plain, cancel_stops_walks, cancel_takes_end_walks, checked_walks, enter_gives, enter_runs_walks, freed_named, gift_is, join_plain, join_walks, put_back_walks, received_walks, set_none_join, stopped_walks, wait_plain, wait_stops_walks, withdrawn_walks, work_deleted_walks, work_unnamed, withdraws, answered_first, answered_unnamed, answered_settled, answered_parted, call_answers_walks, answered_fresh, assigned_fresh}
 use Rattle.task_machine.proofs.MapLemmas.{get-insert_same, get-remove_same}
 use Rattle.task_machine.proofs.CommuteLemmas.{get-change}
 use Rattle.task_machine.specs.declared.label.SetLabel.TheVariants as set_label
@@ -17,6 +17,7 @@ use Rattle.task_rules.proofs.SayLemmas.{call_answered_gone, call_returned_gone, 
 use Rattle.task_rules.proofs.CancelLemmas.{CaseSays, case_says}
 use Rattle.task_rules.proofs.PlacingLemmas.{Shifted, placed, shifted_far, shifted_made, shifted_task, shifts_shifted}
 use Rattle.task_rules.proofs.StandLemmas.{by_number}
+use Rattle.task_rules.proofs.WalkEnds.{call_ends}
 use Rattle.task_rules.proofs.WalkTask.{Stands, Leads, advanced_walks, answered_walks, assigned_walks, goes_on, goes_on_saying, goes_on_told, goes_over, may_leads, or_never_leads, or_trap_leads, running_scene, stops_here, trap_if_leads, unnot, is_still, over_now}
 use Rattle.task_machine.specs.declared.component.Slot.TheVariants as slot
 use Rattle.task_machine.specs.declared.label.CallLabel.TheVariants as call_label
@@ -65,14 +66,6 @@ ready_at_once n r q v s = let h = assigned_works n r 2 (set_register n q v (coun
 answered_at_once : (n r v : ℕ) (s : Core) → (next_work s ≡ next_work s) × (((host_answered n r v s).made.works ≡ next_work s) × ((host_answered n r v s).works ≡ s.works))
 unfolding host_answered count_work
 answered_at_once n r v s = let h = assigned_works n r v (count_work s) in (refl, (h.0, h.1))
-
-assigned_fresh : (n r v : ℕ) (s : Core) → how_far_of n (assigned n r v s) ≡ how_far.Fresh
-unfolding assigned advanced moved_to
-assigned_fresh n r v s = far_fresh n _
-
-answered_fresh : (n r v : ℕ) (s : Core) → how_far_of n (answered n r v s) ≡ how_far.Fresh
-unfolding answered
-answered_fresh n r v s = assigned_fresh n r v (set_saved_callee n None s)
 
 -- whose a call is, and which handle names it, is as before once the op that was inside of it goes on
 resumed_card : (n r v k : ℕ) (s : Core) → (caller_of k (answered n r v (call_resumes n k s)) ≡ caller_of k s) × (subtask_handle (subtask.Guest k) (answered n r v (call_resumes n k s)) ≡ subtask_handle (subtask.Guest k) s)
@@ -190,7 +183,7 @@ module _ (x : Setting) (main : Main) (s : Core) (n : ℕ) (l : Label) (next : Tu
 
   -- a thread that isn't taken takes no Cancelled
   takes : (y : ℕ) (ch : Choice) (g : Gift) → gift false (task_of n s) y (chosen n ch s) s ≡ Some g → MayTake a (task_of n s) g
-  takes y ch g e = gift_is a n false y ch g refl (λ f. absurd (subst T (sym f) tt)) e
+  takes y ch g e = gift_is a n false y ch g refl (λ f o. absurd (subst T (sym f) tt)) e
 
   wait_begins_leads : (r h : ℕ) (ch : Choice) (y : ℕ) (b : Bool) → is_wait (op_in a n) ≡ true → set_at (instance_of n s) h s ≡ Some y → Leads a s (wait_begins n r ch s y b)
   unfolding wait_stops_checked
@@ -280,44 +273,50 @@ module _ (x : Setting) (main : Main) (s : Core) (n : ℕ) (l : Label) (next : Tu
   by_call : (sub : Subtask) → how_far_of n s ≡ how_far.Calls sub → HasSubtask a n sub
   by_call sub far = ByOp (ap (λ h. subtask_under_way h) far)
 
-  call_pending_leads : (r k : ℕ) (e : Status) → (e ≡ status.Returned → ⊥) → how_far_of n s ≡ how_far.Calls (subtask.Guest k) → Leads a s (let v = packed (new_handle (instance_of n s) s) e in trap_if (at_handle_limit s) trap.HandleLimit (Goes (label.Call (call_label.Call v n)) (call_pending n r k v s) n))
+  call_pending_leads : (r k : ℕ) (e : Status) → (e ≡ status.Returned → ⊥) → (event_of (subtask.Guest k) s ≡ Some status.Returned → ⊥) → how_far_of n s ≡ how_far.Calls (subtask.Guest k) → Leads a s (let v = packed (new_handle (instance_of n s) s) e in trap_if (at_handle_limit s) trap.HandleLimit (Goes (label.Call (call_label.Call v n)) (call_pending n r k v s) n))
   unfolding call_pending
-  call_pending_leads r k e other far =
+  call_pending_leads r k e other unreturned far =
       trap_if_leads a s (at_handle_limit s) trap.HandleLimit _ (λ f.
       let v = packed (new_handle (instance_of n s) s) e in
       go _ (call_pending n r k v s) (packed_is_not_two (new_handle (instance_of n s) s) e other)
       (λ to. subst (λ (t : Core). Stay a s t) (answered_unnamed n r v (instance_of n s) k (call_resumes n k s)) (Then _ (NameCall (instance_of n s) k)
-      (answered_walks n refl on r v (call_resumes_walks n refl k (by_call (subtask.Guest k) far) NoWord) to) (n, (refl, (refl, (far, (answered_fresh n r v (call_resumes n k s), resumed_card n r v k s))))))))
+      (answered_walks n refl on r v (call_resumes_walks n refl k far unreturned NoWord) to) (n, (refl, (refl, (far, (answered_fresh n r v (call_resumes n k s), resumed_card n r v k s))))))))
 
   -- the op is about a call that has returned
   returned_out : (k : ℕ) (t : Core) → how_far_of n s ≡ how_far.Calls (subtask.Guest k) → status_found k s ≡ status.Returned → HasNoEnd (subtask.Guest k) t → (sub : Subtask) (e : Status) → returned_of_op n s ≡ Some (end_for e sub) → HandsOut a t sub e
   returned_out k t far found gone sub e out = said_is (HandsOut a t) (sym (ap (λ (f : HowFar). option_map (end_for status.Returned) (call_of_op f)) far) ∙ out) (TakesEvent (subtask.Guest k) status.Returned (found_returned (event_of (subtask.Guest k) s) found) gone)
 
-  call_status_leads : (r k : ℕ) (e : Status) → how_far_of n s ≡ how_far.Calls (subtask.Guest k) → status_found k s ≡ e → HasSubtask a n (subtask.Guest k) → Leads a s (call_status n r k s e)
+  -- the op is done, and then the call that it was inside of may go
+  done_walks : (r v k : ℕ) (t : Core) → how_far_of n s ≡ how_far.Calls (subtask.Guest k) → Stay a s (answered n r v t) → Stay a s (answered n r v (call_settled k t))
+  done_walks r v k t far c =
+      subst (λ (u : Core). Stay a s u) (answered_settled n r v k t)
+      (call_done_walks k (λ gone. (gone, inr (n, (refl, (far, answered_fresh n r v t))))) c)
+
+  call_status_leads : (r k : ℕ) (e : Status) → how_far_of n s ≡ how_far.Calls (subtask.Guest k) → status_found k s ≡ e → Leads a s (call_status n r k s e)
   unfolding call_returned
-  call_status_leads r k status.Returned far found has =
+  call_status_leads r k status.Returned far found =
       goes_on_saying x main s n l next (label.Call (call_label.Call 2 n)) (call_returned n r k s) refl
       (λ is. call_says (call_label.Call 2 n) _ refl is (returned_out k (call_returned n r k s) far found (call_returned_gone n r k s)))
-      (λ is. answered_walks n refl on r 2 (call_settled_walks k (call_resumes_walks n refl k has NoWord)))
-  call_status_leads r k e far found has = call_pending_leads r k e (λ h. absurd (cc)) far
+      (λ is to. done_walks r 2 k (call_resumes n k s) far (call_answers_walks n refl on r 2 k far NoWord to))
+  call_status_leads r k e far found = call_pending_leads r k e (λ h. absurd (cc)) (λ h. absurd (grind arith)) far
 
   call_row_leads : (r q : ℕ) (e : Callee) (words : List ℕ) (f : HowFar) → callee_of_op (op_in a n) ≡ Some e → how_far_of n s ≡ f → Leads a s (call_row x.component n r q e words s f)
-  call_row_leads r q e words (how_far.Calls (subtask.Guest k)) callee far = call_status_leads r k (status_found k s) far refl (by_call (subtask.Guest k) far)
+  call_row_leads r q e words (how_far.Calls (subtask.Guest k)) callee far = call_status_leads r k (status_found k s) far refl
   call_row_leads r q e words _ callee far = call_begins_leads e (goal.Register q) words callee refl refl
 
-  call_sync_pauses : (k : ℕ) → is_some (callee_of_op (op_in a n)) ≡ true → how_far_of n s ≡ how_far.Calls (subtask.Guest k) → Leads a s (trap_if (not (passes_check (instance_of n s) (call_resumes n k s))) trap.CannotBlockSyncTask (Stops (label.Thread (thread_label.Pauses n)) (call_sync_stops n k s)))
+  call_sync_pauses : (k : ℕ) → (event_of (subtask.Guest k) s ≡ Some status.Returned → ⊥) → is_some (callee_of_op (op_in a n)) ≡ true → how_far_of n s ≡ how_far.Calls (subtask.Guest k) → Leads a s (trap_if (not (passes_check (instance_of n s) (call_resumes n k s))) trap.CannotBlockSyncTask (Stops (label.Thread (thread_label.Pauses n)) (call_sync_stops n k s)))
   unfolding call_sync_stops
-  call_sync_pauses k can far =
+  call_sync_pauses k unreturned can far =
       trap_if_leads a s (not (passes_check (instance_of n s) (call_resumes n k s))) trap.CannotBlockSyncTask _ (λ f.
-      stop _ (call_sync_stops n k s) refl (λ leave. call_stops_walks n refl at_ops (subtask.Guest k) (checked (instance_of n s) (call_resumes n k s)) can leave (λ u d. inl (by_call (subtask.Guest k) far)) (λ u d at. (refl, inl (far, resumed_far n k s u d ∙ far))) (checked_walks n refl (instance_of n s) (call_resumes_walks n refl k (by_call (subtask.Guest k) far) NoWord))))
+      stop _ (call_sync_stops n k s) refl (λ leave. call_stops_walks n refl at_ops (subtask.Guest k) (checked (instance_of n s) (call_resumes n k s)) can leave (λ u d. inl (by_call (subtask.Guest k) far)) (λ u d at. (refl, inl (far, resumed_far n k s u d ∙ far))) (checked_walks n refl (instance_of n s) (call_resumes_walks n refl k far unreturned NoWord))))
 
-  call_sync_status_leads : (r k : ℕ) (e : Status) → is_some (callee_of_op (op_in a n)) ≡ true → how_far_of n s ≡ how_far.Calls (subtask.Guest k) → status_found k s ≡ e → HasSubtask a n (subtask.Guest k) → Leads a s (call_sync_status n r k s e)
+  call_sync_status_leads : (r k : ℕ) (e : Status) → is_some (callee_of_op (op_in a n)) ≡ true → how_far_of n s ≡ how_far.Calls (subtask.Guest k) → status_found k s ≡ e → Leads a s (call_sync_status n r k s e)
   unfolding call_answered
-  call_sync_status_leads r k status.Returned can far found has =
+  call_sync_status_leads r k status.Returned can far found =
       goes_on_saying x main s n l next (label.Call (call_label.CallSync n (result_of k s))) (call_answered n r k s) refl
       (λ is. call_says (call_label.CallSync n (result_of k s)) _ refl is (returned_out k (call_answered n r k s) far found (call_answered_gone n r k s)))
-      (λ is. answered_walks n refl on r (result_of k s) (call_settled_walks k (word (SetResult k None) tt (call_resumes_walks n refl k has NoWord))))
-  call_sync_status_leads r k e can far found has = call_sync_pauses k can far
+      (λ is to. done_walks r (result_of k s) k (set_result k None (call_resumes n k s)) far (subst (λ (u : Core). Stay a s u) (answered_parted n r (result_of k s) k (call_resumes n k s)) (Then _ (SetResult k None) (call_answers_walks n refl on r (result_of k s) k far NoWord to) tt)))
+  call_sync_status_leads r k e can far found = call_sync_pauses k (λ h. absurd (grind arith)) can far
 
   enter_row_leads : (e : Callee) (words : List ℕ) → is_sync_call (op_in a n) ≡ true → callee_of_op (op_in a n) ≡ Some e → is_async_lifted (export_kind x.component e) ≡ false → Leads a s (enter_row n e (export_kind x.component e) words s)
   enter_row_leads e words sync callee lifted =
@@ -332,7 +331,7 @@ module _ (x : Setting) (main : Main) (s : Core) (n : ℕ) (l : Label) (next : Tu
       goes_on_saying x main s n l next (label.Call (call_label.CallSync n v)) (assigned n r v s) refl
       (λ is. call_says (call_label.CallSync n v) _ refl is (λ sub f out. none_said (ap (λ (h : HowFar). option_map (end_for status.Returned) (call_of_op h)) far) out))
       (λ is. assigned_walks n refl on r v NoWord)
-  call_sync_row_leads r e words (how_far.Calls (subtask.Guest k)) sync callee far = call_sync_status_leads r k (status_found k s) (calls callee) far refl (by_call (subtask.Guest k) far)
+  call_sync_row_leads r e words (how_far.Calls (subtask.Guest k)) sync callee far = call_sync_status_leads r k (status_found k s) (calls callee) far refl
   call_sync_row_leads r e words _ sync callee far = by_lift (is_async_lifted (export_kind x.component e)) refl
     where
       by_lift : (b : Bool) → is_async_lifted (export_kind x.component e) ≡ b → Leads a s (call_sync_begins x.component n e words s b)
@@ -423,37 +422,37 @@ module _ (x : Setting) (main : Main) (s : Core) (n : ℕ) (l : Label) (next : Tu
       hands_at : (m : Mode) → handed_by x.component main s (cancel_label m n (status_code e)) (cancel_takes_end n r sub e t) ≡ handed_by_cancel x.component n s (status_code e)
       hands_at m = grind arith
 
-  cancel_ended_row_leads : (mode : Mode) (r : ℕ) (sub : Subtask) (t : Core) (o : Option Status) → cancelled_of_op x.component n s (how_far_of n s) ≡ Some sub → undelivered_end (event_of sub s) ≡ o → HasSubtask a n sub → Keep a s t → Leads a s (cancel_ended_row mode n r sub t o)
+  cancel_ended_row_leads : (mode : Mode) (r : ℕ) (sub : Subtask) (t : Core) (o : Option Status) → cancelled_of_op x.component n s (how_far_of n s) ≡ Some sub → undelivered_end (event_of sub s) ≡ o → MayCancel a n sub → Keep a s t → Leads a s (cancel_ended_row mode n r sub t o)
   cancel_ended_row_leads mode r sub t None target found has c = tt
   cancel_ended_row_leads mode r sub t (Some e) target found has c = goes_on_saying x main s n l next (cancel_label mode n (status_code e)) (cancel_takes_end n r sub e t) (cancel_plain mode n (status_code e)) (λ is. cancel_says mode r sub t e target found is) (λ is. cancel_takes_end_walks n refl on r sub e has c)
 
-  cancel_by_end_leads : (mode : Mode) (r : ℕ) (sub : Subtask) (t : Core) (b : Bool) → CancelOp mode → cancelled_of_op x.component n s (how_far_of n s) ≡ Some sub → event_of sub t ≡ event_of sub s → HasSubtask a n sub → IsFree sub → Keep a s t → Leads a s (cancel_by_end mode n r sub t b)
+  cancel_by_end_leads : (mode : Mode) (r : ℕ) (sub : Subtask) (t : Core) (b : Bool) → CancelOp mode → cancelled_of_op x.component n s (how_far_of n s) ≡ Some sub → event_of sub t ≡ event_of sub s → MayCancel a n sub → IsFree sub → Keep a s t → Leads a s (cancel_by_end mode n r sub t b)
   cancel_by_end_leads mode r sub t true by target same has free c = cancel_ended_row_leads mode r sub t (undelivered_end (event_of sub t)) target (ap (λ o. undelivered_end o) (sym same)) has c
   cancel_by_end_leads Async r sub t false by target same has free c = go (cancel_label Async n blocked_code) (answered n r blocked_code t) refl (answered_walks n refl on r blocked_code c)
   cancel_by_end_leads Sync r sub t false by target same has free c =
       trap_if_leads a s (not (passes_check (instance_of n t) t)) trap.CannotBlockSyncTask _ (λ e.
       stop (pauses n) (cancel_stops n sub t) refl (λ leave. cancel_stops_walks n refl at_ops sub by leave has free c))
 
-  asks_walks : (k : ℕ) → HasSubtask a n (subtask.Guest k) → (has_ended k s ≡ false) × (was_started k s ≡ true) → Keep a s (cancel_asks k s)
+  asks_walks : (k h : ℕ) → subtask_at (instance_of n s) h s ≡ Some (subtask.Guest k) → (has_ended k s ≡ false) × (was_started k s ≡ true) → Keep a s (cancel_asks k s)
   unfolding cancel_asks
-  asks_walks k has says = word (SetOwnEvent k (Some own.Cancelled)) (inl (refl, ((n, (refl, has)), (says.1, says.0)))) NoWord
+  asks_walks k h named says = word (SetOwnEvent k (Some own.Cancelled)) (inl (refl, ((n, (h, (refl, named))), (says.1, says.0)))) NoWord
 
   cancel_writes : (mode : Mode) (t : Core) → written_by x.component s (cancel_label mode n 3) t ≡ option_map (end_for status.StartCancelled) (cancelled_of_op x.component n s (how_far_of n s))
   cancel_writes mode t = grind arith
 
-  withdrawn_low : (k : ℕ) (e : CallEnd) → Stands a (set_end k e (after_word (Withdraw k) s)) n
-  unfolding set_end on_call remove_thread
+  withdrawn_low : (k : ℕ) (e : CallEnd) → Stands a (call_ends k e (after_word (Withdraw k) s)) n
+  unfolding on_call remove_thread
   withdrawn_low k e = (refl, let b = on.1 in grind (arith, nat_tests, get-remove, b))
 
   -- a start that is withdrawn is an end, and handed out
   withdraw_says : (mode : Mode) (r k : ℕ) → next ≡ turn.Run n → l ≡ cancel_label mode n 3 → cancelled_of_op x.component n s (how_far_of n s) ≡ Some (subtask.Guest k) → IsNamed a (subtask.Guest k) → has_ended k s ≡ false → EndWords a (cancel_withdraws n r k s)
-  unfolding cancel_withdraws withdrawn remove_thread
+  unfolding cancel_withdraws withdrawn remove_thread set_end
   withdraw_says mode r k to at target named unended =
       let t = cancel_withdraws n r k s in
       let writes : written_by x.component s l t ≡ Some (end_for status.StartCancelled (subtask.Guest k)) = ap (λ (y : Label). written_by x.component s y t) at ∙ (cancel_writes mode t ∙ ap (option_map (end_for status.StartCancelled)) target) in
       let v : Core = after_word (Withdraw k) s in
-      let u : Core = set_end k call_end.StartCancelled v in
-      let rest : Walk a u (cancel_withdraws n r k s) = subst (λ (w : Core). Walk a (set_end k call_end.StartCancelled w) (cancel_withdraws n r k s)) (sym (withdraws k s)) (stay_walk (answered_walks n refl (subst (λ (w : Core). Stands a (set_end k call_end.StartCancelled w) n) (withdraws k s) (withdrawn_low k call_end.StartCancelled)) r 3 (word (SetUninteresting k) tt (word (SetExited k) tt NoWord)) to)) in
+      let u : Core = call_ends k call_end.StartCancelled v in
+      let rest : Walk a u (cancel_withdraws n r k s) = subst (λ (w : Core). Walk a (call_ends k call_end.StartCancelled w) (cancel_withdraws n r k s)) (sym (withdraws k s)) (stay_walk (answered_walks n refl (subst (λ (w : Core). Stands a (call_ends k call_end.StartCancelled w) n) (withdraws k s) (withdrawn_low k call_end.StartCancelled)) r 3 (word (SetUninteresting k) tt (word (SetExited k) tt NoWord)) to)) in
       record {
         writes = λ to f says. said_is (λ d g. Writes a t d) (sym writes ∙ says) (WritesCall k u (EndsSubtask named unended) (over_now k call_end.StartCancelled v) rest);
         hands = λ to f out. said_is (HandsOut a t) (sym (ap (λ (y : Label). handed_by x.component main s y t) at ∙ (withdraw_hands mode ∙ ap (option_map (end_for status.StartCancelled)) target)) ∙ out) (WritesToo k status.StartCancelled (ap (λ (y : Label). written_by x.component s y s) at ∙ (cancel_writes mode s ∙ ap (option_map (end_for status.StartCancelled)) target)) (inr refl));
@@ -464,21 +463,21 @@ module _ (x : Setting) (main : Main) (s : Core) (n : ℕ) (l : Label) (next : Tu
 
   cancel_guest_leads : (mode : Mode) (r h k : ℕ) (y : CancelCase) → CancelOp mode → cancelled_of_op x.component n s (how_far_of n s) ≡ Some (subtask.Guest k) → cancel_case k s ≡ y → subtask_at (instance_of n s) h s ≡ Some (subtask.Guest k) → is_joined (join_of (subtask.Guest k) s) ≡ false → Leads a s (cancel_guest mode n r k s y)
   unfolding cancel_withdraws cancel_wakes_callback cancel_promotes_yield cancel_asks set_own_event on_call
-  cancel_guest_leads mode r h k AlreadyEnded by target is named free = cancel_ended_row_leads mode r (subtask.Guest k) s (undelivered_end (event_of (subtask.Guest k) s)) target refl (ByHandle h named) NoWord
+  cancel_guest_leads mode r h k AlreadyEnded by target is named free = cancel_ended_row_leads mode r (subtask.Guest k) s (undelivered_end (event_of (subtask.Guest k) s)) target refl (inl (h, named)) NoWord
   cancel_guest_leads mode r h k StartNotRun by target is named free =
       let says = subst (CaseSays k s) is (case_says k s) in
       goes_on_told x main s n l next (cancel_label mode n 3) (cancel_withdraws n r k s) (cancel_plain mode n 3)
       (λ at to. withdraw_says mode r k to at target (n, (h, (refl, named))) says.0)
-      (λ at. answered_walks n refl on r 3 (withdrawn_walks n refl k (n, (refl, (ByHandle h named, (says.1, (says.0, (refl, says.1)))))) (ap (λ (y : Label). written_by x.component s y s) at ∙ (cancel_writes mode s ∙ ap (option_map (end_for status.StartCancelled)) target)) NoWord))
+      (λ at. answered_walks n refl on r 3 (withdrawn_walks n refl k (n, (refl, ((n, (h, (refl, named))), (says.1, (says.0, (refl, says.1)))))) (ap (λ (y : Label). written_by x.component s y s) at ∙ (cancel_writes mode s ∙ ap (option_map (end_for status.StartCancelled)) target)) NoWord))
   cancel_guest_leads mode r h k CallbackWaits by target is named free =
-      let asks = asks_walks k (ByHandle h named) (goes_on_case k s CallbackWaits is refl) in
-      stop (pauses n) (cancel_wakes_callback n k s) refl (λ leave. cancel_goes_behind_walks n refl at_ops k (cancels mode by) leave (ByHandle h named) free
+      let asks = asks_walks k h named (goes_on_case k s CallbackWaits is refl) in
+      stop (pauses n) (cancel_wakes_callback n k s) refl (λ leave. cancel_goes_behind_walks n refl at_ops k (cancels mode by) leave (inl (h, named)) free
       (placed (Put mark.Switch k (why.Delivery delivery.Cancel)) (inl (Cancels (subst (CaseSays k s) is (case_says k s)) refl)) asks))
   cancel_guest_leads mode r h k CallbackYields by target is named free =
-      let asks = asks_walks k (ByHandle h named) (goes_on_case k s CallbackYields is refl) in
-      stop (pauses n) (cancel_promotes_yield n k s) refl (λ leave. cancel_goes_behind_walks n refl at_ops k (cancels mode by) leave (ByHandle h named) free
+      let asks = asks_walks k h named (goes_on_case k s CallbackYields is refl) in
+      stop (pauses n) (cancel_promotes_yield n k s) refl (λ leave. cancel_goes_behind_walks n refl at_ops k (cancels mode by) leave (inl (h, named)) free
       (promoted_walks n k refl (ready_at (place_of k s) (yields_ready (place_of k s) (subst (CaseSays k s) is (case_says k s)))) asks))
-  cancel_guest_leads mode r h k OtherwiseRuns by target is named free = cancel_by_end_leads mode r (subtask.Guest k) (cancel_asks k s) (subtask_ended (subtask.Guest k) (cancel_asks k s)) by target (event_owed k (Some own.Cancelled) s) (ByHandle h named) (inl free) (asks_walks k (ByHandle h named) (goes_on_case k s OtherwiseRuns is refl))
+  cancel_guest_leads mode r h k OtherwiseRuns by target is named free = cancel_by_end_leads mode r (subtask.Guest k) (cancel_asks k s) (subtask_ended (subtask.Guest k) (cancel_asks k s)) by target (event_owed k (Some own.Cancelled) s) (inl (h, named)) (inl free) (asks_walks k h named (goes_on_case k s OtherwiseRuns is refl))
 
   cancel_subtask_leads : (mode : Mode) (r h : ℕ) (sub : Subtask) → CancelOp mode → cancelled_of_op x.component n s (how_far_of n s) ≡ Some sub → subtask_at (instance_of n s) h s ≡ Some sub → is_joined (join_of sub s) ≡ false → Leads a s (cancel_subtask mode n r s sub)
   unfolding cancel_aborts_host
@@ -486,18 +485,18 @@ module _ (x : Setting) (main : Main) (s : Core) (n : ℕ) (l : Label) (next : Tu
   cancel_subtask_leads mode r h (subtask.Host i) by target named free =
       let has : HasSubtask a n (subtask.Host i) = ByHandle h named in
       trap_if_leads a s (was_cancelled i s) trap.SubtaskCancelAfterTerminal _ (λ e.
-      cancel_by_end_leads mode r (subtask.Host i) (cancel_aborts_host i s) (subtask_ended (subtask.Host i) (cancel_aborts_host i s)) by target (event_aborted i s) has (inl free) (word (SetCancelled i) (n, (refl, has)) (word (SetPhase i (aborted_phase (phase_of i s))) (AbortsOwn (n, (h, (refl, named))), refl) NoWord)))
+      cancel_by_end_leads mode r (subtask.Host i) (cancel_aborts_host i s) (subtask_ended (subtask.Host i) (cancel_aborts_host i s)) by target (event_aborted i s) (inl (h, named)) (inl free) (word (SetCancelled i) (n, (refl, has)) (word (SetPhase i (aborted_phase (phase_of i s))) (AbortsOwn (n, (h, (refl, named))), refl) NoWord)))
 
   cancel_row_leads : (mode : Mode) (r h : ℕ) (f : HowFar) → CancelOp mode → cancel_target n s (op_of x.component n s) ≡ subtask_at (instance_of n s) h s → how_far_of n s ≡ f → Leads a s (cancel_row mode n r h s f)
   unfolding cancel_resumed
   cancel_row_leads mode r h (how_far.Cancels sub) by target far =
       let has : HasSubtask a n sub = ByOp (ap (λ y. subtask_under_way y) far) in
-      cancel_by_end_leads mode r sub (cancel_resumed n sub s) (subtask_ended sub (cancel_resumed n sub s)) by (ap (cancelled_of_op x.component n s) far) (event_resumed n sub s) has (inr far)
+      cancel_by_end_leads mode r sub (cancel_resumed n sub s) (subtask_ended sub (cancel_resumed n sub s)) by (ap (cancelled_of_op x.component n s) far) (event_resumed n sub s) (inr (inl far)) (inr far)
       (join_walks n refl sub join.Nowhere (n, (refl, has)) (word (SetSavedCallee n None) tt (put_back_walks n refl (saved_callee_of n s) (subtask_instance sub s) NoWord)))
   cancel_row_leads mode r h (how_far.AwaitsEnd sub) by target far =
       let has : HasSubtask a n sub = ByOp (ap (λ y. subtask_under_way y) far) in
       let t = set_join sub join.Nowhere s in
-      cancel_ended_row_leads mode r sub t (undelivered_end (event_of sub t)) (ap (cancelled_of_op x.component n s) far) (ap (λ o. undelivered_end o) (sym (event_joined sub join.Nowhere s))) has (join_walks n refl sub join.Nowhere (n, (refl, has)) NoWord)
+      cancel_ended_row_leads mode r sub t (undelivered_end (event_of sub t)) (ap (cancelled_of_op x.component n s) far) (ap (λ o. undelivered_end o) (sym (event_joined sub join.Nowhere s))) (inr (inr far)) (join_walks n refl sub join.Nowhere (n, (refl, has)) NoWord)
   cancel_row_leads mode r h f by target far =
       or_trap_leads a s (subtask_at (instance_of n s) h s) trap.BadHandle _ (λ sub named.
       trap_if_leads a s (is_joined (join_of sub s)) trap.WaitableSyncAndAsync _ (λ free.
@@ -509,12 +508,16 @@ module _ (x : Setting) (main : Main) (s : Core) (n : ℕ) (l : Label) (next : Tu
   unfolding free_handle set_subtask_handle set_join on_work
   still_ended i j h t e = grind (arith, nat_tests, get-change)
 
+  still_over : (k j h : ℕ) (t : Core) → has_ended k t ≡ true → has_ended k (free_handle j h (set_subtask_handle (subtask.Guest k) None (set_join (subtask.Guest k) join.Nowhere t))) ≡ true
+  unfolding free_handle set_subtask_handle set_join on_call
+  still_over k j h t e = grind (arith, nat_tests, get-change)
+
   dropped_walks : (h : ℕ) (sub : Subtask) → subtask_at (instance_of n s) h s ≡ Some sub → subtask_ended sub s ≡ true → Going a s n (dropped n h sub s)
   unfolding dropped set_join on_call on_work
   dropped_walks h (subtask.Guest k) named ended =
       let sub = subtask.Guest k in
       let t = set_join sub join.Nowhere s in
-      advanced_walks n refl on (call_settled_walks k (word (UnnameCall (instance_of n s) h k) (n, (refl, (refl, (named, set_none_join sub s)))) (join_walks n refl sub join.Nowhere (n, (refl, ByHandle h named)) NoWord)))
+      advanced_walks n refl on (call_settled_walks k (λ gone. still_over k (instance_of n s) h s ended) (word (UnnameCall (instance_of n s) h k) (n, (refl, (refl, (named, set_none_join sub s)))) (join_walks n refl sub join.Nowhere (n, (refl, ByHandle h named)) NoWord)))
   dropped_walks h (subtask.Host i) named ended =
       let sub = subtask.Host i in
       let t = set_join sub join.Nowhere s in
@@ -548,7 +551,7 @@ module _ (x : Setting) (main : Main) (s : Core) (n : ℕ) (l : Label) (next : Tu
       trap_if_leads a s (not (fits 2 s)) trap.TableFull _ (λ e.
       trap_if_leads a s (at_handle_limit s) trap.HandleLimit _ (λ f.
       go _ (thread_made n r y v s) refl (assigned_walks n refl on r (new_thread_handle (instance_of n s) s) (word (NameThread (instance_of n s) (next_thread s)) tt
-      (word (MakeThread (new_thread (task_of n s) true (script.Slot y) (registers_for (v ∷ [])) None)) (n, (refl, (refl, (y, (v, (refl, (refl, ap is_script at))))))) NoWord)))))
+      (word (MakeThread (new_thread (task_of n s) true (script.Slot y) (registers_for (v ∷ [])) None)) (n, (refl, (refl, (y, (v, (refl, (refl, (ap is_script at, refl)))))))) NoWord)))))
 
   -- the op halts so
   abbrev HaltOp : Halt → Type 0

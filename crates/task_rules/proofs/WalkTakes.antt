@@ -1,6 +1,7 @@
 -- The takings of entries as chains of words.
-use Rattle.task_rules.proofs.Machine.{activated, activated_woken, admits, ap, arith, at_handle_limit, backpressure_of, begun_holder, Bool, Call, Choice, chosen, cond, Core, delivered, delivery_row, end_for, EndWords, event_label, ExportKind, false, foot_of, get, Gift, gift, give_thread_handle, Given, given_for, Goes, handed_by, handed_by_event, handed_on, handed_out, HandsOut, held_label, holder_at_start, Holds, host_label, if◌then◌else◌, inl, inr, instance_of, is_begun, is_exit, is_explicit, is_free, is_holding, is_none, is_running, is_some, is_start, is_sync, is_told, IsLaid, kind_of, Label, LastWords, Main, Mark, may, may_hand_on, may_not_enter, may_tell, may_tell_starting, MayDeliver, MayMove, MemberGift, Move, moved_to, NameThread, nat_tests, NoGift, None, not, NoWord, on_call, on_instance, on_thread, Option, option_map_or, outcome_of_label, own_delivered, own_gift_of, own_gift_only, own_or_nothing, OwnEvent, OwnGift, Place, place_of, published, Records, refl, Restart, running, Runs, Scene, set_delivered, set_do_not_enter, set_event, set_given, set_how_far, set_place, set_position, set_script, set_started, set_starting_published, set_thread_handle, SetDoNotEnter, SetStarted, SetStartingPublished, Setting, Some, start_admitted, start_begins, start_holds, start_row, start_sets_flags, starting_is_published, starting_told, Status, stopped, Stops, subst, Subtask, sym, T, take_holds, take_label, taken, TakesEvent, taking, task_of, thread_taken, told, true, Turn, unwrap_or, wait_again, WaitsAgain, was_started, WasReady, Why, with_thread_handle, written_by, ℕ, ◌&&◌, ◌==◌, ◌||◌, ◌∙◌, ◌≡◌}
+use Rattle.task_rules.proofs.Machine.{activated, activated_woken, admits, ap, arith, at_handle_limit, backpressure_of, begun_holder, Bool, Call, Choice, chosen, cond, Core, delivered, delivery_row, end_for, end_of, EndWords, event_label, ExportKind, false, foot_of, get, Gift, gift, give_thread_handle, Given, given_for, Goes, handed_by, handed_by_event, handed_on, handed_out, HandsOut, held_label, holder_at_start, Holds, host_label, if◌then◌else◌, inl, inr, instance_of, is_begun, is_exit, is_explicit, is_free, is_holding, is_none, is_running, is_some, is_start, is_sync, is_told, IsLaid, kind_of, Label, LastWords, Main, Mark, may, may_hand_on, may_not_enter, may_tell, may_tell_starting, MayDeliver, MayMove, MemberGift, Move, moved_to, NameThread, nat_tests, NoGift, None, not, NoWord, on_call, on_instance, on_thread, Option, option_map_or, outcome_of_label, own_delivered, own_event_of, own_gift_of, own_gift_only, own_or_nothing, OwnEvent, OwnGift, Place, place_of, published, Records, refl, Restart, running, Runs, Scene, set_delivered, set_do_not_enter, set_event, set_given, set_how_far, set_place, set_position, set_script, set_started, set_starting_published, set_thread_handle, SetDoNotEnter, SetStarted, SetStartingPublished, Setting, Some, start_admitted, start_begins, start_holds, start_row, start_sets_flags, starting_is_published, starting_told, Status, stopped, Stops, subst, Subtask, sym, T, take_holds, take_label, taken, TakesEvent, taking, task_of, thread_taken, told, true, Turn, unwrap_or, wait_again, WaitsAgain, was_started, WasReady, Why, with_thread_handle, written_by, ℕ, ◌&&◌, ◌==◌, ◌||◌, ◌∙◌, ◌≡◌}
 use Rattle.task_machine.specs.declared.records.Delivery.{Delivery}
+use Rattle.task_machine.specs.declared.words.OwnEvent.TheVariants as own
 use Rattle.task_machine.proofs.CommuteLemmas.{get-change}
 use Rattle.task_rules.proofs.MuteLemmas.{is_mute, mute_words, none_said}
 use Rattle.task_rules.proofs.SayLemmas.{activated_on_gone, given_says, HasNoEnd}
@@ -135,6 +136,14 @@ begun_started : (n : ℕ) (s : Core) → is_told (task_of n s) (begun_at n s) �
 unfolding begun_at set_started on_call with_thread_handle set_thread_handle give_thread_handle on_thread
 begun_started n s told = grind (arith, nat_tests, get-change)
 
+begun_end : (n : ℕ) (s : Core) → end_of (task_of n s) (begun_at n s) ≡ end_of (task_of n s) s
+unfolding begun_at set_started on_call with_thread_handle set_thread_handle give_thread_handle on_thread
+begun_end n s = grind (arith, nat_tests, get-change)
+
+published_end : (k : ℕ) (s : Core) → end_of k (set_starting_published k s) ≡ end_of k s
+unfolding set_starting_published on_call
+published_end k s = grind (arith, nat_tests, get-change)
+
 published_same : (k : ℕ) (s : Core) → SameCall k s (set_starting_published k s)
 unfolding set_starting_published on_call
 published_same k s = change-field unanswered k (λ (c : Call). record c { starting_published = true }) (λ c. refl) s.calls k
@@ -201,11 +210,11 @@ module _ (x : Setting) (main : Main) (ended : Bool) (s : Core) (n : ℕ) (l : La
   not_start : (y : Mark) (v : Why) → place_of n s ≡ Some (place.Ready y v) → WasReady taking_scene n why.Start → {A : Type 0} → is_start (place.Ready y v) ≡ false → A
   not_start y v at ready none = absurd (subst T (ap (λ (o : Option Place). option_map_or is_start o false) (sym ready.1 ∙ at) ∙ none) tt)
 
-  starts_walks : (w : Option ℕ) → WasReady taking_scene n why.Start → may_tell (task_of n s) w s ≡ true → Keep taking_scene s (told_start w)
+  starts_walks : (w : Option ℕ) → WasReady taking_scene n why.Start → is_explicit n s ≡ false → may_tell (task_of n s) w s ≡ true → Keep taking_scene s (told_start w)
   unfolding begun_at
-  starts_walks w ready may =
+  starts_walks w ready implicit may =
       let k = task_of n s in
-      told_walks k status.Started w (begun_started n s) (λ e. absurd (subst T (sym e) tt)) (still_told_to k s (begun_at n s) (begun_same n s) w (λ y h. begun_chosen n y w s h) (told_to k w s may))
+      told_walks k status.Started w (begun_started n s) (n, (refl, (ready, (implicit, (refl, begun_end n s))))) (still_told_to k s (begun_at n s) (begun_same n s) w (λ y h. begun_chosen n y w s h) (told_to k w s may))
       (word (SetStarted k) (inl (n, (refl, (ready, refl)))) (word (NameThread (instance_of n s) n) tt NoWord))
 
   barred_leads : (m : Mark) (w : Option ℕ) → WasReady taking_scene n why.Start → is_explicit n s ≡ false → admits n s why.Start ≡ true → may_tell (task_of n s) w s ≡ true → (q : ExportKind) → kind_of (task_of n s) s ≡ q → is_holding q ≡ true → Leads taking_scene s (Goes (take_label m n w) (set_place n place.Running (set_do_not_enter (instance_of n (told_start w)) true (told_start w))) n)
@@ -217,11 +226,11 @@ module _ (x : Setting) (main : Main) (ended : Bool) (s : Core) (n : ℕ) (l : La
         subst (λ (j : ℕ). may_not_enter j s ≡ false) same open_at,
         subst (λ (j : ℕ). is_some (get (set_place n place.Running (set_do_not_enter (instance_of n (told_start w)) true (told_start w))).instances j) ≡ true → may_not_enter j (set_place n place.Running (set_do_not_enter (instance_of n (told_start w)) true (told_start w))) ≡ true) (home ∙ same) (started_shut n place.Running (told_start w) (instance_of n (told_start w))),
       ))
-      (λ to. word (SetDoNotEnter (instance_of n (told_start w)) true) (ap (λ (j : ℕ). may_not_enter j s) home ∙ open_at) (starts_walks w ready may))
+      (λ to. word (SetDoNotEnter (instance_of n (told_start w)) true) (ap (λ (j : ℕ). may_not_enter j s) home ∙ open_at) (starts_walks w ready implicit may))
 
   begins_leads : (m : Mark) (w : Option ℕ) → WasReady taking_scene n why.Start → is_explicit n s ≡ false → admits n s why.Start ≡ true → may_tell (task_of n s) w s ≡ true → (q : ExportKind) → kind_of (task_of n s) s ≡ q → Leads taking_scene s (Goes (take_label m n w) (set_place n place.Running (start_sets_flags n q (told_start w))) n)
-  begins_leads m w ready implicit admitted may kind.Sync at = runs_taken (take_label m n w) _ (λ i r. ap (λ (c : Records Call). option_map_or (λ d. d.started) (get c (task_of n s)) true) (flag_calls n (instance_of n (told_start w)) kind.Sync (told_start w)) ∙ start_begun w may) (take_taking m n w) (λ at. mute_words taking_scene _ (ap is_mute at ∙ take_mute m n w)) (λ i begun. none_holds m w kind.Sync at refl i begun) (λ to. sync_sets_flag_walks n refl n (instance_of n (told_start w)) kind.Sync (starts_walks w ready may))
-  begins_leads m w ready implicit admitted may kind.Stackful at = runs_taken (take_label m n w) _ (λ i r. start_begun w may) (take_taking m n w) (λ at. mute_words taking_scene _ (ap is_mute at ∙ take_mute m n w)) (λ i begun. none_holds m w kind.Stackful at refl i begun) (λ to. starts_walks w ready may)
+  begins_leads m w ready implicit admitted may kind.Sync at = runs_taken (take_label m n w) _ (λ i r. ap (λ (c : Records Call). option_map_or (λ d. d.started) (get c (task_of n s)) true) (flag_calls n (instance_of n (told_start w)) kind.Sync (told_start w)) ∙ start_begun w may) (take_taking m n w) (λ at. mute_words taking_scene _ (ap is_mute at ∙ take_mute m n w)) (λ i begun. none_holds m w kind.Sync at refl i begun) (λ to. sync_sets_flag_walks n refl n (instance_of n (told_start w)) kind.Sync (starts_walks w ready implicit may))
+  begins_leads m w ready implicit admitted may kind.Stackful at = runs_taken (take_label m n w) _ (λ i r. start_begun w may) (take_taking m n w) (λ at. mute_words taking_scene _ (ap is_mute at ∙ take_mute m n w)) (λ i begun. none_holds m w kind.Stackful at refl i begun) (λ to. starts_walks w ready implicit may)
   begins_leads m w ready implicit admitted may kind.Blocking at = barred_leads m w ready implicit admitted may kind.Blocking at refl
   begins_leads m w ready implicit admitted may kind.Callback at = barred_leads m w ready implicit admitted may kind.Callback at refl
 
@@ -238,12 +247,12 @@ module _ (x : Setting) (main : Main) (ended : Bool) (s : Core) (n : ℕ) (l : La
       may_leads taking_scene s (may_tell (task_of n s) w s) _ (λ may.
       begins_leads m w ready implicit admitted may (kind_of (task_of n s) s) refl))
 
-  starting_walks : (w : Option ℕ) → may_tell_starting (task_of n s) w s ≡ true → Keep taking_scene s (starting_told (task_of n s) w s)
+  starting_walks : (w : Option ℕ) → WasReady taking_scene n why.Start → is_explicit n s ≡ false → may_tell_starting (task_of n s) w s ≡ true → Keep taking_scene s (starting_told (task_of n s) w s)
   unfolding starting_told may_tell_starting
-  starting_walks w may =
+  starting_walks w ready implicit may =
       let k = task_of n s in
       walk_if (starting_is_published k s) s (told k status.Starting w (set_starting_published k s)) (λ e. NoWord) (λ e.
-      told_walks k status.Starting w (λ told. tt) (λ e. absurd (subst T (sym e) tt)) (still_told_to k s (set_starting_published k s) (published_same k s) w (λ y h. published_chosen k y w s h) (told_to k w s (sym (ap (λ c. cond c (is_none w) (may_tell k w s)) e) ∙ may)))
+      told_walks k status.Starting w (λ told. tt) (n, (refl, (ready, (implicit, (refl, published_end k s))))) (still_told_to k s (set_starting_published k s) (published_same k s) w (λ y h. published_chosen k y w s h) (told_to k w s (sym (ap (λ c. cond c (is_none w) (may_tell k w s)) e) ∙ may)))
       (word (SetStartingPublished k) tt NoWord))
 
   start_row_leads : (m : Mark) (w : Option ℕ) (c : Bool) → admits n s why.Start ≡ c → WasReady taking_scene n why.Start → Leads taking_scene s (start_row m n w s c)
@@ -251,7 +260,7 @@ module _ (x : Setting) (main : Main) (ended : Bool) (s : Core) (n : ℕ) (l : La
   start_row_leads m w true admitted ready = start_admitted_leads m w (is_explicit n s) refl ready admitted
   start_row_leads m w false admitted ready =
       may_leads taking_scene s (may_tell_starting (task_of n s) w s) _ (λ may.
-      holds_leads (held_label m n w) why.Start (starting_told (task_of n s) w s) (held_taking m n w) (held_mute m n w) (held_begins m n w s) ready (starting_walks w may))
+      holds_leads (held_label m n w) why.Start (starting_told (task_of n s) w s) (held_taking m n w) (held_mute m n w) (held_begins m n w s) ready (starting_walks w ready (grind arith) may))
 
   -- ---- Deliveries
 
@@ -297,23 +306,23 @@ module _ (x : Setting) (main : Main) (ended : Bool) (s : Core) (n : ℕ) (l : La
   set_delivered_leads m y ch (OwnGift v) h0 ready ok open_at = woken_goes m y ch (OwnGift v) ready h0 ok open_at
   set_delivered_leads m y ch (MemberGift sub) h0 ready ok open_at = woken_goes m y ch (MemberGift sub) ready h0 ok open_at
 
-  delivers : (d : Delivery) → WasReady taking_scene n (why.Delivery d) → MayDeliver taking_scene (task_of n s)
-  delivers d ready = (n, (refl, (refl, (d, ready))))
+  delivers : (d : Delivery) → WasReady taking_scene n (why.Delivery d) → own_event_of (task_of n s) s ≡ Some own.Cancelled → MayDeliver taking_scene (task_of n s)
+  delivers d ready own = (n, (refl, (refl, ((d, ready), own))))
 
-  own_taken : (d : Delivery) → WasReady taking_scene n (why.Delivery d) → (o : Option OwnEvent) → MayTake taking_scene (task_of n s) (own_or_nothing o)
-  own_taken d ready None = tt
-  own_taken d ready (Some e) = ((n, (refl, refl)), λ c. delivers d ready)
+  own_taken : (d : Delivery) → WasReady taking_scene n (why.Delivery d) → (o : Option OwnEvent) → own_gift_of true (task_of n s) s ≡ o → MayTake taking_scene (task_of n s) (own_or_nothing o)
+  own_taken d ready None at = tt
+  own_taken d ready (Some e) at = ((n, (refl, refl)), λ c. delivers d ready (grind arith))
 
   own_delivered_leads : (m : Mark) (d : Delivery) → WasReady taking_scene n (why.Delivery d) → may_not_enter (instance_of n s) s ≡ false → Leads taking_scene s (own_delivered m n s (own_gift_only (task_of n s) s))
   unfolding own_gift_only
   own_delivered_leads m d ready open_at =
       let g = own_gift_only (task_of n s) s in
-      activated_goes m d ready g (given_for g 0 s) None s (event_says m (given_for g 0 s) None _ (λ none sub e out. own_says (own_gift_of true (task_of n s) s) sub e out)) refl (own_taken d ready (own_gift_of true (task_of n s) s)) open_at NoWord
+      activated_goes m d ready g (given_for g 0 s) None s (event_says m (given_for g 0 s) None _ (λ none sub e out. own_says (own_gift_of true (task_of n s) s) sub e out)) refl (own_taken d ready (own_gift_of true (task_of n s) s) refl) open_at NoWord
 
   delivered_leads : (m : Mark) (ch : Choice) (d : Delivery) → WasReady taking_scene n (why.Delivery d) → may_not_enter (instance_of n s) s ≡ false → Leads taking_scene s (delivered m n ch s d)
   delivered_leads m ch (delivery.Set y) ready open_at =
       or_never_leads taking_scene s (gift true (task_of n s) y (chosen n ch s) s) _ (λ g e.
-      set_delivered_leads m y ch g e ready (gift_is taking_scene n true y ch g refl (λ t. delivers (delivery.Set y) ready) e) open_at)
+      set_delivered_leads m y ch g e ready (gift_is taking_scene n true y ch g refl (λ t own. delivers (delivery.Set y) ready own) e) open_at)
   delivered_leads m ch delivery.Yield ready open_at = own_delivered_leads m delivery.Yield ready open_at
   delivered_leads m ch delivery.Cancel ready open_at = own_delivered_leads m delivery.Cancel ready open_at
 

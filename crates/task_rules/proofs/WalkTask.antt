@@ -3,10 +3,12 @@ use Rattle.task_rules.proofs.ChainLemmas.{Going}
 use Rattle.task_rules.proofs.SayLemmas.{said_is}
 use Rattle.task_rules.proofs.MuteLemmas.{is_mute, mute_words, none_said}
 use Rattle.task_rules.proofs.WalkEnds.{cancelled_rest, returned_rest, SameCall, cancelled_walks, returned_walks, still_told_to, unanswered}
-use Rattle.task_rules.proofs.Machine.{[], Advance, advanced, answered, ap, ap₂, arith, assigned, AwaitsEvent, backpressure_of, begun_holder, blocking_exit_row, blocking_exits, Bool, BySetHandle, Call, CallEnd, cancel_was_delivered, change, checked, Choice, code_exits, code_finds, code_kind_row, code_row, code_stops, code_wait_row, code_waits, code_yields, ComesAgain, Component, component_of, Core, data_row, direct_exit_to, direct_exits, end_for, end_reopens, ended, ends_activation, EndsActivation, EndsByExit, EndsCall, EndsOwn, EndWords, exit_label, exit_restores, exit_row_for, exit_stops, Exits, ExportKind, Fails, false, FindsEvent, foot_of, get, GivesUp, goal_of, Goes, GoesBack, handed_by, HandsOut, has_ended, has_event_for, HasSet, held_by_flag, holder_at_exit, if◌then◌else◌, implicit_exit_row, inl, inr, instance_of, is_async_lifted, is_at, is_code_op, is_direct, is_ending_exit, is_exit, is_explicit, is_holding, is_none, is_over, is_running, is_under, IsRunner, kind_exit_row, kind_of, Label, LastWords, Leaves, leaves_no_result, length, List, Main, may, may_tell, MayBar, MayEnd, MayOwe, min, Move, moved_to, nat_le, nat_lt, nat_tests, Never, None, not, NoWord, numbers, on_call, on_instance, on_thread, Op, op_in, op_of, Option, option_map, option_map_or, or_never, or_trap, Ordered, outcome_of_label, own_event_of, own_or_none, OwnEvent, passes_after_return, passes_after_stop, passes_check, Place, place_of, position_of, Progress, Put, Records, refl, register_of, Remains, ret_label, returned, returned_holder, ReturnsNow, saved_own_of, SaysEnd, Scene, script_of, set_at, set_backpressure, set_do_not_enter, set_do_not_suspend, set_end, set_how_far, set_place, SetBackpressure, SetDoNotEnter, SetDoNotSuspend, SetEnd, SetOwnEvent, SetRegister, SetSavedCallee, Setting, SetWord, skip_row, skipped, slice_get, Some, Status, stopped, Stops, stored, subst, Subtask, suc, sym, sync_exit_row, sync_exits, T, task_cancel_label, task_end, task_of, Then, Thread, thread_exit_row, Trap, trap_if, Traps, Trip, true, Turn, Uncovers, under_of, unwrap_or, value_of, Walk, Writes, WritesCall, WritesToo, written_by, written_by_exit, zero, ℕ, ◌%◌, ◌&&◌, ◌*◌, ◌+◌, ◌-◌, ◌/◌, ◌==◌, ◌||◌, ◌∙◌, ◌∷◌, ◌≡◌, ◌≤◌, ◌⊎◌}
+use Rattle.task_rules.proofs.Machine.{[], Advance, advanced, answered, ap, ap₂, arith, assigned, AwaitsEvent, backpressure_of, begun_holder, blocking_exit_row, blocking_exits, Bool, BySetHandle, Call, CallEnd, cancel_was_delivered, change, checked, Choice, code_exits, code_finds, code_kind_row, code_row, code_stops, code_wait_row, code_waits, code_yields, ComesAgain, Component, component_of, Core, data_row, direct_exit_to, direct_exits, end_for, end_reopens, EndCall, ended, ends_activation, EndsActivation, EndsByExit, EndsCall, EndsOwn, EndWords, exit_label, exit_restores, exit_row_for, exit_stops, Exits, ExportKind, Fails, false, FindsEvent, foot_of, get, GivesUp, goal_of, Goes, GoesBack, handed_by, HandsOut, has_ended, has_event_for, HasSet, held_by_flag, holder_at_exit, if◌then◌else◌, implicit_exit_row, inl, inr, instance_of, is_async_lifted, is_at, is_code_op, is_direct, is_ending_exit, is_exit, is_explicit, is_holding, is_none, is_over, is_running, is_told, is_under, IsRunner, kind_exit_row, kind_of, Label, LastWords, Leaves, leaves_no_result, length, List, Main, may, may_tell, MayBar, MayEnd, MayOwe, min, Move, moved_to, nat_le, nat_lt, nat_tests, Never, None, not, NoWord, numbers, on_call, on_instance, on_thread, Op, op_in, op_of, Option, option_map, option_map_or, or_never, or_trap, Ordered, outcome_of_label, own_event_of, own_or_none, OwnEvent, passes_after_return, passes_after_stop, passes_check, Place, place_of, position_of, Progress, Put, Records, refl, register_of, Remains, ret_label, returned, returned_holder, ReturnsNow, saved_own_of, SaysEnd, Scene, script_of, set_at, set_backpressure, set_do_not_enter, set_do_not_suspend, set_end, set_how_far, set_place, SetBackpressure, SetDoNotEnter, SetDoNotSuspend, SetOwnEvent, SetRegister, SetSavedCallee, Setting, SetWord, skip_row, skipped, slice_get, Some, Status, stopped, Stops, stored, subst, Subtask, suc, sym, sync_exit_row, sync_exits, T, task_cancel_label, task_end, task_of, Then, Thread, thread_exit_row, Trap, trap_if, Traps, Trip, true, Turn, Uncovers, under_of, unwrap_or, value_of, Walk, Writes, WritesCall, WritesToo, written_by, written_by_exit, zero, ℕ, ◌%◌, ◌&&◌, ◌*◌, ◌+◌, ◌-◌, ◌/◌, ◌==◌, ◌||◌, ◌∙◌, ◌∷◌, ◌≡◌, ◌≤◌, ◌⊎◌}
 use Rattle.task_machine.specs.declared.op.DataOp.{DataOp}
 use Rattle.task_machine.specs.declared.op.TaskOp.{TaskOp}
 use Rattle.task_rules.specs.Task.{dec_from, dec_lowers, dec_opens, inc_raises, inc_row, ret_done, ret_row, task_cancel_done, task_cancel_row, task_row}
+use Rattle.task_rules.proofs.WalkEnds.{call_ends, ends_untold}
+use Rattle.task_machine.specs.declared.records.Goal.TheVariants as goal
 use Rattle.task_rules.proofs.ChainLemmas.{Keep, keep_stay, trip_walk, stay_walk}
 use Rattle.task_machine.proofs.MapLemmas.{change-field}
 use Rattle.task_machine.proofs.CommuteLemmas.{get-change}
@@ -30,6 +32,10 @@ use Rattle.task_machine.specs.declared.records.Turn.TheVariants as turn
 use Rattle.task_machine.specs.declared.records.Why.TheVariants as why
 use Rattle.task_machine.specs.declared.trap.Trap.TheVariants as trap
 use Rattle.task_machine.specs.declared.words.Mark.TheVariants as mark
+use Rattle.task_rules.proofs.WalkEnds.{ended_last, returned_last}
+use Rattle.task_rules.proofs.CallThreads.{LastEnds, last_of, last_kept, last_shifted, unplaced_call}
+use Rattle.task_rules.proofs.PlacingLemmas.{unplaced}
+use Rattle.task_rules.proofs.PlacingLemmas.{shifted_after}
 
 -- ---- The op in its script
 
@@ -135,8 +141,8 @@ task_cancel_hands : (c : Component) (m : Main) (n : ℕ) (w : Option ℕ) (s t :
 task_cancel_hands c m n w s t = grind arith
 
 -- the call of which an end speaks
-pub over_now : (k : ℕ) (e : CallEnd) (s : Core) → is_over k (set_end k e s) ≡ true
-unfolding set_end on_call
+pub over_now : (k : ℕ) (e : CallEnd) (s : Core) → is_over k (call_ends k e s) ≡ true
+unfolding on_call
 over_now k e s = grind (arith, nat_tests, get-change)
 
 exit_quiet : (n : ℕ) (w : Option ℕ) → is_quiet (exit_label n w) ≡ true
@@ -212,6 +218,35 @@ module _ (x : Setting) (main : Main) (s : Core) (n : ℕ) (l : Label) (next : Tu
   goes_over k m t quiet gone runs says c is to =
       (c is to, quiet_ends (ap is_quiet is ∙ quiet) (λ j at. subst (λ (i : ℕ). (turn.Run n ≡ turn.Run i) ⊎ (option_map_or is_running (place_of i t) true ≡ true)) (one_runner m j (sym to ∙ at)) runs) (λ exit. gone (sym (ap is_exit is) ∙ exit)) (says is))
 
+restored_threads : (n : ℕ) (s : Core) → (exit_restores n s).threads ≡ s.threads
+unfolding exit_restores set_do_not_suspend on_instance
+restored_threads n s = refl
+
+restored_task : (n : ℕ) (s : Core) → task_of n (exit_restores n s) ≡ task_of n s
+restored_task n s = ap (λ (m : Records Thread). option_map_or (λ t. t.call) (get m n) 0) (restored_threads n s)
+
+-- the calls after held threads are released
+reopened_calls : (i : ℕ) (order : List ℕ) (s : Core) → (end_reopens i order s).calls ≡ s.calls
+unfolding end_reopens set_do_not_enter on_instance
+reopened_calls i order s = shifted_calls (shifts_shifted (released_shifts order (set_do_not_enter i false s)))
+
+reopened_threads : (i : ℕ) (order : List ℕ) (s : Core) → (m : ℕ) → option_map unplaced (get (end_reopens i order s).threads m) ≡ option_map unplaced (get s.threads m)
+unfolding end_reopens set_do_not_enter on_instance
+reopened_threads i order s m = (shifts_shifted (released_shifts order (set_do_not_enter i false s))).threads m
+
+reopened_task : (n i : ℕ) (order : List ℕ) (s : Core) → task_of n (end_reopens i order s) ≡ task_of n s
+reopened_task n i order s = grind (arith, reopened_threads i order s n)
+
+code_stops_last : (n : ℕ) (order : List ℕ) (s : Core) → LastEnds n s → LastEnds n (code_stops n order s)
+unfolding code_stops
+code_stops_last n order s last =
+    let t = end_reopens (instance_of n s) order s in
+    last_shifted n (shifts_shifted (stopped_shifts (foot_of n s) t)) (last_kept n s t (λ m. unplaced_call (get s.threads m) (get t.threads m) (reopened_threads (instance_of n s) order s m)) (reopened_calls (instance_of n s) order s) last)
+
+-- a direct call's end is told to nobody
+untold : (k : ℕ) (s : Core) → is_direct (goal_of k s) ≡ true → is_told k s ≡ false
+untold k s direct = grind arith
+
 module _ {a : Scene} {b : Core} (n : ℕ) (is : IsRunner a n) where
   -- ---- Registers and words
 
@@ -237,46 +272,46 @@ module _ {a : Scene} {b : Core} (n : ℕ) (is : IsRunner a n) where
   unfolding end_reopens
   reopens_walks i order {t = t} ok c = shifted (released_shifts order (set_do_not_enter i false t)) (word (SetDoNotEnter i false) ok c)
 
-  exit_stops_walks : {t : Core} → Leaves a n → Keep a b t → Trip a b (exit_stops n t)
+  exit_stops_walks : {t : Core} → LastEnds n t → Leaves a n → Keep a b t → Trip a b (exit_stops n t)
   unfolding exit_stops
-  exit_stops_walks {t = t} go c = exits_trip n go (ended_walks n (shifted (stopped_shifts (foot_of n t) (checked (instance_of n t) t)) (shifted (checked_shifts (instance_of n t) t) c)))
+  exit_stops_walks {t = t} last go c = exits_trip n go (ended_walks n (last_shifted n (shifted_after (shifts_shifted (checked_shifts (instance_of n t) t)) (shifts_shifted (stopped_shifts (foot_of n t) (checked (instance_of n t) t)))) last) (shifted (stopped_shifts (foot_of n t) (checked (instance_of n t) t)) (shifted (checked_shifts (instance_of n t) t) c)))
 
-  sync_exits_rest : (w : Option ℕ) (t : Core) → SaysEnd a (task_of n t) status.Returned → ToldTo (task_of n t) w (exit_restores n t) → Leaves a n → Keep a b (set_end (task_of n t) call_end.Returned (exit_restores n t)) → Trip a b (sync_exits n w t)
+  sync_exits_rest : (w : Option ℕ) (t : Core) → SaysEnd a (task_of n t) status.Returned → ToldTo (task_of n t) w (exit_restores n t) → Leaves a n → Keep a b (call_ends (task_of n t) call_end.Returned (exit_restores n t)) → Trip a b (sync_exits n w t)
   unfolding sync_exits
   sync_exits_rest w t says to go c =
       let r = returned (task_of n t) (register_of n 0 t) w (exit_restores n t) in
-      exits_trip n go (ended_walks n (shifted (stopped_shifts (foot_of n t) r) (returned_rest (task_of n t) (register_of n 0 t) w (exit_restores n t) says to c)))
+      exits_trip n go (ended_walks n (last_shifted n (shifts_shifted (stopped_shifts (foot_of n t) r)) (returned_last n (task_of n t) (register_of n 0 t) w (exit_restores n t) (restored_task n t))) (shifted (stopped_shifts (foot_of n t) r) (returned_rest (task_of n t) (register_of n 0 t) w (exit_restores n t) says to c)))
 
   sync_exits_walks : (w : Option ℕ) {t : Core} → MayEnd a (task_of n t) call_end.Returned (exit_restores n t) → SaysEnd a (task_of n t) status.Returned → ToldTo (task_of n t) w (exit_restores n t) → Leaves a n → Keep a b t → Trip a b (sync_exits n w t)
   unfolding exit_restores
-  sync_exits_walks w {t = t} ok says to go c = sync_exits_rest w t says to go (word (SetEnd (task_of n t) call_end.Returned) (ok, says) (word (SetDoNotSuspend (instance_of n t) (unwrap_or (saved_own_of n t) false)) tt c))
+  sync_exits_walks w {t = t} ok says to go c = sync_exits_rest w t says to go (word (EndCall (task_of n t) call_end.Returned) (ok, says) (word (SetDoNotSuspend (instance_of n t) (unwrap_or (saved_own_of n t) false)) tt c))
 
-  blocking_exits_rest : (w : Option ℕ) (order : List ℕ) (t : Core) → SaysEnd a (task_of n t) status.Returned → ToldTo (task_of n t) w (end_reopens (instance_of n t) order t) → Leaves a n → Keep a b (set_end (task_of n t) call_end.Returned (end_reopens (instance_of n t) order t)) → Trip a b (blocking_exits n w order t)
+  blocking_exits_rest : (w : Option ℕ) (order : List ℕ) (t : Core) → SaysEnd a (task_of n t) status.Returned → ToldTo (task_of n t) w (end_reopens (instance_of n t) order t) → Leaves a n → Keep a b (call_ends (task_of n t) call_end.Returned (end_reopens (instance_of n t) order t)) → Trip a b (blocking_exits n w order t)
   unfolding blocking_exits
-  blocking_exits_rest w order t says to go c = exit_stops_walks go (returned_rest (task_of n t) (register_of n 0 t) w (end_reopens (instance_of n t) order t) says to c)
+  blocking_exits_rest w order t says to go c = exit_stops_walks (returned_last n (task_of n t) (register_of n 0 t) w (end_reopens (instance_of n t) order t) (reopened_task n (instance_of n t) order t)) go (returned_rest (task_of n t) (register_of n 0 t) w (end_reopens (instance_of n t) order t) says to c)
 
   blocking_exits_walks : (w : Option ℕ) (order : List ℕ) {t : Core} → MayBar a (instance_of n t) false → MayEnd a (task_of n t) call_end.Returned (end_reopens (instance_of n t) order t) → SaysEnd a (task_of n t) status.Returned → ToldTo (task_of n t) w (end_reopens (instance_of n t) order t) → Leaves a n → Keep a b t → Trip a b (blocking_exits n w order t)
-  blocking_exits_walks w order {t = t} bar ok says to go c = blocking_exits_rest w order t says to go (word (SetEnd (task_of n t) call_end.Returned) (ok, says) (reopens_walks (instance_of n t) order bar c))
+  blocking_exits_walks w order {t = t} bar ok says to go c = blocking_exits_rest w order t says to go (word (EndCall (task_of n t) call_end.Returned) (ok, says) (reopens_walks (instance_of n t) order bar c))
 
   -- the thread m goes on, under which n ran
-  direct_exits_rest : (m v : ℕ) (t : Core) → a.turn ≡ turn.Run n → a.next ≡ turn.Run m → place_of m a.base ≡ Some (place.Under n) → Keep a b (set_end (task_of n t) call_end.Returned t) → Trip a b (direct_exits n m v t)
+  direct_exits_rest : (m v : ℕ) (t : Core) → is_direct (goal_of (task_of n t) t) ≡ true → a.turn ≡ turn.Run n → a.next ≡ turn.Run m → place_of m a.base ≡ Some (place.Under n) → Keep a b (call_ends (task_of n t) call_end.Returned t) → Trip a b (direct_exits n m v t)
   unfolding direct_exits
-  direct_exits_rest m v t runs to under c =
+  direct_exits_rest m v t direct runs to under c =
       let u = set_end (task_of n t) call_end.Returned t in
       let gone : is_none (get (ended n u).threads n) ≡ true = ap (λ (o : Option Thread). is_none o) (ended_gone n u) in
-      let e = ended_walks n c in
+      let e = ended_walks n (ended_last n (task_of n t) call_end.Returned t refl) (subst (λ (u : Core). Keep a b u) (sym (ends_untold (task_of n t) call_end.Returned t (untold (task_of n t) t direct))) c) in
       subst (λ (y : Core). Trip a b (set_how_far m (how_far.Answered v) y)) (placing_shifted (Move m place.Running) (ended n u)).only (GoesBack e.before (ended n u) n m v (keep_stay e.stays) is runs to under e.settles (Uncovers n is to under gone refl))
 
-  direct_exits_walks : (m v : ℕ) {t : Core} → a.turn ≡ turn.Run n → MayEnd a (task_of n t) call_end.Returned t → SaysEnd a (task_of n t) status.Returned → a.next ≡ turn.Run m → place_of m a.base ≡ Some (place.Under n) → Keep a b t → Trip a b (direct_exits n m v t)
-  direct_exits_walks m v {t = t} runs ok says to under c = direct_exits_rest m v t runs to under (word (SetEnd (task_of n t) call_end.Returned) (ok, says) c)
+  direct_exits_walks : (m v : ℕ) {t : Core} → is_direct (goal_of (task_of n t) t) ≡ true → a.turn ≡ turn.Run n → MayEnd a (task_of n t) call_end.Returned t → SaysEnd a (task_of n t) status.Returned → a.next ≡ turn.Run m → place_of m a.base ≡ Some (place.Under n) → Keep a b t → Trip a b (direct_exits n m v t)
+  direct_exits_walks m v {t = t} direct runs ok says to under c = direct_exits_rest m v t direct runs to under (word (EndCall (task_of n t) call_end.Returned) (ok, says) c)
 
   code_stops_walks : (order : List ℕ) {t : Core} → MayBar a (instance_of n t) false → Keep a b t → Keep a b (code_stops n order t)
   unfolding code_stops
   code_stops_walks order {t = t} bar c = shifted (stopped_shifts (foot_of n t) (end_reopens (instance_of n t) order t)) (reopens_walks (instance_of n t) order bar c)
 
-  code_exits_walks : (order : List ℕ) {t : Core} → MayBar a (instance_of n t) false → Leaves a n → Keep a b t → Trip a b (code_exits n order t)
+  code_exits_walks : (order : List ℕ) {t : Core} → LastEnds n t → MayBar a (instance_of n t) false → Leaves a n → Keep a b t → Trip a b (code_exits n order t)
   unfolding code_exits
-  code_exits_walks order {t = t} bar go c = exits_trip n go (ended_walks n (shifted (checked_shifts (instance_of n t) (code_stops n order t)) (code_stops_walks order bar c)))
+  code_exits_walks order {t = t} last bar go c = exits_trip n go (ended_walks n (last_shifted n (shifts_shifted (checked_shifts (instance_of n t) (code_stops n order t))) (code_stops_last n order t last)) (shifted (checked_shifts (instance_of n t) (code_stops n order t)) (code_stops_walks order bar c)))
 
   code_yields_walks : (order : List ℕ) {t : Core} → MayBar a (instance_of n t) false → Leaves a n → EndsActivation a n → MayOwe a (task_of n t) (own_or_none (own_event_of (task_of n t) t)) (code_stops n order t) → Keep a b t → Trip a b (code_yields n order t)
   unfolding code_yields
@@ -294,11 +329,6 @@ exit_stops_gone : (n : ℕ) (t : Core) → get (exit_stops n t).threads n ≡ No
 unfolding exit_stops
 exit_stops_gone n t = ended_gone n (stopped (foot_of n t) (checked (instance_of n t) t))
 
--- the calls after held threads are released
-reopened_calls : (i : ℕ) (order : List ℕ) (s : Core) → (end_reopens i order s).calls ≡ s.calls
-unfolding end_reopens set_do_not_enter on_instance
-reopened_calls i order s = shifted_calls (shifts_shifted (released_shifts order (set_do_not_enter i false s)))
-
 reopened_chosen : (i : ℕ) (order : List ℕ) (x : ℕ) (w : Option ℕ) (s : Core) → Chosen x w s → Chosen x w (end_reopens i order s)
 unfolding end_reopens set_do_not_enter on_instance
 reopened_chosen i order x w s h = chosen_released order x w (set_do_not_enter i false s) h
@@ -306,13 +336,6 @@ reopened_chosen i order x w s h = chosen_released order x w (set_do_not_enter i 
 restored_calls : (n : ℕ) (s : Core) → (exit_restores n s).calls ≡ s.calls
 unfolding exit_restores set_do_not_suspend on_instance
 restored_calls n s = refl
-
-restored_threads : (n : ℕ) (s : Core) → (exit_restores n s).threads ≡ s.threads
-unfolding exit_restores set_do_not_suspend on_instance
-restored_threads n s = refl
-
-restored_task : (n : ℕ) (s : Core) → task_of n (exit_restores n s) ≡ task_of n s
-restored_task n s = ap (λ (m : Records Thread). option_map_or (λ t. t.call) (get m n) 0) (restored_threads n s)
 
 restored_chosen : (n y : ℕ) (w : Option ℕ) (s : Core) → Chosen y w s → Chosen y w (exit_restores n s)
 unfolding exit_restores set_do_not_suspend on_instance
@@ -419,10 +442,10 @@ module _ (x : Setting) (main : Main) (s : Core) (n : ℕ) (l : Label) (next : Tu
   thread_exit_row_leads none =
       trap_if_leads a s (not (passes_check (instance_of n s) s)) trap.CannotBlockSyncTask _ (λ e.
       trap_if_leads a s (leaves_no_result n s) trap.NoAsyncResult _ (λ f.
-      gone_here x main s n l next (exit_label n None) (exit_stops n s) refl (exit_stops_gone n s) (λ is. exit_is_none (exit_stops n s) none is) (λ is leave. exit_stops_walks n refl leave NoWord)))
+      gone_here x main s n l next (exit_label n None) (exit_stops n s) refl (exit_stops_gone n s) (λ is. exit_is_none (exit_stops n s) none is) (λ is leave. exit_stops_walks n refl (last_of n s f) leave NoWord)))
 
   exits : (w : Option ℕ) (t : Core) → l ≡ exit_label n w → is_explicit n s ≡ false → (is_direct (goal_of (task_of n s) s) ≡ true) ⊎ (is_async_lifted (kind_of (task_of n s) s) ≡ false) → t.calls ≡ s.calls → MayEnd a (task_of n s) call_end.Returned t
-  exits w t is implicit kind same = Exits n refl (ap is_exit is ∙ exit_is n w) refl implicit kind (ap (λ (m : Records Call). get m (task_of n s)) same) refl
+  exits w t is implicit kind same = Exits n refl refl (ap is_exit is ∙ exit_is n w) refl implicit kind (ap (λ (m : Records Call). get m (task_of n s)) same) refl
 
   sync_exit_row_leads : (w : Option ℕ) → is_explicit n s ≡ false → is_async_lifted (kind_of (task_of n s) s) ≡ false → is_direct (goal_of (task_of n s) s) ≡ false → Leads a s (sync_exit_row n w s)
   sync_exit_row_leads w implicit kind direct =
@@ -430,7 +453,7 @@ module _ (x : Setting) (main : Main) (s : Core) (n : ℕ) (l : Label) (next : Tu
       let told = still_told_to (task_of n s) s (exit_restores n s) (same_call (task_of n s) s (exit_restores n s) (restored_calls n s)) w (λ y chosen. restored_chosen n y w s chosen) (told_to (task_of n s) w s may) in
       λ is to.
       gone_here x main s n l next (exit_label n w) (sync_exits n w s) (exit_quiet n w) (sync_exits_gone n w s)
-      (λ at. exit_says_end w (sync_exits n w s) at implicit kind direct (set_end (task_of n s) call_end.Returned (exit_restores n s)) (over_now (task_of n s) call_end.Returned (exit_restores n s)) (trip_walk (sync_exits_rest n refl w s (exit_says s w at implicit (inr kind)) told (refl, (to, refl)) NoWord)))
+      (λ at. exit_says_end w (sync_exits n w s) at implicit kind direct (call_ends (task_of n s) call_end.Returned (exit_restores n s)) (over_now (task_of n s) call_end.Returned (exit_restores n s)) (trip_walk (sync_exits_rest n refl w s (exit_says s w at implicit (inr kind)) told (refl, (to, refl)) NoWord)))
       (λ at leave. sync_exits_walks n refl w (exits w (exit_restores n s) at implicit (inr kind) (restored_calls n s)) (exit_says s w at implicit (inr kind)) told leave NoWord) is to)
 
   -- where a holding entry returns
@@ -450,21 +473,22 @@ module _ (x : Setting) (main : Main) (s : Core) (n : ℕ) (l : Label) (next : Tu
       let lifted : is_async_lifted (kind_of (task_of n s) s) ≡ false = ap (λ y. is_async_lifted y) kind in
       let told = still_told_to k s t (same_call k s t (reopened_calls i order s)) w (λ y chosen. reopened_chosen i order y w s chosen) (told_to k w s may) in
       gone_here x main s n l next (exit_label n w) (blocking_exits n w order s) (exit_quiet n w) (blocking_exits_gone n w order s)
-      (λ at. exit_says_end w (blocking_exits n w order s) at implicit lifted direct (set_end k call_end.Returned t) (over_now k call_end.Returned t) (trip_walk (blocking_exits_rest n refl w order s (exit_says s w at implicit (inr lifted)) told (refl, (to, refl)) NoWord)))
+      (λ at. exit_says_end w (blocking_exits n w order s) at implicit lifted direct (call_ends k call_end.Returned t) (over_now k call_end.Returned t) (trip_walk (blocking_exits_rest n refl w order s (exit_says s w at implicit (inr lifted)) told (refl, (to, refl)) NoWord)))
       (λ at leave. blocking_exits_walks n refl w order (bars w at implicit (ap (λ y. is_holding y) kind) direct) (exits w t at implicit (inr lifted) (reopened_calls i order s)) (exit_says s w at implicit (inr lifted)) told leave NoWord) is to))
 
   direct_leads : (m : ℕ) (t : Core) → under_of n s ≡ Some m → is_explicit n s ≡ false → is_direct (goal_of (task_of n s) s) ≡ true → task_of n t ≡ task_of n s → t.calls ≡ s.calls → Keep a s t → Leads a s (Goes (exit_label n None) (direct_exits n m (register_of n 0 s) t) m)
   direct_leads m t under implicit direct task calls c =
       let v = register_of n 0 s in
       let k = task_of n s in
+      let is_so : is_direct (goal_of (task_of n t) t) ≡ true = grind arith in
       λ here over.
       goes_over x main s n l next (exit_label n None) m (direct_exits n m v t) refl (λ e. direct_exits_gone n m v t) (inr (direct_exits_runs n m v t))
       (λ at. record {
-        writes = writes_task status.Returned _ (set_end (task_of n t) call_end.Returned t) (exit_says _ None at implicit (inl direct)) (EndsByExit (n, (refl, (refl, (implicit, inl direct))))) (subst (λ (i : ℕ). is_over k (set_end i call_end.Returned t) ≡ true) (sym task) (over_now k call_end.Returned t)) (trip_walk (direct_exits_rest n refl m v t refl over (under_place n m s under) NoWord));
+        writes = writes_task status.Returned _ (call_ends (task_of n t) call_end.Returned t) (exit_says _ None at implicit (inl direct)) (EndsByExit (n, (refl, (refl, (implicit, inl direct))))) (subst (λ (i : ℕ). is_over k (call_ends i call_end.Returned t) ≡ true) (sym task) (over_now k call_end.Returned t)) (trip_walk (direct_exits_rest n refl m v t is_so refl over (under_place n m s under) NoWord));
         hands = λ sub e out. said_is (HandsOut a (direct_exits n m v t)) (sym (ap (λ (y : Label). handed_by x.component main s y (direct_exits n m v t)) at ∙ ap (λ b. if b then task_end n status.Returned s else None) (ap₂ (λ (f g : Bool). not f && g) implicit direct)) ∙ out) (WritesToo k status.Returned (exit_says s None at implicit (inl direct)) (inl direct));
       })
       (λ is to.
-      direct_exits_walks n refl m v refl (subst (λ (k : ℕ). MayEnd a k call_end.Returned t) (sym task) (exits None t is implicit (inl direct) calls)) (subst (λ (k : ℕ). SaysEnd a k status.Returned) (sym task) (exit_says s None is implicit (inl direct))) to (under_place n m s under) c) here over
+      direct_exits_walks n refl m v is_so refl (subst (λ (k : ℕ). MayEnd a k call_end.Returned t) (sym task) (exits None t is implicit (inl direct) calls)) (subst (λ (k : ℕ). SaysEnd a k status.Returned) (sym task) (exit_says s None is implicit (inl direct))) to (under_place n m s under) c) here over
 
   direct_exit_to_leads : (k : ExportKind) (o : Option ℕ) → under_of n s ≡ o → is_explicit n s ≡ false → is_direct (goal_of (task_of n s) s) ≡ true → Leads a s (direct_exit_to n k s o)
   direct_exit_to_leads k None under implicit direct = tt
@@ -488,7 +512,7 @@ module _ (x : Setting) (main : Main) (s : Core) (n : ℕ) (l : Label) (next : Tu
   code_exits_leads k held quiet says bar rest =
       trap_if_leads a s (not (passes_after_stop (instance_of n s) (foot_of n s) held s)) trap.CannotBlockSyncTask _ (λ e.
       trap_if_leads a s (leaves_no_result n s) trap.NoAsyncResult _ (λ f order.
-      gone_here x main s n l next k (code_exits n order s) quiet (code_exits_gone n order s) (says (code_exits n order s)) (λ is leave. code_exits_walks n refl order (bar is) leave NoWord)))
+      gone_here x main s n l next k (code_exits n order s) quiet (code_exits_gone n order s) (says (code_exits n order s)) (λ is leave. code_exits_walks n refl order (last_of n s f) (bar is) leave NoWord)))
 
   code_kind_row_leads : (k : Label) (held : List ℕ) (low rest : ℕ) → is_still k ≡ true → (l ≡ k → MayBar a (instance_of n s) false) → EndsActivation a n → Leads a s (code_kind_row k n held s low rest)
   code_kind_row_leads k held zero rest plain bar ends =
@@ -524,8 +548,8 @@ module _ (x : Setting) (main : Main) (s : Core) (n : ℕ) (l : Label) (next : Tu
   task_says : (f : Status) (t : Core) → written_by x.component s l t ≡ task_end n f s → handed_by x.component main s l t ≡ None → has_ended (task_of n s) s ≡ false → (u : Core) → is_over (task_of n s) u ≡ true → Walk a u t → EndWords a t
   task_says f t is none unended u over c = record { writes = writes_task f t u is (EndsOwn n refl refl unended) over c; hands = λ sub e out. none_said none out }
 
-  on_after_end : Stands a s n → (k : ℕ) (e : CallEnd) → Stands a (set_end k e s) n
-  unfolding set_end on_call
+  on_after_end : Stands a s n → (k : ℕ) (e : CallEnd) → Stands a (call_ends k e s) n
+  unfolding on_call
   on_after_end on k e = on
 
   ret_row_leads : Stands a s n → (v : ℕ) (w : Option ℕ) → Leads a s (ret_row n v w s)
@@ -536,8 +560,8 @@ module _ (x : Setting) (main : Main) (s : Core) (n : ℕ) (l : Label) (next : Tu
       may_leads a s (may_tell (task_of n s) w s) _ (λ may.
       go_told (ret_label n v w) (ret_done n v w s) (ret_plain n v w)
       (λ is to. task_says status.Returned (ret_done n v w s) (ap (λ (k : Label). written_by x.component s k (ret_done n v w s)) is ∙ ret_writes x.component n v w s _) (ap (λ (y : Label). handed_by x.component main s y (ret_done n v w s)) is ∙ ret_hands x.component main n v w s (ret_done n v w s)) unended
-      (set_end (task_of n s) call_end.Returned s) (over_now (task_of n s) call_end.Returned s) (stay_walk (advanced_walks n refl (on_after_end on (task_of n s) call_end.Returned) (returned_rest (task_of n s) v w s (ap (λ (k : Label). written_by x.component s k s) is ∙ ret_writes x.component n v w s s) (told_to (task_of n s) w s may) NoWord) to)))
-      (λ is. advanced_walks n refl on (returned_walks (task_of n s) v w (ReturnsNow n refl refl unended (unnot (is_async_lifted (kind_of (task_of n s) s)) lifted) refl) (ap (λ (k : Label). written_by x.component s k s) is ∙ ret_writes x.component n v w s s) (told_to (task_of n s) w s may) NoWord)))))
+      (call_ends (task_of n s) call_end.Returned s) (over_now (task_of n s) call_end.Returned s) (stay_walk (advanced_walks n refl (on_after_end on (task_of n s) call_end.Returned) (returned_rest (task_of n s) v w s (ap (λ (k : Label). written_by x.component s k s) is ∙ ret_writes x.component n v w s s) (told_to (task_of n s) w s may) NoWord) to)))
+      (λ is. advanced_walks n refl on (returned_walks (task_of n s) v w (ReturnsNow n refl refl refl unended (unnot (is_async_lifted (kind_of (task_of n s) s)) lifted) refl) (ap (λ (k : Label). written_by x.component s k s) is ∙ ret_writes x.component n v w s s) (told_to (task_of n s) w s may) NoWord)))))
 
   task_cancel_row_leads : Stands a s n → (w : Option ℕ) → Leads a s (task_cancel_row n w s)
   unfolding task_cancel_done
@@ -547,8 +571,8 @@ module _ (x : Setting) (main : Main) (s : Core) (n : ℕ) (l : Label) (next : Tu
       may_leads a s (may_tell (task_of n s) w s) _ (λ may.
       go_told (task_cancel_label n w) (task_cancel_done n w s) (task_cancel_plain n w)
       (λ is to. task_says status.ReturnCancelled (task_cancel_done n w s) (ap (λ (k : Label). written_by x.component s k (task_cancel_done n w s)) is ∙ task_cancel_writes x.component n w s _) (ap (λ (y : Label). handed_by x.component main s y (task_cancel_done n w s)) is ∙ task_cancel_hands x.component main n w s (task_cancel_done n w s)) unended
-      (set_end (task_of n s) call_end.ReturnCancelled s) (over_now (task_of n s) call_end.ReturnCancelled s) (stay_walk (advanced_walks n refl (on_after_end on (task_of n s) call_end.ReturnCancelled) (cancelled_rest (task_of n s) w s (ap (λ (k : Label). written_by x.component s k s) is ∙ task_cancel_writes x.component n w s s) (told_to (task_of n s) w s may) NoWord) to)))
-      (λ is. advanced_walks n refl on (cancelled_walks (task_of n s) w (GivesUp n refl refl unended (unnot (cancel_was_delivered (task_of n s) s) delivered) refl) (ap (λ (k : Label). written_by x.component s k s) is ∙ task_cancel_writes x.component n w s s) (told_to (task_of n s) w s may) NoWord)))))
+      (call_ends (task_of n s) call_end.ReturnCancelled s) (over_now (task_of n s) call_end.ReturnCancelled s) (stay_walk (advanced_walks n refl (on_after_end on (task_of n s) call_end.ReturnCancelled) (cancelled_rest (task_of n s) w s (told_to (task_of n s) w s may) NoWord) to)))
+      (λ is. advanced_walks n refl on (cancelled_walks (task_of n s) w (GivesUp n refl refl refl unended (unnot (cancel_was_delivered (task_of n s) s) delivered) refl) (ap (λ (k : Label). written_by x.component s k s) is ∙ task_cancel_writes x.component n w s s) (told_to (task_of n s) w s may) NoWord)))))
 
   dec_from_leads : Stands a s n → (b : ℕ) → Leads a s (dec_from n s b)
   unfolding dec_lowers dec_opens
