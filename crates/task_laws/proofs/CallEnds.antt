@@ -1,5 +1,5 @@
 -- What calls tell of their ends along the words of a step, and the results that are there for main.
-use Rattle.task_rules.proofs.Machine.{[], add_call, add_group, add_set, add_thread, add_work, after_word, Allowed, ap, arith, Bool, Call, call_made, CallEnd, Caller, change, component_of, Core, count_work, end_of, EndCall, ended_as, event_of, false, free_handle, free_thread_handle, fresh, get, get-empty, get-insert, get-remove, give_handle, give_result, give_thread_handle, GiveResult, Goal, goal_of, if◌then◌else◌, inl, inr, is_direct, is_for_main, is_guest_call, is_some, is_told, Label, LaterBy, le_trans, List, MakeCall, MayEnd, MayRemoveCall, MayTell, nat_tests, next_thread, None, not, on_call, on_instance, on_thread, on_work, opening, Option, option_and_then, option_map, poll_pends, push_high, refl, remove_call, remove_group, remove_set, remove_thread, remove_work, RemoveCall, Run, SaysEnd, Scene, scene_of, set_backpressure, set_cancel_delivered, set_cancelled, set_course, set_do_not_enter, set_do_not_suspend, set_end, set_event, set_exited, set_how_far, set_join, set_own_event, set_phase, set_position, set_register, set_result, set_saved_callee, set_saved_own, set_script, set_stage, set_started, set_starting_published, set_subtask_handle, set_thread_handle, set_trapped, set_uninteresting, set_word, SetCallEvent, Setting, Some, State, Status, status_of_end, sym, take_result, TakeResult, Tells, true, undelivered_end, Walked, with_handle, with_thread_handle, Word, work_queued, ℕ, ⊎_elim, ◌&&◌, ◌∙◌, ◌∷◌, ◌≡◌, ◌≤◌, ◌⊎◌}
+use Rattle.task_rules.proofs.Machine.{[], add_call, add_group, add_set, add_thread, add_work, after_word, Allowed, ap, arith, Bool, Call, call_made, CallEnd, Caller, change, component_of, Core, count_work, end_of, EndCall, ended_as, event_of, false, free_handle, free_thread_handle, fresh, get, get-empty, get-insert, get-remove, give_handle, give_result, give_thread_handle, GiveResult, Goal, goal_of, if◌then◌else◌, inl, inr, is_direct, is_for_main, is_guest_call, is_some, is_told, Label, LaterBy, le_trans, List, MakeCall, MayEnd, MayRemoveCall, MayTell, nat_tests, next_thread, None, not, on_call, on_instance, on_thread, on_work, opening, Option, option_and_then, option_map, poll_pends, push_high, refl, remove_call, remove_group, remove_set, remove_thread, remove_work, RemoveCall, Run, SaysEnd, Scene, scene_of, set_backpressure, set_cancel_delivered, set_cancelled, set_course, set_do_not_enter, set_do_not_suspend, set_end, set_event, set_exited, set_how_far, set_join, set_own_event, set_phase, set_position, set_register, set_result, set_saved_callee, set_saved_own, set_script, set_stage, set_started, set_starting_published, set_subtask_handle, set_thread_handle, set_trapped, set_uninteresting, set_word, SetCallEvent, Setting, Some, State, Status, status_of_end, sym, take_result, TakeResult, true, undelivered_end, Walked, with_handle, with_thread_handle, Word, work_queued, ℕ, ⊎_elim, ◌&&◌, ◌∙◌, ◌∷◌, ◌≡◌, ◌≤◌, ◌⊎◌}
 use Rattle.task_laws.specs.Written.{EndsToldAsRecorded}
 use Rattle.task_laws.proofs.Basics.{some_none}
 use Rattle.task_laws.proofs.CallsLaw.{CallsGo, CallsHold, Goes}
@@ -138,6 +138,11 @@ telling_there k s there = at (get s.calls k) refl
     at : (o : Option Call) → get s.calls k ≡ o → (r : Telling) × (telling_of k s ≡ Some r)
     at None is = absurd (cc)
     at (Some c) is = (telling c, ap (option_map telling) is)
+
+-- so does one that has an end to tell
+pub tells_there : (k : ℕ) (e : Status) (s : Core) → undelivered_end (event_of (subtask.Guest k) s) ≡ Some e →
+    (r : Telling) × ((telling_of k s ≡ Some r) × (undelivered_end r.event ≡ Some e))
+tells_there k e s tells = let r = telling_there k s (grind arith) in let i = event_is k s r.0 r.1 in (r.0, (r.1, cc))
 
 -- ---- Each word
 
@@ -284,5 +289,6 @@ recorded s q k e tells =
     let r = telling_there k s (grind arith) in let i = event_is k s r.0 r.1 in rw (end_is k s r.0 r.1) (q.events k e r.0 r.1 (cc)).1
 
 pub told_as_recorded : EndsToldAsRecorded
+unfolding EndsToldAsRecorded
 told_as_recorded x s r k e tells = let q = recorded s.core (reached_ends_told r) k e tells in
     (q.ends, (q.is, (q.status, λ w. absurd (grind (arith, q.ran)))))

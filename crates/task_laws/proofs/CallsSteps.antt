@@ -169,16 +169,21 @@ reached_holds {x = x} {s = s} r =
     (run_goes x (opening r.instances r.handle_limit r.capacity r.main) r.scripts first r.labels s r.run).0
 
 pub steps_rise : StepsRise
+unfolding StepsRise
 steps_rise x s l t r step = (step_goes x s l t r.scripts (reached_holds r) step).1
 
 pub runs_rise : RunsRise
+unfolding RunsRise
 runs_rise x s ls t r run = (run_goes x s r.scripts (reached_holds r) ls t run).1
 
 pub sync_never_cancelled : SyncNeverCancelled
+unfolding SyncNeverCancelled
 sync_never_cancelled x s r k c is sync = ((reached_holds r).kinds k c is).uncancelled sync
 
 pub sync_ends_last : SyncEndsLast
+unfolding SyncEndsLast
 sync_ends_last x s r k c is sync e at = let h = (reached_holds r).kinds k c is in grind arith
 
 pub explicit_names_no_call : ExplicitNamesNoCall
+unfolding ExplicitNamesNoCall
 explicit_names_no_call x s r n t is explicit = let h = (reached_holds r).numbered.threads n t is in grind arith

@@ -1,5 +1,5 @@
 -- The call of each thread is there, along the words of a step.
-use Rattle.task_rules.proofs.Machine.{after_word, Allowed, arith, Core, get, is_some, IsRunner, nat_tests, Scene, task_of, Thread, true, Word, ℕ, ◌≡◌}
+use Rattle.task_rules.proofs.Machine.{after_word, Allowed, arith, Core, get, is_some, IsRunner, nat_tests, Scene, task_of, true, Word, ℕ, ◌≡◌}
 use Rattle.task_rules.proofs.CallThreads.{no_thread_left}
 use Rattle.task_laws.proofs.CallsCame.{CallAfter, ThreadAfter, call_came, thread_came}
 use Rattle.task_laws.specs.Order.{CallsThere}

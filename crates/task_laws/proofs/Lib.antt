@@ -19,13 +19,14 @@ pub mod UnbegunCalls
 pub mod OneHolder
 pub mod Exported
 pub mod PolledWorks
+pub mod WorksCame
 pub mod Works
 pub mod SaidEnds
 pub mod CallEnds
 pub mod OnceLemmas
-pub mod HostEnds
-pub mod GuestEnds
+pub mod StepEnds
 pub mod WrittenLaws
 pub mod NamedCalls
+pub mod AwaitedCalls
 pub mod NamedWorks
 pub mod SyncWorks

@@ -2,6 +2,7 @@
 -- that its thread made and no handle names.
 use Rattle.task_laws.proofs.CallsCame.{CallAfter, Grown, Grows, NewCall, NoCall, call_came, op_came}
 use Rattle.task_laws.proofs.CountLemmas.{made_threads_word}
+use Rattle.task_laws.specs.Order.{NamesKnown, OnlyCalled, is_uncancelled, is_cancelled, at_most_returned}
 use Rattle.task_laws.proofs.SetHandles.{given_names, none_named, subtask_in}
 use Rattle.task_machine.specs.declared.records.Caller.TheVariants as caller
 use Rattle.task_machine.specs.declared.records.HowFar.TheVariants as how_far
@@ -9,61 +10,34 @@ use Rattle.task_machine.specs.declared.records.Named.TheVariants as named
 use Rattle.task_machine.specs.declared.records.Subtask.TheVariants as subtask
 use Rattle.task_machine.specs.declared.records.Turn.TheVariants as turn
 use Rattle.task_machine.proofs.CommuteLemmas.{get-change}
-use Rattle.task_rules.proofs.Machine.{add_call, add_group, add_set, add_thread, add_work, after_word, Allowed, ap, arith, as_subtask, Bool, Call, call_made, CallEnd, cancel_was_delivered, change, CloseSet, Core, count_work, Exits, false, free_handle, free_thread_handle, fresh, get, get-empty, get-insert, get-remove, give_handle, give_result, give_thread_handle, GivesUp, giving, handle_of_table, how_far_of, HowFar, inl, inr, instance_of, is_deletable, is_some, IsCalled, IsNamed, IsWithdrawn, le_trans, MakeCall, MakeThread, MayCome, MayDeliver, MayEnd, MayNameCall, MayOwe, NameCall, NameWork, nat_tests, new_handle, next_thread, None, not, on_call, on_instance, on_thread, on_work, OpenSet, Option, option_and_then, option_map_or, own_event_of, OwnEvent, poll_pends, push_high, refl, remove_call, remove_group, remove_set, remove_thread, remove_work, RemoveCall, ReturnsNow, Scene, set_backpressure, set_cancel_delivered, set_cancelled, set_course, set_do_not_enter, set_do_not_suspend, set_end, set_event, set_exited, set_how_far, set_join, set_own_event, set_phase, set_position, set_register, set_result, set_saved_callee, set_saved_own, set_script, set_stage, set_started, set_starting_published, set_subtask_handle, set_thread_handle, set_trapped, set_uninteresting, set_word, SetOwnEvent, Some, subst, subtask_at, subtask_handle, take_result, taking, Thread, true, UnnameCall, UnnameWork, with_handle, with_thread_handle, Word, work_queued, ℕ, ⊎_elim, ◌&&◌, ◌∙◌, ◌≡◌, ◌≤◌, ◌⊎◌}
+use Rattle.task_rules.proofs.Machine.{add_call, add_group, add_set, add_thread, add_work, after_word, Allowed, ap, arith, as_subtask, Call, call_made, CallEnd, cancel_was_delivered, change, CloseSet, Core, count_work, Exits, false, free_handle, free_thread_handle, fresh, get, get-empty, get-insert, get-remove, give_handle, give_result, give_thread_handle, GivesUp, giving, handle_of_table, how_far_of, HowFar, inl, inr, instance_of, is_deletable, is_some, IsCalled, IsNamed, IsWithdrawn, le_trans, MakeCall, MakeThread, MayCome, MayDeliver, MayEnd, MayNameCall, MayOwe, NameCall, NameWork, nat_tests, new_handle, next_thread, None, not, on_call, on_instance, on_thread, on_work, OpenSet, Option, option_and_then, option_map_or, own_event_of, OwnEvent, poll_pends, push_high, refl, remove_call, remove_group, remove_set, remove_thread, remove_work, RemoveCall, ReturnsNow, Scene, set_backpressure, set_cancel_delivered, set_cancelled, set_course, set_do_not_enter, set_do_not_suspend, set_end, set_event, set_exited, set_how_far, set_join, set_own_event, set_phase, set_position, set_register, set_result, set_saved_callee, set_saved_own, set_script, set_stage, set_started, set_starting_published, set_subtask_handle, set_thread_handle, set_trapped, set_uninteresting, set_word, SetOwnEvent, Some, subst, subtask_at, subtask_handle, take_result, taking, Thread, true, UnnameCall, UnnameWork, with_handle, with_thread_handle, Word, work_queued, ℕ, ⊎_elim, ◌∙◌, ◌≡◌, ◌≤◌, ◌⊎◌}
 use Rattle.task_rules.proofs.StandLemmas.{by_number}
 use Rattle.task_machine.specs.declared.words.OwnEvent.TheVariants as own
-use Rattle.task_machine.specs.declared.records.CallEnd.TheVariants as call_end
 use Rattle.task_laws.proofs.Basics.{too_high}
 
 -- the call that the running thread's op is inside of before the step is there
 abbrev pub InsideThere : Scene → Type 0
 InsideThere a = (n k : ℕ) → a.turn ≡ turn.Run n → how_far_of n a.base ≡ how_far.Calls (subtask.Guest k) → is_some (get a.base.calls k) ≡ true
 
-abbrev is_cancelled : Option OwnEvent → Bool
-is_cancelled (Some own.Cancelled) = true
-is_cancelled _ = false
-
--- it has at most returned
-abbrev at_most_returned : Option CallEnd → Bool
-at_most_returned None = true
-at_most_returned (Some call_end.Returned) = true
-at_most_returned _ = false
-
--- no cancel has come to the call
-abbrev pub is_uncancelled : Call → Bool
-is_uncancelled c = not (is_cancelled c.own_event) && (not c.cancel_delivered && at_most_returned c.«end»)
-
--- if the call is there, the thread has made it, no handle names it, and it wasn't cancelled
-abbrev OnlyCalled : ℕ → ℕ → Core → Type 0
-OnlyCalled n k s = (c : Call) → get s.calls k ≡ Some c → (c.caller ≡ caller.Thread n) × ((c.handle ≡ None) × (is_uncancelled c ≡ true))
-
-pub record NamesKnown (s : Core) : Type 0 where
-  -- the record of a call that a handle names says which
-  pub there : (i h k : ℕ) → subtask_at i h s ≡ Some (subtask.Guest k) → subtask_handle (subtask.Guest k) s ≡ Some h
-  -- in one instance
-  pub once : (i j h g k : ℕ) → subtask_at i h s ≡ Some (subtask.Guest k) → subtask_at j g s ≡ Some (subtask.Guest k) → i ≡ j
-  pub number : (k : ℕ) (c : Call) → get s.calls k ≡ Some c → k ≤ s.made.threads
-  pub called : (n k : ℕ) → how_far_of n s ≡ how_far.Calls (subtask.Guest k) → (k ≤ s.made.threads) × OnlyCalled n k s
-
-abbrev called_call : HowFar → Option ℕ
+abbrev pub called_call : HowFar → Option ℕ
 called_call (how_far.Calls (subtask.Guest k)) = Some k
 called_call f = None
 
-calls_call : (f : HowFar) (k : ℕ) → called_call f ≡ Some k → f ≡ how_far.Calls (subtask.Guest k)
+pub calls_call : (f : HowFar) (k : ℕ) → called_call f ≡ Some k → f ≡ how_far.Calls (subtask.Guest k)
 calls_call f k h = grind arith
 
 -- ---- What an op is inside of
 
 -- the op was inside of the call before the step, or has just made it
-abbrev WasInside : Scene → ℕ → ℕ → Type 0
+abbrev pub WasInside : Scene → ℕ → ℕ → Type 0
 WasInside a n k = (how_far_of n a.base ≡ how_far.Calls (subtask.Guest k)) ⊎ (k ≡ next_thread a.base)
 
-abbrev WereInside : Scene → Core → Type 0
+abbrev pub WereInside : Scene → Core → Type 0
 WereInside a s = (n k : ℕ) → how_far_of n s ≡ how_far.Calls (subtask.Guest k) → WasInside a n k
 
 module _ (a : Scene) (w : Word) (s : Core) (ok : Allowed a w s) (q : NamesKnown s) (were : WereInside a s) where
   -- right before the word
-  inside : (n k : ℕ) → how_far_of n (after_word w s) ≡ how_far.Calls (subtask.Guest k) → WasInside a n k × ((k ≤ s.made.threads) × OnlyCalled n k s)
+  pub inside : (n k : ℕ) → how_far_of n (after_word w s) ≡ how_far.Calls (subtask.Guest k) → WasInside a n k × ((k ≤ s.made.threads) × OnlyCalled n k s)
   inside n k far = go (op_came called_call k w s ok n refl (ap called_call far))
     where
       come : MayCome a n (how_far.Calls (subtask.Guest k)) s → WasInside a n k × ((k ≤ s.made.threads) × OnlyCalled n k s)
@@ -80,7 +54,7 @@ module _ (a : Scene) (base : NamesKnown a.base) (n k : ℕ) (was : WasInside a n
   base_call None at there = absurd (grind arith)
   base_call (Some c) at there = ⊎_elim (λ far. let r = (base.called n k far).1 c at in (c, (refl, (r.1.0, r.1.1)))) (λ new. let low = base.number k c at in absurd (omega (arith, low, new))) was
 
-  unnamed_inside : IsNamed a (subtask.Guest k) → ⊥
+  pub unnamed_inside : IsNamed a (subtask.Guest k) → ⊥
   unnamed_inside (m, (h, (runner, named))) = let e = base.there (instance_of m a.base) h k named in let c = base_call (get a.base.calls k) refl (grind arith) in let at = c.1.0 in let free = c.1.1.0 in grind arith
 
   unasked_inside : own_event_of k a.base ≡ Some own.Cancelled → ⊥

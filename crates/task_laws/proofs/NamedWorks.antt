@@ -1,15 +1,16 @@
 -- Which works handles name: along the words of a step none of them is a sync call's.
 use Rattle.task_laws.proofs.SetHandles.{none_named}
 use Rattle.task_laws.proofs.Subtasks.{handle_named}
-use Rattle.task_laws.proofs.Works.{doing_or, doing_there, Doing, Same, WorkCame, WorksHold, doing_of, work_came}
+use Rattle.task_laws.proofs.WorksCame.{Doing, Same, WorkCame, doing_of, work_came}
+use Rattle.task_laws.proofs.Works.{doing_or, doing_there, WorksHold, number_of}
 use Rattle.task_laws.specs.Ends.{MayBeAborted, is_sync_work}
-use Rattle.task_rules.proofs.Machine.{after_word, Allowed, arith, Bool, Core, false, fresh, inl, inr, is_async_work, le_trans, None, Option, refl, Scene, Some, subtask_at, sym, true, Word, work_caller_of, ℕ, ⊎_elim, ◌∙◌, ◌≡◌, ◌≤◌, ◌⊎◌}
+use Rattle.task_rules.proofs.Machine.{after_word, Allowed, arith, Core, false, fresh, inl, inr, is_async_work, le_trans, None, Option, refl, Scene, Some, subtask_at, sym, true, Word, work_caller_of, ℕ, ⊎_elim, ◌∙◌, ◌≡◌, ◌≤◌, ◌⊎◌}
 use Rattle.task_laws.proofs.CountLemmas.{made_works_word}
 use Rattle.task_machine.specs.declared.records.Subtask.TheVariants as subtask
 
 -- ---- Works that aren't sync calls'
 
-caller_kept : {a : Scene} {s : Core} {b i : ℕ} {h g : Bool → ℕ} {o p : Option Doing} → WorkCame a s b i h g o p → i ≤ s.made.works →
+caller_kept : {S M : Type 0} {a : Scene} {s : Core} {b i : ℕ} {h g : ℕ × ℕ} {o p : Option Doing} → WorkCame S M a s b i h g o p → i ≤ s.made.works →
     (v : Doing) → p ≡ Some v → (u : Doing) × ((o ≡ Some u) × (v.caller ≡ u.caller))
 caller_kept (Same e fewer) below v at = (v, (sym e ∙ at, refl))
 caller_kept d below v at = grind arith
@@ -31,7 +32,7 @@ pub abort_kept : {S : Type 0} (a : Scene) (w : Word) (s : Core) → Allowed a w 
 abort_kept a w s ok h i q = record {
   made = le_trans q.made (made_works_word a w s);
   other = other_of i (after_word w s) (λ v at.
-      let r = caller_kept (work_came s h.low w ok i) q.made v at in let c = caller_is i s r.0 r.1.0 in let same = r.1.1 in
+      let r = caller_kept (work_came a s h.stand (λ i no. absurd no) w ok i) q.made v at in let c = caller_is i s r.0 r.1.0 in let same = r.1.1 in
       let no = q.other in cc);
 }
 
@@ -40,7 +41,7 @@ abbrev pub NamesNoSync : Core → Type 0
 NamesNoSync s = (i h j : ℕ) → subtask_at i h s ≡ Some (subtask.Host j) → MayBeAborted s j
 
 async_other : {S : Type 0} (j : ℕ) (s : Core) → WorksHold S s → is_async_work (work_caller_of j s) ≡ true → MayBeAborted s j
-async_other j s h async = let v = doing_there j s (grind arith) in record { made = (h.works j v.0 v.1).number; other = grind arith }
+async_other j s h async = let v = doing_there j s (grind arith) in record { made = number_of h j v.0 v.1; other = grind arith }
 
 pub names_word : {S : Type 0} (a : Scene) (w : Word) (s : Core) → Allowed a w s → WorksHold S s → NamesNoSync s → NamesNoSync
     (after_word w s)

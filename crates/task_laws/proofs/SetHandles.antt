@@ -85,7 +85,9 @@ reached_sets : {x : Setting} {s : State} → Reached x s → SetsNamed s.core
 reached_sets r = reached_kept SetsNamed opening_sets sets_named_word r
 
 pub sets_named_at_home : SetsNamedAtHome
+unfolding SetsNamedAtHome
 sets_named_at_home x s r i h n at = let home = (reached_sets r).home i h n at in grind arith
 
 pub sets_named_once : SetsNamedOnce
+unfolding SetsNamedOnce
 sets_named_once x s r = (reached_sets r).once

@@ -4,7 +4,8 @@ use Rattle.task_rules.proofs.Machine.{add_call, add_group, add_set, add_thread, 
 use Rattle.task_laws.proofs.Basics.{too_high}
 use Rattle.task_laws.proofs.CallsCame.{op_came}
 use Rattle.task_laws.proofs.NamedWorks.{NamesNoSync, caller_is}
-use Rattle.task_laws.proofs.Works.{doing_there, Doing, WorksGo, doing_of}
+use Rattle.task_laws.proofs.WorksCame.{Doing, doing_of}
+use Rattle.task_laws.proofs.Works.{doing_there, WorksGo, number_of}
 use Rattle.task_laws.specs.Ends.{MayBeAborted}
 use Rattle.task_machine.specs.declared.records.HowFar.TheVariants as how_far
 use Rattle.task_machine.specs.declared.records.Subtask.TheVariants as subtask
@@ -65,7 +66,7 @@ module _ {S : Type 0} (a : Scene) (low : (i : ℕ) (v : Doing) → doing_of i a.
     where
       on : work_caller_of i s ≡ work_caller.Sync n → (MayRemoveWork a i s → ⊥) → work_caller_of i (after_word w s) ≡ work_caller.Sync n
       on at not = let r = sync_there i n s at in
-          ⊎_elim (λ e. e) (λ may. absurd (not may)) (caller_stays a w s ok i n (q.holds.works i r.0 r.1.0).number at)
+          ⊎_elim (λ e. e) (λ may. absurd (not may)) (caller_stays a w s ok i n (number_of q.holds i r.0 r.1.0) at)
 
       go : (called_work (how_far_of n s) ≡ Some i) ⊎ ((g : HowFar) × (MayCome a n g s × (called_work g ≡ Some i))) →
           work_caller_of i (after_word w s) ≡ work_caller.Sync n

@@ -1,19 +1,10 @@
 -- Under the first thread of a direct call there is another one, along the words of a step.
-use Rattle.task_rules.proofs.Machine.{after_word, Allowed, ap, arith, Core, false, get, goal_of, inl, inr, is_direct, is_some, None, Option, option_map, Place, place_of, refl, Scene, Some, Steady, task_of, Thread, true, Word, ℕ, ◌∙◌, ◌≡◌, ◌≤◌, ◌⊎◌}
-use Rattle.task_laws.proofs.CallsCame.{CallAfter, call_came}
+use Rattle.task_rules.proofs.Machine.{ap, arith, Core, false, get, goal_of, inl, inr, is_direct, is_some, None, Option, option_map, Place, place_of, refl, Scene, Some, Steady, task_of, Thread, true, ℕ, ◌∙◌, ◌≡◌, ◌≤◌, ◌⊎◌}
+use Rattle.task_laws.proofs.AwaitedCalls.{DirectsRun}
 use Rattle.task_laws.specs.Order.{DirectsOnTop, Numbered}
 use Rattle.task_machine.specs.declared.records.Place.TheVariants as place
 use Rattle.task_machine.specs.declared.records.Turn.TheVariants as turn
 use Rattle.task_places.proofs.PlaceLaw.{Arrives, no_way}
-
--- ---- Which calls are direct
-
--- a direct call was so before the step, or its thread runs next
-abbrev pub DirectsRun : Scene → Core → Type 0
-DirectsRun a s = (k : ℕ) → is_direct (goal_of k s) ≡ true → (is_direct (goal_of k a.base) ≡ true) ⊎ (a.next ≡ turn.Run k)
-
-pub directs_word : (a : Scene) (w : Word) (s : Core) → Allowed a w s → DirectsRun a s → DirectsRun a (after_word w s)
-directs_word a w s ok q k direct = let i : CallAfter a w s k = call_came w s ok k in grind (arith, q k)
 
 -- ---- After a step
 
@@ -49,7 +40,7 @@ module _ (a : Scene) (s t : Core) (steady : Steady s t) (before : Numbered s) (a
       -- who was not is the new one, which runs
       entered : (u : Thread) → get t.threads m ≡ Some u → place_of m s ≡ None →
           (is_direct (goal_of m a.base) ≡ true) ⊎ (a.next ≡ turn.Run m) → (n : ℕ) × (place_of n t ≡ Some (place.Under m))
-      entered u at none (inr next) = arrives.entered m (home m ∙ none) next
+      entered u at none (inr next) = let e = arrives.entered m (home m ∙ none) next in (e.0, e.1.1)
       entered u at none (inl was) =
           let is = calls m in
           let below : m ≤ s.made.threads = grind (arith, before.calls m) in

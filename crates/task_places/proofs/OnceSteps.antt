@@ -1,25 +1,24 @@
 -- Each step owes of the ends what it should, and so each run has each end once.
-use Rattle.task_rules.proofs.Machine.{[], AbortsOwn, ap, arith, base_at, Bool, Call, Core, end_for, Entry, false, fresh, get, get-empty, how_far_of, inl, inr, instance_of, is_some, is_spawn, is_spawn_caller, is_stage_ended, IsRunner, Label, le_refl, Main, MainPlace, Mark, next_entry, None, opening, Option, option_and_then, option_map, option_map_or, Place, place_of, ProgramAborts, refl, runner_at, SameMain, Scene, scene_of, ScriptAborts, Scripted, Setting, slice_get, Some, spawned_at, stage_of, State, Status, Step, subst, Subtask, subtask_at, subtask_handle, suc, sym, task_of, thread_of_entry, true, Turn, undelivered_end, Unscripted, unwrap_or, Walked, Work, work_caller_of, written, zero, ℕ, ⊎_elim, ◌&&◌, ◌++◌, ◌-◌, ◌∙◌, ◌∷◌, ◌≡◌, ◌≤◌, ◌⊎◌}
-use Rattle.task_laws.proofs.NamedCalls.{NamesGo, NamesKnown, names_go_word, opening_names_known}
+use Rattle.task_rules.proofs.Machine.{[], AbortsOwn, ap, arith, base_at, Bool, Call, Core, Entry, false, fresh, get, get-empty, how_far_of, inl, inr, instance_of, is_some, is_spawn, is_spawn_caller, is_stage_ended, IsRunner, Label, le_refl, Main, MainPlace, Mark, next_entry, None, opening, Option, option_and_then, option_map, option_map_or, Place, place_of, ProgramAborts, refl, runner_at, SameMain, Scene, scene_of, ScriptAborts, Scripted, Setting, slice_get, Some, spawned_at, stage_of, State, Status, Step, subst, Subtask, subtask_at, subtask_handle, suc, sym, task_of, thread_of_entry, true, Turn, undelivered_end, Unscripted, unwrap_or, Walked, Work, work_caller_of, zero, ℕ, ⊎_elim, ◌&&◌, ◌++◌, ◌-◌, ◌∙◌, ◌∷◌, ◌≡◌, ◌≤◌, ◌⊎◌}
 use Rattle.task_laws.proofs.NamedWorks.{NamesNoSync, abort_kept, caller_is, names_word, opening_names}
 use Rattle.task_laws.proofs.Basics.{no_way}
-use Rattle.task_laws.proofs.CallsLaw.{CallsGo, CallsHold}
-use Rattle.task_laws.proofs.CallsSteps.{of_base, step_goes, calls_begin}
+use Rattle.task_laws.proofs.CallsLaw.{CallsHold}
+use Rattle.task_laws.proofs.CallsSteps.{of_base}
 use Rattle.task_laws.specs.Settings.{Reached}
 use Rattle.task_rules.proofs.ChainLemmas.{along}
-use Rattle.task_laws.proofs.CallEnds.{EndsGo, EndsTold, ends_go, opening_ends_told}
-use Rattle.task_laws.proofs.OnceLemmas.{Due, Over, EndStep, ends_once, written_over}
-use Rattle.task_laws.proofs.HostEnds.{Answered, host_step}
+use Rattle.task_laws.proofs.CallEnds.{EndsTold, opening_ends_told}
+use Rattle.task_laws.proofs.OnceLemmas.{Due, Over, EndStep, due_over, ends_once}
 use Rattle.task_laws.proofs.SceneLemmas.{base_is, runner_there}
-use Rattle.task_laws.specs.Ends.{CalledThere, is_sync_work, MayBeAborted, SyncUnnamed}
+use Rattle.task_laws.specs.Ends.{is_sync_work, MayBeAborted, SyncUnnamed}
 use Rattle.task_laws.proofs.SyncWorks.{CallersKnown, callers_word, opening_callers}
-use Rattle.task_laws.proofs.Works.{AbortsNoSync, Doing, WorksGo, WorksHold, doing, doing_of, is_late, opening_works, first_works, works_word}
+use Rattle.task_laws.proofs.WorksCame.{Doing, doing, doing_of, is_late}
+use Rattle.task_laws.proofs.Works.{AbortsNoSync, WorksGo, WorksHold, number_of, opening_works, first_works, works_word}
 use Rattle.task_rules.proofs.WalkSteps.{step_walks}
-use Rattle.task_laws.specs.Order.{InOrder}
+use Rattle.task_laws.specs.Order.{InOrder, OpeningInOrder}
 use Rattle.task_places.proofs.PlaceLaw.{entry_ready}
-use Rattle.task_rules.proofs.LawLemmas.{never_fewer, run_goes_on}
+use Rattle.task_rules.proofs.LawLemmas.{run_goes_on}
 use Rattle.task_places.proofs.Entries.{next_first, popped_cleared}
-use Rattle.task_laws.proofs.GuestEnds.{CallsFound, guest_step}
+use Rattle.task_laws.proofs.StepEnds.{Answered, CallsFound, CallsKnown, calls_known, step_ends}
 use Rattle.task_places.specs.Once.{RunsAreOnce, IsUnbegun}
 use Rattle.task_places.proofs.OrderLemmas.{opening_in_order, step_in_order}
 use Rattle.task_machine.specs.declared.records.Subtask.TheVariants as subtask
@@ -42,7 +41,6 @@ record Known (x : Setting) (s : State) : Type 0 where
   works : WorksHold (Unit {0}) s.core
   unnamed : SyncUnnamed s
   callers : CallersKnown s.core
-  names : NamesKnown s.core
   zero : MayBeAborted s.core 0
   over : DueOver s.core
 
@@ -84,7 +82,7 @@ abbrev is_blocked : Option Place → Bool
 is_blocked (Some (place.Blocked sub)) = true
 is_blocked _ = false
 
-module _ (x : Setting) (s : State) (l : Label) (t : State) (k : Known x s) (f : CalledThere s) (step : Step x s l t) where
+module _ (x : Setting) (s : State) (l : Label) (t : State) (k : Known x s) (step : Step x s l t) where
   w : Walked x s l t
   w = step_walks x s l t step
 
@@ -110,7 +108,7 @@ module _ (x : Setting) (s : State) (l : Label) (t : State) (k : Known x s) (f : 
   unsync : AbortsNoSync a
   unsync i (AbortsOwn (n, (h, (runner, named)))) = let q = names_base (instance_of n a.base) h i named in (q.made, λ u e. ap (λ y. is_sync_work y) (sym (caller_is i a.base u e)) ∙ q.other)
   unsync i (ScriptAborts p j main is) = subst (λ (n : ℕ). (n ≤ a.base.made.works) × ((u : Doing) → doing_of n a.base ≡ Some u → is_sync_work u.caller ≡ false)) (sym is) (to_base (λ c. (spawned_at p j ≤ c.made.works) × ((u : Doing) → doing_of (spawned_at p j) c ≡ Some u → is_sync_work u.caller ≡ false)) (let q = k.unnamed.spawns p j main in (q.made, λ u e. ap (λ y. is_sync_work y) (sym (caller_is (spawned_at p j) s.core u e)) ∙ q.other)))
-  unsync i (ProgramAborts main is) = to_base (λ c. (i ≤ c.made.works) × ((u : Doing) → doing_of i c ≡ Some u → is_sync_work u.caller ≡ false)) (let r = spawn_other i s.core (from_base (λ c. is_spawn i c ≡ true) is) in ((k.works.works i r.0 r.1.0).number, λ u e. ap (λ (o : Option Doing). is_sync_work (unwrap_or o r.0).caller) (sym e ∙ r.1.0) ∙ r.1.1))
+  unsync i (ProgramAborts main is) = to_base (λ c. (i ≤ c.made.works) × ((u : Doing) → doing_of i c ≡ Some u → is_sync_work u.caller ≡ false)) (let r = spawn_other i s.core (from_base (λ c. is_spawn i c ≡ true) is) in (number_of k.works i r.0 r.1.0, λ u e. ap (λ (o : Option Doing). is_sync_work (unwrap_or o r.0).caller) (sym e ∙ r.1.0) ∙ r.1.1))
 
   abbrev Kept : Core → Type 0
   Kept u = WorksGo (Unit {0}) a u × (NamesNoSync u × (((i : ℕ) → MayBeAborted s.core i → MayBeAborted u i) × CallersKnown u))
@@ -124,24 +122,17 @@ module _ (x : Setting) (s : State) (l : Label) (t : State) (k : Known x s) (f : 
           names_word a v u ok q.0.holds q.1.0,
           (
             λ i h. abort_kept a v u ok q.0.holds i (q.1.1.0 i h),
-            callers_word a (to_base (λ c. (i : ℕ) (v : Doing) → doing_of i c ≡ Some v → i ≤ c.made.works) (λ i v e. (k.works.works i v e).number)) (to_base CallersKnown k.callers) names_base v u ok q.0 (λ i h. q.1.1.0 i (at_first i h)) q.1.1.1,
+            callers_word a (to_base (λ c. (i : ℕ) (v : Doing) → doing_of i c ≡ Some v → i ≤ c.made.works) (λ i v e. number_of k.works i v e)) (to_base CallersKnown k.callers) names_base v u ok q.0 (λ i h. q.1.1.0 i (at_first i h)) q.1.1.1,
           ),
         ),
       ))
       (first_works x s l w.next k.works, (k.unnamed.works, (λ i h. h, k.callers))) w.walk
 
-  names_base_known : NamesKnown a.base
-  names_base_known = to_base NamesKnown (record { there = k.names.there; once = k.names.once; number = k.names.number; called = k.names.called })
-
-  -- which calls handles and ops name
-  names_after : NamesGo a t.core
-  names_after = along (NamesGo a) (λ v u ok q. names_go_word a names_base_known (λ n j runs. to_base (λ c. how_far_of n c ≡ how_far.Calls (subtask.Guest j) → is_some (get c.calls j) ≡ true) (f n j runs)) v u ok q) (record { known = k.names; were = λ n j far. inl (to_base (λ c. how_far_of n c ≡ how_far.Calls (subtask.Guest j)) far) }) w.walk
-
   spawns_after : (p : MainPlace) (j : ℕ) → t.main ≡ Scripted p → MayBeAborted t.core (spawned_at p j)
   spawns_after p j at = by s.main refl t.main at w.main
     where
       spawn_is : (i : ℕ) → is_spawn i t.core ≡ true → MayBeAborted t.core i
-      spawn_is i is = let r = spawn_other i t.core is in record { made = (works_after.0.holds.works i r.0 r.1.0).number; other = ap (λ y. is_sync_work y) (caller_is i t.core r.0 r.1.0) ∙ r.1.1 }
+      spawn_is i is = let r = spawn_other i t.core is in record { made = number_of works_after.0.holds i r.0 r.1.0; other = ap (λ y. is_sync_work y) (caller_is i t.core r.0 r.1.0) ∙ r.1.1 }
 
       place_in : Main → MainPlace
       place_in (Scripted q) = q
@@ -180,37 +171,26 @@ module _ (x : Setting) (s : State) (l : Label) (t : State) (k : Known x s) (f : 
   found : CallsFound a
   found = record {
     own = λ n runner. to_base (λ c. is_some (get c.calls (task_of n c)) ≡ true) (let there = runner_there x s l w.next k.order.in_place n runner in grind (arith, k.order.calls_there n (task_of n s.core)));
-    named = λ j named. to_base (λ c. (i h : ℕ) → subtask_at i h c ≡ Some (subtask.Guest j) → is_some (get c.calls j) ≡ true) (λ i h e. named_there j h s.core (k.names.there i h j e)) (instance_of named.0 a.base) named.1.0 named.1.1.1;
+    named = λ j named. to_base (λ c. (i h : ℕ) → subtask_at i h c ≡ Some (subtask.Guest j) → is_some (get c.calls j) ≡ true) (λ i h e. named_there j h s.core (k.order.names.there i h j e)) (instance_of named.0 a.base) named.1.0 named.1.1.1;
   }
 
-  told_base : EndsTold a.base
-  told_base = to_base EndsTold (record { goals = k.told.goals; events = k.told.events; results = k.told.results })
-
-  goes : CallsGo a t.core × (EndsGo a t.core × EndsTold t.core)
-  goes = ends_go k.order.codes holds k.told w
+  calls : CallsKnown x s t.core a
+  calls = calls_known x s l t k.order.codes holds k.told step w
 
   end_step : (sub : Subtask) → EndStep x.component (record { before = s; label = l; after = t }) sub
-  end_step (subtask.Guest j) =
-      guest_step x s l t w.next k.order.codes (calls_begin x s l w.next holds).0 told_base holds goes.0 goes.1.0 goes.1.1
-      (step_goes x s l t k.order.codes holds step).1 (never_fewer x s l t step).threads w.ends.says found (λ i e due. k.over (subtask.Guest i) e due) j
-  end_step (subtask.Host i) = host_step (Unit {0}) x s l t w.next k.works works_after.0 w.ends.says tt answered i
+  end_step = step_ends x s l t w.next k.order.codes calls k.works works_after.0 found k.over answered
 
   known_after : Known x t
   known_after = record {
     reached = reached_step x s l t k.reached step;
     order = step_in_order x s l t k.order step;
-    told = goes.1.1;
+    told = calls.told;
     works = works_after.0.holds;
     unnamed = record { works = works_after.1.0; spawns = spawns_after };
     callers = works_after.1.1.1;
-    names = names_after.known;
     zero = works_after.1.1.0 0 k.zero;
-    over = λ sub e due. by sub e ((end_step sub).comes e due);
+    over = λ sub e due. due_over (end_step sub) e ((end_step sub).comes e due);
   }
-    where
-      by : (sub : Subtask) (e : Status) → Due sub e s.core ⊎ (written x.component (record { before = s; label = l; after = t }) ≡ Some (end_for e sub)) → Over sub t.core
-      by sub e (inl due) = (end_step sub).stays (k.over sub e due)
-      by sub e (inr is) = written_over (end_step sub) e is
 
 -- ---- Runs
 
@@ -237,9 +217,10 @@ opening_spawns instances handle_limit capacity (Scripted q) begun p j is = subst
     none_spawned (suc n) = zero_unmade instances handle_limit capacity
 
 pub runs_are_once : RunsAreOnce
-runs_are_once x codes found instances handle_limit capacity main begun ls t run =
+unfolding OpeningInOrder RunsAreOnce
+runs_are_once x codes instances handle_limit capacity main begun ls t run =
     let s : State = opening instances handle_limit capacity main in
-    ends_once x (Known x) (λ s l t k step. known_after x s l t k (found s k.reached) step) (λ s l t k step sub. end_step x s l t k (found s k.reached) step sub) s
+    ends_once x (Known x) (λ s l t k step. known_after x s l t k step) (λ s l t k step sub. end_step x s l t k step sub) s
     (record {
       reached = record { scripts = codes; instances = instances; handle_limit = handle_limit; capacity = capacity; main = main; labels = []; run = refl };
       order = opening_in_order x.component codes instances handle_limit capacity main;
@@ -247,7 +228,6 @@ runs_are_once x codes found instances handle_limit capacity main begun ls t run 
       works = opening_works instances handle_limit capacity;
       unnamed = record { works = opening_names instances handle_limit capacity; spawns = λ p j is. opening_spawns instances handle_limit capacity main begun p j is };
       callers = opening_callers instances handle_limit capacity;
-      names = opening_names_known instances handle_limit capacity;
       zero = zero_unmade instances handle_limit capacity;
       over = λ sub e due. absurd (none_due instances handle_limit capacity sub e due);
     }) (λ sub e due. none_due instances handle_limit capacity sub e due) ls t run

@@ -1,9 +1,9 @@
 -- A state in order: each opening state is, and each step leads from one to one.
-use Rattle.task_rules.proofs.Machine.{[], ap, arith, Bool, ByHandle, ByOp, Call, call_instance, callee_of, can_come, Component, Core, empty, false, fresh, get, get-empty, HasSubtask, HowFar, inl, inr, instance_of, is_fresh, is_some, is_sync_call, is_there, IsRunner, Label, length, List, None, Op, op_of_thread, opening, Option, option_and_then, option_map, option_map_or, Place, place_of, Placed, refl, Run, Scene, scene_of, Script, script_in, Setting, slice_get, Some, State, Steady, subst, sym, task_of, Thread, true, unwrap_or, Walk, Walked, was_started, Work, ℕ, ◌∷◌, ◌≡◌, ◌≤◌, ◌⊎◌}
+use Rattle.task_rules.proofs.Machine.{[], ap, arith, Bool, ByHandle, ByOp, Call, call_instance, callee_of, can_come, Component, Core, empty, false, fresh, get, get-empty, HasSubtask, how_far_of, HowFar, inl, inr, instance_of, is_fresh, is_some, is_sync_call, is_there, IsRunner, Label, length, List, None, Op, op_of_thread, opening, Option, option_and_then, option_map, option_map_or, Place, place_of, Placed, refl, Run, Scene, scene_of, Script, script_in, Setting, slice_get, Some, State, Steady, subst, subtask_under_way, sym, task_of, Thread, true, unwrap_or, Walk, Walked, was_started, Work, ℕ, ⊎_elim, ◌∷◌, ◌≡◌, ◌≤◌, ◌⊎◌}
 use Rattle.task_machine.specs.declared.op.Op.TheVariants as op
 use Rattle.task_machine.specs.declared.op.TaskOp.TheVariants as task_op
 use Rattle.task_places.proofs.HostsAwaited.{step_works}
-use Rattle.task_places.proofs.Directs.{DirectsRun, directs_on_top, directs_word}
+use Rattle.task_places.proofs.Directs.{directs_on_top}
 use Rattle.task_machine.specs.declared.records.Subtask.TheVariants as subtask
 use Rattle.task_laws.proofs.Joins.{joins_word, opening_joins}
 use Rattle.task_laws.proofs.Subtasks.{Traced, opening_named, traced_word}
@@ -18,13 +18,16 @@ use Rattle.task_laws.proofs.CountLemmas.{few_word}
 use Rattle.task_laws.proofs.SetHandles.{opening_sets, sets_named_word}
 use Rattle.task_laws.proofs.CallsLaw.{CallsGo, CallsHold}
 use Rattle.task_laws.proofs.CallsSteps.{base_out, calls_begin, of_base, word_goes, opening_holds, plain, plain_scene, step_goes}
+use Rattle.task_laws.proofs.AwaitedCalls.{DirectsRun, Inside, directs_word, CallsInside, inside_word, apart_after}
+use Rattle.task_laws.proofs.NamedCalls.{NamesGo, InsideThere, names_go_word, opening_names_known}
 use Rattle.task_laws.proofs.UnbegunCalls.{first_waits, Unbegun, unbegun_word, Waited}
-use Rattle.task_laws.specs.Order.{StartsFirst, IsUnbegun, CallsNamed, InOrder, Numbered, OpeningInOrder, SetsNamed, StartsAwaited, StepInOrder, WasCall, CallsThere, MakesFew, Strands, WaitsAtHome, set_of_op, set_of_place, StepsMakeFew, JoinsNamed, DirectsOnTop, Fits, WorksQueued, HostsAwaited, names_script}
+use Rattle.task_places.proofs.CallsBack.{back_apart}
+use Rattle.task_laws.specs.Order.{StartsFirst, NamesKnown, CallsAwaited, cancelled_call, is_awaited, IsUnbegun, CallsNamed, InOrder, Numbered, OpeningInOrder, SetsNamed, StartsAwaited, StepInOrder, WasCall, CallsThere, MakesFew, Strands, WaitsAtHome, set_of_op, set_of_place, StepsMakeFew, JoinsNamed, DirectsOnTop, Fits, WorksQueued, HostsAwaited, names_script}
 use Rattle.task_machine.specs.declared.records.Turn.TheVariants as turn
 use Rattle.task_machine.specs.declared.records.Place.TheVariants as place
 use Rattle.task_machine.specs.declared.records.HowFar.TheVariants as how_far
 use Rattle.task_places.proofs.PlaceLaw.{Arrives}
-use Rattle.task_places.proofs.PlaceSteps.{Withdrawable, in_place, step_arrives}
+use Rattle.task_places.proofs.PlaceSteps.{step_by, Withdrawable, in_place, step_arrives}
 use Rattle.task_places.specs.Kept.{ReachedInOrder, ReachedInPlace, StepsKeepPlaces}
 use Rattle.task_rules.proofs.LawLemmas.{steady}
 
@@ -142,10 +145,66 @@ module _ (x : Setting) (s : State) (l : Label) (t : State) (h : InOrder x.compon
       let fresh = come.fresh k (was_awaited s.core t.core h.in_place.placed steady h.starts k c at e) in
       grind (arith, h.numbered.threads k, steady.calls k)
 
+  directs_run : DirectsRun a t.core
+  directs_run = along (DirectsRun a) (directs_word a) (λ k d. inl d) walk
+
   pub directs_kept : Steady s.core t.core → Numbered t.core → DirectsOnTop t.core
   directs_kept steady after =
       let goes = base_out (λ b. Arrives (record a { base = b }) t.core) s.turn s.core arrives in
-      directs_on_top a s.core t.core steady h.numbered after goes (λ k. refl) (λ k. refl) h.directs (along (DirectsRun a) (directs_word a) (λ k d. inl d) walk)
+      directs_on_top a s.core t.core steady h.numbered after goes (λ k. refl) (λ k. refl) h.directs directs_run
+
+  -- ---- Calls that ops are inside of
+
+  unbegun_base : StartsFirst a.base
+  unbegun_base k r at first waits = let q = h.unbegun k r at first waits in record { unended = q.unended; alone = q.alone }
+
+  names_base : NamesKnown a.base
+  names_base = record { there = h.names.there; once = h.names.once; number = h.names.number; called = h.names.called }
+
+  calls_base : CallsAwaited a.base
+  calls_base = record { inside = h.calls.inside; apart = h.calls.apart }
+
+  numbered_base : Numbered a.base
+  numbered_base = record { threads = λ n t e. assumption (h.numbered.threads n t e); calls = h.numbered.calls }
+
+  -- a running thread is under none
+  inside_there : InsideThere a
+  inside_there n k runs far = ⊎_elim (λ under. let at = h.in_place.runs n runs in absurd (grind arith)) (λ awaited. grind arith) (h.calls.inside n k far)
+
+  least : (m k : ℕ) → cancelled_call (how_far_of m a.base) ≡ Some k → k ≤ a.base.made.threads
+  least m k e = (known.by_op m k (grind arith)).number
+
+  -- what handles and ops name, and the calls that ops are inside of
+  called : NamesGo a t.core × CallsInside a t.core
+  called =
+      let q = along (λ u. DirectsRun a u × (NamesGo a u × CallsInside a u)) (λ v u ok q.
+      let names = names_go_word a names_base inside_there v u ok q.1.0 in (
+        directs_word a v u ok q.0,
+        (names, inside_word a names_base calls_base unbegun_base numbered_base least v u ok q.1.0 names q.0 q.1.1),
+      ))
+      (λ k d. inl d, (record { known = h.names; were = λ n k far. inl far }, record { inside = λ n k far. ⊎_elim inl (λ w. inr (inl w)) (h.calls.inside n k far); cancelled = λ m k e. inl e })) walk in
+      q.1
+
+  pub awaited_kept : CallsAwaited t.core
+  awaited_kept = record {
+    inside = λ n k far. inside n k far (called.1.inside n k far);
+    apart = apart_after a names_base calls_base unbegun_base numbered_base least t.core called.0 called.1;
+  }
+    where
+      come : Arrives a t.core
+      come = plain x s l w.next (λ c. Arrives c t.core) arrives
+
+      back : (n k : ℕ) → place_of n s.core ≡ Some (place.Under k) → a.next ≡ turn.Run n → subtask_under_way (how_far_of n t.core) ≡ None
+      back n k at to = step_by x s l t w h.in_place withdrawable (λ c u. place_of n c.base ≡ Some (place.Under k) → c.next ≡ turn.Run n → subtask_under_way (how_far_of n u) ≡ None)
+          (λ c b m q u base first same f d ends at to. back_apart f n k at to d) (of_base (λ b. place_of n b ≡ Some (place.Under k)) s.turn s.core at) to
+
+      inside : (n k : ℕ) → how_far_of n t.core ≡ how_far.Calls (subtask.Guest k) → Inside a n k t.core → (place_of n t.core ≡ Some (place.Under k)) ⊎ (option_map_or is_awaited (get t.core.calls k) false ≡ true)
+      inside n k far (inl under) = ⊎_elim inl (λ gone. absurd (⊎_elim (λ to. let y = back n k under to in grind arith) (λ none. grind arith) gone.1)) (come.covered n k under)
+      inside n k far (inr (inl awaited)) = inr awaited
+      inside n k far (inr (inr (new, (runner, next)))) =
+          let number = (h.in_place.placed k).number in
+          let e = come.entered k (grind arith) next in
+          inl (let mine = e.1.0 in let at = e.1.1 in grind arith)
 
   pub works_kept : WorksQueued t.core × HostsAwaited t.core
   works_kept = step_works x s l t w h.in_place withdrawable h.works h.awaited
@@ -169,9 +228,6 @@ module _ (x : Setting) (s : State) (l : Label) (t : State) (h : InOrder x.compon
     under = λ d. ((has_call n r at, f.under d), inl (grind arith));
     still = λ d b is. let e : r ≡ b = cc in (ap (λ (t : Thread). t.call) e, (ap (λ (t : Thread). t.script) e, ap (λ (t : Thread). t.position) e));
   }
-
-  unbegun_base : StartsFirst a.base
-  unbegun_base k r at first waits = let q = h.unbegun k r at first waits in record { unended = q.unended; alone = q.alone }
 
   -- what is so of threads and their ops as the step ends
   last : AllFit a t.core × Unbegun a t.core
@@ -284,6 +340,8 @@ step_in_order x s l t h step =
       numbered = q.numbered;
       calls_there = calls_kept x s l t h w;
       calls_named = named_kept x s l t h w;
+      names = (called x s l t h w).0.known;
+      calls = awaited_kept x s l t h w;
       waits = waits_kept x s l t h w (steady x s l t step);
       sets_named = (joined_kept x s l t h w).0;
       joins_named = (joined_kept x s l t h w).1;
@@ -308,7 +366,7 @@ opening_placed instances handle_limit capacity n = record {
 }
 
 pub opening_in_order : OpeningInOrder
-unfolding fresh
+unfolding fresh OpeningInOrder
 opening_in_order c codes instances handle_limit capacity main =
     let q : CallsHold c (fresh instances handle_limit capacity) = opening_holds c instances handle_limit capacity in
     record {
@@ -334,6 +392,11 @@ opening_in_order c codes instances handle_limit capacity main =
         by_op = λ n x e. let o = get-empty {X = Thread} n in absurd (cc);
       };
       calls_named = opening_named instances handle_limit capacity;
+      names = opening_names_known instances handle_limit capacity;
+      calls = record {
+        inside = λ n k far. let o = get-empty {X = Thread} n in absurd (cc);
+        apart = λ n m k far e. let o = get-empty {X = Thread} n in absurd (cc);
+      };
       sets_named = opening_sets instances handle_limit capacity;
       joins_named = opening_joins instances handle_limit capacity;
       kinds = q.kinds;
@@ -350,12 +413,15 @@ run_in_order x s h [] t run = rw run h
 run_in_order x s h (l ∷ ls) t run = run_in_order x run.0 (step_in_order x s l run.0 h run.1.0) ls t run.1.1
 
 pub reached_in_order : ReachedInOrder
+unfolding OpeningInOrder ReachedInOrder
 reached_in_order x s r =
     let first = opening_in_order x.component r.scripts r.instances r.handle_limit r.capacity r.main in
     run_in_order x (opening r.instances r.handle_limit r.capacity r.main) first r.labels s r.run
 
 pub reached_in_place : ReachedInPlace
+unfolding ReachedInOrder ReachedInPlace
 reached_in_place x s r = (reached_in_order x s r).in_place
 
 pub steps_keep_places : StepsKeepPlaces
+unfolding ReachedInOrder
 steps_keep_places x s l t r step = (step_in_order x s l t (reached_in_order x s r) step).in_place
