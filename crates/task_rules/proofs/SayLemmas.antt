@@ -1,5 +1,5 @@
 -- What labels say of the ends of calls: the events that are taken.
-use Rattle.task_rules.proofs.Machine.{[], and_parts, ap, arith, Bool, call_settled, cancel_aborts_host, Choice, chosen, Core, end_answered, end_for, event_of, false, find, finished_call, get, get-remove, Gift, gift, gift_after_own, given_for, group_settled, handed_by_event, handed_out, has_result, if◌then◌else◌, instance_of, is_handed_end, is_none, Join, List, map, MemberGift, nat_cmp, nat_tests, NoGift, None, numbers, on_call, on_work, Option, option_and_then, option_map, option_map_or, option_or, OwnEvent, OwnGift, Records, refl, remove, remove_call, remove_group, set_cancelled, set_event, set_join, set_own_event, set_phase, set_result, Some, Status, status_code, subst, Subtask, subtask_at, SubtaskEnd, sym, take_result, taken, true, undelivered_end, unsigned_tied, unwrap_or, ℕ, ◌&&◌, ◌==◌, ◌∙◌, ◌∷◌, ◌≡◌, Scene, HandsOut, TakesEvent}
+use Rattle.task_rules.proofs.Machine.{[], and_parts, ap, arith, Bool, call_settled, Choice, chosen, Core, end_answered, end_for, event_of, false, find, finished_call, get, get-remove, Gift, gift, gift_after_own, given_for, group_settled, handed_by_event, handed_out, has_result, if◌then◌else◌, instance_of, is_handed_end, is_none, List, map, MemberGift, nat_cmp, nat_tests, NoGift, None, numbers, on_call, on_work, Option, option_and_then, option_map, option_map_or, option_or, OwnEvent, OwnGift, Records, refl, remove, remove_call, remove_group, set_event, set_result, Some, Status, status_code, subst, Subtask, subtask_at, SubtaskEnd, sym, take_result, taken, true, undelivered_end, unsigned_tied, unwrap_or, ℕ, ◌&&◌, ◌==◌, ◌∙◌, ◌∷◌, ◌≡◌, Scene, HandsOut, TakesEvent}
 use Rattle.std.specs.FinMap.Entries.{find as seek}
 use Rattle.task_machine.specs.declared.records.Subtask.TheVariants as subtask
 use Rattle.task_machine.specs.declared.words.Status.TheVariants as status
@@ -56,18 +56,6 @@ result_gone k s = grind (arith, nat_tests, get-change)
 
 pub found_returned : (o : Option Status) → unwrap_or o status.Starting ≡ status.Returned → undelivered_end o ≡ Some status.Returned
 found_returned o h = grind arith
-
-pub event_joined : (sub : Subtask) (y : Join) (s : Core) → event_of sub (set_join sub y s) ≡ event_of sub s
-unfolding set_join on_call on_work
-event_joined sub y s = grind (arith, nat_tests, get-change)
-
-pub event_owed : (k : ℕ) (y : Option OwnEvent) (s : Core) → event_of (subtask.Guest k) (set_own_event k y s) ≡ event_of (subtask.Guest k) s
-unfolding set_own_event on_call
-event_owed k y s = grind (arith, nat_tests, get-change)
-
-pub event_aborted : (i : ℕ) (s : Core) → event_of (subtask.Host i) (cancel_aborts_host i s) ≡ event_of (subtask.Host i) s
-unfolding cancel_aborts_host set_cancelled set_phase on_work
-event_aborted i s = grind (arith, nat_tests, get-change)
 
 -- what is so of the end that is said
 pub said_is : (P : Subtask → Status → Type 0) {f e : Status} {d sub : Subtask} → Some (end_for f d) ≡ Some (end_for e sub) → P d f → P sub e

@@ -1,5 +1,5 @@
 -- What the rows of the ops are made of, as chains of words: what is read, gifts, moves, and a new call.
-use Rattle.task_rules.proofs.Machine.{[], add_call, add_thread, advanced, after_placing, after_word, answered, ap, arith, assigned, AtOp, behind_one, behind_switch, Blocks, Bool, ByHandle, ByOp, Call, call_clears_flag, call_group, call_instance, call_made, call_queues, call_resumes, call_settled, call_stops, Callee, callee_of_op, Caller, can_come, cancel_goes_behind, cancel_label, cancel_stops, cancel_takes_end, checked, Choice, chosen, Core, Enter, enter_runs, event_of, ExportKind, false, foot_of, free_handle, get, get-insert, Gift, gift, give_thread_handle, Given, given_code, given_handle, given_result, Goal, goal_of, GoBehind, group_settled, HasCalled, HasSet, HasSubtask, how_far_of, HowFar, if◌then◌else◌, inl, InOp, inr, instance_of, is_begun, is_blocked_on, is_cancel, is_deletable, is_deletable_call, is_direct, is_explicit, is_group_done, is_joined, is_none, is_running, is_some, is_sync_call, is_sync_cancel, is_wait, IsNew, IsRunner, IsWithdrawn, Join, join_label, join_of, Leaves, less_switch, List, Made, MakeCall, may_not_suspend, MayCancel, MayCome, MayDeliver, MayJoin, MayMakeCall, MayRemoveWork, MayWithdraw, MemberGift, Mode, Move, moved_to, NameThread, nat_tests, new_thread, next_thread, NoGift, None, not, NoWord, on_call, on_instance, on_thread, on_work, op_in, Option, option_map, option_map_or, own_event_of, OwnGift, Place, place_of, Put, put_back, put_switch, received, Records, refl, Remains, remove_call, remove_group, remove_thread, remove_work, RemoveWork, saved_callee_of, says, SaysEnd, Scene, set_do_not_suspend, set_end, set_event, set_exited, set_given, set_high, set_how_far, set_join, set_low, set_place, set_position, set_register, set_saved_callee, set_saved_own, set_started, set_subtask_handle, set_switch, set_thread_handle, set_uninteresting, SetCallEvent, SetCallJoin, SetDoNotSuspend, SetExited, SetHowFar, SetRegister, SetSavedCallee, SetSavedOwn, SetStarted, settle_group_of, SetUninteresting, SetWorkJoin, Some, Starts, Status, status_code, Stop, stopped, subst, Subtask, subtask_handle, subtask_under_way, sym, sync_sets_flag, TakesCalled, TakesCancelled, TakesNamed, TakeWorkEvent, task_of, Then, Thread, thread_group, Trip, true, unqueued, unwrap_or, wait_label, wait_stops, Waits, with_thread_handle, Withdraw, withdrawn, work_deleted, work_group, ℕ, ◌&&◌, ◌+◌, ◌==◌, ◌∙◌, ◌≡◌, ◌⊎◌, EndCall}
+use Rattle.task_rules.proofs.Machine.{[], add_call, add_thread, advanced, after_placing, after_word, answered, ap, arith, assigned, AtOp, behind_one, behind_switch, Blocks, Bool, ByHandle, ByOp, Call, call_clears_flag, call_group, call_instance, call_made, call_queues, call_resumes, call_settled, call_stops, Callee, callee_of_op, Caller, can_come, cancel_goes_behind, cancel_label, cancel_stops, cancel_takes_end, checked, Choice, chosen, Core, Enter, enter_runs, event_of, ExportKind, false, foot_of, get, get-insert, Gift, gift, give_thread_handle, Given, given_code, given_handle, given_result, Goal, goal_of, GoBehind, group_settled, HasCalled, HasSet, HasSubtask, how_far_of, HowFar, if◌then◌else◌, inl, InOp, inr, instance_of, is_begun, is_blocked_on, is_cancel, is_deletable, is_deletable_call, is_direct, is_explicit, is_group_done, is_joined, is_none, is_running, is_some, is_sync_call, is_sync_cancel, is_wait, IsNew, IsRunner, IsWithdrawn, Join, join_label, join_of, Leaves, less_switch, List, Made, MakeCall, may_not_suspend, MayCancel, MayCome, MayDeliver, MayJoin, MayMakeCall, MayRemoveWork, MayWithdraw, MemberGift, Mode, Move, moved_to, NameThread, nat_tests, new_thread, next_thread, NoGift, None, not, NoWord, on_call, on_instance, on_thread, op_in, Option, option_map, option_map_or, own_event_of, OwnGift, Place, place_of, Put, put_back, put_switch, received, Records, refl, Remains, remove_call, remove_group, remove_thread, remove_work, RemoveWork, saved_callee_of, says, SaysEnd, Scene, set_do_not_suspend, set_end, set_event, set_exited, set_given, set_high, set_how_far, set_join, set_low, set_place, set_position, set_register, set_saved_callee, set_saved_own, set_started, set_switch, set_thread_handle, set_uninteresting, SetCallEvent, SetCallJoin, SetDoNotSuspend, SetExited, SetHowFar, SetRegister, SetSavedCallee, SetSavedOwn, SetStarted, settle_group_of, SetUninteresting, SetWorkJoin, Some, Starts, Status, status_code, Stop, stopped, subst, Subtask, subtask_under_way, sym, sync_sets_flag, TakesCalled, TakesCancelled, TakesNamed, TakeWorkEvent, task_of, Then, Thread, thread_group, Trip, true, unqueued, unwrap_or, wait_label, wait_stops, Waits, with_thread_handle, Withdraw, withdrawn, work_deleted, work_group, ℕ, ◌&&◌, ◌+◌, ◌==◌, ◌∙◌, ◌≡◌, ◌⊎◌, EndCall}
 use Rattle.task_rules.proofs.ChainLemmas.{Going, Keep, keep_stay}
 use Rattle.task_rules.proofs.WalkMoves.{keep_still, MayTake, checked_shifts, group_settled_walks, shifted, stopped_shifts, taken_walks, word, lands_at}
 use Rattle.task_machine.specs.declared.words.OwnEvent.TheVariants as own
@@ -27,10 +27,6 @@ use Rattle.task_rules.proofs.CallThreads.{has_same}
 
 -- ---- What is read
 
-pub set_none_join : (sub : Subtask) (t : Core) → is_joined (join_of sub (set_join sub join.Nowhere t)) ≡ false
-unfolding set_join on_call on_work
-set_none_join sub t = grind (arith, nat_tests, get-change)
-
 -- the answer may come before the work is gone
 pub answered_first : (n r v i : ℕ) (s : Core) → work_deleted i (assigned n r v s) ≡ assigned n r v (work_deleted i s)
 unfolding work_deleted assigned advanced moved_to set_how_far set_position on_thread set_register remove_work group_settled remove_group is_group_done
@@ -54,14 +50,6 @@ answered_settled n r v k s =
     by : (b : Bool) → (if b then group_settled (call_group k s) (remove_call k (answered n r v s)) else answered n r v s) ≡ answered n r v (if b then group_settled (call_group k s) (remove_call k s) else s)
     by true = by_done (call_group k s) (is_group_done (call_group k s) (remove_call k s))
     by false = refl
-
-pub work_unnamed : (i : ℕ) (t : Core) → subtask_handle (subtask.Host i) (set_subtask_handle (subtask.Host i) None t) ≡ None
-unfolding set_subtask_handle on_work
-work_unnamed i t = grind (arith, nat_tests, get-change)
-
-pub freed_named : (i h k : ℕ) (t : Core) → subtask_handle (subtask.Host k) (free_handle i h t) ≡ subtask_handle (subtask.Host k) t
-unfolding free_handle
-freed_named i h k t = refl
 
 pub join_plain : (a : Scene) (t : Core) (n : ℕ) (w : Option ℕ) → is_still a t (join_label n w) ≡ true
 join_plain a t n w = grind arith
