@@ -1,5 +1,5 @@
 -- What the rows of the ops are made of, as chains of words: what is read, gifts, moves, and a new call.
-use Rattle.task_rules.proofs.Machine.{[], add_call, add_thread, advanced, after_placing, after_word, answered, ap, arith, assigned, AtOp, behind_one, behind_switch, Blocks, Bool, ByHandle, ByOp, Call, call_clears_flag, call_group, call_instance, call_made, call_queues, call_resumes, call_settled, call_stops, Callee, callee_of_op, Caller, can_come, cancel_goes_behind, cancel_label, cancel_stops, cancel_takes_end, checked, Choice, chosen, Core, Enter, enter_runs, event_of, ExportKind, false, foot_of, get, get-insert, Gift, gift, give_thread_handle, Given, given_code, given_handle, given_result, Goal, goal_of, GoBehind, group_settled, HasCalled, HasSet, HasSubtask, how_far_of, HowFar, if◌then◌else◌, inl, InOp, inr, instance_of, is_begun, is_blocked_on, is_cancel, is_deletable, is_deletable_call, is_direct, is_explicit, is_group_done, is_joined, is_none, is_running, is_some, is_sync_call, is_sync_cancel, is_wait, IsNew, IsRunner, IsWithdrawn, Join, join_label, join_of, Leaves, less_switch, List, Made, MakeCall, may_not_suspend, MayCancel, MayCome, MayDeliver, MayJoin, MayMakeCall, MayRemoveWork, MayWithdraw, MemberGift, Mode, Move, moved_to, NameThread, nat_tests, new_thread, next_thread, NoGift, None, not, NoWord, on_call, on_instance, on_thread, op_in, Option, option_map, option_map_or, own_event_of, OwnGift, Place, place_of, Put, put_back, put_switch, received, Records, refl, Remains, remove_call, remove_group, remove_thread, remove_work, RemoveWork, saved_callee_of, says, SaysEnd, Scene, set_do_not_suspend, set_end, set_event, set_exited, set_given, set_high, set_how_far, set_join, set_low, set_place, set_position, set_register, set_saved_callee, set_saved_own, set_started, set_switch, set_thread_handle, set_uninteresting, SetCallEvent, SetCallJoin, SetDoNotSuspend, SetExited, SetHowFar, SetRegister, SetSavedCallee, SetSavedOwn, SetStarted, settle_group_of, SetUninteresting, SetWorkJoin, Some, Starts, Status, status_code, Stop, stopped, subst, Subtask, subtask_under_way, sym, sync_sets_flag, TakesCalled, TakesCancelled, TakesNamed, TakeWorkEvent, task_of, Then, Thread, thread_group, Trip, true, unqueued, unwrap_or, wait_label, wait_stops, Waits, with_thread_handle, Withdraw, withdrawn, work_deleted, work_group, ℕ, ◌&&◌, ◌+◌, ◌==◌, ◌∙◌, ◌≡◌, ◌⊎◌, EndCall}
+use Rattle.task_rules.proofs.Machine.{[], add_call, add_thread, advanced, after_placing, after_word, answered, ap, arith, assigned, AtOp, behind_one, behind_switch, Blocks, Bool, ByHandle, ByOp, call_clears_flag, call_group, call_instance, call_made, call_queues, call_resumes, call_settled, call_stops, Callee, callee_of_op, Caller, can_come, cancel_goes_behind, cancel_label, cancel_stops, cancel_takes_end, checked, Choice, chosen, Core, Enter, enter_runs, event_of, ExportKind, false, foot_of, get, get-insert, Gift, gift, give_thread_handle, Given, given_code, given_handle, given_result, Goal, goal_of, GoBehind, group_settled, HasCalled, HasSet, HasSubtask, how_far_of, HowFar, if◌then◌else◌, inl, InOp, inr, instance_of, is_begun, is_blocked_on, is_cancel, is_deletable, is_deletable_call, is_direct, is_explicit, is_group_done, is_joined, is_none, is_running, is_some, is_sync_call, is_sync_cancel, is_wait, IsNew, IsRunner, IsWithdrawn, Join, join_label, join_of, Leaves, less_switch, List, Made, MakeCall, may_not_suspend, MayCancel, MayCome, MayDeliver, MayJoin, MayMakeCall, MayRemoveWork, MayWithdraw, MemberGift, Mode, Move, moved_to, NameThread, nat_tests, new_thread, next_thread, NoGift, None, not, NoWord, on_call, on_instance, on_thread, op_in, Option, option_map, option_map_or, own_event_of, OwnGift, Place, place_of, Put, put_back, put_switch, received, refl, Remains, remove_call, remove_group, remove_thread, remove_work, RemoveWork, saved_callee_of, says, SaysEnd, Scene, set_do_not_suspend, set_end, set_event, set_exited, set_given, set_high, set_how_far, set_join, set_low, set_place, set_position, set_register, set_saved_callee, set_saved_own, set_started, set_switch, set_thread_handle, set_uninteresting, SetCallEvent, SetCallJoin, SetDoNotSuspend, SetExited, SetHowFar, SetRegister, SetSavedCallee, SetSavedOwn, SetStarted, settle_group_of, SetUninteresting, SetWorkJoin, Some, Starts, Status, status_code, Stop, stopped, subst, Subtask, subtask_under_way, sym, sync_sets_flag, TakesCalled, TakesCancelled, TakesNamed, TakeWorkEvent, task_of, Then, Thread, thread_group, Trip, true, unqueued, unwrap_or, wait_label, wait_stops, Waits, with_thread_handle, Withdraw, withdrawn, work_deleted, work_group, ℕ, ◌&&◌, ◌+◌, ◌==◌, ◌∙◌, ◌≡◌, ◌⊎◌, EndCall}
 use Rattle.task_rules.proofs.ChainLemmas.{Going, Keep, keep_stay}
 use Rattle.task_rules.proofs.WalkMoves.{keep_still, MayTake, checked_shifts, group_settled_walks, shifted, stopped_shifts, taken_walks, word, lands_at}
 use Rattle.task_machine.specs.declared.words.OwnEvent.TheVariants as own
@@ -233,18 +233,6 @@ pub call_born : (f : Caller) (e : Callee) (x : ExportKind) (g : Goal) (group : �
 unfolding call_made add_thread add_call
 call_born f e x g group words s = grind (arith, nat_tests, get-insert)
 
-handle_born : (i m : ℕ) (g : Goal) (t : Core) → Born m g t → Born m g (with_thread_handle i m t)
-unfolding with_thread_handle set_thread_handle give_thread_handle on_thread
-handle_born i m g t h = grind (arith, nat_tests, get-change)
-
-started_born : (k m : ℕ) (g : Goal) (t : Core) → Born m g t → Born m g (set_started k t)
-unfolding set_started on_call
-started_born k m g t h = grind (arith, nat_tests, get-change)
-
-flag_born : (m j : ℕ) (k : ExportKind) (g : Goal) (t : Core) → Born m g t → Born m g (sync_sets_flag m j k t)
-unfolding set_do_not_suspend on_instance set_saved_own on_thread
-flag_born m j k g t h = grind (arith, nat_tests, get-change)
-
 -- a call whose start runs has begun
 pub started_begun : (k : ℕ) (t : Core) → is_begun k (set_started k t) ≡ true
 unfolding set_started on_call
@@ -277,15 +265,19 @@ called_as : (n k : ℕ) (s t : Core) → t.calls ≡ s.calls → HasCalled n k s
 called_as n k s t same is =
     ((grind (arith, is.0.0), grind (arith, is.0.1)), (grind (arith, is.1.0), (grind (arith, is.1.1.0), grind (arith, is.1.1.1))))
 
-named_calls : (i m : ℕ) (t : Core) → (with_thread_handle i m t).calls ≡ t.calls
-unfolding with_thread_handle set_thread_handle give_thread_handle on_thread
-named_calls i m t = refl
-
-started_called : (n k : ℕ) (t : Core) → HasCalled n k t → HasCalled n k (set_started k t)
-unfolding set_started on_call
-started_called n k t is = (
-  (grind (arith, nat_tests, get-change, is.0.0), grind (arith, nat_tests, get-change, is.0.1)),
-  (grind (arith, nat_tests, get-change, is.1.0), (grind (arith, nat_tests, get-change, is.1.1.0), grind (arith, nat_tests, get-change, is.1.1.1))),
+-- a direct call that has begun
+entered : (n : ℕ) (e : Callee) (k : ExportKind) (words : List ℕ) (group : ℕ) (s : Core) →
+    let m = next_thread s in
+    let t = with_thread_handle e.instance m (call_made (caller.Thread n) e k goal.Direct group words s) in
+    let u = sync_sets_flag m e.instance k (set_started m t) in
+    ((t.made.threads ≡ m) × (is_explicit m t ≡ false)) × (Born m goal.Direct u × ((is_begun m u ≡ true) × HasCalled n m u))
+unfolding call_made add_thread add_call with_thread_handle set_thread_handle give_thread_handle on_thread set_started on_call set_do_not_suspend on_instance set_saved_own
+entered n e k words group s = (
+  (refl, grind (arith, nat_tests, get-insert, get-change)),
+  (grind (arith, nat_tests, get-insert, get-change), (grind (arith, nat_tests, get-insert, get-change), (
+    (grind (arith, nat_tests, get-insert, get-change), grind (arith, nat_tests, get-insert, get-change)),
+    (grind (arith, nat_tests, get-insert, get-change), (grind (arith, nat_tests, get-insert, get-change), grind (arith, nat_tests, get-insert, get-change))),
+  ))),
 )
 
 cleared_calls : (n j : ℕ) (k : ExportKind) (t : Core) → (call_clears_flag n j k t).calls ≡ t.calls
@@ -316,15 +308,11 @@ module _ {a : Scene} (n : ℕ) (is : IsRunner a n) where
       let s = a.base in
       let m = next_thread s in
       let t = call_made (caller.Thread n) e k goal.Direct (thread_group n s) words s in
-      let t1 = with_thread_handle e.instance m t in
-      let h1 : Born m goal.Direct t1 = handle_born e.instance m goal.Direct t (call_born (caller.Thread n) e k goal.Direct (thread_group n s) words s) in
-      let h2 : Born m goal.Direct (set_started m t1) = started_born m m goal.Direct t1 h1 in
-      let u = sync_sets_flag m e.instance k (set_started m t1) in
-      let h : Born m goal.Direct u = flag_born m e.instance k goal.Direct (set_started m t1) h2 in
-      let begun : is_begun m u ≡ true = ap (λ (r : Records Call). option_map_or (λ c. c.started) (get r m) true) (flag_calls m e.instance k (set_started m t1)) ∙ started_begun m t1 in
-      let called : HasCalled n m u = called_as n m (set_started m t1) u (flag_calls m e.instance k (set_started m t1)) (started_called n m t1 (called_as n m t t1 (named_calls e.instance m t) (made_called n e k goal.Direct (thread_group n s) words s))) in
-      let c : Keep a s u = sync_sets_flag_walks n is m e.instance k (word (SetStarted m) (inr (refl, (h1.made, born_explicit h1))) (word (NameThread e.instance m) tt (word (MakeCall (caller.Thread n) e k goal.Direct (thread_group n s) words) ok NoWord))) in
-      lands_at (Enter n m) n (how_far.Calls (subtask.Guest m)) (is, (to, (refl, (born_place h, (ap (λ (y : Goal). is_direct y) (born_goal h), (runs, (begun, (keep_still n runs c, sync)))))))) (is, inr (shifted_new a m u _ refl (placing_shifted (Enter n m) u) (h.made, born_explicit h), called_as n m u (after_placing (Enter n m) u) (shifted_calls (placing_shifted (Enter n m) u)) called)) (keep_still n runs c) can c
+      let u = sync_sets_flag m e.instance k (set_started m (with_thread_handle e.instance m t)) in
+      let new = entered n e k words (thread_group n s) s in
+      let h : Born m goal.Direct u = new.1.0 in
+      let c : Keep a s u = sync_sets_flag_walks n is m e.instance k (word (SetStarted m) (inr (refl, new.0)) (word (NameThread e.instance m) tt (word (MakeCall (caller.Thread n) e k goal.Direct (thread_group n s) words) ok NoWord))) in
+      lands_at (Enter n m) n (how_far.Calls (subtask.Guest m)) (is, (to, (refl, (born_place h, (ap (λ (y : Goal). is_direct y) (born_goal h), (runs, (new.1.1.0, (keep_still n runs c, sync)))))))) (is, inr (shifted_new a m u _ refl (placing_shifted (Enter n m) u) (h.made, born_explicit h), called_as n m u (after_placing (Enter n m) u) (shifted_calls (placing_shifted (Enter n m) u)) new.1.1.1)) (keep_still n runs c) can c
 
 pub enter_gives : (n : ℕ) (e : Callee) (k : ExportKind) (words : List ℕ) (s : Core) → (next_thread s == n) ≡ false → option_map_or is_running (place_of (next_thread s) (enter_runs n e k words s)) true ≡ true
 unfolding enter_runs set_how_far on_thread
