@@ -1,6 +1,6 @@
 -- The end of a task as a chain of words.
 use Rattle.task_rules.proofs.Machine.{after_word, ap, arith, Call, CallEnd, Caller, caller_of, cancelled, Core, EndCall, false, get, give_result, GiveResult, Goal, goal_of, is_over, is_some, is_told, nat_tests, on_call, on_thread, Option, option_map_or, published, Records, refl, result_given, returned, same_map, SaysEnd, Scene, set_end, set_event, set_register, set_result, SetRegister, SetResult, Some, Status, status_of_end, subst, sym, task_of, told, true, ℕ, ◌∙◌, ◌≡◌}
-use Rattle.task_rules.proofs.WalkMoves.{shifted, published_call_shifts, told_at, told_shifts}
+use Rattle.task_rules.proofs.WalkMoves.{shifted, told_at, told_shifts, published_shifts}
 use Rattle.task_machine.proofs.CommuteLemmas.{get-change}
 use Rattle.task_rules.proofs.CallThreads.{LastEnds}
 use Rattle.task_rules.proofs.PlacingLemmas.{shifted_calls, shifted_task, shifts_shifted}
@@ -92,7 +92,7 @@ module _ {a : Scene} {b : Core} where
       let t = result_given g f k v (set_end k e s) in
       let is = given_told g f k v e s in
       chain_if (is_told k t) (published (subtask.Guest k) (status_of_end e) w t) t
-      (λ told. shifted (published_call_shifts k (status_of_end e) w t (given_to g f k v e w s to told))
+      (λ told. shifted (published_shifts (subtask.Guest k) (status_of_end e) w t refl (given_to g f k v e w s to told))
       (subst (λ (u : Core). Keep a b u) (sym (told_given g f k v (status_of_end e) (set_end k e s) ∙ ap (result_given g f k v) (ends_told k e s (sym is ∙ told) ran))) c))
       (λ untold. subst (λ (u : Core). Keep a b u) (sym (ap (result_given g f k v) (ends_untold k e s (sym is ∙ untold)))) c)
 

@@ -1,5 +1,5 @@
 -- The moves of the machine as chains of words.
-use Rattle.task_rules.proofs.Machine.{[], add_call, add_group, add_set, add_thread, add_work, Advance, after_placing, after_word, ap, arith, AtOp, blocked_on, Bool, ByHandle, call_group, call_made, call_settled, can_come, CanCome, checked, chosen, Core, count_work, departed, end_of, ended, exited_if, false, first_entry, free_handle, free_thread_handle, freed_thread_handle, FreeThreadHandle, get, get-insert, get-remove, Gift, give_handle, give_result, give_thread_handle, group_settled, handed_on, hands_on, has_ended, held_why_of, HowFar, if◌then◌else◌, InOp, inr, instance_of, interest_settled, is_at, is_blocked_on, is_callback_waiter, is_deletable, is_done_host, is_explicit, is_finished, is_group_done, is_over, is_some, is_stage_ended, is_told, is_waiter, is_waiting_on, IsNamed, IsRunner, IsStarting, Join, join_of, Lands, LandsAt, le_refl, le_trans, Leaves, List, MakeThread, Mark, may_hand_on, may_not_suspend, may_publish, may_tell, may_wake, may_wake_joined, MayCome, MayDeliver, MayLand, MayPut, MayRemoveCall, MemberGift, nat_tests, NoGift, None, not, NoWord, numbers, on_call, on_instance, on_thread, on_work, op_in, Option, option_map, option_map_or, OwnGift, Place, place_of, Places, Placing, poll_pends, position_of, Promote, promoted, promoted_first, promoted_unless, published, push_high, Put, put_at, put_high, Quits, Records, refl, released, released_one, Releases, remove, remove_call, remove_group, remove_set, remove_thread, remove_work, RemoveCall, RemoveGroup, RemoveThread, Restart, same_subtask, Scene, set_backpressure, set_cancel_delivered, set_cancelled, set_course, set_do_not_enter, set_do_not_suspend, set_end, set_event, set_exited, set_how_far, set_join, set_own_event, set_phase, set_position, set_register, set_result, set_saved_callee, set_saved_own, set_script, set_stage, set_started, set_starting_published, set_subtask_handle, set_thread_handle, set_trapped, set_uninteresting, set_word, SetCallEvent, SetCancelDelivered, SetExited, SetOwnEvent, Settles, SetUninteresting, Shifts, Some, stage_of, Status, Stay, Stop, stopped, subst, Subtask, sym, take_result, TakeHost, taken, TakePush, TakesNamed, TakeWorkEvent, task_of, Tells, Then, Thread, thread_handle_of, told, Trip, true, unblocked, Unblocks, wake, wake_joined, wake_why, waken_by, Wakes, Why, with_handle, with_thread_handle, Word, work_queued, ℕ, ◌||◌, ◌∙◌, ◌∷◌, ◌≡◌, ◌≤◌, IsSettling}
+use Rattle.task_rules.proofs.Machine.{[], add_call, add_group, add_set, add_thread, add_work, Advance, after_placing, after_word, ap, arith, AtOp, blocked_on, Bool, ByHandle, call_group, call_made, call_settled, can_come, CanCome, checked, chosen, Core, count_work, departed, end_of, ended, exited_if, false, first_entry, free_handle, free_thread_handle, freed_thread_handle, FreeThreadHandle, get, get-insert, get-remove, Gift, give_handle, give_result, give_thread_handle, group_settled, handed_on, hands_on, has_ended, held_why_of, HowFar, if◌then◌else◌, InOp, inr, instance_of, interest_settled, is_at, is_blocked_on, is_callback_waiter, is_deletable, is_done_host, is_explicit, is_finished, is_group_done, is_over, is_some, is_told, is_waiter, is_waiting_on, IsNamed, IsRunner, IsStarting, Join, join_of, Lands, LandsAt, le_refl, le_trans, Leaves, List, MakeThread, Mark, may_hand_on, may_not_suspend, may_publish, may_tell, may_wake, may_wake_joined, MayCome, MayDeliver, MayLand, MayPut, MayRemoveCall, MemberGift, nat_tests, NoGift, None, not, NoWord, numbers, on_call, on_instance, on_thread, on_work, op_in, Option, option_map, option_map_or, OwnGift, Place, place_of, Places, Placing, poll_pends, position_of, Promote, promoted, promoted_first, promoted_unless, published, push_high, Put, put_at, put_high, Quits, Records, refl, released, released_one, Releases, remove, remove_call, remove_group, remove_set, remove_thread, remove_work, RemoveCall, RemoveGroup, RemoveThread, Restart, same_subtask, Scene, set_backpressure, set_cancel_delivered, set_cancelled, set_course, set_do_not_enter, set_do_not_suspend, set_end, set_event, set_exited, set_how_far, set_join, set_own_event, set_phase, set_position, set_register, set_result, set_saved_callee, set_saved_own, set_script, set_stage, set_started, set_starting_published, set_subtask_handle, set_thread_handle, set_trapped, set_uninteresting, set_word, SetCallEvent, SetCancelDelivered, SetExited, SetOwnEvent, Settles, SetUninteresting, Shifts, Some, Status, Stay, Stop, stopped, subst, Subtask, sym, take_result, TakeHost, taken, TakePush, TakesNamed, TakeWorkEvent, task_of, Tells, Then, Thread, thread_handle_of, told, Trip, true, unblocked, Unblocks, wake, wake_joined, wake_why, waken_by, Wakes, Why, with_handle, with_thread_handle, Word, work_queued, ℕ, ◌||◌, ◌∙◌, ◌∷◌, ◌≡◌, ◌≤◌, IsSettling}
 use Rattle.task_machine.specs.declared.records.Turn.TheVariants as turn
 use Rattle.task_machine.proofs.CommuteLemmas.{get-change}
 use Rattle.task_rules.proofs.StandLemmas.{set_place_is}
@@ -188,20 +188,19 @@ promoted_walks m n {s = s} runs ready c = chain_if (is_some s.queues.switch) s (
 
 -- ---- Published
 
-published_shifts : (sub : Subtask) (w : Option ℕ) (s t : Core) → is_done_host sub t ≡ true → ((m : ℕ) → place_of m t ≡ place_of m s) → ChosenIn (join_of sub s) w s → Shifts t (wake_joined (join_of sub s) w (unblocked (blocked_on sub s) t))
-published_shifts sub w s t done same chosen =
+evented : (sub : Subtask) (e : Option Status) (s : Core) → ((m : ℕ) → place_of m (set_event sub e s) ≡ place_of m s) × (is_done_host sub (set_event sub e s) ≡ is_done_host sub s)
+unfolding set_event on_call on_work
+evented sub e s = (λ m. grind arith, grind (arith, nat_tests, get-change))
+
+pub published_shifts : (sub : Subtask) (e : Status) (w : Option ℕ) (s : Core) → is_done_host sub s ≡ true → ChosenIn (join_of sub s) w s → Shifts (set_event sub (Some e) s) (published sub e w s)
+unfolding published
+published_shifts sub e w s done chosen =
+    let t = set_event sub (Some e) s in
     let o = blocked_on sub s in
-    let at : IsBlocked sub o t = λ m is. same m ∙ blocked_at sub s m is in
-    let there : ChosenIn (join_of sub s) w t = λ x is n by. ap (λ p. option_map_or (is_waiting_on x) p false) (same n) ∙ chosen x is n by in
-    join (unblocked_shifts sub o t done at) (wake_joined_shifts (join_of sub s) w (unblocked o t) (λ x is. chosen_unblocked sub o x w t at (there x is)))
-
-pub published_call_shifts : (k : ℕ) (e : Status) (w : Option ℕ) (s : Core) → ChosenIn (join_of (subtask.Guest k) s) w s → Shifts (set_event (subtask.Guest k) (Some e) s) (published (subtask.Guest k) e w s)
-unfolding published set_event on_call
-published_call_shifts k e w s chosen = published_shifts (subtask.Guest k) w s (set_event (subtask.Guest k) (Some e) s) refl (λ m. refl) chosen
-
-pub published_work_shifts : (i : ℕ) (e : Status) (w : Option ℕ) (s : Core) → is_stage_ended (stage_of i s) ≡ true → ChosenIn (join_of (subtask.Host i) s) w s → Shifts (set_event (subtask.Host i) (Some e) s) (published (subtask.Host i) e w s)
-unfolding published set_event on_work
-published_work_shifts i e w s done chosen = published_shifts (subtask.Host i) w s (set_event (subtask.Host i) (Some e) s) (grind (arith, nat_tests, get-change, done)) (λ m. refl) chosen
+    let q = evented sub (Some e) s in
+    let at : IsBlocked sub o t = λ m is. q.0 m ∙ blocked_at sub s m is in
+    join (unblocked_shifts sub o t (q.1 ∙ done) at)
+    (wake_joined_shifts (join_of sub s) w (unblocked o t) (λ x is. chosen_unblocked sub o x w t at (λ n by. ap (λ p. option_map_or (is_waiting_on x) p false) (q.0 n) ∙ chosen x is n by)))
 
 -- the thread chosen where the call's status is told
 abbrev pub ToldTo : ℕ → Option ℕ → Core → Type 0
@@ -220,7 +219,7 @@ unfolding told
 told_shifts k e w s to = by (is_told k s) refl
   where
     by : (b : Bool) → is_told k s ≡ b → Shifts (if b then set_event (subtask.Guest k) (Some e) s else s) (if b then published (subtask.Guest k) e w s else s)
-    by true is = published_call_shifts k e w s (to is)
+    by true is = published_shifts (subtask.Guest k) e w s refl (to is)
     by false is = NoWord
 
 module _ {a : Scene} {b : Core} where

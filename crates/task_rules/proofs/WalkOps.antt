@@ -13,7 +13,7 @@ use Rattle.task_machine.proofs.MapLemmas.{get-insert_same}
 use Rattle.task_machine.proofs.CommuteLemmas.{get-change}
 use Rattle.task_machine.specs.declared.label.SetLabel.TheVariants as set_label
 use Rattle.task_rules.proofs.MuteLemmas.{mute_words, none_said, says_by, hands_by}
-use Rattle.task_rules.proofs.SayLemmas.{cancel_hands_of, cancel_writes_of, found_returned, HasNoEnd, said_is, given_out, settled_gone, event_gone, result_gone}
+use Rattle.task_rules.proofs.SayLemmas.{cancel_hands_of, cancel_writes_of, HasNoEnd, said_is, given_out, settled_gone, event_gone, result_gone}
 use Rattle.task_rules.proofs.PlacingLemmas.{Shifted, placed, shifted_far, shifted_made, shifted_task, shifts_shifted}
 use Rattle.task_rules.proofs.StandLemmas.{by_number}
 use Rattle.task_rules.proofs.WalkTask.{Stands, Leads, advanced_walks, answered_walks, assigned_walks, goes_on, goes_on_told, goes_over, may_leads, or_never_leads, or_trap_leads, running_scene, stops_here, trap_if_leads, unnot, is_still, over_now, is_plain}
@@ -216,7 +216,7 @@ module _ (x : Setting) (main : Main) (s : Core) (n : ℕ) (l : Label) (next : Tu
 
   -- the op is about a call that has returned
   returned_out : (k : ℕ) (t : Core) → how_far_of n s ≡ how_far.Calls (subtask.Guest k) → status_found k s ≡ status.Returned → HasNoEnd (subtask.Guest k) t → (sub : Subtask) (e : Status) → returned_of_op n s ≡ Some (end_for e sub) → HandsOut a t sub e
-  returned_out k t far found gone sub e out = said_is (HandsOut a t) (sym (ap (λ (f : HowFar). option_map (end_for status.Returned) (call_of_op f)) far) ∙ out) (TakesEvent (subtask.Guest k) status.Returned (found_returned (event_of (subtask.Guest k) s) found) gone)
+  returned_out k t far found gone sub e out = said_is (HandsOut a t) (sym (ap (λ (f : HowFar). option_map (end_for status.Returned) (call_of_op f)) far) ∙ out) (TakesEvent (subtask.Guest k) status.Returned (grind (arith, found)) gone)
 
   -- the op is done, and then the call that it was inside of may go
   done_walks : (r v k : ℕ) (t : Core) → how_far_of n s ≡ how_far.Calls (subtask.Guest k) → Stay a s (answered n r v t) → Stay a s (answered n r v (call_settled k t))

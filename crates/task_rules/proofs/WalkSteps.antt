@@ -13,7 +13,7 @@ use Rattle.task_rules.proofs.ChainLemmas.{Keep, join, keep_stay, trip_walk}
 use Rattle.task_rules.proofs.WalkTask.{is_exit_op, op_stands, Leads, data_row_leads, running_scene, task_row_leads, under_place, seen}
 use Rattle.task_machine.proofs.MapLemmas.{get-remove_same, get-insert_same}
 use Rattle.task_rules.proofs.PlacingLemmas.{placed, popped_shifted}
-use Rattle.task_rules.proofs.WalkMoves.{blocked_at, chosen_in_of, published_work_shifts, shifted, unblocked_shifts, word}
+use Rattle.task_rules.proofs.WalkMoves.{blocked_at, chosen_in_of, shifted, unblocked_shifts, word, published_shifts}
 use Rattle.task_rules.proofs.WalkOps.{set_row_leads, subtask_row_leads, thread_row_leads}
 use Rattle.task_rules.proofs.WalkParts.{Born, born_explicit, born_goal, born_place, call_born}
 use Rattle.task_rules.proofs.WalkTakes.{thread_taken_leads}
@@ -64,7 +64,7 @@ module _ {a : Scene} {b : Core} where
   host_done_walks i w s may c =
       let v = course_value (course_of i s) in
       let t = set_stage i stage.Ended s in
-      host_result_walks (work_caller_of i s) v (shifted (published_work_shifts i (host_status v) w t (ended_stage i s) (λ y is. chosen_in_of (join_of (subtask.Host i) s) w s may y (grind (arith, nat_tests, get-change, is)))) c)
+      host_result_walks (work_caller_of i s) v (shifted (published_shifts (subtask.Host i) (host_status v) w t (ended_stage i s) (λ y is. chosen_in_of (join_of (subtask.Host i) s) w s may y (grind (arith, nat_tests, get-change, is)))) c)
 
 -- ---- A strand that falls
 
