@@ -1,5 +1,5 @@
 -- What a label says of the ends of subtasks.
-use Rattle.task_rules.proofs.Machine.{arith, Bool, Core, end_for, EndWords, handed_by, HandsOut, is_none, Label, None, Option, Scene, Some, Status, sym, Subtask, true, written_by, Writes, ◌&&◌, ◌≡◌, ◌∙◌, ap, component_of}
+use Rattle.task_rules.proofs.Machine.{ap, arith, Bool, component_of, Core, end_for, EndWords, handed_by, HandsOut, is_none, Label, None, Option, Scene, Some, Status, Subtask, sym, true, Writes, written_by, ◌&&◌, ◌∙◌, ◌≡◌}
 
 pub none_said : {X : Type 0} {A : Type 0} {o : Option X} {x : X} → o ≡ None → o ≡ Some x → A
 none_said none is = absurd (grind (arith, none, is))

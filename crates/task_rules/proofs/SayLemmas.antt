@@ -1,17 +1,13 @@
 -- What labels say of the ends of calls: the events that are taken.
-use Rattle.task_rules.proofs.Machine.{[], and_parts, ap, arith, Bool, call_settled, Choice, chosen, Core, end_answered, end_for, event_of, false, find, finished_call, get, get-remove, Gift, gift, gift_after_own, given_for, group_settled, handed_by_event, handed_out, has_result, if◌then◌else◌, instance_of, is_handed_end, is_none, List, map, MemberGift, nat_cmp, nat_tests, NoGift, None, numbers, on_call, on_work, Option, option_and_then, option_map, option_map_or, option_or, OwnEvent, OwnGift, Records, refl, remove, remove_call, remove_group, set_event, set_result, Some, Status, status_code, subst, Subtask, subtask_at, SubtaskEnd, take_result, taken, true, undelivered_end, unsigned_tied, unwrap_or, ℕ, ◌&&◌, ◌==◌, ◌∙◌, ◌∷◌, ◌≡◌, Scene, HandsOut, TakesEvent}
+use Rattle.task_rules.proofs.Machine.{[], and_parts, ap, arith, Bool, call_settled, Choice, chosen, Core, end_answered, end_for, event_of, false, find, finished_call, get, get-change, get-remove, get-remove_same, Gift, gift, gift_after_own, given_for, group_settled, handed_by_event, handed_out, HandsOut, has_result, if◌then◌else◌, instance_of, is_handed_end, is_none, List, map, MemberGift, nat_cmp, nat_tests, NoGift, None, numbers, on_call, on_work, Option, option_and_then, option_map, option_map_or, option_or, OwnEvent, OwnGift, Records, refl, remove, remove_call, remove_group, Scene, set_event, set_result, Some, Status, status_code, subst, Subtask, subtask_at, SubtaskEnd, take_result, taken, TakesEvent, true, undelivered_end, unsigned_tied, unwrap_or, ℕ, ◌&&◌, ◌==◌, ◌∙◌, ◌∷◌, ◌≡◌}
 use Rattle.std.specs.FinMap.Entries.{find as seek}
-use Rattle.task_machine.specs.declared.records.Subtask.TheVariants as subtask
-use Rattle.task_machine.specs.declared.words.Status.TheVariants as status
-use Rattle.task_machine.proofs.MapLemmas.{get-remove_same}
-use Rattle.task_machine.proofs.CommuteLemmas.{get-change}
 use Rattle.task_rules.proofs.StopLemmas.{find_passes}
 
 -- the handle that the choice shows names the member
 member_at : (o : Option OwnEvent) (n y : ℕ) (ch : Choice) (s : Core) (sub : Subtask) → gift_after_own o y (chosen n ch s) s ≡ Some (MemberGift sub) → subtask_at (instance_of n s) (unwrap_or ch.member 0) s ≡ Some sub
 member_at o n y ch s sub h = grind arith
 
-handed_as : (f : Option Status) (o : Option Subtask) (sub to : Subtask) (e : Status) → o ≡ Some sub → (if is_handed_end (unwrap_or f status.Starting) then option_map (end_for (unwrap_or f status.Starting)) o else None) ≡ Some (end_for e to) → (sub ≡ to) × (undelivered_end f ≡ Some e)
+handed_as : (f : Option Status) (o : Option Subtask) (sub to : Subtask) (e : Status) → o ≡ Some sub → (if is_handed_end (unwrap_or f Status.Starting) then option_map (end_for (unwrap_or f Status.Starting)) o else None) ≡ Some (end_for e to) → (sub ≡ to) × (undelivered_end f ≡ Some e)
 handed_as f o sub to e is out = (grind arith, grind arith)
 
 -- ---- The event is gone
@@ -34,11 +30,11 @@ given_out {a = a} by n j y ch (MemberGift sub) k u {t = t} is calls works to e o
     subst (λ (d : Subtask). HandsOut a t d e) q.0 (TakesEvent sub e q.1 (event_gone sub u t calls works))
 
 -- the call's event is taken, and then the call may go
-pub settled_gone : (k : ℕ) (s t : Core) → t.calls ≡ (call_settled k s).calls → HasNoEnd (subtask.Guest k) s → HasNoEnd (subtask.Guest k) t
+pub settled_gone : (k : ℕ) (s t : Core) → t.calls ≡ (call_settled k s).calls → HasNoEnd (Subtask.Guest k) s → HasNoEnd (Subtask.Guest k) t
 unfolding call_settled group_settled remove_group remove_call
 settled_gone k s t calls none = grind (arith, nat_tests, get-remove, calls)
 
-pub result_gone : (k : ℕ) (s : Core) → HasNoEnd (subtask.Guest k) (set_result k None (set_event (subtask.Guest k) None s))
+pub result_gone : (k : ℕ) (s : Core) → HasNoEnd (Subtask.Guest k) (set_result k None (set_event (Subtask.Guest k) None s))
 unfolding set_result set_event on_call
 result_gone k s = grind (arith, nat_tests, get-change)
 
@@ -50,7 +46,7 @@ said_is P {f = f} {d = d} is p = subst (λ (y : SubtaskEnd). P y.subtask y.statu
 
 module _ (sub to : Subtask) (f : Status) (o : Option Subtask) (is : o ≡ Some sub) where
   -- the end that the label of a cancel says is written
-  pub cancel_writes_of : (g : Status) → (if status_code g == 3 then option_map (end_for status.StartCancelled) o else None) ≡ Some (end_for f to) → (sub ≡ to) × (g ≡ status.StartCancelled)
+  pub cancel_writes_of : (g : Status) → (if status_code g == 3 then option_map (end_for Status.StartCancelled) o else None) ≡ Some (end_for f to) → (sub ≡ to) × (g ≡ Status.StartCancelled)
   cancel_writes_of g out = grind arith
 
   -- the end that it hands out

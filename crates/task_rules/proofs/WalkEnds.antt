@@ -1,16 +1,10 @@
 -- The end of a task as a chain of words.
-use Rattle.task_rules.proofs.Machine.{after_word, ap, arith, Call, CallEnd, Caller, caller_of, cancelled, Core, EndCall, false, get, give_result, GiveResult, Goal, goal_of, is_over, is_some, is_told, nat_tests, on_call, on_thread, Option, option_map_or, published, Records, refl, result_given, returned, same_map, SaysEnd, Scene, set_end, set_event, set_register, set_result, SetRegister, SetResult, Some, Status, status_of_end, subst, sym, task_of, told, true, ℕ, ◌∙◌, ◌≡◌}
+use Rattle.task_rules.proofs.Machine.{after_word, ap, arith, Call, CallEnd, Caller, caller_of, cancelled, Core, EndCall, false, get, get-change, give_result, GiveResult, Goal, goal_of, is_over, is_some, is_told, nat_tests, on_call, on_thread, Option, option_map_or, published, Records, refl, result_given, returned, same_map, SaysEnd, Scene, set_end, set_event, set_register, set_result, SetRegister, SetResult, Some, Status, status_of_end, subst, Subtask, sym, task_of, told, true, ℕ, ◌∙◌, ◌≡◌}
 use Rattle.task_rules.proofs.WalkMoves.{shifted, told_at, told_shifts, published_shifts}
-use Rattle.task_machine.proofs.CommuteLemmas.{get-change}
 use Rattle.task_rules.proofs.CallThreads.{LastEnds}
 use Rattle.task_rules.proofs.PlacingLemmas.{shifted_calls, shifted_task, shifts_shifted}
 use Rattle.task_rules.proofs.ChainLemmas.{Keep, chain_if}
 use Rattle.task_rules.proofs.WalkMoves.{ToldTo, word}
-use Rattle.task_machine.specs.declared.records.CallEnd.TheVariants as call_end
-use Rattle.task_machine.specs.declared.records.Caller.TheVariants as caller
-use Rattle.task_machine.specs.declared.records.Goal.TheVariants as goal
-use Rattle.task_machine.specs.declared.records.Subtask.TheVariants as subtask
-use Rattle.task_machine.specs.declared.words.Status.TheVariants as status
 
 -- ---- What an end and a result leave of a call
 
@@ -30,8 +24,8 @@ abbrev pub call_ends : ℕ → CallEnd → Core → Core
 call_ends k e s = after_word (EndCall k e) s
 
 -- where the end is told, the word sets both
-ends_told : (k : ℕ) (e : CallEnd) (s : Core) → is_told k s ≡ true → (e ≡ call_end.StartCancelled → ⊥) →
-    set_event (subtask.Guest k) (Some (status_of_end e)) (set_end k e s) ≡ call_ends k e s
+ends_told : (k : ℕ) (e : CallEnd) (s : Core) → is_told k s ≡ true → (e ≡ CallEnd.StartCancelled → ⊥) →
+    set_event (Subtask.Guest k) (Some (status_of_end e)) (set_end k e s) ≡ call_ends k e s
 unfolding set_event set_end on_call
 ends_told k e s told ran = ap (λ (m : Records Call). record s { calls = m }) (same_map _ _ (λ q. grind (arith, nat_tests, get-change)))
 
@@ -45,11 +39,11 @@ ends_goal k e s = grind (arith, nat_tests, get-change)
 
 -- the event may be set before the result is given
 told_given : (g : Goal) (f : Caller) (k v : ℕ) (e : Status) (s : Core) →
-    set_event (subtask.Guest k) (Some e) (result_given g f k v s) ≡ result_given g f k v (set_event (subtask.Guest k) (Some e) s)
+    set_event (Subtask.Guest k) (Some e) (result_given g f k v s) ≡ result_given g f k v (set_event (Subtask.Guest k) (Some e) s)
 unfolding set_event on_call give_result set_register on_thread set_result
-told_given goal.Main f k v e s = refl
-told_given (goal.Register r) (caller.Thread n) k v e s = refl
-told_given goal.Answer f k v e s = ap (λ (m : Records Call). record s { calls = m }) (same_map _ _ (λ q. grind (arith, nat_tests, get-change)))
+told_given Goal.Main f k v e s = refl
+told_given (Goal.Register r) (Caller.Thread n) k v e s = refl
+told_given Goal.Answer f k v e s = ap (λ (m : Records Call). record s { calls = m }) (same_map _ _ (λ q. grind (arith, nat_tests, get-change)))
 told_given _ f k v e s = refl
 
 -- ---- A call whose end is written
@@ -70,37 +64,37 @@ ended_last n k e s is u same gone = let over = end_over k e s in grind arith
 pub returned_last : (n k v : ℕ) (w : Option ℕ) (s : Core) → ToldTo k w s → task_of n s ≡ k → LastEnds n (returned k v w s)
 unfolding returned
 returned_last n k v w s to is u same gone =
-    let t = result_given (goal_of k s) (caller_of k s) k v (set_end k call_end.Returned s) in
-    let d = shifts_shifted (told_shifts k status.Returned w t (given_to (goal_of k s) (caller_of k s) k v call_end.Returned w s to)) in
-    let over = given_over (goal_of k s) (caller_of k s) k v call_end.Returned n status.Returned s in
-    subst (λ (j : ℕ). is_over j (told k status.Returned w t) ≡ true) (sym (shifted_task d n ∙ (over.0 ∙ is)))
+    let t = result_given (goal_of k s) (caller_of k s) k v (set_end k CallEnd.Returned s) in
+    let d = shifts_shifted (told_shifts k Status.Returned w t (given_to (goal_of k s) (caller_of k s) k v CallEnd.Returned w s to)) in
+    let over = given_over (goal_of k s) (caller_of k s) k v CallEnd.Returned n Status.Returned s in
+    subst (λ (j : ℕ). is_over j (told k Status.Returned w t) ≡ true) (sym (shifted_task d n ∙ (over.0 ∙ is)))
     (ap (λ (m : Records Call). option_map_or (λ (c : Call). is_some c.«end») (get m k) true) (shifted_calls d) ∙ over.1)
 
 module _ {a : Scene} {b : Core} where
-  result_given_walks : (g : Goal) (f : Caller) (k v : ℕ) {s : Core} → goal_of k s ≡ g → SaysEnd a k status.Returned → Keep a b s → Keep a b (result_given g f k v s)
-  result_given_walks goal.Main f k v at says c = word (GiveResult k v) (says, at) c
-  result_given_walks (goal.Register r) (caller.Thread n) k v at says c = word (SetRegister n r v) tt c
-  result_given_walks goal.Answer f k v at says c = word (SetResult k (Some v)) tt c
-  result_given_walks (goal.Register r) caller.Main k v at says c = c
+  result_given_walks : (g : Goal) (f : Caller) (k v : ℕ) {s : Core} → goal_of k s ≡ g → SaysEnd a k Status.Returned → Keep a b s → Keep a b (result_given g f k v s)
+  result_given_walks Goal.Main f k v at says c = word (GiveResult k v) (says, at) c
+  result_given_walks (Goal.Register r) (Caller.Thread n) k v at says c = word (SetRegister n r v) tt c
+  result_given_walks Goal.Answer f k v at says c = word (SetResult k (Some v)) tt c
+  result_given_walks (Goal.Register r) Caller.Main k v at says c = c
   result_given_walks _ f k v at says c = c
 
   -- after the word that ends it
-  ends_rest : (g : Goal) (f : Caller) (k v : ℕ) (e : CallEnd) (w : Option ℕ) (s : Core) → (e ≡ call_end.StartCancelled → ⊥) →
+  ends_rest : (g : Goal) (f : Caller) (k v : ℕ) (e : CallEnd) (w : Option ℕ) (s : Core) → (e ≡ CallEnd.StartCancelled → ⊥) →
       ToldTo k w s → Keep a b (result_given g f k v (call_ends k e s)) → Keep a b (told k (status_of_end e) w (result_given g f k v (set_end k e s)))
   unfolding told
   ends_rest g f k v e w s ran to c =
       let t = result_given g f k v (set_end k e s) in
       let is = given_told g f k v e s in
-      chain_if (is_told k t) (published (subtask.Guest k) (status_of_end e) w t) t
-      (λ told. shifted (published_shifts (subtask.Guest k) (status_of_end e) w t refl (given_to g f k v e w s to told))
+      chain_if (is_told k t) (published (Subtask.Guest k) (status_of_end e) w t) t
+      (λ told. shifted (published_shifts (Subtask.Guest k) (status_of_end e) w t refl (given_to g f k v e w s to told))
       (subst (λ (u : Core). Keep a b u) (sym (told_given g f k v (status_of_end e) (set_end k e s) ∙ ap (result_given g f k v) (ends_told k e s (sym is ∙ told) ran))) c))
       (λ untold. subst (λ (u : Core). Keep a b u) (sym (ap (result_given g f k v) (ends_untold k e s (sym is ∙ untold)))) c)
 
-  pub returned_rest : (k v : ℕ) (w : Option ℕ) (s : Core) → SaysEnd a k status.Returned → ToldTo k w s → Keep a b (call_ends k call_end.Returned s) → Keep a b (returned k v w s)
+  pub returned_rest : (k v : ℕ) (w : Option ℕ) (s : Core) → SaysEnd a k Status.Returned → ToldTo k w s → Keep a b (call_ends k CallEnd.Returned s) → Keep a b (returned k v w s)
   unfolding returned
   returned_rest k v w s says to c =
-      ends_rest (goal_of k s) (caller_of k s) k v call_end.Returned w s (λ e. absurd (cc)) to (result_given_walks (goal_of k s) (caller_of k s) k v (ends_goal k call_end.Returned s) says c)
+      ends_rest (goal_of k s) (caller_of k s) k v CallEnd.Returned w s (λ e. absurd (cc)) to (result_given_walks (goal_of k s) (caller_of k s) k v (ends_goal k CallEnd.Returned s) says c)
 
-  pub cancelled_rest : (k : ℕ) (w : Option ℕ) (s : Core) → ToldTo k w s → Keep a b (call_ends k call_end.ReturnCancelled s) → Keep a b (cancelled k w s)
+  pub cancelled_rest : (k : ℕ) (w : Option ℕ) (s : Core) → ToldTo k w s → Keep a b (call_ends k CallEnd.ReturnCancelled s) → Keep a b (cancelled k w s)
   unfolding cancelled
-  cancelled_rest k w s to c = ends_rest goal.Direct caller.Main k 0 call_end.ReturnCancelled w s (λ e. absurd (cc)) to c
+  cancelled_rest k w s to c = ends_rest Goal.Direct Caller.Main k 0 CallEnd.ReturnCancelled w s (λ e. absurd (cc)) to c

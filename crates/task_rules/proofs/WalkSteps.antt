@@ -1,43 +1,21 @@
 -- Each step as a chain of words: host works, main, the loop and all turns.
-use Rattle.task_machine.specs.declared.label.CallLabel.TheVariants as call_label
-use Rattle.task_rules.specs.Step.{trap_label}
-use Rattle.task_rules.specs.Stalled.{deadlock_trap}
-use Rattle.task_machine.specs.declared.label.TakeLabel.TheVariants as take
-use Rattle.task_rules.proofs.Machine.{[], Abort, aborted_phase, act_of, add_group, add_work, AddGroup, advanced_main, Answer, ap, arith, at_turn, Await, base_at, base_without, Began, begun_holder, blocked_on, Bool, ByProgram, ByScript, call_made, Callee, Chain, Choice, choice_of, Collapses, Core, count_work, Course, course_for, course_of, course_value, DeadlockStep, did, Does, EmptyFor, end_for, ended, Ends, EndWords, EndWork, Entry, entry_number, export_kind, Fails, FailsNow, Falls, false, Finish, finish_act, finish_result, finished_call, FinishWork, followed, FuturesStep, get, get-remove, Goal, Goes, goes_to, handed_by_main, HandsOut, has_end, has_interesting, has_moving_work, host_at, host_done, host_label, host_result, host_status, HostDef, inl, inr, is_aborted, is_async_work, is_complete, is_direct, is_free, is_none, is_ready_for_call, is_some, is_spawn, is_spawn_caller, is_stage_ended, is_unended_take, IsFall, IsRunner, join_of, Label, LastWords, length, line_of, List, Main, main_aborted, main_outcome, main_row, main_spawned, main_started, MainAct, MainLabel, MainPlace, MainProgress, MainProgresses, MainStep, MakeCall, Mark, may, may_act, may_deadlock, may_publish, MayAbort, MayCall, MayFinish, nat_tests, Never, new_work, next_entry, next_polled, next_thread, next_work, None, not, NoWord, on_thread, on_work, Op, op_at, op_of, op_row, OpenAct, OpenProgresses, Option, option_map, option_map_or, Ordered, Outcome, outcome_of_label, Pend, Pends, Phase, phase_of, place_of, Poll, poll_ends, poll_of, poll_pends, Polled, polled_in, Pop, popped, ProgramAborts, Progress, Progresses, push_high, pushed, Put, put_high, QueueWork, Quiet, Ready, refl, Refused, Remains, remove_thread, remove_threads, RemoveThread, RestStep, runner_at, SameMain, Scene, ScriptAborts, Scripted, ScriptStep, set_course, set_event, set_phase, set_place, set_stage, set_trapped, SetPhase, SetRegister, Setting, settled_turn, SetTrapped, Shifts, size, slice_get, Some, Spawn, spawned_at, SpawnsNamed, stage_of, Start, start_act, start_of, start_refusal, Started, started_at, started_end, Starts, State, Status, Step, StepsAreWalks, StillPends, Stops, strand_from, strand_of, struck, subst, Subtask, suc, sym, T, take_result, take_row, TakeHost, TakePush, TakeResult, TakesResult, TakeStep, Then, Thread, thread_of_entry, Trap, Traps, Trip, true, Turn, TurnStep, under_of, unless_pending, Unscripted, unwrap_or, Walk, woken_of, Work, work_caller_of, work_queued, WorkCaller, Writes, WritesPolled, zero, ℕ, ⊎_elim, ◌++◌, ◌+◌, ◌-◌, ◌∙◌, ◌∷◌, ◌≡◌, ◌⊎◌, ◌&&◌}
+use Rattle.task_rules.proofs.Machine.{[], Abort, aborted_phase, act_of, add_group, add_work, AddGroup, advanced_main, Answer, ap, arith, at_turn, Await, base_at, base_without, Began, begun_holder, blocked_on, Bool, ByProgram, ByScript, call_made, Callee, Caller, CallLabel, Chain, Choice, choice_of, Collapses, Core, count_work, Course, course_for, course_of, course_value, deadlock_trap, DeadlockStep, did, Does, EmptyFor, end_for, ended, Ends, EndWords, EndWork, Entry, entry_number, export_kind, Fails, FailsNow, Falls, false, Finish, finish_act, finish_result, finished_call, FinishWork, followed, FuturesStep, get, get-change, get-insert_same, get-remove, get-remove_same, Goal, Goes, goes_to, handed_by_main, HandsOut, has_end, has_interesting, has_moving_work, host_at, host_done, host_label, host_result, host_status, HostDef, inl, inr, is_aborted, is_async_work, is_complete, is_direct, is_free, is_none, is_ready_for_call, is_some, is_spawn, is_spawn_caller, is_stage_ended, is_unended_take, IsFall, IsRunner, join_of, Label, LastWords, length, line_of, List, LoopLabel, Main, main_aborted, main_outcome, main_row, main_spawned, main_started, MainAct, MainPlace, MainProgress, MainProgresses, MainStep, MakeCall, Mark, may, may_act, may_deadlock, may_publish, MayAbort, MayCall, MayFinish, nat_tests, Never, new_work, next_entry, next_polled, next_thread, next_work, None, not, NoWord, on_thread, on_work, Op, op_at, op_of, op_row, OpenAct, OpenProgresses, Option, option_map, option_map_or, Ordered, Outcome, outcome_of_label, Pend, Pends, Phase, phase_of, Place, place_of, Poll, poll_ends, poll_of, poll_pends, Polled, polled_in, Pop, popped, ProgramAborts, Progress, Progresses, push_high, pushed, Put, put_high, QueueWork, Quiet, Ready, refl, Refused, Remains, remove_thread, remove_threads, RemoveThread, RestStep, runner_at, SameMain, Scene, ScriptAborts, Scripted, ScriptStep, set_course, set_event, set_phase, set_place, set_stage, set_trapped, SetPhase, SetRegister, Setting, settled_turn, SetTrapped, Shifts, size, slice_get, Some, Spawn, spawned_at, SpawnsNamed, Stage, stage_of, Start, start_act, start_of, start_refusal, Started, started_at, started_end, Starts, State, Status, Step, StepsAreWalks, StillPends, Stops, strand_from, strand_of, struck, subst, Subtask, suc, sym, T, take_result, take_row, TakeHost, TakeLabel, TakePush, TakeResult, TakesResult, TakeStep, Then, Thread, thread_of_entry, Trap, trap_label, Traps, Trip, true, Turn, TurnStep, under_of, unless_pending, Unscripted, unwrap_or, Walk, Why, woken_of, Work, work_caller_of, work_queued, WorkCaller, Writes, WritesPolled, zero, ℕ, ⊎_elim, ◌&&◌, ◌++◌, ◌+◌, ◌-◌, ◌∙◌, ◌∷◌, ◌≡◌, ◌⊎◌}
+use Rattle.task_machine.specs.declared.label.MainLabel.{MainLabel}
 use Rattle.task_machine.specs.declared.scenario.MainOpDef.{MainOpDef}
 use Rattle.task_rules.specs.MainOps.{Answers}
-use Rattle.task_machine.proofs.CommuteLemmas.{get-change}
 use Rattle.task_rules.proofs.MuteLemmas.{is_mute, mute_words, none_said, hands_by, writes_by}
 use Rattle.task_rules.proofs.SayLemmas.{finished_is, result_taken, said_is}
 use Rattle.task_rules.proofs.ChainLemmas.{Keep, join, keep_stay, trip_walk}
 use Rattle.task_rules.proofs.WalkTask.{is_exit_op, op_stands, Leads, data_row_leads, running_scene, task_row_leads, under_place, seen}
-use Rattle.task_machine.proofs.MapLemmas.{get-remove_same, get-insert_same}
 use Rattle.task_rules.proofs.PlacingLemmas.{placed, popped_shifted}
 use Rattle.task_rules.proofs.WalkMoves.{blocked_at, chosen_in_of, shifted, unblocked_shifts, word, published_shifts}
 use Rattle.task_rules.proofs.WalkOps.{set_row_leads, subtask_row_leads, thread_row_leads}
 use Rattle.task_rules.proofs.WalkParts.{Born, born_explicit, born_goal, born_place, call_born}
 use Rattle.task_rules.proofs.WalkTakes.{thread_taken_leads}
-use Rattle.task_machine.specs.declared.words.Status.TheVariants as status
-use Rattle.task_machine.specs.declared.records.Subtask.TheVariants as subtask
-use Rattle.task_machine.specs.declared.label.Label.TheVariants as label
-use Rattle.task_machine.specs.declared.label.LoopLabel.TheVariants as loop_label
-use Rattle.task_machine.specs.declared.label.MainLabel.TheVariants as main_label
-use Rattle.task_machine.specs.declared.op.Op.TheVariants as op
-use Rattle.task_machine.specs.declared.records.Caller.TheVariants as caller
-use Rattle.task_machine.specs.declared.records.Entry.TheVariants as entry
-use Rattle.task_machine.specs.declared.records.Goal.TheVariants as goal
-use Rattle.task_machine.specs.declared.records.Place.TheVariants as place
-use Rattle.task_machine.specs.declared.records.Stage.TheVariants as stage
-use Rattle.task_machine.specs.declared.records.Turn.TheVariants as turn
-use Rattle.task_machine.specs.declared.records.Why.TheVariants as why
-use Rattle.task_machine.specs.declared.records.WorkCaller.TheVariants as work_caller
-use Rattle.task_machine.specs.declared.scenario.MainOpDef.TheVariants as main_op
-use Rattle.task_machine.specs.declared.words.Mark.TheVariants as mark
-use Rattle.task_machine.specs.declared.words.Phase.TheVariants as phase
 
 -- ---- A host call whose entry is taken
 
-ended_stage : (i : ℕ) (t : Core) → is_stage_ended (stage_of i (set_stage i stage.Ended t)) ≡ true
+ended_stage : (i : ℕ) (t : Core) → is_stage_ended (stage_of i (set_stage i Stage.Ended t)) ≡ true
 unfolding set_stage on_work
 ended_stage i t = grind (arith, nat_tests, get-change)
 
@@ -51,20 +29,20 @@ poll_ended i v s = grind (arith, nat_tests, get-change, course_ended v)
 
 -- the work has ended, and tells it
 abbrev told_end : ℕ → Core → Core
-told_end i s = set_event (subtask.Host i) (Some (host_status (course_value (course_of i s)))) (set_stage i stage.Ended s)
+told_end i s = set_event (Subtask.Host i) (Some (host_status (course_value (course_of i s)))) (set_stage i Stage.Ended s)
 
 module _ {a : Scene} {b : Core} where
   host_result_walks : (f : WorkCaller) (v : Option ℕ) {t : Core} → Keep a b t → Keep a b (host_result f v t)
-  host_result_walks (work_caller.Async n q) (Some v) c = word (SetRegister n q v) tt c
-  host_result_walks (work_caller.Async n q) None c = c
+  host_result_walks (WorkCaller.Async n q) (Some v) c = word (SetRegister n q v) tt c
+  host_result_walks (WorkCaller.Async n q) None c = c
   host_result_walks _ v c = c
 
-  host_done_walks : (i : ℕ) (w : Option ℕ) (s : Core) → may_publish (subtask.Host i) w s ≡ true → Keep a b (told_end i s) → Keep a b (host_done i w s)
+  host_done_walks : (i : ℕ) (w : Option ℕ) (s : Core) → may_publish (Subtask.Host i) w s ≡ true → Keep a b (told_end i s) → Keep a b (host_done i w s)
   unfolding host_done may_publish set_stage on_work
   host_done_walks i w s may c =
       let v = course_value (course_of i s) in
-      let t = set_stage i stage.Ended s in
-      host_result_walks (work_caller_of i s) v (shifted (published_shifts (subtask.Host i) (host_status v) w t (ended_stage i s) (λ y is. chosen_in_of (join_of (subtask.Host i) s) w s may y (grind (arith, nat_tests, get-change, is)))) c)
+      let t = set_stage i Stage.Ended s in
+      host_result_walks (work_caller_of i s) v (shifted (published_shifts (Subtask.Host i) (host_status v) w t (ended_stage i s) (λ y is. chosen_in_of (join_of (Subtask.Host i) s) w s may y (grind (arith, nat_tests, get-change, is)))) c)
 
 -- ---- A strand that falls
 
@@ -81,13 +59,13 @@ first_gone (suc k) n s = struck_gone n (option_map_or (strand_from k s) (under_o
 abbrev Fall : Scene → Core → Type 0
 Fall a t = Chain (IsFall a) a.base t
 
-module _ {a : Scene} (over : a.next ≡ turn.Over) where
-  falls : (k n : ℕ) {t : Core} → IsRunner a n ⊎ ((m : ℕ) × ((place_of n a.base ≡ Some (place.Under m)) × (is_none (get t.threads m) ≡ true))) → Fall a t → Fall a (remove_threads (strand_from k a.base n) t)
+module _ {a : Scene} (over : a.next ≡ Turn.Over) where
+  falls : (k n : ℕ) {t : Core} → IsRunner a n ⊎ ((m : ℕ) × ((place_of n a.base ≡ Some (Place.Under m)) × (is_none (get t.threads m) ≡ true))) → Fall a t → Fall a (remove_threads (strand_from k a.base n) t)
   unfolding remove_thread
   falls zero n {t = t} may c = Then t (RemoveThread n) c (Falls over may)
   falls (suc k) n {t = t} may c = below (λ m under d. falls k m (inr (n, (under, ap (λ (o : Option Thread). is_none o) (get-remove_same t.threads n)))) d) (under_of n a.base) refl (Then t (RemoveThread n) c (Falls over may))
     where
-      below : ((m : ℕ) → place_of m a.base ≡ Some (place.Under n) → Fall a (remove_thread n t) → Fall a (remove_threads (strand_from k a.base m) (remove_thread n t))) → (o : Option ℕ) → under_of n a.base ≡ o → Fall a (remove_thread n t) → Fall a (remove_threads (option_map_or (strand_from k a.base) o []) (remove_thread n t))
+      below : ((m : ℕ) → place_of m a.base ≡ Some (Place.Under n) → Fall a (remove_thread n t) → Fall a (remove_threads (strand_from k a.base m) (remove_thread n t))) → (o : Option ℕ) → under_of n a.base ≡ o → Fall a (remove_thread n t) → Fall a (remove_threads (option_map_or (strand_from k a.base) o []) (remove_thread n t))
       below more None is d = d
       below more (Some m) is d = more m (under_place n m a.base is) d
 
@@ -95,7 +73,7 @@ module _ {a : Scene} (over : a.next ≡ turn.Over) where
   unfolding struck strand_of
   struck_trip n is = let r = remove_threads (strand_from (size a.base.threads) a.base n) a.base in Collapses (set_trapped r) over (Then r SetTrapped (falls (size a.base.threads) n (inl is) NoWord) tt)
 
-struck_words : (a : Scene) (n : ℕ) → a.runner ≡ Some n → a.next ≡ turn.Over → begun_holder a.base a.label ≡ None → EndWords a (struck n a.base) → LastWords a (struck n a.base)
+struck_words : (a : Scene) (n : ℕ) → a.runner ≡ Some n → a.next ≡ Turn.Over → begun_holder a.base a.label ≡ None → EndWords a (struck n a.base) → LastWords a (struck n a.base)
 unfolding struck strand_of set_trapped
 struck_words a n is over begun says = record {
   laid = λ m at take. subst (λ (j : ℕ). option_map_or is_free (place_of j (struck n a.base)) true ≡ true) (one m at) (ap (λ (o : Option Thread). option_map_or is_free (option_map (λ r. r.place) o) true) gone);
@@ -129,7 +107,7 @@ same_main Unscripted t = tt
 
 -- the work of a spawn's label
 abbrev spawn_in : MainLabel → Option ℕ
-spawn_in (main_label.Spawn k i) = Some i
+spawn_in (MainLabel.Spawn k i) = Some i
 spawn_in _ = None
 
 abbrev SpawnTold : MainLabel → Core → Type 0
@@ -140,7 +118,7 @@ at_end [] i n = grind arith
 at_end (s ∷ ss) i n = grind (arith, at_end ss i)
 
 advanced_spawns : (o : MainOpDef) (k : MainLabel) (p : MainPlace) (t : Core) → SpawnTold k t → SpawnsNamed p t (advanced_main o k p)
-advanced_spawns o (main_label.Spawn j i) p t told k = let now = told i refl in
+advanced_spawns o (MainLabel.Spawn j i) p t told k = let now = told i refl in
     ⊎_elim (λ e. inl (k, ap (λ (o : Option ℕ). unwrap_or o 0) e)) (λ e. inr (grind arith)) (at_end p.spawns i (k - 1))
 advanced_spawns o l p t told k = inl (k, grind arith)
 
@@ -151,43 +129,43 @@ arrives at b s new m u t starts same is c = subst (λ (v : State). WalkedBy at b
 
 -- a step of no thread may come to this turn, if its label gives this outcome and this entry begins with it
 abbrev is_idle : Option Outcome → Option ℕ → Turn → Bool
-is_idle o h (turn.Run n) = false
-is_idle o h turn.Over = is_none h
+is_idle o h (Turn.Run n) = false
+is_idle o h Turn.Over = is_none h
 is_idle o h next = is_none o && is_none h
 
-idle_parts : (o : Option Outcome) (h : Option ℕ) (next : Turn) → is_idle o h next ≡ true → ((m : ℕ) → next ≡ turn.Run m → ⊥) × (((z : Outcome) → o ≡ Some z → next ≡ turn.Over) × (h ≡ None))
+idle_parts : (o : Option Outcome) (h : Option ℕ) (next : Turn) → is_idle o h next ≡ true → ((m : ℕ) → next ≡ Turn.Run m → ⊥) × (((z : Outcome) → o ≡ Some z → next ≡ Turn.Over) × (h ≡ None))
 idle_parts o h next is = (λ m at. grind arith, (λ z at. grind arith, grind arith))
 
-sync_ended_shifts : (i : ℕ) (v : Option ℕ) (t : Core) → Shifts (set_stage i stage.Ended (set_phase i phase.Complete (set_course i (course_for v) t))) (followed (work_caller.Sync 0) i (set_phase i phase.Complete (set_course i (course_for v) t)))
+sync_ended_shifts : (i : ℕ) (v : Option ℕ) (t : Core) → Shifts (set_stage i Stage.Ended (set_phase i Phase.Complete (set_course i (course_for v) t))) (followed (WorkCaller.Sync 0) i (set_phase i Phase.Complete (set_course i (course_for v) t)))
 unfolding set_stage set_phase set_course on_work
 sync_ended_shifts i v t =
-    let u = set_phase i phase.Complete (set_course i (course_for v) t) in
-    unblocked_shifts (subtask.Host i) (blocked_on (subtask.Host i) u) (set_stage i stage.Ended u) (ended_stage i u) (λ m is. blocked_at (subtask.Host i) u m is)
+    let u = set_phase i Phase.Complete (set_course i (course_for v) t) in
+    unblocked_shifts (Subtask.Host i) (blocked_on (Subtask.Host i) u) (set_stage i Stage.Ended u) (ended_stage i u) (λ m is. blocked_at (Subtask.Host i) u m is)
 
-host_idle : (m : Mark) (i : ℕ) (w : Option ℕ) (s : Core) → is_idle (outcome_of_label (host_label m i w)) (begun_holder s (host_label m i w)) turn.Main ≡ true
+host_idle : (m : Mark) (i : ℕ) (w : Option ℕ) (s : Core) → is_idle (outcome_of_label (host_label m i w)) (begun_holder s (host_label m i w)) Turn.Main ≡ true
 host_idle m i w s = grind arith
 
 host_mute : (a : Scene) (t : Core) (m : Mark) (i : ℕ) (w : Option ℕ) → is_mute a t (host_label m i w) ≡ true
 host_mute a t m i w = grind arith
 
 abbrev is_finish : MainLabel → Bool
-is_finish (main_label.Finish k v) = true
+is_finish (MainLabel.Finish k v) = true
 is_finish _ = false
 
-main_mute : (a : Scene) (t : Core) (k : MainLabel) → is_finish k ≡ false → is_mute a t (label.Main k) ≡ true
+main_mute : (a : Scene) (t : Core) (k : MainLabel) → is_finish k ≡ false → is_mute a t (Label.Main k) ≡ true
 main_mute a t k other = grind arith
 
 abbrev is_unscripted : Main → Bool
 is_unscripted Unscripted = true
 is_unscripted (Scripted p) = false
 
-queued_spawn : (host : HostDef) (t : Core) → is_spawn (next_work t) (work_queued work_caller.Spawn host None t) ≡ true
+queued_spawn : (host : HostDef) (t : Core) → is_spawn (next_work t) (work_queued WorkCaller.Spawn host None t) ≡ true
 unfolding work_queued push_high add_work count_work
-queued_spawn host t = ap (λ (o : Option Work). option_map_or (λ w. is_spawn_caller w.caller) o false) (get-insert_same t.works (t.made.works + 1) (new_work work_caller.Spawn host None))
+queued_spawn host t = ap (λ (o : Option Work). option_map_or (λ w. is_spawn_caller w.caller) o false) (get-insert_same t.works (t.made.works + 1) (new_work WorkCaller.Spawn host None))
 
 -- what an op of a script aborts is a work that it names
 script_aborts : (p : MainPlace) (o : MainOpDef) (i : ℕ) → act_of p o ≡ Abort i → (k : ℕ) × (i ≡ spawned_at p k)
-script_aborts p (main_op.Abort k) i h = (k, grind arith)
+script_aborts p (MainOpDef.Abort k) i h = (k, grind arith)
 script_aborts p _ i h = absurd (grind arith)
 
 -- a work that ends without a value was aborted
@@ -206,60 +184,63 @@ module _ (x : Setting) (s : State) (l : Label) where
   idle : (u : Turn) (b : Core) (next : Turn) (m : Main) (k : Label) (new : Core) {t : State} → is_idle (outcome_of_label k) (begun_holder b k) next ≡ true → SameMain s.main new m → l ≡ k → t ≡ at_turn s new m next → EndWords (idle_scene u b next) new → Keep (idle_scene u b next) s.core new → WalkedBy (idle_scene u b) s.core s.main t
   idle u b next m k new {t = t} quiet same is at says c =
       let q = idle_parts (outcome_of_label k) (begun_holder b k) next quiet in
-      arrives (idle_scene u b) s.core s new m next t NoWord same at (Remains new (keep_stay c) (λ j to. absurd (q.0 j to)), record {
-        laid = λ j none take. none_said refl none;
-        runs = λ j to. absurd (q.0 j to);
-        outcome = λ o out. q.1.0 o (ap outcome_of_label (sym is) ∙ out);
-        gone = λ j none exit. none_said refl none;
-        says = says;
-        shut = λ i begun. none_said (ap (λ (y : Label). begun_holder b y) is ∙ q.1.1) begun;
-      })
+      arrives (idle_scene u b) s.core s new m next t NoWord same at (
+        Remains new (keep_stay c) (λ j to. absurd (q.0 j to)),
+        record {
+          laid = λ j none take. none_said refl none;
+          runs = λ j to. absurd (q.0 j to);
+          outcome = λ o out. q.1.0 o (ap outcome_of_label (sym is) ∙ out);
+          gone = λ j none exit. none_said refl none;
+          says = says;
+          shut = λ i begun. none_said (ap (λ (y : Label). begun_holder b y) is ∙ q.1.1) begun;
+        },
+      )
 
   -- ---- Main
 
   abbrev a : Scene
-  a = idle_scene turn.Main s.core turn.Main
+  a = idle_scene Turn.Main s.core Turn.Main
 
   -- what an op of main does
   abbrev LeadsMain : MainProgress → Type 0
-  LeadsMain (Does k new) = (is_idle (main_outcome k) None turn.Main ≡ true) × ((l ≡ label.Main k → EndWords a new) × (Keep a s.core new × SpawnTold k new))
+  LeadsMain (Does k new) = (is_idle (main_outcome k) None Turn.Main ≡ true) × ((l ≡ Label.Main k → EndWords a new) × (Keep a s.core new × SpawnTold k new))
   LeadsMain _ = Unit {0}
 
-  started_walks : (e : Callee) (words : List ℕ) → MayCall a caller.Main e (s.core.made.groups + 1) (add_group s.core) → Keep a s.core (main_started x.component e words s.core)
+  started_walks : (e : Callee) (words : List ℕ) → MayCall a Caller.Main e (s.core.made.groups + 1) (add_group s.core) → Keep a s.core (main_started x.component e words s.core)
   unfolding main_started add_group
   started_walks e words may =
       let k = next_thread s.core in
       let g = add_group s.core in
-      let h : Born k goal.Main (call_made caller.Main e (export_kind x.component e) goal.Main (s.core.made.groups + 1) words g) = call_born caller.Main e (export_kind x.component e) goal.Main (s.core.made.groups + 1) words g in
-      placed (Put mark.High k why.Start) (inl (Starts (born_place h) (born_explicit h) (ap (λ (y : Goal). is_direct y) (born_goal h)) refl))
-      (word (MakeCall caller.Main e (export_kind x.component e) goal.Main (s.core.made.groups + 1) words) (may, (refl, (refl, (λ d. absurd (subst T (sym d) tt), refl)))) (word AddGroup refl NoWord))
+      let h : Born k Goal.Main (call_made Caller.Main e (export_kind x.component e) Goal.Main (s.core.made.groups + 1) words g) = call_born Caller.Main e (export_kind x.component e) Goal.Main (s.core.made.groups + 1) words g in
+      placed (Put Mark.High k Why.Start) (inl (Starts (born_place h) (born_explicit h) (ap (λ (y : Goal). is_direct y) (born_goal h)) refl))
+      (word (MakeCall Caller.Main e (export_kind x.component e) Goal.Main (s.core.made.groups + 1) words) (may, (refl, (refl, (λ d. absurd (subst T (sym d) tt), refl)))) (word AddGroup refl NoWord))
 
   -- an op whose label tells of no end
-  quietly : (k : MainLabel) (new : Core) → is_idle (main_outcome k) None turn.Main ≡ true → is_finish k ≡ false → SpawnTold k new → Keep a s.core new → LeadsMain (Does k new)
+  quietly : (k : MainLabel) (new : Core) → is_idle (main_outcome k) None Turn.Main ≡ true → is_finish k ≡ false → SpawnTold k new → Keep a s.core new → LeadsMain (Does k new)
   quietly k new quiet other told c = (quiet, (λ is. mute_words a new is (main_mute a new k other), (c, told)))
 
-  start_act_leads : (k : ℕ) (e : Callee) (words : List ℕ) (o : Option Trap) → MayCall a caller.Main e (s.core.made.groups + 1) (add_group s.core) → LeadsMain (start_act x.component k e words s.core o)
-  start_act_leads k e words None may = quietly (main_label.Start k (next_thread s.core)) (main_started x.component e words s.core) refl refl (λ i e. none_said refl e) (started_walks e words may)
-  start_act_leads k e words (Some t) may = quietly (main_label.StartRefused t k) (set_trapped s.core) refl refl (λ i e. none_said refl e) (word SetTrapped tt NoWord)
+  start_act_leads : (k : ℕ) (e : Callee) (words : List ℕ) (o : Option Trap) → MayCall a Caller.Main e (s.core.made.groups + 1) (add_group s.core) → LeadsMain (start_act x.component k e words s.core o)
+  start_act_leads k e words None may = quietly (MainLabel.Start k (next_thread s.core)) (main_started x.component e words s.core) refl refl (λ i e. none_said refl e) (started_walks e words may)
+  start_act_leads k e words (Some t) may = quietly (MainLabel.StartRefused t k) (set_trapped s.core) refl refl (λ i e. none_said refl e) (word SetTrapped tt NoWord)
 
   -- the K of a script's finish names what the op finishes
   abbrev Names : ℕ → Started → Type 0
   Names k y = (p : MainPlace) → s.main ≡ Scripted p → started_at p k ≡ y
 
-  finish_says : (k n v : ℕ) → Names k (Began n) → get s.core.results n ≡ Some v → l ≡ label.Main (main_label.Finish k v) → EndWords a (take_result n s.core)
+  finish_says : (k n v : ℕ) → Names k (Began n) → get s.core.results n ≡ Some v → l ≡ Label.Main (MainLabel.Finish k v) → EndWords a (take_result n s.core)
   finish_says k n v names there is = hands_by a t is refl (by_main s.main refl)
     where
       t : Core
       t = take_result n s.core
 
-      takes : HandsOut a t (subtask.Guest n) status.Returned
+      takes : HandsOut a t (Subtask.Guest n) Status.Returned
       takes = TakesResult n (ap (λ (o : Option ℕ). is_some o) there) (result_taken n s.core)
 
-      found : (o : Option ℕ) → ((j : ℕ) → o ≡ Some j → n ≡ j) → (sub : Subtask) (e : Status) → option_map (λ (j : ℕ). end_for status.Returned (subtask.Guest j)) o ≡ Some (end_for e sub) → HandsOut a t sub e
+      found : (o : Option ℕ) → ((j : ℕ) → o ≡ Some j → n ≡ j) → (sub : Subtask) (e : Status) → option_map (λ (j : ℕ). end_for Status.Returned (Subtask.Guest j)) o ≡ Some (end_for e sub) → HandsOut a t sub e
       found None same sub e out = none_said refl out
-      found (Some j) same sub e out = said_is (HandsOut a t) out (subst (λ (i : ℕ). HandsOut a t (subtask.Guest i) status.Returned) (same j refl) takes)
+      found (Some j) same sub e out = said_is (HandsOut a t) out (subst (λ (i : ℕ). HandsOut a t (Subtask.Guest i) Status.Returned) (same j refl) takes)
 
-      by_main : (m : Main) → s.main ≡ m → (sub : Subtask) (e : Status) → handed_by_main m s.core (main_label.Finish k v) t ≡ Some (end_for e sub) → HandsOut a t sub e
+      by_main : (m : Main) → s.main ≡ m → (sub : Subtask) (e : Status) → handed_by_main m s.core (MainLabel.Finish k v) t ≡ Some (end_for e sub) → HandsOut a t sub e
       by_main (Scripted p) at sub e out = said_is (HandsOut a t) (sym (ap (λ (y : Started). started_end y) (names p at)) ∙ out) takes
       by_main Unscripted at sub e out = found (finished_call v s.core t) (λ j. finished_is n v s.core there j) sub e out
 
@@ -269,83 +250,83 @@ module _ (x : Setting) (s : State) (l : Label) where
 
   finish_act_leads : (k : ℕ) (y : Started) → Names k y → LeadsMain (finish_act k s.core y)
   finish_act_leads k (Began n) names = finish_result_leads k n (get s.core.results n) names refl
-  finish_act_leads k (Refused t) names = quietly (main_label.FinishRefused t k) s.core refl refl (λ i e. none_said refl e) NoWord
+  finish_act_leads k (Refused t) names = quietly (MainLabel.FinishRefused t k) s.core refl refl (λ i e. none_said refl e) NoWord
 
-  unless_pending_leads : (b : Bool) (k : MainLabel) → is_idle (main_outcome k) None turn.Main ≡ true → is_finish k ≡ false → spawn_in k ≡ None → LeadsMain (unless_pending b k s.core)
+  unless_pending_leads : (b : Bool) (k : MainLabel) → is_idle (main_outcome k) None Turn.Main ≡ true → is_finish k ≡ false → spawn_in k ≡ None → LeadsMain (unless_pending b k s.core)
   unless_pending_leads true k quiet other none = quietly k s.core quiet other (λ i e. none_said none e) NoWord
   unless_pending_leads false k quiet other none = tt
 
-  main_row_leads : (k : ℕ) (act : MainAct) → ((e : Callee) (words : List ℕ) → act ≡ Start e words → MayCall a caller.Main e (s.core.made.groups + 1) (add_group s.core)) → ((y : Started) → act ≡ Finish y → Names k y) → ((i : ℕ) → act ≡ Abort i → MayAbort a i) → LeadsMain (main_row x.component k s.core act)
+  main_row_leads : (k : ℕ) (act : MainAct) → ((e : Callee) (words : List ℕ) → act ≡ Start e words → MayCall a Caller.Main e (s.core.made.groups + 1) (add_group s.core)) → ((y : Started) → act ≡ Finish y → Names k y) → ((i : ℕ) → act ≡ Abort i → MayAbort a i) → LeadsMain (main_row x.component k s.core act)
   unfolding main_spawned main_aborted
   main_row_leads k (Start e words) may names aborts = start_act_leads k e words (start_refusal s.core) (may e words refl)
   main_row_leads k (Finish y) may names aborts = finish_act_leads k y (names y refl)
   main_row_leads k (Spawn h) may names aborts =
       let host = host_at x.component h in
-      quietly (main_label.Spawn k (next_work s.core)) (work_queued work_caller.Spawn host None s.core) refl refl
-      (λ i e. subst (λ (n : ℕ). is_spawn n (work_queued work_caller.Spawn host None s.core) ≡ true) (ap (λ (o : Option ℕ). unwrap_or o 0) e) (queued_spawn host s.core))
-      (word (QueueWork work_caller.Spawn host None) (refl, refl) NoWord)
-  main_row_leads k (Abort i) may names aborts = quietly (main_label.Abort (phase_of i s.core) k) (set_phase i (aborted_phase (phase_of i s.core)) s.core) refl refl (λ i e. none_said refl e) (word (SetPhase i (aborted_phase (phase_of i s.core))) (aborts i refl, refl) NoWord)
-  main_row_leads k (Await i) may names aborts = unless_pending_leads (is_complete (phase_of i s.core)) (main_label.Await k) refl refl refl
-  main_row_leads k Quiet may names aborts = unless_pending_leads (not (has_interesting s.core)) main_label.Quiet refl refl refl
-  main_row_leads k (Ready i) may names aborts = unless_pending_leads (is_ready_for_call i s.core) main_label.Ready refl refl refl
+      quietly (MainLabel.Spawn k (next_work s.core)) (work_queued WorkCaller.Spawn host None s.core) refl refl
+      (λ i e. subst (λ (n : ℕ). is_spawn n (work_queued WorkCaller.Spawn host None s.core) ≡ true) (ap (λ (o : Option ℕ). unwrap_or o 0) e) (queued_spawn host s.core))
+      (word (QueueWork WorkCaller.Spawn host None) (refl, refl) NoWord)
+  main_row_leads k (Abort i) may names aborts = quietly (MainLabel.Abort (phase_of i s.core) k) (set_phase i (aborted_phase (phase_of i s.core)) s.core) refl refl (λ i e. none_said refl e) (word (SetPhase i (aborted_phase (phase_of i s.core))) (aborts i refl, refl) NoWord)
+  main_row_leads k (Await i) may names aborts = unless_pending_leads (is_complete (phase_of i s.core)) (MainLabel.Await k) refl refl refl
+  main_row_leads k Quiet may names aborts = unless_pending_leads (not (has_interesting s.core)) MainLabel.Quiet refl refl refl
+  main_row_leads k (Ready i) may names aborts = unless_pending_leads (is_ready_for_call i s.core) MainLabel.Ready refl refl refl
   main_row_leads k (Answer v) may names aborts = tt
 
-  pends_here : (t : State) → l ≡ label.Loop loop_label.MainPends → t ≡ goes_to s s.core (turn.Futures 0) → WalkedBy (idle_scene turn.Main s.core) s.core s.main t
-  pends_here t is at = idle turn.Main s.core (turn.Futures 0) s.main (label.Loop loop_label.MainPends) s.core refl (same_main s.main s.core) is at (mute_words _ _ is refl) NoWord
+  pends_here : (t : State) → l ≡ Label.Loop LoopLabel.MainPends → t ≡ goes_to s s.core (Turn.Futures 0) → WalkedBy (idle_scene Turn.Main s.core) s.core s.main t
+  pends_here t is at = idle Turn.Main s.core (Turn.Futures 0) s.main (Label.Loop LoopLabel.MainPends) s.core refl (same_main s.main s.core) is at (mute_words _ _ is refl) NoWord
 
-  does_here : (m : Main) (k : MainLabel) (new : Core) (t : State) → SameMain s.main new m → LeadsMain (Does k new) → l ≡ label.Main k → t ≡ at_turn s new m turn.Main → WalkedBy (idle_scene turn.Main s.core) s.core s.main t
-  does_here m k new t same c is at = idle turn.Main s.core turn.Main m (label.Main k) new c.0 same is at (c.1.0 is) c.1.1.0
+  does_here : (m : Main) (k : MainLabel) (new : Core) (t : State) → SameMain s.main new m → LeadsMain (Does k new) → l ≡ Label.Main k → t ≡ at_turn s new m Turn.Main → WalkedBy (idle_scene Turn.Main s.core) s.core s.main t
+  does_here m k new t same c is at = idle Turn.Main s.core Turn.Main m (Label.Main k) new c.0 same is at (c.1.0 is) c.1.1.0
 
-  answers_here : (v : ℕ) (t : State) → l ≡ label.Main (main_label.Answer v) → t ≡ goes_to s s.core turn.Over → WalkedBy (idle_scene turn.Main s.core) s.core s.main t
-  answers_here v t is at = idle turn.Main s.core turn.Over s.main (label.Main (main_label.Answer v)) s.core refl (same_main s.main s.core) is at (mute_words _ _ is (main_mute (idle_scene turn.Main s.core turn.Over) s.core (main_label.Answer v) refl)) NoWord
+  answers_here : (v : ℕ) (t : State) → l ≡ Label.Main (MainLabel.Answer v) → t ≡ goes_to s s.core Turn.Over → WalkedBy (idle_scene Turn.Main s.core) s.core s.main t
+  answers_here v t is at = idle Turn.Main s.core Turn.Over s.main (Label.Main (MainLabel.Answer v)) s.core refl (same_main s.main s.core) is at (mute_words _ _ is (main_mute (idle_scene Turn.Main s.core Turn.Over) s.core (MainLabel.Answer v) refl)) NoWord
 
-  main_progresses_walk : (p : MainPlace) (o : MainOpDef) (q : MainProgress) (t : State) → s.main ≡ Scripted p → LeadsMain q → MainProgresses s p o q l t → WalkedBy (idle_scene turn.Main s.core) s.core s.main t
+  main_progresses_walk : (p : MainPlace) (o : MainOpDef) (q : MainProgress) (t : State) → s.main ≡ Scripted p → LeadsMain q → MainProgresses s p o q l t → WalkedBy (idle_scene Turn.Main s.core) s.core s.main t
   main_progresses_walk p o (Does k new) t at c is = does_here (Scripted (advanced_main o k p)) k new t (subst (λ (m : Main). SameMain m new (Scripted (advanced_main o k p))) (sym at) (advanced_spawns o k p new c.1.1.1)) c is.0 is.1
   main_progresses_walk p o Pends t at c is = pends_here t is.0 is.1
   main_progresses_walk p o (Answers v) t at c is = answers_here v t is.0 is.1
 
-  script_call : (p : MainPlace) (o : MainOpDef) → s.main ≡ Scripted p → op_at x.script p ≡ Some o → (e : Callee) (words : List ℕ) → act_of p o ≡ Start e words → MayCall a caller.Main e (s.core.made.groups + 1) (add_group s.core)
+  script_call : (p : MainPlace) (o : MainOpDef) → s.main ≡ Scripted p → op_at x.script p ≡ Some o → (e : Callee) (words : List ℕ) → act_of p o ≡ Start e words → MayCall a Caller.Main e (s.core.made.groups + 1) (add_group s.core)
   unfolding add_group
   script_call p o scripted is e words at = ByScript p o scripted is (grind (arith, at)) refl refl
 
-  script_step_walks : (p : MainPlace) (o : Option MainOpDef) (t : State) → s.main ≡ Scripted p → op_at x.script p ≡ o → ScriptStep x s p o l t → WalkedBy (idle_scene turn.Main s.core) s.core s.main t
+  script_step_walks : (p : MainPlace) (o : Option MainOpDef) (t : State) → s.main ≡ Scripted p → op_at x.script p ≡ o → ScriptStep x s p o l t → WalkedBy (idle_scene Turn.Main s.core) s.core s.main t
   script_step_walks p None t scripted at is = pends_here t is.0 is.1
   script_step_walks p (Some o) t scripted at is = main_progresses_walk p o (main_row x.component (line_of p o) s.core (act_of p o)) t scripted (main_row_leads (line_of p o) (act_of p o) (λ e words h. script_call p o scripted at e words h) (λ y h p2 at2. grind (arith, scripted, at2, h)) (λ i h. let r = script_aborts p o i h in ScriptAborts p r.0 scripted r.1)) is
 
-  open_progresses_walk : (q : MainProgress) (t : State) → LeadsMain q → OpenProgresses s q l t → WalkedBy (idle_scene turn.Main s.core) s.core s.main t
+  open_progresses_walk : (q : MainProgress) (t : State) → LeadsMain q → OpenProgresses s q l t → WalkedBy (idle_scene Turn.Main s.core) s.core s.main t
   open_progresses_walk (Does k new) t c is = does_here s.main k new t (same_main s.main new) c is.0 is.1
   open_progresses_walk Pends t c is = absurd is
   open_progresses_walk (Answers v) t c is = answers_here v t is.0 is.1
 
-  open_act_walks : (k : ℕ) (act : MainAct) (t : State) → s.main ≡ Unscripted → OpenAct x s k act l t → WalkedBy (idle_scene turn.Main s.core) s.core s.main t
+  open_act_walks : (k : ℕ) (act : MainAct) (t : State) → s.main ≡ Unscripted → OpenAct x s k act l t → WalkedBy (idle_scene Turn.Main s.core) s.core s.main t
   unfolding add_group
   open_act_walks k act t open_main h = open_progresses_walk (main_row x.component k s.core act) t (main_row_leads k act (λ e words at. ByProgram (length words) open_main (sym (ap (λ y. may_act x.component s.core y) at) ∙ h.0) refl refl) (λ y at p at2. absurd (subst T (ap is_unscripted (sym open_main ∙ at2)) tt)) (λ i at. ProgramAborts open_main (sym (ap (λ y. may_act x.component s.core y) at) ∙ h.0))) h.1
 
   -- ---- Works
 
-  followed_walks : (n i : ℕ) (v : Option ℕ) → next_polled n s.core ≡ Some i → l ≡ label.Loop (loop_label.FutureEnds i) → poll_of i s.core ≡ Ends v → Keep (scene_at (turn.Futures n) None (turn.Take true)) s.core (poll_ends i v s.core)
+  followed_walks : (n i : ℕ) (v : Option ℕ) → next_polled n s.core ≡ Some i → l ≡ Label.Loop (LoopLabel.FutureEnds i) → poll_of i s.core ≡ Ends v → Keep (scene_at (Turn.Futures n) None (Turn.Take true)) s.core (poll_ends i v s.core)
   unfolding poll_ends poll_of
   followed_walks n i v at is poll = by_caller (work_caller_of i s.core) refl
     where
-      may : MayFinish (scene_at (turn.Futures n) None (turn.Take true)) i (course_for v) s.core
+      may : MayFinish (scene_at (Turn.Futures n) None (Turn.Take true)) i (course_for v) s.core
       may = ((n, (refl, at)), (is, (course_ended v, λ none. ends_valueless (phase_of i s.core) (course_of i s.core) v poll none)))
 
-      by_caller : (f : WorkCaller) → work_caller_of i s.core ≡ f → Keep (scene_at (turn.Futures n) None (turn.Take true)) s.core (followed f i (set_phase i phase.Complete (set_course i (course_for v) s.core)))
-      by_caller work_caller.Spawn same = word (EndWork i (course_for v)) (may, ap (λ f. is_async_work f) same) NoWord
-      by_caller (work_caller.Async m q) same = word (FinishWork i (course_for v)) (may, ap (λ f. is_async_work f) same) NoWord
-      by_caller (work_caller.Sync m) same = shifted (sync_ended_shifts i v s.core) (word (EndWork i (course_for v)) (may, ap (λ f. is_async_work f) same) NoWord)
+      by_caller : (f : WorkCaller) → work_caller_of i s.core ≡ f → Keep (scene_at (Turn.Futures n) None (Turn.Take true)) s.core (followed f i (set_phase i Phase.Complete (set_course i (course_for v) s.core)))
+      by_caller WorkCaller.Spawn same = word (EndWork i (course_for v)) (may, ap (λ f. is_async_work f) same) NoWord
+      by_caller (WorkCaller.Async m q) same = word (FinishWork i (course_for v)) (may, ap (λ f. is_async_work f) same) NoWord
+      by_caller (WorkCaller.Sync m) same = shifted (sync_ended_shifts i v s.core) (word (EndWork i (course_for v)) (may, ap (λ f. is_async_work f) same) NoWord)
 
-  polled_walks : (n i : ℕ) (p : Poll) (t : State) → next_polled n s.core ≡ Some i → poll_of i s.core ≡ p → Polled s i p l t → WalkedBy (scene_at (turn.Futures n) None) s.core s.main t
+  polled_walks : (n i : ℕ) (p : Poll) (t : State) → next_polled n s.core ≡ Some i → poll_of i s.core ≡ p → Polled s i p l t → WalkedBy (scene_at (Turn.Futures n) None) s.core s.main t
   unfolding poll_ends
-  polled_walks n i (StillPends host) t at poll is = idle (turn.Futures n) s.core (turn.Futures i) s.main (label.Loop (loop_label.FuturePends i)) (poll_pends i host s.core) refl (same_main s.main _) is.0 is.1 (mute_words _ _ is.0 refl) (word (Pend i host) (n, (refl, at)) NoWord)
+  polled_walks n i (StillPends host) t at poll is = idle (Turn.Futures n) s.core (Turn.Futures i) s.main (Label.Loop (LoopLabel.FuturePends i)) (poll_pends i host s.core) refl (same_main s.main _) is.0 is.1 (mute_words _ _ is.0 refl) (word (Pend i host) (n, (refl, at)) NoWord)
   polled_walks n i (Ends v) t at poll is =
       let new = poll_ends i v s.core in
-      idle (turn.Futures n) s.core (turn.Take true) s.main (label.Loop (loop_label.FutureEnds i)) new refl (same_main s.main new) is.0 is.1
-      (writes_by _ _ is.0 refl (λ sub e says. said_is (λ d g. Writes (idle_scene (turn.Futures n) s.core (turn.Take true)) new d) says (WritesPolled i is.0 (n, (refl, at)) (poll_ended i v s.core))))
+      idle (Turn.Futures n) s.core (Turn.Take true) s.main (Label.Loop (LoopLabel.FutureEnds i)) new refl (same_main s.main new) is.0 is.1
+      (writes_by _ _ is.0 refl (λ sub e says. said_is (λ d g. Writes (idle_scene (Turn.Futures n) s.core (Turn.Take true)) new d) says (WritesPolled i is.0 (n, (refl, at)) (poll_ended i v s.core))))
       (followed_walks n i v at is.0 poll)
-  polled_walks n i FailsNow t at poll is = idle (turn.Futures n) s.core turn.Over s.main (label.Loop (loop_label.FutureFails i)) (set_trapped s.core) refl (same_main s.main _) is.0 is.1 (mute_words _ _ is.0 refl) (word SetTrapped tt NoWord)
+  polled_walks n i FailsNow t at poll is = idle (Turn.Futures n) s.core Turn.Over s.main (Label.Loop (LoopLabel.FutureFails i)) (set_trapped s.core) refl (same_main s.main _) is.0 is.1 (mute_words _ _ is.0 refl) (word SetTrapped tt NoWord)
 
-  futures_walk : (n : ℕ) (o : Option ℕ) (t : State) → next_polled n s.core ≡ o → FuturesStep s o l t → WalkedBy (scene_at (turn.Futures n) None) s.core s.main t
+  futures_walk : (n : ℕ) (o : Option ℕ) (t : State) → next_polled n s.core ≡ o → FuturesStep s o l t → WalkedBy (scene_at (Turn.Futures n) None) s.core s.main t
   futures_walk n None t at is = absurd is
   futures_walk n (Some i) t at is = polled_walks n i (poll_of i s.core) t at refl is
 
@@ -361,64 +342,64 @@ module _ (x : Setting) (s : State) (l : Label) where
       lands_so : (new : Core) (v : Turn) → t ≡ goes_to s new v → Trip (at v) base new × LastWords (at v) new → WalkedBy at s.core s.main t
       lands_so new v to c = arrives at s.core s new s.main v t (starts v) (same_main s.main new) to c
 
-      falls_so : (k : Label) → begun_holder base k ≡ None → is_mute (at turn.Over) (struck n base) k ≡ true → l ≡ k → t ≡ goes_to s (struck n base) turn.Over → WalkedBy at s.core s.main t
-      falls_so k none mute shown to = lands_so (struck n base) turn.Over to (struck_trip refl n refl, struck_words (at turn.Over) n refl refl (ap (λ y. begun_holder base y) shown ∙ none) (mute_words _ _ shown mute))
+      falls_so : (k : Label) → begun_holder base k ≡ None → is_mute (at Turn.Over) (struck n base) k ≡ true → l ≡ k → t ≡ goes_to s (struck n base) Turn.Over → WalkedBy at s.core s.main t
+      falls_so k none mute shown to = lands_so (struck n base) Turn.Over to (struck_trip refl n refl, struck_words (at Turn.Over) n refl refl (ap (λ y. begun_holder base y) shown ∙ none) (mute_words _ _ shown mute))
 
       by : (q : Progress) → ((v : Turn) → Leads (at v) base q) → Progresses s base n q l t → WalkedBy at s.core s.main t
-      by (Goes k new m) row h = lands_so new (turn.Run m) h.1 (row (turn.Run m) h.0 refl)
-      by (Stops k new) row h = lands_so new turn.Main h.1 (row turn.Main h.0 refl)
+      by (Goes k new m) row h = lands_so new (Turn.Run m) h.1 (row (Turn.Run m) h.0 refl)
+      by (Stops k new) row h = lands_so new Turn.Main h.1 (row Turn.Main h.0 refl)
       by (Traps trap) row h = falls_so (trap_label n trap) refl refl h.0 h.1
-      by (Fails i) row h = falls_so (label.Call (call_label.Fails n i)) refl refl h.0 h.1
+      by (Fails i) row h = falls_so (Label.Call (CallLabel.Fails n i)) refl refl h.0 h.1
       by Never row h = absurd h
       by (Ordered ns next) row h = by (next h.0) (λ v. row v h.0) h.1.1
 
-  empty_walks : (ended : Bool) (b : Bool) (t : State) → EmptyFor x s b l t → WalkedBy (scene_at (turn.Take ended) None) s.core s.main t
+  empty_walks : (ended : Bool) (b : Bool) (t : State) → EmptyFor x s b l t → WalkedBy (scene_at (Turn.Take ended) None) s.core s.main t
   empty_walks ended true t is = rests (is_unended_take s.turn) is
     where
-      rests : (c : Bool) → RestStep s c l t → WalkedBy (scene_at (turn.Take ended) None) s.core s.main t
-      rests true h = idle (turn.Take ended) s.core turn.Main s.main (label.Loop loop_label.Rest) s.core refl (same_main s.main s.core) h.0 h.1 (mute_words _ _ h.0 refl) NoWord
+      rests : (c : Bool) → RestStep s c l t → WalkedBy (scene_at (Turn.Take ended) None) s.core s.main t
+      rests true h = idle (Turn.Take ended) s.core Turn.Main s.main (Label.Loop LoopLabel.Rest) s.core refl (same_main s.main s.core) h.0 h.1 (mute_words _ _ h.0 refl) NoWord
       rests false h = absurd h
   empty_walks ended false t is = dies (may_deadlock x s) is
     where
-      dies : (c : Bool) → DeadlockStep s c l t → WalkedBy (scene_at (turn.Take ended) None) s.core s.main t
-      dies true h = idle (turn.Take ended) s.core turn.Over s.main (label.Loop (loop_label.Deadlock (deadlock_trap s.core))) (set_trapped s.core) refl (same_main s.main _) h.0 h.1 (mute_words _ _ h.0 refl) (word SetTrapped tt NoWord)
+      dies : (c : Bool) → DeadlockStep s c l t → WalkedBy (scene_at (Turn.Take ended) None) s.core s.main t
+      dies true h = idle (Turn.Take ended) s.core Turn.Over s.main (Label.Loop (LoopLabel.Deadlock (deadlock_trap s.core))) (set_trapped s.core) refl (same_main s.main _) h.0 h.1 (mute_words _ _ h.0 refl) (word SetTrapped tt NoWord)
       dies false h = absurd h
 
-  push_walks : (ended : Bool) (m : Mark) (i : ℕ) → next_entry s.core ≡ Some (m, entry.Push i) → Keep (scene_at (turn.Take ended) (Some (m, entry.Push i)) turn.Main) s.core (pushed i (popped m s.core))
+  push_walks : (ended : Bool) (m : Mark) (i : ℕ) → next_entry s.core ≡ Some (m, Entry.Push i) → Keep (scene_at (Turn.Take ended) (Some (m, Entry.Push i)) Turn.Main) s.core (pushed i (popped m s.core))
   unfolding pushed
-  push_walks ended m i at = subst (λ (t : Core). Keep (scene_at (turn.Take ended) (Some (m, entry.Push i)) turn.Main) s.core (set_stage i stage.Live t)) (popped_shifted m s.core).only (word (TakePush m i) at NoWord)
+  push_walks ended m i at = subst (λ (t : Core). Keep (scene_at (Turn.Take ended) (Some (m, Entry.Push i)) Turn.Main) s.core (set_stage i Stage.Live t)) (popped_shifted m s.core).only (word (TakePush m i) at NoWord)
 
-  host_entry_walks : (ended : Bool) (m : Mark) (i : ℕ) (t : State) → next_entry s.core ≡ Some (m, entry.Host i) → (b : Bool) → may_publish (subtask.Host i) (woken_of l) (popped m s.core) ≡ b → Progresses s (popped m s.core) i (may b (Stops (host_label m i (woken_of l)) (host_done i (woken_of l) (popped m s.core)))) l t → WalkedBy (scene_at (turn.Take ended) (Some (m, entry.Host i))) s.core s.main t
+  host_entry_walks : (ended : Bool) (m : Mark) (i : ℕ) (t : State) → next_entry s.core ≡ Some (m, Entry.Host i) → (b : Bool) → may_publish (Subtask.Host i) (woken_of l) (popped m s.core) ≡ b → Progresses s (popped m s.core) i (may b (Stops (host_label m i (woken_of l)) (host_done i (woken_of l) (popped m s.core)))) l t → WalkedBy (scene_at (Turn.Take ended) (Some (m, Entry.Host i))) s.core s.main t
   host_entry_walks ended m i t at true may is =
       let base = popped m s.core in
-      let a = scene_at (turn.Take ended) (Some (m, entry.Host i)) turn.Main in
+      let a = scene_at (Turn.Take ended) (Some (m, Entry.Host i)) Turn.Main in
       let taken_first : Keep a s.core (told_end i base) = subst (λ (u : Core). Keep a s.core (told_end i u)) (popped_shifted m s.core).only (word (TakeHost m i) at NoWord) in
-      idle (turn.Take ended) base turn.Main s.main (host_label m i (woken_of l)) (host_done i (woken_of l) base) (host_idle m i (woken_of l) base) (same_main s.main _) is.0 is.1
+      idle (Turn.Take ended) base Turn.Main s.main (host_label m i (woken_of l)) (host_done i (woken_of l) base) (host_idle m i (woken_of l) base) (same_main s.main _) is.0 is.1
       (mute_words a _ is.0 (host_mute a _ m i (woken_of l))) (host_done_walks i (woken_of l) base may taken_first)
   host_entry_walks ended m i t at false may is = absurd is
 
-  entry_walks : (ended : Bool) (m : Mark) (e : Entry) (t : State) → next_entry s.core ≡ Some (m, e) → Progresses s (popped m s.core) (entry_number e) (take_row m (choice_of l) (popped m s.core) e) l t → WalkedBy (scene_at (turn.Take ended) (Some (m, e))) s.core s.main t
-  entry_walks ended m (entry.Thread n) t at is =
+  entry_walks : (ended : Bool) (m : Mark) (e : Entry) (t : State) → next_entry s.core ≡ Some (m, e) → Progresses s (popped m s.core) (entry_number e) (take_row m (choice_of l) (popped m s.core) e) l t → WalkedBy (scene_at (Turn.Take ended) (Some (m, e))) s.core s.main t
+  entry_walks ended m (Entry.Thread n) t at is =
       let base = popped m s.core in
-      progresses_walk (turn.Take ended) base n (λ u. placed (Pop m) (inr (n, (refl, at))) NoWord) (take_row m (choice_of l) base (entry.Thread n)) t
+      progresses_walk (Turn.Take ended) base n (λ u. placed (Pop m) (inr (n, (refl, at))) NoWord) (take_row m (choice_of l) base (Entry.Thread n)) t
       (λ u. thread_taken_leads x s.main ended base n l u m (choice_of l) (place_of n base) refl) is
-  entry_walks ended m (entry.Push i) t at is =
-      idle (turn.Take ended) (popped m s.core) turn.Main s.main (label.Take (take.Push m i)) (pushed i (popped m s.core)) refl (same_main s.main _) is.0 is.1
+  entry_walks ended m (Entry.Push i) t at is =
+      idle (Turn.Take ended) (popped m s.core) Turn.Main s.main (Label.Take (TakeLabel.Push m i)) (pushed i (popped m s.core)) refl (same_main s.main _) is.0 is.1
       (mute_words _ _ is.0 refl) (push_walks ended m i at)
-  entry_walks ended m (entry.Host i) t at is = host_entry_walks ended m i t at (may_publish (subtask.Host i) (woken_of l) (popped m s.core)) refl is
+  entry_walks ended m (Entry.Host i) t at is = host_entry_walks ended m i t at (may_publish (Subtask.Host i) (woken_of l) (popped m s.core)) refl is
 
-  take_step_walks : (ended : Bool) (o : Option (Mark × Entry)) (t : State) → next_entry s.core ≡ o → TakeStep x s o l t → WalkedBy (scene_at (turn.Take ended) o) s.core s.main t
+  take_step_walks : (ended : Bool) (o : Option (Mark × Entry)) (t : State) → next_entry s.core ≡ o → TakeStep x s o l t → WalkedBy (scene_at (Turn.Take ended) o) s.core s.main t
   take_step_walks ended None t at is = empty_walks ended (has_moving_work s.core) t is
   take_step_walks ended (Some (m, e)) t at is = entry_walks ended m e t at is
 
 -- ---- Steps
 
 op_row_leads : (x : Setting) (main : Main) (s : Core) (n : ℕ) (l : Label) (next : Turn) (ch : Choice) (o : Op) → op_of x.component n s ≡ o → Leads (running_scene x main s n l next) s (op_row x.component n s ch o)
-op_row_leads x main s n l next ch (op.Data o) is = data_row_leads x main s n l next (refl, op_stands x.component n s (ap is_exit_op is)) o
-op_row_leads x main s n l next ch (op.Task o) is = task_row_leads x main s n l next ch o is
-op_row_leads x main s n l next ch (op.Set o) is = set_row_leads x main s n l next (refl, op_stands x.component n s (ap is_exit_op is)) ch o is
-op_row_leads x main s n l next ch (op.Call o) is = subtask_row_leads x main s n l next (refl, op_stands x.component n s (ap is_exit_op is)) o is
-op_row_leads x main s n l next ch (op.Thread o) is = thread_row_leads x main s n l next (refl, op_stands x.component n s (ap is_exit_op is)) o is
+op_row_leads x main s n l next ch (Op.Data o) is = data_row_leads x main s n l next (refl, op_stands x.component n s (ap is_exit_op is)) o
+op_row_leads x main s n l next ch (Op.Task o) is = task_row_leads x main s n l next ch o is
+op_row_leads x main s n l next ch (Op.Set o) is = set_row_leads x main s n l next (refl, op_stands x.component n s (ap is_exit_op is)) ch o is
+op_row_leads x main s n l next ch (Op.Call o) is = subtask_row_leads x main s n l next (refl, op_stands x.component n s (ap is_exit_op is)) o is
+op_row_leads x main s n l next ch (Op.Thread o) is = thread_row_leads x main s n l next (refl, op_stands x.component n s (ap is_exit_op is)) o is
 
 did_leads : (x : Setting) (main : Main) (s : Core) (n : ℕ) (l : Label) (next : Turn) (ch : Choice) → Leads (running_scene x main s n l next) s (did x.component n s ch)
 unfolding did
@@ -426,11 +407,11 @@ did_leads x main s n l next ch = op_row_leads x main s n l next ch (op_of x.comp
 
 run_walks : (x : Setting) (s : State) (n : ℕ) (l : Label) (t : State) → Progresses s s.core n (did x.component n s.core (choice_of l)) l t → WalkedBy (λ next. running_scene x s.main s.core n l next) s.core s.main t
 run_walks x s n l t is =
-    progresses_walk x s l (turn.Run n) s.core n (λ u. NoWord) (did x.component n s.core (choice_of l)) t (λ u. did_leads x s.main s.core n l u (choice_of l)) is
+    progresses_walk x s l (Turn.Run n) s.core n (λ u. NoWord) (did x.component n s.core (choice_of l)) t (λ u. did_leads x s.main s.core n l u (choice_of l)) is
 
-main_step_walks : (x : Setting) (s : State) (l : Label) (m : Main) (t : State) → s.main ≡ m → MainStep x s m l t → WalkedBy (idle_scene x s l turn.Main s.core) s.core s.main t
+main_step_walks : (x : Setting) (s : State) (l : Label) (m : Main) (t : State) → s.main ≡ m → MainStep x s m l t → WalkedBy (idle_scene x s l Turn.Main s.core) s.core s.main t
 main_step_walks x s l (Scripted p) t at is = script_step_walks x s l p (op_at x.script p) t at refl is
-main_step_walks x s (label.Loop loop_label.MainPends) Unscripted t at is = pends_here x s (label.Loop loop_label.MainPends) t refl is
+main_step_walks x s (Label.Loop LoopLabel.MainPends) Unscripted t at is = pends_here x s (Label.Loop LoopLabel.MainPends) t refl is
 main_step_walks x s l Unscripted t at is = open_act_walks x s l is.0 is.1.0 t at is.1.1
 
 -- the scene of the step, at its turn
@@ -438,11 +419,11 @@ abbrev scene_at_turn : Setting → State → Label → Turn → Turn → Scene
 scene_at_turn x s l u next = record { setting = x; main = s.main; turn = u; base = base_at u s.core; runner = runner_at u s.core; label = l; next = next }
 
 turn_step_walks : (x : Setting) (s : State) (u : Turn) (l : Label) (t : State) → TurnStep x s u l t → WalkedBy (scene_at_turn x s l u) s.core s.main t
-turn_step_walks x s turn.Main l t is = main_step_walks x s l s.main t refl is
-turn_step_walks x s (turn.Futures n) l t is = futures_walk x s l n (next_polled n s.core) t refl is
-turn_step_walks x s (turn.Take ended) l t is = take_step_walks x s l ended (next_entry s.core) t refl is
-turn_step_walks x s (turn.Run n) l t is = run_walks x s n l t is
-turn_step_walks x s turn.Over l t is = absurd is
+turn_step_walks x s Turn.Main l t is = main_step_walks x s l s.main t refl is
+turn_step_walks x s (Turn.Futures n) l t is = futures_walk x s l n (next_polled n s.core) t refl is
+turn_step_walks x s (Turn.Take ended) l t is = take_step_walks x s l ended (next_entry s.core) t refl is
+turn_step_walks x s (Turn.Run n) l t is = run_walks x s n l t is
+turn_step_walks x s Turn.Over l t is = absurd is
 
 -- each step is a chain of words
 pub step_walks : StepsAreWalks

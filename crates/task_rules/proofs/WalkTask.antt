@@ -3,41 +3,24 @@ use Rattle.task_rules.proofs.ChainLemmas.{Going, Keep, keep_stay, trip_walk, sta
 use Rattle.task_rules.proofs.SayLemmas.{said_is}
 use Rattle.task_rules.proofs.MuteLemmas.{both_none, is_mute, mute_words, none_said, says_by, writes_by}
 use Rattle.task_rules.proofs.WalkEnds.{cancelled_rest, returned_rest, call_ends, ends_untold, ended_last, returned_last}
-use Rattle.task_rules.proofs.Machine.{[], Advance, advanced, and_parts, answered, ap, ap₂, arith, assigned, AwaitsEvent, backpressure_of, begun_holder, blocking_exit_row, blocking_exits, Bool, BySetHandle, Call, CallEnd, cancel_was_delivered, checked, Choice, code_exits, code_finds, code_kind_row, code_row, code_stops, code_wait_row, code_waits, code_yields, ComesAgain, Component, component_of, Core, data_row, direct_exit_to, direct_exits, end_for, end_reopens, ended, ends_activation, EndsActivation, EndsByExit, EndsCall, EndsOwn, EndWords, exit_label, exit_restores, exit_row_for, exit_stops, Exits, ExportKind, Fails, false, FindsEvent, foot_of, get, GivesUp, goal_of, Goes, GoesBack, handed_by, HandsOut, has_ended, has_event_for, HasSet, held_by_flag, holder_at_exit, if◌then◌else◌, implicit_exit_row, inl, inr, instance_of, is_async_lifted, is_at, is_code_op, is_direct, is_ending_exit, is_exit, is_explicit, is_holding, is_none, is_over, is_running, is_under, IsRunner, kind_exit_row, kind_of, Label, LastWords, Leaves, leaves_no_result, length, List, Main, may, may_tell, MayBar, MayEnd, MayOwe, min, Move, moved_to, nat_le, nat_lt, nat_tests, Never, None, not, NoWord, numbers, on_call, on_instance, on_thread, Op, op_in, op_of, Option, option_map_or, or_never, or_trap, Ordered, outcome_of_label, own_event_of, own_or_none, OwnEvent, passes_after_return, passes_after_stop, passes_check, Place, place_of, position_of, Progress, Put, Records, refl, register_of, Remains, ret_label, returned, returned_holder, ReturnsNow, saved_own_of, SaysEnd, Scene, script_of, set_at, set_backpressure, set_do_not_enter, set_do_not_suspend, set_end, set_how_far, set_place, SetBackpressure, SetDoNotEnter, SetDoNotSuspend, SetOwnEvent, SetRegister, SetSavedCallee, Setting, SetWord, skip_row, skipped, slice_get, Some, Status, Stops, stored, subst, Subtask, suc, sym, sync_exit_row, sync_exits, T, task_cancel_label, task_end, task_of, Then, Thread, thread_exit_row, Trap, trap_if, Traps, Trip, true, Turn, Uncovers, under_of, unwrap_or, value_of, Walk, Writes, WritesCall, WritesToo, written_by, zero, ℕ, ◌%◌, ◌&&◌, ◌*◌, ◌+◌, ◌-◌, ◌/◌, ◌==◌, ◌||◌, ◌∙◌, ◌∷◌, ◌≡◌, ◌≤◌, ◌⊎◌, SubtaskEnd, EndCall, is_told}
+use Rattle.task_rules.proofs.Machine.{[], Advance, advanced, and_parts, answered, ap, ap₂, arith, assigned, AwaitsEvent, backpressure_of, begun_holder, blocking_exit_row, blocking_exits, Bool, BySetHandle, Call, CallEnd, cancel_was_delivered, change-field, checked, Choice, code_exits, code_finds, code_kind_row, code_row, code_stops, code_wait_row, code_waits, code_yields, ComesAgain, Component, component_of, Core, data_row, Delivery, direct_exit_to, direct_exits, end_for, end_reopens, EndCall, ended, ends_activation, EndsActivation, EndsByExit, EndsCall, EndsOwn, EndWords, exit_label, exit_restores, exit_row_for, exit_stops, Exits, ExportKind, Fails, false, FindsEvent, foot_of, get, get-change, GivesUp, goal_of, Goes, GoesBack, handed_by, HandsOut, has_ended, has_event_for, HasSet, held_by_flag, holder_at_exit, HowFar, if◌then◌else◌, implicit_exit_row, inl, inr, instance_of, is_async_lifted, is_at, is_code_op, is_direct, is_ending_exit, is_exit, is_explicit, is_holding, is_none, is_over, is_running, is_told, is_under, IsRunner, kind_exit_row, kind_of, Label, LastWords, Leaves, leaves_no_result, length, List, Main, Mark, may, may_tell, MayBar, MayEnd, MayOwe, min, Move, moved_to, nat_le, nat_lt, nat_tests, Never, None, not, NoWord, numbers, on_call, on_instance, on_thread, Op, op_in, op_of, Option, option_map_or, or_never, or_trap, Ordered, outcome_of_label, own_event_of, own_or_none, OwnEvent, passes_after_return, passes_after_stop, passes_check, Place, place_of, position_of, Progress, Put, Records, refl, register_of, Remains, ret_label, returned, returned_holder, ReturnsNow, saved_own_of, SaysEnd, Scene, script_of, set_at, set_backpressure, set_do_not_enter, set_do_not_suspend, set_end, set_how_far, set_place, SetBackpressure, SetDoNotEnter, SetDoNotSuspend, SetOwnEvent, SetRegister, SetSavedCallee, Setting, SetWord, skip_row, skipped, slice_get, Some, Status, Stops, stored, subst, Subtask, SubtaskEnd, suc, sym, sync_exit_row, sync_exits, T, task_cancel_label, task_end, task_of, TaskOp, Then, Thread, thread_exit_row, Trap, trap_if, Traps, Trip, true, Turn, Uncovers, under_of, unwrap_or, value_of, Walk, Why, Writes, WritesCall, WritesToo, written_by, zero, ℕ, ◌%◌, ◌&&◌, ◌*◌, ◌+◌, ◌-◌, ◌/◌, ◌==◌, ◌||◌, ◌∙◌, ◌∷◌, ◌≡◌, ◌≤◌, ◌⊎◌}
+use Rattle.task_machine.specs.declared.label.DataLabel.{DataLabel}
+use Rattle.task_machine.specs.declared.label.TaskLabel.{TaskLabel}
 use Rattle.task_machine.specs.declared.op.DataOp.{DataOp}
-use Rattle.task_machine.specs.declared.op.TaskOp.{TaskOp}
 use Rattle.task_rules.specs.Task.{dec_from, dec_lowers, dec_opens, inc_raises, inc_row, ret_done, ret_row, task_cancel_done, task_cancel_row, task_row}
-use Rattle.task_machine.proofs.MapLemmas.{change-field}
-use Rattle.task_machine.proofs.CommuteLemmas.{get-change}
 use Rattle.task_rules.proofs.StopLemmas.{find_passes}
 use Rattle.task_rules.proofs.PlacingLemmas.{Shifted, shifted_calls, shifted_task, shifts_shifted, placing_shifted, shifted_after}
 use Rattle.task_rules.proofs.WalkMoves.{keep_position, ToldTo, checked_shifts, chosen_released, ended_walks, exits_trip, lands, released_shifts, shifted, stopped_shifts, told_to, word, Left, left_gone}
-use Rattle.task_machine.specs.declared.words.Status.TheVariants as status
-use Rattle.task_machine.specs.declared.component.ExportKind.TheVariants as kind
-use Rattle.task_machine.specs.declared.label.DataLabel.TheVariants as data_label
-use Rattle.task_machine.specs.declared.label.Label.TheVariants as label
-use Rattle.task_machine.specs.declared.label.TaskLabel.TheVariants as task_label
-use Rattle.task_machine.specs.declared.op.DataOp.TheVariants as data_op
-use Rattle.task_machine.specs.declared.op.Op.TheVariants as op
-use Rattle.task_machine.specs.declared.op.TaskOp.TheVariants as task_op
-use Rattle.task_machine.specs.declared.records.CallEnd.TheVariants as call_end
-use Rattle.task_machine.specs.declared.records.Delivery.TheVariants as delivery
-use Rattle.task_machine.specs.declared.records.HowFar.TheVariants as how_far
-use Rattle.task_machine.specs.declared.records.Place.TheVariants as place
-use Rattle.task_machine.specs.declared.records.Turn.TheVariants as turn
-use Rattle.task_machine.specs.declared.records.Why.TheVariants as why
-use Rattle.task_machine.specs.declared.trap.Trap.TheVariants as trap
-use Rattle.task_machine.specs.declared.words.Mark.TheVariants as mark
 use Rattle.task_rules.proofs.CallThreads.{LastEnds, last_of, last_shifted}
 
 -- ---- The op in its script
 
 -- a script's end is an exit, and so no other op
 abbrev pub is_exit_op : Op → Bool
-is_exit_op (op.Task task_op.Exit) = true
+is_exit_op (Op.Task TaskOp.Exit) = true
 is_exit_op _ = false
 
-in_script : (ops : List Op) (p : ℕ) → is_exit_op (unwrap_or (slice_get ops p) (op.Task task_op.Exit)) ≡ false → p + 1 ≤ length ops
+in_script : (ops : List Op) (p : ℕ) → is_exit_op (unwrap_or (slice_get ops p) (Op.Task TaskOp.Exit)) ≡ false → p + 1 ≤ length ops
 in_script [] p other = absurd (grind arith)
 in_script (o ∷ ops) zero other = grind arith
 in_script (o ∷ ops) (suc p) other = let rest = in_script ops p other in omega (arith, rest)
@@ -51,7 +34,7 @@ min_below a b = grind arith
 
 -- the thread runs, and there is an op at the place in its script at which it is in b
 abbrev pub Stands : Scene → Core → ℕ → Type 0
-Stands a b n = (a.turn ≡ turn.Run n) × (position_of n b + 1 ≤ length (script_of (component_of a) n a.base))
+Stands a b n = (a.turn ≡ Turn.Run n) × (position_of n b + 1 ≤ length (script_of (component_of a) n a.base))
 
 -- ---- What a row owes
 
@@ -61,8 +44,8 @@ seen x main u s n l next = record { setting = x; main = main; turn = u; base = s
 
 -- From b a chain of words leads to what the row comes to, where that shows the scene's label and leads to its turn.
 abbrev pub Leads : Scene → Core → Progress → Type 0
-Leads a b (Goes l new m) = a.label ≡ l → a.next ≡ turn.Run m → Trip a b new × LastWords a new
-Leads a b (Stops l new) = a.label ≡ l → a.next ≡ turn.Main → Trip a b new × LastWords a new
+Leads a b (Goes l new m) = a.label ≡ l → a.next ≡ Turn.Run m → Trip a b new × LastWords a new
+Leads a b (Stops l new) = a.label ≡ l → a.next ≡ Turn.Main → Trip a b new × LastWords a new
 Leads a b (Traps t) = Unit {0}
 Leads a b (Fails i) = Unit {0}
 Leads a b Never = Unit {0}
@@ -103,10 +86,10 @@ is_still a t k = is_plain a.base k && is_mute a t k
 abbrev SaysTask : Component → Main → ℕ → Status → Core → Core → Label → Type 0
 SaysTask c m n f s t k = (is_plain s k ≡ true) × ((written_by c s k t ≡ task_end n f s) × (handed_by c m s k t ≡ None))
 
-ret_is : (c : Component) (m : Main) (n v : ℕ) (w : Option ℕ) (s t : Core) → SaysTask c m n status.Returned s t (ret_label n v w)
+ret_is : (c : Component) (m : Main) (n v : ℕ) (w : Option ℕ) (s t : Core) → SaysTask c m n Status.Returned s t (ret_label n v w)
 ret_is c m n v w s t = (grind arith, (grind arith, grind arith))
 
-task_cancel_is : (c : Component) (m : Main) (n : ℕ) (w : Option ℕ) (s t : Core) → SaysTask c m n status.ReturnCancelled s t (task_cancel_label n w)
+task_cancel_is : (c : Component) (m : Main) (n : ℕ) (w : Option ℕ) (s t : Core) → SaysTask c m n Status.ReturnCancelled s t (task_cancel_label n w)
 task_cancel_is c m n w s t = (grind arith, (grind arith, grind arith))
 
 -- the call of which an end speaks
@@ -120,10 +103,10 @@ exit_is n w s = (grind arith, (grind arith, grind arith))
 pub none_is_some : {X : Type 0} {A : Type 0} (x : X) → None ≡ Some x → A
 none_is_some x h = absurd (grind arith)
 
-pub one_runner : (n m : ℕ) → turn.Run n ≡ turn.Run m → n ≡ m
+pub one_runner : (n m : ℕ) → Turn.Run n ≡ Turn.Run m → n ≡ m
 one_runner n m e = grind arith
 
-pub not_main : {A : Type 0} (n : ℕ) → turn.Main ≡ turn.Run n → A
+pub not_main : {A : Type 0} (n : ℕ) → Turn.Main ≡ Turn.Run n → A
 not_main n e = absurd (grind arith)
 
 pub unnot : (c : Bool) → not c ≡ false → c ≡ true
@@ -133,8 +116,8 @@ pub moved_passes : (test : Place → Bool) (p : Place) → test p ≡ true → (
 unfolding set_place on_thread
 moved_passes test p passes m t = grind (arith, nat_tests, get-change)
 
-pub running_moved : (m : ℕ) (t : Core) → option_map_or is_running (place_of m (set_place m place.Running t)) true ≡ true
-running_moved m t = moved_passes is_running place.Running refl m t
+pub running_moved : (m : ℕ) (t : Core) → option_map_or is_running (place_of m (set_place m Place.Running t)) true ≡ true
+running_moved m t = moved_passes is_running Place.Running refl m t
 
 reopened_shifted : (i : ℕ) (order : List ℕ) (s : Core) → Shifted (set_do_not_enter i false s) (end_reopens i order s)
 unfolding end_reopens
@@ -150,14 +133,14 @@ code_stops_last n order s last =
 untold : (k : ℕ) (s : Core) → is_direct (goal_of k s) ≡ true → is_told k s ≡ false
 untold k s direct = grind arith
 
-still_gone : (n m v : ℕ) (t : Core) → get t.threads n ≡ None → get (set_how_far m (how_far.Answered v) (set_place m place.Running t)).threads n ≡ None
+still_gone : (n m v : ℕ) (t : Core) → get t.threads n ≡ None → get (set_how_far m (HowFar.Answered v) (set_place m Place.Running t)).threads n ≡ None
 unfolding set_how_far set_place on_thread
 still_gone n m v t gone = grind (arith, nat_tests, get-change, gone)
 
 module _ {a : Scene} {b : Core} (n : ℕ) (is : IsRunner a n) where
   -- ---- Registers and words
 
-  pub moved_to_walks : (p : ℕ) {t : Core} → a.turn ≡ turn.Run n → p ≤ length (script_of (component_of a) n a.base) → Keep a b t → Going a b n (moved_to n p t)
+  pub moved_to_walks : (p : ℕ) {t : Core} → a.turn ≡ Turn.Run n → p ≤ length (script_of (component_of a) n a.base) → Keep a b t → Going a b n (moved_to n p t)
   unfolding moved_to
   moved_to_walks p {t = t} runs within c = λ to. Then t (Advance n p) (keep_stay c) (is, (runs, (to, within)))
 
@@ -183,52 +166,52 @@ module _ {a : Scene} {b : Core} (n : ℕ) (is : IsRunner a n) where
   unfolding exit_stops
   exit_stops_walks {t = t} last c = ended_walks n (last_shifted n (shifted_after (shifts_shifted (checked_shifts (instance_of n t) t)) (shifts_shifted (stopped_shifts (foot_of n t) (checked (instance_of n t) t)))) last) (shifted (stopped_shifts (foot_of n t) (checked (instance_of n t) t)) (shifted (checked_shifts (instance_of n t) t) c))
 
-  sync_exits_walks : (w : Option ℕ) (t : Core) → SaysEnd a (task_of n t) status.Returned → ToldTo (task_of n t) w (exit_restores n t) → Keep a b (call_ends (task_of n t) call_end.Returned (exit_restores n t)) → Left a b n (sync_exits n w t)
+  sync_exits_walks : (w : Option ℕ) (t : Core) → SaysEnd a (task_of n t) Status.Returned → ToldTo (task_of n t) w (exit_restores n t) → Keep a b (call_ends (task_of n t) CallEnd.Returned (exit_restores n t)) → Left a b n (sync_exits n w t)
   unfolding sync_exits exit_restores set_do_not_suspend on_instance
   sync_exits_walks w t says to c =
       let r = returned (task_of n t) (register_of n 0 t) w (exit_restores n t) in
       ended_walks n (last_shifted n (shifts_shifted (stopped_shifts (foot_of n t) r)) (returned_last n (task_of n t) (register_of n 0 t) w (exit_restores n t) to refl)) (shifted (stopped_shifts (foot_of n t) r) (returned_rest (task_of n t) (register_of n 0 t) w (exit_restores n t) says to c))
 
-  blocking_exits_walks : (w : Option ℕ) (order : List ℕ) (t : Core) → SaysEnd a (task_of n t) status.Returned → ToldTo (task_of n t) w (end_reopens (instance_of n t) order t) → Keep a b (call_ends (task_of n t) call_end.Returned (end_reopens (instance_of n t) order t)) → Left a b n (blocking_exits n w order t)
+  blocking_exits_walks : (w : Option ℕ) (order : List ℕ) (t : Core) → SaysEnd a (task_of n t) Status.Returned → ToldTo (task_of n t) w (end_reopens (instance_of n t) order t) → Keep a b (call_ends (task_of n t) CallEnd.Returned (end_reopens (instance_of n t) order t)) → Left a b n (blocking_exits n w order t)
   unfolding blocking_exits set_do_not_enter on_instance
   blocking_exits_walks w order t says to c =
       let r = end_reopens (instance_of n t) order t in
       exit_stops_walks (returned_last n (task_of n t) (register_of n 0 t) w r to (shifted_task (reopened_shifted (instance_of n t) order t) n)) (returned_rest (task_of n t) (register_of n 0 t) w r says to c)
 
   -- the thread m goes on, under which n ran
-  direct_exits_walks : (m v : ℕ) (t : Core) → is_direct (goal_of (task_of n t) t) ≡ true → a.turn ≡ turn.Run n → a.next ≡ turn.Run m → place_of m a.base ≡ Some (place.Under n) → Keep a b (call_ends (task_of n t) call_end.Returned t) → Trip a b (direct_exits n m v t) × (get (direct_exits n m v t).threads n ≡ None)
+  direct_exits_walks : (m v : ℕ) (t : Core) → is_direct (goal_of (task_of n t) t) ≡ true → a.turn ≡ Turn.Run n → a.next ≡ Turn.Run m → place_of m a.base ≡ Some (Place.Under n) → Keep a b (call_ends (task_of n t) CallEnd.Returned t) → Trip a b (direct_exits n m v t) × (get (direct_exits n m v t).threads n ≡ None)
   unfolding direct_exits set_how_far on_thread
   direct_exits_walks m v t direct runs to under c =
-      let u = set_end (task_of n t) call_end.Returned t in
-      let e = ended_walks n (ended_last n (task_of n t) call_end.Returned t refl) (subst (λ (u : Core). Keep a b u) (sym (ends_untold (task_of n t) call_end.Returned t (untold (task_of n t) t direct))) c) in
+      let u = set_end (task_of n t) CallEnd.Returned t in
+      let e = ended_walks n (ended_last n (task_of n t) CallEnd.Returned t refl) (subst (λ (u : Core). Keep a b u) (sym (ends_untold (task_of n t) CallEnd.Returned t (untold (task_of n t) t direct))) c) in
       let gone = left_gone n e in
-      (subst (λ (y : Core). Trip a b (set_how_far m (how_far.Answered v) y)) (placing_shifted (Move m place.Running) (ended n u)).only (GoesBack e.before (ended n u) n m v (keep_stay e.stays) is runs to under e.settles (Uncovers n is to under (ap (λ (o : Option Thread). is_none o) gone) refl)), still_gone n m v (ended n u) gone)
+      (subst (λ (y : Core). Trip a b (set_how_far m (HowFar.Answered v) y)) (placing_shifted (Move m Place.Running) (ended n u)).only (GoesBack e.before (ended n u) n m v (keep_stay e.stays) is runs to under e.settles (Uncovers n is to under (ap (λ (o : Option Thread). is_none o) gone) refl)), still_gone n m v (ended n u) gone)
 
   code_stops_walks : (order : List ℕ) {t : Core} → MayBar a (instance_of n t) false → Keep a b t → Keep a b (code_stops n order t)
   unfolding code_stops
   code_stops_walks order {t = t} bar c = shifted (stopped_shifts (foot_of n t) (end_reopens (instance_of n t) order t)) (reopens_walks (instance_of n t) order bar c)
 
 -- the thread that is under n
-pub under_place : (n m : ℕ) (s : Core) → under_of n s ≡ Some m → place_of m s ≡ Some (place.Under n)
+pub under_place : (n m : ℕ) (s : Core) → under_of n s ≡ Some m → place_of m s ≡ Some (Place.Under n)
 unfolding under_of
 under_place n m s h = grind (arith, nat_tests, find_passes (λ k. is_at k s (is_under n)) (numbers s.threads) m)
 
 direct_exits_runs : (n m v : ℕ) (t : Core) → option_map_or is_running (place_of m (direct_exits n m v t)) true ≡ true
 unfolding direct_exits set_how_far on_thread
 direct_exits_runs n m v t =
-    let u = set_place m place.Running (ended n (set_end (task_of n t) call_end.Returned t)) in
-    ap (λ (o : Option Place). option_map_or is_running o true) (change-field (λ r. r.place) m (λ r. record r { how_far = how_far.Answered v }) (λ r. refl) u.threads m) ∙ running_moved m (ended n (set_end (task_of n t) call_end.Returned t))
+    let u = set_place m Place.Running (ended n (set_end (task_of n t) CallEnd.Returned t)) in
+    ap (λ (o : Option Place). option_map_or is_running o true) (change-field (λ r. r.place) m (λ r. record r { how_far = HowFar.Answered v }) (λ r. refl) u.threads m) ∙ running_moved m (ended n (set_end (task_of n t) CallEnd.Returned t))
 
 -- ---- The running thread
 
 module _ (x : Setting) (main : Main) (s : Core) (n : ℕ) (l : Label) (next : Turn) where
   abbrev pub running_scene : Scene
-  running_scene = seen x main (turn.Run n) s n l next
+  running_scene = seen x main (Turn.Run n) s n l next
 
   abbrev a : Scene
   a = running_scene
 
-  quiet_ends : {k : Label} {t : Core} → l ≡ k → is_quiet s k ≡ true → ((m : ℕ) → next ≡ turn.Run m → (turn.Run n ≡ turn.Run m) ⊎ (option_map_or is_running (place_of m t) true ≡ true)) → (is_exit k ≡ true → get t.threads n ≡ None) → EndWords a t → LastWords a t
+  quiet_ends : {k : Label} {t : Core} → l ≡ k → is_quiet s k ≡ true → ((m : ℕ) → next ≡ Turn.Run m → (Turn.Run n ≡ Turn.Run m) ⊎ (option_map_or is_running (place_of m t) true ≡ true)) → (is_exit k ≡ true → get t.threads n ≡ None) → EndWords a t → LastWords a t
   quiet_ends {k = k} {t = t} is quiet runs gone says =
       let p = both_none (outcome_of_label k) (begun_holder s k) quiet in
       record {
@@ -241,7 +224,7 @@ module _ (x : Setting) (main : Main) (s : Core) (n : ℕ) (l : Label) (next : Tu
       }
 
   -- n goes on, as the label says
-  pub goes_on_told : (k : Label) (t : Core) → is_plain s k ≡ true → (l ≡ k → next ≡ turn.Run n → EndWords a t) → (l ≡ k → Going a s n t) → Leads a s (Goes k t n)
+  pub goes_on_told : (k : Label) (t : Core) → is_plain s k ≡ true → (l ≡ k → next ≡ Turn.Run n → EndWords a t) → (l ≡ k → Going a s n t) → Leads a s (Goes k t n)
   goes_on_told k t plain says c is to =
       let p = and_parts (is_quiet s k) (not (is_exit k)) plain in
       (Remains t (c is to) (λ m at. sym to ∙ at), quiet_ends is p.0 (λ m at. inl (sym to ∙ at)) (λ exit. absurd (subst T (sym p.1 ∙ ap not exit) tt)) (says is to))
@@ -266,30 +249,30 @@ module _ (x : Setting) (main : Main) (s : Core) (n : ℕ) (l : Label) (next : Tu
       stops_so k t p.0 (λ is leave. mute_words a t is r.1) (λ is leave. (c leave, λ exit. absurd (subst T (sym p.1 ∙ ap not exit) tt)))
 
   -- another thread, which runs now, goes on
-  pub goes_over : (k : Label) (m : ℕ) (t : Core) → is_quiet s k ≡ true → (turn.Run n ≡ turn.Run m) ⊎ (option_map_or is_running (place_of m t) true ≡ true) → (l ≡ k → EndWords a t) → (l ≡ k → next ≡ turn.Run m → Trip a s t × (is_exit k ≡ true → get t.threads n ≡ None)) → Leads a s (Goes k t m)
+  pub goes_over : (k : Label) (m : ℕ) (t : Core) → is_quiet s k ≡ true → (Turn.Run n ≡ Turn.Run m) ⊎ (option_map_or is_running (place_of m t) true ≡ true) → (l ≡ k → EndWords a t) → (l ≡ k → next ≡ Turn.Run m → Trip a s t × (is_exit k ≡ true → get t.threads n ≡ None)) → Leads a s (Goes k t m)
   goes_over k m t quiet runs says c is to =
       let r = c is to in
-      (r.0, quiet_ends is quiet (λ j at. subst (λ (i : ℕ). (turn.Run n ≡ turn.Run i) ⊎ (option_map_or is_running (place_of i t) true ≡ true)) (one_runner m j (sym to ∙ at)) runs) r.1 (says is))
+      (r.0, quiet_ends is quiet (λ j at. subst (λ (i : ℕ). (Turn.Run n ≡ Turn.Run i) ⊎ (option_map_or is_running (place_of i t) true ≡ true)) (one_runner m j (sym to ∙ at)) runs) r.1 (says is))
 
   -- ---- The ops on registers and words
 
   skip_row_leads : Stands a s n → (ops : ℕ) (b : Bool) → Leads a s (skip_row x.component n ops s b)
   unfolding skipped
-  skip_row_leads on ops true = goes_on (label.Data (data_label.SkipEq n)) (skipped x.component n ops s) refl (moved_to_walks n refl (min (position_of n s + 1 + ops) (length (script_of x.component n s))) refl (min_below _ _) NoWord)
-  skip_row_leads on ops false = goes_on (label.Data (data_label.SkipEq n)) (advanced n s) refl (advanced_walks n refl on NoWord)
+  skip_row_leads on ops true = goes_on (Label.Data (DataLabel.SkipEq n)) (skipped x.component n ops s) refl (moved_to_walks n refl (min (position_of n s + 1 + ops) (length (script_of x.component n s))) refl (min_below _ _) NoWord)
+  skip_row_leads on ops false = goes_on (Label.Data (DataLabel.SkipEq n)) (advanced n s) refl (advanced_walks n refl on NoWord)
 
   pub data_row_leads : Stands a s n → (o : DataOp) → Leads a s (data_row x.component n s o)
   unfolding stored
-  data_row_leads on (data_op.Store w y) = goes_on _ _ refl (advanced_walks n refl on (word (SetWord (instance_of n s) w (value_of n s y)) tt NoWord))
-  data_row_leads on (data_op.SkipEq y z ops) = skip_row_leads on ops (value_of n s y == value_of n s z)
+  data_row_leads on (DataOp.Store w y) = goes_on _ _ refl (advanced_walks n refl on (word (SetWord (instance_of n s) w (value_of n s y)) tt NoWord))
+  data_row_leads on (DataOp.SkipEq y z ops) = skip_row_leads on ops (value_of n s y == value_of n s z)
   data_row_leads on o = goes_on _ _ refl (assigned_walks n refl on _ _ NoWord)
 
   -- ---- Exits
 
-  exit_ends : (w : Option ℕ) (t : Core) → is_explicit n s ≡ false → (is_direct (goal_of (task_of n s) s) ≡ true) ⊎ (is_async_lifted (kind_of (task_of n s) s) ≡ false) → written_by x.component s (exit_label n w) t ≡ task_end n status.Returned s
+  exit_ends : (w : Option ℕ) (t : Core) → is_explicit n s ≡ false → (is_direct (goal_of (task_of n s) s) ≡ true) ⊎ (is_async_lifted (kind_of (task_of n s) s) ≡ false) → written_by x.component s (exit_label n w) t ≡ task_end n Status.Returned s
   exit_ends w t implicit kind = grind (arith, implicit, kind)
 
-  exit_says : (t : Core) (w : Option ℕ) → l ≡ exit_label n w → is_explicit n s ≡ false → (is_direct (goal_of (task_of n s) s) ≡ true) ⊎ (is_async_lifted (kind_of (task_of n s) s) ≡ false) → written_by x.component s l t ≡ task_end n status.Returned s
+  exit_says : (t : Core) (w : Option ℕ) → l ≡ exit_label n w → is_explicit n s ≡ false → (is_direct (goal_of (task_of n s) s) ≡ true) ⊎ (is_async_lifted (kind_of (task_of n s) s) ≡ false) → written_by x.component s l t ≡ task_end n Status.Returned s
   exit_says t w is implicit kind = ap (λ (k : Label). written_by x.component s k t) is ∙ exit_ends w t implicit kind
 
   -- the label says an end of the task
@@ -302,15 +285,15 @@ module _ (x : Setting) (main : Main) (s : Core) (n : ℕ) (l : Label) (next : Tu
 
   -- an exit that ends the task
   exit_says_end : (w : Option ℕ) (t : Core) → l ≡ exit_label n w → is_explicit n s ≡ false → is_async_lifted (kind_of (task_of n s) s) ≡ false → is_direct (goal_of (task_of n s) s) ≡ false → (u : Core) → is_over (task_of n s) u ≡ true → Walk a u t → EndWords a t
-  exit_says_end w t is implicit kind direct u over c = writes_by a t is (grind (arith, direct)) (writes_task status.Returned t u (exit_ends w t implicit (inr kind)) (EndsByExit (n, (refl, (refl, (implicit, inr kind))))) over c)
+  exit_says_end w t is implicit kind direct u over c = writes_by a t is (grind (arith, direct)) (writes_task Status.Returned t u (exit_ends w t implicit (inr kind)) (EndsByExit (n, (refl, (refl, (implicit, inr kind))))) over c)
 
   thread_exit_row_leads : is_ending_exit n s ≡ false → Leads a s (thread_exit_row n s)
   thread_exit_row_leads none =
-      trap_if_leads a s (not (passes_check (instance_of n s) s)) trap.CannotBlockSyncTask _ (λ e.
-      trap_if_leads a s (leaves_no_result n s) trap.NoAsyncResult _ (λ f.
+      trap_if_leads a s (not (passes_check (instance_of n s) s)) Trap.CannotBlockSyncTask _ (λ e.
+      trap_if_leads a s (leaves_no_result n s) Trap.NoAsyncResult _ (λ f.
       gone_here (exit_label n None) (exit_stops n s) refl (λ is leave. exit_is_none (exit_stops n s) none is) (λ is. exit_stops_walks n refl (last_of n s f) NoWord)))
 
-  exits : (w : Option ℕ) (t : Core) → l ≡ exit_label n w → is_explicit n s ≡ false → (is_direct (goal_of (task_of n s) s) ≡ true) ⊎ (is_async_lifted (kind_of (task_of n s) s) ≡ false) → t.calls ≡ s.calls → MayEnd a (task_of n s) call_end.Returned t
+  exits : (w : Option ℕ) (t : Core) → l ≡ exit_label n w → is_explicit n s ≡ false → (is_direct (goal_of (task_of n s) s) ≡ true) ⊎ (is_async_lifted (kind_of (task_of n s) s) ≡ false) → t.calls ≡ s.calls → MayEnd a (task_of n s) CallEnd.Returned t
   exits w t is implicit kind same = Exits n refl refl (ap is_exit is ∙ (exit_is n w s).1.0) refl implicit kind (ap (λ (m : Records Call). get m (task_of n s)) same) refl
 
   sync_exit_row_leads : (w : Option ℕ) → is_explicit n s ≡ false → is_async_lifted (kind_of (task_of n s) s) ≡ false → is_direct (goal_of (task_of n s) s) ≡ false → Leads a s (sync_exit_row n w s)
@@ -321,8 +304,8 @@ module _ (x : Setting) (main : Main) (s : Core) (n : ℕ) (l : Label) (next : Tu
       let t = exit_restores n s in
       let told = told_to k w s may in
       gone_here (exit_label n w) (sync_exits n w s) (exit_is n w s).0
-      (λ at leave. exit_says_end w (sync_exits n w s) at implicit kind direct (call_ends k call_end.Returned t) (over_now k call_end.Returned t) (trip_walk (exits_trip n leave (sync_exits_walks n refl w s (exit_says s w at implicit (inr kind)) told NoWord))))
-      (λ at. sync_exits_walks n refl w s (exit_says s w at implicit (inr kind)) told (word (EndCall k call_end.Returned) (exits w t at implicit (inr kind) refl, exit_says s w at implicit (inr kind)) (word (SetDoNotSuspend (instance_of n s) (unwrap_or (saved_own_of n s) false)) tt NoWord))))
+      (λ at leave. exit_says_end w (sync_exits n w s) at implicit kind direct (call_ends k CallEnd.Returned t) (over_now k CallEnd.Returned t) (trip_walk (exits_trip n leave (sync_exits_walks n refl w s (exit_says s w at implicit (inr kind)) told NoWord))))
+      (λ at. sync_exits_walks n refl w s (exit_says s w at implicit (inr kind)) told (word (EndCall k CallEnd.Returned) (exits w t at implicit (inr kind) refl, exit_says s w at implicit (inr kind)) (word (SetDoNotSuspend (instance_of n s) (unwrap_or (saved_own_of n s) false)) tt NoWord))))
 
   -- where a holding entry returns
   bars : (w : Option ℕ) → l ≡ exit_label n w → is_explicit n s ≡ false → is_holding (kind_of (task_of n s) s) ≡ true → is_direct (goal_of (task_of n s) s) ≡ false → MayBar a (instance_of n s) false
@@ -331,10 +314,10 @@ module _ (x : Setting) (main : Main) (s : Core) (n : ℕ) (l : Label) (next : Tu
       all_three : (e h d : Bool) → e ≡ false → h ≡ true → d ≡ false → (not e && (h && not d)) ≡ true
       all_three e h d p q r = grind arith
 
-  blocking_exit_row_leads : (w : Option ℕ) → is_explicit n s ≡ false → kind_of (task_of n s) s ≡ kind.Blocking → is_direct (goal_of (task_of n s) s) ≡ false → Leads a s (blocking_exit_row n w s)
+  blocking_exit_row_leads : (w : Option ℕ) → is_explicit n s ≡ false → kind_of (task_of n s) s ≡ ExportKind.Blocking → is_direct (goal_of (task_of n s) s) ≡ false → Leads a s (blocking_exit_row n w s)
   unfolding end_reopens set_do_not_enter on_instance
   blocking_exit_row_leads w implicit kind direct =
-      trap_if_leads a s (not (passes_after_return n w s)) trap.CannotBlockSyncTask _ (λ e.
+      trap_if_leads a s (not (passes_after_return n w s)) Trap.CannotBlockSyncTask _ (λ e.
       may_leads a s (may_tell (task_of n s) w s) _ (λ may order.
       let i = instance_of n s in
       let k = task_of n s in
@@ -343,31 +326,31 @@ module _ (x : Setting) (main : Main) (s : Core) (n : ℕ) (l : Label) (next : Tu
       let lifted : is_async_lifted (kind_of (task_of n s) s) ≡ false = ap (λ y. is_async_lifted y) kind in
       let told : ToldTo k w t = λ is y at. chosen_released order y w (set_do_not_enter i false s) (told_to k w s may (grind (arith, is, same)) y (grind (arith, at, same))) in
       gone_here (exit_label n w) (blocking_exits n w order s) (exit_is n w s).0
-      (λ at leave. exit_says_end w (blocking_exits n w order s) at implicit lifted direct (call_ends k call_end.Returned t) (over_now k call_end.Returned t) (trip_walk (exits_trip n leave (blocking_exits_walks n refl w order s (exit_says s w at implicit (inr lifted)) told NoWord))))
-      (λ at. blocking_exits_walks n refl w order s (exit_says s w at implicit (inr lifted)) told (word (EndCall k call_end.Returned) (exits w t at implicit (inr lifted) same, exit_says s w at implicit (inr lifted)) (reopens_walks n refl i order (bars w at implicit (ap (λ y. is_holding y) kind) direct) NoWord)))))
+      (λ at leave. exit_says_end w (blocking_exits n w order s) at implicit lifted direct (call_ends k CallEnd.Returned t) (over_now k CallEnd.Returned t) (trip_walk (exits_trip n leave (blocking_exits_walks n refl w order s (exit_says s w at implicit (inr lifted)) told NoWord))))
+      (λ at. blocking_exits_walks n refl w order s (exit_says s w at implicit (inr lifted)) told (word (EndCall k CallEnd.Returned) (exits w t at implicit (inr lifted) same, exit_says s w at implicit (inr lifted)) (reopens_walks n refl i order (bars w at implicit (ap (λ y. is_holding y) kind) direct) NoWord)))))
 
   direct_leads : (m : ℕ) (t : Core) → under_of n s ≡ Some m → is_explicit n s ≡ false → is_direct (goal_of (task_of n s) s) ≡ true → task_of n t ≡ task_of n s → t.calls ≡ s.calls → Keep a s t → Leads a s (Goes (exit_label n None) (direct_exits n m (register_of n 0 s) t) m)
   direct_leads m t under implicit direct task calls c =
       let v = register_of n 0 s in
       let k = task_of n s in
       let is_so : is_direct (goal_of (task_of n t) t) ≡ true = grind arith in
-      let says : l ≡ exit_label n None → SaysEnd a (task_of n t) status.Returned = λ is. subst (λ (k : ℕ). SaysEnd a k status.Returned) (sym task) (exit_says s None is implicit (inl direct)) in
+      let says : l ≡ exit_label n None → SaysEnd a (task_of n t) Status.Returned = λ is. subst (λ (k : ℕ). SaysEnd a k Status.Returned) (sym task) (exit_says s None is implicit (inl direct)) in
       λ here over.
       goes_over (exit_label n None) m (direct_exits n m v t) refl (inr (direct_exits_runs n m v t))
       (λ at. says_by a _ at
-      (writes_task status.Returned _ (call_ends (task_of n t) call_end.Returned t) (exit_ends None (direct_exits n m v t) implicit (inl direct)) (EndsByExit (n, (refl, (refl, (implicit, inl direct))))) (subst (λ (i : ℕ). is_over k (call_ends i call_end.Returned t) ≡ true) (sym task) (over_now k call_end.Returned t)) (trip_walk (direct_exits_walks n refl m v t is_so refl over (under_place n m s under) NoWord).0))
-      (λ sub e out. said_is (HandsOut a (direct_exits n m v t)) (sym (ap₂ (λ (f g : Bool). if not f && g then task_end n status.Returned s else None) implicit direct) ∙ out) (WritesToo k status.Returned (exit_says s None at implicit (inl direct)) (inl direct))))
+      (writes_task Status.Returned _ (call_ends (task_of n t) CallEnd.Returned t) (exit_ends None (direct_exits n m v t) implicit (inl direct)) (EndsByExit (n, (refl, (refl, (implicit, inl direct))))) (subst (λ (i : ℕ). is_over k (call_ends i CallEnd.Returned t) ≡ true) (sym task) (over_now k CallEnd.Returned t)) (trip_walk (direct_exits_walks n refl m v t is_so refl over (under_place n m s under) NoWord).0))
+      (λ sub e out. said_is (HandsOut a (direct_exits n m v t)) (sym (ap₂ (λ (f g : Bool). if not f && g then task_end n Status.Returned s else None) implicit direct) ∙ out) (WritesToo k Status.Returned (exit_says s None at implicit (inl direct)) (inl direct))))
       (λ is to.
-      let r = direct_exits_walks n refl m v t is_so refl to (under_place n m s under) (word (EndCall (task_of n t) call_end.Returned) (subst (λ (k : ℕ). MayEnd a k call_end.Returned t) (sym task) (exits None t is implicit (inl direct) calls), says is) c) in
+      let r = direct_exits_walks n refl m v t is_so refl to (under_place n m s under) (word (EndCall (task_of n t) CallEnd.Returned) (subst (λ (k : ℕ). MayEnd a k CallEnd.Returned t) (sym task) (exits None t is implicit (inl direct) calls), says is) c) in
       (r.0, λ exit. r.1)) here over
 
   direct_exit_to_leads : (k : ExportKind) (o : Option ℕ) → under_of n s ≡ o → is_explicit n s ≡ false → is_direct (goal_of (task_of n s) s) ≡ true → Leads a s (direct_exit_to n k s o)
   unfolding exit_restores set_do_not_suspend on_instance
   direct_exit_to_leads k None under implicit direct = tt
-  direct_exit_to_leads kind.Sync (Some m) under implicit direct = direct_leads m (exit_restores n s) under implicit direct refl refl (word (SetDoNotSuspend (instance_of n s) (unwrap_or (saved_own_of n s) false)) tt NoWord)
+  direct_exit_to_leads ExportKind.Sync (Some m) under implicit direct = direct_leads m (exit_restores n s) under implicit direct refl refl (word (SetDoNotSuspend (instance_of n s) (unwrap_or (saved_own_of n s) false)) tt NoWord)
   direct_exit_to_leads k (Some m) under implicit direct =
       let h : Shifted s (checked (instance_of n s) s) = shifts_shifted (checked_shifts (instance_of n s) s) in
-      trap_if_leads a s (not (passes_check (instance_of n s) s)) trap.CannotBlockSyncTask _ (λ e.
+      trap_if_leads a s (not (passes_check (instance_of n s) s)) Trap.CannotBlockSyncTask _ (λ e.
       direct_leads m (checked (instance_of n s) s) under implicit direct (shifted_task h n) (shifted_calls h) (shifted (checked_shifts (instance_of n s) s) NoWord))
 
   -- ---- The ends of activations
@@ -378,14 +361,14 @@ module _ (x : Setting) (main : Main) (s : Core) (n : ℕ) (l : Label) (next : Tu
 
   code_wait_row_leads : (k : Label) (y : ℕ) (held : List ℕ) (b : Bool) → ((t : Core) → is_still a t k ≡ true) → (l ≡ k → MayBar a (instance_of n s) false) → EndsActivation a n → HasSet a n y → Leads a s (code_wait_row k n y held s b)
   unfolding code_finds code_waits
-  code_wait_row_leads k y held true plain bar ends has = λ order is to. stops_here k (code_finds n y order s) (plain _) (λ leave. lands (Put mark.High n (why.Delivery (delivery.Set y))) (FindsEvent y leave ends has refl) (code_stops_walks n refl order (bar is) NoWord)) is to
-  code_wait_row_leads k y held false plain bar ends has = λ order is to. stops_here k (code_waits n y order s) (plain _) (λ leave. lands (Move n (place.Waiting y true)) (AwaitsEvent y leave ends has refl) (code_stops_walks n refl order (bar is) NoWord)) is to
+  code_wait_row_leads k y held true plain bar ends has = λ order is to. stops_here k (code_finds n y order s) (plain _) (λ leave. lands (Put Mark.High n (Why.Delivery (Delivery.Set y))) (FindsEvent y leave ends has refl) (code_stops_walks n refl order (bar is) NoWord)) is to
+  code_wait_row_leads k y held false plain bar ends has = λ order is to. stops_here k (code_waits n y order s) (plain _) (λ leave. lands (Move n (Place.Waiting y true)) (AwaitsEvent y leave ends has refl) (code_stops_walks n refl order (bar is) NoWord)) is to
 
   code_exits_leads : (k : Label) (held : List ℕ) → is_quiet s k ≡ true → ((t : Core) → l ≡ k → EndWords a t) → (l ≡ k → MayBar a (instance_of n s) false) → (rest : ℕ) → Leads a s (code_kind_row k n held s zero rest)
   unfolding code_exits
   code_exits_leads k held quiet says bar rest =
-      trap_if_leads a s (not (passes_after_stop (instance_of n s) (foot_of n s) held s)) trap.CannotBlockSyncTask _ (λ e.
-      trap_if_leads a s (leaves_no_result n s) trap.NoAsyncResult _ (λ f order.
+      trap_if_leads a s (not (passes_after_stop (instance_of n s) (foot_of n s) held s)) Trap.CannotBlockSyncTask _ (λ e.
+      trap_if_leads a s (leaves_no_result n s) Trap.NoAsyncResult _ (λ f order.
       let h = checked_shifts (instance_of n s) (code_stops n order s) in
       gone_here k (code_exits n order s) quiet (λ is leave. says (code_exits n order s) is) (λ is. ended_walks n (last_shifted n (shifts_shifted h) (code_stops_last n order s (last_of n s f))) (shifted h (code_stops_walks n refl order (bar is) NoWord)))))
 
@@ -393,21 +376,21 @@ module _ (x : Setting) (main : Main) (s : Core) (n : ℕ) (l : Label) (next : Tu
   unfolding code_yields
   code_kind_row_leads k held zero rest plain bar ends =
       code_exits_leads k held (and_parts (is_quiet s k) (not (is_exit k)) (and_parts (is_plain s k) (is_mute a s k) (plain s)).0).0 (λ t is. mute_words a t is (and_parts (is_plain s k) (is_mute a t k) (plain t)).1) bar rest
-  code_kind_row_leads k held (suc zero) rest plain bar ends = λ order is to. stops_here k (code_yields n order s) (plain _) (λ leave. lands (Put mark.Low n (why.Delivery delivery.Yield)) (ComesAgain leave ends refl) (word (SetOwnEvent (task_of n s) (own_or_none (own_event_of (task_of n s) s))) (owes (own_event_of (task_of n s) s) refl ends (code_stops n order s)) (code_stops_walks n refl order (bar is) NoWord))) is to
-  code_kind_row_leads k held (suc (suc zero)) rest plain bar ends = or_trap_leads a s (set_at (instance_of n s) rest s) trap.BadHandle _ (λ y named. code_wait_row_leads k y held (has_event_for (task_of n s) y s) plain bar ends (BySetHandle rest named))
+  code_kind_row_leads k held (suc zero) rest plain bar ends = λ order is to. stops_here k (code_yields n order s) (plain _) (λ leave. lands (Put Mark.Low n (Why.Delivery Delivery.Yield)) (ComesAgain leave ends refl) (word (SetOwnEvent (task_of n s) (own_or_none (own_event_of (task_of n s) s))) (owes (own_event_of (task_of n s) s) refl ends (code_stops n order s)) (code_stops_walks n refl order (bar is) NoWord))) is to
+  code_kind_row_leads k held (suc (suc zero)) rest plain bar ends = or_trap_leads a s (set_at (instance_of n s) rest s) Trap.BadHandle _ (λ y named. code_wait_row_leads k y held (has_event_for (task_of n s) y s) plain bar ends (BySetHandle rest named))
   code_kind_row_leads k held (suc (suc (suc low))) rest plain bar ends = tt
 
   code_row_leads : (k : Label) (code : ℕ) → ((t : Core) → is_still a t k ≡ true) → (l ≡ k → MayBar a (instance_of n s) false) → EndsActivation a n → Leads a s (code_row k n s code)
-  code_row_leads k code plain bar ends = trap_if_leads a s (nat_lt 4294967295 code) trap.UnsupportedCallbackCode _ (λ e. code_kind_row_leads k (held_by_flag (instance_of n s) s) (code % 16) (code / 16) plain bar ends)
+  code_row_leads k code plain bar ends = trap_if_leads a s (nat_lt 4294967295 code) Trap.UnsupportedCallbackCode _ (λ e. code_kind_row_leads k (held_by_flag (instance_of n s) s) (code % 16) (code / 16) plain bar ends)
 
   not_ending : is_explicit n s ≡ false → is_direct (goal_of (task_of n s) s) ≡ false → is_async_lifted (kind_of (task_of n s) s) ≡ true → is_ending_exit n s ≡ false
   not_ending implicit direct lifted = ap₂ (λ e d. not e && (d || not (is_async_lifted (kind_of (task_of n s) s)))) implicit direct ∙ ap (λ h. not h) lifted
 
   kind_exit_row_leads : (w : Option ℕ) (k : ExportKind) → kind_of (task_of n s) s ≡ k → is_explicit n s ≡ false → is_direct (goal_of (task_of n s) s) ≡ false → Leads a s (kind_exit_row n w s k)
-  kind_exit_row_leads w kind.Sync kind implicit direct = sync_exit_row_leads w implicit (ap (λ y. is_async_lifted y) kind) direct
-  kind_exit_row_leads w kind.Blocking kind implicit direct = blocking_exit_row_leads w implicit kind direct
-  kind_exit_row_leads w kind.Stackful kind implicit direct = thread_exit_row_leads (not_ending implicit direct (ap (λ y. is_async_lifted y) kind))
-  kind_exit_row_leads w kind.Callback kind implicit direct = code_exits_leads (exit_label n None) (held_by_flag (instance_of n s) s) refl (λ t is. exit_is_none t (not_ending implicit direct (ap (λ y. is_async_lifted y) kind)) is) (λ is. bars None is implicit (ap (λ y. is_holding y) kind) direct) 0
+  kind_exit_row_leads w ExportKind.Sync kind implicit direct = sync_exit_row_leads w implicit (ap (λ y. is_async_lifted y) kind) direct
+  kind_exit_row_leads w ExportKind.Blocking kind implicit direct = blocking_exit_row_leads w implicit kind direct
+  kind_exit_row_leads w ExportKind.Stackful kind implicit direct = thread_exit_row_leads (not_ending implicit direct (ap (λ y. is_async_lifted y) kind))
+  kind_exit_row_leads w ExportKind.Callback kind implicit direct = code_exits_leads (exit_label n None) (held_by_flag (instance_of n s) s) refl (λ t is. exit_is_none t (not_ending implicit direct (ap (λ y. is_async_lifted y) kind)) is) (λ is. bars None is implicit (ap (λ y. is_holding y) kind) direct) 0
 
   implicit_exit_row_leads : (w : Option ℕ) (b : Bool) → is_direct (goal_of (task_of n s) s) ≡ b → is_explicit n s ≡ false → Leads a s (implicit_exit_row n w s b)
   implicit_exit_row_leads w true direct implicit = direct_exit_to_leads (kind_of (task_of n s) s) (under_of n s) refl implicit direct
@@ -430,56 +413,56 @@ module _ (x : Setting) (main : Main) (s : Core) (n : ℕ) (l : Label) (next : Tu
   ret_row_leads : Stands a s n → (v : ℕ) (w : Option ℕ) → Leads a s (ret_row n v w s)
   unfolding ret_done
   ret_row_leads on v w =
-      trap_if_leads a s (has_ended (task_of n s) s) trap.TaskCancelOrReturnTwice _ (λ unended.
-      trap_if_leads a s (not (is_async_lifted (kind_of (task_of n s) s))) trap.TaskReturnInvalid _ (λ lifted.
+      trap_if_leads a s (has_ended (task_of n s) s) Trap.TaskCancelOrReturnTwice _ (λ unended.
+      trap_if_leads a s (not (is_async_lifted (kind_of (task_of n s) s))) Trap.TaskReturnInvalid _ (λ lifted.
       may_leads a s (may_tell (task_of n s) w s) _ (λ may.
       let k = task_of n s in
       let told = told_to k w s may in
       let is_so = ret_is x.component main n v w s in
       goes_on_told (ret_label n v w) (ret_done n v w s) (is_so s).0
-      (λ is to. task_says status.Returned (ret_done n v w s) is (is_so (ret_done n v w s)).1.0 (is_so (ret_done n v w s)).1.1 unended (call_ends k call_end.Returned s) (over_now k call_end.Returned s)
-      (stay_walk (advanced_walks n refl (on_after_end on k call_end.Returned) (returned_rest k v w s (ap (λ (k : Label). written_by x.component s k s) is ∙ (is_so s).1.0) told NoWord) to)))
+      (λ is to. task_says Status.Returned (ret_done n v w s) is (is_so (ret_done n v w s)).1.0 (is_so (ret_done n v w s)).1.1 unended (call_ends k CallEnd.Returned s) (over_now k CallEnd.Returned s)
+      (stay_walk (advanced_walks n refl (on_after_end on k CallEnd.Returned) (returned_rest k v w s (ap (λ (k : Label). written_by x.component s k s) is ∙ (is_so s).1.0) told NoWord) to)))
       (λ is.
-      let says : SaysEnd a k status.Returned = ap (λ (k : Label). written_by x.component s k s) is ∙ (is_so s).1.0 in
-      advanced_walks n refl on (returned_rest k v w s says told (word (EndCall k call_end.Returned) (ReturnsNow n refl refl refl unended (unnot (is_async_lifted (kind_of k s)) lifted) refl, says) NoWord))))))
+      let says : SaysEnd a k Status.Returned = ap (λ (k : Label). written_by x.component s k s) is ∙ (is_so s).1.0 in
+      advanced_walks n refl on (returned_rest k v w s says told (word (EndCall k CallEnd.Returned) (ReturnsNow n refl refl refl unended (unnot (is_async_lifted (kind_of k s)) lifted) refl, says) NoWord))))))
 
   task_cancel_row_leads : Stands a s n → (w : Option ℕ) → Leads a s (task_cancel_row n w s)
   unfolding task_cancel_done
   task_cancel_row_leads on w =
-      trap_if_leads a s (not (cancel_was_delivered (task_of n s) s)) trap.TaskCancelNotCancelled _ (λ delivered.
-      trap_if_leads a s (has_ended (task_of n s) s) trap.TaskCancelOrReturnTwice _ (λ unended.
+      trap_if_leads a s (not (cancel_was_delivered (task_of n s) s)) Trap.TaskCancelNotCancelled _ (λ delivered.
+      trap_if_leads a s (has_ended (task_of n s) s) Trap.TaskCancelOrReturnTwice _ (λ unended.
       may_leads a s (may_tell (task_of n s) w s) _ (λ may.
       let k = task_of n s in
       let told = told_to k w s may in
       let is_so = task_cancel_is x.component main n w s in
       goes_on_told (task_cancel_label n w) (task_cancel_done n w s) (is_so s).0
-      (λ is to. task_says status.ReturnCancelled (task_cancel_done n w s) is (is_so (task_cancel_done n w s)).1.0 (is_so (task_cancel_done n w s)).1.1 unended (call_ends k call_end.ReturnCancelled s) (over_now k call_end.ReturnCancelled s)
-      (stay_walk (advanced_walks n refl (on_after_end on k call_end.ReturnCancelled) (cancelled_rest k w s told NoWord) to)))
-      (λ is. advanced_walks n refl on (cancelled_rest k w s told (word (EndCall k call_end.ReturnCancelled) (GivesUp n refl refl refl unended (unnot (cancel_was_delivered k s) delivered) refl, ap (λ (k : Label). written_by x.component s k s) is ∙ (is_so s).1.0) NoWord))))))
+      (λ is to. task_says Status.ReturnCancelled (task_cancel_done n w s) is (is_so (task_cancel_done n w s)).1.0 (is_so (task_cancel_done n w s)).1.1 unended (call_ends k CallEnd.ReturnCancelled s) (over_now k CallEnd.ReturnCancelled s)
+      (stay_walk (advanced_walks n refl (on_after_end on k CallEnd.ReturnCancelled) (cancelled_rest k w s told NoWord) to)))
+      (λ is. advanced_walks n refl on (cancelled_rest k w s told (word (EndCall k CallEnd.ReturnCancelled) (GivesUp n refl refl refl unended (unnot (cancel_was_delivered k s) delivered) refl, ap (λ (k : Label). written_by x.component s k s) is ∙ (is_so s).1.0) NoWord))))))
 
   dec_from_leads : Stands a s n → (b : ℕ) → Leads a s (dec_from n s b)
   unfolding dec_lowers dec_opens
   dec_from_leads on zero = tt
-  dec_from_leads on (suc zero) = λ order. goes_on (label.Task (task_label.BpDec n)) (dec_opens n order s) refl (advanced_walks n refl on (shifted (released_shifts order (set_backpressure (instance_of n s) 0 s)) (word (SetBackpressure (instance_of n s) 0) tt NoWord)))
-  dec_from_leads on (suc (suc b)) = goes_on (label.Task (task_label.BpDec n)) (dec_lowers n s) refl (advanced_walks n refl on (word (SetBackpressure (instance_of n s) (backpressure_of (instance_of n s) s - 1)) tt NoWord))
+  dec_from_leads on (suc zero) = λ order. goes_on (Label.Task (TaskLabel.BpDec n)) (dec_opens n order s) refl (advanced_walks n refl on (shifted (released_shifts order (set_backpressure (instance_of n s) 0 s)) (word (SetBackpressure (instance_of n s) 0) tt NoWord)))
+  dec_from_leads on (suc (suc b)) = goes_on (Label.Task (TaskLabel.BpDec n)) (dec_lowers n s) refl (advanced_walks n refl on (word (SetBackpressure (instance_of n s) (backpressure_of (instance_of n s) s - 1)) tt NoWord))
 
   inc_row_leads : Stands a s n → Leads a s (inc_row n s)
   unfolding inc_raises
-  inc_row_leads on = trap_if_leads a s (nat_le 65535 (backpressure_of (instance_of n s) s)) trap.BackpressureOverflow _ (λ e. goes_on (label.Task (task_label.BpInc n)) (inc_raises n s) refl (advanced_walks n refl on (word (SetBackpressure (instance_of n s) (backpressure_of (instance_of n s) s + 1)) tt NoWord)))
+  inc_row_leads on = trap_if_leads a s (nat_le 65535 (backpressure_of (instance_of n s) s)) Trap.BackpressureOverflow _ (λ e. goes_on (Label.Task (TaskLabel.BpInc n)) (inc_raises n s) refl (advanced_walks n refl on (word (SetBackpressure (instance_of n s) (backpressure_of (instance_of n s) s + 1)) tt NoWord)))
 
-  ends_by : (o : TaskOp) → op_in a n ≡ op.Task o → is_code_op o ≡ true → EndsActivation a n
+  ends_by : (o : TaskOp) → op_in a n ≡ Op.Task o → is_code_op o ≡ true → EndsActivation a n
   ends_by o is code = (refl, ap (λ p. ends_activation p) is ∙ code)
 
-  stands : {o : TaskOp} → op_in a n ≡ op.Task o → is_exit_op (op.Task o) ≡ false → Stands a s n
+  stands : {o : TaskOp} → op_in a n ≡ Op.Task o → is_exit_op (Op.Task o) ≡ false → Stands a s n
   stands is other = (refl, op_stands x.component n s (ap is_exit_op is ∙ other))
 
-  pub task_row_leads : (ch : Choice) (o : TaskOp) → op_in a n ≡ op.Task o → Leads a s (task_row n s ch o)
-  task_row_leads ch (task_op.Ret v) is = ret_row_leads (stands is refl) (value_of n s v) ch.woken
-  task_row_leads ch (task_op.RetBad v) is = trap_if_leads a s (has_ended (task_of n s) s) trap.TaskCancelOrReturnTwice _ (λ e. tt)
-  task_row_leads ch task_op.TaskCancel is = task_cancel_row_leads (stands is refl) ch.woken
-  task_row_leads ch task_op.Exit is = exit_row_for_leads ch.woken (is_explicit n s) refl
-  task_row_leads ch task_op.CbYield is = code_row_leads (label.Task (task_label.CbYield n)) 1 (λ t. refl) (λ shows. ap (λ k. returned_holder s k) shows) (ends_by task_op.CbYield is refl)
-  task_row_leads ch (task_op.CbWait v) is = code_row_leads (label.Task (task_label.CbWait n)) (16 * value_of n s v + 2) (λ t. refl) (λ shows. ap (λ k. returned_holder s k) shows) (ends_by (task_op.CbWait v) is refl)
-  task_row_leads ch (task_op.Code v) is = code_row_leads (label.Task (task_label.Code n)) (value_of n s v) (λ t. refl) (λ shows. ap (λ k. returned_holder s k) shows) (ends_by (task_op.Code v) is refl)
-  task_row_leads ch task_op.BpInc is = inc_row_leads (stands is refl)
-  task_row_leads ch task_op.BpDec is = dec_from_leads (stands is refl) (backpressure_of (instance_of n s) s)
+  pub task_row_leads : (ch : Choice) (o : TaskOp) → op_in a n ≡ Op.Task o → Leads a s (task_row n s ch o)
+  task_row_leads ch (TaskOp.Ret v) is = ret_row_leads (stands is refl) (value_of n s v) ch.woken
+  task_row_leads ch (TaskOp.RetBad v) is = trap_if_leads a s (has_ended (task_of n s) s) Trap.TaskCancelOrReturnTwice _ (λ e. tt)
+  task_row_leads ch TaskOp.TaskCancel is = task_cancel_row_leads (stands is refl) ch.woken
+  task_row_leads ch TaskOp.Exit is = exit_row_for_leads ch.woken (is_explicit n s) refl
+  task_row_leads ch TaskOp.CbYield is = code_row_leads (Label.Task (TaskLabel.CbYield n)) 1 (λ t. refl) (λ shows. ap (λ k. returned_holder s k) shows) (ends_by TaskOp.CbYield is refl)
+  task_row_leads ch (TaskOp.CbWait v) is = code_row_leads (Label.Task (TaskLabel.CbWait n)) (16 * value_of n s v + 2) (λ t. refl) (λ shows. ap (λ k. returned_holder s k) shows) (ends_by (TaskOp.CbWait v) is refl)
+  task_row_leads ch (TaskOp.Code v) is = code_row_leads (Label.Task (TaskLabel.Code n)) (value_of n s v) (λ t. refl) (λ shows. ap (λ k. returned_holder s k) shows) (ends_by (TaskOp.Code v) is refl)
+  task_row_leads ch TaskOp.BpInc is = inc_row_leads (stands is refl)
+  task_row_leads ch TaskOp.BpDec is = dec_from_leads (stands is refl) (backpressure_of (instance_of n s) s)
