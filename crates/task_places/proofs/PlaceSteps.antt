@@ -126,17 +126,14 @@ module _ (x : Setting) (s : State) (l : Label) (next : Turn) (h : InPlace s) (C 
 
   by_entry : (ended : Bool) (o : Option (Mark × Entry)) {t : Core} → next_entry s.core ≡ o → Withdrawable (at (turn.Take ended) (base_without o s.core) (thread_of_entry o)) → Trip (at (turn.Take ended) (base_without o s.core) (thread_of_entry o)) (start_of (at (turn.Take ended) (base_without o s.core) (thread_of_entry o)) s.core) t → LastWords (at (turn.Take ended) (base_without o s.core) (thread_of_entry o)) t → C (at (turn.Take ended) (base_without o s.core) (thread_of_entry o)) t
   by_entry ended None e may c w = nobody (turn.Take ended) s.core refl (refl, (refl, refl)) c w
-  by_entry ended (Some (y, entry.Push i)) e may c w = nobody (turn.Take ended) (popped y s.core) refl (popped_reads y s.core) c w
-  by_entry ended (Some (y, entry.Host i)) e may c w = nobody (turn.Take ended) (popped y s.core) refl (popped_reads y s.core) c w
   by_entry ended (Some (y, entry.Thread n)) e may c w =
       goes (at (turn.Take ended) (popped y s.core) (Some n)) (popped y s.core) _ _ _ (popped_reads y s.core) (popped_reads y s.core) (placing_works (at (turn.Take ended) s.core (Some n)) (Pop y) s.core (inr (n, (refl, e)))) (taken_frame (at (turn.Take ended) (popped y s.core) (Some n)) y n s.core refl (not_running (turn.Take ended) refl) refl refl (next_first s.core y (entry.Thread n) e) may h.placed).1 c w
+  by_entry ended (Some (y, d)) e may c w = nobody (turn.Take ended) (popped y s.core) refl (popped_reads y s.core) c w
 
   by_turn : (u : Turn) {t : Core} → s.turn ≡ u → Withdrawable (at u (base_at u s.core) (runner_at u s.core)) → Trip (at u (base_at u s.core) (runner_at u s.core)) (start_of (at u (base_at u s.core) (runner_at u s.core)) s.core) t → LastWords (at u (base_at u s.core) (runner_at u s.core)) t → C (at u (base_at u s.core) (runner_at u s.core)) t
-  by_turn turn.Main e may c w = nobody turn.Main s.core refl (refl, (refl, refl)) c w
-  by_turn (turn.Futures n) e may c w = nobody (turn.Futures n) s.core refl (refl, (refl, refl)) c w
-  by_turn turn.Over e may c w = nobody turn.Over s.core refl (refl, (refl, refl)) c w
   by_turn (turn.Run n) e may c w = goes (at (turn.Run n) s.core (Some n)) s.core _ _ _ (refl, (refl, refl)) (refl, (refl, refl)) (record { high = refl; low = refl }) (running_frame (at (turn.Run n) s.core (Some n)) n refl refl (h.runs n e) may h.placed) c w
   by_turn (turn.Take ended) e may c w = by_entry ended (next_entry s.core) refl may c w
+  by_turn u e may c w = nobody u s.core refl (refl, (refl, refl)) c w
 
 pub step_by : (x : Setting) (s : State) (l : Label) (t : State) (w : Walked x s l t) → InPlace s → Withdrawable (scene_of x s l w.next) → (C : Scene → Core → Type 0) →
     ((a : Scene) (b : Core) (n : ℕ) (q : Option Place) (t : Core) → Reads s.core a.base → Reads s.core b → SameWorks s.core b → Frame a b n q → Trip a b t → LastWords a t → C a t) → C (scene_of x s l w.next) t.core
