@@ -18,13 +18,10 @@ Withdrawable a = (m k : ℕ) → IsRunner a m → HasSubtask a m (subtask.Guest 
 no_runner : (a : Scene) (m : ℕ) {A : Type 0} → a.runner ≡ None → IsRunner a m → A
 no_runner a m none is = no_way (ap (λ (o : Option ℕ). is_some o) (sym none ∙ is))
 
--- a number that wasn't given is no thread's
-ungiven : (n : ℕ) (s : Core) → (n ≤ s.made.threads → ⊥) → HasPlace n s → place_of n s ≡ None
-ungiven n s above h = let g = h.number in grind arith
-
 -- ---- No thread runs or is taken
 
-nobody_frame : (a : Scene) (b : Core) → a.runner ≡ None → ((m : ℕ) → a.turn ≡ turn.Run m → ⊥) → ((k : ℕ) → place_of k b ≡ place_of k a.base) → b.made.threads ≡ a.base.made.threads → All b → Frame a b (b.made.threads + 2) None
+nobody_frame : (a : Scene) (b : Core) → a.runner ≡ None → ((m : ℕ) → a.turn ≡ turn.Run m → ⊥) → ((k : ℕ) → place_of k b ≡ place_of k a.base) →
+    b.made.threads ≡ a.base.made.threads → All b → Frame a b (b.made.threads + 2) None
 nobody_frame a b none idle home made all = record {
   follows = record {
     busy = refl;
@@ -40,26 +37,22 @@ nobody_frame a b none idle home made all = record {
   rests = λ t w i. i (ap is_idle (sym (home (b.made.threads + 2)) ∙ gone));
 }
   where
-    above : {x : ℕ} → x + 2 ≤ x → ⊥
-    above g = omega (arith, g)
-
+    -- the number wasn't given
     gone : place_of (b.made.threads + 2) b ≡ None
-    gone = ungiven (b.made.threads + 2) b above (all (b.made.threads + 2))
+    gone = let given = (all (b.made.threads + 2)).number in grind arith
 
 -- ---- A thread runs
 
-follows_at : (a : Scene) (n : ℕ) (p : Place) → place_of n a.base ≡ Some p → is_busy (Some p) ≡ true → is_idle (Some p) ≡ true → is_fresh (Some p) ≡ false → Withdrawable a → All a.base → Follows a a.base n (Some p)
-follows_at a n p at busy idle unfresh may all = record {
-  busy = busy;
-  runs = λ m e. (idle, unfresh);
-  apart = let g = (all n).number (ap (λ (o : Option Place). is_some o) at) in grind (arith, nat_tests);
-  withdraws = may;
-  start = stand_of {P = watch a} n (Some p) a.base at idle (λ k w. so_self (place_of k a.base)) all;
-}
-
-running_frame : (a : Scene) (n : ℕ) → a.runner ≡ Some n → a.turn ≡ turn.Run n → place_of n a.base ≡ Some place.Running → Withdrawable a → All a.base → Frame a a.base n (Some place.Running)
+running_frame : (a : Scene) (n : ℕ) → a.runner ≡ Some n → a.turn ≡ turn.Run n → place_of n a.base ≡ Some place.Running → Withdrawable a →
+    All a.base → Frame a a.base n (Some place.Running)
 running_frame a n is runs at may all = record {
-  follows = follows_at a n place.Running at refl refl refl may all;
+  follows = record {
+    busy = refl;
+    runs = λ m e. (refl, refl);
+    apart = let given = (all n).number in grind (arith, nat_tests);
+    withdraws = may;
+    start = stand_of {P = watch a} n (Some place.Running) a.base at refl (λ k w. so_self (place_of k a.base)) all;
+  };
   home = λ k. refl;
   one = λ m e. grind arith;
   there = λ m e. (place.Running, (refl, refl));
@@ -77,38 +70,33 @@ popped_reads : (x : Mark) (s : Core) → Reads s (popped x s)
 unfolding popped set_switch set_high set_low
 popped_reads x s = grind arith
 
-taken_frame : (a : Scene) (x : Mark) (n : ℕ) (s : Core) → a.runner ≡ Some n → ((m : ℕ) → a.turn ≡ turn.Run m → ⊥) → is_take a.turn ≡ true → a.base ≡ popped x s → First x (entry.Thread n) s → Withdrawable a → All s → (p : Place) × Frame a a.base n (Some p)
-taken_frame a x n s is idle take base first may all = (
+taken_frame : (a : Scene) (n : ℕ) (s : Core) → a.runner ≡ Some n → ((m : ℕ) → a.turn ≡ turn.Run m → ⊥) → is_take a.turn ≡ true →
+    Cleared n s a.base → ReadyAt (place_of n s) → a.base.made ≡ s.made → Withdrawable a → All s → (p : Place) × Frame a a.base n (Some p)
+taken_frame a n s is idle take c r made may all = (
   place.Ready r.0 r.1.0,
   record {
     follows = record {
       busy = refl;
       runs = λ m e. absurd (idle m e);
-      apart = let m = ap (λ (c : Core). c.made.threads) base ∙ ap (λ (m : Made). m.threads) (popped_reads x s).1.1 in
-          let g = (all n).number (ap (λ (o : Option Place). is_some o) r.1.1) in grind (arith, nat_tests);
+      apart = let given = (all n).number in let at = r.1.1 in grind (arith, nat_tests);
       withdraws = may;
-      start = subst (λ (b : Core). Stand (watch a) n (Some (place.Ready r.0 r.1.0)) [] b) (sym base) (record {
+      start = record {
         here = c.places n ∙ r.1.1;
         once = λ k. grind arith;
-        loose = λ k h. by_number k n (Loose k (popped x s)) (λ e. subst (λ (j : ℕ). Loose j (popped x s)) (sym e) (c.own (λ f. ap (says (is_behind_of f)) r.1.1))) (λ e. zero_one (no_time k n e) h);
+        loose = λ k h. by_number k n _ (λ e. subst (λ (j : ℕ). Loose j a.base) (sym e) (c.own (λ f. ap (says (is_behind_of f)) r.1.1)))
+            (λ e. zero_one (no_time k n e) h);
         there = λ k h. zero_one refl h;
-        placed = λ k h. left_placed k s (popped x s) (c.left k (grind arith)) (c.places k) (all k);
-        kept = λ k w. (refl, ap (λ (b : Core). is_so (watch a k) (place_of k b)) (sym base) ∙ so_self (place_of k a.base));
-      });
+        placed = λ k h. left_placed k s a.base (c.left k (grind arith)) (c.places k) (all k);
+        kept = λ k w. (refl, so_self (place_of k a.base));
+      };
     };
     home = λ k. refl;
-    one = λ m e. ap (λ (o : Option ℕ). unwrap_or o m) (sym e ∙ is);
+    one = λ m e. grind arith;
     there = λ m e. (place.Ready r.0 r.1.0, (refl, refl));
     running = λ m e. absurd (idle m e);
     rests = λ t w i. w.laid n is take;
   },
 )
-  where
-    c : Cleared n s (popped x s)
-    c = (popped_cleared x n s first (all n)).0
-
-    r : ReadyAt (place_of n s)
-    r = entry_ready n s (all n) (popped_cleared x n s first (all n)).1
 
 -- ---- A step
 
@@ -127,7 +115,11 @@ module _ (x : Setting) (s : State) (l : Label) (next : Turn) (h : InPlace s) (C 
   by_entry : (ended : Bool) (o : Option (Mark × Entry)) {t : Core} → next_entry s.core ≡ o → Withdrawable (at (turn.Take ended) (base_without o s.core) (thread_of_entry o)) → Trip (at (turn.Take ended) (base_without o s.core) (thread_of_entry o)) (start_of (at (turn.Take ended) (base_without o s.core) (thread_of_entry o)) s.core) t → LastWords (at (turn.Take ended) (base_without o s.core) (thread_of_entry o)) t → C (at (turn.Take ended) (base_without o s.core) (thread_of_entry o)) t
   by_entry ended None e may c w = nobody (turn.Take ended) s.core refl (refl, (refl, refl)) c w
   by_entry ended (Some (y, entry.Thread n)) e may c w =
-      goes (at (turn.Take ended) (popped y s.core) (Some n)) (popped y s.core) _ _ _ (popped_reads y s.core) (popped_reads y s.core) (placing_works (at (turn.Take ended) s.core (Some n)) (Pop y) s.core (inr (n, (refl, e)))) (taken_frame (at (turn.Take ended) (popped y s.core) (Some n)) y n s.core refl (not_running (turn.Take ended) refl) refl refl (next_first s.core y (entry.Thread n) e) may h.placed).1 c w
+      let a = at (turn.Take ended) (popped y s.core) (Some n) in
+      let took = popped_cleared y n s.core (next_first s.core y (entry.Thread n) e) (h.placed n) in
+      let reads = popped_reads y s.core in
+      goes a (popped y s.core) _ _ _ reads reads (placing_works (at (turn.Take ended) s.core (Some n)) (Pop y) s.core (inr (n, (refl, e))))
+      (taken_frame a n s.core refl (not_running (turn.Take ended) refl) refl took.0 (entry_ready n s.core (h.placed n) took.1) reads.1.1 may h.placed).1 c w
   by_entry ended (Some (y, d)) e may c w = nobody (turn.Take ended) (popped y s.core) refl (popped_reads y s.core) c w
 
   by_turn : (u : Turn) {t : Core} → s.turn ≡ u → Withdrawable (at u (base_at u s.core) (runner_at u s.core)) → Trip (at u (base_at u s.core) (runner_at u s.core)) (start_of (at u (base_at u s.core) (runner_at u s.core)) s.core) t → LastWords (at u (base_at u s.core) (runner_at u s.core)) t → C (at u (base_at u s.core) (runner_at u s.core)) t
