@@ -1,10 +1,10 @@
 -- Each step owes of the ends what it should, and so each run has each end once.
-use Rattle.task_rules.proofs.Machine.{[], AbortsOwn, ap, arith, base_at, Bool, Call, Core, Entry, false, fresh, get, get-empty, how_far_of, inl, inr, instance_of, is_some, is_spawn, is_spawn_caller, is_stage_ended, IsRunner, Label, le_refl, Main, MainPlace, Mark, next_entry, None, opening, Option, option_and_then, option_map, option_map_or, Place, place_of, ProgramAborts, refl, runner_at, SameMain, Scene, scene_of, ScriptAborts, Scripted, Setting, slice_get, Some, spawned_at, stage_of, State, Status, Step, subst, Subtask, subtask_at, subtask_handle, suc, sym, task_of, thread_of_entry, true, Turn, undelivered_end, Unscripted, unwrap_or, Walked, Work, work_caller_of, zero, ℕ, ⊎_elim, ◌&&◌, ◌++◌, ◌-◌, ◌∙◌, ◌∷◌, ◌≡◌, ◌≤◌, ◌⊎◌}
+use Rattle.task_rules.proofs.Machine.{[], AbortsOwn, ap, arith, base_at, Bool, Call, Core, false, fresh, get, get-empty, inl, inr, instance_of, is_some, is_spawn, is_spawn_caller, is_stage_ended, Label, le_refl, Main, MainPlace, MayAbort, opening, option_map, Place, ProgramAborts, refl, SameMain, Scene, scene_of, ScriptAborts, Scripted, Setting, slice_get, Some, spawned_at, stage_of, State, Status, Step, subst, Subtask, subtask_at, subtask_handle, suc, sym, task_of, true, Unscripted, unwrap_or, Walked, Work, work_caller_of, zero, ℕ, ◌&&◌, ◌++◌, ◌-◌, ◌∙◌, ◌∷◌, ◌≡◌, ◌≤◌, ◌⊎◌}
 use Rattle.task_laws.proofs.NamedWorks.{NamesNoSync, abort_kept, caller_is, names_word, opening_names}
 use Rattle.task_laws.proofs.Basics.{no_way}
 use Rattle.task_laws.proofs.CallsLaw.{CallsHold}
 use Rattle.task_laws.proofs.CallsSteps.{of_base}
-use Rattle.task_rules.specs.Allowed.{MayAbort}
+use Rattle.task_rules.proofs.MoveLemmas.{at_place}
 use Rattle.task_laws.specs.Settings.{Reached}
 use Rattle.task_rules.proofs.ChainLemmas.{along}
 use Rattle.task_laws.proofs.CallEnds.{EndsTold, opening_ends_told}
@@ -59,25 +59,18 @@ reached_step x s l t r step = record {
 held_of : (x : Setting) (s : State) → InOrder x.component s → CallsHold x.component s.core
 held_of x s h = record { numbered = h.numbered; kinds = h.kinds; deliveries = h.deliveries }
 
-work_there : (P : Work → Bool) (i : ℕ) (s : Core) → option_map_or P (get s.works i) false ≡ true → (w : Work) × ((get s.works i ≡ Some w) × (P w ≡ true))
-work_there P i s h = at (get s.works i) refl h
-  where
-    at : (o : Option Work) → get s.works i ≡ o → option_map_or P o false ≡ true → (w : Work) × ((get s.works i ≡ Some w) × (P w ≡ true))
-    at None is g = no_way g
-    at (Some w) is g = (w, (is, g))
-
 named_there : (k h : ℕ) (s : Core) → subtask_handle (subtask.Guest k) s ≡ Some h → is_some (get s.calls k) ≡ true
 named_there k h s e = grind arith
 
 spawn_may : (i : ℕ) (s : Core) → WorksHold (Unit {0}) s → is_spawn i s ≡ true → MayBeAborted s i
 spawn_may i s works h =
-    let r = work_there (λ w. is_spawn_caller w.caller) i s h in
+    let r = at_place (λ w. is_spawn_caller w.caller) (get s.works i) h in
     record { made = number_of works i (doing r.0) (ap (option_map doing) r.1.0); other = grind arith }
 
 waited_there : (n i : ℕ) (s : Core) → work_caller_of i s ≡ work_caller.Sync n → is_stage_ended (stage_of i s) ≡ true →
     (v : Doing) × ((doing_of i s ≡ Some v) × ((is_sync_work v.caller ≡ true) × (is_late v.stage ≡ true)))
 waited_there n i s caller ended =
-    let r = work_there (λ w. is_sync_work w.caller && is_late w.stage) i s (grind arith) in (doing r.0, (ap (option_map doing) r.1.0, grind arith))
+    let r = at_place (λ w. is_sync_work w.caller && is_late w.stage) (get s.works i) (grind arith) in (doing r.0, (ap (option_map doing) r.1.0, grind arith))
 
 abbrev is_script : Main → Bool
 is_script (Scripted p) = true

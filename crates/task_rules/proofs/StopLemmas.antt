@@ -4,7 +4,7 @@ use Rattle.task_machine.specs.declared.words.Mark.TheVariants as mark
 use Rattle.task_machine.specs.declared.records.Place.TheVariants as place
 use Rattle.task_machine.specs.declared.records.Why.TheVariants as why
 use Rattle.task_machine.proofs.CommuteLemmas.{get-change}
-use Rattle.task_rules.proofs.StandLemmas.{Adds, Drops, Given, Left, Loose, Stand, adds_given, adds_stand, by_count, callers_say, drops_stand, eq_refl, is_eq_of, left_loose, left_placed, moves_stand, once_or_not, put_high_adds, times-append, times-newest, zero_one, Watch, nobody, watching, is_so, is_watched, by_number, place_written, place_kept}
+use Rattle.task_rules.proofs.StandLemmas.{Adds, Drops, Given, Left, Loose, Stand, adds_given, adds_stand, by_count, callers_say, eq_refl, is_eq_of, left_loose, left_placed, moves_stand, once_or_not, put_high_adds, times-append, times-newest, zero_one, Watch, nobody, watching, is_so, is_watched, by_number, place_written, place_kept}
 
 -- ---- What leaves every place and every entry of a thread alone
 
