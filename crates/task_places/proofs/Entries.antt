@@ -1,8 +1,5 @@
 -- Entries that are taken out, entries of works, and new threads, beside a busy thread.
 use Rattle.task_rules.proofs.Machine.{[], add_thread, ap, arith, Bool, Core, entries, Entry, false, get, get-insert, has_entry, HasPlace, if◌then◌else◌, is_behind_of, is_entry_of, is_fresh, le_refl, less, less_switch, List, Mark, nat_tests, next_entry, None, on_thread, one_if, Option, Place, place_of, popped, promoted, Queues, refl, remove_thread, rest_of, says, set_high, set_low, set_place, set_switch, Some, subst, switch_entries, sym, T, Thread, true, unqueued, Why, why_of, ℕ, ◌++◌, ◌+◌, ◌==◌, ◌∙◌, ◌∷◌, ◌≡◌, ◌≤◌}
-use Rattle.task_machine.specs.declared.records.Entry.TheVariants as entry
-use Rattle.task_machine.specs.declared.records.Place.TheVariants as place
-use Rattle.task_machine.specs.declared.words.Mark.TheVariants as mark
 use Rattle.task_rules.proofs.MoveLemmas.{removed_is, no_time, removed_gone, removed_loose, removed_placed, other_place}
 use Rattle.task_rules.proofs.StandLemmas.{Drops, moves_stand, Loose, Stand, by_number, entries-append, entries-less, eq_refl, zero_one, Watch, is_so, Left, left_loose, left_placed, by_count}
 use Rattle.task_rules.proofs.StopLemmas.{switch_adds, Untouched, fresh_apart, so_again}
@@ -57,8 +54,8 @@ unqueued_cleared m s h = go (has_entry m s.queues.high) refl
     go false e = cleared m s _ h (grind (arith, nat_tests, one, none_stands m s.queues.high, less_own m)) (λ k o. grind (arith, nat_tests, less_other k m))
 
 -- as an entry of a thread that stands ready
-ready_drops : (m : ℕ) (x : Mark) (w : Why) (s : Core) → HasPlace m s → place_of m s ≡ Some (place.Ready x w) → s.queues.switch ≡ None →
-    Drops m (place.Ready x w) s (unqueued m s)
+ready_drops : (m : ℕ) (x : Mark) (w : Why) (s : Core) → HasPlace m s → place_of m s ≡ Some (Place.Ready x w) → s.queues.switch ≡ None →
+    Drops m (Place.Ready x w) s (unqueued m s)
 unfolding unqueued set_high set_low
 ready_drops m x w s h at none = grind (arith, nat_tests, none_stands m, has_stands m, entries-less, less_same)
 
@@ -70,29 +67,29 @@ unqueued_switch m s = grind arith
 
 -- where the entry stands first
 abbrev pub First : Mark → Entry → Core → Type 0
-First mark.Switch e s = (n : ℕ) × ((s.queues.switch ≡ Some n) × (e ≡ entry.Thread n))
-First mark.High e s = s.queues.high ≡ e ∷ rest_of s.queues.high
-First mark.Low e s = s.queues.low ≡ e ∷ rest_of s.queues.low
+First Mark.Switch e s = (n : ℕ) × ((s.queues.switch ≡ Some n) × (e ≡ Entry.Thread n))
+First Mark.High e s = s.queues.high ≡ e ∷ rest_of s.queues.high
+First Mark.Low e s = s.queues.low ≡ e ∷ rest_of s.queues.low
 
 pub next_first : (s : Core) (x : Mark) (e : Entry) → next_entry s ≡ Some (x, e) → First x e s
 unfolding next_entry
-next_first s mark.High e h = grind arith
-next_first s mark.Low e h = grind arith
-next_first s mark.Switch e h = go s.queues.switch refl
+next_first s Mark.High e h = grind arith
+next_first s Mark.Low e h = grind arith
+next_first s Mark.Switch e h = go s.queues.switch refl
   where
-    go : (o : Option ℕ) → s.queues.switch ≡ o → (n : ℕ) × ((s.queues.switch ≡ Some n) × (e ≡ entry.Thread n))
+    go : (o : Option ℕ) → s.queues.switch ≡ o → (n : ℕ) × ((s.queues.switch ≡ Some n) × (e ≡ Entry.Thread n))
     go (Some n) at = (n, (at, grind arith))
     go None at = absurd (grind arith)
 
 -- the entry of a thread leaves its mark
-pub popped_cleared : (x : Mark) (m : ℕ) (s : Core) → First x (entry.Thread m) s → HasPlace m s → Cleared m s (popped x s) × (1 ≤ switch_entries m s.queues.switch + entries m s.queues.high + entries m s.queues.low)
+pub popped_cleared : (x : Mark) (m : ℕ) (s : Core) → First x (Entry.Thread m) s → HasPlace m s → Cleared m s (popped x s) × (1 ≤ switch_entries m s.queues.switch + entries m s.queues.high + entries m s.queues.low)
 unfolding popped set_switch set_high set_low
-popped_cleared mark.Switch m s f h =
+popped_cleared Mark.Switch m s f h =
     (cleared m s _ h (grind (arith, nat_tests, has_one m s h)) (λ k o. grind (arith, nat_tests)), grind (arith, nat_tests))
-popped_cleared mark.High m s f h =
+popped_cleared Mark.High m s f h =
     let x = λ (k : ℕ). ap (entries k) f in
     (cleared m s _ h (grind (arith, nat_tests, has_one m s h, x m)) (λ k o. grind (arith, nat_tests, x k)), grind (arith, nat_tests, x m))
-popped_cleared mark.Low m s f h =
+popped_cleared Mark.Low m s f h =
     let x = λ (k : ℕ). ap (entries k) f in
     (cleared m s _ h (grind (arith, nat_tests, has_one m s h, x m)) (λ k o. grind (arith, nat_tests, x k)), grind (arith, nat_tests, x m))
 
@@ -102,9 +99,9 @@ rest_same k e es is other = let x = ap (entries k) is in let y = ap one_if other
 -- that of a work leaves all threads'
 pub popped_quiet : (x : Mark) (e : Entry) (s : Core) → First x e s → ((k : ℕ) → is_entry_of k e ≡ false) → Untouched s (popped x s)
 unfolding popped set_switch set_high set_low
-popped_quiet mark.Switch e s f other = absurd (subst T (sym (sym (other f.0) ∙ (ap (is_entry_of f.0) f.1.1 ∙ eq_refl f.0))) tt)
-popped_quiet mark.High e s f other = record { places = λ k. refl; switch = λ k. refl; high = λ k. rest_same k e s.queues.high f (other k); low = λ k. refl; callers = refl; made = le_refl _ }
-popped_quiet mark.Low e s f other = record { places = λ k. refl; switch = λ k. refl; high = λ k. refl; low = λ k. rest_same k e s.queues.low f (other k); callers = refl; made = le_refl _ }
+popped_quiet Mark.Switch e s f other = absurd (subst T (sym (sym (other f.0) ∙ (ap (is_entry_of f.0) f.1.1 ∙ eq_refl f.0))) tt)
+popped_quiet Mark.High e s f other = record { places = λ k. refl; switch = λ k. refl; high = λ k. rest_same k e s.queues.high f (other k); low = λ k. refl; callers = refl; made = le_refl _ }
+popped_quiet Mark.Low e s f other = record { places = λ k. refl; switch = λ k. refl; high = λ k. refl; low = λ k. rest_same k e s.queues.low f (other k); callers = refl; made = le_refl _ }
 
 pub pushed_same : (k : ℕ) (es : List Entry) (e : Entry) → is_entry_of k e ≡ false → entries k (es ++ e ∷ []) ≡ entries k es
 pushed_same k es e other = let x = entries-append k es e in let y = ap one_if other in omega (arith, x, y)
@@ -112,13 +109,13 @@ pushed_same k es e other = let x = entries-append k es e in let y = ap one_if ot
 -- ---- An entry is promoted
 
 pub promoted_stand : {P : ℕ → Watch} (n : ℕ) (q : Option Place) (m : ℕ) (x : Mark) (w : Why) (s : Core) → (m == n) ≡ false →
-    place_of m s ≡ Some (place.Ready x w) → s.queues.switch ≡ None → Stand P n q [] s → Stand P n q [] (promoted m s)
+    place_of m s ≡ Some (Place.Ready x w) → s.queues.switch ≡ None → Stand P n q [] s → Stand P n q [] (promoted m s)
 unfolding promoted set_switch set_place on_thread
 promoted_stand {P = P} n q m x w s apart at none st =
     let d = ready_drops m x w s (st.placed m (no_time m n apart)) at none in
-    moves_stand n q [] m (place.Ready x w) (place.Ready mark.Switch (why_of m s)) s (unqueued m s) _ d
-    (switch_adds m (why_of m s) (place.Ready x w) (unqueued m s) (d.places m ∙ at) (unqueued_switch m s ∙ none)) at (no_time m n apart)
-    (λ so watched. grind (arith, so_again (P m) mark.Switch x w)) st
+    moves_stand n q [] m (Place.Ready x w) (Place.Ready Mark.Switch (why_of m s)) s (unqueued m s) _ d
+    (switch_adds m (why_of m s) (Place.Ready x w) (unqueued m s) (d.places m ∙ at) (unqueued_switch m s ∙ none)) at (no_time m n apart)
+    (λ so watched. grind (arith, so_again (P m) Mark.Switch x w)) st
 
 -- ---- A start is withdrawn
 
@@ -152,7 +149,7 @@ withdrawn_stand {P = P} n q m s apart fresh st = record {
 -- ---- A thread more
 
 -- it has the next number, which was no thread's, and behind which nobody was
-pub added_stand : {P : ℕ → Watch} (n : ℕ) (q : Option Place) (t : Thread) (s : Core) → (n == s.made.threads + 1) ≡ false → t.place ≡ place.New →
+pub added_stand : {P : ℕ → Watch} (n : ℕ) (q : Option Place) (t : Thread) (s : Core) → (n == s.made.threads + 1) ≡ false → t.place ≡ Place.New →
     Stand P n q [] s → Stand P n q [] (add_thread t s)
 unfolding add_thread
 added_stand {P = P} n q t s apart new st = record {
@@ -171,7 +168,7 @@ added_stand {P = P} n q t s apart new st = record {
     added_other : (k : ℕ) → (k == s.made.threads + 1) ≡ false → place_of k u ≡ place_of k s
     added_other k e = grind (arith, nat_tests, get-insert)
 
-    here : place_of (s.made.threads + 1) u ≡ Some place.New
+    here : place_of (s.made.threads + 1) u ≡ Some Place.New
     here = grind (arith, nat_tests, get-insert)
 
     before : HasPlace (s.made.threads + 1) s

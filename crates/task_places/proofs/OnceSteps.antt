@@ -1,5 +1,5 @@
 -- Each step owes of the ends what it should, and so each run has each end once.
-use Rattle.task_rules.proofs.Machine.{[], AbortsOwn, ap, arith, base_at, Bool, Call, Core, false, fresh, get, get-empty, inl, inr, instance_of, is_some, is_spawn, is_spawn_caller, is_stage_ended, Label, le_refl, Main, MainPlace, MayAbort, opening, option_map, Place, ProgramAborts, refl, SameMain, Scene, scene_of, ScriptAborts, Scripted, Setting, slice_get, Some, spawned_at, stage_of, State, Status, Step, subst, Subtask, subtask_at, subtask_handle, suc, sym, task_of, true, Unscripted, unwrap_or, Walked, Work, work_caller_of, zero, ℕ, ◌&&◌, ◌++◌, ◌-◌, ◌∙◌, ◌∷◌, ◌≡◌, ◌≤◌, ◌⊎◌}
+use Rattle.task_rules.proofs.Machine.{[], AbortsOwn, ap, arith, base_at, Bool, Call, Core, false, fresh, get, get-empty, inl, inr, instance_of, is_some, is_spawn, is_spawn_caller, is_stage_ended, Label, le_refl, Main, MainPlace, MayAbort, opening, option_map, Place, ProgramAborts, refl, SameMain, Scene, scene_of, ScriptAborts, Scripted, Setting, slice_get, Some, spawned_at, stage_of, State, Status, Step, subst, Subtask, subtask_at, subtask_handle, suc, sym, task_of, true, Unscripted, unwrap_or, Walked, Work, work_caller_of, WorkCaller, zero, ℕ, ◌&&◌, ◌++◌, ◌-◌, ◌∙◌, ◌∷◌, ◌≡◌, ◌≤◌, ◌⊎◌}
 use Rattle.task_laws.proofs.NamedWorks.{NamesNoSync, abort_kept, caller_is, names_word, opening_names}
 use Rattle.task_laws.proofs.Basics.{no_way}
 use Rattle.task_laws.proofs.CallsLaw.{CallsHold}
@@ -22,12 +22,6 @@ use Rattle.task_places.proofs.Entries.{next_first, popped_cleared}
 use Rattle.task_laws.proofs.StepEnds.{Answered, CallsFound, CallsKnown, calls_known, step_ends}
 use Rattle.task_places.specs.Once.{RunsAreOnce, IsUnbegun}
 use Rattle.task_places.proofs.OrderLemmas.{asked, opening_in_order, step_in_order}
-use Rattle.task_machine.specs.declared.records.Subtask.TheVariants as subtask
-use Rattle.task_machine.specs.declared.records.HowFar.TheVariants as how_far
-use Rattle.task_machine.specs.declared.records.WorkCaller.TheVariants as work_caller
-use Rattle.task_machine.specs.declared.records.Entry.TheVariants as entry
-use Rattle.task_machine.specs.declared.records.Turn.TheVariants as turn
-use Rattle.task_machine.specs.declared.records.Place.TheVariants as place
 
 -- ---- What is known before a step
 
@@ -59,7 +53,7 @@ reached_step x s l t r step = record {
 held_of : (x : Setting) (s : State) → InOrder x.component s → CallsHold x.component s.core
 held_of x s h = record { numbered = h.numbered; kinds = h.kinds; deliveries = h.deliveries }
 
-named_there : (k h : ℕ) (s : Core) → subtask_handle (subtask.Guest k) s ≡ Some h → is_some (get s.calls k) ≡ true
+named_there : (k h : ℕ) (s : Core) → subtask_handle (Subtask.Guest k) s ≡ Some h → is_some (get s.calls k) ≡ true
 named_there k h s e = grind arith
 
 spawn_may : (i : ℕ) (s : Core) → WorksHold (Unit {0}) s → is_spawn i s ≡ true → MayBeAborted s i
@@ -67,7 +61,7 @@ spawn_may i s works h =
     let r = at_place (λ w. is_spawn_caller w.caller) (get s.works i) h in
     record { made = number_of works i (doing r.0) (ap (option_map doing) r.1.0); other = grind arith }
 
-waited_there : (n i : ℕ) (s : Core) → work_caller_of i s ≡ work_caller.Sync n → is_stage_ended (stage_of i s) ≡ true →
+waited_there : (n i : ℕ) (s : Core) → work_caller_of i s ≡ WorkCaller.Sync n → is_stage_ended (stage_of i s) ≡ true →
     (v : Doing) × ((doing_of i s ≡ Some v) × ((is_sync_work v.caller ≡ true) × (is_late v.stage ≡ true)))
 waited_there n i s caller ended =
     let r = at_place (λ w. is_sync_work w.caller && is_late w.stage) (get s.works i) (grind arith) in (doing r.0, (ap (option_map doing) r.1.0, grind arith))
@@ -96,7 +90,7 @@ module _ (x : Setting) (s : State) (l : Label) (t : State) (k : Known x s) (step
   at_first i h = let q = from_base (λ c. MayBeAborted c i) h in record { made = q.made; other = q.other }
 
   names_base : NamesNoSync a.base
-  names_base i h j e = at_base j (k.unnamed.works i h j (from_base (λ c. subtask_at i h c ≡ Some (subtask.Host j)) e))
+  names_base i h j e = at_base j (k.unnamed.works i h j (from_base (λ c. subtask_at i h c ≡ Some (Subtask.Host j)) e))
 
   callers_base : CallersKnown a.base
   callers_base = to_base CallersKnown k.callers
@@ -153,7 +147,7 @@ module _ (x : Setting) (s : State) (l : Label) (t : State) (k : Known x s) (step
   found : CallsFound a
   found = record {
     own = λ n runner. to_base (λ c. is_some (get c.calls (task_of n c)) ≡ true) (let there = runner_there x s l w.next k.order.in_place n runner in grind (arith, k.order.calls_there n (task_of n s.core)));
-    named = λ j named. to_base (λ c. (i h : ℕ) → subtask_at i h c ≡ Some (subtask.Guest j) → is_some (get c.calls j) ≡ true) (λ i h e. named_there j h s.core (k.order.names.there i h j e)) (instance_of named.0 a.base) named.1.0 named.1.1.1;
+    named = λ j named. to_base (λ c. (i h : ℕ) → subtask_at i h c ≡ Some (Subtask.Guest j) → is_some (get c.calls j) ≡ true) (λ i h e. named_there j h s.core (k.order.names.there i h j e)) (instance_of named.0 a.base) named.1.0 named.1.1.1;
   }
 
   calls : CallsKnown x s t.core a
@@ -178,8 +172,8 @@ module _ (x : Setting) (s : State) (l : Label) (t : State) (k : Known x s) (step
 
 none_due : (instances handle_limit capacity : ℕ) (sub : Subtask) (e : Status) → Due sub e (fresh instances handle_limit capacity) → ⊥
 unfolding fresh
-none_due instances handle_limit capacity (subtask.Guest j) e due = absurd (grind (arith, get-empty))
-none_due instances handle_limit capacity (subtask.Host i) e (v, (at, due)) = absurd (grind (arith, get-empty))
+none_due instances handle_limit capacity (Subtask.Guest j) e due = absurd (grind (arith, get-empty))
+none_due instances handle_limit capacity (Subtask.Host i) e (v, (at, due)) = absurd (grind (arith, get-empty))
 
 zero_unmade : (instances handle_limit capacity : ℕ) → MayBeAborted (fresh instances handle_limit capacity) 0
 unfolding fresh

@@ -1,7 +1,6 @@
 -- Where each thread is along the words of a step: each has its place, and one that waits for its start still does, or its call has begun.
-use Rattle.task_rules.proofs.Machine.{[], add_call, add_group, add_set, add_work, after_placing, after_word, ap, arith, AwaitsEvent, Blocks, Bool, ByHandle, Call, call_made, Collapses, Core, count_work, Departs, EndsOver, Enter, entries, Falls, false, free_handle, free_thread_handle, get, give_handle, give_result, give_thread_handle, GoBehind, GoesBack, has_entry, HasPlace, HasSubtask, Holds, HowFar, if◌then◌else◌, inl, inr, is_at_high, is_at_low, is_at_switch, is_begun, is_blocked_on, is_done_host, is_explicit, is_for_start, is_free, is_fresh, is_none, is_some, is_there, is_under, IsFall, IsFoot, IsRunner, IsSettling, Lands, LandsAt, LastWords, le_refl, Leaves, MakeCall, MakeThread, Mark, MayGo, MayLand, MayMove, MayPut, MayWithdraw, MayYield, Move, nat_tests, new_thread, next_thread, None, on_call, on_instance, on_thread, on_work, Option, option_map, option_map_or, Place, place_of, Places, Placing, poll_pends, Promote, promoted, push_high, Put, put_high, put_low, Quits, refl, registers_for, Remains, remove_call, remove_group, remove_set, remove_thread, remove_work, RemoveThread, Runs, says, Scene, set_backpressure, set_cancel_delivered, set_cancelled, set_course, set_do_not_enter, set_do_not_suspend, set_end, set_event, set_exited, set_how_far, set_join, set_own_event, set_phase, set_place, set_position, set_register, set_result, set_saved_callee, set_saved_own, set_script, set_stage, set_started, set_starting_published, set_subtask_handle, set_thread_handle, set_trapped, set_uninteresting, set_word, Settles, SetTrapped, SetUninteresting, Some, Stay, Stays, Stop, subst, Subtask, Suspends, switch_entries, sym, T, take_result, TakeHost, TakePush, task_of, Thread, Trip, true, Turn, Uncovers, Waits, WaitsAgain, was_started, Why, with_handle, with_thread_handle, Withdraw, Word, work_queued, ℕ, ⊎_elim, ◌+◌, ◌==◌, ◌||◌, ◌∙◌, ◌≡◌, ◌≤◌, ◌⊎◌}
+use Rattle.task_rules.proofs.Machine.{[], add_call, add_group, add_set, add_work, after_placing, after_word, ap, arith, AwaitsEvent, Blocks, Bool, ByHandle, Call, call_made, Collapses, Core, count_work, Departs, EndsOver, Enter, entries, Entry, Falls, false, free_handle, free_thread_handle, get, get-change, give_handle, give_result, give_thread_handle, GoBehind, GoesBack, has_entry, HasPlace, HasSubtask, Holds, HowFar, if◌then◌else◌, inl, inr, is_at_high, is_at_low, is_at_switch, is_begun, is_blocked_on, is_done_host, is_explicit, is_for_start, is_free, is_fresh, is_none, is_some, is_there, is_under, IsFall, IsFoot, IsRunner, IsSettling, Lands, LandsAt, LastWords, le_refl, Leaves, MakeCall, MakeThread, Mark, MayGo, MayLand, MayMove, MayPut, MayWithdraw, MayYield, Move, nat_tests, new_thread, next_thread, None, on_call, on_instance, on_thread, on_work, Option, option_map, option_map_or, Place, place_of, Places, Placing, poll_pends, Promote, promoted, push_high, Put, put_high, put_low, Quits, refl, registers_for, Remains, remove_call, remove_group, remove_set, remove_thread, remove_work, RemoveThread, Runs, says, Scene, Script, set_backpressure, set_cancel_delivered, set_cancelled, set_course, set_do_not_enter, set_do_not_suspend, set_end, set_event, set_exited, set_how_far, set_join, set_own_event, set_phase, set_place, set_position, set_register, set_result, set_saved_callee, set_saved_own, set_script, set_stage, set_started, set_starting_published, set_subtask_handle, set_thread_handle, set_trapped, set_uninteresting, set_word, Settles, SetTrapped, SetUninteresting, Some, Stay, Stays, Stop, subst, Subtask, Suspends, switch_entries, sym, T, take_result, TakeHost, TakePush, task_of, Thread, Trip, true, Turn, Uncovers, Waits, WaitsAgain, was_started, Why, with_handle, with_thread_handle, Withdraw, Word, work_queued, ℕ, ⊎_elim, ◌+◌, ◌==◌, ◌||◌, ◌∙◌, ◌≡◌, ◌≤◌, ◌⊎◌}
 use Rattle.task_rules.proofs.WalkMoves.{blocked_place}
-use Rattle.task_machine.proofs.CommuteLemmas.{get-change}
 use Rattle.task_places.proofs.Entries.{added_stand, has_stands, next_first, popped_quiet, promoted_stand, removed_fresh, withdrawn_stand, flipped}
 use Rattle.task_laws.proofs.CameLemmas.{read_same}
 use Rattle.task_rules.proofs.ChainLemmas.{along}
@@ -11,14 +10,6 @@ use Rattle.task_rules.proofs.StandLemmas.{nobody, entries-append, set_place_is, 
 use Rattle.task_rules.proofs.StopLemmas.{Untouched, behind_adds, foot_there, given_there, quiet_placed, quiet_stand, stopped_stand, switch_there}
 use Rattle.task_rules.proofs.WalkParts.{withdraws}
 use Rattle.task_rules.proofs.WalkTask.{not_main, one_runner}
-use Rattle.task_machine.specs.declared.records.HowFar.TheVariants as how_far
-use Rattle.task_machine.specs.declared.records.Script.TheVariants as script
-use Rattle.task_machine.specs.declared.records.Entry.TheVariants as entry
-use Rattle.task_machine.specs.declared.records.Place.TheVariants as place
-use Rattle.task_machine.specs.declared.records.Subtask.TheVariants as subtask
-use Rattle.task_machine.specs.declared.records.Turn.TheVariants as turn
-use Rattle.task_machine.specs.declared.records.Why.TheVariants as why
-use Rattle.task_machine.specs.declared.words.Mark.TheVariants as mark
 
 pub no_way : {A : Type 0} → false ≡ true → A
 no_way h = absurd (subst T (sym h) tt)
@@ -30,10 +21,10 @@ parked_at : (m : ℕ) (w : Why) (s : Core) → MayPut m w s → (option_map_or i
 parked_at m w s ok = (grind arith, λ h. grind arith)
 
 abbrev pub ReadyAt : Option Place → Type 0
-ReadyAt o = (x : Mark) × ((w : Why) × (o ≡ Some (place.Ready x w)))
+ReadyAt o = (x : Mark) × ((w : Why) × (o ≡ Some (Place.Ready x w)))
 
 ready_of : (o : Option Place) → 1 ≤ says is_at_switch o + says is_at_high o + says is_at_low o → ReadyAt o
-ready_of (Some (place.Ready x w)) h = (x, (w, refl))
+ready_of (Some (Place.Ready x w)) h = (x, (w, refl))
 ready_of o h = absurd (grind arith)
 
 -- a thread that has its place and an entry
@@ -52,7 +43,7 @@ waits a k = is_fresh (place_of k a.base)
 -- beside it, who is under another
 abbrev watch_of : Option Place → Watch
 watch_of None = Awaits
-watch_of (Some (place.Under m)) = Covered m
+watch_of (Some (Place.Under m)) = Covered m
 watch_of (Some p) = if is_fresh (Some p) then Awaits else Nothing
 
 abbrev pub watch : Scene → ℕ → Watch
@@ -64,26 +55,26 @@ fresh_watch o h = grind arith
 pub so_self : (o : Option Place) → is_so (watch_of o) o ≡ true
 so_self o = grind (arith, nat_tests)
 
-under_is : (m : ℕ) (o : Option Place) → option_map_or (is_under m) o false ≡ true → o ≡ Some (place.Under m)
+under_is : (m : ℕ) (o : Option Place) → option_map_or (is_under m) o false ≡ true → o ≡ Some (Place.Under m)
 under_is m o h = grind (arith, nat_tests)
 
 module _ (a : Scene) {n : ℕ} {q : Option Place} {s : Core} (st : Stand (watch a) n q [] s) where
   fresh_still : (k : ℕ) → waits a k ≡ true → is_fresh (place_of k s) ≡ true
   fresh_still k h = let e = fresh_watch (place_of k a.base) h in ap (λ v. is_so v (place_of k s)) (sym e) ∙ (st.kept k (ap is_watched e)).1
 
-  pub covered_still : (k m : ℕ) → place_of k a.base ≡ Some (place.Under m) → place_of k s ≡ Some (place.Under m)
+  pub covered_still : (k m : ℕ) → place_of k a.base ≡ Some (Place.Under m) → place_of k s ≡ Some (Place.Under m)
   covered_still k m at = let e = ap watch_of at in under_is m (place_of k s) (ap (λ v. is_so v (place_of k s)) (sym e) ∙ (st.kept k (ap is_watched e)).1)
 
 -- a parked thread that is put
-so_put : (o : Option Place) (p : Place) (x : Mark) (w : Why) → is_parked p ≡ true → (is_fresh (Some p) ≡ true → is_for_start w ≡ true) → is_so (watch_of o) (Some p) ≡ true → is_so (watch_of o) (Some (place.Ready x w)) ≡ true
+so_put : (o : Option Place) (p : Place) (x : Mark) (w : Why) → is_parked p ≡ true → (is_fresh (Some p) ≡ true → is_for_start w ≡ true) → is_so (watch_of o) (Some p) ≡ true → is_so (watch_of o) (Some (Place.Ready x w)) ≡ true
 so_put o p x w parked starts h = grind arith
 
 -- From b on the thread n stays at q, so nobody puts it; nor is it a call's that is withdrawn, or made.
 pub record Follows (a : Scene) (b : Core) (n : ℕ) (q : Option Place) : Type 0 where
   pub busy : is_busy q ≡ true
-  pub runs : (m : ℕ) → a.turn ≡ turn.Run m → (is_idle q ≡ true) × (is_fresh q ≡ false)
+  pub runs : (m : ℕ) → a.turn ≡ Turn.Run m → (is_idle q ≡ true) × (is_fresh q ≡ false)
   pub apart : (n == a.base.made.threads + 1) ≡ false
-  pub withdraws : (m k : ℕ) → IsRunner a m → HasSubtask a m (subtask.Guest k) → was_started k a.base ≡ false → waits a k ≡ true
+  pub withdraws : (m k : ℕ) → IsRunner a m → HasSubtask a m (Subtask.Guest k) → was_started k a.base ≡ false → waits a k ≡ true
   pub start : Stand (watch a) n q [] b
 
 thread_untouched : (n : ℕ) (f : Thread → Thread) (s : Core) → ((t : Thread) → (f t).place ≡ t.place) → Untouched s (on_thread n f s)
@@ -95,15 +86,15 @@ abbrev puts_of : ℕ → Word → Bool
 puts_of m (Places (Put x k w)) = k == m
 puts_of m w = false
 
-pub blocked_itself : (sub : Subtask) → is_blocked_on sub (place.Blocked sub) ≡ true
-blocked_itself (subtask.Guest k) = eq_refl k
-blocked_itself (subtask.Host i) = eq_refl i
+pub blocked_itself : (sub : Subtask) → is_blocked_on sub (Place.Blocked sub) ≡ true
+blocked_itself (Subtask.Guest k) = eq_refl k
+blocked_itself (Subtask.Host i) = eq_refl i
 
 -- a blocked thread is put once its host's work is done
-put_blocked : (m : ℕ) (sub : Subtask) (w : Why) (s : Core) → MayPut m w s → place_of m s ≡ Some (place.Blocked sub) → is_done_host sub s ≡ true
+put_blocked : (m : ℕ) (sub : Subtask) (w : Why) (s : Core) → MayPut m w s → place_of m s ≡ Some (Place.Blocked sub) → is_done_host sub s ≡ true
 put_blocked m sub w s ok at = grind arith
 
-put_done : (a : Scene) (m : ℕ) (sub : Subtask) (w : Word) (s : Core) → Stays a w s → place_of m s ≡ Some (place.Blocked sub) → puts_of m w ≡ true → is_done_host sub s ≡ true
+put_done : (a : Scene) (m : ℕ) (sub : Subtask) (w : Word) (s : Core) → Stays a w s → place_of m s ≡ Some (Place.Blocked sub) → puts_of m w ≡ true → is_done_host sub s ≡ true
 put_done a m sub (Places (Put x k w)) s (inl ok) at e = put_blocked m sub w s (subst (λ (j : ℕ). MayPut j w s) (is_eq_of k m e) ok) at
 put_done a m sub (Places (Put x k w)) s (inr ok) at e = absurd ok
 put_done a m sub _ s ok at e = no_way e
@@ -115,7 +106,7 @@ module _ {a : Scene} {b : Core} {n : ℕ} {q : Option Place} (f : Follows a b n 
   -- what is watched of a thread stays so where it is put
   abbrev Puts : (ℕ → Watch) → Word → Core → Type 0
   Puts P w s = (x : Mark) (m : ℕ) (v : Why) → w ≡ Places (Put x m v) → is_watched (P m) ≡ true → is_so (P m) (place_of m s) ≡ true →
-      is_so (P m) (Some (place.Ready x v)) ≡ true
+      is_so (P m) (Some (Place.Ready x v)) ≡ true
 
   keeps_placing : {P : ℕ → Watch} (p : Placing) (s : Core) → Stays a (Places p) s → Puts P (Places p) s → Stand P n q [] s →
       Stand P n q [] (after_placing p s)
@@ -141,7 +132,7 @@ module _ {a : Scene} {b : Core} {n : ℕ} {q : Option Place} (f : Follows a b n 
       subst (λ (t : Core). Stand P n q [] t) (sym (placing_shifted p s).only) (keeps_placing p s ok puts st)
   keeps_word (MakeThread t) s ok puts fresh st = added_stand n q t s (grind (arith, f.apart)) (ap (λ (r : Thread). r.place) ok.1.1.1.1.1.0) st
   keeps_word (MakeCall g e x goal group words) s ok puts fresh st =
-      added_stand n q (new_thread (next_thread s) false script.Start (registers_for words) None) _ (grind (arith, f.apart)) refl
+      added_stand n q (new_thread (next_thread s) false Script.Start (registers_for words) None) _ (grind (arith, f.apart)) refl
       (quiet_stand n q [] s _ (grind arith) st)
   keeps_word {P = P} (Withdraw k) s ok puts fresh st =
       let gone = fresh k refl in
@@ -149,9 +140,9 @@ module _ {a : Scene} {b : Core} {n : ℕ} {q : Option Place} (f : Follows a b n 
       (withdrawn_stand n q k s (not_here k s st (λ e. let runs = f.runs ok.0 ok.1.1.1.1.1.0 in absurd (grind arith))) gone st)
   keeps_word (RemoveThread m) s ok puts fresh st = absurd ok
   keeps_word (TakePush x i) s ok puts fresh st =
-      let u = popped_quiet x (entry.Push i) s (next_first s x (entry.Push i) ok) (λ k. refl) in quiet_stand n q [] s _ (grind arith) st
+      let u = popped_quiet x (Entry.Push i) s (next_first s x (Entry.Push i) ok) (λ k. refl) in quiet_stand n q [] s _ (grind arith) st
   keeps_word (TakeHost x i) s ok puts fresh st =
-      let u = popped_quiet x (entry.Host i) s (next_first s x (entry.Host i) ok) (λ k. refl) in quiet_stand n q [] s _ (grind arith) st
+      let u = popped_quiet x (Entry.Host i) s (next_first s x (Entry.Host i) ok) (λ k. refl) in quiet_stand n q [] s _ (grind arith) st
   keeps_word w s ok puts fresh st = quiet_stand n q [] s _ (grind (arith, nat_tests, get-change, entries-append)) st
 
   withdraws_waits : (k : ℕ) (s : Core) → MayWithdraw a k s → waits a k ≡ true
@@ -162,7 +153,7 @@ module _ {a : Scene} {b : Core} {n : ℕ} {q : Option Place} (f : Follows a b n 
       (λ k e. waiting k (subst (λ (y : Word). Stays a y s) e ok)) st
     where
       puts : (x : Mark) (m : ℕ) (v : Why) → Stays a (Places (Put x m v)) s → is_so (watch a m) (place_of m s) ≡ true →
-          is_so (watch a m) (Some (place.Ready x v)) ≡ true
+          is_so (watch a m) (Some (Place.Ready x v)) ≡ true
       puts x m v (inl may) so =
           let r = parked_at m v s may in
           let p = at_place is_parked (place_of m s) r.0 in
@@ -174,7 +165,7 @@ module _ {a : Scene} {b : Core} {n : ℕ} {q : Option Place} (f : Follows a b n 
 
   -- a thread that is blocked stays so, but where its host's work is done
   pub stuck_word : (m : ℕ) (sub : Subtask) (w : Word) (s : Core) → Stays a w s → Stand (watch a) n q [] s →
-      place_of m s ≡ Some (place.Blocked sub) → (place_of m (after_word w s) ≡ Some (place.Blocked sub)) ⊎ (is_done_host sub s ≡ true)
+      place_of m s ≡ Some (Place.Blocked sub) → (place_of m (after_word w s) ≡ Some (Place.Blocked sub)) ⊎ (is_done_host sub s ≡ true)
   stuck_word m sub w s ok st at = by_put (puts_of m w) refl
     where
       only : ℕ → Watch
@@ -183,7 +174,7 @@ module _ {a : Scene} {b : Core} {n : ℕ} {q : Option Place} (f : Follows a b n 
       before : Stand only n q [] s
       before = watching n q [] s (λ k h. (refl, let i = blocked_itself sub in grind (arith, nat_tests))) st
 
-      by_put : (b : Bool) → puts_of m w ≡ b → (place_of m (after_word w s) ≡ Some (place.Blocked sub)) ⊎ (is_done_host sub s ≡ true)
+      by_put : (b : Bool) → puts_of m w ≡ b → (place_of m (after_word w s) ≡ Some (Place.Blocked sub)) ⊎ (is_done_host sub s ≡ true)
       by_put true e = inr (put_done a m sub w s ok at e)
       by_put false e =
           let t = keeps_word w s ok (λ x k v is g so. let p = ap (puts_of m) is in absurd (grind (arith, nat_tests)))
@@ -204,11 +195,11 @@ Begun a k t = ((is_there k a.base ≡ true) × (is_explicit k a.base ≡ false �
 -- another still is, or that one is gone and its turn comes, or it's gone too; and one that was made and runs has the runner under it.
 pub record Arrives (a : Scene) (t : Core) : Type 0 where
   pub placed : All t
-  pub runs : (m : ℕ) → a.next ≡ turn.Run m → place_of m t ≡ Some place.Running
+  pub runs : (m : ℕ) → a.next ≡ Turn.Run m → place_of m t ≡ Some Place.Running
   pub fresh : (k : ℕ) → waits a k ≡ true → (is_fresh (place_of k t) ≡ true) ⊎ Begun a k t
-  pub covered : (k m : ℕ) → place_of k a.base ≡ Some (place.Under m) → (place_of k t ≡ Some (place.Under m)) ⊎
-      ((place_of m t ≡ None) × ((a.next ≡ turn.Run k) ⊎ (place_of k t ≡ None)))
-  pub entered : (m : ℕ) → place_of m a.base ≡ None → a.next ≡ turn.Run m → (n : ℕ) × (IsRunner a n × (place_of n t ≡ Some (place.Under m)))
+  pub covered : (k m : ℕ) → place_of k a.base ≡ Some (Place.Under m) → (place_of k t ≡ Some (Place.Under m)) ⊎
+      ((place_of m t ≡ None) × ((a.next ≡ Turn.Run k) ⊎ (place_of k t ≡ None)))
+  pub entered : (m : ℕ) → place_of m a.base ≡ None → a.next ≡ Turn.Run m → (n : ℕ) × (IsRunner a n × (place_of n t ≡ Some (Place.Under m)))
 
 far_arrives : (a : Scene) (n : ℕ) (h : HowFar) (s : Core) → Arrives a s → Arrives a (set_how_far n h s)
 unfolding set_how_far on_thread
@@ -228,12 +219,12 @@ far_arrives a n h s r =
 -- ---- The thread itself comes to a place
 
 -- who is taken and waits for its start is taken for it
-fresh_ready : (p : Place) → is_busy (Some p) ≡ true → is_fresh (Some p) ≡ true → (x : Mark) × (p ≡ place.Ready x why.Start)
-fresh_ready (place.Ready x why.Start) b h = (x, refl)
+fresh_ready : (p : Place) → is_busy (Some p) ≡ true → is_fresh (Some p) ≡ true → (x : Mark) × (p ≡ Place.Ready x Why.Start)
+fresh_ready (Place.Ready x Why.Start) b h = (x, refl)
 fresh_ready p b h = absurd (grind arith)
 
 abbrev pub is_run : Turn → Bool
-is_run (turn.Run n) = true
+is_run (Turn.Run n) = true
 is_run _ = false
 
 pub yield_leaves : {a : Scene} (k : ℕ) (w : Why) → MayYield a k w → Leaves a k
@@ -245,7 +236,7 @@ pub move_runner : {a : Scene} (k : ℕ) (r : Place) (s : Core) → MayMove a k r
 move_runner k r s ok there = grind (arith, there)
 
 abbrev pub is_under_place : Option Place → Bool
-is_under_place (Some (place.Under m)) = true
+is_under_place (Some (Place.Under m)) = true
 is_under_place _ = false
 
 -- How the words begin beside the thread n, which runs or was taken at the place p.
@@ -259,7 +250,7 @@ module _ {a : Scene} {b : Core} {n : ℕ} {p : Place} (h : Beside a b n p) {s : 
   pub stands : Stand (watch a) n (Some p) [] s
   stands = stay_stand h.follows c
 
-  comes : (r : Place) (t : Core) → Adds n r s t → ((m : ℕ) → a.next ≡ turn.Run m → (m ≡ n) × (r ≡ place.Running)) →
+  comes : (r : Place) (t : Core) → Adds n r s t → ((m : ℕ) → a.next ≡ Turn.Run m → (m ≡ n) × (r ≡ Place.Running)) →
       (waits a n ≡ true → (is_fresh (Some r) ≡ true) ⊎ Begun a n t) → Arrives a t
   comes r t adds runs fresh = record {
     placed = adds_all n (Some p) r s t adds stands;
@@ -272,33 +263,33 @@ module _ {a : Scene} {b : Core} {n : ℕ} {p : Place} (h : Beside a b n p) {s : 
   }
 
   -- a running thread waits for no start
-  begun : {A : Type 0} → a.turn ≡ turn.Run n → waits a n ≡ true → A
+  begun : {A : Type 0} → a.turn ≡ Turn.Run n → waits a n ≡ true → A
   begun runs w = let home = h.home in absurd (grind (arith, h.follows.runs n runs))
 
   left : (r : Place) (t : Core) → Leaves a n → (place_of n s ≡ Some p → Adds n r s t) → Arrives a t
   left r t leave adds = comes r t (adds stands.here) (λ m to. not_main m (sym leave.1.0 ∙ to)) (λ w. begun leave.1.1 w)
 
   -- by a direct call it is under the new thread
-  enters : (m : ℕ) → MayLand a (Enter n m) s → Arrives a (set_place n (place.Under m) (set_place m place.Running s))
+  enters : (m : ℕ) → MayLand a (Enter n m) s → Arrives a (set_place n (Place.Under m) (set_place m Place.Running s))
   unfolding set_place on_thread
   enters m ok =
       let idle = (h.follows.runs n ok.1.1.1.1.1.0).0 in
       let new = ok.1.1.1.0 in
-      let u = set_place m place.Running s in
-      let all : All u = adds_all m (Some place.New) place.Running s u (set_place_adds m place.Running place.New s refl new)
-      (stand_of {P = nobody} m (Some place.New) s new refl (λ k w. absurd (grind arith)) (all_of n (Some p) s idle stands)) in
-      let at : place_of n u ≡ Some p = place_kept n m place.Running s (flipped n m apart) ∙ stands.here in
-      let t = set_place n (place.Under m) u in
+      let u = set_place m Place.Running s in
+      let all : All u = adds_all m (Some Place.New) Place.Running s u (set_place_adds m Place.Running Place.New s refl new)
+      (stand_of {P = nobody} m (Some Place.New) s new refl (λ k w. absurd (grind arith)) (all_of n (Some p) s idle stands)) in
+      let at : place_of n u ≡ Some p = place_kept n m Place.Running s (flipped n m apart) ∙ stands.here in
+      let t = set_place n (Place.Under m) u in
       record {
-        placed = adds_all n (Some p) (place.Under m) u t (set_place_adds n (place.Under m) p u refl at)
+        placed = adds_all n (Some p) (Place.Under m) u t (set_place_adds n (Place.Under m) p u refl at)
             (stand_of {P = nobody} n (Some p) u at idle (λ k w. absurd (grind arith)) all);
         runs = λ k to. let e = one_runner k m (sym to ∙ ok.1.0) in
-            grind (arith, nat_tests, apart, set_place_is m n (place.Under m) u, set_place_is m m place.Running s);
+            grind (arith, nat_tests, apart, set_place_is m n (Place.Under m) u, set_place_is m m Place.Running s);
         fresh = λ k w. by_number k m _ (λ e. inr (inr (rw e ok.1.1.1.1.1.1.0))) (λ e. let own = λ (g : waits a n ≡ true). begun {A = ⊥} ok.1.1.1.1.1.0 g in
-            inl (grind (arith, nat_tests, set_place_is k n (place.Under m) u, set_place_is k m place.Running s, fresh_still a stands k w, own)));
+            inl (grind (arith, nat_tests, set_place_is k n (Place.Under m) u, set_place_is k m Place.Running s, fresh_still a stands k w, own)));
         covered = λ k j under. let still = covered_still a stands k j under in
-            inl (grind (arith, nat_tests, set_place_is k n (place.Under m) u, set_place_is k m place.Running s, h.home, h.top));
-        entered = λ k none to. (n, (h.runner, let e = one_runner k m (sym to ∙ ok.1.0) in grind (arith, place_written n (place.Under m) p u at)));
+            inl (grind (arith, nat_tests, set_place_is k n (Place.Under m) u, set_place_is k m Place.Running s, h.home, h.top));
+        entered = λ k none to. (n, (h.runner, let e = one_runner k m (sym to ∙ ok.1.0) in grind (arith, place_written n (Place.Under m) p u at)));
       }
     where
       apart : (m == n) ≡ false
@@ -325,7 +316,7 @@ record Falling (a : Scene) (n : ℕ) (s : Core) : Type 0 where
   pub own : Loose n s
   pub idle : (k : ℕ) → is_idle (place_of k a.base) ≡ true → is_idle (place_of k s) ≡ true
   pub fresh : (k : ℕ) → waits a k ≡ true → is_fresh (place_of k s) ≡ true
-  pub covered : (k m : ℕ) → place_of k a.base ≡ Some (place.Under m) → (place_of k s ≡ Some (place.Under m)) ⊎ ((place_of m s ≡ None) × (place_of k s ≡ None))
+  pub covered : (k m : ℕ) → place_of k a.base ≡ Some (Place.Under m) → (place_of k s ≡ Some (Place.Under m)) ⊎ ((place_of m s ≡ None) × (place_of k s ≡ None))
 
 -- How the words begin and end beside the thread n, which runs or was taken; or there is no such thread.
 pub record Frame (a : Scene) (b : Core) (n : ℕ) (q : Option Place) : Type 0 where
@@ -333,7 +324,7 @@ pub record Frame (a : Scene) (b : Core) (n : ℕ) (q : Option Place) : Type 0 wh
   pub home : (k : ℕ) → place_of k b ≡ place_of k a.base
   pub one : (m : ℕ) → IsRunner a m → m ≡ n
   pub there : (m : ℕ) → IsRunner a m → (p : Place) × ((q ≡ Some p) × (is_under_place (Some p) ≡ false))
-  pub running : (m : ℕ) → a.turn ≡ turn.Run m → (m ≡ n) × (q ≡ Some place.Running)
+  pub running : (m : ℕ) → a.turn ≡ Turn.Run m → (m ≡ n) × (q ≡ Some Place.Running)
   pub rests : (t : Core) → LastWords a t → (is_idle (place_of n a.base) ≡ true → is_idle (place_of n t) ≡ true) → is_idle (place_of n t) ≡ true
 
 module _ {a : Scene} {b : Core} {n : ℕ} {q : Option Place} (f : Frame a b n q) where
@@ -347,7 +338,7 @@ module _ {a : Scene} {b : Core} {n : ℕ} {q : Option Place} (f : Frame a b n q)
   pub runner_there : (k : ℕ) (s : Core) → IsRunner a k → Stay a b s → is_none (get s.threads k) ≡ false
   runner_there k s is c = let here = (stands (beside k is).1 c).here in grind arith
 
-  pub no_cover : (k m : ℕ) → IsRunner a k → place_of k a.base ≡ Some (place.Under m) → {A : Type 0} → A
+  pub no_cover : (k m : ℕ) → IsRunner a k → place_of k a.base ≡ Some (Place.Under m) → {A : Type 0} → A
   no_cover k m is at = let h = (beside k is).1 in let home = h.home in let top = h.top in absurd (grind arith)
 
   moves : (k : ℕ) (r : Place) (s : Core) → MayMove a k r s → Stay a b s → Arrives a (set_place k r s)
@@ -373,11 +364,11 @@ module _ {a : Scene} {b : Core} {n : ℕ} {q : Option Place} (f : Frame a b n q)
   moves k r s (Suspends l at) c = let h = beside k l.0 in left h.1 c r _ l (set_place_adds k r h.0 s (ap is_free at))
 
   lands : (x : Placing) (s : Core) → MayLand a x s → Stay a b s → Arrives a (after_placing x s)
-  lands (Put mark.High k w) s ok c =
-      let l = yield_leaves k w ok in let h = beside k l.0 in left h.1 c (place.Ready mark.High w) _ l (put_high_adds k w h.0 s)
-  lands (Put mark.Low k w) s ok c =
-      let l = yield_leaves k w ok in let h = beside k l.0 in left h.1 c (place.Ready mark.Low w) _ l (put_low_adds k w h.0 s)
-  lands (GoBehind g k) s ok c = let h = beside k ok.0.0 in left h.1 c (place.Behind g) _ ok.0 (behind_adds g k h.0 s (foot_given h.1 c g ok.1))
+  lands (Put Mark.High k w) s ok c =
+      let l = yield_leaves k w ok in let h = beside k l.0 in left h.1 c (Place.Ready Mark.High w) _ l (put_high_adds k w h.0 s)
+  lands (Put Mark.Low k w) s ok c =
+      let l = yield_leaves k w ok in let h = beside k l.0 in left h.1 c (Place.Ready Mark.Low w) _ l (put_low_adds k w h.0 s)
+  lands (GoBehind g k) s ok c = let h = beside k ok.0.0 in left h.1 c (Place.Behind g) _ ok.0 (behind_adds g k h.0 s (foot_given h.1 c g ok.1))
   lands (Move k r) s ok c = moves k r s ok c
   lands (Enter k m) s ok c = enters (beside k ok.0).1 c m ok
   lands x s ok c = absurd ok
@@ -390,12 +381,12 @@ module _ {a : Scene} {b : Core} {n : ℕ} {q : Option Place} (f : Frame a b n q)
     own = removed_loose n j s h.own;
     idle = λ k i. grind (arith, nat_tests, removed_is k j s, h.idle k);
     fresh = λ k w. removed_fresh k j s (h.fresh k w);
-    covered = λ k m at. let up = λ (e : place_of j a.base ≡ Some (place.Under m)). above m e ok in
+    covered = λ k m at. let up = λ (e : place_of j a.base ≡ Some (Place.Under m)). above m e ok in
         grind (arith, nat_tests, removed_is k j s, removed_is m j s, h.covered k m, up);
   }
     where
       -- who goes is the runner, or was under one that is gone
-      above : (m : ℕ) → place_of j a.base ≡ Some (place.Under m) → MayGo a j s → place_of m (remove_thread j s) ≡ None
+      above : (m : ℕ) → place_of j a.base ≡ Some (Place.Under m) → MayGo a j s → place_of m (remove_thread j s) ≡ None
       above m at (Departs l) = no_cover j m l.0 at
       above m at (EndsOver i is to under) = no_cover j m is at
       above m at (Falls over (inl i)) = no_cover j m i at
@@ -427,7 +418,7 @@ module _ {a : Scene} {b : Core} {n : ℕ} {q : Option Place} (f : Frame a b n q)
   -- the thread exits
   pub exits : (k : ℕ) (s t : Core) → IsRunner a k → Stay a b s → Settles (after_word (RemoveThread k) s) t →
       All t × (((j : ℕ) → waits a j ≡ true → is_fresh (place_of j t) ≡ true) ×
-      ((j m : ℕ) → place_of j a.base ≡ Some (place.Under m) → place_of j t ≡ Some (place.Under m)))
+      ((j m : ℕ) → place_of j a.base ≡ Some (Place.Under m) → place_of j t ≡ Some (Place.Under m)))
   exits k s t is c d =
       let u = settles_quiet d in
       let h = beside k is in
@@ -435,26 +426,26 @@ module _ {a : Scene} {b : Core} {n : ℕ} {q : Option Place} (f : Frame a b n q)
         λ j. quiet_placed j (remove_thread k s) t u (removed_all k (Some h.0) s st j),
         (
           λ j w. ap is_fresh (u.places j) ∙ removed_fresh j k s (fresh_still a st j w),
-          λ j m at. let own = λ (e : place_of k a.base ≡ Some (place.Under m)). no_cover k m is e {A = ⊥} in
+          λ j m at. let own = λ (e : place_of k a.base ≡ Some (Place.Under m)). no_cover k m is e {A = ⊥} in
               grind (arith, nat_tests, u.places j, removed_is j k s, covered_still a st j m at, own),
         ),
       )
 
   -- and the one under it goes on
-  goes_back : (s t : Core) (k m : ℕ) → Stay a b s → IsRunner a k → a.turn ≡ turn.Run k → a.next ≡ turn.Run m →
-      place_of m a.base ≡ Some (place.Under k) → Settles (after_word (RemoveThread k) s) t → Arrives a (set_place m place.Running t)
+  goes_back : (s t : Core) (k m : ℕ) → Stay a b s → IsRunner a k → a.turn ≡ Turn.Run k → a.next ≡ Turn.Run m →
+      place_of m a.base ≡ Some (Place.Under k) → Settles (after_word (RemoveThread k) s) t → Arrives a (set_place m Place.Running t)
   goes_back s t k m c is runs to under d =
       let e = exits k s t is c d in
-      let at : place_of m t ≡ Some (place.Under k) = e.1.1 m k under in
+      let at : place_of m t ≡ Some (Place.Under k) = e.1.1 m k under in
       let low : place_of k t ≡ None = (settles_quiet d).places k ∙ gone_place k s in
-      let u = set_place m place.Running t in
+      let u = set_place m Place.Running t in
       record {
-        placed = adds_all m (Some (place.Under k)) place.Running t u (set_place_adds m place.Running (place.Under k) t refl at)
-            (stand_of {P = nobody} m (Some (place.Under k)) t at refl (λ j w. absurd (grind arith)) e.0);
-        runs = λ j next. let one = one_runner j m (sym next ∙ to) in let own = place_written m place.Running (place.Under k) t at in cc;
-        fresh = λ j w. let still = e.1.0 j w in inl (grind (arith, nat_tests, set_place_is j m place.Running t));
+        placed = adds_all m (Some (Place.Under k)) Place.Running t u (set_place_adds m Place.Running (Place.Under k) t refl at)
+            (stand_of {P = nobody} m (Some (Place.Under k)) t at refl (λ j w. absurd (grind arith)) e.0);
+        runs = λ j next. let one = one_runner j m (sym next ∙ to) in let own = place_written m Place.Running (Place.Under k) t at in cc;
+        fresh = λ j w. let still = e.1.0 j w in inl (grind (arith, nat_tests, set_place_is j m Place.Running t));
         covered = λ i j over. let still = e.1.1 i j over in
-            grind (arith, nat_tests, set_place_is i m place.Running t, set_place_is j m place.Running t);
+            grind (arith, nat_tests, set_place_is i m Place.Running t, set_place_is j m Place.Running t);
         entered = λ j none next. let one = one_runner j m (sym next ∙ to) in absurd (cc);
       }
 
@@ -484,8 +475,8 @@ module _ {a : Scene} {b : Core} {n : ℕ} {q : Option Place} (f : Frame a b n q)
         entered = λ m none to. not_main m (sym leave.1.0 ∙ to);
       }
   trip_arrives (GoesBack s t k m v c is runs to under d ok) w =
-      far_arrives a m (how_far.Answered v) _
-      (subst (λ (u : Core). Arrives a u) (sym (placing_shifted (Move m place.Running) t).only) (goes_back s t k m c is runs to under d))
+      far_arrives a m (HowFar.Answered v) _
+      (subst (λ (u : Core). Arrives a u) (sym (placing_shifted (Move m Place.Running) t).only) (goes_back s t k m c is runs to under d))
   trip_arrives (Collapses t over c) w =
       let h = along (Falling a n) fall_word falling c in
       record {

@@ -1,23 +1,11 @@
 -- Checks after other moves: after a release and a stop, told on the state before, and after a return.
-use Rattle.task_rules.proofs.Machine.{[], admitted_held, All, ap, arith, behind, behind_one, blocking_returned, BlockingCheckIsAfter, Bool, CallbackCheckIsAfter, Caller, caller_of, callers_of, code_stops, Core, end_reopens, Entry, false, find, first_at, first_entry, first_in, first_waiter, foot_of, get, give_result, Goal, goal_of, has_waiter, held_by_flag, held_why_of, if◌then◌else◌, instance_of, is_at, is_entry_in, is_held_admitted, is_nil, is_some, is_told, is_waiting_on, IsPermutation, Join, join_of, length, List, list_any, list_any-append, may_not_suspend, may_publish, may_tell, may_wake, may_wake_joined, Move, nat_cmp, nat_tests, newest, None, not, not-true, numbers, older, on_call, on_instance, on_thread, Option, option_map, option_map_or, passed_on, passes_after_return, passes_after_stop, passes_check, published, push_high, put_high, put_switch, refl, register_of, released, released_one, result_given, resumed_all, returned, set_callers, set_do_not_enter, set_end, set_event, set_place, set_register, set_result, set_switch, Some, Status, stopped, sym, task_of, Thread, told, true, waiter_told, wake, wake_joined, Why, ℕ, ◌==◌, ◌||◌, ◌∙◌, ◌∷◌, ◌≡◌}
+use Rattle.task_rules.proofs.Machine.{[], admitted_held, All, ap, arith, behind, behind_one, blocking_returned, BlockingCheckIsAfter, Bool, CallbackCheckIsAfter, CallEnd, Caller, caller_of, callers_of, code_stops, Core, end_reopens, Entry, false, find, first_at, first_entry, first_in, first_waiter, foot_of, get, get-change, give_result, Goal, goal_of, has_waiter, held_by_flag, held_why_of, if◌then◌else◌, instance_of, is_at, is_entry_in, is_held_admitted, is_nil, is_some, is_told, is_waiting_on, IsPermutation, Join, join_of, length, List, list_any, list_any-append, Mark, may_not_suspend, may_publish, may_tell, may_wake, may_wake_joined, Move, nat_cmp, nat_tests, newest, None, not, not-true, numbers, older, on_call, on_instance, on_thread, Option, option_map, option_map_or, passed_on, passes_after_return, passes_after_stop, passes_check, Place, published, push_high, put_high, put_switch, refl, register_of, released, released_one, result_given, resumed_all, returned, set_callers, set_do_not_enter, set_end, set_event, set_place, set_register, set_result, set_switch, Some, Status, stopped, Subtask, sym, task_of, Thread, told, true, waiter_told, wake, wake_joined, Why, ℕ, ◌==◌, ◌||◌, ◌∙◌, ◌∷◌, ◌≡◌}
 use Rattle.std.proofs.Math.Bool.{or-false}
 use Rattle.std.proofs.lemmas.List.{nil_from_length}
 use Rattle.std.proofs.lemmas.List.Elements.{filter_passes}
 use Rattle.std.proofs.lemmas.List.Sorted.{All-permutation, IsPermutation-refl, length_permutation}
-use Rattle.task_machine.specs.declared.records.Entry.TheVariants as entry
-use Rattle.task_machine.specs.declared.records.Place.TheVariants as place
-use Rattle.task_machine.specs.declared.records.Why.TheVariants as why
-use Rattle.task_machine.specs.declared.words.Mark.TheVariants as mark
-use Rattle.task_machine.proofs.CommuteLemmas.{get-change}
 use Rattle.task_rules.proofs.PlacingLemmas.{placing_shifted, shifted_instance}
 use Rattle.std.specs.FinMap.Entries.{find as seek}
-use Rattle.task_machine.specs.declared.records.CallEnd.TheVariants as call_end
-use Rattle.task_machine.specs.declared.records.Caller.TheVariants as caller
-use Rattle.task_machine.specs.declared.records.Delivery.TheVariants as delivery
-use Rattle.task_machine.specs.declared.records.Goal.TheVariants as goal
-use Rattle.task_machine.specs.declared.records.Join.TheVariants as join
-use Rattle.task_machine.specs.declared.records.Subtask.TheVariants as subtask
-use Rattle.task_machine.specs.declared.words.Status.TheVariants as status
 
 -- ---- What passes a check
 
@@ -42,16 +30,16 @@ same_passes i s t queues flag same =
     let in_it : is_entry_in i t ≡ is_entry_in i s = λ j e. at e j in grind (arith, passes_is i s, passes_is i t, in_it)
   where
     at : (e : Entry) → is_entry_in i t e ≡ is_entry_in i s e
-    at (entry.Thread n) = ap (λ m. m == i) (same n)
+    at (Entry.Thread n) = ap (λ m. m == i) (same n)
     at _ = refl
 
 -- a thread's entry comes to high
 put_passes : (i n : ℕ) (w : Why) (s : Core) → passes_check i (put_high n w s) ≡ (passes_check i s || (instance_of n s == i))
 unfolding put_high push_high set_place on_thread
 put_passes i n w s =
-    let t = set_place n (place.Ready mark.High w) s in
-    let same = λ (m : ℕ). shifted_instance (placing_shifted (Move n (place.Ready mark.High w)) s) m in
-    let more = list_any-append (is_entry_in i t) s.queues.high (entry.Thread n ∷ []) in
+    let t = set_place n (Place.Ready Mark.High w) s in
+    let same = λ (m : ℕ). shifted_instance (placing_shifted (Move n (Place.Ready Mark.High w)) s) m in
+    let more = list_any-append (is_entry_in i t) s.queues.high (Entry.Thread n ∷ []) in
     grind (arith, passes_is i (put_high n w s), passes_is i t, same_passes i s t refl refl same, same n)
 
 -- ---- A stop
@@ -64,7 +52,7 @@ behind_switch f (n ∷ ns) s = behind_switch f ns (behind_one f n s)
 resumed_switch : (ns : List ℕ) (s : Core) → (resumed_all ns s).queues.switch ≡ s.queues.switch
 unfolding put_high push_high set_place on_thread
 resumed_switch [] s = refl
-resumed_switch (n ∷ ns) s = resumed_switch ns (put_high n why.Resumption s)
+resumed_switch (n ∷ ns) s = resumed_switch ns (put_high n Why.Resumption s)
 
 stop_passes : (i f : ℕ) (s : Core) → passes_check i (stopped f s) ≡ (passes_check i s || not (is_nil (callers_of f s)))
 unfolding stopped passes_check set_callers first_entry put_switch set_switch
@@ -78,7 +66,7 @@ stop_passes i f s = by_switch s.queues.switch (callers_of f s) refl
     by_switch (Some m) [] e = grind arith
     by_switch None [] e = grind arith
     by_switch (Some m) (n ∷ ns) e = grind (arith, behind_switch (foot_of m t) (n ∷ ns) t)
-    by_switch None (n ∷ ns) e = grind (arith, resumed_switch (older n ns) (put_switch (newest n ns) why.Resumption t))
+    by_switch None (n ∷ ns) e = grind (arith, resumed_switch (older n ns) (put_switch (newest n ns) Why.Resumption t))
 
 -- ---- A release
 
@@ -132,25 +120,25 @@ callback_check n s order perm =
 told_keeps : (i k : ℕ) (e : Status) (w : Option ℕ) (s : Core) → passes_check i s ≡ true → passes_check i (told k e w s) ≡ true
 unfolding told published wake set_event on_call
 told_keeps i k e w s h =
-    let t = set_event (subtask.Guest k) (Some e) s in
+    let t = set_event (Subtask.Guest k) (Some e) s in
     let same = same_passes i s t refl refl (λ n. grind (arith, nat_tests, get-change)) in
     grind (arith, put_passes i)
 
 given_keeps : (i : ℕ) (g : Goal) (f : Caller) (k v : ℕ) (s : Core) →
-    passes_check i (result_given g f k v (set_end k call_end.Returned s)) ≡ passes_check i s
+    passes_check i (result_given g f k v (set_end k CallEnd.Returned s)) ≡ passes_check i s
 unfolding give_result set_register on_thread set_result on_call set_end
-given_keeps i (goal.Register r) (caller.Thread n) k v s = same_passes i s _ refl refl (λ m. grind (arith, nat_tests, get-change))
-given_keeps i (goal.Register r) caller.Main k v s = same_passes i s _ refl refl (λ m. grind (arith, nat_tests, get-change))
+given_keeps i (Goal.Register r) (Caller.Thread n) k v s = same_passes i s _ refl refl (λ m. grind (arith, nat_tests, get-change))
+given_keeps i (Goal.Register r) Caller.Main k v s = same_passes i s _ refl refl (λ m. grind (arith, nat_tests, get-change))
 given_keeps i _ f k v s = same_passes i s _ refl refl (λ m. grind (arith, nat_tests, get-change))
 
 returned_keeps : (i k v : ℕ) (w : Option ℕ) (s : Core) → passes_check i s ≡ true → passes_check i (returned k v w s) ≡ true
 unfolding returned
-returned_keeps i k v w s h = told_keeps i k status.Returned w _ (given_keeps i (goal_of k s) (caller_of k s) k v s ∙ h)
+returned_keeps i k v w s h = told_keeps i k Status.Returned w _ (given_keeps i (goal_of k s) (caller_of k s) k v s ∙ h)
 
 -- ---- The first waiter
 
 returned_told : (g : Goal) (f : Caller) (k v : ℕ) (s : Core) →
-    is_told k (result_given g f k v (set_end k call_end.Returned s)) ≡ is_told k s
+    is_told k (result_given g f k v (set_end k CallEnd.Returned s)) ≡ is_told k s
 unfolding give_result set_register on_thread set_result on_call set_end
 returned_told g f k v s = grind (arith, nat_tests, get-change)
 
@@ -176,19 +164,19 @@ told_first : (k : ℕ) (e : Status) (w : Option ℕ) (s t : Core) → may_tell k
     told k e (waiter_told k w s) t ≡ told k e w t
 unfolding told may_tell may_publish may_wake
 told_first k e (Some m) s t lawful same = refl
-told_first k e None s t lawful same = by_join (join_of (subtask.Guest k) s) (is_told k s) same lawful
+told_first k e None s t lawful same = by_join (join_of (Subtask.Guest k) s) (is_told k s) same lawful
   where
     by_join : (j : Join) (b : Bool) → is_told k t ≡ b → (if b then may_wake_joined j None s else true) ≡ true →
         told k e (first_waiter j s) t ≡ told k e None t
-    by_join (join.Set x) true is may = ap (λ w. told k e w t) (no_first x s may)
-    by_join (join.Set x) false is may = grind arith
+    by_join (Join.Set x) true is may = ap (λ w. told k e w t) (no_first x s may)
+    by_join (Join.Set x) false is may = grind arith
     by_join _ b is may = refl
 
 returned_first : (k v : ℕ) (w : Option ℕ) (s t : Core) → may_tell k w s ≡ true → t.calls ≡ s.calls →
     returned k v (waiter_told k w s) t ≡ returned k v w t
 unfolding returned
 returned_first k v w s t lawful same =
-    told_first k status.Returned w s (result_given (goal_of k t) (caller_of k t) k v (set_end k call_end.Returned t)) lawful
+    told_first k Status.Returned w s (result_given (goal_of k t) (caller_of k t) k v (set_end k CallEnd.Returned t)) lawful
     (grind (arith, returned_told (goal_of k t) (caller_of k t) k v t))
 
 -- where a thread is released the check passes anyhow, else the waiter alone may differ

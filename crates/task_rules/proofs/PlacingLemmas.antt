@@ -1,16 +1,10 @@
 -- A change of where threads are leaves all else.
-use Rattle.task_rules.proofs.Machine.{[], after_placing, after_word, ap, arith, behind, behind_one, Bool, callers_of, Chain, Core, Entry, false, foot_of, get, has_entry, how_far_of, if◌then◌else◌, inl, inr, instance_of, is_explicit, IsShift, less, List, Mark, may, MayLeave, MayShift, nat_tests, newest, next_entry, None, older, on_thread, Option, option_map, or_high, passed_on, Place, placed_as, Places, Placing, Pop, popped, Promote, promoted, push_high, push_high_first, push_low, Put, put_high, put_low, put_switch, refl, rest_of, resumed_all, Scene, set_callers, set_high, set_low, set_place, set_switch, Shifts, Some, Stop, stopped, subst, sym, task_of, Then, Thread, true, unqueued, Why, Word, ℕ, ◌++◌, ◌∙◌, ◌∷◌, ◌≡◌, ◌⊎◌}
-use Rattle.task_machine.proofs.CommuteLemmas.{get-change}
-use Rattle.task_machine.specs.declared.records.HowFar.TheVariants as how_far
+use Rattle.task_rules.proofs.Machine.{[], after_placing, after_word, ap, arith, behind, behind_one, Bool, callers_of, Chain, Core, Entry, false, foot_of, get, get-change, has_entry, how_far_of, if◌then◌else◌, inl, inr, instance_of, is_explicit, IsShift, less, List, Mark, may, MayLeave, MayShift, nat_tests, newest, next_entry, None, older, on_thread, Option, option_map, or_high, passed_on, Place, placed_as, Places, Placing, Pop, popped, Promote, promoted, push_high, push_high_first, push_low, Put, put_high, put_low, put_switch, refl, rest_of, resumed_all, Scene, set_callers, set_high, set_low, set_place, set_switch, Shifts, Some, Stop, stopped, subst, sym, task_of, Then, Thread, true, unqueued, Why, Word, ℕ, ◌++◌, ◌∙◌, ◌∷◌, ◌≡◌, ◌⊎◌}
 use Rattle.task_rules.proofs.ChainLemmas.{along}
-use Rattle.task_machine.specs.declared.records.Entry.TheVariants as entry
-use Rattle.task_machine.specs.declared.records.Place.TheVariants as place
-use Rattle.task_machine.specs.declared.records.Why.TheVariants as why
-use Rattle.task_machine.specs.declared.words.Mark.TheVariants as mark
 
 -- the record of a thread but for its place
 abbrev pub unplaced : Thread → Thread
-unplaced t = record t { place = place.New }
+unplaced t = record t { place = Place.New }
 
 -- From s to t only places, entries and callers change.
 pub record Shifted (s t : Core) : Type 0 where
@@ -52,7 +46,7 @@ resumed_shifted : (ns : List ℕ) (s : Core) → Shifted s (resumed_all ns s)
 unfolding put_high push_high set_place on_thread
 resumed_shifted [] s = shifted_same s
 resumed_shifted (n ∷ ns) s =
-    shifted_after (record { only = refl; threads = λ k. grind (arith, nat_tests, get-change) }) (resumed_shifted ns (put_high n why.Resumption s))
+    shifted_after (record { only = refl; threads = λ k. grind (arith, nat_tests, get-change) }) (resumed_shifted ns (put_high n Why.Resumption s))
 
 put_switch_shifted : (n : ℕ) (w : Why) (s : Core) → Shifted s (put_switch n w s)
 unfolding put_switch set_switch push_high_first set_place on_thread
@@ -61,12 +55,12 @@ put_switch_shifted n w s = record { only = grind arith; threads = λ k. grind (a
 passed_on_shifted : (o : Option ℕ) (ns : List ℕ) (s : Core) → Shifted s (passed_on o ns s)
 passed_on_shifted (Some m) ns s = behind_shifted (foot_of m s) ns s
 passed_on_shifted None [] s = shifted_same s
-passed_on_shifted None (n ∷ ns) s = shifted_after (put_switch_shifted (newest n ns) why.Resumption s) (resumed_shifted (older n ns) _)
+passed_on_shifted None (n ∷ ns) s = shifted_after (put_switch_shifted (newest n ns) Why.Resumption s) (resumed_shifted (older n ns) _)
 
 -- each change of where threads are
 pub placing_shifted : (p : Placing) (s : Core) → Shifted s (after_placing p s)
 unfolding stopped put_high put_low promoted unqueued set_place on_thread set_high set_low set_callers set_switch push_high push_low behind_one popped
-placing_shifted (Put mark.Switch n w) s = put_switch_shifted n w s
+placing_shifted (Put Mark.Switch n w) s = put_switch_shifted n w s
 placing_shifted (Stop f) s = shifted_after (record { only = refl; threads = λ k. refl }) (passed_on_shifted s.queues.switch (callers_of f s) _)
 placing_shifted p s = record { only = grind arith; threads = λ k. grind (arith, nat_tests, get-change) }
 
@@ -91,11 +85,11 @@ placed {may = may} {b = b} {s = s} p ok c = subst (λ (t : Core). Chain may b t)
 -- the entries that are of no thread
 abbrev pub work_entries : List Entry → List Entry
 work_entries [] = []
-work_entries (entry.Thread n ∷ es) = work_entries es
-work_entries (entry.Push i ∷ es) = entry.Push i ∷ work_entries es
-work_entries (entry.Host i ∷ es) = entry.Host i ∷ work_entries es
+work_entries (Entry.Thread n ∷ es) = work_entries es
+work_entries (Entry.Push i ∷ es) = Entry.Push i ∷ work_entries es
+work_entries (Entry.Host i ∷ es) = Entry.Host i ∷ work_entries es
 
-pub work_entries-append : (es : List Entry) (n : ℕ) → work_entries (es ++ entry.Thread n ∷ []) ≡ work_entries es
+pub work_entries-append : (es : List Entry) (n : ℕ) → work_entries (es ++ Entry.Thread n ∷ []) ≡ work_entries es
 work_entries-append [] n = refl
 work_entries-append (e ∷ es) n = grind (arith, work_entries-append es n)
 
@@ -117,17 +111,17 @@ unqueued_works n s = by_test (has_entry n s.queues.high)
     by_test false = record { high = refl; low = work_entries-less n s.queues.low }
 
 -- the entry of a thread leaves its mark
-popped_works : (m : Mark) (n : ℕ) (s : Core) → next_entry s ≡ Some (m, entry.Thread n) → SameWorks s (popped m s)
+popped_works : (m : Mark) (n : ℕ) (s : Core) → next_entry s ≡ Some (m, Entry.Thread n) → SameWorks s (popped m s)
 unfolding popped set_switch set_high set_low next_entry
-popped_works mark.Switch n s h = record { high = refl; low = refl }
-popped_works mark.High n s h = record { high = head_high s.queues.switch s.queues.high s.queues.low h; low = refl }
+popped_works Mark.Switch n s h = record { high = refl; low = refl }
+popped_works Mark.High n s h = record { high = head_high s.queues.switch s.queues.high s.queues.low h; low = refl }
   where
-    head_high : (q : Option ℕ) (hs ls : List Entry) → or_high q hs ls ≡ Some (mark.High, entry.Thread n) →
+    head_high : (q : Option ℕ) (hs ls : List Entry) → or_high q hs ls ≡ Some (Mark.High, Entry.Thread n) →
         work_entries (rest_of hs) ≡ work_entries hs
     head_high q hs ls h = grind arith
-popped_works mark.Low n s h = record { high = refl; low = head_low s.queues.switch s.queues.high s.queues.low h }
+popped_works Mark.Low n s h = record { high = refl; low = head_low s.queues.switch s.queues.high s.queues.low h }
   where
-    head_low : (q : Option ℕ) (hs ls : List Entry) → or_high q hs ls ≡ Some (mark.Low, entry.Thread n) →
+    head_low : (q : Option ℕ) (hs ls : List Entry) → or_high q hs ls ≡ Some (Mark.Low, Entry.Thread n) →
         work_entries (rest_of ls) ≡ work_entries ls
     head_low q hs ls h = grind arith
 
