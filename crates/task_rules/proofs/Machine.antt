@@ -9,6 +9,8 @@ pub use Rattle.std.specs.List.{list_any}
 pub use Rattle.std.specs.Option.{option_map_or, option_or}
 pub use Rattle.std.specs.Ordering.{is_lt, nat_cmp}
 pub use Rattle.std.specs.Prelude.{[], All, Bool, count_by, false, filter, find, IfSome, if◌then◌else◌, is_none, is_some, IsPermutation, length, List, map, min, nat_le, nat_lt, None, not, Option, option_and_then, option_map, slice_get, Some, suc, true, unwrap_or, zero, ℕ, ◌%◌, ◌&&◌, ◌*◌, ◌++◌, ◌+◌, ◌-◌, ◌/◌, ◌<◌, ◌==◌, ◌||◌, ◌∷◌, ◌≡◌, ◌≢◌, ◌≤◌, ◌⊎◌}
+pub use Rattle.task_machine.proofs.CommuteLemmas.{change-change_same, get-change}
+pub use Rattle.task_machine.proofs.MapLemmas.{change-field, get-insert_other, get-insert_same, get-remove_other, get-remove_same}
 pub use Rattle.task_machine.specs.Core.{Began, Core, filled, Main, MainPlace, no_handles, Queues, Refused, Scripted, Started, State, Table, Unscripted, untouched}
 unfoldable pub use Rattle.task_machine.specs.Core.{fresh}
 pub use Rattle.task_machine.specs.Labels.{Choice, choice_of, event_label, exit_label, held_label, host_label, join_label, ret_label, take_label, task_cancel_label, wait_label, woken_of}
@@ -27,14 +29,19 @@ pub use Rattle.task_machine.specs.declared.component.ExportKind.{ExportKind}
 pub use Rattle.task_machine.specs.declared.component.HostDef.{HostDef}
 pub use Rattle.task_machine.specs.declared.label.CallLabel.{CallLabel}
 pub use Rattle.task_machine.specs.declared.label.Label.{Label}
+pub use Rattle.task_machine.specs.declared.label.LoopLabel.{LoopLabel}
 pub use Rattle.task_machine.specs.declared.label.MainLabel.{MainLabel}
 pub use Rattle.task_machine.specs.declared.label.SetLabel.{SetLabel}
+pub use Rattle.task_machine.specs.declared.label.TakeLabel.{TakeLabel}
+pub use Rattle.task_machine.specs.declared.label.TaskLabel.{TaskLabel}
 pub use Rattle.task_machine.specs.declared.op.Op.{Op}
+pub use Rattle.task_machine.specs.declared.op.TaskOp.{TaskOp}
 pub use Rattle.task_machine.specs.declared.outcome.Outcome.{Outcome}
 pub use Rattle.task_machine.specs.declared.records.Call.{Call}
 pub use Rattle.task_machine.specs.declared.records.CallEnd.{CallEnd}
 pub use Rattle.task_machine.specs.declared.records.Caller.{Caller}
 pub use Rattle.task_machine.specs.declared.records.Course.{Course}
+pub use Rattle.task_machine.specs.declared.records.Delivery.{Delivery}
 pub use Rattle.task_machine.specs.declared.records.Entry.{Entry}
 pub use Rattle.task_machine.specs.declared.records.Goal.{Goal}
 pub use Rattle.task_machine.specs.declared.records.HowFar.{HowFar}
