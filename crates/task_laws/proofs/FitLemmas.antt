@@ -1,15 +1,8 @@
 -- What script each thread runs, and where in it, along the words of a step.
-use Rattle.task_rules.proofs.Machine.{[], after_word, Allowed, ap, arith, AtOp, Bool, call_instance, Callee, callee_of, can_come, Component, component_of, Core, ends_activation, EndsActivation, false, get, inl, InOp, inr, is_explicit, is_some, is_sync_call, IsRunner, length, MayMove, new_thread, next_thread, None, Op, op_in, op_of, op_of_thread, Option, option_map, option_map_or, Place, place_of, refl, registers_for, Scene, Script, script_in, script_of, script_of_thread, slice_get, Some, subst, sym, T, task_of, Thread, true, unwrap_or, WasReady, WasUnder, Why, Word, ℕ, ⊎_elim, ◌∙◌, ◌∷◌, ◌≡◌, ◌≤◌, ◌⊎◌}
+use Rattle.task_rules.proofs.Machine.{[], after_word, Allowed, ap, arith, AtOp, Bool, call_instance, Callee, callee_of, can_come, Component, component_of, Core, ends_activation, EndsActivation, false, get, HowFar, inl, InOp, inr, is_explicit, is_some, is_sync_call, IsRunner, length, MayMove, new_thread, next_thread, None, Op, op_in, op_of, op_of_thread, Option, option_map, option_map_or, Place, place_of, refl, registers_for, Scene, Script, script_in, script_of, script_of_thread, slice_get, Some, subst, sym, T, task_of, TaskOp, Thread, true, Turn, unwrap_or, WasReady, WasUnder, Why, Word, ℕ, ⊎_elim, ◌∙◌, ◌∷◌, ◌≡◌, ◌≤◌, ◌⊎◌}
 use Rattle.task_rules.proofs.WalkTask.{one_runner}
-use Rattle.task_machine.specs.declared.records.HowFar.TheVariants as how_far
-use Rattle.task_machine.specs.declared.records.Script.TheVariants as script
-use Rattle.task_machine.specs.declared.op.Op.TheVariants as op
-use Rattle.task_machine.specs.declared.op.TaskOp.TheVariants as task_op
 use Rattle.task_laws.proofs.CallsCame.{IsBeside, IsFirst, IsGone, IsSame, RunsOn, ThreadAfter, thread_came, Ends}
 use Rattle.task_laws.proofs.Basics.{some_none}
-use Rattle.task_machine.specs.declared.records.Why.TheVariants as why
-use Rattle.task_machine.specs.declared.records.Turn.TheVariants as turn
-use Rattle.task_machine.specs.declared.records.Place.TheVariants as place
 use Rattle.task_laws.proofs.CallsLaw.{CallsGo, CallsHold, code_callback, delivered_in, shifted_delivers, turned_silent}
 use Rattle.task_laws.proofs.CameLemmas.{Came, Comes, MayStand, Shifts, Turns, came_word, Enters, Moved, Entered, Leaves, IsMade}
 use Rattle.task_laws.proofs.HousedLemmas.{RunnerHoused}
@@ -45,13 +38,13 @@ first_at None first d = refl
 first_at (Some t) first d = first t refl d
 
 slot_no_code : (c : Component) → CodesInCallbacks c → (f : Callee) (x : Script) (p : ℕ) → names_script c f.instance true x ≡ true →
-    ends_activation (unwrap_or (slice_get (script_in c f x) p) (op.Task task_op.Exit)) ≡ false
-slot_no_code c codes f (script.Slot y) p h = grind (arith, codes.slots f.instance y)
-slot_no_code c codes f script.Start p h = absurd (subst T (sym h) tt)
-slot_no_code c codes f script.React p h = absurd (subst T (sym h) tt)
+    ends_activation (unwrap_or (slice_get (script_in c f x) p) (Op.Task TaskOp.Exit)) ≡ false
+slot_no_code c codes f (Script.Slot y) p h = grind (arith, codes.slots f.instance y)
+slot_no_code c codes f Script.Start p h = absurd (subst T (sym h) tt)
+slot_no_code c codes f Script.React p h = absurd (subst T (sym h) tt)
 
 slot_ends : (c : Component) → CodesInCallbacks c → (s : Core) (t : Thread) → names_script c (call_instance t.call s) t.explicit t.script ≡ true →
-    ends_activation (unwrap_or (slice_get (script_of_thread c s t) t.position) (op.Task task_op.Exit)) ≡ true → t.explicit ≡ false
+    ends_activation (unwrap_or (slice_get (script_of_thread c s t) t.position) (Op.Task TaskOp.Exit)) ≡ true → t.explicit ≡ false
 slot_ends c codes s t fits ends = let no = slot_no_code c codes (callee_of t.call s) t.script t.position in grind arith
 
 -- whose op ends an activation is a first thread
@@ -80,7 +73,7 @@ OfBase a t test = (is_some (get a.base.calls t.call) ≡ true) × (test (op_of_t
 
 -- a thread was on top of it already, or the step makes that one
 abbrev pub Covered : Scene → ℕ → Type 0
-Covered a n = (under_in (place_of n a.base) ≡ true) ⊎ ((a.turn ≡ turn.Run n) × (a.next ≡ turn.Run (next_thread a.base)))
+Covered a n = (under_in (place_of n a.base) ≡ true) ⊎ ((a.turn ≡ Turn.Run n) × (a.next ≡ Turn.Run (next_thread a.base)))
 
 -- What is said of the thread n on the way of a step.
 pub record FitsSo (a : Scene) (n : ℕ) (t : Thread) : Type 0 where
@@ -90,8 +83,8 @@ pub record FitsSo (a : Scene) (n : ℕ) (t : Thread) : Type 0 where
   pub position : (t.position ≡ 0) ⊎ ((is_some (get a.base.calls t.call) ≡ true)
       × (t.position ≤ length (script_in (component_of a) (callee_of t.call a.base) t.script)))
   -- while it runs, it runs one script
-  pub same : a.turn ≡ turn.Run n → (r : Thread) → get a.base.threads n ≡ Some r → (t.call ≡ r.call) × (t.script ≡ r.script)
-  pub op : (t.how_far ≡ how_far.Fresh) ⊎ OfBase a t (λ o. can_come o t.how_far)
+  pub same : a.turn ≡ Turn.Run n → (r : Thread) → get a.base.threads n ≡ Some r → (t.call ≡ r.call) × (t.script ≡ r.script)
+  pub op : (t.how_far ≡ HowFar.Fresh) ⊎ OfBase a t (λ o. can_come o t.how_far)
   pub under : has_one_on_top t.place ≡ true → OfBase a t is_sync_call × Covered a n
   -- while a thread is on top of it, it stays at its op
   pub still : under_in (place_of n a.base) ≡ true → (r : Thread) → get a.base.threads n ≡ Some r → SameOp t r
@@ -106,7 +99,7 @@ unfolding script_of
 script_within c s n p b is within = grind arith
 
 module _ (a : Scene) (codes : CodesInCallbacks (component_of a)) (h : CallsHold (component_of a) a.base) (known : RunnerHoused a) (fits : Fits (component_of a) a.base)
-    (runs : (n : ℕ) → a.turn ≡ turn.Run n → place_of n a.base ≡ Some place.Running)
+    (runs : (n : ℕ) → a.turn ≡ Turn.Run n → place_of n a.base ≡ Some Place.Running)
     (there : (n : ℕ) (r : Thread) → get a.base.threads n ≡ Some r → is_some (get a.base.calls r.call) ≡ true) where
   delivered_first : (n : ℕ) (w : Why) → WasReady a n w → is_delivery w ≡ true → is_explicit n a.base ≡ false
   delivered_first n w was d = first_at (get a.base.threads n) (λ t at. (fits n t at).first) (ap delivered_in was.1 ∙ d)
@@ -131,13 +124,13 @@ module _ (a : Scene) (codes : CodesInCallbacks (component_of a)) (h : CallsHold 
         names_script (component_of a) (call_instance u.call a.base) u.explicit u.script ≡ true
     script_after r u at call explicit (inl (script, e)) = let f = (q n r at).script in grind arith
     script_after r u at call explicit (inr (far, inl (script, e))) = let f = (q n r at).script in grind arith
-    script_after r u at call explicit (inr (far, inr e)) = let f = ready_since (why.Delivery e.0.1.0) r at e.0.1.1 refl in grind arith
+    script_after r u at call explicit (inr (far, inr e)) = let f = ready_since (Why.Delivery e.0.1.0) r at e.0.1.1 refl in grind arith
 
     -- who is taken doesn't run
-    not_taken : (v : Why) → WasReady a n v → a.turn ≡ turn.Run n → ⊥
+    not_taken : (v : Why) → WasReady a n v → a.turn ≡ Turn.Run n → ⊥
     not_taken v was to = let r = runs n to in grind arith
 
-    advanced_fits : (r u : Thread) → get s.threads n ≡ Some r → u.call ≡ r.call → u.script ≡ r.script → IsRunner a n × ((a.turn ≡ turn.Run n) × (u.position ≤ length (script_of (component_of a) n a.base))) →
+    advanced_fits : (r u : Thread) → get s.threads n ≡ Some r → u.call ≡ r.call → u.script ≡ r.script → IsRunner a n × ((a.turn ≡ Turn.Run n) × (u.position ≤ length (script_of (component_of a) n a.base))) →
         (is_some (get a.base.calls u.call) ≡ true) × (u.position ≤ length (script_in (component_of a) (callee_of u.call a.base) u.script))
     advanced_fits r u at call script may = by (get a.base.threads n) refl
       where
@@ -155,11 +148,11 @@ module _ (a : Scene) (codes : CodesInCallbacks (component_of a)) (h : CallsHold 
     position_after r u at call (inr (far, inl (script, may))) = inr (advanced_fits r u at call script (may.0, (may.1.0, may.1.1.1)))
     position_after r u at call (inr (far, inr e)) = inl e.1.1
 
-    same_after : (r u : Thread) → get s.threads n ≡ Some r → u.call ≡ r.call → RunsOn a s n r u → a.turn ≡ turn.Run n →
+    same_after : (r u : Thread) → get s.threads n ≡ Some r → u.call ≡ r.call → RunsOn a s n r u → a.turn ≡ Turn.Run n →
         (b : Thread) → get a.base.threads n ≡ Some b → (u.call ≡ b.call) × (u.script ≡ b.script)
     same_after r u at call (inl (script, e)) to b is = let f = (q n r at).same to b is in (call ∙ f.0, script ∙ f.1)
     same_after r u at call (inr (far, inl (script, e))) to b is = let f = (q n r at).same to b is in (call ∙ f.0, script ∙ f.1)
-    same_after r u at call (inr (far, inr e)) to b is = absurd (not_taken (why.Delivery e.0.1.0) e.0.1.1 to)
+    same_after r u at call (inr (far, inr e)) to b is = absurd (not_taken (Why.Delivery e.0.1.0) e.0.1.1 to)
 
     -- ---- How far it is in its op
 
@@ -174,7 +167,7 @@ module _ (a : Scene) (codes : CodesInCallbacks (component_of a)) (h : CallsHold 
     -- it is at the op of the base
     at_op : (r u : Thread) → get s.threads n ≡ Some r → SameOp u r → AtOp a n s → (test : Op → Bool) → test (op_in a n) ≡ true → OfBase a u test
     at_op r u at is at_it test passes =
-        let b = base_thread place.Running (runs n at_it.0) in
+        let b = base_thread Place.Running (runs n at_it.0) in
         let same = (q n r at).same at_it.0 b.0 b.1.0 in
         let kept = at_it.1 (runs n at_it.0) (h.numbered.threads n b.0 b.1.0).number (grind arith) in
         let position : r.position ≡ b.0.position = grind (arith, kept, at, b.1.0) in
@@ -190,19 +183,19 @@ module _ (a : Scene) (codes : CodesInCallbacks (component_of a)) (h : CallsHold 
     ends_uncovered r u (inl under) (inl (script, may)) = let to = runs n may.1.0 in grind arith
     ends_uncovered r u (inl under) (inr e) = let was = e.0.1.1.1 in grind arith
     ends_uncovered r u (inr (to, next)) (inl (script, may)) =
-        let b = base_thread place.Running (runs n to) in
+        let b = base_thread Place.Running (runs n to) in
         let low = (h.numbered.threads n b.0 b.1.0).number in
         let is : n ≡ next_thread a.base = one_runner n (next_thread a.base) (sym may.1.1.0 ∙ next) in
         omega (arith, low, is)
-    ends_uncovered r u (inr (to, next)) (inr e) = not_taken (why.Delivery e.0.1.0) e.0.1.1 to
+    ends_uncovered r u (inr (to, next)) (inr e) = not_taken (Why.Delivery e.0.1.0) e.0.1.1 to
 
     op_after : (r u : Thread) → get s.threads n ≡ Some r → u.call ≡ r.call → RunsOn a s n r u →
-        (u.how_far ≡ how_far.Fresh) ⊎ OfBase a u (λ o. can_come o u.how_far)
+        (u.how_far ≡ HowFar.Fresh) ⊎ OfBase a u (λ o. can_come o u.how_far)
     op_after r u at call (inl (script, (position, inl far))) = rw far
         (⊎_elim inl (λ e. inr (of_base r u (λ o. can_come o r.how_far) (call, (script, position)) e)) (q n r at).op)
     op_after r u at call (inl (script, (position, inr (InOp at_it can)))) = inr (at_op r u at (call, (script, position)) at_it (λ o. can_come o u.how_far) can)
     op_after r u at call (inl (script, (position, inr (WasUnder m v under far)))) =
-        let b = base_thread (place.Under m) under in
+        let b = base_thread (Place.Under m) under in
         let is = (q n r at).still (ap under_in under) b.0 b.1.0 in
         let sync = (fits n b.0 b.1.0).under (ap has_one_on_top b.1.1) in
         inr (of_base b.0 u (λ o. can_come o u.how_far) (call ∙ is.0, (script ∙ is.1.0, position ∙ is.1.1)) (there n b.0 b.1.0, rw far sync))
@@ -228,7 +221,7 @@ module _ (a : Scene) (codes : CodesInCallbacks (component_of a)) (h : CallsHold 
     covered t r o p at is (Shifts m) d = (q n r at).under (let e = under_moved (MayStand a s n) o p m d in grind arith)
     covered t r o p at is (Comes y ok e there) d = absurd (grind arith)
     covered t r o p at is (Turns (Enters m runner new stand e there (to, (at_it, sync)))) d =
-        (at_op r r at (refl, (refl, refl)) at_it is_sync_call sync, inr (at_it.0, to ∙ ap (λ k. turn.Run k) new))
+        (at_op r r at (refl, (refl, refl)) at_it is_sync_call sync, inr (at_it.0, to ∙ ap (λ k. Turn.Run k) new))
     covered t r o p at is (Turns (Entered e there)) d = no_under (ap under_in e) d
     covered t r o p at is (Turns (Leaves e)) d = no_under (ap under_in e) d
     covered t r o p at is (Turns (IsMade new low e)) d = no_under (ap under_in e) d
@@ -255,7 +248,7 @@ module _ (a : Scene) (codes : CodesInCallbacks (component_of a)) (h : CallsHold 
           still = still_after r u e c z;
         })
         by (IsGone e) = some_none (sym at ∙ e)
-        by (IsBeside u is l same m e) = let same : t ≡ new_thread (task_of m.0 a.base) true (script.Slot m.1.1.1.0) (registers_for (m.1.1.1.1.0 ∷ [])) None = cc in
+        by (IsBeside u is l same m e) = let same : t ≡ new_thread (task_of m.0 a.base) true (Script.Slot m.1.1.1.0) (registers_for (m.1.1.1.1.0 ∷ [])) None = cc in
             let g = known m.0 m.1.0 in rw same (record {
               script = m.1.1.1.1.1.1.1.0;
               call = λ d. g;

@@ -4,9 +4,8 @@ use Rattle.task_laws.proofs.Subtasks.{handle_named}
 use Rattle.task_laws.proofs.WorksCame.{Doing, Same, WorkCame, doing_of, work_came}
 use Rattle.task_laws.proofs.Works.{doing_or, doing_there, WorksHold, number_of}
 use Rattle.task_laws.specs.Ends.{MayBeAborted, is_sync_work}
-use Rattle.task_rules.proofs.Machine.{after_word, Allowed, arith, Core, false, fresh, inl, inr, is_async_work, le_trans, None, Option, refl, Scene, Some, subtask_at, sym, true, Word, work_caller_of, ℕ, ⊎_elim, ◌∙◌, ◌≡◌, ◌≤◌, ◌⊎◌}
+use Rattle.task_rules.proofs.Machine.{after_word, Allowed, arith, Core, false, fresh, inl, inr, is_async_work, le_trans, None, Option, refl, Scene, Some, Subtask, subtask_at, sym, true, Word, work_caller_of, ℕ, ⊎_elim, ◌∙◌, ◌≡◌, ◌≤◌, ◌⊎◌}
 use Rattle.task_laws.proofs.CountLemmas.{made_works_word}
-use Rattle.task_machine.specs.declared.records.Subtask.TheVariants as subtask
 
 -- ---- Works that aren't sync calls'
 
@@ -38,7 +37,7 @@ abort_kept a w s ok h i q = record {
 
 -- no work that a handle names is a sync call's
 abbrev pub NamesNoSync : Core → Type 0
-NamesNoSync s = (i h j : ℕ) → subtask_at i h s ≡ Some (subtask.Host j) → MayBeAborted s j
+NamesNoSync s = (i h j : ℕ) → subtask_at i h s ≡ Some (Subtask.Host j) → MayBeAborted s j
 
 async_other : {S : Type 0} (j : ℕ) (s : Core) → WorksHold S s → is_async_work (work_caller_of j s) ≡ true → MayBeAborted s j
 async_other j s h async = let v = doing_there j s (grind arith) in record { made = number_of h j v.0 v.1; other = grind arith }
@@ -46,7 +45,7 @@ async_other j s h async = let v = doing_there j s (grind arith) in record { made
 pub names_word : {S : Type 0} (a : Scene) (w : Word) (s : Core) → Allowed a w s → WorksHold S s → NamesNoSync s → NamesNoSync
     (after_word w s)
 names_word a w s ok h q i g j e = abort_kept a w s ok h j
-    (⊎_elim (λ f. q i g j f) (λ now. async_other j s h now.1.1) (handle_named a s w ok i g (subtask.Host j) e))
+    (⊎_elim (λ f. q i g j f) (λ now. async_other j s h now.1.1) (handle_named a s w ok i g (Subtask.Host j) e))
 
 pub opening_names : (instances handle_limit capacity : ℕ) → NamesNoSync (fresh instances handle_limit capacity)
 unfolding fresh

@@ -1,12 +1,9 @@
 -- Where the first thread of a call waits for its start: along the words of a step.
-use Rattle.task_rules.proofs.Machine.{after_word, Allowed, arith, Bool, CallEnd, component_of, Core, end_of, Exits, false, get, GivesUp, inl, inr, is_explicit, is_fresh, is_some, IsWithdrawn, MayEnd, MayMove, next_thread, None, not, Option, option_map_or, Place, place_of, refl, ReturnsNow, Scene, Some, task_of, Thread, true, WasReady, Word, ℕ, ⊎_elim, ◌&&◌, ◌≡◌, ◌⊎◌}
+use Rattle.task_rules.proofs.Machine.{after_word, Allowed, arith, Bool, CallEnd, component_of, Core, end_of, Exits, false, get, GivesUp, inl, inr, is_explicit, is_fresh, is_some, IsWithdrawn, MayEnd, MayMove, next_thread, None, not, Option, option_map_or, Place, place_of, refl, ReturnsNow, Scene, Some, task_of, Thread, true, Turn, WasReady, Why, Word, ℕ, ⊎_elim, ◌&&◌, ◌≡◌, ◌⊎◌}
 use Rattle.task_laws.proofs.CallsCame.{call_came, CallAfter, IsBeside, IsFirst, IsGone, IsSame, thread_came, ThreadAfter, Grown, NoCall, NewCall}
 use Rattle.task_laws.proofs.CallsLaw.{CallsGo, CallsHold}
 use Rattle.task_laws.proofs.CameLemmas.{came_word, Comes, Moved, MayStand, PlaceAfter, Shifts, Turns}
 use Rattle.task_laws.specs.Order.{IsUnbegun, StartsFirst}
-use Rattle.task_machine.specs.declared.records.Place.TheVariants as place
-use Rattle.task_machine.specs.declared.records.Turn.TheVariants as turn
-use Rattle.task_machine.specs.declared.records.Why.TheVariants as why
 
 abbrev is_new_start : Option Place → Bool
 is_new_start o = is_some o && is_fresh o
@@ -27,12 +24,12 @@ pub record Unbegun (a : Scene) (s : Core) : Type 0 where
 stands_fresh : (a : Scene) (s : Core) (k : ℕ) (o p : Option Place) → o ≡ place_of k s → is_explicit k s ≡ false → Moved (MayStand a s k) o p → is_new_start p ≡ true → is_new_start o ≡ true
 stands_fresh a s k o p is first m f = grind arith
 
-moves_fresh : (a : Scene) (s : Core) (k : ℕ) (p : Place) → MayMove a k p s → is_fresh (Some p) ≡ true → WasReady a k why.Start
+moves_fresh : (a : Scene) (s : Core) (k : ℕ) (p : Place) → MayMove a k p s → is_fresh (Some p) ≡ true → WasReady a k Why.Start
 moves_fresh a s k p m f = grind arith
 
-module _ (a : Scene) (h : CallsHold (component_of a) a.base) (runs : (n : ℕ) → a.turn ≡ turn.Run n → place_of n a.base ≡ Some place.Running) (starts : StartsFirst a.base) where
+module _ (a : Scene) (h : CallsHold (component_of a) a.base) (runs : (n : ℕ) → a.turn ≡ Turn.Run n → place_of n a.base ≡ Some Place.Running) (starts : StartsFirst a.base) where
   -- no running thread is of its call
-  apart : (k n : ℕ) → Waited a k → a.turn ≡ turn.Run n → k ≡ task_of n a.base → ⊥
+  apart : (k n : ℕ) → Waited a k → a.turn ≡ Turn.Run n → k ≡ task_of n a.base → ⊥
   apart k n (inl waits) to own = by (get a.base.threads k) refl
     where
       by : (o : Option Thread) → get a.base.threads k ≡ o → ⊥
@@ -50,7 +47,7 @@ module _ (a : Scene) (h : CallsHold (component_of a) a.base) (runs : (n : ℕ) �
     came_after : (k : ℕ) → first_waits k (after_word w s) ≡ true → Waited a k
     came_after k waits = by (thread_came w s ok k) (came_word w s ok k)
       where
-        ready : (r : Thread) → get s.threads k ≡ Some r → r.explicit ≡ false → WasReady a k why.Start → Waited a k
+        ready : (r : Thread) → get s.threads k ≡ Some r → r.explicit ≡ false → WasReady a k Why.Start → Waited a k
         ready r at first was = let below = h.numbered.threads k in let since = go.threads k in inl (grind arith)
 
         placed : (r u : Thread) → get s.threads k ≡ Some r → get (after_word w s).threads k ≡ Some u → r.explicit ≡ false → is_fresh (Some u.place) ≡ true → PlaceAfter a w s k → Waited a k

@@ -9,8 +9,6 @@ use Rattle.task_laws.proofs.SaidEnds.{hands_at, said_plain}
 use Rattle.task_laws.specs.Settings.{CodesInCallbacks, Reached}
 use Rattle.task_rules.proofs.LawLemmas.{never_fewer}
 use Rattle.task_rules.proofs.WalkSteps.{step_walks}
-use Rattle.task_machine.specs.declared.records.Subtask.TheVariants as subtask
-use Rattle.task_machine.specs.declared.words.Status.TheVariants as status
 use Rattle.task_laws.proofs.OnceLemmas.{Keeps, Over, counts_once, over_changes, over_stays}
 use Rattle.task_laws.proofs.StepEnds.{CallsKnown, calls_known, events_come, guest_covers, call_keeps, host_keeps, results_come, written_new}
 
@@ -47,10 +45,10 @@ ends_handed_as_told x s l t step k e out =
     let says = plain x s l q.next (λ a. EndWords a t.core) q.ends.says in
     by q.next _ e refl (says.hands _ e (hands_at x.component s.main s.core (base_at s.turn s.core).queues t.core l _ out))
   where
-    by : (next : Turn) (sub : Subtask) (f : Status) → sub ≡ subtask.Guest k → HandsOut (plain_scene x s l next) t.core sub f →
-        ((undelivered_end (event_of (subtask.Guest k) s.core) ≡ Some f) × (undelivered_end (event_of (subtask.Guest k) t.core) ≡ None)) ⊎
-        (((is_some (get s.core.results k) ≡ true) × ((f ≡ status.Returned) × (get t.core.results k ≡ None))) ⊎
-        (written_by x.component s.core l t.core ≡ Some (end_for f (subtask.Guest k))))
+    by : (next : Turn) (sub : Subtask) (f : Status) → sub ≡ Subtask.Guest k → HandsOut (plain_scene x s l next) t.core sub f →
+        ((undelivered_end (event_of (Subtask.Guest k) s.core) ≡ Some f) × (undelivered_end (event_of (Subtask.Guest k) t.core) ≡ None)) ⊎
+        (((is_some (get s.core.results k) ≡ true) × ((f ≡ Status.Returned) × (get t.core.results k ≡ None))) ⊎
+        (written_by x.component s.core l t.core ≡ Some (end_for f (Subtask.Guest k))))
     by next _ _ same (TakesEvent sub f had gone) = inl (rw same at had, rw same at gone)
     by next _ _ same (TakesResult j there gone) = inr (inl (let is : j ≡ k = cc in rw (← is) (there, (refl, gone))))
     by next _ _ same (WritesToo j f says why) = inr (inr (let is : j ≡ k = cc in rw (← is) (said_plain x s l next t.core j f says)))
@@ -76,9 +74,9 @@ module _ (x : Setting) (codes : CodesInCallbacks x.component) where
   run_holds s h (l ∷ ls) t r = run_holds r.0 (holds_after s l r.0 h r.1.0) ls t r.1.1
 
   keeps : (s : State) (l : Label) (t : State) → Holds x s → Step x s l t → (sub : Subtask) → Keeps s.core t.core sub
-  keeps s l t h step (subtask.Guest k) =
+  keeps s l t h step (Subtask.Guest k) =
       call_keeps h.calls.numbered (step_goes x s l t codes h.calls step).1 (never_fewer x s l t step).threads k
-  keeps s l t h step (subtask.Host i) = let w = step_walks x s l t step in
+  keeps s l t h step (Subtask.Host i) = let w = step_walks x s l t step in
       host_keeps x s l t w.next h.works (works_go x s l t w (λ no. absurd no) h.works) i
 
 pub ends_written_once : EndsWrittenOnce

@@ -1,10 +1,7 @@
 -- A state in order: each opening state is, and each step leads from one to one.
-use Rattle.task_rules.proofs.Machine.{[], ap, arith, Bool, ByHandle, ByOp, Call, call_instance, callee_of, can_come, Component, Core, empty, false, fresh, get, get-empty, HasSubtask, how_far_of, HowFar, inl, inr, instance_of, is_fresh, is_some, is_sync_call, is_there, IsRunner, Label, length, List, None, Op, op_of_thread, opening, Option, option_and_then, option_map, option_map_or, Place, place_of, Placed, refl, Run, Scene, scene_of, Script, script_in, Setting, slice_get, Some, State, Steady, subst, subtask_under_way, sym, task_of, Thread, true, unwrap_or, Walk, Walked, was_started, Work, ℕ, ⊎_elim, ◌∷◌, ◌≡◌, ◌≤◌, ◌⊎◌}
-use Rattle.task_machine.specs.declared.op.Op.TheVariants as op
-use Rattle.task_machine.specs.declared.op.TaskOp.TheVariants as task_op
+use Rattle.task_rules.proofs.Machine.{[], ap, arith, Bool, ByHandle, ByOp, Call, call_instance, callee_of, can_come, Component, Core, empty, false, fresh, get, get-empty, HasSubtask, how_far_of, HowFar, inl, inr, instance_of, is_fresh, is_some, is_sync_call, is_there, IsRunner, Label, length, List, None, Op, op_of_thread, opening, Option, option_and_then, option_map, option_map_or, Place, place_of, Placed, refl, Run, Scene, scene_of, Script, script_in, Setting, slice_get, Some, State, Steady, subst, Subtask, subtask_under_way, sym, task_of, TaskOp, Thread, true, Turn, unwrap_or, Walk, Walked, was_started, Work, ℕ, ⊎_elim, ◌∷◌, ◌≡◌, ◌≤◌, ◌⊎◌}
 use Rattle.task_places.proofs.HostsAwaited.{step_works}
 use Rattle.task_places.proofs.Directs.{directs_on_top}
-use Rattle.task_machine.specs.declared.records.Subtask.TheVariants as subtask
 use Rattle.task_laws.proofs.Joins.{joins_word, opening_joins}
 use Rattle.task_laws.proofs.Subtasks.{Traced, opening_named, traced_word}
 use Rattle.task_rules.proofs.WalkSteps.{step_walks}
@@ -23,9 +20,6 @@ use Rattle.task_laws.proofs.NamedCalls.{NamesGo, InsideThere, names_go_word, ope
 use Rattle.task_laws.proofs.UnbegunCalls.{first_waits, Unbegun, unbegun_word, Waited}
 use Rattle.task_places.proofs.CallsBack.{back_apart}
 use Rattle.task_laws.specs.Order.{StartsFirst, NamesKnown, CallsAwaited, cancelled_call, is_awaited, IsUnbegun, CallsNamed, InOrder, Numbered, OpeningInOrder, SetsNamed, StartsAwaited, StepInOrder, WasCall, CallsThere, MakesFew, Strands, WaitsAtHome, set_of_op, set_of_place, StepsMakeFew, JoinsNamed, DirectsOnTop, Fits, WorksQueued, HostsAwaited, names_script}
-use Rattle.task_machine.specs.declared.records.Turn.TheVariants as turn
-use Rattle.task_machine.specs.declared.records.Place.TheVariants as place
-use Rattle.task_machine.specs.declared.records.HowFar.TheVariants as how_far
 use Rattle.task_places.proofs.PlaceLaw.{Arrives}
 use Rattle.task_places.proofs.PlaceSteps.{step_by, Withdrawable, in_place, step_arrives}
 use Rattle.task_places.specs.Kept.{ReachedInOrder, ReachedInPlace, StepsKeepPlaces}
@@ -53,7 +47,7 @@ was_awaited s t placed steady starts k c at e =
 place_there : (o : Option Place) (x : ℕ) → option_and_then set_of_place o ≡ Some x → is_some o ≡ true
 place_there o x h = grind arith
 
-op_there : (o : Option Thread) (x : ℕ) → set_of_op (option_map_or (λ (t : Thread). t.how_far) o how_far.Fresh) ≡ Some x →
+op_there : (o : Option Thread) (x : ℕ) → set_of_op (option_map_or (λ (t : Thread). t.how_far) o HowFar.Fresh) ≡ Some x →
     is_some (option_map (λ (t : Thread). t.place) o) ≡ true
 op_there o x h = grind arith
 
@@ -132,7 +126,7 @@ module _ (x : Setting) (s : State) (l : Label) (t : State) (h : InOrder x.compon
   withdrawable = of_base (λ b. Withdrawable (record a { base = b })) s.turn s.core
       (λ m k is has unstarted. call_awaited s.core h.numbered h.calls_there h.starts k (assumption (named m k has)) unstarted)
     where
-      named : (m k : ℕ) → HasSubtask a m (subtask.Guest k) → WasCall a.base k
+      named : (m k : ℕ) → HasSubtask a m (Subtask.Guest k) → WasCall a.base k
       named m k (ByHandle g e) = known.by_handle _ g k e
       named m k (ByOp e) = known.by_op m k e
 
@@ -194,11 +188,11 @@ module _ (x : Setting) (s : State) (l : Label) (t : State) (h : InOrder x.compon
       come : Arrives a t.core
       come = plain x s l w.next (λ c. Arrives c t.core) arrives
 
-      back : (n k : ℕ) → place_of n s.core ≡ Some (place.Under k) → a.next ≡ turn.Run n → subtask_under_way (how_far_of n t.core) ≡ None
-      back n k at to = step_by x s l t w h.in_place withdrawable (λ c u. place_of n c.base ≡ Some (place.Under k) → c.next ≡ turn.Run n → subtask_under_way (how_far_of n u) ≡ None)
-          (λ c b m q u base first same f d ends at to. back_apart f n k at to d) (of_base (λ b. place_of n b ≡ Some (place.Under k)) s.turn s.core at) to
+      back : (n k : ℕ) → place_of n s.core ≡ Some (Place.Under k) → a.next ≡ Turn.Run n → subtask_under_way (how_far_of n t.core) ≡ None
+      back n k at to = step_by x s l t w h.in_place withdrawable (λ c u. place_of n c.base ≡ Some (Place.Under k) → c.next ≡ Turn.Run n → subtask_under_way (how_far_of n u) ≡ None)
+          (λ c b m q u base first same f d ends at to. back_apart f n k at to d) (of_base (λ b. place_of n b ≡ Some (Place.Under k)) s.turn s.core at) to
 
-      inside : (n k : ℕ) → how_far_of n t.core ≡ how_far.Calls (subtask.Guest k) → Inside a n k t.core → (place_of n t.core ≡ Some (place.Under k)) ⊎ (option_map_or is_awaited (get t.core.calls k) false ≡ true)
+      inside : (n k : ℕ) → how_far_of n t.core ≡ HowFar.Calls (Subtask.Guest k) → Inside a n k t.core → (place_of n t.core ≡ Some (Place.Under k)) ⊎ (option_map_or is_awaited (get t.core.calls k) false ≡ true)
       inside n k far (inl under) = ⊎_elim inl (λ gone. absurd (⊎_elim (λ to. let y = back n k under to in grind arith) (λ none. grind arith) gone.1)) (come.covered n k under)
       inside n k far (inr (inl awaited)) = inr awaited
       inside n k far (inr (inr (new, (runner, next)))) =
@@ -237,7 +231,7 @@ module _ (x : Setting) (s : State) (l : Label) (t : State) (h : InOrder x.compon
       let known = of_base (λ b. RunnerHoused (record a { base = b })) s.turn s.core runner_housed in
       let fits = of_base (λ b. Fits x.component b) s.turn s.core fits_base in
       let first = of_base (λ b. AllFit (record a { base = b }) s.core) s.turn s.core fits_first in
-      let runs = of_base (λ b. (n : ℕ) → s.turn ≡ turn.Run n → place_of n b ≡ Some place.Running) s.turn s.core h.in_place.runs in
+      let runs = of_base (λ b. (n : ℕ) → s.turn ≡ Turn.Run n → place_of n b ≡ Some Place.Running) s.turn s.core h.in_place.runs in
       let there = of_base (λ b. (n : ℕ) (r : Thread) → get b.threads n ≡ Some r → is_some (get b.calls r.call) ≡ true) s.turn s.core has_call in
       let starts = of_base StartsFirst s.turn s.core unbegun_base in
       let waits = of_base (λ b. Unbegun (record a { base = b }) s.core) s.turn s.core (record {
@@ -278,9 +272,9 @@ module _ (x : Setting) (s : State) (l : Label) (t : State) (h : InOrder x.compon
       at_op test e =
           let now = calls_kept n r.call (ap (λ o. option_map (λ (t : Thread). t.call) o) at) in
           let same = same_callee s.core t.core steady h.numbered r.call e.0 now in
-          subst (λ f. test (unwrap_or (slice_get (script_in x.component f r.script) r.position) (op.Task task_op.Exit)) ≡ true) (sym same) e.1
+          subst (λ f. test (unwrap_or (slice_get (script_in x.component f r.script) r.position) (Op.Task TaskOp.Exit)) ≡ true) (sym same) e.1
 
-      comes : (f : HowFar) → (f ≡ how_far.Fresh) ⊎ OfBase a r (λ o. can_come o f) → can_come (op_of_thread x.component t.core r) f ≡ true
+      comes : (f : HowFar) → (f ≡ HowFar.Fresh) ⊎ OfBase a r (λ o. can_come o f) → can_come (op_of_thread x.component t.core r) f ≡ true
       comes f (inl fresh) = ap (can_come (op_of_thread x.component t.core r)) fresh
       comes f (inr e) = at_op (λ o. can_come o f) e
 
@@ -366,7 +360,7 @@ opening_placed instances handle_limit capacity n = record {
 }
 
 pub opening_in_order : OpeningInOrder
-unfolding fresh
+unfolding fresh OpeningInOrder
 opening_in_order c codes instances handle_limit capacity main =
     let q : CallsHold c (fresh instances handle_limit capacity) = opening_holds c instances handle_limit capacity in
     record {
@@ -413,12 +407,15 @@ run_in_order x s h [] t run = rw run h
 run_in_order x s h (l ∷ ls) t run = run_in_order x run.0 (step_in_order x s l run.0 h run.1.0) ls t run.1.1
 
 pub reached_in_order : ReachedInOrder
+unfolding OpeningInOrder ReachedInOrder
 reached_in_order x s r =
     let first = opening_in_order x.component r.scripts r.instances r.handle_limit r.capacity r.main in
     run_in_order x (opening r.instances r.handle_limit r.capacity r.main) first r.labels s r.run
 
 pub reached_in_place : ReachedInPlace
+unfolding ReachedInOrder ReachedInPlace
 reached_in_place x s r = (reached_in_order x s r).in_place
 
 pub steps_keep_places : StepsKeepPlaces
+unfolding ReachedInOrder
 steps_keep_places x s l t r step = (step_in_order x s l t (reached_in_order x s r) step).in_place
