@@ -14,7 +14,7 @@ use Rattle.task_laws.proofs.SyncWorks.{CallersKnown, callers_word, opening_calle
 use Rattle.task_laws.proofs.WorksCame.{Doing, doing, doing_of, is_late}
 use Rattle.task_laws.proofs.Works.{AbortsNoSync, WorksGo, WorksHold, number_of, opening_works, first_works, works_word}
 use Rattle.task_rules.proofs.WalkSteps.{step_walks}
-use Rattle.task_laws.specs.Order.{InOrder}
+use Rattle.task_laws.specs.Order.{InOrder, OpeningInOrder}
 use Rattle.task_places.proofs.PlaceLaw.{entry_ready}
 use Rattle.task_rules.proofs.LawLemmas.{run_goes_on}
 use Rattle.task_places.proofs.Entries.{next_first, popped_cleared}
@@ -211,6 +211,7 @@ opening_spawns instances handle_limit capacity (Scripted q) begun p j is = subst
     none_spawned (suc n) = zero_unmade instances handle_limit capacity
 
 pub runs_are_once : RunsAreOnce
+unfolding OpeningInOrder RunsAreOnce
 runs_are_once x codes instances handle_limit capacity main begun ls t run =
     let s : State = opening instances handle_limit capacity main in
     ends_once x (Known x) (λ s l t k step. known_after x s l t k step) (λ s l t k step sub. end_step x s l t k step sub) s

@@ -360,7 +360,7 @@ opening_placed instances handle_limit capacity n = record {
 }
 
 pub opening_in_order : OpeningInOrder
-unfolding fresh
+unfolding fresh OpeningInOrder
 opening_in_order c codes instances handle_limit capacity main =
     let q : CallsHold c (fresh instances handle_limit capacity) = opening_holds c instances handle_limit capacity in
     record {
@@ -407,12 +407,15 @@ run_in_order x s h [] t run = rw run h
 run_in_order x s h (l ∷ ls) t run = run_in_order x run.0 (step_in_order x s l run.0 h run.1.0) ls t run.1.1
 
 pub reached_in_order : ReachedInOrder
+unfolding OpeningInOrder ReachedInOrder
 reached_in_order x s r =
     let first = opening_in_order x.component r.scripts r.instances r.handle_limit r.capacity r.main in
     run_in_order x (opening r.instances r.handle_limit r.capacity r.main) first r.labels s r.run
 
 pub reached_in_place : ReachedInPlace
+unfolding ReachedInOrder ReachedInPlace
 reached_in_place x s r = (reached_in_order x s r).in_place
 
 pub steps_keep_places : StepsKeepPlaces
+unfolding ReachedInOrder
 steps_keep_places x s l t r step = (step_in_order x s l t (reached_in_order x s r) step).in_place

@@ -9,7 +9,7 @@ use Rattle.task_machine.specs.declared.label.TaskLabel.{TaskLabel}
 use Rattle.task_machine.specs.declared.op.DataOp.{DataOp}
 use Rattle.task_rules.specs.Task.{dec_from, dec_lowers, dec_opens, inc_raises, inc_row, ret_done, ret_row, task_cancel_done, task_cancel_row, task_row}
 use Rattle.task_rules.proofs.StopLemmas.{find_passes}
-use Rattle.task_rules.proofs.PlacingLemmas.{Shifted, shifted_calls, shifted_task, shifts_shifted, placing_shifted, unplaced, read_unplaced, shifted_after}
+use Rattle.task_rules.proofs.PlacingLemmas.{Shifted, shifted_calls, shifted_task, shifts_shifted, placing_shifted, unplaced, shifted_after}
 use Rattle.task_rules.proofs.WalkMoves.{keep_position, Chosen, ToldTo, checked_shifts, chosen_released, ended_gone, ended_walks, exits_trip, lands, released_shifts, shifted, stopped_shifts, told_to, word}
 use Rattle.task_rules.proofs.CallThreads.{LastEnds, last_of, last_kept, last_shifted, unplaced_call}
 
@@ -150,7 +150,7 @@ unfolding end_reopens set_do_not_enter on_instance
 reopened_threads i order s m = (shifts_shifted (released_shifts order (set_do_not_enter i false s))).threads m
 
 reopened_task : (n i : ℕ) (order : List ℕ) (s : Core) → task_of n (end_reopens i order s) ≡ task_of n s
-reopened_task n i order s = read_unplaced (λ r. r.call) 0 (λ r. refl) (get (end_reopens i order s).threads n) (get s.threads n) (reopened_threads i order s n)
+reopened_task n i order s = let same = reopened_threads i order s n in grind arith
 
 code_stops_last : (n : ℕ) (order : List ℕ) (s : Core) → LastEnds n s → LastEnds n (code_stops n order s)
 unfolding code_stops
