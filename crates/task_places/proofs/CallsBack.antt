@@ -1,8 +1,12 @@
 -- A thread whose turn comes as the one on top of it is gone is inside of no call.
-use Rattle.task_rules.proofs.Machine.{after_word, arith, Collapses, Core, Enter, get, get-change, GoesBack, how_far_of, HowFar, IsRunner, Lands, LandsAt, MayLand, Move, nat_tests, None, on_thread, Option, Place, place_of, Places, Placing, Quits, Remains, Scene, set_how_far, Some, Stay, subtask_under_way, sym, Trip, Turn, ℕ, ◌∙◌, ◌≡◌}
-use Rattle.task_places.proofs.PlaceLaw.{covered_still, Frame, move_runner, no_cover, runner_there, stay_stand}
-use Rattle.task_rules.proofs.StandLemmas.{Stand}
+use Rattle.task_rules.proofs.Machine.{after_word, arith, Collapses, Core, Enter, false, get, get-change, GoesBack, how_far_of, HowFar, is_none, IsRunner, Lands, LandsAt, MayLand, MayMove, Move, nat_tests, None, on_thread, Option, Place, place_of, Places, Placing, Quits, Remains, Scene, set_how_far, Some, Stay, subtask_under_way, sym, Trip, Turn, ℕ, ◌∙◌, ◌≡◌}
+use Rattle.task_places.proofs.PlaceLaw.{covered_still, Frame, no_cover, runner_there, stay_stand}
 use Rattle.task_rules.proofs.WalkTask.{not_main, one_runner}
+
+-- who comes to a place and runs on is the runner, where that is there
+move_next : {a : Scene} (j : ℕ) (r : Place) (s : Core) (k : ℕ) → a.next ≡ Turn.Run k → MayMove a j r s →
+    ((i : ℕ) → IsRunner a i → is_none (get s.threads i) ≡ false) → IsRunner a k
+move_next j r s k to ok there = grind (arith, there)
 
 answered_apart : (n k v : ℕ) (s : Core) → n ≡ k → subtask_under_way (how_far_of k (set_how_far n (HowFar.Answered v) s)) ≡ None
 unfolding set_how_far on_thread
@@ -14,8 +18,11 @@ module _ {a : Scene} {b : Core} {n : ℕ} {q : Option Place} (f : Frame a b n q)
   apart is = no_cover f k m is at
 
   lands_apart : (p : Placing) (s : Core) → MayLand a p s → Stay a b s → ⊥
-  lands_apart (Move j r) s ok c = let is = move_runner j r s ok (λ i runs. runner_there f i s runs c) in absurd (grind (arith, apart))
-  lands_apart (Enter j i) s ok c = let one = one_runner i k (sym ok.1.0 ∙ to) in let new = ok.1.1.1.0 in let still = covered_still a (stay_stand f.follows c) k m at in absurd (grind arith)
+  lands_apart (Move j r) s ok c = apart (move_next j r s k to ok (λ i is. runner_there f i s is c))
+  lands_apart (Enter j i) s ok c =
+      let one = one_runner i k (sym ok.1.0 ∙ to) in
+      let new = ok.1.1.1.0 in
+      let still = covered_still a (stay_stand f.follows c) k m at in absurd (grind arith)
   lands_apart p s ok c = absurd (grind arith)
 
   pub back_apart : {t : Core} → Trip a b t → subtask_under_way (how_far_of k t) ≡ None
