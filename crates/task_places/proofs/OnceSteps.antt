@@ -16,9 +16,7 @@ use Rattle.task_laws.proofs.WorksCame.{Doing, doing, doing_of, is_late}
 use Rattle.task_laws.proofs.Works.{AbortsNoSync, WorksGo, WorksHold, number_of, opening_works, first_works, works_word}
 use Rattle.task_rules.proofs.WalkSteps.{step_walks}
 use Rattle.task_laws.specs.Order.{InOrder, OpeningInOrder}
-use Rattle.task_places.proofs.PlaceLaw.{entry_ready}
 use Rattle.task_rules.proofs.LawLemmas.{run_goes_on}
-use Rattle.task_places.proofs.Entries.{next_first, popped_cleared}
 use Rattle.task_laws.proofs.StepEnds.{Answered, CallsFound, CallsKnown, calls_known, step_ends}
 use Rattle.task_places.specs.Once.{RunsAreOnce, IsUnbegun}
 use Rattle.task_places.proofs.OrderLemmas.{asked, opening_in_order, step_in_order}

@@ -30,10 +30,7 @@ pub use Rattle.task_machine.specs.declared.component.HostDef.{HostDef}
 pub use Rattle.task_machine.specs.declared.label.CallLabel.{CallLabel}
 pub use Rattle.task_machine.specs.declared.label.Label.{Label}
 pub use Rattle.task_machine.specs.declared.label.LoopLabel.{LoopLabel}
-pub use Rattle.task_machine.specs.declared.label.MainLabel.{MainLabel}
-pub use Rattle.task_machine.specs.declared.label.SetLabel.{SetLabel}
 pub use Rattle.task_machine.specs.declared.label.TakeLabel.{TakeLabel}
-pub use Rattle.task_machine.specs.declared.label.TaskLabel.{TaskLabel}
 pub use Rattle.task_machine.specs.declared.op.Op.{Op}
 pub use Rattle.task_machine.specs.declared.op.TaskOp.{TaskOp}
 pub use Rattle.task_machine.specs.declared.outcome.Outcome.{Outcome}
@@ -77,10 +74,10 @@ unfoldable pub use Rattle.task_rules.specs.Ends.{blocking_exits, cancelled, code
 pub use Rattle.task_rules.specs.History.{history, Moment}
 pub use Rattle.task_rules.specs.Laws.{BlockingCheckIsAfter, CallbackCheckIsAfter, CheckMovesOne, EachStep, is_free, KeptByRuns, LaterBy, LaterCall, LaterWork, NeverFewer, OutcomeEnds, OutcomeIsLast, OverIsLast, Promotes, PromotionMovesOne, RunGoesOn, RunsJoin, SameLimits, SameThread, Steady, Takes}
 unfoldable pub use Rattle.task_rules.specs.Laws.{ReleaseKeepsPlaces, RemovalKeepsPlaces, StopKeepsPlaces, WakeKeepsPlaces}
-pub use Rattle.task_rules.specs.MainOps.{Abort, act_of, advanced_main, Answer, Await, Does, Finish, finish_act, finish_result, finished_into, is_complete, is_spawn, is_spawn_caller, line_of, main_row, MainAct, MainProgress, may_act, op_at, Pends, Quiet, Ready, Spawn, spawned_at, Start, start_act, started_at, unless_pending}
+pub use Rattle.task_rules.specs.MainOps.{Abort, act_of, advanced_main, Answer, Await, Does, Finish, finish_act, finish_result, is_complete, is_spawn, is_spawn_caller, line_of, main_row, MainAct, MainProgress, may_act, op_at, Pends, Quiet, Ready, Spawn, spawned_at, Start, start_act, started_at, unless_pending}
 unfoldable pub use Rattle.task_rules.specs.MainOps.{has_interesting, is_ready_for_call, main_aborted, main_spawned, main_started, start_refusal}
 pub use Rattle.task_rules.specs.Once.{begun_holder, changes_end, covers_end, end_code, EndsOnce, handed, hands_out, hands_out_written, holder_at_exit, holder_at_start, holds_one, is_among, is_end_of, is_known, is_other, is_start, is_written, less_holder, returned_holder, same_end, with_end, with_holder, writes_end, written}
-pub use Rattle.task_rules.specs.OpParts.{callee_of_main_op, callee_of_op, can_come, ends_activation, is_cancel, is_code_op, is_sync_call, is_sync_cancel, is_sync_host_call, is_thread_op, is_wait, suspends, yields}
+pub use Rattle.task_rules.specs.OpParts.{callee_of_op, can_come, ends_activation, is_cancel, is_code_op, is_sync_call, is_sync_cancel, is_sync_host_call, is_thread_op, is_wait, suspends, yields}
 pub use Rattle.task_rules.specs.Outcome.{main_outcome, outcome_of_label}
 pub use Rattle.task_rules.specs.Places.{entries, HasPlace, is_at_high, is_at_low, is_at_switch, is_behind_of, is_for_start, is_fresh, is_there, one_if, Placed, says, switch_entries, times}
 pub use Rattle.task_rules.specs.Progress.{Fails, Goes, may, Never, or_never, or_trap, Ordered, Progress, Stops, trap_if, Traps}
@@ -90,15 +87,15 @@ pub use Rattle.task_rules.specs.Scripts.{export_kind, host_at, is_script, op_of_
 unfoldable pub use Rattle.task_rules.specs.Scripts.{op_of, script_of}
 pub use Rattle.task_rules.specs.Sets.{chosen, given_code, given_handle, given_result, handed_out, join_done, join_to, joins, may_wake_new, poll_row, set_drop_row, set_new_row, set_row, wait_begins, wait_goes_on, wait_row, wakes_joined}
 unfoldable pub use Rattle.task_rules.specs.Sets.{finds_nothing, joined, received, received_woken, set_dropped, set_given, set_made, wait_stops, wait_stops_checked}
-pub use Rattle.task_rules.specs.Stalled.{is_unended_take, Setting}
+pub use Rattle.task_rules.specs.Stalled.{deadlock_trap, is_unended_take, Setting}
 unfoldable pub use Rattle.task_rules.specs.Stalled.{may_deadlock}
-pub use Rattle.task_rules.specs.Step.{DeadlockStep, EmptyFor, entry_number, FuturesStep, MainProgresses, MainStep, op_row, OpenAct, OpenProgresses, Polled, Progresses, RestStep, ScriptStep, TakeStep, TurnStep}
+pub use Rattle.task_rules.specs.Step.{DeadlockStep, EmptyFor, entry_number, FuturesStep, MainProgresses, MainStep, op_row, OpenAct, OpenProgresses, Polled, Progresses, RestStep, ScriptStep, TakeStep, trap_label, TurnStep}
 unfoldable pub use Rattle.task_rules.specs.Step.{did, Step, struck}
-pub use Rattle.task_rules.specs.SubtaskEnds.{call_of_op, cancel_target, cancelled_of_op, end_answered, end_for, finished_call, handed_by, handed_by_call, handed_by_cancel, handed_by_event, handed_by_main, handed_by_set, has_result, host_end, is_ending_exit, is_handed_end, returned_of_op, started_end, SubtaskEnd, task_end, written_by, written_by_call, written_by_cancel, written_by_exit}
+pub use Rattle.task_rules.specs.SubtaskEnds.{call_of_op, cancel_target, cancelled_of_op, end_answered, end_for, finished_call, handed_by, handed_by_cancel, handed_by_event, handed_by_main, has_result, host_end, is_ending_exit, is_handed_end, returned_of_op, started_end, SubtaskEnd, task_end, written_by, written_by_cancel}
 pub use Rattle.task_rules.specs.Takes.{delivered, delivery_row, host_result, host_status, own_delivered, rest_of, set_delivered, start_admitted, start_row, start_sets_flags, starting_is_published, take_row, thread_taken}
 unfoldable pub use Rattle.task_rules.specs.Takes.{activated, activated_woken, host_done, may_tell_starting, popped, pushed, running, start_begins, start_holds, starting_told, take_holds, wait_again}
 pub use Rattle.task_rules.specs.Turns.{goes_to, settled_turn}
 unfoldable pub use Rattle.task_rules.specs.Turns.{at_turn}
 pub use Rattle.task_rules.specs.Words.{AddGroup, Advance, after_placing, after_word, CloseSet, CountWork, EndCall, ended_as, EndWork, Enter, FinishWork, FreeThreadHandle, GiveResult, GoBehind, MakeCall, MakeThread, Move, NameCall, NameThread, NameWork, OpenSet, Pend, placed_as, Places, Placing, Pop, Promote, Put, put_at, QueueWork, RemoveCall, RemoveGroup, RemoveThread, RemoveWork, Restart, SetBackpressure, SetCallEvent, SetCallJoin, SetCancelDelivered, SetCancelled, SetDoNotEnter, SetDoNotSuspend, SetExited, SetHowFar, SetOwnEvent, SetPhase, SetRegister, SetResult, SetSavedCallee, SetSavedOwn, SetStarted, SetStartingPublished, SetTrapped, SetUninteresting, SetWord, SetWorkJoin, status_of_end, Stop, TakeHost, TakePush, TakeResult, TakeWorkEvent, UnnameCall, UnnameWork, Withdraw, Word}
-pub use Rattle.task_rules.specs.Works.{course_for, Ends, FailsNow, first_number, followed, has_end, live_after, Poll, polled_course, polled_in, StillPends}
+pub use Rattle.task_rules.specs.Works.{course_for, Ends, FailsNow, first_number, followed, has_end, live_after, Poll, polled_in, StillPends}
 unfoldable pub use Rattle.task_rules.specs.Works.{has_moving_work, next_polled, poll_ends, poll_of, poll_pends}

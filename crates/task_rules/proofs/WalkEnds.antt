@@ -4,7 +4,7 @@ use Rattle.task_rules.proofs.WalkMoves.{walk_if, shifted, published_call_shifts}
 use Rattle.task_rules.proofs.CallThreads.{LastEnds}
 use Rattle.task_rules.proofs.PlacingLemmas.{Shifted, placing_shifted, shifted_after, shifted_calls, shifted_same, shifted_task}
 use Rattle.task_rules.proofs.ChainLemmas.{Keep}
-use Rattle.task_rules.proofs.WalkMoves.{Chosen, ToldTo, told_walks, word}
+use Rattle.task_rules.proofs.WalkMoves.{Chosen, ToldTo, word}
 
 -- ---- What an end and a result leave of a call
 

@@ -1,6 +1,7 @@
 -- The rows of the ops on sets, subtasks and threads as chains of words.
-use Rattle.task_rules.proofs.Machine.{[], aborted_phase, AbortsOwn, add_work, advanced, after_word, AlreadyEnded, answered, Answers, ap, arith, assigned, Async, at_handle_limit, AtOnce, blocked_code, Bool, ByHandle, ByOp, BySetHandle, ByThread, ByWait, Call, call_answered, call_begins, call_host_polled, call_of_op, call_pending, call_queues, call_resumes, call_returned, call_row, call_settled, call_status, call_sync_begins, call_sync_host_polled, call_sync_host_row, call_sync_host_stops, call_sync_row, call_sync_status, call_sync_stops, CallbackWaits, CallbackYields, Callee, callee_of_op, CallEnd, Caller, caller_of, CallLabel, cancel_aborts_host, cancel_asks, cancel_by_end, cancel_case, cancel_ended_row, cancel_guest, cancel_label, cancel_promotes_yield, cancel_resumed, cancel_row, cancel_stops, cancel_subtask, cancel_takes_end, cancel_target, cancel_wakes_callback, cancel_withdraws, CancelCase, cancelled_of_op, Cancels, change, checked, Choice, chosen, CloseSet, Core, count_work, CountWork, Delivery, drop_row, dropped, end_for, ended, EndsSubtask, EndWords, enter_row, enter_runs, event_of, export_kind, Failing, false, finds_nothing, first_poll, FirstPoll, fits, free_handle, get, get-change, get-insert_same, get-remove, get-remove_same, Gift, gift, Goal, Goes, group_settled, handed_by, handed_by_call, handed_by_cancel, handed_by_event, handed_by_set, handed_on, handed_out, HandsAtOnce, HandsOut, has_ended, has_member, has_waiters, HasSubtask, host_answered, host_at, host_end, host_pending, host_ready, HostDef, how_far_of, HowFar, inl, inr, instance_of, is_async_lifted, is_async_work, is_callback_yield, is_cancel, is_direct, is_for_main, is_joined, is_ready_to_resume, is_script, is_some, is_stage_ended, is_sync_call, is_sync_cancel, is_sync_host_call, is_thread_op, is_wait, is_waiting_on, is_watched, is_yielded, IsNamed, IsNew, IsReadyAtOnce, Join, join_done, join_label, join_of, join_to, joined, joins, Label, Later, Leaves, List, Made, Main, MakeThread, Mark, may, may_hand_on, may_wake_new, MayCancel, MayJoin, MayMakeCall, MemberGift, Mode, Move, moved_to, NameCall, NameThread, NameWork, nat_tests, new_handle, new_thread, new_thread_handle, new_work, next_thread, next_work, NoGift, None, not, NoWord, on_call, on_instance, on_thread, on_work, Op, op_in, op_of, OpenSet, Option, option_map, option_map_or, OtherwiseRuns, OwnEvent, OwnGift, packed, passes_check, pauses, phase_of, Place, place_of, poll_row, Progress, promoted_unless, push_high, Put, put_back, put_switch, QueueWork, received, received_woken, Records, refl, registers_for, registers_of, remove, remove_group, remove_thread, remove_work, result_of, Resumes, returned_of_op, saved_callee_of, says, Scene, Script, set_at, set_do_not_suspend, set_drop_row, set_dropped, set_end, set_event, set_how_far, set_join, set_made, set_new_row, set_own_event, set_position, set_register, set_result, set_row, set_saved_callee, set_subtask_handle, SetCancelled, SetExited, SetLabel, SetOwnEvent, SetPhase, SetRegister, SetResult, SetSavedCallee, Setting, settle_group_of, SetUninteresting, Shifts, slot_at, Some, stage_of, StartNotRun, Status, status_code, status_found, Stay, Stops, subst, Subtask, subtask_at, subtask_ended, subtask_handle, subtask_instance, subtask_row, subtask_under_way, suc, Suspends, suspends, sym, Sync, T, TakesEvent, task_of, Then, Thread, thread_at, thread_group, thread_handle_of, Trap, trap_if, Trip, true, Turn, undelivered_end, UnnameCall, UnnameWork, unwrap_or, value_of, values_in, wait_begins, wait_goes_on, wait_label, wait_row, wait_stops, wait_stops_checked, wakes_joined, Walk, was_cancelled, was_started, Why, Withdraw, withdrawn, Work, work_answered, work_caller_of, work_deleted, work_group, work_queued, work_value, WorkCaller, Writes, WritesAtOnce, WritesCall, WritesNever, WritesToo, written_by, written_by_call, written_by_cancel, Yields, yields, zero, ℕ, ◌&&◌, ◌+◌, ◌==◌, ◌∙◌, ◌∷◌, ◌≡◌, ◌⊎◌}
+use Rattle.task_rules.proofs.Machine.{[], aborted_phase, AbortsOwn, add_work, advanced, after_word, AlreadyEnded, and_parts, answered, Answers, ap, arith, assigned, Async, at_handle_limit, AtOnce, blocked_code, Bool, ByHandle, ByOp, BySetHandle, ByThread, ByWait, call_answered, call_begins, call_host_polled, call_instance, call_of_op, call_pending, call_queues, call_resumes, call_returned, call_row, call_settled, call_status, call_sync_begins, call_sync_host_polled, call_sync_host_row, call_sync_host_stops, call_sync_row, call_sync_status, call_sync_stops, CallbackWaits, CallbackYields, Callee, callee_of_op, CallEnd, Caller, caller_of, CallLabel, cancel_aborts_host, cancel_asks, cancel_by_end, cancel_case, cancel_ended_row, cancel_guest, cancel_label, cancel_promotes_yield, cancel_resumed, cancel_row, cancel_stops, cancel_subtask, cancel_takes_end, cancel_target, cancel_wakes_callback, cancel_withdraws, CancelCase, cancelled_of_op, Cancels, checked, Choice, chosen, CloseSet, Core, count_work, CountWork, Delivery, drop_row, dropped, end_for, ended, EndsSubtask, EndWords, enter_row, enter_runs, event_of, export_kind, Failing, false, finds_nothing, first_poll, FirstPoll, fits, free_handle, get, get-change, get-insert_same, get-remove, get-remove_same, Gift, gift, Goal, Goes, group_settled, handed_by, handed_by_cancel, handed_by_event, handed_on, handed_out, HandsAtOnce, HandsOut, has_ended, has_member, has_waiters, HasSubtask, host_answered, host_at, host_end, host_pending, host_ready, HostDef, how_far_of, HowFar, inl, inr, instance_of, is_async_lifted, is_async_work, is_callback_yield, is_cancel, is_direct, is_for_main, is_joined, is_ready_to_resume, is_script, is_some, is_stage_ended, is_sync_call, is_sync_cancel, is_sync_host_call, is_thread_op, is_wait, is_waiting_on, is_watched, is_yielded, IsNamed, IsNew, IsReadyAtOnce, Join, join_done, join_label, join_of, join_to, joined, joins, Label, Later, Leaves, List, Made, Main, MakeThread, Mark, may, may_hand_on, may_wake_new, MayCancel, MayJoin, MayMakeCall, MemberGift, Mode, Move, moved_to, NameCall, NameThread, NameWork, nat_tests, new_handle, new_thread, new_thread_handle, new_work, next_thread, next_work, NoGift, None, not, NoWord, on_call, on_instance, on_thread, on_work, Op, op_in, op_of, OpenSet, Option, option_map, option_map_or, OtherwiseRuns, OwnEvent, OwnGift, packed, passes_check, pauses, phase_of, Place, place_of, poll_row, Progress, promoted_unless, push_high, Put, put_back, put_switch, QueueWork, received, received_woken, Records, refl, registers_for, registers_of, remove, remove_group, remove_thread, remove_work, result_of, Resumes, returned_of_op, saved_callee_of, says, Scene, Script, set_at, set_do_not_suspend, set_drop_row, set_dropped, set_end, set_event, set_given, set_how_far, set_join, set_made, set_new_row, set_own_event, set_position, set_register, set_result, set_row, set_saved_callee, set_subtask_handle, SetCancelled, SetExited, SetOwnEvent, SetPhase, SetRegister, SetResult, SetSavedCallee, Setting, settle_group_of, SetUninteresting, Shifts, slot_at, Some, stage_of, StartNotRun, Status, status_code, status_found, Stay, Stops, subst, Subtask, subtask_at, subtask_ended, subtask_handle, subtask_instance, subtask_row, subtask_under_way, suc, Suspends, suspends, sym, Sync, T, TakesEvent, task_of, Then, Thread, thread_at, thread_group, thread_handle_of, Trap, trap_if, Trip, true, Turn, undelivered_end, UnnameCall, UnnameWork, unwrap_or, value_of, values_in, wait_begins, wait_goes_on, wait_label, wait_row, wait_stops, wait_stops_checked, wakes_joined, Walk, was_cancelled, was_started, Why, Withdraw, withdrawn, Work, work_answered, work_caller_of, work_deleted, work_group, work_queued, work_value, WorkCaller, Writes, WritesAtOnce, WritesCall, WritesNever, WritesToo, written_by, written_by_cancel, Yields, yields, zero, ℕ, ◌+◌, ◌==◌, ◌∙◌, ◌∷◌, ◌≡◌, ◌⊎◌}
 use Rattle.task_machine.specs.declared.component.Slot.{Slot}
+use Rattle.task_machine.specs.declared.label.SetLabel.{SetLabel}
 use Rattle.task_machine.specs.declared.label.ThreadLabel.{ThreadLabel}
 use Rattle.task_machine.specs.declared.op.CallOp.{CallOp}
 use Rattle.task_machine.specs.declared.op.SetOp.{SetOp}
@@ -9,13 +10,13 @@ use Rattle.task_rules.specs.Threads.{by_how_far, Halt, halt_row, halted, halted_
 use Rattle.task_rules.proofs.ChainLemmas.{Going, join, stay_walk, Keep, keep_stay}
 use Rattle.task_rules.proofs.WalkMoves.{keep_still, MayTake, call_settled_walks, checked_shifts, chosen_of, handed_on_shifts, shifted, wake_shifts, word, lands_at, promoted_walks, call_done_walks}
 use Rattle.task_rules.proofs.WalkParts.{AtOps, call_queues_walks, call_resumes_walks, call_stops_walks, cancel_goes_behind_walks, cancel_plain, cancel_stops_walks, cancel_takes_end_walks, checked_walks, enter_gives, enter_runs_walks, freed_named, gift_is, join_plain, join_walks, put_back_walks, received_walks, set_none_join, stopped_walks, wait_plain, wait_stops_walks, withdrawn_walks, work_deleted_walks, work_unnamed, withdraws, answered_first, answered_unnamed, answered_settled, answered_parted, call_answers_walks, answered_fresh, assigned_fresh}
-use Rattle.task_rules.proofs.MuteLemmas.{is_mute, mute_words, none_said}
-use Rattle.task_rules.proofs.SayLemmas.{call_answered_gone, call_returned_gone, cancel_hands_of, cancel_taken_gone, cancel_writes_of, event_joined, event_owed, found_returned, given_says, packed_is_not_two, received_gone, received_woken_gone, HasNoEnd, event_aborted, said_is}
+use Rattle.task_rules.proofs.MuteLemmas.{mute_words, none_said, says_by, hands_by}
+use Rattle.task_rules.proofs.SayLemmas.{cancel_hands_of, cancel_writes_of, event_joined, event_owed, found_returned, HasNoEnd, event_aborted, said_is, given_out, settled_gone, event_gone, result_gone}
 use Rattle.task_rules.proofs.CancelLemmas.{CaseSays, case_says}
 use Rattle.task_rules.proofs.PlacingLemmas.{Shifted, placed, shifted_far, shifted_made, shifted_task, shifts_shifted}
 use Rattle.task_rules.proofs.StandLemmas.{by_number}
+use Rattle.task_rules.proofs.WalkTask.{Stands, Leads, advanced_walks, answered_walks, assigned_walks, goes_on, goes_on_told, goes_over, may_leads, or_never_leads, or_trap_leads, running_scene, stops_here, trap_if_leads, unnot, is_still, over_now, is_plain}
 use Rattle.task_rules.proofs.WalkEnds.{call_ends}
-use Rattle.task_rules.proofs.WalkTask.{Stands, Leads, advanced_walks, answered_walks, assigned_walks, goes_on, goes_on_saying, goes_on_told, goes_over, may_leads, or_never_leads, or_trap_leads, running_scene, stops_here, trap_if_leads, unnot, is_still, over_now}
 
 -- ---- What the rows read
 
@@ -63,13 +64,6 @@ pub queued_made : (f : WorkCaller) (host : HostDef) (group : Option ℕ) (t : Co
 unfolding work_queued push_high add_work count_work
 queued_made f host group t = refl
 
-halted_checked_is : (h : Halt) (n : ℕ) (s : Core) → halted_checked h n s ≡ halted h n (checked (instance_of n s) s)
-unfolding halted_checked
-halted_checked_is h n s = refl
-
-both_true : (b c : Bool) → (b && c) ≡ true → b ≡ true
-both_true b c e = grind arith
-
 -- a place that passes such a test is that of an entry
 abbrev is_ready : Option Place → Bool
 is_ready (Some (Place.Ready m w)) = true
@@ -104,38 +98,25 @@ module _ (x : Setting) (main : Main) (s : Core) (n : ℕ) (l : Label) (next : Tu
   at_ops : AtOps a s n
   at_ops t c = keep_still n refl c
 
-  go : (k : Label) (t : Core) → is_still k ≡ true → Going a s n t → Leads a s (Goes k t n)
+  go : (k : Label) (t : Core) → is_still a t k ≡ true → Going a s n t → Leads a s (Goes k t n)
   go k t plain c = goes_on x main s n l next k t plain c
 
-  stop : (k : Label) (t : Core) → is_still k ≡ true → (Leaves a n → Trip a s t) → Leads a s (Stops k t)
+  stop : (k : Label) (t : Core) → is_still a t k ≡ true → (Leaves a n → Trip a s t) → Leads a s (Stops k t)
   stop k t plain c = stops_here x main s n l next k t plain c
 
-  -- a label of sets writes no end
-  set_says : (k : SetLabel) (t : Core) → l ≡ Label.Set k → ((sub : Subtask) (e : Status) → handed_by_set s k ≡ Some (end_for e sub) → HandsOut a t sub e) → EndWords a t
-  set_says k t is hands = record {
-    writes = λ sub e says. none_said (ap (λ (y : Label). written_by x.component s y t) is) says;
-    hands = λ sub e out. hands sub e (sym (ap (λ (y : Label). handed_by x.component main s y t) is) ∙ out);
-  }
+  told : (k : Label) (t : Core) → is_plain s k ≡ true → (l ≡ k → EndWords a t) → (l ≡ k → Going a s n t) → Leads a s (Goes k t n)
+  told k t plain says c = goes_on_told x main s n l next k t plain (λ is to. says is) c
 
-  -- nor a label of calls but that of a cancel
-  call_says : (k : CallLabel) (t : Core) → written_by_call x.component s k ≡ None → l ≡ Label.Call k → ((sub : Subtask) (e : Status) → handed_by_call x.component s k ≡ Some (end_for e sub) → HandsOut a t sub e) → EndWords a t
-  call_says k t none is hands = record {
-    writes = λ sub e says. none_said (ap (λ (y : Label). written_by x.component s y t) is ∙ none) says;
-    hands = λ sub e out. hands sub e (sym (ap (λ (y : Label). handed_by x.component main s y t) is) ∙ out);
-  }
-
-  -- nor a host that is ready at once: it is handed out, too
+  -- a host that is ready at once is handed out, too
   at_once_says : (k : Label) (t : Core) → written_by x.component s k t ≡ host_end (next_work s) Status.Returned → handed_by x.component main s k t ≡ host_end (next_work s) Status.Returned → IsReadyAtOnce a t (next_work s) → l ≡ k → EndWords a t
-  at_once_says k t w h ready is = record {
-    writes = λ sub e says. said_is (λ d g. Writes a t d) (sym (ap (λ (y : Label). written_by x.component s y t) is ∙ w) ∙ says) (WritesAtOnce (next_work s) ready);
-    hands = λ sub e out. said_is (HandsOut a t) (sym (ap (λ (y : Label). handed_by x.component main s y t) is ∙ h) ∙ out) (HandsAtOnce (next_work s) ready (ap (λ (y : Label). written_by x.component s y t) is ∙ w));
-  }
+  at_once_says k t w h ready is =
+      says_by a t is (λ sub e says. said_is (λ d g. Writes a t d) (sym w ∙ says) (WritesAtOnce (next_work s) ready))
+      (λ sub e out. said_is (HandsOut a t) (sym h ∙ out) (HandsAtOnce (next_work s) ready (ap (λ (y : Label). written_by x.component s y t) is ∙ w)))
 
   -- what an op on a set hands out is the member's event
-  gift_out : (r y : ℕ) (ch : Choice) (g : Gift) → gift false (task_of n s) y (chosen n ch s) s ≡ Some g → (sub : Subtask) (e : Status) → handed_by_event n s (handed_out ch s g) ≡ Some (end_for e sub) → HandsOut a (received n r g (handed_out ch s g) s) sub e
-  gift_out r y ch g h sub e out =
-      let q = given_says false n (task_of n s) y ch s g sub e h out in
-      TakesEvent sub e q.1 (subst (λ (f : Gift). HasNoEnd sub (received n r f (handed_out ch s g) s)) (sym q.0) (received_gone n r sub (handed_out ch s g) s))
+  gift_out : (r y : ℕ) (ch : Choice) (g : Gift) (u : Core) → gift false (task_of n s) y (chosen n ch s) s ≡ Some g → (sub : Subtask) (e : Status) → handed_by_event n s (handed_out ch s g) ≡ Some (end_for e sub) → HandsOut a (received n r g (handed_out ch s g) u) sub e
+  unfolding received advanced moved_to set_how_far set_position on_thread set_given set_register
+  gift_out r y ch g u h = given_out false n (task_of n s) y ch g (task_of n u) u h refl refl
 
   -- ---- Sets
 
@@ -165,24 +146,21 @@ module _ (x : Setting) (main : Main) (s : Core) (n : ℕ) (l : Label) (next : Tu
       stop _ (wait_stops_checked n y s) refl (λ leave. wait_stops_walks n refl at_ops y can leave (BySetHandle h named) (checked_walks n refl (instance_of n s) NoWord)))
   wait_begins_leads r h ch y false can named =
       or_never_leads a s (gift false (task_of n s) y (chosen n ch s) s) _ (λ g e.
-      goes_on_saying x main s n l next (Label.Set (SetLabel.Wait (handed_out ch s g) n)) (received n r g (handed_out ch s g) s) refl (λ is. set_says (SetLabel.Wait (handed_out ch s g) n) _ is (gift_out r y ch g e)) (λ is. received_walks n refl on r g (handed_out ch s g) (takes y ch g e) NoWord))
+      told (Label.Set (SetLabel.Wait (handed_out ch s g) n)) (received n r g (handed_out ch s g) s) refl (λ is. hands_by a _ is refl (gift_out r y ch g s e)) (λ is. received_walks n refl on r g (handed_out ch s g) (takes y ch g e) NoWord))
 
   received_leads : (y r : ℕ) (ch : Choice) (g : Gift) → gift false (task_of n s) y (chosen n ch s) s ≡ Some g → Leads a s (may (may_hand_on y g ch.woken s) (Goes (wait_label n (handed_out ch s g) ch.woken) (received_woken n y r ch.woken g (handed_out ch s g) s) n))
   unfolding received_woken
   received_leads y r ch g e =
       may_leads a s (may_hand_on y g ch.woken s) _ (λ may.
       let d : Shifts s (handed_on y g ch.woken s) = handed_on_shifts y g ch.woken s may in
-      goes_on_saying x main s n l next (wait_label n (handed_out ch s g) ch.woken) (received_woken n y r ch.woken g (handed_out ch s g) s) (wait_plain n (handed_out ch s g) ch.woken)
+      told (wait_label n (handed_out ch s g) ch.woken) (received_woken n y r ch.woken g (handed_out ch s g) s) (wait_plain s n (handed_out ch s g) ch.woken)
       (says ch.woken)
       (λ is. received_walks n refl on r g (handed_out ch s g) (subst (λ (k : ℕ). MayTake a k g) (sym (shifted_task (shifts_shifted d) n)) (takes y ch g e)) (shifted d NoWord)))
     where
       -- only a wake that is handed on is shown
       says : (w : Option ℕ) → l ≡ wait_label n (handed_out ch s g) w → EndWords a (received_woken n y r w g (handed_out ch s g) s)
-      says (Some z) is = mute_words a _ (ap is_mute is)
-      says None is =
-          set_says (SetLabel.Wait (handed_out ch s g) n) _ is (λ sub f out.
-          let q = given_says false n (task_of n s) y ch s g sub f e out in
-          TakesEvent sub f q.1 (subst (λ (h : Gift). HasNoEnd sub (received_woken n y r None h (handed_out ch s g) s)) (sym q.0) (received_woken_gone n y r sub (handed_out ch s g) s)))
+      says (Some z) is = mute_words a _ is refl
+      says None is = hands_by a _ is refl (gift_out r y ch g (handed_on y g None s) e)
 
   wait_goes_on_leads : (y r : ℕ) (ch : Choice) (g : Gift) → is_wait (op_in a n) ≡ true → how_far_of n s ≡ HowFar.Waits y → gift false (task_of n s) y (chosen n ch s) s ≡ Some g → Leads a s (wait_goes_on n y r ch s g)
   wait_goes_on_leads y r ch NoGift can far e = stop _ (wait_stops n y s) refl (λ leave. wait_stops_walks n refl at_ops y can leave (ByWait far) NoWord)
@@ -197,7 +175,7 @@ module _ (x : Setting) (main : Main) (s : Core) (n : ℕ) (l : Label) (next : Tu
   poll_row_leads r h ch =
       or_trap_leads a s (set_at (instance_of n s) h s) Trap.BadHandle _ (λ y named.
       or_never_leads a s (gift false (task_of n s) y (chosen n ch s) s) _ (λ g e.
-      goes_on_saying x main s n l next (Label.Set (SetLabel.Poll (handed_out ch s g) n)) (received n r g (handed_out ch s g) s) refl (λ is. set_says (SetLabel.Poll (handed_out ch s g) n) _ is (gift_out r y ch g e)) (λ is. received_walks n refl on r g (handed_out ch s g) (takes y ch g e) NoWord)))
+      told (Label.Set (SetLabel.Poll (handed_out ch s g) n)) (received n r g (handed_out ch s g) s) refl (λ is. hands_by a _ is refl (gift_out r y ch g s e)) (λ is. received_walks n refl on r g (handed_out ch s g) (takes y ch g e) NoWord)))
 
   joined_walks : (sub : Subtask) (y w : Option ℕ) (o : Option Status) (t : Core) → t.threads ≡ s.threads → may_wake_new o y w s ≡ true → Keep a s t → Keep a s (wakes_joined o y w t)
   joined_walks sub (Some y) w (Some e) t same may c = shifted (wake_shifts y w t (λ m is. ap (λ (r : Records Thread). option_map_or (is_waiting_on y) (option_map (λ u. u.place) (get r m)) false) same ∙ chosen_of y w s may m is)) c
@@ -213,7 +191,7 @@ module _ (x : Setting) (main : Main) (s : Core) (n : ℕ) (l : Label) (next : Tu
   join_done_leads sub w y ok =
       trap_if_leads a s (is_watched (join_of sub s)) Trap.WaitableSyncAndAsync _ (λ e.
       may_leads a s (may_wake_new (event_of sub s) y w s) _ (λ may.
-      go (join_label n w) (joined n sub y w s) (join_plain n w) (advanced_walks n refl on (joined_walks sub y w (event_of sub s) (set_join sub (joins y) s) (join_threads sub (joins y)) may (join_walks n refl sub (joins y) ok NoWord)))))
+      go (join_label n w) (joined n sub y w s) (join_plain a _ n w) (advanced_walks n refl on (joined_walks sub y w (event_of sub s) (set_join sub (joins y) s) (join_threads sub (joins y)) may (join_walks n refl sub (joins y) ok NoWord)))))
 
   join_to_leads : (h y : ℕ) (w : Option ℕ) (sub : Subtask) → subtask_at (instance_of n s) h s ≡ Some sub → Leads a s (join_to n y w s sub)
   join_to_leads h zero w sub named = join_done_leads sub w None (n, (refl, ByHandle h named))
@@ -246,12 +224,16 @@ module _ (x : Setting) (main : Main) (s : Core) (n : ℕ) (l : Label) (next : Tu
   by_call : (sub : Subtask) → how_far_of n s ≡ HowFar.Calls sub → HasSubtask a n sub
   by_call sub far = ByOp (ap (λ h. subtask_under_way h) far)
 
+  -- a status that is packed with a handle is no bare Returned
+  call_still : (h : ℕ) (e : Status) (t : Core) → (e ≡ Status.Returned → ⊥) → (is_still a t (Label.Call (CallLabel.Call (packed h e) n)) ≡ true) × ((i : ℕ) → is_still a t (Label.Call (CallLabel.CallPolls (packed h e) n i)) ≡ true)
+  call_still h e t other = (grind (arith, nat_tests), λ i. grind (arith, nat_tests))
+
   call_pending_leads : (r k : ℕ) (e : Status) → (e ≡ Status.Returned → ⊥) → (event_of (Subtask.Guest k) s ≡ Some Status.Returned → ⊥) → how_far_of n s ≡ HowFar.Calls (Subtask.Guest k) → Leads a s (let v = packed (new_handle (instance_of n s) s) e in trap_if (at_handle_limit s) Trap.HandleLimit (Goes (Label.Call (CallLabel.Call v n)) (call_pending n r k v s) n))
   unfolding call_pending
   call_pending_leads r k e other unreturned far =
       trap_if_leads a s (at_handle_limit s) Trap.HandleLimit _ (λ f.
       let v = packed (new_handle (instance_of n s) s) e in
-      go _ (call_pending n r k v s) (packed_is_not_two (new_handle (instance_of n s) s) e other)
+      go _ (call_pending n r k v s) (call_still (new_handle (instance_of n s) s) e (call_pending n r k v s) other).0
       (λ to. subst (λ (t : Core). Stay a s t) (answered_unnamed n r v (instance_of n s) k (call_resumes n k s)) (Then _ (NameCall (instance_of n s) k)
       (answered_walks n refl on r v (call_resumes_walks n refl k far unreturned NoWord) to) (n, (refl, (refl, (far, (answered_fresh n r v (call_resumes n k s), resumed_card n r v k s))))))))
 
@@ -266,10 +248,10 @@ module _ (x : Setting) (main : Main) (s : Core) (n : ℕ) (l : Label) (next : Tu
       (call_done_walks k (λ gone. (gone, inr (n, (refl, (far, answered_fresh n r v t))))) c)
 
   call_status_leads : (r k : ℕ) (e : Status) → how_far_of n s ≡ HowFar.Calls (Subtask.Guest k) → status_found k s ≡ e → Leads a s (call_status n r k s e)
-  unfolding call_returned
+  unfolding call_returned answered assigned advanced moved_to set_how_far set_position on_thread set_register set_saved_callee call_resumes
   call_status_leads r k Status.Returned far found =
-      goes_on_saying x main s n l next (Label.Call (CallLabel.Call 2 n)) (call_returned n r k s) refl
-      (λ is. call_says (CallLabel.Call 2 n) _ refl is (returned_out k (call_returned n r k s) far found (call_returned_gone n r k s)))
+      told (Label.Call (CallLabel.Call 2 n)) (call_returned n r k s) refl
+      (λ is. hands_by a _ is refl (returned_out k (call_returned n r k s) far found (settled_gone k (call_resumes n k s) (call_returned n r k s) refl (event_gone (Subtask.Guest k) (put_back (saved_callee_of n s) (call_instance k s) s) (call_resumes n k s) refl refl))))
       (λ is to. done_walks r 2 k (call_resumes n k s) far (call_answers_walks n refl on r 2 k far NoWord to))
   call_status_leads r k e far found = call_pending_leads r k e (λ h. absurd (cc)) (λ h. absurd (grind arith)) far
 
@@ -284,10 +266,10 @@ module _ (x : Setting) (main : Main) (s : Core) (n : ℕ) (l : Label) (next : Tu
       stop _ (call_sync_stops n k s) refl (λ leave. call_stops_walks n refl at_ops (Subtask.Guest k) (checked (instance_of n s) (call_resumes n k s)) can leave (λ u d. inl (by_call (Subtask.Guest k) far)) (λ u d at. (refl, inl (far, resumed_far n k s u d ∙ far))) (checked_walks n refl (instance_of n s) (call_resumes_walks n refl k far unreturned NoWord))))
 
   call_sync_status_leads : (r k : ℕ) (e : Status) → is_some (callee_of_op (op_in a n)) ≡ true → how_far_of n s ≡ HowFar.Calls (Subtask.Guest k) → status_found k s ≡ e → Leads a s (call_sync_status n r k s e)
-  unfolding call_answered
+  unfolding call_answered answered assigned advanced moved_to set_how_far set_position on_thread set_register set_saved_callee call_resumes
   call_sync_status_leads r k Status.Returned can far found =
-      goes_on_saying x main s n l next (Label.Call (CallLabel.CallSync n (result_of k s))) (call_answered n r k s) refl
-      (λ is. call_says (CallLabel.CallSync n (result_of k s)) _ refl is (returned_out k (call_answered n r k s) far found (call_answered_gone n r k s)))
+      told (Label.Call (CallLabel.CallSync n (result_of k s))) (call_answered n r k s) refl
+      (λ is. hands_by a _ is refl (returned_out k (call_answered n r k s) far found (settled_gone k (set_result k None (call_resumes n k s)) (call_answered n r k s) refl (result_gone k (put_back (saved_callee_of n s) (call_instance k s) s)))))
       (λ is to. done_walks r (result_of k s) k (set_result k None (call_resumes n k s)) far (subst (λ (u : Core). Stay a s u) (answered_parted n r (result_of k s) k (call_resumes n k s)) (Then _ (SetResult k None) (call_answers_walks n refl on r (result_of k s) k far NoWord to) tt)))
   call_sync_status_leads r k e can far found = call_sync_pauses k (λ h. absurd (grind arith)) can far
 
@@ -296,13 +278,13 @@ module _ (x : Setting) (main : Main) (s : Core) (n : ℕ) (l : Label) (next : Tu
       trap_if_leads a s (not (fits 3 s)) Trap.TableFull _ (λ f.
       trap_if_leads a s (at_handle_limit s) Trap.HandleLimit _ (λ g.
       goes_over x main s n l next (Label.Call (CallLabel.Enters n (next_thread s))) (next_thread s) (enter_runs n e (export_kind x.component e) words s) refl (λ h. no_direct h) (by_number (next_thread s) n _ (λ h. inl (ap (λ (i : ℕ). Turn.Run i) (sym h))) (λ h. inr (enter_gives n e (export_kind x.component e) words s h)))
-      (λ is. mute_words a _ (ap is_mute is))
+      (λ is. mute_words a _ is refl)
       (λ is to. enter_runs_walks n refl sync (calls callee) e (export_kind x.component e) words refl to (makes_call e Goal.Direct callee (λ d. (lifted, to)) refl))))
 
   call_sync_row_leads : (r : ℕ) (e : Callee) (words : List ℕ) (f : HowFar) → is_sync_call (op_in a n) ≡ true → callee_of_op (op_in a n) ≡ Some e → how_far_of n s ≡ f → Leads a s (call_sync_row x.component n r e words s f)
   call_sync_row_leads r e words (HowFar.Answered v) sync callee far =
-      goes_on_saying x main s n l next (Label.Call (CallLabel.CallSync n v)) (assigned n r v s) refl
-      (λ is. call_says (CallLabel.CallSync n v) _ refl is (λ sub f out. none_said (ap (λ (h : HowFar). option_map (end_for Status.Returned) (call_of_op h)) far) out))
+      told (Label.Call (CallLabel.CallSync n v)) (assigned n r v s) refl
+      (λ is. hands_by a _ is refl (λ sub f out. none_said (ap (λ (h : HowFar). option_map (end_for Status.Returned) (call_of_op h)) far) out))
       (λ is. assigned_walks n refl on r v NoWord)
   call_sync_row_leads r e words (HowFar.Calls (Subtask.Guest k)) sync callee far = call_sync_status_leads r k (status_found k s) (calls callee) far refl
   call_sync_row_leads r e words _ sync callee far = by_lift (is_async_lifted (export_kind x.component e)) refl
@@ -316,7 +298,7 @@ module _ (x : Setting) (main : Main) (s : Core) (n : ℕ) (l : Label) (next : Tu
   call_host_polled_leads : (r q : ℕ) (f : FirstPoll) → Leads a s (call_host_polled n r q s f)
   unfolding host_ready host_pending
   call_host_polled_leads r q (AtOnce v) =
-      goes_on_saying x main s n l next (Label.Call (CallLabel.CallPolls 2 n (next_work s))) (host_ready n r q v s) refl
+      told (Label.Call (CallLabel.CallPolls 2 n (next_work s))) (host_ready n r q v s) refl
       (λ is. at_once_says _ (host_ready n r q v s) refl refl (ready_at_once n r q v s) is)
       (λ is. assigned_walks n refl on r 2 (word (SetRegister n q v) tt (word CountWork refl NoWord)))
   call_host_polled_leads r q Failing = tt
@@ -324,7 +306,7 @@ module _ (x : Setting) (main : Main) (s : Core) (n : ℕ) (l : Label) (next : Tu
       let v = packed (new_handle (instance_of n s) s) Status.Started in
       trap_if_leads a s (not (fits 1 s)) Trap.TableFull _ (λ e.
       trap_if_leads a s (at_handle_limit s) Trap.HandleLimit _ (λ f.
-      go _ (host_pending n r q v host s) (packed_is_not_two (new_handle (instance_of n s) s) Status.Started (λ h. absurd (cc))) (assigned_walks n refl on r v (word (NameWork (instance_of n s) (next_work s)) ((n, (refl, (refl, inr (refl, queued_made (WorkCaller.Async n q) host (Some (thread_group n s)) s)))), ap (λ f. is_async_work f) (queued_caller (WorkCaller.Async n q) host (Some (thread_group n s)) s))
+      go _ (host_pending n r q v host s) ((call_still (new_handle (instance_of n s) s) Status.Started (host_pending n r q v host s) (λ h. absurd (cc))).1 (next_work s)) (assigned_walks n refl on r v (word (NameWork (instance_of n s) (next_work s)) ((n, (refl, (refl, inr (refl, queued_made (WorkCaller.Async n q) host (Some (thread_group n s)) s)))), ap (λ f. is_async_work f) (queued_caller (WorkCaller.Async n q) host (Some (thread_group n s)) s))
       (word (QueueWork (WorkCaller.Async n q) host (Some (thread_group n s))) (refl, (refl, refl)) NoWord)))))
 
   host_stops_walks : (host : HostDef) → is_sync_host_call (op_in a n) ≡ true → Leaves a n → Trip a s (call_sync_host_stops n host s)
@@ -343,7 +325,7 @@ module _ (x : Setting) (main : Main) (s : Core) (n : ℕ) (l : Label) (next : Tu
   call_sync_host_polled_leads : (r : ℕ) (f : FirstPoll) → is_sync_host_call (op_in a n) ≡ true → Leads a s (call_sync_host_polled n r s f)
   unfolding host_answered
   call_sync_host_polled_leads r (AtOnce v) can =
-      goes_on_saying x main s n l next (Label.CallSyncPolls n v (next_work s)) (host_answered n r v s) refl
+      told (Label.CallSyncPolls n v (next_work s)) (host_answered n r v s) refl
       (λ is. at_once_says _ (host_answered n r v s) refl refl (answered_at_once n r v s) is)
       (λ is. assigned_walks n refl on r v (word CountWork refl NoWord))
   call_sync_host_polled_leads r Failing can = tt
@@ -355,8 +337,8 @@ module _ (x : Setting) (main : Main) (s : Core) (n : ℕ) (l : Label) (next : Tu
   call_sync_host_row_leads : (r h : ℕ) (f : HowFar) → is_sync_host_call (op_in a n) ≡ true → how_far_of n s ≡ f → Leads a s (call_sync_host_row x.component n r h s f)
   unfolding work_answered
   call_sync_host_row_leads r h (HowFar.Calls (Subtask.Host i)) can far =
-      goes_on_saying x main s n l next (Label.Call (CallLabel.CallSync n (work_value i s))) (work_answered n r i s) refl
-      (λ is. call_says (CallLabel.CallSync n (work_value i s)) _ refl is (λ sub f out. said_is (HandsOut a (work_answered n r i s)) (sym (ap (λ (y : HowFar). option_map (end_for Status.Returned) (call_of_op y)) far) ∙ out) (Answers n i refl far (work_gone n r i s))))
+      told (Label.Call (CallLabel.CallSync n (work_value i s))) (work_answered n r i s) refl
+      (λ is. hands_by a _ is refl (λ sub f out. said_is (HandsOut a (work_answered n r i s)) (sym (ap (λ (y : HowFar). option_map (end_for Status.Returned) (call_of_op y)) far) ∙ out) (Answers n i refl far (work_gone n r i s))))
       (λ is to. subst (λ (t : Core). Stay a s t) (answered_first n r (work_value i s) i s) (join (assigned_walks n refl on r (work_value i s) NoWord to) (keep_stay (work_deleted_walks n refl i (n, (refl, inl (far, assigned_fresh n r (work_value i s) s))) NoWord))))
   call_sync_host_row_leads r h _ can far = call_sync_host_polled_leads r (first_poll (host_at x.component h)) can
 
@@ -380,14 +362,16 @@ module _ (x : Setting) (main : Main) (s : Core) (n : ℕ) (l : Label) (next : Tu
 
   -- a cancel that takes an end of its subtask
   cancel_says : (mode : Mode) (r : ℕ) (sub : Subtask) (t : Core) (e : Status) → cancelled_of_op x.component n s (how_far_of n s) ≡ Some sub → undelivered_end (event_of sub s) ≡ Some e → l ≡ cancel_label mode n (status_code e) → EndWords a (cancel_takes_end n r sub e t)
-  cancel_says mode r sub t e target found is = record {
-    writes = λ to f says.
-        let q = cancel_writes_of sub to f (cancelled_of_op x.component n s (how_far_of n s)) target e (sym (ap (λ (y : Label). written_by x.component s y (cancel_takes_end n r sub e t)) is ∙ writes_at mode) ∙ says) in
-        WritesNever to (subst (λ (d : Subtask). undelivered_end (event_of d s) ≡ Some Status.StartCancelled) q.0 (found ∙ ap (λ (g : Status). Some g) q.1));
-    hands = λ to f out.
-        let q = cancel_hands_of sub to f (cancelled_of_op x.component n s (how_far_of n s)) target e (sym (ap (λ (y : Label). handed_by x.component main s y (cancel_takes_end n r sub e t)) is ∙ hands_at mode) ∙ out) in
-        subst (λ (d : Subtask). HandsOut a (cancel_takes_end n r sub e t) d f) q.0 (TakesEvent sub f (found ∙ ap (λ (g : Status). Some g) q.1) (cancel_taken_gone n r sub e t));
-  }
+  unfolding cancel_takes_end answered assigned advanced moved_to set_how_far set_position on_thread set_register set_saved_callee
+  cancel_says mode r sub t e target found is =
+      let o = cancelled_of_op x.component n s (how_far_of n s) in
+      says_by a (cancel_takes_end n r sub e t) is
+      (λ to f says.
+      let q = cancel_writes_of sub to f o target e (sym (writes_at mode) ∙ says) in
+      WritesNever to (subst (λ (d : Subtask). undelivered_end (event_of d s) ≡ Some Status.StartCancelled) q.0 (found ∙ ap (λ (g : Status). Some g) q.1)))
+      (λ to f out.
+      let q = cancel_hands_of sub to f o target e (sym (hands_at mode) ∙ out) in
+      subst (λ (d : Subtask). HandsOut a (cancel_takes_end n r sub e t) d f) q.0 (TakesEvent sub f (found ∙ ap (λ (g : Status). Some g) q.1) (event_gone sub t _ refl refl)))
     where
       writes_at : (m : Mode) → written_by x.component s (cancel_label m n (status_code e)) (cancel_takes_end n r sub e t) ≡ written_by_cancel x.component n s (status_code e)
       writes_at m = grind arith
@@ -397,7 +381,7 @@ module _ (x : Setting) (main : Main) (s : Core) (n : ℕ) (l : Label) (next : Tu
 
   cancel_ended_row_leads : (mode : Mode) (r : ℕ) (sub : Subtask) (t : Core) (o : Option Status) → cancelled_of_op x.component n s (how_far_of n s) ≡ Some sub → undelivered_end (event_of sub s) ≡ o → MayCancel a n sub → Keep a s t → Leads a s (cancel_ended_row mode n r sub t o)
   cancel_ended_row_leads mode r sub t None target found has c = tt
-  cancel_ended_row_leads mode r sub t (Some e) target found has c = goes_on_saying x main s n l next (cancel_label mode n (status_code e)) (cancel_takes_end n r sub e t) (cancel_plain mode n (status_code e)) (λ is. cancel_says mode r sub t e target found is) (λ is. cancel_takes_end_walks n refl on r sub e has c)
+  cancel_ended_row_leads mode r sub t (Some e) target found has c = told (cancel_label mode n (status_code e)) (cancel_takes_end n r sub e t) (cancel_plain s mode n (status_code e)) (λ is. cancel_says mode r sub t e target found is) (λ is. cancel_takes_end_walks n refl on r sub e has c)
 
   cancel_by_end_leads : (mode : Mode) (r : ℕ) (sub : Subtask) (t : Core) (b : Bool) → CancelOp mode → cancelled_of_op x.component n s (how_far_of n s) ≡ Some sub → event_of sub t ≡ event_of sub s → MayCancel a n sub → IsFree sub → Keep a s t → Leads a s (cancel_by_end mode n r sub t b)
   cancel_by_end_leads mode r sub t true by target same has free c = cancel_ended_row_leads mode r sub t (undelivered_end (event_of sub t)) target (ap (λ o. undelivered_end o) (sym same)) has c
@@ -422,14 +406,12 @@ module _ (x : Setting) (main : Main) (s : Core) (n : ℕ) (l : Label) (next : Tu
   unfolding cancel_withdraws withdrawn remove_thread set_end
   withdraw_says mode r k to at target named unended =
       let t = cancel_withdraws n r k s in
-      let writes : written_by x.component s l t ≡ Some (end_for Status.StartCancelled (Subtask.Guest k)) = ap (λ (y : Label). written_by x.component s y t) at ∙ (cancel_writes mode t ∙ ap (option_map (end_for Status.StartCancelled)) target) in
       let v : Core = after_word (Withdraw k) s in
       let u : Core = call_ends k CallEnd.StartCancelled v in
       let rest : Walk a u (cancel_withdraws n r k s) = subst (λ (w : Core). Walk a (call_ends k CallEnd.StartCancelled w) (cancel_withdraws n r k s)) (sym (withdraws k s)) (stay_walk (answered_walks n refl (subst (λ (w : Core). Stands a (call_ends k CallEnd.StartCancelled w) n) (withdraws k s) (withdrawn_low k CallEnd.StartCancelled)) r 3 (word (SetUninteresting k) tt (word (SetExited k) tt NoWord)) to)) in
-      record {
-        writes = λ to f says. said_is (λ d g. Writes a t d) (sym writes ∙ says) (WritesCall k u (EndsSubtask named unended) (over_now k CallEnd.StartCancelled v) rest);
-        hands = λ to f out. said_is (HandsOut a t) (sym (ap (λ (y : Label). handed_by x.component main s y t) at ∙ (withdraw_hands mode ∙ ap (option_map (end_for Status.StartCancelled)) target)) ∙ out) (WritesToo k Status.StartCancelled (ap (λ (y : Label). written_by x.component s y s) at ∙ (cancel_writes mode s ∙ ap (option_map (end_for Status.StartCancelled)) target)) (inr refl));
-      }
+      says_by a t at
+      (λ to f says. said_is (λ d g. Writes a t d) (sym (cancel_writes mode t ∙ ap (option_map (end_for Status.StartCancelled)) target) ∙ says) (WritesCall k u (EndsSubtask named unended) (over_now k CallEnd.StartCancelled v) rest))
+      (λ to f out. said_is (HandsOut a t) (sym (withdraw_hands mode ∙ ap (option_map (end_for Status.StartCancelled)) target) ∙ out) (WritesToo k Status.StartCancelled (ap (λ (y : Label). written_by x.component s y s) at ∙ (cancel_writes mode s ∙ ap (option_map (end_for Status.StartCancelled)) target)) (inr refl)))
     where
       withdraw_hands : (m : Mode) → handed_by x.component main s (cancel_label m n 3) (cancel_withdraws n r k s) ≡ handed_by_cancel x.component n s 3
       withdraw_hands m = grind arith
@@ -439,7 +421,7 @@ module _ (x : Setting) (main : Main) (s : Core) (n : ℕ) (l : Label) (next : Tu
   cancel_guest_leads mode r h k AlreadyEnded by target is named free = cancel_ended_row_leads mode r (Subtask.Guest k) s (undelivered_end (event_of (Subtask.Guest k) s)) target refl (inl (h, named)) NoWord
   cancel_guest_leads mode r h k StartNotRun by target is named free =
       let says = subst (CaseSays k s) is (case_says k s) in
-      goes_on_told x main s n l next (cancel_label mode n 3) (cancel_withdraws n r k s) (cancel_plain mode n 3)
+      goes_on_told x main s n l next (cancel_label mode n 3) (cancel_withdraws n r k s) (cancel_plain s mode n 3)
       (λ at to. withdraw_says mode r k to at target (n, (h, (refl, named))) says.0)
       (λ at. answered_walks n refl on r 3 (withdrawn_walks n refl k (n, (refl, ((n, (h, (refl, named))), (says.1, (says.0, (refl, says.1)))))) (ap (λ (y : Label). written_by x.component s y s) at ∙ (cancel_writes mode s ∙ ap (option_map (end_for Status.StartCancelled)) target)) NoWord))
   cancel_guest_leads mode r h k CallbackWaits by target is named free =
@@ -537,15 +519,13 @@ module _ (x : Setting) (main : Main) (s : Core) (n : ℕ) (l : Label) (next : Tu
   halted_walks Yielding t by leave c = lands_at (Put Mark.Low n Why.Resumption) n HowFar.Yields (Yields leave refl) refl (at_ops _ (stopped_walks n refl t c)) by (stopped_walks n refl t c)
 
   halted_checked_walks : (h : Halt) → HaltOp h → Leaves a n → Trip a s (halted_checked h n s)
-  halted_checked_walks h by leave = subst (λ (t : Core). Trip a s t) (sym (halted_checked_is h n s)) (halted_walks h (checked (instance_of n s) s) by leave (checked_walks n refl (instance_of n s) NoWord))
+  unfolding halted_checked
+  halted_checked_walks h by leave = halted_walks h (checked (instance_of n s) s) by leave (checked_walks n refl (instance_of n s) NoWord)
 
-  halts_leads : (h : Halt) (k : Label) (b : Bool) → HaltOp h → is_still k ≡ true → Leads a s (halts h n k s b)
-  halts_leads h k true by plain = stop (pauses n) (halted_checked h n s) refl (λ leave. halted_checked_walks h by leave)
-  halts_leads Suspension k false by plain = tt
-  halts_leads Yielding k false by plain = go k (advanced n s) plain (advanced_walks n refl on NoWord)
-
-  halt_row_leads : (h : Halt) (k : Label) → HaltOp h → is_still k ≡ true → Leads a s (halt_row h n k s)
-  halt_row_leads h k by plain = halts_leads h k (passes_check (instance_of n s) s) by plain
+  halts_leads : (h : Halt) (k : ThreadLabel) (b : Bool) → HaltOp h → Leads a s (halts h n (Label.Thread k) s b)
+  halts_leads h k true by = stop (pauses n) (halted_checked h n s) refl (λ leave. halted_checked_walks h by leave)
+  halts_leads Suspension k false by = tt
+  halts_leads Yielding k false by = go (Label.Thread k) (advanced n s) refl (advanced_walks n refl on NoWord)
 
   resume_later_row_leads : (h : ℕ) → Leads a s (resume_later_row n h s)
   unfolding resumed_later
@@ -563,34 +543,35 @@ module _ (x : Setting) (main : Main) (s : Core) (n : ℕ) (l : Label) (next : Tu
       or_trap_leads a s (resume_why m s) Trap.CannotResumeThread _ (λ w by.
       stop (pauses n) (halted_resuming y n m w s) refl (λ leave. halted_walks y (put_switch m w s) halts leave (placed (Put Mark.Switch m w) (inl (Resumes by)) NoWord)))))
 
-  then_promote_leads : (y : Halt) (k : Label) (m : ℕ) (b : Bool) → HaltOp y → is_still k ≡ true → has_yielded m s ≡ b → Leads a s (then_promote y n k s m b)
+  then_promote_leads : (y : Halt) (k : ThreadLabel) (m : ℕ) (b : Bool) → HaltOp y → has_yielded m s ≡ b → Leads a s (then_promote y n (Label.Thread k) s m b)
   unfolding halted_promoting has_yielded
-  then_promote_leads y k m true by plain at =
-      let ready = resumes_ready (place_of m s) (both_true (option_map_or is_ready_to_resume (place_of m s) false) (is_yielded (how_far_of m s)) at) in
+  then_promote_leads y k m true by at =
+      let ready = resumes_ready (place_of m s) (and_parts (option_map_or is_ready_to_resume (place_of m s) false) (is_yielded (how_far_of m s)) at).0 in
       stop (pauses n) (halted_promoting y n m s) refl (λ leave. halted_walks y (promoted_unless m s) by leave (promoted_walks n m refl (ready_at (place_of m s) ready) NoWord))
-  then_promote_leads y k m false by plain at = halt_row_leads y k by plain
+  then_promote_leads y k m false by at = halts_leads y k (passes_check (instance_of n s) s) by
 
-  then_promote_row_leads : (y : Halt) (h : ℕ) (k : Label) → HaltOp y → is_still k ≡ true → Leads a s (then_promote_row y n h k s)
-  then_promote_row_leads y h k by plain =
+  then_promote_row_leads : (y : Halt) (h : ℕ) (k : ThreadLabel) → HaltOp y → Leads a s (then_promote_row y n h (Label.Thread k) s)
+  then_promote_row_leads y h k by =
       or_trap_leads a s (thread_at (instance_of n s) h s) Trap.BadHandle _ (λ m named.
       trap_if_leads a s (m == n) Trap.CannotResumeThread _ (λ other.
-      then_promote_leads y k m (has_yielded m s) by plain refl))
+      then_promote_leads y k m (has_yielded m s) by refl))
 
-  halting_leads : (k : ThreadLabel) (row : Label → Progress) → is_still (Label.Thread k) ≡ true → Leads a s (row (Label.Thread k)) → Leads a s (halting n s k row)
-  halting_leads k row plain leads = by_far (how_far_of n s)
+  -- an op that halted goes on
+  halting_leads : (k : ThreadLabel) (row : Label → Progress) → Leads a s (row (Label.Thread k)) → Leads a s (halting n s k row)
+  halting_leads k row leads = by_far (how_far_of n s)
     where
       by_far : (f : HowFar) → Leads a s (by_how_far f n (Label.Thread k) s (row (Label.Thread k)))
-      by_far HowFar.Suspends = go (Label.Thread k) (advanced n s) plain (advanced_walks n refl on NoWord)
-      by_far HowFar.Yields = go (Label.Thread k) (advanced n s) plain (advanced_walks n refl on NoWord)
+      by_far HowFar.Suspends = go (Label.Thread k) (advanced n s) refl (advanced_walks n refl on NoWord)
+      by_far HowFar.Yields = go (Label.Thread k) (advanced n s) refl (advanced_walks n refl on NoWord)
       by_far f = leads
 
   pub thread_row_leads : (o : ThreadOp) → op_in a n ≡ Op.Thread o → Leads a s (thread_row x.component n s o)
   thread_row_leads (ThreadOp.New r y v) is = thread_new_row_leads r y (value_of n s v) (slot_at x.component (instance_of n s) y) refl
   thread_row_leads (ThreadOp.Index r) is = go _ (assigned n r (unwrap_or (thread_handle_of n s) 0) s) refl (assigned_walks n refl on r (unwrap_or (thread_handle_of n s) 0) NoWord)
   thread_row_leads (ThreadOp.ResumeLater v) is = resume_later_row_leads (value_of n s v)
-  thread_row_leads ThreadOp.Suspend is = halting_leads (ThreadLabel.Suspend n) (λ k. halt_row Suspension n k s) refl (halt_row_leads Suspension (Label.Thread (ThreadLabel.Suspend n)) (ap (is_thread_op suspends) is) refl)
-  thread_row_leads ThreadOp.Yield is = halting_leads (ThreadLabel.Yield n) (λ k. halt_row Yielding n k s) refl (halt_row_leads Yielding (Label.Thread (ThreadLabel.Yield n)) (ap (is_thread_op yields) is) refl)
-  thread_row_leads (ThreadOp.SuspendThenResume v) is = halting_leads (ThreadLabel.SuspendThenResume n) (λ k. then_resume_row Suspension n (value_of n s v) s) refl (then_resume_row_leads Suspension (value_of n s v) (ap (is_thread_op suspends) is))
-  thread_row_leads (ThreadOp.YieldThenResume v) is = halting_leads (ThreadLabel.YieldThenResume n) (λ k. then_resume_row Yielding n (value_of n s v) s) refl (then_resume_row_leads Yielding (value_of n s v) (ap (is_thread_op yields) is))
-  thread_row_leads (ThreadOp.SuspendThenPromote v) is = halting_leads (ThreadLabel.SuspendThenPromote n) (λ k. then_promote_row Suspension n (value_of n s v) k s) refl (then_promote_row_leads Suspension (value_of n s v) (Label.Thread (ThreadLabel.SuspendThenPromote n)) (ap (is_thread_op suspends) is) refl)
-  thread_row_leads (ThreadOp.YieldThenPromote v) is = halting_leads (ThreadLabel.YieldThenPromote n) (λ k. then_promote_row Yielding n (value_of n s v) k s) refl (then_promote_row_leads Yielding (value_of n s v) (Label.Thread (ThreadLabel.YieldThenPromote n)) (ap (is_thread_op yields) is) refl)
+  thread_row_leads ThreadOp.Suspend is = halting_leads (ThreadLabel.Suspend n) (λ k. halt_row Suspension n k s) (halts_leads Suspension (ThreadLabel.Suspend n) (passes_check (instance_of n s) s) (ap (is_thread_op suspends) is))
+  thread_row_leads ThreadOp.Yield is = halting_leads (ThreadLabel.Yield n) (λ k. halt_row Yielding n k s) (halts_leads Yielding (ThreadLabel.Yield n) (passes_check (instance_of n s) s) (ap (is_thread_op yields) is))
+  thread_row_leads (ThreadOp.SuspendThenResume v) is = halting_leads (ThreadLabel.SuspendThenResume n) (λ k. then_resume_row Suspension n (value_of n s v) s) (then_resume_row_leads Suspension (value_of n s v) (ap (is_thread_op suspends) is))
+  thread_row_leads (ThreadOp.YieldThenResume v) is = halting_leads (ThreadLabel.YieldThenResume n) (λ k. then_resume_row Yielding n (value_of n s v) s) (then_resume_row_leads Yielding (value_of n s v) (ap (is_thread_op yields) is))
+  thread_row_leads (ThreadOp.SuspendThenPromote v) is = halting_leads (ThreadLabel.SuspendThenPromote n) (λ k. then_promote_row Suspension n (value_of n s v) k s) (then_promote_row_leads Suspension (value_of n s v) (ThreadLabel.SuspendThenPromote n) (ap (is_thread_op suspends) is))
+  thread_row_leads (ThreadOp.YieldThenPromote v) is = halting_leads (ThreadLabel.YieldThenPromote n) (λ k. then_promote_row Yielding n (value_of n s v) k s) (then_promote_row_leads Yielding (value_of n s v) (ThreadLabel.YieldThenPromote n) (ap (is_thread_op yields) is))

@@ -1,7 +1,7 @@
 -- The takings of entries as chains of words.
-use Rattle.task_rules.proofs.Machine.{activated, activated_woken, admits, ap, arith, at_handle_limit, backpressure_of, begun_holder, Bool, Call, change-field, Choice, chosen, cond, Core, delivered, Delivery, delivery_row, end_for, end_of, EndWords, event_label, ExportKind, false, foot_of, get, get-change, Gift, gift, give_thread_handle, Given, given_for, Goes, handed_by, handed_by_event, handed_on, handed_out, HandsOut, held_label, holder_at_start, Holds, host_label, if◌then◌else◌, inl, inr, instance_of, is_begun, is_exit, is_explicit, is_free, is_holding, is_none, is_running, is_some, is_start, is_sync, is_told, IsLaid, kind_of, Label, LastWords, Main, Mark, may, may_hand_on, may_not_enter, may_tell, may_tell_starting, MayDeliver, MayMove, MemberGift, Move, moved_to, NameThread, nat_tests, NoGift, None, not, NoWord, on_call, on_instance, on_thread, Option, option_map_or, outcome_of_label, own_delivered, own_event_of, own_gift_of, own_gift_only, own_or_nothing, OwnEvent, OwnGift, Place, place_of, published, Records, refl, Restart, running, Runs, Scene, Script, set_delivered, set_do_not_enter, set_event, set_given, set_how_far, set_place, set_position, set_script, set_started, set_starting_published, set_thread_handle, SetDoNotEnter, SetStarted, SetStartingPublished, Setting, Some, start_admitted, start_begins, start_holds, start_row, start_sets_flags, starting_is_published, starting_told, Status, stopped, Stops, subst, Subtask, sym, T, take_holds, take_label, TakeLabel, taken, TakesEvent, taking, task_of, thread_taken, told, Trap, true, Turn, unwrap_or, wait_again, WaitsAgain, was_started, WasReady, Why, with_thread_handle, written_by, ℕ, ◌&&◌, ◌==◌, ◌||◌, ◌∙◌, ◌≡◌}
-use Rattle.task_rules.proofs.MuteLemmas.{is_mute, mute_words, none_said}
-use Rattle.task_rules.proofs.SayLemmas.{activated_on_gone, given_says, HasNoEnd}
+use Rattle.task_rules.proofs.Machine.{activated, activated_woken, admits, and_parts, ap, arith, at_handle_limit, backpressure_of, begun_holder, Bool, Call, change-field, Choice, chosen, cond, Core, delivered, Delivery, delivery_row, end_for, end_of, EndWords, event_label, ExportKind, false, foot_of, get, get-change, Gift, gift, give_thread_handle, Given, given_for, Goes, handed_by_event, handed_on, handed_out, HandsOut, held_label, holder_at_start, Holds, host_label, if◌then◌else◌, inl, inr, instance_of, is_begun, is_exit, is_explicit, is_free, is_holding, is_none, is_running, is_some, is_start, is_sync, is_told, IsLaid, kind_of, Label, LastWords, Main, Mark, may, may_hand_on, may_not_enter, may_tell, may_tell_starting, MayDeliver, MayMove, MemberGift, Move, moved_to, NameThread, nat_tests, NoGift, None, not, NoWord, on_call, on_instance, on_thread, Option, option_map_or, outcome_of_label, own_delivered, own_event_of, own_gift_of, own_gift_only, own_or_nothing, OwnEvent, OwnGift, Place, place_of, published, Records, refl, Restart, running, Runs, Scene, Script, set_delivered, set_do_not_enter, set_event, set_given, set_how_far, set_place, set_position, set_register, set_script, set_started, set_starting_published, set_thread_handle, SetDoNotEnter, SetStarted, SetStartingPublished, Setting, Some, start_admitted, start_begins, start_holds, start_row, start_sets_flags, starting_is_published, starting_told, Status, stopped, Stops, subst, Subtask, sym, T, take_holds, take_label, TakeLabel, taken, taking, task_of, thread_taken, told, Trap, true, Turn, unwrap_or, wait_again, WaitsAgain, was_started, WasReady, Why, with_thread_handle, ℕ, ◌&&◌, ◌==◌, ◌||◌, ◌∙◌, ◌≡◌}
+use Rattle.task_rules.proofs.MuteLemmas.{is_mute, mute_words, hands_by}
+use Rattle.task_rules.proofs.SayLemmas.{given_out}
 use Rattle.task_rules.proofs.PlacingLemmas.{shifted_instance, shifted_task, shifts_shifted, shifted_calls}
 use Rattle.task_rules.proofs.WalkEnds.{SameCall, still_told_to, unanswered}
 use Rattle.task_rules.proofs.ChainLemmas.{Keep}
@@ -11,15 +11,9 @@ use Rattle.task_rules.proofs.WalkTask.{Leads, may_leads, none_is_some, not_main,
 
 -- ---- What is read
 
+-- a label that gives no outcome and is no exit
 abbrev is_taking : Label → Bool
-is_taking (Label.Take k) = true
-is_taking _ = false
-
-taking_outcome : (k : Label) → is_taking k ≡ true → outcome_of_label k ≡ None
-taking_outcome k h = grind arith
-
-taking_exit : (k : Label) → is_taking k ≡ true → is_exit k ≡ false
-taking_exit k h = grind arith
+is_taking k = is_none (outcome_of_label k) && not (is_exit k)
 
 take_taking : (m : Mark) (n : ℕ) (w : Option ℕ) → is_taking (take_label m n w) ≡ true
 take_taking m n w = grind arith
@@ -138,11 +132,11 @@ published_chosen k x w s h = h
 
 -- ---- The thread that is taken
 
-take_mute : (m : Mark) (n : ℕ) (w : Option ℕ) → is_mute (take_label m n w) ≡ true
-take_mute m n w = grind arith
+take_mute : (a : Scene) (t : Core) (m : Mark) (n : ℕ) (w : Option ℕ) → is_mute a t (take_label m n w) ≡ true
+take_mute a t m n w = grind arith
 
-held_mute : (m : Mark) (n : ℕ) (w : Option ℕ) → is_mute (held_label m n w) ≡ true
-held_mute m n w = grind arith
+held_mute : (a : Scene) (t : Core) (m : Mark) (n : ℕ) (w : Option ℕ) → is_mute a t (held_label m n w) ≡ true
+held_mute a t m n w = grind arith
 
 module _ (x : Setting) (main : Main) (ended : Bool) (s : Core) (n : ℕ) (l : Label) (next : Turn) where
   abbrev pub taking_scene : Scene
@@ -156,19 +150,22 @@ module _ (x : Setting) (main : Main) (ended : Bool) (s : Core) (n : ℕ) (l : La
   taken_ends k p t is taking free to says shuts = record {
     laid = λ m at take. subst (λ (j : ℕ). option_map_or is_free (place_of j (set_place n p t)) true ≡ true) (ap (λ (o : Option ℕ). unwrap_or o 0) at) (free_moved n p t free);
     runs = λ m at. let r = to m at in inr (subst (λ (j : ℕ). option_map_or is_running (place_of j (set_place n p t)) true ≡ true) (sym r.0) (subst (λ (q : Place). option_map_or is_running (place_of n (set_place n q t)) true ≡ true) (sym r.1) (running_moved n t)));
-    outcome = λ o at. none_is_some o (sym (ap outcome_of_label is ∙ taking_outcome k taking) ∙ at);
-    gone = λ m at exit. absurd (subst T (sym exit ∙ (ap is_exit is ∙ taking_exit k taking)) tt);
+    outcome = λ o at. absurd (subst T (sym quiet.0 ∙ ap (λ y. is_none y) (ap outcome_of_label (sym is) ∙ at)) tt);
+    gone = λ m at exit. absurd (subst T (sym quiet.1 ∙ ap not (ap is_exit (sym is) ∙ exit)) tt);
     says = says is;
     shut = λ i begun. shuts i (ap (λ (y : Label). begun_holder s y) (sym is) ∙ begun);
   }
+    where
+      quiet : (is_none (outcome_of_label k) ≡ true) × (not (is_exit k) ≡ true)
+      quiet = and_parts (is_none (outcome_of_label k)) (not (is_exit k)) taking
 
   runs_taken : (k : Label) (t : Core) → (is_explicit n s ≡ false → WasReady taking_scene n Why.Start → is_begun (task_of n s) t ≡ true) → is_taking k ≡ true → (l ≡ k → EndWords taking_scene (set_place n Place.Running t)) → Shuts k (set_place n Place.Running t) → (next ≡ Turn.Run n → Keep taking_scene s t) → Leads taking_scene s (Goes k (set_place n Place.Running t) n)
   runs_taken k t begun taking says shuts c is to = (lands (Move n Place.Running) (Runs refl to begun refl) (c to), taken_ends k Place.Running t is taking refl (λ m at. (one_runner m n (sym at ∙ to), refl)) says shuts)
 
-  lays_taken : (k : Label) (p : Place) (t : Core) → is_taking k ≡ true → is_mute k ≡ true → is_free p ≡ true → ((i : ℕ) → begun_holder s k ≡ Some i → ⊥) → (IsLaid taking_scene n → MayMove taking_scene n p t) → Keep taking_scene s t → Leads taking_scene s (Stops k (set_place n p t))
-  lays_taken k p t taking mute free none may c is to = (lands (Move n p) (may (refl, to)) c, taken_ends k p t is taking free (λ m at. not_main m (sym to ∙ at)) (λ at. mute_words taking_scene _ (ap is_mute at ∙ mute)) (λ i begun. absurd (none i begun)))
+  lays_taken : (k : Label) (p : Place) (t : Core) → is_taking k ≡ true → is_mute taking_scene (set_place n p t) k ≡ true → is_free p ≡ true → ((i : ℕ) → begun_holder s k ≡ Some i → ⊥) → (IsLaid taking_scene n → MayMove taking_scene n p t) → Keep taking_scene s t → Leads taking_scene s (Stops k (set_place n p t))
+  lays_taken k p t taking mute free none may c is to = (lands (Move n p) (may (refl, to)) c, taken_ends k p t is taking free (λ m at. not_main m (sym to ∙ at)) (λ at. mute_words taking_scene _ at mute) (λ i begun. absurd (none i begun)))
 
-  holds_leads : (k : Label) (w : Why) (t : Core) → is_taking k ≡ true → is_mute k ≡ true → begun_holder s k ≡ None → WasReady taking_scene n w → Keep taking_scene s t → Leads taking_scene s (Stops k (take_holds n w t))
+  holds_leads : (k : Label) (w : Why) (t : Core) → is_taking k ≡ true → is_mute taking_scene (take_holds n w t) k ≡ true → begun_holder s k ≡ None → WasReady taking_scene n w → Keep taking_scene s t → Leads taking_scene s (Stops k (take_holds n w t))
   unfolding take_holds
   holds_leads k w t taking mute none ready c = lays_taken k (Place.Held w) (stopped (foot_of n t) t) taking mute refl (λ i begun. none_is_some i (sym none ∙ begun)) (λ leave. Holds w leave ready refl) (shifted (stopped_shifts (foot_of n t) t) c)
 
@@ -205,7 +202,7 @@ module _ (x : Setting) (main : Main) (ended : Bool) (s : Core) (n : ℕ) (l : La
   barred_leads m w ready implicit admitted may q at holding =
       let home = told_home w may in
       let open_at : may_not_enter (instance_of n s) s ≡ false = open_start (is_explicit n s) (kind_of (task_of n s) s) (may_not_enter (instance_of n s) s) (backpressure_of (instance_of n s) s == 0) implicit (ap (λ y. is_holding y) at ∙ holding) admitted in
-      runs_taken (take_label m n w) (set_do_not_enter (instance_of n (told_start w)) true (told_start w)) (λ i r. barred_begun (instance_of n (told_start w)) (task_of n s) (told_start w) (start_begun w may)) (take_taking m n w) (λ at. mute_words taking_scene _ (ap is_mute at ∙ take_mute m n w)) (λ i begun.
+      runs_taken (take_label m n w) (set_do_not_enter (instance_of n (told_start w)) true (told_start w)) (λ i r. barred_begun (instance_of n (told_start w)) (task_of n s) (told_start w) (start_begun w may)) (take_taking m n w) (λ at. mute_words taking_scene _ at (take_mute taking_scene _ m n w)) (λ i begun.
       let same : instance_of n s ≡ i = (holder_is m w i begun).1.1.1 in (
         subst (λ (j : ℕ). may_not_enter j s ≡ false) same open_at,
         subst (λ (j : ℕ). is_some (get (set_place n Place.Running (set_do_not_enter (instance_of n (told_start w)) true (told_start w))).instances j) ≡ true → may_not_enter j (set_place n Place.Running (set_do_not_enter (instance_of n (told_start w)) true (told_start w))) ≡ true) (home ∙ same) (started_shut n Place.Running (told_start w) (instance_of n (told_start w))),
@@ -213,15 +210,15 @@ module _ (x : Setting) (main : Main) (ended : Bool) (s : Core) (n : ℕ) (l : La
       (λ to. word (SetDoNotEnter (instance_of n (told_start w)) true) (ap (λ (j : ℕ). may_not_enter j s) home ∙ open_at) (starts_walks w ready implicit may))
 
   begins_leads : (m : Mark) (w : Option ℕ) → WasReady taking_scene n Why.Start → is_explicit n s ≡ false → admits n s Why.Start ≡ true → may_tell (task_of n s) w s ≡ true → (q : ExportKind) → kind_of (task_of n s) s ≡ q → Leads taking_scene s (Goes (take_label m n w) (set_place n Place.Running (start_sets_flags n q (told_start w))) n)
-  begins_leads m w ready implicit admitted may ExportKind.Sync at = runs_taken (take_label m n w) _ (λ i r. ap (λ (c : Records Call). option_map_or (λ d. d.started) (get c (task_of n s)) true) (flag_calls n (instance_of n (told_start w)) ExportKind.Sync (told_start w)) ∙ start_begun w may) (take_taking m n w) (λ at. mute_words taking_scene _ (ap is_mute at ∙ take_mute m n w)) (λ i begun. none_holds m w ExportKind.Sync at refl i begun) (λ to. sync_sets_flag_walks n refl n (instance_of n (told_start w)) ExportKind.Sync (starts_walks w ready implicit may))
-  begins_leads m w ready implicit admitted may ExportKind.Stackful at = runs_taken (take_label m n w) _ (λ i r. start_begun w may) (take_taking m n w) (λ at. mute_words taking_scene _ (ap is_mute at ∙ take_mute m n w)) (λ i begun. none_holds m w ExportKind.Stackful at refl i begun) (λ to. starts_walks w ready implicit may)
+  begins_leads m w ready implicit admitted may ExportKind.Sync at = runs_taken (take_label m n w) _ (λ i r. ap (λ (c : Records Call). option_map_or (λ d. d.started) (get c (task_of n s)) true) (flag_calls n (instance_of n (told_start w)) ExportKind.Sync (told_start w)) ∙ start_begun w may) (take_taking m n w) (λ at. mute_words taking_scene _ at (take_mute taking_scene _ m n w)) (λ i begun. none_holds m w ExportKind.Sync at refl i begun) (λ to. sync_sets_flag_walks n refl n (instance_of n (told_start w)) ExportKind.Sync (starts_walks w ready implicit may))
+  begins_leads m w ready implicit admitted may ExportKind.Stackful at = runs_taken (take_label m n w) _ (λ i r. start_begun w may) (take_taking m n w) (λ at. mute_words taking_scene _ at (take_mute taking_scene _ m n w)) (λ i begun. none_holds m w ExportKind.Stackful at refl i begun) (λ to. starts_walks w ready implicit may)
   begins_leads m w ready implicit admitted may ExportKind.Blocking at = barred_leads m w ready implicit admitted may ExportKind.Blocking at refl
   begins_leads m w ready implicit admitted may ExportKind.Callback at = barred_leads m w ready implicit admitted may ExportKind.Callback at refl
 
   -- a thread that was started runs on
   resumes_leads : (m : Mark) → (is_explicit n s ≡ false → WasReady taking_scene n Why.Start → is_begun (task_of n s) s ≡ true) → ((i : ℕ) → begun_holder s (take_label m n None) ≡ Some i → ⊥) → Leads taking_scene s (Goes (take_label m n None) (running n s) n)
   unfolding running
-  resumes_leads m begun none = runs_taken (take_label m n None) s begun refl (λ at. mute_words taking_scene _ (ap is_mute at)) (λ i begun. absurd (none i begun)) (λ to. NoWord)
+  resumes_leads m begun none = runs_taken (take_label m n None) s begun refl (λ at. mute_words taking_scene _ at refl) (λ i begun. absurd (none i begun)) (λ to. NoWord)
 
   start_admitted_leads : (m : Mark) (w : Option ℕ) (c : Bool) → is_explicit n s ≡ c → WasReady taking_scene n Why.Start → admits n s Why.Start ≡ true → Leads taking_scene s (start_admitted m n w s c)
   unfolding start_begins begun_at
@@ -244,22 +241,18 @@ module _ (x : Setting) (main : Main) (ended : Bool) (s : Core) (n : ℕ) (l : La
   start_row_leads m w true admitted ready = start_admitted_leads m w (is_explicit n s) refl ready admitted
   start_row_leads m w false admitted ready =
       may_leads taking_scene s (may_tell_starting (task_of n s) w s) _ (λ may.
-      holds_leads (held_label m n w) Why.Start (starting_told (task_of n s) w s) (held_taking m n w) (held_mute m n w) (held_begins m n w s) ready (starting_walks w ready (grind arith) may))
+      holds_leads (held_label m n w) Why.Start (starting_told (task_of n s) w s) (held_taking m n w) (held_mute taking_scene _ m n w) (held_begins m n w s) ready (starting_walks w ready (grind arith) may))
 
   -- ---- Deliveries
 
   -- what a delivery hands out shows only where no wake is handed on
   event_says : (m : Mark) (v : Given) (w : Option ℕ) (t : Core) → (w ≡ None → (sub : Subtask) (e : Status) → handed_by_event n s v ≡ Some (end_for e sub) → HandsOut taking_scene t sub e) → l ≡ event_label m n v w → EndWords taking_scene t
-  event_says m v (Some z) t out is = mute_words taking_scene t (ap is_mute is)
-  event_says m v None t out is = record {
-    writes = λ sub e says. none_said (ap (λ (y : Label). written_by x.component s y t) is) says;
-    hands = λ sub e h. out refl sub e (sym (ap (λ (y : Label). handed_by x.component main s y t) is) ∙ h);
-  }
+  event_says m v (Some z) t out is = mute_words taking_scene t is refl
+  event_says m v None t out is = hands_by taking_scene t is refl (λ sub e h. out refl sub e h)
 
   delivered_out : (y : ℕ) (ch : Choice) (g : Gift) (w : Option ℕ) → gift true (task_of n s) y (chosen n ch s) s ≡ Some g → w ≡ None → (sub : Subtask) (e : Status) → handed_by_event n s (handed_out ch s g) ≡ Some (end_for e sub) → HandsOut taking_scene (activated n g (handed_out ch s g) (handed_on y g w s)) sub e
-  delivered_out y ch g w h none sub e out =
-      let q = given_says true n (task_of n s) y ch s g sub e h out in
-      TakesEvent sub e q.1 (subst (λ (f : Gift). HasNoEnd sub (activated n f (handed_out ch s g) (handed_on y f w s))) (sym q.0) (activated_on_gone n y sub w (handed_out ch s g) s))
+  unfolding activated moved_to set_how_far set_position on_thread set_given set_register set_place set_script set_do_not_enter on_instance
+  delivered_out y ch g w h none = let u = handed_on y g w s in given_out true n (task_of n s) y ch g (task_of n u) u h refl refl
 
   -- the task's own event is no end of a subtask
   own_says : (o : Option OwnEvent) (sub : Subtask) (e : Status) {A : Type 0} → handed_by_event n s (given_for (own_or_nothing o) 0 s) ≡ Some (end_for e sub) → A

@@ -1,21 +1,17 @@
 -- The rows of ops as chains of words: what a row owes, the ops on registers and words, and the ops that end a task or an activation.
-use Rattle.task_rules.proofs.ChainLemmas.{Going}
+use Rattle.task_rules.proofs.ChainLemmas.{Going, Keep, keep_stay, trip_walk, stay_walk}
 use Rattle.task_rules.proofs.SayLemmas.{said_is}
-use Rattle.task_rules.proofs.MuteLemmas.{is_mute, mute_words, none_said}
-use Rattle.task_rules.proofs.WalkEnds.{cancelled_rest, returned_rest, SameCall, cancelled_walks, returned_walks, still_told_to, unanswered}
-use Rattle.task_rules.proofs.Machine.{[], Advance, advanced, answered, ap, ap₂, arith, assigned, AwaitsEvent, backpressure_of, begun_holder, blocking_exit_row, blocking_exits, Bool, BySetHandle, Call, CallEnd, CallLabel, cancel_was_delivered, change, change-field, checked, Choice, code_exits, code_finds, code_kind_row, code_row, code_stops, code_wait_row, code_waits, code_yields, ComesAgain, Component, component_of, Core, data_row, Delivery, direct_exit_to, direct_exits, end_for, end_reopens, EndCall, ended, ends_activation, EndsActivation, EndsByExit, EndsCall, EndsOwn, EndWords, exit_label, exit_restores, exit_row_for, exit_stops, Exits, ExportKind, Fails, false, FindsEvent, foot_of, get, get-change, GivesUp, goal_of, Goes, GoesBack, handed_by, HandsOut, has_ended, has_event_for, HasSet, held_by_flag, holder_at_exit, HowFar, if◌then◌else◌, implicit_exit_row, inl, inr, instance_of, is_async_lifted, is_at, is_code_op, is_direct, is_ending_exit, is_exit, is_explicit, is_holding, is_none, is_over, is_running, is_told, is_under, IsRunner, kind_exit_row, kind_of, Label, LastWords, Leaves, leaves_no_result, length, List, Main, Mark, may, may_tell, MayBar, MayEnd, MayOwe, min, Move, moved_to, nat_le, nat_lt, nat_tests, Never, None, not, NoWord, numbers, on_call, on_instance, on_thread, Op, op_in, op_of, Option, option_map, option_map_or, or_never, or_trap, Ordered, outcome_of_label, own_event_of, own_or_none, OwnEvent, passes_after_return, passes_after_stop, passes_check, Place, place_of, position_of, Progress, Put, Records, refl, register_of, Remains, ret_label, returned, returned_holder, ReturnsNow, saved_own_of, SaysEnd, Scene, script_of, set_at, set_backpressure, set_do_not_enter, set_do_not_suspend, set_end, set_how_far, set_place, SetBackpressure, SetDoNotEnter, SetDoNotSuspend, SetOwnEvent, SetRegister, SetSavedCallee, Setting, SetWord, skip_row, skipped, slice_get, Some, Status, stopped, Stops, stored, subst, Subtask, suc, sym, sync_exit_row, sync_exits, T, task_cancel_label, task_end, task_of, TaskLabel, TaskOp, Then, Thread, thread_exit_row, Trap, trap_if, Traps, Trip, true, Turn, Uncovers, under_of, unwrap_or, value_of, Walk, Why, Writes, WritesCall, WritesToo, written_by, written_by_exit, zero, ℕ, ◌%◌, ◌&&◌, ◌*◌, ◌+◌, ◌-◌, ◌/◌, ◌==◌, ◌||◌, ◌∙◌, ◌∷◌, ◌≡◌, ◌≤◌, ◌⊎◌}
+use Rattle.task_rules.proofs.MuteLemmas.{both_none, is_mute, mute_words, none_said, says_by, writes_by}
+use Rattle.task_rules.proofs.WalkEnds.{cancelled_rest, returned_rest, SameCall, cancelled_walks, returned_walks, still_told_to, unanswered, call_ends, ends_untold, ended_last, returned_last}
+use Rattle.task_rules.proofs.Machine.{[], Advance, advanced, and_parts, answered, ap, ap₂, arith, assigned, AwaitsEvent, backpressure_of, begun_holder, blocking_exit_row, blocking_exits, Bool, BySetHandle, Call, CallEnd, cancel_was_delivered, change, change-field, checked, Choice, code_exits, code_finds, code_kind_row, code_row, code_stops, code_wait_row, code_waits, code_yields, ComesAgain, Component, component_of, Core, data_row, Delivery, direct_exit_to, direct_exits, end_for, end_reopens, EndCall, ended, ends_activation, EndsActivation, EndsByExit, EndsCall, EndsOwn, EndWords, exit_label, exit_restores, exit_row_for, exit_stops, Exits, ExportKind, Fails, false, FindsEvent, foot_of, get, get-change, GivesUp, goal_of, Goes, GoesBack, handed_by, HandsOut, has_ended, has_event_for, HasSet, held_by_flag, holder_at_exit, HowFar, if◌then◌else◌, implicit_exit_row, inl, inr, instance_of, is_async_lifted, is_at, is_code_op, is_direct, is_ending_exit, is_exit, is_explicit, is_holding, is_none, is_over, is_running, is_told, is_under, IsRunner, kind_exit_row, kind_of, Label, LastWords, Leaves, leaves_no_result, length, List, Main, Mark, may, may_tell, MayBar, MayEnd, MayOwe, min, Move, moved_to, nat_le, nat_lt, nat_tests, Never, None, not, NoWord, numbers, on_call, on_instance, on_thread, Op, op_in, op_of, Option, option_map, option_map_or, or_never, or_trap, Ordered, outcome_of_label, own_event_of, own_or_none, OwnEvent, passes_after_return, passes_after_stop, passes_check, Place, place_of, position_of, Progress, Put, Records, refl, register_of, Remains, ret_label, returned, returned_holder, ReturnsNow, saved_own_of, SaysEnd, Scene, script_of, set_at, set_backpressure, set_do_not_enter, set_do_not_suspend, set_end, set_how_far, set_place, SetBackpressure, SetDoNotEnter, SetDoNotSuspend, SetOwnEvent, SetRegister, SetSavedCallee, Setting, SetWord, skip_row, skipped, slice_get, Some, Status, stopped, Stops, stored, subst, Subtask, SubtaskEnd, suc, sym, sync_exit_row, sync_exits, T, task_cancel_label, task_end, task_of, TaskOp, Then, Thread, thread_exit_row, Trap, trap_if, Traps, Trip, true, Turn, Uncovers, under_of, unwrap_or, value_of, Walk, Why, Writes, WritesCall, WritesToo, written_by, zero, ℕ, ◌%◌, ◌&&◌, ◌*◌, ◌+◌, ◌-◌, ◌/◌, ◌==◌, ◌||◌, ◌∙◌, ◌∷◌, ◌≡◌, ◌≤◌, ◌⊎◌}
 use Rattle.task_machine.specs.declared.label.DataLabel.{DataLabel}
+use Rattle.task_machine.specs.declared.label.TaskLabel.{TaskLabel}
 use Rattle.task_machine.specs.declared.op.DataOp.{DataOp}
 use Rattle.task_rules.specs.Task.{dec_from, dec_lowers, dec_opens, inc_raises, inc_row, ret_done, ret_row, task_cancel_done, task_cancel_row, task_row}
-use Rattle.task_rules.proofs.WalkEnds.{call_ends, ends_untold}
-use Rattle.task_rules.proofs.ChainLemmas.{Keep, keep_stay, trip_walk, stay_walk}
 use Rattle.task_rules.proofs.StopLemmas.{find_passes}
-use Rattle.task_rules.proofs.PlacingLemmas.{Shifted, shifted_calls, shifted_task, shifts_shifted, placing_shifted}
+use Rattle.task_rules.proofs.PlacingLemmas.{Shifted, shifted_calls, shifted_task, shifts_shifted, placing_shifted, unplaced, shifted_after}
 use Rattle.task_rules.proofs.WalkMoves.{keep_position, Chosen, ToldTo, checked_shifts, chosen_released, ended_gone, ended_walks, exits_trip, lands, released_shifts, shifted, stopped_shifts, told_to, word}
-use Rattle.task_rules.proofs.WalkEnds.{ended_last, returned_last}
 use Rattle.task_rules.proofs.CallThreads.{LastEnds, last_of, last_kept, last_shifted, unplaced_call}
-use Rattle.task_rules.proofs.PlacingLemmas.{unplaced}
-use Rattle.task_rules.proofs.PlacingLemmas.{shifted_after}
 
 -- ---- The op in its script
 
@@ -74,39 +70,23 @@ module _ (a : Scene) (b : Core) where
 
 -- ---- Labels
 
--- a label of a running thread that gives no outcome
-abbrev pub is_quiet : Label → Bool
-is_quiet (Label.Main l) = false
-is_quiet (Label.Take l) = false
-is_quiet (Label.Loop l) = false
-is_quiet (Label.Call (CallLabel.Fails n i)) = false
-is_quiet _ = true
+-- the label gives no outcome, and no holding entry begins with it
+abbrev pub is_quiet : Core → Label → Bool
+is_quiet s k = is_none (outcome_of_label k) && is_none (begun_holder s k)
 
--- and not that of an exit
-abbrev pub is_plain : Label → Bool
-is_plain l = is_quiet l && not (is_exit l)
+-- nor is it that of an exit
+abbrev pub is_plain : Core → Label → Bool
+is_plain s k = is_quiet s k && not (is_exit k)
 
--- and says nothing of the end of a call
-abbrev pub is_still : Label → Bool
-is_still l = is_plain l && is_mute l
+-- and it says nothing of ends
+abbrev pub is_still : Scene → Core → Label → Bool
+is_still a t k = is_plain a.base k && is_mute a t k
 
-still_parts : (p m : Bool) → (p && m) ≡ true → (p ≡ true) × (m ≡ true)
-still_parts p m h = grind arith
+ret_plain : (n v : ℕ) (w : Option ℕ) (s : Core) → is_plain s (ret_label n v w) ≡ true
+ret_plain n v w s = grind arith
 
-quiet_outcome : (l : Label) → is_quiet l ≡ true → outcome_of_label l ≡ None
-quiet_outcome l h = grind arith
-
-quiet_begins : (s : Core) (l : Label) → is_quiet l ≡ true → begun_holder s l ≡ None
-quiet_begins s l h = grind arith
-
-plain_quiet : (q e : Bool) → (q && not e) ≡ true → (q ≡ true) × (e ≡ false)
-plain_quiet q e h = grind arith
-
-ret_plain : (n v : ℕ) (w : Option ℕ) → is_plain (ret_label n v w) ≡ true
-ret_plain n v w = grind arith
-
-task_cancel_plain : (n : ℕ) (w : Option ℕ) → is_plain (task_cancel_label n w) ≡ true
-task_cancel_plain n w = grind arith
+task_cancel_plain : (n : ℕ) (w : Option ℕ) (s : Core) → is_plain s (task_cancel_label n w) ≡ true
+task_cancel_plain n w s = grind arith
 
 ret_writes : (c : Component) (n v : ℕ) (w : Option ℕ) (s t : Core) → written_by c s (ret_label n v w) t ≡ task_end n Status.Returned s
 ret_writes c n v w s t = grind arith
@@ -125,8 +105,8 @@ pub over_now : (k : ℕ) (e : CallEnd) (s : Core) → is_over k (call_ends k e s
 unfolding on_call
 over_now k e s = grind (arith, nat_tests, get-change)
 
-exit_quiet : (n : ℕ) (w : Option ℕ) → is_quiet (exit_label n w) ≡ true
-exit_quiet n w = grind arith
+exit_quiet : (n : ℕ) (w : Option ℕ) (s : Core) → is_quiet s (exit_label n w) ≡ true
+exit_quiet n w s = grind arith
 
 exit_is : (n : ℕ) (w : Option ℕ) → is_exit (exit_label n w) ≡ true
 exit_is n w = grind arith
@@ -153,51 +133,6 @@ moved_passes test p passes m t = grind (arith, nat_tests, get-change)
 pub running_moved : (m : ℕ) (t : Core) → option_map_or is_running (place_of m (set_place m Place.Running t)) true ≡ true
 running_moved m t = moved_passes is_running Place.Running refl m t
 
--- ---- The running thread
-
-module _ (x : Setting) (main : Main) (s : Core) (n : ℕ) (l : Label) (next : Turn) where
-  abbrev pub running_scene : Scene
-  running_scene = seen x main (Turn.Run n) s n l next
-
-  quiet_ends : {t : Core} → is_quiet l ≡ true → ((m : ℕ) → next ≡ Turn.Run m → (Turn.Run n ≡ Turn.Run m) ⊎ (option_map_or is_running (place_of m t) true ≡ true)) → (is_exit l ≡ true → get t.threads n ≡ None) → EndWords running_scene t → LastWords running_scene t
-  quiet_ends {t = t} quiet runs gone says = record {
-    laid = λ m is take. absurd (subst T (sym take) tt);
-    runs = runs;
-    outcome = λ o is. none_is_some o (sym (quiet_outcome l quiet) ∙ is);
-    gone = λ m is exit. subst (λ (k : ℕ). get t.threads k ≡ None) (ap (λ (o : Option ℕ). unwrap_or o 0) is) (gone exit);
-    says = says;
-    shut = λ i begun. none_is_some i (sym (quiet_begins s l quiet) ∙ begun);
-  }
-
-  -- n goes on, as the label says
-  pub goes_on_told : (k : Label) (t : Core) → is_plain k ≡ true → (l ≡ k → next ≡ Turn.Run n → EndWords running_scene t) → (l ≡ k → Going running_scene s n t) → Leads running_scene s (Goes k t n)
-  goes_on_told k t plain says c is to =
-      let p = plain_quiet (is_quiet k) (is_exit k) plain in
-      (Remains t (c is to) (λ m at. sym to ∙ at), quiet_ends (ap is_quiet is ∙ p.0) (λ m at. inl (sym to ∙ at)) (λ exit. absurd (subst T (sym exit ∙ (ap is_exit is ∙ p.1)) tt)) (says is to))
-
-  pub goes_on_saying : (k : Label) (t : Core) → is_plain k ≡ true → (l ≡ k → EndWords running_scene t) → (l ≡ k → Going running_scene s n t) → Leads running_scene s (Goes k t n)
-  goes_on_saying k t plain says c = goes_on_told k t plain (λ is to. says is) c
-
-  -- n goes on
-  pub goes_on : (k : Label) (t : Core) → is_still k ≡ true → Going running_scene s n t → Leads running_scene s (Goes k t n)
-  goes_on k t still c = let p = still_parts (is_plain k) (is_mute k) still in goes_on_saying k t p.0 (λ is. mute_words running_scene t (ap is_mute is ∙ p.1)) (λ is. c)
-
-  -- no thread goes on
-  pub stops_here : (k : Label) (t : Core) → is_still k ≡ true → (Leaves running_scene n → Trip running_scene s t) → Leads running_scene s (Stops k t)
-  stops_here k t still c is to =
-      let r = still_parts (is_plain k) (is_mute k) still in
-      let p = plain_quiet (is_quiet k) (is_exit k) r.0 in
-      (c (refl, (to, refl)), quiet_ends (ap is_quiet is ∙ p.0) (λ m at. not_main m (sym to ∙ at)) (λ exit. absurd (subst T (sym exit ∙ (ap is_exit is ∙ p.1)) tt)) (mute_words running_scene t (ap is_mute is ∙ r.1)))
-
-  -- n is gone
-  gone_here : (k : Label) (t : Core) → is_quiet k ≡ true → get t.threads n ≡ None → (l ≡ k → EndWords running_scene t) → (l ≡ k → Leaves running_scene n → Trip running_scene s t) → Leads running_scene s (Stops k t)
-  gone_here k t quiet gone says c is to = (c is (refl, (to, refl)), quiet_ends (ap is_quiet is ∙ quiet) (λ m at. not_main m (sym to ∙ at)) (λ exit. gone) (says is))
-
-  -- another thread, which runs now, goes on
-  pub goes_over : (k : Label) (m : ℕ) (t : Core) → is_quiet k ≡ true → (is_exit k ≡ true → get t.threads n ≡ None) → (Turn.Run n ≡ Turn.Run m) ⊎ (option_map_or is_running (place_of m t) true ≡ true) → (l ≡ k → EndWords running_scene t) → (l ≡ k → next ≡ Turn.Run m → Trip running_scene s t) → Leads running_scene s (Goes k t m)
-  goes_over k m t quiet gone runs says c is to =
-      (c is to, quiet_ends (ap is_quiet is ∙ quiet) (λ j at. subst (λ (i : ℕ). (Turn.Run n ≡ Turn.Run i) ⊎ (option_map_or is_running (place_of i t) true ≡ true)) (one_runner m j (sym to ∙ at)) runs) (λ exit. gone (sym (ap is_exit is) ∙ exit)) (says is))
-
 restored_threads : (n : ℕ) (s : Core) → (exit_restores n s).threads ≡ s.threads
 unfolding exit_restores set_do_not_suspend on_instance
 restored_threads n s = refl
@@ -215,7 +150,7 @@ unfolding end_reopens set_do_not_enter on_instance
 reopened_threads i order s m = (shifts_shifted (released_shifts order (set_do_not_enter i false s))).threads m
 
 reopened_task : (n i : ℕ) (order : List ℕ) (s : Core) → task_of n (end_reopens i order s) ≡ task_of n s
-reopened_task n i order s = grind (arith, reopened_threads i order s n)
+reopened_task n i order s = let same = reopened_threads i order s n in grind arith
 
 code_stops_last : (n : ℕ) (order : List ℕ) (s : Core) → LastEnds n s → LastEnds n (code_stops n order s)
 unfolding code_stops
@@ -360,69 +295,91 @@ direct_exits_runs n m v t =
     let u = set_place m Place.Running (ended n (set_end (task_of n t) CallEnd.Returned t)) in
     ap (λ (o : Option Place). option_map_or is_running o true) (change-field (λ r. r.place) m (λ r. record r { how_far = HowFar.Answered v }) (λ r. refl) u.threads m) ∙ running_moved m (ended n (set_end (task_of n t) CallEnd.Returned t))
 
+-- ---- The running thread
+
 module _ (x : Setting) (main : Main) (s : Core) (n : ℕ) (l : Label) (next : Turn) where
+  abbrev pub running_scene : Scene
+  running_scene = seen x main (Turn.Run n) s n l next
+
   abbrev a : Scene
-  a = running_scene x main s n l next
+  a = running_scene
 
-  go_told : (k : Label) (t : Core) → is_plain k ≡ true → (l ≡ k → next ≡ Turn.Run n → EndWords a t) → (l ≡ k → Going a s n t) → Leads a s (Goes k t n)
-  go_told k t plain says c = goes_on_told x main s n l next k t plain says c
+  quiet_ends : {k : Label} {t : Core} → l ≡ k → is_quiet s k ≡ true → ((m : ℕ) → next ≡ Turn.Run m → (Turn.Run n ≡ Turn.Run m) ⊎ (option_map_or is_running (place_of m t) true ≡ true)) → (is_exit k ≡ true → get t.threads n ≡ None) → EndWords a t → LastWords a t
+  quiet_ends {k = k} {t = t} is quiet runs gone says =
+      let p = both_none (outcome_of_label k) (begun_holder s k) quiet in
+      record {
+        laid = λ m at take. absurd (subst T (sym take) tt);
+        runs = runs;
+        outcome = λ o at. none_said (ap outcome_of_label is ∙ p.0) at;
+        gone = λ m at exit. subst (λ (j : ℕ). get t.threads j ≡ None) (ap (λ (o : Option ℕ). unwrap_or o 0) at) (gone (sym (ap is_exit is) ∙ exit));
+        says = says;
+        shut = λ i begun. none_said (ap (λ (y : Label). begun_holder s y) is ∙ p.1) begun;
+      }
 
-  go : (k : Label) (t : Core) → is_still k ≡ true → Going a s n t → Leads a s (Goes k t n)
-  go k t plain c = goes_on x main s n l next k t plain c
+  -- n goes on, as the label says
+  pub goes_on_told : (k : Label) (t : Core) → is_plain s k ≡ true → (l ≡ k → next ≡ Turn.Run n → EndWords a t) → (l ≡ k → Going a s n t) → Leads a s (Goes k t n)
+  goes_on_told k t plain says c is to =
+      let p = and_parts (is_quiet s k) (not (is_exit k)) plain in
+      (Remains t (c is to) (λ m at. sym to ∙ at), quiet_ends is p.0 (λ m at. inl (sym to ∙ at)) (λ exit. absurd (subst T (sym p.1 ∙ ap not exit) tt)) (says is to))
+
+  -- n goes on
+  pub goes_on : (k : Label) (t : Core) → is_still a t k ≡ true → Going a s n t → Leads a s (Goes k t n)
+  goes_on k t still c = let p = and_parts (is_plain s k) (is_mute a t k) still in goes_on_told k t p.0 (λ is to. mute_words a t is p.1) (λ is. c)
+
+  -- n is gone, or stops
+  gone_here : (k : Label) (t : Core) → is_quiet s k ≡ true → (is_exit k ≡ true → get t.threads n ≡ None) → (l ≡ k → EndWords a t) → (l ≡ k → Leaves a n → Trip a s t) → Leads a s (Stops k t)
+  gone_here k t quiet gone says c is to = (c is (refl, (to, refl)), quiet_ends is quiet (λ m at. not_main m (sym to ∙ at)) gone (says is))
+
+  -- no thread goes on
+  pub stops_here : (k : Label) (t : Core) → is_still a t k ≡ true → (Leaves a n → Trip a s t) → Leads a s (Stops k t)
+  stops_here k t still c =
+      let r = and_parts (is_plain s k) (is_mute a t k) still in
+      let p = and_parts (is_quiet s k) (not (is_exit k)) r.0 in
+      gone_here k t p.0 (λ exit. absurd (subst T (sym p.1 ∙ ap not exit) tt)) (λ is. mute_words a t is r.1) (λ is. c)
+
+  -- another thread, which runs now, goes on
+  pub goes_over : (k : Label) (m : ℕ) (t : Core) → is_quiet s k ≡ true → (is_exit k ≡ true → get t.threads n ≡ None) → (Turn.Run n ≡ Turn.Run m) ⊎ (option_map_or is_running (place_of m t) true ≡ true) → (l ≡ k → EndWords a t) → (l ≡ k → next ≡ Turn.Run m → Trip a s t) → Leads a s (Goes k t m)
+  goes_over k m t quiet gone runs says c is to =
+      (c is to, quiet_ends is quiet (λ j at. subst (λ (i : ℕ). (Turn.Run n ≡ Turn.Run i) ⊎ (option_map_or is_running (place_of i t) true ≡ true)) (one_runner m j (sym to ∙ at)) runs) gone (says is))
 
   -- ---- The ops on registers and words
 
   skip_row_leads : Stands a s n → (ops : ℕ) (b : Bool) → Leads a s (skip_row x.component n ops s b)
   unfolding skipped
-  skip_row_leads on ops true = go (Label.Data (DataLabel.SkipEq n)) (skipped x.component n ops s) refl (moved_to_walks n refl (min (position_of n s + 1 + ops) (length (script_of x.component n s))) refl (min_below _ _) NoWord)
-  skip_row_leads on ops false = go (Label.Data (DataLabel.SkipEq n)) (advanced n s) refl (advanced_walks n refl on NoWord)
+  skip_row_leads on ops true = goes_on (Label.Data (DataLabel.SkipEq n)) (skipped x.component n ops s) refl (moved_to_walks n refl (min (position_of n s + 1 + ops) (length (script_of x.component n s))) refl (min_below _ _) NoWord)
+  skip_row_leads on ops false = goes_on (Label.Data (DataLabel.SkipEq n)) (advanced n s) refl (advanced_walks n refl on NoWord)
 
   pub data_row_leads : Stands a s n → (o : DataOp) → Leads a s (data_row x.component n s o)
   unfolding stored
-  data_row_leads on (DataOp.Store w y) = go _ _ refl (advanced_walks n refl on (word (SetWord (instance_of n s) w (value_of n s y)) tt NoWord))
+  data_row_leads on (DataOp.Store w y) = goes_on _ _ refl (advanced_walks n refl on (word (SetWord (instance_of n s) w (value_of n s y)) tt NoWord))
   data_row_leads on (DataOp.SkipEq y z ops) = skip_row_leads on ops (value_of n s y == value_of n s z)
-  data_row_leads on o = go _ _ refl (assigned_walks n refl on _ _ NoWord)
+  data_row_leads on o = goes_on _ _ refl (assigned_walks n refl on _ _ NoWord)
 
   -- ---- Exits
 
-  exit_says : (t : Core) (w : Option ℕ) → l ≡ exit_label n w → is_explicit n s ≡ false → (is_direct (goal_of (task_of n s) s) ≡ true) ⊎ (is_async_lifted (kind_of (task_of n s) s) ≡ false) → written_by x.component s l t ≡ task_end n Status.Returned s
-  exit_says t w is implicit kind = ap (λ (k : Label). written_by x.component s k t) is ∙ (exit_writes w ∙ ap (λ b. if b then task_end n Status.Returned s else None) (ends (is_explicit n s) (is_direct (goal_of (task_of n s) s)) (is_async_lifted (kind_of (task_of n s) s)) implicit kind))
-    where
-      exit_writes : (v : Option ℕ) → written_by x.component s (exit_label n v) t ≡ written_by_exit n s
-      exit_writes v = grind arith
+  exit_ends : (w : Option ℕ) (t : Core) → is_explicit n s ≡ false → (is_direct (goal_of (task_of n s) s) ≡ true) ⊎ (is_async_lifted (kind_of (task_of n s) s) ≡ false) → written_by x.component s (exit_label n w) t ≡ task_end n Status.Returned s
+  exit_ends w t implicit kind = grind (arith, implicit, kind)
 
-      ends : (e d h : Bool) → e ≡ false → (d ≡ true) ⊎ (h ≡ false) → (not e && (d || not h)) ≡ true
-      ends e d h i k = grind arith
+  exit_says : (t : Core) (w : Option ℕ) → l ≡ exit_label n w → is_explicit n s ≡ false → (is_direct (goal_of (task_of n s) s) ≡ true) ⊎ (is_async_lifted (kind_of (task_of n s) s) ≡ false) → written_by x.component s l t ≡ task_end n Status.Returned s
+  exit_says t w is implicit kind = ap (λ (k : Label). written_by x.component s k t) is ∙ exit_ends w t implicit kind
 
   -- the label says an end of the task
-  writes_task : (f : Status) (t u : Core) → written_by x.component s l t ≡ task_end n f s → EndsCall a (task_of n s) → is_over (task_of n s) u ≡ true → Walk a u t → (sub : Subtask) (e : Status) → written_by x.component s l t ≡ Some (end_for e sub) → Writes a t sub
+  writes_task : (f : Status) (t u : Core) {o : Option SubtaskEnd} → o ≡ task_end n f s → EndsCall a (task_of n s) → is_over (task_of n s) u ≡ true → Walk a u t → (sub : Subtask) (e : Status) → o ≡ Some (end_for e sub) → Writes a t sub
   writes_task f t u is ends over c sub e says = said_is (λ d g. Writes a t d) (sym is ∙ says) (WritesCall (task_of n s) u ends over c)
 
   -- an exit that ends no task
   exit_is_none : (t : Core) → is_ending_exit n s ≡ false → l ≡ exit_label n None → EndWords a t
-  exit_is_none t none is = record {
-    writes = λ sub e says. none_said (ap (λ (y : Label). written_by x.component s y t) is ∙ ap (λ b. if b then task_end n Status.Returned s else None) none) says;
-    hands = λ sub e out. none_said (ap (λ (y : Label). handed_by x.component main s y t) is ∙ ap (λ b. if b then task_end n Status.Returned s else None) (not_direct (is_explicit n s) (is_direct (goal_of (task_of n s) s)) (is_async_lifted (kind_of (task_of n s) s)) none)) out;
-  }
-    where
-      not_direct : (e d h : Bool) → (not e && (d || not h)) ≡ false → (not e && d) ≡ false
-      not_direct e d h k = grind arith
+  exit_is_none t none is = mute_words a t is (grind (arith, none))
 
   -- an exit that ends the task
   exit_says_end : (w : Option ℕ) (t : Core) → l ≡ exit_label n w → is_explicit n s ≡ false → is_async_lifted (kind_of (task_of n s) s) ≡ false → is_direct (goal_of (task_of n s) s) ≡ false → (u : Core) → is_over (task_of n s) u ≡ true → Walk a u t → EndWords a t
-  exit_says_end w t is implicit kind direct u over c = record {
-    writes = writes_task Status.Returned t u (exit_says t w is implicit (inr kind)) (EndsByExit (n, (refl, (refl, (implicit, inr kind))))) over c;
-    hands = λ sub e out. none_said (ap (λ (y : Label). handed_by x.component main s y t) is ∙ none_out w) out;
-  }
-    where
-      none_out : (v : Option ℕ) → handed_by x.component main s (exit_label n v) t ≡ None
-      none_out v = grind arith
+  exit_says_end w t is implicit kind direct u over c = writes_by a t is (grind (arith, direct)) (writes_task Status.Returned t u (exit_ends w t implicit (inr kind)) (EndsByExit (n, (refl, (refl, (implicit, inr kind))))) over c)
 
   thread_exit_row_leads : is_ending_exit n s ≡ false → Leads a s (thread_exit_row n s)
   thread_exit_row_leads none =
       trap_if_leads a s (not (passes_check (instance_of n s) s)) Trap.CannotBlockSyncTask _ (λ e.
       trap_if_leads a s (leaves_no_result n s) Trap.NoAsyncResult _ (λ f.
-      gone_here x main s n l next (exit_label n None) (exit_stops n s) refl (exit_stops_gone n s) (λ is. exit_is_none (exit_stops n s) none is) (λ is leave. exit_stops_walks n refl (last_of n s f) leave NoWord)))
+      gone_here (exit_label n None) (exit_stops n s) refl (λ e. exit_stops_gone n s) (λ is. exit_is_none (exit_stops n s) none is) (λ is leave. exit_stops_walks n refl (last_of n s f) leave NoWord)))
 
   exits : (w : Option ℕ) (t : Core) → l ≡ exit_label n w → is_explicit n s ≡ false → (is_direct (goal_of (task_of n s) s) ≡ true) ⊎ (is_async_lifted (kind_of (task_of n s) s) ≡ false) → t.calls ≡ s.calls → MayEnd a (task_of n s) CallEnd.Returned t
   exits w t is implicit kind same = Exits n refl refl (ap is_exit is ∙ exit_is n w) refl implicit kind (ap (λ (m : Records Call). get m (task_of n s)) same) refl
@@ -432,7 +389,7 @@ module _ (x : Setting) (main : Main) (s : Core) (n : ℕ) (l : Label) (next : Tu
       may_leads a s (may_tell (task_of n s) w s) _ (λ may.
       let told = still_told_to (task_of n s) s (exit_restores n s) (same_call (task_of n s) s (exit_restores n s) (restored_calls n s)) w (λ y chosen. restored_chosen n y w s chosen) (told_to (task_of n s) w s may) in
       λ is to.
-      gone_here x main s n l next (exit_label n w) (sync_exits n w s) (exit_quiet n w) (sync_exits_gone n w s)
+      gone_here (exit_label n w) (sync_exits n w s) (exit_quiet n w s) (λ e. sync_exits_gone n w s)
       (λ at. exit_says_end w (sync_exits n w s) at implicit kind direct (call_ends (task_of n s) CallEnd.Returned (exit_restores n s)) (over_now (task_of n s) CallEnd.Returned (exit_restores n s)) (trip_walk (sync_exits_rest n refl w s (exit_says s w at implicit (inr kind)) told (refl, (to, refl)) NoWord)))
       (λ at leave. sync_exits_walks n refl w (exits w (exit_restores n s) at implicit (inr kind) (restored_calls n s)) (exit_says s w at implicit (inr kind)) told leave NoWord) is to)
 
@@ -452,7 +409,7 @@ module _ (x : Setting) (main : Main) (s : Core) (n : ℕ) (l : Label) (next : Tu
       let t = end_reopens i order s in
       let lifted : is_async_lifted (kind_of (task_of n s) s) ≡ false = ap (λ y. is_async_lifted y) kind in
       let told = still_told_to k s t (same_call k s t (reopened_calls i order s)) w (λ y chosen. reopened_chosen i order y w s chosen) (told_to k w s may) in
-      gone_here x main s n l next (exit_label n w) (blocking_exits n w order s) (exit_quiet n w) (blocking_exits_gone n w order s)
+      gone_here (exit_label n w) (blocking_exits n w order s) (exit_quiet n w s) (λ e. blocking_exits_gone n w order s)
       (λ at. exit_says_end w (blocking_exits n w order s) at implicit lifted direct (call_ends k CallEnd.Returned t) (over_now k CallEnd.Returned t) (trip_walk (blocking_exits_rest n refl w order s (exit_says s w at implicit (inr lifted)) told (refl, (to, refl)) NoWord)))
       (λ at leave. blocking_exits_walks n refl w order (bars w at implicit (ap (λ y. is_holding y) kind) direct) (exits w t at implicit (inr lifted) (reopened_calls i order s)) (exit_says s w at implicit (inr lifted)) told leave NoWord) is to))
 
@@ -462,11 +419,10 @@ module _ (x : Setting) (main : Main) (s : Core) (n : ℕ) (l : Label) (next : Tu
       let k = task_of n s in
       let is_so : is_direct (goal_of (task_of n t) t) ≡ true = grind arith in
       λ here over.
-      goes_over x main s n l next (exit_label n None) m (direct_exits n m v t) refl (λ e. direct_exits_gone n m v t) (inr (direct_exits_runs n m v t))
-      (λ at. record {
-        writes = writes_task Status.Returned _ (call_ends (task_of n t) CallEnd.Returned t) (exit_says _ None at implicit (inl direct)) (EndsByExit (n, (refl, (refl, (implicit, inl direct))))) (subst (λ (i : ℕ). is_over k (call_ends i CallEnd.Returned t) ≡ true) (sym task) (over_now k CallEnd.Returned t)) (trip_walk (direct_exits_rest n refl m v t is_so refl over (under_place n m s under) NoWord));
-        hands = λ sub e out. said_is (HandsOut a (direct_exits n m v t)) (sym (ap (λ (y : Label). handed_by x.component main s y (direct_exits n m v t)) at ∙ ap (λ b. if b then task_end n Status.Returned s else None) (ap₂ (λ (f g : Bool). not f && g) implicit direct)) ∙ out) (WritesToo k Status.Returned (exit_says s None at implicit (inl direct)) (inl direct));
-      })
+      goes_over (exit_label n None) m (direct_exits n m v t) refl (λ e. direct_exits_gone n m v t) (inr (direct_exits_runs n m v t))
+      (λ at. says_by a _ at
+      (writes_task Status.Returned _ (call_ends (task_of n t) CallEnd.Returned t) (exit_ends None (direct_exits n m v t) implicit (inl direct)) (EndsByExit (n, (refl, (refl, (implicit, inl direct))))) (subst (λ (i : ℕ). is_over k (call_ends i CallEnd.Returned t) ≡ true) (sym task) (over_now k CallEnd.Returned t)) (trip_walk (direct_exits_rest n refl m v t is_so refl over (under_place n m s under) NoWord)))
+      (λ sub e out. said_is (HandsOut a (direct_exits n m v t)) (sym (ap₂ (λ (f g : Bool). if not f && g then task_end n Status.Returned s else None) implicit direct) ∙ out) (WritesToo k Status.Returned (exit_says s None at implicit (inl direct)) (inl direct))))
       (λ is to.
       direct_exits_walks n refl m v is_so refl (subst (λ (k : ℕ). MayEnd a k CallEnd.Returned t) (sym task) (exits None t is implicit (inl direct) calls)) (subst (λ (k : ℕ). SaysEnd a k Status.Returned) (sym task) (exit_says s None is implicit (inl direct))) to (under_place n m s under) c) here over
 
@@ -484,25 +440,24 @@ module _ (x : Setting) (main : Main) (s : Core) (n : ℕ) (l : Label) (next : Tu
   owes None has ends t = inr (n, (ends, (refl, ap own_or_none has)))
   owes (Some e) has ends t = inr (n, (ends, (refl, ap own_or_none has)))
 
-  code_wait_row_leads : (k : Label) (y : ℕ) (held : List ℕ) (b : Bool) → is_still k ≡ true → (l ≡ k → MayBar a (instance_of n s) false) → EndsActivation a n → HasSet a n y → Leads a s (code_wait_row k n y held s b)
-  code_wait_row_leads k y held true plain bar ends has = λ order is to. stops_here x main s n l next k (code_finds n y order s) plain (λ leave. code_finds_walks n refl y order (bar is) leave ends has NoWord) is to
-  code_wait_row_leads k y held false plain bar ends has = λ order is to. stops_here x main s n l next k (code_waits n y order s) plain (λ leave. code_waits_walks n refl y order (bar is) leave ends has NoWord) is to
+  code_wait_row_leads : (k : Label) (y : ℕ) (held : List ℕ) (b : Bool) → ((t : Core) → is_still a t k ≡ true) → (l ≡ k → MayBar a (instance_of n s) false) → EndsActivation a n → HasSet a n y → Leads a s (code_wait_row k n y held s b)
+  code_wait_row_leads k y held true plain bar ends has = λ order is to. stops_here k (code_finds n y order s) (plain _) (λ leave. code_finds_walks n refl y order (bar is) leave ends has NoWord) is to
+  code_wait_row_leads k y held false plain bar ends has = λ order is to. stops_here k (code_waits n y order s) (plain _) (λ leave. code_waits_walks n refl y order (bar is) leave ends has NoWord) is to
 
-  code_exits_leads : (k : Label) (held : List ℕ) → is_quiet k ≡ true → ((t : Core) → l ≡ k → EndWords a t) → (l ≡ k → MayBar a (instance_of n s) false) → (rest : ℕ) → Leads a s (code_kind_row k n held s zero rest)
+  code_exits_leads : (k : Label) (held : List ℕ) → is_quiet s k ≡ true → ((t : Core) → l ≡ k → EndWords a t) → (l ≡ k → MayBar a (instance_of n s) false) → (rest : ℕ) → Leads a s (code_kind_row k n held s zero rest)
   code_exits_leads k held quiet says bar rest =
       trap_if_leads a s (not (passes_after_stop (instance_of n s) (foot_of n s) held s)) Trap.CannotBlockSyncTask _ (λ e.
       trap_if_leads a s (leaves_no_result n s) Trap.NoAsyncResult _ (λ f order.
-      gone_here x main s n l next k (code_exits n order s) quiet (code_exits_gone n order s) (says (code_exits n order s)) (λ is leave. code_exits_walks n refl order (last_of n s f) (bar is) leave NoWord)))
+      gone_here k (code_exits n order s) quiet (λ e. code_exits_gone n order s) (says (code_exits n order s)) (λ is leave. code_exits_walks n refl order (last_of n s f) (bar is) leave NoWord)))
 
-  code_kind_row_leads : (k : Label) (held : List ℕ) (low rest : ℕ) → is_still k ≡ true → (l ≡ k → MayBar a (instance_of n s) false) → EndsActivation a n → Leads a s (code_kind_row k n held s low rest)
+  code_kind_row_leads : (k : Label) (held : List ℕ) (low rest : ℕ) → ((t : Core) → is_still a t k ≡ true) → (l ≡ k → MayBar a (instance_of n s) false) → EndsActivation a n → Leads a s (code_kind_row k n held s low rest)
   code_kind_row_leads k held zero rest plain bar ends =
-      let r = still_parts (is_plain k) (is_mute k) plain in
-      code_exits_leads k held (plain_quiet (is_quiet k) (is_exit k) r.0).0 (λ t is. mute_words a t (ap is_mute is ∙ r.1)) bar rest
-  code_kind_row_leads k held (suc zero) rest plain bar ends = λ order is to. stops_here x main s n l next k (code_yields n order s) plain (λ leave. code_yields_walks n refl order (bar is) leave ends (owes (own_event_of (task_of n s) s) refl ends (code_stops n order s)) NoWord) is to
+      code_exits_leads k held (and_parts (is_quiet s k) (not (is_exit k)) (and_parts (is_plain s k) (is_mute a s k) (plain s)).0).0 (λ t is. mute_words a t is (and_parts (is_plain s k) (is_mute a t k) (plain t)).1) bar rest
+  code_kind_row_leads k held (suc zero) rest plain bar ends = λ order is to. stops_here k (code_yields n order s) (plain _) (λ leave. code_yields_walks n refl order (bar is) leave ends (owes (own_event_of (task_of n s) s) refl ends (code_stops n order s)) NoWord) is to
   code_kind_row_leads k held (suc (suc zero)) rest plain bar ends = or_trap_leads a s (set_at (instance_of n s) rest s) Trap.BadHandle _ (λ y named. code_wait_row_leads k y held (has_event_for (task_of n s) y s) plain bar ends (BySetHandle rest named))
   code_kind_row_leads k held (suc (suc (suc low))) rest plain bar ends = tt
 
-  code_row_leads : (k : Label) (code : ℕ) → is_still k ≡ true → (l ≡ k → MayBar a (instance_of n s) false) → EndsActivation a n → Leads a s (code_row k n s code)
+  code_row_leads : (k : Label) (code : ℕ) → ((t : Core) → is_still a t k ≡ true) → (l ≡ k → MayBar a (instance_of n s) false) → EndsActivation a n → Leads a s (code_row k n s code)
   code_row_leads k code plain bar ends = trap_if_leads a s (nat_lt 4294967295 code) Trap.UnsupportedCallbackCode _ (λ e. code_kind_row_leads k (held_by_flag (instance_of n s) s) (code % 16) (code / 16) plain bar ends)
 
   not_ending : is_explicit n s ≡ false → is_direct (goal_of (task_of n s) s) ≡ false → is_async_lifted (kind_of (task_of n s) s) ≡ true → is_ending_exit n s ≡ false
@@ -525,8 +480,8 @@ module _ (x : Setting) (main : Main) (s : Core) (n : ℕ) (l : Label) (next : Tu
   -- ---- The task and backpressure
 
   -- the task comes to an end that it hadn't
-  task_says : (f : Status) (t : Core) → written_by x.component s l t ≡ task_end n f s → handed_by x.component main s l t ≡ None → has_ended (task_of n s) s ≡ false → (u : Core) → is_over (task_of n s) u ≡ true → Walk a u t → EndWords a t
-  task_says f t is none unended u over c = record { writes = writes_task f t u is (EndsOwn n refl refl unended) over c; hands = λ sub e out. none_said none out }
+  task_says : (f : Status) (t : Core) {k : Label} → l ≡ k → written_by x.component s k t ≡ task_end n f s → handed_by x.component main s k t ≡ None → has_ended (task_of n s) s ≡ false → (u : Core) → is_over (task_of n s) u ≡ true → Walk a u t → EndWords a t
+  task_says f t at is none unended u over c = writes_by a t at none (writes_task f t u is (EndsOwn n refl refl unended) over c)
 
   on_after_end : Stands a s n → (k : ℕ) (e : CallEnd) → Stands a (call_ends k e s) n
   unfolding on_call
@@ -538,8 +493,8 @@ module _ (x : Setting) (main : Main) (s : Core) (n : ℕ) (l : Label) (next : Tu
       trap_if_leads a s (has_ended (task_of n s) s) Trap.TaskCancelOrReturnTwice _ (λ unended.
       trap_if_leads a s (not (is_async_lifted (kind_of (task_of n s) s))) Trap.TaskReturnInvalid _ (λ lifted.
       may_leads a s (may_tell (task_of n s) w s) _ (λ may.
-      go_told (ret_label n v w) (ret_done n v w s) (ret_plain n v w)
-      (λ is to. task_says Status.Returned (ret_done n v w s) (ap (λ (k : Label). written_by x.component s k (ret_done n v w s)) is ∙ ret_writes x.component n v w s _) (ap (λ (y : Label). handed_by x.component main s y (ret_done n v w s)) is ∙ ret_hands x.component main n v w s (ret_done n v w s)) unended
+      goes_on_told (ret_label n v w) (ret_done n v w s) (ret_plain n v w s)
+      (λ is to. task_says Status.Returned (ret_done n v w s) is (ret_writes x.component n v w s _) (ret_hands x.component main n v w s (ret_done n v w s)) unended
       (call_ends (task_of n s) CallEnd.Returned s) (over_now (task_of n s) CallEnd.Returned s) (stay_walk (advanced_walks n refl (on_after_end on (task_of n s) CallEnd.Returned) (returned_rest (task_of n s) v w s (ap (λ (k : Label). written_by x.component s k s) is ∙ ret_writes x.component n v w s s) (told_to (task_of n s) w s may) NoWord) to)))
       (λ is. advanced_walks n refl on (returned_walks (task_of n s) v w (ReturnsNow n refl refl refl unended (unnot (is_async_lifted (kind_of (task_of n s) s)) lifted) refl) (ap (λ (k : Label). written_by x.component s k s) is ∙ ret_writes x.component n v w s s) (told_to (task_of n s) w s may) NoWord)))))
 
@@ -549,20 +504,20 @@ module _ (x : Setting) (main : Main) (s : Core) (n : ℕ) (l : Label) (next : Tu
       trap_if_leads a s (not (cancel_was_delivered (task_of n s) s)) Trap.TaskCancelNotCancelled _ (λ delivered.
       trap_if_leads a s (has_ended (task_of n s) s) Trap.TaskCancelOrReturnTwice _ (λ unended.
       may_leads a s (may_tell (task_of n s) w s) _ (λ may.
-      go_told (task_cancel_label n w) (task_cancel_done n w s) (task_cancel_plain n w)
-      (λ is to. task_says Status.ReturnCancelled (task_cancel_done n w s) (ap (λ (k : Label). written_by x.component s k (task_cancel_done n w s)) is ∙ task_cancel_writes x.component n w s _) (ap (λ (y : Label). handed_by x.component main s y (task_cancel_done n w s)) is ∙ task_cancel_hands x.component main n w s (task_cancel_done n w s)) unended
+      goes_on_told (task_cancel_label n w) (task_cancel_done n w s) (task_cancel_plain n w s)
+      (λ is to. task_says Status.ReturnCancelled (task_cancel_done n w s) is (task_cancel_writes x.component n w s _) (task_cancel_hands x.component main n w s (task_cancel_done n w s)) unended
       (call_ends (task_of n s) CallEnd.ReturnCancelled s) (over_now (task_of n s) CallEnd.ReturnCancelled s) (stay_walk (advanced_walks n refl (on_after_end on (task_of n s) CallEnd.ReturnCancelled) (cancelled_rest (task_of n s) w s (told_to (task_of n s) w s may) NoWord) to)))
       (λ is. advanced_walks n refl on (cancelled_walks (task_of n s) w (GivesUp n refl refl refl unended (unnot (cancel_was_delivered (task_of n s) s) delivered) refl) (ap (λ (k : Label). written_by x.component s k s) is ∙ task_cancel_writes x.component n w s s) (told_to (task_of n s) w s may) NoWord)))))
 
   dec_from_leads : Stands a s n → (b : ℕ) → Leads a s (dec_from n s b)
   unfolding dec_lowers dec_opens
   dec_from_leads on zero = tt
-  dec_from_leads on (suc zero) = λ order. go (Label.Task (TaskLabel.BpDec n)) (dec_opens n order s) refl (advanced_walks n refl on (shifted (released_shifts order (set_backpressure (instance_of n s) 0 s)) (word (SetBackpressure (instance_of n s) 0) tt NoWord)))
-  dec_from_leads on (suc (suc b)) = go (Label.Task (TaskLabel.BpDec n)) (dec_lowers n s) refl (advanced_walks n refl on (word (SetBackpressure (instance_of n s) (backpressure_of (instance_of n s) s - 1)) tt NoWord))
+  dec_from_leads on (suc zero) = λ order. goes_on (Label.Task (TaskLabel.BpDec n)) (dec_opens n order s) refl (advanced_walks n refl on (shifted (released_shifts order (set_backpressure (instance_of n s) 0 s)) (word (SetBackpressure (instance_of n s) 0) tt NoWord)))
+  dec_from_leads on (suc (suc b)) = goes_on (Label.Task (TaskLabel.BpDec n)) (dec_lowers n s) refl (advanced_walks n refl on (word (SetBackpressure (instance_of n s) (backpressure_of (instance_of n s) s - 1)) tt NoWord))
 
   inc_row_leads : Stands a s n → Leads a s (inc_row n s)
   unfolding inc_raises
-  inc_row_leads on = trap_if_leads a s (nat_le 65535 (backpressure_of (instance_of n s) s)) Trap.BackpressureOverflow _ (λ e. go (Label.Task (TaskLabel.BpInc n)) (inc_raises n s) refl (advanced_walks n refl on (word (SetBackpressure (instance_of n s) (backpressure_of (instance_of n s) s + 1)) tt NoWord)))
+  inc_row_leads on = trap_if_leads a s (nat_le 65535 (backpressure_of (instance_of n s) s)) Trap.BackpressureOverflow _ (λ e. goes_on (Label.Task (TaskLabel.BpInc n)) (inc_raises n s) refl (advanced_walks n refl on (word (SetBackpressure (instance_of n s) (backpressure_of (instance_of n s) s + 1)) tt NoWord)))
 
   ends_by : (o : TaskOp) → op_in a n ≡ Op.Task o → is_code_op o ≡ true → EndsActivation a n
   ends_by o is code = (refl, ap (λ p. ends_activation p) is ∙ code)
@@ -575,8 +530,8 @@ module _ (x : Setting) (main : Main) (s : Core) (n : ℕ) (l : Label) (next : Tu
   task_row_leads ch (TaskOp.RetBad v) is = trap_if_leads a s (has_ended (task_of n s) s) Trap.TaskCancelOrReturnTwice _ (λ e. tt)
   task_row_leads ch TaskOp.TaskCancel is = task_cancel_row_leads (stands is refl) ch.woken
   task_row_leads ch TaskOp.Exit is = exit_row_for_leads ch.woken (is_explicit n s) refl
-  task_row_leads ch TaskOp.CbYield is = code_row_leads (Label.Task (TaskLabel.CbYield n)) 1 refl (λ shows. ap (λ k. returned_holder s k) shows) (ends_by TaskOp.CbYield is refl)
-  task_row_leads ch (TaskOp.CbWait v) is = code_row_leads (Label.Task (TaskLabel.CbWait n)) (16 * value_of n s v + 2) refl (λ shows. ap (λ k. returned_holder s k) shows) (ends_by (TaskOp.CbWait v) is refl)
-  task_row_leads ch (TaskOp.Code v) is = code_row_leads (Label.Task (TaskLabel.Code n)) (value_of n s v) refl (λ shows. ap (λ k. returned_holder s k) shows) (ends_by (TaskOp.Code v) is refl)
+  task_row_leads ch TaskOp.CbYield is = code_row_leads (Label.Task (TaskLabel.CbYield n)) 1 (λ t. refl) (λ shows. ap (λ k. returned_holder s k) shows) (ends_by TaskOp.CbYield is refl)
+  task_row_leads ch (TaskOp.CbWait v) is = code_row_leads (Label.Task (TaskLabel.CbWait n)) (16 * value_of n s v + 2) (λ t. refl) (λ shows. ap (λ k. returned_holder s k) shows) (ends_by (TaskOp.CbWait v) is refl)
+  task_row_leads ch (TaskOp.Code v) is = code_row_leads (Label.Task (TaskLabel.Code n)) (value_of n s v) (λ t. refl) (λ shows. ap (λ k. returned_holder s k) shows) (ends_by (TaskOp.Code v) is refl)
   task_row_leads ch TaskOp.BpInc is = inc_row_leads (stands is refl)
   task_row_leads ch TaskOp.BpDec is = dec_from_leads (stands is refl) (backpressure_of (instance_of n s) s)
