@@ -131,20 +131,27 @@ module _ {a : Scene} {b : Core} {n : ℕ} {q : Option Place} (f : Frame a b n q)
 read_awaited : (s b : Core) → Reads s b → HostsAwaited s → HostsAwaited b
 read_awaited s b r h n i far = grind (arith, h n i)
 
-pub step_works : (x : Setting) (s : State) (l : Label) (t : State) → (w : Walked x s l t) → InPlace s → Withdrawable (scene_of x s l w.next) → WorksQueued s.core → HostsAwaited s.core → WorksQueued t.core × HostsAwaited t.core
-step_works x s l t w h may works awaited = step_by x s l t w h may (λ a u. WorksQueued u × HostsAwaited u) (λ a b n q u base first same f c ends. let r = trip_works f (asked a b n q base f) (begins a b base first same) c in (r.works, r.awaited))
-  where
-    asked : (a : Scene) (b : Core) (n : ℕ) (q : Option Place) → Reads s.core a.base → Frame a b n q → Asked a
-    asked a b n q base f m i is far = let e = read_awaited s.core a.base base awaited m i far in (
-      e.0,
-      ⊎_elim (λ p. let here = f.follows.start.here in let home = f.home n in let one = f.one m is in
-          let busy = f.follows.busy in absurd (grind arith)) (λ d. d) e.1,
-    )
+module _ (x : Setting) (s : State) (l : Label) (t : State) (w : Walked x s l t) (h : InPlace s) (may : Withdrawable (scene_of x s l w.next))
+    (awaited : HostsAwaited s.core) where
+  of_runner : (a : Scene) (b : Core) (n : ℕ) (q : Option Place) → Reads s.core a.base → Frame a b n q → Asked a
+  of_runner a b n q base f m i is far =
+      let e = read_awaited s.core a.base base awaited m i far in
+      let r = (beside f m is).1 in
+      let busy = r.follows.busy in
+      let home = r.home in (e.0, ⊎_elim (λ blocked. absurd (grind arith)) (λ d. d) e.1)
 
-    begins : (a : Scene) (b : Core) → Reads s.core a.base → Reads s.core b → SameWorks s.core b → Working a b
-    begins a b base first same = record {
-      works = others_move s.core b same first.1.0 (ap (λ (m : Made). m.works) first.1.1) works;
-      awaited = read_awaited s.core b first awaited;
-      made = let e = ap (λ (m : Made). m.works) (base.1.1 ∙ sym first.1.1) in omega (arith, e);
-      ended = λ i below e. ap (λ m. is_stage_ended (option_map_or (λ (w : Work). w.stage) (get m i) Stage.Ended)) (first.1.0 ∙ sym base.1.0) ∙ e;
-    }
+  -- the runner's own sync call of a host has ended
+  pub step_asked : Asked (scene_of x s l w.next)
+  step_asked = step_by x s l t w h may (λ a u. Asked a) (λ a b n q u base first same f c ends. of_runner a b n q base f)
+
+  pub step_works : WorksQueued s.core → WorksQueued t.core × HostsAwaited t.core
+  step_works works = step_by x s l t w h may (λ a u. WorksQueued u × HostsAwaited u)
+      (λ a b n q u base first same f c ends. let r = trip_works f (of_runner a b n q base f) (begins a b base first same) c in (r.works, r.awaited))
+    where
+      begins : (a : Scene) (b : Core) → Reads s.core a.base → Reads s.core b → SameWorks s.core b → Working a b
+      begins a b base first same = record {
+        works = others_move s.core b same first.1.0 (ap (λ (m : Made). m.works) first.1.1) works;
+        awaited = read_awaited s.core b first awaited;
+        made = let e = ap (λ (m : Made). m.works) (base.1.1 ∙ sym first.1.1) in omega (arith, e);
+        ended = λ i below e. ap (λ m. is_stage_ended (option_map_or (λ (w : Work). w.stage) (get m i) Stage.Ended)) (first.1.0 ∙ sym base.1.0) ∙ e;
+      }

@@ -4,7 +4,7 @@ use Rattle.task_rules.proofs.WalkMoves.{blocked_place}
 use Rattle.task_places.proofs.Entries.{added_stand, has_stands, next_first, popped_quiet, promoted_stand, removed_fresh, withdrawn_stand, flipped}
 use Rattle.task_laws.proofs.CameLemmas.{read_same}
 use Rattle.task_rules.proofs.ChainLemmas.{along}
-use Rattle.task_rules.proofs.MoveLemmas.{removed_is, All, all_of, idle_loose, is_busy, is_idle, is_parked, loose_idle, put_stand, removed_all, no_time, one_time, stand_of, removed_gone, removed_placed, removed_loose, gone_place}
+use Rattle.task_rules.proofs.MoveLemmas.{at_place, removed_is, All, all_of, idle_loose, is_busy, is_idle, is_parked, loose_idle, put_stand, removed_all, no_time, one_time, stand_of, removed_gone, removed_placed, removed_loose, gone_place}
 use Rattle.task_rules.proofs.PlacingLemmas.{placing_shifted}
 use Rattle.task_rules.proofs.StandLemmas.{nobody, entries-append, set_place_is, Adds, adds_all, Loose, Stand, by_number, put_high_adds, put_low_adds, set_place_adds, place_kept, place_written, Given, Watch, Nothing, Awaits, Covered, is_so, is_watched, eq_refl, is_eq_of, Stuck, watching}
 use Rattle.task_rules.proofs.StopLemmas.{Untouched, behind_adds, foot_there, given_there, quiet_placed, quiet_stand, stopped_stand, switch_there}
@@ -19,10 +19,6 @@ no_way h = absurd (subst T (sym h) tt)
 -- who is put was parked; one that waited for its start still does
 parked_at : (m : ℕ) (w : Why) (s : Core) → MayPut m w s → (option_map_or is_parked (place_of m s) false ≡ true) × (is_fresh (place_of m s) ≡ true → is_for_start w ≡ true)
 parked_at m w s ok = (grind arith, λ h. grind arith)
-
-place_at : (test : Place → Bool) (o : Option Place) → option_map_or test o false ≡ true → (p : Place) × ((o ≡ Some p) × (test p ≡ true))
-place_at test None h = no_way h
-place_at test (Some p) h = (p, (refl, h))
 
 abbrev pub ReadyAt : Option Place → Type 0
 ReadyAt o = (x : Mark) × ((w : Why) × (o ≡ Some (Place.Ready x w)))
@@ -115,7 +111,7 @@ module _ {a : Scene} {b : Core} {n : ℕ} {q : Option Place} (f : Follows a b n 
   keeps_placing : {P : ℕ → Watch} (p : Placing) (s : Core) → Stays a (Places p) s → Puts P (Places p) s → Stand P n q [] s →
       Stand P n q [] (after_placing p s)
   keeps_placing (Put x m w) s (inl ok) puts st =
-      let p = place_at is_parked (place_of m s) (parked_at m w s ok).0 in
+      let p = at_place is_parked (place_of m s) (parked_at m w s ok).0 in
       put_stand n q f.busy x m w p.0 s p.1.0 p.1.1 (λ h. puts x m w refl h (st.kept m h).1) st
   keeps_placing (Promote m) s (inl ok) puts st =
       let one = listed m s ok.1 in
@@ -160,7 +156,7 @@ module _ {a : Scene} {b : Core} {n : ℕ} {q : Option Place} (f : Follows a b n 
           is_so (watch a m) (Some (Place.Ready x v)) ≡ true
       puts x m v (inl may) so =
           let r = parked_at m v s may in
-          let p = place_at is_parked (place_of m s) r.0 in
+          let p = at_place is_parked (place_of m s) r.0 in
           so_put (place_of m a.base) p.0 x v p.1.1 (λ g. r.1 (ap is_fresh p.1.0 ∙ g)) (ap (is_so (watch a m)) (sym p.1.0) ∙ so)
       puts x m v (inr may) so = absurd may
 
