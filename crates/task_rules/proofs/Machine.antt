@@ -1,4 +1,5 @@
 -- The words of std, of the machine and of its rules that the proofs cite, in one place.
+pub use Rattle.task_machine.specs.declared.{component.Callee.Callee, component.Component.Component, component.ExportKind.ExportKind, component.HostDef.HostDef, component.Slot.Slot, label.CallLabel.CallLabel, label.DataLabel.DataLabel, label.Label.Label, label.LoopLabel.LoopLabel, label.MainLabel.MainLabel, label.SetLabel.SetLabel, label.TakeLabel.TakeLabel, label.TaskLabel.TaskLabel, label.ThreadLabel.ThreadLabel, op.CallOp.CallOp, op.DataOp.DataOp, op.Op.Op, op.SetOp.SetOp, op.TaskOp.TaskOp, op.ThreadOp.ThreadOp, outcome.Outcome.Outcome, records.Call.Call, records.CallEnd.CallEnd, records.Caller.Caller, records.Course.Course, records.Delivery.Delivery, records.Entry.Entry, records.Goal.Goal, records.HowFar.HowFar, records.Instance.Instance, records.Join.Join, records.Made.Made, records.Named.Named, records.Place.Place, records.Script.Script, records.Set.Set, records.Stage.Stage, records.Subtask.Subtask, records.Thread.Thread, records.Turn.Turn, records.Why.Why, records.Work.Work, records.WorkCaller.WorkCaller, scenario.MainOpDef.MainOpDef, trap.Trap.Trap, words.Given.Given, words.Mark.Mark, words.OwnEvent.OwnEvent, words.Phase.Phase, words.Status.Status}
 pub use Rattle.std.proofs.Common.{ap, ap₂, arith, cond, inl, inr, le_refl, le_trans, refl, subst, sym, T, ⊎_elim, ◌∙◌}
 pub use Rattle.std.proofs.lemmas.Bool.{and_parts, eq-eqb, eqb-false, eqb-true, not-true}
 pub use Rattle.std.proofs.lemmas.Bool.Decides.{nat_tests}
@@ -23,44 +24,6 @@ unfoldable pub use Rattle.task_machine.specs.Read.{admitted_held, at_handle_limi
 pub use Rattle.task_machine.specs.Statuses.{packed, status_code}
 pub use Rattle.task_machine.specs.Write.{giving, less_one, remove_threads, taking}
 unfoldable pub use Rattle.task_machine.specs.Write.{add_call, add_group, add_set, add_thread, add_work, count_work, free_handle, free_thread_handle, give_handle, give_result, give_thread_handle, on_call, on_instance, on_thread, on_work, push_high, push_high_first, push_low, remove_call, remove_group, remove_set, remove_thread, remove_work, set_backpressure, set_callers, set_cancel_delivered, set_cancelled, set_course, set_do_not_enter, set_do_not_suspend, set_end, set_event, set_exited, set_high, set_how_far, set_join, set_low, set_own_event, set_phase, set_place, set_position, set_register, set_result, set_saved_callee, set_saved_own, set_script, set_stage, set_started, set_starting_published, set_subtask_handle, set_switch, set_thread_handle, set_trapped, set_uninteresting, set_word, take_result}
-pub use Rattle.task_machine.specs.declared.component.Callee.{Callee}
-pub use Rattle.task_machine.specs.declared.component.Component.{Component}
-pub use Rattle.task_machine.specs.declared.component.ExportKind.{ExportKind}
-pub use Rattle.task_machine.specs.declared.component.HostDef.{HostDef}
-pub use Rattle.task_machine.specs.declared.label.CallLabel.{CallLabel}
-pub use Rattle.task_machine.specs.declared.label.Label.{Label}
-pub use Rattle.task_machine.specs.declared.label.LoopLabel.{LoopLabel}
-pub use Rattle.task_machine.specs.declared.label.TakeLabel.{TakeLabel}
-pub use Rattle.task_machine.specs.declared.op.Op.{Op}
-pub use Rattle.task_machine.specs.declared.op.TaskOp.{TaskOp}
-pub use Rattle.task_machine.specs.declared.outcome.Outcome.{Outcome}
-pub use Rattle.task_machine.specs.declared.records.Call.{Call}
-pub use Rattle.task_machine.specs.declared.records.CallEnd.{CallEnd}
-pub use Rattle.task_machine.specs.declared.records.Caller.{Caller}
-pub use Rattle.task_machine.specs.declared.records.Course.{Course}
-pub use Rattle.task_machine.specs.declared.records.Delivery.{Delivery}
-pub use Rattle.task_machine.specs.declared.records.Entry.{Entry}
-pub use Rattle.task_machine.specs.declared.records.Goal.{Goal}
-pub use Rattle.task_machine.specs.declared.records.HowFar.{HowFar}
-pub use Rattle.task_machine.specs.declared.records.Join.{Join}
-pub use Rattle.task_machine.specs.declared.records.Made.{Made}
-pub use Rattle.task_machine.specs.declared.records.Named.{Named}
-pub use Rattle.task_machine.specs.declared.records.Place.{Place}
-pub use Rattle.task_machine.specs.declared.records.Script.{Script}
-pub use Rattle.task_machine.specs.declared.records.Set.{Set}
-pub use Rattle.task_machine.specs.declared.records.Stage.{Stage}
-pub use Rattle.task_machine.specs.declared.records.Subtask.{Subtask}
-pub use Rattle.task_machine.specs.declared.records.Thread.{Thread}
-pub use Rattle.task_machine.specs.declared.records.Turn.{Turn}
-pub use Rattle.task_machine.specs.declared.records.Why.{Why}
-pub use Rattle.task_machine.specs.declared.records.Work.{Work}
-pub use Rattle.task_machine.specs.declared.records.WorkCaller.{WorkCaller}
-pub use Rattle.task_machine.specs.declared.trap.Trap.{Trap}
-pub use Rattle.task_machine.specs.declared.words.Given.{Given}
-pub use Rattle.task_machine.specs.declared.words.Mark.{Mark}
-pub use Rattle.task_machine.specs.declared.words.OwnEvent.{OwnEvent}
-pub use Rattle.task_machine.specs.declared.words.Phase.{Phase}
-pub use Rattle.task_machine.specs.declared.words.Status.{Status}
 pub use Rattle.task_rules.specs.Allowed.{AbortsOwn, Allowed, AtOp, AwaitsEvent, Blocks, ByDelivery, ByHandle, ByOp, ByProgram, ByScript, BySetHandle, ByThread, ByWait, Cancels, CanCome, ComesAgain, Departs, EndsActivation, EndsOver, Exits, Falls, FindsEvent, GivesUp, HasCalled, HasSet, HasSubtask, Holds, InOp, is_async_work, is_begun, is_done_host, is_exit, is_for_main, IsCalled, IsFall, IsFoot, IsLaid, IsNamed, IsNew, IsPolled, IsRunner, IsSettling, IsStarting, IsWithdrawn, Leaves, MayAbort, MayAdvance, MayBar, MayCall, MayCancel, MayCome, MayDeliver, MayEnd, MayFinish, MayGo, MayJoin, MayLand, MayLeave, MayMake, MayMakeCall, MayMove, MayNameCall, MayOwe, MayPut, MayRemoveCall, MayRemoveWork, MayRestart, MayShift, MayStart, MayTakeEvent, MayTell, MayWithdraw, MayYield, ProgramAborts, Releases, Resumes, ReturnsNow, Runs, SaysEnd, ScriptAborts, Starts, Stays, subtask_under_way, Suspends, TakesCalled, TakesCancelled, TakesNamed, Tells, Unblocks, Uncovers, Waits, WaitsAgain, wake_why, Wakes, WasReady, WasUnder, Yields}
 pub use Rattle.task_rules.specs.Calls.{AtOnce, call_begins, call_clears_flag, call_host_polled, call_row, call_status, call_sync_begins, call_sync_host_polled, call_sync_host_row, call_sync_row, call_sync_status, enter_row, Failing, first_poll, FirstPoll, Later, new_call, new_thread, new_work, next_thread, next_work, put_back, settle_group_of, status_found, sync_sets_flag, work_group, work_value}
 unfoldable pub use Rattle.task_rules.specs.Calls.{answered, call_answered, call_made, call_pending, call_queues, call_resumes, call_returned, call_stops, call_sync_host_stops, call_sync_stops, enter_runs, host_answered, host_pending, host_ready, with_handle, with_thread_handle, work_answered, work_deleted, work_queued}
