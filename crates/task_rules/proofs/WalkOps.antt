@@ -1,6 +1,6 @@
 -- The rows of the ops on sets, subtasks and threads as chains of words.
-use Rattle.task_rules.proofs.Machine.{[], aborted_phase, AbortsOwn, add_work, advanced, after_word, AlreadyEnded, and_parts, answered, Answers, ap, arith, assigned, Async, at_handle_limit, AtOnce, blocked_code, Bool, ByHandle, ByOp, BySetHandle, ByThread, ByWait, call_answered, call_begins, call_host_polled, call_instance, call_of_op, call_pending, call_queues, call_resumes, call_returned, call_row, call_settled, call_status, call_sync_begins, call_sync_host_polled, call_sync_host_row, call_sync_host_stops, call_sync_row, call_sync_status, call_sync_stops, CallbackWaits, CallbackYields, Callee, callee_of_op, CallEnd, Caller, caller_of, CallLabel, CallOp, cancel_aborts_host, cancel_asks, cancel_by_end, cancel_case, cancel_ended_row, cancel_guest, cancel_label, cancel_promotes_yield, cancel_resumed, cancel_row, cancel_stops, cancel_subtask, cancel_takes_end, cancel_target, cancel_wakes_callback, cancel_withdraws, CancelCase, cancelled_of_op, Cancels, checked, Choice, chosen, CloseSet, Core, count_work, CountWork, Delivery, drop_row, dropped, end_for, ended, EndsSubtask, EndWords, enter_row, enter_runs, event_of, export_kind, Failing, false, finds_nothing, first_poll, FirstPoll, fits, free_handle, get, get-change, get-insert_same, get-remove, Gift, gift, give_handle, Goal, Goes, group_settled, handed_by, handed_by_cancel, handed_by_event, handed_on, handed_out, HandsAtOnce, HandsOut, has_ended, has_member, has_waiters, HasSubtask, host_answered, host_at, host_end, host_pending, host_ready, HostDef, how_far_of, HowFar, inl, inr, instance_of, is_async_lifted, is_async_work, is_callback_yield, is_cancel, is_direct, is_for_main, is_joined, is_ready_to_resume, is_script, is_some, is_sync_call, is_sync_cancel, is_sync_host_call, is_thread_op, is_wait, is_waiting_on, is_watched, is_yielded, IsNamed, IsNew, IsReadyAtOnce, Join, join_done, join_label, join_of, join_to, joined, joins, Label, Later, Leaves, List, Made, Main, MakeThread, Mark, may, may_hand_on, may_wake_new, MayCancel, MayJoin, MayMakeCall, MemberGift, Mode, Move, moved_to, NameCall, NameThread, NameWork, nat_tests, new_handle, new_thread, new_thread_handle, new_work, next_thread, next_work, NoGift, None, not, NoWord, on_call, on_instance, on_thread, on_work, Op, op_in, op_of, OpenSet, Option, option_map, option_map_or, OtherwiseRuns, OwnEvent, OwnGift, packed, passes_check, pauses, phase_of, Place, place_of, poll_row, Progress, promoted_unless, push_high, Put, put_back, put_switch, QueueWork, received, received_woken, Records, refl, registers_for, registers_of, remove_group, remove_thread, remove_work, result_of, Resumes, returned_of_op, saved_callee_of, says, Scene, Script, set_at, set_cancelled, set_do_not_suspend, set_drop_row, set_dropped, set_end, set_event, set_given, set_how_far, set_join, set_made, set_new_row, set_own_event, set_phase, set_position, set_register, set_result, set_row, set_saved_callee, set_subtask_handle, SetCancelled, SetExited, SetLabel, SetOp, SetOwnEvent, SetPhase, SetRegister, SetResult, SetSavedCallee, Setting, SetUninteresting, Shifts, Slot, slot_at, Some, StartNotRun, Status, status_code, status_found, Stay, Stops, subst, Subtask, subtask_at, subtask_ended, subtask_handle, subtask_instance, subtask_row, subtask_under_way, suc, Suspends, suspends, sym, Sync, T, TakesEvent, task_of, Then, Thread, thread_at, thread_group, thread_handle_of, ThreadLabel, ThreadOp, Trap, trap_if, Trip, true, Turn, undelivered_end, UnnameCall, UnnameWork, unwrap_or, value_of, values_in, wait_begins, wait_goes_on, wait_label, wait_row, wait_stops, wait_stops_checked, wakes_joined, Walk, was_cancelled, was_started, Why, with_handle, Withdraw, withdrawn, Work, work_answered, work_caller_of, work_deleted, work_queued, work_value, WorkCaller, Writes, WritesAtOnce, WritesCall, WritesNever, WritesToo, written_by, written_by_cancel, Yields, yields, zero, ℕ, ◌+◌, ◌==◌, ◌∙◌, ◌∷◌, ◌≡◌, ◌⊎◌}
-use Rattle.task_rules.specs.Threads.{by_how_far, Halt, halt_row, halted, halted_checked, halted_promoting, halted_resuming, halting, halts, has_yielded, resume_later_row, resume_why, resumed_later, Suspension, then_promote, then_promote_row, then_resume_row, thread_made, thread_new_row, thread_row, Yielding}
+use Rattle.task_rules.proofs.Machine.{[], aborted_phase, AbortsOwn, add_work, advanced, after_word, AlreadyEnded, and_parts, answered, Answers, ap, arith, assigned, Async, at_handle_limit, AtOnce, blocked_code, Bool, ByHandle, ByOp, BySetHandle, ByThread, ByWait, call_answered, call_begins, call_host_polled, call_instance, call_of_op, call_pending, call_queues, call_resumes, call_returned, call_row, call_settled, call_status, call_sync_begins, call_sync_host_polled, call_sync_host_row, call_sync_host_stops, call_sync_row, call_sync_status, call_sync_stops, CallbackWaits, CallbackYields, Callee, callee_of_op, CallEnd, Caller, caller_of, CallLabel, CallOp, cancel_aborts_host, cancel_asks, cancel_by_end, cancel_case, cancel_ended_row, cancel_guest, cancel_label, cancel_promotes_yield, cancel_resumed, cancel_row, cancel_stops, cancel_subtask, cancel_takes_end, cancel_target, cancel_wakes_callback, cancel_withdraws, CancelCase, cancelled_of_op, Cancels, checked, Choice, chosen, CloseSet, Core, count_work, CountWork, Delivery, dropped, end_for, ended, EndsSubtask, EndWords, enter_row, enter_runs, event_of, export_kind, Failing, false, finds_nothing, first_poll, FirstPoll, fits, free_handle, get, get-change, get-insert_same, get-remove, Gift, gift, give_handle, Goal, Goes, group_settled, handed_by, handed_by_cancel, handed_by_event, handed_on, handed_out, HandsAtOnce, HandsOut, has_ended, has_member, has_waiters, HasSubtask, host_answered, host_at, host_end, host_pending, host_ready, HostDef, how_far_of, HowFar, inl, inr, instance_of, is_async_lifted, is_async_work, is_callback_yield, is_cancel, is_direct, is_for_main, is_joined, is_ready_to_resume, is_script, is_some, is_sync_call, is_sync_cancel, is_sync_host_call, is_thread_op, is_wait, is_waiting_on, is_watched, is_yielded, IsNamed, IsNew, IsReadyAtOnce, Join, join_done, join_label, join_of, join_to, joined, joins, Label, Later, Leaves, List, Made, Main, MakeThread, Mark, may, may_hand_on, may_wake_new, MayCancel, MayJoin, MayMakeCall, MemberGift, Mode, Move, moved_to, NameCall, NameThread, NameWork, nat_tests, new_handle, new_thread, new_thread_handle, new_work, next_thread, next_work, NoGift, None, not, NoWord, on_call, on_instance, on_thread, on_work, Op, op_in, op_of, OpenSet, Option, option_map, option_map_or, OtherwiseRuns, OwnEvent, OwnGift, packed, passes_check, pauses, phase_of, Place, place_of, Progress, promoted_unless, push_high, Put, put_back, put_switch, QueueWork, received, received_woken, Records, refl, registers_for, registers_of, remove_group, remove_thread, remove_work, result_of, Resumes, returned_of_op, saved_callee_of, says, Scene, Script, set_at, set_cancelled, set_do_not_suspend, set_dropped, set_end, set_event, set_given, set_how_far, set_join, set_made, set_own_event, set_phase, set_position, set_register, set_result, set_row, set_saved_callee, set_subtask_handle, SetCancelled, SetExited, SetLabel, SetOp, SetOwnEvent, SetPhase, SetRegister, SetResult, SetSavedCallee, Setting, SetUninteresting, Shifts, Slot, slot_at, Some, StartNotRun, Status, status_code, status_found, Stay, Stops, subst, Subtask, subtask_at, subtask_ended, subtask_handle, subtask_instance, subtask_row, subtask_under_way, suc, Suspends, suspends, sym, Sync, T, TakesEvent, task_of, Then, Thread, thread_at, thread_group, thread_handle_of, ThreadLabel, ThreadOp, Trap, trap_if, Trip, true, Turn, undelivered_end, UnnameCall, UnnameWork, unwrap_or, value_of, values_in, wait_begins, wait_goes_on, wait_label, wait_row, wait_stops, wait_stops_checked, wakes_joined, Walk, was_cancelled, was_started, Why, with_handle, Withdraw, withdrawn, Work, work_answered, work_caller_of, work_deleted, work_queued, work_value, WorkCaller, Writes, WritesAtOnce, WritesCall, WritesNever, WritesToo, written_by, written_by_cancel, Yields, yields, zero, ℕ, ◌+◌, ◌==◌, ◌∙◌, ◌∷◌, ◌≡◌, ◌⊎◌}
+use Rattle.task_rules.specs.Threads.{by_how_far, Halt, halt_row, halted, halted_checked, halted_promoting, halted_resuming, halting, halts, has_yielded, resume_why, resumed_later, Suspension, then_promote, then_promote_row, then_resume_row, thread_made, thread_new_row, thread_row, Yielding}
 use Rattle.task_rules.proofs.ChainLemmas.{Going, join, stay_walk, Keep, keep_stay}
 use Rattle.task_rules.proofs.WalkMoves.{keep_still, MayTake, call_settled_walks, checked_shifts, chosen_of, handed_on_shifts, shifted, wake_shifts, word, lands_at, promoted_walks, call_done_walks}
 use Rattle.task_rules.proofs.WalkParts.{AtOps, call_queues_walks, call_resumes_walks, call_stops_walks, cancel_goes_behind_walks, cancel_plain, cancel_stops_walks, cancel_takes_end_walks, checked_walks, enter_gives, enter_runs_walks, gift_is, join_plain, join_walks, put_back_walks, received_walks, stopped_walks, wait_plain, wait_stops_walks, withdrawn_walks, work_deleted_walks, withdraws, answered_first, answered_settled, call_answers_walks, answered_fresh, assigned_fresh}
@@ -69,21 +69,6 @@ module _ (x : Setting) (main : Main) (s : Core) (n : ℕ) (l : Label) (next : Tu
 
   -- ---- Sets
 
-  set_new_row_leads : (r : ℕ) → Leads a s (set_new_row n r s)
-  unfolding set_made
-  set_new_row_leads r =
-      trap_if_leads a s (not (fits 1 s)) Trap.TableFull _ (λ e.
-      trap_if_leads a s (at_handle_limit s) Trap.HandleLimit _ (λ f.
-      go _ (set_made n r s) refl (assigned_walks n refl on r (new_handle (instance_of n s) s) (word (OpenSet (instance_of n s)) (refl, (n, (refl, refl))) NoWord))))
-
-  set_drop_row_leads : (h : ℕ) → Leads a s (set_drop_row n h s)
-  unfolding set_dropped
-  set_drop_row_leads h =
-      or_trap_leads a s (set_at (instance_of n s) h s) Trap.BadHandle _ (λ y named.
-      trap_if_leads a s (has_waiters y s) Trap.WaitableSetDropHasWaiters _ (λ unwaited.
-      trap_if_leads a s (has_member y s) Trap.TableHasChildren _ (λ empty_set.
-      go _ (set_dropped n h y s) refl (advanced_walks n refl on (word (CloseSet (instance_of n s) h y) (named, (unwaited, (empty_set, (n, (refl, refl))))) NoWord)))))
-
   -- a thread that isn't taken takes no Cancelled
   takes : (y : ℕ) (ch : Choice) (g : Gift) → gift false (task_of n s) y (chosen n ch s) s ≡ Some g → MayTake a (task_of n s) g
   takes y ch g e = gift_is a n false y ch g refl (λ f o. absurd (subst T (sym f) tt)) e
@@ -120,12 +105,6 @@ module _ (x : Setting) (main : Main) (s : Core) (n : ℕ) (l : Label) (next : Tu
   wait_row_leads r h ch (HowFar.Waits y) can far = or_never_leads a s (gift false (task_of n s) y (chosen n ch s) s) _ (λ g e. wait_goes_on_leads y r ch g can far e)
   wait_row_leads r h ch _ can far = or_trap_leads a s (set_at (instance_of n s) h s) Trap.BadHandle _ (λ y named. wait_begins_leads r h ch y (finds_nothing n y s) can named)
 
-  poll_row_leads : (r h : ℕ) (ch : Choice) → Leads a s (poll_row n r h ch s)
-  poll_row_leads r h ch =
-      or_trap_leads a s (set_at (instance_of n s) h s) Trap.BadHandle _ (λ y named.
-      or_never_leads a s (gift false (task_of n s) y (chosen n ch s) s) _ (λ g e.
-      told (Label.Set (SetLabel.Poll (handed_out ch s g) n)) (received n r g (handed_out ch s g) s) refl (λ is. hands_by a _ is refl (gift_out r y ch g s e)) (λ is. received_walks n refl on r g (handed_out ch s g) (takes y ch g e) NoWord)))
-
   joined_walks : (sub : Subtask) (y w : Option ℕ) (o : Option Status) (t : Core) → t.threads ≡ s.threads → may_wake_new o y w s ≡ true → Keep a s t → Keep a s (wakes_joined o y w t)
   joined_walks sub (Some y) w (Some e) t same may c = shifted (wake_shifts y w t (λ m is. ap (λ (r : Records Thread). option_map_or (is_waiting_on y) (option_map (λ u. u.place) (get r m)) false) same ∙ chosen_of y w s may m is)) c
   joined_walks sub y w None t same may c = c
@@ -147,10 +126,21 @@ module _ (x : Setting) (main : Main) (s : Core) (n : ℕ) (l : Label) (next : Tu
   join_to_leads h (suc y) w sub named = or_trap_leads a s (set_at (instance_of n s) (suc y) s) Trap.BadHandle _ (λ z found. join_done_leads sub w (Some z) (n, (h, (suc y, (refl, (named, found))))))
 
   pub set_row_leads : (ch : Choice) (o : SetOp) → op_in a n ≡ Op.Set o → Leads a s (set_row n s ch o)
-  set_row_leads ch (SetOp.New r) is = set_new_row_leads r
-  set_row_leads ch (SetOp.Drop v) is = set_drop_row_leads (value_of n s v)
+  unfolding set_made set_dropped
+  set_row_leads ch (SetOp.New r) is =
+      trap_if_leads a s (not (fits 1 s)) Trap.TableFull _ (λ e.
+      trap_if_leads a s (at_handle_limit s) Trap.HandleLimit _ (λ f.
+      go _ (set_made n r s) refl (assigned_walks n refl on r (new_handle (instance_of n s) s) (word (OpenSet (instance_of n s)) (refl, (n, (refl, refl))) NoWord))))
+  set_row_leads ch (SetOp.Drop v) is =
+      or_trap_leads a s (set_at (instance_of n s) (value_of n s v) s) Trap.BadHandle _ (λ y named.
+      trap_if_leads a s (has_waiters y s) Trap.WaitableSetDropHasWaiters _ (λ unwaited.
+      trap_if_leads a s (has_member y s) Trap.TableHasChildren _ (λ empty_set.
+      go _ (set_dropped n (value_of n s v) y s) refl (advanced_walks n refl on (word (CloseSet (instance_of n s) (value_of n s v) y) (named, (unwaited, (empty_set, (n, (refl, refl))))) NoWord)))))
   set_row_leads ch (SetOp.Wait r v) is = wait_row_leads r (value_of n s v) ch (how_far_of n s) (ap is_wait is) refl
-  set_row_leads ch (SetOp.Poll r v) is = poll_row_leads r (value_of n s v) ch
+  set_row_leads ch (SetOp.Poll r v) is =
+      or_trap_leads a s (set_at (instance_of n s) (value_of n s v) s) Trap.BadHandle _ (λ y named.
+      or_never_leads a s (gift false (task_of n s) y (chosen n ch s) s) _ (λ g e.
+      told (Label.Set (SetLabel.Poll (handed_out ch s g) n)) (received n r g (handed_out ch s g) s) refl (λ is. hands_by a _ is refl (gift_out r y ch g s e)) (λ is. received_walks n refl on r g (handed_out ch s g) (takes y ch g e) NoWord)))
   set_row_leads ch (SetOp.Join v y) is = or_trap_leads a s (subtask_at (instance_of n s) (value_of n s v) s) Trap.BadHandle _ (λ sub named. join_to_leads (value_of n s v) (value_of n s y) ch.woken sub named)
 
   -- ---- Calls
@@ -413,14 +403,6 @@ module _ (x : Setting) (main : Main) (s : Core) (n : ℕ) (l : Label) (next : Tu
       advanced_walks n refl on (work_deleted_walks n refl i (n, (refl, inr (ended, (grind (arith, nat_tests, get-change), (grind (arith, nat_tests, get-change, ended), (h, named))))))
       (word (UnnameWork (instance_of n s) h i) (n, (refl, (refl, (named, grind (arith, nat_tests, get-change))))) (join_walks n refl sub Join.Nowhere (n, (refl, ByHandle h named)) NoWord)))
 
-  drop_row_leads : (h : ℕ) → Leads a s (drop_row n h s)
-  drop_row_leads h =
-      or_trap_leads a s (subtask_at (instance_of n s) h s) Trap.BadHandle _ (λ sub named.
-      trap_if_leads a s (is_watched (join_of sub s)) Trap.WaitableSyncAndAsync _ (λ e.
-      trap_if_leads a s (not (subtask_ended sub s)) Trap.SubtaskDropNotResolved _ (λ ended.
-      trap_if_leads a s (is_some (event_of sub s)) Trap.SubtaskDropNotResolved _ (λ f.
-      go _ (dropped n h sub s) refl (dropped_walks h sub named (unnot (subtask_ended sub s) ended))))))
-
   pub subtask_row_leads : (o : CallOp) → op_in a n ≡ Op.Call o → Leads a s (subtask_row x.component n s o)
   subtask_row_leads (CallOp.Call r q e xs) is = call_row_leads r q e (values_in (registers_of n s) xs) (how_far_of n s) (ap (λ p. callee_of_op p) is) refl
   subtask_row_leads (CallOp.CallSync r e xs) is = call_sync_row_leads r e (values_in (registers_of n s) xs) (how_far_of n s) (ap is_sync_call is) (ap (λ p. callee_of_op p) is) refl
@@ -428,7 +410,12 @@ module _ (x : Setting) (main : Main) (s : Core) (n : ℕ) (l : Label) (next : Tu
   subtask_row_leads (CallOp.CallSyncHost r h) is = call_sync_host_row_leads r h (how_far_of n s) (ap is_sync_host_call is) refl
   subtask_row_leads (CallOp.Cancel r v) is = cancel_row_leads Async r (value_of n s v) (how_far_of n s) (ap is_cancel is) (ap (cancel_target n s) is) refl
   subtask_row_leads (CallOp.CancelSync r v) is = cancel_row_leads Sync r (value_of n s v) (how_far_of n s) (ap is_sync_cancel is) (ap (cancel_target n s) is) refl
-  subtask_row_leads (CallOp.Drop v) is = drop_row_leads (value_of n s v)
+  subtask_row_leads (CallOp.Drop v) is =
+      or_trap_leads a s (subtask_at (instance_of n s) (value_of n s v) s) Trap.BadHandle _ (λ sub named.
+      trap_if_leads a s (is_watched (join_of sub s)) Trap.WaitableSyncAndAsync _ (λ e.
+      trap_if_leads a s (not (subtask_ended sub s)) Trap.SubtaskDropNotResolved _ (λ ended.
+      trap_if_leads a s (is_some (event_of sub s)) Trap.SubtaskDropNotResolved _ (λ f.
+      go _ (dropped n (value_of n s v) sub s) refl (dropped_walks (value_of n s v) sub named (unnot (subtask_ended sub s) ended))))))
 
   -- ---- Threads
 
@@ -461,14 +448,6 @@ module _ (x : Setting) (main : Main) (s : Core) (n : ℕ) (l : Label) (next : Tu
   halts_leads Suspension k false by = tt
   halts_leads Yielding k false by = go (Label.Thread k) (advanced n s) refl (advanced_walks n refl on NoWord)
 
-  resume_later_row_leads : (h : ℕ) → Leads a s (resume_later_row n h s)
-  unfolding resumed_later
-  resume_later_row_leads h =
-      or_trap_leads a s (thread_at (instance_of n s) h s) Trap.BadHandle _ (λ m named.
-      trap_if_leads a s (m == n) Trap.CannotResumeThread _ (λ other.
-      or_trap_leads a s (resume_why m s) Trap.CannotResumeThread _ (λ w by.
-      go _ (resumed_later n m w s) refl (advanced_walks n refl on (placed (Put Mark.Low m w) (inl (Resumes by)) NoWord)))))
-
   then_resume_row_leads : (y : Halt) (h : ℕ) → HaltOp y → Leads a s (then_resume_row y n h s)
   unfolding halted_resuming
   then_resume_row_leads y h halts =
@@ -500,9 +479,14 @@ module _ (x : Setting) (main : Main) (s : Core) (n : ℕ) (l : Label) (next : Tu
       by_far f = leads
 
   pub thread_row_leads : (o : ThreadOp) → op_in a n ≡ Op.Thread o → Leads a s (thread_row x.component n s o)
+  unfolding resumed_later
   thread_row_leads (ThreadOp.New r y v) is = thread_new_row_leads r y (value_of n s v) (slot_at x.component (instance_of n s) y) refl
   thread_row_leads (ThreadOp.Index r) is = go _ (assigned n r (unwrap_or (thread_handle_of n s) 0) s) refl (assigned_walks n refl on r (unwrap_or (thread_handle_of n s) 0) NoWord)
-  thread_row_leads (ThreadOp.ResumeLater v) is = resume_later_row_leads (value_of n s v)
+  thread_row_leads (ThreadOp.ResumeLater v) is =
+      or_trap_leads a s (thread_at (instance_of n s) (value_of n s v) s) Trap.BadHandle _ (λ m named.
+      trap_if_leads a s (m == n) Trap.CannotResumeThread _ (λ other.
+      or_trap_leads a s (resume_why m s) Trap.CannotResumeThread _ (λ w by.
+      go _ (resumed_later n m w s) refl (advanced_walks n refl on (placed (Put Mark.Low m w) (inl (Resumes by)) NoWord)))))
   thread_row_leads ThreadOp.Suspend is = halting_leads (ThreadLabel.Suspend n) (λ k. halt_row Suspension n k s) (halts_leads Suspension (ThreadLabel.Suspend n) (passes_check (instance_of n s) s) (ap (is_thread_op suspends) is))
   thread_row_leads ThreadOp.Yield is = halting_leads (ThreadLabel.Yield n) (λ k. halt_row Yielding n k s) (halts_leads Yielding (ThreadLabel.Yield n) (passes_check (instance_of n s) s) (ap (is_thread_op yields) is))
   thread_row_leads (ThreadOp.SuspendThenResume v) is = halting_leads (ThreadLabel.SuspendThenResume n) (λ k. then_resume_row Suspension n (value_of n s v) s) (then_resume_row_leads Suspension (value_of n s v) (ap (is_thread_op suspends) is))
