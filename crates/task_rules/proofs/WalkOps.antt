@@ -110,16 +110,12 @@ module _ (x : Setting) (main : Main) (s : Core) (n : ℕ) (l : Label) (next : Tu
   joined_walks sub y w None t same may c = c
   joined_walks sub None w (Some e) t same may c = c
 
-  join_threads : (sub : Subtask) (j : Join) → (set_join sub j s).threads ≡ s.threads
-  unfolding set_join on_call on_work
-  join_threads sub j = grind arith
-
   join_done_leads : (sub : Subtask) (w y : Option ℕ) → MayJoin a sub (joins y) s → Leads a s (join_done n sub w s y)
-  unfolding joined
+  unfolding joined set_join on_call on_work
   join_done_leads sub w y ok =
       trap_if_leads a s (is_watched (join_of sub s)) Trap.WaitableSyncAndAsync _ (λ e.
       may_leads a s (may_wake_new (event_of sub s) y w s) _ (λ may.
-      go (join_label n w) (joined n sub y w s) (join_plain a _ n w) (advanced_walks n refl on (joined_walks sub y w (event_of sub s) (set_join sub (joins y) s) (join_threads sub (joins y)) may (join_walks n refl sub (joins y) ok NoWord)))))
+      go (join_label n w) (joined n sub y w s) (join_plain a _ n w) (advanced_walks n refl on (joined_walks sub y w (event_of sub s) (set_join sub (joins y) s) (grind arith) may (join_walks n refl sub (joins y) ok NoWord)))))
 
   join_to_leads : (h y : ℕ) (w : Option ℕ) (sub : Subtask) → subtask_at (instance_of n s) h s ≡ Some sub → Leads a s (join_to n y w s sub)
   join_to_leads h zero w sub named = join_done_leads sub w None (n, (refl, ByHandle h named))
@@ -292,6 +288,9 @@ module _ (x : Setting) (main : Main) (s : Core) (n : ℕ) (l : Label) (next : Tu
   cancels Async by = by
   cancels Sync by = grind (arith, by)
 
+  cancel_is : (mode : Mode) (v : ℕ) (t : Core) → (written_by x.component s (cancel_label mode n v) t ≡ written_by_cancel x.component n s v) × (handed_by x.component main s (cancel_label mode n v) t ≡ handed_by_cancel x.component n s v)
+  cancel_is mode v t = (grind arith, grind arith)
+
   -- a cancel that takes an end of its subtask
   cancel_says : (mode : Mode) (r : ℕ) (sub : Subtask) (t : Core) (e : Status) → cancelled_of_op x.component n s (how_far_of n s) ≡ Some sub → undelivered_end (event_of sub s) ≡ Some e → l ≡ cancel_label mode n (status_code e) → EndWords a (cancel_takes_end n r sub e t)
   unfolding cancel_takes_end answered assigned advanced moved_to set_how_far set_position on_thread set_register set_saved_callee
@@ -299,17 +298,11 @@ module _ (x : Setting) (main : Main) (s : Core) (n : ℕ) (l : Label) (next : Tu
       let o = cancelled_of_op x.component n s (how_far_of n s) in
       says_by a (cancel_takes_end n r sub e t) is
       (λ to f says.
-      let q = cancel_writes_of sub to f o target e (sym (writes_at mode) ∙ says) in
+      let q = cancel_writes_of sub to f o target e (sym (cancel_is mode (status_code e) (cancel_takes_end n r sub e t)).0 ∙ says) in
       WritesNever to (subst (λ (d : Subtask). undelivered_end (event_of d s) ≡ Some Status.StartCancelled) q.0 (found ∙ ap (λ (g : Status). Some g) q.1)))
       (λ to f out.
-      let q = cancel_hands_of sub to f o target e (sym (hands_at mode) ∙ out) in
+      let q = cancel_hands_of sub to f o target e (sym (cancel_is mode (status_code e) (cancel_takes_end n r sub e t)).1 ∙ out) in
       subst (λ (d : Subtask). HandsOut a (cancel_takes_end n r sub e t) d f) q.0 (TakesEvent sub f (found ∙ ap (λ (g : Status). Some g) q.1) (event_gone sub t _ refl refl)))
-    where
-      writes_at : (m : Mode) → written_by x.component s (cancel_label m n (status_code e)) (cancel_takes_end n r sub e t) ≡ written_by_cancel x.component n s (status_code e)
-      writes_at m = grind arith
-
-      hands_at : (m : Mode) → handed_by x.component main s (cancel_label m n (status_code e)) (cancel_takes_end n r sub e t) ≡ handed_by_cancel x.component n s (status_code e)
-      hands_at m = grind arith
 
   cancel_ended_row_leads : (mode : Mode) (r : ℕ) (sub : Subtask) (t : Core) (o : Option Status) → cancelled_of_op x.component n s (how_far_of n s) ≡ Some sub → undelivered_end (event_of sub s) ≡ o → MayCancel a n sub → Keep a s t → Leads a s (cancel_ended_row mode n r sub t o)
   cancel_ended_row_leads mode r sub t None target found has c = tt
@@ -326,9 +319,6 @@ module _ (x : Setting) (main : Main) (s : Core) (n : ℕ) (l : Label) (next : Tu
   unfolding cancel_asks
   asks_walks k h named says = word (SetOwnEvent k (Some OwnEvent.Cancelled)) (inl (refl, ((n, (h, (refl, named))), (says.1, says.0)))) NoWord
 
-  cancel_writes : (mode : Mode) (t : Core) → written_by x.component s (cancel_label mode n 3) t ≡ option_map (end_for Status.StartCancelled) (cancelled_of_op x.component n s (how_far_of n s))
-  cancel_writes mode t = grind arith
-
   withdrawn_low : (k : ℕ) (e : CallEnd) → Stands a (call_ends k e (after_word (Withdraw k) s)) n
   unfolding on_call remove_thread
   withdrawn_low k e = (refl, let b = on.1 in grind (arith, nat_tests, get-remove, b))
@@ -342,11 +332,8 @@ module _ (x : Setting) (main : Main) (s : Core) (n : ℕ) (l : Label) (next : Tu
       let u : Core = call_ends k CallEnd.StartCancelled v in
       let rest : Walk a u (cancel_withdraws n r k s) = subst (λ (w : Core). Walk a (call_ends k CallEnd.StartCancelled w) (cancel_withdraws n r k s)) (sym (withdraws k s)) (stay_walk (answered_walks n refl (subst (λ (w : Core). Stands a (call_ends k CallEnd.StartCancelled w) n) (withdraws k s) (withdrawn_low k CallEnd.StartCancelled)) r 3 (word (SetUninteresting k) tt (word (SetExited k) tt NoWord)) to)) in
       says_by a t at
-      (λ to f says. said_is (λ d g. Writes a t d) (sym (cancel_writes mode t ∙ ap (option_map (end_for Status.StartCancelled)) target) ∙ says) (WritesCall k u (EndsSubtask named unended) (over_now k CallEnd.StartCancelled v) rest))
-      (λ to f out. said_is (HandsOut a t) (sym (withdraw_hands mode ∙ ap (option_map (end_for Status.StartCancelled)) target) ∙ out) (WritesToo k Status.StartCancelled (ap (λ (y : Label). written_by x.component s y s) at ∙ (cancel_writes mode s ∙ ap (option_map (end_for Status.StartCancelled)) target)) (inr refl)))
-    where
-      withdraw_hands : (m : Mode) → handed_by x.component main s (cancel_label m n 3) (cancel_withdraws n r k s) ≡ handed_by_cancel x.component n s 3
-      withdraw_hands m = grind arith
+      (λ to f says. said_is (λ d g. Writes a t d) (sym ((cancel_is mode 3 t).0 ∙ ap (option_map (end_for Status.StartCancelled)) target) ∙ says) (WritesCall k u (EndsSubtask named unended) (over_now k CallEnd.StartCancelled v) rest))
+      (λ to f out. said_is (HandsOut a t) (sym ((cancel_is mode 3 t).1 ∙ ap (option_map (end_for Status.StartCancelled)) target) ∙ out) (WritesToo k Status.StartCancelled (ap (λ (y : Label). written_by x.component s y s) at ∙ ((cancel_is mode 3 s).0 ∙ ap (option_map (end_for Status.StartCancelled)) target)) (inr refl)))
 
   cancel_guest_leads : (mode : Mode) (r h k : ℕ) (y : CancelCase) → CancelOp mode → cancelled_of_op x.component n s (how_far_of n s) ≡ Some (Subtask.Guest k) → cancel_case k s ≡ y → subtask_at (instance_of n s) h s ≡ Some (Subtask.Guest k) → is_joined (join_of (Subtask.Guest k) s) ≡ false → Leads a s (cancel_guest mode n r k s y)
   unfolding cancel_withdraws cancel_wakes_callback cancel_promotes_yield cancel_asks set_own_event on_call
@@ -355,7 +342,7 @@ module _ (x : Setting) (main : Main) (s : Core) (n : ℕ) (l : Label) (next : Tu
       let says : (has_ended k s ≡ false) × (was_started k s ≡ false) = (grind (arith, is), grind (arith, is)) in
       goes_on_told x main s n l next (cancel_label mode n 3) (cancel_withdraws n r k s) (cancel_plain s mode n 3)
       (λ at to. withdraw_says mode r k to at target (n, (h, (refl, named))) says.0)
-      (λ at. answered_walks n refl on r 3 (withdrawn_walks n refl k (n, (refl, ((n, (h, (refl, named))), (says.1, (says.0, (refl, says.1)))))) (ap (λ (y : Label). written_by x.component s y s) at ∙ (cancel_writes mode s ∙ ap (option_map (end_for Status.StartCancelled)) target)) NoWord))
+      (λ at. answered_walks n refl on r 3 (withdrawn_walks n refl k (n, (refl, ((n, (h, (refl, named))), (says.1, (says.0, (refl, says.1)))))) (ap (λ (y : Label). written_by x.component s y s) at ∙ ((cancel_is mode 3 s).0 ∙ ap (option_map (end_for Status.StartCancelled)) target)) NoWord))
   cancel_guest_leads mode r h k CallbackWaits by target is named free =
       let asks = asks_walks k h named (grind (arith, is), grind (arith, is)) in
       stop (pauses n) (cancel_wakes_callback n k s) refl (λ leave. cancel_goes_behind_walks n refl at_ops k (cancels mode by) leave (inl (h, named)) free
@@ -439,12 +426,9 @@ module _ (x : Setting) (main : Main) (s : Core) (n : ℕ) (l : Label) (next : Tu
   halted_walks Suspension t by leave c = lands_at (Move n Place.Suspended) n HowFar.Suspends (Suspends leave refl) refl (at_ops _ (stopped_walks n refl t c)) by (stopped_walks n refl t c)
   halted_walks Yielding t by leave c = lands_at (Put Mark.Low n Why.Resumption) n HowFar.Yields (Yields leave refl) refl (at_ops _ (stopped_walks n refl t c)) by (stopped_walks n refl t c)
 
-  halted_checked_walks : (h : Halt) → HaltOp h → Leaves a n → Trip a s (halted_checked h n s)
-  unfolding halted_checked
-  halted_checked_walks h by leave = halted_walks h (checked (instance_of n s) s) by leave (checked_walks n refl (instance_of n s) NoWord)
-
   halts_leads : (h : Halt) (k : ThreadLabel) (b : Bool) → HaltOp h → Leads a s (halts h n (Label.Thread k) s b)
-  halts_leads h k true by = stop (pauses n) (halted_checked h n s) refl (λ leave. halted_checked_walks h by leave)
+  unfolding halted_checked
+  halts_leads h k true by = stop (pauses n) (halted_checked h n s) refl (λ leave. halted_walks h (checked (instance_of n s) s) by leave (checked_walks n refl (instance_of n s) NoWord))
   halts_leads Suspension k false by = tt
   halts_leads Yielding k false by = go (Label.Thread k) (advanced n s) refl (advanced_walks n refl on NoWord)
 

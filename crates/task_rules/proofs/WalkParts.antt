@@ -230,13 +230,10 @@ flag_calls m j k t = grind arith
 shifted_new : (a : Scene) (m : ℕ) (s t : Core) → m ≡ next_thread a.base → Shifted s t → (s.made.threads ≡ m) × (is_explicit m s ≡ false) → IsNew a (Subtask.Guest m) t
 shifted_new a m s t is h e = (is, (ap (λ (d : Made). d.threads) (shifted_made h) ∙ e.0, shifted_explicit h m ∙ e.1))
 
-cleared_explicit : (n j : ℕ) (k : ExportKind) (m : ℕ) (t : Core) → (t.made.threads ≡ m) × (is_explicit m t ≡ false) → ((call_clears_flag n j k t).made.threads ≡ m) × (is_explicit m (call_clears_flag n j k t) ≡ false)
+cleared : (n j : ℕ) (k : ExportKind) (m : ℕ) (t : Core) → let v = call_clears_flag n j k t in
+    (v.made.threads ≡ t.made.threads) × ((is_explicit m v ≡ is_explicit m t) × ((is_some (place_of m v) ≡ is_some (place_of m t)) × (v.calls ≡ t.calls)))
 unfolding set_do_not_suspend on_instance set_saved_callee on_thread
-cleared_explicit n j k m t e = grind (arith, nat_tests, get-change)
-
-cleared_there : (n j : ℕ) (k : ExportKind) (m : ℕ) (t : Core) → is_some (place_of m (call_clears_flag n j k t)) ≡ is_some (place_of m t)
-unfolding set_do_not_suspend on_instance set_saved_callee on_thread
-cleared_there n j k m t = grind (arith, nat_tests, get-change)
+cleared n j k m t = (grind arith, (grind (arith, nat_tests, get-change), (grind (arith, nat_tests, get-change), grind arith)))
 
 -- ---- Whose the new call is
 
@@ -270,10 +267,6 @@ entered n e k words group s = (
   ),
 )
 
-cleared_calls : (n j : ℕ) (k : ExportKind) (t : Core) → (call_clears_flag n j k t).calls ≡ t.calls
-unfolding set_do_not_suspend on_instance set_saved_callee on_thread
-cleared_calls n j k t = grind arith
-
 module _ {a : Scene} (n : ℕ) (is : IsRunner a n) where
   pub call_queues_walks : a.turn ≡ Turn.Run n → is_some (callee_of_op (op_in a n)) ≡ true → (e : Callee) (k : ExportKind) (g : Goal) (words : List ℕ) → Leaves a n → MayMakeCall a (Caller.Thread n) e k g (thread_group n a.base) a.base → is_direct g ≡ false → Trip a a.base (call_queues n e k g words a.base)
   unfolding call_queues
@@ -286,11 +279,12 @@ module _ {a : Scene} (n : ℕ) (is : IsRunner a n) where
       let u = put_switch m Why.Start t in
       let d : Shifted t u = placing_shifted p t in
       let v = call_clears_flag n e.instance k u in
-      let new : (v.made.threads ≡ m) × (is_explicit m v ≡ false) = cleared_explicit n e.instance k m u (ap (λ (r : Made). r.threads) (shifted_made d) ∙ h.made, shifted_explicit d m ∙ born_explicit h) in
+      let same = cleared n e.instance k m u in
+      let new : (v.made.threads ≡ m) × (is_explicit m v ≡ false) = (same.0 ∙ (ap (λ (r : Made). r.threads) (shifted_made d) ∙ h.made), same.1.0 ∙ (shifted_explicit d m ∙ born_explicit h)) in
       let w = behind_one m n v in
       let c : Keep a s v = call_clears_flag_walks n is e.instance k (placed p (inl (Starts (born_place h) (born_explicit h) (ap (λ (y : Goal). is_direct y) (born_goal h) ∙ plain) refl)) (word (MakeCall (Caller.Thread n) e k g (thread_group n s) words) ok NoWord)) in
-      let called : HasCalled n m w = called_as n m t w (shifted_calls (placing_shifted (GoBehind m n) v) ∙ (cleared_calls n e.instance k u ∙ shifted_calls d)) (made_called n e k g (thread_group n s) words s) in
-      lands_at (GoBehind m n) n (HowFar.Calls (Subtask.Guest m)) (leave, inl (cleared_there n e.instance k m u ∙ ap (λ (o : Option Place). is_some o) (put_place Mark.Switch m Why.Start t (ap (λ (o : Option Place). is_some o) (born_place h))))) (is, inr (shifted_new a m v w refl (placing_shifted (GoBehind m n) v) new, called)) (keep_still n runs c) can c
+      let called : HasCalled n m w = called_as n m t w (shifted_calls (placing_shifted (GoBehind m n) v) ∙ (same.1.1.1 ∙ shifted_calls d)) (made_called n e k g (thread_group n s) words s) in
+      lands_at (GoBehind m n) n (HowFar.Calls (Subtask.Guest m)) (leave, inl (same.1.1.0 ∙ ap (λ (o : Option Place). is_some o) (put_place Mark.Switch m Why.Start t (ap (λ (o : Option Place). is_some o) (born_place h))))) (is, inr (shifted_new a m v w refl (placing_shifted (GoBehind m n) v) new, called)) (keep_still n runs c) can c
 
   pub enter_runs_walks : is_sync_call (op_in a n) ≡ true → is_some (callee_of_op (op_in a n)) ≡ true → (e : Callee) (k : ExportKind) (words : List ℕ) → a.turn ≡ Turn.Run n → a.next ≡ Turn.Run (next_thread a.base) → MayMakeCall a (Caller.Thread n) e k Goal.Direct (thread_group n a.base) a.base → Trip a a.base (enter_runs n e k words a.base)
   unfolding enter_runs

@@ -283,13 +283,10 @@ module _ (x : Setting) (s : State) (l : Label) where
   main_progresses_walk p o Pends t at c is = pends_here t is.0 is.1
   main_progresses_walk p o (Answers v) t at c is = answers_here v t is.0 is.1
 
-  script_call : (p : MainPlace) (o : MainOpDef) → s.main ≡ Scripted p → op_at x.script p ≡ Some o → (e : Callee) (words : List ℕ) → act_of p o ≡ Start e words → MayCall a Caller.Main e (s.core.made.groups + 1) (add_group s.core)
-  unfolding add_group
-  script_call p o scripted is e words at = ByScript p o scripted is (grind (arith, at)) refl refl
-
   script_step_walks : (p : MainPlace) (o : Option MainOpDef) (t : State) → s.main ≡ Scripted p → op_at x.script p ≡ o → ScriptStep x s p o l t → WalkedBy (idle_scene Turn.Main s.core) s.core s.main t
+  unfolding add_group
   script_step_walks p None t scripted at is = pends_here t is.0 is.1
-  script_step_walks p (Some o) t scripted at is = main_progresses_walk p o (main_row x.component (line_of p o) s.core (act_of p o)) t scripted (main_row_leads (line_of p o) (act_of p o) (λ e words h. script_call p o scripted at e words h) (λ y h p2 at2. grind (arith, scripted, at2, h)) (λ i h. let r = script_aborts p o i h in ScriptAborts p r.0 scripted r.1)) is
+  script_step_walks p (Some o) t scripted at is = main_progresses_walk p o (main_row x.component (line_of p o) s.core (act_of p o)) t scripted (main_row_leads (line_of p o) (act_of p o) (λ e words h. ByScript p o scripted at (grind (arith, h)) refl refl) (λ y h p2 at2. grind (arith, scripted, at2, h)) (λ i h. let r = script_aborts p o i h in ScriptAborts p r.0 scripted r.1)) is
 
   open_progresses_walk : (q : MainProgress) (t : State) → LeadsMain q → OpenProgresses s q l t → WalkedBy (idle_scene Turn.Main s.core) s.core s.main t
   open_progresses_walk (Does k new) t c is = does_here s.main k new t (same_main s.main new) c is.0 is.1
@@ -363,10 +360,6 @@ module _ (x : Setting) (s : State) (l : Label) where
       dies true h = idle (Turn.Take ended) s.core Turn.Over s.main (Label.Loop (LoopLabel.Deadlock (deadlock_trap s.core))) (set_trapped s.core) refl (same_main s.main _) h.0 h.1 (mute_words _ _ h.0 refl) (word SetTrapped tt NoWord)
       dies false h = absurd h
 
-  push_walks : (ended : Bool) (m : Mark) (i : ℕ) → next_entry s.core ≡ Some (m, Entry.Push i) → Keep (scene_at (Turn.Take ended) (Some (m, Entry.Push i)) Turn.Main) s.core (pushed i (popped m s.core))
-  unfolding pushed
-  push_walks ended m i at = subst (λ (t : Core). Keep (scene_at (Turn.Take ended) (Some (m, Entry.Push i)) Turn.Main) s.core (set_stage i Stage.Live t)) (popped_shifted m s.core).only (word (TakePush m i) at NoWord)
-
   host_entry_walks : (ended : Bool) (m : Mark) (i : ℕ) (t : State) → next_entry s.core ≡ Some (m, Entry.Host i) → (b : Bool) → may_publish (Subtask.Host i) (woken_of l) (popped m s.core) ≡ b → Progresses s (popped m s.core) i (may b (Stops (host_label m i (woken_of l)) (host_done i (woken_of l) (popped m s.core)))) l t → WalkedBy (scene_at (Turn.Take ended) (Some (m, Entry.Host i))) s.core s.main t
   host_entry_walks ended m i t at true may is =
       let base = popped m s.core in
@@ -377,13 +370,14 @@ module _ (x : Setting) (s : State) (l : Label) where
   host_entry_walks ended m i t at false may is = absurd is
 
   entry_walks : (ended : Bool) (m : Mark) (e : Entry) (t : State) → next_entry s.core ≡ Some (m, e) → Progresses s (popped m s.core) (entry_number e) (take_row m (choice_of l) (popped m s.core) e) l t → WalkedBy (scene_at (Turn.Take ended) (Some (m, e))) s.core s.main t
+  unfolding pushed
   entry_walks ended m (Entry.Thread n) t at is =
       let base = popped m s.core in
       progresses_walk (Turn.Take ended) base n (λ u. placed (Pop m) (inr (n, (refl, at))) NoWord) (take_row m (choice_of l) base (Entry.Thread n)) t
       (λ u. thread_taken_leads x s.main ended base n l u m (choice_of l) (place_of n base) refl) is
   entry_walks ended m (Entry.Push i) t at is =
       idle (Turn.Take ended) (popped m s.core) Turn.Main s.main (Label.Take (TakeLabel.Push m i)) (pushed i (popped m s.core)) refl (same_main s.main _) is.0 is.1
-      (mute_words _ _ is.0 refl) (push_walks ended m i at)
+      (mute_words _ _ is.0 refl) (subst (λ (t : Core). Keep (scene_at (Turn.Take ended) (Some (m, Entry.Push i)) Turn.Main) s.core (set_stage i Stage.Live t)) (popped_shifted m s.core).only (word (TakePush m i) at NoWord))
   entry_walks ended m (Entry.Host i) t at is = host_entry_walks ended m i t at (may_publish (Subtask.Host i) (woken_of l) (popped m s.core)) refl is
 
   take_step_walks : (ended : Bool) (o : Option (Mark × Entry)) (t : State) → next_entry s.core ≡ o → TakeStep x s o l t → WalkedBy (scene_at (Turn.Take ended) o) s.core s.main t
@@ -399,14 +393,6 @@ op_row_leads x main s n l next ch (Op.Set o) is = set_row_leads x main s n l nex
 op_row_leads x main s n l next ch (Op.Call o) is = subtask_row_leads x main s n l next (refl, op_stands x.component n s (ap is_exit_op is)) o is
 op_row_leads x main s n l next ch (Op.Thread o) is = thread_row_leads x main s n l next (refl, op_stands x.component n s (ap is_exit_op is)) o is
 
-did_leads : (x : Setting) (main : Main) (s : Core) (n : ℕ) (l : Label) (next : Turn) (ch : Choice) → Leads (running_scene x main s n l next) s (did x.component n s ch)
-unfolding did
-did_leads x main s n l next ch = op_row_leads x main s n l next ch (op_of x.component n s) refl
-
-run_walks : (x : Setting) (s : State) (n : ℕ) (l : Label) (t : State) → Progresses s s.core n (did x.component n s.core (choice_of l)) l t → WalkedBy (λ next. running_scene x s.main s.core n l next) s.core s.main t
-run_walks x s n l t is =
-    progresses_walk x s l (Turn.Run n) s.core n (λ u. NoWord) (did x.component n s.core (choice_of l)) t (λ u. did_leads x s.main s.core n l u (choice_of l)) is
-
 main_step_walks : (x : Setting) (s : State) (l : Label) (m : Main) (t : State) → s.main ≡ m → MainStep x s m l t → WalkedBy (idle_scene x s l Turn.Main s.core) s.core s.main t
 main_step_walks x s l (Scripted p) t at is = script_step_walks x s l p (op_at x.script p) t at refl is
 main_step_walks x s (Label.Loop LoopLabel.MainPends) Unscripted t at is = pends_here x s (Label.Loop LoopLabel.MainPends) t refl is
@@ -417,10 +403,12 @@ abbrev scene_at_turn : Setting → State → Label → Turn → Turn → Scene
 scene_at_turn x s l u next = record { setting = x; main = s.main; turn = u; base = base_at u s.core; runner = runner_at u s.core; label = l; next = next }
 
 turn_step_walks : (x : Setting) (s : State) (u : Turn) (l : Label) (t : State) → TurnStep x s u l t → WalkedBy (scene_at_turn x s l u) s.core s.main t
+unfolding did
 turn_step_walks x s Turn.Main l t is = main_step_walks x s l s.main t refl is
 turn_step_walks x s (Turn.Futures n) l t is = futures_walk x s l n (next_polled n s.core) t refl is
 turn_step_walks x s (Turn.Take ended) l t is = take_step_walks x s l ended (next_entry s.core) t refl is
-turn_step_walks x s (Turn.Run n) l t is = run_walks x s n l t is
+turn_step_walks x s (Turn.Run n) l t is =
+    progresses_walk x s l (Turn.Run n) s.core n (λ u. NoWord) (did x.component n s.core (choice_of l)) t (λ u. op_row_leads x s.main s.core n l u (choice_of l) (op_of x.component n s.core) refl) is
 turn_step_walks x s Turn.Over l t is = absurd is
 
 -- each step is a chain of words
