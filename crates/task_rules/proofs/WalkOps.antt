@@ -2,8 +2,8 @@
 use Rattle.task_rules.proofs.Machine.{[], aborted_phase, AbortsOwn, add_work, advanced, after_word, AlreadyEnded, and_parts, answered, Answers, ap, arith, assigned, Async, at_handle_limit, AtOnce, blocked_code, Bool, ByHandle, ByOp, BySetHandle, ByThread, ByWait, call_answered, call_begins, call_host_polled, call_instance, call_of_op, call_pending, call_queues, call_resumes, call_returned, call_row, call_settled, call_status, call_sync_begins, call_sync_host_polled, call_sync_host_row, call_sync_host_stops, call_sync_row, call_sync_status, call_sync_stops, CallbackWaits, CallbackYields, Callee, callee_of_op, CallEnd, Caller, caller_of, CallLabel, CallOp, cancel_aborts_host, cancel_asks, cancel_by_end, cancel_case, cancel_ended_row, cancel_guest, cancel_label, cancel_promotes_yield, cancel_resumed, cancel_row, cancel_stops, cancel_subtask, cancel_takes_end, cancel_target, cancel_wakes_callback, cancel_withdraws, CancelCase, cancelled_of_op, Cancels, checked, Choice, chosen, CloseSet, Core, count_work, CountWork, Delivery, dropped, end_for, ended, EndsSubtask, EndWords, enter_row, enter_runs, event_of, export_kind, Failing, false, finds_nothing, first_poll, FirstPoll, fits, free_handle, get, get-change, get-insert_same, get-remove, Gift, gift, give_handle, Goal, Goes, group_settled, handed_by, handed_by_cancel, handed_by_event, handed_on, handed_out, HandsAtOnce, HandsOut, has_ended, has_member, has_waiters, HasSubtask, host_answered, host_at, host_end, host_pending, host_ready, HostDef, how_far_of, HowFar, inl, inr, instance_of, is_async_lifted, is_async_work, is_callback_yield, is_cancel, is_direct, is_for_main, is_joined, is_ready_to_resume, is_script, is_some, is_sync_call, is_sync_cancel, is_sync_host_call, is_thread_op, is_wait, is_waiting_on, is_watched, is_yielded, IsNamed, IsNew, IsReadyAtOnce, Join, join_done, join_label, join_of, join_to, joined, joins, Label, Later, Leaves, List, Made, Main, MakeThread, Mark, may, may_hand_on, may_wake_new, MayCancel, MayJoin, MayMakeCall, MemberGift, Mode, Move, moved_to, NameCall, NameThread, NameWork, nat_tests, new_handle, new_thread, new_thread_handle, new_work, next_thread, next_work, NoGift, None, not, NoWord, on_call, on_instance, on_thread, on_work, Op, op_in, op_of, OpenSet, Option, option_map, option_map_or, OtherwiseRuns, OwnEvent, OwnGift, packed, passes_check, pauses, phase_of, Place, place_of, Progress, promoted_unless, push_high, Put, put_back, put_switch, QueueWork, received, received_woken, Records, refl, registers_for, registers_of, remove_group, remove_thread, remove_work, result_of, Resumes, returned_of_op, saved_callee_of, says, Scene, Script, set_at, set_cancelled, set_do_not_suspend, set_dropped, set_end, set_event, set_given, set_how_far, set_join, set_made, set_own_event, set_phase, set_position, set_register, set_result, set_row, set_saved_callee, set_subtask_handle, SetCancelled, SetExited, SetLabel, SetOp, SetOwnEvent, SetPhase, SetRegister, SetResult, SetSavedCallee, Setting, SetUninteresting, Shifts, Slot, slot_at, Some, StartNotRun, Status, status_code, status_found, Stay, Stops, subst, Subtask, subtask_at, subtask_ended, subtask_handle, subtask_instance, subtask_row, subtask_under_way, suc, Suspends, suspends, sym, Sync, T, TakesEvent, task_of, Then, Thread, thread_at, thread_group, thread_handle_of, ThreadLabel, ThreadOp, Trap, trap_if, Trip, true, Turn, undelivered_end, UnnameCall, UnnameWork, unwrap_or, value_of, values_in, wait_begins, wait_goes_on, wait_label, wait_row, wait_stops, wait_stops_checked, wakes_joined, Walk, was_cancelled, was_started, Why, with_handle, Withdraw, withdrawn, Work, work_answered, work_caller_of, work_deleted, work_queued, work_value, WorkCaller, Writes, WritesAtOnce, WritesCall, WritesNever, WritesToo, written_by, written_by_cancel, Yields, yields, zero, ℕ, ◌+◌, ◌==◌, ◌∙◌, ◌∷◌, ◌≡◌, ◌⊎◌}
 use Rattle.task_rules.specs.Threads.{by_how_far, Halt, halt_row, halted, halted_checked, halted_promoting, halted_resuming, halting, halts, has_yielded, resume_why, resumed_later, Suspension, then_promote, then_promote_row, then_resume_row, thread_made, thread_new_row, thread_row, Yielding}
 use Rattle.task_rules.proofs.ChainLemmas.{Going, join, stay_walk, Keep, keep_stay}
-use Rattle.task_rules.proofs.WalkMoves.{keep_still, MayTake, call_settled_walks, checked_shifts, chosen_of, handed_on_shifts, shifted, wake_shifts, word, lands_at, promoted_walks, call_done_walks}
-use Rattle.task_rules.proofs.WalkParts.{AtOps, call_queues_walks, call_resumes_walks, call_stops_walks, cancel_goes_behind_walks, cancel_plain, cancel_stops_walks, cancel_takes_end_walks, checked_walks, enter_gives, enter_runs_walks, gift_is, join_plain, join_walks, put_back_walks, received_walks, stopped_walks, wait_plain, wait_stops_walks, withdrawn_walks, work_deleted_walks, withdraws, answered_first, answered_settled, call_answers_walks, answered_fresh, assigned_fresh}
+use Rattle.task_rules.proofs.WalkMoves.{keep_still, MayTake, checked_shifts, chosen_of, handed_on_shifts, shifted, wake_shifts, word, lands_at, promoted_walks, call_done_walks, settled, call_settles}
+use Rattle.task_rules.proofs.WalkParts.{AtOps, call_queues_walks, call_resumes_walks, call_stops_walks, cancel_goes_behind_walks, cancel_plain, cancel_stops_walks, checked_walks, enter_gives, enter_runs_walks, gift_is, join_walks, put_back_walks, received_walks, stopped_walks, wait_stops_walks, withdrawn_walks, work_deleted_walks, withdraws, answered_first, answered_settled, call_answers_walks, answered_fresh, assigned_fresh, event_taken_walks}
 use Rattle.task_rules.proofs.MuteLemmas.{mute_words, none_said, says_by, hands_by}
 use Rattle.task_rules.proofs.SayLemmas.{cancel_hands_of, cancel_writes_of, HasNoEnd, said_is, given_out, settled_gone, event_gone, result_gone}
 use Rattle.task_rules.proofs.PlacingLemmas.{Shifted, placed, shifted_far, shifted_made, shifted_task, shifts_shifted}
@@ -87,7 +87,7 @@ module _ (x : Setting) (main : Main) (s : Core) (n : ℕ) (l : Label) (next : Tu
   received_leads y r ch g e =
       may_leads a s (may_hand_on y g ch.woken s) _ (λ may.
       let d : Shifts s (handed_on y g ch.woken s) = handed_on_shifts y g ch.woken s may in
-      told (wait_label n (handed_out ch s g) ch.woken) (received_woken n y r ch.woken g (handed_out ch s g) s) (wait_plain s n (handed_out ch s g) ch.woken)
+      told (wait_label n (handed_out ch s g) ch.woken) (received_woken n y r ch.woken g (handed_out ch s g) s) (grind arith)
       (says ch.woken)
       (λ is. received_walks n refl on r g (handed_out ch s g) (subst (λ (k : ℕ). MayTake a k g) (sym (shifted_task (shifts_shifted d) n)) (takes y ch g e)) (shifted d NoWord)))
     where
@@ -115,7 +115,7 @@ module _ (x : Setting) (main : Main) (s : Core) (n : ℕ) (l : Label) (next : Tu
   join_done_leads sub w y ok =
       trap_if_leads a s (is_watched (join_of sub s)) Trap.WaitableSyncAndAsync _ (λ e.
       may_leads a s (may_wake_new (event_of sub s) y w s) _ (λ may.
-      go (join_label n w) (joined n sub y w s) (join_plain a _ n w) (advanced_walks n refl on (joined_walks sub y w (event_of sub s) (set_join sub (joins y) s) (grind arith) may (join_walks n refl sub (joins y) ok NoWord)))))
+      go (join_label n w) (joined n sub y w s) (grind arith) (advanced_walks n refl on (joined_walks sub y w (event_of sub s) (set_join sub (joins y) s) (grind arith) may (join_walks n refl sub (joins y) ok NoWord)))))
 
   join_to_leads : (h y : ℕ) (w : Option ℕ) (sub : Subtask) → subtask_at (instance_of n s) h s ≡ Some sub → Leads a s (join_to n y w s sub)
   join_to_leads h zero w sub named = join_done_leads sub w None (n, (refl, ByHandle h named))
@@ -305,8 +305,9 @@ module _ (x : Setting) (main : Main) (s : Core) (n : ℕ) (l : Label) (next : Tu
       subst (λ (d : Subtask). HandsOut a (cancel_takes_end n r sub e t) d f) q.0 (TakesEvent sub f (found ∙ ap (λ (g : Status). Some g) q.1) (event_gone sub t _ refl refl)))
 
   cancel_ended_row_leads : (mode : Mode) (r : ℕ) (sub : Subtask) (t : Core) (o : Option Status) → cancelled_of_op x.component n s (how_far_of n s) ≡ Some sub → undelivered_end (event_of sub s) ≡ o → MayCancel a n sub → Keep a s t → Leads a s (cancel_ended_row mode n r sub t o)
+  unfolding cancel_takes_end
   cancel_ended_row_leads mode r sub t None target found has c = tt
-  cancel_ended_row_leads mode r sub t (Some e) target found has c = told (cancel_label mode n (status_code e)) (cancel_takes_end n r sub e t) (cancel_plain s mode n (status_code e)) (λ is. cancel_says mode r sub t e target found is) (λ is. cancel_takes_end_walks n refl on r sub e has c)
+  cancel_ended_row_leads mode r sub t (Some e) target found has c = told (cancel_label mode n (status_code e)) (cancel_takes_end n r sub e t) (cancel_plain s mode n (status_code e)) (λ is. cancel_says mode r sub t e target found is) (λ is. answered_walks n refl on r (status_code e) (event_taken_walks n refl sub has c))
 
   cancel_by_end_leads : (mode : Mode) (r : ℕ) (sub : Subtask) (t : Core) (b : Bool) → CancelOp mode → cancelled_of_op x.component n s (how_far_of n s) ≡ Some sub → event_of sub t ≡ event_of sub s → MayCancel a n sub → IsFree sub → Keep a s t → Leads a s (cancel_by_end mode n r sub t b)
   cancel_by_end_leads mode r sub t true by target same has free c = cancel_ended_row_leads mode r sub t (undelivered_end (event_of sub t)) target (ap (λ o. undelivered_end o) (sym same)) has c
@@ -383,7 +384,7 @@ module _ (x : Setting) (main : Main) (s : Core) (n : ℕ) (l : Label) (next : Tu
   dropped_walks h (Subtask.Guest k) named ended =
       let sub = Subtask.Guest k in
       let t = set_join sub Join.Nowhere s in
-      advanced_walks n refl on (call_settled_walks k (λ gone. grind (arith, nat_tests, get-change, ended)) (word (UnnameCall (instance_of n s) h k) (n, (refl, (refl, (named, grind (arith, nat_tests, get-change))))) (join_walks n refl sub Join.Nowhere (n, (refl, ByHandle h named)) NoWord)))
+      advanced_walks n refl on (settled (call_settles k _ (λ gone. grind (arith, nat_tests, get-change, ended))) (word (UnnameCall (instance_of n s) h k) (n, (refl, (refl, (named, grind (arith, nat_tests, get-change))))) (join_walks n refl sub Join.Nowhere (n, (refl, ByHandle h named)) NoWord)))
   dropped_walks h (Subtask.Host i) named ended =
       let sub = Subtask.Host i in
       let t = set_join sub Join.Nowhere s in
