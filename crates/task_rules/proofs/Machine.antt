@@ -27,7 +27,7 @@ unfoldable pub use Rattle.task_machine.specs.Write.{add_call, add_group, add_set
 pub use Rattle.task_rules.specs.Allowed.{AbortsOwn, Allowed, AtOp, AwaitsEvent, Blocks, ByDelivery, ByHandle, ByOp, ByProgram, ByScript, BySetHandle, ByThread, ByWait, Cancels, CanCome, ComesAgain, Departs, EndsActivation, EndsOver, Exits, Falls, FindsEvent, GivesUp, HasCalled, HasSet, HasSubtask, Holds, InOp, is_async_work, is_begun, is_done_host, is_exit, is_for_main, IsCalled, IsFall, IsFoot, IsLaid, IsNamed, IsNew, IsPolled, IsRunner, IsSettling, IsStarting, IsWithdrawn, Leaves, MayAbort, MayAdvance, MayBar, MayCall, MayCancel, MayCome, MayDeliver, MayEnd, MayFinish, MayGo, MayJoin, MayLand, MayLeave, MayMake, MayMakeCall, MayMove, MayNameCall, MayOwe, MayPut, MayRemoveCall, MayRemoveWork, MayRestart, MayShift, MayStart, MayTakeEvent, MayTell, MayWithdraw, MayYield, ProgramAborts, Releases, Resumes, ReturnsNow, Runs, SaysEnd, ScriptAborts, Starts, Stays, subtask_under_way, Suspends, TakesCalled, TakesCancelled, TakesNamed, Tells, Unblocks, Uncovers, Waits, WaitsAgain, wake_why, Wakes, WasReady, WasUnder, Yields}
 pub use Rattle.task_rules.specs.Calls.{AtOnce, call_begins, call_clears_flag, call_host_polled, call_row, call_status, call_sync_begins, call_sync_host_polled, call_sync_host_row, call_sync_row, call_sync_status, enter_row, Failing, first_poll, FirstPoll, Later, new_call, new_thread, new_work, next_thread, next_work, put_back, settle_group_of, status_found, sync_sets_flag, work_group, work_value}
 unfoldable pub use Rattle.task_rules.specs.Calls.{answered, call_answered, call_made, call_pending, call_queues, call_resumes, call_returned, call_stops, call_sync_host_stops, call_sync_stops, enter_runs, host_answered, host_pending, host_ready, with_handle, with_thread_handle, work_answered, work_deleted, work_queued}
-pub use Rattle.task_rules.specs.Cancels.{aborted_phase, AlreadyEnded, Async, behind_switch, blocked_code, CallbackWaits, CallbackYields, cancel_by_end, cancel_case, cancel_ended_row, cancel_guest, cancel_label, cancel_row, cancel_subtask, CancelCase, drop_row, Mode, OtherwiseRuns, pauses, StartNotRun, subtask_instance, subtask_row, Sync}
+pub use Rattle.task_rules.specs.Cancels.{aborted_phase, AlreadyEnded, Async, behind_switch, blocked_code, CallbackWaits, CallbackYields, cancel_by_end, cancel_case, cancel_ended_row, cancel_guest, cancel_label, cancel_row, cancel_subtask, CancelCase, Mode, OtherwiseRuns, pauses, StartNotRun, subtask_instance, subtask_row, Sync}
 unfoldable pub use Rattle.task_rules.specs.Cancels.{cancel_aborts_host, cancel_asks, cancel_goes_behind, cancel_promotes_yield, cancel_resumed, cancel_stops, cancel_takes_end, cancel_wakes_callback, cancel_withdraws, dropped}
 pub use Rattle.task_rules.specs.Chains.{Answers, Chain, Collapses, EndsByExit, EndsCall, EndsOwn, EndsSubtask, EndWords, GoesBack, HandsAtOnce, HandsOut, is_over, is_running, is_take, IsReadyAtOnce, IsShift, Lands, LandsAt, LastWords, NoWord, Quits, Remains, SameMain, Settles, Shifts, SpawnsNamed, start_of, Stay, StepsAreWalks, TakesEvent, TakesResult, Then, Trip, Walk, Walked, Writes, WritesAtOnce, WritesCall, WritesNever, WritesPolled, WritesToo}
 pub use Rattle.task_rules.specs.Data.{data_row, skip_row}
@@ -48,7 +48,7 @@ pub use Rattle.task_rules.specs.Run.{opening, Run}
 pub use Rattle.task_rules.specs.Scenes.{base_at, base_without, component_of, op_in, runner_at, Scene, scene_of, thread_of_entry}
 pub use Rattle.task_rules.specs.Scripts.{export_kind, host_at, is_script, op_of_thread, registers_for, script_in, script_of_thread, slot_at, value_of, values_in}
 unfoldable pub use Rattle.task_rules.specs.Scripts.{op_of, script_of}
-pub use Rattle.task_rules.specs.Sets.{chosen, given_code, given_handle, given_result, handed_out, join_done, join_to, joins, may_wake_new, poll_row, set_drop_row, set_new_row, set_row, wait_begins, wait_goes_on, wait_row, wakes_joined}
+pub use Rattle.task_rules.specs.Sets.{chosen, given_code, given_handle, given_result, handed_out, join_done, join_to, joins, may_wake_new, set_row, wait_begins, wait_goes_on, wait_row, wakes_joined}
 unfoldable pub use Rattle.task_rules.specs.Sets.{finds_nothing, joined, received, received_woken, set_dropped, set_given, set_made, wait_stops, wait_stops_checked}
 pub use Rattle.task_rules.specs.Stalled.{deadlock_trap, is_unended_take, Setting}
 unfoldable pub use Rattle.task_rules.specs.Stalled.{may_deadlock}
@@ -60,5 +60,5 @@ unfoldable pub use Rattle.task_rules.specs.Takes.{activated, activated_woken, ho
 pub use Rattle.task_rules.specs.Turns.{goes_to, settled_turn}
 unfoldable pub use Rattle.task_rules.specs.Turns.{at_turn}
 pub use Rattle.task_rules.specs.Words.{AddGroup, Advance, after_placing, after_word, CloseSet, CountWork, EndCall, ended_as, EndWork, Enter, FinishWork, FreeThreadHandle, GiveResult, GoBehind, MakeCall, MakeThread, Move, NameCall, NameThread, NameWork, OpenSet, Pend, placed_as, Places, Placing, Pop, Promote, Put, put_at, QueueWork, RemoveCall, RemoveGroup, RemoveThread, RemoveWork, Restart, SetBackpressure, SetCallEvent, SetCallJoin, SetCancelDelivered, SetCancelled, SetDoNotEnter, SetDoNotSuspend, SetExited, SetHowFar, SetOwnEvent, SetPhase, SetRegister, SetResult, SetSavedCallee, SetSavedOwn, SetStarted, SetStartingPublished, SetTrapped, SetUninteresting, SetWord, SetWorkJoin, status_of_end, Stop, TakeHost, TakePush, TakeResult, TakeWorkEvent, UnnameCall, UnnameWork, Withdraw, Word}
-pub use Rattle.task_rules.specs.Works.{course_for, Ends, FailsNow, first_number, followed, has_end, live_after, Poll, polled_in, StillPends}
+pub use Rattle.task_rules.specs.Works.{course_for, Ends, FailsNow, first_number, followed, has_end, live_after, Poll, StillPends}
 unfoldable pub use Rattle.task_rules.specs.Works.{has_moving_work, next_polled, poll_ends, poll_of, poll_pends}
