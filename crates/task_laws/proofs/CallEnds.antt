@@ -1,10 +1,11 @@
 -- What calls tell of their ends along the words of a step, and the results that are there for main.
-use Rattle.task_rules.proofs.Machine.{[], add_call, add_group, add_set, add_thread, add_work, after_word, Allowed, ap, arith, Bool, Call, call_made, CallEnd, Caller, change, component_of, Core, count_work, end_of, EndCall, ended_as, event_of, false, free_handle, free_thread_handle, fresh, get, get-empty, get-insert, get-remove, give_handle, give_result, give_thread_handle, GiveResult, Goal, goal_of, if◌then◌else◌, inl, inr, is_direct, is_for_main, is_guest_call, is_some, is_told, Label, LaterBy, le_trans, List, MakeCall, MayEnd, MayRemoveCall, MayTell, nat_tests, next_thread, None, not, on_call, on_instance, on_thread, on_work, opening, Option, option_and_then, option_map, poll_pends, push_high, refl, remove_call, remove_group, remove_set, remove_thread, remove_work, RemoveCall, Run, SaysEnd, Scene, scene_of, set_backpressure, set_cancel_delivered, set_cancelled, set_course, set_do_not_enter, set_do_not_suspend, set_end, set_event, set_exited, set_how_far, set_join, set_own_event, set_phase, set_position, set_register, set_result, set_saved_callee, set_saved_own, set_script, set_stage, set_started, set_starting_published, set_subtask_handle, set_thread_handle, set_trapped, set_uninteresting, set_word, SetCallEvent, Setting, Some, State, Status, status_of_end, sym, take_result, TakeResult, true, undelivered_end, Walked, with_handle, with_thread_handle, Word, work_queued, ℕ, ⊎_elim, ◌&&◌, ◌∙◌, ◌∷◌, ◌≡◌, ◌≤◌, ◌⊎◌}
+use Rattle.task_rules.proofs.Machine.{add_call, add_group, add_set, add_thread, add_work, after_word, Allowed, ap, arith, Bool, Call, call_made, CallEnd, Caller, change, component_of, Core, count_work, end_of, EndCall, ended_as, event_of, false, free_handle, free_thread_handle, fresh, get, get-empty, get-insert, get-remove, give_handle, give_result, give_thread_handle, GiveResult, Goal, goal_of, if◌then◌else◌, inl, inr, is_direct, is_for_main, is_guest_call, is_some, is_told, Label, LaterBy, le_trans, MakeCall, MayEnd, MayRemoveCall, MayTell, nat_tests, next_thread, None, not, on_call, on_instance, on_thread, on_work, Option, option_and_then, option_map, poll_pends, push_high, refl, remove_call, remove_group, remove_set, remove_thread, remove_work, RemoveCall, SaysEnd, Scene, scene_of, set_backpressure, set_cancel_delivered, set_cancelled, set_course, set_do_not_enter, set_do_not_suspend, set_end, set_event, set_exited, set_how_far, set_join, set_own_event, set_phase, set_position, set_register, set_result, set_saved_callee, set_saved_own, set_script, set_stage, set_started, set_starting_published, set_subtask_handle, set_thread_handle, set_trapped, set_uninteresting, set_word, SetCallEvent, Setting, Some, State, Status, status_of_end, sym, take_result, TakeResult, true, undelivered_end, Walked, with_handle, with_thread_handle, Word, work_queued, ℕ, ⊎_elim, ◌&&◌, ◌∙◌, ◌≡◌, ◌≤◌, ◌⊎◌}
 use Rattle.task_laws.specs.Written.{EndsToldAsRecorded}
 use Rattle.task_laws.proofs.Basics.{some_none}
 use Rattle.task_laws.proofs.CallsLaw.{CallsGo, CallsHold, Goes}
 use Rattle.task_laws.proofs.CallsSteps.{calls_begin, of_base, word_goes, opening_holds, step_goes}
 use Rattle.task_laws.proofs.CountLemmas.{made_threads_word}
+use Rattle.task_laws.proofs.ReachLemmas.{reached_keeps}
 use Rattle.task_laws.specs.Settings.{CodesInCallbacks, Reached}
 use Rattle.task_rules.proofs.ChainLemmas.{along}
 use Rattle.task_rules.proofs.StandLemmas.{by_number}
@@ -270,17 +271,10 @@ opening_ends_told instances handle_limit capacity = record {
 
 -- ---- The law
 
-run_ends_told : (x : Setting) (s : State) → CodesInCallbacks x.component → CallsHold x.component s.core → EndsTold s.core →
-    (ls : List Label) (t : State) → Run x s ls t → EndsTold t.core
-run_ends_told x s codes p q [] t r = rw r q
-run_ends_told x s codes p q (l ∷ ls) t r =
-    run_ends_told x r.0 codes (step_goes x s l r.0 codes p r.1.0).0 (ends_go codes p q (step_walks x s l r.0 r.1.0)).1.1 ls t r.1.1
-
 pub reached_ends_told : {x : Setting} {s : State} → Reached x s → EndsTold s.core
-reached_ends_told {x = x} {s = s} r =
-    run_ends_told x (opening r.instances r.handle_limit r.capacity r.main) r.scripts
-    (opening_holds x.component r.instances r.handle_limit r.capacity)
-    (opening_ends_told r.instances r.handle_limit r.capacity) r.labels s r.run
+reached_ends_told {x = x} r = (reached_keeps r (λ s. CallsHold x.component s.core × EndsTold s.core)
+    (λ s l t step h. ((step_goes x s l t r.scripts h.0 step).0, (ends_go r.scripts h.0 h.1 (step_walks x s l t step)).1.1))
+    (opening_holds x.component r.instances r.handle_limit r.capacity, opening_ends_told r.instances r.handle_limit r.capacity)).1
 
 -- what an event tells is recorded
 pub recorded : (s : Core) → EndsTold s → (k : ℕ) (e : Status) → undelivered_end (event_of (subtask.Guest k) s) ≡ Some e → IsOfEnd e

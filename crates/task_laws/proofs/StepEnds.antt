@@ -164,7 +164,8 @@ module _ (x : Setting) (s : State) (l : Label) (t : State) (next : Turn) (codes 
 
   pub guest_covers : (k : ℕ) → covers_end (subtask.Guest k) m ≡ true → ⊥
   guest_covers k = covers_none _ _ (λ y z e f. let below = call_number k (grind arith) in
-      one_end (get s.core.calls k) (get t.core.calls k) y z (q.rises k below) (recorded a.base q.told_base k y e) (recorded t.core q.told k z f))
+      one_end (get s.core.calls k) (get t.core.calls k) y z (q.rises k below) (recorded a.base q.told_base k y e)
+      (recorded t.core q.told k z f))
 
   -- ---- What a call has to hand out
 

@@ -1,5 +1,5 @@
 -- Each step owes of the ends what it should, and so each run has each end once.
-use Rattle.task_rules.proofs.Machine.{[], AbortsOwn, ap, arith, base_at, Bool, Call, Core, Entry, false, fresh, get, get-empty, how_far_of, inl, inr, instance_of, is_some, is_spawn, is_spawn_caller, is_stage_ended, IsRunner, Label, le_refl, Main, MainPlace, Mark, next_entry, None, opening, Option, option_and_then, option_map, option_map_or, Place, place_of, ProgramAborts, refl, runner_at, SameMain, Scene, scene_of, ScriptAborts, Scripted, Setting, slice_get, Some, spawned_at, stage_of, State, Status, Step, subst, Subtask, subtask_at, subtask_handle, suc, sym, task_of, thread_of_entry, true, Turn, undelivered_end, Unscripted, unwrap_or, Walked, Work, work_caller_of, zero, ℕ, ⊎_elim, ◌&&◌, ◌++◌, ◌-◌, ◌∙◌, ◌∷◌, ◌≡◌, ◌≤◌, ◌⊎◌}
+use Rattle.task_rules.proofs.Machine.{[], AbortsOwn, ap, arith, base_at, Bool, Call, Core, Entry, false, fresh, get, get-empty, how_far_of, inl, inr, instance_of, is_some, is_spawn, is_spawn_caller, is_stage_ended, IsRunner, Label, le_refl, Main, MainPlace, Mark, next_entry, None, opening, Option, option_and_then, option_map, option_map_or, Place, place_of, ProgramAborts, refl, runner_at, SameMain, Scene, scene_of, ScriptAborts, Scripted, Setting, slice_get, Some, spawned_at, stage_of, State, Status, Step, subst, Subtask, subtask_at, subtask_handle, suc, sym, task_of, thread_of_entry, true, Turn, undelivered_end, Unscripted, unwrap_or, Walked, Work, work_caller_of, zero, ℕ, ⊎_elim, ◌&&◌, ◌-◌, ◌∙◌, ◌≡◌, ◌≤◌, ◌⊎◌}
 use Rattle.task_laws.proofs.NamedCalls.{NamesGo, NamesKnown, names_go_word, opening_names_known}
 use Rattle.task_laws.proofs.NamedWorks.{NamesNoSync, abort_kept, caller_is, names_word, opening_names}
 use Rattle.task_laws.proofs.Basics.{no_way}
@@ -17,8 +17,8 @@ use Rattle.task_laws.proofs.Works.{AbortsNoSync, WorksGo, WorksHold, number_of, 
 use Rattle.task_rules.proofs.WalkSteps.{step_walks}
 use Rattle.task_laws.specs.Order.{InOrder}
 use Rattle.task_places.proofs.PlaceLaw.{entry_ready}
-use Rattle.task_rules.proofs.LawLemmas.{run_goes_on}
 use Rattle.task_places.proofs.Entries.{next_first, popped_cleared}
+use Rattle.task_laws.proofs.ReachLemmas.{reached_step}
 use Rattle.task_laws.proofs.StepEnds.{Answered, CallsFound, CallsKnown, calls_known, step_ends}
 use Rattle.task_places.specs.Once.{RunsAreOnce, IsUnbegun}
 use Rattle.task_places.proofs.OrderLemmas.{opening_in_order, step_in_order}
@@ -45,17 +45,6 @@ record Known (x : Setting) (s : State) : Type 0 where
   names : NamesKnown s.core
   zero : MayBeAborted s.core 0
   over : DueOver s.core
-
-reached_step : (x : Setting) (s : State) (l : Label) (t : State) → Reached x s → Step x s l t → Reached x t
-reached_step x s l t r step = record {
-  scripts = r.scripts;
-  instances = r.instances;
-  handle_limit = r.handle_limit;
-  capacity = r.capacity;
-  main = r.main;
-  labels = r.labels ++ l ∷ [];
-  run = run_goes_on x (opening r.instances r.handle_limit r.capacity r.main) r.labels s l t r.run step;
-}
 
 held_of : (x : Setting) (s : State) → InOrder x.component s → CallsHold x.component s.core
 held_of x s h = record { numbered = h.numbered; kinds = h.kinds; deliveries = h.deliveries }
@@ -191,7 +180,7 @@ module _ (x : Setting) (s : State) (l : Label) (t : State) (k : Known x s) (f : 
 
   known_after : Known x t
   known_after = record {
-    reached = reached_step x s l t k.reached step;
+    reached = reached_step s l t k.reached step;
     order = step_in_order x s l t k.order step;
     told = calls.told;
     works = works_after.0.holds;
