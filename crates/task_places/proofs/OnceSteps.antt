@@ -112,7 +112,7 @@ module _ (x : Setting) (s : State) (l : Label) (t : State) (k : Known x s) (f : 
         (
           names_word a v u ok q.0.holds q.1.0,
           (
-            λ i h. abort_kept a v u ok q.0.holds i (q.1.1.0 i h),
+            λ i h. abort_kept a v u ok i (q.1.1.0 i h),
             callers_word a (to_base (λ c. (i : ℕ) (v : Doing) → doing_of i c ≡ Some v → i ≤ c.made.works) (λ i v e. number_of k.works i v e)) (to_base CallersKnown k.callers) names_base v u ok q.0 (λ i h. q.1.1.0 i (at_first i h)) q.1.1.1,
           ),
         ),
