@@ -1,5 +1,5 @@
 -- What calls tell of their ends along the words of a step, and the results that are there for main.
-use Rattle.task_rules.proofs.Machine.{add_call, add_group, add_set, add_thread, add_work, after_word, Allowed, ap, arith, Bool, Call, call_made, CallEnd, Caller, change, component_of, Core, count_work, end_of, EndCall, ended_as, event_of, false, free_handle, free_thread_handle, fresh, get, get-empty, get-insert, get-remove, give_handle, give_result, give_thread_handle, GiveResult, Goal, goal_of, if◌then◌else◌, inl, inr, is_direct, is_for_main, is_guest_call, is_some, is_told, Label, LaterBy, le_trans, MakeCall, MayEnd, MayRemoveCall, MayTell, nat_tests, next_thread, None, not, on_call, on_instance, on_thread, on_work, Option, option_and_then, option_map, poll_pends, push_high, refl, remove_call, remove_group, remove_set, remove_thread, remove_work, RemoveCall, SaysEnd, Scene, scene_of, set_backpressure, set_cancel_delivered, set_cancelled, set_course, set_do_not_enter, set_do_not_suspend, set_end, set_event, set_exited, set_how_far, set_join, set_own_event, set_phase, set_position, set_register, set_result, set_saved_callee, set_saved_own, set_script, set_stage, set_started, set_starting_published, set_subtask_handle, set_thread_handle, set_trapped, set_uninteresting, set_word, SetCallEvent, Setting, Some, State, Status, status_of_end, sym, take_result, TakeResult, true, undelivered_end, Walked, with_handle, with_thread_handle, Word, work_queued, ℕ, ⊎_elim, ◌&&◌, ◌∙◌, ◌≡◌, ◌≤◌, ◌⊎◌}
+use Rattle.task_rules.proofs.Machine.{add_call, add_group, add_set, add_thread, add_work, after_word, Allowed, ap, arith, Bool, Call, call_made, CallEnd, Caller, change, component_of, Core, count_work, end_of, EndCall, ended_as, event_of, false, free_handle, free_thread_handle, fresh, get, get-change, get-empty, get-insert, get-remove, give_handle, give_result, give_thread_handle, GiveResult, Goal, goal_of, if◌then◌else◌, inl, inr, is_direct, is_for_main, is_guest_call, is_some, is_told, Label, LaterBy, le_trans, MakeCall, MayEnd, MayRemoveCall, MayTell, nat_tests, next_thread, None, not, on_call, on_instance, on_thread, on_work, Option, option_and_then, option_map, poll_pends, push_high, refl, remove_call, remove_group, remove_set, remove_thread, remove_work, RemoveCall, SaysEnd, Scene, scene_of, set_backpressure, set_cancel_delivered, set_cancelled, set_course, set_do_not_enter, set_do_not_suspend, set_end, set_event, set_exited, set_how_far, set_join, set_own_event, set_phase, set_position, set_register, set_result, set_saved_callee, set_saved_own, set_script, set_stage, set_started, set_starting_published, set_subtask_handle, set_thread_handle, set_trapped, set_uninteresting, set_word, SetCallEvent, Setting, Some, State, Status, status_of_end, Subtask, sym, take_result, TakeResult, true, undelivered_end, Walked, with_handle, with_thread_handle, Word, work_queued, ℕ, ⊎_elim, ◌&&◌, ◌∙◌, ◌≡◌, ◌≤◌, ◌⊎◌}
 use Rattle.task_laws.specs.Written.{EndsToldAsRecorded}
 use Rattle.task_laws.proofs.Basics.{some_none}
 use Rattle.task_laws.proofs.CallsLaw.{CallsGo, CallsHold, Goes}
@@ -10,12 +10,7 @@ use Rattle.task_laws.specs.Settings.{CodesInCallbacks, Reached}
 use Rattle.task_rules.proofs.ChainLemmas.{along}
 use Rattle.task_rules.proofs.StandLemmas.{by_number}
 use Rattle.task_laws.proofs.EachLemmas.{after_change, after_insert, after_remove}
-use Rattle.task_machine.proofs.CommuteLemmas.{get-change}
 use Rattle.task_rules.proofs.WalkSteps.{step_walks}
-use Rattle.task_machine.specs.declared.records.CallEnd.TheVariants as call_end
-use Rattle.task_machine.specs.declared.records.Goal.TheVariants as goal
-use Rattle.task_machine.specs.declared.records.Subtask.TheVariants as subtask
-use Rattle.task_machine.specs.declared.words.Status.TheVariants as status
 
 -- ---- What a call tells
 
@@ -35,7 +30,7 @@ telling_of k s = option_map telling (get s.calls k)
 abbrev pub is_for_guest : Telling → Bool
 is_for_guest r = is_guest_call r.caller && not (is_direct r.goal)
 
-pub event_is : (k : ℕ) (s : Core) (r : Telling) → telling_of k s ≡ Some r → event_of (subtask.Guest k) s ≡ r.event
+pub event_is : (k : ℕ) (s : Core) (r : Telling) → telling_of k s ≡ Some r → event_of (Subtask.Guest k) s ≡ r.event
 event_is k s r is = grind arith
 
 pub end_is : (k : ℕ) (s : Core) (r : Telling) → telling_of k s ≡ Some r → end_of k s ≡ r.ends
@@ -48,7 +43,7 @@ pub goal_is : (k : ℕ) (s : Core) (r : Telling) → telling_of k s ≡ Some r �
 goal_is k s r is = grind arith
 
 abbrev pub is_withdrawn : CallEnd → Bool
-is_withdrawn call_end.StartCancelled = true
+is_withdrawn CallEnd.StartCancelled = true
 is_withdrawn _ = false
 
 -- what it has to tell once the call comes to the end
@@ -88,10 +83,10 @@ module _ (a : Scene) where
 -- ---- Results
 
 result_came : (a : Scene) (w : Word) (s : Core) → Allowed a w s → (k : ℕ) → is_some (get (after_word w s).results k) ≡ true →
-    (is_some (get s.results k) ≡ true) ⊎ (SaysEnd a k status.Returned × (goal_of k s ≡ goal.Main))
+    (is_some (get s.results k) ≡ true) ⊎ (SaysEnd a k Status.Returned × (goal_of k s ≡ Goal.Main))
 unfolding add_call add_group add_set add_thread add_work count_work free_handle free_thread_handle give_handle give_result give_thread_handle on_call on_instance on_thread on_work push_high remove_call remove_group remove_set remove_thread remove_work set_backpressure set_cancel_delivered set_cancelled set_course set_do_not_enter set_do_not_suspend set_end set_event set_exited set_how_far set_join set_own_event set_phase set_position set_register set_result set_saved_callee set_saved_own set_script set_stage set_started set_starting_published set_subtask_handle set_thread_handle set_trapped set_uninteresting set_word take_result call_made with_handle with_thread_handle work_queued poll_pends
 result_came a (GiveResult j v) s ok k h =
-    by_number j k ((is_some (get s.results k) ≡ true) ⊎ (SaysEnd a k status.Returned × (goal_of k s ≡ goal.Main)))
+    by_number j k ((is_some (get s.results k) ≡ true) ⊎ (SaysEnd a k Status.Returned × (goal_of k s ≡ Goal.Main)))
     (λ e. inr (rw (← e) ok)) (λ e. inl (grind (arith, nat_tests, get-insert, e)))
 result_came a (TakeResult j) s ok k h = inl (grind (arith, nat_tests, get-remove))
 result_came a w s ok k h = inl h
@@ -112,16 +107,16 @@ pub record EndsTold (s : Core) : Type 0 where
   pub events : (k : ℕ) (e : Status) (r : Telling) → telling_of k s ≡ Some r → undelivered_end r.event ≡ Some e → (is_for_guest r ≡ true) ×
       IsOfEnd e r.ends
   pub results : (k : ℕ) → is_some (get s.results k) ≡ true → (k ≤ s.made.threads) ×
-      ((r : Telling) → telling_of k s ≡ Some r → r.goal ≡ goal.Main)
+      ((r : Telling) → telling_of k s ≡ Some r → r.goal ≡ Goal.Main)
 
 -- an end that is to be told was so before the step, or is written in it
 abbrev pub ToldOrWritten : Scene → ℕ → Status → Option CallEnd → Type 0
-ToldOrWritten a k e o = (undelivered_end (event_of (subtask.Guest k) a.base) ≡ Some e) ⊎ (SaysEnd a k e × IsOfEnd e o)
+ToldOrWritten a k e o = (undelivered_end (event_of (Subtask.Guest k) a.base) ≡ Some e) ⊎ (SaysEnd a k e × IsOfEnd e o)
 
 -- a result was there before the step, or is one of main's call that returns
 abbrev pub ResultCame : Scene → ℕ → Type 0
-ResultCame a k = (is_some (get a.base.results k) ≡ true) ⊎ (SaysEnd a k status.Returned ×
-    (k ≤ a.base.made.threads → goal_of k a.base ≡ goal.Main))
+ResultCame a k = (is_some (get a.base.results k) ≡ true) ⊎ (SaysEnd a k Status.Returned ×
+    (k ≤ a.base.made.threads → goal_of k a.base ≡ Goal.Main))
 
 -- The same on the way of a step.
 pub record EndsGo (a : Scene) (s : Core) : Type 0 where
@@ -129,7 +124,7 @@ pub record EndsGo (a : Scene) (s : Core) : Type 0 where
   pub events : (k : ℕ) (e : Status) (r : Telling) → telling_of k s ≡ Some r → undelivered_end r.event ≡ Some e → (is_for_guest r ≡ true) ×
       ToldOrWritten a k e r.ends
   pub results : (k : ℕ) → is_some (get s.results k) ≡ true → (k ≤ s.made.threads) ×
-      (((r : Telling) → telling_of k s ≡ Some r → r.goal ≡ goal.Main) × ResultCame a k)
+      (((r : Telling) → telling_of k s ≡ Some r → r.goal ≡ Goal.Main) × ResultCame a k)
   pub same : (k : ℕ) (r : Telling) → telling_of k s ≡ Some r → k ≤ a.base.made.threads → goal_of k a.base ≡ r.goal
 
 -- a call that is there tells something
@@ -141,7 +136,7 @@ telling_there k s there = at (get s.calls k) refl
     at (Some c) is = (telling c, ap (option_map telling) is)
 
 -- so does one that has an end to tell
-pub tells_there : (k : ℕ) (e : Status) (s : Core) → undelivered_end (event_of (subtask.Guest k) s) ≡ Some e →
+pub tells_there : (k : ℕ) (e : Status) (s : Core) → undelivered_end (event_of (Subtask.Guest k) s) ≡ Some e →
     (r : Telling) × ((telling_of k s ≡ Some r) × (undelivered_end r.event ≡ Some e))
 tells_there k e s tells = let r = telling_there k s (grind arith) in let i = event_is k s r.0 r.1 in (r.0, (r.1, cc))
 
@@ -191,16 +186,16 @@ module _ {a : Scene} {s : Core} {k : ℕ} {o p : Option Telling} (came : Telling
 module _ (a : Scene) (w : Word) (s : Core) (ok : Allowed a w s) (q : EndsGo a s)
     (numbered : (k : ℕ) → is_some (get s.calls k) ≡ true → k ≤ s.made.threads) where
   results_after : (k : ℕ) → is_some (get (after_word w s).results k) ≡ true → (k ≤ (after_word w s).made.threads) ×
-      (((r : Telling) → telling_of k (after_word w s) ≡ Some r → r.goal ≡ goal.Main) × ResultCame a k)
+      (((r : Telling) → telling_of k (after_word w s) ≡ Some r → r.goal ≡ Goal.Main) × ResultCame a k)
   results_after k there = let m = made_threads_word a w s in by (result_came a w s ok k there) m
     where
-      main_still : k ≤ s.made.threads → ((r : Telling) → telling_of k s ≡ Some r → r.goal ≡ goal.Main) → (r : Telling) →
-          telling_of k (after_word w s) ≡ Some r → r.goal ≡ goal.Main
-      main_still below main r at = sym (goal_kept (telling_came a w s ok k) r at goal.Main below (λ u is. sym (main u is)))
+      main_still : k ≤ s.made.threads → ((r : Telling) → telling_of k s ≡ Some r → r.goal ≡ Goal.Main) → (r : Telling) →
+          telling_of k (after_word w s) ≡ Some r → r.goal ≡ Goal.Main
+      main_still below main r at = sym (goal_kept (telling_came a w s ok k) r at Goal.Main below (λ u is. sym (main u is)))
 
-      by : (is_some (get s.results k) ≡ true) ⊎ (SaysEnd a k status.Returned × (goal_of k s ≡ goal.Main)) →
+      by : (is_some (get s.results k) ≡ true) ⊎ (SaysEnd a k Status.Returned × (goal_of k s ≡ Goal.Main)) →
           s.made.threads ≤ (after_word w s).made.threads → (k ≤ (after_word w s).made.threads) ×
-          (((r : Telling) → telling_of k (after_word w s) ≡ Some r → r.goal ≡ goal.Main) × ResultCame a k)
+          (((r : Telling) → telling_of k (after_word w s) ≡ Some r → r.goal ≡ Goal.Main) × ResultCame a k)
       by (inl before) m = let h = q.results k before in (le_trans h.0 m, (main_still h.0 h.1.0, h.1.1))
       by (inr now) m =
           let main = now.1 in let call : is_some (get s.calls k) ≡ true = grind arith in let r = telling_there k s call in (
@@ -236,7 +231,7 @@ ends_told a base told t h g = record {
   results = λ k there. ((g.results k there).0, (g.results k there).1.0);
 }
   where
-    still : (k : ℕ) (e : Status) (r : Telling) → telling_of k t ≡ Some r → undelivered_end (event_of (subtask.Guest k) a.base) ≡ Some e →
+    still : (k : ℕ) (e : Status) (r : Telling) → telling_of k t ≡ Some r → undelivered_end (event_of (Subtask.Guest k) a.base) ≡ Some e →
         IsOfEnd e r.ends
     still k e r at tells = end_still e (get a.base.calls k) (get t.calls k) (h.calls k (grind (arith, base.numbered.calls k))) tells
         (λ u is f. (told.events k e u is f).1) r at
@@ -277,7 +272,7 @@ reached_ends_told {x = x} r = (reached_keeps r (λ s. CallsHold x.component s.co
     (opening_holds x.component r.instances r.handle_limit r.capacity, opening_ends_told r.instances r.handle_limit r.capacity)).1
 
 -- what an event tells is recorded
-pub recorded : (s : Core) → EndsTold s → (k : ℕ) (e : Status) → undelivered_end (event_of (subtask.Guest k) s) ≡ Some e → IsOfEnd e
+pub recorded : (s : Core) → EndsTold s → (k : ℕ) (e : Status) → undelivered_end (event_of (Subtask.Guest k) s) ≡ Some e → IsOfEnd e
     (end_of k s)
 recorded s q k e tells =
     let r = telling_there k s (grind arith) in let i = event_is k s r.0 r.1 in rw (end_is k s r.0 r.1) (q.events k e r.0 r.1 (cc)).1

@@ -1,13 +1,7 @@
 -- What one word does to the record of a call, and to that of a thread.
-use Rattle.task_rules.proofs.Machine.{add_call, add_group, add_set, add_thread, add_work, Advance, after_word, Allowed, ap, Call, call_made, Callee, CallEnd, Caller, CanCome, change, Core, count_work, EndCall, ExportKind, false, free_handle, free_thread_handle, get, give_handle, give_result, give_thread_handle, Goal, how_far_of, HowFar, inl, inr, is_deletable, is_some, Join, le_refl, MakeCall, MakeThread, MayAdvance, MayCome, MayDeliver, MayEnd, MayJoin, MayMake, MayMakeCall, MayRestart, MayStart, new_call, next_thread, None, on_call, on_instance, on_thread, on_work, Option, option_map, Places, Placing, poll_pends, push_high, refl, remove_call, remove_group, remove_set, remove_thread, remove_work, RemoveCall, RemoveThread, Restart, Scene, set_backpressure, set_cancel_delivered, set_cancelled, set_course, set_do_not_enter, set_do_not_suspend, set_end, set_event, set_exited, set_how_far, set_join, set_own_event, set_phase, set_position, set_register, set_result, set_saved_callee, set_saved_own, set_script, set_stage, set_started, set_starting_published, set_subtask_handle, set_thread_handle, set_trapped, set_uninteresting, set_word, SetCallJoin, SetHowFar, Some, subst, sym, take_result, TakeHost, TakePush, Thread, true, with_handle, with_thread_handle, Withdraw, Word, work_queued, ℕ, ◌≡◌, ◌≤◌, ◌⊎◌}
+use Rattle.task_rules.proofs.Machine.{add_call, add_group, add_set, add_thread, add_work, Advance, after_word, Allowed, ap, Call, call_made, Callee, CallEnd, Caller, CanCome, change, change-change_same, Core, count_work, EndCall, ExportKind, false, free_handle, free_thread_handle, get, get-insert_same, give_handle, give_result, give_thread_handle, Goal, how_far_of, HowFar, inl, inr, is_deletable, is_some, Join, le_refl, MakeCall, MakeThread, MayAdvance, MayCome, MayDeliver, MayEnd, MayJoin, MayMake, MayMakeCall, MayRestart, MayStart, new_call, next_thread, None, on_call, on_instance, on_thread, on_work, Option, option_map, Place, Places, Placing, poll_pends, push_high, refl, remove_call, remove_group, remove_set, remove_thread, remove_work, RemoveCall, RemoveThread, Restart, Scene, Script, set_backpressure, set_cancel_delivered, set_cancelled, set_course, set_do_not_enter, set_do_not_suspend, set_end, set_event, set_exited, set_how_far, set_join, set_own_event, set_phase, set_position, set_register, set_result, set_saved_callee, set_saved_own, set_script, set_stage, set_started, set_starting_published, set_subtask_handle, set_thread_handle, set_trapped, set_uninteresting, set_word, SetCallJoin, SetHowFar, Some, subst, Subtask, sym, take_result, TakeHost, TakePush, Thread, true, with_handle, with_thread_handle, Withdraw, Word, work_queued, ℕ, ◌≡◌, ◌≤◌, ◌⊎◌}
 use Rattle.task_laws.proofs.EachLemmas.{after_change, after_insert, after_remove}
 use Rattle.task_laws.proofs.SceneLemmas.{popped_threads}
-use Rattle.task_machine.specs.declared.records.Script.TheVariants as script
-use Rattle.task_machine.proofs.CommuteLemmas.{change-change_same}
-use Rattle.task_machine.proofs.MapLemmas.{get-insert_same}
-use Rattle.task_machine.specs.declared.records.HowFar.TheVariants as how_far
-use Rattle.task_machine.specs.declared.records.Place.TheVariants as place
-use Rattle.task_machine.specs.declared.records.Subtask.TheVariants as subtask
 use Rattle.task_rules.proofs.PlacingLemmas.{placing_shifted, unplaced}
 
 at_most : {x y : ℕ} → x ≡ y → x ≤ y
@@ -28,7 +22,7 @@ pub record Grew (starts delivers : Type 0) (ends : CallEnd → Type 0) (joins : 
 -- how the call k goes on by the word, which is done after s in the scene
 abbrev pub Grows : Scene → Word → Core → ℕ → Call → Call → Type 0
 Grows a w s k c d =
-    Grew (MayStart a k s) (MayDeliver a k) (λ e. MayEnd a k e s) (λ j. MayJoin a (subtask.Guest k) j s × (w ≡ SetCallJoin k j)) c d
+    Grew (MayStart a k s) (MayDeliver a k) (λ e. MayEnd a k e s) (λ j. MayJoin a (Subtask.Guest k) j s × (w ≡ SetCallJoin k j)) c d
 
 -- What the word from s to t does to the record of the call k, from o to p.
 pub data CallCame (a : Scene) (w : Word) (s t : Core) (k : ℕ) (o p : Option Call) : Type 0 where
@@ -69,12 +63,12 @@ Goes a s n f g = (g ≡ f) ⊎ MayCome a n g s
 
 -- its op is done, or it begins its react script
 abbrev pub Ends : Scene → ℕ → Thread → Thread → Type 0
-Ends a n r u = ((u.script ≡ r.script) × MayAdvance a n u.position) ⊎ (MayRestart a n × ((u.script ≡ script.React) × (u.position ≡ 0)))
+Ends a n r u = ((u.script ≡ r.script) × MayAdvance a n u.position) ⊎ (MayRestart a n × ((u.script ≡ Script.React) × (u.position ≡ 0)))
 
 -- the thread is where it was in its script, and as far as it was in its op, or further; or it is about to begin another one
 abbrev pub RunsOn : Scene → Core → ℕ → Thread → Thread → Type 0
 RunsOn a s n r u = ((u.script ≡ r.script) × ((u.position ≡ r.position) × ((u.how_far ≡ r.how_far) ⊎ CanCome a n u.how_far s)))
-    ⊎ ((u.how_far ≡ how_far.Fresh) × Ends a n r u)
+    ⊎ ((u.how_far ≡ HowFar.Fresh) × Ends a n r u)
 
 -- What the word from s to t does to the record of the thread n, from o to p.
 pub data ThreadCame (a : Scene) (w : Word) (s t : Core) (n : ℕ) (o p : Option Thread) : Type 0 where
@@ -85,7 +79,7 @@ pub data ThreadCame (a : Scene) (w : Word) (s t : Core) (n : ℕ) (o p : Option 
   IsBeside : (u : Thread) → n ≡ next_thread s → n ≤ t.made.threads → t.calls ≡ s.calls → MayMake a u s → p ≡ Some u →
       ThreadCame a w s t n o p
   IsFirst : (u : Thread) → n ≡ next_thread s → n ≤ t.made.threads → is_some (get t.calls n) ≡ true → u.explicit ≡ false → u.call ≡ n →
-      u.how_far ≡ how_far.Fresh → u.place ≡ place.New → p ≡ Some u → (u.script ≡ script.Start) × (u.position ≡ 0) → ThreadCame a w s t n o p
+      u.how_far ≡ HowFar.Fresh → u.place ≡ Place.New → p ≡ Some u → (u.script ≡ Script.Start) × (u.position ≡ 0) → ThreadCame a w s t n o p
 
 abbrev pub ThreadAfter : Scene → Word → Core → ℕ → Type 0
 ThreadAfter a w s n = ThreadCame a w s (after_word w s) n (get s.threads n) (get (after_word w s).threads n)
@@ -131,7 +125,7 @@ module _ {a : Scene} where
 
 -- what is read of how far the thread's op has come, but nothing of an op that begins, was so before, or comes so now
 pub op_came : {X : Type 0} (read : HowFar → Option X) (x : X) {a : Scene} (w : Word) (s : Core) → Allowed a w s → (n : ℕ) →
-    read how_far.Fresh ≡ None → read (how_far_of n (after_word w s)) ≡ Some x →
+    read HowFar.Fresh ≡ None → read (how_far_of n (after_word w s)) ≡ Some x →
     (read (how_far_of n s) ≡ Some x) ⊎ ((g : HowFar) × (MayCome a n g s × (read g ≡ Some x)))
 op_came {X = X} read x {a = a} w s ok n none h = go (thread_came w s ok n)
   where

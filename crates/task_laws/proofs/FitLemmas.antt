@@ -1,15 +1,8 @@
 -- What script each thread runs, and where in it, along the words of a step.
-use Rattle.task_rules.proofs.Machine.{[], after_word, Allowed, ap, arith, AtOp, Bool, call_instance, Callee, callee_of, can_come, Component, component_of, Core, ends_activation, EndsActivation, false, get, inl, InOp, inr, is_explicit, is_some, is_sync_call, length, MayMove, new_thread, next_thread, None, Op, op_in, op_of, op_of_thread, Option, option_map, option_map_or, Place, place_of, refl, registers_for, Scene, Script, script_in, script_of, script_of_thread, slice_get, Some, sym, task_of, Thread, true, unwrap_or, WasReady, WasUnder, Why, Word, ℕ, ⊎_elim, ◌∙◌, ◌∷◌, ◌≡◌, ◌≤◌, ◌⊎◌}
+use Rattle.task_rules.proofs.Machine.{[], after_word, Allowed, ap, arith, AtOp, Bool, call_instance, Callee, callee_of, can_come, Component, component_of, Core, ends_activation, EndsActivation, false, get, HowFar, inl, InOp, inr, is_explicit, is_some, is_sync_call, length, MayMove, new_thread, next_thread, None, Op, op_in, op_of, op_of_thread, Option, option_map, option_map_or, Place, place_of, refl, registers_for, Scene, Script, script_in, script_of, script_of_thread, slice_get, Some, sym, task_of, TaskOp, Thread, true, Turn, unwrap_or, WasReady, WasUnder, Why, Word, ℕ, ⊎_elim, ◌∙◌, ◌∷◌, ◌≡◌, ◌≤◌, ◌⊎◌}
 use Rattle.task_rules.proofs.WalkTask.{one_runner}
-use Rattle.task_machine.specs.declared.records.HowFar.TheVariants as how_far
-use Rattle.task_machine.specs.declared.records.Script.TheVariants as script
-use Rattle.task_machine.specs.declared.op.Op.TheVariants as op
-use Rattle.task_machine.specs.declared.op.TaskOp.TheVariants as task_op
 use Rattle.task_laws.proofs.CallsCame.{IsBeside, IsFirst, IsGone, IsSame, RunsOn, ThreadAfter, thread_came, Ends}
 use Rattle.task_laws.proofs.Basics.{no_way, some_none}
-use Rattle.task_machine.specs.declared.records.Why.TheVariants as why
-use Rattle.task_machine.specs.declared.records.Turn.TheVariants as turn
-use Rattle.task_machine.specs.declared.records.Place.TheVariants as place
 use Rattle.task_laws.proofs.CallsLaw.{CallsGo, CallsHold, code_callback, delivered_in, shifted_delivers, turned_silent}
 use Rattle.task_laws.proofs.CameLemmas.{Came, Comes, MayStand, Shifts, Turns, came_word, Enters, Moved, Entered, Leaves, IsMade}
 use Rattle.task_laws.proofs.HousedLemmas.{RunnerHoused}
@@ -42,7 +35,7 @@ module _ (a : Scene) (s : Core) (n : ℕ) where
 
 module _ (c : Component) (codes : CodesInCallbacks c) where
   slot_no_code : (f : Callee) (x : Script) (p : ℕ) → names_script c f.instance true x ≡ true →
-      ends_activation (unwrap_or (slice_get (script_in c f x) p) (op.Task task_op.Exit)) ≡ false
+      ends_activation (unwrap_or (slice_get (script_in c f x) p) (Op.Task TaskOp.Exit)) ≡ false
   slot_no_code f x p h = grind (arith, codes.slots f.instance)
 
   -- whose op ends an activation is a first thread
@@ -51,7 +44,7 @@ module _ (c : Component) (codes : CodesInCallbacks c) where
   ends_first n s fits ends = by (get s.threads n) refl ends
     where
       by : (o : Option Thread) → get s.threads n ≡ o → ends_activation (unwrap_or (slice_get (option_map_or (script_of_thread c s) o [])
-          (option_map_or (λ (t : Thread). t.position) o 0)) (op.Task task_op.Exit)) ≡ true →
+          (option_map_or (λ (t : Thread). t.position) o 0)) (Op.Task TaskOp.Exit)) ≡ true →
           option_map_or (λ (t : Thread). t.explicit) o false ≡ false
       by None at ends = refl
       by (Some t) at ends = let f = (fits n t at).script in let no = slot_no_code (callee_of t.call s) t.script t.position in grind arith
@@ -73,7 +66,7 @@ OfBase a t test = (is_some (get a.base.calls t.call) ≡ true) × (test (op_of_t
 
 -- a thread was on top of it already, or the step makes that one
 abbrev pub Covered : Scene → ℕ → Type 0
-Covered a n = (under_in (place_of n a.base) ≡ true) ⊎ ((a.turn ≡ turn.Run n) × (a.next ≡ turn.Run (next_thread a.base)))
+Covered a n = (under_in (place_of n a.base) ≡ true) ⊎ ((a.turn ≡ Turn.Run n) × (a.next ≡ Turn.Run (next_thread a.base)))
 
 -- its place is one in its script, or the end
 abbrev pub Within : Scene → Thread → Type 0
@@ -87,8 +80,8 @@ pub record FitsSo (a : Scene) (n : ℕ) (t : Thread) : Type 0 where
   pub first : is_delivered t.place ≡ true → t.explicit ≡ false
   pub position : (t.position ≡ 0) ⊎ Within a t
   -- while it runs, it runs one script
-  pub same : a.turn ≡ turn.Run n → (r : Thread) → get a.base.threads n ≡ Some r → (t.call ≡ r.call) × (t.script ≡ r.script)
-  pub op : (t.how_far ≡ how_far.Fresh) ⊎ OfBase a t (λ o. can_come o t.how_far)
+  pub same : a.turn ≡ Turn.Run n → (r : Thread) → get a.base.threads n ≡ Some r → (t.call ≡ r.call) × (t.script ≡ r.script)
+  pub op : (t.how_far ≡ HowFar.Fresh) ⊎ OfBase a t (λ o. can_come o t.how_far)
   pub under : has_one_on_top t.place ≡ true → OfBase a t is_sync_call × Covered a n
   -- while a thread is on top of it, it stays at its op
   pub still : under_in (place_of n a.base) ≡ true → (r : Thread) → get a.base.threads n ≡ Some r → SameOp t r
@@ -103,7 +96,7 @@ unfolding script_of
 script_within c s n p b is within = grind arith
 
 module _ (a : Scene) (codes : CodesInCallbacks (component_of a)) (h : CallsHold (component_of a) a.base) (known : RunnerHoused a)
-    (fits : Fits (component_of a) a.base) (runs : (n : ℕ) → a.turn ≡ turn.Run n → place_of n a.base ≡ Some place.Running)
+    (fits : Fits (component_of a) a.base) (runs : (n : ℕ) → a.turn ≡ Turn.Run n → place_of n a.base ≡ Some Place.Running)
     (there : (n : ℕ) (r : Thread) → get a.base.threads n ≡ Some r → is_some (get a.base.calls r.call) ≡ true) where
   abbrev c : Component
   c = component_of a
@@ -117,7 +110,7 @@ module _ (a : Scene) (codes : CodesInCallbacks (component_of a)) (h : CallsHold 
       by (Some b) at = (b, (at, grind arith))
 
   -- who is taken doesn't run
-  not_taken : {n : ℕ} {v : Why} {A : Type 0} → WasReady a n v → a.turn ≡ turn.Run n → A
+  not_taken : {n : ℕ} {v : Why} {A : Type 0} → WasReady a n v → a.turn ≡ Turn.Run n → A
   not_taken {n = n} was to = let r = runs n to in absurd (grind arith)
 
   module _ (w : Word) (s : Core) (ok : Allowed a w s) (go : CallsGo a s) (q : AllFit a s) (n : ℕ) (r : Thread)
@@ -142,7 +135,7 @@ module _ (a : Scene) (codes : CodesInCallbacks (component_of a)) (h : CallsHold 
     -- it is at the op of the base
     at_op : (u : Thread) (test : Op → Bool) → SameOp u r → AtOp a n s → test (op_in a n) ≡ true → OfBase a u test
     at_op u test is (to, stays) passes =
-        let b = base_thread n place.Running (runs n to) in let same = (q n r at).same to b.0 b.1.0 in let here = b.1.0 in
+        let b = base_thread n Place.Running (runs n to) in let same = (q n r at).same to b.0 b.1.0 in let here = b.1.0 in
         let kept = stays (runs n to) (h.numbered.threads n b.0 here).number (grind arith) in
         let position : r.position ≡ b.0.position = grind (arith, kept, at, here) in
         of_same u test is (
@@ -155,7 +148,7 @@ module _ (a : Scene) (codes : CodesInCallbacks (component_of a)) (h : CallsHold 
         OfBase a r is_sync_call × Covered a n
     covered t o p is (Shifts m) d = (q n r at).under (let e = under_moved (MayStand a s n) o p m d in grind arith)
     covered t o p is (Turns (Enters m runner new stand e there (to, (at_it, sync)))) d =
-        (at_op r is_sync_call (refl, (refl, refl)) at_it sync, inr (at_it.0, to ∙ ap (λ k. turn.Run k) new))
+        (at_op r is_sync_call (refl, (refl, refl)) at_it sync, inr (at_it.0, to ∙ ap (λ k. Turn.Run k) new))
     covered t o p is (Comes y ok e there) d = absurd (grind arith)
     covered t o p is (Turns (Entered e there)) d = absurd (grind arith)
     covered t o p is (Turns (Leaves e)) d = absurd (grind arith)
@@ -163,7 +156,7 @@ module _ (a : Scene) (codes : CodesInCallbacks (component_of a)) (h : CallsHold 
 
     module _ (u : Thread) (call : u.call ≡ r.call) where
       script_after : u.explicit ≡ r.explicit → RunsOn a s n r u → names_script c (call_instance u.call a.base) u.explicit u.script ≡ true
-      script_after explicit (inr (far, inr e)) = let f = ready_since (why.Delivery e.0.1.0) e.0.1.1 refl in grind arith
+      script_after explicit (inr (far, inr e)) = let f = ready_since (Why.Delivery e.0.1.0) e.0.1.1 refl in grind arith
       script_after explicit (inr (far, inl on)) = let f = (q n r at).script in grind arith
       script_after explicit (inl on) = let f = (q n r at).script in grind arith
 
@@ -171,10 +164,10 @@ module _ (a : Scene) (codes : CodesInCallbacks (component_of a)) (h : CallsHold 
       position_after (inl on) = let f = (q n r at).position in grind arith
       position_after (inr (far, inr e)) = inl e.1.1
       position_after (inr (far, inl (script, (runner, (to, (next, below)))))) =
-          let b = base_thread n place.Running (runs n to) in let same = (q n r at).same to b.0 b.1.0 in let here = known n runner in
+          let b = base_thread n Place.Running (runs n to) in let same = (q n r at).same to b.0 b.1.0 in let here = known n runner in
           let within = script_within c a.base n u.position b.0 b.1.0 below in inr (grind arith)
 
-      same_after : RunsOn a s n r u → a.turn ≡ turn.Run n → (b : Thread) → get a.base.threads n ≡ Some b →
+      same_after : RunsOn a s n r u → a.turn ≡ Turn.Run n → (b : Thread) → get a.base.threads n ≡ Some b →
           (u.call ≡ b.call) × (u.script ≡ b.script)
       same_after (inr (far, inr e)) to b is = not_taken e.0.1.1 to
       same_after on to b is = let f = (q n r at).same to b is in grind arith
@@ -184,18 +177,18 @@ module _ (a : Scene) (codes : CodesInCallbacks (component_of a)) (h : CallsHold 
       ends_uncovered (inl under) (inl (script, (runner, (to, e)))) = let was = runs n to in absurd (grind arith)
       ends_uncovered (inl under) (inr e) = let was = e.0.1.1.1 in absurd (grind arith)
       ends_uncovered (inr (to, next)) (inl (script, may)) =
-          let b = base_thread n place.Running (runs n to) in let low = (h.numbered.threads n b.0 b.1.0).number in
+          let b = base_thread n Place.Running (runs n to) in let low = (h.numbered.threads n b.0 b.1.0).number in
           let is : n ≡ next_thread a.base = one_runner n (next_thread a.base) (sym may.1.1.0 ∙ next) in absurd (omega (arith, low, is))
       ends_uncovered (inr (to, next)) (inr e) = not_taken e.0.1.1 to
 
-      op_after : RunsOn a s n r u → (u.how_far ≡ how_far.Fresh) ⊎ OfBase a u (λ o. can_come o u.how_far)
+      op_after : RunsOn a s n r u → (u.how_far ≡ HowFar.Fresh) ⊎ OfBase a u (λ o. can_come o u.how_far)
       op_after (inr (far, e)) = inl far
       op_after (inl (script, (position, inl far))) = rw far
           (⊎_elim inl (λ e. inr (of_same u (λ o. can_come o r.how_far) (call, (script, position)) e)) (q n r at).op)
       op_after (inl (script, (position, inr (InOp at_it can)))) =
           inr (at_op u (λ o. can_come o u.how_far) (call, (script, position)) at_it can)
       op_after (inl (script, (position, inr (WasUnder m v under far)))) =
-          let b = base_thread n (place.Under m) under in let is = (q n r at).still (ap under_in under) b.0 b.1.0 in
+          let b = base_thread n (Place.Under m) under in let is = (q n r at).still (ap under_in under) b.0 b.1.0 in
           let sync = ((fits n b.0 b.1.0).under (ap has_one_on_top b.1.1)) in let here = there n b.0 b.1.0 in
           let same = op_same c a.base u b.0 (call ∙ is.0, (script ∙ is.1.0, position ∙ is.1.1)) in
           inr (ap (λ k. is_some (get a.base.calls k)) (call ∙ is.0) ∙ here, ap (λ o. can_come o u.how_far) same ∙ rw far sync)
@@ -227,7 +220,7 @@ module _ (a : Scene) (codes : CodesInCallbacks (component_of a)) (h : CallsHold 
     })
     fits_after t at (IsGone e) = some_none (sym at ∙ e)
     fits_after t at (IsBeside u is l same (m, (runner, (made, (y, (v, (fresh, (calls, slot))))))) e) =
-        let new : t ≡ new_thread (task_of m a.base) true (script.Slot y) (registers_for (v ∷ [])) None = cc in let g = known m runner in
+        let new : t ≡ new_thread (task_of m a.base) true (Script.Slot y) (registers_for (v ∷ [])) None = cc in let g = known m runner in
         rw new (record {
           script = slot.0;
           call = λ d. g;

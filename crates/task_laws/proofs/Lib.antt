@@ -15,6 +15,7 @@ pub mod CallsCame
 pub mod CallsLaw
 pub mod CallsSteps
 pub mod FitLemmas
+pub mod UnbegunCalls
 pub mod OneHolder
 pub mod Exported
 pub mod PolledWorks
@@ -26,5 +27,6 @@ pub mod OnceLemmas
 pub mod StepEnds
 pub mod WrittenLaws
 pub mod NamedCalls
+pub mod AwaitedCalls
 pub mod NamedWorks
 pub mod SyncWorks

@@ -2,71 +2,38 @@
 -- that its thread made and no handle names.
 use Rattle.task_laws.proofs.CallsCame.{CallAfter, Grown, Grows, NewCall, NoCall, call_came, op_came}
 use Rattle.task_laws.proofs.CountLemmas.{made_threads_word}
+use Rattle.task_laws.specs.Order.{NamesKnown, OnlyCalled, is_uncancelled, is_cancelled, at_most_returned}
 use Rattle.task_laws.proofs.SetHandles.{given_names, none_named, subtask_in}
-use Rattle.task_machine.specs.declared.records.Caller.TheVariants as caller
-use Rattle.task_machine.specs.declared.records.HowFar.TheVariants as how_far
-use Rattle.task_machine.specs.declared.records.Named.TheVariants as named
-use Rattle.task_machine.specs.declared.records.Subtask.TheVariants as subtask
-use Rattle.task_machine.specs.declared.records.Turn.TheVariants as turn
-use Rattle.task_machine.proofs.CommuteLemmas.{get-change}
-use Rattle.task_rules.proofs.Machine.{add_call, add_group, add_set, add_thread, add_work, after_word, Allowed, ap, arith, as_subtask, Bool, Call, call_made, CallEnd, cancel_was_delivered, change, CloseSet, Core, count_work, Exits, false, free_handle, free_thread_handle, fresh, get, get-empty, get-insert, get-remove, give_handle, give_result, give_thread_handle, GivesUp, giving, handle_of_table, how_far_of, HowFar, inl, inr, instance_of, is_deletable, is_some, IsCalled, IsNamed, IsWithdrawn, le_trans, MakeCall, MakeThread, MayCome, MayDeliver, MayEnd, MayNameCall, MayOwe, NameCall, NameWork, nat_tests, new_handle, next_thread, None, not, on_call, on_instance, on_thread, on_work, OpenSet, Option, option_and_then, option_map_or, own_event_of, OwnEvent, poll_pends, push_high, refl, remove_call, remove_group, remove_set, remove_thread, remove_work, RemoveCall, ReturnsNow, Scene, set_backpressure, set_cancel_delivered, set_cancelled, set_course, set_do_not_enter, set_do_not_suspend, set_end, set_event, set_exited, set_how_far, set_join, set_own_event, set_phase, set_position, set_register, set_result, set_saved_callee, set_saved_own, set_script, set_stage, set_started, set_starting_published, set_subtask_handle, set_thread_handle, set_trapped, set_uninteresting, set_word, SetOwnEvent, Some, subst, subtask_at, subtask_handle, take_result, taking, Thread, true, UnnameCall, UnnameWork, with_handle, with_thread_handle, Word, work_queued, ℕ, ⊎_elim, ◌&&◌, ◌∙◌, ◌≡◌, ◌≤◌, ◌⊎◌}
+use Rattle.task_rules.proofs.Machine.{add_call, add_group, add_set, add_thread, add_work, after_word, Allowed, ap, arith, as_subtask, Call, call_made, CallEnd, Caller, cancel_was_delivered, change, CloseSet, Core, count_work, Exits, false, free_handle, free_thread_handle, fresh, get, get-change, get-empty, get-insert, get-remove, give_handle, give_result, give_thread_handle, GivesUp, giving, handle_of_table, how_far_of, HowFar, inl, inr, instance_of, is_deletable, is_some, IsCalled, IsNamed, IsWithdrawn, le_trans, MakeCall, MakeThread, MayCome, MayDeliver, MayEnd, MayNameCall, MayOwe, NameCall, Named, NameWork, nat_tests, new_handle, next_thread, None, not, on_call, on_instance, on_thread, on_work, OpenSet, Option, option_and_then, option_map_or, own_event_of, OwnEvent, poll_pends, push_high, refl, remove_call, remove_group, remove_set, remove_thread, remove_work, RemoveCall, ReturnsNow, Scene, set_backpressure, set_cancel_delivered, set_cancelled, set_course, set_do_not_enter, set_do_not_suspend, set_end, set_event, set_exited, set_how_far, set_join, set_own_event, set_phase, set_position, set_register, set_result, set_saved_callee, set_saved_own, set_script, set_stage, set_started, set_starting_published, set_subtask_handle, set_thread_handle, set_trapped, set_uninteresting, set_word, SetOwnEvent, Some, subst, Subtask, subtask_at, subtask_handle, take_result, taking, Thread, true, Turn, UnnameCall, UnnameWork, with_handle, with_thread_handle, Word, work_queued, ℕ, ⊎_elim, ◌∙◌, ◌≡◌, ◌≤◌, ◌⊎◌}
 use Rattle.task_rules.proofs.StandLemmas.{by_number}
-use Rattle.task_machine.specs.declared.words.OwnEvent.TheVariants as own
-use Rattle.task_machine.specs.declared.records.CallEnd.TheVariants as call_end
 use Rattle.task_laws.proofs.Basics.{too_high}
 
 -- the call that the running thread's op is inside of before the step is there
 abbrev pub InsideThere : Scene → Type 0
-InsideThere a = (n k : ℕ) → a.turn ≡ turn.Run n → how_far_of n a.base ≡ how_far.Calls (subtask.Guest k) → is_some (get a.base.calls k) ≡ true
+InsideThere a = (n k : ℕ) → a.turn ≡ Turn.Run n → how_far_of n a.base ≡ HowFar.Calls (Subtask.Guest k) → is_some (get a.base.calls k) ≡ true
 
-abbrev is_cancelled : Option OwnEvent → Bool
-is_cancelled (Some own.Cancelled) = true
-is_cancelled _ = false
-
--- it has at most returned
-abbrev at_most_returned : Option CallEnd → Bool
-at_most_returned None = true
-at_most_returned (Some call_end.Returned) = true
-at_most_returned _ = false
-
--- no cancel has come to the call
-abbrev pub is_uncancelled : Call → Bool
-is_uncancelled c = not (is_cancelled c.own_event) && (not c.cancel_delivered && at_most_returned c.«end»)
-
--- if the call is there, the thread has made it, no handle names it, and it wasn't cancelled
-abbrev OnlyCalled : ℕ → ℕ → Core → Type 0
-OnlyCalled n k s = (c : Call) → get s.calls k ≡ Some c → (c.caller ≡ caller.Thread n) × ((c.handle ≡ None) × (is_uncancelled c ≡ true))
-
-pub record NamesKnown (s : Core) : Type 0 where
-  -- the record of a call that a handle names says which
-  pub there : (i h k : ℕ) → subtask_at i h s ≡ Some (subtask.Guest k) → subtask_handle (subtask.Guest k) s ≡ Some h
-  -- in one instance
-  pub once : (i j h g k : ℕ) → subtask_at i h s ≡ Some (subtask.Guest k) → subtask_at j g s ≡ Some (subtask.Guest k) → i ≡ j
-  pub number : (k : ℕ) (c : Call) → get s.calls k ≡ Some c → k ≤ s.made.threads
-  pub called : (n k : ℕ) → how_far_of n s ≡ how_far.Calls (subtask.Guest k) → (k ≤ s.made.threads) × OnlyCalled n k s
-
-abbrev called_call : HowFar → Option ℕ
-called_call (how_far.Calls (subtask.Guest k)) = Some k
+abbrev pub called_call : HowFar → Option ℕ
+called_call (HowFar.Calls (Subtask.Guest k)) = Some k
 called_call f = None
 
-calls_call : (f : HowFar) (k : ℕ) → called_call f ≡ Some k → f ≡ how_far.Calls (subtask.Guest k)
+pub calls_call : (f : HowFar) (k : ℕ) → called_call f ≡ Some k → f ≡ HowFar.Calls (Subtask.Guest k)
 calls_call f k h = grind arith
 
 -- ---- What an op is inside of
 
 -- the op was inside of the call before the step, or has just made it
-abbrev WasInside : Scene → ℕ → ℕ → Type 0
-WasInside a n k = (how_far_of n a.base ≡ how_far.Calls (subtask.Guest k)) ⊎ (k ≡ next_thread a.base)
+abbrev pub WasInside : Scene → ℕ → ℕ → Type 0
+WasInside a n k = (how_far_of n a.base ≡ HowFar.Calls (Subtask.Guest k)) ⊎ (k ≡ next_thread a.base)
 
-abbrev WereInside : Scene → Core → Type 0
-WereInside a s = (n k : ℕ) → how_far_of n s ≡ how_far.Calls (subtask.Guest k) → WasInside a n k
+abbrev pub WereInside : Scene → Core → Type 0
+WereInside a s = (n k : ℕ) → how_far_of n s ≡ HowFar.Calls (Subtask.Guest k) → WasInside a n k
 
 module _ (a : Scene) (w : Word) (s : Core) (ok : Allowed a w s) (q : NamesKnown s) (were : WereInside a s) where
   -- right before the word
-  inside : (n k : ℕ) → how_far_of n (after_word w s) ≡ how_far.Calls (subtask.Guest k) → WasInside a n k × ((k ≤ s.made.threads) × OnlyCalled n k s)
+  pub inside : (n k : ℕ) → how_far_of n (after_word w s) ≡ HowFar.Calls (Subtask.Guest k) → WasInside a n k × ((k ≤ s.made.threads) × OnlyCalled n k s)
   inside n k far = go (op_came called_call k w s ok n refl (ap called_call far))
     where
-      come : MayCome a n (how_far.Calls (subtask.Guest k)) s → WasInside a n k × ((k ≤ s.made.threads) × OnlyCalled n k s)
+      come : MayCome a n (HowFar.Calls (Subtask.Guest k)) s → WasInside a n k × ((k ≤ s.made.threads) × OnlyCalled n k s)
       come (is, inl (was, far)) = (inl was, q.called n k far)
       come (is, inr (new, called)) = (inr new.0, (grind (arith, new.1.0), λ c at. (grind (arith, called.0.0), (grind (arith, called.0.1), let e = called.1.0 in let o = called.1.1.0 in let d = called.1.1.1 in grind arith))))
 
@@ -80,10 +47,10 @@ module _ (a : Scene) (base : NamesKnown a.base) (n k : ℕ) (was : WasInside a n
   base_call None at there = absurd (grind arith)
   base_call (Some c) at there = ⊎_elim (λ far. let r = (base.called n k far).1 c at in (c, (refl, (r.1.0, r.1.1)))) (λ new. let low = base.number k c at in absurd (omega (arith, low, new))) was
 
-  unnamed_inside : IsNamed a (subtask.Guest k) → ⊥
+  pub unnamed_inside : IsNamed a (Subtask.Guest k) → ⊥
   unnamed_inside (m, (h, (runner, named))) = let e = base.there (instance_of m a.base) h k named in let c = base_call (get a.base.calls k) refl (grind arith) in let at = c.1.0 in let free = c.1.1.0 in grind arith
 
-  unasked_inside : own_event_of k a.base ≡ Some own.Cancelled → ⊥
+  unasked_inside : own_event_of k a.base ≡ Some OwnEvent.Cancelled → ⊥
   unasked_inside e = let c = base_call (get a.base.calls k) refl (grind arith) in let at = c.1.0 in let un = c.1.1.1 in grind arith
 
 -- the call's own event is as it was, or what it is owed
@@ -99,9 +66,9 @@ own_came a w s ok k c d below was at = inl (grind (arith, nat_tests, get-change,
 module _ (a : Scene) (base : NamesKnown a.base) (n k : ℕ) (was : WasInside a n k) where
   not_owed : (o : Option OwnEvent) (s : Core) → MayOwe a k o s → is_cancelled o ≡ false
   not_owed None s may = refl
-  not_owed (Some own.None) s may = refl
-  not_owed (Some own.Cancelled) s (inl named) = absurd (unnamed_inside a base n k was named.1.0)
-  not_owed (Some own.Cancelled) s (inr owes) = let e = owes.1.1.1 in absurd (unasked_inside a base n k was (grind arith))
+  not_owed (Some OwnEvent.None) s may = refl
+  not_owed (Some OwnEvent.Cancelled) s (inl named) = absurd (unnamed_inside a base n k was named.1.0)
+  not_owed (Some OwnEvent.Cancelled) s (inr owes) = let e = owes.1.1.1 in absurd (unasked_inside a base n k was (grind arith))
 
   not_ended : (s : Core) (e : CallEnd) → cancel_was_delivered k s ≡ false → MayEnd a k e s → at_most_returned (Some e) ≡ true
   not_ended s e none (ReturnsNow m runner runs own live lifted is) = grind arith
@@ -144,7 +111,7 @@ unfolding add_call add_group add_set add_thread add_work call_made count_work fr
 only_stays a (NameCall i j) s n k ok base was below not q c at = let other : (j ≡ k → ⊥) = λ e. not i (ap (λ m. NameCall i m) e) in grind (arith, nat_tests, get-change, other, q c)
 only_stays a w s n k ok base was below not q c at = stays (get s.calls k) refl
   where
-    stays : (o : Option Call) → get s.calls k ≡ o → (c.caller ≡ caller.Thread n) × ((c.handle ≡ None) × (is_uncancelled c ≡ true))
+    stays : (o : Option Call) → get s.calls k ≡ o → (c.caller ≡ Caller.Thread n) × ((c.handle ≡ None) × (is_uncancelled c ≡ true))
     stays None is = absurd (grind (arith, nat_tests, get-change, get-insert, get-remove))
     stays (Some d) is = let r = q d is in (grind (arith, nat_tests, get-change, get-insert, get-remove), (grind (arith, nat_tests, get-change, get-insert, get-remove), uncancelled_word a base n k was w s ok below d c is at r.1.1))
 
@@ -156,13 +123,13 @@ named_called a i k s base there (n, (runs, (at, (far, (done, (whose, handle)))))
   where
     go : (o : Option Call) → get a.base.calls k ≡ o → is_some o ≡ true → IsCalled n k s
     go None is h = absurd (grind arith)
-    go (Some c) is h = let r = (base.called n k far).1 c is in (whose ∙ (ap (λ (o : Option Call). option_map_or (λ d. d.caller) o caller.Main) is ∙ r.0), handle ∙ (ap (λ (o : Option Call). option_and_then (λ d. d.handle) o) is ∙ r.1.0))
+    go (Some c) is h = let r = (base.called n k far).1 c is in (whose ∙ (ap (λ (o : Option Call). option_map_or (λ d. d.caller) o Caller.Main) is ∙ r.0), handle ∙ (ap (λ (o : Option Call). option_and_then (λ d. d.handle) o) is ∙ r.1.0))
 
 next_given : (i : ℕ) (s : Core) → new_handle i s ≡ handle_of_table s.handles i
 unfolding new_handle
 next_given i s = refl
 
-deletable_unnamed : (k : ℕ) (s : Core) → is_deletable k s ≡ true → subtask_handle (subtask.Guest k) s ≡ None
+deletable_unnamed : (k : ℕ) (s : Core) → is_deletable k s ≡ true → subtask_handle (Subtask.Guest k) s ≡ None
 unfolding is_deletable
 deletable_unnamed k s h = grind arith
 
@@ -177,14 +144,14 @@ module _ (a : Scene) (base : NamesKnown a.base) (there : InsideThere a) where
       go (Some d) is = let h = q.number k d is in grind (arith, nat_tests, get-change, get-insert, get-remove)
 
   -- what an op is inside of, after a word that gives no call a handle
-  called_stays : (w : Word) (s : Core) (ok : Allowed a w s) → NamesKnown s → WereInside a s → ((i j : ℕ) → w ≡ NameCall i j → ⊥) → (n k : ℕ) → how_far_of n (after_word w s) ≡ how_far.Calls (subtask.Guest k) → (k ≤ (after_word w s).made.threads) × OnlyCalled n k (after_word w s)
+  called_stays : (w : Word) (s : Core) (ok : Allowed a w s) → NamesKnown s → WereInside a s → ((i j : ℕ) → w ≡ NameCall i j → ⊥) → (n k : ℕ) → how_far_of n (after_word w s) ≡ HowFar.Calls (Subtask.Guest k) → (k ≤ (after_word w s).made.threads) × OnlyCalled n k (after_word w s)
   called_stays w s ok q were not n k far =
       let r = inside a w s ok q were n k far in
       (le_trans r.1.0 (made_threads_word a w s), only_stays a w s n k ok base r.0 r.1.0 (λ i. not i k) r.1.1)
 
   -- what is known after a word that gives no call a handle: handles name no more than before
   known_after : (w : Word) (s : Core) → Allowed a w s → NamesKnown s → WereInside a s → ((i j : ℕ) → w ≡ NameCall i j → ⊥) →
-      ((i h k : ℕ) → subtask_at i h (after_word w s) ≡ Some (subtask.Guest k) → (subtask_at i h s ≡ Some (subtask.Guest k)) × (subtask_handle (subtask.Guest k) (after_word w s) ≡ Some h)) → NamesKnown (after_word w s)
+      ((i h k : ℕ) → subtask_at i h (after_word w s) ≡ Some (Subtask.Guest k) → (subtask_at i h s ≡ Some (Subtask.Guest k)) × (subtask_handle (Subtask.Guest k) (after_word w s) ≡ Some h)) → NamesKnown (after_word w s)
   known_after w s ok q were not old = record {
     there = λ i h k e. (old i h k e).1;
     once = λ i j h g k e f. q.once i j h g k (old i h k e).0 (old j g k f).0;
@@ -204,30 +171,30 @@ module _ (a : Scene) (base : NamesKnown a.base) (there : InsideThere a) where
       is : IsCalled ok.0 j s
       is = named_called a i j s base there ok
 
-      new : (l g k : ℕ) → subtask_in (change i (giving (named.Subtask (subtask.Guest j))) s.handles) l g ≡ Some (subtask.Guest k) →
-          (subtask_at l g s ≡ Some (subtask.Guest k)) ⊎ ((Some (subtask.Guest j) ≡ Some (subtask.Guest k)) × ((l ≡ i) × (g ≡ handle_of_table s.handles i)))
-      new l g k e = given_names as_subtask s.handles i (named.Subtask (subtask.Guest j)) l g (subtask.Guest k) e
+      new : (l g k : ℕ) → subtask_in (change i (giving (Named.Subtask (Subtask.Guest j))) s.handles) l g ≡ Some (Subtask.Guest k) →
+          (subtask_at l g s ≡ Some (Subtask.Guest k)) ⊎ ((Some (Subtask.Guest j) ≡ Some (Subtask.Guest k)) × ((l ≡ i) × (g ≡ handle_of_table s.handles i)))
+      new l g k e = given_names as_subtask s.handles i (Named.Subtask (Subtask.Guest j)) l g (Subtask.Guest k) e
 
-      old : (l g k : ℕ) → subtask_at l g s ≡ Some (subtask.Guest k) → subtask_handle (subtask.Guest k) (after_word (NameCall i j) s) ≡ Some g
+      old : (l g k : ℕ) → subtask_at l g s ≡ Some (Subtask.Guest k) → subtask_handle (Subtask.Guest k) (after_word (NameCall i j) s) ≡ Some g
       old l g k e = let h = q.there l g k e in grind (arith, nat_tests, get-change, is.1)
 
-      mine : (n : ℕ) → how_far_of n s ≡ how_far.Calls (subtask.Guest j) → ⊥
+      mine : (n : ℕ) → how_far_of n s ≡ HowFar.Calls (Subtask.Guest j) → ⊥
       mine n far = by_call (get s.calls j) refl
         where
           by_call : (o : Option Call) → get s.calls j ≡ o → ⊥
           by_call None at = grind (arith, is.0)
           by_call (Some c) at = let r = (q.called n j far).1 c at in grind (arith, is.0, ok.1.1.1.1.0)
 
-      named : (n k : ℕ) → how_far_of n s ≡ how_far.Calls (subtask.Guest k) → (k ≤ s.made.threads) × OnlyCalled n k (after_word (NameCall i j) s)
+      named : (n k : ℕ) → how_far_of n s ≡ HowFar.Calls (Subtask.Guest k) → (k ≤ s.made.threads) × OnlyCalled n k (after_word (NameCall i j) s)
       named n k far = let r = q.called n k far in (r.0, only_stays a (NameCall i j) s n k ok base (were n k far) r.0 (λ m e. mine n (grind (arith, far))) r.1)
   names_known_word (UnnameCall i h j) s ok q were = known_after (UnnameCall i h j) s ok q were (λ m n e. grind arith)
       (λ l g k e. let o = other l g k e in (o.0, grind (arith, nat_tests, get-change, q.there l g k o.0, q.there i h k, q.once l i g h k o.0)))
     where
-      other : (l g k : ℕ) → subtask_in (change i (taking h) s.handles) l g ≡ Some (subtask.Guest k) → (subtask_at l g s ≡ Some (subtask.Guest k)) × (l ≡ i → g ≡ h → ⊥)
+      other : (l g k : ℕ) → subtask_in (change i (taking h) s.handles) l g ≡ Some (Subtask.Guest k) → (subtask_at l g s ≡ Some (Subtask.Guest k)) × (l ≡ i → g ≡ h → ⊥)
       other l g k e = grind (arith, nat_tests, get-change, get-remove)
   names_known_word (MakeCall f e x g group words) s ok q were = known_after (MakeCall f e x g group words) s ok q were (λ m n e. grind arith) (λ l h k d. (d, made h k (get s.calls k) refl (q.there l h k d)))
     where
-      made : (h k : ℕ) (o : Option Call) → get s.calls k ≡ o → option_and_then (λ c. c.handle) o ≡ Some h → subtask_handle (subtask.Guest k) (after_word (MakeCall f e x g group words) s) ≡ Some h
+      made : (h k : ℕ) (o : Option Call) → get s.calls k ≡ o → option_and_then (λ c. c.handle) o ≡ Some h → subtask_handle (Subtask.Guest k) (after_word (MakeCall f e x g group words) s) ≡ Some h
       made h k None is t = absurd (grind arith)
       made h k (Some c) is t = let below = q.number k c is in grind (arith, nat_tests, get-insert)
   names_known_word (RemoveCall j) s ok q were = known_after (RemoveCall j) s ok q were (λ m n e. grind arith)

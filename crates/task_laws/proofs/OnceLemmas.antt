@@ -4,8 +4,6 @@ use Rattle.std.proofs.lemmas.List.Recursion.{is_count_by}
 use Rattle.task_laws.proofs.Basics.{no_way}
 use Rattle.task_laws.proofs.WorksCame.{Doing, doing_of}
 use Rattle.task_laws.proofs.Works.{is_due}
-use Rattle.task_machine.specs.declared.records.Subtask.TheVariants as subtask
-use Rattle.task_machine.specs.declared.words.Status.TheVariants as status
 
 -- ---- Counting
 
@@ -41,8 +39,8 @@ end_there sub (Some x) h = let same = same_is sub x.subtask h in (x.status, rw s
 
 -- its number was given
 abbrev pub Given : Subtask → Core → Type 0
-Given (subtask.Guest k) s = k ≤ s.made.threads
-Given (subtask.Host i) s = i ≤ s.made.works
+Given (Subtask.Guest k) s = k ≤ s.made.threads
+Given (Subtask.Host i) s = i ≤ s.made.works
 
 -- the end of which this is the code has come, or its subtask is gone
 abbrev pub is_over_code : Option ℕ → Bool
@@ -80,9 +78,9 @@ covers_none (Some e) (Some f) same covers = let one = same e f refl refl in grin
 
 -- it has this end to hand out: by its event, as a result for main, or once its work is looked after
 abbrev pub Due : Subtask → Status → Core → Type 0
-Due (subtask.Guest k) e s = (undelivered_end (event_of (subtask.Guest k) s) ≡ Some e) ⊎
-    ((e ≡ status.Returned) × (is_some (get s.results k) ≡ true))
-Due (subtask.Host i) e s = (v : Doing) × ((doing_of i s ≡ Some v) × ((is_due v ≡ true) × (e ≡ host_status (course_value v.course))))
+Due (Subtask.Guest k) e s = (undelivered_end (event_of (Subtask.Guest k) s) ≡ Some e) ⊎
+    ((e ≡ Status.Returned) × (is_some (get s.results k) ≡ true))
+Due (Subtask.Host i) e s = (v : Doing) × ((doing_of i s ≡ Some v) × ((is_due v ≡ true) × (e ≡ host_status (course_value v.course))))
 
 -- it has ended, and nothing of it is to be handed out
 abbrev pub Out : Subtask → Core → Type 0

@@ -2,7 +2,7 @@
 use Rattle.task_rules.proofs.LawLemmas.{never_fewer}
 use Rattle.task_laws.proofs.CallsSteps.{of_base, calls_begin, step_goes}
 use Rattle.task_laws.proofs.CallEnds.{ends_go, tells_there}
-use Rattle.task_rules.proofs.Machine.{after_word, Allowed, Answers, ap, arith, Call, CallEnd, Core, course_of, covers_end, end_code, end_for, EndsByExit, EndsCall, EndsOwn, EndsSubtask, EndWords, event_of, false, get, goal_of, HandsAtOnce, HandsOut, has_end, has_ended, host_status, how_far_of, inl, inr, is_async_work, is_direct, is_over, is_some, is_stage_ended, IsNamed, IsPolled, IsReadyAtOnce, IsRunner, Label, LaterBy, le_trans, Moment, nat_tests, None, Option, option_and_then, option_map, refl, SaysEnd, Scene, scene_of, Setting, Some, State, Status, status_of_end, Step, Subtask, sym, TakesEvent, TakesResult, task_of, true, Turn, undelivered_end, Walked, Word, Writes, WritesAtOnce, WritesCall, WritesNever, WritesPolled, WritesToo, written, ℕ, ⊎_elim, ◌∙◌, ◌≡◌, ◌≤◌, ◌⊎◌}
+use Rattle.task_rules.proofs.Machine.{after_word, Allowed, Answers, ap, arith, Call, CallEnd, Core, course_of, covers_end, end_code, end_for, EndsByExit, EndsCall, EndsOwn, EndsSubtask, EndWords, event_of, false, get, goal_of, HandsAtOnce, HandsOut, has_end, has_ended, host_status, how_far_of, HowFar, inl, inr, is_async_work, is_direct, is_over, is_some, is_stage_ended, IsNamed, IsPolled, IsReadyAtOnce, IsRunner, Label, LaterBy, le_trans, Moment, nat_tests, None, Option, option_and_then, option_map, refl, SaysEnd, Scene, scene_of, Setting, Some, State, Status, status_of_end, Step, Subtask, sym, TakesEvent, TakesResult, task_of, true, Turn, undelivered_end, Walked, Word, Writes, WritesAtOnce, WritesCall, WritesNever, WritesPolled, WritesToo, written, ℕ, ⊎_elim, ◌∙◌, ◌≡◌, ◌≤◌, ◌⊎◌}
 use Rattle.task_laws.specs.Order.{Numbered}
 use Rattle.task_laws.specs.Rises.{CallsRise, Rises}
 use Rattle.task_laws.proofs.CallsLaw.{CallsGo, CallsHold, exits_unended}
@@ -18,16 +18,13 @@ use Rattle.task_laws.proofs.PolledWorks.{polled_is_live}
 use Rattle.task_laws.proofs.Basics.{some_none, too_high}
 use Rattle.task_laws.proofs.WorksCame.{Doing, doing, doing_of, is_late}
 use Rattle.task_laws.proofs.Works.{doing_or, doing_there, WorksGo, WorksHold, WorkWas, is_due, stage_ended, number_of}
-use Rattle.task_machine.specs.declared.records.HowFar.TheVariants as how_far
-use Rattle.task_machine.specs.declared.records.Subtask.TheVariants as subtask
-use Rattle.task_machine.specs.declared.words.Status.TheVariants as status
 
 -- ---- Calls before a step, and on its way
 
 -- the calls that come to an end are there: that of the running thread, and one that a handle names
 pub record CallsFound (a : Scene) : Type 0 where
   pub own : (n : ℕ) → IsRunner a n → is_some (get a.base.calls (task_of n a.base)) ≡ true
-  pub named : (k : ℕ) → IsNamed a (subtask.Guest k) → is_some (get a.base.calls k) ≡ true
+  pub named : (k : ℕ) → IsNamed a (Subtask.Guest k) → is_some (get a.base.calls k) ≡ true
 
 -- What is known of the calls before a step, on its way and after it.
 pub record CallsKnown (x : Setting) (s : State) (t : Core) (a : Scene) : Type 0 where
@@ -58,13 +55,13 @@ calls_known x s l t codes h told step w =
 
 -- ---- Ends
 
-call_code : (k : ℕ) (s : Core) → is_over_code (end_code (subtask.Guest k) s) ≡ is_over k s
+call_code : (k : ℕ) (s : Core) → is_over_code (end_code (Subtask.Guest k) s) ≡ is_over k s
 call_code k s = grind (arith, nat_tests)
 
-work_code : (i : ℕ) (s : Core) → is_over_code (end_code (subtask.Host i) s) ≡ has_end (course_of i s)
+work_code : (i : ℕ) (s : Core) → is_over_code (end_code (Subtask.Host i) s) ≡ has_end (course_of i s)
 work_code i s = grind (arith, nat_tests)
 
-pub call_keeps : {s t : Core} → Numbered s → CallsRise s t → s.made.threads ≤ t.made.threads → (k : ℕ) → Keeps s t (subtask.Guest k)
+pub call_keeps : {s t : Core} → Numbered s → CallsRise s t → s.made.threads ≤ t.made.threads → (k : ℕ) → Keeps s t (Subtask.Guest k)
 call_keeps numbered rises made k = record {
   made = λ there. grind (arith, numbered.calls k);
   counted = λ below. le_trans below made;
@@ -76,7 +73,7 @@ over_word : (a : Scene) (k : ℕ) → k ≤ a.base.made.threads → (w : Word) (
     is_over k (after_word w s) ≡ true
 over_word a k below w s ok over = let i : CallAfter a w s k = call_came w s ok k in grind arith
 
-no_withdrawal : (y : CallEnd) → status_of_end y ≡ status.StartCancelled → is_withdrawn y ≡ false → {A : Type 0} → A
+no_withdrawal : (y : CallEnd) → status_of_end y ≡ Status.StartCancelled → is_withdrawn y ≡ false → {A : Type 0} → A
 no_withdrawal y g f = absurd (grind arith)
 
 one_end : (o p : Option Call) (y z : Status) → LaterBy Rises o p → IsOfEnd y (option_and_then (λ (c : Call). c.«end») o) →
@@ -88,16 +85,16 @@ one_end o p y z later u v = grind arith
 course_is : (i : ℕ) (s : Core) (v : Doing) → doing_of i s ≡ Some v → course_of i s ≡ v.course
 course_is i s v is = grind arith
 
-event_there : (i : ℕ) (s : Core) (e : Status) → undelivered_end (event_of (subtask.Host i) s) ≡ Some e →
+event_there : (i : ℕ) (s : Core) (e : Status) → undelivered_end (event_of (Subtask.Host i) s) ≡ Some e →
     (v : Doing) × ((doing_of i s ≡ Some v) × (undelivered_end v.event ≡ Some e))
 event_there i s e h = let v = doing_there i s (grind arith) in let at = v.1 in (v.0, (at, grind arith))
 
-value_returns : (o : Option ℕ) → is_some o ≡ true → status.Returned ≡ host_status o
+value_returns : (o : Option ℕ) → is_some o ≡ true → Status.Returned ≡ host_status o
 value_returns o h = grind arith
 
 -- who goes on after its sync call of a host finds the work ended
 abbrev pub Answered : Scene → Type 0
-Answered a = (n i : ℕ) → IsRunner a n → how_far_of n a.base ≡ how_far.Calls (subtask.Host i) →
+Answered a = (n i : ℕ) → IsRunner a n → how_far_of n a.base ≡ HowFar.Calls (Subtask.Host i) →
     (v : Doing) × ((doing_of i a.base ≡ Some v) × ((is_sync_work v.caller ≡ true) × (is_late v.stage ≡ true)))
 
 -- an end stays
@@ -110,7 +107,7 @@ none_due : {a : Scene} (i : ℕ) (v u : Doing) → WorkWas a i u → doing_of i 
 none_due i v u w at ended async gone due = let there = w.there in let e = w.ended in let c = w.caller in grind arith
 
 pub host_keeps : {S : Type 0} (x : Setting) (s : State) (l : Label) (t : State) (next : Turn) → WorksHold S s.core →
-    WorksGo S (scene_of x s l next) t.core → (i : ℕ) → Keeps s.core t.core (subtask.Host i)
+    WorksGo S (scene_of x s l next) t.core → (i : ℕ) → Keeps s.core t.core (Subtask.Host i)
 host_keeps {S = S} x s l t next h go i = let q = plain x s l next (λ b. WorksGo S b t.core) go in record {
   made = λ there. let v = doing_there i s.core (grind arith) in number_of h i v.0 v.1;
   counted = λ below. le_trans below q.counted;
@@ -135,14 +132,14 @@ module _ (x : Setting) (s : State) (l : Label) (t : State) (next : Turn) (codes 
   abbrev Written : Subtask → Status → Type 0
   Written sub e = written x.component m ≡ Some (end_for e sub)
 
-  said : (k : ℕ) (e : Status) → SaysEnd a k e → Written (subtask.Guest k) e
+  said : (k : ℕ) (e : Status) → SaysEnd a k e → Written (Subtask.Guest k) e
   said = said_plain x s l next t.core
 
   writes : (sub : Subtask) (e : Status) → Written sub e → Writes a t.core sub
   writes sub e is = q.says.writes sub e (written_at x.component s.core a.base.queues t.core l _ is)
 
   abbrev event_at : ℕ → Core → Option Status
-  event_at k c = undelivered_end (event_of (subtask.Guest k) c)
+  event_at k c = undelivered_end (event_of (Subtask.Guest k) c)
 
   call_number : (k : ℕ) → is_some (get s.core.calls k) ≡ true → k ≤ s.core.made.threads
   call_number k there = grind (arith, q.before.numbered.calls k)
@@ -153,31 +150,31 @@ module _ (x : Setting) (s : State) (l : Label) (t : State) (next : Turn) (codes 
   ends_open k (EndsByExit (n, (runner, (is, (first, how))))) =
       let u = λ (c : Call). exits_unended a codes q.base n k c is first how in grind (arith, u)
 
-  pub written_new : (k : ℕ) (e : Status) → Written (subtask.Guest k) e → has_ended k s.core ≡ false
+  pub written_new : (k : ℕ) (e : Status) → Written (Subtask.Guest k) e → has_ended k s.core ≡ false
   written_new k e is = by _ refl (writes _ e is)
     where
-      by : (sub : Subtask) → sub ≡ subtask.Guest k → Writes a t.core sub → has_ended k s.core ≡ false
+      by : (sub : Subtask) → sub ≡ Subtask.Guest k → Writes a t.core sub → has_ended k s.core ≡ false
       by _ same (WritesCall j u end over walk) = let is : k ≡ j = cc in rw is (ends_open j end)
-      by _ same (WritesNever sub e) = let r = recorded a.base q.told_base k status.StartCancelled (rw same at e) in
+      by _ same (WritesNever sub e) = let r = recorded a.base q.told_base k Status.StartCancelled (rw same at e) in
           no_withdrawal r.ends r.status r.ran
       by _ same w = absurd (grind arith)
 
-  pub guest_covers : (k : ℕ) → covers_end (subtask.Guest k) m ≡ true → ⊥
+  pub guest_covers : (k : ℕ) → covers_end (Subtask.Guest k) m ≡ true → ⊥
   guest_covers k = covers_none _ _ (λ y z e f. let below = call_number k (grind arith) in
       one_end (get s.core.calls k) (get t.core.calls k) y z (q.rises k below) (recorded a.base q.told_base k y e)
       (recorded t.core q.told k z f))
 
   -- ---- What a call has to hand out
 
-  pub events_come : (k : ℕ) (e : Status) → event_at k t.core ≡ Some e → (event_at k s.core ≡ Some e) ⊎ Written (subtask.Guest k) e
+  pub events_come : (k : ℕ) (e : Status) → event_at k t.core ≡ Some e → (event_at k s.core ≡ Some e) ⊎ Written (Subtask.Guest k) e
   events_come k e tells = let r = tells_there k e t.core tells in
       ⊎_elim (λ b. inl b) (λ now. inr (said k e now.0)) (q.ends.events k e r.0 r.1.0 r.1.1).1
 
   pub results_come : (k : ℕ) → is_some (get t.core.results k) ≡ true →
-      (is_some (get s.core.results k) ≡ true) ⊎ Written (subtask.Guest k) status.Returned
-  results_come k there = ⊎_elim (λ b. inl b) (λ now. inr (said k status.Returned now.0)) (q.ends.results k there).1.1
+      (is_some (get s.core.results k) ≡ true) ⊎ Written (Subtask.Guest k) Status.Returned
+  results_come k there = ⊎_elim (λ b. inl b) (λ now. inr (said k Status.Returned now.0)) (q.ends.results k there).1.1
 
-  guest_comes : (k : ℕ) (e : Status) → Due (subtask.Guest k) e t.core → Due (subtask.Guest k) e s.core ⊎ Written (subtask.Guest k) e
+  guest_comes : (k : ℕ) (e : Status) → Due (Subtask.Guest k) e t.core → Due (Subtask.Guest k) e s.core ⊎ Written (Subtask.Guest k) e
   guest_comes k e (inl tells) = ⊎_elim (λ b. inl (inl b)) (λ now. inr now) (events_come k e tells)
   guest_comes k e (inr (is, there)) = ⊎_elim (λ b. inl (inr (is, b))) (λ now. inr (rw is now)) (results_come k there)
 
@@ -188,7 +185,7 @@ module _ (x : Setting) (s : State) (l : Label) (t : State) (next : Turn) (codes 
       let v = (q.told_base.events k e r.0 r.1.0 r.1.1).0 in let main = (q.told_base.results k there).1 r.0 r.1.0 in grind arith
 
   -- the end of a direct call isn't told, and a result of it for main was there before
-  direct_untold : (k : ℕ) → is_direct (goal_of k s.core) ≡ true → (e : Status) → Due (subtask.Guest k) e t.core →
+  direct_untold : (k : ℕ) → is_direct (goal_of k s.core) ≡ true → (e : Status) → Due (Subtask.Guest k) e t.core →
       is_some (get s.core.results k) ≡ true
   direct_untold k direct e (inl tells) =
       let r = tells_there k e t.core tells in let v = (q.told.events k e r.0 r.1.0 r.1.1).0 in
@@ -200,13 +197,13 @@ module _ (x : Setting) (s : State) (l : Label) (t : State) (next : Turn) (codes 
     v : WorksGo (Unit {0}) a t.core
     v = plain x s l next (λ b. WorksGo (Unit {0}) b t.core) go
 
-    host_covers : (i : ℕ) → covers_end (subtask.Host i) m ≡ true → ⊥
+    host_covers : (i : ℕ) → covers_end (Subtask.Host i) m ≡ true → ⊥
     host_covers i = covers_none _ _ (λ y z e f.
         let b = event_there i s.core y e in let u = event_there i t.core z f in let o = h.works i b.0 b.1.0 in let told = o.told y b.1.1 in
         let same = same_course i b.0 u.0 (v.was i u.0 u.1.0 (number_of h i b.0 b.1.0)) b.1.0 (o.late ∙ stage_ended b.0.stage told.0) in
         let was = told.1.1 in let now = ((v.holds.works i u.0 u.1.0).told z u.1.1).1.1 in cc)
 
-    host_comes : (i : ℕ) (e : Status) → Due (subtask.Host i) e t.core → Due (subtask.Host i) e s.core ⊎ Written (subtask.Host i) e
+    host_comes : (i : ℕ) (e : Status) → Due (Subtask.Host i) e t.core → Due (Subtask.Host i) e s.core ⊎ Written (Subtask.Host i) e
     host_comes i e (u, (at, (due, is))) =
         ⊎_elim (λ b. let same = b.1.1.1 in inl (b.0, (b.1.0, (b.1.1.0, cc)))) (λ shows. inr (rw shows (cc (course_is i t.core u at))))
         (v.due i u at due)
@@ -217,7 +214,7 @@ module _ (x : Setting) (s : State) (l : Label) (t : State) (next : Turn) (codes 
         (λ u. absurd (too_high is (number_of h i u.0 u.1))) (doing_or i s.core)
 
     polled_result : (j : ℕ) → IsPolled a j a.base → has_end (course_of j t.core) ≡ true →
-        (Over (subtask.Host j) s.core → ⊥) × Over (subtask.Host j) t.core
+        (Over (Subtask.Host j) s.core → ⊥) × Over (Subtask.Host j) t.core
     polled_result j polled ended =
         let live = polled_is_live polled.0 a.base j polled.1.1 in let u = doing_there j s.core (grind arith) in let at = u.1 in
         let o = h.works j u.0 at in let late = o.late in (
@@ -242,10 +239,10 @@ module _ (x : Setting) (s : State) (l : Label) (t : State) (next : Turn) (codes 
       says _ (WritesPolled j shows polled ended) = polled_result j polled ended
       says _ (WritesAtOnce j ready) = let none = ready_none j ready in
           (λ over. too_high ready.0 over.0, (omega (arith, ready.1.0), grind arith))
-      says _ (WritesNever (subtask.Guest k) e) = let r = recorded a.base q.told_base k status.StartCancelled e in
+      says _ (WritesNever (Subtask.Guest k) e) = let r = recorded a.base q.told_base k Status.StartCancelled e in
           no_withdrawal r.ends r.status r.ran
-      says _ (WritesNever (subtask.Host i) e) = let r = event_there i s.core status.StartCancelled e in
-          let o = ((h.works i r.0 r.1.0).told status.StartCancelled r.1.1).1.1 in absurd (grind arith)
+      says _ (WritesNever (Subtask.Host i) e) = let r = event_there i s.core Status.StartCancelled e in
+          let o = ((h.works i r.0 r.1.0).told Status.StartCancelled r.1.1).1.1 in absurd (grind arith)
 
       -- where the subtask had an end to hand out, none is written
       unwritten : (sub : Subtask) (e f : Status) → Due sub e s.core → Written sub f → ⊥
@@ -254,31 +251,31 @@ module _ (x : Setting) (s : State) (l : Label) (t : State) (next : Turn) (codes 
       abbrev Silent : Subtask → Type 0
       Silent sub = (f : Status) → Due sub f t.core → ⊥
 
-      event_out : (k : ℕ) (e : Status) → event_at k s.core ≡ Some e → event_at k t.core ≡ None → Silent (subtask.Guest k)
+      event_out : (k : ℕ) (e : Status) → event_at k s.core ≡ Some e → event_at k t.core ≡ None → Silent (Subtask.Guest k)
       event_out k e had gone f (inl tells) = absurd (cc)
       event_out k e had gone f (inr (is, there)) =
-          ⊎_elim (no_result k e had) (unwritten (subtask.Guest k) e status.Returned (inl had)) (results_come k there)
+          ⊎_elim (no_result k e had) (unwritten (Subtask.Guest k) e Status.Returned (inl had)) (results_come k there)
 
-      result_out : (k : ℕ) → is_some (get s.core.results k) ≡ true → get t.core.results k ≡ None → Silent (subtask.Guest k)
+      result_out : (k : ℕ) → is_some (get s.core.results k) ≡ true → get t.core.results k ≡ None → Silent (Subtask.Guest k)
       result_out k had gone f (inr (is, there)) = absurd (cc)
       result_out k had gone f (inl tells) =
-          ⊎_elim (λ old. no_result k f old had) (unwritten (subtask.Guest k) status.Returned f (inr (refl, had))) (events_come k f tells)
+          ⊎_elim (λ old. no_result k f old had) (unwritten (Subtask.Guest k) Status.Returned f (inr (refl, had))) (events_come k f tells)
 
       -- the call writes the end itself
-      own_out : (k : ℕ) (e : Status) → Written (subtask.Guest k) e →
-          (is_direct (goal_of k s.core) ≡ true) ⊎ (e ≡ status.StartCancelled) → Silent (subtask.Guest k)
+      own_out : (k : ℕ) (e : Status) → Written (Subtask.Guest k) e →
+          (is_direct (goal_of k s.core) ≡ true) ⊎ (e ≡ Status.StartCancelled) → Silent (Subtask.Guest k)
       own_out k e w (inl direct) f due =
-          unwritten (subtask.Guest k) status.Returned e (inr (refl, direct_untold k direct f due)) w
+          unwritten (Subtask.Guest k) Status.Returned e (inr (refl, direct_untold k direct f due)) w
       own_out k e w (inr is) f due =
-          ⊎_elim (λ old. unwritten (subtask.Guest k) f e old w) (λ said. told_end (grind arith) due) (guest_comes k f due)
+          ⊎_elim (λ old. unwritten (Subtask.Guest k) f e old w) (λ said. told_end (grind arith) due) (guest_comes k f due)
         where
-          told_end : f ≡ status.StartCancelled → Due (subtask.Guest k) f t.core → ⊥
+          told_end : f ≡ Status.StartCancelled → Due (Subtask.Guest k) f t.core → ⊥
           told_end is (inl tells) = let r = recorded t.core q.told k f tells in no_withdrawal r.ends (r.status ∙ is) r.ran
           told_end is (inr (returned, there)) = absurd (cc)
 
       -- what has ended, and had its end told, isn't due any more
-      host_out : (i : ℕ) (e : Status) → undelivered_end (event_of (subtask.Host i) s.core) ≡ Some e →
-          undelivered_end (event_of (subtask.Host i) t.core) ≡ None → Due (subtask.Host i) e s.core × Silent (subtask.Host i)
+      host_out : (i : ℕ) (e : Status) → undelivered_end (event_of (Subtask.Host i) s.core) ≡ Some e →
+          undelivered_end (event_of (Subtask.Host i) t.core) ≡ None → Due (Subtask.Host i) e s.core × Silent (Subtask.Host i)
       host_out i e had gone =
           let r = event_there i s.core e had in let at = r.1.0 in let tells = r.1.1 in let ends = (h.works i r.0 at).told e tells in (
             (r.0, (at, (grind arith, ends.1.1))),
@@ -286,12 +283,12 @@ module _ (x : Setting) (s : State) (l : Label) (t : State) (next : Turn) (codes 
                 none_due i r.0 due.0 was at ends.0 ends.1.0 (grind arith) due.1.1.0,
           )
 
-      none_out : (i : ℕ) → doing_of i t.core ≡ None → Silent (subtask.Host i)
+      none_out : (i : ℕ) → doing_of i t.core ≡ None → Silent (Subtask.Host i)
       none_out i none f due = some_none (sym due.1.0 ∙ none)
 
       hands : (sub : Subtask) (e : Status) → HandsOut a t.core sub e → (Due sub e s.core ⊎ Written sub e) × Silent sub
-      hands _ _ (TakesEvent (subtask.Guest k) e had gone) = (inl (inl had), event_out k e had gone)
-      hands _ _ (TakesEvent (subtask.Host i) e had gone) = let o = host_out i e had gone in (inl o.0, o.1)
+      hands _ _ (TakesEvent (Subtask.Guest k) e had gone) = (inl (inl had), event_out k e had gone)
+      hands _ _ (TakesEvent (Subtask.Host i) e had gone) = let o = host_out i e had gone in (inl o.0, o.1)
       hands _ _ (TakesResult k there gone) = (inl (inr (refl, there)), result_out k there gone)
       hands _ _ (WritesToo k e w why) = (inr (said k e w), own_out k e (said k e w) why)
       hands _ _ (HandsAtOnce i ready w) = (inr (said_at x.component s.core a.base.queues t.core l _ w), none_out i (ready_none i ready))
@@ -301,16 +298,16 @@ module _ (x : Setting) (s : State) (l : Label) (t : State) (next : Turn) (codes 
           (inl (r.0, (r.1.0, (grind arith, value_returns _ ((o.sync tt sync).1 ends)))), none_out i (ap (option_map doing) gone))
 
       keeps : (sub : Subtask) → Keeps s.core t.core sub
-      keeps (subtask.Guest k) = call_keeps q.before.numbered q.rises q.made k
-      keeps (subtask.Host i) = host_keeps x s l t next h go i
+      keeps (Subtask.Guest k) = call_keeps q.before.numbered q.rises q.made k
+      keeps (Subtask.Host i) = host_keeps x s l t next h go i
 
       covers : (sub : Subtask) → covers_end sub m ≡ true → ⊥
-      covers (subtask.Guest k) = guest_covers k
-      covers (subtask.Host i) = host_covers i
+      covers (Subtask.Guest k) = guest_covers k
+      covers (Subtask.Host i) = host_covers i
 
       comes : (sub : Subtask) (e : Status) → Due sub e t.core → Due sub e s.core ⊎ Written sub e
-      comes (subtask.Guest k) = guest_comes k
-      comes (subtask.Host i) = host_comes i
+      comes (Subtask.Guest k) = guest_comes k
+      comes (Subtask.Host i) = host_comes i
 
       pub step_ends : (sub : Subtask) → EndStep x.component m sub
       step_ends sub = record {

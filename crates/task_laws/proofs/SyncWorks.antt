@@ -1,29 +1,26 @@
 -- Sync calls of hosts: along the words of a step the work of a thread inside one is the thread's.
-use Rattle.task_rules.proofs.Machine.{after_word, Allowed, ap, arith, Core, fresh, get-empty, how_far_of, HowFar, inl, inr, instance_of, MayCome, MayRemoveWork, None, Option, refl, Scene, Some, Word, work_caller_of, ℕ, ⊎_elim, ◌∙◌, ◌≡◌, ◌≤◌, ◌⊎◌}
+use Rattle.task_rules.proofs.Machine.{after_word, Allowed, ap, arith, Core, fresh, get-empty, how_far_of, HowFar, inl, inr, instance_of, MayCome, MayRemoveWork, None, Option, refl, Scene, Some, Subtask, Word, work_caller_of, WorkCaller, ℕ, ⊎_elim, ◌∙◌, ◌≡◌, ◌≤◌, ◌⊎◌}
 use Rattle.task_laws.proofs.Basics.{too_high}
 use Rattle.task_laws.proofs.CallsCame.{op_came}
 use Rattle.task_laws.proofs.NamedWorks.{NamesNoSync, caller_stays, caller_is}
 use Rattle.task_laws.proofs.WorksCame.{Doing, doing_of}
 use Rattle.task_laws.proofs.Works.{doing_there, WorksGo, number_of}
 use Rattle.task_laws.specs.Ends.{MayBeAborted}
-use Rattle.task_machine.specs.declared.records.HowFar.TheVariants as how_far
-use Rattle.task_machine.specs.declared.records.Subtask.TheVariants as subtask
-use Rattle.task_machine.specs.declared.records.WorkCaller.TheVariants as work_caller
 
 -- the work of a thread inside a sync call of a host is the thread's
 abbrev pub CallersKnown : Core → Type 0
-CallersKnown s = (n i : ℕ) → how_far_of n s ≡ how_far.Calls (subtask.Host i) → work_caller_of i s ≡ work_caller.Sync n
+CallersKnown s = (n i : ℕ) → how_far_of n s ≡ HowFar.Calls (Subtask.Host i) → work_caller_of i s ≡ WorkCaller.Sync n
 
 abbrev called_work : HowFar → Option ℕ
-called_work (how_far.Calls (subtask.Host i)) = Some i
+called_work (HowFar.Calls (Subtask.Host i)) = Some i
 called_work f = None
 
-calls_work : (f : HowFar) (i : ℕ) → called_work f ≡ Some i → f ≡ how_far.Calls (subtask.Host i)
+calls_work : (f : HowFar) (i : ℕ) → called_work f ≡ Some i → f ≡ HowFar.Calls (Subtask.Host i)
 calls_work f i h = grind arith
 
 -- a sync call's work is there
-sync_there : (i n : ℕ) (s : Core) → work_caller_of i s ≡ work_caller.Sync n →
-    (v : Doing) × ((doing_of i s ≡ Some v) × (v.caller ≡ work_caller.Sync n))
+sync_there : (i n : ℕ) (s : Core) → work_caller_of i s ≡ WorkCaller.Sync n →
+    (v : Doing) × ((doing_of i s ≡ Some v) × (v.caller ≡ WorkCaller.Sync n))
 sync_there i n s h = let v = doing_there i s (grind arith) in let at = v.1 in (v.0, (at, grind arith))
 
 module _ {S : Type 0} (a : Scene) (low : (i : ℕ) (v : Doing) → doing_of i a.base ≡ Some v → i ≤ a.base.made.works)
@@ -34,7 +31,7 @@ module _ {S : Type 0} (a : Scene) (low : (i : ℕ) (v : Doing) → doing_of i a.
   old i (m, (runner, inr (ended, (free, (over, (h, named)))))) = (names (instance_of m a.base) h i named).made
 
   -- that of a thread inside the call isn't removed
-  removed : (n i : ℕ) → work_caller_of i s ≡ work_caller.Sync n → (how_far_of n s ≡ how_far.Fresh → ⊥) → MayRemoveWork a i s → ⊥
+  removed : (n i : ℕ) → work_caller_of i s ≡ WorkCaller.Sync n → (how_far_of n s ≡ HowFar.Fresh → ⊥) → MayRemoveWork a i s → ⊥
   removed n i caller inside (m, (runner, inl (far, fresh))) =
       let r = sync_there i n s caller in let was = q.was i r.0 r.1.0 (old i (m, (runner, inl (far, fresh)))) in
       let first = base m i far in let before = caller_is i a.base was.before was.there in let kept = was.caller in let now = r.1.1 in
@@ -45,12 +42,12 @@ module _ {S : Type 0} (a : Scene) (low : (i : ℕ) (v : Doing) → doing_of i a.
   pub callers_word : CallersKnown s → CallersKnown (after_word w s)
   callers_word c n i far = go (op_came called_work i w s ok n refl (ap called_work far))
     where
-      on : work_caller_of i s ≡ work_caller.Sync n → (MayRemoveWork a i s → ⊥) → work_caller_of i (after_word w s) ≡ work_caller.Sync n
+      on : work_caller_of i s ≡ WorkCaller.Sync n → (MayRemoveWork a i s → ⊥) → work_caller_of i (after_word w s) ≡ WorkCaller.Sync n
       on at not = let r = sync_there i n s at in
           ⊎_elim (λ e. e ∙ at) (λ gone. absurd (not gone.0)) (caller_stays a w s ok i (number_of q.holds i r.0 r.1.0))
 
       go : (called_work (how_far_of n s) ≡ Some i) ⊎ ((g : HowFar) × (MayCome a n g s × (called_work g ≡ Some i))) →
-          work_caller_of i (after_word w s) ≡ work_caller.Sync n
+          work_caller_of i (after_word w s) ≡ WorkCaller.Sync n
       go (inl was) = let caller = c n i (calls_work (how_far_of n s) i was) in on caller (removed n i caller (λ e. absurd (cc)))
       go (inr (g, (come, is))) = let m = rw (calls_work g i is) at come in on m.1.1.0 (λ may. too_high m.1.0.0 (old i may))
 

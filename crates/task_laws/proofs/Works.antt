@@ -1,11 +1,9 @@
 -- What host works come to along the words of a step: their ends, and what they have to hand out.
-use Rattle.task_rules.proofs.Machine.{after_word, Allowed, ap, arith, Bool, Core, course_value, false, fresh, get, get-empty, has_end, host_status, inl, inr, is_aborted, is_async_work, is_some, is_stage_ended, Label, le_refl, le_trans, MayAbort, None, Option, refl, Scene, scene_of, Setting, Some, Stage, State, Status, true, Turn, undelivered_end, Walked, Word, Work, ℕ, ⊎_elim, ◌&&◌, ◌||◌, ◌∙◌, ◌≡◌, ◌≤◌, ◌⊎◌}
+use Rattle.task_rules.proofs.Machine.{after_word, Allowed, ap, arith, Bool, Core, course_value, false, fresh, get, get-empty, has_end, host_status, inl, inr, is_aborted, is_async_work, is_some, is_stage_ended, Label, le_refl, le_trans, LoopLabel, MayAbort, None, Option, refl, Scene, scene_of, Setting, Some, Stage, State, Status, true, Turn, undelivered_end, Walked, Word, Work, ℕ, ⊎_elim, ◌&&◌, ◌||◌, ◌∙◌, ◌≡◌, ◌≤◌, ◌⊎◌}
 use Rattle.task_laws.proofs.CallsSteps.{of_base}
 use Rattle.task_laws.specs.Ends.{is_sync_work}
 use Rattle.task_laws.proofs.CountLemmas.{made_works_word}
 use Rattle.task_rules.proofs.ChainLemmas.{along}
-use Rattle.task_machine.specs.declared.label.Label.TheVariants as label
-use Rattle.task_machine.specs.declared.label.LoopLabel.TheVariants as loop_label
 use Rattle.task_laws.specs.Order.{is_finishing}
 use Rattle.task_laws.proofs.WorksCame.{Doing, doing_of, is_late, WorksStand, WorkCame, WorkAfter, work_came, stand_word}
 
@@ -32,7 +30,7 @@ is_due v = is_some (undelivered_end v.event) || (is_finishing v.stage || (has_en
 -- it was to be handed out before, or has come to its end in this step
 abbrev pub WasDue : Scene → ℕ → Doing → Type 0
 WasDue a i v = ((u : Doing) × ((doing_of i a.base ≡ Some u) × ((is_due u ≡ true) × (u.course ≡ v.course)))) ⊎
-    (a.label ≡ label.Loop (loop_label.FutureEnds i))
+    (a.label ≡ Label.Loop (LoopLabel.FutureEnds i))
 
 -- The work was there before, called by the same; an end stays, and it has ended once it has.
 pub record WorkWas (a : Scene) (i : ℕ) (v : Doing) : Type 0 where
@@ -94,7 +92,7 @@ module _ {S M : Type 0} {a : Scene} {s : Core} {b i : ℕ} {h g : ℕ × ℕ} {o
       }
 
   was_due : (u : Doing) → o ≡ Some u → is_due v ≡ true →
-      ((is_due u ≡ true) × (u.course ≡ v.course)) ⊎ (a.label ≡ label.Loop (loop_label.FutureEnds i))
+      ((is_due u ≡ true) × (u.course ≡ v.course)) ⊎ (a.label ≡ Label.Loop (LoopLabel.FutureEnds i))
   was_due u is due = grind (arith, q u is)
 
   due_came : is_due v ≡ true → ((u : Doing) → o ≡ Some u → is_due u ≡ true → WasDue a i u) → WasDue a i v

@@ -1,19 +1,11 @@
 -- What each word of a step does to a host work, and that works have their entries.
-use Rattle.task_rules.proofs.Machine.{[], add_call, add_group, add_set, add_thread, add_work, after_placing, after_word, Allowed, ap, arith, Bool, call_made, change, Core, count_work, Course, course_of, course_value, EndWork, Entry, false, FinishWork, free_handle, free_thread_handle, get, give_handle, give_result, give_thread_handle, has_end, host_status, HostDef, inl, inr, is_aborted, is_async_work, is_some, is_stage_ended, is_stage_live, List, Mark, MayAbort, MayFinish, MayRemoveWork, nat_tests, new_work, next_entry, next_work, None, on_call, on_instance, on_thread, on_work, one_if, Option, option_map, or_high, Pend, Phase, Places, poll_pends, popped, push_high, QueueWork, refl, remove_call, remove_group, remove_set, remove_thread, remove_work, RemoveWork, rest_of, Scene, set_backpressure, set_cancel_delivered, set_cancelled, set_course, set_do_not_enter, set_do_not_suspend, set_end, set_event, set_exited, set_high, set_how_far, set_join, set_own_event, set_phase, set_position, set_register, set_result, set_saved_callee, set_saved_own, set_script, set_stage, set_started, set_starting_published, set_subtask_handle, set_thread_handle, set_trapped, set_uninteresting, set_word, SetPhase, Some, Stage, stage_of, Status, sym, take_result, TakeHost, TakePush, TakeWorkEvent, true, unqueued, with_handle, with_thread_handle, Withdraw, Word, Work, work_caller_of, work_queued, WorkCaller, ℕ, ⊎_elim, ◌++◌, ◌+◌, ◌∙◌, ◌∷◌, ◌≡◌, ◌≤◌, ◌⊎◌}
+use Rattle.task_rules.proofs.Machine.{[], add_call, add_group, add_set, add_thread, add_work, after_placing, after_word, Allowed, ap, arith, Bool, call_made, change, change-change_same, Core, count_work, Course, course_of, course_value, EndWork, Entry, false, FinishWork, free_handle, free_thread_handle, get, get-change, give_handle, give_result, give_thread_handle, has_end, host_status, HostDef, inl, inr, is_aborted, is_async_work, is_some, is_stage_ended, is_stage_live, Label, List, LoopLabel, Mark, MayAbort, MayFinish, MayRemoveWork, nat_tests, new_work, next_entry, next_work, None, on_call, on_instance, on_thread, on_work, one_if, Option, option_map, or_high, Pend, Phase, Places, poll_pends, popped, push_high, QueueWork, refl, remove_call, remove_group, remove_set, remove_thread, remove_work, RemoveWork, rest_of, Scene, set_backpressure, set_cancel_delivered, set_cancelled, set_course, set_do_not_enter, set_do_not_suspend, set_end, set_event, set_exited, set_high, set_how_far, set_join, set_own_event, set_phase, set_position, set_register, set_result, set_saved_callee, set_saved_own, set_script, set_stage, set_started, set_starting_published, set_subtask_handle, set_thread_handle, set_trapped, set_uninteresting, set_word, SetPhase, Some, Stage, stage_of, Status, sym, take_result, TakeHost, TakePush, TakeWorkEvent, true, unqueued, with_handle, with_thread_handle, Withdraw, Word, Work, work_caller_of, work_queued, WorkCaller, ℕ, ⊎_elim, ◌++◌, ◌+◌, ◌∙◌, ◌∷◌, ◌≡◌, ◌≤◌, ◌⊎◌}
 use Rattle.task_laws.specs.Order.{is_host_of, is_push_of, stands}
 use Rattle.task_laws.proofs.CountLemmas.{made_works_word}
-use Rattle.task_machine.specs.declared.records.Course.TheVariants as course
-use Rattle.task_machine.specs.declared.records.Entry.TheVariants as entry
-use Rattle.task_machine.specs.declared.records.Stage.TheVariants as stage
-use Rattle.task_machine.specs.declared.words.Mark.TheVariants as mark
 use Rattle.task_laws.proofs.Basics.{no_way}
 use Rattle.task_rules.proofs.PlacingLemmas.{placing_works, unqueued_works, work_entries}
 use Rattle.task_laws.proofs.EachLemmas.{after_remove, at_change, at_insert}
 use Rattle.task_laws.proofs.PolledWorks.{polled_is_live}
-use Rattle.task_machine.proofs.CommuteLemmas.{change-change_same, get-change}
-use Rattle.task_machine.specs.declared.words.Phase.TheVariants as phase
-use Rattle.task_machine.specs.declared.label.Label.TheVariants as label
-use Rattle.task_machine.specs.declared.label.LoopLabel.TheVariants as loop_label
 use Rattle.task_laws.specs.Order.{is_queued, is_finishing}
 
 -- ---- What a work does
@@ -33,8 +25,8 @@ abbrev pub doing_of : ℕ → Core → Option Doing
 doing_of i s = option_map doing (get s.works i)
 
 abbrev pub is_late : Stage → Bool
-is_late stage.Finishing = true
-is_late stage.Ended = true
+is_late Stage.Finishing = true
+is_late Stage.Ended = true
 is_late _ = false
 
 -- ---- Entries
@@ -52,7 +44,7 @@ entries_for None = (0, 0)
 entries_for (Some v) = (one_if (is_queued v.stage), one_if (is_finishing v.stage))
 
 abbrev pub is_work_entry : Entry → Bool
-is_work_entry (entry.Thread n) = false
+is_work_entry (Entry.Thread n) = false
 is_work_entry _ = true
 
 stands_append : (test : Entry → Bool) (es : List Entry) (e : Entry) → stands test (es ++ e ∷ []) ≡ stands test es + one_if (test e)
@@ -68,10 +60,10 @@ pub same_standing : (i : ℕ) (es fs : List Entry) → work_entries fs ≡ work_
 same_standing i es fs h = sym (standing_works i fs) ∙ (ap (Standing i) h ∙ standing_works i es)
 
 taken_first : (m : Mark) (o : Option ℕ) (hs ls : List Entry) (e : Entry) → or_high o hs ls ≡ Some (m, e) → is_work_entry e ≡ true →
-    ((i : ℕ) → Standing i ls ≡ (0, 0)) → (hs ≡ e ∷ rest_of hs) × (m ≡ mark.High)
-taken_first m o hs ls (entry.Thread n) is h none = absurd (cc)
-taken_first m o hs ls (entry.Push i) is h none = grind (arith, nat_tests, none i)
-taken_first m o hs ls (entry.Host i) is h none = grind (arith, nat_tests, none i)
+    ((i : ℕ) → Standing i ls ≡ (0, 0)) → (hs ≡ e ∷ rest_of hs) × (m ≡ Mark.High)
+taken_first m o hs ls (Entry.Thread n) is h none = absurd (cc)
+taken_first m o hs ls (Entry.Push i) is h none = grind (arith, nat_tests, none i)
+taken_first m o hs ls (Entry.Host i) is h none = grind (arith, nat_tests, none i)
 
 -- the entry of a work that is taken is the first at high
 taken : (m : Mark) (e : Entry) (s : Core) → next_entry s ≡ Some (m, e) → is_work_entry e ≡ true →
@@ -94,17 +86,17 @@ pub data WorkCame (S M : Type 0) (a : Scene) (s : Core) (b i : ℕ) (h g : ℕ �
   Gone : p ≡ None → (S ⊎ (b + 1 ≤ i) → g ≡ (0, 0)) → WorkCame S M a s b i h g o p
   Made : (f : WorkCaller) (host : HostDef) → i ≡ next_work s → i ≤ b → p ≡ Some (doing (new_work f host None)) → g ≡ (1, 0) →
       WorkCame S M a s b i h g o p
-  Pends : (v : Doing) (host : HostDef) → o ≡ Some v → is_stage_live v.stage ≡ true → p ≡ Some (record v { course = course.Goes host }) →
+  Pends : (v : Doing) (host : HostDef) → o ≡ Some v → is_stage_live v.stage ≡ true → p ≡ Some (record v { course = Course.Goes host }) →
       g ≡ h → WorkCame S M a s b i h g o p
   Ends : (v : Doing) (c : Course) (x : Stage) → o ≡ Some v → is_stage_live v.stage ≡ true →
-      a.label ≡ label.Loop (loop_label.FutureEnds i) → has_end c ≡ true →
+      a.label ≡ Label.Loop (LoopLabel.FutureEnds i) → has_end c ≡ true →
       (course_value c ≡ None → (is_aborted v.phase ≡ true) ⊎ (has_end v.course ≡ true)) →
-      p ≡ Some (record v { course = c; phase = phase.Complete; stage = x }) → is_late x ≡ true →
+      p ≡ Some (record v { course = c; phase = Phase.Complete; stage = x }) → is_late x ≡ true →
       (is_finishing x ≡ true → is_async_work v.caller ≡ true) → g ≡ (h.0, h.1 + one_if (is_finishing x)) → WorkCame S M a s b i h g o p
-  Lives : (v : Doing) → o ≡ Some v → is_queued v.stage ≡ true → p ≡ Some (record v { stage = stage.Live }) → g ≡ (0, 0) →
+  Lives : (v : Doing) → o ≡ Some v → is_queued v.stage ≡ true → p ≡ Some (record v { stage = Stage.Live }) → g ≡ (0, 0) →
       WorkCame S M a s b i h g o p
   Done : (v : Doing) → o ≡ Some v → is_finishing v.stage ≡ true →
-      p ≡ Some (record v { stage = stage.Ended; event = Some (host_status (course_value v.course)) }) → g ≡ (0, 0) →
+      p ≡ Some (record v { stage = Stage.Ended; event = Some (host_status (course_value v.course)) }) → g ≡ (0, 0) →
       WorkCame S M a s b i h g o p
   Aborts : (v : Doing) (x : Phase) → o ≡ Some v → M → p ≡ Some (record v { phase = x }) → g ≡ h → WorkCame S M a s b i h g o p
   Takes : (v : Doing) → o ≡ Some v → p ≡ Some (record v { event = None }) → g ≡ h → WorkCame S M a s b i h g o p
@@ -141,11 +133,11 @@ module _ {S : Type 0} (a : Scene) (s : Core) (q : WorksStand S s)
       (is_finishing x ≡ true → is_async_work (work_caller_of j s) ≡ true) → ((i : ℕ) → (i ≡ j → ⊥) → g i ≡ High s i) →
       g j ≡ ((High s j).0, (High s j).1 + one_if (is_finishing x)) → (i : ℕ) →
       CameTo s.made.works i (g i) (get s.works i) (get (change j (λ w. record w { stage = x })
-      (change j (λ w. record w { phase = phase.Complete }) (change j (λ w. record w { course = c }) s.works))) i)
+      (change j (λ w. record w { phase = Phase.Complete }) (change j (λ w. record w { course = c }) s.works))) i)
   finishes j c x g may late async others own i =
       let live = polled_is_live may.0.0 s j may.0.1.1 in
-      rw (change-change_same s.works j (λ w. record w { phase = phase.Complete }) (λ w. record w { course = c }))
-      (rw (change-change_same s.works j (λ w. record w { stage = x }) (λ w. record w { course = c; phase = phase.Complete }))
+      rw (change-change_same s.works j (λ w. record w { phase = Phase.Complete }) (λ w. record w { course = c }))
+      (rw (change-change_same s.works j (λ w. record w { stage = x }) (λ w. record w { course = c; phase = Phase.Complete }))
       (changed j _ g others (λ none why. absurd (grind arith))
       (λ w at. Ends (doing w) c x refl (grind arith) may.1.0 may.1.1.0 (λ none. let r = may.1.1.1 none in grind arith) refl late
       (λ e. let r = async e in grind arith) own) i))
@@ -156,27 +148,27 @@ module _ {S : Type 0} (a : Scene) (s : Core) (q : WorksStand S s)
   work_came (Withdraw j) ok i = Same refl (same_standing i s.queues.high (unqueued j s).queues.high (unqueued_works j s).high)
   work_came (QueueWork f host group) ok i =
       let j = s.made.works + 1 in let n = q.number i in let h = q.high i in
-      at_insert (CameTo j i (Standing i (s.queues.high ++ entry.Push j ∷ []))) s.works j i _
+      at_insert (CameTo j i (Standing i (s.queues.high ++ Entry.Push j ∷ []))) s.works j i _
       (λ is. Made f host is (omega (arith, is)) refl (let z = h (inr (inr (omega (arith, is)))) in grind (arith, nat_tests, stands_append)))
       (λ e. Same refl (grind (arith, nat_tests, stands_append)))
   work_came (TakePush m j) ok i =
-      let t = taken m (entry.Push j) s ok refl q.low in let h = ap (Standing j) t.0 in
+      let t = taken m (Entry.Push j) s ok refl q.low in let h = ap (Standing j) t.0 in
       changed j _ (High (popped m s)) (λ i e. let h = ap (Standing i) t.0 in grind (arith, nat_tests))
       (λ none why. let z = q.high j (inr why) in grind (arith, nat_tests))
       (λ w at. let z = q.high j (inl (grind arith)) in Lives (doing w) refl (grind (arith, nat_tests)) refl (grind (arith, nat_tests))) i
   work_came (TakeHost m j) ok i =
-      let t = taken m (entry.Host j) s ok refl q.low in let h = ap (Standing j) t.0 in
+      let t = taken m (Entry.Host j) s ok refl q.low in let h = ap (Standing j) t.0 in
       rw (change-change_same s.works j (λ w. record w { event = Some (host_status (course_value (course_of j s))) })
-      (λ w. record w { stage = stage.Ended }))
+      (λ w. record w { stage = Stage.Ended }))
       (changed j _ (High (popped m s)) (λ i e. let h = ap (Standing i) t.0 in grind (arith, nat_tests))
       (λ none why. let z = q.high j (inr why) in grind (arith, nat_tests))
       (λ w at. let z = q.high j (inl (grind arith)) in
       Done (doing w) refl (grind (arith, nat_tests)) (rw at refl) (grind (arith, nat_tests))) i)
   work_came (Pend j host) ok i = let live = polled_is_live ok.0 s j ok.1.1 in
       turned j _ (λ w at. Pends (doing w) host refl (grind arith) refl refl) i
-  work_came (EndWork j c) ok i = finishes j c stage.Ended (High s) ok.0 refl (λ e. no_way e) (λ i e. refl) (grind arith) i
+  work_came (EndWork j c) ok i = finishes j c Stage.Ended (High s) ok.0 refl (λ e. no_way e) (λ i e. refl) (grind arith) i
   work_came (FinishWork j c) ok i =
-      finishes j c stage.Finishing (λ i. Standing i (s.queues.high ++ entry.Host j ∷ [])) ok.0 refl (λ e. ok.1)
+      finishes j c Stage.Finishing (λ i. Standing i (s.queues.high ++ Entry.Host j ∷ [])) ok.0 refl (λ e. ok.1)
       (λ i e. grind (arith, nat_tests, stands_append)) (grind (arith, nat_tests, stands_append)) i
   work_came (SetPhase j x) ok i = turned j _ (λ w at. Aborts (doing w) x refl ok.0 refl refl) i
   work_came (TakeWorkEvent j) ok i = turned j _ (λ w at. Takes (doing w) refl refl refl) i
@@ -189,8 +181,8 @@ module _ {S : Type 0} (a : Scene) (s : Core) (q : WorksStand S s)
   unfolding add_call add_group add_set add_thread add_work count_work free_handle free_thread_handle give_handle give_result give_thread_handle on_call on_instance on_thread on_work push_high remove_call remove_group remove_set remove_thread remove_work set_backpressure set_cancel_delivered set_cancelled set_course set_do_not_enter set_do_not_suspend set_end set_event set_exited set_how_far set_join set_own_event set_phase set_position set_register set_result set_saved_callee set_saved_own set_script set_stage set_started set_starting_published set_subtask_handle set_thread_handle set_trapped set_uninteresting set_word take_result call_made with_handle with_thread_handle work_queued poll_pends
   low_after (Places p) ok i = same_standing i _ _ (placing_works a p s ok).low ∙ q.low i
   low_after (Withdraw j) ok i = same_standing i _ _ (unqueued_works j s).low ∙ q.low i
-  low_after (TakePush m j) ok i = ap (Standing i) (taken m (entry.Push j) s ok refl q.low).1 ∙ q.low i
-  low_after (TakeHost m j) ok i = ap (Standing i) (taken m (entry.Host j) s ok refl q.low).1 ∙ q.low i
+  low_after (TakePush m j) ok i = ap (Standing i) (taken m (Entry.Push j) s ok refl q.low).1 ∙ q.low i
+  low_after (TakeHost m j) ok i = ap (Standing i) (taken m (Entry.Host j) s ok refl q.low).1 ∙ q.low i
   low_after w ok i = q.low i
 
   pub stand_word : (w : Word) → Allowed a w s → WorksStand S (after_word w s)

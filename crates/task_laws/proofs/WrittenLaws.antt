@@ -8,8 +8,6 @@ use Rattle.task_laws.proofs.SaidEnds.{hands_at, said_plain}
 use Rattle.task_laws.specs.Settings.{Reached}
 use Rattle.task_rules.proofs.LawLemmas.{never_fewer}
 use Rattle.task_rules.proofs.WalkSteps.{step_walks}
-use Rattle.task_machine.specs.declared.records.Subtask.TheVariants as subtask
-use Rattle.task_machine.specs.declared.words.Status.TheVariants as status
 use Rattle.task_laws.proofs.OnceLemmas.{Keeps, Over, counts_once, over_changes, over_stays}
 use Rattle.task_laws.proofs.StepEnds.{CallsKnown, calls_known, events_come, guest_covers, call_keeps, host_keeps, results_come, written_new}
 use Rattle.task_laws.proofs.ReachLemmas.{reached_keeps, reached_step}
@@ -47,10 +45,10 @@ ends_handed_as_told x s l t step k e out =
     let says = plain x s l q.next (λ a. EndWords a t.core) q.ends.says in
     by q.next _ e refl (says.hands _ e (hands_at x.component s.main s.core (base_at s.turn s.core).queues t.core l _ out))
   where
-    by : (next : Turn) (sub : Subtask) (f : Status) → sub ≡ subtask.Guest k → HandsOut (plain_scene x s l next) t.core sub f →
-        ((undelivered_end (event_of (subtask.Guest k) s.core) ≡ Some f) × (undelivered_end (event_of (subtask.Guest k) t.core) ≡ None)) ⊎
-        (((is_some (get s.core.results k) ≡ true) × ((f ≡ status.Returned) × (get t.core.results k ≡ None))) ⊎
-        (written_by x.component s.core l t.core ≡ Some (end_for f (subtask.Guest k))))
+    by : (next : Turn) (sub : Subtask) (f : Status) → sub ≡ Subtask.Guest k → HandsOut (plain_scene x s l next) t.core sub f →
+        ((undelivered_end (event_of (Subtask.Guest k) s.core) ≡ Some f) × (undelivered_end (event_of (Subtask.Guest k) t.core) ≡ None)) ⊎
+        (((is_some (get s.core.results k) ≡ true) × ((f ≡ Status.Returned) × (get t.core.results k ≡ None))) ⊎
+        (written_by x.component s.core l t.core ≡ Some (end_for f (Subtask.Guest k))))
     by next _ _ same (TakesEvent sub f had gone) = inl (rw same at had, rw same at gone)
     by next _ _ same (TakesResult j there gone) = inr (inl (let is : j ≡ k = cc in rw (← is) (there, (refl, gone))))
     by next _ _ same (WritesToo j f says why) = inr (inr (let is : j ≡ k = cc in rw (← is) (said_plain x s l next t.core j f says)))
@@ -65,9 +63,9 @@ reached_works {x = x} r = reached_keeps r (λ s. WorksHold ⊥ s.core)
     (opening_works r.instances r.handle_limit r.capacity)
 
 keeps : (x : Setting) (s : State) (l : Label) (t : State) → Reached x s → Step x s l t → (sub : Subtask) → Keeps s.core t.core sub
-keeps x s l t r step (subtask.Guest k) =
+keeps x s l t r step (Subtask.Guest k) =
     call_keeps (reached_holds r).numbered (known x s l t r step).rises (never_fewer x s l t step).threads k
-keeps x s l t r step (subtask.Host i) = let w = step_walks x s l t step in let h = reached_works r in
+keeps x s l t r step (Subtask.Host i) = let w = step_walks x s l t step in let h = reached_works r in
     host_keeps x s l t w.next h (works_go x s l t w (λ no. absurd no) h) i
 
 pub ends_written_once : EndsWrittenOnce

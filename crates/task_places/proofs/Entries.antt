@@ -1,8 +1,5 @@
 -- Entries that are taken out, entries of works, and new threads, beside a busy thread.
 use Rattle.task_rules.proofs.Machine.{[], add_thread, ap, arith, Bool, callers_of, cond, Core, entries, Entry, false, get-insert, has_entry, HasPlace, if◌then◌else◌, is_behind_of, is_entry_of, is_fresh, is_some, le_refl, less, less_switch, List, Mark, nat_tests, next_entry, None, on_thread, one_if, Option, Place, place_of, popped, promoted, put_switch, Queues, refl, remove_thread, rest_of, says, set_high, set_low, set_place, set_switch, Some, subst, switch_entries, sym, T, Thread, times, true, unqueued, Why, why_of, ℕ, ◌++◌, ◌+◌, ◌==◌, ◌∙◌, ◌∷◌, ◌≡◌, ◌≤◌}
-use Rattle.task_machine.specs.declared.records.Entry.TheVariants as entry
-use Rattle.task_machine.specs.declared.records.Place.TheVariants as place
-use Rattle.task_machine.specs.declared.words.Mark.TheVariants as mark
 use Rattle.task_rules.proofs.MoveLemmas.{removed_is, no_time, others, put_back, removed_gone, removed_loose, removed_placed, other_place, other_so}
 use Rattle.task_rules.proofs.StandLemmas.{Loose, Stand, by_number, entries-append, entries-less, eq_refl, zero_one, Watch, is_so, Left, left_loose, left_placed, by_count}
 use Rattle.task_rules.proofs.StopLemmas.{Untouched, fresh_apart, so_again}
@@ -58,26 +55,26 @@ unqueued_cleared m s h = go (has_entry m s.queues.high) refl
 
 -- where the entry stands first
 abbrev pub First : Mark → Entry → Core → Type 0
-First mark.Switch e s = (n : ℕ) × ((s.queues.switch ≡ Some n) × (e ≡ entry.Thread n))
-First mark.High e s = s.queues.high ≡ e ∷ rest_of s.queues.high
-First mark.Low e s = s.queues.low ≡ e ∷ rest_of s.queues.low
+First Mark.Switch e s = (n : ℕ) × ((s.queues.switch ≡ Some n) × (e ≡ Entry.Thread n))
+First Mark.High e s = s.queues.high ≡ e ∷ rest_of s.queues.high
+First Mark.Low e s = s.queues.low ≡ e ∷ rest_of s.queues.low
 
 pub next_first : (s : Core) (x : Mark) (e : Entry) → next_entry s ≡ Some (x, e) → First x e s
 unfolding next_entry
-next_first s mark.High e h = grind arith
-next_first s mark.Low e h = grind arith
-next_first s mark.Switch e h = go s.queues.switch refl
+next_first s Mark.High e h = grind arith
+next_first s Mark.Low e h = grind arith
+next_first s Mark.Switch e h = go s.queues.switch refl
   where
-    go : (o : Option ℕ) → s.queues.switch ≡ o → (n : ℕ) × ((s.queues.switch ≡ Some n) × (e ≡ entry.Thread n))
+    go : (o : Option ℕ) → s.queues.switch ≡ o → (n : ℕ) × ((s.queues.switch ≡ Some n) × (e ≡ Entry.Thread n))
     go (Some n) at = (n, (at, grind arith))
     go None at = absurd (grind arith)
 
 -- the entry of a thread leaves its mark
-pub popped_cleared : (x : Mark) (m : ℕ) (s : Core) → First x (entry.Thread m) s → HasPlace m s → Cleared m s (popped x s) × (1 ≤ switch_entries m s.queues.switch + entries m s.queues.high + entries m s.queues.low)
+pub popped_cleared : (x : Mark) (m : ℕ) (s : Core) → First x (Entry.Thread m) s → HasPlace m s → Cleared m s (popped x s) × (1 ≤ switch_entries m s.queues.switch + entries m s.queues.high + entries m s.queues.low)
 unfolding popped set_switch set_high set_low
-popped_cleared mark.Switch m s f h = (cleared m s _ h (grind (arith, nat_tests, has_one m s h)) (λ k o. (grind (arith, nat_tests), (refl, refl))), grind (arith, nat_tests))
-popped_cleared mark.High m s f h = let x = λ (k : ℕ). ap (entries k) f in (cleared m s _ h (grind (arith, nat_tests, has_one m s h, x m)) (λ k o. (refl, (grind (arith, nat_tests, x k), refl))), grind (arith, nat_tests, x m))
-popped_cleared mark.Low m s f h = let x = λ (k : ℕ). ap (entries k) f in (cleared m s _ h (grind (arith, nat_tests, has_one m s h, x m)) (λ k o. (refl, (refl, grind (arith, nat_tests, x k)))), grind (arith, nat_tests, x m))
+popped_cleared Mark.Switch m s f h = (cleared m s _ h (grind (arith, nat_tests, has_one m s h)) (λ k o. (grind (arith, nat_tests), (refl, refl))), grind (arith, nat_tests))
+popped_cleared Mark.High m s f h = let x = λ (k : ℕ). ap (entries k) f in (cleared m s _ h (grind (arith, nat_tests, has_one m s h, x m)) (λ k o. (refl, (grind (arith, nat_tests, x k), refl))), grind (arith, nat_tests, x m))
+popped_cleared Mark.Low m s f h = let x = λ (k : ℕ). ap (entries k) f in (cleared m s _ h (grind (arith, nat_tests, has_one m s h, x m)) (λ k o. (refl, (refl, grind (arith, nat_tests, x k)))), grind (arith, nat_tests, x m))
 
 rest_same : (k : ℕ) (e : Entry) (es : List Entry) → es ≡ e ∷ rest_of es → is_entry_of k e ≡ false → entries k (rest_of es) ≡ entries k es
 rest_same k e es is other = let x = ap (entries k) is in let y = ap one_if other in omega (arith, x, y)
@@ -85,9 +82,9 @@ rest_same k e es is other = let x = ap (entries k) is in let y = ap one_if other
 -- that of a work leaves all threads'
 pub popped_quiet : (x : Mark) (e : Entry) (s : Core) → First x e s → ((k : ℕ) → is_entry_of k e ≡ false) → Untouched s (popped x s)
 unfolding popped set_switch set_high set_low
-popped_quiet mark.Switch e s f other = absurd (subst T (sym (sym (other f.0) ∙ (ap (is_entry_of f.0) f.1.1 ∙ eq_refl f.0))) tt)
-popped_quiet mark.High e s f other = record { places = λ k. refl; switch = λ k. refl; high = λ k. rest_same k e s.queues.high f (other k); low = λ k. refl; callers = refl; made = le_refl _ }
-popped_quiet mark.Low e s f other = record { places = λ k. refl; switch = λ k. refl; high = λ k. refl; low = λ k. rest_same k e s.queues.low f (other k); callers = refl; made = le_refl _ }
+popped_quiet Mark.Switch e s f other = absurd (subst T (sym (sym (other f.0) ∙ (ap (is_entry_of f.0) f.1.1 ∙ eq_refl f.0))) tt)
+popped_quiet Mark.High e s f other = record { places = λ k. refl; switch = λ k. refl; high = λ k. rest_same k e s.queues.high f (other k); low = λ k. refl; callers = refl; made = le_refl _ }
+popped_quiet Mark.Low e s f other = record { places = λ k. refl; switch = λ k. refl; high = λ k. refl; low = λ k. rest_same k e s.queues.low f (other k); callers = refl; made = le_refl _ }
 
 pub pushed_same : (k : ℕ) (es : List Entry) (e : Entry) → is_entry_of k e ≡ false → entries k (es ++ e ∷ []) ≡ entries k es
 pushed_same k es e other = let x = entries-append k es e in let y = ap one_if other in omega (arith, x, y)
@@ -98,10 +95,10 @@ promoted_is : (m : ℕ) (s : Core) → promoted m s ≡ put_switch m (why_of m s
 unfolding promoted put_switch set_switch set_place on_thread
 promoted_is m s = refl
 
-pub promoted_stand : {P : ℕ → Watch} (n : ℕ) (q : Option Place) (m : ℕ) (x : Mark) (w : Why) (s : Core) → (m == n) ≡ false → place_of m s ≡ Some (place.Ready x w) → s.queues.switch ≡ None → Stand P n q [] s → Stand P n q [] (promoted m s)
+pub promoted_stand : {P : ℕ → Watch} (n : ℕ) (q : Option Place) (m : ℕ) (x : Mark) (w : Why) (s : Core) → (m == n) ≡ false → place_of m s ≡ Some (Place.Ready x w) → s.queues.switch ≡ None → Stand P n q [] s → Stand P n q [] (promoted m s)
 promoted_stand {P = P} n q m x w s apart at none st =
-    subst (λ (t : Core). Stand P n q [] t) (sym (promoted_is m s)) (put_back n q mark.Switch m (why_of m s) u (ap (λ (o : Option Place). is_some o) (c.places m ∙ at))
-    (λ h. grind (arith, so_again (P m) mark.Switch x w, (st.kept m h).1)) up)
+    subst (λ (t : Core). Stand P n q [] t) (sym (promoted_is m s)) (put_back n q Mark.Switch m (why_of m s) u (ap (λ (o : Option Place). is_some o) (c.places m ∙ at))
+    (λ h. grind (arith, so_again (P m) Mark.Switch x w, (st.kept m h).1)) up)
   where
     u : Core
     u = set_switch None (unqueued m s)
@@ -114,7 +111,7 @@ promoted_stand {P = P} n q m x w s apart at none st =
       here = c.places n ∙ st.here;
       once = λ k. by_count k m _ (λ e y. let z = ap one_if (ap (λ (j : ℕ). j == n) e ∙ apart) in omega (arith, y, z)) (λ e y. omega (arith, st.once k, y));
       loose = λ k h. by_count k m _ (λ e y. subst (λ (j : ℕ). Loose j u) (sym e) (c.own (λ f. ap (says (is_behind_of f)) at))) (λ e y. left_loose k s u (c.left k e) (st.loose k (omega (arith, h, y))));
-      there = λ k h. by_count k m _ (λ e y. (place.Ready x w, ap (λ (j : ℕ). place_of j u) e ∙ (c.places m ∙ at))) (λ e y. absurd (omega (arith, h, y)));
+      there = λ k h. by_count k m _ (λ e y. (Place.Ready x w, ap (λ (j : ℕ). place_of j u) e ∙ (c.places m ∙ at))) (λ e y. absurd (omega (arith, h, y)));
       placed = λ k h. by_count k m _ (λ e y. absurd (omega (arith, h, y))) (λ e y. left_placed k s u (c.left k e) (c.places k) (st.placed k (omega (arith, h))));
       kept = λ k h. let o = other_so P m k s h (λ e g. (st.kept k g).1) in (grind (arith, o.0), ap (is_so (others P m k)) (c.places k) ∙ o.1);
     }
@@ -165,7 +162,7 @@ none_cut : (b : Bool) (x : ℕ) → x ≡ 0 → cond b 0 x ≡ 0
 none_cut b x h = grind arith
 
 -- it has the next number, which was no thread's, and behind which nobody was
-pub added_stand : {P : ℕ → Watch} (n : ℕ) (q : Option Place) (t : Thread) (s : Core) → (n == s.made.threads + 1) ≡ false → t.place ≡ place.New → Stand P n q [] s → Stand P n q [] (add_thread t s)
+pub added_stand : {P : ℕ → Watch} (n : ℕ) (q : Option Place) (t : Thread) (s : Core) → (n == s.made.threads + 1) ≡ false → t.place ≡ Place.New → Stand P n q [] s → Stand P n q [] (add_thread t s)
 unfolding add_thread
 added_stand {P = P} n q t s apart new st = record {
   here = added_other t s n apart ∙ st.here;
@@ -188,7 +185,7 @@ added_stand {P = P} n q t s apart new st = record {
     gone : place_of (s.made.threads + 1) s ≡ None
     gone = grind (arith, before.number)
 
-    here : place_of (s.made.threads + 1) u ≡ Some place.New
+    here : place_of (s.made.threads + 1) u ≡ Some Place.New
     here = added_here t s ∙ ap (λ (p : Place). Some p) new
 
     own : HasPlace (s.made.threads + 1) u

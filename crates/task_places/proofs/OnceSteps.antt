@@ -1,6 +1,5 @@
 -- Each step owes of the ends what it should, and so each run has each end once.
-use Rattle.task_rules.proofs.Machine.{[], AbortsOwn, ap, arith, base_at, Bool, Call, Core, Entry, false, fresh, get, get-empty, how_far_of, inl, inr, instance_of, is_some, is_spawn, is_spawn_caller, is_stage_ended, IsRunner, Label, le_refl, Main, MainPlace, Mark, next_entry, None, opening, Option, option_and_then, option_map, option_map_or, Place, place_of, ProgramAborts, refl, runner_at, SameMain, Scene, scene_of, ScriptAborts, Scripted, Setting, slice_get, Some, spawned_at, stage_of, State, Status, Step, subst, Subtask, subtask_at, subtask_handle, suc, sym, task_of, thread_of_entry, true, Turn, undelivered_end, Unscripted, unwrap_or, Walked, Work, work_caller_of, zero, ℕ, ⊎_elim, ◌&&◌, ◌-◌, ◌∙◌, ◌≡◌, ◌≤◌, ◌⊎◌}
-use Rattle.task_laws.proofs.NamedCalls.{NamesGo, NamesKnown, names_go_word, opening_names_known}
+use Rattle.task_rules.proofs.Machine.{[], AbortsOwn, ap, arith, base_at, Bool, Call, Core, Entry, false, fresh, get, get-empty, how_far_of, HowFar, inl, inr, instance_of, is_some, is_spawn, is_spawn_caller, is_stage_ended, IsRunner, Label, le_refl, Main, MainPlace, Mark, next_entry, None, opening, Option, option_and_then, option_map, option_map_or, Place, place_of, ProgramAborts, refl, runner_at, SameMain, Scene, scene_of, ScriptAborts, Scripted, Setting, slice_get, Some, spawned_at, stage_of, State, Status, Step, subst, Subtask, subtask_at, subtask_handle, suc, sym, task_of, thread_of_entry, true, Turn, undelivered_end, Unscripted, unwrap_or, Walked, Work, work_caller_of, WorkCaller, zero, ℕ, ⊎_elim, ◌&&◌, ◌-◌, ◌∙◌, ◌≡◌, ◌≤◌, ◌⊎◌}
 use Rattle.task_laws.proofs.NamedWorks.{NamesNoSync, abort_kept, caller_is, names_word, opening_names}
 use Rattle.task_laws.proofs.Basics.{no_way}
 use Rattle.task_laws.proofs.CallsLaw.{CallsHold}
@@ -10,7 +9,7 @@ use Rattle.task_rules.proofs.ChainLemmas.{along}
 use Rattle.task_laws.proofs.CallEnds.{EndsTold, opening_ends_told}
 use Rattle.task_laws.proofs.OnceLemmas.{Due, Over, EndStep, due_over, ends_once}
 use Rattle.task_laws.proofs.SceneLemmas.{base_is, runner_there}
-use Rattle.task_laws.specs.Ends.{CalledThere, is_sync_work, MayBeAborted, SyncUnnamed}
+use Rattle.task_laws.specs.Ends.{is_sync_work, MayBeAborted, SyncUnnamed}
 use Rattle.task_laws.proofs.SyncWorks.{CallersKnown, callers_word, opening_callers}
 use Rattle.task_laws.proofs.WorksCame.{Doing, doing, doing_of, is_late}
 use Rattle.task_laws.proofs.Works.{AbortsNoSync, WorksGo, WorksHold, number_of, opening_works, first_works, works_word}
@@ -22,12 +21,6 @@ use Rattle.task_laws.proofs.ReachLemmas.{reached_step}
 use Rattle.task_laws.proofs.StepEnds.{Answered, CallsFound, CallsKnown, calls_known, step_ends}
 use Rattle.task_places.specs.Once.{RunsAreOnce, IsUnbegun}
 use Rattle.task_places.proofs.OrderLemmas.{opening_in_order, step_in_order}
-use Rattle.task_machine.specs.declared.records.Subtask.TheVariants as subtask
-use Rattle.task_machine.specs.declared.records.HowFar.TheVariants as how_far
-use Rattle.task_machine.specs.declared.records.WorkCaller.TheVariants as work_caller
-use Rattle.task_machine.specs.declared.records.Entry.TheVariants as entry
-use Rattle.task_machine.specs.declared.records.Turn.TheVariants as turn
-use Rattle.task_machine.specs.declared.records.Place.TheVariants as place
 
 -- ---- What is known before a step
 
@@ -42,7 +35,6 @@ record Known (x : Setting) (s : State) : Type 0 where
   works : WorksHold (Unit {0}) s.core
   unnamed : SyncUnnamed s
   callers : CallersKnown s.core
-  names : NamesKnown s.core
   zero : MayBeAborted s.core 0
   over : DueOver s.core
 
@@ -56,13 +48,13 @@ work_there P i s h = at (get s.works i) refl h
     at None is g = no_way g
     at (Some w) is g = (w, (is, g))
 
-named_there : (k h : ℕ) (s : Core) → subtask_handle (subtask.Guest k) s ≡ Some h → is_some (get s.calls k) ≡ true
+named_there : (k h : ℕ) (s : Core) → subtask_handle (Subtask.Guest k) s ≡ Some h → is_some (get s.calls k) ≡ true
 named_there k h s e = grind arith
 
 spawn_other : (i : ℕ) (s : Core) → is_spawn i s ≡ true → (v : Doing) × ((doing_of i s ≡ Some v) × (is_sync_work v.caller ≡ false))
 spawn_other i s h = let r = work_there (λ w. is_spawn_caller w.caller) i s h in (doing r.0, (ap (option_map doing) r.1.0, grind arith))
 
-waited_there : (n i : ℕ) (s : Core) → work_caller_of i s ≡ work_caller.Sync n → is_stage_ended (stage_of i s) ≡ true → (v : Doing) × ((doing_of i s ≡ Some v) × ((is_sync_work v.caller ≡ true) × (is_late v.stage ≡ true)))
+waited_there : (n i : ℕ) (s : Core) → work_caller_of i s ≡ WorkCaller.Sync n → is_stage_ended (stage_of i s) ≡ true → (v : Doing) × ((doing_of i s ≡ Some v) × ((is_sync_work v.caller ≡ true) × (is_late v.stage ≡ true)))
 waited_there n i s caller ended = let r = work_there (λ w. is_sync_work w.caller && is_late w.stage) i s (grind arith) in (doing r.0, (ap (option_map doing) r.1.0, grind arith))
 
 abbrev is_script : Main → Bool
@@ -70,10 +62,10 @@ is_script (Scripted p) = true
 is_script Unscripted = false
 
 abbrev is_blocked : Option Place → Bool
-is_blocked (Some (place.Blocked sub)) = true
+is_blocked (Some (Place.Blocked sub)) = true
 is_blocked _ = false
 
-module _ (x : Setting) (s : State) (l : Label) (t : State) (k : Known x s) (f : CalledThere s) (step : Step x s l t) where
+module _ (x : Setting) (s : State) (l : Label) (t : State) (k : Known x s) (step : Step x s l t) where
   w : Walked x s l t
   w = step_walks x s l t step
 
@@ -93,7 +85,7 @@ module _ (x : Setting) (s : State) (l : Label) (t : State) (k : Known x s) (f : 
   at_first i h = let q = from_base (λ c. MayBeAborted c i) h in record { made = q.made; other = q.other }
 
   names_base : NamesNoSync a.base
-  names_base i h j e = at_base j (k.unnamed.works i h j (from_base (λ c. subtask_at i h c ≡ Some (subtask.Host j)) e))
+  names_base i h j e = at_base j (k.unnamed.works i h j (from_base (λ c. subtask_at i h c ≡ Some (Subtask.Host j)) e))
 
   -- nothing that is aborted is a sync call's
   unsync : AbortsNoSync a
@@ -119,13 +111,6 @@ module _ (x : Setting) (s : State) (l : Label) (t : State) (k : Known x s) (f : 
       ))
       (first_works x s l w.next k.works, (k.unnamed.works, (λ i h. h, k.callers))) w.walk
 
-  names_base_known : NamesKnown a.base
-  names_base_known = to_base NamesKnown (record { there = k.names.there; once = k.names.once; number = k.names.number; called = k.names.called })
-
-  -- which calls handles and ops name
-  names_after : NamesGo a t.core
-  names_after = along (NamesGo a) (λ v u ok q. names_go_word a names_base_known (λ n j runs. to_base (λ c. how_far_of n c ≡ how_far.Calls (subtask.Guest j) → is_some (get c.calls j) ≡ true) (f n j runs)) v u ok q) (record { known = k.names; were = λ n j far. inl (to_base (λ c. how_far_of n c ≡ how_far.Calls (subtask.Guest j)) far) }) w.walk
-
   spawns_after : (p : MainPlace) (j : ℕ) → t.main ≡ Scripted p → MayBeAborted t.core (spawned_at p j)
   spawns_after p j at = by s.main refl t.main at w.main
     where
@@ -149,18 +134,18 @@ module _ (x : Setting) (s : State) (l : Label) (t : State) (k : Known x s) (f : 
   unblocked n runner = by_turn s.turn refl runner
     where
       by_turn : (u : Turn) → s.turn ≡ u → runner_at u s.core ≡ Some n → is_blocked (place_of n s.core) ≡ false
-      by_turn (turn.Run m) at is = ap is_blocked (k.order.in_place.runs n (at ∙ ap (λ (o : Option ℕ). turn.Run (unwrap_or o n)) is))
-      by_turn (turn.Take ended) at is = taken (next_entry s.core) refl is
+      by_turn (Turn.Run m) at is = ap is_blocked (k.order.in_place.runs n (at ∙ ap (λ (o : Option ℕ). Turn.Run (unwrap_or o n)) is))
+      by_turn (Turn.Take ended) at is = taken (next_entry s.core) refl is
         where
           taken : (o : Option (Mark × Entry)) → next_entry s.core ≡ o → thread_of_entry o ≡ Some n → is_blocked (place_of n s.core) ≡ false
-          taken (Some (y, entry.Thread m)) e g = subst (λ (j : ℕ). is_blocked (place_of j s.core) ≡ false) (ap (λ (o : Option ℕ). unwrap_or o n) g) (let r = entry_ready m s.core (k.order.in_place.placed m) (popped_cleared y m s.core (next_first s.core y (entry.Thread m) e) (k.order.in_place.placed m)).1 in ap is_blocked r.1.1)
+          taken (Some (y, Entry.Thread m)) e g = subst (λ (j : ℕ). is_blocked (place_of j s.core) ≡ false) (ap (λ (o : Option ℕ). unwrap_or o n) g) (let r = entry_ready m s.core (k.order.in_place.placed m) (popped_cleared y m s.core (next_first s.core y (Entry.Thread m) e) (k.order.in_place.placed m)).1 in ap is_blocked r.1.1)
           taken o e g = absurd (grind arith)
       by_turn u at is = absurd (grind arith)
 
   answered : Answered a
-  answered n i runner far = to_base (λ c. (v : Doing) × ((doing_of i c ≡ Some v) × ((is_sync_work v.caller ≡ true) × (is_late v.stage ≡ true)))) (at (from_base (λ c. how_far_of n c ≡ how_far.Calls (subtask.Host i)) far))
+  answered n i runner far = to_base (λ c. (v : Doing) × ((doing_of i c ≡ Some v) × ((is_sync_work v.caller ≡ true) × (is_late v.stage ≡ true)))) (at (from_base (λ c. how_far_of n c ≡ HowFar.Calls (Subtask.Host i)) far))
     where
-      at : how_far_of n s.core ≡ how_far.Calls (subtask.Host i) → (v : Doing) × ((doing_of i s.core ≡ Some v) × ((is_sync_work v.caller ≡ true) × (is_late v.stage ≡ true)))
+      at : how_far_of n s.core ≡ HowFar.Calls (Subtask.Host i) → (v : Doing) × ((doing_of i s.core ≡ Some v) × ((is_sync_work v.caller ≡ true) × (is_late v.stage ≡ true)))
       at far = ⊎_elim (λ blocked. no_way (sym (unblocked n runner) ∙ ap is_blocked blocked)) (λ ended. waited_there n i s.core (k.callers n i far) ended) (k.order.awaited n i far).1
 
   holds : CallsHold x.component s.core
@@ -169,7 +154,7 @@ module _ (x : Setting) (s : State) (l : Label) (t : State) (k : Known x s) (f : 
   found : CallsFound a
   found = record {
     own = λ n runner. to_base (λ c. is_some (get c.calls (task_of n c)) ≡ true) (let there = runner_there x s l w.next k.order.in_place n runner in grind (arith, k.order.calls_there n (task_of n s.core)));
-    named = λ j named. to_base (λ c. (i h : ℕ) → subtask_at i h c ≡ Some (subtask.Guest j) → is_some (get c.calls j) ≡ true) (λ i h e. named_there j h s.core (k.names.there i h j e)) (instance_of named.0 a.base) named.1.0 named.1.1.1;
+    named = λ j named. to_base (λ c. (i h : ℕ) → subtask_at i h c ≡ Some (Subtask.Guest j) → is_some (get c.calls j) ≡ true) (λ i h e. named_there j h s.core (k.order.names.there i h j e)) (instance_of named.0 a.base) named.1.0 named.1.1.1;
   }
 
   calls : CallsKnown x s t.core a
@@ -186,7 +171,6 @@ module _ (x : Setting) (s : State) (l : Label) (t : State) (k : Known x s) (f : 
     works = works_after.0.holds;
     unnamed = record { works = works_after.1.0; spawns = spawns_after };
     callers = works_after.1.1.1;
-    names = names_after.known;
     zero = works_after.1.1.0 0 k.zero;
     over = λ sub e due. due_over (end_step sub) e ((end_step sub).comes e due);
   }
@@ -195,13 +179,13 @@ module _ (x : Setting) (s : State) (l : Label) (t : State) (k : Known x s) (f : 
 
 none_due : (instances handle_limit capacity : ℕ) (sub : Subtask) (e : Status) → Due sub e (fresh instances handle_limit capacity) → ⊥
 unfolding fresh
-none_due instances handle_limit capacity (subtask.Guest j) e (inl tells) = absurd (no_way (ap (λ (o : Option Status). is_some o) (sym (ap (λ (o : Option Call). undelivered_end (option_and_then (λ (c : Call). c.event) o)) (get-empty j)) ∙ tells)))
-none_due instances handle_limit capacity (subtask.Guest j) e (inr (is, there)) = no_way (ap (λ (o : Option ℕ). is_some o) (sym (get-empty j)) ∙ there)
-none_due instances handle_limit capacity (subtask.Host i) e (v, (at, due)) = no_way (ap (λ (o : Option Doing). is_some o) (sym (ap (option_map doing) (get-empty i)) ∙ at))
+none_due instances handle_limit capacity (Subtask.Guest j) e (inl tells) = absurd (no_way (ap (λ (o : Option Status). is_some o) (sym (ap (λ (o : Option Call). undelivered_end (option_and_then (λ (c : Call). c.event) o)) (get-empty j)) ∙ tells)))
+none_due instances handle_limit capacity (Subtask.Guest j) e (inr (is, there)) = no_way (ap (λ (o : Option ℕ). is_some o) (sym (get-empty j)) ∙ there)
+none_due instances handle_limit capacity (Subtask.Host i) e (v, (at, due)) = no_way (ap (λ (o : Option Doing). is_some o) (sym (ap (option_map doing) (get-empty i)) ∙ at))
 
 zero_unmade : (instances handle_limit capacity : ℕ) → MayBeAborted (fresh instances handle_limit capacity) 0
 unfolding fresh
-zero_unmade instances handle_limit capacity = record { made = le_refl _; other = ap (λ (o : Option Work). is_sync_work (option_map_or (λ w. w.caller) o work_caller.Spawn)) (get-empty 0) }
+zero_unmade instances handle_limit capacity = record { made = le_refl _; other = ap (λ (o : Option Work). is_sync_work (option_map_or (λ w. w.caller) o WorkCaller.Spawn)) (get-empty 0) }
 
 opening_spawns : (instances handle_limit capacity : ℕ) (main : Main) → IsUnbegun main → (p : MainPlace) (j : ℕ) → main ≡ Scripted p → MayBeAborted (fresh instances handle_limit capacity) (spawned_at p j)
 opening_spawns instances handle_limit capacity Unscripted begun p j is = no_way (ap is_script is)
@@ -216,9 +200,9 @@ opening_spawns instances handle_limit capacity (Scripted q) begun p j is = subst
     none_spawned (suc n) = zero_unmade instances handle_limit capacity
 
 pub runs_are_once : RunsAreOnce
-runs_are_once x codes found instances handle_limit capacity main begun ls t run =
+runs_are_once x codes instances handle_limit capacity main begun ls t run =
     let s : State = opening instances handle_limit capacity main in
-    ends_once x (Known x) (λ s l t k step. known_after x s l t k (found s k.reached) step) (λ s l t k step sub. end_step x s l t k (found s k.reached) step sub) s
+    ends_once x (Known x) (λ s l t k step. known_after x s l t k step) (λ s l t k step sub. end_step x s l t k step sub) s
     (record {
       reached = record { scripts = codes; instances = instances; handle_limit = handle_limit; capacity = capacity; main = main; labels = []; run = refl };
       order = opening_in_order x.component codes instances handle_limit capacity main;
@@ -226,7 +210,6 @@ runs_are_once x codes found instances handle_limit capacity main begun ls t run 
       works = opening_works instances handle_limit capacity;
       unnamed = record { works = opening_names instances handle_limit capacity; spawns = λ p j is. opening_spawns instances handle_limit capacity main begun p j is };
       callers = opening_callers instances handle_limit capacity;
-      names = opening_names_known instances handle_limit capacity;
       zero = zero_unmade instances handle_limit capacity;
       over = λ sub e due. absurd (none_due instances handle_limit capacity sub e due);
     }) (λ sub e due. none_due instances handle_limit capacity sub e due) ls t run

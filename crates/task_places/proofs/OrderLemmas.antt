@@ -1,10 +1,7 @@
 -- A state in order: each opening state is, and each step leads from one to one.
-use Rattle.task_rules.proofs.Machine.{[], ap, arith, Bool, ByHandle, ByOp, Call, call_instance, callee_of, can_come, Component, Core, empty, false, fresh, get, get-empty, HasSubtask, HowFar, inl, inr, instance_of, is_fresh, is_some, is_sync_call, is_there, IsRunner, Label, length, List, None, Op, op_of_thread, opening, Option, option_and_then, option_map, option_map_or, Place, place_of, Placed, refl, Run, Scene, scene_of, Script, script_in, Setting, slice_get, Some, State, Steady, subst, sym, task_of, Thread, true, unwrap_or, Walk, Walked, was_started, Work, ℕ, ◌∷◌, ◌≡◌, ◌≤◌, ◌⊎◌}
-use Rattle.task_machine.specs.declared.op.Op.TheVariants as op
-use Rattle.task_machine.specs.declared.op.TaskOp.TheVariants as task_op
+use Rattle.task_rules.proofs.Machine.{[], ap, arith, Bool, ByHandle, ByOp, Call, call_instance, callee_of, can_come, Component, Core, empty, false, fresh, get, get-empty, HasSubtask, how_far_of, HowFar, inl, inr, instance_of, is_fresh, is_some, is_sync_call, is_there, IsRunner, Label, length, List, None, Op, op_of_thread, opening, Option, option_and_then, option_map, option_map_or, Place, place_of, Placed, refl, Run, Scene, scene_of, Script, script_in, Setting, slice_get, Some, State, Steady, subst, Subtask, subtask_under_way, sym, task_of, TaskOp, Thread, true, Turn, unwrap_or, Walk, Walked, was_started, Work, ℕ, ⊎_elim, ◌∷◌, ◌≡◌, ◌≤◌, ◌⊎◌}
 use Rattle.task_places.proofs.HostsAwaited.{step_works}
-use Rattle.task_places.proofs.Directs.{DirectsRun, directs_on_top, directs_word}
-use Rattle.task_machine.specs.declared.records.Subtask.TheVariants as subtask
+use Rattle.task_places.proofs.Directs.{directs_on_top}
 use Rattle.task_laws.proofs.Joins.{joins_word, opening_joins}
 use Rattle.task_laws.proofs.Subtasks.{Traced, opening_named, traced_word}
 use Rattle.task_rules.proofs.WalkSteps.{step_walks}
@@ -18,12 +15,13 @@ use Rattle.task_laws.proofs.CountLemmas.{few_word}
 use Rattle.task_laws.proofs.SetHandles.{opening_sets, sets_named_word}
 use Rattle.task_laws.proofs.CallsLaw.{CallsGo, CallsHold}
 use Rattle.task_laws.proofs.CallsSteps.{base_out, calls_begin, of_base, word_goes, opening_holds, plain, plain_scene, step_goes}
-use Rattle.task_laws.specs.Order.{CallsNamed, InOrder, Numbered, OpeningInOrder, SetsNamed, StartsAwaited, StepInOrder, WasCall, CallsThere, MakesFew, Strands, WaitsAtHome, set_of_op, set_of_place, StepsMakeFew, JoinsNamed, DirectsOnTop, Fits, WorksQueued, HostsAwaited, names_script}
-use Rattle.task_machine.specs.declared.records.Turn.TheVariants as turn
-use Rattle.task_machine.specs.declared.records.Place.TheVariants as place
-use Rattle.task_machine.specs.declared.records.HowFar.TheVariants as how_far
+use Rattle.task_laws.proofs.AwaitedCalls.{DirectsRun, Inside, directs_word, CallsInside, inside_word, apart_after}
+use Rattle.task_laws.proofs.NamedCalls.{NamesGo, InsideThere, names_go_word, opening_names_known}
+use Rattle.task_laws.proofs.UnbegunCalls.{first_waits, Unbegun, unbegun_word, Waited}
+use Rattle.task_places.proofs.CallsBack.{back_apart}
+use Rattle.task_laws.specs.Order.{StartsFirst, NamesKnown, CallsAwaited, cancelled_call, is_awaited, IsUnbegun, CallsNamed, InOrder, Numbered, OpeningInOrder, SetsNamed, StartsAwaited, StepInOrder, WasCall, CallsThere, MakesFew, Strands, WaitsAtHome, set_of_op, set_of_place, StepsMakeFew, JoinsNamed, DirectsOnTop, Fits, WorksQueued, HostsAwaited, names_script}
 use Rattle.task_places.proofs.PlaceLaw.{Arrives}
-use Rattle.task_places.proofs.PlaceSteps.{Withdrawable, in_place, step_arrives}
+use Rattle.task_places.proofs.PlaceSteps.{step_by, Withdrawable, in_place, step_arrives}
 use Rattle.task_places.specs.Kept.{ReachedInOrder, ReachedInPlace, StepsKeepPlaces}
 use Rattle.task_rules.proofs.LawLemmas.{steady}
 
@@ -49,7 +47,7 @@ was_awaited s t placed steady starts k c at e =
 place_there : (o : Option Place) (x : ℕ) → option_and_then set_of_place o ≡ Some x → is_some o ≡ true
 place_there o x h = grind arith
 
-op_there : (o : Option Thread) (x : ℕ) → set_of_op (option_map_or (λ (t : Thread). t.how_far) o how_far.Fresh) ≡ Some x →
+op_there : (o : Option Thread) (x : ℕ) → set_of_op (option_map_or (λ (t : Thread). t.how_far) o HowFar.Fresh) ≡ Some x →
     is_some (option_map (λ (t : Thread). t.place) o) ≡ true
 op_there o x h = grind arith
 
@@ -128,7 +126,7 @@ module _ (x : Setting) (s : State) (l : Label) (t : State) (h : InOrder x.compon
   withdrawable = of_base (λ b. Withdrawable (record a { base = b })) s.turn s.core
       (λ m k is has unstarted. call_awaited s.core h.numbered h.calls_there h.starts k (assumption (named m k has)) unstarted)
     where
-      named : (m k : ℕ) → HasSubtask a m (subtask.Guest k) → WasCall a.base k
+      named : (m k : ℕ) → HasSubtask a m (Subtask.Guest k) → WasCall a.base k
       named m k (ByHandle g e) = known.by_handle _ g k e
       named m k (ByOp e) = known.by_op m k e
 
@@ -141,10 +139,66 @@ module _ (x : Setting) (s : State) (l : Label) (t : State) (h : InOrder x.compon
       let fresh = come.fresh k (was_awaited s.core t.core h.in_place.placed steady h.starts k c at e) in
       grind (arith, h.numbered.threads k, steady.calls k)
 
+  directs_run : DirectsRun a t.core
+  directs_run = along (DirectsRun a) (directs_word a) (λ k d. inl d) walk
+
   pub directs_kept : Steady s.core t.core → Numbered t.core → DirectsOnTop t.core
   directs_kept steady after =
       let goes = base_out (λ b. Arrives (record a { base = b }) t.core) s.turn s.core arrives in
-      directs_on_top a s.core t.core steady h.numbered after goes (λ k. refl) (λ k. refl) h.directs (along (DirectsRun a) (directs_word a) (λ k d. inl d) walk)
+      directs_on_top a s.core t.core steady h.numbered after goes (λ k. refl) (λ k. refl) h.directs directs_run
+
+  -- ---- Calls that ops are inside of
+
+  unbegun_base : StartsFirst a.base
+  unbegun_base k r at first waits = let q = h.unbegun k r at first waits in record { unended = q.unended; alone = q.alone }
+
+  names_base : NamesKnown a.base
+  names_base = record { there = h.names.there; once = h.names.once; number = h.names.number; called = h.names.called }
+
+  calls_base : CallsAwaited a.base
+  calls_base = record { inside = h.calls.inside; apart = h.calls.apart }
+
+  numbered_base : Numbered a.base
+  numbered_base = record { threads = λ n t e. assumption (h.numbered.threads n t e); calls = h.numbered.calls }
+
+  -- a running thread is under none
+  inside_there : InsideThere a
+  inside_there n k runs far = ⊎_elim (λ under. let at = h.in_place.runs n runs in absurd (grind arith)) (λ awaited. grind arith) (h.calls.inside n k far)
+
+  least : (m k : ℕ) → cancelled_call (how_far_of m a.base) ≡ Some k → k ≤ a.base.made.threads
+  least m k e = (known.by_op m k (grind arith)).number
+
+  -- what handles and ops name, and the calls that ops are inside of
+  called : NamesGo a t.core × CallsInside a t.core
+  called =
+      let q = along (λ u. DirectsRun a u × (NamesGo a u × CallsInside a u)) (λ v u ok q.
+      let names = names_go_word a names_base inside_there v u ok q.1.0 in (
+        directs_word a v u ok q.0,
+        (names, inside_word a names_base calls_base unbegun_base numbered_base least v u ok q.1.0 names q.0 q.1.1),
+      ))
+      (λ k d. inl d, (record { known = h.names; were = λ n k far. inl far }, record { inside = λ n k far. ⊎_elim inl (λ w. inr (inl w)) (h.calls.inside n k far); cancelled = λ m k e. inl e })) walk in
+      q.1
+
+  pub awaited_kept : CallsAwaited t.core
+  awaited_kept = record {
+    inside = λ n k far. inside n k far (called.1.inside n k far);
+    apart = apart_after a names_base calls_base unbegun_base numbered_base least t.core called.0 called.1;
+  }
+    where
+      come : Arrives a t.core
+      come = plain x s l w.next (λ c. Arrives c t.core) arrives
+
+      back : (n k : ℕ) → place_of n s.core ≡ Some (Place.Under k) → a.next ≡ Turn.Run n → subtask_under_way (how_far_of n t.core) ≡ None
+      back n k at to = step_by x s l t w h.in_place withdrawable (λ c u. place_of n c.base ≡ Some (Place.Under k) → c.next ≡ Turn.Run n → subtask_under_way (how_far_of n u) ≡ None)
+          (λ c b m q u base first same f d ends at to. back_apart f n k at to d) (of_base (λ b. place_of n b ≡ Some (Place.Under k)) s.turn s.core at) to
+
+      inside : (n k : ℕ) → how_far_of n t.core ≡ HowFar.Calls (Subtask.Guest k) → Inside a n k t.core → (place_of n t.core ≡ Some (Place.Under k)) ⊎ (option_map_or is_awaited (get t.core.calls k) false ≡ true)
+      inside n k far (inl under) = ⊎_elim inl (λ gone. absurd (⊎_elim (λ to. let y = back n k under to in grind arith) (λ none. grind arith) gone.1)) (come.covered n k under)
+      inside n k far (inr (inl awaited)) = inr awaited
+      inside n k far (inr (inr (new, (runner, next)))) =
+          let number = (h.in_place.placed k).number in
+          let e = come.entered k (grind arith) next in
+          inl (let mine = e.1.0 in let at = e.1.1 in grind arith)
 
   pub works_kept : WorksQueued t.core × HostsAwaited t.core
   works_kept = step_works x s l t w h.in_place withdrawable h.works h.awaited
@@ -169,23 +223,41 @@ module _ (x : Setting) (s : State) (l : Label) (t : State) (h : InOrder x.compon
     still = λ d b is. let e : r ≡ b = cc in (ap (λ (t : Thread). t.call) e, (ap (λ (t : Thread). t.script) e, ap (λ (t : Thread). t.position) e));
   }
 
-  fits_last : AllFit a t.core
-  fits_last =
+  -- what is so of threads and their ops as the step ends
+  last : AllFit a t.core × Unbegun a t.core
+  last =
       let p : CallsHold x.component s.core = record { numbered = h.numbered; kinds = h.kinds; deliveries = h.deliveries } in
       let b = calls_begin x s l w.next p in
       let known = of_base (λ b. RunnerHoused (record a { base = b })) s.turn s.core runner_housed in
       let fits = of_base (λ b. Fits x.component b) s.turn s.core fits_base in
       let first = of_base (λ b. AllFit (record a { base = b }) s.core) s.turn s.core fits_first in
-      let runs = of_base (λ b. (n : ℕ) → s.turn ≡ turn.Run n → place_of n b ≡ Some place.Running) s.turn s.core h.in_place.runs in
+      let runs = of_base (λ b. (n : ℕ) → s.turn ≡ Turn.Run n → place_of n b ≡ Some Place.Running) s.turn s.core h.in_place.runs in
       let there = of_base (λ b. (n : ℕ) (r : Thread) → get b.threads n ≡ Some r → is_some (get b.calls r.call) ≡ true) s.turn s.core has_call in
+      let starts = of_base StartsFirst s.turn s.core unbegun_base in
+      let waits = of_base (λ b. Unbegun (record a { base = b }) s.core) s.turn s.core (record {
+        came = λ k f. inl f;
+        rest = λ k f there. by_waits k f there;
+      }) in
       let c = scene_of x s l w.next in
-      let q = along (λ u. CallsGo c u × AllFit c u)
-      (λ v m ok q. (word_goes c h.codes b.0 v m ok q.0, fits_word c h.codes b.0 known fits runs there v m ok q.0 q.1)) (b.1, first) w.walk in
-      base_out (λ b. AllFit (record a { base = b }) t.core) s.turn s.core q.1
+      let q = along (λ u. CallsGo c u × (AllFit c u × Unbegun c u)) (λ v m ok q. (
+        word_goes c h.codes b.0 v m ok q.0,
+        (fits_word c h.codes b.0 known fits runs there v m ok q.0 q.1.0, unbegun_word c b.0 runs starts v m ok q.0 q.1.1),
+      )) (b.1, (first, waits)) w.walk in
+      base_out (λ b. AllFit (record a { base = b }) t.core × Unbegun (record a { base = b }) t.core) s.turn s.core q.1
+    where
+      by_waits : (k : ℕ) → Waited a k → is_some (get s.core.threads k) ≡ true → IsUnbegun s.core k
+      by_waits k f there = by (get s.core.threads k) refl
+        where
+          by : (o : Option Thread) → get s.core.threads k ≡ o → IsUnbegun s.core k
+          by None at = absurd (grind arith)
+          by (Some r) at = let below = h.numbered.threads k r at in h.unbegun k r at (grind arith) (grind arith)
+
+  pub unbegun_kept : StartsFirst t.core
+  unbegun_kept k r at first waits = let q = last.1 in let f = first_waits k t.core in q.rest k (q.came k (grind arith)) (grind arith)
 
   pub fits_kept : Steady s.core t.core → Fits x.component t.core
   fits_kept steady n r at =
-      let f = fits_last n r at in
+      let f = last.0 n r at in
       let now = calls_kept n r.call (ap (λ o. option_map (λ (t : Thread). t.call) o) at) in
       record {
         script = same_script x.component (call_instance r.call t.core) (call_instance r.call s.core) r.explicit r.script
@@ -200,9 +272,9 @@ module _ (x : Setting) (s : State) (l : Label) (t : State) (h : InOrder x.compon
       at_op test e =
           let now = calls_kept n r.call (ap (λ o. option_map (λ (t : Thread). t.call) o) at) in
           let same = same_callee s.core t.core steady h.numbered r.call e.0 now in
-          subst (λ f. test (unwrap_or (slice_get (script_in x.component f r.script) r.position) (op.Task task_op.Exit)) ≡ true) (sym same) e.1
+          subst (λ f. test (unwrap_or (slice_get (script_in x.component f r.script) r.position) (Op.Task TaskOp.Exit)) ≡ true) (sym same) e.1
 
-      comes : (f : HowFar) → (f ≡ how_far.Fresh) ⊎ OfBase a r (λ o. can_come o f) → can_come (op_of_thread x.component t.core r) f ≡ true
+      comes : (f : HowFar) → (f ≡ HowFar.Fresh) ⊎ OfBase a r (λ o. can_come o f) → can_come (op_of_thread x.component t.core r) f ≡ true
       comes f (inl fresh) = ap (can_come (op_of_thread x.component t.core r)) fresh
       comes f (inr e) = at_op (λ o. can_come o f) e
 
@@ -262,6 +334,8 @@ step_in_order x s l t h step =
       numbered = q.numbered;
       calls_there = calls_kept x s l t h w;
       calls_named = named_kept x s l t h w;
+      names = (called x s l t h w).0.known;
+      calls = awaited_kept x s l t h w;
       waits = waits_kept x s l t h w (steady x s l t step);
       sets_named = (joined_kept x s l t h w).0;
       joins_named = (joined_kept x s l t h w).1;
@@ -269,6 +343,7 @@ step_in_order x s l t h step =
       deliveries = q.deliveries;
       fits = fits_kept x s l t h w (steady x s l t step);
       starts = starts_kept x s l t h w (steady x s l t step);
+      unbegun = unbegun_kept x s l t h w;
     }
 
 -- ---- The first state
@@ -311,12 +386,18 @@ opening_in_order c codes instances handle_limit capacity main =
         by_op = λ n x e. let o = get-empty {X = Thread} n in absurd (cc);
       };
       calls_named = opening_named instances handle_limit capacity;
+      names = opening_names_known instances handle_limit capacity;
+      calls = record {
+        inside = λ n k far. let o = get-empty {X = Thread} n in absurd (cc);
+        apart = λ n m k far e. let o = get-empty {X = Thread} n in absurd (cc);
+      };
       sets_named = opening_sets instances handle_limit capacity;
       joins_named = opening_joins instances handle_limit capacity;
       kinds = q.kinds;
       deliveries = q.deliveries;
       fits = λ n t at. let o = get-empty {X = Thread} n in absurd (cc);
       starts = λ k c at e. let o = get-empty {X = Call} k in absurd (cc);
+      unbegun = λ k t at first waits. let o = get-empty {X = Thread} k in absurd (cc);
     }
 
 -- ---- Runs

@@ -1,7 +1,6 @@
 -- Where each thread is along the words of a step: each has its place, and one that waits for its start still does, or its call has begun.
-use Rattle.task_rules.proofs.Machine.{[], add_call, add_group, add_set, add_work, after_placing, after_word, ap, arith, AwaitsEvent, behind_one, Blocks, Bool, ByHandle, Call, call_made, Collapses, Core, count_work, Departs, EndsOver, Enter, entries, Falls, false, FinishWork, free_handle, free_thread_handle, get, give_handle, give_result, give_thread_handle, GoBehind, GoesBack, has_entry, HasPlace, HasSubtask, Holds, HowFar, if◌then◌else◌, inl, inr, is_at_high, is_at_low, is_at_switch, is_begun, is_blocked_on, is_done_host, is_explicit, is_for_start, is_free, is_fresh, is_none, is_some, is_there, is_under, IsFall, IsFoot, IsRunner, IsSettling, Lands, LandsAt, LastWords, le_refl, Leaves, MakeCall, MakeThread, Mark, MayGo, MayLand, MayMove, MayPut, MayWithdraw, MayYield, Move, nat_tests, new_call, new_thread, next_thread, None, on_call, on_instance, on_thread, on_work, Option, option_map, option_map_or, Place, place_of, Places, Placing, poll_pends, Promote, promoted, push_high, Put, put_high, put_low, QueueWork, Quits, refl, registers_for, Remains, remove_call, remove_group, remove_set, remove_thread, remove_work, RemoveThread, Runs, says, Scene, set_backpressure, set_cancel_delivered, set_cancelled, set_course, set_do_not_enter, set_do_not_suspend, set_end, set_event, set_exited, set_how_far, set_join, set_own_event, set_phase, set_place, set_position, set_register, set_result, set_saved_callee, set_saved_own, set_script, set_stage, set_started, set_starting_published, set_subtask_handle, set_thread_handle, set_trapped, set_uninteresting, set_word, Settles, SetTrapped, SetUninteresting, Some, Stay, Stays, Stop, subst, Subtask, Suspends, switch_entries, sym, T, take_result, TakeHost, TakePush, task_of, Thread, times, Trip, true, Turn, Uncovers, unwrap_or, Waits, WaitsAgain, was_started, Why, with_handle, with_thread_handle, Withdraw, Word, work_queued, ℕ, ◌+◌, ◌==◌, ◌||◌, ◌∙◌, ◌∷◌, ◌≡◌, ◌≤◌, ◌⊎◌}
+use Rattle.task_rules.proofs.Machine.{[], add_call, add_group, add_set, add_work, after_placing, after_word, ap, arith, AwaitsEvent, behind_one, Blocks, Bool, ByHandle, Call, call_made, Collapses, Core, count_work, Departs, EndsOver, Enter, entries, Entry, Falls, false, FinishWork, free_handle, free_thread_handle, get, get-change, give_handle, give_result, give_thread_handle, GoBehind, GoesBack, has_entry, HasPlace, HasSubtask, Holds, HowFar, if◌then◌else◌, inl, inr, is_at_high, is_at_low, is_at_switch, is_begun, is_blocked_on, is_done_host, is_explicit, is_for_start, is_free, is_fresh, is_none, is_some, is_there, is_under, IsFall, IsFoot, IsRunner, IsSettling, Lands, LandsAt, LastWords, le_refl, Leaves, MakeCall, MakeThread, Mark, MayGo, MayLand, MayMove, MayPut, MayWithdraw, MayYield, Move, nat_tests, new_call, new_thread, next_thread, None, on_call, on_instance, on_thread, on_work, Option, option_map, option_map_or, Place, place_of, Places, Placing, poll_pends, Promote, promoted, push_high, Put, put_high, put_low, QueueWork, Quits, refl, registers_for, Remains, remove_call, remove_group, remove_set, remove_thread, remove_work, RemoveThread, Runs, says, Scene, Script, set_backpressure, set_cancel_delivered, set_cancelled, set_course, set_do_not_enter, set_do_not_suspend, set_end, set_event, set_exited, set_how_far, set_join, set_own_event, set_phase, set_place, set_position, set_register, set_result, set_saved_callee, set_saved_own, set_script, set_stage, set_started, set_starting_published, set_subtask_handle, set_thread_handle, set_trapped, set_uninteresting, set_word, Settles, SetTrapped, SetUninteresting, Some, Stay, Stays, Stop, subst, Subtask, Suspends, switch_entries, sym, T, take_result, TakeHost, TakePush, task_of, Thread, times, Trip, true, Turn, Uncovers, unwrap_or, Waits, WaitsAgain, was_started, Why, with_handle, with_thread_handle, Withdraw, Word, work_queued, ℕ, ⊎_elim, ◌+◌, ◌==◌, ◌||◌, ◌∙◌, ◌∷◌, ◌≡◌, ◌≤◌, ◌⊎◌}
 use Rattle.task_rules.proofs.WalkMoves.{blocked_place}
-use Rattle.task_machine.proofs.CommuteLemmas.{get-change}
 use Rattle.task_places.proofs.Entries.{added_stand, has_stands, next_first, popped_quiet, promoted_stand, pushed_same, removed_fresh, withdrawn_stand, flipped}
 use Rattle.task_laws.proofs.CameLemmas.{read_same}
 use Rattle.task_rules.proofs.ChainLemmas.{along}
@@ -11,14 +10,6 @@ use Rattle.task_rules.proofs.StandLemmas.{set_place_is, Adds, adds_all, Loose, S
 use Rattle.task_rules.proofs.StopLemmas.{Untouched, behind_adds, foot_there, given_there, quiet_placed, quiet_stand, stopped_stand, switch_there}
 use Rattle.task_rules.proofs.WalkParts.{withdraws}
 use Rattle.task_rules.proofs.WalkTask.{not_main, one_runner}
-use Rattle.task_machine.specs.declared.records.HowFar.TheVariants as how_far
-use Rattle.task_machine.specs.declared.records.Script.TheVariants as script
-use Rattle.task_machine.specs.declared.records.Entry.TheVariants as entry
-use Rattle.task_machine.specs.declared.records.Place.TheVariants as place
-use Rattle.task_machine.specs.declared.records.Subtask.TheVariants as subtask
-use Rattle.task_machine.specs.declared.records.Turn.TheVariants as turn
-use Rattle.task_machine.specs.declared.records.Why.TheVariants as why
-use Rattle.task_machine.specs.declared.words.Mark.TheVariants as mark
 
 pub no_way : {A : Type 0} → false ≡ true → A
 no_way h = absurd (subst T (sym h) tt)
@@ -34,10 +25,10 @@ place_at test None h = no_way h
 place_at test (Some p) h = (p, (refl, h))
 
 abbrev pub ReadyAt : Option Place → Type 0
-ReadyAt o = (x : Mark) × ((w : Why) × (o ≡ Some (place.Ready x w)))
+ReadyAt o = (x : Mark) × ((w : Why) × (o ≡ Some (Place.Ready x w)))
 
 ready_of : (o : Option Place) → 1 ≤ says is_at_switch o + says is_at_high o + says is_at_low o → ReadyAt o
-ready_of (Some (place.Ready x w)) h = (x, (w, refl))
+ready_of (Some (Place.Ready x w)) h = (x, (w, refl))
 ready_of o h = absurd (grind arith)
 
 -- a thread that has its place and an entry
@@ -56,7 +47,7 @@ waits a k = is_fresh (place_of k a.base)
 -- beside it, who is under another
 abbrev watch_of : Option Place → Watch
 watch_of None = Awaits
-watch_of (Some (place.Under m)) = Covered m
+watch_of (Some (Place.Under m)) = Covered m
 watch_of (Some p) = if is_fresh (Some p) then Awaits else Nothing
 
 abbrev pub watch : Scene → ℕ → Watch
@@ -68,26 +59,26 @@ fresh_watch o h = grind arith
 pub so_self : (o : Option Place) → is_so (watch_of o) o ≡ true
 so_self o = grind (arith, nat_tests)
 
-under_is : (m : ℕ) (o : Option Place) → option_map_or (is_under m) o false ≡ true → o ≡ Some (place.Under m)
+under_is : (m : ℕ) (o : Option Place) → option_map_or (is_under m) o false ≡ true → o ≡ Some (Place.Under m)
 under_is m o h = grind (arith, nat_tests)
 
 module _ (a : Scene) {n : ℕ} {q : Option Place} {s : Core} (st : Stand (watch a) n q [] s) where
   fresh_still : (k : ℕ) → waits a k ≡ true → is_fresh (place_of k s) ≡ true
   fresh_still k h = let e = fresh_watch (place_of k a.base) h in ap (λ v. is_so v (place_of k s)) (sym e) ∙ (st.kept k (ap is_watched e)).1
 
-  pub covered_still : (k m : ℕ) → place_of k a.base ≡ Some (place.Under m) → place_of k s ≡ Some (place.Under m)
+  pub covered_still : (k m : ℕ) → place_of k a.base ≡ Some (Place.Under m) → place_of k s ≡ Some (Place.Under m)
   covered_still k m at = let e = ap watch_of at in under_is m (place_of k s) (ap (λ v. is_so v (place_of k s)) (sym e) ∙ (st.kept k (ap is_watched e)).1)
 
 -- a parked thread that is put
-so_put : (o : Option Place) (p : Place) (x : Mark) (w : Why) → is_parked p ≡ true → (is_fresh (Some p) ≡ true → is_for_start w ≡ true) → is_so (watch_of o) (Some p) ≡ true → is_so (watch_of o) (Some (place.Ready x w)) ≡ true
+so_put : (o : Option Place) (p : Place) (x : Mark) (w : Why) → is_parked p ≡ true → (is_fresh (Some p) ≡ true → is_for_start w ≡ true) → is_so (watch_of o) (Some p) ≡ true → is_so (watch_of o) (Some (Place.Ready x w)) ≡ true
 so_put o p x w parked starts h = grind arith
 
 -- From b on the thread n stays at q, so nobody puts it; nor is it a call's that is withdrawn, or made.
 pub record Follows (a : Scene) (b : Core) (n : ℕ) (q : Option Place) : Type 0 where
   pub busy : is_busy q ≡ true
-  pub runs : (m : ℕ) → a.turn ≡ turn.Run m → (is_idle q ≡ true) × (is_fresh q ≡ false)
+  pub runs : (m : ℕ) → a.turn ≡ Turn.Run m → (is_idle q ≡ true) × (is_fresh q ≡ false)
   pub apart : (n == a.base.made.threads + 1) ≡ false
-  pub withdraws : (m k : ℕ) → IsRunner a m → HasSubtask a m (subtask.Guest k) → was_started k a.base ≡ false → waits a k ≡ true
+  pub withdraws : (m k : ℕ) → IsRunner a m → HasSubtask a m (Subtask.Guest k) → was_started k a.base ≡ false → waits a k ≡ true
   pub start : Stand (watch a) n q [] b
 
 thread_untouched : (n : ℕ) (f : Thread → Thread) (s : Core) → ((t : Thread) → (f t).place ≡ t.place) → Untouched s (on_thread n f s)
@@ -103,15 +94,15 @@ abbrev puts_of : ℕ → Word → Bool
 puts_of m (Places (Put x k w)) = k == m
 puts_of m w = false
 
-pub blocked_itself : (sub : Subtask) → is_blocked_on sub (place.Blocked sub) ≡ true
-blocked_itself (subtask.Guest k) = eq_refl k
-blocked_itself (subtask.Host i) = eq_refl i
+pub blocked_itself : (sub : Subtask) → is_blocked_on sub (Place.Blocked sub) ≡ true
+blocked_itself (Subtask.Guest k) = eq_refl k
+blocked_itself (Subtask.Host i) = eq_refl i
 
 -- a blocked thread is put once its host's work is done
-put_blocked : (m : ℕ) (sub : Subtask) (w : Why) (s : Core) → MayPut m w s → place_of m s ≡ Some (place.Blocked sub) → is_done_host sub s ≡ true
+put_blocked : (m : ℕ) (sub : Subtask) (w : Why) (s : Core) → MayPut m w s → place_of m s ≡ Some (Place.Blocked sub) → is_done_host sub s ≡ true
 put_blocked m sub w s ok at = grind arith
 
-put_done : (a : Scene) (m : ℕ) (sub : Subtask) (w : Word) (s : Core) → Stays a w s → place_of m s ≡ Some (place.Blocked sub) → puts_of m w ≡ true → is_done_host sub s ≡ true
+put_done : (a : Scene) (m : ℕ) (sub : Subtask) (w : Word) (s : Core) → Stays a w s → place_of m s ≡ Some (Place.Blocked sub) → puts_of m w ≡ true → is_done_host sub s ≡ true
 put_done a m sub (Places (Put x k w)) s (inl ok) at e = put_blocked m sub w s (subst (λ (j : ℕ). MayPut j w s) (is_eq_of k m e) ok) at
 put_done a m sub (Places (Put x k w)) s (inr ok) at e = absurd ok
 put_done a m sub _ s ok at e = no_way e
@@ -123,7 +114,7 @@ module _ {a : Scene} {b : Core} {n : ℕ} {q : Option Place} (f : Follows a b n 
   promotes : {P : ℕ → Watch} (m : ℕ) (s : Core) → (m == n) ≡ false → s.queues.switch ≡ None → ReadyAt (place_of m s) → Stand P n q [] s → Stand P n q [] (promoted m s)
   promotes m s apart none r st = promoted_stand n q m r.0 r.1.0 s apart r.1.1 none st
 
-  keeps_placing : {P : ℕ → Watch} (p : Placing) (s : Core) → Stays a (Places p) s → ((x : Mark) (m : ℕ) (w : Why) → p ≡ Put x m w → is_watched (P m) ≡ true → is_so (P m) (place_of m s) ≡ true → is_so (P m) (Some (place.Ready x w)) ≡ true) → Stand P n q [] s → Stand P n q [] (after_placing p s)
+  keeps_placing : {P : ℕ → Watch} (p : Placing) (s : Core) → Stays a (Places p) s → ((x : Mark) (m : ℕ) (w : Why) → p ≡ Put x m w → is_watched (P m) ≡ true → is_so (P m) (place_of m s) ≡ true → is_so (P m) (Some (Place.Ready x w)) ≡ true) → Stand P n q [] s → Stand P n q [] (after_placing p s)
   keeps_placing {P = P} (Put x m w) s (inl ok) puts st = let p = place_at is_parked (place_of m s) (parked_at m w s ok).0 in put_stand n q f.busy x m w p.0 s p.1.0 p.1.1 (λ h. puts x m w refl h (st.kept m h).1) st
   keeps_placing (Promote m) s (inl ok) puts st =
       let one = listed m s ok.1 in
@@ -140,17 +131,17 @@ module _ {a : Scene} {b : Core} {n : ℕ} {q : Option Place} (f : Follows a b n 
   next_apart s e = ap (λ (c : ℕ). n == c + 1) e ∙ f.apart
 
   -- what is watched stays so where it does for a thread that is put
-  keeps_word : {P : ℕ → Watch} (w : Word) (s : Core) → Stays a w s → ((x : Mark) (m : ℕ) (v : Why) → w ≡ Places (Put x m v) → is_watched (P m) ≡ true → is_so (P m) (place_of m s) ≡ true → is_so (P m) (Some (place.Ready x v)) ≡ true) → ((k : ℕ) → w ≡ Withdraw k → is_fresh (place_of k s) ≡ true) → Stand P n q [] s → Stand P n q [] (after_word w s)
+  keeps_word : {P : ℕ → Watch} (w : Word) (s : Core) → Stays a w s → ((x : Mark) (m : ℕ) (v : Why) → w ≡ Places (Put x m v) → is_watched (P m) ≡ true → is_so (P m) (place_of m s) ≡ true → is_so (P m) (Some (Place.Ready x v)) ≡ true) → ((k : ℕ) → w ≡ Withdraw k → is_fresh (place_of k s) ≡ true) → Stand P n q [] s → Stand P n q [] (after_word w s)
   unfolding add_call add_group add_set add_work count_work free_handle free_thread_handle give_handle give_result give_thread_handle on_call on_instance on_work push_high remove_call remove_group remove_set remove_work set_backpressure set_cancel_delivered set_cancelled set_course set_do_not_enter set_do_not_suspend set_end set_event set_exited set_how_far set_join set_own_event set_phase set_position set_register set_result set_saved_callee set_saved_own set_script set_stage set_started set_starting_published set_subtask_handle set_thread_handle set_trapped set_uninteresting set_word take_result call_made with_handle with_thread_handle work_queued poll_pends on_thread
   keeps_word {P = P} (Places p) s ok puts fresh st = subst (λ (t : Core). Stand P n q [] t) (sym (placing_shifted p s).only) (keeps_placing p s ok (λ x m v e. puts x m v (ap (λ (y : Placing). Places y) e)) st)
   keeps_word (MakeThread t) s ok puts fresh st = added_stand n q t s (next_apart s ok.1.1.0) (ap (λ (r : Thread). r.place) ok.1.1.1.1.1.0) st
-  keeps_word (MakeCall g e x goal group words) s ok puts fresh st = added_stand n q (new_thread (next_thread s) false script.Start (registers_for words) None) (add_call (next_thread s) (new_call g e x goal group) s) (next_apart s ok.1.0) refl (quiet_stand n q [] s _ (calls_untouched (next_thread s) (new_call g e x goal group) s) st)
+  keeps_word (MakeCall g e x goal group words) s ok puts fresh st = added_stand n q (new_thread (next_thread s) false Script.Start (registers_for words) None) (add_call (next_thread s) (new_call g e x goal group) s) (next_apart s ok.1.0) refl (quiet_stand n q [] s _ (calls_untouched (next_thread s) (new_call g e x goal group) s) st)
   keeps_word {P = P} (Withdraw k) s ok puts fresh st = subst (λ (t : Core). Stand P n q [] t) (sym (withdraws k s)) (withdrawn_stand n q k s (not_here k s st (λ same at. subst T (sym (fresh k refl) ∙ (ap is_fresh at ∙ (f.runs ok.0 ok.1.1.1.1.1.0).1)) tt)) (fresh k refl) st)
   keeps_word (RemoveThread m) s ok puts fresh st = absurd ok
   keeps_word (QueueWork g host group) s ok puts fresh st = quiet_stand n q [] s _ (record { places = λ k. refl; switch = λ k. refl; high = λ k. pushed_same k s.queues.high _ refl; low = λ k. refl; callers = refl; made = le_refl _ }) st
-  keeps_word (FinishWork i c) s ok puts fresh st = quiet_stand n q [] s _ (record { places = λ k. refl; switch = λ k. refl; high = λ k. pushed_same k s.queues.high (entry.Host i) refl; low = λ k. refl; callers = refl; made = le_refl _ }) st
-  keeps_word (TakePush x i) s ok puts fresh st = let u = popped_quiet x (entry.Push i) s (next_first s x (entry.Push i) ok) (λ k. refl) in quiet_stand n q [] s _ (record { places = u.places; switch = u.switch; high = u.high; low = u.low; callers = u.callers; made = le_refl _ }) st
-  keeps_word (TakeHost x i) s ok puts fresh st = let u = popped_quiet x (entry.Host i) s (next_first s x (entry.Host i) ok) (λ k. refl) in quiet_stand n q [] s _ (record { places = u.places; switch = u.switch; high = u.high; low = u.low; callers = u.callers; made = le_refl _ }) st
+  keeps_word (FinishWork i c) s ok puts fresh st = quiet_stand n q [] s _ (record { places = λ k. refl; switch = λ k. refl; high = λ k. pushed_same k s.queues.high (Entry.Host i) refl; low = λ k. refl; callers = refl; made = le_refl _ }) st
+  keeps_word (TakePush x i) s ok puts fresh st = let u = popped_quiet x (Entry.Push i) s (next_first s x (Entry.Push i) ok) (λ k. refl) in quiet_stand n q [] s _ (record { places = u.places; switch = u.switch; high = u.high; low = u.low; callers = u.callers; made = le_refl _ }) st
+  keeps_word (TakeHost x i) s ok puts fresh st = let u = popped_quiet x (Entry.Host i) s (next_first s x (Entry.Host i) ok) (λ k. refl) in quiet_stand n q [] s _ (record { places = u.places; switch = u.switch; high = u.high; low = u.low; callers = u.callers; made = le_refl _ }) st
   keeps_word w s ok puts fresh st = quiet_stand n q [] s _ (record { places = λ k. grind (arith, nat_tests, get-change); switch = λ k. refl; high = λ k. refl; low = λ k. refl; callers = refl; made = le_refl _ }) st
 
   withdraws_waits : (k : ℕ) (s : Core) → MayWithdraw a k s → waits a k ≡ true
@@ -159,7 +150,7 @@ module _ {a : Scene} {b : Core} {n : ℕ} {q : Option Place} (f : Follows a b n 
   pub stay_word : (w : Word) (s : Core) → Stays a w s → Stand (watch a) n q [] s → Stand (watch a) n q [] (after_word w s)
   stay_word w s ok st = keeps_word w s ok (λ x m v e g so. puts x m v (subst (λ (y : Word). Stays a y s) e ok) so) (λ k e. waiting k (subst (λ (y : Word). Stays a y s) e ok)) st
     where
-      puts : (x : Mark) (m : ℕ) (v : Why) → Stays a (Places (Put x m v)) s → is_so (watch a m) (place_of m s) ≡ true → is_so (watch a m) (Some (place.Ready x v)) ≡ true
+      puts : (x : Mark) (m : ℕ) (v : Why) → Stays a (Places (Put x m v)) s → is_so (watch a m) (place_of m s) ≡ true → is_so (watch a m) (Some (Place.Ready x v)) ≡ true
       puts x m v (inl may) so = let r = parked_at m v s may in let p = place_at is_parked (place_of m s) r.0 in so_put (place_of m a.base) p.0 x v p.1.1 (λ g. r.1 (ap is_fresh p.1.0 ∙ g)) (ap (is_so (watch a m)) (sym p.1.0) ∙ so)
       puts x m v (inr may) so = absurd may
 
@@ -167,7 +158,7 @@ module _ {a : Scene} {b : Core} {n : ℕ} {q : Option Place} (f : Follows a b n 
       waiting k may = fresh_still a st k (withdraws_waits k s may)
 
   -- a thread that is blocked stays so, but where its host's work is done
-  pub stuck_word : (m : ℕ) (sub : Subtask) (w : Word) (s : Core) → Stays a w s → Stand (watch a) n q [] s → place_of m s ≡ Some (place.Blocked sub) → (place_of m (after_word w s) ≡ Some (place.Blocked sub)) ⊎ (is_done_host sub s ≡ true)
+  pub stuck_word : (m : ℕ) (sub : Subtask) (w : Word) (s : Core) → Stays a w s → Stand (watch a) n q [] s → place_of m s ≡ Some (Place.Blocked sub) → (place_of m (after_word w s) ≡ Some (Place.Blocked sub)) ⊎ (is_done_host sub s ≡ true)
   stuck_word m sub w s ok st at = by_put (puts_of m w) refl
     where
       only : ℕ → Watch
@@ -179,7 +170,7 @@ module _ {a : Scene} {b : Core} {n : ℕ} {q : Option Place} (f : Follows a b n 
       watched : (k : ℕ) → is_watched (only k) ≡ true → k ≡ m
       watched k h = grind (arith, nat_tests)
 
-      by_put : (b : Bool) → puts_of m w ≡ b → (place_of m (after_word w s) ≡ Some (place.Blocked sub)) ⊎ (is_done_host sub s ≡ true)
+      by_put : (b : Bool) → puts_of m w ≡ b → (place_of m (after_word w s) ≡ Some (Place.Blocked sub)) ⊎ (is_done_host sub s ≡ true)
       by_put true e = inr (put_done a m sub w s ok at e)
       by_put false e =
           let t = keeps_word w s ok (λ x k v is g so. no_way (sym e ∙ (ap (puts_of m) is ∙ (ap (λ (j : ℕ). j == m) (watched k g) ∙ eq_refl m))))
@@ -197,13 +188,14 @@ abbrev pub Begun : Scene → ℕ → Core → Type 0
 Begun a k t = ((is_there k a.base ≡ true) × (is_explicit k a.base ≡ false → is_begun (task_of k a.base) t ≡ true)) ⊎ (is_begun k t ≡ true)
 
 -- Each thread has its place, and the one whose turn comes runs; who waited for its start still does, or its call has begun; who was under
--- another still is, or that one is gone; and one that was made and runs has another under it.
+-- another still is, or that one is gone and its turn comes, or it's gone too; and one that was made and runs has the runner under it.
 pub record Arrives (a : Scene) (t : Core) : Type 0 where
   pub placed : All t
-  pub runs : (m : ℕ) → a.next ≡ turn.Run m → place_of m t ≡ Some place.Running
+  pub runs : (m : ℕ) → a.next ≡ Turn.Run m → place_of m t ≡ Some Place.Running
   pub fresh : (k : ℕ) → waits a k ≡ true → (is_fresh (place_of k t) ≡ true) ⊎ Begun a k t
-  pub covered : (k m : ℕ) → place_of k a.base ≡ Some (place.Under m) → (place_of k t ≡ Some (place.Under m)) ⊎ (place_of m t ≡ None)
-  pub entered : (m : ℕ) → place_of m a.base ≡ None → a.next ≡ turn.Run m → (n : ℕ) × (place_of n t ≡ Some (place.Under m))
+  pub covered : (k m : ℕ) → place_of k a.base ≡ Some (Place.Under m) → (place_of k t ≡ Some (Place.Under m)) ⊎
+      ((place_of m t ≡ None) × ((a.next ≡ Turn.Run k) ⊎ (place_of k t ≡ None)))
+  pub entered : (m : ℕ) → place_of m a.base ≡ None → a.next ≡ Turn.Run m → (n : ℕ) × (IsRunner a n × (place_of n t ≡ Some (Place.Under m)))
 
 far_arrives : (a : Scene) (n : ℕ) (h : HowFar) (s : Core) → Arrives a s → Arrives a (set_how_far n h s)
 unfolding set_how_far on_thread
@@ -214,7 +206,7 @@ far_arrives a n h s r =
       runs = λ m to. u.places m ∙ r.runs m to;
       fresh = λ k w. let e = same k in let h = r.fresh k w in grind arith;
       covered = λ k m at. let e = same k in let g = same m in let h = r.covered k m at in grind arith;
-      entered = λ m none to. let e = r.entered m none to in (e.0, u.places e.0 ∙ e.1);
+      entered = λ m none to. let e = r.entered m none to in (e.0, (e.1.0, u.places e.0 ∙ e.1.1));
     }
   where
     same : (k : ℕ) → place_of k (on_thread n (λ t. record t { how_far = h }) s) ≡ place_of k s
@@ -223,12 +215,12 @@ far_arrives a n h s r =
 -- ---- The thread itself comes to a place
 
 -- who is taken and waits for its start is taken for it
-fresh_ready : (p : Place) → is_busy (Some p) ≡ true → is_fresh (Some p) ≡ true → (x : Mark) × (p ≡ place.Ready x why.Start)
-fresh_ready (place.Ready x why.Start) b h = (x, refl)
+fresh_ready : (p : Place) → is_busy (Some p) ≡ true → is_fresh (Some p) ≡ true → (x : Mark) × (p ≡ Place.Ready x Why.Start)
+fresh_ready (Place.Ready x Why.Start) b h = (x, refl)
 fresh_ready p b h = absurd (grind arith)
 
 abbrev pub is_run : Turn → Bool
-is_run (turn.Run n) = true
+is_run (Turn.Run n) = true
 is_run _ = false
 
 pub placeless : (o : Option Thread) → is_none o ≡ true → is_some (option_map (λ (t : Thread). t.place) o) ≡ false
@@ -248,14 +240,14 @@ move_runner k r s (Suspends l e) = inl l.0
 move_runner k r s (Uncovers m i to under none e) = inr (m, (i, none))
 
 abbrev pub is_under_place : Option Place → Bool
-is_under_place (Some (place.Under m)) = true
+is_under_place (Some (Place.Under m)) = true
 is_under_place _ = false
 
 module _ {a : Scene} {b : Core} (n : ℕ) (p : Place) (f : Follows a b n (Some p)) (is : IsRunner a n) (home : place_of n a.base ≡ Some p) (top : is_under_place (Some p) ≡ false) where
   one : (m : ℕ) → IsRunner a m → m ≡ n
   one m e = ap (λ (o : Option ℕ). unwrap_or o m) (sym e ∙ is)
 
-  comes : (r : Place) (s t : Core) → Adds n r s t → Stand (watch a) n (Some p) [] s → ((m : ℕ) → a.next ≡ turn.Run m → (m ≡ n) × (r ≡ place.Running)) → (waits a n ≡ true → (is_fresh (Some r) ≡ true) ⊎ Begun a n t) → Arrives a t
+  comes : (r : Place) (s t : Core) → Adds n r s t → Stand (watch a) n (Some p) [] s → ((m : ℕ) → a.next ≡ Turn.Run m → (m ≡ n) × (r ≡ Place.Running)) → (waits a n ≡ true → (is_fresh (Some r) ≡ true) ⊎ Begun a n t) → Arrives a t
   comes r s t adds st runs fresh = record {
     placed = adds_all n (Some p) r s t adds st;
     runs = λ m to. let e = runs m to in ap (λ (j : ℕ). place_of j t) e.0 ∙ (adds.own ∙ ap (λ (x : Place). Some x) e.1);
@@ -266,7 +258,7 @@ module _ {a : Scene} {b : Core} (n : ℕ) (p : Place) (f : Follows a b n (Some p
   }
 
   -- a running thread waits for no start
-  begun : (s : Core) {A : Type 0} → a.turn ≡ turn.Run n → waits a n ≡ true → A
+  begun : (s : Core) {A : Type 0} → a.turn ≡ Turn.Run n → waits a n ≡ true → A
   begun s runs h = no_way (sym (f.runs n runs).1 ∙ (ap is_fresh (sym home) ∙ h))
 
   left : (r : Place) (s t : Core) → Leaves a n → Adds n r s t → Stand (watch a) n (Some p) [] s → Arrives a t
@@ -295,25 +287,25 @@ module _ {a : Scene} {b : Core} (n : ℕ) (p : Place) (f : Follows a b n (Some p
       go (Suspends l at) = left r s (set_place n r s) l (adds (ap is_free at)) st
 
   -- by a direct call it is under the new thread
-  enters : (m : ℕ) (s : Core) → MayLand a (Enter n m) s → Stand (watch a) n (Some p) [] s → Arrives a (set_place n (place.Under m) (set_place m place.Running s))
+  enters : (m : ℕ) (s : Core) → MayLand a (Enter n m) s → Stand (watch a) n (Some p) [] s → Arrives a (set_place n (Place.Under m) (set_place m Place.Running s))
   unfolding set_place on_thread
   enters m s ok st =
       let r = f.runs n ok.1.1.1.1.1.0 in
       let new = ok.1.1.1.0 in
-      let u = set_place m place.Running s in
-      let all : All u = adds_all m (Some place.New) place.Running s u (set_place_adds m place.Running place.New s refl new) (stand_of {P = nobody} m (Some place.New) s new refl (λ k h. no_way h) (all_of n (Some p) s r.0 st)) in
-      let at : place_of n u ≡ Some p = place_kept n m place.Running s (flipped n m apart) ∙ st.here in
-      let t = set_place n (place.Under m) u in
-      let here : place_of m t ≡ Some place.Running = place_kept m n (place.Under m) u apart ∙ place_written m place.Running place.New s new in
+      let u = set_place m Place.Running s in
+      let all : All u = adds_all m (Some Place.New) Place.Running s u (set_place_adds m Place.Running Place.New s refl new) (stand_of {P = nobody} m (Some Place.New) s new refl (λ k h. no_way h) (all_of n (Some p) s r.0 st)) in
+      let at : place_of n u ≡ Some p = place_kept n m Place.Running s (flipped n m apart) ∙ st.here in
+      let t = set_place n (Place.Under m) u in
+      let here : place_of m t ≡ Some Place.Running = place_kept m n (Place.Under m) u apart ∙ place_written m Place.Running Place.New s new in
       record {
-        placed = adds_all n (Some p) (place.Under m) u t (set_place_adds n (place.Under m) p u refl at) (stand_of {P = nobody} n (Some p) u at r.0 (λ k h. no_way h) all);
+        placed = adds_all n (Some p) (Place.Under m) u t (set_place_adds n (Place.Under m) p u refl at) (stand_of {P = nobody} n (Some p) u at r.0 (λ k h. no_way h) all);
         runs = λ k to. ap (λ (j : ℕ). place_of j t) (one_runner k m (sym to ∙ ok.1.0)) ∙ here;
         fresh = λ k h. by_number k m ((is_fresh (place_of k t) ≡ true) ⊎ Begun a k t) (λ e. inr (inr (rw e ok.1.1.1.1.1.1.0)))
             (λ e. let still = fresh_still a st k h in let own = λ (g : waits a n ≡ true). begun s {A = ⊥} ok.1.1.1.1.1.0 g in
-            inl (grind (arith, nat_tests, set_place_is k n (place.Under m) u, set_place_is k m place.Running s, own)));
+            inl (grind (arith, nat_tests, set_place_is k n (Place.Under m) u, set_place_is k m Place.Running s, own)));
         covered = λ k j under. let still = covered_still a st k j under in
-            inl (grind (arith, nat_tests, set_place_is k n (place.Under m) u, set_place_is k m place.Running s, new));
-        entered = λ k none to. (n, place_written n (place.Under m) p u at ∙ ap (λ (j : ℕ). Some (place.Under j)) (sym (one_runner k m (sym to ∙ ok.1.0))));
+            inl (grind (arith, nat_tests, set_place_is k n (Place.Under m) u, set_place_is k m Place.Running s, new));
+        entered = λ k none to. (n, (is, place_written n (Place.Under m) p u at ∙ ap (λ (j : ℕ). Some (Place.Under j)) (sym (one_runner k m (sym to ∙ ok.1.0)))));
       }
     where
       apart : (m == n) ≡ false
@@ -324,9 +316,9 @@ module _ {a : Scene} {b : Core} (n : ℕ) (p : Place) (f : Follows a b n (Some p
   foot_given g s (inr h) st = given_there n (Some p) [] s st g (ap (λ (j : ℕ). is_there j s) h.1.1 ∙ foot_there h.0 s (switch_there n (Some p) [] s st h.0 h.1.0))
 
   lands_at : (x : Placing) (s : Core) → MayLand a x s → Stand (watch a) n (Some p) [] s → Arrives a (after_placing x s)
-  lands_at (Put mark.High k w) s ok st = let e = one k (yield_runner k w ok) in subst (λ (j : ℕ). Arrives a (put_high j w s)) (sym e) (left (place.Ready mark.High w) s (put_high n w s) (yield_leaves w (subst (λ (j : ℕ). MayYield a j w) e ok)) (put_high_adds n w p s st.here) st)
-  lands_at (Put mark.Low k w) s ok st = let e = one k (yield_runner k w ok) in subst (λ (j : ℕ). Arrives a (put_low j w s)) (sym e) (left (place.Ready mark.Low w) s (put_low n w s) (yield_leaves w (subst (λ (j : ℕ). MayYield a j w) e ok)) (put_low_adds n w p s st.here) st)
-  lands_at (GoBehind g k) s ok st = let e = one k ok.0.0 in subst (λ (j : ℕ). Arrives a (behind_one g j s)) (sym e) (left (place.Behind g) s (behind_one g n s) (subst (Leaves a) e ok.0) (behind_adds g n p s (foot_given g s ok.1 st) st.here) st)
+  lands_at (Put Mark.High k w) s ok st = let e = one k (yield_runner k w ok) in subst (λ (j : ℕ). Arrives a (put_high j w s)) (sym e) (left (Place.Ready Mark.High w) s (put_high n w s) (yield_leaves w (subst (λ (j : ℕ). MayYield a j w) e ok)) (put_high_adds n w p s st.here) st)
+  lands_at (Put Mark.Low k w) s ok st = let e = one k (yield_runner k w ok) in subst (λ (j : ℕ). Arrives a (put_low j w s)) (sym e) (left (Place.Ready Mark.Low w) s (put_low n w s) (yield_leaves w (subst (λ (j : ℕ). MayYield a j w) e ok)) (put_low_adds n w p s st.here) st)
+  lands_at (GoBehind g k) s ok st = let e = one k ok.0.0 in subst (λ (j : ℕ). Arrives a (behind_one g j s)) (sym e) (left (Place.Behind g) s (behind_one g n s) (subst (Leaves a) e ok.0) (behind_adds g n p s (foot_given g s ok.1 st) st.here) st)
   lands_at (Move k r) s ok st = moves (move_runner k r s ok)
     where
       moves : IsRunner a k ⊎ ((m : ℕ) × (IsRunner a m × (is_none (get s.threads m) ≡ true))) → Arrives a (set_place k r s)
@@ -351,7 +343,7 @@ record Falling (a : Scene) (n : ℕ) (s : Core) : Type 0 where
   pub own : Loose n s
   pub idle : (k : ℕ) → is_idle (place_of k a.base) ≡ true → is_idle (place_of k s) ≡ true
   pub fresh : (k : ℕ) → waits a k ≡ true → is_fresh (place_of k s) ≡ true
-  pub covered : (k m : ℕ) → place_of k a.base ≡ Some (place.Under m) → (place_of k s ≡ Some (place.Under m)) ⊎ (place_of m s ≡ None)
+  pub covered : (k m : ℕ) → place_of k a.base ≡ Some (Place.Under m) → (place_of k s ≡ Some (Place.Under m)) ⊎ ((place_of m s ≡ None) × (place_of k s ≡ None))
 
 -- How the words begin and end beside the thread n, which runs or was taken; or there is no such thread.
 pub record Frame (a : Scene) (b : Core) (n : ℕ) (q : Option Place) : Type 0 where
@@ -359,12 +351,12 @@ pub record Frame (a : Scene) (b : Core) (n : ℕ) (q : Option Place) : Type 0 wh
   pub home : (k : ℕ) → place_of k b ≡ place_of k a.base
   pub one : (m : ℕ) → IsRunner a m → m ≡ n
   pub there : (m : ℕ) → IsRunner a m → (p : Place) × ((q ≡ Some p) × (is_under_place (Some p) ≡ false))
-  pub running : (m : ℕ) → a.turn ≡ turn.Run m → (m ≡ n) × (q ≡ Some place.Running)
+  pub running : (m : ℕ) → a.turn ≡ Turn.Run m → (m ≡ n) × (q ≡ Some Place.Running)
   pub rests : (t : Core) → LastWords a t → (is_idle (place_of n a.base) ≡ true → is_idle (place_of n t) ≡ true) → is_idle (place_of n t) ≡ true
 
 pub land_runner : (a : Scene) (p : Placing) (s : Core) → MayLand a p s → (k : ℕ) × IsRunner a k
-land_runner a (Put mark.High k w) s ok = (k, yield_runner k w ok)
-land_runner a (Put mark.Low k w) s ok = (k, yield_runner k w ok)
+land_runner a (Put Mark.High k w) s ok = (k, yield_runner k w ok)
+land_runner a (Put Mark.Low k w) s ok = (k, yield_runner k w ok)
 land_runner a (GoBehind g k) s ok = (k, ok.0.0)
 land_runner a (Move k r) s ok = go (move_runner k r s ok)
   where
@@ -376,7 +368,7 @@ land_runner a p s ok = absurd ok
 
 module _ {a : Scene} {b : Core} {n : ℕ} {q : Option Place} (f : Frame a b n q) where
   -- the runner is under none
-  no_cover : (k m : ℕ) → IsRunner a k → place_of k a.base ≡ Some (place.Under m) → {A : Type 0} → A
+  no_cover : (k m : ℕ) → IsRunner a k → place_of k a.base ≡ Some (Place.Under m) → {A : Type 0} → A
   no_cover k m is at = let p = f.there k is in let here = f.follows.start.here in let home = f.home n in let one = f.one k is in absurd (grind arith)
 
   fall_word : (w : Word) (s : Core) → IsFall a w s → Falling a n s → Falling a n (after_word w s)
@@ -386,12 +378,12 @@ module _ {a : Scene} {b : Core} {n : ℕ} {q : Option Place} (f : Frame a b n q)
     own = removed_loose n j s h.own;
     idle = λ k i. grind (arith, nat_tests, removed_is k j s, h.idle k);
     fresh = λ k w. removed_fresh k j s (h.fresh k w);
-    covered = λ k m at. let up = λ (e : place_of j a.base ≡ Some (place.Under m)). above m e ok in
+    covered = λ k m at. let up = λ (e : place_of j a.base ≡ Some (Place.Under m)). above m e ok in
         grind (arith, nat_tests, removed_is k j s, removed_is m j s, h.covered k m, up);
   }
     where
       -- who goes is the runner, or was under one that is gone
-      above : (m : ℕ) → place_of j a.base ≡ Some (place.Under m) → MayGo a j s → place_of m (remove_thread j s) ≡ None
+      above : (m : ℕ) → place_of j a.base ≡ Some (Place.Under m) → MayGo a j s → place_of m (remove_thread j s) ≡ None
       above m at (Departs l) = no_cover j m l.0 at
       above m at (EndsOver i is to under) = no_cover j m is at
       above m at (Falls over (inl i)) = no_cover j m i at
@@ -417,31 +409,31 @@ module _ {a : Scene} {b : Core} {n : ℕ} {q : Option Place} (f : Frame a b n q)
       record { others = λ k e. st.placed k (no_time k n e); own = st.loose n (one_time n); idle = λ k i. ap is_idle (f.home k) ∙ i; fresh = λ k w. fresh_still a st k w; covered = λ k m at. inl (covered_still a st k m at) }
 
   -- the thread exits
-  pub exits : (s t : Core) → IsRunner a n → Stand (watch a) n q [] s → Settles (after_word (RemoveThread n) s) t → All t × (((k : ℕ) → waits a k ≡ true → is_fresh (place_of k t) ≡ true) × ((k m : ℕ) → place_of k a.base ≡ Some (place.Under m) → place_of k t ≡ Some (place.Under m)))
+  pub exits : (s t : Core) → IsRunner a n → Stand (watch a) n q [] s → Settles (after_word (RemoveThread n) s) t → All t × (((k : ℕ) → waits a k ≡ true → is_fresh (place_of k t) ≡ true) × ((k m : ℕ) → place_of k a.base ≡ Some (Place.Under m) → place_of k t ≡ Some (Place.Under m)))
   exits s t is st d =
       let u = settles_quiet d in (
         λ k. quiet_placed k (remove_thread n s) t u (removed_all n q s st k),
         (
           λ k w. ap is_fresh (u.places k) ∙ removed_fresh k n s (fresh_still a st k w),
-          λ k m at. let own = λ (e : place_of n a.base ≡ Some (place.Under m)). no_cover n m is e {A = ⊥} in
+          λ k m at. let own = λ (e : place_of n a.base ≡ Some (Place.Under m)). no_cover n m is e {A = ⊥} in
               grind (arith, nat_tests, u.places k, removed_is k n s, covered_still a st k m, own),
         ),
       )
 
   -- and the one under it goes on
-  goes_back : (s t : Core) (m v : ℕ) → Stay a b s → IsRunner a n → a.turn ≡ turn.Run n → a.next ≡ turn.Run m → place_of m a.base ≡ Some (place.Under n) → Settles (after_word (RemoveThread n) s) t → Arrives a (set_how_far m (how_far.Answered v) (set_place m place.Running t))
+  goes_back : (s t : Core) (m v : ℕ) → Stay a b s → IsRunner a n → a.turn ≡ Turn.Run n → a.next ≡ Turn.Run m → place_of m a.base ≡ Some (Place.Under n) → Settles (after_word (RemoveThread n) s) t → Arrives a (set_how_far m (HowFar.Answered v) (set_place m Place.Running t))
   goes_back s t m v c is runs to under d =
       let st = stay_stand f.follows c in
       let e = exits s t is st d in
-      let at : place_of m t ≡ Some (place.Under n) = e.1.1 m n under in
-      let apart : (m == n) ≡ false = let own = λ (g : place_of n a.base ≡ Some (place.Under n)). no_cover n n is g {A = ⊥} in grind (arith, nat_tests) in
-      let u = set_place m place.Running t in
-      far_arrives a m (how_far.Answered v) u (record {
-        placed = adds_all m (Some (place.Under n)) place.Running t u (set_place_adds m place.Running (place.Under n) t refl at) (stand_of {P = nobody} m (Some (place.Under n)) t at refl (λ k h. no_way h) e.0);
-        runs = λ k next. let one = one_runner k m (sym next ∙ to) in let own = place_written m place.Running (place.Under n) t at in cc;
-        fresh = λ k h. let still = e.1.0 k h in inl (grind (arith, nat_tests, set_place_is k m place.Running t));
+      let at : place_of m t ≡ Some (Place.Under n) = e.1.1 m n under in
+      let apart : (m == n) ≡ false = let own = λ (g : place_of n a.base ≡ Some (Place.Under n)). no_cover n n is g {A = ⊥} in grind (arith, nat_tests) in
+      let u = set_place m Place.Running t in
+      far_arrives a m (HowFar.Answered v) u (record {
+        placed = adds_all m (Some (Place.Under n)) Place.Running t u (set_place_adds m Place.Running (Place.Under n) t refl at) (stand_of {P = nobody} m (Some (Place.Under n)) t at refl (λ k h. no_way h) e.0);
+        runs = λ k next. let one = one_runner k m (sym next ∙ to) in let own = place_written m Place.Running (Place.Under n) t at in cc;
+        fresh = λ k h. let still = e.1.0 k h in inl (grind (arith, nat_tests, set_place_is k m Place.Running t));
         covered = λ k j over. let low = (settles_quiet d).places n in let gone = gone_place n s in let still = e.1.1 k j over in
-            grind (arith, nat_tests, set_place_is k m place.Running t, set_place_is j m place.Running t);
+            grind (arith, nat_tests, set_place_is k m Place.Running t, set_place_is j m Place.Running t);
         entered = λ k none next. let one = one_runner k m (sym next ∙ to) in absurd (cc);
       })
 
@@ -469,14 +461,14 @@ module _ {a : Scene} {b : Core} {n : ℕ} {q : Option Place} (f : Frame a b n q)
       record { placed = e.0; runs = λ m to. not_main m (sym leave.1.0 ∙ to); fresh = λ k h. inl (e.1.0 k h); covered = λ k m at. inl (e.1.1 k m at); entered = λ m none to. not_main m (sym leave.1.0 ∙ to) }
   trip_arrives (GoesBack s t k m v c is runs to under d ok) w =
       let e = f.one k is in
-      subst (λ (y : Core). Arrives a (set_how_far m (how_far.Answered v) y)) (sym (placing_shifted (Move m place.Running) t).only)
-      (goes_back s t m v c (subst (IsRunner a) e is) (subst (λ (j : ℕ). a.turn ≡ turn.Run j) e runs) to (subst (λ (j : ℕ). place_of m a.base ≡ Some (place.Under j)) e under) (subst (λ (j : ℕ). Settles (after_word (RemoveThread j) s) t) e d))
+      subst (λ (y : Core). Arrives a (set_how_far m (HowFar.Answered v) y)) (sym (placing_shifted (Move m Place.Running) t).only)
+      (goes_back s t m v c (subst (IsRunner a) e is) (subst (λ (j : ℕ). a.turn ≡ Turn.Run j) e runs) to (subst (λ (j : ℕ). place_of m a.base ≡ Some (Place.Under j)) e under) (subst (λ (j : ℕ). Settles (after_word (RemoveThread j) s) t) e d))
   trip_arrives (Collapses t over c) w =
       let h = along (Falling a n) fall_word falling c in
       record {
         placed = λ k. by_number k n (HasPlace k t) (λ e. subst (λ (j : ℕ). HasPlace j t) (sym e) (loose_idle n (place_of n t) t refl (f.rests t w (h.idle n)) h.own)) (λ e. h.others k e);
         runs = λ m to. no_way (ap is_run (sym over ∙ to));
         fresh = λ k g. inl (h.fresh k g);
-        covered = h.covered;
+        covered = λ k m at. ⊎_elim inl (λ g. inr (g.0, inr g.1)) (h.covered k m at);
         entered = λ m none to. no_way (ap is_run (sym over ∙ to));
       }

@@ -1,22 +1,10 @@
 -- Checks after other moves: after a release and a stop, told on the state before, and after a return.
-use Rattle.task_rules.proofs.Machine.{[], admitted_held, All, ap, arith, behind, behind_one, blocked_on, BlockingCheckIsAfter, Bool, CallbackCheckIsAfter, Caller, caller_of, callers_of, code_stops, cond, Core, end_reopens, Entry, false, find, first_at, first_entry, first_in, first_waiter, foot_of, get, give_result, Goal, goal_of, has_waiter, held_by_flag, held_why_of, if◌then◌else◌, instance_of, is_at, is_callback_waiter, is_entry_in, is_held_admitted, is_nil, is_some, is_told, is_waiting_on, IsPermutation, Join, join_of, length, List, list_any, list_any-append, may_not_suspend, may_publish, may_tell, may_wake, may_wake_joined, nat_cmp, nat_tests, newest, None, not, not-true, numbers, older, on_call, on_instance, on_thread, Option, option_map, option_map_or, passed_on, passes_after_return, passes_after_stop, passes_check, Place, published, push_high, put_high, put_switch, refl, register_of, released, released_one, result_given, resumed_all, returned, same_map, set_callers, set_do_not_enter, set_end, set_event, set_place, set_register, set_result, set_switch, Some, Status, stopped, subst, sym, task_of, Thread, told, true, unblocked, waiter_told, wake, wake_joined, waken_by, Why, with_high, ℕ, ◌&&◌, ◌==◌, ◌||◌, ◌∙◌, ◌∷◌, ◌≡◌}
+use Rattle.task_rules.proofs.Machine.{[], admitted_held, All, ap, arith, behind, behind_one, blocked_on, BlockingCheckIsAfter, Bool, CallbackCheckIsAfter, CallEnd, Caller, caller_of, callers_of, code_stops, cond, Core, Delivery, end_reopens, Entry, false, find, first_at, first_entry, first_in, first_waiter, foot_of, get, get-change, give_result, Goal, goal_of, has_waiter, held_by_flag, held_why_of, if◌then◌else◌, instance_of, is_at, is_callback_waiter, is_entry_in, is_held_admitted, is_nil, is_some, is_told, is_waiting_on, IsPermutation, Join, join_of, length, List, list_any, list_any-append, Mark, may_not_suspend, may_publish, may_tell, may_wake, may_wake_joined, nat_cmp, nat_tests, newest, None, not, not-true, numbers, older, on_call, on_instance, on_thread, Option, option_map, option_map_or, passed_on, passes_after_return, passes_after_stop, passes_check, Place, published, push_high, put_high, put_switch, refl, register_of, released, released_one, result_given, resumed_all, returned, same_map, set_callers, set_do_not_enter, set_end, set_event, set_place, set_register, set_result, set_switch, Some, Status, stopped, subst, Subtask, sym, task_of, Thread, told, true, unblocked, waiter_told, wake, wake_joined, waken_by, Why, with_high, ℕ, ◌&&◌, ◌==◌, ◌||◌, ◌∙◌, ◌∷◌, ◌≡◌}
 use Rattle.std.proofs.Math.Bool.{or-false}
 use Rattle.std.proofs.lemmas.List.Elements.{filter_passes}
 use Rattle.std.proofs.lemmas.List.Sorted.{All-permutation, length_permutation, list_any-IsPermutation}
-use Rattle.task_machine.specs.declared.records.Entry.TheVariants as entry
-use Rattle.task_machine.specs.declared.records.Place.TheVariants as place
-use Rattle.task_machine.specs.declared.records.Why.TheVariants as why
-use Rattle.task_machine.specs.declared.words.Mark.TheVariants as mark
-use Rattle.task_machine.proofs.CommuteLemmas.{get-change}
 use Rattle.task_rules.proofs.StandLemmas.{set_place_is}
 use Rattle.std.specs.FinMap.Entries.{find as seek}
-use Rattle.task_machine.specs.declared.records.CallEnd.TheVariants as call_end
-use Rattle.task_machine.specs.declared.records.Caller.TheVariants as caller
-use Rattle.task_machine.specs.declared.records.Delivery.TheVariants as delivery
-use Rattle.task_machine.specs.declared.records.Goal.TheVariants as goal
-use Rattle.task_machine.specs.declared.records.Join.TheVariants as join
-use Rattle.task_machine.specs.declared.records.Subtask.TheVariants as subtask
-use Rattle.task_machine.specs.declared.words.Status.TheVariants as status
 
 -- ---- A release, in any order
 
@@ -29,11 +17,11 @@ any_high p s = list_any p s.queues.high
 
 -- so does the entry that some held one of the threads would get
 abbrev any_held : (Entry → Bool) → Core → List ℕ → Bool
-any_held p s ns = list_any (λ n. is_held s n && p (entry.Thread n)) ns
+any_held p s ns = list_any (λ n. is_held s n && p (Entry.Thread n)) ns
 
 -- a held thread comes to high
 abbrev let_go : Place → Place
-let_go (place.Held w) = place.Ready mark.High w
+let_go (Place.Held w) = Place.Ready Mark.High w
 let_go p = p
 
 abbrev freed : Thread → Thread
@@ -51,17 +39,17 @@ released_threads k [] s = refl
 released_threads k (n ∷ ns) s = grind (arith, released_threads k ns (released_one n (held_why_of n s) s), one_freed k n s)
 
 -- one that is held is so after another's release, if the test can't tell
-held_still : (p : Entry → Bool) (n : ℕ) (w : Why) (ns : List ℕ) (s : Core) → p (entry.Thread n) ≡ false →
+held_still : (p : Entry → Bool) (n : ℕ) (w : Why) (ns : List ℕ) (s : Core) → p (Entry.Thread n) ≡ false →
     any_held p (put_high n w s) ns ≡ any_held p s ns
 unfolding put_high push_high set_place on_thread
 held_still p n w [] s off = refl
-held_still p n w (m ∷ ns) s off = grind (arith, nat_tests, set_place_is m n (place.Ready mark.High w) s, held_still p n w ns s off)
+held_still p n w (m ∷ ns) s off = grind (arith, nat_tests, set_place_is m n (Place.Ready Mark.High w) s, held_still p n w ns s off)
 
 any_released : (p : Entry → Bool) (ns : List ℕ) (s : Core) → any_high p (released ns s) ≡ (any_high p s || any_held p s ns)
 unfolding released put_high push_high set_place on_thread
 any_released p [] s = sym (or-false (any_high p s))
 any_released p (n ∷ ns) s =
-    grind (arith, any_released p ns (released_one n (held_why_of n s) s), list_any-append p s.queues.high (entry.Thread n ∷ []), held_still p n)
+    grind (arith, any_released p ns (released_one n (held_why_of n s) s), list_any-append p s.queues.high (Entry.Thread n ∷ []), held_still p n)
 
 -- From s to t only the order at high changes.
 record Reordered (s t : Core) : Type 0 where
@@ -89,7 +77,7 @@ release_reordered ms ns s perm = record {
       released_only ns s
       ∙ (ap (λ m. record s { threads = m; queues = with_high (released ns s).queues.high s.queues }) (same_map _ _ same_at)
       ∙ sym (ap (λ (c : Core). record c { queues = with_high (released ns s).queues.high c.queues }) (released_only ms s)));
-  any = λ p. grind (arith, any_released p ns s, any_released p ms s, any (λ n. is_held s n && p (entry.Thread n)));
+  any = λ p. grind (arith, any_released p ns s, any_released p ms s, any (λ n. is_held s n && p (Entry.Thread n)));
 }
   where
     any : (test : ℕ → Bool) → list_any test ns ≡ list_any test ms
@@ -124,7 +112,7 @@ behind_switch f (n ∷ ns) s = behind_switch f ns (behind_one f n s)
 resumed_switch : (ns : List ℕ) (s : Core) → (resumed_all ns s).queues.switch ≡ s.queues.switch
 unfolding put_high push_high set_place on_thread
 resumed_switch [] s = refl
-resumed_switch (n ∷ ns) s = resumed_switch ns (put_high n why.Resumption s)
+resumed_switch (n ∷ ns) s = resumed_switch ns (put_high n Why.Resumption s)
 
 stop_passes : (i f : ℕ) (s : Core) → passes_check i (stopped f s) ≡ (passes_check i s || not (is_nil (callers_of f s)))
 unfolding stopped passes_check set_callers first_entry put_switch set_switch
@@ -138,7 +126,7 @@ stop_passes i f s = by_switch s.queues.switch (callers_of f s) refl
     by_switch (Some m) [] e = grind arith
     by_switch None [] e = grind arith
     by_switch (Some m) (n ∷ ns) e = grind (arith, behind_switch (foot_of m t) (n ∷ ns) t)
-    by_switch None (n ∷ ns) e = grind (arith, resumed_switch (older n ns) (put_switch (newest n ns) why.Resumption t))
+    by_switch None (n ∷ ns) e = grind (arith, resumed_switch (older n ns) (put_switch (newest n ns) Why.Resumption t))
 
 -- ---- A release
 
@@ -192,21 +180,21 @@ carried {f = f} h s t q = subst (λ c. Reordered (f s) (f c)) (sym q.only) (h s 
 put_follows : (n : ℕ) (w : Why) → Follows (put_high n w)
 unfolding put_high push_high set_place on_thread
 put_follows n w s hs any =
-    let more = entry.Thread n ∷ [] in
+    let more = Entry.Thread n ∷ [] in
     record { only = refl; any = λ p. grind (arith, list_any-append p hs more, list_any-append p s.queues.high more, any p) }
 
 unblocked_follows : (o : Option ℕ) → Follows (unblocked o)
 unblocked_follows None s hs any = record { only = refl; any = any }
-unblocked_follows (Some n) s hs any = put_follows n why.Resumption s hs any
+unblocked_follows (Some n) s hs any = put_follows n Why.Resumption s hs any
 
 wake_follows : (j : Join) (w : Option ℕ) → Follows (wake_joined j w)
 unfolding wake
-wake_follows (join.Set x) (Some n) s hs any = by_callback (is_callback_waiter n s)
+wake_follows (Join.Set x) (Some n) s hs any = by_callback (is_callback_waiter n s)
   where
     by_callback : (b : Bool) → Reordered (waken_by b x n s) (waken_by b x n (at_high hs s))
-    by_callback true = put_follows n (why.Delivery (delivery.Set x)) s hs any
-    by_callback false = put_follows n why.Resumption s hs any
-wake_follows (join.Set x) None s hs any = record { only = refl; any = any }
+    by_callback true = put_follows n (Why.Delivery (Delivery.Set x)) s hs any
+    by_callback false = put_follows n Why.Resumption s hs any
+wake_follows (Join.Set x) None s hs any = record { only = refl; any = any }
 wake_follows _ w s hs any = record { only = refl; any = any }
 
 told_follows : (k : ℕ) (e : Status) (w : Option ℕ) → Follows (told k e w)
@@ -214,24 +202,24 @@ unfolding told published set_event on_call blocked_on
 told_follows k e w s hs any = by_told (is_told k s)
   where
     tell : Core → Core
-    tell t = published (subtask.Guest k) e w t
+    tell t = published (Subtask.Guest k) e w t
 
     by_told : (b : Bool) → Reordered (if b then tell s else s) (if b then tell (at_high hs s) else at_high hs s)
     by_told true =
-        let x = set_event (subtask.Guest k) (Some e) s in
-        carried (wake_follows (join_of (subtask.Guest k) s) w) _ _ (unblocked_follows (blocked_on (subtask.Guest k) s) x hs any)
+        let x = set_event (Subtask.Guest k) (Some e) s in
+        carried (wake_follows (join_of (Subtask.Guest k) s) w) _ _ (unblocked_follows (blocked_on (Subtask.Guest k) s) x hs any)
     by_told false = record { only = refl; any = any }
 
 given_follows : (g : Goal) (f : Caller) (k v : ℕ) → Follows (result_given g f k v)
 unfolding give_result set_register on_thread set_result on_call
-given_follows (goal.Register r) (caller.Thread n) k v s hs any = record { only = refl; any = any }
-given_follows (goal.Register r) caller.Main k v s hs any = record { only = refl; any = any }
+given_follows (Goal.Register r) (Caller.Thread n) k v s hs any = record { only = refl; any = any }
+given_follows (Goal.Register r) Caller.Main k v s hs any = record { only = refl; any = any }
 given_follows _ f k v s hs any = record { only = refl; any = any }
 
 returned_follows : (k v : ℕ) (w : Option ℕ) → Follows (returned k v w)
 unfolding returned set_end on_call
 returned_follows k v w s hs any =
-    carried (told_follows k status.Returned w) _ _ (given_follows (goal_of k s) (caller_of k s) k v (set_end k call_end.Returned s) hs any)
+    carried (told_follows k Status.Returned w) _ _ (given_follows (goal_of k s) (caller_of k s) k v (set_end k CallEnd.Returned s) hs any)
 
 reordered_passes : (i : ℕ) (s t : Core) → Reordered s t → passes_check i t ≡ passes_check i s
 reordered_passes i s t h =
@@ -246,7 +234,7 @@ reordered_passes i s t h =
 -- ---- The first waiter
 
 returned_told : (g : Goal) (f : Caller) (k v : ℕ) (s : Core) →
-    is_told k (result_given g f k v (set_end k call_end.Returned s)) ≡ is_told k s
+    is_told k (result_given g f k v (set_end k CallEnd.Returned s)) ≡ is_told k s
 unfolding give_result set_register on_thread set_result on_call set_end
 returned_told g f k v s = grind (arith, nat_tests, get-change)
 
@@ -272,12 +260,12 @@ told_first : (k : ℕ) (e : Status) (w : Option ℕ) (s t : Core) → may_tell k
     told k e (waiter_told k w s) t ≡ told k e w t
 unfolding told may_tell may_publish may_wake
 told_first k e (Some m) s t lawful same = refl
-told_first k e None s t lawful same = by_join (join_of (subtask.Guest k) s) (is_told k s) same lawful
+told_first k e None s t lawful same = by_join (join_of (Subtask.Guest k) s) (is_told k s) same lawful
   where
     by_join : (j : Join) (b : Bool) → is_told k t ≡ b → (if b then may_wake_joined j None s else true) ≡ true →
         told k e (first_waiter j s) t ≡ told k e None t
-    by_join (join.Set x) true is may = ap (λ w. told k e w t) (no_first x s may)
-    by_join (join.Set x) false is may = grind arith
+    by_join (Join.Set x) true is may = ap (λ w. told k e w t) (no_first x s may)
+    by_join (Join.Set x) false is may = grind arith
     by_join _ b is may = refl
 
 pub blocking_check : BlockingCheckIsAfter
@@ -289,7 +277,7 @@ blocking_check n w s order lawful perm =
     let d = set_do_not_enter i false s in
     let held = held_by_flag i s in
     let u = released held d in
-    let e = set_end k call_end.Returned u in
+    let e = set_end k CallEnd.Returned u in
     let same = returned_told (goal_of k u) (caller_of k u) k v u ∙ ap (λ c. is_told k c) (released_only held d) in
     reordered_passes i _ _ (carried (returned_follows k v w) u (released order d) (release_reordered held order d perm))
-    ∙ sym (ap (λ c. passes_check i c) (told_first k status.Returned w s (result_given (goal_of k u) (caller_of k u) k v e) lawful same))
+    ∙ sym (ap (λ c. passes_check i c) (told_first k Status.Returned w s (result_given (goal_of k u) (caller_of k u) k v e) lawful same))

@@ -1,11 +1,8 @@
 -- The laws of steps and runs.
-use Rattle.task_rules.proofs.Machine.{[], add_call, add_group, add_set, add_thread, add_work, AddGroup, after_placing, after_word, ap, arith, Bool, call_made, change, cond, Core, count_work, CountWork, EachStep, false, free_handle, free_thread_handle, get, get-remove, give_handle, give_result, give_thread_handle, insert, KeptByRuns, Label, LaterBy, LaterCall, LaterWork, le_refl, le_trans, MakeThread, NeverFewer, None, on_call, on_instance, on_thread, on_work, Option, option_map, Outcome, outcome_of_label, OutcomeEnds, OutcomeIsLast, OverIsLast, Places, poll_pends, popped, push_high, Records, refl, remove, remove_call, remove_group, remove_set, remove_thread, remove_work, Run, RunGoesOn, RunsJoin, SameLimits, SameThread, set_backpressure, set_cancel_delivered, set_cancelled, set_course, set_do_not_enter, set_do_not_suspend, set_end, set_event, set_exited, set_how_far, set_join, set_own_event, set_phase, set_position, set_register, set_result, set_saved_callee, set_saved_own, set_script, set_stage, set_started, set_starting_published, set_subtask_handle, set_thread_handle, set_trapped, set_uninteresting, set_word, Setting, settled_turn, SetTrapped, Some, State, Steady, Step, subst, sym, take_result, TakeHost, TakePush, Thread, true, Turn, TurnStep, with_handle, with_thread_handle, Word, work_queued, ℕ, ◌+◌, ◌==◌, ◌∙◌, ◌∷◌, ◌≡◌, ◌≤◌}
-use Rattle.task_machine.proofs.CommuteLemmas.{get-change}
-use Rattle.task_machine.proofs.MapLemmas.{get-insert_other}
+use Rattle.task_rules.proofs.Machine.{[], add_call, add_group, add_set, add_thread, add_work, AddGroup, after_placing, after_word, ap, arith, Bool, call_made, change, cond, Core, count_work, CountWork, EachStep, false, free_handle, free_thread_handle, get, get-change, get-insert_other, get-remove, give_handle, give_result, give_thread_handle, insert, KeptByRuns, Label, LaterBy, LaterCall, LaterWork, le_refl, le_trans, MakeThread, NeverFewer, None, on_call, on_instance, on_thread, on_work, Option, option_map, Outcome, outcome_of_label, OutcomeEnds, OutcomeIsLast, OverIsLast, Places, poll_pends, popped, push_high, Records, refl, remove, remove_call, remove_group, remove_set, remove_thread, remove_work, Run, RunGoesOn, RunsJoin, SameLimits, SameThread, set_backpressure, set_cancel_delivered, set_cancelled, set_course, set_do_not_enter, set_do_not_suspend, set_end, set_event, set_exited, set_how_far, set_join, set_own_event, set_phase, set_position, set_register, set_result, set_saved_callee, set_saved_own, set_script, set_stage, set_started, set_starting_published, set_subtask_handle, set_thread_handle, set_trapped, set_uninteresting, set_word, Setting, settled_turn, SetTrapped, Some, State, Steady, Step, subst, sym, take_result, TakeHost, TakePush, Thread, true, Turn, TurnStep, with_handle, with_thread_handle, Word, work_queued, ℕ, ◌+◌, ◌==◌, ◌∙◌, ◌∷◌, ◌≡◌, ◌≤◌}
 use Rattle.task_rules.proofs.ChainLemmas.{along}
 use Rattle.task_rules.proofs.PlacingLemmas.{Shifted, placing_shifted, popped_shifted, unplaced}
 use Rattle.task_rules.proofs.WalkSteps.{step_walks}
-use Rattle.task_machine.specs.declared.records.Turn.TheVariants as turn
 
 -- ---- The end
 
@@ -13,7 +10,7 @@ use Rattle.task_machine.specs.declared.records.Turn.TheVariants as turn
 pub step_ends : OutcomeEnds
 step_ends x s l t step o is = let c = step_walks x s l t step in c.turn ∙ ap (λ (u : Turn). settled_turn t.core u) (c.ends.outcome o is)
 
-over_steps : (x : Setting) (s : State) (u : Turn) (l : Label) (t : State) → u ≡ turn.Over → TurnStep x s u l t → ⊥
+over_steps : (x : Setting) (s : State) (u : Turn) (l : Label) (t : State) → u ≡ Turn.Over → TurnStep x s u l t → ⊥
 over_steps x s u l t is step = subst (λ (v : Turn). TurnStep x s v l t) is step
 
 -- nothing is lawful after that
@@ -41,7 +38,7 @@ module _ (R : Core → Core → Type 0) (same : (s : Core) → R s s) where
   runs_keep after step x s [] t r = subst (λ (y : State). R s.core y.core) (sym r) (same s.core)
   runs_keep after step x s (l ∷ ls) t r = after s.core r.0.core t.core (step x s l r.0 r.1.0) (runs_keep after step x r.0 ls t r.1.1)
 
-not_last : (x : Setting) (m : State) (k : Label) (t : State) (o : Option Outcome) → ((p : Outcome) → o ≡ Some p → m.turn ≡ turn.Over) → Step x m k t → o ≡ None
+not_last : (x : Setting) (m : State) (k : Label) (t : State) (o : Option Outcome) → ((p : Outcome) → o ≡ Some p → m.turn ≡ Turn.Over) → Step x m k t → o ≡ None
 not_last x m k t None over step = refl
 not_last x m k t (Some p) over step = absurd (step_over x m k t (over p refl) step)
 

@@ -9,6 +9,8 @@ pub use Rattle.std.specs.List.{list_any}
 pub use Rattle.std.specs.Option.{option_map_or, option_or}
 pub use Rattle.std.specs.Ordering.{is_lt, nat_cmp}
 pub use Rattle.std.specs.Prelude.{[], All, Bool, count_by, false, filter, find, IfSome, if◌then◌else◌, is_none, is_some, IsPermutation, length, List, map, min, nat_le, nat_lt, None, not, Option, option_and_then, option_map, slice_get, Some, suc, true, unwrap_or, zero, ℕ, ◌%◌, ◌&&◌, ◌*◌, ◌++◌, ◌+◌, ◌-◌, ◌/◌, ◌<◌, ◌==◌, ◌||◌, ◌∷◌, ◌≡◌, ◌≢◌, ◌≤◌, ◌⊎◌}
+pub use Rattle.task_machine.proofs.CommuteLemmas.{change-change_same, get-change}
+pub use Rattle.task_machine.proofs.MapLemmas.{change-field, get-insert_other, get-insert_same, get-remove_other, get-remove_same}
 pub use Rattle.task_machine.specs.Core.{Began, Core, filled, Main, MainPlace, no_handles, Queues, Refused, Scripted, Started, State, Table, Unscripted, untouched}
 unfoldable pub use Rattle.task_machine.specs.Core.{fresh}
 pub use Rattle.task_machine.specs.Labels.{Choice, choice_of, event_label, exit_label, held_label, host_label, join_label, ret_label, take_label, task_cancel_label, wait_label, woken_of}
@@ -27,14 +29,16 @@ pub use Rattle.task_machine.specs.declared.component.ExportKind.{ExportKind}
 pub use Rattle.task_machine.specs.declared.component.HostDef.{HostDef}
 pub use Rattle.task_machine.specs.declared.label.CallLabel.{CallLabel}
 pub use Rattle.task_machine.specs.declared.label.Label.{Label}
-pub use Rattle.task_machine.specs.declared.label.MainLabel.{MainLabel}
-pub use Rattle.task_machine.specs.declared.label.SetLabel.{SetLabel}
+pub use Rattle.task_machine.specs.declared.label.LoopLabel.{LoopLabel}
+pub use Rattle.task_machine.specs.declared.label.TakeLabel.{TakeLabel}
 pub use Rattle.task_machine.specs.declared.op.Op.{Op}
+pub use Rattle.task_machine.specs.declared.op.TaskOp.{TaskOp}
 pub use Rattle.task_machine.specs.declared.outcome.Outcome.{Outcome}
 pub use Rattle.task_machine.specs.declared.records.Call.{Call}
 pub use Rattle.task_machine.specs.declared.records.CallEnd.{CallEnd}
 pub use Rattle.task_machine.specs.declared.records.Caller.{Caller}
 pub use Rattle.task_machine.specs.declared.records.Course.{Course}
+pub use Rattle.task_machine.specs.declared.records.Delivery.{Delivery}
 pub use Rattle.task_machine.specs.declared.records.Entry.{Entry}
 pub use Rattle.task_machine.specs.declared.records.Goal.{Goal}
 pub use Rattle.task_machine.specs.declared.records.HowFar.{HowFar}
@@ -57,7 +61,7 @@ pub use Rattle.task_machine.specs.declared.words.Mark.{Mark}
 pub use Rattle.task_machine.specs.declared.words.OwnEvent.{OwnEvent}
 pub use Rattle.task_machine.specs.declared.words.Phase.{Phase}
 pub use Rattle.task_machine.specs.declared.words.Status.{Status}
-pub use Rattle.task_rules.specs.Allowed.{AbortsOwn, Allowed, AtOp, AwaitsEvent, Blocks, ByDelivery, ByHandle, ByOp, ByProgram, ByScript, BySetHandle, ByThread, ByWait, Cancels, CanCome, ComesAgain, Departs, EndsActivation, EndsOver, Exits, Falls, FindsEvent, GivesUp, HasCalled, HasSet, HasSubtask, Holds, InOp, is_async_work, is_begun, is_done_host, is_exit, is_for_main, IsCalled, IsFall, IsFoot, IsLaid, IsNamed, IsNew, IsPolled, IsRunner, IsSettling, IsStarting, IsWithdrawn, Leaves, MayAbort, MayAdvance, MayBar, MayCall, MayCancel, MayCome, MayDeliver, MayEnd, MayFinish, MayGo, MayJoin, MayLand, MayLeave, MayMake, MayMakeCall, MayMove, MayNameCall, MayOwe, MayPut, MayRemoveCall, MayRemoveWork, MayRestart, MayShift, MayStart, MayTell, MayWithdraw, MayYield, ProgramAborts, Releases, Resumes, ReturnsNow, Runs, SaysEnd, ScriptAborts, Starts, Stays, subtask_under_way, Suspends, TakesCalled, TakesCancelled, TakesNamed, Tells, Unblocks, Uncovers, Waits, WaitsAgain, wake_why, Wakes, WasReady, WasUnder, Yields}
+pub use Rattle.task_rules.specs.Allowed.{AbortsOwn, Allowed, AtOp, AwaitsEvent, Blocks, ByDelivery, ByHandle, ByOp, ByProgram, ByScript, BySetHandle, ByThread, ByWait, Cancels, CanCome, ComesAgain, Departs, EndsActivation, EndsOver, Exits, Falls, FindsEvent, GivesUp, HasCalled, HasSet, HasSubtask, Holds, InOp, is_async_work, is_begun, is_done_host, is_exit, is_for_main, IsCalled, IsFall, IsFoot, IsLaid, IsNamed, IsNew, IsPolled, IsRunner, IsSettling, IsStarting, IsWithdrawn, Leaves, MayAbort, MayAdvance, MayBar, MayCall, MayCancel, MayCome, MayDeliver, MayEnd, MayFinish, MayGo, MayJoin, MayLand, MayLeave, MayMake, MayMakeCall, MayMove, MayNameCall, MayOwe, MayPut, MayRemoveCall, MayRemoveWork, MayRestart, MayShift, MayStart, MayTakeEvent, MayTell, MayWithdraw, MayYield, ProgramAborts, Releases, Resumes, ReturnsNow, Runs, SaysEnd, ScriptAborts, Starts, Stays, subtask_under_way, Suspends, TakesCalled, TakesCancelled, TakesNamed, Tells, Unblocks, Uncovers, Waits, WaitsAgain, wake_why, Wakes, WasReady, WasUnder, Yields}
 pub use Rattle.task_rules.specs.Calls.{AtOnce, call_begins, call_clears_flag, call_host_polled, call_row, call_status, call_sync_begins, call_sync_host_polled, call_sync_host_row, call_sync_row, call_sync_status, enter_row, Failing, first_poll, FirstPoll, Later, new_call, new_thread, new_work, next_thread, next_work, put_back, settle_group_of, status_found, sync_sets_flag, work_group, work_value}
 unfoldable pub use Rattle.task_rules.specs.Calls.{answered, call_answered, call_made, call_pending, call_queues, call_resumes, call_returned, call_stops, call_sync_host_stops, call_sync_stops, enter_runs, host_answered, host_pending, host_ready, with_handle, with_thread_handle, work_answered, work_deleted, work_queued}
 pub use Rattle.task_rules.specs.Cancels.{aborted_phase, AlreadyEnded, Async, behind_switch, blocked_code, CallbackWaits, CallbackYields, cancel_by_end, cancel_case, cancel_ended_row, cancel_guest, cancel_label, cancel_row, cancel_subtask, CancelCase, drop_row, is_callback_wait, Mode, OtherwiseRuns, pauses, StartNotRun, subtask_instance, subtask_row, Sync}
@@ -69,10 +73,10 @@ pub use Rattle.task_rules.specs.Ends.{blocking_exit_row, code_kind_row, code_row
 unfoldable pub use Rattle.task_rules.specs.Ends.{blocking_exits, cancelled, code_exits, code_finds, code_stops, code_waits, code_yields, direct_exits, end_reopens, exit_restores, exit_stops, has_event_for, held_by_flag, leaves_no_result, may_tell, passes_after_return, passes_after_stop, returned, sync_exits, told}
 pub use Rattle.task_rules.specs.History.{history, Moment}
 pub use Rattle.task_rules.specs.Laws.{BlockingCheckIsAfter, CallbackCheckIsAfter, CheckMovesOne, EachStep, is_free, KeptByRuns, LaterBy, LaterCall, LaterWork, NeverFewer, OutcomeEnds, OutcomeIsLast, OverIsLast, Promotes, PromotionMovesOne, ReleaseKeepsPlaces, RemovalKeepsPlaces, RunGoesOn, RunsJoin, SameLimits, SameThread, Steady, StopKeepsPlaces, Takes, WakeKeepsPlaces}
-pub use Rattle.task_rules.specs.MainOps.{Abort, act_of, advanced_main, Answer, Await, Does, Finish, finish_act, finish_result, finished_into, is_complete, is_spawn, is_spawn_caller, line_of, main_row, MainAct, MainProgress, may_act, op_at, Pends, Quiet, Ready, Spawn, spawned_at, Start, start_act, started_at, unless_pending}
+pub use Rattle.task_rules.specs.MainOps.{Abort, act_of, advanced_main, Answer, Await, Does, Finish, finish_act, finish_result, is_complete, is_spawn, is_spawn_caller, line_of, main_row, MainAct, MainProgress, may_act, op_at, Pends, Quiet, Ready, Spawn, spawned_at, Start, start_act, started_at, unless_pending}
 unfoldable pub use Rattle.task_rules.specs.MainOps.{has_interesting, is_ready_for_call, main_aborted, main_spawned, main_started, start_refusal}
 pub use Rattle.task_rules.specs.Once.{begun_holder, changes_end, covers_end, end_code, EndsOnce, handed, hands_out, hands_out_written, holder_at_exit, holder_at_start, holds_one, is_among, is_end_of, is_known, is_other, is_start, is_written, less_holder, returned_holder, same_end, with_end, with_holder, writes_end, written}
-pub use Rattle.task_rules.specs.OpParts.{callee_of_main_op, callee_of_op, can_come, ends_activation, is_cancel, is_code_op, is_sync_call, is_sync_cancel, is_sync_host_call, is_thread_op, is_wait, suspends, yields}
+pub use Rattle.task_rules.specs.OpParts.{callee_of_op, can_come, ends_activation, is_cancel, is_code_op, is_sync_call, is_sync_cancel, is_sync_host_call, is_thread_op, is_wait, suspends, yields}
 pub use Rattle.task_rules.specs.Outcome.{main_outcome, outcome_of_label}
 pub use Rattle.task_rules.specs.Places.{entries, HasPlace, is_at_high, is_at_low, is_at_switch, is_behind_of, is_for_start, is_fresh, is_there, one_if, Placed, says, switch_entries, times}
 pub use Rattle.task_rules.specs.Progress.{Fails, Goes, may, Never, or_never, or_trap, Ordered, Progress, Stops, trap_if, Traps}
@@ -82,15 +86,15 @@ pub use Rattle.task_rules.specs.Scripts.{export_kind, host_at, is_script, op_of_
 unfoldable pub use Rattle.task_rules.specs.Scripts.{op_of, script_of}
 pub use Rattle.task_rules.specs.Sets.{chosen, given_code, given_handle, given_result, handed_out, join_done, join_to, joins, may_wake_new, poll_row, set_drop_row, set_new_row, set_row, wait_begins, wait_goes_on, wait_row, wakes_joined}
 unfoldable pub use Rattle.task_rules.specs.Sets.{finds_nothing, joined, received, received_woken, set_dropped, set_given, set_made, wait_stops, wait_stops_checked}
-pub use Rattle.task_rules.specs.Stalled.{is_unended_take, Setting}
+pub use Rattle.task_rules.specs.Stalled.{deadlock_trap, is_unended_take, Setting}
 unfoldable pub use Rattle.task_rules.specs.Stalled.{may_deadlock}
-pub use Rattle.task_rules.specs.Step.{DeadlockStep, EmptyFor, entry_number, FuturesStep, MainProgresses, MainStep, op_row, OpenAct, OpenProgresses, Polled, Progresses, RestStep, ScriptStep, TakeStep, TurnStep}
+pub use Rattle.task_rules.specs.Step.{DeadlockStep, EmptyFor, entry_number, FuturesStep, MainProgresses, MainStep, op_row, OpenAct, OpenProgresses, Polled, Progresses, RestStep, ScriptStep, TakeStep, trap_label, TurnStep}
 unfoldable pub use Rattle.task_rules.specs.Step.{did, Step, struck}
-pub use Rattle.task_rules.specs.SubtaskEnds.{call_of_op, cancel_target, cancelled_of_op, end_answered, end_for, finished_call, handed_by, handed_by_call, handed_by_cancel, handed_by_event, handed_by_main, handed_by_set, has_result, host_end, is_ending_exit, is_handed_end, returned_of_op, started_end, SubtaskEnd, task_end, written_by, written_by_call, written_by_cancel, written_by_exit}
+pub use Rattle.task_rules.specs.SubtaskEnds.{call_of_op, cancel_target, cancelled_of_op, end_answered, end_for, finished_call, handed_by, handed_by_cancel, handed_by_event, handed_by_main, has_result, host_end, is_ending_exit, is_handed_end, returned_of_op, started_end, SubtaskEnd, task_end, written_by, written_by_cancel}
 pub use Rattle.task_rules.specs.Takes.{delivered, delivery_row, host_result, host_status, own_delivered, rest_of, set_delivered, start_admitted, start_row, start_sets_flags, starting_is_published, take_row, thread_taken}
 unfoldable pub use Rattle.task_rules.specs.Takes.{activated, activated_woken, host_done, may_tell_starting, popped, pushed, running, start_begins, start_holds, starting_told, take_holds, wait_again}
 pub use Rattle.task_rules.specs.Turns.{goes_to, settled_turn}
 unfoldable pub use Rattle.task_rules.specs.Turns.{at_turn}
 pub use Rattle.task_rules.specs.Words.{AddGroup, Advance, after_placing, after_word, CloseSet, CountWork, EndCall, ended_as, EndWork, Enter, FinishWork, FreeThreadHandle, GiveResult, GoBehind, MakeCall, MakeThread, Move, NameCall, NameThread, NameWork, OpenSet, Pend, placed_as, Places, Placing, Pop, Promote, Put, put_at, QueueWork, RemoveCall, RemoveGroup, RemoveThread, RemoveWork, Restart, SetBackpressure, SetCallEvent, SetCallJoin, SetCancelDelivered, SetCancelled, SetDoNotEnter, SetDoNotSuspend, SetExited, SetHowFar, SetOwnEvent, SetPhase, SetRegister, SetResult, SetSavedCallee, SetSavedOwn, SetStarted, SetStartingPublished, SetTrapped, SetUninteresting, SetWord, SetWorkJoin, status_of_end, Stop, TakeHost, TakePush, TakeResult, TakeWorkEvent, UnnameCall, UnnameWork, Withdraw, Word}
-pub use Rattle.task_rules.specs.Works.{course_for, Ends, FailsNow, first_number, followed, has_end, live_after, Poll, polled_course, polled_in, StillPends}
+pub use Rattle.task_rules.specs.Works.{course_for, Ends, FailsNow, first_number, followed, has_end, live_after, Poll, polled_in, StillPends}
 unfoldable pub use Rattle.task_rules.specs.Works.{has_moving_work, next_polled, poll_ends, poll_of, poll_pends}

@@ -1,10 +1,5 @@
 -- Moves beside a thread that runs or is taken: they leave each other thread its place.
-use Rattle.task_rules.proofs.Machine.{[], ap, arith, Bool, cond, Core, displaced, false, get-remove, HasPlace, held_why, held_why_of, if◌then◌else◌, is_callback_waiter, is_free, is_some, is_there, is_waiting_on, List, Mark, may_wake, nat_tests, None, one_if, Option, option_and_then, option_map, option_map_or, Place, place_of, push_high, push_high_first, push_low, put_at, put_high, put_low, put_switch, refl, released, released_one, ReleaseKeepsPlaces, RemovalKeepsPlaces, remove_thread, set_place, set_switch, Some, StopKeepsPlaces, stopped, subst, sym, Thread, times, true, wake, WakeKeepsPlaces, waken_by, Why, why_of, ℕ, ◌+◌, ◌==◌, ◌∙◌, ◌∷◌, ◌≡◌, ◌≤◌}
-use Rattle.task_machine.specs.declared.records.Delivery.TheVariants as delivery
-use Rattle.task_machine.specs.declared.words.Mark.TheVariants as mark
-use Rattle.task_machine.specs.declared.records.Place.TheVariants as place
-use Rattle.task_machine.specs.declared.records.Why.TheVariants as why
-use Rattle.task_machine.proofs.MapLemmas.{get-remove_other, get-remove_same}
+use Rattle.task_rules.proofs.Machine.{[], ap, arith, Bool, cond, Core, Delivery, displaced, false, get-remove, get-remove_other, get-remove_same, HasPlace, held_why, held_why_of, if◌then◌else◌, is_callback_waiter, is_free, is_some, is_there, is_waiting_on, List, Mark, may_wake, nat_tests, None, one_if, Option, option_and_then, option_map, option_map_or, Place, place_of, push_high, push_high_first, push_low, put_at, put_high, put_low, put_switch, refl, released, released_one, ReleaseKeepsPlaces, RemovalKeepsPlaces, remove_thread, set_place, set_switch, Some, StopKeepsPlaces, stopped, subst, sym, Thread, times, true, wake, WakeKeepsPlaces, waken_by, Why, why_of, ℕ, ◌+◌, ◌==◌, ◌∙◌, ◌∷◌, ◌≡◌, ◌≤◌}
 pub use Rattle.task_rules.proofs.StandLemmas.{nobody}
 use Rattle.task_rules.proofs.StandLemmas.{Loose, Nothing, Stand, Watch, adds_all, by_count, by_number, eq_refl, is_so, is_watched, loose_gone, loosened, not_eq, put_high_adds, put_low_adds, set_place_adds, set_place_is, set_place_there, watching, zero_one}
 use Rattle.task_rules.proofs.StopLemmas.{comes_stand, put_switch_stand, stopped_stand}
@@ -14,17 +9,17 @@ use Rattle.task_rules.proofs.StopLemmas.{comes_stand, put_switch_stand, stopped_
 -- there is no such thread, or it runs, is under another, or its entry is being taken
 abbrev pub is_busy : Option Place → Bool
 is_busy None = true
-is_busy (Some place.Running) = true
-is_busy (Some (place.Ready m w)) = true
-is_busy (Some (place.Under m)) = true
+is_busy (Some Place.Running) = true
+is_busy (Some (Place.Ready m w)) = true
+is_busy (Some (Place.Under m)) = true
 is_busy _ = false
 
 -- the thread neither runs nor is under another, nor has an entry, nor is behind another
 abbrev pub is_parked : Place → Bool
-is_parked place.Running = false
-is_parked (place.Ready m w) = false
-is_parked (place.Under m) = false
-is_parked (place.Behind f) = false
+is_parked Place.Running = false
+is_parked (Place.Ready m w) = false
+is_parked (Place.Under m) = false
+is_parked (Place.Behind f) = false
 is_parked _ = true
 
 parked_free : (p : Place) → is_parked p ≡ true → is_free p ≡ true
@@ -77,14 +72,14 @@ there_moved m p s h = grind (arith, nat_tests, set_place_is m m p s)
 displaced_there : (m : ℕ) (o : Option ℕ) (s : Core) → is_there m (displaced o s) ≡ is_there m s
 unfolding push_high_first
 displaced_there m None s = refl
-displaced_there m (Some j) s = set_place_there m j (place.Ready mark.High (why_of j s)) s
+displaced_there m (Some j) s = set_place_there m j (Place.Ready Mark.High (why_of j s)) s
 
 -- who is put stands there
-pub put_place : (x : Mark) (m : ℕ) (w : Why) (s : Core) → is_there m s ≡ true → place_of m (put_at x m w s) ≡ Some (place.Ready x w)
+pub put_place : (x : Mark) (m : ℕ) (w : Why) (s : Core) → is_there m s ≡ true → place_of m (put_at x m w s) ≡ Some (Place.Ready x w)
 unfolding put_switch set_switch put_high push_high put_low push_low
-put_place mark.Switch m w s h = there_moved m (place.Ready mark.Switch w) (displaced s.queues.switch s) (displaced_there m s.queues.switch s ∙ h)
-put_place mark.High m w s h = there_moved m (place.Ready mark.High w) s h
-put_place mark.Low m w s h = there_moved m (place.Ready mark.Low w) s h
+put_place Mark.Switch m w s h = there_moved m (Place.Ready Mark.Switch w) (displaced s.queues.switch s) (displaced_there m s.queues.switch s ∙ h)
+put_place Mark.High m w s h = there_moved m (Place.Ready Mark.High w) s h
+put_place Mark.Low m w s h = there_moved m (Place.Ready Mark.Low w) s h
 
 -- of m nothing is watched
 abbrev pub others : (ℕ → Watch) → ℕ → ℕ → Watch
@@ -101,14 +96,14 @@ other_so P m k s h so = grind arith
 
 -- a loose thread is put
 pub put_back : {P : ℕ → Watch} (n : ℕ) (q : Option Place) (x : Mark) (m : ℕ) (w : Why) (s : Core) → is_there m s ≡ true →
-    (is_watched (P m) ≡ true → is_so (P m) (Some (place.Ready x w)) ≡ true) → Stand (others P m) n q (m ∷ []) s →
+    (is_watched (P m) ≡ true → is_so (P m) (Some (Place.Ready x w)) ≡ true) → Stand (others P m) n q (m ∷ []) s →
     Stand P n q [] (put_at x m w s)
 put_back {P = P} n q x m w s there fits st = watching n q [] (put_at x m w s) (λ k h. (refl, so k h)) (put x)
   where
     put : (y : Mark) → Stand (others P m) n q [] (put_at y m w s)
-    put mark.Switch = put_switch_stand n q m [] w s refl st
-    put mark.High = comes_stand n q m [] (place.Ready mark.High w) s _ (λ r is. put_high_adds m w r s is) st
-    put mark.Low = comes_stand n q m [] (place.Ready mark.Low w) s _ (λ r is. put_low_adds m w r s is) st
+    put Mark.Switch = put_switch_stand n q m [] w s refl st
+    put Mark.High = comes_stand n q m [] (Place.Ready Mark.High w) s _ (λ r is. put_high_adds m w r s is) st
+    put Mark.Low = comes_stand n q m [] (Place.Ready Mark.Low w) s _ (λ r is. put_low_adds m w r s is) st
 
     so : (k : ℕ) → is_watched (P k) ≡ true → is_so (P k) (place_of k (put_at x m w s)) ≡ true
     so k h =
@@ -118,7 +113,7 @@ put_back {P = P} n q x m w s there fits st = watching n q [] (put_at x m w s) (�
 
 -- a parked thread is put
 pub put_stand : {P : ℕ → Watch} (n : ℕ) (q : Option Place) → is_busy q ≡ true → (x : Mark) (m : ℕ) (w : Why) (p : Place) (s : Core) →
-    place_of m s ≡ Some p → is_parked p ≡ true → (is_watched (P m) ≡ true → is_so (P m) (Some (place.Ready x w)) ≡ true) →
+    place_of m s ≡ Some p → is_parked p ≡ true → (is_watched (P m) ≡ true → is_so (P m) (Some (Place.Ready x w)) ≡ true) →
     Stand P n q [] s → Stand P n q [] (put_at x m w s)
 put_stand {P = P} n q busy x m w p s is parked fits st =
     let before = watching n q [] s (λ k h. (refl, (other_so P m k s h (λ e w. (st.kept k w).1)).1)) st in
@@ -178,16 +173,16 @@ removed_all n q s st k =
 
 -- beside n, which runs, each has its place
 abbrev Runs : ℕ → Core → Type 0
-Runs n s = Stand nobody n (Some place.Running) [] s
+Runs n s = Stand nobody n (Some Place.Running) [] s
 
-runs : (n : ℕ) (s : Core) → place_of n s ≡ Some place.Running → All s → Runs n s
-runs n s is all = stand_of n (Some place.Running) s is refl (λ k h. absurd (grind arith)) all
+runs : (n : ℕ) (s : Core) → place_of n s ≡ Some Place.Running → All s → Runs n s
+runs n s is all = stand_of n (Some Place.Running) s is refl (λ k h. absurd (grind arith)) all
 
 put_keeps : (n m : ℕ) (w : Why) (p : Place) (s : Core) → place_of m s ≡ Some p → is_parked p ≡ true → Runs n s → Runs n (put_high m w s)
-put_keeps n m w p s is parked st = put_stand n (Some place.Running) refl mark.High m w p s is parked (λ h. absurd (grind arith)) st
+put_keeps n m w p s is parked st = put_stand n (Some Place.Running) refl Mark.High m w p s is parked (λ h. absurd (grind arith)) st
 
 release_one : (n m : ℕ) (o : Option Place) (s : Core) → place_of m s ≡ o → Runs n s → Runs n (released_one m (option_and_then held_why o) s)
-release_one n m (Some (place.Held w)) s is st = put_keeps n m w (place.Held w) s is refl st
+release_one n m (Some (Place.Held w)) s is st = put_keeps n m w (Place.Held w) s is refl st
 release_one n m _ s is st = st
 
 release_stand : (n : ℕ) (ns : List ℕ) (s : Core) → Runs n s → Runs n (released ns s)
@@ -205,20 +200,20 @@ wake_stand n x (Some m) s h st =
     waits_parked p h = grind arith
 
     by_callback : (p : Place) → place_of m s ≡ Some p → is_parked p ≡ true → (b : Bool) → Runs n (waken_by b x m s)
-    by_callback p is parked true = put_keeps n m (why.Delivery (delivery.Set x)) p s is parked st
-    by_callback p is parked false = put_keeps n m why.Resumption p s is parked st
+    by_callback p is parked true = put_keeps n m (Why.Delivery (Delivery.Set x)) p s is parked st
+    by_callback p is parked false = put_keeps n m Why.Resumption p s is parked st
 
 pub stop_keeps_places : StopKeepsPlaces
 stop_keeps_places n f p s free is all =
-    let st = stopped_stand n (Some place.Running) f s (runs n s is all) in
-    adds_all n (Some place.Running) p (stopped f s) (set_place n p (stopped f s)) (set_place_adds n p place.Running (stopped f s) free st.here) st
+    let st = stopped_stand n (Some Place.Running) f s (runs n s is all) in
+    adds_all n (Some Place.Running) p (stopped f s) (set_place n p (stopped f s)) (set_place_adds n p Place.Running (stopped f s) free st.here) st
 
 pub release_keeps_places : ReleaseKeepsPlaces
-release_keeps_places n ns s is all = all_of n (Some place.Running) (released ns s) refl (release_stand n ns s (runs n s is all))
+release_keeps_places n ns s is all = all_of n (Some Place.Running) (released ns s) refl (release_stand n ns s (runs n s is all))
 
 pub wake_keeps_places : WakeKeepsPlaces
 wake_keeps_places n x w s may_be is all =
-    all_of n (Some place.Running) (wake x w s) refl (wake_stand n x w s may_be (runs n s is all))
+    all_of n (Some Place.Running) (wake x w s) refl (wake_stand n x w s may_be (runs n s is all))
 
 pub removal_keeps_places : RemovalKeepsPlaces
-removal_keeps_places n s is all = removed_all n (Some place.Running) s (runs n s is all)
+removal_keeps_places n s is all = removed_all n (Some Place.Running) s (runs n s is all)

@@ -1,16 +1,10 @@
 -- A change of where threads are leaves all else.
-use Rattle.task_rules.proofs.Machine.{[], after_placing, after_word, ap, ap₂, arith, behind, behind_one, Bool, Call, callers_of, Chain, Core, displaced, Enter, Entry, false, foot_of, get, GoBehind, has_entry, how_far_of, if◌then◌else◌, inl, inr, instance_of, is_explicit, IsShift, less, List, Mark, may, MayLeave, MayShift, Move, newest, next_entry, no_callee, None, older, on_thread, Option, option_map, option_map_or, or_high, passed_on, Place, placed_as, Places, Placing, Pop, popped, Promote, promoted, push_high, push_high_first, push_low, Put, put_high, put_low, put_switch, refl, rest_of, resumed_all, Scene, set_callers, set_high, set_low, set_place, set_switch, Shifts, Some, Stop, stopped, subst, sym, task_of, Then, Thread, true, unqueued, Why, why_of, Word, ℕ, ◌++◌, ◌∙◌, ◌∷◌, ◌≡◌, ◌⊎◌}
-use Rattle.task_machine.proofs.MapLemmas.{change-field}
-use Rattle.task_machine.specs.declared.records.HowFar.TheVariants as how_far
+use Rattle.task_rules.proofs.Machine.{[], after_placing, after_word, ap, ap₂, arith, behind, behind_one, Bool, Call, callers_of, Chain, change-field, Core, displaced, Enter, Entry, false, foot_of, get, GoBehind, has_entry, how_far_of, HowFar, if◌then◌else◌, inl, inr, instance_of, is_explicit, IsShift, less, List, Mark, may, MayLeave, MayShift, Move, newest, next_entry, no_callee, None, older, on_thread, Option, option_map, option_map_or, or_high, passed_on, Place, placed_as, Places, Placing, Pop, popped, Promote, promoted, push_high, push_high_first, push_low, Put, put_high, put_low, put_switch, refl, rest_of, resumed_all, Scene, set_callers, set_high, set_low, set_place, set_switch, Shifts, Some, Stop, stopped, subst, sym, task_of, Then, Thread, true, unqueued, Why, why_of, Word, ℕ, ◌++◌, ◌∙◌, ◌∷◌, ◌≡◌, ◌⊎◌}
 use Rattle.task_rules.proofs.ChainLemmas.{along}
-use Rattle.task_machine.specs.declared.records.Entry.TheVariants as entry
-use Rattle.task_machine.specs.declared.records.Place.TheVariants as place
-use Rattle.task_machine.specs.declared.records.Why.TheVariants as why
-use Rattle.task_machine.specs.declared.words.Mark.TheVariants as mark
 
 -- the record of a thread but for its place
 abbrev pub unplaced : Thread → Thread
-unplaced t = record t { place = place.New }
+unplaced t = record t { place = Place.New }
 
 -- From s to t only places, entries and callers change.
 pub record Shifted (s t : Core) : Type 0 where
@@ -33,7 +27,7 @@ module _ {s t : Core} (h : Shifted s t) where
   shifted_explicit n = read_unplaced (λ r. r.explicit) false (λ r. refl) (get t.threads n) (get s.threads n) (h.threads n)
 
   pub shifted_far : (n : ℕ) → how_far_of n t ≡ how_far_of n s
-  shifted_far n = read_unplaced (λ r. r.how_far) how_far.Fresh (λ r. refl) (get t.threads n) (get s.threads n) (h.threads n)
+  shifted_far n = read_unplaced (λ r. r.how_far) HowFar.Fresh (λ r. refl) (get t.threads n) (get s.threads n) (h.threads n)
 
   pub shifted_calls : t.calls ≡ s.calls
   shifted_calls = sym (ap (λ (c : Core). c.calls) h.only)
@@ -54,26 +48,26 @@ shifted_after {t = t} p q = record { only = ap (λ (c : Core). placed_as t c) p.
 module _ (R : Core → Core → Type 0) (same : (s : Core) → R s s) (after : (s m t : Core) → R s m → R m t → R s t)
     (placed_at : (n : ℕ) (p : Place) (s : Core) → R s (set_place n p s)) (unqueued_keeps : (n : ℕ) (s : Core) → R s (unqueued n s))
     (called : (f : ℕ) (ns : List ℕ) (s : Core) → R s (set_callers f ns s)) (switched : (o : Option ℕ) (s : Core) → R s (set_switch o s))
-    (at_high : (n : ℕ) (s : Core) → R s (push_high (entry.Thread n) s)) (at_low : (n : ℕ) (s : Core) → R s (push_low (entry.Thread n) s))
-    (first : (n : ℕ) (s : Core) → R s (push_high_first (entry.Thread n) s)) where
+    (at_high : (n : ℕ) (s : Core) → R s (push_high (Entry.Thread n) s)) (at_low : (n : ℕ) (s : Core) → R s (push_low (Entry.Thread n) s))
+    (first : (n : ℕ) (s : Core) → R s (push_high_first (Entry.Thread n) s)) where
   both : {s m t : Core} → R s m → R m t → R s t
   both p q = after _ _ _ p q
 
   put_high_keeps : (n : ℕ) (w : Why) (s : Core) → R s (put_high n w s)
   unfolding put_high
-  put_high_keeps n w s = both (placed_at n (place.Ready mark.High w) s) (at_high n _)
+  put_high_keeps n w s = both (placed_at n (Place.Ready Mark.High w) s) (at_high n _)
 
   displaced_keeps : (o : Option ℕ) (s : Core) → R s (displaced o s)
   displaced_keeps None s = same s
-  displaced_keeps (Some m) s = both (placed_at m (place.Ready mark.High (why_of m s)) s) (first m _)
+  displaced_keeps (Some m) s = both (placed_at m (Place.Ready Mark.High (why_of m s)) s) (first m _)
 
   put_switch_keeps : (n : ℕ) (w : Why) (s : Core) → R s (put_switch n w s)
   unfolding put_switch
-  put_switch_keeps n w s = both (displaced_keeps s.queues.switch s) (both (placed_at n (place.Ready mark.Switch w) _) (switched (Some n) _))
+  put_switch_keeps n w s = both (displaced_keeps s.queues.switch s) (both (placed_at n (Place.Ready Mark.Switch w) _) (switched (Some n) _))
 
   behind_one_keeps : (f n : ℕ) (s : Core) → R s (behind_one f n s)
   unfolding behind_one
-  behind_one_keeps f n s = both (placed_at n (place.Behind f) s) (called f _ _)
+  behind_one_keeps f n s = both (placed_at n (Place.Behind f) s) (called f _ _)
 
   behind_keeps : (f : ℕ) (ns : List ℕ) (s : Core) → R s (behind f ns s)
   behind_keeps f [] s = same s
@@ -81,31 +75,31 @@ module _ (R : Core → Core → Type 0) (same : (s : Core) → R s s) (after : (
 
   resumed_keeps : (ns : List ℕ) (s : Core) → R s (resumed_all ns s)
   resumed_keeps [] s = same s
-  resumed_keeps (n ∷ ns) s = both (put_high_keeps n why.Resumption s) (resumed_keeps ns (put_high n why.Resumption s))
+  resumed_keeps (n ∷ ns) s = both (put_high_keeps n Why.Resumption s) (resumed_keeps ns (put_high n Why.Resumption s))
 
   passed_on_keeps : (o : Option ℕ) (ns : List ℕ) (s : Core) → R s (passed_on o ns s)
   passed_on_keeps (Some m) ns s = behind_keeps (foot_of m s) ns s
   passed_on_keeps None [] s = same s
-  passed_on_keeps None (n ∷ ns) s = both (put_switch_keeps (newest n ns) why.Resumption s) (resumed_keeps (older n ns) _)
+  passed_on_keeps None (n ∷ ns) s = both (put_switch_keeps (newest n ns) Why.Resumption s) (resumed_keeps (older n ns) _)
 
   placing_keeps : (p : Placing) (s : Core) → ((m : Mark) → p ≡ Pop m → R s (popped m s)) → R s (after_placing p s)
   unfolding put_low promoted stopped
   placing_keeps (Pop m) s pop = pop m refl
-  placing_keeps (Put mark.Switch n w) s pop = put_switch_keeps n w s
-  placing_keeps (Put mark.High n w) s pop = put_high_keeps n w s
-  placing_keeps (Put mark.Low n w) s pop = both (placed_at n (place.Ready mark.Low w) s) (at_low n _)
+  placing_keeps (Put Mark.Switch n w) s pop = put_switch_keeps n w s
+  placing_keeps (Put Mark.High n w) s pop = put_high_keeps n w s
+  placing_keeps (Put Mark.Low n w) s pop = both (placed_at n (Place.Ready Mark.Low w) s) (at_low n _)
   placing_keeps (Promote n) s pop =
-      both (unqueued_keeps n s) (both (placed_at n (place.Ready mark.Switch (why_of n s)) _) (switched (Some n) _))
+      both (unqueued_keeps n s) (both (placed_at n (Place.Ready Mark.Switch (why_of n s)) _) (switched (Some n) _))
   placing_keeps (Stop f) s pop = both (called f [] s) (passed_on_keeps s.queues.switch (callers_of f s) _)
   placing_keeps (GoBehind f n) s pop = behind_one_keeps f n s
   placing_keeps (Move n p) s pop = placed_at n p s
-  placing_keeps (Enter n m) s pop = both (placed_at m place.Running s) (placed_at n (place.Under m) _)
+  placing_keeps (Enter n m) s pop = both (placed_at m Place.Running s) (placed_at n (Place.Under m) _)
 
 pub popped_shifted : (m : Mark) (s : Core) → Shifted s (popped m s)
 unfolding popped set_switch set_high set_low
-popped_shifted mark.Switch s = record { only = refl; threads = λ k. refl }
-popped_shifted mark.High s = record { only = refl; threads = λ k. refl }
-popped_shifted mark.Low s = record { only = refl; threads = λ k. refl }
+popped_shifted Mark.Switch s = record { only = refl; threads = λ k. refl }
+popped_shifted Mark.High s = record { only = refl; threads = λ k. refl }
+popped_shifted Mark.Low s = record { only = refl; threads = λ k. refl }
 
 -- each change of where threads are
 pub placing_shifted : (p : Placing) (s : Core) → Shifted s (after_placing p s)
@@ -140,11 +134,11 @@ placed {may = may} {b = b} {s = s} p ok c = subst (λ (t : Core). Chain may b t)
 -- the entries that are of no thread
 abbrev pub work_entries : List Entry → List Entry
 work_entries [] = []
-work_entries (entry.Thread n ∷ es) = work_entries es
-work_entries (entry.Push i ∷ es) = entry.Push i ∷ work_entries es
-work_entries (entry.Host i ∷ es) = entry.Host i ∷ work_entries es
+work_entries (Entry.Thread n ∷ es) = work_entries es
+work_entries (Entry.Push i ∷ es) = Entry.Push i ∷ work_entries es
+work_entries (Entry.Host i ∷ es) = Entry.Host i ∷ work_entries es
 
-pub work_entries-append : (es : List Entry) (n : ℕ) → work_entries (es ++ entry.Thread n ∷ []) ≡ work_entries es
+pub work_entries-append : (es : List Entry) (n : ℕ) → work_entries (es ++ Entry.Thread n ∷ []) ≡ work_entries es
 work_entries-append [] n = refl
 work_entries-append (e ∷ es) n = grind (arith, work_entries-append es n)
 
@@ -172,17 +166,17 @@ unqueued_works n s = by_test (has_entry n s.queues.high)
     by_test false = record { high = refl; low = work_entries-less n s.queues.low }
 
 -- the entry of a thread leaves its mark
-popped_works : (m : Mark) (n : ℕ) (s : Core) → next_entry s ≡ Some (m, entry.Thread n) → SameWorks s (popped m s)
+popped_works : (m : Mark) (n : ℕ) (s : Core) → next_entry s ≡ Some (m, Entry.Thread n) → SameWorks s (popped m s)
 unfolding popped set_switch set_high set_low next_entry
-popped_works mark.Switch n s h = record { high = refl; low = refl }
-popped_works mark.High n s h = record { high = head_high s.queues.switch s.queues.high s.queues.low h; low = refl }
+popped_works Mark.Switch n s h = record { high = refl; low = refl }
+popped_works Mark.High n s h = record { high = head_high s.queues.switch s.queues.high s.queues.low h; low = refl }
   where
-    head_high : (q : Option ℕ) (hs ls : List Entry) → or_high q hs ls ≡ Some (mark.High, entry.Thread n) →
+    head_high : (q : Option ℕ) (hs ls : List Entry) → or_high q hs ls ≡ Some (Mark.High, Entry.Thread n) →
         work_entries (rest_of hs) ≡ work_entries hs
     head_high q hs ls h = grind arith
-popped_works mark.Low n s h = record { high = refl; low = head_low s.queues.switch s.queues.high s.queues.low h }
+popped_works Mark.Low n s h = record { high = refl; low = head_low s.queues.switch s.queues.high s.queues.low h }
   where
-    head_low : (q : Option ℕ) (hs ls : List Entry) → or_high q hs ls ≡ Some (mark.Low, entry.Thread n) →
+    head_low : (q : Option ℕ) (hs ls : List Entry) → or_high q hs ls ≡ Some (Mark.Low, Entry.Thread n) →
         work_entries (rest_of ls) ≡ work_entries ls
     head_low q hs ls h = grind arith
 

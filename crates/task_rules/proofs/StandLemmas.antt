@@ -1,9 +1,5 @@
 -- Threads and their entries, counted; what the words that put a thread do to them.
-use Rattle.task_rules.proofs.Machine.{[], ap, arith, Bool, callers_of, cond, Core, entries, Entry, eq-eqb, eqb-false, eqb-true, false, get, has_entry, HasPlace, if◌then◌else◌, is_at_high, is_at_low, is_at_switch, is_behind_of, is_blocked_on, is_entry_of, is_free, is_fresh, is_some, is_there, is_under, le_trans, less, List, nat_tests, newest, None, older, on_thread, one_if, Option, option_map, option_map_or, Place, place_of, push_high, push_low, put_high, put_low, Queues, Records, refl, says, set_place, Some, subst, Subtask, switch_entries, sym, times, true, unwrap_or, Why, ℕ, ◌++◌, ◌+◌, ◌==◌, ◌∙◌, ◌∷◌, ◌≡◌, ◌≢◌, ◌≤◌, ◌⊎◌}
-use Rattle.task_machine.specs.declared.records.Entry.TheVariants as entry
-use Rattle.task_machine.specs.declared.words.Mark.TheVariants as mark
-use Rattle.task_machine.specs.declared.records.Place.TheVariants as place
-use Rattle.task_machine.proofs.CommuteLemmas.{get-change}
+use Rattle.task_rules.proofs.Machine.{[], ap, arith, Bool, callers_of, cond, Core, entries, Entry, eq-eqb, eqb-false, eqb-true, false, get, get-change, has_entry, HasPlace, if◌then◌else◌, is_at_high, is_at_low, is_at_switch, is_behind_of, is_blocked_on, is_entry_of, is_free, is_fresh, is_some, is_there, is_under, le_trans, less, List, Mark, nat_tests, newest, None, older, on_thread, one_if, Option, option_map, option_map_or, Place, place_of, push_high, push_low, put_high, put_low, Queues, Records, refl, says, set_place, Some, subst, Subtask, switch_entries, sym, times, true, unwrap_or, Why, ℕ, ◌++◌, ◌+◌, ◌==◌, ◌∙◌, ◌∷◌, ◌≡◌, ◌≢◌, ◌≤◌, ◌⊎◌}
 
 -- ---- Numbers and lists
 
@@ -301,17 +297,17 @@ moved_adds m p r q cs s is given switch high low callers = record {
   callers = callers;
 }
 
-pub put_high_adds : (m : ℕ) (w : Why) (r : Place) (s : Core) → place_of m s ≡ Some r → Adds m (place.Ready mark.High w) s (put_high m w s)
+pub put_high_adds : (m : ℕ) (w : Why) (r : Place) (s : Core) → place_of m s ≡ Some r → Adds m (Place.Ready Mark.High w) s (put_high m w s)
 unfolding put_high push_high set_place on_thread
 put_high_adds m w r s is =
-    moved_adds m (place.Ready mark.High w) r _ _ s is (λ f h. absurd (grind arith)) (λ k. plus_none k m _)
-    (λ k. plus_one k m _ _ (entries-append k s.queues.high (entry.Thread m))) (λ k. plus_none k m _) (λ k f. plus_none k m _)
+    moved_adds m (Place.Ready Mark.High w) r _ _ s is (λ f h. absurd (grind arith)) (λ k. plus_none k m _)
+    (λ k. plus_one k m _ _ (entries-append k s.queues.high (Entry.Thread m))) (λ k. plus_none k m _) (λ k f. plus_none k m _)
 
-pub put_low_adds : (m : ℕ) (w : Why) (r : Place) (s : Core) → place_of m s ≡ Some r → Adds m (place.Ready mark.Low w) s (put_low m w s)
+pub put_low_adds : (m : ℕ) (w : Why) (r : Place) (s : Core) → place_of m s ≡ Some r → Adds m (Place.Ready Mark.Low w) s (put_low m w s)
 unfolding put_low push_low set_place on_thread
 put_low_adds m w r s is =
-    moved_adds m (place.Ready mark.Low w) r _ _ s is (λ f h. absurd (grind arith)) (λ k. plus_none k m _) (λ k. plus_none k m _)
-    (λ k. plus_one k m _ _ (entries-append k s.queues.low (entry.Thread m))) (λ k f. plus_none k m _)
+    moved_adds m (Place.Ready Mark.Low w) r _ _ s is (λ f h. absurd (grind arith)) (λ k. plus_none k m _) (λ k. plus_none k m _)
+    (λ k. plus_one k m _ _ (entries-append k s.queues.low (Entry.Thread m))) (λ k f. plus_none k m _)
 
 pub set_place_adds : (m : ℕ) (p r : Place) (s : Core) → is_free p ≡ true → place_of m s ≡ Some r → Adds m p s (set_place m p s)
 unfolding set_place on_thread

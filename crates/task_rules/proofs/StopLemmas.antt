@@ -1,8 +1,5 @@
 -- What the moves that put threads, and a stop, do to places and entries.
 use Rattle.task_rules.proofs.Machine.{[], ap, arith, behind, behind_one, Bool, callers_of, Core, displaced, entries, find, foot_from, foot_of, get-insert, HasPlace, is_at, is_at_switch, is_behind_of, is_fresh, is_some, is_there, is_under, le_refl, List, Mark, nat_tests, newest, None, numbers, older, on_thread, one_if, Option, passed_on, Place, place_of, push_high_first, put_high, put_switch, refl, resumed_all, resumed_callers, says, set_callers, set_place, set_switch, size, Some, stopped, subst, suc, switch_entries, sym, times, true, under_of, Why, why_of, zero, ℕ, ◌==◌, ◌∙◌, ◌∷◌, ◌≡◌, ◌≤◌}
-use Rattle.task_machine.specs.declared.words.Mark.TheVariants as mark
-use Rattle.task_machine.specs.declared.records.Place.TheVariants as place
-use Rattle.task_machine.specs.declared.records.Why.TheVariants as why
 use Rattle.task_rules.proofs.StandLemmas.{Adds, Drops, Given, Left, Loose, Stand, adds_given, adds_stand, by_count, callers_say, drops_stand, eq_refl, is_eq_of, left_loose, left_placed, moved_adds, once_or_not, plus_none, plus_one, put_high_adds, times-append, times-newest, zero_one, Watch, nobody, watching, is_so, is_watched, by_number, place_written, place_kept}
 
 -- ---- What leaves every place and every entry of a thread alone
@@ -45,23 +42,23 @@ pub comes_stand : {P : ℕ → Watch} (n : ℕ) (q : Option Place) (m : ℕ) (xs
 comes_stand n q m xs p s t adds st =
     let r = st.there m (own_times m xs (omega (arith, st.once m))) in adds_stand m p s t (adds r.0 r.1) n q xs st
 
-pub behind_adds : (g m : ℕ) (r : Place) (s : Core) → Given g s → place_of m s ≡ Some r → Adds m (place.Behind g) s (behind_one g m s)
+pub behind_adds : (g m : ℕ) (r : Place) (s : Core) → Given g s → place_of m s ≡ Some r → Adds m (Place.Behind g) s (behind_one g m s)
 unfolding behind_one set_callers set_place on_thread
 behind_adds g m r s given is =
-    moved_adds m (place.Behind g) r _ _ s is (λ f e. subst (λ (j : ℕ). Given j s) (sym (is_eq_of f g e)) given) (λ k. plus_none k m _)
+    moved_adds m (Place.Behind g) r _ _ s is (λ f e. subst (λ (j : ℕ). Given j s) (sym (is_eq_of f g e)) given) (λ k. plus_none k m _)
     (λ k. plus_none k m _) (λ k. plus_none k m _) (λ k f. grind (arith, nat_tests, get-insert, times-append k (callers_of g s) m))
 
 -- ---- The entry at switch gives way
 
 switch_adds : (m : ℕ) (w : Why) (r : Place) (s : Core) → place_of m s ≡ Some r →
-    Adds m (place.Ready mark.Switch w) (set_switch None s) (set_switch (Some m) (set_place m (place.Ready mark.Switch w) s))
+    Adds m (Place.Ready Mark.Switch w) (set_switch None s) (set_switch (Some m) (set_place m (Place.Ready Mark.Switch w) s))
 unfolding set_switch set_place on_thread
 switch_adds m w r s is =
-    moved_adds m (place.Ready mark.Switch w) r _ _ (set_switch None s) is (λ f h. absurd (grind arith))
+    moved_adds m (Place.Ready Mark.Switch w) r _ _ (set_switch None s) is (λ f h. absurd (grind arith))
     (λ k. plus_one k m 0 _ (omega arith)) (λ k. plus_none k m _) (λ k. plus_none k m _) (λ k f. plus_none k m _)
 
 -- an entry's mark is not watched
-pub so_again : (v : Watch) (x y : Mark) (w : Why) → is_so v (Some (place.Ready x w)) ≡ is_so v (Some (place.Ready y w))
+pub so_again : (v : Watch) (x y : Mark) (w : Why) → is_so v (Some (Place.Ready x w)) ≡ is_so v (Some (Place.Ready y w))
 so_again v x y w = grind arith
 
 -- where a thread stands at switch, and is put at the front of high
@@ -74,7 +71,7 @@ displaced_stand n q xs s None is st =
     (record { places = λ k. refl; switch = off; high = λ k. refl; low = λ k. refl; callers = refl; made = le_refl _ }) st
 displaced_stand {P = P} n q xs s (Some j) is st =
     let w = ready (place_of j s) refl (sym stands ∙ (st.placed j j_none).switch) in
-    let off : Drops j (place.Ready mark.Switch w.0) s u = record {
+    let off : Drops j (Place.Ready Mark.Switch w.0) s u = record {
       made = refl;
       places = λ k. refl;
       switch = λ k. ap (switch_entries k) is ∙ plus_one k j 0 _ (omega arith);
@@ -82,11 +79,11 @@ displaced_stand {P = P} n q xs s (Some j) is st =
       low = λ k. plus_none k j _;
       callers = λ k f. plus_none k j _;
     } in
-    let adds : Adds j high u t = moved_adds j high (place.Ready mark.Switch w.0) _ _ u w.1 (λ f h. absurd (grind arith)) (λ k. plus_none k j _)
+    let adds : Adds j high u t = moved_adds j high (Place.Ready Mark.Switch w.0) _ _ u w.1 (λ f h. absurd (grind arith)) (λ k. plus_none k j _)
     (λ k. plus_one k j _ _ (omega arith)) (λ k. plus_none k j _) (λ k f. plus_none k j _) in
     let bare : Stand nobody n q xs s = watching n q xs s (λ k h. absurd (grind arith)) st in
     watching n q xs t (λ k h. ((st.kept k h).0, still_so w (P k) k (st.kept k h).1))
-    (adds_stand j high u t adds n q xs (drops_stand n q j (place.Ready mark.Switch w.0) xs s u refl off w.1 j_none bare))
+    (adds_stand j high u t adds n q xs (drops_stand n q j (Place.Ready Mark.Switch w.0) xs s u refl off w.1 j_none bare))
   where
     u : Core
     u = set_switch None s
@@ -95,7 +92,7 @@ displaced_stand {P = P} n q xs s (Some j) is st =
     t = set_switch None (displaced (Some j) s)
 
     high : Place
-    high = place.Ready mark.High (why_of j s)
+    high = Place.Ready Mark.High (why_of j s)
 
     stands : switch_entries j s.queues.switch ≡ 1
     stands = ap (switch_entries j) is ∙ ap one_if (eq_refl j)
@@ -104,22 +101,22 @@ displaced_stand {P = P} n q xs s (Some j) is st =
     j_none = omega (arith, st.once j, λ (e : times j (n ∷ xs) ≡ 1). zero_one {A = ⊥} (st.loose j e).switch stands)
 
     -- what stood at switch is ready there
-    ready : (o : Option Place) → place_of j s ≡ o → 1 ≡ says is_at_switch o → (w : Why) × (place_of j s ≡ Some (place.Ready mark.Switch w))
-    ready (Some (place.Ready mark.Switch w)) e z = (w, e)
+    ready : (o : Option Place) → place_of j s ≡ o → 1 ≡ says is_at_switch o → (w : Why) × (place_of j s ≡ Some (Place.Ready Mark.Switch w))
+    ready (Some (Place.Ready Mark.Switch w)) e z = (w, e)
     ready _ e z = absurd (omega (arith, z))
 
     -- it stands for what it stood for
-    still_so : ((w : Why) × (place_of j s ≡ Some (place.Ready mark.Switch w))) → (v : Watch) (k : ℕ) → is_so v (place_of k s) ≡ true →
+    still_so : ((w : Why) × (place_of j s ≡ Some (Place.Ready Mark.Switch w))) → (v : Watch) (k : ℕ) → is_so v (place_of k s) ≡ true →
         is_so v (place_of k t) ≡ true
     still_so w v k f =
-        by_number k j _ (λ e. grind (arith, so_again v mark.High mark.Switch w.0, w.1, place_written j high (place.Ready mark.Switch w.0) s w.1))
+        by_number k j _ (λ e. grind (arith, so_again v Mark.High Mark.Switch w.0, w.1, place_written j high (Place.Ready Mark.Switch w.0) s w.1))
         (λ e. ap (is_so v) (place_kept k j high s e) ∙ f)
 
 pub put_switch_stand : {P : ℕ → Watch} (n : ℕ) (q : Option Place) (m : ℕ) (xs : List ℕ) (w : Why) (s : Core) → times m xs ≡ 0 → Stand P n q (m ∷ xs) s →
     Stand P n q xs (put_switch m w s)
 unfolding put_switch set_switch set_place on_thread
 put_switch_stand n q m xs w s none st =
-    comes_stand n q m xs (place.Ready mark.Switch w) _ _ (λ r is. switch_adds m w r (displaced s.queues.switch s) is)
+    comes_stand n q m xs (Place.Ready Mark.Switch w) _ _ (λ r is. switch_adds m w r (displaced s.queues.switch s) is)
     (displaced_stand n q (m ∷ xs) s s.queues.switch refl st)
 
 -- ---- A stop
@@ -138,23 +135,23 @@ stand_as n q xs ys s same st = record {
 resumed_all_stand : {P : ℕ → Watch} (n : ℕ) (q : Option Place) (xs : List ℕ) (s : Core) → Stand P n q xs s → Stand P n q [] (resumed_all xs s)
 resumed_all_stand n q [] s st = st
 resumed_all_stand n q (m ∷ xs) s st =
-    resumed_all_stand n q xs (put_high m why.Resumption s)
-    (comes_stand n q m xs (place.Ready mark.High why.Resumption) s _ (λ r is. put_high_adds m why.Resumption r s is) st)
+    resumed_all_stand n q xs (put_high m Why.Resumption s)
+    (comes_stand n q m xs (Place.Ready Mark.High Why.Resumption) s _ (λ r is. put_high_adds m Why.Resumption r s is) st)
 
 behind_all_stand : {P : ℕ → Watch} (n : ℕ) (q : Option Place) (g : ℕ) (xs : List ℕ) (s : Core) → Given g s → Stand P n q xs s → Stand P n q [] (behind g xs s)
 behind_all_stand n q g [] s given st = st
 behind_all_stand n q g (m ∷ xs) s given st =
     let r = st.there m (own_times m xs (omega (arith, st.once m))) in
     let adds = behind_adds g m r.0 s given r.1 in
-    behind_all_stand n q g xs (behind_one g m s) (adds_given m (place.Behind g) s (behind_one g m s) adds g given)
-    (adds_stand m (place.Behind g) s (behind_one g m s) adds n q xs st)
+    behind_all_stand n q g xs (behind_one g m s) (adds_given m (Place.Behind g) s (behind_one g m s) adds g given)
+    (adds_stand m (Place.Behind g) s (behind_one g m s) adds n q xs st)
 
 resumed_callers_stand : {P : ℕ → Watch} (n : ℕ) (q : Option Place) (xs : List ℕ) (s : Core) → Stand P n q xs s → Stand P n q [] (resumed_callers xs s)
 resumed_callers_stand n q [] s st = st
 resumed_callers_stand n q (m ∷ xs) s st =
     let u = stand_as n q (m ∷ xs) (newest m xs ∷ older m xs) s (λ k. omega (arith, times-newest k m xs)) st in
     let none : times (newest m xs) (older m xs) ≡ 0 = omega (arith, u.once (newest m xs), ap one_if (eq_refl (newest m xs))) in
-    resumed_all_stand n q (older m xs) _ (put_switch_stand n q (newest m xs) (older m xs) why.Resumption s none u)
+    resumed_all_stand n q (older m xs) _ (put_switch_stand n q (newest m xs) (older m xs) Why.Resumption s none u)
 
 -- a thread is loose or has its place, so its number was given
 pub given_there : {P : ℕ → Watch} (n : ℕ) (q : Option Place) (xs : List ℕ) (s : Core) → Stand P n q xs s → (k : ℕ) → is_there k s ≡ true → Given k s
@@ -204,7 +201,7 @@ detached {P = P} n q f s st = record {
   loose = λ k h. by_count k n _ (λ e x. left_loose k s t (stays k (omega arith)) (st.loose k (omega arith)))
       (λ e x. comes_loose k (omega arith) (st.placed k (omega arith)));
   there = λ k h. by_count k n _ (λ e x. zero_one ((st.loose k (omega arith)).callers f) h)
-      (λ e x. (place.Behind f, behind_f k h (st.placed k (omega arith))));
+      (λ e x. (Place.Behind f, behind_f k h (st.placed k (omega arith))));
   placed = λ k h. left_placed k s t (stays k (omega arith)) refl (st.placed k (omega arith));
   -- who is watched is behind none
   kept = λ k h. (
@@ -224,11 +221,11 @@ detached {P = P} n q f s st = record {
     stays : (k : ℕ) → times k (callers_of f s) ≡ 0 → Left k s t
     stays k none = grind (arith, nat_tests, get-insert)
 
-    behind_f : (k : ℕ) → times k (callers_of f s) ≡ 1 → HasPlace k s → place_of k s ≡ Some (place.Behind f)
+    behind_f : (k : ℕ) → times k (callers_of f s) ≡ 1 → HasPlace k s → place_of k s ≡ Some (Place.Behind f)
     behind_f k h p = of_place (place_of k s) (omega (arith, h, callers_say k f s p))
       where
-        of_place : (o : Option Place) → 1 ≤ says (is_behind_of f) o → o ≡ Some (place.Behind f)
-        of_place (Some (place.Behind g)) y = ap (λ (j : ℕ). Some (place.Behind j)) (sym (is_eq_of f g (one_of (f == g) y)))
+        of_place : (o : Option Place) → 1 ≤ says (is_behind_of f) o → o ≡ Some (Place.Behind f)
+        of_place (Some (Place.Behind g)) y = ap (λ (j : ℕ). Some (Place.Behind j)) (sym (is_eq_of f g (one_of (f == g) y)))
           where
             one_of : (b : Bool) → 1 ≤ one_if b → b ≡ true
             one_of b y = grind arith
@@ -237,7 +234,7 @@ detached {P = P} n q f s st = record {
     comes_loose : (k : ℕ) → times k (callers_of f s) ≡ 1 → HasPlace k s → Loose k t
     comes_loose k h p = by_place (behind_f k h p) p
       where
-        by_place : place_of k s ≡ Some (place.Behind f) → HasPlace k s → Loose k t
+        by_place : place_of k s ≡ Some (Place.Behind f) → HasPlace k s → Loose k t
         by_place is p = grind (arith, nat_tests, get-insert)
 
 pub stopped_stand : {P : ℕ → Watch} (n : ℕ) (q : Option Place) (f : ℕ) (s : Core) → Stand P n q [] s → Stand P n q [] (stopped f s)

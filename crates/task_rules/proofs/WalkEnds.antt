@@ -1,21 +1,10 @@
 -- The end of a task as a chain of words.
-use Rattle.task_rules.proofs.Machine.{after_word, ap, arith, blocked_on, Bool, Call, CallEnd, Caller, caller_of, cancelled, change, Core, EndCall, false, get, give_result, GiveResult, Goal, goal_of, if◌then◌else◌, is_callback_waiter, is_over, is_some, is_told, is_waiting_on, Join, join_of, MayEnd, nat_tests, None, on_call, on_thread, Option, option_map, option_map_or, place_of, published, Put, put_high, Records, refl, result_given, returned, same_map, SaysEnd, Scene, set_end, set_event, set_register, set_result, SetRegister, SetResult, Some, Status, status_of_end, subst, sym, task_of, told, true, unblocked, wake, wake_joined, waken_by, Why, ℕ, ◌∙◌, ◌≡◌}
+use Rattle.task_rules.proofs.Machine.{after_word, ap, arith, blocked_on, Bool, Call, CallEnd, Caller, caller_of, cancelled, change, change-field, Core, Delivery, EndCall, false, get, get-change, give_result, GiveResult, Goal, goal_of, if◌then◌else◌, is_callback_waiter, is_over, is_some, is_told, is_waiting_on, Join, join_of, Mark, MayEnd, nat_tests, None, on_call, on_thread, Option, option_map, option_map_or, place_of, published, Put, put_high, Records, refl, result_given, returned, same_map, SaysEnd, Scene, set_end, set_event, set_register, set_result, SetRegister, SetResult, Some, Status, status_of_end, subst, Subtask, sym, task_of, told, true, unblocked, wake, wake_joined, waken_by, Why, ℕ, ◌∙◌, ◌≡◌}
 use Rattle.task_rules.proofs.WalkMoves.{walk_if, shifted, published_call_shifts}
-use Rattle.task_machine.proofs.CommuteLemmas.{get-change}
-use Rattle.task_machine.proofs.MapLemmas.{change-field}
 use Rattle.task_rules.proofs.CallThreads.{LastEnds}
 use Rattle.task_rules.proofs.PlacingLemmas.{Shifted, placing_shifted, shifted_after, shifted_calls, shifted_same, shifted_task}
-use Rattle.task_machine.specs.declared.records.Delivery.TheVariants as delivery
-use Rattle.task_machine.specs.declared.records.Join.TheVariants as join
-use Rattle.task_machine.specs.declared.records.Why.TheVariants as why
-use Rattle.task_machine.specs.declared.words.Mark.TheVariants as mark
 use Rattle.task_rules.proofs.ChainLemmas.{Keep}
-use Rattle.task_rules.proofs.WalkMoves.{Chosen, ToldTo, told_walks, word}
-use Rattle.task_machine.specs.declared.records.CallEnd.TheVariants as call_end
-use Rattle.task_machine.specs.declared.records.Caller.TheVariants as caller
-use Rattle.task_machine.specs.declared.records.Goal.TheVariants as goal
-use Rattle.task_machine.specs.declared.records.Subtask.TheVariants as subtask
-use Rattle.task_machine.specs.declared.words.Status.TheVariants as status
+use Rattle.task_rules.proofs.WalkMoves.{Chosen, ToldTo, word}
 
 -- ---- What an end and a result leave of a call
 
@@ -35,7 +24,7 @@ module _ (k : ℕ) (s t : Core) (h : SameCall k s t) where
   same_told : is_told k t ≡ is_told k s
   same_told = grind (arith, h)
 
-  same_join : join_of (subtask.Guest k) t ≡ join_of (subtask.Guest k) s
+  same_join : join_of (Subtask.Guest k) t ≡ join_of (Subtask.Guest k) s
   same_join = grind (arith, h)
 
   -- the chosen thread is the same
@@ -67,8 +56,8 @@ abbrev pub call_ends : ℕ → CallEnd → Core → Core
 call_ends k e s = after_word (EndCall k e) s
 
 -- where the end is told, the word sets both
-ends_told : (k : ℕ) (e : CallEnd) (s : Core) → is_told k s ≡ true → (e ≡ call_end.StartCancelled → ⊥) →
-    set_event (subtask.Guest k) (Some (status_of_end e)) (set_end k e s) ≡ call_ends k e s
+ends_told : (k : ℕ) (e : CallEnd) (s : Core) → is_told k s ≡ true → (e ≡ CallEnd.StartCancelled → ⊥) →
+    set_event (Subtask.Guest k) (Some (status_of_end e)) (set_end k e s) ≡ call_ends k e s
 unfolding set_event set_end on_call
 ends_told k e s told ran = ap (λ (m : Records Call). record s { calls = m }) (same_map _ _ (λ q. grind (arith, nat_tests, get-change)))
 
@@ -82,30 +71,30 @@ ends_goal k e s = grind (arith, nat_tests, get-change)
 
 -- the event may be set before the result is given
 told_given : (g : Goal) (f : Caller) (k v : ℕ) (e : Status) (s : Core) →
-    set_event (subtask.Guest k) (Some e) (result_given g f k v s) ≡ result_given g f k v (set_event (subtask.Guest k) (Some e) s)
+    set_event (Subtask.Guest k) (Some e) (result_given g f k v s) ≡ result_given g f k v (set_event (Subtask.Guest k) (Some e) s)
 unfolding set_event on_call give_result set_register on_thread set_result
-told_given goal.Main f k v e s = refl
-told_given (goal.Register r) (caller.Thread n) k v e s = refl
-told_given goal.Answer f k v e s = ap (λ (m : Records Call). record s { calls = m }) (same_map _ _ (λ q. grind (arith, nat_tests, get-change)))
+told_given Goal.Main f k v e s = refl
+told_given (Goal.Register r) (Caller.Thread n) k v e s = refl
+told_given Goal.Answer f k v e s = ap (λ (m : Records Call). record s { calls = m }) (same_map _ _ (λ q. grind (arith, nat_tests, get-change)))
 told_given _ f k v e s = refl
 
 -- ---- A call whose end is written
 
 put_shifted : (n : ℕ) (w : Why) (s : Core) → Shifted s (put_high n w s)
-put_shifted n w s = placing_shifted (Put mark.High n w) s
+put_shifted n w s = placing_shifted (Put Mark.High n w) s
 
 unblocked_shifted : (o : Option ℕ) (s : Core) → Shifted s (unblocked o s)
 unblocked_shifted None s = shifted_same s
-unblocked_shifted (Some n) s = put_shifted n why.Resumption s
+unblocked_shifted (Some n) s = put_shifted n Why.Resumption s
 
 waken_shifted : (b : Bool) (x n : ℕ) (s : Core) → Shifted s (waken_by b x n s)
-waken_shifted true x n s = put_shifted n (why.Delivery (delivery.Set x)) s
-waken_shifted false x n s = put_shifted n why.Resumption s
+waken_shifted true x n s = put_shifted n (Why.Delivery (Delivery.Set x)) s
+waken_shifted false x n s = put_shifted n Why.Resumption s
 
 wake_shifted : (j : Join) (w : Option ℕ) (s : Core) → Shifted s (wake_joined j w s)
 unfolding wake
-wake_shifted (join.Set x) None s = shifted_same s
-wake_shifted (join.Set x) (Some n) s = waken_shifted (is_callback_waiter n s) x n s
+wake_shifted (Join.Set x) None s = shifted_same s
+wake_shifted (Join.Set x) (Some n) s = waken_shifted (is_callback_waiter n s) x n s
 wake_shifted _ w s = shifted_same s
 
 -- more than the event is told of no call and no thread
@@ -116,11 +105,11 @@ told_kept k n e w s = by (is_told k s)
     t : Core
     t = record s { calls = change k (λ (c : Call). record c { event = Some e }) s.calls }
 
-    d : Shifted t (wake_joined (join_of (subtask.Guest k) s) w (unblocked (blocked_on (subtask.Guest k) s) t))
-    d = shifted_after (unblocked_shifted (blocked_on (subtask.Guest k) s) t) (wake_shifted (join_of (subtask.Guest k) s) w (unblocked (blocked_on (subtask.Guest k) s) t))
+    d : Shifted t (wake_joined (join_of (Subtask.Guest k) s) w (unblocked (blocked_on (Subtask.Guest k) s) t))
+    d = shifted_after (unblocked_shifted (blocked_on (Subtask.Guest k) s) t) (wake_shifted (join_of (Subtask.Guest k) s) w (unblocked (blocked_on (Subtask.Guest k) s) t))
 
-    by : (b : Bool) → (task_of n (if b then wake_joined (join_of (subtask.Guest k) s) w (unblocked (blocked_on (subtask.Guest k) s) t) else s) ≡ task_of n s) ×
-        (is_over k (if b then wake_joined (join_of (subtask.Guest k) s) w (unblocked (blocked_on (subtask.Guest k) s) t) else s) ≡ is_over k s)
+    by : (b : Bool) → (task_of n (if b then wake_joined (join_of (Subtask.Guest k) s) w (unblocked (blocked_on (Subtask.Guest k) s) t) else s) ≡ task_of n s) ×
+        (is_over k (if b then wake_joined (join_of (Subtask.Guest k) s) w (unblocked (blocked_on (Subtask.Guest k) s) t) else s) ≡ is_over k s)
     by true = (shifted_task d n, ap (λ (m : Records Call). option_map_or (λ (c : Call). is_some c.«end») (get m k) true) (shifted_calls d) ∙ grind (arith, nat_tests, get-change))
     by false = (refl, refl)
 
@@ -139,44 +128,44 @@ ended_last n k e s is u same gone = let over = end_over k e s in grind arith
 pub returned_last : (n k v : ℕ) (w : Option ℕ) (s : Core) → task_of n s ≡ k → LastEnds n (returned k v w s)
 unfolding returned set_end on_call
 returned_last n k v w s is u same gone =
-    let over = end_over k call_end.Returned s in
-    let t = result_given (goal_of k s) (caller_of k s) k v (set_end k call_end.Returned s) in
-    let r = result_kept (goal_of k s) (caller_of k s) k v n (set_end k call_end.Returned s) in
-    let g = told_kept k n status.Returned w t in
-    subst (λ (j : ℕ). is_over j (told k status.Returned w t) ≡ true) (sym (g.0 ∙ (r.0 ∙ is))) (g.1 ∙ (r.1 ∙ over))
+    let over = end_over k CallEnd.Returned s in
+    let t = result_given (goal_of k s) (caller_of k s) k v (set_end k CallEnd.Returned s) in
+    let r = result_kept (goal_of k s) (caller_of k s) k v n (set_end k CallEnd.Returned s) in
+    let g = told_kept k n Status.Returned w t in
+    subst (λ (j : ℕ). is_over j (told k Status.Returned w t) ≡ true) (sym (g.0 ∙ (r.0 ∙ is))) (g.1 ∙ (r.1 ∙ over))
 
 module _ {a : Scene} {b : Core} where
-  result_given_walks : (g : Goal) (f : Caller) (k v : ℕ) {s : Core} → goal_of k s ≡ g → SaysEnd a k status.Returned → Keep a b s → Keep a b (result_given g f k v s)
-  result_given_walks goal.Main f k v at says c = word (GiveResult k v) (says, at) c
-  result_given_walks (goal.Register r) (caller.Thread n) k v at says c = word (SetRegister n r v) tt c
-  result_given_walks goal.Answer f k v at says c = word (SetResult k (Some v)) tt c
-  result_given_walks (goal.Register r) caller.Main k v at says c = c
+  result_given_walks : (g : Goal) (f : Caller) (k v : ℕ) {s : Core} → goal_of k s ≡ g → SaysEnd a k Status.Returned → Keep a b s → Keep a b (result_given g f k v s)
+  result_given_walks Goal.Main f k v at says c = word (GiveResult k v) (says, at) c
+  result_given_walks (Goal.Register r) (Caller.Thread n) k v at says c = word (SetRegister n r v) tt c
+  result_given_walks Goal.Answer f k v at says c = word (SetResult k (Some v)) tt c
+  result_given_walks (Goal.Register r) Caller.Main k v at says c = c
   result_given_walks _ f k v at says c = c
 
   -- after the word that ends it
-  ends_rest : (g : Goal) (f : Caller) (k v : ℕ) (e : CallEnd) (w : Option ℕ) (s : Core) → (e ≡ call_end.StartCancelled → ⊥) →
+  ends_rest : (g : Goal) (f : Caller) (k v : ℕ) (e : CallEnd) (w : Option ℕ) (s : Core) → (e ≡ CallEnd.StartCancelled → ⊥) →
       ToldTo k w s → Keep a b (result_given g f k v (call_ends k e s)) → Keep a b (told k (status_of_end e) w (result_given g f k v (set_end k e s)))
   unfolding told
   ends_rest g f k v e w s ran to c =
       let t = result_given g f k v (set_end k e s) in
       let same : SameCall k s t = unanswer (get t.calls k) (get (set_end k e s).calls k) (result_resulted g f k v (set_end k e s)) ∙ end_same k e s in
       let is = same_told k s t same in
-      walk_if (is_told k t) (published (subtask.Guest k) (status_of_end e) w t) t
+      walk_if (is_told k t) (published (Subtask.Guest k) (status_of_end e) w t) t
       (λ told. shifted (published_call_shifts k (status_of_end e) w t (still_told_to k s t same w (λ x chosen n at. ap (λ p. option_map_or (is_waiting_on x) p false) (result_places g f k v (set_end k e s) n ∙ end_places k e s n) ∙ chosen n at) to told))
       (subst (λ (u : Core). Keep a b u) (sym (told_given g f k v (status_of_end e) (set_end k e s) ∙ ap (result_given g f k v) (ends_told k e s (sym is ∙ told) ran))) c))
       (λ untold. subst (λ (u : Core). Keep a b u) (sym (ap (result_given g f k v) (ends_untold k e s (sym is ∙ untold)))) c)
 
-  pub returned_rest : (k v : ℕ) (w : Option ℕ) (s : Core) → SaysEnd a k status.Returned → ToldTo k w s → Keep a b (call_ends k call_end.Returned s) → Keep a b (returned k v w s)
+  pub returned_rest : (k v : ℕ) (w : Option ℕ) (s : Core) → SaysEnd a k Status.Returned → ToldTo k w s → Keep a b (call_ends k CallEnd.Returned s) → Keep a b (returned k v w s)
   unfolding returned
   returned_rest k v w s says to c =
-      ends_rest (goal_of k s) (caller_of k s) k v call_end.Returned w s (λ e. absurd (cc)) to (result_given_walks (goal_of k s) (caller_of k s) k v (ends_goal k call_end.Returned s) says c)
+      ends_rest (goal_of k s) (caller_of k s) k v CallEnd.Returned w s (λ e. absurd (cc)) to (result_given_walks (goal_of k s) (caller_of k s) k v (ends_goal k CallEnd.Returned s) says c)
 
-  pub returned_walks : (k v : ℕ) (w : Option ℕ) {s : Core} → MayEnd a k call_end.Returned s → SaysEnd a k status.Returned → ToldTo k w s → Keep a b s → Keep a b (returned k v w s)
-  returned_walks k v w {s = s} ok says to c = returned_rest k v w s says to (word (EndCall k call_end.Returned) (ok, says) c)
+  pub returned_walks : (k v : ℕ) (w : Option ℕ) {s : Core} → MayEnd a k CallEnd.Returned s → SaysEnd a k Status.Returned → ToldTo k w s → Keep a b s → Keep a b (returned k v w s)
+  returned_walks k v w {s = s} ok says to c = returned_rest k v w s says to (word (EndCall k CallEnd.Returned) (ok, says) c)
 
-  pub cancelled_rest : (k : ℕ) (w : Option ℕ) (s : Core) → ToldTo k w s → Keep a b (call_ends k call_end.ReturnCancelled s) → Keep a b (cancelled k w s)
+  pub cancelled_rest : (k : ℕ) (w : Option ℕ) (s : Core) → ToldTo k w s → Keep a b (call_ends k CallEnd.ReturnCancelled s) → Keep a b (cancelled k w s)
   unfolding cancelled
-  cancelled_rest k w s to c = ends_rest goal.Direct caller.Main k 0 call_end.ReturnCancelled w s (λ e. absurd (cc)) to c
+  cancelled_rest k w s to c = ends_rest Goal.Direct Caller.Main k 0 CallEnd.ReturnCancelled w s (λ e. absurd (cc)) to c
 
-  pub cancelled_walks : (k : ℕ) (w : Option ℕ) {s : Core} → MayEnd a k call_end.ReturnCancelled s → SaysEnd a k status.ReturnCancelled → ToldTo k w s → Keep a b s → Keep a b (cancelled k w s)
-  cancelled_walks k w {s = s} ok says to c = cancelled_rest k w s to (word (EndCall k call_end.ReturnCancelled) (ok, says) c)
+  pub cancelled_walks : (k : ℕ) (w : Option ℕ) {s : Core} → MayEnd a k CallEnd.ReturnCancelled s → SaysEnd a k Status.ReturnCancelled → ToldTo k w s → Keep a b s → Keep a b (cancelled k w s)
+  cancelled_walks k w {s = s} ok says to c = cancelled_rest k w s to (word (EndCall k CallEnd.ReturnCancelled) (ok, says) c)

@@ -1,21 +1,10 @@
 -- The moves of the machine as chains of words.
-use Rattle.task_rules.proofs.Machine.{[], add_call, add_group, add_set, add_thread, add_work, Advance, after_placing, after_word, ap, arith, AtOp, blocked_on, Bool, ByHandle, call_group, call_made, call_settled, can_come, CanCome, change, checked, chosen, Core, count_work, departed, end_of, ended, exited_if, false, first_entry, free_handle, free_thread_handle, freed_thread_handle, FreeThreadHandle, get, get-insert, get-remove, Gift, give_handle, give_result, give_thread_handle, group_settled, handed_on, hands_on, has_ended, held_why, held_why_of, HowFar, if◌then◌else◌, InOp, inr, instance_of, interest_settled, is_at, is_blocked_on, is_callback_waiter, is_deletable, is_done_host, is_explicit, is_finished, is_group_done, is_over, is_some, is_stage_ended, is_told, is_waiter, is_waiting_on, IsNamed, IsRunner, IsStarting, Join, join_of, Lands, LandsAt, le_refl, le_trans, Leaves, List, MakeThread, Mark, may_hand_on, may_not_suspend, may_publish, may_tell, may_wake, may_wake_joined, MayCome, MayDeliver, MayLand, MayPut, MayRemoveCall, MemberGift, nat_tests, NoGift, None, not, NoWord, numbers, on_call, on_instance, on_thread, on_work, op_in, Option, option_and_then, option_map, option_map_or, OwnGift, Place, place_of, Places, Placing, poll_pends, position_of, Promote, promoted, promoted_first, promoted_unless, published, push_high, Put, put_at, put_high, Quits, Records, refl, released, released_one, Releases, remove, remove_call, remove_group, remove_set, remove_thread, remove_work, RemoveCall, RemoveGroup, RemoveThread, Restart, same_subtask, Scene, set_backpressure, set_cancel_delivered, set_cancelled, set_course, set_do_not_enter, set_do_not_suspend, set_end, set_event, set_exited, set_how_far, set_join, set_own_event, set_phase, set_position, set_register, set_result, set_saved_callee, set_saved_own, set_script, set_stage, set_started, set_starting_published, set_subtask_handle, set_thread_handle, set_trapped, set_uninteresting, set_word, SetCallEvent, SetCancelDelivered, SetExited, SetOwnEvent, Settles, SetUninteresting, Shifts, Some, stage_of, Status, Stay, Stop, stopped, subst, Subtask, sym, take_result, TakeHost, taken, TakePush, TakesNamed, TakeWorkEvent, task_of, Tells, Then, Thread, thread_handle_of, told, Trip, true, unblocked, Unblocks, wake, wake_joined, wake_why, waken_by, Wakes, Why, with_handle, with_thread_handle, Word, Work, work_queued, ℕ, ◌||◌, ◌∙◌, ◌∷◌, ◌≡◌, ◌≤◌}
-use Rattle.task_machine.specs.declared.records.Turn.TheVariants as turn
-use Rattle.task_machine.proofs.CommuteLemmas.{get-change}
+use Rattle.task_rules.proofs.Machine.{[], add_call, add_group, add_set, add_thread, add_work, Advance, after_placing, after_word, ap, arith, AtOp, blocked_on, Bool, ByHandle, call_group, call_made, call_settled, can_come, CanCome, change, checked, chosen, Core, count_work, Delivery, departed, end_of, ended, exited_if, false, first_entry, free_handle, free_thread_handle, freed_thread_handle, FreeThreadHandle, get, get-change, get-insert, get-remove, get-remove_same, Gift, give_handle, give_result, give_thread_handle, group_settled, handed_on, hands_on, has_ended, held_why, held_why_of, HowFar, if◌then◌else◌, InOp, inr, instance_of, interest_settled, is_at, is_blocked_on, is_callback_waiter, is_deletable, is_done_host, is_explicit, is_finished, is_group_done, is_over, is_some, is_stage_ended, is_told, is_waiter, is_waiting_on, IsNamed, IsRunner, IsStarting, Join, join_of, Lands, LandsAt, le_refl, le_trans, Leaves, List, MakeThread, Mark, may_hand_on, may_not_suspend, may_publish, may_tell, may_wake, may_wake_joined, MayCome, MayDeliver, MayLand, MayPut, MayRemoveCall, MemberGift, nat_tests, NoGift, None, not, NoWord, numbers, on_call, on_instance, on_thread, on_work, op_in, Option, option_and_then, option_map, option_map_or, OwnEvent, OwnGift, Place, place_of, Places, Placing, poll_pends, position_of, Promote, promoted, promoted_first, promoted_unless, published, push_high, Put, put_at, put_high, Quits, Records, refl, released, released_one, Releases, remove, remove_call, remove_group, remove_set, remove_thread, remove_work, RemoveCall, RemoveGroup, RemoveThread, Restart, same_subtask, Scene, set_backpressure, set_cancel_delivered, set_cancelled, set_course, set_do_not_enter, set_do_not_suspend, set_end, set_event, set_exited, set_how_far, set_join, set_own_event, set_phase, set_position, set_register, set_result, set_saved_callee, set_saved_own, set_script, set_stage, set_started, set_starting_published, set_subtask_handle, set_thread_handle, set_trapped, set_uninteresting, set_word, SetCallEvent, SetCancelDelivered, SetExited, SetOwnEvent, Settles, SetUninteresting, Shifts, Some, Stage, stage_of, Status, Stay, Stop, stopped, subst, Subtask, sym, take_result, TakeHost, taken, TakePush, TakesNamed, TakeWorkEvent, task_of, Tells, Then, Thread, thread_handle_of, told, Trip, true, Turn, unblocked, Unblocks, wake, wake_joined, wake_why, waken_by, Wakes, Why, with_handle, with_thread_handle, Word, Work, work_queued, ℕ, ◌||◌, ◌∙◌, ◌∷◌, ◌≡◌, ◌≤◌}
 use Rattle.task_rules.proofs.StandLemmas.{set_place_is}
-use Rattle.task_machine.proofs.MapLemmas.{get-remove_same}
 use Rattle.task_rules.proofs.ChainLemmas.{along, Keep, Keeps, join, keep_stay, weaken, shift_keeps, settle_keeps, settle_stays}
 use Rattle.task_rules.proofs.StopLemmas.{find_passes}
 use Rattle.task_rules.proofs.PlacingLemmas.{placed, placing_shifted, popped_shifted, unplaced, Shifted}
 use Rattle.task_rules.proofs.PromotionLemmas.{first_has_entry}
-use Rattle.task_machine.specs.declared.records.Delivery.TheVariants as delivery
-use Rattle.task_machine.specs.declared.records.Join.TheVariants as join
-use Rattle.task_machine.specs.declared.records.Place.TheVariants as place
-use Rattle.task_machine.specs.declared.records.Stage.TheVariants as stage
-use Rattle.task_machine.specs.declared.records.Subtask.TheVariants as subtask
-use Rattle.task_machine.specs.declared.records.Why.TheVariants as why
-use Rattle.task_machine.specs.declared.words.Mark.TheVariants as mark
-use Rattle.task_machine.specs.declared.words.OwnEvent.TheVariants as own
 use Rattle.task_rules.proofs.CallThreads.{LastEnds}
 
 -- ---- What other threads come to
@@ -43,12 +32,12 @@ checked_shifts i s =
 pub stopped_shifts : (f : ℕ) (s : Core) → Shifts s (stopped f s)
 stopped_shifts f s = placed (Stop f) tt NoWord
 
-held_at : (o : Option Place) (v : Why) → option_and_then held_why o ≡ Some v → o ≡ Some (place.Held v)
+held_at : (o : Option Place) (v : Why) → option_and_then held_why o ≡ Some v → o ≡ Some (Place.Held v)
 held_at o v h = grind arith
 
 released_one_shifts : (n : ℕ) (o : Option Why) (s : Core) → held_why_of n s ≡ o → Shifts s (released_one n o s)
 released_one_shifts n None s e = NoWord
-released_one_shifts n (Some w) s e = put_shifts mark.High n w s (Releases (held_at (place_of n s) w e))
+released_one_shifts n (Some w) s e = put_shifts Mark.High n w s (Releases (held_at (place_of n s) w e))
 
 pub released_shifts : (ns : List ℕ) (s : Core) → Shifts s (released ns s)
 unfolding released
@@ -56,8 +45,8 @@ released_shifts [] s = NoWord
 released_shifts (n ∷ ns) s = join (released_one_shifts n (held_why_of n s) s refl) (released_shifts ns (released_one n (held_why_of n s) s))
 
 waken_shifts : (x n : ℕ) (s : Core) (b : Bool) → is_callback_waiter n s ≡ b → is_waiter x n s ≡ true → Shifts s (waken_by b x n s)
-waken_shifts x n s true e h = put_shifts mark.High n (why.Delivery (delivery.Set x)) s (Wakes x h (ap (λ b. wake_why x b) (sym e)))
-waken_shifts x n s false e h = put_shifts mark.High n why.Resumption s (Wakes x h (ap (λ b. wake_why x b) (sym e)))
+waken_shifts x n s true e h = put_shifts Mark.High n (Why.Delivery (Delivery.Set x)) s (Wakes x h (ap (λ b. wake_why x b) (sym e)))
+waken_shifts x n s false e h = put_shifts Mark.High n Why.Resumption s (Wakes x h (ap (λ b. wake_why x b) (sym e)))
 
 -- the chosen thread, if there is one, waits on the set
 abbrev pub Chosen : ℕ → Option ℕ → Core → Type 0
@@ -74,49 +63,49 @@ chosen_of x w s h n is = grind arith
 
 -- the chosen thread waits on the set that the subtask is in
 abbrev pub ChosenIn : Join → Option ℕ → Core → Type 0
-ChosenIn j w s = (x : ℕ) → j ≡ join.Set x → Chosen x w s
+ChosenIn j w s = (x : ℕ) → j ≡ Join.Set x → Chosen x w s
 
 pub chosen_in_of : (j : Join) (w : Option ℕ) (s : Core) → may_wake_joined j w s ≡ true → ChosenIn j w s
 chosen_in_of j w s h x is n at = grind (arith, chosen_of x w s)
 
 wake_joined_shifts : (j : Join) (w : Option ℕ) (s : Core) → ChosenIn j w s → Shifts s (wake_joined j w s)
-wake_joined_shifts (join.Set x) w s h = wake_shifts x w s (h x refl)
-wake_joined_shifts join.Nowhere w s h = NoWord
-wake_joined_shifts (join.Watched n) w s h = NoWord
+wake_joined_shifts (Join.Set x) w s h = wake_shifts x w s (h x refl)
+wake_joined_shifts Join.Nowhere w s h = NoWord
+wake_joined_shifts (Join.Watched n) w s h = NoWord
 
 -- a thread elsewhere gets an entry: who waits on x still does
 waiter_put : (x n m : ℕ) (w : Why) (p : Place) (s : Core) → place_of m s ≡ Some p → is_waiting_on x p ≡ false → is_waiter x n s ≡ true →
     is_waiter x n (put_high m w s) ≡ true
 unfolding put_high push_high
-waiter_put x n m w p s at other h = grind (arith, nat_tests, set_place_is n m (place.Ready mark.High w) s)
+waiter_put x n m w p s at other h = grind (arith, nat_tests, set_place_is n m (Place.Ready Mark.High w) s)
 
 -- ---- A blocked thread
 
 same_subtask_is : (sub other : Subtask) → same_subtask sub other ≡ true → sub ≡ other
 same_subtask_is sub other h = grind (arith, nat_tests)
 
-pub blocked_place : (sub : Subtask) (o : Option Place) → option_map_or (is_blocked_on sub) o false ≡ true → o ≡ Some (place.Blocked sub)
+pub blocked_place : (sub : Subtask) (o : Option Place) → option_map_or (is_blocked_on sub) o false ≡ true → o ≡ Some (Place.Blocked sub)
 blocked_place sub o h = grind (arith, same_subtask_is sub)
 
-pub blocked_at : (sub : Subtask) (s : Core) (m : ℕ) → blocked_on sub s ≡ Some m → place_of m s ≡ Some (place.Blocked sub)
+pub blocked_at : (sub : Subtask) (s : Core) (m : ℕ) → blocked_on sub s ≡ Some m → place_of m s ≡ Some (Place.Blocked sub)
 unfolding blocked_on
 blocked_at sub s m h = blocked_place sub (place_of m s) (find_passes (λ k. is_at k s (is_blocked_on sub)) (numbers s.threads) m h)
 
 -- the thread is blocked on the subtask
 abbrev pub IsBlocked : Subtask → Option ℕ → Core → Type 0
-IsBlocked sub o s = (m : ℕ) → o ≡ Some m → place_of m s ≡ Some (place.Blocked sub)
+IsBlocked sub o s = (m : ℕ) → o ≡ Some m → place_of m s ≡ Some (Place.Blocked sub)
 
 pub unblocked_shifts : (sub : Subtask) (o : Option ℕ) (s : Core) → is_done_host sub s ≡ true → IsBlocked sub o s → Shifts s (unblocked o s)
 unblocked_shifts sub None s done h = NoWord
-unblocked_shifts sub (Some m) s done h = put_shifts mark.High m why.Resumption s (Unblocks sub (h m refl) done refl)
+unblocked_shifts sub (Some m) s done h = put_shifts Mark.High m Why.Resumption s (Unblocks sub (h m refl) done refl)
 
 chosen_unblocked : (sub : Subtask) (o : Option ℕ) (x : ℕ) (w : Option ℕ) (s : Core) → IsBlocked sub o s → Chosen x w s → Chosen x w (unblocked o s)
 chosen_unblocked sub None x w s h c = c
-chosen_unblocked sub (Some m) x w s h c = λ n is. waiter_put x n m why.Resumption (place.Blocked sub) s (h m refl) refl (c n is)
+chosen_unblocked sub (Some m) x w s h c = λ n is. waiter_put x n m Why.Resumption (Place.Blocked sub) s (h m refl) refl (c n is)
 
 chosen_released_one : (n : ℕ) (o : Option Why) (x : ℕ) (w : Option ℕ) (s : Core) → held_why_of n s ≡ o → Chosen x w s → Chosen x w (released_one n o s)
 chosen_released_one n None x w s e c = c
-chosen_released_one n (Some v) x w s e c = λ k is. waiter_put x k n v (place.Held v) s (held_at (place_of n s) v e) refl (c k is)
+chosen_released_one n (Some v) x w s e c = λ k is. waiter_put x k n v (Place.Held v) s (held_at (place_of n s) v e) refl (c k is)
 
 pub chosen_released : (ns : List ℕ) (x : ℕ) (w : Option ℕ) (s : Core) → Chosen x w s → Chosen x w (released ns s)
 unfolding released
@@ -151,7 +140,7 @@ record StillAt (n : ℕ) (b s : Core) : Type 0 where
 same_at : (n : ℕ) (b s t : Core) → t.made ≡ s.made → option_map unplaced (get t.threads n) ≡ option_map unplaced (get s.threads n) → StillAt n b s → StillAt n b t
 same_at n b s t made same q = record { made = rw made q.made; position = grind (arith, q.position) }
 
-module _ (a : Scene) (n : ℕ) (runs : place_of n a.base ≡ Some place.Running) (below : n ≤ a.base.made.threads) where
+module _ (a : Scene) (n : ℕ) (runs : place_of n a.base ≡ Some Place.Running) (below : n ≤ a.base.made.threads) where
   still_word : (w : Word) (s : Core) → Keeps a w s → StillAt n a.base s → StillAt n a.base (after_word w s)
   unfolding add_call add_group add_set add_thread add_work call_made count_work free_handle free_thread_handle give_handle give_result give_thread_handle on_call on_instance on_thread on_work poll_pends push_high remove_call remove_group remove_set remove_thread remove_work set_backpressure set_cancel_delivered set_cancelled set_course set_do_not_enter set_do_not_suspend set_end set_event set_exited set_how_far set_join set_own_event set_phase set_position set_register set_result set_saved_callee set_saved_own set_script set_stage set_started set_starting_published set_subtask_handle set_thread_handle set_trapped set_uninteresting set_word take_result with_handle with_thread_handle work_queued
   still_word (Places p) s ok q = same_at n a.base s _ refl ((placing_shifted p s).threads n) q
@@ -165,7 +154,7 @@ module _ (a : Scene) (n : ℕ) (runs : place_of n a.base ≡ Some place.Running)
   }
 
 -- no word before those of an op that is done brings the running thread further
-pub keep_still : {a : Scene} {t : Core} (n : ℕ) → a.turn ≡ turn.Run n → Keep a a.base t → AtOp a n t
+pub keep_still : {a : Scene} {t : Core} (n : ℕ) → a.turn ≡ Turn.Run n → Keep a a.base t → AtOp a n t
 keep_still {a = a} n to c = (to, λ runs below there. (along (StillAt n a.base) (still_word a n runs below) (record { made = le_refl _; position = λ e. refl }) c).position (grind arith))
 
 placed_at_op : (a : Scene) (n : ℕ) (s t : Core) → Shifted s t → AtOp a n s → AtOp a n t
@@ -197,7 +186,7 @@ module _ {a : Scene} {b : Core} where
   walk_if false t u p q = q refl
 
 -- an entry whose place says that it is there is promoted beside a running thread
-pub promoted_walks : {a : Scene} {b : Core} (m n : ℕ) {s : Core} → a.turn ≡ turn.Run m → (x : Mark) × ((w : Why) × (place_of n s ≡ Some (place.Ready x w))) → Keep a b s → Keep a b (promoted_unless n s)
+pub promoted_walks : {a : Scene} {b : Core} (m n : ℕ) {s : Core} → a.turn ≡ Turn.Run m → (x : Mark) × ((w : Why) × (place_of n s ≡ Some (Place.Ready x w))) → Keep a b s → Keep a b (promoted_unless n s)
 unfolding promoted_unless
 promoted_walks m n {s = s} runs ready c = walk_if (is_some s.queues.switch) s (promoted n s) (λ e. c) (λ e. placed (Promote n) (inr (none_stands false s.queues.switch e, (m, (runs, ready)))) c)
 
@@ -214,27 +203,27 @@ published_shifts sub w s t done same chosen =
     let there : ChosenIn (join_of sub s) w t = λ x is n by. ap (λ p. option_map_or (is_waiting_on x) p false) (same n) ∙ chosen x is n by in
     join (unblocked_shifts sub o t done at) (wake_joined_shifts (join_of sub s) w (unblocked o t) (λ x is. chosen_unblocked sub o x w t at (there x is)))
 
-pub published_call_shifts : (k : ℕ) (e : Status) (w : Option ℕ) (s : Core) → ChosenIn (join_of (subtask.Guest k) s) w s → Shifts (set_event (subtask.Guest k) (Some e) s) (published (subtask.Guest k) e w s)
+pub published_call_shifts : (k : ℕ) (e : Status) (w : Option ℕ) (s : Core) → ChosenIn (join_of (Subtask.Guest k) s) w s → Shifts (set_event (Subtask.Guest k) (Some e) s) (published (Subtask.Guest k) e w s)
 unfolding published set_event on_call
-published_call_shifts k e w s chosen = published_shifts (subtask.Guest k) w s (set_event (subtask.Guest k) (Some e) s) refl (λ m. refl) chosen
+published_call_shifts k e w s chosen = published_shifts (Subtask.Guest k) w s (set_event (Subtask.Guest k) (Some e) s) refl (λ m. refl) chosen
 
-pub published_work_shifts : (i : ℕ) (e : Status) (w : Option ℕ) (s : Core) → is_stage_ended (stage_of i s) ≡ true → ChosenIn (join_of (subtask.Host i) s) w s → Shifts (set_event (subtask.Host i) (Some e) s) (published (subtask.Host i) e w s)
+pub published_work_shifts : (i : ℕ) (e : Status) (w : Option ℕ) (s : Core) → is_stage_ended (stage_of i s) ≡ true → ChosenIn (join_of (Subtask.Host i) s) w s → Shifts (set_event (Subtask.Host i) (Some e) s) (published (Subtask.Host i) e w s)
 unfolding published set_event on_work
-published_work_shifts i e w s done chosen = published_shifts (subtask.Host i) w s (set_event (subtask.Host i) (Some e) s) (ap (λ x. is_stage_ended x) (work_read (λ r. r.stage) stage.Ended i (λ r. record r { event = Some e }) (λ r. refl) s.works) ∙ done) (λ m. refl) chosen
+published_work_shifts i e w s done chosen = published_shifts (Subtask.Host i) w s (set_event (Subtask.Host i) (Some e) s) (ap (λ x. is_stage_ended x) (work_read (λ r. r.stage) Stage.Ended i (λ r. record r { event = Some e }) (λ r. refl) s.works) ∙ done) (λ m. refl) chosen
 
 -- the thread chosen where the call's status is told
 abbrev pub ToldTo : ℕ → Option ℕ → Core → Type 0
-ToldTo k w s = is_told k s ≡ true → ChosenIn (join_of (subtask.Guest k) s) w s
+ToldTo k w s = is_told k s ≡ true → ChosenIn (join_of (Subtask.Guest k) s) w s
 
 pub told_to : (k : ℕ) (w : Option ℕ) (s : Core) → may_tell k w s ≡ true → ToldTo k w s
 unfolding may_tell may_publish
-told_to k w s h told = chosen_in_of (join_of (subtask.Guest k) s) w s (grind arith)
+told_to k w s h told = chosen_in_of (join_of (Subtask.Guest k) s) w s (grind arith)
 
 module _ {a : Scene} {b : Core} where
   pub told_walks : (k : ℕ) (e : Status) (w : Option ℕ) {s : Core} → (is_told k s ≡ true → Tells e k s) → IsStarting a k s → ToldTo k w s → Keep a b s → Keep a b (told k e w s)
   unfolding told
   told_walks k e w {s = s} tells starts to c =
-      walk_if (is_told k s) (published (subtask.Guest k) e w s) s (λ is. shifted (published_call_shifts k e w s (to is)) (word (SetCallEvent k (Some e)) (is, (tells is, starts)) c)) (λ is. c)
+      walk_if (is_told k s) (published (Subtask.Guest k) e w s) s (λ is. shifted (published_call_shifts k e w s (to is)) (word (SetCallEvent k (Some e)) (is, (tells is, starts)) c)) (λ is. c)
 
 -- ---- Given and handed on
 
@@ -244,17 +233,17 @@ handed_on_shifts x g w s h = shifts_if (hands_on x g s) (wake x w s) s (λ e. wa
 
 -- what the running thread's task may take
 abbrev pub MayTake : Scene → ℕ → Gift → Type 0
-MayTake a k (OwnGift e) = ((n : ℕ) × (IsRunner a n × (k ≡ task_of n a.base))) × (e ≡ own.Cancelled → MayDeliver a k)
+MayTake a k (OwnGift e) = ((n : ℕ) × (IsRunner a n × (k ≡ task_of n a.base))) × (e ≡ OwnEvent.Cancelled → MayDeliver a k)
 MayTake a k (MemberGift sub) = IsNamed a sub
 MayTake a k NoGift = Unit {0}
 
 module _ {a : Scene} {b : Core} where
   pub taken_walks : (g : Gift) (k : ℕ) {s : Core} → MayTake a k g → Keep a b s → Keep a b (taken g k s)
   unfolding taken
-  taken_walks (OwnGift own.None) k ok c = word (SetOwnEvent k None) ok.0 c
-  taken_walks (OwnGift own.Cancelled) k ok c = word (SetCancelDelivered k) (ok.1 refl) (word (SetOwnEvent k None) ok.0 c)
-  taken_walks (MemberGift (subtask.Guest q)) k ok c = word (SetCallEvent q None) (TakesNamed ok) c
-  taken_walks (MemberGift (subtask.Host i)) k ok c = word (TakeWorkEvent i) (ok.0, (ok.1.1.0, ByHandle ok.1.0 ok.1.1.1)) c
+  taken_walks (OwnGift OwnEvent.None) k ok c = word (SetOwnEvent k None) ok.0 c
+  taken_walks (OwnGift OwnEvent.Cancelled) k ok c = word (SetCancelDelivered k) (ok.1 refl) (word (SetOwnEvent k None) ok.0 c)
+  taken_walks (MemberGift (Subtask.Guest q)) k ok c = word (SetCallEvent q None) (TakesNamed ok) c
+  taken_walks (MemberGift (Subtask.Host i)) k ok c = word (TakeWorkEvent i) (ok.0, (ok.1.1.0, ByHandle ok.1.0 ok.1.1.1)) c
   taken_walks NoGift k ok c = c
 
 -- ---- Settled
