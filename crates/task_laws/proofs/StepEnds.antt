@@ -33,7 +33,6 @@ pub record CallsKnown (x : Setting) (s : State) (t : Core) (a : Scene) : Type 0 
   pub before : CallsHold x.component s.core
   pub go : CallsGo a t
   pub ends : EndsGo a t
-  pub told : EndsTold t
   pub rises : CallsRise s.core t
   pub made : s.core.made.threads ≤ t.made.threads
   pub says : EndWords a t
@@ -46,8 +45,7 @@ calls_known x s l t codes h told step w =
       told_base = of_base EndsTold s.turn s.core (record { goals = told.goals; events = told.events; results = told.results });
       before = h;
       go = g.0;
-      ends = g.1.0;
-      told = g.1.1;
+      ends = g.1;
       rises = (step_goes x s l t codes h step).1;
       made = (never_fewer x s l t step).threads;
       says = w.ends.says;
@@ -162,17 +160,17 @@ module _ (x : Setting) (s : State) (l : Label) (t : State) (next : Turn) (codes 
   pub guest_covers : (k : ℕ) → covers_end (Subtask.Guest k) m ≡ true → ⊥
   guest_covers k = covers_none _ _ (λ y z e f. let below = call_number k (grind arith) in
       one_end (get s.core.calls k) (get t.core.calls k) y z (q.rises k below) (recorded a.base q.told_base k y e)
-      (recorded t.core q.told k z f))
+      (recorded t.core q.ends.told k z f))
 
   -- ---- What a call has to hand out
 
   pub events_come : (k : ℕ) (e : Status) → event_at k t.core ≡ Some e → (event_at k s.core ≡ Some e) ⊎ Written (Subtask.Guest k) e
   events_come k e tells = let r = tells_there k e t.core tells in
-      ⊎_elim (λ b. inl b) (λ now. inr (said k e now.0)) (q.ends.events k e r.0 r.1.0 r.1.1).1
+      ⊎_elim (λ b. inl b) (λ now. inr (said k e now)) (q.ends.events k e r.0 r.1.0 r.1.1)
 
   pub results_come : (k : ℕ) → is_some (get t.core.results k) ≡ true →
       (is_some (get s.core.results k) ≡ true) ⊎ Written (Subtask.Guest k) Status.Returned
-  results_come k there = ⊎_elim (λ b. inl b) (λ now. inr (said k Status.Returned now.0)) (q.ends.results k there).1.1
+  results_come k there = ⊎_elim (λ b. inl b) (λ now. inr (said k Status.Returned now.0)) (q.ends.results k there)
 
   guest_comes : (k : ℕ) (e : Status) → Due (Subtask.Guest k) e t.core → Due (Subtask.Guest k) e s.core ⊎ Written (Subtask.Guest k) e
   guest_comes k e (inl tells) = ⊎_elim (λ b. inl (inl b)) (λ now. inr now) (events_come k e tells)
@@ -188,10 +186,10 @@ module _ (x : Setting) (s : State) (l : Label) (t : State) (next : Turn) (codes 
   direct_untold : (k : ℕ) → is_direct (goal_of k s.core) ≡ true → (e : Status) → Due (Subtask.Guest k) e t.core →
       is_some (get s.core.results k) ≡ true
   direct_untold k direct e (inl tells) =
-      let r = tells_there k e t.core tells in let v = (q.told.events k e r.0 r.1.0 r.1.1).0 in
+      let r = tells_there k e t.core tells in let v = (q.ends.told.events k e r.0 r.1.0 r.1.1).0 in
       let g = q.ends.same k r.0 r.1.0 (call_number k (grind arith)) in absurd (grind arith)
   direct_untold k direct e (inr (is, there)) =
-      ⊎_elim (λ b. b) (λ now. let g = now.1 (call_number k (grind arith)) in absurd (grind arith)) (q.ends.results k there).1.1
+      ⊎_elim (λ b. b) (λ now. let g = now.1 (call_number k (grind arith)) in absurd (grind arith)) (q.ends.results k there)
 
   module _ (h : WorksHold (Unit {0}) s.core) (go : WorksGo (Unit {0}) (scene_of x s l next) t.core) where
     v : WorksGo (Unit {0}) a t.core
@@ -270,7 +268,7 @@ module _ (x : Setting) (s : State) (l : Label) (t : State) (next : Turn) (codes 
           ⊎_elim (λ old. unwritten (Subtask.Guest k) f e old w) (λ said. told_end (grind arith) due) (guest_comes k f due)
         where
           told_end : f ≡ Status.StartCancelled → Due (Subtask.Guest k) f t.core → ⊥
-          told_end is (inl tells) = let r = recorded t.core q.told k f tells in no_withdrawal r.ends (r.status ∙ is) r.ran
+          told_end is (inl tells) = let r = recorded t.core q.ends.told k f tells in no_withdrawal r.ends (r.status ∙ is) r.ran
           told_end is (inr (returned, there)) = absurd (cc)
 
       -- what has ended, and had its end told, isn't due any more

@@ -167,7 +167,7 @@ module _ (x : Setting) (s : State) (l : Label) (t : State) (k : Known x s) (step
   known_after = record {
     reached = reached_step s l t k.reached step;
     order = step_in_order x s l t k.order step;
-    told = calls.told;
+    told = calls.ends.told;
     works = works_after.0.holds;
     unnamed = record { works = works_after.1.0; spawns = spawns_after };
     callers = works_after.1.1.1;
