@@ -2,7 +2,7 @@
 use Rattle.task_rules.proofs.Machine.{after_word, Allowed, ap, arith, Core, fresh, get-empty, how_far_of, HowFar, inl, inr, instance_of, MayCome, MayRemoveWork, None, Option, refl, Scene, Some, Subtask, Word, work_caller_of, WorkCaller, ℕ, ⊎_elim, ◌∙◌, ◌≡◌, ◌≤◌, ◌⊎◌}
 use Rattle.task_laws.proofs.Basics.{too_high}
 use Rattle.task_laws.proofs.CallsCame.{op_came}
-use Rattle.task_laws.proofs.NamedWorks.{NamesNoSync, caller_stays, caller_is}
+use Rattle.task_laws.proofs.NamedWorks.{NamesNoSync, caller_stays}
 use Rattle.task_laws.proofs.WorksCame.{Doing, doing_of}
 use Rattle.task_laws.proofs.Works.{doing_there, WorksGo, number_of}
 use Rattle.task_laws.specs.Ends.{MayBeAborted}
@@ -33,9 +33,8 @@ module _ {S : Type 0} (a : Scene) (low : (i : ℕ) (v : Doing) → doing_of i a.
   -- that of a thread inside the call isn't removed
   removed : (n i : ℕ) → work_caller_of i s ≡ WorkCaller.Sync n → (how_far_of n s ≡ HowFar.Fresh → ⊥) → MayRemoveWork a i s → ⊥
   removed n i caller inside (m, (runner, inl (far, fresh))) =
-      let r = sync_there i n s caller in let was = q.was i r.0 r.1.0 (old i (m, (runner, inl (far, fresh)))) in
-      let first = base m i far in let before = caller_is i a.base was.before was.there in let kept = was.caller in let now = r.1.1 in
-      let same : m ≡ n = cc in inside (rw same at fresh)
+      let was = q.was i (old i (m, (runner, inl (far, fresh)))) in let first = base m i far in
+      let same : m ≡ n = grind arith in inside (rw same at fresh)
   removed n i caller inside (m, (runner, inr (ended, (free, (over, (h, named)))))) =
       let other = (kept i (names (instance_of m a.base) h i named)).other in absurd (grind arith)
 

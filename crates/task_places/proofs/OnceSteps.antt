@@ -1,6 +1,6 @@
 -- Each step owes of the ends what it should, and so each run has each end once.
-use Rattle.task_rules.proofs.Machine.{[], AbortsOwn, ap, arith, base_at, Bool, Call, Core, Entry, false, fresh, get, get-empty, how_far_of, HowFar, inl, inr, instance_of, is_some, is_spawn, is_spawn_caller, is_stage_ended, IsRunner, Label, le_refl, Main, MainPlace, Mark, next_entry, None, opening, Option, option_and_then, option_map, option_map_or, Place, place_of, ProgramAborts, refl, runner_at, SameMain, Scene, scene_of, ScriptAborts, Scripted, Setting, slice_get, Some, spawned_at, stage_of, State, Status, Step, subst, Subtask, subtask_at, subtask_handle, suc, sym, task_of, thread_of_entry, true, Turn, undelivered_end, Unscripted, unwrap_or, Walked, Work, work_caller_of, WorkCaller, zero, ℕ, ⊎_elim, ◌&&◌, ◌-◌, ◌∙◌, ◌≡◌, ◌≤◌, ◌⊎◌}
-use Rattle.task_laws.proofs.NamedWorks.{NamesNoSync, abort_kept, caller_is, names_word, opening_names}
+use Rattle.task_rules.proofs.Machine.{[], AbortsOwn, ap, arith, base_at, Bool, Core, Entry, false, fresh, get, get-empty, how_far_of, HowFar, inl, inr, instance_of, is_some, is_spawn, is_stage_ended, IsRunner, Label, le_refl, Main, MainPlace, Mark, MayAbort, next_entry, opening, Option, Place, place_of, ProgramAborts, refl, runner_at, SameMain, Scene, scene_of, ScriptAborts, Scripted, Setting, slice_get, Some, spawned_at, stage_of, State, Status, Step, subst, Subtask, subtask_at, subtask_handle, suc, sym, task_of, thread_of_entry, true, Turn, Unscripted, unwrap_or, Walked, work_caller_of, zero, ℕ, ⊎_elim, ◌-◌, ◌∙◌, ◌≡◌, ◌≤◌, ◌⊎◌}
+use Rattle.task_laws.proofs.NamedWorks.{NamesNoSync, abort_kept, names_word, opening_names}
 use Rattle.task_laws.proofs.Basics.{no_way}
 use Rattle.task_laws.proofs.CallsLaw.{CallsHold}
 use Rattle.task_laws.proofs.CallsSteps.{of_base}
@@ -11,8 +11,8 @@ use Rattle.task_laws.proofs.OnceLemmas.{Due, Over, EndStep, due_over, ends_once}
 use Rattle.task_laws.proofs.SceneLemmas.{base_is, runner_there}
 use Rattle.task_laws.specs.Ends.{is_sync_work, MayBeAborted, SyncUnnamed}
 use Rattle.task_laws.proofs.SyncWorks.{CallersKnown, callers_word, opening_callers}
-use Rattle.task_laws.proofs.WorksCame.{Doing, doing, doing_of, is_late}
-use Rattle.task_laws.proofs.Works.{AbortsNoSync, WorksGo, WorksHold, number_of, opening_works, first_works, works_word}
+use Rattle.task_laws.proofs.WorksCame.{Doing, doing_of}
+use Rattle.task_laws.proofs.Works.{WorksGo, WorksHold, number_of, opening_works, first_works, works_word}
 use Rattle.task_rules.proofs.WalkSteps.{step_walks}
 use Rattle.task_laws.specs.Order.{InOrder}
 use Rattle.task_places.proofs.PlaceLaw.{entry_ready}
@@ -41,21 +41,11 @@ record Known (x : Setting) (s : State) : Type 0 where
 held_of : (x : Setting) (s : State) → InOrder x.component s → CallsHold x.component s.core
 held_of x s h = record { numbered = h.numbered; kinds = h.kinds; deliveries = h.deliveries }
 
-work_there : (P : Work → Bool) (i : ℕ) (s : Core) → option_map_or P (get s.works i) false ≡ true → (w : Work) × ((get s.works i ≡ Some w) × (P w ≡ true))
-work_there P i s h = at (get s.works i) refl h
-  where
-    at : (o : Option Work) → get s.works i ≡ o → option_map_or P o false ≡ true → (w : Work) × ((get s.works i ≡ Some w) × (P w ≡ true))
-    at None is g = no_way g
-    at (Some w) is g = (w, (is, g))
-
 named_there : (k h : ℕ) (s : Core) → subtask_handle (Subtask.Guest k) s ≡ Some h → is_some (get s.calls k) ≡ true
 named_there k h s e = grind arith
 
-spawn_other : (i : ℕ) (s : Core) → is_spawn i s ≡ true → (v : Doing) × ((doing_of i s ≡ Some v) × (is_sync_work v.caller ≡ false))
-spawn_other i s h = let r = work_there (λ w. is_spawn_caller w.caller) i s h in (doing r.0, (ap (option_map doing) r.1.0, grind arith))
-
-waited_there : (n i : ℕ) (s : Core) → work_caller_of i s ≡ WorkCaller.Sync n → is_stage_ended (stage_of i s) ≡ true → (v : Doing) × ((doing_of i s ≡ Some v) × ((is_sync_work v.caller ≡ true) × (is_late v.stage ≡ true)))
-waited_there n i s caller ended = let r = work_there (λ w. is_sync_work w.caller && is_late w.stage) i s (grind arith) in (doing r.0, (ap (option_map doing) r.1.0, grind arith))
+spawn_is : {S : Type 0} {s : Core} → WorksHold S s → (i : ℕ) → is_spawn i s ≡ true → MayBeAborted s i
+spawn_is h i is = record { made = h.stand.number i (grind arith); other = grind arith }
 
 abbrev is_script : Main → Bool
 is_script (Scripted p) = true
@@ -88,10 +78,10 @@ module _ (x : Setting) (s : State) (l : Label) (t : State) (k : Known x s) (step
   names_base i h j e = at_base j (k.unnamed.works i h j (from_base (λ c. subtask_at i h c ≡ Some (Subtask.Host j)) e))
 
   -- nothing that is aborted is a sync call's
-  unsync : AbortsNoSync a
-  unsync i (AbortsOwn (n, (h, (runner, named)))) = let q = names_base (instance_of n a.base) h i named in (q.made, λ u e. ap (λ y. is_sync_work y) (sym (caller_is i a.base u e)) ∙ q.other)
-  unsync i (ScriptAborts p j main is) = subst (λ (n : ℕ). (n ≤ a.base.made.works) × ((u : Doing) → doing_of n a.base ≡ Some u → is_sync_work u.caller ≡ false)) (sym is) (to_base (λ c. (spawned_at p j ≤ c.made.works) × ((u : Doing) → doing_of (spawned_at p j) c ≡ Some u → is_sync_work u.caller ≡ false)) (let q = k.unnamed.spawns p j main in (q.made, λ u e. ap (λ y. is_sync_work y) (sym (caller_is (spawned_at p j) s.core u e)) ∙ q.other)))
-  unsync i (ProgramAborts main is) = to_base (λ c. (i ≤ c.made.works) × ((u : Doing) → doing_of i c ≡ Some u → is_sync_work u.caller ≡ false)) (let r = spawn_other i s.core (from_base (λ c. is_spawn i c ≡ true) is) in (number_of k.works i r.0 r.1.0, λ u e. ap (λ (o : Option Doing). is_sync_work (unwrap_or o r.0).caller) (sym e ∙ r.1.0) ∙ r.1.1))
+  unsync : (i : ℕ) → MayAbort a i → MayBeAborted a.base i
+  unsync i (AbortsOwn (n, (h, (runner, named)))) = names_base (instance_of n a.base) h i named
+  unsync i (ScriptAborts p j main is) = at_base i (rw is (k.unnamed.spawns p j main))
+  unsync i (ProgramAborts main is) = at_base i (spawn_is k.works i (from_base (λ c. is_spawn i c ≡ true) is))
 
   abbrev Kept : Core → Type 0
   Kept u = WorksGo (Unit {0}) a u × (NamesNoSync u × (((i : ℕ) → MayBeAborted s.core i → MayBeAborted u i) × CallersKnown u))
@@ -114,16 +104,13 @@ module _ (x : Setting) (s : State) (l : Label) (t : State) (k : Known x s) (step
   spawns_after : (p : MainPlace) (j : ℕ) → t.main ≡ Scripted p → MayBeAborted t.core (spawned_at p j)
   spawns_after p j at = by s.main refl t.main at w.main
     where
-      spawn_is : (i : ℕ) → is_spawn i t.core ≡ true → MayBeAborted t.core i
-      spawn_is i is = let r = spawn_other i t.core is in record { made = number_of works_after.0.holds i r.0 r.1.0; other = ap (λ y. is_sync_work y) (caller_is i t.core r.0 r.1.0) ∙ r.1.1 }
-
       place_in : Main → MainPlace
       place_in (Scripted q) = q
       place_in Unscripted = p
 
       named : (o : MainPlace) → s.main ≡ Scripted o → ((n : ℕ) × (spawned_at p j ≡ spawned_at o n)) ⊎ (is_spawn (spawned_at p j) t.core ≡ true) → MayBeAborted t.core (spawned_at p j)
       named o was (inl (n, same)) = subst (MayBeAborted t.core) (sym same) (works_after.1.1.0 (spawned_at o n) (k.unnamed.spawns o n was))
-      named o was (inr is) = spawn_is (spawned_at p j) is
+      named o was (inr is) = spawn_is works_after.0.holds (spawned_at p j) is
 
       by : (m : Main) → s.main ≡ m → (n : Main) → n ≡ Scripted p → SameMain m t.core n → MayBeAborted t.core (spawned_at p j)
       by (Scripted o) was (Scripted q) is same = named o was (subst (λ (r : MainPlace). ((n : ℕ) × (spawned_at r j ≡ spawned_at o n)) ⊎ (is_spawn (spawned_at r j) t.core ≡ true)) (ap place_in is) (same j))
@@ -143,10 +130,15 @@ module _ (x : Setting) (s : State) (l : Label) (t : State) (k : Known x s) (step
       by_turn u at is = absurd (grind arith)
 
   answered : Answered a
-  answered n i runner far = to_base (λ c. (v : Doing) × ((doing_of i c ≡ Some v) × ((is_sync_work v.caller ≡ true) × (is_late v.stage ≡ true)))) (at (from_base (λ c. how_far_of n c ≡ HowFar.Calls (Subtask.Host i)) far))
+  answered n i runner far = to_base (λ c. (is_sync_work (work_caller_of i c) ≡ true) × (is_stage_ended (stage_of i c) ≡ true))
+      (at (from_base (λ c. how_far_of n c ≡ HowFar.Calls (Subtask.Host i)) far))
     where
-      at : how_far_of n s.core ≡ HowFar.Calls (Subtask.Host i) → (v : Doing) × ((doing_of i s.core ≡ Some v) × ((is_sync_work v.caller ≡ true) × (is_late v.stage ≡ true)))
-      at far = ⊎_elim (λ blocked. no_way (sym (unblocked n runner) ∙ ap is_blocked blocked)) (λ ended. waited_there n i s.core (k.callers n i far) ended) (k.order.awaited n i far).1
+      at : how_far_of n s.core ≡ HowFar.Calls (Subtask.Host i) →
+          (is_sync_work (work_caller_of i s.core) ≡ true) × (is_stage_ended (stage_of i s.core) ≡ true)
+      at far = (
+        ap (λ c. is_sync_work c) (k.callers n i far),
+        ⊎_elim (λ blocked. no_way (sym (unblocked n runner) ∙ ap is_blocked blocked)) (λ ended. ended) (k.order.awaited n i far).1,
+      )
 
   holds : CallsHold x.component s.core
   holds = held_of x s k.order
@@ -179,13 +171,12 @@ module _ (x : Setting) (s : State) (l : Label) (t : State) (k : Known x s) (step
 
 none_due : (instances handle_limit capacity : ℕ) (sub : Subtask) (e : Status) → Due sub e (fresh instances handle_limit capacity) → ⊥
 unfolding fresh
-none_due instances handle_limit capacity (Subtask.Guest j) e (inl tells) = absurd (no_way (ap (λ (o : Option Status). is_some o) (sym (ap (λ (o : Option Call). undelivered_end (option_and_then (λ (c : Call). c.event) o)) (get-empty j)) ∙ tells)))
-none_due instances handle_limit capacity (Subtask.Guest j) e (inr (is, there)) = no_way (ap (λ (o : Option ℕ). is_some o) (sym (get-empty j)) ∙ there)
-none_due instances handle_limit capacity (Subtask.Host i) e (v, (at, due)) = no_way (ap (λ (o : Option Doing). is_some o) (sym (ap (option_map doing) (get-empty i)) ∙ at))
+none_due instances handle_limit capacity (Subtask.Guest j) e due = absurd (grind (arith, get-empty))
+none_due instances handle_limit capacity (Subtask.Host i) e due = absurd (grind (arith, get-empty))
 
 zero_unmade : (instances handle_limit capacity : ℕ) → MayBeAborted (fresh instances handle_limit capacity) 0
 unfolding fresh
-zero_unmade instances handle_limit capacity = record { made = le_refl _; other = ap (λ (o : Option Work). is_sync_work (option_map_or (λ w. w.caller) o WorkCaller.Spawn)) (get-empty 0) }
+zero_unmade instances handle_limit capacity = record { made = le_refl _; other = grind (arith, get-empty) }
 
 opening_spawns : (instances handle_limit capacity : ℕ) (main : Main) → IsUnbegun main → (p : MainPlace) (j : ℕ) → main ≡ Scripted p → MayBeAborted (fresh instances handle_limit capacity) (spawned_at p j)
 opening_spawns instances handle_limit capacity Unscripted begun p j is = no_way (ap is_script is)
