@@ -92,12 +92,13 @@ value_due : (o : Option Doing) (v : Doing) → o ≡ Some v → is_sync_work v.c
 value_due o v at sync ends value = grind arith
 
 -- an end stays
-same_course : (o p : Option Doing) → LaterBy Lasts o p → (v u : Doing) → o ≡ Some v → p ≡ Some u → has_end v.course ≡ true → u.course ≡ v.course
+same_course : (o p : Option Doing) → LaterBy Lasts o p → (v u : Doing) → o ≡ Some v → p ≡ Some u →
+    has_end v.course ≡ true → u.course ≡ v.course
 same_course o p later v u at is over = grind arith
 
 -- what has ended, and had its end told, isn't due any more
-none_due : (o p : Option Doing) → LaterBy Lasts o p → (v : Doing) → o ≡ Some v → is_stage_ended v.stage ≡ true → is_async_work v.caller ≡ true →
-    (e : Status) → undelivered_end (option_and_then (λ (u : Doing). u.event) p) ≡ None → due_in p ≡ Some e → ⊥
+none_due : (o p : Option Doing) → LaterBy Lasts o p → (v : Doing) → o ≡ Some v → is_stage_ended v.stage ≡ true →
+    is_async_work v.caller ≡ true → (e : Status) → undelivered_end (option_and_then (λ (u : Doing). u.event) p) ≡ None → due_in p ≡ Some e → ⊥
 none_due o p later v at ended async e gone due = grind arith
 
 -- who goes on after its sync call of a host finds the work ended
