@@ -337,7 +337,7 @@ pub record InOrder (c : Component) (s : State) : Type 0 where
   pub unbegun : StartsFirst s.core
 
 -- each opening state is in order
-abbrev pub OpeningInOrder : Type 0
+unfoldable pub OpeningInOrder : Type 0
 OpeningInOrder = (c : Component) → CodesInCallbacks c → (instances handle_limit capacity : ℕ) (main : Main) →
     InOrder c (opening instances handle_limit capacity main)
 

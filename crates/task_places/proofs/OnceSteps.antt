@@ -1,5 +1,5 @@
 -- Each step owes of the ends what it should, and so each run has each end once.
-use Rattle.task_rules.proofs.Machine.{[], AbortsOwn, ap, arith, base_at, Bool, Core, Entry, false, fresh, get, get-empty, how_far_of, HowFar, inl, inr, instance_of, is_some, is_spawn, is_stage_ended, IsRunner, Label, le_refl, Main, MainPlace, Mark, MayAbort, next_entry, opening, Option, Place, place_of, ProgramAborts, refl, runner_at, SameMain, Scene, scene_of, ScriptAborts, Scripted, Setting, slice_get, Some, spawned_at, stage_of, State, Status, Step, subst, Subtask, subtask_at, subtask_handle, suc, sym, task_of, thread_of_entry, true, Turn, Unscripted, unwrap_or, Walked, work_caller_of, zero, ℕ, ⊎_elim, ◌-◌, ◌∙◌, ◌≡◌, ◌≤◌, ◌⊎◌}
+use Rattle.task_rules.proofs.Machine.{[], AbortsOwn, ap, arith, base_at, Bool, Core, false, fresh, get, get-empty, inl, inr, instance_of, is_some, is_spawn, Label, le_refl, Main, MainPlace, MayAbort, opening, ProgramAborts, refl, SameMain, Scene, scene_of, ScriptAborts, Scripted, Setting, slice_get, Some, spawned_at, State, Status, Step, subst, Subtask, subtask_at, subtask_handle, suc, sym, task_of, true, Unscripted, unwrap_or, Walked, zero, ℕ, ◌-◌, ◌∙◌, ◌≡◌, ◌≤◌, ◌⊎◌}
 use Rattle.task_laws.proofs.NamedWorks.{NamesNoSync, abort_kept, names_word, opening_names}
 use Rattle.task_laws.proofs.Basics.{no_way}
 use Rattle.task_laws.proofs.CallsLaw.{CallsHold}
@@ -14,13 +14,11 @@ use Rattle.task_laws.proofs.SyncWorks.{CallersKnown, callers_word, opening_calle
 use Rattle.task_laws.proofs.WorksCame.{Doing, doing_of}
 use Rattle.task_laws.proofs.Works.{WorksGo, WorksHold, number_of, opening_works, first_works, works_word}
 use Rattle.task_rules.proofs.WalkSteps.{step_walks}
-use Rattle.task_laws.specs.Order.{InOrder}
-use Rattle.task_places.proofs.PlaceLaw.{entry_ready}
-use Rattle.task_places.proofs.Entries.{next_first, popped_cleared}
+use Rattle.task_laws.specs.Order.{InOrder, OpeningInOrder}
 use Rattle.task_laws.proofs.ReachLemmas.{reached_step}
 use Rattle.task_laws.proofs.StepEnds.{Answered, CallsFound, CallsKnown, calls_known, step_ends}
 use Rattle.task_places.specs.Once.{RunsAreOnce, IsUnbegun}
-use Rattle.task_places.proofs.OrderLemmas.{opening_in_order, step_in_order}
+use Rattle.task_places.proofs.OrderLemmas.{asked, opening_in_order, step_in_order}
 
 -- ---- What is known before a step
 
@@ -51,10 +49,6 @@ abbrev is_script : Main → Bool
 is_script (Scripted p) = true
 is_script Unscripted = false
 
-abbrev is_blocked : Option Place → Bool
-is_blocked (Some (Place.Blocked sub)) = true
-is_blocked _ = false
-
 module _ (x : Setting) (s : State) (l : Label) (t : State) (k : Known x s) (step : Step x s l t) where
   w : Walked x s l t
   w = step_walks x s l t step
@@ -77,6 +71,9 @@ module _ (x : Setting) (s : State) (l : Label) (t : State) (k : Known x s) (step
   names_base : NamesNoSync a.base
   names_base i h j e = at_base j (k.unnamed.works i h j (from_base (λ c. subtask_at i h c ≡ Some (Subtask.Host j)) e))
 
+  callers_base : CallersKnown a.base
+  callers_base = to_base CallersKnown k.callers
+
   -- nothing that is aborted is a sync call's
   unsync : (i : ℕ) → MayAbort a i → MayBeAborted a.base i
   unsync i (AbortsOwn (n, (h, (runner, named)))) = names_base (instance_of n a.base) h i named
@@ -95,7 +92,8 @@ module _ (x : Setting) (s : State) (l : Label) (t : State) (k : Known x s) (step
           names_word a v u ok q.0.holds q.1.0,
           (
             λ i h. abort_kept a v u ok i (q.1.1.0 i h),
-            callers_word a (to_base (λ c. (i : ℕ) (v : Doing) → doing_of i c ≡ Some v → i ≤ c.made.works) (λ i v e. number_of k.works i v e)) (to_base CallersKnown k.callers) names_base v u ok q.0 (λ i h. q.1.1.0 i (at_first i h)) q.1.1.1,
+            callers_word a (to_base (λ c. (i : ℕ) (v : Doing) → doing_of i c ≡ Some v → i ≤ c.made.works) (number_of k.works)) callers_base names_base v u ok
+                q.0 (λ i h. q.1.1.0 i (at_first i h)) q.1.1.1,
           ),
         ),
       ))
@@ -116,29 +114,8 @@ module _ (x : Setting) (s : State) (l : Label) (t : State) (k : Known x s) (step
       by (Scripted o) was (Scripted q) is same = named o was (subst (λ (r : MainPlace). ((n : ℕ) × (spawned_at r j ≡ spawned_at o n)) ⊎ (is_spawn (spawned_at r j) t.core ≡ true)) (ap place_in is) (same j))
       by m was n is same = absurd (grind arith)
 
-  -- who runs or is taken isn't blocked
-  unblocked : (n : ℕ) → IsRunner a n → is_blocked (place_of n s.core) ≡ false
-  unblocked n runner = by_turn s.turn refl runner
-    where
-      by_turn : (u : Turn) → s.turn ≡ u → runner_at u s.core ≡ Some n → is_blocked (place_of n s.core) ≡ false
-      by_turn (Turn.Run m) at is = ap is_blocked (k.order.in_place.runs n (at ∙ ap (λ (o : Option ℕ). Turn.Run (unwrap_or o n)) is))
-      by_turn (Turn.Take ended) at is = taken (next_entry s.core) refl is
-        where
-          taken : (o : Option (Mark × Entry)) → next_entry s.core ≡ o → thread_of_entry o ≡ Some n → is_blocked (place_of n s.core) ≡ false
-          taken (Some (y, Entry.Thread m)) e g = subst (λ (j : ℕ). is_blocked (place_of j s.core) ≡ false) (ap (λ (o : Option ℕ). unwrap_or o n) g) (let r = entry_ready m s.core (k.order.in_place.placed m) (popped_cleared y m s.core (next_first s.core y (Entry.Thread m) e) (k.order.in_place.placed m)).1 in ap is_blocked r.1.1)
-          taken o e g = absurd (grind arith)
-      by_turn u at is = absurd (grind arith)
-
   answered : Answered a
-  answered n i runner far = to_base (λ c. (is_sync_work (work_caller_of i c) ≡ true) × (is_stage_ended (stage_of i c) ≡ true))
-      (at (from_base (λ c. how_far_of n c ≡ HowFar.Calls (Subtask.Host i)) far))
-    where
-      at : how_far_of n s.core ≡ HowFar.Calls (Subtask.Host i) →
-          (is_sync_work (work_caller_of i s.core) ≡ true) × (is_stage_ended (stage_of i s.core) ≡ true)
-      at far = (
-        ap (λ c. is_sync_work c) (k.callers n i far),
-        ⊎_elim (λ blocked. no_way (sym (unblocked n runner) ∙ ap is_blocked blocked)) (λ ended. ended) (k.order.awaited n i far).1,
-      )
+  answered n i runner far = (ap (λ c. is_sync_work c) (callers_base n i far), (asked x s l t k.order w n i runner far).1)
 
   holds : CallsHold x.component s.core
   holds = held_of x s k.order
@@ -191,6 +168,7 @@ opening_spawns instances handle_limit capacity (Scripted q) begun p j is = subst
     none_spawned (suc n) = zero_unmade instances handle_limit capacity
 
 pub runs_are_once : RunsAreOnce
+unfolding OpeningInOrder RunsAreOnce
 runs_are_once x codes instances handle_limit capacity main begun ls t run =
     let s : State = opening instances handle_limit capacity main in
     ends_once x (Known x) (λ s l t k step. known_after x s l t k step) (λ s l t k step sub. end_step x s l t k step sub) s

@@ -1,6 +1,6 @@
 -- A state in order: each opening state is, and each step leads from one to one.
 use Rattle.task_rules.proofs.Machine.{[], ap, arith, Bool, ByHandle, ByOp, Call, call_instance, callee_of, can_come, Component, Core, empty, false, fresh, get, get-empty, HasSubtask, how_far_of, HowFar, inl, inr, instance_of, is_fresh, is_some, is_sync_call, is_there, IsRunner, Label, length, List, None, Op, op_of_thread, opening, Option, option_and_then, option_map, option_map_or, Place, place_of, Placed, refl, Run, Scene, scene_of, Script, script_in, Setting, slice_get, Some, State, Steady, subst, Subtask, subtask_under_way, sym, task_of, TaskOp, Thread, true, Turn, unwrap_or, Walk, Walked, was_started, Work, ℕ, ⊎_elim, ◌∷◌, ◌≡◌, ◌≤◌, ◌⊎◌}
-use Rattle.task_places.proofs.HostsAwaited.{step_works}
+use Rattle.task_places.proofs.HostsAwaited.{Asked, step_asked, step_works}
 use Rattle.task_places.proofs.Directs.{directs_on_top}
 use Rattle.task_laws.proofs.Joins.{joins_word, opening_joins}
 use Rattle.task_laws.proofs.Subtasks.{Traced, opening_named, traced_word}
@@ -201,7 +201,10 @@ module _ (x : Setting) (s : State) (l : Label) (t : State) (h : InOrder x.compon
           inl (let mine = e.1.0 in let at = e.1.1 in grind arith)
 
   pub works_kept : WorksQueued t.core × HostsAwaited t.core
-  works_kept = step_works x s l t w h.in_place withdrawable h.works h.awaited
+  works_kept = step_works x s l t w h.in_place withdrawable h.awaited h.works
+
+  pub asked : Asked (scene_of x s l w.next)
+  asked = step_asked x s l t w h.in_place withdrawable h.awaited
 
   -- ---- Scripts
 
@@ -360,7 +363,7 @@ opening_placed instances handle_limit capacity n = record {
 }
 
 pub opening_in_order : OpeningInOrder
-unfolding fresh
+unfolding fresh OpeningInOrder
 opening_in_order c codes instances handle_limit capacity main =
     let q : CallsHold c (fresh instances handle_limit capacity) = opening_holds c instances handle_limit capacity in
     record {
@@ -407,12 +410,15 @@ run_in_order x s h [] t run = rw run h
 run_in_order x s h (l ∷ ls) t run = run_in_order x run.0 (step_in_order x s l run.0 h run.1.0) ls t run.1.1
 
 pub reached_in_order : ReachedInOrder
+unfolding OpeningInOrder ReachedInOrder
 reached_in_order x s r =
     let first = opening_in_order x.component r.scripts r.instances r.handle_limit r.capacity r.main in
     run_in_order x (opening r.instances r.handle_limit r.capacity r.main) first r.labels s r.run
 
 pub reached_in_place : ReachedInPlace
+unfolding ReachedInOrder ReachedInPlace
 reached_in_place x s r = (reached_in_order x s r).in_place
 
 pub steps_keep_places : StepsKeepPlaces
+unfolding ReachedInOrder
 steps_keep_places x s l t r step = (step_in_order x s l t (reached_in_order x s r) step).in_place

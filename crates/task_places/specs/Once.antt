@@ -14,7 +14,7 @@ IsUnbegun (Scripted p) = p ≡ main_opening
 IsUnbegun Unscripted = Unit {0}
 
 -- each run from an opening state, of a component whose codes stand in callbacks, writes and hands out each end once
-abbrev pub RunsAreOnce : Type 0
+unfoldable pub RunsAreOnce : Type 0
 RunsAreOnce = (x : Setting) → CodesInCallbacks x.component →
     (instances handle_limit capacity : ℕ) (main : Main) → IsUnbegun main → (ls : List Label) (t : State) →
     (run : Run x (opening instances handle_limit capacity main) ls t) →

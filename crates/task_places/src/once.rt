@@ -4,6 +4,7 @@ ghost use Rattle.task_places.specs.Once.{RunsAreOnce};
 /// and at most one step hands it out, with the status with which it was written. Premises: the ops
 /// that end an activation stand in callback exports alone; and main is a script at its first op, or
 /// no script.
+#[tactic(auto, using(crate::proofs::OnceSteps::runs_are_once))]
 pub fn runs_are_once()
     ensures { RunsAreOnce }
 {}

@@ -1,6 +1,6 @@
 -- What the moves that put threads, and a stop, do to places and entries.
-use Rattle.task_rules.proofs.Machine.{[], ap, arith, behind, behind_one, Bool, callers_of, Core, displaced, entries, find, foot_from, foot_of, get-insert, HasPlace, is_at, is_at_switch, is_behind_of, is_fresh, is_some, is_there, is_under, le_refl, List, Mark, nat_tests, newest, None, numbers, older, on_thread, one_if, Option, passed_on, Place, place_of, push_high_first, put_high, put_switch, refl, resumed_all, resumed_callers, says, set_callers, set_place, set_switch, size, Some, stopped, subst, suc, switch_entries, sym, times, true, under_of, Why, why_of, zero, ℕ, ◌==◌, ◌∙◌, ◌∷◌, ◌≡◌, ◌≤◌}
-use Rattle.task_rules.proofs.StandLemmas.{Adds, Drops, Given, Left, Loose, Stand, adds_given, adds_stand, by_count, callers_say, drops_stand, eq_refl, is_eq_of, left_loose, left_placed, moved_adds, once_or_not, plus_none, plus_one, put_high_adds, times-append, times-newest, zero_one, Watch, nobody, watching, is_so, is_watched, by_number, place_written, place_kept}
+use Rattle.task_rules.proofs.Machine.{[], ap, arith, behind, behind_one, Bool, callers_of, Core, displaced, entries, find, foot_from, foot_of, get-change, get-insert, HasPlace, is_at, is_at_switch, is_behind_of, is_fresh, is_some, is_there, is_under, le_refl, List, Mark, nat_tests, newest, None, numbers, older, on_thread, one_if, Option, passed_on, Place, place_of, push_high_first, put_high, put_switch, refl, resumed_all, resumed_callers, says, set_callers, set_place, set_switch, size, Some, stopped, suc, switch_entries, sym, times, true, under_of, Why, why_of, zero, ℕ, ◌∙◌, ◌∷◌, ◌≡◌, ◌≤◌}
+use Rattle.task_rules.proofs.StandLemmas.{Adds, Given, Left, Loose, Stand, adds_given, adds_stand, by_count, callers_say, eq_refl, left_loose, left_placed, moves_stand, once_or_not, put_high_adds, times-append, times-newest, zero_one, Watch, is_so, is_watched}
 
 -- ---- What leaves every place and every entry of a thread alone
 
@@ -44,25 +44,21 @@ comes_stand n q m xs p s t adds st =
 
 pub behind_adds : (g m : ℕ) (r : Place) (s : Core) → Given g s → place_of m s ≡ Some r → Adds m (Place.Behind g) s (behind_one g m s)
 unfolding behind_one set_callers set_place on_thread
-behind_adds g m r s given is =
-    moved_adds m (Place.Behind g) r _ _ s is (λ f e. subst (λ (j : ℕ). Given j s) (sym (is_eq_of f g e)) given) (λ k. plus_none k m _)
-    (λ k. plus_none k m _) (λ k. plus_none k m _) (λ k f. grind (arith, nat_tests, get-insert, times-append k (callers_of g s) m))
+behind_adds g m r s given is = grind (arith, nat_tests, get-change, get-insert, times-append)
 
 -- ---- The entry at switch gives way
 
-switch_adds : (m : ℕ) (w : Why) (r : Place) (s : Core) → place_of m s ≡ Some r →
-    Adds m (Place.Ready Mark.Switch w) (set_switch None s) (set_switch (Some m) (set_place m (Place.Ready Mark.Switch w) s))
+pub switch_adds : (m : ℕ) (w : Why) (r : Place) (s : Core) → place_of m s ≡ Some r → s.queues.switch ≡ None →
+    Adds m (Place.Ready Mark.Switch w) s (set_switch (Some m) (set_place m (Place.Ready Mark.Switch w) s))
 unfolding set_switch set_place on_thread
-switch_adds m w r s is =
-    moved_adds m (Place.Ready Mark.Switch w) r _ _ (set_switch None s) is (λ f h. absurd (grind arith))
-    (λ k. plus_one k m 0 _ (omega arith)) (λ k. plus_none k m _) (λ k. plus_none k m _) (λ k f. plus_none k m _)
+switch_adds m w r s is none = grind (arith, nat_tests, get-change)
 
 -- an entry's mark is not watched
 pub so_again : (v : Watch) (x y : Mark) (w : Why) → is_so v (Some (Place.Ready x w)) ≡ is_so v (Some (Place.Ready y w))
 so_again v x y w = grind arith
 
 -- where a thread stands at switch, and is put at the front of high
-displaced_stand : {P : ℕ → Watch} (n : ℕ) (q : Option Place) (xs : List ℕ) (s : Core) (o : Option ℕ) → s.queues.switch ≡ o → Stand P n q xs s →
+pub displaced_stand : {P : ℕ → Watch} (n : ℕ) (q : Option Place) (xs : List ℕ) (s : Core) (o : Option ℕ) → s.queues.switch ≡ o → Stand P n q xs s →
     Stand P n q xs (set_switch None (displaced o s))
 unfolding set_switch push_high_first set_place on_thread
 displaced_stand n q xs s None is st =
@@ -71,29 +67,9 @@ displaced_stand n q xs s None is st =
     (record { places = λ k. refl; switch = off; high = λ k. refl; low = λ k. refl; callers = refl; made = le_refl _ }) st
 displaced_stand {P = P} n q xs s (Some j) is st =
     let w = ready (place_of j s) refl (sym stands ∙ (st.placed j j_none).switch) in
-    let off : Drops j (Place.Ready Mark.Switch w.0) s u = record {
-      made = refl;
-      places = λ k. refl;
-      switch = λ k. ap (switch_entries k) is ∙ plus_one k j 0 _ (omega arith);
-      high = λ k. plus_none k j _;
-      low = λ k. plus_none k j _;
-      callers = λ k f. plus_none k j _;
-    } in
-    let adds : Adds j high u t = moved_adds j high (Place.Ready Mark.Switch w.0) _ _ u w.1 (λ f h. absurd (grind arith)) (λ k. plus_none k j _)
-    (λ k. plus_one k j _ _ (omega arith)) (λ k. plus_none k j _) (λ k f. plus_none k j _) in
-    let bare : Stand nobody n q xs s = watching n q xs s (λ k h. absurd (grind arith)) st in
-    watching n q xs t (λ k h. ((st.kept k h).0, still_so w (P k) k (st.kept k h).1))
-    (adds_stand j high u t adds n q xs (drops_stand n q j (Place.Ready Mark.Switch w.0) xs s u refl off w.1 j_none bare))
+    moves_stand n q xs j (Place.Ready Mark.Switch w.0) (Place.Ready Mark.High (why_of j s)) s (set_switch None s) _ (grind (arith, nat_tests))
+    (grind (arith, nat_tests, get-change)) w.1 j_none (λ so watched. grind (arith, so_again (P j) Mark.High Mark.Switch w.0, w.1)) st
   where
-    u : Core
-    u = set_switch None s
-
-    t : Core
-    t = set_switch None (displaced (Some j) s)
-
-    high : Place
-    high = Place.Ready Mark.High (why_of j s)
-
     stands : switch_entries j s.queues.switch ≡ 1
     stands = ap (switch_entries j) is ∙ ap one_if (eq_refl j)
 
@@ -105,18 +81,11 @@ displaced_stand {P = P} n q xs s (Some j) is st =
     ready (Some (Place.Ready Mark.Switch w)) e z = (w, e)
     ready _ e z = absurd (omega (arith, z))
 
-    -- it stands for what it stood for
-    still_so : ((w : Why) × (place_of j s ≡ Some (Place.Ready Mark.Switch w))) → (v : Watch) (k : ℕ) → is_so v (place_of k s) ≡ true →
-        is_so v (place_of k t) ≡ true
-    still_so w v k f =
-        by_number k j _ (λ e. grind (arith, so_again v Mark.High Mark.Switch w.0, w.1, place_written j high (Place.Ready Mark.Switch w.0) s w.1))
-        (λ e. ap (is_so v) (place_kept k j high s e) ∙ f)
-
 pub put_switch_stand : {P : ℕ → Watch} (n : ℕ) (q : Option Place) (m : ℕ) (xs : List ℕ) (w : Why) (s : Core) → times m xs ≡ 0 → Stand P n q (m ∷ xs) s →
     Stand P n q xs (put_switch m w s)
 unfolding put_switch set_switch set_place on_thread
 put_switch_stand n q m xs w s none st =
-    comes_stand n q m xs (Place.Ready Mark.Switch w) _ _ (λ r is. switch_adds m w r (displaced s.queues.switch s) is)
+    comes_stand n q m xs (Place.Ready Mark.Switch w) _ _ (λ r is. switch_adds m w r (set_switch None (displaced s.queues.switch s)) is refl)
     (displaced_stand n q (m ∷ xs) s s.queues.switch refl st)
 
 -- ---- A stop
@@ -195,8 +164,7 @@ detached : {P : ℕ → Watch} (n : ℕ) (q : Option Place) (f : ℕ) (s : Core)
 unfolding set_callers
 detached {P = P} n q f s st = record {
   here = st.here;
-  once = λ k. by_count k n (times k (n ∷ callers_of f s) ≤ 1)
-      (λ e x. omega (arith, (st.loose k (omega arith)).callers f))
+  once = λ k. by_count k n _ (λ e x. omega (arith, (st.loose k (omega arith)).callers f))
       (λ e x. omega (arith, callers_say k f s (st.placed k (omega arith)), says_one (is_behind_of f) (place_of k s)));
   loose = λ k h. by_count k n _ (λ e x. left_loose k s t (stays k (omega arith)) (st.loose k (omega arith)))
       (λ e x. comes_loose k (omega arith) (st.placed k (omega arith)));
@@ -221,21 +189,14 @@ detached {P = P} n q f s st = record {
     stays : (k : ℕ) → times k (callers_of f s) ≡ 0 → Left k s t
     stays k none = grind (arith, nat_tests, get-insert)
 
+    behind_is : (o : Option Place) → 1 ≤ says (is_behind_of f) o → o ≡ Some (Place.Behind f)
+    behind_is o y = grind (arith, nat_tests)
+
     behind_f : (k : ℕ) → times k (callers_of f s) ≡ 1 → HasPlace k s → place_of k s ≡ Some (Place.Behind f)
-    behind_f k h p = of_place (place_of k s) (omega (arith, h, callers_say k f s p))
-      where
-        of_place : (o : Option Place) → 1 ≤ says (is_behind_of f) o → o ≡ Some (Place.Behind f)
-        of_place (Some (Place.Behind g)) y = ap (λ (j : ℕ). Some (Place.Behind j)) (sym (is_eq_of f g (one_of (f == g) y)))
-          where
-            one_of : (b : Bool) → 1 ≤ one_if b → b ≡ true
-            one_of b y = grind arith
-        of_place _ y = absurd (omega (arith, y))
+    behind_f k h p = behind_is (place_of k s) (omega (arith, h, callers_say k f s p))
 
     comes_loose : (k : ℕ) → times k (callers_of f s) ≡ 1 → HasPlace k s → Loose k t
-    comes_loose k h p = by_place (behind_f k h p) p
-      where
-        by_place : place_of k s ≡ Some (Place.Behind f) → HasPlace k s → Loose k t
-        by_place is p = grind (arith, nat_tests, get-insert)
+    comes_loose k h p = let is = behind_f k h p in grind (arith, nat_tests, get-insert)
 
 pub stopped_stand : {P : ℕ → Watch} (n : ℕ) (q : Option Place) (f : ℕ) (s : Core) → Stand P n q [] s → Stand P n q [] (stopped f s)
 unfolding stopped set_callers
