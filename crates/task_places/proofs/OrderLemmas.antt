@@ -24,6 +24,7 @@ use Rattle.task_places.proofs.PlaceLaw.{Arrives}
 use Rattle.task_places.proofs.PlaceSteps.{step_by, Withdrawable, in_place, step_arrives}
 use Rattle.task_places.specs.Kept.{ReachedInOrder, ReachedInPlace, StepsKeepPlaces}
 use Rattle.task_rules.proofs.LawLemmas.{steady}
+use Rattle.task_rules.proofs.MoveLemmas.{at_place}
 
 -- ---- Starts
 
@@ -230,30 +231,19 @@ module _ (x : Setting) (s : State) (l : Label) (t : State) (h : InOrder x.compon
   last : AllFit a t.core × Unbegun a t.core
   last =
       let p : CallsHold x.component s.core = record { numbered = h.numbered; kinds = h.kinds; deliveries = h.deliveries } in
-      let b = calls_begin x s l w.next p in
-      let known = of_base (λ b. RunnerHoused (record a { base = b })) s.turn s.core runner_housed in
-      let fits = of_base (λ b. Fits x.component b) s.turn s.core fits_base in
-      let first = of_base (λ b. AllFit (record a { base = b }) s.core) s.turn s.core fits_first in
-      let runs = of_base (λ b. (n : ℕ) → s.turn ≡ Turn.Run n → place_of n b ≡ Some Place.Running) s.turn s.core h.in_place.runs in
-      let there = of_base (λ b. (n : ℕ) (r : Thread) → get b.threads n ≡ Some r → is_some (get b.calls r.call) ≡ true) s.turn s.core has_call in
-      let starts = of_base StartsFirst s.turn s.core unbegun_base in
-      let waits = of_base (λ b. Unbegun (record a { base = b }) s.core) s.turn s.core (record {
-        came = λ k f. inl f;
-        rest = λ k f there. by_waits k f there;
-      }) in
-      let c = scene_of x s l w.next in
-      let q = along (λ u. CallsGo c u × (AllFit c u × Unbegun c u)) (λ v m ok q. (
-        word_goes c h.codes b.0 v m ok q.0,
-        (fits_word c h.codes b.0 known fits runs there v m ok q.0 q.1.0, unbegun_word c b.0 runs starts v m ok q.0 q.1.1),
-      )) (b.1, (first, waits)) w.walk in
-      base_out (λ b. AllFit (record a { base = b }) t.core × Unbegun (record a { base = b }) t.core) s.turn s.core q.1
+      let b = plain x s l w.next (λ c. CallsHold x.component c.base × CallsGo c s.core) (calls_begin x s l w.next p) in
+      (along (λ u. CallsGo a u × (AllFit a u × Unbegun a u)) (λ v m ok q. (
+        word_goes a h.codes b.0 v m ok q.0,
+        (
+          fits_word a h.codes b.0 runner_housed fits_base h.in_place.runs has_call v m ok q.0 q.1.0,
+          unbegun_word a b.0 h.in_place.runs unbegun_base v m ok q.0 q.1.1,
+        ),
+      )) (b.1, (fits_first, record { came = λ k f. inl f; rest = waited_first })) walk).1
     where
-      by_waits : (k : ℕ) → Waited a k → is_some (get s.core.threads k) ≡ true → IsUnbegun s.core k
-      by_waits k f there = by (get s.core.threads k) refl
-        where
-          by : (o : Option Thread) → get s.core.threads k ≡ o → IsUnbegun s.core k
-          by None at = absurd (grind arith)
-          by (Some r) at = let below = h.numbered.threads k r at in h.unbegun k r at (grind arith) (grind arith)
+      waited_first : (k : ℕ) → Waited a k → is_some (get s.core.threads k) ≡ true → IsUnbegun s.core k
+      waited_first k f there =
+          let r = at_place (λ (r : Thread). true) (get s.core.threads k) (grind arith) in
+          let below = h.numbered.threads k r.0 r.1.0 in h.unbegun k r.0 r.1.0 (grind arith) (grind arith)
 
   pub unbegun_kept : StartsFirst t.core
   unbegun_kept k r at first waits = let q = last.1 in let f = first_waits k t.core in q.rest k (q.came k (grind arith)) (grind arith)
@@ -261,33 +251,25 @@ module _ (x : Setting) (s : State) (l : Label) (t : State) (h : InOrder x.compon
   pub fits_kept : Steady s.core t.core → Fits x.component t.core
   fits_kept steady n r at =
       let f = last.0 n r at in
-      let now = calls_kept n r.call (ap (λ o. option_map (λ (t : Thread). t.call) o) at) in
       record {
         script = same_script x.component (call_instance r.call t.core) (call_instance r.call s.core) r.explicit r.script
             (λ e. same_call s.core t.core steady h.numbered r.call (f.call e) now) f.script;
-        position = at_place r.position r.call r.script f.position now;
-        op = comes r.how_far f.op;
+        position = ⊎_elim (λ zero. omega (arith, zero))
+            (λ b. subst (λ e. r.position ≤ length (script_in x.component e r.script)) (sym (same b.0)) b.1) f.position;
+        op = ⊎_elim (λ fresh. ap (can_come (op_of_thread x.component t.core r)) fresh) (λ e. at_op (λ o. can_come o r.how_far) e) f.op;
         under = λ d. at_op is_sync_call (f.under d).0;
         first = f.first;
       }
     where
+      now : is_some (get t.core.calls r.call) ≡ true
+      now = calls_kept n r.call (ap (λ o. option_map (λ (t : Thread). t.call) o) at)
+
+      same : is_some (get s.core.calls r.call) ≡ true → callee_of r.call t.core ≡ callee_of r.call s.core
+      same was = same_callee s.core t.core steady h.numbered r.call was now
+
       at_op : (test : Op → Bool) → OfBase a r test → test (op_of_thread x.component t.core r) ≡ true
       at_op test e =
-          let now = calls_kept n r.call (ap (λ o. option_map (λ (t : Thread). t.call) o) at) in
-          let same = same_callee s.core t.core steady h.numbered r.call e.0 now in
-          subst (λ f. test (unwrap_or (slice_get (script_in x.component f r.script) r.position) (Op.Task TaskOp.Exit)) ≡ true) (sym same) e.1
-
-      comes : (f : HowFar) → (f ≡ HowFar.Fresh) ⊎ OfBase a r (λ o. can_come o f) → can_come (op_of_thread x.component t.core r) f ≡ true
-      comes f (inl fresh) = ap (can_come (op_of_thread x.component t.core r)) fresh
-      comes f (inr e) = at_op (λ o. can_come o f) e
-
-      within : ℕ → ℕ → Script → Type 0
-      within p k y = (p ≡ 0) ⊎ ((is_some (get s.core.calls k) ≡ true) × (p ≤ length (script_in x.component (callee_of k s.core) y)))
-
-      at_place : (p k : ℕ) (y : Script) → within p k y → is_some (get t.core.calls k) ≡ true → p ≤ length (script_in x.component (callee_of k t.core) y)
-      at_place p k y (inl zero_at) now = omega (arith, zero_at)
-      at_place p k y (inr b) now =
-          subst (λ e. p ≤ length (script_in x.component e y)) (sym (same_callee s.core t.core steady h.numbered k b.0 now)) b.1
+          subst (λ f. test (unwrap_or (slice_get (script_in x.component f r.script) r.position) (Op.Task TaskOp.Exit)) ≡ true) (sym (same e.0)) e.1
 
   -- handles of sets, and the joins to them
   pub joined_kept : SetsNamed t.core × JoinsNamed t.core
@@ -353,14 +335,7 @@ step_in_order x s l t h step =
 
 opening_placed : (instances handle_limit capacity : ℕ) → Placed (fresh instances handle_limit capacity)
 unfolding fresh
-opening_placed instances handle_limit capacity n = record {
-  number = λ e. let o = get-empty {X = Thread} n in absurd (cc);
-  behind = λ f e. let o = get-empty {X = Thread} n in absurd (cc);
-  switch = let o : get (empty {X = Thread}) n ≡ None = get-empty n in cc;
-  high = let o : get (empty {X = Thread}) n ≡ None = get-empty n in cc;
-  low = let o : get (empty {X = Thread}) n ≡ None = get-empty n in cc;
-  callers = λ f. grind (arith, get-empty);
-}
+opening_placed instances handle_limit capacity n = grind (arith, get-empty)
 
 pub opening_in_order : OpeningInOrder
 unfolding fresh OpeningInOrder
@@ -369,31 +344,16 @@ opening_in_order c codes instances handle_limit capacity main =
     record {
       codes = codes;
       in_place = record { placed = opening_placed instances handle_limit capacity; runs = λ n e. absurd (cc) };
-      strands = record {
-        below = λ n m e. let o = get-empty {X = Thread} n in absurd (cc);
-        made = λ n m e. let o = get-empty {X = Thread} n in absurd (cc);
-        alone = λ n k m e f. let o = get-empty {X = Thread} n in absurd (cc);
-      };
+      strands = grind (arith, get-empty);
       directs = λ n there implicit direct. let o = get-empty {X = Thread} n in absurd (cc);
-      works = record {
-        each = λ i w at. let o = get-empty {X = Work} i in absurd (cc);
-        low = λ i. (refl, refl);
-        made = λ i there. let o = get-empty {X = Work} i in absurd (cc);
-        gone = λ i none. (refl, refl);
-      };
+      works = grind (arith, get-empty);
       awaited = λ n i far. let o = get-empty {X = Thread} n in absurd (cc);
       numbered = q.numbered;
       calls_there = λ n k e. let o = get-empty {X = Thread} n in absurd (cc);
-      waits = record {
-        by_place = λ n x e. let o = get-empty {X = Thread} n in absurd (cc);
-        by_op = λ n x e. let o = get-empty {X = Thread} n in absurd (cc);
-      };
+      waits = grind (arith, get-empty);
       calls_named = opening_named instances handle_limit capacity;
       names = opening_names_known instances handle_limit capacity;
-      calls = record {
-        inside = λ n k far. let o = get-empty {X = Thread} n in absurd (cc);
-        apart = λ n m k far e. let o = get-empty {X = Thread} n in absurd (cc);
-      };
+      calls = grind (arith, get-empty);
       sets_named = opening_sets instances handle_limit capacity;
       joins_named = opening_joins instances handle_limit capacity;
       kinds = q.kinds;
