@@ -19,7 +19,7 @@ use Rattle.task_laws.specs.Order.{InOrder, OpeningInOrder}
 use Rattle.task_rules.proofs.LawLemmas.{run_goes_on}
 use Rattle.task_laws.proofs.StepEnds.{Answered, CallsFound, CallsKnown, calls_known, step_ends}
 use Rattle.task_places.specs.Once.{RunsAreOnce, IsUnbegun}
-use Rattle.task_places.proofs.OrderLemmas.{asked, opening_in_order, step_in_order}
+use Rattle.task_places.proofs.OrderLemmas.{asked, held_of, opening_in_order, step_in_order}
 
 -- ---- What is known before a step
 
@@ -47,9 +47,6 @@ reached_step x s l t r step = record {
   labels = r.labels ++ l ∷ [];
   run = run_goes_on x (opening r.instances r.handle_limit r.capacity r.main) r.labels s l t r.run step;
 }
-
-held_of : (x : Setting) (s : State) → InOrder x.component s → CallsHold x.component s.core
-held_of x s h = record { numbered = h.numbered; kinds = h.kinds; deliveries = h.deliveries }
 
 named_there : (k h : ℕ) (s : Core) → subtask_handle (Subtask.Guest k) s ≡ Some h → is_some (get s.calls k) ≡ true
 named_there k h s e = grind arith
@@ -140,7 +137,7 @@ module _ (x : Setting) (s : State) (l : Label) (t : State) (k : Known x s) (step
   answered n i runner far = waited_there n i a.base (callers_base n i far) (asked x s l t k.order w n i runner far).1
 
   holds : CallsHold x.component s.core
-  holds = held_of x s k.order
+  holds = held_of k.order
 
   found : CallsFound a
   found = record {

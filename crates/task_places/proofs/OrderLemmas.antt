@@ -1,5 +1,5 @@
 -- A state in order: each opening state is, and each step leads from one to one.
-use Rattle.task_rules.proofs.Machine.{[], ap, arith, Bool, ByHandle, ByOp, Call, call_instance, callee_of, can_come, Component, Core, empty, false, fresh, get, get-empty, HasSubtask, how_far_of, HowFar, inl, inr, instance_of, is_fresh, is_some, is_sync_call, is_there, IsRunner, Label, length, List, None, Op, op_of_thread, opening, Option, option_and_then, option_map, option_map_or, Place, place_of, Placed, refl, Run, Scene, scene_of, Script, script_in, Setting, slice_get, Some, State, Steady, subst, Subtask, subtask_under_way, sym, task_of, TaskOp, Thread, true, Turn, unwrap_or, Walk, Walked, was_started, Work, ℕ, ⊎_elim, ◌∷◌, ◌≡◌, ◌≤◌, ◌⊎◌}
+use Rattle.task_rules.proofs.Machine.{[], ap, arith, Bool, ByHandle, ByOp, Call, call_instance, callee_of, can_come, Component, Core, empty, false, fresh, get, get-empty, HasSubtask, how_far_of, HowFar, inl, inr, instance_of, is_fresh, is_some, is_sync_call, is_there, IsRunner, Label, length, List, None, Op, op_of_thread, opening, Option, option_and_then, option_map, option_map_or, Place, place_of, Placed, refl, Run, Scene, scene_of, Script, script_in, Setting, slice_get, Some, State, Steady, subst, Subtask, subtask_under_way, sym, task_of, TaskOp, Thread, true, Turn, unwrap_or, Walk, Walked, was_started, Work, ℕ, ⊎_elim, ◌∙◌, ◌∷◌, ◌≡◌, ◌≤◌, ◌⊎◌}
 use Rattle.task_places.proofs.HostsAwaited.{Asked, step_asked, step_works}
 use Rattle.task_places.proofs.Directs.{directs_on_top}
 use Rattle.task_laws.proofs.Joins.{joins_word, opening_joins}
@@ -19,9 +19,9 @@ use Rattle.task_laws.proofs.AwaitedCalls.{DirectsRun, Inside, directs_word, Call
 use Rattle.task_laws.proofs.NamedCalls.{NamesGo, InsideThere, names_go_word, opening_names_known}
 use Rattle.task_laws.proofs.UnbegunCalls.{first_waits, Unbegun, unbegun_word, Waited}
 use Rattle.task_places.proofs.CallsBack.{back_apart}
-use Rattle.task_laws.specs.Order.{StartsFirst, NamesKnown, CallsAwaited, cancelled_call, is_awaited, IsUnbegun, CallsNamed, InOrder, Numbered, OpeningInOrder, SetsNamed, StartsAwaited, StepInOrder, WasCall, CallsThere, MakesFew, Strands, WaitsAtHome, set_of_op, set_of_place, StepsMakeFew, JoinsNamed, DirectsOnTop, Fits, WorksQueued, HostsAwaited, names_script}
+use Rattle.task_laws.specs.Order.{InPlace, StartsFirst, NamesKnown, CallsAwaited, cancelled_call, is_awaited, IsUnbegun, CallsNamed, InOrder, Numbered, OpeningInOrder, SetsNamed, StartsAwaited, StepInOrder, WasCall, CallsThere, MakesFew, Strands, WaitsAtHome, set_of_op, set_of_place, StepsMakeFew, JoinsNamed, DirectsOnTop, Fits, WorksQueued, HostsAwaited, names_script}
 use Rattle.task_places.proofs.PlaceLaw.{Arrives}
-use Rattle.task_places.proofs.PlaceSteps.{step_by, Withdrawable, in_place, step_arrives}
+use Rattle.task_places.proofs.PlaceSteps.{step_by, Withdrawable, settled_run, step_arrives}
 use Rattle.task_places.specs.Kept.{ReachedInOrder, ReachedInPlace, StepsKeepPlaces}
 use Rattle.task_rules.proofs.LawLemmas.{steady}
 use Rattle.task_rules.proofs.MoveLemmas.{at_place}
@@ -82,6 +82,9 @@ steps_make_few x s l t step =
 
 -- ---- What the words of a step keep
 
+pub held_of : {c : Component} {s : State} → InOrder c s → CallsHold c s.core
+held_of h = record { numbered = h.numbered; kinds = h.kinds; deliveries = h.deliveries }
+
 module _ (x : Setting) (s : State) (l : Label) (t : State) (h : InOrder x.component s) (w : Walked x s l t) where
   -- the step's scene, in which the row reads what is beside the marks as it was before the step
   abbrev a : Scene
@@ -131,22 +134,22 @@ module _ (x : Setting) (s : State) (l : Label) (t : State) (h : InOrder x.compon
       named m k (ByHandle g e) = known.by_handle _ g k e
       named m k (ByOp e) = known.by_op m k e
 
-  pub arrives : Arrives (scene_of x s l w.next) t.core
-  arrives = step_arrives x s l t w h.in_place withdrawable
+  arrives : Arrives a t.core
+  arrives = plain x s l w.next (λ c. Arrives c t.core) (step_arrives x s l t w h.in_place withdrawable)
+
+  pub in_place_kept : InPlace t
+  in_place_kept = record { placed = arrives.placed; runs = λ m e. arrives.runs m (settled_run t.core w.next m (sym w.turn ∙ e)) }
 
   pub starts_kept : Steady s.core t.core → StartsAwaited t.core
   starts_kept steady k c at e =
-      let come : Arrives a t.core = plain x s l w.next (λ c. Arrives c t.core) arrives in
-      let fresh = come.fresh k (was_awaited s.core t.core h.in_place.placed steady h.starts k c at e) in
+      let fresh = arrives.fresh k (was_awaited s.core t.core h.in_place.placed steady h.starts k c at e) in
       grind (arith, h.numbered.threads k, steady.calls k)
 
   directs_run : DirectsRun a t.core
   directs_run = along (DirectsRun a) (directs_word a) (λ k d. inl d) walk
 
   pub directs_kept : Steady s.core t.core → Numbered t.core → DirectsOnTop t.core
-  directs_kept steady after =
-      let goes = base_out (λ b. Arrives (record a { base = b }) t.core) s.turn s.core arrives in
-      directs_on_top a s.core t.core steady h.numbered after goes (λ k. refl) (λ k. refl) h.directs directs_run
+  directs_kept steady after = directs_on_top a s.core t.core steady h.numbered after arrives (λ k. refl) (λ k. refl) h.directs directs_run
 
   -- ---- Calls that ops are inside of
 
@@ -186,19 +189,16 @@ module _ (x : Setting) (s : State) (l : Label) (t : State) (h : InOrder x.compon
     apart = apart_after a names_base calls_base unbegun_base numbered_base least t.core called.0 called.1;
   }
     where
-      come : Arrives a t.core
-      come = plain x s l w.next (λ c. Arrives c t.core) arrives
-
       back : (n k : ℕ) → place_of n s.core ≡ Some (Place.Under k) → a.next ≡ Turn.Run n → subtask_under_way (how_far_of n t.core) ≡ None
       back n k at to = step_by x s l t w h.in_place withdrawable (λ c u. place_of n c.base ≡ Some (Place.Under k) → c.next ≡ Turn.Run n → subtask_under_way (how_far_of n u) ≡ None)
           (λ c b m q u base first same f d ends at to. back_apart f n k at to d) (of_base (λ b. place_of n b ≡ Some (Place.Under k)) s.turn s.core at) to
 
       inside : (n k : ℕ) → how_far_of n t.core ≡ HowFar.Calls (Subtask.Guest k) → Inside a n k t.core → (place_of n t.core ≡ Some (Place.Under k)) ⊎ (option_map_or is_awaited (get t.core.calls k) false ≡ true)
-      inside n k far (inl under) = ⊎_elim inl (λ gone. absurd (⊎_elim (λ to. let y = back n k under to in grind arith) (λ none. grind arith) gone.1)) (come.covered n k under)
+      inside n k far (inl under) = ⊎_elim inl (λ gone. absurd (⊎_elim (λ to. let y = back n k under to in grind arith) (λ none. grind arith) gone.1)) (arrives.covered n k under)
       inside n k far (inr (inl awaited)) = inr awaited
       inside n k far (inr (inr (new, (runner, next)))) =
           let number = (h.in_place.placed k).number in
-          let e = come.entered k (grind arith) next in
+          let e = arrives.entered k (grind arith) next in
           inl (let mine = e.1.0 in let at = e.1.1 in grind arith)
 
   pub works_kept : WorksQueued t.core × HostsAwaited t.core
@@ -230,8 +230,7 @@ module _ (x : Setting) (s : State) (l : Label) (t : State) (h : InOrder x.compon
   -- what is so of threads and their ops as the step ends
   last : AllFit a t.core × Unbegun a t.core
   last =
-      let p : CallsHold x.component s.core = record { numbered = h.numbered; kinds = h.kinds; deliveries = h.deliveries } in
-      let b = plain x s l w.next (λ c. CallsHold x.component c.base × CallsGo c s.core) (calls_begin x s l w.next p) in
+      let b = plain x s l w.next (λ c. CallsHold x.component c.base × CallsGo c s.core) (calls_begin x s l w.next (held_of h)) in
       (along (λ u. CallsGo a u × (AllFit a u × Unbegun a u)) (λ v m ok q. (
         word_goes a h.codes b.0 v m ok q.0,
         (
@@ -307,11 +306,10 @@ module _ (x : Setting) (s : State) (l : Label) (t : State) (h : InOrder x.compon
 pub step_in_order : StepInOrder
 step_in_order x s l t h step =
     let w = step_walks x s l t step in
-    let p : CallsHold x.component s.core = record { numbered = h.numbered; kinds = h.kinds; deliveries = h.deliveries } in
-    let q : CallsHold x.component t.core = (step_goes x s l t h.codes p step).0 in
+    let q : CallsHold x.component t.core = (step_goes x s l t h.codes (held_of h) step).0 in
     record {
       codes = h.codes;
-      in_place = in_place x s l t w (arrives x s l t h w);
+      in_place = in_place_kept x s l t h w;
       strands = strands_kept x s l t h w;
       directs = directs_kept x s l t h w (steady x s l t step) q.numbered;
       works = (works_kept x s l t h w).0;
