@@ -1,4 +1,5 @@
 -- The words of std, of the machine and of its rules that the proofs cite, in one place.
+pub use Rattle.task_machine.specs.declared.{component.Callee.Callee, component.Component.Component, component.ExportKind.ExportKind, component.HostDef.HostDef, component.Slot.Slot, label.CallLabel.CallLabel, label.DataLabel.DataLabel, label.Label.Label, label.LoopLabel.LoopLabel, label.MainLabel.MainLabel, label.SetLabel.SetLabel, label.TakeLabel.TakeLabel, label.TaskLabel.TaskLabel, label.ThreadLabel.ThreadLabel, op.CallOp.CallOp, op.DataOp.DataOp, op.Op.Op, op.SetOp.SetOp, op.TaskOp.TaskOp, op.ThreadOp.ThreadOp, outcome.Outcome.Outcome, records.Call.Call, records.CallEnd.CallEnd, records.Caller.Caller, records.Course.Course, records.Delivery.Delivery, records.Entry.Entry, records.Goal.Goal, records.HowFar.HowFar, records.Instance.Instance, records.Join.Join, records.Made.Made, records.Named.Named, records.Place.Place, records.Script.Script, records.Set.Set, records.Stage.Stage, records.Subtask.Subtask, records.Thread.Thread, records.Turn.Turn, records.Why.Why, records.Work.Work, records.WorkCaller.WorkCaller, scenario.MainOpDef.MainOpDef, trap.Trap.Trap, words.Given.Given, words.Mark.Mark, words.OwnEvent.OwnEvent, words.Phase.Phase, words.Status.Status}
 pub use Rattle.std.proofs.Common.{ap, ap₂, arith, cond, inl, inr, le_refl, le_trans, refl, subst, sym, T, ⊎_elim, ◌∙◌}
 pub use Rattle.std.proofs.lemmas.Bool.{and_parts, eq-eqb, eqb-false, eqb-true, not-true}
 pub use Rattle.std.proofs.lemmas.Bool.Decides.{nat_tests}
@@ -18,53 +19,15 @@ pub use Rattle.task_machine.specs.Maps.{get-empty, get-insert, get-remove, Recor
 unfoldable pub use Rattle.task_machine.specs.Maps.{change, empty, get, insert, numbers, remove, size}
 pub use Rattle.task_machine.specs.Moves.{behind, departed, displaced, exited_if, freed_thread_handle, Gift, gift_after_own, hands_on, has_entry, held_why_of, is_callback_waiter, is_deletable_call, is_finished, less, less_switch, may_wake_joined, MemberGift, newest, NoGift, older, own_gift_of, own_or_nothing, OwnGift, passed_on, promoted_first, released_one, resumed_all, resumed_callers, stand, unblocked, wake_joined, waken_by, why_of}
 unfoldable pub use Rattle.task_machine.specs.Moves.{behind_one, call_settled, checked, ended, first_entry, gift, given_for, group_settled, handed_on, interest_settled, is_deletable, is_group_done, may_hand_on, may_publish, may_wake, own_gift_only, passes_check, promoted, promoted_unless, published, put_high, put_low, put_switch, released, stopped, taken, unqueued, wake, withdrawn}
-pub use Rattle.task_machine.specs.Read.{admits, as_set, as_subtask, backpressure_of, call_group, call_instance, callee_of, caller_of, callers_of, cancel_was_delivered, course_of, course_value, end_of, event_of, first_at, first_in, foot_from, goal_of, handle_of_table, has_ended, held_why, how_far_of, instance_of, is_aborted, is_async_lifted, is_at, is_blocked_on, is_callback, is_callback_yield, is_direct, is_entry_in, is_entry_of, is_explicit, is_guest_call, is_held_admitted, is_holding, is_joined, is_live, is_member, is_nil, is_ready_to_resume, is_stage_ended, is_stage_live, is_sync, is_under, is_waiter, is_waiting_on, is_watched, is_yielded, join_of, kind_of, may_not_enter, may_not_suspend, named_by, next_handle, or_high, own_event_of, phase_of, place_of, position_of, register_of, registers_of, result_of, same_subtask, saved_callee_of, saved_own_of, set_at, stage_of, strand_from, subtask_at, subtask_ended, subtask_handle, task_of, thread_at, thread_group, thread_handle_of, undelivered_end, was_cancelled, was_started, work_caller_of}
+pub use Rattle.task_machine.specs.Read.{admits, as_set, as_subtask, backpressure_of, call_group, call_instance, callee_of, caller_of, callers_of, cancel_was_delivered, course_of, course_value, end_of, event_of, first_at, first_in, foot_from, goal_of, handle_of_table, has_ended, held_why, how_far_of, instance_of, is_aborted, is_async_lifted, is_at, is_blocked_on, is_callback, is_callback_yield, is_direct, is_entry_in, is_entry_of, is_explicit, is_guest_call, is_held_admitted, is_holding, is_joined, is_live, is_member, is_nil, is_ready_to_resume, is_stage_ended, is_stage_live, is_under, is_waiter, is_waiting_on, is_watched, is_yielded, join_of, kind_of, may_not_enter, may_not_suspend, named_by, next_handle, or_high, own_event_of, phase_of, place_of, position_of, register_of, registers_of, result_of, same_subtask, saved_callee_of, saved_own_of, set_at, stage_of, strand_from, subtask_at, subtask_ended, subtask_handle, task_of, thread_at, thread_group, thread_handle_of, undelivered_end, was_cancelled, was_started, work_caller_of}
 unfoldable pub use Rattle.task_machine.specs.Read.{admitted_held, at_handle_limit, blocked_on, fits, foot_of, has_member, has_thread, has_waiter, has_waiters, is_last_thread, new_handle, new_thread_handle, next_entry, strand_of, under_of}
 pub use Rattle.task_machine.specs.Statuses.{packed, status_code}
 pub use Rattle.task_machine.specs.Write.{giving, less_one, remove_threads, taking}
 unfoldable pub use Rattle.task_machine.specs.Write.{add_call, add_group, add_set, add_thread, add_work, count_work, free_handle, free_thread_handle, give_handle, give_result, give_thread_handle, on_call, on_instance, on_thread, on_work, push_high, push_high_first, push_low, remove_call, remove_group, remove_set, remove_thread, remove_work, set_backpressure, set_callers, set_cancel_delivered, set_cancelled, set_course, set_do_not_enter, set_do_not_suspend, set_end, set_event, set_exited, set_high, set_how_far, set_join, set_low, set_own_event, set_phase, set_place, set_position, set_register, set_result, set_saved_callee, set_saved_own, set_script, set_stage, set_started, set_starting_published, set_subtask_handle, set_switch, set_thread_handle, set_trapped, set_uninteresting, set_word, take_result}
-pub use Rattle.task_machine.specs.declared.component.Callee.{Callee}
-pub use Rattle.task_machine.specs.declared.component.Component.{Component}
-pub use Rattle.task_machine.specs.declared.component.ExportKind.{ExportKind}
-pub use Rattle.task_machine.specs.declared.component.HostDef.{HostDef}
-pub use Rattle.task_machine.specs.declared.label.CallLabel.{CallLabel}
-pub use Rattle.task_machine.specs.declared.label.Label.{Label}
-pub use Rattle.task_machine.specs.declared.label.LoopLabel.{LoopLabel}
-pub use Rattle.task_machine.specs.declared.label.TakeLabel.{TakeLabel}
-pub use Rattle.task_machine.specs.declared.op.Op.{Op}
-pub use Rattle.task_machine.specs.declared.op.TaskOp.{TaskOp}
-pub use Rattle.task_machine.specs.declared.outcome.Outcome.{Outcome}
-pub use Rattle.task_machine.specs.declared.records.Call.{Call}
-pub use Rattle.task_machine.specs.declared.records.CallEnd.{CallEnd}
-pub use Rattle.task_machine.specs.declared.records.Caller.{Caller}
-pub use Rattle.task_machine.specs.declared.records.Course.{Course}
-pub use Rattle.task_machine.specs.declared.records.Delivery.{Delivery}
-pub use Rattle.task_machine.specs.declared.records.Entry.{Entry}
-pub use Rattle.task_machine.specs.declared.records.Goal.{Goal}
-pub use Rattle.task_machine.specs.declared.records.HowFar.{HowFar}
-pub use Rattle.task_machine.specs.declared.records.Join.{Join}
-pub use Rattle.task_machine.specs.declared.records.Made.{Made}
-pub use Rattle.task_machine.specs.declared.records.Named.{Named}
-pub use Rattle.task_machine.specs.declared.records.Place.{Place}
-pub use Rattle.task_machine.specs.declared.records.Script.{Script}
-pub use Rattle.task_machine.specs.declared.records.Set.{Set}
-pub use Rattle.task_machine.specs.declared.records.Stage.{Stage}
-pub use Rattle.task_machine.specs.declared.records.Subtask.{Subtask}
-pub use Rattle.task_machine.specs.declared.records.Thread.{Thread}
-pub use Rattle.task_machine.specs.declared.records.Turn.{Turn}
-pub use Rattle.task_machine.specs.declared.records.Why.{Why}
-pub use Rattle.task_machine.specs.declared.records.Work.{Work}
-pub use Rattle.task_machine.specs.declared.records.WorkCaller.{WorkCaller}
-pub use Rattle.task_machine.specs.declared.trap.Trap.{Trap}
-pub use Rattle.task_machine.specs.declared.words.Given.{Given}
-pub use Rattle.task_machine.specs.declared.words.Mark.{Mark}
-pub use Rattle.task_machine.specs.declared.words.OwnEvent.{OwnEvent}
-pub use Rattle.task_machine.specs.declared.words.Phase.{Phase}
-pub use Rattle.task_machine.specs.declared.words.Status.{Status}
 pub use Rattle.task_rules.specs.Allowed.{AbortsOwn, Allowed, AtOp, AwaitsEvent, Blocks, ByDelivery, ByHandle, ByOp, ByProgram, ByScript, BySetHandle, ByThread, ByWait, Cancels, CanCome, ComesAgain, Departs, EndsActivation, EndsOver, Exits, Falls, FindsEvent, GivesUp, HasCalled, HasSet, HasSubtask, Holds, InOp, is_async_work, is_begun, is_done_host, is_exit, is_for_main, IsCalled, IsFall, IsFoot, IsLaid, IsNamed, IsNew, IsPolled, IsRunner, IsSettling, IsStarting, IsWithdrawn, Leaves, MayAbort, MayAdvance, MayBar, MayCall, MayCancel, MayCome, MayDeliver, MayEnd, MayFinish, MayGo, MayJoin, MayLand, MayLeave, MayMake, MayMakeCall, MayMove, MayNameCall, MayOwe, MayPut, MayRemoveCall, MayRemoveWork, MayRestart, MayShift, MayStart, MayTakeEvent, MayTell, MayWithdraw, MayYield, ProgramAborts, Releases, Resumes, ReturnsNow, Runs, SaysEnd, ScriptAborts, Starts, Stays, subtask_under_way, Suspends, TakesCalled, TakesCancelled, TakesNamed, Tells, Unblocks, Uncovers, Waits, WaitsAgain, wake_why, Wakes, WasReady, WasUnder, Yields}
 pub use Rattle.task_rules.specs.Calls.{AtOnce, call_begins, call_clears_flag, call_host_polled, call_row, call_status, call_sync_begins, call_sync_host_polled, call_sync_host_row, call_sync_row, call_sync_status, enter_row, Failing, first_poll, FirstPoll, Later, new_call, new_thread, new_work, next_thread, next_work, put_back, settle_group_of, status_found, sync_sets_flag, work_group, work_value}
 unfoldable pub use Rattle.task_rules.specs.Calls.{answered, call_answered, call_made, call_pending, call_queues, call_resumes, call_returned, call_stops, call_sync_host_stops, call_sync_stops, enter_runs, host_answered, host_pending, host_ready, with_handle, with_thread_handle, work_answered, work_deleted, work_queued}
-pub use Rattle.task_rules.specs.Cancels.{aborted_phase, AlreadyEnded, Async, behind_switch, blocked_code, CallbackWaits, CallbackYields, cancel_by_end, cancel_case, cancel_ended_row, cancel_guest, cancel_label, cancel_row, cancel_subtask, CancelCase, drop_row, is_callback_wait, Mode, OtherwiseRuns, pauses, StartNotRun, subtask_instance, subtask_row, Sync}
+pub use Rattle.task_rules.specs.Cancels.{aborted_phase, AlreadyEnded, Async, behind_switch, blocked_code, CallbackWaits, CallbackYields, cancel_by_end, cancel_case, cancel_ended_row, cancel_guest, cancel_label, cancel_row, cancel_subtask, CancelCase, drop_row, Mode, OtherwiseRuns, pauses, StartNotRun, subtask_instance, subtask_row, Sync}
 unfoldable pub use Rattle.task_rules.specs.Cancels.{cancel_aborts_host, cancel_asks, cancel_goes_behind, cancel_promotes_yield, cancel_resumed, cancel_stops, cancel_takes_end, cancel_wakes_callback, cancel_withdraws, dropped}
 pub use Rattle.task_rules.specs.Chains.{Answers, Chain, Collapses, EndsByExit, EndsCall, EndsOwn, EndsSubtask, EndWords, GoesBack, HandsAtOnce, HandsOut, is_over, is_running, is_take, IsReadyAtOnce, IsShift, Lands, LandsAt, LastWords, NoWord, Quits, Remains, SameMain, Settles, Shifts, SpawnsNamed, start_of, Stay, StepsAreWalks, TakesEvent, TakesResult, Then, Trip, Walk, Walked, Writes, WritesAtOnce, WritesCall, WritesNever, WritesPolled, WritesToo}
 pub use Rattle.task_rules.specs.Data.{data_row, skip_row}

@@ -1,18 +1,11 @@
 -- The rows of the ops on sets, subtasks and threads as chains of words.
-use Rattle.task_rules.proofs.Machine.{[], aborted_phase, AbortsOwn, add_work, advanced, after_word, AlreadyEnded, and_parts, answered, Answers, ap, arith, assigned, Async, at_handle_limit, AtOnce, blocked_code, Bool, ByHandle, ByOp, BySetHandle, ByThread, ByWait, call_answered, call_begins, call_host_polled, call_instance, call_of_op, call_pending, call_queues, call_resumes, call_returned, call_row, call_settled, call_status, call_sync_begins, call_sync_host_polled, call_sync_host_row, call_sync_host_stops, call_sync_row, call_sync_status, call_sync_stops, CallbackWaits, CallbackYields, Callee, callee_of_op, CallEnd, Caller, caller_of, CallLabel, cancel_aborts_host, cancel_asks, cancel_by_end, cancel_case, cancel_ended_row, cancel_guest, cancel_label, cancel_promotes_yield, cancel_resumed, cancel_row, cancel_stops, cancel_subtask, cancel_takes_end, cancel_target, cancel_wakes_callback, cancel_withdraws, CancelCase, cancelled_of_op, Cancels, checked, Choice, chosen, CloseSet, Core, count_work, CountWork, Delivery, drop_row, dropped, end_for, ended, EndsSubtask, EndWords, enter_row, enter_runs, event_of, export_kind, Failing, false, finds_nothing, first_poll, FirstPoll, fits, free_handle, get, get-change, get-insert_same, get-remove, get-remove_same, Gift, gift, Goal, Goes, group_settled, handed_by, handed_by_cancel, handed_by_event, handed_on, handed_out, HandsAtOnce, HandsOut, has_ended, has_member, has_waiters, HasSubtask, host_answered, host_at, host_end, host_pending, host_ready, HostDef, how_far_of, HowFar, inl, inr, instance_of, is_async_lifted, is_async_work, is_callback_yield, is_cancel, is_direct, is_for_main, is_joined, is_ready_to_resume, is_script, is_some, is_stage_ended, is_sync_call, is_sync_cancel, is_sync_host_call, is_thread_op, is_wait, is_waiting_on, is_watched, is_yielded, IsNamed, IsNew, IsReadyAtOnce, Join, join_done, join_label, join_of, join_to, joined, joins, Label, Later, Leaves, List, Made, Main, MakeThread, Mark, may, may_hand_on, may_wake_new, MayCancel, MayJoin, MayMakeCall, MemberGift, Mode, Move, moved_to, NameCall, NameThread, NameWork, nat_tests, new_handle, new_thread, new_thread_handle, new_work, next_thread, next_work, NoGift, None, not, NoWord, on_call, on_instance, on_thread, on_work, Op, op_in, op_of, OpenSet, Option, option_map, option_map_or, OtherwiseRuns, OwnEvent, OwnGift, packed, passes_check, pauses, phase_of, Place, place_of, poll_row, Progress, promoted_unless, push_high, Put, put_back, put_switch, QueueWork, received, received_woken, Records, refl, registers_for, registers_of, remove, remove_group, remove_thread, remove_work, result_of, Resumes, returned_of_op, saved_callee_of, says, Scene, Script, set_at, set_do_not_suspend, set_drop_row, set_dropped, set_end, set_event, set_given, set_how_far, set_join, set_made, set_new_row, set_own_event, set_position, set_register, set_result, set_row, set_saved_callee, set_subtask_handle, SetCancelled, SetExited, SetOwnEvent, SetPhase, SetRegister, SetResult, SetSavedCallee, Setting, settle_group_of, SetUninteresting, Shifts, slot_at, Some, stage_of, StartNotRun, Status, status_code, status_found, Stay, Stops, subst, Subtask, subtask_at, subtask_ended, subtask_handle, subtask_instance, subtask_row, subtask_under_way, suc, Suspends, suspends, sym, Sync, T, TakesEvent, task_of, Then, Thread, thread_at, thread_group, thread_handle_of, Trap, trap_if, Trip, true, Turn, undelivered_end, UnnameCall, UnnameWork, unwrap_or, value_of, values_in, wait_begins, wait_goes_on, wait_label, wait_row, wait_stops, wait_stops_checked, wakes_joined, Walk, was_cancelled, was_started, Why, Withdraw, withdrawn, Work, work_answered, work_caller_of, work_deleted, work_group, work_queued, work_value, WorkCaller, Writes, WritesAtOnce, WritesCall, WritesNever, WritesToo, written_by, written_by_cancel, Yields, yields, zero, ℕ, ◌+◌, ◌==◌, ◌∙◌, ◌∷◌, ◌≡◌, ◌⊎◌}
-use Rattle.task_machine.specs.declared.component.Slot.{Slot}
-use Rattle.task_machine.specs.declared.label.SetLabel.{SetLabel}
-use Rattle.task_machine.specs.declared.label.ThreadLabel.{ThreadLabel}
-use Rattle.task_machine.specs.declared.op.CallOp.{CallOp}
-use Rattle.task_machine.specs.declared.op.SetOp.{SetOp}
-use Rattle.task_machine.specs.declared.op.ThreadOp.{ThreadOp}
+use Rattle.task_rules.proofs.Machine.{[], aborted_phase, AbortsOwn, add_work, advanced, after_word, AlreadyEnded, and_parts, answered, Answers, ap, arith, assigned, Async, at_handle_limit, AtOnce, blocked_code, Bool, ByHandle, ByOp, BySetHandle, ByThread, ByWait, call_answered, call_begins, call_host_polled, call_instance, call_of_op, call_pending, call_queues, call_resumes, call_returned, call_row, call_settled, call_status, call_sync_begins, call_sync_host_polled, call_sync_host_row, call_sync_host_stops, call_sync_row, call_sync_status, call_sync_stops, CallbackWaits, CallbackYields, Callee, callee_of_op, CallEnd, Caller, caller_of, CallLabel, CallOp, cancel_aborts_host, cancel_asks, cancel_by_end, cancel_case, cancel_ended_row, cancel_guest, cancel_label, cancel_promotes_yield, cancel_resumed, cancel_row, cancel_stops, cancel_subtask, cancel_takes_end, cancel_target, cancel_wakes_callback, cancel_withdraws, CancelCase, cancelled_of_op, Cancels, checked, Choice, chosen, CloseSet, Core, count_work, CountWork, Delivery, drop_row, dropped, end_for, ended, EndsSubtask, EndWords, enter_row, enter_runs, event_of, export_kind, Failing, false, finds_nothing, first_poll, FirstPoll, fits, free_handle, get, get-change, get-insert_same, get-remove, Gift, gift, give_handle, Goal, Goes, group_settled, handed_by, handed_by_cancel, handed_by_event, handed_on, handed_out, HandsAtOnce, HandsOut, has_ended, has_member, has_waiters, HasSubtask, host_answered, host_at, host_end, host_pending, host_ready, HostDef, how_far_of, HowFar, inl, inr, instance_of, is_async_lifted, is_async_work, is_callback_yield, is_cancel, is_direct, is_for_main, is_joined, is_ready_to_resume, is_script, is_some, is_sync_call, is_sync_cancel, is_sync_host_call, is_thread_op, is_wait, is_waiting_on, is_watched, is_yielded, IsNamed, IsNew, IsReadyAtOnce, Join, join_done, join_label, join_of, join_to, joined, joins, Label, Later, Leaves, List, Made, Main, MakeThread, Mark, may, may_hand_on, may_wake_new, MayCancel, MayJoin, MayMakeCall, MemberGift, Mode, Move, moved_to, NameCall, NameThread, NameWork, nat_tests, new_handle, new_thread, new_thread_handle, new_work, next_thread, next_work, NoGift, None, not, NoWord, on_call, on_instance, on_thread, on_work, Op, op_in, op_of, OpenSet, Option, option_map, option_map_or, OtherwiseRuns, OwnEvent, OwnGift, packed, passes_check, pauses, phase_of, Place, place_of, poll_row, Progress, promoted_unless, push_high, Put, put_back, put_switch, QueueWork, received, received_woken, Records, refl, registers_for, registers_of, remove_group, remove_thread, remove_work, result_of, Resumes, returned_of_op, saved_callee_of, says, Scene, Script, set_at, set_cancelled, set_do_not_suspend, set_drop_row, set_dropped, set_end, set_event, set_given, set_how_far, set_join, set_made, set_new_row, set_own_event, set_phase, set_position, set_register, set_result, set_row, set_saved_callee, set_subtask_handle, SetCancelled, SetExited, SetLabel, SetOp, SetOwnEvent, SetPhase, SetRegister, SetResult, SetSavedCallee, Setting, SetUninteresting, Shifts, Slot, slot_at, Some, StartNotRun, Status, status_code, status_found, Stay, Stops, subst, Subtask, subtask_at, subtask_ended, subtask_handle, subtask_instance, subtask_row, subtask_under_way, suc, Suspends, suspends, sym, Sync, T, TakesEvent, task_of, Then, Thread, thread_at, thread_group, thread_handle_of, ThreadLabel, ThreadOp, Trap, trap_if, Trip, true, Turn, undelivered_end, UnnameCall, UnnameWork, unwrap_or, value_of, values_in, wait_begins, wait_goes_on, wait_label, wait_row, wait_stops, wait_stops_checked, wakes_joined, Walk, was_cancelled, was_started, Why, with_handle, Withdraw, withdrawn, Work, work_answered, work_caller_of, work_deleted, work_queued, work_value, WorkCaller, Writes, WritesAtOnce, WritesCall, WritesNever, WritesToo, written_by, written_by_cancel, Yields, yields, zero, ℕ, ◌+◌, ◌==◌, ◌∙◌, ◌∷◌, ◌≡◌, ◌⊎◌}
 use Rattle.task_rules.specs.Threads.{by_how_far, Halt, halt_row, halted, halted_checked, halted_promoting, halted_resuming, halting, halts, has_yielded, resume_later_row, resume_why, resumed_later, Suspension, then_promote, then_promote_row, then_resume_row, thread_made, thread_new_row, thread_row, Yielding}
 use Rattle.task_rules.proofs.ChainLemmas.{Going, join, stay_walk, Keep, keep_stay}
 use Rattle.task_rules.proofs.WalkMoves.{keep_still, MayTake, call_settled_walks, checked_shifts, chosen_of, handed_on_shifts, shifted, wake_shifts, word, lands_at, promoted_walks, call_done_walks}
-use Rattle.task_rules.proofs.WalkParts.{AtOps, call_queues_walks, call_resumes_walks, call_stops_walks, cancel_goes_behind_walks, cancel_plain, cancel_stops_walks, cancel_takes_end_walks, checked_walks, enter_gives, enter_runs_walks, freed_named, gift_is, join_plain, join_walks, put_back_walks, received_walks, set_none_join, stopped_walks, wait_plain, wait_stops_walks, withdrawn_walks, work_deleted_walks, work_unnamed, withdraws, answered_first, answered_unnamed, answered_settled, answered_parted, call_answers_walks, answered_fresh, assigned_fresh}
+use Rattle.task_rules.proofs.WalkParts.{AtOps, call_queues_walks, call_resumes_walks, call_stops_walks, cancel_goes_behind_walks, cancel_plain, cancel_stops_walks, cancel_takes_end_walks, checked_walks, enter_gives, enter_runs_walks, gift_is, join_plain, join_walks, put_back_walks, received_walks, stopped_walks, wait_plain, wait_stops_walks, withdrawn_walks, work_deleted_walks, withdraws, answered_first, answered_settled, call_answers_walks, answered_fresh, assigned_fresh}
 use Rattle.task_rules.proofs.MuteLemmas.{mute_words, none_said, says_by, hands_by}
-use Rattle.task_rules.proofs.SayLemmas.{cancel_hands_of, cancel_writes_of, event_joined, event_owed, found_returned, HasNoEnd, event_aborted, said_is, given_out, settled_gone, event_gone, result_gone}
-use Rattle.task_rules.proofs.CancelLemmas.{CaseSays, case_says}
+use Rattle.task_rules.proofs.SayLemmas.{cancel_hands_of, cancel_writes_of, HasNoEnd, said_is, given_out, settled_gone, event_gone, result_gone}
 use Rattle.task_rules.proofs.PlacingLemmas.{Shifted, placed, shifted_far, shifted_made, shifted_task, shifts_shifted}
 use Rattle.task_rules.proofs.StandLemmas.{by_number}
 use Rattle.task_rules.proofs.WalkTask.{Stands, Leads, advanced_walks, answered_walks, assigned_walks, goes_on, goes_on_told, goes_over, may_leads, or_never_leads, or_trap_leads, running_scene, stops_here, trap_if_leads, unnot, is_still, over_now, is_plain}
@@ -20,26 +13,9 @@ use Rattle.task_rules.proofs.WalkEnds.{call_ends}
 
 -- ---- What the rows read
 
--- a cancel that is resumed finds the event as it was
-event_resumed : (n : ℕ) (sub : Subtask) (s : Core) → event_of sub (cancel_resumed n sub s) ≡ event_of sub s
-unfolding cancel_resumed set_join on_call on_work set_saved_callee on_thread set_do_not_suspend on_instance
-event_resumed n sub s = grind (arith, nat_tests, get-change)
-
 pub queued_caller : (f : WorkCaller) (host : HostDef) (group : Option ℕ) (t : Core) → work_caller_of (next_work t) (work_queued f host group t) ≡ f
 unfolding work_queued push_high add_work count_work
 queued_caller f host group t = ap (λ (o : Option Work). option_map_or (λ w. w.caller) o WorkCaller.Spawn) (get-insert_same t.works (t.made.works + 1) (new_work f host group))
-
-assigned_works : (n r v : ℕ) (s : Core) → ((assigned n r v s).made.works ≡ s.made.works) × ((assigned n r v s).works ≡ s.works)
-unfolding assigned advanced moved_to set_how_far set_position on_thread set_register
-assigned_works n r v s = (refl, refl)
-
-ready_at_once : (n r q v : ℕ) (s : Core) → (next_work s ≡ next_work s) × (((host_ready n r q v s).made.works ≡ next_work s) × ((host_ready n r q v s).works ≡ s.works))
-unfolding host_ready set_register on_thread count_work
-ready_at_once n r q v s = let h = assigned_works n r 2 (set_register n q v (count_work s)) in (refl, (h.0, h.1))
-
-answered_at_once : (n r v : ℕ) (s : Core) → (next_work s ≡ next_work s) × (((host_answered n r v s).made.works ≡ next_work s) × ((host_answered n r v s).works ≡ s.works))
-unfolding host_answered count_work
-answered_at_once n r v s = let h = assigned_works n r v (count_work s) in (refl, (h.0, h.1))
 
 -- whose a call is, and which handle names it, is as before once the op that was inside of it goes on
 resumed_card : (n r v k : ℕ) (s : Core) → (caller_of k (answered n r v (call_resumes n k s)) ≡ caller_of k s) × (subtask_handle (Subtask.Guest k) (answered n r v (call_resumes n k s)) ≡ subtask_handle (Subtask.Guest k) s)
@@ -52,42 +28,15 @@ unfolding call_resumes set_event on_call set_do_not_suspend on_instance
 resumed_far n k s u d =
     let c = shifted_far (shifts_shifted (checked_shifts (instance_of n s) (call_resumes n k s))) n in let e = shifted_far d n in grind arith
 
-settled_works : (o : Option ℕ) (i : ℕ) (s : Core) → (settle_group_of o (remove_work i s)).works ≡ remove s.works i
-unfolding group_settled remove_group remove_work
-settled_works o i s = grind arith
-
 work_gone : (n r i : ℕ) (s : Core) → get (work_answered n r i s).works i ≡ None
-unfolding work_answered work_deleted
-work_gone n r i s = ap (λ (m : Records Work). get m i) ((assigned_works n r (work_value i s) (settle_group_of (work_group i s) (remove_work i s))).1 ∙ settled_works (work_group i s) i s) ∙ get-remove_same s.works i
+unfolding work_answered work_deleted assigned advanced moved_to set_how_far set_position on_thread set_register group_settled remove_group remove_work
+work_gone n r i s = grind (arith, nat_tests, get-remove)
 
-pub queued_made : (f : WorkCaller) (host : HostDef) (group : Option ℕ) (t : Core) → (work_queued f host group t).made.works ≡ t.made.works + 1
-unfolding work_queued push_high add_work count_work
-queued_made f host group t = refl
-
--- a place that passes such a test is that of an entry
-abbrev is_ready : Option Place → Bool
-is_ready (Some (Place.Ready m w)) = true
-is_ready _ = false
-
-ready_at : (o : Option Place) → is_ready o ≡ true → (m : Mark) × ((w : Why) × (o ≡ Some (Place.Ready m w)))
+-- a thread that may be resumed later, or yields by callback, has an entry
+ready_at : (o : Option Place) → (option_map_or is_ready_to_resume o false ≡ true) ⊎ (option_map_or is_callback_yield o false ≡ true) → (m : Mark) × ((w : Why) × (o ≡ Some (Place.Ready m w)))
 ready_at (Some (Place.Ready m w)) e = (m, (w, refl))
 ready_at None e = absurd (grind arith)
 ready_at (Some _) e = absurd (grind arith)
-
-resumes_ready : (o : Option Place) → option_map_or is_ready_to_resume o false ≡ true → is_ready o ≡ true
-resumes_ready o e = grind arith
-
-yields_ready : (o : Option Place) → option_map_or is_callback_yield o false ≡ true → is_ready o ≡ true
-yields_ready o e = grind arith
-
--- the call goes on in such a case
-abbrev is_going_on : CancelCase → Bool
-is_going_on AlreadyEnded = false
-is_going_on StartNotRun = false
-is_going_on _ = true
-
-goes_on_case : (k : ℕ) (s : Core) (y : CancelCase) → cancel_case k s ≡ y → is_going_on y ≡ true → (has_ended k s ≡ false) × (was_started k s ≡ true)
-goes_on_case k s y is on = grind arith
 
 -- ---- The rows
 
@@ -221,25 +170,21 @@ module _ (x : Setting) (main : Main) (s : Core) (n : ℕ) (l : Label) (next : Tu
       trap_if_leads a s (not (fits 3 s)) Trap.TableFull _ (λ f.
       stop _ (call_queues n e (export_kind x.component e) g words s) refl (λ leave. call_queues_walks n refl refl (calls callee) e (export_kind x.component e) g words leave (makes_call e g callee (λ d. no_direct (sym plain ∙ d)) other) plain))
 
-  by_call : (sub : Subtask) → how_far_of n s ≡ HowFar.Calls sub → HasSubtask a n sub
-  by_call sub far = ByOp (ap (λ h. subtask_under_way h) far)
-
   -- a status that is packed with a handle is no bare Returned
   call_still : (h : ℕ) (e : Status) (t : Core) → (e ≡ Status.Returned → ⊥) → (is_still a t (Label.Call (CallLabel.Call (packed h e) n)) ≡ true) × ((i : ℕ) → is_still a t (Label.Call (CallLabel.CallPolls (packed h e) n i)) ≡ true)
   call_still h e t other = (grind (arith, nat_tests), λ i. grind (arith, nat_tests))
 
   call_pending_leads : (r k : ℕ) (e : Status) → (e ≡ Status.Returned → ⊥) → (event_of (Subtask.Guest k) s ≡ Some Status.Returned → ⊥) → how_far_of n s ≡ HowFar.Calls (Subtask.Guest k) → Leads a s (let v = packed (new_handle (instance_of n s) s) e in trap_if (at_handle_limit s) Trap.HandleLimit (Goes (Label.Call (CallLabel.Call v n)) (call_pending n r k v s) n))
-  unfolding call_pending
+  unfolding call_pending answered assigned advanced moved_to set_how_far set_position on_thread set_register set_saved_callee with_handle set_subtask_handle give_handle on_call new_handle
   call_pending_leads r k e other unreturned far =
       trap_if_leads a s (at_handle_limit s) Trap.HandleLimit _ (λ f.
       let v = packed (new_handle (instance_of n s) s) e in
       go _ (call_pending n r k v s) (call_still (new_handle (instance_of n s) s) e (call_pending n r k v s) other).0
-      (λ to. subst (λ (t : Core). Stay a s t) (answered_unnamed n r v (instance_of n s) k (call_resumes n k s)) (Then _ (NameCall (instance_of n s) k)
-      (answered_walks n refl on r v (call_resumes_walks n refl k far unreturned NoWord) to) (n, (refl, (refl, (far, (answered_fresh n r v (call_resumes n k s), resumed_card n r v k s))))))))
+      (λ to. Then _ (NameCall (instance_of n s) k) (answered_walks n refl on r v (call_resumes_walks n refl k far unreturned NoWord) to) (n, (refl, (refl, (far, (answered_fresh n r v (call_resumes n k s), resumed_card n r v k s)))))))
 
   -- the op is about a call that has returned
   returned_out : (k : ℕ) (t : Core) → how_far_of n s ≡ HowFar.Calls (Subtask.Guest k) → status_found k s ≡ Status.Returned → HasNoEnd (Subtask.Guest k) t → (sub : Subtask) (e : Status) → returned_of_op n s ≡ Some (end_for e sub) → HandsOut a t sub e
-  returned_out k t far found gone sub e out = said_is (HandsOut a t) (sym (ap (λ (f : HowFar). option_map (end_for Status.Returned) (call_of_op f)) far) ∙ out) (TakesEvent (Subtask.Guest k) Status.Returned (found_returned (event_of (Subtask.Guest k) s) found) gone)
+  returned_out k t far found gone sub e out = said_is (HandsOut a t) (sym (ap (λ (f : HowFar). option_map (end_for Status.Returned) (call_of_op f)) far) ∙ out) (TakesEvent (Subtask.Guest k) Status.Returned (grind (arith, found)) gone)
 
   -- the op is done, and then the call that it was inside of may go
   done_walks : (r v k : ℕ) (t : Core) → how_far_of n s ≡ HowFar.Calls (Subtask.Guest k) → Stay a s (answered n r v t) → Stay a s (answered n r v (call_settled k t))
@@ -263,23 +208,23 @@ module _ (x : Setting) (main : Main) (s : Core) (n : ℕ) (l : Label) (next : Tu
   unfolding call_sync_stops
   call_sync_pauses k unreturned can far =
       trap_if_leads a s (not (passes_check (instance_of n s) (call_resumes n k s))) Trap.CannotBlockSyncTask _ (λ f.
-      stop _ (call_sync_stops n k s) refl (λ leave. call_stops_walks n refl at_ops (Subtask.Guest k) (checked (instance_of n s) (call_resumes n k s)) can leave (λ u d. inl (by_call (Subtask.Guest k) far)) (λ u d at. (refl, inl (far, resumed_far n k s u d ∙ far))) (checked_walks n refl (instance_of n s) (call_resumes_walks n refl k far unreturned NoWord))))
+      stop _ (call_sync_stops n k s) refl (λ leave. call_stops_walks n refl at_ops (Subtask.Guest k) (checked (instance_of n s) (call_resumes n k s)) can leave (λ u d. inl (ByOp (ap (λ h. subtask_under_way h) far))) (λ u d at. (refl, inl (far, resumed_far n k s u d ∙ far))) (checked_walks n refl (instance_of n s) (call_resumes_walks n refl k far unreturned NoWord))))
 
   call_sync_status_leads : (r k : ℕ) (e : Status) → is_some (callee_of_op (op_in a n)) ≡ true → how_far_of n s ≡ HowFar.Calls (Subtask.Guest k) → status_found k s ≡ e → Leads a s (call_sync_status n r k s e)
-  unfolding call_answered answered assigned advanced moved_to set_how_far set_position on_thread set_register set_saved_callee call_resumes
+  unfolding call_answered set_result on_call answered assigned advanced moved_to set_how_far set_position on_thread set_register set_saved_callee call_resumes
   call_sync_status_leads r k Status.Returned can far found =
       told (Label.Call (CallLabel.CallSync n (result_of k s))) (call_answered n r k s) refl
       (λ is. hands_by a _ is refl (returned_out k (call_answered n r k s) far found (settled_gone k (set_result k None (call_resumes n k s)) (call_answered n r k s) refl (result_gone k (put_back (saved_callee_of n s) (call_instance k s) s)))))
-      (λ is to. done_walks r (result_of k s) k (set_result k None (call_resumes n k s)) far (subst (λ (u : Core). Stay a s u) (answered_parted n r (result_of k s) k (call_resumes n k s)) (Then _ (SetResult k None) (call_answers_walks n refl on r (result_of k s) k far NoWord to) tt)))
+      (λ is to. done_walks r (result_of k s) k (set_result k None (call_resumes n k s)) far (Then _ (SetResult k None) (call_answers_walks n refl on r (result_of k s) k far NoWord to) tt))
   call_sync_status_leads r k e can far found = call_sync_pauses k (λ h. absurd (grind arith)) can far
 
   enter_row_leads : (e : Callee) (words : List ℕ) → is_sync_call (op_in a n) ≡ true → callee_of_op (op_in a n) ≡ Some e → is_async_lifted (export_kind x.component e) ≡ false → Leads a s (enter_row n e (export_kind x.component e) words s)
   enter_row_leads e words sync callee lifted =
       trap_if_leads a s (not (fits 3 s)) Trap.TableFull _ (λ f.
       trap_if_leads a s (at_handle_limit s) Trap.HandleLimit _ (λ g.
-      goes_over x main s n l next (Label.Call (CallLabel.Enters n (next_thread s))) (next_thread s) (enter_runs n e (export_kind x.component e) words s) refl (λ h. no_direct h) (by_number (next_thread s) n _ (λ h. inl (ap (λ (i : ℕ). Turn.Run i) (sym h))) (λ h. inr (enter_gives n e (export_kind x.component e) words s h)))
+      goes_over x main s n l next (Label.Call (CallLabel.Enters n (next_thread s))) (next_thread s) (enter_runs n e (export_kind x.component e) words s) refl (by_number (next_thread s) n _ (λ h. inl (ap (λ (i : ℕ). Turn.Run i) (sym h))) (λ h. inr (enter_gives n e (export_kind x.component e) words s h)))
       (λ is. mute_words a _ is refl)
-      (λ is to. enter_runs_walks n refl sync (calls callee) e (export_kind x.component e) words refl to (makes_call e Goal.Direct callee (λ d. (lifted, to)) refl))))
+      (λ is to. (enter_runs_walks n refl sync (calls callee) e (export_kind x.component e) words refl to (makes_call e Goal.Direct callee (λ d. (lifted, to)) refl), λ h. no_direct h))))
 
   call_sync_row_leads : (r : ℕ) (e : Callee) (words : List ℕ) (f : HowFar) → is_sync_call (op_in a n) ≡ true → callee_of_op (op_in a n) ≡ Some e → how_far_of n s ≡ f → Leads a s (call_sync_row x.component n r e words s f)
   call_sync_row_leads r e words (HowFar.Answered v) sync callee far =
@@ -296,37 +241,37 @@ module _ (x : Setting) (main : Main) (s : Core) (n : ℕ) (l : Label) (next : Tu
   -- ---- Calls of a host
 
   call_host_polled_leads : (r q : ℕ) (f : FirstPoll) → Leads a s (call_host_polled n r q s f)
-  unfolding host_ready host_pending
+  unfolding host_ready host_pending assigned advanced moved_to set_how_far set_position on_thread set_register count_work work_queued push_high add_work
   call_host_polled_leads r q (AtOnce v) =
       told (Label.Call (CallLabel.CallPolls 2 n (next_work s))) (host_ready n r q v s) refl
-      (λ is. at_once_says _ (host_ready n r q v s) refl refl (ready_at_once n r q v s) is)
+      (λ is. at_once_says _ (host_ready n r q v s) refl refl (refl, (refl, refl)) is)
       (λ is. assigned_walks n refl on r 2 (word (SetRegister n q v) tt (word CountWork refl NoWord)))
   call_host_polled_leads r q Failing = tt
   call_host_polled_leads r q (Later host) =
       let v = packed (new_handle (instance_of n s) s) Status.Started in
       trap_if_leads a s (not (fits 1 s)) Trap.TableFull _ (λ e.
       trap_if_leads a s (at_handle_limit s) Trap.HandleLimit _ (λ f.
-      go _ (host_pending n r q v host s) ((call_still (new_handle (instance_of n s) s) Status.Started (host_pending n r q v host s) (λ h. absurd (cc))).1 (next_work s)) (assigned_walks n refl on r v (word (NameWork (instance_of n s) (next_work s)) ((n, (refl, (refl, inr (refl, queued_made (WorkCaller.Async n q) host (Some (thread_group n s)) s)))), ap (λ f. is_async_work f) (queued_caller (WorkCaller.Async n q) host (Some (thread_group n s)) s))
+      go _ (host_pending n r q v host s) ((call_still (new_handle (instance_of n s) s) Status.Started (host_pending n r q v host s) (λ h. absurd (cc))).1 (next_work s)) (assigned_walks n refl on r v (word (NameWork (instance_of n s) (next_work s)) ((n, (refl, (refl, inr (refl, refl)))), ap (λ f. is_async_work f) (queued_caller (WorkCaller.Async n q) host (Some (thread_group n s)) s))
       (word (QueueWork (WorkCaller.Async n q) host (Some (thread_group n s))) (refl, (refl, refl)) NoWord)))))
 
   host_stops_walks : (host : HostDef) → is_sync_host_call (op_in a n) ≡ true → Leaves a n → Trip a s (call_sync_host_stops n host s)
-  unfolding call_sync_host_stops
+  unfolding call_sync_host_stops work_queued push_high add_work count_work
   host_stops_walks host can leave =
       let t = checked (instance_of n s) s in
       let h : Shifted s t = shifts_shifted (checked_shifts (instance_of n s) s) in
       let made : t.made.works ≡ s.made.works = ap (λ (d : Made). d.works) (shifted_made h) in
       let group = Some (thread_group n s) in
       let queued = work_queued (WorkCaller.Sync n) host group t in
-      let new : (u : Core) → Shifted queued u → IsNew a (Subtask.Host (next_work s)) u = λ u d. (refl, ap (λ (m : Made). m.works) (shifted_made d) ∙ (queued_made (WorkCaller.Sync n) host group t ∙ ap (λ (k : ℕ). k + 1) made)) in
+      let new : (u : Core) → Shifted queued u → IsNew a (Subtask.Host (next_work s)) u = λ u d. (refl, ap (λ (m : Made). m.works) (shifted_made d) ∙ ap (λ (k : ℕ). k + 1) made) in
       let caller : (u : Core) → Shifted queued u → work_caller_of (next_work s) u ≡ WorkCaller.Sync n = λ u d. ap (λ (c : Core). work_caller_of (next_work s) c) (sym d.only) ∙ (ap (λ (k : ℕ). work_caller_of (k + 1) queued) (sym made) ∙ queued_caller (WorkCaller.Sync n) host group t) in
       call_stops_walks n refl at_ops (Subtask.Host (next_work s)) queued can leave (λ u d. inr (new u d)) (λ u d at. (refl, (new u d, (caller u d, at))))
       (word (QueueWork (WorkCaller.Sync n) host group) (made, (refl, refl)) (checked_walks n refl (instance_of n s) NoWord))
 
   call_sync_host_polled_leads : (r : ℕ) (f : FirstPoll) → is_sync_host_call (op_in a n) ≡ true → Leads a s (call_sync_host_polled n r s f)
-  unfolding host_answered
+  unfolding host_answered assigned advanced moved_to set_how_far set_position on_thread set_register count_work
   call_sync_host_polled_leads r (AtOnce v) can =
       told (Label.CallSyncPolls n v (next_work s)) (host_answered n r v s) refl
-      (λ is. at_once_says _ (host_answered n r v s) refl refl (answered_at_once n r v s) is)
+      (λ is. at_once_says _ (host_answered n r v s) refl refl (refl, (refl, refl)) is)
       (λ is. assigned_walks n refl on r v (word CountWork refl NoWord))
   call_sync_host_polled_leads r Failing can = tt
   call_sync_host_polled_leads r (Later host) can =
@@ -353,12 +298,9 @@ module _ (x : Setting) (main : Main) (s : Core) (n : ℕ) (l : Label) (next : Tu
   CancelOp Async = is_cancel (op_in a n) ≡ true
   CancelOp Sync = is_sync_cancel (op_in a n) ≡ true
 
-  sync_cancels : (o : Op) → is_sync_cancel o ≡ true → is_cancel o ≡ true
-  sync_cancels o is = grind arith
-
   cancels : (mode : Mode) → CancelOp mode → is_cancel (op_in a n) ≡ true
   cancels Async by = by
-  cancels Sync by = sync_cancels (op_in a n) by
+  cancels Sync by = grind (arith, by)
 
   -- a cancel that takes an end of its subtask
   cancel_says : (mode : Mode) (r : ℕ) (sub : Subtask) (t : Core) (e : Status) → cancelled_of_op x.component n s (how_far_of n s) ≡ Some sub → undelivered_end (event_of sub s) ≡ Some e → l ≡ cancel_label mode n (status_code e) → EndWords a (cancel_takes_end n r sub e t)
@@ -420,38 +362,38 @@ module _ (x : Setting) (main : Main) (s : Core) (n : ℕ) (l : Label) (next : Tu
   unfolding cancel_withdraws cancel_wakes_callback cancel_promotes_yield cancel_asks set_own_event on_call
   cancel_guest_leads mode r h k AlreadyEnded by target is named free = cancel_ended_row_leads mode r (Subtask.Guest k) s (undelivered_end (event_of (Subtask.Guest k) s)) target refl (inl (h, named)) NoWord
   cancel_guest_leads mode r h k StartNotRun by target is named free =
-      let says = subst (CaseSays k s) is (case_says k s) in
+      let says : (has_ended k s ≡ false) × (was_started k s ≡ false) = (grind (arith, is), grind (arith, is)) in
       goes_on_told x main s n l next (cancel_label mode n 3) (cancel_withdraws n r k s) (cancel_plain s mode n 3)
       (λ at to. withdraw_says mode r k to at target (n, (h, (refl, named))) says.0)
       (λ at. answered_walks n refl on r 3 (withdrawn_walks n refl k (n, (refl, ((n, (h, (refl, named))), (says.1, (says.0, (refl, says.1)))))) (ap (λ (y : Label). written_by x.component s y s) at ∙ (cancel_writes mode s ∙ ap (option_map (end_for Status.StartCancelled)) target)) NoWord))
   cancel_guest_leads mode r h k CallbackWaits by target is named free =
-      let asks = asks_walks k h named (goes_on_case k s CallbackWaits is refl) in
+      let asks = asks_walks k h named (grind (arith, is), grind (arith, is)) in
       stop (pauses n) (cancel_wakes_callback n k s) refl (λ leave. cancel_goes_behind_walks n refl at_ops k (cancels mode by) leave (inl (h, named)) free
-      (placed (Put Mark.Switch k (Why.Delivery Delivery.Cancel)) (inl (Cancels (subst (CaseSays k s) is (case_says k s)) refl)) asks))
+      (placed (Put Mark.Switch k (Why.Delivery Delivery.Cancel)) (inl (Cancels (grind (arith, is)) refl)) asks))
   cancel_guest_leads mode r h k CallbackYields by target is named free =
-      let asks = asks_walks k h named (goes_on_case k s CallbackYields is refl) in
+      let asks = asks_walks k h named (grind (arith, is), grind (arith, is)) in
       stop (pauses n) (cancel_promotes_yield n k s) refl (λ leave. cancel_goes_behind_walks n refl at_ops k (cancels mode by) leave (inl (h, named)) free
-      (promoted_walks n k refl (ready_at (place_of k s) (yields_ready (place_of k s) (subst (CaseSays k s) is (case_says k s)))) asks))
-  cancel_guest_leads mode r h k OtherwiseRuns by target is named free = cancel_by_end_leads mode r (Subtask.Guest k) (cancel_asks k s) (subtask_ended (Subtask.Guest k) (cancel_asks k s)) by target (event_owed k (Some OwnEvent.Cancelled) s) (inl (h, named)) (inl free) (asks_walks k h named (goes_on_case k s OtherwiseRuns is refl))
+      (promoted_walks n k refl (ready_at (place_of k s) (inr (grind (arith, is)))) asks))
+  cancel_guest_leads mode r h k OtherwiseRuns by target is named free = cancel_by_end_leads mode r (Subtask.Guest k) (cancel_asks k s) (subtask_ended (Subtask.Guest k) (cancel_asks k s)) by target (grind (arith, nat_tests, get-change)) (inl (h, named)) (inl free) (asks_walks k h named (grind (arith, is), grind (arith, is)))
 
   cancel_subtask_leads : (mode : Mode) (r h : ℕ) (sub : Subtask) → CancelOp mode → cancelled_of_op x.component n s (how_far_of n s) ≡ Some sub → subtask_at (instance_of n s) h s ≡ Some sub → is_joined (join_of sub s) ≡ false → Leads a s (cancel_subtask mode n r s sub)
-  unfolding cancel_aborts_host
+  unfolding cancel_aborts_host set_cancelled set_phase on_work
   cancel_subtask_leads mode r h (Subtask.Guest k) by target named free = cancel_guest_leads mode r h k (cancel_case k s) by target refl named free
   cancel_subtask_leads mode r h (Subtask.Host i) by target named free =
       let has : HasSubtask a n (Subtask.Host i) = ByHandle h named in
       trap_if_leads a s (was_cancelled i s) Trap.SubtaskCancelAfterTerminal _ (λ e.
-      cancel_by_end_leads mode r (Subtask.Host i) (cancel_aborts_host i s) (subtask_ended (Subtask.Host i) (cancel_aborts_host i s)) by target (event_aborted i s) (inl (h, named)) (inl free) (word (SetCancelled i) (n, (refl, has)) (word (SetPhase i (aborted_phase (phase_of i s))) (AbortsOwn (n, (h, (refl, named))), refl) NoWord)))
+      cancel_by_end_leads mode r (Subtask.Host i) (cancel_aborts_host i s) (subtask_ended (Subtask.Host i) (cancel_aborts_host i s)) by target (grind (arith, nat_tests, get-change)) (inl (h, named)) (inl free) (word (SetCancelled i) (n, (refl, has)) (word (SetPhase i (aborted_phase (phase_of i s))) (AbortsOwn (n, (h, (refl, named))), refl) NoWord)))
 
   cancel_row_leads : (mode : Mode) (r h : ℕ) (f : HowFar) → CancelOp mode → cancel_target n s (op_of x.component n s) ≡ subtask_at (instance_of n s) h s → how_far_of n s ≡ f → Leads a s (cancel_row mode n r h s f)
-  unfolding cancel_resumed
+  unfolding cancel_resumed set_join on_call on_work set_saved_callee on_thread set_do_not_suspend on_instance
   cancel_row_leads mode r h (HowFar.Cancels sub) by target far =
       let has : HasSubtask a n sub = ByOp (ap (λ y. subtask_under_way y) far) in
-      cancel_by_end_leads mode r sub (cancel_resumed n sub s) (subtask_ended sub (cancel_resumed n sub s)) by (ap (cancelled_of_op x.component n s) far) (event_resumed n sub s) (inr (inl far)) (inr far)
+      cancel_by_end_leads mode r sub (cancel_resumed n sub s) (subtask_ended sub (cancel_resumed n sub s)) by (ap (cancelled_of_op x.component n s) far) (grind (arith, nat_tests, get-change)) (inr (inl far)) (inr far)
       (join_walks n refl sub Join.Nowhere (n, (refl, has)) (word (SetSavedCallee n None) tt (put_back_walks n refl (saved_callee_of n s) (subtask_instance sub s) NoWord)))
   cancel_row_leads mode r h (HowFar.AwaitsEnd sub) by target far =
       let has : HasSubtask a n sub = ByOp (ap (λ y. subtask_under_way y) far) in
       let t = set_join sub Join.Nowhere s in
-      cancel_ended_row_leads mode r sub t (undelivered_end (event_of sub t)) (ap (cancelled_of_op x.component n s) far) (ap (λ o. undelivered_end o) (sym (event_joined sub Join.Nowhere s))) (inr (inr far)) (join_walks n refl sub Join.Nowhere (n, (refl, has)) NoWord)
+      cancel_ended_row_leads mode r sub t (undelivered_end (event_of sub t)) (ap (cancelled_of_op x.component n s) far) (grind (arith, nat_tests, get-change)) (inr (inr far)) (join_walks n refl sub Join.Nowhere (n, (refl, has)) NoWord)
   cancel_row_leads mode r h f by target far =
       or_trap_leads a s (subtask_at (instance_of n s) h s) Trap.BadHandle _ (λ sub named.
       trap_if_leads a s (is_joined (join_of sub s)) Trap.WaitableSyncAndAsync _ (λ free.
@@ -459,25 +401,17 @@ module _ (x : Setting) (main : Main) (s : Core) (n : ℕ) (l : Label) (next : Tu
 
   -- ---- Dropping
 
-  still_ended : (i j h : ℕ) (t : Core) → is_stage_ended (stage_of i t) ≡ true → is_stage_ended (stage_of i (free_handle j h (set_subtask_handle (Subtask.Host i) None (set_join (Subtask.Host i) Join.Nowhere t)))) ≡ true
-  unfolding free_handle set_subtask_handle set_join on_work
-  still_ended i j h t e = grind (arith, nat_tests, get-change)
-
-  still_over : (k j h : ℕ) (t : Core) → has_ended k t ≡ true → has_ended k (free_handle j h (set_subtask_handle (Subtask.Guest k) None (set_join (Subtask.Guest k) Join.Nowhere t))) ≡ true
-  unfolding free_handle set_subtask_handle set_join on_call
-  still_over k j h t e = grind (arith, nat_tests, get-change)
-
   dropped_walks : (h : ℕ) (sub : Subtask) → subtask_at (instance_of n s) h s ≡ Some sub → subtask_ended sub s ≡ true → Going a s n (dropped n h sub s)
-  unfolding dropped set_join on_call on_work
+  unfolding dropped set_join on_call on_work free_handle set_subtask_handle
   dropped_walks h (Subtask.Guest k) named ended =
       let sub = Subtask.Guest k in
       let t = set_join sub Join.Nowhere s in
-      advanced_walks n refl on (call_settled_walks k (λ gone. still_over k (instance_of n s) h s ended) (word (UnnameCall (instance_of n s) h k) (n, (refl, (refl, (named, set_none_join sub s)))) (join_walks n refl sub Join.Nowhere (n, (refl, ByHandle h named)) NoWord)))
+      advanced_walks n refl on (call_settled_walks k (λ gone. grind (arith, nat_tests, get-change, ended)) (word (UnnameCall (instance_of n s) h k) (n, (refl, (refl, (named, grind (arith, nat_tests, get-change))))) (join_walks n refl sub Join.Nowhere (n, (refl, ByHandle h named)) NoWord)))
   dropped_walks h (Subtask.Host i) named ended =
       let sub = Subtask.Host i in
       let t = set_join sub Join.Nowhere s in
-      advanced_walks n refl on (work_deleted_walks n refl i (n, (refl, inr (ended, (freed_named (instance_of n s) h i (set_subtask_handle sub None t) ∙ work_unnamed i t, (still_ended i (instance_of n s) h s ended, (h, named))))))
-      (word (UnnameWork (instance_of n s) h i) (n, (refl, (refl, (named, set_none_join sub s)))) (join_walks n refl sub Join.Nowhere (n, (refl, ByHandle h named)) NoWord)))
+      advanced_walks n refl on (work_deleted_walks n refl i (n, (refl, inr (ended, (grind (arith, nat_tests, get-change), (grind (arith, nat_tests, get-change, ended), (h, named))))))
+      (word (UnnameWork (instance_of n s) h i) (n, (refl, (refl, (named, grind (arith, nat_tests, get-change))))) (join_walks n refl sub Join.Nowhere (n, (refl, ByHandle h named)) NoWord)))
 
   drop_row_leads : (h : ℕ) → Leads a s (drop_row n h s)
   drop_row_leads h =
@@ -546,8 +480,8 @@ module _ (x : Setting) (main : Main) (s : Core) (n : ℕ) (l : Label) (next : Tu
   then_promote_leads : (y : Halt) (k : ThreadLabel) (m : ℕ) (b : Bool) → HaltOp y → has_yielded m s ≡ b → Leads a s (then_promote y n (Label.Thread k) s m b)
   unfolding halted_promoting has_yielded
   then_promote_leads y k m true by at =
-      let ready = resumes_ready (place_of m s) (and_parts (option_map_or is_ready_to_resume (place_of m s) false) (is_yielded (how_far_of m s)) at).0 in
-      stop (pauses n) (halted_promoting y n m s) refl (λ leave. halted_walks y (promoted_unless m s) by leave (promoted_walks n m refl (ready_at (place_of m s) ready) NoWord))
+      let ready = and_parts (option_map_or is_ready_to_resume (place_of m s) false) (is_yielded (how_far_of m s)) at in
+      stop (pauses n) (halted_promoting y n m s) refl (λ leave. halted_walks y (promoted_unless m s) by leave (promoted_walks n m refl (ready_at (place_of m s) (inl ready.0)) NoWord))
   then_promote_leads y k m false by at = halts_leads y k (passes_check (instance_of n s) s) by
 
   then_promote_row_leads : (y : Halt) (h : ℕ) (k : ThreadLabel) → HaltOp y → Leads a s (then_promote_row y n h (Label.Thread k) s)

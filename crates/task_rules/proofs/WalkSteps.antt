@@ -1,19 +1,15 @@
 -- Each step as a chain of words: host works, main, the loop and all turns.
-use Rattle.task_rules.proofs.Machine.{[], Abort, aborted_phase, act_of, add_group, add_work, AddGroup, advanced_main, Answer, ap, arith, at_turn, Await, base_at, base_without, Began, begun_holder, blocked_on, Bool, ByProgram, ByScript, call_made, Callee, Caller, CallLabel, Chain, Choice, choice_of, Collapses, Core, count_work, Course, course_for, course_of, course_value, deadlock_trap, DeadlockStep, did, Does, EmptyFor, end_for, ended, Ends, EndWords, EndWork, Entry, entry_number, export_kind, Fails, FailsNow, Falls, false, Finish, finish_act, finish_result, finished_call, FinishWork, followed, FuturesStep, get, get-change, get-insert_same, get-remove, get-remove_same, Goal, Goes, goes_to, handed_by_main, HandsOut, has_end, has_interesting, has_moving_work, host_at, host_done, host_label, host_result, host_status, HostDef, inl, inr, is_aborted, is_async_work, is_complete, is_direct, is_free, is_none, is_ready_for_call, is_some, is_spawn, is_spawn_caller, is_stage_ended, is_unended_take, IsFall, IsRunner, join_of, Label, LastWords, length, line_of, List, LoopLabel, Main, main_aborted, main_outcome, main_row, main_spawned, main_started, MainAct, MainPlace, MainProgress, MainProgresses, MainStep, MakeCall, Mark, may, may_act, may_deadlock, may_publish, MayAbort, MayCall, MayFinish, nat_tests, Never, new_work, next_entry, next_polled, next_thread, next_work, None, not, NoWord, on_thread, on_work, Op, op_at, op_of, op_row, OpenAct, OpenProgresses, Option, option_map, option_map_or, Ordered, Outcome, outcome_of_label, Pend, Pends, Phase, phase_of, Place, place_of, Poll, poll_ends, poll_of, poll_pends, Polled, polled_in, Pop, popped, ProgramAborts, Progress, Progresses, push_high, pushed, Put, put_high, QueueWork, Quiet, Ready, refl, Refused, Remains, remove_thread, remove_threads, RemoveThread, RestStep, runner_at, SameMain, Scene, ScriptAborts, Scripted, ScriptStep, set_course, set_event, set_phase, set_place, set_stage, set_trapped, SetPhase, SetRegister, Setting, settled_turn, SetTrapped, Shifts, size, slice_get, Some, Spawn, spawned_at, SpawnsNamed, Stage, stage_of, Start, start_act, start_of, start_refusal, Started, started_at, started_end, Starts, State, Status, Step, StepsAreWalks, StillPends, Stops, strand_from, strand_of, struck, subst, Subtask, suc, sym, T, take_result, take_row, TakeHost, TakeLabel, TakePush, TakeResult, TakesResult, TakeStep, Then, Thread, thread_of_entry, Trap, trap_label, Traps, Trip, true, Turn, TurnStep, under_of, unless_pending, Unscripted, unwrap_or, Walk, Why, woken_of, Work, work_caller_of, work_queued, WorkCaller, Writes, WritesPolled, zero, ℕ, ⊎_elim, ◌&&◌, ◌++◌, ◌+◌, ◌-◌, ◌∙◌, ◌∷◌, ◌≡◌, ◌⊎◌}
-use Rattle.task_machine.specs.declared.label.MainLabel.{MainLabel}
-use Rattle.task_machine.specs.declared.scenario.MainOpDef.{MainOpDef}
+use Rattle.task_rules.proofs.Machine.{[], Abort, aborted_phase, act_of, add_group, add_work, AddGroup, advanced_main, Answer, ap, arith, at_turn, Await, base_at, base_without, Began, begun_holder, blocked_on, Bool, ByProgram, ByScript, call_made, Callee, Caller, CallLabel, Chain, Choice, choice_of, Collapses, Core, count_work, Course, course_for, course_of, course_value, deadlock_trap, DeadlockStep, did, Does, EmptyFor, end_for, ended, Ends, EndWords, EndWork, Entry, entry_number, export_kind, Fails, FailsNow, Falls, false, Finish, finish_act, finish_result, finished_call, FinishWork, followed, FuturesStep, get, get-change, get-insert_same, get-remove, get-remove_same, Goal, Goes, goes_to, handed_by_main, HandsOut, has_end, has_interesting, has_moving_work, host_at, host_done, host_label, host_result, host_status, HostDef, inl, inr, is_aborted, is_async_work, is_complete, is_direct, is_free, is_none, is_ready_for_call, is_some, is_spawn, is_spawn_caller, is_stage_ended, is_unended_take, IsFall, IsRunner, join_of, Label, LastWords, length, line_of, List, LoopLabel, Main, main_aborted, main_outcome, main_row, main_spawned, main_started, MainAct, MainLabel, MainOpDef, MainPlace, MainProgress, MainProgresses, MainStep, MakeCall, Mark, may, may_act, may_deadlock, may_publish, MayAbort, MayCall, MayFinish, nat_tests, Never, new_work, next_entry, next_polled, next_thread, next_work, None, not, NoWord, on_thread, on_work, Op, op_at, op_of, op_row, OpenAct, OpenProgresses, Option, option_map, option_map_or, Ordered, Outcome, outcome_of_label, Pend, Pends, Phase, phase_of, Place, place_of, Poll, poll_ends, poll_of, poll_pends, Polled, polled_in, Pop, popped, ProgramAborts, Progress, Progresses, push_high, pushed, Put, put_high, QueueWork, Quiet, Ready, refl, Refused, Remains, remove_thread, remove_threads, RemoveThread, RestStep, runner_at, SameMain, Scene, ScriptAborts, Scripted, ScriptStep, set_course, set_event, set_phase, set_place, set_stage, set_trapped, SetPhase, SetRegister, Setting, settled_turn, SetTrapped, Shifts, size, slice_get, Some, Spawn, spawned_at, SpawnsNamed, Stage, stage_of, Start, start_act, start_of, start_refusal, Started, started_at, started_end, Starts, State, Status, Step, StepsAreWalks, StillPends, Stops, strand_from, strand_of, struck, subst, Subtask, suc, sym, T, take_result, take_row, TakeHost, TakeLabel, TakePush, TakeResult, TakesResult, TakeStep, Then, Thread, thread_of_entry, Trap, trap_label, Traps, Trip, true, Turn, TurnStep, under_of, unless_pending, Unscripted, unwrap_or, Walk, Why, woken_of, Work, work_caller_of, work_queued, WorkCaller, Writes, WritesPolled, zero, ℕ, ⊎_elim, ◌&&◌, ◌++◌, ◌+◌, ◌-◌, ◌∙◌, ◌∷◌, ◌≡◌, ◌⊎◌}
 use Rattle.task_rules.specs.MainOps.{Answers}
 use Rattle.task_rules.proofs.MuteLemmas.{is_mute, mute_words, none_said, hands_by, writes_by}
 use Rattle.task_rules.proofs.SayLemmas.{finished_is, result_taken, said_is}
 use Rattle.task_rules.proofs.ChainLemmas.{Keep, join, keep_stay, trip_walk}
 use Rattle.task_rules.proofs.WalkTask.{is_exit_op, op_stands, Leads, data_row_leads, running_scene, task_row_leads, under_place, seen}
 use Rattle.task_rules.proofs.PlacingLemmas.{placed, popped_shifted}
-use Rattle.task_rules.proofs.WalkMoves.{blocked_at, chosen_in_of, published_work_shifts, shifted, unblocked_shifts, word, ChosenIn}
+use Rattle.task_rules.proofs.WalkMoves.{blocked_at, chosen_in_of, shifted, unblocked_shifts, word, published_shifts}
 use Rattle.task_rules.proofs.WalkOps.{set_row_leads, subtask_row_leads, thread_row_leads}
 use Rattle.task_rules.proofs.WalkParts.{Born, born_explicit, born_goal, born_place, call_born}
 use Rattle.task_rules.proofs.WalkTakes.{thread_taken_leads}
-
--- ---- What is read
 
 -- ---- A host call whose entry is taken
 
@@ -29,10 +25,6 @@ poll_ended : (i : ℕ) (v : Option ℕ) (s : Core) → has_end (course_of i (pol
 unfolding poll_ends set_phase set_course set_stage on_work put_high push_high set_place on_thread
 poll_ended i v s = grind (arith, nat_tests, get-change, course_ended v)
 
-host_tells : (i : ℕ) (w : Option ℕ) (s : Core) → may_publish (Subtask.Host i) w s ≡ true → ChosenIn (join_of (Subtask.Host i) (set_stage i Stage.Ended s)) w (set_stage i Stage.Ended s)
-unfolding may_publish set_stage on_work
-host_tells i w s may x is = chosen_in_of (join_of (Subtask.Host i) s) w s may x (grind (arith, nat_tests, get-change, is))
-
 -- the work has ended, and tells it
 abbrev told_end : ℕ → Core → Core
 told_end i s = set_event (Subtask.Host i) (Some (host_status (course_value (course_of i s)))) (set_stage i Stage.Ended s)
@@ -44,10 +36,11 @@ module _ {a : Scene} {b : Core} where
   host_result_walks _ v c = c
 
   host_done_walks : (i : ℕ) (w : Option ℕ) (s : Core) → may_publish (Subtask.Host i) w s ≡ true → Keep a b (told_end i s) → Keep a b (host_done i w s)
-  unfolding host_done
+  unfolding host_done may_publish set_stage on_work
   host_done_walks i w s may c =
       let v = course_value (course_of i s) in
-      host_result_walks (work_caller_of i s) v (shifted (published_work_shifts i (host_status v) w (set_stage i Stage.Ended s) (ended_stage i s) (host_tells i w s may)) c)
+      let t = set_stage i Stage.Ended s in
+      host_result_walks (work_caller_of i s) v (shifted (published_shifts (Subtask.Host i) (host_status v) w t (ended_stage i s) (λ y is. chosen_in_of (join_of (Subtask.Host i) s) w s may y (grind (arith, nat_tests, get-change, is)))) c)
 
 -- ---- A strand that falls
 
@@ -64,14 +57,11 @@ first_gone (suc k) n s = struck_gone n (option_map_or (strand_from k s) (under_o
 abbrev Fall : Scene → Core → Type 0
 Fall a t = Chain (IsFall a) a.base t
 
-removed_none : (n : ℕ) (t : Core) → is_none (get (remove_thread n t).threads n) ≡ true
-unfolding remove_thread
-removed_none n t = ap (λ (o : Option Thread). is_none o) (get-remove_same t.threads n)
-
 module _ {a : Scene} (over : a.next ≡ Turn.Over) where
   falls : (k n : ℕ) {t : Core} → IsRunner a n ⊎ ((m : ℕ) × ((place_of n a.base ≡ Some (Place.Under m)) × (is_none (get t.threads m) ≡ true))) → Fall a t → Fall a (remove_threads (strand_from k a.base n) t)
+  unfolding remove_thread
   falls zero n {t = t} may c = Then t (RemoveThread n) c (Falls over may)
-  falls (suc k) n {t = t} may c = below (λ m under d. falls k m (inr (n, (under, removed_none n t))) d) (under_of n a.base) refl (Then t (RemoveThread n) c (Falls over may))
+  falls (suc k) n {t = t} may c = below (λ m under d. falls k m (inr (n, (under, ap (λ (o : Option Thread). is_none o) (get-remove_same t.threads n)))) d) (under_of n a.base) refl (Then t (RemoveThread n) c (Falls over may))
     where
       below : ((m : ℕ) → place_of m a.base ≡ Some (Place.Under n) → Fall a (remove_thread n t) → Fall a (remove_threads (strand_from k a.base m) (remove_thread n t))) → (o : Option ℕ) → under_of n a.base ≡ o → Fall a (remove_thread n t) → Fall a (remove_threads (option_map_or (strand_from k a.base) o []) (remove_thread n t))
       below more None is d = d
@@ -122,10 +112,8 @@ abbrev SpawnTold : MainLabel → Core → Type 0
 SpawnTold k t = (i : ℕ) → spawn_in k ≡ Some i → is_spawn i t ≡ true
 
 at_end : (ss : List ℕ) (i n : ℕ) → (slice_get (ss ++ i ∷ []) n ≡ slice_get ss n) ⊎ (slice_get (ss ++ i ∷ []) n ≡ Some i)
-at_end [] i zero = inr refl
-at_end [] i (suc n) = inl refl
-at_end (s ∷ ss) i zero = inl refl
-at_end (s ∷ ss) i (suc n) = at_end ss i n
+at_end [] i n = grind arith
+at_end (s ∷ ss) i n = grind (arith, at_end ss i)
 
 advanced_spawns : (o : MainOpDef) (k : MainLabel) (p : MainPlace) (t : Core) → SpawnTold k t → SpawnsNamed p t (advanced_main o k p)
 advanced_spawns o (MainLabel.Spawn j i) p t told k = let now = told i refl in
