@@ -18,7 +18,7 @@ use Rattle.task_laws.specs.Order.{InOrder, OpeningInOrder}
 use Rattle.task_laws.proofs.ReachLemmas.{reached_step}
 use Rattle.task_laws.proofs.StepEnds.{Answered, CallsFound, CallsKnown, calls_known, step_ends}
 use Rattle.task_places.specs.Once.{RunsAreOnce, IsUnbegun}
-use Rattle.task_places.proofs.OrderLemmas.{asked, opening_in_order, step_in_order}
+use Rattle.task_places.proofs.OrderLemmas.{asked, held_of, opening_in_order, step_in_order}
 
 -- ---- What is known before a step
 
@@ -35,9 +35,6 @@ record Known (x : Setting) (s : State) : Type 0 where
   callers : CallersKnown s.core
   zero : MayBeAborted s.core 0
   over : DueOver s.core
-
-held_of : (x : Setting) (s : State) → InOrder x.component s → CallsHold x.component s.core
-held_of x s h = record { numbered = h.numbered; kinds = h.kinds; deliveries = h.deliveries }
 
 named_there : (k h : ℕ) (s : Core) → subtask_handle (Subtask.Guest k) s ≡ Some h → is_some (get s.calls k) ≡ true
 named_there k h s e = grind arith
@@ -118,7 +115,7 @@ module _ (x : Setting) (s : State) (l : Label) (t : State) (k : Known x s) (step
   answered n i runner far = (ap (λ c. is_sync_work c) (callers_base n i far), (asked x s l t k.order w n i runner far).1)
 
   holds : CallsHold x.component s.core
-  holds = held_of x s k.order
+  holds = held_of k.order
 
   found : CallsFound a
   found = record {

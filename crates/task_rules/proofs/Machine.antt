@@ -37,7 +37,7 @@ unfoldable pub use Rattle.task_rules.specs.Ends.{blocking_exits, cancelled, code
 pub use Rattle.task_rules.specs.History.{history, Moment}
 pub use Rattle.task_rules.specs.Laws.{BlockingCheckIsAfter, CallbackCheckIsAfter, CheckMovesOne, EachStep, is_free, KeptByRuns, LaterBy, LaterCall, LaterWork, NeverFewer, OutcomeEnds, OutcomeIsLast, OverIsLast, Promotes, PromotionMovesOne, RunGoesOn, RunsJoin, SameLimits, SameThread, Steady, Takes}
 unfoldable pub use Rattle.task_rules.specs.Laws.{ReleaseKeepsPlaces, RemovalKeepsPlaces, StopKeepsPlaces, WakeKeepsPlaces}
-pub use Rattle.task_rules.specs.MainOps.{Abort, act_of, advanced_main, Answer, Await, Does, Finish, finish_act, finish_result, is_complete, is_spawn, is_spawn_caller, line_of, main_row, MainAct, MainProgress, may_act, op_at, Pends, Quiet, Ready, Spawn, spawned_at, Start, start_act, started_at, unless_pending}
+pub use Rattle.task_rules.specs.MainOps.{Abort, act_of, advanced_main, Answer, Await, Does, Finish, finish_act, finish_result, is_complete, is_spawn, line_of, main_row, MainAct, MainProgress, may_act, op_at, Pends, Quiet, Ready, Spawn, spawned_at, Start, start_act, started_at, unless_pending}
 unfoldable pub use Rattle.task_rules.specs.MainOps.{has_interesting, is_ready_for_call, main_aborted, main_spawned, main_started, start_refusal}
 pub use Rattle.task_rules.specs.Once.{begun_holder, changes_end, covers_end, end_code, EndsOnce, handed, hands_out, hands_out_written, holder_at_exit, holder_at_start, holds_one, is_among, is_end_of, is_known, is_other, is_start, is_written, less_holder, returned_holder, same_end, with_end, with_holder, writes_end, written}
 pub use Rattle.task_rules.specs.OpParts.{callee_of_op, can_come, ends_activation, is_cancel, is_code_op, is_sync_call, is_sync_cancel, is_sync_host_call, is_thread_op, is_wait, suspends, yields}
