@@ -384,11 +384,7 @@ main_step_walks x s l (Scripted p) t at is = script_step_walks x s l p (op_at x.
 main_step_walks x s (Label.Loop LoopLabel.MainPends) Unscripted t at is = pends_here x s (Label.Loop LoopLabel.MainPends) t refl is
 main_step_walks x s l Unscripted t at is = open_act_walks x s l is.0 is.1.0 t at is.1.1
 
--- the scene of the step, at its turn
-abbrev scene_at_turn : Setting → State → Label → Turn → Turn → Scene
-scene_at_turn x s l u next = record { setting = x; main = s.main; turn = u; base = base_at u s.core; runner = runner_at u s.core; label = l; next = next }
-
-turn_step_walks : (x : Setting) (s : State) (u : Turn) (l : Label) (t : State) → TurnStep x s u l t → WalkedBy (scene_at_turn x s l u) s.core s.main t
+turn_step_walks : (x : Setting) (s : State) (u : Turn) (l : Label) (t : State) → TurnStep x s u l t → WalkedBy (λ next. record { setting = x; main = s.main; turn = u; base = base_at u s.core; runner = runner_at u s.core; label = l; next = next }) s.core s.main t
 unfolding did
 turn_step_walks x s Turn.Main l t is = main_step_walks x s l s.main t refl is
 turn_step_walks x s (Turn.Futures n) l t is = futures_walk x s l n (next_polled n s.core) t refl is
