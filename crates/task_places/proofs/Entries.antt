@@ -103,9 +103,6 @@ popped_quiet Mark.Switch e s f other = absurd (subst T (sym (sym (other f.0) ∙
 popped_quiet Mark.High e s f other = record { places = λ k. refl; switch = λ k. refl; high = λ k. rest_same k e s.queues.high f (other k); low = λ k. refl; callers = refl; made = le_refl _ }
 popped_quiet Mark.Low e s f other = record { places = λ k. refl; switch = λ k. refl; high = λ k. refl; low = λ k. rest_same k e s.queues.low f (other k); callers = refl; made = le_refl _ }
 
-pub pushed_same : (k : ℕ) (es : List Entry) (e : Entry) → is_entry_of k e ≡ false → entries k (es ++ e ∷ []) ≡ entries k es
-pushed_same k es e other = let x = entries-append k es e in let y = ap one_if other in omega (arith, x, y)
-
 -- ---- An entry is promoted
 
 pub promoted_stand : {P : ℕ → Watch} (n : ℕ) (q : Option Place) (m : ℕ) (x : Mark) (w : Why) (s : Core) → (m == n) ≡ false →

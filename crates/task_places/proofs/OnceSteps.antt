@@ -5,6 +5,8 @@ use Rattle.task_laws.proofs.Basics.{no_way}
 use Rattle.task_laws.proofs.CallsLaw.{CallsHold}
 use Rattle.task_laws.proofs.CallsSteps.{of_base}
 use Rattle.task_rules.proofs.MoveLemmas.{at_place}
+use Rattle.std.proofs.Common.{⊎_elim}
+use Rattle.task_rules.specs.Run.{main_opening}
 use Rattle.task_laws.specs.Settings.{Reached}
 use Rattle.task_rules.proofs.ChainLemmas.{along}
 use Rattle.task_laws.proofs.CallEnds.{EndsTold, opening_ends_told}
@@ -28,7 +30,6 @@ abbrev DueOver : Core → Type 0
 DueOver s = (sub : Subtask) (e : Status) → Due sub e s → Over sub s
 
 record Known (x : Setting) (s : State) : Type 0 where
-  reached : Reached x s
   order : InOrder x.component s
   told : EndsTold s.core
   works : WorksHold (Unit {0}) s.core
@@ -36,20 +37,6 @@ record Known (x : Setting) (s : State) : Type 0 where
   callers : CallersKnown s.core
   zero : MayBeAborted s.core 0
   over : DueOver s.core
-
-reached_step : (x : Setting) (s : State) (l : Label) (t : State) → Reached x s → Step x s l t → Reached x t
-reached_step x s l t r step = record {
-  scripts = r.scripts;
-  instances = r.instances;
-  handle_limit = r.handle_limit;
-  capacity = r.capacity;
-  main = r.main;
-  labels = r.labels ++ l ∷ [];
-  run = run_goes_on x (opening r.instances r.handle_limit r.capacity r.main) r.labels s l t r.run step;
-}
-
-named_there : (k h : ℕ) (s : Core) → subtask_handle (Subtask.Guest k) s ≡ Some h → is_some (get s.calls k) ≡ true
-named_there k h s e = grind arith
 
 spawn_may : (i : ℕ) (s : Core) → WorksHold (Unit {0}) s → is_spawn i s ≡ true → MayBeAborted s i
 spawn_may i s works h =
@@ -60,10 +47,6 @@ waited_there : (n i : ℕ) (s : Core) → work_caller_of i s ≡ WorkCaller.Sync
     (v : Doing) × ((doing_of i s ≡ Some v) × ((is_sync_work v.caller ≡ true) × (is_late v.stage ≡ true)))
 waited_there n i s caller ended =
     let r = at_place (λ w. is_sync_work w.caller && is_late w.stage) (get s.works i) (grind arith) in (doing r.0, (ap (option_map doing) r.1.0, grind arith))
-
-abbrev is_script : Main → Bool
-is_script (Scripted p) = true
-is_script Unscripted = false
 
 module _ (x : Setting) (s : State) (l : Label) (t : State) (k : Known x s) (step : Step x s l t) where
   w : Walked x s l t
@@ -121,16 +104,12 @@ module _ (x : Setting) (s : State) (l : Label) (t : State) (k : Known x s) (step
   spawns_after : (p : MainPlace) (j : ℕ) → t.main ≡ Scripted p → MayBeAborted t.core (spawned_at p j)
   spawns_after p j at = by s.main refl t.main at w.main
     where
-      place_in : Main → MainPlace
-      place_in (Scripted q) = q
-      place_in Unscripted = p
-
-      named : (o : MainPlace) → s.main ≡ Scripted o → ((n : ℕ) × (spawned_at p j ≡ spawned_at o n)) ⊎ (is_spawn (spawned_at p j) t.core ≡ true) → MayBeAborted t.core (spawned_at p j)
-      named o was (inl (n, same)) = subst (MayBeAborted t.core) (sym same) (works_after.1.1.0 (spawned_at o n) (k.unnamed.spawns o n was))
-      named o was (inr is) = spawn_may (spawned_at p j) t.core works_after.0.holds is
-
       by : (m : Main) → s.main ≡ m → (n : Main) → n ≡ Scripted p → SameMain m t.core n → MayBeAborted t.core (spawned_at p j)
-      by (Scripted o) was (Scripted q) is same = named o was (subst (λ (r : MainPlace). ((n : ℕ) × (spawned_at r j ≡ spawned_at o n)) ⊎ (is_spawn (spawned_at r j) t.core ≡ true)) (ap place_in is) (same j))
+      by (Scripted o) was (Scripted q) is same =
+          let e : q ≡ p = cc in
+          subst (λ r. MayBeAborted t.core (spawned_at r j)) e
+          (⊎_elim (λ n. subst (MayBeAborted t.core) (sym n.1) (works_after.1.1.0 (spawned_at o n.0) (k.unnamed.spawns o n.0 was)))
+          (λ spawn. spawn_may (spawned_at q j) t.core works_after.0.holds spawn) (same j))
       by m was n is same = absurd (grind arith)
 
   answered : Answered a
@@ -142,7 +121,7 @@ module _ (x : Setting) (s : State) (l : Label) (t : State) (k : Known x s) (step
   found : CallsFound a
   found = record {
     own = λ n runner. to_base (λ c. is_some (get c.calls (task_of n c)) ≡ true) (let there = runner_there x s l w.next k.order.in_place n runner in grind (arith, k.order.calls_there n (task_of n s.core)));
-    named = λ j named. to_base (λ c. (i h : ℕ) → subtask_at i h c ≡ Some (Subtask.Guest j) → is_some (get c.calls j) ≡ true) (λ i h e. named_there j h s.core (k.order.names.there i h j e)) (instance_of named.0 a.base) named.1.0 named.1.1.1;
+    named = λ j named. to_base (λ c. (i h : ℕ) → subtask_at i h c ≡ Some (Subtask.Guest j) → is_some (get c.calls j) ≡ true) (λ i h e. let there = k.order.names.there i h j e in grind arith) (instance_of named.0 a.base) named.1.0 named.1.1.1;
   }
 
   calls : CallsKnown x s t.core a
@@ -153,7 +132,6 @@ module _ (x : Setting) (s : State) (l : Label) (t : State) (k : Known x s) (step
 
   known_after : Known x t
   known_after = record {
-    reached = reached_step x s l t k.reached step;
     order = step_in_order x s l t k.order step;
     told = calls.told;
     works = works_after.0.holds;
@@ -174,14 +152,11 @@ zero_unmade : (instances handle_limit capacity : ℕ) → MayBeAborted (fresh in
 unfolding fresh
 zero_unmade instances handle_limit capacity = record { made = le_refl _; other = grind (arith, get-empty) }
 
-opening_spawns : (instances handle_limit capacity : ℕ) (main : Main) → IsUnbegun main → (p : MainPlace) (j : ℕ) → main ≡ Scripted p → MayBeAborted (fresh instances handle_limit capacity) (spawned_at p j)
-opening_spawns instances handle_limit capacity Unscripted begun p j is = no_way (ap is_script is)
-opening_spawns instances handle_limit capacity (Scripted q) begun p j is = subst (λ (n : ℕ). MayBeAborted (fresh instances handle_limit capacity) n) (ap (λ (r : MainPlace). spawned_at r j) (sym begun ∙ ap place_in is)) (none_spawned (j - 1))
+opening_spawns : (instances handle_limit capacity : ℕ) (main : Main) → IsUnbegun main → (p : MainPlace) (j : ℕ) → main ≡ Scripted p →
+    MayBeAborted (fresh instances handle_limit capacity) (spawned_at p j)
+opening_spawns instances handle_limit capacity Unscripted begun p j is = absurd (cc)
+opening_spawns instances handle_limit capacity (Scripted q) begun p j is = let e : p ≡ main_opening = cc in rw e (none_spawned (j - 1))
   where
-    place_in : Main → MainPlace
-    place_in (Scripted r) = r
-    place_in Unscripted = q
-
     none_spawned : (n : ℕ) → MayBeAborted (fresh instances handle_limit capacity) (unwrap_or (slice_get [] n) 0)
     none_spawned zero = zero_unmade instances handle_limit capacity
     none_spawned (suc n) = zero_unmade instances handle_limit capacity
@@ -192,7 +167,6 @@ runs_are_once x codes instances handle_limit capacity main begun ls t run =
     let s : State = opening instances handle_limit capacity main in
     ends_once x (Known x) (λ s l t k step. known_after x s l t k step) (λ s l t k step sub. end_step x s l t k step sub) s
     (record {
-      reached = record { scripts = codes; instances = instances; handle_limit = handle_limit; capacity = capacity; main = main; labels = []; run = refl };
       order = opening_in_order x.component codes instances handle_limit capacity main;
       told = opening_ends_told instances handle_limit capacity;
       works = opening_works instances handle_limit capacity;

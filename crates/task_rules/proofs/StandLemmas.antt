@@ -70,16 +70,8 @@ pub record Loose (n : ℕ) (s : Core) : Type 0 where
   pub low : entries n s.queues.low ≡ 0
   pub callers : (f : ℕ) → times n (callers_of f s) ≡ 0
 
--- what is said of the callers of a thread that may be gone
-pub none_there : (b : Bool) (x : ℕ) → x ≡ 0 → (if b then x else 0) ≡ 0
-none_there b x h = grind arith
-
 pub zero_one : {A : Type 0} {x : ℕ} → x ≡ 0 → x ≡ 1 → A
 zero_one {A = A} h g = absurd (omega (arith, h, g))
-
--- a loose thread that is gone has its place
-pub loose_gone : (n : ℕ) (s : Core) → place_of n s ≡ None → Loose n s → HasPlace n s
-loose_gone n s is l = grind arith
 
 -- who is among the callers of f is behind f
 pub callers_say : (n f : ℕ) (s : Core) → HasPlace n s → times n (callers_of f s) ≤ says (is_behind_of f) (place_of n s)
