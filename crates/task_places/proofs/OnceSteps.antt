@@ -1,12 +1,9 @@
 -- Each step owes of the ends what it should, and so each run has each end once.
-use Rattle.task_rules.proofs.Machine.{[], AbortsOwn, ap, arith, base_at, Bool, Call, Core, false, fresh, get, get-empty, inl, inr, instance_of, is_some, is_spawn, is_spawn_caller, is_stage_ended, Label, le_refl, Main, MainPlace, MayAbort, opening, option_map, Place, ProgramAborts, refl, SameMain, Scene, scene_of, ScriptAborts, Scripted, Setting, slice_get, Some, spawned_at, stage_of, State, Status, Step, subst, Subtask, subtask_at, subtask_handle, suc, sym, task_of, true, Unscripted, unwrap_or, Walked, Work, work_caller_of, WorkCaller, zero, ℕ, ◌&&◌, ◌++◌, ◌-◌, ◌∙◌, ◌∷◌, ◌≡◌, ◌≤◌, ◌⊎◌}
-use Rattle.task_laws.proofs.NamedWorks.{NamesNoSync, abort_kept, caller_is, names_word, opening_names}
+use Rattle.task_rules.proofs.Machine.{[], AbortsOwn, ap, arith, base_at, Core, fresh, get, get-empty, instance_of, is_some, is_spawn, Label, le_refl, Main, main_opening, MainPlace, MayAbort, opening, ProgramAborts, refl, SameMain, Scene, scene_of, ScriptAborts, Scripted, Setting, slice_get, Some, spawned_at, State, Status, Step, subst, Subtask, subtask_at, suc, sym, task_of, true, Unscripted, unwrap_or, Walked, zero, ℕ, ⊎_elim, ◌-◌, ◌≡◌, ◌≤◌, ◌⊎◌}
+use Rattle.task_laws.proofs.NamedWorks.{NamesNoSync, abort_kept, names_word, opening_names}
 use Rattle.task_laws.proofs.Basics.{no_way}
 use Rattle.task_laws.proofs.CallsLaw.{CallsHold}
 use Rattle.task_laws.proofs.CallsSteps.{of_base}
-use Rattle.task_rules.proofs.MoveLemmas.{at_place}
-use Rattle.std.proofs.Common.{⊎_elim}
-use Rattle.task_rules.specs.Run.{main_opening}
 use Rattle.task_laws.specs.Settings.{Reached}
 use Rattle.task_rules.proofs.ChainLemmas.{along}
 use Rattle.task_laws.proofs.CallEnds.{EndsTold, opening_ends_told}
@@ -14,11 +11,10 @@ use Rattle.task_laws.proofs.OnceLemmas.{Due, Over, EndStep, due_over, ends_once}
 use Rattle.task_laws.proofs.SceneLemmas.{base_is, runner_there}
 use Rattle.task_laws.specs.Ends.{is_sync_work, MayBeAborted, SyncUnnamed}
 use Rattle.task_laws.proofs.SyncWorks.{CallersKnown, callers_word, opening_callers}
-use Rattle.task_laws.proofs.WorksCame.{Doing, doing, doing_of, is_late}
-use Rattle.task_laws.proofs.Works.{AbortsNoSync, WorksGo, WorksHold, number_of, opening_works, first_works, works_word}
+use Rattle.task_laws.proofs.WorksCame.{Doing, doing_of}
+use Rattle.task_laws.proofs.Works.{WorksGo, WorksHold, number_of, opening_works, first_works, works_word}
 use Rattle.task_rules.proofs.WalkSteps.{step_walks}
 use Rattle.task_laws.specs.Order.{InOrder, OpeningInOrder}
-use Rattle.task_rules.proofs.LawLemmas.{run_goes_on}
 use Rattle.task_laws.proofs.StepEnds.{Answered, CallsFound, CallsKnown, calls_known, step_ends}
 use Rattle.task_places.specs.Once.{RunsAreOnce, IsUnbegun}
 use Rattle.task_places.proofs.OrderLemmas.{asked, held_of, opening_in_order, step_in_order}
@@ -38,15 +34,8 @@ record Known (x : Setting) (s : State) : Type 0 where
   zero : MayBeAborted s.core 0
   over : DueOver s.core
 
-spawn_may : (i : ℕ) (s : Core) → WorksHold (Unit {0}) s → is_spawn i s ≡ true → MayBeAborted s i
-spawn_may i s works h =
-    let r = at_place (λ w. is_spawn_caller w.caller) (get s.works i) h in
-    record { made = number_of works i (doing r.0) (ap (option_map doing) r.1.0); other = grind arith }
-
-waited_there : (n i : ℕ) (s : Core) → work_caller_of i s ≡ WorkCaller.Sync n → is_stage_ended (stage_of i s) ≡ true →
-    (v : Doing) × ((doing_of i s ≡ Some v) × ((is_sync_work v.caller ≡ true) × (is_late v.stage ≡ true)))
-waited_there n i s caller ended =
-    let r = at_place (λ w. is_sync_work w.caller && is_late w.stage) (get s.works i) (grind arith) in (doing r.0, (ap (option_map doing) r.1.0, grind arith))
+spawn_is : {S : Type 0} {s : Core} → WorksHold S s → (i : ℕ) → is_spawn i s ≡ true → MayBeAborted s i
+spawn_is h i is = record { made = h.stand.number i (grind arith); other = grind arith }
 
 module _ (x : Setting) (s : State) (l : Label) (t : State) (k : Known x s) (step : Step x s l t) where
   w : Walked x s l t
@@ -74,13 +63,10 @@ module _ (x : Setting) (s : State) (l : Label) (t : State) (k : Known x s) (step
   callers_base = to_base CallersKnown k.callers
 
   -- nothing that is aborted is a sync call's
-  unsync : AbortsNoSync a
-  unsync i may = let q = aborted may in (q.made, λ u e. ap (λ y. is_sync_work y) (sym (caller_is i a.base u e)) ∙ q.other)
-    where
-      aborted : MayAbort a i → MayBeAborted a.base i
-      aborted (AbortsOwn (n, (h, (runner, named)))) = names_base (instance_of n a.base) h i named
-      aborted (ScriptAborts p j main is) = subst (MayBeAborted a.base) (sym is) (at_base (spawned_at p j) (k.unnamed.spawns p j main))
-      aborted (ProgramAborts main is) = at_base i (spawn_may i s.core k.works (from_base (λ c. is_spawn i c ≡ true) is))
+  unsync : (i : ℕ) → MayAbort a i → MayBeAborted a.base i
+  unsync i (AbortsOwn (n, (h, (runner, named)))) = names_base (instance_of n a.base) h i named
+  unsync i (ScriptAborts p j main is) = at_base i (rw is (k.unnamed.spawns p j main))
+  unsync i (ProgramAborts main is) = at_base i (spawn_is k.works i (from_base (λ c. is_spawn i c ≡ true) is))
 
   abbrev Kept : Core → Type 0
   Kept u = WorksGo (Unit {0}) a u × (NamesNoSync u × (((i : ℕ) → MayBeAborted s.core i → MayBeAborted u i) × CallersKnown u))
@@ -93,7 +79,7 @@ module _ (x : Setting) (s : State) (l : Label) (t : State) (k : Known x s) (step
         (
           names_word a v u ok q.0.holds q.1.0,
           (
-            λ i h. abort_kept a v u ok q.0.holds i (q.1.1.0 i h),
+            λ i h. abort_kept a v u ok i (q.1.1.0 i h),
             callers_word a (to_base (λ c. (i : ℕ) (v : Doing) → doing_of i c ≡ Some v → i ≤ c.made.works) (number_of k.works)) callers_base names_base v u ok
                 q.0 (λ i h. q.1.1.0 i (at_first i h)) q.1.1.1,
           ),
@@ -109,11 +95,11 @@ module _ (x : Setting) (s : State) (l : Label) (t : State) (k : Known x s) (step
           let e : q ≡ p = cc in
           subst (λ r. MayBeAborted t.core (spawned_at r j)) e
           (⊎_elim (λ n. subst (MayBeAborted t.core) (sym n.1) (works_after.1.1.0 (spawned_at o n.0) (k.unnamed.spawns o n.0 was)))
-          (λ spawn. spawn_may (spawned_at q j) t.core works_after.0.holds spawn) (same j))
+          (λ spawn. spawn_is works_after.0.holds (spawned_at q j) spawn) (same j))
       by m was n is same = absurd (grind arith)
 
   answered : Answered a
-  answered n i runner far = waited_there n i a.base (callers_base n i far) (asked x s l t k.order w n i runner far).1
+  answered n i runner far = (ap (λ c. is_sync_work c) (callers_base n i far), (asked x s l t k.order w n i runner far).1)
 
   holds : CallsHold x.component s.core
   holds = held_of k.order
@@ -133,7 +119,7 @@ module _ (x : Setting) (s : State) (l : Label) (t : State) (k : Known x s) (step
   known_after : Known x t
   known_after = record {
     order = step_in_order x s l t k.order step;
-    told = calls.told;
+    told = calls.ends.told;
     works = works_after.0.holds;
     unnamed = record { works = works_after.1.0; spawns = spawns_after };
     callers = works_after.1.1.1;
@@ -146,7 +132,7 @@ module _ (x : Setting) (s : State) (l : Label) (t : State) (k : Known x s) (step
 none_due : (instances handle_limit capacity : ℕ) (sub : Subtask) (e : Status) → Due sub e (fresh instances handle_limit capacity) → ⊥
 unfolding fresh
 none_due instances handle_limit capacity (Subtask.Guest j) e due = absurd (grind (arith, get-empty))
-none_due instances handle_limit capacity (Subtask.Host i) e (v, (at, due)) = absurd (grind (arith, get-empty))
+none_due instances handle_limit capacity (Subtask.Host i) e due = absurd (grind (arith, get-empty))
 
 zero_unmade : (instances handle_limit capacity : ℕ) → MayBeAborted (fresh instances handle_limit capacity) 0
 unfolding fresh

@@ -33,10 +33,6 @@ pub ends_untold : (k : ℕ) (e : CallEnd) (s : Core) → is_told k s ≡ false �
 unfolding set_end on_call
 ends_untold k e s untold = ap (λ (m : Records Call). record s { calls = m }) (same_map _ _ (λ q. grind (arith, nat_tests, get-change)))
 
-ends_goal : (k : ℕ) (e : CallEnd) (s : Core) → goal_of k (call_ends k e s) ≡ goal_of k s
-unfolding on_call
-ends_goal k e s = grind (arith, nat_tests, get-change)
-
 -- the event may be set before the result is given
 told_given : (g : Goal) (f : Caller) (k v : ℕ) (e : Status) (s : Core) →
     set_event (Subtask.Guest k) (Some e) (result_given g f k v s) ≡ result_given g f k v (set_event (Subtask.Guest k) (Some e) s)
@@ -53,13 +49,9 @@ given_over : (g : Goal) (f : Caller) (k v : ℕ) (e : CallEnd) (n : ℕ) (y : St
 unfolding set_event set_end on_call give_result set_register on_thread set_result
 given_over g f k v e n y s = (grind (arith, nat_tests, get-change), grind (arith, nat_tests, get-change))
 
-end_over : (k : ℕ) (e : CallEnd) (s : Core) → is_over k (set_end k e s) ≡ true
-unfolding set_end on_call
-end_over k e s = grind (arith, nat_tests, get-change)
-
 pub ended_last : (n k : ℕ) (e : CallEnd) (s : Core) → task_of n s ≡ k → LastEnds n (set_end k e s)
 unfolding set_end on_call
-ended_last n k e s is u same gone = let over = end_over k e s in grind arith
+ended_last n k e s is u same gone = grind (arith, nat_tests, get-change, is)
 
 pub returned_last : (n k v : ℕ) (w : Option ℕ) (s : Core) → ToldTo k w s → task_of n s ≡ k → LastEnds n (returned k v w s)
 unfolding returned
@@ -91,9 +83,9 @@ module _ {a : Scene} {b : Core} where
       (λ untold. subst (λ (u : Core). Keep a b u) (sym (ap (result_given g f k v) (ends_untold k e s (sym is ∙ untold)))) c)
 
   pub returned_rest : (k v : ℕ) (w : Option ℕ) (s : Core) → SaysEnd a k Status.Returned → ToldTo k w s → Keep a b (call_ends k CallEnd.Returned s) → Keep a b (returned k v w s)
-  unfolding returned
+  unfolding returned on_call
   returned_rest k v w s says to c =
-      ends_rest (goal_of k s) (caller_of k s) k v CallEnd.Returned w s (λ e. absurd (cc)) to (result_given_walks (goal_of k s) (caller_of k s) k v (ends_goal k CallEnd.Returned s) says c)
+      ends_rest (goal_of k s) (caller_of k s) k v CallEnd.Returned w s (λ e. absurd (cc)) to (result_given_walks (goal_of k s) (caller_of k s) k v (grind (arith, nat_tests, get-change)) says c)
 
   pub cancelled_rest : (k : ℕ) (w : Option ℕ) (s : Core) → ToldTo k w s → Keep a b (call_ends k CallEnd.ReturnCancelled s) → Keep a b (cancelled k w s)
   unfolding cancelled

@@ -1,5 +1,5 @@
 -- The moves of the machine as chains of words.
-use Rattle.task_rules.proofs.Machine.{[], add_call, add_group, add_set, add_thread, add_work, Advance, after_placing, after_word, ap, arith, AtOp, blocked_on, Bool, ByHandle, call_group, call_made, call_settled, can_come, CanCome, checked, chosen, Core, count_work, Delivery, departed, end_of, ended, exited_if, false, first_entry, free_handle, free_thread_handle, freed_thread_handle, FreeThreadHandle, get, get-change, get-insert, get-remove, get-remove_same, Gift, give_handle, give_result, give_thread_handle, group_settled, handed_on, hands_on, has_ended, held_why_of, HowFar, if◌then◌else◌, InOp, inr, instance_of, interest_settled, is_at, is_blocked_on, is_callback_waiter, is_deletable, is_done_host, is_explicit, is_finished, is_group_done, is_over, is_some, is_told, is_waiter, is_waiting_on, IsNamed, IsRunner, IsSettling, IsStarting, Join, join_of, Lands, LandsAt, le_refl, le_trans, Leaves, List, MakeThread, Mark, may_hand_on, may_not_suspend, may_publish, may_tell, may_wake, may_wake_joined, MayCome, MayDeliver, MayLand, MayPut, MayRemoveCall, MemberGift, nat_tests, NoGift, None, not, NoWord, numbers, on_call, on_instance, on_thread, on_work, op_in, Option, option_map, option_map_or, OwnEvent, OwnGift, Place, place_of, Places, Placing, poll_pends, position_of, Promote, promoted, promoted_first, promoted_unless, published, push_high, Put, put_at, put_high, Quits, Records, refl, released, released_one, Releases, remove, remove_call, remove_group, remove_set, remove_thread, remove_work, RemoveCall, RemoveGroup, RemoveThread, Restart, same_subtask, Scene, set_backpressure, set_cancel_delivered, set_cancelled, set_course, set_do_not_enter, set_do_not_suspend, set_end, set_event, set_exited, set_how_far, set_join, set_own_event, set_phase, set_position, set_register, set_result, set_saved_callee, set_saved_own, set_script, set_stage, set_started, set_starting_published, set_subtask_handle, set_thread_handle, set_trapped, set_uninteresting, set_word, SetCallEvent, SetCancelDelivered, SetExited, SetOwnEvent, Settles, SetUninteresting, Shifts, Some, Status, Stay, Stop, stopped, subst, Subtask, sym, take_result, TakeHost, taken, TakePush, TakesNamed, TakeWorkEvent, task_of, Tells, Then, Thread, thread_handle_of, told, Trip, true, Turn, unblocked, Unblocks, wake, wake_joined, wake_why, waken_by, Wakes, Why, with_handle, with_thread_handle, Word, work_queued, ℕ, ◌||◌, ◌∙◌, ◌∷◌, ◌≡◌, ◌≤◌}
+use Rattle.task_rules.proofs.Machine.{[], add_call, add_group, add_set, add_thread, add_work, Advance, after_placing, after_word, ap, arith, AtOp, blocked_on, Bool, ByHandle, call_group, call_made, call_settled, can_come, CanCome, checked, chosen, Core, count_work, Delivery, departed, end_of, ended, exited_if, false, first_entry, free_handle, free_thread_handle, freed_thread_handle, FreeThreadHandle, get, get-change, get-insert, get-remove, get-remove_same, Gift, give_handle, give_result, give_thread_handle, group_settled, handed_on, hands_on, has_ended, held_why_of, HowFar, if◌then◌else◌, InOp, inr, instance_of, interest_settled, is_at, is_blocked_on, is_callback_waiter, is_deletable, is_done_host, is_explicit, is_finished, is_group_done, is_some, is_told, is_waiter, is_waiting_on, IsNamed, IsRunner, IsSettling, IsStarting, Join, join_of, Lands, LandsAt, le_refl, le_trans, Leaves, List, MakeThread, Mark, may_hand_on, may_not_suspend, may_publish, may_tell, may_wake, may_wake_joined, MayCome, MayDeliver, MayLand, MayPut, MayRemoveCall, MemberGift, nat_tests, NoGift, None, not, NoWord, numbers, on_call, on_instance, on_thread, on_work, op_in, Option, option_map, option_map_or, OwnEvent, OwnGift, Place, place_of, Places, Placing, poll_pends, position_of, Promote, promoted, promoted_first, promoted_unless, published, push_high, Put, put_at, put_high, Quits, Records, refl, released, released_one, Releases, remove, remove_call, remove_group, remove_set, remove_thread, remove_work, RemoveCall, RemoveGroup, RemoveThread, Restart, Scene, set_backpressure, set_cancel_delivered, set_cancelled, set_course, set_do_not_enter, set_do_not_suspend, set_end, set_event, set_exited, set_how_far, set_join, set_own_event, set_phase, set_position, set_register, set_result, set_saved_callee, set_saved_own, set_script, set_stage, set_started, set_starting_published, set_subtask_handle, set_thread_handle, set_trapped, set_uninteresting, set_word, SetCallEvent, SetCancelDelivered, SetExited, SetOwnEvent, Settles, SetUninteresting, Shifts, Some, Status, Stay, Stop, stopped, subst, Subtask, sym, take_result, TakeHost, taken, TakePush, TakesNamed, TakeWorkEvent, task_of, Tells, Then, Thread, thread_handle_of, told, Trip, true, Turn, unblocked, Unblocks, wake, wake_joined, wake_why, waken_by, Wakes, Why, with_handle, with_thread_handle, Word, work_queued, ℕ, ◌||◌, ◌∙◌, ◌∷◌, ◌≡◌, ◌≤◌}
 use Rattle.task_rules.proofs.StandLemmas.{set_place_is}
 use Rattle.task_rules.proofs.ChainLemmas.{along, Keep, Keeps, join, keep_stay, weaken, shift_keeps, settle_keeps, settle_stays, chain_if}
 use Rattle.task_rules.proofs.StopLemmas.{find_passes}
@@ -60,8 +60,7 @@ chosen_in_of j w s h x is n at = grind (arith, chosen_of x w s)
 
 wake_joined_shifts : (j : Join) (w : Option ℕ) (s : Core) → ChosenIn j w s → Shifts s (wake_joined j w s)
 wake_joined_shifts (Join.Set x) w s h = wake_shifts x w s (h x refl)
-wake_joined_shifts Join.Nowhere w s h = NoWord
-wake_joined_shifts (Join.Watched n) w s h = NoWord
+wake_joined_shifts _ w s h = NoWord
 
 -- a thread elsewhere gets an entry: who waits on x still does
 waiter_put : (x n m : ℕ) (w : Why) (p : Place) (s : Core) → place_of m s ≡ Some p → is_waiting_on x p ≡ false → is_waiter x n s ≡ true →
@@ -71,11 +70,8 @@ waiter_put x n m w p s at other h = grind (arith, nat_tests, set_place_is n m (P
 
 -- ---- A blocked thread
 
-same_subtask_is : (sub other : Subtask) → same_subtask sub other ≡ true → sub ≡ other
-same_subtask_is sub other h = grind (arith, nat_tests)
-
 pub blocked_place : (sub : Subtask) (o : Option Place) → option_map_or (is_blocked_on sub) o false ≡ true → o ≡ Some (Place.Blocked sub)
-blocked_place sub o h = grind (arith, same_subtask_is sub)
+blocked_place sub o h = grind (arith, nat_tests)
 
 pub blocked_at : (sub : Subtask) (s : Core) (m : ℕ) → blocked_on sub s ≡ Some m → place_of m s ≡ Some (Place.Blocked sub)
 unfolding blocked_on
@@ -104,16 +100,13 @@ chosen_released (n ∷ ns) x w s c = chosen_released ns x w (released_one n (hel
 
 -- ---- How far a thread comes in its script
 
-stays_at : (o p : Option Thread) → option_map unplaced p ≡ option_map unplaced o → option_map_or (λ (t : Thread). t.position) p 0 ≤ option_map_or (λ (t : Thread). t.position) o 0
-stays_at o p same = grind arith
-
 -- no word but that of an op that is done brings a thread further
 kept_word : (a : Scene) (n : ℕ) (w : Word) (s : Core) → Keeps a w s → position_of n (after_word w s) ≤ position_of n s
 unfolding add_call add_group add_set add_thread add_work call_made count_work free_handle free_thread_handle give_handle give_result give_thread_handle on_call on_instance on_thread on_work poll_pends push_high remove_call remove_group remove_set remove_thread remove_work set_backpressure set_cancel_delivered set_cancelled set_course set_do_not_enter set_do_not_suspend set_end set_event set_exited set_how_far set_join set_own_event set_phase set_position set_register set_result set_saved_callee set_saved_own set_script set_stage set_started set_starting_published set_subtask_handle set_thread_handle set_trapped set_uninteresting set_word take_result with_handle with_thread_handle work_queued
-kept_word a n (Places p) s ok = stays_at _ _ ((placing_shifted p s).threads n)
+kept_word a n (Places p) s ok = let same = (placing_shifted p s).threads n in grind (arith, same)
 kept_word a n (Advance m p) s ok = absurd ok
-kept_word a n (TakePush m i) s ok = stays_at _ _ ((popped_shifted m s).threads n)
-kept_word a n (TakeHost m i) s ok = stays_at _ _ ((popped_shifted m s).threads n)
+kept_word a n (TakePush m i) s ok = let same = (popped_shifted m s).threads n in grind (arith, same)
+kept_word a n (TakeHost m i) s ok = let same = (popped_shifted m s).threads n in grind (arith, same)
 kept_word a n (MakeThread t) s ok = grind (arith, nat_tests, get-insert, ok.1.1.1.1.1.0)
 kept_word a n w s ok = grind (arith, nat_tests, get-change, get-insert, get-remove)
 
@@ -159,7 +152,7 @@ module _ {a : Scene} {b : Core} where
   pub shifted : {s t : Core} → Shifts s t → Keep a b s → Keep a b t
   shifted d c = join c (weaken (shift_keeps a) d)
 
-  settled : {s t : Core} → Settles s t → Keep a b s → Keep a b t
+  pub settled : {s t : Core} → Settles s t → Keep a b s → Keep a b t
   settled d c = join c (weaken (settle_keeps a) d)
 
   -- where the running thread comes to
@@ -240,11 +233,11 @@ module _ {a : Scene} {b : Core} where
 
 -- ---- Settled
 
-group_settles : (g : ℕ) (s : Core) → Settles s (group_settled g s)
+pub group_settles : (g : ℕ) (s : Core) → Settles s (group_settled g s)
 unfolding group_settled
 group_settles g s = chain_if (is_group_done g s) (remove_group g s) s (λ e. Then s (RemoveGroup g) NoWord e) (λ e. NoWord)
 
-call_settles : (k : ℕ) (s : Core) → (is_deletable k s ≡ true → has_ended k s ≡ true) → Settles s (call_settled k s)
+pub call_settles : (k : ℕ) (s : Core) → (is_deletable k s ≡ true → has_ended k s ≡ true) → Settles s (call_settled k s)
 unfolding call_settled
 call_settles k s over = chain_if (is_deletable k s) (group_settled (call_group k s) (remove_call k s)) s (λ e. join (Then s (RemoveCall k) NoWord (e, over e)) (group_settles (call_group k s) (remove_call k s))) (λ e. NoWord)
 
@@ -258,16 +251,13 @@ left_call : (n k : ℕ) (s : Core) → (is_some (get (interest_settled k (depart
 unfolding interest_settled set_uninteresting on_call set_exited free_thread_handle remove_thread
 left_call n k s = (grind (arith, nat_tests, get-change), (grind (arith, nat_tests, get-change), grind arith))
 
-there_ended : (k : ℕ) (s t : Core) → is_deletable k t ≡ true → is_some (get t.calls k) ≡ is_some (get s.calls k) → end_of k t ≡ end_of k s → is_over k s ≡ true → has_ended k t ≡ true
-unfolding is_deletable
-there_ended k s t gone there same over = grind arith
-
 departed_over : (n : ℕ) (s : Core) → LastEnds n s → is_deletable (task_of n s) (interest_settled (task_of n s) (departed n s)) ≡ true → has_ended (task_of n s) (interest_settled (task_of n s) (departed n s)) ≡ true
+unfolding is_deletable
 departed_over n s last gone =
     let k = task_of n s in
     let call = left_call n k s in
     let others : SameTasks n s (interest_settled k (departed n s)) = λ m other. ap (λ (r : Records Thread). option_map (λ (u : Thread). u.call) (get r m)) call.1.1 ∙ grind (arith, nat_tests, get-remove) in
-    there_ended k s (interest_settled k (departed n s)) gone call.0 call.1.0 (last (interest_settled k (departed n s)) others gone)
+    let over = last (interest_settled k (departed n s)) others gone in grind (arith, call.0, call.1.0, over, gone)
 
 -- the thread is gone, and what becomes of its call
 pub record Left (a : Scene) (b : Core) (n : ℕ) (t : Core) : Type 0 where
@@ -276,12 +266,6 @@ pub record Left (a : Scene) (b : Core) (n : ℕ) (t : Core) : Type 0 where
   pub settles : Settles (after_word (RemoveThread n) before) t
 
 module _ {a : Scene} {b : Core} where
-  pub group_settled_walks : (g : ℕ) {s : Core} → Keep a b s → Keep a b (group_settled g s)
-  group_settled_walks g {s = s} c = settled (group_settles g s) c
-
-  pub call_settled_walks : (k : ℕ) {s : Core} → (is_deletable k s ≡ true → has_ended k s ≡ true) → Keep a b s → Keep a b (call_settled k s)
-  call_settled_walks k {s = s} over c = settled (call_settles k s over) c
-
   -- the op that was inside of the call is done
   pub call_done_walks : (k : ℕ) {s : Core} → (is_deletable k s ≡ true → MayRemoveCall a k s) → Stay a b s → Stay a b (call_settled k s)
   unfolding call_settled

@@ -1,12 +1,12 @@
 -- What the rows of the ops are made of, as chains of words: what is read, gifts, moves, and a new call.
-use Rattle.task_rules.proofs.Machine.{[], add_call, add_thread, advanced, after_placing, after_word, answered, ap, arith, assigned, AtOp, behind_one, behind_switch, Blocks, Bool, ByHandle, ByOp, call_clears_flag, call_group, call_instance, call_made, call_queues, call_resumes, call_settled, call_stops, Callee, callee_of_op, CallEnd, Caller, can_come, cancel_goes_behind, cancel_label, cancel_stops, cancel_takes_end, change-field, checked, Choice, chosen, Core, EndCall, Enter, enter_runs, event_of, ExportKind, false, foot_of, get, get-change, get-insert, get-remove_same, Gift, gift, give_thread_handle, Given, given_code, given_handle, given_result, Goal, goal_of, GoBehind, group_settled, HasCalled, HasSet, HasSubtask, how_far_of, HowFar, if◌then◌else◌, inl, InOp, inr, instance_of, is_begun, is_blocked_on, is_cancel, is_deletable, is_deletable_call, is_direct, is_explicit, is_group_done, is_joined, is_none, is_running, is_some, is_sync_call, is_sync_cancel, is_wait, IsNew, IsRunner, IsWithdrawn, Join, join_label, join_of, Leaves, less_switch, List, Made, MakeCall, Mark, may_not_suspend, MayCancel, MayCome, MayDeliver, MayJoin, MayMakeCall, MayRemoveWork, MayWithdraw, MemberGift, Mode, Move, moved_to, NameThread, nat_tests, new_thread, next_thread, NoGift, None, not, NoWord, on_call, on_instance, on_thread, op_in, Option, option_map, option_map_or, own_event_of, OwnEvent, OwnGift, Place, place_of, Put, put_back, put_switch, received, refl, Remains, remove_call, remove_group, remove_thread, remove_work, RemoveWork, saved_callee_of, says, SaysEnd, Scene, Script, set_do_not_suspend, set_end, set_event, set_exited, set_given, set_high, set_how_far, set_join, set_low, set_place, set_position, set_register, set_saved_callee, set_saved_own, set_started, set_switch, set_thread_handle, set_uninteresting, SetCallEvent, SetCallJoin, SetDoNotSuspend, SetExited, SetHowFar, SetRegister, SetSavedCallee, SetSavedOwn, SetStarted, settle_group_of, SetUninteresting, SetWorkJoin, Some, Starts, Status, status_code, Stop, stopped, subst, Subtask, subtask_under_way, sym, sync_sets_flag, TakesCalled, TakesCancelled, TakesNamed, TakeWorkEvent, task_of, Then, Thread, thread_group, Trip, true, Turn, unqueued, unwrap_or, wait_label, wait_stops, Waits, Why, with_thread_handle, Withdraw, withdrawn, work_deleted, work_group, ℕ, ◌&&◌, ◌+◌, ◌==◌, ◌∙◌, ◌≡◌, ◌⊎◌}
+use Rattle.task_rules.proofs.Machine.{[], add_call, add_thread, advanced, after_placing, after_word, answered, ap, arith, assigned, AtOp, behind_one, behind_switch, Blocks, Bool, ByHandle, ByOp, call_clears_flag, call_group, call_instance, call_made, call_queues, call_resumes, call_settled, call_stops, Callee, callee_of_op, CallEnd, Caller, can_come, cancel_goes_behind, cancel_label, cancel_stops, change-field, checked, Choice, chosen, Core, EndCall, Enter, enter_runs, event_of, ExportKind, false, foot_of, get, get-change, get-insert, get-remove_same, Gift, gift, give_thread_handle, Given, given_code, given_handle, given_result, Goal, goal_of, GoBehind, group_settled, HasCalled, HasSet, HasSubtask, how_far_of, HowFar, if◌then◌else◌, inl, InOp, inr, instance_of, is_begun, is_blocked_on, is_cancel, is_deletable, is_deletable_call, is_direct, is_explicit, is_group_done, is_joined, is_none, is_running, is_some, is_sync_call, is_sync_cancel, is_wait, IsNew, IsRunner, IsWithdrawn, Join, join_of, Leaves, less_switch, List, Made, MakeCall, Mark, may_not_suspend, MayCancel, MayCome, MayDeliver, MayJoin, MayMakeCall, MayRemoveWork, MayWithdraw, MemberGift, Mode, Move, moved_to, NameThread, nat_tests, new_thread, next_thread, NoGift, None, not, NoWord, on_call, on_instance, on_thread, op_in, Option, option_map, option_map_or, own_event_of, OwnEvent, OwnGift, Place, place_of, Put, put_back, put_switch, received, refl, Remains, remove_call, remove_group, remove_thread, remove_work, RemoveWork, saved_callee_of, says, SaysEnd, Scene, Script, set_do_not_suspend, set_end, set_event, set_exited, set_given, set_high, set_how_far, set_join, set_low, set_place, set_position, set_register, set_saved_callee, set_saved_own, set_started, set_switch, set_thread_handle, set_uninteresting, SetCallEvent, SetCallJoin, SetDoNotSuspend, SetExited, SetHowFar, SetRegister, SetSavedCallee, SetSavedOwn, SetStarted, settle_group_of, SetUninteresting, SetWorkJoin, Some, Starts, Status, Stop, stopped, subst, Subtask, subtask_under_way, sym, sync_sets_flag, TakesCalled, TakesCancelled, TakesNamed, TakeWorkEvent, task_of, Then, Thread, thread_group, Trip, true, Turn, unqueued, unwrap_or, wait_stops, Waits, Why, with_thread_handle, Withdraw, withdrawn, work_deleted, work_group, ℕ, ◌&&◌, ◌+◌, ◌==◌, ◌∙◌, ◌≡◌, ◌⊎◌}
 use Rattle.task_rules.proofs.ChainLemmas.{Going, Keep, keep_stay}
-use Rattle.task_rules.proofs.WalkMoves.{keep_still, MayTake, checked_shifts, group_settled_walks, shifted, stopped_shifts, taken_walks, word, lands_at}
+use Rattle.task_rules.proofs.WalkMoves.{keep_still, MayTake, checked_shifts, shifted, stopped_shifts, taken_walks, word, lands_at, settled, group_settles}
 use Rattle.task_rules.proofs.MoveLemmas.{put_place}
 use Rattle.task_rules.proofs.PlacingLemmas.{Shifted, placed, placing_shifted, shifted_after, shifted_calls, shifted_explicit, shifted_made}
 use Rattle.task_rules.proofs.WalkEnds.{call_ends}
 use Rattle.task_rules.proofs.StandLemmas.{place_kept}
-use Rattle.task_rules.proofs.WalkTask.{Stands, advanced_walks, answered_walks, is_plain, is_still, running_moved, moved_passes, not_main}
+use Rattle.task_rules.proofs.WalkTask.{Stands, advanced_walks, answered_walks, is_plain, running_moved, moved_passes, not_main}
 use Rattle.task_rules.proofs.CallThreads.{has_same}
 
 -- ---- What is read
@@ -35,12 +35,6 @@ answered_settled n r v k s =
     by true = by_done (call_group k s) (is_group_done (call_group k s) (remove_call k s))
     by false = refl
 
-pub join_plain : (a : Scene) (t : Core) (n : ℕ) (w : Option ℕ) → is_still a t (join_label n w) ≡ true
-join_plain a t n w = grind arith
-
-pub wait_plain : (s : Core) (n : ℕ) (v : Given) (w : Option ℕ) → is_plain s (wait_label n v w) ≡ true
-wait_plain s n v w = grind arith
-
 pub cancel_plain : (s : Core) (mode : Mode) (n v : ℕ) → is_plain s (cancel_label mode n v) ≡ true
 cancel_plain s mode n v = grind arith
 
@@ -61,10 +55,6 @@ pub cancels_own : (a : Scene) (n : ℕ) (sub : Subtask) → MayCancel a n sub �
 cancels_own a n sub (inl named) = ByHandle named.0 named.1
 cancels_own a n sub (inr (inl far)) = ByOp (ap (λ h. subtask_under_way h) far)
 cancels_own a n sub (inr (inr far)) = ByOp (ap (λ h. subtask_under_way h) far)
-
-flagged_event : (k j : ℕ) (o : Option Bool) (s : Core) → event_of (Subtask.Guest k) (put_back o j s) ≡ event_of (Subtask.Guest k) s
-unfolding set_do_not_suspend on_instance
-flagged_event k j o s = grind arith
 
 pub assigned_fresh : (n r v : ℕ) (s : Core) → how_far_of n (assigned n r v s) ≡ HowFar.Fresh
 unfolding assigned advanced moved_to set_how_far set_position on_thread set_register
@@ -104,7 +94,7 @@ module _ {a : Scene} {b : Core} (n : ℕ) (is : IsRunner a n) where
   join_walks (Subtask.Host i) j ok c = word (SetWorkJoin i j) ok c
 
   -- an op that cancels the subtask, or will
-  event_taken_walks : (sub : Subtask) {t : Core} → MayCancel a n sub → Keep a b t → Keep a b (set_event sub None t)
+  pub event_taken_walks : (sub : Subtask) {t : Core} → MayCancel a n sub → Keep a b t → Keep a b (set_event sub None t)
   event_taken_walks (Subtask.Guest k) (inl named) c = word (SetCallEvent k None) (TakesNamed (n, (named.0, (is, named.1)))) c
   event_taken_walks (Subtask.Guest k) (inr far) c = word (SetCallEvent k None) (TakesCancelled n is far) c
   event_taken_walks (Subtask.Host i) may c = word (TakeWorkEvent i) (n, (is, cancels_own a n (Subtask.Host i) may)) c
@@ -115,9 +105,9 @@ module _ {a : Scene} {b : Core} (n : ℕ) (is : IsRunner a n) where
 
   -- the call hasn't returned
   pub call_resumes_walks : (k : ℕ) {t : Core} → how_far_of n a.base ≡ HowFar.Calls (Subtask.Guest k) → (event_of (Subtask.Guest k) t ≡ Some Status.Returned → ⊥) → Keep a b t → Keep a b (call_resumes n k t)
-  unfolding call_resumes
+  unfolding call_resumes set_do_not_suspend on_instance
   call_resumes_walks k {t = t} far other c =
-      word (SetCallEvent k None) (TakesCalled n is far (inr (λ e. other (sym (flagged_event k (call_instance k t) (saved_callee_of n t) t) ∙ e)))) (put_back_walks (saved_callee_of n t) (call_instance k t) c)
+      word (SetCallEvent k None) (TakesCalled n is far (inr (λ e. other (grind (arith, e))))) (put_back_walks (saved_callee_of n t) (call_instance k t) c)
 
   -- it has, and the op is done before its event is taken
   pub call_answers_walks : Stands a b n → (r v k : ℕ) {t : Core} → how_far_of n a.base ≡ HowFar.Calls (Subtask.Guest k) → Keep a b t → Going a b n (answered n r v (call_resumes n k t))
@@ -143,15 +133,11 @@ module _ {a : Scene} {b : Core} (n : ℕ) (is : IsRunner a n) where
 
   settle_group_of_walks : (o : Option ℕ) {t : Core} → Keep a b t → Keep a b (settle_group_of o t)
   settle_group_of_walks None c = c
-  settle_group_of_walks (Some g) c = group_settled_walks g c
+  settle_group_of_walks (Some g) {t = t} c = settled (group_settles g t) c
 
   pub work_deleted_walks : (i : ℕ) {t : Core} → MayRemoveWork a i t → Keep a b t → Keep a b (work_deleted i t)
   unfolding work_deleted
   work_deleted_walks i {t = t} ok c = settle_group_of_walks (work_group i t) (word (RemoveWork i) ok c)
-
-  pub cancel_takes_end_walks : Stands a b n → (r : ℕ) (sub : Subtask) (e : Status) {t : Core} → MayCancel a n sub → Keep a b t → Going a b n (cancel_takes_end n r sub e t)
-  unfolding cancel_takes_end
-  cancel_takes_end_walks on r sub e has c = answered_walks n is on r (status_code e) (event_taken_walks sub has c)
 
   pub cancel_stops_walks : AtOps a b n → (sub : Subtask) {t : Core} → is_sync_cancel (op_in a n) ≡ true → Leaves a n → MayCancel a n sub → (is_joined (join_of sub a.base) ≡ false) ⊎ (how_far_of n a.base ≡ HowFar.Cancels sub) → Keep a b t → Trip a b (cancel_stops n sub t)
   unfolding cancel_stops
@@ -217,26 +203,14 @@ pub call_born : (f : Caller) (e : Callee) (x : ExportKind) (g : Goal) (group : �
 unfolding call_made add_thread add_call
 call_born f e x g group words s = grind (arith, nat_tests, get-insert)
 
--- a call whose start runs has begun
-pub started_begun : (k : ℕ) (t : Core) → is_begun k (set_started k t) ≡ true
-unfolding set_started on_call
-started_begun k t = grind (arith, nat_tests, get-change)
-
-pub flag_calls : (m j : ℕ) (k : ExportKind) (t : Core) → (sync_sets_flag m j k t).calls ≡ t.calls
-unfolding set_do_not_suspend on_instance set_saved_own on_thread
-flag_calls m j k t = grind arith
-
 -- where the thread is put or goes no more is said than whose it is
 shifted_new : (a : Scene) (m : ℕ) (s t : Core) → m ≡ next_thread a.base → Shifted s t → (s.made.threads ≡ m) × (is_explicit m s ≡ false) → IsNew a (Subtask.Guest m) t
 shifted_new a m s t is h e = (is, (ap (λ (d : Made). d.threads) (shifted_made h) ∙ e.0, shifted_explicit h m ∙ e.1))
 
-cleared_explicit : (n j : ℕ) (k : ExportKind) (m : ℕ) (t : Core) → (t.made.threads ≡ m) × (is_explicit m t ≡ false) → ((call_clears_flag n j k t).made.threads ≡ m) × (is_explicit m (call_clears_flag n j k t) ≡ false)
+cleared : (n j : ℕ) (k : ExportKind) (m : ℕ) (t : Core) → let v = call_clears_flag n j k t in
+    (v.made.threads ≡ t.made.threads) × ((is_explicit m v ≡ is_explicit m t) × ((is_some (place_of m v) ≡ is_some (place_of m t)) × (v.calls ≡ t.calls)))
 unfolding set_do_not_suspend on_instance set_saved_callee on_thread
-cleared_explicit n j k m t e = grind (arith, nat_tests, get-change)
-
-cleared_there : (n j : ℕ) (k : ExportKind) (m : ℕ) (t : Core) → is_some (place_of m (call_clears_flag n j k t)) ≡ is_some (place_of m t)
-unfolding set_do_not_suspend on_instance set_saved_callee on_thread
-cleared_there n j k m t = grind (arith, nat_tests, get-change)
+cleared n j k m t = (grind arith, (grind (arith, nat_tests, get-change), (grind (arith, nat_tests, get-change), grind arith)))
 
 -- ---- Whose the new call is
 
@@ -270,10 +244,6 @@ entered n e k words group s = (
   ),
 )
 
-cleared_calls : (n j : ℕ) (k : ExportKind) (t : Core) → (call_clears_flag n j k t).calls ≡ t.calls
-unfolding set_do_not_suspend on_instance set_saved_callee on_thread
-cleared_calls n j k t = grind arith
-
 module _ {a : Scene} (n : ℕ) (is : IsRunner a n) where
   pub call_queues_walks : a.turn ≡ Turn.Run n → is_some (callee_of_op (op_in a n)) ≡ true → (e : Callee) (k : ExportKind) (g : Goal) (words : List ℕ) → Leaves a n → MayMakeCall a (Caller.Thread n) e k g (thread_group n a.base) a.base → is_direct g ≡ false → Trip a a.base (call_queues n e k g words a.base)
   unfolding call_queues
@@ -286,11 +256,12 @@ module _ {a : Scene} (n : ℕ) (is : IsRunner a n) where
       let u = put_switch m Why.Start t in
       let d : Shifted t u = placing_shifted p t in
       let v = call_clears_flag n e.instance k u in
-      let new : (v.made.threads ≡ m) × (is_explicit m v ≡ false) = cleared_explicit n e.instance k m u (ap (λ (r : Made). r.threads) (shifted_made d) ∙ h.made, shifted_explicit d m ∙ born_explicit h) in
+      let same = cleared n e.instance k m u in
+      let new : (v.made.threads ≡ m) × (is_explicit m v ≡ false) = (same.0 ∙ (ap (λ (r : Made). r.threads) (shifted_made d) ∙ h.made), same.1.0 ∙ (shifted_explicit d m ∙ born_explicit h)) in
       let w = behind_one m n v in
       let c : Keep a s v = call_clears_flag_walks n is e.instance k (placed p (inl (Starts (born_place h) (born_explicit h) (ap (λ (y : Goal). is_direct y) (born_goal h) ∙ plain) refl)) (word (MakeCall (Caller.Thread n) e k g (thread_group n s) words) ok NoWord)) in
-      let called : HasCalled n m w = called_as n m t w (shifted_calls (placing_shifted (GoBehind m n) v) ∙ (cleared_calls n e.instance k u ∙ shifted_calls d)) (made_called n e k g (thread_group n s) words s) in
-      lands_at (GoBehind m n) n (HowFar.Calls (Subtask.Guest m)) (leave, inl (cleared_there n e.instance k m u ∙ ap (λ (o : Option Place). is_some o) (put_place Mark.Switch m Why.Start t (ap (λ (o : Option Place). is_some o) (born_place h))))) (is, inr (shifted_new a m v w refl (placing_shifted (GoBehind m n) v) new, called)) (keep_still n runs c) can c
+      let called : HasCalled n m w = called_as n m t w (shifted_calls (placing_shifted (GoBehind m n) v) ∙ (same.1.1.1 ∙ shifted_calls d)) (made_called n e k g (thread_group n s) words s) in
+      lands_at (GoBehind m n) n (HowFar.Calls (Subtask.Guest m)) (leave, inl (same.1.1.0 ∙ ap (λ (o : Option Place). is_some o) (put_place Mark.Switch m Why.Start t (ap (λ (o : Option Place). is_some o) (born_place h))))) (is, inr (shifted_new a m v w refl (placing_shifted (GoBehind m n) v) new, called)) (keep_still n runs c) can c
 
   pub enter_runs_walks : is_sync_call (op_in a n) ≡ true → is_some (callee_of_op (op_in a n)) ≡ true → (e : Callee) (k : ExportKind) (words : List ℕ) → a.turn ≡ Turn.Run n → a.next ≡ Turn.Run (next_thread a.base) → MayMakeCall a (Caller.Thread n) e k Goal.Direct (thread_group n a.base) a.base → Trip a a.base (enter_runs n e k words a.base)
   unfolding enter_runs

@@ -1,11 +1,11 @@
 -- The takings of entries as chains of words.
-use Rattle.task_rules.proofs.Machine.{activated, activated_woken, admits, and_parts, ap, arith, at_handle_limit, begun_holder, Bool, Call, Choice, chosen, cond, Core, delivered, Delivery, delivery_row, end_for, end_of, EndWords, event_label, ExportKind, false, foot_of, get, get-change, Gift, gift, give_thread_handle, Given, given_for, Goes, handed_by_event, handed_on, handed_out, HandsOut, held_label, holder_at_start, Holds, inl, inr, instance_of, is_begun, is_exit, is_explicit, is_free, is_holding, is_none, is_running, is_some, is_start, is_told, IsLaid, kind_of, Label, LastWords, Main, Mark, may, may_hand_on, may_not_enter, may_tell, may_tell_starting, MayDeliver, MayMove, MemberGift, Move, moved_to, NameThread, nat_tests, NoGift, None, not, NoWord, on_call, on_instance, on_thread, Option, option_map_or, outcome_of_label, own_delivered, own_event_of, own_gift_of, own_gift_only, own_or_nothing, OwnEvent, OwnGift, Place, place_of, Records, refl, Restart, running, Runs, Scene, Script, set_delivered, set_do_not_enter, set_event, set_given, set_how_far, set_place, set_position, set_register, set_script, set_started, set_starting_published, set_thread_handle, SetDoNotEnter, SetStarted, SetStartingPublished, Setting, Some, start_admitted, start_begins, start_holds, start_row, start_sets_flags, starting_is_published, starting_told, Status, stopped, Stops, subst, Subtask, sym, T, take_holds, take_label, TakeLabel, taken, taking, task_of, thread_taken, told, Trap, true, Turn, unwrap_or, wait_again, WaitsAgain, was_started, WasReady, Why, with_thread_handle, ℕ, ◌&&◌, ◌∙◌, ◌≡◌}
+use Rattle.task_rules.proofs.Machine.{activated, activated_woken, admits, and_parts, ap, arith, at_handle_limit, begun_holder, Bool, Choice, chosen, cond, Core, delivered, Delivery, delivery_row, end_for, end_of, EndWords, event_label, ExportKind, false, foot_of, get, get-change, Gift, gift, give_thread_handle, Given, given_for, Goes, handed_by_event, handed_on, handed_out, HandsOut, held_label, holder_at_start, Holds, inl, inr, instance_of, is_begun, is_exit, is_explicit, is_free, is_holding, is_none, is_running, is_some, is_start, is_told, IsLaid, kind_of, Label, LastWords, Main, Mark, may, may_hand_on, may_not_enter, may_tell, may_tell_starting, MayDeliver, MayMove, MemberGift, Move, moved_to, NameThread, nat_tests, NoGift, None, not, NoWord, on_call, on_instance, on_thread, Option, option_map_or, outcome_of_label, own_delivered, own_event_of, own_gift_of, own_gift_only, own_or_nothing, OwnEvent, OwnGift, Place, place_of, refl, Restart, running, Runs, Scene, Script, set_delivered, set_do_not_enter, set_do_not_suspend, set_event, set_given, set_how_far, set_place, set_position, set_register, set_saved_own, set_script, set_started, set_starting_published, set_thread_handle, SetDoNotEnter, SetStarted, SetStartingPublished, Setting, Some, start_admitted, start_begins, start_holds, start_row, start_sets_flags, starting_is_published, starting_told, Status, stopped, Stops, subst, Subtask, sym, T, take_holds, take_label, TakeLabel, taken, taking, task_of, thread_taken, told, Trap, true, Turn, unwrap_or, wait_again, WaitsAgain, was_started, WasReady, Why, with_thread_handle, ℕ, ◌&&◌, ◌∙◌, ◌≡◌}
 use Rattle.task_rules.proofs.MuteLemmas.{is_mute, mute_words, hands_by}
 use Rattle.task_rules.proofs.SayLemmas.{given_out}
 use Rattle.task_rules.proofs.PlacingLemmas.{shifted_instance, shifted_task, shifts_shifted, shifted_calls}
 use Rattle.task_rules.proofs.ChainLemmas.{Keep, chain_if}
 use Rattle.task_rules.proofs.WalkMoves.{MayTake, ToldTo, handed_on_shifts, lands, shifted, stopped_shifts, taken_walks, told_to, told_walks, word, told_shifts}
-use Rattle.task_rules.proofs.WalkParts.{gift_is, set_given_walks, sync_sets_flag_walks, started_begun, flag_calls}
+use Rattle.task_rules.proofs.WalkParts.{gift_is, set_given_walks, sync_sets_flag_walks}
 use Rattle.task_rules.proofs.WalkTask.{Leads, may_leads, none_is_some, not_main, one_runner, or_never_leads, running_moved, seen, trap_if_leads, moved_passes}
 
 -- ---- What is read
@@ -96,9 +96,6 @@ module _ (x : Setting) (main : Main) (ended : Bool) (s : Core) (n : ℕ) (l : La
   abbrev told_start : Option ℕ → Core
   told_start w = told (task_of n s) Status.Started w (begun_at n s)
 
-  told_home : (w : Option ℕ) → may_tell (task_of n s) w s ≡ true → instance_of n (told_start w) ≡ instance_of n s
-  told_home w may = told_instance (task_of n s) Status.Started w n (begun_at n s) (begun_to n w s (told_to (task_of n s) w s may)) ∙ (begun_keeps n s).0
-
   holder_is : (m : Mark) (w : Option ℕ) (i : ℕ) → begun_holder s (take_label m n w) ≡ Some i → (is_explicit n s ≡ false) × ((is_holding (kind_of (task_of n s) s) ≡ true) × ((option_map_or is_start (place_of n s) false ≡ true) × (instance_of n s ≡ i)))
   holder_is m w i begun = let b : holder_at_start n s ≡ Some i = sym (take_is taking_scene s m n w).1.0 ∙ begun in (grind (arith, b), (grind (arith, b), (grind (arith, b), grind (arith, b))))
 
@@ -106,8 +103,8 @@ module _ (x : Setting) (main : Main) (ended : Bool) (s : Core) (n : ℕ) (l : La
   none_holds m w q at no_hold i begun = absurd (subst T (sym (holder_is m w i begun).1.0 ∙ (ap (λ y. is_holding y) at ∙ no_hold)) tt)
 
   start_begun : (w : Option ℕ) → may_tell (task_of n s) w s ≡ true → is_begun (task_of n s) (told_start w) ≡ true
-  unfolding begun_at
-  start_begun w may = let k = task_of n s in told_begun k Status.Started w (begun_at n s) (begun_to n w s (told_to k w s may)) (started_begun k (with_thread_handle (instance_of n s) n s))
+  unfolding begun_at set_started on_call
+  start_begun w may = let k = task_of n s in told_begun k Status.Started w (begun_at n s) (begun_to n w s (told_to k w s may)) (grind (arith, nat_tests, get-change))
 
   -- a thread that is taken for something else has no start
   not_start : (y : Mark) (v : Why) → place_of n s ≡ Some (Place.Ready y v) → WasReady taking_scene n Why.Start → {A : Type 0} → is_start (Place.Ready y v) ≡ false → A
@@ -123,7 +120,7 @@ module _ (x : Setting) (main : Main) (ended : Bool) (s : Core) (n : ℕ) (l : La
   barred_leads : (m : Mark) (w : Option ℕ) → WasReady taking_scene n Why.Start → is_explicit n s ≡ false → admits n s Why.Start ≡ true → may_tell (task_of n s) w s ≡ true → (q : ExportKind) → kind_of (task_of n s) s ≡ q → is_holding q ≡ true → Leads taking_scene s (Goes (take_label m n w) (set_place n Place.Running (set_do_not_enter (instance_of n (told_start w)) true (told_start w))) n)
   unfolding set_place on_thread set_do_not_enter on_instance
   barred_leads m w ready implicit admitted may q at holding =
-      let home = told_home w may in
+      let home = told_instance (task_of n s) Status.Started w n (begun_at n s) (begun_to n w s (told_to (task_of n s) w s may)) ∙ (begun_keeps n s).0 in
       let open_at : may_not_enter (instance_of n s) s ≡ false = grind (arith, implicit, at, holding, admitted) in
       runs_taken (take_label m n w) (set_do_not_enter (instance_of n (told_start w)) true (told_start w)) (λ i r. start_begun w may) (take_is taking_scene s m n w).0 (λ at. mute_words taking_scene _ at (take_is taking_scene _ m n w).1.1) (λ i begun.
       let same : instance_of n s ≡ i = (holder_is m w i begun).1.1.1 in (
@@ -133,7 +130,8 @@ module _ (x : Setting) (main : Main) (ended : Bool) (s : Core) (n : ℕ) (l : La
       (λ to. word (SetDoNotEnter (instance_of n (told_start w)) true) (ap (λ (j : ℕ). may_not_enter j s) home ∙ open_at) (starts_walks w ready implicit may))
 
   begins_leads : (m : Mark) (w : Option ℕ) → WasReady taking_scene n Why.Start → is_explicit n s ≡ false → admits n s Why.Start ≡ true → may_tell (task_of n s) w s ≡ true → (q : ExportKind) → kind_of (task_of n s) s ≡ q → Leads taking_scene s (Goes (take_label m n w) (set_place n Place.Running (start_sets_flags n q (told_start w))) n)
-  begins_leads m w ready implicit admitted may ExportKind.Sync at = runs_taken (take_label m n w) _ (λ i r. ap (λ (c : Records Call). option_map_or (λ d. d.started) (get c (task_of n s)) true) (flag_calls n (instance_of n (told_start w)) ExportKind.Sync (told_start w)) ∙ start_begun w may) (take_is taking_scene s m n w).0 (λ at. mute_words taking_scene _ at (take_is taking_scene _ m n w).1.1) (λ i begun. none_holds m w ExportKind.Sync at refl i begun) (λ to. sync_sets_flag_walks n refl n (instance_of n (told_start w)) ExportKind.Sync (starts_walks w ready implicit may))
+  unfolding set_do_not_suspend on_instance set_saved_own on_thread
+  begins_leads m w ready implicit admitted may ExportKind.Sync at = runs_taken (take_label m n w) _ (λ i r. start_begun w may) (take_is taking_scene s m n w).0 (λ at. mute_words taking_scene _ at (take_is taking_scene _ m n w).1.1) (λ i begun. none_holds m w ExportKind.Sync at refl i begun) (λ to. sync_sets_flag_walks n refl n (instance_of n (told_start w)) ExportKind.Sync (starts_walks w ready implicit may))
   begins_leads m w ready implicit admitted may ExportKind.Stackful at = runs_taken (take_label m n w) _ (λ i r. start_begun w may) (take_is taking_scene s m n w).0 (λ at. mute_words taking_scene _ at (take_is taking_scene _ m n w).1.1) (λ i begun. none_holds m w ExportKind.Stackful at refl i begun) (λ to. starts_walks w ready implicit may)
   begins_leads m w ready implicit admitted may ExportKind.Blocking at = barred_leads m w ready implicit admitted may ExportKind.Blocking at refl
   begins_leads m w ready implicit admitted may ExportKind.Callback at = barred_leads m w ready implicit admitted may ExportKind.Callback at refl
@@ -177,11 +175,6 @@ module _ (x : Setting) (main : Main) (ended : Bool) (s : Core) (n : ℕ) (l : La
   unfolding activated moved_to set_how_far set_position on_thread set_given set_register set_place set_script set_do_not_enter on_instance
   delivered_out y ch g w h none = let u = handed_on y g w s in given_out true n (task_of n s) y ch g (task_of n u) u h refl refl
 
-  -- the task's own event is no end of a subtask
-  own_says : (o : Option OwnEvent) (sub : Subtask) (e : Status) {A : Type 0} → handed_by_event n s (given_for (own_or_nothing o) 0 s) ≡ Some (end_for e sub) → A
-  unfolding given_for
-  own_says o sub e out = absurd (grind arith)
-
   activated_goes : (m : Mark) (d : Delivery) → WasReady taking_scene n (Why.Delivery d) → (g : Gift) (v : Given) (w : Option ℕ) (t : Core) → (l ≡ event_label m n v w → EndWords taking_scene (activated n g v t)) → instance_of n t ≡ instance_of n s → MayTake taking_scene (task_of n t) g → may_not_enter (instance_of n s) s ≡ false → Keep taking_scene s t → Leads taking_scene s (Goes (event_label m n v w) (activated n g v t) n)
   unfolding activated moved_to set_place on_thread set_how_far set_position set_script
   activated_goes m d ready g v w t says home may open_at c =
@@ -214,10 +207,10 @@ module _ (x : Setting) (main : Main) (ended : Bool) (s : Core) (n : ℕ) (l : La
   own_taken d ready (Some e) at = ((n, (refl, refl)), λ c. delivers d ready (grind arith))
 
   own_delivered_leads : (m : Mark) (d : Delivery) → WasReady taking_scene n (Why.Delivery d) → may_not_enter (instance_of n s) s ≡ false → Leads taking_scene s (own_delivered m n s (own_gift_only (task_of n s) s))
-  unfolding own_gift_only
+  unfolding own_gift_only given_for
   own_delivered_leads m d ready open_at =
       let g = own_gift_only (task_of n s) s in
-      activated_goes m d ready g (given_for g 0 s) None s (event_says m (given_for g 0 s) None _ (λ none sub e out. own_says (own_gift_of true (task_of n s) s) sub e out)) refl (own_taken d ready (own_gift_of true (task_of n s) s) refl) open_at NoWord
+      activated_goes m d ready g (given_for g 0 s) None s (event_says m (given_for g 0 s) None _ (λ none sub e out. absurd (grind (arith, out)))) refl (own_taken d ready (own_gift_of true (task_of n s) s) refl) open_at NoWord
 
   delivered_leads : (m : Mark) (ch : Choice) (d : Delivery) → WasReady taking_scene n (Why.Delivery d) → may_not_enter (instance_of n s) s ≡ false → Leads taking_scene s (delivered m n ch s d)
   delivered_leads m ch (Delivery.Set y) ready open_at =

@@ -3,7 +3,7 @@ use Rattle.task_rules.proofs.ChainLemmas.{Going, Keep, keep_stay, trip_walk, sta
 use Rattle.task_rules.proofs.SayLemmas.{said_is}
 use Rattle.task_rules.proofs.MuteLemmas.{both_none, is_mute, mute_words, none_said, says_by, writes_by}
 use Rattle.task_rules.proofs.WalkEnds.{cancelled_rest, returned_rest, call_ends, ends_untold, ended_last, returned_last}
-use Rattle.task_rules.proofs.Machine.{[], Advance, advanced, and_parts, answered, ap, ap₂, arith, assigned, AwaitsEvent, backpressure_of, begun_holder, blocking_exit_row, blocking_exits, Bool, BySetHandle, Call, CallEnd, cancel_was_delivered, change-field, checked, Choice, code_exits, code_finds, code_kind_row, code_row, code_stops, code_wait_row, code_waits, code_yields, ComesAgain, Component, component_of, Core, data_row, DataLabel, DataOp, Delivery, direct_exit_to, direct_exits, end_for, end_reopens, EndCall, ended, ends_activation, EndsActivation, EndsByExit, EndsCall, EndsOwn, EndWords, exit_label, exit_restores, exit_row_for, exit_stops, Exits, ExportKind, Fails, false, FindsEvent, foot_of, get, get-change, GivesUp, goal_of, Goes, GoesBack, handed_by, HandsOut, has_ended, has_event_for, HasSet, held_by_flag, holder_at_exit, HowFar, if◌then◌else◌, implicit_exit_row, inl, inr, instance_of, is_async_lifted, is_at, is_code_op, is_direct, is_ending_exit, is_exit, is_explicit, is_holding, is_none, is_over, is_running, is_told, is_under, IsRunner, kind_exit_row, kind_of, Label, LastWords, Leaves, leaves_no_result, length, List, Main, Mark, may, may_tell, MayBar, MayEnd, MayOwe, min, Move, moved_to, nat_le, nat_lt, nat_tests, Never, None, not, NoWord, numbers, on_call, on_instance, on_thread, Op, op_in, op_of, Option, option_map_or, or_never, or_trap, Ordered, outcome_of_label, own_event_of, own_or_none, OwnEvent, passes_after_return, passes_after_stop, passes_check, Place, place_of, position_of, Progress, Put, Records, refl, register_of, Remains, ret_label, returned, returned_holder, ReturnsNow, saved_own_of, SaysEnd, Scene, script_of, set_at, set_backpressure, set_do_not_enter, set_do_not_suspend, set_end, set_how_far, set_place, SetBackpressure, SetDoNotEnter, SetDoNotSuspend, SetOwnEvent, SetRegister, SetSavedCallee, Setting, SetWord, skip_row, skipped, slice_get, Some, Status, Stops, stored, subst, Subtask, SubtaskEnd, suc, sym, sync_exit_row, sync_exits, T, task_cancel_label, task_end, task_of, TaskLabel, TaskOp, Then, Thread, thread_exit_row, Trap, trap_if, Traps, Trip, true, Turn, Uncovers, under_of, unwrap_or, value_of, Walk, Why, Writes, WritesCall, WritesToo, written_by, zero, ℕ, ◌%◌, ◌&&◌, ◌*◌, ◌+◌, ◌-◌, ◌/◌, ◌==◌, ◌||◌, ◌∙◌, ◌∷◌, ◌≡◌, ◌≤◌, ◌⊎◌}
+use Rattle.task_rules.proofs.Machine.{[], Advance, advanced, and_parts, answered, ap, ap₂, arith, assigned, AwaitsEvent, backpressure_of, begun_holder, blocking_exit_row, blocking_exits, Bool, BySetHandle, Call, CallEnd, cancel_was_delivered, change-field, checked, Choice, code_exits, code_finds, code_kind_row, code_row, code_stops, code_wait_row, code_waits, code_yields, ComesAgain, Component, component_of, Core, data_row, DataLabel, DataOp, Delivery, direct_exit_to, direct_exits, end_for, end_reopens, EndCall, ended, ends_activation, EndsActivation, EndsByExit, EndsCall, EndsOwn, EndWords, exit_label, exit_restores, exit_row_for, exit_stops, Exits, ExportKind, Fails, false, FindsEvent, foot_of, get, get-change, GivesUp, goal_of, Goes, GoesBack, handed_by, HandsOut, has_ended, has_event_for, HasSet, held_by_flag, holder_at_exit, HowFar, if◌then◌else◌, implicit_exit_row, inl, inr, instance_of, is_async_lifted, is_at, is_code_op, is_direct, is_ending_exit, is_exit, is_explicit, is_holding, is_none, is_over, is_running, is_under, IsRunner, kind_exit_row, kind_of, Label, LastWords, Leaves, leaves_no_result, length, List, Main, Mark, may, may_tell, MayBar, MayEnd, MayOwe, min, Move, moved_to, nat_le, nat_lt, nat_tests, Never, None, not, NoWord, numbers, on_call, on_instance, on_thread, Op, op_in, op_of, Option, option_map_or, or_never, or_trap, Ordered, outcome_of_label, own_event_of, own_or_none, OwnEvent, passes_after_return, passes_after_stop, passes_check, Place, place_of, position_of, Progress, Put, Records, refl, register_of, Remains, ret_label, returned, returned_holder, ReturnsNow, saved_own_of, SaysEnd, Scene, script_of, set_at, set_backpressure, set_do_not_enter, set_do_not_suspend, set_end, set_how_far, set_place, SetBackpressure, SetDoNotEnter, SetDoNotSuspend, SetOwnEvent, SetRegister, SetSavedCallee, Setting, SetWord, skip_row, skipped, slice_get, Some, Status, Stops, stored, subst, Subtask, SubtaskEnd, suc, sym, sync_exit_row, sync_exits, T, task_cancel_label, task_end, task_of, TaskLabel, TaskOp, Then, Thread, thread_exit_row, Trap, trap_if, Traps, Trip, true, Turn, Uncovers, under_of, unwrap_or, value_of, Walk, Why, Writes, WritesCall, WritesToo, written_by, zero, ℕ, ◌%◌, ◌&&◌, ◌*◌, ◌+◌, ◌-◌, ◌/◌, ◌==◌, ◌||◌, ◌∙◌, ◌∷◌, ◌≡◌, ◌≤◌, ◌⊎◌}
 use Rattle.task_rules.specs.Task.{dec_from, dec_lowers, dec_opens, inc_raises, inc_row, ret_done, ret_row, task_cancel_done, task_cancel_row, task_row}
 use Rattle.task_rules.proofs.StopLemmas.{find_passes}
 use Rattle.task_rules.proofs.PlacingLemmas.{Shifted, shifted_calls, shifted_task, shifts_shifted, placing_shifted, shifted_after}
@@ -25,9 +25,6 @@ in_script (o ∷ ops) (suc p) other = let rest = in_script ops p other in omega 
 pub op_stands : (c : Component) (n : ℕ) (s : Core) → is_exit_op (op_of c n s) ≡ false → position_of n s + 1 ≤ length (script_of c n s)
 unfolding op_of
 op_stands c n s other = in_script (script_of c n s) (position_of n s) other
-
-min_below : (a b : ℕ) → min a b ≤ b
-min_below a b = grind arith
 
 -- the thread runs, and there is an op at the place in its script at which it is in b
 abbrev pub Stands : Scene → Core → ℕ → Type 0
@@ -120,20 +117,6 @@ reopened_shifted : (i : ℕ) (order : List ℕ) (s : Core) → Shifted (set_do_n
 unfolding end_reopens
 reopened_shifted i order s = shifts_shifted (released_shifts order (set_do_not_enter i false s))
 
-code_stops_last : (n : ℕ) (order : List ℕ) (s : Core) → LastEnds n s → LastEnds n (code_stops n order s)
-unfolding code_stops set_do_not_enter on_instance
-code_stops_last n order s last =
-    let t = end_reopens (instance_of n s) order s in
-    last_shifted n (shifted_after (reopened_shifted (instance_of n s) order s) (shifts_shifted (stopped_shifts (foot_of n s) t))) last
-
--- a direct call's end is told to nobody
-untold : (k : ℕ) (s : Core) → is_direct (goal_of k s) ≡ true → is_told k s ≡ false
-untold k s direct = grind arith
-
-still_gone : (n m v : ℕ) (t : Core) → get t.threads n ≡ None → get (set_how_far m (HowFar.Answered v) (set_place m Place.Running t)).threads n ≡ None
-unfolding set_how_far set_place on_thread
-still_gone n m v t gone = grind (arith, nat_tests, get-change, gone)
-
 module _ {a : Scene} {b : Core} (n : ℕ) (is : IsRunner a n) where
   -- ---- Registers and words
 
@@ -177,12 +160,12 @@ module _ {a : Scene} {b : Core} (n : ℕ) (is : IsRunner a n) where
 
   -- the thread m goes on, under which n ran
   direct_exits_walks : (m v : ℕ) (t : Core) → is_direct (goal_of (task_of n t) t) ≡ true → a.turn ≡ Turn.Run n → a.next ≡ Turn.Run m → place_of m a.base ≡ Some (Place.Under n) → Keep a b (call_ends (task_of n t) CallEnd.Returned t) → Trip a b (direct_exits n m v t) × (get (direct_exits n m v t).threads n ≡ None)
-  unfolding direct_exits set_how_far on_thread
+  unfolding direct_exits set_how_far set_place on_thread
   direct_exits_walks m v t direct runs to under c =
       let u = set_end (task_of n t) CallEnd.Returned t in
-      let e = ended_walks n (ended_last n (task_of n t) CallEnd.Returned t refl) (subst (λ (u : Core). Keep a b u) (sym (ends_untold (task_of n t) CallEnd.Returned t (untold (task_of n t) t direct))) c) in
+      let e = ended_walks n (ended_last n (task_of n t) CallEnd.Returned t refl) (subst (λ (u : Core). Keep a b u) (sym (ends_untold (task_of n t) CallEnd.Returned t (grind (arith, direct)))) c) in
       let gone = left_gone n e in
-      (subst (λ (y : Core). Trip a b (set_how_far m (HowFar.Answered v) y)) (placing_shifted (Move m Place.Running) (ended n u)).only (GoesBack e.before (ended n u) n m v (keep_stay e.stays) is runs to under e.settles (Uncovers n is to under (ap (λ (o : Option Thread). is_none o) gone) refl)), still_gone n m v (ended n u) gone)
+      (subst (λ (y : Core). Trip a b (set_how_far m (HowFar.Answered v) y)) (placing_shifted (Move m Place.Running) (ended n u)).only (GoesBack e.before (ended n u) n m v (keep_stay e.stays) is runs to under e.settles (Uncovers n is to under (ap (λ (o : Option Thread). is_none o) gone) refl)), grind (arith, nat_tests, get-change, gone))
 
   code_stops_walks : (order : List ℕ) {t : Core} → MayBar a (instance_of n t) false → Keep a b t → Keep a b (code_stops n order t)
   unfolding code_stops
@@ -255,7 +238,7 @@ module _ (x : Setting) (main : Main) (s : Core) (n : ℕ) (l : Label) (next : Tu
 
   skip_row_leads : Stands a s n → (ops : ℕ) (b : Bool) → Leads a s (skip_row x.component n ops s b)
   unfolding skipped
-  skip_row_leads on ops true = goes_on (Label.Data (DataLabel.SkipEq n)) (skipped x.component n ops s) refl (moved_to_walks n refl (min (position_of n s + 1 + ops) (length (script_of x.component n s))) refl (min_below _ _) NoWord)
+  skip_row_leads on ops true = goes_on (Label.Data (DataLabel.SkipEq n)) (skipped x.component n ops s) refl (moved_to_walks n refl (min (position_of n s + 1 + ops) (length (script_of x.component n s))) refl (grind arith) NoWord)
   skip_row_leads on ops false = goes_on (Label.Data (DataLabel.SkipEq n)) (advanced n s) refl (advanced_walks n refl on NoWord)
 
   pub data_row_leads : Stands a s n → (o : DataOp) → Leads a s (data_row x.component n s o)
@@ -306,10 +289,7 @@ module _ (x : Setting) (main : Main) (s : Core) (n : ℕ) (l : Label) (next : Tu
 
   -- where a holding entry returns
   bars : (w : Option ℕ) → l ≡ exit_label n w → is_explicit n s ≡ false → is_holding (kind_of (task_of n s) s) ≡ true → is_direct (goal_of (task_of n s) s) ≡ false → MayBar a (instance_of n s) false
-  bars w is implicit holding direct = ap (λ k. returned_holder s k) is ∙ ((exit_is n w s).1.1 ∙ ap (λ b. if b then Some (instance_of n s) else None) (all_three (is_explicit n s) (is_holding (kind_of (task_of n s) s)) (is_direct (goal_of (task_of n s) s)) implicit holding direct))
-    where
-      all_three : (e h d : Bool) → e ≡ false → h ≡ true → d ≡ false → (not e && (h && not d)) ≡ true
-      all_three e h d p q r = grind arith
+  bars w is implicit holding direct = ap (λ k. returned_holder s k) is ∙ ((exit_is n w s).1.1 ∙ grind (arith, implicit, holding, direct))
 
   blocking_exit_row_leads : (w : Option ℕ) → is_explicit n s ≡ false → kind_of (task_of n s) s ≡ ExportKind.Blocking → is_direct (goal_of (task_of n s) s) ≡ false → Leads a s (blocking_exit_row n w s)
   unfolding end_reopens set_do_not_enter on_instance
@@ -362,12 +342,12 @@ module _ (x : Setting) (main : Main) (s : Core) (n : ℕ) (l : Label) (next : Tu
   code_wait_row_leads k y held false plain bar ends has = λ order is to. stops_here k (code_waits n y order s) (plain _) (λ leave. lands (Move n (Place.Waiting y true)) (AwaitsEvent y leave ends has refl) (code_stops_walks n refl order (bar is) NoWord)) is to
 
   code_exits_leads : (k : Label) (held : List ℕ) → is_quiet s k ≡ true → ((t : Core) → l ≡ k → EndWords a t) → (l ≡ k → MayBar a (instance_of n s) false) → (rest : ℕ) → Leads a s (code_kind_row k n held s zero rest)
-  unfolding code_exits
+  unfolding code_exits code_stops set_do_not_enter on_instance
   code_exits_leads k held quiet says bar rest =
       trap_if_leads a s (not (passes_after_stop (instance_of n s) (foot_of n s) held s)) Trap.CannotBlockSyncTask _ (λ e.
       trap_if_leads a s (leaves_no_result n s) Trap.NoAsyncResult _ (λ f order.
       let h = checked_shifts (instance_of n s) (code_stops n order s) in
-      gone_here k (code_exits n order s) quiet (λ is leave. says (code_exits n order s) is) (λ is. ended_walks n (last_shifted n (shifts_shifted h) (code_stops_last n order s (last_of n s f))) (shifted h (code_stops_walks n refl order (bar is) NoWord)))))
+      gone_here k (code_exits n order s) quiet (λ is leave. says (code_exits n order s) is) (λ is. ended_walks n (last_shifted n (shifted_after (reopened_shifted (instance_of n s) order s) (shifted_after (shifts_shifted (stopped_shifts (foot_of n s) (end_reopens (instance_of n s) order s))) (shifts_shifted h))) (last_of n s f)) (shifted h (code_stops_walks n refl order (bar is) NoWord)))))
 
   code_kind_row_leads : (k : Label) (held : List ℕ) (low rest : ℕ) → ((t : Core) → is_still a t k ≡ true) → (l ≡ k → MayBar a (instance_of n s) false) → EndsActivation a n → Leads a s (code_kind_row k n held s low rest)
   unfolding code_yields
