@@ -1,10 +1,8 @@
 -- Each step owes of the ends what it should, and so each run has each end once.
-use Rattle.task_rules.proofs.Machine.{[], AbortsOwn, ap, arith, base_at, Bool, Core, false, fresh, get, get-empty, inl, inr, instance_of, is_some, is_spawn, Label, le_refl, Main, MainPlace, MayAbort, opening, ProgramAborts, refl, SameMain, Scene, scene_of, ScriptAborts, Scripted, Setting, slice_get, Some, spawned_at, State, Status, Step, subst, Subtask, subtask_at, subtask_handle, suc, sym, task_of, true, Unscripted, unwrap_or, Walked, zero, ℕ, ◌-◌, ◌∙◌, ◌≡◌, ◌≤◌, ◌⊎◌}
+use Rattle.task_rules.proofs.Machine.{[], AbortsOwn, ap, arith, base_at, Core, fresh, get, get-empty, instance_of, is_some, is_spawn, Label, le_refl, Main, main_opening, MainPlace, MayAbort, opening, ProgramAborts, refl, SameMain, Scene, scene_of, ScriptAborts, Scripted, Setting, slice_get, Some, spawned_at, State, Status, Step, subst, Subtask, subtask_at, suc, sym, task_of, true, Unscripted, unwrap_or, Walked, zero, ℕ, ⊎_elim, ◌-◌, ◌≡◌, ◌≤◌, ◌⊎◌}
 use Rattle.task_laws.proofs.NamedWorks.{NamesNoSync, abort_kept, names_word, opening_names}
-use Rattle.task_laws.proofs.Basics.{no_way}
 use Rattle.task_laws.proofs.CallsLaw.{CallsHold}
 use Rattle.task_laws.proofs.CallsSteps.{of_base}
-use Rattle.task_laws.specs.Settings.{Reached}
 use Rattle.task_rules.proofs.ChainLemmas.{along}
 use Rattle.task_laws.proofs.CallEnds.{EndsTold, opening_ends_told}
 use Rattle.task_laws.proofs.OnceLemmas.{Due, Over, EndStep, due_over, ends_once}
@@ -15,7 +13,6 @@ use Rattle.task_laws.proofs.WorksCame.{Doing, doing_of}
 use Rattle.task_laws.proofs.Works.{WorksGo, WorksHold, number_of, opening_works, first_works, works_word}
 use Rattle.task_rules.proofs.WalkSteps.{step_walks}
 use Rattle.task_laws.specs.Order.{InOrder, OpeningInOrder}
-use Rattle.task_laws.proofs.ReachLemmas.{reached_step}
 use Rattle.task_laws.proofs.StepEnds.{Answered, CallsFound, CallsKnown, calls_known, step_ends}
 use Rattle.task_places.specs.Once.{RunsAreOnce, IsUnbegun}
 use Rattle.task_places.proofs.OrderLemmas.{asked, held_of, opening_in_order, step_in_order}
@@ -27,7 +24,6 @@ abbrev DueOver : Core → Type 0
 DueOver s = (sub : Subtask) (e : Status) → Due sub e s → Over sub s
 
 record Known (x : Setting) (s : State) : Type 0 where
-  reached : Reached x s
   order : InOrder x.component s
   told : EndsTold s.core
   works : WorksHold (Unit {0}) s.core
@@ -36,15 +32,8 @@ record Known (x : Setting) (s : State) : Type 0 where
   zero : MayBeAborted s.core 0
   over : DueOver s.core
 
-named_there : (k h : ℕ) (s : Core) → subtask_handle (Subtask.Guest k) s ≡ Some h → is_some (get s.calls k) ≡ true
-named_there k h s e = grind arith
-
 spawn_is : {S : Type 0} {s : Core} → WorksHold S s → (i : ℕ) → is_spawn i s ≡ true → MayBeAborted s i
 spawn_is h i is = record { made = h.stand.number i (grind arith); other = grind arith }
-
-abbrev is_script : Main → Bool
-is_script (Scripted p) = true
-is_script Unscripted = false
 
 module _ (x : Setting) (s : State) (l : Label) (t : State) (k : Known x s) (step : Step x s l t) where
   w : Walked x s l t
@@ -99,16 +88,12 @@ module _ (x : Setting) (s : State) (l : Label) (t : State) (k : Known x s) (step
   spawns_after : (p : MainPlace) (j : ℕ) → t.main ≡ Scripted p → MayBeAborted t.core (spawned_at p j)
   spawns_after p j at = by s.main refl t.main at w.main
     where
-      place_in : Main → MainPlace
-      place_in (Scripted q) = q
-      place_in Unscripted = p
-
-      named : (o : MainPlace) → s.main ≡ Scripted o → ((n : ℕ) × (spawned_at p j ≡ spawned_at o n)) ⊎ (is_spawn (spawned_at p j) t.core ≡ true) → MayBeAborted t.core (spawned_at p j)
-      named o was (inl (n, same)) = subst (MayBeAborted t.core) (sym same) (works_after.1.1.0 (spawned_at o n) (k.unnamed.spawns o n was))
-      named o was (inr is) = spawn_is works_after.0.holds (spawned_at p j) is
-
       by : (m : Main) → s.main ≡ m → (n : Main) → n ≡ Scripted p → SameMain m t.core n → MayBeAborted t.core (spawned_at p j)
-      by (Scripted o) was (Scripted q) is same = named o was (subst (λ (r : MainPlace). ((n : ℕ) × (spawned_at r j ≡ spawned_at o n)) ⊎ (is_spawn (spawned_at r j) t.core ≡ true)) (ap place_in is) (same j))
+      by (Scripted o) was (Scripted q) is same =
+          let e : q ≡ p = cc in
+          subst (λ r. MayBeAborted t.core (spawned_at r j)) e
+          (⊎_elim (λ n. subst (MayBeAborted t.core) (sym n.1) (works_after.1.1.0 (spawned_at o n.0) (k.unnamed.spawns o n.0 was)))
+          (λ spawn. spawn_is works_after.0.holds (spawned_at q j) spawn) (same j))
       by m was n is same = absurd (grind arith)
 
   answered : Answered a
@@ -120,7 +105,7 @@ module _ (x : Setting) (s : State) (l : Label) (t : State) (k : Known x s) (step
   found : CallsFound a
   found = record {
     own = λ n runner. to_base (λ c. is_some (get c.calls (task_of n c)) ≡ true) (let there = runner_there x s l w.next k.order.in_place n runner in grind (arith, k.order.calls_there n (task_of n s.core)));
-    named = λ j named. to_base (λ c. (i h : ℕ) → subtask_at i h c ≡ Some (Subtask.Guest j) → is_some (get c.calls j) ≡ true) (λ i h e. named_there j h s.core (k.order.names.there i h j e)) (instance_of named.0 a.base) named.1.0 named.1.1.1;
+    named = λ j named. to_base (λ c. (i h : ℕ) → subtask_at i h c ≡ Some (Subtask.Guest j) → is_some (get c.calls j) ≡ true) (λ i h e. let there = k.order.names.there i h j e in grind arith) (instance_of named.0 a.base) named.1.0 named.1.1.1;
   }
 
   calls : CallsKnown x s t.core a
@@ -131,7 +116,6 @@ module _ (x : Setting) (s : State) (l : Label) (t : State) (k : Known x s) (step
 
   known_after : Known x t
   known_after = record {
-    reached = reached_step s l t k.reached step;
     order = step_in_order x s l t k.order step;
     told = calls.ends.told;
     works = works_after.0.holds;
@@ -152,14 +136,11 @@ zero_unmade : (instances handle_limit capacity : ℕ) → MayBeAborted (fresh in
 unfolding fresh
 zero_unmade instances handle_limit capacity = record { made = le_refl _; other = grind (arith, get-empty) }
 
-opening_spawns : (instances handle_limit capacity : ℕ) (main : Main) → IsUnbegun main → (p : MainPlace) (j : ℕ) → main ≡ Scripted p → MayBeAborted (fresh instances handle_limit capacity) (spawned_at p j)
-opening_spawns instances handle_limit capacity Unscripted begun p j is = no_way (ap is_script is)
-opening_spawns instances handle_limit capacity (Scripted q) begun p j is = subst (λ (n : ℕ). MayBeAborted (fresh instances handle_limit capacity) n) (ap (λ (r : MainPlace). spawned_at r j) (sym begun ∙ ap place_in is)) (none_spawned (j - 1))
+opening_spawns : (instances handle_limit capacity : ℕ) (main : Main) → IsUnbegun main → (p : MainPlace) (j : ℕ) → main ≡ Scripted p →
+    MayBeAborted (fresh instances handle_limit capacity) (spawned_at p j)
+opening_spawns instances handle_limit capacity Unscripted begun p j is = absurd (cc)
+opening_spawns instances handle_limit capacity (Scripted q) begun p j is = let e : p ≡ main_opening = cc in rw e (none_spawned (j - 1))
   where
-    place_in : Main → MainPlace
-    place_in (Scripted r) = r
-    place_in Unscripted = q
-
     none_spawned : (n : ℕ) → MayBeAborted (fresh instances handle_limit capacity) (unwrap_or (slice_get [] n) 0)
     none_spawned zero = zero_unmade instances handle_limit capacity
     none_spawned (suc n) = zero_unmade instances handle_limit capacity
@@ -170,7 +151,6 @@ runs_are_once x codes instances handle_limit capacity main begun ls t run =
     let s : State = opening instances handle_limit capacity main in
     ends_once x (Known x) (λ s l t k step. known_after x s l t k step) (λ s l t k step sub. end_step x s l t k step sub) s
     (record {
-      reached = record { scripts = codes; instances = instances; handle_limit = handle_limit; capacity = capacity; main = main; labels = []; run = refl };
       order = opening_in_order x.component codes instances handle_limit capacity main;
       told = opening_ends_told instances handle_limit capacity;
       works = opening_works instances handle_limit capacity;

@@ -44,7 +44,7 @@ pub use Rattle.task_rules.specs.OpParts.{callee_of_op, can_come, ends_activation
 pub use Rattle.task_rules.specs.Outcome.{main_outcome, outcome_of_label}
 pub use Rattle.task_rules.specs.Places.{entries, HasPlace, is_at_high, is_at_low, is_at_switch, is_behind_of, is_for_start, is_fresh, is_there, one_if, Placed, says, switch_entries, times}
 pub use Rattle.task_rules.specs.Progress.{Fails, Goes, may, Never, or_never, or_trap, Ordered, Progress, Stops, trap_if, Traps}
-pub use Rattle.task_rules.specs.Run.{opening, Run}
+pub use Rattle.task_rules.specs.Run.{main_opening, opening, Run}
 pub use Rattle.task_rules.specs.Scenes.{base_at, base_without, component_of, op_in, runner_at, Scene, scene_of, thread_of_entry}
 pub use Rattle.task_rules.specs.Scripts.{export_kind, host_at, is_script, op_of_thread, registers_for, script_in, script_of_thread, slot_at, value_of, values_in}
 unfoldable pub use Rattle.task_rules.specs.Scripts.{op_of, script_of}

@@ -1,5 +1,5 @@
 -- Threads and their entries, counted; what the words that put a thread do to them.
-use Rattle.task_rules.proofs.Machine.{[], ap, arith, Bool, callers_of, cond, Core, entries, Entry, eq-eqb, eqb-false, eqb-true, false, get-change, has_entry, HasPlace, if◌then◌else◌, is_at_high, is_at_low, is_at_switch, is_behind_of, is_blocked_on, is_entry_of, is_free, is_fresh, is_there, is_under, le_trans, less, List, Mark, nat_tests, newest, None, older, on_thread, one_if, Option, option_map, option_map_or, Place, place_of, push_high, push_low, put_high, put_low, refl, says, set_place, Some, subst, Subtask, switch_entries, sym, times, true, Why, ℕ, ◌++◌, ◌+◌, ◌==◌, ◌∙◌, ◌∷◌, ◌≡◌, ◌≢◌, ◌≤◌, ◌⊎◌}
+use Rattle.task_rules.proofs.Machine.{[], ap, arith, Bool, callers_of, cond, Core, entries, Entry, eq-eqb, eqb-false, eqb-true, false, get-change, has_entry, HasPlace, if◌then◌else◌, is_at_high, is_at_low, is_at_switch, is_behind_of, is_blocked_on, is_entry_of, is_free, is_fresh, is_there, is_under, le_trans, less, List, Mark, nat_tests, newest, older, on_thread, one_if, Option, option_map, option_map_or, Place, place_of, push_high, push_low, put_high, put_low, refl, says, set_place, Some, subst, Subtask, switch_entries, sym, times, true, Why, ℕ, ◌++◌, ◌+◌, ◌==◌, ◌∙◌, ◌∷◌, ◌≡◌, ◌≢◌, ◌≤◌, ◌⊎◌}
 
 -- ---- Numbers and lists
 
@@ -70,16 +70,8 @@ pub record Loose (n : ℕ) (s : Core) : Type 0 where
   pub low : entries n s.queues.low ≡ 0
   pub callers : (f : ℕ) → times n (callers_of f s) ≡ 0
 
--- what is said of the callers of a thread that may be gone
-pub none_there : (b : Bool) (x : ℕ) → x ≡ 0 → (if b then x else 0) ≡ 0
-none_there b x h = grind arith
-
 pub zero_one : {A : Type 0} {x : ℕ} → x ≡ 0 → x ≡ 1 → A
 zero_one {A = A} h g = absurd (omega (arith, h, g))
-
--- a loose thread that is gone has its place
-pub loose_gone : (n : ℕ) (s : Core) → place_of n s ≡ None → Loose n s → HasPlace n s
-loose_gone n s is l = grind arith
 
 -- who is among the callers of f is behind f
 pub callers_say : (n f : ℕ) (s : Core) → HasPlace n s → times n (callers_of f s) ≤ says (is_behind_of f) (place_of n s)
