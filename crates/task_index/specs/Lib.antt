@@ -1,0 +1,4 @@
+pub mod Index
+pub mod Rows
+pub mod Counts
+pub mod Members
