@@ -6,3 +6,4 @@ pub mod Rows
 pub mod Parts
 pub mod Counts
 pub mod Members
+pub mod Entries
