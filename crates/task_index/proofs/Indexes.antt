@@ -166,25 +166,26 @@ module _ {K P : Type 0} (chain : K → Option ℕ) where
     -- ---- What the chain of a key holds
 
     module _ (k : K) (c : ℕ) (has : chain k ≡ Some c) where
-      -- is an entry's value that has the key
-      pub held_filed : (v : P) → Holds links c v → IsFiled filing k v
-      held_filed v h =
-          let o = index.owner h.0 c v h.1 in
-          let f = o.1.0 in
-          by_key o.0 f o.1.1.0 f.key refl (sym (index.has_link o.0 f o.1.1.0) ∙ ap (link_of links) o.1.1.1 ∙ h.1)
+      -- an entry whose node is in it has the key
+      pub link_says : (r : ℕ) (f : Filing K P) → filing r ≡ Some f → (v : P) → link_of links f.node ≡ Some (c, v) → (f.key ≡ Some k) × (f.value ≡ v)
+      link_says r f at v link = by_key f.key refl (sym (index.has_link r f at) ∙ link)
         where
-          by_chain : (r : ℕ) (f : Filing K P) → filing r ≡ Some f → (j : K) → f.key ≡ Some j → (o : Option ℕ) → chain j ≡ o → option_map {U = ℕ × P} (λ d. (d, f.value)) o ≡ Some (c, v) → IsFiled filing k v
-          by_chain r f at j key None is link = no_such (c, v) link
-          by_chain r f at j key (Some d) is link =
+          by_chain : (j : K) → f.key ≡ Some j → (o : Option ℕ) → chain j ≡ o → option_map {U = ℕ × P} (λ d. (d, f.value)) o ≡ Some (c, v) → (f.key ≡ Some k) × (f.value ≡ v)
+          by_chain j key None is link = no_such (c, v) link
+          by_chain j key (Some d) is link =
               let one = same_Some (d, f.value) (c, v) link in
-              (r, (f, (at, (key ∙ ap (λ (i : K). Some i) (index.own_chain j k c (is ∙ ap (λ (e : ℕ × P). Some e.0) one) has), ap (λ (e : ℕ × P). e.1) one))))
+              (key ∙ ap (λ (i : K). Some i) (index.own_chain j k c (is ∙ ap (λ (e : ℕ × P). Some e.0) one) has), ap (λ (e : ℕ × P). e.1) one)
 
-          by_key : (r : ℕ) (f : Filing K P) → filing r ≡ Some f → (o : Option K) → f.key ≡ o → option_map {U = ℕ × P} (λ d. (d, f.value)) (option_and_then chain o) ≡ Some (c, v) → IsFiled filing k v
-          by_key r f at None key link = no_such (c, v) link
-          by_key r f at (Some j) key link = by_chain r f at j key (chain j) refl link
+          by_key : (o : Option K) → f.key ≡ o → option_map {U = ℕ × P} (λ d. (d, f.value)) (option_and_then chain o) ≡ Some (c, v) → (f.key ≡ Some k) × (f.value ≡ v)
+          by_key None key link = no_such (c, v) link
+          by_key (Some j) key link = by_chain j key (chain j) refl link
 
-      -- and each such value is in it
+      -- and the node of an entry that has the key is in it
+      pub filed_link : (r : ℕ) (f : Filing K P) → filing r ≡ Some f → f.key ≡ Some k → link_of links f.node ≡ Some (c, f.value)
+      filed_link r f at key = index.has_link r f at ∙ (ap (λ (o : Option K). option_map {U = ℕ × P} (λ d. (d, f.value)) (option_and_then chain o)) key ∙ ap (option_map {U = ℕ × P} (λ d. (d, f.value))) has)
+
+      pub held_filed : (v : P) → Holds links c v → IsFiled filing k v
+      held_filed v h = let o = index.owner h.0 c v h.1 in (o.0, (o.1.0, (o.1.1.0, link_says o.0 o.1.0 o.1.1.0 v (ap (link_of links) o.1.1.1 ∙ h.1))))
+
       pub filed_held : (v : P) → IsFiled filing k v → Holds links c v
-      filed_held v i =
-          let f = i.1.0 in
-          (f.node, index.has_link i.0 f i.1.1.0 ∙ (ap (λ (o : Option K). option_map {U = ℕ × P} (λ d. (d, f.value)) (option_and_then chain o)) i.1.1.1.0 ∙ (ap (option_map {U = ℕ × P} (λ d. (d, f.value))) has ∙ ap (λ (w : P). Some (c, w)) i.1.1.1.1)))
+      filed_held v i = let f = i.1.0 in (f.node, filed_link i.0 f i.1.1.0 i.1.1.1.0 ∙ ap (λ (w : P). Some (c, w)) i.1.1.1.1)

@@ -7,3 +7,4 @@ pub mod Parts
 pub mod Counts
 pub mod Members
 pub mod Entries
+pub mod Walks

@@ -2,3 +2,4 @@ pub mod Index
 pub mod Rows
 pub mod Counts
 pub mod Members
+pub mod Walks
