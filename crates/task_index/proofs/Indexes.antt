@@ -1,5 +1,5 @@
 -- Laws of an index: one entry is filed anew, is added or is removed, nodes and chains are made and dropped, and what a chain holds.
-use Rattle.std.proofs.Common.{inl, inr, ◌≡◌, ℕ, true, List, Option, Some, None, IsSome, refl, sym, ap, subst, ◌∙◌, option_map}
+use Rattle.std.proofs.Common.{inl, inr, ◌≡◌, ℕ, true, List, [], Option, Some, None, IsSome, refl, sym, ap, subst, ◌∙◌, option_map}
 use Rattle.std.proofs.lemmas.Bool.{cases_eq}
 use Rattle.std.proofs.lemmas.Option.{same_Some}
 use Rattle.std.specs.Prelude.{option_and_then}
@@ -189,3 +189,17 @@ module _ {K P : Type 0} (chain : K → Option ℕ) where
 
       pub filed_held : (v : P) → IsFiled filing k v → Holds links c v
       filed_held v i = let f = i.1.0 in (f.node, filed_link i.0 f i.1.1.0 i.1.1.1.0 ∙ ap (λ (w : P). Some (c, w)) i.1.1.1.1)
+
+-- where no key has a chain and nothing is said, nothing is asked of links without nodes
+pub IsIndex-nothing : {K P : Type 0} (filing : ℕ → Option (Filing K P)) → ((r : ℕ) → filing r ≡ None) → IsIndex (λ k. None) [] filing
+IsIndex-nothing {K} {P} filing none = record {
+  live = λ k c at. absurd (cc);
+  own_chain = λ j k c at_j at_k. absurd (cc);
+  made = λ r f at. no_entry f (sym (none r) ∙ at);
+  own_node = λ r s f g at_r at_s same. no_entry f (sym (none r) ∙ at_r);
+  has_link = λ r f at. no_entry f (sym (none r) ∙ at);
+  owner = λ n c v link. absurd (cc);
+}
+  where
+    no_entry : {X : Type 0} (f : Filing K P) → ◌≡◌ {A = Option (Filing K P)} None (Some f) → X
+    no_entry f is = absurd (cc)

@@ -8,3 +8,4 @@ pub mod Counts
 pub mod Members
 pub mod Entries
 pub mod Walks
+pub mod Queues
