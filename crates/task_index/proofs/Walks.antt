@@ -1,5 +1,5 @@
 -- The walk of an index's chain: the numbers of its nodes are just those of the records that pass, each once.
-use Rattle.std.proofs.Common.{inl, inr, ◌≡◌, ◌==◌, ◌⊎◌, ◌||◌, ℕ, Bool, true, false, List, [], ◌∷◌, Option, Some, None, map, refl, sym, ap, subst, ◌∙◌}
+use Rattle.std.proofs.Common.{inl, inr, ◌≡◌, ◌==◌, ◌||◌, ℕ, Bool, true, false, List, [], ◌∷◌, Option, Some, None, map, refl, sym, ap, subst, ◌∙◌}
 use Rattle.std.proofs.lemmas.Bool.{eq-eqb, eqb-true}
 use Rattle.task_index.proofs.Indexes.{filed_link, link_says}
 use Rattle.task_index.proofs.Tables.{filings_at}
