@@ -1,7 +1,6 @@
 -- What contracts see of a state: the machine's core, what each id names, and the thread that runs.
 use Rattle.std.specs.Prelude.{◌≡◌, ◌≢◌, ◌<◌, ℕ, ◌==◌, if◌then◌else◌, List, Option, Some, None, slice_get}
 use Rattle.task_table.specs.declared.id.TableId.{TableId}
-use Rattle.task_wait.specs.declared.keys.GroupKey.{GroupKey}
 use Rattle.task_wait.specs.declared.keys.GuestTaskKey.{GuestTaskKey}
 use Rattle.task_wait.specs.declared.keys.HostTaskKey.{HostTaskKey}
 use Rattle.task_wait.specs.declared.keys.SetKey.{SetKey}
@@ -14,7 +13,6 @@ pub record Tag : Type 0 where
   pub thread : ℕ
   pub call : ℕ
   pub set : ℕ
-  pub group : ℕ
 
 -- What stands at a place of the host works, spawns among them: its serial and its number.
 pub record WorkTag : Type 0 where
@@ -52,9 +50,6 @@ call_number tags id = named (λ tag. tag.call) id.serial (slice_get tags.entries
 unfoldable pub set_number : Tags → TableId SetKey → ℕ
 set_number tags id = named (λ tag. tag.set) id.serial (slice_get tags.entries id.rep)
 
-unfoldable pub group_number : Tags → TableId GroupKey → ℕ
-group_number tags id = named (λ tag. tag.group) id.serial (slice_get tags.entries id.rep)
-
 unfoldable pub work_number : Tags → TableId HostTaskKey → ℕ
 work_number tags id = named_work id.serial (slice_get tags.works id.rep)
 
@@ -66,9 +61,6 @@ call_of s id = call_number s.tags id
 
 abbrev pub set_of : StateView → TableId SetKey → ℕ
 set_of s id = set_number s.tags id
-
-abbrev pub group_of : StateView → TableId GroupKey → ℕ
-group_of s id = group_number s.tags id
 
 abbrev pub work_of : StateView → TableId HostTaskKey → ℕ
 work_of s id = work_number s.tags id
@@ -89,7 +81,6 @@ pub record Keeps (old new : Tags) : Type 0 where
   pub threads : (id : TableId ThreadKey) → 0 < thread_number old id → thread_number new id ≡ thread_number old id
   pub calls : (id : TableId GuestTaskKey) → 0 < call_number old id → call_number new id ≡ call_number old id
   pub sets : (id : TableId SetKey) → 0 < set_number old id → set_number new id ≡ set_number old id
-  pub groups : (id : TableId GroupKey) → 0 < group_number old id → group_number new id ≡ group_number old id
   pub works : (id : TableId HostTaskKey) → 0 < work_number old id → work_number new id ≡ work_number old id
 
 -- What may have lost its name, by kind; 0 where nothing of the kind has.
@@ -97,11 +88,10 @@ pub record Lost : Type 0 where
   pub thread : ℕ
   pub call : ℕ
   pub set : ℕ
-  pub group : ℕ
   pub work : ℕ
 
 abbrev pub nothing_lost : Lost
-nothing_lost = record { thread = 0; call = 0; set = 0; group = 0; work = 0 }
+nothing_lost = record { thread = 0; call = 0; set = 0; work = 0 }
 
 abbrev pub lost_thread : ℕ → Lost
 lost_thread n = record nothing_lost { thread = n }
@@ -112,9 +102,6 @@ lost_call k = record nothing_lost { call = k }
 abbrev pub lost_set : ℕ → Lost
 lost_set x = record nothing_lost { set = x }
 
-abbrev pub lost_group : ℕ → Lost
-lost_group g = record nothing_lost { group = g }
-
 abbrev pub lost_work : ℕ → Lost
 lost_work i = record nothing_lost { work = i }
 
@@ -123,5 +110,4 @@ pub record KeepsBut (lost : Lost) (old new : Tags) : Type 0 where
   pub threads : (id : TableId ThreadKey) → thread_number old id ≢ lost.thread → thread_number new id ≡ thread_number old id
   pub calls : (id : TableId GuestTaskKey) → call_number old id ≢ lost.call → call_number new id ≡ call_number old id
   pub sets : (id : TableId SetKey) → set_number old id ≢ lost.set → set_number new id ≡ set_number old id
-  pub groups : (id : TableId GroupKey) → group_number old id ≢ lost.group → group_number new id ≡ group_number old id
   pub works : (id : TableId HostTaskKey) → work_number old id ≢ lost.work → work_number new id ≡ work_number old id

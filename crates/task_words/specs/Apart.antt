@@ -1,0 +1,45 @@
+-- What the chains of entries and callers ask: a node stands in one chain at a time.
+use Rattle.std.specs.Prelude.{◌≡◌, ◌==◌, List, [], ◌∷◌, Option, None, Some, ℕ, if◌then◌else◌, suc}
+use Rattle.task_machine.specs.Core.{Core}
+use Rattle.task_machine.specs.Moves.{newest, older}
+use Rattle.task_machine.specs.Read.{callers_of}
+use Rattle.task_machine.specs.declared.records.Entry.{Entry}
+use Rattle.task_machine.specs.declared.records.Entry.TheVariants as entry
+use Rattle.task_rules.specs.Places.{entries, switch_entries, times}
+
+-- A thread has no entry at high or low.
+pub record IsUnqueued (n : ℕ) (s : Core) : Type 0 where
+  pub high : entries n s.queues.high ≡ 0
+  pub low : entries n s.queues.low ≡ 0
+
+-- A thread is behind nobody.
+abbrev pub IsBehindNobody : ℕ → Core → Type 0
+IsBehindNobody n s = (f : ℕ) → times n (callers_of f s) ≡ 0
+
+-- A thread has no entry, and is behind nobody.
+pub record IsApart (n : ℕ) (s : Core) : Type 0 where
+  pub unqueued : IsUnqueued n s
+  pub switch : switch_entries n s.queues.switch ≡ 0
+  pub behind : IsBehindNobody n s
+
+-- how many entries of the work stand in the list
+abbrev pub work_entries : ℕ → List Entry → ℕ
+work_entries i [] = 0
+work_entries i (entry.Push j ∷ es) = if i == j then suc (work_entries i es) else work_entries i es
+work_entries i (entry.Host j ∷ es) = if i == j then suc (work_entries i es) else work_entries i es
+work_entries i (entry.Thread n ∷ es) = work_entries i es
+
+-- the last of a list of threads
+abbrev pub newest_of : List ℕ → Option ℕ
+newest_of [] = None
+newest_of (n ∷ ns) = Some (newest n ns)
+
+-- all but the last
+abbrev pub older_of : List ℕ → List ℕ
+older_of [] = []
+older_of (n ∷ ns) = older n ns
+
+-- all but the first
+abbrev pub later_of : List ℕ → List ℕ
+later_of [] = []
+later_of (n ∷ ns) = ns
