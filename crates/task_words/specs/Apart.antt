@@ -12,6 +12,10 @@ pub record IsUnqueued (n : ℕ) (s : Core) : Type 0 where
   pub high : entries n s.queues.high ≡ 0
   pub low : entries n s.queues.low ≡ 0
 
+-- The thread at switch, if one stands there, has no entry elsewhere.
+abbrev pub IsSwitchUnqueued : Core → Type 0
+IsSwitchUnqueued s = (m : ℕ) → s.queues.switch ≡ Some m → IsUnqueued m s
+
 -- A thread is behind nobody.
 abbrev pub IsBehindNobody : ℕ → Core → Type 0
 IsBehindNobody n s = (f : ℕ) → times n (callers_of f s) ≡ 0

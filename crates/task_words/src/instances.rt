@@ -1,7 +1,6 @@
-ghost use Rattle.std.specs.Prelude.{◌≡◌, IfOk, IsSome, OnErr, OnOk, false, is_some, option_map, true};
-ghost use Rattle.task_machine.specs.Maps.{get};
-ghost use Rattle.task_machine.specs.Read.{at_handle_limit, backpressure_of, may_not_enter, may_not_suspend, new_handle, new_thread_handle, set_at, subtask_at, thread_at, word_of};
-ghost use Rattle.task_machine.specs.Write.{free_handle, free_thread_handle, set_backpressure, set_do_not_enter, set_do_not_suspend, set_word};
+ghost use Rattle.std.specs.Prelude.{◌≡◌, ◌<◌, IfOk, IsSome, OnErr, OnOk, false, option_map};
+ghost use Rattle.task_machine.specs.Read.{at_handle_limit, backpressure_of, instance_of, may_not_enter, may_not_suspend, new_handle, new_thread_handle, set_at, subtask_at, thread_at, word_of};
+ghost use Rattle.task_machine.specs.Write.{free_handle, set_backpressure, set_do_not_enter, set_do_not_suspend, set_word};
 ghost use Rattle.task_rules.specs.Calls.{with_thread_handle};
 ghost use Rattle.task_words.specs.Live.{live_set, live_subtask, live_thread};
 ghost use Rattle.task_words.specs.Names.{subtask_in};
@@ -61,21 +60,16 @@ pub trait InstanceWords: View {
     fn new_thread_handle(&self, instance: u32) -> u32
         ensures { result ≡ new_thread_handle instance (Self.view self.now).core };
 
-    /// Gives a thread its handle. Where memory is wanting, all is as before.
-    fn name_thread(&mut self, instance: u32, thread: ThreadId) -> Result<u32, NoMemory>
-        requires there { is_some (get (Self.view self.old).core.thread_handles instance) ≡ true }
+    /// Gives a thread its handle in its instance. Where memory is wanting, all is as before.
+    fn name_thread(&mut self, thread: ThreadId) -> Result<u32, NoMemory>
+        requires live { 0 < thread_of (Self.view self.old) thread }
         requires limit { at_handle_limit (Self.view self.old).core ≡ false }
-        ensures handle { IfOk result (λ h. h ≡ new_thread_handle instance (Self.view self.old).core) }
-        ensures new { OnOk result (Self.view self.new ≡ on_core (with_thread_handle instance (thread_of (Self.view self.old) thread)) (Self.view self.old)) }
+        ensures handle { IfOk result (λ h. h ≡ new_thread_handle (instance_of (thread_of (Self.view self.old) thread) (Self.view self.old).core) (Self.view self.old).core) }
+        ensures new { OnOk result (Self.view self.new ≡ on_core (with_thread_handle (instance_of (thread_of (Self.view self.old) thread) (Self.view self.old).core) (thread_of (Self.view self.old) thread)) (Self.view self.old)) }
         ensures err { OnErr result (Self.view self.new ≡ Self.view self.old) };
 
     /// Takes a handle back.
     fn free_handle(&mut self, instance: u32, handle: u32)
         requires { IsSome (subtask_at instance handle (Self.view self.old).core) }
         ensures { Self.view self.new ≡ on_core (free_handle instance handle) (Self.view self.old) };
-
-    /// Takes a thread handle back.
-    fn free_thread_handle(&mut self, instance: u32, handle: u32)
-        requires { IsSome (thread_at instance handle (Self.view self.old).core) }
-        ensures { Self.view self.new ≡ on_core (free_thread_handle instance handle) (Self.view self.old) };
 }

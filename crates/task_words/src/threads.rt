@@ -1,5 +1,6 @@
 ghost use Rattle.std.specs.Prelude.{◌≡◌, ◌+◌, ◌<◌, ◌≤◌, ◌^◌, IfOk, None, OnErr, OnOk, Some, false, length, true, ℕ};
 ghost use Rattle.task_machine.specs.Maps.{get};
+ghost use Rattle.task_machine.specs.Moves.{freed_thread_handle};
 ghost use Rattle.task_machine.specs.Read.{at_handle_limit, call_instance, fits, how_far_of, instance_of, is_explicit, is_last_thread, position_of, register_of, saved_callee_of, saved_own_of, task_of, thread_group, thread_handle_of};
 ghost use Rattle.task_machine.specs.Write.{add_thread, remove_thread, set_how_far, set_position, set_register, set_saved_callee, set_saved_own, set_script};
 ghost use Rattle.task_machine.specs.declared.records.Script.TheVariants as scripts;
@@ -109,7 +110,15 @@ pub trait ThreadWords: View {
         ensures tags { Keeps (Self.view self.old).tags (Self.view self.new).tags }
         ensures err { OnErr result (Self.view self.new ≡ Self.view self.old) };
 
-    /// A thread is gone, and those that were behind it are behind nobody.
+    /// A thread gives back its handle and is gone.
+    fn retire_thread(&mut self, thread: ThreadId)
+        requires live { 0 < thread_of (Self.view self.old) thread }
+        requires apart { IsApart (thread_of (Self.view self.old) thread) (Self.view self.old).core }
+        ensures core { (Self.view self.new).core ≡ remove_thread (thread_of (Self.view self.old) thread) (freed_thread_handle (instance_of (thread_of (Self.view self.old) thread) (Self.view self.old).core) (thread_handle_of (thread_of (Self.view self.old) thread) (Self.view self.old).core) (Self.view self.old).core) }
+        ensures current { (Self.view self.new).current ≡ (Self.view self.old).current }
+        ensures tags { KeepsBut (lost_thread (thread_of (Self.view self.old) thread)) (Self.view self.old).tags (Self.view self.new).tags };
+
+    /// A thread is gone, as it stands, and no thread is behind it any more.
     fn remove_thread(&mut self, thread: ThreadId)
         requires live { 0 < thread_of (Self.view self.old) thread }
         requires apart { IsApart (thread_of (Self.view self.old) thread) (Self.view self.old).core }

@@ -1,0 +1,11 @@
+//! The machine's moves over the words of a core: each has the name, the steps and the order of its
+//! definition, and its contract is that definition.
+#![tactic(auto)]
+
+mod moves;
+mod settle;
+
+pub use moves::{
+    check, passes_check, promote, promote_unless, put_high, put_low, put_switch,
+};
+pub use settle::{settle_call, settle_interest};
