@@ -1,19 +1,20 @@
 -- What the moves use of queues, places and names.
 use Rattle.std.proofs.Common.{ap, refl, subst, sym, ◌∙◌}
-use Rattle.std.specs.Prelude.{Bool, Option, Some, false, if◌then◌else◌, not, option_map, true, ◌&&◌, ℕ, ◌≡◌}
+use Rattle.std.specs.Prelude.{[], Bool, Option, Some, false, if◌then◌else◌, not, option_map, true, ◌&&◌, ◌++◌, ◌∷◌, ℕ, ◌≡◌}
 use Rattle.std.specs.Option.{option_map_or}
 use Rattle.task_table.specs.declared.id.TableId.{TableId}
 use Rattle.task_wait.specs.declared.keys.ThreadKey.{ThreadKey}
 use Rattle.task_machine.specs.Core.{Core}
 use Rattle.task_machine.specs.Maps.{get}
-use Rattle.task_machine.specs.Moves.{has_entry, is_deletable, is_deletable_call, less, promoted, stand, unqueued, why_of}
-use Rattle.task_machine.specs.Read.{has_thread}
-use Rattle.task_machine.specs.Write.{on_thread, set_high, set_low, set_place, set_switch}
+use Rattle.task_machine.specs.Moves.{behind_one, has_entry, is_deletable, is_deletable_call, less, promoted, stand, unqueued, why_of}
+use Rattle.task_machine.specs.Read.{callers_of, has_thread}
+use Rattle.task_machine.specs.Write.{on_thread, set_callers, set_high, set_low, set_place, set_switch}
 use Rattle.task_machine.specs.declared.records.Place.{Place}
+use Rattle.task_machine.specs.declared.records.Place.TheVariants as place
 use Rattle.task_machine.specs.declared.records.Why.{Why}
 use Rattle.task_machine.specs.declared.words.Mark.{Mark}
 use Rattle.task_machine.specs.declared.words.Mark.TheVariants as mark
-use Rattle.task_words.specs.Apart.{IsSwitchUnqueued, IsUnqueued}
+use Rattle.task_words.specs.Apart.{IsBehindNobody, IsSwitchUnqueued, IsUnqueued}
 use Rattle.task_words.specs.StateView.{KeepsBut, Lost, StateView, Tags, on_core, thread_of}
 
 -- a place says nothing of the queues
@@ -62,3 +63,16 @@ no_thread_left k s e = and_not (option_map_or is_deletable_call (get s.calls k) 
 -- ids that name what they named before
 pub keeps_all : (lost : Lost) (tags : Tags) → KeepsBut lost tags tags
 keeps_all lost tags = record { threads = λ id _. refl; calls = λ id _. refl; sets = λ id _. refl; works = λ id _. refl }
+
+pub behind_nobody_standing : (id : TableId ThreadKey) (p : Place) (s t : StateView) → IsBehindNobody (thread_of s id) s.core → t ≡ on_core (set_place (thread_of s id) p) s → IsBehindNobody (thread_of t id) t.core
+unfolding set_place on_thread
+behind_nobody_standing id p s t nobody e = subst (λ (v : StateView). IsBehindNobody (thread_of v id) v.core) (sym e) nobody
+
+pub behind_is : (f n : TableId ThreadKey) (s t u : StateView) → t ≡ on_core (set_place (thread_of s n) (place.Behind (thread_of s f))) s → u ≡ on_core (set_callers (thread_of t f) (callers_of (thread_of t f) t.core ++ thread_of t n ∷ [])) t → u ≡ on_core (behind_one (thread_of s f) (thread_of s n)) s
+unfolding behind_one set_place on_thread
+behind_is f n s t u e d =
+    subst
+    (λ (v : StateView). u ≡ on_core (set_callers (thread_of v f) (callers_of (thread_of v f) v.core ++ thread_of v n ∷ [])) v → u ≡ on_core (behind_one (thread_of s f) (thread_of s n)) s)
+    (sym e)
+    (λ d. d)
+    d

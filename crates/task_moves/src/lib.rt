@@ -4,8 +4,8 @@
 
 mod moves;
 mod settle;
+mod wakes;
 
-pub use moves::{
-    check, passes_check, promote, promote_unless, put_high, put_low, put_switch,
-};
+pub use moves::{check, passes_check, promote, promote_unless, put_high, put_low, put_switch};
 pub use settle::{settle_call, settle_interest};
+pub use wakes::{put_behind, unblock, wake};

@@ -9,7 +9,7 @@ use task_machine::Mark;
 use task_words::{PlaceId, ThreadId, WhyId, Words};
 
 /// A thread without an entry gets one at high.
-#[tactic(auto, using(crate::proofs::MoveLemmas::unqueued_standing), unfolding(task_machine::specs::Moves::put_high))]
+#[tactic(auto, unfolding(task_machine::specs::Moves::put_high))]
 pub fn put_high<W: Words>(w: &mut W, thread: ThreadId, why: WhyId)
     requires live { 0 < thread_of (W.view w.old) thread }
     requires unqueued { IsUnqueued (thread_of (W.view w.old) thread) (W.view w.old).core }
@@ -21,7 +21,7 @@ pub fn put_high<W: Words>(w: &mut W, thread: ThreadId, why: WhyId)
 }
 
 /// A thread without an entry gets one at low.
-#[tactic(auto, using(crate::proofs::MoveLemmas::unqueued_standing), unfolding(task_machine::specs::Moves::put_low))]
+#[tactic(auto, unfolding(task_machine::specs::Moves::put_low))]
 pub fn put_low<W: Words>(w: &mut W, thread: ThreadId, why: WhyId)
     requires live { 0 < thread_of (W.view w.old) thread }
     requires unqueued { IsUnqueued (thread_of (W.view w.old) thread) (W.view w.old).core }
@@ -33,7 +33,6 @@ pub fn put_low<W: Words>(w: &mut W, thread: ThreadId, why: WhyId)
 }
 
 // What was at switch goes to the front of high.
-#[tactic(auto, using(crate::proofs::MoveLemmas::unqueued_at_switch))]
 fn displace<W: Words>(w: &mut W)
     requires { IsSwitchUnqueued (W.view w.old).core }
     ensures { W.view w.new ≡ on_core (displaced (W.view w.old).core.queues.switch) (W.view w.old) }

@@ -1,10 +1,11 @@
 -- What the chains of entries and callers ask: a node stands in one chain at a time.
-use Rattle.std.specs.Prelude.{◌≡◌, ◌==◌, List, [], ◌∷◌, Option, None, Some, ℕ, if◌then◌else◌, suc}
+use Rattle.std.specs.Prelude.{◌≡◌, ◌==◌, true, List, [], ◌∷◌, Option, None, Some, ℕ, if◌then◌else◌, suc}
 use Rattle.task_machine.specs.Core.{Core}
 use Rattle.task_machine.specs.Moves.{newest, older}
-use Rattle.task_machine.specs.Read.{callers_of}
+use Rattle.task_machine.specs.Read.{blocked_on, callers_of, is_waiter}
 use Rattle.task_machine.specs.declared.records.Entry.{Entry}
 use Rattle.task_machine.specs.declared.records.Entry.TheVariants as entry
+use Rattle.task_machine.specs.declared.records.Subtask.{Subtask}
 use Rattle.task_rules.specs.Places.{entries, switch_entries, times}
 
 -- A thread has no entry at high or low.
@@ -47,3 +48,11 @@ older_of (n ∷ ns) = older n ns
 abbrev pub later_of : List ℕ → List ℕ
 later_of [] = []
 later_of (n ∷ ns) = ns
+
+-- Who waits on the set has no entry.
+abbrev pub AreWaitersUnqueued : ℕ → Core → Type 0
+AreWaitersUnqueued x s = (n : ℕ) → is_waiter x n s ≡ true → IsUnqueued n s
+
+-- Who is blocked on the subtask has no entry.
+abbrev pub IsBlockedUnqueued : Subtask → Core → Type 0
+IsBlockedUnqueued sub s = (n : ℕ) → blocked_on sub s ≡ Some n → IsUnqueued n s

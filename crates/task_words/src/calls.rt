@@ -95,7 +95,14 @@ pub trait CallWords: View {
 
     /// Makes a call by a thread, in the thread's group, and the call's first thread, which is New.
     /// Where memory is wanting, all is as before.
-    fn make_call(&mut self, thread: ThreadId, callee: Callee, kind: ExportKind, goal: Goal, words: &[u64]) -> Result<(ThreadId, CallId), NoMemory>
+    fn make_call(
+        &mut self,
+        thread: ThreadId,
+        callee: Callee,
+        kind: ExportKind,
+        goal: Goal,
+        words: &[u64],
+    ) -> Result<(ThreadId, CallId), NoMemory>
         requires live { 0 < thread_of (Self.view self.old) thread }
         requires words { length words.now ≤ 16 }
         requires few { (Self.view self.old).core.made.threads + 1 < 2 ^ 64 }
@@ -109,7 +116,13 @@ pub trait CallWords: View {
 
     /// Makes a direct call by a thread, and gives the call's first thread its handle. Where memory
     /// is wanting, all is as before.
-    fn make_direct_call(&mut self, thread: ThreadId, callee: Callee, kind: ExportKind, words: &[u64]) -> Result<(ThreadId, CallId), NoMemory>
+    fn make_direct_call(
+        &mut self,
+        thread: ThreadId,
+        callee: Callee,
+        kind: ExportKind,
+        words: &[u64],
+    ) -> Result<(ThreadId, CallId), NoMemory>
         requires live { 0 < thread_of (Self.view self.old) thread }
         requires words { length words.now ≤ 16 }
         requires few { (Self.view self.old).core.made.threads + 1 < 2 ^ 64 }
@@ -124,7 +137,12 @@ pub trait CallWords: View {
 
     /// Makes a group, a call by main in it, with room for its result, and the call's first thread.
     /// Where memory is wanting, all is as before.
-    fn make_call_by_main(&mut self, callee: Callee, kind: ExportKind, words: &[u64]) -> Result<(ThreadId, CallId), NoMemory>
+    fn make_call_by_main(
+        &mut self,
+        callee: Callee,
+        kind: ExportKind,
+        words: &[u64],
+    ) -> Result<(ThreadId, CallId), NoMemory>
         requires words { length words.now ≤ 16 }
         requires few { (Self.view self.old).core.made.threads + 1 < 2 ^ 64 }
         requires groups { (Self.view self.old).core.made.groups + 1 < 2 ^ 64 }

@@ -4,7 +4,9 @@ use task_table::TableId;
 use task_wait::{GuestTaskKey, HostTaskKey, SetKey, ThreadKey};
 
 pub type ThreadId = TableId<ThreadKey>;
+
 pub type CallId = TableId<GuestTaskKey>;
+
 pub type SetId = TableId<SetKey>;
 /// Names a host work, also a spawn, which has no entry in the table.
 pub type WorkId = TableId<HostTaskKey>;

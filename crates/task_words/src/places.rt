@@ -56,7 +56,8 @@ pub trait PlaceWords: View {
     /// The first waiter of a set, in the order of the set's chain.
     fn first_waiter(&self, set: SetId) -> Option<ThreadId>
         ensures none { IfNone result (has_waiter (set_of (Self.view self.now) set) (Self.view self.now).core ≡ false) }
-        ensures some { IfSome result (λ id. is_waiter (set_of (Self.view self.now) set) (thread_of (Self.view self.now) id) (Self.view self.now).core ≡ true) };
+        ensures some { IfSome result (λ id. is_waiter (set_of (Self.view self.now) set) (thread_of (Self.view self.now) id) (Self.view self.now).core ≡ true) }
+        ensures live { IfSome result (λ id. 0 < thread_of (Self.view self.now) id) };
 
     /// Whether some thread is behind this one.
     fn has_callers(&self, thread: ThreadId) -> bool

@@ -25,8 +25,7 @@ pub trait View {
 }
 
 /// All words.
-pub trait Words:
-    ThreadWords
+pub trait Words: ThreadWords
     + PlaceWords
     + CallWords
     + WorkWords
@@ -34,6 +33,4 @@ pub trait Words:
     + SetWords
     + InstanceWords
     + QueueWords
-    + ResultWords
-{
-}
+    + ResultWords {}

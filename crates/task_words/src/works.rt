@@ -90,7 +90,12 @@ pub trait WorkWords: View {
 
     /// Makes the work of a thread's `call`, in the thread's group, with its push, and gives it a
     /// handle in the thread's instance. Where memory is wanting, all is as before.
-    fn queue_call(&mut self, thread: ThreadId, register: u8, host: HostDef) -> Result<WorkId, NoMemory>
+    fn queue_call(
+        &mut self,
+        thread: ThreadId,
+        register: u8,
+        host: HostDef,
+    ) -> Result<WorkId, NoMemory>
         requires live { 0 < thread_of (Self.view self.old) thread }
         requires few { (Self.view self.old).core.made.works + 1 < 2 ^ 64 }
         requires room { fits 1 (Self.view self.old).core ≡ true }
