@@ -1,6 +1,6 @@
 -- What the moves use of queues, places and names.
 use Rattle.std.proofs.Common.{ap, refl, subst, sym, ◌∙◌}
-use Rattle.std.specs.Prelude.{[], Bool, Option, Some, false, if◌then◌else◌, not, option_map, true, ◌&&◌, ◌++◌, ◌∷◌, ℕ, ◌≡◌}
+use Rattle.std.specs.Prelude.{[], Bool, Some, false, if◌then◌else◌, not, option_map, true, ◌&&◌, ◌++◌, ◌∷◌, ℕ, ◌≡◌}
 use Rattle.std.specs.Option.{option_map_or}
 use Rattle.task_table.specs.declared.id.TableId.{TableId}
 use Rattle.task_wait.specs.declared.keys.ThreadKey.{ThreadKey}
