@@ -1,0 +1,40 @@
+-- What contracts see of the parts of a core.
+use Rattle.task_records.specs.Image.{Parts, image}
+use Rattle.task_records.specs.Sound.{Sound}
+use Rattle.task_records.specs.declared.parts.CoreParts.{CoreParts}
+use Rattle.task_words.specs.StateView.{StateView}
+
+abbrev pub parts : CoreParts → Parts
+parts a = record {
+  threads = a.threads;
+  calls = a.calls;
+  works = a.works;
+  sets = a.sets;
+  groups = a.groups;
+  instances = a.instances.items;
+  counter = a.counter;
+  places = a.places;
+  ready_calls = a.ready_calls;
+  ready_works = a.ready_works;
+  polled = a.polled;
+  marks = a.marks;
+  shelves = a.shelves;
+  behind = a.behind;
+  high = a.high;
+  low = a.low;
+  live = a.live;
+  switch = a.switch;
+  current = a.current;
+  results = a.results.entries;
+  kept = a.kept;
+  finished = a.finished;
+  capacity = a.capacity;
+  made = a.made;
+  trapped = a.trapped;
+}
+
+unfoldable pub seen : CoreParts → StateView
+seen a = image (parts a)
+
+unfoldable pub IsSound : CoreParts → Type 0
+IsSound a = Sound (parts a)
