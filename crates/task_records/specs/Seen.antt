@@ -1,4 +1,6 @@
 -- What contracts see of the parts of a core.
+use Rattle.std.specs.Prelude.{None, []}
+use Rattle.task_machine.specs.Core.{fresh}
 use Rattle.task_records.specs.Image.{Parts, image}
 use Rattle.task_records.specs.Sound.{Sound}
 use Rattle.task_records.specs.declared.parts.CoreParts.{CoreParts}
@@ -38,3 +40,7 @@ seen a = image (parts a)
 
 unfoldable pub IsSound : CoreParts → Type 0
 IsSound a = Sound (parts a)
+
+-- what is seen of a core in which nothing was made: no instance, a limit of 100,000 handles, and room for 1,000,000 entries
+abbrev pub nothing : StateView
+nothing = record { core = fresh 0 100000 1000000; tags = record { threads = []; calls = []; sets = []; works = [] }; current = None }

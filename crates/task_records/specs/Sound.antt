@@ -15,6 +15,8 @@ use Rattle.task_machine.specs.declared.component.ExportKind.TheVariants as kind
 use Rattle.task_machine.specs.declared.records.Call.{Call}
 use Rattle.task_machine.specs.declared.records.Goal.TheVariants as goal
 use Rattle.task_machine.specs.declared.records.Script.TheVariants as script
+use Rattle.task_machine.specs.declared.records.Thread.{Thread}
+use Rattle.task_machine.specs.declared.records.Work.{Work}
 use Rattle.task_records.specs.Image.{Parts, core_of}
 use Rattle.task_records.specs.Kept.{AreKept, IsCallKept, IsGroupKept, IsSetKept}
 use Rattle.task_records.specs.Keys.{call_key, group_key, set_key, thread_key, work_key}
@@ -46,15 +48,25 @@ pub record AreTables (p : Parts) : Type 0 where
   pub sets : SoundTable set_key p.sets p.made.sets
   pub groups : SoundTable group_key p.groups p.made.groups
 
--- a thread without what nothing hangs on
+-- a record without what nothing hangs on
+abbrev pub loose_thread : Thread → Thread
+loose_thread t = record t { position = 0; registers = []; script = script.Start; saved_own = None; saved_callee = None }
+
 abbrev pub bare_thread : GuestThread → GuestThread
-bare_thread g = record g { thread = record g.thread { position = 0; registers = []; script = script.Start; saved_own = None; saved_callee = None } }
+bare_thread g = record g { thread = loose_thread g.thread }
+
+abbrev pub loose_call : Call → Call
+loose_call c =
+    record c { kind = kind.Sync; started = false; starting_published = false; «end» = None; own_event = None; cancel_delivered = false; exited = false; result = None; borrows = 0 }
 
 abbrev pub bare_call : GuestTask → GuestTask
-bare_call g = record g { call = record g.call { kind = kind.Sync; started = false; starting_published = false; «end» = None; own_event = None; cancel_delivered = false; exited = false; result = None; borrows = 0 } }
+bare_call g = record g { call = loose_call g.call }
+
+abbrev pub loose_work : Work → Work
+loose_work w = record w { cancelled = false; borrows = 0 }
 
 abbrev pub bare_work : HostWork → HostWork
-bare_work w = record w { work = record w.work { cancelled = false; borrows = 0 } }
+bare_work w = record w { work = loose_work w.work }
 
 abbrev pub bare_instance : InstanceRecord → InstanceRecord
 bare_instance i = record i { instance = untouched }

@@ -1,3 +1,8 @@
+ghost use Rattle.std.specs.Prelude.{◌≡◌};
+ghost use Rattle.task_records.specs.Seen.{IsSound, nothing, seen};
+ghost use Rattle.task_table.specs.Changes.{with_capacity};
+ghost use Rattle.task_table.specs.Table.{IsTable, new_table};
+
 use crate::calls::{GuestTask, TaskGroup};
 use crate::instances::InstanceRecord;
 use crate::sets::WaitSet;
@@ -67,4 +72,67 @@ pub struct CoreParts {
     pub capacity: usize,
     pub made: Made,
     pub trapped: bool,
+}
+
+const NOTHING_MADE: Made = Made {
+    threads: 0,
+    works: 0,
+    sets: 0,
+    groups: 0,
+};
+
+const NOTHING_KEPT: Kept = Kept {
+    used: 0,
+    groups: 0,
+    interesting: 0,
+    live: 0,
+    moving: 0,
+};
+
+// A table for one kind of record, whose places are as many as there can be.
+fn records<T>(alloc: Global) -> ResourceTable<Single<T>>
+    ensures empty { result ≡ with_capacity 4294967295 new_table }
+    ensures sound { IsTable result }
+{
+    let mut table = ResourceTable::new(alloc);
+    table.set_max_capacity(4_294_967_295);
+    table
+}
+
+impl CoreParts {
+    /// A core in which nothing was made: no instance, a limit of 100,000 handles, and room for
+    /// 1,000,000 entries.
+    pub fn new(alloc: Global) -> CoreParts
+        ensures sound { IsSound result }
+        ensures seen { seen result ≡ nothing }
+    {
+        CoreParts {
+            alloc,
+            threads: records(alloc),
+            calls: records(alloc),
+            works: records(alloc),
+            sets: records(alloc),
+            groups: records(alloc),
+            instances: Vec::new(alloc),
+            counter: HandleCounter::new(100_000),
+            places: Links::new(alloc),
+            ready_calls: Links::new(alloc),
+            ready_works: Links::new(alloc),
+            polled: Links::new(alloc),
+            marks: Links::new(alloc),
+            shelves: Links::new(alloc),
+            behind: Links::new(alloc),
+            high: None,
+            low: None,
+            live: None,
+            switch: None,
+            current: None,
+            results: BTreeMap::new(alloc),
+            kept: NOTHING_KEPT,
+            finished: 0,
+            capacity: 1_000_000,
+            made: NOTHING_MADE,
+            trapped: false,
+        }
+    }
 }
