@@ -3,3 +3,5 @@ pub mod ReadLemmas
 pub mod TableLemmas
 pub mod WriteLemmas
 pub mod OpeningLemmas
+pub mod HomeLemmas
+pub mod StandLemmas

@@ -1,6 +1,9 @@
-ghost use Rattle.std.specs.Prelude.{◌≡◌, option_map};
+ghost use Rattle.std.specs.Prelude.{◌≡◌, IfNone, IfSome, Ok, option_map};
 ghost use Rattle.task_machine.specs.Maps.{get};
+ghost use Rattle.task_machine.specs.Read.{instance_of};
+ghost use Rattle.task_records.specs.Kinds.{item_of};
 ghost use Rattle.task_records.specs.Seen.{IsSound, seen};
+ghost use Rattle.task_table.specs.Answers.{item_at};
 ghost use Rattle.task_words.specs.StateView.{call_of, set_of, thread_of, work_of};
 
 use crate::calls::GuestTask;
@@ -13,7 +16,11 @@ use task_words::{CallId, SetId, ThreadId, WorkId};
 /// The record of a thread, if the id names one.
 pub fn thread(parts: &CoreParts, id: ThreadId) -> Option<&GuestThread>
     requires { IsSound parts.now }
-    ensures { option_map (λ g. g.now.thread) result ≡ get (seen parts.now).core.threads (thread_of (seen parts.now) id) }
+    ensures is { option_map (λ g. g.now.thread) result ≡ get (seen parts.now).core.threads (thread_of (seen parts.now) id) }
+    ensures item { IfSome result (λ g. Ok g.now ≡ item_at item_of parts.now.threads id.rep id.serial) }
+    ensures number { IfSome result (λ g. g.now.number ≡ thread_of (seen parts.now) id) }
+    ensures nothing { IfNone result (thread_of (seen parts.now) id ≡ 0) }
+    ensures instance { IfSome result (λ g. g.now.instance ≡ instance_of (thread_of (seen parts.now) id) (seen parts.now).core) }
 {
     match parts.threads.get(id) {
         Ok(entry) => Some(entry),
@@ -24,7 +31,10 @@ pub fn thread(parts: &CoreParts, id: ThreadId) -> Option<&GuestThread>
 /// The record of a call, if the id names one.
 pub fn call(parts: &CoreParts, id: CallId) -> Option<&GuestTask>
     requires { IsSound parts.now }
-    ensures { option_map (λ g. g.now.call) result ≡ get (seen parts.now).core.calls (call_of (seen parts.now) id) }
+    ensures is { option_map (λ g. g.now.call) result ≡ get (seen parts.now).core.calls (call_of (seen parts.now) id) }
+    ensures item { IfSome result (λ g. Ok g.now ≡ item_at item_of parts.now.calls id.rep id.serial) }
+    ensures number { IfSome result (λ g. g.now.number ≡ call_of (seen parts.now) id) }
+    ensures nothing { IfNone result (call_of (seen parts.now) id ≡ 0) }
 {
     match parts.calls.get(id) {
         Ok(entry) => Some(entry),
@@ -35,7 +45,10 @@ pub fn call(parts: &CoreParts, id: CallId) -> Option<&GuestTask>
 /// The record of a host work, if the id names one.
 pub fn work(parts: &CoreParts, id: WorkId) -> Option<&HostWork>
     requires { IsSound parts.now }
-    ensures { option_map (λ g. g.now.work) result ≡ get (seen parts.now).core.works (work_of (seen parts.now) id) }
+    ensures is { option_map (λ g. g.now.work) result ≡ get (seen parts.now).core.works (work_of (seen parts.now) id) }
+    ensures item { IfSome result (λ g. Ok g.now ≡ item_at item_of parts.now.works id.rep id.serial) }
+    ensures number { IfSome result (λ g. g.now.number ≡ work_of (seen parts.now) id) }
+    ensures nothing { IfNone result (work_of (seen parts.now) id ≡ 0) }
 {
     match parts.works.get(id) {
         Ok(entry) => Some(entry),
@@ -46,7 +59,10 @@ pub fn work(parts: &CoreParts, id: WorkId) -> Option<&HostWork>
 /// The record of a set, if the id names one.
 pub fn set(parts: &CoreParts, id: SetId) -> Option<&WaitSet>
     requires { IsSound parts.now }
-    ensures { option_map (λ g. g.now.set) result ≡ get (seen parts.now).core.sets (set_of (seen parts.now) id) }
+    ensures is { option_map (λ g. g.now.set) result ≡ get (seen parts.now).core.sets (set_of (seen parts.now) id) }
+    ensures item { IfSome result (λ g. Ok g.now ≡ item_at item_of parts.now.sets id.rep id.serial) }
+    ensures number { IfSome result (λ g. g.now.number ≡ set_of (seen parts.now) id) }
+    ensures nothing { IfNone result (set_of (seen parts.now) id ≡ 0) }
 {
     match parts.sets.get(id) {
         Ok(entry) => Some(entry),
