@@ -85,6 +85,9 @@ module _ {T X : Type 0} (number : T → ℕ) (rec : T → X) where
     pub shown_nowhere : (place : ℕ) → rep ≡ place → None ≡ option_map (λ (p : Placed (Single T)). p.serial) (place_at t place) → named serial (slice_get (map (tag_of key) t.places) rep) ≡ number_in (record_at key t.places place)
     shown_nowhere place at none = number_shown number rec t rep serial ∙ (ap (λ r. number_of key t r serial) at ∙ number_nowhere t place serial none)
 
+    pub shown_beyond : (made : ℕ) → SoundTable key t made → rep ≡ 4294967295 → named serial (slice_get (map (tag_of key) t.places) rep) ≡ 0
+    shown_beyond made sound beyond = number_shown number rec t rep serial ∙ number_beyond t made sound rep serial beyond
+
     module _ (made : ℕ) (sound : SoundTable key t made) (place n : ℕ) where
       -- the number that was kept stands there still
       pub shown_kept : (g : T) → Some g ≡ option_and_then (λ (p : Placed (Single T)). item_of p.entry) (place_at t place) → number g ≡ n → (m : ℕ) → m ≡ number_in (record_at key t.places place) → m ≡ kept_in (records key t.places) n

@@ -1,9 +1,10 @@
 -- What a write that a key does not see leaves of the key's records, and the records of a table seen by a function of its entries.
-use Rattle.std.proofs.Common.{◌≡◌, ◌==◌, ℕ, Bool, true, false, cond, List, [], ◌∷◌, map, Option, Some, None, refl, sym, ap, ap₂, ◌∙◌}
+use Rattle.std.proofs.Common.{◌≡◌, ◌==◌, ℕ, Bool, true, false, cond, List, [], ◌∷◌, map, Option, Some, None, refl, sym, ap, ap₂, subst, IsSome, ◌∙◌}
 use Rattle.std.specs.Option.{option_map}
 use Rattle.task_machine.specs.Maps.{Records, get}
 use Rattle.task_table.proofs.MappedLemmas.{mapped-with_entry_same, place_at-mapped}
 use Rattle.task_table.proofs.RecordLemmas.{get-records}
+use Rattle.task_records.specs.Names.{StandsAt}
 use Rattle.task_table.specs.Changes.{with_entry}
 use Rattle.task_table.specs.Mapped.{mapped, placed_as}
 use Rattle.task_table.specs.Records.{found_record, key_in, number_in, or_record, record_at, records, with_record}
@@ -75,3 +76,12 @@ module _ {E F X Y : Type 0} (key : E → Option (ℕ × X)) (name : F → Option
   pub get_mapped : (t : Table E) (n : ℕ) → get (records name (mapped f t).places) n ≡ option_map r (get (records key t.places) n)
   unfolding mapped
   get_mapped t n = get-records name (map (placed_as f) t.places) n ∙ (found_mapped n t.places ∙ ap (option_map r) (sym (get-records key t.places n)))
+
+  some_mapped : (o : Option X) → IsSome o → IsSome (option_map r o)
+  some_mapped None some = absurd (cc)
+  some_mapped (Some x) some = refl
+
+  -- where a number stands it stands
+  pub stands_mapped : (t : Table E) (rep n : ℕ) → StandsAt name (mapped f t) rep n → StandsAt key t rep n
+  unfolding mapped
+  stands_mapped t rep n at some = sym (number_at_mapped t rep) ∙ at (subst IsSome (sym (found_mapped n t.places)) (some_mapped (found_record key n t.places) some))

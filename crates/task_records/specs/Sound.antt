@@ -57,13 +57,13 @@ bare_thread g = record g { thread = loose_thread g.thread }
 
 abbrev pub loose_call : Call → Call
 loose_call c =
-    record c { kind = kind.Sync; started = false; starting_published = false; «end» = None; own_event = None; cancel_delivered = false; exited = false; result = None; borrows = 0 }
+    record c { kind = kind.Sync; started = false; starting_published = false; «end» = None; own_event = None; cancel_delivered = false; exited = false; result = None; handle = None; borrows = 0 }
 
 abbrev pub bare_call : GuestTask → GuestTask
 bare_call g = record g { call = loose_call g.call }
 
 abbrev pub loose_work : Work → Work
-loose_work w = record w { cancelled = false; borrows = 0 }
+loose_work w = record w { cancelled = false; handle = None; borrows = 0 }
 
 abbrev pub bare_work : HostWork → HostWork
 bare_work w = record w { work = loose_work w.work }

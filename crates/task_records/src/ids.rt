@@ -1,5 +1,6 @@
 ghost use Rattle.std.specs.Prelude.{◌≡◌};
 ghost use Rattle.task_machine.specs.Maps.{get};
+ghost use Rattle.task_machine.specs.Read.{task_of};
 ghost use Rattle.task_records.specs.Keys.{call_key, set_key, thread_key, work_key};
 ghost use Rattle.task_records.specs.Names.{StandsAt};
 ghost use Rattle.task_records.specs.Seen.{IsSound, seen};
@@ -127,6 +128,17 @@ pub fn named_set(parts: &CoreParts, place: u32, number: u64) -> SetId
                 nowhere()
             }
         }
+        None => nowhere(),
+    }
+}
+
+/// The call of a thread, which is there as long as the thread.
+pub fn task_of(parts: &CoreParts, thread: ThreadId) -> CallId
+    requires { IsSound parts.now }
+    ensures { call_of (seen parts.now) result ≡ task_of (thread_of (seen parts.now) thread) (seen parts.now).core }
+{
+    match crate::reads::thread(parts, thread) {
+        Some(entry) => call_at(parts, entry.task),
         None => nowhere(),
     }
 }

@@ -21,6 +21,7 @@ pub fn thread(parts: &CoreParts, id: ThreadId) -> Option<&GuestThread>
     ensures number { IfSome result (λ g. g.now.number ≡ thread_of (seen parts.now) id) }
     ensures nothing { IfNone result (thread_of (seen parts.now) id ≡ 0) }
     ensures instance { IfSome result (λ g. g.now.instance ≡ instance_of (thread_of (seen parts.now) id) (seen parts.now).core) }
+    ensures stranger { IfNone result (0 ≡ instance_of (thread_of (seen parts.now) id) (seen parts.now).core) }
 {
     match parts.threads.get(id) {
         Ok(entry) => Some(entry),

@@ -1,4 +1,4 @@
-use Rattle.task_records.proofs.HomeLemmas.{thread_instance}
+use Rattle.task_records.proofs.HomeLemmas.{no_instance, thread_instance}
 use Rattle.task_records.proofs.ReadLemmas.{thread_named, thread_read, thread_unnamed, thread_unread}
 use Rattle.task_records.proofs.reads.thread.Goals as goal
 
@@ -16,3 +16,6 @@ returns-in-Err-clause-nothing c = thread_unnamed c.args.parts.now c.args.id _ c.
 
 pub returns-in-Ok-clause-instance : goal.returns-in-Ok-clause-instance
 returns-in-Ok-clause-instance c = thread_instance c.args.parts.now c.requires c.args.id _ c.in-Ok.ensures
+
+pub returns-in-Err-clause-stranger : goal.returns-in-Err-clause-stranger
+returns-in-Err-clause-stranger c = no_instance c.args.parts.now c.requires _ (thread_unread c.args.parts.now c.requires c.args.id _ c.in-Err.ensures)
