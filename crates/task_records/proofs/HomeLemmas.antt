@@ -13,7 +13,7 @@ use Rattle.task_records.specs.Image.{core_of}
 use Rattle.task_records.specs.Keys.{call_key, thread_key, work_key}
 use Rattle.task_records.specs.Kinds.{item_of, on_item}
 use Rattle.task_records.specs.Names.{AtPlace, CallOf, HasHome, HasNumber, IsCallNamed, IsWorkNamed, Nothing, SetOf, Target, ThreadOf, WorkOf}
-use Rattle.task_records.specs.Seen.{IsSound, parts, seen}
+use Rattle.task_records.specs.Seen.{IsSound, parts_of, seen}
 use Rattle.task_records.specs.Sound.{bare, bare_call, bare_thread, bare_work, loose_call, loose_thread, loose_work}
 use Rattle.task_records.specs.declared.calls.GuestTask.{GuestTask}
 use Rattle.task_records.specs.declared.parts.CoreParts.{CoreParts}
@@ -30,7 +30,7 @@ use Rattle.task_wait.specs.declared.keys.ThreadKey.{ThreadKey}
 use Rattle.task_words.specs.StateView.{thread_of}
 
 module _ (a : CoreParts) where
-  bare_call_read : (k : ℕ) → get (core_of (bare (parts a))).calls k ≡ option_map loose_call (get (seen a).core.calls k)
+  bare_call_read : (k : ℕ) → get (core_of (bare (parts_of a))).calls k ≡ option_map loose_call (get (seen a).core.calls k)
   unfolding seen
   bare_call_read k = get_mapped call_key call_key (on_item bare_call) loose_call (λ e. refl) a.calls k
 
@@ -39,7 +39,7 @@ module _ (a : CoreParts) where
   instance_loose (Some c) = refl
 
   -- the instance of a call, also where the parts are bare
-  pub bare_instance : (k : ℕ) → call_instance k (core_of (bare (parts a))) ≡ call_instance k (seen a).core
+  pub bare_instance : (k : ℕ) → call_instance k (core_of (bare (parts_of a))) ≡ call_instance k (seen a).core
   bare_instance k = ap (λ o. (option_map_or (λ (c : Call). c.callee) o no_callee).instance) (bare_call_read k) ∙ instance_loose (get (seen a).core.calls k)
 
   module _ (sound : IsSound a) where
@@ -55,7 +55,7 @@ module _ (a : CoreParts) where
         ∙ ap (λ o. (option_map_or (λ (c : Call). c.callee) o no_callee).instance) no_call)
 
   module _ (sound : IsSound a) (id : TableId ThreadKey) (g : GuestThread) (is : Ok g ≡ item_at item_of a.threads id.rep id.serial) where
-    pub thread_home : HasHome (bare (parts a)) (bare_thread g)
+    pub thread_home : HasHome (bare (parts_of a)) (bare_thread g)
     unfolding IsSound
     thread_home =
         let one = item_stands (λ (g : GuestThread). g.number) (λ (g : GuestThread). g.thread) a.threads a.made.threads sound.tables.threads id.rep id.serial g is in
@@ -75,7 +75,7 @@ module _ (a : CoreParts) where
 
 module _ (a : CoreParts) where
   -- a number's place is that of the bare parts
-  pub place_bare : (rep : ℕ) (t : Target) → AtPlace (bare (parts a)) rep t → AtPlace (parts a) rep t
+  pub place_bare : (rep : ℕ) (t : Target) → AtPlace (bare (parts_of a)) rep t → AtPlace (parts_of a) rep t
   place_bare rep Nothing at = tt
   place_bare rep (ThreadOf n) at = stands_mapped thread_key thread_key (on_item bare_thread) loose_thread (λ e. refl) a.threads rep n at
   place_bare rep (CallOf k) at = stands_mapped call_key call_key (on_item bare_call) loose_call (λ e. refl) a.calls rep k at
@@ -83,13 +83,13 @@ module _ (a : CoreParts) where
   place_bare rep (SetOf x) at = at
 
 module _ (a : CoreParts) (sound : IsSound a) where
-  pub call_names : (id : TableId GuestTaskKey) (g : GuestTask) → Ok g ≡ item_at item_of a.calls id.rep id.serial → IsCallNamed (bare (parts a)) (bare_call g)
+  pub call_names : (id : TableId GuestTaskKey) (g : GuestTask) → Ok g ≡ item_at item_of a.calls id.rep id.serial → IsCallNamed (bare (parts_of a)) (bare_call g)
   unfolding IsSound
   call_names id g is =
       let one = item_stands (λ (g : GuestTask). g.number) (λ (g : GuestTask). g.call) a.calls a.made.threads sound.tables.calls id.rep id.serial g is in
       sound.whole.named.calls id.rep _ (place_at-mapped (on_item bare_call) a.calls id.rep ∙ (ap (placed_as (on_item bare_call)) one.1.0 ∙ ap (λ e. Some (record { serial = one.0.serial; parent = one.0.parent; entry = on_item bare_call e })) one.1.1.1))
 
-  pub work_names : (id : TableId HostTaskKey) (w : HostWork) → Ok w ≡ item_at item_of a.works id.rep id.serial → IsWorkNamed (bare (parts a)) (bare_work w)
+  pub work_names : (id : TableId HostTaskKey) (w : HostWork) → Ok w ≡ item_at item_of a.works id.rep id.serial → IsWorkNamed (bare (parts_of a)) (bare_work w)
   unfolding IsSound
   work_names id w is =
       let one = item_stands (λ (w : HostWork). w.number) (λ (w : HostWork). w.work) a.works a.made.works sound.tables.works id.rep id.serial w is in

@@ -6,7 +6,7 @@ use Rattle.task_records.proofs.KindLemmas.{item_number, item_read, number_shown,
 use Rattle.task_records.specs.Image.{image}
 use Rattle.task_records.specs.Keys.{call_key, set_key, thread_key, work_key}
 use Rattle.task_records.specs.Kinds.{item_of}
-use Rattle.task_records.specs.Seen.{IsSound, parts, seen}
+use Rattle.task_records.specs.Seen.{IsSound, parts_of, seen}
 use Rattle.task_records.specs.declared.calls.GuestTask.{GuestTask}
 use Rattle.task_records.specs.declared.parts.CoreParts.{CoreParts}
 use Rattle.task_records.specs.declared.sets.WaitSet.{WaitSet}

@@ -12,7 +12,7 @@ use Rattle.task_records.proofs.TableLemmas.{records_unseen}
 use Rattle.task_records.specs.Image.{callers_in, tag_of}
 use Rattle.task_records.specs.Keys.{call_key, thread_key, work_key}
 use Rattle.task_records.specs.Kinds.{entry_of, item_of, on_item}
-use Rattle.task_records.specs.Seen.{IsSound, parts, seen}
+use Rattle.task_records.specs.Seen.{IsSound, parts_of, seen}
 use Rattle.task_records.specs.Sound.{IsWhole, bare, bare_call, bare_thread, bare_work}
 use Rattle.task_records.specs.declared.calls.GuestTask.{GuestTask}
 use Rattle.task_records.specs.declared.parts.CoreParts.{CoreParts}
@@ -61,7 +61,7 @@ module _ (a : CoreParts) (sound : IsSound a) (id : TableId ThreadKey) where
     unfolding IsSound
     thread_sound = record {
       tables = record { threads = table_written (λ (g : GuestThread). g.number) (λ (g : GuestThread). g.thread) a.threads a.made.threads sound.tables.threads id.rep id.serial g is h thread_same; calls = sound.tables.calls; works = sound.tables.works; sets = sound.tables.sets; groups = sound.tables.groups };
-      whole = subst (λ (t : Table (Single GuestThread)). IsWhole (record (bare (parts a)) { threads = t })) (sym thread_bare) sound.whole;
+      whole = subst (λ (t : Table (Single GuestThread)). IsWhole (record (bare (parts_of a)) { threads = t })) (sym thread_bare) sound.whole;
     }
 
     callers_same : records (callers_in a.behind) (with_entry id.rep (entry_of h) a.threads).places ≡ records (callers_in a.behind) a.threads.places
@@ -108,7 +108,7 @@ module _ (a : CoreParts) (sound : IsSound a) (id : TableId GuestTaskKey) where
     unfolding IsSound
     call_sound = record {
       tables = record { threads = sound.tables.threads; calls = table_written (λ (g : GuestTask). g.number) (λ (g : GuestTask). g.call) a.calls a.made.threads sound.tables.calls id.rep id.serial g is h call_same; works = sound.tables.works; sets = sound.tables.sets; groups = sound.tables.groups };
-      whole = subst (λ (t : Table (Single GuestTask)). IsWhole (record (bare (parts a)) { calls = t })) (sym call_bare) sound.whole;
+      whole = subst (λ (t : Table (Single GuestTask)). IsWhole (record (bare (parts_of a)) { calls = t })) (sym call_bare) sound.whole;
     }
 
     calls_seen : Records Call → List (Option Tag) → StateView
@@ -151,7 +151,7 @@ module _ (a : CoreParts) (sound : IsSound a) (id : TableId HostTaskKey) where
     unfolding IsSound
     work_sound = record {
       tables = record { threads = sound.tables.threads; calls = sound.tables.calls; works = table_written (λ (g : HostWork). g.number) (λ (g : HostWork). g.work) a.works a.made.works sound.tables.works id.rep id.serial g is h work_same; sets = sound.tables.sets; groups = sound.tables.groups };
-      whole = subst (λ (t : Table (Single HostWork)). IsWhole (record (bare (parts a)) { works = t })) (sym work_bare) sound.whole;
+      whole = subst (λ (t : Table (Single HostWork)). IsWhole (record (bare (parts_of a)) { works = t })) (sym work_bare) sound.whole;
     }
 
     works_seen : Records Work → List (Option Tag) → StateView
