@@ -5,3 +5,6 @@ pub mod WriteLemmas
 pub mod OpeningLemmas
 pub mod HomeLemmas
 pub mod StandLemmas
+pub mod InstanceLemmas
+pub mod HandleLemmas
+pub mod InstanceReads

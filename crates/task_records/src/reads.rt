@@ -1,12 +1,14 @@
-ghost use Rattle.std.specs.Prelude.{◌≡◌, IfNone, IfSome, Ok, option_map};
+ghost use Rattle.std.specs.Prelude.{◌≡◌, IfNone, IfSome, Ok, option_copied, option_map, slice_get};
 ghost use Rattle.task_machine.specs.Maps.{get};
 ghost use Rattle.task_machine.specs.Read.{instance_of};
+ghost use Rattle.task_records.specs.Instances.{handle_table, named_of, thread_of as thread_named};
 ghost use Rattle.task_records.specs.Kinds.{item_of};
 ghost use Rattle.task_records.specs.Seen.{IsSound, seen};
 ghost use Rattle.task_table.specs.Answers.{item_at};
 ghost use Rattle.task_words.specs.StateView.{call_of, set_of, thread_of, work_of};
 
 use crate::calls::GuestTask;
+use crate::instances::InstanceRecord;
 use crate::parts::CoreParts;
 use crate::sets::WaitSet;
 use crate::threads::GuestThread;
@@ -68,5 +70,19 @@ pub fn set(parts: &CoreParts, id: SetId) -> Option<&WaitSet>
     match parts.sets.get(id) {
         Ok(entry) => Some(entry),
         Err(_) => None,
+    }
+}
+
+/// An instance, if there is one of this number.
+pub fn instance(parts: &CoreParts, index: u32) -> Option<&InstanceRecord>
+    ensures is { option_map (λ r. r.now.instance) result ≡ get (seen parts.now).core.instances index }
+    ensures handles { option_map (λ r. handle_table named_of r.now.handles) result ≡ get (seen parts.now).core.handles index }
+    ensures thread_handles { option_map (λ r. handle_table thread_named r.now.thread_handles) result ≡ get (seen parts.now).core.thread_handles index }
+    ensures item { option_copied result ≡ slice_get parts.now.instances.items index }
+{
+    if (index as usize) < parts.instances.len() {
+        Some(&parts.instances[index as usize])
+    } else {
+        None
     }
 }
