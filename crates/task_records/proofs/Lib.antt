@@ -8,3 +8,4 @@ pub mod StandLemmas
 pub mod InstanceLemmas
 pub mod HandleLemmas
 pub mod InstanceReads
+pub mod HandleReads

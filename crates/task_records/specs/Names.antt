@@ -1,5 +1,5 @@
 -- What the numbers in records name, and where it stands.
-use Rattle.std.specs.Prelude.{◌≡◌, ◌<◌, ℕ, Option, Some, IsSome, slice_get}
+use Rattle.std.specs.Prelude.{◌≡◌, ◌<◌, ◌≤◌, ℕ, Option, Some, IsSome, slice_get}
 use Rattle.task_handles.specs.Handles.{held_by}
 use Rattle.task_handles.specs.declared.kinds.HandleKind.{HandleKind}
 use Rattle.task_handles.specs.declared.kinds.HandleKind.TheVariants as handle
@@ -125,5 +125,7 @@ IsHeldNamed p handle.Set r = AtPlace p r.id (SetOf r.serial)
 
 -- What the handles of an instance name.
 pub record AreHandlesNamed (p : Parts) (i : InstanceRecord) : Type 0 where
+  pub small : (h : ℕ) (x : Held) → held_by i.handles h ≡ Some x → h ≤ 268435455
+  pub small_threads : (h : ℕ) (r : Rep) → held_by i.thread_handles h ≡ Some r → h ≤ 268435455
   pub handles : (h : ℕ) (x : Held) → held_by i.handles h ≡ Some x → IsHeldNamed p x.kind x.rep
   pub thread_handles : (h : ℕ) (r : Rep) → held_by i.thread_handles h ≡ Some r → AtPlace p r.id (ThreadOf r.serial)
