@@ -104,6 +104,7 @@ opening_chained = record {
   polled = no_index _ _ (λ k. refl) (λ r. refl);
   marks = no_rows _ _ _ _ no_row;
   shelves = no_rows _ _ _ _ (λ k. refl);
+  low = tt;
   behind = no_rows _ _ _ _ (λ k. refl);
 }
 
@@ -141,6 +142,7 @@ opening_counted = record {
   few = few;
   high = λ some. absurd (some refl);
   low = λ some. absurd (some refl);
+  works = λ rep q at. absent q at;
   results = λ k c at. absent c (sym (get-empty k) ∙ at);
 }
 

@@ -7,7 +7,7 @@ use Rattle.std.specs.BTreeMap.{is_at}
 use Rattle.std.specs.Map.{lookup}
 use Rattle.std.specs.Ordering.{nat_cmp}
 use Rattle.task_index.specs.Index.{IsIndex, filings}
-use Rattle.task_index.specs.Rows.{IsRows, part}
+use Rattle.task_index.specs.Rows.{Each, IsRows, part}
 use Rattle.task_machine.specs.Core.{untouched}
 use Rattle.task_machine.specs.Maps.{get}
 use Rattle.task_machine.specs.Read.{live_count}
@@ -23,7 +23,7 @@ use Rattle.task_records.specs.Keys.{call_key, group_key, set_key, thread_key, wo
 use Rattle.task_records.specs.Kinds.{on_item}
 use Rattle.task_records.specs.Names.{AreHandlesNamed, HasHome, IsCallNamed, IsWorkNamed}
 use Rattle.task_records.specs.Places.{live_chain, live_work, place_chain, place_filing, ready_call, ready_call_chain, ready_work, ready_work_chain}
-use Rattle.task_records.specs.Rows.{HaveNodes, IsFollower, IsSeated, callers_chain, callers_row, is_of_instance, row, row_chain, shelf_chain}
+use Rattle.task_records.specs.Rows.{HaveNodes, IsFollower, IsOfThread, IsSeated, Low, callers_chain, callers_row, is_of_instance, row, row_chain, shelf_chain}
 use Rattle.task_records.specs.declared.calls.GuestTask.{GuestTask}
 use Rattle.task_records.specs.declared.instances.InstanceRecord.{InstanceRecord}
 use Rattle.task_records.specs.declared.single.Single.{Single}
@@ -99,6 +99,7 @@ pub record AreChained (p : Parts) : Type 0 where
   pub polled : IsIndex (live_chain p) p.polled (filings live_work p.works)
   pub marks : IsRows (row_chain p) (λ q. q.mark.index) (IsSeated p) p.marks (row p)
   pub shelves : IsRows (shelf_chain p) (λ q. q.shelf.index) (IsSeated p) p.shelves (part is_of_instance (row p))
+  pub low : Each IsOfThread (row p Low)
   pub behind : IsRows (callers_chain p) (λ f. f.node.index) (IsFollower p) p.behind (callers_row p)
 
 -- Nodes: each entry has those by which it may stand in a row.
@@ -109,7 +110,7 @@ pub record HaveRowNodes (p : Parts) : Type 0 where
   pub works : HaveNodes (λ (w : HostWork). w.mark.index) p.works p.marks
   pub apart : (r s : ℕ) (q : Placed (Single GuestThread)) (w : Placed (Single HostWork)) → place_at p.threads r ≡ Some q → place_at p.works s ≡ Some w → q.entry.item.mark.index ≡ w.entry.item.mark.index → ⊥
 
--- Kept numbers, the rows of a core that has instances, and room for results.
+-- Kept numbers, the rows of a core that has instances or host works, and room for results.
 pub record AreCounted (p : Parts) : Type 0 where
   pub kept : AreKept (core_of p) p.kept
   pub live : p.counter.live ≡ live_count (core_of p)
@@ -119,6 +120,7 @@ pub record AreCounted (p : Parts) : Type 0 where
   pub few : p.capacity ≤ 4294967295
   pub high : (p.instances ≡ [] → ⊥) → IsSome p.high
   pub low : (p.instances ≡ [] → ⊥) → IsSome p.low
+  pub works : EachEntry (λ (w : HostWork). IsSome p.high) p.works
   pub results : (k : ℕ) (c : Call) → get (core_of p).calls k ≡ Some c → c.goal ≡ goal.Main → IsSome (lookup (is_at (nat_cmp k)) p.results)
 
 pub record IsWhole (p : Parts) : Type 0 where
