@@ -14,7 +14,7 @@ use Rattle.task_records.specs.Keys.{call_key, thread_key, work_key}
 use Rattle.task_records.specs.Kinds.{item_of, on_item}
 use Rattle.task_records.specs.Names.{AtPlace, CallOf, HasHome, HasNumber, IsCallNamed, IsWorkNamed, Nothing, SetOf, Target, ThreadOf, WorkOf}
 use Rattle.task_records.specs.Seen.{IsSound, parts_of, seen}
-use Rattle.task_records.specs.Sound.{bare, bare_call, bare_thread, bare_work, loose_call, loose_thread, loose_work}
+use Rattle.task_records.specs.Sound.{bare, bare_call, bare_thread, bare_work, loose_call, loose_thread, loose_work, uninterested, unmoved}
 use Rattle.task_records.specs.declared.calls.GuestTask.{GuestTask}
 use Rattle.task_records.specs.declared.parts.CoreParts.{CoreParts}
 use Rattle.task_records.specs.declared.threads.GuestThread.{GuestThread}
@@ -30,11 +30,11 @@ use Rattle.task_wait.specs.declared.keys.ThreadKey.{ThreadKey}
 use Rattle.task_words.specs.StateView.{thread_of}
 
 module _ (a : CoreParts) where
-  bare_call_read : (k : ℕ) → get (core_of (bare (parts_of a))).calls k ≡ option_map loose_call (get (seen a).core.calls k)
+  bare_call_read : (k : ℕ) → get (core_of (bare (parts_of a))).calls k ≡ option_map (λ c. uninterested (loose_call c)) (get (seen a).core.calls k)
   unfolding seen
-  bare_call_read k = get_mapped call_key call_key (on_item bare_call) loose_call (λ e. refl) a.calls k
+  bare_call_read k = get_mapped call_key call_key (on_item bare_call) (λ c. uninterested (loose_call c)) (λ e. refl) a.calls k
 
-  instance_loose : (o : Option Call) → (option_map_or (λ (c : Call). c.callee) (option_map loose_call o) no_callee).instance ≡ (option_map_or (λ (c : Call). c.callee) o no_callee).instance
+  instance_loose : (o : Option Call) → (option_map_or (λ (c : Call). c.callee) (option_map (λ c. uninterested (loose_call c)) o) no_callee).instance ≡ (option_map_or (λ (c : Call). c.callee) o no_callee).instance
   instance_loose None = refl
   instance_loose (Some c) = refl
 
@@ -69,7 +69,7 @@ module _ (a : CoreParts) where
 
     -- the number of the thread's call stands at the place that the thread keeps
     pub task_place : HasNumber call_key a.calls g.task (task_of (thread_of (seen a) id) (seen a).core)
-    task_place = sym (number_at_mapped call_key call_key (on_item bare_call) loose_call (λ e. refl) a.calls g.task) ∙ (thread_home.call ∙ sym thread_task)
+    task_place = sym (number_at_mapped call_key call_key (on_item bare_call) (λ c. uninterested (loose_call c)) (λ e. refl) a.calls g.task) ∙ (thread_home.call ∙ sym thread_task)
 
 -- ---- What is kept with a place
 
@@ -78,8 +78,8 @@ module _ (a : CoreParts) where
   pub place_bare : (rep : ℕ) (t : Target) → AtPlace (bare (parts_of a)) rep t → AtPlace (parts_of a) rep t
   place_bare rep Nothing at = tt
   place_bare rep (ThreadOf n) at = stands_mapped thread_key thread_key (on_item bare_thread) loose_thread (λ e. refl) a.threads rep n at
-  place_bare rep (CallOf k) at = stands_mapped call_key call_key (on_item bare_call) loose_call (λ e. refl) a.calls rep k at
-  place_bare rep (WorkOf i) at = stands_mapped work_key work_key (on_item bare_work) loose_work (λ e. refl) a.works rep i at
+  place_bare rep (CallOf k) at = stands_mapped call_key call_key (on_item bare_call) (λ c. uninterested (loose_call c)) (λ e. refl) a.calls rep k at
+  place_bare rep (WorkOf i) at = stands_mapped work_key work_key (on_item bare_work) (λ w. unmoved (loose_work w)) (λ e. refl) a.works rep i at
   place_bare rep (SetOf x) at = at
 
 module _ (a : CoreParts) (sound : IsSound a) where

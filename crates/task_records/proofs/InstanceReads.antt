@@ -66,6 +66,8 @@ module _ (a : CoreParts) (i : ℕ) where
     instance_sound sound = record {
       tables = record { threads = sound.tables.threads; calls = sound.tables.calls; works = sound.tables.works; sets = sound.tables.sets; groups = sound.tables.groups };
       whole = subst (λ (xs : List InstanceRecord). IsWhole (record (bare (parts_of a)) { instances = xs })) (sym (unchanged bare_instance loose)) sound.whole;
+      interesting = sound.interesting;
+      moving = sound.moving;
     }
 
     instances_seen : Records Instance → Records (Table Named) → Records (Table ℕ) → StateView

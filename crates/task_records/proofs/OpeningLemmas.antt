@@ -134,7 +134,7 @@ few = omega arith
 opening_counted : AreCounted (bare opening)
 unfolding records by_place_from table_use live_count size empty numbers mapped with_capacity
 opening_counted = record {
-  kept = record { used = refl; groups = refl; interesting = refl; live = refl; moving = refl };
+  kept = record { used = refl; groups = refl; live = refl };
   live = refl;
   calls = λ rep q at. absent q at;
   sets = λ rep q at. absent q at;
@@ -157,7 +157,10 @@ unfolding with_capacity
 table T = record { places_fit = within; capacity_fits = same; free_once = λ rep. refl; free_or_taken = refl; serials = λ rep p at. absent p at; parents = λ rep none. refl }
 
 pub opening_sound : Sound opening
+unfolding records with_capacity empty
 opening_sound = record {
+  interesting = refl;
+  moving = refl;
   tables = record { threads = opening_table thread_key (table _); calls = opening_table call_key (table _); works = opening_table work_key (table _); sets = opening_table set_key (table _); groups = opening_table group_key (table _) };
   whole = record { named = opening_named; chained = opening_chained; nodes = opening_nodes; counted = opening_counted };
 }

@@ -6,19 +6,20 @@ use Rattle.task_machine.specs.Write.{on_call, on_thread, on_work}
 use Rattle.task_machine.specs.declared.records.Call.{Call}
 use Rattle.task_machine.specs.declared.records.Thread.{Thread}
 use Rattle.task_machine.specs.declared.records.Work.{Work}
-use Rattle.task_records.proofs.KindLemmas.{item_stands, records_changed, refused_write, table_written, tags_written}
+use Rattle.task_records.proofs.KindLemmas.{item_stands, passing_same, records_changed, refused_write, table_written, tags_written}
 use Rattle.task_records.proofs.ReadLemmas.{call_shown, thread_shown, work_shown}
 use Rattle.task_records.proofs.TableLemmas.{records_unseen}
 use Rattle.task_records.specs.Image.{callers_in, tag_of}
 use Rattle.task_records.specs.Keys.{call_key, thread_key, work_key}
 use Rattle.task_records.specs.Kinds.{entry_of, item_of, on_item}
 use Rattle.task_records.specs.Seen.{IsSound, parts_of, seen}
-use Rattle.task_records.specs.Sound.{IsWhole, bare, bare_call, bare_thread, bare_work}
+use Rattle.task_records.specs.Sound.{IsWhole, bare, bare_call, bare_thread, bare_work, loose_call, loose_work, uninterested, unmoved}
 use Rattle.task_records.specs.declared.calls.GuestTask.{GuestTask}
 use Rattle.task_records.specs.declared.parts.CoreParts.{CoreParts}
 use Rattle.task_records.specs.declared.single.Single.{Single}
 use Rattle.task_records.specs.declared.threads.GuestThread.{GuestThread}
 use Rattle.task_records.specs.declared.works.HostWork.{HostWork}
+use Rattle.task_rules.specs.Works.{is_moving}
 use Rattle.task_table.proofs.MappedLemmas.{mapped-with_entry_same}
 use Rattle.task_table.specs.Answers.{item_at}
 use Rattle.task_table.specs.Changes.{with_entry}
@@ -31,6 +32,13 @@ use Rattle.task_wait.specs.declared.keys.GuestTaskKey.{GuestTaskKey}
 use Rattle.task_wait.specs.declared.keys.HostTaskKey.{HostTaskKey}
 use Rattle.task_wait.specs.declared.keys.ThreadKey.{ThreadKey}
 use Rattle.task_words.specs.StateView.{StateView, Tag, call_of, on_core, thread_of, work_of}
+
+-- a call, and a work, as far as another write may see it
+abbrev pub close_call : GuestTask → GuestTask
+close_call g = record g { call = loose_call g.call }
+
+abbrev pub close_work : HostWork → HostWork
+close_work w = record w { work = loose_work w.work }
 
 -- ---- Threads
 
@@ -62,6 +70,8 @@ module _ (a : CoreParts) (sound : IsSound a) (id : TableId ThreadKey) where
     thread_sound = record {
       tables = record { threads = table_written (λ (g : GuestThread). g.number) (λ (g : GuestThread). g.thread) a.threads a.made.threads sound.tables.threads id.rep id.serial g is h thread_same; calls = sound.tables.calls; works = sound.tables.works; sets = sound.tables.sets; groups = sound.tables.groups };
       whole = subst (λ (t : Table (Single GuestThread)). IsWhole (record (bare (parts_of a)) { threads = t })) (sym thread_bare) sound.whole;
+      interesting = sound.interesting;
+      moving = sound.moving;
     }
 
     callers_same : records (callers_in a.behind) (with_entry id.rep (entry_of h) a.threads).places ≡ records (callers_in a.behind) a.threads.places
@@ -90,7 +100,10 @@ module _ (a : CoreParts) (sound : IsSound a) (id : TableId GuestTaskKey) where
       (sym (refused_write (λ (g : GuestTask). g.number) (λ (g : GuestTask). g.call) a.calls a.made.threads sound.tables.calls id.rep id.serial why is f)
       ∙ ap (λ n. change n f (records call_key a.calls.places)) (sym (call_shown a id)))
 
-  module _ (g : GuestTask) (is : Ok g ≡ item_at item_of a.calls id.rep id.serial) (h : GuestTask) (loose : bare_call h ≡ bare_call g) where
+  module _ (g : GuestTask) (is : Ok g ≡ item_at item_of a.calls id.rep id.serial) (h : GuestTask) (close : close_call h ≡ close_call g) where
+    loose : bare_call h ≡ bare_call g
+    loose = ap (λ (x : GuestTask). record x { call = uninterested x.call }) close
+
     abbrev pub call_after : CoreParts
     call_after = record a { calls = with_entry id.rep (entry_of h) a.calls }
 
@@ -109,6 +122,8 @@ module _ (a : CoreParts) (sound : IsSound a) (id : TableId GuestTaskKey) where
     call_sound = record {
       tables = record { threads = sound.tables.threads; calls = table_written (λ (g : GuestTask). g.number) (λ (g : GuestTask). g.call) a.calls a.made.threads sound.tables.calls id.rep id.serial g is h call_same; works = sound.tables.works; sets = sound.tables.sets; groups = sound.tables.groups };
       whole = subst (λ (t : Table (Single GuestTask)). IsWhole (record (bare (parts_of a)) { calls = t })) (sym call_bare) sound.whole;
+      interesting = sound.interesting ∙ sym (passing_same (λ (g : GuestTask). g.number) (λ (g : GuestTask). g.call) a.calls a.made.threads sound.tables.calls id.rep id.serial g is h call_same (λ c. c.interesting) (ap (λ (x : GuestTask). x.call.interesting) close));
+      moving = sound.moving;
     }
 
     calls_seen : Records Call → List (Option Tag) → StateView
@@ -133,25 +148,30 @@ module _ (a : CoreParts) (sound : IsSound a) (id : TableId HostTaskKey) where
       (sym (refused_write (λ (g : HostWork). g.number) (λ (g : HostWork). g.work) a.works a.made.works sound.tables.works id.rep id.serial why is f)
       ∙ ap (λ n. change n f (records work_key a.works.places)) (sym (work_shown a id)))
 
-  module _ (g : HostWork) (is : Ok g ≡ item_at item_of a.works id.rep id.serial) (h : HostWork) (loose : bare_work h ≡ bare_work g) where
+  module _ (g : HostWork) (is : Ok g ≡ item_at item_of a.works id.rep id.serial) (h : HostWork) (close : close_work h ≡ close_work g) where
+    work_loose : bare_work h ≡ bare_work g
+    work_loose = ap (λ (x : HostWork). record x { work = unmoved x.work }) close
+
     abbrev pub work_after : CoreParts
     work_after = record a { works = with_entry id.rep (entry_of h) a.works }
 
     work_same : h.number ≡ g.number
-    work_same = ap (λ (x : HostWork). x.number) loose
+    work_same = ap (λ (x : HostWork). x.number) work_loose
 
     work_stands : (p : Placed (Single HostWork)) × ((place_at a.works id.rep ≡ Some p) × ((p.serial ≡ id.serial) × (p.entry ≡ entry_of g)))
     unfolding IsSound
     work_stands = item_stands (λ (g : HostWork). g.number) (λ (g : HostWork). g.work) a.works a.made.works sound.tables.works id.rep id.serial g is
 
     work_bare : mapped (on_item bare_work) (with_entry id.rep (entry_of h) a.works) ≡ mapped (on_item bare_work) a.works
-    work_bare = mapped-with_entry_same (on_item bare_work) a.works id.rep (entry_of h) work_stands.0 work_stands.1.0 (ap entry_of loose ∙ ap (on_item bare_work) (sym work_stands.1.1.1))
+    work_bare = mapped-with_entry_same (on_item bare_work) a.works id.rep (entry_of h) work_stands.0 work_stands.1.0 (ap entry_of work_loose ∙ ap (on_item bare_work) (sym work_stands.1.1.1))
 
     pub work_sound : IsSound work_after
     unfolding IsSound
     work_sound = record {
       tables = record { threads = sound.tables.threads; calls = sound.tables.calls; works = table_written (λ (g : HostWork). g.number) (λ (g : HostWork). g.work) a.works a.made.works sound.tables.works id.rep id.serial g is h work_same; sets = sound.tables.sets; groups = sound.tables.groups };
       whole = subst (λ (t : Table (Single HostWork)). IsWhole (record (bare (parts_of a)) { works = t })) (sym work_bare) sound.whole;
+      interesting = sound.interesting;
+      moving = sound.moving ∙ sym (passing_same (λ (g : HostWork). g.number) (λ (g : HostWork). g.work) a.works a.made.works sound.tables.works id.rep id.serial g is h work_same is_moving (ap (λ (x : HostWork). is_moving x.work) close));
     }
 
     works_seen : Records Work → List (Option Tag) → StateView

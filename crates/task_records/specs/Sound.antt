@@ -6,6 +6,7 @@ use Rattle.std.specs.Prelude.{◌≡◌, ◌<◌, ◌≤◌, ℕ, false, List, [
 use Rattle.std.specs.BTreeMap.{is_at}
 use Rattle.std.specs.Map.{lookup}
 use Rattle.std.specs.Ordering.{nat_cmp}
+use Rattle.task_index.specs.Counts.{passing}
 use Rattle.task_index.specs.Index.{IsIndex, filings}
 use Rattle.task_index.specs.Rows.{Each, IsRows, part}
 use Rattle.task_machine.specs.Core.{untouched}
@@ -13,10 +14,12 @@ use Rattle.task_machine.specs.Maps.{get}
 use Rattle.task_machine.specs.Read.{live_count}
 use Rattle.task_machine.specs.declared.component.ExportKind.TheVariants as kind
 use Rattle.task_machine.specs.declared.records.Call.{Call}
+use Rattle.task_machine.specs.declared.records.Course.TheVariants as course
 use Rattle.task_machine.specs.declared.records.Goal.TheVariants as goal
 use Rattle.task_machine.specs.declared.records.Script.TheVariants as script
 use Rattle.task_machine.specs.declared.records.Thread.{Thread}
 use Rattle.task_machine.specs.declared.records.Work.{Work}
+use Rattle.task_machine.specs.declared.words.Phase.TheVariants as phase
 use Rattle.task_records.specs.Image.{Parts, core_of}
 use Rattle.task_records.specs.Kept.{AreKept, IsCallKept, IsGroupKept, IsSetKept}
 use Rattle.task_records.specs.Keys.{call_key, group_key, set_key, thread_key, work_key}
@@ -29,6 +32,7 @@ use Rattle.task_records.specs.declared.instances.InstanceRecord.{InstanceRecord}
 use Rattle.task_records.specs.declared.single.Single.{Single}
 use Rattle.task_records.specs.declared.threads.GuestThread.{GuestThread}
 use Rattle.task_records.specs.declared.works.HostWork.{HostWork}
+use Rattle.task_rules.specs.Works.{is_moving}
 use Rattle.task_table.specs.Mapped.{mapped}
 use Rattle.task_table.specs.Records.{AreApart, found_record}
 use Rattle.task_table.specs.Table.{IsTable, Placed, Table, children_of, place_at}
@@ -55,18 +59,25 @@ loose_thread t = record t { position = 0; registers = []; script = script.Start;
 abbrev pub bare_thread : GuestThread → GuestThread
 bare_thread g = record g { thread = loose_thread g.thread }
 
+-- of calls and works two fields are only counted
 abbrev pub loose_call : Call → Call
 loose_call c =
     record c { kind = kind.Sync; started = false; starting_published = false; «end» = None; own_event = None; cancel_delivered = false; exited = false; result = None; handle = None; borrows = 0 }
 
+abbrev pub uninterested : Call → Call
+uninterested c = record c { interesting = false }
+
 abbrev pub bare_call : GuestTask → GuestTask
-bare_call g = record g { call = loose_call g.call }
+bare_call g = record g { call = uninterested (loose_call g.call) }
 
 abbrev pub loose_work : Work → Work
 loose_work w = record w { cancelled = false; handle = None; borrows = 0 }
 
+abbrev pub unmoved : Work → Work
+unmoved w = record w { course = course.NoValue; phase = phase.Complete }
+
 abbrev pub bare_work : HostWork → HostWork
-bare_work w = record w { work = loose_work w.work }
+bare_work w = record w { work = unmoved (loose_work w.work) }
 
 abbrev pub bare_instance : InstanceRecord → InstanceRecord
 bare_instance i = record i { instance = untouched }
@@ -132,3 +143,5 @@ pub record IsWhole (p : Parts) : Type 0 where
 pub record Sound (p : Parts) : Type 0 where
   pub tables : AreTables p
   pub whole : IsWhole (bare p)
+  pub interesting : p.kept.interesting ≡ passing (λ c. c.interesting) (core_of p).calls
+  pub moving : p.kept.moving ≡ passing is_moving (core_of p).works
