@@ -9,3 +9,4 @@ pub mod InstanceLemmas
 pub mod HandleLemmas
 pub mod InstanceReads
 pub mod HandleReads
+pub mod KeptLemmas
