@@ -1,17 +1,21 @@
 -- Kept numbers are what the machine counts, as contracts see it.
 use Rattle.std.proofs.Common.{◌≡◌, ◌+◌, ◌<◌, ◌*◌, ◌||◌, ℕ, Bool, true, false, cond, List, [], ◌∷◌, T, count_by, length, map, nat_lt, refl, sym, ap, ap₂, subst, ◌∙◌, arith}
+use Rattle.std.proofs.lemmas.Bool.{ne_eqb}
 use Rattle.std.proofs.lemmas.List.{length-map}
+use Rattle.std.proofs.lemmas.Option.{same_Some}
 use Rattle.std.proofs.lemmas.List.Sums.{sum_by-cons}
 use Rattle.std.specs.List.{list_any}
 use Rattle.std.specs.Option.{option_map}
 use Rattle.task_index.specs.Counts.{passing}
 use Rattle.task_machine.specs.Maps.{Records, get, same_map, size}
-use Rattle.task_machine.specs.Read.{is_host_call, is_in_set, is_live, keeps_set, live_count, table_use}
+use Rattle.task_machine.specs.Read.{has_thread, has_waiters, is_host_call, is_in_set, is_live, keeps_set, live_count, table_use}
 use Rattle.task_machine.specs.declared.records.Call.{Call}
 use Rattle.task_machine.specs.declared.records.Thread.{Thread}
 use Rattle.task_machine.specs.declared.records.Work.{Work}
 use Rattle.task_records.proofs.HandleLemmas.{find-mapped}
 use Rattle.task_records.proofs.KindLemmas.{item_stands}
+use Rattle.task_index.proofs.Tables.{none_in_records}
+use Rattle.task_records.proofs.ReadLemmas.{call_named, set_named}
 use Rattle.task_records.proofs.TableLemmas.{get_mapped, with_second}
 use Rattle.task_records.specs.Image.{core_of}
 use Rattle.task_records.specs.Instances.{by_place, handle_table, is_sorted-mapped, mapped as mapped_list, named_of, thread_of as thread_named}
@@ -24,12 +28,15 @@ use Rattle.task_records.specs.declared.calls.GuestTask.{GuestTask}
 use Rattle.task_records.specs.declared.instances.InstanceRecord.{InstanceRecord}
 use Rattle.task_records.specs.declared.parts.CoreParts.{CoreParts}
 use Rattle.task_records.specs.declared.sets.WaitSet.{WaitSet}
-use Rattle.std.specs.Prelude.{Ok, Option, Some, ◌==◌}
+use Rattle.task_records.specs.declared.single.Single.{Single}
+use Rattle.task_records.specs.declared.threads.GuestThread.{GuestThread}
+use Rattle.std.specs.Prelude.{None, Ok, Option, Some, ◌==◌}
 use Rattle.task_table.proofs.MappedLemmas.{place_at-mapped}
 use Rattle.task_table.specs.Answers.{item_at}
 use Rattle.task_table.specs.Mapped.{mapped, placed_as}
-use Rattle.task_table.specs.Records.{records}
-use Rattle.task_table.specs.Table.{Table}
+use Rattle.task_table.specs.Records.{key_in, records}
+use Rattle.task_table.specs.Table.{Placed, Table, place_at}
+use Rattle.task_words.specs.StateView.{call_of, set_of}
 use Rattle.task_table.specs.declared.id.TableId.{TableId}
 use Rattle.task_wait.specs.declared.keys.GuestTaskKey.{GuestTaskKey}
 use Rattle.task_wait.specs.declared.keys.SetKey.{SetKey}
@@ -150,3 +157,32 @@ module _ (a : CoreParts) where
 
     pub set_entries : (id : TableId SetKey) (x : WaitSet) → Ok x ≡ item_at item_of a.sets id.rep id.serial → x.entries ≡ entries_for x.number (seen a).core
     set_entries id x is = (set_kept id x is).entries ∙ count_threads (λ t. keeps_set x.number t t.place)
+
+    -- ---- What is left of a call
+
+    pub some_thread : (id : TableId GuestTaskKey) (g : GuestTask) → Ok g ≡ item_at item_of a.calls id.rep id.serial → nat_lt 0 g.threads ≡ has_thread (call_of (seen a) id) (seen a).core
+    unfolding has_thread
+    some_thread id g is =
+        ap (nat_lt 0) (call_threads id g is)
+        ∙ (any_passing (λ t. t.call == g.number) (seen a).core.threads
+        ∙ ap (λ k. list_any (λ (e : ℕ × Thread). e.1.call == k) (seen a).core.threads.list) (call_named a id g is))
+
+    -- no thread is of the call 0
+    call_above : (r : ℕ) (o : Option (Placed (Single GuestThread))) → place_at a.threads r ≡ o → (x : ℕ × Thread) → key_in thread_key o ≡ Some x → (x.1.call == 0) ≡ false
+    unfolding IsSound
+    call_above r None at x is = absurd (cc)
+    call_above r (Some q) at x is =
+        let there = (sound.whole.named.threads r (record { serial = q.serial; parent = q.parent; entry = on_item bare_thread q.entry }) (place_at-mapped (on_item bare_thread) a.threads r ∙ ap (placed_as (on_item bare_thread)) at)).there in
+        let same : q.entry.item.thread.call ≡ x.1.call = ap (λ (e : ℕ × Thread). e.1.call) (same_Some (q.entry.item.number, q.entry.item.thread) x is) in
+        ne_eqb x.1.call 0 (λ zero. omega arith)
+
+    pub no_thread : false ≡ has_thread 0 (seen a).core
+    unfolding has_thread seen
+    no_thread = sym (none_in_records (λ (e : ℕ × Thread). e.1.call == 0) thread_key a.threads.places (λ r x at. call_above r (place_at a.threads r) refl x at))
+
+    pub some_waiter : (id : TableId SetKey) (x : WaitSet) → Ok x ≡ item_at item_of a.sets id.rep id.serial → nat_lt 0 x.entries ≡ has_waiters (set_of (seen a) id) (seen a).core
+    unfolding has_waiters
+    some_waiter id x is =
+        ap (nat_lt 0) (set_entries id x is)
+        ∙ (any_passing (λ t. keeps_set x.number t t.place) (seen a).core.threads
+        ∙ ap (λ n. list_any (λ (e : ℕ × Thread). keeps_set n e.1 e.1.place) (seen a).core.threads.list) (set_named a id x is))

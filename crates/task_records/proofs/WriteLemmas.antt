@@ -1,12 +1,13 @@
 -- A write of fields on which nothing hangs is the machine's change of the record.
-use Rattle.std.proofs.Common.{◌≡◌, ℕ, List, Option, Some, map, refl, sym, ap, subst, ◌∙◌}
+use Rattle.std.proofs.Common.{◌≡◌, ◌+◌, ◌≤◌, ℕ, true, cond, List, Option, Some, map, refl, sym, ap, ap₂, subst, ◌∙◌, arith}
 use Rattle.std.specs.Prelude.{Ok, Err}
+use Rattle.task_index.specs.Counts.{one_if_passes}
 use Rattle.task_machine.specs.Maps.{Records, change}
-use Rattle.task_machine.specs.Write.{on_call, on_thread, on_work}
+use Rattle.task_machine.specs.Write.{on_call, on_thread, on_work, set_uninteresting}
 use Rattle.task_machine.specs.declared.records.Call.{Call}
 use Rattle.task_machine.specs.declared.records.Thread.{Thread}
 use Rattle.task_machine.specs.declared.records.Work.{Work}
-use Rattle.task_records.proofs.KindLemmas.{item_stands, passing_same, records_changed, refused_write, table_written, tags_written}
+use Rattle.task_records.proofs.KindLemmas.{item_stands, passing_same, passing_written, records_changed, refused_write, table_written, tags_written}
 use Rattle.task_records.proofs.ReadLemmas.{call_shown, thread_shown, work_shown}
 use Rattle.task_records.proofs.TableLemmas.{records_unseen}
 use Rattle.task_records.specs.Image.{callers_in, tag_of}
@@ -184,3 +185,51 @@ module _ (a : CoreParts) (sound : IsSound a) (id : TableId HostTaskKey) where
         (records_changed (λ (g : HostWork). g.number) (λ (g : HostWork). g.work) a.works a.made.works sound.tables.works id.rep id.serial g is h work_same f is_f ∙ ap (λ n. change n f (records work_key a.works.places)) (sym (work_shown a id)))
         ∙ ap (λ (l : List (Option Tag)). works_seen (change (work_of (seen a) id) f (records work_key a.works.places)) l)
         (tags_written (λ (g : HostWork). g.number) (λ (g : HostWork). g.work) a.works a.made.works sound.tables.works id.rep id.serial g is h work_same)
+
+-- ---- Interest
+
+module _ (a : CoreParts) (sound : IsSound a) (id : TableId GuestTaskKey) (g : GuestTask) (is : Ok g ≡ item_at item_of a.calls id.rep id.serial) where
+  lost_bare : mapped (on_item bare_call) (with_entry id.rep (entry_of (record g { call = uninterested g.call })) a.calls) ≡ mapped (on_item bare_call) a.calls
+  unfolding IsSound
+  lost_bare =
+      let one = item_stands (λ (g : GuestTask). g.number) (λ (g : GuestTask). g.call) a.calls a.made.threads sound.tables.calls id.rep id.serial g is in
+      mapped-with_entry_same (on_item bare_call) a.calls id.rep (entry_of (record g { call = uninterested g.call })) one.0 one.1.0 (ap (on_item bare_call) (sym one.1.1.1))
+
+  module _ (kept : ℕ) (fewer : kept + one_if_passes (λ (c : Call). c.interesting) (Some g.call) ≡ a.kept.interesting) where
+    abbrev pub uninterested_after : CoreParts
+    uninterested_after = record a { calls = with_entry id.rep (entry_of (record g { call = uninterested g.call })) a.calls; kept = record a.kept { interesting = kept } }
+
+    pub uninterested_sound : IsSound uninterested_after
+    unfolding IsSound
+    uninterested_sound = record {
+      tables = record {
+        threads = sound.tables.threads;
+        calls = table_written (λ (g : GuestTask). g.number) (λ (g : GuestTask). g.call) a.calls a.made.threads sound.tables.calls id.rep id.serial g is (record g { call = uninterested g.call }) refl;
+        works = sound.tables.works;
+        sets = sound.tables.sets;
+        groups = sound.tables.groups;
+      };
+      whole = subst (λ (t : Table (Single GuestTask)). IsWhole (record (bare (parts_of a)) { calls = t })) (sym lost_bare) sound.whole;
+      interesting =
+          let law = passing_written (λ (g : GuestTask). g.number) (λ (g : GuestTask). g.call) a.calls a.made.threads sound.tables.calls id.rep id.serial g is (record g { call = uninterested g.call }) refl (λ c. c.interesting) in
+          let was = sound.interesting in
+          omega arith;
+      moving = sound.moving;
+    }
+
+    pub uninterested_writes : seen uninterested_after ≡ on_core (set_uninteresting (call_of (seen a) id)) (seen a)
+    unfolding seen IsSound set_uninteresting on_call
+    uninterested_writes =
+        ap₂ (λ (m : Records Call) (l : List (Option Tag)). record (seen a) { core = record (seen a).core { calls = m }; tags = record (seen a).tags { calls = l } })
+        (records_changed (λ (g : GuestTask). g.number) (λ (g : GuestTask). g.call) a.calls a.made.threads sound.tables.calls id.rep id.serial g is (record g { call = uninterested g.call }) refl (λ (c : Call). uninterested c) refl
+        ∙ ap (λ (n : ℕ). change n uninterested (records call_key a.calls.places)) (sym (call_shown a id)))
+        (tags_written (λ (g : GuestTask). g.number) (λ (g : GuestTask). g.call) a.calls a.made.threads sound.tables.calls id.rep id.serial g is (record g { call = uninterested g.call }) refl)
+
+  -- who is interesting is counted
+  pub interest_counted : g.call.interesting ≡ true → 1 ≤ a.kept.interesting
+  unfolding IsSound
+  interest_counted some =
+      let law = passing_written (λ (g : GuestTask). g.number) (λ (g : GuestTask). g.call) a.calls a.made.threads sound.tables.calls id.rep id.serial g is (record g { call = uninterested g.call }) refl (λ c. c.interesting) in
+      let one : one_if_passes (λ (c : Call). c.interesting) (Some g.call) ≡ 1 = ap (λ b. cond b 1 0) some in
+      let was = sound.interesting in
+      omega arith

@@ -88,6 +88,7 @@ bare p = record p {
   calls = mapped (on_item bare_call) p.calls;
   works = mapped (on_item bare_work) p.works;
   instances = map bare_instance p.instances;
+  kept = record p.kept { interesting = 0; moving = 0 };
 }
 
 -- what holds of each entry of a table
