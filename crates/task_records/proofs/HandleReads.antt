@@ -1,6 +1,5 @@
 -- What the handles of an instance name.
-use Rattle.std.proofs.Common.{◌≡◌, ◌+◌, ◌<◌, ◌≤◌, ℕ, List, [], ◌∷◌, length, Option, Some, None, map, refl, sym, ap, ◌∙◌, arith}
-use Rattle.std.proofs.lemmas.Option.{slice_get-map}
+use Rattle.std.proofs.Common.{◌≡◌, ◌+◌, ◌<◌, ◌≤◌, ℕ, List, [], ◌∷◌, length, Option, Some, None, refl, sym, ap, ◌∙◌, arith}
 use Rattle.std.specs.Option.{option_and_then, option_map}
 use Rattle.std.specs.Prelude.{IfSome, slice_get}
 use Rattle.task_handles.specs.Handles.{Handles, IsWhole, held_by, live_count as handles_live, next_handle as given_next}
@@ -18,9 +17,9 @@ use Rattle.task_records.proofs.HomeLemmas.{place_bare}
 use Rattle.task_records.proofs.InstanceReads.{handles_read, thread_handles_read}
 use Rattle.task_records.specs.Instances.{handle_table, named_of, thread_of as thread_named}
 use Rattle.task_records.specs.Keys.{thread_key}
-use Rattle.task_records.specs.Names.{AreHandlesNamed, CallOf, IsHeldNamed, SetOf, StandsAt, ThreadOf, WorkOf}
+use Rattle.task_records.specs.Names.{AreHandlesNamed, CallOf, IsHeldNamed, SetOf, StandsAt, ThreadOf, WorkOf, kinds}
 use Rattle.task_records.specs.Seen.{IsSound, parts_of, seen}
-use Rattle.task_records.specs.Sound.{bare, bare_instance}
+use Rattle.task_records.specs.Sound.{bare}
 use Rattle.task_records.specs.declared.instances.InstanceRecord.{InstanceRecord}
 use Rattle.task_records.specs.declared.parts.CoreParts.{CoreParts}
 
@@ -53,11 +52,11 @@ module _ {X Y : Type 0} (f : X → Y) (tables : Records (Table Y)) (i h : ℕ) w
       by_handle (Some t) none = by_held (held_by t h) (none t refl)
 
 module _ (a : CoreParts) (sound : IsSound a) (i : ℕ) (o : Option InstanceRecord) (at : o ≡ slice_get a.instances.items i) where
-  pub instance_names : (r : InstanceRecord) → o ≡ Some r → AreHandlesNamed (bare (parts_of a)) (bare_instance r)
+  pub instance_names : (r : InstanceRecord) → o ≡ Some r → AreHandlesNamed (kinds (bare (parts_of a))) r
   unfolding IsSound
-  instance_names r is = sound.whole.named.handles i (bare_instance r) (slice_get-map bare_instance a.instances.items i ∙ ap (option_map bare_instance) (sym at ∙ is))
+  instance_names r is = sound.handles i r (sym at ∙ is)
 
-  held_bare : (k : HandleKind) (r : Rep) → IsHeldNamed (bare (parts_of a)) k r → IsHeldNamed (parts_of a) k r
+  held_bare : (k : HandleKind) (r : Rep) → IsHeldNamed (kinds (bare (parts_of a))) k r → IsHeldNamed (kinds (parts_of a)) k r
   held_bare (handle.Waitable waitable.GuestSubtask) r is = place_bare a r.id (CallOf r.serial) is
   held_bare (handle.Waitable waitable.HostSubtask) r is = place_bare a r.id (WorkOf r.serial) is
   held_bare (handle.Waitable waitable.Stream) r is = absurd is
@@ -92,7 +91,7 @@ module _ (a : CoreParts) (sound : IsSound a) (i : ℕ) (o : Option InstanceRecor
             omega arith
 
     module _ (r : InstanceRecord) (is : o ≡ Some r) where
-      pub held_named : (q : Option Held) → q ≡ held_by r.handles h → IfSome q (λ x. IsHeldNamed (parts_of a) x.kind x.rep)
+      pub held_named : (q : Option Held) → q ≡ held_by r.handles h → IfSome q (λ x. IsHeldNamed (kinds (parts_of a)) x.kind x.rep)
       held_named None live = tt
       held_named (Some x) live = held_bare x.kind x.rep ((instance_names r is).handles h x (sym live))
 

@@ -111,17 +111,6 @@ module _ (a : CoreParts) where
       (ap size bare_calls ∙ size_seconds (λ c. uninterested (loose_call c)) (seen a).core.calls) (ap size bare_threads ∙ size_seconds loose_thread (seen a).core.threads)
       ∙ ap (λ (n : ℕ). length (seen a).core.groups + size (seen a).core.calls + 2 * size (seen a).core.threads + n + size (seen a).core.sets) (count_works is_host_call)
 
-  bare_map : {Y : Type 0} (f : InstanceRecord → Y) → ((r : InstanceRecord) → f (bare_instance r) ≡ f r) → (xs : List InstanceRecord) → map f (map bare_instance xs) ≡ map f xs
-  bare_map f same [] = refl
-  bare_map f same (x ∷ xs) = ap₂ (λ y ys. y ∷ ys) (same x) (bare_map f same xs)
-
-  bare_handles : live_count (core_of (bare (parts_of a))) ≡ live_count (seen a).core
-  unfolding live_count seen
-  bare_handles =
-      ap₂ (λ h t. live_count (record (core_of (bare (parts_of a))) { handles = by_place h; thread_handles = by_place t }))
-      (bare_map (λ (r : InstanceRecord). handle_table named_of r.handles) (λ r. refl) a.instances.items)
-      (bare_map (λ (r : InstanceRecord). handle_table thread_named r.thread_handles) (λ r. refl) a.instances.items)
-
   module _ (sound : IsSound a) where
     pub used_is : a.kept.used ≡ table_use (seen a).core
     unfolding IsSound
@@ -132,8 +121,8 @@ module _ (a : CoreParts) where
     groups_are = sound.whole.counted.kept.groups
 
     pub handles_are : a.counter.live ≡ live_count (seen a).core
-    unfolding IsSound
-    handles_are = sound.whole.counted.live ∙ bare_handles
+    unfolding IsSound seen live_count
+    handles_are = sound.live
 
     pub live_is : a.kept.live ≡ passing is_live (seen a).core.works
     unfolding IsSound

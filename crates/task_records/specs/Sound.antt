@@ -2,16 +2,17 @@
 --     SoundTable         the records of one kind
 --     bare               the parts without the fields of records on which nothing hangs
 --     IsWhole            names, indexes, rows and kept numbers
-use Rattle.std.specs.Prelude.{◌≡◌, ◌<◌, ◌≤◌, ℕ, false, List, [], Option, None, Some, IfSome, IsSome, map, slice_get}
+use Rattle.std.specs.Prelude.{◌≡◌, ◌+◌, ◌<◌, ◌≤◌, ℕ, false, List, [], Option, None, Some, IfSome, IsSome, map, slice_get}
 use Rattle.std.specs.BTreeMap.{is_at}
 use Rattle.std.specs.Map.{lookup}
 use Rattle.std.specs.Ordering.{nat_cmp}
+use Rattle.task_handles.specs.Handles.{no_handles}
 use Rattle.task_index.specs.Counts.{passing}
 use Rattle.task_index.specs.Index.{IsIndex, filings}
 use Rattle.task_index.specs.Rows.{Each, IsRows, part}
 use Rattle.task_machine.specs.Core.{untouched}
 use Rattle.task_machine.specs.Maps.{get}
-use Rattle.task_machine.specs.Read.{live_count}
+use Rattle.task_machine.specs.Read.{live_in}
 use Rattle.task_machine.specs.declared.component.ExportKind.TheVariants as kind
 use Rattle.task_machine.specs.declared.records.Call.{Call}
 use Rattle.task_machine.specs.declared.records.Course.TheVariants as course
@@ -24,7 +25,7 @@ use Rattle.task_records.specs.Image.{Parts, core_of}
 use Rattle.task_records.specs.Kept.{AreKept, IsCallKept, IsGroupKept, IsSetKept}
 use Rattle.task_records.specs.Keys.{call_key, group_key, set_key, thread_key, work_key}
 use Rattle.task_records.specs.Kinds.{on_item}
-use Rattle.task_records.specs.Names.{AreHandlesNamed, HasHome, IsCallNamed, IsWorkNamed}
+use Rattle.task_records.specs.Names.{AreHandlesNamed, HasHome, IsCallNamed, IsWorkNamed, OwnsHandle, kinds}
 use Rattle.task_records.specs.Places.{live_chain, live_work, place_chain, place_filing, ready_call, ready_call_chain, ready_work, ready_work_chain}
 use Rattle.task_records.specs.Rows.{HaveNodes, IsFollower, IsOfThread, IsSeated, Low, callers_chain, callers_row, is_of_instance, row, row_chain, shelf_chain}
 use Rattle.task_records.specs.declared.calls.GuestTask.{GuestTask}
@@ -54,7 +55,7 @@ pub record AreTables (p : Parts) : Type 0 where
 
 -- a record without what nothing hangs on
 abbrev pub loose_thread : Thread → Thread
-loose_thread t = record t { position = 0; registers = []; script = script.Start; saved_own = None; saved_callee = None }
+loose_thread t = record t { position = 0; registers = []; script = script.Start; handle = None; saved_own = None; saved_callee = None }
 
 abbrev pub bare_thread : GuestThread → GuestThread
 bare_thread g = record g { thread = loose_thread g.thread }
@@ -80,7 +81,7 @@ abbrev pub bare_work : HostWork → HostWork
 bare_work w = record w { work = unmoved (loose_work w.work) }
 
 abbrev pub bare_instance : InstanceRecord → InstanceRecord
-bare_instance i = record i { instance = untouched }
+bare_instance i = record i { instance = untouched; handles = no_handles; thread_handles = no_handles }
 
 abbrev pub bare : Parts → Parts
 bare p = record p {
@@ -100,7 +101,6 @@ pub record AreNamed (p : Parts) : Type 0 where
   pub threads : EachEntry (HasHome p) p.threads
   pub calls : EachEntry (IsCallNamed p) p.calls
   pub works : EachEntry (IsWorkNamed p) p.works
-  pub handles : (i : ℕ) (r : InstanceRecord) → slice_get p.instances i ≡ Some r → AreHandlesNamed p r
   pub switch : IfSome p.switch (IsFollower p)
 
 -- Indexes and rows: each chain has just what the machine finds or keeps.
@@ -125,7 +125,6 @@ pub record HaveRowNodes (p : Parts) : Type 0 where
 -- Kept numbers, the rows of a core that has instances or host works, and room for results.
 pub record AreCounted (p : Parts) : Type 0 where
   pub kept : AreKept (core_of p) p.kept
-  pub live : p.counter.live ≡ live_count (core_of p)
   pub calls : EachEntry (IsCallKept (core_of p)) p.calls
   pub sets : EachEntry (IsSetKept (core_of p)) p.sets
   pub groups : EachEntry (IsGroupKept (core_of p)) p.groups
@@ -146,3 +145,6 @@ pub record Sound (p : Parts) : Type 0 where
   pub whole : IsWhole (bare p)
   pub interesting : p.kept.interesting ≡ passing (λ c. c.interesting) (core_of p).calls
   pub moving : p.kept.moving ≡ passing is_moving (core_of p).works
+  pub handles : (i : ℕ) (r : InstanceRecord) → slice_get p.instances i ≡ Some r → AreHandlesNamed (kinds (bare p)) r
+  pub owned : EachEntry (OwnsHandle p) p.threads
+  pub live : p.counter.live ≡ live_in (core_of p).handles + live_in (core_of p).thread_handles

@@ -4,7 +4,7 @@ ghost use Rattle.task_machine.specs.Read.{instance_of, named_by, thread_at};
 ghost use Rattle.task_records.specs.Instances.{handle_table, named_of, thread_of as thread_named};
 ghost use Rattle.task_records.specs.Kinds.{item_of};
 ghost use Rattle.task_records.specs.Keys.{thread_key};
-ghost use Rattle.task_records.specs.Names.{IsHeldNamed, StandsAt};
+ghost use Rattle.task_records.specs.Names.{IsHeldNamed, StandsAt, kinds};
 ghost use Rattle.task_records.specs.Seen.{IsSound, parts_of, seen};
 ghost use Rattle.task_table.specs.Answers.{item_at};
 ghost use Rattle.task_words.specs.StateView.{call_of, set_of, thread_of, work_of};
@@ -94,7 +94,7 @@ pub fn instance(parts: &CoreParts, index: u32) -> Option<&InstanceRecord>
 pub fn held(parts: &CoreParts, index: u32, handle: u64) -> Option<Held>
     requires { IsSound parts.now }
     ensures is { option_map named_of result ≡ named_by (seen parts.now).core.handles index handle }
-    ensures named { IfSome result (λ held. IsHeldNamed (parts_of parts.now) held.kind held.rep) }
+    ensures named { IfSome result (λ held. IsHeldNamed (kinds (parts_of parts.now)) held.kind held.rep) }
 {
     match instance(parts, index) {
         Some(entry) => {
