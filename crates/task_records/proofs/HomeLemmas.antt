@@ -8,7 +8,7 @@ use Rattle.task_machine.specs.declared.records.Call.{Call}
 use Rattle.task_machine.specs.declared.records.Thread.{Thread}
 use Rattle.task_records.proofs.KindLemmas.{item_stands}
 use Rattle.task_records.proofs.ReadLemmas.{thread_read}
-use Rattle.task_records.proofs.TableLemmas.{get_mapped, number_at_mapped, stands_mapped}
+use Rattle.task_records.proofs.TableLemmas.{get_mapped, number_at_mapped, stands_in_mapped, stands_mapped}
 use Rattle.task_records.specs.Image.{core_of}
 use Rattle.task_records.specs.Keys.{call_key, thread_key, work_key}
 use Rattle.task_records.specs.Kinds.{item_of, on_item}
@@ -81,6 +81,13 @@ module _ (a : CoreParts) where
   place_bare rep (CallOf k) at = stands_mapped call_key call_key (on_item bare_call) (λ c. uninterested (loose_call c)) (λ e. refl) a.calls rep k at
   place_bare rep (WorkOf i) at = stands_mapped work_key work_key (on_item bare_work) (λ w. unmoved (loose_work w)) (λ e. refl) a.works rep i at
   place_bare rep (SetOf x) at = at
+
+  pub place_in_bare : (rep : ℕ) (t : Target) → AtPlace (parts_of a) rep t → AtPlace (bare (parts_of a)) rep t
+  place_in_bare rep Nothing at = tt
+  place_in_bare rep (ThreadOf n) at = stands_in_mapped thread_key thread_key (on_item bare_thread) loose_thread (λ e. refl) a.threads rep n at
+  place_in_bare rep (CallOf k) at = stands_in_mapped call_key call_key (on_item bare_call) (λ c. uninterested (loose_call c)) (λ e. refl) a.calls rep k at
+  place_in_bare rep (WorkOf i) at = stands_in_mapped work_key work_key (on_item bare_work) (λ w. unmoved (loose_work w)) (λ e. refl) a.works rep i at
+  place_in_bare rep (SetOf x) at = at
 
 module _ (a : CoreParts) (sound : IsSound a) where
   pub call_names : (id : TableId GuestTaskKey) (g : GuestTask) → Ok g ≡ item_at item_of a.calls id.rep id.serial → IsCallNamed (bare (parts_of a)) (bare_call g)

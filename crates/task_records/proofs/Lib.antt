@@ -10,3 +10,6 @@ pub mod HandleLemmas
 pub mod InstanceReads
 pub mod HandleReads
 pub mod KeptLemmas
+pub mod GivenLemmas
+pub mod HandleWrites
+pub mod HandleItems

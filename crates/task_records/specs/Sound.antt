@@ -90,6 +90,7 @@ bare p = record p {
   works = mapped (on_item bare_work) p.works;
   instances = map bare_instance p.instances;
   kept = record p.kept { interesting = 0; moving = 0 };
+  counter = record { limit = 0; live = 0 };
 }
 
 -- what holds of each entry of a table
