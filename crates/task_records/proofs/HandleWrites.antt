@@ -9,10 +9,11 @@ use Rattle.std.specs.Prelude.{Vec}
 use Rattle.std.specs.Option.{option_map_or}
 use Rattle.task_handles.specs.Counted.{Inserts}
 use Rattle.task_handles.specs.Counter.{Counter}
-use Rattle.task_handles.specs.Handles.{Handles, held_by, next_handle as given_next}
+use Rattle.task_handles.specs.Handles.{Handles, held_by, live_count, next_handle as given_next}
 use Rattle.task_handles.specs.declared.kinds.Rep.{Rep}
+use Rattle.task_machine.proofs.SumLemmas.{sum_by-insert, sum_by-remove, value_in}
 use Rattle.task_machine.specs.Core.{Table}
-use Rattle.task_machine.specs.Maps.{Records, change, get, insert}
+use Rattle.task_machine.specs.Maps.{Records, change, get, insert, size}
 use Rattle.task_machine.specs.Read.{live_in, named_by, new_thread_handle, next_handle, thread_at}
 use Rattle.task_machine.specs.Write.{give_thread_handle, giving}
 use Rattle.task_machine.specs.declared.records.Named.{Named}
@@ -21,11 +22,13 @@ use Rattle.task_records.proofs.HandleReads.{next_given}
 use Rattle.task_records.proofs.HomeLemmas.{place_in_bare}
 use Rattle.task_records.proofs.InstanceLemmas.{by_place-set}
 use Rattle.task_records.proofs.InstanceReads.{handles_read, thread_handles_read}
+use Rattle.task_records.proofs.HandleLemmas.{size-records_by}
+use Rattle.task_records.specs.Image.{image}
 use Rattle.task_records.specs.Instances.{by_place, handle_table, named_of, thread_of as thread_named}
 use Rattle.task_records.specs.Keys.{thread_key}
 use Rattle.task_records.specs.Names.{AreHandlesNamed, IsNamedAt, OwnsHandle, StandsAt, ThreadOf, kinds}
 use Rattle.task_records.specs.Seen.{IsSound, parts_of, seen}
-use Rattle.task_records.specs.Sound.{EachEntry, IsWhole, bare, bare_instance}
+use Rattle.task_records.specs.Sound.{EachEntry, IsWhole, Sound, bare, bare_instance}
 use Rattle.task_records.specs.declared.instances.InstanceRecord.{InstanceRecord}
 use Rattle.task_records.specs.declared.parts.CoreParts.{CoreParts}
 use Rattle.task_words.specs.StateView.{on_core}
@@ -141,3 +144,43 @@ module _ (a : CoreParts) (sound : IsSound a) (i : ℕ) (r : InstanceRecord) (at 
         let is_handles : live_in (seen (record a { instances = v; counter = c })).core.handles ≡ live_in (seen a).core.handles = ap live_in handles_same in
         let is_threads : live_in (seen (record a { instances = v; counter = c })).core.thread_handles ≡ live_in (change i (giving rep.serial) (seen a).core.thread_handles) = ap live_in threads_given in
         omega arith)
+
+-- ---- What a give asks
+
+module _ (a : CoreParts) (i : ℕ) (r : InstanceRecord) (at : Some r ≡ slice_get a.instances.items i) (v : Vec InstanceRecord Global) (is : v.items ≡ set a.instances.items i r) (c : Counter) (same : c ≡ a.counter) where
+  items_same : v.items ≡ a.instances.items
+  items_same = is ∙ set-slice_get a.instances.items i r (sym at)
+
+  -- nothing has changed
+  pub nothing_given : IsSound a → IsSound (record a { instances = v; counter = c })
+  unfolding IsSound
+  nothing_given sound = subst (λ (k : Counter). Sound (record (parts_of a) { instances = v.items; counter = k })) (sym same) (subst (λ (xs : List InstanceRecord). Sound (record (parts_of a) { instances = xs })) (sym items_same) sound)
+
+  pub nothing_seen : seen (record a { instances = v; counter = c }) ≡ seen a
+  unfolding seen
+  nothing_seen = ap₂ (λ (xs : List InstanceRecord) (k : Counter). image (record (parts_of a) { instances = xs; counter = k })) items_same same
+
+-- no table has more than all
+part_of : {Y : Type 0} (m : Records (Table Y)) (i : ℕ) (t : Table Y) → get m i ≡ Some t → size t.live ≤ live_in m
+part_of m i t at =
+    let law = sum_by-insert (λ u. size u.live) m i t in
+    let was : value_in (λ u. size u.live) (get m i) ≡ size t.live = ap (value_in (λ u. size u.live)) at in
+    let less = sum_by-remove (λ u. size u.live) m i in
+    omega arith
+
+module _ (a : CoreParts) (sound : IsSound a) (i : ℕ) (r : InstanceRecord) (at : Some r ≡ slice_get a.instances.items i) where
+  pub counts_threads : live_count r.thread_handles ≤ a.counter.live
+  unfolding IsSound seen
+  counts_threads =
+      let part = part_of (seen a).core.thread_handles i (handle_table thread_named r.thread_handles) (sym (thread_handles_read a i (Some r) at)) in
+      let len = size-records_by thread_named r.thread_handles.live in
+      let all = sound.live in
+      omega arith
+
+  pub counts_items : live_count r.handles ≤ a.counter.live
+  unfolding IsSound seen
+  counts_items =
+      let part = part_of (seen a).core.handles i (handle_table named_of r.handles) (sym (handles_read a i (Some r) at)) in
+      let len = size-records_by named_of r.handles.live in
+      let all = sound.live in
+      omega arith

@@ -79,10 +79,7 @@ module _ (a : CoreParts) (sound : IsSound a) (id : TableId ThreadKey) where
       (sym (refused_write (λ (g : GuestThread). g.number) (λ (g : GuestThread). g.thread) a.threads a.made.threads sound.tables.threads id.rep id.serial why is f)
       ∙ ap (λ n. change n f (records thread_key a.threads.places)) (sym (thread_shown a id)))
 
-  module _ (g : GuestThread) (is : Ok g ≡ item_at item_of a.threads id.rep id.serial) (h : GuestThread) (close : close_thread h ≡ close_thread g) where
-    thread_loose : bare_thread h ≡ bare_thread g
-    thread_loose = ap bare_thread close
-
+  module _ (g : GuestThread) (is : Ok g ≡ item_at item_of a.threads id.rep id.serial) (h : GuestThread) (thread_loose : bare_thread h ≡ bare_thread g) where
     abbrev pub thread_after : CoreParts
     thread_after = record a { threads = with_entry id.rep (entry_of h) a.threads }
 
@@ -96,17 +93,17 @@ module _ (a : CoreParts) (sound : IsSound a) (id : TableId ThreadKey) where
     thread_bare : mapped (on_item bare_thread) (with_entry id.rep (entry_of h) a.threads) ≡ mapped (on_item bare_thread) a.threads
     thread_bare = mapped-with_entry_same (on_item bare_thread) a.threads id.rep (entry_of h) thread_stands.0 thread_stands.1.0 (ap entry_of thread_loose ∙ ap (on_item bare_thread) (sym thread_stands.1.1.1))
 
-    pub thread_sound : IsSound thread_after
+    pub thread_put_sound : OwnsHandle (parts_of a) h → IsSound thread_after
     unfolding IsSound
-    thread_sound = record {
+    thread_put_sound owns = record {
       tables = record { threads = table_written (λ (g : GuestThread). g.number) (λ (g : GuestThread). g.thread) a.threads a.made.threads sound.tables.threads id.rep id.serial g is h thread_same; calls = sound.tables.calls; works = sound.tables.works; sets = sound.tables.sets; groups = sound.tables.groups };
       whole = subst (λ (t : Table (Single GuestThread)). IsWhole (record (bare (parts_of a)) { threads = t })) (sym thread_bare) sound.whole;
       interesting = sound.interesting;
       moving = sound.moving;
       handles = subst (λ (t : Table (Single GuestThread)). HandlesNamed (record (kinds (bare (parts_of a))) { threads = t }) a) (sym thread_bare) sound.handles;
       owned = each_written a.threads id.rep thread_stands.0 thread_stands.1.0 (OwnsHandle (parts_of a)) h
-          (subst (λ (x : GuestThread). OwnsHandle (parts_of a) x) (sym close) (subst (λ (x : GuestThread). OwnsHandle (parts_of a) x) (ap (λ (e : Single GuestThread). e.item) thread_stands.1.1.1) (sound.owned id.rep thread_stands.0 thread_stands.1.0)))
-          sound.owned;
+          owns
+      sound.owned;
       live = sound.live;
     }
 
@@ -116,14 +113,28 @@ module _ (a : CoreParts) (sound : IsSound a) (id : TableId ThreadKey) where
     threads_seen : Records Thread → Records (List ℕ) → List (Option Tag) → StateView
     threads_seen m k l = record (seen a) { core = record (seen a).core { threads = m; callers = k }; tags = record (seen a).tags { threads = l } }
 
-    pub thread_writes : (f : Thread → Thread) → f g.thread ≡ h.thread → seen thread_after ≡ on_core (on_thread (thread_of (seen a) id) f) (seen a)
+    pub thread_put_writes : (f : Thread → Thread) → f g.thread ≡ h.thread → seen thread_after ≡ on_core (on_thread (thread_of (seen a) id) f) (seen a)
     unfolding seen IsSound on_thread threads_seen
-    thread_writes f is_f =
+    thread_put_writes f is_f =
         ap (λ (m : Records Thread). threads_seen m (records (callers_in a.behind) (with_entry id.rep (entry_of h) a.threads).places) (map (tag_of thread_key) (with_entry id.rep (entry_of h) a.threads).places))
         (records_changed (λ (g : GuestThread). g.number) (λ (g : GuestThread). g.thread) a.threads a.made.threads sound.tables.threads id.rep id.serial g is h thread_same f is_f ∙ ap (λ n. change n f (records thread_key a.threads.places)) (sym (thread_shown a id)))
         ∙ (ap (λ (k : Records (List ℕ)). threads_seen (change (thread_of (seen a) id) f (records thread_key a.threads.places)) k (map (tag_of thread_key) (with_entry id.rep (entry_of h) a.threads).places)) callers_same
         ∙ ap (λ (l : List (Option Tag)). threads_seen (change (thread_of (seen a) id) f (records thread_key a.threads.places)) (records (callers_in a.behind) a.threads.places) l)
         (tags_written (λ (g : GuestThread). g.number) (λ (g : GuestThread). g.thread) a.threads a.made.threads sound.tables.threads id.rep id.serial g is h thread_same))
+
+  -- with the same handle
+  module _ (g : GuestThread) (is : Ok g ≡ item_at item_of a.threads id.rep id.serial) (h : GuestThread) (close : close_thread h ≡ close_thread g) where
+    owns_same : OwnsHandle (parts_of a) h
+    unfolding IsSound
+    owns_same =
+        let one = item_stands (λ (g : GuestThread). g.number) (λ (g : GuestThread). g.thread) a.threads a.made.threads sound.tables.threads id.rep id.serial g is in
+        subst (λ (x : GuestThread). OwnsHandle (parts_of a) x) (sym close) (subst (λ (x : GuestThread). OwnsHandle (parts_of a) x) (ap (λ (e : Single GuestThread). e.item) one.1.1.1) (sound.owned id.rep one.0 one.1.0))
+
+    pub thread_sound : IsSound (record a { threads = with_entry id.rep (entry_of h) a.threads })
+    thread_sound = thread_put_sound g is h (ap bare_thread close) owns_same
+
+    pub thread_writes : (f : Thread → Thread) → f g.thread ≡ h.thread → seen (record a { threads = with_entry id.rep (entry_of h) a.threads }) ≡ on_core (on_thread (thread_of (seen a) id) f) (seen a)
+    thread_writes f is_f = thread_put_writes g is h (ap bare_thread close) f is_f
 
 -- ---- Calls
 

@@ -1,0 +1,8 @@
+//! Handles that are given to threads, subtasks and sets, and taken back.
+#![tactic(auto)]
+
+mod items;
+mod threads;
+
+pub use items::insert_handle;
+pub use threads::insert_thread_handle;
