@@ -2,7 +2,9 @@
 #![tactic(auto)]
 
 mod items;
+mod names;
 mod threads;
 
 pub use items::insert_handle;
+pub use names::{name_thread, set_thread_handle};
 pub use threads::insert_thread_handle;

@@ -12,11 +12,7 @@ use task_records::CoreParts;
 
 /// Gives the next thread handle of an instance to what stands at a place. Where none is given, all
 /// is as before.
-pub fn insert_thread_handle(
-    parts: &mut CoreParts,
-    index: u32,
-    rep: Rep,
-) -> Result<u32, NoMemory>
+pub fn insert_thread_handle(parts: &mut CoreParts, index: u32, rep: Rep) -> Result<u32, NoMemory>
     requires sound { IsSound parts.old }
     requires there { index < length parts.old.instances.items }
     requires stands { StandsAt thread_key parts.old.threads rep.id rep.serial }

@@ -103,7 +103,7 @@ module _ (a : CoreParts) (sound : IsSound a) (id : TableId ThreadKey) where
       handles = subst (λ (t : Table (Single GuestThread)). HandlesNamed (record (kinds (bare (parts_of a))) { threads = t }) a) (sym thread_bare) sound.handles;
       owned = each_written a.threads id.rep thread_stands.0 thread_stands.1.0 (OwnsHandle (parts_of a)) h
           owns
-      sound.owned;
+          sound.owned;
       live = sound.live;
     }
 
