@@ -3,8 +3,10 @@
 
 mod items;
 mod names;
+mod subtasks;
 mod threads;
 
 pub use items::insert_handle;
 pub use names::{name_thread, set_thread_handle};
+pub use subtasks::name_subtask;
 pub use threads::insert_thread_handle;

@@ -1,5 +1,5 @@
 -- The records of instances: what is read at a number, and a write of what nothing hangs on.
-use Rattle.std.proofs.Common.{inl, inr, ◌⊎◌, ◌≡◌, ◌+◌, ◌<◌, ◌≤◌, ℕ, List, Option, Some, None, map, set, length, slice_get, get_or, refl, sym, ap, ap₂, subst, ◌∙◌}
+use Rattle.std.proofs.Common.{inl, inr, ◌⊎◌, ◌≡◌, ◌+◌, ◌<◌, ◌≤◌, true, false, is_some, ℕ, List, Option, Some, None, map, set, length, slice_get, get_or, refl, sym, ap, ap₂, subst, ◌∙◌}
 use Rattle.std.proofs.lemmas.Bool.{cases_eq}
 use Rattle.std.proofs.lemmas.List.{map-set}
 use Rattle.std.proofs.lemmas.Option.{slice_get-get_or, same_Some, slice_get-map, slice_get_past, slice_get_within}
@@ -116,3 +116,11 @@ module _ (a : CoreParts) (i : ℕ) where
         (ap by_place (unchanged (λ x. handle_table named_of x.handles) (ap (λ (x : InstanceRecord). handle_table named_of x.handles) close)))
         ∙ ap (λ (t : Records (Table ℕ)). instances_seen (change i f (seen a).core.instances) (seen a).core.handles t)
         (ap by_place (unchanged (λ x. handle_table thread_named x.thread_handles) (ap (λ (x : InstanceRecord). handle_table thread_named x.thread_handles) close))))
+
+  -- where an instance has a table of handles it is there
+  pub instance_there : is_some (get (seen a).core.handles i) ≡ true → i < length a.instances.items
+  instance_there some = by_place (slice_get a.instances.items i) refl
+    where
+      by_place : (o : Option InstanceRecord) → slice_get a.instances.items i ≡ o → i < length a.instances.items
+      by_place None is = absurd (let none : is_some (get (seen a).core.handles i) ≡ false = ap is_some (sym (handles_read None (sym is))) in cc)
+      by_place (Some r) is = slice_get_within a.instances.items i r is
