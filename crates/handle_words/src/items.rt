@@ -1,8 +1,8 @@
-ghost use Rattle.std.specs.Prelude.{◌≡◌, ◌<◌, IfOk, OnErr, OnOk, length};
+ghost use Rattle.std.specs.Prelude.{◌≡◌, ◌<◌, IfOk, IsSome, OnErr, OnOk, length};
 ghost use Rattle.handle_words.specs.Kinds.{IsHandleKind};
 ghost use Rattle.task_handles.specs.Counted.{Counts, Inserts, Unchanged};
-ghost use Rattle.task_machine.specs.Read.{new_handle};
-ghost use Rattle.task_machine.specs.Write.{give_handle};
+ghost use Rattle.task_machine.specs.Read.{new_handle, subtask_at};
+ghost use Rattle.task_machine.specs.Write.{free_handle, give_handle};
 ghost use Rattle.task_records.specs.Instances.{named_of};
 ghost use Rattle.task_records.specs.Names.{IsHeldNamed, kinds};
 ghost use Rattle.task_records.specs.Seen.{IsSound, parts_of, seen};
@@ -55,4 +55,15 @@ pub fn insert_handle(parts: &mut CoreParts, index: u32, item: Held) -> Result<u3
         Ok(handle) => Ok(handle),
         Err(_) => Err(NoMemory),
     }
+}
+
+/// Takes a handle of a subtask back.
+pub fn free_handle(parts: &mut CoreParts, instance: u32, handle: u32)
+    requires sound { IsSound parts.old }
+    requires live { IsSome (subtask_at instance handle (seen parts.old).core) }
+    ensures sound { IsSound parts.new }
+    ensures new { seen parts.new ≡ on_core (free_handle instance handle) (seen parts.old) }
+{
+    let entry = &mut parts.instances[instance as usize];
+    let _ = entry.handles.subtask_remove(&mut parts.counter, handle);
 }

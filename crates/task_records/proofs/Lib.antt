@@ -13,3 +13,4 @@ pub mod KeptLemmas
 pub mod GivenLemmas
 pub mod HandleWrites
 pub mod HandleItems
+pub mod HandleTaken
