@@ -11,4 +11,4 @@ pub use limits::{
     set_uninteresting, trapped,
 };
 pub use members::{has_thread, has_waiters, is_deletable, set_instance, set_number};
-pub use works::{has_live_work, has_moving_work};
+pub use works::{has_live_work, has_moving_work, set_course, set_phase};
