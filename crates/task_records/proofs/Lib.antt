@@ -14,3 +14,4 @@ pub mod GivenLemmas
 pub mod HandleWrites
 pub mod HandleItems
 pub mod HandleTaken
+pub mod AloneLemmas
