@@ -1,0 +1,13 @@
+//! Words on the marks of a core and on the callers of threads.
+//!
+//! Each is one equation of what contracts see, as the traits of `task_words` say it. An entry has its
+//! nodes from the start, so no word takes memory, and none goes through a list.
+#![tactic(auto)]
+
+mod pushes;
+mod removals;
+mod seats;
+mod tops;
+
+pub use pushes::{push_high, push_high_first, push_host, push_low, set_switch};
+pub use tops::{first_entry, switch};
