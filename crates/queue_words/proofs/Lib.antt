@@ -7,3 +7,4 @@ pub mod SeenLemmas
 pub mod PushLemmas
 pub mod LeaveLemmas
 pub mod SwitchLemmas
+pub mod TopLemmas

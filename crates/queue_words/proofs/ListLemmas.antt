@@ -1,5 +1,5 @@
 -- Lists of entries: a test of what they hold, in the machine's list and in the core's.
-use Rattle.std.proofs.Common.{◌≡◌, ◌+◌, ◌==◌, ◌||◌, ℕ, suc, Bool, true, false, cond, List, [], ◌∷◌, map, Option, Some, None, filter, option_map, refl, sym, ap, subst, ◌∙◌, arith}
+use Rattle.std.proofs.Common.{◌≡◌, ◌+◌, ◌==◌, ◌||◌, ℕ, suc, Bool, true, false, cond, List, [], ◌∷◌, map, Option, Some, None, filter, option_map, refl, sym, ap, ap₂, subst, ◌∙◌, arith}
 use Rattle.std.proofs.lemmas.Option.{same_Some}
 use Rattle.std.specs.List.{find, list_any}
 use Rattle.task_index.specs.Rows.{Each, less_by}
@@ -29,6 +29,10 @@ module _ {P Q : Type 0} (Known : P → Type 0) (f : P → Q) where
           by true false is rest = absurd (cc)
           by false true is rest = absurd (cc)
           by false false is rest = ap (λ (l : List Q). f x ∷ l) rest
+
+      pub any-known : (xs : List P) → Each Known xs → list_any u xs ≡ list_any t (map f xs)
+      any-known [] all = refl
+      any-known (x ∷ xs) all = ap₂ (λ b d. b || d) (same x all.0) (any-known xs all.1)
 
       pub find-known : (xs : List P) → Each Known xs → find t (map f xs) ≡ option_map f (find u xs)
       find-known [] all = refl
@@ -71,6 +75,10 @@ module _ {P : Type 0} where
       by : (b : Bool) → u x ≡ b → cond b (Some x) (find u xs) ≡ Some y → (find u xs ≡ Some y → Known y × (u y ≡ true)) → Known y × (u y ≡ true)
       by true passes is rest = subst (λ (z : P). Known z × (u z ≡ true)) (same_Some x y is) (all.0, passes)
       by false passes is rest = rest is
+
+  pub less_nothing : (xs : List P) → less_by (λ x. false) xs ≡ xs
+  less_nothing [] = refl
+  less_nothing (x ∷ xs) = ap (λ (l : List P). x ∷ l) (less_nothing xs)
 
   -- a part of a list in which nothing passes
   pub none_in_part : (t u : P → Bool) (xs : List P) → list_any u xs ≡ false → list_any u (filter t xs) ≡ false

@@ -50,6 +50,10 @@ module _ (a : CoreParts) (sound : IsSound a) (id : TableId ThreadKey) (g : Guest
     abbrev bared : Parts
     bared = bare (parts_of a)
 
+    is_whole : IsWhole bared
+    unfolding IsSound
+    is_whole = sound.whole
+
     there : v ≡ thread_entry id.rep g
     there = v_is ∙ ap (λ r. thread_entry r g) rep_is
 
@@ -59,12 +63,11 @@ module _ (a : CoreParts) (sound : IsSound a) (id : TableId ThreadKey) (g : Guest
     pub entry_is : v.entry ≡ entry.Thread (thread_of (seen a) id)
     entry_is = ap (λ (q : Queued). q.entry) there ∙ ap (λ n. entry.Thread n) (thread_named a id g is)
 
+    pub entry_seated : IsSeated bared v
+    entry_seated = of_thread_seated bared is_whole v of_v
+
     in_instance : v.instance ≡ Some g.instance
     in_instance = ap (λ (q : Queued). q.instance) there
-
-    is_whole : IsWhole bared
-    unfolding IsSound
-    is_whole = sound.whole
 
     pub live_mark : (r : Row) (c : ℕ) → row_chain bared r ≡ Some c → IsSome (list_of a.marks c)
     live_mark r c at = is_whole.chained.marks.live r c at

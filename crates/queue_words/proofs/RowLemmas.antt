@@ -39,7 +39,7 @@ row_with_other High xs list Low other = refl
 row_with_other Low xs list High other = refl
 row_with_other Low xs list Low other = absurd (other refl)
 
-of_some_instance : (i : ℕ) (o : Option ℕ) → is_number i o ≡ true → IsSome o
+pub of_some_instance : (i : ℕ) (o : Option ℕ) → is_number i o ≡ true → IsSome o
 of_some_instance i None is = absurd (cc)
 of_some_instance i (Some j) is = refl
 

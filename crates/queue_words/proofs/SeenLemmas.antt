@@ -16,13 +16,13 @@ use Rattle.queue_words.specs.Seats.{RowsAre, row_with}
 abbrev pub row_seen : CoreParts → Row → List Entry
 row_seen a r = map (λ (q : Queued). q.entry) (row (bare (parts_of a)) r)
 
+-- the machine's queues as the lists say
+abbrev pub queues_seen : CoreParts → List Entry → List Entry → StateView
+queues_seen a high low = record (seen a) { core = record (seen a).core { queues = record { switch = (seen a).core.queues.switch; high = high; low = low } } }
+
 module _ (a : CoreParts) (marks shelves : List (Spot Queued)) where
   abbrev pub rows_after : CoreParts
   rows_after = record a { marks = marks; shelves = shelves }
-
-  -- the machine's queues as the lists say
-  abbrev pub queues_seen : List Entry → List Entry → StateView
-  queues_seen high low = record (seen a) { core = record (seen a).core { queues = record { switch = (seen a).core.queues.switch; high = high; low = low } } }
 
   module _ (list : Row → List Queued) (are : RowsAre (bare (parts_of a)) marks shelves list) where
     pub rows_sound : IsSound a → IsSound rows_after
@@ -32,9 +32,9 @@ module _ (a : CoreParts) (marks shelves : List (Spot Queued)) where
       whole = are.whole;
     }
 
-    pub rows_seen : (high low : List Entry) → map (λ (q : Queued). q.entry) (list High) ≡ high → map (λ (q : Queued). q.entry) (list Low) ≡ low → seen rows_after ≡ queues_seen high low
+    pub rows_seen : (high low : List Entry) → map (λ (q : Queued). q.entry) (list High) ≡ high → map (λ (q : Queued). q.entry) (list Low) ≡ low → seen rows_after ≡ queues_seen a high low
     unfolding seen
-    rows_seen high low is_high is_low = ap₂ queues_seen (ap (map (λ (q : Queued). q.entry)) (are.rows High) ∙ is_high) (ap (map (λ (q : Queued). q.entry)) (are.rows Low) ∙ is_low)
+    rows_seen high low is_high is_low = ap₂ (queues_seen a) (ap (map (λ (q : Queued). q.entry)) (are.rows High) ∙ is_high) (ap (map (λ (q : Queued). q.entry)) (are.rows Low) ∙ is_low)
 
   module _ (v : Queued) where
     more_seen : (r : Row) → map (λ (q : Queued). q.entry) (row (bare (parts_of a)) r ++ v ∷ []) ≡ row_seen a r ++ v.entry ∷ []

@@ -1,10 +1,12 @@
 -- The thread at switch.
 use Rattle.std.proofs.Common.{◌≡◌, ◌<◌, ℕ, Option, Some, None, IfSome, refl, sym, ap, subst, ◌∙◌}
+use Rattle.std.proofs.lemmas.Option.{same_Some}
 use Rattle.std.specs.Option.{option_map}
 use Rattle.std.specs.Prelude.{Ok}
 use Rattle.task_machine.specs.Write.{set_switch}
 use Rattle.task_records.proofs.KindLemmas.{item_stands}
 use Rattle.task_records.proofs.ReadLemmas.{thread_named}
+use Rattle.task_records.specs.Keys.{thread_key}
 use Rattle.task_records.specs.Kinds.{item_of, on_item}
 use Rattle.task_records.specs.Rows.{IsFollower, follower}
 use Rattle.task_records.specs.Seen.{IsSound, parts_of, seen}
@@ -14,10 +16,12 @@ use Rattle.task_records.specs.declared.single.Single.{Single}
 use Rattle.task_records.specs.declared.threads.Follower.{Follower}
 use Rattle.task_records.specs.declared.threads.GuestThread.{GuestThread}
 use Rattle.task_table.specs.Answers.{item_at}
+use Rattle.task_table.specs.Records.{key_in, number_in, record_at}
+use Rattle.task_table.specs.Table.{Placed, place_at}
 use Rattle.task_table.specs.declared.id.TableId.{TableId}
 use Rattle.task_wait.specs.declared.keys.ThreadKey.{ThreadKey}
 use Rattle.task_words.specs.StateView.{on_core, thread_of}
-use Rattle.queue_words.proofs.BareLemmas.{place_mapped}
+use Rattle.queue_words.proofs.BareLemmas.{mapped_place, number_positive, place_mapped}
 use Rattle.queue_words.proofs.WholeLemmas.{chains_whole}
 
 module _ (a : CoreParts) where
@@ -32,6 +36,28 @@ module _ (a : CoreParts) where
 
   pub follower_number : (id : TableId ThreadKey) (g : GuestThread) → Ok g ≡ item_at item_of a.threads id.rep id.serial → Some g.number ≡ Some (thread_of (seen a) id)
   follower_number id g is = ap (λ (n : ℕ). Some n) (thread_named a id g is)
+
+  -- a thread that is kept as a follower stands at its place
+  module _ (sound : IsSound a) (f : Follower) (is : IsFollower (bare (parts_of a)) f) where
+    follower_placed : (q : Placed (Single GuestThread)) × ((place_at a.threads f.place ≡ Some q) × (f.number ≡ q.entry.item.number))
+    follower_placed = by (place_at (bare (parts_of a)).threads f.place) refl is
+      where
+        by : (o : Option (Placed (Single GuestThread))) → place_at (bare (parts_of a)).threads f.place ≡ o → option_map (λ (q : Placed (Single GuestThread)). follower f.place q.entry.item) o ≡ Some f → (q : Placed (Single GuestThread)) × ((place_at a.threads f.place ≡ Some q) × (f.number ≡ q.entry.item.number))
+        by None at is = absurd (cc)
+        by (Some q) at is =
+            let one = mapped_place (on_item bare_thread) a.threads f.place q at in
+            (one.0, (one.1.0, sym (ap (λ (g : Follower). g.number) (same_Some (follower f.place q.entry.item) f is)) ∙ sym (ap (λ (e : Single GuestThread). e.item.number) one.1.1)))
+
+    pub follower_here : number_in (record_at thread_key a.threads.places f.place) ≡ f.number
+    follower_here = ap (λ o. number_in (key_in thread_key o)) follower_placed.1.0 ∙ sym follower_placed.1.1
+
+    pub follower_positive : 0 < f.number
+    unfolding IsSound
+    follower_positive = subst (λ n. 0 < n) (sym follower_placed.1.1) (number_positive (λ (g : GuestThread). g.number) (λ (g : GuestThread). g.thread) a.threads a.made.threads sound.tables.threads f.place follower_placed.0 follower_placed.1.0)
+
+  pub switch_follows : IsSound a → (f : Follower) → a.switch ≡ Some f → IsFollower (bare (parts_of a)) f
+  unfolding IsSound
+  switch_follows sound f is = subst (λ o. IfSome o (IsFollower (bare (parts_of a)))) is sound.whole.named.switch
 
   module _ (switch : Option Follower) where
     abbrev pub switch_after : CoreParts

@@ -1,5 +1,5 @@
 -- Entries that stand at high or low: whose they are, and which one a node takes away.
-use Rattle.std.specs.Prelude.{◌≡◌, ◌==◌, ◌&&◌, ℕ, Bool, true, false, List, Option, Some, None}
+use Rattle.std.specs.Prelude.{◌≡◌, ◌==◌, ◌&&◌, ℕ, Bool, true, false, List, [], ◌∷◌, Option, Some, None}
 use Rattle.task_records.specs.Image.{Parts}
 use Rattle.task_index.specs.Rows.{less_by}
 use Rattle.task_links.specs.Links.{Spot}
@@ -40,6 +40,16 @@ same_instance (Some i) o = is_number i o
 -- x is the entry that stands by the node of q
 abbrev pub leaves : Queued → Queued → Bool
 leaves q x = (x.mark.index == q.mark.index) && same_instance q.instance x.instance
+
+-- the first of a list
+abbrev pub top : {P : Type 0} → List P → Option P
+top [] = None
+top (x ∷ xs) = Some x
+
+-- all but the first
+abbrev pub rest : {P : Type 0} → List P → List P
+rest [] = []
+rest (x ∷ xs) = xs
 
 -- these entries at one mark, and those of the other one as they are
 abbrev pub row_with : Row → List Queued → (Row → List Queued) → Row → List Queued

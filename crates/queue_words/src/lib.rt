@@ -10,4 +10,5 @@ mod seats;
 mod tops;
 
 pub use pushes::{push_high, push_high_first, push_host, push_low, set_switch};
-pub use tops::{first_entry, switch};
+pub use removals::{pop, unqueue};
+pub use tops::{first_entry, next_entry, switch};

@@ -1,15 +1,20 @@
 //! Live threads and works, and the chains that their entries go to.
-ghost use Rattle.std.specs.Prelude.{◌≡◌, ◌<◌, IsSome, Ok, Some, slice_get};
+ghost use Rattle.std.specs.Prelude.{◌≡◌, ◌<◌, IfSome, IsSome, Ok, Some, slice_get};
+ghost use Rattle.task_links.specs.Links.{list_of};
+ghost use Rattle.task_records.specs.Image.{chained};
 ghost use Rattle.task_records.specs.Kinds.{item_of};
-ghost use Rattle.task_records.specs.Rows.{High, Low, host_entry, row_chain, shelf_chain, thread_entry};
+ghost use Rattle.task_records.specs.Rows.{High, IsSeated, Low, host_entry, row_chain, shelf_chain, thread_entry};
 ghost use Rattle.task_records.specs.Seen.{IsSound, parts_of, seen};
 ghost use Rattle.task_records.specs.Sound.{bare};
 ghost use Rattle.task_table.specs.Answers.{item_at};
+ghost use Rattle.task_words.specs.Names.{entry_in};
 ghost use Rattle.task_words.specs.StateView.{thread_of, work_of};
+ghost use Rattle.queue_words.specs.Seats.{top};
 
+use task_links::Links;
 use task_machine::Entry;
-use task_records::{CoreParts, GuestThread, HostWork, Queued};
-use task_words::{ThreadId, WorkId};
+use task_records::{CoreParts, GuestThread, HostWork, Queued, thread_at, work_at};
+use task_words::{EntryId, ThreadId, WorkId};
 
 /// The record of a thread that is there.
 pub(crate) fn live_thread(parts: &CoreParts, id: ThreadId) -> GuestThread
@@ -84,5 +89,32 @@ pub(crate) fn low_chains(parts: &CoreParts, instance: u32) -> (usize, usize)
     match parts.low {
         Some(mark) => (mark, parts.instances[instance as usize].low),
         None => unreachable!(),
+    }
+}
+
+/// The first entry of a chain, where it was made.
+pub(crate) fn first_queued(links: &Links<Queued>, chain: Option<usize>) -> Option<Queued>
+    requires { IfSome chain (λ c. IsSome (list_of links.now c)) }
+    ensures { result ≡ top (chained links.now chain) }
+{
+    match chain {
+        Some(chain) => match links.first(chain) {
+            Some((_, queued)) => Some(queued),
+            None => None,
+        },
+        None => None,
+    }
+}
+
+/// The id of an entry.
+pub(crate) fn entry_id(parts: &CoreParts, queued: Queued) -> EntryId
+    requires sound { IsSound parts.now }
+    requires seated { IsSeated (bare (parts_of parts.now)) queued }
+    ensures { entry_in (seen parts.now).tags result ≡ queued.entry }
+{
+    match queued.entry {
+        Entry::Thread { .. } => EntryId::Thread(thread_at(parts, queued.place)),
+        Entry::Push { .. } => EntryId::Push(work_at(parts, queued.place)),
+        Entry::Host { .. } => EntryId::Host(work_at(parts, queued.place)),
     }
 }

@@ -6,8 +6,9 @@ ghost use Rattle.task_records.specs.Seen.{IsSound, seen};
 ghost use Rattle.task_words.specs.Names.{entry_in};
 ghost use Rattle.task_words.specs.StateView.{thread_of};
 
-use task_machine::{Entry, Mark};
-use task_records::{CoreParts, Queued, thread_at, work_at};
+use crate::seats::{entry_id, first_queued};
+use task_machine::Mark;
+use task_records::{CoreParts, thread_at};
 use task_words::{EntryId, ThreadId};
 
 /// The thread at switch.
@@ -29,13 +30,33 @@ pub fn first_entry(parts: &CoreParts, instance: u32) -> Option<ThreadId>
     ensures live { IfSome result (λ id. 0 < thread_of (seen parts.now) id) }
 {
     match task_records::instance(parts, instance) {
-        Some(record) => match parts.shelves.first(record.high) {
-            Some((_, queued)) => Some(thread_at(parts, queued.place)),
-            None => match parts.shelves.first(record.low) {
-                Some((_, queued)) => Some(thread_at(parts, queued.place)),
+        Some(record) => match first_queued(&parts.shelves, Some(record.high)) {
+            Some(queued) => Some(thread_at(parts, queued.place)),
+            None => match first_queued(&parts.shelves, Some(record.low)) {
+                Some(queued) => Some(thread_at(parts, queued.place)),
                 None => None,
             },
         },
         None => None,
+    }
+}
+
+/// What is taken next.
+pub fn next_entry(parts: &CoreParts) -> Option<(Mark, EntryId)>
+    requires { IsSound parts.now }
+    ensures { option_map (λ e. (e.0, entry_in (seen parts.now).tags e.1)) result ≡ next_entry (seen parts.now).core }
+{
+    match parts.switch {
+        Some(first) => {
+            let id = EntryId::Thread(thread_at(parts, first.place));
+            Some((Mark::Switch, id))
+        }
+        None => match first_queued(&parts.marks, parts.high) {
+            Some(queued) => Some((Mark::High, entry_id(parts, queued))),
+            None => match first_queued(&parts.marks, parts.low) {
+                Some(queued) => Some((Mark::Low, entry_id(parts, queued))),
+                None => None,
+            },
+        },
     }
 }
