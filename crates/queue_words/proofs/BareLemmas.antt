@@ -3,21 +3,18 @@ use Rattle.std.proofs.Common.{◌≡◌, ◌<◌, ℕ, zero, suc, List, [], ◌�
 use Rattle.std.proofs.lemmas.Option.{same_Some, slice_get-map}
 use Rattle.std.specs.Option.{option_map}
 use Rattle.std.specs.Prelude.{Ok}
-use Rattle.task_records.proofs.HomeLemmas.{thread_home}
 use Rattle.task_records.proofs.KindLemmas.{absent, item_stands}
 use Rattle.task_records.proofs.TableLemmas.{number_at_mapped}
-use Rattle.task_records.specs.Image.{Parts}
-use Rattle.task_records.specs.Keys.{thread_key, work_key}
+use Rattle.task_records.specs.Keys.{thread_key}
 use Rattle.task_records.specs.Kinds.{item_of, on_item}
-use Rattle.task_records.specs.Rows.{High, IsSeated, Low, Row, host_entry, shelf_chain, shelf_in, thread_entry}
-use Rattle.task_records.specs.Seen.{IsSound, parts_of, seen}
-use Rattle.task_records.specs.Sound.{SoundTable, bare, bare_instance, bare_thread, bare_work, loose_thread}
+use Rattle.task_records.specs.Rows.{High, Low, Row, shelf_chain, shelf_in, thread_entry}
+use Rattle.task_records.specs.Seen.{IsSound, parts_of}
+use Rattle.task_records.specs.Sound.{SoundTable, bare, bare_instance, bare_thread, loose_thread}
 use Rattle.task_records.specs.declared.instances.InstanceRecord.{InstanceRecord}
 use Rattle.task_records.specs.declared.parts.CoreParts.{CoreParts}
 use Rattle.task_records.specs.declared.single.Single.{Single}
 use Rattle.task_records.specs.declared.threads.GuestThread.{GuestThread}
 use Rattle.task_records.specs.declared.threads.Queued.{Queued}
-use Rattle.task_records.specs.declared.works.HostWork.{HostWork}
 use Rattle.task_table.proofs.MappedLemmas.{place_at-mapped}
 use Rattle.task_table.proofs.RecordLemmas.{found_record_at}
 use Rattle.task_table.specs.Answers.{item_at}

@@ -1,5 +1,5 @@
 -- An entry leaves its mark, as words take it out.
-use Rattle.std.proofs.Common.{inl, inr, ◌≡◌, ◌<◌, ◌||◌, ◌⊎◌, ℕ, Bool, true, false, cond, List, [], ◌∷◌, map, Some, None, IsSome, is_some, refl, sym, ap, ap₂, subst, ◌∙◌, arith}
+use Rattle.std.proofs.Common.{inl, inr, ◌≡◌, ◌<◌, ◌||◌, ℕ, true, false, cond, List, [], ◌∷◌, map, Some, None, IsSome, is_some, refl, sym, ap, ap₂, subst, ◌∙◌, arith}
 use Rattle.std.proofs.lemmas.Bool.{eqb-true, ne_eqb}
 use Rattle.std.proofs.lemmas.Option.{same_Some}
 use Rattle.std.specs.List.{list_any}

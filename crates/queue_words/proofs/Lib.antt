@@ -8,3 +8,4 @@ pub mod PushLemmas
 pub mod LeaveLemmas
 pub mod SwitchLemmas
 pub mod TopLemmas
+pub mod CallerLemmas

@@ -1,5 +1,5 @@
 -- A push of a thread's entry, or of a work's host entry, as words make it.
-use Rattle.std.proofs.Common.{inl, inr, ◌≡◌, ◌++◌, ◌<◌, ℕ, true, false, List, [], ◌∷◌, map, Option, Some, None, IsSome, slice_get, refl, sym, ap, subst, ◌∙◌}
+use Rattle.std.proofs.Common.{inl, inr, ◌≡◌, ◌++◌, ℕ, true, false, List, [], ◌∷◌, Option, Some, None, IsSome, slice_get, refl, sym, ap, subst, ◌∙◌}
 use Rattle.std.proofs.lemmas.Bool.{eqb-true}
 use Rattle.std.proofs.lemmas.Option.{same_Some, slice_get-map}
 use Rattle.std.specs.List.{list_any}
@@ -8,7 +8,6 @@ use Rattle.std.specs.Prelude.{Ok}
 use Rattle.task_links.specs.Links.{IsLinks, Spot, entries, is_free, linked, list_of}
 use Rattle.task_machine.specs.Read.{is_entry_of}
 use Rattle.task_machine.specs.Write.{push_high, push_high_first, push_low}
-use Rattle.task_machine.specs.declared.records.Entry.{Entry}
 use Rattle.task_machine.specs.declared.records.Entry.TheVariants as entry
 use Rattle.task_records.proofs.HomeLemmas.{thread_home}
 use Rattle.task_records.proofs.KindLemmas.{item_stands}
@@ -18,7 +17,6 @@ use Rattle.task_records.specs.Kinds.{item_of, on_item}
 use Rattle.task_records.specs.Rows.{High, IsOfThread, IsSeated, Low, Row, host_entry, row, row_chain, shelf_chain, thread_entry}
 use Rattle.task_records.specs.Seen.{IsSound, parts_of, seen}
 use Rattle.task_records.specs.Sound.{IsWhole, bare, bare_instance, bare_work}
-use Rattle.task_records.specs.declared.instances.InstanceRecord.{InstanceRecord}
 use Rattle.task_records.specs.declared.parts.CoreParts.{CoreParts}
 use Rattle.task_records.specs.declared.threads.GuestThread.{GuestThread}
 use Rattle.task_records.specs.declared.threads.Queued.{Queued}

@@ -1,5 +1,5 @@
 -- An entry is pushed at a mark, at the end or at the front, or leaves it.
-use Rattle.std.proofs.Common.{inl, inr, ◌≡◌, ◌++◌, ◌⊎◌, ℕ, Bool, true, false, List, [], ◌∷◌, Option, Some, None, IsSome, append-nil, filter, refl, sym, ap, subst, ◌∙◌}
+use Rattle.std.proofs.Common.{inl, inr, ◌≡◌, ◌++◌, ◌⊎◌, ℕ, true, false, List, [], ◌∷◌, Option, Some, None, IsSome, append-nil, filter, refl, sym, ap, subst, ◌∙◌}
 use Rattle.std.proofs.lemmas.Bool.{eq-eqb, ne_eqb}
 use Rattle.std.specs.List.{list_any}
 use Rattle.task_index.proofs.Lists.{Each-less_by, Each-more, filter-append, filter-none}
@@ -16,8 +16,8 @@ use Rattle.task_records.specs.declared.threads.Queued.{Queued}
 use Rattle.task_table.specs.Table.{is_number}
 use Rattle.queue_words.specs.Seats.{OfThread, OfWork, RowsAre, leaves, left, row_with}
 use Rattle.queue_words.proofs.ListLemmas.{Each-part, Each-weaker, filter-less_out, none_in_part}
-use Rattle.queue_words.proofs.SeatLemmas.{knows_mark, knows_shelf, leaves_alike, leaves_itself, seat_of, thread_seated, threads_own}
-use Rattle.queue_words.proofs.WholeLemmas.{KeepsNodes, row_is, rows_whole, with_rows}
+use Rattle.queue_words.proofs.SeatLemmas.{knows_mark, knows_shelf, leaves_alike, seat_of, thread_seated, threads_own}
+use Rattle.queue_words.proofs.WholeLemmas.{KeepsNodes, row_is, rows_whole}
 
 -- what is known of each value of the lists
 pub IsRows-known : {K P : Type 0} (chain : K → Option ℕ) (node : P → ℕ) (Known Good : P → Type 0) (links : List (Spot P)) (list : K → List P) → IsRows chain node Known links list → ((k : K) (c : ℕ) → chain k ≡ Some c → Each Good (list k)) → IsRows chain node Good links list

@@ -7,13 +7,13 @@ use Rattle.task_machine.specs.Read.{is_entry_of}
 use Rattle.task_machine.specs.declared.records.Entry.{Entry}
 use Rattle.task_machine.specs.declared.records.Entry.TheVariants as entry
 use Rattle.task_records.specs.Image.{Parts}
-use Rattle.task_records.specs.Rows.{IsOfThread, IsSeated, entry_seated, host_entry, is_of_instance, push_entry, seated, thread_entry}
+use Rattle.task_records.specs.Rows.{IsOfThread, IsSeated, entry_seated, host_entry, is_of_instance, push_entry, thread_entry}
 use Rattle.task_records.specs.Sound.{IsWhole}
 use Rattle.task_records.specs.declared.single.Single.{Single}
 use Rattle.task_records.specs.declared.threads.GuestThread.{GuestThread}
 use Rattle.task_records.specs.declared.threads.Queued.{Queued}
 use Rattle.task_records.specs.declared.works.HostWork.{HostWork}
-use Rattle.task_table.specs.Table.{Placed, Table, is_number, place_at}
+use Rattle.task_table.specs.Table.{Placed, is_number, place_at}
 use Rattle.queue_words.specs.Seats.{OfThread, OfWork, is_entry_of_work, leaves, same_instance}
 use Rattle.queue_words.proofs.ListLemmas.{same_test}
 

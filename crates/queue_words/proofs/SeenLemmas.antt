@@ -1,5 +1,5 @@
 -- What is seen of a core whose marks are changed.
-use Rattle.std.proofs.Common.{◌≡◌, ◌++◌, ℕ, List, [], ◌∷◌, map, Option, Some, None, refl, sym, ap, ap₂, ◌∙◌}
+use Rattle.std.proofs.Common.{◌≡◌, ◌++◌, List, [], ◌∷◌, map, refl, ap, ap₂, ◌∙◌}
 use Rattle.std.proofs.lemmas.List.{map-append}
 use Rattle.task_links.specs.Links.{Spot}
 use Rattle.task_machine.specs.Write.{push_high, push_high_first, push_low}

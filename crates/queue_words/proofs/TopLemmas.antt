@@ -1,10 +1,10 @@
 -- What stands first at a mark, and of an instance there.
-use Rattle.std.proofs.Common.{inl, inr, ◌≡◌, ◌==◌, ◌<◌, ◌⊎◌, ℕ, Bool, true, false, cond, List, [], ◌∷◌, map, filter, Option, Some, None, IsSome, IfSome, slice_get, refl, sym, ap, subst, ◌∙◌}
+use Rattle.std.proofs.Common.{inl, inr, ◌≡◌, ◌<◌, ℕ, Bool, true, false, cond, List, [], ◌∷◌, map, filter, Option, Some, None, IsSome, IfSome, slice_get, refl, sym, ap, subst, ◌∙◌}
 use Rattle.std.proofs.lemmas.Bool.{eq-eqb, eqb-true}
-use Rattle.std.proofs.lemmas.Option.{same_Some, slice_get-map}
+use Rattle.std.proofs.lemmas.Option.{same_Some}
 use Rattle.std.specs.List.{find}
 use Rattle.std.specs.Option.{option_and_then, option_map}
-use Rattle.std.specs.Prelude.{Ok, ok_or}
+use Rattle.std.specs.Prelude.{Ok}
 use Rattle.task_index.proofs.Rows.{values_are}
 use Rattle.task_index.specs.Rows.{Each, part}
 use Rattle.task_links.specs.Links.{list_of}
@@ -14,16 +14,15 @@ use Rattle.task_machine.specs.declared.records.Entry.{Entry}
 use Rattle.task_machine.specs.declared.records.Entry.TheVariants as entry
 use Rattle.task_machine.specs.declared.words.Mark.{Mark}
 use Rattle.task_machine.specs.declared.words.Mark.TheVariants as mark
-use Rattle.task_records.proofs.HomeLemmas.{thread_home, thread_instance}
-use Rattle.task_records.proofs.KindLemmas.{absent}
+use Rattle.task_records.proofs.HomeLemmas.{thread_instance}
 use Rattle.task_records.proofs.ReadLemmas.{thread_named}
 use Rattle.task_records.proofs.TableLemmas.{number_at_mapped}
 use Rattle.task_records.specs.Image.{Parts, chained}
 use Rattle.task_records.specs.Keys.{thread_key, work_key}
 use Rattle.task_records.specs.Kinds.{item_of, on_item}
-use Rattle.task_records.specs.Rows.{High, IsFollower, IsSeated, Low, Row, follower, is_of_instance, row, row_chain, shelf_chain, shelf_in, thread_entry}
+use Rattle.task_records.specs.Rows.{High, IsSeated, Low, Row, is_of_instance, row, row_chain, shelf_chain, shelf_in, thread_entry}
 use Rattle.task_records.specs.Seen.{IsSound, parts_of, seen}
-use Rattle.task_records.specs.Sound.{IsWhole, bare, bare_instance, bare_thread, bare_work, loose_work}
+use Rattle.task_records.specs.Sound.{IsWhole, bare, bare_thread, bare_work, loose_work}
 use Rattle.task_records.specs.declared.instances.InstanceRecord.{InstanceRecord}
 use Rattle.task_records.specs.declared.parts.CoreParts.{CoreParts}
 use Rattle.task_records.specs.declared.single.Single.{Single}
@@ -33,13 +32,12 @@ use Rattle.task_records.specs.declared.threads.Queued.{Queued}
 use Rattle.task_table.proofs.TableLemmas.{found_here}
 use Rattle.task_table.specs.Answers.{item_at, item_in}
 use Rattle.task_table.specs.Records.{key_in, number_in, record_at}
-use Rattle.task_table.specs.Table.{Placed, Table, is_number, place_at}
+use Rattle.task_table.specs.Table.{is_number}
 use Rattle.task_table.specs.declared.id.TableId.{TableId}
 use Rattle.task_wait.specs.declared.keys.ThreadKey.{ThreadKey}
-use Rattle.task_words.specs.StateView.{thread_of}
-use Rattle.queue_words.specs.Seats.{OfThread, OfWork, is_entry_of_work, top}
+use Rattle.queue_words.specs.Seats.{OfThread, is_entry_of_work, top}
 use Rattle.queue_words.proofs.BareLemmas.{mapped_place, shelf_bare, thread_number_here, thread_number_positive}
-use Rattle.queue_words.proofs.ListLemmas.{find-known, find-none, find-some, same_test}
+use Rattle.queue_words.proofs.ListLemmas.{find-known, find-none, find-some}
 use Rattle.queue_words.proofs.PushLemmas.{instance_there}
 use Rattle.queue_words.proofs.RowLemmas.{of_some_instance, row_known, shelf_threads}
 use Rattle.queue_words.proofs.SeatLemmas.{seat_of, threads_own}
@@ -76,9 +74,16 @@ module _ (a : CoreParts) where
   -- the thread of an entry, read at its place
   placed_item : (x : Queued) (of_thread : OfThread bared x) → (id : TableId ThreadKey) × ((id.rep ≡ x.place) × ((g : GuestThread) × ((Ok g ≡ item_at item_of a.threads id.rep id.serial) × (x ≡ thread_entry x.place g))))
   placed_item x of_thread =
-      let one = mapped_place (on_item bare_thread) a.threads x.place of_thread.placed of_thread.at in
-      (record { rep = x.place; serial = one.0.serial; kind = record {} }, (refl, (one.0.entry.item,
-      (sym (ap (item_in item_of) (found_here a.threads x.place one.0 one.1.0)), sym of_thread.is ∙ sym (ap (λ (e : Single GuestThread). thread_entry x.place e.item) one.1.1)))))
+      let one = mapped_place (on_item bare_thread) a.threads x.place of_thread.placed of_thread.at in (
+        record { rep = x.place; serial = one.0.serial; kind = record {} },
+        (
+          refl,
+          (
+            one.0.entry.item,
+            (sym (ap (item_in item_of) (found_here a.threads x.place one.0 one.1.0)), sym of_thread.is ∙ sym (ap (λ (e : Single GuestThread). thread_entry x.place e.item) one.1.1)),
+          ),
+        ),
+      )
 
   module _ (sound : IsSound a) where
     is_whole : IsWhole bared

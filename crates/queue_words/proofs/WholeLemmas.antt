@@ -1,5 +1,5 @@
 -- What hangs on the chains of marks and of callers, and on switch, and what does not.
-use Rattle.std.proofs.Common.{◌≡◌, ℕ, true, List, [], Option, Some, None, IfSome, filter, refl, sym, ap, subst, ◌∙◌}
+use Rattle.std.proofs.Common.{◌≡◌, ℕ, true, List, [], Option, Some, None, IfSome, filter, refl, sym, ap, subst}
 use Rattle.task_index.specs.Rows.{Each, IsRows, part}
 use Rattle.task_index.proofs.Rows.{IsRows-same, values_are}
 use Rattle.task_links.specs.Links.{Spot, is_made}
@@ -8,7 +8,7 @@ use Rattle.task_records.specs.Image.{Parts, chained, core_of}
 use Rattle.task_records.specs.Names.{AreHandlesNamed, HasHome, IsCallNamed, IsWorkNamed}
 use Rattle.task_records.specs.Kept.{IsSetKept}
 use Rattle.task_records.specs.Rows.{High, IsFollower, IsOfThread, IsSeated, Low, Row, callers_chain, callers_row, is_of_instance, row, row_chain, shelf_chain}
-use Rattle.task_records.specs.Sound.{AreChained, AreCounted, AreNamed, HaveRowNodes, IsWhole}
+use Rattle.task_records.specs.Sound.{AreCounted, AreNamed, HaveRowNodes, IsWhole}
 use Rattle.task_records.specs.declared.calls.GuestTask.{GuestTask}
 use Rattle.task_records.specs.declared.instances.InstanceRecord.{InstanceRecord}
 use Rattle.task_records.specs.declared.sets.WaitSet.{WaitSet}

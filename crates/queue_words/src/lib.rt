@@ -4,11 +4,13 @@
 //! nodes from the start, so no word takes memory, and none goes through a list.
 #![tactic(auto)]
 
+mod callers;
 mod pushes;
 mod removals;
 mod seats;
 mod tops;
 
+pub use callers::{add_caller, has_callers, pop_caller, pop_newest_caller};
 pub use pushes::{push_high, push_high_first, push_host, push_low, set_switch};
 pub use removals::{pop, unqueue};
 pub use tops::{first_entry, next_entry, switch};

@@ -45,7 +45,9 @@ pub(crate) fn entry_of(place: u32, thread: GuestThread) -> Queued
     ensures { result ≡ thread_entry place thread }
 {
     Queued {
-        entry: Entry::Thread { thread: thread.number },
+        entry: Entry::Thread {
+            thread: thread.number,
+        },
         place,
         instance: Some(thread.instance),
         mark: thread.mark,

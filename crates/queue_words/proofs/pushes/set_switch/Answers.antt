@@ -1,4 +1,4 @@
-use Rattle.std.proofs.Common.{Some, None, ap, refl, sym, ◌∙◌}
+use Rattle.std.proofs.Common.{Some, None, ap, sym, ◌∙◌}
 use Rattle.std.specs.Option.{option_map}
 use Rattle.queue_words.proofs.SwitchLemmas.{follower_kept, follower_number, switch_seen, switch_sound}
 use Rattle.queue_words.proofs.pushes.set_switch.Goals as goal

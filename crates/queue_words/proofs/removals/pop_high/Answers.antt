@@ -1,4 +1,3 @@
-use Rattle.std.proofs.Common.{sym, ◌∙◌}
 use Rattle.queue_words.proofs.LeaveLemmas.{left_sound, pop_high_nothing, pop_high_seen}
 use Rattle.queue_words.proofs.TopLemmas.{mark_live, top_seated}
 use Rattle.queue_words.proofs.removals.pop_high.Goals as goal
