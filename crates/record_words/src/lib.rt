@@ -4,6 +4,8 @@
 #![tactic(auto)]
 
 mod calls;
+mod handles;
+mod instances;
 mod names;
 mod subtasks;
 mod threads;
@@ -14,6 +16,11 @@ pub use calls::{
     call_group, call_number, callee, cancel_was_delivered, end_of, goal, is_finished, kind,
     own_event, result_of, set_cancel_delivered, set_end, set_exited, set_own_event, set_result,
     set_started, set_starting_published, starting_is_published, thread_group, was_started,
+};
+pub use handles::{new_handle, new_thread_handle, set_at, subtask_at, thread_at};
+pub use instances::{
+    backpressure, may_not_enter, may_not_suspend, set_backpressure, set_do_not_enter,
+    set_do_not_suspend, set_word, word,
 };
 pub use names::{caller, how_far, join, work_caller};
 pub use subtasks::{event, has_ended, set_subtask_handle, subtask_handle};

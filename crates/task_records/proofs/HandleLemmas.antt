@@ -13,7 +13,7 @@ use Rattle.task_handles.specs.Handles.{no_handles as none_given}
 use Rattle.task_records.specs.Instances.{records_by, mapped, handle_table}
 
 module _ {X Y : Type 0} (f : X → Y) where
-  find-mapped : (n : ℕ) (es : List (ℕ × X)) → find nat_cmp n (mapped f es) ≡ option_map f (find nat_cmp n es)
+  pub find-mapped : (n : ℕ) (es : List (ℕ × X)) → find nat_cmp n (mapped f es) ≡ option_map f (find nat_cmp n es)
   find-mapped n [] = refl
   find-mapped n (e ∷ es) = by_test (eq_by_cmp nat_cmp n e.0) (find-mapped n es)
     where

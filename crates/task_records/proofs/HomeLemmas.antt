@@ -1,5 +1,5 @@
 -- Where the call of a thread stands, and its instance.
-use Rattle.std.proofs.Common.{◌≡◌, ◌<◌, ℕ, Option, Some, None, refl, sym, ap, subst, ◌∙◌}
+use Rattle.std.proofs.Common.{◌≡◌, ◌<◌, ℕ, List, [], ◌∷◌, length, map, slice_get, IsSome, arith, Option, Some, None, refl, sym, ap, subst, ◌∙◌}
 use Rattle.std.specs.Option.{option_map, option_map_or}
 use Rattle.std.specs.Prelude.{Ok}
 use Rattle.task_machine.specs.Maps.{get}
@@ -8,20 +8,22 @@ use Rattle.task_machine.specs.declared.records.Call.{Call}
 use Rattle.task_machine.specs.declared.records.Thread.{Thread}
 use Rattle.task_records.proofs.KindLemmas.{item_stands}
 use Rattle.task_records.proofs.ReadLemmas.{thread_read}
-use Rattle.task_records.proofs.TableLemmas.{get_mapped, number_at_mapped, stands_mapped}
+use Rattle.task_records.proofs.TableLemmas.{get_mapped, number_at_mapped, stands_in_mapped, stands_mapped}
 use Rattle.task_records.specs.Image.{core_of}
 use Rattle.task_records.specs.Keys.{call_key, thread_key, work_key}
-use Rattle.task_records.specs.Kinds.{item_of, on_item}
+use Rattle.task_records.specs.Kinds.{entry_of, item_of, no_other, on_item}
 use Rattle.task_records.specs.Names.{AtPlace, CallOf, HasHome, HasNumber, IsCallNamed, IsWorkNamed, Nothing, SetOf, Target, ThreadOf, WorkOf}
 use Rattle.task_records.specs.Seen.{IsSound, parts_of, seen}
-use Rattle.task_records.specs.Sound.{bare, bare_call, bare_thread, bare_work, loose_call, loose_thread, loose_work}
+use Rattle.task_records.specs.Sound.{bare, bare_instance as bare_instance_record, bare_call, bare_thread, bare_work, loose_call, loose_thread, loose_work, uninterested, unmoved}
 use Rattle.task_records.specs.declared.calls.GuestTask.{GuestTask}
 use Rattle.task_records.specs.declared.parts.CoreParts.{CoreParts}
 use Rattle.task_records.specs.declared.threads.GuestThread.{GuestThread}
+use Rattle.task_table.proofs.ItemLemmas.{record_at-item}
 use Rattle.task_table.proofs.MappedLemmas.{place_at-mapped}
 use Rattle.task_table.proofs.RecordLemmas.{get-records}
 use Rattle.task_table.specs.Answers.{item_at}
 use Rattle.task_table.specs.Mapped.{placed_as}
+use Rattle.task_table.specs.Records.{number_in}
 use Rattle.task_table.specs.declared.id.TableId.{TableId}
 use Rattle.task_records.specs.declared.works.HostWork.{HostWork}
 use Rattle.task_wait.specs.declared.keys.GuestTaskKey.{GuestTaskKey}
@@ -30,11 +32,11 @@ use Rattle.task_wait.specs.declared.keys.ThreadKey.{ThreadKey}
 use Rattle.task_words.specs.StateView.{thread_of}
 
 module _ (a : CoreParts) where
-  bare_call_read : (k : ℕ) → get (core_of (bare (parts_of a))).calls k ≡ option_map loose_call (get (seen a).core.calls k)
+  bare_call_read : (k : ℕ) → get (core_of (bare (parts_of a))).calls k ≡ option_map (λ c. uninterested (loose_call c)) (get (seen a).core.calls k)
   unfolding seen
-  bare_call_read k = get_mapped call_key call_key (on_item bare_call) loose_call (λ e. refl) a.calls k
+  bare_call_read k = get_mapped call_key call_key (on_item bare_call) (λ c. uninterested (loose_call c)) (λ e. refl) a.calls k
 
-  instance_loose : (o : Option Call) → (option_map_or (λ (c : Call). c.callee) (option_map loose_call o) no_callee).instance ≡ (option_map_or (λ (c : Call). c.callee) o no_callee).instance
+  instance_loose : (o : Option Call) → (option_map_or (λ (c : Call). c.callee) (option_map (λ c. uninterested (loose_call c)) o) no_callee).instance ≡ (option_map_or (λ (c : Call). c.callee) o no_callee).instance
   instance_loose None = refl
   instance_loose (Some c) = refl
 
@@ -69,7 +71,7 @@ module _ (a : CoreParts) where
 
     -- the number of the thread's call stands at the place that the thread keeps
     pub task_place : HasNumber call_key a.calls g.task (task_of (thread_of (seen a) id) (seen a).core)
-    task_place = sym (number_at_mapped call_key call_key (on_item bare_call) loose_call (λ e. refl) a.calls g.task) ∙ (thread_home.call ∙ sym thread_task)
+    task_place = sym (number_at_mapped call_key call_key (on_item bare_call) (λ c. uninterested (loose_call c)) (λ e. refl) a.calls g.task) ∙ (thread_home.call ∙ sym thread_task)
 
 -- ---- What is kept with a place
 
@@ -78,9 +80,16 @@ module _ (a : CoreParts) where
   pub place_bare : (rep : ℕ) (t : Target) → AtPlace (bare (parts_of a)) rep t → AtPlace (parts_of a) rep t
   place_bare rep Nothing at = tt
   place_bare rep (ThreadOf n) at = stands_mapped thread_key thread_key (on_item bare_thread) loose_thread (λ e. refl) a.threads rep n at
-  place_bare rep (CallOf k) at = stands_mapped call_key call_key (on_item bare_call) loose_call (λ e. refl) a.calls rep k at
-  place_bare rep (WorkOf i) at = stands_mapped work_key work_key (on_item bare_work) loose_work (λ e. refl) a.works rep i at
+  place_bare rep (CallOf k) at = stands_mapped call_key call_key (on_item bare_call) (λ c. uninterested (loose_call c)) (λ e. refl) a.calls rep k at
+  place_bare rep (WorkOf i) at = stands_mapped work_key work_key (on_item bare_work) (λ w. unmoved (loose_work w)) (λ e. refl) a.works rep i at
   place_bare rep (SetOf x) at = at
+
+  pub place_in_bare : (rep : ℕ) (t : Target) → AtPlace (parts_of a) rep t → AtPlace (bare (parts_of a)) rep t
+  place_in_bare rep Nothing at = tt
+  place_in_bare rep (ThreadOf n) at = stands_in_mapped thread_key thread_key (on_item bare_thread) loose_thread (λ e. refl) a.threads rep n at
+  place_in_bare rep (CallOf k) at = stands_in_mapped call_key call_key (on_item bare_call) (λ c. uninterested (loose_call c)) (λ e. refl) a.calls rep k at
+  place_in_bare rep (WorkOf i) at = stands_in_mapped work_key work_key (on_item bare_work) (λ w. unmoved (loose_work w)) (λ e. refl) a.works rep i at
+  place_in_bare rep (SetOf x) at = at
 
 module _ (a : CoreParts) (sound : IsSound a) where
   pub call_names : (id : TableId GuestTaskKey) (g : GuestTask) → Ok g ≡ item_at item_of a.calls id.rep id.serial → IsCallNamed (bare (parts_of a)) (bare_call g)
@@ -94,3 +103,17 @@ module _ (a : CoreParts) (sound : IsSound a) where
   work_names id w is =
       let one = item_stands (λ (w : HostWork). w.number) (λ (w : HostWork). w.work) a.works a.made.works sound.tables.works id.rep id.serial w is in
       sound.whole.named.works id.rep _ (place_at-mapped (on_item bare_work) a.works id.rep ∙ (ap (placed_as (on_item bare_work)) one.1.0 ∙ ap (λ e. Some (record { serial = one.0.serial; parent = one.0.parent; entry = on_item bare_work e })) one.1.1.1))
+
+module _ (a : CoreParts) (sound : IsSound a) (id : TableId ThreadKey) (g : GuestThread) (is : Ok g ≡ item_at item_of a.threads id.rep id.serial) where
+  some_before : {X Y : Type 0} (f : X → Y) (xs : List X) (i : ℕ) → IsSome (slice_get (map f xs) i) → i < length xs
+  some_before f [] i some = absurd (cc)
+  some_before f (x ∷ xs) ℕ.zero some = omega arith
+  some_before f (x ∷ xs) (ℕ.suc i) some = let rest = some_before f xs i some in omega arith
+
+  -- a thread's instance is there
+  pub thread_within : g.instance < length a.instances.items
+  thread_within = some_before bare_instance_record a.instances.items g.instance (thread_home a sound id g is).within
+
+  -- a thread stands where its id says
+  pub thread_stands_there : HasNumber thread_key a.threads id.rep g.number
+  thread_stands_there = ap number_in (record_at-item item_of entry_of no_other thread_key a.threads id.rep id.serial g is)

@@ -1,10 +1,12 @@
 -- The records of one kind, in a table of their own: what ids name, what is read under an id, and a write of one record.
-use Rattle.std.proofs.Common.{◌≡◌, ◌<◌, ℕ, Bool, true, false, cond, ◌==◌, map, set, slice_get, Option, Some, None, refl, sym, ap, subst, ◌∙◌, arith}
+use Rattle.std.proofs.Common.{◌≡◌, ◌+◌, ◌<◌, ℕ, Bool, true, false, cond, ◌==◌, map, set, slice_get, Option, Some, None, refl, sym, ap, subst, ◌∙◌, arith}
 use Rattle.std.proofs.lemmas.Bool.{ne_eqb}
 use Rattle.std.proofs.lemmas.List.{map-set}
 use Rattle.std.proofs.lemmas.Option.{slice_get-map}
 use Rattle.std.specs.Option.{option_map}
 use Rattle.std.specs.Prelude.{Ok, Err}
+use Rattle.task_index.proofs.Counts.{passing-with_at}
+use Rattle.task_index.specs.Counts.{one_if_passes, passing}
 use Rattle.task_machine.specs.Maps.{Records, change, changed, get, insert}
 use Rattle.task_records.specs.Image.{tag_of}
 use Rattle.task_records.specs.Kinds.{entry_of, item_of, no_other}
@@ -91,6 +93,20 @@ module _ {T X : Type 0} (number : T → ℕ) (rec : T → X) where
             records_written
             ∙ (ap (insert (records key t.places) (number_of key t rep serial)) (sym is_f)
             ∙ ap (changed (records key t.places) (number_of key t rep serial) f) item_read)
+
+        -- how many records pass a test
+        pub passing_written : (test : X → Bool) → passing test (records key after.places) + one_if_passes test (Some (rec g)) ≡ passing test (records key t.places) + one_if_passes test (Some (rec h))
+        passing_written test =
+            let law = passing-with_at test (records key t.places) (number_of key t rep serial) (Some (rec h)) in
+            let was : one_if_passes test (get (records key t.places) (number_of key t rep serial)) ≡ one_if_passes test (Some (rec g)) = ap (one_if_passes test) (sym item_read) in
+            let is : passing test (records key after.places) ≡ passing test (insert (records key t.places) (number_of key t rep serial) (rec h)) = ap (passing test) records_written in
+            omega arith
+
+        pub passing_same : (test : X → Bool) → test (rec h) ≡ test (rec g) → passing test (records key after.places) ≡ passing test (records key t.places)
+        passing_same test same =
+            let law = passing_written test in
+            let one : one_if_passes test (Some (rec h)) ≡ one_if_passes test (Some (rec g)) = ap (λ b. cond b 1 0) same in
+            omega arith
 
         pub tags_written : map (tag_of key) after.places ≡ map (tag_of key) t.places
         unfolding with_entry

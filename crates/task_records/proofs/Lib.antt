@@ -8,3 +8,9 @@ pub mod StandLemmas
 pub mod InstanceLemmas
 pub mod HandleLemmas
 pub mod InstanceReads
+pub mod HandleReads
+pub mod KeptLemmas
+pub mod GivenLemmas
+pub mod HandleWrites
+pub mod HandleItems
+pub mod HandleTaken

@@ -1,5 +1,5 @@
 -- Ids made of a place alone, and of a place where a number was kept.
-use Rattle.std.proofs.Common.{◌≡◌, ◌<◌, ◌≤◌, ℕ, Bool, true, false, cond, Option, Some, None, is_some, length, map, refl, sym, ap, ap₂, subst, ◌∙◌, arith, slice_get}
+use Rattle.std.proofs.Common.{◌≡◌, ◌<◌, ◌≤◌, ℕ, IsSome, Bool, true, false, cond, Option, Some, None, is_some, length, map, refl, sym, ap, ap₂, subst, ◌∙◌, arith, slice_get}
 use Rattle.std.proofs.lemmas.Option.{same_Some, slice_get_past}
 use Rattle.std.specs.Option.{option_and_then, option_map}
 use Rattle.task_machine.specs.Maps.{Records, get}
@@ -9,6 +9,7 @@ use Rattle.task_records.specs.Kinds.{item_of}
 use Rattle.task_records.specs.Names.{StandsAt}
 use Rattle.task_records.specs.Sound.{SoundTable}
 use Rattle.task_records.specs.declared.single.Single.{Single}
+use Rattle.task_table.proofs.NumberLemmas.{number_names, record_at-Names}
 use Rattle.task_table.proofs.RecordLemmas.{found_record_at, get-records}
 use Rattle.task_table.proofs.TableLemmas.{found_here}
 use Rattle.task_table.specs.Records.{found_record, key_in, number_in, number_of, record_at, records}
@@ -111,3 +112,14 @@ module _ {T X : Type 0} (number : T → ℕ) (rec : T → X) where
           by_place : (o : Option (Placed (Single T))) → None ≡ option_and_then (λ (p : Placed (Single T)). item_of p.entry) o → number_in (key_in key o) ≡ n → n ≡ 0
           by_place None is same = sym same
           by_place (Some p) is same = absurd (cc)
+
+module _ {T X : Type 0} (number : T → ℕ) (rec : T → X) (t : Table (Single T)) (made : ℕ) (sound : SoundTable (λ (e : Single T). Some (number e.item, rec e.item)) t made) (rep serial : ℕ) where
+  -- what an id names stands at its place
+  pub stands_by_id : StandsAt (λ (e : Single T). Some (number e.item, rec e.item)) t rep (number_of (λ (e : Single T). Some (number e.item, rec e.item)) t rep serial)
+  stands_by_id some = by_number (number_of (λ (e : Single T). Some (number e.item, rec e.item)) t rep serial) refl some
+    where
+      by_number : (n : ℕ) → number_of (λ (e : Single T). Some (number e.item, rec e.item)) t rep serial ≡ n → IsSome (found_record (λ (e : Single T). Some (number e.item, rec e.item)) n t.places) → number_in (record_at (λ (e : Single T). Some (number e.item, rec e.item)) t.places rep) ≡ n
+      by_number ℕ.zero is some = absurd (let none = sound.above_zero in cc)
+      by_number (ℕ.suc n) is some =
+          let one = number_names (λ (e : Single T). Some (number e.item, rec e.item)) t rep serial (omega arith) in
+          ap number_in (record_at-Names (λ (e : Single T). Some (number e.item, rec e.item)) t rep serial _ one.0 one.1) ∙ is

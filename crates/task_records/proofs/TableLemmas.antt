@@ -85,3 +85,11 @@ module _ {E F X Y : Type 0} (key : E → Option (ℕ × X)) (name : F → Option
   pub stands_mapped : (t : Table E) (rep n : ℕ) → StandsAt name (mapped f t) rep n → StandsAt key t rep n
   unfolding mapped
   stands_mapped t rep n at some = sym (number_at_mapped t rep) ∙ at (subst IsSome (sym (found_mapped n t.places)) (some_mapped (found_record key n t.places) some))
+
+  some_back : (o : Option X) → IsSome (option_map r o) → IsSome o
+  some_back None some = absurd (cc)
+  some_back (Some x) some = refl
+
+  pub stands_in_mapped : (t : Table E) (rep n : ℕ) → StandsAt key t rep n → StandsAt name (mapped f t) rep n
+  unfolding mapped
+  stands_in_mapped t rep n at some = number_at_mapped t rep ∙ at (some_back (found_record key n t.places) (subst IsSome (found_mapped n t.places) some))

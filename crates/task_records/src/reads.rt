@@ -1,9 +1,11 @@
 ghost use Rattle.std.specs.Prelude.{◌≡◌, IfNone, IfSome, Ok, option_copied, option_map, slice_get};
 ghost use Rattle.task_machine.specs.Maps.{get};
-ghost use Rattle.task_machine.specs.Read.{instance_of};
+ghost use Rattle.task_machine.specs.Read.{instance_of, named_by, thread_at};
 ghost use Rattle.task_records.specs.Instances.{handle_table, named_of, thread_of as thread_named};
 ghost use Rattle.task_records.specs.Kinds.{item_of};
-ghost use Rattle.task_records.specs.Seen.{IsSound, seen};
+ghost use Rattle.task_records.specs.Keys.{thread_key};
+ghost use Rattle.task_records.specs.Names.{IsHeldNamed, StandsAt, kinds};
+ghost use Rattle.task_records.specs.Seen.{IsSound, parts_of, seen};
 ghost use Rattle.task_table.specs.Answers.{item_at};
 ghost use Rattle.task_words.specs.StateView.{call_of, set_of, thread_of, work_of};
 
@@ -13,6 +15,7 @@ use crate::parts::CoreParts;
 use crate::sets::WaitSet;
 use crate::threads::GuestThread;
 use crate::works::HostWork;
+use task_handles::{Held, Rep};
 use task_words::{CallId, SetId, ThreadId, WorkId};
 
 /// The record of a thread, if the id names one.
@@ -84,5 +87,41 @@ pub fn instance(parts: &CoreParts, index: u32) -> Option<&InstanceRecord>
         Some(&parts.instances[index as usize])
     } else {
         None
+    }
+}
+
+/// What a handle of an instance names; the numbers past those of handles name nothing.
+pub fn held(parts: &CoreParts, index: u32, handle: u64) -> Option<Held>
+    requires { IsSound parts.now }
+    ensures is { option_map named_of result ≡ named_by (seen parts.now).core.handles index handle }
+    ensures named { IfSome result (λ held. IsHeldNamed (kinds (parts_of parts.now)) held.kind held.rep) }
+{
+    match instance(parts, index) {
+        Some(entry) => {
+            if handle > 4_294_967_295 {
+                None
+            } else {
+                entry.handles.get(handle as u32)
+            }
+        }
+        None => None,
+    }
+}
+
+/// What a thread handle of an instance names; the numbers past those of handles name nothing.
+pub fn held_thread(parts: &CoreParts, index: u32, handle: u64) -> Option<Rep>
+    requires { IsSound parts.now }
+    ensures is { option_map thread_named result ≡ thread_at index handle (seen parts.now).core }
+    ensures named { IfSome result (λ rep. StandsAt thread_key parts.now.threads rep.id rep.serial) }
+{
+    match instance(parts, index) {
+        Some(entry) => {
+            if handle > 4_294_967_295 {
+                None
+            } else {
+                entry.thread_handles.get(handle as u32)
+            }
+        }
+        None => None,
     }
 }
