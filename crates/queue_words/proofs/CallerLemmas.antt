@@ -40,7 +40,7 @@ use Rattle.task_words.specs.Apart.{IsBehindNobody, later_of, newest_of, older_of
 use Rattle.task_words.specs.StateView.{on_core, thread_of}
 use Rattle.queue_words.proofs.ListLemmas.{none_passes}
 use Rattle.queue_words.proofs.SwitchLemmas.{follower_kept}
-use Rattle.queue_words.proofs.WholeLemmas.{KeepsNodes, chains_whole}
+use Rattle.queue_words.proofs.WholeLemmas.{KeepsNodes, chains_sound, chains_whole}
 
 abbrev pub numbers_of : List Follower → List ℕ
 numbers_of fs = map (λ (f : Follower). f.number) fs
@@ -206,18 +206,12 @@ module _ (a : CoreParts) where
     pub callers_live : (m c : ℕ) → callers_chain bared m ≡ Some c → IsSome (list_of a.behind c)
     callers_live m c at = is_whole.chained.behind.live m c at
 
-    pub callers_values : (m c : ℕ) → callers_chain bared m ≡ Some c → callers_of m (seen a).core ≡ numbers_of (values a.behind c)
-    callers_values m c at = callers_row_of m ∙ ap (λ o. numbers_of (chained a.behind o)) at
-
     row_followers : (m : ℕ) → Each (IsFollower bared) (callers_row bared m)
     row_followers m = by (callers_chain bared m) refl
       where
         by : (o : Option ℕ) → callers_chain bared m ≡ o → Each (IsFollower bared) (chained a.behind o)
         by None is = tt
         by (Some c) is = subst (λ o. Each (IsFollower bared) (chained a.behind o)) is (is_whole.chained.behind.all_known m c is)
-
-    no_callers : (m : ℕ) → callers_chain bared m ≡ None → callers_row bared m ≡ []
-    no_callers m none = ap (chained a.behind) none
 
     entries_are : (m c : ℕ) → callers_chain bared m ≡ Some c → entries a.behind c ≡ with_nodes (λ f. f.node.index) (callers_row bared m)
     entries_are m c at = is_whole.chained.behind.has_list m c at
@@ -262,11 +256,9 @@ module _ (a : CoreParts) where
 
       pub callers_sound : KeepsNodes a.behind behind → IsSound (callers_after behind)
       unfolding IsSound
-      callers_sound keeps = record {
-        tables = record { threads = sound.tables.threads; calls = sound.tables.calls; works = sound.tables.works; sets = sound.tables.sets; groups = sound.tables.groups };
-        whole = chains_whole bared sound.whole a.marks a.shelves behind a.switch sound.whole.named.switch (λ n made. made) (λ n made. made) keeps sound.whole.chained.marks sound.whole.chained.shelves sound.whole.chained.low
-            (IsRows-same (callers_chain bared) (λ f. f.node.index) (IsFollower bared) behind list rows (λ m. chained behind (callers_chain bared m)) (λ m c at. ap (chained behind) at ∙ values_now m c at));
-      }
+      callers_sound keeps = chains_sound a a.marks a.shelves behind a.switch sound
+          (chains_whole bared sound.whole a.marks a.shelves behind a.switch sound.whole.named.switch (λ n made. made) (λ n made. made) keeps sound.whole.chained.marks sound.whole.chained.shelves sound.whole.chained.low
+          (IsRows-same (callers_chain bared) (λ f. f.node.index) (IsFollower bared) behind list rows (λ m. chained behind (callers_chain bared m)) (λ m c at. ap (chained behind) at ∙ values_now m c at)))
 
       -- one thread's callers alone are others
       module _ (n c : ℕ) (at : callers_chain bared n ≡ Some c) (ns : List ℕ) (here : numbers_of (list n) ≡ ns) (others : (m d : ℕ) → callers_chain bared m ≡ Some d → (m ≡ n → ⊥) → list m ≡ callers_row bared m) where

@@ -11,6 +11,7 @@ use Rattle.task_records.specs.declared.parts.CoreParts.{CoreParts}
 use Rattle.task_records.specs.declared.threads.Queued.{Queued}
 use Rattle.task_words.specs.StateView.{StateView, on_core}
 use Rattle.queue_words.specs.Seats.{RowsAre, row_with}
+use Rattle.queue_words.proofs.WholeLemmas.{chains_sound}
 
 -- the machine's list of a mark
 abbrev pub row_seen : CoreParts → Row → List Entry
@@ -27,10 +28,7 @@ module _ (a : CoreParts) (marks shelves : List (Spot Queued)) where
   module _ (list : Row → List Queued) (are : RowsAre (bare (parts_of a)) marks shelves list) where
     pub rows_sound : IsSound a → IsSound rows_after
     unfolding IsSound
-    rows_sound sound = record {
-      tables = record { threads = sound.tables.threads; calls = sound.tables.calls; works = sound.tables.works; sets = sound.tables.sets; groups = sound.tables.groups };
-      whole = are.whole;
-    }
+    rows_sound sound = chains_sound a marks shelves a.behind a.switch sound are.whole
 
     pub rows_seen : (high low : List Entry) → map (λ (q : Queued). q.entry) (list High) ≡ high → map (λ (q : Queued). q.entry) (list Low) ≡ low → seen rows_after ≡ queues_seen a high low
     unfolding seen

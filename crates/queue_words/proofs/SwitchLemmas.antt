@@ -22,7 +22,7 @@ use Rattle.task_table.specs.declared.id.TableId.{TableId}
 use Rattle.task_wait.specs.declared.keys.ThreadKey.{ThreadKey}
 use Rattle.task_words.specs.StateView.{on_core, thread_of}
 use Rattle.queue_words.proofs.BareLemmas.{mapped_place, number_positive, place_mapped}
-use Rattle.queue_words.proofs.WholeLemmas.{chains_whole}
+use Rattle.queue_words.proofs.WholeLemmas.{chains_sound, chains_whole}
 
 module _ (a : CoreParts) where
   module _ (sound : IsSound a) (id : TableId ThreadKey) (g : GuestThread) (is : Ok g ≡ item_at item_of a.threads id.rep id.serial) (rep : ℕ) (rep_is : rep ≡ id.rep) where
@@ -65,10 +65,8 @@ module _ (a : CoreParts) where
 
     pub switch_sound : IsSound a → IfSome switch (IsFollower (bare (parts_of a))) → IsSound switch_after
     unfolding IsSound
-    switch_sound sound follows = record {
-      tables = record { threads = sound.tables.threads; calls = sound.tables.calls; works = sound.tables.works; sets = sound.tables.sets; groups = sound.tables.groups };
-      whole = chains_whole (bare (parts_of a)) sound.whole a.marks a.shelves a.behind switch follows (λ n made. made) (λ n made. made) (λ n made. made) sound.whole.chained.marks sound.whole.chained.shelves sound.whole.chained.low sound.whole.chained.behind;
-    }
+    switch_sound sound follows = chains_sound a a.marks a.shelves a.behind switch sound
+        (chains_whole (bare (parts_of a)) sound.whole a.marks a.shelves a.behind switch follows (λ n made. made) (λ n made. made) (λ n made. made) sound.whole.chained.marks sound.whole.chained.shelves sound.whole.chained.low sound.whole.chained.behind)
 
     pub switch_seen : (n : Option ℕ) → option_map (λ (f : Follower). f.number) switch ≡ n → seen switch_after ≡ on_core (set_switch n) (seen a)
     unfolding seen set_switch

@@ -22,7 +22,7 @@ use Rattle.task_records.specs.Keys.{thread_key, work_key}
 use Rattle.task_records.specs.Kinds.{item_of, on_item}
 use Rattle.task_records.specs.Rows.{High, IsSeated, Low, Row, is_of_instance, row, row_chain, shelf_chain, shelf_in, thread_entry}
 use Rattle.task_records.specs.Seen.{IsSound, parts_of, seen}
-use Rattle.task_records.specs.Sound.{IsWhole, bare, bare_thread, bare_work, loose_work}
+use Rattle.task_records.specs.Sound.{IsWhole, bare, bare_thread, bare_work, loose_work, unmoved}
 use Rattle.task_records.specs.declared.instances.InstanceRecord.{InstanceRecord}
 use Rattle.task_records.specs.declared.parts.CoreParts.{CoreParts}
 use Rattle.task_records.specs.declared.single.Single.{Single}
@@ -225,7 +225,7 @@ module _ (a : CoreParts) where
     pub work_number : (x : Queued) → IsSeated bared x → (i : ℕ) → ((n : ℕ) → x.entry ≡ entry.Thread n → ⊥) → is_entry_of_work i x.entry ≡ true → ((j : ℕ) → is_entry_of_work j x.entry ≡ true → j ≡ i) → number_in (record_at work_key a.works.places x.place) ≡ i
     work_number x is_x i no_thread is one = elim (seat_of bared x is_x) [
       | inl seat ↦ absurd (no_thread seat.placed.entry.item.number (sym (ap (λ (q : Queued). q.entry) seat.is)))
-      | inr seat ↦ sym (number_at_mapped work_key work_key (on_item bare_work) loose_work (λ e. refl) a.works x.place) ∙ (ap (λ o. number_in (key_in work_key o)) seat.at ∙ one seat.placed.entry.item.number seat.entry)
+      | inr seat ↦ sym (number_at_mapped work_key work_key (on_item bare_work) (λ w. unmoved (loose_work w)) (λ e. refl) a.works x.place) ∙ (ap (λ o. number_in (key_in work_key o)) seat.at ∙ one seat.placed.entry.item.number seat.entry)
     ]
 
     pub push_id : (x : Queued) → IsSeated bared x → (i : ℕ) → x.entry ≡ entry.Push i → (m : ℕ) → m ≡ number_in (record_at work_key a.works.places x.place) → entry.Push m ≡ x.entry

@@ -3,14 +3,15 @@ use Rattle.std.proofs.Common.{◌≡◌, ℕ, true, List, [], Option, Some, None
 use Rattle.task_index.specs.Rows.{Each, IsRows, part}
 use Rattle.task_index.proofs.Rows.{IsRows-same, values_are}
 use Rattle.task_links.specs.Links.{Spot, is_made}
-use Rattle.task_machine.specs.Read.{live_count, table_use}
+use Rattle.task_machine.specs.Read.{table_use}
 use Rattle.task_records.specs.Image.{Parts, chained, core_of}
-use Rattle.task_records.specs.Names.{AreHandlesNamed, HasHome, IsCallNamed, IsWorkNamed}
+use Rattle.task_records.specs.Names.{HasHome, IsCallNamed, IsWorkNamed}
 use Rattle.task_records.specs.Kept.{IsSetKept}
 use Rattle.task_records.specs.Rows.{High, IsFollower, IsOfThread, IsSeated, Low, Row, callers_chain, callers_row, is_of_instance, row, row_chain, shelf_chain}
-use Rattle.task_records.specs.Sound.{AreCounted, AreNamed, HaveRowNodes, IsWhole}
+use Rattle.task_records.specs.Seen.{IsSound, parts_of}
+use Rattle.task_records.specs.Sound.{AreCounted, AreNamed, HaveRowNodes, IsWhole, bare}
+use Rattle.task_records.specs.declared.parts.CoreParts.{CoreParts}
 use Rattle.task_records.specs.declared.calls.GuestTask.{GuestTask}
-use Rattle.task_records.specs.declared.instances.InstanceRecord.{InstanceRecord}
 use Rattle.task_records.specs.declared.sets.WaitSet.{WaitSet}
 use Rattle.task_records.specs.declared.threads.Follower.{Follower}
 use Rattle.task_records.specs.declared.threads.GuestThread.{GuestThread}
@@ -30,7 +31,7 @@ module _ (p : Parts) (whole : IsWhole p) (marks shelves : List (Spot Queued)) (b
   now = with_chains p marks shelves behind switch
 
   home_same : (g : GuestThread) → HasHome p g → HasHome now g
-  home_same g h = record { call = h.call; there = h.there; instance = h.instance; within = h.within; handle = h.handle; place = h.place; how_far = h.how_far }
+  home_same g h = record { call = h.call; there = h.there; instance = h.instance; within = h.within; place = h.place; how_far = h.how_far }
 
   call_same : (g : GuestTask) → IsCallNamed p g → IsCallNamed now g
   call_same g h = record { caller = h.caller; join = h.join; group = h.group; positive = h.positive }
@@ -38,17 +39,13 @@ module _ (p : Parts) (whole : IsWhole p) (marks shelves : List (Spot Queued)) (b
   work_same : (w : HostWork) → IsWorkNamed p w → IsWorkNamed now w
   work_same w h = record { caller = h.caller; join = h.join; group = h.group }
 
-  handles_same : (i : InstanceRecord) → AreHandlesNamed p i → AreHandlesNamed now i
-  handles_same i h = record { handles = h.handles; thread_handles = h.thread_handles }
-
   set_same : (x : WaitSet) → IsSetKept (core_of p) x → IsSetKept (core_of now) x
   set_same x h = record { members = h.members; entries = h.entries }
 
   counted_same : AreCounted now
-  unfolding table_use live_count
+  unfolding table_use
   counted_same = record {
-    kept = record { used = whole.counted.kept.used; groups = whole.counted.kept.groups; interesting = whole.counted.kept.interesting; live = whole.counted.kept.live; moving = whole.counted.kept.moving };
-    live = whole.counted.live;
+    kept = record { used = whole.counted.kept.used; groups = whole.counted.kept.groups; live = whole.counted.kept.live };
     calls = whole.counted.calls;
     sets = λ rep q at. set_same q.entry.item (whole.counted.sets rep q at);
     groups = whole.counted.groups;
@@ -73,7 +70,6 @@ module _ (p : Parts) (whole : IsWhole p) (marks shelves : List (Spot Queued)) (b
     threads = λ rep q at. home_same q.entry.item (whole.named.threads rep q at);
     calls = λ rep q at. call_same q.entry.item (whole.named.calls rep q at);
     works = λ rep q at. work_same q.entry.item (whole.named.works rep q at);
-    handles = λ i r at. handles_same r (whole.named.handles i r at);
     switch = follows;
   }
 
@@ -96,6 +92,19 @@ module _ (p : Parts) (whole : IsWhole p) (marks shelves : List (Spot Queued)) (b
     nodes = nodes_same keeps_marks keeps_shelves keeps_behind;
     counted = counted_same;
   }
+
+-- so that a core with other chains is sound where its parts are whole
+pub chains_sound : (a : CoreParts) (marks shelves : List (Spot Queued)) (behind : List (Spot Follower)) (switch : Option Follower) → IsSound a → IsWhole (with_chains (bare (parts_of a)) marks shelves behind switch) → IsSound (record a { marks = marks; shelves = shelves; behind = behind; switch = switch })
+unfolding IsSound
+chains_sound a marks shelves behind switch sound whole = record {
+  tables = record { threads = sound.tables.threads; calls = sound.tables.calls; works = sound.tables.works; sets = sound.tables.sets; groups = sound.tables.groups };
+  whole = whole;
+  interesting = sound.interesting;
+  moving = sound.moving;
+  handles = sound.handles;
+  owned = sound.owned;
+  live = sound.live;
+}
 
 -- ---- The entries of the marks
 
