@@ -1,0 +1,11 @@
+//! Words on where threads are, and on the members of sets.
+//!
+//! Each is one equation of what contracts see, as the traits of `task_words` say it. What is searched
+//! for is the first of a chain.
+#![tactic(auto)]
+
+mod places;
+mod sets;
+
+pub use places::{delivered_set, place, why};
+pub use sets::first_waiter;
