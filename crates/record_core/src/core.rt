@@ -45,10 +45,10 @@ impl View for TaskCore {
     ghost view = { itself };
 
     fn current(&self) -> Option<ThreadId> {
-        self.parts.current
+        count_words::current(&self.parts)
     }
 
     fn set_current(&mut self, thread: Option<ThreadId>) {
-        self.parts.current = thread;
+        count_words::set_current(&mut self.parts, thread);
     }
 }

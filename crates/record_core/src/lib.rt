@@ -4,5 +4,6 @@
 
 mod core;
 mod instances;
+mod queues;
 
 pub use crate::core::TaskCore;

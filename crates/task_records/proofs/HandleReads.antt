@@ -97,7 +97,7 @@ module _ (a : CoreParts) (sound : IsSound a) (i : ℕ) (o : Option InstanceRecor
 
       pub thread_named_at : (q : Option Rep) → q ≡ held_by r.thread_handles h → IfSome q (λ x. StandsAt thread_key a.threads x.id x.serial)
       thread_named_at None live = tt
-      thread_named_at (Some x) live = place_bare a x.id (ThreadOf x.serial) ((instance_names r is).thread_handles h x (sym live))
+      thread_named_at (Some x) live = (place_bare a x.id (ThreadOf x.serial) ((instance_names r is).thread_handles h x (sym live))).1
 
 -- the handle that a table gives next is the machine's
 pub next_given : {X Y : Type 0} (f : X → Y) (t : Handles X) → IsWhole t → given_next t ≡ next_handle (handle_table f t) t.freed

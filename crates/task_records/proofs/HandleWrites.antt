@@ -25,8 +25,7 @@ use Rattle.task_records.proofs.InstanceReads.{handles_read, thread_handles_read}
 use Rattle.task_records.proofs.HandleLemmas.{size-records_by}
 use Rattle.task_records.specs.Image.{image}
 use Rattle.task_records.specs.Instances.{by_place, handle_table, named_of, thread_of as thread_named}
-use Rattle.task_records.specs.Keys.{thread_key}
-use Rattle.task_records.specs.Names.{AreHandlesNamed, IsNamedAt, OwnsHandle, StandsAt, ThreadOf, kinds}
+use Rattle.task_records.specs.Names.{AreHandlesNamed, AtPlace, IsNamedAt, OwnsHandle, ThreadOf, kinds}
 use Rattle.task_records.specs.Seen.{IsSound, parts_of, seen}
 use Rattle.task_records.specs.Sound.{EachEntry, IsWhole, Sound, bare, bare_instance}
 use Rattle.task_records.specs.declared.instances.InstanceRecord.{InstanceRecord}
@@ -105,7 +104,7 @@ module _ (a : CoreParts) (sound : IsSound a) (i : ℕ) (r : InstanceRecord) (at 
   unfolding seen
   thread_handle_names = ap (λ (m : Records (Table ℕ)). named_by m i handle) threads_given ∙ (ap (named_by (change i (giving rep.serial) (seen a).core.thread_handles) i) (inserts.handle_is ∙ next_given thread_named r.thread_handles inserts.whole) ∙ names_new (seen a).core.thread_handles i (handle_table thread_named r.thread_handles) thread_table_at rep.serial)
 
-  module _ (stands : StandsAt thread_key a.threads rep.id rep.serial) where
+  module _ (stands : AtPlace (parts_of a) rep.id (ThreadOf rep.serial)) where
     thread_held : (h : ℕ) (x : Rep) → held_by new h ≡ Some x → ((h ≡ handle) × (rep ≡ x)) ⊎ (held_by r.thread_handles h ≡ Some x)
     thread_held h x live = by_handle (cases_eq h handle)
       where

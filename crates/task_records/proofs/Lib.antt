@@ -15,3 +15,5 @@ pub mod HandleWrites
 pub mod HandleItems
 pub mod HandleTaken
 pub mod AloneLemmas
+pub mod LaterLemmas
+pub mod MakeLemmas

@@ -14,7 +14,7 @@ use Rattle.task_machine.specs.declared.records.Work.{Work}
 use Rattle.task_records.proofs.KindLemmas.{item_stands, passing_same, passing_written, records_changed, refused_write, table_written, tags_written}
 use Rattle.task_records.proofs.ReadLemmas.{call_shown, thread_shown, work_shown}
 use Rattle.task_records.proofs.TableLemmas.{records_unseen}
-use Rattle.task_records.specs.Image.{callers_in, core_of, tag_of}
+use Rattle.task_records.specs.Image.{callers_in, core_of, tags_in}
 use Rattle.task_records.specs.Keys.{call_key, thread_key, work_key}
 use Rattle.task_records.specs.Kinds.{entry_of, item_of, on_item}
 use Rattle.task_records.specs.Names.{AreHandlesNamed, Kinds, OwnsHandle, kinds}
@@ -116,9 +116,9 @@ module _ (a : CoreParts) (sound : IsSound a) (id : TableId ThreadKey) where
     pub thread_put_writes : (f : Thread → Thread) → f g.thread ≡ h.thread → seen thread_after ≡ on_core (on_thread (thread_of (seen a) id) f) (seen a)
     unfolding seen IsSound on_thread threads_seen
     thread_put_writes f is_f =
-        ap (λ (m : Records Thread). threads_seen m (records (callers_in a.behind) (with_entry id.rep (entry_of h) a.threads).places) (map (tag_of thread_key) (with_entry id.rep (entry_of h) a.threads).places))
+        ap (λ (m : Records Thread). threads_seen m (records (callers_in a.behind) (with_entry id.rep (entry_of h) a.threads).places) (tags_in thread_key (with_entry id.rep (entry_of h) a.threads)))
         (records_changed (λ (g : GuestThread). g.number) (λ (g : GuestThread). g.thread) a.threads a.made.threads sound.tables.threads id.rep id.serial g is h thread_same f is_f ∙ ap (λ n. change n f (records thread_key a.threads.places)) (sym (thread_shown a id)))
-        ∙ (ap (λ (k : Records (List ℕ)). threads_seen (change (thread_of (seen a) id) f (records thread_key a.threads.places)) k (map (tag_of thread_key) (with_entry id.rep (entry_of h) a.threads).places)) callers_same
+        ∙ (ap (λ (k : Records (List ℕ)). threads_seen (change (thread_of (seen a) id) f (records thread_key a.threads.places)) k (tags_in thread_key (with_entry id.rep (entry_of h) a.threads))) callers_same
         ∙ ap (λ (l : List (Option Tag)). threads_seen (change (thread_of (seen a) id) f (records thread_key a.threads.places)) (records (callers_in a.behind) a.threads.places) l)
         (tags_written (λ (g : GuestThread). g.number) (λ (g : GuestThread). g.thread) a.threads a.made.threads sound.tables.threads id.rep id.serial g is h thread_same))
 
@@ -182,7 +182,7 @@ module _ (a : CoreParts) (sound : IsSound a) (id : TableId GuestTaskKey) where
     pub call_writes : (f : Call → Call) → f g.call ≡ h.call → seen call_after ≡ on_core (on_call (call_of (seen a) id) f) (seen a)
     unfolding seen IsSound on_call calls_seen
     call_writes f is_f =
-        ap (λ (m : Records Call). calls_seen m (map (tag_of call_key) (with_entry id.rep (entry_of h) a.calls).places))
+        ap (λ (m : Records Call). calls_seen m (tags_in call_key (with_entry id.rep (entry_of h) a.calls)))
         (records_changed (λ (g : GuestTask). g.number) (λ (g : GuestTask). g.call) a.calls a.made.threads sound.tables.calls id.rep id.serial g is h call_same f is_f ∙ ap (λ n. change n f (records call_key a.calls.places)) (sym (call_shown a id)))
         ∙ ap (λ (l : List (Option Tag)). calls_seen (change (call_of (seen a) id) f (records call_key a.calls.places)) l)
         (tags_written (λ (g : GuestTask). g.number) (λ (g : GuestTask). g.call) a.calls a.made.threads sound.tables.calls id.rep id.serial g is h call_same)
@@ -233,7 +233,7 @@ module _ (a : CoreParts) (sound : IsSound a) (id : TableId HostTaskKey) where
     pub work_writes : (f : Work → Work) → f g.work ≡ h.work → seen work_after ≡ on_core (on_work (work_of (seen a) id) f) (seen a)
     unfolding seen IsSound on_work works_seen
     work_writes f is_f =
-        ap (λ (m : Records Work). works_seen m (map (tag_of work_key) (with_entry id.rep (entry_of h) a.works).places))
+        ap (λ (m : Records Work). works_seen m (tags_in work_key (with_entry id.rep (entry_of h) a.works)))
         (records_changed (λ (g : HostWork). g.number) (λ (g : HostWork). g.work) a.works a.made.works sound.tables.works id.rep id.serial g is h work_same f is_f ∙ ap (λ n. change n f (records work_key a.works.places)) (sym (work_shown a id)))
         ∙ ap (λ (l : List (Option Tag)). works_seen (change (work_of (seen a) id) f (records work_key a.works.places)) l)
         (tags_written (λ (g : HostWork). g.number) (λ (g : HostWork). g.work) a.works a.made.works sound.tables.works id.rep id.serial g is h work_same)

@@ -10,7 +10,7 @@ use Rattle.task_handles.specs.Handles.{no_handles}
 use Rattle.task_index.specs.Counts.{passing}
 use Rattle.task_index.specs.Index.{IsIndex, filings}
 use Rattle.task_index.specs.Rows.{Each, IsRows, part}
-use Rattle.task_machine.specs.Core.{nothing_made, untouched}
+use Rattle.task_machine.specs.Core.{untouched}
 use Rattle.task_machine.specs.Maps.{get}
 use Rattle.task_machine.specs.Read.{live_in}
 use Rattle.task_machine.specs.declared.component.ExportKind.TheVariants as kind
@@ -92,7 +92,6 @@ bare p = record p {
   kept = record p.kept { interesting = 0; moving = 0 };
   counter = record { limit = 0; live = 0 };
   current = None;
-  made = nothing_made;
   trapped = false;
 }
 
