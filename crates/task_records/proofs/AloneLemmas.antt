@@ -1,8 +1,7 @@
 -- A record is the only one that passes a test where one passes in all.
-use Rattle.std.proofs.Common.{◌≡◌, ◌+◌, ◌&&◌, ◌||◌, ◌==◌, ◌<◌, ℕ, Bool, true, false, cond, not, List, [], ◌∷◌, Some, None, filter, nat_le, nat_lt, refl, sym, ap, ap₂, ◌∙◌, arith}
+use Rattle.std.proofs.Common.{◌≡◌, ◌+◌, ◌&&◌, ◌||◌, ◌==◌, ℕ, Bool, true, false, cond, not, List, [], ◌∷◌, Some, None, filter, nat_le, nat_lt, refl, sym, ap, ◌∙◌, arith}
 use Rattle.std.specs.Cmp.{eq_by_cmp_equiv, nat_cmp_total, unsigned_tied}
 use Rattle.std.specs.List.{list_any}
-use Rattle.std.specs.Ordering.{eq_by_cmp, nat_cmp}
 use Rattle.task_index.proofs.Counts.{passing-with_at}
 use Rattle.task_index.specs.Counts.{one_if_passes, passing}
 use Rattle.task_machine.specs.Maps.{Records, get, other_than, remove}

@@ -1,5 +1,5 @@
 -- What the handles of an instance name.
-use Rattle.std.proofs.Common.{◌≡◌, ◌+◌, ◌<◌, ◌≤◌, ℕ, List, [], ◌∷◌, length, Option, Some, None, refl, sym, ap, ◌∙◌, arith}
+use Rattle.std.proofs.Common.{◌≡◌, ◌+◌, ◌<◌, ℕ, List, [], ◌∷◌, length, Option, Some, None, refl, sym, ap, ◌∙◌, arith}
 use Rattle.std.specs.Option.{option_and_then, option_map}
 use Rattle.std.specs.Prelude.{IfSome, slice_get}
 use Rattle.task_handles.specs.Handles.{Handles, IsWhole, held_by, live_count as handles_live, next_handle as given_next}
@@ -11,7 +11,6 @@ use Rattle.task_handles.specs.declared.kinds.WaitableKind.TheVariants as waitabl
 use Rattle.task_machine.specs.Core.{Table}
 use Rattle.task_machine.specs.Maps.{Records, get}
 use Rattle.task_machine.specs.Read.{named_by, next_handle, thread_at}
-use Rattle.task_machine.specs.declared.records.Named.{Named}
 use Rattle.task_records.proofs.HandleLemmas.{get-records_by, size-records_by}
 use Rattle.task_records.proofs.HomeLemmas.{place_bare}
 use Rattle.task_records.proofs.InstanceReads.{handles_read, thread_handles_read}

@@ -1,5 +1,5 @@
 -- A handle of an instance is given or taken back: what hangs on it.
-use Rattle.std.proofs.Common.{inl, inr, ◌⊎◌, ◌≡◌, ◌+◌, ◌-◌, ◌==◌, ◌≤◌, ℕ, Bool, true, false, cond, List, Option, Some, None, map, set, slice_get, refl, sym, ap, ap₂, subst, ◌∙◌, arith}
+use Rattle.std.proofs.Common.{inl, inr, ◌⊎◌, ◌≡◌, ◌+◌, ◌==◌, ◌≤◌, ℕ, Bool, true, false, cond, List, Option, Some, None, map, set, slice_get, refl, sym, ap, ap₂, subst, ◌∙◌, arith}
 use Rattle.std.proofs.lemmas.Bool.{cases_eq, eq-eqb, ne_eqb}
 use Rattle.std.proofs.lemmas.List.{map-set}
 use Rattle.std.proofs.lemmas.Option.{same_Some, slice_get-map, slice_get_within}
@@ -16,7 +16,6 @@ use Rattle.task_machine.specs.Core.{Table}
 use Rattle.task_machine.specs.Maps.{Records, change, get, insert, size}
 use Rattle.task_machine.specs.Read.{live_in, named_by, new_thread_handle, next_handle, thread_at}
 use Rattle.task_machine.specs.Write.{give_thread_handle, giving}
-use Rattle.task_machine.specs.declared.records.Named.{Named}
 use Rattle.task_records.proofs.GivenLemmas.{free_given, held_given, live_given, names_new, names_on, one_changed, table_given}
 use Rattle.task_records.proofs.HandleReads.{next_given}
 use Rattle.task_records.proofs.HomeLemmas.{place_in_bare}

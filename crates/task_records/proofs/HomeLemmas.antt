@@ -12,7 +12,7 @@ use Rattle.task_records.proofs.StandLemmas.{stands_by_id}
 use Rattle.task_records.proofs.TableLemmas.{get_mapped, number_at_mapped, stands_in_mapped, stands_mapped}
 use Rattle.task_records.specs.Image.{core_of}
 use Rattle.task_records.specs.Keys.{call_key, set_key, thread_key, work_key}
-use Rattle.task_records.specs.Kinds.{entry_of, item_of, no_other, on_item}
+use Rattle.task_records.specs.Kinds.{item_of, on_item}
 use Rattle.task_records.specs.Names.{AtPlace, CallOf, HasHome, HasNumber, IsCallNamed, IsWorkNamed, Nothing, SetOf, StandsAt, Target, ThreadOf, WorkOf}
 use Rattle.task_records.specs.Seen.{IsSound, parts_of, seen}
 use Rattle.task_records.specs.Sound.{bare, bare_instance as bare_instance_record, bare_call, bare_thread, bare_work, loose_call, loose_thread, loose_work, uninterested, unmoved}
@@ -21,12 +21,10 @@ use Rattle.task_records.specs.declared.parts.CoreParts.{CoreParts}
 use Rattle.task_records.specs.declared.threads.GuestThread.{GuestThread}
 use Rattle.task_records.specs.declared.sets.WaitSet.{WaitSet}
 use Rattle.task_table.proofs.NumberLemmas.{number_of-le}
-use Rattle.task_table.proofs.ItemLemmas.{record_at-item}
 use Rattle.task_table.proofs.MappedLemmas.{place_at-mapped}
 use Rattle.task_table.proofs.RecordLemmas.{get-records}
 use Rattle.task_table.specs.Answers.{item_at}
 use Rattle.task_table.specs.Mapped.{placed_as}
-use Rattle.task_table.specs.Records.{number_in}
 use Rattle.task_table.specs.declared.id.TableId.{TableId}
 use Rattle.task_records.specs.declared.works.HostWork.{HostWork}
 use Rattle.task_wait.specs.declared.keys.GuestTaskKey.{GuestTaskKey}

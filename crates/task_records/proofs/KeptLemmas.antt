@@ -1,5 +1,5 @@
 -- Kept numbers are what the machine counts, as contracts see it.
-use Rattle.std.proofs.Common.{◌≡◌, ◌+◌, ◌<◌, ◌≤◌, ◌^◌, is_some, ◌*◌, ◌||◌, ℕ, Bool, true, false, cond, List, [], ◌∷◌, T, count_by, length, map, nat_lt, refl, sym, ap, ap₂, subst, ◌∙◌, arith}
+use Rattle.std.proofs.Common.{◌≡◌, ◌+◌, ◌<◌, ◌≤◌, ◌^◌, is_some, ◌*◌, ◌||◌, ℕ, Bool, true, false, cond, List, [], ◌∷◌, T, count_by, length, nat_lt, refl, sym, ap, ap₂, subst, ◌∙◌, arith}
 use Rattle.std.proofs.lemmas.Bool.{ne_eqb}
 use Rattle.std.proofs.lemmas.List.{length-map}
 use Rattle.std.proofs.lemmas.Option.{same_Some}
@@ -18,14 +18,13 @@ use Rattle.task_index.proofs.Tables.{none_in_records}
 use Rattle.task_records.proofs.ReadLemmas.{call_named, set_named}
 use Rattle.task_records.proofs.TableLemmas.{get_mapped, with_second}
 use Rattle.task_records.specs.Image.{core_of}
-use Rattle.task_records.specs.Instances.{by_place, handle_table, is_sorted-mapped, mapped as mapped_list, named_of, thread_of as thread_named}
+use Rattle.task_records.specs.Instances.{is_sorted-mapped, mapped as mapped_list}
 use Rattle.task_records.specs.Kept.{IsSetKept, entries_for, members_of, threads_of}
 use Rattle.task_records.specs.Keys.{call_key, thread_key, work_key}
 use Rattle.task_records.specs.Kinds.{item_of, on_item}
 use Rattle.task_records.specs.Seen.{IsSound, parts_of, seen}
-use Rattle.task_records.specs.Sound.{bare, bare_call, bare_instance, bare_thread, bare_work, loose_call, loose_thread, loose_work, uninterested, unmoved}
+use Rattle.task_records.specs.Sound.{bare, bare_call, bare_thread, bare_work, loose_call, loose_thread, loose_work, uninterested, unmoved}
 use Rattle.task_records.specs.declared.calls.GuestTask.{GuestTask}
-use Rattle.task_records.specs.declared.instances.InstanceRecord.{InstanceRecord}
 use Rattle.task_records.specs.declared.parts.CoreParts.{CoreParts}
 use Rattle.task_records.specs.declared.sets.WaitSet.{WaitSet}
 use Rattle.task_records.specs.declared.single.Single.{Single}

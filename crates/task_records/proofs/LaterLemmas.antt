@@ -1,14 +1,14 @@
 -- Where more were made, what holds of the parts holds on.
-use Rattle.std.proofs.Common.{◌≡◌, ◌≤◌, ℕ, refl, ◌∙◌, arith}
+use Rattle.std.proofs.Common.{◌≤◌, ℕ, arith}
 use Rattle.task_handles.specs.declared.kinds.HandleKind.{HandleKind}
 use Rattle.task_handles.specs.declared.kinds.HandleKind.TheVariants as handle
 use Rattle.task_handles.specs.declared.kinds.Rep.{Rep}
 use Rattle.task_handles.specs.declared.kinds.WaitableKind.TheVariants as waitable
 use Rattle.task_machine.specs.Read.{table_use}
 use Rattle.task_machine.specs.declared.records.Made.{Made}
-use Rattle.task_records.specs.Image.{Parts, core_of}
+use Rattle.task_records.specs.Image.{Parts}
 use Rattle.task_records.specs.Names.{AreHandlesNamed, CallOf, HasHome, IsCallNamed, IsHeldNamed, IsNamedAt, IsWorkNamed, Kinds, Nothing, SetOf, Target, ThreadOf, WorkOf, kinds}
-use Rattle.task_records.specs.Sound.{AreNamed, IsWhole}
+use Rattle.task_records.specs.Sound.{IsWhole}
 use Rattle.task_records.specs.declared.calls.GuestTask.{GuestTask}
 use Rattle.task_records.specs.declared.instances.InstanceRecord.{InstanceRecord}
 use Rattle.task_records.specs.declared.threads.GuestThread.{GuestThread}

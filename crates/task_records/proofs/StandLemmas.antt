@@ -1,8 +1,7 @@
 -- Ids made of a place alone, and of a place where a number was kept.
-use Rattle.std.proofs.Common.{◌≡◌, ◌<◌, ◌≤◌, ℕ, IsSome, Bool, true, false, cond, Option, Some, None, is_some, length, map, refl, sym, ap, ap₂, subst, ◌∙◌, arith, slice_get}
+use Rattle.std.proofs.Common.{◌≡◌, ◌≤◌, ℕ, IsSome, cond, Option, Some, None, is_some, refl, sym, ap, ap₂, ◌∙◌, arith, slice_get}
 use Rattle.std.proofs.lemmas.Option.{same_Some, slice_get_past}
 use Rattle.std.specs.Option.{option_and_then, option_map}
-use Rattle.task_machine.specs.Maps.{Records, get}
 use Rattle.task_records.proofs.KindLemmas.{absent, number_shown}
 use Rattle.task_records.specs.Image.{tags_in}
 use Rattle.task_records.specs.Kinds.{item_of}

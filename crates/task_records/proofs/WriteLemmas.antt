@@ -1,11 +1,10 @@
 -- A write of fields on which nothing hangs is the machine's change of the record.
-use Rattle.std.proofs.Common.{◌≡◌, ◌+◌, ◌≤◌, ℕ, true, cond, List, Option, Some, map, false, ◌==◌, Bool, None, [], slice_get, inl, inr, ◌⊎◌, refl, sym, ap, ap₂, subst, ◌∙◌, arith}
+use Rattle.std.proofs.Common.{◌≡◌, ◌+◌, ◌≤◌, ℕ, true, cond, List, Option, Some, false, ◌==◌, Bool, None, [], slice_get, inl, inr, ◌⊎◌, refl, sym, ap, ap₂, subst, ◌∙◌, arith}
 use Rattle.std.proofs.lemmas.Bool.{cases_eq, eq-eqb, ne_eqb}
 use Rattle.std.proofs.lemmas.Option.{same_Some}
 use Rattle.std.specs.Prelude.{Ok, Err}
 use Rattle.task_index.specs.Counts.{one_if_passes, passing}
 use Rattle.task_machine.specs.Maps.{Records, change}
-use Rattle.task_machine.specs.Read.{thread_at}
 use Rattle.task_machine.specs.Write.{on_call, on_thread, on_work, set_uninteresting}
 use Rattle.task_machine.specs.declared.records.Call.{Call}
 use Rattle.task_machine.specs.declared.records.Script.TheVariants as script
@@ -14,7 +13,7 @@ use Rattle.task_machine.specs.declared.records.Work.{Work}
 use Rattle.task_records.proofs.KindLemmas.{item_stands, passing_same, passing_written, records_changed, refused_write, table_written, tags_written}
 use Rattle.task_records.proofs.ReadLemmas.{call_shown, thread_shown, work_shown}
 use Rattle.task_records.proofs.TableLemmas.{records_unseen}
-use Rattle.task_records.specs.Image.{callers_in, core_of, tags_in}
+use Rattle.task_records.specs.Image.{callers_in, tags_in}
 use Rattle.task_records.specs.Keys.{call_key, thread_key, work_key}
 use Rattle.task_records.specs.Kinds.{entry_of, item_of, on_item}
 use Rattle.task_records.specs.Names.{AreHandlesNamed, Kinds, OwnsHandle, kinds}

@@ -4,10 +4,10 @@ use Rattle.task_handles.specs.Counter.{Counter}
 use Rattle.task_index.specs.Rows.{values}
 use Rattle.task_links.specs.Links.{Spot}
 use Rattle.task_machine.specs.Core.{Core}
-use Rattle.task_machine.specs.Maps.{Records, from_entries, numbers}
+use Rattle.task_machine.specs.Maps.{from_entries, numbers}
 use Rattle.task_machine.specs.declared.records.Made.{Made}
 use Rattle.task_records.specs.Instances.{by_place, handle_table, named_of, thread_of}
-use Rattle.task_records.specs.Keys.{call_key, callers_key, group_key, set_key, thread_key, work_key}
+use Rattle.task_records.specs.Keys.{call_key, group_key, set_key, thread_key, work_key}
 use Rattle.task_records.specs.declared.calls.GuestTask.{GuestTask}
 use Rattle.task_records.specs.declared.calls.TaskGroup.{TaskGroup}
 use Rattle.task_records.specs.declared.instances.InstanceRecord.{InstanceRecord}

@@ -2,7 +2,7 @@
 --     SoundTable         the records of one kind
 --     bare               the parts without the fields of records on which nothing hangs
 --     IsWhole            names, indexes, rows and kept numbers
-use Rattle.std.specs.Prelude.{◌≡◌, ◌+◌, ◌<◌, ◌≤◌, ℕ, false, List, [], Option, None, Some, IfSome, IsSome, map, slice_get}
+use Rattle.std.specs.Prelude.{◌≡◌, ◌+◌, ◌<◌, ◌≤◌, ℕ, false, [], Option, None, Some, IfSome, IsSome, map, slice_get}
 use Rattle.std.specs.BTreeMap.{is_at}
 use Rattle.std.specs.Map.{lookup}
 use Rattle.std.specs.Ordering.{nat_cmp}
