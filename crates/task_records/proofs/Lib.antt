@@ -17,3 +17,4 @@ pub mod HandleTaken
 pub mod AloneLemmas
 pub mod LaterLemmas
 pub mod MakeLemmas
+pub mod LinkLemmas

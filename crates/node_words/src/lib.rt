@@ -1,0 +1,10 @@
+//! Nodes and chains of a core's lists, made before what they are for, so that only these calls want
+//! memory for them.
+#![tactic(auto)]
+
+mod indexes;
+
+pub use indexes::{
+    make_place_chain, make_place_node, make_ready_call_chain, make_ready_call_node,
+    make_ready_work_chain, make_ready_work_node,
+};
