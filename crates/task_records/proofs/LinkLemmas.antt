@@ -14,9 +14,9 @@ use Rattle.task_records.specs.declared.parts.CoreParts.{CoreParts}
 use Rattle.task_records.specs.declared.threads.GuestThread.{GuestThread}
 use Rattle.task_records.specs.declared.works.HostWork.{HostWork}
 
-module _ (p : Parts) (places ready_calls ready_works : List (Spot ℕ)) where
+module _ (p : Parts) (places ready_calls ready_works polled : List (Spot ℕ)) where
   abbrev pub indexed : Parts
-  indexed = record p { places = places; ready_calls = ready_calls; ready_works = ready_works }
+  indexed = record p { places = places; ready_calls = ready_calls; ready_works = ready_works; polled = polled }
 
   home_indexed : (g : GuestThread) → HasHome p g → HasHome indexed g
   home_indexed g home = record { call = home.call; there = home.there; instance = home.instance; within = home.within; place = home.place; how_far = home.how_far }
@@ -27,10 +27,10 @@ module _ (p : Parts) (places ready_calls ready_works : List (Spot ℕ)) where
   work_indexed : (w : HostWork) → IsWorkNamed p w → IsWorkNamed indexed w
   work_indexed w named = record { caller = named.caller; join = named.join; group = named.group }
 
-  -- the parts with other links of the indexes of places and of ready members
-  pub indexed_whole : IsIndex (place_chain p) places (filings place_filing p.threads) → IsIndex (ready_call_chain p) ready_calls (filings ready_call p.calls) → IsIndex (ready_work_chain p) ready_works (filings ready_work p.works) → IsWhole p → IsWhole indexed
+  -- the parts with other links of the indexes
+  pub indexed_whole : IsIndex (place_chain p) places (filings place_filing p.threads) → IsIndex (ready_call_chain p) ready_calls (filings ready_call p.calls) → IsIndex (ready_work_chain p) ready_works (filings ready_work p.works) → IsIndex (live_chain p) polled (filings live_work p.works) → IsWhole p → IsWhole indexed
   unfolding table_use
-  indexed_whole in_places in_calls in_works whole = record {
+  indexed_whole in_places in_calls in_works in_polled whole = record {
     named = record {
       threads = λ rep q at. home_indexed q.entry.item (whole.named.threads rep q at);
       calls = λ rep q at. call_indexed q.entry.item (whole.named.calls rep q at);
@@ -41,7 +41,7 @@ module _ (p : Parts) (places ready_calls ready_works : List (Spot ℕ)) where
       places = in_places;
       ready_calls = in_calls;
       ready_works = in_works;
-      polled = whole.chained.polled;
+      polled = in_polled;
       marks = whole.chained.marks;
       shelves = whole.chained.shelves;
       low = whole.chained.low;
@@ -68,7 +68,7 @@ module _ (a : CoreParts) (sound : IsSound a) where
     unfolding IsSound
     place_made_sound = record {
       tables = record { threads = sound.tables.threads; calls = sound.tables.calls; works = sound.tables.works; sets = sound.tables.sets; groups = sound.tables.groups };
-      whole = indexed_whole (bare (parts_of a)) new a.ready_calls a.ready_works (IsIndex-made (place_chain (bare (parts_of a))) a.places (filings place_filing (bare (parts_of a)).threads) sound.whole.chained.places new n is names unlinked) sound.whole.chained.ready_calls sound.whole.chained.ready_works sound.whole;
+      whole = indexed_whole (bare (parts_of a)) new a.ready_calls a.ready_works a.polled (IsIndex-made (place_chain (bare (parts_of a))) a.places (filings place_filing (bare (parts_of a)).threads) sound.whole.chained.places new n is names unlinked) sound.whole.chained.ready_calls sound.whole.chained.ready_works sound.whole.chained.polled sound.whole;
       interesting = sound.interesting;
       moving = sound.moving;
       handles = sound.handles;
@@ -81,7 +81,7 @@ module _ (a : CoreParts) (sound : IsSound a) where
     unfolding IsSound
     ready_call_made_sound = record {
       tables = record { threads = sound.tables.threads; calls = sound.tables.calls; works = sound.tables.works; sets = sound.tables.sets; groups = sound.tables.groups };
-      whole = indexed_whole (bare (parts_of a)) a.places new a.ready_works sound.whole.chained.places (IsIndex-made (ready_call_chain (bare (parts_of a))) a.ready_calls (filings ready_call (bare (parts_of a)).calls) sound.whole.chained.ready_calls new n is names unlinked) sound.whole.chained.ready_works sound.whole;
+      whole = indexed_whole (bare (parts_of a)) a.places new a.ready_works a.polled sound.whole.chained.places (IsIndex-made (ready_call_chain (bare (parts_of a))) a.ready_calls (filings ready_call (bare (parts_of a)).calls) sound.whole.chained.ready_calls new n is names unlinked) sound.whole.chained.ready_works sound.whole.chained.polled sound.whole;
       interesting = sound.interesting;
       moving = sound.moving;
       handles = sound.handles;
@@ -94,7 +94,20 @@ module _ (a : CoreParts) (sound : IsSound a) where
     unfolding IsSound
     ready_work_made_sound = record {
       tables = record { threads = sound.tables.threads; calls = sound.tables.calls; works = sound.tables.works; sets = sound.tables.sets; groups = sound.tables.groups };
-      whole = indexed_whole (bare (parts_of a)) a.places a.ready_calls new sound.whole.chained.places sound.whole.chained.ready_calls (IsIndex-made (ready_work_chain (bare (parts_of a))) a.ready_works (filings ready_work (bare (parts_of a)).works) sound.whole.chained.ready_works new n is names unlinked) sound.whole;
+      whole = indexed_whole (bare (parts_of a)) a.places a.ready_calls new a.polled sound.whole.chained.places sound.whole.chained.ready_calls (IsIndex-made (ready_work_chain (bare (parts_of a))) a.ready_works (filings ready_work (bare (parts_of a)).works) sound.whole.chained.ready_works new n is names unlinked) sound.whole.chained.polled sound.whole;
+      interesting = sound.interesting;
+      moving = sound.moving;
+      handles = sound.handles;
+      owned = sound.owned;
+      live = sound.live;
+    }
+
+  module _ (new : List (Spot ℕ)) (n : ℕ) (is : Spot ℕ) (names : Renames a.polled new n Unmade is) (unlinked : spot_link is ≡ None) where
+    pub live_made_sound : IsSound (record a { polled = new })
+    unfolding IsSound
+    live_made_sound = record {
+      tables = record { threads = sound.tables.threads; calls = sound.tables.calls; works = sound.tables.works; sets = sound.tables.sets; groups = sound.tables.groups };
+      whole = indexed_whole (bare (parts_of a)) a.places a.ready_calls a.ready_works new sound.whole.chained.places sound.whole.chained.ready_calls sound.whole.chained.ready_works (IsIndex-made (live_chain (bare (parts_of a))) a.polled (filings live_work (bare (parts_of a)).works) sound.whole.chained.polled new n is names unlinked) sound.whole;
       interesting = sound.interesting;
       moving = sound.moving;
       handles = sound.handles;
