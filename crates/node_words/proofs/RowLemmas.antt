@@ -1,5 +1,5 @@
 -- A node or a chain is made among the marks or the shelves: every list stays as it is.
-use Rattle.std.proofs.Common.{inl, inr, ◌⊎◌, ◌≡◌, ℕ, true, List, [], Option, Some, None, map, refl, sym, ap, ap₂, subst, ◌∙◌}
+use Rattle.std.proofs.Common.{inl, inr, ◌⊎◌, ◌≡◌, ℕ, true, List, [], None, map, ap, ap₂, ◌∙◌}
 use Rattle.std.proofs.lemmas.Bool.{cases_eq}
 use Rattle.queue_words.proofs.WholeLemmas.{KeepsNodes, chains_sound, row_is, rows_whole}
 use Rattle.task_index.proofs.Rows.{IsRows-made}
@@ -8,7 +8,7 @@ use Rattle.task_links.specs.Links.{Renames, Spot, Unmade, is_made, spot_is_made,
 use Rattle.task_records.specs.Image.{Parts, chained, image}
 use Rattle.task_records.specs.Rows.{High, IsSeated, Low, Row, is_of_instance, row, row_chain, shelf_chain}
 use Rattle.task_records.specs.Seen.{IsSound, parts_of, seen}
-use Rattle.task_records.specs.Sound.{IsWhole, bare}
+use Rattle.task_records.specs.Sound.{bare}
 use Rattle.task_records.specs.declared.parts.CoreParts.{CoreParts}
 use Rattle.task_records.specs.declared.threads.Queued.{Queued}
 

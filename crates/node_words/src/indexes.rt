@@ -95,3 +95,33 @@ pub fn make_ready_work_node(parts: &mut CoreParts) -> Result<Node, NoMemory>
         Err(why) => Err(why),
     }
 }
+
+/// A new chain among the host works that are polled, which hangs on nothing yet. Where memory is wanting, all is as before.
+pub fn make_live_chain(parts: &mut CoreParts) -> Result<usize, NoMemory>
+    requires { IsSound parts.old }
+    ensures sound { IsSound parts.new }
+    ensures seen { seen parts.new ≡ seen parts.old }
+    ensures made { IfOk result (λ chain. Renames parts.old.polled parts.new.polled chain Unmade (ChainOf [])) }
+    ensures only { parts.new ≡ record parts.old { polled = parts.new.polled } }
+    ensures err { OnErr result (parts.new ≡ parts.old) }
+{
+    match parts.polled.make_chain() {
+        Ok(chain) => Ok(chain),
+        Err(why) => Err(why),
+    }
+}
+
+/// A new node among the host works that are polled, which hangs on nothing yet. Where memory is wanting, all is as before.
+pub fn make_live_node(parts: &mut CoreParts) -> Result<Node, NoMemory>
+    requires { IsSound parts.old }
+    ensures sound { IsSound parts.new }
+    ensures seen { seen parts.new ≡ seen parts.old }
+    ensures made { IfOk result (λ node. Renames parts.old.polled parts.new.polled node.index Unmade FreeNode) }
+    ensures only { parts.new ≡ record parts.old { polled = parts.new.polled } }
+    ensures err { OnErr result (parts.new ≡ parts.old) }
+{
+    match parts.polled.make_node() {
+        Ok(node) => Ok(node),
+        Err(why) => Err(why),
+    }
+}
