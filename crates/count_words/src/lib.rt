@@ -7,7 +7,7 @@ mod members;
 mod works;
 
 pub use limits::{
-    at_handle_limit, count_work, current, fits, has_interesting, made, set_current,
+    at_handle_limit, count_work, current, fits, has_interesting, made, set_current, set_trapped,
     set_uninteresting, trapped,
 };
 pub use members::{
