@@ -1,2 +1,4 @@
 pub mod FiledLemmas
 pub mod WaiterLemmas
+pub mod AlikeLemmas
+pub mod MovedLemmas
