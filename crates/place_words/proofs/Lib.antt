@@ -2,3 +2,4 @@ pub mod FiledLemmas
 pub mod WaiterLemmas
 pub mod AlikeLemmas
 pub mod MovedLemmas
+pub mod EntryLemmas

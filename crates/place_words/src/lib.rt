@@ -4,6 +4,7 @@
 //! for is the first of a chain.
 #![tactic(auto)]
 
+mod entries;
 mod places;
 mod sets;
 
