@@ -3,3 +3,4 @@ pub mod WaiterLemmas
 pub mod AlikeLemmas
 pub mod MovedLemmas
 pub mod EntryLemmas
+pub mod PutLemmas
