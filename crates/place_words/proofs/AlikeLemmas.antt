@@ -8,9 +8,9 @@ use Rattle.task_records.specs.Kinds.{on_item}
 use Rattle.task_records.specs.Names.{StandsAt}
 use Rattle.task_records.specs.Rows.{HaveNodes, seated}
 use Rattle.task_records.specs.declared.single.Single.{Single}
-use Rattle.task_table.proofs.MappedLemmas.{place_at-mapped}
+use Rattle.task_table.proofs.MappedLemmas.{number_of-mapped, place_at-mapped}
 use Rattle.task_table.specs.Mapped.{mapped, placed_as}
-use Rattle.task_table.specs.Records.{found_record, number_in, record_at}
+use Rattle.task_table.specs.Records.{found_record, number_in, number_of, record_at}
 use Rattle.task_table.specs.Table.{Placed, Table, place_at}
 use Rattle.place_words.specs.Moved.{Alike}
 use Rattle.queue_words.proofs.BareLemmas.{mapped_place, place_mapped}
@@ -95,3 +95,7 @@ tags_alike {T} f key named new old alike = sym (through new.places) ∙ (ap (λ 
     through [] = refl
     through (None ∷ ps) = ap (λ l. None ∷ l) (through ps)
     through (Some p ∷ ps) = ap₂ (λ (n : ℕ) l. Some (record { serial = p.serial; number = n }) ∷ l) (named p.entry) (through ps)
+
+-- the number of what an id finds
+pub number_of_alike : {T X : Type 0} (f : T → T) (key : Single T → Option (ℕ × X)) → ((e : Single T) → number_in (key (on_item f e)) ≡ number_in (key e)) → (new old : Table (Single T)) → Alike f new old → (r s : ℕ) → number_of key new r s ≡ number_of key old r s
+number_of_alike f key named new old alike r s = sym (number_of-mapped (on_item f) new key key named r s) ∙ (ap (λ t. number_of key t r s) alike ∙ number_of-mapped (on_item f) old key key named r s)

@@ -4,3 +4,4 @@ pub mod AlikeLemmas
 pub mod MovedLemmas
 pub mod EntryLemmas
 pub mod PutLemmas
+pub mod PlacedLemmas

@@ -37,7 +37,7 @@ use Rattle.place_words.specs.Moved.{Alike, entry_set, recounted, set_named, stil
 use Rattle.queue_words.proofs.BareLemmas.{number_positive, place_mapped}
 
 -- the number of a set that is there is the named one just where the option has it
-set_is_the : (o : Option ℕ) (s : Core) (n : ℕ) → 0 < n → IsSome (get s.sets n) → (n == set_named o s) ≡ is_the n o
+pub set_is_the : (o : Option ℕ) (s : Core) (n : ℕ) → 0 < n → IsSome (get s.sets n) → (n == set_named o s) ≡ is_the n o
 set_is_the None s n positive there = ne_eqb n 0 (λ zero. omega (arith, positive, zero))
 set_is_the (Some y) s n positive there = by (is_some (get s.sets y)) refl
   where
@@ -49,7 +49,7 @@ set_is_the (Some y) s n positive there = by (is_some (get s.sets y)) refl
     by false is = ap (λ c. n == cond c y 0) is ∙ other (λ same. absurd (let two = sym is ∙ subst (λ m. is_some (get s.sets m) ≡ true) same there in cc))
 
 -- one less, one more
-recount : (from to : Bool) (before after : ℕ) → after + cond from 1 0 ≡ before + cond to 1 0 → (from ≡ true → 1 ≤ before) → cond to (cond from (before - 1) before + 1) (cond from (before - 1) before) ≡ after
+pub recount : (from to : Bool) (before after : ℕ) → after + cond from 1 0 ≡ before + cond to 1 0 → (from ≡ true → 1 ≤ before) → cond to (cond from (before - 1) before + 1) (cond from (before - 1) before) ≡ after
 recount true true before after law some = let one = some refl in omega (arith, law, one)
 recount true false before after law some = let one = some refl in omega (arith, law, one)
 recount false true before after law some = omega (arith, law)
