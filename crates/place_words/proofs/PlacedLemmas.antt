@@ -2,7 +2,7 @@
 use Rattle.std.proofs.Common.{◌≡◌, ◌+◌, ◌-◌, ◌==◌, ◌<◌, ◌≤◌, ℕ, Bool, true, false, cond, List, map, Option, Some, None, IsSome, slice_get, refl, sym, ap, ap₂, subst, ◌∙◌, arith}
 use Rattle.std.specs.Prelude.{Ok}
 use Rattle.task_handles.specs.declared.kinds.HandleKind.{HandleKind}
-use Rattle.task_handles.specs.declared.kinds.HandleKind.TheVariants as handle
+use Rattle.task_handles.specs.declared.kinds.HandleKind.TheVariants as handles
 use Rattle.task_handles.specs.declared.kinds.Rep.{Rep}
 use Rattle.task_handles.specs.declared.kinds.WaitableKind.TheVariants as waitable
 use Rattle.task_index.proofs.Entries.{IsIndex-with_entry}
@@ -10,7 +10,7 @@ use Rattle.task_index.specs.Counts.{passing}
 use Rattle.task_index.specs.Index.{Filing, IsIndex, Refiles, filings, link_for}
 use Rattle.task_links.specs.Links.{Spot}
 use Rattle.task_machine.specs.Maps.{Records, change, get, size}
-use Rattle.task_machine.specs.Read.{call_instance, keeps_set}
+use Rattle.task_machine.specs.Read.{call_instance, keeps_set, thread_at}
 use Rattle.task_machine.specs.Write.{on_thread}
 use Rattle.task_machine.specs.declared.records.Set.{Set}
 use Rattle.task_machine.specs.declared.records.Thread.{Thread}
@@ -189,7 +189,7 @@ module _ (a : CoreParts) (sound : IsSound a) (id : TableId ThreadKey) (g : Guest
               (record { node = bare_placed.entry.item.node.index; key = where_at bare_placed.entry.item.instance bare_placed.entry.item.thread.place; value = id.rep })
               (record { node = h.node.index; key = where_at h.instance h.thread.place; value = id.rep })
               refl refl (ap (λ (x : GuestThread). x.node.index) stays ∙ sym (ap (λ (e : Single GuestThread). e.item.node.index) bare_entry))
-              ?)
+              (subst (λ n. Refiles a.places places n (link_for (place_chain bared) (record { node = h.node.index; key = where_at h.instance h.thread.place; value = id.rep }))) (sym (ap (λ (e : Single GuestThread). e.item.node.index) bare_entry)) re))
 
           whole_now : IsWhole after
           whole_now = moved_whole bared is_whole bare_now threads_alike sets_now sets_alike places homes_now index_now
@@ -199,3 +199,62 @@ module _ (a : CoreParts) (sound : IsSound a) (id : TableId ThreadKey) (g : Guest
               ∙ (calls_same a sound id.rep id.serial g is h same_number (ap (λ (x : GuestThread). x.thread.call) stays) k
               ∙ sym (ap (passing (λ t. t.call == k)) (bare_records a.threads) ∙ passing_seconds loose_thread (λ t. t.call == k) (records thread_key a.threads.places)))))
               sets_kept
+
+          held_now : (kind : HandleKind) (r : Rep) → IsHeldNamed (kinds bared) kind r → IsHeldNamed (kinds after) kind r
+          held_now (handles.Waitable waitable.GuestSubtask) r at = at_moved bared is_whole bare_now threads_alike sets_now sets_alike places r.id (CallOf r.serial) at
+          held_now (handles.Waitable waitable.HostSubtask) r at = at_moved bared is_whole bare_now threads_alike sets_now sets_alike places r.id (WorkOf r.serial) at
+          held_now (handles.Waitable waitable.Stream) r at = at
+          held_now (handles.Waitable waitable.Future) r at = at
+          held_now handles.Set r at = at_moved bared is_whole bare_now threads_alike sets_now sets_alike places r.id (SetOf r.serial) at
+
+          handles_now : (r : InstanceRecord) → AreHandlesNamed (kinds bared) r → AreHandlesNamed (kinds after) r
+          handles_now r named = record {
+            small = named.small;
+            small_threads = named.small_threads;
+            handles = λ n x at. held_now x.kind x.rep (named.handles n x at);
+            thread_handles = λ n x at. at_moved bared is_whole bare_now threads_alike sets_now sets_alike places x.id (ThreadOf x.serial) (named.thread_handles n x at);
+          }
+
+          owns_now : OwnsHandle (parts_of a) h
+          unfolding IsSound
+          owns_now n is_n =
+              let was : OwnsHandle (parts_of a) g = subst (λ (e : Single GuestThread). OwnsHandle (parts_of a) e.item) stands.1.1.1 (sound.owned id.rep stands.0 stands.1.0) in
+              ap (λ i. thread_at i n (core_of (parts_of a))) (ap (λ (x : GuestThread). x.instance) stays) ∙ (was n (sym handle ∙ is_n) ∙ ap (λ (m : ℕ). Some m) (sym same_number))
+
+          pub placed_sound : IsSound placed_after
+          unfolding IsSound
+          placed_sound = record {
+            tables = record {
+              threads = table_written (λ (g : GuestThread). g.number) (λ (g : GuestThread). g.thread) a.threads a.made.threads sound.tables.threads id.rep id.serial g is h same_number;
+              calls = sound.tables.calls;
+              works = sound.tables.works;
+              sets = recounted_sound (λ n. n + 1) sets_less a.made.sets (recounted_sound (λ n. n - 1) a.sets a.made.sets sound.tables.sets from.rep from.serial) to.rep to.serial;
+              groups = sound.tables.groups;
+            };
+            whole = whole_now;
+            interesting = sound.interesting;
+            moving = sound.moving;
+            handles = λ i r at. handles_now r (sound.handles i r at);
+            owned = each_written a.threads id.rep stands.0 stands.1.0 (OwnsHandle (parts_of a)) h owns_now sound.owned;
+            live = sound.live;
+          }
+
+      -- ---- What is seen
+
+      callers_same : records (callers_in a.behind) threads_now.places ≡ records (callers_in a.behind) a.threads.places
+      callers_same = records_unseen (callers_in a.behind) a.threads id.rep stands.0 stands.1.0 (entry_of h) (ap (λ (x : GuestThread). callers_in a.behind (entry_of x)) stays ∙ sym (ap (callers_in a.behind) stands.1.1.1))
+
+      abbrev view_of : Records Thread → Records (List ℕ) → Records Set → List (Option Tag) → List (Option Tag) → StateView
+      view_of m k x l t = record (seen a) { core = record (seen a).core { threads = m; callers = k; sets = x }; tags = record (seen a).tags { threads = l; sets = t } }
+
+      pub placed_seen : (f : Thread → Thread) → f g.thread ≡ h.thread → seen placed_after ≡ on_core (on_thread (thread_of (seen a) id) f) (seen a)
+      unfolding seen IsSound on_thread
+      placed_seen f is_f =
+          ap (λ m. view_of m (records (callers_in a.behind) threads_now.places) (records set_key sets_now.places) (map (tag_of thread_key) threads_now.places) (map (tag_of set_key) sets_now.places))
+          (records_changed (λ (g : GuestThread). g.number) (λ (g : GuestThread). g.thread) a.threads a.made.threads sound.tables.threads id.rep id.serial g is h same_number f is_f ∙ ap (λ n. change n f (records thread_key a.threads.places)) (sym (thread_shown a id)))
+          ∙ (ap (λ k. view_of (change (thread_of (seen a) id) f (records thread_key a.threads.places)) k (records set_key sets_now.places) (map (tag_of thread_key) threads_now.places) (map (tag_of set_key) sets_now.places)) callers_same
+          ∙ (ap (λ x. view_of (change (thread_of (seen a) id) f (records thread_key a.threads.places)) (records (callers_in a.behind) a.threads.places) x (map (tag_of thread_key) threads_now.places) (map (tag_of set_key) sets_now.places)) (sets_same sets_now a.sets sets_alike)
+          ∙ (ap (λ l. view_of (change (thread_of (seen a) id) f (records thread_key a.threads.places)) (records (callers_in a.behind) a.threads.places) (records set_key a.sets.places) l (map (tag_of set_key) sets_now.places))
+          (tags_written (λ (g : GuestThread). g.number) (λ (g : GuestThread). g.thread) a.threads a.made.threads sound.tables.threads id.rep id.serial g is h same_number)
+          ∙ ap (λ t. view_of (change (thread_of (seen a) id) f (records thread_key a.threads.places)) (records (callers_in a.behind) a.threads.places) (records set_key a.sets.places) (map (tag_of thread_key) a.threads.places) t)
+          (tags_alike uncounted set_key (λ e. refl) sets_now a.sets sets_alike))))
