@@ -5,3 +5,4 @@ pub mod MovedLemmas
 pub mod EntryLemmas
 pub mod PutLemmas
 pub mod PlacedLemmas
+pub mod FitLemmas

@@ -1,5 +1,6 @@
 -- A thread with another place: the core is sound, and contracts see just that.
-use Rattle.std.proofs.Common.{◌≡◌, ◌+◌, ◌-◌, ◌==◌, ◌<◌, ◌≤◌, ℕ, Bool, true, false, cond, List, map, Option, Some, None, IsSome, slice_get, refl, sym, ap, ap₂, subst, ◌∙◌, arith}
+use Rattle.std.proofs.Common.{◌≡◌, ◌+◌, ◌-◌, ◌==◌, ◌<◌, ◌≤◌, ℕ, Bool, true, false, cond, List, map, Option, Some, None, IsSome, IfSome, slice_get, refl, sym, ap, ap₂, subst, ◌∙◌, arith}
+use Rattle.std.specs.Option.{option_and_then}
 use Rattle.std.specs.Prelude.{Ok}
 use Rattle.task_handles.specs.declared.kinds.HandleKind.{HandleKind}
 use Rattle.task_handles.specs.declared.kinds.HandleKind.TheVariants as handles
@@ -8,10 +9,12 @@ use Rattle.task_handles.specs.declared.kinds.WaitableKind.TheVariants as waitabl
 use Rattle.task_index.proofs.Entries.{IsIndex-with_entry}
 use Rattle.task_index.specs.Counts.{passing}
 use Rattle.task_index.specs.Index.{Filing, IsIndex, Refiles, filings, link_for}
-use Rattle.task_links.specs.Links.{Spot}
+use Rattle.task_index.proofs.Tables.{filings_at}
+use Rattle.task_links.specs.Links.{Spot, is_made, list_of}
 use Rattle.task_machine.specs.Maps.{Records, change, get, size}
 use Rattle.task_machine.specs.Read.{call_instance, keeps_set, thread_at}
 use Rattle.task_machine.specs.Write.{on_thread}
+use Rattle.task_machine.specs.declared.records.Place.{Place}
 use Rattle.task_machine.specs.declared.records.Set.{Set}
 use Rattle.task_machine.specs.declared.records.Thread.{Thread}
 use Rattle.task_records.proofs.HomeLemmas.{place_in_bare, thread_home}
@@ -53,10 +56,10 @@ use Rattle.place_words.specs.Moved.{Alike, entry_set, recounted, set_named, stil
 use Rattle.queue_words.proofs.BareLemmas.{number_positive, place_mapped}
 
 module _ (a : CoreParts) (sound : IsSound a) (id : TableId ThreadKey) (g : GuestThread) (is : Ok g ≡ item_at item_of a.threads id.rep id.serial) (h : GuestThread) (stays : still_thread (bare_thread h) ≡ still_thread (bare_thread g)) (handle : h.thread.handle ≡ g.thread.handle) where
-  abbrev bared : Parts
+  abbrev pub bared : Parts
   bared = bare (parts_of a)
 
-  is_whole : IsWhole bared
+  pub is_whole : IsWhole bared
   unfolding IsSound
   is_whole = sound.whole
 
@@ -66,27 +69,39 @@ module _ (a : CoreParts) (sound : IsSound a) (id : TableId ThreadKey) (g : Guest
   abbrev pub threads_now : Table (Single GuestThread)
   threads_now = with_entry id.rep (entry_of h) a.threads
 
-  abbrev bare_now : Table (Single GuestThread)
+  abbrev pub bare_now : Table (Single GuestThread)
   bare_now = mapped (on_item bare_thread) threads_now
 
   bare_put : bare_now ≡ with_entry id.rep (entry_of (bare_thread h)) bared.threads
   bare_put = mapped-with_entry (on_item bare_thread) a.threads id.rep (entry_of h)
 
-  stands : (p : Placed (Single GuestThread)) × ((place_at a.threads id.rep ≡ Some p) × ((p.serial ≡ id.serial) × (p.entry ≡ entry_of g)))
+  pub stands : (p : Placed (Single GuestThread)) × ((place_at a.threads id.rep ≡ Some p) × ((p.serial ≡ id.serial) × (p.entry ≡ entry_of g)))
   unfolding IsSound
   stands = item_stands (λ (g : GuestThread). g.number) (λ (g : GuestThread). g.thread) a.threads a.made.threads sound.tables.threads id.rep id.serial g is
 
-  abbrev bare_placed : Placed (Single GuestThread)
+  abbrev pub bare_placed : Placed (Single GuestThread)
   bare_placed = record { serial = stands.0.serial; parent = stands.0.parent; entry = on_item bare_thread stands.0.entry }
 
-  bare_stands : place_at bared.threads id.rep ≡ Some bare_placed
+  pub bare_stands : place_at bared.threads id.rep ≡ Some bare_placed
   bare_stands = place_mapped (on_item bare_thread) a.threads id.rep stands.0 stands.1.0
 
-  bare_entry : bare_placed.entry ≡ entry_of (bare_thread g)
+  pub bare_entry : bare_placed.entry ≡ entry_of (bare_thread g)
   bare_entry = ap (on_item bare_thread) stands.1.1.1
 
-  threads_alike : Alike still_thread bare_now bared.threads
+  pub threads_alike : Alike still_thread bare_now bared.threads
   threads_alike = ap (mapped (on_item still_thread)) bare_put ∙ mapped-with_entry_same (on_item still_thread) bared.threads id.rep (entry_of (bare_thread h)) bare_placed bare_stands (ap entry_of stays ∙ sym (ap (on_item still_thread) bare_entry))
+
+  -- the thread's node is made, and a chain that it is to be filed in is live
+  pub node_made : is_made a.places g.node.index ≡ true
+  node_made = subst (λ (e : Single GuestThread). is_made a.places e.item.node.index ≡ true) bare_entry (is_whole.chained.places.made id.rep _ (filings_at place_filing bared.threads id.rep (Some bare_placed) bare_stands))
+
+  pub chain_live : (i : ℕ) (p : Place) (chain : Option ℕ) → option_and_then (place_chain bared) (where_at i p) ≡ chain → IfSome chain (λ c. IsSome (list_of a.places c))
+  chain_live i p chain is = by (where_at i p) chain is
+    where
+      by : (w : Option Where) (o : Option ℕ) → option_and_then (place_chain bared) w ≡ o → IfSome o (λ c. IsSome (list_of a.places c))
+      by w None is = tt
+      by None (Some c) is = absurd (cc)
+      by (Some k) (Some c) is = is_whole.chained.places.live k c is
 
   module _ (from to : TableId SetKey) (from_is : set_of (seen a) from ≡ set_named (entry_set g.thread.place g.thread.how_far) (seen a).core) (to_is : set_of (seen a) to ≡ set_named (entry_set h.thread.place h.thread.how_far) (seen a).core) where
     abbrev pub sets_less : Table (Single WaitSet)
@@ -95,16 +110,16 @@ module _ (a : CoreParts) (sound : IsSound a) (id : TableId ThreadKey) (g : Guest
     abbrev pub sets_now : Table (Single WaitSet)
     sets_now = recounted (λ n. n + 1) to.rep to.serial sets_less
 
-    less_alike : Alike uncounted sets_less a.sets
+    pub less_alike : Alike uncounted sets_less a.sets
     unfolding IsSound
     less_alike = recounted_alike (λ n. n - 1) a.sets a.made.sets sound.tables.sets from.rep from.serial
 
-    sets_alike : Alike uncounted sets_now a.sets
+    pub sets_alike : Alike uncounted sets_now a.sets
     unfolding IsSound
     sets_alike = recounted_alike (λ n. n + 1) sets_less a.made.sets (recounted_sound (λ n. n - 1) a.sets a.made.sets sound.tables.sets from.rep from.serial) to.rep to.serial ∙ less_alike
 
     -- the number of a set that the id names, by option
-    from_number : (n : ℕ) → 0 < n → IsSome (get (seen a).core.sets n) → (n == number_of set_key a.sets from.rep from.serial) ≡ is_the n (entry_set g.thread.place g.thread.how_far)
+    pub from_number : (n : ℕ) → 0 < n → IsSome (get (seen a).core.sets n) → (n == number_of set_key a.sets from.rep from.serial) ≡ is_the n (entry_set g.thread.place g.thread.how_far)
     from_number n positive there = ap (λ m. n == m) (sym (set_shown a from) ∙ from_is) ∙ set_is_the (entry_set g.thread.place g.thread.how_far) (seen a).core n positive there
 
     to_number : (n : ℕ) → 0 < n → IsSome (get (seen a).core.sets n) → (n == number_of set_key sets_less to.rep to.serial) ≡ is_the n (entry_set h.thread.place h.thread.how_far)
@@ -114,25 +129,25 @@ module _ (a : CoreParts) (sound : IsSound a) (id : TableId ThreadKey) (g : Guest
       abbrev pub placed_after : CoreParts
       placed_after = record a { threads = threads_now; sets = sets_now; places = places }
 
-      abbrev after : Parts
+      abbrev pub after : Parts
       after = moved bared is_whole bare_now threads_alike sets_now sets_alike places
 
-      entries_then : (n : ℕ) → entries_for n (core_of bared) ≡ passing (keeps n) (records thread_key a.threads.places)
+      pub entries_then : (n : ℕ) → entries_for n (core_of bared) ≡ passing (keeps n) (records thread_key a.threads.places)
       entries_then n = ap (passing (λ t. keeps_set n t t.place)) (bare_records a.threads) ∙ passing_seconds loose_thread (λ t. keeps_set n t t.place) (records thread_key a.threads.places)
 
       entries_now : (n : ℕ) → entries_for n (core_of after) ≡ passing (keeps n) (records thread_key threads_now.places)
       entries_now n = ap (passing (λ t. keeps_set n t t.place)) (bare_records threads_now) ∙ passing_seconds loose_thread (λ t. keeps_set n t t.place) (records thread_key threads_now.places)
 
       module _ (r : ℕ) (p : Placed (Single WaitSet)) (at : place_at a.sets r ≡ Some p) where
-        set_positive : 0 < p.entry.item.number
+        pub set_positive : 0 < p.entry.item.number
         unfolding IsSound
         set_positive = number_positive (λ (x : WaitSet). x.number) (λ (x : WaitSet). x.set) a.sets a.made.sets sound.tables.sets r p at
 
-        set_there : IsSome (get (seen a).core.sets p.entry.item.number)
+        pub set_there : IsSome (get (seen a).core.sets p.entry.item.number)
         unfolding IsSound seen
         set_there = subst IsSome (sym (get-records set_key a.sets.places p.entry.item.number ∙ found_record_at set_key a.sets.places r p.entry.item.number p.entry.item.set sound.tables.sets.apart (ap (key_in set_key) at))) refl
 
-        set_was : IsSetKept (core_of bared) p.entry.item
+        pub set_was : IsSetKept (core_of bared) p.entry.item
         unfolding IsSound
         set_was = sound.whole.counted.sets r p at
 

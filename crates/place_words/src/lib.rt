@@ -5,6 +5,7 @@
 #![tactic(auto)]
 
 mod entries;
+mod moves;
 mod places;
 mod sets;
 
