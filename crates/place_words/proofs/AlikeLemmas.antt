@@ -1,5 +1,5 @@
 -- What two tables have in common that are alike as far as a function of their entries sees.
-use Rattle.std.proofs.Common.{◌≡◌, ◌<◌, ℕ, true, List, [], ◌∷◌, map, Option, Some, None, IsSome, refl, sym, ap, ap₂, subst, ◌∙◌}
+use Rattle.std.proofs.Common.{◌≡◌, ℕ, true, List, [], ◌∷◌, map, Option, Some, None, IsSome, refl, sym, ap, ap₂, subst, ◌∙◌}
 use Rattle.std.specs.Option.{option_map}
 use Rattle.task_links.specs.Links.{Spot, is_made}
 use Rattle.task_records.proofs.TableLemmas.{found_mapped, number_at_mapped, with_second}
@@ -15,7 +15,7 @@ use Rattle.task_table.specs.Table.{Placed, Table, place_at}
 use Rattle.place_words.specs.Moved.{Alike}
 use Rattle.queue_words.proofs.BareLemmas.{mapped_place, place_mapped}
 
-id_same : {X : Type 0} (o : Option X) → option_map (λ x. x) o ≡ o
+pub id_same : {X : Type 0} (o : Option X) → option_map (λ x. x) o ≡ o
 id_same None = refl
 id_same (Some x) = refl
 

@@ -1,23 +1,21 @@
 -- How many entries a set has, as the number that is kept.
-use Rattle.std.proofs.Common.{inl, inr, ◌≡◌, ◌+◌, ◌-◌, ◌==◌, ◌||◌, ◌<◌, ◌≤◌, ◌⊎◌, ℕ, Bool, true, false, cond, length, slice_get, Option, Some, None, IsSome, is_some, refl, sym, ap, ap₂, subst, ◌∙◌, arith}
-use Rattle.std.proofs.lemmas.Bool.{cases_eq, eq-eqb, eqb-true, ne_eqb}
+use Rattle.std.proofs.Common.{inl, inr, ◌≡◌, ◌==◌, ◌||◌, ◌⊎◌, ℕ, Bool, true, false, cond, Option, Some, refl, sym, ap, ◌∙◌, arith}
+use Rattle.std.proofs.lemmas.Bool.{cases_eq, eq-eqb, ne_eqb}
 use Rattle.std.proofs.lemmas.Option.{same_Some, slice_get_past}
 use Rattle.std.specs.Option.{option_map_or}
 use Rattle.std.specs.Prelude.{Err, Ok, Result}
-use Rattle.task_machine.specs.Core.{Core}
-use Rattle.task_machine.specs.Read.{is_delivery_for, is_inside_wait, is_resumption, keeps_set}
+use Rattle.task_machine.specs.Read.{is_inside_wait, keeps_set}
 use Rattle.task_machine.specs.declared.records.Delivery.TheVariants as delivery
 use Rattle.task_machine.specs.declared.records.HowFar.{HowFar}
 use Rattle.task_machine.specs.declared.records.HowFar.TheVariants as how_far
 use Rattle.task_machine.specs.declared.records.Place.{Place}
 use Rattle.task_machine.specs.declared.records.Place.TheVariants as place
-use Rattle.task_machine.specs.declared.records.Set.{Set}
 use Rattle.task_machine.specs.declared.records.Thread.{Thread}
 use Rattle.task_machine.specs.declared.records.Why.TheVariants as why
 use Rattle.task_records.proofs.KindLemmas.{item_number, item_stands, refused_number, table_written}
 use Rattle.task_records.specs.Keys.{set_key}
 use Rattle.task_records.specs.Kinds.{entry_of, item_of, on_item}
-use Rattle.task_records.specs.Seen.{IsSound, seen}
+use Rattle.task_records.specs.Seen.{IsSound}
 use Rattle.task_records.specs.Sound.{SoundTable}
 use Rattle.task_records.specs.declared.parts.CoreParts.{CoreParts}
 use Rattle.task_records.specs.declared.sets.WaitSet.{WaitSet}
@@ -106,10 +104,20 @@ module _ (f : ℕ → ℕ) (t : Table (Single WaitSet)) (made : ℕ) (sound : So
           let one = item_stands (λ (x : WaitSet). x.number) (λ (x : WaitSet). x.set) t made sound rep serial x is in
           let named = item_number (λ (x : WaitSet). x.number) (λ (x : WaitSet). x.set) t rep serial x is in
           let put : Some (record one.0 { entry = entry_of (record x { entries = f x.entries }) }) ≡ Some q =
-              ap (entry_put (entry_of (record x { entries = f x.entries }))) (sym one.1.0 ∙ ap (place_at t) (sym here))
-              ∙ (ap (λ b. cond b (entry_put (entry_of (record x { entries = f x.entries })) (place_at t r)) (place_at t r)) (sym (eq-eqb r rep here)) ∙ (sym (place_at-with_entry t rep r (entry_of (record x { entries = f x.entries }))) ∙ at)) in
-          (x, (one.0, (ap (place_at t) here ∙ one.1.0, (ap (λ (e : Single WaitSet). e.item) one.1.1.1,
-          sym (ap (λ (p : Placed (Single WaitSet)). p.entry.item) (same_Some _ q put)) ∙ ap (λ b. record x { entries = cond b (f x.entries) x.entries }) (sym (eq-eqb x.number (number_of set_key t rep serial) (sym named)))))))
+          ap (entry_put (entry_of (record x { entries = f x.entries }))) (sym one.1.0 ∙ ap (place_at t) (sym here))
+          ∙ (ap (λ b. cond b (entry_put (entry_of (record x { entries = f x.entries })) (place_at t r)) (place_at t r)) (sym (eq-eqb r rep here)) ∙ (sym (place_at-with_entry t rep r (entry_of (record x { entries = f x.entries }))) ∙ at)) in (
+            x,
+            (
+              one.0,
+              (
+                ap (place_at t) here ∙ one.1.0,
+                (
+                  ap (λ (e : Single WaitSet). e.item) one.1.1.1,
+                  sym (ap (λ (p : Placed (Single WaitSet)). p.entry.item) (same_Some _ q put)) ∙ ap (λ b. record x { entries = cond b (f x.entries) x.entries }) (sym (eq-eqb x.number (number_of set_key t rep serial) (sym named))),
+                ),
+              ),
+            ),
+          )
       by_place x is (inr other) at =
           let one = item_stands (λ (x : WaitSet). x.number) (λ (x : WaitSet). x.set) t made sound rep serial x is in
           let named = item_number (λ (x : WaitSet). x.number) (λ (x : WaitSet). x.set) t rep serial x is in

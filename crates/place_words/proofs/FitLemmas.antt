@@ -1,5 +1,5 @@
 -- The number of a set's entries is above 0 where one is taken away, and small.
-use Rattle.std.proofs.Common.{◌≡◌, ◌+◌, ◌-◌, ◌==◌, ◌<◌, ◌≤◌, ℕ, suc, Bool, true, false, cond, length, List, [], ◌∷◌, Option, Some, None, IsSome, is_some, refl, sym, ap, subst, ◌∙◌, arith}
+use Rattle.std.proofs.Common.{◌≡◌, ◌+◌, ◌-◌, ◌==◌, ◌≤◌, ℕ, suc, Bool, true, false, cond, length, List, [], ◌∷◌, Option, Some, None, is_some, sym, ap, ◌∙◌, arith}
 use Rattle.std.proofs.lemmas.Bool.{eq-eqb}
 use Rattle.std.proofs.lemmas.List.Sums.{count_by-le-length}
 use Rattle.std.specs.Prelude.{Ok}
@@ -9,7 +9,7 @@ use Rattle.task_machine.specs.Maps.{Records, get, size}
 use Rattle.task_machine.specs.declared.records.Thread.{Thread}
 use Rattle.task_records.proofs.KindLemmas.{item_number, item_stands}
 use Rattle.task_records.specs.Keys.{set_key, thread_key}
-use Rattle.task_records.specs.Kinds.{entry_of, item_of}
+use Rattle.task_records.specs.Kinds.{item_of}
 use Rattle.task_records.specs.Seen.{IsSound, seen}
 use Rattle.task_records.specs.Sound.{bare_thread, loose_thread}
 use Rattle.task_records.specs.declared.parts.CoreParts.{CoreParts}
@@ -26,7 +26,7 @@ use Rattle.task_words.specs.StateView.{set_of}
 use Rattle.place_words.proofs.EntryLemmas.{keeps_is, recounted_each, recounted_sound}
 use Rattle.place_words.proofs.PlacedLemmas.{entries_then, from_number, set_positive, set_there, set_was, sets_less}
 use Rattle.place_words.proofs.PutLemmas.{counted_there, keeps}
-use Rattle.place_words.specs.Moved.{entry_set, recounted, set_named, still_thread}
+use Rattle.place_words.specs.Moved.{entry_set, set_named, still_thread}
 
 module _ {E X : Type 0} (key : E → Option (ℕ × X)) where
   -- no more records than places

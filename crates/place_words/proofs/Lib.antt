@@ -6,3 +6,5 @@ pub mod EntryLemmas
 pub mod PutLemmas
 pub mod PlacedLemmas
 pub mod FitLemmas
+pub mod TargetLemmas
+pub mod ThreadLemmas

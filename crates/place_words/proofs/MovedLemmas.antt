@@ -3,7 +3,7 @@ use Rattle.std.proofs.Common.{◌≡◌, ◌+◌, ◌*◌, ℕ, List, Option, So
 use Rattle.task_index.proofs.Indexes.{IsIndex-same_chains}
 use Rattle.task_index.specs.Index.{IsIndex, filings}
 use Rattle.task_index.specs.Rows.{Each, IsRows, part, with_nodes}
-use Rattle.task_links.specs.Links.{IsLinks, Spot}
+use Rattle.task_links.specs.Links.{Spot}
 use Rattle.task_machine.specs.Maps.{size}
 use Rattle.task_machine.specs.Read.{is_host_call, table_use}
 use Rattle.task_machine.specs.declared.records.Entry.{Entry}
@@ -14,7 +14,7 @@ use Rattle.task_records.specs.Kept.{IsSetKept, threads_of}
 use Rattle.task_records.specs.Names.{AtPlace, CallOf, HasHome, IsCallNamed, IsWorkNamed, Nothing, SetOf, Target, ThreadOf, WorkOf}
 use Rattle.task_records.specs.Places.{BlockedOn, HeldIn, UnderOf, WaitsOn, Where, place_chain, place_filing, ready_call_chain, ready_work_chain}
 use Rattle.task_records.specs.Rows.{IsFollower, IsSeated, callers_chain, callers_row, entry_seated, follower, is_of_instance, row, row_chain, shelf_chain, thread_entry}
-use Rattle.task_records.specs.Sound.{AreChained, AreCounted, AreNamed, EachEntry, HaveRowNodes, IsWhole}
+use Rattle.task_records.specs.Sound.{AreChained, AreCounted, EachEntry, HaveRowNodes, IsWhole}
 use Rattle.task_records.specs.declared.calls.GuestTask.{GuestTask}
 use Rattle.task_records.specs.declared.sets.WaitSet.{WaitSet}
 use Rattle.task_records.specs.declared.single.Single.{Single}
@@ -23,7 +23,7 @@ use Rattle.task_records.specs.declared.threads.GuestThread.{GuestThread}
 use Rattle.task_records.specs.declared.threads.Queued.{Queued}
 use Rattle.task_records.specs.declared.works.HostWork.{HostWork}
 use Rattle.task_table.specs.Table.{Table}
-use Rattle.place_words.proofs.AlikeLemmas.{found_alike, nodes_alike, number_alike, place_alike, seated_alike, stands_alike}
+use Rattle.place_words.proofs.AlikeLemmas.{found_alike, nodes_alike, place_alike, seated_alike, stands_alike}
 use Rattle.place_words.specs.Moved.{Alike, still, still_thread, uncounted}
 use Rattle.queue_words.proofs.ListLemmas.{Each-weaker}
 

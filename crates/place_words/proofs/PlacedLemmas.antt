@@ -1,5 +1,5 @@
 -- A thread with another place: the core is sound, and contracts see just that.
-use Rattle.std.proofs.Common.{◌≡◌, ◌+◌, ◌-◌, ◌==◌, ◌<◌, ◌≤◌, ℕ, Bool, true, false, cond, List, map, Option, Some, None, IsSome, IfSome, slice_get, refl, sym, ap, ap₂, subst, ◌∙◌, arith}
+use Rattle.std.proofs.Common.{◌≡◌, ◌+◌, ◌-◌, ◌==◌, ◌<◌, ℕ, Bool, true, cond, List, map, Option, Some, None, IsSome, IfSome, slice_get, refl, sym, ap, ap₂, subst, ◌∙◌}
 use Rattle.std.specs.Option.{option_and_then}
 use Rattle.std.specs.Prelude.{Ok}
 use Rattle.task_handles.specs.declared.kinds.HandleKind.{HandleKind}
@@ -8,7 +8,7 @@ use Rattle.task_handles.specs.declared.kinds.Rep.{Rep}
 use Rattle.task_handles.specs.declared.kinds.WaitableKind.TheVariants as waitable
 use Rattle.task_index.proofs.Entries.{IsIndex-with_entry}
 use Rattle.task_index.specs.Counts.{passing}
-use Rattle.task_index.specs.Index.{Filing, IsIndex, Refiles, filings, link_for}
+use Rattle.task_index.specs.Index.{IsIndex, Refiles, filings, link_for}
 use Rattle.task_index.proofs.Tables.{filings_at}
 use Rattle.task_links.specs.Links.{Spot, is_made, list_of}
 use Rattle.task_machine.specs.Maps.{Records, change, get, size}
@@ -24,7 +24,7 @@ use Rattle.task_records.proofs.ReadLemmas.{set_shown, thread_shown}
 use Rattle.task_records.proofs.TableLemmas.{records_unseen}
 use Rattle.task_records.proofs.WriteLemmas.{each_written}
 use Rattle.task_records.specs.Image.{Parts, callers_in, core_of, tag_of}
-use Rattle.task_records.specs.Kept.{IsSetKept, entries_for, threads_of}
+use Rattle.task_records.specs.Kept.{IsSetKept, entries_for}
 use Rattle.task_records.specs.Keys.{set_key, thread_key}
 use Rattle.task_records.specs.Kinds.{entry_of, item_of, on_item}
 use Rattle.task_records.specs.Names.{AreHandlesNamed, AtPlace, CallOf, HasHome, HasNumber, IsHeldNamed, OwnsHandle, SetOf, ThreadOf, WorkOf, how_far_target, kinds, place_target}
@@ -42,7 +42,7 @@ use Rattle.task_table.proofs.RecordLemmas.{found_record_at, get-records}
 use Rattle.task_table.specs.Answers.{item_at}
 use Rattle.task_table.specs.Changes.{with_entry}
 use Rattle.task_table.specs.Mapped.{mapped}
-use Rattle.task_table.specs.Records.{found_record, key_in, number_in, number_of, record_at, records}
+use Rattle.task_table.specs.Records.{key_in, number_of, records}
 use Rattle.task_table.specs.Table.{Placed, Table, place_at}
 use Rattle.task_table.specs.declared.id.TableId.{TableId}
 use Rattle.task_wait.specs.declared.keys.SetKey.{SetKey}
@@ -51,7 +51,7 @@ use Rattle.task_words.specs.StateView.{StateView, Tag, on_core, set_of, thread_o
 use Rattle.place_words.proofs.AlikeLemmas.{number_of_alike, tags_alike}
 use Rattle.place_words.proofs.EntryLemmas.{is_the, keeps_is, recounted_alike, recounted_each, recounted_sound}
 use Rattle.place_words.proofs.MovedLemmas.{at_moved, home_moved, moved, moved_whole}
-use Rattle.place_words.proofs.PutLemmas.{bare_records, calls_same, counted_there, entries_change, keeps, recount, set_is_the, sets_same, threads_put, threads_size}
+use Rattle.place_words.proofs.PutLemmas.{bare_records, calls_same, counted_there, entries_change, keeps, recount, set_is_the, sets_same, threads_size}
 use Rattle.place_words.specs.Moved.{Alike, entry_set, recounted, set_named, still_thread, uncounted}
 use Rattle.queue_words.proofs.BareLemmas.{number_positive, place_mapped}
 
@@ -173,7 +173,7 @@ module _ (a : CoreParts) (sound : IsSound a) (id : TableId ThreadKey) (g : Guest
           let p = less.1.0 in
           let x = p.entry.item in
           let one : more.0 ≡ record x { entries = cond (x.number == number_of set_key a.sets from.rep from.serial) (x.entries - 1) x.entries } =
-              sym more.1.1.1.0 ∙ (less.1.1.1.1 ∙ ap (λ (y : WaitSet). record y { entries = cond (y.number == number_of set_key a.sets from.rep from.serial) (y.entries - 1) y.entries }) (sym less.1.1.1.0)) in
+          sym more.1.1.1.0 ∙ (less.1.1.1.1 ∙ ap (λ (y : WaitSet). record y { entries = cond (y.number == number_of set_key a.sets from.rep from.serial) (y.entries - 1) y.entries }) (sym less.1.1.1.0)) in
           subst (IsSetKept (core_of after)) (sym (more.1.1.1.1 ∙ ap (λ (y : WaitSet). record y { entries = cond (y.number == number_of set_key sets_less to.rep to.serial) (y.entries + 1) y.entries }) one))
           (record { members = (set_was r p less.1.1.0).members; entries = entries_kept r p less.1.1.0 })
 

@@ -1,40 +1,33 @@
 -- A thread with another place, as the word writes it: records, sets and chains together.
-use Rattle.std.proofs.Common.{◌≡◌, ◌+◌, ◌-◌, ◌==◌, ◌<◌, ◌≤◌, ℕ, Bool, true, false, cond, List, [], ◌∷◌, length, map, Option, Some, None, IsSome, is_some, refl, sym, ap, ap₂, subst, ◌∙◌, arith}
-use Rattle.std.proofs.lemmas.Bool.{eq-eqb, ne_eqb}
-use Rattle.std.proofs.lemmas.Option.{same_Some}
+use Rattle.std.proofs.Common.{◌≡◌, ◌+◌, ◌-◌, ◌==◌, ◌<◌, ◌≤◌, ℕ, Bool, true, false, cond, Option, Some, None, IsSome, is_some, refl, sym, ap, subst, ◌∙◌, arith}
+use Rattle.std.proofs.lemmas.Bool.{ne_eqb}
 use Rattle.std.specs.Prelude.{Ok}
 use Rattle.task_index.specs.Counts.{one_if_passes, passing}
 use Rattle.task_machine.specs.Core.{Core}
-use Rattle.task_machine.specs.Maps.{Records, change, get, same_map, size}
+use Rattle.task_machine.specs.Maps.{get, same_map, size}
 use Rattle.task_machine.specs.Read.{keeps_set}
 use Rattle.task_machine.proofs.SizeLemmas.{size-change}
 use Rattle.task_machine.specs.declared.records.Place.TheVariants as place
-use Rattle.task_machine.specs.declared.records.Set.{Set}
 use Rattle.task_machine.specs.declared.records.Thread.{Thread}
-use Rattle.task_records.proofs.KeptLemmas.{count_threads, passing_seconds, records_seconds, seconds, size_seconds}
-use Rattle.task_records.proofs.KindLemmas.{item_stands, passing_same, passing_written, records_changed}
-use Rattle.task_records.specs.Image.{Parts, core_of}
-use Rattle.task_records.specs.Kept.{IsSetKept, entries_for, threads_of}
+use Rattle.task_records.proofs.KeptLemmas.{records_seconds, seconds}
+use Rattle.task_records.proofs.KindLemmas.{passing_same, passing_written, records_changed}
 use Rattle.task_records.specs.Keys.{set_key, thread_key}
 use Rattle.task_records.specs.Kinds.{entry_of, item_of, on_item}
-use Rattle.task_records.specs.Seen.{IsSound, parts_of, seen}
-use Rattle.task_records.specs.Sound.{EachEntry, SoundTable, bare, bare_thread, loose_thread}
+use Rattle.task_records.specs.Seen.{IsSound}
+use Rattle.task_records.specs.Sound.{bare_thread, loose_thread}
 use Rattle.task_records.specs.declared.parts.CoreParts.{CoreParts}
 use Rattle.task_records.specs.declared.sets.WaitSet.{WaitSet}
 use Rattle.task_records.specs.declared.single.Single.{Single}
 use Rattle.task_records.specs.declared.threads.GuestThread.{GuestThread}
-use Rattle.task_table.proofs.MappedLemmas.{mapped-with_entry, mapped-with_entry_same}
-use Rattle.task_table.proofs.RecordLemmas.{found_record_at, get-records}
+use Rattle.task_table.proofs.RecordLemmas.{get-records}
 use Rattle.task_table.specs.Answers.{item_at}
 use Rattle.task_table.specs.Changes.{with_entry}
 use Rattle.task_table.specs.Mapped.{mapped}
-use Rattle.task_table.specs.Records.{found_record, key_in, number_of, records}
-use Rattle.task_table.specs.Table.{Placed, Table, place_at}
-use Rattle.task_words.specs.Live.{kept_in}
+use Rattle.task_table.specs.Records.{records}
+use Rattle.task_table.specs.Table.{Table}
 use Rattle.place_words.proofs.AlikeLemmas.{found_alike}
-use Rattle.place_words.proofs.EntryLemmas.{is_the, keeps_is, recounted_alike, recounted_each, recounted_sound}
-use Rattle.place_words.specs.Moved.{Alike, entry_set, recounted, set_named, still_thread, uncounted}
-use Rattle.queue_words.proofs.BareLemmas.{number_positive, place_mapped}
+use Rattle.place_words.proofs.EntryLemmas.{is_the}
+use Rattle.place_words.specs.Moved.{Alike, set_named, uncounted}
 
 -- the number of a set that is there is the named one just where the option has it
 pub set_is_the : (o : Option ℕ) (s : Core) (n : ℕ) → 0 < n → IsSome (get s.sets n) → (n == set_named o s) ≡ is_the n o

@@ -8,6 +8,7 @@ mod entries;
 mod moves;
 mod places;
 mod sets;
+mod targets;
 
-pub use places::{delivered_set, place, why};
+pub use places::{delivered_set, hold, place, set_mark, set_place, why};
 pub use sets::first_waiter;

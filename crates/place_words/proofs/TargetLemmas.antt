@@ -1,0 +1,125 @@
+-- What an id names stands at the place of the id, and its chains are those of its number.
+use Rattle.std.proofs.Common.{◌≡◌, ℕ, Option, Some, None, IsSome, slice_get, refl, sym, ap, subst, ◌∙◌}
+use Rattle.std.proofs.lemmas.Option.{slice_get-map}
+use Rattle.std.specs.Option.{option_map}
+use Rattle.std.specs.Prelude.{Err, Ok, Result}
+use Rattle.task_machine.specs.declared.records.Subtask.TheVariants as subtask
+use Rattle.task_records.proofs.KindLemmas.{item_number, item_stands, refused_number}
+use Rattle.task_records.proofs.ReadLemmas.{call_shown, set_shown, thread_shown, work_shown}
+use Rattle.task_records.proofs.TableLemmas.{found_mapped}
+use Rattle.task_records.specs.Kinds.{item_of, on_item}
+use Rattle.task_records.specs.Names.{AtPlace, CallOf, SetOf, StandsAt, ThreadOf, WorkOf}
+use Rattle.task_records.specs.Places.{BlockedOn, HeldIn, UnderOf, WaitsOn, place_chain}
+use Rattle.task_records.specs.Seen.{IsSound, parts_of, seen}
+use Rattle.task_records.specs.Sound.{SoundTable, bare, bare_call, bare_instance, bare_thread, bare_work}
+use Rattle.task_records.specs.declared.calls.GuestTask.{GuestTask}
+use Rattle.task_records.specs.declared.instances.InstanceRecord.{InstanceRecord}
+use Rattle.task_records.specs.declared.parts.CoreParts.{CoreParts}
+use Rattle.task_records.specs.declared.sets.WaitSet.{WaitSet}
+use Rattle.task_records.specs.declared.single.Single.{Single}
+use Rattle.task_records.specs.declared.threads.GuestThread.{GuestThread}
+use Rattle.task_records.specs.declared.works.HostWork.{HostWork}
+use Rattle.task_table.specs.Answers.{item_at}
+use Rattle.task_table.specs.Mapped.{mapped}
+use Rattle.task_table.specs.Records.{found_record, key_in, number_in, number_of}
+use Rattle.task_table.specs.Table.{Table}
+use Rattle.task_table.specs.declared.error.ResourceTableError.{ResourceTableError}
+use Rattle.task_table.specs.declared.id.TableId.{TableId}
+use Rattle.task_wait.specs.declared.keys.GuestTaskKey.{GuestTaskKey}
+use Rattle.task_wait.specs.declared.keys.HostTaskKey.{HostTaskKey}
+use Rattle.task_wait.specs.declared.keys.SetKey.{SetKey}
+use Rattle.task_wait.specs.declared.keys.ThreadKey.{ThreadKey}
+use Rattle.task_words.specs.StateView.{call_of, set_of, thread_of, work_of}
+use Rattle.place_words.proofs.AlikeLemmas.{id_same}
+use Rattle.place_words.proofs.FiledLemmas.{kept_under}
+use Rattle.queue_words.proofs.CallerLemmas.{none_as}
+
+module _ {T X : Type 0} (number : T → ℕ) (rec : T → X) (t : Table (Single T)) (made : ℕ) (sound : SoundTable (λ e. Some (number e.item, rec e.item)) t made) (rep serial : ℕ) where
+  -- the number that an id names stands at its place
+  pub id_stands : StandsAt (λ e. Some (number e.item, rec e.item)) t rep (number_of (λ e. Some (number e.item, rec e.item)) t rep serial)
+  id_stands = by (item_at item_of t rep serial) refl
+    where
+      by : (o : Result T ResourceTableError) → item_at item_of t rep serial ≡ o → StandsAt (λ e. Some (number e.item, rec e.item)) t rep (number_of (λ e. Some (number e.item, rec e.item)) t rep serial)
+      by (Ok g) is some =
+          let one = item_stands number rec t made sound rep serial g (sym is) in
+          ap (λ o. number_in (key_in (λ e. Some (number e.item, rec e.item)) o)) one.1.0 ∙ (ap (λ (e : Single T). number e.item) one.1.1.1 ∙ sym (item_number number rec t rep serial g (sym is)))
+      by (Err e) is some = absurd (
+          let gone : found_record (λ e. Some (number e.item, rec e.item)) (number_of (λ e. Some (number e.item, rec e.item)) t rep serial) t.places ≡ None = ap (λ n. found_record (λ e. Some (number e.item, rec e.item)) n t.places) (refused_number number rec t rep serial e (sym is)) ∙ sound.above_zero in
+          let none : IsSome {T = X} None = subst IsSome gone some in cc)
+
+  -- what a record that is there keeps under its number, and nothing where an id names none
+  module _ {Y : Type 0} (other : T → Y) where
+    pub nothing_under : (n : ℕ) → n ≡ 0 → found_record (λ e. Some (number e.item, other e.item)) n t.places ≡ None
+    nothing_under n zero = ap (λ m. found_record (λ e. Some (number e.item, other e.item)) m t.places) zero ∙ none_as number rec other 0 t.places sound.above_zero
+
+module _ (a : CoreParts) where
+  module _ (sound : IsSound a) where
+    pub thread_stands : (id : TableId ThreadKey) (n r : ℕ) → n ≡ thread_of (seen a) id → r ≡ id.rep → AtPlace (parts_of a) r (ThreadOf n)
+    unfolding IsSound
+    thread_stands id n r is at = subst (λ k. AtPlace (parts_of a) k (ThreadOf n)) (sym at) (subst (λ m. AtPlace (parts_of a) id.rep (ThreadOf m)) (sym (is ∙ thread_shown a id)) (id_stands (λ (g : GuestThread). g.number) (λ (g : GuestThread). g.thread) a.threads a.made.threads sound.tables.threads id.rep id.serial))
+
+    pub call_stands : (id : TableId GuestTaskKey) (n r : ℕ) → n ≡ call_of (seen a) id → r ≡ id.rep → AtPlace (parts_of a) r (CallOf n)
+    unfolding IsSound
+    call_stands id n r is at = subst (λ k. AtPlace (parts_of a) k (CallOf n)) (sym at) (subst (λ m. AtPlace (parts_of a) id.rep (CallOf m)) (sym (is ∙ call_shown a id)) (id_stands (λ (g : GuestTask). g.number) (λ (g : GuestTask). g.call) a.calls a.made.threads sound.tables.calls id.rep id.serial))
+
+    pub work_stands : (id : TableId HostTaskKey) (n r : ℕ) → n ≡ work_of (seen a) id → r ≡ id.rep → AtPlace (parts_of a) r (WorkOf n)
+    unfolding IsSound
+    work_stands id n r is at = subst (λ k. AtPlace (parts_of a) k (WorkOf n)) (sym at) (subst (λ m. AtPlace (parts_of a) id.rep (WorkOf m)) (sym (is ∙ work_shown a id)) (id_stands (λ (w : HostWork). w.number) (λ (w : HostWork). w.work) a.works a.made.works sound.tables.works id.rep id.serial))
+
+    pub set_stands : (id : TableId SetKey) (n r : ℕ) → n ≡ set_of (seen a) id → r ≡ id.rep → AtPlace (parts_of a) r (SetOf n)
+    unfolding IsSound
+    set_stands id n r is at = subst (λ k. AtPlace (parts_of a) k (SetOf n)) (sym at) (subst (λ m. AtPlace (parts_of a) id.rep (SetOf m)) (sym (is ∙ set_shown a id)) (id_stands (λ (x : WaitSet). x.number) (λ (x : WaitSet). x.set) a.sets a.made.sets sound.tables.sets id.rep id.serial))
+
+  -- ---- Chains
+
+  under_bare : (n : ℕ) → place_chain (bare (parts_of a)) (UnderOf n) ≡ found_record (λ (e : Single GuestThread). Some (e.item.number, e.item.under)) n a.threads.places
+  unfolding mapped
+  under_bare n = found_mapped (λ (e : Single GuestThread). Some (e.item.number, e.item.under)) (λ (e : Single GuestThread). Some (e.item.number, e.item.under)) (on_item bare_thread) (λ c. c) (λ e. refl) n a.threads.places ∙ id_same _
+
+  blocked_bare : (n : ℕ) → place_chain (bare (parts_of a)) (BlockedOn (subtask.Guest n)) ≡ found_record (λ (e : Single GuestTask). Some (e.item.number, e.item.blocked)) n a.calls.places
+  unfolding mapped
+  blocked_bare n = found_mapped (λ (e : Single GuestTask). Some (e.item.number, e.item.blocked)) (λ (e : Single GuestTask). Some (e.item.number, e.item.blocked)) (on_item bare_call) (λ c. c) (λ e. refl) n a.calls.places ∙ id_same _
+
+  work_blocked_bare : (n : ℕ) → place_chain (bare (parts_of a)) (BlockedOn (subtask.Host n)) ≡ found_record (λ (e : Single HostWork). Some (e.item.number, e.item.blocked)) n a.works.places
+  unfolding mapped
+  work_blocked_bare n = found_mapped (λ (e : Single HostWork). Some (e.item.number, e.item.blocked)) (λ (e : Single HostWork). Some (e.item.number, e.item.blocked)) (on_item bare_work) (λ c. c) (λ e. refl) n a.works.places ∙ id_same _
+
+  pub held_is : (i : ℕ) (o : Option InstanceRecord) → o ≡ slice_get a.instances.items i → place_chain (bare (parts_of a)) (HeldIn i) ≡ option_map (λ (r : InstanceRecord). r.held) o
+  held_is i o is = ap (option_map (λ (r : InstanceRecord). r.held)) (slice_get-map bare_instance a.instances.items i ∙ ap (option_map bare_instance) (sym is)) ∙ by o
+    where
+      by : (o : Option InstanceRecord) → option_map (λ (r : InstanceRecord). r.held) (option_map bare_instance o) ≡ option_map (λ (r : InstanceRecord). r.held) o
+      by None = refl
+      by (Some r) = refl
+
+  module _ (sound : IsSound a) where
+    pub under_is : (n rep serial : ℕ) (g : GuestThread) → g.number ≡ n → Ok g ≡ item_at item_of a.threads rep serial → place_chain (bare (parts_of a)) (UnderOf n) ≡ Some g.under
+    unfolding IsSound
+    under_is n rep serial g same is = ap (λ m. place_chain (bare (parts_of a)) (UnderOf m)) (sym same) ∙ (under_bare g.number ∙ kept_under (λ (g : GuestThread). g.number) (λ (g : GuestThread). g.thread) (λ (g : GuestThread). g.under) a.threads a.made.threads sound.tables.threads rep serial g is)
+
+    pub under_none : (n : ℕ) → n ≡ 0 → place_chain (bare (parts_of a)) (UnderOf n) ≡ None
+    unfolding IsSound
+    under_none n zero = under_bare n ∙ nothing_under (λ (g : GuestThread). g.number) (λ (g : GuestThread). g.thread) a.threads a.made.threads sound.tables.threads 0 0 (λ (g : GuestThread). g.under) n zero
+
+    pub blocked_is : (n rep serial : ℕ) (g : GuestTask) → g.number ≡ n → Ok g ≡ item_at item_of a.calls rep serial → place_chain (bare (parts_of a)) (BlockedOn (subtask.Guest n)) ≡ Some g.blocked
+    unfolding IsSound
+    blocked_is n rep serial g same is = ap (λ m. place_chain (bare (parts_of a)) (BlockedOn (subtask.Guest m))) (sym same) ∙ (blocked_bare g.number ∙ kept_under (λ (g : GuestTask). g.number) (λ (g : GuestTask). g.call) (λ (g : GuestTask). g.blocked) a.calls a.made.threads sound.tables.calls rep serial g is)
+
+    pub blocked_none : (n : ℕ) → n ≡ 0 → place_chain (bare (parts_of a)) (BlockedOn (subtask.Guest n)) ≡ None
+    unfolding IsSound
+    blocked_none n zero = blocked_bare n ∙ nothing_under (λ (g : GuestTask). g.number) (λ (g : GuestTask). g.call) a.calls a.made.threads sound.tables.calls 0 0 (λ (g : GuestTask). g.blocked) n zero
+
+    pub work_blocked_is : (n rep serial : ℕ) (w : HostWork) → w.number ≡ n → Ok w ≡ item_at item_of a.works rep serial → place_chain (bare (parts_of a)) (BlockedOn (subtask.Host n)) ≡ Some w.blocked
+    unfolding IsSound
+    work_blocked_is n rep serial w same is = ap (λ m. place_chain (bare (parts_of a)) (BlockedOn (subtask.Host m))) (sym same) ∙ (work_blocked_bare w.number ∙ kept_under (λ (w : HostWork). w.number) (λ (w : HostWork). w.work) (λ (w : HostWork). w.blocked) a.works a.made.works sound.tables.works rep serial w is)
+
+    pub work_blocked_none : (n : ℕ) → n ≡ 0 → place_chain (bare (parts_of a)) (BlockedOn (subtask.Host n)) ≡ None
+    unfolding IsSound
+    work_blocked_none n zero = work_blocked_bare n ∙ nothing_under (λ (w : HostWork). w.number) (λ (w : HostWork). w.work) a.works a.made.works sound.tables.works 0 0 (λ (w : HostWork). w.blocked) n zero
+
+    pub waiters_is : (n rep serial : ℕ) (x : WaitSet) → x.number ≡ n → Ok x ≡ item_at item_of a.sets rep serial → place_chain (bare (parts_of a)) (WaitsOn n) ≡ Some x.waiters
+    unfolding IsSound
+    waiters_is n rep serial x same is = ap (λ m. place_chain (bare (parts_of a)) (WaitsOn m)) (sym same) ∙ kept_under (λ (x : WaitSet). x.number) (λ (x : WaitSet). x.set) (λ (x : WaitSet). x.waiters) a.sets a.made.sets sound.tables.sets rep serial x is
+
+    pub waiters_none : (n : ℕ) → n ≡ 0 → place_chain (bare (parts_of a)) (WaitsOn n) ≡ None
+    unfolding IsSound
+    waiters_none n zero = nothing_under (λ (x : WaitSet). x.number) (λ (x : WaitSet). x.set) a.sets a.made.sets sound.tables.sets 0 0 (λ (x : WaitSet). x.waiters) n zero
