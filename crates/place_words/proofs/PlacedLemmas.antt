@@ -10,7 +10,7 @@ use Rattle.task_index.proofs.Entries.{IsIndex-with_entry}
 use Rattle.task_index.specs.Counts.{passing}
 use Rattle.task_index.specs.Index.{IsIndex, Refiles, filings, link_for}
 use Rattle.task_index.proofs.Tables.{filings_at}
-use Rattle.task_links.specs.Links.{Spot, is_made, list_of}
+use Rattle.task_links.specs.Links.{Spot, is_made, link_of, list_of}
 use Rattle.task_machine.specs.Maps.{Records, change, get, size}
 use Rattle.task_machine.specs.Read.{call_instance, keeps_set, thread_at}
 use Rattle.task_machine.specs.Write.{on_thread}
@@ -94,6 +94,17 @@ module _ (a : CoreParts) (sound : IsSound a) (id : TableId ThreadKey) (g : Guest
   -- the thread's node is made, and a chain that it is to be filed in is live
   pub node_made : is_made a.places g.node.index ≡ true
   node_made = subst (λ (e : Single GuestThread). is_made a.places e.item.node.index ≡ true) bare_entry (is_whole.chained.places.made id.rep _ (filings_at place_filing bared.threads id.rep (Some bare_placed) bare_stands))
+
+  -- a thread that stays where it is stays filed
+  pub stays_filed : h.thread.place ≡ g.thread.place → Refiles a.places a.places g.node.index (link_for (place_chain bared) (record { node = g.node.index; key = where_at h.instance h.thread.place; value = id.rep }))
+  stays_filed same = record {
+    here = subst (λ (e : Single GuestThread). link_of a.places e.item.node.index ≡ link_for (place_chain bared) (record { node = e.item.node.index; key = where_at e.item.instance e.item.thread.place; value = id.rep })) bare_entry
+        (is_whole.chained.places.has_link id.rep _ (filings_at place_filing bared.threads id.rep (Some bare_placed) bare_stands))
+        ∙ ap₂ (λ i p. link_for (place_chain bared) (record { node = g.node.index; key = where_at i p; value = id.rep })) (sym (ap (λ (x : GuestThread). x.instance) stays)) (sym same);
+    others = λ n other. refl;
+    made = λ n made. made;
+    live = λ c live. live;
+  }
 
   pub chain_live : (i : ℕ) (p : Place) (chain : Option ℕ) → option_and_then (place_chain bared) (where_at i p) ≡ chain → IfSome chain (λ c. IsSome (list_of a.places c))
   chain_live i p chain is = by (where_at i p) chain is

@@ -8,7 +8,9 @@ mod entries;
 mod moves;
 mod places;
 mod sets;
+mod steps;
 mod targets;
 
 pub use places::{delivered_set, hold, place, set_mark, set_place, why};
 pub use sets::first_waiter;
+pub use steps::{move_to, set_how_far};

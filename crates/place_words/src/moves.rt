@@ -62,3 +62,27 @@ pub(crate) fn put(
         Err(_) => unreachable!(),
     }
 }
+
+/// Writes a thread that has come to another point of its op where it is.
+pub(crate) fn put_there(parts: &mut CoreParts, id: ThreadId, old: GuestThread, new: GuestThread)
+    requires sound { IsSound parts.old }
+    requires item { Ok old ≡ item_at item_of parts.old.threads id.rep id.serial }
+    requires stays { still_thread (bare_thread new) ≡ still_thread (bare_thread old) }
+    requires handle { new.thread.handle ≡ old.thread.handle }
+    requires place { new.thread.place ≡ old.thread.place }
+    requires beside { new.beside ≡ old.beside }
+    requires how_far { AtPlace (parts_of parts.old) new.awaited (how_far_target new.thread.how_far) }
+    ensures sound { IsSound parts.new }
+    ensures new { (f : Thread → Thread) → f old.thread ≡ new.thread → seen parts.new ≡ on_core (on_thread (thread_of (seen parts.old) id) f) (seen parts.old) }
+{
+    let from = entry_set(parts, old);
+    let to = entry_set(parts, new);
+    one_less(&mut parts.sets, from);
+    one_more(&mut parts.sets, to);
+    match parts.threads.get_mut(id) {
+        Ok(entry) => {
+            *entry = new;
+        }
+        Err(_) => unreachable!(),
+    }
+}
