@@ -8,3 +8,4 @@ pub mod PlacedLemmas
 pub mod FitLemmas
 pub mod TargetLemmas
 pub mod ThreadLemmas
+pub mod StepLemmas

@@ -13,4 +13,4 @@ mod targets;
 
 pub use places::{delivered_set, hold, place, set_mark, set_place, why};
 pub use sets::first_waiter;
-pub use steps::{move_to, set_how_far};
+pub use steps::{advance, assign, move_to, set_how_far};

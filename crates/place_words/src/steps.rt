@@ -1,5 +1,5 @@
 //! How far threads have come.
-ghost use Rattle.std.specs.Prelude.{◌≡◌, ◌+◌, ◌<◌, ◌^◌};
+ghost use Rattle.std.specs.Prelude.{◌≡◌, ◌+◌, ◌<◌, ◌^◌, slice_set};
 ghost use Rattle.task_machine.specs.Read.{position_of};
 ghost use Rattle.task_machine.specs.Write.{set_how_far};
 ghost use Rattle.task_records.specs.Seen.{IsSound, seen};
@@ -38,6 +38,48 @@ pub fn move_to(parts: &mut CoreParts, thread: ThreadId, position: u32)
         let old = *found;
         let mut new = old;
         new.thread.position = position;
+        new.thread.how_far = HowFar::Fresh;
+        put_there(parts, thread, old, new);
+    }
+}
+
+/// The op is done.
+pub fn advance(parts: &mut CoreParts, thread: ThreadId)
+    requires sound { IsSound parts.old }
+    requires few { position_of (thread_of (seen parts.old) thread) (seen parts.old).core + 1 < 2 ^ 32 }
+    ensures sound { IsSound parts.new }
+    ensures new { seen parts.new ≡ on_core (advanced (thread_of (seen parts.old) thread)) (seen parts.old) }
+{
+    if let Some(found) = task_records::thread(parts, thread) {
+        let old = *found;
+        let mut new = old;
+        new.thread.position = old.thread.position + 1;
+        new.thread.how_far = HowFar::Fresh;
+        put_there(parts, thread, old, new);
+    }
+}
+
+// Sets a word, 0 to 15; there are no others, and a write of one changes nothing.
+fn put_word(words: &mut [u64; 16], place: u8, value: u64)
+    ensures { words.new ≡ slice_set words.old place value }
+{
+    if place < 16 {
+        words[place as usize] = value;
+    }
+}
+
+/// The op is done, with its answer in a register.
+pub fn assign(parts: &mut CoreParts, thread: ThreadId, register: u8, value: u64)
+    requires sound { IsSound parts.old }
+    requires few { position_of (thread_of (seen parts.old) thread) (seen parts.old).core + 1 < 2 ^ 32 }
+    ensures sound { IsSound parts.new }
+    ensures new { seen parts.new ≡ on_core (assigned (thread_of (seen parts.old) thread) register value) (seen parts.old) }
+{
+    if let Some(found) = task_records::thread(parts, thread) {
+        let old = *found;
+        let mut new = old;
+        put_word(&mut new.thread.registers, register, value);
+        new.thread.position = old.thread.position + 1;
         new.thread.how_far = HowFar::Fresh;
         put_there(parts, thread, old, new);
     }

@@ -1,15 +1,11 @@
-use Rattle.std.proofs.Common.{◌≡◌, ◌+◌, ap, arith, subst, sym, ◌∙◌, Option, ℕ}
+use Rattle.std.proofs.Common.{◌≡◌, ◌+◌, ap, arith, subst, sym, ◌∙◌}
 use Rattle.place_words.proofs.FitLemmas.{less_fits, more_fits}
 use Rattle.place_words.proofs.PlacedLemmas.{placed_seen, placed_sound, stays_filed}
 use Rattle.place_words.proofs.moves.put_there.Goals as goal
 use Rattle.place_words.specs.Moved.{recounted}
-use Rattle.std.specs.Option.{option_and_then, option_map}
 use Rattle.task_records.specs.Kinds.{entry_of, item_of}
-use Rattle.task_records.specs.Places.{place_chain, where_at}
-use Rattle.task_records.specs.Sound.{bare}
 use Rattle.task_table.specs.Answers.{item_at}
 use Rattle.task_table.specs.Changes.{with_entry}
-use Rattle.task_index.specs.Index.{Refiles}
 use Rattle.task_machine.specs.Write.{on_thread}
 use Rattle.task_records.proofs.HomeLemmas.{place_bare, thread_home}
 use Rattle.task_records.specs.Seen.{IsSound, parts_of, seen}
