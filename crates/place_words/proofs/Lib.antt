@@ -9,3 +9,4 @@ pub mod FitLemmas
 pub mod TargetLemmas
 pub mod ThreadLemmas
 pub mod StepLemmas
+pub mod ReadyLemmas

@@ -12,5 +12,5 @@ mod steps;
 mod targets;
 
 pub use places::{delivered_set, hold, place, set_mark, set_place, why};
-pub use sets::first_waiter;
+pub use sets::{first_ready, first_waiter, has_ready_member};
 pub use steps::{advance, assign, move_to, set_how_far};
