@@ -162,9 +162,6 @@ module _ (a : CoreParts) (sound : IsSound a) (id : TableId ThreadKey) (g : Guest
         unfolding IsSound
         set_was = sound.whole.counted.sets r p at
 
-        one_fewer : ℕ
-        one_fewer = cond (p.entry.item.number == number_of set_key a.sets from.rep from.serial) (p.entry.item.entries - 1) p.entry.item.entries
-
         entries_kept : cond (p.entry.item.number == number_of set_key sets_less to.rep to.serial) (cond (p.entry.item.number == number_of set_key a.sets from.rep from.serial) (p.entry.item.entries - 1) p.entry.item.entries + 1) (cond (p.entry.item.number == number_of set_key a.sets from.rep from.serial) (p.entry.item.entries - 1) p.entry.item.entries) ≡ entries_for p.entry.item.number (core_of after)
         entries_kept =
             let n = p.entry.item.number in

@@ -84,13 +84,6 @@ module _ (a : CoreParts) where
   unfolding mapped
   work_blocked_bare n = found_mapped (λ (e : Single HostWork). Some (e.item.number, e.item.blocked)) (λ (e : Single HostWork). Some (e.item.number, e.item.blocked)) (on_item bare_work) (λ c. c) (λ e. refl) n a.works.places ∙ id_same _
 
-  pub held_is : (i : ℕ) (o : Option InstanceRecord) → o ≡ slice_get a.instances.items i → place_chain (bare (parts_of a)) (HeldIn i) ≡ option_map (λ (r : InstanceRecord). r.held) o
-  held_is i o is = ap (option_map (λ (r : InstanceRecord). r.held)) (slice_get-map bare_instance a.instances.items i ∙ ap (option_map bare_instance) (sym is)) ∙ by o
-    where
-      by : (o : Option InstanceRecord) → option_map (λ (r : InstanceRecord). r.held) (option_map bare_instance o) ≡ option_map (λ (r : InstanceRecord). r.held) o
-      by None = refl
-      by (Some r) = refl
-
   module _ (sound : IsSound a) where
     pub under_is : (n rep serial : ℕ) (g : GuestThread) → g.number ≡ n → Ok g ≡ item_at item_of a.threads rep serial → place_chain (bare (parts_of a)) (UnderOf n) ≡ Some g.under
     unfolding IsSound
