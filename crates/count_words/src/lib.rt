@@ -6,6 +6,11 @@ mod limits;
 mod members;
 mod works;
 
-pub use limits::{at_handle_limit, fits, has_interesting, made, set_uninteresting, trapped};
-pub use members::{has_thread, has_waiters, is_deletable, set_instance, set_number};
-pub use works::{has_live_work, has_moving_work};
+pub use limits::{
+    at_handle_limit, count_work, current, fits, has_interesting, made, set_current,
+    set_uninteresting, trapped,
+};
+pub use members::{
+    has_thread, has_waiters, is_deletable, is_last_thread, set_instance, set_number,
+};
+pub use works::{has_live_work, has_moving_work, set_course, set_phase};

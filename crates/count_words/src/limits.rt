@@ -1,13 +1,13 @@
-ghost use Rattle.std.specs.Prelude.{◌≡◌};
+ghost use Rattle.std.specs.Prelude.{◌≡◌, ◌+◌, ◌<◌, ◌^◌};
 ghost use Rattle.task_machine.specs.Read.{at_handle_limit, fits};
-ghost use Rattle.task_machine.specs.Write.{set_uninteresting};
+ghost use Rattle.task_machine.specs.Write.{count_work, set_uninteresting};
 ghost use Rattle.task_records.specs.Seen.{IsSound, seen};
 ghost use Rattle.task_rules.specs.MainOps.{has_interesting};
-ghost use Rattle.task_words.specs.StateView.{call_of, on_core};
+ghost use Rattle.task_words.specs.StateView.{call_of, on_core, with_current};
 
 use task_machine::Made;
 use task_records::CoreParts;
-use task_words::CallId;
+use task_words::{CallId, ThreadId};
 
 /// Whether so many entries more have room in the table.
 pub fn fits(parts: &CoreParts, entries: usize) -> bool
@@ -59,4 +59,30 @@ pub fn set_uninteresting(parts: &mut CoreParts, call: CallId)
             parts.kept.interesting -= 1;
         }
     }
+}
+
+/// The thread that runs.
+#[tactic(auto, unfolding(task_records::specs::Seen::seen))]
+pub fn current(parts: &CoreParts) -> Option<ThreadId>
+    ensures { result ≡ (seen parts.now).current }
+{
+    parts.current
+}
+
+pub fn set_current(parts: &mut CoreParts, thread: Option<ThreadId>)
+    requires { IsSound parts.old }
+    ensures sound { IsSound parts.new }
+    ensures new { seen parts.new ≡ with_current thread (seen parts.old) }
+{
+    parts.current = thread;
+}
+
+/// A host was ready at its first poll: its work has its number, and no record.
+pub fn count_work(parts: &mut CoreParts)
+    requires sound { IsSound parts.old }
+    requires few { (seen parts.old).core.made.works + 1 < 2 ^ 64 }
+    ensures sound { IsSound parts.new }
+    ensures new { seen parts.new ≡ on_core count_work (seen parts.old) }
+{
+    parts.made.works += 1;
 }

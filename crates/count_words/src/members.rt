@@ -1,12 +1,12 @@
 ghost use Rattle.std.specs.Prelude.{◌≡◌, ◌&&◌, ◌<◌, not};
 ghost use Rattle.task_machine.specs.Moves.{is_deletable, is_deletable_call};
-ghost use Rattle.task_machine.specs.Read.{has_thread, has_waiters, set_instance, undelivered_end};
+ghost use Rattle.task_machine.specs.Read.{has_thread, has_waiters, is_last_thread, set_instance, undelivered_end};
 ghost use Rattle.task_records.specs.Seen.{IsSound, seen};
-ghost use Rattle.task_words.specs.StateView.{call_of, set_of};
+ghost use Rattle.task_words.specs.StateView.{call_of, set_of, thread_of};
 
 use task_machine::{Call, Status};
-use task_records::CoreParts;
-use task_words::{CallId, SetId};
+use task_records::{CoreParts, task_of};
+use task_words::{CallId, SetId, ThreadId};
 
 /// Whether some thread of the call is left.
 pub fn has_thread(parts: &CoreParts, call: CallId) -> bool
@@ -85,5 +85,20 @@ pub fn has_waiters(parts: &CoreParts, set: SetId) -> bool
     match task_records::set(parts, set) {
         Some(entry) => 0 < entry.entries,
         None => unreachable!(),
+    }
+}
+
+/// It is the only thread of its call.
+pub fn is_last_thread(parts: &CoreParts, thread: ThreadId) -> bool
+    requires { IsSound parts.now }
+    ensures { result ≡ is_last_thread (thread_of (seen parts.now) thread) (seen parts.now).core }
+{
+    let call = task_of(parts, thread);
+    match task_records::thread(parts, thread) {
+        Some(_) => match task_records::call(parts, call) {
+            Some(entry) => entry.threads <= 1,
+            None => unreachable!(),
+        },
+        None => true,
     }
 }

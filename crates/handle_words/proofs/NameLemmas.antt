@@ -1,5 +1,5 @@
 -- A thread's handle, given and then written.
-use Rattle.std.proofs.Common.{◌≡◌, ℕ, Option, Some, refl, sym, ap, ap₂, subst, ◌∙◌}
+use Rattle.std.proofs.Common.{◌≡◌, ℕ, Some, sym, ap, ap₂, ◌∙◌}
 use Rattle.task_machine.specs.Read.{instance_of, new_handle, new_thread_handle, thread_at}
 use Rattle.task_machine.specs.Write.{give_handle, give_thread_handle, set_subtask_handle, set_thread_handle}
 use Rattle.task_machine.specs.declared.records.Named.TheVariants as named_as

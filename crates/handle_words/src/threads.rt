@@ -1,9 +1,8 @@
 ghost use Rattle.std.specs.Prelude.{◌≡◌, ◌<◌, IfOk, OnErr, OnOk, Some, length};
 ghost use Rattle.task_machine.specs.Read.{new_thread_handle, thread_at};
 ghost use Rattle.task_machine.specs.Write.{give_thread_handle};
-ghost use Rattle.task_records.specs.Keys.{thread_key};
-ghost use Rattle.task_records.specs.Names.{StandsAt};
-ghost use Rattle.task_records.specs.Seen.{IsSound, seen};
+ghost use Rattle.task_records.specs.Names.{AtPlace, ThreadOf};
+ghost use Rattle.task_records.specs.Seen.{IsSound, parts_of, seen};
 ghost use Rattle.task_words.specs.StateView.{on_core};
 
 use task_handles::Rep;
@@ -15,7 +14,7 @@ use task_records::CoreParts;
 pub fn insert_thread_handle(parts: &mut CoreParts, index: u32, rep: Rep) -> Result<u32, NoMemory>
     requires sound { IsSound parts.old }
     requires there { index < length parts.old.instances.items }
-    requires stands { StandsAt thread_key parts.old.threads rep.id rep.serial }
+    requires stands { AtPlace (parts_of parts.old) rep.id (ThreadOf rep.serial) }
     ensures sound { IsSound parts.new }
     ensures handle { IfOk result (λ h. h ≡ new_thread_handle index (seen parts.old).core) }
     ensures names { IfOk result (λ h. thread_at index h (seen parts.new).core ≡ Some rep.serial) }

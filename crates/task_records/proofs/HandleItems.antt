@@ -1,8 +1,8 @@
 -- A handle of a subtask or a set is given.
-use Rattle.std.proofs.Common.{inl, inr, ◌⊎◌, ◌≡◌, ◌+◌, ◌-◌, ◌==◌, ◌≤◌, ℕ, Bool, true, false, cond, List, Option, Some, None, map, set, slice_get, refl, sym, ap, ap₂, subst, ◌∙◌, arith}
+use Rattle.std.proofs.Common.{inl, inr, ◌⊎◌, ◌≡◌, ◌+◌, ◌==◌, ◌≤◌, ℕ, Bool, true, false, cond, List, Option, Some, None, map, set, slice_get, refl, sym, ap, subst, ◌∙◌, arith}
 use Rattle.std.proofs.lemmas.Bool.{cases_eq, eq-eqb, ne_eqb}
 use Rattle.std.proofs.lemmas.List.{map-set}
-use Rattle.std.proofs.lemmas.Option.{same_Some, slice_get-map, slice_get_within}
+use Rattle.std.proofs.lemmas.Option.{same_Some, slice_get-map}
 use Rattle.std.specs.Global.{Global}
 use Rattle.std.specs.Option.{option_map}
 use Rattle.std.specs.Prelude.{Vec}
@@ -16,21 +16,18 @@ use Rattle.task_machine.specs.Maps.{Records, change, get, insert}
 use Rattle.task_machine.specs.Read.{live_in, named_by, new_handle, next_handle}
 use Rattle.task_machine.specs.Write.{give_handle, giving}
 use Rattle.task_machine.specs.declared.records.Named.{Named}
-use Rattle.task_records.proofs.GivenLemmas.{free_given, held_given, live_given, names_new, names_on, one_changed, table_given}
+use Rattle.task_records.proofs.GivenLemmas.{free_given, held_given, live_given, one_changed, table_given}
 use Rattle.task_records.proofs.HandleWrites.{handles_sound, unchanged}
 use Rattle.task_records.proofs.HandleReads.{next_given}
-use Rattle.task_records.proofs.HomeLemmas.{place_in_bare}
 use Rattle.task_records.proofs.InstanceLemmas.{by_place-set}
-use Rattle.task_records.proofs.InstanceReads.{handles_read, thread_handles_read}
+use Rattle.task_records.proofs.InstanceReads.{handles_read}
 use Rattle.task_records.specs.Instances.{by_place, handle_table, named_of, thread_of as thread_named}
-use Rattle.task_records.specs.Keys.{thread_key}
 use Rattle.task_records.specs.Names.{AreHandlesNamed, IsHeldNamed, kinds}
 use Rattle.task_records.specs.Seen.{IsSound, parts_of, seen}
-use Rattle.task_records.specs.Sound.{EachEntry, IsWhole, bare, bare_instance}
+use Rattle.task_records.specs.Sound.{bare}
 use Rattle.task_records.specs.declared.instances.InstanceRecord.{InstanceRecord}
 use Rattle.task_records.specs.declared.parts.CoreParts.{CoreParts}
 use Rattle.task_words.specs.StateView.{on_core}
-use Rattle.task_table.proofs.ReadLemmas.{set-slice_get, slice_get-set_other, slice_get-set_same}
 
 -- ---- A handle is given
 

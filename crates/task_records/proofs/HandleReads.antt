@@ -1,5 +1,5 @@
 -- What the handles of an instance name.
-use Rattle.std.proofs.Common.{◌≡◌, ◌+◌, ◌<◌, ◌≤◌, ℕ, List, [], ◌∷◌, length, Option, Some, None, refl, sym, ap, ◌∙◌, arith}
+use Rattle.std.proofs.Common.{◌≡◌, ◌+◌, ◌<◌, ℕ, List, [], ◌∷◌, length, Option, Some, None, refl, sym, ap, ◌∙◌, arith}
 use Rattle.std.specs.Option.{option_and_then, option_map}
 use Rattle.std.specs.Prelude.{IfSome, slice_get}
 use Rattle.task_handles.specs.Handles.{Handles, IsWhole, held_by, live_count as handles_live, next_handle as given_next}
@@ -11,7 +11,6 @@ use Rattle.task_handles.specs.declared.kinds.WaitableKind.TheVariants as waitabl
 use Rattle.task_machine.specs.Core.{Table}
 use Rattle.task_machine.specs.Maps.{Records, get}
 use Rattle.task_machine.specs.Read.{named_by, next_handle, thread_at}
-use Rattle.task_machine.specs.declared.records.Named.{Named}
 use Rattle.task_records.proofs.HandleLemmas.{get-records_by, size-records_by}
 use Rattle.task_records.proofs.HomeLemmas.{place_bare}
 use Rattle.task_records.proofs.InstanceReads.{handles_read, thread_handles_read}
@@ -97,7 +96,7 @@ module _ (a : CoreParts) (sound : IsSound a) (i : ℕ) (o : Option InstanceRecor
 
       pub thread_named_at : (q : Option Rep) → q ≡ held_by r.thread_handles h → IfSome q (λ x. StandsAt thread_key a.threads x.id x.serial)
       thread_named_at None live = tt
-      thread_named_at (Some x) live = place_bare a x.id (ThreadOf x.serial) ((instance_names r is).thread_handles h x (sym live))
+      thread_named_at (Some x) live = (place_bare a x.id (ThreadOf x.serial) ((instance_names r is).thread_handles h x (sym live))).1
 
 -- the handle that a table gives next is the machine's
 pub next_given : {X Y : Type 0} (f : X → Y) (t : Handles X) → IsWhole t → given_next t ≡ next_handle (handle_table f t) t.freed

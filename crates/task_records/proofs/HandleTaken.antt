@@ -1,15 +1,13 @@
 -- A handle of a subtask or a set is taken back.
-use Rattle.std.proofs.Common.{is_some, length, inl, inr, ◌⊎◌, ◌≡◌, ◌+◌, ◌-◌, ◌==◌, ◌<◌, ◌≤◌, ℕ, Bool, true, false, cond, List, Option, Some, None, map, set, slice_get, refl, sym, ap, ap₂, subst, ◌∙◌, arith}
-use Rattle.std.proofs.lemmas.Bool.{cases_eq, eq-eqb, ne_eqb}
+use Rattle.std.proofs.Common.{is_some, length, ◌≡◌, ◌+◌, ◌-◌, ◌==◌, ◌<◌, ℕ, Bool, true, false, cond, List, Option, Some, None, map, set, slice_get, refl, sym, ap, subst, ◌∙◌, arith}
 use Rattle.std.proofs.lemmas.List.{map-set}
-use Rattle.std.proofs.lemmas.Option.{same_Some, slice_get-map, slice_get_within}
+use Rattle.std.proofs.lemmas.Option.{slice_get-map}
 use Rattle.std.specs.Global.{Global}
 use Rattle.std.specs.Option.{option_and_then, option_map}
 use Rattle.std.specs.Prelude.{IsSome, Ok, Vec}
-use Rattle.std.specs.Option.{option_map_or}
 use Rattle.task_handles.specs.Counted.{Removes}
 use Rattle.task_handles.specs.Counter.{Counter}
-use Rattle.task_handles.specs.Handles.{Handles, held_by, next_handle as given_next}
+use Rattle.task_handles.specs.Handles.{Handles, held_by}
 use Rattle.task_handles.specs.Held.{subtask_in, subtask_of}
 use Rattle.task_handles.specs.declared.kinds.HandleKind.{HandleKind}
 use Rattle.task_handles.specs.declared.kinds.HandleKind.TheVariants as handle
@@ -23,19 +21,16 @@ use Rattle.task_machine.specs.Write.{free_handle, taking}
 use Rattle.task_machine.specs.declared.records.Named.{Named}
 use Rattle.task_records.proofs.GivenLemmas.{held_taken, live_taken, one_changed, table_taken}
 use Rattle.task_records.proofs.HandleWrites.{handles_sound, unchanged}
-use Rattle.task_records.proofs.HandleReads.{next_given}
 use Rattle.task_records.proofs.HandleLemmas.{get-records_by}
 use Rattle.task_records.proofs.InstanceLemmas.{by_place-set}
-use Rattle.task_records.proofs.InstanceReads.{handles_read, instance_there, thread_handles_read}
+use Rattle.task_records.proofs.InstanceReads.{handles_read, instance_there}
 use Rattle.task_records.specs.Instances.{by_place, handle_table, named_as, named_of, thread_of as thread_named}
-use Rattle.task_records.specs.Keys.{thread_key}
 use Rattle.task_records.specs.Names.{AreHandlesNamed, kinds}
 use Rattle.task_records.specs.Seen.{IsSound, parts_of, seen}
-use Rattle.task_records.specs.Sound.{EachEntry, IsWhole, bare, bare_instance}
+use Rattle.task_records.specs.Sound.{bare}
 use Rattle.task_records.specs.declared.instances.InstanceRecord.{InstanceRecord}
 use Rattle.task_records.specs.declared.parts.CoreParts.{CoreParts}
 use Rattle.task_words.specs.StateView.{on_core}
-use Rattle.task_table.proofs.ReadLemmas.{set-slice_get, slice_get-set_other, slice_get-set_same}
 
 -- ---- A handle is taken back
 

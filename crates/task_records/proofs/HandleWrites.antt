@@ -1,5 +1,5 @@
 -- A handle of an instance is given or taken back: what hangs on it.
-use Rattle.std.proofs.Common.{inl, inr, ◌⊎◌, ◌≡◌, ◌+◌, ◌-◌, ◌==◌, ◌≤◌, ℕ, Bool, true, false, cond, List, Option, Some, None, map, set, slice_get, refl, sym, ap, ap₂, subst, ◌∙◌, arith}
+use Rattle.std.proofs.Common.{inl, inr, ◌⊎◌, ◌≡◌, ◌+◌, ◌==◌, ◌≤◌, ℕ, Bool, true, false, cond, List, Option, Some, None, map, set, slice_get, refl, sym, ap, ap₂, subst, ◌∙◌, arith}
 use Rattle.std.proofs.lemmas.Bool.{cases_eq, eq-eqb, ne_eqb}
 use Rattle.std.proofs.lemmas.List.{map-set}
 use Rattle.std.proofs.lemmas.Option.{same_Some, slice_get-map, slice_get_within}
@@ -16,7 +16,6 @@ use Rattle.task_machine.specs.Core.{Table}
 use Rattle.task_machine.specs.Maps.{Records, change, get, insert, size}
 use Rattle.task_machine.specs.Read.{live_in, named_by, new_thread_handle, next_handle, thread_at}
 use Rattle.task_machine.specs.Write.{give_thread_handle, giving}
-use Rattle.task_machine.specs.declared.records.Named.{Named}
 use Rattle.task_records.proofs.GivenLemmas.{free_given, held_given, live_given, names_new, names_on, one_changed, table_given}
 use Rattle.task_records.proofs.HandleReads.{next_given}
 use Rattle.task_records.proofs.HomeLemmas.{place_in_bare}
@@ -25,8 +24,7 @@ use Rattle.task_records.proofs.InstanceReads.{handles_read, thread_handles_read}
 use Rattle.task_records.proofs.HandleLemmas.{size-records_by}
 use Rattle.task_records.specs.Image.{image}
 use Rattle.task_records.specs.Instances.{by_place, handle_table, named_of, thread_of as thread_named}
-use Rattle.task_records.specs.Keys.{thread_key}
-use Rattle.task_records.specs.Names.{AreHandlesNamed, IsNamedAt, OwnsHandle, StandsAt, ThreadOf, kinds}
+use Rattle.task_records.specs.Names.{AreHandlesNamed, AtPlace, IsNamedAt, OwnsHandle, ThreadOf, kinds}
 use Rattle.task_records.specs.Seen.{IsSound, parts_of, seen}
 use Rattle.task_records.specs.Sound.{EachEntry, IsWhole, Sound, bare, bare_instance}
 use Rattle.task_records.specs.declared.instances.InstanceRecord.{InstanceRecord}
@@ -105,7 +103,7 @@ module _ (a : CoreParts) (sound : IsSound a) (i : ℕ) (r : InstanceRecord) (at 
   unfolding seen
   thread_handle_names = ap (λ (m : Records (Table ℕ)). named_by m i handle) threads_given ∙ (ap (named_by (change i (giving rep.serial) (seen a).core.thread_handles) i) (inserts.handle_is ∙ next_given thread_named r.thread_handles inserts.whole) ∙ names_new (seen a).core.thread_handles i (handle_table thread_named r.thread_handles) thread_table_at rep.serial)
 
-  module _ (stands : StandsAt thread_key a.threads rep.id rep.serial) where
+  module _ (stands : AtPlace (parts_of a) rep.id (ThreadOf rep.serial)) where
     thread_held : (h : ℕ) (x : Rep) → held_by new h ≡ Some x → ((h ≡ handle) × (rep ≡ x)) ⊎ (held_by r.thread_handles h ≡ Some x)
     thread_held h x live = by_handle (cases_eq h handle)
       where

@@ -1,5 +1,5 @@
 -- Where the call of a thread stands, and its instance.
-use Rattle.std.proofs.Common.{◌≡◌, ◌<◌, ℕ, List, [], ◌∷◌, length, map, slice_get, IsSome, arith, Option, Some, None, refl, sym, ap, subst, ◌∙◌}
+use Rattle.std.proofs.Common.{◌≡◌, ◌<◌, ◌≤◌, ℕ, List, [], ◌∷◌, length, map, slice_get, IsSome, arith, Option, Some, None, refl, sym, ap, subst, ◌∙◌}
 use Rattle.std.specs.Option.{option_map, option_map_or}
 use Rattle.std.specs.Prelude.{Ok}
 use Rattle.task_machine.specs.Maps.{get}
@@ -7,29 +7,31 @@ use Rattle.task_machine.specs.Read.{call_instance, instance_of, no_callee, task_
 use Rattle.task_machine.specs.declared.records.Call.{Call}
 use Rattle.task_machine.specs.declared.records.Thread.{Thread}
 use Rattle.task_records.proofs.KindLemmas.{item_stands}
-use Rattle.task_records.proofs.ReadLemmas.{thread_read}
+use Rattle.task_records.proofs.ReadLemmas.{call_shown, set_shown, thread_read, thread_shown, work_shown}
+use Rattle.task_records.proofs.StandLemmas.{stands_by_id}
 use Rattle.task_records.proofs.TableLemmas.{get_mapped, number_at_mapped, stands_in_mapped, stands_mapped}
 use Rattle.task_records.specs.Image.{core_of}
-use Rattle.task_records.specs.Keys.{call_key, thread_key, work_key}
-use Rattle.task_records.specs.Kinds.{entry_of, item_of, no_other, on_item}
-use Rattle.task_records.specs.Names.{AtPlace, CallOf, HasHome, HasNumber, IsCallNamed, IsWorkNamed, Nothing, SetOf, Target, ThreadOf, WorkOf}
+use Rattle.task_records.specs.Keys.{call_key, set_key, thread_key, work_key}
+use Rattle.task_records.specs.Kinds.{item_of, on_item}
+use Rattle.task_records.specs.Names.{AtPlace, CallOf, HasHome, HasNumber, IsCallNamed, IsWorkNamed, Nothing, SetOf, StandsAt, Target, ThreadOf, WorkOf}
 use Rattle.task_records.specs.Seen.{IsSound, parts_of, seen}
 use Rattle.task_records.specs.Sound.{bare, bare_instance as bare_instance_record, bare_call, bare_thread, bare_work, loose_call, loose_thread, loose_work, uninterested, unmoved}
 use Rattle.task_records.specs.declared.calls.GuestTask.{GuestTask}
 use Rattle.task_records.specs.declared.parts.CoreParts.{CoreParts}
 use Rattle.task_records.specs.declared.threads.GuestThread.{GuestThread}
-use Rattle.task_table.proofs.ItemLemmas.{record_at-item}
+use Rattle.task_records.specs.declared.sets.WaitSet.{WaitSet}
+use Rattle.task_table.proofs.NumberLemmas.{number_of-le}
 use Rattle.task_table.proofs.MappedLemmas.{place_at-mapped}
 use Rattle.task_table.proofs.RecordLemmas.{get-records}
 use Rattle.task_table.specs.Answers.{item_at}
 use Rattle.task_table.specs.Mapped.{placed_as}
-use Rattle.task_table.specs.Records.{number_in}
 use Rattle.task_table.specs.declared.id.TableId.{TableId}
 use Rattle.task_records.specs.declared.works.HostWork.{HostWork}
 use Rattle.task_wait.specs.declared.keys.GuestTaskKey.{GuestTaskKey}
 use Rattle.task_wait.specs.declared.keys.HostTaskKey.{HostTaskKey}
+use Rattle.task_wait.specs.declared.keys.SetKey.{SetKey}
 use Rattle.task_wait.specs.declared.keys.ThreadKey.{ThreadKey}
-use Rattle.task_words.specs.StateView.{thread_of}
+use Rattle.task_words.specs.StateView.{call_of, set_of, thread_of, work_of}
 
 module _ (a : CoreParts) where
   bare_call_read : (k : ℕ) → get (core_of (bare (parts_of a))).calls k ≡ option_map (λ c. uninterested (loose_call c)) (get (seen a).core.calls k)
@@ -79,16 +81,16 @@ module _ (a : CoreParts) where
   -- a number's place is that of the bare parts
   pub place_bare : (rep : ℕ) (t : Target) → AtPlace (bare (parts_of a)) rep t → AtPlace (parts_of a) rep t
   place_bare rep Nothing at = tt
-  place_bare rep (ThreadOf n) at = stands_mapped thread_key thread_key (on_item bare_thread) loose_thread (λ e. refl) a.threads rep n at
-  place_bare rep (CallOf k) at = stands_mapped call_key call_key (on_item bare_call) (λ c. uninterested (loose_call c)) (λ e. refl) a.calls rep k at
-  place_bare rep (WorkOf i) at = stands_mapped work_key work_key (on_item bare_work) (λ w. unmoved (loose_work w)) (λ e. refl) a.works rep i at
+  place_bare rep (ThreadOf n) at = (at.0, stands_mapped thread_key thread_key (on_item bare_thread) loose_thread (λ e. refl) a.threads rep n at.1)
+  place_bare rep (CallOf k) at = (at.0, stands_mapped call_key call_key (on_item bare_call) (λ c. uninterested (loose_call c)) (λ e. refl) a.calls rep k at.1)
+  place_bare rep (WorkOf i) at = (at.0, stands_mapped work_key work_key (on_item bare_work) (λ w. unmoved (loose_work w)) (λ e. refl) a.works rep i at.1)
   place_bare rep (SetOf x) at = at
 
   pub place_in_bare : (rep : ℕ) (t : Target) → AtPlace (parts_of a) rep t → AtPlace (bare (parts_of a)) rep t
   place_in_bare rep Nothing at = tt
-  place_in_bare rep (ThreadOf n) at = stands_in_mapped thread_key thread_key (on_item bare_thread) loose_thread (λ e. refl) a.threads rep n at
-  place_in_bare rep (CallOf k) at = stands_in_mapped call_key call_key (on_item bare_call) (λ c. uninterested (loose_call c)) (λ e. refl) a.calls rep k at
-  place_in_bare rep (WorkOf i) at = stands_in_mapped work_key work_key (on_item bare_work) (λ w. unmoved (loose_work w)) (λ e. refl) a.works rep i at
+  place_in_bare rep (ThreadOf n) at = (at.0, stands_in_mapped thread_key thread_key (on_item bare_thread) loose_thread (λ e. refl) a.threads rep n at.1)
+  place_in_bare rep (CallOf k) at = (at.0, stands_in_mapped call_key call_key (on_item bare_call) (λ c. uninterested (loose_call c)) (λ e. refl) a.calls rep k at.1)
+  place_in_bare rep (WorkOf i) at = (at.0, stands_in_mapped work_key work_key (on_item bare_work) (λ w. unmoved (loose_work w)) (λ e. refl) a.works rep i at.1)
   place_in_bare rep (SetOf x) at = at
 
 module _ (a : CoreParts) (sound : IsSound a) where
@@ -114,6 +116,29 @@ module _ (a : CoreParts) (sound : IsSound a) (id : TableId ThreadKey) (g : Guest
   pub thread_within : g.instance < length a.instances.items
   thread_within = some_before bare_instance_record a.instances.items g.instance (thread_home a sound id g is).within
 
-  -- a thread stands where its id says
-  pub thread_stands_there : HasNumber thread_key a.threads id.rep g.number
-  thread_stands_there = ap number_in (record_at-item item_of entry_of no_other thread_key a.threads id.rep id.serial g is)
+-- ---- What an id names is named at its place
+
+module _ (a : CoreParts) (sound : IsSound a) where
+  pub thread_at_place : (id : TableId ThreadKey) → AtPlace (parts_of a) id.rep (ThreadOf (thread_of (seen a) id))
+  unfolding IsSound
+  thread_at_place id =
+      subst (λ n. (n ≤ a.made.threads) × StandsAt thread_key a.threads id.rep n) (sym (thread_shown a id))
+      (number_of-le thread_key a.threads id.rep id.serial a.made.threads sound.tables.threads.apart sound.tables.threads.later, stands_by_id (λ (g : GuestThread). g.number) (λ (g : GuestThread). g.thread) a.threads a.made.threads sound.tables.threads id.rep id.serial)
+
+  pub call_at_place : (id : TableId GuestTaskKey) → AtPlace (parts_of a) id.rep (CallOf (call_of (seen a) id))
+  unfolding IsSound
+  call_at_place id =
+      subst (λ n. (n ≤ a.made.threads) × StandsAt call_key a.calls id.rep n) (sym (call_shown a id))
+      (number_of-le call_key a.calls id.rep id.serial a.made.threads sound.tables.calls.apart sound.tables.calls.later, stands_by_id (λ (g : GuestTask). g.number) (λ (g : GuestTask). g.call) a.calls a.made.threads sound.tables.calls id.rep id.serial)
+
+  pub work_at_place : (id : TableId HostTaskKey) → AtPlace (parts_of a) id.rep (WorkOf (work_of (seen a) id))
+  unfolding IsSound
+  work_at_place id =
+      subst (λ n. (n ≤ a.made.works) × StandsAt work_key a.works id.rep n) (sym (work_shown a id))
+      (number_of-le work_key a.works id.rep id.serial a.made.works sound.tables.works.apart sound.tables.works.later, stands_by_id (λ (w : HostWork). w.number) (λ (w : HostWork). w.work) a.works a.made.works sound.tables.works id.rep id.serial)
+
+  pub set_at_place : (id : TableId SetKey) → AtPlace (parts_of a) id.rep (SetOf (set_of (seen a) id))
+  unfolding IsSound
+  set_at_place id =
+      subst (λ n. (n ≤ a.made.sets) × StandsAt set_key a.sets id.rep n) (sym (set_shown a id))
+      (number_of-le set_key a.sets id.rep id.serial a.made.sets sound.tables.sets.apart sound.tables.sets.later, stands_by_id (λ (x : WaitSet). x.number) (λ (x : WaitSet). x.set) a.sets a.made.sets sound.tables.sets id.rep id.serial)

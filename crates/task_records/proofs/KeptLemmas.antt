@@ -1,9 +1,9 @@
 -- Kept numbers are what the machine counts, as contracts see it.
-use Rattle.std.proofs.Common.{◌≡◌, ◌+◌, ◌<◌, ◌*◌, ◌||◌, ℕ, Bool, true, false, cond, List, [], ◌∷◌, T, count_by, length, map, nat_lt, refl, sym, ap, ap₂, subst, ◌∙◌, arith}
+use Rattle.std.proofs.Common.{◌≡◌, ◌+◌, ◌<◌, ◌≤◌, ◌^◌, is_some, ◌*◌, ◌||◌, ℕ, Bool, true, false, cond, List, [], ◌∷◌, T, count_by, length, nat_lt, refl, sym, ap, ap₂, subst, ◌∙◌, arith}
 use Rattle.std.proofs.lemmas.Bool.{ne_eqb}
 use Rattle.std.proofs.lemmas.List.{length-map}
 use Rattle.std.proofs.lemmas.Option.{same_Some}
-use Rattle.std.proofs.lemmas.List.Sums.{sum_by-cons}
+use Rattle.std.proofs.lemmas.List.Sums.{count_by-le-length, sum_by-cons}
 use Rattle.std.specs.List.{list_any}
 use Rattle.std.specs.Option.{option_map}
 use Rattle.task_index.specs.Counts.{passing}
@@ -18,24 +18,25 @@ use Rattle.task_index.proofs.Tables.{none_in_records}
 use Rattle.task_records.proofs.ReadLemmas.{call_named, set_named}
 use Rattle.task_records.proofs.TableLemmas.{get_mapped, with_second}
 use Rattle.task_records.specs.Image.{core_of}
-use Rattle.task_records.specs.Instances.{by_place, handle_table, is_sorted-mapped, mapped as mapped_list, named_of, thread_of as thread_named}
+use Rattle.task_records.specs.Instances.{is_sorted-mapped, mapped as mapped_list}
 use Rattle.task_records.specs.Kept.{IsSetKept, entries_for, members_of, threads_of}
 use Rattle.task_records.specs.Keys.{call_key, thread_key, work_key}
 use Rattle.task_records.specs.Kinds.{item_of, on_item}
 use Rattle.task_records.specs.Seen.{IsSound, parts_of, seen}
-use Rattle.task_records.specs.Sound.{bare, bare_call, bare_instance, bare_thread, bare_work, loose_call, loose_thread, loose_work, uninterested, unmoved}
+use Rattle.task_records.specs.Sound.{bare, bare_call, bare_thread, bare_work, loose_call, loose_thread, loose_work, uninterested, unmoved}
 use Rattle.task_records.specs.declared.calls.GuestTask.{GuestTask}
-use Rattle.task_records.specs.declared.instances.InstanceRecord.{InstanceRecord}
 use Rattle.task_records.specs.declared.parts.CoreParts.{CoreParts}
 use Rattle.task_records.specs.declared.sets.WaitSet.{WaitSet}
 use Rattle.task_records.specs.declared.single.Single.{Single}
 use Rattle.task_records.specs.declared.threads.GuestThread.{GuestThread}
 use Rattle.std.specs.Prelude.{None, Ok, Option, Some, ◌==◌}
+use Rattle.task_rules.specs.Works.{is_moving}
 use Rattle.task_table.proofs.MappedLemmas.{place_at-mapped}
+use Rattle.task_table.proofs.RecordCountLemmas.{size-records-le}
 use Rattle.task_table.specs.Answers.{item_at}
 use Rattle.task_table.specs.Mapped.{mapped, placed_as}
 use Rattle.task_table.specs.Records.{key_in, records}
-use Rattle.task_table.specs.Table.{Placed, Table, place_at}
+use Rattle.task_table.specs.Table.{Placed, Table, place_at, table_len}
 use Rattle.task_words.specs.StateView.{call_of, set_of}
 use Rattle.task_table.specs.declared.id.TableId.{TableId}
 use Rattle.task_wait.specs.declared.keys.GuestTaskKey.{GuestTaskKey}
@@ -175,3 +176,14 @@ module _ (a : CoreParts) where
         ap (nat_lt 0) (set_entries id x is)
         ∙ (any_passing (λ t. keeps_set x.number t t.place) (seen a).core.threads
         ∙ ap (λ n. list_any (λ (e : ℕ × Thread). keeps_set n e.1 e.1.place) (seen a).core.threads.list) (set_named a id x is))
+
+    -- few works move
+    pub moving_few : a.kept.moving + 1 < 2 ^ 64
+    unfolding IsSound seen size
+    moving_few =
+        let some : passing is_moving (seen a).core.works ≤ length (seen a).core.works.list = count_by-le-length (λ (e : ℕ × Work). is_moving e.1) (seen a).core.works.list in
+        let all : length (seen a).core.works.list ≤ table_len a.works = size-records-le work_key a.works sound.tables.works.apart in
+        let places : table_len a.works ≤ length a.works.places = count_by-le-length is_some a.works.places in
+        let few = sound.tables.works.table.places_fit in
+        let is = sound.moving in
+        omega arith

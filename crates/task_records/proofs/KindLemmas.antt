@@ -1,5 +1,5 @@
 -- The records of one kind, in a table of their own: what ids name, what is read under an id, and a write of one record.
-use Rattle.std.proofs.Common.{◌≡◌, ◌+◌, ◌<◌, ℕ, Bool, true, false, cond, ◌==◌, map, set, slice_get, Option, Some, None, refl, sym, ap, subst, ◌∙◌, arith}
+use Rattle.std.proofs.Common.{◌≡◌, ◌+◌, ◌<◌, ℕ, List, [], ◌∷◌, Bool, true, false, cond, ◌==◌, map, set, slice_get, Option, Some, None, refl, sym, ap, ◌∙◌, arith}
 use Rattle.std.proofs.lemmas.Bool.{ne_eqb}
 use Rattle.std.proofs.lemmas.List.{map-set}
 use Rattle.std.proofs.lemmas.Option.{slice_get-map}
@@ -7,8 +7,8 @@ use Rattle.std.specs.Option.{option_map}
 use Rattle.std.specs.Prelude.{Ok, Err}
 use Rattle.task_index.proofs.Counts.{passing-with_at}
 use Rattle.task_index.specs.Counts.{one_if_passes, passing}
-use Rattle.task_machine.specs.Maps.{Records, change, changed, get, insert}
-use Rattle.task_records.specs.Image.{tag_of}
+use Rattle.task_machine.specs.Maps.{change, changed, get, insert}
+use Rattle.task_records.specs.Image.{tag_of, tags_in, trimmed, with_first}
 use Rattle.task_records.specs.Kinds.{entry_of, item_of, no_other}
 use Rattle.task_records.specs.Sound.{SoundTable}
 use Rattle.task_records.specs.declared.single.Single.{Single}
@@ -28,6 +28,19 @@ use Rattle.task_words.specs.StateView.{Tag, named}
 pub absent : {X Y : Type 0} (x : X) → ◌≡◌ {A = Option X} None (Some x) → Y
 absent x e = absurd (cc)
 
+-- what is free at the end names nothing
+named_trimmed : (serial : ℕ) (os : List (Option Tag)) (rep : ℕ) → named serial (slice_get (trimmed os) rep) ≡ named serial (slice_get os rep)
+named_trimmed serial [] rep = refl
+named_trimmed serial (o ∷ os) rep = by_rest o (trimmed os) rep (named_trimmed serial os)
+  where
+    by_rest : (o : Option Tag) (ts : List (Option Tag)) (rep : ℕ) → ((r : ℕ) → named serial (slice_get ts r) ≡ named serial (slice_get os r)) → named serial (slice_get (with_first o ts) rep) ≡ named serial (slice_get (o ∷ os) rep)
+    by_rest None [] ℕ.zero same = refl
+    by_rest None [] (ℕ.suc r) same = same r
+    by_rest None (t ∷ ts) ℕ.zero same = refl
+    by_rest None (t ∷ ts) (ℕ.suc r) same = same r
+    by_rest (Some x) ts ℕ.zero same = refl
+    by_rest (Some x) ts (ℕ.suc r) same = same r
+
 module _ {T X : Type 0} (number : T → ℕ) (rec : T → X) where
   abbrev key : Single T → Option (ℕ × X)
   key e = Some (number e.item, rec e.item)
@@ -36,9 +49,9 @@ module _ {T X : Type 0} (number : T → ℕ) (rec : T → X) where
   of_kind e none = absurd (cc)
 
   -- what contracts see under an id is the number that it finds
-  pub number_shown : (t : Table (Single T)) (rep serial : ℕ) → named serial (slice_get (map (tag_of key) t.places) rep) ≡ number_of key t rep serial
+  pub number_shown : (t : Table (Single T)) (rep serial : ℕ) → named serial (slice_get (tags_in key t) rep) ≡ number_of key t rep serial
   unfolding number_of found
-  number_shown t rep serial = ap (named serial) (slice_get-map (tag_of key) t.places rep) ∙ by_place (slice_get t.places rep)
+  number_shown t rep serial = named_trimmed serial (map (tag_of key) t.places) rep ∙ (ap (named serial) (slice_get-map (tag_of key) t.places rep) ∙ by_place (slice_get t.places rep))
     where
       by_test : (b : Bool) (p : Placed (Single T)) → cond b (number p.entry.item) 0 ≡ number_in (key_in key (cond b (Some p) None))
       by_test true p = refl
@@ -108,12 +121,12 @@ module _ {T X : Type 0} (number : T → ℕ) (rec : T → X) where
             let one : one_if_passes test (Some (rec h)) ≡ one_if_passes test (Some (rec g)) = ap (λ b. cond b 1 0) same in
             omega arith
 
-        pub tags_written : map (tag_of key) after.places ≡ map (tag_of key) t.places
+        pub tags_written : tags_in key after ≡ tags_in key t
         unfolding with_entry
         tags_written =
             let there : slice_get (map (tag_of key) t.places) rep ≡ Some (tag_of key (Some item_stands.0)) = slice_get-map (tag_of key) t.places rep ∙ rw (place_at_there t rep item_stands.0 item_stands.1.0) refl in
             let one : tag_of key (entry_put (entry_of h) (place_at t rep)) ≡ tag_of key (Some item_stands.0) = rw (item_stands.1.0, item_stands.1.1.1, same) refl in
-            map-set (tag_of key) t.places rep (entry_put (entry_of h) (place_at t rep)) ∙ (ap (set (map (tag_of key) t.places) rep) one ∙ set-slice_get (map (tag_of key) t.places) rep (tag_of key (Some item_stands.0)) there)
+            ap trimmed (map-set (tag_of key) t.places rep (entry_put (entry_of h) (place_at t rep)) ∙ (ap (set (map (tag_of key) t.places) rep) one ∙ set-slice_get (map (tag_of key) t.places) rep (tag_of key (Some item_stands.0)) there))
 
         not_zero : (0 ≡ number g) → ⊥
         not_zero zero = absent (rec g) (sym sound.above_zero ∙ (sym (get-records key t.places 0) ∙ (ap (get (records key t.places)) (zero ∙ sym (item_number t rep serial g is)) ∙ sym item_read)))

@@ -14,3 +14,7 @@ pub mod GivenLemmas
 pub mod HandleWrites
 pub mod HandleItems
 pub mod HandleTaken
+pub mod AloneLemmas
+pub mod LaterLemmas
+pub mod MakeLemmas
+pub mod LinkLemmas

@@ -1,24 +1,23 @@
 -- A core in which nothing was made.
-use Rattle.std.proofs.Common.{◌≡◌, ℕ, [], List, Option, Some, None, false, ◌≤◌, refl, sym, ap, ◌∙◌, arith}
+use Rattle.std.proofs.Common.{◌≡◌, ℕ, [], List, Option, None, false, ◌≤◌, refl, sym, ◌∙◌, arith}
 use Rattle.task_index.specs.Index.{Filing, IsIndex}
 use Rattle.task_index.specs.Rows.{IsRows}
 use Rattle.task_index.proofs.Indexes.{IsIndex-nothing, IsIndex-same_chains}
 use Rattle.task_machine.specs.Core.{fresh, nothing_made}
-use Rattle.task_machine.specs.Maps.{empty, get, get-empty, numbers, size}
+use Rattle.task_machine.specs.Maps.{empty, get-empty, numbers, size}
 use Rattle.task_machine.specs.Read.{live_count, table_use}
 use Rattle.task_machine.specs.declared.records.Subtask.TheVariants as subtask
 use Rattle.task_records.proofs.KindLemmas.{absent}
 use Rattle.task_records.specs.Image.{Parts, image}
 use Rattle.task_records.specs.Instances.{by_place_from}
-use Rattle.task_records.specs.Keys.{blocked_key, call_key, callers_key, group_key, ready_calls_key, ready_works_key, set_key, thread_key, under_key, waiters_key, work_blocked_key, work_key}
-use Rattle.task_records.specs.Kinds.{on_item}
-use Rattle.task_records.specs.Places.{BlockedOn, HeldIn, UnderOf, WaitsOn, Where, live_chain, place_chain, ready_call_chain, ready_work_chain}
-use Rattle.task_records.specs.Rows.{High, Low, Row, callers_chain, row_chain, shelf_chain}
+use Rattle.task_records.specs.Keys.{call_key, group_key, set_key, thread_key, work_key}
+use Rattle.task_records.specs.Places.{BlockedOn, HeldIn, UnderOf, WaitsOn, Where, place_chain}
+use Rattle.task_records.specs.Rows.{High, Low, Row, row_chain}
 use Rattle.task_records.specs.Seen.{nothing}
-use Rattle.task_records.specs.Sound.{AreChained, AreCounted, AreNamed, AreTables, HaveRowNodes, IsWhole, Sound, SoundTable, bare}
+use Rattle.task_records.specs.Sound.{AreChained, AreCounted, AreNamed, HaveRowNodes, Sound, SoundTable, bare}
 use Rattle.task_records.specs.declared.single.Single.{Single}
 use Rattle.task_index.specs.Index.{filings}
-use Rattle.task_table.proofs.RecordChangeLemmas.{AreApart-new_table, found_record-new_table}
+use Rattle.task_table.proofs.RecordChangeLemmas.{AreApart-new_table}
 use Rattle.task_table.specs.Changes.{with_capacity}
 use Rattle.task_table.specs.Mapped.{mapped}
 use Rattle.task_table.specs.Records.{found_record, records}

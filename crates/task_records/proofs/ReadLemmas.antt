@@ -3,10 +3,9 @@ use Rattle.std.proofs.Common.{◌≡◌, ap, ◌∙◌, sym, Some, None}
 use Rattle.std.specs.Prelude.{Ok, Err}
 use Rattle.task_machine.specs.Maps.{get}
 use Rattle.task_records.proofs.KindLemmas.{item_number, item_read, number_shown, refused_number, refused_read}
-use Rattle.task_records.specs.Image.{image}
 use Rattle.task_records.specs.Keys.{call_key, set_key, thread_key, work_key}
 use Rattle.task_records.specs.Kinds.{item_of}
-use Rattle.task_records.specs.Seen.{IsSound, parts_of, seen}
+use Rattle.task_records.specs.Seen.{IsSound, seen}
 use Rattle.task_records.specs.declared.calls.GuestTask.{GuestTask}
 use Rattle.task_records.specs.declared.parts.CoreParts.{CoreParts}
 use Rattle.task_records.specs.declared.sets.WaitSet.{WaitSet}

@@ -1,10 +1,9 @@
 -- Ids made of a place alone, and of a place where a number was kept.
-use Rattle.std.proofs.Common.{◌≡◌, ◌<◌, ◌≤◌, ℕ, IsSome, Bool, true, false, cond, Option, Some, None, is_some, length, map, refl, sym, ap, ap₂, subst, ◌∙◌, arith, slice_get}
+use Rattle.std.proofs.Common.{◌≡◌, ◌≤◌, ℕ, IsSome, cond, Option, Some, None, is_some, refl, sym, ap, ap₂, ◌∙◌, arith, slice_get}
 use Rattle.std.proofs.lemmas.Option.{same_Some, slice_get_past}
 use Rattle.std.specs.Option.{option_and_then, option_map}
-use Rattle.task_machine.specs.Maps.{Records, get}
 use Rattle.task_records.proofs.KindLemmas.{absent, number_shown}
-use Rattle.task_records.specs.Image.{tag_of}
+use Rattle.task_records.specs.Image.{tags_in}
 use Rattle.task_records.specs.Kinds.{item_of}
 use Rattle.task_records.specs.Names.{StandsAt}
 use Rattle.task_records.specs.Sound.{SoundTable}
@@ -80,13 +79,13 @@ module _ {T X : Type 0} (number : T → ℕ) (rec : T → X) where
   -- ---- As contracts see it
 
   module _ (t : Table (Single T)) (rep serial : ℕ) where
-    pub shown_here : (place is : ℕ) → rep ≡ place → serial ≡ is → Some is ≡ option_map (λ (p : Placed (Single T)). p.serial) (place_at t place) → named serial (slice_get (map (tag_of key) t.places) rep) ≡ number_in (record_at key t.places place)
+    pub shown_here : (place is : ℕ) → rep ≡ place → serial ≡ is → Some is ≡ option_map (λ (p : Placed (Single T)). p.serial) (place_at t place) → named serial (slice_get (tags_in key t) rep) ≡ number_in (record_at key t.places place)
     shown_here place is at same there = number_shown number rec t rep serial ∙ (ap₂ (number_of key t) at same ∙ number_here t place is there)
 
-    pub shown_nowhere : (place : ℕ) → rep ≡ place → None ≡ option_map (λ (p : Placed (Single T)). p.serial) (place_at t place) → named serial (slice_get (map (tag_of key) t.places) rep) ≡ number_in (record_at key t.places place)
+    pub shown_nowhere : (place : ℕ) → rep ≡ place → None ≡ option_map (λ (p : Placed (Single T)). p.serial) (place_at t place) → named serial (slice_get (tags_in key t) rep) ≡ number_in (record_at key t.places place)
     shown_nowhere place at none = number_shown number rec t rep serial ∙ (ap (λ r. number_of key t r serial) at ∙ number_nowhere t place serial none)
 
-    pub shown_beyond : (made : ℕ) → SoundTable key t made → rep ≡ 4294967295 → named serial (slice_get (map (tag_of key) t.places) rep) ≡ 0
+    pub shown_beyond : (made : ℕ) → SoundTable key t made → rep ≡ 4294967295 → named serial (slice_get (tags_in key t) rep) ≡ 0
     shown_beyond made sound beyond = number_shown number rec t rep serial ∙ number_beyond t made sound rep serial beyond
 
     module _ (made : ℕ) (sound : SoundTable key t made) (place n : ℕ) where
@@ -94,11 +93,11 @@ module _ {T X : Type 0} (number : T → ℕ) (rec : T → X) where
       pub shown_kept : (g : T) → Some g ≡ option_and_then (λ (p : Placed (Single T)). item_of p.entry) (place_at t place) → number g ≡ n → (m : ℕ) → m ≡ number_in (record_at key t.places place) → m ≡ kept_in (records key t.places) n
       shown_kept g is same m at = let one = kept_here t made sound place n g is same in at ∙ (one.0 ∙ sym one.1)
 
-      gone : StandsAt key t place n → rep ≡ 4294967295 → (number_in (record_at key t.places place) ≡ n → n ≡ 0) → named serial (slice_get (map (tag_of key) t.places) rep) ≡ kept_in (records key t.places) n
+      gone : StandsAt key t place n → rep ≡ 4294967295 → (number_in (record_at key t.places place) ≡ n → n ≡ 0) → named serial (slice_get (tags_in key t) rep) ≡ kept_in (records key t.places) n
       gone stands beyond other = number_shown number rec t rep serial ∙ (number_beyond t made sound rep serial beyond ∙ sym (kept_gone t made sound place n stands other))
 
       -- another one stands there
-      pub shown_other : StandsAt key t place n → rep ≡ 4294967295 → (g : T) → Some g ≡ option_and_then (λ (p : Placed (Single T)). item_of p.entry) (place_at t place) → (number g ≡ n → ⊥) → named serial (slice_get (map (tag_of key) t.places) rep) ≡ kept_in (records key t.places) n
+      pub shown_other : StandsAt key t place n → rep ≡ 4294967295 → (g : T) → Some g ≡ option_and_then (λ (p : Placed (Single T)). item_of p.entry) (place_at t place) → (number g ≡ n → ⊥) → named serial (slice_get (tags_in key t) rep) ≡ kept_in (records key t.places) n
       shown_other stands beyond g is other = gone stands beyond (λ same. absurd (other (by_place (place_at t place) is same)))
         where
           by_place : (o : Option (Placed (Single T))) → Some g ≡ option_and_then (λ (p : Placed (Single T)). item_of p.entry) o → number_in (key_in key o) ≡ n → number g ≡ n
@@ -106,7 +105,7 @@ module _ {T X : Type 0} (number : T → ℕ) (rec : T → X) where
           by_place (Some p) is same = ap number (same_Some g p.entry.item is) ∙ same
 
       -- or none
-      pub shown_none : StandsAt key t place n → rep ≡ 4294967295 → None ≡ option_and_then (λ (p : Placed (Single T)). item_of p.entry) (place_at t place) → named serial (slice_get (map (tag_of key) t.places) rep) ≡ kept_in (records key t.places) n
+      pub shown_none : StandsAt key t place n → rep ≡ 4294967295 → None ≡ option_and_then (λ (p : Placed (Single T)). item_of p.entry) (place_at t place) → named serial (slice_get (tags_in key t) rep) ≡ kept_in (records key t.places) n
       shown_none stands beyond is = gone stands beyond (λ same. by_place (place_at t place) is same)
         where
           by_place : (o : Option (Placed (Single T))) → None ≡ option_and_then (λ (p : Placed (Single T)). item_of p.entry) o → number_in (key_in key o) ≡ n → n ≡ 0

@@ -1,7 +1,7 @@
 -- What a write that a key does not see leaves of the key's records, and the records of a table seen by a function of its entries.
 use Rattle.std.proofs.Common.{◌≡◌, ◌==◌, ℕ, Bool, true, false, cond, List, [], ◌∷◌, map, Option, Some, None, refl, sym, ap, ap₂, subst, IsSome, ◌∙◌}
 use Rattle.std.specs.Option.{option_map}
-use Rattle.task_machine.specs.Maps.{Records, get}
+use Rattle.task_machine.specs.Maps.{get}
 use Rattle.task_table.proofs.MappedLemmas.{mapped-with_entry_same, place_at-mapped}
 use Rattle.task_table.proofs.RecordLemmas.{get-records}
 use Rattle.task_records.specs.Names.{StandsAt}

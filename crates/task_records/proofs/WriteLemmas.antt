@@ -1,11 +1,10 @@
 -- A write of fields on which nothing hangs is the machine's change of the record.
-use Rattle.std.proofs.Common.{◌≡◌, ◌+◌, ◌≤◌, ℕ, true, cond, List, Option, Some, map, false, ◌==◌, Bool, None, [], slice_get, inl, inr, ◌⊎◌, refl, sym, ap, ap₂, subst, ◌∙◌, arith}
+use Rattle.std.proofs.Common.{◌≡◌, ◌+◌, ◌≤◌, ℕ, true, cond, List, Option, Some, false, ◌==◌, Bool, None, [], slice_get, inl, inr, ◌⊎◌, refl, sym, ap, ap₂, subst, ◌∙◌, arith}
 use Rattle.std.proofs.lemmas.Bool.{cases_eq, eq-eqb, ne_eqb}
 use Rattle.std.proofs.lemmas.Option.{same_Some}
 use Rattle.std.specs.Prelude.{Ok, Err}
-use Rattle.task_index.specs.Counts.{one_if_passes}
+use Rattle.task_index.specs.Counts.{one_if_passes, passing}
 use Rattle.task_machine.specs.Maps.{Records, change}
-use Rattle.task_machine.specs.Read.{thread_at}
 use Rattle.task_machine.specs.Write.{on_call, on_thread, on_work, set_uninteresting}
 use Rattle.task_machine.specs.declared.records.Call.{Call}
 use Rattle.task_machine.specs.declared.records.Script.TheVariants as script
@@ -14,7 +13,7 @@ use Rattle.task_machine.specs.declared.records.Work.{Work}
 use Rattle.task_records.proofs.KindLemmas.{item_stands, passing_same, passing_written, records_changed, refused_write, table_written, tags_written}
 use Rattle.task_records.proofs.ReadLemmas.{call_shown, thread_shown, work_shown}
 use Rattle.task_records.proofs.TableLemmas.{records_unseen}
-use Rattle.task_records.specs.Image.{callers_in, core_of, tag_of}
+use Rattle.task_records.specs.Image.{callers_in, tags_in}
 use Rattle.task_records.specs.Keys.{call_key, thread_key, work_key}
 use Rattle.task_records.specs.Kinds.{entry_of, item_of, on_item}
 use Rattle.task_records.specs.Names.{AreHandlesNamed, Kinds, OwnsHandle, kinds}
@@ -116,9 +115,9 @@ module _ (a : CoreParts) (sound : IsSound a) (id : TableId ThreadKey) where
     pub thread_put_writes : (f : Thread → Thread) → f g.thread ≡ h.thread → seen thread_after ≡ on_core (on_thread (thread_of (seen a) id) f) (seen a)
     unfolding seen IsSound on_thread threads_seen
     thread_put_writes f is_f =
-        ap (λ (m : Records Thread). threads_seen m (records (callers_in a.behind) (with_entry id.rep (entry_of h) a.threads).places) (map (tag_of thread_key) (with_entry id.rep (entry_of h) a.threads).places))
+        ap (λ (m : Records Thread). threads_seen m (records (callers_in a.behind) (with_entry id.rep (entry_of h) a.threads).places) (tags_in thread_key (with_entry id.rep (entry_of h) a.threads)))
         (records_changed (λ (g : GuestThread). g.number) (λ (g : GuestThread). g.thread) a.threads a.made.threads sound.tables.threads id.rep id.serial g is h thread_same f is_f ∙ ap (λ n. change n f (records thread_key a.threads.places)) (sym (thread_shown a id)))
-        ∙ (ap (λ (k : Records (List ℕ)). threads_seen (change (thread_of (seen a) id) f (records thread_key a.threads.places)) k (map (tag_of thread_key) (with_entry id.rep (entry_of h) a.threads).places)) callers_same
+        ∙ (ap (λ (k : Records (List ℕ)). threads_seen (change (thread_of (seen a) id) f (records thread_key a.threads.places)) k (tags_in thread_key (with_entry id.rep (entry_of h) a.threads))) callers_same
         ∙ ap (λ (l : List (Option Tag)). threads_seen (change (thread_of (seen a) id) f (records thread_key a.threads.places)) (records (callers_in a.behind) a.threads.places) l)
         (tags_written (λ (g : GuestThread). g.number) (λ (g : GuestThread). g.thread) a.threads a.made.threads sound.tables.threads id.rep id.serial g is h thread_same))
 
@@ -182,7 +181,7 @@ module _ (a : CoreParts) (sound : IsSound a) (id : TableId GuestTaskKey) where
     pub call_writes : (f : Call → Call) → f g.call ≡ h.call → seen call_after ≡ on_core (on_call (call_of (seen a) id) f) (seen a)
     unfolding seen IsSound on_call calls_seen
     call_writes f is_f =
-        ap (λ (m : Records Call). calls_seen m (map (tag_of call_key) (with_entry id.rep (entry_of h) a.calls).places))
+        ap (λ (m : Records Call). calls_seen m (tags_in call_key (with_entry id.rep (entry_of h) a.calls)))
         (records_changed (λ (g : GuestTask). g.number) (λ (g : GuestTask). g.call) a.calls a.made.threads sound.tables.calls id.rep id.serial g is h call_same f is_f ∙ ap (λ n. change n f (records call_key a.calls.places)) (sym (call_shown a id)))
         ∙ ap (λ (l : List (Option Tag)). calls_seen (change (call_of (seen a) id) f (records call_key a.calls.places)) l)
         (tags_written (λ (g : GuestTask). g.number) (λ (g : GuestTask). g.call) a.calls a.made.threads sound.tables.calls id.rep id.serial g is h call_same)
@@ -233,7 +232,7 @@ module _ (a : CoreParts) (sound : IsSound a) (id : TableId HostTaskKey) where
     pub work_writes : (f : Work → Work) → f g.work ≡ h.work → seen work_after ≡ on_core (on_work (work_of (seen a) id) f) (seen a)
     unfolding seen IsSound on_work works_seen
     work_writes f is_f =
-        ap (λ (m : Records Work). works_seen m (map (tag_of work_key) (with_entry id.rep (entry_of h) a.works).places))
+        ap (λ (m : Records Work). works_seen m (tags_in work_key (with_entry id.rep (entry_of h) a.works)))
         (records_changed (λ (g : HostWork). g.number) (λ (g : HostWork). g.work) a.works a.made.works sound.tables.works id.rep id.serial g is h work_same f is_f ∙ ap (λ n. change n f (records work_key a.works.places)) (sym (work_shown a id)))
         ∙ ap (λ (l : List (Option Tag)). works_seen (change (work_of (seen a) id) f (records work_key a.works.places)) l)
         (tags_written (λ (g : HostWork). g.number) (λ (g : HostWork). g.work) a.works a.made.works sound.tables.works id.rep id.serial g is h work_same)
@@ -288,3 +287,59 @@ module _ (a : CoreParts) (sound : IsSound a) (id : TableId GuestTaskKey) (g : Gu
       let one : one_if_passes (λ (c : Call). c.interesting) (Some g.call) ≡ 1 = ap (λ b. cond b 1 0) some in
       let was = sound.interesting in
       omega arith
+
+-- ---- What moves
+
+module _ (a : CoreParts) (sound : IsSound a) (id : TableId HostTaskKey) (g : HostWork) (is : Ok g ≡ item_at item_of a.works id.rep id.serial) (h : HostWork) (alike : bare_work h ≡ bare_work g) where
+  moved_same : h.number ≡ g.number
+  moved_same = ap (λ (x : HostWork). x.number) alike
+
+  moved_bare : mapped (on_item bare_work) (with_entry id.rep (entry_of h) a.works) ≡ mapped (on_item bare_work) a.works
+  unfolding IsSound
+  moved_bare =
+      let one = item_stands (λ (g : HostWork). g.number) (λ (g : HostWork). g.work) a.works a.made.works sound.tables.works id.rep id.serial g is in
+      mapped-with_entry_same (on_item bare_work) a.works id.rep (entry_of h) one.0 one.1.0 (ap entry_of alike ∙ ap (on_item bare_work) (sym one.1.1.1))
+
+  counted : passing is_moving (records work_key (with_entry id.rep (entry_of h) a.works).places) + one_if_passes is_moving (Some g.work) ≡ a.kept.moving + one_if_passes is_moving (Some h.work)
+  unfolding IsSound
+  counted =
+      let law = passing_written (λ (g : HostWork). g.number) (λ (g : HostWork). g.work) a.works a.made.works sound.tables.works id.rep id.serial g is h moved_same is_moving in
+      let was = sound.moving in
+      omega arith
+
+  -- what moves is counted
+  pub moving_counted : is_moving g.work ≡ true → 1 ≤ a.kept.moving + one_if_passes is_moving (Some h.work)
+  moving_counted some =
+      let one : one_if_passes is_moving (Some g.work) ≡ 1 = ap (λ b. cond b 1 0) some in
+      let law = counted in
+      omega arith
+
+  module _ (kept : ℕ) (now : kept + one_if_passes is_moving (Some g.work) ≡ a.kept.moving + one_if_passes is_moving (Some h.work)) where
+    abbrev pub moved_after : CoreParts
+    moved_after = record a { works = with_entry id.rep (entry_of h) a.works; kept = record a.kept { moving = kept } }
+
+    pub moved_sound : IsSound moved_after
+    unfolding IsSound
+    moved_sound = record {
+      tables = record {
+        threads = sound.tables.threads;
+        calls = sound.tables.calls;
+        works = table_written (λ (g : HostWork). g.number) (λ (g : HostWork). g.work) a.works a.made.works sound.tables.works id.rep id.serial g is h moved_same;
+        sets = sound.tables.sets;
+        groups = sound.tables.groups;
+      };
+      whole = subst (λ (t : Table (Single HostWork)). IsWhole (record (bare (parts_of a)) { works = t })) (sym moved_bare) sound.whole;
+      interesting = sound.interesting;
+      moving = let law = counted in omega arith;
+      handles = subst (λ (t : Table (Single HostWork)). HandlesNamed (record (kinds (bare (parts_of a))) { works = t }) a) (sym moved_bare) sound.handles;
+      owned = sound.owned;
+      live = sound.live;
+    }
+
+    pub moved_writes : (f : Work → Work) → f g.work ≡ h.work → seen moved_after ≡ on_core (on_work (work_of (seen a) id) f) (seen a)
+    unfolding seen IsSound on_work
+    moved_writes f is_f =
+        ap₂ (λ (m : Records Work) (l : List (Option Tag)). record (seen a) { core = record (seen a).core { works = m }; tags = record (seen a).tags { works = l } })
+        (records_changed (λ (g : HostWork). g.number) (λ (g : HostWork). g.work) a.works a.made.works sound.tables.works id.rep id.serial g is h moved_same f is_f
+        ∙ ap (λ (n : ℕ). change n f (records work_key a.works.places)) (sym (work_shown a id)))
+        (tags_written (λ (g : HostWork). g.number) (λ (g : HostWork). g.work) a.works a.made.works sound.tables.works id.rep id.serial g is h moved_same)

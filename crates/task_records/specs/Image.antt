@@ -4,10 +4,10 @@ use Rattle.task_handles.specs.Counter.{Counter}
 use Rattle.task_index.specs.Rows.{values}
 use Rattle.task_links.specs.Links.{Spot}
 use Rattle.task_machine.specs.Core.{Core}
-use Rattle.task_machine.specs.Maps.{Records, from_entries, numbers}
+use Rattle.task_machine.specs.Maps.{from_entries, numbers}
 use Rattle.task_machine.specs.declared.records.Made.{Made}
 use Rattle.task_records.specs.Instances.{by_place, handle_table, named_of, thread_of}
-use Rattle.task_records.specs.Keys.{call_key, callers_key, group_key, set_key, thread_key, work_key}
+use Rattle.task_records.specs.Keys.{call_key, group_key, set_key, thread_key, work_key}
 use Rattle.task_records.specs.declared.calls.GuestTask.{GuestTask}
 use Rattle.task_records.specs.declared.calls.TaskGroup.{TaskGroup}
 use Rattle.task_records.specs.declared.instances.InstanceRecord.{InstanceRecord}
@@ -91,12 +91,25 @@ abbrev pub tag_of : {E X : Type 0} → (E → Option (ℕ × X)) → Option (Pla
 tag_of key None = None
 tag_of key (Some p) = Some (record { serial = p.serial; number = number_in (key p.entry) })
 
+-- a list without what is free at its end, so that an entry that was made and taken back leaves no trace
+abbrev pub with_first : {X : Type 0} → Option X → List (Option X) → List (Option X)
+with_first None [] = []
+with_first None (o ∷ os) = None ∷ o ∷ os
+with_first (Some x) os = Some x ∷ os
+
+abbrev pub trimmed : {X : Type 0} → List (Option X) → List (Option X)
+trimmed [] = []
+trimmed (o ∷ os) = with_first o (trimmed os)
+
+abbrev pub tags_in : {E X : Type 0} → (E → Option (ℕ × X)) → Table E → List (Option Tag)
+tags_in key t = trimmed (map (tag_of key) t.places)
+
 abbrev pub tags_of : Parts → Tags
 tags_of p = record {
-  threads = map (tag_of thread_key) p.threads.places;
-  calls = map (tag_of call_key) p.calls.places;
-  sets = map (tag_of set_key) p.sets.places;
-  works = map (tag_of work_key) p.works.places;
+  threads = tags_in thread_key p.threads;
+  calls = tags_in call_key p.calls;
+  sets = tags_in set_key p.sets;
+  works = tags_in work_key p.works;
 }
 
 abbrev pub image : Parts → StateView

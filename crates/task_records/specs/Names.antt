@@ -14,6 +14,7 @@ use Rattle.task_machine.specs.declared.records.HowFar.{HowFar}
 use Rattle.task_machine.specs.declared.records.HowFar.TheVariants as how_far
 use Rattle.task_machine.specs.declared.records.Join.{Join}
 use Rattle.task_machine.specs.declared.records.Join.TheVariants as join
+use Rattle.task_machine.specs.declared.records.Made.{Made}
 use Rattle.task_machine.specs.declared.records.Place.{Place}
 use Rattle.task_machine.specs.declared.records.Place.TheVariants as place
 use Rattle.task_machine.specs.declared.records.Subtask.{Subtask}
@@ -87,23 +88,24 @@ HasNumber key t rep n = number_in (record_at key t.places rep) ≡ n
 abbrev pub StandsAt : {E X : Type 0} → (E → Option (ℕ × X)) → Table E → ℕ → ℕ → Type 0
 StandsAt key t rep n = IsSome (found_record key n t.places) → HasNumber key t rep n
 
--- The tables in which what is named stands.
+-- The tables in which what is named stands, and how many were made.
 pub record Kinds : Type 0 where
   pub threads : Table (Single GuestThread)
   pub calls : Table (Single GuestTask)
   pub works : Table (Single HostWork)
   pub sets : Table (Single WaitSet)
+  pub made : Made
 
 abbrev pub kinds : Parts → Kinds
-kinds p = record { threads = p.threads; calls = p.calls; works = p.works; sets = p.sets }
+kinds p = record { threads = p.threads; calls = p.calls; works = p.works; sets = p.sets; made = p.made }
 
--- What is named, if it is there, stands at the place.
+-- What is named was made and, if it is there, stands at the place.
 abbrev pub IsNamedAt : Kinds → ℕ → Target → Type 0
 IsNamedAt p rep Nothing = Unit {0}
-IsNamedAt p rep (ThreadOf n) = StandsAt thread_key p.threads rep n
-IsNamedAt p rep (CallOf k) = StandsAt call_key p.calls rep k
-IsNamedAt p rep (WorkOf i) = StandsAt work_key p.works rep i
-IsNamedAt p rep (SetOf x) = StandsAt set_key p.sets rep x
+IsNamedAt p rep (ThreadOf n) = (n ≤ p.made.threads) × StandsAt thread_key p.threads rep n
+IsNamedAt p rep (CallOf k) = (k ≤ p.made.threads) × StandsAt call_key p.calls rep k
+IsNamedAt p rep (WorkOf i) = (i ≤ p.made.works) × StandsAt work_key p.works rep i
+IsNamedAt p rep (SetOf x) = (x ≤ p.made.sets) × StandsAt set_key p.sets rep x
 
 abbrev pub AtPlace : Parts → ℕ → Target → Type 0
 AtPlace p rep t = IsNamedAt (kinds p) rep t

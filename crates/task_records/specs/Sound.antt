@@ -2,7 +2,7 @@
 --     SoundTable         the records of one kind
 --     bare               the parts without the fields of records on which nothing hangs
 --     IsWhole            names, indexes, rows and kept numbers
-use Rattle.std.specs.Prelude.{◌≡◌, ◌+◌, ◌<◌, ◌≤◌, ℕ, false, List, [], Option, None, Some, IfSome, IsSome, map, slice_get}
+use Rattle.std.specs.Prelude.{◌≡◌, ◌+◌, ◌<◌, ◌≤◌, ℕ, false, [], Option, None, Some, IfSome, IsSome, map, slice_get}
 use Rattle.std.specs.BTreeMap.{is_at}
 use Rattle.std.specs.Map.{lookup}
 use Rattle.std.specs.Ordering.{nat_cmp}
@@ -91,6 +91,8 @@ bare p = record p {
   instances = map bare_instance p.instances;
   kept = record p.kept { interesting = 0; moving = 0 };
   counter = record { limit = 0; live = 0 };
+  current = None;
+  trapped = false;
 }
 
 -- what holds of each entry of a table

@@ -27,6 +27,7 @@ pub trait SetWords: View {
 
     /// Whether a thread waits on the set or has an entry for it.
     fn has_waiters(&self, set: SetId) -> bool
+        requires { 0 < set_of (Self.view self.now) set }
         ensures { result ≡ has_waiters (set_of (Self.view self.now) set) (Self.view self.now).core };
 
     /// The first ready member of a set, in the order of the set's chain.

@@ -1,5 +1,5 @@
 use Rattle.handle_words.proofs.names.set_thread_handle.Goals as goal
-use Rattle.std.proofs.Common.{Option, Some, ap, refl, subst, sym, ◌≡◌, ◌∙◌, ℕ}
+use Rattle.std.proofs.Common.{Some, ap, refl, sym, ◌∙◌, ℕ}
 use Rattle.std.proofs.lemmas.Option.{same_Some}
 use Rattle.task_machine.specs.Read.{thread_at}
 use Rattle.task_machine.specs.Write.{set_thread_handle}

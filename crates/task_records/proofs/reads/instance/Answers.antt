@@ -1,7 +1,6 @@
-use Rattle.std.proofs.Common.{None, Option, Some, arith, length, slice_get, ◌≡◌}
+use Rattle.std.proofs.Common.{None, Some, arith, slice_get, ◌≡◌}
 use Rattle.task_records.proofs.InstanceReads.{handles_read, instance_read, read_at, read_past, thread_handles_read}
 use Rattle.task_records.proofs.reads.instance.Goals as goal
-use Rattle.task_records.specs.declared.instances.InstanceRecord.{InstanceRecord}
 
 there : (c : goal.After-index) → Some c.index.result.now ≡ slice_get c.args.parts.now.instances.items c.args.index
 there c = let same = c.args.parts.now.instances.ok.0 in read_at c.args.parts.now.instances.items c.args.index c.index.result.now (omega (arith, c.if-index-len.true, c.len.ensures, same)) c.index.ensures
