@@ -3,7 +3,7 @@ use Rattle.std.proofs.Common.{◌≡◌, ℕ, true, List, [], ◌∷◌, map, Op
 use Rattle.std.specs.Option.{option_map}
 use Rattle.task_links.specs.Links.{Spot, is_made}
 use Rattle.task_records.proofs.TableLemmas.{found_mapped, number_at_mapped, with_second}
-use Rattle.task_records.specs.Image.{tag_of}
+use Rattle.task_records.specs.Image.{tag_of, tags_in, trimmed}
 use Rattle.task_records.specs.Kinds.{on_item}
 use Rattle.task_records.specs.Names.{StandsAt}
 use Rattle.task_records.specs.Rows.{HaveNodes, seated}
@@ -87,9 +87,9 @@ module _ {T : Type 0} (f : T → T) (new old : Table (Single T)) (alike : Alike 
       same x y is = sym (blind x) ∙ (ap node is ∙ blind y)
 
 -- the tags of what stands alike
-pub tags_alike : {T X : Type 0} (f : T → T) (key : Single T → Option (ℕ × X)) → ((e : Single T) → number_in (key (on_item f e)) ≡ number_in (key e)) → (new old : Table (Single T)) → Alike f new old → map (tag_of key) new.places ≡ map (tag_of key) old.places
+pub tags_alike : {T X : Type 0} (f : T → T) (key : Single T → Option (ℕ × X)) → ((e : Single T) → number_in (key (on_item f e)) ≡ number_in (key e)) → (new old : Table (Single T)) → Alike f new old → tags_in key new ≡ tags_in key old
 unfolding mapped
-tags_alike {T} f key named new old alike = sym (through new.places) ∙ (ap (λ (t : Table (Single T)). map (tag_of key) t.places) alike ∙ through old.places)
+tags_alike {T} f key named new old alike = ap trimmed (sym (through new.places) ∙ (ap (λ (t : Table (Single T)). map (tag_of key) t.places) alike ∙ through old.places))
   where
     through : (ps : List (Option (Placed (Single T)))) → map (tag_of key) (map (placed_as (on_item f)) ps) ≡ map (tag_of key) ps
     through [] = refl

@@ -43,10 +43,10 @@ module _ (p : Parts) (whole : IsWhole p) (threads : Table (Single GuestThread)) 
 
   pub at_moved : (rep : ℕ) (t : Target) → AtPlace p rep t → AtPlace moved rep t
   at_moved rep Nothing at = tt
-  at_moved rep (ThreadOf n) at = stands_alike still_thread threads p.threads alike (λ (g : GuestThread). g.number) (λ g. refl) (λ (g : GuestThread). g.thread) still (λ g. refl) rep n at
+  at_moved rep (ThreadOf n) at = (at.0, stands_alike still_thread threads p.threads alike (λ (g : GuestThread). g.number) (λ g. refl) (λ (g : GuestThread). g.thread) still (λ g. refl) rep n at.1)
   at_moved rep (CallOf k) at = at
   at_moved rep (WorkOf i) at = at
-  at_moved rep (SetOf x) at = stands_alike uncounted sets p.sets sets_alike (λ (x : WaitSet). x.number) (λ x. refl) (λ (x : WaitSet). x.set) (λ s. s) (λ x. refl) rep x at
+  at_moved rep (SetOf x) at = (at.0, stands_alike uncounted sets p.sets sets_alike (λ (x : WaitSet). x.number) (λ x. refl) (λ (x : WaitSet). x.set) (λ s. s) (λ x. refl) rep x at.1)
 
   pub home_moved : (g : GuestThread) → HasHome p g → HasHome moved g
   home_moved g h = record { call = h.call; there = h.there; instance = h.instance; within = h.within; place = at_moved g.beside _ h.place; how_far = at_moved g.awaited _ h.how_far }

@@ -1,5 +1,5 @@
 -- A thread with another place: the core is sound, and contracts see just that.
-use Rattle.std.proofs.Common.{◌≡◌, ◌+◌, ◌-◌, ◌==◌, ◌<◌, ℕ, Bool, true, cond, List, map, Option, Some, None, IsSome, IfSome, slice_get, refl, sym, ap, ap₂, subst, ◌∙◌}
+use Rattle.std.proofs.Common.{◌≡◌, ◌+◌, ◌-◌, ◌==◌, ◌<◌, ℕ, Bool, true, cond, List, Option, Some, None, IsSome, IfSome, slice_get, refl, sym, ap, ap₂, subst, ◌∙◌}
 use Rattle.std.specs.Option.{option_and_then}
 use Rattle.std.specs.Prelude.{Ok}
 use Rattle.task_handles.specs.declared.kinds.HandleKind.{HandleKind}
@@ -23,7 +23,7 @@ use Rattle.task_records.proofs.KindLemmas.{item_stands, records_changed, table_w
 use Rattle.task_records.proofs.ReadLemmas.{set_shown, thread_shown}
 use Rattle.task_records.proofs.TableLemmas.{records_unseen}
 use Rattle.task_records.proofs.WriteLemmas.{each_written}
-use Rattle.task_records.specs.Image.{Parts, callers_in, core_of, tag_of}
+use Rattle.task_records.specs.Image.{Parts, callers_in, core_of, tags_in}
 use Rattle.task_records.specs.Kept.{IsSetKept, entries_for}
 use Rattle.task_records.specs.Keys.{set_key, thread_key}
 use Rattle.task_records.specs.Kinds.{entry_of, item_of, on_item}
@@ -273,11 +273,11 @@ module _ (a : CoreParts) (sound : IsSound a) (id : TableId ThreadKey) (g : Guest
       pub placed_seen : (f : Thread → Thread) → f g.thread ≡ h.thread → seen placed_after ≡ on_core (on_thread (thread_of (seen a) id) f) (seen a)
       unfolding seen IsSound on_thread
       placed_seen f is_f =
-          ap (λ m. view_of m (records (callers_in a.behind) threads_now.places) (records set_key sets_now.places) (map (tag_of thread_key) threads_now.places) (map (tag_of set_key) sets_now.places))
+          ap (λ m. view_of m (records (callers_in a.behind) threads_now.places) (records set_key sets_now.places) (tags_in thread_key threads_now) (tags_in set_key sets_now))
           (records_changed (λ (g : GuestThread). g.number) (λ (g : GuestThread). g.thread) a.threads a.made.threads sound.tables.threads id.rep id.serial g is h same_number f is_f ∙ ap (λ n. change n f (records thread_key a.threads.places)) (sym (thread_shown a id)))
-          ∙ (ap (λ k. view_of (change (thread_of (seen a) id) f (records thread_key a.threads.places)) k (records set_key sets_now.places) (map (tag_of thread_key) threads_now.places) (map (tag_of set_key) sets_now.places)) callers_same
-          ∙ (ap (λ x. view_of (change (thread_of (seen a) id) f (records thread_key a.threads.places)) (records (callers_in a.behind) a.threads.places) x (map (tag_of thread_key) threads_now.places) (map (tag_of set_key) sets_now.places)) (sets_same sets_now a.sets sets_alike)
-          ∙ (ap (λ l. view_of (change (thread_of (seen a) id) f (records thread_key a.threads.places)) (records (callers_in a.behind) a.threads.places) (records set_key a.sets.places) l (map (tag_of set_key) sets_now.places))
+          ∙ (ap (λ k. view_of (change (thread_of (seen a) id) f (records thread_key a.threads.places)) k (records set_key sets_now.places) (tags_in thread_key threads_now) (tags_in set_key sets_now)) callers_same
+          ∙ (ap (λ x. view_of (change (thread_of (seen a) id) f (records thread_key a.threads.places)) (records (callers_in a.behind) a.threads.places) x (tags_in thread_key threads_now) (tags_in set_key sets_now)) (sets_same sets_now a.sets sets_alike)
+          ∙ (ap (λ l. view_of (change (thread_of (seen a) id) f (records thread_key a.threads.places)) (records (callers_in a.behind) a.threads.places) (records set_key a.sets.places) l (tags_in set_key sets_now))
           (tags_written (λ (g : GuestThread). g.number) (λ (g : GuestThread). g.thread) a.threads a.made.threads sound.tables.threads id.rep id.serial g is h same_number)
-          ∙ ap (λ t. view_of (change (thread_of (seen a) id) f (records thread_key a.threads.places)) (records (callers_in a.behind) a.threads.places) (records set_key a.sets.places) (map (tag_of thread_key) a.threads.places) t)
+          ∙ ap (λ t. view_of (change (thread_of (seen a) id) f (records thread_key a.threads.places)) (records (callers_in a.behind) a.threads.places) (records set_key a.sets.places) (tags_in thread_key a.threads) t)
           (tags_alike uncounted set_key (λ e. refl) sets_now a.sets sets_alike))))

@@ -1,19 +1,15 @@
 -- What an id names stands at the place of the id, and its chains are those of its number.
-use Rattle.std.proofs.Common.{◌≡◌, ℕ, Option, Some, None, IsSome, slice_get, refl, sym, ap, subst, ◌∙◌}
-use Rattle.std.proofs.lemmas.Option.{slice_get-map}
-use Rattle.std.specs.Option.{option_map}
-use Rattle.std.specs.Prelude.{Err, Ok, Result}
+use Rattle.std.proofs.Common.{◌≡◌, ℕ, Some, None, refl, sym, ap, subst, ◌∙◌}
+use Rattle.std.specs.Prelude.{Ok}
 use Rattle.task_machine.specs.declared.records.Subtask.TheVariants as subtask
-use Rattle.task_records.proofs.KindLemmas.{item_number, item_stands, refused_number}
-use Rattle.task_records.proofs.ReadLemmas.{call_shown, set_shown, thread_shown, work_shown}
+use Rattle.task_records.proofs.HomeLemmas.{call_at_place, set_at_place, thread_at_place, work_at_place}
 use Rattle.task_records.proofs.TableLemmas.{found_mapped}
 use Rattle.task_records.specs.Kinds.{item_of, on_item}
-use Rattle.task_records.specs.Names.{AtPlace, CallOf, SetOf, StandsAt, ThreadOf, WorkOf}
-use Rattle.task_records.specs.Places.{BlockedOn, HeldIn, UnderOf, WaitsOn, place_chain}
+use Rattle.task_records.specs.Names.{AtPlace, CallOf, SetOf, ThreadOf, WorkOf}
+use Rattle.task_records.specs.Places.{BlockedOn, UnderOf, WaitsOn, place_chain}
 use Rattle.task_records.specs.Seen.{IsSound, parts_of, seen}
-use Rattle.task_records.specs.Sound.{SoundTable, bare, bare_call, bare_instance, bare_thread, bare_work}
+use Rattle.task_records.specs.Sound.{SoundTable, bare, bare_call, bare_thread, bare_work}
 use Rattle.task_records.specs.declared.calls.GuestTask.{GuestTask}
-use Rattle.task_records.specs.declared.instances.InstanceRecord.{InstanceRecord}
 use Rattle.task_records.specs.declared.parts.CoreParts.{CoreParts}
 use Rattle.task_records.specs.declared.sets.WaitSet.{WaitSet}
 use Rattle.task_records.specs.declared.single.Single.{Single}
@@ -21,9 +17,8 @@ use Rattle.task_records.specs.declared.threads.GuestThread.{GuestThread}
 use Rattle.task_records.specs.declared.works.HostWork.{HostWork}
 use Rattle.task_table.specs.Answers.{item_at}
 use Rattle.task_table.specs.Mapped.{mapped}
-use Rattle.task_table.specs.Records.{found_record, key_in, number_in, number_of}
+use Rattle.task_table.specs.Records.{found_record}
 use Rattle.task_table.specs.Table.{Table}
-use Rattle.task_table.specs.declared.error.ResourceTableError.{ResourceTableError}
 use Rattle.task_table.specs.declared.id.TableId.{TableId}
 use Rattle.task_wait.specs.declared.keys.GuestTaskKey.{GuestTaskKey}
 use Rattle.task_wait.specs.declared.keys.HostTaskKey.{HostTaskKey}
@@ -35,18 +30,6 @@ use Rattle.place_words.proofs.FiledLemmas.{kept_under}
 use Rattle.queue_words.proofs.CallerLemmas.{none_as}
 
 module _ {T X : Type 0} (number : T → ℕ) (rec : T → X) (t : Table (Single T)) (made : ℕ) (sound : SoundTable (λ e. Some (number e.item, rec e.item)) t made) (rep serial : ℕ) where
-  -- the number that an id names stands at its place
-  pub id_stands : StandsAt (λ e. Some (number e.item, rec e.item)) t rep (number_of (λ e. Some (number e.item, rec e.item)) t rep serial)
-  id_stands = by (item_at item_of t rep serial) refl
-    where
-      by : (o : Result T ResourceTableError) → item_at item_of t rep serial ≡ o → StandsAt (λ e. Some (number e.item, rec e.item)) t rep (number_of (λ e. Some (number e.item, rec e.item)) t rep serial)
-      by (Ok g) is some =
-          let one = item_stands number rec t made sound rep serial g (sym is) in
-          ap (λ o. number_in (key_in (λ e. Some (number e.item, rec e.item)) o)) one.1.0 ∙ (ap (λ (e : Single T). number e.item) one.1.1.1 ∙ sym (item_number number rec t rep serial g (sym is)))
-      by (Err e) is some = absurd (
-          let gone : found_record (λ e. Some (number e.item, rec e.item)) (number_of (λ e. Some (number e.item, rec e.item)) t rep serial) t.places ≡ None = ap (λ n. found_record (λ e. Some (number e.item, rec e.item)) n t.places) (refused_number number rec t rep serial e (sym is)) ∙ sound.above_zero in
-          let none : IsSome {T = X} None = subst IsSome gone some in cc)
-
   -- what a record that is there keeps under its number, and nothing where an id names none
   module _ {Y : Type 0} (other : T → Y) where
     pub nothing_under : (n : ℕ) → n ≡ 0 → found_record (λ e. Some (number e.item, other e.item)) n t.places ≡ None
@@ -55,20 +38,16 @@ module _ {T X : Type 0} (number : T → ℕ) (rec : T → X) (t : Table (Single 
 module _ (a : CoreParts) where
   module _ (sound : IsSound a) where
     pub thread_stands : (id : TableId ThreadKey) (n r : ℕ) → n ≡ thread_of (seen a) id → r ≡ id.rep → AtPlace (parts_of a) r (ThreadOf n)
-    unfolding IsSound
-    thread_stands id n r is at = subst (λ k. AtPlace (parts_of a) k (ThreadOf n)) (sym at) (subst (λ m. AtPlace (parts_of a) id.rep (ThreadOf m)) (sym (is ∙ thread_shown a id)) (id_stands (λ (g : GuestThread). g.number) (λ (g : GuestThread). g.thread) a.threads a.made.threads sound.tables.threads id.rep id.serial))
+    thread_stands id n r is at = subst (λ m. AtPlace (parts_of a) m (ThreadOf n)) (sym at) (subst (λ m. AtPlace (parts_of a) id.rep (ThreadOf m)) (sym is) (thread_at_place a sound id))
 
     pub call_stands : (id : TableId GuestTaskKey) (n r : ℕ) → n ≡ call_of (seen a) id → r ≡ id.rep → AtPlace (parts_of a) r (CallOf n)
-    unfolding IsSound
-    call_stands id n r is at = subst (λ k. AtPlace (parts_of a) k (CallOf n)) (sym at) (subst (λ m. AtPlace (parts_of a) id.rep (CallOf m)) (sym (is ∙ call_shown a id)) (id_stands (λ (g : GuestTask). g.number) (λ (g : GuestTask). g.call) a.calls a.made.threads sound.tables.calls id.rep id.serial))
+    call_stands id n r is at = subst (λ m. AtPlace (parts_of a) m (CallOf n)) (sym at) (subst (λ m. AtPlace (parts_of a) id.rep (CallOf m)) (sym is) (call_at_place a sound id))
 
     pub work_stands : (id : TableId HostTaskKey) (n r : ℕ) → n ≡ work_of (seen a) id → r ≡ id.rep → AtPlace (parts_of a) r (WorkOf n)
-    unfolding IsSound
-    work_stands id n r is at = subst (λ k. AtPlace (parts_of a) k (WorkOf n)) (sym at) (subst (λ m. AtPlace (parts_of a) id.rep (WorkOf m)) (sym (is ∙ work_shown a id)) (id_stands (λ (w : HostWork). w.number) (λ (w : HostWork). w.work) a.works a.made.works sound.tables.works id.rep id.serial))
+    work_stands id n r is at = subst (λ m. AtPlace (parts_of a) m (WorkOf n)) (sym at) (subst (λ m. AtPlace (parts_of a) id.rep (WorkOf m)) (sym is) (work_at_place a sound id))
 
     pub set_stands : (id : TableId SetKey) (n r : ℕ) → n ≡ set_of (seen a) id → r ≡ id.rep → AtPlace (parts_of a) r (SetOf n)
-    unfolding IsSound
-    set_stands id n r is at = subst (λ k. AtPlace (parts_of a) k (SetOf n)) (sym at) (subst (λ m. AtPlace (parts_of a) id.rep (SetOf m)) (sym (is ∙ set_shown a id)) (id_stands (λ (x : WaitSet). x.number) (λ (x : WaitSet). x.set) a.sets a.made.sets sound.tables.sets id.rep id.serial))
+    set_stands id n r is at = subst (λ m. AtPlace (parts_of a) m (SetOf n)) (sym at) (subst (λ m. AtPlace (parts_of a) id.rep (SetOf m)) (sym is) (set_at_place a sound id))
 
   -- ---- Chains
 
