@@ -4,8 +4,13 @@
 //! for is the first of a chain.
 #![tactic(auto)]
 
+mod entries;
+mod moves;
 mod places;
 mod sets;
+mod steps;
+mod targets;
 
-pub use places::{delivered_set, place, why};
-pub use sets::first_waiter;
+pub use places::{delivered_set, hold, place, set_mark, set_place, why};
+pub use sets::{first_ready, first_waiter, has_ready_member};
+pub use steps::{advance, assign, move_to, set_how_far};

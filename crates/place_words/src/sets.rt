@@ -23,3 +23,34 @@ pub fn first_waiter(parts: &CoreParts, set: SetId) -> Option<ThreadId>
         None => unreachable!(),
     }
 }
+
+/// The first ready member of a set, in the order of the set's chains: calls, then host works.
+pub fn first_ready(parts: &CoreParts, set: SetId) -> Option<SubtaskId>
+    requires sound { IsSound parts.now }
+    requires live { 0 < set_of (seen parts.now) set }
+    ensures none { IfNone result (has_ready_member (set_of (seen parts.now) set) (seen parts.now).core ≡ false) }
+    ensures some { IfSome result (λ member. is_ready_member (set_of (seen parts.now) set) (subtask_in (seen parts.now).tags member) (seen parts.now).core ≡ true) }
+{
+    match task_records::set(parts, set) {
+        Some(found) => match task_index::first(&parts.ready_calls, found.ready_calls) {
+            Some((_, place)) => Some(SubtaskId::Guest(call_at(parts, place))),
+            None => match task_index::first(&parts.ready_works, found.ready_works) {
+                Some((_, place)) => Some(SubtaskId::Host(work_at(parts, place))),
+                None => None,
+            },
+        },
+        None => unreachable!(),
+    }
+}
+
+/// Whether a set has a member that has an event.
+pub fn has_ready_member(parts: &CoreParts, set: SetId) -> bool
+    requires sound { IsSound parts.now }
+    requires live { 0 < set_of (seen parts.now) set }
+    ensures { result ≡ has_ready_member (set_of (seen parts.now) set) (seen parts.now).core }
+{
+    match first_ready(parts, set) {
+        Some(_) => true,
+        None => false,
+    }
+}
