@@ -1,0 +1,12 @@
+pub mod FiledLemmas
+pub mod WaiterLemmas
+pub mod AlikeLemmas
+pub mod MovedLemmas
+pub mod EntryLemmas
+pub mod PutLemmas
+pub mod PlacedLemmas
+pub mod FitLemmas
+pub mod TargetLemmas
+pub mod ThreadLemmas
+pub mod StepLemmas
+pub mod ReadyLemmas
