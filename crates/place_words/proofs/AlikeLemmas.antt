@@ -71,6 +71,9 @@ module _ {T : Type 0} (f : T → T) (new old : Table (Single T)) (alike : Alike 
       unfolding mapped
       found_through n t = found_mapped key key (on_item f) loose seen n t.places
 
+      pub found_loose : (n : ℕ) → option_map loose (found_record key n new.places) ≡ option_map loose (found_record key n old.places)
+      found_loose n = sym (found_through n new) ∙ (ap (λ (t : Table (Single T)). found_record key n t.places) alike ∙ found_through n old)
+
       pub stands_alike : (r n : ℕ) → StandsAt key old r n → StandsAt key new r n
       stands_alike r n at some = number_alike r ∙ at (less_some (found_record key n old.places) (subst IsSome (sym (found_through n new) ∙ (ap (λ (t : Table (Single T)). found_record key n t.places) alike ∙ found_through n old)) (more_some (found_record key n new.places) some)))
 

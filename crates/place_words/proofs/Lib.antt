@@ -10,3 +10,4 @@ pub mod TargetLemmas
 pub mod ThreadLemmas
 pub mod StepLemmas
 pub mod ReadyLemmas
+pub mod CallMovedLemmas
