@@ -1,5 +1,5 @@
 -- A call is written that has another event: what else holds of the parts stays.
-use Rattle.std.proofs.Common.{◌≡◌, ◌+◌, ◌*◌, ◌<◌, ◌==◌, ℕ, Bool, List, Option, Some, None, IsSome, IfSome, count_by, length, refl, sym, ap, ap₂, subst, ◌∙◌}
+use Rattle.std.proofs.Common.{◌≡◌, ◌+◌, ◌*◌, ◌==◌, ℕ, Bool, List, Option, Some, None, IsSome, count_by, length, refl, sym, ap, subst, ◌∙◌}
 use Rattle.std.proofs.lemmas.Option.{same_Some}
 use Rattle.std.specs.BTreeMap.{is_at}
 use Rattle.std.specs.Map.{lookup}
@@ -16,12 +16,12 @@ use Rattle.task_machine.specs.declared.records.Goal.TheVariants as goal
 use Rattle.task_machine.specs.declared.records.Subtask.TheVariants as subtask
 use Rattle.task_records.proofs.KeptLemmas.{passing_seconds, records_seconds, seconds, size_seconds}
 use Rattle.task_records.specs.Image.{Parts, core_of}
-use Rattle.task_records.specs.Kept.{IsCallKept, IsGroupKept, IsSetKept, calls_of, is_of_group, members_of}
+use Rattle.task_records.specs.Kept.{IsCallKept, IsGroupKept, IsSetKept, is_of_group}
 use Rattle.task_records.specs.Keys.{call_key}
 use Rattle.task_records.specs.Kinds.{on_item}
 use Rattle.task_records.specs.Names.{AtPlace, CallOf, HasHome, IsCallNamed, IsWorkNamed, Nothing, SetOf, Target, ThreadOf, WorkOf}
 use Rattle.task_records.specs.Places.{BlockedOn, HeldIn, UnderOf, WaitsOn, Where, place_chain, ready_call, ready_call_chain}
-use Rattle.task_records.specs.Sound.{AreChained, AreCounted, AreNamed, EachEntry, HaveRowNodes, IsWhole}
+use Rattle.task_records.specs.Sound.{AreChained, AreCounted, EachEntry, IsWhole}
 use Rattle.task_records.specs.declared.calls.GuestTask.{GuestTask}
 use Rattle.task_records.specs.declared.calls.TaskGroup.{TaskGroup}
 use Rattle.task_records.specs.declared.sets.WaitSet.{WaitSet}

@@ -11,3 +11,4 @@ pub mod ThreadLemmas
 pub mod StepLemmas
 pub mod ReadyLemmas
 pub mod CallMovedLemmas
+pub mod WorkMovedLemmas

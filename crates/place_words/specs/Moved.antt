@@ -9,12 +9,14 @@ use Rattle.task_machine.specs.declared.records.Place.{Place}
 use Rattle.task_machine.specs.declared.records.Place.TheVariants as place
 use Rattle.task_machine.specs.declared.records.Thread.{Thread}
 use Rattle.task_machine.specs.declared.records.Why.{Why}
+use Rattle.task_machine.specs.declared.records.Work.{Work}
 use Rattle.task_machine.specs.declared.records.Why.TheVariants as why
 use Rattle.task_records.specs.Kinds.{entry_of, item_of, on_item}
 use Rattle.task_records.specs.declared.calls.GuestTask.{GuestTask}
 use Rattle.task_records.specs.declared.sets.WaitSet.{WaitSet}
 use Rattle.task_records.specs.declared.single.Single.{Single}
 use Rattle.task_records.specs.declared.threads.GuestThread.{GuestThread}
+use Rattle.task_records.specs.declared.works.HostWork.{HostWork}
 use Rattle.task_table.specs.Answers.{item_at}
 use Rattle.task_table.specs.Changes.{with_entry}
 use Rattle.task_table.specs.Mapped.{mapped}
@@ -72,3 +74,10 @@ quiet_call c = record c { event = None }
 
 abbrev pub still_call : GuestTask → GuestTask
 still_call g = record g { call = quiet_call g.call }
+
+-- a host work without its event
+abbrev pub quiet_work : Work → Work
+quiet_work w = record w { event = None }
+
+abbrev pub still_work : HostWork → HostWork
+still_work w = record w { work = quiet_work w.work }
