@@ -12,3 +12,4 @@ pub mod StepLemmas
 pub mod ReadyLemmas
 pub mod CallMovedLemmas
 pub mod WorkMovedLemmas
+pub mod TellLemmas
