@@ -13,3 +13,6 @@ pub mod ReadyLemmas
 pub mod CallMovedLemmas
 pub mod WorkMovedLemmas
 pub mod TellLemmas
+pub mod HearLemmas
+pub mod ChainLemmas
+pub mod GoneLemmas

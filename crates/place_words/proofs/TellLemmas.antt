@@ -1,6 +1,6 @@
 -- A call with another event, as the word writes it.
-use Rattle.std.proofs.Common.{◌≡◌, ℕ, List, map, Option, Some, None, IsSome, IfSome, true, refl, sym, ap, ap₂, subst, ◌∙◌}
-use Rattle.std.specs.Option.{option_and_then, option_map}
+use Rattle.std.proofs.Common.{◌≡◌, ℕ, List, Option, Some, None, IsSome, IfSome, true, refl, sym, ap, subst, ◌∙◌}
+use Rattle.std.specs.Option.{option_and_then}
 use Rattle.std.specs.Prelude.{Ok}
 use Rattle.task_handles.specs.declared.kinds.HandleKind.{HandleKind}
 use Rattle.task_handles.specs.declared.kinds.HandleKind.TheVariants as handles
@@ -8,7 +8,7 @@ use Rattle.task_handles.specs.declared.kinds.Rep.{Rep}
 use Rattle.task_handles.specs.declared.kinds.WaitableKind.TheVariants as waitable
 use Rattle.task_index.proofs.Entries.{IsIndex-with_entry}
 use Rattle.task_index.proofs.Tables.{filings_at}
-use Rattle.task_index.specs.Index.{Filing, IsIndex, Refiles, filings, link_for}
+use Rattle.task_index.specs.Index.{IsIndex, Refiles, filings, link_for}
 use Rattle.task_links.specs.Links.{Spot, is_made, list_of}
 use Rattle.task_machine.specs.Maps.{Records, change}
 use Rattle.task_machine.specs.Write.{on_call}

@@ -48,6 +48,28 @@ fn chains_for(
     }
 }
 
+fn call_chain(parts: &CoreParts, place: u32, event: Option<Status>, join: Join) -> Option<usize>
+    requires sound { IsSound parts.now }
+    requires at { AtPlace (parts_of parts.now) place (join_target join) }
+    ensures { option_and_then (ready_call_chain (bare (parts_of parts.now))) (ready_in event join) ≡ result }
+{
+    match chains_for(parts, place, event, join) {
+        Some((calls, _)) => Some(calls),
+        None => None,
+    }
+}
+
+fn work_chain(parts: &CoreParts, place: u32, event: Option<Status>, join: Join) -> Option<usize>
+    requires sound { IsSound parts.now }
+    requires at { AtPlace (parts_of parts.now) place (join_target join) }
+    ensures { option_and_then (ready_work_chain (bare (parts_of parts.now))) (ready_in event join) ≡ result }
+{
+    match chains_for(parts, place, event, join) {
+        Some((_, works)) => Some(works),
+        None => None,
+    }
+}
+
 fn set_call_event(parts: &mut CoreParts, call: CallId, event: Option<Status>)
     requires { IsSound parts.old }
     ensures sound { IsSound parts.new }
@@ -55,10 +77,7 @@ fn set_call_event(parts: &mut CoreParts, call: CallId, event: Option<Status>)
 {
     if let Some(found) = task_records::call(parts, call) {
         let old = *found;
-        let chain = match chains_for(parts, old.joined, event, old.call.join) {
-            Some((calls, _)) => Some(calls),
-            None => None,
-        };
+        let chain = call_chain(parts, old.joined, event, old.call.join);
         let mut new = old;
         new.call.event = event;
         refile(&mut parts.ready_calls, old.ready, chain, call.rep());
@@ -78,10 +97,7 @@ fn set_work_event(parts: &mut CoreParts, work: WorkId, event: Option<Status>)
 {
     if let Some(found) = task_records::work(parts, work) {
         let old = *found;
-        let chain = match chains_for(parts, old.joined, event, old.work.join) {
-            Some((_, works)) => Some(works),
-            None => None,
-        };
+        let chain = work_chain(parts, old.joined, event, old.work.join);
         let mut new = old;
         new.work.event = event;
         refile(&mut parts.ready_works, old.ready, chain, work.rep());
