@@ -1,1 +1,3 @@
 pub mod RoomLemmas
+pub mod TrapLemmas
+pub mod ResultLemmas

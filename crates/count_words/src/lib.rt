@@ -4,13 +4,15 @@
 
 mod limits;
 mod members;
+mod results;
 mod works;
 
 pub use limits::{
-    at_handle_limit, count_work, current, fits, has_interesting, made, set_current,
+    at_handle_limit, count_work, current, fits, has_interesting, made, set_current, set_trapped,
     set_uninteresting, trapped,
 };
 pub use members::{
     has_thread, has_waiters, is_deletable, is_last_thread, set_instance, set_number,
 };
+pub use results::result;
 pub use works::{has_live_work, has_moving_work, set_course, set_phase};

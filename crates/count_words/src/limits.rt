@@ -1,6 +1,6 @@
 ghost use Rattle.std.specs.Prelude.{◌≡◌, ◌+◌, ◌<◌, ◌^◌};
 ghost use Rattle.task_machine.specs.Read.{at_handle_limit, fits};
-ghost use Rattle.task_machine.specs.Write.{count_work, set_uninteresting};
+ghost use Rattle.task_machine.specs.Write.{count_work, set_trapped, set_uninteresting};
 ghost use Rattle.task_records.specs.Seen.{IsSound, seen};
 ghost use Rattle.task_rules.specs.MainOps.{has_interesting};
 ghost use Rattle.task_words.specs.StateView.{call_of, on_core, with_current};
@@ -85,4 +85,16 @@ pub fn count_work(parts: &mut CoreParts)
     ensures new { seen parts.new ≡ on_core count_work (seen parts.old) }
 {
     parts.made.works += 1;
+}
+
+/// The store is trapped, and all groups are finished.
+pub fn set_trapped(parts: &mut CoreParts)
+    requires { IsSound parts.old }
+    ensures sound { IsSound parts.new }
+    ensures new { seen parts.new ≡ on_core set_trapped (seen parts.old) }
+{
+    parts.trapped = true;
+    parts.finished = parts.made.groups;
+    parts.kept.used -= parts.kept.groups;
+    parts.kept.groups = 0;
 }

@@ -13,7 +13,7 @@ use Rattle.task_records.specs.declared.parts.CoreParts.{CoreParts}
 use Rattle.task_records.specs.declared.threads.Queued.{Queued}
 
 -- what was made is made
-keeps_made : {P : Type 0} (old new : List (Spot P)) (n : ℕ) (is : Spot P) → Renames old new n Unmade is → KeepsNodes old new
+pub keeps_made : {P : Type 0} (old new : List (Spot P)) (n : ℕ) (is : Spot P) → Renames old new n Unmade is → KeepsNodes old new
 keeps_made old new n is names m made = by_number (cases_eq m n)
   where
     by_number : (m ≡ n) ⊎ (m ≡ n → ⊥) → is_made new m ≡ true

@@ -2,9 +2,11 @@
 //! memory for them.
 #![tactic(auto)]
 
+mod callers;
 mod indexes;
 mod rows;
 
+pub use callers::{make_caller_chain, make_caller_node};
 pub use indexes::{
     make_live_chain, make_live_node, make_place_chain, make_place_node, make_ready_call_chain,
     make_ready_call_node, make_ready_work_chain, make_ready_work_node,

@@ -1,5 +1,5 @@
 -- A node or a chain is made in an index: nothing else hangs on it.
-use Rattle.std.proofs.Common.{◌≡◌, ℕ, List, None, refl}
+use Rattle.std.proofs.Common.{◌≡◌, ℕ, List, None}
 use Rattle.task_index.proofs.Indexes.{IsIndex-made}
 use Rattle.task_index.specs.Index.{IsIndex, filings}
 use Rattle.task_links.specs.Links.{Renames, Spot, Unmade, spot_link}
@@ -7,7 +7,7 @@ use Rattle.task_machine.specs.Read.{table_use}
 use Rattle.task_records.specs.Image.{Parts}
 use Rattle.task_records.specs.Names.{HasHome, IsCallNamed, IsWorkNamed}
 use Rattle.task_records.specs.Places.{live_chain, live_work, place_chain, place_filing, ready_call, ready_call_chain, ready_work, ready_work_chain}
-use Rattle.task_records.specs.Seen.{IsSound, parts_of, seen}
+use Rattle.task_records.specs.Seen.{IsSound, parts_of}
 use Rattle.task_records.specs.Sound.{IsWhole, bare}
 use Rattle.task_records.specs.declared.calls.GuestTask.{GuestTask}
 use Rattle.task_records.specs.declared.parts.CoreParts.{CoreParts}

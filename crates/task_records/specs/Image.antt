@@ -4,7 +4,7 @@ use Rattle.task_handles.specs.Counter.{Counter}
 use Rattle.task_index.specs.Rows.{values}
 use Rattle.task_links.specs.Links.{Spot}
 use Rattle.task_machine.specs.Core.{Core}
-use Rattle.task_machine.specs.Maps.{from_entries, numbers}
+use Rattle.task_machine.specs.Maps.{Records, empty, insert, numbers, remove}
 use Rattle.task_machine.specs.declared.records.Made.{Made}
 use Rattle.task_records.specs.Instances.{by_place, handle_table, named_of, thread_of}
 use Rattle.task_records.specs.Keys.{call_key, group_key, set_key, thread_key, work_key}
@@ -61,11 +61,11 @@ chained links (Some c) = values links c
 abbrev pub callers_in : List (Spot Follower) → Single GuestThread → Option (ℕ × List ℕ)
 callers_in behind g = Some (g.item.number, map (λ f. f.number) (values behind g.item.callers))
 
--- the results that were given
-abbrev pub given_results : List (ℕ × Option ℕ) → List (ℕ × ℕ)
-given_results [] = []
-given_results ((k, None) ∷ rs) = given_results rs
-given_results ((k, Some v) ∷ rs) = (k, v) ∷ given_results rs
+-- the results that were given, of those that there is room for
+abbrev pub given_results : List (ℕ × Option ℕ) → Records ℕ
+given_results [] = empty
+given_results ((k, None) ∷ rs) = remove (given_results rs) k
+given_results ((k, Some v) ∷ rs) = insert (given_results rs) k v
 
 abbrev pub core_of : Parts → Core
 core_of p = record {
@@ -78,7 +78,7 @@ core_of p = record {
   handles = by_place (map (λ i. handle_table named_of i.handles) p.instances);
   thread_handles = by_place (map (λ i. handle_table thread_of i.thread_handles) p.instances);
   queues = record { switch = option_map (λ f. f.number) p.switch; high = map (λ q. q.entry) (chained p.marks p.high); low = map (λ q. q.entry) (chained p.marks p.low) };
-  results = from_entries (given_results p.results);
+  results = given_results p.results;
   groups = filter (nat_lt p.finished) (numbers (records group_key p.groups.places));
   trapped = p.trapped;
   handle_limit = p.counter.limit;
