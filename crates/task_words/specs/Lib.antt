@@ -1,0 +1,4 @@
+pub mod StateView
+pub mod Names
+pub mod Live
+pub mod Apart
