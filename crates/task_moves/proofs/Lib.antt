@@ -1,2 +1,3 @@
 pub mod MoveLemmas
 pub mod FootLemmas
+pub mod StopLemmas
