@@ -7,22 +7,17 @@ use Rattle.task_wait.specs.declared.keys.SetKey.{SetKey}
 use Rattle.task_wait.specs.declared.keys.ThreadKey.{ThreadKey}
 use Rattle.task_machine.specs.Core.{Core}
 
--- What stands at a place of the table: its serial, and its number under the kind that it is of, 0 under the others.
+-- What stands at a place of a table: its serial and its number.
 pub record Tag : Type 0 where
   pub serial : ℕ
-  pub thread : ℕ
-  pub call : ℕ
-  pub set : ℕ
+  pub number : ℕ
 
--- What stands at a place of the host works, spawns among them: its serial and its number.
-pub record WorkTag : Type 0 where
-  pub serial : ℕ
-  pub work : ℕ
-
--- What each id names: what stands at each place of the table, and at each place of the host works.
+-- What each id names: what stands at each place of the tables of threads, of calls, of sets and of host works, spawns among them.
 pub record Tags : Type 0 where
-  pub entries : List (Option Tag)
-  pub works : List (Option WorkTag)
+  pub threads : List (Option Tag)
+  pub calls : List (Option Tag)
+  pub sets : List (Option Tag)
+  pub works : List (Option Tag)
 
 pub record StateView : Type 0 where
   pub core : Core
@@ -30,28 +25,23 @@ pub record StateView : Type 0 where
   pub current : Option (TableId ThreadKey)
 
 -- the number of what stands at a place, 0 where the serial is another one
-abbrev pub named : (Tag → ℕ) → ℕ → Option (Option Tag) → ℕ
-named number serial None = 0
-named number serial (Some None) = 0
-named number serial (Some (Some tag)) = if tag.serial == serial then number tag else 0
+abbrev pub named : ℕ → Option (Option Tag) → ℕ
+named serial None = 0
+named serial (Some None) = 0
+named serial (Some (Some tag)) = if tag.serial == serial then tag.number else 0
 
-abbrev pub named_work : ℕ → Option (Option WorkTag) → ℕ
-named_work serial None = 0
-named_work serial (Some None) = 0
-named_work serial (Some (Some tag)) = if tag.serial == serial then tag.work else 0
-
--- the number of what the id names, 0 where it names none of its kind
+-- the number of what the id names, 0 where it names nothing
 unfoldable pub thread_number : Tags → TableId ThreadKey → ℕ
-thread_number tags id = named (λ tag. tag.thread) id.serial (slice_get tags.entries id.rep)
+thread_number tags id = named id.serial (slice_get tags.threads id.rep)
 
 unfoldable pub call_number : Tags → TableId GuestTaskKey → ℕ
-call_number tags id = named (λ tag. tag.call) id.serial (slice_get tags.entries id.rep)
+call_number tags id = named id.serial (slice_get tags.calls id.rep)
 
 unfoldable pub set_number : Tags → TableId SetKey → ℕ
-set_number tags id = named (λ tag. tag.set) id.serial (slice_get tags.entries id.rep)
+set_number tags id = named id.serial (slice_get tags.sets id.rep)
 
 unfoldable pub work_number : Tags → TableId HostTaskKey → ℕ
-work_number tags id = named_work id.serial (slice_get tags.works id.rep)
+work_number tags id = named id.serial (slice_get tags.works id.rep)
 
 abbrev pub thread_of : StateView → TableId ThreadKey → ℕ
 thread_of s id = thread_number s.tags id

@@ -1,0 +1,5 @@
+pub mod KindLemmas
+pub mod ReadLemmas
+pub mod TableLemmas
+pub mod WriteLemmas
+pub mod OpeningLemmas

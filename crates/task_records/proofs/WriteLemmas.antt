@@ -1,0 +1,166 @@
+-- A write of fields on which nothing hangs is the machine's change of the record.
+use Rattle.std.proofs.Common.{◌≡◌, ℕ, List, Option, Some, map, refl, sym, ap, subst, ◌∙◌}
+use Rattle.std.specs.Prelude.{Ok, Err}
+use Rattle.task_machine.specs.Maps.{Records, change}
+use Rattle.task_machine.specs.Write.{on_call, on_thread, on_work}
+use Rattle.task_machine.specs.declared.records.Call.{Call}
+use Rattle.task_machine.specs.declared.records.Thread.{Thread}
+use Rattle.task_machine.specs.declared.records.Work.{Work}
+use Rattle.task_records.proofs.KindLemmas.{item_stands, records_changed, refused_write, table_written, tags_written}
+use Rattle.task_records.proofs.ReadLemmas.{call_shown, thread_shown, work_shown}
+use Rattle.task_records.proofs.TableLemmas.{records_unseen}
+use Rattle.task_records.specs.Image.{callers_in, tag_of}
+use Rattle.task_records.specs.Keys.{call_key, thread_key, work_key}
+use Rattle.task_records.specs.Kinds.{entry_of, item_of, on_item}
+use Rattle.task_records.specs.Seen.{IsSound, parts, seen}
+use Rattle.task_records.specs.Sound.{IsWhole, bare, bare_call, bare_thread, bare_work}
+use Rattle.task_records.specs.declared.calls.GuestTask.{GuestTask}
+use Rattle.task_records.specs.declared.parts.CoreParts.{CoreParts}
+use Rattle.task_records.specs.declared.single.Single.{Single}
+use Rattle.task_records.specs.declared.threads.GuestThread.{GuestThread}
+use Rattle.task_records.specs.declared.works.HostWork.{HostWork}
+use Rattle.task_table.proofs.MappedLemmas.{mapped-with_entry_same}
+use Rattle.task_table.specs.Answers.{item_at}
+use Rattle.task_table.specs.Changes.{with_entry}
+use Rattle.task_table.specs.Mapped.{mapped}
+use Rattle.task_table.specs.Records.{records}
+use Rattle.task_table.specs.Table.{Placed, Table, place_at}
+use Rattle.task_table.specs.declared.error.ResourceTableError.{ResourceTableError}
+use Rattle.task_table.specs.declared.id.TableId.{TableId}
+use Rattle.task_wait.specs.declared.keys.GuestTaskKey.{GuestTaskKey}
+use Rattle.task_wait.specs.declared.keys.HostTaskKey.{HostTaskKey}
+use Rattle.task_wait.specs.declared.keys.ThreadKey.{ThreadKey}
+use Rattle.task_words.specs.StateView.{StateView, Tag, call_of, on_core, thread_of, work_of}
+
+-- ---- Threads
+
+module _ (a : CoreParts) (sound : IsSound a) (id : TableId ThreadKey) where
+  -- under an id that is refused nothing changes
+  pub thread_nowhere : (why : ResourceTableError) → Err why ≡ item_at item_of a.threads id.rep id.serial → (f : Thread → Thread) → seen a ≡ on_core (on_thread (thread_of (seen a) id) f) (seen a)
+  unfolding seen IsSound on_thread
+  thread_nowhere why is f =
+      ap (λ (m : Records Thread). record (seen a) { core = record (seen a).core { threads = m } })
+      (sym (refused_write (λ (g : GuestThread). g.number) (λ (g : GuestThread). g.thread) a.threads a.made.threads sound.tables.threads id.rep id.serial why is f)
+      ∙ ap (λ n. change n f (records thread_key a.threads.places)) (sym (thread_shown a id)))
+
+  module _ (g : GuestThread) (is : Ok g ≡ item_at item_of a.threads id.rep id.serial) (h : GuestThread) (loose : bare_thread h ≡ bare_thread g) where
+    abbrev pub thread_after : CoreParts
+    thread_after = record a { threads = with_entry id.rep (entry_of h) a.threads }
+
+    thread_same : h.number ≡ g.number
+    thread_same = ap (λ (x : GuestThread). x.number) loose
+
+    thread_stands : (p : Placed (Single GuestThread)) × ((place_at a.threads id.rep ≡ Some p) × ((p.serial ≡ id.serial) × (p.entry ≡ entry_of g)))
+    unfolding IsSound
+    thread_stands = item_stands (λ (g : GuestThread). g.number) (λ (g : GuestThread). g.thread) a.threads a.made.threads sound.tables.threads id.rep id.serial g is
+
+    thread_bare : mapped (on_item bare_thread) (with_entry id.rep (entry_of h) a.threads) ≡ mapped (on_item bare_thread) a.threads
+    thread_bare = mapped-with_entry_same (on_item bare_thread) a.threads id.rep (entry_of h) thread_stands.0 thread_stands.1.0 (ap entry_of loose ∙ ap (on_item bare_thread) (sym thread_stands.1.1.1))
+
+    pub thread_sound : IsSound thread_after
+    unfolding IsSound
+    thread_sound = record {
+      tables = record { threads = table_written (λ (g : GuestThread). g.number) (λ (g : GuestThread). g.thread) a.threads a.made.threads sound.tables.threads id.rep id.serial g is h thread_same; calls = sound.tables.calls; works = sound.tables.works; sets = sound.tables.sets; groups = sound.tables.groups };
+      whole = subst (λ (t : Table (Single GuestThread)). IsWhole (record (bare (parts a)) { threads = t })) (sym thread_bare) sound.whole;
+    }
+
+    callers_same : records (callers_in a.behind) (with_entry id.rep (entry_of h) a.threads).places ≡ records (callers_in a.behind) a.threads.places
+    callers_same = records_unseen (callers_in a.behind) a.threads id.rep thread_stands.0 thread_stands.1.0 (entry_of h) (ap (λ (x : GuestThread). callers_in a.behind (entry_of x)) loose ∙ ap (callers_in a.behind) (sym thread_stands.1.1.1))
+
+    threads_seen : Records Thread → Records (List ℕ) → List (Option Tag) → StateView
+    threads_seen m k l = record (seen a) { core = record (seen a).core { threads = m; callers = k }; tags = record (seen a).tags { threads = l } }
+
+    pub thread_writes : (f : Thread → Thread) → f g.thread ≡ h.thread → seen thread_after ≡ on_core (on_thread (thread_of (seen a) id) f) (seen a)
+    unfolding seen IsSound on_thread threads_seen
+    thread_writes f is_f =
+        ap (λ (m : Records Thread). threads_seen m (records (callers_in a.behind) (with_entry id.rep (entry_of h) a.threads).places) (map (tag_of thread_key) (with_entry id.rep (entry_of h) a.threads).places))
+        (records_changed (λ (g : GuestThread). g.number) (λ (g : GuestThread). g.thread) a.threads a.made.threads sound.tables.threads id.rep id.serial g is h thread_same f is_f ∙ ap (λ n. change n f (records thread_key a.threads.places)) (sym (thread_shown a id)))
+        ∙ (ap (λ (k : Records (List ℕ)). threads_seen (change (thread_of (seen a) id) f (records thread_key a.threads.places)) k (map (tag_of thread_key) (with_entry id.rep (entry_of h) a.threads).places)) callers_same
+        ∙ ap (λ (l : List (Option Tag)). threads_seen (change (thread_of (seen a) id) f (records thread_key a.threads.places)) (records (callers_in a.behind) a.threads.places) l)
+        (tags_written (λ (g : GuestThread). g.number) (λ (g : GuestThread). g.thread) a.threads a.made.threads sound.tables.threads id.rep id.serial g is h thread_same))
+
+-- ---- Calls
+
+module _ (a : CoreParts) (sound : IsSound a) (id : TableId GuestTaskKey) where
+  -- under an id that is refused nothing changes
+  pub call_nowhere : (why : ResourceTableError) → Err why ≡ item_at item_of a.calls id.rep id.serial → (f : Call → Call) → seen a ≡ on_core (on_call (call_of (seen a) id) f) (seen a)
+  unfolding seen IsSound on_call
+  call_nowhere why is f =
+      ap (λ (m : Records Call). record (seen a) { core = record (seen a).core { calls = m } })
+      (sym (refused_write (λ (g : GuestTask). g.number) (λ (g : GuestTask). g.call) a.calls a.made.threads sound.tables.calls id.rep id.serial why is f)
+      ∙ ap (λ n. change n f (records call_key a.calls.places)) (sym (call_shown a id)))
+
+  module _ (g : GuestTask) (is : Ok g ≡ item_at item_of a.calls id.rep id.serial) (h : GuestTask) (loose : bare_call h ≡ bare_call g) where
+    abbrev pub call_after : CoreParts
+    call_after = record a { calls = with_entry id.rep (entry_of h) a.calls }
+
+    call_same : h.number ≡ g.number
+    call_same = ap (λ (x : GuestTask). x.number) loose
+
+    call_stands : (p : Placed (Single GuestTask)) × ((place_at a.calls id.rep ≡ Some p) × ((p.serial ≡ id.serial) × (p.entry ≡ entry_of g)))
+    unfolding IsSound
+    call_stands = item_stands (λ (g : GuestTask). g.number) (λ (g : GuestTask). g.call) a.calls a.made.threads sound.tables.calls id.rep id.serial g is
+
+    call_bare : mapped (on_item bare_call) (with_entry id.rep (entry_of h) a.calls) ≡ mapped (on_item bare_call) a.calls
+    call_bare = mapped-with_entry_same (on_item bare_call) a.calls id.rep (entry_of h) call_stands.0 call_stands.1.0 (ap entry_of loose ∙ ap (on_item bare_call) (sym call_stands.1.1.1))
+
+    pub call_sound : IsSound call_after
+    unfolding IsSound
+    call_sound = record {
+      tables = record { threads = sound.tables.threads; calls = table_written (λ (g : GuestTask). g.number) (λ (g : GuestTask). g.call) a.calls a.made.threads sound.tables.calls id.rep id.serial g is h call_same; works = sound.tables.works; sets = sound.tables.sets; groups = sound.tables.groups };
+      whole = subst (λ (t : Table (Single GuestTask)). IsWhole (record (bare (parts a)) { calls = t })) (sym call_bare) sound.whole;
+    }
+
+    calls_seen : Records Call → List (Option Tag) → StateView
+    calls_seen m l = record (seen a) { core = record (seen a).core { calls = m }; tags = record (seen a).tags { calls = l } }
+
+    pub call_writes : (f : Call → Call) → f g.call ≡ h.call → seen call_after ≡ on_core (on_call (call_of (seen a) id) f) (seen a)
+    unfolding seen IsSound on_call calls_seen
+    call_writes f is_f =
+        ap (λ (m : Records Call). calls_seen m (map (tag_of call_key) (with_entry id.rep (entry_of h) a.calls).places))
+        (records_changed (λ (g : GuestTask). g.number) (λ (g : GuestTask). g.call) a.calls a.made.threads sound.tables.calls id.rep id.serial g is h call_same f is_f ∙ ap (λ n. change n f (records call_key a.calls.places)) (sym (call_shown a id)))
+        ∙ ap (λ (l : List (Option Tag)). calls_seen (change (call_of (seen a) id) f (records call_key a.calls.places)) l)
+        (tags_written (λ (g : GuestTask). g.number) (λ (g : GuestTask). g.call) a.calls a.made.threads sound.tables.calls id.rep id.serial g is h call_same)
+
+-- ---- Host works
+
+module _ (a : CoreParts) (sound : IsSound a) (id : TableId HostTaskKey) where
+  -- under an id that is refused nothing changes
+  pub work_nowhere : (why : ResourceTableError) → Err why ≡ item_at item_of a.works id.rep id.serial → (f : Work → Work) → seen a ≡ on_core (on_work (work_of (seen a) id) f) (seen a)
+  unfolding seen IsSound on_work
+  work_nowhere why is f =
+      ap (λ (m : Records Work). record (seen a) { core = record (seen a).core { works = m } })
+      (sym (refused_write (λ (g : HostWork). g.number) (λ (g : HostWork). g.work) a.works a.made.works sound.tables.works id.rep id.serial why is f)
+      ∙ ap (λ n. change n f (records work_key a.works.places)) (sym (work_shown a id)))
+
+  module _ (g : HostWork) (is : Ok g ≡ item_at item_of a.works id.rep id.serial) (h : HostWork) (loose : bare_work h ≡ bare_work g) where
+    abbrev pub work_after : CoreParts
+    work_after = record a { works = with_entry id.rep (entry_of h) a.works }
+
+    work_same : h.number ≡ g.number
+    work_same = ap (λ (x : HostWork). x.number) loose
+
+    work_stands : (p : Placed (Single HostWork)) × ((place_at a.works id.rep ≡ Some p) × ((p.serial ≡ id.serial) × (p.entry ≡ entry_of g)))
+    unfolding IsSound
+    work_stands = item_stands (λ (g : HostWork). g.number) (λ (g : HostWork). g.work) a.works a.made.works sound.tables.works id.rep id.serial g is
+
+    work_bare : mapped (on_item bare_work) (with_entry id.rep (entry_of h) a.works) ≡ mapped (on_item bare_work) a.works
+    work_bare = mapped-with_entry_same (on_item bare_work) a.works id.rep (entry_of h) work_stands.0 work_stands.1.0 (ap entry_of loose ∙ ap (on_item bare_work) (sym work_stands.1.1.1))
+
+    pub work_sound : IsSound work_after
+    unfolding IsSound
+    work_sound = record {
+      tables = record { threads = sound.tables.threads; calls = sound.tables.calls; works = table_written (λ (g : HostWork). g.number) (λ (g : HostWork). g.work) a.works a.made.works sound.tables.works id.rep id.serial g is h work_same; sets = sound.tables.sets; groups = sound.tables.groups };
+      whole = subst (λ (t : Table (Single HostWork)). IsWhole (record (bare (parts a)) { works = t })) (sym work_bare) sound.whole;
+    }
+
+    works_seen : Records Work → List (Option Tag) → StateView
+    works_seen m l = record (seen a) { core = record (seen a).core { works = m }; tags = record (seen a).tags { works = l } }
+
+    pub work_writes : (f : Work → Work) → f g.work ≡ h.work → seen work_after ≡ on_core (on_work (work_of (seen a) id) f) (seen a)
+    unfolding seen IsSound on_work works_seen
+    work_writes f is_f =
+        ap (λ (m : Records Work). works_seen m (map (tag_of work_key) (with_entry id.rep (entry_of h) a.works).places))
+        (records_changed (λ (g : HostWork). g.number) (λ (g : HostWork). g.work) a.works a.made.works sound.tables.works id.rep id.serial g is h work_same f is_f ∙ ap (λ n. change n f (records work_key a.works.places)) (sym (work_shown a id)))
+        ∙ ap (λ (l : List (Option Tag)). works_seen (change (work_of (seen a) id) f (records work_key a.works.places)) l)
+        (tags_written (λ (g : HostWork). g.number) (λ (g : HostWork). g.work) a.works a.made.works sound.tables.works id.rep id.serial g is h work_same)
