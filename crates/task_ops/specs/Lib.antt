@@ -1,0 +1,4 @@
+pub mod Came
+pub mod Steps
+pub mod Running
+pub mod Halting

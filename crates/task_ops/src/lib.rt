@@ -1,0 +1,21 @@
+//! The ops of guests over the words of a core: each is its row of the machine. It tests in the row's
+//! order, then makes the moves in the order of the row's new core.
+#![tactic(auto)]
+
+mod came;
+mod pressure;
+mod sets;
+mod threads;
+
+ghost use Rattle.task_ops.specs.Steps.{MeetingIsStep};
+
+pub use came::Came;
+pub use pressure::{lower, raise};
+pub use sets::set_new;
+pub use threads::{halt, resume_later};
+
+/// An op that meets its row is a step of the machine.
+#[tactic(auto, using(crate::proofs::MeetLemmas::meeting_is_step))]
+pub fn meeting_is_step()
+    ensures { MeetingIsStep }
+{}
