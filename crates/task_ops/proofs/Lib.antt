@@ -1,5 +1,5 @@
 pub mod MeetLemmas
 pub mod RunLemmas
+pub mod PositionLemmas
 pub mod PressureLemmas
 pub mod SetLemmas
-pub mod ThreadLemmas

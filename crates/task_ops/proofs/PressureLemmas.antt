@@ -19,6 +19,7 @@ use Rattle.task_machine.specs.declared.records.Why.{Why}
 use Rattle.task_machine.specs.declared.words.Mark.TheVariants as mark
 use Rattle.task_ops.specs.Came.{Meets}
 use Rattle.task_ops.specs.declared.came.Came.TheVariants as came
+use Rattle.task_ops.proofs.PositionLemmas.{position_pressure, position_released}
 use Rattle.task_ops.proofs.RunLemmas.{stands_on}
 use Rattle.task_rules.proofs.MoveLemmas.{all_of}
 use Rattle.task_rules.proofs.StandLemmas.{Stand}
@@ -28,30 +29,6 @@ use Rattle.task_rules.specs.Data.{advanced}
 use Rattle.task_rules.specs.Places.{Placed}
 use Rattle.task_rules.specs.Task.{dec_from, dec_lowers, dec_opens, dec_row, held_by_counter}
 use Rattle.task_words.specs.StateView.{StateView, on_core, thread_of}
-
-pub position_pressure : (n i c : ℕ) (s : Core) → position_of n (set_backpressure i c s) ≡ position_of n s
-unfolding set_backpressure on_instance
-position_pressure n i c s = refl
-
--- ---- A release
-
-pub position_kept : (b : Bool) (p : Place) (o : Option Thread) → option_map_or (λ (t : Thread). t.position) (cond b (option_map (λ (t : Thread). record t { place = p }) o) o) 0 ≡ option_map_or (λ (t : Thread). t.position) o 0
-position_kept true p None = refl
-position_kept true p (Some t) = refl
-position_kept false p o = refl
-
-pub position_high : (n m : ℕ) (w : Why) (s : Core) → position_of n (put_high m w s) ≡ position_of n s
-unfolding put_high push_high set_place on_thread
-position_high n m w s = ap (λ (o : Option Thread). option_map_or (λ (t : Thread). t.position) o 0) (get-change m (λ t. record t { place = place.Ready mark.High w }) s.threads n) ∙ position_kept (n == m) _ (get s.threads n)
-
-position_one : (n m : ℕ) (o : Option Why) (s : Core) → position_of n (released_one m o s) ≡ position_of n s
-position_one n m None s = refl
-position_one n m (Some w) s = position_high n m w s
-
-pub position_released : (n : ℕ) (order : List ℕ) (s : Core) → position_of n (released order s) ≡ position_of n s
-unfolding released
-position_released n [] s = refl
-position_released n (m ∷ ms) s = position_released n ms (released_one m (held_why_of m s) s) ∙ position_one n m (held_why_of m s) s
 
 -- ---- The counter falls
 

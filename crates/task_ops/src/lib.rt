@@ -3,15 +3,19 @@
 #![tactic(auto)]
 
 mod came;
+mod data;
 mod pressure;
 mod sets;
+mod tasks;
 mod threads;
 
 ghost use Rattle.task_ops.specs.Steps.{MeetingIsStep};
 
 pub use came::Came;
+pub use data::{compute, value_of};
 pub use pressure::{lower, raise};
 pub use sets::set_new;
+pub use tasks::{ret, ret_bad, task_cancel};
 pub use threads::{halt, resume_later};
 
 /// An op that meets its row is a step of the machine.
