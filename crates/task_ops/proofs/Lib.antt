@@ -3,3 +3,6 @@ pub mod RunLemmas
 pub mod PositionLemmas
 pub mod PressureLemmas
 pub mod SetLemmas
+pub mod FootLemmas
+pub mod ExitLemmas
+pub mod CodeLemmas

@@ -1,22 +1,15 @@
 -- Backpressure, by its count.
-use Rattle.std.proofs.Common.{ap, ap₂, cond, refl, subst, sym, ◌∙◌}
-use Rattle.std.specs.Option.{option_map_or}
-use Rattle.std.specs.Prelude.{Bool, IsPermutation, List, None, Option, Some, [], option_map, suc, true, false, zero, ℕ, ◌+◌, ◌-◌, ◌<◌, ◌==◌, ◌∷◌, ◌≡◌}
+use Rattle.std.proofs.Common.{ap, ap₂, refl, subst, sym, ◌∙◌}
+use Rattle.std.specs.Prelude.{IsPermutation, List, [], suc, zero, ℕ, ◌+◌, ◌-◌, ◌<◌, ◌≡◌}
 use Rattle.task_table.specs.declared.id.TableId.{TableId}
 use Rattle.task_wait.specs.declared.keys.ThreadKey.{ThreadKey}
-use Rattle.task_machine.proofs.CommuteLemmas.{get-change}
 use Rattle.task_machine.specs.Core.{Core}
-use Rattle.task_machine.specs.Maps.{get}
-use Rattle.task_machine.specs.Moves.{held_why_of, put_high, released, released_one}
+use Rattle.task_machine.specs.Moves.{released}
 use Rattle.task_machine.specs.Read.{admitted_held, backpressure_of, instance_of, position_of}
-use Rattle.task_machine.specs.Write.{on_instance, on_thread, push_high, set_backpressure, set_place}
+use Rattle.task_machine.specs.Write.{set_backpressure}
 use Rattle.task_machine.specs.declared.label.Label.TheVariants as label
 use Rattle.task_machine.specs.declared.label.TaskLabel.TheVariants as task_label
-use Rattle.task_machine.specs.declared.records.Place.{Place}
 use Rattle.task_machine.specs.declared.records.Place.TheVariants as place
-use Rattle.task_machine.specs.declared.records.Thread.{Thread}
-use Rattle.task_machine.specs.declared.records.Why.{Why}
-use Rattle.task_machine.specs.declared.words.Mark.TheVariants as mark
 use Rattle.task_ops.specs.Came.{Meets}
 use Rattle.task_ops.specs.declared.came.Came.TheVariants as came
 use Rattle.task_ops.proofs.PositionLemmas.{position_pressure, position_released}

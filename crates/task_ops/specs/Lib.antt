@@ -2,3 +2,4 @@ pub mod Came
 pub mod Steps
 pub mod Running
 pub mod Halting
+pub mod Reopens

@@ -46,7 +46,9 @@ pub fn compute<W: Words>(w: &mut W, thread: ThreadId, op: DataOp, end: u32) -> C
             DataLabel::Set(number, answer)
         }
         DataOp::Add { to, value } => {
-            let answer = w.register(thread, to).wrapping_add(value_of(w, thread, value));
+            let answer = w
+                .register(thread, to)
+                .wrapping_add(value_of(w, thread, value));
             w.assign(thread, to, answer);
             DataLabel::Add(number, answer)
         }

@@ -3,7 +3,9 @@
 #![tactic(auto)]
 
 mod came;
+mod codes;
 mod data;
+mod exits;
 mod pressure;
 mod sets;
 mod tasks;
@@ -12,7 +14,9 @@ mod threads;
 ghost use Rattle.task_ops.specs.Steps.{MeetingIsStep};
 
 pub use came::Came;
+pub use codes::end_activation;
 pub use data::{compute, value_of};
+pub use exits::exit_thread;
 pub use pressure::{lower, raise};
 pub use sets::set_new;
 pub use tasks::{ret, ret_bad, task_cancel};

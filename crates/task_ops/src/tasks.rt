@@ -86,7 +86,10 @@ pub fn task_cancel<W: Words>(w: &mut W, thread: ThreadId) -> Came
         None => Came::Goes(Label::Task(TaskLabel::TaskCancel(number)), number),
         Some(woken) => {
             let woken = w.number(woken);
-            Came::Goes(Label::Task(TaskLabel::TaskCancelWakes(number, woken)), number)
+            Came::Goes(
+                Label::Task(TaskLabel::TaskCancelWakes(number, woken)),
+                number,
+            )
         }
     }
 }
