@@ -6,3 +6,4 @@ pub mod SetLemmas
 pub mod FootLemmas
 pub mod ExitLemmas
 pub mod CodeLemmas
+pub mod StrikeLemmas

@@ -1,15 +1,23 @@
 -- What ops ask of the thread that runs, or whose entry was taken.
-use Rattle.std.specs.Prelude.{Some, [], is_some, true, ℕ, ◌≡◌}
+use Rattle.std.specs.Prelude.{Some, [], false, is_some, true, ℕ, ◌≡◌}
 use Rattle.task_machine.specs.Core.{Core}
 use Rattle.task_machine.specs.Maps.{get}
 use Rattle.task_machine.specs.Read.{set_at}
-use Rattle.task_machine.specs.declared.records.Place.TheVariants as place
+use Rattle.task_machine.specs.declared.records.Place.{Place}
+use Rattle.task_machine.specs.declared.records.Place.TheVariants as places
 use Rattle.task_rules.proofs.StandLemmas.{Stand}
+use Rattle.task_rules.specs.Places.{is_there}
 
 -- The thread runs, and each thread has its place.
 abbrev pub IsRunning : ℕ → Core → Type 0
-IsRunning n s = Stand n place.Running [] s
+IsRunning n s = Stand n places.Running [] s
 
 -- A handle of a set names one that is there.
 abbrev pub SetsThere : Core → Type 0
 SetsThere s = (i h x : ℕ) → set_at i h s ≡ Some x → is_some (get s.sets x) ≡ true
+
+-- The thread is on top of its strand: whom it is under is gone. All others have their places.
+pub record IsTopmost (n : ℕ) (s : Core) : Type 0 where
+  pub place : Place
+  pub stand : Stand n place [] s
+  pub apart : (p : ℕ) → place ≡ places.Under p → is_there p s ≡ false

@@ -8,6 +8,7 @@ mod data;
 mod exits;
 mod pressure;
 mod sets;
+mod strikes;
 mod tasks;
 mod threads;
 
@@ -19,6 +20,7 @@ pub use data::{compute, value_of};
 pub use exits::exit_thread;
 pub use pressure::{lower, raise};
 pub use sets::set_new;
+pub use strikes::strike;
 pub use tasks::{ret, ret_bad, task_cancel};
 pub use threads::{halt, resume_later};
 
