@@ -74,7 +74,7 @@ map_or_is {X = X} {Y = Y} g d o p e = sym (at o) ∙ (ap (λ (r : Option Y). unw
     at None = refl
     at (Some x) = refl
 
-call_quiet : (k : ℕ) (f : Call → Call) (s : Core) → ((c : Call) → (f c).join ≡ c.join) → Untouched s (on_call k f s) → Quiet s (on_call k f s)
+pub call_quiet : (k : ℕ) (f : Call → Call) (s : Core) → ((c : Call) → (f c).join ≡ c.join) → Untouched s (on_call k f s) → Quiet s (on_call k f s)
 unfolding on_call
 call_quiet k f s keeps u = record { untouched = u; joins = λ sub. go sub; sets = refl }
   where
@@ -112,7 +112,7 @@ answer_quiet : (k : ℕ) (v : Option ℕ) (s : Core) → Quiet s (set_result k v
 unfolding set_result
 answer_quiet k v s = call_quiet k (λ c. record c { result = v }) s (λ c. refl) (set_result_untouched k v s)
 
-same_quiet : (s : Core) → Quiet s s
+pub same_quiet : (s : Core) → Quiet s s
 same_quiet s = record { untouched = record { places = λ k. refl; queues = refl; callers = refl; made = le_refl _ }; joins = λ sub. refl; sets = refl }
 
 pub result_quiet : (g : Goal) (f : Caller) (k v : ℕ) (s : Core) → Quiet s (result_given g f k v s)

@@ -42,7 +42,7 @@ checked_under n q i s busy st k x at =
 
 -- ---- A release
 
-high_under : (m : ℕ) (w : Why) (s : Core) → ((x : ℕ) → place_of m s ≡ Some (place.Under x) → ⊥) → KeepsUnder s (put_high m w s)
+pub high_under : (m : ℕ) (w : Why) (s : Core) → ((x : ℕ) → place_of m s ≡ Some (place.Under x) → ⊥) → KeepsUnder s (put_high m w s)
 unfolding put_high push_high
 high_under m w s apart k x at = by_number k m (place_of k (put_high m w s) ≡ Some (place.Under x)) (λ e. absurd (apart x (ap (λ (j : ℕ). place_of j s) (sym e) ∙ at))) (λ e. place_kept k m (place.Ready mark.High w) s e ∙ at)
 

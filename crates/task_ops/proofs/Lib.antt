@@ -7,3 +7,5 @@ pub mod FootLemmas
 pub mod ExitLemmas
 pub mod CodeLemmas
 pub mod StrikeLemmas
+pub mod TellingLemmas
+pub mod MainLemmas

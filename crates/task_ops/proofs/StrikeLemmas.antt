@@ -1,27 +1,25 @@
 -- A strand that is taken away, from its top down.
-use Rattle.std.proofs.Common.{T, ap, ap₂, arith, cond, refl, subst, sym, ◌∙◌}
+use Rattle.std.proofs.Common.{ap, ap₂, arith, cond, refl, subst, sym, ◌∙◌}
 use Rattle.std.specs.Cmp.{unsigned_tied}
 use Rattle.std.specs.FinMap.Entries.{where_key}
 use Rattle.std.specs.Option.{option_map_or}
 use Rattle.std.specs.Ordering.{eq_by_cmp, nat_cmp}
-use Rattle.std.specs.Prelude.{Bool, List, None, Option, Some, [], false, find, is_some, map, not, option_map, suc, true, zero, ℕ, ◌+◌, ◌<◌, ◌==◌, ◌∷◌, ◌≡◌, ◌≢◌, ◌≤◌}
+use Rattle.std.specs.Prelude.{Bool, List, None, Option, Some, [], false, find, is_some, map, not, option_map, suc, true, zero, ℕ, ◌+◌, ◌<◌, ◌==◌, ◌∷◌, ◌≡◌, ◌≤◌}
 use Rattle.task_table.specs.declared.id.TableId.{TableId}
 use Rattle.task_wait.specs.declared.keys.ThreadKey.{ThreadKey}
 use Rattle.task_machine.proofs.SizeLemmas.{size-remove_present}
 use Rattle.task_machine.specs.Core.{Core}
-use Rattle.task_machine.specs.Maps.{Records, get, numbers, other_than, remove, size}
+use Rattle.task_machine.specs.Maps.{get, numbers, other_than, remove, size}
 use Rattle.task_machine.specs.Read.{is_at, is_under, place_of, strand_from, strand_of, under_of}
 use Rattle.task_machine.specs.Write.{remove_thread, remove_threads}
 use Rattle.task_machine.specs.declared.records.Place.{Place}
 use Rattle.task_machine.specs.declared.records.Place.TheVariants as place
 use Rattle.task_machine.specs.declared.records.Thread.{Thread}
-use Rattle.task_ops.proofs.RunLemmas.{own_apart}
 use Rattle.task_ops.specs.Running.{IsTopmost}
 use Rattle.task_places.proofs.RunRows.{under_place}
 use Rattle.task_rules.proofs.MoveLemmas.{gone_place, other_place, removed_gone, removed_placed, stand_of}
-use Rattle.task_rules.proofs.StandLemmas.{Loose, Stand, by_number, eq_refl, is_eq_of}
+use Rattle.task_rules.proofs.StandLemmas.{by_number, eq_refl, is_eq_of}
 use Rattle.task_rules.specs.Places.{HasPlace, is_there, one_if}
-use Rattle.task_words.specs.Apart.{IsApart}
 use Rattle.task_words.specs.StateView.{KeepsBut, StateView, lost_thread, thread_of}
 
 -- ---- Who is under a thread, where another one is gone

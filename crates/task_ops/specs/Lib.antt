@@ -3,3 +3,4 @@ pub mod Steps
 pub mod Running
 pub mod Halting
 pub mod Reopens
+pub mod Acted

@@ -5,6 +5,8 @@ use Rattle.task_machine.specs.Maps.{get}
 use Rattle.task_machine.specs.Read.{set_at}
 use Rattle.task_machine.specs.declared.records.Place.{Place}
 use Rattle.task_machine.specs.declared.records.Place.TheVariants as places
+use Rattle.task_machine.specs.declared.records.Why.TheVariants as why
+use Rattle.task_machine.specs.declared.words.Mark.{Mark}
 use Rattle.task_rules.proofs.StandLemmas.{Stand}
 use Rattle.task_rules.specs.Places.{is_there}
 
@@ -21,3 +23,7 @@ pub record IsTopmost (n : ℕ) (s : Core) : Type 0 where
   pub place : Place
   pub stand : Stand n place [] s
   pub apart : (p : ℕ) → place ≡ places.Under p → is_there p s ≡ false
+
+-- The start of the thread was taken from its mark, and each other thread has its place.
+abbrev pub IsStartTaken : ℕ → Core → Type 0
+IsStartTaken n s = (m : Mark) × Stand n (places.Ready m why.Start) [] s
