@@ -1,10 +1,12 @@
 -- The records of one kind, in a table of their own: what ids name, what is read under an id, and a write of one record.
-use Rattle.std.proofs.Common.{◌≡◌, ◌<◌, ℕ, Bool, true, false, cond, ◌==◌, map, set, slice_get, Option, Some, None, refl, sym, ap, subst, ◌∙◌, arith}
+use Rattle.std.proofs.Common.{◌≡◌, ◌+◌, ◌<◌, ℕ, Bool, true, false, cond, ◌==◌, map, set, slice_get, Option, Some, None, refl, sym, ap, subst, ◌∙◌, arith}
 use Rattle.std.proofs.lemmas.Bool.{ne_eqb}
 use Rattle.std.proofs.lemmas.List.{map-set}
 use Rattle.std.proofs.lemmas.Option.{slice_get-map}
 use Rattle.std.specs.Option.{option_map}
 use Rattle.std.specs.Prelude.{Ok, Err}
+use Rattle.task_index.proofs.Counts.{passing-with_at}
+use Rattle.task_index.specs.Counts.{one_if_passes, passing}
 use Rattle.task_machine.specs.Maps.{Records, change, changed, get, insert}
 use Rattle.task_records.specs.Image.{tag_of}
 use Rattle.task_records.specs.Kinds.{entry_of, item_of, no_other}
@@ -47,13 +49,17 @@ module _ {T X : Type 0} (number : T → ℕ) (rec : T → X) where
       by_place (Some None) = refl
       by_place (Some (Some p)) = by_test (p.serial == serial) p
 
-  module _ (t : Table (Single T)) (made : ℕ) (sound : SoundTable key t made) (rep serial : ℕ) where
-    none_read : (why : ResourceTableError) → Err why ≡ item_at item_of t rep serial → number_of key t rep serial ≡ 0
-    none_read why is = number_of-refused item_of entry_of no_other key of_kind t rep serial why is
+  module _ (t : Table (Single T)) (rep serial : ℕ) where
+    pub refused_number : (why : ResourceTableError) → Err why ≡ item_at item_of t rep serial → number_of key t rep serial ≡ 0
+    refused_number why is = number_of-refused item_of entry_of no_other key of_kind t rep serial why is
 
+    pub item_number : (g : T) → Ok g ≡ item_at item_of t rep serial → number_of key t rep serial ≡ number g
+    item_number g is = number_of-item item_of entry_of no_other key t rep serial g is (number g) (rec g) refl
+
+  module _ (t : Table (Single T)) (made : ℕ) (sound : SoundTable key t made) (rep serial : ℕ) where
     -- nothing is read under an id that is refused
     pub refused_read : (why : ResourceTableError) → Err why ≡ item_at item_of t rep serial → None ≡ get (records key t.places) (number_of key t rep serial)
-    refused_read why is = sym (ap (get (records key t.places)) (none_read why is) ∙ (get-records key t.places 0 ∙ sound.above_zero))
+    refused_read why is = sym (ap (get (records key t.places)) (refused_number t rep serial why is) ∙ (get-records key t.places 0 ∙ sound.above_zero))
 
     -- so that a write there changes nothing
     pub refused_write : (why : ResourceTableError) → Err why ≡ item_at item_of t rep serial → (f : X → X) → change (number_of key t rep serial) f (records key t.places) ≡ records key t.places
@@ -61,9 +67,6 @@ module _ {T X : Type 0} (number : T → ℕ) (rec : T → X) where
     refused_write why is f = ap (changed (records key t.places) (number_of key t rep serial) f) (sym (refused_read why is))
 
     module _ (g : T) (is : Ok g ≡ item_at item_of t rep serial) where
-      pub item_number : number_of key t rep serial ≡ number g
-      item_number = number_of-item item_of entry_of no_other key t rep serial g is (number g) (rec g) refl
-
       pub item_read : Some (rec g) ≡ get (records key t.places) (number_of key t rep serial)
       item_read = sym (get-item_number item_of entry_of no_other key t rep serial g is (number g) (rec g) refl sound.apart)
 
@@ -82,7 +85,7 @@ module _ {T X : Type 0} (number : T → ℕ) (rec : T → X) where
         puts = PutsRecord-with_entry key t rep (entry_of h) (number g) (rec g) (rec h) sound.apart (record_at-item item_of entry_of no_other key t rep serial g is) (ap (λ n. Some (n, rec h)) same)
 
         pub records_written : records key after.places ≡ insert (records key t.places) (number_of key t rep serial) (rec h)
-        records_written = puts.map ∙ ap (λ n. insert (records key t.places) n (rec h)) (sym item_number)
+        records_written = puts.map ∙ ap (λ n. insert (records key t.places) n (rec h)) (sym (item_number t rep serial g is))
 
         pub records_changed : (f : X → X) → f (rec g) ≡ rec h → records key after.places ≡ change (number_of key t rep serial) f (records key t.places)
         unfolding change
@@ -90,6 +93,20 @@ module _ {T X : Type 0} (number : T → ℕ) (rec : T → X) where
             records_written
             ∙ (ap (insert (records key t.places) (number_of key t rep serial)) (sym is_f)
             ∙ ap (changed (records key t.places) (number_of key t rep serial) f) item_read)
+
+        -- how many records pass a test
+        pub passing_written : (test : X → Bool) → passing test (records key after.places) + one_if_passes test (Some (rec g)) ≡ passing test (records key t.places) + one_if_passes test (Some (rec h))
+        passing_written test =
+            let law = passing-with_at test (records key t.places) (number_of key t rep serial) (Some (rec h)) in
+            let was : one_if_passes test (get (records key t.places) (number_of key t rep serial)) ≡ one_if_passes test (Some (rec g)) = ap (one_if_passes test) (sym item_read) in
+            let is : passing test (records key after.places) ≡ passing test (insert (records key t.places) (number_of key t rep serial) (rec h)) = ap (passing test) records_written in
+            omega arith
+
+        pub passing_same : (test : X → Bool) → test (rec h) ≡ test (rec g) → passing test (records key after.places) ≡ passing test (records key t.places)
+        passing_same test same =
+            let law = passing_written test in
+            let one : one_if_passes test (Some (rec h)) ≡ one_if_passes test (Some (rec g)) = ap (λ b. cond b 1 0) same in
+            omega arith
 
         pub tags_written : map (tag_of key) after.places ≡ map (tag_of key) t.places
         unfolding with_entry
@@ -99,10 +116,10 @@ module _ {T X : Type 0} (number : T → ℕ) (rec : T → X) where
             map-set (tag_of key) t.places rep (entry_put (entry_of h) (place_at t rep)) ∙ (ap (set (map (tag_of key) t.places) rep) one ∙ set-slice_get (map (tag_of key) t.places) rep (tag_of key (Some item_stands.0)) there)
 
         not_zero : (0 ≡ number g) → ⊥
-        not_zero zero = absent (rec g) (sym sound.above_zero ∙ (sym (get-records key t.places 0) ∙ (ap (get (records key t.places)) (zero ∙ sym item_number) ∙ sym item_read)))
+        not_zero zero = absent (rec g) (sym sound.above_zero ∙ (sym (get-records key t.places 0) ∙ (ap (get (records key t.places)) (zero ∙ sym (item_number t rep serial g is)) ∙ sym item_read)))
 
         not_later : (n : ℕ) → made < n → (n ≡ number g) → ⊥
-        not_later n later is_g = absent (rec g) (sym (sound.later n later) ∙ (sym (get-records key t.places n) ∙ (ap (get (records key t.places)) (is_g ∙ sym item_number) ∙ sym item_read)))
+        not_later n later is_g = absent (rec g) (sym (sound.later n later) ∙ (sym (get-records key t.places n) ∙ (ap (get (records key t.places)) (is_g ∙ sym (item_number t rep serial g is)) ∙ sym item_read)))
 
         found_other : (n : ℕ) → (n ≡ number g → ⊥) → found_record key n t.places ≡ None → found_record key n after.places ≡ None
         found_other n other none = puts.found n ∙ (ap (λ b. cond b (Some (rec h)) (found_record key n t.places)) (ne_eqb n (number g) other) ∙ none)

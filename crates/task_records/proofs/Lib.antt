@@ -3,3 +3,10 @@ pub mod ReadLemmas
 pub mod TableLemmas
 pub mod WriteLemmas
 pub mod OpeningLemmas
+pub mod HomeLemmas
+pub mod StandLemmas
+pub mod InstanceLemmas
+pub mod HandleLemmas
+pub mod InstanceReads
+pub mod HandleReads
+pub mod KeptLemmas

@@ -104,6 +104,7 @@ opening_chained = record {
   polled = no_index _ _ (λ k. refl) (λ r. refl);
   marks = no_rows _ _ _ _ no_row;
   shelves = no_rows _ _ _ _ (λ k. refl);
+  low = tt;
   behind = no_rows _ _ _ _ (λ k. refl);
 }
 
@@ -113,7 +114,6 @@ opening_named = record {
   threads = λ rep q at. absent q at;
   calls = λ rep q at. absent q at;
   works = λ rep q at. absent q at;
-  handles = λ i r at. absent r at;
   switch = tt;
 }
 
@@ -133,14 +133,14 @@ few = omega arith
 opening_counted : AreCounted (bare opening)
 unfolding records by_place_from table_use live_count size empty numbers mapped with_capacity
 opening_counted = record {
-  kept = record { used = refl; groups = refl; interesting = refl; live = refl; moving = refl };
-  live = refl;
+  kept = record { used = refl; groups = refl; live = refl };
   calls = λ rep q at. absent q at;
   sets = λ rep q at. absent q at;
   groups = λ rep q at. absent q at;
   few = few;
   high = λ some. absurd (some refl);
   low = λ some. absurd (some refl);
+  works = λ rep q at. absent q at;
   results = λ k c at. absent c (sym (get-empty k) ∙ at);
 }
 
@@ -155,7 +155,13 @@ unfolding with_capacity
 table T = record { places_fit = within; capacity_fits = same; free_once = λ rep. refl; free_or_taken = refl; serials = λ rep p at. absent p at; parents = λ rep none. refl }
 
 pub opening_sound : Sound opening
+unfolding records with_capacity empty live_count size by_place_from
 opening_sound = record {
+  handles = λ i r at. absent r at;
+  owned = λ rep q at. absent q at;
+  live = refl;
+  interesting = refl;
+  moving = refl;
   tables = record { threads = opening_table thread_key (table _); calls = opening_table call_key (table _); works = opening_table work_key (table _); sets = opening_table set_key (table _); groups = opening_table group_key (table _) };
   whole = record { named = opening_named; chained = opening_chained; nodes = opening_nodes; counted = opening_counted };
 }

@@ -2,11 +2,11 @@
 use Rattle.std.proofs.Common.{◌≡◌, ap, ◌∙◌, sym, Some, None}
 use Rattle.std.specs.Prelude.{Ok, Err}
 use Rattle.task_machine.specs.Maps.{get}
-use Rattle.task_records.proofs.KindLemmas.{item_read, number_shown, refused_read}
+use Rattle.task_records.proofs.KindLemmas.{item_number, item_read, number_shown, refused_number, refused_read}
 use Rattle.task_records.specs.Image.{image}
 use Rattle.task_records.specs.Keys.{call_key, set_key, thread_key, work_key}
 use Rattle.task_records.specs.Kinds.{item_of}
-use Rattle.task_records.specs.Seen.{IsSound, parts, seen}
+use Rattle.task_records.specs.Seen.{IsSound, parts_of, seen}
 use Rattle.task_records.specs.declared.calls.GuestTask.{GuestTask}
 use Rattle.task_records.specs.declared.parts.CoreParts.{CoreParts}
 use Rattle.task_records.specs.declared.sets.WaitSet.{WaitSet}
@@ -38,6 +38,30 @@ module _ (a : CoreParts) where
   pub set_shown : (id : TableId SetKey) → set_of (seen a) id ≡ number_of set_key a.sets id.rep id.serial
   unfolding seen set_number
   set_shown id = number_shown (λ (x : WaitSet). x.number) (λ (x : WaitSet). x.set) a.sets id.rep id.serial
+
+  pub thread_named : (id : TableId ThreadKey) (g : GuestThread) → Ok g ≡ item_at item_of a.threads id.rep id.serial → g.number ≡ thread_of (seen a) id
+  thread_named id g is = sym (thread_shown id ∙ item_number (λ (g : GuestThread). g.number) (λ (g : GuestThread). g.thread) a.threads id.rep id.serial g is)
+
+  pub thread_unnamed : (id : TableId ThreadKey) (why : ResourceTableError) → Err why ≡ item_at item_of a.threads id.rep id.serial → thread_of (seen a) id ≡ 0
+  thread_unnamed id why is = thread_shown id ∙ refused_number (λ (g : GuestThread). g.number) (λ (g : GuestThread). g.thread) a.threads id.rep id.serial why is
+
+  pub call_named : (id : TableId GuestTaskKey) (g : GuestTask) → Ok g ≡ item_at item_of a.calls id.rep id.serial → g.number ≡ call_of (seen a) id
+  call_named id g is = sym (call_shown id ∙ item_number (λ (g : GuestTask). g.number) (λ (g : GuestTask). g.call) a.calls id.rep id.serial g is)
+
+  pub call_unnamed : (id : TableId GuestTaskKey) (why : ResourceTableError) → Err why ≡ item_at item_of a.calls id.rep id.serial → call_of (seen a) id ≡ 0
+  call_unnamed id why is = call_shown id ∙ refused_number (λ (g : GuestTask). g.number) (λ (g : GuestTask). g.call) a.calls id.rep id.serial why is
+
+  pub work_named : (id : TableId HostTaskKey) (w : HostWork) → Ok w ≡ item_at item_of a.works id.rep id.serial → w.number ≡ work_of (seen a) id
+  work_named id w is = sym (work_shown id ∙ item_number (λ (w : HostWork). w.number) (λ (w : HostWork). w.work) a.works id.rep id.serial w is)
+
+  pub work_unnamed : (id : TableId HostTaskKey) (why : ResourceTableError) → Err why ≡ item_at item_of a.works id.rep id.serial → work_of (seen a) id ≡ 0
+  work_unnamed id why is = work_shown id ∙ refused_number (λ (w : HostWork). w.number) (λ (w : HostWork). w.work) a.works id.rep id.serial why is
+
+  pub set_named : (id : TableId SetKey) (x : WaitSet) → Ok x ≡ item_at item_of a.sets id.rep id.serial → x.number ≡ set_of (seen a) id
+  set_named id x is = sym (set_shown id ∙ item_number (λ (x : WaitSet). x.number) (λ (x : WaitSet). x.set) a.sets id.rep id.serial x is)
+
+  pub set_unnamed : (id : TableId SetKey) (why : ResourceTableError) → Err why ≡ item_at item_of a.sets id.rep id.serial → set_of (seen a) id ≡ 0
+  set_unnamed id why is = set_shown id ∙ refused_number (λ (x : WaitSet). x.number) (λ (x : WaitSet). x.set) a.sets id.rep id.serial why is
 
   module _ (sound : IsSound a) where
     pub thread_read : (id : TableId ThreadKey) (g : GuestThread) → Ok g ≡ item_at item_of a.threads id.rep id.serial → Some g.thread ≡ get (seen a).core.threads (thread_of (seen a) id)

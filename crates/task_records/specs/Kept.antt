@@ -9,14 +9,11 @@ use Rattle.task_records.specs.declared.calls.GuestTask.{GuestTask}
 use Rattle.task_records.specs.declared.calls.TaskGroup.{TaskGroup}
 use Rattle.task_records.specs.declared.parts.Kept.{Kept}
 use Rattle.task_records.specs.declared.sets.WaitSet.{WaitSet}
-use Rattle.task_rules.specs.Works.{is_moving}
 
 pub record AreKept (s : Core) (k : Kept) : Type 0 where
   pub used : k.used ≡ table_use s
   pub groups : k.groups ≡ length s.groups
-  pub interesting : k.interesting ≡ passing (λ c. c.interesting) s.calls
   pub live : k.live ≡ passing is_live s.works
-  pub moving : k.moving ≡ passing is_moving s.works
 
 -- how many threads are of the call
 abbrev pub threads_of : ℕ → Core → ℕ

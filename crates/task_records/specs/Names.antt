@@ -1,5 +1,5 @@
 -- What the numbers in records name, and where it stands.
-use Rattle.std.specs.Prelude.{◌≡◌, ◌<◌, ℕ, Option, Some, IsSome, slice_get}
+use Rattle.std.specs.Prelude.{◌≡◌, ◌<◌, ◌≤◌, ℕ, Option, Some, IsSome, slice_get}
 use Rattle.task_handles.specs.Handles.{held_by}
 use Rattle.task_handles.specs.declared.kinds.HandleKind.{HandleKind}
 use Rattle.task_handles.specs.declared.kinds.HandleKind.TheVariants as handle
@@ -26,6 +26,8 @@ use Rattle.task_records.specs.Image.{Parts, core_of}
 use Rattle.task_records.specs.Keys.{call_key, group_key, set_key, thread_key, work_key}
 use Rattle.task_records.specs.declared.calls.GuestTask.{GuestTask}
 use Rattle.task_records.specs.declared.instances.InstanceRecord.{InstanceRecord}
+use Rattle.task_records.specs.declared.sets.WaitSet.{WaitSet}
+use Rattle.task_records.specs.declared.single.Single.{Single}
 use Rattle.task_records.specs.declared.threads.GuestThread.{GuestThread}
 use Rattle.task_records.specs.declared.works.HostWork.{HostWork}
 use Rattle.task_table.specs.Records.{found_record, number_in, record_at}
@@ -85,23 +87,39 @@ HasNumber key t rep n = number_in (record_at key t.places rep) ≡ n
 abbrev pub StandsAt : {E X : Type 0} → (E → Option (ℕ × X)) → Table E → ℕ → ℕ → Type 0
 StandsAt key t rep n = IsSome (found_record key n t.places) → HasNumber key t rep n
 
--- What is named, if it is there, stands at the place.
-abbrev pub AtPlace : Parts → ℕ → Target → Type 0
-AtPlace p rep Nothing = Unit {0}
-AtPlace p rep (ThreadOf n) = StandsAt thread_key p.threads rep n
-AtPlace p rep (CallOf k) = StandsAt call_key p.calls rep k
-AtPlace p rep (WorkOf i) = StandsAt work_key p.works rep i
-AtPlace p rep (SetOf x) = StandsAt set_key p.sets rep x
+-- The tables in which what is named stands.
+pub record Kinds : Type 0 where
+  pub threads : Table (Single GuestThread)
+  pub calls : Table (Single GuestTask)
+  pub works : Table (Single HostWork)
+  pub sets : Table (Single WaitSet)
 
--- A thread's call is there, in an instance that is there, and the thread's handle, if it has one, names it.
+abbrev pub kinds : Parts → Kinds
+kinds p = record { threads = p.threads; calls = p.calls; works = p.works; sets = p.sets }
+
+-- What is named, if it is there, stands at the place.
+abbrev pub IsNamedAt : Kinds → ℕ → Target → Type 0
+IsNamedAt p rep Nothing = Unit {0}
+IsNamedAt p rep (ThreadOf n) = StandsAt thread_key p.threads rep n
+IsNamedAt p rep (CallOf k) = StandsAt call_key p.calls rep k
+IsNamedAt p rep (WorkOf i) = StandsAt work_key p.works rep i
+IsNamedAt p rep (SetOf x) = StandsAt set_key p.sets rep x
+
+abbrev pub AtPlace : Parts → ℕ → Target → Type 0
+AtPlace p rep t = IsNamedAt (kinds p) rep t
+
+-- A thread's call is there, in an instance that is there.
 pub record HasHome (p : Parts) (g : GuestThread) : Type 0 where
   pub call : HasNumber call_key p.calls g.task g.thread.call
   pub there : 0 < g.thread.call
   pub instance : call_instance g.thread.call (core_of p) ≡ g.instance
   pub within : IsSome (slice_get p.instances g.instance)
-  pub handle : (h : ℕ) → g.thread.handle ≡ Some h → thread_at g.instance h (core_of p) ≡ Some g.number
   pub place : AtPlace p g.beside (place_target g.thread.place)
   pub how_far : AtPlace p g.awaited (how_far_target g.thread.how_far)
+
+-- The handle that a thread has, if it has one, names it.
+abbrev pub OwnsHandle : Parts → GuestThread → Type 0
+OwnsHandle p g = (h : ℕ) → g.thread.handle ≡ Some h → thread_at g.instance h (core_of p) ≡ Some g.number
 
 -- What a call names.
 pub record IsCallNamed (p : Parts) (g : GuestTask) : Type 0 where
@@ -117,13 +135,15 @@ pub record IsWorkNamed (p : Parts) (w : HostWork) : Type 0 where
   pub group : (n : ℕ) → w.work.group ≡ Some n → HasNumber group_key p.groups w.group n × (0 < n)
 
 -- A handle is of a subtask or of a set; the number that it keeps is the machine's.
-abbrev pub IsHeldNamed : Parts → HandleKind → Rep → Type 0
-IsHeldNamed p (handle.Waitable waitable.GuestSubtask) r = AtPlace p r.id (CallOf r.serial)
-IsHeldNamed p (handle.Waitable waitable.HostSubtask) r = AtPlace p r.id (WorkOf r.serial)
+abbrev pub IsHeldNamed : Kinds → HandleKind → Rep → Type 0
+IsHeldNamed p (handle.Waitable waitable.GuestSubtask) r = IsNamedAt p r.id (CallOf r.serial)
+IsHeldNamed p (handle.Waitable waitable.HostSubtask) r = IsNamedAt p r.id (WorkOf r.serial)
 IsHeldNamed p (handle.Waitable _) r = ⊥
-IsHeldNamed p handle.Set r = AtPlace p r.id (SetOf r.serial)
+IsHeldNamed p handle.Set r = IsNamedAt p r.id (SetOf r.serial)
 
 -- What the handles of an instance name.
-pub record AreHandlesNamed (p : Parts) (i : InstanceRecord) : Type 0 where
+pub record AreHandlesNamed (p : Kinds) (i : InstanceRecord) : Type 0 where
+  pub small : (h : ℕ) (x : Held) → held_by i.handles h ≡ Some x → h ≤ 268435455
+  pub small_threads : (h : ℕ) (r : Rep) → held_by i.thread_handles h ≡ Some r → h ≤ 268435455
   pub handles : (h : ℕ) (x : Held) → held_by i.handles h ≡ Some x → IsHeldNamed p x.kind x.rep
-  pub thread_handles : (h : ℕ) (r : Rep) → held_by i.thread_handles h ≡ Some r → AtPlace p r.id (ThreadOf r.serial)
+  pub thread_handles : (h : ℕ) (r : Rep) → held_by i.thread_handles h ≡ Some r → IsNamedAt p r.id (ThreadOf r.serial)

@@ -30,6 +30,10 @@ row p r = chained p.marks (row_chain p r)
 abbrev pub is_of_instance : ℕ → Queued → Bool
 is_of_instance i q = is_number i q.instance
 
+-- The entry is of a thread, which is in an instance.
+abbrev pub IsOfThread : Queued → Type 0
+IsOfThread q = IsSome q.instance
+
 abbrev pub shelf_in : Row → InstanceRecord → ℕ
 shelf_in High i = i.high
 shelf_in Low i = i.low

@@ -6,8 +6,8 @@ use Rattle.task_records.specs.Sound.{Sound}
 use Rattle.task_records.specs.declared.parts.CoreParts.{CoreParts}
 use Rattle.task_words.specs.StateView.{StateView}
 
-abbrev pub parts : CoreParts → Parts
-parts a = record {
+abbrev pub parts_of : CoreParts → Parts
+parts_of a = record {
   threads = a.threads;
   calls = a.calls;
   works = a.works;
@@ -36,10 +36,10 @@ parts a = record {
 }
 
 unfoldable pub seen : CoreParts → StateView
-seen a = image (parts a)
+seen a = image (parts_of a)
 
 unfoldable pub IsSound : CoreParts → Type 0
-IsSound a = Sound (parts a)
+IsSound a = Sound (parts_of a)
 
 -- what is seen of a core in which nothing was made: no instance, a limit of 100,000 handles, and room for 1,000,000 entries
 abbrev pub nothing : StateView

@@ -6,6 +6,7 @@
 #![tactic(auto)]
 
 mod calls;
+mod ids;
 mod instances;
 mod parts;
 mod reads;
@@ -15,9 +16,12 @@ mod threads;
 mod works;
 
 pub use calls::{GuestTask, TaskGroup};
+pub use ids::{
+    call_at, named_call, named_set, named_thread, named_work, set_at, task_of, thread_at, work_at,
+};
 pub use instances::InstanceRecord;
 pub use parts::{CoreParts, Kept};
-pub use reads::{call, set, thread, work};
+pub use reads::{call, held, held_thread, instance, set, thread, work};
 pub use sets::WaitSet;
 pub use single::Single;
 pub use task_links::Node;

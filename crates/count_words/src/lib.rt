@@ -1,0 +1,11 @@
+//! Words that a core answers by the numbers that it keeps: what is left of a call or a set, how
+//! full a store is, and whether something moves.
+#![tactic(auto)]
+
+mod limits;
+mod members;
+mod works;
+
+pub use limits::{at_handle_limit, fits, has_interesting, made, set_uninteresting, trapped};
+pub use members::{has_thread, has_waiters, is_deletable, set_instance, set_number};
+pub use works::{has_live_work, has_moving_work};
