@@ -1,7 +1,7 @@
 -- What is published, step by step.
 use Rattle.std.proofs.Common.{T, ap, arith, cond, refl, subst, sym, ◌∙◌}
 use Rattle.std.specs.Option.{option_map_or}
-use Rattle.std.specs.Prelude.{IfSome, None, Option, Some, false, is_some, option_map, true, ℕ, ◌==◌, ◌≡◌}
+use Rattle.std.specs.Prelude.{IfSome, None, Option, Some, false, is_some, option_map, true, ℕ, ◌<◌, ◌==◌, ◌≡◌}
 use Rattle.task_table.specs.declared.id.TableId.{TableId}
 use Rattle.task_wait.specs.declared.keys.ThreadKey.{ThreadKey}
 use Rattle.task_machine.specs.Core.{Core}
@@ -19,16 +19,17 @@ use Rattle.task_machine.specs.declared.records.Subtask.TheVariants as subtask
 use Rattle.task_machine.specs.declared.records.Why.{Why}
 use Rattle.task_machine.specs.declared.records.Why.TheVariants as why
 use Rattle.task_machine.specs.declared.words.Status.{Status}
-use Rattle.task_moves.specs.Idle.{AreIdleUnqueued, IsJoinThere, IsWaiting}
+use Rattle.task_moves.specs.Idle.{AreIdleUnqueued, IsJoinThere, IsWaiting, number_of}
 use Rattle.task_rules.proofs.StandLemmas.{by_number, entries-append}
 use Rattle.task_rules.proofs.StopLemmas.{find_passes}
 use Rattle.task_rules.specs.Places.{one_if}
 use Rattle.task_words.specs.Apart.{IsBlockedUnqueued, IsUnqueued}
 use Rattle.task_words.specs.Live.{live_join}
-use Rattle.task_words.specs.Names.{join_in, subtask_in}
-use Rattle.task_words.specs.StateView.{StateView, on_core, thread_of, with_core}
+use Rattle.task_words.specs.Names.{join_in, number_in, subtask_in}
+use Rattle.task_words.specs.StateView.{StateView, Tags, on_core, thread_of, with_core}
 use Rattle.task_words.specs.declared.names.JoinId.{JoinId}
 use Rattle.task_words.specs.declared.names.SubtaskId.{SubtaskId}
+use Rattle.task_words.specs.declared.names.SubtaskId.TheVariants as subtask_id
 
 -- ---- The event
 
@@ -115,3 +116,10 @@ published_is j sub e waiter s t u v there is a b d =
 pub waiter_waits : (x : ℕ) (waiter : Option (TableId ThreadKey)) (s : StateView) → IfSome waiter (λ id. is_waiter x (thread_of s id) s.core ≡ true) → IfSome waiter (λ id. IsWaiting (thread_of s id) s.core)
 waiter_waits x None s h = tt
 waiter_waits x (Some id) s h = (x, h)
+
+named_in : (sub : SubtaskId) (tags : Tags) → 0 < number_of (subtask_in tags sub) → 0 < number_in tags sub
+named_in (subtask_id.Guest id) tags live = live
+named_in (subtask_id.Host id) tags live = live
+
+pub event_named : (sub : SubtaskId) (e : Option Status) (s t : StateView) → t ≡ on_core (set_event (subtask_in s.tags sub) e) s → 0 < number_of (subtask_in s.tags sub) → 0 < number_in t.tags sub
+event_named sub e s t d live = subst (λ (v : StateView). 0 < number_in v.tags sub) (sym d) (named_in sub s.tags live)

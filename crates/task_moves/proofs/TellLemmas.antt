@@ -1,7 +1,7 @@
 -- The end of a task, written: what it leaves as it was.
 use Rattle.std.proofs.Common.{ap, ap₂, le_refl, refl, subst, sym, ◌∙◌}
 use Rattle.std.specs.Option.{option_map_or}
-use Rattle.std.specs.Prelude.{Bool, IfSome, None, Option, Some, false, if◌then◌else◌, is_some, option_map, true, unwrap_or, ℕ, ◌≡◌}
+use Rattle.std.specs.Prelude.{Bool, IfSome, None, Option, Some, false, if◌then◌else◌, is_some, option_map, true, unwrap_or, ℕ, ◌<◌, ◌≡◌}
 use Rattle.task_table.specs.declared.id.TableId.{TableId}
 use Rattle.task_wait.specs.declared.keys.GuestTaskKey.{GuestTaskKey}
 use Rattle.task_wait.specs.declared.keys.ThreadKey.{ThreadKey}
@@ -24,7 +24,7 @@ use Rattle.task_machine.specs.declared.records.Subtask.{Subtask}
 use Rattle.task_machine.specs.declared.records.Subtask.TheVariants as subtask
 use Rattle.task_machine.specs.declared.records.Thread.{Thread}
 use Rattle.task_machine.specs.declared.words.Status.TheVariants as status
-use Rattle.task_moves.specs.Idle.{AreIdleUnqueued, CanPublish, IsJoinThere, IsWaiting}
+use Rattle.task_moves.specs.Idle.{AreIdleUnqueued, CanPublish, IsJoinThere, IsWaiting, number_of}
 use Rattle.task_rules.proofs.StopLemmas.{Untouched}
 use Rattle.task_rules.proofs.UntouchedLemmas.{give_result_untouched, set_end_untouched, set_register_untouched, set_result_untouched, untouched_after}
 use Rattle.task_rules.specs.Ends.{result_given, returned, told}
@@ -151,6 +151,7 @@ still_waiting (Some id) f s u waits = quiet_waiting (thread_of s id) s.core (f s
 
 pub can_still : (sub : StateView → Subtask) (waiter : Option (TableId ThreadKey)) (f : Core → Core) (s t : StateView) → sub (on_core f s) ≡ sub s → t ≡ on_core f s → Quiet s.core (f s.core) → CanPublish (sub s) waiter s → CanPublish (sub t) waiter t
 can_still sub waiter f s t named e q can = subst (λ (v : StateView). CanPublish (sub v) waiter v) (sym e) (record {
+  named = subst (λ (i : Subtask). 0 < number_of i) (sym named) can.named;
   idle = quiet_idle s.core (f s.core) q.untouched can.idle;
   there = subst (λ (i : Subtask). IsJoinThere i (f s.core)) (sym named) (quiet_there (sub s) s.core (f s.core) q can.there);
   live = can.live;

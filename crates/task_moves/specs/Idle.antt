@@ -5,6 +5,7 @@ use Rattle.task_machine.specs.Maps.{get}
 use Rattle.task_machine.specs.Read.{is_at, is_blocked_on, is_waiter, join_of}
 use Rattle.task_machine.specs.declared.records.Join.TheVariants as join
 use Rattle.task_machine.specs.declared.records.Subtask.{Subtask}
+use Rattle.task_machine.specs.declared.records.Subtask.TheVariants as subtask
 use Rattle.task_table.specs.declared.id.TableId.{TableId}
 use Rattle.task_wait.specs.declared.keys.ThreadKey.{ThreadKey}
 use Rattle.task_words.specs.Apart.{AreWaitersUnqueued, IsUnqueued}
@@ -23,8 +24,13 @@ IsJoinThere sub s = (x : ℕ) → join_of sub s ≡ join.Set x → is_some (get 
 abbrev pub IsWaiting : ℕ → Core → Type 0
 IsWaiting n s = (x : ℕ) × (is_waiter x n s ≡ true)
 
+abbrev pub number_of : Subtask → ℕ
+number_of (subtask.Guest k) = k
+number_of (subtask.Host i) = i
+
 -- A status of the subtask may be published, with this waiter to be woken.
 pub record CanPublish (sub : Subtask) (waiter : Option (TableId ThreadKey)) (s : StateView) : Type 0 where
+  pub named : 0 < number_of sub
   pub idle : AreIdleUnqueued s.core
   pub there : IsJoinThere sub s.core
   pub live : IfSome waiter (λ id. 0 < thread_of s id)

@@ -1,6 +1,7 @@
 //! Publish: a status of a subtask becomes its event, and who waits for it is woken.
-ghost use Rattle.std.specs.Prelude.{◌≡◌, ◌<◌, IfSome, option_map, true};
+ghost use Rattle.std.specs.Prelude.{◌≡◌, ◌<◌, IfSome, option_map, true, ℕ};
 ghost use Rattle.task_machine.specs.Moves.{may_publish, may_wake_joined, published, wake_joined};
+ghost use Rattle.task_machine.specs.declared.records.Join.TheVariants as joins;
 ghost use Rattle.task_moves.specs.Idle.{CanPublish, IsJoinThere, IsWaiting};
 ghost use Rattle.task_words.specs.Apart.{IsUnqueued};
 ghost use Rattle.task_words.specs.Names.{join_in, subtask_in};
@@ -13,6 +14,7 @@ use task_words::{JoinId, SubtaskId, ThreadId, Words};
 // A waiter of the set that is joined.
 #[tactic(auto, unfolding(task_machine::specs::Moves::may_wake))]
 fn waiter_of<W: Words>(w: &W, join: JoinId) -> Option<ThreadId>
+    requires { (x : ℕ) → join_in (W.view w.now).tags join ≡ joins.Set x → 0 < x }
     ensures choice { may_wake_joined (join_in (W.view w.now).tags join) (option_map (λ id. thread_of (W.view w.now) id) result) (W.view w.now).core ≡ true }
     ensures live { IfSome result (λ id. 0 < thread_of (W.view w.now) id) }
     ensures waits { IfSome result (λ id. IsWaiting (thread_of (W.view w.now) id) (W.view w.now).core) }
@@ -42,6 +44,7 @@ pub fn publish_waiter<W: Words>(w: &W, subtask: SubtaskId) -> Option<ThreadId>
     ensures live { IfSome result (λ id. 0 < thread_of (W.view w.now) id) }
     ensures waits { IfSome result (λ id. IsWaiting (thread_of (W.view w.now) id) (W.view w.now).core) }
 {
+    w.none_is_zero();
     let join = w.join(subtask);
     waiter_of(w, join)
 }

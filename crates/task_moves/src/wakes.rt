@@ -3,7 +3,7 @@ ghost use Rattle.std.specs.Prelude.{◌≡◌, ◌<◌, IfSome, option_map, true
 ghost use Rattle.task_machine.specs.Moves.{behind_one, is_callback_waiter, may_wake, unblocked, wake, waken_by};
 ghost use Rattle.task_machine.specs.Read.{blocked_on};
 ghost use Rattle.task_words.specs.Apart.{AreWaitersUnqueued, IsBehindNobody, IsBlockedUnqueued, IsUnqueued};
-ghost use Rattle.task_words.specs.Names.{subtask_in};
+ghost use Rattle.task_words.specs.Names.{number_in, subtask_in};
 ghost use Rattle.task_words.specs.StateView.{on_core, set_of, thread_of};
 
 use crate::moves::put_high;
@@ -54,7 +54,8 @@ pub fn wake_chosen<W: Words>(w: &mut W, set: SetId, waiter: Option<ThreadId>)
 /// A waiter of the set is woken, if there is one, and is answered.
 #[tactic(auto, unfolding(task_machine::specs::Moves::may_wake))]
 pub fn wake<W: Words>(w: &mut W, set: SetId) -> Option<ThreadId>
-    requires { AreWaitersUnqueued (set_of (W.view w.old) set) (W.view w.old).core }
+    requires named { 0 < set_of (W.view w.old) set }
+    requires unqueued { AreWaitersUnqueued (set_of (W.view w.old) set) (W.view w.old).core }
     ensures choice { may_wake (set_of (W.view w.old) set) (option_map (λ id. thread_of (W.view w.old) id) result) (W.view w.old).core ≡ true }
     ensures new { W.view w.new ≡ on_core (wake (set_of (W.view w.old) set) (option_map (λ id. thread_of (W.view w.old) id) result)) (W.view w.old) }
 {
@@ -65,7 +66,8 @@ pub fn wake<W: Words>(w: &mut W, set: SetId) -> Option<ThreadId>
 
 /// Who is blocked on the subtask goes to high.
 pub fn unblock<W: Words>(w: &mut W, subtask: SubtaskId)
-    requires { IsBlockedUnqueued (subtask_in (W.view w.old).tags subtask) (W.view w.old).core }
+    requires named { 0 < number_in (W.view w.old).tags subtask }
+    requires unqueued { IsBlockedUnqueued (subtask_in (W.view w.old).tags subtask) (W.view w.old).core }
     ensures { W.view w.new ≡ on_core (unblocked (blocked_on (subtask_in (W.view w.old).tags subtask) (W.view w.old).core)) (W.view w.old) }
 {
     if let Some(thread) = w.blocked_on(subtask) {

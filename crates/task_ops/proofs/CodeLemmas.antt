@@ -1,7 +1,7 @@
 -- Activations that end with a code, step by step.
 use Rattle.std.proofs.Common.{ap, ap₂, arith, refl, subst, sym, ◌∙◌}
 use Rattle.std.proofs.lemmas.Bool.Decides.{nat_tests}
-use Rattle.std.specs.Prelude.{Bool, List, None, Option, Some, [], false, if◌then◌else◌, nat_lt, not, option_map, suc, true, zero, ℕ, ◌%◌, ◌/◌, ◌≡◌, ◌≤◌}
+use Rattle.std.specs.Prelude.{Bool, List, Option, Some, [], false, nat_lt, not, suc, true, zero, ℕ, ◌%◌, ◌/◌, ◌≡◌, ◌≤◌}
 use Rattle.task_table.specs.declared.id.TableId.{TableId}
 use Rattle.task_wait.specs.declared.keys.GuestTaskKey.{GuestTaskKey}
 use Rattle.task_wait.specs.declared.keys.SetKey.{SetKey}
@@ -18,7 +18,7 @@ use Rattle.task_machine.specs.declared.trap.Trap.TheVariants as trap
 use Rattle.task_machine.specs.declared.words.OwnEvent.{OwnEvent}
 use Rattle.task_ops.specs.Came.{Meets}
 use Rattle.task_ops.specs.Reopens.{InSomeOrder}
-use Rattle.task_ops.specs.Running.{IsRunning, SetsThere}
+use Rattle.task_ops.specs.Running.{IsRunning}
 use Rattle.task_ops.specs.declared.came.Came.{Came}
 use Rattle.task_ops.specs.declared.came.Came.TheVariants as came
 use Rattle.task_ops.proofs.ExitLemmas.{reopened_stand}
@@ -29,7 +29,6 @@ use Rattle.task_rules.proofs.UntouchedLemmas.{set_own_event_untouched}
 use Rattle.task_rules.specs.Ends.{code_exits, code_finds, code_kind_row, code_row, code_stops, code_wait_row, code_waits, code_yields, has_event_for, held_by_flag, leaves_no_result, own_or_none, passes_after_stop}
 use Rattle.task_rules.specs.Progress.{Ordered, Progress, Stops, or_trap, trap_if}
 use Rattle.task_words.specs.Apart.{IsApart, IsUnqueued}
-use Rattle.task_words.specs.Live.{live_set}
 use Rattle.task_words.specs.StateView.{StateView, call_of, on_core, set_of, thread_of}
 
 -- the thread's instance lets entries in, and its strand stops
@@ -86,27 +85,13 @@ module _ (n : TableId ThreadKey) where
 
   -- ---- Code 2
 
-  named : (x y : ℕ) (b : Bool) → b ≡ true → y ≡ (if b then x else 0) → y ≡ x
-  named x y b there e = e ∙ ap (λ c. if c then x else 0) there
-
-  -- the set that a handle names is there
-  set_is : (i h : ℕ) (id : TableId SetKey) (s : StateView) (o : Option ℕ) → SetsThere s.core → set_at i h s.core ≡ o → Some (set_of s id) ≡ option_map (λ x. live_set x s.core) o → set_at i h s.core ≡ Some (set_of s id)
-  set_is i h id s None there at e = absurd (no_both e)
-    where
-      no_both : Some (set_of s id) ≡ None → ⊥
-      no_both e = cc
-  set_is i h id s (Some x) there at e = at ∙ ap (λ (y : ℕ). Some y) (sym (named x (set_of s id) _ (there i h x at) (same_some (set_of s id) (live_set x s.core) e)))
-    where
-      same_some : (y z : ℕ) → Some y ≡ Some z → y ≡ z
-      same_some y z e = cc
-
-  pub code_waits_meets : (k : TableId GuestTaskKey) (id : TableId SetKey) (i h : ℕ) (b finds : Bool) (l : Label) (new : ℕ → List ℕ → Core → Core) (s t x : StateView) → SetsThere s.core → i ≡ instance_of (thread_of s n) s.core → Some (set_of s id) ≡ option_map (λ y. live_set y s.core) (set_at i h s.core) → call_of s k ≡ task_of (thread_of s n) s.core → b ≡ has_event_for (call_of s k) (set_of s id) s.core → b ≡ finds → ((y : ℕ) (held : List ℕ) (c : Core) → code_wait_row l (thread_of s n) y held c finds ≡ Ordered held (λ order. Stops l (new y order c))) → ((o : Reopened n s t) → x.core ≡ new (set_of s id) o.0 s.core) → Reopened n s t → Meets (code_kind_row l (thread_of s n) (held_by_flag (instance_of (thread_of s n) s.core) s.core) s.core (suc (suc zero)) h) s.core (came.Stops l) x.core
-  code_waits_meets k id i h b finds l new s t x there at names task event found row core o =
+  pub code_waits_meets : (k : TableId GuestTaskKey) (id : TableId SetKey) (i h : ℕ) (b finds : Bool) (l : Label) (new : ℕ → List ℕ → Core → Core) (s t x : StateView) → i ≡ instance_of (thread_of s n) s.core → Some (set_of s id) ≡ set_at i h s.core → call_of s k ≡ task_of (thread_of s n) s.core → b ≡ has_event_for (call_of s k) (set_of s id) s.core → b ≡ finds → ((y : ℕ) (held : List ℕ) (c : Core) → code_wait_row l (thread_of s n) y held c finds ≡ Ordered held (λ order. Stops l (new y order c))) → ((o : Reopened n s t) → x.core ≡ new (set_of s id) o.0 s.core) → Reopened n s t → Meets (code_kind_row l (thread_of s n) (held_by_flag (instance_of (thread_of s n) s.core) s.core) s.core (suc (suc zero)) h) s.core (came.Stops l) x.core
+  code_waits_meets k id i h b finds l new s t x at names task event found row core o =
       let N = thread_of s n in
       let I = instance_of N s.core in
       let X = set_of s id in
       let held = held_by_flag I s.core in
-      let set = sym (ap (λ (j : ℕ). set_at j h s.core) at) ∙ set_is i h id s (set_at i h s.core) there refl names in
+      let set = sym (ap (λ (j : ℕ). set_at j h s.core) at) ∙ sym names in
       let finds_is = sym (ap (λ (j : ℕ). has_event_for j X s.core) task) ∙ (sym event ∙ found) in
       let row_is = ap (λ (y : Option ℕ). or_trap y trap.BadHandle (λ z. code_wait_row l N z held s.core (has_event_for (task_of N s.core) z s.core))) set
       ∙ (ap (λ (c : Bool). code_wait_row l N X held s.core c) finds_is ∙ row X held s.core) in

@@ -9,6 +9,7 @@ ghost use Rattle.task_words.specs.StateView.{call_of, set_of, thread_of};
 
 use crate::came::Came;
 use crate::exits::{leaves_no_result, passes_after_stop, stop_reopened};
+use crate::names::set_named;
 use task_machine::{Label, OwnEvent, Trap};
 use task_moves::{check, end_thread, foot_of, put_high, put_low};
 use task_words::{CallId, DeliveryId, PlaceId, SetId, ThreadId, WhyId, Words};
@@ -62,6 +63,7 @@ fn code_yields<W: Words>(w: &mut W, thread: ThreadId, label: Label) -> Came
 // The task's own event, or a ready member of the set, is there.
 #[tactic(auto, unfolding(task_rules::specs::Ends::has_event_for))]
 fn has_event_for<W: Words>(w: &W, call: CallId, set: SetId) -> bool
+    requires { 0 < set_of (W.view w.now) set }
     ensures { result ≡ has_event_for (call_of (W.view w.now) call) (set_of (W.view w.now) set) (W.view w.now).core }
 {
     w.own_event(call).is_some() || w.has_ready_member(set)
@@ -76,7 +78,7 @@ fn code_waits<W: Words>(w: &mut W, thread: ThreadId, label: Label, handle: u64) 
     ensures current { (W.view w.new).current ≡ (W.view w.old).current }
 {
     let instance = w.instance_of(thread);
-    let Some(set) = w.set_at(instance, handle) else {
+    let Some(set) = set_named(w, instance, handle) else {
         return Came::Traps(Trap::BadHandle);
     };
     let finds = has_event_for(w, w.task_of(thread), set);

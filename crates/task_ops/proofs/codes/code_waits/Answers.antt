@@ -11,12 +11,12 @@ pub returns-then-finds-clause-meets : goal.returns-then-finds-clause-meets
 returns-then-finds-clause-meets g c =
     let v = g.W.View.view in
     let s = v c.args.w.now in
-    code_waits_meets c.args.thread c.task_of.result c.in-Some.set _ c.args.handle _ true c.args.label (code_finds (thread_of s c.args.thread)) s (v c.stop_reopened.new.w) (v c.put_high.new.w) c.requires.there c.instance_of-instance.ensures c.in-Some.ensures c.task_of.ensures.is c.has_event_for-finds.ensures c.if-finds.true (λ y held d. refl)
+    code_waits_meets c.args.thread c.task_of.result c.in-Some.set _ c.args.handle _ true c.args.label (code_finds (thread_of s c.args.thread)) s (v c.stop_reopened.new.w) (v c.put_high.new.w) c.instance_of-instance.ensures c.in-Some.ensures.is c.task_of.ensures.is c.has_event_for-finds.ensures c.if-finds.true (λ y held d. refl)
     (finds_core c.args.thread c.in-Some.set s (v c.stop_reopened.new.w) (v c.put_high.new.w) c.put_high.ensures) c.stop_reopened.ensures
 
 pub returns-else-finds-clause-meets : goal.returns-else-finds-clause-meets
 returns-else-finds-clause-meets g c =
     let v = g.W.View.view in
     let s = v c.args.w.now in
-    code_waits_meets c.args.thread c.task_of.result c.in-Some.set _ c.args.handle _ false c.args.label (code_waits (thread_of s c.args.thread)) s (v c.stop_reopened.new.w) (v c.set_place.new.self) c.requires.there c.instance_of-instance.ensures c.in-Some.ensures c.task_of.ensures.is c.has_event_for-finds.ensures c.if-finds.false (λ y held d. refl)
+    code_waits_meets c.args.thread c.task_of.result c.in-Some.set _ c.args.handle _ false c.args.label (code_waits (thread_of s c.args.thread)) s (v c.stop_reopened.new.w) (v c.set_place.new.self) c.instance_of-instance.ensures c.in-Some.ensures.is c.task_of.ensures.is c.has_event_for-finds.ensures c.if-finds.false (λ y held d. refl)
     (waits_core c.args.thread c.in-Some.set s (v c.stop_reopened.new.w) (v c.set_place.new.self) c.set_place.ensures) c.stop_reopened.ensures
