@@ -9,3 +9,4 @@ pub mod CodeLemmas
 pub mod StrikeLemmas
 pub mod TellingLemmas
 pub mod MainLemmas
+pub mod SwitchLemmas

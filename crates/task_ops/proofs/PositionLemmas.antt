@@ -30,7 +30,7 @@ use Rattle.task_moves.proofs.TellLemmas.{map_or_is}
 use Rattle.task_rules.specs.Ends.{cancelled, is_told, result_given, returned, told}
 use Rattle.task_words.specs.StateView.{StateView, on_core, thread_of}
 
-position_thread : (n m : ℕ) (f : Thread → Thread) (s : Core) → ((t : Thread) → (f t).position ≡ t.position) → position_of n (on_thread m f s) ≡ position_of n s
+pub position_thread : (n m : ℕ) (f : Thread → Thread) (s : Core) → ((t : Thread) → (f t).position ≡ t.position) → position_of n (on_thread m f s) ≡ position_of n s
 unfolding on_thread
 position_thread n m f s keeps = map_or_is (λ (t : Thread). t.position) 0 _ _ (change-field (λ (t : Thread). t.position) m f keeps s.threads n)
 

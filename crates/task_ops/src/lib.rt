@@ -12,6 +12,7 @@ mod pressure;
 mod sets;
 mod starts;
 mod strikes;
+mod switches;
 mod tasks;
 mod threads;
 
@@ -27,6 +28,7 @@ pub use pressure::{lower, raise};
 pub use sets::set_new;
 pub use starts::take_start;
 pub use strikes::strike;
+pub use switches::{halt_then_promote, halt_then_resume, thread_index, thread_new};
 pub use tasks::{ret, ret_bad, task_cancel};
 pub use threads::{halt, resume_later};
 

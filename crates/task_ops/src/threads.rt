@@ -15,7 +15,7 @@ use task_words::{HowFarId, PlaceId, ThreadId, WhyId, Words};
 
 // The strand stops; its top is suspended, or gets a low entry.
 #[tactic(auto, unfolding(task_rules::specs::Threads::halted))]
-fn stop_top<W: Words>(w: &mut W, thread: ThreadId, yielding: bool)
+pub(crate) fn stop_top<W: Words>(w: &mut W, thread: ThreadId, yielding: bool)
     requires live { 0 < thread_of (W.view w.old) thread }
     requires running { IsRunning (thread_of (W.view w.old) thread) (W.view w.old).core }
     ensures { W.view w.new ≡ on_core (halted (halt_of yielding) (thread_of (W.view w.old) thread)) (W.view w.old) }
@@ -56,7 +56,7 @@ pub fn halt<W: Words>(w: &mut W, thread: ThreadId, yielding: bool, label: Label)
 }
 
 // Why the thread is resumed, if it may be.
-fn resume_why<W: Words>(w: &W, thread: ThreadId) -> Option<WhyId>
+pub(crate) fn resume_why<W: Words>(w: &W, thread: ThreadId) -> Option<WhyId>
     ensures { option_map (why_in (W.view w.now).tags) result ≡ resume_why (thread_of (W.view w.now) thread) (W.view w.now).core }
 {
     match w.place(thread) {
