@@ -10,3 +10,4 @@ pub mod StrikeLemmas
 pub mod TellingLemmas
 pub mod MainLemmas
 pub mod SwitchLemmas
+pub mod LeaveLemmas
