@@ -11,3 +11,4 @@ pub mod TellingLemmas
 pub mod MainLemmas
 pub mod SwitchLemmas
 pub mod LeaveLemmas
+pub mod GiftLemmas

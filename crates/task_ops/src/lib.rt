@@ -6,6 +6,7 @@ mod came;
 mod codes;
 mod data;
 mod exits;
+mod gifts;
 mod leaves;
 mod mains;
 mod names;
