@@ -12,3 +12,4 @@ pub mod MainLemmas
 pub mod SwitchLemmas
 pub mod LeaveLemmas
 pub mod GiftLemmas
+pub mod PollLemmas

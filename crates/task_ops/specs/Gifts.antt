@@ -3,7 +3,7 @@ use Rattle.std.specs.Prelude.{None, Option, Some, true, ℕ, ◌≡◌}
 use Rattle.task_machine.specs.Core.{Core}
 use Rattle.task_machine.specs.Moves.{MemberGift, NoGift, OwnGift}
 use Rattle.task_machine.specs.Moves as moves
-use Rattle.task_machine.specs.Read.{is_ready_member, subtask_at, subtask_handle}
+use Rattle.task_machine.specs.Read.{is_ready_member, set_at, subtask_at, subtask_handle}
 use Rattle.task_machine.specs.declared.records.Subtask.{Subtask}
 use Rattle.task_ops.specs.declared.gifts.Gift.{Gift}
 use Rattle.task_ops.specs.declared.gifts.Gift.TheVariants as gifts
@@ -31,3 +31,7 @@ MembersNamed i x s = (sub : Subtask) → is_ready_member x sub s ≡ true → (h
 abbrev pub IsNamedIn : ℕ → Tags → Gift → Core → Type 0
 IsNamedIn i tags (gifts.Member sub h) s = subtask_at i h s ≡ Some (subtask_in tags sub)
 IsNamedIn i tags _ s = Unit {0}
+
+-- The same of each set that the instance names.
+abbrev pub AllMembersNamed : ℕ → Core → Type 0
+AllMembersNamed i s = (h x : ℕ) → set_at i h s ≡ Some x → MembersNamed i x s

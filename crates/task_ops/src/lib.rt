@@ -10,6 +10,7 @@ mod gifts;
 mod leaves;
 mod mains;
 mod names;
+mod polls;
 mod pressure;
 mod sets;
 mod starts;
