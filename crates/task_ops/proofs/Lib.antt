@@ -13,3 +13,4 @@ pub mod SwitchLemmas
 pub mod LeaveLemmas
 pub mod GiftLemmas
 pub mod PollLemmas
+pub mod WaitLemmas

@@ -80,7 +80,7 @@ position_waken : (n : ℕ) (b : Bool) (x m : ℕ) (s : Core) → position_of n (
 position_waken n true x m s = position_high n m (why.Delivery (delivery.Set x)) s
 position_waken n false x m s = position_high n m why.Resumption s
 
-position_wake : (n x : ℕ) (w : Option ℕ) (s : Core) → position_of n (wake x w s) ≡ position_of n s
+pub position_wake : (n x : ℕ) (w : Option ℕ) (s : Core) → position_of n (wake x w s) ≡ position_of n s
 unfolding wake
 position_wake n x None s = refl
 position_wake n x (Some m) s = position_waken n (is_callback_waiter m s) x m s

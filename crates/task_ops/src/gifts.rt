@@ -18,7 +18,7 @@ pub enum Gift {
 }
 
 // The own event, Cancelled only by callback.
-fn own_gift<W: Words>(w: &W, by_callback: bool, call: CallId) -> Option<OwnEvent>
+pub(crate) fn own_gift<W: Words>(w: &W, by_callback: bool, call: CallId) -> Option<OwnEvent>
     ensures { result ≡ own_gift_of by_callback (call_of (W.view w.now) call) (W.view w.now).core }
 {
     match w.own_event(call) {

@@ -18,6 +18,7 @@ mod strikes;
 mod switches;
 mod tasks;
 mod threads;
+mod waits;
 
 ghost use Rattle.task_ops.specs.Steps.{ActingIsStep, MeetingIsStep, TakingIsStep};
 
