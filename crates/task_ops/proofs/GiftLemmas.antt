@@ -6,11 +6,11 @@ use Rattle.std.specs.FinMap.Entries.{find}
 use Rattle.std.specs.List.{list_any}
 use Rattle.std.specs.Option.{option_map_or}
 use Rattle.std.specs.Ordering.{eq_by_cmp, nat_cmp}
-use Rattle.std.specs.Prelude.{Bool, List, None, Option, Some, [], false, is_some, map, true, ℕ, ◌&&◌, ◌++◌, ◌∷◌, ◌≡◌, ◌||◌}
+use Rattle.std.specs.Prelude.{Bool, List, None, Option, Some, [], false, is_some, map, true, ℕ, ◌&&◌, ◌∷◌, ◌≡◌, ◌||◌}
 use Rattle.task_machine.specs.Core.{Core}
 use Rattle.task_machine.specs.Maps.{get, numbers}
 use Rattle.task_machine.specs.Moves.{MemberGift, NoGift, gift, gift_after_own, member_gift, own_gift_of}
-use Rattle.task_machine.specs.Read.{event_of, has_ready_member, is_in_set, is_ready_member}
+use Rattle.task_machine.specs.Read.{has_ready_member, is_in_set, is_ready_member}
 use Rattle.task_machine.specs.declared.records.Call.{Call}
 use Rattle.task_machine.specs.declared.records.Join.TheVariants as join
 use Rattle.task_machine.specs.declared.records.Subtask.{Subtask}

@@ -1,6 +1,6 @@
 -- A sync export's exit, step by step.
 use Rattle.std.proofs.Common.{ap, refl, subst, sym, ◌∙◌}
-use Rattle.std.specs.Prelude.{IfSome, Option, [], false, option_map, unwrap_or, ℕ, ◌≡◌}
+use Rattle.std.specs.Prelude.{Option, [], false, option_map, unwrap_or, ℕ, ◌≡◌}
 use Rattle.task_table.specs.declared.id.TableId.{TableId}
 use Rattle.task_wait.specs.declared.keys.GuestTaskKey.{GuestTaskKey}
 use Rattle.task_wait.specs.declared.keys.ThreadKey.{ThreadKey}
@@ -19,7 +19,7 @@ use Rattle.task_ops.proofs.RunLemmas.{own_apart, stands_on}
 use Rattle.task_ops.proofs.TellingLemmas.{all_wait, returned_stands, returned_under}
 use Rattle.task_ops.specs.Running.{IsRunning}
 use Rattle.task_places.proofs.PlaceWords.{waits_quiet}
-use Rattle.task_rules.proofs.StopLemmas.{Untouched, quiet_stand, stopped_stand}
+use Rattle.task_rules.proofs.StopLemmas.{quiet_stand, stopped_stand}
 use Rattle.task_rules.proofs.UntouchedLemmas.{on_instance_untouched}
 use Rattle.task_rules.specs.Ends.{exit_restores, returned, sync_exits}
 use Rattle.task_words.specs.Apart.{IsApart}
@@ -69,4 +69,4 @@ module _ (n : TableId ThreadKey) (k : TableId GuestTaskKey) (waiter : Option (Ta
       let N = thread_of s n in
       let w = option_map (λ id. thread_of s id) waiter in
       out ∙ (ap (λ (y : StateView). ended (thread_of y n) y.core) d ∙ (ap (λ (y : StateView). ended (thread_of y n) (stopped (thread_of y f) y.core)) e
-        ∙ (ap (λ (g : ℕ). ended N (stopped g (left N (call_of s k) v w s.core))) foot ∙ (ap (λ (j : ℕ). ended N (stopped (foot_of N s.core) (left N j v w s.core))) task ∙ ap (λ (a : ℕ). ended N (stopped (foot_of N s.core) (left N (task_of N s.core) a w s.core))) value))))
+      ∙ (ap (λ (g : ℕ). ended N (stopped g (left N (call_of s k) v w s.core))) foot ∙ (ap (λ (j : ℕ). ended N (stopped (foot_of N s.core) (left N j v w s.core))) task ∙ ap (λ (a : ℕ). ended N (stopped (foot_of N s.core) (left N (task_of N s.core) a w s.core))) value))))

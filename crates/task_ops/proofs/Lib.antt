@@ -14,3 +14,4 @@ pub mod LeaveLemmas
 pub mod GiftLemmas
 pub mod PollLemmas
 pub mod WaitLemmas
+pub mod DeliveryLemmas

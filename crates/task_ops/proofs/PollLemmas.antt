@@ -1,6 +1,6 @@
 -- What a poll comes to.
 use Rattle.std.proofs.Common.{ap, refl, subst, sym, ◌∙◌}
-use Rattle.std.specs.Prelude.{None, Option, Some, false, option_and_then, unwrap_or, ℕ, ◌+◌, ◌<◌, ◌≡◌}
+use Rattle.std.specs.Prelude.{Some, false, option_and_then, unwrap_or, ℕ, ◌+◌, ◌<◌, ◌≡◌}
 use Rattle.task_table.specs.declared.id.TableId.{TableId}
 use Rattle.task_wait.specs.declared.keys.SetKey.{SetKey}
 use Rattle.task_wait.specs.declared.keys.ThreadKey.{ThreadKey}
@@ -11,7 +11,6 @@ use Rattle.task_machine.specs.Read.{instance_of, position_of, set_at, subtask_at
 use Rattle.task_machine.specs.Write.{on_call, on_work, set_cancel_delivered, set_event, set_own_event}
 use Rattle.task_machine.specs.declared.label.Label.TheVariants as label
 use Rattle.task_machine.specs.declared.label.SetLabel.TheVariants as set_label
-use Rattle.task_machine.specs.declared.records.Subtask.{Subtask}
 use Rattle.task_machine.specs.declared.records.Subtask.TheVariants as subtask
 use Rattle.task_machine.specs.declared.trap.Trap.TheVariants as trap
 use Rattle.task_machine.specs.declared.words.Given.{Given}

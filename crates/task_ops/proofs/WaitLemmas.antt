@@ -1,5 +1,5 @@
 -- Waits that go on.
-use Rattle.std.proofs.Common.{T, ap, ap₂, refl, subst, sym, ◌∙◌}
+use Rattle.std.proofs.Common.{T, ap, refl, subst, sym, ◌∙◌}
 use Rattle.std.specs.Prelude.{Bool, None, Option, Some, false, if◌then◌else◌, true, unwrap_or, ℕ, ◌+◌, ◌<◌, ◌≡◌}
 use Rattle.task_table.specs.declared.id.TableId.{TableId}
 use Rattle.task_wait.specs.declared.keys.GuestTaskKey.{GuestTaskKey}
@@ -9,7 +9,7 @@ use Rattle.task_machine.specs.Core.{Core}
 use Rattle.task_machine.specs.Labels.{choice_of, wait_label}
 use Rattle.task_machine.specs.Moves as moves
 use Rattle.task_machine.specs.Moves.{handed_on, hands_on, is_callback_waiter, may_hand_on, put_high, wake, waken_by}
-use Rattle.task_machine.specs.Read.{has_ready_member, position_of, task_of}
+use Rattle.task_machine.specs.Read.{position_of, task_of}
 use Rattle.task_machine.specs.Write.{on_thread, push_high, set_place}
 use Rattle.task_machine.specs.declared.label.Label.{Label}
 use Rattle.task_machine.specs.declared.records.Delivery.TheVariants as delivery

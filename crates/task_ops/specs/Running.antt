@@ -5,6 +5,7 @@ use Rattle.task_machine.specs.Maps.{get}
 use Rattle.task_machine.specs.Read.{set_at}
 use Rattle.task_machine.specs.declared.records.Place.{Place}
 use Rattle.task_machine.specs.declared.records.Place.TheVariants as places
+use Rattle.task_machine.specs.declared.records.Why.{Why}
 use Rattle.task_machine.specs.declared.records.Why.TheVariants as why
 use Rattle.task_machine.specs.declared.words.Mark.{Mark}
 use Rattle.task_rules.proofs.StandLemmas.{Stand}
@@ -27,3 +28,7 @@ pub record IsTopmost (n : ℕ) (s : Core) : Type 0 where
 -- The start of the thread was taken from its mark, and each other thread has its place.
 abbrev pub IsStartTaken : ℕ → Core → Type 0
 IsStartTaken n s = (m : Mark) × Stand n (places.Ready m why.Start) [] s
+
+-- The thread's entry was taken, which stood for this, and each other thread has its place.
+abbrev pub IsTaken : ℕ → Why → Core → Type 0
+IsTaken n w s = (m : Mark) × Stand n (places.Ready m w) [] s

@@ -1,5 +1,5 @@
 //! What a task is given: its own event, that of a ready member of a set, or nothing.
-ghost use Rattle.std.specs.Prelude.{◌≡◌, ◌<◌, ◌≤◌, Some, unwrap_or};
+ghost use Rattle.std.specs.Prelude.{◌≡◌, ◌<◌, ◌≤◌, None, Some, unwrap_or};
 ghost use Rattle.task_machine.specs.Labels.{handle_given};
 ghost use Rattle.task_machine.specs.Moves.{gift, given_for, own_gift_of, own_gift_only, taken};
 ghost use Rattle.task_ops.specs.Gifts.{IsNamedIn, MembersNamed, gift_in, handle_in, member_in};
@@ -55,7 +55,8 @@ pub(crate) fn gift_for<W: Words>(
 /// The own event alone, by callback.
 #[tactic(auto, unfolding(task_machine::specs::Moves::own_gift_only))]
 pub(crate) fn own_gift_only<W: Words>(w: &W, call: CallId) -> Gift
-    ensures { gift_in (W.view w.now).tags result ≡ own_gift_only (call_of (W.view w.now) call) (W.view w.now).core }
+    ensures is { gift_in (W.view w.now).tags result ≡ own_gift_only (call_of (W.view w.now) call) (W.view w.now).core }
+    ensures handle { handle_in result ≡ None }
 {
     match own_gift(w, true, call) {
         Some(event) => Gift::Own(event),

@@ -1,9 +1,7 @@
 //! The exits that end a task with what its first register has.
 ghost use Rattle.std.specs.Prelude.{◌≡◌, ◌<◌, option_map};
 ghost use Rattle.task_machine.specs.Labels.{choice_of};
-
 ghost use Rattle.task_machine.specs.Read.{task_of};
-
 ghost use Rattle.task_machine.specs.declared.records.Subtask.TheVariants as subtasks;
 ghost use Rattle.task_moves.specs.Idle.{CanPublish, IsJoinThere};
 ghost use Rattle.task_ops.specs.Came.{Meets};

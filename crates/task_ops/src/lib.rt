@@ -5,6 +5,7 @@
 mod came;
 mod codes;
 mod data;
+mod deliveries;
 mod exits;
 mod gifts;
 mod leaves;

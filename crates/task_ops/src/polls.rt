@@ -10,7 +10,7 @@ ghost use Rattle.task_rules.specs.Sets.{poll_row, received};
 ghost use Rattle.task_words.specs.StateView.{call_of, on_core, thread_of};
 
 use crate::came::Came;
-use crate::gifts::{gift_for, given, take, write_given, Gift};
+use crate::gifts::{Gift, gift_for, given, take, write_given};
 use crate::names::set_named;
 use task_machine::{Given, Label, SetLabel, Trap};
 use task_words::{CallId, ThreadId, Words};

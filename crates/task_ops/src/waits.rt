@@ -13,7 +13,7 @@ ghost use Rattle.task_words.specs.Apart.{AreWaitersUnqueued};
 ghost use Rattle.task_words.specs.StateView.{on_core, set_of, thread_of};
 
 use crate::came::Came;
-use crate::gifts::{gift_for, given, own_gift, Gift};
+use crate::gifts::{Gift, gift_for, given, own_gift};
 use crate::names::set_named;
 use crate::polls::receive;
 use task_machine::{Given, Label, OwnEvent, SetLabel, ThreadLabel, Trap};
@@ -91,7 +91,7 @@ pub fn begin_wait<W: Words>(w: &mut W, thread: ThreadId, to: u8, handle: u64) ->
 }
 
 // The own event that was given.
-fn own_given(given: Given) -> OwnEvent
+pub(crate) fn own_given(given: Given) -> OwnEvent
     ensures { result ≡ own_given given }
 {
     match given {

@@ -1,4 +1,3 @@
-use Rattle.std.proofs.Common.{sym, ◌∙◌}
 use Rattle.task_ops.proofs.GiftLemmas.{member_given}
 use Rattle.task_ops.proofs.gifts.gift_for.Goals as goal
 

@@ -1,4 +1,4 @@
-use Rattle.std.proofs.Common.{ap, sym, ◌∙◌}
+use Rattle.std.proofs.Common.{ap, ◌∙◌}
 use Rattle.task_ops.proofs.WaitLemmas.{goes_on_meets, handed_below, handed_task}
 use Rattle.task_words.specs.StateView.{StateView, thread_of}
 use Rattle.task_ops.proofs.waits.go_on_waiting.Goals as goal
