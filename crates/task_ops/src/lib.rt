@@ -20,6 +20,7 @@ mod switches;
 mod tasks;
 mod threads;
 mod waits;
+mod ways;
 
 ghost use Rattle.task_ops.specs.Steps.{ActingIsStep, MeetingIsStep, TakingIsStep};
 
