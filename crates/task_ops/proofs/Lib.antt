@@ -15,3 +15,4 @@ pub mod GiftLemmas
 pub mod PollLemmas
 pub mod WaitLemmas
 pub mod DeliveryLemmas
+pub mod WorkLemmas

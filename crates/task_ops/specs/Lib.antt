@@ -5,3 +5,4 @@ pub mod Halting
 pub mod Reopens
 pub mod Acted
 pub mod Gifts
+pub mod Polled

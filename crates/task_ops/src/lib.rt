@@ -21,6 +21,7 @@ mod tasks;
 mod threads;
 mod waits;
 mod ways;
+mod works;
 
 ghost use Rattle.task_ops.specs.Steps.{ActingIsStep, MeetingIsStep, TakingIsStep};
 
