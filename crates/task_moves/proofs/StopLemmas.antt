@@ -267,13 +267,6 @@ stopped_behind f m g s at foot = ap (λ k. behind k (callers_of f s) (set_caller
 pub stop_passes : (f n g : TableId ThreadKey) (s t : StateView) → Some (thread_of s n) ≡ s.core.queues.switch → thread_of s g ≡ foot_of (thread_of s n) s.core → t ≡ on_core (behind_from (thread_of s f) (thread_of s g)) s → t ≡ on_core (stopped (thread_of s f)) s
 stop_passes f n g s t at foot e = e ∙ ap (λ (c : Core). with_core c s) (stopped_behind (thread_of s f) (thread_of s n) (thread_of s g) s.core (sym at) foot)
 
-pub stop_may_pass : (f n g : TableId ThreadKey) (s : StateView) → Some (thread_of s n) ≡ s.core.queues.switch → thread_of s g ≡ foot_of (thread_of s n) s.core → MayStop (thread_of s f) s.core → MayPass (thread_of s f) (thread_of s g) s.core
-stop_may_pass f n g s at foot may = record {
-  apart = ap (λ k. k == thread_of s f) foot ∙ may.apart (thread_of s n) (sym at);
-  once = λ k. let x = may.unqueued k in omega (arith, x);
-  alone = may.alone;
-}
-
 last_listed : (n : ℕ) (ns : List ℕ) → Some n ≡ newest_of ns → (m : ℕ) × ((ms : List ℕ) × ((ns ≡ m ∷ ms) × (newest m ms ≡ n)))
 last_listed n [] e = absurd (no_both e)
   where

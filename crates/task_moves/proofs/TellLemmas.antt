@@ -41,9 +41,6 @@ pub record Quiet (s t : Core) : Type 0 where
   pub joins : (sub : Subtask) → join_of sub t ≡ join_of sub s
   pub sets : t.sets ≡ s.sets
 
-pub quiet_after : {s m t : Core} → Quiet s m → Quiet m t → Quiet s t
-quiet_after a b = record { untouched = untouched_after a.untouched b.untouched; joins = λ sub. b.joins sub ∙ a.joins sub; sets = b.sets ∙ a.sets }
-
 unqueued_as : (n : ℕ) (q r : Queues) → r ≡ q → (entries n q.high ≡ 0) × (entries n q.low ≡ 0) → (entries n r.high ≡ 0) × (entries n r.low ≡ 0)
 unqueued_as n q r e h = subst (λ (x : Queues). (entries n x.high ≡ 0) × (entries n x.low ≡ 0)) (sym e) h
 
