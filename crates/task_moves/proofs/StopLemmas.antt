@@ -15,7 +15,7 @@ use Rattle.task_machine.specs.declared.records.Place.TheVariants as place
 use Rattle.task_machine.specs.declared.records.Why.{Why}
 use Rattle.task_machine.specs.declared.records.Why.TheVariants as why
 use Rattle.task_machine.specs.declared.words.Mark.TheVariants as mark
-use Rattle.task_moves.specs.Stops.{AreCallersUnqueued, MayPass, MayStop, behind_from, resumed_from}
+use Rattle.task_moves.specs.Stops.{AreCallersUnqueued, MayPass, behind_from, resumed_from}
 use Rattle.task_rules.proofs.StandLemmas.{by_number, entries-append, eq_refl, not_eq, times-append, times-newest}
 use Rattle.task_rules.specs.Places.{entries, one_if, times}
 use Rattle.task_rules.specs.Works.{first_number}

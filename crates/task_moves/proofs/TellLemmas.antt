@@ -26,7 +26,7 @@ use Rattle.task_machine.specs.declared.records.Thread.{Thread}
 use Rattle.task_machine.specs.declared.words.Status.TheVariants as status
 use Rattle.task_moves.specs.Idle.{AreIdleUnqueued, CanPublish, IsJoinThere, IsWaiting, number_of}
 use Rattle.task_rules.proofs.StopLemmas.{Untouched}
-use Rattle.task_rules.proofs.UntouchedLemmas.{give_result_untouched, set_end_untouched, set_register_untouched, set_result_untouched, untouched_after}
+use Rattle.task_rules.proofs.UntouchedLemmas.{give_result_untouched, set_end_untouched, set_register_untouched, set_result_untouched}
 use Rattle.task_rules.specs.Ends.{result_given, returned, told}
 use Rattle.task_rules.specs.Places.{entries}
 use Rattle.task_words.specs.Apart.{IsUnqueued}
