@@ -55,8 +55,23 @@ fn skip_equal<W: Words>(
     Came::Goes(Label::Data(DataLabel::SkipEq(number)), number)
 }
 
-/// An op on registers and words, of a script that ends at `end`.
+// `store W X`
 #[tactic(auto, using(crate::proofs::PositionLemmas::position_word), unfolding(task_rules::specs::Data::stored))]
+fn store<W: Words>(w: &mut W, thread: ThreadId, word: u8, value: Operand, end: u32) -> Came
+    requires { position_of (thread_of (W.view w.old) thread) (W.view w.old).core < end }
+    ensures meets { (c : Component) → length (script_of c (thread_of (W.view w.old) thread) (W.view w.old).core) ≡ end → Meets (data_row c (thread_of (W.view w.old) thread) (W.view w.old).core (data_ops.Store word value)) (W.view w.old).core result (W.view w.new).core }
+    ensures tags { (W.view w.new).tags ≡ (W.view w.old).tags }
+    ensures current { (W.view w.new).current ≡ (W.view w.old).current }
+{
+    let number = w.number(thread);
+    let answer = value_of(w, thread, value);
+    w.set_word(w.instance_of(thread), word, answer);
+    w.advance(thread);
+    Came::Goes(Label::Data(DataLabel::Store(number, answer)), number)
+}
+
+/// An op on registers and words, of a script that ends at `end`.
+#[tactic(auto, using(crate::proofs::PositionLemmas::position_word))]
 pub fn compute<W: Words>(w: &mut W, thread: ThreadId, op: DataOp, end: u32) -> Came
     requires { position_of (thread_of (W.view w.old) thread) (W.view w.old).core < end }
     ensures meets { (c : Component) → length (script_of c (thread_of (W.view w.old) thread) (W.view w.old).core) ≡ end → Meets (data_row c (thread_of (W.view w.old) thread) (W.view w.old).core op) (W.view w.old).core result (W.view w.new).core }
@@ -87,12 +102,7 @@ pub fn compute<W: Words>(w: &mut W, thread: ThreadId, op: DataOp, end: u32) -> C
             w.assign(thread, to, answer);
             DataLabel::Load(number, answer)
         }
-        DataOp::Store { word, value } => {
-            let answer = value_of(w, thread, value);
-            w.set_word(w.instance_of(thread), word, answer);
-            w.advance(thread);
-            DataLabel::Store(number, answer)
-        }
+        DataOp::Store { word, value } => return store(w, thread, word, value, end),
         DataOp::SkipEq { left, right, ops } => {
             return skip_equal(w, thread, left, right, ops, end);
         }
