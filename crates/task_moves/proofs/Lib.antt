@@ -1,2 +1,6 @@
 pub mod MoveLemmas
 pub mod FootLemmas
+pub mod StopLemmas
+pub mod PublishLemmas
+pub mod TellLemmas
+pub mod EndLemmas

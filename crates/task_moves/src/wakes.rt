@@ -1,9 +1,9 @@
 //! Wakes: who waits on a set, or is blocked on a subtask, gets an entry at high.
-ghost use Rattle.std.specs.Prelude.{◌≡◌, ◌<◌, option_map, true};
+ghost use Rattle.std.specs.Prelude.{◌≡◌, ◌<◌, IfSome, option_map, true};
 ghost use Rattle.task_machine.specs.Moves.{behind_one, is_callback_waiter, may_wake, unblocked, wake, waken_by};
 ghost use Rattle.task_machine.specs.Read.{blocked_on};
 ghost use Rattle.task_words.specs.Apart.{AreWaitersUnqueued, IsBehindNobody, IsBlockedUnqueued, IsUnqueued};
-ghost use Rattle.task_words.specs.Names.{subtask_in};
+ghost use Rattle.task_words.specs.Names.{number_in, subtask_in};
 ghost use Rattle.task_words.specs.StateView.{on_core, set_of, thread_of};
 
 use crate::moves::put_high;
@@ -38,22 +38,36 @@ fn is_callback_waiter<W: Words>(w: &W, thread: ThreadId) -> bool
     }
 }
 
+/// The chosen waiter of the set is woken.
+#[tactic(auto, unfolding(task_machine::specs::Moves::wake))]
+pub fn wake_chosen<W: Words>(w: &mut W, set: SetId, waiter: Option<ThreadId>)
+    requires live { IfSome waiter (λ id. 0 < thread_of (W.view w.old) id) }
+    requires unqueued { IfSome waiter (λ id. IsUnqueued (thread_of (W.view w.old) id) (W.view w.old).core) }
+    ensures { W.view w.new ≡ on_core (wake (set_of (W.view w.old) set) (option_map (λ id. thread_of (W.view w.old) id) waiter)) (W.view w.old) }
+{
+    if let Some(thread) = waiter {
+        let by_callback = is_callback_waiter(w, thread);
+        wake_waiter(w, set, thread, by_callback);
+    }
+}
+
 /// A waiter of the set is woken, if there is one, and is answered.
-#[tactic(auto, unfolding(task_machine::specs::Moves::wake, task_machine::specs::Moves::may_wake))]
+#[tactic(auto, unfolding(task_machine::specs::Moves::may_wake))]
 pub fn wake<W: Words>(w: &mut W, set: SetId) -> Option<ThreadId>
-    requires { AreWaitersUnqueued (set_of (W.view w.old) set) (W.view w.old).core }
+    requires named { 0 < set_of (W.view w.old) set }
+    requires unqueued { AreWaitersUnqueued (set_of (W.view w.old) set) (W.view w.old).core }
     ensures choice { may_wake (set_of (W.view w.old) set) (option_map (λ id. thread_of (W.view w.old) id) result) (W.view w.old).core ≡ true }
     ensures new { W.view w.new ≡ on_core (wake (set_of (W.view w.old) set) (option_map (λ id. thread_of (W.view w.old) id) result)) (W.view w.old) }
 {
-    let thread = w.first_waiter(set)?;
-    let by_callback = is_callback_waiter(w, thread);
-    wake_waiter(w, set, thread, by_callback);
-    Some(thread)
+    let waiter = w.first_waiter(set);
+    wake_chosen(w, set, waiter);
+    waiter
 }
 
 /// Who is blocked on the subtask goes to high.
 pub fn unblock<W: Words>(w: &mut W, subtask: SubtaskId)
-    requires { IsBlockedUnqueued (subtask_in (W.view w.old).tags subtask) (W.view w.old).core }
+    requires named { 0 < number_in (W.view w.old).tags subtask }
+    requires unqueued { IsBlockedUnqueued (subtask_in (W.view w.old).tags subtask) (W.view w.old).core }
     ensures { W.view w.new ≡ on_core (unblocked (blocked_on (subtask_in (W.view w.old).tags subtask) (W.view w.old).core)) (W.view w.old) }
 {
     if let Some(thread) = w.blocked_on(subtask) {

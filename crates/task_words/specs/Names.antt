@@ -1,4 +1,5 @@
 -- The machine's records for those that name others by ids.
+use Rattle.std.specs.Prelude.{ℕ}
 use Rattle.task_machine.specs.declared.records.Caller.{Caller}
 use Rattle.task_machine.specs.declared.records.Caller.TheVariants as caller
 use Rattle.task_machine.specs.declared.records.Delivery.{Delivery}
@@ -40,6 +41,11 @@ use Rattle.task_words.specs.declared.names.WorkCallerId.TheVariants as work_call
 abbrev pub subtask_in : Tags → SubtaskId → Subtask
 subtask_in tags (subtasks.Guest id) = subtask.Guest (call_number tags id)
 subtask_in tags (subtasks.Host id) = subtask.Host (work_number tags id)
+
+-- the number of the call or the work
+abbrev pub number_in : Tags → SubtaskId → ℕ
+number_in tags (subtasks.Guest id) = call_number tags id
+number_in tags (subtasks.Host id) = work_number tags id
 
 abbrev pub delivery_in : Tags → DeliveryId → Delivery
 delivery_in tags (deliveries.Set id) = delivery.Set (set_number tags id)

@@ -8,7 +8,7 @@ ghost use Rattle.task_rules.specs.Places.{Placed};
 ghost use Rattle.task_rules.specs.Works.{first_number};
 ghost use Rattle.task_words.specs.Apart.{IsBehindNobody, later_of, newest_of, older_of};
 ghost use Rattle.task_words.specs.Live.{delivered_set, live_set};
-ghost use Rattle.task_words.specs.Names.{place_in, subtask_in};
+ghost use Rattle.task_words.specs.Names.{number_in, place_in, subtask_in};
 ghost use Rattle.task_words.specs.StateView.{on_core, set_of, thread_of};
 
 use crate::names::{PlaceId, SetId, SubtaskId, ThreadId};
@@ -45,16 +45,19 @@ pub trait PlaceWords: View {
 
     /// The thread that waits under this one for its direct callee.
     fn under(&self, thread: ThreadId) -> Option<ThreadId>
+        requires { 0 < thread_of (Self.view self.now) thread }
         ensures is { option_map (λ id. thread_of (Self.view self.now) id) result ≡ under_of (thread_of (Self.view self.now) thread) (Self.view self.now).core }
         ensures live { IfSome result (λ id. 0 < thread_of (Self.view self.now) id) };
 
     /// The thread that is blocked on a subtask.
     fn blocked_on(&self, subtask: SubtaskId) -> Option<ThreadId>
+        requires { 0 < number_in (Self.view self.now).tags subtask }
         ensures is { option_map (λ id. thread_of (Self.view self.now) id) result ≡ blocked_on (subtask_in (Self.view self.now).tags subtask) (Self.view self.now).core }
         ensures live { IfSome result (λ id. 0 < thread_of (Self.view self.now) id) };
 
     /// The first waiter of a set, in the order of the set's chain.
     fn first_waiter(&self, set: SetId) -> Option<ThreadId>
+        requires { 0 < set_of (Self.view self.now) set }
         ensures none { IfNone result (has_waiter (set_of (Self.view self.now) set) (Self.view self.now).core ≡ false) }
         ensures some { IfSome result (λ id. is_waiter (set_of (Self.view self.now) set) (thread_of (Self.view self.now) id) (Self.view self.now).core ≡ true) }
         ensures live { IfSome result (λ id. 0 < thread_of (Self.view self.now) id) };

@@ -20,9 +20,11 @@ pub trait SetWords: View {
         ensures { result ≡ set_instance (set_of (Self.view self.now) set) (Self.view self.now).core };
 
     fn has_member(&self, set: SetId) -> bool
+        requires { 0 < set_of (Self.view self.now) set }
         ensures { result ≡ has_member (set_of (Self.view self.now) set) (Self.view self.now).core };
 
     fn has_ready_member(&self, set: SetId) -> bool
+        requires { 0 < set_of (Self.view self.now) set }
         ensures { result ≡ has_ready_member (set_of (Self.view self.now) set) (Self.view self.now).core };
 
     /// Whether a thread waits on the set or has an entry for it.
@@ -32,6 +34,7 @@ pub trait SetWords: View {
 
     /// The first ready member of a set, in the order of the set's chain.
     fn first_ready(&self, set: SetId) -> Option<SubtaskId>
+        requires { 0 < set_of (Self.view self.now) set }
         ensures none { IfNone result (has_ready_member (set_of (Self.view self.now) set) (Self.view self.now).core ≡ false) }
         ensures some { IfSome result (λ member. is_ready_member (set_of (Self.view self.now) set) (subtask_in (Self.view self.now).tags member) (Self.view self.now).core ≡ true) };
 

@@ -25,7 +25,8 @@ pub trait ThreadWords: View {
 
     /// The thread's call, which is there as long as the thread.
     fn task_of(&self, thread: ThreadId) -> CallId
-        ensures { call_of (Self.view self.now) result ≡ task_of (thread_of (Self.view self.now) thread) (Self.view self.now).core };
+        ensures is { call_of (Self.view self.now) result ≡ task_of (thread_of (Self.view self.now) thread) (Self.view self.now).core }
+        ensures live { 0 < thread_of (Self.view self.now) thread → 0 < call_of (Self.view self.now) result };
 
     fn instance_of(&self, thread: ThreadId) -> u32
         ensures { result ≡ instance_of (thread_of (Self.view self.now) thread) (Self.view self.now).core };

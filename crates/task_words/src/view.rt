@@ -1,4 +1,5 @@
-ghost use Rattle.std.specs.Prelude.{◌≡◌};
+ghost use Rattle.std.specs.Prelude.{◌≡◌, None};
+ghost use Rattle.task_machine.specs.Maps.{get};
 ghost use Rattle.task_words.specs.StateView.{StateView, with_current};
 
 use crate::calls::CallWords;
@@ -22,6 +23,13 @@ pub trait View {
 
     fn set_current(&mut self, thread: Option<ThreadId>)
         ensures { view self.new ≡ with_current thread (view self.old) };
+
+    /// Nothing has the number 0, which is that of an id that names nothing.
+    fn none_is_zero(&self)
+        ensures threads { get (view self.now).core.threads 0 ≡ None }
+        ensures calls { get (view self.now).core.calls 0 ≡ None }
+        ensures sets { get (view self.now).core.sets 0 ≡ None }
+        ensures works { get (view self.now).core.works 0 ≡ None };
 }
 
 /// All words.
