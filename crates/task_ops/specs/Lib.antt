@@ -4,3 +4,4 @@ pub mod Running
 pub mod Halting
 pub mod Reopens
 pub mod Acted
+pub mod Stays

@@ -19,6 +19,21 @@ mod threads;
 
 ghost use Rattle.task_ops.specs.Steps.{ActingIsStep, MeetingIsStep, TakingIsStep};
 
+pub use came::Came;
+pub use codes::end_activation;
+pub use data::{compute, value_of};
+pub use exits::exit_thread;
+pub use leaves::exit_sync;
+pub use mains::{Acted, abort, answer, await_spawn, deadlock, finish, quiet, ready, spawn, start};
+pub use names::set_named;
+pub use pressure::{lower, raise};
+pub use sets::set_new;
+pub use starts::take_start;
+pub use strikes::strike;
+pub use switches::{halt_then_promote, halt_then_resume, thread_index, thread_new};
+pub use tasks::{ret, ret_bad, task_cancel};
+pub use threads::{halt, resume_later};
+
 /// An op that meets its row is a step of the machine.
 #[tactic(auto, using(crate::proofs::MeetLemmas::meeting_is_step))]
 pub fn meeting_is_step()
