@@ -1,26 +1,28 @@
 -- A sync export's exit, step by step.
 use Rattle.std.proofs.Common.{ap, refl, subst, sym, ◌∙◌}
-use Rattle.std.specs.Prelude.{IfSome, Option, [], false, option_map, unwrap_or, ℕ, ◌≡◌}
+use Rattle.std.specs.Prelude.{Some, Option, [], false, option_map, unwrap_or, ℕ, ◌≡◌}
 use Rattle.task_table.specs.declared.id.TableId.{TableId}
 use Rattle.task_wait.specs.declared.keys.GuestTaskKey.{GuestTaskKey}
 use Rattle.task_wait.specs.declared.keys.ThreadKey.{ThreadKey}
 use Rattle.task_machine.specs.Core.{Core}
-use Rattle.task_machine.specs.Moves.{ended, stopped}
-use Rattle.task_machine.specs.Read.{foot_of, instance_of, join_of, register_of, saved_own_of, task_of}
-use Rattle.task_machine.specs.Write.{on_instance, set_do_not_suspend}
+use Rattle.task_machine.specs.Moves.{checked, ended, stopped}
+use Rattle.task_machine.specs.Read.{foot_of, instance_of, join_of, place_of, register_of, saved_own_of, task_of, under_of}
+use Rattle.task_machine.specs.Write.{on_instance, set_do_not_suspend, set_end}
+use Rattle.task_machine.specs.declared.records.CallEnd.{CallEnd}
 use Rattle.task_machine.specs.declared.records.Place.TheVariants as place
+use Rattle.task_places.proofs.RunRows.{under_place}
 use Rattle.task_machine.specs.declared.records.Subtask.{Subtask}
 use Rattle.task_machine.specs.declared.records.Subtask.TheVariants as subtask
 use Rattle.task_moves.proofs.TellLemmas.{Quiet, can_still}
 use Rattle.task_moves.specs.Idle.{CanPublish}
 use Rattle.task_moves.specs.Stops.{MayStop}
-use Rattle.task_ops.proofs.FootLemmas.{foot_may_still, quiet_under, under_after}
-use Rattle.task_ops.proofs.RunLemmas.{own_apart, stands_on}
+use Rattle.task_ops.proofs.FootLemmas.{checked_under, foot_may_still, quiet_under, under_after}
+use Rattle.task_ops.proofs.RunLemmas.{KeepsUnder, own_apart, stands_on}
 use Rattle.task_ops.proofs.TellingLemmas.{all_wait, returned_stands, returned_under}
 use Rattle.task_ops.specs.Running.{IsRunning}
 use Rattle.task_places.proofs.PlaceWords.{waits_quiet}
-use Rattle.task_rules.proofs.StopLemmas.{Untouched, quiet_stand, stopped_stand}
-use Rattle.task_rules.proofs.UntouchedLemmas.{on_instance_untouched}
+use Rattle.task_rules.proofs.StopLemmas.{quiet_stand, stopped_stand}
+use Rattle.task_rules.proofs.UntouchedLemmas.{on_instance_untouched, set_end_untouched}
 use Rattle.task_rules.specs.Ends.{exit_restores, returned, sync_exits}
 use Rattle.task_words.specs.Apart.{IsApart}
 use Rattle.task_words.specs.StateView.{StateView, call_of, on_core, thread_of}
@@ -69,4 +71,21 @@ module _ (n : TableId ThreadKey) (k : TableId GuestTaskKey) (waiter : Option (Ta
       let N = thread_of s n in
       let w = option_map (λ id. thread_of s id) waiter in
       out ∙ (ap (λ (y : StateView). ended (thread_of y n) y.core) d ∙ (ap (λ (y : StateView). ended (thread_of y n) (stopped (thread_of y f) y.core)) e
-        ∙ (ap (λ (g : ℕ). ended N (stopped g (left N (call_of s k) v w s.core))) foot ∙ (ap (λ (j : ℕ). ended N (stopped (foot_of N s.core) (left N j v w s.core))) task ∙ ap (λ (a : ℕ). ended N (stopped (foot_of N s.core) (left N (task_of N s.core) a w s.core))) value))))
+      ∙ (ap (λ (g : ℕ). ended N (stopped g (left N (call_of s k) v w s.core))) foot ∙ (ap (λ (j : ℕ). ended N (stopped (foot_of N s.core) (left N j v w s.core))) task ∙ ap (λ (a : ℕ). ended N (stopped (foot_of N s.core) (left N (task_of N s.core) a w s.core))) value))))
+
+-- ---- A direct call
+
+pub ended_apart : (n : TableId ThreadKey) (k : ℕ) (e : CallEnd) (s t : StateView) → IsRunning (thread_of s n) s.core → t ≡ on_core (set_end k e) s → IsApart (thread_of t n) t.core
+ended_apart n k e s t st d = own_apart (thread_of t n) place.Running t.core (stands_on n place.Running (set_end k e) s t d (quiet_stand (thread_of s n) place.Running [] s.core _ (set_end_untouched k e s.core) st))
+
+pub restored_runs : (n : TableId ThreadKey) (s t : StateView) → IsRunning (thread_of s n) s.core → t ≡ on_core (exit_restores (thread_of s n)) s → IsRunning (thread_of t n) t.core
+restored_runs n s t st e = stands_on n place.Running (exit_restores (thread_of s n)) s t e (quiet_stand (thread_of s n) place.Running [] s.core _ (restored_quiet (thread_of s n) s.core).untouched st)
+
+still_under : (n m : TableId ThreadKey) (f : Core → Core) (s t : StateView) → KeepsUnder s.core (f s.core) → t ≡ on_core f s → Some (thread_of s m) ≡ under_of (thread_of s n) s.core → place_of (thread_of t m) t.core ≡ Some (place.Under (thread_of t n))
+still_under n m f s t keeps e at = subst (λ (v : StateView). place_of (thread_of v m) v.core ≡ Some (place.Under (thread_of v n))) (sym e) (keeps (thread_of s m) (thread_of s n) (under_place (thread_of s n) (thread_of s m) s.core (sym at)))
+
+pub restored_under : (n m : TableId ThreadKey) (s t : StateView) → t ≡ on_core (exit_restores (thread_of s n)) s → Some (thread_of s m) ≡ under_of (thread_of s n) s.core → place_of (thread_of t m) t.core ≡ Some (place.Under (thread_of t n))
+restored_under n m s t e at = still_under n m (exit_restores (thread_of s n)) s t (quiet_under s.core _ (restored_quiet (thread_of s n) s.core).untouched) e at
+
+pub check_under : (n m : TableId ThreadKey) (i : ℕ) (s t : StateView) → IsRunning (thread_of s n) s.core → t ≡ on_core (checked i) s → Some (thread_of s m) ≡ under_of (thread_of s n) s.core → place_of (thread_of t m) t.core ≡ Some (place.Under (thread_of t n))
+check_under n m i s t st e at = still_under n m (checked i) s t (checked_under (thread_of s n) place.Running i s.core refl st) e at

@@ -11,3 +11,8 @@ pub mod TellingLemmas
 pub mod MainLemmas
 pub mod SwitchLemmas
 pub mod LeaveLemmas
+pub mod GiftLemmas
+pub mod PollLemmas
+pub mod WaitLemmas
+pub mod DeliveryLemmas
+pub mod WorkLemmas

@@ -50,6 +50,10 @@ position_low : (n m : ℕ) (w : Why) (s : Core) → position_of n (put_low m w s
 unfolding put_low push_low set_place
 position_low n m w s = position_thread n m (λ t. record t { place = place.Ready mark.Low w }) s (λ t. refl)
 
+pub position_register : (n m r v : ℕ) (s : Core) → position_of n (set_register m r v s) ≡ position_of n s
+unfolding set_register
+position_register n m r v s = position_thread n m (λ t. record t { registers = slice_set t.registers r v }) s (λ t. refl)
+
 -- ---- A release
 
 position_one : (n m : ℕ) (o : Option Why) (s : Core) → position_of n (released_one m o s) ≡ position_of n s
@@ -76,7 +80,7 @@ position_waken : (n : ℕ) (b : Bool) (x m : ℕ) (s : Core) → position_of n (
 position_waken n true x m s = position_high n m (why.Delivery (delivery.Set x)) s
 position_waken n false x m s = position_high n m why.Resumption s
 
-position_wake : (n x : ℕ) (w : Option ℕ) (s : Core) → position_of n (wake x w s) ≡ position_of n s
+pub position_wake : (n x : ℕ) (w : Option ℕ) (s : Core) → position_of n (wake x w s) ≡ position_of n s
 unfolding wake
 position_wake n x None s = refl
 position_wake n x (Some m) s = position_waken n (is_callback_waiter m s) x m s
@@ -103,8 +107,8 @@ unfolding set_end on_call
 position_ended n k e s = refl
 
 position_result : (n : ℕ) (g : Goal) (f : Caller) (k v : ℕ) (s : Core) → position_of n (result_given g f k v s) ≡ position_of n s
-unfolding give_result set_register set_result on_call
-position_result n (goal.Register r) (caller.Thread m) k v s = position_thread n m (λ t. record t { registers = slice_set t.registers r v }) s (λ t. refl)
+unfolding give_result set_result on_call
+position_result n (goal.Register r) (caller.Thread m) k v s = position_register n m r v s
 position_result n (goal.Register r) caller.Main k v s = refl
 position_result n goal.Main f k v s = refl
 position_result n goal.Answer f k v s = refl

@@ -5,3 +5,5 @@ pub mod Halting
 pub mod Reopens
 pub mod Acted
 pub mod Stays
+pub mod Gifts
+pub mod Polled

@@ -1,4 +1,4 @@
-ghost use Rattle.std.specs.Prelude.{◌≡◌, ◌<◌, IfOk, IsSome, OnErr, OnOk, false, option_map};
+ghost use Rattle.std.specs.Prelude.{◌≡◌, ◌<◌, ◌^◌, IfOk, IfSome, IsSome, OnErr, OnOk, false, option_map};
 ghost use Rattle.task_machine.specs.Read.{at_handle_limit, backpressure_of, instance_of, may_not_enter, may_not_suspend, new_handle, new_thread_handle, set_at, subtask_at, thread_at, word_of};
 ghost use Rattle.task_machine.specs.Write.{free_handle, set_backpressure, set_do_not_enter, set_do_not_suspend, set_word};
 ghost use Rattle.task_rules.specs.Calls.{with_thread_handle};
@@ -42,11 +42,13 @@ pub trait InstanceWords: View {
 
     /// The subtask that a handle names.
     fn subtask_at(&self, instance: u32, handle: u64) -> Option<SubtaskId>
-        ensures { option_map (subtask_in (Self.view self.now).tags) result ≡ option_map (λ sub. live_subtask sub (Self.view self.now).core) (subtask_at instance handle (Self.view self.now).core) };
+        ensures is { option_map (subtask_in (Self.view self.now).tags) result ≡ option_map (λ sub. live_subtask sub (Self.view self.now).core) (subtask_at instance handle (Self.view self.now).core) }
+        ensures small { IfSome result (λ id. handle < 2 ^ 32) };
 
     /// The set that a handle names.
     fn set_at(&self, instance: u32, handle: u64) -> Option<SetId>
-        ensures { option_map (λ id. set_of (Self.view self.now) id) result ≡ option_map (λ x. live_set x (Self.view self.now).core) (set_at instance handle (Self.view self.now).core) };
+        ensures is { option_map (λ id. set_of (Self.view self.now) id) result ≡ option_map (λ x. live_set x (Self.view self.now).core) (set_at instance handle (Self.view self.now).core) }
+        ensures small { IfSome result (λ id. handle < 2 ^ 32) };
 
     /// The thread that a thread handle names.
     fn thread_at(&self, instance: u32, handle: u64) -> Option<ThreadId>
