@@ -1,3 +1,4 @@
 pub mod GoesLemmas
 pub mod OrderLemmas
 pub mod RunLemmas
+pub mod ContextLemmas

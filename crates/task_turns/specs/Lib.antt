@@ -1,3 +1,4 @@
 pub mod Covered
 pub mod Turn
 pub mod Runner
+pub mod Context

@@ -2,10 +2,14 @@
 //! in order to one.
 #![tactic(auto)]
 
+mod context;
 mod made;
 mod runs;
 mod scripts;
+mod trace;
 
 pub use made::Made;
 pub use runs::step_run;
+pub use context::{ThreadContext, operand_value};
 pub use scripts::{export_def, script_ops};
+pub use trace::Trace;
