@@ -20,7 +20,7 @@ use Rattle.task_machine.specs.declared.records.HowFar.TheVariants as how_far
 use Rattle.task_machine.specs.declared.records.Thread.{Thread}
 use Rattle.task_rules.specs.Data.{advanced, assigned, data_row, moved_to, skip_row, skipped, stored}
 use Rattle.task_rules.specs.Progress.{Goes}
-use Rattle.task_rules.specs.Scripts.{script_of, value_in, value_of}
+use Rattle.task_rules.specs.Scripts.{script_of, script_of_thread, value_in, value_of}
 use Rattle.task_turns.specs.Context.{KeepsBeside, in_context}
 use Rattle.task_turns.specs.declared.context.ThreadContext.{ThreadContext}
 use Rattle.task_words.specs.Context.{with_context}
@@ -64,11 +64,15 @@ module _ (n : ℕ) (s : Core) (t : Thread) (found : get s.threads n ≡ Some t) 
       same_position n p rs (task_of n (with_context n p rs s)) s
       ∙ (ap (λ (o : Option Thread). call_instance (option_map_or (λ (u : Thread). u.call) o 0) s) (thread-context p rs) ∙ sym (ap (λ (o : Option Thread). call_instance (option_map_or (λ (u : Thread). u.call) o 0) s) found))
 
+  pub script-context : (c : Component) (p : ℕ) (rs : List ℕ) → script_of c n (with_context n p rs s) ≡ script_of c n s
+  unfolding script_of with_context on_thread
+  script-context c p rs = ap (λ (o : Option Thread). option_map_or (script_of_thread c (with_context n p rs s)) o []) (thread-context p rs) ∙ sym (ap (λ (o : Option Thread). option_map_or (script_of_thread c s) o []) found)
+
   module _ (p : ℕ) (rs : List ℕ) where
     abbrev here : Core
     here = with_context n p rs s
 
-    position-context : position_of n here ≡ p
+    pub position-context : position_of n here ≡ p
     position-context = ap (λ (o : Option Thread). option_map_or (λ (u : Thread). u.position) o 0) (thread-context p rs)
 
     registers-context : registers_of n here ≡ rs

@@ -2,3 +2,5 @@ pub mod GoesLemmas
 pub mod OrderLemmas
 pub mod RunLemmas
 pub mod ContextLemmas
+pub mod DriveLemmas
+pub mod StretchLemmas

@@ -56,7 +56,7 @@ covered_at (x ∷ ops) (suc p) o all e = covered_at ops p o (grind arith) e
 
 -- ---- The step
 
-settled : (r : Came) (s : Core) (m : Main) (n : ℕ) (t : Core) → goes_to (state_at s m (turn.Run n)) t (turn_after r) ≡ state_at t m (turn_after r)
+pub settled : (r : Came) (s : Core) (m : Main) (n : ℕ) (t : Core) → goes_to (state_at s m (turn.Run n)) t (turn_after r) ≡ state_at t m (turn_after r)
 unfolding at_turn
 settled (came.Goes l k) s m n t = refl
 settled (came.Stops l) s m n t = refl

@@ -2,3 +2,4 @@ pub mod Covered
 pub mod Turn
 pub mod Runner
 pub mod Context
+pub mod Drive

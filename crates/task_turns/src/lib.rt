@@ -6,10 +6,12 @@ mod context;
 mod made;
 mod runs;
 mod scripts;
+mod stretches;
 mod trace;
 
 pub use made::Made;
 pub use runs::step_run;
 pub use context::{ThreadContext, operand_value};
 pub use scripts::{export_def, script_ops};
+pub use stretches::stretch;
 pub use trace::Trace;
