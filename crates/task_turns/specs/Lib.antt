@@ -3,3 +3,4 @@ pub mod Turn
 pub mod Runner
 pub mod Context
 pub mod Drive
+pub mod Taken

@@ -7,6 +7,7 @@ mod made;
 mod runs;
 mod scripts;
 mod stretches;
+mod takes;
 mod trace;
 
 pub use made::Made;
@@ -14,4 +15,5 @@ pub use runs::step_run;
 pub use context::{ThreadContext, operand_value};
 pub use scripts::{export_def, script_ops};
 pub use stretches::stretch;
+pub use takes::take_thread;
 pub use trace::Trace;
