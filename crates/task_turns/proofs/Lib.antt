@@ -4,3 +4,5 @@ pub mod RunLemmas
 pub mod ContextLemmas
 pub mod DriveLemmas
 pub mod StretchLemmas
+pub mod TakenLemmas
+pub mod ShowLemmas

@@ -32,11 +32,11 @@ use Rattle.task_words.specs.StateView.{StateView, thread_of}
 pub none_some : {X : Type 0} {A : Type 0} {x : X} {o : Option X} → o ≡ None → o ≡ Some x → A
 none_some {X} {A} {x} {o} a b = absurd (cc)
 
-some_from : {X Y : Type 0} (f : X → Y) (o : Option X) (y : Y) → option_map f o ≡ Some y → is_some o ≡ true
+pub some_from : {X Y : Type 0} (f : X → Y) (o : Option X) (y : Y) → option_map f o ≡ Some y → is_some o ≡ true
 some_from f None y e = absurd (cc)
 some_from f (Some x) y e = refl
 
-positive : (n : ℕ) (s : Core) → get s.threads 0 ≡ None → is_some (get s.threads n) ≡ true → 0 < n
+pub positive : (n : ℕ) (s : Core) → get s.threads 0 ≡ None → is_some (get s.threads n) ≡ true → 0 < n
 positive zero s none there = absurd (cc)
 positive (suc n) s none there = omega arith
 

@@ -97,7 +97,7 @@ module _ (c : Component) (n : ℕ) (t : StateView) (th : Thread) (found : get t.
 
     step : (z : Setting) → z.component ≡ c → (m : Main) → Step z (state_at there m (turn.Run n)) (label.Data l) (state_at (in_context n y u.core) m (turn.Run n))
     step z component m =
-        subst (Step z (state_at there m (turn.Run n)) (label.Data l)) (settled (came.Goes (label.Data l) n) there m n (in_context n y u.core))
+        subst (Step z (state_at there m (turn.Run n)) (label.Data l)) (settled (came.Goes (label.Data l) n) there m (turn.Run n) (in_context n y u.core))
         (meeting_is_step z (state_at there m (turn.Run n)) n (came.Goes (label.Data l) n) (in_context n y u.core) refl
         (subst (λ (d : Component). Meets (did d n there (choice_of (label.Data l))) there (came.Goes (label.Data l) n) (in_context n y u.core)) (sym component) meets))
 

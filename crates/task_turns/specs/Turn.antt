@@ -2,6 +2,7 @@
 use Rattle.std.specs.Prelude.{◌≡◌, ◌<◌, ◌≤◌, ◌+◌, List, ℕ, Bool, true, false, Option, Some, None, is_none, option_map}
 use Rattle.task_laws.specs.Order.{InOrder}
 use Rattle.task_machine.specs.Core.{Core, Main, One, State}
+use Rattle.task_machine.specs.Read.{next_entry}
 use Rattle.task_machine.specs.declared.component.Component.{Component}
 use Rattle.task_machine.specs.declared.records.Turn.{Turn}
 use Rattle.task_machine.specs.declared.records.Turn.TheVariants as turn
@@ -96,3 +97,14 @@ abbrev pub GoesOn : Came → StateView → Type 0
 GoesOn (came.Goes l m) s = (running_of s ≡ Some m) × (outcome_of_label l ≡ None)
 GoesOn (came.Stops l) s = outcome_of_label l ≡ None
 GoesOn _ s = Unit {0}
+
+-- if a thread goes on, it is this one, and what is shown gives no outcome
+abbrev pub Shows : ℕ → Came → Type 0
+Shows n (came.Goes l m) = (m ≡ n) × (outcome_of_label l ≡ None)
+Shows n (came.Stops l) = outcome_of_label l ≡ None
+Shows n _ = Unit {0}
+
+-- nothing stood there and nothing is changed, or a step was made
+abbrev pub Took : Component → Bool → StateView → Option Made → StateView → Type 0
+Took c ended s None t = (next_entry s.core ≡ None) × (t ≡ s)
+Took c ended s (Some made) t = Makes c (turn.Take ended) s made t

@@ -10,10 +10,10 @@ mod stretches;
 mod takes;
 mod trace;
 
+pub use context::{ThreadContext, operand_value};
 pub use made::Made;
 pub use runs::step_run;
-pub use context::{ThreadContext, operand_value};
 pub use scripts::{export_def, script_ops};
 pub use stretches::stretch;
-pub use takes::take_thread;
+pub use takes::step_take;
 pub use trace::Trace;
