@@ -6,3 +6,4 @@ pub mod DriveLemmas
 pub mod StretchLemmas
 pub mod TakenLemmas
 pub mod ShowLemmas
+pub mod KeptLemmas

@@ -4,3 +4,4 @@ pub mod Runner
 pub mod Context
 pub mod Drive
 pub mod Taken
+pub mod Kept
