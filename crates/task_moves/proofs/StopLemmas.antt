@@ -15,7 +15,7 @@ use Rattle.task_machine.specs.declared.records.Place.TheVariants as place
 use Rattle.task_machine.specs.declared.records.Why.{Why}
 use Rattle.task_machine.specs.declared.records.Why.TheVariants as why
 use Rattle.task_machine.specs.declared.words.Mark.TheVariants as mark
-use Rattle.task_moves.specs.Stops.{AreCallersUnqueued, MayPass, MayStop, behind_from, resumed_from}
+use Rattle.task_moves.specs.Stops.{AreCallersUnqueued, MayPass, behind_from, resumed_from}
 use Rattle.task_rules.proofs.StandLemmas.{by_number, entries-append, eq_refl, not_eq, times-append, times-newest}
 use Rattle.task_rules.specs.Places.{entries, one_if, times}
 use Rattle.task_rules.specs.Works.{first_number}
@@ -266,13 +266,6 @@ stopped_behind f m g s at foot = ap (λ k. behind k (callers_of f s) (set_caller
 
 pub stop_passes : (f n g : TableId ThreadKey) (s t : StateView) → Some (thread_of s n) ≡ s.core.queues.switch → thread_of s g ≡ foot_of (thread_of s n) s.core → t ≡ on_core (behind_from (thread_of s f) (thread_of s g)) s → t ≡ on_core (stopped (thread_of s f)) s
 stop_passes f n g s t at foot e = e ∙ ap (λ (c : Core). with_core c s) (stopped_behind (thread_of s f) (thread_of s n) (thread_of s g) s.core (sym at) foot)
-
-pub stop_may_pass : (f n g : TableId ThreadKey) (s : StateView) → Some (thread_of s n) ≡ s.core.queues.switch → thread_of s g ≡ foot_of (thread_of s n) s.core → MayStop (thread_of s f) s.core → MayPass (thread_of s f) (thread_of s g) s.core
-stop_may_pass f n g s at foot may = record {
-  apart = ap (λ k. k == thread_of s f) foot ∙ may.apart (thread_of s n) (sym at);
-  once = λ k. let x = may.unqueued k in omega (arith, x);
-  alone = may.alone;
-}
 
 last_listed : (n : ℕ) (ns : List ℕ) → Some n ≡ newest_of ns → (m : ℕ) × ((ms : List ℕ) × ((ns ≡ m ∷ ms) × (newest m ms ≡ n)))
 last_listed n [] e = absurd (no_both e)

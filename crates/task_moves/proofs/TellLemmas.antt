@@ -26,7 +26,7 @@ use Rattle.task_machine.specs.declared.records.Thread.{Thread}
 use Rattle.task_machine.specs.declared.words.Status.TheVariants as status
 use Rattle.task_moves.specs.Idle.{AreIdleUnqueued, CanPublish, IsJoinThere, IsWaiting, number_of}
 use Rattle.task_rules.proofs.StopLemmas.{Untouched}
-use Rattle.task_rules.proofs.UntouchedLemmas.{give_result_untouched, set_end_untouched, set_register_untouched, set_result_untouched, untouched_after}
+use Rattle.task_rules.proofs.UntouchedLemmas.{give_result_untouched, set_end_untouched, set_register_untouched, set_result_untouched}
 use Rattle.task_rules.specs.Ends.{result_given, returned, told}
 use Rattle.task_rules.specs.Places.{entries}
 use Rattle.task_words.specs.Apart.{IsUnqueued}
@@ -40,9 +40,6 @@ pub record Quiet (s t : Core) : Type 0 where
   pub untouched : Untouched s t
   pub joins : (sub : Subtask) → join_of sub t ≡ join_of sub s
   pub sets : t.sets ≡ s.sets
-
-pub quiet_after : {s m t : Core} → Quiet s m → Quiet m t → Quiet s t
-quiet_after a b = record { untouched = untouched_after a.untouched b.untouched; joins = λ sub. b.joins sub ∙ a.joins sub; sets = b.sets ∙ a.sets }
 
 unqueued_as : (n : ℕ) (q r : Queues) → r ≡ q → (entries n q.high ≡ 0) × (entries n q.low ≡ 0) → (entries n r.high ≡ 0) × (entries n r.low ≡ 0)
 unqueued_as n q r e h = subst (λ (x : Queues). (entries n x.high ≡ 0) × (entries n x.low ≡ 0)) (sym e) h

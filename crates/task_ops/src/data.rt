@@ -2,6 +2,7 @@
 ghost use Rattle.std.specs.Prelude.{◌≡◌, ◌+◌, ◌<◌, ◌^◌, length, min};
 ghost use Rattle.task_machine.specs.Read.{position_of};
 ghost use Rattle.task_machine.specs.declared.component.Component.{Component};
+ghost use Rattle.task_machine.specs.declared.op.DataOp.TheVariants as data_ops;
 ghost use Rattle.task_ops.specs.Came.{Meets};
 ghost use Rattle.task_rules.specs.Data.{data_row, moved_to};
 ghost use Rattle.task_rules.specs.Scripts.{script_of, value_of};
@@ -30,8 +31,47 @@ fn skip<W: Words>(w: &mut W, thread: ThreadId, ops: u32, end: u32)
     w.move_to(thread, place.min(u64::from(end)) as u32);
 }
 
+// `skip_eq X Y N`
+#[tactic(auto, unfolding(task_rules::specs::Data::skipped))]
+fn skip_equal<W: Words>(
+    w: &mut W,
+    thread: ThreadId,
+    left: Operand,
+    right: Operand,
+    ops: u32,
+    end: u32,
+) -> Came
+    requires { position_of (thread_of (W.view w.old) thread) (W.view w.old).core < end }
+    ensures meets { (c : Component) → length (script_of c (thread_of (W.view w.old) thread) (W.view w.old).core) ≡ end → Meets (data_row c (thread_of (W.view w.old) thread) (W.view w.old).core (data_ops.SkipEq left right ops)) (W.view w.old).core result (W.view w.new).core }
+    ensures tags { (W.view w.new).tags ≡ (W.view w.old).tags }
+    ensures current { (W.view w.new).current ≡ (W.view w.old).current }
+{
+    let number = w.number(thread);
+    if value_of(w, thread, left) == value_of(w, thread, right) {
+        skip(w, thread, ops, end);
+    } else {
+        w.advance(thread);
+    }
+    Came::Goes(Label::Data(DataLabel::SkipEq(number)), number)
+}
+
+// `store W X`
+#[tactic(auto, using(crate::proofs::PositionLemmas::position_word), unfolding(task_rules::specs::Data::stored))]
+fn store<W: Words>(w: &mut W, thread: ThreadId, word: u8, value: Operand, end: u32) -> Came
+    requires { position_of (thread_of (W.view w.old) thread) (W.view w.old).core < end }
+    ensures meets { (c : Component) → length (script_of c (thread_of (W.view w.old) thread) (W.view w.old).core) ≡ end → Meets (data_row c (thread_of (W.view w.old) thread) (W.view w.old).core (data_ops.Store word value)) (W.view w.old).core result (W.view w.new).core }
+    ensures tags { (W.view w.new).tags ≡ (W.view w.old).tags }
+    ensures current { (W.view w.new).current ≡ (W.view w.old).current }
+{
+    let number = w.number(thread);
+    let answer = value_of(w, thread, value);
+    w.set_word(w.instance_of(thread), word, answer);
+    w.advance(thread);
+    Came::Goes(Label::Data(DataLabel::Store(number, answer)), number)
+}
+
 /// An op on registers and words, of a script that ends at `end`.
-#[tactic(auto, using(crate::proofs::PositionLemmas::position_word), unfolding(task_rules::specs::Data::skipped, task_rules::specs::Data::stored))]
+#[tactic(auto, using(crate::proofs::PositionLemmas::position_word))]
 pub fn compute<W: Words>(w: &mut W, thread: ThreadId, op: DataOp, end: u32) -> Came
     requires { position_of (thread_of (W.view w.old) thread) (W.view w.old).core < end }
     ensures meets { (c : Component) → length (script_of c (thread_of (W.view w.old) thread) (W.view w.old).core) ≡ end → Meets (data_row c (thread_of (W.view w.old) thread) (W.view w.old).core op) (W.view w.old).core result (W.view w.new).core }
@@ -62,19 +102,9 @@ pub fn compute<W: Words>(w: &mut W, thread: ThreadId, op: DataOp, end: u32) -> C
             w.assign(thread, to, answer);
             DataLabel::Load(number, answer)
         }
-        DataOp::Store { word, value } => {
-            let answer = value_of(w, thread, value);
-            w.set_word(w.instance_of(thread), word, answer);
-            w.advance(thread);
-            DataLabel::Store(number, answer)
-        }
+        DataOp::Store { word, value } => return store(w, thread, word, value, end),
         DataOp::SkipEq { left, right, ops } => {
-            if value_of(w, thread, left) == value_of(w, thread, right) {
-                skip(w, thread, ops, end);
-            } else {
-                w.advance(thread);
-            }
-            DataLabel::SkipEq(number)
+            return skip_equal(w, thread, left, right, ops, end);
         }
     };
     Came::Goes(Label::Data(label), number)
