@@ -4,5 +4,6 @@ pub mod Running
 pub mod Halting
 pub mod Reopens
 pub mod Acted
+pub mod Stays
 pub mod Gifts
 pub mod Polled

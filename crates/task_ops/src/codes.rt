@@ -3,6 +3,7 @@ ghost use Rattle.std.specs.Prelude.{◌≡◌, ◌<◌, ◌/◌, Some, is_some, 
 ghost use Rattle.task_machine.specs.Maps.{get};
 ghost use Rattle.task_machine.specs.Read.{instance_of, set_at};
 ghost use Rattle.task_ops.specs.Came.{Meets};
+ghost use Rattle.task_ops.specs.Stays.{StaysAfter};
 ghost use Rattle.task_ops.specs.Running.{IsRunning, SetsThere};
 ghost use Rattle.task_rules.specs.Ends.{code_kind_row, code_row, has_event_for, held_by_flag, own_or_none};
 ghost use Rattle.task_words.specs.StateView.{call_of, set_of, thread_of};
@@ -19,6 +20,7 @@ fn code_exits<W: Words>(w: &mut W, thread: ThreadId, label: Label) -> Came
     requires live { 0 < thread_of (W.view w.old) thread }
     requires running { IsRunning (thread_of (W.view w.old) thread) (W.view w.old).core }
     ensures meets { (rest : ℕ) → Meets (code_kind_row label (thread_of (W.view w.old) thread) (held_by_flag (instance_of (thread_of (W.view w.old) thread) (W.view w.old).core) (W.view w.old).core) (W.view w.old).core zero rest) (W.view w.old).core result (W.view w.new).core }
+    ensures stays { StaysAfter result (W.view w.old) (W.view w.new) }
     ensures current { (W.view w.new).current ≡ (W.view w.old).current }
 {
     let instance = w.instance_of(thread);
@@ -50,6 +52,7 @@ fn code_yields<W: Words>(w: &mut W, thread: ThreadId, label: Label) -> Came
     requires live { 0 < thread_of (W.view w.old) thread }
     requires running { IsRunning (thread_of (W.view w.old) thread) (W.view w.old).core }
     ensures meets { (rest : ℕ) → Meets (code_kind_row label (thread_of (W.view w.old) thread) (held_by_flag (instance_of (thread_of (W.view w.old) thread) (W.view w.old).core) (W.view w.old).core) (W.view w.old).core (suc zero) rest) (W.view w.old).core result (W.view w.new).core }
+    ensures stays { StaysAfter result (W.view w.old) (W.view w.new) }
     ensures current { (W.view w.new).current ≡ (W.view w.old).current }
 {
     let call = w.task_of(thread);
@@ -75,6 +78,7 @@ fn code_waits<W: Words>(w: &mut W, thread: ThreadId, label: Label, handle: u64) 
     requires running { IsRunning (thread_of (W.view w.old) thread) (W.view w.old).core }
     requires there { SetsThere (W.view w.old).core }
     ensures meets { Meets (code_kind_row label (thread_of (W.view w.old) thread) (held_by_flag (instance_of (thread_of (W.view w.old) thread) (W.view w.old).core) (W.view w.old).core) (W.view w.old).core (suc (suc zero)) handle) (W.view w.old).core result (W.view w.new).core }
+    ensures stays { StaysAfter result (W.view w.old) (W.view w.new) }
     ensures current { (W.view w.new).current ≡ (W.view w.old).current }
 {
     let instance = w.instance_of(thread);
@@ -98,6 +102,7 @@ pub fn end_activation<W: Words>(w: &mut W, thread: ThreadId, label: Label, code:
     requires running { IsRunning (thread_of (W.view w.old) thread) (W.view w.old).core }
     requires there { SetsThere (W.view w.old).core }
     ensures meets { Meets (code_row label (thread_of (W.view w.old) thread) (W.view w.old).core code) (W.view w.old).core result (W.view w.new).core }
+    ensures stays { StaysAfter result (W.view w.old) (W.view w.new) }
     ensures current { (W.view w.new).current ≡ (W.view w.old).current }
 {
     if code > 4294967295 {

@@ -3,6 +3,7 @@ ghost use Rattle.std.specs.Prelude.{◌≡◌, ◌<◌, not};
 ghost use Rattle.task_machine.specs.Read.{instance_of, is_nil};
 ghost use Rattle.task_ops.specs.Came.{Meets};
 ghost use Rattle.task_ops.specs.Reopens.{InSomeOrder};
+ghost use Rattle.task_ops.specs.Stays.{StaysAfter};
 ghost use Rattle.task_ops.specs.Running.{IsRunning};
 ghost use Rattle.task_rules.specs.Ends.{code_stops, end_reopens, exit_stops, held_by_flag, leaves_no_result, passes_after_stop, thread_exit_row};
 ghost use Rattle.task_words.specs.StateView.{on_core, thread_of};
@@ -40,6 +41,7 @@ pub fn exit_thread<W: Words>(w: &mut W, thread: ThreadId) -> Came
     requires live { 0 < thread_of (W.view w.old) thread }
     requires running { IsRunning (thread_of (W.view w.old) thread) (W.view w.old).core }
     ensures meets { Meets (thread_exit_row (thread_of (W.view w.old) thread) (W.view w.old).core) (W.view w.old).core result (W.view w.new).core }
+    ensures stays { StaysAfter result (W.view w.old) (W.view w.new) }
     ensures current { (W.view w.new).current ≡ (W.view w.old).current }
 {
     let number = w.number(thread);

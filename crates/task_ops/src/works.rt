@@ -81,7 +81,9 @@ pub fn poll_work<W: Words>(w: &mut W, work: WorkId) -> Polled
     requires live { 0 < work_of (W.view w.old) work }
     requires blocked { IsBlockedUnqueued (subtasks.Host (work_of (W.view w.old) work)) (W.view w.old).core }
     requires unqueued { work_entries (work_of (W.view w.old) work) (W.view w.old).core.queues.high ≡ 0 }
-    ensures { PollMeets (work_of (W.view w.old) work) (poll_of (work_of (W.view w.old) work) (W.view w.old).core) (W.view w.old).core result (W.view w.new).core }
+    ensures meets { PollMeets (work_of (W.view w.old) work) (poll_of (work_of (W.view w.old) work) (W.view w.old).core) (W.view w.old).core result (W.view w.new).core }
+    ensures tags { (W.view w.new).tags ≡ (W.view w.old).tags }
+    ensures current { (W.view w.new).current ≡ (W.view w.old).current }
 {
     if matches!(w.phase(work), Phase::AbortRequested) {
         end_work(w, work, None);

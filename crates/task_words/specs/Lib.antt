@@ -2,3 +2,4 @@ pub mod StateView
 pub mod Names
 pub mod Live
 pub mod Apart
+pub mod Context

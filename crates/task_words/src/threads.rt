@@ -1,7 +1,7 @@
 ghost use Rattle.std.specs.Prelude.{◌≡◌, ◌+◌, ◌<◌, ◌≤◌, ◌^◌, IfOk, None, OnErr, OnOk, Some, false, length, true, ℕ};
 ghost use Rattle.task_machine.specs.Maps.{get};
 ghost use Rattle.task_machine.specs.Moves.{freed_thread_handle};
-ghost use Rattle.task_machine.specs.Read.{at_handle_limit, call_instance, fits, how_far_of, instance_of, is_explicit, is_last_thread, position_of, register_of, saved_callee_of, saved_own_of, task_of, thread_group, thread_handle_of};
+ghost use Rattle.task_machine.specs.Read.{at_handle_limit, call_instance, fits, how_far_of, instance_of, is_explicit, is_last_thread, position_of, register_of, registers_of, saved_callee_of, saved_own_of, task_of, thread_group, thread_handle_of};
 ghost use Rattle.task_machine.specs.Write.{add_thread, remove_thread, set_how_far, set_position, set_register, set_saved_callee, set_saved_own, set_script};
 ghost use Rattle.task_machine.specs.declared.records.Script.TheVariants as scripts;
 ghost use Rattle.task_machine.specs.declared.records.Thread.{Thread};
@@ -9,6 +9,7 @@ ghost use Rattle.task_rules.specs.Calls.{new_thread, next_thread, with_thread_ha
 ghost use Rattle.task_rules.specs.Data.{advanced, assigned, moved_to};
 ghost use Rattle.task_rules.specs.Scripts.{registers_for};
 ghost use Rattle.task_words.specs.Apart.{IsApart};
+ghost use Rattle.task_words.specs.Context.{with_context};
 ghost use Rattle.task_words.specs.Live.{live_how_far};
 ghost use Rattle.task_words.specs.Names.{how_far_in};
 ghost use Rattle.task_words.specs.StateView.{Keeps, KeepsBut, call_of, lost_thread, on_core, thread_of};
@@ -37,6 +38,11 @@ pub trait ThreadWords: View {
 
     fn register(&self, thread: ThreadId, register: u8) -> u64
         ensures { result ≡ register_of (thread_of (Self.view self.now) thread) register (Self.view self.now).core };
+
+    /// All registers.
+    fn registers(&self, thread: ThreadId) -> [u64; 16]
+        requires { 0 < thread_of (Self.view self.now) thread }
+        ensures { result ≡ registers_of (thread_of (Self.view self.now) thread) (Self.view self.now).core };
 
     fn position(&self, thread: ThreadId) -> u32
         ensures { result ≡ position_of (thread_of (Self.view self.now) thread) (Self.view self.now).core };
@@ -82,6 +88,10 @@ pub trait ThreadWords: View {
 
     fn set_saved_callee(&mut self, thread: ThreadId, flag: Option<bool>)
         ensures { Self.view self.new ≡ on_core (set_saved_callee (thread_of (Self.view self.old) thread) flag) (Self.view self.old) };
+
+    /// The thread is about to begin the op at this position, with these registers.
+    fn set_context(&mut self, thread: ThreadId, position: u32, registers: &[u64; 16])
+        ensures { Self.view self.new ≡ on_core (with_context (thread_of (Self.view self.old) thread) position registers.now) (Self.view self.old) };
 
     /// The thread goes on with the op at this position.
     fn move_to(&mut self, thread: ThreadId, position: u32)
