@@ -1,3 +1,4 @@
+pub mod UntouchedLemmas
 pub mod MoveLemmas
 pub mod FootLemmas
 pub mod StopLemmas

@@ -1,12 +1,12 @@
 -- The end of a task, written: what it leaves as it was.
-use Rattle.std.proofs.Common.{ap, ap₂, le_refl, refl, subst, sym, ◌∙◌}
+use Rattle.std.proofs.Common.{ap, ap₂, refl, subst, sym, ◌∙◌}
 use Rattle.std.specs.Option.{option_map_or}
 use Rattle.std.specs.Prelude.{Bool, IfSome, None, Option, Some, false, if◌then◌else◌, is_some, option_map, true, unwrap_or, ℕ, ◌<◌, ◌≡◌}
 use Rattle.task_table.specs.declared.id.TableId.{TableId}
 use Rattle.task_wait.specs.declared.keys.GuestTaskKey.{GuestTaskKey}
 use Rattle.task_wait.specs.declared.keys.ThreadKey.{ThreadKey}
 use Rattle.task_machine.proofs.MapLemmas.{change-absent, change-field}
-use Rattle.task_machine.specs.Core.{Core, Queues}
+use Rattle.task_machine.specs.Core.{Core}
 use Rattle.task_machine.specs.Maps.{Records, get}
 use Rattle.task_machine.specs.Read.{caller_of, goal_of, is_at, is_blocked_on, is_waiting_on, join_of}
 use Rattle.task_machine.specs.Write.{give_result, on_call, on_thread, set_end, set_register, set_result}
@@ -26,9 +26,8 @@ use Rattle.task_machine.specs.declared.records.Thread.{Thread}
 use Rattle.task_machine.specs.declared.words.Status.TheVariants as status
 use Rattle.task_moves.specs.Idle.{AreIdleUnqueued, CanPublish, IsJoinThere, IsWaiting, number_of}
 use Rattle.task_rules.proofs.StopLemmas.{Untouched}
-use Rattle.task_rules.proofs.UntouchedLemmas.{give_result_untouched, set_end_untouched, set_register_untouched, set_result_untouched}
+use Rattle.task_moves.proofs.UntouchedLemmas.{give_result_untouched, same_untouched, set_end_untouched, set_register_untouched, set_result_untouched}
 use Rattle.task_rules.specs.Ends.{result_given, returned, told}
-use Rattle.task_rules.specs.Places.{entries}
 use Rattle.task_words.specs.Apart.{IsUnqueued}
 use Rattle.task_words.specs.Live.{kept_in, live_caller}
 use Rattle.task_words.specs.Names.{caller_in}
@@ -41,11 +40,8 @@ pub record Quiet (s t : Core) : Type 0 where
   pub joins : (sub : Subtask) → join_of sub t ≡ join_of sub s
   pub sets : t.sets ≡ s.sets
 
-unqueued_as : (n : ℕ) (q r : Queues) → r ≡ q → (entries n q.high ≡ 0) × (entries n q.low ≡ 0) → (entries n r.high ≡ 0) × (entries n r.low ≡ 0)
-unqueued_as n q r e h = subst (λ (x : Queues). (entries n x.high ≡ 0) × (entries n x.low ≡ 0)) (sym e) h
-
 quiet_unqueued : (n : ℕ) (s t : Core) → Untouched s t → IsUnqueued n s → IsUnqueued n t
-quiet_unqueued n s t u h = let r = unqueued_as n s.queues t.queues u.queues (h.high, h.low) in record { high = r.0; low = r.1 }
+quiet_unqueued n s t u h = record { high = u.high n ∙ h.high; low = u.low n ∙ h.low }
 
 at_before : (test : Place → Bool) (n : ℕ) (s t : Core) → Untouched s t → is_at n t test ≡ true → is_at n s test ≡ true
 at_before test n s t u h = sym (ap (λ (o : Option Place). option_map_or test o false) (u.places n)) ∙ h
@@ -110,7 +106,7 @@ unfolding set_result
 answer_quiet k v s = call_quiet k (λ c. record c { result = v }) s (λ c. refl) (set_result_untouched k v s)
 
 pub same_quiet : (s : Core) → Quiet s s
-same_quiet s = record { untouched = record { places = λ k. refl; queues = refl; callers = refl; made = le_refl _ }; joins = λ sub. refl; sets = refl }
+same_quiet s = record { untouched = same_untouched s; joins = λ sub. refl; sets = refl }
 
 pub result_quiet : (g : Goal) (f : Caller) (k v : ℕ) (s : Core) → Quiet s (result_given g f k v s)
 result_quiet goal.Main f k v s = give_quiet k v s
